@@ -1,0 +1,13 @@
+pub mod Ring
+pub mod IntRing
+pub mod Rational
+pub mod RationalRing
+pub mod RationalOrder
+pub mod RationalField
+pub mod Linear
+pub mod OrderLaws
+pub mod School
+pub mod Pair
+pub mod Absolute
+pub mod Denominator
+mod SolverTests
