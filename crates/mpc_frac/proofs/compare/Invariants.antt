@@ -1,0 +1,12 @@
+use Rattle.std.proofs.Common.{◌≡◌, ◌+◌, ◌*◌, ◌<◌, nat_cmp}
+use Rattle.mpc_frac.proofs.compare.Given as goal
+
+abbrev pub invariant-turns : goal.invariant-turns
+invariant-turns l = record {
+  b_some : 0 < l.b;
+  d_some : 0 < l.d;
+  same : nat_cmp (l.a * l.d) (l.c * l.b) ≡ nat_cmp (l.fn.a * l.fn.d) (l.fn.c * l.fn.b);
+}
+
+abbrev pub decreases-turns : goal.decreases-turns
+decreases-turns l = l.b + l.d

@@ -1,0 +1,4 @@
+pub mod FracModel
+pub mod Fits
+pub mod Sign
+pub mod Text
