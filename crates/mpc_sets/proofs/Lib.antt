@@ -1,0 +1,11 @@
+pub mod RowSets
+pub mod Masks
+pub mod MaskOrder
+pub mod SetOrders
+pub mod Search
+pub mod Joining
+pub mod JoinStep
+pub mod Singles
+pub mod SetTexts
+pub mod Counting
+pub mod Levels

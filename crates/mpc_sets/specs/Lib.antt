@@ -1,0 +1,5 @@
+pub mod RowSet
+pub mod SetOrder
+pub mod SetMask
+pub mod NextLevel
+pub mod SetText
