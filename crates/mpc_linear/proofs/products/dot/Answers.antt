@@ -1,0 +1,13 @@
+use Rattle.std.proofs.Common.{◌∙◌, [], ◌∷◌}
+use Rattle.mpc_exact.specs.Rational.{◌+ℚ◌}
+use Rattle.mpc_exact.proofs.RationalRing.{reads, by_ring}
+use Rattle.mpc_space.specs.Vector.{dot}
+use Rattle.mpc_linear.proofs.Outcomes.{value_as}
+use Rattle.mpc_linear.proofs.products.dot.Goals as goal
+
+pub returns-clause-value : goal.returns-clause-value
+returns-clause-value c =
+    value_as c.dot_from.result (c.whole.result +ℚ dot c.as_slice.result.now c.as_slice-2.result.now) (dot c.args.x.now c.args.y.now)
+    ((λ i. c.whole.ensures i +ℚ dot (c.as_slice.ensures i) (c.as_slice-2.ensures i))
+    ∙ by_ring (dot c.args.x.now c.args.y.now ∷ []) (search reads depth 30) (search reads depth 30) tt)
+    c.dot_from.ensures.value

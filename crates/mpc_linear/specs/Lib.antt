@@ -1,0 +1,9 @@
+pub mod Grid
+pub mod Entries
+pub mod Elimination
+pub mod Dot
+pub mod Whole
+pub mod Answers
+pub mod Product
+pub mod Solution
+pub mod Stored

@@ -1,0 +1,233 @@
+//! Rows and affine forms in whole numbers.
+
+ghost use Rattle.std.specs.Prelude.{◌≡◌, ℕ, ◌*◌, ◌/◌, ◌^◌, ◌<◌, ◌≤◌, ◌↔◌, IfOk, MatchResult, MatchOption, OnOk, length, map, unsigned_abs, pos, ◌*ℤ◌, ℤ, int_div, ◌++◌, ◌∷◌, [], All, List};
+ghost use Rattle.std.specs.Int.{◌∣◌};
+ghost use Rattle.mpc_exact.specs.Gcd.{gcd, lcm};
+ghost use Rattle.mpc_exact.specs.Rational.{ℚ, int, ◌≤ℚ◌, ◌<ℚ◌};
+ghost use Rattle.mpc_exact.specs.Denominator.{common_denom, IsCommonDenom};
+ghost use Rattle.mpc_space.specs.Vector.{dot};
+ghost use Rattle.mpc_linear.specs.Whole.{scaled, ScaledFit, WholeFits, IsLeastForm, IsScaledRow, DividesAll, IsShared, AreSmall, IsPrimitive};
+ghost use Rattle.mpc_linear.specs.Answers.{IfWide};
+
+use crate::{Ints, LinearError, Vector};
+use mpc_frac::{Frac, NoMemory};
+use std::alloc::Global;
+
+/// The row `a · t ≤ b` in whole numbers.
+#[derive(Debug, Drop)]
+pub struct RowInt {
+    pub a: Ints,
+    pub b: i128,
+}
+
+/// The affine form `(k_0 + k_1 t_1 + .. + k_n t_n) / den`.
+#[derive(Debug, Drop)]
+pub struct IntAffine {
+    pub den: i128,
+    pub k: Ints,
+}
+
+/// The greatest common divisor, by Euclid's algorithm.
+fn greatest_divisor(a: u128, b: u128) -> u128
+    ensures { result ≡ gcd a b }
+{
+    let mut x = a;
+    let mut y = b;
+    while y != 0 {
+        let rest = x % y;
+        x = y;
+        y = rest;
+    }
+    x
+}
+
+/// The least common multiple, if it lies below 2^127.
+fn least_multiple(a: u128, b: u128) -> Option<u128>
+    requires a_positive { 0 < a }
+    requires b_positive { 0 < b }
+    ensures value { MatchOption result (2 ^ 127 ≤ lcm a b) (λ m. m ≡ lcm a b) }
+    ensures small { MatchOption result (2 ^ 127 ≤ lcm a b) (λ m. m < 2 ^ 127) }
+{
+    let part = a / greatest_divisor(a, b);
+    match part.checked_mul(b) {
+        Some(multiple) => if multiple <= i128::MAX as u128 {
+            Some(multiple)
+        } else {
+            None
+        },
+        None => None,
+    }
+}
+
+/// The denominator.
+fn denominator(x: &Frac) -> u128
+    ensures value { result ≡ x.now.denom }
+    ensures positive { 0 < result }
+{
+    x.den() as u128
+}
+
+/// The least common denominator, if it lies below 2^127.
+fn common_denominator(c: &[Frac]) -> Option<u128>
+    ensures value { MatchOption result (2 ^ 127 ≤ common_denom c.now) (λ l. l ≡ common_denom c.now) }
+    ensures small { MatchOption result (2 ^ 127 ≤ common_denom c.now) (λ l. l < 2 ^ 127) }
+{
+    let mut all = 1;
+    for x in c {
+        match least_multiple(all, denominator(x)) {
+            Some(multiple) => all = multiple,
+            None => return None,
+        }
+    }
+    Some(all)
+}
+
+/// The numerator of x over a multiple of its denominator, if it lies below 2^127 in size.
+fn numerator_over(x: &Frac, all: u128) -> Option<i128>
+    requires positive { 0 < all }
+    requires small { all < 2 ^ 127 }
+    ensures value { MatchOption result (2 ^ 127 ≤ unsigned_abs (scaled all x.now)) (λ z. z ≡ scaled all x.now) }
+    ensures small { MatchOption result (2 ^ 127 ≤ unsigned_abs (scaled all x.now)) (λ z. unsigned_abs z < 2 ^ 127) }
+{
+    let times = all / denominator(x);
+    match x.num().checked_mul(times as i128) {
+        Some(numerator) => if numerator == i128::MIN {
+            None
+        } else {
+            Some(numerator)
+        },
+        None => None,
+    }
+}
+
+/// The numerators over a multiple of all denominators. Wide where one of them is.
+fn numerators_over(alloc: Global, c: &[Frac], all: u128) -> Result<Ints, LinearError>
+    requires positive { 0 < all }
+    requires small { all < 2 ^ 127 }
+    ensures value { IfOk result (λ k. k ≡ map (scaled all) c.now) }
+    ensures wide { MatchResult result (λ _. ScaledFit all c.now)
+        (λ e. IfWide e (λ step. (step ≡ 0) × (¬ ScaledFit all c.now))) }
+{
+    let mut numerators = Ints::new(alloc);
+    for x in c {
+        let Some(numerator) = numerator_over(x, all) else {
+            return Err(LinearError::Wide(0));
+        };
+        numerators.push(numerator)?;
+    }
+    Ok(numerators)
+}
+
+/// The affine form with these coefficients, the constant first, over their least common denominator.
+///
+/// `Wide(0)` where this denominator or one of the numerators over it doesn't fit.
+pub fn common(alloc: Global, c: &Vector) -> Result<IntAffine, LinearError>
+    ensures form { IfOk result (λ f. IsLeastForm c.now f.den f.k) }
+    ensures denominator { IfOk result (λ f. f.den ≡ pos (common_denom c.now)) }
+    ensures numerators { IfOk result (λ f. f.k ≡ map (scaled (common_denom c.now)) c.now) }
+    ensures wide { MatchResult result (λ _. WholeFits c.now)
+        (λ e. IfWide e (λ step. (step ≡ 0) × (¬ WholeFits c.now))) }
+{
+    let entries = c.as_slice();
+    let Some(all) = common_denominator(entries) else {
+        return Err(LinearError::Wide(0));
+    };
+    let k = numerators_over(alloc, entries, all)?;
+    Ok(IntAffine {
+        den: all as i128,
+        k,
+    })
+}
+
+/// The greatest common divisor of these integers and b; 0 where all are 0.
+fn shared_divisor(row: &Ints, b: i128) -> u128
+    requires small { AreSmall row.now }
+    requires b_small { unsigned_abs b < 2 ^ 127 }
+    ensures shared { IsShared result (row.now ++ b ∷ []) }
+    ensures small { result < 2 ^ 127 }
+{
+    let mut shared = b.unsigned_abs();
+    for z in row.as_slice() {
+        shared = greatest_divisor(shared, z.unsigned_abs());
+    }
+    shared
+}
+
+/// The row `a · t ≤ b` over the least common denominator.
+fn whole_row(alloc: Global, a: &[Frac], b: &Frac) -> Result<RowInt, LinearError>
+    ensures scaled { IfOk result (λ r. IsScaledRow a.now b.now r.a r.b) }
+    ensures small { IfOk result (λ r. AreSmall r.a) }
+    ensures b_small { IfOk result (λ r. unsigned_abs r.b < 2 ^ 127) }
+    ensures wide { MatchResult result (λ _. WholeFits (a.now ++ b.now ∷ []))
+        (λ e. IfWide e (λ step. (step ≡ 0) × (¬ WholeFits (a.now ++ b.now ∷ [])))) }
+{
+    let Some(front) = common_denominator(a) else {
+        return Err(LinearError::Wide(0));
+    };
+    let Some(all) = least_multiple(front, denominator(b)) else {
+        return Err(LinearError::Wide(0));
+    };
+    let Some(side) = numerator_over(b, all) else {
+        return Err(LinearError::Wide(0));
+    };
+    let row = numerators_over(alloc, a, all)?;
+    Ok(RowInt { a: row, b: side })
+}
+
+/// z divided by a number, towards 0.
+fn divided(z: i128, by: u128) -> i128
+    requires positive { 0 < by }
+    requires by_small { by < 2 ^ 127 }
+    requires small { unsigned_abs z < 2 ^ 127 }
+    ensures value { result ≡ int_div z (pos by) }
+    ensures small { unsigned_abs result < 2 ^ 127 }
+{
+    z / by as i128
+}
+
+/// The integers, each divided by a number.
+fn divided_row(alloc: Global, row: &Ints, by: u128) -> Result<Ints, NoMemory>
+    requires positive { 0 < by }
+    requires by_small { by < 2 ^ 127 }
+    requires small { AreSmall row.now }
+    ensures { IfOk result (λ r. r ≡ map (λ z. int_div z (pos by)) row.now) }
+{
+    let mut quotients = Ints::new(alloc);
+    for z in row.as_slice() {
+        quotients.push(divided(*z, by))?;
+    }
+    Ok(quotients)
+}
+
+/// The row without a common divisor.
+fn without_divisor(alloc: Global, row: RowInt) -> Result<RowInt, NoMemory>
+    requires small { AreSmall row.a }
+    requires b_small { unsigned_abs row.b < 2 ^ 127 }
+    ensures scaled { IfOk result (λ r. (a : List ℚ) (b : ℚ) → IsScaledRow a b row.a row.b → IsScaledRow a b r.a r.b) }
+    ensures primitive { IfOk result (λ r. IsPrimitive (r.a ++ r.b ∷ [])) }
+{
+    let shared = shared_divisor(&row.a, row.b);
+    if shared <= 1 {
+        return Ok(row);
+    }
+    let a = divided_row(alloc, &row.a, shared)?;
+    Ok(RowInt {
+        a,
+        b: divided(row.b, shared),
+    })
+}
+
+/// The row `a · t ≤ b` in whole numbers without a common divisor; a row of zeros stays so.
+///
+/// `Wide(0)` where the least common denominator of a and b, or one of the numerators over it, doesn't fit.
+pub fn primitive(alloc: Global, a: &Vector, b: &Frac) -> Result<RowInt, LinearError>
+    ensures scaled { IfOk result (λ r. IsScaledRow a.now b.now r.a r.b) }
+    ensures primitive { IfOk result (λ r. IsPrimitive (r.a ++ r.b ∷ [])) }
+    ensures same_points { IfOk result (λ r. (t : List ℚ) → (dot a.now t ≤ℚ b.now) ↔ (dot (map int r.a) t ≤ℚ int r.b)) }
+    ensures wide { MatchResult result (λ _. WholeFits (a.now ++ b.now ∷ []))
+        (λ e. IfWide e (λ step. (step ≡ 0) × (¬ WholeFits (a.now ++ b.now ∷ [])))) }
+{
+    let row = whole_row(alloc, a.as_slice(), b)?;
+    let reduced = without_divisor(alloc, row)?;
+    Ok(reduced)
+}

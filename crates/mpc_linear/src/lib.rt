@@ -1,0 +1,19 @@
+//! Vectors and matrices of checked fractions, and exact linear algebra on them.
+#![tactic(auto)]
+
+mod elimination;
+mod errors;
+mod integers;
+mod lists;
+mod matrices;
+mod products;
+
+pub use elimination::{Solved, solve};
+pub use errors::LinearError;
+pub use integers::{IntAffine, RowInt, common, primitive};
+pub use lists::{Ints, Vector};
+pub use matrices::Matrix;
+pub use products::{add_product, dot, dot_from, sub_product};
+
+#[cfg(test)]
+mod tests;

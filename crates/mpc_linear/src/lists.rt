@@ -1,0 +1,145 @@
+//! Lists of fractions and of integers.
+
+ghost use Rattle.std.specs.Prelude.{◌≡◌, ◌≢◌, ◌<◌, [], ◌∷◌, ◌++◌, length, ℤ, pos, slice_index_or, OnOk, OnErr, IsTrue, ◌↔◌};
+ghost use Rattle.mpc_exact.specs.Rational.{ℚ, int};
+
+use mpc_frac::{Frac, NoMemory};
+use std::alloc::Global;
+use std::marker::Model;
+
+/// A vector of fractions.
+#[derive(Drop)]
+pub struct Vector {
+    items: Vec<Frac>,
+}
+
+impl Model for Vector {
+    ghost use Rattle.std.specs.Prelude.{List};
+    ghost use Rattle.std.specs.Coded.{coded_list};
+    ghost use Rattle.mpc_exact.specs.Rational.{ℚ, coded_ℚ};
+
+    ghost Value = { List ℚ };
+
+    ghost coded = { coded_list coded_ℚ };
+
+    ghost view = { λ v. v.items.items };
+}
+
+impl Vector {
+    /// The empty vector, which takes no memory.
+    pub fn new(alloc: Global) -> Self
+        ensures { result ≡ [] }
+    {
+        Vector {
+            items: Vec::new(alloc),
+        }
+    }
+
+    /// How many entries there are.
+    pub fn len(&self) -> usize
+        ensures { result ≡ length self.now }
+    {
+        self.items.len()
+    }
+
+    /// Whether there is no entry.
+    pub fn is_empty(&self) -> bool
+        ensures { IsTrue result ↔ (self.now ≡ []) }
+    {
+        self.items.is_empty()
+    }
+
+    /// The entry at the place i, from 0.
+    pub fn at(&self, i: usize) -> &Frac
+        requires { i < length self.now }
+        ensures { result.now ≡ slice_index_or self.now i (int (pos 0)) }
+    {
+        &self.items[i]
+    }
+
+    /// The entries, in their order.
+    pub fn as_slice(&self) -> &[Frac]
+        ensures { result.now ≡ self.now }
+    {
+        self.items.as_slice()
+    }
+
+    /// Puts one entry behind the others. Without memory the vector stays as it was.
+    pub fn push(&mut self, item: Frac) -> Result<(), NoMemory>
+        ensures ok { OnOk result (self.new ≡ self.old ++ item ∷ []) }
+        ensures err { OnErr result (self.new ≡ self.old) }
+    {
+        if self.items.push(item).is_err() {
+            return Err(NoMemory);
+        }
+        Ok(())
+    }
+}
+
+/// A list of integers.
+#[derive(Debug, Drop)]
+pub struct Ints {
+    items: Vec<i128>,
+}
+
+impl Model for Ints {
+    ghost use Rattle.std.specs.Prelude.{List, ℤ};
+    ghost use Rattle.std.specs.Coded.{coded_list, coded_ℤ};
+
+    ghost Value = { List ℤ };
+
+    ghost coded = { coded_list coded_ℤ };
+
+    ghost view = { λ v. v.items.items };
+}
+
+impl Ints {
+    /// The empty list, which takes no memory.
+    pub fn new(alloc: Global) -> Self
+        ensures { result ≡ [] }
+    {
+        Ints {
+            items: Vec::new(alloc),
+        }
+    }
+
+    /// How many integers there are.
+    pub fn len(&self) -> usize
+        ensures { result ≡ length self.now }
+    {
+        self.items.len()
+    }
+
+    /// Whether there is no integer.
+    pub fn is_empty(&self) -> bool
+        ensures { IsTrue result ↔ (self.now ≡ []) }
+    {
+        self.items.is_empty()
+    }
+
+    /// The integer at the place i, from 0.
+    pub fn at(&self, i: usize) -> &i128
+        requires { i < length self.now }
+        ensures { result.now ≡ slice_index_or self.now i (pos 0) }
+    {
+        &self.items[i]
+    }
+
+    /// The integers, in their order.
+    pub fn as_slice(&self) -> &[i128]
+        ensures { result.now ≡ self.now }
+    {
+        self.items.as_slice()
+    }
+
+    /// Puts one integer behind the others. Without memory the list stays as it was.
+    pub fn push(&mut self, item: i128) -> Result<(), NoMemory>
+        ensures ok { OnOk result (self.new ≡ self.old ++ item ∷ []) }
+        ensures err { OnErr result (self.new ≡ self.old) }
+    {
+        if self.items.push(item).is_err() {
+            return Err(NoMemory);
+        }
+        Ok(())
+    }
+}
