@@ -1,0 +1,44 @@
+-- The definitions at numbers: the scalar plant x[k+1] = x[k] + u[k] of one step with unit weights, whose states are -4, -3, .., 4.
+use Rattle.std.proofs.Common.{◌≡◌, ℤ, List, [], ◌∷◌, pos, negsuc, refl, lit≤}
+use Rattle.mpc_exact.specs.Gcd.{gcd, gcd_within}
+use Rattle.mpc_exact.specs.Rational.{ℚ, int, frac, ◌+ℚ◌, ◌*ℚ◌}
+use Rattle.mpc_exact.proofs.RationalOrder.{positive_int}
+use Rattle.mpc_space.specs.Total.{total}
+use Rattle.mpc_plant.specs.declared.lists.Coordinate.{Coordinate}
+use Rattle.mpc_plant.specs.declared.plants.Plant.{Plant}
+use Rattle.mpc_plant.specs.SmallPlant.{scalar}
+use Rattle.mpc_plant.specs.Limits.{IsPlant}
+use Rattle.mpc_plant.specs.Trajectory.{state_of, state_at, cost}
+
+abbrev axis : Coordinate
+axis = record { low = int (negsuc 3); step = int (pos 1); count = 8 }
+
+abbrev scalar_one : (IsPlant 1 1 1 (scalar (pos 1)) (scalar (pos 1)) (scalar (pos 1)) (scalar (pos 1)) (scalar (pos 1)) [] [] (axis ∷ [])) → Plant
+scalar_one h = record {
+  n = 1;
+  p = 1;
+  horizon = 1;
+  a = scalar (pos 1);
+  b = scalar (pos 1);
+  q = scalar (pos 1);
+  r = scalar (pos 1);
+  last = scalar (pos 1);
+  rows = [];
+  terminal = [];
+  grid = axis ∷ [];
+  is_plant = h;
+}
+
+module _ (h : IsPlant 1 1 1 (scalar (pos 1)) (scalar (pos 1)) (scalar (pos 1)) (scalar (pos 1)) (scalar (pos 1)) [] [] (axis ∷ [])) where
+  -- at the count 0 the state is -4, the move 2 leads to -2 and costs 16 + 4 + 4
+  state_is : state_of (scalar_one h) (int (pos 0) ∷ []) ≡ int (negsuc 3) ∷ []
+  unfolding frac gcd gcd_within ◌+ℚ◌ ◌*ℚ◌
+  state_is = refl
+
+  next_is : state_at (scalar_one h) (int (pos 0) ∷ []) ((int (pos 2) ∷ []) ∷ []) 1 ≡ int (negsuc 1) ∷ []
+  unfolding frac gcd gcd_within ◌+ℚ◌ ◌*ℚ◌
+  next_is = refl
+
+  cost_is : cost (scalar_one h) (int (pos 0) ∷ []) ((int (pos 2) ∷ []) ∷ []) ≡ int (pos 24)
+  unfolding frac gcd gcd_within ◌+ℚ◌ ◌*ℚ◌ total
+  cost_is = refl

@@ -1,0 +1,14 @@
+use Rattle.std.proofs.Common.{sym, ◌∙◌, not}
+use Rattle.std.specs.Ordering.{is_eq}
+use Rattle.mpc_exact.specs.Rational.{cmp_ℚ}
+use Rattle.mpc_plant.specs.CheckedPlant.{differs}
+use Rattle.mpc_plant.proofs.MatrixLemmas.{search_passes, search_finds}
+use Rattle.mpc_plant.proofs.weights.difference_in_row.Goals as goal
+
+pub returns-then-differ : goal.returns-then-differ
+returns-then-differ c =
+    sym (c.loop-j.invariant ∙ search_finds (differs c.args.matrix.now.rows c.args.i) c.loop-j.j c.args.size c.loop-j-test.true ((λ k. not (is_eq (cmp_ℚ (sym c.get.ensures k) (sym c.get-in-loop-j.ensures k)))) ∙ sym c.differ.ensures ∙ c.if-differ.true))
+
+pub loop-j-preserved : goal.loop-j-preserved
+loop-j-preserved c =
+    c.loop-j.invariant ∙ search_passes (differs c.args.matrix.now.rows c.args.i) c.loop-j.j c.args.size c.loop-j-test.true ((λ k. not (is_eq (cmp_ℚ (sym c.get.ensures k) (sym c.get-in-loop-j.ensures k)))) ∙ sym c.differ.ensures ∙ c.if-differ.false)

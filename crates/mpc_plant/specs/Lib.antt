@@ -1,0 +1,14 @@
+pub mod Limits
+pub mod Trajectory
+pub mod Reply
+pub mod Keys
+pub mod Numbers
+pub mod SmallPlant
+pub mod Paths
+pub mod Faults
+pub mod Decimals
+pub mod CheckedEntries
+pub mod CheckedObjects
+pub mod CheckedRows
+pub mod CheckedPlant
+pub mod WholePlant

@@ -1,0 +1,8 @@
+//! What holds of every plant.
+
+ghost use Rattle.mpc_plant.specs.Reply.{OneRightReply};
+
+/// At a state at most one reply is right. The call does nothing: its contract is the law.
+pub fn one_right_reply()
+    ensures { OneRightReply }
+{}

@@ -1,0 +1,26 @@
+//! The plant: its type, what its controller has to achieve, and its file.
+//!
+//! The plant is the discrete-time linear system `x[k+1] = A x[k] + B u[k]` with `n` states and `p` inputs, a horizon of `N` steps, a
+//! quadratic cost and linear rows on states and inputs (Bemporad, Morari, Dua and Pistikopoulos, 2002).
+#![tactic(auto)]
+
+mod entries;
+mod faults;
+mod laws;
+mod lists;
+mod matrices;
+mod numerals;
+mod objects;
+mod plant_file;
+mod plants;
+mod rows;
+mod small;
+mod values;
+mod weights;
+
+pub use faults::{Path, PlantError, PlantKind};
+pub use laws::one_right_reply;
+pub use lists::{Coordinate, Coordinates, PlantRow, PlantRows};
+pub use plant_file::read_plant;
+pub use plants::Plant;
+pub use small::{SmallError, read_small};

@@ -1,0 +1,132 @@
+//! The numbers that stand in strings.
+
+ghost use Rattle.std.specs.Prelude.{◌≡◌, ◌+◌, ◌*◌, ◌^◌, ◌<◌, ◌≤◌, ◌==◌, length, take, drop, position, pos, Some, None, IfSome, option_map, if◌then◌else◌};
+ghost use Rattle.std.specs.List.{list_all};
+ghost use Rattle.std.specs.Char.{is_ascii_digit};
+ghost use Rattle.mpc_exact.specs.Rational.{frac};
+ghost use Rattle.mpc_plant.specs.Decimals.{decimal_value, numeral, parted, ratio, ratio_of, decimal_of, unsigned_number, text_number};
+
+use mpc_frac::Frac;
+
+/// The largest numeral has 18 digits.
+const MOST_DIGITS: usize = 18;
+
+/// The value of decimal digits, of which there are few.
+fn digits_value(text: &[u8]) -> Option<u64>
+    requires { length text.now ≤ 18 }
+    ensures value { result
+        ≡ (if list_all is_ascii_digit text.now then Some (decimal_value text.now) else None) }
+    ensures small { IfSome result (λ value. value < 1000000000000000000) }
+{
+    let mut value = 0;
+    for c in text {
+        if *c < b'0' || *c > b'9' {
+            return None;
+        }
+        value = value * 10 + u64::from(*c - b'0');
+    }
+    Some(value)
+}
+
+/// The value of a numeral of 1 to 18 digits.
+fn numeral_value(text: &[u8]) -> Option<u64>
+    ensures value { result ≡ numeral text.now }
+    ensures small { IfSome result (λ value. (value < 1000000000000000000) × (length text.now ≤ 18)) }
+{
+    if text.is_empty() || text.len() > MOST_DIGITS {
+        return None;
+    }
+    digits_value(text)
+}
+
+/// The place of the first such byte.
+fn place_of(text: &[u8], byte: u8) -> Option<usize>
+    ensures { result ≡ position (λ c. c == byte) text.now }
+{
+    text.iter().position(|c| *c == byte)
+}
+
+/// What stands before and after the first such byte.
+fn part_at(text: &[u8], byte: u8) -> Option<(&[u8], &[u8])>
+    ensures { option_map (λ parts. (parts.0.now, parts.1.now)) result ≡ parted byte text.now }
+{
+    match place_of(text, byte) {
+        Some(place) => Some((&text[..place], &text[place + 1..])),
+        None => None,
+    }
+}
+
+/// The fraction n / d.
+fn fraction(n: u128, d: u64) -> Frac
+    requires small { n < 2 ^ 127 }
+    requires positive { 0 < d }
+    ensures { result ≡ frac (pos n) d }
+{
+    match Frac::new(n as i128, i128::from(d)) {
+        Ok(fraction) => fraction,
+        Err(_) => unreachable!(),
+    }
+}
+
+/// The number n / d of two numerals.
+fn ratio_number(n: &[u8], d: &[u8]) -> Option<Frac>
+    ensures { result ≡ ratio_of (n.now, d.now) }
+{
+    let above = numeral_value(n)?;
+    let below = numeral_value(d)?;
+    if below == 0 {
+        return None;
+    }
+    Some(fraction(u128::from(above), below))
+}
+
+/// The number i.f of two numerals.
+fn decimal_number(i: &[u8], f: &[u8]) -> Option<Frac>
+    ensures { result ≡ decimal_of (i.now, f.now) }
+{
+    let whole = numeral_value(i)?;
+    let part = numeral_value(f)?;
+    let scale = power_of_ten(f.len());
+    Some(fraction(
+        u128::from(whole) * u128::from(scale) + u128::from(part),
+        scale,
+    ))
+}
+
+/// A power of ten of at most 18 zeros.
+fn power_of_ten(zeros: usize) -> u64
+    requires { zeros ≤ 18 }
+    ensures value { result ≡ 10 ^ zeros }
+    ensures positive { 0 < result }
+    ensures small { result ≤ 1000000000000000000 }
+{
+    10u64.pow(zeros as u32)
+}
+
+/// The number that a text without a sign is.
+fn unsigned(text: &[u8]) -> Option<Frac>
+    ensures { result ≡ unsigned_number text.now }
+{
+    if let Some((n, d)) = part_at(text, b'/') {
+        return ratio_number(n, d);
+    }
+    if let Some((i, f)) = part_at(text, b'.') {
+        return decimal_number(i, f);
+    }
+    let value = numeral_value(text)?;
+    Some(fraction(u128::from(value), 1))
+}
+
+/// The number that a text is.
+pub(crate) fn number_in(text: &[u8]) -> Option<Frac>
+    ensures { result ≡ text_number text.now }
+{
+    if text.is_empty() {
+        return None;
+    }
+    if text[0] != b'-' {
+        return unsigned(text);
+    }
+    let size = unsigned(&text[1..])?;
+    Some(size.neg())
+}

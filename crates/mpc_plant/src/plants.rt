@@ -1,0 +1,26 @@
+//! The plant's type.
+
+ghost use Rattle.mpc_plant.specs.Limits.{IsPlant};
+
+use crate::lists::{Coordinates, PlantRows};
+use mpc_linear::Matrix;
+
+/// A plant of `n` states and `p` inputs, with a horizon of `N` steps: `a` is n by n, `b` n by p, `q` and `last` n by n, `r` p by p.
+///
+/// The cost of a sequence of moves is the sum over the N steps of `x'q x + u'r u`, plus `x'last x` at the end. The `rows` hold at each
+/// step before the end, the `terminal` rows at the end. The `grid` has one coordinate a state.
+#[derive(Drop)]
+pub struct Plant {
+    pub n: u32,
+    pub p: u32,
+    pub horizon: u32,
+    pub a: Matrix,
+    pub b: Matrix,
+    pub q: Matrix,
+    pub r: Matrix,
+    pub last: Matrix,
+    pub rows: PlantRows,
+    pub terminal: PlantRows,
+    pub grid: Coordinates,
+    pub ghost is_plant: { IsPlant n p horizon a b q r last rows terminal grid },
+}
