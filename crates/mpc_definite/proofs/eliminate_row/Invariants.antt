@@ -1,0 +1,9 @@
+use Rattle.mpc_space.specs.Matrix.{entry}
+use Rattle.mpc_definite.proofs.Work.{RowSome, RowFitsTo}
+use Rattle.mpc_definite.proofs.eliminate_row.Given as goal
+
+abbrev pub invariant-loop-k : goal.invariant-loop-k
+invariant-loop-k l = record {
+  row : RowSome l.fn.e l.e l.j l.i l.k;
+  fits : RowFitsTo (entry l.fn.e) l.j l.i l.k;
+}

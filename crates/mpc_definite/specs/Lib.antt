@@ -1,0 +1,3 @@
+pub mod Pivots
+pub mod Steps
+pub mod Causes
