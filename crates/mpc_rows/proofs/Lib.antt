@@ -1,0 +1,4 @@
+pub mod SystemSums
+pub mod RefutedLemmas
+pub mod SumLemmas
+pub mod ColumnLemmas

@@ -1,0 +1,4 @@
+pub mod Program
+pub mod PlaceText
+pub mod LinearSystem
+pub mod Refutation

@@ -1,0 +1,85 @@
+//! Places in the making of a controller, as they are named where a number is too wide.
+
+ghost use Rattle.std.specs.Prelude.{◌≡◌, ◌++◌, OnOk, OnErr, codes, decimal};
+ghost use Rattle.mpc_sets.specs.SetText.{set_text};
+ghost use Rattle.mpc_rows.specs.PlaceText.{place_text};
+
+use itoa::Buffer;
+use mpc_frac::NoMemory;
+use mpc_sets::{ActiveSet, write_set};
+
+/// A part of the making of a controller. Steps, rows, laws and inputs are counted from 1.
+#[derive(Clone, Copy, Debug, Drop)]
+pub enum Place {
+    /// The state after so many steps, as the program of a plant is made.
+    State(u32),
+    /// The cost at this step, from 0.
+    Cost(u32),
+    /// This row of the program.
+    Row(u32),
+    /// This step of the decomposition that shows whether the program is convex.
+    Pivot(u32),
+    /// The law of an active set.
+    Law(ActiveSet),
+    /// The bound on the numbers of this law's input.
+    LawBound(u32, u32),
+}
+
+/// Appends the word and the number.
+fn write_numbered(word: &[u8], number: u32, out: &mut Vec<u8>) -> Result<(), NoMemory>
+    ensures ok { OnOk result (out.new.items ≡ out.old.items ++ (word.now ++ decimal number)) }
+    ensures err { OnErr result (out.new.items ≡ out.old.items) }
+{
+    let mut buffer = Buffer::new();
+    let digits = buffer.format(number).as_bytes();
+    out.reserve(word.len() + digits.len())
+        .map_err(|_| NoMemory)?;
+    out.extend_from_slice(word).map_err(|_| NoMemory)?;
+    out.extend_from_slice(digits).map_err(|_| NoMemory)?;
+    Ok(())
+}
+
+/// Appends the word and the set.
+fn write_with_set(word: &[u8], set: ActiveSet, out: &mut Vec<u8>) -> Result<(), NoMemory>
+    ensures ok { OnOk result (out.new.items ≡ out.old.items ++ (word.now ++ set_text set)) }
+    ensures err { OnErr result (out.new.items ≡ out.old.items) }
+{
+    let start = out.len();
+    out.extend_from_slice(word).map_err(|_| NoMemory)?;
+    let Ok(()) = write_set(set, out) else {
+        out.truncate(start);
+        return Err(NoMemory);
+    };
+    Ok(())
+}
+
+/// Appends the word, the number, a blank and the other number.
+fn write_pair(word: &[u8], number: u32, other: u32, out: &mut Vec<u8>) -> Result<(), NoMemory>
+    ensures ok { OnOk result (out.new.items ≡ out.old.items ++ (word.now ++ decimal number ++ codes " " ++ decimal other)) }
+    ensures err { OnErr result (out.new.items ≡ out.old.items) }
+{
+    let start = out.len();
+    write_numbered(word, number, out)?;
+    let Ok(()) = write_numbered(b" ", other, out) else {
+        out.truncate(start);
+        return Err(NoMemory);
+    };
+    Ok(())
+}
+
+impl Place {
+    /// Appends the name of the place, as `condense row 3` or `law {1,3}`. Without memory `out` stays as it was.
+    pub fn write(&self, out: &mut Vec<u8>) -> Result<(), NoMemory>
+        ensures ok { OnOk result (out.new.items ≡ out.old.items ++ place_text self.now) }
+        ensures err { OnErr result (out.new.items ≡ out.old.items) }
+    {
+        match *self {
+            Place::State(k) => write_numbered(b"condense state ", k, out),
+            Place::Cost(k) => write_numbered(b"condense cost ", k, out),
+            Place::Row(i) => write_numbered(b"condense row ", i, out),
+            Place::Pivot(j) => write_numbered(b"pivot ", j, out),
+            Place::Law(set) => write_with_set(b"law ", set, out),
+            Place::LawBound(law, input) => write_pair(b"bound law ", law, input, out),
+        }
+    }
+}

@@ -1,0 +1,41 @@
+use crate::{Counts, Place};
+use mpc_sets::ActiveSet;
+use std::alloc::Global;
+use std::test::Fail;
+
+fn text(alloc: Global, place: Place) -> Result<String, Fail> {
+    let mut out = Vec::new(alloc);
+    place.write(&mut out)?;
+    Ok(String::from_utf8(out)?)
+}
+
+#[test]
+fn texts_of_places(rt: HostRuntime) -> Result<(), Fail> {
+    let set = ActiveSet::empty().with(3).with(1);
+    let cases = [
+        (Place::State(3), "condense state 3"),
+        (Place::Cost(0), "condense cost 0"),
+        (Place::Row(40), "condense row 40"),
+        (Place::Pivot(6), "pivot 6"),
+        (Place::Law(set), "law {1,3}"),
+        (Place::Law(ActiveSet::empty()), "law {}"),
+        (Place::LawBound(12, 3), "bound law 12 3"),
+    ];
+    for (place, expected) in cases {
+        let found = text(rt.alloc(), place)?;
+        assert_eq!(rt; found.as_str(), expected);
+    }
+    Ok(())
+}
+
+#[test]
+fn counts(rt: HostRuntime) -> Result<(), Fail> {
+    let mut counts = Counts::new(rt.alloc());
+    assert!(rt; counts.is_empty());
+    counts.push(7)?;
+    counts.push(0)?;
+    assert_eq!(rt; counts.len(), 2);
+    assert_eq!(rt; *counts.at(0), 7);
+    assert_eq!(rt; counts.as_slice(), [7, 0].as_slice());
+    Ok(())
+}
