@@ -1,0 +1,19 @@
+use Rattle.std.proofs.Common.{◌∙◌, ◌<◌, sym, ap, subst, subst₂}
+use Rattle.mpc_simplex.specs.Table.{cell_at, HasShape}
+use Rattle.mpc_simplex.proofs.Seats.{cell_read}
+use Rattle.mpc_simplex.proofs.run.coefficient.Goals as goal
+
+pub cell-requires-clause-shape : goal.cell-requires-clause-shape
+cell-requires-clause-shape c = subst₂ (λ h w. HasShape h w c.args.entries.now) (sym c.height.ensures) (sym c.unknowns.ensures) c.requires.table.shape
+
+pub cell-requires-clause-row : goal.cell-requires-clause-row
+cell-requires-clause-row c = subst (λ h. c.row_of-r.result < h) (sym c.height.ensures) (c.requires.table.seated.rows c.args.x c.row_of-r.result c.requires.x_below c.row_of-r.ensures).0
+
+pub cell-requires-clause-column : goal.cell-requires-clause-column
+cell-requires-clause-column c = subst (λ w. c.column_of-c.result < w) (sym c.unknowns.ensures) (c.requires.table.seated.columns c.args.y c.column_of-c.result c.requires.y_below c.column_of-c.ensures).0
+
+pub returns : goal.returns
+returns c =
+    c.cell.ensures ∙ ap (λ w. cell_at w c.args.entries.now c.row_of-r.result c.column_of-c.result) c.unknowns.ensures
+    ∙ cell_read c.args.system.now.width c.args.n c.args.seats.now c.args.entries.now c.requires.table.seated.each c.args.x c.args.y c.row_of-r.result c.column_of-c.result
+    c.requires.x_below c.requires.y_below c.row_of-r.ensures c.column_of-c.ensures

@@ -1,0 +1,8 @@
+use Rattle.std.proofs.Common.{◌≡◌, None}
+use Rattle.mpc_simplex.specs.Least.{least}
+use Rattle.mpc_simplex.specs.Run.{may_enter}
+use Rattle.mpc_simplex.specs.Table.{position_of}
+use Rattle.mpc_simplex.proofs.run.entering.Given as goal
+
+abbrev pub invariant-loop-y : goal.invariant-loop-y
+invariant-loop-y l = least (may_enter l.system (position_of l.system.width l.seats l.entries) l.l) l.y ≡ None

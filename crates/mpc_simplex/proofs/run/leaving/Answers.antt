@@ -1,0 +1,59 @@
+use Rattle.std.proofs.Common.{◌≡◌, ◌∙◌, ◌≤◌, ◌&&◌, sym, ap, arith, subst, true, false, not, ltb, rules, ⊎_elim}
+use Rattle.std.proofs.lemmas.Result.{MatchResult-from_err}
+use Rattle.std.proofs.lemmas.Bool.{both_ways, cases_eq}
+use Rattle.mpc_simplex.specs.Least.{least, or_at}
+use Rattle.mpc_exact.specs.Pair.{is_below}
+use Rattle.mpc_simplex.specs.Run.{may_leave, bound}
+use Rattle.mpc_simplex.specs.RunWidth.{ValueFits}
+use Rattle.mpc_simplex.specs.Table.{position_of}
+use Rattle.mpc_simplex.proofs.Read.{width_is}
+use Rattle.mpc_simplex.proofs.Table.{least_start, least_next, least_skip, least_below, leave_not_basic, leave_basic}
+use Rattle.mpc_simplex.proofs.Seats.{basic_is}
+use Rattle.mpc_simplex.proofs.run.leaving.Goals as goal
+use Rattle.mpc_simplex.proofs.run.leaving.Goals.{After-loop-x}
+
+pub loop-x-init : goal.loop-x-init
+loop-x-init c = record { least = least_start _; fits = λ z h b. absurd (omega arith) }
+
+pub loop-x-preserved-then-not-is_basic : goal.loop-x-preserved-then-not-is_basic
+loop-x-preserved-then-not-is_basic c =
+    let s = c.args.system.now in
+    let p = position_of c.args.system.now.width c.args.seats.now c.args.entries.now in
+    let f : p.is_basic c.loop-x.x ≡ false = (basic_is c.args.system.now.width c.args.n c.args.seats.now c.args.entries.now c.requires.table.seated.each c.loop-x.x ∙ sym c.is_basic.ensures ∙ c.if-not-is_basic.true) in
+    record {
+      least = least_skip (may_leave s p) c.loop-x.x c.loop-x.out c.loop-x.invariant.least (leave_not_basic s p c.loop-x.x f);
+      fits = λ z h b. ⊎_elim (λ e. absurd (both_ways (p.is_basic c.loop-x.x) f (subst (λ m. p.is_basic m ≡ true) e b))) (λ e. c.loop-x.invariant.fits z (omega arith) b) (cases_eq z c.loop-x.x);
+    }
+
+pub loop-x-preserved : goal.loop-x-preserved
+loop-x-preserved c =
+    let s = c.args.system.now in
+    let p = position_of c.args.system.now.width c.args.seats.now c.args.entries.now in
+    let f : p.is_basic c.loop-x.x ≡ true = (basic_is c.args.system.now.width c.args.n c.args.seats.now c.args.entries.now c.requires.table.seated.each c.loop-x.x ∙ sym c.is_basic.ensures ∙ c.if-not-is_basic.false) in
+    record {
+      least = least_next (may_leave s p) c.loop-x.x c.loop-x.out c.earlier-out.result c.loop-x.invariant.least
+          (c.earlier-out.ensures
+          ∙ (λ i. or_at c.loop-x.out (not (ltb c.loop-x.x (sym (width_is c.args.system.now) i)) && is_below (bound s c.loop-x.x) (record { first = c.in_ok-v.ensures.first i; second = c.in_ok-v.ensures.second i })) c.loop-x.x)
+          ∙ ap (λ b. or_at c.loop-x.out b c.loop-x.x) (sym (leave_basic s p c.loop-x.x f)));
+      fits = λ z h b. ⊎_elim (λ e. subst (ValueFits s c.args.n p) (sym e) c.in_ok-v.ensures.wide) (λ e. c.loop-x.invariant.fits z (omega arith) b) (cases_eq z c.loop-x.x);
+    }
+
+pub returns-in_err-v-clause-wide : goal.returns-in_err-v-clause-wide
+returns-in_err-v-clause-wide c =
+    let p = position_of c.args.system.now.width c.args.seats.now c.args.entries.now in
+    let f : p.is_basic c.loop-x.x ≡ true = (basic_is c.args.system.now.width c.args.n c.args.seats.now c.args.entries.now c.requires.table.seated.each c.loop-x.x ∙ sym c.is_basic.ensures ∙ c.if-not-is_basic.false) in
+    MatchResult-from_err c.from_residual.result _ _ (search rules) (λ _ w. c.in_err-v.ensures.wide (w.values c.loop-x.x c.loop-x-test.true f))
+
+found : (c : After-loop-x) → c.loop-x.out ≡ least (may_leave c.args.system.now (position_of c.args.system.now.width c.args.seats.now c.args.entries.now)) c.args.n
+found c =
+    let e : c.loop-x.x ≡ c.args.n = (let h : c.loop-x.x ≤ c.args.n = c.loop-x.auto.x-end in let k : c.args.n ≤ c.loop-x.x = c.loop-x-test.false in omega arith) in
+    sym (ap (least (may_leave c.args.system.now (position_of c.args.system.now.width c.args.seats.now c.args.entries.now))) (sym e) ∙ c.loop-x.invariant.least)
+
+pub returns-clause-least : goal.returns-clause-least
+returns-clause-least c = found c
+
+pub returns-clause-below : goal.returns-clause-below
+returns-clause-below c = least_below (may_leave c.args.system.now (position_of c.args.system.now.width c.args.seats.now c.args.entries.now)) c.args.n c.loop-x.out (found c)
+
+pub returns-clause-wide : goal.returns-clause-wide
+returns-clause-wide c = record { values = λ x h b. c.loop-x.invariant.fits x (let k : c.args.n ≤ c.loop-x.x = c.loop-x-test.false in omega arith) b }

@@ -1,0 +1,12 @@
+use Rattle.std.proofs.Common.{◌≡◌, ℕ, ◌<◌, true}
+use Rattle.mpc_simplex.specs.Least.{least}
+use Rattle.mpc_simplex.specs.Run.{may_leave}
+use Rattle.mpc_simplex.specs.RunWidth.{ValueFits}
+use Rattle.mpc_simplex.specs.Table.{position_of}
+use Rattle.mpc_simplex.proofs.run.leaving.Given as goal
+
+abbrev pub invariant-loop-x : goal.invariant-loop-x
+invariant-loop-x l = record {
+  least : least (may_leave l.system (position_of l.system.width l.seats l.entries)) l.x ≡ l.out;
+  fits : (z : ℕ) → z < l.x → (position_of l.system.width l.seats l.entries).is_basic z ≡ true → ValueFits l.system l.n (position_of l.system.width l.seats l.entries) z;
+}

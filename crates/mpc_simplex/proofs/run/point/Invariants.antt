@@ -1,0 +1,8 @@
+use Rattle.std.proofs.Common.{◌≡◌, ℕ, ◌<◌}
+use Rattle.mpc_simplex.specs.Run.{value}
+use Rattle.mpc_simplex.specs.Table.{position_of}
+use Rattle.mpc_simplex.proofs.Answered.{pair_in}
+use Rattle.mpc_simplex.proofs.run.point.Given as goal
+
+abbrev pub invariant-loop-j : goal.invariant-loop-j
+invariant-loop-j l = (i : ℕ) → i < l.j → pair_in l.values i ≡ value l.system (position_of l.system.width l.seats l.entries) i

@@ -1,0 +1,58 @@
+//! Numbers and pairs of numbers.
+
+ghost use Rattle.std.specs.Prelude.{◌≡◌, ◌≢◌, pos};
+ghost use Rattle.mpc_exact.specs.Rational.{int, inv_ℚ, lt_ℚ, le_ℚ};
+ghost use Rattle.mpc_exact.specs.Pair.{is_below};
+ghost use Rattle.mpc_simplex.specs.Run.{is_zero};
+
+use mpc_frac::Frac;
+
+/// (q, r) for `q + d r` at every small enough positive d.
+pub(crate) type Standing = (Frac, Frac);
+
+pub(crate) fn zero() -> Frac
+    ensures { result ≡ int (pos 0) }
+{
+    Frac::whole(0)
+}
+
+fn is_less(x: &Frac, y: &Frac) -> bool
+    ensures { result ≡ lt_ℚ x.now y.now }
+{
+    x.cmp(y).is_lt()
+}
+
+fn is_at_most(x: &Frac, y: &Frac) -> bool
+    ensures { result ≡ le_ℚ x.now y.now }
+{
+    x.cmp(y).is_le()
+}
+
+pub(crate) fn is_zero(x: &Frac) -> bool
+    ensures { result ≡ is_zero x.now }
+{
+    x.is_zero()
+}
+
+pub(crate) fn is_positive(x: &Frac) -> bool
+    ensures { result ≡ lt_ℚ (int (pos 0)) x.now }
+{
+    is_less(&zero(), x)
+}
+
+/// One over x, which always fits.
+pub(crate) fn inverse(x: &Frac) -> Frac
+    requires { x.now ≢ int (pos 0) }
+    ensures { result ≡ inv_ℚ x.now }
+{
+    match Frac::new(x.den(), x.num()) {
+        Ok(v) => v,
+        Err(_) => unreachable!(),
+    }
+}
+
+pub(crate) fn is_below(p: &Standing, q: &Standing) -> bool
+    ensures { result ≡ is_below (record { first = p.now.0; second = p.now.1 }) (record { first = q.now.0; second = q.now.1 }) }
+{
+    is_less(&p.0, &q.0) || (is_at_most(&p.0, &q.0) && is_less(&p.1, &q.1))
+}
