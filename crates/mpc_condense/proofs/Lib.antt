@@ -1,0 +1,12 @@
+pub mod Combinations
+pub mod Sequences
+pub mod StateColumns
+pub mod CostForm
+pub mod SameProgram
+pub mod Writing
+pub mod Advance
+pub mod Sums
+pub mod RowLemmas
+pub mod Condensing
+pub mod Admissible
+pub mod Cut

@@ -1,0 +1,12 @@
+use Rattle.std.proofs.Common.{◌+◌, ◌-◌}
+use Rattle.mpc_exact.specs.Rational.{◌+ℚ◌}
+use Rattle.mpc_frac.specs.Fits.{FitsSum}
+use Rattle.mpc_space.specs.Matrix.{entry}
+use Rattle.mpc_condense.specs.Blocks.{WritesBlock, AllInBlock}
+use Rattle.mpc_condense.proofs.blocks.add_block.Given as goal
+
+abbrev pub invariant-loop-i : goal.invariant-loop-i
+invariant-loop-i l = record {
+  written : WritesBlock l.fn.out l.out l.first (l.first + l.i) l.first (l.first + l.m.columns) (λ a b. entry l.fn.out a b +ℚ entry l.m (a - l.first) (b - l.first));
+  fits : AllInBlock l.first (l.first + l.i) l.first (l.first + l.m.columns) (λ a b. FitsSum (entry l.fn.out a b) (entry l.m (a - l.first) (b - l.first)));
+}

@@ -1,0 +1,14 @@
+use Rattle.std.proofs.Common.{◌+◌}
+use Rattle.mpc_exact.specs.Rational.{◌-ℚ◌, neg_ℚ}
+use Rattle.mpc_frac.specs.Fits.{FitsSum}
+use Rattle.mpc_space.specs.Vector.{dot}
+use Rattle.mpc_linear.specs.Dot.{DotFits}
+use Rattle.mpc_condense.specs.Motion.{bound_of}
+use Rattle.mpc_condense.specs.Blocks.{row_at, WritesBlock, AllInBlock}
+use Rattle.mpc_condense.proofs.limits.write_right.Given as goal
+
+abbrev pub invariant-loop-b : goal.invariant-loop-b
+invariant-loop-b l = record {
+  written : WritesBlock l.fn.out l.out l.i (l.i + 1) 0 l.b (λ _ b. bound_of l.row b -ℚ dot (row_at l.x b) l.row.x);
+  fits : AllInBlock l.i (l.i + 1) 0 l.b (λ _ b. DotFits (row_at l.x b) l.row.x × FitsSum (bound_of l.row b) (neg_ℚ (dot (row_at l.x b) l.row.x)));
+}

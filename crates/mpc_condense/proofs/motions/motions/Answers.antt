@@ -1,0 +1,9 @@
+use Rattle.std.proofs.Common.{◌+◌}
+use Rattle.mpc_condense.proofs.Advance.{are_more, states_more}
+use Rattle.mpc_condense.proofs.motions.motions.Goals as goal
+
+pub loop-k-preserved : goal.loop-k-preserved
+loop-k-preserved c = record {
+  all = are_more c.args.plant.now c.loop-k.all.items c.push-in-loop-k.new.self.items c.in-Ok-advance.next (c.loop-k.k + 1) c.in-Ok-push.ensures.items c.in-Ok-advance.ensures.next c.loop-k.invariant.all;
+  fits = states_more c.args.plant.now c.loop-k.k c.in-Ok-advance.ensures.wide c.loop-k.invariant.fits;
+}

@@ -1,0 +1,143 @@
+//! The cost of a plant as a form in the extended counts and the moves.
+
+ghost use Rattle.std.specs.Prelude.{◌≡◌, ◌+◌, ◌<◌, ◌≤◌, IfOk, IfErr, OnOk, MatchResult};
+ghost use Rattle.mpc_condense.specs.Motion.{weight_at, kernel, kernel_with, WeightsFit, SumsFit, MovesFit};
+ghost use Rattle.mpc_condense.specs.Stages.{IsMotion, IsWeighted, HoldsSums};
+ghost use Rattle.mpc_condense.specs.MotionList.{AreMotions};
+ghost use Rattle.mpc_condense.specs.Causes.{IfTooWide, IsCause, StatesFit, CostsFit};
+
+use crate::blocks::{add_block, add_products, images};
+use crate::errors::{CondenseError, StageError};
+use crate::motions::Motion;
+use mpc_frac::{NoMemory, Wide};
+use mpc_linear::Matrix;
+use mpc_plant::Plant;
+use mpc_rows::Place;
+use std::alloc::Global;
+
+/// The matrices of the cost `z'h z + 2 z'f c + c'y c`, as far as it is summed.
+#[derive(Drop)]
+pub struct Cost {
+    pub h: Matrix,
+    pub f: Matrix,
+    pub y: Matrix,
+}
+
+/// The cost of no step.
+fn no_cost(alloc: Global, plant: &Plant) -> Result<Cost, NoMemory>
+    ensures { IfOk result (λ c. HoldsSums plant.now (kernel plant.now 0) c.h c.f c.y) }
+{
+    let unknowns = plant.p * plant.horizon;
+    let h = Matrix::zero(alloc, unknowns, unknowns)?;
+    let f = Matrix::zero(alloc, unknowns, plant.n + 1)?;
+    let y = Matrix::zero(alloc, plant.n + 1, plant.n + 1)?;
+    Ok(Cost { h, f, y })
+}
+
+/// The weight of the state at step k.
+fn weight_of(plant: &Plant, k: u32) -> &Matrix
+    ensures { result.now ≡ weight_at plant.now k }
+{
+    if k < plant.horizon {
+        &plant.q
+    } else {
+        &plant.last
+    }
+}
+
+/// The weight times the columns of the state at step k.
+fn weigh(alloc: Global, plant: &Plant, motion: &Motion, k: u32) -> Result<Motion, StageError>
+    requires motion { IsMotion plant.now k motion.now.x motion.now.z }
+    requires step { k ≤ plant.now.horizon }
+    ensures weighted { IfOk result (λ m. IsWeighted plant.now k m.x m.z) }
+    ensures wide { MatchResult result (λ _. WeightsFit plant.now k) (IfTooWide (¬ WeightsFit plant.now k)) }
+{
+    let weight = weight_of(plant, k);
+    let x = images(alloc, weight, &motion.x, plant.n + 1)?;
+    let z = images(alloc, weight, &motion.z, plant.p * k)?;
+    Ok(Motion { x, z })
+}
+
+/// Adds the cost of the state at step k.
+fn add_state(
+    cost: &mut Cost,
+    plant: &Plant,
+    motion: &Motion,
+    weighted: &Motion,
+    k: u32,
+) -> Result<(), Wide>
+    requires motion { IsMotion plant.now k motion.now.x motion.now.z }
+    requires weighted { IsWeighted plant.now k weighted.now.x weighted.now.z }
+    requires step { k ≤ plant.now.horizon }
+    requires sums { HoldsSums plant.now (kernel plant.now k) cost.old.h cost.old.f cost.old.y }
+    ensures ok { OnOk result (HoldsSums plant.now (kernel_with plant.now k) cost.new.h cost.new.f cost.new.y) }
+    ensures wide { MatchResult result (λ _. SumsFit plant.now k) (λ _. ¬ SumsFit plant.now k) }
+{
+    let first = plant.p * k;
+    add_products(&mut cost.h, &motion.z, first, &weighted.z, first)?;
+    add_products(&mut cost.f, &motion.z, first, &weighted.x, plant.n + 1)?;
+    add_products(
+        &mut cost.y,
+        &motion.x,
+        plant.n + 1,
+        &weighted.x,
+        plant.n + 1,
+    )
+}
+
+/// Adds the cost of the move at step k.
+fn add_move(cost: &mut Cost, plant: &Plant, k: u32) -> Result<(), Wide>
+    requires step { k < plant.now.horizon }
+    requires sums { HoldsSums plant.now (kernel_with plant.now k) cost.old.h cost.old.f cost.old.y }
+    ensures ok { OnOk result (HoldsSums plant.now (kernel plant.now (k + 1)) cost.new.h cost.new.f cost.new.y) }
+    ensures wide { MatchResult result (λ _. MovesFit plant.now k) (λ _. ¬ MovesFit plant.now k) }
+{
+    add_block(&mut cost.h, plant.p * k, &plant.r)
+}
+
+/// Adds the cost of the state at step k, from its columns.
+fn add_stage(
+    alloc: Global,
+    cost: &mut Cost,
+    plant: &Plant,
+    motion: &Motion,
+    k: u32,
+) -> Result<(), StageError>
+    requires motion { IsMotion plant.now k motion.now.x motion.now.z }
+    requires step { k ≤ plant.now.horizon }
+    requires sums { HoldsSums plant.now (kernel plant.now k) cost.old.h cost.old.f cost.old.y }
+    ensures ok { OnOk result (HoldsSums plant.now (kernel_with plant.now k) cost.new.h cost.new.f cost.new.y) }
+    ensures wide { MatchResult result (λ _. WeightsFit plant.now k × SumsFit plant.now k)
+        (IfTooWide (¬ (WeightsFit plant.now k × SumsFit plant.now k))) }
+{
+    let weighted = weigh(alloc, plant, motion, k)?;
+    add_state(cost, plant, motion, &weighted, k)?;
+    Ok(())
+}
+
+/// The cost over all steps, from the states at them.
+pub fn costs(alloc: Global, plant: &Plant, motions: &[Motion]) -> Result<Cost, CondenseError>
+    requires motions { AreMotions plant.now motions.now (plant.now.horizon + 1) }
+    requires states { StatesFit plant.now plant.now.horizon }
+    ensures sums { IfOk result (λ c. HoldsSums plant.now (kernel_with plant.now plant.now.horizon) c.h c.f c.y) }
+    ensures fits { OnOk result (CostsFit plant.now (plant.now.horizon + 1)) }
+    ensures cause { IfErr result (IsCause plant.now) }
+{
+    let mut cost = no_cost(alloc, plant)?;
+    for k in 0..plant.horizon {
+        match add_stage(alloc, &mut cost, plant, &motions[k as usize], k) {
+            Ok(()) => {}
+            Err(StageError::TooWide) => return Err(CondenseError::Wide(Place::Cost(k))),
+            Err(StageError::OutOfMemory) => return Err(CondenseError::NoMemory),
+        }
+        let Ok(()) = add_move(&mut cost, plant, k) else {
+            return Err(CondenseError::Wide(Place::Cost(k)));
+        };
+    }
+    let last = plant.horizon;
+    match add_stage(alloc, &mut cost, plant, &motions[last as usize], last) {
+        Ok(()) => Ok(cost),
+        Err(StageError::TooWide) => Err(CondenseError::Wide(Place::Cost(last))),
+        Err(StageError::OutOfMemory) => Err(CondenseError::NoMemory),
+    }
+}

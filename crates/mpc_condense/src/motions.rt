@@ -1,0 +1,75 @@
+//! The states of a plant as combinations of columns.
+
+ghost use Rattle.std.specs.Prelude.{◌+◌, ◌<◌, IfOk, IfErr, OnOk, MatchResult};
+ghost use Rattle.mpc_condense.specs.Motion.{StateFits};
+ghost use Rattle.mpc_condense.specs.Causes.{IfTooWide, IsCause, StatesFit};
+ghost use Rattle.mpc_condense.specs.Stages.{IsMotion};
+ghost use Rattle.mpc_condense.specs.MotionList.{AreMotions};
+
+use crate::blocks::{images, write_columns};
+use crate::errors::{CondenseError, StageError};
+use mpc_frac::NoMemory;
+use mpc_linear::Matrix;
+use mpc_plant::Plant;
+use mpc_rows::Place;
+use std::alloc::Global;
+
+/// The state at one step as the sum of columns: row j of `x` is the column of the extended count j, and row j of `z` that of entry j of the
+/// moves.
+#[derive(Drop)]
+pub struct Motion {
+    pub x: Matrix,
+    pub z: Matrix,
+}
+
+/// The first state: the lows, and the steps on the diagonal behind them.
+pub fn start(alloc: Global, plant: &Plant) -> Result<Motion, NoMemory>
+    ensures { IfOk result (λ m. IsMotion plant.now 0 m.x m.z) }
+{
+    let mut x = Matrix::zero(alloc, plant.n + 1, plant.n)?;
+    let z = Matrix::zero(alloc, plant.p * plant.horizon, plant.n)?;
+    for i in 0..plant.n {
+        let axis = plant.grid.at(i as usize);
+        x.set(0, i, axis.low);
+        x.set(i + 1, i, axis.step);
+    }
+    Ok(Motion { x, z })
+}
+
+/// The state at step `k + 1`, from that at step k.
+pub fn advance(alloc: Global, plant: &Plant, motion: &Motion, k: u32) -> Result<Motion, StageError>
+    requires motion { IsMotion plant.now k motion.now.x motion.now.z }
+    requires step { k < plant.now.horizon }
+    ensures next { IfOk result (λ m. IsMotion plant.now (k + 1) m.x m.z) }
+    ensures wide { MatchResult result (λ _. StateFits plant.now k) (IfTooWide (¬ StateFits plant.now k)) }
+{
+    let first = plant.p * k;
+    let x = images(alloc, &plant.a, &motion.x, plant.n + 1)?;
+    let mut z = images(alloc, &plant.a, &motion.z, first)?;
+    write_columns(&mut z, first, &plant.b);
+    Ok(Motion { x, z })
+}
+
+/// The states at all steps, from the first to that at the horizon.
+pub fn motions(alloc: Global, plant: &Plant) -> Result<Vec<Motion>, CondenseError>
+    ensures all { IfOk result (λ v. AreMotions plant.now v.items (plant.now.horizon + 1)) }
+    ensures fits { OnOk result (StatesFit plant.now plant.now.horizon) }
+    ensures cause { IfErr result (IsCause plant.now) }
+{
+    let mut all = Vec::new(alloc);
+    let first = start(alloc, plant)?;
+    let Ok(()) = all.push(first) else {
+        return Err(CondenseError::NoMemory);
+    };
+    for k in 0..plant.horizon {
+        let next = match advance(alloc, plant, &all[k as usize], k) {
+            Ok(next) => next,
+            Err(StageError::TooWide) => return Err(CondenseError::Wide(Place::State(k + 1))),
+            Err(StageError::OutOfMemory) => return Err(CondenseError::NoMemory),
+        };
+        let Ok(()) = all.push(next) else {
+            return Err(CondenseError::NoMemory);
+        };
+    }
+    Ok(all)
+}
