@@ -1,0 +1,17 @@
+pub mod CutLemmas
+pub mod CountLemmas
+pub mod Stacks
+pub mod BestMoves
+pub mod OneProgram
+pub mod LineLemmas
+pub mod ReplyLemmas
+pub mod WholeNumbers
+pub mod AffineLemmas
+pub mod FormLemmas
+pub mod DueStatus
+pub mod RunLemmas
+pub mod AnswerLemmas
+pub mod SolutionLemmas
+pub mod SamePlant
+pub mod OutsideLemmas
+pub mod SynthesisLemmas

@@ -1,0 +1,153 @@
+-- What the top call answers, from the ends of its parts.
+use Rattle.std.proofs.Common.{◌≡◌, ℕ, ◌⊎◌, inl, inr, List, [], ◌∷◌, Option, Some, None, take, refl, sym, ◌∙◌, ap, subst}
+use Rattle.std.specs.Prelude.{IfSome}
+use Rattle.std.specs.Io.KnownBytes.{Appends, Keeps}
+use Rattle.mpc_port.specs.Faults.{Rose}
+use Rattle.std.proofs.Common.{Bool, true, false, ◌<◌, ◌≤◌, length, get_or, map, arith}
+use Rattle.std.specs.Prelude.{MatchBool, bytes_eq, codes}
+use Rattle.std.proofs.lemmas.Slice.Eq.{bytes_eq-Decides}
+use Rattle.std.proofs.lemmas.Bool.{false≢true}
+use Rattle.mpc_port.specs.WriteError.{sent_before, ExplainsWriteError}
+use Rattle.mpc_port.specs.declared.output.WriteError.{WriteError}
+use Rattle.mpc_port.specs.declared.output.WriteError.TheVariants.{WriteFault as SinkFailed, NoMemory as SinkFull}
+use Rattle.mpc_cli.specs.declared.status.Status.{Status}
+use Rattle.mpc_cli.specs.declared.status.Status.TheVariants.{Done, Usage, BadPlant, NotDefinite, TooWide, ReadFault, WriteFault, TooLong, NoMemory, Unbuilt}
+use Rattle.mpc_cli.specs.StatusText.{line_of}
+use Rattle.mpc_cli.specs.Answers.{IsRun, IsDue, IsAnswer, Passage, Answers, TookPart, IsQuiet, RunAnswers, CausesDone}
+use Rattle.mpc_cli.specs.Outcomes.{IsSomeAnswer, Finishes, wrote_all, sink_failed, sink_full}
+use Rattle.mpc_cli.proofs.DueStatus.{due_unique, due_usage}
+
+pub if_some : (o : Option (List ℕ)) (P Q : List ℕ → Type 0) → ((x : List ℕ) → P x → Q x) → IfSome o P → IfSome o Q
+if_some None P Q f h = h
+if_some (Some x) P Q f h = f x h
+
+always_some : (o : Option (List ℕ)) (Q : List ℕ → Type 0) → ((x : List ℕ) → Q x) → IfSome o Q
+always_some None Q f = tt
+always_some (Some x) Q f = f x
+
+pub keeps_same : (o : Option (List ℕ)) → Keeps o o
+keeps_same None = tt
+keeps_same (Some x) = refl
+
+not_device : (words : List (List ℕ)) (s : Status) (text : List ℕ) → IsSomeAnswer words s text → (t : Status) → ((input : List ℕ) → IsDue words input t → ⊥) → s ≡ t → ⊥
+not_device words s text some t none e = none some.input (subst (IsDue words some.input) e some.answer.due)
+
+-- all is written
+whole : (words : List (List ℕ)) (p : Passage) (s : Status) (text : List ℕ) → IsSomeAnswer words s text → IfSome p.left (λ input. IsAnswer words input s text)
+    → Appends p.taken p.taken_after text → RunAnswers words p s
+whole words p s text some told wrote =
+    let answers : IfSome p.left (Answers words p s) = if_some p.left (λ input. IsAnswer words input s text) (Answers words p s) (λ input a. record { text = text; answer = a; wrote = wrote }) told in
+    let at : (t : Status) → s ≡ t → IfSome p.left (Answers words p t) = λ t e. subst (λ t. IfSome p.left (Answers words p t)) e answers in
+    let due : IfSome p.left (λ input. (due : Status) → IsDue words input due → IsQuiet p → (s ≡ due) ⊎ (s ≡ NoMemory)) =
+    if_some p.left (λ input. IsAnswer words input s text) (λ input. (due : Status) → IsDue words input due → IsQuiet p → (s ≡ due) ⊎ (s ≡ NoMemory))
+    (λ input a due h quiet. inl (due_unique words input s due a.due h)) told in
+    record {
+      done = at Done;
+      usage = λ e. usage_of (subst (λ t. IsAnswer words some.input t text) e some.answer);
+      usage_first = λ wrong. inl (due_usage words some.input s some.answer.due wrong);
+      too_long = at TooLong;
+      bad_plant = λ kind path. at (BadPlant kind path);
+      unbuilt = at Unbuilt;
+      not_definite = λ pivot. at (NotDefinite pivot);
+      too_wide = λ place. at (TooWide place);
+      read_fault = λ e. absurd (not_device words s text some ReadFault (λ input h. h) e);
+      write_fault = λ e. absurd (not_device words s text some WriteFault (λ input h. h) e);
+      no_memory = λ e. absurd (not_device words s text some NoMemory (λ input h. h) e);
+      exact = due;
+      complete = if_some p.left _ (λ input. CausesDone words input → IsQuiet p → (s ≡ Done) ⊎ (s ≡ NoMemory)) (λ input f c quiet. f Done c quiet) due;
+    }
+  where
+    usage_of : IsAnswer words some.input Usage text → (IsRun words → ⊥) × Appends p.taken p.taken_after (line_of Usage)
+    usage_of a = (a.due, subst (Appends p.taken p.taken_after) a.text_is wrote)
+
+-- a part is written
+part : (words : List (List ℕ)) (p : Passage) (s : Status) (text : List ℕ) (sent : ℕ) → IfSome p.left (λ input. IsAnswer words input s text) → Appends p.taken p.taken_after (take sent text)
+    → IfSome p.left (TookPart words p)
+part words p s text sent told wrote =
+    if_some p.left (λ input. IsAnswer words input s text) (TookPart words p) (λ input a. record { status = s; text = text; answer = a; sent = sent; wrote = wrote }) told
+
+write_failed : (words : List (List ℕ)) (p : Passage) (s : Status) (text : List ℕ) (sent : ℕ) → IfSome p.left (λ input. IsAnswer words input s text)
+    → Rose p.write_faults p.write_faults_after → Appends p.taken p.taken_after (take sent text) → RunAnswers words p WriteFault
+write_failed words p s text sent told rose wrote = record {
+  done = λ e. absurd cc;
+  usage = λ e. absurd cc;
+  usage_first = λ wrong. inr (inl refl);
+  too_long = λ e. absurd cc;
+  bad_plant = λ kind path e. absurd cc;
+  unbuilt = λ e. absurd cc;
+  not_definite = λ pivot e. absurd cc;
+  too_wide = λ place e. absurd cc;
+  read_fault = λ e. absurd cc;
+  write_fault = λ e. (rose, part words p s text sent told wrote);
+  no_memory = λ e. absurd cc;
+  exact = always_some p.left _ (λ input due h quiet. absurd (quiet.writes rose));
+  complete = always_some p.left _ (λ input c quiet. absurd (quiet.writes rose));
+}
+
+out_of_memory : (words : List (List ℕ)) (p : Passage) → IfSome p.left (λ input. Keeps p.taken p.taken_after ⊎ TookPart words p input) → RunAnswers words p NoMemory
+out_of_memory words p took = record {
+  done = λ e. absurd cc;
+  usage = λ e. absurd cc;
+  usage_first = λ wrong. inr (inr refl);
+  too_long = λ e. absurd cc;
+  bad_plant = λ kind path e. absurd cc;
+  unbuilt = λ e. absurd cc;
+  not_definite = λ pivot e. absurd cc;
+  too_wide = λ place e. absurd cc;
+  read_fault = λ e. absurd cc;
+  write_fault = λ e. absurd cc;
+  no_memory = λ e. took;
+  exact = always_some p.left _ (λ input due h quiet. inr refl);
+  complete = always_some p.left _ (λ input c quiet. inr refl);
+}
+
+pub finished : (words : List (List ℕ)) (p : Passage) (a s : Status) (text : List ℕ) → IsSomeAnswer words a text → IfSome p.left (λ input. IsAnswer words input a text)
+    → Finishes a text p.taken p.taken_after p.write_faults p.write_faults_after s → RunAnswers words p s
+finished words p a _ text some told (wrote_all wrote) = whole words p a text some told wrote
+finished words p a _ text some told (sink_failed sent rose wrote) = write_failed words p a text sent told rose wrote
+finished words p a _ text some told (sink_full sent wrote) =
+    out_of_memory words p (if_some p.left (TookPart words p) (λ input. Keeps p.taken p.taken_after ⊎ TookPart words p input) (λ input took. inr took) (part words p a text sent told wrote))
+
+-- nothing is written
+pub halted : (words : List (List ℕ)) (p : Passage) → Keeps p.taken p.taken_after → RunAnswers words p NoMemory
+halted words p kept = out_of_memory words p (always_some p.left _ (λ input. inl kept))
+
+pub read_failed : (words : List (List ℕ)) (p : Passage) → IsRun words → Rose p.read_faults p.read_faults_after → Keeps p.taken p.taken_after → RunAnswers words p ReadFault
+read_failed words p run rose kept = record {
+  done = λ e. absurd cc;
+  usage = λ e. absurd cc;
+  usage_first = λ wrong. absurd (wrong run);
+  too_long = λ e. absurd cc;
+  bad_plant = λ kind path e. absurd cc;
+  unbuilt = λ e. absurd cc;
+  not_definite = λ pivot e. absurd cc;
+  too_wide = λ place e. absurd cc;
+  read_fault = λ e. (rose, kept);
+  write_fault = λ e. absurd cc;
+  no_memory = λ e. absurd cc;
+  exact = always_some p.left _ (λ input due h quiet. absurd (quiet.reads rose));
+  complete = always_some p.left _ (λ input c quiet. absurd (quiet.reads rose));
+}
+
+-- ---- the ends of writing
+pub write_fault_ends : (status : Status) (text bytes : List ℕ) (taken taken_after : Option (List ℕ)) (faults faults_after : ℕ) (e : WriteError) (sent : ℕ) → e ≡ SinkFailed sent → bytes ≡ text
+    → Appends taken taken_after (take (sent_before e) bytes) → ExplainsWriteError faults faults_after e → Finishes status text taken taken_after faults faults_after WriteFault
+write_fault_ends status text bytes taken taken_after faults faults_after e sent is same wrote cause =
+    sink_failed sent (subst (ExplainsWriteError faults faults_after) is cause) (subst (Appends taken taken_after) (λ i. take (sent_before (is i)) (same i)) wrote)
+
+pub no_memory_ends : (status : Status) (text bytes : List ℕ) (taken taken_after : Option (List ℕ)) (faults faults_after : ℕ) (e : WriteError) (sent : ℕ) → e ≡ SinkFull sent → bytes ≡ text
+    → Appends taken taken_after (take (sent_before e) bytes) → Finishes status text taken taken_after faults faults_after NoMemory
+no_memory_ends status text bytes taken taken_after faults faults_after e sent is same wrote =
+    sink_full sent (subst (Appends taken taken_after) (λ i. take (sent_before (is i)) (same i)) wrote)
+
+-- ---- one word
+one_word : {S : Type 0} (f : S → List ℕ) (words : List S) (w : S) (r : Bool) → length words ≡ 1 → w ≡ get_or words 0 w → r ≡ bytes_eq (f w) (codes "run")
+    → MatchBool r (map f words ≡ codes "run" ∷ []) (map f words ≡ codes "run" ∷ [] → ⊥)
+one_word f [] w r e is h = absurd (omega (arith, e))
+one_word f (x ∷ y ∷ more) w r e is h = absurd (omega (arith, e))
+one_word f (x ∷ []) w true e is h = ap (λ t. t ∷ []) (ap f (sym is) ∙ (bytes_eq-Decides (f w) (codes "run")).0 (sym h))
+one_word f (x ∷ []) w false e is h = λ same. false≢true (h ∙ (bytes_eq-Decides (f w) (codes "run")).1 (ap f is ∙ ap (λ l. get_or l 0 []) same))
+
+pub is_one_word : {S : Type 0} (f : S → List ℕ) (words : List S) (w : S) (text : List ℕ) (r : Bool) → 1 ≤ length words → length words < 2 → w ≡ get_or words 0 w → text ≡ f w
+    → r ≡ bytes_eq text (codes "run") → MatchBool r (map f words ≡ codes "run" ∷ []) (map f words ≡ codes "run" ∷ [] → ⊥)
+is_one_word f words w text r least most is text_is h = one_word f words w r (omega arith) is (h ∙ ap (λ t. bytes_eq t (codes "run")) text_is)

@@ -1,0 +1,25 @@
+-- How the parts of the top call end.
+use Rattle.std.specs.Prelude.{ℕ, List, Option, take}
+use Rattle.std.specs.Io.KnownBytes.{Appends}
+use Rattle.mpc_port.specs.Faults.{Rose}
+use Rattle.mpc_cli.specs.declared.status.Status.{Status}
+use Rattle.mpc_cli.specs.declared.status.Status.TheVariants.{WriteFault, NoMemory}
+use Rattle.mpc_cli.specs.declared.run.Halt.{Halt}
+use Rattle.mpc_cli.specs.declared.run.Halt.TheVariants.{SourceFailed, OutOfMemory}
+use Rattle.mpc_cli.specs.Answers.{IsRun, IsAnswer}
+
+-- a status and a text answer some input
+pub record IsSomeAnswer (words : List (List ℕ)) (status : Status) (text : List ℕ) : Type 0 where
+  pub input : List ℕ
+  pub answer : IsAnswer words input status text
+
+-- why nothing is to be written: the source failed, or memory ran out
+abbrev pub ExplainsHalt : List (List ℕ) → ℕ → ℕ → Halt → Type 0
+ExplainsHalt words faults faults_after SourceFailed = IsRun words × Rose faults faults_after
+ExplainsHalt words faults faults_after OutOfMemory = Unit {0}
+
+-- the ends of writing a status's text
+pub data Finishes (status : Status) (text : List ℕ) (taken taken_after : Option (List ℕ)) (faults faults_after : ℕ) : Status → Type 0 where
+  wrote_all : Appends taken taken_after text → Finishes status text taken taken_after faults faults_after status
+  sink_failed : (sent : ℕ) → Rose faults faults_after → Appends taken taken_after (take sent text) → Finishes status text taken taken_after faults faults_after WriteFault
+  sink_full : (sent : ℕ) → Appends taken taken_after (take sent text) → Finishes status text taken taken_after faults faults_after NoMemory

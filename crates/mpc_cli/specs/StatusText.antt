@@ -1,0 +1,51 @@
+-- The lines and the exit codes of statuses.
+use Rattle.std.specs.Prelude.{ℕ, List, [], ◌∷◌, ◌++◌, codes, decimal}
+use Rattle.mpc_cli.specs.declared.status.Status.{Status}
+use Rattle.mpc_cli.specs.declared.status.Status.TheVariants.{Done, Usage, BadPlant, NotDefinite, TooWide, ReadFault, WriteFault, TooLong, NoMemory, Unbuilt}
+use Rattle.mpc_plant.specs.declared.faults.PlantKind.{PlantKind}
+use Rattle.mpc_plant.specs.declared.faults.PlantKind.TheVariants.{NotJson, NotObject, UnknownKey, MissingKey, WrongKind, BadNumber, WrongShape, OverLimit, NotSymmetric, StepNotPositive, BadVersion}
+use Rattle.mpc_rows.specs.PlaceText.{place_text}
+
+abbrev pub kind_text : PlantKind → List ℕ
+kind_text NotJson = codes "NotJson"
+kind_text NotObject = codes "NotObject"
+kind_text UnknownKey = codes "UnknownKey"
+kind_text MissingKey = codes "MissingKey"
+kind_text WrongKind = codes "WrongKind"
+kind_text BadNumber = codes "BadNumber"
+kind_text WrongShape = codes "WrongShape"
+kind_text OverLimit = codes "OverLimit"
+kind_text NotSymmetric = codes "NotSymmetric"
+kind_text StepNotPositive = codes "StepNotPositive"
+kind_text BadVersion = codes "BadVersion"
+
+-- a blank and the path; nothing where the path is empty
+abbrev pub path_text : List ℕ → List ℕ
+path_text [] = []
+path_text (b ∷ path) = codes " " ++ b ∷ path
+
+-- the line that is written at a status; nothing for those without a line, and for Done, whose output is written
+abbrev pub line_of : Status → List ℕ
+line_of Done = []
+line_of Usage = codes "usage\n"
+line_of (BadPlant kind path) = codes "bad plant " ++ kind_text kind ++ path_text path ++ codes "\n"
+line_of (NotDefinite pivot) = codes "not definite " ++ decimal pivot ++ codes "\n"
+line_of (TooWide place) = codes "too wide " ++ place_text place ++ codes "\n"
+line_of ReadFault = []
+line_of WriteFault = []
+line_of TooLong = codes "too long\n"
+line_of NoMemory = []
+line_of Unbuilt = codes "unbuilt\n"
+
+-- the exit code
+abbrev pub code_of : Status → ℕ
+code_of Done = 0
+code_of Usage = 2
+code_of (BadPlant kind path) = 3
+code_of (NotDefinite pivot) = 4
+code_of (TooWide place) = 5
+code_of ReadFault = 8
+code_of WriteFault = 9
+code_of TooLong = 10
+code_of NoMemory = 11
+code_of Unbuilt = 14

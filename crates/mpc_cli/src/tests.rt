@@ -1,0 +1,180 @@
+//! The command on worked inputs, and on devices that fail.
+use super::run::run;
+use super::status::Status;
+use mpc_port::{MemorySink, MemorySource, OpenGate, QuietSink, QuietSource, Sink, Source};
+use std::alloc::Global;
+use std::process::Abort;
+use std::sync::Wait;
+use std::test::Fail;
+use std::thread::Threads;
+
+/// A tank with the levels -4 to 4, and four of them.
+const TANK: &[u8] =
+    b"{\"version\":1,\"horizon\":1,\"A\":[[1]],\"B\":[[1]],\"Q\":[[1]],\"R\":[[1]],\"P\":[[1]],\"grid\":[{\"low\":-4,\"step\":1,\"count\":8}]}\nstates\n0\n3\n4\n8\n";
+
+/// What the command `run` ends with and writes.
+#[derive(Drop)]
+struct Case {
+    input: &'static [u8],
+    ends: &'static [u8],
+    code: u8,
+}
+
+fn run_words<T: Threads + Wait + Sync, S: Source, K: Sink>(
+    rt: &T,
+    alloc: Global,
+    word: &str,
+    source: &mut S,
+    sink: &mut K,
+) -> Result<Status, Fail> {
+    let words = vec![in alloc; String::from_str(alloc, word)?]?;
+    Ok(run(rt, alloc, &words, source, sink, &OpenGate))
+}
+
+fn check_case<T: Threads + Wait + Sync + Abort>(
+    rt: &T,
+    alloc: Global,
+    case: &Case,
+) -> Result<(), Fail> {
+    let mut source = QuietSource::new(case.input.to_vec(alloc)?);
+    let mut sink = QuietSink::new(alloc);
+    let status = run_words(rt, alloc, "run", &mut source, &mut sink)?;
+    assert_eq!(rt; status.code(), case.code);
+    assert_eq!(rt; sink.bytes(), case.ends);
+    Ok(())
+}
+
+#[test]
+fn answers(rt: HostRuntime) -> Result<(), Fail> {
+    let cases = [
+        Case {
+            input: TANK,
+            ends: b"2\n1/2\n0\n-2\n",
+            code: 0,
+        },
+        Case {
+            input: b"{\"version\":1,\"horizon\":1,\"A\":[[1]],\"B\":[[1]],\"Q\":[[1]],\"R\":[[-1]],\"P\":[[2]],\"grid\":[{\"low\":-4,\"step\":1,\"count\":8}]}\nstates\n3",
+            ends: b"2\n",
+            code: 0,
+        },
+        Case {
+            input: b"{\"version\":1,\"horizon\":1,\"A\":[[1]],\"B\":[[1]],\"Q\":[[1]],\"R\":[[0]],\"P\":[[0]],\"grid\":[{\"low\":-4,\"step\":1,\"count\":8}]}\nstates\n3\n",
+            ends: b"not definite 1\n",
+            code: 4,
+        },
+        Case {
+            input: b"{\"version\":1,\"horizon\":1,\"A\":[[1]],\"B\":[[1]],\"Q\":[[1]],\"R\":[[1]],\"P\":[[1]],\"grid\":[{\"low\":3,\"step\":1,\"count\":0}]}\r\nstates\r\n0\r\n1\r\n",
+            ends: b"-3/2\noutside 1\n",
+            code: 0,
+        },
+        Case {
+            input: b"{\"version\":1,\"horizon\":1,\"A\":[[1]],\"B\":[[1]],\"Q\":[[1]],\"R\":[[1]],\"P\":[[1]],\"grid\":[{\"low\":-4,\"step\":1,\"count\":1000000}]}\nstates\n1000000\n",
+            ends: b"-499998\n",
+            code: 0,
+        },
+        Case {
+            input: b"{\"version\":1,\"horizon\":1,\"A\":[[1]],\"B\":[[1]],\"Q\":[[1]],\"R\":[[1]],\"P\":[[1]],\"grid\":[{\"low\":-4,\"step\":1,\"count\":8}]}\nstates\n\nx\n3 3\n9\n3\n",
+            ends: b"bad line\nbad line\nbad line\noutside 1\n1/2\n",
+            code: 0,
+        },
+        Case {
+            input: b"{\"version\":1,\"horizon\":1,\"A\":[[1]],\"B\":[[1]],\"Q\":[[1]],\"R\":[[1]],\"P\":[[1]],\"grid\":[{\"low\":-4,\"step\":1,\"count\":8}]}\n",
+            ends: b"",
+            code: 0,
+        },
+        Case {
+            input: b"{\"version\":1,\"horizon\":1,\"A\":[[1]],\"B\":[[1]],\"Q\":[[1]],\"R\":[[1]],\"P\":[[1]],\"rows\":[{\"u\":[1],\"max\":1},{\"u\":[-1],\"max\":1}],\"grid\":[{\"low\":-4,\"step\":1,\"count\":8}]}\nstates\n0\n",
+            ends: b"unbuilt\n",
+            code: 14,
+        },
+        Case {
+            input: b"{\"version\": 1, \"horizon\": 1, \"A\": [[156731814582207]], \"B\": [[-2]], \"Q\": [[0]], \"R\": [[-2]], \"P\": [[3]], \"grid\": [{\"low\": -1, \"step\": 972022575021797, \"count\": 8}]}\nstates\n8\n",
+            ends: b"too wide condense cost 1\n",
+            code: 5,
+        },
+        Case {
+            input: b"",
+            ends: b"bad plant NotJson\n",
+            code: 3,
+        },
+        Case {
+            input: b"[]",
+            ends: b"bad plant NotObject\n",
+            code: 3,
+        },
+        Case {
+            input: b"{\"version\":1,\"horizon\":1,\"A\":[[0.1]],\"B\":[[1]],\"Q\":[[1]],\"R\":[[1]],\"P\":[[1]],\"grid\":[{\"low\":-4,\"step\":1,\"count\":8}]}\nstates\n0\n",
+            ends: b"bad plant BadNumber /A/0/0\n",
+            code: 3,
+        },
+        Case {
+            input: b"{\"version\":1,\"horizon\":1,\"A\":[[1]],\"B\":[[1]],\"Q\":[[1]],\"R\":[[1]],\"P\":[[1]],\"grid\":[{\"low\":-4,\"step\":\"0\",\"count\":8}]}",
+            ends: b"bad plant StepNotPositive /grid/0/step\n",
+            code: 3,
+        },
+        Case {
+            input: b"{\"version\":1,\"horizon\":2,\"A\":[[\"1/999999999999999999\"]],\"B\":[[1]],\"Q\":[[1]],\"R\":[[1]],\"P\":[[1]],\"grid\":[{\"low\":-4,\"step\":1,\"count\":8}]}\nstates\n0\n",
+            ends: b"too wide condense cost 2\n",
+            code: 5,
+        },
+        Case {
+            input: b"{\"version\":1,\"horizon\":1,\"A\":[[1]],\"B\":[[1,1]],\"Q\":[[1]],\"R\":[[1,0],[0,1]],\"P\":[[1]],\"grid\":[{\"low\":-4,\"step\":1,\"count\":8}]}\nstates\n0\n3\n",
+            ends: b"4/3 4/3\n1/3 1/3\n",
+            code: 0,
+        },
+        Case {
+            input: b"{\"version\":1,\"horizon\":2,\"A\":[[1,1],[0,1]],\"B\":[[0],[1]],\"Q\":[[1,0],[0,1]],\"R\":[[1]],\"P\":[[1,0],[0,1]],\"grid\":[{\"low\":-10,\"step\":1,\"count\":20},{\"low\":-10,\"step\":1,\"count\":20}]}\nstates\n11 10\n20 7\n20 20\n20 21\n21 0\n3\n",
+            ends: b"-2/7\n1/7\n-90/7\noutside 2\noutside 1\nbad line\n",
+            code: 0,
+        },
+        Case {
+            input: b"{\"version\":1,\"horizon\":1,\"A\":[[1]],\"B\":[[1]],\"Q\":[[1]],\"R\":[[1]],\"P\":[[1]],\"terminal\":[{\"x\":[1],\"max\":1}],\"grid\":[{\"low\":-4,\"step\":1,\"count\":8}]}\nstates\n0\n",
+            ends: b"unbuilt\n",
+            code: 14,
+        },
+    ];
+    for case in &cases {
+        check_case(&rt, rt.alloc(), case)?;
+    }
+    Ok(())
+}
+
+#[test]
+fn refuses_other_words(rt: HostRuntime) -> Result<(), Fail> {
+    for word in ["", "compile", "Run", "run "] {
+        let mut source = QuietSource::new(TANK.to_vec(rt.alloc())?);
+        let mut sink = QuietSink::new(rt.alloc());
+        let status = run_words(&rt, rt.alloc(), word, &mut source, &mut sink)?;
+        assert_eq!(rt; status.code(), 2);
+        assert_eq!(rt; sink.bytes(), b"usage\n".as_slice());
+    }
+    Ok(())
+}
+
+#[test]
+fn refuses_a_long_input(rt: HostRuntime) -> Result<(), Fail> {
+    let mut source = QuietSource::new(vec![in rt.alloc(); b'1'; 16_777_217]?);
+    let mut sink = QuietSink::new(rt.alloc());
+    let status = run_words(&rt, rt.alloc(), "run", &mut source, &mut sink)?;
+    assert_eq!(rt; status.code(), 10);
+    assert_eq!(rt; sink.bytes(), b"too long\n".as_slice());
+    Ok(())
+}
+
+#[test]
+fn tells_failing_devices(rt: HostRuntime) -> Result<(), Fail> {
+    let fails = vec![in rt.alloc(); 2u64]?;
+    let mut source = QuietSource::new(TANK.to_vec(rt.alloc())?);
+    let mut sink = MemorySink::new(rt.alloc(), 2, fails);
+    let status = run_words(&rt, rt.alloc(), "run", &mut source, &mut sink)?;
+    assert_eq!(rt; status.code(), 9);
+    assert_eq!(rt; sink.bytes(), b"2\n".as_slice());
+
+    let fails = vec![in rt.alloc(); 2u64]?;
+    let mut source = MemorySource::new(TANK.to_vec(rt.alloc())?, 10, fails);
+    let mut sink = QuietSink::new(rt.alloc());
+    let status = run_words(&rt, rt.alloc(), "run", &mut source, &mut sink)?;
+    assert_eq!(rt; status.code(), 8);
+    assert_eq!(rt; sink.bytes(), b"".as_slice());
+    Ok(())
+}
