@@ -1,12 +1,13 @@
 //! The fractions of `mpc_frac` for a C caller: single operations on parts, and loops to measure them.
 #![tactic(auto)]
 
-ghost use Rattle.std.specs.Prelude.{◌≡◌, ◌+◌, ◌*◌, ◌^◌, IsTrue, IsFalse, IsSome, IfSome, ◌<◌, pos, neg_ℤ, ◌≤ℤ◌, if◌then◌else◌};
+ghost use Rattle.std.specs.Prelude.{◌≡◌, IsTrue, IsFalse};
 ghost use Rattle.mpc_exact.specs.Rational.{◌+ℚ◌, ◌*ℚ◌};
 ghost use Rattle.mpc_frac.specs.Fits.{FitsFrac, FitsSum};
-ghost use Rattle.mpc_frac_c.specs.Parts.{value_of, IsReadable};
+ghost use Rattle.mpc_parts.specs.Parts.{value_of, IsReadable};
 
-use mpc_frac::{Frac, FracError, Wide};
+use mpc_frac::{Frac, Wide};
+use mpc_parts::{Parts, parts_of, read};
 use std::cmp::Ordering;
 
 /// How many fractions a loop takes.
@@ -14,67 +15,6 @@ const COUNT: usize = 1024;
 
 /// The weight of the high half of a number.
 const HIGH: u128 = 1 << 64;
-
-/// A fraction by the sign and the halves of its numerator, and the halves of its denominator.
-#[repr(C)]
-#[derive(Clone, Copy, Drop)]
-pub struct Parts {
-    pub negative: bool,
-    pub num_high: u64,
-    pub num_low: u64,
-    pub den_high: u64,
-    pub den_low: u64,
-}
-
-/// A number from its halves, where it lies below 2^127.
-fn joined(high: u64, low: u64) -> Option<i128>
-    ensures value { IfSome result (λ n. n ≡ pos (high * 2 ^ 64 + low)) }
-    ensures fits { high * 2 ^ 64 + low < 2 ^ 127 → IsSome result }
-{
-    let size = high as u128 * HIGH + low as u128;
-    if size <= i128::MAX as u128 {
-        Some(size as i128)
-    } else {
-        None
-    }
-}
-
-/// The number of this size and sign.
-fn signed(negative: bool, size: i128) -> i128
-    requires { pos 0 ≤ℤ size }
-    ensures { result ≡ (if negative then neg_ℤ size else size) }
-{
-    if negative { -size } else { size }
-}
-
-/// The fraction, where the parts fit and the denominator isn't 0.
-fn read(parts: &Parts) -> Option<Frac>
-    ensures value { IfSome result (λ x. x ≡ value_of parts.now) }
-    ensures readable { IsReadable parts.now → IsSome result }
-{
-    let size = joined(parts.num_high, parts.num_low)?;
-    let den = joined(parts.den_high, parts.den_low)?;
-    match Frac::new(signed(parts.negative, size), den) {
-        Ok(fraction) => Some(fraction),
-        Err(FracError::ZeroDenominator) => None,
-        Err(FracError::Wide) => None,
-    }
-}
-
-/// Writes the parts of a fraction.
-fn put(fraction: &Frac, out: &mut Parts)
-    ensures { value_of out.new ≡ fraction.now }
-{
-    let size = fraction.num().unsigned_abs();
-    let den = fraction.den().unsigned_abs();
-    *out = Parts {
-        negative: fraction.num() < 0,
-        num_high: (size / HIGH) as u64,
-        num_low: (size % HIGH) as u64,
-        den_high: (den / HIGH) as u64,
-        den_low: (den % HIGH) as u64,
-    };
-}
 
 /// Writes the sum, and answers whether both are fractions and the sum isn't wide.
 #[unsafe(no_mangle)]
@@ -91,7 +31,7 @@ pub extern "C" fn mpc_frac_sum(left: &Parts, right: &Parts, out: &mut Parts) -> 
     };
     match x.add(&y) {
         Ok(sum) => {
-            put(&sum, out);
+            *out = parts_of(&sum);
             true
         }
         Err(Wide) => false,
@@ -113,7 +53,7 @@ pub extern "C" fn mpc_frac_product(left: &Parts, right: &Parts, out: &mut Parts)
     };
     match x.mul(&y) {
         Ok(product) => {
-            put(&product, out);
+            *out = parts_of(&product);
             true
         }
         Err(Wide) => false,

@@ -3,11 +3,11 @@ use Rattle.std.specs.Int.{w128}
 use mir.Val.{SFits}
 use Rattle.mpc_exact.specs.Rational.{quotient}
 use Rattle.mpc_frac.proofs.FracModel.{read_fitting}
-use Rattle.mpc_frac_c.specs.Parts.{numer_of, below_of, size_of}
+use Rattle.mpc_parts.specs.Parts.{numer_of, below_of, size_of}
 use Rattle.mpc_frac.specs.Fits.{FitsFrac}
-use Rattle.mpc_frac_c.proofs.Halves.{readable_fits}
-use Rattle.mpc_frac_c.proofs.read.Goals as goal
-use Rattle.mpc_frac_c.proofs.read.Goals.{After-new}
+use Rattle.mpc_parts.proofs.Halves.{readable_fits}
+use Rattle.mpc_parts.proofs.read.Goals as goal
+use Rattle.mpc_parts.proofs.read.Goals.{After-new}
 
 top : (c : After-new) → to_z w128 (of_z w128 c.signed.result) ≡ numer_of c.args.parts.now
 top c =

@@ -1,7 +1,7 @@
 -- The fraction that a C caller sends by its parts.
 use Rattle.std.specs.Prelude.{ℕ, ◌+◌, ◌*◌, ◌<◌, ◌^◌, ℤ, pos, neg_ℤ, if◌then◌else◌}
 use Rattle.mpc_exact.specs.Rational.{ℚ, quotient}
-use Rattle.mpc_frac_c.specs.declared.Parts.{Parts}
+use Rattle.mpc_parts.specs.declared.Parts.{Parts}
 
 abbrev pub size_of : Parts → ℕ
 size_of p = p.num_high * 2 ^ 64 + p.num_low

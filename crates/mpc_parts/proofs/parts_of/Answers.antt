@@ -1,7 +1,7 @@
 use Rattle.std.proofs.Common.{◌∙◌, ap, unsigned_abs}
 use Rattle.mpc_frac.proofs.FracModel.{read_fitting}
-use Rattle.mpc_frac_c.proofs.Halves.{halves_back}
-use Rattle.mpc_frac_c.proofs.put.Goals as goal
+use Rattle.mpc_parts.proofs.Halves.{halves_back}
+use Rattle.mpc_parts.proofs.parts_of.Goals as goal
 
 pub returns : goal.returns
 returns c = halves_back c.args.fraction.now _ _ _
