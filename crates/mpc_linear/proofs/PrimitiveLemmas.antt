@@ -215,6 +215,10 @@ row_points a b row side r t =
 pub quotient_small : (z : ℤ) (by : ℕ) → 0 < by → unsigned_abs z < 2 ^ 127 → unsigned_abs (int_div z (pos by)) < 2 ^ 127
 quotient_small z by p h = let e = abs-div z by in let l : unsigned_abs z / by ≤ unsigned_abs z = div-le_self (unsigned_abs z) by in omega arith
 
+pub quotients_small : (by : ℕ) → 0 < by → (zs ws : List ℤ) → AreSmall zs → ws ≡ map (λ z. int_div z (pos by)) zs → AreSmall ws
+quotients_small by p zs ws h e =
+    subst AreSmall (sym e) (All-map (λ z. unsigned_abs z < 2 ^ 127) (λ z. int_div z (pos by)) zs (λ k d l. quotient_small (get_or zs k d) by p (h k d l)))
+
 pub quotients_more : (by : ℕ) (zs : List ℤ) (k : ℕ) (z : ℤ) → k < length zs → z ≡ get_or zs k z → (xs ys : List ℤ) (q : ℤ) → xs ≡ map (λ z. int_div z (pos by)) (take k zs) → ys ≡ xs ++ (q ∷ []) → q ≡ int_div z (pos by) → ys ≡ map (λ z. int_div z (pos by)) (take (k + 1) zs)
 quotients_more by zs k z h r xs ys q e f g =
     f ∙ (λ i. e i ++ ((g ∙ ap (λ z. int_div z (pos by)) r) i ∷ [])) ∙ sym (map_more (λ z. int_div z (pos by)) zs k z h)

@@ -205,6 +205,8 @@ fn without_divisor(alloc: Global, row: RowInt) -> Result<RowInt, NoMemory>
     requires b_small { unsigned_abs row.b < 2 ^ 127 }
     ensures scaled { IfOk result (λ r. (a : List ℚ) (b : ℚ) → IsScaledRow a b row.a row.b → IsScaledRow a b r.a r.b) }
     ensures primitive { IfOk result (λ r. IsPrimitive (r.a ++ r.b ∷ [])) }
+    ensures small { IfOk result (λ r. AreSmall r.a) }
+    ensures b_small { IfOk result (λ r. unsigned_abs r.b < 2 ^ 127) }
 {
     let shared = shared_divisor(&row.a, row.b);
     if shared <= 1 {
@@ -223,6 +225,8 @@ fn without_divisor(alloc: Global, row: RowInt) -> Result<RowInt, NoMemory>
 pub fn primitive(alloc: Global, a: &Vector, b: &Frac) -> Result<RowInt, LinearError>
     ensures scaled { IfOk result (λ r. IsScaledRow a.now b.now r.a r.b) }
     ensures primitive { IfOk result (λ r. IsPrimitive (r.a ++ r.b ∷ [])) }
+    ensures small { IfOk result (λ r. AreSmall r.a) }
+    ensures b_small { IfOk result (λ r. unsigned_abs r.b < 2 ^ 127) }
     ensures same_points { IfOk result (λ r. (t : List ℚ) → (dot a.now t ≤ℚ b.now) ↔ (dot (map int r.a) t ≤ℚ int r.b)) }
     ensures wide { MatchResult result (λ _. WholeFits (a.now ++ b.now ∷ []))
         (λ e. IfWide e (λ step. (step ≡ 0) × (¬ WholeFits (a.now ++ b.now ∷ [])))) }

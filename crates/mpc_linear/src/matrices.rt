@@ -110,6 +110,20 @@ impl Matrix {
         })
     }
 
+    /// The same matrix once more.
+    pub fn copy(&self, alloc: Global) -> Result<Matrix, NoMemory>
+        ensures { IfOk result (λ m. m ≡ self.now) }
+    {
+        let Ok(entries) = self.entries.as_slice().to_vec(alloc) else {
+            return Err(NoMemory);
+        };
+        Ok(Matrix {
+            entries,
+            rows: self.rows,
+            cols: self.cols,
+        })
+    }
+
     /// How many rows there are.
     pub fn rows(&self) -> u32
         ensures value { result ≡ height self.now }

@@ -14,11 +14,12 @@ pub fn add_product(s: &Frac, x: &Frac, y: &Frac) -> Result<Frac, Wide>
     ensures wide { MatchResult result (λ _. TermFits s.now x.now y.now)
         (λ _. ¬ TermFits s.now x.now y.now) }
 {
-    if s.is_zero() {
-        return x.mul(y);
-    }
+    let nothing = s.is_zero();
     if x.is_zero() || y.is_zero() {
         return Ok(*s);
+    }
+    if nothing {
+        return x.mul(y);
     }
     match x.mul(y) {
         Ok(product) => s.add(&product),
@@ -32,14 +33,15 @@ pub fn sub_product(s: &Frac, x: &Frac, y: &Frac) -> Result<Frac, Wide>
     ensures wide { MatchResult result (λ _. TakenFits s.now x.now y.now)
         (λ _. ¬ TakenFits s.now x.now y.now) }
 {
-    if s.is_zero() {
+    let nothing = s.is_zero();
+    if x.is_zero() || y.is_zero() {
+        return Ok(*s);
+    }
+    if nothing {
         return match x.mul(y) {
             Ok(product) => Ok(product.neg()),
             Err(wide) => Err(wide),
         };
-    }
-    if x.is_zero() || y.is_zero() {
-        return Ok(*s);
     }
     match x.mul(y) {
         Ok(product) => s.sub(&product),

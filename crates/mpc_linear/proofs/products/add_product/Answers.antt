@@ -5,34 +5,34 @@ use Rattle.mpc_linear.specs.Dot.{TermFits}
 use Rattle.mpc_linear.proofs.ZeroFits.{zero_left, zero_right, zero_add, from_zero, nothing_added, same_added}
 use Rattle.mpc_linear.proofs.Outcomes.{value_as, fits_as}
 use Rattle.mpc_linear.proofs.products.add_product.Goals as goal
-use Rattle.mpc_linear.proofs.products.add_product.Goals.{then-is_zero-2-via-then-is_zero-2, then-is_zero-2-via-else-is_zero-2+then-is_zero-3}
+use Rattle.mpc_linear.proofs.products.add_product.Goals.{then-is_zero-via-then-is_zero, then-is_zero-via-else-is_zero+then-is_zero-2}
+
+pub returns-then-nothing-clause-value : goal.returns-then-nothing-clause-value
+returns-then-nothing-clause-value c =
+    value_as c.mul.result (c.args.x.now *ℚ c.args.y.now) (c.args.s.now +ℚ c.args.x.now *ℚ c.args.y.now)
+    (zero_add c.args.s.now (c.args.x.now *ℚ c.args.y.now) (c.if-nothing.ensures.value.0 refl)) c.mul.ensures.value
+
+pub returns-then-nothing-clause-wide : goal.returns-then-nothing-clause-wide
+returns-then-nothing-clause-wide c =
+    fits_as c.mul.result (FitsFrac (c.args.x.now *ℚ c.args.y.now)) (TermFits c.args.s.now c.args.x.now c.args.y.now)
+    (from_zero c.args.s.now c.args.x.now c.args.y.now (c.if-nothing.ensures.value.0 refl)) (λ t. t.product) c.mul.ensures.wide
 
 pub returns-then-is_zero-clause-value : goal.returns-then-is_zero-clause-value
 returns-then-is_zero-clause-value c =
-    value_as c.mul.result (c.args.x.now *ℚ c.args.y.now) (c.args.s.now +ℚ c.args.x.now *ℚ c.args.y.now)
-    (zero_add c.args.s.now (c.args.x.now *ℚ c.args.y.now) (c.if-is_zero.ensures.value.0 refl)) c.mul.ensures.value
-
-pub returns-then-is_zero-clause-wide : goal.returns-then-is_zero-clause-wide
-returns-then-is_zero-clause-wide c =
-    fits_as c.mul.result (FitsFrac (c.args.x.now *ℚ c.args.y.now)) (TermFits c.args.s.now c.args.x.now c.args.y.now)
-    (from_zero c.args.s.now c.args.x.now c.args.y.now (c.if-is_zero.ensures.value.0 refl)) (λ t. t.product) c.mul.ensures.wide
-
-pub returns-then-is_zero-2-clause-value : goal.returns-then-is_zero-2-clause-value
-returns-then-is_zero-2-clause-value c =
     let nought : int (pos 0) ≡ c.args.x.now *ℚ c.args.y.now =
-    elim c.then-is_zero-2.branch [
-      | then-is_zero-2-via-then-is_zero-2 w ↦ zero_left c.args.x.now c.args.y.now (w.if-is_zero-2.ensures.value.0 refl)
-      | then-is_zero-2-via-else-is_zero-2+then-is_zero-3 w ↦ zero_right c.args.x.now c.args.y.now (w.if-is_zero-3.ensures.value.0 refl)
+    elim c.then-is_zero.branch [
+      | then-is_zero-via-then-is_zero w ↦ zero_left c.args.x.now c.args.y.now (w.if-is_zero.ensures.value.0 refl)
+      | then-is_zero-via-else-is_zero+then-is_zero-2 w ↦ zero_right c.args.x.now c.args.y.now (w.if-is_zero-2.ensures.value.0 refl)
     ]
     in
     same_added c.args.s.now c.args.x.now c.args.y.now nought
 
-pub returns-then-is_zero-2-clause-wide : goal.returns-then-is_zero-2-clause-wide
-returns-then-is_zero-2-clause-wide c =
+pub returns-then-is_zero-clause-wide : goal.returns-then-is_zero-clause-wide
+returns-then-is_zero-clause-wide c =
     let nought : int (pos 0) ≡ c.args.x.now *ℚ c.args.y.now =
-    elim c.then-is_zero-2.branch [
-      | then-is_zero-2-via-then-is_zero-2 w ↦ zero_left c.args.x.now c.args.y.now (w.if-is_zero-2.ensures.value.0 refl)
-      | then-is_zero-2-via-else-is_zero-2+then-is_zero-3 w ↦ zero_right c.args.x.now c.args.y.now (w.if-is_zero-3.ensures.value.0 refl)
+    elim c.then-is_zero.branch [
+      | then-is_zero-via-then-is_zero w ↦ zero_left c.args.x.now c.args.y.now (w.if-is_zero.ensures.value.0 refl)
+      | then-is_zero-via-else-is_zero+then-is_zero-2 w ↦ zero_right c.args.x.now c.args.y.now (w.if-is_zero-2.ensures.value.0 refl)
     ]
     in
-    nothing_added c.args.s.now c.args.x.now c.args.y.now c.is_zero.ensures.fits nought
+    nothing_added c.args.s.now c.args.x.now c.args.y.now c.is_zero-nothing.ensures.fits nought

@@ -2,31 +2,31 @@ use Rattle.std.proofs.Common.{◌≡◌, pos, refl, ap, ◌∙◌}
 use Rattle.mpc_exact.specs.Rational.{int, neg_ℚ, ◌*ℚ◌}
 use Rattle.mpc_linear.proofs.ZeroFits.{zero_left, zero_right, zero_take, taken_from_zero, nothing_taken, same_taken}
 use Rattle.mpc_linear.proofs.products.sub_product.Goals as goal
-use Rattle.mpc_linear.proofs.products.sub_product.Goals.{then-is_zero-2-via-then-is_zero-2, then-is_zero-2-via-else-is_zero-2+then-is_zero-3}
+use Rattle.mpc_linear.proofs.products.sub_product.Goals.{then-is_zero-via-then-is_zero, then-is_zero-via-else-is_zero+then-is_zero-2}
 
 pub returns-in-Ok-clause-value : goal.returns-in-Ok-clause-value
 returns-in-Ok-clause-value c =
-    c.neg.ensures ∙ ap neg_ℚ c.in-Ok.ensures.value ∙ zero_take c.args.s.now (c.args.x.now *ℚ c.args.y.now) (c.if-is_zero.ensures.value.0 refl)
+    c.neg.ensures ∙ ap neg_ℚ c.in-Ok.ensures.value ∙ zero_take c.args.s.now (c.args.x.now *ℚ c.args.y.now) (c.if-nothing.ensures.value.0 refl)
 
 pub returns-in-Ok-clause-wide : goal.returns-in-Ok-clause-wide
-returns-in-Ok-clause-wide c = taken_from_zero c.args.s.now c.args.x.now c.args.y.now (c.if-is_zero.ensures.value.0 refl) c.in-Ok.ensures.wide
+returns-in-Ok-clause-wide c = taken_from_zero c.args.s.now c.args.x.now c.args.y.now (c.if-nothing.ensures.value.0 refl) c.in-Ok.ensures.wide
 
-pub returns-then-is_zero-2-clause-value : goal.returns-then-is_zero-2-clause-value
-returns-then-is_zero-2-clause-value c =
+pub returns-then-is_zero-clause-value : goal.returns-then-is_zero-clause-value
+returns-then-is_zero-clause-value c =
     let nought : int (pos 0) ≡ c.args.x.now *ℚ c.args.y.now =
-    elim c.then-is_zero-2.branch [
-      | then-is_zero-2-via-then-is_zero-2 w ↦ zero_left c.args.x.now c.args.y.now (w.if-is_zero-2.ensures.value.0 refl)
-      | then-is_zero-2-via-else-is_zero-2+then-is_zero-3 w ↦ zero_right c.args.x.now c.args.y.now (w.if-is_zero-3.ensures.value.0 refl)
+    elim c.then-is_zero.branch [
+      | then-is_zero-via-then-is_zero w ↦ zero_left c.args.x.now c.args.y.now (w.if-is_zero.ensures.value.0 refl)
+      | then-is_zero-via-else-is_zero+then-is_zero-2 w ↦ zero_right c.args.x.now c.args.y.now (w.if-is_zero-2.ensures.value.0 refl)
     ]
     in
     same_taken c.args.s.now c.args.x.now c.args.y.now nought
 
-pub returns-then-is_zero-2-clause-wide : goal.returns-then-is_zero-2-clause-wide
-returns-then-is_zero-2-clause-wide c =
+pub returns-then-is_zero-clause-wide : goal.returns-then-is_zero-clause-wide
+returns-then-is_zero-clause-wide c =
     let nought : int (pos 0) ≡ c.args.x.now *ℚ c.args.y.now =
-    elim c.then-is_zero-2.branch [
-      | then-is_zero-2-via-then-is_zero-2 w ↦ zero_left c.args.x.now c.args.y.now (w.if-is_zero-2.ensures.value.0 refl)
-      | then-is_zero-2-via-else-is_zero-2+then-is_zero-3 w ↦ zero_right c.args.x.now c.args.y.now (w.if-is_zero-3.ensures.value.0 refl)
+    elim c.then-is_zero.branch [
+      | then-is_zero-via-then-is_zero w ↦ zero_left c.args.x.now c.args.y.now (w.if-is_zero.ensures.value.0 refl)
+      | then-is_zero-via-else-is_zero+then-is_zero-2 w ↦ zero_right c.args.x.now c.args.y.now (w.if-is_zero-2.ensures.value.0 refl)
     ]
     in
-    nothing_taken c.args.s.now c.args.x.now c.args.y.now c.is_zero.ensures.fits nought
+    nothing_taken c.args.s.now c.args.x.now c.args.y.now c.is_zero-nothing.ensures.fits nought
