@@ -1,11 +1,12 @@
+pub mod CostedSteps
 pub mod DigitLemmas
 pub mod Each
 pub mod KeyLemmas
 pub mod MatrixLemmas
 pub mod MatrixRows
 pub mod Mirror
-pub mod LoneItem
 pub mod Names
 pub mod RightReply
-pub mod SmallPlantLemmas
+pub mod RollLemmas
+pub mod RolledStates
 pub mod WorkedPlant

@@ -1,14 +1,17 @@
 -- The definitions at numbers: the scalar plant x[k+1] = x[k] + u[k] of one step with unit weights, whose states are -4, -3, .., 4.
-use Rattle.std.proofs.Common.{◌≡◌, ℤ, List, [], ◌∷◌, pos, negsuc, refl, lit≤}
+use Rattle.std.proofs.Common.{◌≡◌, ℤ, [], ◌∷◌, pos, negsuc, refl}
 use Rattle.mpc_exact.specs.Gcd.{gcd, gcd_within}
-use Rattle.mpc_exact.specs.Rational.{ℚ, int, frac, ◌+ℚ◌, ◌*ℚ◌}
-use Rattle.mpc_exact.proofs.RationalOrder.{positive_int}
+use Rattle.mpc_exact.specs.Rational.{int, frac, ◌+ℚ◌, ◌*ℚ◌}
+use Rattle.mpc_space.specs.Matrix.{RationalMatrix}
 use Rattle.mpc_space.specs.Total.{total}
 use Rattle.mpc_plant.specs.declared.lists.Coordinate.{Coordinate}
 use Rattle.mpc_plant.specs.declared.plants.Plant.{Plant}
-use Rattle.mpc_plant.specs.SmallPlant.{scalar}
 use Rattle.mpc_plant.specs.Limits.{IsPlant}
 use Rattle.mpc_plant.specs.Trajectory.{state_of, state_at, cost}
+
+-- the matrix of one entry
+abbrev scalar : ℤ → RationalMatrix
+scalar z = record { rows = (int z ∷ []) ∷ []; columns = 1 }
 
 abbrev axis : Coordinate
 axis = record { low = int (negsuc 3); step = int (pos 1); count = 8 }

@@ -1,22 +1,13 @@
 -- The keys of the objects of a plant file.
-use Rattle.std.specs.Prelude.{ℕ, List, [], ◌∷◌, codes, Contains, IsSome, Option, Some, None, if◌then◌else◌}
+use Rattle.std.specs.Prelude.{ℕ, List, [], ◌∷◌, codes, Option, Some, None, if◌then◌else◌}
 use Rattle.std.specs.List.{list_any}
 use Rattle.std.specs.Str.{bytes_eq}
-use Rattle.serde_json.specs.Data.{Data, Members, no_members, member}
-use Rattle.serde_json.specs.Find.{get}
+use Rattle.serde_json.specs.Data.{Members, no_members, member}
 
 -- the first key that is none of these
 abbrev pub first_other : List (List ℕ) → Members → Option (List ℕ)
 first_other keys no_members = None
 first_other keys (member key d ms) = if list_any (bytes_eq key) keys then first_other keys ms else Some key
-
--- no key stands in the object but these
-abbrev pub HasNoKeyBut : List (List ℕ) → Data → Type 0
-HasNoKeyBut keys d = (key : List ℕ) → IsSome (get key d) → Contains keys key
-
--- the keys of the whole, where there are no rows
-abbrev pub small_plant_keys : List (List ℕ)
-small_plant_keys = codes "version" ∷ codes "horizon" ∷ codes "A" ∷ codes "B" ∷ codes "Q" ∷ codes "R" ∷ codes "P" ∷ codes "grid" ∷ []
 
 -- the keys of a coordinate
 abbrev pub axis_keys : List (List ℕ)

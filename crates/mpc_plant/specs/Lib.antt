@@ -3,7 +3,6 @@ pub mod Trajectory
 pub mod Reply
 pub mod Keys
 pub mod Numbers
-pub mod SmallPlant
 pub mod Paths
 pub mod Faults
 pub mod Decimals
@@ -12,3 +11,5 @@ pub mod CheckedObjects
 pub mod CheckedRows
 pub mod CheckedPlant
 pub mod WholePlant
+pub mod RollWidth
+pub mod CostWidth

@@ -4,6 +4,7 @@
 //! quadratic cost and linear rows on states and inputs (Bemporad, Morari, Dua and Pistikopoulos, 2002).
 #![tactic(auto)]
 
+mod costs;
 mod entries;
 mod faults;
 mod laws;
@@ -13,14 +14,17 @@ mod numerals;
 mod objects;
 mod plant_file;
 mod plants;
+mod rolling;
 mod rows;
-mod small;
+#[cfg(test)]
+mod tests;
 mod values;
 mod weights;
 
+pub use costs::cost;
 pub use faults::{Path, PlantError, PlantKind};
 pub use laws::one_right_reply;
 pub use lists::{Coordinate, Coordinates, PlantRow, PlantRows};
 pub use plant_file::read_plant;
 pub use plants::Plant;
-pub use small::{SmallError, read_small};
+pub use rolling::roll;

@@ -14,7 +14,7 @@ use serde_json::Value;
 use std::alloc::Global;
 
 /// Writes row i.
-fn write_row(matrix: &mut Matrix, i: u32, row: &Vector)
+pub(crate) fn write_row(matrix: &mut Matrix, i: u32, row: &Vector)
     requires row_in { i < height matrix.old }
     requires rectangular { IsRectangular matrix.old }
     requires width { length row.now ≡ matrix.old.columns }

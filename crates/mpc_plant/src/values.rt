@@ -2,8 +2,8 @@
 
 ghost use Rattle.std.specs.Prelude.{◌≡◌, ◌↔◌, IsTrue, Contains, option_map, map, string_bytes};
 ghost use Rattle.serde_json.specs.View.{view, members_view};
-ghost use Rattle.mpc_plant.specs.Keys.{HasNoKeyBut, first_other};
-ghost use Rattle.mpc_plant.specs.Numbers.{integer_of, integer_at, only_item};
+ghost use Rattle.mpc_plant.specs.Keys.{first_other};
+ghost use Rattle.mpc_plant.specs.Numbers.{integer_of};
 
 use serde_json::{Map, Value};
 
@@ -17,28 +17,6 @@ pub(crate) fn integer(value: &Value) -> Option<i64>
     match value.as_i64() {
         Some(z) if z.unsigned_abs() <= LARGEST => Some(z),
         _ => None,
-    }
-}
-
-/// The integer at a key of an object.
-pub(crate) fn integer_in(value: &Value, key: &str) -> Option<i64>
-    ensures { result ≡ integer_at key.now (view value.now) }
-{
-    match value.get(key) {
-        Some(found) => integer(found),
-        None => None,
-    }
-}
-
-/// The item of a list of one item.
-pub(crate) fn lone_item(value: &Value) -> Option<&Value>
-    ensures { option_map (λ v. view v.now) result ≡ only_item (view value.now) }
-{
-    let list = value.as_array()?;
-    if list.len() == 1 {
-        Some(&list[0])
-    } else {
-        None
     }
 }
 
@@ -60,14 +38,4 @@ pub(crate) fn other_key<'v>(members: &'v Map<String, Value>, names: &[&str]) -> 
         }
     }
     None
-}
-
-/// Whether the value has no key but these.
-pub(crate) fn has_no_key_but(value: &Value, names: &[&str]) -> bool
-    ensures { IsTrue result ↔ HasNoKeyBut (map (λ n. n.now) names.now) (view value.now) }
-{
-    match value.as_object() {
-        Some(members) => other_key(members, names).is_none(),
-        None => true,
-    }
 }

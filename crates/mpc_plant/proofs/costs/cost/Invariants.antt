@@ -1,0 +1,6 @@
+use Rattle.mpc_plant.specs.Trajectory.{point_of}
+use Rattle.mpc_plant.proofs.CostedSteps.{CostedTo}
+use Rattle.mpc_plant.proofs.costs.cost.Given as goal
+
+abbrev pub invariant-loop-k : goal.invariant-loop-k
+invariant-loop-k l = CostedTo l.plant (point_of l.counts) l.moves.rows l.k l.state l.sum

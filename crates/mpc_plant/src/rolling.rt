@@ -1,0 +1,123 @@
+//! The motion of a plant from a state of its grid.
+
+ghost use Rattle.std.specs.Prelude.{◌≡◌, ◌<◌, ◌≤◌, IfOk, MatchResult, length, pos};
+ghost use Rattle.mpc_exact.specs.Rational.{int, ◌+ℚ◌, ◌*ℚ◌};
+ghost use Rattle.mpc_space.specs.Vector.{dot, vec_add, mat_vec};
+ghost use Rattle.mpc_linear.specs.Dot.{TermFits, DotFits};
+ghost use Rattle.mpc_linear.specs.Answers.{IfWide};
+ghost use Rattle.mpc_plant.specs.Trajectory.{IsInBox, IsSequence, point_of, state_of, rolled};
+ghost use Rattle.mpc_plant.specs.RollWidth.{AxesFit, next_entry, EntryFits, NextFits, StatesFit, IsFirstWideState};
+
+use crate::lists::Coordinate;
+use crate::matrices::write_row;
+use crate::plants::Plant;
+use mpc_frac::{Frac, Wide};
+use mpc_linear::{LinearError, Matrix, Vector, add_product, dot_from};
+use std::alloc::Global;
+
+/// The dot of two slices.
+pub(crate) fn dot_of(x: &[Frac], y: &[Frac]) -> Result<Frac, Wide>
+    requires { length x.now ≡ length y.now }
+    ensures value { IfOk result (λ v. v ≡ dot x.now y.now) }
+    ensures wide { MatchResult result (λ _. DotFits x.now y.now) (λ _. ¬ DotFits x.now y.now) }
+{
+    dot_from(&Frac::whole(0), x, y)
+}
+
+/// The value of a coordinate at a count.
+fn value_at(axis: &Coordinate, count: u64) -> Result<Frac, Wide>
+    requires { count ≤ 1000000 }
+    ensures value { IfOk result (λ x. x ≡ axis.now.low +ℚ axis.now.step *ℚ int (pos count)) }
+    ensures wide { MatchResult result (λ _. TermFits axis.now.low axis.now.step (int (pos count)))
+        (λ _. ¬ TermFits axis.now.low axis.now.step (int (pos count))) }
+{
+    add_product(&axis.low, &axis.step, &Frac::whole(count as i64))
+}
+
+/// The state at these counts. `Wide(0)` where one of its numbers is wide.
+pub(crate) fn state_at_counts(
+    alloc: Global,
+    plant: &Plant,
+    counts: &[u64],
+) -> Result<Vector, LinearError>
+    requires { IsInBox plant.now (point_of counts.now) }
+    ensures value { IfOk result (λ x. x ≡ state_of plant.now (point_of counts.now)) }
+    ensures wide { MatchResult result (λ _. AxesFit plant.now.grid (point_of counts.now))
+        (λ e. IfWide e (λ step. (step ≡ 0) × (¬ AxesFit plant.now.grid (point_of counts.now)))) }
+{
+    let mut state = Vector::new(alloc);
+    for i in 0..counts.len() {
+        match value_at(plant.grid.at(i), counts[i]) {
+            Ok(value) => state.push(value)?,
+            Err(_) => return Err(LinearError::Wide(0)),
+        }
+    }
+    Ok(state)
+}
+
+/// Entry i of `A x + B u`.
+fn entry_of_next(plant: &Plant, x: &[Frac], u: &[Frac], i: u32) -> Result<Frac, Wide>
+    requires entry { i < plant.now.n }
+    requires state { length x.now ≡ plant.now.n }
+    requires inputs { length u.now ≡ plant.now.p }
+    ensures value { IfOk result (λ v. v ≡ next_entry plant.now x.now u.now i) }
+    ensures wide { MatchResult result (λ _. EntryFits plant.now x.now u.now i)
+        (λ _. ¬ EntryFits plant.now x.now u.now i) }
+{
+    let from_state = dot_of(plant.a.row(i), x)?;
+    let from_move = dot_of(plant.b.row(i), u)?;
+    from_state.add(&from_move)
+}
+
+/// The state `A x + B u` that follows x. `Wide` with this step where one of its numbers is wide.
+pub(crate) fn next_state(
+    alloc: Global,
+    plant: &Plant,
+    x: &[Frac],
+    u: &[Frac],
+    step: u32,
+) -> Result<Vector, LinearError>
+    requires state { length x.now ≡ plant.now.n }
+    requires inputs { length u.now ≡ plant.now.p }
+    ensures value { IfOk result
+        (λ y. y ≡ vec_add (mat_vec plant.now.a.rows x.now) (mat_vec plant.now.b.rows u.now)) }
+    ensures wide { MatchResult result (λ _. NextFits plant.now x.now u.now)
+        (λ e. IfWide e (λ k. (k ≡ step) × (¬ NextFits plant.now x.now u.now))) }
+{
+    let mut state = Vector::new(alloc);
+    for i in 0..plant.n {
+        match entry_of_next(plant, x, u, i) {
+            Ok(value) => state.push(value)?,
+            Err(_) => return Err(LinearError::Wide(step)),
+        }
+    }
+    Ok(state)
+}
+
+/// The states of the plant under the moves, from the counts on: row k is the state at step k, from 0 to the horizon.
+///
+/// There are n counts inside the box, and N rows of p moves. `Wide` with the first step whose state has a number of more than 128 bits on
+/// the way: for the first state a product of step and count or its sum with the low, for the others a dot of a row of A or of B or the sum
+/// of the two (Bemporad, Morari, Dua and Pistikopoulos, 2002).
+pub fn roll(
+    alloc: Global,
+    plant: &Plant,
+    counts: &[u64],
+    moves: &Matrix,
+) -> Result<Matrix, LinearError>
+    requires inside { IsInBox plant.now (point_of counts.now) }
+    requires moves { IsSequence plant.now moves.now.rows }
+    ensures states { IfOk result (λ m. m.rows ≡ rolled plant.now (point_of counts.now) moves.now.rows) }
+    ensures columns { IfOk result (λ m. m.columns ≡ plant.now.n) }
+    ensures wide { MatchResult result (λ _. StatesFit plant.now (point_of counts.now) moves.now.rows)
+        (λ e. IfWide e (IsFirstWideState plant.now (point_of counts.now) moves.now.rows)) }
+{
+    let mut states = Matrix::zero(alloc, plant.horizon + 1, plant.n)?;
+    let mut state = state_at_counts(alloc, plant, counts)?;
+    write_row(&mut states, 0, &state);
+    for k in 0..plant.horizon {
+        state = next_state(alloc, plant, state.as_slice(), moves.row(k), k + 1)?;
+        write_row(&mut states, k + 1, &state);
+    }
+    Ok(states)
+}
