@@ -2,3 +2,12 @@ pub mod SystemSums
 pub mod RefutedLemmas
 pub mod SumLemmas
 pub mod ColumnLemmas
+pub mod ProgramLemmas
+pub mod LawLemmas
+pub mod BoxLemmas
+pub mod JointLemmas
+pub mod PlaceLemmas
+pub mod LawRowLemmas
+pub mod LawPoints
+pub mod PrimitiveRows
+pub mod RegionLemmas

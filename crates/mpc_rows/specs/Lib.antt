@@ -2,3 +2,14 @@ pub mod Program
 pub mod PlaceText
 pub mod LinearSystem
 pub mod Refutation
+pub mod Least
+pub mod Run
+pub mod RunWidth
+pub mod ActiveSets
+pub mod Laws
+pub mod Candidates
+pub mod LawRows
+pub mod SetRuns
+pub mod Verdicts
+pub mod JudgedSet
+pub mod Certificates

@@ -1,6 +1,6 @@
 //! Lists of counts.
 
-ghost use Rattle.std.specs.Prelude.{◌≡◌, ◌<◌, [], ◌∷◌, ◌++◌, length, slice_index, OnOk, OnErr, IsTrue, ◌↔◌};
+ghost use Rattle.std.specs.Prelude.{◌≡◌, ◌<◌, [], ◌∷◌, ◌++◌, length, slice_index, IfOk, OnOk, OnErr, IsTrue, ◌↔◌};
 
 use mpc_frac::NoMemory;
 use std::alloc::Global;
@@ -28,6 +28,16 @@ impl Counts {
         Counts {
             items: Vec::new(alloc),
         }
+    }
+
+    /// The same counts once more.
+    pub fn copy(&self, alloc: Global) -> Result<Counts, NoMemory>
+        ensures { IfOk result (λ counts. counts ≡ self.now) }
+    {
+        let Ok(items) = self.items.as_slice().to_vec(alloc) else {
+            return Err(NoMemory);
+        };
+        Ok(Counts { items })
     }
 
     /// How many counts there are.

@@ -3,6 +3,10 @@
 #![tactic(auto)]
 
 mod counts;
+mod law_rows;
+#[cfg(test)]
+mod law_tests;
+mod laws;
 mod places;
 mod programs;
 mod refuting;
@@ -11,9 +15,15 @@ mod system_tests;
 mod systems;
 #[cfg(test)]
 mod tests;
+mod trees;
+mod verdicts;
 
 pub use counts::Counts;
+pub use law_rows::law_row;
+pub use laws::{Law, LawTable};
 pub use places::Place;
 pub use programs::Qp;
 pub use refuting::refutes;
 pub use systems::{Multipliers, PairPoint, Row, Rows, System};
+pub use trees::{Cert, Certs, Node, Tree};
+pub use verdicts::{Judged, Verdict};

@@ -21,12 +21,30 @@ pub enum Place {
     Pivot(u32),
     /// The law of an active set.
     Law(ActiveSet),
+    /// The search for a state that reaches an active set.
+    Reach(ActiveSet),
+    /// This row of the law of an active set.
+    Border(ActiveSet, u32),
+    /// The search for a point of the region of an active set.
+    Region(ActiveSet),
+    /// Whether this law's region meets the cell of this node of the tree. Nodes are counted from 1.
+    Meet(u64, u32),
+    /// Whether this row of this law holds on all of the cell of this node.
+    Holds(u64, u32, u32),
+    /// Whether the cell of this node has a state with an admissible sequence.
+    Joint(u64),
     /// The bound on the numbers of this law's input.
     LawBound(u32, u32),
+    /// The bound on the numbers of this node.
+    NodeBound(u64),
+    /// The test of this law's equations.
+    CheckLaw(u32),
+    /// The test of this row's certificate at this leaf, 0 at a leaf without a law.
+    CheckLeaf(u64, u32),
 }
 
 /// Appends the word and the number.
-fn write_numbered(word: &[u8], number: u32, out: &mut Vec<u8>) -> Result<(), NoMemory>
+fn write_numbered(word: &[u8], number: u64, out: &mut Vec<u8>) -> Result<(), NoMemory>
     ensures ok { OnOk result (out.new.items ≡ out.old.items ++ (word.now ++ decimal number)) }
     ensures err { OnErr result (out.new.items ≡ out.old.items) }
 {
@@ -54,13 +72,47 @@ fn write_with_set(word: &[u8], set: ActiveSet, out: &mut Vec<u8>) -> Result<(), 
 }
 
 /// Appends the word, the number, a blank and the other number.
-fn write_pair(word: &[u8], number: u32, other: u32, out: &mut Vec<u8>) -> Result<(), NoMemory>
+fn write_pair(word: &[u8], number: u64, other: u64, out: &mut Vec<u8>) -> Result<(), NoMemory>
     ensures ok { OnOk result (out.new.items ≡ out.old.items ++ (word.now ++ decimal number ++ codes " " ++ decimal other)) }
     ensures err { OnErr result (out.new.items ≡ out.old.items) }
 {
     let start = out.len();
     write_numbered(word, number, out)?;
     let Ok(()) = write_numbered(b" ", other, out) else {
+        out.truncate(start);
+        return Err(NoMemory);
+    };
+    Ok(())
+}
+
+/// Appends the word, the set, a blank and the number.
+fn write_set_row(word: &[u8], set: ActiveSet, row: u64, out: &mut Vec<u8>) -> Result<(), NoMemory>
+    ensures ok { OnOk result (out.new.items ≡ out.old.items ++ (word.now ++ set_text set ++ codes " " ++ decimal row)) }
+    ensures err { OnErr result (out.new.items ≡ out.old.items) }
+{
+    let start = out.len();
+    write_with_set(word, set, out)?;
+    let Ok(()) = write_numbered(b" ", row, out) else {
+        out.truncate(start);
+        return Err(NoMemory);
+    };
+    Ok(())
+}
+
+/// Appends the word and three numbers, with blanks between them.
+fn write_triple(
+    word: &[u8],
+    number: u64,
+    other: u64,
+    last: u64,
+    out: &mut Vec<u8>,
+) -> Result<(), NoMemory>
+    ensures ok { OnOk result (out.new.items ≡ out.old.items ++ (word.now ++ decimal number ++ codes " " ++ decimal other ++ codes " " ++ decimal last)) }
+    ensures err { OnErr result (out.new.items ≡ out.old.items) }
+{
+    let start = out.len();
+    write_pair(word, number, other, out)?;
+    let Ok(()) = write_numbered(b" ", last, out) else {
         out.truncate(start);
         return Err(NoMemory);
     };
@@ -74,12 +126,23 @@ impl Place {
         ensures err { OnErr result (out.new.items ≡ out.old.items) }
     {
         match *self {
-            Place::State(k) => write_numbered(b"condense state ", k, out),
-            Place::Cost(k) => write_numbered(b"condense cost ", k, out),
-            Place::Row(i) => write_numbered(b"condense row ", i, out),
-            Place::Pivot(j) => write_numbered(b"pivot ", j, out),
+            Place::State(k) => write_numbered(b"condense state ", k.into(), out),
+            Place::Cost(k) => write_numbered(b"condense cost ", k.into(), out),
+            Place::Row(i) => write_numbered(b"condense row ", i.into(), out),
+            Place::Pivot(j) => write_numbered(b"pivot ", j.into(), out),
             Place::Law(set) => write_with_set(b"law ", set, out),
-            Place::LawBound(law, input) => write_pair(b"bound law ", law, input, out),
+            Place::Reach(set) => write_with_set(b"reach ", set, out),
+            Place::Border(set, i) => write_set_row(b"border ", set, i.into(), out),
+            Place::Region(set) => write_with_set(b"region ", set, out),
+            Place::Meet(node, law) => write_pair(b"meet ", node, law.into(), out),
+            Place::Holds(node, law, i) => {
+                write_triple(b"holds ", node, law.into(), i.into(), out)
+            }
+            Place::Joint(node) => write_numbered(b"joint ", node, out),
+            Place::LawBound(law, input) => write_pair(b"bound law ", law.into(), input.into(), out),
+            Place::NodeBound(node) => write_numbered(b"bound node ", node, out),
+            Place::CheckLaw(law) => write_numbered(b"check law ", law.into(), out),
+            Place::CheckLeaf(node, i) => write_pair(b"check leaf ", node, i.into(), out),
         }
     }
 }

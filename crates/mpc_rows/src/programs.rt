@@ -3,7 +3,9 @@
 ghost use Rattle.mpc_rows.specs.Program.{IsProgram};
 
 use crate::Counts;
+use mpc_frac::NoMemory;
 use mpc_linear::Matrix;
+use std::alloc::Global;
 
 /// The quadratic program with the cost `z'h z + 2 z'f c + c'y c` and the rows `g z <= w c`, for all `c = (1, t_1, .., t_n)` with t in the
 /// box of the counts (Bemporad, Morari, Dua and Pistikopoulos, 2002).
@@ -18,4 +20,28 @@ pub struct Qp {
     pub w: Matrix,
     pub counts: Counts,
     pub ghost is_program: { IsProgram h f y g w counts },
+}
+
+impl Qp {
+    ghost use Rattle.std.specs.Prelude.{◌≡◌, IfOk};
+
+    /// The same program once more.
+    pub fn copy(&self, alloc: Global) -> Result<Qp, NoMemory>
+        ensures { IfOk result (λ qp. qp ≡ self.now) }
+    {
+        let h = self.h.copy(alloc)?;
+        let f = self.f.copy(alloc)?;
+        let y = self.y.copy(alloc)?;
+        let g = self.g.copy(alloc)?;
+        let w = self.w.copy(alloc)?;
+        let counts = self.counts.copy(alloc)?;
+        Ok(Qp {
+            h,
+            f,
+            y,
+            g,
+            w,
+            counts,
+        })
+    }
 }

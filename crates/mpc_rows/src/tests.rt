@@ -19,7 +19,16 @@ fn texts_of_places(rt: HostRuntime) -> Result<(), Fail> {
         (Place::Pivot(6), "pivot 6"),
         (Place::Law(set), "law {1,3}"),
         (Place::Law(ActiveSet::empty()), "law {}"),
+        (Place::Reach(set), "reach {1,3}"),
+        (Place::Border(set, 2), "border {1,3} 2"),
+        (Place::Region(set), "region {1,3}"),
+        (Place::Meet(7, 3), "meet 7 3"),
+        (Place::Holds(7, 3, 2), "holds 7 3 2"),
+        (Place::Joint(7), "joint 7"),
         (Place::LawBound(12, 3), "bound law 12 3"),
+        (Place::NodeBound(7), "bound node 7"),
+        (Place::CheckLaw(3), "check law 3"),
+        (Place::CheckLeaf(7, 0), "check leaf 7 0"),
     ];
     for (place, expected) in cases {
         let found = text(rt.alloc(), place)?;
