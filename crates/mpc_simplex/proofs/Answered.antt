@@ -6,7 +6,7 @@ use Rattle.std.proofs.lemmas.Option.{slice_get-get_or}
 use Rattle.mpc_exact.specs.Pair.{Pair}
 use Rattle.mpc_exact.specs.Rational.{ℚ, int, neg_ℚ}
 use Rattle.mpc_rows.specs.LinearSystem.{LinearSystem}
-use Rattle.mpc_simplex.specs.Run.{Position, multiplier}
+use Rattle.mpc_rows.specs.Run.{Position, multiplier}
 
 -- one more entry at the end
 pub pushed : {X Y : Type 0} (g : X → Y) (xs : List X) (d v : X) (i : ℕ) (f : ℕ → Y) → length xs ≡ i → ((j : ℕ) → j < i → g (get_or xs j d) ≡ f j) → g v ≡ f i → (j : ℕ) → j < i + 1 → g (get_or (xs ++ v ∷ []) j d) ≡ f j

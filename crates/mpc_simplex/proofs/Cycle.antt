@@ -7,7 +7,7 @@ use Rattle.mpc_exact.proofs.RationalOrder.{IsNonneg, gap, by_le, ≤ℚ_refl}
 use Rattle.mpc_space.specs.Total.{total}
 use Rattle.mpc_exact.specs.Pair.{Pair, IsAtMost}
 use Rattle.mpc_rows.specs.LinearSystem.{LinearSystem}
-use Rattle.mpc_simplex.specs.Run.{Position, count, is_unknown, bound, value, position, GoesOn, OneBasis}
+use Rattle.mpc_rows.specs.Run.{Position, count, is_unknown, bound, value, position, GoesOn, OneBasis}
 use Rattle.mpc_space.proofs.Total.{total-same, total-add, total-scale}
 use Rattle.mpc_exact.proofs.Pair.{IsPairPositive, IsPairNonneg, pair_positive_add, pair_positive_weak, pair_nonneg_of_zero, pair_positive_scale, pair_nonneg_scale, pair_nonneg_zero, below_gap, at_most_gap, pair_conflict}
 use Rattle.mpc_space.proofs.Total.{pair_total_positive}

@@ -7,7 +7,7 @@ use Rattle.mpc_rows.specs.Refutation.{Refutes}
 use Rattle.mpc_rows.proofs.SumLemmas.{seen}
 use Rattle.mpc_rows.proofs.SystemSums.{pair_point_from, refutes_from}
 use Rattle.mpc_rows.proofs.RefutedLemmas.{refuted-no_point, point_of_pairs}
-use Rattle.mpc_simplex.specs.Run.{value, multiplier, last_position}
+use Rattle.mpc_rows.specs.Run.{value, multiplier, last_position}
 use Rattle.mpc_simplex.specs.Answer.{IfPoint, IfRefuted, HasPoint, EndsWithPoint, EndsRefuted, IsRunEnd}
 use Rattle.mpc_simplex.specs.declared.Decision.{Decision}
 use Rattle.mpc_simplex.specs.declared.Decision.TheVariants.{Point, Refuted}

@@ -1,9 +1,9 @@
 -- Each run ends, after fewer steps than there are sets of variables.
 use Rattle.std.proofs.Common.{◌≡◌, ℕ, zero, suc, ◌+◌, ◌-◌, ◌^◌, ◌<◌, ◌≤◌, Bool, true, false, not, Option, Some, None, refl, sym, ◌∙◌, ap, subst, arith, ◌⊎◌, inl, inr, ⊎_elim, lt_irrefl}
 use Rattle.std.proofs.lemmas.Bool.{cond-true, cond-false, cases_eq, cases_lt, both_ways, not-true, not-false}
-use Rattle.mpc_simplex.specs.Least.{least}
+use Rattle.mpc_rows.specs.Least.{least}
 use Rattle.mpc_rows.specs.LinearSystem.{LinearSystem}
-use Rattle.mpc_simplex.specs.Run.{Position, count, turn, moved, opening, position, is_pivot, GoesOn, steps_within, steps_from, steps, last_position}
+use Rattle.mpc_rows.specs.Run.{Position, count, turn, moved, opening, position, is_pivot, GoesOn, steps_within, steps_from, steps, last_position}
 use Rattle.mpc_simplex.proofs.LeastLemmas.{LeastIs, least-is}
 use Rattle.mpc_simplex.proofs.Cycle.{no_basis_twice}
 use Rattle.mpc_simplex.proofs.Pigeonhole.{two_agree}

@@ -8,8 +8,8 @@ use Rattle.mpc_space.specs.Total.{unit}
 use Rattle.mpc_space.proofs.Total.{unit-other}
 use Rattle.mpc_simplex.specs.declared.tableau.Seat.{Seat}
 use Rattle.mpc_simplex.specs.declared.tableau.Seat.TheVariants.{Row, Column}
-use Rattle.mpc_simplex.specs.Run.{Position, IsTableau, entering_row, other_row, pivot}
-use Rattle.mpc_simplex.specs.RunWidth.{EnteringFits, EntryFits as PivotEntryFits, RowFits, RowsFit}
+use Rattle.mpc_rows.specs.Run.{Position, IsTableau, entering_row, other_row, pivot}
+use Rattle.mpc_rows.specs.RunWidth.{EnteringFits, EntryFits as PivotEntryFits, RowFits, RowsFit}
 use Rattle.mpc_simplex.specs.Table.{seat_at, in_row, cell_at, between, position_of, IsSeated}
 use Rattle.mpc_simplex.specs.Exchange.{own_cell, changed, IsExchanged, OwnFits, ChangeFits, ChangesFit, ExchangeFits}
 use Rattle.mpc_simplex.proofs.Outside.{IsBounded}

@@ -10,9 +10,9 @@ use Rattle.mpc_simplex.proofs.Read.{rest_unknown}
 use Rattle.mpc_exact.proofs.RationalRing.{reads, by_ring}
 use Rattle.mpc_space.specs.Total.{total}
 use Rattle.mpc_rows.specs.LinearSystem.{LinearSystem}
-use Rattle.mpc_simplex.specs.Run.{Position, IsTableau, count, value, rest}
+use Rattle.mpc_rows.specs.Run.{Position, IsTableau, count, value, rest}
 use Rattle.mpc_simplex.proofs.TableauRows.{stands}
-use Rattle.mpc_simplex.specs.RunWidth.{TermFits, ValueFits}
+use Rattle.mpc_rows.specs.RunWidth.{TermFits, ValueFits}
 use Rattle.mpc_space.proofs.Total.{total-suc, total-zeros}
 use Rattle.mpc_simplex.proofs.Table.{first_terms, second_terms}
 

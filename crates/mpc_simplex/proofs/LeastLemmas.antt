@@ -1,7 +1,7 @@
 -- The least number below n that passes a test.
 use Rattle.std.proofs.Common.{◌≡◌, ℕ, zero, suc, ◌<◌, Bool, true, false, cond, Option, Some, None, refl, sym, subst, arith, ⊎_elim}
 use Rattle.std.proofs.lemmas.Bool.{cases_eq}
-use Rattle.mpc_simplex.specs.Least.{least, or_at}
+use Rattle.mpc_rows.specs.Least.{least, or_at}
 
 pub record IsLeast (test : ℕ → Bool) (n x : ℕ) : Type 0 where
   pub below : x < n

@@ -3,8 +3,8 @@ use Rattle.std.proofs.Common.{◌≡◌, ℕ, suc, ◌<◌, ◌≤◌, false, Li
 use Rattle.std.proofs.lemmas.Bool.{cases_eq, cases_lt, both_ways}
 use Rattle.mpc_exact.specs.Rational.{ℚ}
 use Rattle.mpc_rows.specs.LinearSystem.{LinearSystem}
-use Rattle.mpc_simplex.specs.Run.{Position, IsTableau, goes_on, count, turn, moved, is_pivot, leaving, entering, opening, position, steps}
-use Rattle.mpc_simplex.specs.RunWidth.{ValuesFit, EnteringFits, RowsFit, PositionFits, RunFits}
+use Rattle.mpc_rows.specs.Run.{Position, IsTableau, goes_on, count, turn, moved, is_pivot, leaving, entering, opening, position, steps}
+use Rattle.mpc_rows.specs.RunWidth.{ValuesFit, EnteringFits, RowsFit, PositionFits, RunFits}
 use Rattle.mpc_simplex.specs.declared.tableau.Seat.{Seat}
 use Rattle.mpc_simplex.specs.Table.{position_of}
 use Rattle.mpc_simplex.specs.Exchange.{IsExchanged, ExchangeFits}

@@ -7,7 +7,7 @@ use Rattle.mpc_exact.proofs.RationalRing.{reads, by_ring}
 use Rattle.mpc_space.specs.Total.{unit}
 use Rattle.mpc_rows.specs.declared.systems.Row.{Row}
 use Rattle.mpc_rows.specs.LinearSystem.{LinearSystem, height, entry, no_row}
-use Rattle.mpc_simplex.specs.Run.{Position, IsTableau, Turn, has_point, is_refuted, goes_on, count, is_unknown, opening, pivot, moved, turn, position}
+use Rattle.mpc_rows.specs.Run.{Position, IsTableau, Turn, has_point, is_refuted, goes_on, count, is_unknown, opening, pivot, moved, turn, position}
 use Rattle.mpc_space.proofs.Total.{unit-other}
 use Rattle.mpc_simplex.proofs.Pivot.{update, basic-other}
 use Rattle.mpc_simplex.proofs.TableauRows.{opening_row, opening_rest, opening_known}

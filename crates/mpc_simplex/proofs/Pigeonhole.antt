@@ -1,7 +1,7 @@
 -- More values than places: two of them are equal. Tests on the numbers below n are told apart by a code below 2^n.
 use Rattle.std.proofs.Common.{◌≡◌, ℕ, zero, suc, ◌+◌, ◌^◌, ◌<◌, ◌≤◌, Bool, true, false, cond, eqb, Option, Some, None, refl, sym, ◌∙◌, subst, arith, ◌⊎◌, inl, inr, eq-eqb, eqb-true, ne_eqb, pow-suc}
 use Rattle.std.proofs.lemmas.Bool.{cond-true, cond-false, cases_eq, eqb-false}
-use Rattle.mpc_simplex.specs.Least.{least}
+use Rattle.mpc_rows.specs.Least.{least}
 use Rattle.mpc_simplex.proofs.LeastLemmas.{LeastIs, least-is}
 
 -- two of the values f 0 .. f (n - 1) are equal

@@ -4,7 +4,7 @@ use Rattle.mpc_exact.specs.Rational.{ℚ, int, ◌+ℚ◌, ◌-ℚ◌, ◌*ℚ�
 use Rattle.mpc_exact.proofs.Rational.{*ℚ_inv}
 use Rattle.mpc_exact.proofs.RationalRing.{reads, by_ring, by_equation}
 use Rattle.mpc_space.specs.Total.{unit}
-use Rattle.mpc_simplex.specs.Run.{Position, IsTableau, entering_row, other_row, pivot}
+use Rattle.mpc_rows.specs.Run.{Position, IsTableau, entering_row, other_row, pivot}
 use Rattle.mpc_space.proofs.Total.{unit-same, unit-other}
 
 -- ---- the definition, case by case

@@ -8,7 +8,7 @@ use Rattle.mpc_exact.proofs.RationalOrder.{IsPositive, positive_int, positive-mu
 use Rattle.mpc_exact.specs.Pair.{Pair, IsAtMost}
 use Rattle.mpc_rows.specs.LinearSystem.{LinearSystem, row_at, height, entry, IsWithin}
 use Rattle.mpc_rows.proofs.SystemSums.{left_side, IsPairPointBy, pair_at}
-use Rattle.mpc_simplex.specs.Run.{has_point, bound, value, turn, position}
+use Rattle.mpc_rows.specs.Run.{has_point, bound, value, turn, position}
 use Rattle.mpc_space.proofs.Total.{total-same, total-add, total-scale}
 use Rattle.mpc_simplex.proofs.Turn.{TurnIs, turn-at}
 use Rattle.mpc_simplex.proofs.LeftSides.{bound-first, bound-second, side_value, is_side}

@@ -3,7 +3,7 @@ use Rattle.std.proofs.Common.{◌≡◌, ℕ, zero, suc, ◌<◌, Bool, true, fa
 use Rattle.std.proofs.lemmas.Bool.{cond-false, cases_eq, both_ways}
 use Rattle.mpc_exact.specs.Rational.{ℚ}
 use Rattle.mpc_rows.specs.LinearSystem.{LinearSystem}
-use Rattle.mpc_simplex.specs.Run.{Position, IsTableau, Turn, has_point, is_refuted, goes_on, count, is_unknown, bound, rest, value, turn, moved, pivot, opening, position, is_pivot, leaving, entering, GoesOn}
+use Rattle.mpc_rows.specs.Run.{Position, IsTableau, Turn, has_point, is_refuted, goes_on, count, is_unknown, bound, rest, value, turn, moved, pivot, opening, position, is_pivot, leaving, entering, GoesOn}
 use Rattle.mpc_simplex.proofs.Pivot.{basic-at_leaving, basic-at_entering, basic-other}
 use Rattle.mpc_simplex.proofs.TableauRows.{Meets, meets_pivot, pivot_meets, tableau_pivot, tableau_opening, values_meet, stands}
 use Rattle.mpc_simplex.proofs.Turn.{TurnIs, Goes, turn-is}

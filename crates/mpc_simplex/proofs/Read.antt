@@ -5,7 +5,7 @@ use Rattle.mpc_exact.specs.Rational.{int}
 use Rattle.mpc_space.specs.Total.{unit}
 use Rattle.mpc_rows.specs.declared.systems.Row.{Row}
 use Rattle.mpc_rows.specs.LinearSystem.{LinearSystem, row_at, entry}
-use Rattle.mpc_simplex.specs.Run.{count, is_unknown, bound, rest, opening}
+use Rattle.mpc_rows.specs.Run.{count, is_unknown, bound, rest, opening}
 
 pub or_then : (a b x : Bool) → x ≡ a → x ≡ true → x ≡ (a || b)
 or_then true b x e t = e

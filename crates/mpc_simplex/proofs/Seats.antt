@@ -8,7 +8,7 @@ use Rattle.mpc_space.proofs.Total.{unit-other}
 use Rattle.mpc_rows.specs.LinearSystem.{LinearSystem, height}
 use Rattle.mpc_simplex.specs.declared.tableau.Seat.{Seat}
 use Rattle.mpc_simplex.specs.declared.tableau.Seat.TheVariants.{Row, Column}
-use Rattle.mpc_simplex.specs.Run.{Position, IsTableau, is_unknown, opening}
+use Rattle.mpc_rows.specs.Run.{Position, IsTableau, is_unknown, opening}
 use Rattle.mpc_simplex.specs.Table.{seat_at, in_row, cell_at, between, position_of, IsSeated, IsOpeningSeats, IsOpeningEntries}
 use Rattle.mpc_simplex.proofs.Outside.{IsBounded}
 use Rattle.mpc_simplex.proofs.Read.{opening_unknown, opening_side, opening_none, unknown_below, from_unknown}

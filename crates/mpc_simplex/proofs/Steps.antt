@@ -1,14 +1,14 @@
 -- One turn of the code's loop, at the position that its lists stand for.
 use Rattle.std.proofs.Common.{◌≡◌, ◌≢◌, ℕ, ◌+◌, ◌<◌, true, List, set, pos, Option, Some, None, sym, ◌∙◌, ap, subst, arith}
 use Rattle.mpc_exact.specs.Rational.{ℚ, int}
-use Rattle.mpc_simplex.specs.Least.{least}
+use Rattle.mpc_rows.specs.Least.{least}
 use Rattle.mpc_rows.specs.LinearSystem.{LinearSystem, height}
-use Rattle.mpc_simplex.specs.Run.{Position, has_point, is_refuted, goes_on, count, may_leave, may_enter, turn, turn_from, turn_at, moved, is_pivot, pivot, opening, steps_from, last_position}
+use Rattle.mpc_rows.specs.Run.{Position, has_point, is_refuted, goes_on, count, may_leave, may_enter, turn, turn_from, turn_at, moved, is_pivot, pivot, opening, steps_from, last_position}
 use Rattle.mpc_simplex.specs.declared.tableau.Seat.{Seat}
 use Rattle.mpc_simplex.specs.declared.tableau.Seat.TheVariants.{Row, Column}
 use Rattle.mpc_simplex.specs.Table.{seat_at, cell_at, IsSeated, IsTable, IsOpeningSeats, IsOpeningEntries, position_of}
 use Rattle.mpc_simplex.specs.Exchange.{IsExchanged, ExchangeFits}
-use Rattle.mpc_simplex.specs.RunWidth.{EnteringFits, RowsFit}
+use Rattle.mpc_rows.specs.RunWidth.{EnteringFits, RowsFit}
 use Rattle.mpc_simplex.specs.Answer.{IsValues, IsMultipliers, EndsWithPoint, EndsRefuted}
 use Rattle.mpc_simplex.proofs.Turn.{Goes, turn-at}
 use Rattle.mpc_simplex.proofs.Ends.{Reached, reached_next, reached_opening, steps_fall, stopped_last}

@@ -2,10 +2,10 @@
 use Rattle.std.proofs.Common.{◌≡◌, ℕ, zero, suc, ◌+◌, ◌-◌, ◌<◌, Bool, true, false, cond, not, ◌&&◌, pos, Option, Some, None, MatchOption, refl, sym, ◌∙◌, ap, subst, arith, add-one}
 use Rattle.mpc_exact.specs.Rational.{ℚ, int, ◌+ℚ◌, ◌*ℚ◌, lt_ℚ}
 use Rattle.mpc_space.specs.Total.{total}
-use Rattle.mpc_simplex.specs.Least.{least, or_at}
+use Rattle.mpc_rows.specs.Least.{least, or_at}
 use Rattle.mpc_exact.specs.Pair.{is_below}
 use Rattle.mpc_rows.specs.LinearSystem.{LinearSystem}
-use Rattle.mpc_simplex.specs.Run.{Position, count, is_unknown, is_zero, bound, rest, value, may_leave, may_enter}
+use Rattle.mpc_rows.specs.Run.{Position, count, is_unknown, is_zero, bound, rest, value, may_leave, may_enter}
 use Rattle.std.specs.Prelude.{⊤}
 use Rattle.mpc_space.proofs.Total.{total-suc}
 use Rattle.mpc_simplex.proofs.LeastLemmas.{LeastIs, least-is}

@@ -5,7 +5,7 @@ use Rattle.mpc_exact.proofs.Rational.{*ℚ_inv}
 use Rattle.mpc_exact.proofs.RationalRing.{reads, by_ring, by_equation, by_equations}
 use Rattle.mpc_space.specs.Total.{total, unit}
 use Rattle.mpc_rows.specs.LinearSystem.{LinearSystem, entry}
-use Rattle.mpc_simplex.specs.Run.{Position, IsTableau, pivot, opening, is_unknown}
+use Rattle.mpc_rows.specs.Run.{Position, IsTableau, pivot, opening, is_unknown}
 use Rattle.mpc_space.proofs.Total.{unit-same, unit-other, total-same, total-add, total-scale, total-unit}
 use Rattle.mpc_simplex.proofs.Pivot.{update, basic-at_leaving, basic-at_entering, basic-other}
 

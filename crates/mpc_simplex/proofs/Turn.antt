@@ -3,10 +3,10 @@ use Rattle.std.proofs.lemmas.Bool.{cond-true, cond-false, cases_Bool, both_ways,
 use Rattle.mpc_exact.specs.Rational.{ℚ, int, ◌≤ℚ◌, le_ℚ, lt_ℚ}
 use Rattle.mpc_exact.proofs.RationalOrder.{IsPositive, ≤ℚ_antisymm, ≤ℚ_refl, <ℚ_irrefl}
 use Rattle.mpc_exact.proofs.RationalField.{le_ℚ_is, lt_ℚ_is}
-use Rattle.mpc_simplex.specs.Least.{least}
+use Rattle.mpc_rows.specs.Least.{least}
 use Rattle.mpc_exact.specs.Pair.{IsBelow, IsAtMost, is_below}
 use Rattle.mpc_rows.specs.LinearSystem.{LinearSystem}
-use Rattle.mpc_simplex.specs.Run.{Position, Turn, has_point, is_refuted, goes_on, count, is_unknown, is_zero, bound, value, may_leave, may_enter, turn, turn_at, turn_from}
+use Rattle.mpc_rows.specs.Run.{Position, Turn, has_point, is_refuted, goes_on, count, is_unknown, is_zero, bound, value, may_leave, may_enter, turn, turn_at, turn_from}
 use Rattle.mpc_simplex.proofs.LeastLemmas.{IsLeast, LeastIs, least-is}
 use Rattle.mpc_exact.proofs.Pair.{is_below-true, is_below-false}
 use Rattle.mpc_simplex.proofs.Flags.{true_test, test_true, not_lt}

@@ -13,7 +13,7 @@ use Rattle.mpc_frac.specs.declared.FracError.TheVariants.{ZeroDenominator, Wide}
 use Rattle.mpc_frac.specs.Sign.{signed_like}
 use Rattle.mpc_frac.proofs.FracMul.{signed_abs}
 use Rattle.mpc_frac.proofs.FracParts.{inverse_is, inverse_coprime, size_positive}
-use Rattle.mpc_simplex.specs.Run.{is_zero}
+use Rattle.mpc_rows.specs.Run.{is_zero}
 
 module _ (x : ℚ) (some : x ≢ int (pos 0)) where
   numer_some : x.numer ≢ pos 0

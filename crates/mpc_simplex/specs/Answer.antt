@@ -3,7 +3,7 @@ use Rattle.std.specs.Prelude.{◌≡◌, ℕ, ◌<◌, List, length, slice_get, 
 use Rattle.mpc_exact.specs.Rational.{ℚ}
 use Rattle.mpc_space.specs.Vector.{coordinate}
 use Rattle.mpc_rows.specs.LinearSystem.{LinearSystem, height, IsPoint}
-use Rattle.mpc_simplex.specs.Run.{Position, has_point, is_refuted, value, turn, last_position, multiplier}
+use Rattle.mpc_rows.specs.Run.{Position, has_point, is_refuted, value, turn, last_position, multiplier}
 use Rattle.mpc_simplex.specs.declared.Decision.{Decision}
 use Rattle.mpc_simplex.specs.declared.Decision.TheVariants.{Point, Refuted}
 use Rattle.mpc_simplex.specs.declared.SimplexError.{SimplexError}

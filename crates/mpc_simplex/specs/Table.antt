@@ -4,7 +4,7 @@ use Rattle.std.specs.Prelude.{◌≡◌, ℕ, ◌+◌, ◌-◌, ◌*◌, ◌<◌
 use Rattle.mpc_exact.specs.Rational.{ℚ, int}
 use Rattle.mpc_space.specs.Total.{unit}
 use Rattle.mpc_rows.specs.LinearSystem.{LinearSystem, height, entry}
-use Rattle.mpc_simplex.specs.Run.{Position, is_unknown}
+use Rattle.mpc_rows.specs.Run.{Position, is_unknown}
 use Rattle.mpc_simplex.specs.declared.tableau.Seat.{Seat}
 use Rattle.mpc_simplex.specs.declared.tableau.Seat.TheVariants.{Row, Column}
 

@@ -4,9 +4,11 @@
 ghost use Rattle.std.specs.Prelude.{◌≡◌, IfOk, MatchResult};
 ghost use Rattle.mpc_rows.specs.LinearSystem.{IsPairPoint};
 ghost use Rattle.mpc_rows.specs.Refutation.{Refutes};
-ghost use Rattle.mpc_simplex.specs.RunWidth.{RunFits};
+ghost use Rattle.mpc_rows.specs.RunWidth.{RunFits};
 ghost use Rattle.mpc_simplex.specs.Answer.{IfPoint, IfRefuted, IfWide, HasPoint, IsRunEnd};
 
+#[cfg(test)]
+mod end_tests;
 mod numbers;
 mod run;
 mod sides;

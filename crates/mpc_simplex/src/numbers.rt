@@ -3,7 +3,7 @@
 ghost use Rattle.std.specs.Prelude.{◌≡◌, ◌≢◌, pos};
 ghost use Rattle.mpc_exact.specs.Rational.{int, inv_ℚ, lt_ℚ, le_ℚ};
 ghost use Rattle.mpc_exact.specs.Pair.{is_below};
-ghost use Rattle.mpc_simplex.specs.Run.{is_zero};
+ghost use Rattle.mpc_rows.specs.Run.{is_zero};
 
 use mpc_frac::Frac;
 

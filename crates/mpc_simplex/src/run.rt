@@ -3,9 +3,9 @@
 ghost use Rattle.std.specs.Prelude.{◌≡◌, ℕ, ◌+◌, ◌*◌, ◌<◌, ◌≤◌, ◌^◌, IfOk, MatchResult, MatchOption, length, ⊤, pos, true, false};
 ghost use Rattle.mpc_exact.specs.Rational.{int};
 ghost use Rattle.mpc_rows.specs.LinearSystem.{height};
-ghost use Rattle.mpc_simplex.specs.Least.{least};
-ghost use Rattle.mpc_simplex.specs.Run.{value, multiplier, may_leave, may_enter, opening};
-ghost use Rattle.mpc_simplex.specs.RunWidth.{ValueFits, ValuesFit, RunFits};
+ghost use Rattle.mpc_rows.specs.Least.{least};
+ghost use Rattle.mpc_rows.specs.Run.{value, multiplier, may_leave, may_enter, opening};
+ghost use Rattle.mpc_rows.specs.RunWidth.{ValueFits, ValuesFit, RunFits};
 ghost use Rattle.mpc_simplex.specs.Table.{seat_at, in_row, IsSeated, HasShape, IsTable, position_of, opening_seat, IsOpeningSeats, IsOpeningEntries};
 ghost use Rattle.mpc_simplex.specs.Answer.{IsValues, IsMultipliers, IsRunEnd, IfWide};
 

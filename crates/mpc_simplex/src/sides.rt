@@ -3,8 +3,8 @@
 ghost use Rattle.std.specs.Prelude.{◌≡◌, ◌+◌, ◌<◌, ◌≤◌, ◌&&◌, not, ltb};
 ghost use Rattle.mpc_exact.specs.Pair.{is_below};
 ghost use Rattle.mpc_rows.specs.LinearSystem.{height};
-ghost use Rattle.mpc_simplex.specs.Least.{or_at};
-ghost use Rattle.mpc_simplex.specs.Run.{is_unknown, bound, rest};
+ghost use Rattle.mpc_rows.specs.Least.{or_at};
+ghost use Rattle.mpc_rows.specs.Run.{is_unknown, bound, rest};
 
 use crate::numbers::{Standing, is_below, zero};
 use mpc_frac::Frac;

@@ -1,6 +1,6 @@
 use Rattle.std.proofs.Common.{◌≡◌, None}
-use Rattle.mpc_simplex.specs.Least.{least}
-use Rattle.mpc_simplex.specs.Run.{may_enter}
+use Rattle.mpc_rows.specs.Least.{least}
+use Rattle.mpc_rows.specs.Run.{may_enter}
 use Rattle.mpc_simplex.specs.Table.{position_of}
 use Rattle.mpc_simplex.proofs.run.entering.Given as goal
 

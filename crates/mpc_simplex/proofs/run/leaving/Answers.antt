@@ -1,10 +1,10 @@
 use Rattle.std.proofs.Common.{◌≡◌, ◌∙◌, ◌≤◌, ◌&&◌, sym, ap, arith, subst, true, false, not, ltb, rules, ⊎_elim}
 use Rattle.std.proofs.lemmas.Result.{MatchResult-from_err}
 use Rattle.std.proofs.lemmas.Bool.{both_ways, cases_eq}
-use Rattle.mpc_simplex.specs.Least.{least, or_at}
+use Rattle.mpc_rows.specs.Least.{least, or_at}
 use Rattle.mpc_exact.specs.Pair.{is_below}
-use Rattle.mpc_simplex.specs.Run.{may_leave, bound}
-use Rattle.mpc_simplex.specs.RunWidth.{ValueFits}
+use Rattle.mpc_rows.specs.Run.{may_leave, bound}
+use Rattle.mpc_rows.specs.RunWidth.{ValueFits}
 use Rattle.mpc_simplex.specs.Table.{position_of}
 use Rattle.mpc_simplex.proofs.Read.{width_is}
 use Rattle.mpc_simplex.proofs.Table.{least_start, least_next, least_skip, least_below, leave_not_basic, leave_basic}

@@ -1,7 +1,7 @@
 use Rattle.std.proofs.Common.{◌≡◌, ℕ, ◌<◌, true}
-use Rattle.mpc_simplex.specs.Least.{least}
-use Rattle.mpc_simplex.specs.Run.{may_leave}
-use Rattle.mpc_simplex.specs.RunWidth.{ValueFits}
+use Rattle.mpc_rows.specs.Least.{least}
+use Rattle.mpc_rows.specs.Run.{may_leave}
+use Rattle.mpc_rows.specs.RunWidth.{ValueFits}
 use Rattle.mpc_simplex.specs.Table.{position_of}
 use Rattle.mpc_simplex.proofs.run.leaving.Given as goal
 

@@ -1,5 +1,5 @@
 use Rattle.std.proofs.Common.{◌≡◌, ℕ, ◌<◌}
-use Rattle.mpc_simplex.specs.Run.{multiplier}
+use Rattle.mpc_rows.specs.Run.{multiplier}
 use Rattle.mpc_simplex.specs.Table.{position_of}
 use Rattle.mpc_space.specs.Vector.{coordinate}
 use Rattle.mpc_simplex.proofs.run.multipliers.Given as goal

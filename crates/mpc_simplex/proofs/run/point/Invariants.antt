@@ -1,5 +1,5 @@
 use Rattle.std.proofs.Common.{◌≡◌, ℕ, ◌<◌}
-use Rattle.mpc_simplex.specs.Run.{value}
+use Rattle.mpc_rows.specs.Run.{value}
 use Rattle.mpc_simplex.specs.Table.{position_of}
 use Rattle.mpc_simplex.proofs.Answered.{pair_in}
 use Rattle.mpc_simplex.proofs.run.point.Given as goal

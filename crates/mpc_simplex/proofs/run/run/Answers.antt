@@ -2,12 +2,12 @@ use Rattle.std.proofs.Common.{◌≡◌, ◌∙◌, ◌<◌, ℕ, true, false, L
 use Rattle.std.proofs.lemmas.Result.{MatchResult-from_err}
 use Rattle.std.proofs.lemmas.List.{with_items_is}
 use Rattle.mpc_exact.specs.Rational.{ℚ}
-use Rattle.mpc_simplex.specs.Least.{least}
+use Rattle.mpc_rows.specs.Least.{least}
 use Rattle.mpc_rows.specs.LinearSystem.{LinearSystem, height}
 use Rattle.mpc_simplex.specs.declared.tableau.Seat.{Seat}
 use Rattle.mpc_simplex.specs.declared.tableau.Seat.TheVariants.{Row, Column}
-use Rattle.mpc_simplex.specs.Run.{goes_on, count, may_leave, may_enter, turn, is_pivot}
-use Rattle.mpc_simplex.specs.RunWidth.{ValuesFit}
+use Rattle.mpc_rows.specs.Run.{goes_on, count, may_leave, may_enter, turn, is_pivot}
+use Rattle.mpc_rows.specs.RunWidth.{ValuesFit}
 use Rattle.mpc_simplex.specs.Table.{seat_at, in_row, cell_at, IsTable, position_of}
 use Rattle.mpc_simplex.specs.Exchange.{IsExchanged}
 use Rattle.mpc_simplex.specs.Answer.{IsValues, IsMultipliers, EndsWithPoint, EndsRefuted}

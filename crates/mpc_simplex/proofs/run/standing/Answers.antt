@@ -1,7 +1,7 @@
 use Rattle.std.proofs.Common.{◌≡◌, ◌∙◌, ◌<◌, sym, ap, subst, rules}
 use Rattle.std.proofs.lemmas.Result.{MatchResult-from_err}
 use Rattle.mpc_exact.specs.Pair.{Pair}
-use Rattle.mpc_simplex.specs.Run.{value, rest}
+use Rattle.mpc_rows.specs.Run.{value, rest}
 use Rattle.mpc_simplex.specs.Table.{position_of}
 use Rattle.mpc_simplex.proofs.Seats.{basic_is, tableau_of}
 use Rattle.mpc_simplex.proofs.Fits.{value_free}

@@ -3,8 +3,8 @@ use Rattle.std.proofs.lemmas.Result.{MatchResult-from_err}
 use Rattle.std.proofs.lemmas.Bool.{both_ways}
 use Rattle.mpc_exact.specs.Rational.{◌*ℚ◌}
 use Rattle.mpc_space.specs.Total.{total}
-use Rattle.mpc_simplex.specs.Run.{count, rest, IsTableau}
-use Rattle.mpc_simplex.specs.RunWidth.{TermFits}
+use Rattle.mpc_rows.specs.Run.{count, rest, IsTableau}
+use Rattle.mpc_rows.specs.RunWidth.{TermFits}
 use Rattle.mpc_simplex.specs.Table.{position_of}
 use Rattle.mpc_simplex.proofs.Table.{value_first, value_second, total_more, first_terms, second_terms}
 use Rattle.mpc_simplex.proofs.Fits.{skip_term, below_free, term_fits, wide_first, wide_second, first_unknowns, second_unknowns, unknown_fits}

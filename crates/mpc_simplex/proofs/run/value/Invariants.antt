@@ -1,7 +1,7 @@
 use Rattle.std.proofs.Common.{◌≡◌, ℕ, ◌<◌, false}
 use Rattle.mpc_space.specs.Total.{total}
 use Rattle.mpc_simplex.specs.Table.{position_of}
-use Rattle.mpc_simplex.specs.RunWidth.{TermFits}
+use Rattle.mpc_rows.specs.RunWidth.{TermFits}
 use Rattle.mpc_simplex.proofs.Table.{first_terms, second_terms}
 use Rattle.mpc_simplex.proofs.run.value.Given as goal
 

@@ -1,0 +1,10 @@
+use Rattle.std.proofs.Common.{◌∙◌}
+use Rattle.mpc_simplex_c.proofs.Passed.{rows_more}
+use Rattle.mpc_simplex_c.proofs.passing.read_rows.Goals as goal
+
+pub loop-i-preserved : goal.loop-i-preserved
+loop-i-preserved c = record {
+  width = c.in_ok-push.ensures.width ∙ c.loop-i.invariant.width;
+  rows = rows_more c.args.width c.args.coefficients.now c.args.sides.now c.loop-i.i c.in_ok-row.row c.in_ok-row.ensures.value
+      c.loop-i.system.rows c.push.new.self.rows c.loop-i.invariant.rows c.in_ok-push.ensures.ok;
+}

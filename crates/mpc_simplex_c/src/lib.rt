@@ -1,0 +1,142 @@
+//! Decisions of systems of linear rows for a C caller: one decision on parts, and a loop to measure it.
+#![tactic(auto)]
+
+ghost use Rattle.std.specs.Prelude.{◌≡◌, ◌≢◌, ◌≤◌, map, length};
+ghost use Rattle.mpc_parts.specs.Parts.{value_of};
+ghost use Rattle.mpc_rows.specs.LinearSystem.{IsPairPoint};
+ghost use Rattle.mpc_rows.specs.Refutation.{Refutes};
+ghost use Rattle.mpc_rows.specs.RunWidth.{RunFits};
+ghost use Rattle.mpc_simplex.specs.Answer.{EndsWithPoint, EndsRefuted};
+ghost use Rattle.mpc_simplex_c.specs.Sent.{sent_system, pair_of, IsReadableSystem};
+
+mod passing;
+
+use mpc_parts::Parts;
+use mpc_rows::{Multipliers, PairPoint};
+use mpc_simplex::{Decision, SimplexError, decide};
+use passing::{SentError, put_multipliers, put_point, read_system};
+use std::alloc::Global;
+
+/// The weight of the high half of a number.
+const HIGH: u128 = 1 << 64;
+
+const POINT: u32 = 0;
+
+const REFUTED: u32 = 1;
+
+const WIDE: u32 = 2;
+
+const NO_MEMORY: u32 = 3;
+
+const UNREADABLE: u32 = 4;
+
+/// The right side of a row, and whether the row is strict.
+#[repr(C)]
+#[derive(Clone, Copy, Drop)]
+pub struct Side {
+    pub bound: Parts,
+    pub strict: bool,
+}
+
+/// One coordinate of a point: `first + d second` for every small enough positive d.
+#[repr(C)]
+#[derive(Clone, Copy, Drop)]
+pub struct Pair {
+    pub first: Parts,
+    pub second: Parts,
+}
+
+/// Decides the system of `sides.len()` rows with `width` coefficients each, row by row.
+///
+/// Answers 0 and writes a point, one pair for each unknown; 1 and writes multipliers that refute the system, one for each row; 2 where
+/// a number is too wide; 3 without memory; 4 where a part is no fraction or a length isn't as stated.
+#[unsafe(no_mangle)]
+pub extern "C" fn mpc_simplex_decide(
+    alloc: Global,
+    width: u32,
+    coefficients: &[Parts],
+    sides: &[Side],
+    point: &mut [Pair],
+    multipliers: &mut [Parts],
+) -> u32
+    ensures point { result ≡ 0 → IsPairPoint (sent_system width coefficients.now sides.now) (map pair_of point.new) }
+    ensures refuted { result ≡ 1 → Refutes (sent_system width coefficients.now sides.now) (map value_of multipliers.new) }
+
+    // The answer is that of the stated run.
+    ensures ends_with_point { result ≡ 0 → EndsWithPoint (sent_system width coefficients.now sides.now) (map pair_of point.new) }
+    ensures ends_refuted { result ≡ 1 → EndsRefuted (sent_system width coefficients.now sides.now) (map value_of multipliers.new) }
+    ensures fits { result ≤ 1 → RunFits (sent_system width coefficients.now sides.now) }
+    ensures wide { result ≡ 2 → ¬ RunFits (sent_system width coefficients.now sides.now) }
+    ensures readable { IsReadableSystem width coefficients.now sides.now → length point.old ≡ width
+        → length multipliers.old ≡ length sides.now → result ≢ 4 }
+    ensures codes { result ≤ 4 }
+{
+    if point.len() != width as usize || multipliers.len() != sides.len() {
+        return UNREADABLE;
+    }
+    let system = match read_system(alloc, width, coefficients, sides) {
+        Ok(system) => system,
+        Err(SentError::Unreadable) => return UNREADABLE,
+        Err(SentError::NoMemory) => return NO_MEMORY,
+    };
+    match decide(alloc, &system) {
+        Ok(Decision::Point(found)) => {
+            put_point(&found, point);
+            POINT
+        }
+        Ok(Decision::Refuted(found)) => {
+            put_multipliers(&found, multipliers);
+            REFUTED
+        }
+        Err(SimplexError::Wide) => WIDE,
+        Err(SimplexError::NoMemory) => NO_MEMORY,
+    }
+}
+
+/// A number mixed into a digest.
+fn mixed(digest: u64, num: i128) -> u64 {
+    digest.rotate_left(1) ^ (num.unsigned_abs() % HIGH) as u64
+}
+
+fn mixed_point(found: &PairPoint, mut digest: u64) -> u64 {
+    for j in 0..found.len() {
+        let pair = found.at(j);
+        digest = mixed(mixed(digest, pair.0.num()), pair.1.num());
+    }
+    digest
+}
+
+fn mixed_multipliers(found: &Multipliers, mut digest: u64) -> u64 {
+    for multiplier in found.as_slice() {
+        digest = mixed(digest, multiplier.num());
+    }
+    digest
+}
+
+/// An answer mixed into a digest.
+fn mixed_answer(answer: &Result<Decision, SimplexError>, digest: u64) -> u64 {
+    match answer {
+        Ok(Decision::Point(found)) => mixed_point(found, digest),
+        Ok(Decision::Refuted(found)) => mixed_multipliers(found, digest),
+        Err(_) => digest.rotate_left(1),
+    }
+}
+
+/// Decides the system again and again, and mixes the answers into a digest.
+#[unsafe(no_mangle)]
+pub extern "C" fn mpc_simplex_repeat(
+    alloc: Global,
+    width: u32,
+    coefficients: &[Parts],
+    sides: &[Side],
+    rounds: u32,
+) -> u64 {
+    let Ok(system) = read_system(alloc, width, coefficients, sides) else {
+        return 0;
+    };
+    let mut digest = 0;
+    for _ in 0..rounds {
+        digest = mixed_answer(&decide(alloc, &system), digest);
+    }
+    digest
+}
