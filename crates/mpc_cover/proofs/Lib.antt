@@ -1,0 +1,12 @@
+pub mod Systems
+pub mod Segments
+pub mod Descent
+pub mod Dimension
+pub mod Columns
+pub mod Subsets
+pub mod Laws
+pub mod Minimum
+pub mod Cover
+pub mod Ascent
+pub mod Farkas
+pub mod OneVerdict
