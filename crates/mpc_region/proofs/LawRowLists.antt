@@ -1,0 +1,63 @@
+-- The rows of a law, formed one after another.
+use Rattle.std.proofs.Common.{◌≡◌, ℕ, ◌+◌, ◌-◌, ◌<◌, ◌≤◌, List, [], ◌∷◌, ◌++◌, length, get_or, pos, refl, sym, ◌∙◌, ap, subst, arith, ⊎_elim}
+use Rattle.std.proofs.lemmas.Bool.{cases_eq}
+use Rattle.std.proofs.lemmas.List.{length-append, get_or_append_left}
+use Rattle.std.proofs.lemmas.List.Elements.{All-from_get_or}
+use Rattle.std.proofs.Math.Seq.{get_or-append_seam}
+use Rattle.mpc_space.specs.Matrix.{height}
+use Rattle.mpc_linear.specs.declared.integers.RowInt.{RowInt}
+use Rattle.mpc_rows.specs.declared.programs.Qp.{Qp}
+use Rattle.mpc_rows.specs.declared.laws.Law.{Law}
+use Rattle.mpc_rows.specs.LawRows.{IsLawRow, AreLawRows, LawRowFits}
+use Rattle.mpc_rows.specs.SetRuns.{LawRowsFit}
+use Rattle.mpc_rows.specs.Verdicts.{IsFirstWideRow}
+use Rattle.mpc_region.specs.Writing.{IsOfSize, AreOfSize}
+
+abbrev pub no_row : RowInt
+no_row = record { a = []; b = pos 0 }
+
+-- the first k rows of a law
+pub record AreFirstRows (qp : Qp) (law : Law) (k : ℕ) (rows : List RowInt) : Type 0 where
+  pub count : length rows ≡ k
+  pub each : (j : ℕ) → j < k → IsLawRow qp law (j + 1) (get_or rows j no_row)
+  pub sizes : (j : ℕ) → j < k → IsOfSize (length qp.counts) (get_or rows j no_row)
+  pub fits : LawRowsFit qp law k
+
+module _ (qp : Qp) (law : Law) where
+  pub first_none : AreFirstRows qp law 0 []
+  first_none = record { count = refl; each = λ j h. absurd (omega arith); sizes = λ j h. absurd (omega arith); fits = λ i h k. absurd (omega arith) }
+
+  -- row i is the next
+  module _ (i : ℕ) (from_one : 1 ≤ i) (rows : List RowInt) (before : AreFirstRows qp law (i - 1) rows) where
+    pub first_more : (new : List RowInt) (row : RowInt) → new ≡ rows ++ row ∷ [] → IsLawRow qp law i row → IsOfSize (length qp.counts) row → LawRowFits qp law i → AreFirstRows qp law i new
+    first_more new row e is_row size fits = subst (AreFirstRows qp law i) (sym e) (record {
+      count = length-append rows (row ∷ []) ∙ omega (arith, before.count);
+      each = λ j h. ⊎_elim
+          (λ q. subst (λ r. IsLawRow qp law (j + 1) r) (sym (last j q)) (subst (λ k. IsLawRow qp law k row) (omega arith) is_row))
+          (λ q. subst (λ r. IsLawRow qp law (j + 1) r) (sym (earlier j (omega arith))) (before.each j (omega arith)))
+          (cases_eq j (i - 1));
+      sizes = λ j h. ⊎_elim
+          (λ q. subst (IsOfSize (length qp.counts)) (sym (last j q)) size)
+          (λ q. subst (IsOfSize (length qp.counts)) (sym (earlier j (omega arith))) (before.sizes j (omega arith)))
+          (cases_eq j (i - 1));
+      fits = λ k h l. ⊎_elim (λ q. subst (LawRowFits qp law) (sym q) fits) (λ q. before.fits k h (omega arith)) (cases_eq k i);
+    })
+      where
+        last : (j : ℕ) → j ≡ i - 1 → get_or (rows ++ row ∷ []) j no_row ≡ row
+        last j q = ap (λ k. get_or (rows ++ row ∷ []) k no_row) (q ∙ sym before.count) ∙ get_or-append_seam rows row [] no_row
+
+        earlier : (j : ℕ) → j < i - 1 → get_or (rows ++ row ∷ []) j no_row ≡ get_or rows j no_row
+        earlier j q = get_or_append_left rows (row ∷ []) no_row j (omega (arith, before.count))
+
+    pub first_wide : i ≤ height qp.g → ¬ LawRowFits qp law i → IsFirstWideRow qp i law
+    first_wide h n = record { from_one = from_one; to_last = h; before = before.fits; here = n }
+
+  module _ (k : ℕ) (all : k ≡ height qp.g) (rows : List RowInt) (first : AreFirstRows qp law k rows) where
+    pub first_all : AreLawRows qp law rows
+    first_all = record { one_each = first.count ∙ all; each = λ j h. first.each j (omega arith) }
+
+    pub first_sizes : AreOfSize (length qp.counts) rows
+    first_sizes = record { each = All-from_get_or (IsOfSize (length qp.counts)) rows no_row (λ j h. first.sizes j (omega (arith, first.count))) }
+
+    pub first_fit : LawRowsFit qp law (height qp.g)
+    first_fit = subst (LawRowsFit qp law) all first.fits

@@ -1,0 +1,13 @@
+pub mod RowWriting
+pub mod Members
+pub mod Endings
+pub mod Kernels
+pub mod Products
+pub mod LawTheorem
+pub mod LawForms
+pub mod LawEnds
+pub mod Wholes
+pub mod SystemRows
+pub mod LawRowLists
+pub mod Decisions
+pub mod SmallPrograms

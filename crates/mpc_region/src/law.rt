@@ -1,0 +1,61 @@
+//! The law of an active set.
+
+ghost use Rattle.std.specs.Prelude.{◌≡◌, ◌+◌, ◌≤◌, IfOk, length};
+ghost use Rattle.mpc_space.specs.Definite.{IsDefinite};
+ghost use Rattle.mpc_space.specs.Matrix.{height};
+ghost use Rattle.mpc_sets.specs.RowSet.{IsSetOfRows};
+ghost use Rattle.mpc_linear.specs.Solution.{IsOnlySolution};
+ghost use Rattle.mpc_rows.specs.Laws.{IsLaw};
+ghost use Rattle.mpc_rows.specs.SetRuns.{law_matrix, law_right};
+ghost use Rattle.mpc_region.specs.LawEnd.{IsLawEnd};
+
+use crate::matrices::{law_matrix, law_right, part};
+use mpc_frac::NoMemory;
+use mpc_linear::{LinearError, Matrix, Solved, solve};
+use mpc_rows::{Law, Qp};
+use mpc_sets::ActiveSet;
+use std::alloc::Global;
+
+/// What is found of the law of an active set.
+#[derive(Drop)]
+pub enum LawEnd {
+    /// The set's rows are dependent.
+    Dependent,
+    /// The elimination forms a number that needs more than 128 bits.
+    Wide,
+    /// The law.
+    Found(Law),
+}
+
+/// The law whose forms are the rows of x.
+fn law_from(alloc: Global, qp: &Qp, set: ActiveSet, x: &Matrix) -> Result<Law, NoMemory>
+    requires set_of_rows { IsSetOfRows (height qp.now.g) set }
+    requires few { length set ≤ height qp.now.h }
+    requires solution { IsOnlySolution (law_matrix qp.now set) (law_right qp.now set) x.now }
+    ensures set { IfOk result (λ law. law.set ≡ set) }
+    ensures law { IfOk result (λ law. IsLaw qp.now law) }
+{
+    let unknowns = qp.h.rows();
+    Ok(Law {
+        set,
+        moves: part(alloc, x, 0, unknowns)?,
+        mults: part(alloc, x, unknowns, set.size())?,
+    })
+}
+
+/// The law of an active set, by elimination of its equations.
+pub fn law_of(alloc: Global, qp: &Qp, set: ActiveSet) -> Result<LawEnd, NoMemory>
+    requires definite { IsDefinite qp.now.h.rows }
+    requires set_of_rows { IsSetOfRows (height qp.now.g) set }
+    requires few { length set ≤ height qp.now.h }
+    ensures { IfOk result (IsLawEnd qp.now set) }
+{
+    let matrix = law_matrix(alloc, qp, set)?;
+    let right = law_right(alloc, qp, set)?;
+    match solve(alloc, &matrix, &right) {
+        Ok(Solved::Unique(x)) => Ok(LawEnd::Found(law_from(alloc, qp, set, &x)?)),
+        Ok(Solved::Dependent(_)) => Ok(LawEnd::Dependent),
+        Err(LinearError::Wide(_)) => Ok(LawEnd::Wide),
+        Err(LinearError::NoMemory) => Err(NoMemory),
+    }
+}
