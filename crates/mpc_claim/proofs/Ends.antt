@@ -1,0 +1,150 @@
+-- How a level ends.
+use Rattle.std.proofs.Common.{◌≡◌, ℕ, zero, suc, ◌+◌, ◌-◌, ◌<◌, ◌≤◌, ◌⊎◌, List, [], ◌∷◌, true, false, length, get_or, take, drop, Contains, Some, slice_get, refl, sym, ap, ◌∙◌, subst, inl, inr, arith, eqb}
+use Rattle.std.proofs.Math.Seq.{take-length}
+use Rattle.std.proofs.lemmas.Bool.{cases_lt}
+use Rattle.std.proofs.lemmas.List.{length-drop}
+use Rattle.std.proofs.lemmas.List.Sums.{sum_by-append}
+use Rattle.std.proofs.lemmas.Option.{slice_get_within, get_or_from_slice_get}
+use Rattle.mpc_sets.specs.SetOrder.{IsBefore}
+use Rattle.mpc_rows.specs.declared.verdicts.Verdict.{Verdict}
+use Rattle.mpc_rows.specs.Verdicts.{IsRight}
+use Rattle.mpc_claim.specs.declared.candidates.Slot.{Slot}
+use Rattle.mpc_claim.specs.declared.candidates.Slot.TheVariants.{Waiting, Claimed, Done, Dropped}
+use Rattle.mpc_claim.specs.Answers.{IsFirstBad, IsIdle}
+use Rattle.mpc_claim.proofs.Lists.{set_at, length-sets_of, place_of, contains_at, contains_in_front, number_in_front, place_before, before_size}
+use Rattle.mpc_claim.proofs.Histories.{claim_event}
+use Rattle.mpc_claim.proofs.NextLevels.{all_claimed}
+use Rattle.mpc_rows.specs.declared.programs.Qp.{Qp}
+use Rattle.mpc_claim.specs.declared.events.Event.{Event}
+use Rattle.mpc_claim.specs.declared.events.Phase.TheVariants.{Working, Stopped}
+use Rattle.mpc_claim.specs.declared.candidates.Candidate.{Candidate}
+use Rattle.mpc_claim.specs.Board.{at, sets_of, is_wide}
+use Rattle.mpc_claim.specs.History.{claimed_sets, ended_sets, has_drop, EndsWide}
+use Rattle.mpc_claim.specs.Books.{is_done, is_bad, IsQuiet, open_in, open_count, IsBegun, IsLineup, HasSlots, HasBad, IsKept}
+use Rattle.mpc_claim.specs.Levels.{IsFirstBadPlace, HoldsCandidates}
+use Rattle.mpc_claim.proofs.Sound.{shown_wide}
+use Rattle.mpc_claim.proofs.NextCandidates.{size_of_candidate, IsCandidate-of, candidate_few}
+
+pub whole_rest : (cs : List Candidate) (n : ℕ) → take (length cs - n) (drop n cs) ≡ drop n cs
+whole_rest cs n = ap (λ m. take m (drop n cs)) (sym (length-drop n cs)) ∙ take-length (drop n cs)
+
+pub nil_of : {X : Type 0} (xs : List X) → length xs ≡ 0 → xs ≡ []
+nil_of [] e = refl
+nil_of (x ∷ xs) e = absurd (omega arith)
+
+pub positive : (n : ℕ) → eqb n 0 ≡ false → 0 < n
+positive zero e = absurd (cc)
+positive (suc n) e = omega arith
+
+-- the number of unknowns bounds the size of a level that has sets
+pub small_size : (qp : Qp) (k : ℕ) (sets : List (List ℕ)) → HoldsCandidates qp (suc k) sets → 0 < length sets → k + 1 ≤ 6
+small_size qp k [] h p = absurd (omega arith)
+small_size qp k (s ∷ sets) h p =
+    let c = h.are s (0, omega arith, refl) in
+    let long = size_of_candidate (suc k) qp s c in
+    let few = candidate_few qp s (IsCandidate-of (suc k) qp s c) in
+    let most = qp.is_program.few_unknowns in
+    omega arith
+
+bad_books : (cs : List Candidate) (h : List Event) (settled place : ℕ) → has_drop h ≡ false → ((i : ℕ) → i < length cs → is_done (at cs i).slot ≡ true) → IsFirstBadPlace cs settled place → HasBad cs h
+bad_books cs h settled place no_drop done b = record { no_drop = no_drop; done = done; place = place; in_range = b.in_range; bad = b.bad }
+
+pub kept_stopped : (qp : Qp) (cs : List Candidate) (settled n pending size : ℕ) (h : List Event) (capacity place : ℕ) → IsKept qp cs settled n pending size Working h capacity → ((i : ℕ) → i < length cs → is_done (at cs i).slot ≡ true) → IsFirstBadPlace cs settled place → IsKept qp cs settled n pending size Stopped h capacity
+kept_stopped qp cs settled n pending size h capacity place k done b = record {
+  definite = k.definite;
+  legal = k.legal;
+  lineup = k.lineup;
+  slots = k.slots;
+  phase_fits = inr (bad_books cs h settled place k.phase_fits done b);
+  room = k.room;
+}
+
+pub ends_wide : (qp : Qp) (cs : List Candidate) (settled n pending size : ℕ) (h : List Event) (capacity place : ℕ) → IsKept qp cs settled n pending size Working h capacity → ((i : ℕ) → i < length cs → is_done (at cs i).slot ≡ true) → IsFirstBadPlace cs settled place → EndsWide qp h
+ends_wide qp cs settled n pending size h capacity place k done b = shown_wide qp cs settled n pending size h k.lineup k.slots (bad_books cs h settled place k.phase_fits done b)
+
+pub all_quiet : (qp : Qp) (cs : List Candidate) (settled n pending : ℕ) (h : List Event) → HasSlots qp cs settled n pending h → ((i : ℕ) → i < length cs → is_done (at cs i).slot ≡ true) → ((i : ℕ) → settled ≤ i → i < length cs → is_bad (at cs i).slot ≡ false) → (i : ℕ) → i < length cs → IsQuiet (at cs i).slot
+all_quiet qp cs settled n pending h k done none i p = elim (cases_lt i settled) [
+  | inl l ↦ k.quiet i l
+  | inr m ↦ record { done = done i p; not_bad = none i m p }
+]
+
+-- ---- the first wide verdict
+verdict_by : (qp : Qp) (h : List Event) (i : ℕ) (s : List ℕ) (slot : Slot) → is_done slot ≡ true → is_bad slot ≡ false → IsBegun qp h i s slot → (other : Verdict) × IsRight qp s other × (is_wide other ≡ false)
+verdict_by qp h i s Waiting d q b = absurd b
+verdict_by qp h i s (Claimed number) d q b = absurd (cc)
+verdict_by qp h i s (Done v) d q b = (v, b.0, q)
+verdict_by qp h i s Dropped d q b = absurd (cc)
+
+pub first_bad_shown : (qp : Qp) (cs : List Candidate) (settled n pending size : ℕ) (h : List Event) (place : ℕ) (verdict : Verdict) → IsLineup qp (sets_of cs) settled size → HasSlots qp cs settled n pending h → HasBad cs h → IsFirstBadPlace cs settled place → (at cs place).slot ≡ Done verdict → IsFirstBad qp verdict
+first_bad_shown qp cs settled n pending size h place verdict lineup k b first slot = record {
+  set = (at cs place).set;
+  candidate = lineup.candidates (at cs place).set (contains_at cs place first.in_range);
+  right = (subst (IsBegun qp h place (at cs place).set) slot (k.begun place (all place first.in_range))).0;
+  wide = ap is_bad (sym slot) ∙ first.bad;
+  before = λ t c less.
+      let p = first.in_range in
+      let shorter = before_size t (at cs place).set less in
+      let (i, q, e) = place_of cs t (lineup.complete t c (omega (arith, shorter, long))) in
+      let earlier : i < place = place_before (sets_of cs) i place lineup.in_order (omega (arith, many)) (subst (λ u. IsBefore u (get_or (sets_of cs) place [])) (sym (set_at cs i ∙ e)) (subst (IsBefore t) (sym (set_at cs place)) less)) in
+      subst (λ s. (other : Verdict) × IsRight qp s other × (is_wide other ≡ false)) e
+      (verdict_by qp h i (at cs i).set (at cs i).slot (b.done i q) (good i earlier) (k.begun i (all i q)));
+}
+  where
+    many : length (sets_of cs) ≡ length cs
+    many = length-sets_of cs
+
+    all : (i : ℕ) → i < length cs → i < n
+    all i p = let e = all_claimed qp cs settled n pending h k b.done in omega arith
+
+    long : length (at cs place).set ≡ size
+    long = let p = first.in_range in ap length (sym (set_at cs place)) ∙ lineup.of_size place first.from_on (omega (arith, many))
+
+    good : (i : ℕ) → i < place → is_bad (at cs i).slot ≡ false
+    good i l = elim (cases_lt i settled) [ inl below ↦ (k.quiet i below).not_bad | inr m ↦ first.before i m l ]
+
+-- ---- idle: some slot is claimed
+some_open : (cs : List Candidate) → 0 < open_count cs → (i : ℕ) × (i < length cs) × (open_in (at cs i).slot ≡ 1)
+some_open [] p = absurd (omega arith)
+some_open (c ∷ cs) p =
+    let parts = sum_by-append (λ (d : Candidate). open_in d.slot) (c ∷ []) cs in
+    go c.slot refl (λ q. later (some_open cs q)) (omega (arith, parts))
+  where
+    later : (i : ℕ) × (i < length cs) × (open_in (at cs i).slot ≡ 1) → (i : ℕ) × (i < length (c ∷ cs)) × (open_in (at (c ∷ cs) i).slot ≡ 1)
+    later (i, q, e) = (suc i, omega arith, e)
+
+    go : (slot : Slot) → c.slot ≡ slot → (0 < open_count cs → (i : ℕ) × (i < length (c ∷ cs)) × (open_in (at (c ∷ cs) i).slot ≡ 1)) → 0 < open_in slot + open_count cs → (i : ℕ) × (i < length (c ∷ cs)) × (open_in (at (c ∷ cs) i).slot ≡ 1)
+    go Waiting e r q = r (omega arith)
+    go (Claimed number) e r q = (0, omega arith, ap open_in e)
+    go (Done v) e r q = r (omega arith)
+    go Dropped e r q = r (omega arith)
+
+unended_by : (qp : Qp) (h : List Event) (i : ℕ) (s : List ℕ) (slot : Slot) → open_in slot ≡ 1 → IsBegun qp h i s slot → ¬ Contains (ended_sets h) s
+unended_by qp h i s Waiting e b = absurd b
+unended_by qp h i s (Claimed number) e b = b.1
+unended_by qp h i s (Done v) e b = absurd (omega arith)
+unended_by qp h i s Dropped e b = absurd (omega arith)
+
+pub idle : (qp : Qp) (cs : List Candidate) (settled n pending : ℕ) (h : List Event) → HasSlots qp cs settled n pending h → length cs ≤ n → 0 < pending → IsIdle (record { program = qp; candidates = cs; settled = settled; phase = Working; history = h })
+idle qp cs settled n pending h k all some =
+    let count = k.counted in
+    let (i, p, e) = some_open cs (omega arith) in
+    let many = length-sets_of cs in
+    let within = k.within in
+    let listed : slice_get (claimed_sets h) i ≡ Some (at cs i).set = ap (λ u. slice_get u i) k.claimed ∙ number_in_front n (sets_of cs) i (omega arith) (omega (arith, many)) ∙ ap Some (set_at cs i) in
+    let claim = claim_event h (at cs i).set (i, slice_get_within (claimed_sets h) i (at cs i).set listed, get_or_from_slice_get (claimed_sets h) i (at cs i).set (at cs i).set listed) in
+    record {
+      working = refl;
+      all_claimed = λ s c.
+          let (j, q, f) = place_of cs s c in
+          subst (λ u. Contains u s) (sym k.claimed) (subst (Contains (take n (sets_of cs))) (set_at cs j ∙ f) (contains_in_front n (sets_of cs) j (omega arith) (omega (arith, many))));
+      ticket = record { number = i + 1; worker = claim.0; set = (at cs i).set };
+      open_still = record {
+        from_one = omega arith;
+        numbered = (let back : i + 1 - 1 ≡ i = omega arith in ap (slice_get (claimed_sets h)) back ∙ listed);
+        may_end = record { claimed = claim.1; open_still = unended_by qp h i (at cs i).set (at cs i).slot e (k.begun i (omega arith)) };
+      };
+    }
+
+pub only_bad : (cs : List Candidate) (h : List Event) → has_drop h ≡ false → (has_drop h ≡ true) ⊎ HasBad cs h → HasBad cs h
+only_bad cs h none (inl d) = absurd (cc)
+only_bad cs h none (inr b) = b

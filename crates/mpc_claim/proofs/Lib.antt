@@ -1,0 +1,15 @@
+pub mod Lists
+pub mod Histories
+pub mod Growth
+pub mod NextCandidates
+pub mod Slots
+pub mod Steps
+pub mod Sound
+pub mod NextLevels
+pub mod Jobs
+pub mod Ends
+pub mod Table
+pub mod Counts
+pub mod Opens
+pub mod Held
+pub mod Emptied

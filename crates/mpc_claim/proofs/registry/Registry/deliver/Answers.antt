@@ -1,0 +1,22 @@
+use Rattle.std.proofs.Common.{◌<◌, ◌-◌, length, vec_capacity, subst, sym, refl, arith}
+use Rattle.mpc_claim.specs.Board.{Board}
+use Rattle.mpc_claim.specs.History.{IsOpen}
+use Rattle.mpc_rows.specs.Verdicts.{IsRight}
+use Rattle.mpc_claim.proofs.Steps.{kept_deliver, history_room, some_pending}
+use Rattle.mpc_claim.proofs.registry.Registry.deliver.Goals as goal
+
+pub push_reserved-requires : goal.push_reserved-requires
+push_reserved-requires c =
+    let room : length c.self.inside.history.items < vec_capacity c.self.inside.history = history_room _ _ _ _ _ _ _ _ _ c.args.ticket (c.args.ticket.number - 1) refl c.self.invariant (subst (λ (b : Board). IsOpen b.history c.args.ticket) (sym c.self.view_is) c.requires.open_still) in
+    let counted = c.self.inside.history.ok in
+    omega arith
+
+pub overflow_sub-self : goal.overflow_sub-self
+overflow_sub-self c = some_pending _ _ _ _ _ _ _ _ _ c.args.ticket (c.args.ticket.number - 1) refl c.self.invariant (subst (λ (b : Board). IsOpen b.history c.args.ticket) (sym c.self.view_is) c.requires.open_still)
+
+pub invariant_of-self : goal.invariant_of-self
+invariant_of-self c =
+    let right : IsRight c.self.inside.program c.args.ticket.set c.into_verdict-verdict.result =
+    subst (IsRight c.self.inside.program c.args.ticket.set) (sym c.into_verdict-verdict.ensures) (subst (λ (b : Board). IsRight b.program c.args.ticket.set c.args.judged.verdict) (sym c.self.view_is) c.requires.right) in
+    rw (c.push_reserved.ensures.items, c.push_reserved.ensures.capacity, c.tag.ensures)
+    (kept_deliver _ _ _ _ _ _ _ _ _ c.args.ticket (c.args.ticket.number - 1) refl c.self.invariant (subst (λ (b : Board). IsOpen b.history c.args.ticket) (sym c.self.view_is) c.requires.open_still) c.into_verdict-verdict.result right)

@@ -1,0 +1,17 @@
+//! The registry of active sets: a pure machine of claims and deliveries.
+#![tactic(auto)]
+
+mod candidates;
+mod events;
+mod levels;
+mod moves;
+mod registry;
+mod tickets;
+mod worlds;
+
+pub use candidates::{Candidate, Slot};
+pub use events::{Event, EventKind, Phase, Tag};
+pub use moves::{Action, Played};
+pub use registry::Registry;
+pub use tickets::{Claimed, Delivery, Ticket};
+pub use worlds::World;

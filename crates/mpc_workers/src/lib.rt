@@ -1,0 +1,64 @@
+//! Workers that claim the candidates of a program, examine them and deliver their verdicts.
+#![tactic(auto)]
+
+ghost use Rattle.std.specs.Prelude.{◌≡◌, ◌≤◌, IfOk, OnOk, length};
+ghost use Rattle.mpc_space.specs.Definite.{IsDefinite};
+ghost use Rattle.mpc_space.specs.Matrix.{height};
+ghost use Rattle.mpc_sets.specs.RowSet.{IsSetOfRows};
+ghost use Rattle.mpc_claim.specs.History.{IsOpen};
+ghost use Rattle.mpc_workers.specs.Alone.{Delivers, IsDoneAlone};
+
+#[cfg(test)]
+mod tests;
+
+use mpc_claim::{Claimed, Registry, Ticket};
+use mpc_frac::NoMemory;
+use mpc_port::Gate;
+use mpc_region::examine;
+use mpc_rows::Qp;
+use std::alloc::Global;
+
+/// Examines a claimed set, passes the gate and delivers the verdict. Without memory the set is
+/// given up.
+fn take_turn<G: Gate>(
+    alloc: Global,
+    registry: &mut Registry,
+    ticket: Ticket,
+    gate: &G,
+) -> Result<(), NoMemory>
+    requires definite { IsDefinite registry.old.program.h.rows }
+    requires open_still { IsOpen registry.old.history ticket }
+    requires set_of_rows { IsSetOfRows (height registry.old.program.g) ticket.set }
+    requires few { length ticket.set ≤ height registry.old.program.h }
+    ensures { OnOk result (Delivers registry.old ticket registry.new) }
+{
+    let judged = match examine(alloc, registry.program(), ticket.set()) {
+        Ok(judged) => judged,
+        Err(refused) => {
+            let _ = registry.abandon(ticket);
+            return Err(refused);
+        }
+    };
+    gate.between(ticket.worker(), ticket.set().mask());
+    let _ = registry.deliver(ticket, judged);
+    Ok(())
+}
+
+/// Examines the candidates of the program one after the other, as worker number 1.
+///
+/// The registry is finished, or stopped by a wide verdict. The gate is passed between each verdict
+/// and its delivery. Refused memory is the only error.
+pub fn enumerate_alone<G: Gate>(alloc: Global, qp: &Qp, gate: &G) -> Result<Registry, NoMemory>
+    requires { IsDefinite qp.now.h.rows }
+    ensures { IfOk result (λ registry. IsDoneAlone qp.now registry) }
+{
+    let mut registry = Registry::begin(alloc, qp)?;
+    'turns: loop {
+        match registry.claim(1)? {
+            Claimed::Job(ticket) => take_turn(alloc, &mut registry, ticket, gate)?,
+            Claimed::Idle => return Ok(registry),
+            Claimed::Finished => return Ok(registry),
+            Claimed::Stopped => return Ok(registry),
+        }
+    }
+}

@@ -1,0 +1,175 @@
+//! Tests of workers on a program with one unknown and one count.
+
+ghost use Rattle.std.specs.Prelude.{◌≡◌, ◌≤◌, IfOk, IsTrue, length, pos};
+ghost use Rattle.mpc_exact.specs.Rational.{int, lt_ℚ};
+ghost use Rattle.mpc_space.specs.Definite.{IsDefinite};
+ghost use Rattle.mpc_space.specs.Matrix.{height};
+ghost use Rattle.mpc_rows.specs.Program.{IsOfShape};
+
+use crate::enumerate_alone;
+use mpc_claim::{Action, Phase, Played, World};
+use mpc_frac::{Frac, NoMemory};
+use mpc_linear::Matrix;
+use mpc_port::OpenGate;
+use mpc_region::examine;
+use mpc_rows::{Counts, Qp};
+use mpc_sets::ActiveSet;
+use std::alloc::Global;
+use std::process::Abort;
+use std::test::Fail;
+
+/// The matrix of one or two columns with these entries, where one column is the first of the two.
+fn matrix(alloc: Global, cols: u32, rows: &[[i64; 2]]) -> Result<Matrix, NoMemory>
+    requires some { 1 ≤ cols }
+    requires few { cols ≤ 2 }
+    requires few_rows { length rows.now ≤ 2 }
+    ensures { IfOk result (λ m. IsOfShape m (length rows.now) cols) }
+{
+    let mut m = Matrix::zero(alloc, rows.len() as u32, cols)?;
+    for i in 0..rows.len() {
+        let [first, second] = rows[i];
+        m.set(i as u32, cols - 1, Frac::whole(second));
+        m.set(i as u32, 0, Frac::whole(first));
+    }
+    Ok(m)
+}
+
+/// The program with the cost `2 z² + 2 z (f c)` and the rows `g z <= w c`.
+fn program(
+    alloc: Global,
+    f: [i64; 2],
+    count: u64,
+    g: &[[i64; 2]],
+    w: &[[i64; 2]],
+) -> Result<Qp, NoMemory>
+    requires same { length w.now ≡ length g.now }
+    requires few { length g.now ≤ 2 }
+    ensures { IfOk result (λ qp. height qp.g ≡ length g.now) }
+{
+    let mut counts = Counts::new(alloc);
+    counts.push(count)?;
+    Ok(Qp {
+        h: matrix(alloc, 1, [[2, 0]].as_slice())?,
+        f: matrix(alloc, 2, [f].as_slice())?,
+        y: matrix(alloc, 2, [[32, -8], [-8, 2]].as_slice())?,
+        g: matrix(alloc, 1, g)?,
+        w: matrix(alloc, 2, w)?,
+        counts,
+    })
+}
+
+/// The program with the rows `z <= 1` and `-z <= 1`.
+fn limited(alloc: Global) -> Result<Qp, NoMemory> {
+    program(
+        alloc,
+        [-4, 1],
+        8,
+        [[1, 0], [-1, 0]].as_slice(),
+        [[1, 0], [1, 0]].as_slice(),
+    )
+}
+
+fn is_positive(x: &Frac) -> bool
+    ensures { result ≡ lt_ℚ (int (pos 0)) x.now }
+{
+    Frac::whole(0).cmp(x).is_lt()
+}
+
+/// Whether the matrix is one positive number.
+fn is_positive_number(h: &Matrix) -> bool
+    ensures one { IsTrue result → height h.now ≡ 1 }
+    ensures definite { IsTrue result → IsDefinite h.now.rows }
+{
+    if h.rows() != 1 {
+        return false;
+    }
+    if h.cols() != 1 {
+        return false;
+    }
+    is_positive(&h.get(0, 0))
+}
+
+#[test]
+fn alone(rt: HostRuntime) -> Result<(), Fail> {
+    let qp = limited(rt.alloc())?;
+    assert!(rt; is_positive_number(&qp.h));
+    let registry = enumerate_alone(rt.alloc(), &qp, &OpenGate)?;
+    assert!(rt; matches!(registry.phase(), Phase::Finished));
+    assert_eq!(rt; registry.history().len(), 6);
+    let laws = registry.into_laws(rt.alloc())?;
+    assert_eq!(rt; laws.len(), 3);
+    Ok(())
+}
+
+/// A claim by the worker.
+fn claim<R: Abort>(rt: &R, world: &mut World, worker: u32) -> Played
+    requires from_one { 1 ≤ worker }
+    requires to_last { worker ≤ length world.old.hands }
+    ensures { length world.new.hands ≡ length world.old.hands }
+{
+    world.play(worker, Action::Claim).expect(rt, "memory")
+}
+
+/// The worker's delivery of the verdict on the set of this row, for 0 on that without members.
+fn deliver<R: Abort>(rt: &R, alloc: Global, world: &mut World, worker: u32, row: u32) -> Played
+    requires from_one { 1 ≤ worker }
+    requires to_last { worker ≤ length world.old.hands }
+    ensures { length world.new.hands ≡ length world.old.hands }
+{
+    let program = world.registry().program();
+    assert!(rt; row <= program.g.rows());
+    let set = match row {
+        0 => ActiveSet::empty(),
+        _ => ActiveSet::empty().with(row),
+    };
+    let judged = examine(alloc, program, set).expect(rt, "memory");
+    world
+        .play(worker, Action::Deliver(judged))
+        .expect(rt, "memory")
+}
+
+/// Both workers on the program with rows `z <= 1` and `-z <= 1`, up to where worker 1 has
+/// delivered the set of row 2 and worker 2 has that of row 1.
+fn up_to_last<R: Abort>(rt: &R, alloc: Global, qp: &Qp) -> World
+    requires { IsDefinite qp.now.h.rows }
+    ensures { length result.hands ≡ 2 }
+{
+    let mut world = World::begin(alloc, qp, 2).expect(rt, "memory");
+    assert_eq!(rt; claim(rt, &mut world, 1), Played::Got);
+    assert_eq!(rt; claim(rt, &mut world, 2), Played::Idle);
+    assert_eq!(rt; deliver(rt, alloc, &mut world, 1, 0), Played::Delivered);
+    assert_eq!(rt; claim(rt, &mut world, 2), Played::Got);
+    assert_eq!(rt; claim(rt, &mut world, 1), Played::Got);
+    assert_eq!(rt; deliver(rt, alloc, &mut world, 1, 1), Played::Skipped);
+    assert_eq!(rt; deliver(rt, alloc, &mut world, 1, 2), Played::Delivered);
+    assert_eq!(rt; claim(rt, &mut world, 1), Played::Idle);
+    world
+}
+
+#[test]
+fn two_workers(rt: HostRuntime) -> Result<(), Fail> {
+    let qp = limited(rt.alloc())?;
+    assert!(rt; is_positive_number(&qp.h));
+    let mut world = up_to_last(&rt, rt.alloc(), &qp);
+    assert_eq!(rt;
+        deliver(&rt, rt.alloc(), &mut world, 2, 1),
+        Played::Delivered
+    );
+    assert_eq!(rt; claim(&rt, &mut world, 1), Played::Finished);
+    let registry = world.into_registry();
+    assert_eq!(rt; registry.history().len(), 6);
+    Ok(())
+}
+
+#[test]
+fn given_up(rt: HostRuntime) -> Result<(), Fail> {
+    let qp = limited(rt.alloc())?;
+    assert!(rt; is_positive_number(&qp.h));
+    let mut world = up_to_last(&rt, rt.alloc(), &qp);
+    let given_up = world.play(2, Action::Abandon).expect(&rt, "memory");
+    assert_eq!(rt; given_up, Played::Dropped);
+    assert_eq!(rt; claim(&rt, &mut world, 1), Played::Stopped);
+    let registry = world.into_registry();
+    assert!(rt; registry.first_bad().is_none());
+    Ok(())
+}
