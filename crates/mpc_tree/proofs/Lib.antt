@@ -1,0 +1,16 @@
+pub mod CellPoints
+pub mod SystemRows
+pub mod CertLists
+pub mod NodeLemmas
+pub mod Placing
+pub mod TreeLemmas
+pub mod Growing
+pub mod Dividing
+pub mod Ending
+pub mod BorderLists
+pub mod Built
+pub mod OneCell
+pub mod WideCells
+pub mod OneLeaf
+pub mod OneTree
+pub mod TableSizes

@@ -1,0 +1,6 @@
+use Rattle.std.proofs.Common.{◌≡◌, take}
+use Rattle.mpc_tree.specs.LeafCerts.{nonzero_from}
+use Rattle.mpc_tree.proofs.certs.cert_of.Given as goal
+
+abbrev pub invariant-loop-i : goal.invariant-loop-i
+invariant-loop-i l = l.cert ≡ nonzero_from 1 (take l.i l.multipliers)

@@ -1,0 +1,97 @@
+-- What the search finds at one node.
+use Rattle.std.specs.Prelude.{◌≡◌, ℕ, ◌+◌, List, length, Option, Some, None, slice_get, Contains}
+use Rattle.mpc_exact.specs.Rational.{ℚ}
+use Rattle.mpc_linear.specs.declared.integers.RowInt.{RowInt}
+use Rattle.mpc_rows.specs.declared.programs.Qp.{Qp}
+use Rattle.mpc_rows.specs.declared.laws.Law.{Law}
+use Rattle.mpc_rows.specs.declared.systems.Row.{Row}
+use Rattle.mpc_rows.specs.declared.trees.Node.{Node}
+use Rattle.mpc_rows.specs.declared.places.Place.{Place}
+use Rattle.mpc_rows.specs.declared.places.Place.TheVariants.{State, Cost, Row as ProgramRow, Pivot, Law as LawRun, Reach, Border, Region, Meet, Holds as HoldRun, Joint, LawBound, NodeBound, CheckLaw, CheckLeaf}
+use Rattle.mpc_rows.specs.ActiveSets.{IsFeasible}
+use Rattle.mpc_rows.specs.Laws.{IsInRegion}
+use Rattle.mpc_tree.specs.declared.nodes.Held.{Held}
+use Rattle.mpc_tree.specs.declared.nodes.Held.TheVariants.{Fails, Holds}
+use Rattle.mpc_tree.specs.declared.nodes.Placed.{Placed}
+use Rattle.mpc_tree.specs.declared.nodes.Placed.TheVariants.{Split, Leaf}
+use Rattle.mpc_tree.specs.Cells.{NoneMeetsBefore, IsFirstToMeet, FailsOn, NoneFailsBefore}
+use Rattle.mpc_tree.specs.LeafCerts.{AreCertsOf, HasItsCerts}
+use Rattle.mpc_tree.specs.NodeRuns.{MeetsFit, HoldsFit, DividesAndFits, EndsAndFits}
+use Rattle.mpc_tree.specs.Trees.{Cell, IsTreeWhere}
+use Rattle.mpc_tree.specs.WideRuns.{IsWideHold}
+
+-- each state with admissible unknowns lies in the region of one of the laws
+pub record RegionsCover (qp : Qp) (laws : List Law) : Type 0 where
+  pub covers : (t z : List ℚ) → IsFeasible qp t z → (law : Law) × Contains laws law × IsInRegion qp law t
+
+-- the first law whose region meets the cell, and the runs that find it fit
+pub record IsMeeting (qp : Qp) (laws : List Law) (cell : Cell) (place : ℕ) : Type 0 where
+  pub law : Law
+  pub first : IsFirstToMeet qp laws cell.rows place law
+  pub fits : MeetsFit qp laws cell (place + 1)
+
+pub record IsNoMeeting (qp : Qp) (laws : List Law) (cell : Cell) : Type 0 where
+  pub none : NoneMeetsBefore qp laws cell.rows (length laws)
+  pub fits : MeetsFit qp laws cell (length laws)
+
+abbrev pub IsFirstMeeting : Qp → List Law → Cell → Option ℕ → Type 0
+IsFirstMeeting qp laws cell None = IsNoMeeting qp laws cell
+IsFirstMeeting qp laws cell (Some place) = IsMeeting qp laws cell place
+
+-- the first of the rows that fails on the cell
+pub record IsFailing (qp : Qp) (cell : List Row) (rows : List RowInt) (place : ℕ) : Type 0 where
+  pub row : RowInt
+  pub is : slice_get rows place ≡ Some row
+  pub fails : FailsOn qp cell row
+  pub before : NoneFailsBefore qp rows cell place
+  pub fits : HoldsFit qp cell rows (place + 1)
+
+-- no row fails, as the certificates show
+pub record AllHold (qp : Qp) (cell : List Row) (rows : List RowInt) (certs : List (List (ℕ × ℚ))) : Type 0 where
+  pub none : NoneFailsBefore qp rows cell (length rows)
+  pub certs_are : AreCertsOf qp cell rows (length rows) certs
+  pub fits : HoldsFit qp cell rows (length rows)
+
+abbrev pub IsHeld : Qp → List Row → List RowInt → Held → Type 0
+IsHeld qp cell rows (Fails place) = IsFailing qp cell rows place
+IsHeld qp cell rows (Holds certs) = AllHold qp cell rows certs
+
+-- the place names the first of the rows of this law whose run is too wide
+abbrev pub NamesWideRow : Qp → List Row → List RowInt → ℕ → ℕ → Place → Type 0
+NamesWideRow qp cell rows number law (State k) = ⊥
+NamesWideRow qp cell rows number law (Cost k) = ⊥
+NamesWideRow qp cell rows number law (ProgramRow i) = ⊥
+NamesWideRow qp cell rows number law (Pivot j) = ⊥
+NamesWideRow qp cell rows number law (LawRun set) = ⊥
+NamesWideRow qp cell rows number law (Reach set) = ⊥
+NamesWideRow qp cell rows number law (Border set i) = ⊥
+NamesWideRow qp cell rows number law (Region set) = ⊥
+NamesWideRow qp cell rows number law (Meet node other) = ⊥
+NamesWideRow qp cell rows number law (HoldRun node other i) = (node ≡ number) × (other ≡ law) × IsWideHold qp cell rows i
+NamesWideRow qp cell rows number law (Joint node) = ⊥
+NamesWideRow qp cell rows number law (LawBound other input) = ⊥
+NamesWideRow qp cell rows number law (NodeBound node) = ⊥
+NamesWideRow qp cell rows number law (CheckLaw other) = ⊥
+NamesWideRow qp cell rows number law (CheckLeaf node i) = ⊥
+
+-- what stands at the node of the cell
+pub record IsSplitAt (qp : Qp) (laws : List Law) (borders : List (List RowInt)) (cell : Cell) (place row_place : ℕ) : Type 0 where
+  pub rows : List RowInt
+  pub is_border : slice_get borders place ≡ Some rows
+  pub row : RowInt
+  pub is_row : slice_get rows row_place ≡ Some row
+  pub fails : FailsOn qp cell.rows row
+  pub before : NoneFailsBefore qp rows cell.rows row_place
+  pub divides : DividesAndFits qp laws cell place row
+
+pub record IsLeafAt (qp : Qp) (laws : List Law) (cell : Cell) (node : Node) : Type 0 where
+  pub ends : EndsAndFits qp laws cell node
+  pub certs : HasItsCerts qp laws cell node
+
+abbrev pub IsPlaced : Qp → List Law → List (List RowInt) → Cell → Placed → Type 0
+IsPlaced qp laws borders cell (Split place row) = IsSplitAt qp laws borders cell place row
+IsPlaced qp laws borders cell (Leaf node) = IsLeafAt qp laws cell node
+
+-- the tree of the cell, whose leaves have their certificates and whose runs all fit
+abbrev pub IsBuilt : Qp → List Law → Cell → List Node → Type 0
+IsBuilt qp laws cell nodes = IsTreeWhere (DividesAndFits qp laws) (IsLeafAt qp laws) cell nodes

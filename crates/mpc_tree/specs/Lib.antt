@@ -1,0 +1,10 @@
+pub mod Cells
+pub mod Trees
+pub mod Systems
+pub mod LeafCerts
+pub mod NodeRuns
+pub mod WideRuns
+pub mod Borders
+pub mod Growth
+pub mod Causes
+pub mod Certified

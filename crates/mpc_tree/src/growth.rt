@@ -1,0 +1,123 @@
+//! The growth of the tree, node by node in preorder.
+
+ghost use Rattle.std.specs.Prelude.{◌≡◌, ◌+◌, ◌<◌, ◌≤◌, ◌^◌, ◌++◌, ◌∷◌, [], IfOk, IfErr, OnOk, length, take, unsigned_abs};
+ghost use Rattle.mpc_linear.specs.Whole.{AreSmall};
+ghost use Rattle.mpc_rows.specs.LawRows.{whole_row, broken_row};
+ghost use Rattle.mpc_tree.specs.Borders.{AreBorders};
+ghost use Rattle.mpc_tree.specs.Causes.{IfWide};
+ghost use Rattle.mpc_tree.specs.Growth.{RegionsCover, IsBuilt};
+ghost use Rattle.mpc_tree.specs.Trees.{whole_box};
+ghost use Rattle.mpc_tree.specs.WideRuns.{IsFirstWide};
+
+use crate::borders::Border;
+use crate::errors::TreeError;
+use crate::nodes::{Placed, place_node};
+use crate::systems::broken_row;
+use mpc_frac::NoMemory;
+use mpc_linear::{Ints, RowInt};
+use mpc_region::fraction_row;
+use mpc_rows::{LawTable, Node, Qp, Row, Tree};
+use std::alloc::Global;
+
+/// The no side of a split whose yes side comes first: how many rows its cell shares with the split's,
+/// its last row, and the place of the law with which its search goes on.
+#[derive(Drop)]
+pub struct OpenSide {
+    pub shared: usize,
+    pub row: Row,
+    pub next: usize,
+}
+
+/// A copy of the row.
+fn copied(alloc: Global, row: &RowInt) -> Result<RowInt, NoMemory>
+    ensures { IfOk result (λ r. r ≡ row.now) }
+{
+    let mut a = Ints::new(alloc);
+    for z in row.a.as_slice() {
+        a.push(*z)?;
+    }
+    Ok(RowInt { a, b: row.b })
+}
+
+/// Puts a split behind the nodes, its no side on the stack, and its row behind the cell's.
+fn open_split(
+    alloc: Global,
+    tree: &mut Tree,
+    cell: &mut Vec<Row>,
+    open: &mut Vec<OpenSide>,
+    row: &RowInt,
+    place: usize,
+) -> Result<(), NoMemory>
+    requires small { AreSmall row.now.a }
+    requires b_small { unsigned_abs row.now.b < 2 ^ 127 }
+    requires room { place < 2 ^ 32 }
+    ensures tree { OnOk result (tree.new ≡ tree.old ++ Node.Split row.now ∷ []) }
+    ensures cell { OnOk result (cell.new.items ≡ cell.old.items ++ whole_row row.now ∷ []) }
+    ensures open { OnOk result (open.new.items ≡ open.old.items ++ record { shared = length cell.old.items; row = broken_row row.now; next = place + 1 } ∷ []) }
+{
+    let side = OpenSide {
+        shared: cell.len(),
+        row: broken_row(alloc, row)?,
+        next: place + 1,
+    };
+    if open.push(side).is_err() {
+        return Err(NoMemory);
+    }
+    if cell.push(fraction_row(alloc, row)?).is_err() {
+        return Err(NoMemory);
+    }
+    tree.push(Node::Split(copied(alloc, row)?))
+}
+
+/// Makes the cell that of the side, and answers with the place of the law with which its search
+/// goes on.
+fn enter(cell: &mut Vec<Row>, side: OpenSide) -> Result<usize, NoMemory>
+    requires { side.shared ≤ length cell.old.items }
+    ensures cell { OnOk result (cell.new.items ≡ take side.shared cell.old.items ++ side.row ∷ []) }
+    ensures next { IfOk result (λ next. next ≡ side.next) }
+{
+    let OpenSide { shared, row, next } = side;
+    cell.truncate(shared);
+    if cell.push(row).is_err() {
+        return Err(NoMemory);
+    }
+    Ok(next)
+}
+
+/// The tree, node by node in preorder; the no sides that are still to come lie on a stack.
+///
+/// `held` counts rows of the next law that hold on the cell since the search was split by them: the
+/// next split is by a later one, so the search ends.
+pub fn grown(alloc: Global, qp: &Qp, laws: &LawTable, borders: &[Border]) -> Result<Tree, TreeError>
+    requires few { length laws.now < 2 ^ 32 }
+    requires borders { AreBorders qp.now laws.now borders.now }
+    requires cover { RegionsCover qp.now laws.now }
+    ensures built { IfOk result (λ nodes. IsBuilt qp.now laws.now whole_box nodes) }
+    ensures wide { IfErr result (λ e. IfWide e (IsFirstWide qp.now laws.now whole_box 1)) }
+{
+    let mut tree = Tree::new(alloc);
+    let mut cell = Vec::new(alloc);
+    let mut open = Vec::new(alloc);
+    let mut next = 0;
+    let mut held = 0;
+    'nodes: loop {
+        let node = tree.len() as u64 + 1;
+        match place_node(alloc, qp, laws, borders, &cell, next, node) {
+            Ok(Placed::Split { place, row }) => {
+                let rows = borders[place].as_slice();
+                open_split(alloc, &mut tree, &mut cell, &mut open, &rows[row], place)?;
+                next = place;
+                held = row + 1;
+            }
+            Ok(Placed::Leaf(leaf)) => {
+                tree.push(leaf)?;
+                match open.pop() {
+                    Some(side) => next = enter(&mut cell, side)?,
+                    None => return Ok(tree),
+                }
+                held = 0;
+            }
+            Err(error) => return Err(error),
+        }
+    }
+}

@@ -1,0 +1,191 @@
+//! What stands at one node of the tree.
+
+ghost use Rattle.std.specs.Prelude.{◌≡◌, ◌+◌, ◌<◌, ◌≤◌, ◌^◌, ◌↔◌, Some, All, IsTrue, IfOk, IfErr, MatchOption, MatchResult, length, slice_get};
+ghost use Rattle.mpc_rows.specs.LawRows.{AreLawRows};
+ghost use Rattle.mpc_rows.specs.RunWidth.{RunFits};
+ghost use Rattle.mpc_simplex.specs.Answer.{HasPoint, IfWide as IfRunWide};
+ghost use Rattle.mpc_region.specs.Writing.{IsOfSize, AreOfSize};
+ghost use Rattle.mpc_tree.specs.Borders.{HasBoxWidth, AreBorders};
+ghost use Rattle.mpc_tree.specs.Causes.{IfWide};
+ghost use Rattle.mpc_tree.specs.Cells.{NoneMeetsBefore, FailsOn};
+ghost use Rattle.mpc_tree.specs.Growth.{RegionsCover, IsFirstMeeting, IsHeld, NamesWideRow, IsPlaced};
+ghost use Rattle.mpc_tree.specs.LeafCerts.{IsCertOf};
+ghost use Rattle.mpc_tree.specs.Systems.{meet_system, hold_system, joint_system};
+ghost use Rattle.mpc_tree.specs.WideRuns.{IsWideAt};
+
+use crate::borders::Border;
+use crate::certs::refutation;
+use crate::errors::TreeError;
+use crate::systems::{hold_system, joint_system, meet_system};
+use mpc_frac::NoMemory;
+use mpc_linear::RowInt;
+use mpc_region::has_point;
+use mpc_rows::{Cert, Certs, LawTable, Node, Place, Qp, Row};
+use mpc_simplex::SimplexError;
+use std::alloc::Global;
+
+/// Whether the rows of a law hold on a cell.
+#[derive(Drop)]
+pub enum Held {
+    /// The row at this place, from 0, is the first that fails at a state of the cell.
+    Fails(usize),
+    /// All rows hold, as these certificates show.
+    Holds(Certs),
+}
+
+/// What stands at a node.
+#[derive(Drop)]
+pub enum Placed {
+    /// A split by a row of a law, both at their places, from 0.
+    Split { place: usize, row: usize },
+    /// A leaf.
+    Leaf(Node),
+}
+
+/// Whether the region with these rows meets the cell.
+fn region_meets(alloc: Global, qp: &Qp, cell: &[Row], rows: &[RowInt]) -> Result<bool, SimplexError>
+    requires cell { HasBoxWidth qp.now cell.now }
+    requires plain { AreOfSize (length qp.now.counts) rows.now }
+    ensures answer { IfOk result (λ yes. IsTrue yes ↔ HasPoint (meet_system qp.now cell.now rows.now)) }
+    ensures wide { MatchResult result (λ _. RunFits (meet_system qp.now cell.now rows.now))
+        (λ e. IfRunWide e (¬ RunFits (meet_system qp.now cell.now rows.now))) }
+{
+    let Ok(system) = meet_system(alloc, qp, cell, rows) else {
+        return Err(SimplexError::NoMemory);
+    };
+    has_point(alloc, &system)
+}
+
+/// The certificate that the row holds on the cell; nothing where it fails at a state of the cell.
+fn hold_cert(
+    alloc: Global,
+    qp: &Qp,
+    cell: &[Row],
+    row: &RowInt,
+) -> Result<Option<Cert>, SimplexError>
+    requires cell { HasBoxWidth qp.now cell.now }
+    requires plain { IsOfSize (length qp.now.counts) row.now }
+    ensures answer { IfOk result
+        (λ o. MatchOption o (FailsOn qp.now cell.now row.now) (λ cert. IsCertOf (hold_system qp.now cell.now row.now) cert)) }
+    ensures holds { IfOk result
+        (λ o. MatchOption o (FailsOn qp.now cell.now row.now) (λ _. ¬ FailsOn qp.now cell.now row.now)) }
+    ensures wide { MatchResult result (λ _. RunFits (hold_system qp.now cell.now row.now))
+        (λ e. IfRunWide e (¬ RunFits (hold_system qp.now cell.now row.now))) }
+{
+    let Ok(system) = hold_system(alloc, qp, cell, row) else {
+        return Err(SimplexError::NoMemory);
+    };
+    refutation(alloc, &system)
+}
+
+/// The place of the first law, from the next one on, whose region meets the cell of the node.
+fn first_meeting(
+    alloc: Global,
+    qp: &Qp,
+    laws: &LawTable,
+    borders: &[Border],
+    cell: &[Row],
+    next: usize,
+    node: u64,
+) -> Result<Option<usize>, TreeError>
+    requires few { length laws.now < 2 ^ 32 }
+    requires borders { AreBorders qp.now laws.now borders.now }
+    requires cell { HasBoxWidth qp.now cell.now }
+    requires before { NoneMeetsBefore qp.now laws.now cell.now next }
+    ensures first { IfOk result (λ o. IsFirstMeeting qp.now laws.now (record { rows = cell.now; next = next }) o) }
+    ensures below { IfOk result (λ o. MatchOption o (next ≡ next) (λ place. (next ≤ place) × (place < length laws.now))) }
+    ensures wide { IfErr result (λ e. IfWide e (IsWideAt qp.now laws.now (record { rows = cell.now; next = next }) node)) }
+{
+    for place in next..laws.len() {
+        match region_meets(alloc, qp, cell, borders[place].as_slice()) {
+            Ok(true) => return Ok(Some(place)),
+            Ok(false) => {}
+            Err(SimplexError::Wide) => {
+                return Err(TreeError::Wide(Place::Meet(node, place as u32 + 1)));
+            }
+            Err(SimplexError::NoMemory) => return Err(TreeError::NoMemory),
+        }
+    }
+    Ok(None)
+}
+
+/// Whether the rows of the law with this number hold on the cell of the node, with the
+/// certificates or the first row that fails.
+fn first_failing(
+    alloc: Global,
+    qp: &Qp,
+    rows: &[RowInt],
+    cell: &[Row],
+    node: u64,
+    law: u32,
+) -> Result<Held, TreeError>
+    requires few { length rows.now < 2 ^ 32 }
+    requires plain { AreOfSize (length qp.now.counts) rows.now }
+    requires cell { HasBoxWidth qp.now cell.now }
+    ensures held { IfOk result (λ h. IsHeld qp.now cell.now rows.now h) }
+    ensures wide { IfErr result (λ e. IfWide e (NamesWideRow qp.now cell.now rows.now node law)) }
+{
+    let mut certs = Certs::new(alloc);
+    for place in 0..rows.len() {
+        match hold_cert(alloc, qp, cell, &rows[place]) {
+            Ok(Some(cert)) => certs.push(cert)?,
+            Ok(None) => return Ok(Held::Fails(place)),
+            Err(SimplexError::Wide) => {
+                return Err(TreeError::Wide(Place::Holds(node, law, place as u32 + 1)));
+            }
+            Err(SimplexError::NoMemory) => return Err(TreeError::NoMemory),
+        }
+    }
+    Ok(Held::Holds(certs))
+}
+
+/// The certificate that no state of the cell has admissible unknowns.
+fn joint_cert(alloc: Global, qp: &Qp, cell: &[Row], node: u64) -> Result<Cert, TreeError>
+    requires cell { HasBoxWidth qp.now cell.now }
+    requires no_point { ¬ HasPoint (joint_system qp.now cell.now) }
+    ensures cert { IfOk result (λ cert. IsCertOf (joint_system qp.now cell.now) cert) }
+    ensures fits { IfOk result (λ _. RunFits (joint_system qp.now cell.now)) }
+    ensures wide { IfErr result (λ e. IfWide e (λ place. (place ≡ Place.Joint node) × (¬ RunFits (joint_system qp.now cell.now)))) }
+{
+    let system = joint_system(alloc, qp, cell)?;
+    match refutation(alloc, &system) {
+        Ok(Some(cert)) => Ok(cert),
+        Ok(None) => unreachable!(),
+        Err(SimplexError::Wide) => Err(TreeError::Wide(Place::Joint(node))),
+        Err(SimplexError::NoMemory) => Err(TreeError::NoMemory),
+    }
+}
+
+/// What stands at the node of the cell.
+pub fn place_node(
+    alloc: Global,
+    qp: &Qp,
+    laws: &LawTable,
+    borders: &[Border],
+    cell: &[Row],
+    next: usize,
+    node: u64,
+) -> Result<Placed, TreeError>
+    requires few { length laws.now < 2 ^ 32 }
+    requires borders { AreBorders qp.now laws.now borders.now }
+    requires cell { HasBoxWidth qp.now cell.now }
+    requires cover { RegionsCover qp.now laws.now }
+    requires before { NoneMeetsBefore qp.now laws.now cell.now next }
+    ensures placed { IfOk result (λ p. IsPlaced qp.now laws.now borders.now (record { rows = cell.now; next = next }) p) }
+    ensures wide { IfErr result (λ e. IfWide e (IsWideAt qp.now laws.now (record { rows = cell.now; next = next }) node)) }
+{
+    match first_meeting(alloc, qp, laws, borders, cell, next, node)? {
+        None => {
+            let cert = joint_cert(alloc, qp, cell, node)?;
+            Ok(Placed::Leaf(Node::NoMove { cert }))
+        }
+        Some(place) => {
+            let law = place as u32 + 1;
+            match first_failing(alloc, qp, borders[place].as_slice(), cell, node, law) {
+                Ok(Held::Fails(row)) => Ok(Placed::Split { place, row }),
+                Ok(Held::Holds(certs)) => Ok(Placed::Leaf(Node::Law { law, certs })),
+                Err(error) => Err(error),
+            }
+        }
+    }
+}
