@@ -11,7 +11,8 @@ use Rattle.mpc_plant.specs.declared.lists.PlantRow.{PlantRow}
 use Rattle.mpc_plant.specs.declared.plants.Plant.{Plant}
 use Rattle.mpc_plant.specs.Trajectory.{IsSequence, IsAdmissible, state_at, move_at}
 use Rattle.mpc_rows.specs.declared.programs.Qp.{Qp}
-use Rattle.mpc_condense.specs.Condensed.{extended, stacked, stage_row, terminal_row, HasRoom, IsCondensed}
+use Rattle.mpc_condense.specs.Condensed.{stacked, stage_row, terminal_row, HasRoom, IsCondensed}
+use Rattle.mpc_rows.specs.ActiveSets.{extended}
 use Rattle.mpc_condense.proofs.RowLemmas.{stage_within, terminal_within}
 
 -- the rows of the program hold
@@ -25,7 +26,7 @@ room_of_holds : (g w m s : ℚ) → w -ℚ g ≡ m -ℚ s → s ≤ℚ m → g �
 room_of_holds g w m s e h = linear_le (g ∷ w ∷ m ∷ s ∷ []) (eq e (le h none)) (search claims depth 40) tt
 
 -- a number below n m is k m + r with k below n and r below m
-quotient_below : (i n m : ℕ) → i < n * m → 0 < m → (i / m < n) × ((i / m) * m + i % m ≡ i) × (i % m < m)
+pub quotient_below : (i n m : ℕ) → i < n * m → 0 < m → (i / m < n) × ((i / m) * m + i % m ≡ i) × (i % m < m)
 quotient_below i n m l some = (below, omega arith, omega arith)
   where
     below : i / m < n

@@ -14,7 +14,8 @@ use Rattle.mpc_space.proofs.Total.{total-same, total-zeros, total-add, total-sca
 use Rattle.mpc_plant.specs.declared.lists.PlantRow.{PlantRow}
 use Rattle.mpc_plant.specs.declared.plants.Plant.{Plant}
 use Rattle.mpc_plant.specs.Trajectory.{state_at, move_at, IsSequence, cost}
-use Rattle.mpc_condense.specs.Condensed.{extended, stacked}
+use Rattle.mpc_condense.specs.Condensed.{stacked}
+use Rattle.mpc_rows.specs.ActiveSets.{extended}
 use Rattle.mpc_condense.specs.Motion.{motion, kernel_with}
 use Rattle.mpc_condense.specs.Rows.{left_entry, HasRow}
 use Rattle.mpc_condense.proofs.Combinations.{double, double-same, double-split, dot-combined}

@@ -6,7 +6,8 @@ use Rattle.mpc_exact.proofs.RationalRing.{reads, by_ring}
 use Rattle.mpc_space.specs.Vector.{coordinate}
 use Rattle.mpc_space.specs.Total.{total}
 use Rattle.mpc_space.proofs.Total.{total-zeros, total-split}
-use Rattle.mpc_condense.specs.Condensed.{extended, stacked}
+use Rattle.mpc_condense.specs.Condensed.{stacked}
+use Rattle.mpc_rows.specs.ActiveSets.{extended}
 
 -- only the terms from d to d + p count
 pub total-block : (d p r : ℕ) (f : ℕ → ℚ) → ((j : ℕ) → j < d → f j ≡ int (pos 0)) → ((j : ℕ) → d + p ≤ j → f j ≡ int (pos 0)) → total (d + (p + r)) f ≡ total p (λ q. f (d + q))

@@ -3,7 +3,7 @@ use Rattle.std.specs.Prelude.{ℕ, ◌+◌, ◌-◌, ◌*◌, ◌<◌, ◌≤◌
 use Rattle.mpc_plant.specs.declared.lists.PlantRow.{PlantRow}
 use Rattle.mpc_plant.specs.declared.plants.Plant.{Plant}
 use Rattle.mpc_rows.specs.declared.places.Place.{Place}
-use Rattle.mpc_rows.specs.declared.places.Place.TheVariants.{State, Cost, Row, Pivot, Law, LawBound}
+use Rattle.mpc_rows.specs.declared.places.Place.TheVariants.{State, Cost, Row, Pivot, Law, Reach, Border, Region, Meet, Holds, Joint, LawBound, NodeBound, CheckLaw, CheckLeaf}
 use Rattle.mpc_condense.specs.declared.errors.CondenseError.{CondenseError}
 use Rattle.mpc_condense.specs.declared.errors.CondenseError.TheVariants.{Wide, NoMemory}
 use Rattle.mpc_condense.specs.declared.errors.StageError.{StageError}
@@ -67,7 +67,16 @@ IsWidePlace plant (Cost k) = IsWideCost plant k
 IsWidePlace plant (Row i) = IsWideRow plant i
 IsWidePlace plant (Pivot j) = ⊥
 IsWidePlace plant (Law set) = ⊥
+IsWidePlace plant (Reach set) = ⊥
+IsWidePlace plant (Border set i) = ⊥
+IsWidePlace plant (Region set) = ⊥
+IsWidePlace plant (Meet node law) = ⊥
+IsWidePlace plant (Holds node law i) = ⊥
+IsWidePlace plant (Joint node) = ⊥
 IsWidePlace plant (LawBound law input) = ⊥
+IsWidePlace plant (NodeBound node) = ⊥
+IsWidePlace plant (CheckLaw law) = ⊥
+IsWidePlace plant (CheckLeaf node i) = ⊥
 
 abbrev pub IsCause : Plant → CondenseError → Type 0
 IsCause plant (Wide place) = IsWidePlace plant place

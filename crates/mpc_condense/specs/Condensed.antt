@@ -8,10 +8,7 @@ use Rattle.mpc_plant.specs.declared.lists.Coordinate.{Coordinate}
 use Rattle.mpc_plant.specs.declared.plants.Plant.{Plant}
 use Rattle.mpc_plant.specs.Trajectory.{IsSequence, move_at, state_at, cost}
 use Rattle.mpc_rows.specs.declared.programs.Qp.{Qp}
-
--- the extended counts (1, t_1, .., t_n)
-abbrev pub extended : List ℚ → List ℚ
-extended t = int (pos 1) ∷ t
+use Rattle.mpc_rows.specs.ActiveSets.{extended}
 
 -- the moves, one after the other
 abbrev pub stacked : List (List ℚ) → List ℚ

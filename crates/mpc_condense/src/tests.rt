@@ -1,7 +1,7 @@
 use crate::{CondenseError, condense};
 use mpc_frac::Frac;
 use mpc_linear::Matrix;
-use mpc_plant::read_small;
+use mpc_plant::read_plant;
 use mpc_rows::Place;
 use std::process::Abort;
 use std::test::Fail;
@@ -23,7 +23,9 @@ fn holds(rt: &impl Abort, m: &Matrix, rows: &[[i64; 2]]) -> bool {
 fn scalar_program(rt: HostRuntime) -> Result<(), Fail> {
     let text =
         br#"{"version":1,"horizon":1,"A":[[1]],"B":[[1]],"Q":[[1]],"R":[[3]],"P":[[2]],"grid":[{"low":-5,"step":2,"count":10}]}"#;
-    let plant = read_small(rt.alloc(), text)?;
+    let Ok(plant) = read_plant(rt.alloc(), text) else {
+        return Err(Fail::from("refused"));
+    };
     let qp = condense(rt.alloc(), &plant)?;
     assert_eq!(rt; qp.h.rows(), 1);
     assert_eq!(rt; qp.h.cols(), 1);
@@ -40,7 +42,9 @@ fn scalar_program(rt: HostRuntime) -> Result<(), Fail> {
 fn too_wide(rt: HostRuntime) -> Result<(), Fail> {
     let text =
         br#"{"version":1,"horizon":1,"A":[[100000000000000000]],"B":[[1]],"Q":[[1]],"R":[[1]],"P":[[1]],"grid":[{"low":-100000000000000000,"step":1,"count":10}]}"#;
-    let plant = read_small(rt.alloc(), text)?;
+    let Ok(plant) = read_plant(rt.alloc(), text) else {
+        return Err(Fail::from("refused"));
+    };
     let place = match condense(rt.alloc(), &plant) {
         Err(CondenseError::Wide(Place::Cost(k))) => Some(k),
         _ => None,

@@ -1,0 +1,6 @@
+pub mod Preorder
+pub mod Parts
+pub mod Bounds
+pub mod Walk
+pub mod Replies
+pub mod OneLeaf

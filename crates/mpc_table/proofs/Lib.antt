@@ -1,0 +1,10 @@
+pub mod WholeNumbers
+pub mod AffineLemmas
+pub mod FormLemmas
+pub mod WalkLemmas
+pub mod SideLemmas
+pub mod LeafLemmas
+pub mod TableLemmas
+pub mod ReplyLemmas
+pub mod AnswerLemmas
+pub mod TestLemmas

@@ -1,0 +1,5 @@
+pub mod Forms
+pub mod Steps
+pub mod OpenSplits
+pub mod Lookup
+pub mod TableReplies

@@ -1,0 +1,57 @@
+//! Where the no sides of a tree's splits begin, by one pass over its nodes in preorder.
+
+ghost use Rattle.std.specs.Prelude.{◌+◌, ◌<◌, ◌↔◌, IfOk, OnOk, IsTrue, length};
+ghost use Rattle.mpc_file.specs.Preorder.{IsTree};
+ghost use Rattle.mpc_file.specs.Walk.{IsLeaf};
+ghost use Rattle.mpc_table.specs.Steps.{AreNoSides};
+ghost use Rattle.mpc_table.specs.OpenSplits.{AreSidesTo};
+
+use mpc_frac::NoMemory;
+use mpc_rows::{Node, Tree};
+use std::alloc::Global;
+
+/// Whether the node is a leaf.
+fn is_leaf(node: &Node) -> bool
+    ensures { IsTrue result ↔ IsLeaf node.now }
+{
+    match node {
+        Node::Split(_) => false,
+        Node::Law { .. } | Node::NoMove { .. } => true,
+    }
+}
+
+/// Puts the next node's place behind those of the nodes before it. A leaf ends the yes side of the
+/// innermost split whose yes side isn't ended.
+fn add_side(
+    sides: &mut Vec<usize>,
+    pending: &mut Vec<usize>,
+    tree: &Tree,
+    k: usize,
+) -> Result<(), NoMemory>
+    requires inside { k < length tree.now }
+    requires so_far { AreSidesTo tree.now k sides.old.items pending.old.items }
+    ensures { OnOk result (AreSidesTo tree.now (k + 1) sides.new.items pending.new.items) }
+{
+    sides.push(0).map_err(|_| NoMemory)?;
+    if !is_leaf(tree.at(k)) {
+        pending.push(k).map_err(|_| NoMemory)?;
+        return Ok(());
+    }
+    if let Some(place) = pending.pop() {
+        sides[place] = k + 1;
+    }
+    Ok(())
+}
+
+/// For each split the place of its no side; 0 for a leaf.
+pub fn no_sides(alloc: Global, tree: &Tree) -> Result<Vec<usize>, NoMemory>
+    requires { IsTree tree.now }
+    ensures { IfOk result (λ sides. AreNoSides tree.now sides.items) }
+{
+    let mut sides = Vec::new(alloc);
+    let mut pending = Vec::new(alloc);
+    for k in 0..tree.len() {
+        add_side(&mut sides, &mut pending, tree, k)?;
+    }
+    Ok(sides)
+}
