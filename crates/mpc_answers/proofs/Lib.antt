@@ -1,0 +1,7 @@
+pub mod TreeWalks
+pub mod SmallRows
+pub mod SplitRows
+pub mod TreeShapes
+pub mod BoxCounts
+pub mod OneTable
+pub mod OneBound

@@ -1,0 +1,4 @@
+pub mod Stacks
+pub mod BestMoves
+pub mod OneProgram
+pub mod SameRows
