@@ -5,53 +5,51 @@ use Rattle.std.specs.Str.Lines.{lines}
 use Rattle.mpc_plant.specs.declared.plants.Plant.{Plant}
 use Rattle.mpc_plant.specs.declared.faults.PlantKind.{PlantKind}
 use Rattle.mpc_plant.specs.WholePlant.{ReadsAsPlant, IsFirstFault}
+use Rattle.mpc_cli.specs.declared.commands.Command.{Command}
+use Rattle.mpc_cli.specs.declared.commands.Command.TheVariants.{Run, Trace}
 use Rattle.mpc_cli.specs.declared.status.Status.{Status}
-use Rattle.mpc_cli.specs.declared.status.Status.TheVariants.{Done, Usage, BadPlant, NotDefinite, TooWide, ReadFault, WriteFault, TooLong, NoMemory, Unbuilt}
+use Rattle.mpc_cli.specs.declared.status.Status.TheVariants.{Done, Usage, BadPlant, NotDefinite, TooWide, ReadFault, WriteFault, TooLong, NoMemory}
 use Rattle.mpc_cli.specs.StatusText.{line_of}
-use Rattle.mpc_cli.specs.Cut.{head_of, tail_of}
+use Rattle.mpc_cli.specs.Commands.{Names, plant_text}
+use Rattle.mpc_cli.specs.Cut.{tail_of}
 use Rattle.mpc_cli.specs.ReplyLines.{AreReplies}
-use Rattle.mpc_cli.specs.PlantAnswers.{IsPlantAnswer}
-use Rattle.mpc_cli.specs.Answers.{IsRun, input_limit, HasPlant, IsAnswer}
+use Rattle.mpc_cli.specs.PlantAnswers.{IsReplied, IsPlantAnswer}
+use Rattle.mpc_cli.specs.Answers.{input_limit, HasPlant, IsOutput, IsAnswer}
 
 pub both : {T E : Type 0} (r : Result T E) (P Q : T → Type 0) → IfOk r P → IfOk r Q → IfOk r (λ x. P x × Q x)
 both (Ok x) P Q p q = (p, q)
 both (Err e) P Q p q = tt
 
-has : (words : List (List ℕ)) (input : List ℕ) (plant : Plant) → IsRun words → length input ≤ input_limit → ReadsAsPlant (head_of input) plant → HasPlant words input plant
-has words input plant run short read = record { taken = record { run = run; short = short }; read = read }
+-- the lines of counts of a command's input; a history has none
+abbrev pub CountsOf : Command → List ℕ → List ℕ → Type 0
+CountsOf Run input counts = counts ≡ tail_of input
+CountsOf Trace input counts = Unit {0}
 
-answers : (words : List (List ℕ)) (input counts : List ℕ) (plant : Plant) (status : Status) (text : List ℕ) → IsRun words → length input ≤ input_limit → ReadsAsPlant (head_of input) plant
-    → counts ≡ tail_of input → IsPlantAnswer plant counts status text → IsAnswer words input status text
-answers words input counts plant Done text run short read tail a = record {
-  due = record { plant = plant; has_plant = has words input plant run short read; no_rows = a.no_rows; answerable = a.answerable };
-  text_is = record { plant = plant; read = read; no_rows = a.no_rows; replies = subst (λ t. AreReplies plant (lines t) text) tail a.replies };
-}
-answers words input counts plant (NotDefinite pivot) text run short read tail a = record {
-  due = record { plant = plant; has_plant = has words input plant run short read; no_rows = a.no_rows; not_definite = a.cause };
-  text_is = a.line;
-}
-answers words input counts plant (TooWide place) text run short read tail a = record {
-  due = record { plant = plant; has_plant = has words input plant run short read; no_rows = a.no_rows; wide = a.cause };
-  text_is = a.line;
-}
-answers words input counts plant Unbuilt text run short read tail a = record {
-  due = record { plant = plant; has_plant = has words input plant run short read; some_rows = a.some_rows };
-  text_is = a.line;
-}
-answers words input counts plant Usage text run short read tail a = absurd a
-answers words input counts plant (BadPlant kind path) text run short read tail a = absurd a
-answers words input counts plant ReadFault text run short read tail a = absurd a
-answers words input counts plant WriteFault text run short read tail a = absurd a
-answers words input counts plant TooLong text run short read tail a = absurd a
-answers words input counts plant NoMemory text run short read tail a = absurd a
+output_of : (c : Command) (input counts : List ℕ) (plant : Plant) (text : List ℕ) → ReadsAsPlant (plant_text c input) plant → CountsOf c input counts → IsReplied c plant counts text → IsOutput c input text
+output_of Run input counts plant text read tail a = record { plant = plant; read = read; replies = subst (λ t. AreReplies plant (lines t) text) tail a.output }
+output_of Trace input counts plant text read tail a = record { plant = plant; read = read; traced = a.output }
 
-pub plant_answers : (input head counts : List ℕ) (plant : Plant) (status : Status) (text : List ℕ) → length input ≤ input_limit → ReadsAsPlant head plant → head ≡ head_of input → counts ≡ tail_of input
-    → IsPlantAnswer plant counts status text → (words : List (List ℕ)) → IsRun words → IsAnswer words input status text
-plant_answers input head counts plant status text short read head_is tail a words run =
-    answers words input counts plant status text run short (subst (λ h. ReadsAsPlant h plant) head_is read) tail a
+module _ (c : Command) (words : List (List ℕ)) (input counts : List ℕ) (plant : Plant) (named : Names c words) (short : length input ≤ input_limit) (read : ReadsAsPlant (plant_text c input) plant) (tail : CountsOf c input counts) where
+  given : HasPlant words input
+  given = record { command = c; taken = record { named = named; short = short }; plant = plant; read = read }
 
-pub bad_plant_answers : (input head : List ℕ) (kind : PlantKind) (path : List ℕ) (status : Status) (text : List ℕ) → length input ≤ input_limit → head ≡ head_of input → IsFirstFault head kind path
-    → (status ≡ BadPlant kind path) × (text ≡ line_of (BadPlant kind path)) → (words : List (List ℕ)) → IsRun words → IsAnswer words input status text
-bad_plant_answers input head kind path status text short head_is fault h words run =
+  pub answers : (status : Status) (text : List ℕ) → IsPlantAnswer c plant counts status text → IsAnswer words input status text
+  unfolding given
+  answers Done text a = record {
+    due = record { given = given; answerable = a.answerable };
+    text_is = record { command = c; named = named; output_is = output_of c input counts plant text read tail a };
+  }
+  answers (NotDefinite pivot) text a = record { due = record { given = given; not_definite = a.cause }; text_is = a.line }
+  answers (TooWide place) text a = record { due = record { given = given; wide = a.cause }; text_is = a.line }
+  answers Usage text a = absurd a
+  answers (BadPlant kind path) text a = absurd a
+  answers ReadFault text a = absurd a
+  answers WriteFault text a = absurd a
+  answers TooLong text a = absurd a
+  answers NoMemory text a = absurd a
+
+pub bad_plant_answers : (c : Command) (input : List ℕ) (kind : PlantKind) (path : List ℕ) (status : Status) (text : List ℕ) → length input ≤ input_limit → IsFirstFault (plant_text c input) kind path
+    → (status ≡ BadPlant kind path) × (text ≡ line_of (BadPlant kind path)) → (words : List (List ℕ)) → Names c words → IsAnswer words input status text
+bad_plant_answers c input kind path status text short fault h words named =
     subst (λ s. IsAnswer words input s text) (sym h.0)
-    (record { due = record { taken = record { run = run; short = short }; fault = subst (λ b. IsFirstFault b kind path) head_is fault }; text_is = h.1 })
+    (record { due = record { command = c; taken = record { named = named; short = short }; fault = fault }; text_is = h.1 })

@@ -1,20 +1,18 @@
 -- Reply lines.
-use Rattle.std.proofs.Common.{◌≡◌, ℕ, ◌+◌, ◌≤◌, Bool, true, false, cond, eqb, ltb, ◌&&◌, List, [], ◌∷◌, ◌++◌, length, Some, None, refl, sym, ◌∙◌, ap, subst, arith, append_assoc}
+use Rattle.std.proofs.Common.{◌≡◌, ℕ, Bool, true, false, cond, eqb, ◌&&◌, List, ◌∷◌, ◌++◌, length, Some, None, refl, sym, ◌∙◌, ap, subst, arith, append_assoc}
 use Rattle.std.specs.Prelude.{MatchOption, MatchBool, codes, map}
-use Rattle.std.specs.Fmt.{decimal}
-use Rattle.std.specs.List.{list_all, join_with_byte}
+use Rattle.std.specs.List.{list_all}
 use Rattle.std.proofs.lemmas.List.{length-map}
 use Rattle.std.proofs.lemmas.Bool.Decides.{nat_tests}
 use Rattle.std.proofs.lemmas.Bool.{false≢true}
-use Rattle.mpc_frac.specs.Text.{text_of}
-use Rattle.mpc_plant.specs.declared.lists.Coordinate.{Coordinate}
 use Rattle.mpc_plant.specs.declared.plants.Plant.{Plant}
-use Rattle.mpc_plant.specs.Reply.{move}
-use Rattle.mpc_cli.specs.declared.first_moves.FirstMoves.{FirstMoves}
+use Rattle.mpc_file.specs.Parts.{limits_of}
+use Rattle.mpc_file.specs.Replies.{Answer, at_state, outside, first_outside, IsAnswerTo}
+use Rattle.mpc_table.specs.Lookup.{Lookup}
+use Rattle.mpc_table.specs.TableReplies.{answer_text, AddsAnswer}
 use Rattle.mpc_cli.specs.CountLine.{fields, is_count, value_of, counts_of}
-use Rattle.mpc_cli.specs.Affine.{affine_values, AreUpTo}
-use Rattle.mpc_cli.specs.Synthesis.{AreRightMoves}
-use Rattle.mpc_cli.specs.ReplyLines.{first_outside, outside_from, IsRightLine, IsReplyTo, IsReplyLine, AreReplies, one_more, AddsReply}
+use Rattle.mpc_cli.specs.ReplyLines.{IsRightLine, IsReplyTo, IsReplyLine, AreReplies, one_more, AddsReply, IsRightTable}
+use Rattle.mpc_cli.proofs.CompileLemmas.{limits_size}
 
 -- a line that is n counts has n of them
 pub counts_size : (line : List ℕ) (n : ℕ) (counts : List ℕ) → counts_of line n ≡ Some counts → length counts ≡ n
@@ -37,23 +35,6 @@ bad_line_reply plant line e = subst (λ o. MatchOption o (codes "bad line\n" ≡
 reply_to : (plant : Plant) (line counts text : List ℕ) → counts_of line plant.n ≡ Some counts → IsReplyTo plant counts text → IsReplyLine plant line text
 reply_to plant line counts text e h = subst (λ o. MatchOption o (text ≡ codes "bad line\n") (λ counts. IsReplyTo plant counts text)) (sym e) h
 
-abbrev outside_text : List ℕ
-outside_text = codes "outside " ++ decimal 1 ++ codes "\n"
-
--- counts of which none is outside are a grid state
-pub none_outside : (i : ℕ) (limits counts : List ℕ) → length counts ≡ length limits → outside_from i limits counts ≡ None → AreUpTo counts limits
-none_outside i [] [] e h = tt
-none_outside i [] (c ∷ cs) e h = absurd (omega arith)
-none_outside i (l ∷ ls) [] e h = absurd (omega arith)
-none_outside i (l ∷ ls) (c ∷ cs) e h = by (ltb l c) refl h (λ k. none_outside (i + 1) ls cs (omega arith) k)
-  where
-    by : (b : Bool) → ltb l c ≡ b → cond b (Some i) (outside_from (i + 1) ls cs) ≡ None → (outside_from (i + 1) ls cs ≡ None → AreUpTo cs ls) → AreUpTo (c ∷ cs) (l ∷ ls)
-    by true t k later = absurd cc
-    by false t k later = (at_most t, later k)
-      where
-        at_most : ltb l c ≡ false → c ≤ l
-        at_most t = grind (arith, nat_tests)
-
 -- ---- the loop over the lines
 pub replies_more : (plant : Plant) (lines : List (List ℕ)) (line : List ℕ) (more : List (List ℕ)) (before after : List ℕ) (whole : List (List ℕ)) → lines ≡ line ∷ more
     → AddsReply plant line before after → ((texts : List ℕ) → AreReplies plant lines texts → AreReplies plant whole (before ++ texts))
@@ -72,33 +53,29 @@ at_false true P Q e h = absurd (false≢true (sym e))
 at_false false P Q e h = h
 
 -- ---- what a line adds
-module _ (moves : FirstMoves) (line before after : List ℕ) (states : ℕ) (size : states ≡ length moves.counts) where
-  states_are : (plant : Plant) → AreRightMoves plant moves → states ≡ plant.n
-  states_are plant right = size ∙ ap length right.counts_are ∙ length-map plant.grid (λ (axis : Coordinate). axis.count) ∙ plant.is_plant.grid_size
+module _ (plant : Plant) (table : Lookup) (line counts before middle after : List ℕ) (right : IsRightTable plant table) (states : ℕ) (size : states ≡ plant.n) (read : counts_of line states ≡ Some counts) where
+  read_as : counts_of line plant.n ≡ Some counts
+  read_as = ap (counts_of line) (sym size) ∙ read
 
-  pub adds_bad_line : counts_of line states ≡ None → after ≡ before ++ codes "bad line\n" → (plant : Plant) → AreRightMoves plant moves → AddsReply plant line before after
-  adds_bad_line e added plant right = record { reply = codes "bad line\n"; right = bad_line_reply plant line (ap (counts_of line) (sym (states_are plant right)) ∙ e); added = added }
+  at_plant : (answer : Answer) → IsAnswerTo right.parts counts answer → IsReplyTo plant counts (answer_text answer ++ codes "\n")
+  at_plant (at_state reply) h =
+      let inside : first_outside (limits_of plant) counts ≡ None = ap (λ p. first_outside (limits_of p) counts) (sym right.plant_is) ∙ h.0 in
+      let one : IsRightLine plant counts (answer_text (at_state reply) ++ codes "\n") = record { reply = reply; right = right.right counts reply (counts_size line plant.n counts read_as) inside h.1; written = refl } in
+      subst (λ o. MatchOption o (IsRightLine plant counts (answer_text (at_state reply) ++ codes "\n")) (λ i. answer_text (at_state reply) ++ codes "\n" ≡ answer_text (outside i) ++ codes "\n")) (sym inside) one
+  at_plant (outside i) h =
+      let past : first_outside (limits_of plant) counts ≡ Some i = ap (λ p. first_outside (limits_of p) counts) (sym right.plant_is) ∙ h in
+      subst (λ o. MatchOption o (IsRightLine plant counts (answer_text (outside i) ++ codes "\n")) (λ k. answer_text (outside i) ++ codes "\n" ≡ answer_text (outside k) ++ codes "\n")) (sym past) refl
 
-  pub adds_outside : (counts : List ℕ) (i : ℕ) → counts_of line states ≡ Some counts → Some i ≡ outside_from 1 moves.counts counts → after ≡ before ++ (codes "outside " ++ decimal i ++ codes "\n") → (plant : Plant) → AreRightMoves plant moves
-      → AddsReply plant line before after
-  adds_outside counts i e out added plant right =
-      let first : first_outside plant.grid counts ≡ Some i = ap (λ l. outside_from 1 l counts) (sym right.counts_are) ∙ sym out in
-      record {
-        reply = codes "outside " ++ decimal i ++ codes "\n";
-        right = reply_to plant line counts (codes "outside " ++ decimal i ++ codes "\n") (ap (counts_of line) (sym (states_are plant right)) ∙ e)
-            (subst (λ o. MatchOption o (IsRightLine plant counts (codes "outside " ++ decimal i ++ codes "\n")) (λ k. codes "outside " ++ decimal i ++ codes "\n" ≡ codes "outside " ++ decimal k ++ codes "\n")) (sym first) refl);
-        added = added;
-      }
+  pub adds_answer : AddsAnswer right.parts counts before middle → after ≡ middle ++ codes "\n" → AddsReply plant line before after
+  adds_answer a e = record {
+    reply = answer_text a.answer ++ codes "\n";
+    right = reply_to plant line counts (answer_text a.answer ++ codes "\n") read_as (at_plant a.answer a.is_answer);
+    added = e ∙ ap (λ t. t ++ codes "\n") a.added ∙ append_assoc before (answer_text a.answer) (codes "\n");
+  }
 
-  pub adds_moves : (counts middle : List ℕ) → counts_of line states ≡ Some counts → None ≡ outside_from 1 moves.counts counts → middle ≡ before ++ join_with_byte 32 (map text_of (affine_values moves.forms.items counts))
-      → after ≡ middle ++ codes "\n" → (plant : Plant) → AreRightMoves plant moves → AddsReply plant line before after
-  adds_moves counts middle e inside first second plant right =
-      let none : first_outside plant.grid counts ≡ None = ap (λ l. outside_from 1 l counts) (sym right.counts_are) ∙ sym inside in
-      let n_is : length counts ≡ plant.n = counts_size line states counts e ∙ states_are plant right in
-      record {
-        reply = join_with_byte 32 (map text_of (affine_values moves.forms.items counts)) ++ codes "\n";
-        right = reply_to plant line counts (join_with_byte 32 (map text_of (affine_values moves.forms.items counts)) ++ codes "\n") (ap (counts_of line) (sym (states_are plant right)) ∙ e)
-            (subst (λ o. MatchOption o (IsRightLine plant counts (join_with_byte 32 (map text_of (affine_values moves.forms.items counts)) ++ codes "\n")) (λ k. join_with_byte 32 (map text_of (affine_values moves.forms.items counts)) ++ codes "\n" ≡ codes "outside " ++ decimal k ++ codes "\n")) (sym none)
-            (record { reply = move (affine_values moves.forms.items counts); right = right.right counts n_is; written = refl }));
-        added = second ∙ ap (λ t. t ++ codes "\n") first ∙ append_assoc before (join_with_byte 32 (map text_of (affine_values moves.forms.items counts))) (codes "\n");
-      }
+pub adds_bad_line : (plant : Plant) (line before after : List ℕ) → counts_of line plant.n ≡ None → after ≡ before ++ codes "bad line\n" → AddsReply plant line before after
+adds_bad_line plant line before after e added = record { reply = codes "bad line\n"; right = bad_line_reply plant line e; added = added }
+
+-- the number of coordinates that the code has is the plant's
+pub states_are : (plant : Plant) (table : Lookup) (states : ℕ) → IsRightTable plant table → states ≡ length table.limits → states ≡ plant.n
+states_are plant table states right size = size ∙ ap length right.of_parts.limits_are ∙ ap (λ p. length (limits_of p)) right.plant_is ∙ limits_size plant

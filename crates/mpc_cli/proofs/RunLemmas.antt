@@ -1,19 +1,16 @@
 -- What the top call answers, from the ends of its parts.
-use Rattle.std.proofs.Common.{◌≡◌, ℕ, ◌⊎◌, inl, inr, List, [], ◌∷◌, Option, Some, None, take, refl, sym, ◌∙◌, ap, subst}
+use Rattle.std.proofs.Common.{◌≡◌, ℕ, ◌⊎◌, inl, inr, List, Option, Some, None, take, refl, subst}
 use Rattle.std.specs.Prelude.{IfSome}
 use Rattle.std.specs.Io.KnownBytes.{Appends, Keeps}
 use Rattle.mpc_port.specs.Faults.{Rose}
-use Rattle.std.proofs.Common.{Bool, true, false, ◌<◌, ◌≤◌, length, get_or, map, arith}
-use Rattle.std.specs.Prelude.{MatchBool, bytes_eq, codes}
-use Rattle.std.proofs.lemmas.Slice.Eq.{bytes_eq-Decides}
-use Rattle.std.proofs.lemmas.Bool.{false≢true}
 use Rattle.mpc_port.specs.WriteError.{sent_before, ExplainsWriteError}
 use Rattle.mpc_port.specs.declared.output.WriteError.{WriteError}
 use Rattle.mpc_port.specs.declared.output.WriteError.TheVariants.{WriteFault as SinkFailed, NoMemory as SinkFull}
 use Rattle.mpc_cli.specs.declared.status.Status.{Status}
-use Rattle.mpc_cli.specs.declared.status.Status.TheVariants.{Done, Usage, BadPlant, NotDefinite, TooWide, ReadFault, WriteFault, TooLong, NoMemory, Unbuilt}
+use Rattle.mpc_cli.specs.declared.status.Status.TheVariants.{Done, Usage, BadPlant, NotDefinite, TooWide, ReadFault, WriteFault, TooLong, NoMemory}
 use Rattle.mpc_cli.specs.StatusText.{line_of}
-use Rattle.mpc_cli.specs.Answers.{IsRun, IsDue, IsAnswer, Passage, Answers, TookPart, IsQuiet, RunAnswers, CausesDone}
+use Rattle.mpc_cli.specs.Commands.{IsCommand}
+use Rattle.mpc_cli.specs.Answers.{IsDue, IsAnswer, Passage, Answers, TookPart, IsQuiet, RunAnswers, CausesDone}
 use Rattle.mpc_cli.specs.Outcomes.{IsSomeAnswer, Finishes, wrote_all, sink_failed, sink_full}
 use Rattle.mpc_cli.proofs.DueStatus.{due_unique, due_usage}
 
@@ -47,7 +44,6 @@ whole words p s text some told wrote =
       usage_first = λ wrong. inl (due_usage words some.input s some.answer.due wrong);
       too_long = at TooLong;
       bad_plant = λ kind path. at (BadPlant kind path);
-      unbuilt = at Unbuilt;
       not_definite = λ pivot. at (NotDefinite pivot);
       too_wide = λ place. at (TooWide place);
       read_fault = λ e. absurd (not_device words s text some ReadFault (λ input h. h) e);
@@ -57,7 +53,7 @@ whole words p s text some told wrote =
       complete = if_some p.left _ (λ input. CausesDone words input → IsQuiet p → (s ≡ Done) ⊎ (s ≡ NoMemory)) (λ input f c quiet. f Done c quiet) due;
     }
   where
-    usage_of : IsAnswer words some.input Usage text → (IsRun words → ⊥) × Appends p.taken p.taken_after (line_of Usage)
+    usage_of : IsAnswer words some.input Usage text → (IsCommand words → ⊥) × Appends p.taken p.taken_after (line_of Usage)
     usage_of a = (a.due, subst (Appends p.taken p.taken_after) a.text_is wrote)
 
 -- a part is written
@@ -74,7 +70,6 @@ write_failed words p s text sent told rose wrote = record {
   usage_first = λ wrong. inr (inl refl);
   too_long = λ e. absurd cc;
   bad_plant = λ kind path e. absurd cc;
-  unbuilt = λ e. absurd cc;
   not_definite = λ pivot e. absurd cc;
   too_wide = λ place e. absurd cc;
   read_fault = λ e. absurd cc;
@@ -91,7 +86,6 @@ out_of_memory words p took = record {
   usage_first = λ wrong. inr (inr refl);
   too_long = λ e. absurd cc;
   bad_plant = λ kind path e. absurd cc;
-  unbuilt = λ e. absurd cc;
   not_definite = λ pivot e. absurd cc;
   too_wide = λ place e. absurd cc;
   read_fault = λ e. absurd cc;
@@ -112,14 +106,13 @@ finished words p a _ text some told (sink_full sent wrote) =
 pub halted : (words : List (List ℕ)) (p : Passage) → Keeps p.taken p.taken_after → RunAnswers words p NoMemory
 halted words p kept = out_of_memory words p (always_some p.left _ (λ input. inl kept))
 
-pub read_failed : (words : List (List ℕ)) (p : Passage) → IsRun words → Rose p.read_faults p.read_faults_after → Keeps p.taken p.taken_after → RunAnswers words p ReadFault
+pub read_failed : (words : List (List ℕ)) (p : Passage) → IsCommand words → Rose p.read_faults p.read_faults_after → Keeps p.taken p.taken_after → RunAnswers words p ReadFault
 read_failed words p run rose kept = record {
   done = λ e. absurd cc;
   usage = λ e. absurd cc;
   usage_first = λ wrong. absurd (wrong run);
   too_long = λ e. absurd cc;
   bad_plant = λ kind path e. absurd cc;
-  unbuilt = λ e. absurd cc;
   not_definite = λ pivot e. absurd cc;
   too_wide = λ place e. absurd cc;
   read_fault = λ e. (rose, kept);
@@ -139,15 +132,3 @@ pub no_memory_ends : (status : Status) (text bytes : List ℕ) (taken taken_afte
     → Appends taken taken_after (take (sent_before e) bytes) → Finishes status text taken taken_after faults faults_after NoMemory
 no_memory_ends status text bytes taken taken_after faults faults_after e sent is same wrote =
     sink_full sent (subst (Appends taken taken_after) (λ i. take (sent_before (is i)) (same i)) wrote)
-
--- ---- one word
-one_word : {S : Type 0} (f : S → List ℕ) (words : List S) (w : S) (r : Bool) → length words ≡ 1 → w ≡ get_or words 0 w → r ≡ bytes_eq (f w) (codes "run")
-    → MatchBool r (map f words ≡ codes "run" ∷ []) (map f words ≡ codes "run" ∷ [] → ⊥)
-one_word f [] w r e is h = absurd (omega (arith, e))
-one_word f (x ∷ y ∷ more) w r e is h = absurd (omega (arith, e))
-one_word f (x ∷ []) w true e is h = ap (λ t. t ∷ []) (ap f (sym is) ∙ (bytes_eq-Decides (f w) (codes "run")).0 (sym h))
-one_word f (x ∷ []) w false e is h = λ same. false≢true (h ∙ (bytes_eq-Decides (f w) (codes "run")).1 (ap f is ∙ ap (λ l. get_or l 0 []) same))
-
-pub is_one_word : {S : Type 0} (f : S → List ℕ) (words : List S) (w : S) (text : List ℕ) (r : Bool) → 1 ≤ length words → length words < 2 → w ≡ get_or words 0 w → text ≡ f w
-    → r ≡ bytes_eq text (codes "run") → MatchBool r (map f words ≡ codes "run" ∷ []) (map f words ≡ codes "run" ∷ [] → ⊥)
-is_one_word f words w text r least most is text_is h = one_word f words w r (omega arith) is (h ∙ ap (λ t. bytes_eq t (codes "run")) text_is)

@@ -1,5 +1,5 @@
 -- What the command answers: its causes, its output, and what passes at its source and its sink.
-use Rattle.std.specs.Prelude.{◌≡◌, ℕ, ◌<◌, ◌≤◌, ◌⊎◌, Option, IfSome, List, [], ◌∷◌, codes, length, take}
+use Rattle.std.specs.Prelude.{◌≡◌, ℕ, ◌<◌, ◌≤◌, ◌⊎◌, Option, IfSome, List, [], length, take}
 use Rattle.std.specs.Io.KnownBytes.{Appends, Keeps}
 use Rattle.mpc_port.specs.Faults.{Rose}
 use Rattle.mpc_plant.specs.declared.plants.Plant.{Plant}
@@ -7,73 +7,62 @@ use Rattle.mpc_plant.specs.declared.faults.PlantKind.{PlantKind}
 use Rattle.mpc_plant.specs.WholePlant.{ReadsAsPlant, IsFirstFault}
 use Rattle.mpc_rows.specs.declared.places.Place.{Place}
 use Rattle.mpc_cli.specs.declared.status.Status.{Status}
-use Rattle.mpc_cli.specs.declared.status.Status.TheVariants.{Done, Usage, BadPlant, NotDefinite, TooWide, ReadFault, WriteFault, TooLong, NoMemory, Unbuilt}
+use Rattle.mpc_cli.specs.declared.status.Status.TheVariants.{Done, Usage, BadPlant, NotDefinite, TooWide, ReadFault, WriteFault, TooLong, NoMemory}
 use Rattle.mpc_cli.specs.Cut.{head_of, count_lines}
-use Rattle.mpc_cli.specs.Program.{HasNoRows}
+use Rattle.mpc_cli.specs.declared.commands.Command.{Command}
+use Rattle.mpc_cli.specs.declared.commands.Command.TheVariants.{Run, Trace}
+use Rattle.mpc_cli.specs.Commands.{Names, IsCommand, plant_text}
 use Rattle.mpc_cli.specs.Synthesis.{IsNotDefiniteAt, FirstWide, IsAnswerable}
+use Rattle.mpc_cli.specs.Histories.{IsTraceOf}
 use Rattle.mpc_cli.specs.ReplyLines.{AreReplies}
 use Rattle.mpc_cli.specs.StatusText.{line_of}
-
--- the words are the one word `run`
-abbrev pub IsRun : List (List ℕ) → Type 0
-IsRun words = words ≡ codes "run" ∷ []
 
 -- the most bytes that an input has
 abbrev pub input_limit : ℕ
 input_limit = 16777216
 
 -- ---- The causes, each where no earlier one comes
--- the words are right and the input isn't too long
-pub record IsTaken (words : List (List ℕ)) (input : List ℕ) : Type 0 where
-  pub run : IsRun words
+-- the words name the command, and the input isn't too long
+pub record IsTaken (c : Command) (words : List (List ℕ)) (input : List ℕ) : Type 0 where
+  pub named : Names c words
   pub short : length input ≤ input_limit
 
 pub record CausesTooLong (words : List (List ℕ)) (input : List ℕ) : Type 0 where
-  pub run : IsRun words
+  pub command : IsCommand words
   pub long : input_limit < length input
 
 -- a check of the plant's file fails, and this is the first one
 pub record CausesBadPlant (words : List (List ℕ)) (input : List ℕ) (kind : PlantKind) (path : List ℕ) : Type 0 where
-  pub taken : IsTaken words input
-  pub fault : IsFirstFault (head_of input) kind path
+  pub command : Command
+  pub taken : IsTaken command words input
+  pub fault : IsFirstFault (plant_text command input) kind path
 
--- the head is the plant's file
-pub record HasPlant (words : List (List ℕ)) (input : List ℕ) (plant : Plant) : Type 0 where
-  pub taken : IsTaken words input
-  pub read : ReadsAsPlant (head_of input) plant
-
--- the plant passes all checks and has rows
-pub record CausesUnbuilt (words : List (List ℕ)) (input : List ℕ) : Type 0 where
+-- the command's input has the file of a plant
+pub record HasPlant (words : List (List ℕ)) (input : List ℕ) : Type 0 where
+  pub command : Command
+  pub taken : IsTaken command words input
   pub plant : Plant
-  pub has_plant : HasPlant words input plant
-  pub some_rows : ¬ HasNoRows plant
+  pub read : ReadsAsPlant (plant_text command input) plant
 
 -- no number of an earlier run is too wide, and the pivot is the first that isn't positive
 pub record CausesNotDefinite (words : List (List ℕ)) (input : List ℕ) (pivot : ℕ) : Type 0 where
-  pub plant : Plant
-  pub has_plant : HasPlant words input plant
-  pub no_rows : HasNoRows plant
-  pub not_definite : IsNotDefiniteAt plant pivot
+  pub given : HasPlant words input
+  pub not_definite : IsNotDefiniteAt given.plant pivot
 
 -- the place is the first of which a number is too wide
 pub record CausesTooWide (words : List (List ℕ)) (input : List ℕ) (place : Place) : Type 0 where
-  pub plant : Plant
-  pub has_plant : HasPlant words input plant
-  pub no_rows : HasNoRows plant
-  pub wide : FirstWide plant place
+  pub given : HasPlant words input
+  pub wide : FirstWide given.plant given.command place
 
 pub record CausesDone (words : List (List ℕ)) (input : List ℕ) : Type 0 where
-  pub plant : Plant
-  pub has_plant : HasPlant words input plant
-  pub no_rows : HasNoRows plant
-  pub answerable : IsAnswerable plant
+  pub given : HasPlant words input
+  pub answerable : IsAnswerable given.command given.plant
 
 -- the status that is due for the words and the input, by devices that don't fail
 abbrev pub IsDue : List (List ℕ) → List ℕ → Status → Type 0
-IsDue words input Usage = ¬ IsRun words
+IsDue words input Usage = ¬ IsCommand words
 IsDue words input TooLong = CausesTooLong words input
 IsDue words input (BadPlant kind path) = CausesBadPlant words input kind path
-IsDue words input Unbuilt = CausesUnbuilt words input
 IsDue words input (NotDefinite pivot) = CausesNotDefinite words input pivot
 IsDue words input (TooWide place) = CausesTooWide words input place
 IsDue words input Done = CausesDone words input
@@ -82,30 +71,44 @@ IsDue words input WriteFault = ⊥
 IsDue words input NoMemory = ⊥
 
 -- ---- What is written
--- the output of `run`: the head reads as a plant without rows, and each line of counts has its reply line, which is right
-pub record IsOutput (input output : List ℕ) : Type 0 where
+-- the output of `run`: the head reads as a plant, and each line of counts has its reply line, which is right
+pub record IsReplies (input output : List ℕ) : Type 0 where
   pub plant : Plant
   pub read : ReadsAsPlant (head_of input) plant
-  pub no_rows : HasNoRows plant
   pub replies : AreReplies plant (count_lines input) output
 
+-- the output of `trace`: the input reads as a plant, and the text is a history of its program's candidates in which each is claimed and
+-- delivered once, one after the other
+pub record IsTrace (input output : List ℕ) : Type 0 where
+  pub plant : Plant
+  pub read : ReadsAsPlant input plant
+  pub traced : IsTraceOf plant output
+
+abbrev pub IsOutput : Command → List ℕ → List ℕ → Type 0
+IsOutput Run input output = IsReplies input output
+IsOutput Trace input output = IsTrace input output
+
+pub record IsOutputOf (words : List (List ℕ)) (input output : List ℕ) : Type 0 where
+  pub command : Command
+  pub named : Names command words
+  pub output_is : IsOutput command input output
+
 -- the text of a status: the output where it is Done, and its line otherwise
-abbrev pub IsText : List ℕ → Status → List ℕ → Type 0
-IsText input Done text = IsOutput input text
-IsText input Usage text = text ≡ line_of Usage
-IsText input TooLong text = text ≡ line_of TooLong
-IsText input (BadPlant kind path) text = text ≡ line_of (BadPlant kind path)
-IsText input Unbuilt text = text ≡ line_of Unbuilt
-IsText input (NotDefinite pivot) text = text ≡ line_of (NotDefinite pivot)
-IsText input (TooWide place) text = text ≡ line_of (TooWide place)
-IsText input ReadFault text = text ≡ []
-IsText input WriteFault text = text ≡ []
-IsText input NoMemory text = text ≡ []
+abbrev pub IsText : List (List ℕ) → List ℕ → Status → List ℕ → Type 0
+IsText words input Done text = IsOutputOf words input text
+IsText words input Usage text = text ≡ line_of Usage
+IsText words input TooLong text = text ≡ line_of TooLong
+IsText words input (BadPlant kind path) text = text ≡ line_of (BadPlant kind path)
+IsText words input (NotDefinite pivot) text = text ≡ line_of (NotDefinite pivot)
+IsText words input (TooWide place) text = text ≡ line_of (TooWide place)
+IsText words input ReadFault text = text ≡ []
+IsText words input WriteFault text = text ≡ []
+IsText words input NoMemory text = text ≡ []
 
 -- a status that is due, and its text
 pub record IsAnswer (words : List (List ℕ)) (input : List ℕ) (status : Status) (text : List ℕ) : Type 0 where
   pub due : IsDue words input status
-  pub text_is : IsText input status text
+  pub text_is : IsText words input status text
 
 -- ---- What passes in a call
 -- the bytes that the source tells at entry, those that the sink has taken before and after, and the counts of faults before and after
@@ -139,14 +142,13 @@ pub record IsQuiet (passage : Passage) : Type 0 where
 
 -- what the command answers for its words: each status comes just from its cause, and the sink took what is said here
 pub record RunAnswers (words : List (List ℕ)) (passage : Passage) (status : Status) : Type 0 where
-  -- the head reads as a plant without rows, and the output is one reply line a line of counts, each reply to a grid state right
+  -- the input has the file of a plant, and the output is that of the command: right replies, or a history of the plant's candidates
   pub done : status ≡ Done → IfSome passage.left (Answers words passage Done)
-  -- the words aren't the one word `run`: then no other refusal comes, whatever the source and the sink tell
-  pub usage : status ≡ Usage → (¬ IsRun words) × Appends passage.taken passage.taken_after (line_of Usage)
-  pub usage_first : (¬ IsRun words) → (status ≡ Usage) ⊎ ((status ≡ WriteFault) ⊎ (status ≡ NoMemory))
+  -- the words name no command: then no other refusal comes, whatever the source and the sink tell
+  pub usage : status ≡ Usage → (¬ IsCommand words) × Appends passage.taken passage.taken_after (line_of Usage)
+  pub usage_first : (¬ IsCommand words) → (status ≡ Usage) ⊎ ((status ≡ WriteFault) ⊎ (status ≡ NoMemory))
   pub too_long : status ≡ TooLong → IfSome passage.left (Answers words passage TooLong)
   pub bad_plant : (kind : PlantKind) (path : List ℕ) → status ≡ BadPlant kind path → IfSome passage.left (Answers words passage (BadPlant kind path))
-  pub unbuilt : status ≡ Unbuilt → IfSome passage.left (Answers words passage Unbuilt)
   pub not_definite : (pivot : ℕ) → status ≡ NotDefinite pivot → IfSome passage.left (Answers words passage (NotDefinite pivot))
   pub too_wide : (place : Place) → status ≡ TooWide place → IfSome passage.left (Answers words passage (TooWide place))
   -- a fault of the source or the sink, after which the sink took nothing, or the first bytes of what was to be written

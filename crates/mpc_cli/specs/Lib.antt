@@ -3,9 +3,8 @@ pub mod CountLine
 pub mod StatusText
 pub mod ReplyLines
 pub mod Answers
-pub mod Program
-pub mod Affine
 pub mod PlantAnswers
 pub mod Outcomes
-pub mod Negation
 pub mod Synthesis
+pub mod Commands
+pub mod Histories

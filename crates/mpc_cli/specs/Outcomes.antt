@@ -6,7 +6,8 @@ use Rattle.mpc_cli.specs.declared.status.Status.{Status}
 use Rattle.mpc_cli.specs.declared.status.Status.TheVariants.{WriteFault, NoMemory}
 use Rattle.mpc_cli.specs.declared.run.Halt.{Halt}
 use Rattle.mpc_cli.specs.declared.run.Halt.TheVariants.{SourceFailed, OutOfMemory}
-use Rattle.mpc_cli.specs.Answers.{IsRun, IsAnswer}
+use Rattle.mpc_cli.specs.Commands.{IsCommand}
+use Rattle.mpc_cli.specs.Answers.{IsAnswer}
 
 -- a status and a text answer some input
 pub record IsSomeAnswer (words : List (List ℕ)) (status : Status) (text : List ℕ) : Type 0 where
@@ -15,7 +16,7 @@ pub record IsSomeAnswer (words : List (List ℕ)) (status : Status) (text : List
 
 -- why nothing is to be written: the source failed, or memory ran out
 abbrev pub ExplainsHalt : List (List ℕ) → ℕ → ℕ → Halt → Type 0
-ExplainsHalt words faults faults_after SourceFailed = IsRun words × Rose faults faults_after
+ExplainsHalt words faults faults_after SourceFailed = IsCommand words × Rose faults faults_after
 ExplainsHalt words faults faults_after OutOfMemory = Unit {0}
 
 -- the ends of writing a status's text

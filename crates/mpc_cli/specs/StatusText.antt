@@ -1,7 +1,7 @@
 -- The lines and the exit codes of statuses.
 use Rattle.std.specs.Prelude.{ℕ, List, [], ◌∷◌, ◌++◌, codes, decimal}
 use Rattle.mpc_cli.specs.declared.status.Status.{Status}
-use Rattle.mpc_cli.specs.declared.status.Status.TheVariants.{Done, Usage, BadPlant, NotDefinite, TooWide, ReadFault, WriteFault, TooLong, NoMemory, Unbuilt}
+use Rattle.mpc_cli.specs.declared.status.Status.TheVariants.{Done, Usage, BadPlant, NotDefinite, TooWide, ReadFault, WriteFault, TooLong, NoMemory}
 use Rattle.mpc_plant.specs.declared.faults.PlantKind.{PlantKind}
 use Rattle.mpc_plant.specs.declared.faults.PlantKind.TheVariants.{NotJson, NotObject, UnknownKey, MissingKey, WrongKind, BadNumber, WrongShape, OverLimit, NotSymmetric, StepNotPositive, BadVersion}
 use Rattle.mpc_rows.specs.PlaceText.{place_text}
@@ -35,7 +35,6 @@ line_of ReadFault = []
 line_of WriteFault = []
 line_of TooLong = codes "too long\n"
 line_of NoMemory = []
-line_of Unbuilt = codes "unbuilt\n"
 
 -- the exit code
 abbrev pub code_of : Status → ℕ
@@ -48,4 +47,3 @@ code_of ReadFault = 8
 code_of WriteFault = 9
 code_of TooLong = 10
 code_of NoMemory = 11
-code_of Unbuilt = 14

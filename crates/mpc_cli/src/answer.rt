@@ -1,17 +1,30 @@
 //! The answer to an input: its status and what is written.
 
-ghost use Rattle.std.specs.Prelude.{◌≡◌, ◌≤◌, IfOk, MatchBool, length, List, ℕ};
-ghost use Rattle.mpc_cli.specs.Answers.{IsRun, IsAnswer, input_limit};
+ghost use Rattle.std.specs.Prelude.{◌≡◌, ◌≤◌, IfOk, length, List, [], ℕ};
+ghost use Rattle.std.specs.Str.Lines.{lines};
+ghost use Rattle.mpc_plant.specs.declared.plants.Plant.{Plant};
+ghost use Rattle.mpc_rows.specs.declared.programs.Qp.{Qp};
+ghost use Rattle.mpc_cli.specs.declared.commands.Command.TheVariants.{Run, Trace};
+ghost use Rattle.mpc_cli.specs.Commands.{Names, plant_text};
+ghost use Rattle.mpc_cli.specs.Cut.{tail_of};
+ghost use Rattle.mpc_cli.specs.Answers.{IsAnswer, input_limit};
 ghost use Rattle.mpc_cli.specs.PlantAnswers.{IsPlantAnswer};
-ghost use Rattle.mpc_cli.specs.Program.{HasNoRows};
+ghost use Rattle.mpc_cli.specs.Synthesis.{IsController};
+ghost use Rattle.mpc_cli.specs.ReplyLines.{AreReplies};
 ghost use Rattle.mpc_cli.specs.StatusText.{line_of};
 
+use crate::commands::Command;
+use crate::compiling::compile;
 use crate::input::cut;
+use crate::programs::SynthesisError;
 use crate::replies::reply_lines;
 use crate::status::Status;
-use crate::synthesis::{SynthesisError, synthesize};
+use crate::tracing::trace;
+use mpc_file::Controller;
 use mpc_frac::NoMemory;
 use mpc_plant::{Plant, PlantError, read_plant};
+use mpc_port::Gate;
+use mpc_table::Table;
 use std::alloc::Global;
 
 /// A status, and the output or line that is to be written.
@@ -30,27 +43,39 @@ pub fn refusal(alloc: Global, status: Status) -> Result<Answer, NoMemory>
     Ok(Answer { status, text })
 }
 
-/// Whether the plant has no row, neither at a stage nor at the end.
-fn has_no_rows(plant: &Plant) -> bool
-    ensures { MatchBool result (HasNoRows plant.now) (¬ HasNoRows plant.now) }
+/// The output.
+fn output(text: Vec<u8>) -> Answer
+    ensures status { result.status ≡ Status.Done }
+    ensures text { result.text.items ≡ text.items }
 {
-    plant.rows.is_empty() && plant.terminal.is_empty()
+    Answer {
+        status: Status::Done,
+        text,
+    }
 }
 
-/// The answer to a plant and the text of its lines of counts.
-fn plant_answer(alloc: Global, plant: &Plant, counts: &[u8]) -> Result<Answer, NoMemory>
-    ensures { IfOk result (λ answer. IsPlantAnswer plant.now counts.now answer.status answer.text.items) }
+/// The replies of a plant's controller to the lines of counts.
+fn replies(alloc: Global, controller: &Controller, counts: &[u8]) -> Result<Vec<u8>, NoMemory>
+    ensures { IfOk result (λ text. (plant : Plant) (qp : Qp) → IsController plant qp controller.now
+        → AreReplies plant (lines counts.now) text.items) }
 {
-    if !has_no_rows(plant) {
-        return refusal(alloc, Status::Unbuilt);
-    }
-    match synthesize(alloc, plant) {
-        Ok(moves) => {
-            let text = reply_lines(alloc, &moves, counts)?;
-            Ok(Answer {
-                status: Status::Done,
-                text,
-            })
+    let table = Table::of(alloc, controller)?;
+    reply_lines(alloc, &table, controller.plant().n as usize, counts)
+}
+
+/// The answer of the command `run` to a plant and the text of its lines of counts.
+fn run_answer<G: Gate>(
+    alloc: Global,
+    plant: Plant,
+    counts: &[u8],
+    gate: &G,
+) -> Result<Answer, NoMemory>
+    ensures { IfOk result (λ answer. IsPlantAnswer Run plant counts.now answer.status answer.text.items) }
+{
+    match compile(alloc, plant, gate) {
+        Ok(controller) => {
+            let text = replies(alloc, &controller, counts)?;
+            Ok(output(text))
         }
         Err(SynthesisError::NotDefinite(pivot)) => refusal(alloc, Status::NotDefinite(pivot)),
         Err(SynthesisError::TooWide(place)) => refusal(alloc, Status::TooWide(place)),
@@ -58,16 +83,58 @@ fn plant_answer(alloc: Global, plant: &Plant, counts: &[u8]) -> Result<Answer, N
     }
 }
 
+/// The answer of the command `trace` to a plant.
+fn trace_answer<G: Gate>(alloc: Global, plant: &Plant, gate: &G) -> Result<Answer, NoMemory>
+    ensures { IfOk result (λ answer. IsPlantAnswer Trace plant.now [] answer.status answer.text.items) }
+{
+    match trace(alloc, plant, gate) {
+        Ok(text) => Ok(output(text)),
+        Err(SynthesisError::NotDefinite(pivot)) => refusal(alloc, Status::NotDefinite(pivot)),
+        Err(SynthesisError::TooWide(place)) => refusal(alloc, Status::TooWide(place)),
+        Err(SynthesisError::NoMemory) => Err(NoMemory),
+    }
+}
+
 /// The answer of the command `run` to an input that isn't too long.
-pub fn input_answer(alloc: Global, input: &[u8]) -> Result<Answer, NoMemory>
+fn answer_to_run<G: Gate>(alloc: Global, input: &[u8], gate: &G) -> Result<Answer, NoMemory>
     requires { length input.now ≤ input_limit }
-    ensures { IfOk result (λ answer. (words : List (List ℕ)) → IsRun words
+    ensures { IfOk result (λ answer. (words : List (List ℕ)) → Names Run words
         → IsAnswer words input.now answer.status answer.text.items) }
 {
     let sections = cut(input);
     match read_plant(alloc, sections.head) {
-        Ok(plant) => plant_answer(alloc, &plant, sections.counts),
+        Ok(plant) => run_answer(alloc, plant, sections.counts, gate),
         Err(PlantError::Bad(kind, path)) => refusal(alloc, Status::BadPlant(kind, path)),
         Err(PlantError::NoMemory) => Err(NoMemory),
+    }
+}
+
+/// The answer of the command `trace` to an input that isn't too long.
+fn answer_to_trace<G: Gate>(alloc: Global, input: &[u8], gate: &G) -> Result<Answer, NoMemory>
+    requires { length input.now ≤ input_limit }
+    ensures { IfOk result (λ answer. (words : List (List ℕ)) → Names Trace words
+        → IsAnswer words input.now answer.status answer.text.items) }
+{
+    match read_plant(alloc, input) {
+        Ok(plant) => trace_answer(alloc, &plant, gate),
+        Err(PlantError::Bad(kind, path)) => refusal(alloc, Status::BadPlant(kind, path)),
+        Err(PlantError::NoMemory) => Err(NoMemory),
+    }
+}
+
+/// The answer of a command to an input that isn't too long.
+pub fn input_answer<G: Gate>(
+    alloc: Global,
+    command: Command,
+    input: &[u8],
+    gate: &G,
+) -> Result<Answer, NoMemory>
+    requires { length input.now ≤ input_limit }
+    ensures { IfOk result (λ answer. (words : List (List ℕ)) → Names command words
+        → IsAnswer words input.now answer.status answer.text.items) }
+{
+    match command {
+        Command::Run => answer_to_run(alloc, input, gate),
+        Command::Trace => answer_to_trace(alloc, input, gate),
     }
 }

@@ -1,23 +1,25 @@
 //! The command `mpc`: an explicit model predictive control compiler whose every answer is proved.
 //!
 //! `mpc run` reads the file of a plant, a line `states` and lines of counts from standard input, and
-//! writes the first move of the cheapest input sequence from each of these states to standard output.
+//! writes the first move of the cheapest input sequence from each of these states to standard output;
+//! `mpc trace` reads the file of a plant and writes how its active sets were claimed and decided.
 #![tactic(auto)]
 
-mod affine;
 mod answer;
+mod commands;
+mod compiling;
 mod counts;
-mod first_moves;
+mod deciding;
+mod histories;
 mod input;
-mod laws;
+mod programs;
 mod replies;
 mod run;
-mod solution;
 mod status;
-mod synthesis;
 #[cfg(test)]
 mod tests;
 mod text;
+mod tracing;
 
 use mpc_port::{HostSink, HostSource, OpenGate};
 use std::alloc::Global;

@@ -1,11 +1,13 @@
 //! The top call: from the words and the bytes of the source to the bytes of the sink and a status.
 
-ghost use Rattle.std.specs.Prelude.{◌≡◌, ◌≢◌, map, string_bytes, MatchBool, IfOk, IfErr, IfSome, Err};
-ghost use Rattle.mpc_cli.specs.Answers.{IsRun, IsAnswer, RunAnswers};
+ghost use Rattle.std.specs.Prelude.{◌≡◌, ◌≢◌, map, string_bytes, IfOk, IfErr, IfSome, Err};
+ghost use Rattle.mpc_cli.specs.Commands.{IsCommand};
+ghost use Rattle.mpc_cli.specs.Answers.{IsAnswer, RunAnswers};
 ghost use Rattle.mpc_cli.specs.Outcomes.{IsSomeAnswer, ExplainsHalt, Finishes};
 ghost use Rattle.mpc_cli.specs.StatusText.{line_of};
 
 use crate::answer::{Answer, input_answer, refusal};
+use crate::commands::named_command;
 use crate::status::Status;
 use mpc_frac::NoMemory;
 use mpc_port::{Gate, ReadError, Sink, Source, WriteError, read_all, write_all};
@@ -26,9 +28,11 @@ enum Halt {
 /// Runs the command that the words name: reads its input from `source` and writes its output, or the
 /// status's line, to `sink`.
 ///
-/// The one command is `run`: from the file of a plant without rows, a line `states` and lines of counts
-/// it writes one reply line a line of counts, the exact first move of the cheapest input sequence from
-/// that state.
+/// `run`: from the file of a plant without rows, a line `states` and lines of counts it writes one reply
+/// line a line of counts, the exact first move of the cheapest input sequence from that state.
+///
+/// `trace`: from the file of a plant it writes the history in which the active sets of its program are
+/// claimed and decided.
 pub fn run<T: Threads + Wait + Sync, S: Source, K: Sink, G: Gate + Sync>(
     rt: &T,
     alloc: Global,
@@ -47,7 +51,7 @@ pub fn run<T: Threads + Wait + Sync, S: Source, K: Sink, G: Gate + Sync>(
           write_faults = K.faults sink.old;
           write_faults_after = K.faults sink.new;
         }) result }
-    ensures unread { (¬ IsRun (map string_bytes words.now)) → source.new ≡ source.old }
+    ensures unread { (¬ IsCommand (map string_bytes words.now)) → source.new ≡ source.old }
 {
     run_alone(rt, alloc, words, source, sink, gate)
 }
@@ -59,7 +63,7 @@ pub fn run_alone<T: Threads + Sync, S: Source, K: Sink, G: Gate>(
     words: &[String],
     source: &mut S,
     sink: &mut K,
-    _gate: &G,
+    gate: &G,
 ) -> Status
     ensures answers { RunAnswers (map string_bytes words.now)
         (record {
@@ -71,41 +75,35 @@ pub fn run_alone<T: Threads + Sync, S: Source, K: Sink, G: Gate>(
           write_faults = K.faults sink.old;
           write_faults_after = K.faults sink.new;
         }) result }
-    ensures unread { (¬ IsRun (map string_bytes words.now)) → source.new ≡ source.old }
+    ensures unread { (¬ IsCommand (map string_bytes words.now)) → source.new ≡ source.old }
 {
-    match answer_of(alloc, words, source) {
+    match answer_of(alloc, words, source, gate) {
         Ok(answer) => finish(sink, answer),
         Err(Halt::SourceFailed) => Status::ReadFault,
         Err(Halt::OutOfMemory) => Status::NoMemory,
     }
 }
 
-/// Whether the words are the one word `run`.
-fn is_run(words: &[String]) -> bool
-    ensures { MatchBool result (IsRun (map string_bytes words.now))
-        (¬ IsRun (map string_bytes words.now)) }
-{
-    match words {
-        [word] => word.as_str() == "run",
-        _ => false,
-    }
-}
-
 /// The answer to the words and the input, which is read only where the words name a command.
-fn answer_of<S: Source>(alloc: Global, words: &[String], source: &mut S) -> Result<Answer, Halt>
+fn answer_of<S: Source, G: Gate>(
+    alloc: Global,
+    words: &[String],
+    source: &mut S,
+    gate: &G,
+) -> Result<Answer, Halt>
     ensures some { IfOk result (λ answer.
         IsSomeAnswer (map string_bytes words.now) answer.status answer.text.items) }
     ensures told { IfOk result (λ answer. IfSome (S.left source.old) (λ input.
         IsAnswer (map string_bytes words.now) input answer.status answer.text.items)) }
     ensures halt { IfErr result (ExplainsHalt (map string_bytes words.now)
         (S.faults source.old) (S.faults source.new)) }
-    ensures unread { (¬ IsRun (map string_bytes words.now)) → source.new ≡ source.old }
+    ensures unread { (¬ IsCommand (map string_bytes words.now)) → source.new ≡ source.old }
 {
-    if !is_run(words) {
+    let Some(command) = named_command(words) else {
         return refused(alloc, Status::Usage);
-    }
+    };
     match read_all(alloc, source, INPUT_LIMIT) {
-        Ok(input) => match input_answer(alloc, &input) {
+        Ok(input) => match input_answer(alloc, command, &input, gate) {
             Ok(answer) => Ok(answer),
             Err(NoMemory) => Err(Halt::OutOfMemory),
         },

@@ -30,8 +30,6 @@ pub enum Status {
     TooLong,
     /// Memory ran out.
     NoMemory,
-    /// The plant has rows, which this version doesn't answer.
-    Unbuilt,
 }
 
 /// The name of what is wrong with a plant's file.
@@ -80,7 +78,6 @@ impl Status {
             Status::WriteFault => 9,
             Status::TooLong => 10,
             Status::NoMemory => 11,
-            Status::Unbuilt => 14,
         }
     }
 
@@ -109,7 +106,6 @@ impl Status {
                 add_text(&mut line, b"\n")?;
             }
             Status::TooLong => add_text(&mut line, b"too long\n")?,
-            Status::Unbuilt => add_text(&mut line, b"unbuilt\n")?,
         }
         Ok(line)
     }
