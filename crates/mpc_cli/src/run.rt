@@ -28,8 +28,9 @@ enum Halt {
 /// Runs the command that the words name: reads its input from `source` and writes its output, or the
 /// status's line, to `sink`.
 ///
-/// `run`: from the file of a plant without rows, a line `states` and lines of counts it writes one reply
-/// line a line of counts, the exact first move of the cheapest input sequence from that state.
+/// `run`: from the file of a plant, a line `states` and lines of counts it writes one reply line a line of
+/// counts, the exact first move of the cheapest admissible input sequence from that state, or `infeasible`
+/// where there is none.
 ///
 /// `trace`: from the file of a plant it writes the history in which the active sets of its program are
 /// claimed and decided.

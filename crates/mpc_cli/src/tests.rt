@@ -268,6 +268,52 @@ fn traces(rt: HostRuntime) -> Result<(), Fail> {
 }
 
 #[test]
+fn traces_every_candidate(rt: HostRuntime) -> Result<(), Fail> {
+    let cases = [
+        Case {
+            word: "trace",
+            input: b"{\"version\":1,\"horizon\":1,\"A\":[[1]],\"B\":[[1]],\"Q\":[[1]],\"R\":[[1]],\"P\":[[1]],\"rows\":[{\"u\":[1],\"max\":1},{\"u\":[-1],\"max\":1}],\"terminal\":[{\"x\":[1],\"max\":1},{\"x\":[-1],\"max\":1}],\"grid\":[{\"low\":-4,\"step\":1,\"count\":8}]}",
+            ends: b"claim 1 {}\ndone 1 {} region\nclaim 1 {1}\ndone 1 {1} region\nclaim 1 {2}\ndone 1 {2} region\nclaim 1 {3}\ndone 1 {3} region\nclaim 1 {4}\ndone 1 {4} region\n",
+            code: 0,
+        },
+        Case {
+            word: "trace",
+            input: b"{\"version\":1,\"horizon\":1,\"A\":[[1]],\"B\":[[1]],\"Q\":[[1]],\"R\":[[1]],\"P\":[[1]],\"rows\":[{\"u\":[1],\"max\":1},{\"u\":[1],\"max\":1},{\"u\":[-1],\"max\":1}],\"grid\":[{\"low\":-4,\"step\":1,\"count\":8}]}",
+            ends: b"claim 1 {}\ndone 1 {} region\nclaim 1 {1}\ndone 1 {1} region\nclaim 1 {2}\ndone 1 {2} region\nclaim 1 {3}\ndone 1 {3} region\n",
+            code: 0,
+        },
+        Case {
+            word: "trace",
+            input: b"{\"version\":1,\"horizon\":1,\"A\":[[1]],\"B\":[[1]],\"Q\":[[1]],\"R\":[[1]],\"P\":[[1]],\"rows\":[{\"u\":[1],\"max\":1},{\"u\":[2],\"max\":2},{\"u\":[-1],\"max\":1},{\"max\":0}],\"grid\":[{\"low\":-4,\"step\":1,\"count\":8}]}",
+            ends: b"claim 1 {}\ndone 1 {} region\nclaim 1 {1}\ndone 1 {1} region\nclaim 1 {2}\ndone 1 {2} region\nclaim 1 {3}\ndone 1 {3} region\nclaim 1 {4}\ndone 1 {4} dependent\n",
+            code: 0,
+        },
+        Case {
+            word: "trace",
+            input: b"{\"version\":1,\"horizon\":1,\"A\":[[1]],\"B\":[[1]],\"Q\":[[1]],\"R\":[[1]],\"P\":[[1]],\"rows\":[{\"u\":[1],\"max\":0},{\"u\":[-1],\"max\":0}],\"grid\":[{\"low\":-4,\"step\":1,\"count\":8}]}",
+            ends: b"claim 1 {}\ndone 1 {} region\nclaim 1 {1}\ndone 1 {1} region\nclaim 1 {2}\ndone 1 {2} region\n",
+            code: 0,
+        },
+        Case {
+            word: "trace",
+            input: b"{\"version\":1,\"horizon\":2,\"A\":[[1,1],[0,1]],\"B\":[[0],[1]],\"Q\":[[1,0],[0,1]],\"R\":[[1]],\"P\":[[1,0],[0,1]],\"rows\":[{\"u\":[1],\"max\":1},{\"u\":[-1],\"max\":1}],\"grid\":[{\"low\":-10,\"step\":1,\"count\":20},{\"low\":-10,\"step\":1,\"count\":20}]}",
+            ends: b"claim 1 {}\ndone 1 {} region\nclaim 1 {1}\ndone 1 {1} region\nclaim 1 {2}\ndone 1 {2} region\nclaim 1 {3}\ndone 1 {3} region\nclaim 1 {4}\ndone 1 {4} region\nclaim 1 {1,2}\ndone 1 {1,2} dependent\nclaim 1 {1,3}\ndone 1 {1,3} region\nclaim 1 {1,4}\ndone 1 {1,4} region\nclaim 1 {2,3}\ndone 1 {2,3} region\nclaim 1 {2,4}\ndone 1 {2,4} region\nclaim 1 {3,4}\ndone 1 {3,4} dependent\n",
+            code: 0,
+        },
+        Case {
+            word: "trace",
+            input: b"{\"version\":1,\"horizon\":2,\"A\":[[1,\"0.25\"],[0,\"0.95\"]],\"B\":[[0],[\"0.25\"]],\"Q\":[[1,0],[0,1]],\"R\":[[1]],\"P\":[[1,0],[0,1]],\"rows\":[{\"u\":[1],\"max\":\"0.5\"},{\"u\":[-1],\"max\":\"0.5\"},{\"x\":[0,1],\"max\":\"1.5\"},{\"x\":[0,-1],\"max\":\"1.5\"}],\"grid\":[{\"low\":-5,\"step\":\"0.5\",\"count\":20},{\"low\":-2,\"step\":\"0.25\",\"count\":16}]}",
+            ends: b"claim 1 {}\ndone 1 {} region\nclaim 1 {1}\ndone 1 {1} region\nclaim 1 {2}\ndone 1 {2} region\nclaim 1 {3}\ndone 1 {3} dependent\nclaim 1 {4}\ndone 1 {4} dependent\nclaim 1 {5}\ndone 1 {5} hollow\nclaim 1 {6}\ndone 1 {6} hollow\nclaim 1 {7}\ndone 1 {7} hollow\nclaim 1 {8}\ndone 1 {8} hollow\nclaim 1 {1,2}\ndone 1 {1,2} dependent\nclaim 1 {1,5}\ndone 1 {1,5} hollow\nclaim 1 {1,6}\ndone 1 {1,6} hollow\nclaim 1 {1,7}\ndone 1 {1,7} dependent\nclaim 1 {1,8}\ndone 1 {1,8} dependent\nclaim 1 {2,5}\ndone 1 {2,5} hollow\nclaim 1 {2,6}\ndone 1 {2,6} hollow\nclaim 1 {2,7}\ndone 1 {2,7} dependent\nclaim 1 {2,8}\ndone 1 {2,8} dependent\nclaim 1 {5,6}\ndone 1 {5,6} dependent\nclaim 1 {5,7}\ndone 1 {5,7} hollow\nclaim 1 {5,8}\ndone 1 {5,8} hollow\nclaim 1 {6,7}\ndone 1 {6,7} hollow\nclaim 1 {6,8}\ndone 1 {6,8} hollow\nclaim 1 {7,8}\ndone 1 {7,8} dependent\n",
+            code: 0,
+        },
+    ];
+    for case in &cases {
+        check_case(&rt, rt.alloc(), case)?;
+    }
+    Ok(())
+}
+
+#[test]
 fn refuses_other_words(rt: HostRuntime) -> Result<(), Fail> {
     for word in ["", "compile", "Run", "run ", "traces"] {
         let mut source = QuietSource::new(TANK.to_vec(rt.alloc())?);
