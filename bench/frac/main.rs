@@ -1,20 +1,15 @@
 // Compares the proved fractions with two plain Rust ones on the same random values: equal results
 // first, then nanoseconds an operation.
+#[path = "../shared/fractions.rs"]
 mod fractions;
+#[path = "../shared/parts.rs"]
+mod parts;
+#[path = "../shared/timing.rs"]
+mod timing;
 
 use fractions::{Fast, Frac, Plain, Rules, Wide, euclid, signed};
-
-#[repr(C)]
-#[derive(Clone, Copy, PartialEq, Debug)]
-struct Parts {
-    negative: bool,
-    num_high: u64,
-    num_low: u64,
-    den_high: u64,
-    den_low: u64,
-}
-
-const NONE: Parts = Parts { negative: false, num_high: 0, num_low: 0, den_high: 0, den_low: 0 };
+use parts::{Parts, parts};
+use timing::Timed;
 
 unsafe extern "C" {
     fn mpc_frac_sum(left: &Parts, right: &Parts, out: &mut Parts) -> bool;
@@ -64,24 +59,13 @@ impl Random {
     }
 }
 
-fn parts(x: &Frac) -> Parts {
-    let size = x.num.unsigned_abs();
-    Parts {
-        negative: x.num < 0,
-        num_high: (size >> 64) as u64,
-        num_low: size as u64,
-        den_high: (x.den >> 64) as u64,
-        den_low: x.den as u64,
-    }
-}
-
 fn compare(count: usize) {
     let mut random = Random(0x9E37_79B9_7F4A_7C15);
     let (mut wide, mut different) = (0, 0);
     for _ in 0..count {
         let (x, y) = (random.mixed(), random.mixed());
         let (sent_x, sent_y) = (parts(&x), parts(&y));
-        let mut out = NONE;
+        let mut out = sent_x;
         let sum = unsafe { mpc_frac_sum(&sent_x, &sent_y, &mut out) }.then_some(out);
         let product = unsafe { mpc_frac_product(&sent_x, &sent_y, &mut out) }.then_some(out);
         let order = unsafe { mpc_frac_order(&sent_x, &sent_y) };
@@ -118,51 +102,6 @@ fn all<F: Fn(&Frac, &Frac) -> u64>(left: &[Frac], right: &[Frac], mut digest: u6
     digest
 }
 
-#[repr(C)]
-struct TimeSpec {
-    seconds: i64,
-    nanoseconds: i64,
-}
-
-unsafe extern "C" {
-    fn clock_gettime(clock: i32, time: *mut TimeSpec) -> i32;
-}
-
-/// The nanoseconds that this thread has run, so that other programs count little.
-fn thread_time() -> f64 {
-    const THREAD_CPU: i32 = 3;
-    let mut time = TimeSpec { seconds: 0, nanoseconds: 0 };
-    unsafe { clock_gettime(THREAD_CPU, &mut time) };
-    time.seconds as f64 * 1e9 + time.nanoseconds as f64
-}
-
-/// The least time of several runs, and what they gave.
-struct Timed<F: FnMut(u32) -> u64> {
-    run: F,
-    once: f64,
-    many: f64,
-    digest: u64,
-}
-
-impl<F: FnMut(u32) -> u64> Timed<F> {
-    fn new(run: F) -> Self {
-        Timed { run, once: f64::MAX, many: f64::MAX, digest: 0 }
-    }
-
-    fn go(&mut self, rounds: u32) {
-        let start = thread_time();
-        (self.run)(1);
-        self.once = self.once.min(thread_time() - start);
-        let start = thread_time();
-        self.digest = (self.run)(rounds + 1);
-        self.many = self.many.min(thread_time() - start);
-    }
-
-    fn each(&self, rounds: u32) -> f64 {
-        (self.many - self.once) / (rounds as f64 * COUNT as f64)
-    }
-}
-
 fn repeat<F: Fn(&Frac, &Frac) -> u64 + Copy>(left: &[Frac], right: &[Frac], rounds: u32, step: F) -> u64 {
     let mut digest = 0;
     for _ in 0..rounds {
@@ -181,7 +120,7 @@ fn row(name: &str, rounds: u32, proved: impl FnMut(u32) -> u64, fast: impl FnMut
         plain.go(rounds);
     }
     let same = if proved.digest == fast.digest && fast.digest == plain.digest { "" } else { "  DIGESTS DIFFER" };
-    let (p, f, e) = (proved.each(rounds), fast.each(rounds), plain.each(rounds));
+    let [p, f, e] = [proved.each(rounds), fast.each(rounds), plain.each(rounds)].map(|seconds| seconds * 1e9 / COUNT as f64);
     println!("{name:22} proved {p:7.2} ns   fast Rust {f:7.2} ns (x {:.2})   plain Rust {e:7.2} ns (x {:.2}){same}", p / f, p / e);
 }
 

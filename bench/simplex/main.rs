@@ -1,25 +1,21 @@
 // Compares the proved decisions of systems of rows with plain Rust ones and with stated results: equal answers first, then pivots a
 // second. The argument names the file of systems.
-#[path = "../frac/fractions.rs"]
+#[path = "../shared/fractions.rs"]
 #[allow(dead_code)]
 mod fractions;
+#[path = "../shared/parts.rs"]
+mod parts;
 mod plain;
+#[path = "../shared/timing.rs"]
+mod timing;
 
 use fractions::{Frac, euclid};
+use parts::{Parts, frac, parts};
 use plain::{Answer, Row, System, ZERO, decide};
 use std::collections::BTreeMap;
+use timing::Timed;
 
 // ---- the proved library
-#[repr(C)]
-#[derive(Clone, Copy)]
-struct Parts {
-    negative: bool,
-    num_high: u64,
-    num_low: u64,
-    den_high: u64,
-    den_low: u64,
-}
-
 #[repr(C)]
 #[derive(Clone, Copy)]
 struct Side {
@@ -54,25 +50,6 @@ unsafe extern "C" {
         side_count: usize,
         rounds: u32,
     ) -> u64;
-}
-
-fn parts(x: &Frac) -> Parts {
-    let size = x.num.unsigned_abs();
-    Parts {
-        negative: x.num < 0,
-        num_high: (size >> 64) as u64,
-        num_low: size as u64,
-        den_high: (x.den >> 64) as u64,
-        den_low: x.den as u64,
-    }
-}
-
-fn frac(parts: &Parts) -> Frac {
-    let size = ((parts.num_high as u128) << 64 | parts.num_low as u128) as i128;
-    Frac {
-        num: if parts.negative { -size } else { size },
-        den: ((parts.den_high as u128) << 64 | parts.den_low as u128) as i128,
-    }
 }
 
 struct Sent {
@@ -174,52 +151,6 @@ fn read_line(line: &str) -> (System, Answer) {
 }
 
 // ---- time
-#[repr(C)]
-struct TimeSpec {
-    seconds: i64,
-    nanoseconds: i64,
-}
-
-unsafe extern "C" {
-    fn clock_gettime(clock: i32, time: *mut TimeSpec) -> i32;
-}
-
-/// The seconds that this thread has run, so that other programs count little.
-fn thread_time() -> f64 {
-    const THREAD_CPU: i32 = 3;
-    let mut time = TimeSpec { seconds: 0, nanoseconds: 0 };
-    unsafe { clock_gettime(THREAD_CPU, &mut time) };
-    time.seconds as f64 + time.nanoseconds as f64 * 1e-9
-}
-
-/// The least seconds of several goes, and what they gave.
-struct Timed<F: Fn(u32) -> u64> {
-    run: F,
-    once: f64,
-    many: f64,
-    digest: u64,
-}
-
-impl<F: Fn(u32) -> u64> Timed<F> {
-    fn new(run: F) -> Self {
-        Timed { run, once: f64::MAX, many: f64::MAX, digest: 0 }
-    }
-
-    fn go(&mut self, rounds: u32) {
-        let start = thread_time();
-        (self.run)(1);
-        self.once = self.once.min(thread_time() - start);
-        let start = thread_time();
-        self.digest = (self.run)(rounds + 1);
-        self.many = self.many.min(thread_time() - start);
-    }
-
-    /// The seconds of a round, without what comes before the first.
-    fn each(&self, rounds: u32) -> f64 {
-        (self.many - self.once) / rounds as f64
-    }
-}
-
 /// Prints a line for these systems, and gives the seconds of one round of both.
 fn measure(name: &str, systems: &[(System, Sent)], pivots: u64) -> (f64, f64) {
     const ROUNDS: u32 = 20;
