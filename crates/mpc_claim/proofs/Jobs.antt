@@ -31,7 +31,7 @@ claim_count qp cs settled n pending h k =
     let within = k.within in
     ap length k.claimed ∙ length-take-le n (sets_of cs) (omega (arith, many))
 
-opens : (h : List Event) (n w : ℕ) (ticket : Ticket) → length (claimed_sets h) ≡ n → ticket.number ≡ n + 1 → ticket.worker ≡ w → (Contains (ended_sets h) ticket.set → ⊥) → IsOpen (h ++ event w ticket.set Claim ∷ []) ticket
+pub opens : (h : List Event) (n w : ℕ) (ticket : Ticket) → length (claimed_sets h) ≡ n → ticket.number ≡ n + 1 → ticket.worker ≡ w → (Contains (ended_sets h) ticket.set → ⊥) → IsOpen (h ++ event w ticket.set Claim ∷ []) ticket
 opens h n w ticket count number worker fresh =
     let l = length-append (claimed_sets h) (ticket.set ∷ []) in
     let here : ticket.number - 1 ≡ length (claimed_sets h) = omega (arith, count, number) in

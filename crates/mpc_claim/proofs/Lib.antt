@@ -13,3 +13,4 @@ pub mod Counts
 pub mod Opens
 pub mod Held
 pub mod Emptied
+pub mod HistoryLaws

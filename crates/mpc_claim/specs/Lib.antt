@@ -5,3 +5,4 @@ pub mod Books
 pub mod Levels
 pub mod Moves
 pub mod Hands
+pub mod HistoryLaws

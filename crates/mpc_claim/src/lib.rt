@@ -3,6 +3,7 @@
 
 mod candidates;
 mod events;
+mod laws;
 mod levels;
 mod moves;
 mod registry;
@@ -11,6 +12,7 @@ mod worlds;
 
 pub use candidates::{Candidate, Slot};
 pub use events::{Event, EventKind, Phase, Tag};
+pub use laws::history_laws;
 pub use moves::{Action, Played};
 pub use registry::Registry;
 pub use tickets::{Claimed, Delivery, Ticket};
