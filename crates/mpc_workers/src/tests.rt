@@ -10,12 +10,13 @@ use crate::enumerate_alone;
 use mpc_claim::{Action, Phase, Played, World};
 use mpc_frac::{Frac, NoMemory};
 use mpc_linear::Matrix;
-use mpc_port::OpenGate;
+use mpc_port::{Gate, OpenGate};
 use mpc_region::examine;
 use mpc_rows::{Counts, Qp};
 use mpc_sets::ActiveSet;
 use std::alloc::Global;
 use std::process::Abort;
+use std::sync::Mutex;
 use std::test::Fail;
 
 /// The matrix of one or two columns with these entries, where one column is the first of the two.
@@ -98,6 +99,49 @@ fn alone(rt: HostRuntime) -> Result<(), Fail> {
     assert_eq!(rt; registry.history().len(), 6);
     let laws = registry.into_laws(rt.alloc())?;
     assert_eq!(rt; laws.len(), 3);
+    Ok(())
+}
+
+/// One call of a gate.
+#[derive(Clone, Copy)]
+struct Passage {
+    worker: u32,
+    mask: u64,
+}
+
+/// A gate that keeps each of its calls in order.
+#[derive(Drop)]
+struct GateBook {
+    passages: Mutex<Vec<Passage>>,
+}
+
+impl Gate for GateBook {
+    fn between(&self, worker: u32, mask: u64) {
+        if let Some(mut passages) = self.passages.try_lock() {
+            let _ = passages.push(Passage { worker, mask });
+        }
+    }
+}
+
+#[test]
+fn passes_the_gate(rt: HostRuntime) -> Result<(), Fail> {
+    let qp = limited(rt.alloc())?;
+    assert!(rt; is_positive_number(&qp.h));
+    let gate = GateBook {
+        passages: Mutex::new(Vec::new(rt.alloc())),
+    };
+    let _ = enumerate_alone(rt.alloc(), &qp, &gate)?;
+    let passages = gate.passages.into_inner();
+    let sets = [
+        ActiveSet::empty(),
+        ActiveSet::empty().with(1),
+        ActiveSet::empty().with(2),
+    ];
+    assert_eq!(rt; passages.len(), sets.len());
+    for (passage, set) in passages.iter().zip(sets) {
+        assert_eq!(rt; passage.worker, 1);
+        assert_eq!(rt; passage.mask, set.mask());
+    }
     Ok(())
 }
 
