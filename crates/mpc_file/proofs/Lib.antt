@@ -1,3 +1,4 @@
 pub mod BoundLemmas
 pub mod PreorderLemmas
 pub mod OneLeafLemmas
+pub mod LineLemmas

@@ -4,3 +4,5 @@ pub mod Bounds
 pub mod Walk
 pub mod Replies
 pub mod OneLeaf
+pub mod Lines
+pub mod Text

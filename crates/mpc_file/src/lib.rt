@@ -5,8 +5,10 @@ mod bounds;
 mod controllers;
 mod errors;
 mod laws;
+mod writing;
 
 pub use bounds::limits;
 pub use controllers::Controller;
 pub use errors::SealError;
 pub use laws::one_leaf;
+pub use writing::write_file;

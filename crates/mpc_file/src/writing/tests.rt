@@ -1,0 +1,118 @@
+ghost use Rattle.std.specs.Prelude.{◌<◌};
+
+use super::{write_file, write_parts};
+use crate::Controller;
+use mpc_frac::{Frac, NoMemory};
+use mpc_linear::{Ints, Matrix, RowInt};
+use mpc_plant::read_plant;
+use mpc_rows::{Cert, Certs, Law, LawTable, Node, Tree};
+use mpc_sets::ActiveSet;
+use std::alloc::Global;
+use std::test::Fail;
+
+/// A matrix of one row.
+fn one_row(alloc: Global, first: Frac, second: Frac) -> Result<Matrix, NoMemory> {
+    let mut matrix = Matrix::zero(alloc, 1, 2)?;
+    matrix.set(0, 0, first);
+    matrix.set(0, 1, second);
+    Ok(matrix)
+}
+
+/// The certificate with the multiplier 1 at this position.
+fn single(alloc: Global, position: u64) -> Result<Cert, NoMemory>
+    requires { 0 < position }
+{
+    let mut cert = Cert::new(alloc);
+    cert.push((position, Frac::whole(1)))?;
+    Ok(cert)
+}
+
+/// The certificate with the multiplier 1 at these positions.
+fn pair(alloc: Global, first: u64, second: u64) -> Result<Cert, NoMemory>
+    requires from_one { 0 < first }
+    requires rising { first < second }
+{
+    let mut cert = Cert::new(alloc);
+    cert.push((first, Frac::whole(1)))?;
+    cert.push((second, Frac::whole(1)))?;
+    Ok(cert)
+}
+
+/// The leaf of this law, with two certificates.
+fn leaf(alloc: Global, law: u32, first: Cert, second: Cert) -> Result<Node, NoMemory> {
+    let mut certs = Certs::new(alloc);
+    certs.push(first)?;
+    certs.push(second)?;
+    Ok(Node::Law { law, certs })
+}
+
+/// The split `a t <= b`.
+fn split(alloc: Global, a: i128, b: i128) -> Result<Node, NoMemory> {
+    let mut row = Ints::new(alloc);
+    row.push(a)?;
+    Ok(Node::Split(RowInt { a: row, b }))
+}
+
+/// The laws of no row, of the bound above and of that below.
+fn three_laws(alloc: Global) -> Result<LawTable, Fail> {
+    let zero = Frac::whole(0);
+    let mut laws = LawTable::new(alloc);
+    laws.push(Law {
+        set: ActiveSet::empty(),
+        moves: one_row(alloc, Frac::whole(2), Frac::new(-1, 2)?)?,
+        mults: Matrix::zero(alloc, 0, 2)?,
+    })?;
+    laws.push(Law {
+        set: ActiveSet::empty().with(1),
+        moves: one_row(alloc, Frac::whole(1), zero)?,
+        mults: one_row(alloc, Frac::whole(2), Frac::whole(-1))?,
+    })?;
+    laws.push(Law {
+        set: ActiveSet::empty().with(2),
+        moves: one_row(alloc, Frac::whole(-1), zero)?,
+        mults: one_row(alloc, Frac::whole(-6), Frac::whole(1))?,
+    })?;
+    Ok(laws)
+}
+
+/// The tree over these laws: the first from 2 to 6, the second below and the third above.
+fn three_leaves(alloc: Global) -> Result<Tree, NoMemory> {
+    let mut tree = Tree::new(alloc);
+    tree.push(split(alloc, -1, -2)?)?;
+    tree.push(split(alloc, 1, 6)?)?;
+    tree.push(leaf(alloc, 1, pair(alloc, 3, 5)?, pair(alloc, 4, 5)?)?)?;
+    tree.push(leaf(alloc, 3, single(alloc, 5)?, pair(alloc, 4, 5)?)?)?;
+    tree.push(leaf(alloc, 2, pair(alloc, 3, 4)?, single(alloc, 4)?)?)?;
+    Ok(tree)
+}
+
+#[test]
+fn writes_laws_and_leaves(rt: HostRuntime) -> Result<(), Fail> {
+    let alloc = rt.alloc();
+    let file =
+        b"{\"version\":1,\"horizon\":1,\"A\":[[1]],\"B\":[[1]],\"Q\":[[1]],\"R\":[[1]],\"P\":[[1]],\"rows\":[{\"u\":[1],\"max\":1},{\"u\":[-1],\"max\":1}],\"grid\":[{\"low\":-4,\"step\":1,\"count\":8}]}";
+    let plant = read_plant(alloc, file).ok().ok_or("no plant")?;
+    let mut out = Vec::new(alloc);
+    write_parts(&plant, &three_laws(alloc)?, &three_leaves(alloc)?, &mut out)?;
+    let text =
+        b"mpc 1\nsize 1 1 1\nA 1\nB 1\nQ 1\nR 1\nP 1\nrows 2\nrow 0 1 1\nrow 0 -1 1\nterminal 0\ngrid -4 1 8\nlaws 3\nlaw\nmove 2 -1/2\nlaw 1\nmove 1 0\nmult 2 -1\nlaw 2\nmove -1 0\nmult -6 1\ntree\nsplit -1 -2\nsplit 1 6\nleaf 1\ncert 3 1 5 1\ncert 4 1 5 1\nleaf 3\ncert 5 1\ncert 4 1 5 1\nleaf 2\ncert 3 1 4 1\ncert 4 1\nend\n";
+    assert_eq!(rt; out.as_slice(), text.as_slice());
+    Ok(())
+}
+
+#[test]
+fn writes_a_controller(rt: HostRuntime) -> Result<(), Fail> {
+    let alloc = rt.alloc();
+    let file =
+        b"{\"version\":1,\"horizon\":2,\"A\":[[1,\"0.25\"],[0,\"0.95\"]],\"B\":[[0],[\"0.25\"]],\"Q\":[[1,2],[2,7]],\"R\":[[1]],\"P\":[[1,0],[0,1]],\"rows\":[{\"x\":[0,\"-1/3\"],\"max\":\"1.5\"}],\"terminal\":[{\"x\":[1,2],\"max\":-1}],\"grid\":[{\"low\":-5,\"step\":\"0.5\",\"count\":20},{\"low\":-2,\"step\":\"0.25\",\"count\":16}]}";
+    let plant = read_plant(alloc, file).ok().ok_or("no plant")?;
+    let mut tree = Tree::new(alloc);
+    tree.push(Node::NoMove {
+        cert: Cert::new(alloc),
+    })?;
+    let controller = Controller::seal(alloc, plant, LawTable::new(alloc), tree)?;
+    let text =
+        b"mpc 1\nsize 2 1 2\nA 1 1/4 0 19/20\nB 0 1/4\nQ 1 2 2 7\nR 1\nP 1 0 0 1\nrows 1\nrow 0 -1/3 0 3/2\nterminal 1\nlast 1 2 -1\ngrid -5 1/2 20\ngrid -2 1/4 16\nlaws 0\ntree\nnone\ncert\nend\n";
+    assert_eq!(rt; write_file(alloc, &controller)?.as_slice(), text.as_slice());
+    Ok(())
+}
