@@ -38,7 +38,8 @@ fn write_parts(
 }
 
 /// The controller's file: its plant, its laws and its search tree as lines of ASCII text, each ended by
-/// a line feed. All numbers are exact, and a controller has only this one text.
+/// a line feed. All numbers are exact, and a controller has only this one text. The only error is want
+/// of memory.
 pub fn write_file(alloc: Global, controller: &Controller) -> Result<Vec<u8>, NoMemory>
     ensures { IfOk result (λ bytes. bytes.items ≡ text_of controller.now) }
 {

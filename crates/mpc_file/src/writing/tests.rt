@@ -1,4 +1,5 @@
-ghost use Rattle.std.specs.Prelude.{◌<◌};
+ghost use Rattle.std.specs.Prelude.{◌≡◌, ◌<◌, [], ◌∷◌, pos, IfOk};
+ghost use Rattle.mpc_exact.specs.Rational.{int};
 
 use super::{write_file, write_parts};
 use crate::Controller;
@@ -21,6 +22,7 @@ fn one_row(alloc: Global, first: Frac, second: Frac) -> Result<Matrix, NoMemory>
 /// The certificate with the multiplier 1 at this position.
 fn single(alloc: Global, position: u64) -> Result<Cert, NoMemory>
     requires { 0 < position }
+    ensures { IfOk result (λ cert. cert ≡ (position, int (pos 1)) ∷ []) }
 {
     let mut cert = Cert::new(alloc);
     cert.push((position, Frac::whole(1)))?;
@@ -32,8 +34,7 @@ fn pair(alloc: Global, first: u64, second: u64) -> Result<Cert, NoMemory>
     requires from_one { 0 < first }
     requires rising { first < second }
 {
-    let mut cert = Cert::new(alloc);
-    cert.push((first, Frac::whole(1)))?;
+    let mut cert = single(alloc, first)?;
     cert.push((second, Frac::whole(1)))?;
     Ok(cert)
 }
