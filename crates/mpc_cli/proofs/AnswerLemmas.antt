@@ -6,9 +6,12 @@ use Rattle.mpc_plant.specs.declared.plants.Plant.{Plant}
 use Rattle.mpc_plant.specs.declared.faults.PlantKind.{PlantKind}
 use Rattle.mpc_plant.specs.WholePlant.{ReadsAsPlant, IsFirstFault}
 use Rattle.mpc_cli.specs.declared.commands.Command.{Command}
-use Rattle.mpc_cli.specs.declared.commands.Command.TheVariants.{Run, Trace}
+use Rattle.mpc_cli.specs.declared.commands.Command.TheVariants.{Run, Compile, Trace}
+use Rattle.mpc_cli.specs.declared.answer.Answer.{Answer}
 use Rattle.mpc_cli.specs.declared.status.Status.{Status}
 use Rattle.mpc_cli.specs.declared.status.Status.TheVariants.{Done, Usage, BadPlant, NotDefinite, TooWide, ReadFault, WriteFault, TooLong, NoMemory}
+use Rattle.mpc_cli.specs.declared.programs.SynthesisError.{SynthesisError}
+use Rattle.mpc_cli.specs.Synthesis.{ExplainsSynthesisError}
 use Rattle.mpc_cli.specs.StatusText.{line_of}
 use Rattle.mpc_cli.specs.Commands.{Names, plant_text}
 use Rattle.mpc_cli.specs.Cut.{tail_of}
@@ -20,13 +23,15 @@ pub both : {T E : Type 0} (r : Result T E) (P Q : T → Type 0) → IfOk r P →
 both (Ok x) P Q p q = (p, q)
 both (Err e) P Q p q = tt
 
--- the lines of counts of a command's input; a history has none
+-- the lines of counts of the input of `run`; the other commands have none
 abbrev pub CountsOf : Command → List ℕ → List ℕ → Type 0
 CountsOf Run input counts = counts ≡ tail_of input
+CountsOf Compile input counts = Unit {0}
 CountsOf Trace input counts = Unit {0}
 
 output_of : (c : Command) (input counts : List ℕ) (plant : Plant) (text : List ℕ) → ReadsAsPlant (plant_text c input) plant → CountsOf c input counts → IsReplied c plant counts text → IsOutput c input text
 output_of Run input counts plant text read tail a = record { plant = plant; read = read; replies = subst (λ t. AreReplies plant (lines t) text) tail a.output }
+output_of Compile input counts plant text read tail a = record { plant = plant; read = read; file = a.output }
 output_of Trace input counts plant text read tail a = record { plant = plant; read = read; traced = a.output }
 
 module _ (c : Command) (words : List (List ℕ)) (input counts : List ℕ) (plant : Plant) (named : Names c words) (short : length input ≤ input_limit) (read : ReadsAsPlant (plant_text c input) plant) (tail : CountsOf c input counts) where
@@ -53,3 +58,9 @@ pub bad_plant_answers : (c : Command) (input : List ℕ) (kind : PlantKind) (pat
 bad_plant_answers c input kind path status text short fault h words named =
     subst (λ s. IsAnswer words input s text) (sym h.0)
     (record { due = record { command = c; taken = record { named = named; short = short }; fault = fault }; text_is = h.1 })
+
+-- the answer to a refused plant, whose cause holds
+pub refused_by : {E : Type 0} (r : Result Answer E) (e : SynthesisError) (c : Command) (plant : Plant) (counts : List ℕ) → ExplainsSynthesisError c plant e
+    → IfOk r (λ a. (k : Command) (p : Plant) (line : List ℕ) → ExplainsSynthesisError k p e → IsPlantAnswer k p line a.status a.text.items) → IfOk r (λ a. IsPlantAnswer c plant counts a.status a.text.items)
+refused_by (Ok a) e c plant counts cause h = h c plant counts cause
+refused_by (Err error) e c plant counts cause h = tt

@@ -28,14 +28,15 @@ use Rattle.mpc_tree.specs.Certified.{IsCertified}
 use Rattle.mpc_tree.specs.WideRuns.{IsFirstWide as IsFirstWideRun}
 use Rattle.mpc_tree.proofs.OneCell.{laws_of_table}
 use Rattle.mpc_tree.proofs.OneTree.{fitting_of_certified, one_tree, fits_not_wide, one_first_wide}
+use Rattle.mpc_file.specs.Parts.{Parts}
 use Rattle.mpc_file.specs.Bounds.{KeepBounds, IsFirstBroken}
 use Rattle.mpc_answers.proofs.OneTable.{one_table}
 use Rattle.mpc_answers.proofs.OneBound.{one_first_broken, kept_not_broken}
 use Rattle.mpc_cli.specs.declared.commands.Command.{Command}
-use Rattle.mpc_cli.specs.declared.commands.Command.TheVariants.{Run, Trace}
+use Rattle.mpc_cli.specs.declared.commands.Command.TheVariants.{Run, Compile, Trace}
 use Rattle.mpc_cli.specs.declared.status.Status.{Status}
 use Rattle.mpc_cli.specs.declared.status.Status.TheVariants.{Done, NotDefinite, TooWide}
-use Rattle.mpc_cli.specs.Synthesis.{HasProgram, PivotsPass, IsDecided, IsTraceable, IsAnswerable, IsNotDefiniteAt, FirstWide, wide_program, wide_pivot, wide_set, wide_tree, wide_bound}
+use Rattle.mpc_cli.specs.Synthesis.{HasProgram, PivotsPass, IsDecided, IsTraceable, IsController, IsAnswerable, BuildsController, IsNotDefiniteAt, FirstWide, wide_program, wide_pivot, wide_set, wide_tree, wide_bound}
 use Rattle.mpc_cli.proofs.Firsts.{FailsFirst, one_first}
 use Rattle.mpc_cli.proofs.SynthesisLemmas.{not_wide, one_wide_place, passes_not_positive, passes_wide, one_not_positive, one_pivot_wide, not_both}
 
@@ -76,12 +77,10 @@ pub record OfProgram (plant : Plant) (P : Qp → Type 0) : Type 0 where
   pub holds : P qp
 
 abbrev pub Trees : Command → Qp → Type 0
-Trees Run qp = (laws : List Law) → IsTable qp laws → (nodes : List Node) × IsCertified qp laws whole_box nodes
-Trees Trace qp = Unit {0}
+Trees c qp = BuildsController c → (laws : List Law) → IsTable qp laws → (nodes : List Node) × IsCertified qp laws whole_box nodes
 
 abbrev pub Bounds : Command → Plant → Qp → Type 0
-Bounds Run plant qp = (laws : List Law) (nodes : List Node) → IsTable qp laws → IsCertified qp laws whole_box nodes → KeepBounds plant laws nodes
-Bounds Trace plant qp = Unit {0}
+Bounds c plant qp = BuildsController c → (laws : List Law) (nodes : List Node) → IsTable qp laws → IsCertified qp laws whole_box nodes → KeepBounds plant laws nodes
 
 abbrev pub Decides : Qp → Type 0
 Decides qp = IsDefinite qp.h.rows × IsDecided qp
@@ -101,12 +100,10 @@ abbrev pub SetFails : Status → Qp → Type 0
 SetFails s qp = IsDefinite qp.h.rows × ((place : Place) × IsFirstBad qp (Wide place) × (s ≡ TooWide place))
 
 abbrev pub TreeFails : Command → Status → Qp → Type 0
-TreeFails Run s qp = (laws : List Law) × (place : Place) × IsTable qp laws × IsFirstWideRun qp laws whole_box 1 place × (s ≡ TooWide place)
-TreeFails Trace s qp = ⊥
+TreeFails c s qp = BuildsController c × (laws : List Law) × (place : Place) × IsTable qp laws × IsFirstWideRun qp laws whole_box 1 place × (s ≡ TooWide place)
 
 abbrev pub BoundFails : Command → Plant → Status → Qp → Type 0
-BoundFails Run plant s qp = (laws : List Law) × (nodes : List Node) × (place : Place) × IsTable qp laws × IsCertified qp laws whole_box nodes × IsFirstBroken plant laws nodes place × (s ≡ TooWide place)
-BoundFails Trace plant s qp = ⊥
+BoundFails c plant s qp = BuildsController c × (laws : List Law) × (nodes : List Node) × (place : Place) × IsTable qp laws × IsCertified qp laws whole_box nodes × IsFirstBroken plant laws nodes place × (s ≡ TooWide place)
 
 abbrev pub Fails : Command → Plant → Status → ℕ → Type 0
 Fails c plant s zero = (place : Place) × IsWidePlace plant place × (s ≡ TooWide place)
@@ -126,14 +123,12 @@ set_passes : (s : Status) (qp : Qp) → Decides qp → SetFails s qp → ⊥
 set_passes s qp p f = no_bad qp p.0 p.1 (Wide f.1.0) f.1.1
 
 tree_passes : (c : Command) (s : Status) (qp : Qp) → Trees c qp → TreeFails c s qp → ⊥
-tree_passes Run s qp p f =
-    let t = p f.0 f.2 in
-    fits_not_wide qp f.0 (laws_of_table qp f.0 f.2) whole_box t.0 1 f.1 (fitting_of_certified qp f.0 whole_box t.0 t.1) f.3
-tree_passes Trace s qp p f = f
+tree_passes c s qp p f =
+    let t = p f.0 f.1 f.3 in
+    fits_not_wide qp f.1 (laws_of_table qp f.1 f.3) whole_box t.0 1 f.2 (fitting_of_certified qp f.1 whole_box t.0 t.1) f.4
 
 bound_passes : (c : Command) (plant : Plant) (s : Status) (qp : Qp) → Bounds c plant qp → BoundFails c plant s qp → ⊥
-bound_passes Run plant s qp p f = kept_not_broken plant f.0 f.1 f.2 (p f.0 f.1 f.3 f.4) f.5
-bound_passes Trace plant s qp p f = f
+bound_passes c plant s qp p f = kept_not_broken plant f.1 f.2 f.3 (p f.0 f.1 f.2 f.4 f.5) f.6
 
 clash : (c : Command) (plant : Plant) (s : Status) (n : ℕ) → Stage c plant n → Fails c plant s n → ⊥
 clash c plant s zero p f = not_wide plant f.0 p f.1
@@ -157,19 +152,17 @@ one_set : (s t : Status) (qp : Qp) → SetFails s qp → SetFails t qp → s ≡
 one_set s t qp v w = v.1.2 ∙ ap TooWide (same_place v.1.0 w.1.0 (one_bad qp v.0 (Wide v.1.0) (Wide w.1.0) v.1.1 w.1.1)) ∙ sym w.1.2
 
 one_tree_place : (c : Command) (s t : Status) (qp : Qp) → TreeFails c s qp → TreeFails c t qp → s ≡ t
-one_tree_place Run s t qp v w =
-    let mine : IsFirstWideRun qp w.0 whole_box 1 v.1 = subst (λ laws. IsFirstWideRun qp laws whole_box 1 v.1) (one_table qp v.0 w.0 v.2 w.2) v.3 in
-    v.4 ∙ ap TooWide (one_first_wide qp w.0 (laws_of_table qp w.0 w.2) whole_box 1 v.1 w.1 mine w.3) ∙ sym w.4
-one_tree_place Trace s t qp v w = absurd v
+one_tree_place c s t qp v w =
+    let mine : IsFirstWideRun qp w.1 whole_box 1 v.2 = subst (λ laws. IsFirstWideRun qp laws whole_box 1 v.2) (one_table qp v.1 w.1 v.3 w.3) v.4 in
+    v.5 ∙ ap TooWide (one_first_wide qp w.1 (laws_of_table qp w.1 w.3) whole_box 1 v.2 w.2 mine w.4) ∙ sym w.5
 
 one_bound : (c : Command) (plant : Plant) (s t : Status) (qp : Qp) → BoundFails c plant s qp → BoundFails c plant t qp → s ≡ t
-one_bound Run plant s t qp v w =
-    let table : v.0 ≡ w.0 = one_table qp v.0 w.0 v.3 w.3 in
-    let certified : IsCertified qp w.0 whole_box v.1 = subst (λ laws. IsCertified qp laws whole_box v.1) table v.4 in
-    let nodes : v.1 ≡ w.1 = one_tree qp w.0 (laws_of_table qp w.0 w.3) whole_box v.1 w.1 certified w.4 in
-    let mine : IsFirstBroken plant w.0 w.1 v.2 = subst (λ n. IsFirstBroken plant w.0 n v.2) nodes (subst (λ laws. IsFirstBroken plant laws v.1 v.2) table v.5) in
-    v.6 ∙ ap TooWide (one_first_broken plant w.0 w.1 v.2 w.2 mine w.5) ∙ sym w.6
-one_bound Trace plant s t qp v w = absurd v
+one_bound c plant s t qp v w =
+    let table : v.1 ≡ w.1 = one_table qp v.1 w.1 v.4 w.4 in
+    let certified : IsCertified qp w.1 whole_box v.2 = subst (λ laws. IsCertified qp laws whole_box v.2) table v.5 in
+    let nodes : v.2 ≡ w.2 = one_tree qp w.1 (laws_of_table qp w.1 w.4) whole_box v.2 w.2 certified w.5 in
+    let mine : IsFirstBroken plant w.1 w.2 v.3 = subst (λ n. IsFirstBroken plant w.1 n v.3) nodes (subst (λ laws. IsFirstBroken plant laws v.2 v.3) table v.6) in
+    v.7 ∙ ap TooWide (one_first_broken plant w.1 w.2 v.3 w.3 mine w.6) ∙ sym w.7
 
 one_failure : (c : Command) (plant : Plant) (s t : Status) (n : ℕ) → Fails c plant s n → Fails c plant t n → s ≡ t
 one_failure c plant s t zero f g = f.2 ∙ ap TooWide (one_wide_place plant f.0 g.0 f.1 g.1) ∙ sym g.2
@@ -229,11 +222,11 @@ module _ (c : Command) (plant : Plant) where
 
 -- ---- the table and its tree
 module _ (qp : Qp) (laws : List Law) (nodes : List Node) (table : IsTable qp laws) (certified : IsCertified qp laws whole_box nodes) where
-  has_trees : Trees Run qp
-  has_trees other t = (nodes, subst (λ l. IsCertified qp l whole_box nodes) (one_table qp laws other table t) certified)
+  has_trees : (c : Command) → Trees c qp
+  has_trees c builds other t = (nodes, subst (λ l. IsCertified qp l whole_box nodes) (one_table qp laws other table t) certified)
 
-  keeps_bounds : (plant : Plant) → KeepBounds plant laws nodes → Bounds Run plant qp
-  keeps_bounds plant kept other tree t c =
+  keeps_bounds : (command : Command) (plant : Plant) → KeepBounds plant laws nodes → Bounds command plant qp
+  keeps_bounds command plant kept builds other tree t c =
       let same : other ≡ laws = one_table qp other laws t table in
       let mine : IsCertified qp laws whole_box tree = subst (λ l. IsCertified qp l whole_box tree) same c in
       let trees : tree ≡ nodes = one_tree qp laws (laws_of_table qp laws table) whole_box tree nodes mine certified in
@@ -244,21 +237,22 @@ wide_first _ plant _ (wide_program c place w) = record { place = 0; passed = λ 
 wide_first _ plant _ (wide_pivot c qp j h w) = record { place = 1; passed = one_passed c plant h.fits; fails = record { qp = qp; condensed = h.condensed; holds = inr (j, w, refl) } }
 wide_first _ plant _ (wide_set c qp place h p bad) =
     record { place = 2; passed = two_passed c plant qp h p; fails = record { qp = qp; condensed = h.condensed; holds = (definite_by plant qp h p, (place, bad, refl)) } }
-wide_first _ plant _ (wide_tree qp laws place t table w) =
-    record { place = 3; passed = three_passed Run plant qp t; fails = record { qp = qp; condensed = t.has_program.condensed; holds = (laws, place, table, w, refl) } }
-wide_first _ plant _ (wide_bound qp laws nodes place h w) = record {
+wide_first _ plant _ (wide_tree c qp laws place builds t table w) =
+    record { place = 3; passed = three_passed c plant qp t; fails = record { qp = qp; condensed = t.has_program.condensed; holds = (builds, laws, place, table, w, refl) } }
+wide_first _ plant _ (wide_bound c qp laws nodes place builds h w) = record {
   place = 4;
-  passed = four_passed Run plant qp h.traceable (has_trees qp laws nodes h.table h.certified);
-  fails = record { qp = qp; condensed = h.traceable.has_program.condensed; holds = (laws, nodes, place, h.table, h.certified, w, refl) };
+  passed = four_passed c plant qp h.traceable (has_trees qp laws nodes h.table h.certified c);
+  fails = record { qp = qp; condensed = h.traceable.has_program.condensed; holds = (builds, laws, nodes, place, h.table, h.certified, w, refl) };
+}
+
+built_first : (c : Command) (plant : Plant) (qp : Qp) (parts : Parts) → IsController plant qp parts → First c plant Done
+built_first c plant qp parts is = record {
+  place = 5;
+  passed = all_passed c plant qp is.has_tree.traceable (has_trees qp parts.laws parts.tree is.has_tree.table is.has_tree.certified c) (keeps_bounds qp parts.laws parts.tree is.has_tree.table is.has_tree.certified c plant is.bounds);
+  fails = refl;
 }
 
 pub done_first : (c : Command) (plant : Plant) → IsAnswerable c plant → First c plant Done
-done_first Run plant a =
-    let h = a.1.1.has_tree in
-    let parts = a.1.0 in
-    record {
-      place = 5;
-      passed = all_passed Run plant a.0 h.traceable (has_trees a.0 parts.laws parts.tree h.table h.certified) (keeps_bounds a.0 parts.laws parts.tree h.table h.certified plant a.1.1.bounds);
-      fails = refl;
-    }
-done_first Trace plant a = record { place = 5; passed = all_passed Trace plant a.0 a.1 tt tt; fails = refl }
+done_first Run plant a = built_first Run plant a.0 a.1.0 a.1.1
+done_first Compile plant a = built_first Compile plant a.0 a.1.0 a.1.1
+done_first Trace plant a = record { place = 5; passed = all_passed Trace plant a.0 a.1 (λ builds. absurd builds) (λ builds. absurd builds); fails = refl }

@@ -10,10 +10,11 @@ use Rattle.mpc_cli.specs.declared.status.Status.{Status}
 use Rattle.mpc_cli.specs.declared.status.Status.TheVariants.{Done, Usage, BadPlant, NotDefinite, TooWide, ReadFault, WriteFault, TooLong, NoMemory}
 use Rattle.mpc_cli.specs.Cut.{head_of, count_lines}
 use Rattle.mpc_cli.specs.declared.commands.Command.{Command}
-use Rattle.mpc_cli.specs.declared.commands.Command.TheVariants.{Run, Trace}
+use Rattle.mpc_cli.specs.declared.commands.Command.TheVariants.{Run, Compile, Trace}
 use Rattle.mpc_cli.specs.Commands.{Names, IsCommand, plant_text}
 use Rattle.mpc_cli.specs.Synthesis.{IsNotDefiniteAt, FirstWide, IsAnswerable}
 use Rattle.mpc_cli.specs.Histories.{IsTraceOf}
+use Rattle.mpc_cli.specs.ControllerFiles.{IsFileOf}
 use Rattle.mpc_cli.specs.ReplyLines.{AreReplies}
 use Rattle.mpc_cli.specs.StatusText.{line_of}
 
@@ -77,6 +78,12 @@ pub record IsReplies (input output : List ℕ) : Type 0 where
   pub read : ReadsAsPlant (head_of input) plant
   pub replies : AreReplies plant (count_lines input) output
 
+-- the output of `compile`: the input reads as a plant, and the text is the file of its controller
+pub record IsCompiled (input output : List ℕ) : Type 0 where
+  pub plant : Plant
+  pub read : ReadsAsPlant input plant
+  pub file : IsFileOf plant output
+
 -- the output of `trace`: the input reads as a plant, and the text is a history of its program's candidates in which each is claimed and
 -- delivered once, one after the other
 pub record IsTrace (input output : List ℕ) : Type 0 where
@@ -86,6 +93,7 @@ pub record IsTrace (input output : List ℕ) : Type 0 where
 
 abbrev pub IsOutput : Command → List ℕ → List ℕ → Type 0
 IsOutput Run input output = IsReplies input output
+IsOutput Compile input output = IsCompiled input output
 IsOutput Trace input output = IsTrace input output
 
 pub record IsOutputOf (words : List (List ℕ)) (input output : List ℕ) : Type 0 where
@@ -142,7 +150,7 @@ pub record IsQuiet (passage : Passage) : Type 0 where
 
 -- what the command answers for its words: each status comes just from its cause, and the sink took what is said here
 pub record RunAnswers (words : List (List ℕ)) (passage : Passage) (status : Status) : Type 0 where
-  -- the input has the file of a plant, and the output is that of the command: right replies, or a history of the plant's candidates
+  -- the input has the file of a plant, and the output is that of the command: right replies, the controller's file, or a history of the plant's candidates
   pub done : status ≡ Done → IfSome passage.left (Answers words passage Done)
   -- the words name no command: then no other refusal comes, whatever the source and the sink tell
   pub usage : status ≡ Usage → (¬ IsCommand words) × Appends passage.taken passage.taken_after (line_of Usage)

@@ -6,5 +6,6 @@ pub mod Answers
 pub mod PlantAnswers
 pub mod Outcomes
 pub mod Synthesis
+pub mod ControllerFiles
 pub mod Commands
 pub mod Histories

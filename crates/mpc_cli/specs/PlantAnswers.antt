@@ -3,17 +3,19 @@ use Rattle.std.specs.Prelude.{◌≡◌, ℕ, List}
 use Rattle.std.specs.Str.Lines.{lines}
 use Rattle.mpc_plant.specs.declared.plants.Plant.{Plant}
 use Rattle.mpc_cli.specs.declared.commands.Command.{Command}
-use Rattle.mpc_cli.specs.declared.commands.Command.TheVariants.{Run, Trace}
+use Rattle.mpc_cli.specs.declared.commands.Command.TheVariants.{Run, Compile, Trace}
 use Rattle.mpc_cli.specs.declared.status.Status.{Status}
 use Rattle.mpc_cli.specs.declared.status.Status.TheVariants.{Done, Usage, BadPlant, NotDefinite, TooWide, ReadFault, WriteFault, TooLong, NoMemory}
 use Rattle.mpc_cli.specs.Synthesis.{IsNotDefiniteAt, FirstWide, IsAnswerable}
 use Rattle.mpc_cli.specs.ReplyLines.{AreReplies}
 use Rattle.mpc_cli.specs.Histories.{IsTraceOf}
+use Rattle.mpc_cli.specs.ControllerFiles.{IsFileOf}
 use Rattle.mpc_cli.specs.StatusText.{line_of}
 
--- the output: one reply line a line of counts, or the history of the plant's candidates
+-- the output: one reply line a line of counts, the file of the plant's controller, or the history of its candidates
 abbrev pub IsPlantOutput : Command → Plant → List ℕ → List ℕ → Type 0
 IsPlantOutput Run plant counts text = AreReplies plant (lines counts) text
+IsPlantOutput Compile plant counts text = IsFileOf plant text
 IsPlantOutput Trace plant counts text = IsTraceOf plant text
 
 -- nothing is refused, and the text is the output

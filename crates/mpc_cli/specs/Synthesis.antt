@@ -25,7 +25,7 @@ use Rattle.mpc_tree.specs.WideRuns.{IsFirstWide as IsFirstWideRun}
 use Rattle.mpc_file.specs.Parts.{Parts}
 use Rattle.mpc_file.specs.Bounds.{KeepBounds, IsFirstBroken}
 use Rattle.mpc_cli.specs.declared.commands.Command.{Command}
-use Rattle.mpc_cli.specs.declared.commands.Command.TheVariants.{Run, Trace}
+use Rattle.mpc_cli.specs.declared.commands.Command.TheVariants.{Run, Compile, Trace}
 use Rattle.mpc_cli.specs.declared.programs.SynthesisError.{SynthesisError}
 use Rattle.mpc_cli.specs.declared.programs.SynthesisError.TheVariants.{NotDefinite, TooWide, NoMemory}
 
@@ -63,6 +63,7 @@ pub record IsController (plant : Plant) (qp : Qp) (parts : Parts) : Type 0 where
 -- nothing of the plant is refused
 abbrev pub IsAnswerable : Command → Plant → Type 0
 IsAnswerable Run plant = (qp : Qp) × ((parts : Parts) × IsController plant qp parts)
+IsAnswerable Compile plant = (qp : Qp) × ((parts : Parts) × IsController plant qp parts)
 IsAnswerable Trace plant = (qp : Qp) × IsTraceable plant qp
 
 -- the pivot, from 1, is the first that isn't positive, with no number too wide before it; then h isn't positive definite
@@ -72,14 +73,20 @@ pub record IsNotDefiniteAt (plant : Plant) (pivot : ℕ) : Type 0 where
   pub first : IsFirstNotPositive (entry qp.h) (height qp.h) pivot
   pub not_definite : ¬ IsDefinite qp.h.rows
 
+-- the command builds the controller
+abbrev pub BuildsController : Command → Type 0
+BuildsController Run = Unit {0}
+BuildsController Compile = Unit {0}
+BuildsController Trace = ⊥
+
 -- The first place of which a number doesn't fit, where all pivots before it are positive. Of the candidates it is that of the least set with
 -- such a number, of the tree the first in preorder.
 pub data FirstWide (plant : Plant) : Command → Place → Type 0 where
   wide_program : (c : Command) (place : Place) → IsWidePlace plant place → FirstWide plant c place
   wide_pivot : (c : Command) (qp : Qp) (j : ℕ) → HasProgram plant qp → IsFirstWide (entry qp.h) (height qp.h) j → FirstWide plant c (Pivot j)
   wide_set : (c : Command) (qp : Qp) (place : Place) → HasProgram plant qp → PivotsPass qp → IsFirstBad qp (Wide place) → FirstWide plant c place
-  wide_tree : (qp : Qp) (laws : List Law) (place : Place) → IsTraceable plant qp → IsTable qp laws → IsFirstWideRun qp laws whole_box 1 place → FirstWide plant Run place
-  wide_bound : (qp : Qp) (laws : List Law) (nodes : List Node) (place : Place) → HasTree plant qp laws nodes → IsFirstBroken plant laws nodes place → FirstWide plant Run place
+  wide_tree : (c : Command) (qp : Qp) (laws : List Law) (place : Place) → BuildsController c → IsTraceable plant qp → IsTable qp laws → IsFirstWideRun qp laws whole_box 1 place → FirstWide plant c place
+  wide_bound : (c : Command) (qp : Qp) (laws : List Law) (nodes : List Node) (place : Place) → BuildsController c → HasTree plant qp laws nodes → IsFirstBroken plant laws nodes place → FirstWide plant c place
 
 -- why a plant is refused
 abbrev pub ExplainsSynthesisError : Command → Plant → SynthesisError → Type 0

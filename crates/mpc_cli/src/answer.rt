@@ -4,12 +4,13 @@ ghost use Rattle.std.specs.Prelude.{◌≡◌, ◌≤◌, IfOk, length, List, []
 ghost use Rattle.std.specs.Str.Lines.{lines};
 ghost use Rattle.mpc_plant.specs.declared.plants.Plant.{Plant};
 ghost use Rattle.mpc_rows.specs.declared.programs.Qp.{Qp};
-ghost use Rattle.mpc_cli.specs.declared.commands.Command.TheVariants.{Run, Trace};
+ghost use Rattle.mpc_cli.specs.declared.commands.Command.{Command};
+ghost use Rattle.mpc_cli.specs.declared.commands.Command.TheVariants.{Run, Compile, Trace};
 ghost use Rattle.mpc_cli.specs.Commands.{Names, plant_text};
 ghost use Rattle.mpc_cli.specs.Cut.{tail_of};
 ghost use Rattle.mpc_cli.specs.Answers.{IsAnswer, input_limit};
 ghost use Rattle.mpc_cli.specs.PlantAnswers.{IsPlantAnswer};
-ghost use Rattle.mpc_cli.specs.Synthesis.{IsController};
+ghost use Rattle.mpc_cli.specs.Synthesis.{IsController, ExplainsSynthesisError};
 ghost use Rattle.mpc_cli.specs.ReplyLines.{AreReplies};
 ghost use Rattle.mpc_cli.specs.StatusText.{line_of};
 
@@ -20,7 +21,7 @@ use crate::programs::SynthesisError;
 use crate::replies::reply_lines;
 use crate::status::Status;
 use crate::tracing::trace;
-use mpc_file::Controller;
+use mpc_file::{Controller, write_file};
 use mpc_frac::NoMemory;
 use mpc_plant::{Plant, PlantError, read_plant};
 use mpc_port::Gate;
@@ -41,6 +42,19 @@ pub fn refusal(alloc: Global, status: Status) -> Result<Answer, NoMemory>
 {
     let text = status.line(alloc)?;
     Ok(Answer { status, text })
+}
+
+/// The answer to a plant that is refused, where the cause holds of it.
+fn plant_refusal(alloc: Global, error: SynthesisError) -> Result<Answer, NoMemory>
+    ensures { IfOk result (λ answer. (c : Command) (plant : Plant) (counts : List ℕ)
+        → ExplainsSynthesisError c plant error
+        → IsPlantAnswer c plant counts answer.status answer.text.items) }
+{
+    match error {
+        SynthesisError::NotDefinite(pivot) => refusal(alloc, Status::NotDefinite(pivot)),
+        SynthesisError::TooWide(place) => refusal(alloc, Status::TooWide(place)),
+        SynthesisError::NoMemory => Err(NoMemory),
+    }
 }
 
 /// The output.
@@ -77,9 +91,20 @@ fn run_answer<G: Gate>(
             let text = replies(alloc, &controller, counts)?;
             Ok(output(text))
         }
-        Err(SynthesisError::NotDefinite(pivot)) => refusal(alloc, Status::NotDefinite(pivot)),
-        Err(SynthesisError::TooWide(place)) => refusal(alloc, Status::TooWide(place)),
-        Err(SynthesisError::NoMemory) => Err(NoMemory),
+        Err(error) => plant_refusal(alloc, error),
+    }
+}
+
+/// The answer of the command `compile` to a plant.
+fn compile_answer<G: Gate>(alloc: Global, plant: Plant, gate: &G) -> Result<Answer, NoMemory>
+    ensures { IfOk result (λ answer. IsPlantAnswer Compile plant [] answer.status answer.text.items) }
+{
+    match compile(alloc, plant, gate) {
+        Ok(controller) => {
+            let text = write_file(alloc, &controller)?;
+            Ok(output(text))
+        }
+        Err(error) => plant_refusal(alloc, error),
     }
 }
 
@@ -89,9 +114,7 @@ fn trace_answer<G: Gate>(alloc: Global, plant: &Plant, gate: &G) -> Result<Answe
 {
     match trace(alloc, plant, gate) {
         Ok(text) => Ok(output(text)),
-        Err(SynthesisError::NotDefinite(pivot)) => refusal(alloc, Status::NotDefinite(pivot)),
-        Err(SynthesisError::TooWide(place)) => refusal(alloc, Status::TooWide(place)),
-        Err(SynthesisError::NoMemory) => Err(NoMemory),
+        Err(error) => plant_refusal(alloc, error),
     }
 }
 
@@ -104,6 +127,19 @@ fn answer_to_run<G: Gate>(alloc: Global, input: &[u8], gate: &G) -> Result<Answe
     let sections = cut(input);
     match read_plant(alloc, sections.head) {
         Ok(plant) => run_answer(alloc, plant, sections.counts, gate),
+        Err(PlantError::Bad(kind, path)) => refusal(alloc, Status::BadPlant(kind, path)),
+        Err(PlantError::NoMemory) => Err(NoMemory),
+    }
+}
+
+/// The answer of the command `compile` to an input that isn't too long.
+fn answer_to_compile<G: Gate>(alloc: Global, input: &[u8], gate: &G) -> Result<Answer, NoMemory>
+    requires { length input.now ≤ input_limit }
+    ensures { IfOk result (λ answer. (words : List (List ℕ)) → Names Compile words
+        → IsAnswer words input.now answer.status answer.text.items) }
+{
+    match read_plant(alloc, input) {
+        Ok(plant) => compile_answer(alloc, plant, gate),
         Err(PlantError::Bad(kind, path)) => refusal(alloc, Status::BadPlant(kind, path)),
         Err(PlantError::NoMemory) => Err(NoMemory),
     }
@@ -135,6 +171,7 @@ pub fn input_answer<G: Gate>(
 {
     match command {
         Command::Run => answer_to_run(alloc, input, gate),
+        Command::Compile => answer_to_compile(alloc, input, gate),
         Command::Trace => answer_to_trace(alloc, input, gate),
     }
 }

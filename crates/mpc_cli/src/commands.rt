@@ -8,6 +8,8 @@ ghost use Rattle.mpc_cli.specs.Commands.{Names, IsCommand};
 pub enum Command {
     /// The replies to recorded states.
     Run,
+    /// The file of the plant's controller.
+    Compile,
     /// The history in which the plant's active sets are claimed and decided.
     Trace,
 }
@@ -22,6 +24,7 @@ pub fn named_command(words: &[String]) -> Option<Command>
     };
     match word.as_str() {
         "run" => Some(Command::Run),
+        "compile" => Some(Command::Compile),
         "trace" => Some(Command::Trace),
         _ => None,
     }

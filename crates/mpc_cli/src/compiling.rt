@@ -2,8 +2,8 @@
 
 ghost use Rattle.std.specs.Prelude.{◌≡◌, IfOk, IfErr};
 ghost use Rattle.mpc_rows.specs.declared.programs.Qp.{Qp};
-ghost use Rattle.mpc_cli.specs.declared.commands.Command.TheVariants.{Run};
-ghost use Rattle.mpc_cli.specs.Synthesis.{IsController, ExplainsSynthesisError, refusal_of};
+ghost use Rattle.mpc_cli.specs.declared.commands.Command.{Command};
+ghost use Rattle.mpc_cli.specs.Synthesis.{BuildsController, IsController, ExplainsSynthesisError, refusal_of};
 
 use crate::deciding::decide_all;
 use crate::programs::{SynthesisError, convex_program};
@@ -27,7 +27,7 @@ fn without_tree(error: TreeError) -> SynthesisError
 /// Dua and Pistikopoulos, 2002; Tøndel, Johansen and Bemporad, 2003).
 pub fn compile<G: Gate>(alloc: Global, plant: Plant, gate: &G) -> Result<Controller, SynthesisError>
     ensures controller { IfOk result (λ parts. (qp : Qp) × IsController plant qp parts) }
-    ensures refused { IfErr result (ExplainsSynthesisError Run plant) }
+    ensures refused { IfErr result (λ e. (c : Command) → BuildsController c → ExplainsSynthesisError c plant e) }
 {
     let program = match convex_program(alloc, &plant) {
         Ok(program) => program,

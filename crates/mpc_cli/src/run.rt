@@ -32,6 +32,8 @@ enum Halt {
 /// counts, the exact first move of the cheapest admissible input sequence from that state, or `infeasible`
 /// where there is none.
 ///
+/// `compile`: from the file of a plant it writes the file of its controller.
+///
 /// `trace`: from the file of a plant it writes the history in which the active sets of its program are
 /// claimed and decided.
 pub fn run<T: Threads + Wait + Sync, S: Source, K: Sink, G: Gate + Sync>(

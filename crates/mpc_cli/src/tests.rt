@@ -12,6 +12,10 @@ use std::thread::Threads;
 const TANK: &[u8] =
     b"{\"version\":1,\"horizon\":1,\"A\":[[1]],\"B\":[[1]],\"Q\":[[1]],\"R\":[[1]],\"P\":[[1]],\"grid\":[{\"low\":-4,\"step\":1,\"count\":8}]}\nstates\n0\n3\n4\n8\n";
 
+/// The tank without recorded states, with its inflow from -1 to 1.
+const LIMITED: &[u8] =
+    b"{\"version\":1,\"horizon\":1,\"A\":[[1]],\"B\":[[1]],\"Q\":[[1]],\"R\":[[1]],\"P\":[[1]],\"rows\":[{\"u\":[1],\"max\":1},{\"u\":[-1],\"max\":1}],\"grid\":[{\"low\":-4,\"step\":1,\"count\":8}]}";
+
 /// What the command of a word ends with and writes.
 #[derive(Drop)]
 struct Case {
@@ -216,6 +220,52 @@ fn answers_plants_with_rows(rt: HostRuntime) -> Result<(), Fail> {
 }
 
 #[test]
+fn compiles(rt: HostRuntime) -> Result<(), Fail> {
+    let cases = [
+        Case {
+            word: "compile",
+            input: b"{\"version\":1,\"horizon\":1,\"A\":[[1]],\"B\":[[1]],\"Q\":[[1]],\"R\":[[1]],\"P\":[[1]],\"grid\":[{\"low\":-4,\"step\":1,\"count\":8}]}",
+            ends: b"mpc 1\nsize 1 1 1\nA 1\nB 1\nQ 1\nR 1\nP 1\nrows 0\nterminal 0\ngrid -4 1 8\nlaws 1\nlaw\nmove 2 -1/2\ntree\nleaf 1\nend\n",
+            code: 0,
+        },
+        Case {
+            word: "compile",
+            input: b"{\"version\":1,\"horizon\":1,\"A\":[[1]],\"B\":[[1]],\"Q\":[[1]],\"R\":[[1]],\"P\":[[1]],\"rows\":[{\"u\":[1],\"max\":1},{\"u\":[-1],\"max\":1}],\"grid\":[{\"low\":-4,\"step\":1,\"count\":8}]}",
+            ends: b"mpc 1\nsize 1 1 1\nA 1\nB 1\nQ 1\nR 1\nP 1\nrows 2\nrow 0 1 1\nrow 0 -1 1\nterminal 0\ngrid -4 1 8\nlaws 3\nlaw\nmove 2 -1/2\nlaw 1\nmove 1 0\nmult 2 -1\nlaw 2\nmove -1 0\nmult -6 1\ntree\nsplit -1 -2\nsplit 1 6\nleaf 1\ncert 3 1 5 1\ncert 4 1 5 1\nleaf 3\ncert 5 1\ncert 4 1 5 1\nleaf 2\ncert 3 1 4 1\ncert 4 1\nend\n",
+            code: 0,
+        },
+        Case {
+            word: "compile",
+            input: b"{\"version\":1,\"horizon\":1,\"A\":[[1]],\"B\":[[1]],\"Q\":[[1]],\"R\":[[1]],\"P\":[[1]],\"rows\":[{\"u\":[1],\"max\":1},{\"u\":[-1],\"max\":1}],\"terminal\":[{\"x\":[1],\"max\":1},{\"x\":[-1],\"max\":1}],\"grid\":[{\"low\":-4,\"step\":1,\"count\":8}]}",
+            ends: b"mpc 1\nsize 1 1 1\nA 1\nB 1\nQ 1\nR 1\nP 1\nrows 2\nrow 0 1 1\nrow 0 -1 1\nterminal 2\nlast 1 1\nlast -1 1\ngrid -4 1 8\nlaws 5\nlaw\nmove 2 -1/2\nlaw 1\nmove 1 0\nmult 2 -1\nlaw 2\nmove -1 0\nmult -6 1\nlaw 3\nmove 5 -1\nmult -6 1\nlaw 4\nmove 3 -1\nmult 2 -1\ntree\nsplit -1 -2\nsplit 1 6\nleaf 1\ncert 3 1 5 1\ncert 4 1 5 1\ncert 4 1 5 1\ncert 3 1 5 1\nnone\ncert 4 1 6 1 7 1\nnone\ncert 3 1 4 1 7 1\nend\n",
+            code: 0,
+        },
+        Case {
+            word: "compile",
+            input: b"{\"version\":1,\"horizon\":1,\"A\":[[1]],\"B\":[[1]],\"Q\":[[1]],\"R\":[[1]],\"P\":[[1]],\"rows\":[{\"u\":[1],\"max\":-1},{\"u\":[-1],\"max\":-1}],\"grid\":[{\"low\":-4,\"step\":1,\"count\":8}]}",
+            ends: b"mpc 1\nsize 1 1 1\nA 1\nB 1\nQ 1\nR 1\nP 1\nrows 2\nrow 0 1 -1\nrow 0 -1 -1\nterminal 0\ngrid -4 1 8\nlaws 0\ntree\nnone\ncert 3 1 4 1\nend\n",
+            code: 0,
+        },
+        Case {
+            word: "compile",
+            input: b"{\"version\":1,\"horizon\":1,\"A\":[[1]],\"B\":[[1]],\"Q\":[[1]],\"R\":[[0]],\"P\":[[0]],\"grid\":[{\"low\":-4,\"step\":1,\"count\":8}]}",
+            ends: b"not definite 1\n",
+            code: 4,
+        },
+        Case {
+            word: "compile",
+            input: b"{",
+            ends: b"bad plant NotJson\n",
+            code: 3,
+        },
+    ];
+    for case in &cases {
+        check_case(&rt, rt.alloc(), case)?;
+    }
+    Ok(())
+}
+
+#[test]
 fn traces(rt: HostRuntime) -> Result<(), Fail> {
     let cases = [
         Case {
@@ -315,7 +365,7 @@ fn traces_every_candidate(rt: HostRuntime) -> Result<(), Fail> {
 
 #[test]
 fn refuses_other_words(rt: HostRuntime) -> Result<(), Fail> {
-    for word in ["", "compile", "Run", "run ", "traces"] {
+    for word in ["", "Compile", "Run", "run ", "traces"] {
         let mut source = QuietSource::new(TANK.to_vec(rt.alloc())?);
         let mut sink = QuietSink::new(rt.alloc());
         let status = run_words(&rt, rt.alloc(), word, &mut source, &mut sink)?;
@@ -350,5 +400,12 @@ fn tells_failing_devices(rt: HostRuntime) -> Result<(), Fail> {
     let status = run_words(&rt, rt.alloc(), "run", &mut source, &mut sink)?;
     assert_eq!(rt; status.code(), 8);
     assert_eq!(rt; sink.bytes(), b"".as_slice());
+
+    let fails = vec![in rt.alloc(); 2u64]?;
+    let mut source = QuietSource::new(LIMITED.to_vec(rt.alloc())?);
+    let mut sink = MemorySink::new(rt.alloc(), 10, fails);
+    let status = run_words(&rt, rt.alloc(), "compile", &mut source, &mut sink)?;
+    assert_eq!(rt; status.code(), 9);
+    assert_eq!(rt; sink.bytes(), b"mpc 1\nsize".as_slice());
     Ok(())
 }

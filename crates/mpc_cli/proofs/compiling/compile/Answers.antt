@@ -3,17 +3,16 @@ use Rattle.std.specs.Prelude.{All}
 use Rattle.mpc_space.specs.Matrix.{height}
 use Rattle.mpc_rows.specs.SetRuns.{LawRowsFit}
 use Rattle.mpc_rows.specs.Candidates.{IsTable}
-use Rattle.mpc_cli.specs.declared.commands.Command.TheVariants.{Run}
 use Rattle.mpc_cli.specs.Synthesis.{HasTree, ExplainsSynthesisError, wide_bound}
 use Rattle.mpc_cli.proofs.TraceLemmas.{traceable, wide_set_of}
 use Rattle.mpc_cli.proofs.CompileLemmas.{shapes, controller_of, wide_tree_of}
 use Rattle.mpc_cli.proofs.compiling.compile.Goals as goal
 
 pub returns-in-Err-clause-refused : goal.returns-in-Err-clause-refused
-returns-in-Err-clause-refused g c = c.in-Err.ensures.refused Run
+returns-in-Err-clause-refused g c = λ command builds. c.in-Err.ensures.refused command
 
 pub returns-in-Err-decide_all-clause-refused : goal.returns-in-Err-decide_all-clause-refused
-returns-in-Err-decide_all-clause-refused g c = wide_set_of Run c.args.plant c.in-Ok.program c.in-Err-decide_all.error c.in-Ok.ensures.program c.in-Ok.ensures.pivots c.in-Err-decide_all.ensures.refused
+returns-in-Err-decide_all-clause-refused g c = λ command builds. wide_set_of command c.args.plant c.in-Ok.program c.in-Err-decide_all.error c.in-Ok.ensures.program c.in-Ok.ensures.pivots c.in-Err-decide_all.ensures.refused
 
 pub build-requires-clause-rows_fit : goal.build-requires-clause-rows_fit
 build-requires-clause-rows_fit g c = subst (λ p. All (λ law. LawRowsFit p law (height p.g)) c.in-Ok-into_laws.laws) c.in-Ok-decide_all.ensures.done.program c.in-Ok-into_laws.ensures.rows_fit
@@ -22,7 +21,7 @@ pub returns-in-Err-build-clause-refused : goal.returns-in-Err-build-clause-refus
 returns-in-Err-build-clause-refused g c =
     let table = subst (λ p. IsTable p c.in-Ok-into_laws.laws) c.in-Ok-decide_all.ensures.done.program c.in-Ok-into_laws.ensures.table in
     let traced = traceable c.args.plant c.in-Ok.program c.in-Ok-decide_all.registry c.in-Ok.ensures.program c.in-Ok.ensures.pivots c.in-Ok-decide_all.ensures.done c.in-Ok-decide_all.ensures.finished in
-    subst (ExplainsSynthesisError Run c.args.plant) (sym c.without_tree.ensures) (wide_tree_of c.args.plant c.in-Ok.program c.in-Ok-into_laws.laws c.in-Err-build.error traced table c.in-Err-build.ensures.wide)
+    λ command builds. subst (ExplainsSynthesisError command c.args.plant) (sym c.without_tree.ensures) (wide_tree_of command builds c.args.plant c.in-Ok.program c.in-Ok-into_laws.laws c.in-Err-build.error traced table c.in-Err-build.ensures.wide)
 
 pub seal-requires : goal.seal-requires
 seal-requires g c =
@@ -42,4 +41,4 @@ returns-in-Err-Wide-clause-refused g c =
     let table = subst (λ p. IsTable p c.in-Ok-into_laws.laws) c.in-Ok-decide_all.ensures.done.program c.in-Ok-into_laws.ensures.table in
     let traced = traceable c.args.plant c.in-Ok.program c.in-Ok-decide_all.registry c.in-Ok.ensures.program c.in-Ok.ensures.pivots c.in-Ok-decide_all.ensures.done c.in-Ok-decide_all.ensures.finished in
     let tree : HasTree c.args.plant c.in-Ok.program c.in-Ok-into_laws.laws c.in-Ok-build.tree = record { traceable = traced; table = table; certified = c.in-Ok-build.ensures.certified } in
-    wide_bound c.in-Ok.program c.in-Ok-into_laws.laws c.in-Ok-build.tree c.in-Err-Wide.place tree (rw c.in-Err-Wide.field-0-is at c.in-Err-Wide.ensures.refused)
+    λ command builds. wide_bound command c.in-Ok.program c.in-Ok-into_laws.laws c.in-Ok-build.tree c.in-Err-Wide.place builds tree (rw c.in-Err-Wide.field-0-is at c.in-Err-Wide.ensures.refused)

@@ -1,0 +1,21 @@
+-- The file of a plant's controller.
+use Rattle.std.specs.Prelude.{◌≡◌, ℕ, List}
+use Rattle.mpc_exact.specs.Rational.{ℚ}
+use Rattle.mpc_plant.specs.declared.plants.Plant.{Plant}
+use Rattle.mpc_plant.specs.Reply.{Reply, IsRight}
+use Rattle.mpc_plant.specs.Trajectory.{IsInBox}
+use Rattle.mpc_rows.specs.declared.programs.Qp.{Qp}
+use Rattle.mpc_file.specs.Parts.{Parts}
+use Rattle.mpc_file.specs.Replies.{RepliesAt}
+use Rattle.mpc_file.specs.Text.{text_of}
+use Rattle.mpc_cli.specs.Synthesis.{IsController}
+
+-- The text of the plant's controller: of its table of laws and the table's certified tree, which replies rightly at every state of the box, on
+-- the grid or between its states. There is one such text.
+pub record IsFileOf (plant : Plant) (text : List ℕ) : Type 0 where
+  pub qp : Qp
+  pub parts : Parts
+  pub controller : IsController plant qp parts
+  pub written : text ≡ text_of parts
+  pub only : (other_qp : Qp) (other : Parts) → IsController plant other_qp other → text ≡ text_of other
+  pub right : (t : List ℚ) (reply : Reply) → IsInBox plant t → RepliesAt parts t reply → IsRight plant t reply
