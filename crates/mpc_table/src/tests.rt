@@ -222,6 +222,48 @@ fn bounded_end(alloc: Global) -> Option<Table>
     table_of(alloc, plant, laws, tree)
 }
 
+/// Puts the splits `t <= depth`, `t <= depth - 1`, .. behind the root's place, each in the yes side of the
+/// one before.
+fn add_splits(alloc: Global, tree: &mut Tree, laws: &LawTable, depth: usize) -> Option<()>
+    requires nodes { All (IsNodeFor 1 (length laws.now)) tree.old }
+    requires spells { Spells 1 tree.old 1 }
+    requires small { depth < 2 ^ 32 }
+    ensures { IfSome result (λ _. All (IsNodeFor 1 (length laws.now)) tree.new
+        × Spells 1 tree.new (depth + 1)) }
+{
+    for k in 0..depth {
+        add_split(alloc, tree, laws, k + 1, 1, (depth - k) as i128)?;
+    }
+    Some(())
+}
+
+/// Ends the tree with leaves without a law.
+fn add_bare_leaves(alloc: Global, tree: &mut Tree, laws: &LawTable, left: usize) -> Option<()>
+    requires nodes { All (IsNodeFor 1 (length laws.now)) tree.old }
+    requires spells { Spells 1 tree.old left }
+    ensures { IfSome result (λ _. All (IsNodeFor 1 (length laws.now)) tree.new × IsTree tree.new) }
+{
+    for k in 0..left {
+        add_bare_leaf(alloc, tree, laws, left - k)?;
+    }
+    Some(())
+}
+
+/// The controller that replies to nothing, by a chain of so many splits.
+fn deep(alloc: Global, depth: usize) -> Option<Table>
+    requires { depth < 2 ^ 32 }
+    ensures { IfSome result (λ table. length table.limits ≡ 1) }
+{
+    let file =
+        b"{\"version\":1,\"horizon\":1,\"A\":[[1]],\"B\":[[1]],\"Q\":[[1]],\"R\":[[1]],\"P\":[[1]],\"grid\":[{\"low\":0,\"step\":1,\"count\":8}]}";
+    let plant = read_plant(alloc, file).ok()?;
+    let laws = LawTable::new(alloc);
+    let mut tree = Tree::new(alloc);
+    add_splits(alloc, &mut tree, &laws, depth)?;
+    add_bare_leaves(alloc, &mut tree, &laws, depth + 1)?;
+    table_of(alloc, plant, laws, tree)
+}
+
 #[test]
 fn bounded_input_replies(rt: HostRuntime) -> Result<(), Fail> {
     let alloc = rt.alloc();
@@ -245,5 +287,13 @@ fn bounded_end_replies(rt: HostRuntime) -> Result<(), Fail> {
     assert!(rt; replies(alloc, &table, 7, b"infeasible"));
     assert!(rt; replies(alloc, &table, 9, b"outside 1"));
     assert!(rt; table.reply_at(&[1]) == Reply::Infeasible { node: 5 });
+    Ok(())
+}
+
+#[test]
+fn deep_chain_replies(rt: HostRuntime) -> Result<(), Fail> {
+    let table = deep(rt.alloc(), 100_000).ok_or("no table")?;
+    assert!(rt; table.reply_at(&[0]) == Reply::Infeasible { node: 100_001 });
+    assert!(rt; table.reply_at(&[8]) == Reply::Infeasible { node: 100_008 });
     Ok(())
 }
