@@ -1,4 +1,5 @@
 pub mod Preorder
+pub mod Certificates
 pub mod Parts
 pub mod Bounds
 pub mod Walk

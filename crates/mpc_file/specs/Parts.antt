@@ -10,6 +10,7 @@ use Rattle.mpc_rows.specs.declared.laws.Law.{Law as LawOfSet}
 use Rattle.mpc_rows.specs.declared.trees.Node.{Node}
 use Rattle.mpc_rows.specs.declared.trees.Node.TheVariants.{Split, Law, NoMove}
 use Rattle.mpc_file.specs.Preorder.{IsTree}
+use Rattle.mpc_file.specs.Certificates.{HaveCerts}
 
 -- the plant that is controlled, its laws, and the search tree that names at each state the law that holds there
 pub record Parts : Type 0 where
@@ -45,9 +46,10 @@ IsNodeFor n laws (Split row) = IsSplitRow n row
 IsNodeFor n laws (Law law certs) = IsFromTo 1 laws law
 IsNodeFor n laws (NoMove cert) = Unit {0}
 
--- laws of the plant, and a search tree over them
+-- laws of the plant, and a search tree over them, whose leaves have certificates of the right number and size
 pub record HaveShapes (plant : Plant) (laws : List LawOfSet) (tree : List Node) : Type 0 where
   pub laws_few : length laws ≤ 4598479
   pub laws_fit : All (IsLawFor plant) laws
   pub nodes_fit : All (IsNodeFor plant.n (length laws)) tree
   pub complete : IsTree tree
+  pub certs_fit : HaveCerts plant.n (row_count plant) (0 ∷ []) tree
