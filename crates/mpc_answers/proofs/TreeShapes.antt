@@ -1,4 +1,4 @@
--- The table of a plant's program and the tree of that table have the shapes of a controller's parts.
+-- The table of a plant's program and the tree of that table, with its certificates, have the shapes of a controller's parts.
 use Rattle.std.proofs.Common.{◌≡◌, ℕ, ◌+◌, ◌≤◌, List, [], ◌++◌, length, sym, ◌∙◌, ap, subst, arith, All}
 use Rattle.std.specs.Prelude.{Contains}
 use Rattle.std.proofs.lemmas.List.{length-map}
@@ -17,8 +17,11 @@ use Rattle.mpc_rows.specs.Laws.{HasLawShape}
 use Rattle.mpc_rows.specs.Candidates.{IsTable}
 use Rattle.mpc_rows.specs.SetRuns.{LawRowsFit}
 use Rattle.mpc_condense.specs.Condensed.{IsCondensed}
-use Rattle.mpc_file.specs.Parts.{IsLawFor, IsSplitRow, IsNodeFor, HaveShapes}
+use Rattle.mpc_file.specs.Parts.{row_count, IsLawFor, IsSplitRow, IsNodeFor, HaveShapes}
 use Rattle.mpc_tree.specs.Trees.{Cell, whole_box, yes_side, no_side, leaf, split, Divides, IsLeafOf, IsTreeOf}
+use Rattle.mpc_tree.specs.Certified.{IsCertified}
+use Rattle.mpc_tree.proofs.OneTree.{tree_of_certified}
+use Rattle.mpc_answers.proofs.CertShapes.{whole_certs}
 use Rattle.mpc_answers.proofs.TreeWalks.{spells_tree, table_leaf, contains_at}
 use Rattle.mpc_tree.proofs.TableSizes.{laws_of_forty, table_shape, all_laws}
 use Rattle.mpc_answers.proofs.SplitRows.{split_row}
@@ -60,10 +63,13 @@ module _ (qp : Qp) (plant : Plant) (condensed : IsCondensed qp plant) where
         All-cons (IsNodeFor plant.n (length laws)) (Split row) (one ++ two) (split_for cell place row d)
         (All-append (IsNodeFor plant.n (length laws)) one two (nodes_fit (yes_side cell place row) one y) (nodes_fit (no_side cell place row) two n))
 
-pub tree_shapes : (qp : Qp) (plant : Plant) (laws : List LawOfSet) (nodes : List Node) → IsCondensed qp plant → IsTable qp laws → ((law : LawOfSet) → Contains laws law → LawRowsFit qp law (height qp.g)) → IsTreeOf qp laws whole_box nodes → HaveShapes plant laws nodes
-tree_shapes qp plant laws nodes condensed table fit is = record {
-  laws_few = laws_few qp plant condensed laws table fit;
-  laws_fit = laws_fit qp plant condensed laws table fit;
-  nodes_fit = nodes_fit qp plant condensed laws table fit whole_box nodes is;
-  complete = spells_tree (Divides qp laws) (IsLeafOf qp laws) (table_leaf qp laws) whole_box nodes is;
-}
+pub tree_shapes : (qp : Qp) (plant : Plant) (laws : List LawOfSet) (nodes : List Node) → IsCondensed qp plant → IsTable qp laws → ((law : LawOfSet) → Contains laws law → LawRowsFit qp law (height qp.g)) → IsCertified qp laws whole_box nodes → HaveShapes plant laws nodes
+tree_shapes qp plant laws nodes condensed table fit is =
+    let tree : IsTreeOf qp laws whole_box nodes = tree_of_certified qp laws whole_box nodes is in
+    record {
+      laws_few = laws_few qp plant condensed laws table fit;
+      laws_fit = laws_fit qp plant condensed laws table fit;
+      nodes_fit = nodes_fit qp plant condensed laws table fit whole_box nodes tree;
+      complete = spells_tree (Divides qp laws) (IsLeafOf qp laws) (table_leaf qp laws) whole_box nodes tree;
+      certs_fit = whole_certs qp plant.n (row_count plant) (states qp plant condensed) condensed.rows_are laws nodes is;
+    }

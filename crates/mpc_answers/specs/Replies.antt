@@ -14,6 +14,7 @@ use Rattle.mpc_rows.specs.Candidates.{IsTable}
 use Rattle.mpc_rows.specs.SetRuns.{LawRowsFit}
 use Rattle.mpc_condense.specs.Condensed.{IsCondensed}
 use Rattle.mpc_tree.specs.Trees.{IsTreeOf, whole_box}
+use Rattle.mpc_tree.specs.Certified.{IsCertified}
 use Rattle.mpc_file.specs.Parts.{Parts, HaveShapes, limits_of}
 use Rattle.mpc_file.specs.Replies.{RepliesAt, first_outside}
 
@@ -23,10 +24,10 @@ RightReplies =
     (qp : Qp) (parts : Parts) (t : List ℚ) (reply : Reply) → IsCondensed qp parts.plant → IsDefinite qp.h.rows → IsTable qp parts.laws → IsTreeOf qp parts.laws whole_box parts.tree
     → IsInBox qp.counts t → RepliesAt parts t reply → IsRight parts.plant t reply
 
--- the plant, the table and the tree have the shapes of a controller's parts
+-- the plant, the table and its tree with the certificates have the shapes of a controller's parts
 abbrev pub PartsHaveShapes : Type 0
 PartsHaveShapes =
-    (qp : Qp) (plant : Plant) (laws : List Law) (nodes : List Node) → IsCondensed qp plant → IsTable qp laws → ((law : Law) → Contains laws law → LawRowsFit qp law (height qp.g)) → IsTreeOf qp laws whole_box nodes
+    (qp : Qp) (plant : Plant) (laws : List Law) (nodes : List Node) → IsCondensed qp plant → IsTable qp laws → ((law : Law) → Contains laws law → LawRowsFit qp law (height qp.g)) → IsCertified qp laws whole_box nodes
     → HaveShapes plant laws nodes
 
 -- as many laws as there are sets of at most six of forty rows

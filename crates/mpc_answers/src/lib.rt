@@ -10,8 +10,9 @@ pub fn right_replies()
     ensures { RightReplies }
 {}
 
-/// The plant, its table and the table's tree are a controller's parts: the nodes spell one tree, each law and each row of a split is
-/// of the plant's size, and a split's row is in whole numbers below 2^127 without a common divisor.
+/// The plant, its table and the table's certified tree are a controller's parts: the nodes spell one tree, each law and each row of a
+/// split is of the plant's size, a split's row is in whole numbers below 2^127 without a common divisor, and each leaf has its
+/// certificates: one for each row of the program, or one where it has no law, over the rows of its system (Farkas 1902, Motzkin 1936).
 pub fn tree_shapes()
     ensures { PartsHaveShapes }
 {}
