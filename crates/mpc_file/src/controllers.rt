@@ -14,8 +14,8 @@ use std::marker::Model;
 /// A plant, the laws of its active sets, and the search tree whose leaves name them by their numbers
 /// (Tøndel, Johansen and Bemporad, 2003).
 ///
-/// The laws and the tree have the plant's shapes, and no number on the way to a reply needs more than
-/// 128 bits.
+/// The laws and the tree have the plant's shapes, each leaf has its certificates, over the rows of its
+/// system, and no number on the way to a reply needs more than 128 bits.
 #[derive(Drop)]
 pub struct Controller {
     plant: Plant,
