@@ -20,7 +20,7 @@ use Rattle.mpc_tree.specs.declared.errors.TreeError.{TreeError}
 use Rattle.mpc_tree.specs.declared.errors.TreeError.TheVariants.{Wide as WideTree, NoMemory as NoTreeMemory}
 use Rattle.mpc_tree.specs.Causes.{IfWide}
 use Rattle.mpc_tree.specs.WideRuns.{IsFirstWide}
-use Rattle.mpc_tree.specs.Trees.{whole_box, IsTreeOf}
+use Rattle.mpc_tree.specs.Trees.{whole_box}
 use Rattle.mpc_tree.specs.Certified.{IsCertified}
 use Rattle.mpc_tree.proofs.OneCell.{laws_of_table}
 use Rattle.mpc_tree.proofs.OneTree.{tree_of_certified, one_tree}
@@ -95,7 +95,7 @@ module _ (plant : Plant) (qp : Qp) (parts : Parts) (is : IsController plant qp p
   pub table_size : (table : Lookup) → IsTableOf parts table → plant.n ≡ length table.limits
   table_size table of_parts = sym (limits_size plant) ∙ ap (λ p. length (limits_of p)) (sym is.plant_is) ∙ ap length (sym of_parts.limits_are)
 
-pub shapes : (qp : Qp) (plant : Plant) (laws : List Law) (nodes : List Node) → HasProgram plant qp → IsTable qp laws → All (λ law. LawRowsFit qp law (height qp.g)) laws → IsTreeOf qp laws whole_box nodes → HaveShapes plant laws nodes
+pub shapes : (qp : Qp) (plant : Plant) (laws : List Law) (nodes : List Node) → HasProgram plant qp → IsTable qp laws → All (λ law. LawRowsFit qp law (height qp.g)) laws → IsCertified qp laws whole_box nodes → HaveShapes plant laws nodes
 shapes qp plant laws nodes h table fit tree = tree_shapes qp plant laws nodes h.condensed table (λ law c. All-contains (λ l. LawRowsFit qp l (height qp.g)) laws law fit c) tree
 
 pub controller_of : (plant : Plant) (qp : Qp) (laws : List Law) (nodes : List Node) (parts : Parts) → HasTree plant qp laws nodes → KeepBounds plant laws nodes → parts ≡ record { plant = plant; laws = laws; tree = nodes } → IsController plant qp parts

@@ -27,7 +27,7 @@ pub seal-requires : goal.seal-requires
 seal-requires g c =
     let table = subst (λ p. IsTable p c.in-Ok-into_laws.laws) c.in-Ok-decide_all.ensures.done.program c.in-Ok-into_laws.ensures.table in
     let fit = subst (λ p. All (λ law. LawRowsFit p law (height p.g)) c.in-Ok-into_laws.laws) c.in-Ok-decide_all.ensures.done.program c.in-Ok-into_laws.ensures.rows_fit in
-    shapes c.in-Ok.program c.args.plant c.in-Ok-into_laws.laws c.in-Ok-build.tree c.in-Ok.ensures.program table fit c.in-Ok-build.ensures.tree
+    shapes c.in-Ok.program c.args.plant c.in-Ok-into_laws.laws c.in-Ok-build.tree c.in-Ok.ensures.program table fit c.in-Ok-build.ensures.certified
 
 pub returns-in-Ok-seal-clause-controller : goal.returns-in-Ok-seal-clause-controller
 returns-in-Ok-seal-clause-controller g c =
