@@ -3,7 +3,8 @@ use Rattle.std.proofs.Common.{◌≡◌, ℕ, zero, suc, ◌+◌, ◌-◌, ◌*�
 use Rattle.std.specs.Prelude.{All}
 use Rattle.std.specs.Int.{◌∣◌}
 use Rattle.std.proofs.Math.Nat.{eq-one_of_dvd-one}
-use Rattle.std.proofs.lemmas.List.Elements.{All-append, All-cons, All-nil}
+use Rattle.std.proofs.lemmas.List.Elements.{All-append, All-cons, All-nil, All-head, All-tail, All-weaker}
+use Rattle.mpc_exact.specs.Rational.{ℚ}
 use Rattle.mpc_linear.specs.declared.integers.RowInt.{RowInt}
 use Rattle.mpc_linear.specs.Whole.{AreSmall}
 use Rattle.mpc_plant.specs.declared.plants.Plant.{Plant}
@@ -11,9 +12,11 @@ use Rattle.mpc_sets.specs.RowSet.{RisesWithin, IsSetOfRows}
 use Rattle.mpc_rows.specs.Program.{IsOfShape}
 use Rattle.mpc_rows.specs.declared.laws.Law.{Law as LawOfSet}
 use Rattle.mpc_rows.specs.declared.trees.Node.{Node}
-use Rattle.mpc_rows.specs.declared.trees.Node.TheVariants.{Split}
+use Rattle.mpc_rows.specs.declared.trees.Node.TheVariants.{Split, Law, NoMove}
 use Rattle.mpc_file.specs.Preorder.{Spells}
-use Rattle.mpc_file.specs.Parts.{row_count, IsLawFor, IsSplitRow}
+use Rattle.mpc_file.specs.Parts.{row_count, IsLawFor, IsSplitRow, IsNodeFor, HaveShapes}
+use Rattle.mpc_file.specs.Certificates.{IsCertOver, cell_rows, AreLawCerts, HaveCerts}
+use Rattle.mpc_table.specs.TestNodes.{IsTestNode}
 use Rattle.mpc_file.specs.Walk.{IsLeaf}
 use Rattle.mpc_file.proofs.PreorderLemmas.{spells_split, spells_leaf}
 
@@ -69,3 +72,46 @@ unit_split row a is unit small = record {
 
     one_only : (d : ℕ) → d ∣ 1 → d ≡ 1
     one_only d h = eq-one_of_dvd-one h
+
+-- ---- certificates that name no row
+pub bare : (rows : ℕ) (cert : List (ℕ × ℚ)) → cert ≡ [] → IsCertOver rows cert
+bare rows cert e = subst (IsCertOver rows) (sym e) (record { is_cert = record { rises = tt }; within = All-nil (λ (entry : ℕ × ℚ). entry.0 ≤ rows) })
+
+pub bare_law : (rows : ℕ) (certs : List (List (ℕ × ℚ))) → length certs ≡ rows → All (λ cert. cert ≡ []) certs → AreLawCerts 1 rows 0 certs
+bare_law rows certs size none = record { one_each = size; each = All-weaker (λ (cert : List (ℕ × ℚ)). cert ≡ []) (IsCertOver (cell_rows 1 0 + 1)) (λ cert e. bare (cell_rows 1 0 + 1) cert e) certs none }
+
+-- rows of a system at the root are rows of those below
+deeper : (more depth : ℕ) (cert : List (ℕ × ℚ)) → IsCertOver (cell_rows 1 0 + more) cert → IsCertOver (cell_rows 1 depth + more) cert
+deeper more depth cert h = record {
+  is_cert = h.is_cert;
+  within = All-weaker (λ (entry : ℕ × ℚ). entry.0 ≤ cell_rows 1 0 + more) (λ (entry : ℕ × ℚ). entry.0 ≤ cell_rows 1 depth + more) (λ entry l. omega (arith, l)) cert h.within;
+}
+
+deeper_law : (rows depth : ℕ) (certs : List (List (ℕ × ℚ))) → AreLawCerts 1 rows 0 certs → AreLawCerts 1 rows depth certs
+deeper_law rows depth certs h =
+    record { one_each = h.one_each; each = All-weaker (IsCertOver (cell_rows 1 0 + 1)) (IsCertOver (cell_rows 1 depth + 1)) (λ cert c. deeper 1 depth cert c) certs h.each }
+
+certs_of : (laws rows : ℕ) (depths : List ℕ) (nodes : List Node) → All (IsTestNode laws rows) nodes → Spells (length depths) nodes 0 → HaveCerts 1 rows depths nodes
+certs_of laws rows depths [] h s = tt
+certs_of laws rows [] (node ∷ nodes) h s = absurd s
+certs_of laws rows (depth ∷ depths) (Split row ∷ nodes) h s = certs_of laws rows ((depth + 1) ∷ (depth + 1) ∷ depths) nodes (All-tail (IsTestNode laws rows) (Split row) nodes h) s
+certs_of laws rows (depth ∷ depths) (Law law certs ∷ nodes) h s =
+    (deeper_law rows depth certs (All-head (IsTestNode laws rows) (Law law certs) nodes h).1.0, certs_of laws rows depths nodes (All-tail (IsTestNode laws rows) (Law law certs) nodes h) s)
+certs_of laws rows (depth ∷ depths) (NoMove cert ∷ nodes) h s =
+    (deeper rows depth cert (All-head (IsTestNode laws rows) (NoMove cert) nodes h).1.0, certs_of laws rows depths nodes (All-tail (IsTestNode laws rows) (NoMove cert) nodes h) s)
+
+pub test_shapes : (plant : Plant) (laws : List LawOfSet) (nodes : List Node) (rows : ℕ) → plant.n ≡ 1 → plant.horizon ≡ 1 → rows ≡ length plant.rows + length plant.terminal → length laws ≤ 1000 → All (IsLawFor plant) laws
+    → All (IsTestNode (length laws) rows) nodes → Spells 1 nodes 0 → HaveShapes plant laws nodes
+test_shapes plant laws nodes rows n horizon count few fit tree spelled =
+    let all_rows : rows ≡ row_count plant = count ∙ one (length plant.rows) (length plant.terminal) ∙ (λ i. sym horizon i * length plant.rows + length plant.terminal) in
+    let here : HaveCerts 1 rows (0 ∷ []) nodes = certs_of (length laws) rows (0 ∷ []) nodes tree spelled in
+    record {
+      laws_few = omega (arith, few);
+      laws_fit = fit;
+      nodes_fit = subst (λ k. All (IsNodeFor k (length laws)) nodes) (sym n) (All-weaker (IsTestNode (length laws) rows) (IsNodeFor 1 (length laws)) (λ node h. h.0) nodes tree);
+      complete = spelled;
+      certs_fit = subst (λ k. HaveCerts k (row_count plant) (0 ∷ []) nodes) (sym n) (subst (λ m. HaveCerts 1 m (0 ∷ []) nodes) all_rows here);
+    }
+  where
+    one : (a b : ℕ) → a + b ≡ 1 * a + b
+    one a b = omega arith

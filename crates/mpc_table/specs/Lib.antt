@@ -3,3 +3,4 @@ pub mod Steps
 pub mod OpenSplits
 pub mod Lookup
 pub mod TableReplies
+pub mod TestNodes

@@ -1,8 +1,9 @@
-ghost use Rattle.std.specs.Prelude.{◌≡◌, ◌+◌, ◌-◌, ◌^◌, ◌<◌, ◌≤◌, All, length, unsigned_abs, IfSome, IfOk};
+ghost use Rattle.std.specs.Prelude.{◌≡◌, ◌+◌, ◌-◌, ◌^◌, ◌<◌, ◌≤◌, All, [], length, unsigned_abs, IfSome, IfOk};
 ghost use Rattle.mpc_rows.specs.Program.{IsOfShape};
 ghost use Rattle.mpc_sets.specs.RowSet.{IsSetOfRows};
 ghost use Rattle.mpc_file.specs.Preorder.{Spells, IsTree};
-ghost use Rattle.mpc_file.specs.Parts.{IsLawFor, IsNodeFor};
+ghost use Rattle.mpc_file.specs.Parts.{IsLawFor};
+ghost use Rattle.mpc_table.specs.TestNodes.{IsTestNode};
 
 use crate::{Reply, Table};
 use mpc_file::Controller;
@@ -86,6 +87,7 @@ fn add_split(
     alloc: Global,
     tree: &mut Tree,
     laws: &LawTable,
+    rows: usize,
     left: usize,
     a: i128,
     b: i128,
@@ -93,9 +95,9 @@ fn add_split(
     requires some { 0 < left }
     requires unit { unsigned_abs a ≡ 1 }
     requires small { unsigned_abs b < 2 ^ 127 }
-    requires nodes { All (IsNodeFor 1 (length laws.now)) tree.old }
+    requires nodes { All (IsTestNode (length laws.now) rows) tree.old }
     requires spells { Spells 1 tree.old left }
-    ensures { IfSome result (λ _. All (IsNodeFor 1 (length laws.now)) tree.new
+    ensures { IfSome result (λ _. All (IsTestNode (length laws.now) rows) tree.new
         × Spells 1 tree.new (left + 1)) }
 {
     let mut row = Ints::new(alloc);
@@ -108,18 +110,39 @@ fn add_split(
     }
 }
 
+/// So many certificates that name no row.
+fn bare_certs(alloc: Global, rows: usize) -> Option<Certs>
+    ensures { IfSome result (λ certs. (length certs ≡ rows) × All (λ cert. cert ≡ []) certs) }
+{
+    let mut certs = Certs::new(alloc);
+    for k in 0..rows {
+        prove!(certs.len() == k);
+        let Ok(()) = certs.push(Cert::new(alloc)) else {
+            return None;
+        };
+    }
+    Some(certs)
+}
+
 /// Puts the leaf of a law behind the nodes.
-fn add_leaf(alloc: Global, tree: &mut Tree, laws: &LawTable, left: usize, law: u32) -> Option<()>
+fn add_leaf(
+    alloc: Global,
+    tree: &mut Tree,
+    laws: &LawTable,
+    rows: usize,
+    left: usize,
+    law: u32,
+) -> Option<()>
     requires some { 0 < left }
-    requires nodes { All (IsNodeFor 1 (length laws.now)) tree.old }
+    requires nodes { All (IsTestNode (length laws.now) rows) tree.old }
     requires spells { Spells 1 tree.old left }
-    ensures { IfSome result (λ _. All (IsNodeFor 1 (length laws.now)) tree.new
+    ensures { IfSome result (λ _. All (IsTestNode (length laws.now) rows) tree.new
         × Spells 1 tree.new (left - 1)) }
 {
     if law == 0 || law as usize > laws.len() {
         return None;
     }
-    let certs = Certs::new(alloc);
+    let certs = bare_certs(alloc, rows)?;
     match tree.push(Node::Law { law, certs }) {
         Ok(()) => Some(()),
         Err(_) => None,
@@ -127,11 +150,17 @@ fn add_leaf(alloc: Global, tree: &mut Tree, laws: &LawTable, left: usize, law: u
 }
 
 /// Puts a leaf without a law behind the nodes.
-fn add_bare_leaf(alloc: Global, tree: &mut Tree, laws: &LawTable, left: usize) -> Option<()>
+fn add_bare_leaf(
+    alloc: Global,
+    tree: &mut Tree,
+    laws: &LawTable,
+    rows: usize,
+    left: usize,
+) -> Option<()>
     requires some { 0 < left }
-    requires nodes { All (IsNodeFor 1 (length laws.now)) tree.old }
+    requires nodes { All (IsTestNode (length laws.now) rows) tree.old }
     requires spells { Spells 1 tree.old left }
-    ensures { IfSome result (λ _. All (IsNodeFor 1 (length laws.now)) tree.new
+    ensures { IfSome result (λ _. All (IsTestNode (length laws.now) rows) tree.new
         × Spells 1 tree.new (left - 1)) }
 {
     let cert = Cert::new(alloc);
@@ -141,14 +170,17 @@ fn add_bare_leaf(alloc: Global, tree: &mut Tree, laws: &LawTable, left: usize) -
     }
 }
 
-/// The table of the controller of these parts.
-fn table_of(alloc: Global, plant: Plant, laws: LawTable, tree: Tree) -> Option<Table>
+/// The table of the controller of these parts, for a plant of one step with so many rows.
+fn table_of(alloc: Global, plant: Plant, laws: LawTable, tree: Tree, rows: usize) -> Option<Table>
     requires laws { All (IsLawFor plant) laws }
-    requires nodes { All (IsNodeFor 1 (length laws)) tree }
+    requires nodes { All (IsTestNode (length laws) rows) tree }
     requires complete { IsTree tree }
     ensures { IfSome result (λ table. length table.limits ≡ 1) }
 {
-    if plant.n != 1 || laws.len() > 1000 {
+    if plant.n != 1 || plant.horizon != 1 || laws.len() > 1000 {
+        return None;
+    }
+    if rows != plant.rows.len() + plant.terminal.len() {
         return None;
     }
     let Ok(controller) = Controller::seal(alloc, plant, laws, tree) else {
@@ -194,12 +226,12 @@ fn bounded_input(alloc: Global) -> Option<Table>
     let mut laws = LawTable::new(alloc);
     add_three_laws(alloc, &plant, &mut laws)?;
     let mut tree = Tree::new(alloc);
-    add_split(alloc, &mut tree, &laws, 1, -1, -2)?;
-    add_split(alloc, &mut tree, &laws, 2, 1, 6)?;
-    add_leaf(alloc, &mut tree, &laws, 3, 1)?;
-    add_leaf(alloc, &mut tree, &laws, 2, 3)?;
-    add_leaf(alloc, &mut tree, &laws, 1, 2)?;
-    table_of(alloc, plant, laws, tree)
+    add_split(alloc, &mut tree, &laws, 2, 1, -1, -2)?;
+    add_split(alloc, &mut tree, &laws, 2, 2, 1, 6)?;
+    add_leaf(alloc, &mut tree, &laws, 2, 3, 1)?;
+    add_leaf(alloc, &mut tree, &laws, 2, 2, 3)?;
+    add_leaf(alloc, &mut tree, &laws, 2, 1, 2)?;
+    table_of(alloc, plant, laws, tree, 2)
 }
 
 /// The same with |x| <= 1 at the end.
@@ -214,37 +246,49 @@ fn bounded_end(alloc: Global) -> Option<Table>
     add_law(alloc, &plant, &mut laws, 3, 5, Frac::whole(-1))?;
     add_law(alloc, &plant, &mut laws, 4, 3, Frac::whole(-1))?;
     let mut tree = Tree::new(alloc);
-    add_split(alloc, &mut tree, &laws, 1, -1, -2)?;
-    add_split(alloc, &mut tree, &laws, 2, 1, 6)?;
-    add_leaf(alloc, &mut tree, &laws, 3, 1)?;
-    add_bare_leaf(alloc, &mut tree, &laws, 2)?;
-    add_bare_leaf(alloc, &mut tree, &laws, 1)?;
-    table_of(alloc, plant, laws, tree)
+    add_split(alloc, &mut tree, &laws, 4, 1, -1, -2)?;
+    add_split(alloc, &mut tree, &laws, 4, 2, 1, 6)?;
+    add_leaf(alloc, &mut tree, &laws, 4, 3, 1)?;
+    add_bare_leaf(alloc, &mut tree, &laws, 4, 2)?;
+    add_bare_leaf(alloc, &mut tree, &laws, 4, 1)?;
+    table_of(alloc, plant, laws, tree, 4)
 }
 
 /// Puts the splits `t <= depth`, `t <= depth - 1`, .. behind the root's place, each in the yes side of the
 /// one before.
-fn add_splits(alloc: Global, tree: &mut Tree, laws: &LawTable, depth: usize) -> Option<()>
-    requires nodes { All (IsNodeFor 1 (length laws.now)) tree.old }
+fn add_splits(
+    alloc: Global,
+    tree: &mut Tree,
+    laws: &LawTable,
+    rows: usize,
+    depth: usize,
+) -> Option<()>
+    requires nodes { All (IsTestNode (length laws.now) rows) tree.old }
     requires spells { Spells 1 tree.old 1 }
     requires small { depth < 2 ^ 32 }
-    ensures { IfSome result (λ _. All (IsNodeFor 1 (length laws.now)) tree.new
+    ensures { IfSome result (λ _. All (IsTestNode (length laws.now) rows) tree.new
         × Spells 1 tree.new (depth + 1)) }
 {
     for k in 0..depth {
-        add_split(alloc, tree, laws, k + 1, 1, (depth - k) as i128)?;
+        add_split(alloc, tree, laws, rows, k + 1, 1, (depth - k) as i128)?;
     }
     Some(())
 }
 
 /// Ends the tree with leaves without a law.
-fn add_bare_leaves(alloc: Global, tree: &mut Tree, laws: &LawTable, left: usize) -> Option<()>
-    requires nodes { All (IsNodeFor 1 (length laws.now)) tree.old }
+fn add_bare_leaves(
+    alloc: Global,
+    tree: &mut Tree,
+    laws: &LawTable,
+    rows: usize,
+    left: usize,
+) -> Option<()>
+    requires nodes { All (IsTestNode (length laws.now) rows) tree.old }
     requires spells { Spells 1 tree.old left }
-    ensures { IfSome result (λ _. All (IsNodeFor 1 (length laws.now)) tree.new × IsTree tree.new) }
+    ensures { IfSome result (λ _. All (IsTestNode (length laws.now) rows) tree.new × IsTree tree.new) }
 {
     for k in 0..left {
-        add_bare_leaf(alloc, tree, laws, left - k)?;
+        add_bare_leaf(alloc, tree, laws, rows, left - k)?;
     }
     Some(())
 }
@@ -259,9 +303,9 @@ fn deep(alloc: Global, depth: usize) -> Option<Table>
     let plant = read_plant(alloc, file).ok()?;
     let laws = LawTable::new(alloc);
     let mut tree = Tree::new(alloc);
-    add_splits(alloc, &mut tree, &laws, depth)?;
-    add_bare_leaves(alloc, &mut tree, &laws, depth + 1)?;
-    table_of(alloc, plant, laws, tree)
+    add_splits(alloc, &mut tree, &laws, 0, depth)?;
+    add_bare_leaves(alloc, &mut tree, &laws, 0, depth + 1)?;
+    table_of(alloc, plant, laws, tree, 0)
 }
 
 #[test]

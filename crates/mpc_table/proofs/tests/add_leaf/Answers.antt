@@ -1,8 +1,8 @@
 use Rattle.std.proofs.Common.{length, ◌≡◌, ◌≤◌, arith}
 use Rattle.mpc_plant.specs.Limits.{IsFromTo}
 use Rattle.mpc_rows.specs.declared.trees.Node.TheVariants.{Law}
-use Rattle.mpc_file.specs.Parts.{IsNodeFor}
-use Rattle.mpc_table.proofs.TestLemmas.{all_push, leaf_push}
+use Rattle.mpc_table.specs.TestNodes.{IsTestNode}
+use Rattle.mpc_table.proofs.TestLemmas.{all_push, leaf_push, bare_law}
 use Rattle.mpc_table.proofs.tests.add_leaf.Goals as goal
 
 pub returns-in-Ok : goal.returns-in-Ok
@@ -11,6 +11,6 @@ returns-in-Ok c =
     let some : 1 ≤ c.args.law = omega arith in
     let within : c.args.law ≤ length c.args.laws.now = omega arith in
     let named : IsFromTo 1 (length c.args.laws.now) c.args.law = record { from_low = some; to_high = within } in (
-      all_push (IsNodeFor 1 (length c.args.laws.now)) c.args.tree.now c.push.new.self (Law c.args.law c.new-certs.result) c.in-Ok.ensures.ok c.requires.nodes named,
-      leaf_push c.args.tree.now c.push.new.self c.args.left (Law c.args.law c.new-certs.result) c.in-Ok.ensures.ok tt c.requires.some c.requires.spells,
+      all_push (IsTestNode (length c.args.laws.now) c.args.rows) c.args.tree.now c.push.new.self (Law c.args.law c.in_ok-certs.certs) c.in-Ok.ensures.ok c.requires.nodes (named, (bare_law c.args.rows c.in_ok-certs.certs c.in_ok-certs.ensures.0 c.in_ok-certs.ensures.1, tt)),
+      leaf_push c.args.tree.now c.push.new.self c.args.left (Law c.args.law c.in_ok-certs.certs) c.in-Ok.ensures.ok tt c.requires.some c.requires.spells,
     )
