@@ -1,0 +1,187 @@
+// Times the phases from a plant file to a reply: each phase by the least time of the runs that end behind it, less that of the runs that
+// end before it. The arguments name files with a plant, the line `states` and a line of counts.
+use std::ffi::c_void;
+
+// ---- the proved library
+#[repr(C)]
+#[derive(Clone, Copy, Default)]
+struct Parts {
+    negative: bool,
+    num_high: u64,
+    num_low: u64,
+    den_high: u64,
+    den_low: u64,
+}
+
+#[repr(C)]
+#[derive(Clone, Copy, Default)]
+struct Sizes {
+    candidates: u64,
+    laws: u64,
+    nodes: u64,
+}
+
+unsafe extern "C" {
+    fn mpc_compile_reply(
+        file: *const c_void,
+        file_len: usize,
+        counts: *const u64,
+        count_len: usize,
+        last: u32,
+        rounds: u32,
+        sizes: *mut Sizes,
+        moves: *mut Parts,
+        move_len: usize,
+    ) -> u32;
+}
+
+const PHASES: [&str; 9] = ["read", "condense", "pivots", "enumerate", "collect", "tree", "seal", "table", "reply"];
+const REPLY: u32 = 9;
+const MOVED: u32 = 0;
+const INFEASIBLE: u32 = 1;
+const ASKED: u32 = 3;
+const OTHER_SIZES: u32 = 8;
+
+/// What a run answers: its code, the sizes of the controller and the move.
+struct Answer {
+    code: u32,
+    sizes: Sizes,
+    moves: Vec<Parts>,
+}
+
+/// A plant file, one state by its counts, and the plant's number of inputs.
+struct Request {
+    file: Vec<u8>,
+    counts: Vec<u64>,
+    inputs: usize,
+}
+
+impl Request {
+    fn read(path: &str) -> Self {
+        let text = std::fs::read_to_string(path).expect("the file of a plant");
+        let (file, states) = text.split_once("\nstates\n").expect("the line `states`");
+        let line = states.lines().next().expect("a line of counts");
+        let counts = line.split(' ').map(|count| count.parse().expect("a count")).collect();
+        let mut request = Request { file: file.as_bytes().to_vec(), counts, inputs: 1 };
+        while request.run(1, 1).code == OTHER_SIZES && request.inputs < 3 {
+            request.inputs += 1;
+        }
+        request
+    }
+
+    /// The run up to the phase with this number, from 1, with so many replies.
+    fn run(&self, last: u32, rounds: u32) -> Answer {
+        let mut sizes = Sizes::default();
+        let mut moves = vec![Parts::default(); self.inputs];
+        let (file, counts) = (&self.file, &self.counts);
+        let code = unsafe {
+            mpc_compile_reply(
+                file.as_ptr().cast(),
+                file.len(),
+                counts.as_ptr(),
+                counts.len(),
+                last,
+                rounds,
+                &mut sizes,
+                moves.as_mut_ptr(),
+                moves.len(),
+            )
+        };
+        Answer { code, sizes, moves }
+    }
+}
+
+// ---- text
+fn half(high: u64, low: u64) -> u128 {
+    (high as u128) << 64 | low as u128
+}
+
+fn fraction(parts: &Parts) -> String {
+    let sign = if parts.negative { "-" } else { "" };
+    let (num, den) = (half(parts.num_high, parts.num_low), half(parts.den_high, parts.den_low));
+    if den == 1 { format!("{sign}{num}") } else { format!("{sign}{num}/{den}") }
+}
+
+fn reply(answer: &Answer) -> String {
+    match answer.code {
+        MOVED => answer.moves.iter().map(fraction).collect::<Vec<_>>().join(" "),
+        INFEASIBLE => "infeasible".to_string(),
+        code => format!("code {code}"),
+    }
+}
+
+// ---- time
+#[repr(C)]
+struct TimeSpec {
+    seconds: i64,
+    nanoseconds: i64,
+}
+
+unsafe extern "C" {
+    fn clock_gettime(clock: i32, time: *mut TimeSpec) -> i32;
+}
+
+/// The milliseconds that this thread has run, so that other programs count little.
+fn thread_time() -> f64 {
+    const THREAD_CPU: i32 = 3;
+    let mut time = TimeSpec { seconds: 0, nanoseconds: 0 };
+    unsafe { clock_gettime(THREAD_CPU, &mut time) };
+    time.seconds as f64 * 1e3 + time.nanoseconds as f64 * 1e-6
+}
+
+/// The replies in a row that are timed, since one alone is too short.
+const REPLIES: u32 = 1_000_000;
+/// How often each run is timed.
+const GOES: usize = 5;
+
+/// The least milliseconds of the runs up to each phase; behind the last one, those with more replies.
+fn least_times(request: &Request) -> [f64; 10] {
+    let mut least = [f64::MAX; 10];
+    for _ in 0..GOES {
+        for (place, least) in least.iter_mut().enumerate() {
+            let last = REPLY.min(place as u32 + 1);
+            let rounds = if place == 9 { REPLIES + 1 } else { 1 };
+            let start = thread_time();
+            let answer = request.run(last, rounds);
+            *least = least.min(thread_time() - start);
+            assert_eq!(answer.code == ASKED, last < REPLY, "the code {} behind phase {last}", answer.code);
+        }
+    }
+    least
+}
+
+/// The milliseconds of each phase, from the times of the runs up to them.
+fn phase_times(least: &[f64; 10]) -> [f64; 9] {
+    std::array::from_fn(|phase| match phase {
+        0 => least[0],
+        8 => (least[9] - least[8]) / REPLIES as f64,
+        _ => (least[phase] - least[phase - 1]).max(0.0),
+    })
+}
+
+fn name_of(path: &str) -> &str {
+    let file = path.rsplit('/').next().unwrap_or(path);
+    file.strip_suffix(".txt").unwrap_or(file)
+}
+
+fn print_line(path: &str) {
+    let request = Request::read(path);
+    let answer = request.run(REPLY, 1);
+    let least = least_times(&request);
+    let Sizes { candidates, laws, nodes } = answer.sizes;
+    print!("{:18} {candidates:7} {laws:5} {nodes:6}", name_of(path));
+    for time in &phase_times(&least)[..8] {
+        print!(" {time:9.3}");
+    }
+    println!(" {:9.5} {:10.3}   {}", phase_times(&least)[8], least[8], reply(&answer));
+}
+
+fn main() {
+    println!("milliseconds of each phase, and of all");
+    print!("{:18} {:>7} {:>5} {:>6}", "plant", "sets", "laws", "nodes");
+    for phase in PHASES {
+        print!(" {phase:>9}");
+    }
+    println!(" {:>10}   reply", "all");
+    std::env::args().skip(1).for_each(|path| print_line(&path));
+}

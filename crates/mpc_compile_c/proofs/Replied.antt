@@ -1,0 +1,121 @@
+-- The replies of a plant's table are right.
+use Rattle.std.proofs.Common.{◌≡◌, ℕ, zero, suc, ◌-◌, ◌<◌, ◌≤◌, List, [], ◌∷◌, length, get_or, map, take, Some, None, pos, refl, sym, ◌∙◌, ap, subst, arith}
+use Rattle.std.specs.Prelude.{All, slice_get}
+use Rattle.std.proofs.lemmas.List.{length-map, get_or-map}
+use Rattle.std.proofs.lemmas.List.Elements.{All-contains}
+use Rattle.mpc_exact.specs.Rational.{ℚ, int}
+use Rattle.mpc_space.specs.Vector.{dot, mat_vec}
+use Rattle.mpc_space.specs.Matrix.{height}
+use Rattle.mpc_space.specs.Definite.{IsDefinite}
+use Rattle.mpc_parts.specs.declared.Parts.{Parts as SentParts}
+use Rattle.mpc_parts.specs.Parts.{value_of}
+use Rattle.mpc_plant.specs.declared.plants.Plant.{Plant}
+use Rattle.mpc_plant.specs.declared.lists.Coordinate.{Coordinate}
+use Rattle.mpc_plant.specs.Reply.{Reply, move, infeasible, IsRight}
+use Rattle.mpc_plant.specs.Trajectory.{point_of}
+use Rattle.mpc_rows.specs.ActiveSets.{extended}
+use Rattle.mpc_rows.specs.declared.programs.Qp.{Qp}
+use Rattle.mpc_rows.specs.declared.laws.Law.{Law}
+use Rattle.mpc_rows.specs.declared.trees.Node.{Node}
+use Rattle.mpc_rows.specs.Candidates.{IsTable}
+use Rattle.mpc_rows.specs.SetRuns.{LawRowsFit}
+use Rattle.mpc_condense.specs.Condensed.{IsCondensed}
+use Rattle.mpc_tree.specs.Trees.{whole_box, IsTreeOf}
+use Rattle.mpc_file.specs.Parts.{Parts, limits_of, IsLawFor, HaveShapes}
+use Rattle.mpc_file.specs.Bounds.{first_move_form}
+use Rattle.mpc_file.specs.Replies.{first_outside, IsLawNumbered, RepliesAt, by_law, by_no_law}
+use Rattle.mpc_file.proofs.BoundLemmas.{all_at}
+use Rattle.mpc_table.specs.Lookup.{Lookup, IsTableOf}
+use Rattle.mpc_table.specs.TableReplies.{IsMoveReply, IsInfeasibleReply, CanMove}
+use Rattle.mpc_table.proofs.TableLemmas.{law_inputs, law_forms_length}
+use Rattle.mpc_answers.proofs.TreeWalks.{replies_right}
+use Rattle.mpc_answers.proofs.TreeShapes.{tree_shapes}
+use Rattle.mpc_answers.proofs.BoxCounts.{box_of_counts}
+use Rattle.mpc_compile_c.specs.declared.replies.Answer.{Answer}
+use Rattle.mpc_compile_c.specs.declared.replies.Answer.TheVariants.{Moved, Infeasible, Outside}
+use Rattle.mpc_compile_c.specs.Answers.{no_parts, IsControllerOf, HoldsFor, IsMoveOf, RepliesBy, IsRightAt}
+
+-- ---- the numbers of a move
+first_moves : (p : ℕ) (rows : List (List ℚ)) (x us : List ℚ) → length us ≡ p → p ≤ length rows → ((k : ℕ) → k < p → get_or us k (int (pos 0)) ≡ dot (get_or rows k []) x) → us ≡ take p (mat_vec rows x)
+first_moves zero rows x [] size enough at = refl
+first_moves zero rows x (u ∷ us) size enough at = absurd (omega (arith, size))
+first_moves (suc p) rows x [] size enough at = absurd (omega (arith, size))
+first_moves (suc p) [] x (u ∷ us) size enough at = absurd (omega (arith, enough))
+first_moves (suc p) (row ∷ rows) x (u ∷ us) size enough at =
+    λ i. at 0 (omega arith) i ∷ first_moves p rows x us (omega (arith, size)) (omega (arith, enough)) (λ k l. at (suc k) (omega (arith, l))) i
+
+law_at : (laws : List Law) (j : ℕ) → j < length laws → (law : Law) × (slice_get laws j ≡ Some law)
+law_at [] j h = absurd (omega arith)
+law_at (l ∷ ls) zero h = (l, refl)
+law_at (l ∷ ls) (suc j) h = law_at ls j (omega arith)
+
+-- the number is that of input k, counted from 0, by the law with this number
+abbrev pub IsNumberOf : Lookup → List ℕ → ℕ → ℕ → ℚ → Type 0
+IsNumberOf table counts number k u = (parts : Parts) (law : Law) → IsTableOf parts table → IsLawNumbered parts.laws number law → u ≡ dot (first_move_form law k) (extended (point_of counts))
+
+pub is_move : (table : Lookup) (counts : List ℕ) (number : ℕ) (moves : List SentParts) → CanMove table counts number → length moves ≡ table.inputs → ((k : ℕ) → k < length moves → IsNumberOf table counts number k (value_of (get_or moves k no_parts)))
+    → (parts : Parts) → HoldsFor parts table → IsMoveOf parts counts number (map value_of moves)
+is_move table counts number moves can room at parts h =
+    let size : length table.laws ≡ length parts.laws = law_forms_length parts.plant.p parts.laws table.laws h.table_of.laws_are in
+    let found = law_at parts.laws (number - 1) (omega (arith, can.from_first, can.to_last, size)) in
+    let fits : IsLawFor parts.plant found.0 = all_at (IsLawFor parts.plant) parts.laws (number - 1) found.0 found.1 h.shapes.laws_fit in
+    let inputs : length moves ≡ parts.plant.p = room ∙ h.table_of.inputs_are in (
+      found.0,
+      found.1,
+      first_moves parts.plant.p found.0.moves.rows (extended (point_of counts)) (map value_of moves) (length-map moves value_of ∙ inputs) (law_inputs parts.plant found.0 fits)
+          (λ k l.
+          let inside : k < length moves = subst (λ n. k < n) (sym inputs) l in
+          get_or-map value_of moves k no_parts (int (pos 0)) inside ∙ at k inside parts found.0 h.table_of found.1),
+    )
+
+-- ---- replies by the tree
+pub moved : (parts : Parts) (counts : List ℕ) (node number : ℕ) (moves : List ℚ) → IsMoveReply parts counts node number → IsMoveOf parts counts number moves → RepliesBy parts counts moves Moved
+moved parts counts node number moves r m = (r.inside, subst (λ u. RepliesAt parts (point_of counts) (move u)) (sym m.2) (by_law r.place number r.certs m.0 r.ends m.1))
+
+pub stood : (parts : Parts) (counts : List ℕ) (node : ℕ) (moves : List ℚ) → IsInfeasibleReply parts counts node → RepliesBy parts counts moves Infeasible
+stood parts counts node moves r = (r.inside, by_no_law r.place r.cert r.ends)
+
+pub past : (parts : Parts) (counts : List ℕ) (i : ℕ) (moves : List ℚ) → first_outside (limits_of parts.plant) counts ≡ Some i → RepliesBy parts counts moves Outside
+past parts counts i moves e h = let a = e in let b = h in absurd cc
+
+-- ---- and by the plant
+module _ (plant : Plant) (parts : Parts) (counts : List ℕ) (is : IsControllerOf plant parts) (size : length counts ≡ plant.n) where
+  inside_of : first_outside (limits_of parts.plant) counts ≡ None → first_outside (limits_of plant) counts ≡ None
+  inside_of h = ap (λ p. first_outside (limits_of p) counts) (sym is.plant_is) ∙ h
+
+  right_at : (reply : Reply) → first_outside (limits_of parts.plant) counts ≡ None → RepliesAt parts (point_of counts) reply → IsRight plant (point_of counts) reply
+  right_at reply h r =
+      subst (λ p. IsRight p (point_of counts) reply) is.plant_is
+      (replies_right is.qp parts (point_of counts) reply (subst (IsCondensed is.qp) (sym is.plant_is) is.condensed) is.definite is.table is.tree (box_of_counts plant is.qp counts is.condensed size (inside_of h)) r)
+
+  pub right_reply : (moves : List ℚ) (answer : Answer) → RepliesBy parts counts moves answer → IsRightAt plant counts moves answer
+  right_reply moves Moved h = (inside_of h.0, right_at (move moves) h.0 h.1)
+  right_reply moves Infeasible h = (inside_of h.0, right_at infeasible h.0 h.1)
+  right_reply moves Outside h = λ k. h (ap (λ p. first_outside (limits_of p) counts) is.plant_is ∙ k)
+
+-- ---- the parts of a controller
+pub limits_size : (plant : Plant) → length (limits_of plant) ≡ plant.n
+limits_size plant = length-map plant.grid (λ (axis : Coordinate). axis.count) ∙ plant.is_plant.grid_size
+
+pub counts_size : (plant : Plant) (parts : Parts) (table : Lookup) (counts : List ℕ) → IsControllerOf plant parts → IsTableOf parts table → length counts ≡ plant.n → length counts ≡ length table.limits
+counts_size plant parts table counts is h e = e ∙ sym (limits_size plant) ∙ ap (λ p. length (limits_of p)) (sym is.plant_is) ∙ ap length (sym h.limits_are)
+
+pub inputs_size : (plant : Plant) (parts : Parts) (table : Lookup) (n : ℕ) → IsControllerOf plant parts → IsTableOf parts table → n ≡ plant.p → n ≡ table.inputs
+inputs_size plant parts table n is h e = e ∙ ap (λ (p : Plant). p.p) (sym is.plant_is) ∙ sym h.inputs_are
+
+pub shapes : (qp : Qp) (plant : Plant) (laws : List Law) (nodes : List Node) → IsCondensed qp plant → IsTable qp laws → All (λ law. LawRowsFit qp law (height qp.g)) laws → IsTreeOf qp laws whole_box nodes → HaveShapes plant laws nodes
+shapes qp plant laws nodes condensed table fit tree = tree_shapes qp plant laws nodes condensed table (λ law c. All-contains (λ l. LawRowsFit qp l (height qp.g)) laws law fit c) tree
+
+pub controller_of : (plant : Plant) (qp : Qp) (laws : List Law) (nodes : List Node) (parts : Parts) → IsCondensed qp plant → IsDefinite qp.h.rows → IsTable qp laws → All (λ law. LawRowsFit qp law (height qp.g)) laws → IsTreeOf qp laws whole_box nodes
+    → parts ≡ record { plant = plant; laws = laws; tree = nodes } → IsControllerOf plant parts
+controller_of plant qp laws nodes parts condensed definite table fit tree e =
+    subst (IsControllerOf plant) (sym e)
+    (record {
+      plant_is = refl;
+      shapes = shapes qp plant laws nodes condensed table fit tree;
+      qp = qp;
+      condensed = condensed;
+      definite = definite;
+      table = table;
+      tree = tree;
+    })

@@ -1,0 +1,43 @@
+-- What is answered to a plant file and counts.
+use Rattle.std.specs.Prelude.{◌≡◌, ◌≢◌, ℕ, ◌⊎◌, List, length}
+use Rattle.mpc_exact.specs.Rational.{ℚ}
+use Rattle.mpc_plant.specs.declared.plants.Plant.{Plant}
+use Rattle.mpc_plant.specs.declared.faults.PlantKind.{PlantKind}
+use Rattle.mpc_plant.specs.WholePlant.{ReadsAsPlant, IsFirstFault}
+use Rattle.mpc_compile_c.specs.declared.Sizes.{Sizes}
+use Rattle.mpc_compile_c.specs.declared.replies.Answer.{Answer}
+use Rattle.mpc_compile_c.specs.declared.phases.Phase.{Phase}
+use Rattle.mpc_compile_c.specs.declared.phases.Phase.TheVariants.{Replying}
+use Rattle.mpc_compile_c.specs.declared.phases.Stop.{Stop}
+use Rattle.mpc_compile_c.specs.declared.phases.Stop.TheVariants.{Asked, BadPlant, NotDefinite, TooWide, NoMemory, OtherSizes}
+use Rattle.mpc_compile_c.specs.Answers.{IsAnsweredFor}
+use Rattle.mpc_compile_c.specs.Stops.{IsIndefinite, IsTooWide}
+
+-- the bytes are the file of a plant of which this holds
+pub record IsFileOf (file : List ℕ) (P : Plant → Type 0) : Type 0 where
+  pub plant : Plant
+  pub read : ReadsAsPlant file plant
+  pub holds : P plant
+
+-- the bytes are the file of a plant, to which this is the right answer
+abbrev pub IsAnswered : List ℕ → List ℕ → Sizes → List ℚ → Answer → Type 0
+IsAnswered file counts sizes moves answer = IsFileOf file (λ plant. IsAnsweredFor plant counts sizes moves answer)
+
+-- the bytes fail a check of plant files
+pub record IsNoPlant (file : List ℕ) : Type 0 where
+  pub kind : PlantKind
+  pub path : List ℕ
+  pub fault : IsFirstFault file kind path
+
+-- not one count for each state, or not room for one number for each input
+abbrev pub HasOtherSizes : ℕ → ℕ → Plant → Type 0
+HasOtherSizes counts room plant = (counts ≢ plant.n) ⊎ (room ≢ plant.p)
+
+-- why there is no answer to so many counts, with room for so many numbers
+abbrev pub ExplainsEnd : List ℕ → ℕ → ℕ → Phase → Stop → Type 0
+ExplainsEnd file counts room last Asked = last ≢ Replying
+ExplainsEnd file counts room last BadPlant = IsNoPlant file
+ExplainsEnd file counts room last NotDefinite = IsFileOf file IsIndefinite
+ExplainsEnd file counts room last TooWide = IsFileOf file IsTooWide
+ExplainsEnd file counts room last NoMemory = Unit {0}
+ExplainsEnd file counts room last OtherSizes = IsFileOf file (HasOtherSizes counts room)
