@@ -131,20 +131,30 @@ fn thread_time() -> f64 {
 
 /// The replies in a row that are timed, since one alone is too short.
 const REPLIES: u32 = 1_000_000;
-/// How often each run is timed.
-const GOES: usize = 5;
+/// How often the runs are timed one after the other, and the milliseconds that each takes at least at each time.
+const GOES: usize = 9;
+const SPENT: f64 = 10.0;
+
+/// The least milliseconds of some runs up to a phase with so many replies.
+fn least_time(request: &Request, last: u32, rounds: u32) -> f64 {
+    let (mut least, mut spent) = (f64::MAX, 0.0);
+    while spent < SPENT {
+        let start = thread_time();
+        let answer = request.run(last, rounds);
+        let time = thread_time() - start;
+        assert_eq!(answer.code == ASKED, last < REPLY, "the code {} behind phase {last}", answer.code);
+        (least, spent) = (least.min(time), spent + time);
+    }
+    least
+}
 
 /// The least milliseconds of the runs up to each phase; behind the last one, those with more replies.
 fn least_times(request: &Request) -> [f64; 10] {
     let mut least = [f64::MAX; 10];
     for _ in 0..GOES {
         for (place, least) in least.iter_mut().enumerate() {
-            let last = REPLY.min(place as u32 + 1);
             let rounds = if place == 9 { REPLIES + 1 } else { 1 };
-            let start = thread_time();
-            let answer = request.run(last, rounds);
-            *least = least.min(thread_time() - start);
-            assert_eq!(answer.code == ASKED, last < REPLY, "the code {} behind phase {last}", answer.code);
+            *least = least.min(least_time(request, REPLY.min(place as u32 + 1), rounds));
         }
     }
     least

@@ -1,5 +1,5 @@
 -- What is answered to a plant file and counts.
-use Rattle.std.specs.Prelude.{◌≡◌, ◌≢◌, ℕ, ◌⊎◌, List, length}
+use Rattle.std.specs.Prelude.{◌≢◌, ℕ, ◌⊎◌, List}
 use Rattle.mpc_exact.specs.Rational.{ℚ}
 use Rattle.mpc_plant.specs.declared.plants.Plant.{Plant}
 use Rattle.mpc_plant.specs.declared.faults.PlantKind.{PlantKind}
