@@ -1,6 +1,11 @@
 // Times the phases from a plant file to a reply: each phase by the least time of the runs that end behind it, less that of the runs that
 // end before it. The arguments name files with a plant, the line `states` and a line of counts.
+#[path = "../shared/timing.rs"]
+#[allow(dead_code)]
+mod timing;
+
 use std::ffi::c_void;
+use timing::thread_time;
 
 // ---- the proved library
 #[repr(C)]
@@ -111,22 +116,9 @@ fn reply(answer: &Answer) -> String {
 }
 
 // ---- time
-#[repr(C)]
-struct TimeSpec {
-    seconds: i64,
-    nanoseconds: i64,
-}
-
-unsafe extern "C" {
-    fn clock_gettime(clock: i32, time: *mut TimeSpec) -> i32;
-}
-
-/// The milliseconds that this thread has run, so that other programs count little.
-fn thread_time() -> f64 {
-    const THREAD_CPU: i32 = 3;
-    let mut time = TimeSpec { seconds: 0, nanoseconds: 0 };
-    unsafe { clock_gettime(THREAD_CPU, &mut time) };
-    time.seconds as f64 * 1e3 + time.nanoseconds as f64 * 1e-6
+/// The milliseconds that this thread has run.
+fn milliseconds() -> f64 {
+    thread_time() * 1e3
 }
 
 /// The replies in a row that are timed, since one alone is too short.
@@ -139,9 +131,9 @@ const SPENT: f64 = 10.0;
 fn least_time(request: &Request, last: u32, rounds: u32) -> f64 {
     let (mut least, mut spent) = (f64::MAX, 0.0);
     while spent < SPENT {
-        let start = thread_time();
+        let start = milliseconds();
         let answer = request.run(last, rounds);
-        let time = thread_time() - start;
+        let time = milliseconds() - start;
         assert_eq!(answer.code == ASKED, last < REPLY, "the code {} behind phase {last}", answer.code);
         (least, spent) = (least.min(time), spent + time);
     }

@@ -20,7 +20,8 @@ use Rattle.mpc_rows.specs.declared.trees.Node.{Node}
 use Rattle.mpc_rows.specs.Candidates.{IsTable}
 use Rattle.mpc_rows.specs.SetRuns.{LawRowsFit}
 use Rattle.mpc_condense.specs.Condensed.{IsCondensed}
-use Rattle.mpc_tree.specs.Trees.{whole_box, IsTreeOf}
+use Rattle.mpc_tree.specs.Trees.{whole_box}
+use Rattle.mpc_tree.specs.Certified.{IsCertified}
 use Rattle.mpc_file.specs.Parts.{Parts, limits_of, IsLawFor, HaveShapes}
 use Rattle.mpc_file.specs.Bounds.{first_move_form}
 use Rattle.mpc_file.specs.Replies.{first_outside, IsLawNumbered, RepliesAt, by_law, by_no_law}
@@ -29,6 +30,7 @@ use Rattle.mpc_table.specs.Lookup.{Lookup, IsTableOf}
 use Rattle.mpc_table.specs.TableReplies.{IsMoveReply, IsInfeasibleReply, CanMove}
 use Rattle.mpc_table.proofs.TableLemmas.{law_inputs, law_forms_length}
 use Rattle.mpc_answers.proofs.TreeWalks.{replies_right}
+use Rattle.mpc_tree.proofs.OneTree.{tree_of_certified}
 use Rattle.mpc_answers.proofs.TreeShapes.{tree_shapes}
 use Rattle.mpc_answers.proofs.BoxCounts.{box_of_counts}
 use Rattle.mpc_compile_c.specs.declared.replies.Answer.{Answer}
@@ -86,7 +88,7 @@ module _ (plant : Plant) (parts : Parts) (counts : List ℕ) (is : IsControllerO
   right_at : (reply : Reply) → first_outside (limits_of parts.plant) counts ≡ None → RepliesAt parts (point_of counts) reply → IsRight plant (point_of counts) reply
   right_at reply h r =
       subst (λ p. IsRight p (point_of counts) reply) is.plant_is
-      (replies_right is.qp parts (point_of counts) reply (subst (IsCondensed is.qp) (sym is.plant_is) is.condensed) is.definite is.table is.tree (box_of_counts plant is.qp counts is.condensed size (inside_of h)) r)
+      (replies_right is.qp parts (point_of counts) reply (subst (IsCondensed is.qp) (sym is.plant_is) is.condensed) is.definite is.table (tree_of_certified is.qp parts.laws whole_box parts.tree is.tree) (box_of_counts plant is.qp counts is.condensed size (inside_of h)) r)
 
   pub right_reply : (moves : List ℚ) (answer : Answer) → RepliesBy parts counts moves answer → IsRightAt plant counts moves answer
   right_reply moves Moved h = (inside_of h.0, right_at (move moves) h.0 h.1)
@@ -103,10 +105,10 @@ counts_size plant parts table counts is h e = e ∙ sym (limits_size plant) ∙ 
 pub inputs_size : (plant : Plant) (parts : Parts) (table : Lookup) (n : ℕ) → IsControllerOf plant parts → IsTableOf parts table → n ≡ plant.p → n ≡ table.inputs
 inputs_size plant parts table n is h e = e ∙ ap (λ (p : Plant). p.p) (sym is.plant_is) ∙ sym h.inputs_are
 
-pub shapes : (qp : Qp) (plant : Plant) (laws : List Law) (nodes : List Node) → IsCondensed qp plant → IsTable qp laws → All (λ law. LawRowsFit qp law (height qp.g)) laws → IsTreeOf qp laws whole_box nodes → HaveShapes plant laws nodes
+pub shapes : (qp : Qp) (plant : Plant) (laws : List Law) (nodes : List Node) → IsCondensed qp plant → IsTable qp laws → All (λ law. LawRowsFit qp law (height qp.g)) laws → IsCertified qp laws whole_box nodes → HaveShapes plant laws nodes
 shapes qp plant laws nodes condensed table fit tree = tree_shapes qp plant laws nodes condensed table (λ law c. All-contains (λ l. LawRowsFit qp l (height qp.g)) laws law fit c) tree
 
-pub controller_of : (plant : Plant) (qp : Qp) (laws : List Law) (nodes : List Node) (parts : Parts) → IsCondensed qp plant → IsDefinite qp.h.rows → IsTable qp laws → All (λ law. LawRowsFit qp law (height qp.g)) laws → IsTreeOf qp laws whole_box nodes
+pub controller_of : (plant : Plant) (qp : Qp) (laws : List Law) (nodes : List Node) (parts : Parts) → IsCondensed qp plant → IsDefinite qp.h.rows → IsTable qp laws → All (λ law. LawRowsFit qp law (height qp.g)) laws → IsCertified qp laws whole_box nodes
     → parts ≡ record { plant = plant; laws = laws; tree = nodes } → IsControllerOf plant parts
 controller_of plant qp laws nodes parts condensed definite table fit tree e =
     subst (IsControllerOf plant) (sym e)

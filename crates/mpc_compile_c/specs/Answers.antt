@@ -10,7 +10,8 @@ use Rattle.mpc_rows.specs.declared.programs.Qp.{Qp}
 use Rattle.mpc_rows.specs.declared.laws.Law.{Law}
 use Rattle.mpc_rows.specs.Candidates.{IsTable}
 use Rattle.mpc_condense.specs.Condensed.{IsCondensed}
-use Rattle.mpc_tree.specs.Trees.{whole_box, IsTreeOf}
+use Rattle.mpc_tree.specs.Trees.{whole_box}
+use Rattle.mpc_tree.specs.Certified.{IsCertified}
 use Rattle.mpc_file.specs.Parts.{Parts, limits_of, HaveShapes}
 use Rattle.mpc_file.specs.Replies.{first_outside, first_move, IsLawNumbered, RepliesAt}
 use Rattle.mpc_table.specs.Lookup.{Lookup, IsTableOf}
@@ -30,7 +31,7 @@ pub record IsControllerOf (plant : Plant) (parts : Parts) : Type 0 where
   pub condensed : IsCondensed qp plant
   pub definite : IsDefinite qp.h.rows
   pub table : IsTable qp parts.laws
-  pub tree : IsTreeOf qp parts.laws whole_box parts.tree
+  pub tree : IsCertified qp parts.laws whole_box parts.tree
 
 -- as many laws and nodes
 pub record HaveSizes (sizes : Sizes) (parts : Parts) : Type 0 where

@@ -13,7 +13,8 @@ use Rattle.mpc_claim.specs.History.{IsLegal, EndsWide}
 use Rattle.mpc_definite.specs.Pivots.{IsFirstWide}
 use Rattle.mpc_condense.specs.Condensed.{IsCondensed}
 use Rattle.mpc_condense.specs.Causes.{IsWidePlace}
-use Rattle.mpc_tree.specs.Trees.{whole_box, IsTreeOf}
+use Rattle.mpc_tree.specs.Trees.{whole_box}
+use Rattle.mpc_tree.specs.Certified.{IsCertified}
 use Rattle.mpc_tree.specs.WideRuns.{IsFirstWide as IsFirstWideRun}
 use Rattle.mpc_file.specs.Bounds.{IsFirstBroken}
 use Rattle.mpc_compile_c.specs.declared.phases.Phase.{Phase}
@@ -40,7 +41,7 @@ pub data IsTooWide (plant : Plant) : Type 0 where
   in_pivots : (qp : Qp) (j : ℕ) → IsCondensed qp plant → IsFirstWide (entry qp.h) (height qp.h) j → IsTooWide plant
   in_sets : (qp : Qp) → IsCondensed qp plant → HasWideSet qp → IsTooWide plant
   in_tree : (qp : Qp) (laws : List Law) → IsCondensed qp plant → IsTable qp laws → HasWideRun qp laws → IsTooWide plant
-  in_bounds : (qp : Qp) (laws : List Law) (nodes : List Node) → IsCondensed qp plant → IsTable qp laws → IsTreeOf qp laws whole_box nodes → HasBrokenBound plant laws nodes → IsTooWide plant
+  in_bounds : (qp : Qp) (laws : List Law) (nodes : List Node) → IsCondensed qp plant → IsTable qp laws → IsCertified qp laws whole_box nodes → HasBrokenBound plant laws nodes → IsTooWide plant
 
 -- the plant's program has a weight of the moves that isn't positive definite
 pub record IsIndefinite (plant : Plant) : Type 0 where

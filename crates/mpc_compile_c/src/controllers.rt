@@ -5,7 +5,8 @@ ghost use Rattle.mpc_space.specs.Definite.{IsDefinite};
 ghost use Rattle.mpc_space.specs.Matrix.{height};
 ghost use Rattle.mpc_rows.specs.Candidates.{IsTable};
 ghost use Rattle.mpc_rows.specs.SetRuns.{LawRowsFit};
-ghost use Rattle.mpc_tree.specs.Trees.{whole_box, IsTreeOf};
+ghost use Rattle.mpc_tree.specs.Trees.{whole_box};
+ghost use Rattle.mpc_tree.specs.Certified.{IsCertified};
 ghost use Rattle.mpc_file.specs.Parts.{HaveShapes};
 ghost use Rattle.mpc_table.specs.Lookup.{IsTableOf};
 ghost use Rattle.mpc_compile_c.specs.Answers.{IsControllerOf, HaveSizes};
@@ -27,7 +28,7 @@ fn grown(alloc: Global, program: &Qp, laws: &LawTable, last: Phase) -> Result<Tr
     requires definite { IsDefinite program.now.h.rows }
     requires table { IsTable program.now laws.now }
     requires rows_fit { All (λ law. LawRowsFit program.now law (height program.now.g)) laws.now }
-    ensures tree { IfOk result (λ nodes. IsTreeOf program.now laws.now whole_box nodes) }
+    ensures tree { IfOk result (λ nodes. IsCertified program.now laws.now whole_box nodes) }
     ensures stops { IfErr result (EndsBy last (HasWideRun program.now laws.now)) }
 {
     let tree = match build(alloc, program, laws) {
