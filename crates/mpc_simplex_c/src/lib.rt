@@ -10,6 +10,8 @@ ghost use Rattle.mpc_simplex.specs.Answer.{EndsWithPoint, EndsRefuted};
 ghost use Rattle.mpc_simplex_c.specs.Sent.{sent_system, pair_of, IsReadableSystem};
 
 mod passing;
+#[cfg(test)]
+mod tests;
 
 use mpc_parts::Parts;
 use mpc_rows::{Multipliers, PairPoint};
