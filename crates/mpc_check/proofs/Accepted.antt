@@ -1,7 +1,5 @@
 -- The replies of an accepted controller are right.
-use Rattle.std.proofs.Common.{◌≡◌, ℕ, zero, suc, ◌+◌, ◌-◌, ◌<◌, ◌≤◌, List, [], ◌∷◌, ◌++◌, length, get_or, map, pos, refl, sym, ◌∙◌, ap, subst, arith, All, Some}
-use Rattle.std.specs.Prelude.{slice_get}
-use Rattle.std.specs.List.{range_with_len}
+use Rattle.std.proofs.Common.{◌≡◌, ℕ, zero, suc, ◌+◌, ◌-◌, ◌<◌, ◌≤◌, List, [], ◌∷◌, ◌++◌, length, get_or, pos, refl, sym, ◌∙◌, ap, subst, arith, All}
 use Rattle.std.proofs.lemmas.List.{length-map}
 use Rattle.std.proofs.lemmas.List.FromFn.{length-map-range_with_len}
 use Rattle.std.proofs.lemmas.List.Elements.{All-nil, All-cons, All-append, All-from_get_or}
@@ -24,12 +22,12 @@ use Rattle.mpc_rows.specs.LinearSystem.{LinearSystem, MeetsRow, IsPoint, HasWidt
 use Rattle.mpc_rows.specs.LinearSystem.{height as row_count_of}
 use Rattle.mpc_rows.specs.ActiveSets.{IsInBox, IsFeasible}
 use Rattle.mpc_rows.specs.Laws.{HasLawShape, IsLaw, IsInRegion}
-use Rattle.mpc_rows.specs.LawRows.{IsLawRow, AreLawRows, whole_row, broken_row}
+use Rattle.mpc_rows.specs.LawRows.{IsLawRow, whole_row, broken_row}
 use Rattle.mpc_rows.proofs.RefutedLemmas.{refuted-no_point}
 use Rattle.mpc_rows.proofs.LawPoints.{law_row_size}
 use Rattle.mpc_condense.specs.Condensed.{IsCondensed, counts_of}
 use Rattle.mpc_best.proofs.BestMoves.{law_is_right, infeasible_is_right}
-use Rattle.mpc_file.specs.Parts.{Parts, IsLawFor, IsNodeFor, IsSplitRow}
+use Rattle.mpc_file.specs.Parts.{Parts, IsLawFor, IsNodeFor}
 use Rattle.mpc_file.specs.Bounds.{IsController}
 use Rattle.mpc_file.specs.Walk.{Reaches, root as at_root, yes_side as to_yes, no_side as to_no, EndsAt}
 use Rattle.mpc_file.specs.Replies.{RepliesAt, by_law, by_no_law, first_move, IsLawNumbered}
@@ -38,7 +36,6 @@ use Rattle.mpc_check.specs.Certs.{multipliers_of, named_at, CertRefutes}
 use Rattle.mpc_check.specs.Paths.{PathTo, root, yes_side, no_side}
 use Rattle.mpc_check.specs.Systems.{failing_system, joint_system}
 use Rattle.mpc_check.specs.Widths.{IsOfWidth}
-use Rattle.mpc_check.specs.LawConditions.{LawMet}
 use Rattle.mpc_check.specs.LeafConditions.{LawLeafMet, EmptyLeafMet}
 use Rattle.mpc_check.specs.Acceptance.{Accepts}
 use Rattle.mpc_check.proofs.LawEquations.{law_by_coefficients}
@@ -140,7 +137,7 @@ same_box [] (x ∷ t) h = absurd h
 same_box (axis ∷ grid) [] h = absurd h
 same_box (axis ∷ grid) (x ∷ t) h = (h.0, h.1, same_box grid t h.2)
 
-law_shape : (plant : Plant) (qp : Qp) → IsCondensed qp plant → (law : LawOfSet) → IsLawFor plant law → HasLawShape qp law
+pub law_shape : (plant : Plant) (qp : Qp) → IsCondensed qp plant → (law : LawOfSet) → IsLawFor plant law → HasLawShape qp law
 law_shape plant qp c law f =
     let n : length qp.counts ≡ plant.n = ap length c.counts_are ∙ length-map plant.grid (λ (axis : Coordinate). axis.count) ∙ plant.is_plant.grid_size in
     let m = f.moves_shape in

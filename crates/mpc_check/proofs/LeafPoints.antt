@@ -1,7 +1,7 @@
 -- Points of the systems that the certificates at the leaves refute.
-use Rattle.std.proofs.Common.{◌≡◌, ℕ, zero, suc, ◌+◌, ◌-◌, ◌<◌, List, [], ◌∷◌, ◌++◌, length, get_or, map, pos, negsuc, refl, sym, ◌∙◌, ap, subst, arith, All, ◌↔◌}
+use Rattle.std.proofs.Common.{◌≡◌, ℕ, suc, ◌+◌, ◌-◌, ◌<◌, List, [], ◌∷◌, ◌++◌, length, get_or, map, pos, negsuc, refl, sym, ◌∙◌, ap, subst, arith, All, ◌↔◌}
 use Rattle.std.specs.List.{AllByRecursion}
-use Rattle.std.proofs.lemmas.List.Elements.{All-append, All-map, All-get_or, All-from_get_or, All-from_recursion, recursion_from_All}
+use Rattle.std.proofs.lemmas.List.Elements.{All-append, All-map, All-from_get_or, All-from_recursion, recursion_from_All}
 use Rattle.std.proofs.lemmas.List.{append-nil, length-append, length-replicate}
 use Rattle.std.proofs.lemmas.List.FromFn.{get_or-map-range_with_len, length-map-range_with_len}
 use Rattle.mpc_exact.specs.Rational.{ℚ, int, ◌*ℚ◌, ◌≤ℚ◌, ◌<ℚ◌, neg_ℚ}
@@ -20,9 +20,9 @@ use Rattle.mpc_rows.specs.LinearSystem.{IsWithin, MeetsRow, IsPoint, HasWidth, n
 use Rattle.mpc_rows.specs.ActiveSets.{row_of, IsInBox, IsFeasible}
 use Rattle.mpc_rows.specs.Laws.{IsLaw, IsInRegion}
 use Rattle.mpc_rows.specs.LawRows.{AreLawRows, whole_row, broken_row}
-use Rattle.mpc_rows.specs.SetRuns.{axis, box_from, box_rows, joint_row, joint_rows, region_system}
+use Rattle.mpc_rows.specs.SetRuns.{box_from, box_rows, joint_row, joint_rows, region_system}
 use Rattle.mpc_rows.proofs.BoxLemmas.{box_meets}
-use Rattle.mpc_rows.proofs.JointLemmas.{All-split, size_in_box, joint_rows_meet, length-later}
+use Rattle.mpc_rows.proofs.JointLemmas.{size_in_box, joint_rows_meet, length-later}
 use Rattle.mpc_rows.proofs.RegionLemmas.{region_points}
 use Rattle.mpc_check.specs.Systems.{leaf_system, failing_system, widened, joint_system}
 use Rattle.mpc_check.specs.Widths.{IsOfWidth}
@@ -46,7 +46,7 @@ broken_wide row width e = length-scale (int (negsuc 0)) (map int row.a) ∙ mapp
 pub system_wide : (width : ℕ) (counts : List ℕ) (path last : List Row) → All (IsOfWidth width) path → All (IsOfWidth width) last → HasWidth width (leaf_system width counts path last).rows
 system_wide width counts path last p l = record { each = All-append (IsOfWidth width) (box_rows width counts) (path ++ last) (box_wide width counts) (All-append (IsOfWidth width) path last p l) }
 
-one_wide : (width : ℕ) (r : Row) → IsOfWidth width r → All (IsOfWidth width) (r ∷ [])
+pub one_wide : (width : ℕ) (r : Row) → IsOfWidth width r → All (IsOfWidth width) (r ∷ [])
 one_wide width r e = All-from_recursion (IsOfWidth width) (r ∷ []) (e, tt)
 
 pub failing_wide : (qp : Qp) (path : List Row) (row : RowInt) → All (IsOfWidth (length qp.counts)) path → length row.a ≡ length qp.counts → HasWidth (length qp.counts) (failing_system qp path row).rows

@@ -1,7 +1,16 @@
 pub mod LawEquations
 pub mod LeafPoints
 pub mod Accepted
+pub mod Thinning
 pub mod PathLemmas
+pub mod WayLemmas
+pub mod Wholes
+pub mod RowWriting
+pub mod SplitRows
+pub mod CertLemmas
+pub mod SumLemmas
+pub mod LeafLemmas
+pub mod CheckLemmas
 pub mod FindingLemmas
 pub mod ProgramPlaces
 pub mod OneFinding

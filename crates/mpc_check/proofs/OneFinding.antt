@@ -1,5 +1,5 @@
 -- Of a controller at most one thing is found, and nothing where it is accepted.
-use Rattle.std.proofs.Common.{◌≡◌, ℕ, ◌+◌, ◌-◌, ◌⊎◌, inl, inr, List, length, All, Some, refl, sym, ◌∙◌, ap, subst}
+use Rattle.std.proofs.Common.{◌≡◌, ℕ, ◌+◌, ◌-◌, inl, inr, List, length, Some, sym, ◌∙◌, ap, subst}
 use Rattle.std.specs.Prelude.{slice_get, slice_index}
 use Rattle.mpc_exact.specs.Rational.{ℚ}
 use Rattle.mpc_space.specs.Matrix.{height, entry}
@@ -12,19 +12,15 @@ use Rattle.mpc_rows.specs.declared.places.Place.{Place}
 use Rattle.mpc_rows.specs.declared.places.Place.TheVariants.{Pivot, CheckLaw, CheckLeaf}
 use Rattle.mpc_rows.specs.declared.trees.Node.{Node}
 use Rattle.mpc_rows.specs.declared.trees.Node.TheVariants.{Split, Law, NoMove}
-use Rattle.mpc_condense.specs.Condensed.{IsCondensed}
-use Rattle.mpc_condense.specs.Causes.{IsWidePlace}
 use Rattle.mpc_best.proofs.SameRows.{one_program}
 use Rattle.mpc_file.specs.Parts.{Parts}
-use Rattle.mpc_file.specs.Replies.{IsLawNumbered}
 use Rattle.mpc_check.specs.declared.answers.Spot.TheVariants.{Stationary, Active, LeafRow, Leaf}
-use Rattle.mpc_check.specs.Paths.{PathTo}
 use Rattle.mpc_check.specs.Systems.{joint_system}
 use Rattle.mpc_check.specs.Certs.{CertFits, CertRefutes}
 use Rattle.mpc_check.specs.Findings.{Finding, refused, too_wide, not_definite}
 use Rattle.mpc_check.specs.LawConditions.{GradientFits, IsStationaryAt, StationaryMet, StationaryFinds, LineMet, LineFinds, LinesMet, LinesFind, ActiveFits, IsActiveAt, ActiveMet, ActiveFinds, RowMet, RowFinds, MemberMet, MemberFinds, MembersMet, MembersFind, LawMet, LawFinds, LawAtMet, LawAtFinds, LawsMet, LawsFind}
-use Rattle.mpc_check.specs.LeafConditions.{RowFits, RowHolds, LeafRowMet, LeafRowFinds, LawLeafMet, LawLeafFinds, FindsAtLaw, EmptyLeafMet, EmptyLeafFinds, NodeMet, NodeFinds, NodeAtMet, NodeAtFinds, TreeMet, TreeFinds}
-use Rattle.mpc_check.specs.Acceptance.{IsProgramOf, IsConvex, IsWidePivot, IsBadPivot, ProgramFinds, BehindMet, BehindFinds, Accepts, FindsBehind, IsFound}
+use Rattle.mpc_check.specs.LeafConditions.{RowFits, RowHolds, LeafRowMet, LeafRowFinds, LawLeafMet, LawLeafFinds, NodeMet, NodeFinds, NodeAtMet, NodeAtFinds, TreeMet, TreeFinds}
+use Rattle.mpc_check.specs.Acceptance.{IsProgramOf, IsConvex, IsWidePivot, IsBadPivot, ProgramFinds, BehindMet, BehindFinds, Accepts, IsFound}
 use Rattle.mpc_check.proofs.FindingLemmas.{IsSingle, single_condition, single_list, single_pair}
 use Rattle.mpc_check.proofs.PathLemmas.{one_path}
 use Rattle.mpc_check.proofs.ProgramPlaces.{not_wide, one_wide_place, passes_not_positive, passes_wide, one_not_positive, one_pivot_wide, not_both}

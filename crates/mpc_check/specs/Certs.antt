@@ -1,5 +1,5 @@
 -- When a certificate refutes a system, and which numbers must fit for that to be seen.
-use Rattle.std.specs.Prelude.{ℕ, ◌≤◌, ◌==◌, if◌then◌else◌, List, [], ◌∷◌, length, map, All, pos}
+use Rattle.std.specs.Prelude.{ℕ, ◌≤◌, ◌==◌, if◌then◌else◌, List, [], ◌∷◌, map, All, pos}
 use Rattle.std.specs.List.{range_with_len}
 use Rattle.mpc_exact.specs.Rational.{ℚ, int}
 use Rattle.mpc_space.specs.Vector.{AllNonneg}

@@ -1,5 +1,5 @@
 -- The conditions of Karush, Kuhn and Tucker on a law, as equalities of affine forms, coefficient by coefficient on the extended counts.
-use Rattle.std.specs.Prelude.{◌≡◌, ℕ, ◌+◌, ◌-◌, List, [], length, slice_index, slice_index_or, slice_get, Some, pos}
+use Rattle.std.specs.Prelude.{◌≡◌, ℕ, ◌+◌, List, [], length, slice_index, slice_index_or, slice_get, Some, pos}
 use Rattle.mpc_exact.specs.Rational.{ℚ, int, ◌+ℚ◌}
 use Rattle.mpc_space.specs.Vector.{coordinate, column, dot}
 use Rattle.mpc_space.specs.Matrix.{height, entry}

@@ -2,7 +2,9 @@ pub mod Widths
 pub mod Systems
 pub mod Paths
 pub mod Certs
+pub mod Picks
 pub mod Findings
+pub mod Ways
 pub mod LawConditions
 pub mod LeafConditions
 pub mod Acceptance

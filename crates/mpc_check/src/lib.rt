@@ -1,8 +1,16 @@
-//! The independent checker of a controller: when a controller is accepted, and what acceptance means.
+//! The independent checker of a controller: it trusts neither the laws nor the tree, and tests the conditions of optimality and the
+//! certificates themselves.
 #![tactic(auto)]
 
 mod answers;
+mod certs;
+mod checks;
+mod gradients;
 mod laws;
+mod leaves;
+mod rows;
+mod ways;
 
 pub use answers::{Answer, CheckError, Spot};
+pub use checks::check;
 pub use laws::{accepted_replies, one_finding};

@@ -1,0 +1,83 @@
+//! The check of a controller.
+
+ghost use Rattle.std.specs.Prelude.{IfOk, IfErr, OnOk};
+ghost use Rattle.mpc_space.specs.Vector.{IsSymmetric};
+ghost use Rattle.mpc_check.specs.Acceptance.{IsProgramOf, IsConvex, IsProgramCause, IsConvexCause, BehindMet, BehindFinds, IsAnswer, IsCause};
+ghost use Rattle.mpc_check.specs.Findings.{IsSearched};
+
+use crate::answers::{Answer, CheckError, Spot};
+use crate::gradients::search_laws;
+use crate::leaves::search_tree;
+use mpc_condense::{CondenseError, condense};
+use mpc_definite::{DefiniteError, pivots};
+use mpc_file::Controller;
+use mpc_plant::Plant;
+use mpc_rows::{Place, Qp};
+use std::alloc::Global;
+
+/// The program of the plant.
+fn program(alloc: Global, plant: &Plant) -> Result<Qp, CheckError>
+    ensures ok { IfOk result (λ qp. IsProgramOf qp plant.now) }
+    ensures err { IfErr result (IsProgramCause plant.now) }
+{
+    match condense(alloc, plant) {
+        Ok(qp) => Ok(qp),
+        Err(CondenseError::Wide(place)) => Err(CheckError::Wide(place)),
+        Err(CondenseError::NoMemory) => Err(CheckError::NoMemory),
+    }
+}
+
+/// Tests that the cost is positive definite.
+fn test_convex(alloc: Global, qp: &Qp) -> Result<(), CheckError>
+    requires { IsSymmetric qp.now.h.rows }
+    ensures ok { OnOk result (IsConvex qp.now) }
+    ensures err { IfErr result (IsConvexCause qp.now) }
+{
+    match pivots(alloc, &qp.h) {
+        Ok(_) => Ok(()),
+        Err(DefiniteError::NotDefinite(step)) => Err(CheckError::NotDefinite(step)),
+        Err(DefiniteError::Wide(step)) => Err(CheckError::Wide(Place::Pivot(step))),
+        Err(DefiniteError::NoMemory) => Err(CheckError::NoMemory),
+    }
+}
+
+/// What is found of the laws and of the leaves.
+fn search(alloc: Global, qp: &Qp, controller: &Controller) -> Result<Option<Spot>, CheckError>
+    requires { IsProgramOf qp.now controller.now.plant }
+    ensures { IsSearched (BehindMet qp.now controller.now) (BehindFinds qp.now controller.now) result }
+{
+    match search_laws(qp, controller.laws()) {
+        Ok(None) => search_tree(alloc, qp, controller.laws(), controller.tree()),
+        Ok(Some(spot)) => Ok(Some(spot)),
+        Err(error) => Err(error),
+    }
+}
+
+/// Checks a controller independently of how it was made.
+///
+/// `Accepted` exactly where every condition is met: the plant's program is positive definite; each law meets the conditions of Karush,
+/// Kuhn and Tucker at every state, as equalities of affine forms, coefficient by coefficient; and at each leaf the certificates refute
+/// what they claim to have no point (Farkas 1902, Motzkin 1936): the leaf's cell with a row of its law negated and strict, for each row of
+/// the law, or the leaf's cell with all rows of the program, where the leaf has no law. A certificate that is missing, or names a row
+/// that its system doesn't have, refutes nothing.
+///
+/// The conditions come in the order of condensing, the pivots, the laws with their lines and members, and the leaves in preorder with
+/// their rows. The first that isn't met answers: as `Refused` with its spot, as `Wide` with its place where one of its numbers needs
+/// more than 128 bits, or as `NotDefinite` with the first pivot that isn't positive.
+pub fn check(alloc: Global, controller: &Controller) -> Result<Answer, CheckError>
+    ensures answer { IfOk result (IsAnswer controller.now) }
+    ensures cause { IfErr result (IsCause controller.now) }
+{
+    let qp = match program(alloc, controller.plant()) {
+        Ok(qp) => qp,
+        Err(error) => return Err(error),
+    };
+    if let Err(error) = test_convex(alloc, &qp) {
+        return Err(error);
+    }
+    match search(alloc, &qp, controller) {
+        Ok(None) => Ok(Answer::Accepted),
+        Ok(Some(spot)) => Ok(Answer::Refused(spot)),
+        Err(error) => Err(error),
+    }
+}

@@ -1,0 +1,211 @@
+//! The conditions on the laws: the gradient of each Lagrangian is 0, and the members' rows hold with equality, at every state.
+
+ghost use Rattle.std.specs.Prelude.{◌≡◌, [], ◌+◌, ◌-◌, ◌<◌, ◌≤◌, ◌↔◌, All, IfOk, IsTrue, MatchResult, length, slice_index_or};
+ghost use Rattle.mpc_exact.specs.Rational.{◌+ℚ◌};
+ghost use Rattle.mpc_space.specs.Vector.{column, dot};
+ghost use Rattle.mpc_space.specs.Matrix.{height};
+ghost use Rattle.mpc_linear.specs.Dot.{SumFits};
+ghost use Rattle.mpc_rows.specs.ActiveSets.{rows_of};
+ghost use Rattle.mpc_rows.specs.Laws.{HasLawShape};
+ghost use Rattle.mpc_check.specs.Findings.{IsSearched};
+ghost use Rattle.mpc_check.specs.LawConditions.{gradient_at, GradientFits, StationaryMet, StationaryFinds, LineMet, LineFinds, LinesMet, LinesFind, ActiveMet, ActiveFinds, RowMet, RowFinds, MembersMet, MembersFind, LawMet, LawFinds, LawsMet, LawsFind};
+
+use crate::answers::{CheckError, Spot};
+use mpc_frac::{Frac, Wide};
+use mpc_linear::{Matrix, add_product};
+use mpc_rows::{Law, LawTable, Place, Qp};
+
+/// `start` plus the products of row r of m with column c of the moves.
+fn add_moves(start: &Frac, m: &Matrix, r: u32, moves: &Matrix, c: u32) -> Result<Frac, Wide>
+    requires row { r < height m.now }
+    requires size { m.now.columns ≡ height moves.now }
+    requires column { c < moves.now.columns }
+    ensures value { IfOk result (λ v. v ≡ start.now +ℚ dot (slice_index_or m.now.rows r []) (column moves.now.rows c)) }
+    ensures wide { MatchResult result (λ _. SumFits start.now (slice_index_or m.now.rows r []) (column moves.now.rows c))
+        (λ _. ¬ SumFits start.now (slice_index_or m.now.rows r []) (column moves.now.rows c)) }
+{
+    let mut sum = *start;
+    for k in 0..m.cols() {
+        match add_product(&sum, &m.get(r, k), &moves.get(k, c)) {
+            Ok(next) => sum = next,
+            Err(wide) => return Err(wide),
+        }
+    }
+    Ok(sum)
+}
+
+/// `start` plus the products of column r of the members' rows with column c of the multipliers.
+fn add_mults(start: &Frac, qp: &Qp, law: &Law, r: u32, c: u32) -> Result<Frac, Wide>
+    requires shape { HasLawShape qp.now law.now }
+    requires line { r < height qp.now.h }
+    requires column { c < length qp.now.counts + 1 }
+    ensures value { IfOk result (λ v. v ≡ start.now +ℚ dot (column (rows_of qp.now.g.rows law.now.set) r) (column law.now.mults.rows c)) }
+    ensures wide { MatchResult result (λ _. SumFits start.now (column (rows_of qp.now.g.rows law.now.set) r) (column law.now.mults.rows c))
+        (λ _. ¬ SumFits start.now (column (rows_of qp.now.g.rows law.now.set) r) (column law.now.mults.rows c)) }
+{
+    let mut sum = *start;
+    for k in 0..law.set.size() {
+        let row = law.set.member(k + 1) - 1;
+        match add_product(&sum, &qp.g.get(row, r), &law.mults.get(k, c)) {
+            Ok(next) => sum = next,
+            Err(wide) => return Err(wide),
+        }
+    }
+    Ok(sum)
+}
+
+/// The coefficient on the extended count c in line r of `h z + f c + g'l`, both counted from 0.
+fn gradient(qp: &Qp, law: &Law, r: u32, c: u32) -> Result<Frac, Wide>
+    requires shape { HasLawShape qp.now law.now }
+    requires line { r < height qp.now.h }
+    requires column { c < length qp.now.counts + 1 }
+    ensures value { IfOk result (λ v. v ≡ gradient_at qp.now law.now r c) }
+    ensures wide { MatchResult result (λ _. GradientFits qp.now law.now r c) (λ _. ¬ GradientFits qp.now law.now r c) }
+{
+    let moved = add_moves(&qp.f.get(r, c), &qp.h, r, &law.moves, c)?;
+    add_mults(&moved, qp, law, r, c)
+}
+
+/// What is found of one coefficient of the gradient.
+fn search_coefficient(
+    qp: &Qp,
+    number: u32,
+    law: &Law,
+    r: u32,
+    c: u32,
+) -> Result<Option<Spot>, CheckError>
+    requires shape { HasLawShape qp.now law.now }
+    requires line { r < height qp.now.h }
+    requires column { c < length qp.now.counts + 1 }
+    ensures { IsSearched (StationaryMet qp.now law.now r c) (StationaryFinds qp.now number law.now r c) result }
+{
+    let Ok(sum) = gradient(qp, law, r, c) else {
+        return Err(CheckError::Wide(Place::CheckLaw(number)));
+    };
+    if sum.is_zero() {
+        return Ok(None);
+    }
+    Ok(Some(Spot::Stationary {
+        law: number,
+        line: r + 1,
+    }))
+}
+
+/// What is found of a line of the gradient, coefficient by coefficient.
+fn search_line(qp: &Qp, number: u32, law: &Law, r: u32) -> Result<Option<Spot>, CheckError>
+    requires shape { HasLawShape qp.now law.now }
+    requires line { r < height qp.now.h }
+    ensures { IsSearched (LineMet qp.now law.now r) (LineFinds qp.now number law.now r) result }
+{
+    for c in 0..qp.f.cols() {
+        match search_coefficient(qp, number, law, r, c) {
+            Ok(None) => {}
+            found => return found,
+        }
+    }
+    Ok(None)
+}
+
+/// What is found of the gradient, line by line.
+fn search_lines(qp: &Qp, number: u32, law: &Law) -> Result<Option<Spot>, CheckError>
+    requires { HasLawShape qp.now law.now }
+    ensures { IsSearched (LinesMet qp.now law.now) (LinesFind qp.now number law.now) result }
+{
+    for r in 0..qp.h.rows() {
+        match search_line(qp, number, law, r) {
+            Ok(None) => {}
+            found => return found,
+        }
+    }
+    Ok(None)
+}
+
+/// Whether the two numbers are equal.
+fn are_equal(x: &Frac, y: &Frac) -> bool
+    ensures { IsTrue result ↔ (x.now ≡ y.now) }
+{
+    *x == *y
+}
+
+/// What is found of one coefficient of row i, counted from 1, which is to hold with equality.
+fn search_equality(
+    qp: &Qp,
+    number: u32,
+    law: &Law,
+    i: u32,
+    c: u32,
+) -> Result<Option<Spot>, CheckError>
+    requires shape { HasLawShape qp.now law.now }
+    requires from_one { 1 ≤ i }
+    requires to_last { i ≤ height qp.now.g }
+    requires column { c < length qp.now.counts + 1 }
+    ensures { IsSearched (ActiveMet qp.now law.now i c) (ActiveFinds qp.now number law.now i c) result }
+{
+    let Ok(value) = add_moves(&Frac::whole(0), &qp.g, i - 1, &law.moves, c) else {
+        return Err(CheckError::Wide(Place::CheckLaw(number)));
+    };
+    if are_equal(&value, &qp.w.get(i - 1, c)) {
+        return Ok(None);
+    }
+    Ok(Some(Spot::Active {
+        law: number,
+        row: i,
+    }))
+}
+
+/// What is found of row i, coefficient by coefficient.
+fn search_row(qp: &Qp, number: u32, law: &Law, i: u32) -> Result<Option<Spot>, CheckError>
+    requires shape { HasLawShape qp.now law.now }
+    requires from_one { 1 ≤ i }
+    requires to_last { i ≤ height qp.now.g }
+    ensures { IsSearched (RowMet qp.now law.now i) (RowFinds qp.now number law.now i) result }
+{
+    for c in 0..qp.w.cols() {
+        match search_equality(qp, number, law, i, c) {
+            Ok(None) => {}
+            found => return found,
+        }
+    }
+    Ok(None)
+}
+
+/// What is found of the members' rows, in rising order.
+fn search_members(qp: &Qp, number: u32, law: &Law) -> Result<Option<Spot>, CheckError>
+    requires { HasLawShape qp.now law.now }
+    ensures { IsSearched (MembersMet qp.now law.now) (MembersFind qp.now number law.now) result }
+{
+    for k in 0..law.set.size() {
+        match search_row(qp, number, law, law.set.member(k + 1)) {
+            Ok(None) => {}
+            found => return found,
+        }
+    }
+    Ok(None)
+}
+
+/// What is found of a law with this number.
+fn search_law(qp: &Qp, number: u32, law: &Law) -> Result<Option<Spot>, CheckError>
+    requires { HasLawShape qp.now law.now }
+    ensures { IsSearched (LawMet qp.now law.now) (LawFinds qp.now number law.now) result }
+{
+    match search_lines(qp, number, law) {
+        Ok(None) => search_members(qp, number, law),
+        found => found,
+    }
+}
+
+/// What is found of the laws, in their order: where one of them doesn't meet the conditions of optimality (Karush 1939, Kuhn and Tucker
+/// 1951), coefficient by coefficient.
+pub fn search_laws(qp: &Qp, laws: &LawTable) -> Result<Option<Spot>, CheckError>
+    requires few { length laws.now ≤ 4598479 }
+    requires shapes { All (HasLawShape qp.now) laws.now }
+    ensures { IsSearched (LawsMet qp.now laws.now) (LawsFind qp.now laws.now) result }
+{
+    for j in 0..laws.len() {
+        match search_law(qp, j as u32 + 1, laws.at(j)) {
+            Ok(None) => {}
+            found => return found,
+        }
+    }
+    Ok(None)
+}
