@@ -14,3 +14,4 @@ pub mod CheckLemmas
 pub mod FindingLemmas
 pub mod ProgramPlaces
 pub mod OneFinding
+pub mod TestLemmas

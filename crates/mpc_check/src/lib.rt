@@ -9,6 +9,8 @@ mod gradients;
 mod laws;
 mod leaves;
 mod rows;
+#[cfg(test)]
+mod tests;
 mod ways;
 
 pub use answers::{Answer, CheckError, Spot};

@@ -1,0 +1,81 @@
+-- Controllers of one input, one step and one coordinate, as the tests build them.
+use Rattle.std.proofs.Common.{◌≡◌, ℕ, zero, suc, ◌+◌, ◌-◌, ◌*◌, ◌^◌, ◌<◌, ◌≤◌, ℤ, pos, unsigned_abs, List, [], ◌∷◌, ◌++◌, length, get_or, sym, ◌∙◌, ap, subst, arith}
+use Rattle.std.specs.Prelude.{All}
+use Rattle.std.specs.Int.{◌∣◌}
+use Rattle.std.proofs.Math.Nat.{eq-one_of_dvd-one}
+use Rattle.std.proofs.lemmas.List.Elements.{All-append, All-cons, All-nil}
+use Rattle.mpc_exact.specs.Rational.{ℚ, int}
+use Rattle.mpc_exact.proofs.OrderLaws.{one-not_zero}
+use Rattle.mpc_linear.specs.declared.integers.RowInt.{RowInt}
+use Rattle.mpc_linear.specs.Whole.{AreSmall}
+use Rattle.mpc_plant.specs.declared.plants.Plant.{Plant}
+use Rattle.mpc_sets.specs.RowSet.{RisesWithin, IsSetOfRows}
+use Rattle.mpc_rows.specs.Program.{IsOfShape}
+use Rattle.mpc_rows.specs.Certificates.{IsCert}
+use Rattle.mpc_rows.specs.declared.laws.Law.{Law as LawOfSet}
+use Rattle.mpc_rows.specs.declared.trees.Node.{Node}
+use Rattle.mpc_rows.specs.declared.trees.Node.TheVariants.{Split}
+use Rattle.mpc_file.specs.Preorder.{Spells}
+use Rattle.mpc_file.specs.Parts.{row_count, IsLawFor, IsSplitRow}
+use Rattle.mpc_file.specs.Walk.{IsLeaf}
+use Rattle.mpc_file.proofs.PreorderLemmas.{spells_split, spells_leaf}
+
+pub all_push : {X : Type 0} (P : X → Type 0) (xs new : List X) (x : X) → new ≡ xs ++ x ∷ [] → All P xs → P x → All P new
+all_push P xs new x e h p = subst (All P) (sym e) (All-append P xs (x ∷ []) h (All-cons P x [] p (All-nil P)))
+
+pub split_push : (tree new : List Node) (left : ℕ) (row : RowInt) → new ≡ tree ++ Split row ∷ [] → 0 < left → Spells 1 tree left → Spells 1 new (left + 1)
+split_push tree new zero row e some h = absurd (omega arith)
+split_push tree new (suc left) row e some h = let s : suc (suc left) ≡ suc left + 1 = omega arith in subst (Spells 1 new) s (subst (λ nodes. Spells 1 nodes (suc (suc left))) (sym e) (spells_split 1 tree left row h))
+
+pub leaf_push : (tree new : List Node) (left : ℕ) (leaf : Node) → new ≡ tree ++ leaf ∷ [] → IsLeaf leaf → 0 < left → Spells 1 tree left → Spells 1 new (left - 1)
+leaf_push tree new zero leaf e is some h = absurd (omega arith)
+leaf_push tree new (suc left) leaf e is some h = let s : left ≡ suc left - 1 = omega arith in subst (Spells 1 new) s (subst (λ nodes. Spells 1 nodes left) (sym e) (spells_leaf 1 tree left leaf is h))
+
+rises_more : (low high more : ℕ) (s : List ℕ) → high ≤ more → RisesWithin low high s → RisesWithin low more s
+rises_more low high more [] le h = tt
+rises_more low high more (i ∷ s) le h = (h.0, (let at = h.1 in omega arith), rises_more i high more s le h.2)
+
+pub law_for : (plant : Plant) (law : LawOfSet) (member : ℕ) → plant.n ≡ 1 → plant.p ≡ 1 → plant.horizon ≡ 1 → member ≤ length plant.rows + length plant.terminal → IsSetOfRows member law.set → length law.set ≤ 1 → IsOfShape law.moves 1 2 → IsOfShape law.mults (length law.set) 2 → IsLawFor plant law
+law_for plant law member n p horizon within set few moves mults =
+    let rows : row_count plant ≡ length plant.rows + length plant.terminal = (λ i. horizon i * length plant.rows + length plant.terminal) ∙ one (length plant.rows) (length plant.terminal) in
+    let unknowns : 1 ≡ plant.p * plant.horizon = λ i. sym p i * sym horizon i in
+    let columns : 2 ≡ plant.n + 1 = λ i. sym n i + 1 in
+    record {
+      set_of_rows = record { rises = rises_more 0 member (row_count plant) law.set (subst (λ m. member ≤ m) (sym rows) within) set.rises };
+      few = subst (λ m. length law.set ≤ m) unknowns few;
+      moves_shape = subst (λ k. IsOfShape law.moves (plant.p * plant.horizon) k) columns (subst (λ m. IsOfShape law.moves m 2) unknowns moves);
+      mults_shape = subst (IsOfShape law.mults (length law.set)) columns mults;
+    }
+  where
+    one : (a b : ℕ) → 1 * a + b ≡ a + b
+    one a b = omega arith
+
+pub unit_split : (row : RowInt) (a : ℤ) → row.a ≡ a ∷ [] → unsigned_abs a ≡ 1 → unsigned_abs row.b < 2 ^ 127 → IsSplitRow 1 row
+unit_split row a is unit small = record {
+  size = ap length is;
+  some = λ none. absurd (let zero_a : a ≡ pos 0 = subst (λ z. z ≡ pos 0) first (none 0 a some_entry) in let no : 1 ≡ 0 = sym unit ∙ ap unsigned_abs zero_a in omega arith);
+  no_divisor = λ d divides. one_only d (subst (λ k. d ∣ k) unit (subst (λ z. d ∣ unsigned_abs z) all_first (divides 0 a (subst (λ k. 0 < k) (sym size_all) (omega arith)))));
+  small = subst (λ zs. AreSmall (zs ++ row.b ∷ [])) (sym is) (All-cons (λ z. unsigned_abs z < 2 ^ 127) a (row.b ∷ []) (subst (λ k. k < 2 ^ 127) (sym unit) (omega arith)) (All-cons (λ z. unsigned_abs z < 2 ^ 127) row.b [] small (All-nil (λ z. unsigned_abs z < 2 ^ 127))));
+}
+  where
+    first : get_or row.a 0 a ≡ a
+    first = ap (λ zs. get_or zs 0 a) is
+
+    some_entry : 0 < length row.a
+    some_entry = subst (λ k. 0 < k) (sym (ap length is)) (omega arith)
+
+    all_first : get_or (row.a ++ row.b ∷ []) 0 a ≡ a
+    all_first = ap (λ zs. get_or (zs ++ row.b ∷ []) 0 a) is
+
+    size_all : length (row.a ++ row.b ∷ []) ≡ 2
+    size_all = ap (λ zs. length (zs ++ row.b ∷ [])) is
+
+    one_only : (d : ℕ) → d ∣ 1 → d ≡ 1
+    one_only d h = eq-one_of_dvd-one h
+
+-- ---- certificates of multipliers 1
+not_zero : (x : ℚ) → x ≡ int (pos 1) → ¬ (x ≡ int (pos 0))
+not_zero x one none = one-not_zero (sym one ∙ none)
+
+pub one_position : (before : List (ℕ × ℚ)) (p : ℕ) (x : ℚ) → before ≡ [] → ¬ (p ≡ 0) → x ≡ int (pos 1) → IsCert (before ++ (p, x) ∷ [])
+one_position before p x is some one = subst (λ es. IsCert (es ++ (p, x) ∷ [])) (sym is) (record { rises = (omega arith, not_zero x one, tt) })
