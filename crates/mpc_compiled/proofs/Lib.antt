@@ -1,0 +1,2 @@
+pub mod LawForms
+pub mod WholeCerts
