@@ -1,2 +1,5 @@
 pub mod LawForms
 pub mod WholeCerts
+pub mod LeafPaths
+pub mod LeavesHold
+pub mod CompiledChecks

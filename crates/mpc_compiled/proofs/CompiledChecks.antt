@@ -1,0 +1,113 @@
+-- Of what is compiled, nothing is found but numbers that are too wide.
+use Rattle.std.proofs.Common.{◌≡◌, ℕ, ◌+◌, ◌<◌, ◌⊎◌, inl, inr, List, length, Some, sym, subst, arith}
+use Rattle.std.specs.Prelude.{slice_get, slice_index, Contains}
+use Rattle.std.proofs.lemmas.Option.{slice_get_within}
+use Rattle.mpc_exact.specs.Rational.{ℚ}
+use Rattle.mpc_space.specs.Matrix.{height, entry}
+use Rattle.mpc_plant.specs.declared.plants.Plant.{Plant}
+use Rattle.mpc_rows.specs.declared.programs.Qp.{Qp}
+use Rattle.mpc_rows.specs.declared.laws.Law.{Law as LawOfSet}
+use Rattle.mpc_rows.specs.declared.systems.Row.{Row}
+use Rattle.mpc_rows.specs.declared.trees.Node.{Node}
+use Rattle.mpc_rows.specs.declared.trees.Node.TheVariants.{Split, Law, NoMove}
+use Rattle.mpc_rows.specs.declared.places.Place.{Place}
+use Rattle.mpc_rows.specs.declared.places.Place.TheVariants.{CheckLaw, CheckLeaf}
+use Rattle.mpc_rows.specs.Laws.{IsLaw}
+use Rattle.mpc_rows.specs.Candidates.{IsTable}
+use Rattle.mpc_best.proofs.SameRows.{one_program}
+use Rattle.mpc_file.specs.Parts.{Parts}
+use Rattle.mpc_answers.proofs.TreeWalks.{contains_at}
+use Rattle.mpc_check.specs.declared.answers.Spot.{Spot}
+use Rattle.mpc_check.specs.declared.answers.Spot.TheVariants.{Stationary, Active, LeafRow, Leaf}
+use Rattle.mpc_check.specs.Systems.{joint_system}
+use Rattle.mpc_check.specs.Certs.{CertFits, CertRefutes}
+use Rattle.mpc_check.specs.Findings.{Finding, refused, too_wide, not_definite, IsUnmet}
+use Rattle.mpc_check.specs.LawConditions.{GradientFits, IsStationaryAt, ActiveFits, IsActiveAt, LawMet, LawFinds, LawsFind, LawsMet}
+use Rattle.mpc_check.specs.LeafConditions.{RowFits, RowHolds, NodeMet, NodeFinds, TreeMet, TreeFinds}
+use Rattle.mpc_check.specs.Acceptance.{IsProgramOf, IsConvex, ProgramFinds, BehindFinds, Accepts, IsFound}
+use Rattle.mpc_check.proofs.ProgramPlaces.{not_wide, passes_not_positive, passes_wide}
+use Rattle.mpc_compiled.specs.Compiled.{IsCompiled, IsOfLawOrLeaf, IsOfWidth, LawFits, LawsFit, LeafFits, LeavesFit}
+use Rattle.mpc_compiled.proofs.LawForms.{stationary_at, active_at}
+use Rattle.mpc_compiled.proofs.LeavesHold.{NodeHolds, nodes_hold}
+
+-- of a condition that holds
+holding : (parts : Parts) (fits holds : Type 0) (spot : Spot) (place : Place) → IsOfLawOrLeaf parts place → holds → (f : Finding) → IsUnmet fits holds spot place f → IsOfWidth parts f
+holding parts fits holds spot place p h (refused s) u = u.2 h
+holding parts fits holds spot place p h (too_wide q) u = subst (IsOfLawOrLeaf parts) (sym u.0) p
+holding parts fits holds spot place p h (not_definite j) u = u
+
+-- ---- the program has no finding
+module _ (plant : Plant) (qp : Qp) (program : IsProgramOf qp plant) (convex : IsConvex qp) where
+  pub same_qp : (other : Qp) → IsProgramOf other plant → qp ≡ other
+  same_qp other p = one_program plant qp other program.condensed p.condensed
+
+  convex_too : (other : Qp) → IsProgramOf other plant → IsConvex other
+  convex_too other p = subst IsConvex (same_qp other p) convex
+
+  pub no_program_finding : (f : Finding) → ProgramFinds plant f → ⊥
+  no_program_finding (refused spot) a = a
+  no_program_finding (too_wide place) (inl w) = not_wide plant place program.fits w
+  no_program_finding (too_wide place) (inr w) = passes_wide (entry w.qp.h) (height w.qp.h) (convex_too w.qp w.program).passes w.wide.step w.wide.first
+  no_program_finding (not_definite step) a = passes_not_positive (entry a.qp.h) (height a.qp.h) (convex_too a.qp a.program).passes step a.bad.first
+
+module _ (qp : Qp) (parts : Parts) (is : IsCompiled qp parts) where
+  -- ---- laws
+  law_at : (place : ℕ) (law : LawOfSet) → slice_get parts.laws place ≡ Some law → IsLaw qp law
+  law_at place law at = (is.table.are_laws law (contains_at parts.laws place law at)).verdict.2
+
+  law_found : (number : ℕ) (law : LawOfSet) → IsLaw qp law → IsOfLawOrLeaf parts (CheckLaw number) → (f : Finding) → LawFinds qp number law f → IsOfWidth parts f
+  law_found number law l p f (inl a) =
+      let r = a.place in
+      let c = a.here.place in
+      holding parts (GradientFits qp law r c) (IsStationaryAt qp law r c) (Stationary number (r + 1)) (CheckLaw number) p (stationary_at qp law l r c a.here.within) f a.here.here
+  law_found number law l p f (inr a) =
+      let k = a.1.place in
+      let i = slice_index law.set k in
+      let c = a.1.here.place in
+      holding parts (ActiveFits qp law i c) (IsActiveAt qp law i c) (Active number i) (CheckLaw number) p (active_at qp law l k c a.1.within a.1.here.within) f a.1.here.here
+
+  laws_found : (f : Finding) → LawsFind qp parts.laws f → IsOfWidth parts f
+  laws_found f a = law_found (a.place + 1) a.here.law (law_at a.place a.here.law a.here.is) (omega arith, omega (arith, a.within)) f a.here.finds
+
+  -- ---- leaves
+  node_found : (path : List Row) (number : ℕ) (node : Node) → NodeHolds qp parts.laws path node → 0 < number → number < length parts.tree + 1 → (f : Finding) → NodeFinds qp parts.laws path number node f → IsOfWidth parts f
+  node_found path number (Split row) h low high f a = absurd a
+  node_found path number (Law law_number certs) h low high f a =
+      let i = a.finds.place in
+      holding parts (RowFits qp path a.law certs i) (RowHolds qp path a.law certs i) (LeafRow number (i + 1)) (CheckLeaf number (i + 1)) (low, high) (h a.law a.is i a.finds.within) f a.finds.here
+  node_found path number (NoMove cert) h low high f a = holding parts (CertFits (joint_system qp path) cert) (CertRefutes (joint_system qp path) cert) (Leaf number) (CheckLeaf number 0) (low, high) h f a
+
+  tree_found : (f : Finding) → TreeFinds qp parts.laws parts.tree f → IsOfWidth parts f
+  tree_found f a =
+      let b = a.here in
+      node_found b.path (a.place + 1) b.node (nodes_hold qp parts.laws parts.tree is.tree a.place b.path b.node b.leads b.is) (omega arith) (omega (arith, a.within)) f b.finds
+
+  behind_found : (f : Finding) → BehindFinds qp parts f → IsOfWidth parts f
+  behind_found f (inl a) = laws_found f a
+  behind_found f (inr a) = tree_found f a.1
+
+  -- ---- where all numbers fit
+  law_met : (law : LawOfSet) → IsLaw qp law → LawFits qp law → LawMet qp law
+  law_met law l fit = record {
+    stationary = λ r below c within. record { fits_so = fit.gradients r c below within; holds_so = stationary_at qp law l r c within };
+    active = λ k below c within. record { fits_so = fit.members k c below within; holds_so = active_at qp law l k c below within };
+  }
+
+  laws_met : LawsFit qp parts.laws → LawsMet qp parts.laws
+  laws_met fit place below law at = law_met law (law_at place law at) (fit place law at)
+
+  node_met : (path : List Row) (node : Node) → NodeHolds qp parts.laws path node → LeafFits qp parts.laws path node → NodeMet qp parts.laws path node
+  node_met path (Split row) h fit = tt
+  node_met path (Law number certs) h fit = λ law named i below. record { fits_so = fit law i named below; holds_so = h law named i below }
+  node_met path (NoMove cert) h fit = record { fits_so = fit; holds_so = h }
+
+  tree_met : LeavesFit qp parts.laws parts.tree → TreeMet qp parts.laws parts.tree
+  tree_met fit place below path node leads at = node_met path node (nodes_hold qp parts.laws parts.tree is.tree place path node leads at) (fit place path node leads at)
+
+-- ---- the two laws
+pub only_width : (qp : Qp) (parts : Parts) (f : Finding) → IsCompiled qp parts → IsFound parts f → IsOfWidth parts f
+only_width qp parts f is (inl a) = absurd (no_program_finding parts.plant qp is.program is.convex f a)
+only_width qp parts f is (inr a) = behind_found qp parts is f (subst (λ (p : Qp). BehindFinds p parts f) (sym (same_qp parts.plant qp is.program is.convex a.qp a.program)) a.first)
+
+pub fitting_accepted : (qp : Qp) (parts : Parts) → IsCompiled qp parts → LawsFit qp parts.laws → LeavesFit qp parts.laws parts.tree → Accepts parts
+fitting_accepted qp parts is laws leaves = record { qp = qp; program = is.program; convex = is.convex; behind = record { laws = laws_met qp parts is laws; leaves = tree_met qp parts is leaves } }
