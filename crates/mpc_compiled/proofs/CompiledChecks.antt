@@ -1,8 +1,6 @@
 -- Of what is compiled, nothing is found but numbers that are too wide.
-use Rattle.std.proofs.Common.{◌≡◌, ℕ, ◌+◌, ◌<◌, ◌⊎◌, inl, inr, List, length, Some, sym, subst, arith}
-use Rattle.std.specs.Prelude.{slice_get, slice_index, Contains}
-use Rattle.std.proofs.lemmas.Option.{slice_get_within}
-use Rattle.mpc_exact.specs.Rational.{ℚ}
+use Rattle.std.proofs.Common.{◌≡◌, ℕ, ◌+◌, ◌<◌, ◌≤◌, inl, inr, List, length, Some, refl, sym, subst, arith}
+use Rattle.std.specs.Prelude.{slice_get, slice_index}
 use Rattle.mpc_space.specs.Matrix.{height, entry}
 use Rattle.mpc_plant.specs.declared.plants.Plant.{Plant}
 use Rattle.mpc_rows.specs.declared.programs.Qp.{Qp}
@@ -13,10 +11,15 @@ use Rattle.mpc_rows.specs.declared.trees.Node.TheVariants.{Split, Law, NoMove}
 use Rattle.mpc_rows.specs.declared.places.Place.{Place}
 use Rattle.mpc_rows.specs.declared.places.Place.TheVariants.{CheckLaw, CheckLeaf}
 use Rattle.mpc_rows.specs.Laws.{IsLaw}
-use Rattle.mpc_rows.specs.Candidates.{IsTable}
+use Rattle.mpc_definite.proofs.Forms.{definite_of}
 use Rattle.mpc_best.proofs.SameRows.{one_program}
-use Rattle.mpc_file.specs.Parts.{Parts}
+use Rattle.mpc_file.specs.Parts.{Parts, row_count}
+use Rattle.mpc_file.specs.Walk.{IsLeaf}
 use Rattle.mpc_answers.proofs.TreeWalks.{contains_at}
+use Rattle.mpc_check.specs.declared.answers.Answer.{Answer}
+use Rattle.mpc_check.specs.declared.answers.Answer.TheVariants.{Accepted, Refused}
+use Rattle.mpc_check.specs.declared.answers.CheckError.{CheckError}
+use Rattle.mpc_check.specs.declared.answers.CheckError.TheVariants.{Wide, NotDefinite, NoMemory}
 use Rattle.mpc_check.specs.declared.answers.Spot.{Spot}
 use Rattle.mpc_check.specs.declared.answers.Spot.TheVariants.{Stationary, Active, LeafRow, Leaf}
 use Rattle.mpc_check.specs.Systems.{joint_system}
@@ -24,9 +27,9 @@ use Rattle.mpc_check.specs.Certs.{CertFits, CertRefutes}
 use Rattle.mpc_check.specs.Findings.{Finding, refused, too_wide, not_definite, IsUnmet}
 use Rattle.mpc_check.specs.LawConditions.{GradientFits, IsStationaryAt, ActiveFits, IsActiveAt, LawMet, LawFinds, LawsFind, LawsMet}
 use Rattle.mpc_check.specs.LeafConditions.{RowFits, RowHolds, NodeMet, NodeFinds, TreeMet, TreeFinds}
-use Rattle.mpc_check.specs.Acceptance.{IsProgramOf, IsConvex, ProgramFinds, BehindFinds, Accepts, IsFound}
+use Rattle.mpc_check.specs.Acceptance.{IsProgramOf, IsConvex, ProgramFinds, BehindFinds, Accepts, IsFound, IsAnswer, IsCause}
 use Rattle.mpc_check.proofs.ProgramPlaces.{not_wide, passes_not_positive, passes_wide}
-use Rattle.mpc_compiled.specs.Compiled.{IsCompiled, IsOfLawOrLeaf, IsOfWidth, LawFits, LawsFit, LeafFits, LeavesFit}
+use Rattle.mpc_compiled.specs.Compiled.{IsCompiled, IsOfLawOrLeaf, IsOfWidth, IsWidthError, LawFits, LawsFit, LeafFits, LeavesFit}
 use Rattle.mpc_compiled.proofs.LawForms.{stationary_at, active_at}
 use Rattle.mpc_compiled.proofs.LeavesHold.{NodeHolds, nodes_hold}
 
@@ -51,6 +54,18 @@ module _ (plant : Plant) (qp : Qp) (program : IsProgramOf qp plant) (convex : Is
   no_program_finding (not_definite step) a = passes_not_positive (entry a.qp.h) (height a.qp.h) (convex_too a.qp a.program).passes step a.bad.first
 
 module _ (qp : Qp) (parts : Parts) (is : IsCompiled qp parts) where
+  pub convex : IsConvex qp
+  convex = record { definite = definite_of qp.h.rows is.program.condensed.h_symmetric (λ m l. is.pivots.positive m l); passes = is.pivots }
+
+  rows_are : height qp.g ≡ row_count parts.plant
+  rows_are = is.program.condensed.rows_are
+
+  of_law : (index : ℕ) → index < length parts.laws → IsOfLawOrLeaf parts (CheckLaw (index + 1))
+  of_law index h = inl (record { index = index; within = h; is = refl })
+
+  of_leaf : (index : ℕ) (node : Node) → slice_get parts.tree index ≡ Some node → IsLeaf node → (row : ℕ) → row ≤ row_count parts.plant → IsOfLawOrLeaf parts (CheckLeaf (index + 1) row)
+  of_leaf index node at leaf row h = inr (record { index = index; node = node; at = at; is_leaf = leaf; row = row; within = h; is = refl })
+
   -- ---- laws
   law_at : (place : ℕ) (law : LawOfSet) → slice_get parts.laws place ≡ Some law → IsLaw qp law
   law_at place law at = (is.table.are_laws law (contains_at parts.laws place law at)).verdict.2
@@ -67,20 +82,24 @@ module _ (qp : Qp) (parts : Parts) (is : IsCompiled qp parts) where
       holding parts (ActiveFits qp law i c) (IsActiveAt qp law i c) (Active number i) (CheckLaw number) p (active_at qp law l k c a.1.within a.1.here.within) f a.1.here.here
 
   laws_found : (f : Finding) → LawsFind qp parts.laws f → IsOfWidth parts f
-  laws_found f a = law_found (a.place + 1) a.here.law (law_at a.place a.here.law a.here.is) (omega arith, omega (arith, a.within)) f a.here.finds
+  laws_found f a = law_found (a.place + 1) a.here.law (law_at a.place a.here.law a.here.is) (of_law a.place a.within) f a.here.finds
 
   -- ---- leaves
-  node_found : (path : List Row) (number : ℕ) (node : Node) → NodeHolds qp parts.laws path node → 0 < number → number < length parts.tree + 1 → (f : Finding) → NodeFinds qp parts.laws path number node f → IsOfWidth parts f
-  node_found path number (Split row) h low high f a = absurd a
-  node_found path number (Law law_number certs) h low high f a =
+  node_found : (path : List Row) (index : ℕ) (node : Node) → slice_get parts.tree index ≡ Some node → NodeHolds qp parts.laws path node → (f : Finding) → NodeFinds qp parts.laws path (index + 1) node f → IsOfWidth parts f
+  node_found path index (Split row) at h f a = absurd a
+  node_found path index (Law law_number certs) at h f a =
       let i = a.finds.place in
-      holding parts (RowFits qp path a.law certs i) (RowHolds qp path a.law certs i) (LeafRow number (i + 1)) (CheckLeaf number (i + 1)) (low, high) (h a.law a.is i a.finds.within) f a.finds.here
-  node_found path number (NoMove cert) h low high f a = holding parts (CertFits (joint_system qp path) cert) (CertRefutes (joint_system qp path) cert) (Leaf number) (CheckLeaf number 0) (low, high) h f a
+      let within : i < height qp.g = a.finds.within in
+      holding parts (RowFits qp path a.law certs i) (RowHolds qp path a.law certs i) (LeafRow (index + 1) (i + 1)) (CheckLeaf (index + 1) (i + 1))
+      (of_leaf index (Law law_number certs) at tt (i + 1) (omega (arith, rows_are))) (h a.law a.is i within) f a.finds.here
+  node_found path index (NoMove cert) at h f a =
+      holding parts (CertFits (joint_system qp path) cert) (CertRefutes (joint_system qp path) cert) (Leaf (index + 1)) (CheckLeaf (index + 1) 0)
+      (of_leaf index (NoMove cert) at tt 0 (omega arith)) h f a
 
   tree_found : (f : Finding) → TreeFinds qp parts.laws parts.tree f → IsOfWidth parts f
   tree_found f a =
       let b = a.here in
-      node_found b.path (a.place + 1) b.node (nodes_hold qp parts.laws parts.tree is.tree a.place b.path b.node b.leads b.is) (omega arith) (omega (arith, a.within)) f b.finds
+      node_found b.path a.place b.node b.is (nodes_hold qp parts.laws parts.tree is.tree a.place b.path b.node b.leads b.is) f b.finds
 
   behind_found : (f : Finding) → BehindFinds qp parts f → IsOfWidth parts f
   behind_found f (inl a) = laws_found f a
@@ -104,10 +123,19 @@ module _ (qp : Qp) (parts : Parts) (is : IsCompiled qp parts) where
   tree_met : LeavesFit qp parts.laws parts.tree → TreeMet qp parts.laws parts.tree
   tree_met fit place below path node leads at = node_met path node (nodes_hold qp parts.laws parts.tree is.tree place path node leads at) (fit place path node leads at)
 
--- ---- the two laws
+-- ---- the laws
 pub only_width : (qp : Qp) (parts : Parts) (f : Finding) → IsCompiled qp parts → IsFound parts f → IsOfWidth parts f
-only_width qp parts f is (inl a) = absurd (no_program_finding parts.plant qp is.program is.convex f a)
-only_width qp parts f is (inr a) = behind_found qp parts is f (subst (λ (p : Qp). BehindFinds p parts f) (sym (same_qp parts.plant qp is.program is.convex a.qp a.program)) a.first)
+only_width qp parts f is (inl a) = absurd (no_program_finding parts.plant qp is.program (convex qp parts is) f a)
+only_width qp parts f is (inr a) = behind_found qp parts is f (subst (λ (p : Qp). BehindFinds p parts f) (sym (same_qp parts.plant qp is.program (convex qp parts is) a.qp a.program)) a.first)
+
+pub no_refusal : (qp : Qp) (parts : Parts) (answer : Answer) → IsCompiled qp parts → IsAnswer parts answer → answer ≡ Accepted
+no_refusal qp parts Accepted is a = refl
+no_refusal qp parts (Refused spot) is a = absurd (only_width qp parts (refused spot) is a)
+
+pub only_width_errs : (qp : Qp) (parts : Parts) (error : CheckError) → IsCompiled qp parts → IsCause parts error → IsWidthError parts error
+only_width_errs qp parts (Wide place) is a = only_width qp parts (too_wide place) is a
+only_width_errs qp parts (NotDefinite step) is a = only_width qp parts (not_definite step) is a
+only_width_errs qp parts NoMemory is a = tt
 
 pub fitting_accepted : (qp : Qp) (parts : Parts) → IsCompiled qp parts → LawsFit qp parts.laws → LeavesFit qp parts.laws parts.tree → Accepts parts
-fitting_accepted qp parts is laws leaves = record { qp = qp; program = is.program; convex = is.convex; behind = record { laws = laws_met qp parts is laws; leaves = tree_met qp parts is leaves } }
+fitting_accepted qp parts is laws leaves = record { qp = qp; program = is.program; convex = convex qp parts is; behind = record { laws = laws_met qp parts is laws; leaves = tree_met qp parts is leaves } }

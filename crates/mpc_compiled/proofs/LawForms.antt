@@ -1,7 +1,7 @@
 -- A law's affine forms meet the equations of its set coefficient by coefficient, since they do at every point.
-use Rattle.std.proofs.Common.{◌≡◌, ℕ, ◌+◌, ◌<◌, List, [], ◌∷◌, length, get_or, pos, refl, sym, ◌∙◌, ap}
+use Rattle.std.proofs.Common.{◌≡◌, ℕ, ◌+◌, ◌<◌, List, [], ◌∷◌, length, get_or, sym, ◌∙◌, ap}
 use Rattle.std.proofs.lemmas.List.{get_or-map}
-use Rattle.mpc_exact.specs.Rational.{ℚ, int, ◌+ℚ◌}
+use Rattle.mpc_exact.specs.Rational.{ℚ, ◌+ℚ◌}
 use Rattle.mpc_exact.proofs.RationalRing.{reads, by_ring}
 use Rattle.mpc_space.specs.Vector.{coordinate, column, dot, vec_add, mat_vec, vec_mat}
 use Rattle.mpc_space.proofs.Vector.{dot_comm, dot-add_right}

@@ -6,10 +6,8 @@ use Rattle.std.proofs.lemmas.Bool.{cases_lt}
 use Rattle.std.proofs.lemmas.List.{append-nil, length-append, get_or_append_left, get_or-append_right}
 use Rattle.std.proofs.lemmas.Option.{slice_get-get_or, get_or_from_slice_get, slice_get_within}
 use Rattle.mpc_linear.specs.declared.integers.RowInt.{RowInt}
-use Rattle.mpc_rows.specs.declared.systems.Row.{Row}
 use Rattle.mpc_rows.specs.declared.trees.Node.{Node}
 use Rattle.mpc_rows.specs.declared.trees.Node.TheVariants.{Split, NoMove}
-use Rattle.mpc_rows.specs.LawRows.{whole_row, broken_row}
 use Rattle.mpc_file.specs.Preorder.{IsTree, IsNoSide}
 use Rattle.mpc_file.specs.Walk.{IsLeaf}
 use Rattle.mpc_tree.specs.Trees.{Cell, whole_box, yes_side, no_side, IsTreeWhere, leaf, split}

@@ -1,5 +1,5 @@
 -- The conditions on the leaves of a certified tree hold, whether or not their numbers fit.
-use Rattle.std.proofs.Common.{◌≡◌, ℕ, ◌+◌, ◌-◌, ◌<◌, List, [], length, get_or, Some, pos, sym, ◌∙◌, ap, subst, arith}
+use Rattle.std.proofs.Common.{◌≡◌, ℕ, ◌+◌, ◌<◌, List, [], length, get_or, Some, pos, sym, ◌∙◌, ap, subst, arith}
 use Rattle.std.specs.Prelude.{slice_get}
 use Rattle.std.proofs.lemmas.Option.{slice_get-get_or, same_Some}
 use Rattle.mpc_exact.specs.Rational.{ℚ}
@@ -25,7 +25,7 @@ use Rattle.mpc_check.specs.Paths.{PathTo}
 use Rattle.mpc_check.specs.LeafConditions.{RowHolds}
 use Rattle.mpc_check.proofs.PathLemmas.{one_path}
 use Rattle.mpc_compiled.proofs.WholeCerts.{cert_refutes}
-use Rattle.mpc_compiled.proofs.LeafPaths.{LeafAt, leaf_at}
+use Rattle.mpc_compiled.proofs.LeafPaths.{leaf_at}
 
 module _ (qp : Qp) (laws : List LawOfSet) where
   -- ---- the systems of the search are those of the checker

@@ -1,53 +1,59 @@
 -- What is compiled of a plant, and what a check finds of it.
-use Rattle.std.specs.Prelude.{◌≡◌, ℕ, ◌+◌, ◌<◌, List, length, slice_get, slice_index, Some}
-use Rattle.mpc_exact.specs.Rational.{ℚ}
-use Rattle.mpc_space.specs.Matrix.{height}
+use Rattle.std.specs.Prelude.{◌≡◌, ℕ, ◌+◌, ◌<◌, ◌≤◌, ◌⊎◌, List, length, slice_get, slice_index, Some}
+use Rattle.mpc_space.specs.Matrix.{height, entry}
+use Rattle.mpc_definite.specs.Pivots.{PassesBelow}
 use Rattle.mpc_rows.specs.declared.programs.Qp.{Qp}
 use Rattle.mpc_rows.specs.declared.laws.Law.{Law as LawOfSet}
 use Rattle.mpc_rows.specs.declared.systems.Row.{Row}
 use Rattle.mpc_rows.specs.declared.trees.Node.{Node}
 use Rattle.mpc_rows.specs.declared.trees.Node.TheVariants.{Split, Law, NoMove}
 use Rattle.mpc_rows.specs.declared.places.Place.{Place}
-use Rattle.mpc_rows.specs.declared.places.Place.TheVariants.{State, Cost, Row as ProgramRow, Pivot, Law as LawRun, Reach, Border, Region, Meet, Holds, Joint, LawBound, NodeBound, CheckLaw, CheckLeaf}
+use Rattle.mpc_rows.specs.declared.places.Place.TheVariants.{CheckLaw, CheckLeaf}
 use Rattle.mpc_rows.specs.Candidates.{IsTable}
 use Rattle.mpc_tree.specs.Trees.{whole_box}
 use Rattle.mpc_tree.specs.Certified.{IsCertified}
-use Rattle.mpc_file.specs.Parts.{Parts}
+use Rattle.mpc_file.specs.Parts.{Parts, row_count}
+use Rattle.mpc_file.specs.Walk.{IsLeaf}
 use Rattle.mpc_file.specs.Replies.{IsLawNumbered}
+use Rattle.mpc_check.specs.declared.answers.Answer.{Answer}
+use Rattle.mpc_check.specs.declared.answers.Answer.TheVariants.{Accepted}
+use Rattle.mpc_check.specs.declared.answers.CheckError.{CheckError}
+use Rattle.mpc_check.specs.declared.answers.CheckError.TheVariants.{Wide, NotDefinite, NoMemory}
 use Rattle.mpc_check.specs.Findings.{Finding, refused, too_wide, not_definite}
 use Rattle.mpc_check.specs.Paths.{PathTo}
 use Rattle.mpc_check.specs.Systems.{joint_system}
 use Rattle.mpc_check.specs.Certs.{CertFits}
 use Rattle.mpc_check.specs.LawConditions.{GradientFits, ActiveFits}
 use Rattle.mpc_check.specs.LeafConditions.{RowFits}
-use Rattle.mpc_check.specs.Acceptance.{IsProgramOf, IsConvex, Accepts, IsFound}
+use Rattle.mpc_check.specs.Acceptance.{IsProgramOf, Accepts, IsFound, IsAnswer, IsCause}
 
--- The program of the plant, whose cost is positive definite and whose numbers fit; the table of its laws; and the table's tree of the whole
--- box, with its certificates.
+-- The program of the plant, whose numbers fit; positive pivots of its cost, whose numbers fit; the table of its laws; and the table's tree of
+-- the whole box, with its certificates.
 pub record IsCompiled (qp : Qp) (parts : Parts) : Type 0 where
   pub program : IsProgramOf qp parts.plant
-  pub convex : IsConvex qp
+  pub pivots : PassesBelow (entry qp.h) (height qp.h) (height qp.h)
   pub table : IsTable qp parts.laws
   pub tree : IsCertified qp parts.laws whole_box parts.tree
 
 -- ---- what is found
--- the place of a condition on a law of the table, or on a leaf of the tree: both are counted from 1
+-- the place of the conditions on a law, which stands in the table at an index from 0
+pub record IsOfLaw (parts : Parts) (place : Place) : Type 0 where
+  pub index : ℕ
+  pub within : index < length parts.laws
+  pub is : place ≡ CheckLaw (index + 1)
+
+-- the place of a condition on a leaf, which stands in the tree at an index from 0: of a row of its law, or of the leaf as a whole
+pub record IsOfLeaf (parts : Parts) (place : Place) : Type 0 where
+  pub index : ℕ
+  pub node : Node
+  pub at : slice_get parts.tree index ≡ Some node
+  pub is_leaf : IsLeaf node
+  pub row : ℕ
+  pub within : row ≤ row_count parts.plant
+  pub is : place ≡ CheckLeaf (index + 1) row
+
 abbrev pub IsOfLawOrLeaf : Parts → Place → Type 0
-IsOfLawOrLeaf parts (State k) = ⊥
-IsOfLawOrLeaf parts (Cost k) = ⊥
-IsOfLawOrLeaf parts (ProgramRow i) = ⊥
-IsOfLawOrLeaf parts (Pivot j) = ⊥
-IsOfLawOrLeaf parts (LawRun set) = ⊥
-IsOfLawOrLeaf parts (Reach set) = ⊥
-IsOfLawOrLeaf parts (Border set i) = ⊥
-IsOfLawOrLeaf parts (Region set) = ⊥
-IsOfLawOrLeaf parts (Meet node law) = ⊥
-IsOfLawOrLeaf parts (Holds node law i) = ⊥
-IsOfLawOrLeaf parts (Joint node) = ⊥
-IsOfLawOrLeaf parts (LawBound law input) = ⊥
-IsOfLawOrLeaf parts (NodeBound node) = ⊥
-IsOfLawOrLeaf parts (CheckLaw law) = (0 < law) × (law < length parts.laws + 1)
-IsOfLawOrLeaf parts (CheckLeaf node i) = (0 < node) × (node < length parts.tree + 1)
+IsOfLawOrLeaf parts place = IsOfLaw parts place ⊎ IsOfLeaf parts place
 
 -- a number is too wide, of a condition on a law or on a leaf; no condition fails, and no pivot
 abbrev pub IsOfWidth : Parts → Finding → Type 0
@@ -57,6 +63,18 @@ IsOfWidth parts (not_definite step) = ⊥
 
 abbrev pub OnlyWidthFound : Type 0
 OnlyWidthFound = (qp : Qp) (parts : Parts) (finding : Finding) → IsCompiled qp parts → IsFound parts finding → IsOfWidth parts finding
+
+-- ---- what a check answers
+abbrev pub NoRefusal : Type 0
+NoRefusal = (qp : Qp) (parts : Parts) (answer : Answer) → IsCompiled qp parts → IsAnswer parts answer → answer ≡ Accepted
+
+abbrev pub IsWidthError : Parts → CheckError → Type 0
+IsWidthError parts (Wide place) = IsOfLawOrLeaf parts place
+IsWidthError parts (NotDefinite step) = ⊥
+IsWidthError parts NoMemory = Unit {0}
+
+abbrev pub OnlyWidthErrs : Type 0
+OnlyWidthErrs = (qp : Qp) (parts : Parts) (error : CheckError) → IsCompiled qp parts → IsCause parts error → IsWidthError parts error
 
 -- ---- where all numbers fit
 -- those of the sums over a law

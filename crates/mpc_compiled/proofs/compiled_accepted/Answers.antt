@@ -1,8 +1,14 @@
-use Rattle.mpc_compiled.proofs.CompiledChecks.{only_width, fitting_accepted}
+use Rattle.mpc_compiled.proofs.CompiledChecks.{only_width, no_refusal, only_width_errs, fitting_accepted}
 use Rattle.mpc_compiled.proofs.compiled_accepted.Goals as goal
 
-pub returns-clause-only_width : goal.returns-clause-only_width
-returns-clause-only_width c = only_width
+pub returns-clause-found : goal.returns-clause-found
+returns-clause-found c = only_width
 
-pub returns-clause-accepted : goal.returns-clause-accepted
-returns-clause-accepted c = fitting_accepted
+pub returns-clause-answer : goal.returns-clause-answer
+returns-clause-answer c = no_refusal
+
+pub returns-clause-error : goal.returns-clause-error
+returns-clause-error c = only_width_errs
+
+pub returns-clause-fitting : goal.returns-clause-fitting
+returns-clause-fitting c = fitting_accepted
