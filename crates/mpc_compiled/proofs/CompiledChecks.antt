@@ -41,20 +41,20 @@ holding parts fits holds spot place p h (not_definite j) u = u
 
 -- ---- the program has no finding
 module _ (plant : Plant) (qp : Qp) (program : IsProgramOf qp plant) (convex : IsConvex qp) where
-  pub same_qp : (other : Qp) → IsProgramOf other plant → qp ≡ other
+  same_qp : (other : Qp) → IsProgramOf other plant → qp ≡ other
   same_qp other p = one_program plant qp other program.condensed p.condensed
 
   convex_too : (other : Qp) → IsProgramOf other plant → IsConvex other
   convex_too other p = subst IsConvex (same_qp other p) convex
 
-  pub no_program_finding : (f : Finding) → ProgramFinds plant f → ⊥
+  no_program_finding : (f : Finding) → ProgramFinds plant f → ⊥
   no_program_finding (refused spot) a = a
   no_program_finding (too_wide place) (inl w) = not_wide plant place program.fits w
   no_program_finding (too_wide place) (inr w) = passes_wide (entry w.qp.h) (height w.qp.h) (convex_too w.qp w.program).passes w.wide.step w.wide.first
   no_program_finding (not_definite step) a = passes_not_positive (entry a.qp.h) (height a.qp.h) (convex_too a.qp a.program).passes step a.bad.first
 
 module _ (qp : Qp) (parts : Parts) (is : IsCompiled qp parts) where
-  pub convex : IsConvex qp
+  convex : IsConvex qp
   convex = record { definite = definite_of qp.h.rows is.program.condensed.h_symmetric (λ m l. is.pivots.positive m l); passes = is.pivots }
 
   rows_are : height qp.g ≡ row_count parts.plant

@@ -65,9 +65,11 @@ abbrev pub OnlyWidthFound : Type 0
 OnlyWidthFound = (qp : Qp) (parts : Parts) (finding : Finding) → IsCompiled qp parts → IsFound parts finding → IsOfWidth parts finding
 
 -- ---- what a check answers
+-- that the controller is accepted
 abbrev pub NoRefusal : Type 0
 NoRefusal = (qp : Qp) (parts : Parts) (answer : Answer) → IsCompiled qp parts → IsAnswer parts answer → answer ≡ Accepted
 
+-- or an error: a number that is too wide, of a condition on a law or on a leaf, or no memory
 abbrev pub IsWidthError : Parts → CheckError → Type 0
 IsWidthError parts (Wide place) = IsOfLawOrLeaf parts place
 IsWidthError parts (NotDefinite step) = ⊥
