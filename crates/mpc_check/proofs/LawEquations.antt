@@ -3,7 +3,6 @@ use Rattle.std.proofs.Common.{◌≡◌, ℕ, zero, suc, ◌-◌, ◌<◌, ◌�
 use Rattle.std.proofs.lemmas.Bool.{cases_lt}
 use Rattle.std.proofs.lemmas.List.{get_or-map, length-map}
 use Rattle.mpc_exact.specs.Rational.{ℚ, ◌+ℚ◌}
-use Rattle.mpc_exact.proofs.RationalRing.{reads, by_ring}
 use Rattle.mpc_space.specs.Vector.{coordinate, column, dot, vec_add, vec_scale, mat_vec, vec_mat}
 use Rattle.mpc_space.specs.Matrix.{RationalMatrix, height, IsRectangular}
 use Rattle.mpc_space.proofs.Vector.{dot_comm, dot-add_right}
@@ -13,7 +12,8 @@ use Rattle.mpc_rows.specs.declared.programs.Qp.{Qp}
 use Rattle.mpc_rows.specs.declared.laws.Law.{Law}
 use Rattle.mpc_rows.specs.ActiveSets.{extended, row_of, rows_of, IsTight, MeetsEquations}
 use Rattle.mpc_rows.specs.Laws.{HasLawShape, IsLaw, moves_at, mults_at}
-use Rattle.mpc_check.specs.LawConditions.{gradient_at, LawMet}
+use Rattle.mpc_check.specs.LawConditions.{LawMet}
+use Rattle.mpc_check.proofs.GradientForms.{against, form, form_entry, gradient_entry as gradient_form}
 
 -- ---- sizes
 row_within : (m : RationalMatrix) (n i : ℕ) → IsRectangular m → m.columns ≡ n → length (get_or m.rows i []) ≤ n
@@ -34,13 +34,7 @@ combination_within n [] rows h = omega arith
 combination_within n (y ∷ l) [] h = omega arith
 combination_within n (y ∷ l) (row ∷ rows) h = length-add_within n (vec_scale y row) (vec_mat l rows) (let a = h 0 in omega (arith, length-scale y row)) (combination_within n l rows (λ i. h (suc i)))
 
--- ---- an affine form at a point
-against : (row c : List ℚ) (m : List (List ℚ)) → dot row (mat_vec m c) ≡ dot c (vec_mat row m)
-against row c m = dot_comm row (mat_vec m c) ∙ dot-vec_mat m c row
-
-reordered : (a b d : ℚ) → a +ℚ b +ℚ d ≡ b +ℚ a +ℚ d
-reordered a b d = by_ring (a ∷ b ∷ d ∷ []) (search reads depth 30) (search reads depth 30) tt
-
+-- ---- the equations at a point
 module _ (qp : Qp) (law : Law) (shape : HasLawShape qp law) (met : LawMet qp law) (t : List ℚ) (size : length t ≡ length qp.counts) where
   abbrev c : List ℚ
   c = extended t
@@ -54,30 +48,11 @@ module _ (qp : Qp) (law : Law) (shape : HasLawShape qp law) (met : LawMet qp law
   abbrev l : List ℚ
   l = mults_at law t
 
-  -- line r of the gradient as a form
-  abbrev form : ℕ → List ℚ
-  form r = vec_add (vec_add (get_or qp.f.rows r []) (vec_mat (get_or qp.h.rows r []) law.moves.rows)) (vec_mat (column g r) law.mults.rows)
-
-  form_entry : (r j : ℕ) → coordinate (form r) j ≡ gradient_at qp law r j
-  form_entry r j =
-      coordinate-add (vec_add (get_or qp.f.rows r []) (vec_mat (get_or qp.h.rows r []) law.moves.rows)) (vec_mat (column g r) law.mults.rows) j
-      ∙ (λ u. (coordinate-add (get_or qp.f.rows r []) (vec_mat (get_or qp.h.rows r []) law.moves.rows) j ∙ ap (λ x. coordinate (get_or qp.f.rows r []) j +ℚ x) (coordinate-vec_mat (get_or qp.h.rows r []) law.moves.rows j)) u +ℚ coordinate-vec_mat (column g r) law.mults.rows j u)
-
-  form_value : (r : ℕ) → dot (get_or qp.h.rows r []) z +ℚ dot (get_or qp.f.rows r []) c +ℚ dot l (column g r) ≡ dot c (form r)
-  form_value r =
-      (λ u. against (get_or qp.h.rows r []) c law.moves.rows u +ℚ dot_comm (get_or qp.f.rows r []) c u +ℚ dot-vec_mat law.mults.rows c (column g r) u)
-      ∙ reordered (dot c (vec_mat (get_or qp.h.rows r []) law.moves.rows)) (dot c (get_or qp.f.rows r [])) (dot c (vec_mat (column g r) law.mults.rows))
-      ∙ sym (dot-add_right (vec_add (get_or qp.f.rows r []) (vec_mat (get_or qp.h.rows r []) law.moves.rows)) (vec_mat (column g r) law.mults.rows) c
-      ∙ ap (λ x. x +ℚ dot c (vec_mat (column g r) law.mults.rows)) (dot-add_right (get_or qp.f.rows r []) (vec_mat (get_or qp.h.rows r []) law.moves.rows) c))
-
-  form_zero : (r : ℕ) → r < height qp.h → dot c (form r) ≡ dot c []
-  form_zero r h = dot_same c (form r) [] (λ j k. form_entry r j ∙ (met.stationary r h j (omega arith)).holds_so)
+  form_zero : (r : ℕ) → r < height qp.h → dot c (form qp law r) ≡ dot c []
+  form_zero r h = dot_same c (form qp law r) [] (λ j k. form_entry qp law r j ∙ (met.stationary r h j (omega arith)).holds_so)
 
   gradient_entry : (r : ℕ) → r < height qp.h → coordinate (vec_add (vec_add (mat_vec qp.h.rows z) (mat_vec qp.f.rows c)) (vec_mat l g)) r ≡ dot c []
-  gradient_entry r h =
-      coordinate-add (vec_add (mat_vec qp.h.rows z) (mat_vec qp.f.rows c)) (vec_mat l g) r
-      ∙ (λ u. (coordinate-add (mat_vec qp.h.rows z) (mat_vec qp.f.rows c) r ∙ (λ v. coordinate-mat_vec qp.h.rows z r v +ℚ coordinate-mat_vec qp.f.rows c r v)) u +ℚ coordinate-vec_mat l g r u)
-      ∙ form_value r ∙ form_zero r h
+  gradient_entry r h = gradient_form qp law r t ∙ form_zero r h
 
   gradient_within : length (vec_add (vec_add (mat_vec qp.h.rows z) (mat_vec qp.f.rows c)) (vec_mat l g)) ≤ height qp.h
   gradient_within =

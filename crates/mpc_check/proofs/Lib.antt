@@ -1,3 +1,4 @@
+pub mod GradientForms
 pub mod LawEquations
 pub mod LeafPoints
 pub mod Accepted
