@@ -1,35 +1,24 @@
--- Controllers of one input, one step and one coordinate, as the tests build them.
-use Rattle.std.proofs.Common.{◌≡◌, ℕ, zero, suc, ◌+◌, ◌-◌, ◌*◌, ◌^◌, ◌<◌, ◌≤◌, ℤ, pos, unsigned_abs, List, [], ◌∷◌, ◌++◌, length, get_or, sym, ◌∙◌, ap, subst, arith}
+-- Controllers of one input, one step and one coordinate, whose tree is one leaf, as the tests build them.
+use Rattle.std.proofs.Common.{◌≡◌, ℕ, ◌+◌, ◌*◌, ◌≤◌, pos, List, [], ◌∷◌, ◌++◌, length, refl, sym, ◌∙◌, ap, subst, arith}
 use Rattle.std.specs.Prelude.{All}
-use Rattle.std.specs.Int.{◌∣◌}
-use Rattle.std.proofs.Math.Nat.{eq-one_of_dvd-one}
-use Rattle.std.proofs.lemmas.List.Elements.{All-append, All-cons, All-nil}
+use Rattle.std.proofs.lemmas.List.Elements.{All-append, All-cons, All-nil, All-weaker}
 use Rattle.mpc_exact.specs.Rational.{ℚ, int}
 use Rattle.mpc_exact.proofs.OrderLaws.{one-not_zero}
-use Rattle.mpc_linear.specs.declared.integers.RowInt.{RowInt}
-use Rattle.mpc_linear.specs.Whole.{AreSmall}
 use Rattle.mpc_plant.specs.declared.plants.Plant.{Plant}
 use Rattle.mpc_sets.specs.RowSet.{RisesWithin, IsSetOfRows}
 use Rattle.mpc_rows.specs.Program.{IsOfShape}
 use Rattle.mpc_rows.specs.Certificates.{IsCert}
 use Rattle.mpc_rows.specs.declared.laws.Law.{Law as LawOfSet}
 use Rattle.mpc_rows.specs.declared.trees.Node.{Node}
-use Rattle.mpc_rows.specs.declared.trees.Node.TheVariants.{Split}
+use Rattle.mpc_rows.specs.declared.trees.Node.TheVariants.{Split, Law, NoMove}
 use Rattle.mpc_file.specs.Preorder.{Spells}
-use Rattle.mpc_file.specs.Parts.{row_count, IsLawFor, IsSplitRow}
+use Rattle.mpc_file.specs.Parts.{row_count, IsLawFor, IsNodeFor, HaveShapes}
+use Rattle.mpc_file.specs.Certificates.{IsCertOver, AreLawCerts, HaveCerts}
 use Rattle.mpc_file.specs.Walk.{IsLeaf}
-use Rattle.mpc_file.proofs.PreorderLemmas.{spells_split, spells_leaf}
+use Rattle.mpc_check.specs.Certs.{IsPositionIn, HasPositionsIn}
 
 pub all_push : {X : Type 0} (P : X → Type 0) (xs new : List X) (x : X) → new ≡ xs ++ x ∷ [] → All P xs → P x → All P new
 all_push P xs new x e h p = subst (All P) (sym e) (All-append P xs (x ∷ []) h (All-cons P x [] p (All-nil P)))
-
-pub split_push : (tree new : List Node) (left : ℕ) (row : RowInt) → new ≡ tree ++ Split row ∷ [] → 0 < left → Spells 1 tree left → Spells 1 new (left + 1)
-split_push tree new zero row e some h = absurd (omega arith)
-split_push tree new (suc left) row e some h = let s : suc (suc left) ≡ suc left + 1 = omega arith in subst (Spells 1 new) s (subst (λ nodes. Spells 1 nodes (suc (suc left))) (sym e) (spells_split 1 tree left row h))
-
-pub leaf_push : (tree new : List Node) (left : ℕ) (leaf : Node) → new ≡ tree ++ leaf ∷ [] → IsLeaf leaf → 0 < left → Spells 1 tree left → Spells 1 new (left - 1)
-leaf_push tree new zero leaf e is some h = absurd (omega arith)
-leaf_push tree new (suc left) leaf e is some h = let s : left ≡ suc left - 1 = omega arith in subst (Spells 1 new) s (subst (λ nodes. Spells 1 nodes left) (sym e) (spells_leaf 1 tree left leaf is h))
 
 rises_more : (low high more : ℕ) (s : List ℕ) → high ≤ more → RisesWithin low high s → RisesWithin low more s
 rises_more low high more [] le h = tt
@@ -50,32 +39,39 @@ law_for plant law member n p horizon within set few moves mults =
     one : (a b : ℕ) → 1 * a + b ≡ a + b
     one a b = omega arith
 
-pub unit_split : (row : RowInt) (a : ℤ) → row.a ≡ a ∷ [] → unsigned_abs a ≡ 1 → unsigned_abs row.b < 2 ^ 127 → IsSplitRow 1 row
-unit_split row a is unit small = record {
-  size = ap length is;
-  some = λ none. absurd (let zero_a : a ≡ pos 0 = subst (λ z. z ≡ pos 0) first (none 0 a some_entry) in let no : 1 ≡ 0 = sym unit ∙ ap unsigned_abs zero_a in omega arith);
-  no_divisor = λ d divides. one_only d (subst (λ k. d ∣ k) unit (subst (λ z. d ∣ unsigned_abs z) all_first (divides 0 a (subst (λ k. 0 < k) (sym size_all) (omega arith)))));
-  small = subst (λ zs. AreSmall (zs ++ row.b ∷ [])) (sym is) (All-cons (λ z. unsigned_abs z < 2 ^ 127) a (row.b ∷ []) (subst (λ k. k < 2 ^ 127) (sym unit) (omega arith)) (All-cons (λ z. unsigned_abs z < 2 ^ 127) row.b [] small (All-nil (λ z. unsigned_abs z < 2 ^ 127))));
-}
-  where
-    first : get_or row.a 0 a ≡ a
-    first = ap (λ zs. get_or zs 0 a) is
-
-    some_entry : 0 < length row.a
-    some_entry = subst (λ k. 0 < k) (sym (ap length is)) (omega arith)
-
-    all_first : get_or (row.a ++ row.b ∷ []) 0 a ≡ a
-    all_first = ap (λ zs. get_or (zs ++ row.b ∷ []) 0 a) is
-
-    size_all : length (row.a ++ row.b ∷ []) ≡ 2
-    size_all = ap (λ zs. length (zs ++ row.b ∷ [])) is
-
-    one_only : (d : ℕ) → d ∣ 1 → d ≡ 1
-    one_only d h = eq-one_of_dvd-one h
-
--- ---- certificates of multipliers 1
 not_zero : (x : ℚ) → x ≡ int (pos 1) → ¬ (x ≡ int (pos 0))
 not_zero x one none = one-not_zero (sym one ∙ none)
 
 pub one_position : (before : List (ℕ × ℚ)) (p : ℕ) (x : ℚ) → before ≡ [] → ¬ (p ≡ 0) → x ≡ int (pos 1) → IsCert (before ++ (p, x) ∷ [])
 one_position before p x is some one = subst (λ es. IsCert (es ++ (p, x) ∷ [])) (sym is) (record { rises = (omega arith, not_zero x one, tt) })
+
+-- ---- trees of one leaf
+pub over : (rows : ℕ) (cert : List (ℕ × ℚ)) → IsCert cert → HasPositionsIn rows cert → IsCertOver rows cert
+over rows cert rises within = record { is_cert = rises; within = All-weaker (IsPositionIn rows) (λ (entry : ℕ × ℚ). entry.0 ≤ rows) (λ entry h. h.to_last) cert within }
+
+pub one_cert : (certs : List (List (ℕ × ℚ))) (cert : List (ℕ × ℚ)) → certs ≡ cert ∷ [] → IsCertOver 3 cert → AreLawCerts 1 1 0 certs
+one_cert certs cert e h = subst (AreLawCerts 1 1 0) (sym e) (record { one_each = refl; each = All-cons (IsCertOver 3) cert [] h (All-nil (IsCertOver 3)) })
+
+pub no_certs : (certs : List (List (ℕ × ℚ))) → certs ≡ [] → AreLawCerts 1 0 0 certs
+no_certs certs e = subst (AreLawCerts 1 0 0) (sym e) (record { one_each = refl; each = All-nil (IsCertOver 3) })
+
+one_tree : (leaf : Node) → IsLeaf leaf → Spells 1 (leaf ∷ []) 0
+one_tree (Split row) h = absurd h
+one_tree (Law law certs) h = refl
+one_tree (NoMove cert) h = refl
+
+pub test_shapes : (plant : Plant) (laws : List LawOfSet) (tree : List Node) (leaf : Node) (rows : ℕ) → tree ≡ leaf ∷ [] → plant.n ≡ 1 → plant.horizon ≡ 1 → rows ≡ length plant.rows + length plant.terminal → length laws ≤ 1000
+    → All (IsLawFor plant) laws → IsNodeFor 1 (length laws) leaf → HaveCerts 1 rows (0 ∷ []) (leaf ∷ []) → IsLeaf leaf → HaveShapes plant laws tree
+test_shapes plant laws tree leaf rows is n horizon count few fit node certs end =
+    let all_rows : rows ≡ row_count plant = count ∙ once (length plant.rows) (length plant.terminal) ∙ (λ i. sym horizon i * length plant.rows + length plant.terminal) in
+    subst (HaveShapes plant laws) (sym is)
+    (record {
+      laws_few = omega (arith, few);
+      laws_fit = fit;
+      nodes_fit = subst (λ k. All (IsNodeFor k (length laws)) (leaf ∷ [])) (sym n) (All-cons (IsNodeFor 1 (length laws)) leaf [] node (All-nil (IsNodeFor 1 (length laws))));
+      complete = one_tree leaf end;
+      certs_fit = subst (λ k. HaveCerts k (row_count plant) (0 ∷ []) (leaf ∷ [])) (sym n) (subst (λ m. HaveCerts 1 m (0 ∷ []) (leaf ∷ [])) all_rows certs);
+    })
+  where
+    once : (a b : ℕ) → a + b ≡ 1 * a + b
+    once a b = omega arith

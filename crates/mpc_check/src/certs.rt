@@ -19,7 +19,7 @@ use mpc_rows::{Cert, Multipliers, Place, Qp, Row, System, Tree, refutes};
 use std::alloc::Global;
 
 /// Whether each position that the certificate names is that of one of so many rows.
-fn has_positions_in(cert: &Cert, rows: u128) -> bool
+pub(crate) fn has_positions_in(cert: &Cert, rows: u128) -> bool
     ensures within { IsTrue result ↔ HasPositionsIn rows cert.now }
     ensures rises { IsCert cert.now }
 {

@@ -1,13 +1,17 @@
-ghost use Rattle.std.specs.Prelude.{◌≡◌, ◌+◌, ◌-◌, ◌^◌, ◌<◌, ◌≤◌, All, length, unsigned_abs, IfSome, IfOk};
+//! Controllers of one input, one step and one coordinate, whose tree is one leaf.
+
+ghost use Rattle.std.specs.Prelude.{◌≡◌, ◌<◌, ◌≤◌, [], ◌∷◌, All, length, IfSome, IfOk, IsTrue};
 ghost use Rattle.mpc_rows.specs.Program.{IsOfShape};
 ghost use Rattle.mpc_sets.specs.RowSet.{IsSetOfRows};
-ghost use Rattle.mpc_file.specs.Preorder.{Spells, IsTree};
 ghost use Rattle.mpc_file.specs.Parts.{IsLawFor, IsNodeFor};
+ghost use Rattle.mpc_file.specs.Certificates.{IsCertOver, HaveCerts};
+ghost use Rattle.mpc_file.specs.Walk.{IsLeaf};
 
+use crate::certs::has_positions_in;
 use crate::{Answer, CheckError, Spot, check};
 use mpc_file::Controller;
 use mpc_frac::{Frac, NoMemory};
-use mpc_linear::{Ints, Matrix, RowInt};
+use mpc_linear::Matrix;
 use mpc_plant::{Plant, read_plant};
 use mpc_rows::{Cert, Certs, Law, LawTable, Node, Tree};
 use mpc_sets::ActiveSet;
@@ -93,8 +97,8 @@ fn add_law(
     }
 }
 
-/// The certificate of 1 at up to three rising positions.
-fn cert(alloc: Global, first: u64, second: u64, third: u64) -> Option<Cert> {
+/// The certificate of 1 at up to two rising positions.
+fn cert(alloc: Global, first: u64, second: u64) -> Option<Cert> {
     let mut cert = Cert::new(alloc);
     if first == 0 {
         return Some(cert);
@@ -108,172 +112,144 @@ fn cert(alloc: Global, first: u64, second: u64, third: u64) -> Option<Cert> {
     let Ok(()) = cert.push((second, Frac::whole(1))) else {
         return None;
     };
-    if third <= second {
-        return Some(cert);
-    }
-    let Ok(()) = cert.push((third, Frac::whole(1))) else {
-        return None;
-    };
     Some(cert)
 }
 
-/// The certificates of 1 at these pairs of positions.
-fn certs(alloc: Global, pairs: &[(u64, u64)]) -> Option<Certs> {
-    let mut certs = Certs::new(alloc);
-    for i in 0..pairs.len() {
-        let pair = pairs[i];
-        certs.push(cert(alloc, pair.0, pair.1, 0)?).ok()?;
-    }
-    Some(certs)
+/// Whether the certificate names some of so many rows alone.
+fn is_over(cert: &Cert, rows: u128) -> bool
+    ensures { IsTrue result → IsCertOver rows cert.now }
+{
+    has_positions_in(cert, rows)
 }
 
-/// Puts the split `a t <= b` behind the nodes.
-fn add_split(
-    alloc: Global,
-    tree: &mut Tree,
-    laws: &LawTable,
-    left: usize,
-    a: i128,
-    b: i128,
-) -> Option<()>
-    requires some { 0 < left }
-    requires unit { unsigned_abs a ≡ 1 }
-    requires small { unsigned_abs b < 2 ^ 127 }
-    requires nodes { All (IsNodeFor 1 (length laws.now)) tree.old }
-    requires spells { Spells 1 tree.old left }
-    ensures { IfSome result (λ _. All (IsNodeFor 1 (length laws.now)) tree.new
-        × Spells 1 tree.new (left + 1)) }
+/// The leaf of the first law, for a plant without rows.
+fn leaf(alloc: Global, laws: &LawTable) -> Option<Node>
+    ensures node { IfSome result (λ node. IsNodeFor 1 (length laws.now) node) }
+    ensures certs { IfSome result (λ node. HaveCerts 1 0 (0 ∷ []) (node ∷ [])) }
+    ensures leaf { IfSome result (λ node. IsLeaf node) }
 {
-    let mut row = Ints::new(alloc);
-    let Ok(()) = row.push(a) else {
+    if laws.len() == 0 {
+        return None;
+    }
+    let certs = Certs::new(alloc);
+    Some(Node::Law { law: 1, certs })
+}
+
+/// The leaf of the first law, for a plant with one row, with the certificate of that row.
+fn leaf_with(alloc: Global, laws: &LawTable, cert: Cert) -> Option<Node>
+    ensures node { IfSome result (λ node. IsNodeFor 1 (length laws.now) node) }
+    ensures certs { IfSome result (λ node. HaveCerts 1 1 (0 ∷ []) (node ∷ [])) }
+    ensures leaf { IfSome result (λ node. IsLeaf node) }
+{
+    if laws.len() == 0 {
+        return None;
+    }
+    if !is_over(&cert, 3) {
+        return None;
+    }
+    let mut certs = Certs::new(alloc);
+    let Ok(()) = certs.push(cert) else {
         return None;
     };
-    match tree.push(Node::Split(RowInt { a: row, b })) {
-        Ok(()) => Some(()),
-        Err(_) => None,
-    }
+    Some(Node::Law { law: 1, certs })
 }
 
-/// Puts the leaf of a law behind the nodes.
-fn add_leaf(tree: &mut Tree, laws: &LawTable, left: usize, law: u32, certs: Certs) -> Option<()>
-    requires some { 0 < left }
-    requires nodes { All (IsNodeFor 1 (length laws.now)) tree.old }
-    requires spells { Spells 1 tree.old left }
-    ensures { IfSome result (λ _. All (IsNodeFor 1 (length laws.now)) tree.new
-        × Spells 1 tree.new (left - 1)) }
+/// The leaf without a law, for a plant with two rows.
+fn bare_leaf(laws: &LawTable, cert: Cert) -> Option<Node>
+    ensures node { IfSome result (λ node. IsNodeFor 1 (length laws.now) node) }
+    ensures certs { IfSome result (λ node. HaveCerts 1 2 (0 ∷ []) (node ∷ [])) }
+    ensures leaf { IfSome result (λ node. IsLeaf node) }
 {
-    if law == 0 || law as usize > laws.len() {
+    let _count = laws.len();
+    if !is_over(&cert, 4) {
         return None;
     }
-    match tree.push(Node::Law { law, certs }) {
-        Ok(()) => Some(()),
-        Err(_) => None,
-    }
+    Some(Node::NoMove { cert })
 }
 
-/// Puts a leaf without a law behind the nodes.
-fn add_bare_leaf(tree: &mut Tree, laws: &LawTable, left: usize, cert: Cert) -> Option<()>
-    requires some { 0 < left }
-    requires nodes { All (IsNodeFor 1 (length laws.now)) tree.old }
-    requires spells { Spells 1 tree.old left }
-    ensures { IfSome result (λ _. All (IsNodeFor 1 (length laws.now)) tree.new
-        × Spells 1 tree.new (left - 1)) }
-{
-    match tree.push(Node::NoMove { cert }) {
-        Ok(()) => Some(()),
-        Err(_) => None,
-    }
-}
-
-/// What is found of the controller of these parts.
+/// What is found of the controller with one leaf, for a plant with so many rows.
 fn found(
     alloc: Global,
     plant: Plant,
     laws: LawTable,
-    tree: Tree,
+    leaf: Node,
+    rows: usize,
 ) -> Option<Result<Answer, CheckError>>
     requires laws { All (IsLawFor plant) laws }
-    requires nodes { All (IsNodeFor 1 (length laws)) tree }
-    requires complete { IsTree tree }
+    requires node { IsNodeFor 1 (length laws) leaf }
+    requires certs { HaveCerts 1 rows (0 ∷ []) (leaf ∷ []) }
+    requires leaf { IsLeaf leaf }
 {
-    if plant.n != 1 || laws.len() > 1000 {
+    if plant.n != 1 || plant.horizon != 1 || laws.len() > 1000 {
         return None;
     }
+    if rows != plant.rows.len() + plant.terminal.len() {
+        return None;
+    }
+    let mut tree = Tree::new(alloc);
+    let Ok(()) = tree.push(leaf) else {
+        return None;
+    };
     let Ok(controller) = Controller::seal(alloc, plant, laws, tree) else {
         return None;
     };
     Some(check(alloc, &controller))
 }
 
-/// The laws of no row, of the bound above and of that below; the second with this move and multiplier.
-fn add_three_laws(
-    alloc: Global,
-    plant: &Plant,
-    laws: &mut LawTable,
-    above: (i64, i64),
-) -> Option<()>
-    requires { All (IsLawFor plant.now) laws.old }
-    ensures { IfSome result (λ _. All (IsLawFor plant.now) laws.new) }
-{
+/// The file of `x[k+1] = x[k] + u[k]`, one step, without rows.
+const FREE: &[u8] =
+    b"{\"version\":1,\"horizon\":1,\"A\":[[1]],\"B\":[[1]],\"Q\":[[1]],\"R\":[[1]],\"P\":[[1]],\"grid\":[{\"low\":-4,\"step\":1,\"count\":8}]}";
+
+/// The same, where the weight of the move makes the cost indefinite.
+const INDEFINITE: &[u8] =
+    b"{\"version\":1,\"horizon\":1,\"A\":[[1]],\"B\":[[1]],\"Q\":[[1]],\"R\":[[-1]],\"P\":[[1]],\"grid\":[{\"low\":-4,\"step\":1,\"count\":8}]}";
+
+/// The same with a row that always holds.
+const IDLE: &[u8] =
+    b"{\"version\":1,\"horizon\":1,\"A\":[[1]],\"B\":[[1]],\"Q\":[[1]],\"R\":[[1]],\"P\":[[1]],\"rows\":[{\"max\":1}],\"grid\":[{\"low\":-4,\"step\":1,\"count\":8}]}";
+
+/// The same with u <= 1.
+const BOUNDED: &[u8] =
+    b"{\"version\":1,\"horizon\":1,\"A\":[[1]],\"B\":[[1]],\"Q\":[[1]],\"R\":[[1]],\"P\":[[1]],\"rows\":[{\"u\":[1],\"max\":1}],\"grid\":[{\"low\":-4,\"step\":1,\"count\":8}]}";
+
+/// The same with u <= -1 and -u <= -1.
+const EMPTY: &[u8] =
+    b"{\"version\":1,\"horizon\":1,\"A\":[[1]],\"B\":[[1]],\"Q\":[[1]],\"R\":[[1]],\"P\":[[1]],\"rows\":[{\"u\":[1],\"max\":-1},{\"u\":[-1],\"max\":-1}],\"grid\":[{\"low\":-4,\"step\":1,\"count\":8}]}";
+
+/// The one law of no row, with the move `2 + slope t`, for a plant without rows.
+fn free(alloc: Global, file: &[u8], slope: Frac) -> Option<Result<Answer, CheckError>> {
+    let plant = read_plant(alloc, file).ok()?;
+    let mut laws = LawTable::new(alloc);
+    add_law(alloc, &plant, &mut laws, 0, 2, slope, (0, 0))?;
+    let leaf = leaf(alloc, &laws)?;
+    found(alloc, plant, laws, leaf, 0)
+}
+
+/// The same with the row that always holds, and a certificate at this position.
+fn idle(alloc: Global, position: u64) -> Option<Result<Answer, CheckError>> {
+    let plant = read_plant(alloc, IDLE).ok()?;
     let half = Frac::new(-1, 2).ok()?;
-    add_law(alloc, plant, laws, 0, 2, half, (0, 0))?;
-    add_law(
-        alloc,
-        plant,
-        laws,
-        1,
-        above.0,
-        Frac::whole(0),
-        (above.1, -1),
-    )?;
-    add_law(alloc, plant, laws, 2, -1, Frac::whole(0), (-6, 1))
+    let mut laws = LawTable::new(alloc);
+    add_law(alloc, &plant, &mut laws, 0, 2, half, (0, 0))?;
+    let leaf = leaf_with(alloc, &laws, cert(alloc, position, 0)?)?;
+    found(alloc, plant, laws, leaf, 1)
 }
 
-/// The file of `x[k+1] = x[k] + u[k]`, one step, |u| <= 1.
-const INPUT: &[u8] =
-    b"{\"version\":1,\"horizon\":1,\"A\":[[1]],\"B\":[[1]],\"Q\":[[1]],\"R\":[[1]],\"P\":[[1]],\"rows\":[{\"u\":[1],\"max\":1},{\"u\":[-1],\"max\":1}],\"grid\":[{\"low\":-4,\"step\":1,\"count\":8}]}";
-
-/// Its controller: the moves are 1 up to 2, -1 from 6 on.
-fn bounded_input(
-    alloc: Global,
-    file: &[u8],
-    above: (i64, i64),
-    last: u64,
-) -> Option<Result<Answer, CheckError>> {
-    let plant = read_plant(alloc, file).ok()?;
+/// The law of the bound, with the move 2 and the multiplier `-t`.
+fn bounded(alloc: Global) -> Option<Result<Answer, CheckError>> {
+    let plant = read_plant(alloc, BOUNDED).ok()?;
     let mut laws = LawTable::new(alloc);
-    add_three_laws(alloc, &plant, &mut laws, above)?;
-    let first = certs(alloc, &[(3, last), (4, 5)])?;
-    let second = certs(alloc, &[(5, 0), (4, 5)])?;
-    let third = certs(alloc, &[(3, 4), (4, 0)])?;
-    let mut tree = Tree::new(alloc);
-    add_split(alloc, &mut tree, &laws, 1, -1, -2)?;
-    add_split(alloc, &mut tree, &laws, 2, 1, 6)?;
-    add_leaf(&mut tree, &laws, 3, 1, first)?;
-    add_leaf(&mut tree, &laws, 2, 3, second)?;
-    add_leaf(&mut tree, &laws, 1, 2, third)?;
-    found(alloc, plant, laws, tree)
+    add_law(alloc, &plant, &mut laws, 1, 2, Frac::whole(0), (0, -1))?;
+    let leaf = leaf_with(alloc, &laws, cert(alloc, 3, 0)?)?;
+    found(alloc, plant, laws, leaf, 1)
 }
 
-/// The same with |x| <= 1 at the end.
-fn bounded_end(alloc: Global, last: u64) -> Option<Result<Answer, CheckError>> {
-    let file =
-        b"{\"version\":1,\"horizon\":1,\"A\":[[1]],\"B\":[[1]],\"Q\":[[1]],\"R\":[[1]],\"P\":[[1]],\"rows\":[{\"u\":[1],\"max\":1},{\"u\":[-1],\"max\":1}],\"terminal\":[{\"x\":[1],\"max\":1},{\"x\":[-1],\"max\":1}],\"grid\":[{\"low\":-4,\"step\":1,\"count\":8}]}";
-    let plant = read_plant(alloc, file).ok()?;
-    let mut laws = LawTable::new(alloc);
-    add_three_laws(alloc, &plant, &mut laws, (1, 2))?;
-    add_law(alloc, &plant, &mut laws, 3, 5, Frac::whole(-1), (-6, 1))?;
-    add_law(alloc, &plant, &mut laws, 4, 3, Frac::whole(-1), (2, -1))?;
-    let inner = certs(alloc, &[(3, 5), (4, 5), (4, 5), (3, 5)])?;
-    let above = cert(alloc, 4, 6, last)?;
-    let below = cert(alloc, 3, 4, 7)?;
-    let mut tree = Tree::new(alloc);
-    add_split(alloc, &mut tree, &laws, 1, -1, -2)?;
-    add_split(alloc, &mut tree, &laws, 2, 1, 6)?;
-    add_leaf(&mut tree, &laws, 3, 1, inner)?;
-    add_bare_leaf(&mut tree, &laws, 2, above)?;
-    add_bare_leaf(&mut tree, &laws, 1, below)?;
-    found(alloc, plant, laws, tree)
+/// No law, and a certificate at these positions that nothing is admissible.
+fn empty(alloc: Global, first: u64, second: u64) -> Option<Result<Answer, CheckError>> {
+    let plant = read_plant(alloc, EMPTY).ok()?;
+    let laws = LawTable::new(alloc);
+    let leaf = bare_leaf(&laws, cert(alloc, first, second)?)?;
+    found(alloc, plant, laws, leaf, 2)
 }
 
 /// Whether this was found.
@@ -295,41 +271,37 @@ fn is_not_definite(found: &Result<Answer, CheckError>, pivot: u32) -> bool {
 #[test]
 fn accepts(rt: HostRuntime) -> Result<(), Fail> {
     let alloc = rt.alloc();
-    let input = bounded_input(alloc, INPUT, (1, 2), 5).ok_or("no controller")?;
-    assert!(rt; is(&input, Answer::Accepted));
-    let end = bounded_end(alloc, 7).ok_or("no controller")?;
-    assert!(rt; is(&end, Answer::Accepted));
+    let half = Frac::new(-1, 2)?;
+    assert!(rt; is(&free(alloc, FREE, half).ok_or("none")?, Answer::Accepted));
+    assert!(rt; is(&idle(alloc, 3).ok_or("none")?, Answer::Accepted));
+    assert!(rt; is(&empty(alloc, 3, 4).ok_or("none")?, Answer::Accepted));
     Ok(())
 }
 
 #[test]
 fn refuses_laws(rt: HostRuntime) -> Result<(), Fail> {
     let alloc = rt.alloc();
-    let line = bounded_input(alloc, INPUT, (1, 3), 5).ok_or("no controller")?;
-    assert!(rt; is(&line, Answer::Refused(Spot::Stationary { law: 2, line: 1 })));
-    let member = bounded_input(alloc, INPUT, (2, 0), 5).ok_or("no controller")?;
-    assert!(rt; is(&member, Answer::Refused(Spot::Active { law: 2, row: 1 })));
+    let line = free(alloc, FREE, Frac::new(-1, 3)?).ok_or("none")?;
+    assert!(rt; is(&line, Answer::Refused(Spot::Stationary { law: 1, line: 1 })));
+    let member = bounded(alloc).ok_or("none")?;
+    assert!(rt; is(&member, Answer::Refused(Spot::Active { law: 1, row: 1 })));
     Ok(())
 }
 
 #[test]
 fn refuses_leaves(rt: HostRuntime) -> Result<(), Fail> {
     let alloc = rt.alloc();
-    let other = bounded_input(alloc, INPUT, (1, 2), 4).ok_or("no controller")?;
-    assert!(rt; is(&other, Answer::Refused(Spot::LeafRow { node: 3, row: 1 })));
-    let beyond = bounded_input(alloc, INPUT, (1, 2), 6).ok_or("no controller")?;
-    assert!(rt; is(&beyond, Answer::Refused(Spot::LeafRow { node: 3, row: 1 })));
-    let short = bounded_end(alloc, 0).ok_or("no controller")?;
-    assert!(rt; is(&short, Answer::Refused(Spot::Leaf { node: 4 })));
+    let other = idle(alloc, 1).ok_or("none")?;
+    assert!(rt; is(&other, Answer::Refused(Spot::LeafRow { node: 1, row: 1 })));
+    let short = empty(alloc, 3, 0).ok_or("none")?;
+    assert!(rt; is(&short, Answer::Refused(Spot::Leaf { node: 1 })));
     Ok(())
 }
 
 #[test]
 fn finds_bad_pivots(rt: HostRuntime) -> Result<(), Fail> {
-    let alloc = rt.alloc();
-    let file =
-        b"{\"version\":1,\"horizon\":1,\"A\":[[1]],\"B\":[[1]],\"Q\":[[1]],\"R\":[[-1]],\"P\":[[1]],\"rows\":[{\"u\":[1],\"max\":1},{\"u\":[-1],\"max\":1}],\"grid\":[{\"low\":-4,\"step\":1,\"count\":8}]}";
-    let found = bounded_input(alloc, file, (1, 2), 5).ok_or("no controller")?;
+    let half = Frac::new(-1, 2)?;
+    let found = free(rt.alloc(), INDEFINITE, half).ok_or("none")?;
     assert!(rt; is_not_definite(&found, 1));
     Ok(())
 }
