@@ -1,0 +1,5 @@
+pub mod NumeralLemmas
+pub mod LineLemmas
+pub mod ReadLemmas
+pub mod IntegerLemmas
+pub mod FractionLemmas
