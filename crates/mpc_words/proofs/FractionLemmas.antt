@@ -1,22 +1,19 @@
 -- The texts of fractions.
-use Rattle.std.proofs.Common.{◌≡◌, ◌≢◌, ℕ, zero, suc, ◌+◌, ◌^◌, ◌<◌, ◌≤◌, Bool, true, false, cond, eqb, List, [], ◌∷◌, ◌++◌, length, ℤ, pos, unsigned_abs, decimal, codes, Option, Some, None, MatchOption, Result, Err, refl, sym, ap, ◌∙◌, subst, arith, lit<, ◌⊎◌, ⊎_elim, append_assoc, length-append}
+use Rattle.std.proofs.Common.{◌≡◌, ◌≢◌, ℕ, zero, suc, ◌^◌, ◌<◌, false, eqb, List, ◌∷◌, ◌++◌, ℤ, pos, unsigned_abs, decimal, codes, Option, Some, None, MatchOption, Result, Err, refl, sym, ap, ◌∙◌, subst, arith, lit<, ⊎_elim, append_assoc, length-append}
 use Rattle.std.specs.Fmt.{signed_decimal}
-use Rattle.std.specs.List.{slice_split, join_with_byte}
 use Rattle.std.proofs.lemmas.Bool.{eq-eqb, ne_eqb, cond-true, cond-false, cases_eq}
-use Rattle.std.proofs.lemmas.List.Elements.{All-append, All-cons, All-head, All-tail}
-use Rattle.std.proofs.lemmas.List.Splits.{slice_split_at, join_with_byte-slice_split}
+use Rattle.std.proofs.lemmas.List.Elements.{All-append, All-cons}
 use Rattle.mpc_exact.specs.Rational.{ℚ, quotient, frac_self, denom_positive, same_parts}
 use Rattle.mpc_frac.specs.Fits.{FitsFrac}
 use Rattle.mpc_frac.specs.Text.{text_of}
 use Rattle.mpc_frac.specs.declared.FracError.{FracError}
 use Rattle.mpc_frac.specs.declared.FracError.TheVariants.{ZeroDenominator, Wide}
 use Rattle.mpc_frac.proofs.FracParts.{quotient_from}
-use Rattle.mpc_words.specs.Numerals.{numeral}
 use Rattle.mpc_words.specs.Words.{IsWithout, IsCutAt, IsWord}
 use Rattle.mpc_words.specs.Spelled.{SpellsBelow, SpellsInteger, SpellsFraction, SpellsWhole, SpellsRatio, HasParts}
 use Rattle.mpc_words.proofs.LineLemmas.{has_byte, same_front, same_back}
-use Rattle.mpc_words.proofs.NumeralLemmas.{printed, one_number}
-use Rattle.mpc_words.proofs.IntegerLemmas.{signed_word, signed_without, signed_without_slash, one_integer, one_spelled, printed_small, decimal_without}
+use Rattle.mpc_words.proofs.NumeralLemmas.{one_number}
+use Rattle.mpc_words.proofs.IntegerLemmas.{signed_word, signed_without, signed_without_slash, one_spelled, printed_small, decimal_without}
 
 -- ---- the parts of a quotient
 no_zero : (d : ℕ) → 0 < d → pos d ≢ pos 0

@@ -1,10 +1,10 @@
 -- The words of a line are its parts between the blanks, and no others.
-use Rattle.std.proofs.Common.{◌≡◌, ℕ, Bool, true, false, eqb, List, [], ◌∷◌, ◌++◌, length, refl, sym, ap, ◌∙◌, subst, append-nil}
+use Rattle.std.proofs.Common.{◌≡◌, ℕ, Bool, true, false, eqb, List, [], ◌∷◌, ◌++◌, refl, sym, ap, ◌∙◌, subst, append-nil}
 use Rattle.std.specs.List.{All, slice_split, join_with_byte}
 use Rattle.std.proofs.lemmas.List.Splits.{slice_split_at, slice_split_none, join_with_byte-slice_split}
 use Rattle.std.proofs.lemmas.List.Elements.{All-nil, All-cons, All-head, All-tail}
 use Rattle.std.proofs.lemmas.Bool.{eqb-true, eq-eqb}
-use Rattle.mpc_words.specs.Words.{IsWithout, IsCutAt, IsLineOf, behind_blanks, line, words_of}
+use Rattle.mpc_words.specs.Words.{IsWithout, IsCutAt, IsLineOf, line, words_of}
 
 pub words-cut : (text before behind : List ℕ) → IsCutAt 32 text before behind → words_of text ≡ before ∷ words_of behind
 words-cut text before behind h = ap words_of h.joined ∙ slice_split_at (λ c. eqb c 32) before 32 behind h.first refl

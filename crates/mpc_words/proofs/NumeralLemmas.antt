@@ -1,5 +1,5 @@
 -- Numerals: how they grow by a digit, which number their digits stand for, and that such digits are a numeral.
-use Rattle.std.proofs.Common.{◌≡◌, ◌≢◌, ℕ, zero, suc, ◌+◌, ◌-◌, ◌*◌, ◌/◌, ◌%◌, ◌^◌, ◌<◌, ◌≤◌, Bool, true, false, cond, ◌&&◌, eqb, ltb, List, [], ◌∷◌, ◌++◌, map, length, get_or, take, slice_index, refl, sym, ap, ◌∙◌, subst, arith, ◌⊎◌, inl, inr, ⊎_elim, decimal, append_assoc, append-nil, length-append, lit<, lit≤, tests, rules}
+use Rattle.std.proofs.Common.{◌≡◌, ◌≢◌, ℕ, zero, suc, ◌+◌, ◌-◌, ◌*◌, ◌/◌, ◌%◌, ◌^◌, ◌<◌, ◌≤◌, Bool, true, false, cond, ◌&&◌, eqb, ltb, List, [], ◌∷◌, ◌++◌, map, length, get_or, take, refl, sym, ap, ◌∙◌, subst, arith, ◌⊎◌, inl, inr, ⊎_elim, decimal, append_assoc, append-nil, length-append, lit<, lit≤, rules}
 use Rattle.std.specs.Int.{IsInRange}
 use Rattle.std.specs.Int.Digits.{digits_of}
 use Rattle.std.specs.List.{list_all}
@@ -8,9 +8,9 @@ use Rattle.std.specs.Str.Parse.{AllDigits, digits_value, digits_value_after}
 use Rattle.std.proofs.lemmas.Int.Digits.{digits_of_step, digits_value_push, digits_push, digits_value_more}
 use Rattle.std.proofs.lemmas.List.{map-append}
 use Rattle.std.proofs.lemmas.Fmt.{decimal_by_steps_wide}
-use Rattle.std.proofs.lemmas.Str.{digit_value-digit_char, digit_value_digit}
+use Rattle.std.proofs.lemmas.Str.{digit_value_digit}
 use Rattle.std.proofs.lemmas.Str.Parse.{digit_from_value, digit_at, digits_value-take-le, IsDigitsTest, IsNumeralModel, numerals_by_value}
-use Rattle.std.proofs.lemmas.Bool.{cases_lt, lt-ltb, eqb-true, eqb-false, ne_eqb, false≢true, and_from, and_parts, eq-eqb, cond-true, cond-false}
+use Rattle.std.proofs.lemmas.Bool.{cases_lt, lt-ltb, eqb-true, eqb-false, ne_eqb, false≢true, and_from, and_parts, cond-false}
 use Rattle.std.proofs.lemmas.List.Elements.{All-nil, All-cons}
 use Rattle.mpc_words.specs.Numerals.{numeral, is_numeral}
 use Rattle.mpc_words.specs.Words.{IsWithout, IsWord}
@@ -128,52 +128,40 @@ spelled_from_first c cs ne h =
     ∙ ap (λ ds. ds ++ cs) (ap numeral value ∙ numeral_digit (digit_value c) h.0 ∙ ap (λ d. d ∷ []) at)
 
 -- ---- the test
-all_digits : (cs : List ℕ) → list_all is_ascii_digit cs ≡ true → AllDigits 10 cs
-all_digits = own.to
-  where
-    test : IsDigitsTest (λ ds. list_all is_ascii_digit ds ≡ true)
-    test = search rules
+test_is_of_digits : IsDigitsTest (λ ds. list_all is_ascii_digit ds ≡ true)
+test_is_of_digits = search rules
 
-    own : IsNumeralModel (λ ds. list_all is_ascii_digit ds ≡ true) (digits_value 10)
-    own = numerals_by_value (λ ds. list_all is_ascii_digit ds ≡ true) test
+digits_by_test : IsNumeralModel (λ ds. list_all is_ascii_digit ds ≡ true) (digits_value 10)
+digits_by_test = numerals_by_value (λ ds. list_all is_ascii_digit ds ≡ true) test_is_of_digits
 
--- all are digits, and the first is no zero in front
-record IsGood (word : List ℕ) : Type 0 where
+-- a word of digits is the numeral of the number that they stand for
+record IsOwnNumeral (word : List ℕ) : Type 0 where
   digits : AllDigits 10 word
   spelled : word ≡ numeral (digits_value 10 word)
 
-zero_alone : (c : ℕ) (cs : List ℕ) → c ≡ 48 → length (c ∷ cs) ≡ 1 → IsGood (c ∷ cs)
-zero_alone c [] e one = subst (λ d. IsGood (d ∷ [])) (sym e) (record { digits = (lit< tt, tt); spelled = sym (numeral_digit 0 (lit< tt)) })
+zero_alone : (c : ℕ) (cs : List ℕ) → c ≡ 48 → length (c ∷ cs) ≡ 1 → IsOwnNumeral (c ∷ cs)
+zero_alone c [] e one = subst (λ d. IsOwnNumeral (d ∷ [])) (sym e) (record { digits = (lit< tt, tt); spelled = sym (numeral_digit 0 (lit< tt)) })
 zero_alone c (d ∷ cs) e one = absurd (omega arith)
 
-good_at : (c : ℕ) (cs : List ℕ) (b : Bool) → eqb c 48 ≡ b → cond b (eqb (length (c ∷ cs)) 1) (ltb 0 (length (c ∷ cs)) && list_all is_ascii_digit (c ∷ cs)) ≡ true → IsGood (c ∷ cs)
-good_at c cs true e h = zero_alone c cs (eqb-true c 48 e) (eqb-true (length (c ∷ cs)) 1 h)
-good_at c cs false e h =
-    let digits : AllDigits 10 (c ∷ cs) = all_digits (c ∷ cs) (and_parts (ltb 0 (length (c ∷ cs))) (list_all is_ascii_digit (c ∷ cs)) h).1 in
+own_numeral_at : (c : ℕ) (cs : List ℕ) (b : Bool) → eqb c 48 ≡ b → cond b (eqb (length (c ∷ cs)) 1) (ltb 0 (length (c ∷ cs)) && list_all is_ascii_digit (c ∷ cs)) ≡ true → IsOwnNumeral (c ∷ cs)
+own_numeral_at c cs true e h = zero_alone c cs (eqb-true c 48 e) (eqb-true (length (c ∷ cs)) 1 h)
+own_numeral_at c cs false e h =
+    let digits : AllDigits 10 (c ∷ cs) = digits_by_test.to (c ∷ cs) (and_parts (ltb 0 (length (c ∷ cs))) (list_all is_ascii_digit (c ∷ cs)) h).1 in
     record { digits = digits; spelled = sym (spelled_from_first c cs (eqb-false c 48 e) digits) }
 
-good : (word : List ℕ) → is_numeral word ≡ true → IsGood word
-good [] h = cc
-good (c ∷ cs) h = good_at c cs (eqb c 48) refl h
+own_numeral : (word : List ℕ) → is_numeral word ≡ true → IsOwnNumeral word
+own_numeral [] h = cc
+own_numeral (c ∷ cs) h = own_numeral_at c cs (eqb c 48) refl h
 
 pub digits_of_numeral : (word : List ℕ) → is_numeral word ≡ true → AllDigits 10 word
-digits_of_numeral word h = (good word h).digits
+digits_of_numeral word h = (own_numeral word h).digits
 
 pub spelled_numeral : (word : List ℕ) → is_numeral word ≡ true → word ≡ numeral (digits_value 10 word)
-spelled_numeral word h = (good word h).spelled
-
-all_ascii : (cs : List ℕ) → AllDigits 10 cs → list_all is_ascii_digit cs ≡ true
-all_ascii = own.from
-  where
-    test : IsDigitsTest (λ ds. list_all is_ascii_digit ds ≡ true)
-    test = search rules
-
-    own : IsNumeralModel (λ ds. list_all is_ascii_digit ds ≡ true) (digits_value 10)
-    own = numerals_by_value (λ ds. list_all is_ascii_digit ds ≡ true) test
+spelled_numeral word h = (own_numeral word h).spelled
 
 passes : (n : ℕ) (ds : List ℕ) → AreDigitsOf n ds → (0 < n) ⊎ (n ≡ 0) → is_numeral ds ≡ true
 passes n ds h cases = ⊎_elim
-    (λ some. let ne : get_or ds 0 0 ≡ 48 → ⊥ = λ e. omega (arith, h.first some) in cond-false (eqb (get_or ds 0 0) 48) (eqb (length ds) 1) (ltb 0 (length ds) && list_all is_ascii_digit ds) (ne_eqb (get_or ds 0 0) 48 ne) ∙ and_from (ltb 0 (length ds)) (list_all is_ascii_digit ds) (lt-ltb 0 (length ds) h.some) (all_ascii ds h.digits))
+    (λ some. let ne : get_or ds 0 0 ≡ 48 → ⊥ = λ e. omega (arith, h.first some) in cond-false (eqb (get_or ds 0 0) 48) (eqb (length ds) 1) (ltb 0 (length ds) && list_all is_ascii_digit ds) (ne_eqb (get_or ds 0 0) 48 ne) ∙ and_from (ltb 0 (length ds)) (list_all is_ascii_digit ds) (lt-ltb 0 (length ds) h.some) (digits_by_test.from ds h.digits))
     (λ none. ap is_numeral (h.none none))
     cases
 

@@ -1,10 +1,10 @@
 -- Which number a numeral is, once the number of its digits is known below a limit.
-use Rattle.std.proofs.Common.{◌≡◌, ◌≢◌, ℕ, ◌^◌, ◌<◌, ◌≤◌, Bool, true, false, cond, ltb, List, Option, Some, None, MatchOption, refl, sym, ap, ◌∙◌, subst, arith}
+use Rattle.std.proofs.Common.{◌≡◌, ℕ, ◌^◌, ◌<◌, ◌≤◌, Bool, true, false, cond, ltb, List, Option, Some, None, MatchOption, refl, sym, ap, ◌∙◌, subst, arith}
 use Rattle.std.specs.Option.{SomeIff}
 use Rattle.std.specs.Str.Parse.{digits_value}
 use Rattle.std.proofs.lemmas.Bool.{ltb-true, ltb-false}
 use Rattle.mpc_words.specs.Numerals.{numeral, is_numeral}
-use Rattle.mpc_words.specs.Spelled.{SpellsBelow, SpellsFrom, SpellsNatural, PrintsNatural, in_64_bits}
+use Rattle.mpc_words.specs.Spelled.{SpellsBelow, SpellsNatural, PrintsNatural, in_64_bits}
 use Rattle.mpc_words.specs.declared.naturals.Natural.{Natural}
 use Rattle.mpc_words.specs.declared.naturals.Natural.TheVariants.{Small, Large, Misspelled}
 use Rattle.mpc_words.proofs.NumeralLemmas.{digits_are, spelled_numeral, no_numeral, printed, one_number}

@@ -1,5 +1,5 @@
 -- Texts cut at a byte, and lines cut into words: a line has a first word, and further words behind one blank each.
-use Rattle.std.specs.Prelude.{◌≡◌, ℕ, false, List, [], ◌∷◌, ◌++◌, length, ◌<◌, All, ◌==◌}
+use Rattle.std.specs.Prelude.{◌≡◌, ℕ, false, List, ◌∷◌, ◌++◌, length, ◌<◌, All, ◌==◌}
 use Rattle.std.specs.List.{flat_map, slice_split}
 
 -- the text hasn't such a byte

@@ -1,4 +1,4 @@
-use Rattle.std.proofs.Common.{rules, arith}
+use Rattle.std.proofs.Common.{arith}
 use Rattle.mpc_words.proofs.NumeralLemmas.{digit_low, next_value, too_large, next_too_large}
 use Rattle.mpc_words.proofs.naturals.small_value.Goals as goal
 
