@@ -1,5 +1,4 @@
 use crate::{Natural, next_line, read_fraction, read_integer, read_natural, split_word};
-use std::process::Abort;
 use std::test::Fail;
 
 /// Is this the fraction num/den?
