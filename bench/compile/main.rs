@@ -1,6 +1,6 @@
 // Times the phases from a plant file to a reply: each phase by the least time of the runs that end behind it, less that of the runs that
 // end before it. The arguments name files with a plant, the line `states` and a line of counts.
-#[path = "../shared/timing.rs"]
+#[path = "../common/timing.rs"]
 #[allow(dead_code)]
 mod timing;
 

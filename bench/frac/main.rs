@@ -1,10 +1,10 @@
 // Compares the proved fractions with two plain Rust ones on the same random values: equal results
 // first, then nanoseconds an operation.
-#[path = "../shared/fractions.rs"]
+#[path = "../common/fractions.rs"]
 mod fractions;
-#[path = "../shared/parts.rs"]
+#[path = "../common/parts.rs"]
 mod parts;
-#[path = "../shared/timing.rs"]
+#[path = "../common/timing.rs"]
 mod timing;
 
 use fractions::{Fast, Frac, Plain, Rules, Wide, euclid, signed};

@@ -1,12 +1,12 @@
 // Compares the proved decisions of systems of rows with plain Rust ones and with stated results: equal answers first, then pivots a
 // second. The argument names the file of systems.
-#[path = "../shared/fractions.rs"]
+#[path = "../common/fractions.rs"]
 #[allow(dead_code)]
 mod fractions;
-#[path = "../shared/parts.rs"]
+#[path = "../common/parts.rs"]
 mod parts;
 mod plain;
-#[path = "../shared/timing.rs"]
+#[path = "../common/timing.rs"]
 mod timing;
 
 use fractions::{Frac, euclid};
