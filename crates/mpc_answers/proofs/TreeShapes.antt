@@ -12,7 +12,7 @@ use Rattle.mpc_rows.specs.declared.programs.Qp.{Qp}
 use Rattle.mpc_rows.specs.declared.laws.Law.{Law as LawOfSet}
 use Rattle.mpc_rows.specs.declared.trees.Node.{Node}
 use Rattle.mpc_rows.specs.declared.trees.Node.TheVariants.{Split, Law, NoMove}
-use Rattle.mpc_rows.specs.Program.{IsOfShape}
+use Rattle.mpc_linear.specs.Shape.{HasShape}
 use Rattle.mpc_rows.specs.Laws.{HasLawShape}
 use Rattle.mpc_rows.specs.Candidates.{IsTable}
 use Rattle.mpc_rows.specs.SetRuns.{LawRowsFit}
@@ -34,8 +34,8 @@ module _ (qp : Qp) (plant : Plant) (condensed : IsCondensed qp plant) where
   law_for law s = record {
     set_of_rows = subst (λ n. IsSetOfRows n law.set) condensed.rows_are s.set_of_rows;
     few = subst (λ n. length law.set ≤ n) condensed.unknowns_are s.few;
-    moves_shape = subst (λ m. IsOfShape law.moves m (plant.n + 1)) condensed.unknowns_are (subst (λ n. IsOfShape law.moves (height qp.h) (n + 1)) states s.moves_shape);
-    mults_shape = subst (λ n. IsOfShape law.mults (length law.set) (n + 1)) states s.mults_shape;
+    moves_shape = subst (λ m. HasShape law.moves m (plant.n + 1)) condensed.unknowns_are (subst (λ n. HasShape law.moves (height qp.h) (n + 1)) states s.moves_shape);
+    mults_shape = subst (λ n. HasShape law.mults (length law.set) (n + 1)) states s.mults_shape;
   }
 
   module _ (laws : List LawOfSet) (table : IsTable qp laws) (fit : (law : LawOfSet) → Contains laws law → LawRowsFit qp law (height qp.g)) where

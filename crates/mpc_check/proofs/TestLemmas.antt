@@ -6,7 +6,7 @@ use Rattle.mpc_exact.specs.Rational.{ℚ, int}
 use Rattle.mpc_exact.proofs.OrderLaws.{one-not_zero}
 use Rattle.mpc_plant.specs.declared.plants.Plant.{Plant}
 use Rattle.mpc_sets.specs.RowSet.{RisesWithin, IsSetOfRows}
-use Rattle.mpc_rows.specs.Program.{IsOfShape}
+use Rattle.mpc_linear.specs.Shape.{HasShape}
 use Rattle.mpc_rows.specs.Certificates.{IsCert}
 use Rattle.mpc_rows.specs.declared.laws.Law.{Law as LawOfSet}
 use Rattle.mpc_rows.specs.declared.trees.Node.{Node}
@@ -24,7 +24,7 @@ rises_more : (low high more : ℕ) (s : List ℕ) → high ≤ more → RisesWit
 rises_more low high more [] le h = tt
 rises_more low high more (i ∷ s) le h = (h.0, (let at = h.1 in omega arith), rises_more i high more s le h.2)
 
-pub law_for : (plant : Plant) (law : LawOfSet) (member : ℕ) → plant.n ≡ 1 → plant.p ≡ 1 → plant.horizon ≡ 1 → member ≤ length plant.rows + length plant.terminal → IsSetOfRows member law.set → length law.set ≤ 1 → IsOfShape law.moves 1 2 → IsOfShape law.mults (length law.set) 2 → IsLawFor plant law
+pub law_for : (plant : Plant) (law : LawOfSet) (member : ℕ) → plant.n ≡ 1 → plant.p ≡ 1 → plant.horizon ≡ 1 → member ≤ length plant.rows + length plant.terminal → IsSetOfRows member law.set → length law.set ≤ 1 → HasShape law.moves 1 2 → HasShape law.mults (length law.set) 2 → IsLawFor plant law
 law_for plant law member n p horizon within set few moves mults =
     let rows : row_count plant ≡ length plant.rows + length plant.terminal = (λ i. horizon i * length plant.rows + length plant.terminal) ∙ one (length plant.rows) (length plant.terminal) in
     let unknowns : 1 ≡ plant.p * plant.horizon = λ i. sym p i * sym horizon i in
@@ -32,8 +32,8 @@ law_for plant law member n p horizon within set few moves mults =
     record {
       set_of_rows = record { rises = rises_more 0 member (row_count plant) law.set (subst (λ m. member ≤ m) (sym rows) within) set.rises };
       few = subst (λ m. length law.set ≤ m) unknowns few;
-      moves_shape = subst (λ k. IsOfShape law.moves (plant.p * plant.horizon) k) columns (subst (λ m. IsOfShape law.moves m 2) unknowns moves);
-      mults_shape = subst (IsOfShape law.mults (length law.set)) columns mults;
+      moves_shape = subst (λ k. HasShape law.moves (plant.p * plant.horizon) k) columns (subst (λ m. HasShape law.moves m 2) unknowns moves);
+      mults_shape = subst (HasShape law.mults (length law.set)) columns mults;
     }
   where
     one : (a b : ℕ) → 1 * a + b ≡ a + b

@@ -1,7 +1,7 @@
 //! Controllers of one input, one step and one coordinate, whose tree is one leaf.
 
 ghost use Rattle.std.specs.Prelude.{◌≡◌, ◌<◌, ◌≤◌, [], ◌∷◌, All, length, IfSome, IfOk, IsTrue};
-ghost use Rattle.mpc_rows.specs.Program.{IsOfShape};
+ghost use Rattle.mpc_linear.specs.Shape.{HasShape};
 ghost use Rattle.mpc_sets.specs.RowSet.{IsSetOfRows};
 ghost use Rattle.mpc_file.specs.Parts.{IsLawFor, IsNodeFor};
 ghost use Rattle.mpc_file.specs.Certificates.{IsCertOver, HaveCerts};
@@ -20,7 +20,7 @@ use std::test::Fail;
 
 /// A matrix of one row.
 fn one_row(alloc: Global, first: Frac, second: Frac) -> Result<Matrix, NoMemory>
-    ensures { IfOk result (λ m. IsOfShape m 1 2) }
+    ensures { IfOk result (λ m. HasShape m 1 2) }
 {
     let mut matrix = Matrix::zero(alloc, 1, 2)?;
     matrix.set(0, 0, first);
@@ -32,7 +32,7 @@ fn one_row(alloc: Global, first: Frac, second: Frac) -> Result<Matrix, NoMemory>
 
 /// A matrix without rows in two columns.
 fn no_row(alloc: Global) -> Result<Matrix, NoMemory>
-    ensures { IfOk result (λ m. IsOfShape m 0 2) }
+    ensures { IfOk result (λ m. HasShape m 0 2) }
 {
     let matrix = Matrix::zero(alloc, 0, 2)?;
     prove!(matrix.rows() == 0);
@@ -43,7 +43,7 @@ fn no_row(alloc: Global) -> Result<Matrix, NoMemory>
 /// An affine form for each member of a set of at most one.
 fn forms(alloc: Global, members: u32, constant: i64, slope: i64) -> Result<Matrix, NoMemory>
     requires { members ≤ 1 }
-    ensures { IfOk result (λ m. IsOfShape m members 2) }
+    ensures { IfOk result (λ m. HasShape m members 2) }
 {
     if members == 0 {
         return no_row(alloc);

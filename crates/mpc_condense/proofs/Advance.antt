@@ -14,7 +14,7 @@ use Rattle.mpc_linear.specs.Dot.{DotFits}
 use Rattle.mpc_linear.specs.Entries.{with_entry, zero_matrix}
 use Rattle.mpc_plant.specs.declared.lists.Coordinate.{Coordinate}
 use Rattle.mpc_plant.specs.declared.plants.Plant.{Plant}
-use Rattle.mpc_plant.specs.Limits.{HasShape}
+use Rattle.mpc_linear.specs.Shape.{HasShape}
 use Rattle.mpc_condense.specs.Motion.{first_move, lows, steps, first_entry, motion, StateFits}
 use Rattle.mpc_condense.specs.Blocks.{row_at, WritesBlock, AllInBlock}
 use Rattle.mpc_condense.specs.Stages.{IsMotion}

@@ -12,7 +12,8 @@ use Rattle.mpc_space.proofs.Entries.{coordinate_past}
 use Rattle.mpc_plant.specs.declared.lists.PlantRow.{PlantRow}
 use Rattle.mpc_plant.specs.declared.lists.Coordinate.{Coordinate}
 use Rattle.mpc_plant.specs.declared.plants.Plant.{Plant}
-use Rattle.mpc_plant.specs.Limits.{HasShape, FitsRow}
+use Rattle.mpc_plant.specs.Limits.{FitsRow}
+use Rattle.mpc_linear.specs.Shape.{HasShape}
 use Rattle.mpc_plant.specs.Trajectory.{IsSequence, move_at, state_at}
 use Rattle.mpc_rows.specs.declared.programs.Qp.{Qp}
 use Rattle.mpc_condense.specs.Condensed.{counts_of, stage_row, terminal_row, HasRoom, IsCondensed}

@@ -13,7 +13,7 @@ use Rattle.mpc_linear.specs.Dot.{DotFits}
 use Rattle.mpc_linear.specs.Entries.{zero_matrix}
 use Rattle.mpc_plant.specs.declared.lists.PlantRow.{PlantRow}
 use Rattle.mpc_plant.specs.declared.plants.Plant.{Plant}
-use Rattle.mpc_plant.specs.Limits.{HasShape}
+use Rattle.mpc_linear.specs.Shape.{HasShape}
 use Rattle.mpc_condense.specs.Motion.{motion, bound_of, RowFits}
 use Rattle.mpc_condense.specs.Blocks.{row_at, IsInBlock, WritesBlock, AllInBlock}
 use Rattle.mpc_condense.specs.Stages.{IsMotion, IsRow}

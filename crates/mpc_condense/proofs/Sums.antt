@@ -12,7 +12,7 @@ use Rattle.mpc_space.proofs.Matrix.{length-mat_vec, coordinate-mat_vec}
 use Rattle.mpc_linear.specs.Dot.{DotFits}
 use Rattle.mpc_linear.specs.Entries.{zero_matrix}
 use Rattle.mpc_plant.specs.declared.plants.Plant.{Plant}
-use Rattle.mpc_plant.specs.Limits.{HasShape}
+use Rattle.mpc_linear.specs.Shape.{HasShape}
 use Rattle.mpc_condense.specs.Motion.{first_move, motion, weight_at, weighted, gram, is_move, move_weight, kernel, kernel_with, IsKept, WeightsFit, SumsFit, MovesFit, CostFits}
 use Rattle.mpc_condense.specs.Causes.{CostsFit}
 use Rattle.mpc_condense.specs.Blocks.{row_at, IsInBlock, WritesBlock, AllInBlock}

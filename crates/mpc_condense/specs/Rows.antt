@@ -5,7 +5,7 @@ use Rattle.mpc_space.specs.Vector.{coordinate, dot}
 use Rattle.mpc_space.specs.Matrix.{RationalMatrix, entry}
 use Rattle.mpc_plant.specs.declared.lists.PlantRow.{PlantRow}
 use Rattle.mpc_plant.specs.declared.plants.Plant.{Plant}
-use Rattle.mpc_plant.specs.Limits.{HasShape}
+use Rattle.mpc_linear.specs.Shape.{HasShape}
 use Rattle.mpc_condense.specs.Motion.{motion, bound_of}
 use Rattle.mpc_condense.specs.Blocks.{row_at}
 use Rattle.mpc_condense.specs.Stages.{IsRow}

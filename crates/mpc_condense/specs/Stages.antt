@@ -4,7 +4,7 @@ use Rattle.mpc_exact.specs.Rational.{ℚ}
 use Rattle.mpc_space.specs.Matrix.{RationalMatrix, entry}
 use Rattle.mpc_plant.specs.declared.lists.PlantRow.{PlantRow}
 use Rattle.mpc_plant.specs.declared.plants.Plant.{Plant}
-use Rattle.mpc_plant.specs.Limits.{HasShape}
+use Rattle.mpc_linear.specs.Shape.{HasShape}
 use Rattle.mpc_condense.specs.Condensed.{stage_row, terminal_row}
 use Rattle.mpc_condense.specs.Motion.{motion, weighted}
 use Rattle.mpc_condense.specs.Blocks.{row_at}

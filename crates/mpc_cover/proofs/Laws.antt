@@ -9,7 +9,7 @@ use Rattle.mpc_space.specs.Matrix.{RationalMatrix, height}
 use Rattle.mpc_space.specs.Definite.{IsDefinite}
 use Rattle.mpc_space.proofs.Matrix.{length-column, height-tabled, rectangular-tabled, length-mat_vec}
 use Rattle.mpc_sets.specs.RowSet.{IsSetOfRows}
-use Rattle.mpc_rows.specs.Program.{IsOfShape}
+use Rattle.mpc_linear.specs.Shape.{HasShape}
 use Rattle.mpc_rows.specs.ActiveSets.{extended, row_of, rows_of, IsIndependentSet, MeetsEquations}
 use Rattle.mpc_rows.specs.Laws.{moves_at, mults_at, IsLaw}
 use Rattle.mpc_rows.specs.declared.programs.Qp.{Qp}
@@ -29,7 +29,7 @@ length-get n [] i h = omega arith
 length-get n (row ∷ rows) zero h = omega (arith, h.0)
 length-get n (row ∷ rows) (suc i) h = length-get n rows i h.1
 
-lengths : {m : RationalMatrix} {rows columns : ℕ} → IsOfShape m rows columns → AllByRecursion (λ row. length row ≡ columns) m.rows
+lengths : {m : RationalMatrix} {rows columns : ℕ} → HasShape m rows columns → AllByRecursion (λ row. length row ≡ columns) m.rows
 lengths {m} {rows} {columns} s = subst (λ c. AllByRecursion (λ row. length row ≡ c) m.rows) s.columns_are (recursion_from_All (λ row. length row ≡ m.columns) m.rows s.rectangular)
 
 module _ (qp : Qp) where

@@ -5,7 +5,7 @@ use Rattle.mpc_linear.specs.Whole.{DividesAll, AreSmall}
 use Rattle.mpc_sets.specs.RowSet.{IsSetOfRows}
 use Rattle.mpc_plant.specs.declared.plants.Plant.{Plant}
 use Rattle.mpc_plant.specs.Limits.{IsFromTo}
-use Rattle.mpc_rows.specs.Program.{IsOfShape}
+use Rattle.mpc_linear.specs.Shape.{HasShape}
 use Rattle.mpc_rows.specs.declared.laws.Law.{Law as LawOfSet}
 use Rattle.mpc_rows.specs.declared.trees.Node.{Node}
 use Rattle.mpc_rows.specs.declared.trees.Node.TheVariants.{Split, Law, NoMove}
@@ -30,8 +30,8 @@ row_count plant = plant.horizon * length plant.rows + length plant.terminal
 pub record IsLawFor (plant : Plant) (law : LawOfSet) : Type 0 where
   pub set_of_rows : IsSetOfRows (row_count plant) law.set
   pub few : length law.set ≤ plant.p * plant.horizon
-  pub moves_shape : IsOfShape law.moves (plant.p * plant.horizon) (plant.n + 1)
-  pub mults_shape : IsOfShape law.mults (length law.set) (plant.n + 1)
+  pub moves_shape : HasShape law.moves (plant.p * plant.horizon) (plant.n + 1)
+  pub mults_shape : HasShape law.mults (length law.set) (plant.n + 1)
 
 -- a row on states of n entries that aren't all weighed 0, in whole numbers that fit and have no common divisor
 pub record IsSplitRow (n : ℕ) (row : RowInt) : Type 0 where

@@ -7,3 +7,4 @@ pub mod Answers
 pub mod Product
 pub mod Solution
 pub mod Stored
+pub mod Shape

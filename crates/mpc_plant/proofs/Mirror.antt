@@ -6,7 +6,8 @@ use Rattle.mpc_exact.specs.Rational.{ℚ, int, cmp_ℚ}
 use Rattle.mpc_exact.proofs.Rational.{same_ℚ}
 use Rattle.mpc_space.specs.Vector.{cell}
 use Rattle.mpc_space.specs.Matrix.{RationalMatrix}
-use Rattle.mpc_plant.specs.Limits.{HasShape, IsWeight}
+use Rattle.mpc_plant.specs.Limits.{IsWeight}
+use Rattle.mpc_linear.specs.Shape.{HasShape}
 use Rattle.mpc_plant.specs.CheckedPlant.{differs, row_difference, difference_from}
 use Rattle.mpc_plant.proofs.MatrixLemmas.{none_found, no_row_differs}
 

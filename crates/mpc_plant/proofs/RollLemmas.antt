@@ -12,7 +12,8 @@ use Rattle.mpc_space.proofs.Matrix.{length-mat_vec, coordinate-mat_vec}
 use Rattle.mpc_linear.specs.Dot.{TermFits}
 use Rattle.mpc_plant.specs.declared.lists.Coordinate.{Coordinate}
 use Rattle.mpc_plant.specs.declared.plants.Plant.{Plant}
-use Rattle.mpc_plant.specs.Limits.{HasShape, IsCoordinate}
+use Rattle.mpc_plant.specs.Limits.{IsCoordinate}
+use Rattle.mpc_linear.specs.Shape.{HasShape}
 use Rattle.mpc_plant.specs.Trajectory.{IsWithin, IsInBox, point_of, values_at, state_at}
 use Rattle.mpc_plant.specs.RollWidth.{row_at, AxesFit, next_entry}
 

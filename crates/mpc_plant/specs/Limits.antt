@@ -1,8 +1,9 @@
 -- Which parts make a plant: sizes, shapes, symmetric weights and a grid with positive steps.
-use Rattle.std.specs.Prelude.{◌≡◌, ℕ, ◌+◌, ◌*◌, ◌≤◌, List, length, All, pos}
+use Rattle.std.specs.Prelude.{◌≡◌, ℕ, ◌+◌, ◌*◌, ◌≤◌, List, length, All, pos, nat_le, if◌then◌else◌}
 use Rattle.mpc_exact.specs.Rational.{int, ◌<ℚ◌}
 use Rattle.mpc_space.specs.Vector.{IsSymmetric}
-use Rattle.mpc_space.specs.Matrix.{RationalMatrix, height, IsRectangular}
+use Rattle.mpc_space.specs.Matrix.{RationalMatrix}
+use Rattle.mpc_linear.specs.Shape.{HasShape}
 use Rattle.mpc_plant.specs.declared.lists.PlantRow.{PlantRow}
 use Rattle.mpc_plant.specs.declared.lists.Coordinate.{Coordinate}
 
@@ -10,12 +11,6 @@ use Rattle.mpc_plant.specs.declared.lists.Coordinate.{Coordinate}
 pub record IsFromTo (low high k : ℕ) : Type 0 where
   pub from_low : low ≤ k
   pub to_high : k ≤ high
-
--- a matrix of so many rows and columns
-pub record HasShape (m : RationalMatrix) (rows columns : ℕ) : Type 0 where
-  pub rows_are : height m ≡ rows
-  pub columns_are : m.columns ≡ columns
-  pub rectangular : IsRectangular m
 
 -- a weight on vectors of so many entries: a square, symmetric matrix
 pub record IsWeight (m : RationalMatrix) (size : ℕ) : Type 0 where
@@ -32,7 +27,11 @@ pub record IsCoordinate (axis : Coordinate) : Type 0 where
   pub step_positive : int (pos 0) <ℚ axis.step
   pub count_small : axis.count ≤ 1000000
 
-pub record IsPlant (n p horizon : ℕ) (a b q r last : RationalMatrix) (rows terminal : List PlantRow) (grid : List Coordinate) : Type 0 where
+-- the most rows that a program of so many unknowns may have
+abbrev pub row_limit : ℕ → ℕ
+row_limit unknowns = if nat_le unknowns 4 then 60 else 40
+
+pub record IsPlant (n p horizon : ℕ) (a b q r last : RationalMatrix) (drift xgoal ugoal : List ℚ) (rows terminal : List PlantRow) (grid : List Coordinate) : Type 0 where
   pub states : IsFromTo 1 4 n
   pub inputs : IsFromTo 1 3 p
   pub steps : IsFromTo 1 6 horizon
@@ -42,7 +41,10 @@ pub record IsPlant (n p horizon : ℕ) (a b q r last : RationalMatrix) (rows ter
   pub q_weight : IsWeight q n
   pub r_weight : IsWeight r p
   pub last_weight : IsWeight last n
-  pub rows_few : horizon * length rows + length terminal ≤ 40
+  pub drift_size : length drift ≡ n
+  pub xgoal_size : length xgoal ≡ n
+  pub ugoal_size : length ugoal ≡ p
+  pub rows_few : horizon * length rows + length terminal ≤ row_limit (p * horizon)
   pub rows_fit : All (FitsRow n p) rows
   pub terminal_fits : All (FitsRow n 0) terminal
   pub grid_size : length grid ≡ n

@@ -1,7 +1,7 @@
 -- The motion of a plant from a state of its box under a sequence of moves, which sequences keep its rows, and what a sequence costs.
 use Rattle.std.specs.Prelude.{◌≡◌, ◌≢◌, ℕ, zero, suc, ◌<◌, List, [], ◌∷◌, ◌++◌, length, All, pos, map, slice_index_or}
 use Rattle.mpc_exact.specs.Rational.{ℚ, int, ◌+ℚ◌, ◌*ℚ◌, ◌≤ℚ◌, ◌<ℚ◌}
-use Rattle.mpc_space.specs.Vector.{dot, vec_add, mat_vec, quadratic}
+use Rattle.mpc_space.specs.Vector.{dot, vec_add, vec_sub, mat_vec, quadratic}
 use Rattle.mpc_space.specs.Total.{total}
 use Rattle.mpc_plant.specs.declared.lists.PlantRow.{PlantRow}
 use Rattle.mpc_plant.specs.declared.lists.Coordinate.{Coordinate}
@@ -51,10 +51,10 @@ pub record IsSequence (plant : Plant) (v : List (List ℚ)) : Type 0 where
   pub steps : length v ≡ plant.horizon
   pub inputs : All (λ u. length u ≡ plant.p) v
 
--- x[0] is the state at t, and x[k+1] = A x[k] + B v[k]
+-- x[0] is the state at t, and x[k+1] = A x[k] + B v[k] + drift
 abbrev pub state_at : Plant → List ℚ → List (List ℚ) → ℕ → List ℚ
 state_at plant t v zero = state_of plant t
-state_at plant t v (suc k) = vec_add (mat_vec plant.a.rows (state_at plant t v k)) (mat_vec plant.b.rows (move_at v k))
+state_at plant t v (suc k) = vec_add (vec_add (mat_vec plant.a.rows (state_at plant t v k)) (mat_vec plant.b.rows (move_at v k))) plant.drift
 
 -- x[0] to x[k]
 abbrev pub states_to : Plant → List ℚ → List (List ℚ) → ℕ → List (List ℚ)
@@ -81,13 +81,17 @@ pub record IsAdmissible (plant : Plant) (t : List ℚ) (v : List (List ℚ)) : T
 
 -- ---- cost
 
--- x'Q x + u'R u
+-- (x - xgoal)'Q (x - xgoal) + (u - ugoal)'R (u - ugoal)
 abbrev pub stage_cost : Plant → List ℚ → List ℚ → ℚ
-stage_cost plant x u = quadratic plant.q.rows x +ℚ quadratic plant.r.rows u
+stage_cost plant x u = quadratic plant.q.rows (vec_sub x plant.xgoal) +ℚ quadratic plant.r.rows (vec_sub u plant.ugoal)
 
--- the stages' costs, and x[N]'P x[N]
+-- (x - xgoal)'P (x - xgoal)
+abbrev pub end_cost : Plant → List ℚ → ℚ
+end_cost plant x = quadratic plant.last.rows (vec_sub x plant.xgoal)
+
+-- the stages' costs, and that of the last state
 abbrev pub cost : Plant → List ℚ → List (List ℚ) → ℚ
-cost plant t v = total plant.horizon (λ k. stage_cost plant (state_at plant t v k) (move_at v k)) +ℚ quadratic plant.last.rows (state_at plant t v plant.horizon)
+cost plant t v = total plant.horizon (λ k. stage_cost plant (state_at plant t v k) (move_at v k)) +ℚ end_cost plant (state_at plant t v plant.horizon)
 
 -- the one admissible sequence of least cost: every other one costs more
 pub record IsBest (plant : Plant) (t : List ℚ) (v : List (List ℚ)) : Type 0 where

@@ -5,7 +5,7 @@ ghost use Rattle.serde_json.specs.View.{items_view};
 ghost use Rattle.mpc_space.specs.Matrix.{height, IsRectangular};
 ghost use Rattle.mpc_plant.specs.declared.faults.PlantKind.{PlantKind as Kind};
 ghost use Rattle.mpc_plant.specs.CheckedEntries.{rows_of};
-ghost use Rattle.mpc_plant.specs.Limits.{HasShape};
+ghost use Rattle.mpc_linear.specs.Shape.{HasShape};
 
 use crate::entries::vector;
 use crate::faults::{PlantError, under_item};

@@ -5,7 +5,8 @@ ghost use Rattle.serde_json.specs.View.{view, items_view};
 ghost use Rattle.serde_json.specs.Find.{get};
 ghost use Rattle.mpc_space.specs.Matrix.{height};
 ghost use Rattle.mpc_plant.specs.declared.faults.PlantKind.{PlantKind as Kind};
-ghost use Rattle.mpc_plant.specs.Limits.{HasShape, IsFromTo, IsWeight, IsCoordinate, FitsRow};
+ghost use Rattle.mpc_plant.specs.Limits.{IsFromTo, IsWeight, IsCoordinate, FitsRow};
+ghost use Rattle.mpc_linear.specs.Shape.{HasShape};
 ghost use Rattle.mpc_plant.specs.CheckedPlant.{keys_of, version_of, horizon_of, at_key, weight_of, list_or_none, grid_of};
 ghost use Rattle.mpc_plant.specs.WholePlant.{head_of, dynamics_of, weights_of, row_lists_of, few_rows, parts_of, stated_by, ReadsAsPlant, IsFirstFault};
 

@@ -6,7 +6,8 @@ ghost use Rattle.std.specs.Ordering.{is_eq};
 ghost use Rattle.mpc_exact.specs.Rational.{cmp_ℚ};
 ghost use Rattle.mpc_space.specs.Matrix.{height};
 ghost use Rattle.mpc_plant.specs.declared.faults.PlantKind.{PlantKind as Kind};
-ghost use Rattle.mpc_plant.specs.Limits.{HasShape, IsFromTo};
+ghost use Rattle.mpc_plant.specs.Limits.{IsFromTo};
+ghost use Rattle.mpc_linear.specs.Shape.{HasShape};
 ghost use Rattle.mpc_plant.specs.CheckedPlant.{row_difference, difference_from, weight_of, square_of, width_of, side_of, no_difference};
 
 use crate::entries::{list_between, list_with_len};

@@ -5,7 +5,7 @@ ghost use Rattle.mpc_exact.specs.Rational.{int, lt_ℚ};
 ghost use Rattle.mpc_space.specs.Definite.{IsDefinite};
 ghost use Rattle.mpc_space.specs.Matrix.{height};
 ghost use Rattle.mpc_sets.specs.RowSet.{IsSetOfRows};
-ghost use Rattle.mpc_rows.specs.Program.{IsOfShape};
+ghost use Rattle.mpc_linear.specs.Shape.{HasShape};
 
 use crate::examine;
 use mpc_frac::{Frac, NoMemory};
@@ -21,7 +21,7 @@ fn matrix(alloc: Global, cols: u32, rows: &[[i64; 2]]) -> Result<Matrix, NoMemor
     requires some { 1 ≤ cols }
     requires few { cols ≤ 2 }
     requires few_rows { length rows.now ≤ 2 }
-    ensures { IfOk result (λ m. IsOfShape m (length rows.now) cols) }
+    ensures { IfOk result (λ m. HasShape m (length rows.now) cols) }
 {
     let mut m = Matrix::zero(alloc, rows.len() as u32, cols)?;
     for i in 0..rows.len() {

@@ -14,7 +14,7 @@ use Rattle.mpc_space.proofs.Matrix.{mat_vec-add, mat_vec-scale, vec_mat-add, vec
 use Rattle.mpc_space.proofs.Optimality.{kernel_point, kernel_factors}
 use Rattle.mpc_rows.specs.declared.programs.Qp.{Qp}
 use Rattle.mpc_rows.specs.declared.laws.Law.{Law}
-use Rattle.mpc_rows.specs.Program.{IsOfShape}
+use Rattle.mpc_linear.specs.Shape.{HasShape}
 use Rattle.mpc_rows.specs.ActiveSets.{extended, row_of, rows_of, IsIndependentSet, MeetsEquations}
 use Rattle.mpc_rows.specs.Laws.{IsLaw, moves_at, mults_at}
 
@@ -97,7 +97,7 @@ module _ (n : ℕ) (r s : List ℚ) (same : (t : List ℚ) → length t ≡ n �
   same_coefficients zero h = same_constant
   same_coefficients (suc j) h = same_slope j (omega arith)
 
-pub same_forms : (rows n : ℕ) (a b : RationalMatrix) → IsOfShape a rows (n + 1) → IsOfShape b rows (n + 1) → ((t : List ℚ) → length t ≡ n → mat_vec a.rows (extended t) ≡ mat_vec b.rows (extended t)) → a ≡ b
+pub same_forms : (rows n : ℕ) (a b : RationalMatrix) → HasShape a rows (n + 1) → HasShape b rows (n + 1) → ((t : List ℚ) → length t ≡ n → mat_vec a.rows (extended t) ≡ mat_vec b.rows (extended t)) → a ≡ b
 same_forms rows n a b p q same =
     same_matrix a b p.rectangular q.rectangular (p.rows_are ∙ sym q.rows_are) (p.columns_are ∙ sym q.columns_are)
     (λ i j h k.
@@ -134,7 +134,7 @@ module _ (qp : Qp) (d : IsDefinite qp.h.rows) (a b : Law) (p : IsLaw qp a) (q : 
 
   pub same_mults : IsIndependentSet qp a.set → a.mults ≡ b.mults
   same_mults i =
-      same_forms (length a.set) (length qp.counts) a.mults b.mults p.shape.mults_shape (subst (λ s. IsOfShape b.mults (length s) (length qp.counts + 1)) (sym e) q.shape.mults_shape) (λ t h. same_mults_at t h i)
+      same_forms (length a.set) (length qp.counts) a.mults b.mults p.shape.mults_shape (subst (λ s. HasShape b.mults (length s) (length qp.counts + 1)) (sym e) q.shape.mults_shape) (λ t h. same_mults_at t h i)
 
 pub law_unique : (qp : Qp) → IsDefinite qp.h.rows → (a b : Law) → IsLaw qp a → IsLaw qp b → a.set ≡ b.set → IsIndependentSet qp a.set → a ≡ b
 law_unique qp d a b p q e i =

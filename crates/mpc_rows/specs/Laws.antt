@@ -6,7 +6,7 @@ use Rattle.mpc_space.specs.Matrix.{height}
 use Rattle.mpc_sets.specs.RowSet.{IsSetOfRows}
 use Rattle.mpc_rows.specs.declared.programs.Qp.{Qp}
 use Rattle.mpc_rows.specs.declared.laws.Law.{Law}
-use Rattle.mpc_rows.specs.Program.{IsOfShape}
+use Rattle.mpc_linear.specs.Shape.{HasShape}
 use Rattle.mpc_rows.specs.ActiveSets.{extended, IsInBox, MeetsRows, MeetsEquations}
 
 -- the unknowns and the multipliers that a law gives at t
@@ -20,8 +20,8 @@ mults_at law t = mat_vec law.mults.rows (extended t)
 pub record HasLawShape (qp : Qp) (law : Law) : Type 0 where
   pub set_of_rows : IsSetOfRows (height qp.g) law.set
   pub few : length law.set ≤ height qp.h
-  pub moves_shape : IsOfShape law.moves (height qp.h) (length qp.counts + 1)
-  pub mults_shape : IsOfShape law.mults (length law.set) (length qp.counts + 1)
+  pub moves_shape : HasShape law.moves (height qp.h) (length qp.counts + 1)
+  pub mults_shape : HasShape law.mults (length law.set) (length qp.counts + 1)
 
 -- the law's affine forms meet the equations of its set at every t. Where h is definite and the set independent, no other forms do.
 pub record IsLaw (qp : Qp) (law : Law) : Type 0 where

@@ -1,12 +1,7 @@
 -- Which matrices make a quadratic program with a parameter.
 use Rattle.std.specs.Prelude.{◌≡◌, ℕ, ◌+◌, ◌≤◌, List, length}
-use Rattle.mpc_space.specs.Matrix.{RationalMatrix, height, IsRectangular}
-
--- a matrix of so many rows and columns
-pub record IsOfShape (m : RationalMatrix) (rows columns : ℕ) : Type 0 where
-  pub rows_are : height m ≡ rows
-  pub columns_are : m.columns ≡ columns
-  pub rectangular : IsRectangular m
+use Rattle.mpc_space.specs.Matrix.{RationalMatrix, height}
+use Rattle.mpc_linear.specs.Shape.{HasShape}
 
 -- from 1 to 4 parameters, one a count; from 1 to 6 unknowns, the rows of h; at most 60 rows
 pub record IsProgram (h f y g w : RationalMatrix) (counts : List ℕ) : Type 0 where
@@ -15,8 +10,8 @@ pub record IsProgram (h f y g w : RationalMatrix) (counts : List ℕ) : Type 0 w
   pub some_unknowns : 1 ≤ height h
   pub few_unknowns : height h ≤ 6
   pub few_rows : height g ≤ 60
-  pub h_shape : IsOfShape h (height h) (height h)
-  pub f_shape : IsOfShape f (height h) (length counts + 1)
-  pub y_shape : IsOfShape y (length counts + 1) (length counts + 1)
-  pub g_shape : IsOfShape g (height g) (height h)
-  pub w_shape : IsOfShape w (height g) (length counts + 1)
+  pub h_shape : HasShape h (height h) (height h)
+  pub f_shape : HasShape f (height h) (length counts + 1)
+  pub y_shape : HasShape y (length counts + 1) (length counts + 1)
+  pub g_shape : HasShape g (height g) (height h)
+  pub w_shape : HasShape w (height g) (length counts + 1)

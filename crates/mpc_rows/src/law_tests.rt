@@ -3,7 +3,7 @@
 ghost use Rattle.std.specs.Prelude.{◌≡◌, ◌≤◌, IfOk, length};
 ghost use Rattle.mpc_space.specs.Matrix.{height};
 ghost use Rattle.mpc_sets.specs.RowSet.{IsSetOfRows};
-ghost use Rattle.mpc_rows.specs.Program.{IsOfShape};
+ghost use Rattle.mpc_linear.specs.Shape.{HasShape};
 ghost use Rattle.mpc_rows.specs.Laws.{HasLawShape};
 
 use crate::{Cert, Certs, Counts, Law, LawTable, Node, Qp, Tree, law_row};
@@ -16,7 +16,7 @@ use std::test::Fail;
 
 /// The matrix of these entries, row by row, and of zeros behind them.
 fn matrix(alloc: Global, rows: u32, cols: u32, entries: &[Frac]) -> Result<Matrix, NoMemory>
-    ensures { IfOk result (λ m. IsOfShape m rows cols) }
+    ensures { IfOk result (λ m. HasShape m rows cols) }
 {
     let mut m = Matrix::zero(alloc, rows, cols)?;
     let mut rest = entries;

@@ -1,5 +1,5 @@
 ghost use Rattle.std.specs.Prelude.{◌≡◌, ◌+◌, ◌-◌, ◌^◌, ◌<◌, ◌≤◌, All, [], length, unsigned_abs, IfSome, IfOk};
-ghost use Rattle.mpc_rows.specs.Program.{IsOfShape};
+ghost use Rattle.mpc_linear.specs.Shape.{HasShape};
 ghost use Rattle.mpc_sets.specs.RowSet.{IsSetOfRows};
 ghost use Rattle.mpc_file.specs.Preorder.{Spells, IsTree};
 ghost use Rattle.mpc_file.specs.Parts.{IsLawFor};
@@ -17,7 +17,7 @@ use std::test::Fail;
 
 /// A matrix of one row.
 fn one_row(alloc: Global, first: Frac, second: Frac) -> Result<Matrix, NoMemory>
-    ensures { IfOk result (λ m. IsOfShape m 1 2) }
+    ensures { IfOk result (λ m. HasShape m 1 2) }
 {
     let mut matrix = Matrix::zero(alloc, 1, 2)?;
     matrix.set(0, 0, first);
@@ -29,7 +29,7 @@ fn one_row(alloc: Global, first: Frac, second: Frac) -> Result<Matrix, NoMemory>
 
 /// A matrix of zeros in two columns.
 fn zeros(alloc: Global, rows: u32) -> Result<Matrix, NoMemory>
-    ensures { IfOk result (λ m. IsOfShape m rows 2) }
+    ensures { IfOk result (λ m. HasShape m rows 2) }
 {
     let matrix = Matrix::zero(alloc, rows, 2)?;
     prove!(matrix.rows() == rows);

@@ -10,17 +10,17 @@ use Rattle.mpc_space.specs.Vector.{cell, zeros, quadratic}
 use Rattle.mpc_space.specs.Matrix.{RationalMatrix, height, IsRectangular, entry}
 use Rattle.mpc_space.specs.Definite.{IsDefinite}
 use Rattle.mpc_linear.specs.Entries.{with_entry, zero_matrix}
-use Rattle.mpc_rows.specs.Program.{IsOfShape}
+use Rattle.mpc_linear.specs.Shape.{HasShape}
 
-pub shape_zero : (m : RationalMatrix) (n w : ℕ) → m ≡ zero_matrix n w → IsOfShape m n w
-shape_zero m n w e = subst (λ z. IsOfShape z n w) (sym e) (record {
+pub shape_zero : (m : RationalMatrix) (n w : ℕ) → m ≡ zero_matrix n w → HasShape m n w
+shape_zero m n w e = subst (λ z. HasShape z n w) (sym e) (record {
   rows_are = length-replicate n (zeros w);
   columns_are = refl;
   rectangular = λ k d l. ap length (get_or-replicate n k (zeros w) d (omega (arith, length-replicate n (zeros w)))) ∙ length-replicate w (int (pos 0));
 })
 
-pub shape_kept : (m new : RationalMatrix) (n w i j : ℕ) (v : ℚ) → new ≡ with_entry m i j v → i < n → IsOfShape m n w → IsOfShape new n w
-shape_kept m new n w i j v e h s = subst (λ z. IsOfShape z n w) (sym e) (record {
+pub shape_kept : (m new : RationalMatrix) (n w i j : ℕ) (v : ℚ) → new ≡ with_entry m i j v → i < n → HasShape m n w → HasShape new n w
+shape_kept m new n w i j v e h s = subst (λ z. HasShape z n w) (sym e) (record {
   rows_are = length-set m.rows i (set (get_or m.rows i []) j v) ∙ s.rows_are;
   columns_are = s.columns_are;
   rectangular = All-set (λ row. length row ≡ m.columns) m.rows i (set (get_or m.rows i []) j v) (length-set (get_or m.rows i []) j v ∙ s.rectangular i [] (omega (arith, s.rows_are))) s.rectangular;

@@ -1,6 +1,6 @@
 use Rattle.std.proofs.Common.{◌≡◌, None}
 use Rattle.std.proofs.lemmas.Result.{IfOk-weaker, IfOk-at_ok}
-use Rattle.mpc_plant.specs.Limits.{HasShape}
+use Rattle.mpc_linear.specs.Shape.{HasShape}
 use Rattle.mpc_plant.specs.CheckedPlant.{difference_from}
 use Rattle.mpc_plant.proofs.Mirror.{weight_is}
 use Rattle.mpc_plant.proofs.plant_file.weight_in.Goals as goal

@@ -1,5 +1,5 @@
 use Rattle.std.proofs.Common.{◌+◌, ◌≤◌, length, subst, arith}
-use Rattle.mpc_rows.specs.Program.{IsOfShape}
+use Rattle.mpc_linear.specs.Shape.{HasShape}
 use Rattle.mpc_rows.specs.declared.laws.Law.{Law}
 use Rattle.mpc_file.specs.Parts.{IsLawFor}
 use Rattle.mpc_table.proofs.TestLemmas.{all_push, law_for}
@@ -15,4 +15,4 @@ returns-in-Ok-push c =
       | else-member-stage-via-else-member-stage w ↦ omega (arith, c.len-stage.ensures)
     ] in
     all_push (IsLawFor plant) c.args.laws.now c.push.new.self law c.in-Ok-push.ensures.ok c.requires
-    (law_for plant law c.args.member c.if-plant-ne1.false c.if-plant-ne1-2.false c.if-plant-ne1-3.false within c.set_of-set.ensures.rows c.set_of-set.ensures.few c.in-Ok.ensures (subst (λ k. IsOfShape c.in-Ok-zeros.mults k 2) c.size.ensures.value c.in-Ok-zeros.ensures))
+    (law_for plant law c.args.member c.if-plant-ne1.false c.if-plant-ne1-2.false c.if-plant-ne1-3.false within c.set_of-set.ensures.rows c.set_of-set.ensures.few c.in-Ok.ensures (subst (λ k. HasShape c.in-Ok-zeros.mults k 2) c.size.ensures.value c.in-Ok-zeros.ensures))
