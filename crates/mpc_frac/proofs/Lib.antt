@@ -6,3 +6,4 @@ pub mod FracParts
 pub mod Binary
 pub mod Knuth
 pub mod ShortParts
+pub mod FitLemmas

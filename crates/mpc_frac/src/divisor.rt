@@ -70,8 +70,8 @@ fn wide_divisor(a: u128, b: u128) -> u128
     of_odd_wide(a >> left, b >> right) << left.min(right)
 }
 
-/// The greatest common divisor.
-pub(crate) fn common_divisor(a: u128, b: u128) -> u128
+/// The greatest common divisor, which is the other number where one is 0.
+pub fn greatest_common_divisor(a: u128, b: u128) -> u128
     ensures value { result ≡ gcd a b }
     ensures positive { 0 < b → 0 < result }
 {

@@ -10,12 +10,14 @@ ghost use Rattle.mpc_frac.specs.Sign.{signed_like};
 ghost use Rattle.mpc_frac.specs.Text.{text_of};
 
 mod divisor;
+mod laws;
 mod short;
 #[cfg(test)]
 mod tests;
 
-use divisor::common_divisor;
+pub use divisor::greatest_common_divisor;
 use itoa::Buffer;
+pub use laws::fit_laws;
 use short::Short;
 use std::alloc::{AllocError, AllocFailed};
 use std::cmp::Ordering;
@@ -125,7 +127,7 @@ fn cancelled(num: i128, den: u128, divisor: u128) -> Frac
     requires shared { gcd (unsigned_abs num) den ≡ gcd (unsigned_abs num) divisor }
     ensures { result ≡ frac num den }
 {
-    let shared = common_divisor(num.unsigned_abs(), divisor);
+    let shared = greatest_common_divisor(num.unsigned_abs(), divisor);
     if shared == 1 {
         return Frac::lowest(num, den);
     }
@@ -216,7 +218,7 @@ impl Frac {
         if den == 0 {
             return Err(FracError::ZeroDenominator);
         }
-        let divisor = common_divisor(num.unsigned_abs(), den.unsigned_abs());
+        let divisor = greatest_common_divisor(num.unsigned_abs(), den.unsigned_abs());
         let size = num.unsigned_abs() / divisor;
         let below = den.unsigned_abs() / divisor;
         match Frac::fitted(num, den, size, below) {
@@ -360,8 +362,8 @@ impl Frac {
         ensures wide { MatchResult result (λ _. FitsFrac (self.now *ℚ other.now))
             (λ _. ¬ FitsFrac (self.now *ℚ other.now)) }
     {
-        let left = common_divisor(self.size(), other.below());
-        let right = common_divisor(other.size(), self.below());
+        let left = greatest_common_divisor(self.size(), other.below());
+        let right = greatest_common_divisor(other.size(), self.below());
         let size = small_product(part(self.size(), left), part(other.size(), right))?;
         let den = small_product(part(self.below(), right), part(other.below(), left))?;
         Ok(self.product_of(other, size, den))
@@ -410,7 +412,7 @@ impl Frac {
         ensures wide { MatchResult result (λ _. FitsSum self.now other.now)
             (λ _. ¬ FitsSum self.now other.now) }
     {
-        let divisor = common_divisor(self.below(), other.below());
+        let divisor = greatest_common_divisor(self.below(), other.below());
         let left = part(self.below(), divisor);
         let right = part(other.below(), divisor);
         let num = small_sum(self.numer_times(right)?, other.numer_times(left)?)?;

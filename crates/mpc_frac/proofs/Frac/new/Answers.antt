@@ -17,14 +17,14 @@ same_den c = to_z-of_z w128 c.args.den c.ranges.den
 some : (c : After-unsigned_abs-4) → c.args.den ≢ pos 0
 some c e = c.if-den-eq0.false (ap (of_z w128) e)
 
-found : (c : After-unsigned_abs-4) → c.common_divisor-divisor.result ≡ gcd (unsigned_abs c.args.num) (unsigned_abs c.args.den)
-found c = c.common_divisor-divisor.ensures.value ∙ (λ i. gcd ((c.unsigned_abs.ensures.value ∙ ap unsigned_abs (same_num c)) i) ((c.unsigned_abs-2.ensures.value ∙ ap unsigned_abs (same_den c)) i))
+found : (c : After-unsigned_abs-4) → c.greatest_common_divisor-divisor.result ≡ gcd (unsigned_abs c.args.num) (unsigned_abs c.args.den)
+found c = c.greatest_common_divisor-divisor.ensures.value ∙ (λ i. gcd ((c.unsigned_abs.ensures.value ∙ ap unsigned_abs (same_num c)) i) ((c.unsigned_abs-2.ensures.value ∙ ap unsigned_abs (same_den c)) i))
 
-size : (c : After-unsigned_abs-4) → c.unsigned_abs-3.result / c.common_divisor-divisor.result ≡ unsigned_abs c.args.num / c.common_divisor-divisor.result
-size c = ap (λ n. n / c.common_divisor-divisor.result) (c.unsigned_abs-3.ensures.value ∙ ap unsigned_abs (same_num c))
+size : (c : After-unsigned_abs-4) → c.unsigned_abs-3.result / c.greatest_common_divisor-divisor.result ≡ unsigned_abs c.args.num / c.greatest_common_divisor-divisor.result
+size c = ap (λ n. n / c.greatest_common_divisor-divisor.result) (c.unsigned_abs-3.ensures.value ∙ ap unsigned_abs (same_num c))
 
-below : (c : After-unsigned_abs-4) → c.unsigned_abs-4.result / c.common_divisor-divisor.result ≡ unsigned_abs c.args.den / c.common_divisor-divisor.result
-below c = ap (λ n. n / c.common_divisor-divisor.result) (c.unsigned_abs-4.ensures.value ∙ ap unsigned_abs (same_den c))
+below : (c : After-unsigned_abs-4) → c.unsigned_abs-4.result / c.greatest_common_divisor-divisor.result ≡ unsigned_abs c.args.den / c.greatest_common_divisor-divisor.result
+below c = ap (λ n. n / c.greatest_common_divisor-divisor.result) (c.unsigned_abs-4.ensures.value ∙ ap unsigned_abs (same_den c))
 
 pub fitted-requires-clause-den_positive : goal.fitted-requires-clause-den_positive
 fitted-requires-clause-den_positive c = let d = (goal.at.fitted-requires-clause-den_positive c).After-unsigned_abs-4 in bottom_positive c.args.num c.args.den _ _ _ (some d) (found d) (size d) (below d)
@@ -35,7 +35,7 @@ fitted-requires-clause-coprime c = let d = (goal.at.fitted-requires-clause-copri
 pub returns-in-Ok-clause-value : goal.returns-in-Ok-clause-value
 returns-in-Ok-clause-value c =
     let d = (goal.at.returns-in-Ok-clause-value c).After-unsigned_abs-4 in
-    c.in-Ok.ensures.value ∙ (λ i. frac (signed_like (same_num d i) (same_den d i) (c.unsigned_abs-3.result / c.common_divisor-divisor.result)) (c.unsigned_abs-4.result / c.common_divisor-divisor.result))
+    c.in-Ok.ensures.value ∙ (λ i. frac (signed_like (same_num d i) (same_den d i) (c.unsigned_abs-3.result / c.greatest_common_divisor-divisor.result)) (c.unsigned_abs-4.result / c.greatest_common_divisor-divisor.result))
     ∙ value_is c.args.num c.args.den _ _ _ (some d) (found d) (size d) (below d)
 
 pub returns-in-Ok-clause-fits : goal.returns-in-Ok-clause-fits

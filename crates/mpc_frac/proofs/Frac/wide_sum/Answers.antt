@@ -9,8 +9,8 @@ use Rattle.mpc_frac.proofs.Knuth.{shared_is}
 use Rattle.mpc_frac.proofs.Frac.wide_sum.Goals as goal
 use Rattle.mpc_frac.proofs.Frac.wide_sum.Goals.{In_ok-den}
 
-divisor : (c : In_ok-den) → c.common_divisor-divisor.result ≡ common c.args.self.now c.args.other.now
-divisor c = c.common_divisor-divisor.ensures.value ∙ (λ i. gcd (c.below.ensures.value i) (c.below-2.ensures.value i))
+divisor : (c : In_ok-den) → c.greatest_common_divisor-divisor.result ≡ common c.args.self.now c.args.other.now
+divisor c = c.greatest_common_divisor-divisor.ensures.value ∙ (λ i. gcd (c.below.ensures.value i) (c.below-2.ensures.value i))
 
 left_part : (c : In_ok-den) → c.part-left.result ≡ c.args.self.now.denom / common c.args.self.now c.args.other.now
 left_part c = c.part-left.ensures ∙ (λ i. c.below-3.ensures.value i / divisor c i)

@@ -1,7 +1,7 @@
 use Rattle.std.proofs.Common.{◌∙◌}
 use Rattle.mpc_exact.specs.Gcd.{gcd_comm}
 use Rattle.mpc_frac.proofs.Binary.{positive_gcd}
-use Rattle.mpc_frac.proofs.divisor.common_divisor.Goals as goal
+use Rattle.mpc_frac.proofs.divisor.greatest_common_divisor.Goals as goal
 
 pub returns-then-b-le-SHORT-2-clause-positive : goal.returns-then-b-le-SHORT-2-clause-positive
 returns-then-b-le-SHORT-2-clause-positive c some = positive_gcd _ _ _ c.reduced_divisor.ensures some
