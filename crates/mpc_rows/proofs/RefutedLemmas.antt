@@ -15,7 +15,8 @@ use Rattle.mpc_rows.specs.declared.systems.Row.{Row}
 use Rattle.mpc_rows.proofs.SumLemmas.{seen}
 use Rattle.mpc_rows.specs.LinearSystem.{LinearSystem, HasWidth, height, row_at, entry, IsWithin, IsPoint, point_at, IsPairPoint}
 use Rattle.mpc_rows.specs.Refutation.{Refutes}
-use Rattle.mpc_rows.proofs.SystemSums.{left_side, IsPointBy, pair_at, IsPairPointBy, side_total, RefutesBy, point_by, refutes_by}
+use Rattle.mpc_rows.specs.NumberedSystems.{left_side, IsPointBy, pair_at, IsPairPointBy, side_total, RefutesBy}
+use Rattle.mpc_rows.proofs.SystemSums.{point_by, refutes_by}
 
 -- the multipliers' sum of the left sides is the dot of their columns' sums with the point
 combined : (s : LinearSystem) (m v : ℕ → ℚ) → total (height s) (λ i. m i *ℚ left_side s i v) ≡ total s.width (λ j. v j *ℚ total (height s) (λ i. m i *ℚ entry s i j))

@@ -11,33 +11,8 @@ use Rattle.mpc_space.proofs.Total.{total-same}
 use Rattle.mpc_space.proofs.Entries.{dot-total_within, nonneg_at, nonneg_by_entries}
 use Rattle.mpc_rows.specs.declared.systems.Row.{Row}
 use Rattle.mpc_rows.specs.LinearSystem.{LinearSystem, HasWidth, height, no_row, row_at, entry, IsWithin, MeetsRow, IsPoint, point_at, IsPairPoint}
+pub use Rattle.mpc_rows.specs.NumberedSystems.{left_side, IsPointBy, pair_at, IsPairPointBy, StrictBy, side_total, RefutesBy}
 use Rattle.mpc_rows.specs.Refutation.{coefficients_on, right_sides, WeighsStrict, Refutes}
-
--- the left side of row i at the point v
-abbrev pub left_side : LinearSystem → ℕ → (ℕ → ℚ) → ℚ
-left_side s i v = total s.width (λ j. entry s i j *ℚ v j)
-
-pub record IsPointBy (s : LinearSystem) (v : ℕ → ℚ) : Type 0 where
-  pub meets : (i : ℕ) → i < height s → IsWithin (row_at s i).strict (left_side s i v) (row_at s i).b
-
-abbrev pub pair_at : (ℕ → Pair) → ℚ → ℕ → ℚ
-pair_at p d j = (p j).first +ℚ d *ℚ (p j).second
-
-pub record IsPairPointBy (s : LinearSystem) (p : ℕ → Pair) : Type 0 where
-  pub reach : ℚ
-  pub some : int (pos 0) <ℚ reach
-  pub meets : (d : ℚ) → int (pos 0) <ℚ d → d <ℚ reach → IsPointBy s (pair_at p d)
-
-abbrev pub StrictBy : LinearSystem → (ℕ → ℚ) → Type 0
-StrictBy s m = (i : ℕ) × (i < height s) × ((row_at s i).strict ≡ true) × (int (pos 0) <ℚ m i)
-
-abbrev pub side_total : LinearSystem → (ℕ → ℚ) → ℚ
-side_total s m = total (height s) (λ i. m i *ℚ (row_at s i).b)
-
-pub record RefutesBy (s : LinearSystem) (m : ℕ → ℚ) : Type 0 where
-  pub nonneg : (i : ℕ) → i < height s → int (pos 0) ≤ℚ m i
-  pub left : (j : ℕ) → j < s.width → total (height s) (λ i. m i *ℚ entry s i j) ≡ int (pos 0)
-  pub right : (side_total s m <ℚ int (pos 0)) ⊎ ((side_total s m ≡ int (pos 0)) × StrictBy s m)
 
 -- ---- points
 within_by : (strict : Bool) (x y b : ℚ) → x ≡ y → IsWithin strict x b → IsWithin strict y b

@@ -13,3 +13,7 @@ pub mod SetRuns
 pub mod Verdicts
 pub mod JudgedSet
 pub mod Certificates
+pub mod NumberedSystems
+pub mod SystemLaws
+pub mod RegionLaws
+pub mod LawLaws

@@ -10,6 +10,7 @@ mod laws;
 mod places;
 mod programs;
 mod refuting;
+mod rules;
 #[cfg(test)]
 mod system_tests;
 mod systems;
@@ -24,6 +25,7 @@ pub use laws::{Law, LawTable};
 pub use places::Place;
 pub use programs::Qp;
 pub use refuting::refutes;
+pub use rules::{law_laws, region_laws, system_laws};
 pub use systems::{Multipliers, PairPoint, Row, Rows, System};
 pub use trees::{Cert, Certs, Node, Tree};
 pub use verdicts::{Judged, Verdict};
