@@ -1,23 +1,40 @@
 -- A sequence keeps the plant's rows exactly where it keeps the program's.
-use Rattle.std.proofs.Common.{◌≡◌, ℕ, ◌+◌, ◌-◌, ◌*◌, ◌/◌, ◌%◌, ◌<◌, ◌≤◌, List, [], ◌∷◌, length, get_or, pos, ◌∙◌, ap, subst, arith, ⊎_elim}
+use Rattle.std.proofs.Common.{◌≡◌, ℕ, ◌+◌, ◌-◌, ◌*◌, ◌/◌, ◌%◌, ◌<◌, ◌≤◌, List, [], ◌∷◌, length, get_or, pos, sym, ◌∙◌, ap, subst, arith, ⊎_elim}
 use Rattle.std.proofs.Math.Nat.{mul-le-mul_left}
 use Rattle.std.proofs.lemmas.Bool.{cases_lt}
 use Rattle.std.proofs.lemmas.Option.{slice_get-get_or}
 use Rattle.mpc_exact.specs.Rational.{ℚ, int, ◌+ℚ◌, ◌-ℚ◌, ◌≤ℚ◌}
 use Rattle.mpc_exact.proofs.Linear.{linear_le, claims, none, le, eq}
-use Rattle.mpc_space.specs.Vector.{dot}
+use Rattle.mpc_space.specs.Vector.{coordinate, dot, mat_vec}
 use Rattle.mpc_space.specs.Matrix.{height}
+use Rattle.mpc_space.proofs.Entries.{at_most_at, at_most_by_entries}
+use Rattle.mpc_space.proofs.Matrix.{length-mat_vec, coordinate-mat_vec}
 use Rattle.mpc_plant.specs.declared.lists.PlantRow.{PlantRow}
 use Rattle.mpc_plant.specs.declared.plants.Plant.{Plant}
 use Rattle.mpc_plant.specs.Trajectory.{IsSequence, IsAdmissible, state_at, move_at}
 use Rattle.mpc_rows.specs.declared.programs.Qp.{Qp}
 use Rattle.mpc_condense.specs.Condensed.{stacked, stage_row, terminal_row, HasRoom, IsCondensed}
-use Rattle.mpc_rows.specs.ActiveSets.{extended}
+use Rattle.mpc_rows.specs.ActiveSets.{extended, MeetsRows}
+use Rattle.mpc_condense.specs.ProgramLaws.{SameSequences, SameCosts}
 use Rattle.mpc_condense.proofs.RowLemmas.{stage_within, terminal_within}
 
--- the rows of the program hold
+-- the rows of the program hold, one by one
 abbrev pub KeepsRows : Qp → List ℚ → List ℚ → Type 0
 KeepsRows qp c z = (i : ℕ) → i < height qp.g → dot (get_or qp.g.rows i []) z ≤ℚ dot (get_or qp.w.rows i []) c
+
+keeps_of_meets : (qp : Qp) (t z : List ℚ) → MeetsRows qp t z → KeepsRows qp (extended t) z
+keeps_of_meets qp t z m i l =
+    let c = extended t in
+    subst (λ a. a ≤ℚ dot (get_or qp.w.rows i []) c) (coordinate-mat_vec qp.g.rows z i)
+    (subst (λ b. coordinate (mat_vec qp.g.rows z) i ≤ℚ b) (coordinate-mat_vec qp.w.rows c i) (at_most_at (mat_vec qp.g.rows z) (mat_vec qp.w.rows c) m i))
+
+meets_of_keeps : (qp : Qp) (t z : List ℚ) → KeepsRows qp (extended t) z → MeetsRows qp t z
+meets_of_keeps qp t z k =
+    let c = extended t in
+    at_most_by_entries (mat_vec qp.g.rows z) (mat_vec qp.w.rows c)
+    (length-mat_vec qp.g.rows z ∙ sym qp.is_program.w_shape.rows_are ∙ sym (length-mat_vec qp.w.rows c))
+    (λ i l. subst (λ a. a ≤ℚ coordinate (mat_vec qp.w.rows c) i) (sym (coordinate-mat_vec qp.g.rows z i))
+    (subst (λ b. dot (get_or qp.g.rows i []) z ≤ℚ b) (sym (coordinate-mat_vec qp.w.rows c i)) (k i (omega (arith, l, length-mat_vec qp.g.rows z)))))
 
 holds_of_room : (g w m s : ℚ) → w -ℚ g ≡ m -ℚ s → g ≤ℚ w → s ≤ℚ m
 holds_of_room g w m s e h = linear_le (g ∷ w ∷ m ∷ s ∷ []) (eq e (le h none)) (search claims depth 40) tt
@@ -87,3 +104,12 @@ module _ (plant : Plant) (qp : Qp) (condensed : IsCondensed qp plant) (t : List 
 
           row : PlantRow
           row = get_or plant.terminal r blank
+
+pub same_sequences : SameSequences
+same_sequences plant qp t v condensed size sequence = (
+  λ a. meets_of_keeps qp t (stacked v) (rows_of_admissible plant qp condensed t v size sequence a),
+  λ m. admissible_of_rows plant qp condensed t v size sequence (keeps_of_meets qp t (stacked v) m),
+)
+
+pub same_costs : SameCosts
+same_costs plant qp t v condensed size sequence = condensed.same_cost t v size sequence

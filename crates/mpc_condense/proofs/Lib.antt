@@ -10,3 +10,4 @@ pub mod RowLemmas
 pub mod Condensing
 pub mod Admissible
 pub mod Cut
+pub mod WidePlaces

@@ -1,8 +1,8 @@
 -- The rows of the program, as the code writes them.
-use Rattle.std.proofs.Common.{◌≡◌, ℕ, suc, ◌+◌, ◌-◌, ◌*◌, ◌<◌, ◌≤◌, List, length, get_or, pos, refl, sym, ◌∙◌, ap, subst, arith, ◌⊎◌, inl, inr, ⊎_elim, ltb, Some, slice_get}
+use Rattle.std.proofs.Common.{◌≡◌, ℕ, suc, ◌+◌, ◌-◌, ◌*◌, ◌<◌, ◌≤◌, List, length, get_or, pos, refl, sym, ◌∙◌, ap, subst, arith, ◌⊎◌, inl, inr, ⊎_elim, cond, leb, ltb, Some, slice_get}
 use Rattle.std.proofs.Math.Nat.{mul-le-mul_right}
 use Rattle.std.proofs.lemmas.Option.{get_or_from_slice_get, slice_get_within}
-use Rattle.std.proofs.lemmas.Bool.{cases_eq, cases_lt, cases_order, cond-true, cond-false, lt-ltb, le-ltb}
+use Rattle.std.proofs.lemmas.Bool.{cases_Bool, cases_eq, cases_lt, cases_order, cond-true, cond-false, lt-ltb, le-ltb}
 use Rattle.mpc_exact.specs.Rational.{ℚ, int, ◌+ℚ◌, ◌-ℚ◌, neg_ℚ}
 use Rattle.mpc_frac.specs.Fits.{FitsSum}
 use Rattle.mpc_space.specs.Vector.{coordinate, dot}
@@ -13,6 +13,7 @@ use Rattle.mpc_linear.specs.Dot.{DotFits}
 use Rattle.mpc_linear.specs.Entries.{zero_matrix}
 use Rattle.mpc_plant.specs.declared.lists.PlantRow.{PlantRow}
 use Rattle.mpc_plant.specs.declared.plants.Plant.{Plant}
+use Rattle.mpc_plant.specs.Limits.{row_limit}
 use Rattle.mpc_linear.specs.Shape.{HasShape}
 use Rattle.mpc_condense.specs.Motion.{motion, bound_of, RowFits}
 use Rattle.mpc_condense.specs.Blocks.{row_at, IsInBlock, WritesBlock, AllInBlock}
@@ -180,8 +181,11 @@ module _ (plant : Plant) where
   pub next_stage : (k : ℕ) → stage_row plant k (length plant.rows) ≡ stage_row plant (k + 1) 0
   next_stage k = omega arith
 
-  pub few_rows : row_count plant ≤ 40
-  few_rows = plant.is_plant.rows_few
+  pub few_rows : row_count plant ≤ 60
+  few_rows = omega (arith, plant.is_plant.rows_few, limit (plant.p * plant.horizon))
+    where
+      limit : (k : ℕ) → row_limit k ≤ 60
+      limit k = ⊎_elim (λ e. subst (λ b. cond b 60 40 ≤ 60) (sym e) (omega arith)) (λ e. subst (λ b. cond b 60 40 ≤ 60) (sym e) (omega arith)) (cases_Bool (leb k 4))
 
   -- ---- the same at the number that the code computes
   pub stage_step : (g w g' w' : RationalMatrix) (k r i : ℕ) (row : PlantRow) → i ≡ stage_row plant k r → k < plant.horizon → slice_get plant.rows r ≡ Some row →

@@ -1,9 +1,9 @@
 -- The first place at which a number is too wide.
-use Rattle.std.specs.Prelude.{ℕ, ◌+◌, ◌-◌, ◌*◌, ◌<◌, ◌≤◌, length}
+use Rattle.std.specs.Prelude.{◌≡◌, ℕ, ◌⊎◌, ◌+◌, ◌-◌, ◌*◌, ◌<◌, ◌≤◌, length}
 use Rattle.mpc_plant.specs.declared.lists.PlantRow.{PlantRow}
 use Rattle.mpc_plant.specs.declared.plants.Plant.{Plant}
 use Rattle.mpc_rows.specs.declared.places.Place.{Place}
-use Rattle.mpc_rows.specs.declared.places.Place.TheVariants.{State, Cost, Row, Pivot, Law, Reach, Border, Region, Meet, Holds, Joint, LawBound, NodeBound, CheckLaw, CheckLeaf}
+use Rattle.mpc_rows.specs.declared.places.Place.TheVariants.{State, Cost, Row}
 use Rattle.mpc_condense.specs.declared.errors.CondenseError.{CondenseError}
 use Rattle.mpc_condense.specs.declared.errors.CondenseError.TheVariants.{Wide, NoMemory}
 use Rattle.mpc_condense.specs.declared.errors.StageError.{StageError}
@@ -61,22 +61,12 @@ pub record IsWideRow (plant : Plant) (i : ℕ) : Type 0 where
   pub is_row : IsRow plant (i - 1) step row
   pub here : RowFits plant step row → ⊥
 
+-- a state, a cost or a row is the first place at which a number is too wide
 abbrev pub IsWidePlace : Plant → Place → Type 0
-IsWidePlace plant (State k) = IsWideState plant k
-IsWidePlace plant (Cost k) = IsWideCost plant k
-IsWidePlace plant (Row i) = IsWideRow plant i
-IsWidePlace plant (Pivot j) = ⊥
-IsWidePlace plant (Law set) = ⊥
-IsWidePlace plant (Reach set) = ⊥
-IsWidePlace plant (Border set i) = ⊥
-IsWidePlace plant (Region set) = ⊥
-IsWidePlace plant (Meet node law) = ⊥
-IsWidePlace plant (Holds node law i) = ⊥
-IsWidePlace plant (Joint node) = ⊥
-IsWidePlace plant (LawBound law input) = ⊥
-IsWidePlace plant (NodeBound node) = ⊥
-IsWidePlace plant (CheckLaw law) = ⊥
-IsWidePlace plant (CheckLeaf node i) = ⊥
+IsWidePlace plant place =
+    ((k : ℕ) × (place ≡ State k) × IsWideState plant k)
+    ⊎ ((k : ℕ) × (place ≡ Cost k) × IsWideCost plant k)
+    ⊎ ((i : ℕ) × (place ≡ Row i) × IsWideRow plant i)
 
 abbrev pub IsCause : Plant → CondenseError → Type 0
 IsCause plant (Wide place) = IsWidePlace plant place

@@ -5,3 +5,4 @@ pub mod Stages
 pub mod Causes
 pub mod MotionList
 pub mod Rows
+pub mod ProgramLaws

@@ -4,6 +4,7 @@
 mod blocks;
 mod costs;
 mod errors;
+mod laws;
 mod limits;
 mod motions;
 mod programs;
@@ -11,4 +12,5 @@ mod programs;
 mod tests;
 
 pub use errors::CondenseError;
+pub use laws::{place_laws, program_laws};
 pub use programs::condense;
