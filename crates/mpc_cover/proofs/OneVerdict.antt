@@ -14,9 +14,9 @@ use Rattle.mpc_rows.specs.ActiveSets.{IsIndependentSet, IsReachable}
 use Rattle.mpc_rows.specs.Laws.{IsLaw, HasRegion, HasLawWith}
 use Rattle.mpc_rows.specs.SetRuns.{LawFits, reach_system, LawRowsFit, RegionFits}
 use Rattle.mpc_rows.specs.Verdicts.{AllFit, IsFirstWideRow, IsWideRegion, IsFirstWide, IsRight}
-use Rattle.mpc_rows.proofs.LawLemmas.{law_unique}
+use Rattle.mpc_rows.specs.LawLaws.{LawLaws}
 
-module _ (qp : Qp) (definite : IsDefinite qp.h.rows) (s : List ℕ) where
+module _ (laws : LawLaws) (qp : Qp) (definite : IsDefinite qp.h.rows) (s : List ℕ) where
   -- so of every law of the set
   abbrev EachLaw : (Law → Type 0) → Type 0
   EachLaw P = (law : Law) → law.set ≡ s → IsLaw qp law → P law
@@ -89,7 +89,7 @@ module _ (qp : Qp) (definite : IsDefinite qp.h.rows) (s : List ℕ) where
 
   -- what holds of a law of an independent set holds of every one
   each : (P : Law → Type 0) → IsIndependentSet qp s → HasLawWith qp s P → EachLaw P
-  each P i h law e is = subst P (law_unique qp definite h.law law h.is_law is (h.of_set ∙ sym e) (subst (IsIndependentSet qp) (sym h.of_set) i)) h.holds
+  each P i h law e is = subst P (laws.law_unique qp definite h.law law h.is_law is (h.of_set ∙ sym e) (subst (IsIndependentSet qp) (sym h.of_set) i)) h.holds
 
   not_each : (P Q : Law → Type 0) → ((law : Law) → P law → Q law → ⊥) → HasLawWith qp s P → EachLaw Q → ⊥
   not_each P Q f h k = f h.law h.holds (k h.law h.of_set h.is_law)
@@ -170,7 +170,7 @@ module _ (qp : Qp) (definite : IsDefinite qp.h.rows) (s : List ℕ) where
       a.is ∙ ap (λ n. Wide (Border s n)) (same_first a.row b.row b.law.law moved b.law.holds) ∙ sym b.is
 
   same_law : (v w : Verdict) → IsIndependentSet qp s → HasItsLaw v → HasItsLaw w → v ≡ w
-  same_law v w i a b = a.is ∙ ap Region (law_unique qp definite a.law b.law a.is_law b.is_law (a.of_set ∙ sym b.of_set) (subst (IsIndependentSet qp) (sym a.of_set) i)) ∙ sym b.is
+  same_law v w i a b = a.is ∙ ap Region (laws.law_unique qp definite a.law b.law a.is_law b.is_law (a.of_set ∙ sym b.of_set) (subst (IsIndependentSet qp) (sym a.of_set) i)) ∙ sym b.is
 
   same_named : (n : ℕ) (v w : Verdict) → ((j : ℕ) → j < n → Passes j) → Names v n → Names w n → v ≡ w
   same_named zero v w p a b = a ∙ sym b

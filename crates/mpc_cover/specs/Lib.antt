@@ -1,2 +1,3 @@
 pub mod Cheapest
 pub mod Implied
+pub mod CoverLaws

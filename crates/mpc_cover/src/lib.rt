@@ -1,10 +1,10 @@
-//! The regions of a program's laws cover its feasible points: where h is symmetric and positive definite, each point of the box at which
-//! some choice of the unknowns satisfies all rows lies in the region of a law of the table.
+//! The regions of a program's laws cover its feasible points: where h is positive definite, each point of the box at which some choice of the
+//! unknowns satisfies all rows lies in the region of a law of the table.
 //!
-//! The crate has no code that computes. Each function below has an empty body, and its clauses are the laws that it is named after.
+//! The crate has no code that computes. Each function below does nothing, and its clauses are the laws that it is named after.
 #![tactic(auto)]
 
-ghost use Rattle.std.specs.Prelude.{◌≡◌, ℕ, ◌≤◌, false, List, Contains, length};
+ghost use Rattle.std.specs.Prelude.{◌≡◌, ℕ, ◌≤◌, false, List, length};
 ghost use Rattle.mpc_exact.specs.Rational.{ℚ};
 ghost use Rattle.mpc_space.specs.Vector.{IsSymmetric};
 ghost use Rattle.mpc_space.specs.Matrix.{height};
@@ -15,18 +15,16 @@ ghost use Rattle.mpc_rows.specs.declared.laws.Law.{Law};
 ghost use Rattle.mpc_rows.specs.declared.systems.Row.{Row};
 ghost use Rattle.mpc_rows.specs.ActiveSets.{IsFeasible, IsIndependentSet};
 ghost use Rattle.mpc_rows.specs.Laws.{IsLaw, IsInRegion, moves_at, mults_at};
-ghost use Rattle.mpc_rows.specs.declared.verdicts.Verdict.{Verdict};
-ghost use Rattle.mpc_rows.specs.Verdicts.{IsRight};
-ghost use Rattle.mpc_rows.specs.Candidates.{IsLawOfTable, IsTable};
 ghost use Rattle.mpc_rows.specs.LinearSystem.{LinearSystem, IsPoint};
 ghost use Rattle.mpc_cover.specs.Cheapest.{IsCheapest, HasMultipliers};
 ghost use Rattle.mpc_cover.specs.Implied.{IsClosedSystem, Implies, IsCarried};
+ghost use Rattle.mpc_cover.specs.CoverLaws.{RegionsCover, TablesCover, OneRightVerdict};
 
 /// Each point of the box with an admissible choice lies in the region of a law of the table (active sets: Bemporad, Morari, Dua and
 /// Pistikopoulos, 2002; their pruning: Gupta, Bhartiya and Nataraj, 2011).
 pub fn cover_laws()
-    ensures covered { (qp : Qp) → IsSymmetric qp.h.rows → IsDefinite qp.h.rows → (t z : List ℚ) → IsFeasible qp t z → (law : Law) × IsLawOfTable qp law × IsInRegion qp law t }
-    ensures of_every_table { (qp : Qp) (laws : List Law) → IsSymmetric qp.h.rows → IsDefinite qp.h.rows → IsTable qp laws → (t z : List ℚ) → IsFeasible qp t z → (law : Law) × Contains laws law × IsInRegion qp law t }
+    ensures covered { RegionsCover }
+    ensures of_every_table { TablesCover }
 {}
 
 /// The cheapest admissible choice (Karush, 1939; Kuhn and Tucker, 1951): it exists wherever there is an admissible one, with multipliers on
@@ -57,5 +55,7 @@ pub fn farkas_laws()
 
 /// At most one verdict on a set is right.
 pub fn one_verdict()
-    ensures { (qp : Qp) → IsDefinite qp.h.rows → (s : List ℕ) (v w : Verdict) → IsRight qp s v → IsRight qp s w → v ≡ w }
-{}
+    ensures { OneRightVerdict }
+{
+    mpc_rows::law_laws();
+}
