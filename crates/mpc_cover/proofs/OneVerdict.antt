@@ -1,19 +1,19 @@
 -- On a set at most one verdict is right: the runs of a set come in one order, and each verdict names the first of them that ends the search.
-use Rattle.std.proofs.Common.{◌≡◌, ℕ, zero, suc, ◌<◌, List, refl, sym, ◌∙◌, ap, subst, arith, ⊎_elim}
+use Rattle.std.proofs.Common.{◌≡◌, ℕ, zero, suc, ◌<◌, List, refl, sym, ◌∙◌, ap, subst, arith, ⊎_elim, inl, inr}
 use Rattle.std.proofs.lemmas.Bool.{cases_lt}
 use Rattle.mpc_space.specs.Matrix.{height}
 use Rattle.mpc_space.specs.Definite.{IsDefinite}
 use Rattle.mpc_rows.specs.declared.programs.Qp.{Qp}
 use Rattle.mpc_rows.specs.declared.laws.Law.{Law}
 use Rattle.mpc_rows.specs.declared.places.Place.{Place}
-use Rattle.mpc_rows.specs.declared.places.Place.TheVariants.{State, Cost, Row, Pivot, Law as LawRun, Reach, Border, Region as RegionRun, Meet, Holds, Joint, LawBound, NodeBound, CheckLaw, CheckLeaf}
+use Rattle.mpc_rows.specs.declared.places.Place.TheVariants.{Law as LawRun, Reach, Border, Region as RegionRun}
 use Rattle.mpc_rows.specs.declared.verdicts.Verdict.{Verdict}
 use Rattle.mpc_rows.specs.declared.verdicts.Verdict.TheVariants.{Dependent, Unreachable, Hollow, Region, Wide}
 use Rattle.mpc_rows.specs.RunWidth.{RunFits}
 use Rattle.mpc_rows.specs.ActiveSets.{IsIndependentSet, IsReachable}
 use Rattle.mpc_rows.specs.Laws.{IsLaw, HasRegion, HasLawWith}
 use Rattle.mpc_rows.specs.SetRuns.{LawFits, reach_system, LawRowsFit, RegionFits}
-use Rattle.mpc_rows.specs.Verdicts.{AllFit, IsFirstWideRow, IsWideRegion, IsFirstWide, IsRight}
+use Rattle.mpc_rows.specs.Verdicts.{AllFit, IsFirstWideRow, IsWideRegion, IsWideLaw, IsWideReach, IsWideBorder, IsWideInRegion, IsFirstWide, IsRight}
 use Rattle.mpc_rows.specs.LawLaws.{LawLaws}
 
 module _ (laws : LawLaws) (qp : Qp) (definite : IsDefinite qp.h.rows) (s : List ℕ) where
@@ -97,33 +97,34 @@ module _ (laws : LawLaws) (qp : Qp) (definite : IsDefinite qp.h.rows) (s : List 
   rows_fail : (row : ℕ) (law : Law) → IsFirstWideRow qp row law → LawRowsFit qp law (height qp.g) → ⊥
   rows_fail row law w fit = w.here (fit row w.from_one w.to_last)
 
-  of_wide : (place : Place) → IsFirstWide qp s place → Outcome (Wide place)
-  of_wide (LawRun set) w = record { stage = 0; passed = λ j l. absurd (omega (arith, l)); failed = w.1; named = ap (λ t. Wide (LawRun t)) w.0 }
-  of_wide (Reach set) w = record { stage = 2; passed = two_passed w.1 w.2; failed = w.3; named = ap (λ t. Wide (Reach t)) w.0 }
-  of_wide (Border set row) w = record {
+  of_wide_law : (place : Place) → IsWideLaw qp s place → Outcome (Wide place)
+  of_wide_law place w = record { stage = 0; passed = λ j l. absurd (omega (arith, l)); failed = w.1; named = ap Wide w.0 }
+
+  of_wide_reach : (place : Place) → IsWideReach qp s place → Outcome (Wide place)
+  of_wide_reach place w = record { stage = 2; passed = two_passed w.1 w.2; failed = w.3; named = ap Wide w.0 }
+
+  of_wide_border : (place : Place) → IsWideBorder qp s place → Outcome (Wide place)
+  of_wide_border place w = record {
     stage = 4;
-    passed = four_passed w.1.law w.2.independent w.1.reach w.2.reachable;
-    failed = not_each (IsFirstWideRow qp row) (λ law. LawRowsFit qp law (height qp.g)) (rows_fail row) w.3;
-    named = record { row = row; is = ap (λ t. Wide (Border t row)) w.0; law = w.3 };
+    passed = four_passed w.2.law w.3.independent w.2.reach w.3.reachable;
+    failed = not_each (IsFirstWideRow qp w.0) (λ law. LawRowsFit qp law (height qp.g)) (rows_fail w.0) w.4;
+    named = record { row = w.0; is = ap Wide w.1; law = w.4 };
   }
-  of_wide (RegionRun set) w = record {
+
+  of_wide_region : (place : Place) → IsWideInRegion qp s place → Outcome (Wide place)
+  of_wide_region place w = record {
     stage = 5;
     passed = more_passed 4 (four_passed w.1.law w.2.independent w.1.reach w.2.reachable)
         (each (λ law. LawRowsFit qp law (height qp.g)) w.2.independent (record { law = w.3.law; of_set = w.3.of_set; is_law = w.3.is_law; holds = w.3.holds.before }));
     failed = not_each (IsWideRegion qp) (RegionFits qp) (λ law h fit. h.here fit) w.3;
-    named = ap (λ t. Wide (RegionRun t)) w.0;
+    named = ap Wide w.0;
   }
-  of_wide (State k) w = absurd w
-  of_wide (Cost k) w = absurd w
-  of_wide (Row i) w = absurd w
-  of_wide (Pivot j) w = absurd w
-  of_wide (Meet node law) w = absurd w
-  of_wide (Holds node law i) w = absurd w
-  of_wide (Joint node) w = absurd w
-  of_wide (LawBound law input) w = absurd w
-  of_wide (NodeBound node) w = absurd w
-  of_wide (CheckLaw law) w = absurd w
-  of_wide (CheckLeaf node i) w = absurd w
+
+  of_wide : (place : Place) → IsFirstWide qp s place → Outcome (Wide place)
+  of_wide place (inl w) = of_wide_law place w
+  of_wide place (inr (inl w)) = of_wide_reach place w
+  of_wide place (inr (inr (inl w))) = of_wide_border place w
+  of_wide place (inr (inr (inr w))) = of_wide_region place w
 
   of_right : (v : Verdict) → IsRight qp s v → Outcome v
   of_right Dependent r = record { stage = 1; passed = one_passed r.1; failed = r.0; named = refl }

@@ -1,11 +1,11 @@
 -- When a verdict on an active set is right for a program: it tells what is so of the set, and none of the runs that decide it meets a number
 -- that is too wide; or it names the first run that does.
-use Rattle.std.specs.Prelude.{◌≡◌, ℕ, ◌-◌, ◌≤◌, List}
+use Rattle.std.specs.Prelude.{◌≡◌, ℕ, ◌-◌, ◌≤◌, ◌⊎◌, List}
 use Rattle.mpc_space.specs.Matrix.{height}
 use Rattle.mpc_rows.specs.declared.programs.Qp.{Qp}
 use Rattle.mpc_rows.specs.declared.laws.Law.{Law}
 use Rattle.mpc_rows.specs.declared.places.Place.{Place}
-use Rattle.mpc_rows.specs.declared.places.Place.TheVariants.{State, Cost, Row, Pivot, Law as LawRun, Reach, Border, Region as RegionRun, Meet, Holds, Joint, LawBound, NodeBound, CheckLaw, CheckLeaf}
+use Rattle.mpc_rows.specs.declared.places.Place.TheVariants.{Law as LawRun, Reach, Border, Region as RegionRun}
 use Rattle.mpc_rows.specs.declared.verdicts.Verdict.{Verdict}
 use Rattle.mpc_rows.specs.declared.verdicts.Verdict.TheVariants.{Dependent, Unreachable, Hollow, Region, Wide}
 use Rattle.mpc_rows.specs.RunWidth.{RunFits}
@@ -45,23 +45,22 @@ pub record IsWideRegion (qp : Qp) (law : Law) : Type 0 where
   pub before : LawRowsFit qp law (height qp.g)
   pub here : ¬ RegionFits qp law
 
--- the place names the first run of the set with a number that is too wide, and the runs before it don't decide the set
+-- The place names the first run of the set with a number that is too wide, and the runs before it don't decide the set: the elimination that
+-- gives the law, the search for a state that reaches the set, the first row of the law that is too wide, the search for a point of the region.
+abbrev pub IsWideLaw : Qp → List ℕ → Place → Type 0
+IsWideLaw qp s place = (place ≡ LawRun s) × ¬ LawFits qp s
+
+abbrev pub IsWideReach : Qp → List ℕ → Place → Type 0
+IsWideReach qp s place = (place ≡ Reach s) × LawFits qp s × IsIndependentSet qp s × ¬ RunFits (reach_system qp s)
+
+abbrev pub IsWideBorder : Qp → List ℕ → Place → Type 0
+IsWideBorder qp s place = (i : ℕ) × (place ≡ Border s i) × ReachFits qp s × CanGrow qp s × HasLawWith qp s (IsFirstWideRow qp i)
+
+abbrev pub IsWideInRegion : Qp → List ℕ → Place → Type 0
+IsWideInRegion qp s place = (place ≡ RegionRun s) × ReachFits qp s × CanGrow qp s × HasLawWith qp s (IsWideRegion qp)
+
 abbrev pub IsFirstWide : Qp → List ℕ → Place → Type 0
-IsFirstWide qp s (State k) = ⊥
-IsFirstWide qp s (Cost k) = ⊥
-IsFirstWide qp s (Row i) = ⊥
-IsFirstWide qp s (Pivot j) = ⊥
-IsFirstWide qp s (LawRun set) = (set ≡ s) × ¬ LawFits qp s
-IsFirstWide qp s (Reach set) = (set ≡ s) × LawFits qp s × IsIndependentSet qp s × ¬ RunFits (reach_system qp s)
-IsFirstWide qp s (Border set i) = (set ≡ s) × ReachFits qp s × CanGrow qp s × HasLawWith qp s (IsFirstWideRow qp i)
-IsFirstWide qp s (RegionRun set) = (set ≡ s) × ReachFits qp s × CanGrow qp s × HasLawWith qp s (IsWideRegion qp)
-IsFirstWide qp s (Meet node law) = ⊥
-IsFirstWide qp s (Holds node law i) = ⊥
-IsFirstWide qp s (Joint node) = ⊥
-IsFirstWide qp s (LawBound law input) = ⊥
-IsFirstWide qp s (NodeBound node) = ⊥
-IsFirstWide qp s (CheckLaw law) = ⊥
-IsFirstWide qp s (CheckLeaf node i) = ⊥
+IsFirstWide qp s place = IsWideLaw qp s place ⊎ (IsWideReach qp s place ⊎ (IsWideBorder qp s place ⊎ IsWideInRegion qp s place))
 
 -- the verdict is right for the set
 abbrev pub IsRight : Qp → List ℕ → Verdict → Type 0
