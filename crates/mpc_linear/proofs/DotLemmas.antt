@@ -5,12 +5,10 @@ use Rattle.mpc_exact.specs.Rational.{ℚ, ◌+ℚ◌, ◌*ℚ◌}
 use Rattle.mpc_exact.proofs.RationalRing.{reads, by_ring}
 use Rattle.mpc_space.specs.Vector.{dot}
 use Rattle.mpc_linear.specs.Dot.{TermFits, SumFits}
+use Rattle.mpc_linear.specs.SumLaws.{IsSumSoFar}
 
--- what is left to add, and what of it must fit, give the whole
-pub record Goes (start : ℚ) (xs ys : List ℚ) (k : ℕ) (sum : ℚ) : Type 0 where
-  pub value : sum +ℚ dot (drop k xs) (drop k ys) ≡ start +ℚ dot xs ys
-  pub ahead : SumFits sum (drop k xs) (drop k ys) → SumFits start xs ys
-  pub back : SumFits start xs ys → SumFits sum (drop k xs) (drop k ys)
+abbrev pub Goes : ℚ → List ℚ → List ℚ → ℕ → ℚ → Type 0
+Goes = IsSumSoFar
 
 pub goes_none : (start : ℚ) (xs ys : List ℚ) → Goes start xs ys 0 start
 goes_none start xs ys = record { value = refl; ahead = λ h. h; back = λ h. h }

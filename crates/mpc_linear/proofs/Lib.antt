@@ -16,3 +16,5 @@ pub mod TableLemmas
 pub mod Theorem
 pub mod Answered
 pub mod PrimitiveLemmas
+pub mod PrimitiveRows
+pub mod LawProofs

@@ -61,7 +61,7 @@ module _ (row : List ℤ) (b : ℤ) (k g : ℕ) (s : Sharing row b k g) (z : ℤ
     small = gcd-small g (unsigned_abs z) (2 ^ 127) s.small small;
   })
 
-All-last : (P : ℤ → Type 0) (xs : List ℤ) (y : ℤ) → All P (xs ++ (y ∷ [])) → All P xs × P y
+pub All-last : {X : Type 0} (P : X → Type 0) (xs : List X) (y : X) → All P (xs ++ (y ∷ [])) → All P xs × P y
 All-last P [] y a = (All-nil P, a 0 y (omega arith))
 All-last P (x ∷ xs) y a =
     let r = All-last P xs y (All-tail P x (xs ++ (y ∷ [])) a) in

@@ -1,6 +1,5 @@
 -- A product of matrices, entry by entry in one list.
-use Rattle.std.proofs.Common.{◌≡◌, ℕ, ◌+◌, ◌*◌, ◌<◌, List, [], ◌∷◌, ◌++◌, length, get_or, take, map, All, pos, refl, sym, ◌∙◌, ap, subst, arith, ⊎_elim}
-use Rattle.std.proofs.lemmas.Bool.{cases_eq}
+use Rattle.std.proofs.Common.{◌≡◌, ℕ, ◌+◌, ◌*◌, ◌<◌, List, [], ◌∷◌, ◌++◌, length, get_or, take, map, All, pos, refl, sym, ◌∙◌, ap, arith}
 use Rattle.std.proofs.lemmas.List.{get_or-map, take_all, map_more, take_at, drop_at, append_assoc, append-nil, length-append, length-map}
 use Rattle.std.proofs.lemmas.List.FromFn.{map-range_with_len_more}
 use Rattle.std.proofs.lemmas.List.Elements.{All-head, All-tail}
@@ -8,6 +7,7 @@ use Rattle.mpc_exact.specs.Rational.{ℚ, int}
 use Rattle.mpc_space.specs.Vector.{dot, column, listed, coordinate}
 use Rattle.mpc_space.specs.Matrix.{RationalMatrix, height, IsRectangular, mat_mul}
 use Rattle.mpc_space.proofs.Entries.{length-listed}
+pub use Rattle.mpc_space.proofs.Outcomes.{below_next}
 use Rattle.mpc_linear.specs.Grid.{rows_of, grid}
 use Rattle.mpc_linear.specs.Product.{product_row}
 use Rattle.mpc_linear.proofs.GridLemmas.{entry-grid, height-grid}
@@ -94,10 +94,6 @@ module _ (n w : ℕ) (xs : List ℚ) (m : RationalMatrix) (view : grid n w xs �
 
   pub stored_length : length xs ≡ n * w → length ys ≡ len * w
   stored_length h = ap length f ∙ h ∙ (λ i. sym (e ∙ ap height (sym view) ∙ height-grid n w xs) i * w)
-
--- what holds of each number below j and of j
-pub below_next : (P : ℕ → Type 0) (j : ℕ) → ((k : ℕ) → k < j → P k) → P j → (k : ℕ) → k < j + 1 → P k
-below_next P j h p k l = ⊎_elim (λ q. subst P (sym q) p) (λ q. h k (omega arith)) (cases_eq k j)
 
 pub product_wide : (a b : RationalMatrix) → IsRectangular (mat_mul a b)
 product_wide a b = all_wide b a.rows

@@ -8,3 +8,6 @@ pub mod Product
 pub mod Solution
 pub mod Stored
 pub mod Shape
+pub mod SumLaws
+pub mod ZeroLaws
+pub mod PrimitiveRows

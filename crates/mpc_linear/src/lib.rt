@@ -4,6 +4,7 @@
 mod elimination;
 mod errors;
 mod integers;
+mod laws;
 mod lists;
 mod matrices;
 mod products;
@@ -11,6 +12,7 @@ mod products;
 pub use elimination::{Solved, solve};
 pub use errors::LinearError;
 pub use integers::{IntAffine, RowInt, common, primitive};
+pub use laws::{primitive_laws, sum_laws, zero_laws};
 pub use lists::{Ints, Vector};
 pub use matrices::Matrix;
 pub use products::{add_product, dot, dot_from, sub_product};

@@ -9,3 +9,4 @@ pub mod Singles
 pub mod SetTexts
 pub mod Counting
 pub mod Levels
+pub mod LawProofs

@@ -3,11 +3,7 @@ use Rattle.std.proofs.Common.{◌≡◌, ℕ, suc, zero, ◌+◌, ◌<◌, ◌�
 use Rattle.std.proofs.lemmas.Bool.{cases_order, cases_eq, lt-ltb, le-ltb, eq-eqb, ne_eqb}
 use Rattle.std.proofs.lemmas.List.Elements.{filter-append}
 use Rattle.mpc_sets.specs.RowSet.{RisesWithin, with_row, without_row}
-
--- i is one of the members, by recursion on the list
-abbrev pub Among : ℕ → List ℕ → Type 0
-Among i [] = ⊥
-Among i (j ∷ rest) = (i ≡ j) ⊎ Among i rest
+pub use Rattle.mpc_sets.specs.RowSet.{Among}
 
 pub Contains-from_among : (i : ℕ) (s : List ℕ) → Among i s → Contains s i
 Contains-from_among i [] h = absurd h

@@ -32,15 +32,30 @@ IsBefore-cases s t = by (set_cmp s t) refl
     by Equal e = inl (set_cmp-Equal s t e)
     by Greater e = inr (inr (turned (set_cmp t s) (sym e ∙ set_cmp-total.antisymm s t)))
 
--- ---- sets of one size
-pub set_cmp-one_size : (s t : List ℕ) → length s ≡ length t → set_cmp s t ≡ slice_cmp nat_cmp s t
-set_cmp-one_size s t e = ap (λ o. ordering_then o (slice_cmp nat_cmp s t)) (ap (nat_cmp (length s)) (sym e) ∙ tied_itself nat_cmp_total (length s))
-
+-- ---- numbers
 pub less_numbers : (i j : ℕ) → i < j → nat_cmp i j ≡ Less
 less_numbers i j h = rw (lt-ltb i j h)
 
 pub numbers_less : (i j : ℕ) → nat_cmp i j ≡ Less → i < j
 numbers_less i j e = by_ranked (i < j) (i ≡ j) (j < i) (nat_cmp i j) (ranks i j) (λ _ h. h) (λ f _. cc) (λ f _. cc)
+
+-- ---- sets of different sizes
+-- a set before another has no more members
+pub before_size : (s t : List ℕ) → IsBefore s t → length s ≤ length t
+before_size s t b = by (nat_cmp (length s) (length t)) refl b
+  where
+    by : (o : Ordering) → nat_cmp (length s) (length t) ≡ o → ordering_then o (slice_cmp nat_cmp s t) ≡ Less → length s ≤ length t
+    by Less e f = let l = numbers_less (length s) (length t) e in omega arith
+    by Equal e f = let l = tied_numbers (length s) (length t) e in omega arith
+    by Greater e f = absurd (cc)
+
+-- a set of fewer members is before the other
+pub shorter_before : (s t : List ℕ) → length s < length t → IsBefore s t
+shorter_before s t l = let e = less_numbers (length s) (length t) l in ap (λ o. ordering_then o (slice_cmp nat_cmp s t)) e
+
+-- ---- sets of one size
+pub set_cmp-one_size : (s t : List ℕ) → length s ≡ length t → set_cmp s t ≡ slice_cmp nat_cmp s t
+set_cmp-one_size s t e = ap (λ o. ordering_then o (slice_cmp nat_cmp s t)) (ap (nat_cmp (length s)) (sym e) ∙ tied_itself nat_cmp_total (length s))
 
 pub slice_cmp-last : (f : List ℕ) (x y : ℕ) → x < y → slice_cmp nat_cmp (f ++ x ∷ []) (f ++ y ∷ []) ≡ Less
 slice_cmp-last [] x y h = rw (less_numbers x y h)

@@ -1,10 +1,15 @@
 -- Sets of row numbers. A set is the list of its members in rising order.
-use Rattle.std.specs.Prelude.{◌≡◌, ℕ, ◌+◌, ◌<◌, ◌≤◌, cond, not, List, [], ◌∷◌, length, nat_lt, ◌==◌, Contains, filter}
+use Rattle.std.specs.Prelude.{◌≡◌, ℕ, ◌+◌, ◌<◌, ◌≤◌, ◌⊎◌, cond, not, List, [], ◌∷◌, length, nat_lt, ◌==◌, Contains, filter}
 
 -- each number is above the one before it, the first above `low`, and none is above `high`
 abbrev pub RisesWithin : ℕ → ℕ → List ℕ → Type 0
 RisesWithin low high [] = Unit {0}
 RisesWithin low high (i ∷ rest) = (low < i) × (i ≤ high) × RisesWithin i high rest
+
+-- i is one of the members, by recursion on the list
+abbrev pub Among : ℕ → List ℕ → Type 0
+Among i [] = ⊥
+Among i (j ∷ rest) = (i ≡ j) ⊎ Among i rest
 
 -- a set of some of the rows 1 to `rows`
 pub record IsSetOfRows (rows : ℕ) (s : List ℕ) : Type 0 where

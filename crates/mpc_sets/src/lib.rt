@@ -11,6 +11,9 @@ ghost use Rattle.mpc_sets.specs.SetText.{set_text};
 ghost use Rattle.mpc_sets.specs.SetOrder.{IsInOrder};
 ghost use Rattle.mpc_sets.specs.NextLevel.{IsOfOneSize, IsLevel, IsNextOf, IsSingle, AllOneLarger, ExtendsOneOf, HoldsNext};
 
+mod laws;
+
+pub use laws::{count_laws, level_law, member_laws, order_laws};
 use mpc_frac::NoMemory;
 use std::alloc::Global;
 use std::cmp::Ordering;

@@ -6,4 +6,5 @@ pub mod Quadratic
 pub mod Elimination
 pub mod Definite
 pub mod Optimality
+pub mod Outcomes
 mod DefinitionTests

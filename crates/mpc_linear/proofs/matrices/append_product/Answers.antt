@@ -4,7 +4,8 @@ use Rattle.std.proofs.lemmas.List.{append-nil}
 use Rattle.mpc_space.specs.Vector.{dot, column, listed}
 use Rattle.mpc_linear.specs.Dot.{DotFits}
 use Rattle.mpc_linear.proofs.GridLemmas.{columns_is}
-use Rattle.mpc_linear.proofs.ProductLemmas.{row_more, stored_column, stored_length, below_next}
+use Rattle.mpc_linear.proofs.ProductLemmas.{row_more, stored_column, stored_length}
+use Rattle.mpc_space.proofs.Outcomes.{below_next}
 use Rattle.mpc_linear.proofs.matrices.append_product.Goals as goal
 use Rattle.mpc_linear.proofs.matrices.append_product.Goals.{After-dot_with_column, After-loop-j}
 

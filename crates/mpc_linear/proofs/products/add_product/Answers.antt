@@ -3,7 +3,7 @@ use Rattle.mpc_exact.specs.Rational.{int, ◌+ℚ◌, ◌*ℚ◌}
 use Rattle.mpc_frac.specs.Fits.{FitsFrac}
 use Rattle.mpc_linear.specs.Dot.{TermFits}
 use Rattle.mpc_linear.proofs.ZeroFits.{zero_left, zero_right, zero_add, from_zero, nothing_added, same_added}
-use Rattle.mpc_linear.proofs.Outcomes.{value_as, fits_as}
+use Rattle.mpc_space.proofs.Outcomes.{value_as, fits_as}
 use Rattle.mpc_linear.proofs.products.add_product.Goals as goal
 use Rattle.mpc_linear.proofs.products.add_product.Goals.{then-is_zero-via-then-is_zero, then-is_zero-via-else-is_zero+then-is_zero-2}
 

@@ -3,7 +3,8 @@ use Rattle.std.proofs.lemmas.Result.{err_from_is_err_and}
 use Rattle.mpc_space.specs.Matrix.{height}
 use Rattle.mpc_linear.specs.Product.{product_row, DotsFit, RowFits, IsFirstWide}
 use Rattle.mpc_linear.proofs.GridLemmas.{height_is, columns_is, rectangular_is}
-use Rattle.mpc_linear.proofs.ProductLemmas.{product_rows, product_more, product_length, product_grid, below_next}
+use Rattle.mpc_linear.proofs.ProductLemmas.{product_rows, product_more, product_length, product_grid}
+use Rattle.mpc_space.proofs.Outcomes.{below_next}
 use Rattle.mpc_linear.proofs.Outcomes.{IfWide-weaker}
 use Rattle.mpc_linear.proofs.matrices.Matrix.times.Goals as goal
 use Rattle.mpc_linear.proofs.matrices.Matrix.times.Goals.{After-row, After-loop-i}

@@ -1,0 +1,28 @@
+-- The laws of sums of products, and of 0 in them.
+use Rattle.std.proofs.Common.{pos, sym, ◌∙◌}
+use Rattle.std.proofs.lemmas.List.{get_or_default}
+use Rattle.mpc_exact.specs.Rational.{int}
+use Rattle.mpc_linear.specs.SumLaws.{SumLaws}
+use Rattle.mpc_linear.specs.ZeroLaws.{ZeroLaws}
+use Rattle.mpc_linear.proofs.DotLemmas.{goes_none, goes_more, goes_wide, goes_value, goes_fits}
+use Rattle.mpc_linear.proofs.ZeroFits.{fits_zero, fits_add_zero, nothing_added}
+
+pub sum_laws : SumLaws
+sum_laws = record {
+  none = goes_none;
+  more = λ start xs ys k sum x y next at so e t.
+      goes_more start xs ys k sum x y at.within_left at.within_right
+      (at.left ∙ get_or_default xs k (int (pos 0)) x at.within_left) (at.right ∙ get_or_default ys k (int (pos 0)) y at.within_right) so next e t;
+  wide = λ start xs ys k sum x y at so t.
+      goes_wide start xs ys k sum x y at.within_left at.within_right
+      (at.left ∙ get_or_default xs k (int (pos 0)) x at.within_left) (at.right ∙ get_or_default ys k (int (pos 0)) y at.within_right) so t;
+  value = λ start xs ys k sum end so. goes_value start xs ys k sum end so;
+  fits = λ start xs ys k sum end so. goes_fits start xs ys k sum end so;
+}
+
+pub zero_laws : ZeroLaws
+zero_laws = record {
+  zero_fits = fits_zero;
+  zero_added_fits = fits_add_zero;
+  no_product_fits = λ s x y h e. nothing_added s x y h (sym e);
+}

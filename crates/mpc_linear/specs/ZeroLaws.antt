@@ -1,0 +1,10 @@
+-- Adding 0 and multiplying by 0 are never too wide.
+use Rattle.std.specs.Prelude.{◌≡◌, pos}
+use Rattle.mpc_exact.specs.Rational.{ℚ, int, ◌*ℚ◌}
+use Rattle.mpc_frac.specs.Fits.{FitsFrac, FitsSum}
+use Rattle.mpc_linear.specs.Dot.{TermFits}
+
+pub record ZeroLaws : Type 0 where
+  pub zero_fits : FitsFrac (int (pos 0))
+  pub zero_added_fits : (x : ℚ) → FitsFrac x → FitsSum x (int (pos 0))
+  pub no_product_fits : (s x y : ℚ) → FitsFrac s → x *ℚ y ≡ int (pos 0) → TermFits s x y

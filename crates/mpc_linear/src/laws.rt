@@ -1,0 +1,24 @@
+//! What holds of all sums of products, and of all rows in whole numbers. The calls do nothing: their
+//! contracts are the laws.
+
+ghost use Rattle.mpc_linear.specs.SumLaws.{SumLaws};
+ghost use Rattle.mpc_linear.specs.ZeroLaws.{ZeroLaws};
+ghost use Rattle.mpc_linear.specs.PrimitiveRows.{OnePrimitiveRow, SmallPrimitiveRow};
+
+/// A sum of products is formed product by product, and fits where each of them and each sum on the
+/// way does.
+pub fn sum_laws()
+    ensures { SumLaws }
+{}
+
+/// Adding 0 and multiplying by 0 are never too wide.
+pub fn zero_laws()
+    ensures { ZeroLaws }
+{}
+
+/// A row has at most one multiple in whole numbers without a common divisor, and that one is small
+/// where the numbers fit that bring the row to whole numbers.
+pub fn primitive_laws()
+    ensures one { OnePrimitiveRow }
+    ensures small { SmallPrimitiveRow }
+{}
