@@ -1,3 +1,4 @@
 pub mod Pivots
 pub mod Steps
 pub mod Causes
+pub mod PivotLaws
