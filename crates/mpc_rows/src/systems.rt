@@ -1,6 +1,6 @@
 //! Systems of linear rows, some of them strict, with points and multipliers.
 
-ghost use Rattle.std.specs.Prelude.{◌≡◌, ◌<◌, [], ◌∷◌, ◌++◌, ◌↔◌, Some, IsTrue, OnOk, OnErr, length, slice_get, slice_index_or, pos};
+ghost use Rattle.std.specs.Prelude.{◌≡◌, ◌<◌, [], ◌∷◌, ◌++◌, ◌↔◌, Some, IsTrue, IfOk, OnOk, OnErr, length, take, slice_get, slice_index_or, pos};
 ghost use Rattle.mpc_exact.specs.Rational.{int};
 
 use mpc_frac::{Frac, NoMemory};
@@ -14,6 +14,31 @@ pub struct Row {
     pub a: Vector,
     pub b: Frac,
     pub strict: bool,
+}
+
+/// The same vector once more.
+fn copied(alloc: Global, vector: &Vector) -> Result<Vector, NoMemory>
+    ensures { IfOk result (λ v. v ≡ vector.now) }
+{
+    let mut copy = Vector::new(alloc);
+    for x in vector.as_slice() {
+        copy.push(*x)?;
+    }
+    Ok(copy)
+}
+
+impl Row {
+    /// The same row once more.
+    pub fn copy(&self, alloc: Global) -> Result<Row, NoMemory>
+        ensures { IfOk result (λ row. row ≡ self.now) }
+    {
+        let a = copied(alloc, &self.a)?;
+        Ok(Row {
+            a,
+            b: self.b,
+            strict: self.strict,
+        })
+    }
 }
 
 /// A list of rows.
@@ -80,6 +105,13 @@ impl Rows {
         }
         Ok(())
     }
+
+    /// Keeps the first so many rows and gives up the others.
+    pub fn truncate(&mut self, count: usize)
+        ensures { self.new ≡ take count self.old }
+    {
+        self.items.truncate(count);
+    }
 }
 
 /// Rows in the unknowns `v_1` to `v_width`: each row has one coefficient for each unknown.
@@ -121,6 +153,14 @@ impl System {
         ensures err { OnErr result (self.new.rows ≡ self.old.rows) }
     {
         self.rows.push(row)
+    }
+
+    /// Keeps the first so many rows and gives up the others.
+    pub fn truncate(&mut self, count: usize)
+        ensures width { self.new.width ≡ self.old.width }
+        ensures rows { self.new.rows ≡ take count self.old.rows }
+    {
+        self.rows.truncate(count);
     }
 
     /// How many unknowns there are.

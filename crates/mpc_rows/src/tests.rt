@@ -1,4 +1,4 @@
-use crate::{Counts, Place};
+use crate::{Cert, Counts, Judged, LawTable, Node, Place, Qp, Tree, Verdict};
 use mpc_sets::ActiveSet;
 use std::alloc::Global;
 use std::test::Fail;
@@ -46,5 +46,33 @@ fn counts(rt: HostRuntime) -> Result<(), Fail> {
     assert_eq!(rt; counts.len(), 2);
     assert_eq!(rt; *counts.at(0), 7);
     assert_eq!(rt; counts.as_slice(), [7, 0].as_slice());
+    Ok(())
+}
+
+/// What threads share and pass on.
+fn crosses<T: Send + Sync>(_value: &T) {}
+
+fn crossing(qp: &Qp, laws: &LawTable, tree: &Tree, judged: &Judged) {
+    crosses(qp);
+    crosses(laws);
+    crosses(tree);
+    crosses(judged);
+}
+
+fn leaf(alloc: Global) -> Node {
+    Node::NoMove {
+        cert: Cert::new(alloc),
+    }
+}
+
+#[test]
+fn trees_are_joined(rt: HostRuntime) -> Result<(), Fail> {
+    let mut tree = Tree::new(rt.alloc());
+    tree.push(leaf(rt.alloc()))?;
+    let mut other = Tree::new(rt.alloc());
+    other.push(leaf(rt.alloc()))?;
+    other.push(leaf(rt.alloc()))?;
+    tree.append(other)?;
+    assert_eq!(rt; tree.len(), 3);
     Ok(())
 }

@@ -229,4 +229,16 @@ impl Tree {
         }
         Ok(())
     }
+
+    /// Puts the nodes of another tree behind the others, in their order. Without memory the tree stays as it was, and the other is given up.
+    pub fn append(&mut self, other: Tree) -> Result<(), NoMemory>
+        ensures ok { OnOk result (self.new ≡ self.old ++ other) }
+        ensures err { OnErr result (self.new ≡ self.old) }
+    {
+        let Tree { mut items } = other;
+        if self.items.append(&mut items).is_err() {
+            return Err(NoMemory);
+        }
+        Ok(())
+    }
 }
