@@ -5,4 +5,3 @@ pub mod CertShapes
 pub mod TreeShapes
 pub mod BoxCounts
 pub mod OneTable
-pub mod OneBound

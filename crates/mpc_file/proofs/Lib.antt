@@ -1,4 +1,6 @@
 pub mod BoundLemmas
+pub mod OneBoundLemmas
 pub mod PreorderLemmas
 pub mod OneLeafLemmas
 pub mod LineLemmas
+pub mod OffsetLemmas

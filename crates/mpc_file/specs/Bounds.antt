@@ -1,5 +1,5 @@
 -- The bounds on a controller's numbers, under which no number on the way to a reply is too wide at counts up to the plant's.
-use Rattle.std.specs.Prelude.{◌≡◌, ℕ, ◌+◌, ◌*◌, ◌^◌, ◌<◌, ℤ, unsigned_abs, List, [], ◌∷◌, length, map, take, All, slice_index_or, slice_get, Some}
+use Rattle.std.specs.Prelude.{◌≡◌, ℕ, ◌+◌, ◌*◌, ◌^◌, ◌<◌, ◌⊎◌, ℤ, unsigned_abs, List, [], ◌∷◌, length, map, take, All, slice_index_or, slice_get, Some}
 use Rattle.mpc_exact.specs.Rational.{ℚ}
 use Rattle.mpc_exact.specs.Denominator.{common_denom}
 use Rattle.mpc_linear.specs.Whole.{scaled, WholeFits}
@@ -9,7 +9,7 @@ use Rattle.mpc_rows.specs.declared.laws.Law.{Law as LawOfSet}
 use Rattle.mpc_rows.specs.declared.trees.Node.{Node}
 use Rattle.mpc_rows.specs.declared.trees.Node.TheVariants.{Split, Law as LawLeaf, NoMove}
 use Rattle.mpc_rows.specs.declared.places.Place.{Place}
-use Rattle.mpc_rows.specs.declared.places.Place.TheVariants.{State, Cost, Row, Pivot, Law, Reach, Border, Region, Meet, Holds, Joint, LawBound, NodeBound, CheckLaw, CheckLeaf}
+use Rattle.mpc_rows.specs.declared.places.Place.TheVariants.{LawBound, NodeBound}
 use Rattle.mpc_file.specs.Parts.{limits_of, HaveShapes}
 use Rattle.mpc_file.specs.declared.errors.SealError.{SealError}
 use Rattle.mpc_file.specs.declared.errors.SealError.TheVariants.{Wide, NoMemory}
@@ -95,22 +95,16 @@ pub record IsWideNode (plant : Plant) (laws : List LawOfSet) (tree : List Node) 
   pub laws_fit : All (LawFits plant) laws
   pub first : IsFirstWideNode (limits_of plant) tree number
 
+-- the first bound that is broken is that of this law's input
+abbrev pub IsBrokenLaw : Plant → List LawOfSet → Place → Type 0
+IsBrokenLaw plant laws place = (law : ℕ) × (input : ℕ) × (place ≡ LawBound law input) × IsWideInput plant laws law input
+
+-- the first bound that is broken is that of this node
+abbrev pub IsBrokenNode : Plant → List LawOfSet → List Node → Place → Type 0
+IsBrokenNode plant laws tree place = (node : ℕ) × (place ≡ NodeBound node) × IsWideNode plant laws tree node
+
 abbrev pub IsFirstBroken : Plant → List LawOfSet → List Node → Place → Type 0
-IsFirstBroken plant laws tree (State k) = ⊥
-IsFirstBroken plant laws tree (Cost k) = ⊥
-IsFirstBroken plant laws tree (Row i) = ⊥
-IsFirstBroken plant laws tree (Pivot j) = ⊥
-IsFirstBroken plant laws tree (Law set) = ⊥
-IsFirstBroken plant laws tree (Reach set) = ⊥
-IsFirstBroken plant laws tree (Border set i) = ⊥
-IsFirstBroken plant laws tree (Region set) = ⊥
-IsFirstBroken plant laws tree (Meet node law) = ⊥
-IsFirstBroken plant laws tree (Holds node law i) = ⊥
-IsFirstBroken plant laws tree (Joint node) = ⊥
-IsFirstBroken plant laws tree (LawBound law input) = IsWideInput plant laws law input
-IsFirstBroken plant laws tree (NodeBound node) = IsWideNode plant laws tree node
-IsFirstBroken plant laws tree (CheckLaw law) = ⊥
-IsFirstBroken plant laws tree (CheckLeaf node i) = ⊥
+IsFirstBroken plant laws tree place = IsBrokenLaw plant laws place ⊎ IsBrokenNode plant laws tree place
 
 -- the error names the first bound that is broken, unless there is no memory
 abbrev pub ExplainsSealError : Plant → List LawOfSet → List Node → SealError → Type 0

@@ -1,5 +1,5 @@
 -- The lines of a controller's file. A line has a first word, and further words behind one blank each.
-use Rattle.std.specs.Prelude.{ℕ, List, [], ◌∷◌, ◌++◌, length, map, codes, decimal}
+use Rattle.std.specs.Prelude.{ℕ, List, [], ◌∷◌, ◌++◌, length, map, codes, decimal, if◌then◌else◌}
 use Rattle.std.specs.Fmt.{signed_decimal}
 use Rattle.std.specs.List.{flat_map}
 use Rattle.mpc_exact.specs.Rational.{ℚ}
@@ -13,6 +13,7 @@ use Rattle.mpc_rows.specs.declared.laws.Law.{Law as LawOfSet}
 use Rattle.mpc_rows.specs.declared.trees.Node.{Node}
 use Rattle.mpc_rows.specs.declared.trees.Node.TheVariants.{Split, Law, NoMove}
 use Rattle.mpc_file.specs.Parts.{Parts}
+use Rattle.mpc_file.specs.Offsets.{has_no_offset}
 
 -- each word behind a blank
 abbrev pub behind_blanks : List (List ℕ) → List ℕ
@@ -44,6 +45,17 @@ matrix_line first m = line first (matrix_words m)
 abbrev pub matrix_lines : Plant → List (List ℕ)
 matrix_lines plant = matrix_line (codes "A") plant.a ∷ matrix_line (codes "B") plant.b ∷ matrix_line (codes "Q") plant.q ∷ matrix_line (codes "R") plant.r ∷ matrix_line (codes "P") plant.last ∷ []
 
+abbrev pub drift_line : Plant → List ℕ
+drift_line plant = fractions_line (codes "drift") plant.drift
+
+-- the state to be reached, and then the input to be held
+abbrev pub goal_line : Plant → List ℕ
+goal_line plant = fractions_line (codes "goal") (plant.xgoal ++ plant.ugoal)
+
+-- nothing is written of a drift and of targets that are all 0
+abbrev pub offset_lines : Plant → List (List ℕ)
+offset_lines plant = if has_no_offset plant then [] else drift_line plant ∷ goal_line plant ∷ []
+
 abbrev pub row_line : PlantRow → List ℕ
 row_line row = fractions_line (codes "row") (row.x ++ row.u ++ row.max ∷ [])
 
@@ -61,7 +73,7 @@ abbrev pub grid_line : Coordinate → List ℕ
 grid_line axis = line (codes "grid") (fraction_text axis.low ∷ fraction_text axis.step ∷ decimal axis.count ∷ [])
 
 abbrev pub plant_lines : Plant → List (List ℕ)
-plant_lines plant = size_line plant ∷ (matrix_lines plant ++ row_lines plant.rows ++ last_lines plant.terminal ++ map grid_line plant.grid)
+plant_lines plant = size_line plant ∷ (matrix_lines plant ++ offset_lines plant ++ row_lines plant.rows ++ last_lines plant.terminal ++ map grid_line plant.grid)
 
 -- ---- the laws
 -- the members of the law's set, then a line for each move and one for each multiplier
@@ -93,5 +105,9 @@ abbrev pub tree_lines : List Node → List (List ℕ)
 tree_lines nodes = codes "tree" ∷ flat_map node_lines nodes
 
 -- ---- the whole file
+-- the version of the text, which is 1 where the plant has no offset
+abbrev pub version_line : Plant → List ℕ
+version_line plant = if has_no_offset plant then codes "mpc 1" else codes "mpc 2"
+
 abbrev pub lines_of : Parts → List (List ℕ)
-lines_of parts = codes "mpc 1" ∷ (plant_lines parts.plant ++ table_lines parts.laws ++ tree_lines parts.tree ++ codes "end" ∷ [])
+lines_of parts = version_line parts.plant ∷ (plant_lines parts.plant ++ table_lines parts.laws ++ tree_lines parts.tree ++ codes "end" ∷ [])

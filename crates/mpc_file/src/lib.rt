@@ -10,5 +10,5 @@ mod writing;
 pub use bounds::limits;
 pub use controllers::Controller;
 pub use errors::SealError;
-pub use laws::one_leaf;
+pub use laws::{bound_laws, offset_test, one_leaf, preorder_laws};
 pub use writing::write_file;

@@ -15,7 +15,7 @@ use law_lines::write_table;
 use mpc_frac::NoMemory;
 use mpc_plant::Plant;
 use mpc_rows::{LawTable, Tree};
-use plant_lines::write_plant;
+use plant_lines::{write_plant, write_version};
 use std::alloc::Global;
 use tree_lines::write_tree;
 use words::write_piece;
@@ -30,7 +30,7 @@ fn write_parts(
     ensures { OnOk result (out.new.items ≡ out.old.items
         ++ text_of (record { plant = plant.now; laws = laws.now; tree = tree.now })) }
 {
-    write_piece(b"mpc 1\n", out)?;
+    write_version(plant, out)?;
     write_plant(plant, out)?;
     write_table(laws, out)?;
     write_tree(tree, out)?;
@@ -38,8 +38,9 @@ fn write_parts(
 }
 
 /// The controller's file: its plant, its laws and its search tree as lines of ASCII text, each ended by
-/// a line feed. All numbers are exact, and a controller has only this one text. The only error is want
-/// of memory.
+/// a line feed. All numbers are exact, and a controller has only this one text. Its version is 1 where
+/// the plant's drift and targets are all 0, and else 2, with a line of the drift and one of the targets
+/// behind those of the matrices. The only error is want of memory.
 pub fn write_file(alloc: Global, controller: &Controller) -> Result<Vec<u8>, NoMemory>
     ensures { IfOk result (λ bytes. bytes.items ≡ text_of controller.now) }
 {

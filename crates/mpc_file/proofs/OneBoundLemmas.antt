@@ -7,9 +7,10 @@ use Rattle.mpc_plant.specs.declared.plants.Plant.{Plant}
 use Rattle.mpc_rows.specs.declared.laws.Law.{Law as LawOfSet}
 use Rattle.mpc_rows.specs.declared.trees.Node.{Node}
 use Rattle.mpc_rows.specs.declared.places.Place.{Place}
-use Rattle.mpc_rows.specs.declared.places.Place.TheVariants.{State, Cost, Row, Pivot, Law, Reach, Border, Region, Meet, Holds, Joint, LawBound, NodeBound, CheckLaw, CheckLeaf}
+use Rattle.mpc_rows.specs.declared.places.Place.TheVariants.{LawBound, NodeBound}
 use Rattle.mpc_file.specs.Parts.{limits_of}
 use Rattle.mpc_file.specs.Bounds.{InputsFit, LawFits, NodeFits, KeepBounds, IsFirstWideForm, IsWideInput, IsFirstWideNode, IsWideNode, IsFirstBroken}
+use Rattle.mpc_file.specs.OneBound.{OneFirstBroken, KeptNotBroken}
 use Rattle.mpc_file.proofs.BoundLemmas.{all_at}
 
 fits_before : {X : Type 0} (P : X → Type 0) (xs : List X) (i j : ℕ) (x : X) → slice_get xs i ≡ Some x → i < j → All P (take j xs) → P x
@@ -75,49 +76,18 @@ module _ (plant : Plant) (laws : List LawOfSet) (tree : List Node) where
       let places = one_place (NodeFits (limits_of plant)) tree w.place v.place w.node v.node w.node_at v.node_at w.nodes_before v.nodes_before w.here v.here in
       ap NodeBound (w.number_is ∙ ap (λ k. k + 1) places ∙ sym v.number_is)
 
-  -- the bounds of which a place may tell
-  record IsLawBound (p : Place) : Type 0 where
-    pub number : ℕ
-    pub input : ℕ
-    pub is : p ≡ LawBound number input
-    pub wide : IsWideInput plant laws number input
+  one_broken : (p q : Place) → IsFirstBroken plant laws tree p → IsFirstBroken plant laws tree q → p ≡ q
+  one_broken p q (inl (law, input, is, wide)) (inl (law', input', is', wide')) = is ∙ one_input law input law' input' wide wide' ∙ sym is'
+  one_broken p q (inl (law, input, is, wide)) (inr (node, is', wide')) = absurd (laws_wide law input wide wide'.laws_fit)
+  one_broken p q (inr (node, is, wide)) (inl (law, input, is', wide')) = absurd (laws_wide law input wide' wide.laws_fit)
+  one_broken p q (inr (node, is, wide)) (inr (node', is', wide')) = is ∙ one_node node node' wide.first wide'.first ∙ sym is'
 
-  record IsNodeBound (p : Place) : Type 0 where
-    pub number : ℕ
-    pub is : p ≡ NodeBound number
-    pub wide : IsWideNode plant laws tree number
+  not_broken : (p : Place) → KeepBounds plant laws tree → IsFirstBroken plant laws tree p → ⊥
+  not_broken p kept (inl (law, input, is, wide)) = laws_wide law input wide kept.laws_fit
+  not_broken p kept (inr (node, is, wide)) = nodes_wide node wide.first kept.nodes_fit
 
-  bounds_alone : (p : Place) → IsFirstBroken plant laws tree p → IsLawBound p ⊎ IsNodeBound p
-  bounds_alone (State k) h = absurd h
-  bounds_alone (Cost k) h = absurd h
-  bounds_alone (Row i) h = absurd h
-  bounds_alone (Pivot j) h = absurd h
-  bounds_alone (Law set) h = absurd h
-  bounds_alone (Reach set) h = absurd h
-  bounds_alone (Border set i) h = absurd h
-  bounds_alone (Region set) h = absurd h
-  bounds_alone (Meet node law) h = absurd h
-  bounds_alone (Holds node law i) h = absurd h
-  bounds_alone (Joint node) h = absurd h
-  bounds_alone (LawBound law input) h = inl (record { number = law; input = input; is = λ _. LawBound law input; wide = h })
-  bounds_alone (NodeBound node) h = inr (record { number = node; is = λ _. NodeBound node; wide = h })
-  bounds_alone (CheckLaw law) h = absurd h
-  bounds_alone (CheckLeaf node i) h = absurd h
+pub one_first_broken : OneFirstBroken
+one_first_broken plant laws tree = one_broken plant laws tree
 
-  pub one_first_broken : (p q : Place) → IsFirstBroken plant laws tree p → IsFirstBroken plant laws tree q → p ≡ q
-  one_first_broken p q h k = elim (bounds_alone p h) [
-    | inl a ↦ elim (bounds_alone q k) [
-      | inl b ↦ a.is ∙ one_input a.number a.input b.number b.input a.wide b.wide ∙ sym b.is
-      | inr b ↦ absurd (laws_wide a.number a.input a.wide b.wide.laws_fit)
-    ]
-    | inr a ↦ elim (bounds_alone q k) [
-      | inl b ↦ absurd (laws_wide b.number b.input b.wide a.wide.laws_fit)
-      | inr b ↦ a.is ∙ one_node a.number b.number a.wide.first b.wide.first ∙ sym b.is
-    ]
-  ]
-
-  pub kept_not_broken : (p : Place) → KeepBounds plant laws tree → IsFirstBroken plant laws tree p → ⊥
-  kept_not_broken p kept h = elim (bounds_alone p h) [
-    | inl a ↦ laws_wide a.number a.input a.wide kept.laws_fit
-    | inr a ↦ nodes_wide a.number a.wide.first kept.nodes_fit
-  ]
+pub kept_not_broken : KeptNotBroken
+kept_not_broken plant laws tree = not_broken plant laws tree
