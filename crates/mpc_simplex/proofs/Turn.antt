@@ -1,4 +1,4 @@
-use Rattle.std.proofs.Common.{◌≡◌, ◌≢◌, ℕ, ◌<◌, ◌≤◌, true, false, cond, not, ◌&&◌, ltb, pos, Option, Some, None, sym, ◌∙◌, ap, subst, ◌⊎◌, inl, inr, ⊎_elim, ltb-false, lt-ltb, le-ltb}
+use Rattle.std.proofs.Common.{◌≡◌, ◌≢◌, ℕ, ◌<◌, ◌≤◌, true, false, cond, not, ◌&&◌, ltb, pos, Option, Some, None, sym, ◌∙◌, ap, subst, ◌⊎◌, inl, inr, ⊎_elim, ltb-false, lt-ltb, le-ltb, ◌↔◌}
 use Rattle.std.proofs.lemmas.Bool.{cond-true, cond-false, cases_Bool, both_ways, not-true, not-false, and_parts, and_cases, and_from}
 use Rattle.mpc_exact.specs.Rational.{ℚ, int, ◌≤ℚ◌, le_ℚ, lt_ℚ}
 use Rattle.mpc_exact.proofs.RationalOrder.{IsPositive, ≤ℚ_antisymm, ≤ℚ_refl, <ℚ_irrefl}
@@ -56,6 +56,9 @@ pub zero-is_zero : (c : ℚ) → c ≡ int (pos 0) → is_zero c ≡ true
 zero-is_zero c e =
     subst (λ z. is_zero z ≡ true) (sym e)
     (and_from (le_ℚ (int (pos 0)) (int (pos 0))) (le_ℚ (int (pos 0)) (int (pos 0))) (test_true _ ((le_ℚ_is (int (pos 0)) (int (pos 0))).1 (≤ℚ_refl (int (pos 0))))) (test_true _ ((le_ℚ_is (int (pos 0)) (int (pos 0))).1 (≤ℚ_refl (int (pos 0))))))
+
+pub zero_passes : (c : ℚ) → (is_zero c ≡ true) ↔ (c ≡ int (pos 0))
+zero_passes c = (is_zero-true c, zero-is_zero c)
 
 module _ (s : LinearSystem) (p : Position) where
   may_leave-true : (x : ℕ) → may_leave s p x ≡ true → IsViolated s p x

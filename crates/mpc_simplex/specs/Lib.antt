@@ -1,3 +1,7 @@
 pub mod Table
 pub mod Exchange
 pub mod Answer
+pub mod Whole
+pub mod Norms
+pub mod Found
+pub mod RunLaws

@@ -9,13 +9,22 @@ ghost use Rattle.mpc_simplex.specs.Answer.{IfPoint, IfRefuted, IfWide, HasPoint,
 
 #[cfg(test)]
 mod end_tests;
+mod laws;
 mod numbers;
 mod run;
 mod sides;
 mod tableau;
 #[cfg(test)]
 mod tests;
+mod whole;
+mod whole_ends;
+mod whole_numbers;
+mod whole_pivot;
+mod whole_rows;
+mod whole_turn;
+mod whole_values;
 
+pub use laws::{run_laws, zero_test};
 use mpc_rows::{Multipliers, PairPoint, System};
 use run::run_end;
 use std::alloc::Global;
@@ -44,7 +53,9 @@ pub enum SimplexError {
 /// Whether the system has a point, by the simplex method with the rule of least numbers (Bland
 /// 1977), strict rows in pairs of fractions.
 ///
-/// All memory is taken before the first step. `Wide` where the run forms a number that doesn't fit.
+/// A system of whole numbers is run in whole numbers as long as they stay small, and in fractions
+/// elsewhere. Each of the two takes all its memory before its first step. `Wide` where the run forms
+/// a number that doesn't fit.
 pub fn decide(alloc: Global, system: &System) -> Result<Decision, SimplexError>
     ensures point { IfOk result (λ d. IfPoint d (IsPairPoint system.now)) }
     ensures has_point { IfOk result (λ d. IfPoint d (λ _. HasPoint system.now)) }

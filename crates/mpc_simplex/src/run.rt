@@ -12,6 +12,7 @@ ghost use Rattle.mpc_simplex.specs.Answer.{IsValues, IsMultipliers, IsRunEnd, If
 use crate::numbers::{Standing, is_positive, is_zero, zero};
 use crate::sides::{earlier, is_unknown, rest};
 use crate::tableau::{Seat, cell, column_of, exchange, is_basic, row_of};
+use crate::whole::whole_end;
 use crate::{Decision, SimplexError};
 use mpc_frac::{Frac, Wide};
 use mpc_linear::add_product;
@@ -273,7 +274,11 @@ fn opening_seat(system: &System, x: usize) -> Seat
 }
 
 /// Where each variable stands at first.
-fn opening_seats(alloc: Global, system: &System, n: usize) -> Result<Vec<Seat>, AllocError>
+pub(crate) fn opening_seats(
+    alloc: Global,
+    system: &System,
+    n: usize,
+) -> Result<Vec<Seat>, AllocError>
     ensures { IfOk result (λ t. IsOpeningSeats system.now n t.items) }
 {
     let mut seats = Vec::new(alloc);
@@ -295,19 +300,20 @@ fn opening_entries(alloc: Global, system: &System) -> Result<Vec<Frac>, AllocErr
     Ok(entries)
 }
 
-fn zeros(alloc: Global, n: usize) -> Result<Vec<Frac>, AllocError>
+pub(crate) fn zeros(alloc: Global, n: usize) -> Result<Vec<Frac>, AllocError>
     ensures { IfOk result (λ t. length t.items ≡ n) }
 {
     vec![in alloc; zero(); n]
 }
 
-fn zero_pairs(alloc: Global, n: usize) -> Result<Vec<Standing>, AllocError>
+pub(crate) fn zero_pairs(alloc: Global, n: usize) -> Result<Vec<Standing>, AllocError>
     ensures { IfOk result (λ t. length t.items ≡ n) }
 {
     vec![in alloc; (zero(), zero()); n]
 }
 
-/// The run's end, with all memory taken before the first step.
+/// The run's end: in whole numbers where they serve for it, else in fractions. Each takes its memory
+/// before its first step.
 ///
 /// More entries than a list can hold are more than there is memory for.
 pub(crate) fn run_end(alloc: Global, system: &System) -> Result<Decision, SimplexError>
@@ -317,6 +323,11 @@ pub(crate) fn run_end(alloc: Global, system: &System) -> Result<Decision, Simple
     let Some(n) = system.unknowns().checked_add(system.height()) else {
         return Err(SimplexError::NoMemory);
     };
+    match whole_end(alloc, system, n) {
+        Ok(Some(decision)) => return Ok(decision),
+        Ok(None) => {}
+        Err(_) => return Err(SimplexError::NoMemory),
+    }
     let Some(_) = system.unknowns().checked_mul(system.height()) else {
         return Err(SimplexError::NoMemory);
     };

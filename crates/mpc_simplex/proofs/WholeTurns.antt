@@ -1,0 +1,143 @@
+-- The tests of who leaves and enters, on whole numbers.
+use Rattle.std.proofs.Common.{◌≡◌, ◌≢◌, ℕ, zero, suc, ◌+◌, ◌-◌, ◌<◌, ◌≤◌, Bool, true, false, not, None, ℤ, pos, ◌*ℤ◌, ◌<ℤ◌, ◌≤ℤ◌, refl, sym, ◌∙◌, ap, subst, subst₂, arith, ◌⊎◌, inl, inr, lit<, lt-ltb, le-ltb}
+use lib.Signed.{lt_z}
+use Rattle.std.proofs.lemmas.Bool.{cases_Bool}
+use Rattle.std.proofs.lemmas.Int.{ints}
+use Rattle.mpc_exact.specs.Rational.{ℚ, int, frac, ◌<ℚ◌, ◌≤ℚ◌, lt_ℚ}
+use Rattle.mpc_exact.specs.Pair.{Pair, IsBelow, IsAtMost, is_below}
+use Rattle.mpc_exact.proofs.Pair.{is_below-true, is_below-false, at_most-not-below}
+use Rattle.mpc_exact.proofs.Rational.{same_frac}
+use Rattle.mpc_exact.proofs.RationalOrder.{lt_frac, le_frac, one_last, <ℚ_irrefl}
+use Rattle.mpc_exact.proofs.OrderLaws.{<ℚ_trans}
+use Rattle.mpc_exact.proofs.RationalField.{lt_ℚ_is}
+use Rattle.mpc_rows.specs.Least.{least, or_at}
+use Rattle.mpc_rows.specs.LinearSystem.{LinearSystem}
+use Rattle.mpc_rows.specs.Run.{Position, is_unknown, is_zero, bound, value, may_leave, may_enter}
+use Rattle.mpc_simplex.proofs.Flags.{test_true, true_test}
+use Rattle.mpc_simplex.proofs.Turn.{is_zero-true, zero-is_zero}
+use Rattle.mpc_simplex.proofs.Table.{leave_unknown, leave_test, enter_unknown, enter_side}
+use Rattle.mpc_simplex.proofs.WholeSums.{zero_over}
+
+-- ---- the code's tests
+pub lt_so : (a b : ℤ) → lt_z a b ≡ true → a <ℤ b
+lt_so a b h = grind (arith, ints)
+
+pub not_lt_so : (a b : ℤ) → lt_z a b ≡ false → b ≤ℤ a
+not_lt_so a b h = grind (arith, ints)
+
+-- ---- pairs
+below_so : (p q : Pair) → IsBelow p q → true ≡ is_below p q
+below_so p q h = by (cases_Bool (is_below p q))
+  where
+    by : (is_below p q ≡ true) ⊎ (is_below p q ≡ false) → true ≡ is_below p q
+    by (inl e) = sym e
+    by (inr e) = absurd (at_most-not-below (is_below-false p q e) h)
+
+not_below_so : (p q : Pair) → IsAtMost q p → false ≡ is_below p q
+not_below_so p q h = by (cases_Bool (is_below p q))
+  where
+    by : (is_below p q ≡ true) ⊎ (is_below p q ≡ false) → false ≡ is_below p q
+    by (inl e) = absurd (at_most-not-below h (is_below-true p q e))
+    by (inr e) = sym e
+
+squeezed : (u v : ℤ) → u ≤ℤ v → v ≤ℤ u → u ≡ v
+squeezed u v h k = omega (arith, ints)
+
+module _ (p q : Pair) (b e₁ : ℤ) (d : ℕ) (some : 0 < d) (pb : p.first ≡ int b) (q₁ : q.first ≡ frac e₁ d) where
+  pub out_above : (b *ℤ pos d) <ℤ e₁ → true ≡ is_below p q
+  out_above h = below_so p q (record { below = inl (subst₂ (λ u v. u <ℚ v) (sym pb) (sym q₁) (lt_frac b 1 e₁ d (lit< tt) some (subst (λ z. (b *ℤ pos d) <ℤ z) (sym (one_last e₁)) h))) })
+
+  pub out_below : e₁ <ℤ (b *ℤ pos d) → false ≡ is_below p q
+  out_below h = not_below_so p q (record { at_most = inl (subst₂ (λ u v. u <ℚ v) (sym q₁) (sym pb) (lt_frac e₁ d b 1 some (lit< tt) (subst (λ z. z <ℤ (b *ℤ pos d)) (sym (one_last e₁)) h))) })
+
+  module _ (k e₂ : ℤ) (pk : p.second ≡ int k) (q₂ : q.second ≡ frac e₂ d) (h : e₁ ≤ℤ (b *ℤ pos d)) (l : (b *ℤ pos d) ≤ℤ e₁) where
+    firsts_same : p.first ≡ q.first
+    firsts_same = pb ∙ same_frac b 1 e₁ d (lit< tt) some (squeezed (b *ℤ pos d) e₁ l h ∙ sym (one_last e₁)) ∙ sym q₁
+
+    pub out_next : (k *ℤ pos d) <ℤ e₂ → true ≡ is_below p q
+    out_next m = below_so p q (record { below = inr (firsts_same, subst₂ (λ u v. u <ℚ v) (sym pk) (sym q₂) (lt_frac k 1 e₂ d (lit< tt) some (subst (λ z. (k *ℤ pos d) <ℤ z) (sym (one_last e₂)) m))) })
+
+    pub out_not : e₂ ≤ℤ (k *ℤ pos d) → false ≡ is_below p q
+    out_not m = not_below_so p q (record { at_most = inr (sym firsts_same, subst₂ (λ u v. u ≤ℚ v) (sym q₂) (sym pk) (le_frac e₂ d k 1 some (lit< tt) (subst (λ z. z ≤ℤ (k *ℤ pos d)) (sym (one_last e₂)) m))) })
+
+-- ---- the least that may leave
+pub none_below : (test : ℕ → Bool) (n : ℕ) → ((x : ℕ) → x < n → test x ≡ false) → least test n ≡ None
+unfolding least
+none_below test zero h = refl
+none_below test (suc n) h = λ i. or_at (none_below test n (λ x k. h x (omega arith)) i) (h n (omega arith) i) n
+
+pub unknowns_stay : (s : LinearSystem) (p : Position) (n : ℕ) → n ≤ s.width → least (may_leave s p) n ≡ None
+unknowns_stay s p n h = none_below (may_leave s p) n (λ x k. leave_unknown s p x (lt-ltb x s.width (omega arith)))
+
+pub leaves_as : (s : LinearSystem) (p : Position) (x : ℕ) → s.width ≤ x → p.is_basic x ≡ true → is_below (bound s (s.width + (x - s.width))) (value s p (s.width + (x - s.width))) ≡ may_leave s p x
+leaves_as s p x h b =
+    let e : s.width + (x - s.width) ≡ x = omega arith in
+    ap (λ z. is_below (bound s z) (value s p z)) e ∙ sym (leave_test s p x (le-ltb x s.width h) b)
+
+-- ---- who may enter, where the coefficient is k / d
+not_zero_test : (c : ℚ) → c ≢ int (pos 0) → is_zero c ≡ false
+not_zero_test c h = by (cases_Bool (is_zero c))
+  where
+    by : (is_zero c ≡ true) ⊎ (is_zero c ≡ false) → is_zero c ≡ false
+    by (inl e) = absurd (h (is_zero-true c e))
+    by (inr e) = e
+
+zero_left : (d : ℤ) → pos 0 *ℤ d ≡ pos 0
+zero_left d = omega (arith, ints)
+
+module _ (c : ℚ) (k : ℤ) (d : ℕ) (some : 0 < d) (e : c ≡ frac k d) where
+  positive_is : pos 0 <ℤ k → int (pos 0) <ℚ c
+  positive_is h = subst (λ z. int (pos 0) <ℚ z) (sym e) (lt_frac (pos 0) 1 k d (lit< tt) some (subst₂ (λ u v. u <ℤ v) (sym (zero_left (pos d))) (sym (one_last k)) h))
+
+  negative_is : k <ℤ pos 0 → c <ℚ int (pos 0)
+  negative_is h = subst (λ z. z <ℚ int (pos 0)) (sym e) (lt_frac k d (pos 0) 1 some (lit< tt) (subst₂ (λ u v. u <ℤ v) (sym (one_last k)) (sym (zero_left (pos d))) h))
+
+  positive_test : pos 0 <ℤ k → lt_ℚ (int (pos 0)) c ≡ true
+  positive_test h = test_true _ ((lt_ℚ_is (int (pos 0)) c).1 (positive_is h))
+
+  above_not_zero : pos 0 <ℤ k → c ≢ int (pos 0)
+  above_not_zero h q = <ℚ_irrefl (subst (λ z. int (pos 0) <ℚ z) q (positive_is h))
+
+  below_not_zero : k <ℤ pos 0 → c ≢ int (pos 0)
+  below_not_zero h q = <ℚ_irrefl (subst (λ z. z <ℚ int (pos 0)) q (negative_is h))
+
+  not_positive : (int (pos 0) <ℚ c → ⊥) → lt_ℚ (int (pos 0)) c ≡ false
+  not_positive h = by (cases_Bool (lt_ℚ (int (pos 0)) c))
+    where
+      by : (lt_ℚ (int (pos 0)) c ≡ true) ⊎ (lt_ℚ (int (pos 0)) c ≡ false) → lt_ℚ (int (pos 0)) c ≡ false
+      by (inl q) = absurd (h ((lt_ℚ_is (int (pos 0)) c).0 (true_test _ q)))
+      by (inr q) = q
+
+  negative_test : k <ℤ pos 0 → lt_ℚ (int (pos 0)) c ≡ false
+  negative_test h = not_positive (λ q. <ℚ_irrefl (both q (negative_is h)))
+    where
+      both : int (pos 0) <ℚ c → c <ℚ int (pos 0) → int (pos 0) <ℚ int (pos 0)
+      both u v = <ℚ_trans u v
+
+  zero_is : k ≡ pos 0 → c ≡ int (pos 0)
+  zero_is h = e ∙ ap (λ z. frac z d) h ∙ zero_over d some
+
+module _ (s : LinearSystem) (p : Position) (l y : ℕ) (free : p.is_basic y ≡ false) (k : ℤ) (d : ℕ) (some : 0 < d) (e : p.coefficient l y ≡ frac k d) where
+  pub enters_above : pos 0 <ℤ k → true ≡ may_enter s p l y
+  enters_above h = by (cases_Bool (is_unknown s y))
+    where
+      by : (is_unknown s y ≡ true) ⊎ (is_unknown s y ≡ false) → true ≡ may_enter s p l y
+      by (inl u) = sym (enter_unknown s p l y free u ∙ ap not (not_zero_test (p.coefficient l y) (above_not_zero (p.coefficient l y) k d some e h)))
+      by (inr u) = sym (enter_side s p l y free u ∙ positive_test (p.coefficient l y) k d some e h)
+
+  pub enters_below : k <ℤ pos 0 → (b : Bool) → b ≡ is_unknown s y → b ≡ may_enter s p l y
+  enters_below h b q = by (cases_Bool (is_unknown s y))
+    where
+      by : (is_unknown s y ≡ true) ⊎ (is_unknown s y ≡ false) → b ≡ may_enter s p l y
+      by (inl u) = q ∙ u ∙ sym (enter_unknown s p l y free u ∙ ap not (not_zero_test (p.coefficient l y) (below_not_zero (p.coefficient l y) k d some e h)))
+      by (inr u) = q ∙ u ∙ sym (enter_side s p l y free u ∙ negative_test (p.coefficient l y) k d some e h)
+
+  pub enters_not : k ≡ pos 0 → false ≡ may_enter s p l y
+  enters_not h = by (cases_Bool (is_unknown s y))
+    where
+      nought : p.coefficient l y ≡ int (pos 0)
+      nought = zero_is (p.coefficient l y) k d some e h
+
+      by : (is_unknown s y ≡ true) ⊎ (is_unknown s y ≡ false) → false ≡ may_enter s p l y
+      by (inl u) = sym (enter_unknown s p l y free u ∙ ap not (zero-is_zero (p.coefficient l y) nought))
+      by (inr u) = sym (enter_side s p l y free u ∙ not_positive (p.coefficient l y) k d some e (λ q. <ℚ_irrefl (subst (λ z. int (pos 0) <ℚ z) nought q)))

@@ -1,0 +1,13 @@
+use Rattle.std.proofs.Common.{◌≤◌}
+use Rattle.mpc_rows.specs.LinearSystem.{height}
+use Rattle.mpc_simplex.specs.Table.{IsSeated}
+use Rattle.mpc_simplex.specs.Whole.{IsSmall, Stands}
+use Rattle.mpc_simplex.proofs.whole.whole_run.Given as goal
+
+abbrev pub invariant-steps : goal.invariant-steps
+invariant-steps l = record {
+  stands : Stands l.system l.n l.seats l.den l.v;
+  seated : IsSeated (height l.system) l.system.width l.n l.seats;
+  small : IsSmall l.most l.v;
+  den_small : l.den ≤ l.most;
+}
