@@ -1,12 +1,26 @@
 -- Adding 0 and multiplying by 0 are never too wide.
-use Rattle.std.proofs.Common.{◌≡◌, ℕ, ◌*◌, ◌/◌, ◌^◌, ◌<◌, ℤ, pos, ◌+ℤ◌, ◌*ℤ◌, neg_ℤ, unsigned_abs, [], ◌∷◌, sym, ◌∙◌, ap, subst, arith, div-one, mul-one, lit<}
+use Rattle.std.proofs.Common.{◌≡◌, ℕ, zero, suc, ◌*◌, ◌/◌, ◌^◌, ◌<◌, ℤ, pos, negsuc, ◌+ℤ◌, ◌*ℤ◌, neg_ℤ, unsigned_abs, [], ◌∷◌, refl, sym, ◌∙◌, ap, subst, arith, div-one, mul-one, lit<}
 use Rattle.std.proofs.lemmas.Int.{ints}
-use Rattle.mpc_exact.specs.Gcd.{gcd, gcd_comm}
-use Rattle.mpc_exact.specs.Rational.{ℚ, int, ◌+ℚ◌, ◌*ℚ◌, ◌-ℚ◌, neg_ℚ, denom_positive, parts_coprime, frac_parts}
+use Rattle.mpc_exact.specs.Gcd.{gcd, gcd_comm, gcd_one}
+use Rattle.mpc_exact.specs.Rational.{ℚ, frac, int, ◌+ℚ◌, ◌*ℚ◌, ◌-ℚ◌, neg_ℚ, denom_positive, parts_coprime, frac_parts}
 use Rattle.mpc_exact.proofs.RationalRing.{reads, by_ring}
 use Rattle.mpc_frac.specs.Fits.{FitsFrac, FitsSum, common, left_of_sum, right_of_sum, denom_of_sum}
-use Rattle.mpc_frac.proofs.FracParts.{one_coprime, int_numer, int_denom, abs-neg, neg_is}
 use Rattle.mpc_linear.specs.Dot.{TermFits, TakenFits}
+
+int_numer : (n : ℤ) → (int n).numer ≡ n
+int_numer n = (frac_parts n 1 (lit< tt) (gcd_one (unsigned_abs n))).0
+
+int_denom : (n : ℤ) → (int n).denom ≡ 1
+int_denom n = (frac_parts n 1 (lit< tt) (gcd_one (unsigned_abs n))).1
+
+abs-neg : (z : ℤ) → unsigned_abs (neg_ℤ z) ≡ unsigned_abs z
+abs-neg (pos zero) = refl
+abs-neg (pos (suc n)) = refl
+abs-neg (negsuc n) = refl
+
+neg_is : (x : ℚ) → frac (neg_ℤ x.numer) x.denom ≡ neg_ℚ x
+unfolding neg_ℚ
+neg_is x = refl
 
 zero_small : 0 < 2 ^ 127
 zero_small = lit< tt
@@ -41,7 +55,7 @@ one_over n e = ap (λ k. 1 / k) e ∙ div-one 1
 
 module _ (x : ℚ) where
   whole_common : common x (int (pos 0)) ≡ 1
-  whole_common = ap (λ d. gcd x.denom d) (int_denom (pos 0)) ∙ one_coprime x.denom
+  whole_common = ap (λ d. gcd x.denom d) (int_denom (pos 0)) ∙ gcd_one x.denom
 
   left_is : left_of_sum x (int (pos 0)) ≡ x.numer
   left_is = times_one x.numer ((int (pos 0)).denom / common x (int (pos 0))) ((λ i. int_denom (pos 0) i / whole_common i) ∙ div-one 1)
@@ -77,7 +91,7 @@ module _ (x y : ℚ) (h : x ≡ int (pos 0)) where
   denom_whole = ap (λ u. u.denom) h ∙ int_denom (pos 0)
 
   front_common : common x y ≡ 1
-  front_common = gcd_comm x.denom y.denom ∙ ap (λ d. gcd y.denom d) denom_whole ∙ one_coprime y.denom
+  front_common = gcd_comm x.denom y.denom ∙ ap (λ d. gcd y.denom d) denom_whole ∙ gcd_one y.denom
 
   front_left : left_of_sum x y ≡ pos 0
   front_left = times_nought x.numer (y.denom / common x y) numer_nought

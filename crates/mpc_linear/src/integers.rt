@@ -10,7 +10,7 @@ ghost use Rattle.mpc_linear.specs.Whole.{scaled, ScaledFit, WholeFits, IsLeastFo
 ghost use Rattle.mpc_linear.specs.Answers.{IfWide};
 
 use crate::{Ints, LinearError, Vector};
-use mpc_frac::{Frac, NoMemory};
+use mpc_frac::{Frac, NoMemory, greatest_common_divisor};
 use std::alloc::Global;
 
 /// The row `a · t ≤ b` in whole numbers.
@@ -27,20 +27,6 @@ pub struct IntAffine {
     pub k: Ints,
 }
 
-/// The greatest common divisor, by Euclid's algorithm.
-fn greatest_divisor(a: u128, b: u128) -> u128
-    ensures { result ≡ gcd a b }
-{
-    let mut x = a;
-    let mut y = b;
-    while y != 0 {
-        let rest = x % y;
-        x = y;
-        y = rest;
-    }
-    x
-}
-
 /// The least common multiple, if it lies below 2^127.
 fn least_multiple(a: u128, b: u128) -> Option<u128>
     requires a_positive { 0 < a }
@@ -48,7 +34,7 @@ fn least_multiple(a: u128, b: u128) -> Option<u128>
     ensures value { MatchOption result (2 ^ 127 ≤ lcm a b) (λ m. m ≡ lcm a b) }
     ensures small { MatchOption result (2 ^ 127 ≤ lcm a b) (λ m. m < 2 ^ 127) }
 {
-    let part = a / greatest_divisor(a, b);
+    let part = a / greatest_common_divisor(a, b);
     match part.checked_mul(b) {
         Some(multiple) => if multiple <= i128::MAX as u128 {
             Some(multiple)
@@ -108,7 +94,7 @@ fn numerators_over(alloc: Global, c: &[Frac], all: u128) -> Result<Ints, LinearE
     ensures wide { MatchResult result (λ _. ScaledFit all c.now)
         (λ e. IfWide e (λ step. (step ≡ 0) × (¬ ScaledFit all c.now))) }
 {
-    let mut numerators = Ints::new(alloc);
+    let mut numerators = Ints::with_capacity(alloc, c.len())?;
     for x in c {
         let Some(numerator) = numerator_over(x, all) else {
             return Err(LinearError::Wide(0));
@@ -148,7 +134,7 @@ fn shared_divisor(row: &Ints, b: i128) -> u128
 {
     let mut shared = b.unsigned_abs();
     for z in row.as_slice() {
-        shared = greatest_divisor(shared, z.unsigned_abs());
+        shared = greatest_common_divisor(shared, z.unsigned_abs());
     }
     shared
 }
@@ -192,7 +178,7 @@ fn divided_row(alloc: Global, row: &Ints, by: u128) -> Result<Ints, NoMemory>
     requires small { AreSmall row.now }
     ensures { IfOk result (λ r. r ≡ map (λ z. int_div z (pos by)) row.now) }
 {
-    let mut quotients = Ints::new(alloc);
+    let mut quotients = Ints::with_capacity(alloc, row.len())?;
     for z in row.as_slice() {
         quotients.push(divided(*z, by))?;
     }

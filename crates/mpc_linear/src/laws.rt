@@ -7,17 +7,20 @@ ghost use Rattle.mpc_linear.specs.PrimitiveRows.{OnePrimitiveRow, SmallPrimitive
 
 /// A sum of products is formed product by product, and fits where each of them and each sum on the
 /// way does.
+#[inline]
 pub fn sum_laws()
     ensures { SumLaws }
 {}
 
 /// Adding 0 and multiplying by 0 are never too wide.
+#[inline]
 pub fn zero_laws()
     ensures { ZeroLaws }
 {}
 
 /// A row has at most one multiple in whole numbers without a common divisor, and that one is small
 /// where the numbers fit that bring the row to whole numbers.
+#[inline]
 pub fn primitive_laws()
     ensures one { OnePrimitiveRow }
     ensures small { SmallPrimitiveRow }

@@ -1,6 +1,6 @@
 //! Lists of fractions and of integers.
 
-ghost use Rattle.std.specs.Prelude.{◌≡◌, ◌≢◌, ◌<◌, [], ◌∷◌, ◌++◌, length, ℤ, pos, slice_index_or, OnOk, OnErr, IsTrue, ◌↔◌};
+ghost use Rattle.std.specs.Prelude.{◌≡◌, ◌≢◌, ◌<◌, [], ◌∷◌, ◌++◌, length, ℤ, pos, slice_index_or, IfOk, IsOk, OnOk, OnErr, IsTrue, ◌↔◌};
 ghost use Rattle.mpc_exact.specs.Rational.{ℚ, int};
 
 use mpc_frac::{Frac, NoMemory};
@@ -32,6 +32,17 @@ impl Vector {
     {
         Vector {
             items: Vec::new(alloc),
+        }
+    }
+
+    /// The empty vector, with room for so many entries.
+    pub fn with_capacity(alloc: Global, count: usize) -> Result<Self, NoMemory>
+        ensures empty { IfOk result (λ v. v ≡ []) }
+        ensures none_needed { count ≡ 0 → IsOk result }
+    {
+        match Vec::with_capacity(alloc, count) {
+            Ok(items) => Ok(Vector { items }),
+            Err(_) => Err(NoMemory),
         }
     }
 
@@ -100,6 +111,17 @@ impl Ints {
     {
         Ints {
             items: Vec::new(alloc),
+        }
+    }
+
+    /// The empty list, with room for so many integers.
+    pub fn with_capacity(alloc: Global, count: usize) -> Result<Self, NoMemory>
+        ensures empty { IfOk result (λ v. v ≡ []) }
+        ensures none_needed { count ≡ 0 → IsOk result }
+    {
+        match Vec::with_capacity(alloc, count) {
+            Ok(items) => Ok(Ints { items }),
+            Err(_) => Err(NoMemory),
         }
     }
 

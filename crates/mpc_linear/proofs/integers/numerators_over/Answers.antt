@@ -6,7 +6,7 @@ use Rattle.mpc_linear.proofs.WholeLemmas.{numerators_more, fit_more}
 use Rattle.mpc_linear.proofs.integers.numerators_over.Goals as goal
 
 pub loop-x-init : goal.loop-x-init
-loop-x-init c = record { value = c.new-numerators.ensures; fit = λ j d l. absurd (omega arith) }
+loop-x-init c = record { value = c.in_ok-numerators.ensures.empty; fit = λ j d l. absurd (omega arith) }
 
 pub loop-x-preserved : goal.loop-x-preserved
 loop-x-preserved c = record {

@@ -20,9 +20,9 @@ loop-z-preserved c =
     let size : c.unsigned_abs.result ≡ unsigned_abs z =
     c.unsigned_abs.ensures.value ∙ ap (λ xs. unsigned_abs (to_z w128 (of_z w128 (get_or xs k (pos 0))))) c.as_slice-z-items.ensures ∙ ap unsigned_abs (read_back z small)
     in
-    subst (λ y. Sharing row y (k + 1) c.greatest_divisor-shared.result) (sym (read_back c.args.b c.requires.b_small))
+    subst (λ y. Sharing row y (k + 1) c.greatest_common_divisor-shared.result) (sym (read_back c.args.b c.requires.b_small))
     (sharing_more row c.args.b k c.loop-z.shared (subst (λ y. Sharing row y k c.loop-z.shared) (read_back c.args.b c.requires.b_small) c.loop-z.invariant) z within (get_or_default row k (pos 0) z within) c.unsigned_abs.result size small
-    c.greatest_divisor-shared.result c.greatest_divisor-shared.ensures)
+    c.greatest_common_divisor-shared.result c.greatest_common_divisor-shared.ensures.value)
 
 pub returns-clause-shared : goal.returns-clause-shared
 returns-clause-shared c =
