@@ -1,3 +1,4 @@
+pub mod Carried
 pub mod CostedSteps
 pub mod DigitLemmas
 pub mod Each

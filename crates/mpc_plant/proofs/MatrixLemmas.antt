@@ -9,6 +9,7 @@ use Rattle.mpc_exact.specs.Rational.{ℚ}
 use Rattle.std.specs.Prelude.{⊤}
 use Rattle.mpc_plant.specs.declared.faults.PlantKind.TheVariants.{OverLimit}
 use Rattle.mpc_plant.specs.Faults.{Checked, ◌>>=◌, ensure}
+use Rattle.mpc_plant.specs.Limits.{row_limit}
 use Rattle.mpc_plant.specs.WholePlant.{few_rows}
 use Rattle.mpc_plant.specs.CheckedEntries.{list_between, rows_of}
 use Rattle.mpc_plant.specs.CheckedPlant.{first_passing, row_difference, difference_at, difference_from, square_of, width_of}
@@ -37,14 +38,19 @@ square_at d vs r e h = ap (λ l. l >>= λ items. rows_of (items_len items) items
 pub width_at : (d : Data) (vs : List Value) → list_between 1 3 d ≡ Ok (items_view vs) → width_of d ≡ Ok (length vs)
 width_at d vs e = ap (λ l. l >>= λ items. Ok (items_len items)) e ∙ ap Ok (items_len-items_view vs)
 
-pub few_at : (steps : ℕ) (stage end : List Value) (r : Checked ⊤) → ensure (nat_le (steps * length stage + length end) 40) OverLimit ≡ r → few_rows steps (items_view stage) (items_view end) ≡ r
-few_at steps stage end r e = (λ k. ensure (nat_le (steps * items_len-items_view stage k + items_len-items_view end k) 40) OverLimit) ∙ e
+module _ (steps p : ℕ) (stage end : List Value) where
+  few_at : (r : Checked ⊤) → ensure (nat_le (steps * length stage + length end) (row_limit (p * steps))) OverLimit ≡ r → few_rows steps p (items_view stage) (items_view end) ≡ r
+  few_at r e = (λ k. ensure (nat_le (steps * items_len-items_view stage k + items_len-items_view end k) (row_limit (p * steps))) OverLimit) ∙ e
 
-pub few_ok : (steps : ℕ) (stage end : List Value) (test : Bool) → test ≡ nat_le (steps * length stage + length end) 40 → test ≡ true → few_rows steps (items_view stage) (items_view end) ≡ Ok tt
-few_ok steps stage end test is e = few_at steps stage end (Ok tt) (ap (λ b. ensure b OverLimit) (sym is ∙ e))
+  module _ (limit : ℕ) (test : Bool) (most : limit ≡ row_limit (p * steps)) (is : test ≡ nat_le (steps * length stage + length end) limit) where
+    test_is : (b : Bool) → test ≡ b → nat_le (steps * length stage + length end) (row_limit (p * steps)) ≡ b
+    test_is b e = sym (is ∙ ap (nat_le (steps * length stage + length end)) most) ∙ e
 
-pub few_bad : (steps : ℕ) (stage end : List Value) (test : Bool) → test ≡ nat_le (steps * length stage + length end) 40 → test ≡ false → few_rows steps (items_view stage) (items_view end) ≡ Err (OverLimit, [])
-few_bad steps stage end test is e = few_at steps stage end (Err (OverLimit, [])) (ap (λ b. ensure b OverLimit) (sym is ∙ e))
+    pub few_ok : test ≡ true → few_rows steps p (items_view stage) (items_view end) ≡ Ok tt
+    few_ok e = few_at (Ok tt) (ap (λ b. ensure b OverLimit) (test_is true e))
+
+    pub few_bad : test ≡ false → few_rows steps p (items_view stage) (items_view end) ≡ Err (OverLimit, [])
+    few_bad e = few_at (Err (OverLimit, [])) (ap (λ b. ensure b OverLimit) (test_is false e))
 
 -- ---- a matrix without differences is symmetric
 at_none : (i : ℕ) (o : Option ℕ) (rest : Option (ℕ × ℕ)) → difference_at i o rest ≡ None → (o ≡ None) × (rest ≡ None)

@@ -3,19 +3,19 @@ use Rattle.std.proofs.Common.{◌≡◌, ℕ, zero, suc, ◌+◌, ◌<◌, ◌�
 use Rattle.std.proofs.lemmas.List.{drop_more, drop_all, append_assoc, append-nil, length-map, get_or-map}
 use Rattle.std.proofs.lemmas.List.FromFn.{map-range_with_len_more}
 use Rattle.std.proofs.lemmas.Option.{get_or_from_slice_get}
-use Rattle.mpc_exact.specs.Rational.{ℚ, int, ◌+ℚ◌, ◌*ℚ◌}
+use Rattle.mpc_exact.specs.Rational.{ℚ, int, ◌+ℚ◌, ◌*ℚ◌, neg_ℚ}
 use Rattle.mpc_exact.proofs.School.{natural_le}
-use Rattle.mpc_space.specs.Vector.{dot, listed, mat_vec, vec_add}
+use Rattle.mpc_space.specs.Vector.{coordinate, dot, listed, mat_vec, vec_add, vec_sub}
 use Rattle.mpc_space.specs.Matrix.{RationalMatrix}
-use Rattle.mpc_space.proofs.Entries.{same_entries, coordinate-add, coordinate-listed, length-listed, length-add}
+use Rattle.mpc_space.proofs.Entries.{same_entries, coordinate-add, coordinate-sub, coordinate-listed, length-listed, length-add, length-sub}
 use Rattle.mpc_space.proofs.Matrix.{length-mat_vec, coordinate-mat_vec}
 use Rattle.mpc_linear.specs.Dot.{TermFits}
 use Rattle.mpc_plant.specs.declared.lists.Coordinate.{Coordinate}
 use Rattle.mpc_plant.specs.declared.plants.Plant.{Plant}
-use Rattle.mpc_plant.specs.Limits.{IsCoordinate}
+use Rattle.mpc_plant.specs.Limits.{IsCoordinate, greatest_count}
 use Rattle.mpc_linear.specs.Shape.{HasShape}
 use Rattle.mpc_plant.specs.Trajectory.{IsWithin, IsInBox, point_of, values_at, state_at}
-use Rattle.mpc_plant.specs.RollWidth.{row_at, AxesFit, next_entry}
+use Rattle.mpc_plant.specs.RollWidth.{row_at, AxesFit, next_of, next_entry}
 
 -- ---- the box
 pub within_size : (grid : List Coordinate) (ts : List ℚ) → IsWithin grid ts → length grid ≡ length ts
@@ -33,8 +33,8 @@ count_within [] (t ∷ ts) i axis h l = absurd h
 count_within (a ∷ grid) (t ∷ ts) zero axis h l = (natural_le t a.count).0 h.1
 count_within (a ∷ grid) (t ∷ ts) (suc i) axis h l = count_within grid ts i axis h.2 (omega arith)
 
--- a count inside the box is at most a million
-pub count_small : (grid : List Coordinate) (counts : List ℕ) (i : ℕ) (axis : Coordinate) → All IsCoordinate grid → IsWithin grid (point_of counts) → i < length counts → get_or counts i 0 ≤ 1000000
+-- a count inside the box is within the limit
+pub count_small : (grid : List Coordinate) (counts : List ℕ) (i : ℕ) (axis : Coordinate) → All IsCoordinate grid → IsWithin grid (point_of counts) → i < length counts → get_or counts i 0 ≤ greatest_count
 count_small grid counts i axis ok h l =
     let below = count_within grid counts i axis h l in
     let few = (ok i axis (subst (λ n. i < n) (counts_size grid counts h) l)).count_small in
@@ -95,20 +95,36 @@ pub row_size : (m : RationalMatrix) (rows columns i : ℕ) → HasShape m rows c
 row_size m rows columns i shape l = shape.rectangular i [] (subst (λ n. i < n) (sym shape.rows_are) l) ∙ shape.columns_are
 
 -- ---- the next state
-pub next_size : (plant : Plant) (x u : List ℚ) → length (vec_add (mat_vec plant.a.rows x) (mat_vec plant.b.rows u)) ≡ plant.n
-next_size plant x u =
-    let a = length-mat_vec plant.a.rows x ∙ plant.is_plant.a_shape.rows_are in
-    let b = length-mat_vec plant.b.rows u ∙ plant.is_plant.b_shape.rows_are in
-    length-add (mat_vec plant.a.rows x) (mat_vec plant.b.rows u) (a ∙ sym b) ∙ a
+module _ (plant : Plant) (x u : List ℚ) where
+  abbrev moved : List ℚ
+  moved = vec_add (mat_vec plant.a.rows x) (mat_vec plant.b.rows u)
 
-pub next_listed : (plant : Plant) (x u : List ℚ) → listed plant.n (next_entry plant x u) ≡ vec_add (mat_vec plant.a.rows x) (mat_vec plant.b.rows u)
-next_listed plant x u =
-    let long = length-listed plant.n (next_entry plant x u) in
-    same_entries (listed plant.n (next_entry plant x u)) (vec_add (mat_vec plant.a.rows x) (mat_vec plant.b.rows u)) (long ∙ sym (next_size plant x u))
-    (λ i l.
-    coordinate-listed plant.n (next_entry plant x u) i (subst (λ n. i < n) long l)
-    ∙ (λ j. sym (coordinate-mat_vec plant.a.rows x i) j +ℚ sym (coordinate-mat_vec plant.b.rows u i) j)
-    ∙ sym (coordinate-add (mat_vec plant.a.rows x) (mat_vec plant.b.rows u) i))
+  moved_size : length moved ≡ plant.n
+  moved_size =
+      let a = length-mat_vec plant.a.rows x ∙ plant.is_plant.a_shape.rows_are in
+      let b = length-mat_vec plant.b.rows u ∙ plant.is_plant.b_shape.rows_are in
+      length-add (mat_vec plant.a.rows x) (mat_vec plant.b.rows u) (a ∙ sym b) ∙ a
+
+  pub next_size : length (next_of plant x u) ≡ plant.n
+  next_size = length-add moved plant.drift (moved_size ∙ sym plant.is_plant.drift_size) ∙ moved_size
+
+  pub next_listed : listed plant.n (next_entry plant x u) ≡ next_of plant x u
+  next_listed =
+      let long = length-listed plant.n (next_entry plant x u) in
+      same_entries (listed plant.n (next_entry plant x u)) (next_of plant x u) (long ∙ sym next_size)
+      (λ i l.
+      coordinate-listed plant.n (next_entry plant x u) i (subst (λ n. i < n) long l)
+      ∙ (λ j. (sym (coordinate-mat_vec plant.a.rows x i) j +ℚ sym (coordinate-mat_vec plant.b.rows u i) j) +ℚ coordinate plant.drift i)
+      ∙ ap (λ w. w +ℚ coordinate plant.drift i) (sym (coordinate-add (mat_vec plant.a.rows x) (mat_vec plant.b.rows u) i))
+      ∙ sym (coordinate-add moved plant.drift i))
+
+-- ---- the distance from a goal
+pub gap_listed : (x goal : List ℚ) → length x ≡ length goal → listed (length x) (λ i. coordinate x i +ℚ neg_ℚ (coordinate goal i)) ≡ vec_sub x goal
+gap_listed x goal e =
+    let entry = λ (i : ℕ). coordinate x i +ℚ neg_ℚ (coordinate goal i) in
+    let long = length-listed (length x) entry in
+    same_entries (listed (length x) entry) (vec_sub x goal) (long ∙ sym (length-sub x goal e))
+    (λ i l. coordinate-listed (length x) entry i (subst (λ n. i < n) long l) ∙ sym (coordinate-sub x goal i))
 
 -- ---- sizes of the states
 values_size : (grid : List Coordinate) (ts : List ℚ) → length grid ≡ length ts → length (values_at grid ts) ≡ length grid

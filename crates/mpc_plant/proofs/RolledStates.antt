@@ -2,13 +2,13 @@
 use Rattle.std.proofs.Common.{◌≡◌, ℕ, ◌+◌, ◌<◌, List, [], ◌∷◌, ◌++◌, length, get_or, set, take, sym, ◌∙◌, ap, subst, subst₂, arith, add-one}
 use Rattle.std.proofs.lemmas.List.{length-set, length-replicate, take_all}
 use Rattle.mpc_exact.specs.Rational.{ℚ}
-use Rattle.mpc_space.specs.Vector.{mat_vec, vec_add, zeros}
+use Rattle.mpc_space.specs.Vector.{zeros}
 use Rattle.mpc_space.specs.Matrix.{RationalMatrix, height, IsRectangular}
 use Rattle.mpc_linear.specs.Entries.{zero_matrix}
-use Rattle.mpc_linear.proofs.ProductLemmas.{below_next}
 use Rattle.mpc_plant.specs.declared.plants.Plant.{Plant}
 use Rattle.mpc_plant.specs.Trajectory.{IsInBox, move_at, state_of, state_at, states_to, rolled}
-use Rattle.mpc_plant.specs.RollWidth.{AxesFit, NextFits, StateFits, StatesFit, IsFirstWideState}
+use Rattle.mpc_plant.specs.RollWidth.{AxesFit, next_of, NextFits, StateFits, StatesFit, IsFirstWideState}
+use Rattle.mpc_plant.proofs.Carried.{below_next}
 use Rattle.mpc_plant.proofs.MatrixRows.{rectangular-set, zeros_rectangular, take-written}
 use Rattle.mpc_plant.proofs.RollLemmas.{state_size}
 
@@ -53,14 +53,14 @@ module _ (plant : Plant) (t : List ℚ) (v : List (List ℚ)) (in_box : IsInBox 
     next_fits_back : StateFits plant t v (k + 1) → NextFits plant w u
     next_fits_back h = subst₂ (NextFits plant) (sym (same ∙ r.here)) (sym move) (subst (StateFits plant t v) (add-one k) h)
 
-    pub next_is : (y : List ℚ) → y ≡ vec_add (mat_vec plant.a.rows w) (mat_vec plant.b.rows u) → y ≡ state_at plant t v (k + 1)
-    next_is y f = f ∙ (λ j. vec_add (mat_vec plant.a.rows ((same ∙ r.here) j)) (mat_vec plant.b.rows (move j))) ∙ sym (ap (state_at plant t v) (add-one k))
+    pub next_is : (y : List ℚ) → y ≡ next_of plant w u → y ≡ state_at plant t v (k + 1)
+    next_is y f = f ∙ (λ j. next_of plant ((same ∙ r.here) j) (move j)) ∙ sym (ap (state_at plant t v) (add-one k))
 
-    pub next_width : (y : List ℚ) → y ≡ vec_add (mat_vec plant.a.rows w) (mat_vec plant.b.rows u) → length y ≡ states.columns
+    pub next_width : (y : List ℚ) → y ≡ next_of plant w u → length y ≡ states.columns
     next_width y f = ap length (next_is y f) ∙ state_size plant t v (k + 1) in_box ∙ sym r.wide
 
     -- the next state in the next row
-    pub rolled_more : (next : RationalMatrix) (y : List ℚ) → y ≡ vec_add (mat_vec plant.a.rows w) (mat_vec plant.b.rows u) → NextFits plant w u → next.rows ≡ set states.rows (k + 1) y → next.columns ≡ states.columns
+    pub rolled_more : (next : RationalMatrix) (y : List ℚ) → y ≡ next_of plant w u → NextFits plant w u → next.rows ≡ set states.rows (k + 1) y → next.columns ≡ states.columns
         → RolledTo plant t v (k + 1) next y
     rolled_more next y f fits rows columns = record {
       here = next_is y f;

@@ -1,11 +1,12 @@
 -- A plant file, checked: one check after another, each with the fault that it answers and where.
-use Rattle.std.specs.Prelude.{ℕ, zero, suc, ◌+◌, ◌-◌, ℤ, pos, negsuc, List, [], length, get_or, codes, decimal, Bool, not, if◌then◌else◌, Option, Some, None, Ok, Err, ⊤}
+use Rattle.std.specs.Prelude.{ℕ, zero, suc, ◌+◌, ◌-◌, ℤ, pos, negsuc, List, [], length, get_or, codes, decimal, Bool, not, ◌||◌, if◌then◌else◌, Option, Some, None, Ok, Err, ⊤}
 use Rattle.std.specs.Ordering.{is_eq, int_eq}
 use Rattle.serde_json.specs.Data.{Data, Items, no_items, item}
 use Rattle.serde_json.specs.Events.{items_len}
+use Rattle.serde_json.specs.Find.{get}
 use Rattle.mpc_exact.specs.Rational.{ℚ, cmp_ℚ}
 use Rattle.mpc_space.specs.Vector.{cell}
-use Rattle.mpc_plant.specs.declared.faults.PlantKind.TheVariants.{BadVersion, OverLimit, NotSymmetric}
+use Rattle.mpc_plant.specs.declared.faults.PlantKind.TheVariants.{BadVersion, UnknownKey, OverLimit, NotSymmetric}
 use Rattle.mpc_plant.specs.declared.lists.Coordinate.{Coordinate}
 use Rattle.mpc_plant.specs.Keys.{plant_keys}
 use Rattle.mpc_plant.specs.Paths.{below}
@@ -24,8 +25,28 @@ keys_of d =
     object_with plant_keys d >>= λ _. needed (codes "version") d >>= λ _. needed (codes "horizon") d >>= λ _. needed (codes "A") d >>= λ _. needed (codes "B") d >>= λ _. needed (codes "Q") d >>= λ _.
     needed (codes "R") d >>= λ _. needed (codes "P") d >>= λ _. needed (codes "grid") d >>= λ _. Ok tt
 
-abbrev pub version_of : Data → Checked ⊤
-version_of d = whole_number_of d >>= λ z. ensure (int_eq z (pos 1)) BadVersion
+-- 1 or 2
+abbrev pub is_version : ℤ → Bool
+is_version z = int_eq z (pos 1) || int_eq z (pos 2)
+
+abbrev pub version_of : Data → Checked ℤ
+version_of d = whole_number_of d >>= λ z. ensure (is_version z) BadVersion >>= λ _. Ok z
+
+-- a key at which nothing stands
+abbrev pub absent : List ℕ → Option Data → Checked ⊤
+absent key None = Ok tt
+absent key (Some d) = Err (UnknownKey, below key [])
+
+-- the keys that version 1 doesn't have
+abbrev pub plain_of : Data → Checked ⊤
+plain_of d = absent (codes "drift") (get (codes "drift") d) >>= λ _. absent (codes "xgoal") (get (codes "xgoal") d) >>= λ _. absent (codes "ugoal") (get (codes "ugoal") d)
+
+-- what a version allows
+abbrev pub allowed_by : Data → ℤ → Checked ⊤
+allowed_by d z = if int_eq z (pos 1) then plain_of d else Ok tt
+
+abbrev pub edition_of : Data → Checked ⊤
+edition_of d = at_key (codes "version") version_of d >>= allowed_by d
 
 abbrev pub steps_in : ℤ → Checked ℕ
 steps_in (pos k) = if is_from_to 1 6 k then Ok k else fault OverLimit

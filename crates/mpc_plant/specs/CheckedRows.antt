@@ -6,6 +6,7 @@ use Rattle.mpc_exact.specs.Rational.{ℚ, int, lt_ℚ}
 use Rattle.mpc_plant.specs.declared.faults.PlantKind.TheVariants.{OverLimit, StepNotPositive}
 use Rattle.mpc_plant.specs.declared.lists.PlantRow.{PlantRow}
 use Rattle.mpc_plant.specs.declared.lists.Coordinate.{Coordinate}
+use Rattle.mpc_plant.specs.Limits.{greatest_count}
 use Rattle.mpc_plant.specs.Keys.{axis_keys, row_keys, terminal_row_keys}
 use Rattle.mpc_plant.specs.Faults.{Checked, ◌>>=◌, fault, ensure, under}
 use Rattle.mpc_plant.specs.CheckedEntries.{number_of, whole_number_of, vector_of}
@@ -32,9 +33,9 @@ terminal_row_of n d =
 abbrev pub step_of : Data → Checked ℚ
 step_of d = number_of d >>= λ step. ensure (lt_ℚ (int (pos 0)) step) StepNotPositive >>= λ _. Ok step
 
--- a count from 0 to a million
+-- a count from 0 to the limit
 abbrev pub count_in : ℤ → Checked ℕ
-count_in (pos k) = if nat_le k 1000000 then Ok k else fault OverLimit
+count_in (pos k) = if nat_le k greatest_count then Ok k else fault OverLimit
 count_in (negsuc k) = fault OverLimit
 
 abbrev pub count_of : Data → Checked ℕ

@@ -21,7 +21,8 @@ row_keys = codes "x" ∷ codes "u" ∷ codes "max" ∷ []
 abbrev pub terminal_row_keys : List (List ℕ)
 terminal_row_keys = codes "x" ∷ codes "max" ∷ []
 
--- the keys of the whole
+-- the keys of the whole; the last three are those of version 2 alone
 abbrev pub plant_keys : List (List ℕ)
 plant_keys =
-    codes "version" ∷ codes "horizon" ∷ codes "A" ∷ codes "B" ∷ codes "Q" ∷ codes "R" ∷ codes "P" ∷ codes "rows" ∷ codes "terminal" ∷ codes "grid" ∷ []
+    codes "version" ∷ codes "horizon" ∷ codes "A" ∷ codes "B" ∷ codes "Q" ∷ codes "R" ∷ codes "P" ∷ codes "rows" ∷ codes "terminal" ∷ codes "grid" ∷ codes "drift" ∷ codes "xgoal"
+    ∷ codes "ugoal" ∷ []

@@ -1,6 +1,6 @@
 -- Which parts make a plant: sizes, shapes, symmetric weights and a grid with positive steps.
-use Rattle.std.specs.Prelude.{◌≡◌, ℕ, ◌+◌, ◌*◌, ◌≤◌, List, length, All, pos, nat_le, if◌then◌else◌}
-use Rattle.mpc_exact.specs.Rational.{int, ◌<ℚ◌}
+use Rattle.std.specs.Prelude.{◌≡◌, ℕ, ◌+◌, ◌*◌, ◌≤◌, List, length, All, nat_le, if◌then◌else◌}
+use Rattle.mpc_exact.specs.Rational.{ℚ, IsPositive}
 use Rattle.mpc_space.specs.Vector.{IsSymmetric}
 use Rattle.mpc_space.specs.Matrix.{RationalMatrix}
 use Rattle.mpc_linear.specs.Shape.{HasShape}
@@ -22,10 +22,14 @@ pub record FitsRow (n p : ℕ) (row : PlantRow) : Type 0 where
   pub x_size : length row.x ≡ n
   pub u_size : length row.u ≡ p
 
--- the step is positive, and there are at most a million of them
+-- the most steps that a coordinate of a grid may have
+abbrev pub greatest_count : ℕ
+greatest_count = 1000000
+
+-- a coordinate of a grid: its step is positive, and its count within the limit
 pub record IsCoordinate (axis : Coordinate) : Type 0 where
-  pub step_positive : int (pos 0) <ℚ axis.step
-  pub count_small : axis.count ≤ 1000000
+  pub step_positive : IsPositive axis.step
+  pub count_small : axis.count ≤ greatest_count
 
 -- the most rows that a program of so many unknowns may have
 abbrev pub row_limit : ℕ → ℕ

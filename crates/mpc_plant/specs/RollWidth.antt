@@ -2,7 +2,7 @@
 use Rattle.std.specs.Prelude.{ℕ, zero, suc, ◌<◌, ◌≤◌, List, [], ◌∷◌, slice_index_or}
 use Rattle.mpc_exact.specs.Rational.{ℚ, ◌+ℚ◌}
 use Rattle.mpc_frac.specs.Fits.{FitsSum}
-use Rattle.mpc_space.specs.Vector.{dot}
+use Rattle.mpc_space.specs.Vector.{coordinate, dot, vec_add, mat_vec}
 use Rattle.mpc_space.specs.Matrix.{RationalMatrix}
 use Rattle.mpc_linear.specs.Dot.{TermFits, DotFits}
 use Rattle.mpc_plant.specs.declared.lists.Coordinate.{Coordinate}
@@ -18,17 +18,26 @@ AxesFit [] ts = Unit {0}
 AxesFit (axis ∷ grid) [] = Unit {0}
 AxesFit (axis ∷ grid) (t ∷ ts) = TermFits axis.low axis.step t × AxesFit grid ts
 
--- entry i of A x + B u
-abbrev pub next_entry : Plant → List ℚ → List ℚ → ℕ → ℚ
-next_entry plant x u i = dot (row_at plant.a i) x +ℚ dot (row_at plant.b i) u
+-- A x + B u + drift
+abbrev pub next_of : Plant → List ℚ → List ℚ → List ℚ
+next_of plant x u = vec_add (vec_add (mat_vec plant.a.rows x) (mat_vec plant.b.rows u)) plant.drift
 
--- its two dots, and their sum
+-- entry i of A x + B u
+abbrev pub moved_entry : Plant → List ℚ → List ℚ → ℕ → ℚ
+moved_entry plant x u i = dot (row_at plant.a i) x +ℚ dot (row_at plant.b i) u
+
+-- entry i of A x + B u + drift
+abbrev pub next_entry : Plant → List ℚ → List ℚ → ℕ → ℚ
+next_entry plant x u i = moved_entry plant x u i +ℚ coordinate plant.drift i
+
+-- its two dots, their sum, and last the sum with the drift
 pub record EntryFits (plant : Plant) (x u : List ℚ) (i : ℕ) : Type 0 where
   pub state : DotFits (row_at plant.a i) x
   pub move : DotFits (row_at plant.b i) u
   pub sum : FitsSum (dot (row_at plant.a i) x) (dot (row_at plant.b i) u)
+  pub drift : FitsSum (moved_entry plant x u i) (coordinate plant.drift i)
 
--- each entry of A x + B u
+-- each entry of A x + B u + drift
 abbrev pub NextFits : Plant → List ℚ → List ℚ → Type 0
 NextFits plant x u = (i : ℕ) → i < plant.n → EntryFits plant x u i
 

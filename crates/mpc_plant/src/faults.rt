@@ -1,6 +1,6 @@
 //! What is wrong with a plant file, and where.
 
-ghost use Rattle.std.specs.Prelude.{◌≡◌, ℕ, List, [], IfOk, Ok, Err, decimal};
+ghost use Rattle.std.specs.Prelude.{◌≡◌, ◌<◌, ◌↔◌, ℕ, List, [], ◌∷◌, ◌++◌, length, slice_index, IsTrue, IfOk, OnOk, OnErr, Ok, Err, decimal};
 ghost use Rattle.mpc_plant.specs.declared.faults.PlantKind.{PlantKind as Kind};
 ghost use Rattle.mpc_plant.specs.Paths.{below};
 
@@ -32,7 +32,7 @@ pub enum PlantKind {
     NotSymmetric,
     /// The step of a coordinate isn't above 0.
     StepNotPositive,
-    /// The version isn't 1.
+    /// The version is neither 1 nor 2.
     BadVersion,
 }
 
@@ -51,13 +51,46 @@ impl Model for Path {
 }
 
 impl Path {
-    /// The top, whose path is empty. It takes no memory.
-    pub fn top(alloc: Global) -> Self
+    /// The empty path, which is that of the top. It takes no memory.
+    pub fn new(alloc: Global) -> Self
         ensures { result ≡ [] }
     {
         Path {
             text: Vec::new(alloc),
         }
+    }
+
+    /// How many bytes the text has.
+    pub fn len(&self) -> usize
+        ensures { result ≡ length self.now }
+    {
+        self.text.len()
+    }
+
+    /// Whether it is the path of the top.
+    pub fn is_empty(&self) -> bool
+        ensures { IsTrue result ↔ (self.now ≡ []) }
+    {
+        self.text.is_empty()
+    }
+
+    /// The byte at the place i, from 0.
+    pub fn at(&self, i: usize) -> &u8
+        requires { i < length self.now }
+        ensures { result.now ≡ slice_index self.now i }
+    {
+        &self.text[i]
+    }
+
+    /// Puts one byte behind the others. Without memory the path stays as it was.
+    pub fn push(&mut self, item: u8) -> Result<(), NoMemory>
+        ensures ok { OnOk result (self.new ≡ self.old ++ item ∷ []) }
+        ensures err { OnErr result (self.new ≡ self.old) }
+    {
+        if self.text.push(item).is_err() {
+            return Err(NoMemory);
+        }
+        Ok(())
     }
 
     /// The text of the path.
@@ -110,7 +143,7 @@ impl PlantError {
     pub(crate) fn here(alloc: Global, kind: PlantKind) -> PlantError
         ensures { result ≡ PlantError.Bad kind [] }
     {
-        PlantError::Bad(kind, Path::top(alloc))
+        PlantError::Bad(kind, Path::new(alloc))
     }
 
     /// The fault as it is seen from one level higher.

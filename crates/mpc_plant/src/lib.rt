@@ -1,7 +1,8 @@
 //! The plant: its type, what its controller has to achieve, and its file.
 //!
-//! The plant is the discrete-time linear system `x[k+1] = A x[k] + B u[k]` with `n` states and `p` inputs, a horizon of `N` steps, a
-//! quadratic cost and linear rows on states and inputs (Bemporad, Morari, Dua and Pistikopoulos, 2002).
+//! The plant is the discrete-time linear system `x[k+1] = A x[k] + B u[k] + drift` with `n` states and `p` inputs, a horizon of `N` steps, a
+//! quadratic cost of the distances from a state and an input that are aimed at, and linear rows on states and inputs (Bemporad, Morari, Dua
+//! and Pistikopoulos, 2002).
 #![tactic(auto)]
 
 mod costs;

@@ -5,25 +5,26 @@ ghost use Rattle.serde_json.specs.View.{view, items_view};
 ghost use Rattle.serde_json.specs.Find.{get};
 ghost use Rattle.mpc_space.specs.Matrix.{height};
 ghost use Rattle.mpc_plant.specs.declared.faults.PlantKind.{PlantKind as Kind};
-ghost use Rattle.mpc_plant.specs.Limits.{IsFromTo, IsWeight, IsCoordinate, FitsRow};
+ghost use Rattle.mpc_plant.specs.Limits.{IsFromTo, IsWeight, IsCoordinate, FitsRow, row_limit as most_rows};
 ghost use Rattle.mpc_linear.specs.Shape.{HasShape};
-ghost use Rattle.mpc_plant.specs.CheckedPlant.{keys_of, version_of, horizon_of, at_key, weight_of, list_or_none, grid_of};
-ghost use Rattle.mpc_plant.specs.WholePlant.{head_of, dynamics_of, weights_of, row_lists_of, few_rows, parts_of, stated_by, ReadsAsPlant, IsFirstFault};
+ghost use Rattle.mpc_plant.specs.CheckedPlant.{keys_of, version_of, absent, plain_of, allowed_by, edition_of, horizon_of, at_key, weight_of, list_or_none, grid_of};
+ghost use Rattle.mpc_plant.specs.WholePlant.{head_of, dynamics_of, weights_of, targets_of, row_lists_of, few_rows, parts_of, stated_by, ReadsAsPlant, IsFirstFault};
 
 use crate::entries::{list, list_with_len, whole_number};
 use crate::faults::{PlantError, PlantKind, under_key};
 use crate::lists::{Coordinates, PlantRows};
 use crate::objects::{check_object, needed_in};
 use crate::plants::Plant;
-use crate::rows::{axes, stage_rows, terminal_rows};
+use crate::rows::{axes, stage_rows, terminal_rows, vector_in};
 use crate::weights::{side, square, weight};
-use mpc_linear::Matrix;
+use mpc_linear::{Matrix, Vector};
 use serde_json::Value;
 use std::alloc::Global;
 
-/// The keys of the whole.
-const PLANT_KEYS: [&str; 10] = [
-    "version", "horizon", "A", "B", "Q", "R", "P", "rows", "terminal", "grid",
+/// The keys of the whole; the last three are those of version 2 alone.
+const PLANT_KEYS: [&str; 13] = [
+    "version", "horizon", "A", "B", "Q", "R", "P", "rows", "terminal", "grid", "drift", "xgoal",
+    "ugoal",
 ];
 
 /// Whether the keys of the whole are there, and no other ones.
@@ -44,15 +45,56 @@ fn check_keys(alloc: Global, value: &Value) -> Result<(), PlantError>
     Ok(())
 }
 
-/// Whether a value is the version that is read.
-fn check_version(alloc: Global, value: &Value) -> Result<(), PlantError>
-    ensures ok { OnOk result (version_of (view value.now) ≡ Ok tt) }
+/// The version that a value is: 1 or 2.
+fn version(alloc: Global, value: &Value) -> Result<i64, PlantError>
+    ensures ok { IfOk result (λ z. version_of (view value.now) ≡ Ok z) }
     ensures bad { (kind : Kind) (path : List ℕ) → result ≡ Err (PlantError.Bad kind path)
         → version_of (view value.now) ≡ Err (kind, path) }
 {
     let version = whole_number(alloc, value)?;
-    if version != 1 {
+    if version != 1 && version != 2 {
         return Err(PlantError::here(alloc, PlantKind::BadVersion));
+    }
+    Ok(version)
+}
+
+/// Whether nothing stands at a key.
+fn check_absent(alloc: Global, value: &Value, key: &str) -> Result<(), PlantError>
+    ensures ok { OnOk result (absent key.now (get key.now (view value.now)) ≡ Ok tt) }
+    ensures bad { (kind : Kind) (path : List ℕ) → result ≡ Err (PlantError.Bad kind path)
+        → absent key.now (get key.now (view value.now)) ≡ Err (kind, path) }
+{
+    match value.get(key) {
+        Some(_) => under_key(
+            alloc,
+            key,
+            Err(PlantError::here(alloc, PlantKind::UnknownKey)),
+        ),
+        None => Ok(()),
+    }
+}
+
+/// Whether none of the keys is there that version 2 adds.
+fn check_plain(alloc: Global, value: &Value) -> Result<(), PlantError>
+    ensures ok { OnOk result (plain_of (view value.now) ≡ Ok tt) }
+    ensures bad { (kind : Kind) (path : List ℕ) → result ≡ Err (PlantError.Bad kind path)
+        → plain_of (view value.now) ≡ Err (kind, path) }
+{
+    check_absent(alloc, value, "drift")?;
+    check_absent(alloc, value, "xgoal")?;
+    check_absent(alloc, value, "ugoal")
+}
+
+/// Whether the version is one that is read, and has the keys that are there.
+fn check_edition(alloc: Global, value: &Value) -> Result<(), PlantError>
+    ensures ok { OnOk result (edition_of (view value.now) ≡ Ok tt) }
+    ensures bad { (kind : Kind) (path : List ℕ) → result ≡ Err (PlantError.Bad kind path)
+        → edition_of (view value.now) ≡ Err (kind, path) }
+{
+    let found = needed_in(alloc, value, "version")?;
+    let version = under_key(alloc, "version", version(alloc, found))?;
+    if version == 1 {
+        return check_plain(alloc, value);
     }
     Ok(())
 }
@@ -80,8 +122,7 @@ fn head(alloc: Global, value: &Value) -> Result<u32, PlantError>
         → head_of (view value.now) ≡ Err (kind, path) }
 {
     check_keys(alloc, value)?;
-    let version = needed_in(alloc, value, "version")?;
-    under_key(alloc, "version", check_version(alloc, version))?;
+    check_edition(alloc, value)?;
     let steps = needed_in(alloc, value, "horizon")?;
     under_key(alloc, "horizon", horizon(alloc, steps))
 }
@@ -112,6 +153,14 @@ struct Weights {
     q: Matrix,
     r: Matrix,
     last: Matrix,
+}
+
+/// The drift of a plant, and where its state and its moves are to be.
+#[derive(Drop)]
+struct Targets {
+    drift: Vector,
+    xgoal: Vector,
+    ugoal: Vector,
 }
 
 /// The rows of a plant.
@@ -175,23 +224,60 @@ fn read_weights(alloc: Global, n: u32, p: u32, value: &Value) -> Result<Weights,
     Ok(Weights { q, r, last })
 }
 
-/// Whether there are at most 40 rows over all steps and the end.
-fn are_few(steps: u32, rows: usize, terminal: usize) -> bool
-    requires { IsFromTo 1 6 steps }
-    ensures { result ≡ nat_le (steps * rows + terminal) 40 }
+/// The drift and the targets, for n states and p inputs, with zeros where a key is absent.
+fn read_targets(alloc: Global, n: u32, p: u32, value: &Value) -> Result<Targets, PlantError>
+    ensures ok { IfOk result (λ found. targets_of n p (view value.now)
+        ≡ Ok (record { drift = found.drift; xgoal = found.xgoal; ugoal = found.ugoal })) }
+    ensures drift { IfOk result (λ found. length found.drift ≡ n) }
+    ensures xgoal { IfOk result (λ found. length found.xgoal ≡ n) }
+    ensures ugoal { IfOk result (λ found. length found.ugoal ≡ p) }
+    ensures bad { (kind : Kind) (path : List ℕ) → result ≡ Err (PlantError.Bad kind path)
+        → targets_of n p (view value.now) ≡ Err (kind, path) }
 {
-    rows <= 40 && terminal <= 40 && steps as usize * rows + terminal <= 40
+    let drift = vector_in(alloc, n as usize, value, "drift")?;
+    let xgoal = vector_in(alloc, n as usize, value, "xgoal")?;
+    let ugoal = vector_in(alloc, p as usize, value, "ugoal")?;
+    Ok(Targets {
+        drift,
+        xgoal,
+        ugoal,
+    })
 }
 
-/// Whether two lists of rows are short enough for the horizon.
-fn check_few(alloc: Global, steps: u32, stage: &[Value], end: &[Value]) -> Result<(), PlantError>
-    requires { IsFromTo 1 6 steps }
-    ensures ok { OnOk result (few_rows steps (items_view stage.now) (items_view end.now) ≡ Ok tt) }
-    ensures few { OnOk result (steps * length stage.now + length end.now ≤ 40) }
-    ensures bad { (kind : Kind) (path : List ℕ) → result ≡ Err (PlantError.Bad kind path)
-        → few_rows steps (items_view stage.now) (items_view end.now) ≡ Err (kind, path) }
+/// The most rows that a program of so many unknowns may have.
+fn row_limit(unknowns: u32) -> usize
+    ensures limit { result ≡ most_rows unknowns }
+    ensures most { result ≤ 60 }
 {
-    if !are_few(steps, stage.len(), end.len()) {
+    if unknowns <= 4 { 60 } else { 40 }
+}
+
+/// Whether the rows over all steps and the end are within the limit.
+fn are_few(limit: usize, steps: u32, rows: usize, terminal: usize) -> bool
+    requires steps { IsFromTo 1 6 steps }
+    requires limit { limit ≤ 60 }
+    ensures { result ≡ nat_le (steps * rows + terminal) limit }
+{
+    rows <= limit && terminal <= limit && steps as usize * rows + terminal <= limit
+}
+
+/// Whether two lists of rows are short enough for the horizon and p inputs.
+fn check_few(
+    alloc: Global,
+    steps: u32,
+    p: u32,
+    stage: &[Value],
+    end: &[Value],
+) -> Result<(), PlantError>
+    requires steps { IsFromTo 1 6 steps }
+    requires moves { p * steps ≤ 6 }
+    ensures ok { OnOk result (few_rows steps p (items_view stage.now) (items_view end.now) ≡ Ok tt) }
+    ensures few { OnOk result (steps * length stage.now + length end.now ≤ most_rows (p * steps)) }
+    ensures bad { (kind : Kind) (path : List ℕ) → result ≡ Err (PlantError.Bad kind path)
+        → few_rows steps p (items_view stage.now) (items_view end.now) ≡ Err (kind, path) }
+{
+    let limit = row_limit(p * steps);
+    if !are_few(limit, steps, stage.len(), end.len()) {
         return Err(PlantError::here(alloc, PlantKind::OverLimit));
     }
     Ok(())
@@ -205,10 +291,11 @@ fn read_row_lists(
     p: u32,
     value: &Value,
 ) -> Result<RowLists, PlantError>
-    requires { IsFromTo 1 6 steps }
+    requires steps { IsFromTo 1 6 steps }
+    requires moves { p * steps ≤ 6 }
     ensures ok { IfOk result (λ lists. row_lists_of steps n p (view value.now)
         ≡ Ok (record { rows = lists.rows; terminal = lists.terminal })) }
-    ensures few { IfOk result (λ lists. steps * length lists.rows + length lists.terminal ≤ 40) }
+    ensures few { IfOk result (λ lists. steps * length lists.rows + length lists.terminal ≤ most_rows (p * steps)) }
     ensures rows { IfOk result (λ lists. All (FitsRow n p) lists.rows) }
     ensures terminal { IfOk result (λ lists. All (FitsRow n 0) lists.terminal) }
     ensures bad { (kind : Kind) (path : List ℕ) → result ≡ Err (PlantError.Bad kind path)
@@ -216,7 +303,7 @@ fn read_row_lists(
 {
     let stage = list_at(alloc, value, "rows")?;
     let end = list_at(alloc, value, "terminal")?;
-    under_key(alloc, "rows", check_few(alloc, steps, stage, end))?;
+    under_key(alloc, "rows", check_few(alloc, steps, p, stage, end))?;
     let rows = under_key(
         alloc,
         "rows",
@@ -249,6 +336,11 @@ fn plant_in(alloc: Global, value: &Value) -> Result<Plant, PlantError>
     let n = a.rows();
     let p = b.cols();
     let Weights { q, r, last } = read_weights(alloc, n, p, value)?;
+    let Targets {
+        drift,
+        xgoal,
+        ugoal,
+    } = read_targets(alloc, n, p, value)?;
     let RowLists { rows, terminal } = read_row_lists(alloc, horizon, n, p, value)?;
     let axes = needed_in(alloc, value, "grid")?;
     let grid = under_key(alloc, "grid", grid(alloc, n, axes))?;
@@ -261,6 +353,9 @@ fn plant_in(alloc: Global, value: &Value) -> Result<Plant, PlantError>
         q,
         r,
         last,
+        drift,
+        xgoal,
+        ugoal,
         rows,
         terminal,
         grid,

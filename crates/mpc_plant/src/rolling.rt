@@ -2,11 +2,12 @@
 
 ghost use Rattle.std.specs.Prelude.{◌≡◌, ◌<◌, ◌≤◌, IfOk, MatchResult, length, pos};
 ghost use Rattle.mpc_exact.specs.Rational.{int, ◌+ℚ◌, ◌*ℚ◌};
-ghost use Rattle.mpc_space.specs.Vector.{dot, vec_add, mat_vec};
+ghost use Rattle.mpc_space.specs.Vector.{dot};
 ghost use Rattle.mpc_linear.specs.Dot.{TermFits, DotFits};
 ghost use Rattle.mpc_linear.specs.Answers.{IfWide};
+ghost use Rattle.mpc_plant.specs.Limits.{greatest_count};
 ghost use Rattle.mpc_plant.specs.Trajectory.{IsInBox, IsSequence, point_of, state_of, rolled};
-ghost use Rattle.mpc_plant.specs.RollWidth.{AxesFit, next_entry, EntryFits, NextFits, StatesFit, IsFirstWideState};
+ghost use Rattle.mpc_plant.specs.RollWidth.{AxesFit, next_of, next_entry, EntryFits, NextFits, StatesFit, IsFirstWideState};
 
 use crate::lists::Coordinate;
 use crate::matrices::write_row;
@@ -26,7 +27,7 @@ pub(crate) fn dot_of(x: &[Frac], y: &[Frac]) -> Result<Frac, Wide>
 
 /// The value of a coordinate at a count.
 fn value_at(axis: &Coordinate, count: u64) -> Result<Frac, Wide>
-    requires { count ≤ 1000000 }
+    requires { count ≤ greatest_count }
     ensures value { IfOk result (λ x. x ≡ axis.now.low +ℚ axis.now.step *ℚ int (pos count)) }
     ensures wide { MatchResult result (λ _. TermFits axis.now.low axis.now.step (int (pos count)))
         (λ _. ¬ TermFits axis.now.low axis.now.step (int (pos count))) }
@@ -55,7 +56,7 @@ pub(crate) fn state_at_counts(
     Ok(state)
 }
 
-/// Entry i of `A x + B u`.
+/// Entry i of `A x + B u + drift`; the drift comes last.
 fn entry_of_next(plant: &Plant, x: &[Frac], u: &[Frac], i: u32) -> Result<Frac, Wide>
     requires entry { i < plant.now.n }
     requires state { length x.now ≡ plant.now.n }
@@ -66,10 +67,11 @@ fn entry_of_next(plant: &Plant, x: &[Frac], u: &[Frac], i: u32) -> Result<Frac, 
 {
     let from_state = dot_of(plant.a.row(i), x)?;
     let from_move = dot_of(plant.b.row(i), u)?;
-    from_state.add(&from_move)
+    let moved = from_state.add(&from_move)?;
+    moved.add(plant.drift.at(i as usize))
 }
 
-/// The state `A x + B u` that follows x. `Wide` with this step where one of its numbers is wide.
+/// The state `A x + B u + drift` that follows x. `Wide` with this step where one of its numbers is wide.
 pub(crate) fn next_state(
     alloc: Global,
     plant: &Plant,
@@ -79,8 +81,7 @@ pub(crate) fn next_state(
 ) -> Result<Vector, LinearError>
     requires state { length x.now ≡ plant.now.n }
     requires inputs { length u.now ≡ plant.now.p }
-    ensures value { IfOk result
-        (λ y. y ≡ vec_add (mat_vec plant.now.a.rows x.now) (mat_vec plant.now.b.rows u.now)) }
+    ensures value { IfOk result (λ y. y ≡ next_of plant.now x.now u.now) }
     ensures wide { MatchResult result (λ _. NextFits plant.now x.now u.now)
         (λ e. IfWide e (λ k. (k ≡ step) × (¬ NextFits plant.now x.now u.now))) }
 {
@@ -97,8 +98,9 @@ pub(crate) fn next_state(
 /// The states of the plant under the moves, from the counts on: row k is the state at step k, from 0 to the horizon.
 ///
 /// There are n counts inside the box, and N rows of p moves. `Wide` with the first step whose state has a number of more than 128 bits on
-/// the way: for the first state a product of step and count or its sum with the low, for the others a dot of a row of A or of B or the sum
-/// of the two (Bemporad, Morari, Dua and Pistikopoulos, 2002).
+/// the way; the state at the counts is that of step 0, and the last one that of step N. On the way are for step 0 the products of step and
+/// count and their sums with the low, for each later step the dots of the rows of A and of B, the sums of the two, and last the sums with
+/// the drift (Bemporad, Morari, Dua and Pistikopoulos, 2002).
 pub fn roll(
     alloc: Global,
     plant: &Plant,

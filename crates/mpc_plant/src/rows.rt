@@ -3,9 +3,9 @@
 ghost use Rattle.std.specs.Prelude.{◌≡◌, ◌<◌, ◌^◌, ℕ, List, IfOk, Ok, Err, Some, replicate, length, pos, All, ◌≤◌};
 ghost use Rattle.serde_json.specs.View.{view, items_view};
 ghost use Rattle.serde_json.specs.Find.{get};
-ghost use Rattle.mpc_exact.specs.Rational.{int, ◌<ℚ◌};
+ghost use Rattle.mpc_exact.specs.Rational.{int, IsPositive};
 ghost use Rattle.mpc_plant.specs.declared.faults.PlantKind.{PlantKind as Kind};
-ghost use Rattle.mpc_plant.specs.Limits.{FitsRow, IsCoordinate};
+ghost use Rattle.mpc_plant.specs.Limits.{FitsRow, IsCoordinate, greatest_count};
 ghost use Rattle.mpc_plant.specs.Faults.{each};
 ghost use Rattle.mpc_plant.specs.CheckedRows.{vector_or_zeros, stage_row_of, terminal_row_of, step_of, count_in, count_of, axis_of};
 
@@ -28,6 +28,9 @@ const TERMINAL_ROW_KEYS: [&str; 2] = ["x", "max"];
 /// The keys of a coordinate.
 const AXIS_KEYS: [&str; 3] = ["low", "step", "count"];
 
+/// The greatest count of a coordinate.
+const GREATEST_COUNT: i64 = 1_000_000;
+
 /// A vector of zeros.
 fn zeros(alloc: Global, size: usize) -> Result<Vector, NoMemory>
     ensures { IfOk result (λ entries. entries ≡ replicate size (int (pos 0))) }
@@ -40,7 +43,12 @@ fn zeros(alloc: Global, size: usize) -> Result<Vector, NoMemory>
 }
 
 /// The vector at a key, or zeros where the key is absent.
-fn vector_in(alloc: Global, size: usize, value: &Value, key: &str) -> Result<Vector, PlantError>
+pub(crate) fn vector_in(
+    alloc: Global,
+    size: usize,
+    value: &Value,
+    key: &str,
+) -> Result<Vector, PlantError>
     ensures ok { IfOk result
         (λ entries. vector_or_zeros key.now size (get key.now (view value.now)) ≡ Ok entries) }
     ensures len { IfOk result (λ entries. length entries ≡ size) }
@@ -93,7 +101,7 @@ fn terminal_row(alloc: Global, n: usize, value: &Value) -> Result<PlantRow, Plan
 /// A step above 0.
 fn step(alloc: Global, value: &Value) -> Result<Frac, PlantError>
     ensures ok { IfOk result (λ x. step_of (view value.now) ≡ Ok x) }
-    ensures positive { IfOk result (λ x. int (pos 0) <ℚ x) }
+    ensures positive { IfOk result IsPositive }
     ensures bad { (kind : Kind) (path : List ℕ) → result ≡ Err (PlantError.Bad kind path)
         → step_of (view value.now) ≡ Err (kind, path) }
 {
@@ -104,15 +112,15 @@ fn step(alloc: Global, value: &Value) -> Result<Frac, PlantError>
     Ok(step)
 }
 
-/// A count from 0 to a million.
+/// A count from 0 to the limit.
 fn count(alloc: Global, value: &Value) -> Result<u64, PlantError>
     ensures ok { IfOk result (λ k. count_of (view value.now) ≡ Ok k) }
-    ensures small { IfOk result (λ k. k ≤ 1000000) }
+    ensures small { IfOk result (λ k. k ≤ greatest_count) }
     ensures bad { (kind : Kind) (path : List ℕ) → result ≡ Err (PlantError.Bad kind path)
         → count_of (view value.now) ≡ Err (kind, path) }
 {
     let count = whole_number(alloc, value)?;
-    if 0 <= count && count <= 1_000_000 {
+    if 0 <= count && count <= GREATEST_COUNT {
         Ok(count as u64)
     } else {
         Err(PlantError::here(alloc, PlantKind::OverLimit))

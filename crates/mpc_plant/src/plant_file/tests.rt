@@ -108,7 +108,7 @@ fn names_the_first_fault(rt: HostRuntime) -> Result<(), Fail> {
     assert!(rt;
         is_refused_for(
             alloc,
-            "{\"version\":2,\"horizon\":1,\"A\":[[1]],\"B\":[[1]],\"Q\":[[1]],\"R\":[[1]],\"P\":[[1]],\"grid\":[{\"low\":-4,\"step\":1,\"count\":8}]}",
+            "{\"version\":3,\"horizon\":1,\"A\":[[1]],\"B\":[[1]],\"Q\":[[1]],\"R\":[[1]],\"P\":[[1]],\"grid\":[{\"low\":-4,\"step\":1,\"count\":8}]}",
             PlantKind::BadVersion,
             "/version"
         )

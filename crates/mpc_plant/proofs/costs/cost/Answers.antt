@@ -1,7 +1,9 @@
-use Rattle.std.proofs.Common.{◌≡◌, ◌∙◌, sym, ap, length, arith}
+use Rattle.std.proofs.Common.{◌≡◌, ◌∙◌, ℕ, List, sym, ap, length, arith}
 use Rattle.std.proofs.lemmas.Result.{err_from_is_err_and}
-use Rattle.mpc_linear.proofs.Outcomes.{IfWide-weaker}
-use Rattle.mpc_plant.specs.Trajectory.{point_of}
+use Rattle.mpc_plant.proofs.Carried.{IfWide-weaker}
+use Rattle.mpc_exact.specs.Rational.{ℚ}
+use Rattle.mpc_plant.specs.declared.plants.Plant.{Plant}
+use Rattle.mpc_plant.specs.Trajectory.{IsInBox, point_of, state_at}
 use Rattle.mpc_plant.specs.CostWidth.{IsFirstWideStep}
 use Rattle.mpc_plant.proofs.RollLemmas.{state_size}
 use Rattle.mpc_plant.proofs.CostedSteps.{costed_none, costed_more, next_wide, end_answer, end_value}
@@ -31,20 +33,27 @@ loop-k-preserved c =
     costed_more c.args.plant.now (point_of c.args.counts.now) c.args.moves.now.rows c.loop-k.k c.loop-k-test.true c.loop-k.state c.loop-k.sum c.loop-k.invariant c.as_slice-x.result.now c.row-u.result.now c.as_slice-x.ensures c.row-u.ensures
     c.in_ok-state-2.state c.in_ok-sum.sum c.in_ok-sum.ensures.wide c.in_ok-sum.ensures.value c.in_ok-state-2.ensures.wide c.in_ok-state-2.ensures.value
 
-pub add_form-requires-clause-columns : goal.add_form-requires-clause-columns
-add_form-requires-clause-columns c =
-    ap length (c.as_slice.ensures ∙ c.loop-k.invariant.here) ∙ state_size c.args.plant.now (point_of c.args.counts.now) c.args.moves.now.rows c.loop-k.k c.requires.inside ∙ sym c.args.plant.now.is_plant.last_weight.shape.columns_are
+end_sized : (plant : Plant) (t : List ℚ) (v : List (List ℚ)) (k : ℕ) (x w : List ℚ) → IsInBox plant t → x ≡ state_at plant t v k → w ≡ x → length w ≡ plant.n
+end_sized plant t v k x w inside here same = ap length (same ∙ here) ∙ state_size plant t v k inside
 
-pub add_form-requires-clause-rows : goal.add_form-requires-clause-rows
-add_form-requires-clause-rows c =
-    ap length (c.as_slice.ensures ∙ c.loop-k.invariant.here) ∙ state_size c.args.plant.now (point_of c.args.counts.now) c.args.moves.now.rows c.loop-k.k c.requires.inside ∙ sym c.args.plant.now.is_plant.last_weight.shape.rows_are
+pub add_target-requires-clause-goal : goal.add_target-requires-clause-goal
+add_target-requires-clause-goal c =
+    end_sized c.args.plant.now (point_of c.args.counts.now) c.args.moves.now.rows c.loop-k.k c.loop-k.state c.as_slice-end.result.now c.requires.inside c.loop-k.invariant.here c.as_slice-end.ensures ∙ sym c.args.plant.now.is_plant.xgoal_size
+
+pub add_target-requires-clause-columns : goal.add_target-requires-clause-columns
+add_target-requires-clause-columns c =
+    end_sized c.args.plant.now (point_of c.args.counts.now) c.args.moves.now.rows c.loop-k.k c.loop-k.state c.as_slice-end.result.now c.requires.inside c.loop-k.invariant.here c.as_slice-end.ensures ∙ sym c.args.plant.now.is_plant.last_weight.shape.columns_are
+
+pub add_target-requires-clause-rows : goal.add_target-requires-clause-rows
+add_target-requires-clause-rows c =
+    end_sized c.args.plant.now (point_of c.args.counts.now) c.args.moves.now.rows c.loop-k.k c.loop-k.state c.as_slice-end.result.now c.requires.inside c.loop-k.invariant.here c.as_slice-end.ensures ∙ sym c.args.plant.now.is_plant.last_weight.shape.rows_are
 
 pub returns-clause-value : goal.returns-clause-value
 returns-clause-value c =
     let all : c.loop-k.k ≡ c.args.plant.now.horizon = omega arith in
-    end_value c.args.plant.now (point_of c.args.counts.now) c.args.moves.now.rows c.loop-k.k all c.loop-k.state c.loop-k.sum c.loop-k.invariant c.as_slice.result.now c.as_slice.ensures c.add_form.result c.add_form.ensures.value
+    end_value c.args.plant.now (point_of c.args.counts.now) c.args.moves.now.rows c.loop-k.k all c.loop-k.state c.loop-k.sum c.loop-k.invariant c.as_slice-end.result.now c.as_slice-end.ensures c.add_target.result c.add_target.ensures.value
 
 pub returns-clause-wide : goal.returns-clause-wide
 returns-clause-wide c =
     let all : c.loop-k.k ≡ c.args.plant.now.horizon = omega arith in
-    end_answer c.args.plant.now (point_of c.args.counts.now) c.args.moves.now.rows c.loop-k.k all c.loop-k.state c.loop-k.sum c.loop-k.invariant c.as_slice.result.now c.as_slice.ensures c.add_form.result c.add_form.ensures.wide
+    end_answer c.args.plant.now (point_of c.args.counts.now) c.args.moves.now.rows c.loop-k.k all c.loop-k.state c.loop-k.sum c.loop-k.invariant c.as_slice-end.result.now c.as_slice-end.ensures c.add_target.result c.add_target.ensures.wide

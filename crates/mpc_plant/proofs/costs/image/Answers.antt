@@ -1,7 +1,7 @@
 use Rattle.std.proofs.Common.{◌≡◌, ◌∙◌, ap, subst, length, arith}
 use Rattle.mpc_space.specs.Vector.{dot, listed}
 use Rattle.mpc_linear.specs.Dot.{DotFits}
-use Rattle.mpc_linear.proofs.ProductLemmas.{below_next}
+use Rattle.mpc_plant.proofs.Carried.{below_next}
 use Rattle.mpc_plant.specs.RollWidth.{row_at}
 use Rattle.mpc_plant.proofs.RollLemmas.{listed_more, image_listed}
 use Rattle.mpc_plant.proofs.costs.image.Goals as goal

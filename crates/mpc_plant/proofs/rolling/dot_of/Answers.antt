@@ -2,7 +2,7 @@ use Rattle.std.proofs.Common.{◌∙◌, [], ◌∷◌, ap}
 use Rattle.mpc_exact.specs.Rational.{◌+ℚ◌}
 use Rattle.mpc_exact.proofs.RationalRing.{reads, by_ring}
 use Rattle.mpc_space.specs.Vector.{dot}
-use Rattle.mpc_linear.proofs.Outcomes.{value_as}
+use Rattle.mpc_plant.proofs.Carried.{value_as}
 use Rattle.mpc_plant.proofs.rolling.dot_of.Goals as goal
 
 pub returns-clause-value : goal.returns-clause-value

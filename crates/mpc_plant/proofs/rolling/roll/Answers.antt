@@ -1,6 +1,6 @@
 use Rattle.std.proofs.Common.{◌∙◌, sym, ap, length}
 use Rattle.std.proofs.lemmas.Result.{err_from_is_err_and}
-use Rattle.mpc_linear.proofs.Outcomes.{IfWide-weaker}
+use Rattle.mpc_plant.proofs.Carried.{IfWide-weaker}
 use Rattle.mpc_plant.specs.Trajectory.{point_of}
 use Rattle.mpc_plant.specs.RollWidth.{IsFirstWideState}
 use Rattle.mpc_plant.proofs.RollLemmas.{state_size}
