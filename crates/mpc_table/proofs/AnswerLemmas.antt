@@ -19,7 +19,7 @@ use Rattle.mpc_file.specs.Preorder.{IsTree, IsNoSide}
 use Rattle.mpc_file.specs.Parts.{Parts, limits_of, IsNodeFor, IsSplitRow}
 use Rattle.mpc_file.specs.Bounds.{IsController, NodeFits, SplitFits}
 use Rattle.mpc_file.specs.Replies.{at_state, outside, first_outside, first_move, by_law, by_no_law}
-use Rattle.mpc_file.proofs.BoundLemmas.{all_at}
+use Rattle.mpc_table.proofs.ElementLemmas.{all_at}
 use Rattle.mpc_table.specs.declared.steps.Step.{Step}
 use Rattle.mpc_table.specs.Forms.{affine_values, AreFormsOf}
 use Rattle.mpc_table.specs.Steps.{step_of, steps_of, AreNoSides, IsSafeBranch, AreSafe}

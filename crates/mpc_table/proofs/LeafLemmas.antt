@@ -9,7 +9,7 @@ use Rattle.mpc_rows.specs.declared.trees.Node.{Node}
 use Rattle.mpc_rows.specs.declared.trees.Node.TheVariants.{Split, Law, NoMove}
 use Rattle.mpc_file.specs.Preorder.{Spells, IsTree, IsNoSide}
 use Rattle.mpc_file.specs.Walk.{IsLeaf}
-use Rattle.mpc_file.proofs.PreorderLemmas.{spells_leaf}
+use Rattle.mpc_file.specs.PreorderLaws.{LeafSpells}
 use Rattle.mpc_table.specs.Steps.{AreNoSides}
 use Rattle.mpc_table.specs.OpenSplits.{IsOpen, AreSidesTo}
 use Rattle.mpc_table.proofs.SideLemmas.{range_more, drop_next, nothing_left, left_leaf, none_left, ended_whole, contained_cases, same_place}
@@ -19,7 +19,7 @@ not_split (Split r) row is e = is
 not_split (Law law certs) row is e = absurd cc
 not_split (NoMove cert) row is e = absurd cc
 
-module _ (nodes : List Node) (k : ℕ) (sides pending : List ℕ) (so_far : AreSidesTo nodes k sides pending) (inside : k < length nodes) (leaf : Node) (at : slice_get nodes k ≡ Some leaf) (is : IsLeaf leaf) where
+module _ (leaf_spells : LeafSpells) (nodes : List Node) (k : ℕ) (sides pending : List ℕ) (so_far : AreSidesTo nodes k sides pending) (inside : k < length nodes) (leaf : Node) (at : slice_get nodes k ≡ Some leaf) (is : IsLeaf leaf) where
   longer : length (sides ++ 0 ∷ []) ≡ k + 1
   longer = omega (arith, length-append sides (0 ∷ []), so_far.one_each)
 
@@ -74,7 +74,7 @@ module _ (nodes : List Node) (k : ℕ) (sides pending : List ℕ) (so_far : AreS
         record {
           after = omega arith;
           before_end = more;
-          yes_side = subst (λ xs. Spells 1 xs 0) (sym (range_more nodes (last + 1) k leaf (omega arith) inside at)) (spells_leaf 1 (slice_range nodes (last + 1) k) 0 leaf is last_open.yes_side);
+          yes_side = subst (λ xs. Spells 1 xs 0) (sym (range_more nodes (last + 1) k leaf (omega arith) inside at)) (leaf_spells 1 (slice_range nodes (last + 1) k) 0 leaf is last_open.yes_side);
         }
 
     last_inside : last < length (sides ++ 0 ∷ [])
@@ -100,7 +100,7 @@ module _ (nodes : List Node) (k : ℕ) (sides pending : List ℕ) (so_far : AreS
         let one : length pending - q ≡ suc (length front - q) = omega (arith, size) in
         record {
           before = omega arith;
-          yes_side = subst (λ xs. Spells 1 xs (length front - q)) (sym (range_more nodes (get_or front q 0 + 1) k leaf (omega arith) inside at)) (spells_leaf 1 (slice_range nodes (get_or front q 0 + 1) k) (length front - q) leaf is (subst (Spells 1 (slice_range nodes (get_or front q 0 + 1) k)) one old.yes_side));
+          yes_side = subst (λ xs. Spells 1 xs (length front - q)) (sym (range_more nodes (get_or front q 0 + 1) k leaf (omega arith) inside at)) (leaf_spells 1 (slice_range nodes (get_or front q 0 + 1) k) (length front - q) leaf is (subst (Spells 1 (slice_range nodes (get_or front q 0 + 1) k)) one old.yes_side));
         }
 
     pub sides_pop : AreSidesTo nodes (k + 1) (set (sides ++ 0 ∷ []) last (k + 1)) front

@@ -1,3 +1,4 @@
+pub mod ElementLemmas
 pub mod WholeNumbers
 pub mod AffineLemmas
 pub mod FormLemmas

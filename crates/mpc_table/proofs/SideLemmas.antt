@@ -9,7 +9,7 @@ use Rattle.mpc_rows.specs.declared.trees.Node.{Node}
 use Rattle.mpc_rows.specs.declared.trees.Node.TheVariants.{Split, Law, NoMove}
 use Rattle.mpc_file.specs.Preorder.{Spells, IsNoSide}
 use Rattle.mpc_file.specs.Walk.{IsLeaf}
-use Rattle.mpc_file.proofs.PreorderLemmas.{spells_split}
+use Rattle.mpc_file.specs.PreorderLaws.{SplitSpells}
 use Rattle.mpc_table.specs.OpenSplits.{IsOpen, AreSidesTo}
 
 -- ---- the nodes from a place on
@@ -81,7 +81,7 @@ same_place x y = by (cases_lt x y)
         later (inl lt) = inr (λ e. absurd (omega arith))
         later (inr ge) = inl (omega arith)
 
-module _ (nodes : List Node) (k : ℕ) (sides pending : List ℕ) (so_far : AreSidesTo nodes k sides pending) (inside : k < length nodes) where
+module _ (split_spells : SplitSpells) (nodes : List Node) (k : ℕ) (sides pending : List ℕ) (so_far : AreSidesTo nodes k sides pending) (inside : k < length nodes) where
   longer : length (sides ++ 0 ∷ []) ≡ k + 1
   longer = omega (arith, length-append sides (0 ∷ []), so_far.one_each)
 
@@ -118,7 +118,7 @@ module _ (nodes : List Node) (k : ℕ) (sides pending : List ℕ) (so_far : AreS
             before = (let old_before : get_or (pending ++ k ∷ []) q 0 < k = subst (λ p. p < k) (sym place) before in omega arith);
             yes_side = subst (λ p. Spells 1 (slice_range nodes (p + 1) (k + 1)) (length (pending ++ k ∷ []) - q)) (sym place)
                 (subst (λ xs. Spells 1 xs (length (pending ++ k ∷ []) - q)) (sym (range_more nodes (get_or pending q 0 + 1) k (Split row) from inside split_at))
-                (subst (Spells 1 (slice_range nodes (get_or pending q 0 + 1) k ++ Split row ∷ [])) two (spells_split 1 (slice_range nodes (get_or pending q 0 + 1) k) (length pending - q - 1) row (subst (Spells 1 (slice_range nodes (get_or pending q 0 + 1) k)) one old.yes_side))));
+                (subst (Spells 1 (slice_range nodes (get_or pending q 0 + 1) k ++ Split row ∷ [])) two (split_spells 1 (slice_range nodes (get_or pending q 0 + 1) k) (length pending - q - 1) row (subst (Spells 1 (slice_range nodes (get_or pending q 0 + 1) k)) one old.yes_side))));
           }
       opened_at row split_at q (inr le) h size =
           let q_is : length pending ≡ q = omega arith in

@@ -18,18 +18,18 @@ use Rattle.mpc_file.specs.Parts.{row_count, IsLawFor, IsSplitRow, IsNodeFor, Hav
 use Rattle.mpc_file.specs.Certificates.{IsCertOver, cell_rows, AreLawCerts, HaveCerts}
 use Rattle.mpc_table.specs.TestNodes.{IsTestNode}
 use Rattle.mpc_file.specs.Walk.{IsLeaf}
-use Rattle.mpc_file.proofs.PreorderLemmas.{spells_split, spells_leaf}
+use Rattle.mpc_file.specs.PreorderLaws.{SplitSpells, LeafSpells}
 
 pub all_push : {X : Type 0} (P : X → Type 0) (xs new : List X) (x : X) → new ≡ xs ++ x ∷ [] → All P xs → P x → All P new
 all_push P xs new x e h p = subst (All P) (sym e) (All-append P xs (x ∷ []) h (All-cons P x [] p (All-nil P)))
 
-pub split_push : (tree new : List Node) (left : ℕ) (row : RowInt) → new ≡ tree ++ Split row ∷ [] → 0 < left → Spells 1 tree left → Spells 1 new (left + 1)
-split_push tree new zero row e some h = absurd (omega arith)
-split_push tree new (suc left) row e some h = let s : suc (suc left) ≡ suc left + 1 = omega arith in subst (Spells 1 new) s (subst (λ nodes. Spells 1 nodes (suc (suc left))) (sym e) (spells_split 1 tree left row h))
+pub split_push : SplitSpells → (tree new : List Node) (left : ℕ) (row : RowInt) → new ≡ tree ++ Split row ∷ [] → 0 < left → Spells 1 tree left → Spells 1 new (left + 1)
+split_push split_spells tree new zero row e some h = absurd (omega arith)
+split_push split_spells tree new (suc left) row e some h = let s : suc (suc left) ≡ suc left + 1 = omega arith in subst (Spells 1 new) s (subst (λ nodes. Spells 1 nodes (suc (suc left))) (sym e) (split_spells 1 tree left row h))
 
-pub leaf_push : (tree new : List Node) (left : ℕ) (leaf : Node) → new ≡ tree ++ leaf ∷ [] → IsLeaf leaf → 0 < left → Spells 1 tree left → Spells 1 new (left - 1)
-leaf_push tree new zero leaf e is some h = absurd (omega arith)
-leaf_push tree new (suc left) leaf e is some h = let s : left ≡ suc left - 1 = omega arith in subst (Spells 1 new) s (subst (λ nodes. Spells 1 nodes left) (sym e) (spells_leaf 1 tree left leaf is h))
+pub leaf_push : LeafSpells → (tree new : List Node) (left : ℕ) (leaf : Node) → new ≡ tree ++ leaf ∷ [] → IsLeaf leaf → 0 < left → Spells 1 tree left → Spells 1 new (left - 1)
+leaf_push leaf_spells tree new zero leaf e is some h = absurd (omega arith)
+leaf_push leaf_spells tree new (suc left) leaf e is some h = let s : left ≡ suc left - 1 = omega arith in subst (Spells 1 new) s (subst (λ nodes. Spells 1 nodes left) (sym e) (leaf_spells 1 tree left leaf is h))
 
 rises_more : (low high more : ℕ) (s : List ℕ) → high ≤ more → RisesWithin low high s → RisesWithin low more s
 rises_more low high more [] le h = tt

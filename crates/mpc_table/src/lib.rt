@@ -2,6 +2,7 @@
 #![tactic(auto)]
 
 mod forms;
+mod laws;
 mod replies;
 mod sides;
 mod steps;
@@ -10,5 +11,6 @@ mod tables;
 mod tests;
 mod values;
 
+pub use laws::table_laws;
 pub use replies::Reply;
 pub use tables::Table;

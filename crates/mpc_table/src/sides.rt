@@ -6,6 +6,7 @@ ghost use Rattle.mpc_file.specs.Walk.{IsLeaf};
 ghost use Rattle.mpc_table.specs.Steps.{AreNoSides};
 ghost use Rattle.mpc_table.specs.OpenSplits.{AreSidesTo};
 
+use mpc_file::preorder_laws;
 use mpc_frac::NoMemory;
 use mpc_rows::{Node, Tree};
 use std::alloc::Global;
@@ -32,6 +33,7 @@ fn add_side(
     requires so_far { AreSidesTo tree.now k sides.old.items pending.old.items }
     ensures { OnOk result (AreSidesTo tree.now (k + 1) sides.new.items pending.new.items) }
 {
+    preorder_laws();
     sides.push(0).map_err(|_| NoMemory)?;
     if !is_leaf(tree.at(k)) {
         pending.push(k).map_err(|_| NoMemory)?;

@@ -6,7 +6,7 @@ ghost use Rattle.mpc_file.specs.Parts.{IsLawFor};
 ghost use Rattle.mpc_table.specs.TestNodes.{IsTestNode};
 
 use crate::{Reply, Table};
-use mpc_file::Controller;
+use mpc_file::{Controller, preorder_laws};
 use mpc_frac::{Frac, NoMemory};
 use mpc_linear::{Ints, Matrix, RowInt};
 use mpc_plant::{Plant, read_plant};
@@ -100,6 +100,7 @@ fn add_split(
     ensures { IfSome result (λ _. All (IsTestNode (length laws.now) rows) tree.new
         × Spells 1 tree.new (left + 1)) }
 {
+    preorder_laws();
     let mut row = Ints::new(alloc);
     let Ok(()) = row.push(a) else {
         return None;
@@ -139,6 +140,7 @@ fn add_leaf(
     ensures { IfSome result (λ _. All (IsTestNode (length laws.now) rows) tree.new
         × Spells 1 tree.new (left - 1)) }
 {
+    preorder_laws();
     if law == 0 || law as usize > laws.len() {
         return None;
     }
@@ -163,6 +165,7 @@ fn add_bare_leaf(
     ensures { IfSome result (λ _. All (IsTestNode (length laws.now) rows) tree.new
         × Spells 1 tree.new (left - 1)) }
 {
+    preorder_laws();
     let cert = Cert::new(alloc);
     match tree.push(Node::NoMove { cert }) {
         Ok(()) => Some(()),

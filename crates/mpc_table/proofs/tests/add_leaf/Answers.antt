@@ -12,5 +12,5 @@ returns-in-Ok c =
     let within : c.args.law ≤ length c.args.laws.now = omega arith in
     let named : IsFromTo 1 (length c.args.laws.now) c.args.law = record { from_low = some; to_high = within } in (
       all_push (IsTestNode (length c.args.laws.now) c.args.rows) c.args.tree.now c.push.new.self (Law c.args.law c.in_ok-certs.certs) c.in-Ok.ensures.ok c.requires.nodes (named, (bare_law c.args.rows c.in_ok-certs.certs c.in_ok-certs.ensures.0 c.in_ok-certs.ensures.1, tt)),
-      leaf_push c.args.tree.now c.push.new.self c.args.left (Law c.args.law c.in_ok-certs.certs) c.in-Ok.ensures.ok tt c.requires.some c.requires.spells,
+      leaf_push c.preorder_laws.ensures.leaf c.args.tree.now c.push.new.self c.args.left (Law c.args.law c.in_ok-certs.certs) c.in-Ok.ensures.ok tt c.requires.some c.requires.spells,
     )

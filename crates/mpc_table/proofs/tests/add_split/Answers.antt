@@ -13,5 +13,5 @@ returns-in-Ok-push c =
     let is : c.push.new.self ≡ c.args.a ∷ [] = c.in-Ok.ensures.ok ∙ (λ i. c.new-row.ensures i ++ read c.args.a a_small i ∷ []) in
     let pushed : c.push-2.new.self ≡ c.args.tree.now ++ Split row ∷ [] = c.in-Ok-push.ensures.ok ∙ (λ i. c.args.tree.now ++ Split (record { a = c.push.new.self; b = read c.args.b c.requires.small i }) ∷ []) in (
       all_push (IsTestNode (length c.args.laws.now) c.args.rows) c.args.tree.now c.push-2.new.self (Split row) pushed c.requires.nodes (unit_split row c.args.a is c.requires.unit c.requires.small, tt),
-      split_push c.args.tree.now c.push-2.new.self c.args.left row pushed c.requires.some c.requires.spells,
+      split_push c.preorder_laws.ensures.split c.args.tree.now c.push-2.new.self c.args.left row pushed c.requires.some c.requires.spells,
     )

@@ -1,0 +1,16 @@
+-- What a table has of each law of its controller.
+use Rattle.std.specs.Prelude.{◌≡◌, ℕ, ◌≤◌, List, length}
+use Rattle.mpc_space.specs.Matrix.{height}
+use Rattle.mpc_linear.specs.declared.integers.IntAffine.{IntAffine}
+use Rattle.mpc_plant.specs.declared.plants.Plant.{Plant}
+use Rattle.mpc_rows.specs.declared.laws.Law.{Law}
+use Rattle.mpc_file.specs.Parts.{IsLawFor}
+use Rattle.mpc_table.specs.Lookup.{AreLawForms}
+
+-- one list of forms
+abbrev pub OneListEach : Type 0
+OneListEach = (inputs : ℕ) (laws : List Law) (forms : List (List IntAffine)) → AreLawForms inputs laws forms → length forms ≡ length laws
+
+-- a law of a plant moves each of its inputs
+abbrev pub MovesEachInput : Type 0
+MovesEachInput = (plant : Plant) (law : Law) → IsLawFor plant law → plant.p ≤ height law.moves
