@@ -9,7 +9,7 @@ abbrev pub IsCommonDenom : ℕ → List ℚ → Type 0
 IsCommonDenom n [] = Unit {0}
 IsCommonDenom n (x ∷ xs) = (x.denom ∣ n) × IsCommonDenom n xs
 
--- the least such n
+-- the least such n above 0
 unfoldable pub common_denom : List ℚ → ℕ
 common_denom [] = 1
 common_denom (x ∷ xs) = lcm x.denom (common_denom xs)

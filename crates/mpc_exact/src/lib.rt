@@ -86,12 +86,13 @@ pub fn absolute_laws()
     ensures greater { (x y z : ℚ) → (max_ℚ x y ≤ℚ z) ↔ ((x ≤ℚ z) × (y ≤ℚ z)) }
 {}
 
-/// Common denominators: l times x is an integer exactly where the denominator of x divides l, and `common_denom` is the least that serves
-/// a whole list.
+/// Common denominators: l times x is an integer exactly where the denominator of x divides l, and `common_denom` is the positive one that
+/// serves a whole list and divides each other that does.
 pub fn denominator_laws()
     ensures over_a_multiple { (x : ℚ) (l : ℕ) → 0 < l → x.denom ∣ l → frac (x.numer *ℤ pos (l / x.denom)) l ≡ x }
     ensures at_a_multiple { (x : ℚ) (l : ℕ) → 0 < l → x.denom ∣ l → int (pos l) *ℚ x ≡ int (x.numer *ℤ pos (l / x.denom)) }
     ensures only_at_a_multiple { (x : ℚ) (l : ℕ) (z : ℤ) → int (pos l) *ℚ x ≡ int z → x.denom ∣ l }
+    ensures positive { (xs : List ℚ) → 0 < common_denom xs }
     ensures common { (xs : List ℚ) → IsCommonDenom (common_denom xs) xs }
     ensures least { (n : ℕ) (xs : List ℚ) → IsCommonDenom n xs → common_denom xs ∣ n }
 {}

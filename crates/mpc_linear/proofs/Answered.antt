@@ -1,13 +1,13 @@
 -- How an elimination of the stored table answers for the system.
-use Rattle.std.proofs.Common.{◌≡◌, ℕ, ◌+◌, ◌<◌, ◌≤◌, List, Some, None, refl, sym, ◌∙◌, subst, subst₂, arith}
+use Rattle.std.proofs.Common.{◌≡◌, ℕ, ◌+◌, ◌<◌, ◌≤◌, List, Some, None, sym, ◌∙◌, subst, subst₂, arith}
 use Rattle.mpc_exact.specs.Rational.{ℚ}
 use Rattle.mpc_space.specs.Matrix.{RationalMatrix, height, IsRectangular, tabled}
-use Rattle.mpc_space.proofs.Matrix.{entry-tabled, height-tabled}
+use Rattle.mpc_space.proofs.Matrix.{entry-tabled}
 use Rattle.mpc_linear.specs.Elimination.{Table, augmented, eliminated, ColumnsDone, EndsDependent}
 use Rattle.mpc_linear.specs.Solution.{IsOnlySolution, IsFirstDependent, IsWideColumn, width}
 use Rattle.mpc_linear.specs.Stored.{stored, SameFrom, EndsAt, IsWideAt, ShowsSolution}
 use Rattle.mpc_linear.proofs.Agreement.{eliminated_same, done_same, dependent_same, wide_same}
-use Rattle.mpc_linear.proofs.Theorem.{tabled-rectangular, unique, dependent, not_only}
+use Rattle.mpc_linear.proofs.Theorem.{tabled-shape, unique, dependent, not_only}
 
 module _ (m rhs : RationalMatrix) (mr : IsRectangular m) (rr : IsRectangular rhs) (square : height m ≡ m.columns) (rows : height rhs ≡ height m) (xs : List ℚ)
     (table : SameFrom (height m) (m.columns + rhs.columns) 0 (stored (m.columns + rhs.columns) xs) (augmented m rhs)) where
@@ -31,8 +31,7 @@ module _ (m rhs : RationalMatrix) (mr : IsRectangular m) (rr : IsRectangular rhs
 
   unique_here : (ys : List ℚ) → ColumnsDone n (n + w) first n → SameFrom n (n + w) n (stored (n + w) ys) (eliminated n first n) → IsOnlySolution m rhs (tabled n w (λ i j. stored (n + w) ys i (n + j)))
   unique_here ys d s =
-      unique m rhs mr rr square rows (done_here d) (tabled n w (λ i j. stored (n + w) ys i (n + j))) (height-tabled n w (λ i j. stored (n + w) ys i (n + j))) refl
-      (tabled-rectangular n w (λ i j. stored (n + w) ys i (n + j)))
+      unique m rhs mr rr square rows (done_here d) (tabled n w (λ i j. stored (n + w) ys i (n + j))) (tabled-shape n w (λ i j. stored (n + w) ys i (n + j)))
       (λ i j hi hj.
       entry-tabled n w (λ i j. stored (n + w) ys i (n + j)) i j hi hj ∙ s i (n + j) hi (omega arith) (omega arith)
       ∙ eliminated_same n (n + w) within first (augmented m rhs) same n (omega arith) i (n + j) hi (omega arith) (omega arith))

@@ -1,11 +1,11 @@
 -- The laws of sums of products, and of 0 in them.
-use Rattle.std.proofs.Common.{pos, sym, ◌∙◌}
+use Rattle.std.proofs.Common.{pos, refl, sym, ◌∙◌}
 use Rattle.std.proofs.lemmas.List.{get_or_default}
 use Rattle.mpc_exact.specs.Rational.{int}
 use Rattle.mpc_linear.specs.SumLaws.{SumLaws}
 use Rattle.mpc_linear.specs.ZeroLaws.{ZeroLaws}
 use Rattle.mpc_linear.proofs.DotLemmas.{goes_none, goes_more, goes_wide, goes_value, goes_fits}
-use Rattle.mpc_linear.proofs.ZeroFits.{fits_zero, fits_add_zero, nothing_added}
+use Rattle.mpc_linear.proofs.ZeroFits.{fits_zero, fits_add_zero, from_zero, taken_from_zero, nothing_added, nothing_taken}
 
 pub sum_laws : SumLaws
 sum_laws = record {
@@ -24,5 +24,8 @@ pub zero_laws : ZeroLaws
 zero_laws = record {
   zero_fits = fits_zero;
   zero_added_fits = fits_add_zero;
+  to_zero_fits = λ x y h. from_zero (int (pos 0)) x y refl h;
   no_product_fits = λ s x y h e. nothing_added s x y h (sym e);
+  from_zero_fits = λ x y h. taken_from_zero (int (pos 0)) x y refl h;
+  no_product_taken_fits = λ s x y h e. nothing_taken s x y h (sym e);
 }

@@ -12,6 +12,7 @@ use Rattle.mpc_space.proofs.Total.{total-add, total-same, total-scale, total-sho
 use Rattle.mpc_space.proofs.Entries.{same_entries, coordinate-listed, length-listed, coordinate_past, zero_entries, zero_by_entries, dot-total_within}
 use Rattle.mpc_space.proofs.Matrix.{coordinate-column, coordinate-mat_vec, entry-mat_mul, entry-tabled, height-tabled, length-mat_vec}
 use Rattle.mpc_linear.specs.Elimination.{Table, augmented, eliminated, ColumnsDone, EndsDependent}
+use Rattle.mpc_linear.specs.Shape.{HasShape}
 use Rattle.mpc_linear.specs.Solution.{IsOnlySolution, IsFirstDependent, width}
 use Rattle.mpc_linear.proofs.Reduction.{InKernel}
 use Rattle.mpc_linear.proofs.Pivots.{pivot_none}
@@ -21,6 +22,9 @@ use Rattle.mpc_linear.proofs.TableLemmas.{all_rows, augmented_back, augmented_fr
 
 pub tabled-rectangular : (n w : ℕ) (f : ℕ → ℕ → ℚ) → IsRectangular (tabled n w f)
 tabled-rectangular n w f = all_rows (λ i. listed w (f i)) n w (λ i h. length-listed w (f i))
+
+pub tabled-shape : (n w : ℕ) (f : ℕ → ℕ → ℚ) → HasShape (tabled n w f) n w
+tabled-shape n w f = record { rows_are = height-tabled n w f; columns_are = refl; rectangular = tabled-rectangular n w f }
 
 -- matrices of one shape with the same entries are one
 pub same_matrix : (a b : RationalMatrix) → height a ≡ height b → a.columns ≡ b.columns → IsRectangular a → IsRectangular b → ((i j : ℕ) → i < height a → j < a.columns → entry a i j ≡ entry b i j) → a ≡ b
@@ -62,20 +66,18 @@ module _ (m rhs : RationalMatrix) (mr : IsRectangular m) (rr : IsRectangular rhs
     pivots k l = let p = done k l in (p.0, p.1.pivot)
 
     -- the table's last columns are the solution
-    pub unique : (x : RationalMatrix) → height x ≡ n → x.columns ≡ w → IsRectangular x → ((i j : ℕ) → i < n → j < w → entry x i j ≡ eliminated n t n i (n + j)) → IsOnlySolution m rhs x
-    unique x hx wx rx ex = record {
-      rows = hx;
-      columns = wx;
-      rectangular = rx;
-      solves = same_matrix (mat_mul m x) rhs (height_product ∙ sym rows) wx (product_wide m x) rr
+    pub unique : (x : RationalMatrix) → HasShape x n w → ((i j : ℕ) → i < n → j < w → entry x i j ≡ eliminated n t n i (n + j)) → IsOnlySolution m rhs x
+    unique x s ex = record {
+      shape = s;
+      solves = same_matrix (mat_mul m x) rhs (height_product ∙ sym rows) s.columns_are (product_wide m x) rr
           (λ i j hi hj.
           let hi' : i < n = subst (λ k. i < k) (height_product ∙ square) hi in
-          let hj' : j < w = subst (λ k. j < k) wx hj in
+          let hj' : j < w = subst (λ k. j < k) s.columns_are hj in
           product_total x i j hi' hj ∙ solution_is n w t pivots (λ k. entry x k j) j hj' (λ k l. ex k j l hj') i hi' ∙ augmented_back m rhs i j);
-      only = λ y hy wy ry p. same_matrix y x (hy ∙ sym hx) (wy ∙ sym wx) ry rx
+      only = λ y like p. same_matrix y x (like.rows_are ∙ sym s.rows_are) (like.columns_are ∙ sym s.columns_are) like.rectangular s.rectangular
           (λ i j hi hj.
-          let hi' : i < n = subst (λ k. i < k) hy hi in
-          let hj' : j < w = subst (λ k. j < k) wy hj in
+          let hi' : i < n = subst (λ k. i < k) like.rows_are hi in
+          let hj' : j < w = subst (λ k. j < k) like.columns_are hj in
           solution_only n w t pivots (λ k. entry y k j) j hj'
           (λ k l. sym (product_total y k j l hj) ∙ ap (λ z. entry z k j) p ∙ sym (augmented_back m rhs k j)) i hi'
           ∙ sym (ex i j hi' hj'));
@@ -175,7 +177,7 @@ module _ (m rhs : RationalMatrix) (mr : IsRectangular m) (rr : IsRectangular rhs
       ∙ total-add m.columns (λ k. opening i k *ℚ entry x k j) (λ k. unit 0 j *ℚ (opening i k *ℚ coordinate d.factors k))
       ∙ ap (λ u. total m.columns (λ k. opening i k *ℚ entry x k j) +ℚ u) (total-scale m.columns (unit 0 j) (λ k. opening i k *ℚ coordinate d.factors k))
       ∙ nothing_added (total m.columns (λ k. opening i k *ℚ entry x k j)) (unit 0 j) (total m.columns (λ k. opening i k *ℚ coordinate d.factors k)) (zero_sum i hi)
-      ∙ sym (product_total m rhs mr rr square rows x i j hi (subst (λ k. j < k) (sym o.columns) hj)) ∙ ap (λ z. entry z i j) o.solves
+      ∙ sym (product_total m rhs mr rr square rows x i j hi (subst (λ k. j < k) (sym o.shape.columns_are) hj)) ∙ ap (λ z. entry z i j) o.solves
 
   height_moved : height (mat_mul m moved) ≡ height m
   height_moved = length-map m.rows (λ row. listed moved.columns (λ j. dot row (column moved.rows j)))
@@ -189,4 +191,4 @@ module _ (m rhs : RationalMatrix) (mr : IsRectangular m) (rr : IsRectangular rhs
   not_only =
       one_added (entry x c 0) (unit 0 0) (coordinate d.factors c) (unit-same 0 0 refl) d.one
       (sym (entry-tabled m.columns rhs.columns moved_entry c 0 d.below some)
-      ∙ ap (λ z. entry z c 0) (o.only moved (height-tabled m.columns rhs.columns moved_entry) refl (tabled-rectangular m.columns rhs.columns moved_entry) moved_solves))
+      ∙ ap (λ z. entry z c 0) (o.only moved (tabled-shape m.columns rhs.columns moved_entry) moved_solves))

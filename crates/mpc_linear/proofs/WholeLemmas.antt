@@ -85,7 +85,9 @@ form_least : (c : List ℚ) → IsLeastForm c (pos (common_denom c)) (map (scale
 form_least c = record {
   positive = positive_pos (common_denom c) (common_denom-positive c);
   same = form_same (common_denom c) c (common_denom-positive c) (common_denom_is c);
-  least = λ n h. common_denom_least n c h;
+  common = common_denom_is c;
+  divides = λ n h. common_denom_least n c h;
+  least = λ n some h. le_of_dvd some (common_denom_least n c h);
 }
   where
     positive_pos : (n : ℕ) → 0 < n → pos 0 <ℤ pos n

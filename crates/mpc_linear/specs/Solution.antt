@@ -2,18 +2,17 @@
 use Rattle.std.specs.Prelude.{◌≡◌, ℕ, ◌+◌, ◌<◌, ◌≤◌, List, length, pos}
 use Rattle.mpc_exact.specs.Rational.{ℚ, int}
 use Rattle.mpc_space.specs.Vector.{coordinate, mat_vec, IsZero}
-use Rattle.mpc_space.specs.Matrix.{RationalMatrix, height, IsRectangular, mat_mul}
+use Rattle.mpc_space.specs.Matrix.{RationalMatrix, mat_mul}
+use Rattle.mpc_linear.specs.Shape.{HasShape}
 use Rattle.mpc_linear.specs.Elimination.{augmented, ColumnsDone, EndsDependent, EndsWide}
 use Rattle.mpc_linear.specs.declared.elimination.Solved.{Solved}
 use Rattle.mpc_linear.specs.declared.elimination.Solved.TheVariants.{Unique, Dependent}
 
 -- x solves m x = rhs, and no other matrix of its shape does
 pub record IsOnlySolution (m rhs x : RationalMatrix) : Type 0 where
-  pub rows : height x ≡ m.columns
-  pub columns : x.columns ≡ rhs.columns
-  pub rectangular : IsRectangular x
+  pub shape : HasShape x m.columns rhs.columns
   pub solves : mat_mul m x ≡ rhs
-  pub only : (y : RationalMatrix) → height y ≡ m.columns → y.columns ≡ rhs.columns → IsRectangular y → mat_mul m y ≡ rhs → y ≡ x
+  pub only : (y : RationalMatrix) → HasShape y m.columns rhs.columns → mat_mul m y ≡ rhs → y ≡ x
 
 -- column index of m, from 0, is a combination of those before it, and these are independent
 pub record IsFirstDependent (m : RationalMatrix) (index : ℕ) : Type 0 where
@@ -27,8 +26,8 @@ pub record IsFirstDependent (m : RationalMatrix) (index : ℕ) : Type 0 where
   -- and only the list of zeros where there is 0 in this column too
   pub independent : (v : List ℚ) → length v ≡ m.columns → ((k : ℕ) → index ≤ k → coordinate v k ≡ int (pos 0)) → IsZero (mat_vec m.rows v) → IsZero v
 
--- The answer is the one solution; or it names the first column, from 1, that depends on those before it, and then a right side has no
--- unique solution.
+-- The answer is the one solution; or it names the first column, from 1, that depends on those before it, and then no right side has a
+-- unique solution. Without right sides the matrix without columns is the only solution even then.
 abbrev pub IsAnswer : RationalMatrix → RationalMatrix → Solved → Type 0
 IsAnswer m rhs (Unique x) = IsOnlySolution m rhs x
 IsAnswer m rhs (Dependent column) = (index : ℕ) × (column ≡ index + 1) × IsFirstDependent m index × (0 < rhs.columns → (x : RationalMatrix) → ¬ IsOnlySolution m rhs x)

@@ -1,5 +1,5 @@
 -- Rows and affine forms in whole numbers.
-use Rattle.std.specs.Prelude.{◌≡◌, ℕ, ◌/◌, ◌^◌, ◌<◌, ◌⊎◌, ℤ, pos, ◌*ℤ◌, ◌<ℤ◌, unsigned_abs, List, map, All}
+use Rattle.std.specs.Prelude.{◌≡◌, ℕ, ◌/◌, ◌^◌, ◌<◌, ◌≤◌, ◌⊎◌, ℤ, pos, ◌*ℤ◌, ◌<ℤ◌, unsigned_abs, List, map, All}
 use Rattle.std.specs.Int.{◌∣◌}
 use Rattle.mpc_exact.specs.Rational.{ℚ, int, quotient, ◌*ℚ◌, IsPositive}
 use Rattle.mpc_exact.specs.Denominator.{common_denom, IsCommonDenom}
@@ -18,11 +18,14 @@ pub record WholeFits (c : List ℚ) : Type 0 where
   pub denom : common_denom c < 2 ^ 127
   pub numers : ScaledFit (common_denom c) c
 
--- the integers k over den are the fractions c, and no common denominator of these is less than den
+-- the integers k over den are the fractions c, and den is their least common denominator: the positive one that divides each other,
+-- so that none of the positive ones is less
 pub record IsLeastForm (c : List ℚ) (den : ℤ) (k : List ℤ) : Type 0 where
   pub positive : pos 0 <ℤ den
   pub same : map (λ z. quotient z den) k ≡ c
-  pub least : (n : ℕ) → IsCommonDenom n c → unsigned_abs den ∣ n
+  pub common : IsCommonDenom (unsigned_abs den) c
+  pub divides : (n : ℕ) → IsCommonDenom n c → unsigned_abs den ∣ n
+  pub least : (n : ℕ) → 0 < n → IsCommonDenom n c → unsigned_abs den ≤ n
 
 -- the integers row and side are the fractions a and b, each times the same positive factor
 pub record IsScaledRow (a : List ℚ) (b : ℚ) (row : List ℤ) (side : ℤ) : Type 0 where

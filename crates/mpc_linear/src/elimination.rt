@@ -17,7 +17,9 @@ use std::alloc::{AllocError, Global};
 pub enum Solved {
     /// The one solution.
     Unique(Matrix),
-    /// There is no unique solution: this column of m, counted from 1, depends on those before it.
+    /// m is singular: this column, counted from 1, is the first that depends on those before it. So no
+    /// right side has a unique solution. Without right sides it is the answer too, although the matrix
+    /// without columns is then the only solution.
     Dependent(u32),
 }
 
@@ -203,8 +205,8 @@ fn solution(alloc: Global, table: &[Frac], rows: u32, cols: u32) -> Result<Matri
 /// Solves `m X = rhs` for a square m and right sides of as many rows, by Gauss-Jordan elimination
 /// (Clasen 1888, Jordan 1888) with the first pivot that isn't 0.
 ///
-/// `Dependent` where there is no unique solution and no earlier column has an operation that needs more
-/// than 128 bits; `Wide` with the first such column, from 1.
+/// `Dependent` where m is singular, also without right sides, and no column before the one that it
+/// names has an operation that needs more than 128 bits; `Wide` with the first such column, from 1.
 pub fn solve(alloc: Global, m: &Matrix, rhs: &Matrix) -> Result<Solved, LinearError>
     requires square { height m.now ≡ m.now.columns }
     requires rows { height rhs.now ≡ height m.now }

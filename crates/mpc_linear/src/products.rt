@@ -8,7 +8,7 @@ ghost use Rattle.mpc_linear.specs.Dot.{TermFits, TakenFits, SumFits, DotFits};
 use crate::Vector;
 use mpc_frac::{Frac, Wide};
 
-/// `s + x y`, where adding 0 and multiplying by 0 cost nothing.
+/// `s + x y`. Adding to 0 and multiplying by 0 are never too wide.
 pub fn add_product(s: &Frac, x: &Frac, y: &Frac) -> Result<Frac, Wide>
     ensures value { IfOk result (λ v. v ≡ s.now +ℚ x.now *ℚ y.now) }
     ensures wide { MatchResult result (λ _. TermFits s.now x.now y.now)
@@ -27,7 +27,7 @@ pub fn add_product(s: &Frac, x: &Frac, y: &Frac) -> Result<Frac, Wide>
     }
 }
 
-/// `s - x y`, where taking away 0 and multiplying by 0 cost nothing.
+/// `s - x y`. Taking away from 0 and multiplying by 0 are never too wide.
 pub fn sub_product(s: &Frac, x: &Frac, y: &Frac) -> Result<Frac, Wide>
     ensures value { IfOk result (λ v. v ≡ s.now -ℚ x.now *ℚ y.now) }
     ensures wide { MatchResult result (λ _. TakenFits s.now x.now y.now)
