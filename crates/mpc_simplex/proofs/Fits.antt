@@ -4,7 +4,7 @@ use Rattle.std.proofs.lemmas.Bool.{cases_eq}
 use Rattle.mpc_exact.specs.Rational.{ℚ, int, ◌+ℚ◌, ◌*ℚ◌}
 use Rattle.mpc_frac.specs.Fits.{FitsFrac, FitsSum}
 use Rattle.mpc_linear.specs.Dot.{TermFits as Part}
-use Rattle.mpc_linear.proofs.ZeroFits.{fits_zero, fits_add_zero, zero_right}
+use Rattle.mpc_linear.specs.ZeroLaws.{ZeroLaws}
 use Rattle.mpc_exact.specs.Pair.{Pair}
 use Rattle.mpc_simplex.proofs.Read.{rest_unknown}
 use Rattle.mpc_exact.proofs.RationalRing.{reads, by_ring}
@@ -60,7 +60,7 @@ module _ (s : LinearSystem) (p : Position) (x : ℕ) where
   rests y h = rest_unknown s y (lt-ltb y s.width h)
 
   times_nought : (c r : ℚ) → r ≡ int (pos 0) → c *ℚ r ≡ int (pos 0)
-  times_nought c r e = sym (zero_right c r e)
+  times_nought c r e = ap (λ u. c *ℚ u) e ∙ by_ring (c ∷ []) (search reads depth 30) (search reads depth 30) tt
 
   first_nought : (y : ℕ) → y < s.width → first_terms s p x y ≡ int (pos 0)
   first_nought y h = times_nought (p.coefficient x y) (rest s y).first (ap (λ (z : Pair). z.first) (rests y h))
@@ -74,15 +74,15 @@ module _ (s : LinearSystem) (p : Position) (x : ℕ) where
   pub second_unknowns : (y : ℕ) → y ≤ s.width → int (pos 0) ≡ total y (second_terms s p x)
   second_unknowns y h = sym (total-zeros y (second_terms s p x) (λ z k. second_nought z (omega arith)))
 
-  none : FitsSum (int (pos 0)) (int (pos 0))
-  none = fits_add_zero (int (pos 0)) fits_zero
+  none : ZeroLaws → FitsSum (int (pos 0)) (int (pos 0))
+  none laws = laws.zero_added_fits (int (pos 0)) laws.zero_fits
 
-  pub unknown_fits : (y : ℕ) → y < s.width → TermFits s p x y
-  unknown_fits y h = record {
-    first_product = subst (λ z. FitsFrac z) (sym (first_nought y h)) fits_zero;
-    first_sum = subst₂ (λ u v. FitsSum u v) (first_unknowns y (omega arith)) (sym (first_nought y h)) none;
-    second_product = subst (λ z. FitsFrac z) (sym (second_nought y h)) fits_zero;
-    second_sum = subst₂ (λ u v. FitsSum u v) (second_unknowns y (omega arith)) (sym (second_nought y h)) none;
+  pub unknown_fits : ZeroLaws → (y : ℕ) → y < s.width → TermFits s p x y
+  unknown_fits laws y h = record {
+    first_product = subst (λ z. FitsFrac z) (sym (first_nought y h)) laws.zero_fits;
+    first_sum = subst₂ (λ u v. FitsSum u v) (first_unknowns y (omega arith)) (sym (first_nought y h)) (none laws);
+    second_product = subst (λ z. FitsFrac z) (sym (second_nought y h)) laws.zero_fits;
+    second_sum = subst₂ (λ u v. FitsSum u v) (second_unknowns y (omega arith)) (sym (second_nought y h)) (none laws);
   }
 
 pub value_free : (s : LinearSystem) (p : Position) → IsTableau p → (y : ℕ) → y < count s → p.is_basic y ≡ false → value s p y ≡ rest s y

@@ -5,7 +5,7 @@ use Rattle.mpc_exact.specs.Rational.{ℚ, int, ◌+ℚ◌, ◌*ℚ◌}
 use Rattle.mpc_exact.proofs.RationalRing.{reads, by_ring}
 use Rattle.mpc_space.specs.Total.{total, unit}
 use Rattle.mpc_rows.specs.LinearSystem.{LinearSystem, row_at, height, entry}
-use Rattle.mpc_rows.proofs.SystemSums.{left_side}
+use Rattle.mpc_rows.specs.NumberedSystems.{left_side}
 use Rattle.mpc_rows.specs.Run.{count, is_unknown, bound, opening}
 use Rattle.mpc_space.proofs.Total.{unit-same, unit-other, total-same, total-zeros, total-unit, total-split}
 use Rattle.mpc_simplex.proofs.TableauRows.{Meets, row_value, opening_row, opening_rest, opening_known}

@@ -7,7 +7,7 @@ use Rattle.mpc_exact.proofs.RationalRing.{reads, by_ring, by_equation}
 use Rattle.mpc_exact.proofs.RationalOrder.{IsPositive, positive_int, positive-mul, nonneg-mul, positive-add, gap, strict_gap, by_le, by_lt, le_or_lt, ≤ℚ_of_<, ≤ℚ_refl, <ℚ_irrefl, <ℚ-≤ℚ_trans, inv_positive}
 use Rattle.mpc_exact.specs.Pair.{Pair, IsAtMost}
 use Rattle.mpc_rows.specs.LinearSystem.{LinearSystem, row_at, height, entry, IsWithin}
-use Rattle.mpc_rows.proofs.SystemSums.{left_side, IsPairPointBy, pair_at}
+use Rattle.mpc_rows.specs.NumberedSystems.{left_side, IsPairPointBy, pair_at}
 use Rattle.mpc_rows.specs.Run.{has_point, bound, value, turn, position}
 use Rattle.mpc_space.proofs.Total.{total-same, total-add, total-scale}
 use Rattle.mpc_simplex.proofs.Turn.{TurnIs, turn-at}

@@ -8,7 +8,7 @@ use Rattle.mpc_exact.proofs.Linear.{linear_le, linear_lt, linear_false, claims, 
 use Rattle.mpc_space.specs.Total.{total, unit}
 use Rattle.mpc_exact.specs.Pair.{Pair}
 use Rattle.mpc_rows.specs.LinearSystem.{LinearSystem, row_at, height, entry, IsWithin}
-use Rattle.mpc_rows.proofs.SystemSums.{left_side, IsPointBy, RefutesBy}
+use Rattle.mpc_rows.specs.NumberedSystems.{left_side, IsPointBy, RefutesBy}
 use Rattle.mpc_rows.specs.Run.{Position, IsTableau, is_refuted, count, bound, rest, value, turn, position, multiplier}
 use Rattle.mpc_space.proofs.Total.{unit-same, unit-other, total-same, total-zeros, total-add, total-scale, total-unit, total-swap, total-nonneg}
 use Rattle.mpc_simplex.proofs.TableauRows.{row_value}

@@ -1,7 +1,7 @@
 -- One over a fraction, by its parts turned over.
-use Rattle.std.proofs.Common.{◌≡◌, ◌≢◌, ◌^◌, ◌<◌, Bool, true, false, [], ◌∷◌, ℤ, pos, unsigned_abs, IsTrue, ◌↔◌, Result, Err, refl, sym, ◌∙◌, ap, subst}
+use Rattle.std.proofs.Common.{◌≡◌, ◌≢◌, Bool, true, false, [], ◌∷◌, ℤ, pos, IsTrue, ◌↔◌, Result, Err, refl, sym, ◌∙◌, ap, subst}
 use Rattle.std.proofs.lemmas.Bool.{both_ways, and_parts, and_from}
-use Rattle.mpc_exact.specs.Rational.{quotient, ℚ, int, frac_self, ◌*ℚ◌, ◌/ℚ◌, inv_ℚ, le_ℚ, frac_parts, denom_positive}
+use Rattle.mpc_exact.specs.Rational.{quotient, ℚ, int, frac_self, ◌*ℚ◌, ◌/ℚ◌, inv_ℚ, le_ℚ, denom_positive}
 use Rattle.mpc_exact.proofs.Rational.{numer_zero, *ℚ_inv}
 use Rattle.mpc_exact.proofs.RationalRing.{reads, by_ring}
 use Rattle.mpc_exact.proofs.RationalOrder.{≤ℚ_antisymm, <ℚ_irrefl}
@@ -10,9 +10,7 @@ use Rattle.mpc_exact.proofs.School.{frac_times, int_not_zero}
 use Rattle.mpc_frac.specs.Fits.{FitsFrac}
 use Rattle.mpc_frac.specs.declared.FracError.{FracError}
 use Rattle.mpc_frac.specs.declared.FracError.TheVariants.{ZeroDenominator, Wide}
-use Rattle.mpc_frac.specs.Sign.{signed_like}
-use Rattle.mpc_frac.proofs.FracMul.{signed_abs}
-use Rattle.mpc_frac.proofs.FracParts.{inverse_is, inverse_coprime, size_positive}
+use Rattle.mpc_frac.specs.FitLaws.{FitLaws}
 use Rattle.mpc_rows.specs.Run.{is_zero}
 
 module _ (x : ℚ) (some : x ≢ int (pos 0)) where
@@ -30,20 +28,17 @@ module _ (x : ℚ) (some : x ≢ int (pos 0)) where
       regroup : (x d n i : ℚ) → d *ℚ x ≡ n → n *ℚ i ≡ int (pos 1) → x *ℚ (d *ℚ i) ≡ int (pos 1)
       regroup x d n i e f = by_ring (x ∷ d ∷ i ∷ []) (search reads depth 30) (search reads depth 30) tt ∙ ap (λ u. u *ℚ i) e ∙ f
 
-  pub turned_fits : FitsFrac x → FitsFrac (quotient (pos x.denom) x.numer)
-  turned_fits h =
-      let p = frac_parts (signed_like x.numer (pos 1) x.denom) (unsigned_abs x.numer) (size_positive x some) (inverse_coprime x) in
-      subst (λ (z : ℚ). FitsFrac z) (inverse_is x ∙ sym turned_is)
-      (subst (λ n. n < 2 ^ 127) (sym (ap unsigned_abs p.0 ∙ signed_abs x.numer (pos 1) x.denom)) h.1, subst (λ n. n < 2 ^ 127) (sym p.1) h.0)
+  pub turned_fits : FitLaws → FitsFrac x → FitsFrac (quotient (pos x.denom) x.numer)
+  turned_fits laws h = subst (λ (z : ℚ). FitsFrac z) (sym turned_is) (laws.inverse x some h)
 
   module _ (n d : ℤ) (en : n ≡ x.numer) (ed : d ≡ pos x.denom) where
     pub made_is : quotient d n ≡ inv_ℚ x
     made_is = (λ i. quotient (ed i) (en i)) ∙ turned_is
 
     -- so neither error comes
-    pub made_always : FitsFrac x → (r : Result ℚ FracError) → ((r ≡ Err ZeroDenominator) ↔ (n ≡ pos 0)) → ((r ≡ Err Wide) ↔ ((n ≢ pos 0) × (¬ FitsFrac (quotient d n)))) → (e : FracError) → r ≡ Err e → ⊥
-    made_always h r zero wide ZeroDenominator e = numer_some (sym en ∙ zero.0 e)
-    made_always h r zero wide Wide e = (wide.0 e).1 (subst (λ (z : ℚ). FitsFrac z) (sym (λ i. quotient (ed i) (en i))) (turned_fits h))
+    pub made_always : FitLaws → FitsFrac x → (r : Result ℚ FracError) → ((r ≡ Err ZeroDenominator) ↔ (n ≡ pos 0)) → ((r ≡ Err Wide) ↔ ((n ≢ pos 0) × (¬ FitsFrac (quotient d n)))) → (e : FracError) → r ≡ Err e → ⊥
+    made_always laws h r zero wide ZeroDenominator e = numer_some (sym en ∙ zero.0 e)
+    made_always laws h r zero wide Wide e = (wide.0 e).1 (subst (λ (z : ℚ). FitsFrac z) (sym (λ i. quotient (ed i) (en i))) (turned_fits laws h))
 
 -- whether a number is 0
 both_zero : (x : ℚ) → x ≡ int (pos 0) → is_zero x ≡ true

@@ -7,7 +7,7 @@ use Rattle.mpc_space.specs.Total.{total, unit}
 use Rattle.mpc_space.proofs.Total.{total-same, total-unit, unit-same, unit-other}
 use Rattle.mpc_rows.specs.LinearSystem.{LinearSystem, row_at, height, entry}
 use Rattle.mpc_rows.specs.Run.{Position, IsTableau, count, is_unknown, rest, bound, value, opening}
-use Rattle.mpc_rows.proofs.SystemSums.{left_side}
+use Rattle.mpc_rows.specs.NumberedSystems.{left_side}
 use Rattle.mpc_simplex.specs.declared.tableau.Seat.{Seat}
 use Rattle.mpc_simplex.specs.declared.tableau.Seat.TheVariants.{Column}
 use Rattle.mpc_simplex.specs.Table.{seat_at}

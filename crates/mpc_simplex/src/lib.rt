@@ -25,7 +25,7 @@ mod whole_turn;
 mod whole_values;
 
 pub use laws::{run_laws, zero_test};
-use mpc_rows::{Multipliers, PairPoint, System};
+use mpc_rows::{Multipliers, PairPoint, System, system_laws};
 use run::run_end;
 use std::alloc::Global;
 use thiserror::Error;
@@ -67,5 +67,6 @@ pub fn decide(alloc: Global, system: &System) -> Result<Decision, SimplexError>
     ensures wide { MatchResult result (λ _. RunFits system.now) (λ e. IfWide e (¬ RunFits system.now)) }
 {
     let _ = &system.rows;
+    system_laws();
     run_end(alloc, system)
 }

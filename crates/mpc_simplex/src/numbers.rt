@@ -5,7 +5,7 @@ ghost use Rattle.mpc_exact.specs.Rational.{int, inv_ℚ, lt_ℚ, le_ℚ};
 ghost use Rattle.mpc_exact.specs.Pair.{is_below};
 ghost use Rattle.mpc_rows.specs.Run.{is_zero};
 
-use mpc_frac::Frac;
+use mpc_frac::{Frac, fit_laws};
 
 /// (q, r) for `q + d r` at every small enough positive d.
 pub(crate) type Standing = (Frac, Frac);
@@ -45,6 +45,7 @@ pub(crate) fn inverse(x: &Frac) -> Frac
     requires { x.now ≢ int (pos 0) }
     ensures { result ≡ inv_ℚ x.now }
 {
+    fit_laws();
     match Frac::new(x.den(), x.num()) {
         Ok(v) => v,
         Err(_) => unreachable!(),

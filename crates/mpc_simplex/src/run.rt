@@ -15,7 +15,7 @@ use crate::tableau::{Seat, cell, column_of, exchange, is_basic, row_of};
 use crate::whole::whole_end;
 use crate::{Decision, SimplexError};
 use mpc_frac::{Frac, Wide};
-use mpc_linear::add_product;
+use mpc_linear::{add_product, zero_laws};
 use mpc_rows::{Multipliers, PairPoint, System};
 use std::alloc::{AllocError, Global};
 
@@ -57,6 +57,7 @@ fn value(
     ensures wide { MatchResult result (λ _. ValueFits system.now n (position_of system.now.width seats.now entries.now) x)
         (λ _. ¬ ValueFits system.now n (position_of system.now.width seats.now entries.now) x) }
 {
+    zero_laws();
     let mut first = zero();
     let mut second = zero();
     for y in system.unknowns()..n {

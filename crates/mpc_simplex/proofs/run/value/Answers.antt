@@ -20,7 +20,7 @@ loop-y-init c =
     record {
       first = c.zero-first.ensures ∙ first_unknowns s p c.args.x c.unknowns-y.result b;
       second = c.zero-second.ensures ∙ second_unknowns s p c.args.x c.unknowns-y.result b;
-      fits = λ z h f. unknown_fits s p c.args.x z (omega arith);
+      fits = λ z h f. unknown_fits s p c.args.x c.zero_laws.ensures z (omega arith);
     }
 
 pub loop-y-preserved-then-is_basic : goal.loop-y-preserved-then-is_basic

@@ -1,5 +1,4 @@
-use Rattle.mpc_linear.proofs.Outcomes.{value_as}
-use Rattle.mpc_simplex.proofs.Cells.{changed_at, changed_other}
+use Rattle.mpc_simplex.proofs.Cells.{value_as, changed_at, changed_other}
 use Rattle.mpc_simplex.proofs.tableau.changed_entry.Goals as goal
 
 pub returns-then-c-e-clause-value : goal.returns-then-c-e-clause-value
