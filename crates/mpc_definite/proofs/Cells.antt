@@ -1,13 +1,14 @@
 -- The entries of a matrix after one is written.
-use Rattle.std.proofs.Common.{◌≡◌, ◌≢◌, ℕ, ◌<◌, [], length, get_or, set, replicate, pos, sym, ◌∙◌, ap, arith, ⊎_elim}
+use Rattle.std.proofs.Common.{◌≡◌, ◌≢◌, ℕ, ◌<◌, [], length, get_or, set, replicate, pos, refl, ◌∙◌, ap, arith, ⊎_elim}
 use Rattle.std.proofs.Math.ListN.{length-set, length-replicate, get_or-eq_default}
 use Rattle.std.proofs.lemmas.Bool.{cases_lt}
 use Rattle.std.proofs.lemmas.List.{get_or-replicate, get_or-set_same, get_or-set_other}
 use Rattle.std.proofs.lemmas.List.Elements.{All-set, All-from_get_or}
 use Rattle.mpc_exact.specs.Rational.{ℚ, int}
 use Rattle.mpc_space.specs.Matrix.{RationalMatrix, height, IsRectangular, entry}
+use Rattle.mpc_linear.specs.Shape.{HasShape}
 use Rattle.mpc_linear.specs.Entries.{with_entry, zero_matrix}
-use Rattle.mpc_definite.specs.Steps.{IsSquare, IsLike}
+use Rattle.mpc_definite.specs.Steps.{IsLike}
 
 module _ (m : RationalMatrix) (i j : ℕ) (v : ℚ) where
   pub with_entry-height : height (with_entry m i j v) ≡ height m
@@ -26,25 +27,24 @@ module _ (m : RationalMatrix) (i j : ℕ) (v : ℚ) where
   pub with_entry-others : (r k : ℕ) → r ≢ i → entry (with_entry m i j v) r k ≡ entry m r k
   with_entry-others r k other = ap (λ row. get_or row k (int (pos 0))) (get_or-set_other m.rows i r (set (get_or m.rows i []) j v) [] other)
 
-  pub with_entry-like : i < height m → IsSquare m → IsLike m (with_entry m i j v)
-  with_entry-like a s = record {
-    height_is = with_entry-height;
-    square = record {
-      columns_is = s.columns_is ∙ sym with_entry-height;
-      rectangular = All-set (λ row. length row ≡ m.columns) m.rows i (set (get_or m.rows i []) j v) (length-set (get_or m.rows i []) j v ∙ s.rectangular i [] a) s.rectangular;
-    };
+  pub with_entry-shape : (rows columns : ℕ) → i < height m → HasShape m rows columns → HasShape (with_entry m i j v) rows columns
+  with_entry-shape rows columns a s = record {
+    rows_are = with_entry-height ∙ s.rows_are;
+    columns_are = s.columns_are;
+    rectangular = All-set (λ row. length row ≡ m.columns) m.rows i (set (get_or m.rows i []) j v) (length-set (get_or m.rows i []) j v ∙ s.rectangular i [] a) s.rectangular;
   }
 
 pub like-trans : (a b c : RationalMatrix) → IsLike a b → IsLike b c → IsLike a c
-like-trans a b c p q = record { height_is = q.height_is ∙ p.height_is; square = q.square }
+like-trans a b c p q = record { rows_are = q.rows_are ∙ p.rows_are; columns_are = q.columns_are ∙ p.rows_are; rectangular = q.rectangular }
 
 -- ---- zeros
 pub zero_matrix-height : (n w : ℕ) → height (zero_matrix n w) ≡ n
 zero_matrix-height n w = length-replicate n (replicate w (int (pos 0)))
 
-pub zero_matrix-square : (n : ℕ) → IsSquare (zero_matrix n n)
+pub zero_matrix-square : (n : ℕ) → HasShape (zero_matrix n n) n n
 zero_matrix-square n = record {
-  columns_is = sym (zero_matrix-height n n);
+  rows_are = zero_matrix-height n n;
+  columns_are = refl;
   rectangular = All-from_get_or (λ row. length row ≡ n) (replicate n (replicate n (int (pos 0)))) []
       (λ i l. ap length (get_or-replicate n i (replicate n (int (pos 0))) [] (omega (arith, zero_matrix-height n n))) ∙ length-replicate n (int (pos 0)));
 }

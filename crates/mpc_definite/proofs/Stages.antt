@@ -14,7 +14,7 @@ use Rattle.mpc_linear.specs.Entries.{with_entry}
 use Rattle.mpc_space.specs.Definite.{IsDefinite}
 use Rattle.mpc_definite.specs.Pivots.{without_column, left_of, pivot, factor, IsDecomposition, StepFits, PassesBelow, IsFirstNotPositive, IsFirstWide}
 use Rattle.mpc_definite.specs.Steps.{IsLike, IsLowerOf, EliminatesColumn}
-use Rattle.mpc_definite.proofs.Cells.{with_entry-same, with_entry-row, with_entry-others, with_entry-like, like-trans}
+use Rattle.mpc_definite.proofs.Cells.{with_entry-same, with_entry-row, with_entry-others, with_entry-shape, like-trans}
 use Rattle.mpc_definite.proofs.Work.{AgreesTo, agrees_back, step_fits_of}
 use Rattle.mpc_space.proofs.Total.{total-same}
 use Rattle.mpc_definite.proofs.Squares.{positive_not_zero, left_of-zero, decomposed}
@@ -62,12 +62,12 @@ append-last d p m e = ap (λ k. get_or (d ++ p ∷ []) k (int (pos 0))) e ∙ ge
 
 pub at_next : (h l done : RationalMatrix) (d new : List ℚ) (j : ℕ) (p one : ℚ) → j < height h → AtStep h l d j → p ≡ entry l j j → int (pos 0) <ℚ p → EliminatesColumn l done j → StepFits (entry l) (height l) j → new ≡ d ++ p ∷ [] → one ≡ int (pos 1) → AtStep h (with_entry done j j one) new (j + 1)
 at_next h l done d new j p one a w e positive c f q u = record {
-  like = like-trans h l (with_entry done j j one) w.like (like-trans l done (with_entry done j j one) c.like (with_entry-like done j j one (omega (arith, c.like.height_is, w.like.height_is)) c.like.square));
+  like = like-trans h l (with_entry done j j one) w.like (with_entry-shape done j j one (height l) (height l) (omega (arith, c.like.rows_are, w.like.rows_are)) c.like);
   length_is = ap length q ∙ length-append d (p ∷ []) ∙ ap (λ k. k + 1) w.length_is;
   passes = record {
     positive = λ m b. ⊎_elim (λ r. subst (λ z. int (pos 0) <ℚ pivot (entry h) z) (sym r) (subst (λ z. int (pos 0) <ℚ z) (pivot_is h l d j p a w e) positive)) (λ r. w.passes.positive m (omega arith)) (cases_eq m j);
     fits = λ m b. ⊎_elim
-        (λ r. subst (λ z. StepFits (left_of (entry h) z) (height h) z) (sym r) (step_fits_of (entry l) (left_of (entry h) j) (height h) j (λ i k. agrees_left h l d j w i k) (subst (λ z. StepFits (entry l) z j) w.like.height_is f)))
+        (λ r. subst (λ z. StepFits (left_of (entry h) z) (height h) z) (sym r) (step_fits_of (entry l) (left_of (entry h) j) (height h) j (λ i k. agrees_left h l d j w i k) (subst (λ z. StepFits (entry l) z j) w.like.rows_are f)))
         (λ r. w.passes.fits m (omega arith))
         (cases_eq m j);
   };
@@ -76,15 +76,15 @@ at_next h l done d new j p one a w e positive c f q u = record {
       (λ r. ap (λ z. get_or z m (int (pos 0))) q ∙ append-at d p m (omega (arith, w.length_is)) ∙ w.pivots m (omega arith))
       (cases_eq m j);
   diagonal = λ i b. ⊎_elim
-      (λ r. subst (λ z. entry (with_entry done j j one) z z ≡ int (pos 1)) (sym r) (with_entry-same done j j one row_in column_in c.like.square.rectangular ∙ u))
+      (λ r. subst (λ z. entry (with_entry done j j one) z z ≡ int (pos 1)) (sym r) (with_entry-same done j j one row_in column_in c.like.rectangular ∙ u))
       (λ r. with_entry-others done j j one i i r ∙ c.others i i (omega arith) ∙ w.diagonal i (omega arith))
       (cases_eq i j);
   factors = λ i k b r s. kept i k r ∙ ⊎_elim
       (λ t. subst (λ z. entry done i z ≡ factor (entry h) i z) (sym t)
-      (c.factor i (omega arith) (omega (arith, w.like.height_is)) ∙ (λ v. w.left i j (omega arith) (omega arith) s v /ℚ w.left j j (omega arith) (omega arith) a v)))
+      (c.factor i (omega arith) (omega (arith, w.like.rows_are)) ∙ (λ v. w.left i j (omega arith) (omega arith) s v /ℚ w.left j j (omega arith) (omega arith) a v)))
       (λ t. c.before i k (omega arith) ∙ w.factors i k (omega arith) r s)
       (cases_eq k j);
-  left = λ i k b r s. with_entry-others done j j one i k (λ t. omega arith) ∙ c.rest i k (omega arith) r (omega (arith, w.like.height_is)) ∙ without_same h l d j w i k (omega arith) r s ∙ ap (λ z. left_of (entry h) z i k) (sym (add-one j));
+  left = λ i k b r s. with_entry-others done j j one i k (λ t. omega arith) ∙ c.rest i k (omega arith) r (omega (arith, w.like.rows_are)) ∙ without_same h l d j w i k (omega arith) r s ∙ ap (λ z. left_of (entry h) z i k) (sym (add-one j));
   above = λ i k b. ⊎_elim
       (λ t. subst (λ z. entry (with_entry done j j one) z k ≡ int (pos 0)) (sym t) (with_entry-row done j j one k row_in (λ v. omega arith) ∙ c.above j k (omega arith) ∙ w.above j k (omega arith)))
       (λ t. with_entry-others done j j one i k t ∙ c.above i k b ∙ w.above i k b)
@@ -92,10 +92,10 @@ at_next h l done d new j p one a w e positive c f q u = record {
 }
   where
     row_in : j < height done
-    row_in = omega (arith, c.like.height_is, w.like.height_is)
+    row_in = omega (arith, c.like.rows_are, w.like.rows_are)
 
     column_in : j < done.columns
-    column_in = omega (arith, c.like.square.columns_is, c.like.height_is, w.like.height_is)
+    column_in = omega (arith, c.like.columns_are, c.like.rows_are, w.like.rows_are)
 
     kept : (i k : ℕ) → k < i → entry (with_entry done j j one) i k ≡ entry done i k
     kept i k b = ⊎_elim
@@ -124,8 +124,7 @@ module _ (h l : RationalMatrix) (d : List ℚ) (j : ℕ) (e : j ≡ height h) (s
 
   pub decomposition : IsDecomposition h l d
   decomposition = record {
-    height_is = w.like.height_is;
-    columns_is = w.like.square.columns_is ∙ w.like.height_is;
+    shape = w.like;
     length_is = w.length_is ∙ e;
     diagonal = λ i a. w.diagonal i (omega arith);
     above = λ i k a b. w.above i k a;
@@ -171,6 +170,6 @@ first_wide h l d j p a w e positive wide = record {
   before = subst (PassesBelow (entry h) (height h)) (omega arith) w.passes;
   positive = subst (λ z. int (pos 0) <ℚ pivot (entry h) z) (omega arith) (subst (λ z. int (pos 0) <ℚ z) (pivot_is h l d j p a w e) positive);
   here = subst (λ z. StepFits (left_of (entry h) z) (height h) z → ⊥) (omega arith)
-      (λ f. wide (subst (λ z. StepFits (entry l) z j) (sym w.like.height_is)
+      (λ f. wide (subst (λ z. StepFits (entry l) z j) (sym w.like.rows_are)
       (step_fits_of (left_of (entry h) j) (entry l) (height h) j (λ i k. agrees_back (entry l) (left_of (entry h) j) j i (agrees_left h l d j w i k)) f)));
 }

@@ -8,20 +8,20 @@ use Rattle.mpc_space.specs.Matrix.{RationalMatrix, height, entry}
 use Rattle.mpc_linear.specs.Entries.{with_entry, zero_matrix}
 use Rattle.mpc_definite.specs.Pivots.{without_column, RowFits, StepFits}
 use Rattle.mpc_definite.specs.Steps.{IsSquare, IsLike, CopiesRow, IsLowerOf, EliminatesRow, EliminatesColumn}
-use Rattle.mpc_definite.proofs.Cells.{with_entry-same, with_entry-row, with_entry-others, with_entry-like, like-trans, zero_matrix-height, zero_matrix-square, zero_matrix-entry}
+use Rattle.mpc_definite.proofs.Cells.{with_entry-same, with_entry-row, with_entry-others, with_entry-shape, like-trans, zero_matrix-height, zero_matrix-square, zero_matrix-entry}
 
 pub like_self : (m : RationalMatrix) → IsSquare m → IsLike m m
-like_self m s = record { height_is = refl; square = s }
+like_self m s = s
 
 -- writing one entry of row i of a matrix like old
 like_with : (old m : RationalMatrix) (i k : ℕ) (v : ℚ) → i < height old → IsLike old m → IsLike old (with_entry m i k v)
-like_with old m i k v a p = like-trans old m (with_entry m i k v) p (with_entry-like m i k v (omega (arith, p.height_is)) p.square)
+like_with old m i k v a p = with_entry-shape m i k v (height old) (height old) (omega (arith, p.rows_are)) p
 
 same_with : (old m : RationalMatrix) (i k : ℕ) (v : ℚ) → i < height old → k < height old → IsLike old m → entry (with_entry m i k v) i k ≡ v
-same_with old m i k v a b p = with_entry-same m i k v (omega (arith, p.height_is)) (omega (arith, p.height_is, p.square.columns_is)) p.square.rectangular
+same_with old m i k v a b p = with_entry-same m i k v (omega (arith, p.rows_are)) (omega (arith, p.rows_are, p.columns_are)) p.rectangular
 
 other_with : (old m : RationalMatrix) (i k : ℕ) (v : ℚ) (q : ℕ) → i < height old → q ≢ k → IsLike old m → entry (with_entry m i k v) i q ≡ entry m i q
-other_with old m i k v q a other p = with_entry-row m i k v q (omega (arith, p.height_is)) other
+other_with old m i k v q a other p = with_entry-row m i k v q (omega (arith, p.rows_are)) other
 
 -- ---- copying
 -- the first entries of row i are those of h
@@ -61,9 +61,9 @@ pub record LowerSome (h new : RationalMatrix) (i : ℕ) : Type 0 where
 
 pub lower_init : (h m : RationalMatrix) (n w : ℕ) → IsSquare h → n ≡ height h → w ≡ h.columns → m ≡ zero_matrix n w → LowerSome h m 0
 lower_init h m n w s a b e =
-    let zeros : m ≡ zero_matrix n n = e ∙ ap (zero_matrix n) (b ∙ s.columns_is ∙ sym a) in
+    let zeros : m ≡ zero_matrix n n = e ∙ ap (zero_matrix n) (b ∙ s.columns_are ∙ sym a) in
     subst (λ z. LowerSome h z 0) (sym zeros) (record {
-      like = record { height_is = zero_matrix-height n n ∙ a; square = zero_matrix-square n };
+      like = record { rows_are = zero_matrix-height n n ∙ a; columns_are = a; rectangular = (zero_matrix-square n).rectangular };
       copied = λ r q l k. absurd (omega arith);
       above = λ r q l. zero_matrix-entry n n r q;
     })

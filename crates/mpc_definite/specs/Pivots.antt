@@ -4,6 +4,7 @@ use Rattle.std.specs.Prelude.{◌≡◌, ℕ, zero, suc, ◌-◌, ◌<◌, ◌�
 use Rattle.mpc_exact.specs.Rational.{ℚ, int, ◌-ℚ◌, ◌*ℚ◌, ◌/ℚ◌, ◌≤ℚ◌, ◌<ℚ◌}
 use Rattle.mpc_frac.specs.Fits.{FitsFrac}
 use Rattle.mpc_linear.specs.Dot.{TakenFits}
+use Rattle.mpc_linear.specs.Shape.{HasShape}
 use Rattle.mpc_space.specs.Matrix.{RationalMatrix, height, entry}
 use Rattle.mpc_space.specs.Total.{total}
 
@@ -25,8 +26,7 @@ factor h i j = left_of h j i j /ℚ pivot h j
 
 -- h = l d l', with l lower triangular of diagonal 1, and d positive on its diagonal
 pub record IsDecomposition (h l : RationalMatrix) (d : List ℚ) : Type 0 where
-  pub height_is : height l ≡ height h
-  pub columns_is : l.columns ≡ height h
+  pub shape : HasShape l (height h) (height h)
   pub length_is : length d ≡ height h
   pub diagonal : (i : ℕ) → i < height h → entry l i i ≡ int (pos 1)
   pub above : (i k : ℕ) → i < k → k < height h → entry l i k ≡ int (pos 0)

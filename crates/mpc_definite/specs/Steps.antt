@@ -1,17 +1,17 @@
 -- What the steps of the elimination do to the matrix that they work on.
 use Rattle.std.specs.Prelude.{◌≡◌, ◌≢◌, ℕ, ◌<◌, ◌≤◌, pos}
 use Rattle.mpc_exact.specs.Rational.{int, ◌/ℚ◌}
-use Rattle.mpc_space.specs.Matrix.{RationalMatrix, height, IsRectangular, entry}
+use Rattle.mpc_space.specs.Matrix.{RationalMatrix, height, entry}
+use Rattle.mpc_linear.specs.Shape.{HasShape}
 use Rattle.mpc_definite.specs.Pivots.{without_column}
 
-pub record IsSquare (m : RationalMatrix) : Type 0 where
-  pub columns_is : m.columns ≡ height m
-  pub rectangular : IsRectangular m
+-- as many columns as rows
+abbrev pub IsSquare : RationalMatrix → Type 0
+IsSquare m = HasShape m (height m) (height m)
 
 -- a square matrix of the same size as m
-pub record IsLike (m new : RationalMatrix) : Type 0 where
-  pub height_is : height new ≡ height m
-  pub square : IsSquare new
+abbrev pub IsLike : RationalMatrix → RationalMatrix → Type 0
+IsLike m new = HasShape new (height m) (height m)
 
 -- row i up to the diagonal is that of h, and every other entry is as it was
 pub record CopiesRow (h old new : RationalMatrix) (i : ℕ) : Type 0 where

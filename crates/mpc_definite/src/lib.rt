@@ -128,7 +128,7 @@ pub fn pivots(alloc: Global, h: &Matrix) -> Result<Definite, DefiniteError>
 {
     let rows = h.rows();
     let mut l = lower_triangle(alloc, h)?;
-    let mut d = Vector::new(alloc);
+    let mut d = Vector::with_capacity(alloc, rows as usize)?;
     for j in 0..rows {
         let pivot = l.get(j, j);
         if pivot.sign() <= 0 {

@@ -23,8 +23,7 @@ use std::marker::Model;
 pub const LAST_ROW: u32 = 60;
 
 /// A set of row numbers from 1 to [`LAST_ROW`], as the rows of a quadratic program that hold with
-/// equality. Contracts see the list of its members in rising order. It is one word, and no call on
-/// it takes memory.
+/// equality. Contracts see the list of its members in rising order.
 #[derive(Clone, Copy, Debug, Drop)]
 pub struct ActiveSet {
     mask: u64,
@@ -323,7 +322,7 @@ fn single_rows(alloc: Global, rows: u32) -> Result<Vec<ActiveSet>, NoMemory>
     ensures members { IfOk result (λ level. (s : List ℕ) → Contains level.items s ↔ IsSingle rows s) }
     ensures in_order { IfOk result (λ level. IsInOrder level.items) }
 {
-    let mut level = Vec::new(alloc);
+    let mut level = Vec::with_capacity(alloc, rows as usize).map_err(|_| NoMemory)?;
     for row in 1..rows + 1 {
         level
             .push(ActiveSet::empty().with(row))

@@ -4,7 +4,7 @@ use Rattle.mpc_definite.proofs.Stages.{AtStep, at_start, at_next, decomposition,
 use Rattle.mpc_definite.proofs.pivots.Goals as goal
 
 pub loop-j-init : goal.loop-j-init
-loop-j-init c = at_start c.args.h.now c.in_ok-l.l c.new-d.result c.new-d.ensures c.in_ok-l.ensures
+loop-j-init c = at_start c.args.h.now c.in_ok-l.l c.in_ok-d.d c.in_ok-d.ensures.empty c.in_ok-l.ensures
 
 pub returns-then-sign-le0-clause-cause : goal.returns-then-sign-le0-clause-cause
 returns-then-sign-le0-clause-cause c =
