@@ -36,7 +36,7 @@ pub enum DefiniteError {
     /// This pivot is the first that isn't positive, so the matrix isn't positive definite.
     #[error("the matrix isn't positive definite: pivot {0} isn't positive")]
     NotDefinite(u32),
-    /// This step is the first that needs more than 128 bits.
+    /// This step is the first with a number of 2^127 or more in size.
     #[error("pivot step {0} needs numbers of more than 128 bits")]
     Wide(u32),
     /// There is no more memory.
@@ -115,7 +115,7 @@ fn eliminate_column(e: &mut Matrix, j: u32) -> Result<(), Wide>
 
 /// The decomposition `h = l d l'` of a positive definite matrix (Gauss; Golub and Van Loan, 1996, 4.1).
 ///
-/// Answers at the first step whose pivot isn't positive, as `NotDefinite`, or that needs more than 128 bits, as `Wide`.
+/// Answers at the first step whose pivot isn't positive, as `NotDefinite`, or that has a number of 2^127 or more in size, as `Wide`.
 pub fn pivots(alloc: Global, h: &Matrix) -> Result<Definite, DefiniteError>
     requires square { h.now.columns ≡ height h.now }
     requires symmetric { IsSymmetric h.now.rows }

@@ -206,7 +206,7 @@ fn solution(alloc: Global, table: &[Frac], rows: u32, cols: u32) -> Result<Matri
 /// (Clasen 1888, Jordan 1888) with the first pivot that isn't 0.
 ///
 /// `Dependent` where m is singular, also without right sides, and no column before the one that it
-/// names has an operation that needs more than 128 bits; `Wide` with the first such column, from 1.
+/// names has a number of 2^127 or more in size; `Wide` with the first such column, from 1.
 pub fn solve(alloc: Global, m: &Matrix, rhs: &Matrix) -> Result<Solved, LinearError>
     requires square { height m.now ≡ m.now.columns }
     requires rows { height rhs.now ≡ height m.now }

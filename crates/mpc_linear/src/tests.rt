@@ -17,7 +17,7 @@ fn frac(rt: &impl Abort, num: i128, den: i128) -> Frac {
 }
 
 fn vector(alloc: Global, entries: &[Frac]) -> Result<Vector, NoMemory> {
-    let mut vector = Vector::new(alloc);
+    let mut vector = Vector::with_capacity(alloc, entries.len())?;
     for entry in entries {
         vector.push(*entry)?;
     }
@@ -172,6 +172,14 @@ fn finds_dependent_columns(rt: HostRuntime) -> Result<(), Fail> {
         };
         assert_eq!(rt; found, column);
     }
+    let singular = whole_matrix(&rt, alloc, 1, 1, &[0])?;
+    let no_sides = Matrix::zero(alloc, 1, 0)?;
+    assert!(rt;
+        matches!(
+            solved(&rt, alloc, &singular, &no_sides)?,
+            Solved::Dependent(1)
+        )
+    );
     Ok(())
 }
 

@@ -7,4 +7,5 @@ pub mod Elimination
 pub mod Definite
 pub mod Optimality
 pub mod Outcomes
+pub mod Words
 mod DefinitionTests

@@ -2,7 +2,7 @@ use Rattle.std.proofs.Common.{◌≡◌, ◌∙◌, ap, pos, map, subst, to_z}
 use Rattle.std.specs.Int.{w128}
 use Rattle.mpc_exact.specs.Denominator.{common_denom}
 use Rattle.mpc_linear.specs.Whole.{scaled, ScaledFit}
-use Rattle.mpc_linear.proofs.Words.{read_natural}
+use Rattle.mpc_space.proofs.Words.{read_natural}
 use Rattle.mpc_linear.proofs.WholeLemmas.{denom-positive, form_is, fits_from}
 use Rattle.mpc_linear.proofs.integers.common.Goals as goal
 use Rattle.mpc_linear.proofs.integers.common.Goals.{In_ok-k}

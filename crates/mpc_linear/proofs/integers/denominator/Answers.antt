@@ -1,4 +1,4 @@
-use Rattle.mpc_linear.proofs.Words.{read_size}
+use Rattle.mpc_space.proofs.Words.{read_size}
 use Rattle.mpc_linear.proofs.WholeLemmas.{denom-from}
 use Rattle.mpc_linear.proofs.integers.denominator.Goals as goal
 

@@ -1,7 +1,7 @@
 use Rattle.std.proofs.Common.{◌≡◌, ◌∙◌, ◌<◌, ◌^◌, pos, int_div, unsigned_abs, to_z, of_z, ap, subst, length, get_or}
 use Rattle.std.specs.Int.{w128}
 use Rattle.std.proofs.lemmas.List.{get_or_default}
-use Rattle.mpc_linear.proofs.Words.{read_back}
+use Rattle.mpc_space.proofs.Words.{read_back}
 use Rattle.mpc_linear.proofs.PrimitiveLemmas.{quotients_more}
 use Rattle.mpc_linear.proofs.integers.divided_row.Goals as goal
 

@@ -1,7 +1,7 @@
 use Rattle.std.proofs.Common.{◌∙◌, ◌≤◌, ap, map, arith}
 use Rattle.std.proofs.lemmas.List.{take_all}
 use Rattle.mpc_linear.specs.Whole.{scaled}
-use Rattle.mpc_linear.proofs.Words.{read_back}
+use Rattle.mpc_space.proofs.Words.{read_back}
 use Rattle.mpc_linear.proofs.WholeLemmas.{numerators_more, fit_more}
 use Rattle.mpc_linear.proofs.integers.numerators_over.Goals as goal
 

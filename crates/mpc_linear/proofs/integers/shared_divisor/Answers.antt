@@ -1,7 +1,7 @@
 use Rattle.std.proofs.Common.{◌≡◌, ◌∙◌, ◌<◌, ◌^◌, ◌≤◌, ◌+◌, unsigned_abs, pos, to_z, of_z, ap, sym, subst, length, get_or}
 use Rattle.std.specs.Int.{w128}
 use Rattle.std.proofs.lemmas.List.{get_or_default}
-use Rattle.mpc_linear.proofs.Words.{read_back}
+use Rattle.mpc_space.proofs.Words.{read_back}
 use Rattle.mpc_linear.proofs.PrimitiveLemmas.{Sharing, sharing_none, sharing_more, sharing_all}
 use Rattle.mpc_linear.proofs.integers.shared_divisor.Goals as goal
 

@@ -3,7 +3,7 @@ use Rattle.std.proofs.lemmas.Result.{err_from_is_err_and}
 use Rattle.mpc_exact.specs.Gcd.{lcm}
 use Rattle.mpc_exact.specs.Denominator.{common_denom}
 use Rattle.mpc_linear.specs.Whole.{IsScaledRow, WholeFits}
-use Rattle.mpc_linear.proofs.Words.{read_back}
+use Rattle.mpc_space.proofs.Words.{read_back}
 use Rattle.mpc_linear.proofs.Outcomes.{IfWide-weaker}
 use Rattle.mpc_linear.proofs.WholeLemmas.{denom-positive}
 use Rattle.mpc_linear.proofs.PrimitiveLemmas.{row_denom-positive, scaled_row, row_fits, entries_unfit, side_unfit, lcm_unfit, front_unfit, small_row}

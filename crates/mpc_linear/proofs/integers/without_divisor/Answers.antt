@@ -1,7 +1,7 @@
 use Rattle.std.proofs.Common.{ℤ, unsigned_abs, ◌^◌, ◌≡◌, ◌∙◌, ◌<◌, ◌++◌, [], ◌∷◌, pos, int_div, sym, ap, subst, subst₂, arith, to_z, of_z}
 use Rattle.std.specs.Int.{w128}
 use Rattle.mpc_linear.specs.Whole.{IsScaledRow, IsShared, IsPrimitive}
-use Rattle.mpc_linear.proofs.Words.{read_back}
+use Rattle.mpc_space.proofs.Words.{read_back}
 use Rattle.mpc_linear.proofs.PrimitiveLemmas.{primitive_small, primitive_divided, scaled_divided, divided_append, quotients_small}
 use Rattle.mpc_linear.proofs.integers.without_divisor.Goals as goal
 
