@@ -3,7 +3,7 @@
 ghost use Rattle.mpc_file.specs.Offsets.{OffsetTest};
 ghost use Rattle.mpc_file.specs.OneBound.{OneFirstBroken, KeptNotBroken};
 ghost use Rattle.mpc_file.specs.OneLeaf.{OneLeaf};
-ghost use Rattle.mpc_file.specs.PreorderLaws.{SplitSpells, LeafSpells};
+ghost use Rattle.mpc_file.specs.PreorderLaws.{SplitSpells, LeafSpells, JoinedSpell};
 
 /// At each point the walk through a tree ends, and at one leaf only. The call does nothing: its
 /// contract is the law.
@@ -11,11 +11,12 @@ pub fn one_leaf()
     ensures { OneLeaf }
 {}
 
-/// Nodes in preorder spell trees one after another, and one node more spells one tree less or one more.
-/// The call does nothing: its contract is the laws.
+/// Nodes in preorder spell trees one after another: one node more spells one tree less or one more, and
+/// the nodes of other trees may stand behind them. The call does nothing: its contract is the laws.
 pub fn preorder_laws()
     ensures split { SplitSpells }
     ensures leaf { LeafSpells }
+    ensures joined { JoinedSpell }
 {}
 
 /// One bound is the first that is broken, and none is where all are kept. The call does nothing: its
