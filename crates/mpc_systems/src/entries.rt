@@ -1,0 +1,86 @@
+//! The coefficients of rows, one behind the other.
+
+ghost use Rattle.std.specs.Prelude.{◌≡◌, ◌++◌, cond, nat_lt, negsuc, pos, IfOk, OnOk, map};
+ghost use Rattle.mpc_exact.specs.Rational.{int};
+ghost use Rattle.mpc_space.specs.Vector.{vec_scale, zeros};
+ghost use Rattle.mpc_linear.specs.Whole.{AreSmall};
+ghost use Rattle.mpc_rows.specs.SetRuns.{axis};
+
+use crate::numbers::whole;
+use mpc_frac::{Frac, NoMemory};
+use mpc_linear::Vector;
+use std::alloc::Global;
+
+/// Appends the entries.
+pub fn push_entries(out: &mut Vector, entries: &[Frac]) -> Result<(), NoMemory>
+    ensures { OnOk result (out.new ≡ out.old ++ entries.now) }
+{
+    for x in entries {
+        out.push(*x)?;
+    }
+    Ok(())
+}
+
+/// Appends the negatives of the entries.
+pub fn push_negatives(out: &mut Vector, entries: &[Frac]) -> Result<(), NoMemory>
+    ensures { OnOk result (out.new ≡ out.old ++ vec_scale (int (negsuc 0)) entries.now) }
+{
+    for x in entries {
+        out.push(x.neg())?;
+    }
+    Ok(())
+}
+
+/// Appends the numbers as fractions.
+pub fn push_wholes(out: &mut Vector, numbers: &[i128]) -> Result<(), NoMemory>
+    requires { AreSmall numbers.now }
+    ensures { OnOk result (out.new ≡ out.old ++ map int numbers.now) }
+{
+    for z in numbers {
+        out.push(whole(*z))?;
+    }
+    Ok(())
+}
+
+/// Appends the negatives of the numbers as fractions.
+pub fn push_negated_wholes(out: &mut Vector, numbers: &[i128]) -> Result<(), NoMemory>
+    requires { AreSmall numbers.now }
+    ensures { OnOk result (out.new ≡ out.old ++ vec_scale (int (negsuc 0)) (map int numbers.now)) }
+{
+    for z in numbers {
+        out.push(whole(*z).neg())?;
+    }
+    Ok(())
+}
+
+/// Appends as many zeros.
+pub fn push_zeros(out: &mut Vector, count: u32) -> Result<(), NoMemory>
+    ensures { OnOk result (out.new ≡ out.old ++ zeros count) }
+{
+    for _k in 0..count {
+        out.push(Frac::whole(0))?;
+    }
+    Ok(())
+}
+
+/// Entry j of the vector that is 0 but for the entry i.
+fn axis_entry(i: usize, j: usize, value: &Frac) -> Frac
+    ensures { result ≡ cond (nat_lt i j) (int (pos 0)) (cond (nat_lt j i) (int (pos 0)) value.now) }
+{
+    if i < j || j < i {
+        Frac::whole(0)
+    } else {
+        *value
+    }
+}
+
+/// The vector of so many entries that is 0 but for the entry i.
+pub fn axis(alloc: Global, width: usize, i: usize, value: &Frac) -> Result<Vector, NoMemory>
+    ensures { IfOk result (λ a. a ≡ axis width i value.now) }
+{
+    let mut a = Vector::new(alloc);
+    for j in 0..width {
+        a.push(axis_entry(i, j, value))?;
+    }
+    Ok(a)
+}

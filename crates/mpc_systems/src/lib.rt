@@ -1,0 +1,18 @@
+//! Systems of rows that decide active sets and the cells of a search tree, and their rows one by one.
+#![tactic(auto)]
+
+mod entries;
+mod numbers;
+mod pushing;
+mod single_rows;
+mod systems;
+#[cfg(test)]
+mod tests;
+
+pub use numbers::whole;
+pub use pushing::{joint_rows, push_box, push_cell, push_joint_rows, push_members, push_rows};
+pub use single_rows::{
+    box_row, broken_row, joint_row, turned, whole_row, widened, widened_broken_row,
+    widened_whole_row,
+};
+pub use systems::{hold_system, joint_system, meet_system, reach_system, region_system};
