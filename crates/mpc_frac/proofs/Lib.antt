@@ -7,3 +7,4 @@ pub mod Binary
 pub mod Knuth
 pub mod ShortParts
 pub mod FitLemmas
+pub mod LikeFractions

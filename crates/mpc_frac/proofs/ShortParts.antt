@@ -1,5 +1,5 @@
 -- Sums and products of fractions whose parts fit 64 bits.
-use Rattle.std.proofs.Common.{◌≡◌, ℕ, ◌*◌, ◌/◌, ◌%◌, ◌^◌, ◌<◌, ◌≤◌, ℤ, pos, negsuc, ◌+ℤ◌, ◌*ℤ◌, unsigned_abs, int_cmp, sym, ◌∙◌, ap, subst, arith, div-le_self, mul-le-mul_right, to_z, of_z}
+use Rattle.std.proofs.Common.{◌≡◌, ℕ, ◌*◌, ◌/◌, ◌%◌, ◌^◌, ◌<◌, ◌≤◌, ℤ, pos, negsuc, ◌+ℤ◌, ◌*ℤ◌, unsigned_abs, int_cmp, sym, ◌∙◌, ap, subst, arith, div-le_self, mul-le-mul_right, lit<, to_z, of_z}
 use Rattle.std.specs.Int.{w64, w128, ◌∣◌}
 use Rattle.std.proofs.Common.{Result, Ok, Err, Some, OkIff, FitsSigned}
 use Rattle.std.specs.Result.{result_ok}
@@ -8,10 +8,12 @@ use lib.Signed.{mag}
 use Rattle.std.proofs.lemmas.Int.{ints, unsigned_abs-mul, to_z_pos, to_z-of_z}
 use Rattle.std.proofs.Math.Nat.{pos_of_dvd_of_pos}
 use Rattle.mpc_exact.specs.Gcd.{gcd, gcd_comm}
-use Rattle.mpc_exact.specs.Rational.{ℚ, frac, cmp_ℚ, frac_parts}
-use Rattle.mpc_frac.specs.Fits.{FitsSum, common, left_of_sum, right_of_sum, denom_of_sum, size_of_product, denom_of_product}
-use Rattle.mpc_frac.proofs.FracModel.{read_fitting}
+use Rattle.mpc_exact.specs.Rational.{ℚ, frac, ◌*ℚ◌, cmp_ℚ, frac_parts}
+use Rattle.mpc_exact.proofs.Rational.{frac-mul}
+use Rattle.mpc_frac.specs.Fits.{FitsFrac, FitsSum, common, left_of_sum, right_of_sum, denom_of_sum, size_of_product, denom_of_product}
+use Rattle.mpc_frac.proofs.FracModel.{read_back, read_fitting}
 use Rattle.mpc_frac.proofs.Binary.{gcd-mod}
+use Rattle.mpc_frac.proofs.FitLemmas.{whole_fits}
 
 -- ---- widths
 abs_most : (a : ℤ) → mag a < 2 ^ 63 → unsigned_abs a ≤ 2 ^ 63
@@ -50,6 +52,23 @@ below_divided n g b h = let e = div-le_self n g in omega arith
 
 most_divided : (n g b : ℕ) → n ≤ b → n / g ≤ b
 most_divided n g b h = let e = div-le_self n g in omega arith
+
+-- ---- whole numbers
+pub whole_product_is : (a c : ℤ) → frac (a *ℤ c) 1 ≡ frac a 1 *ℚ frac c 1
+whole_product_is a c = sym (frac-mul a 1 c 1 (lit< tt) (lit< tt))
+
+squares : (m n : ℕ) → m ≤ 2 ^ 63 → n ≤ 2 ^ 63 → m * n < 2 ^ 127
+squares m n h k = let e : m * n ≤ 2 ^ 63 * n = mul-le-mul_right n h in omega arith
+
+product_fits : (a c : ℤ) → mag a < 2 ^ 63 → mag c < 2 ^ 63 → unsigned_abs (a *ℤ c) < 2 ^ 127
+product_fits a c h k = subst (λ m. m < 2 ^ 127) (sym (unsigned_abs-mul a c)) (squares (unsigned_abs a) (unsigned_abs c) (abs_most a h) (abs_most c k))
+
+pub whole_product_fits : (a c : ℤ) → mag a < 2 ^ 63 → mag c < 2 ^ 63 → FitsFrac (frac a 1 *ℚ frac c 1)
+whole_product_fits a c h k = subst (λ (z : ℚ). FitsFrac z) (whole_product_is a c) (whole_fits (a *ℤ c) (product_fits a c h k))
+
+pub product_read : (a c : ℤ) → mag a < 2 ^ 63 → mag c < 2 ^ 63 → to_z w128 (of_z w128 (to_z w128 (of_z w128 (to_z w64 (of_z w64 a))) *ℤ to_z w128 (of_z w128 (to_z w64 (of_z w64 c))))) ≡ a *ℤ c
+product_read a c h k =
+    ap (λ z. to_z w128 (of_z w128 z)) (λ i. read_twice a h i *ℤ read_twice c k i) ∙ read_back (a *ℤ c) (product_fits a c h k)
 
 -- ---- the fractions a/b and c/d
 module _ (a : ℤ) (b : ℕ) (c : ℤ) (d : ℕ) (p : 0 < b) (q : 0 < d) (ab : gcd (unsigned_abs a) b ≡ 1) (cd : gcd (unsigned_abs c) d ≡ 1) where

@@ -1,5 +1,5 @@
 -- Which numbers fit a `Frac` because others do.
-use Rattle.std.specs.Prelude.{◌≡◌, ◌≢◌, ◌^◌, ◌<◌, ℤ, pos, unsigned_abs}
+use Rattle.std.specs.Prelude.{◌≢◌, ◌^◌, ◌<◌, ℤ, pos, unsigned_abs}
 use Rattle.mpc_exact.specs.Rational.{ℚ, int, quotient, ◌+ℚ◌, neg_ℚ, inv_ℚ}
 use Rattle.mpc_frac.specs.Fits.{FitsFrac, FitsSum}
 

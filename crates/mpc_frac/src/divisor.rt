@@ -3,7 +3,8 @@
 ghost use Rattle.std.specs.Prelude.{◌≡◌, ◌%◌, ◌<◌};
 ghost use Rattle.mpc_exact.specs.Gcd.{gcd};
 
-const SHORT: u128 = u64::MAX as u128;
+/// The largest number of 64 bits.
+pub(crate) const SHORT: u128 = u64::MAX as u128;
 
 /// The greatest common divisor of two odd numbers, by the binary algorithm (Stein, 1967).
 #[inline]

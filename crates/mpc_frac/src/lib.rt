@@ -15,6 +15,7 @@ mod short;
 #[cfg(test)]
 mod tests;
 
+use divisor::SHORT;
 pub use divisor::greatest_common_divisor;
 use itoa::Buffer;
 pub use laws::fit_laws;
@@ -97,13 +98,19 @@ fn small_product(x: u128, y: u128) -> Result<u128, Wide>
     }
 }
 
-/// A number divided by a divisor that is often 1.
+/// A number divided by a divisor that is often 1, and in 64 bits where both fit.
 #[inline]
 fn part(n: u128, divisor: u128) -> u128
     requires { 0 < divisor }
     ensures { result ≡ n / divisor }
 {
-    if divisor == 1 { n } else { n / divisor }
+    if divisor == 1 {
+        return n;
+    }
+    if n <= SHORT && divisor <= SHORT {
+        return (n as u64 / divisor as u64) as u128;
+    }
+    n / divisor
 }
 
 /// The size, with the sign of the product of a and c.
@@ -131,8 +138,8 @@ fn cancelled(num: i128, den: u128, divisor: u128) -> Frac
     if shared == 1 {
         return Frac::lowest(num, den);
     }
-    let size = num.unsigned_abs() / shared;
-    Frac::lowest(with_sign_of(num, 1, size), den / shared)
+    let size = part(num.unsigned_abs(), shared);
+    Frac::lowest(with_sign_of(num, 1, size), part(den, shared))
 }
 
 /// The sum, if it lies below 2^127 in size.
@@ -219,8 +226,8 @@ impl Frac {
             return Err(FracError::ZeroDenominator);
         }
         let divisor = greatest_common_divisor(num.unsigned_abs(), den.unsigned_abs());
-        let size = num.unsigned_abs() / divisor;
-        let below = den.unsigned_abs() / divisor;
+        let size = part(num.unsigned_abs(), divisor);
+        let below = part(den.unsigned_abs(), divisor);
         match Frac::fitted(num, den, size, below) {
             Ok(fraction) => Ok(fraction),
             Err(Wide) => Err(FracError::Wide),
@@ -395,6 +402,34 @@ impl Frac {
     /// `Wide` where a(d/g), c(b/g), their sum or b(d/g) doesn't fit.
     #[inline]
     pub fn add(&self, other: &Frac) -> Result<Frac, Wide>
+        ensures value { IfOk result (λ v. v ≡ self.now +ℚ other.now) }
+        ensures wide { MatchResult result (λ _. FitsSum self.now other.now)
+            (λ _. ¬ FitsSum self.now other.now) }
+    {
+        if self.den() == other.den() {
+            return self.like_sum(other);
+        }
+        self.unlike_sum(other)
+    }
+
+    /// The exact sum over the denominator of both.
+    #[inline]
+    fn like_sum(&self, other: &Frac) -> Result<Frac, Wide>
+        requires { self.now.denom ≡ other.now.denom }
+        ensures value { IfOk result (λ v. v ≡ self.now +ℚ other.now) }
+        ensures wide { MatchResult result (λ _. FitsSum self.now other.now)
+            (λ _. ¬ FitsSum self.now other.now) }
+    {
+        let num = small_sum(self.num(), other.num())?;
+        if self.is_whole() {
+            return Ok(Frac::lowest(num, 1));
+        }
+        Ok(cancelled(num, self.below(), self.below()))
+    }
+
+    /// The exact sum of parts whose denominators differ.
+    #[inline(never)]
+    fn unlike_sum(&self, other: &Frac) -> Result<Frac, Wide>
         ensures value { IfOk result (λ v. v ≡ self.now +ℚ other.now) }
         ensures wide { MatchResult result (λ _. FitsSum self.now other.now)
             (λ _. ¬ FitsSum self.now other.now) }

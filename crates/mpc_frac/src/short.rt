@@ -28,6 +28,15 @@ fn wide_product(x: u64, y: u64) -> u128
     x as u128 * y as u128
 }
 
+/// The product of two whole numbers.
+#[inline]
+fn whole_product(a: i64, c: i64) -> Frac
+    ensures value { result ≡ frac a 1 *ℚ frac c 1 }
+    ensures fits { FitsFrac (frac a 1 *ℚ frac c 1) }
+{
+    Frac::lowest(a as i128 * c as i128, 1)
+}
+
 /// The product of a signed number and a denominator.
 #[inline]
 fn times(a: i64, n: u64) -> i128
@@ -124,9 +133,21 @@ impl Short {
         cancelled(num, self.den, right, divisor)
     }
 
-    /// The product. What can cancel does so crosswise.
+    /// The product.
     #[inline]
     pub(crate) fn product(self, other: Short) -> Frac
+        ensures value { result ≡ frac self.num self.den *ℚ frac other.num other.den }
+        ensures fits { FitsFrac (frac self.num self.den *ℚ frac other.num other.den) }
+    {
+        if self.den == 1 && other.den == 1 {
+            return whole_product(self.num, other.num);
+        }
+        self.ratio_product(other)
+    }
+
+    /// The product of fractions. What can cancel does so crosswise.
+    #[inline(never)]
+    fn ratio_product(self, other: Short) -> Frac
         ensures value { result ≡ frac self.num self.den *ℚ frac other.num other.den }
         ensures fits { FitsFrac (frac self.num self.den *ℚ frac other.num other.den) }
     {

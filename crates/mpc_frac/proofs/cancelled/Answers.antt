@@ -1,4 +1,4 @@
-use Rattle.std.proofs.Common.{◌≡◌, ◌<◌, ◌/◌, ◌∙◌, sym, ap, unsigned_abs, pos, to_z, of_z}
+use Rattle.std.proofs.Common.{◌≡◌, ◌<◌, ◌/◌, ◌∙◌, sym, ap, subst, unsigned_abs, pos, to_z, of_z}
 use Rattle.std.specs.Int.{w128}
 use Rattle.mpc_exact.specs.Gcd.{gcd}
 use Rattle.mpc_exact.specs.Rational.{frac}
@@ -21,15 +21,15 @@ some c = positive_gcd _ _ _ (found c) c.requires.den_positive
 pub returns-then-shared-eq1 : goal.returns-then-shared-eq1
 returns-then-shared-eq1 c = c.lowest.ensures ∙ ap (λ z. frac z c.args.den) (same_num ((goal.at.returns-then-shared-eq1 c).After-greatest_common_divisor-shared))
 
-pub nonzero_div-size : goal.nonzero_div-size
-nonzero_div-size c = some ((goal.at.nonzero_div-size c).After-greatest_common_divisor-shared)
+pub part-size-requires : goal.part-size-requires
+part-size-requires c = some ((goal.at.part-size-requires c).After-greatest_common_divisor-shared)
 
-pub nonzero_div-den : goal.nonzero_div-den
-nonzero_div-den c = some ((goal.at.nonzero_div-den c).After-greatest_common_divisor-shared)
+pub part-requires : goal.part-requires
+part-requires c = some ((goal.at.part-requires c).After-greatest_common_divisor-shared)
 
 signed : (c : After-with_sign_of) → c.with_sign_of.result ≡ signed_like c.args.num (pos 1) (unsigned_abs c.args.num / c.greatest_common_divisor-shared.result)
 signed c = c.with_sign_of.ensures
-    ∙ (λ i. signed_like (read_back c.args.num c.requires.num_fits i) (pos 1) ((c.unsigned_abs-2.ensures.value ∙ ap unsigned_abs (read_back c.args.num c.requires.num_fits)) i / c.greatest_common_divisor-shared.result))
+    ∙ (λ i. signed_like (read_back c.args.num c.requires.num_fits i) (pos 1) ((c.part-size.ensures ∙ ap (λ n. n / c.greatest_common_divisor-shared.result) (c.unsigned_abs-2.ensures.value ∙ ap unsigned_abs (read_back c.args.num c.requires.num_fits))) i))
 
 written : (c : After-with_sign_of) → to_z w128 (of_z w128 c.with_sign_of.result) ≡ c.with_sign_of.result
 written c = read_fitting c.with_sign_of.result c.with_sign_of.type_inv
@@ -37,16 +37,16 @@ written c = read_fitting c.with_sign_of.result c.with_sign_of.type_inv
 pub lowest-requires-2-clause-den_positive : goal.lowest-requires-2-clause-den_positive
 lowest-requires-2-clause-den_positive c =
     let at = goal.at.lowest-requires-2-clause-den_positive c in
-    rest_positive _ _ _ _ c.requires.den_positive (found at.After-greatest_common_divisor-shared) (signed at.After-with_sign_of) c.requires.num_fits c.requires.den_fits
+    subst (λ n. 0 < n) (sym c.part.ensures) (rest_positive _ _ _ _ c.requires.den_positive (found at.After-greatest_common_divisor-shared) (signed at.After-with_sign_of) c.requires.num_fits c.requires.den_fits)
 
 pub lowest-requires-2-clause-coprime : goal.lowest-requires-2-clause-coprime
 lowest-requires-2-clause-coprime c =
     let at = goal.at.lowest-requires-2-clause-coprime c in
-    ap (λ z. gcd (unsigned_abs z) (c.args.den / c.greatest_common_divisor-shared.result)) (written at.After-with_sign_of)
+    (λ i. gcd (unsigned_abs (written at.After-with_sign_of i)) (c.part.ensures i))
     ∙ rest_coprime _ _ _ _ c.requires.den_positive (found at.After-greatest_common_divisor-shared) (signed at.After-with_sign_of) c.requires.num_fits c.requires.den_fits
 
 pub returns : goal.returns
 returns c =
     let at = goal.at.returns c in
-    c.lowest-2.ensures ∙ ap (λ z. frac z (c.args.den / c.greatest_common_divisor-shared.result)) (written at.After-with_sign_of)
+    c.lowest-2.ensures ∙ (λ i. frac (written at.After-with_sign_of i) (c.part.ensures i))
     ∙ rest_same _ _ _ _ c.requires.den_positive (found at.After-greatest_common_divisor-shared) (signed at.After-with_sign_of) c.requires.num_fits c.requires.den_fits

@@ -8,8 +8,8 @@ use Rattle.mpc_frac.specs.Sign.{signed_like}
 use Rattle.mpc_frac.proofs.FracModel.{read_fitting}
 use Rattle.mpc_frac.proofs.FracMul.{product_from, coprime_from, product_some, product_fits, signed_abs}
 use Rattle.mpc_frac.proofs.ShortParts.{read_short, read_twice, size_is, below_is, numers_are, size_small, below_small}
-use Rattle.mpc_frac.proofs.short.Short.product.Goals as goal
-use Rattle.mpc_frac.proofs.short.Short.product.Goals.{After-wide_product-den, After-with_sign_of}
+use Rattle.mpc_frac.proofs.short.Short.ratio_product.Goals as goal
+use Rattle.mpc_frac.proofs.short.Short.ratio_product.Goals.{After-wide_product-den, After-with_sign_of}
 
 module _ (c : After-wide_product-den) where
   left : c.short_divisor-left.result ≡ gcd (unsigned_abs c.args.self.num) c.args.other.den
