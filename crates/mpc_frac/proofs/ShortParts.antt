@@ -8,12 +8,13 @@ use lib.Signed.{mag}
 use Rattle.std.proofs.lemmas.Int.{ints, unsigned_abs-mul, to_z_pos, to_z-of_z}
 use Rattle.std.proofs.Math.Nat.{pos_of_dvd_of_pos}
 use Rattle.mpc_exact.specs.Gcd.{gcd, gcd_comm}
-use Rattle.mpc_exact.specs.Rational.{ℚ, frac, ◌*ℚ◌, cmp_ℚ, frac_parts}
+use Rattle.mpc_exact.specs.Rational.{ℚ, frac, ◌+ℚ◌, ◌*ℚ◌, cmp_ℚ, frac_parts}
 use Rattle.mpc_exact.proofs.Rational.{frac-mul}
 use Rattle.mpc_frac.specs.Fits.{FitsFrac, FitsSum, common, left_of_sum, right_of_sum, denom_of_sum, size_of_product, denom_of_product}
 use Rattle.mpc_frac.proofs.FracModel.{read_back, read_fitting}
 use Rattle.mpc_frac.proofs.Binary.{gcd-mod}
 use Rattle.mpc_frac.proofs.FitLemmas.{whole_fits}
+use Rattle.mpc_frac.proofs.LikeFractions.{like_value}
 
 -- ---- widths
 abs_most : (a : ℤ) → mag a < 2 ^ 63 → unsigned_abs a ≤ 2 ^ 63
@@ -70,6 +71,12 @@ pub product_read : (a c : ℤ) → mag a < 2 ^ 63 → mag c < 2 ^ 63 → to_z w1
 product_read a c h k =
     ap (λ z. to_z w128 (of_z w128 z)) (λ i. read_twice a h i *ℤ read_twice c k i) ∙ read_back (a *ℤ c) (product_fits a c h k)
 
+plain_sum_small : (a c : ℤ) → mag a < 2 ^ 63 → mag c < 2 ^ 63 → unsigned_abs (a +ℤ c) < 2 ^ 127
+plain_sum_small a c h k = let p = abs_most a h in let q = abs_most c k in omega (arith, ints)
+
+pub sum_read : (a c : ℤ) → mag a < 2 ^ 63 → mag c < 2 ^ 63 → to_z w128 (of_z w128 (to_z w128 (of_z w128 (to_z w64 (of_z w64 a))) +ℤ to_z w128 (of_z w128 (to_z w64 (of_z w64 c))))) ≡ a +ℤ c
+sum_read a c h k = ap (λ z. to_z w128 (of_z w128 z)) (λ i. read_twice a h i +ℤ read_twice c k i) ∙ read_back (a +ℤ c) (plain_sum_small a c h k)
+
 -- ---- the fractions a/b and c/d
 module _ (a : ℤ) (b : ℕ) (c : ℤ) (d : ℕ) (p : 0 < b) (q : 0 < d) (ab : gcd (unsigned_abs a) b ≡ 1) (cd : gcd (unsigned_abs c) d ≡ 1) where
   abbrev x : ℚ
@@ -113,6 +120,9 @@ module _ (a : ℤ) (b : ℕ) (c : ℤ) (d : ℕ) (p : 0 < b) (q : 0 < d) (ab : g
 
   pub numers_are : (x.numer ≡ a) × (y.numer ≡ c)
   numers_are = (a_is, c_is)
+
+  pub like_sum_is : b ≡ d → (s : ℤ) (k : ℕ) → s ≡ a +ℤ c → k ≡ b → frac s k ≡ x +ℚ y
+  like_sum_is e s k p q = like_value x y (b_is ∙ e ∙ sym d_is) s k (p ∙ λ i. sym a_is i +ℤ sym c_is i) (q ∙ sym b_is)
 
   module _ (af : mag a < 2 ^ 63) (cf : mag c < 2 ^ 63) (bf : b < 2 ^ 63) (df : d < 2 ^ 63) where
     left_small : unsigned_abs (left_of_sum x y) < 2 ^ 126

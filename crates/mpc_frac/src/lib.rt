@@ -406,10 +406,13 @@ impl Frac {
         ensures wide { MatchResult result (λ _. FitsSum self.now other.now)
             (λ _. ¬ FitsSum self.now other.now) }
     {
-        if self.den() == other.den() {
+        if self.is_whole() && other.is_whole() {
             return self.like_sum(other);
         }
-        self.unlike_sum(other)
+        match (self.short(), other.short()) {
+            (Some(left), Some(right)) => Ok(left.sum(right)),
+            _ => self.wide_sum(other),
+        }
     }
 
     /// The exact sum over the denominator of both.
@@ -427,19 +430,6 @@ impl Frac {
         Ok(cancelled(num, self.below(), self.below()))
     }
 
-    /// The exact sum of parts whose denominators differ.
-    #[inline(never)]
-    fn unlike_sum(&self, other: &Frac) -> Result<Frac, Wide>
-        ensures value { IfOk result (λ v. v ≡ self.now +ℚ other.now) }
-        ensures wide { MatchResult result (λ _. FitsSum self.now other.now)
-            (λ _. ¬ FitsSum self.now other.now) }
-    {
-        match (self.short(), other.short()) {
-            (Some(left), Some(right)) => Ok(left.sum(right)),
-            _ => self.wide_sum(other),
-        }
-    }
-
     /// The exact sum of parts of any width.
     #[inline(never)]
     fn wide_sum(&self, other: &Frac) -> Result<Frac, Wide>
@@ -447,6 +437,9 @@ impl Frac {
         ensures wide { MatchResult result (λ _. FitsSum self.now other.now)
             (λ _. ¬ FitsSum self.now other.now) }
     {
+        if self.den() == other.den() {
+            return self.like_sum(other);
+        }
         let divisor = greatest_common_divisor(self.below(), other.below());
         let left = part(self.below(), divisor);
         let right = part(other.below(), divisor);

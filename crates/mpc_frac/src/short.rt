@@ -118,11 +118,14 @@ fn cancelled(num: i128, den: u64, right: u64, divisor: u64) -> Frac
 impl Short {
     /// The sum. Only what the denominators share can cancel (Knuth, The Art of Computer
     /// Programming, volume 2, section 4.5.1).
-    #[inline]
+    #[inline(never)]
     pub(crate) fn sum(self, other: Short) -> Frac
         ensures value { result ≡ frac self.num self.den +ℚ frac other.num other.den }
         ensures fits { FitsSum (frac self.num self.den) (frac other.num other.den) }
     {
+        if self.den == other.den {
+            return self.like_sum(other);
+        }
         let divisor = short_divisor(self.den, other.den);
         if divisor == 1 {
             let num = cross_sum(self.num, other.den, other.num, self.den);
@@ -131,6 +134,17 @@ impl Short {
         let right = other.den / divisor;
         let num = cross_sum(self.num, right, other.num, self.den / divisor);
         cancelled(num, self.den, right, divisor)
+    }
+
+    /// The sum over the denominator of both.
+    #[inline]
+    fn like_sum(self, other: Short) -> Frac
+        requires { self.den ≡ other.den }
+        ensures value { result ≡ frac self.num self.den +ℚ frac other.num other.den }
+        ensures fits { FitsSum (frac self.num self.den) (frac other.num other.den) }
+    {
+        let num = self.num as i128 + other.num as i128;
+        cancelled(num, self.den, 1, self.den)
     }
 
     /// The product.
