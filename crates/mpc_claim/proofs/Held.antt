@@ -1,5 +1,6 @@
 -- The tickets in the hands of workers, as they move.
 use Rattle.std.proofs.Common.{◌≡◌, ◌≢◌, ℕ, ◌+◌, ◌-◌, ◌<◌, ◌≤◌, ◌⊎◌, List, [], ◌∷◌, ◌++◌, length, set, false, Contains, Option, None, Some, Result, Ok, Err, refl, sym, ap, ◌∙◌, subst, inl, inr, arith}
+use Rattle.std.specs.Prelude.{OnErr}
 use Rattle.std.proofs.lemmas.Bool.{cases_eq}
 use Rattle.std.proofs.lemmas.List.{append-nil, append_assoc, get_or-set_same, get_or-set_other, set-get_or}
 use Rattle.std.proofs.lemmas.List.Elements.{Contains-push_cases}
@@ -16,6 +17,7 @@ use Rattle.mpc_claim.specs.declared.moves.Played.TheVariants.{Got, Idle, Finishe
 use Rattle.mpc_claim.specs.Board.{Board, event, tag_of}
 use Rattle.mpc_claim.specs.History.{is_claim, claimed_sets, MayFollow, IsLegalAfter, IsLegal, IsOpen}
 use Rattle.mpc_claim.specs.Books.{IsSound, IsPhaseOf}
+use Rattle.mpc_claim.specs.Answers.{IsRefused}
 use Rattle.mpc_claim.specs.Moves.{ClaimMoves, DeliveryMoves, AbandonmentMoves}
 use Rattle.mpc_claim.specs.Hands.{Workplace, hand_at, IsHeld, HoldsOpen, IsReached}
 use Rattle.mpc_claim.proofs.Histories.{IsLegal-push, contains_claimed, no_set_claimed_twice, claimed_is_candidate}
@@ -45,6 +47,7 @@ none_claimed : ClaimsOnce []
 none_claimed s v w (i, p, e) c = absurd (omega arith)
 
 pub one_claim : (qp : Qp) (h : List Event) → IsLegal qp h → (s : List ℕ) (v w : ℕ) → Contains h (event v s Claim) → Contains h (event w s Claim) → v ≡ w
+unfolding IsLegal
 one_claim qp h legal s v w a b = once_after qp [] h legal none_claimed s v w a b
 
 -- no two hands hold one set
@@ -90,7 +93,18 @@ held_claim worker (Ok Dropped) old hand new later hands one last e k m = absurd 
 held_claim worker (Ok Skipped) old hand new later hands one last e k m =
     held_same new.program new.history hands (worker - 1) later (m.1.hand_is ∙ e) (subst (λ (b : Board). HoldsOpen b.program b.history hands) (sym m.1.registry) k)
 held_claim worker (Err refused) old hand new later hands one last e k m =
-    held_same new.program new.history hands (worker - 1) later (m.hand_is ∙ e) (subst (λ (b : Board). HoldsOpen b.program b.history hands) (sym m.registry) k)
+    held_same new.program new.history hands (worker - 1) later (m.2.hand_is ∙ e) (subst (λ (b : Board). HoldsOpen b.program b.history hands) (sym m.2.registry) k)
+
+abbrev place_of : Board → List (Option Ticket) → Workplace
+place_of registry hands = record { registry = registry; hands = hands }
+
+-- a refused claim leaves all as it was
+pub play_refused : (worker i : ℕ) (answer : Result Played NoMemory) (old : Board) (hand : Option Ticket) (new : Board) (later : Option Ticket) (hands : List (Option Ticket)) (place : Workplace) → hand ≡ hand_at hands i → record { registry = old; hands = hands } ≡ place → ClaimMoves worker answer old hand new later → OnErr answer ((record { registry = new; hands = set hands i later } ≡ place) × IsRefused place.registry)
+play_refused worker i (Ok played) old hand new later hands place e v m = tt
+play_refused worker i (Err refused) old hand new later hands place e v m = (
+  (λ j. place_of (m.2.registry j) ((ap (set hands i) (m.2.hand_is ∙ e) ∙ set-get_or hands i None) j)) ∙ v,
+  subst IsRefused (ap (λ (p : Workplace). p.registry) v) m.1,
+)
 
 -- ---- the end of a claim
 abbrev IsWithout : List (Option Ticket) → ℕ → List (Option Ticket) → Type 0

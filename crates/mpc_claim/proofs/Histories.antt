@@ -37,6 +37,10 @@ or_right : (a : Bool) → (a || true) ≡ true
 or_right true = refl
 or_right false = refl
 
+pub has_drop-append : (es fs : List Event) → has_drop (es ++ fs) ≡ (has_drop es || has_drop fs)
+has_drop-append [] fs = refl
+has_drop-append (x ∷ es) fs = ap (λ b. is_drop x.kind || b) (has_drop-append es fs) ∙ or_assoc (is_drop x.kind) (has_drop es) (has_drop fs)
+
 pub has_drop-push : (es : List Event) (e : Event) → has_drop (es ++ e ∷ []) ≡ (has_drop es || is_drop e.kind)
 has_drop-push [] e = or_none (is_drop e.kind)
 has_drop-push (x ∷ es) e = ap (λ b. is_drop x.kind || b) (has_drop-push es e) ∙ or_assoc (is_drop x.kind) (has_drop es) (is_drop e.kind)
@@ -66,7 +70,7 @@ pub IsDone-more : (es fs : List Event) (s : List ℕ) (tag : Tag) → IsDone es 
 IsDone-more es fs s tag d = record { worker = d.worker; delivery = Contains-append_left es fs (event d.worker s (Done tag)) d.delivery }
 
 -- a delivered set is ended, and so is one that was given up
-contains_ended : (es : List Event) (w : ℕ) (s : List ℕ) (kind : EventKind) → is_claim kind ≡ false → (i : ℕ) → i < length es → get_or es i (event w s kind) ≡ event w s kind → Contains (ended_sets es) s
+pub contains_ended : (es : List Event) (w : ℕ) (s : List ℕ) (kind : EventKind) → is_claim kind ≡ false → (i : ℕ) → i < length es → get_or es i (event w s kind) ≡ event w s kind → Contains (ended_sets es) s
 contains_ended [] w s kind e i p q = absurd (omega arith)
 contains_ended (x ∷ es) w s kind e zero p q =
     let k : is_claim x.kind ≡ false = ap (λ (y : Event). is_claim y.kind) q ∙ e in
@@ -98,7 +102,21 @@ IsLegalAfter-push qp past [] e h m = (subst (λ p. MayFollow qp p e.worker e.set
 IsLegalAfter-push qp past (x ∷ es) e h m = (h.0, IsLegalAfter-push qp (past ++ x ∷ []) es e h.1 (subst (λ p. MayFollow qp p e.worker e.set e.kind) (sym (append_assoc past (x ∷ []) es)) m))
 
 pub IsLegal-push : (qp : Qp) (es : List Event) (e : Event) → IsLegal qp es → MayFollow qp es e.worker e.set e.kind → IsLegal qp (es ++ e ∷ [])
+unfolding IsLegal
 IsLegal-push qp es e h m = IsLegalAfter-push qp [] es e h m
+
+pub legal_nothing : (qp : Qp) → IsLegal qp []
+unfolding IsLegal
+legal_nothing qp = tt
+
+-- what comes last may follow what is before it
+IsLegalAfter-last : (qp : Qp) (past es : List Event) (e : Event) → IsLegalAfter qp past (es ++ e ∷ []) → MayFollow qp (past ++ es) e.worker e.set e.kind
+IsLegalAfter-last qp past [] e h = subst (λ p. MayFollow qp p e.worker e.set e.kind) (sym (append-nil past)) h.0
+IsLegalAfter-last qp past (x ∷ es) e h = subst (λ p. MayFollow qp p e.worker e.set e.kind) (append_assoc past (x ∷ []) es) (IsLegalAfter-last qp (past ++ x ∷ []) es e h.1)
+
+pub IsLegal-last : (qp : Qp) (es : List Event) (e : Event) → IsLegal qp (es ++ e ∷ []) → MayFollow qp es e.worker e.set e.kind
+unfolding IsLegal
+IsLegal-last qp es e h = IsLegalAfter-last qp [] es e h
 
 -- a beginning of a legal history is legal
 pub IsLegalAfter-front : (qp : Qp) (past es fs : List Event) → IsLegalAfter qp past (es ++ fs) → IsLegalAfter qp past es
@@ -106,6 +124,7 @@ IsLegalAfter-front qp past [] fs h = tt
 IsLegalAfter-front qp past (x ∷ es) fs h = (h.0, IsLegalAfter-front qp (past ++ x ∷ []) es fs h.1)
 
 pub IsLegal-front : (qp : Qp) (es fs : List Event) → IsLegal qp (es ++ fs) → IsLegal qp es
+unfolding IsLegal
 IsLegal-front qp es fs h = IsLegalAfter-front qp [] es fs h
 
 -- a legal history claims no set twice
@@ -124,6 +143,7 @@ claims_differ qp past (e ∷ es) h d =
     step Drop m = subst (AllPairs (λ (t u : List ℕ). t ≢ u)) (sym (claimed-end past e.worker e.set Drop refl)) d
 
 pub no_set_claimed_twice : (qp : Qp) (es : List Event) → IsLegal qp es → AllPairs (λ (t u : List ℕ). t ≢ u) (claimed_sets es)
+unfolding IsLegal
 no_set_claimed_twice qp es h = claims_differ qp [] es h (λ i j d p q. absurd (omega arith))
 
 ends_differ : (qp : Qp) (past es : List Event) → IsLegalAfter qp past es → AllPairs (λ (t u : List ℕ). t ≢ u) (ended_sets past) → AllPairs (λ (t u : List ℕ). t ≢ u) (ended_sets (past ++ es))
@@ -139,6 +159,7 @@ ends_differ qp past (e ∷ es) h d =
 
 -- nor ends one twice
 pub no_set_ended_twice : (qp : Qp) (es : List Event) → IsLegal qp es → AllPairs (λ (t u : List ℕ). t ≢ u) (ended_sets es)
+unfolding IsLegal
 no_set_ended_twice qp es h = ends_differ qp [] es h (λ i j d p q. absurd (omega arith))
 
 -- ---- what is ended was claimed
@@ -179,6 +200,7 @@ ended_claimed qp past (e ∷ es) s h f c =
     step Drop m c = ended_now Drop refl m c
 
 pub ended_was_claimed : (qp : Qp) (es : List Event) (s : List ℕ) → IsLegal qp es → Contains (ended_sets es) s → Contains (claimed_sets es) s
+unfolding IsLegal
 ended_was_claimed qp es s h c = ended_claimed qp [] es s h (λ d. d) c
 
 -- a claimed set was claimed by some worker
@@ -212,6 +234,7 @@ claimed_candidates qp past (e ∷ es) h f s c = claimed_candidates qp (past ++ e
     step Drop m t d = f t (subst (λ u. Contains u t) (claimed-end past e.worker e.set Drop refl) d)
 
 pub claimed_is_candidate : (qp : Qp) (es : List Event) (s : List ℕ) → IsLegal qp es → Contains (claimed_sets es) s → IsCandidate qp s
+unfolding IsLegal
 claimed_is_candidate qp es s h c = claimed_candidates qp [] es h (λ t d. absurd (none t d)) s c
   where
     none : (t : List ℕ) → Contains [] t → ⊥

@@ -14,3 +14,5 @@ pub mod Opens
 pub mod Held
 pub mod Emptied
 pub mod HistoryLaws
+pub mod OpenClaims
+pub mod AnswerLaws

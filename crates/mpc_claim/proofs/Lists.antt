@@ -11,10 +11,28 @@ use Rattle.std.specs.Ordering.{nat_cmp, ordering_then}
 use Rattle.std.specs.Cmp.Lexicographic.{slice_cmp}
 use Rattle.std.specs.declared.cmp.Ordering.{Ordering}
 use Rattle.std.specs.declared.cmp.Ordering.TheVariants.{Less, Equal, Greater}
-use Rattle.mpc_sets.specs.SetOrder.{tied_numbers}
-use Rattle.mpc_sets.proofs.SetOrders.{IsBefore-irrefl, IsBefore-trans, numbers_less, less_numbers}
+use Rattle.mpc_sets.specs.SetOrder.{set_cmp-total, tied_numbers}
+use Rattle.std.specs.Cmp.{tied_itself, ranks}
+use Rattle.std.proofs.lemmas.Bool.{lt-ltb}
+use Rattle.std.proofs.lemmas.Cmp.{by_ranked}
 use Rattle.mpc_claim.specs.declared.candidates.Candidate.{Candidate}
 use Rattle.mpc_claim.specs.Board.{at, sets_of, waiting}
+
+-- ---- the order of sets and of numbers
+less_tied : Less ≡ Equal → ⊥
+less_tied e = cc
+
+pub IsBefore-irrefl : (s : List ℕ) → IsBefore s s → ⊥
+IsBefore-irrefl s h = less_tied (sym h ∙ tied_itself set_cmp-total s)
+
+IsBefore-trans : (s t u : List ℕ) → IsBefore s t → IsBefore t u → IsBefore s u
+IsBefore-trans s t u h k = set_cmp-total.trans s t u h k
+
+less_numbers : (i j : ℕ) → i < j → nat_cmp i j ≡ Less
+less_numbers i j h = rw (lt-ltb i j h)
+
+numbers_less : (i j : ℕ) → nat_cmp i j ≡ Less → i < j
+numbers_less i j e = by_ranked (i < j) (i ≡ j) (j < i) (nat_cmp i j) (ranks i j) (λ _ h. h) (λ f _. cc) (λ f _. cc)
 
 -- ---- the sets of candidates
 pub set_at : (cs : List Candidate) (i : ℕ) → get_or (sets_of cs) i [] ≡ (at cs i).set

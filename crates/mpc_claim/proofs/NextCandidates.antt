@@ -4,8 +4,7 @@ use Rattle.mpc_space.specs.Matrix.{height}
 use Rattle.mpc_sets.specs.RowSet.{IsSetOfRows, without_row}
 use Rattle.mpc_sets.specs.SetOrder.{IsInOrder}
 use Rattle.mpc_sets.specs.NextLevel.{IsNextOf}
-use Rattle.mpc_sets.proofs.Joining.{next_without, lacks_row}
-use Rattle.mpc_sets.proofs.RowSets.{length-without_row}
+use Rattle.mpc_sets.specs.SetLaws.{MemberLaws, GivenWithoutOne}
 use Rattle.mpc_rows.specs.declared.programs.Qp.{Qp}
 use Rattle.mpc_rows.specs.Candidates.{IsCandidateOf, IsCandidate}
 use Rattle.mpc_claim.specs.Levels.{HoldsGrown, HoldsCandidates}
@@ -29,12 +28,12 @@ pub candidate_few : (qp : Qp) (s : List ℕ) → IsCandidate qp s → length s �
 candidate_few qp [] h = omega arith
 candidate_few qp (i ∷ s) h = h.2
 
-pub next_is_candidate : (qp : Qp) (k : ℕ) (grown : List (List ℕ)) (s : List ℕ) → HoldsGrown qp k grown → k + 1 ≤ height qp.h → IsNextOf grown (height qp.g) s → IsCandidateOf (suc k) qp s
-next_is_candidate qp k grown [] h few n = absurd (omega (arith, n.has_member))
-next_is_candidate qp k grown (i ∷ s) h few n =
-    let smaller = h.are (without_row i (i ∷ s)) (next_without grown (height qp.g) (i ∷ s) i n (inl refl)) in
+pub next_is_candidate : MemberLaws → GivenWithoutOne → (qp : Qp) (k : ℕ) (grown : List (List ℕ)) (s : List ℕ) → HoldsGrown qp k grown → k + 1 ≤ height qp.h → IsNextOf grown (height qp.g) s → IsCandidateOf (suc k) qp s
+next_is_candidate members level qp k grown [] h few n = absurd (omega (arith, n.has_member))
+next_is_candidate members level qp k grown (i ∷ s) h few n =
+    let smaller = h.are (without_row i (i ∷ s)) (level grown (height qp.g) i (i ∷ s) n (inl refl)) in
     let size = size_of_candidate k qp (without_row i (i ∷ s)) smaller.0 in
-    let long = length-without_row i 0 (height qp.g) (i ∷ s) n.is_set.rises (inl refl) in
+    let long = members.one_fewer 0 (height qp.g) i (i ∷ s) n.is_set.rises (inl refl) in
     (n.is_set, omega (arith, size, long), omega arith, λ t rows lacks. h.are t (n.subsets t rows lacks))
 
 pub candidate_is_next : (qp : Qp) (k : ℕ) (grown : List (List ℕ)) (s : List ℕ) → HoldsGrown qp k grown → IsCandidateOf (suc k) qp s → IsNextOf grown (height qp.g) s
@@ -45,24 +44,24 @@ candidate_is_next qp k grown s h c = record {
 }
 
 -- where no set of size k + 1 is a candidate, none of a greater size is
-smaller_candidate : (qp : Qp) (k : ℕ) (s : List ℕ) → IsCandidateOf (suc (suc k)) qp s → (t : List ℕ) × IsCandidateOf (suc k) qp t
-smaller_candidate qp k [] c = absurd (let e = c.1 in omega (arith, e))
-smaller_candidate qp k (i ∷ s) c =
-    let l = lacks_row (height qp.g) (i ∷ s) i c.0 (inl refl) in
+smaller_candidate : MemberLaws → (qp : Qp) (k : ℕ) (s : List ℕ) → IsCandidateOf (suc (suc k)) qp s → (t : List ℕ) × IsCandidateOf (suc k) qp t
+smaller_candidate members qp k [] c = absurd (let e = c.1 in omega (arith, e))
+smaller_candidate members qp k (i ∷ s) c =
+    let l = members.lacks_one (height qp.g) i (i ∷ s) c.0 (inl refl) in
     (without_row i (i ∷ s), (c.3 (without_row i (i ∷ s)) l.0 l.1).0)
 
-pub none_greater : (qp : Qp) (k : ℕ) → ((s : List ℕ) → IsCandidateOf (suc k) qp s → ⊥) → (s : List ℕ) (d : ℕ) → IsCandidateOf (suc (d + k)) qp s → ⊥
-none_greater qp k none s zero h = let e : 0 + k ≡ k = omega arith in none s (subst (λ n. IsCandidateOf (suc n) qp s) e h)
-none_greater qp k none s (suc d) h =
+pub none_greater : MemberLaws → (qp : Qp) (k : ℕ) → ((s : List ℕ) → IsCandidateOf (suc k) qp s → ⊥) → (s : List ℕ) (d : ℕ) → IsCandidateOf (suc (d + k)) qp s → ⊥
+none_greater members qp k none s zero h = let e : 0 + k ≡ k = omega arith in none s (subst (λ n. IsCandidateOf (suc n) qp s) e h)
+none_greater members qp k none s (suc d) h =
     let e : suc d + k ≡ suc (d + k) = omega arith in
-    let t = smaller_candidate qp (d + k) s (subst (λ n. IsCandidateOf (suc n) qp s) e h) in
-    none_greater qp k none t.0 d t.1
+    let t = smaller_candidate members qp (d + k) s (subst (λ n. IsCandidateOf (suc n) qp s) e h) in
+    none_greater members qp k none t.0 d t.1
 
 -- what `next_level` answers are the candidates of the next size
-pub next_are_candidates : (qp : Qp) (k : ℕ) (grown sets : List (List ℕ)) → HoldsGrown qp k grown → k + 1 ≤ height qp.h → IsInOrder sets → ((s : List ℕ) → Contains sets s ↔ IsNextOf grown (height qp.g) s) → HoldsCandidates qp (suc k) sets
-next_are_candidates qp k grown sets h few order f = record {
+pub next_are_candidates : MemberLaws → GivenWithoutOne → (qp : Qp) (k : ℕ) (grown sets : List (List ℕ)) → HoldsGrown qp k grown → k + 1 ≤ height qp.h → IsInOrder sets → ((s : List ℕ) → Contains sets s ↔ IsNextOf grown (height qp.g) s) → HoldsCandidates qp (suc k) sets
+next_are_candidates members level qp k grown sets h few order f = record {
   in_order = order;
-  are = λ s c. next_is_candidate qp k grown s h few ((f s).0 c);
+  are = λ s c. next_is_candidate members level qp k grown s h few ((f s).0 c);
   complete = λ s c. (f s).1 (candidate_is_next qp k grown s h c);
 }
 

@@ -7,6 +7,7 @@ use Rattle.std.proofs.lemmas.Bool.{cases_lt}
 use Rattle.std.proofs.lemmas.List.{length-append, length-drop, get_or_append_left, get_or-drop, get_or_default, map-append, take-append-le}
 use Rattle.std.proofs.lemmas.List.Elements.{Contains-get_or, Contains-append_left, Contains-append_right, Contains-append_cases}
 use Rattle.std.proofs.lemmas.List.Sums.{sum_by-append}
+use Rattle.mpc_sets.specs.SetLaws.{MemberLaws}
 use Rattle.mpc_sets.specs.SetOrder.{IsBefore, IsInOrder}
 use Rattle.mpc_sets.specs.NextLevel.{IsLevel}
 use Rattle.mpc_rows.specs.declared.programs.Qp.{Qp}
@@ -116,12 +117,12 @@ module _ (qp : Qp) (cs : List Candidate) (settled n pending size : ℕ) (h : Lis
   }
 
   -- where no candidate has a greater size, all have their places
-  pub complete_at_end : IsLineup qp (sets_of cs) settled size → HoldsCandidates qp (suc size) [] → (s : List ℕ) → IsCandidate qp s → Contains (sets_of cs) s
-  complete_at_end lineup none s c = elim (cases_lt size (length s)) [
+  pub complete_at_end : MemberLaws → IsLineup qp (sets_of cs) settled size → HoldsCandidates qp (suc size) [] → (s : List ℕ) → IsCandidate qp s → Contains (sets_of cs) s
+  complete_at_end members lineup none s c = elim (cases_lt size (length s)) [
     | inr l ↦ lineup.complete s c l
     | inl l ↦
         let back : length s ≡ suc (length s - size - 1 + size) = omega (arith, l) in
-        absurd (none_greater qp size (λ t d. nothing t (none.complete t d)) s (length s - size - 1) (subst (λ m. IsCandidateOf m qp s) back c))
+        absurd (none_greater members qp size (λ t d. nothing t (none.complete t d)) s (length s - size - 1) (subst (λ m. IsCandidateOf m qp s) back c))
   ]
     where
       nothing : (t : List ℕ) → Contains [] t → ⊥
@@ -211,13 +212,13 @@ kept_level qp cs sets settled n pending size h capacity k all quiet next some = 
   room = k.room;
 }
 
-pub kept_finished : (qp : Qp) (cs : List Candidate) (settled n pending size : ℕ) (h : List Event) (capacity : ℕ) → IsKept qp cs settled n pending size Working h capacity → ((i : ℕ) → i < length cs → IsQuiet (at cs i).slot) → HoldsCandidates qp (suc size) [] → IsKept qp cs settled n pending size Finished h capacity
-kept_finished qp cs settled n pending size h capacity k quiet none = record {
+pub kept_finished : MemberLaws → (qp : Qp) (cs : List Candidate) (settled n pending size : ℕ) (h : List Event) (capacity : ℕ) → IsKept qp cs settled n pending size Working h capacity → ((i : ℕ) → i < length cs → IsQuiet (at cs i).slot) → HoldsCandidates qp (suc size) [] → IsKept qp cs settled n pending size Finished h capacity
+kept_finished members qp cs settled n pending size h capacity k quiet none = record {
   definite = k.definite;
   legal = k.legal;
   lineup = k.lineup;
   slots = k.slots;
-  phase_fits = record { no_drop = k.phase_fits; quiet = quiet; complete = complete_at_end qp cs settled n pending size h k.lineup none };
+  phase_fits = record { no_drop = k.phase_fits; quiet = quiet; complete = complete_at_end qp cs settled n pending size h members k.lineup none };
   room = k.room;
 }
 

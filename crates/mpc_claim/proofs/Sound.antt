@@ -145,8 +145,8 @@ module _ (qp : Qp) (cs : List Candidate) (settled n pending size : ℕ) (h : Lis
   sound phase capacity k = record {
     definite = k.definite;
     legal = k.legal;
-    in_order = k.lineup.in_order;
-    are_candidates = k.lineup.candidates;
+    size = size;
+    lineup = k.lineup;
     slots = slots_shown k.lineup k.slots;
     open_slots = λ ticket o.
         let s = open_slot qp cs settled n pending h ticket k.slots o in

@@ -4,8 +4,7 @@ use Rattle.std.proofs.lemmas.List.{length-append}
 use Rattle.std.proofs.lemmas.List.Elements.{Contains-push, Contains-get_or}
 use Rattle.mpc_space.specs.Matrix.{height}
 use Rattle.mpc_sets.specs.RowSet.{RisesWithin}
-use Rattle.mpc_sets.proofs.Counting.{length-sets-of_sixty}
-use Rattle.mpc_sets.proofs.SetOrders.{IsBefore-irrefl}
+use Rattle.mpc_sets.specs.SetLaws.{AreAtMost}
 use Rattle.mpc_sets.specs.SetOrder.{IsBefore, IsInOrder}
 use Rattle.mpc_rows.specs.declared.programs.Qp.{Qp}
 use Rattle.mpc_rows.specs.declared.verdicts.Verdict.{Verdict}
@@ -23,7 +22,7 @@ use Rattle.mpc_claim.specs.declared.tickets.Ticket.{Ticket}
 use Rattle.mpc_claim.specs.Board.{at, candidate, event, sets_of, tag_of}
 use Rattle.mpc_claim.specs.History.{is_claim, ended_sets, has_drop, MayFollow, IsOpen, IsLegal}
 use Rattle.mpc_claim.specs.Books.{open_in, IsBegun, IsLineup, HasSlots, HasPhase, IsComplete, HasBad, IsKept}
-use Rattle.mpc_claim.proofs.Lists.{set_at, length-sets_of, sets_of-set, fresh_at}
+use Rattle.mpc_claim.proofs.Lists.{IsBefore-irrefl, set_at, length-sets_of, sets_of-set, fresh_at}
 use Rattle.mpc_claim.proofs.Histories.{has_drop-same, has_drop-drop, IsLegal-push, ended_was_claimed}
 use Rattle.mpc_claim.proofs.NextCandidates.{candidate_rows, candidate_few}
 use Rattle.mpc_claim.proofs.Slots.{slots_after_claim, slots_after_end, open_slot, HasOpenSlot, not_claimed_done}
@@ -34,9 +33,9 @@ pub rises_to : (low high to : ℕ) (s : List ℕ) → high ≤ to → RisesWithi
 rises_to low high to [] l h = tt
 rises_to low high to (i ∷ s) l h = let b = h.1 in (h.0, omega arith, rises_to i high to s l h.2)
 
-pub few_candidates : (qp : Qp) (sets : List (List ℕ)) → IsInOrder sets → ((s : List ℕ) → Contains sets s → IsCandidate qp s) → length sets < 2 ^ 26
-few_candidates qp sets order are =
-    let some : length sets ≤ 56049058 = length-sets-of_sixty sets
+pub few_candidates : AreAtMost 60 6 56049058 → (qp : Qp) (sets : List (List ℕ)) → IsInOrder sets → ((s : List ℕ) → Contains sets s → IsCandidate qp s) → length sets < 2 ^ 26
+few_candidates most_sets qp sets order are =
+    let some : length sets ≤ 56049058 = most_sets sets
     (λ i j d p q e. IsBefore-irrefl (get_or sets j d) (subst (λ u. IsBefore u (get_or sets j d)) e (order i j d p q)))
     (λ i d p. let rows = candidate_rows qp (get_or sets i d) (are (get_or sets i d) (Contains-get_or sets i d p)) in record { rises = rises_to 0 (height qp.g) 60 (get_or sets i d) qp.is_program.few_rows rows.rises })
     (λ i d p. let few = candidate_few qp (get_or sets i d) (are (get_or sets i d) (Contains-get_or sets i d p)) in let most = qp.is_program.few_unknowns in omega arith)

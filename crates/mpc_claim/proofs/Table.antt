@@ -13,7 +13,7 @@ use Rattle.mpc_rows.specs.Laws.{HasRegion}
 use Rattle.mpc_rows.specs.Candidates.{IsCandidate, IsVerdict, IsTable}
 use Rattle.mpc_rows.specs.SetRuns.{LawRowsFit}
 use Rattle.mpc_rows.specs.Verdicts.{IsRight}
-use Rattle.mpc_rows.proofs.LawLemmas.{law_unique}
+use Rattle.mpc_rows.specs.LawLaws.{OneLaw}
 use Rattle.mpc_claim.specs.declared.events.Event.{Event}
 use Rattle.mpc_claim.specs.declared.candidates.Candidate.{Candidate}
 use Rattle.mpc_claim.specs.declared.candidates.Slot.{Slot}
@@ -123,23 +123,23 @@ laws_in_order (c ∷ cs) f h = go c.slot refl (laws_in_order cs (names_tail c cs
 begun_law : (qp : Qp) (h : List Event) (i : ℕ) (s : List ℕ) (slot : Slot) (law : Law) → IsBegun qp h i s slot → slot ≡ Done (Region law) → IsVerdict qp s (Region law)
 begun_law qp h i s slot law b e = (subst (IsBegun qp h i s) e b).0.0
 
-pub verdict_of_law : (qp : Qp) (law : Law) (v : Verdict) → IsDefinite qp.h.rows → IsRight qp law.set v → IsVerdict qp law.set (Region law) → is_wide v ≡ false → v ≡ Region law
-verdict_of_law qp law Dependent d r t q = absurd (r.0 t.0.independent)
-verdict_of_law qp law Unreachable d r t q = absurd (r.0.1 t.0.reachable)
-verdict_of_law qp law Hollow d r t q =
+pub verdict_of_law : OneLaw → (qp : Qp) (law : Law) (v : Verdict) → IsDefinite qp.h.rows → IsRight qp law.set v → IsVerdict qp law.set (Region law) → is_wide v ≡ false → v ≡ Region law
+verdict_of_law law_unique qp law Dependent d r t q = absurd (r.0 t.0.independent)
+verdict_of_law law_unique qp law Unreachable d r t q = absurd (r.0.1 t.0.reachable)
+verdict_of_law law_unique qp law Hollow d r t q =
     let other = r.0.1 in
     absurd (other.holds (subst (HasRegion qp) (law_unique qp d law other.law t.2 other.is_law (sym other.of_set) t.0.independent) t.3))
-verdict_of_law qp law (Region other) d r t q = ap Region (sym (law_unique qp d law other t.2 r.0.2 (sym r.0.1) t.0.independent))
-verdict_of_law qp law (Wide place) d r t q = absurd (cc)
+verdict_of_law law_unique qp law (Region other) d r t q = ap Region (sym (law_unique qp d law other t.2 r.0.2 (sym r.0.1) t.0.independent))
+verdict_of_law law_unique qp law (Wide place) d r t q = absurd (cc)
 
-slot_of_law : (qp : Qp) (h : List Event) (i : ℕ) (law : Law) (slot : Slot) → IsDefinite qp.h.rows → IsBegun qp h i law.set slot → IsQuiet slot → IsVerdict qp law.set (Region law) → slot ≡ Done (Region law)
-slot_of_law qp h i law Waiting d b q t = absurd b
-slot_of_law qp h i law (Claimed number) d b q t = let e = q.done in absurd (cc)
-slot_of_law qp h i law (Done v) d b q t = ap Done (verdict_of_law qp law v d b.0 t q.not_bad)
-slot_of_law qp h i law Dropped d b q t = let e = q.done in absurd (cc)
+slot_of_law : OneLaw → (qp : Qp) (h : List Event) (i : ℕ) (law : Law) (slot : Slot) → IsDefinite qp.h.rows → IsBegun qp h i law.set slot → IsQuiet slot → IsVerdict qp law.set (Region law) → slot ≡ Done (Region law)
+slot_of_law law_unique qp h i law Waiting d b q t = absurd b
+slot_of_law law_unique qp h i law (Claimed number) d b q t = let e = q.done in absurd (cc)
+slot_of_law law_unique qp h i law (Done v) d b q t = ap Done (verdict_of_law law_unique qp law v d b.0 t q.not_bad)
+slot_of_law law_unique qp h i law Dropped d b q t = let e = q.done in absurd (cc)
 
-pub is_table : (qp : Qp) (cs : List Candidate) (settled n pending size : ℕ) (h : List Event) → IsDefinite qp.h.rows → IsLineup qp (sets_of cs) settled size → HasSlots qp cs settled n pending h → IsComplete qp cs h → IsTable qp (laws_of cs)
-is_table qp cs settled n pending size h definite lineup k complete = record {
+pub is_table : OneLaw → (qp : Qp) (cs : List Candidate) (settled n pending size : ℕ) (h : List Event) → IsDefinite qp.h.rows → IsLineup qp (sets_of cs) settled size → HasSlots qp cs settled n pending h → IsComplete qp cs h → IsTable qp (laws_of cs)
+is_table law_unique qp cs settled n pending size h definite lineup k complete = record {
   in_order = laws_in_order cs names lineup.in_order;
   are_laws = λ law c.
       let a = place_of_law cs law c in
@@ -151,7 +151,7 @@ is_table qp cs settled n pending size h definite lineup k complete = record {
       };
   complete = λ law l.
       let (i, p, e) = place_of cs law.set (complete.complete law.set l.candidate) in
-      contains_law cs i law p (slot_of_law qp h i law (at cs i).slot definite (subst (λ s. IsBegun qp h i s (at cs i).slot) e (k.begun i (all i p))) (complete.quiet i p) l.verdict);
+      contains_law cs i law p (slot_of_law law_unique qp h i law (at cs i).slot definite (subst (λ s. IsBegun qp h i s (at cs i).slot) e (k.begun i (all i p))) (complete.quiet i p) l.verdict);
 }
   where
     all : (i : ℕ) → i < length cs → i < n

@@ -13,7 +13,7 @@ use Rattle.mpc_claim.specs.declared.tickets.Ticket.{Ticket}
 use Rattle.mpc_claim.specs.declared.tickets.Claimed.{Claimed}
 use Rattle.mpc_claim.specs.declared.tickets.Claimed.TheVariants.{Job, Idle, Finished as FinishedAnswer, Stopped as StoppedAnswer}
 use Rattle.mpc_claim.specs.Board.{Board, at, event, candidate, sets_of, tag_of, is_wide}
-use Rattle.mpc_claim.specs.History.{claimed_sets, has_drop, MayClaim, IsOpen, IsFinished, EndsWide}
+use Rattle.mpc_claim.specs.History.{claimed_sets, has_drop, MayClaim, IsOpen, IsFinished, IsIdle, EndsWide, WantsMemory}
 use Rattle.mpc_claim.specs.Books.{is_bad, IsSound}
 
 -- the least waiting candidate is given out under the next number, and all else in the history stays
@@ -29,19 +29,22 @@ pub record GivesJob (old : Board) (worker : ℕ) (ticket : Ticket) (new : Board)
   pub sound : IsSound new
 
 -- all candidates of the level are claimed, and one of them isn't ended
-pub record IsIdle (board : Board) : Type 0 where
+pub record FindsIdle (board : Board) : Type 0 where
   pub working : board.phase ≡ Working
-  pub all_claimed : (s : List ℕ) → Contains (sets_of board.candidates) s → Contains (claimed_sets board.history) s
-  pub ticket : Ticket
-  pub open_still : IsOpen board.history ticket
+  pub idle : IsIdle board.program board.history
+
+-- memory may be wanted only where a set is given out or the next level is formed
+pub record IsRefused (board : Board) : Type 0 where
+  pub working : board.phase ≡ Working
+  pub wants : WantsMemory board.program board.history
 
 -- the cases of a claim, by its answer
 abbrev pub Claims : Board → ℕ → Result Claimed NoMemory → Board → Type 0
 Claims old worker (Ok (Job ticket)) new = GivesJob old worker ticket new
-Claims old worker (Ok Idle) new = (new ≡ old) × IsIdle old
+Claims old worker (Ok Idle) new = (new ≡ old) × FindsIdle old
 Claims old worker (Ok FinishedAnswer) new = (new ≡ record old { phase = Finished }) × IsFinished old.program old.history
 Claims old worker (Ok StoppedAnswer) new = (new ≡ record old { phase = Stopped }) × ((has_drop old.history ≡ true) ⊎ EndsWide old.program old.history)
-Claims old worker (Err refused) new = new ≡ old
+Claims old worker (Err refused) new = (new ≡ old) × IsRefused old
 
 -- the ticket's slot holds the verdict, and its delivery is the last event
 abbrev pub delivered : Board → Ticket → Verdict → Board

@@ -102,7 +102,8 @@ pub record IsKept (qp : Qp) (candidates : List Candidate) (settled claims open_s
   pub phase_fits : HasPhase qp candidates history phase
   pub room : length history + open_slots ≤ capacity
 
--- The same facts as callers see them: the candidates and slots are those of the history, and so is the phase.
+-- The same facts as callers see them: the listed sets are all candidates up to the size of the last level, each slot is what the history makes
+-- of it, and so is the phase.
 abbrev pub IsPhaseOf : Qp → List Event → Phase → Type 0
 IsPhaseOf qp history Working = has_drop history ≡ false
 IsPhaseOf qp history Finished = IsFinished qp history
@@ -116,8 +117,8 @@ pub record IsClaimedSlot (candidates : List Candidate) (ticket : Ticket) : Type 
 pub record IsSound (board : Board) : Type 0 where
   pub definite : IsDefinite board.program.h.rows
   pub legal : IsLegal board.program board.history
-  pub in_order : IsInOrder (sets_of board.candidates)
-  pub are_candidates : (s : List ℕ) → Contains (sets_of board.candidates) s → IsCandidate board.program s
+  pub size : ℕ
+  pub lineup : IsLineup board.program (sets_of board.candidates) board.settled size
   pub slots : (i : ℕ) → i < length board.candidates → IsSlotOf board.program board.history i (at board.candidates i).set (at board.candidates i).slot
   pub open_slots : (ticket : Ticket) → IsOpen board.history ticket → IsClaimedSlot board.candidates ticket
   pub phase_is : IsPhaseOf board.program board.history board.phase

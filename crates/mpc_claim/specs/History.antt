@@ -1,5 +1,5 @@
 -- Histories of claims and deliveries over the candidates of a program: which are legal, and where they have come to.
-use Rattle.std.specs.Prelude.{◌≡◌, ◌≢◌, ℕ, ◌-◌, ◌<◌, ◌≤◌, List, [], ◌∷◌, ◌++◌, length, Bool, true, false, ◌||◌, if◌then◌else◌, Contains, Some, slice_get}
+use Rattle.std.specs.Prelude.{◌≡◌, ◌≢◌, ℕ, ◌-◌, ◌<◌, ◌≤◌, ◌⊎◌, List, [], ◌∷◌, ◌++◌, length, Bool, true, false, ◌||◌, if◌then◌else◌, Contains, Some, slice_get}
 use Rattle.mpc_sets.specs.SetOrder.{IsBefore}
 use Rattle.mpc_rows.specs.declared.programs.Qp.{Qp}
 use Rattle.mpc_rows.specs.declared.verdicts.Verdict.{Verdict}
@@ -78,8 +78,8 @@ abbrev pub IsLegalAfter : Qp → List Event → List Event → Type 0
 IsLegalAfter qp past [] = Unit {0}
 IsLegalAfter qp past (e ∷ es) = MayFollow qp past e.worker e.set e.kind × IsLegalAfter qp (past ++ e ∷ []) es
 
--- each event may follow those before it
-abbrev pub IsLegal : Qp → List Event → Type 0
+-- each event may follow those before it; the laws of histories say all that is needed of it
+unfoldable pub IsLegal : Qp → List Event → Type 0
 IsLegal qp history = IsLegalAfter qp [] history
 
 -- the ticket stands for a claim of its worker, the one of its number, whose set is neither delivered nor given up
@@ -104,3 +104,24 @@ pub record EndsWide (qp : Qp) (past : List Event) : Type 0 where
   pub of_size : length bad ≡ size
   pub candidate : IsCandidate qp bad
   pub wide : IsDone past bad Wide
+
+-- a set is claimed and not ended, all candidates with no more members than it are claimed, and none was given up
+pub record IsIdle (qp : Qp) (past : List Event) : Type 0 where
+  pub no_drop : has_drop past ≡ false
+  pub worker : ℕ
+  pub set : List ℕ
+  pub open_still : MayEnd past worker set
+  pub all_claimed : (t : List ℕ) → IsCandidate qp t → length t ≤ length set → Contains (claimed_sets past) t
+
+-- The last level, whose sets have as many members as the last claimed one, is done with no wide verdict: all candidates up to its size are
+-- settled, and none was given up.
+pub record EndsQuiet (qp : Qp) (past : List Event) : Type 0 where
+  pub no_drop : has_drop past ≡ false
+  pub last : List ℕ
+  pub last_claimed : Contains (claimed_sets past) last
+  pub greatest : (s : List ℕ) → Contains (claimed_sets past) s → length s ≤ length last
+  pub settled : (s : List ℕ) → IsCandidate qp s → length s ≤ length last → IsSettled past s
+
+-- a candidate may be claimed, or the next level is formed
+abbrev pub WantsMemory : Qp → List Event → Type 0
+WantsMemory qp past = ((s : List ℕ) × MayClaim qp past s) ⊎ EndsQuiet qp past

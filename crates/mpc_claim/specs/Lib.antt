@@ -1,5 +1,6 @@
 pub mod Board
 pub mod History
+pub mod OpenClaims
 pub mod Answers
 pub mod Books
 pub mod Levels

@@ -12,7 +12,7 @@ use Rattle.mpc_claim.specs.declared.moves.Action.TheVariants.{Claim, Deliver, Ab
 use Rattle.mpc_claim.specs.declared.moves.Played.{Played}
 use Rattle.mpc_claim.specs.declared.moves.Played.TheVariants.{Got, Idle, Finished, Stopped, Delivered, Dropped, Skipped}
 use Rattle.mpc_claim.specs.Board.{Board}
-use Rattle.mpc_claim.specs.Answers.{Claims, delivered, abandoned}
+use Rattle.mpc_claim.specs.Answers.{Claims, IsRefused, delivered, abandoned}
 
 -- the hand has the ticket of this set
 abbrev pub HoldsSet : Option Ticket → List ℕ → Type 0
@@ -65,7 +65,7 @@ ClaimMoves worker (Ok Stopped) old hand new later = GetsNone StoppedAnswer worke
 ClaimMoves worker (Ok Delivered) old hand new later = ⊥
 ClaimMoves worker (Ok Dropped) old hand new later = ⊥
 ClaimMoves worker (Ok Skipped) old hand new later = IsSome hand × Stays old hand new later
-ClaimMoves worker (Err refused) old hand new later = Stays old hand new later
+ClaimMoves worker (Err refused) old hand new later = (hand ≡ None) × IsRefused old × Stays old hand new later
 
 abbrev pub DeliveryMoves : JudgedSet → Played → Board → Option Ticket → Board → Option Ticket → Type 0
 DeliveryMoves judged Got old hand new later = ⊥

@@ -1,15 +1,34 @@
-//! What holds of every history.
+//! What holds of every history. The calls do nothing: their contracts are the laws.
 
-ghost use Rattle.mpc_claim.specs.HistoryLaws.{CountedTickets, FinishedIsLast, LegalBeginnings, OpenClaims, StandingTickets};
+ghost use Rattle.mpc_claim.specs.HistoryLaws.{AnswerLaws, AppendLaws, CandidateLaws, ClaimLaws, CountedTickets, EndedIsWhole, EndsWideIsLast, FinishedIsLast, LegalBeginnings, LegalLaws, OpenClaims, OpenListLaws, StandingTickets};
+
+use mpc_sets::count_laws;
 
 /// How the open claims change with one event more; that a beginning of a legal history is legal;
-/// that nothing may follow a finished one; that a ticket's number is the count of claims up to its
-/// own, and stands for its set as the history grows. The call does nothing: its contract is the
-/// laws.
+/// that nothing may follow a finished one, nor one that ended with a wide verdict; that a ticket's
+/// number is the count of claims up to its own, and stands for its set as the history grows.
 pub fn history_laws()
     ensures open_claims { OpenClaims }
     ensures legal_beginnings { LegalBeginnings }
     ensures finished_is_last { FinishedIsLast }
+    ensures ends_wide_is_last { EndsWideIsLast }
+    ensures ended_is_whole { EndedIsWhole }
     ensures counted_tickets { CountedTickets }
     ensures standing_tickets { StandingTickets }
+{}
+
+/// Legal histories event by event, their claims, and the list of what is open in them.
+pub fn legal_laws()
+    ensures legal { LegalLaws }
+    ensures claims { ClaimLaws }
+    ensures open_list { OpenListLaws }
+    ensures appended { AppendLaws }
+{
+    count_laws();
+}
+
+/// What candidates have, and that no two answers of a claim have their causes together.
+pub fn claim_laws()
+    ensures candidates { CandidateLaws }
+    ensures answers { AnswerLaws }
 {}

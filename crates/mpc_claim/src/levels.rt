@@ -11,7 +11,7 @@ ghost use Rattle.mpc_claim.specs.Levels.{HoldsCandidates, HoldsGrown, IsFirstBad
 use crate::{Candidate, Event, EventKind, Slot, Tag, Ticket};
 use mpc_frac::NoMemory;
 use mpc_rows::{Law, LawTable, Qp, Verdict};
-use mpc_sets::{ActiveSet, next_level};
+use mpc_sets::{ActiveSet, level_law, member_laws, next_level};
 use std::alloc::Global;
 
 /// The tag of a verdict.
@@ -81,6 +81,8 @@ pub(crate) fn next_candidates(
     requires grown { HoldsGrown qp.now size (grown_of level.now) }
     ensures { IfOk result (λ sets. HoldsCandidates qp.now (suc size) sets.items) }
 {
+    member_laws();
+    level_law();
     if size >= qp.h.rows() {
         return Ok(Vec::new(alloc));
     }

@@ -12,7 +12,7 @@ mod worlds;
 
 pub use candidates::{Candidate, Slot};
 pub use events::{Event, EventKind, Phase, Tag};
-pub use laws::history_laws;
+pub use laws::{claim_laws, history_laws, legal_laws};
 pub use moves::{Action, Played};
 pub use registry::Registry;
 pub use tickets::{Claimed, Delivery, Ticket};

@@ -16,8 +16,8 @@ ghost use Rattle.mpc_claim.specs.Answers.{Claims, IsFirstBad, IsLeastBad, abando
 use crate::levels::{append_waiting, collect_laws, find_bad, next_candidates, note_claim, tag};
 use crate::{Candidate, Claimed, Delivery, Event, EventKind, Phase, Slot, Ticket};
 use mpc_frac::NoMemory;
-use mpc_rows::{Judged, LawTable, Qp, Verdict};
-use mpc_sets::ActiveSet;
+use mpc_rows::{Judged, LawTable, Qp, Verdict, law_laws};
+use mpc_sets::{ActiveSet, count_laws, member_laws};
 use std::alloc::Global;
 use std::marker::Model;
 
@@ -49,6 +49,7 @@ impl Model for Registry {
 
 impl Registry {
     /// A registry with the one candidate without members.
+    #[tactic(auto, unfolding(crate::specs::History::IsLegal))]
     pub fn begin(alloc: Global, qp: &Qp) -> Result<Registry, NoMemory>
         requires { IsDefinite qp.now.h.rows }
         ensures { IfOk result (λ registry. registry ≡ opening qp.now) }
@@ -99,6 +100,7 @@ impl Registry {
         requires waiting { Any (λ c. c.slot ≡ Waiting) self.old.candidates }
         ensures { Claims self.old worker result self.new }
     {
+        count_laws();
         let Ok(()) = self.history.reserve(self.pending + 2) else {
             return Err(NoMemory);
         };
@@ -115,6 +117,8 @@ impl Registry {
         requires quiet { (i : ℕ) → i < length self.old.candidates → IsQuiet (at self.old.candidates i).slot }
         ensures { Claims self.old worker result self.new }
     {
+        member_laws();
+        count_laws();
         let level = &self.candidates[self.settled..];
         let sets = next_candidates(self.alloc, &self.program, level, self.size)?;
         if sets.is_empty() {
@@ -153,8 +157,9 @@ impl Registry {
     /// have verdicts and none of them is wide.
     ///
     /// `Idle` where none waits and some aren't delivered, `Finished` where all candidates have
-    /// verdicts, `Stopped` once a set is given up or a level ended with a wide verdict. Without
-    /// memory the registry stays as it was.
+    /// verdicts, `Stopped` once a set is given up or a level ended with a wide verdict. Memory is
+    /// wanted only where a set is given out or the next level is formed; without it the registry
+    /// stays as it was.
     pub fn claim(&mut self, worker: u32) -> Result<Claimed, NoMemory>
         ensures { Claims self.old worker result self.new }
     {
@@ -241,6 +246,7 @@ impl Registry {
         ensures table { IfOk result (λ laws. IsTable self.program laws) }
         ensures rows_fit { IfOk result (λ laws. All (λ law. LawRowsFit self.program law (height self.program.g)) laws) }
     {
+        law_laws();
         let laws = collect_laws(alloc, self.candidates)?;
         Ok(laws)
     }

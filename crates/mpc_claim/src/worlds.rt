@@ -4,6 +4,7 @@ ghost use Rattle.std.specs.Prelude.{◌≡◌, ◌-◌, ◌≤◌, length, slice
 ghost use Rattle.mpc_space.specs.Definite.{IsDefinite};
 ghost use Rattle.mpc_claim.specs.declared.moves.Played.TheVariants.{Skipped};
 ghost use Rattle.mpc_claim.specs.Board.{opening};
+ghost use Rattle.mpc_claim.specs.Answers.{IsRefused};
 ghost use Rattle.mpc_claim.specs.Moves.{IsRightAction, Moves};
 ghost use Rattle.mpc_claim.specs.Hands.{IsReached, emptied, hand_at};
 
@@ -49,6 +50,7 @@ fn empty_hands(alloc: Global, workers: u32) -> Result<Vec<Option<Ticket>>, NoMem
 
 impl World {
     /// So many workers with empty hands, numbered from 1, over a new registry of the program.
+    #[tactic(auto, unfolding(crate::specs::History::IsLegal))]
     pub fn begin(alloc: Global, qp: &Qp, workers: u32) -> Result<World, NoMemory>
         requires { IsDefinite qp.now.h.rows }
         ensures registry { IfOk result (λ world. world.registry ≡ opening qp.now) }
@@ -72,7 +74,8 @@ impl World {
     ///
     /// `Skipped` where a claim finds the hand full, a delivery or an abandonment finds it empty, or
     /// the judged set isn't that of the hand's ticket: then nothing changes. Only a claim can be
-    /// refused memory, which leaves all as it was.
+    /// refused memory, where a set is given out or the next level is formed; this leaves all as it
+    /// was.
     pub fn play(&mut self, worker: u32, action: Action) -> Result<Played, NoMemory>
         requires from_one { 1 ≤ worker }
         requires to_last { worker ≤ length self.old.hands }
@@ -82,7 +85,7 @@ impl World {
         ensures workers { length self.new.hands ≡ length self.old.hands }
         ensures program { self.new.registry.program ≡ self.old.registry.program }
         ensures skipped { result ≡ Ok Skipped → self.new ≡ self.old }
-        ensures refused { OnErr result (self.new ≡ self.old) }
+        ensures refused { OnErr result ((self.new ≡ self.old) × IsRefused self.old.registry) }
     {
         let hand = &mut self.hands[(worker - 1) as usize];
         match action {

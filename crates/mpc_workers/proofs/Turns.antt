@@ -1,6 +1,6 @@
 -- Turns of one worker.
 use Rattle.std.proofs.Common.{◌≡◌, ℕ, zero, suc, ◌+◌, ◌-◌, ◌<◌, ◌≤◌, ◌⊎◌, List, [], ◌∷◌, ◌++◌, true, false, length, get_or, Contains, refl, sym, ap, ◌∙◌, subst, inl, inr, arith}
-use Rattle.std.proofs.lemmas.List.{append_assoc, length-append}
+use Rattle.std.proofs.lemmas.List.{append_assoc, append-nil, length-append}
 use Rattle.mpc_space.specs.Definite.{IsDefinite}
 use Rattle.mpc_space.specs.Matrix.{height}
 use Rattle.mpc_sets.specs.RowSet.{IsSetOfRows}
@@ -12,10 +12,8 @@ use Rattle.mpc_claim.specs.declared.events.Phase.TheVariants.{Finished, Stopped}
 use Rattle.mpc_claim.specs.declared.tickets.Ticket.{Ticket}
 use Rattle.mpc_claim.specs.Board.{Board, event, tag_of}
 use Rattle.mpc_claim.specs.History.{claimed_sets, ended_sets, has_drop, IsLegal, IsFinished, EndsWide}
-use Rattle.mpc_claim.specs.Answers.{GivesJob, IsIdle}
-use Rattle.mpc_claim.proofs.Histories.{claimed-claim, claimed-end, IsLegal-push, contains_claimed}
-use Rattle.mpc_claim.proofs.NextCandidates.{candidate_rows, candidate_few}
-use Rattle.mpc_claim.proofs.Counts.{few_claims}
+use Rattle.mpc_claim.specs.Answers.{GivesJob, FindsIdle}
+use Rattle.mpc_claim.specs.HistoryLaws.{AppendLaws, CandidateLaws, ClaimLaws, LegalLaws}
 use Rattle.mpc_workers.specs.Alone.{IsTurn, AreTurns, Delivers, IsDoneAlone}
 
 turns_push : (h : List Event) (c d : Event) → AreTurns h → IsTurn c d → AreTurns (h ++ c ∷ d ∷ [])
@@ -48,9 +46,9 @@ turns_no_drop (x ∷ y ∷ rest) t =
     ap (λ (v : Event). has_drop (v ∷ y ∷ rest)) t.0.claim_is ∙ ap (λ (v : Event). has_drop (event 1 t.0.set Claim ∷ v ∷ rest)) t.0.done_is ∙ turns_no_drop rest t.1
 
 -- between turns nobody waits for another
-pub never_idle : (board : Board) → AreTurns board.history → IsIdle board → ⊥
-never_idle board t i =
-    i.open_still.may_end.open_still (turns_ended board.history i.ticket.set t (contains_claimed board.history i.ticket.worker i.ticket.set i.open_still.may_end.claimed))
+pub never_idle : ClaimLaws → (board : Board) → AreTurns board.history → FindsIdle board → ⊥
+never_idle claims board t i =
+    i.idle.open_still.open_still (turns_ended board.history i.idle.set t (claims.claims board.history i.idle.worker i.idle.set i.idle.open_still.claimed))
 
 -- what holds between turns
 pub record IsBetweenTurns (qp : Qp) (board : Board) : Type 0 where
@@ -58,15 +56,15 @@ pub record IsBetweenTurns (qp : Qp) (board : Board) : Type 0 where
   pub legal : IsLegal qp board.history
   pub turns : AreTurns board.history
 
-module _ (qp : Qp) (old middle new : Board) (ticket : Ticket) (b : IsBetweenTurns qp old) (j : GivesJob old 1 ticket middle) where
+module _ (legal : LegalLaws) (claims : ClaimLaws) (appended : AppendLaws) (candidates : CandidateLaws) (qp : Qp) (old middle new : Board) (ticket : Ticket) (b : IsBetweenTurns qp old) (j : GivesJob old 1 ticket middle) where
   pub middle_program : middle.program ≡ qp
   middle_program = j.program ∙ b.program
 
   pub job_rows : IsSetOfRows (height middle.program.g) ticket.set
-  job_rows = subst (λ (q : Qp). IsSetOfRows (height q.g) ticket.set) (sym j.program) (candidate_rows old.program ticket.set j.may_claim.candidate)
+  job_rows = subst (λ (q : Qp). IsSetOfRows (height q.g) ticket.set) (sym j.program) (candidates.rows old.program ticket.set j.may_claim.candidate)
 
   pub job_few : length ticket.set ≤ height middle.program.h
-  job_few = subst (λ (q : Qp). length ticket.set ≤ height q.h) (sym j.program) (candidate_few old.program ticket.set j.may_claim.candidate)
+  job_few = subst (λ (q : Qp). length ticket.set ≤ height q.h) (sym j.program) (candidates.few old.program ticket.set j.may_claim.candidate)
 
   pub job_definite : IsDefinite middle.program.h.rows
   job_definite = j.sound.definite
@@ -77,13 +75,13 @@ module _ (qp : Qp) (old middle new : Board) (ticket : Ticket) (b : IsBetweenTurn
   more_claimed : length (claimed_sets middle.history) ≡ length (claimed_sets old.history) + 1
   more_claimed =
       let l = length-append (claimed_sets old.history) (ticket.set ∷ []) in
-      ap (λ h. length (claimed_sets h)) j.history ∙ ap length (claimed-claim old.history 1 ticket.set) ∙ l
+      ap (λ h. length (claimed_sets h)) j.history ∙ ap length (appended.claimed old.history (event 1 ticket.set Claim ∷ [])) ∙ l
 
   pub turn_counts : Delivers middle ticket new → 56049059 - length (claimed_sets new.history) < 56049059 - length (claimed_sets old.history)
   turn_counts d =
       let same : length (claimed_sets new.history) ≡ length (claimed_sets middle.history) =
-      ap (λ (v : Board). length (claimed_sets v.history)) d.new_is ∙ ap length (claimed-end middle.history ticket.worker ticket.set (Done (tag_of d.verdict)) refl) in
-      let few = few_claims qp middle.history middle_legal in
+      ap (λ (v : Board). length (claimed_sets v.history)) d.new_is ∙ ap length (appended.claimed middle.history (event ticket.worker ticket.set (Done (tag_of d.verdict)) ∷ []) ∙ append-nil (claimed_sets middle.history)) in
+      let few = claims.few qp middle.history middle_legal in
       let more = more_claimed in
       omega (arith, same, few, more)
 
@@ -91,7 +89,7 @@ module _ (qp : Qp) (old middle new : Board) (ticket : Ticket) (b : IsBetweenTurn
   turn_taken d = record {
     program = ap (λ (v : Board). v.program) d.new_is ∙ middle_program;
     legal = subst (λ (v : Board). IsLegal qp v.history) (sym d.new_is)
-        (IsLegal-push qp middle.history (event ticket.worker ticket.set (Done (tag_of d.verdict))) middle_legal
+        (legal.more qp middle.history (event ticket.worker ticket.set (Done (tag_of d.verdict))) middle_legal
         (j.opens.may_end, record { verdict = d.verdict; right = subst (λ (q : Qp). IsRight q ticket.set d.verdict) middle_program d.right; tagged = refl }));
     turns = subst (λ (v : Board). AreTurns v.history) (sym d.new_is)
         (subst (λ h. AreTurns (h ++ event ticket.worker ticket.set (Done (tag_of d.verdict)) ∷ [])) (sym j.history)

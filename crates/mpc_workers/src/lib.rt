@@ -11,7 +11,7 @@ ghost use Rattle.mpc_workers.specs.Alone.{Delivers, IsDoneAlone};
 #[cfg(test)]
 mod tests;
 
-use mpc_claim::{Claimed, Registry, Ticket};
+use mpc_claim::{Claimed, Registry, Ticket, claim_laws, legal_laws};
 use mpc_frac::NoMemory;
 use mpc_port::Gate;
 use mpc_region::examine;
@@ -52,6 +52,8 @@ pub fn enumerate_alone<G: Gate>(alloc: Global, qp: &Qp, gate: &G) -> Result<Regi
     requires { IsDefinite qp.now.h.rows }
     ensures { IfOk result (λ registry. IsDoneAlone qp.now registry) }
 {
+    legal_laws();
+    claim_laws();
     let mut registry = Registry::begin(alloc, qp)?;
     'turns: loop {
         match registry.claim(1)? {

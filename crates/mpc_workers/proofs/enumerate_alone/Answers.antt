@@ -6,27 +6,27 @@ use Rattle.mpc_workers.proofs.enumerate_alone.Goals as goal
 
 pub take_turn-requires-clause-set_of_rows : goal.take_turn-requires-clause-set_of_rows
 take_turn-requires-clause-set_of_rows g c =
-    job_rows c.args.qp.now c.turns.registry c.claim.new.self c.claim.new.self c.in-Job.ticket c.turns.invariant
+    job_rows c.legal_laws.ensures.legal c.legal_laws.ensures.claims c.legal_laws.ensures.appended c.claim_laws.ensures.candidates c.args.qp.now c.turns.registry c.claim.new.self c.claim.new.self c.in-Job.ticket c.turns.invariant
     (subst (λ (a : Claimed). Claims c.turns.registry 1 (Ok a) c.claim.new.self) c.in-Job.is c.in_ok-ticket.ensures)
 
 pub take_turn-requires-clause-few : goal.take_turn-requires-clause-few
 take_turn-requires-clause-few g c =
-    job_few c.args.qp.now c.turns.registry c.claim.new.self c.claim.new.self c.in-Job.ticket c.turns.invariant
+    job_few c.legal_laws.ensures.legal c.legal_laws.ensures.claims c.legal_laws.ensures.appended c.claim_laws.ensures.candidates c.args.qp.now c.turns.registry c.claim.new.self c.claim.new.self c.in-Job.ticket c.turns.invariant
     (subst (λ (a : Claimed). Claims c.turns.registry 1 (Ok a) c.claim.new.self) c.in-Job.is c.in_ok-ticket.ensures)
 
 pub turns-smaller : goal.turns-smaller
 turns-smaller g c =
-    turn_counts c.args.qp.now c.turns.registry c.claim.new.self c.take_turn.new.registry c.in-Job.ticket c.turns.invariant
+    turn_counts c.legal_laws.ensures.legal c.legal_laws.ensures.claims c.legal_laws.ensures.appended c.claim_laws.ensures.candidates c.args.qp.now c.turns.registry c.claim.new.self c.take_turn.new.registry c.in-Job.ticket c.turns.invariant
     (subst (λ (a : Claimed). Claims c.turns.registry 1 (Ok a) c.claim.new.self) c.in-Job.is c.in_ok-ticket.ensures) c.in_ok-take_turn-in-Job.ensures
 
 pub turns-preserved : goal.turns-preserved
 turns-preserved g c =
-    turn_taken c.args.qp.now c.turns.registry c.claim.new.self c.take_turn.new.registry c.in-Job.ticket c.turns.invariant
+    turn_taken c.legal_laws.ensures.legal c.legal_laws.ensures.claims c.legal_laws.ensures.appended c.claim_laws.ensures.candidates c.args.qp.now c.turns.registry c.claim.new.self c.take_turn.new.registry c.in-Job.ticket c.turns.invariant
     (subst (λ (a : Claimed). Claims c.turns.registry 1 (Ok a) c.claim.new.self) c.in-Job.is c.in_ok-ticket.ensures) c.in_ok-take_turn-in-Job.ensures
 
 pub returns-in-Idle : goal.returns-in-Idle
 returns-in-Idle g c =
-    absurd (never_idle c.turns.registry c.turns.invariant.turns (subst (λ (a : Claimed). Claims c.turns.registry 1 (Ok a) c.claim.new.self) c.in-Idle.is c.in_ok-ticket.ensures).1)
+    absurd (never_idle c.legal_laws.ensures.claims c.turns.registry c.turns.invariant.turns (subst (λ (a : Claimed). Claims c.turns.registry 1 (Ok a) c.claim.new.self) c.in-Idle.is c.in_ok-ticket.ensures).1)
 
 pub returns-in-Finished : goal.returns-in-Finished
 returns-in-Finished g c =

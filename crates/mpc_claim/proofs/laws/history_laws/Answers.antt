@@ -1,5 +1,6 @@
 use Rattle.mpc_claim.proofs.Histories.{IsLegal-front}
 use Rattle.mpc_claim.proofs.HistoryLaws.{open_claims, finished_is_last, counted_tickets, standing_tickets}
+use Rattle.mpc_claim.proofs.AnswerLaws.{ends_wide_is_last, ended_is_whole}
 use Rattle.mpc_claim.proofs.laws.history_laws.Goals as goal
 
 pub returns-clause-open_claims : goal.returns-clause-open_claims
@@ -16,3 +17,9 @@ returns-clause-counted_tickets c = counted_tickets
 
 pub returns-clause-standing_tickets : goal.returns-clause-standing_tickets
 returns-clause-standing_tickets c = standing_tickets
+
+pub returns-clause-ends_wide_is_last : goal.returns-clause-ends_wide_is_last
+returns-clause-ends_wide_is_last c = ends_wide_is_last
+
+pub returns-clause-ended_is_whole : goal.returns-clause-ended_is_whole
+returns-clause-ended_is_whole c = ended_is_whole

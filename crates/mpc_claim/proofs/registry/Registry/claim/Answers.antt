@@ -6,7 +6,7 @@ use Rattle.mpc_claim.specs.declared.events.Phase.{Phase}
 use Rattle.mpc_claim.specs.Board.{Board, at}
 use Rattle.mpc_claim.specs.History.{has_drop, EndsWide}
 use Rattle.mpc_claim.specs.Books.{is_done, HasPhase, HasBad}
-use Rattle.mpc_claim.specs.Answers.{IsIdle}
+use Rattle.mpc_claim.specs.Answers.{FindsIdle}
 use Rattle.mpc_claim.proofs.Slots.{all_done}
 use Rattle.mpc_claim.proofs.Sound.{shown_finished, shown_wide}
 use Rattle.mpc_claim.proofs.NextLevels.{waiting_at}
@@ -49,10 +49,11 @@ returns-then-self-gt0 c =
     let long = c.len.ensures in
     let more = c.if-self-len.false in
     let some = c.if-self-gt0.true in
-    let p : length r.candidates.items ≤ r.claims = omega arith in (
+    let p : length r.candidates.items ≤ r.claims = omega arith in
+    let fits : has_drop r.history.items ≡ false = subst (HasPhase r.program r.candidates.items r.history.items) c.in-Working.is c.self.invariant.phase_fits in (
       refl,
-      subst IsIdle (ap (λ (f : Phase). record { program = r.program; candidates = r.candidates.items; settled = r.settled; phase = f; history = r.history.items }) (sym c.in-Working.is) ∙ c.self.view_is)
-          (idle r.program r.candidates.items r.settled r.claims r.pending r.history.items c.self.invariant.slots p (omega arith)),
+      subst FindsIdle (ap (λ (f : Phase). record { program = r.program; candidates = r.candidates.items; settled = r.settled; phase = f; history = r.history.items }) (sym c.in-Working.is) ∙ c.self.view_is)
+          (record { working = refl; idle = idle r.program r.candidates.items r.settled r.claims r.pending r.size r.history.items c.self.invariant.lineup c.self.invariant.slots fits p (omega arith) }),
     )
 
 pub end_level-requires-clause-done : goal.end_level-requires-clause-done

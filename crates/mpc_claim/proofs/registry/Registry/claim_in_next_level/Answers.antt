@@ -1,15 +1,17 @@
-use Rattle.std.proofs.Common.{◌≡◌, ◌+◌, ◌<◌, ◌≤◌, ◌∙◌, ℕ, suc, [], ◌++◌, map, length, vec_len, vec_capacity, subst, sym, ap, refl, arith}
+use Rattle.std.proofs.Common.{◌≡◌, ◌+◌, ◌<◌, ◌≤◌, ◌∙◌, ℕ, suc, [], ◌++◌, map, length, false, vec_len, vec_capacity, subst, sym, ap, refl, inr, arith}
 use Rattle.std.proofs.lemmas.Bool.{eqb-true}
 use Rattle.mpc_claim.specs.declared.events.Phase.{Phase}
 use Rattle.mpc_claim.specs.declared.events.Phase.TheVariants.{Working}
 use Rattle.mpc_claim.specs.Board.{Board, at, sets_of, waiting}
-use Rattle.mpc_claim.specs.Books.{IsKept, IsQuiet}
+use Rattle.mpc_claim.specs.Books.{HasPhase, IsKept, IsQuiet}
+use Rattle.mpc_claim.specs.History.{has_drop}
+use Rattle.mpc_claim.specs.Answers.{IsRefused}
 use Rattle.mpc_claim.specs.Levels.{HoldsCandidates}
 use Rattle.mpc_claim.proofs.Lists.{length-sets_of}
 use Rattle.mpc_claim.proofs.Steps.{few_candidates}
 use Rattle.mpc_claim.proofs.Sound.{shown_finished}
 use Rattle.mpc_claim.proofs.NextLevels.{level_is_level, level_grows, kept_finished, all_claimed}
-use Rattle.mpc_claim.proofs.Ends.{whole_rest, nil_of, positive, small_size}
+use Rattle.mpc_claim.proofs.Ends.{whole_rest, nil_of, positive, small_size, ends_quiet, refused}
 use Rattle.mpc_claim.proofs.Jobs.{gives_next, kept_next}
 use Rattle.mpc_claim.proofs.registry.Registry.claim_in_next_level.Goals as goal
 
@@ -34,7 +36,7 @@ invariant_of-self c =
     let quiet = subst (λ (b : Board). (i : ℕ) → i < length b.candidates → IsQuiet (at b.candidates i).slot) (sym c.self.view_is) c.requires.quiet in
     let empty : vec_len c.in_ok-sets.sets ≡ 0 = eqb-true (vec_len c.in_ok-sets.sets) 0 (sym c.is_empty.ensures ∙ c.if-is_empty.true) in
     let none : c.in_ok-sets.sets.items ≡ [] = nil_of c.in_ok-sets.sets.items (let counted = c.in_ok-sets.sets.ok in omega arith) in
-    kept_finished r.program r.candidates.items r.settled r.claims r.pending r.size r.history.items (vec_capacity r.history)
+    kept_finished c.member_laws.ensures r.program r.candidates.items r.settled r.claims r.pending r.size r.history.items (vec_capacity r.history)
     (subst (λ (f : Phase). IsKept r.program r.candidates.items r.settled r.claims r.pending r.size f r.history.items (vec_capacity r.history)) working c.self.invariant) quiet
     (subst (HoldsCandidates r.program (suc r.size)) none c.in_ok-sets.ensures)
 
@@ -47,7 +49,7 @@ returns-then-is_empty c =
 pub note_claim-ticket-requires-clause-number : goal.note_claim-ticket-requires-clause-number
 note_claim-ticket-requires-clause-number c =
     let r = c.self.inside in
-    let few = few_candidates r.program (sets_of r.candidates.items) c.self.invariant.lineup.in_order c.self.invariant.lineup.candidates in
+    let few = few_candidates c.count_laws.ensures.six_of_sixty r.program (sets_of r.candidates.items) c.self.invariant.lineup.in_order c.self.invariant.lineup.candidates in
     let many = length-sets_of r.candidates.items in
     let counted = r.candidates.ok in
     let place = c.len-place.ensures in
@@ -92,3 +94,30 @@ returns c =
     (gives_next r.program r.candidates.items c.in_ok-sets.sets.items r.settled r.claims r.pending r.size r.history.items c.args.worker (vec_capacity r.history) (vec_capacity c.reserve.new.self) c.note_claim-ticket.result
     (subst (λ (f : Phase). IsKept r.program r.candidates.items r.settled r.claims r.pending r.size f r.history.items (vec_capacity r.history)) working c.self.invariant) all quiet c.in_ok-sets.ensures some room
     number e.worker_is set_is)
+
+pub returns-in_err-sets : goal.returns-in_err-sets
+returns-in_err-sets c =
+    let r = c.self.inside in
+    let working : r.phase ≡ Working = ap (λ (b : Board). b.phase) c.self.view_is ∙ c.requires.working in
+    let quiet = subst (λ (b : Board). (i : ℕ) → i < length b.candidates → IsQuiet (at b.candidates i).slot) (sym c.self.view_is) c.requires.quiet in
+    let fits : has_drop r.history.items ≡ false = subst (HasPhase r.program r.candidates.items r.history.items) working c.self.invariant.phase_fits in
+    let wanted : IsRefused c.args.self.now = subst IsRefused c.self.view_is (record { working = working; wants = inr (ends_quiet r.program r.candidates.items r.settled r.claims r.pending r.size r.history.items c.self.invariant.lineup c.self.invariant.slots fits quiet) }) in
+    refused c.args.self.now c.args.self.now c.args.worker c.from_residual.result c.from_residual.ensures.0 refl wanted
+
+pub returns-in_default : goal.returns-in_default
+returns-in_default c =
+    let r = c.self.inside in
+    let working : r.phase ≡ Working = ap (λ (b : Board). b.phase) c.self.view_is ∙ c.requires.working in
+    let quiet = subst (λ (b : Board). (i : ℕ) → i < length b.candidates → IsQuiet (at b.candidates i).slot) (sym c.self.view_is) c.requires.quiet in
+    let fits : has_drop r.history.items ≡ false = subst (HasPhase r.program r.candidates.items r.history.items) working c.self.invariant.phase_fits in
+    let wanted : IsRefused c.args.self.now = subst IsRefused c.self.view_is (record { working = working; wants = inr (ends_quiet r.program r.candidates.items r.settled r.claims r.pending r.size r.history.items c.self.invariant.lineup c.self.invariant.slots fits quiet) }) in
+    rw c.in_default.ensures.items (c.self.view_is, wanted)
+
+pub returns-in_err-append_waiting : goal.returns-in_err-append_waiting
+returns-in_err-append_waiting c =
+    let r = c.self.inside in
+    let working : r.phase ≡ Working = ap (λ (b : Board). b.phase) c.self.view_is ∙ c.requires.working in
+    let quiet = subst (λ (b : Board). (i : ℕ) → i < length b.candidates → IsQuiet (at b.candidates i).slot) (sym c.self.view_is) c.requires.quiet in
+    let fits : has_drop r.history.items ≡ false = subst (HasPhase r.program r.candidates.items r.history.items) working c.self.invariant.phase_fits in
+    let wanted : IsRefused c.args.self.now = subst IsRefused c.self.view_is (record { working = working; wants = inr (ends_quiet r.program r.candidates.items r.settled r.claims r.pending r.size r.history.items c.self.invariant.lineup c.self.invariant.slots fits quiet) }) in
+    refused c.args.self.now _ c.args.worker c.from_residual-in_err-append_waiting.result c.from_residual-in_err-append_waiting.ensures.0 (rw (c.in_err-append_waiting.ensures.err, c.in-Ok.ensures.items) c.self.view_is) wanted

@@ -3,7 +3,7 @@ use Rattle.std.proofs.lemmas.List.{get_or_default}
 use Rattle.mpc_claim.specs.declared.moves.Action.TheVariants.{Deliver}
 use Rattle.mpc_claim.specs.Hands.{Workplace, hand_at}
 use Rattle.mpc_claim.specs.Moves.{IsRightAction}
-use Rattle.mpc_claim.proofs.Held.{held_claim, held_delivery, held_abandonment}
+use Rattle.mpc_claim.proofs.Held.{held_claim, held_delivery, held_abandonment, play_refused}
 use Rattle.mpc_claim.proofs.worlds.World.play.Goals as goal
 
 pub invariant_of-self : goal.invariant_of-self
@@ -55,3 +55,12 @@ invariant_of-self-in-Abandon c =
     let hand : c.index_mut-hand.result.now ≡ hand_at w.hands.items (c.args.worker - 1) =
     c.index_mut-hand.ensures.value ∙ get_or_default w.hands.items (c.args.worker - 1) c.index_mut-hand.result.now None (omega arith) in
     held_abandonment c.play_abandonment.result w.registry c.index_mut-hand.result.now c.play_abandonment.new.registry c.play_abandonment.new.hand w.hands.items (c.args.worker - 1) (omega arith) hand c.self.invariant c.play_abandonment.ensures
+
+pub returns-in-Claim-clause-refused : goal.returns-in-Claim-clause-refused
+returns-in-Claim-clause-refused c =
+    let w = c.self.inside in
+    let first : 1 ≤ c.args.worker = c.requires.from_one in
+    let last : c.args.worker ≤ length w.hands.items = subst (λ (p : Workplace). c.args.worker ≤ length p.hands) (sym c.self.view_is) c.requires.to_last in
+    let hand : c.index_mut-hand.result.now ≡ hand_at w.hands.items (c.args.worker - 1) =
+    c.index_mut-hand.ensures.value ∙ get_or_default w.hands.items (c.args.worker - 1) c.index_mut-hand.result.now None (omega arith) in
+    play_refused c.args.worker (c.args.worker - 1) c.play_claim.result w.registry c.index_mut-hand.result.now c.play_claim.new.registry c.play_claim.new.hand w.hands.items c.args.self.now hand c.self.view_is c.play_claim.ensures
