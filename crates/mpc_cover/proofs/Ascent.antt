@@ -12,7 +12,8 @@ use Rattle.mpc_exact.proofs.Linear.{linear_le, linear_lt, linear_false, claims, 
 use Rattle.mpc_space.specs.Vector.{dot, vec_add, vec_scale, vec_sub, vec_mat, IsZero, IsIndependent}
 use Rattle.mpc_space.proofs.Entries.{length-add, length-scale, dot_nil, dot-zero, zero_or_not}
 use Rattle.mpc_space.proofs.Vector.{dot_comm, dot-scale_right, dot_self-positive}
-use Rattle.mpc_sets.proofs.RowSets.{Among, Among_within}
+use Rattle.mpc_sets.specs.RowSet.{Among}
+use Rattle.mpc_cover.proofs.Members.{Among_within}
 use Rattle.mpc_cover.proofs.Systems.{Solution, solve, identity_form, dot_along}
 use Rattle.mpc_cover.proofs.Segments.{MeetsFirst, Holds, lengths_of, holds_among, holds_from_rows, combination_falls, combination_stays, border, length-border, border_meets, border_at, border_holds}
 use Rattle.mpc_cover.proofs.Descent.{Cheapest, IsConvex, kept, joined, last_nonneg, upper_at, crossed_independent}

@@ -4,8 +4,8 @@ use Rattle.mpc_exact.specs.Rational.{ℚ}
 use Rattle.mpc_space.specs.Vector.{coordinate, later_entries, dot, mat_vec, AllNonneg, AllAtMost}
 use Rattle.mpc_space.specs.Matrix.{height}
 use Rattle.mpc_space.specs.Definite.{IsDefinite}
-use Rattle.mpc_sets.specs.RowSet.{IsSetOfRows}
-use Rattle.mpc_sets.proofs.RowSets.{Among, Contains-from_among, Among-from_contains}
+use Rattle.mpc_sets.specs.RowSet.{IsSetOfRows, Among}
+use Rattle.mpc_cover.proofs.Members.{Contains-from_among, Among-from_contains}
 use Rattle.mpc_rows.specs.declared.programs.Qp.{Qp}
 use Rattle.mpc_rows.specs.declared.laws.Law.{Law}
 use Rattle.mpc_rows.specs.ActiveSets.{extended, row_of, IsFeasible, IsIndependentSet, IsTight, MeetsEquations}

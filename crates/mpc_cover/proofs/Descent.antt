@@ -14,7 +14,7 @@ use Rattle.mpc_space.specs.Vector.{dot, vec_add, vec_scale, vec_sub, vec_mat, Al
 use Rattle.mpc_space.proofs.Entries.{length-sub, dot_nil, dot-zero, zero_or_not}
 use Rattle.mpc_space.proofs.Vector.{dot-sub_right}
 use Rattle.mpc_sets.specs.RowSet.{RisesWithin}
-use Rattle.mpc_sets.proofs.RowSets.{Among_within, rises_last}
+use Rattle.mpc_cover.proofs.Members.{Among_within, rises_last}
 use Rattle.mpc_cover.proofs.Systems.{IsForm, solve, dot_combination, joined_independent, at_zero}
 use Rattle.mpc_cover.proofs.Segments.{MeetsFirst, Holds, lengths_of, holds-append, holds_among, holds_from_rows, dot-combination_append, combination_rises, combination_falls, combination_stays, nothing_more, difference, border, length-border, border_meets, border_at, border_holds}
 

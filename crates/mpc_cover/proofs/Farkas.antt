@@ -11,7 +11,7 @@ use Rattle.mpc_space.specs.Total.{unit}
 use Rattle.mpc_space.proofs.Entries.{dot-unit}
 use Rattle.mpc_space.proofs.Vector.{dot_comm}
 use Rattle.mpc_space.proofs.Matrix.{dot-vec_mat, weighted_rows, row_same}
-use Rattle.mpc_sets.proofs.RowSets.{Among_within}
+use Rattle.mpc_cover.proofs.Members.{Among_within}
 use Rattle.mpc_rows.specs.declared.systems.Row.{Row}
 use Rattle.mpc_rows.specs.LinearSystem.{LinearSystem, height, row_at, no_row, IsWithin, MeetsRow, IsPoint}
 use Rattle.mpc_cover.specs.Implied.{IsClosedSystem, Implies, left_side, right_side, IsCarried}

@@ -1,3 +1,4 @@
+pub mod Members
 pub mod Systems
 pub mod Segments
 pub mod Descent

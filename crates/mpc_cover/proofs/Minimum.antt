@@ -11,8 +11,8 @@ use Rattle.mpc_space.proofs.Entries.{coordinate-sub, difference_zero, zero_by_do
 use Rattle.mpc_space.proofs.Vector.{dot-add_right}
 use Rattle.mpc_space.proofs.Matrix.{coordinate-mat_vec, length-mat_vec}
 use Rattle.mpc_space.proofs.Optimality.{stationary_unique}
-use Rattle.mpc_sets.specs.RowSet.{IsSetOfRows}
-use Rattle.mpc_sets.proofs.RowSets.{Among, Among_within}
+use Rattle.mpc_sets.specs.RowSet.{IsSetOfRows, Among}
+use Rattle.mpc_cover.proofs.Members.{Among_within}
 use Rattle.mpc_rows.specs.declared.programs.Qp.{Qp}
 use Rattle.mpc_rows.specs.declared.laws.Law.{Law}
 use Rattle.mpc_rows.specs.Laws.{moves_at, mults_at, IsLaw, IsInRegion}

@@ -10,7 +10,7 @@ use Rattle.mpc_exact.proofs.Linear.{linear_le, linear_lt, claims, none, le, lt}
 use Rattle.mpc_space.specs.Vector.{coordinate, later_entries, dot, vec_add, vec_scale, vec_sub, mat_vec, vec_mat, IsZero, AllNonneg, AllAtMost, IsIndependent}
 use Rattle.mpc_space.proofs.Entries.{length-add, length-scale, length-sub, dot_nil}
 use Rattle.mpc_space.proofs.Vector.{dot_comm, dot-sub_right}
-use Rattle.mpc_sets.proofs.RowSets.{Among}
+use Rattle.mpc_sets.specs.RowSet.{Among}
 use Rattle.mpc_cover.proofs.Systems.{dot_combination, dot_along, arrives}
 
 pub lengths_of : (n : ℕ) (a : ℕ → List ℚ) → ((i : ℕ) → length (a i) ≤ n) → (s : List ℕ) → AllByRecursion (λ row. length row ≤ n) (map a s)

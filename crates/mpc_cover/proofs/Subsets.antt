@@ -7,8 +7,8 @@ use Rattle.mpc_exact.proofs.RationalRing.{reads, by_ring}
 use Rattle.mpc_space.specs.Vector.{zeros, dot, mat_vec, vec_mat, IsZero, IsIndependent}
 use Rattle.mpc_space.proofs.Entries.{dot_nil, dot-zero, zero_by_dots, zeros_zero}
 use Rattle.mpc_space.proofs.Matrix.{dot-vec_mat}
-use Rattle.mpc_sets.specs.RowSet.{RisesWithin}
-use Rattle.mpc_sets.proofs.RowSets.{Among, Among_within}
+use Rattle.mpc_sets.specs.RowSet.{RisesWithin, Among}
+use Rattle.mpc_cover.proofs.Members.{Among_within}
 use Rattle.mpc_cover.proofs.Systems.{dot_combination}
 
 -- the factors of a subset's rows, with 0 on the other rows of the set

@@ -1,7 +1,7 @@
 -- The forms of a law's rows, coefficient by coefficient.
 use Rattle.std.proofs.Common.{◌≡◌, ℕ, zero, suc, ◌+◌, ◌-◌, ◌<◌, ◌≤◌, true, false, List, [], ◌∷◌, ◌++◌, length, get_or, pos, negsuc, refl, sym, ◌∙◌, ap, subst, arith, ◌⊎◌, inl, inr}
 use Rattle.std.proofs.lemmas.Bool.{cond-true, cond-false, cases_eq, cases_Bool, false≢true}
-use Rattle.std.proofs.lemmas.List.{get_or_default, get_or_append_left, length-append}
+use Rattle.std.proofs.lemmas.List.{get_or_append_left, length-append}
 use Rattle.std.proofs.Math.Seq.{get_or-append_seam}
 use Rattle.std.proofs.lemmas.List.Elements.{All-get_or}
 use Rattle.mpc_exact.specs.Rational.{ℚ, int, ◌+ℚ◌, ◌*ℚ◌, neg_ℚ}
@@ -11,7 +11,7 @@ use Rattle.mpc_space.specs.Matrix.{height, entry}
 use Rattle.mpc_space.proofs.Entries.{coordinate-scale, coordinate-listed, length-scale, length-listed, same_entries}
 use Rattle.mpc_space.proofs.Matrix.{length-column, coordinate-column}
 use Rattle.mpc_linear.specs.Dot.{TermFits}
-use Rattle.mpc_linear.proofs.DotLemmas.{Goes, goes_more, goes_wide, goes_value, goes_fits}
+use Rattle.mpc_linear.specs.SumLaws.{SumLaws, IsSumSoFar, StandAt}
 use Rattle.mpc_rows.specs.declared.programs.Qp.{Qp}
 use Rattle.mpc_rows.specs.declared.laws.Law.{Law}
 use Rattle.mpc_rows.specs.ActiveSets.{row_of}
@@ -22,9 +22,9 @@ use Rattle.mpc_rows.proofs.JointLemmas.{length-later}
 
 -- the sum that forms a coefficient, as far as it has gone
 abbrev pub Excess : Qp → Law → ℕ → ℕ → ℕ → ℚ → Type 0
-Excess qp law i j k sum = Goes (neg_ℚ (coordinate (row_of qp.w.rows i) j)) (row_of qp.g.rows i) (column law.moves.rows j) k sum
+Excess qp law i j k sum = IsSumSoFar (neg_ℚ (coordinate (row_of qp.w.rows i) j)) (row_of qp.g.rows i) (column law.moves.rows j) k sum
 
-module _ (qp : Qp) (law : Law) (i j : ℕ) (shape : HasLawShape qp law) (from_one : 1 ≤ i) (to_last : i ≤ height qp.g) where
+module _ (laws : SumLaws) (qp : Qp) (law : Law) (i j : ℕ) (shape : HasLawShape qp law) (from_one : 1 ≤ i) (to_last : i ≤ height qp.g) where
   row_size : length (row_of qp.g.rows i) ≡ qp.g.columns
   row_size = All-get_or (λ row. length row ≡ qp.g.columns) qp.g.rows (i - 1) [] (omega arith) qp.is_program.g_shape.rectangular
 
@@ -38,18 +38,15 @@ module _ (qp : Qp) (law : Law) (i j : ℕ) (shape : HasLawShape qp law) (from_on
     in_column : k < length (column law.moves.rows j)
     in_column = subst (λ n. k < n) (sym column_size) h
 
-    x_is : x ≡ get_or (row_of qp.g.rows i) k x
-    x_is = ex ∙ get_or_default (row_of qp.g.rows i) k (int (pos 0)) x in_row
-
-    y_is : y ≡ get_or (column law.moves.rows j) k y
-    y_is = ey ∙ sym (coordinate-column law.moves.rows k j) ∙ get_or_default (column law.moves.rows j) k (int (pos 0)) y in_column
+    stand : StandAt (row_of qp.g.rows i) (column law.moves.rows j) k x y
+    stand = record { within_left = in_row; within_right = in_column; left = ex; right = ey ∙ sym (coordinate-column law.moves.rows k j) }
 
     pub excess_more : (next : ℚ) → next ≡ sum +ℚ x *ℚ y → TermFits sum x y → Excess qp law i j (k + 1) next
-    excess_more next e t = goes_more (neg_ℚ (coordinate (row_of qp.w.rows i) j)) (row_of qp.g.rows i) (column law.moves.rows j) k sum x y in_row in_column x_is y_is goes next e t
+    excess_more next e t = laws.more (neg_ℚ (coordinate (row_of qp.w.rows i) j)) (row_of qp.g.rows i) (column law.moves.rows j) k sum x y next stand goes e t
 
     pub excess_wide : is_member i law.set ≡ false → (TermFits sum x y → ⊥) → CoefficientFits qp law i j → ⊥
     excess_wide outside t fits =
-        goes_wide (neg_ℚ (coordinate (row_of qp.w.rows i) j)) (row_of qp.g.rows i) (column law.moves.rows j) k sum x y in_row in_column x_is y_is goes t (fits outside)
+        laws.wide (neg_ℚ (coordinate (row_of qp.w.rows i) j)) (row_of qp.g.rows i) (column law.moves.rows j) k sum x y stand goes t (fits outside)
 
   module _ (k : ℕ) (sum : ℚ) (h : qp.g.columns ≤ k) (goes : Excess qp law i j k sum) where
     over : length (row_of qp.g.rows i) ≤ k
@@ -57,11 +54,11 @@ module _ (qp : Qp) (law : Law) (i j : ℕ) (shape : HasLawShape qp law) (from_on
 
     pub excess_value : j < law.moves.columns → sum ≡ coordinate (excess_form qp law i) j
     excess_value l =
-        goes_value (neg_ℚ (coordinate (row_of qp.w.rows i) j)) (row_of qp.g.rows i) (column law.moves.rows j) k sum over goes
+        laws.value (neg_ℚ (coordinate (row_of qp.w.rows i) j)) (row_of qp.g.rows i) (column law.moves.rows j) k sum over goes
         ∙ sym (coordinate-listed (length qp.counts + 1) (λ m. neg_ℚ (coordinate (row_of qp.w.rows i) m) +ℚ dot (row_of qp.g.rows i) (column law.moves.rows m)) j (subst (λ n. j < n) shape.moves_shape.columns_are l))
 
     pub excess_fits : CoefficientFits qp law i j
-    excess_fits outside = goes_fits (neg_ℚ (coordinate (row_of qp.w.rows i) j)) (row_of qp.g.rows i) (column law.moves.rows j) k sum over goes
+    excess_fits outside = laws.fits (neg_ℚ (coordinate (row_of qp.w.rows i) j)) (row_of qp.g.rows i) (column law.moves.rows j) k sum over goes
 
 -- ---- the form of a row
 pub form_outside : (qp : Qp) (law : Law) (i : ℕ) → is_member i law.set ≡ false → law_form qp law i ≡ excess_form qp law i

@@ -9,5 +9,4 @@ pub mod JointLemmas
 pub mod PlaceLemmas
 pub mod LawRowLemmas
 pub mod LawPoints
-pub mod PrimitiveRows
 pub mod RegionLemmas

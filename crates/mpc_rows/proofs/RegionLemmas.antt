@@ -10,6 +10,7 @@ use Rattle.mpc_space.specs.Matrix.{height}
 use Rattle.mpc_space.proofs.Entries.{nonneg_at, nonneg_by_entries}
 use Rattle.mpc_space.proofs.Matrix.{coordinate-mat_vec, length-mat_vec}
 use Rattle.mpc_linear.specs.declared.integers.RowInt.{RowInt}
+use Rattle.mpc_linear.specs.PrimitiveRows.{OnePrimitiveRow}
 use Rattle.mpc_rows.specs.declared.programs.Qp.{Qp}
 use Rattle.mpc_rows.specs.declared.laws.Law.{Law}
 use Rattle.mpc_rows.specs.LinearSystem.{MeetsRow, IsPoint}
@@ -21,19 +22,20 @@ use Rattle.mpc_rows.proofs.BoxLemmas.{box_meets}
 use Rattle.mpc_rows.proofs.JointLemmas.{gain, limit, meets_at, meets_by_each, size_in_box, All-split}
 use Rattle.mpc_rows.proofs.PlaceLemmas.{member_place, place_of-member, member_bounds}
 use Rattle.mpc_rows.proofs.LawPoints.{law_row_points}
-use Rattle.mpc_rows.proofs.PrimitiveRows.{primitive_unique}
 
 abbrev blank : RowInt
 blank = record { a = []; b = pos 0 }
 
 -- ---- a law has one list of rows
-pub law_row_unique : (qp : Qp) (law : Law) (i : ℕ) (r s : RowInt) → IsLawRow qp law i r → IsLawRow qp law i s → r ≡ s
-law_row_unique qp law i r s k l = primitive_unique (law_sides qp law i) (law_bound qp law i) r s k.multiple l.multiple k.primitive l.primitive
+module _ (one : OnePrimitiveRow) where
+  pub law_row_unique : (qp : Qp) (law : Law) (i : ℕ) (r s : RowInt) → IsLawRow qp law i r → IsLawRow qp law i s → r ≡ s
+  law_row_unique qp law i r s k l =
+      one (law_sides qp law i) (law_bound qp law i) r s (record { scaled = k.multiple; primitive = k.primitive }) (record { scaled = l.multiple; primitive = l.primitive })
 
-pub law_rows_unique : (qp : Qp) (law : Law) (xs ys : List RowInt) → AreLawRows qp law xs → AreLawRows qp law ys → xs ≡ ys
-law_rows_unique qp law xs ys h k =
-    ext_get_or blank xs ys (h.one_each ∙ sym k.one_each)
-    (λ i l. let within : i < height qp.g = subst (λ n. i < n) h.one_each l in law_row_unique qp law (i + 1) (get_or xs i blank) (get_or ys i blank) (h.each i within) (k.each i within))
+  pub law_rows_unique : (qp : Qp) (law : Law) (xs ys : List RowInt) → AreLawRows qp law xs → AreLawRows qp law ys → xs ≡ ys
+  law_rows_unique qp law xs ys h k =
+      ext_get_or blank xs ys (h.one_each ∙ sym k.one_each)
+      (λ i l. let within : i < height qp.g = subst (λ n. i < n) h.one_each l in law_row_unique qp law (i + 1) (get_or xs i blank) (get_or ys i blank) (h.each i within) (k.each i within))
 
 -- ---- the conditions of the rows and the region
 tight_at : (qp : Qp) (s : List ℕ) (t z : List ℚ) (p : ℕ) → p < length s → IsTight qp s t z → gain qp z (get_or s p 0) ≡ limit qp t (get_or s p 0)

@@ -1,10 +1,10 @@
--- What is single: the law of a set, the rows of a law, the whole multiple of a row, the coefficients of an affine form.
-use Rattle.std.specs.Prelude.{◌≡◌, ℕ, ◌+◌, ◌<◌, ◌≤◌, List, [], ◌∷◌, ◌++◌, length, get_or}
+-- What is single: the law of a set, the rows of a law, the coefficients of an affine form.
+use Rattle.std.specs.Prelude.{◌≡◌, ℕ, ◌+◌, ◌<◌, ◌≤◌, List, length, get_or}
 use Rattle.mpc_exact.specs.Rational.{ℚ}
 use Rattle.mpc_space.specs.Vector.{coordinate, dot}
 use Rattle.mpc_space.specs.Definite.{IsDefinite}
 use Rattle.mpc_linear.specs.declared.integers.RowInt.{RowInt}
-use Rattle.mpc_linear.specs.Whole.{IsScaledRow, IsPrimitive}
+use Rattle.mpc_linear.specs.Whole.{IsScaledRow}
 use Rattle.mpc_sets.specs.RowSet.{RisesWithin}
 use Rattle.mpc_rows.specs.declared.programs.Qp.{Qp}
 use Rattle.mpc_rows.specs.declared.laws.Law.{Law}
@@ -19,10 +19,6 @@ SameCoefficients = (n : ℕ) (r s : List ℚ) → ((t : List ℚ) → length t �
 -- an independent set has one law, where h is positive definite
 abbrev pub OneLaw : Type 0
 OneLaw = (qp : Qp) → IsDefinite qp.h.rows → (a b : Law) → IsLaw qp a → IsLaw qp b → a.set ≡ b.set → IsIndependentSet qp a.set → a ≡ b
-
--- a row has one multiple in whole numbers without a common divisor
-abbrev pub OnePrimitive : Type 0
-OnePrimitive = (a : List ℚ) (b : ℚ) (r s : RowInt) → IsScaledRow a b r.a r.b → IsScaledRow a b s.a s.b → IsPrimitive (r.a ++ r.b ∷ []) → IsPrimitive (s.a ++ s.b ∷ []) → r ≡ s
 
 -- a law has one row for each row of the program
 abbrev pub OneLawRow : Type 0
@@ -42,7 +38,6 @@ MemberBounds = (high : ℕ) (s : List ℕ) (k : ℕ) → RisesWithin 0 high s �
 pub record LawLaws : Type 0 where
   pub same_coefficients : SameCoefficients
   pub law_unique : OneLaw
-  pub primitive_unique : OnePrimitive
   pub law_row_unique : OneLawRow
   pub law_rows_unique : OneListOfRows
   pub law_row_size : LawRowSize

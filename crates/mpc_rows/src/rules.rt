@@ -4,6 +4,8 @@ ghost use Rattle.mpc_rows.specs.LawLaws.{LawLaws};
 ghost use Rattle.mpc_rows.specs.RegionLaws.{RegionLaws};
 ghost use Rattle.mpc_rows.specs.SystemLaws.{SystemLaws};
 
+use mpc_linear::primitive_laws;
+
 /// Refuted systems have no point, and those with a pair point have one (Farkas 1902, Motzkin 1936); points and multipliers by the numbers of
 /// their unknowns and rows.
 pub fn system_laws()
@@ -19,4 +21,6 @@ pub fn region_laws()
 /// An independent set has one law, and a law one list of rows.
 pub fn law_laws()
     ensures { LawLaws }
-{}
+{
+    primitive_laws();
+}

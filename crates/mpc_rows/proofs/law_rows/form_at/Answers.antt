@@ -1,7 +1,7 @@
 use Rattle.std.proofs.Common.{sym, ◌∙◌, ap, subst}
 use Rattle.mpc_exact.specs.Rational.{neg_ℚ}
 use Rattle.mpc_space.specs.Vector.{coordinate}
-use Rattle.mpc_linear.proofs.Outcomes.{value_as}
+use Rattle.mpc_space.proofs.Outcomes.{value_as}
 use Rattle.mpc_rows.specs.LawRows.{IsPlaceAmong}
 use Rattle.mpc_rows.proofs.LawRowLemmas.{form_outside, member_coefficient}
 use Rattle.mpc_rows.proofs.law_rows.form_at.Goals as goal

@@ -1,8 +1,8 @@
 use Rattle.std.proofs.Common.{pos}
 use Rattle.mpc_exact.specs.Rational.{int}
-use Rattle.mpc_linear.proofs.DotLemmas.{Goes}
+use Rattle.mpc_linear.specs.SumLaws.{IsSumSoFar}
 use Rattle.mpc_rows.specs.Refutation.{right_sides}
 use Rattle.mpc_rows.proofs.refuting.side_sum.Given as goal
 
 abbrev pub invariant-loop-i : goal.invariant-loop-i
-invariant-loop-i l = Goes (int (pos 0)) l.multipliers (right_sides l.system.rows) l.i l.sum
+invariant-loop-i l = IsSumSoFar (int (pos 0)) l.multipliers (right_sides l.system.rows) l.i l.sum

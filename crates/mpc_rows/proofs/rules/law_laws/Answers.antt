@@ -1,7 +1,6 @@
 use Rattle.mpc_rows.proofs.LawLemmas.{law_unique, same_coefficients}
 use Rattle.mpc_rows.proofs.LawPoints.{law_row_size}
 use Rattle.mpc_rows.proofs.PlaceLemmas.{member_bounds}
-use Rattle.mpc_rows.proofs.PrimitiveRows.{primitive_unique}
 use Rattle.mpc_rows.proofs.RegionLemmas.{law_row_unique, law_rows_unique}
 use Rattle.mpc_rows.proofs.rules.law_laws.Goals as goal
 
@@ -9,9 +8,8 @@ pub returns : goal.returns
 returns c = record {
   same_coefficients = same_coefficients;
   law_unique = law_unique;
-  primitive_unique = primitive_unique;
-  law_row_unique = law_row_unique;
-  law_rows_unique = law_rows_unique;
+  law_row_unique = law_row_unique c.primitive_laws.ensures.one;
+  law_rows_unique = law_rows_unique c.primitive_laws.ensures.one;
   law_row_size = law_row_size;
   member_bounds = member_bounds;
 }
