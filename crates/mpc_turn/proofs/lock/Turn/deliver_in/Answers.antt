@@ -1,0 +1,19 @@
+use Rattle.std.proofs.Common.{◌≡◌, ◌∙◌, sym, rules}
+use Rattle.mpc_rows.specs.Verdicts.{IsRight}
+use Rattle.mpc_claim.specs.History.{IsLegal, IsOpen}
+use Rattle.mpc_claim.specs.Answers.{Claims, abandoned, delivered}
+use Rattle.mpc_turn.proofs.Slot.{carries, lent, leaves}
+use Rattle.mpc_turn.proofs.lock.Turn.deliver_in.Goals as goal
+
+pub slot_mut-registry-requires : goal.slot_mut-registry-requires
+slot_mut-registry-requires c = (c.requires.turn ∙ sym c.self.view_is, carries c.args.seat.now.me.1 (λ r. IsOpen r.history c.args.ticket × IsRight r.program c.args.ticket.set c.args.judged.verdict) c.requires.taken)
+
+pub deliver-answer-requires-clause-right : goal.deliver-answer-requires-clause-right
+deliver-answer-requires-clause-right c = (lent c.args.seat.now.me.1 c.slot_mut-registry.result.now (λ r. IsOpen r.history c.args.ticket × IsRight r.program c.args.ticket.set c.args.judged.verdict) c.requires.taken c.slot_mut-registry.ensures.value).1
+
+pub deliver-answer-requires-clause-open_still : goal.deliver-answer-requires-clause-open_still
+deliver-answer-requires-clause-open_still c = (lent c.args.seat.now.me.1 c.slot_mut-registry.result.now (λ r. IsOpen r.history c.args.ticket × IsRight r.program c.args.ticket.set c.args.judged.verdict) c.requires.taken c.slot_mut-registry.ensures.value).0
+
+pub returns-clause-delivered : goal.returns-clause-delivered
+returns-clause-delivered c =
+    leaves c.args.seat.now.me.1 c.slot_mut-registry.result.now c.deliver-answer.new.self (λ r. IsOpen r.history c.args.ticket × IsRight r.program c.args.ticket.set c.args.judged.verdict) (λ r s. (s ≡ delivered r c.args.ticket c.args.judged.verdict) × IsLegal s.program s.history) c.requires.taken c.slot_mut-registry.ensures.value (c.deliver-answer.ensures, c.history-history.ensures.sound.legal)

@@ -1,0 +1,4 @@
+pub mod Blank
+pub mod Views
+pub mod Lock
+pub mod Known
