@@ -1,12 +1,12 @@
 -- The leaves of a tree with its certificates have as many as a controller's leaves have, and each names rows of its leaf's system only.
-use Rattle.std.proofs.Common.{◌≡◌, ℕ, suc, ◌+◌, ◌*◌, ◌<◌, ◌≤◌, List, [], ◌∷◌, ◌++◌, length, get_or, map, cond, true, false, ◌⊎◌, inl, inr, pos, refl, sym, ◌∙◌, subst, arith, append_assoc}
+use Rattle.std.proofs.Common.{◌≡◌, ℕ, suc, ◌+◌, ◌*◌, ◌<◌, ◌≤◌, List, [], ◌∷◌, ◌++◌, length, get_or, map, cond, true, false, ◌⊎◌, inl, inr, pos, refl, sym, ◌∙◌, ap, subst, arith, append_assoc}
 use Rattle.std.specs.Prelude.{All}
 use Rattle.std.proofs.lemmas.Bool.{cond-true, cond-false, cases_Bool}
 use Rattle.std.proofs.lemmas.List.{append-nil, length-append, length-map}
 use Rattle.std.proofs.lemmas.List.FromFn.{length-map-range_with_len}
 use Rattle.std.proofs.lemmas.List.Elements.{All-nil, All-cons, All-from_get_or}
 use Rattle.std.proofs.lemmas.Option.{get_or_from_slice_get, slice_get-get_or}
-use Rattle.mpc_exact.specs.Rational.{ℚ}
+use Rattle.mpc_exact.specs.Rational.{ℚ, int}
 use Rattle.mpc_space.specs.Matrix.{height}
 use Rattle.mpc_linear.specs.declared.integers.RowInt.{RowInt}
 use Rattle.mpc_rows.specs.declared.programs.Qp.{Qp}
@@ -16,16 +16,34 @@ use Rattle.mpc_rows.specs.declared.trees.Node.{Node}
 use Rattle.mpc_rows.specs.declared.trees.Node.TheVariants.{Split, Law, NoMove}
 use Rattle.mpc_rows.specs.LinearSystem.{LinearSystem}
 use Rattle.mpc_rows.specs.Run.{is_zero}
+use Rattle.mpc_rows.specs.Certificates.{RisesFrom}
 use Rattle.mpc_rows.specs.LawRows.{whole_row, broken_row}
 use Rattle.mpc_rows.specs.SetRuns.{box_from, box_rows, joint_row, joint_rows}
 use Rattle.mpc_tree.specs.Systems.{hold_system, joint_system, widened}
 use Rattle.mpc_tree.specs.Trees.{Cell, whole_box, yes_side, no_side, leaf, split}
 use Rattle.mpc_tree.specs.LeafCerts.{nonzero_from, IsCertOf, AreCertsOf, AreLawCerts as AreItsCerts, HasItsCerts}
 use Rattle.mpc_tree.specs.Certified.{IsCertified}
-use Rattle.mpc_tree.proofs.CertLists.{nonzero-is_cert}
 use Rattle.mpc_file.specs.Certificates.{IsCertOver, cell_rows, AreLawCerts, HaveCerts}
 
 -- ---- one certificate
+-- the positions of the multipliers that aren't 0 rise
+zero_is_zero : (c : ℚ) → c ≡ int (pos 0) → is_zero c ≡ true
+unfolding Rattle.mpc_exact.specs.Rational.frac Rattle.mpc_exact.specs.Gcd.gcd
+zero_is_zero c e = ap is_zero e
+
+rises : (last p : ℕ) (ms : List ℚ) → last < p → RisesFrom last (nonzero_from p ms)
+rises last p [] h = tt
+rises last p (m ∷ ms) h = by (cases_Bool (is_zero m)) (rises last (p + 1) ms (omega arith)) (rises p (p + 1) ms (omega arith))
+  where
+    true_false : true ≡ false → ⊥
+    true_false e = cc
+
+    by : (is_zero m ≡ true) ⊎ (is_zero m ≡ false) → RisesFrom last (nonzero_from (p + 1) ms) → RisesFrom p (nonzero_from (p + 1) ms) → RisesFrom last (cond (is_zero m) (nonzero_from (p + 1) ms) ((p, m) ∷ nonzero_from (p + 1) ms))
+    by (inl e) skip take = subst (RisesFrom last) (sym (cond-true (is_zero m) (nonzero_from (p + 1) ms) ((p, m) ∷ nonzero_from (p + 1) ms) e)) skip
+    by (inr e) skip take =
+        subst (RisesFrom last) (sym (cond-false (is_zero m) (nonzero_from (p + 1) ms) ((p, m) ∷ nonzero_from (p + 1) ms) e))
+        (h, (λ z. true_false (sym (zero_is_zero m z) ∙ e)), take)
+
 -- the multipliers that aren't 0 stand at places of the list
 nonzero_within : (rows p : ℕ) (ms : List ℚ) → p + length ms ≤ rows + 1 → All (λ (entry : ℕ × ℚ). entry.0 ≤ rows) (nonzero_from p ms)
 nonzero_within rows p [] h = All-nil (λ (entry : ℕ × ℚ). entry.0 ≤ rows)
@@ -42,7 +60,7 @@ nonzero_within rows p (m ∷ ms) h = by (cases_Bool (is_zero m)) (nonzero_within
         (All-cons (λ (entry : ℕ × ℚ). entry.0 ≤ rows) (p, m) (nonzero_from (p + 1) ms) here later)
 
 nonzero_over : (rows : ℕ) (ms : List ℚ) → length ms ≡ rows → IsCertOver rows (nonzero_from 1 ms)
-nonzero_over rows ms e = record { is_cert = nonzero-is_cert ms; within = nonzero_within rows 1 ms (omega (arith, e)) }
+nonzero_over rows ms e = record { is_cert = record { rises = rises 0 1 ms (omega arith) }; within = nonzero_within rows 1 ms (omega (arith, e)) }
 
 -- a certificate of a system names rows of it
 over_system : (s : LinearSystem) (rows : ℕ) (cert : List (ℕ × ℚ)) → length s.rows ≡ rows → IsCertOf s cert → IsCertOver rows cert

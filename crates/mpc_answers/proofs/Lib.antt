@@ -1,7 +1,8 @@
+pub mod ElementLemmas
 pub mod TreeWalks
-pub mod SmallRows
 pub mod SplitRows
 pub mod CertShapes
+pub mod TableSizes
 pub mod TreeShapes
 pub mod BoxCounts
 pub mod OneTable

@@ -10,6 +10,7 @@ use Rattle.mpc_space.proofs.Vector.{dot_comm}
 use Rattle.mpc_space.proofs.Entries.{dot-zero}
 use Rattle.mpc_linear.specs.declared.integers.RowInt.{RowInt}
 use Rattle.mpc_linear.specs.Whole.{DividesAll, IsPrimitive}
+use Rattle.mpc_linear.specs.PrimitiveRows.{SmallPrimitiveRow}
 use Rattle.mpc_rows.specs.declared.programs.Qp.{Qp}
 use Rattle.mpc_rows.specs.declared.laws.Law.{Law}
 use Rattle.mpc_rows.specs.declared.systems.Row.{Row}
@@ -17,12 +18,11 @@ use Rattle.mpc_rows.specs.LinearSystem.{MeetsRow}
 use Rattle.mpc_rows.specs.Laws.{IsLaw, IsInRegion}
 use Rattle.mpc_rows.specs.LawRows.{IsLawRow, AreLawRows, law_sides, law_bound, whole_row}
 use Rattle.mpc_rows.specs.SetRuns.{box_rows, region_system, LawRowsFit}
-use Rattle.mpc_rows.proofs.JointLemmas.{All-split}
-use Rattle.mpc_rows.proofs.LawPoints.{law_row_size}
-use Rattle.mpc_rows.proofs.RegionLemmas.{region_points}
+use Rattle.mpc_rows.specs.LawLaws.{LawRowSize}
+use Rattle.mpc_rows.specs.RegionLaws.{RegionPoints}
 use Rattle.mpc_file.specs.Parts.{IsSplitRow}
 use Rattle.mpc_tree.specs.Cells.{RegionMeets, IsFirstToFail}
-use Rattle.mpc_answers.proofs.SmallRows.{primitive_row_small}
+use Rattle.mpc_answers.proofs.ElementLemmas.{All-split}
 
 abbrev blank : RowInt
 blank = record { a = []; b = pos 0 }
@@ -39,14 +39,14 @@ same_everywhere : (row : RowInt) (s t : List ℚ) → All (λ z. z ≡ pos 0) ro
 same_everywhere row s t h m = subst (λ x. x ≤ℚ int row.b) (left_zero row s h ∙ sym (left_zero row t h)) m
 
 -- the rows of a law hold in its region
-holds_in_region : (qp : Qp) (law : Law) → IsLaw qp law → (rows : List RowInt) → AreLawRows qp law rows → (t : List ℚ) → IsInRegion qp law t → (k : ℕ) → k < length rows → MeetsRow t (whole_row (get_or rows k blank))
+holds_in_region : RegionPoints → (qp : Qp) (law : Law) → IsLaw qp law → (rows : List RowInt) → AreLawRows qp law rows → (t : List ℚ) → IsInRegion qp law t → (k : ℕ) → k < length rows → MeetsRow t (whole_row (get_or rows k blank))
 unfolding region_system
-holds_in_region qp law is rows are t r k h =
+holds_in_region region_points qp law is rows are t r k h =
     let point = (region_points qp law is rows are t).0 r in
     let parts = All-split (MeetsRow t) (box_rows (length qp.counts) qp.counts) (map whole_row rows) point.meets in
     subst (MeetsRow t) (get_or-map whole_row rows k blank (whole_row blank) h) (All-get_or (MeetsRow t) (map whole_row rows) k (whole_row blank) (subst (λ n. k < n) (sym (length-map rows whole_row)) h) parts.1)
 
-module _ (qp : Qp) (law : Law) (is_law : IsLaw qp law) (fit : LawRowsFit qp law (height qp.g)) (cell : List Row) (meets : RegionMeets qp cell law) (row : RowInt) (first : IsFirstToFail qp law cell row) where
+module _ (region_points : RegionPoints) (law_row_size : LawRowSize) (small_row : SmallPrimitiveRow) (qp : Qp) (law : Law) (is_law : IsLaw qp law) (fit : LawRowsFit qp law (height qp.g)) (cell : List Row) (meets : RegionMeets qp cell law) (row : RowInt) (first : IsFirstToFail qp law cell row) where
   within : first.place < length first.rows
   within = slice_get_within first.rows first.place row first.is
 
@@ -59,7 +59,7 @@ module _ (qp : Qp) (law : Law) (is_law : IsLaw qp law) (fit : LawRowsFit qp law 
   -- it holds at the state at which the region meets the cell, and fails at another state
   not_zero : All (λ z. z ≡ pos 0) row.a → ⊥
   not_zero zeros =
-      let holds : MeetsRow meets.state (whole_row row) = subst (λ r. MeetsRow meets.state (whole_row r)) row_is (holds_in_region qp law is_law first.rows first.of_law meets.state meets.in_region first.place within) in
+      let holds : MeetsRow meets.state (whole_row row) = subst (λ r. MeetsRow meets.state (whole_row r)) row_is (holds_in_region region_points qp law is_law first.rows first.of_law meets.state meets.in_region first.place within) in
       first.fails.fails (same_everywhere row meets.state first.fails.state zeros holds)
 
   coprime : (d : ℕ) → DividesAll d (row.a ++ row.b ∷ []) → d ≡ 1
@@ -76,5 +76,5 @@ module _ (qp : Qp) (law : Law) (is_law : IsLaw qp law) (fit : LawRowsFit qp law 
         size = law_row_size qp law (first.place + 1) is_law.shape row is_law_row.multiple;
         some = not_zero;
         no_divisor = coprime;
-        small = primitive_row_small (law_sides qp law (first.place + 1)) (law_bound qp law (first.place + 1)) (fit (first.place + 1) (omega arith) (omega arith)).whole row is_law_row.multiple is_law_row.primitive;
+        small = small_row (law_sides qp law (first.place + 1)) (law_bound qp law (first.place + 1)) row (fit (first.place + 1) (omega arith) (omega arith)).whole (record { scaled = is_law_row.multiple; primitive = is_law_row.primitive });
       }

@@ -1,5 +1,5 @@
 -- The table of a plant's program and the tree of that table, with its certificates, have the shapes of a controller's parts.
-use Rattle.std.proofs.Common.{◌≡◌, ℕ, ◌+◌, ◌≤◌, List, [], ◌++◌, length, sym, ◌∙◌, ap, subst, arith, All}
+use Rattle.std.proofs.Common.{◌≡◌, ℕ, ◌+◌, ◌≤◌, List, [], ◌++◌, length, ◌∙◌, ap, subst, arith, All}
 use Rattle.std.specs.Prelude.{Contains}
 use Rattle.std.proofs.lemmas.List.{length-map}
 use Rattle.std.proofs.lemmas.List.Elements.{All-nil, All-cons, All-append}
@@ -7,6 +7,7 @@ use Rattle.std.proofs.lemmas.Option.{slice_get_within}
 use Rattle.mpc_space.specs.Matrix.{height}
 use Rattle.mpc_sets.specs.RowSet.{IsSetOfRows}
 use Rattle.mpc_linear.specs.declared.integers.RowInt.{RowInt}
+use Rattle.mpc_linear.specs.PrimitiveRows.{SmallPrimitiveRow}
 use Rattle.mpc_plant.specs.declared.plants.Plant.{Plant}
 use Rattle.mpc_rows.specs.declared.programs.Qp.{Qp}
 use Rattle.mpc_rows.specs.declared.laws.Law.{Law as LawOfSet}
@@ -16,17 +17,21 @@ use Rattle.mpc_linear.specs.Shape.{HasShape}
 use Rattle.mpc_rows.specs.Laws.{HasLawShape}
 use Rattle.mpc_rows.specs.Candidates.{IsTable}
 use Rattle.mpc_rows.specs.SetRuns.{LawRowsFit}
+use Rattle.mpc_rows.specs.LawLaws.{LawRowSize}
+use Rattle.mpc_rows.specs.RegionLaws.{RegionPoints}
 use Rattle.mpc_condense.specs.Condensed.{IsCondensed}
-use Rattle.mpc_file.specs.Parts.{row_count, IsLawFor, IsSplitRow, IsNodeFor, HaveShapes}
+use Rattle.mpc_file.specs.PreorderLaws.{JoinedSpell}
+use Rattle.mpc_file.specs.Parts.{row_count, IsLawFor, IsSplitRow, IsNodeFor}
 use Rattle.mpc_tree.specs.Trees.{Cell, whole_box, yes_side, no_side, leaf, split, Divides, IsLeafOf, IsTreeOf}
 use Rattle.mpc_tree.specs.Certified.{IsCertified}
-use Rattle.mpc_tree.proofs.OneTree.{tree_of_certified}
+use Rattle.mpc_answers.specs.Replies.{PartsHaveShapes, PlantTableIsSmall}
+use Rattle.mpc_answers.proofs.ElementLemmas.{all_contained}
 use Rattle.mpc_answers.proofs.CertShapes.{whole_certs}
+use Rattle.mpc_answers.proofs.TableSizes.{table_shape}
 use Rattle.mpc_answers.proofs.TreeWalks.{spells_tree, table_leaf, contains_at}
-use Rattle.mpc_tree.proofs.TableSizes.{laws_of_forty, table_shape, all_laws}
 use Rattle.mpc_answers.proofs.SplitRows.{split_row}
 
-module _ (qp : Qp) (plant : Plant) (condensed : IsCondensed qp plant) where
+module _ (region_points : RegionPoints) (law_row_size : LawRowSize) (small_row : SmallPrimitiveRow) (qp : Qp) (plant : Plant) (condensed : IsCondensed qp plant) where
   states : length qp.counts ≡ plant.n
   states = ap length condensed.counts_are ∙ length-map plant.grid (λ axis. axis.count) ∙ plant.is_plant.grid_size
 
@@ -40,15 +45,12 @@ module _ (qp : Qp) (plant : Plant) (condensed : IsCondensed qp plant) where
 
   module _ (laws : List LawOfSet) (table : IsTable qp laws) (fit : (law : LawOfSet) → Contains laws law → LawRowsFit qp law (height qp.g)) where
     laws_fit : All (IsLawFor plant) laws
-    laws_fit = all_laws laws (IsLawFor plant) (λ law c. law_for law (table_shape qp laws table law c))
-
-    laws_few : length laws ≤ 4598479
-    laws_few = laws_of_forty qp laws table (subst (λ n. n ≤ 40) (sym condensed.rows_are) plant.is_plant.rows_few)
+    laws_fit = all_contained laws (IsLawFor plant) (λ law c. law_for law (table_shape qp laws table law c))
 
     split_for : (cell : Cell) (place : ℕ) (row : RowInt) → Divides qp laws cell place row → IsSplitRow plant.n row
     split_for cell place row d =
         let c : Contains laws d.law = contains_at laws place d.law d.first.is in
-        subst (λ n. IsSplitRow n row) states (split_row qp d.law (table.are_laws d.law c).verdict.2 (fit d.law c) cell.rows d.first.meets row d.fails)
+        subst (λ n. IsSplitRow n row) states (split_row region_points law_row_size small_row qp d.law (table.are_laws d.law c).verdict.2 (fit d.law c) cell.rows d.first.meets row d.fails)
 
     leaf_for : (cell : Cell) (node : Node) → IsLeafOf qp laws cell node → IsNodeFor plant.n (length laws) node
     leaf_for cell (Split row) h = absurd h
@@ -63,13 +65,19 @@ module _ (qp : Qp) (plant : Plant) (condensed : IsCondensed qp plant) where
         All-cons (IsNodeFor plant.n (length laws)) (Split row) (one ++ two) (split_for cell place row d)
         (All-append (IsNodeFor plant.n (length laws)) one two (nodes_fit (yes_side cell place row) one y) (nodes_fit (no_side cell place row) two n))
 
-pub tree_shapes : (qp : Qp) (plant : Plant) (laws : List LawOfSet) (nodes : List Node) → IsCondensed qp plant → IsTable qp laws → ((law : LawOfSet) → Contains laws law → LawRowsFit qp law (height qp.g)) → IsCertified qp laws whole_box nodes → HaveShapes plant laws nodes
-tree_shapes qp plant laws nodes condensed table fit is =
+-- the certificates aside, a certified tree is a tree of the table
+tree_of_certified : (qp : Qp) (laws : List LawOfSet) (cell : Cell) (nodes : List Node) → IsCertified qp laws cell nodes → IsTreeOf qp laws cell nodes
+tree_of_certified qp laws cell _ (leaf _ node e) = leaf cell node e.0.ends
+tree_of_certified qp laws cell _ (split _ place row one two d y n) =
+    split cell place row one two d.divides (tree_of_certified qp laws (yes_side cell place row) one y) (tree_of_certified qp laws (no_side cell place row) two n)
+
+pub tree_shapes : JoinedSpell → RegionPoints → LawRowSize → SmallPrimitiveRow → PlantTableIsSmall → PartsHaveShapes
+tree_shapes join points size small few qp plant laws nodes condensed table fit is =
     let tree : IsTreeOf qp laws whole_box nodes = tree_of_certified qp laws whole_box nodes is in
     record {
-      laws_few = laws_few qp plant condensed laws table fit;
-      laws_fit = laws_fit qp plant condensed laws table fit;
-      nodes_fit = nodes_fit qp plant condensed laws table fit whole_box nodes tree;
-      complete = spells_tree (Divides qp laws) (IsLeafOf qp laws) (table_leaf qp laws) whole_box nodes tree;
-      certs_fit = whole_certs qp plant.n (row_count plant) (states qp plant condensed) condensed.rows_are laws nodes is;
+      laws_few = few plant qp laws condensed table;
+      laws_fit = laws_fit points size small qp plant condensed laws table fit;
+      nodes_fit = nodes_fit points size small qp plant condensed laws table fit whole_box nodes tree;
+      complete = spells_tree join (Divides qp laws) (IsLeafOf qp laws) (table_leaf qp laws) whole_box nodes tree;
+      certs_fit = whole_certs qp plant.n (row_count plant) (states points size small qp plant condensed) condensed.rows_are laws nodes is;
     }

@@ -23,12 +23,14 @@ use Rattle.mpc_rows.specs.Laws.{IsInRegion}
 use Rattle.mpc_rows.specs.Candidates.{IsTable}
 use Rattle.mpc_rows.specs.LawRows.{whole_row, broken_row}
 use Rattle.mpc_condense.specs.Condensed.{IsCondensed}
-use Rattle.mpc_best.proofs.BestMoves.{law_is_right, infeasible_is_right}
-use Rattle.mpc_cover.proofs.Cover.{covered_by_table}
+use Rattle.mpc_best.specs.BestReplies.{LawIsRight, InfeasibleIsRight}
+use Rattle.mpc_cover.specs.CoverLaws.{TablesCover}
 use Rattle.mpc_file.specs.Parts.{Parts}
 use Rattle.mpc_file.specs.Preorder.{Spells, IsNoSide}
+use Rattle.mpc_file.specs.PreorderLaws.{JoinedSpell}
 use Rattle.mpc_file.specs.Walk.{Satisfies, Reaches, root, yes_side as to_yes, no_side as to_no, IsLeaf, EndsAt}
 use Rattle.mpc_file.specs.Replies.{first_move, IsLawNumbered, RepliesAt, by_law, by_no_law}
+use Rattle.mpc_answers.specs.Replies.{RightReplies}
 use Rattle.mpc_tree.specs.Cells.{IsInCell, NoneMeetsBefore}
 use Rattle.mpc_tree.specs.Trees.{Cell, whole_box, yes_side, no_side, IsTreeWhere, leaf, split, Divides, IsOfLaw, IsLeafOf, IsTreeOf}
 
@@ -40,18 +42,6 @@ broken_by t row h = subst (λ x. x <ℚ neg_ℚ (int row.b)) (sym (dot-scale (in
     turned_over x y l = linear_lt (x ∷ y ∷ []) (lt l none) (search claims depth 40) tt
 
 -- ---- lists of nodes that spell a tree
--- what so many trees spell, and what stands behind it
-spell_more : (k : ℕ) (xs ys : List Node) (left n : ℕ) → n ≡ k + left → Spells k xs 0 → Spells left ys 0 → Spells n (xs ++ ys) 0
-spell_more zero [] ys left n e a b = subst (λ m. Spells m ys 0) (omega (arith, e)) b
-spell_more (suc k) [] ys left n e a b = absurd (omega (arith, a))
-spell_more zero (x ∷ xs) ys left n e a b = absurd a
-spell_more (suc k) (Split row ∷ xs) ys left zero e a b = absurd (omega (arith, e))
-spell_more (suc k) (Split row ∷ xs) ys left (suc n) e a b = spell_more (suc (suc k)) xs ys left (suc (suc n)) (omega (arith, e)) a b
-spell_more (suc k) (Law law certs ∷ xs) ys left zero e a b = absurd (omega (arith, e))
-spell_more (suc k) (Law law certs ∷ xs) ys left (suc n) e a b = spell_more k xs ys left n (omega (arith, e)) a b
-spell_more (suc k) (NoMove cert ∷ xs) ys left zero e a b = absurd (omega (arith, e))
-spell_more (suc k) (NoMove cert ∷ xs) ys left (suc n) e a b = spell_more k xs ys left n (omega (arith, e)) a b
-
 -- of two such texts at the head of one list, neither is longer
 head_same : (x y : Node) (xs ys : List Node) → x ∷ xs ≡ y ∷ ys → x ≡ y
 head_same x y xs ys e = ap (λ l. get_or l 0 x) e
@@ -73,7 +63,7 @@ same_length (suc k) (NoMove cert ∷ xs) (y ∷ ys) us vs a b e =
     ap suc (same_length k xs ys us vs a (subst (λ n. Spells (suc k) (n ∷ ys) 0) (sym (head_same (NoMove cert) y (xs ++ us) (ys ++ vs) e)) b) (rest_same (NoMove cert) y (xs ++ us) (ys ++ vs) e))
 
 -- ---- the nodes of a tree of cells spell one tree
-module _ (splits : Cell → ℕ → RowInt → Type 0) (ends : Cell → Node → Type 0) (leaves : (cell : Cell) (node : Node) → ends cell node → IsLeaf node) where
+module _ (join : JoinedSpell) (splits : Cell → ℕ → RowInt → Type 0) (ends : Cell → Node → Type 0) (leaves : (cell : Cell) (node : Node) → ends cell node → IsLeaf node) where
   one_leaf : (node : Node) → IsLeaf node → Spells 1 (node ∷ []) 0
   one_leaf (Split row) h = absurd h
   one_leaf (Law law certs) h = refl
@@ -81,7 +71,7 @@ module _ (splits : Cell → ℕ → RowInt → Type 0) (ends : Cell → Node →
 
   pub spells_tree : (cell : Cell) (nodes : List Node) → IsTreeWhere splits ends cell nodes → Spells 1 nodes 0
   spells_tree cell _ (leaf _ node e) = one_leaf node (leaves cell node e)
-  spells_tree cell _ (split _ place row side other d y n) = spell_more 1 side other 1 2 refl (spells_tree (yes_side cell place row) side y) (spells_tree (no_side cell place row) other n)
+  spells_tree cell _ (split _ place row side other d y n) = join 1 1 side other (spells_tree (yes_side cell place row) side y) (spells_tree (no_side cell place row) other n)
 
   -- ---- the walk keeps to the cells of its point
   -- the nodes from a place on begin with the tree of a cell that has the point
@@ -211,7 +201,7 @@ contains_at laws place law at = (place, slice_get_within laws place law at, get_
 place_in_list : (laws : List LawOfSet) (law : LawOfSet) → Contains laws law → (place : ℕ) × (place < length laws) × (slice_get laws place ≡ Some law)
 place_in_list laws law c = (c.0, c.1, slice_get-get_or laws c.0 law c.1 ∙ ap Some c.2)
 
-module _ (qp : Qp) (parts : Parts) (t : List ℚ) (condensed : IsCondensed qp parts.plant) (definite : IsDefinite qp.h.rows) (table : IsTable qp parts.laws) (is : IsTreeOf qp parts.laws whole_box parts.tree) (box : IsInBox qp.counts t) where
+module _ (join : JoinedSpell) (law_is_right : LawIsRight) (infeasible_is_right : InfeasibleIsRight) (cover : TablesCover) (qp : Qp) (parts : Parts) (t : List ℚ) (condensed : IsCondensed qp parts.plant) (definite : IsDefinite qp.h.rows) (table : IsTable qp parts.laws) (is : IsTreeOf qp parts.laws whole_box parts.tree) (box : IsInBox qp.counts t) where
   of_law : (cell : Cell) (number : ℕ) (law : LawOfSet) → IsInCell qp cell.rows t → IsOfLaw qp parts.laws cell number → IsLawNumbered parts.laws number law → IsRight parts.plant t (move (first_move parts.plant.p law t))
   of_law cell number law within o named =
       let at : slice_get parts.laws o.place ≡ Some law = ap (slice_get parts.laws) (omega (arith, o.number_is)) ∙ named in
@@ -222,18 +212,17 @@ module _ (qp : Qp) (parts : Parts) (t : List ℚ) (condensed : IsCondensed qp pa
   -- where no region meets the cell, nothing satisfies the rows at its points, since the regions cover those where something does
   none_feasible : (cell : Cell) → IsInCell qp cell.rows t → NoneMeetsBefore qp parts.laws cell.rows (length parts.laws) → (z : List ℚ) → IsFeasible qp t z → ⊥
   none_feasible cell within empty z f =
-      let c = covered_by_table qp parts.laws definite table t z f in
+      let c = cover qp parts.laws definite table t z f in
       let at = place_in_list parts.laws c.0 c.1 in
       empty at.0 c.0 at.1 at.2 (record { state = t; in_cell = within; in_region = c.2 })
 
   pub reply_right : (reply : Reply) → RepliesAt parts t reply → IsRight parts.plant t reply
   reply_right _ (by_law place number certs law e named) =
-      let w = walk_ends (Divides qp parts.laws) (IsLeafOf qp parts.laws) (table_leaf qp parts.laws) qp parts.tree t is box place (Law number certs) e in
+      let w = walk_ends join (Divides qp parts.laws) (IsLeafOf qp parts.laws) (table_leaf qp parts.laws) qp parts.tree t is box place (Law number certs) e in
       of_law w.cell number law w.in_cell w.ends_here named
   reply_right _ (by_no_law place cert e) =
-      let w = walk_ends (Divides qp parts.laws) (IsLeafOf qp parts.laws) (table_leaf qp parts.laws) qp parts.tree t is box place (NoMove cert) e in
+      let w = walk_ends join (Divides qp parts.laws) (IsLeafOf qp parts.laws) (table_leaf qp parts.laws) qp parts.tree t is box place (NoMove cert) e in
       infeasible_is_right parts.plant qp t condensed box (λ z f. none_feasible w.cell w.in_cell w.ends_here z f)
 
-pub replies_right : (qp : Qp) (parts : Parts) (t : List ℚ) (reply : Reply) → IsCondensed qp parts.plant → IsDefinite qp.h.rows → IsTable qp parts.laws → IsTreeOf qp parts.laws whole_box parts.tree
-    → IsInBox qp.counts t → RepliesAt parts t reply → IsRight parts.plant t reply
-replies_right qp parts t reply condensed definite table is box r = reply_right qp parts t condensed definite table is box reply r
+pub replies_right : JoinedSpell → LawIsRight → InfeasibleIsRight → TablesCover → RightReplies
+replies_right join of_law of_none cover qp parts t reply condensed definite table is box r = reply_right join of_law of_none cover qp parts t condensed definite table is box reply r

@@ -30,9 +30,21 @@ PartsHaveShapes =
     (qp : Qp) (plant : Plant) (laws : List Law) (nodes : List Node) → IsCondensed qp plant → IsTable qp laws → ((law : Law) → Contains laws law → LawRowsFit qp law (height qp.g)) → IsCertified qp laws whole_box nodes
     → HaveShapes plant laws nodes
 
--- as many laws as there are sets of at most six of forty rows
+-- no more laws than there are sets of at most six of forty rows
 abbrev pub TableIsSmall : Type 0
 TableIsSmall = (qp : Qp) (laws : List Law) → IsTable qp laws → height qp.g ≤ 40 → length laws ≤ 4598479
+
+-- in four unknowns no more laws than there are sets of at most four of sixty rows
+abbrev pub TableOfFourIsSmall : Type 0
+TableOfFourIsSmall = (qp : Qp) (laws : List Law) → IsTable qp laws → height qp.h ≤ 4 → length laws ≤ 523686
+
+-- and so of a plant's program
+abbrev pub PlantTableIsSmall : Type 0
+PlantTableIsSmall = (plant : Plant) (qp : Qp) (laws : List Law) → IsCondensed qp plant → IsTable qp laws → length laws ≤ 4598479
+
+-- a program has one table
+abbrev pub OneTable : Type 0
+OneTable = (qp : Qp) (one two : List Law) → IsTable qp one → IsTable qp two → one ≡ two
 
 -- counts of which none is above its limit are a point of the box
 abbrev pub GridIsInBox : Type 0

@@ -2,25 +2,55 @@
 //! controller. The crate has no code that computes: the clauses of its functions are what it proves.
 #![tactic(auto)]
 
-ghost use Rattle.mpc_answers.specs.Replies.{RightReplies, PartsHaveShapes, TableIsSmall, GridIsInBox};
+ghost use Rattle.mpc_answers.specs.Replies.{RightReplies, PartsHaveShapes, TableIsSmall, TableOfFourIsSmall, PlantTableIsSmall, OneTable, GridIsInBox};
+
+use mpc_best::best_replies;
+use mpc_cover::cover_laws;
+use mpc_file::preorder_laws;
+use mpc_linear::primitive_laws;
+use mpc_rows::{law_laws, region_laws};
+use mpc_sets::{count_laws, order_laws};
 
 /// At each state of the box, also between the grid states, the walk through the tree of a plant's table ends at the first move of the
 /// unique cheapest admissible sequence, and says `infeasible` where no sequence is admissible (Tøndel, Johansen and Bemporad, 2003).
 pub fn right_replies()
     ensures { RightReplies }
-{}
+{
+    best_replies();
+    cover_laws();
+    preorder_laws();
+}
 
 /// The plant, its table and the table's certified tree are a controller's parts: the nodes spell one tree, each law and each row of a
 /// split is of the plant's size, a split's row is in whole numbers below 2^127 without a common divisor, and each leaf has its
 /// certificates: one for each row of the program, or one where it has no law, over the rows of its system (Farkas 1902, Motzkin 1936).
 pub fn tree_shapes()
     ensures { PartsHaveShapes }
-{}
+{
+    table_sizes();
+    law_laws();
+    region_laws();
+    primitive_laws();
+    preorder_laws();
+}
 
-/// A table over at most 40 rows has at most 4,598,479 laws.
+/// A table over at most 40 rows has at most 4,598,479 laws, and one in at most four unknowns has at most 523,686. So the table of a
+/// plant's program has at most 4,598,479: it has more than 40 rows only where it has at most four unknowns.
 pub fn table_sizes()
-    ensures { TableIsSmall }
-{}
+    ensures of_forty_rows { TableIsSmall }
+    ensures of_four_unknowns { TableOfFourIsSmall }
+    ensures of_plant { PlantTableIsSmall }
+{
+    count_laws();
+    order_laws();
+}
+
+/// A program has one table.
+pub fn one_table()
+    ensures { OneTable }
+{
+    order_laws();
+}
 
 /// Counts of which none is above its limit are a state of the box.
 pub fn grid_points()

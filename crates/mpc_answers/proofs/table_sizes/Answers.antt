@@ -1,5 +1,8 @@
-use Rattle.mpc_tree.proofs.TableSizes.{laws_of_forty}
+use Rattle.mpc_answers.proofs.TableSizes.{laws_of_forty, laws_of_four, laws_of_plant}
 use Rattle.mpc_answers.proofs.table_sizes.Goals as goal
 
 pub returns : goal.returns
-returns c = laws_of_forty
+returns c =
+    let counts = c.count_laws.ensures in
+    let order = c.order_laws.ensures in
+    record { of_forty_rows = laws_of_forty counts order; of_four_unknowns = laws_of_four counts order; of_plant = laws_of_plant counts order }
