@@ -1,8 +1,9 @@
-// Compares the proved decisions of systems of rows with plain Rust ones and with stated results: equal answers first, then pivots a
-// second. The argument names the file of systems.
+// Compares the proved decisions of systems of rows with plain Rust ones and with stated results: equal answers first, then how many
+// systems are answered in whole numbers and how many go over to fractions, then pivots a second. The argument names the file of systems.
 #[path = "../common/fractions.rs"]
 #[allow(dead_code)]
 mod fractions;
+mod kernel;
 #[path = "../common/parts.rs"]
 mod parts;
 mod plain;
@@ -169,38 +170,79 @@ fn measure(name: &str, systems: &[(System, Sent)], pivots: u64) -> (f64, f64) {
 
 fn row(name: &str, count: usize, pivots: u64, proved: f64, plain: f64) {
     println!(
-        "{name:10} {count:4} systems {pivots:6} pivots   proved {:9.0} a second   plain Rust {:9.0} a second   time x {:.2}",
+        "{name:19} {count:4} systems {pivots:6} pivots   proved {:9.0} a second   plain Rust {:9.0} a second   time x {:.2}",
         pivots as f64 / proved,
         pivots as f64 / plain,
         proved / plain
     );
 }
 
+/// Whether a system's decision is made in whole numbers.
+fn way(whole: bool) -> &'static str {
+    if whole { "whole" } else { "fractions" }
+}
+
+/// Systems that are measured together, or the sum of several such.
+#[derive(Default)]
+struct Class {
+    systems: Vec<(System, Sent)>,
+    count: usize,
+    pivots: u64,
+    proved: f64,
+    plain: f64,
+}
+
+impl Class {
+    fn measure(&mut self, name: &str) {
+        (self.proved, self.plain) = measure(name, &self.systems, self.pivots);
+    }
+
+    fn add(&mut self, other: &Class) {
+        self.count += other.count;
+        self.pivots += other.pivots;
+        self.proved += other.proved;
+        self.plain += other.plain;
+    }
+
+    fn print(&self, name: &str) {
+        row(name, self.count, self.pivots, self.proved, self.plain);
+    }
+}
+
 fn main() {
     let path = std::env::args().nth(1).expect("the file of systems");
     let text = std::fs::read_to_string(&path).expect("the file of systems");
-    let mut classes: BTreeMap<usize, (Vec<(System, Sent)>, u64)> = BTreeMap::new();
-    let (mut count, mut different) = (0, 0);
+    let mut classes: BTreeMap<(usize, bool), Class> = BTreeMap::new();
+    let (mut count, mut different, mut fractions) = (0, 0, 0);
     for line in text.lines().skip(1) {
         let (system, stated) = read_line(line);
         let sent = Sent::new(&system);
         let (found, pivots) = decide(&system);
+        let whole = kernel::answers(&system);
         count += 1;
+        fractions += usize::from(!whole);
         if found != stated || sent.decide() != Some(stated) {
             different += 1;
             println!("different at: {line}");
         }
-        let class = classes.entry(system.width).or_default();
-        class.1 += pivots;
-        class.0.push((system, sent));
+        let class = classes.entry((system.width, !whole)).or_default();
+        class.count += 1;
+        class.pivots += pivots;
+        class.systems.push((system, sent));
     }
     println!("{count} systems compared: {different} different");
-    let (mut proved, mut plain, mut pivots) = (0.0, 0.0, 0);
-    for (width, (systems, class_pivots)) in &classes {
-        let (p, f) = measure(&format!("width {width}"), systems, *class_pivots);
-        (proved, plain, pivots) = (proved + p, plain + f, pivots + class_pivots);
+    println!("{} in whole numbers, {fractions} by fractions ({:.0} %)", count - fractions, 100.0 * fractions as f64 / count as f64);
+    let mut sums = [true, false].map(|whole| (whole, Class::default()));
+    let mut all = Class::default();
+    for ((width, by_fractions), class) in &mut classes {
+        class.measure(&format!("width {width:2}, {}", way(!*by_fractions)));
+        sums[usize::from(*by_fractions)].1.add(class);
+        all.add(class);
     }
-    row("all", count, pivots, proved, plain);
+    for (whole, sum) in &sums {
+        sum.print(way(*whole));
+    }
+    all.print("all");
     if different > 0 {
         std::process::exit(1);
     }

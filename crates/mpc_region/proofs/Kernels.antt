@@ -27,21 +27,21 @@ module _ (m rhs x : RationalMatrix) (sol : IsOnlySolution m rhs x) (some : 0 < r
   other_column : (j : ℕ) → j < rhs.columns → column other.rows j ≡ vec_add (column x.rows j) (vec_scale (unit 0 j) v)
   other_column j h =
       same_entries (column other.rows j) (vec_add (column x.rows j) (vec_scale (unit 0 j) v))
-      (length-column other.rows j ∙ height-tabled m.columns rhs.columns other_entry ∙ sym (length-add (column x.rows j) (vec_scale (unit 0 j) v) same_size ∙ length-column x.rows j ∙ sol.rows))
+      (length-column other.rows j ∙ height-tabled m.columns rhs.columns other_entry ∙ sym (length-add (column x.rows j) (vec_scale (unit 0 j) v) same_size ∙ length-column x.rows j ∙ sol.shape.rows_are))
       (λ i l.
       let l' : i < m.columns = omega (arith, length-column other.rows j, height-tabled m.columns rhs.columns other_entry) in
       coordinate-column other.rows i j ∙ entry-tabled m.columns rhs.columns other_entry i j l' h
       ∙ sym (coordinate-add (column x.rows j) (vec_scale (unit 0 j) v) i ∙ (λ z. coordinate-column x.rows i j z +ℚ coordinate-scale (unit 0 j) v i z)))
     where
       same_size : length (column x.rows j) ≡ length (vec_scale (unit 0 j) v)
-      same_size = length-column x.rows j ∙ sol.rows ∙ sym (length-scale (unit 0 j) v ∙ size)
+      same_size = length-column x.rows j ∙ sol.shape.rows_are ∙ sym (length-scale (unit 0 j) v ∙ size)
 
   other_solves : mat_mul m other ≡ rhs
   other_solves =
-      same_matrix (mat_mul m other) (mat_mul m x) (rectangular-mat_mul m other) (rectangular-mat_mul m x) (height-mat_mul m other ∙ sym (height-mat_mul m x)) (sym sol.columns)
+      same_matrix (mat_mul m other) (mat_mul m x) (rectangular-mat_mul m other) (rectangular-mat_mul m x) (height-mat_mul m other ∙ sym (height-mat_mul m x)) (sym sol.shape.columns_are)
       (λ i j hi hj.
       let i_in : i < height m = omega (arith, height-mat_mul m other) in
-      let j_in : j < x.columns = omega (arith, sol.columns) in
+      let j_in : j < x.columns = omega (arith, sol.shape.columns_are) in
       let row = get_or m.rows i [] in
       entry-mat_mul m other i j i_in hj ∙ ap (dot row) (other_column j hj)
       ∙ dot-add_right (column x.rows j) (vec_scale (unit 0 j) v) row ∙ ap (λ u. dot row (column x.rows j) +ℚ u) (dot-scale_right (unit 0 j) v row)
@@ -55,4 +55,4 @@ module _ (m rhs x : RationalMatrix) (sol : IsOnlySolution m rhs x) (some : 0 < r
       let i_in : i < m.columns = omega (arith, size) in
       cancelled (entry x i 0) (coordinate v i) (unit 0 0) (unit-same 0 0 refl)
       (sym (entry-tabled m.columns rhs.columns other_entry i 0 i_in some)
-      ∙ ap (λ y. entry y i 0) (sol.only other (height-tabled m.columns rhs.columns other_entry) refl (rectangular-tabled m.columns rhs.columns other_entry) other_solves)))
+      ∙ ap (λ y. entry y i 0) (sol.only other (record { rows_are = height-tabled m.columns rhs.columns other_entry; columns_are = refl; rectangular = rectangular-tabled m.columns rhs.columns other_entry }) other_solves)))

@@ -42,10 +42,10 @@ module _ (qp : Qp) (s : List ℕ) (x : RationalMatrix) (sol : IsOnlySolution (la
   part first count = tabled count x.columns (λ i j. entry x (first + i) j)
 
   x_columns : x.columns ≡ length qp.counts + 1
-  x_columns = sol.columns ∙ right_columns qp s
+  x_columns = sol.shape.columns_are ∙ right_columns qp s
 
   x_height : height x ≡ n + length s
-  x_height = sol.rows ∙ matrix_columns qp s
+  x_height = sol.shape.rows_are ∙ matrix_columns qp s
 
   module _ (t : List ℚ) (t_size : length t ≡ length qp.counts) where
     abbrev c : List ℚ

@@ -11,7 +11,7 @@ use Rattle.mpc_rows.specs.declared.laws.Law.{Law}
 use Rattle.mpc_rows.specs.LawRows.{IsLawRow, AreLawRows, LawRowFits}
 use Rattle.mpc_rows.specs.SetRuns.{LawRowsFit}
 use Rattle.mpc_rows.specs.Verdicts.{IsFirstWideRow}
-use Rattle.mpc_region.specs.Writing.{IsOfSize, AreOfSize}
+use Rattle.mpc_systems.specs.Writing.{IsOfSize, AreOfSize}
 
 abbrev pub no_row : RowInt
 no_row = record { a = []; b = pos 0 }

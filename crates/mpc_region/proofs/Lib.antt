@@ -6,8 +6,6 @@ pub mod Products
 pub mod LawTheorem
 pub mod LawForms
 pub mod LawEnds
-pub mod Wholes
-pub mod SystemRows
 pub mod LawRowLists
 pub mod Decisions
 pub mod SmallPrograms

@@ -4,12 +4,12 @@ use Rattle.std.proofs.lemmas.List.{get_or-map, length-map}
 use Rattle.mpc_exact.specs.Rational.{ℚ}
 use Rattle.mpc_space.specs.Vector.{cell, coordinate}
 use Rattle.mpc_sets.specs.RowSet.{IsSetOfRows}
-use Rattle.mpc_sets.proofs.RowSets.{Among_within, Among_at}
+use Rattle.mpc_rows.specs.LawLaws.{LawLaws}
 use Rattle.mpc_rows.specs.ActiveSets.{row_of, rows_of}
 
-pub member_within : (rows : ℕ) (s : List ℕ) (k i : ℕ) → IsSetOfRows rows s → k < length s → i ≡ get_or s k 0 → (1 ≤ i) × (i ≤ rows)
-member_within rows s k i h l e =
-    let w : (0 < get_or s k 0) × (get_or s k 0 ≤ rows) = Among_within 0 rows (get_or s k 0) s h.rises (Among_at s k l) in
+pub member_within : LawLaws → (rows : ℕ) (s : List ℕ) (k i : ℕ) → IsSetOfRows rows s → k < length s → i ≡ get_or s k 0 → (1 ≤ i) × (i ≤ rows)
+member_within laws rows s k i h l e =
+    let w : (1 ≤ get_or s k 0) × (get_or s k 0 ≤ rows) = laws.member_bounds rows s k h.rises l in
     (omega (arith, w.0), omega (arith, w.1))
 
 pub member_row : (m : List (List ℚ)) (s : List ℕ) (k i : ℕ) → k < length s → i ≡ get_or s k 0 → get_or (rows_of m s) k [] ≡ row_of m i

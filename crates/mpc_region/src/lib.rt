@@ -9,11 +9,9 @@ ghost use Rattle.mpc_rows.specs.Verdicts.{IsRight};
 
 mod law;
 mod matrices;
-mod numbers;
 mod points;
 mod reach;
 mod region;
-mod systems;
 #[cfg(test)]
 mod tests;
 mod verdicts;
@@ -21,11 +19,9 @@ mod verdicts;
 use mpc_frac::NoMemory;
 use mpc_rows::{Judged, Qp};
 use mpc_sets::ActiveSet;
-pub use numbers::whole;
 pub use points::has_point;
-pub use region::{fraction_row, law_rows, push_rows};
+pub use region::law_rows;
 use std::alloc::Global;
-pub use systems::{push_box, push_entries, push_joint_rows};
 use verdicts::verdict_on;
 
 /// The verdict on an active set of the program (Bemporad, Morari, Dua and Pistikopoulos, 2002;

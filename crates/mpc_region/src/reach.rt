@@ -9,10 +9,10 @@ ghost use Rattle.mpc_rows.specs.SetRuns.{reach_system};
 ghost use Rattle.mpc_simplex.specs.Answer.{IfWide};
 
 use crate::points::has_point;
-use crate::systems::reach_system;
-use mpc_rows::Qp;
+use mpc_rows::{Qp, region_laws};
 use mpc_sets::ActiveSet;
 use mpc_simplex::SimplexError;
+use mpc_systems::reach_system;
 use std::alloc::Global;
 
 /// Whether some state of the box and some unknowns satisfy all rows, those of the set with equality.
@@ -21,6 +21,7 @@ pub fn is_reachable(alloc: Global, qp: &Qp, set: ActiveSet) -> Result<bool, Simp
     ensures answer { IfOk result (λ yes. IsTrue yes ↔ IsReachable qp.now set) }
     ensures wide { MatchResult result (λ _. RunFits (reach_system qp.now set)) (λ e. IfWide e (¬ RunFits (reach_system qp.now set))) }
 {
+    region_laws();
     let Ok(system) = reach_system(alloc, qp, set) else {
         return Err(SimplexError::NoMemory);
     };

@@ -10,7 +10,7 @@ ghost use Rattle.mpc_rows.specs.Laws.{IsLaw};
 ghost use Rattle.mpc_rows.specs.SetRuns.{LawRowsFit};
 ghost use Rattle.mpc_rows.specs.Verdicts.{IsRight, ReachFits};
 ghost use Rattle.mpc_region.specs.LawEnd.{IsLawOfSet};
-ghost use Rattle.mpc_region.specs.Writing.{AreOfSize};
+ghost use Rattle.mpc_systems.specs.Writing.{AreOfSize};
 
 use crate::law::{LawEnd, law_of};
 use crate::reach::is_reachable;

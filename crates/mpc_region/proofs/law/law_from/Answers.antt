@@ -6,12 +6,12 @@ use Rattle.mpc_region.proofs.law.law_from.Goals as goal
 
 pub part-requires : goal.part-requires
 part-requires c =
-    let e : height c.args.x.now ≡ height c.args.qp.now.h + length c.args.set = c.requires.solution.rows ∙ matrix_columns c.args.qp.now c.args.set in
+    let e : height c.args.x.now ≡ height c.args.qp.now.h + length c.args.set = c.requires.solution.shape.rows_are ∙ matrix_columns c.args.qp.now c.args.set in
     omega arith
 
 pub part-requires-2 : goal.part-requires-2
 part-requires-2 c =
-    let e : height c.args.x.now ≡ height c.args.qp.now.h + length c.args.set = c.requires.solution.rows ∙ matrix_columns c.args.qp.now c.args.set in
+    let e : height c.args.x.now ≡ height c.args.qp.now.h + length c.args.set = c.requires.solution.shape.rows_are ∙ matrix_columns c.args.qp.now c.args.set in
     omega arith
 
 pub returns-clause-law : goal.returns-clause-law

@@ -1,6 +1,0 @@
-use Rattle.std.proofs.Common.{◌≡◌, map, take}
-use Rattle.mpc_exact.specs.Rational.{int}
-use Rattle.mpc_region.proofs.region.fractions.Given as goal
-
-abbrev pub invariant-loop-z : goal.invariant-loop-z
-invariant-loop-z l = l.entries ≡ map int (take l.z-index l.numbers)

@@ -1,9 +1,0 @@
-use Rattle.std.proofs.Common.{◌≡◌, ◌++◌, take}
-use Rattle.mpc_rows.specs.SetRuns.{box_from}
-use Rattle.mpc_region.proofs.systems.push_box.Given as goal
-
-abbrev pub invariant-loop-i : goal.invariant-loop-i
-invariant-loop-i l = record {
-  width : l.system.width ≡ l.fn.system.width;
-  rows : l.system.rows ≡ l.fn.system.rows ++ box_from l.fn.system.width 0 (take l.i l.counts);
-}
