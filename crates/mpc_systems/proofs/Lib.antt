@@ -1,3 +1,4 @@
 pub mod Wholes
 pub mod RowWriting
 pub mod SystemRows
+pub mod CellPoints

@@ -1,7 +1,7 @@
 -- Rows that are written entry by entry, and the rows of a box by their places.
-use Rattle.std.proofs.Common.{◌≡◌, ℕ, zero, suc, ◌+◌, ◌-◌, ◌*◌, ◌<◌, ◌≤◌, cond, nat_lt, false, List, [], ◌∷◌, ◌++◌, length, get_or, map, take, drop, ℤ, pos, negsuc, refl, sym, ◌∙◌, ap, subst, arith, Result, IfOk}
+use Rattle.std.proofs.Common.{◌≡◌, ℕ, zero, suc, ◌+◌, ◌-◌, ◌<◌, ◌≤◌, cond, nat_lt, false, List, [], ◌∷◌, ◌++◌, length, get_or, map, take, drop, ℤ, pos, negsuc, refl, sym, ◌∙◌, ap, subst, arith, Result, IfOk}
 use Rattle.std.specs.List.{range_with_len}
-use Rattle.std.proofs.lemmas.List.{append_assoc, take_more, replicate-append-replicate, get_or_append_left, get_or-append_right}
+use Rattle.std.proofs.lemmas.List.{append_assoc, take_more, replicate-append-replicate}
 use Rattle.std.proofs.Math.Seq.{take-length}
 use Rattle.std.proofs.lemmas.List.FromFn.{map-range_with_len_more}
 use Rattle.mpc_exact.specs.Rational.{ℚ, int, neg_ℚ, ◌*ℚ◌}

@@ -1,5 +1,5 @@
 -- Rows of which systems are made.
-use Rattle.std.specs.Prelude.{◌≡◌, ℕ, ◌+◌, ◌<◌, ◌^◌, ◌++◌, List, All, length, unsigned_abs}
+use Rattle.std.specs.Prelude.{◌≡◌, ℕ, ◌<◌, ◌^◌, ◌++◌, List, All, length, unsigned_abs}
 use Rattle.mpc_space.specs.Vector.{zeros}
 use Rattle.mpc_linear.specs.Whole.{AreSmall}
 use Rattle.mpc_linear.specs.declared.integers.RowInt.{RowInt}

@@ -2,6 +2,7 @@
 #![tactic(auto)]
 
 mod entries;
+mod laws;
 mod numbers;
 mod pushing;
 mod single_rows;
@@ -9,6 +10,7 @@ mod systems;
 #[cfg(test)]
 mod tests;
 
+pub use laws::cell_laws;
 pub use numbers::whole;
 pub use pushing::{joint_rows, push_box, push_cell, push_joint_rows, push_members, push_rows};
 pub use single_rows::{

@@ -1,4 +1,4 @@
-use Rattle.std.proofs.Common.{◌-◌, ◌≤◌, subst, arith, ◌∙◌, sym}
+use Rattle.std.proofs.Common.{◌-◌, ◌≤◌, subst, arith, sym}
 use Rattle.mpc_space.specs.Matrix.{height}
 use Rattle.mpc_systems.proofs.pushing.add_members.Goals as goal
 
