@@ -1,5 +1,5 @@
 -- The fraction that a C caller sends by its parts.
-use Rattle.std.specs.Prelude.{ℕ, ◌+◌, ◌*◌, ◌<◌, ◌^◌, ℤ, pos, neg_ℤ, if◌then◌else◌}
+use Rattle.std.specs.Prelude.{◌≡◌, ℕ, ◌+◌, ◌*◌, ◌<◌, ◌^◌, ℤ, pos, neg_ℤ, ◌<ℤ◌, ◌↔◌, IsTrue, if◌then◌else◌}
 use Rattle.mpc_exact.specs.Rational.{ℚ, quotient}
 use Rattle.mpc_parts.specs.declared.Parts.{Parts}
 
@@ -20,3 +20,9 @@ pub record IsReadable (p : Parts) : Type 0 where
   pub size_small : size_of p < 2 ^ 127
   pub below_small : below_of p < 2 ^ 127
   pub below_positive : 0 < below_of p
+
+-- the numerator and the denominator of the number in lowest terms, and a sign only where it is negative
+pub record ArePartsOf (p : Parts) (x : ℚ) : Type 0 where
+  pub numer_is : numer_of p ≡ x.numer
+  pub below_is : below_of p ≡ x.denom
+  pub sign : IsTrue p.negative ↔ (x.numer <ℤ pos 0)

@@ -1,10 +1,10 @@
 //! Fractions as a C caller sends and takes them: by signs and halves.
 #![tactic(auto)]
 
-ghost use Rattle.std.specs.Prelude.{◌≡◌, ◌+◌, ◌*◌, ◌^◌, ◌<◌, IsSome, IfSome, pos, neg_ℤ, ◌≤ℤ◌, if◌then◌else◌};
-ghost use Rattle.mpc_parts.specs.Parts.{value_of, IsReadable};
+ghost use Rattle.std.specs.Prelude.{◌≡◌, ◌+◌, ◌*◌, ◌^◌, ◌<◌, IsSome, IfSome, OnSome, pos, neg_ℤ, ◌≤ℤ◌, if◌then◌else◌};
+ghost use Rattle.mpc_parts.specs.Parts.{value_of, IsReadable, ArePartsOf};
 
-use mpc_frac::{Frac, FracError};
+use mpc_frac::{Frac, FracError, fit_laws};
 
 /// The weight of the high half of a number.
 const HIGH: u128 = 1 << 64;
@@ -24,6 +24,7 @@ pub struct Parts {
 fn joined(high: u64, low: u64) -> Option<i128>
     ensures value { IfSome result (λ n. n ≡ pos (high * 2 ^ 64 + low)) }
     ensures fits { high * 2 ^ 64 + low < 2 ^ 127 → IsSome result }
+    ensures only_fitting { OnSome result (high * 2 ^ 64 + low < 2 ^ 127) }
 {
     let size = high as u128 * HIGH + low as u128;
     if size <= i128::MAX as u128 {
@@ -41,11 +42,13 @@ fn signed(negative: bool, size: i128) -> i128
     if negative { -size } else { size }
 }
 
-/// The fraction, where the parts fit and the denominator isn't 0.
+/// The fraction, exactly where both parts are below 2^127 and the denominator isn't 0.
 pub fn read(parts: &Parts) -> Option<Frac>
     ensures value { IfSome result (λ x. x ≡ value_of parts.now) }
     ensures readable { IsReadable parts.now → IsSome result }
+    ensures only_readable { OnSome result (IsReadable parts.now) }
 {
+    fit_laws();
     let size = joined(parts.num_high, parts.num_low)?;
     let den = joined(parts.den_high, parts.den_low)?;
     match Frac::new(signed(parts.negative, size), den) {
@@ -55,9 +58,11 @@ pub fn read(parts: &Parts) -> Option<Frac>
     }
 }
 
-/// The parts of a fraction.
+/// The parts of a fraction in lowest terms, which can be read.
 pub fn parts_of(fraction: &Frac) -> Parts
-    ensures { value_of result ≡ fraction.now }
+    ensures value { value_of result ≡ fraction.now }
+    ensures parts { ArePartsOf result fraction.now }
+    ensures readable { IsReadable result }
 {
     let size = fraction.num().unsigned_abs();
     let den = fraction.den().unsigned_abs();

@@ -4,11 +4,11 @@ use Rattle.std.specs.Fmt.{signed_decimal}
 use Rattle.std.proofs.lemmas.Bool.{eq-eqb, ne_eqb, cond-true, cond-false, cases_eq}
 use Rattle.std.proofs.lemmas.List.Elements.{All-append, All-cons}
 use Rattle.mpc_exact.specs.Rational.{ℚ, quotient, frac_self, denom_positive, same_parts}
+use Rattle.mpc_exact.proofs.School.{quotient_positive}
 use Rattle.mpc_frac.specs.Fits.{FitsFrac}
 use Rattle.mpc_frac.specs.Text.{text_of}
 use Rattle.mpc_frac.specs.declared.FracError.{FracError}
 use Rattle.mpc_frac.specs.declared.FracError.TheVariants.{ZeroDenominator, Wide}
-use Rattle.mpc_frac.proofs.FracParts.{quotient_from}
 use Rattle.mpc_words.specs.Words.{IsWithout, IsCutAt, IsWord}
 use Rattle.mpc_words.specs.Spelled.{SpellsBelow, SpellsInteger, SpellsFraction, SpellsWhole, SpellsRatio, HasParts}
 use Rattle.mpc_words.proofs.LineLemmas.{has_byte, same_front, same_back}
@@ -21,8 +21,7 @@ no_zero zero h e = omega arith
 no_zero (suc d) h e = cc
 
 quotient_self : (x : ℚ) → quotient x.numer (pos x.denom) ≡ x
-quotient_self x =
-    sym (quotient_from x.numer (pos x.denom) x.numer x.denom (no_zero x.denom (denom_positive x)) (denom_positive x) refl) ∙ frac_self x
+quotient_self x = quotient_positive x.numer x.denom (denom_positive x) ∙ frac_self x
 
 module _ (x : ℚ) (num den : ℤ) (h : HasParts x num den) where
   pub quotient_at : quotient num den ≡ x

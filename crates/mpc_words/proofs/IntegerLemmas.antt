@@ -4,8 +4,7 @@ use Rattle.std.specs.Fmt.{signed_decimal}
 use Rattle.std.proofs.lemmas.Bool.{ne_eqb, eqb-true}
 use Rattle.std.proofs.lemmas.List.Elements.{All-cons, All-head}
 use Rattle.std.specs.Int.{w128}
-use Rattle.mpc_frac.proofs.FracModel.{read_back}
-use Rattle.mpc_frac.proofs.FracParts.{abs-neg}
+use Rattle.std.proofs.lemmas.Int.{fits_signed_from_abs, to_z-of_z}
 use Rattle.mpc_words.specs.Numerals.{numeral}
 use Rattle.mpc_words.specs.Words.{IsWithout, IsWord}
 use Rattle.mpc_words.specs.Spelled.{SpellsBelow, SpellsInteger}
@@ -109,9 +108,16 @@ no_empty_at word h z s =
     omega arith
 
 -- the numbers as the code has them
+read_back : (z : ℤ) → unsigned_abs z < 2 ^ 127 → to_z w128 (of_z w128 z) ≡ z
+read_back z h = to_z-of_z w128 z (fits_signed_from_abs w128 z h)
+
+size-neg : (n : ℕ) → unsigned_abs (neg_ℤ (pos n)) ≡ n
+size-neg zero = refl
+size-neg (suc n) = refl
+
 pub negative_back : (n : ℕ) (z : ℤ) → n < 2 ^ 127 → z ≡ neg_ℤ (pos n) → to_z w128 (of_z w128 z) ≡ neg_ℤ (pos n)
 negative_back n z h e =
-    ap (λ y. to_z w128 (of_z w128 y)) e ∙ read_back (neg_ℤ (pos n)) (subst (λ m. m < 2 ^ 127) (sym (abs-neg (pos n))) h)
+    ap (λ y. to_z w128 (of_z w128 y)) e ∙ read_back (neg_ℤ (pos n)) (subst (λ m. m < 2 ^ 127) (sym (size-neg n)) h)
 
 pub as_cast : (word : List ℕ) (z : ℤ) → SpellsInteger word z → SpellsInteger word (to_z w128 (of_z w128 z))
 as_cast word z s = subst (SpellsInteger word) (sym (read_back z s.fits)) s

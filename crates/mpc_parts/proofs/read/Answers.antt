@@ -2,10 +2,9 @@ use Rattle.std.proofs.Common.{◌≡◌, ◌∙◌, ap, sym, subst, Err, rules, 
 use Rattle.std.specs.Int.{w128}
 use mir.Val.{SFits}
 use Rattle.mpc_exact.specs.Rational.{quotient}
-use Rattle.mpc_frac.proofs.FracModel.{read_fitting}
 use Rattle.mpc_parts.specs.Parts.{numer_of, below_of, size_of}
 use Rattle.mpc_frac.specs.Fits.{FitsFrac}
-use Rattle.mpc_parts.proofs.Halves.{readable_fits}
+use Rattle.mpc_parts.proofs.Halves.{read_fitting, readable_fits}
 use Rattle.mpc_parts.proofs.read.Goals as goal
 use Rattle.mpc_parts.proofs.read.Goals.{After-new}
 
@@ -27,4 +26,4 @@ pub returns-in-Err-Wide-clause-readable : goal.returns-in-Err-Wide-clause-readab
 returns-in-Err-Wide-clause-readable c readable =
     let d = (goal.at.returns-in-Err-Wide-clause-readable c).After-new in
     absurd ((c.in-Err-Wide.ensures.wide.0 (ap Err c.in-Err-Wide.field-0-is)).1 (subst FitsFrac (sym (λ i. quotient (top d i) (bottom d i)))
-    (readable_fits c.args.parts.now.negative (size_of c.args.parts.now) (below_of c.args.parts.now) readable.size_small readable.below_small readable.below_positive)))
+    (readable_fits c.fit_laws.ensures c.args.parts.now.negative (size_of c.args.parts.now) (below_of c.args.parts.now) readable.size_small readable.below_small readable.below_positive)))
