@@ -1,5 +1,5 @@
 -- Members of rising lists.
-use Rattle.std.proofs.Common.{◌≡◌, ℕ, zero, suc, ◌<◌, ◌≤◌, List, [], ◌∷◌, ◌++◌, Contains, refl, sym, arith, inl, inr}
+use Rattle.std.proofs.Common.{ℕ, zero, suc, ◌<◌, ◌≤◌, List, [], ◌∷◌, ◌++◌, Contains, refl, sym, arith, inl, inr}
 use Rattle.mpc_sets.specs.RowSet.{RisesWithin, Among}
 
 pub Contains-from_among : (i : ℕ) (s : List ℕ) → Among i s → Contains s i

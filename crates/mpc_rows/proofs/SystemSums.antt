@@ -1,5 +1,5 @@
 -- Systems by numbered rows and unknowns: points, pair points and multipliers as functions of these numbers, and the same as lists.
-use Rattle.std.proofs.Common.{◌≡◌, ℕ, ◌<◌, Bool, true, List, map, length, slice_get, Some, pos, sym, ◌∙◌, ap, subst, arith, ◌⊎◌, inl, inr, ⊎_elim}
+use Rattle.std.proofs.Common.{◌≡◌, ℕ, ◌<◌, Bool, List, map, length, slice_get, Some, pos, sym, ◌∙◌, ap, subst, arith, inl, inr, ⊎_elim}
 use Rattle.std.proofs.lemmas.List.{get_or-map, length-map}
 use Rattle.std.proofs.lemmas.List.Elements.{All-get_or, All-from_get_or}
 use Rattle.std.proofs.lemmas.Option.{slice_get-get_or, get_or_from_slice_get, slice_get_within}
@@ -11,7 +11,7 @@ use Rattle.mpc_space.proofs.Total.{total-same}
 use Rattle.mpc_space.proofs.Entries.{dot-total_within, nonneg_at, nonneg_by_entries}
 use Rattle.mpc_rows.specs.declared.systems.Row.{Row}
 use Rattle.mpc_rows.specs.LinearSystem.{LinearSystem, HasWidth, height, no_row, row_at, entry, IsWithin, MeetsRow, IsPoint, point_at, IsPairPoint}
-pub use Rattle.mpc_rows.specs.NumberedSystems.{left_side, IsPointBy, pair_at, IsPairPointBy, StrictBy, side_total, RefutesBy}
+use Rattle.mpc_rows.specs.NumberedSystems.{left_side, IsPointBy, pair_at, IsPairPointBy, StrictBy, side_total, RefutesBy}
 use Rattle.mpc_rows.specs.Refutation.{coefficients_on, right_sides, WeighsStrict, Refutes}
 
 -- ---- points

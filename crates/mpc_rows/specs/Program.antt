@@ -1,5 +1,5 @@
 -- Which matrices make a quadratic program with a parameter.
-use Rattle.std.specs.Prelude.{◌≡◌, ℕ, ◌+◌, ◌≤◌, List, length}
+use Rattle.std.specs.Prelude.{ℕ, ◌+◌, ◌≤◌, List, length}
 use Rattle.mpc_space.specs.Matrix.{RationalMatrix, height}
 use Rattle.mpc_linear.specs.Shape.{HasShape}
 
