@@ -1,10 +1,12 @@
 //! The fractions of `mpc_frac` for a C caller: single operations on parts, and loops to measure them.
 #![tactic(auto)]
 
-ghost use Rattle.std.specs.Prelude.{◌≡◌, IsTrue, IsFalse};
-ghost use Rattle.mpc_exact.specs.Rational.{◌+ℚ◌, ◌*ℚ◌};
+ghost use Rattle.std.specs.Prelude.{◌≡◌, ◌↔◌, pos, IsTrue};
+ghost use Rattle.std.specs.Bool.{OnTrue, OnFalse};
+ghost use Rattle.mpc_exact.specs.Rational.{◌+ℚ◌, ◌*ℚ◌, cmp_ℚ};
 ghost use Rattle.mpc_frac.specs.Fits.{FitsFrac, FitsSum};
-ghost use Rattle.mpc_parts.specs.Parts.{value_of, IsReadable};
+ghost use Rattle.mpc_parts.specs.Parts.{value_of, IsReadable, ArePartsOf};
+ghost use Rattle.mpc_frac_c.specs.Answers.{code_of};
 
 use mpc_frac::{Frac, Wide};
 use mpc_parts::{Parts, parts_of, read};
@@ -16,12 +18,15 @@ const COUNT: usize = 1024;
 /// The weight of the high half of a number.
 const HIGH: u128 = 1 << 64;
 
-/// Writes the sum, and answers whether both are fractions and the sum isn't wide.
+/// Writes the sum, and answers whether both are fractions and the sum isn't wide. Where it answers
+/// false it writes nothing.
 #[unsafe(no_mangle)]
 pub extern "C" fn mpc_frac_sum(left: &Parts, right: &Parts, out: &mut Parts) -> bool
-    ensures value { IsTrue result → value_of out.new ≡ value_of left.now +ℚ value_of right.now }
-    ensures wide { IsReadable left.now → IsReadable right.now → IsFalse result
-        → ¬ FitsSum (value_of left.now) (value_of right.now) }
+    ensures answer { IsTrue result
+        ↔ (IsReadable left.now × IsReadable right.now × FitsSum (value_of left.now) (value_of right.now)) }
+    ensures value { OnTrue result (ArePartsOf out.new (value_of left.now +ℚ value_of right.now)) }
+    ensures readable { OnTrue result (IsReadable out.new) }
+    ensures unchanged { OnFalse result (out.new ≡ out.old) }
 {
     let Some(x) = read(left) else {
         return false;
@@ -38,12 +43,15 @@ pub extern "C" fn mpc_frac_sum(left: &Parts, right: &Parts, out: &mut Parts) -> 
     }
 }
 
-/// Writes the product, and answers whether both are fractions and the product isn't wide.
+/// Writes the product, and answers whether both are fractions and the product isn't wide. Where it
+/// answers false it writes nothing.
 #[unsafe(no_mangle)]
 pub extern "C" fn mpc_frac_product(left: &Parts, right: &Parts, out: &mut Parts) -> bool
-    ensures value { IsTrue result → value_of out.new ≡ value_of left.now *ℚ value_of right.now }
-    ensures wide { IsReadable left.now → IsReadable right.now → IsFalse result
-        → ¬ FitsFrac (value_of left.now *ℚ value_of right.now) }
+    ensures answer { IsTrue result
+        ↔ (IsReadable left.now × IsReadable right.now × FitsFrac (value_of left.now *ℚ value_of right.now)) }
+    ensures value { OnTrue result (ArePartsOf out.new (value_of left.now *ℚ value_of right.now)) }
+    ensures readable { OnTrue result (IsReadable out.new) }
+    ensures unchanged { OnFalse result (out.new ≡ out.old) }
 {
     let Some(x) = read(left) else {
         return false;
@@ -62,14 +70,20 @@ pub extern "C" fn mpc_frac_product(left: &Parts, right: &Parts, out: &mut Parts)
 
 /// -1, 0 or 1 by the order, and 0 where one of the two is no fraction.
 #[unsafe(no_mangle)]
-pub extern "C" fn mpc_frac_order(left: &Parts, right: &Parts) -> i32 {
+pub extern "C" fn mpc_frac_order(left: &Parts, right: &Parts) -> i32
+    ensures order { IsReadable left.now → IsReadable right.now
+        → result ≡ code_of (cmp_ℚ (value_of left.now) (value_of right.now)) }
+    ensures unreadable { ¬ (IsReadable left.now × IsReadable right.now) → result ≡ pos 0 }
+{
     let (Some(x), Some(y)) = (read(left), read(right)) else {
         return 0;
     };
     order_code(x.cmp(&y))
 }
 
-fn order_code(order: Ordering) -> i32 {
+fn order_code(order: Ordering) -> i32
+    ensures { result ≡ code_of order }
+{
     match order {
         Ordering::Less => -1,
         Ordering::Equal => 0,
