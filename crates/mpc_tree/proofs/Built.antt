@@ -9,7 +9,7 @@ use Rattle.mpc_rows.specs.declared.trees.Node.{Node}
 use Rattle.mpc_rows.specs.declared.trees.Node.TheVariants.{Split, Law as LawLeaf, NoMove}
 use Rattle.mpc_rows.specs.Candidates.{IsTable}
 use Rattle.mpc_rows.specs.Laws.{IsLaw}
-use Rattle.mpc_cover.proofs.Cover.{covered_by_table}
+use Rattle.mpc_cover.specs.CoverLaws.{TablesCover}
 use Rattle.mpc_tree.specs.declared.errors.TreeError.{TreeError}
 use Rattle.mpc_tree.specs.Causes.{IfWide}
 use Rattle.mpc_tree.specs.Certified.{IsCertified}
@@ -24,8 +24,8 @@ use Rattle.mpc_tree.proofs.TreeLemmas.{weakened}
 pub laws_of_table : (qp : Qp) (laws : List Law) → IsTable qp laws → All (IsLaw qp) laws
 laws_of_table qp laws table k d lt = (table.are_laws (get_or laws k d) (All-contains_itself laws k d lt)).verdict.2
 
-pub table_covers : (qp : Qp) (laws : List Law) → IsDefinite qp.h.rows → IsTable qp laws → RegionsCover qp laws
-table_covers qp laws definite table = record { covers = covered_by_table qp laws definite table }
+pub table_covers : TablesCover → (qp : Qp) (laws : List Law) → IsDefinite qp.h.rows → IsTable qp laws → RegionsCover qp laws
+table_covers cover qp laws definite table = record { covers = cover qp laws definite table }
 
 module _ (qp : Qp) (laws : List Law) (nodes : List Node) where
   tree_of : IsBuilt qp laws whole_box nodes → IsTreeOf qp laws whole_box nodes

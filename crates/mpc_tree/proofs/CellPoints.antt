@@ -20,29 +20,35 @@ use Rattle.mpc_rows.specs.ActiveSets.{IsInBox, IsFeasible}
 use Rattle.mpc_rows.specs.Laws.{IsLaw, IsInRegion}
 use Rattle.mpc_rows.specs.LawRows.{AreLawRows, whole_row, broken_row}
 use Rattle.mpc_rows.specs.SetRuns.{box_rows, joint_rows, region_system}
-use Rattle.mpc_rows.proofs.BoxLemmas.{box_meets}
-use Rattle.mpc_rows.proofs.JointLemmas.{All-split, size_in_box, joint_rows_meet}
-use Rattle.mpc_rows.proofs.RegionLemmas.{region_points}
+use Rattle.mpc_rows.specs.RegionLaws.{RegionLaws}
 use Rattle.mpc_simplex.specs.Answer.{HasPoint}
-use Rattle.mpc_tree.specs.Borders.{HasBoxWidth}
+use Rattle.mpc_systems.specs.Writing.{HasBoxWidth, widened}
 use Rattle.mpc_tree.specs.Cells.{IsInCell, RegionMeets, FailsOn}
-use Rattle.mpc_tree.specs.Systems.{meet_system, hold_system, joint_system, widened}
+use Rattle.mpc_systems.specs.Systems.{meet_system, hold_system, joint_system}
 
-box_at : (qp : Qp) (t : List ℚ) → length t ≡ length qp.counts → IsInBox qp.counts t ↔ All (MeetsRow t) (box_rows (length qp.counts) qp.counts)
-box_at qp t size =
+-- what holds of each element of two lists together holds of each of either
+pub All-split : {X : Type 0} (P : X → Type 0) (xs ys : List X) → All P (xs ++ ys) → All P xs × All P ys
+All-split P xs ys h = let parts = split P xs ys (recursion_from_All P (xs ++ ys) h) in (All-from_recursion P xs parts.0, All-from_recursion P ys parts.1)
+  where
+    split : {X : Type 0} (P : X → Type 0) (xs ys : List X) → AllByRecursion P (xs ++ ys) → AllByRecursion P xs × AllByRecursion P ys
+    split P [] ys h = (tt, h)
+    split P (x ∷ xs) ys h = let rest = split P xs ys h.1 in ((h.0, rest.0), rest.1)
+
+box_at : (points : RegionLaws) (qp : Qp) (t : List ℚ) → length t ≡ length qp.counts → IsInBox qp.counts t ↔ All (MeetsRow t) (box_rows (length qp.counts) qp.counts)
+box_at points qp t size =
     let width : length qp.counts + 0 ≡ length qp.counts = omega arith in
     subst (λ v. IsInBox qp.counts t ↔ All (MeetsRow v) (box_rows (length qp.counts) qp.counts)) (append-nil t)
-    (subst (λ n. IsInBox qp.counts t ↔ All (MeetsRow (t ++ [])) (box_rows n qp.counts)) width (box_meets qp.counts t [] size))
+    (subst (λ n. IsInBox qp.counts t ↔ All (MeetsRow (t ++ [])) (box_rows n qp.counts)) width (points.box_meets qp.counts t [] size))
 
 -- ---- a region and a cell
-module _ (qp : Qp) (law : Law) (is : IsLaw qp law) (rows : List RowInt) (are : AreLawRows qp law rows) (cell : List Row) where
+module _ (points : RegionLaws) (qp : Qp) (law : Law) (is : IsLaw qp law) (rows : List RowInt) (are : AreLawRows qp law rows) (cell : List Row) where
   abbrev box : List Row
   box = box_rows (length qp.counts) qp.counts
 
   meeting_point : (t : List ℚ) → IsInCell qp cell t → IsInRegion qp law t → IsPoint (meet_system qp cell rows) t
   unfolding meet_system region_system
   meeting_point t c r =
-      let region : IsPoint (region_system qp rows) t = (region_points qp law is rows are t).0 r in
+      let region : IsPoint (region_system qp rows) t = (points.region_points qp law is rows are t).0 r in
       let parts = All-split (MeetsRow t) box (map whole_row rows) region.meets in
       record { size = region.size; meets = All-append (MeetsRow t) box (cell ++ map whole_row rows) parts.0 (All-append (MeetsRow t) cell (map whole_row rows) c.meets parts.1) }
 
@@ -52,15 +58,15 @@ module _ (qp : Qp) (law : Law) (is : IsLaw qp law) (rows : List RowInt) (are : A
       let parts = All-split (MeetsRow t) box (cell ++ map whole_row rows) p.meets in
       let rest = All-split (MeetsRow t) cell (map whole_row rows) parts.1 in
       let point : IsPoint (region_system qp rows) t = record { size = p.size; meets = All-append (MeetsRow t) box (map whole_row rows) parts.0 rest.1 } in
-      let region : IsInRegion qp law t = (region_points qp law is rows are t).1 point in
+      let region : IsInRegion qp law t = (points.region_points qp law is rows are t).1 point in
       record { state = t; in_cell = record { in_box = region.in_box; meets = rest.0 }; in_region = region }
 
   pub region_by_rows : (t : List ℚ) → IsInCell qp cell t → All (λ row. MeetsRow t (whole_row row)) rows → IsInRegion qp law t
   unfolding region_system
   region_by_rows t c h =
-      let size : length t ≡ length qp.counts = size_in_box qp.counts t c.in_box in
-      let point : IsPoint (region_system qp rows) t = record { size = size; meets = All-append (MeetsRow t) box (map whole_row rows) ((box_at qp t size).0 c.in_box) (All-map (MeetsRow t) whole_row rows h) } in
-      (region_points qp law is rows are t).1 point
+      let size : length t ≡ length qp.counts = points.size_in_box qp.counts t c.in_box in
+      let point : IsPoint (region_system qp rows) t = record { size = size; meets = All-append (MeetsRow t) box (map whole_row rows) ((box_at points qp t size).0 c.in_box) (All-map (MeetsRow t) whole_row rows h) } in
+      (points.region_points qp law is rows are t).1 point
 
   pub region_meets : RegionMeets qp cell law ↔ HasPoint (meet_system qp cell rows)
   region_meets = (λ m. (m.state, meeting_point m.state m.in_cell m.in_region), λ p. met_at p.0 p.1)
@@ -85,15 +91,15 @@ module _ (row : RowInt) (t : List ℚ) where
   pub holds_unless : (¬ ¬ MeetsRow t (whole_row row)) → MeetsRow t (whole_row row)
   holds_unless h = ≤ℚ_of_not-< (λ k. h (λ m. ≤ℚ-not-< m k))
 
-module _ (qp : Qp) (cell : List Row) (row : RowInt) where
+module _ (points : RegionLaws) (qp : Qp) (cell : List Row) (row : RowInt) where
   failing_point : (t : List ℚ) → IsInCell qp cell t → (¬ MeetsRow t (whole_row row)) → IsPoint (hold_system qp cell row) t
   unfolding hold_system
   failing_point t c h =
-      let size : length t ≡ length qp.counts = size_in_box qp.counts t c.in_box in
+      let size : length t ≡ length qp.counts = points.size_in_box qp.counts t c.in_box in
       record {
         size = size;
         meets =
-            All-append (MeetsRow t) (box_rows (length qp.counts) qp.counts) (cell ++ broken_row row ∷ []) ((box_at qp t size).0 c.in_box)
+            All-append (MeetsRow t) (box_rows (length qp.counts) qp.counts) (cell ++ broken_row row ∷ []) ((box_at points qp t size).0 c.in_box)
             (All-append (MeetsRow t) cell (broken_row row ∷ []) c.meets (All-from_recursion (MeetsRow t) (broken_row row ∷ []) (broken_meets row t h, tt)));
       }
 
@@ -103,7 +109,7 @@ module _ (qp : Qp) (cell : List Row) (row : RowInt) where
       let parts = All-split (MeetsRow t) (box_rows (length qp.counts) qp.counts) (cell ++ broken_row row ∷ []) p.meets in
       let rest = All-split (MeetsRow t) cell (broken_row row ∷ []) parts.1 in
       let last = recursion_from_All (MeetsRow t) (broken_row row ∷ []) rest.1 in
-      record { state = t; in_cell = record { in_box = (box_at qp t p.size).1 parts.0; meets = rest.0 }; fails = broken_fails row t last.0 }
+      record { state = t; in_cell = record { in_box = (box_at points qp t p.size).1 parts.0; meets = rest.0 }; fails = broken_fails row t last.0 }
 
   pub fails_where : FailsOn qp cell row ↔ HasPoint (hold_system qp cell row)
   fails_where = (λ f. (f.state, failing_point f.state f.in_cell f.fails), λ p. failing_at p.0 p.1)
@@ -121,7 +127,7 @@ padded_all : (more : ℕ) (cell : List Row) (t z : List ℚ) → AllByRecursion 
 padded_all more [] t z e h = tt
 padded_all more (r ∷ rows) t z e h = (padded more r t z e.0 h.0, padded_all more rows t z e.1 h.1)
 
-module _ (qp : Qp) (cell : List Row) (wide : HasBoxWidth qp cell) where
+module _ (points : RegionLaws) (qp : Qp) (cell : List Row) (wide : HasBoxWidth qp cell) where
   admitted_at : (t z : List ℚ) → length t ≡ length qp.counts → IsPoint (joint_system qp cell) (t ++ z) → IsInCell qp cell t × IsFeasible qp t z
   unfolding joint_system
   admitted_at t z size p =
@@ -129,11 +135,11 @@ module _ (qp : Qp) (cell : List Row) (wide : HasBoxWidth qp cell) where
       let z_size : length z ≡ height qp.h = omega arith in
       let parts = All-split (MeetsRow (t ++ z)) (box_rows (length qp.counts + height qp.h) qp.counts) (map (widened (height qp.h)) cell ++ joint_rows qp) p.meets in
       let rest = All-split (MeetsRow (t ++ z)) (map (widened (height qp.h)) cell) (joint_rows qp) parts.1 in
-      let in_box : IsInBox qp.counts t = (box_meets qp.counts t z size).1 (subst (λ n. All (MeetsRow (t ++ z)) (box_rows (length qp.counts + n) qp.counts)) (sym z_size) parts.0) in
+      let in_box : IsInBox qp.counts t = (points.box_meets qp.counts t z size).1 (subst (λ n. All (MeetsRow (t ++ z)) (box_rows (length qp.counts + n) qp.counts)) (sym z_size) parts.0) in
       let widths : AllByRecursion (λ r. length r.a ≡ length t) cell = subst (λ n. AllByRecursion (λ r. length r.a ≡ n) cell) (sym size) (recursion_from_All (λ r. length r.a ≡ length qp.counts) cell wide) in
       let rows : AllByRecursion (MeetsRow t) cell = padded_all (height qp.h) cell t z widths (recursion_from_All (MeetsRow (t ++ z)) (map (widened (height qp.h)) cell) rest.0) in (
         record { in_box = in_box; meets = All-from_recursion (MeetsRow t) cell rows },
-        record { in_box = in_box; size = z_size; meets = (joint_rows_meet qp t z size).0 rest.1 },
+        record { in_box = in_box; size = z_size; meets = (points.joint_rows_meet qp t z size).0 rest.1 },
       )
 
   -- a state of the cell with admissible unknowns, from a point of the system
@@ -160,10 +166,10 @@ module _ (qp : Qp) (cell : List Row) (r : Row) where
   fails_front row f = record { state = f.state; in_cell = in_front f.state f.in_cell; fails = f.fails }
 
 -- a row of a law holds in its region
-pub region_row : (qp : Qp) (law : Law) → IsLaw qp law → (rows : List RowInt) → AreLawRows qp law rows → (t : List ℚ) → IsInRegion qp law t → (i : ℕ) (row : RowInt) → slice_get rows i ≡ Some row → MeetsRow t (whole_row row)
+pub region_row : (points : RegionLaws) (qp : Qp) (law : Law) → IsLaw qp law → (rows : List RowInt) → AreLawRows qp law rows → (t : List ℚ) → IsInRegion qp law t → (i : ℕ) (row : RowInt) → slice_get rows i ≡ Some row → MeetsRow t (whole_row row)
 unfolding region_system
-region_row qp law is rows are t r i row k =
-    let point : IsPoint (region_system qp rows) t = (region_points qp law is rows are t).0 r in
+region_row points qp law is rows are t r i row k =
+    let point : IsPoint (region_system qp rows) t = (points.region_points qp law is rows are t).0 r in
     let parts = All-split (MeetsRow t) (box_rows (length qp.counts) qp.counts) (map whole_row rows) point.meets in
     let within : i < length rows = slice_get_within rows i row k in
     subst (MeetsRow t) (get_or-map whole_row rows i row (whole_row row) within ∙ ap whole_row (get_or_from_slice_get rows i row row k))

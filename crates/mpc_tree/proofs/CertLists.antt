@@ -1,17 +1,30 @@
 -- Certificates are made from multipliers one after the other.
 use Rattle.std.proofs.Common.{◌≡◌, ℕ, suc, ◌+◌, ◌<◌, List, [], ◌∷◌, ◌++◌, cond, true, false, ◌⊎◌, inl, inr, length, get_or, take, pos, refl, sym, ◌∙◌, ap, subst, arith}
-use Rattle.std.proofs.lemmas.Bool.{cond-true, cond-false, cases_Bool}
+use Rattle.std.proofs.lemmas.Bool.{cond-true, cond-false, cases_Bool, and_parts, and_from}
 use Rattle.std.proofs.lemmas.List.{append-nil, take_more, length-take-le}
 use Rattle.mpc_exact.specs.Rational.{ℚ, int}
 use Rattle.mpc_rows.specs.Certificates.{RisesFrom, IsCert}
 use Rattle.mpc_rows.specs.Run.{is_zero}
-use Rattle.mpc_simplex.proofs.Turn.{is_zero-true, zero-is_zero}
+use Rattle.mpc_exact.specs.Rational.{le_ℚ}
+use Rattle.mpc_exact.proofs.OrderLaws.{le_ℚ-true, le_ℚ-false}
+use Rattle.mpc_exact.proofs.RationalOrder.{≤ℚ_antisymm, <ℚ_irrefl}
 use Rattle.mpc_tree.specs.LeafCerts.{nonzero_from}
 
 pub false_true : false ≡ true → ⊥
 false_true e = cc
 
--- the positions of the multipliers that aren't 0 rise
+-- ---- the test for 0
+is_zero-true : (c : ℚ) → is_zero c ≡ true → c ≡ int (pos 0)
+is_zero-true c h = let m = and_parts (le_ℚ c (int (pos 0))) (le_ℚ (int (pos 0)) c) h in ≤ℚ_antisymm (le_ℚ-true m.0) (le_ℚ-true m.1)
+
+zero-is_zero : (c : ℚ) → c ≡ int (pos 0) → is_zero c ≡ true
+zero-is_zero c e = ap is_zero e ∙ and_from _ _ passes passes
+  where
+    passes : le_ℚ (int (pos 0)) (int (pos 0)) ≡ true
+    passes =
+        elim (cases_Bool (le_ℚ (int (pos 0)) (int (pos 0)))) [ inl t ↦ t | inr f ↦ absurd (<ℚ_irrefl (le_ℚ-false {x = int (pos 0)} {y = int (pos 0)} f)) ]
+
+-- ---- the positions of the multipliers that aren't 0 rise
 rises : (last p : ℕ) (ms : List ℚ) → last < p → RisesFrom last (nonzero_from p ms)
 rises last p [] h = tt
 rises last p (m ∷ ms) h = by (cases_Bool (is_zero m)) (rises last (p + 1) ms (omega arith)) (rises p (p + 1) ms (omega arith))

@@ -12,7 +12,7 @@ use Rattle.mpc_rows.specs.declared.trees.Node.{Node}
 use Rattle.mpc_tree.specs.declared.growth.OpenSide.{OpenSide}
 use Rattle.mpc_tree.specs.declared.errors.TreeError.{TreeError}
 use Rattle.mpc_tree.specs.declared.errors.TreeError.TheVariants.{Wide, NoMemory}
-use Rattle.mpc_tree.specs.Borders.{HasBoxWidth}
+use Rattle.mpc_systems.specs.Writing.{HasBoxWidth}
 use Rattle.mpc_tree.specs.Causes.{IfWide}
 use Rattle.mpc_tree.specs.Cells.{NoneMeetsBefore, NoneFailsBefore}
 use Rattle.mpc_tree.specs.Growth.{IsLeafAt, IsBuilt}

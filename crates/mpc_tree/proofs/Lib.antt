@@ -1,5 +1,4 @@
 pub mod CellPoints
-pub mod SystemRows
 pub mod CertLists
 pub mod NodeLemmas
 pub mod Placing

@@ -7,6 +7,8 @@ use Rattle.mpc_rows.specs.declared.laws.Law.{Law}
 use Rattle.mpc_rows.specs.declared.trees.Node.{Node}
 use Rattle.mpc_rows.specs.declared.trees.Node.TheVariants.{Split}
 use Rattle.mpc_rows.specs.declared.places.Place.{Place}
+use Rattle.mpc_rows.specs.LawLaws.{LawLaws}
+use Rattle.mpc_rows.specs.RegionLaws.{RegionLaws}
 use Rattle.mpc_tree.specs.Trees.{Cell, yes_side, no_side, leaf, split, IsTreeOf, Divides, IsLeafOf}
 use Rattle.mpc_tree.specs.LeafCerts.{HasItsCerts}
 use Rattle.mpc_tree.specs.NodeRuns.{DividesAndFits, EndsAndFits, IsFittingTree}
@@ -34,15 +36,15 @@ module _ (P : Cell → Type 0) (cell : Cell) (p q : ℕ) (r s : RowInt) (same : 
   on_no : P (no_side cell p r) → P (no_side cell q s)
   on_no h = subst (λ n. P (no_side cell n s)) same.0 (subst (λ k. P (no_side cell p k)) same.1 h)
 
-module _ (qp : Qp) (laws : List Law) (are : AreLaws qp laws) where
+module _ (single : LawLaws) (points : RegionLaws) (qp : Qp) (laws : List Law) (are : AreLaws qp laws) where
   same_sides : (cell : Cell) (p q : ℕ) (r s : RowInt) → DividesAndFits qp laws cell p r → DividesAndFits qp laws cell q s → (p ≡ q) × (r ≡ s)
-  same_sides cell p q r s d e = divides_once qp laws cell p q r s d.divides e.divides
+  same_sides cell p q r s d e = divides_once qp laws cell single p q r s d.divides e.divides
 
   no_leaf : (cell : Cell) (p : ℕ) (r : RowInt) (node : Node) → DividesAndFits qp laws cell p r → ¬ EndsAndFits qp laws cell node
-  no_leaf cell p r node d e = divides_not_leaf qp laws cell are p r node d.divides e.ends
+  no_leaf cell p r node d e = divides_not_leaf qp laws cell points are p r node d.divides e.ends
 
   pub one_tree : (cell : Cell) (x y : List Node) → IsCertified qp laws cell x → IsCertified qp laws cell y → x ≡ y
-  one_tree cell x y (leaf c a e) (leaf _ b f) = ap (λ n. n ∷ []) (one_leaf qp laws c a b e.0.ends f.0.ends e.1 f.1)
+  one_tree cell x y (leaf c a e) (leaf _ b f) = ap (λ n. n ∷ []) (one_leaf qp laws c single a b e.0.ends f.0.ends e.1 f.1)
   one_tree cell x y (leaf c a e) (split _ p r inside outside d s t) = absurd (no_leaf c p r a d e.0)
   one_tree cell x y (split c p r inside outside d s t) (leaf _ b f) = absurd (no_leaf c p r b d f.0)
   one_tree cell x y (split c p r inside outside d s t) (split _ q w left right e u v) =
@@ -63,10 +65,10 @@ module _ (qp : Qp) (laws : List Law) (are : AreLaws qp laws) where
 
   -- ---- a tree whose runs all fit has no first run that is too wide
   pub fits_not_wide : (cell : Cell) (nodes : List Node) (number : ℕ) (place : Place) → IsFittingTree qp laws cell nodes → ¬ IsFirstWide qp laws cell number place
-  fits_not_wide cell nodes number place (leaf c a e) (here _ n at w) = leaf_not_wide qp laws c n a at e w
+  fits_not_wide cell nodes number place (leaf c a e) (here _ n at w) = leaf_not_wide single qp laws c n a at e w
   fits_not_wide cell nodes number place (leaf c a e) (in_yes _ n q s at d w) = no_leaf c q s a d e
   fits_not_wide cell nodes number place (leaf c a e) (in_no _ n q s nodes' at d t w) = no_leaf c q s a d e
-  fits_not_wide cell nodes number place (split c p r inside outside d s t) (here _ n at w) = split_not_wide qp laws c p n r at d w
+  fits_not_wide cell nodes number place (split c p r inside outside d s t) (here _ n at w) = split_not_wide single qp laws c p n r at d w
   fits_not_wide cell nodes number place (split c p r inside outside d s t) (in_yes _ n q o at e w) =
       let same = same_sides c q p o r e d in
       fits_not_wide (yes_side c p r) inside (n + 1) at s (on_yes (λ k. IsFirstWide qp laws k (n + 1) at) c q p o r same w)
@@ -76,17 +78,17 @@ module _ (qp : Qp) (laws : List Law) (are : AreLaws qp laws) where
 
   -- ---- no two runs are the first that is too wide
   pub one_first_wide : (cell : Cell) (number : ℕ) (p q : Place) → IsFirstWide qp laws cell number p → IsFirstWide qp laws cell number q → p ≡ q
-  one_first_wide cell number p q (here c n x v) (here _ _ y w) = one_wide_at qp laws c n x y v w
-  one_first_wide cell number p q (here c n x v) (in_yes _ _ at s y d w) = absurd (split_not_wide qp laws c at n s x d v)
-  one_first_wide cell number p q (here c n x v) (in_no _ _ at s nodes y d t w) = absurd (split_not_wide qp laws c at n s x d v)
-  one_first_wide cell number p q (in_yes c n at r x d v) (here _ _ y w) = absurd (split_not_wide qp laws c at n r y d w)
+  one_first_wide cell number p q (here c n x v) (here _ _ y w) = one_wide_at single qp laws c n x y v w
+  one_first_wide cell number p q (here c n x v) (in_yes _ _ at s y d w) = absurd (split_not_wide single qp laws c at n s x d v)
+  one_first_wide cell number p q (here c n x v) (in_no _ _ at s nodes y d t w) = absurd (split_not_wide single qp laws c at n s x d v)
+  one_first_wide cell number p q (in_yes c n at r x d v) (here _ _ y w) = absurd (split_not_wide single qp laws c at n r y d w)
   one_first_wide cell number p q (in_yes c n at r x d v) (in_yes _ _ bt s y e w) =
       let same = same_sides c bt at s r e d in
       one_first_wide (yes_side c at r) (n + 1) x y v (on_yes (λ k. IsFirstWide qp laws k (n + 1) y) c bt at s r same w)
   one_first_wide cell number p q (in_yes c n at r x d v) (in_no _ _ bt s nodes y e t w) =
       let same = same_sides c bt at s r e d in
       absurd (fits_not_wide (yes_side c at r) nodes (n + 1) x (on_yes (λ k. IsFittingTree qp laws k nodes) c bt at s r same t) v)
-  one_first_wide cell number p q (in_no c n at r nodes x d t v) (here _ _ y w) = absurd (split_not_wide qp laws c at n r y d w)
+  one_first_wide cell number p q (in_no c n at r nodes x d t v) (here _ _ y w) = absurd (split_not_wide single qp laws c at n r y d w)
   one_first_wide cell number p q (in_no c n at r nodes x d t v) (in_yes _ _ bt s y e w) =
       let same = same_sides c bt at s r e d in
       absurd (fits_not_wide (yes_side c at r) nodes (n + 1) y t (on_yes (λ k. IsFirstWide qp laws k (n + 1) y) c bt at s r same w))

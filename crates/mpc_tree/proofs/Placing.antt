@@ -1,11 +1,12 @@
 -- What stands at a node, from what is found there.
-use Rattle.std.proofs.Common.{◌≡◌, ℕ, ◌+◌, ◌<◌, ◌≤◌, ◌^◌, List, length, refl, sym, subst, arith, lit≤, Some, slice_get}
+use Rattle.std.proofs.Common.{◌≡◌, ℕ, ◌+◌, ◌<◌, ◌≤◌, ◌^◌, List, length, refl, inl, inr, arith, lit≤, Some, slice_get}
 use Rattle.mpc_exact.specs.Rational.{ℚ}
 use Rattle.mpc_linear.specs.declared.integers.RowInt.{RowInt}
 use Rattle.mpc_rows.specs.declared.programs.Qp.{Qp}
 use Rattle.mpc_rows.specs.declared.laws.Law.{Law}
-use Rattle.mpc_rows.specs.declared.places.Place.TheVariants.{State, Cost, Row as ProgramRow, Pivot, Law as LawRun, Reach, Border, Region, Meet, Holds, Joint, LawBound, NodeBound, CheckLaw, CheckLeaf}
+use Rattle.mpc_rows.specs.declared.places.Place.TheVariants.{Joint}
 use Rattle.mpc_rows.specs.declared.trees.Node.TheVariants.{Law as LawLeaf, NoMove}
+use Rattle.mpc_rows.specs.RegionLaws.{RegionLaws}
 use Rattle.mpc_rows.specs.RunWidth.{RunFits}
 use Rattle.mpc_tree.specs.declared.errors.TreeError.{TreeError}
 use Rattle.mpc_tree.specs.declared.errors.TreeError.TheVariants.{Wide, NoMemory}
@@ -13,7 +14,7 @@ use Rattle.mpc_tree.specs.Borders.{IsBorder, AreBorders}
 use Rattle.mpc_tree.specs.Causes.{IfWide}
 use Rattle.mpc_tree.specs.Growth.{IsMeeting, IsNoMeeting, IsFailing, AllHold, NamesWideRow, IsSplitAt, IsLeafAt}
 use Rattle.mpc_tree.specs.LeafCerts.{IsCertOf}
-use Rattle.mpc_tree.specs.Systems.{joint_system}
+use Rattle.mpc_systems.specs.Systems.{joint_system}
 use Rattle.mpc_tree.specs.Trees.{Cell}
 use Rattle.mpc_tree.specs.WideRuns.{IsWideAt}
 use Rattle.mpc_tree.proofs.NodeLemmas.{border_of, lies_in}
@@ -39,31 +40,17 @@ module _ (qp : Qp) (laws : List Law) (borders : List (List RowInt)) (are : AreBo
     };
   }
 
-  pub law_placed : (certs : List (List (ℕ × ℚ))) → AllHold qp cell.rows rows certs → IsLeafAt qp laws cell (LawLeaf (place + 1) certs)
-  law_placed certs h = record {
+  pub law_placed : RegionLaws → (certs : List (List (ℕ × ℚ))) → AllHold qp cell.rows rows certs → IsLeafAt qp laws cell (LawLeaf (place + 1) certs)
+  law_placed points certs h = record {
     ends = record {
-      ends = record { place = place; number_is = refl; law = m.law; first = m.first; lies_in = lies_in qp m.law rows cell.rows met_border h.none };
+      ends = record { place = place; number_is = refl; law = m.law; first = m.first; lies_in = lies_in points qp m.law rows cell.rows met_border h.none };
       fits = record { place = place; number_is = refl; meets = m.fits; law = m.law; is_law = m.first.is; rows = rows; of_law = met_border.of_law; holds = h.fits };
     };
     certs = record { place = place; number_is = refl; law = m.law; is = m.first.is; rows = rows; of_law = met_border.of_law; certs_are = h.certs_are };
   }
 
   pub row_wide : (node : ℕ) (e : TreeError) → IfWide e (NamesWideRow qp cell.rows rows node (place + 1)) → IfWide e (IsWideAt qp laws cell node)
-  row_wide node (Wide (State k)) h = h
-  row_wide node (Wide (Cost k)) h = h
-  row_wide node (Wide (ProgramRow i)) h = h
-  row_wide node (Wide (Pivot j)) h = h
-  row_wide node (Wide (LawRun set)) h = h
-  row_wide node (Wide (Reach set)) h = h
-  row_wide node (Wide (Border set i)) h = h
-  row_wide node (Wide (Region set)) h = h
-  row_wide node (Wide (Meet n law)) h = absurd h
-  row_wide node (Wide (Holds n law i)) h = (h.0, record { place = place; number_is = h.1; law = m.law; first = m.first; before = m.fits; rows = rows; of_law = met_border.of_law; row = h.2 })
-  row_wide node (Wide (Joint n)) h = absurd h
-  row_wide node (Wide (LawBound law input)) h = h
-  row_wide node (Wide (NodeBound n)) h = h
-  row_wide node (Wide (CheckLaw law)) h = h
-  row_wide node (Wide (CheckLeaf n i)) h = h
+  row_wide node (Wide at) h = inr (inl (place + 1, h.0, h.1, record { place = place; number_is = refl; law = m.law; first = m.first; before = m.fits; rows = rows; of_law = met_border.of_law; row = h.2 }))
   row_wide node NoMemory h = h
 
 module _ (qp : Qp) (laws : List Law) (cell : Cell) (none : IsNoMeeting qp laws cell) where
@@ -74,5 +61,5 @@ module _ (qp : Qp) (laws : List Law) (cell : Cell) (none : IsNoMeeting qp laws c
   }
 
   pub joint_wide : (node : ℕ) (e : TreeError) → IfWide e (λ place. (place ≡ Joint node) × (¬ RunFits (joint_system qp cell.rows))) → IfWide e (IsWideAt qp laws cell node)
-  joint_wide node (Wide place) h = subst (IsWideAt qp laws cell node) (sym h.0) (refl, record { none = none.none; before = none.fits; wide = h.1 })
+  joint_wide node (Wide place) h = inr (inr (h.0, record { none = none.none; before = none.fits; wide = h.1 }))
   joint_wide node NoMemory h = h

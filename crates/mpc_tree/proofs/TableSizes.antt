@@ -1,5 +1,5 @@
 -- A table has few laws: their sets are different, and of at most six of at most sixty rows.
-use Rattle.std.proofs.Common.{◌≡◌, ◌≢◌, ℕ, ◌^◌, ◌<◌, ◌≤◌, List, [], ◌∷◌, length, map, get_or, sym, ◌∙◌, subst, arith, All, AllPairs}
+use Rattle.std.proofs.Common.{◌≡◌, ◌≢◌, ℕ, ◌^◌, ◌<◌, ◌≤◌, ◌⊎◌, ⊎_elim, List, [], ◌∷◌, length, map, get_or, sym, ◌∙◌, subst, arith, All, AllPairs}
 use Rattle.std.specs.Prelude.{Contains}
 use Rattle.std.specs.Cmp.{tied_itself}
 use Rattle.std.specs.declared.cmp.Ordering.TheVariants.{Less, Equal}
@@ -8,7 +8,7 @@ use Rattle.std.proofs.lemmas.List.Elements.{All-weaker, All-contains_itself, All
 use Rattle.mpc_space.specs.Matrix.{height}
 use Rattle.mpc_sets.specs.RowSet.{RisesWithin, IsSetOfRows}
 use Rattle.mpc_sets.specs.SetOrder.{set_cmp, set_cmp-total, IsBefore, IsInOrder}
-use Rattle.mpc_sets.proofs.Counting.{length-sets-of_forty, length-sets-of_sixty}
+use Rattle.mpc_sets.specs.SetLaws.{CountLaws}
 use Rattle.mpc_rows.specs.declared.programs.Qp.{Qp}
 use Rattle.mpc_rows.specs.declared.laws.Law.{Law}
 use Rattle.mpc_rows.specs.Laws.{HasLawShape}
@@ -35,20 +35,23 @@ table_shape qp laws t law c = (t.are_laws law c).verdict.2.shape
 pub all_laws : (laws : List Law) (P : Law → Type 0) → ((law : Law) → Contains laws law → P law) → All P laws
 all_laws laws P h = All-weaker (Contains laws) P h laws (All-contains_itself laws)
 
-module _ (qp : Qp) (laws : List Law) (table : IsTable qp laws) where
+module _ (counts : CountLaws) (qp : Qp) (laws : List Law) (table : IsTable qp laws) where
   sets : List (List ℕ)
   sets = map (λ law. law.set) laws
 
   six_members : (law : Law) → Contains laws law → length law.set ≤ 6
   six_members law c = let few = (table_shape qp laws table law c).few in let most = qp.is_program.few_unknowns in omega arith
 
+  four_members : height qp.h ≤ 4 → (law : Law) → Contains laws law → length law.set ≤ 4
+  four_members h law c = let few = (table_shape qp laws table law c).few in omega arith
+
   sets_differ : AllPairs (λ s t. s ≢ t) sets
   unfolding sets
   sets_differ = different_in_order sets table.in_order
 
-  sets_small : All (λ s. length s ≤ 6) sets
+  sets_small : (most : ℕ) → ((law : Law) → Contains laws law → length law.set ≤ most) → All (λ s. length s ≤ most) sets
   unfolding sets
-  sets_small = All-map (λ s. length s ≤ 6) (λ law. law.set) laws (all_laws laws (λ law. length law.set ≤ 6) six_members)
+  sets_small most h = All-map (λ s. length s ≤ most) (λ law. law.set) laws (all_laws laws (λ law. length law.set ≤ most) h)
 
   sets_within : (top : ℕ) → height qp.g ≤ top → All (IsSetOfRows top) sets
   unfolding sets
@@ -61,10 +64,16 @@ module _ (qp : Qp) (laws : List Law) (table : IsTable qp laws) where
   length_sets = length-map laws (λ law. law.set)
 
   pub laws_of_forty : height qp.g ≤ 40 → length laws ≤ 4598479
-  laws_of_forty h = subst (λ n. n ≤ 4598479) length_sets (length-sets-of_forty sets sets_differ (sets_within 40 h) sets_small)
+  laws_of_forty h = subst (λ n. n ≤ 4598479) length_sets (counts.six_of_forty sets sets_differ (sets_within 40 h) (sets_small 6 six_members))
+
+  pub laws_of_four : height qp.h ≤ 4 → length laws ≤ 523686
+  laws_of_four h = subst (λ n. n ≤ 523686) length_sets (counts.four_of_sixty sets sets_differ (sets_within 60 qp.is_program.few_rows) (sets_small 4 (four_members h)))
+
+  pub few_laws : (height qp.g ≤ 40) ⊎ (height qp.h ≤ 4) → length laws ≤ 4598479
+  few_laws h = ⊎_elim laws_of_forty (λ k. let few = laws_of_four k in omega arith) h
 
   pub laws_of_sixty : length laws ≤ 56049058
-  laws_of_sixty = subst (λ n. n ≤ 56049058) length_sets (length-sets-of_sixty sets sets_differ (sets_within 60 qp.is_program.few_rows) sets_small)
+  laws_of_sixty = subst (λ n. n ≤ 56049058) length_sets (counts.six_of_sixty sets sets_differ (sets_within 60 qp.is_program.few_rows) (sets_small 6 six_members))
 
   pub laws_numbered : length laws < 2 ^ 32
   laws_numbered = let few = laws_of_sixty in omega arith

@@ -8,24 +8,24 @@ use Rattle.mpc_rows.specs.declared.systems.Row.{Row}
 use Rattle.mpc_rows.specs.declared.trees.Node.{Node}
 use Rattle.mpc_rows.specs.declared.trees.Node.TheVariants.{Split, Law as LawLeaf, NoMove}
 use Rattle.mpc_rows.specs.declared.places.Place.{Place}
-use Rattle.mpc_rows.specs.declared.places.Place.TheVariants.{State, Cost, Row as ProgramRow, Pivot, Law as LawRun, Reach, Border, Region, Meet, Holds, Joint, LawBound, NodeBound, CheckLaw, CheckLeaf}
+use Rattle.mpc_rows.specs.declared.places.Place.TheVariants.{Meet, Holds}
 use Rattle.mpc_rows.specs.RunWidth.{RunFits}
 use Rattle.mpc_rows.specs.LawRows.{AreLawRows}
-use Rattle.mpc_rows.proofs.RegionLemmas.{law_rows_unique}
+use Rattle.mpc_rows.specs.LawLaws.{LawLaws}
 use Rattle.mpc_tree.specs.Cells.{FailsOn, NoneMeetsBefore, IsFirstToMeet}
-use Rattle.mpc_tree.specs.Systems.{meet_system}
+use Rattle.mpc_systems.specs.Systems.{meet_system}
 use Rattle.mpc_tree.specs.Trees.{Cell, IsOfLaw, IsLeafOf}
 use Rattle.mpc_tree.specs.NodeRuns.{MeetsFit, HoldsFit, LawLeafFits, EmptyLeafFits, LeafFits, DividesAndFits, EndsAndFits}
 use Rattle.mpc_tree.specs.WideRuns.{IsWideMeet, IsWideHold, IsWideRow, IsWideJoint, IsWideAt}
 use Rattle.mpc_tree.proofs.OneCell.{same_place, same_item, one_first_place, one_first_law, none_not_first}
 
 -- ---- the searches for a state of the cell in a region
-module _ (qp : Qp) (laws : List Law) (cell : Cell) where
+module _ (single : LawLaws) (qp : Qp) (laws : List Law) (cell : Cell) where
   -- none that fits is too wide
   pub meet_not_wide : (upto number : ℕ) → MeetsFit qp laws cell upto → (w : IsWideMeet qp laws cell number) → ¬ (w.place < upto)
   meet_not_wide upto number fit w below =
       let fits = fit w.place w.law w.reached below w.is_law in
-      let rows : fits.rows ≡ w.rows = law_rows_unique qp w.law fits.rows w.rows fits.of_law w.of_law in
+      let rows : fits.rows ≡ w.rows = single.law_rows_unique qp w.law fits.rows w.rows fits.of_law w.of_law in
       w.wide (subst (λ xs. RunFits (meet_system qp cell.rows xs)) rows fits.fits)
 
   -- nor is one behind the first law whose region meets the cell
@@ -60,34 +60,11 @@ module _ (qp : Qp) (cell : List Row) (rows : List RowInt) where
       w.none_before place row behind is fails
 
 -- ---- a node
-module _ (qp : Qp) (laws : List Law) (cell : Cell) where
-  -- which search it is
-  abbrev WideKind : ℕ → Place → Type 0
-  WideKind number place =
-      ((law : ℕ) × (place ≡ Meet number law) × IsWideMeet qp laws cell law)
-      ⊎ (((law : ℕ) × (i : ℕ) × (place ≡ Holds number law i) × IsWideRow qp laws cell law i) ⊎ ((place ≡ Joint number) × IsWideJoint qp laws cell))
-
-  wide_kind : (number : ℕ) (place : Place) → IsWideAt qp laws cell number place → WideKind number place
-  wide_kind number (Meet node law) w = inl (law, ap (λ n. Meet n law) w.0, w.1)
-  wide_kind number (Holds node law i) w = inr (inl (law, i, ap (λ n. Holds n law i) w.0, w.1))
-  wide_kind number (Joint node) w = inr (inr (ap (λ n. Joint n) w.0, w.1))
-  wide_kind number (State k) w = absurd w
-  wide_kind number (Cost k) w = absurd w
-  wide_kind number (ProgramRow i) w = absurd w
-  wide_kind number (Pivot j) w = absurd w
-  wide_kind number (LawRun set) w = absurd w
-  wide_kind number (Reach set) w = absurd w
-  wide_kind number (Border set i) w = absurd w
-  wide_kind number (Region set) w = absurd w
-  wide_kind number (LawBound law input) w = absurd w
-  wide_kind number (NodeBound node) w = absurd w
-  wide_kind number (CheckLaw law) w = absurd w
-  wide_kind number (CheckLeaf node i) w = absurd w
-
+module _ (single : LawLaws) (qp : Qp) (laws : List Law) (cell : Cell) where
   pub row_not_wide : (number i p : ℕ) (law : Law) → IsFirstToMeet qp laws cell.rows p law → (rows : List RowInt) → AreLawRows qp law rows → (w : IsWideRow qp laws cell number i) → IsWideHold qp cell.rows rows i
   row_not_wide number i p law first rows are w =
       let laws_same : w.law ≡ law = one_first_law qp laws cell.rows w.place p w.law law w.first first in
-      let rows_same : w.rows ≡ rows = law_rows_unique qp law w.rows rows (subst (λ l. AreLawRows qp l w.rows) laws_same w.of_law) are in
+      let rows_same : w.rows ≡ rows = single.law_rows_unique qp law w.rows rows (subst (λ l. AreLawRows qp l w.rows) laws_same w.of_law) are in
       subst (λ xs. IsWideHold qp cell.rows xs i) rows_same w.row
 
   -- the runs at a split
@@ -96,17 +73,17 @@ module _ (qp : Qp) (laws : List Law) (cell : Cell) where
       let fail = d.divides.fails in
       let law_same : d.fits.law ≡ d.divides.law = same_item laws p p d.fits.law d.divides.law refl d.fits.is_law d.divides.first.is in
       let of_law : AreLawRows qp d.divides.law d.fits.rows = subst (λ l. AreLawRows qp l d.fits.rows) law_same d.fits.of_law in
-      let rows_same : d.fits.rows ≡ fail.rows = law_rows_unique qp d.divides.law d.fits.rows fail.rows of_law fail.of_law in
+      let rows_same : d.fits.rows ≡ fail.rows = single.law_rows_unique qp d.divides.law d.fits.rows fail.rows of_law fail.of_law in
       let wide = row_not_wide number i p d.divides.law d.divides.first fail.rows fail.of_law w in
       let holds : HoldsFit qp cell.rows fail.rows (d.fits.row_place + 1) = subst (λ xs. HoldsFit qp cell.rows xs (d.fits.row_place + 1)) rows_same d.fits.holds in
       let is_row : slice_get fail.rows d.fits.row_place ≡ Some row = subst (λ xs. slice_get xs d.fits.row_place ≡ Some row) rows_same d.fits.is_row in
       hold_not_behind qp cell.rows fail.rows fail.place d.fits.row_place i row fail.is fail.fails is_row holds fail.before wide
 
   pub split_not_wide : (p number : ℕ) (row : RowInt) (place : Place) → DividesAndFits qp laws cell p row → ¬ IsWideAt qp laws cell number place
-  split_not_wide p number row place d w = by (wide_kind number place w)
+  split_not_wide p number row place d w = by w
     where
-      by : WideKind number place → ⊥
-      by (inl v) = meet_not_behind qp laws cell p v.0 d.divides.law d.divides.first d.fits.meets v.2
+      by : IsWideAt qp laws cell number place → ⊥
+      by (inl v) = meet_not_behind single qp laws cell p v.0 d.divides.law d.divides.first d.fits.meets v.2
       by (inr (inl v)) = split_not_row p v.0 v.1 row d v.3
       by (inr (inr v)) = none_not_first qp laws cell.rows p d.divides.law d.divides.first v.1.none
 
@@ -114,7 +91,7 @@ module _ (qp : Qp) (laws : List Law) (cell : Cell) where
   law_leaf_not_meet : (number law : ℕ) → IsOfLaw qp laws cell number → LawLeafFits qp laws cell number → ¬ IsWideMeet qp laws cell law
   law_leaf_not_meet number law l f =
       let place : f.place ≡ l.place = omega (arith, f.number_is, l.number_is) in
-      meet_not_behind qp laws cell l.place law l.law l.first (subst (λ p. MeetsFit qp laws cell (p + 1)) place f.meets)
+      meet_not_behind single qp laws cell l.place law l.law l.first (subst (λ p. MeetsFit qp laws cell (p + 1)) place f.meets)
 
   law_leaf_not_row : (number law i : ℕ) → IsOfLaw qp laws cell number → LawLeafFits qp laws cell number → ¬ IsWideRow qp laws cell law i
   law_leaf_not_row number law i l f w =
@@ -124,19 +101,19 @@ module _ (qp : Qp) (laws : List Law) (cell : Cell) where
       hold_not_wide qp cell.rows f.rows (length f.rows) i f.holds wide (slice_get_within f.rows wide.place wide.row wide.is_row)
 
   law_leaf_not_wide : (of_law number : ℕ) (place : Place) → IsOfLaw qp laws cell of_law → LawLeafFits qp laws cell of_law → ¬ IsWideAt qp laws cell number place
-  law_leaf_not_wide of_law number place l f w = by (wide_kind number place w)
+  law_leaf_not_wide of_law number place l f w = by w
     where
-      by : WideKind number place → ⊥
+      by : IsWideAt qp laws cell number place → ⊥
       by (inl v) = law_leaf_not_meet of_law v.0 l f v.2
       by (inr (inl v)) = law_leaf_not_row of_law v.0 v.1 l f v.3
       by (inr (inr v)) = none_not_first qp laws cell.rows l.place l.law l.first v.1.none
 
   -- the runs at a leaf without one
   empty_leaf_not_wide : (number : ℕ) (place : Place) → NoneMeetsBefore qp laws cell.rows (length laws) → EmptyLeafFits qp laws cell → ¬ IsWideAt qp laws cell number place
-  empty_leaf_not_wide number place none f w = by (wide_kind number place w)
+  empty_leaf_not_wide number place none f w = by w
     where
-      by : WideKind number place → ⊥
-      by (inl v) = meet_not_all qp laws cell v.0 f.meets v.2
+      by : IsWideAt qp laws cell number place → ⊥
+      by (inl v) = meet_not_all single qp laws cell v.0 f.meets v.2
       by (inr (inl v)) = none_not_first qp laws cell.rows v.3.place v.3.law v.3.first none
       by (inr (inr v)) = v.1.wide f.joint
 
@@ -150,10 +127,10 @@ module _ (qp : Qp) (laws : List Law) (cell : Cell) where
 
   -- ---- two first runs that are too wide
   meet_and_row : (m n i : ℕ) → IsWideMeet qp laws cell m → ¬ IsWideRow qp laws cell n i
-  meet_and_row m n i v w = meet_not_behind qp laws cell w.place m w.law w.first w.before v
+  meet_and_row m n i v w = meet_not_behind single qp laws cell w.place m w.law w.first w.before v
 
   meet_and_joint : (m : ℕ) → IsWideMeet qp laws cell m → ¬ IsWideJoint qp laws cell
-  meet_and_joint m v w = meet_not_all qp laws cell m w.before v
+  meet_and_joint m v w = meet_not_all single qp laws cell m w.before v
 
   row_and_joint : (m i : ℕ) → IsWideRow qp laws cell m i → ¬ IsWideJoint qp laws cell
   row_and_joint m i v w = none_not_first qp laws cell.rows v.place v.law v.first w.none
@@ -166,10 +143,10 @@ module _ (qp : Qp) (laws : List Law) (cell : Cell) where
       )
 
   pub one_wide_at : (number : ℕ) (p q : Place) → IsWideAt qp laws cell number p → IsWideAt qp laws cell number q → p ≡ q
-  one_wide_at number p q v w = by (wide_kind number p v) (wide_kind number q w)
+  one_wide_at number p q v w = by v w
     where
-      by : WideKind number p → WideKind number q → p ≡ q
-      by (inl v) (inl w) = v.1 ∙ ap (λ m. Meet number m) (one_wide_meet qp laws cell v.0 w.0 v.2 w.2) ∙ sym w.1
+      by : IsWideAt qp laws cell number p → IsWideAt qp laws cell number q → p ≡ q
+      by (inl v) (inl w) = v.1 ∙ ap (λ m. Meet number m) (one_wide_meet single qp laws cell v.0 w.0 v.2 w.2) ∙ sym w.1
       by (inl v) (inr (inl w)) = absurd (meet_and_row v.0 w.0 w.1 v.2 w.3)
       by (inl v) (inr (inr w)) = absurd (meet_and_joint v.0 v.2 w.1)
       by (inr (inl v)) (inl w) = absurd (meet_and_row w.0 v.0 v.1 w.2 v.3)

@@ -6,11 +6,7 @@ use Rattle.mpc_rows.specs.declared.laws.Law.{Law}
 use Rattle.mpc_rows.specs.declared.systems.Row.{Row}
 use Rattle.mpc_rows.specs.Laws.{IsLaw}
 use Rattle.mpc_rows.specs.LawRows.{AreLawRows}
-use Rattle.mpc_region.specs.Writing.{AreOfSize}
-
--- each row of the cell has one coefficient a count
-abbrev pub HasBoxWidth : Qp → List Row → Type 0
-HasBoxWidth qp cell = All (λ r. length r.a ≡ length qp.counts) cell
+use Rattle.mpc_systems.specs.Writing.{AreOfSize}
 
 -- the rows of a law of the program
 pub record IsBorder (qp : Qp) (law : Law) (rows : List RowInt) : Type 0 where

@@ -7,7 +7,7 @@ use Rattle.mpc_rows.specs.declared.laws.Law.{Law}
 use Rattle.mpc_rows.specs.declared.systems.Row.{Row}
 use Rattle.mpc_rows.specs.declared.trees.Node.{Node}
 use Rattle.mpc_rows.specs.declared.places.Place.{Place}
-use Rattle.mpc_rows.specs.declared.places.Place.TheVariants.{State, Cost, Row as ProgramRow, Pivot, Law as LawRun, Reach, Border, Region, Meet, Holds as HoldRun, Joint, LawBound, NodeBound, CheckLaw, CheckLeaf}
+use Rattle.mpc_rows.specs.declared.places.Place.TheVariants.{Holds as HoldRun}
 use Rattle.mpc_rows.specs.ActiveSets.{IsFeasible}
 use Rattle.mpc_rows.specs.Laws.{IsInRegion}
 use Rattle.mpc_tree.specs.declared.nodes.Held.{Held}
@@ -58,21 +58,7 @@ IsHeld qp cell rows (Holds certs) = AllHold qp cell rows certs
 
 -- the place names the first of the rows of this law whose run is too wide
 abbrev pub NamesWideRow : Qp → List Row → List RowInt → ℕ → ℕ → Place → Type 0
-NamesWideRow qp cell rows number law (State k) = ⊥
-NamesWideRow qp cell rows number law (Cost k) = ⊥
-NamesWideRow qp cell rows number law (ProgramRow i) = ⊥
-NamesWideRow qp cell rows number law (Pivot j) = ⊥
-NamesWideRow qp cell rows number law (LawRun set) = ⊥
-NamesWideRow qp cell rows number law (Reach set) = ⊥
-NamesWideRow qp cell rows number law (Border set i) = ⊥
-NamesWideRow qp cell rows number law (Region set) = ⊥
-NamesWideRow qp cell rows number law (Meet node other) = ⊥
-NamesWideRow qp cell rows number law (HoldRun node other i) = (node ≡ number) × (other ≡ law) × IsWideHold qp cell rows i
-NamesWideRow qp cell rows number law (Joint node) = ⊥
-NamesWideRow qp cell rows number law (LawBound other input) = ⊥
-NamesWideRow qp cell rows number law (NodeBound node) = ⊥
-NamesWideRow qp cell rows number law (CheckLaw other) = ⊥
-NamesWideRow qp cell rows number law (CheckLeaf node i) = ⊥
+NamesWideRow qp cell rows number law place = (i : ℕ) × (place ≡ HoldRun number law i) × IsWideHold qp cell rows i
 
 -- what stands at the node of the cell
 pub record IsSplitAt (qp : Qp) (laws : List Law) (borders : List (List RowInt)) (cell : Cell) (place row_place : ℕ) : Type 0 where

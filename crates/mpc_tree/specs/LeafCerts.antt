@@ -12,7 +12,7 @@ use Rattle.mpc_rows.specs.Refutation.{Refutes}
 use Rattle.mpc_rows.specs.Run.{is_zero}
 use Rattle.mpc_rows.specs.LawRows.{AreLawRows}
 use Rattle.mpc_simplex.specs.Answer.{EndsRefuted}
-use Rattle.mpc_tree.specs.Systems.{hold_system, joint_system}
+use Rattle.mpc_systems.specs.Systems.{hold_system, joint_system}
 use Rattle.mpc_tree.specs.Trees.{Cell}
 
 -- the multipliers that aren't 0, each with the position of its row, counted on from the first

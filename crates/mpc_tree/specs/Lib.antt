@@ -1,6 +1,5 @@
 pub mod Cells
 pub mod Trees
-pub mod Systems
 pub mod LeafCerts
 pub mod NodeRuns
 pub mod WideRuns

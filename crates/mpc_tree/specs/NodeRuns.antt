@@ -8,7 +8,7 @@ use Rattle.mpc_rows.specs.declared.trees.Node.{Node}
 use Rattle.mpc_rows.specs.declared.trees.Node.TheVariants.{Split, Law as LawLeaf, NoMove}
 use Rattle.mpc_rows.specs.RunWidth.{RunFits}
 use Rattle.mpc_rows.specs.LawRows.{AreLawRows}
-use Rattle.mpc_tree.specs.Systems.{meet_system, hold_system, joint_system}
+use Rattle.mpc_systems.specs.Systems.{meet_system, hold_system, joint_system}
 use Rattle.mpc_tree.specs.Trees.{Cell, Divides, IsLeafOf, IsTreeWhere}
 
 -- the search for a state of the cell in the law's region fits

@@ -1,16 +1,16 @@
 -- The first run of a search, in preorder of the tree, with a number that is too wide.
-use Rattle.std.specs.Prelude.{◌≡◌, ℕ, ◌+◌, ◌≤◌, List, length, Some, slice_get}
+use Rattle.std.specs.Prelude.{◌≡◌, ℕ, ◌+◌, ◌≤◌, ◌⊎◌, List, length, Some, slice_get}
 use Rattle.mpc_linear.specs.declared.integers.RowInt.{RowInt}
 use Rattle.mpc_rows.specs.declared.programs.Qp.{Qp}
 use Rattle.mpc_rows.specs.declared.laws.Law.{Law}
 use Rattle.mpc_rows.specs.declared.systems.Row.{Row}
 use Rattle.mpc_rows.specs.declared.trees.Node.{Node}
 use Rattle.mpc_rows.specs.declared.places.Place.{Place}
-use Rattle.mpc_rows.specs.declared.places.Place.TheVariants.{State, Cost, Row as ProgramRow, Pivot, Law as LawRun, Reach, Border, Region, Meet, Holds, Joint, LawBound, NodeBound, CheckLaw, CheckLeaf}
+use Rattle.mpc_rows.specs.declared.places.Place.TheVariants.{Meet, Holds, Joint}
 use Rattle.mpc_rows.specs.RunWidth.{RunFits}
 use Rattle.mpc_rows.specs.LawRows.{AreLawRows}
 use Rattle.mpc_tree.specs.Cells.{NoneMeetsBefore, IsFirstToMeet, NoneFailsBefore}
-use Rattle.mpc_tree.specs.Systems.{meet_system, hold_system, joint_system}
+use Rattle.mpc_systems.specs.Systems.{meet_system, hold_system, joint_system}
 use Rattle.mpc_tree.specs.Trees.{Cell, yes_side, no_side}
 use Rattle.mpc_tree.specs.NodeRuns.{MeetsFit, HoldsFit, DividesAndFits, IsFittingTree}
 
@@ -55,23 +55,19 @@ pub record IsWideJoint (qp : Qp) (laws : List Law) (cell : Cell) : Type 0 where
   pub before : MeetsFit qp laws cell (length laws)
   pub wide : ¬ RunFits (joint_system qp cell.rows)
 
--- the place names the first run that is too wide at the node of this number
+-- The place names the first run that is too wide at the node of this number: the search for a state of the cell in a law's region, for a
+-- state of the cell where a row of a law fails, or for admissible unknowns.
+abbrev pub NamesMeet : Qp → List Law → Cell → ℕ → Place → Type 0
+NamesMeet qp laws cell number place = (law : ℕ) × (place ≡ Meet number law) × IsWideMeet qp laws cell law
+
+abbrev pub NamesRow : Qp → List Law → Cell → ℕ → Place → Type 0
+NamesRow qp laws cell number place = (law : ℕ) × (i : ℕ) × (place ≡ Holds number law i) × IsWideRow qp laws cell law i
+
+abbrev pub NamesJoint : Qp → List Law → Cell → ℕ → Place → Type 0
+NamesJoint qp laws cell number place = (place ≡ Joint number) × IsWideJoint qp laws cell
+
 abbrev pub IsWideAt : Qp → List Law → Cell → ℕ → Place → Type 0
-IsWideAt qp laws cell number (State k) = ⊥
-IsWideAt qp laws cell number (Cost k) = ⊥
-IsWideAt qp laws cell number (ProgramRow i) = ⊥
-IsWideAt qp laws cell number (Pivot j) = ⊥
-IsWideAt qp laws cell number (LawRun set) = ⊥
-IsWideAt qp laws cell number (Reach set) = ⊥
-IsWideAt qp laws cell number (Border set i) = ⊥
-IsWideAt qp laws cell number (Region set) = ⊥
-IsWideAt qp laws cell number (Meet node law) = (node ≡ number) × IsWideMeet qp laws cell law
-IsWideAt qp laws cell number (Holds node law i) = (node ≡ number) × IsWideRow qp laws cell law i
-IsWideAt qp laws cell number (Joint node) = (node ≡ number) × IsWideJoint qp laws cell
-IsWideAt qp laws cell number (LawBound law input) = ⊥
-IsWideAt qp laws cell number (NodeBound node) = ⊥
-IsWideAt qp laws cell number (CheckLaw law) = ⊥
-IsWideAt qp laws cell number (CheckLeaf node i) = ⊥
+IsWideAt qp laws cell number place = NamesMeet qp laws cell number place ⊎ (NamesRow qp laws cell number place ⊎ NamesJoint qp laws cell number place)
 
 -- The place names the first run that is too wide below a cell whose node has this number: one of the node itself, one in the yes side of its
 -- split, or one in the no side, where all runs of the yes side fit.

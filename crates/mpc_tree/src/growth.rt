@@ -12,11 +12,10 @@ ghost use Rattle.mpc_tree.specs.WideRuns.{IsFirstWide};
 use crate::borders::Border;
 use crate::errors::TreeError;
 use crate::nodes::{Placed, place_node};
-use crate::systems::broken_row;
 use mpc_frac::NoMemory;
 use mpc_linear::{Ints, RowInt};
-use mpc_region::fraction_row;
-use mpc_rows::{LawTable, Node, Qp, Row, Tree};
+use mpc_rows::{LawTable, Node, Qp, Row, Tree, region_laws};
+use mpc_systems::{broken_row, whole_row};
 use std::alloc::Global;
 
 /// The no side of a split whose yes side comes first: how many rows its cell shares with the split's,
@@ -44,7 +43,7 @@ fn open_split(
     alloc: Global,
     tree: &mut Tree,
     cell: &mut Vec<Row>,
-    open: &mut Vec<OpenSide>,
+    sides: &mut Vec<OpenSide>,
     row: &RowInt,
     place: usize,
 ) -> Result<(), NoMemory>
@@ -53,17 +52,17 @@ fn open_split(
     requires room { place < 2 ^ 32 }
     ensures tree { OnOk result (tree.new ≡ tree.old ++ Node.Split row.now ∷ []) }
     ensures cell { OnOk result (cell.new.items ≡ cell.old.items ++ whole_row row.now ∷ []) }
-    ensures open { OnOk result (open.new.items ≡ open.old.items ++ record { shared = length cell.old.items; row = broken_row row.now; next = place + 1 } ∷ []) }
+    ensures sides { OnOk result (sides.new.items ≡ sides.old.items ++ record { shared = length cell.old.items; row = broken_row row.now; next = place + 1 } ∷ []) }
 {
     let side = OpenSide {
         shared: cell.len(),
         row: broken_row(alloc, row)?,
         next: place + 1,
     };
-    if open.push(side).is_err() {
+    if sides.push(side).is_err() {
         return Err(NoMemory);
     }
-    if cell.push(fraction_row(alloc, row)?).is_err() {
+    if cell.push(whole_row(alloc, row)?).is_err() {
         return Err(NoMemory);
     }
     tree.push(Node::Split(copied(alloc, row)?))
@@ -95,9 +94,10 @@ pub fn grown(alloc: Global, qp: &Qp, laws: &LawTable, borders: &[Border]) -> Res
     ensures built { IfOk result (λ nodes. IsBuilt qp.now laws.now whole_box nodes) }
     ensures wide { IfErr result (λ e. IfWide e (IsFirstWide qp.now laws.now whole_box 1)) }
 {
+    region_laws();
     let mut tree = Tree::new(alloc);
     let mut cell = Vec::new(alloc);
-    let mut open = Vec::new(alloc);
+    let mut sides = Vec::new(alloc);
     let mut next = 0;
     let mut held = 0;
     'nodes: loop {
@@ -105,13 +105,13 @@ pub fn grown(alloc: Global, qp: &Qp, laws: &LawTable, borders: &[Border]) -> Res
         match place_node(alloc, qp, laws, borders, &cell, next, node) {
             Ok(Placed::Split { place, row }) => {
                 let rows = borders[place].as_slice();
-                open_split(alloc, &mut tree, &mut cell, &mut open, &rows[row], place)?;
+                open_split(alloc, &mut tree, &mut cell, &mut sides, &rows[row], place)?;
                 next = place;
                 held = row + 1;
             }
             Ok(Placed::Leaf(leaf)) => {
                 tree.push(leaf)?;
-                match open.pop() {
+                match sides.pop() {
                     Some(side) => next = enter(&mut cell, side)?,
                     None => return Ok(tree),
                 }

@@ -1,6 +1,9 @@
-//! What holds of the tree of each cell.
+//! What holds of the tree of each cell, and of each table of laws.
 
-ghost use Rattle.mpc_tree.specs.Certified.{OneTree, OneFirstWide, FitsNotWide};
+ghost use Rattle.mpc_tree.specs.Certified.{OneTree, OneFirstWide, FitsNotWide, CertifiedIsTree, CertifiedFits, TableHasLaws, TableHasShapes, TableIsSmall, MultipliersAreCert};
+
+use mpc_rows::{law_laws, region_laws};
+use mpc_sets::count_laws;
 
 /// The program, the laws and the cell determine the tree with its certificates, and the run that is named as the first that is too
 /// wide. The call does nothing: its contract is the law.
@@ -8,4 +11,25 @@ pub fn one_tree()
     ensures one_tree { OneTree }
     ensures one_first_wide { OneFirstWide }
     ensures fits_not_wide { FitsNotWide }
+    ensures is_tree { CertifiedIsTree }
+    ensures fits { CertifiedFits }
+{
+    law_laws();
+    region_laws();
+}
+
+/// Each law of a table is that of its set, with its shape; and a table is small. The call does
+/// nothing: its contract is the laws.
+pub fn table_laws()
+    ensures are_laws { TableHasLaws }
+    ensures have_shapes { TableHasShapes }
+    ensures small { TableIsSmall }
+{
+    count_laws();
+}
+
+/// The multipliers of a list that aren't 0, each with its position, have the shape of a certificate.
+/// The call does nothing: its contract is the law.
+pub fn multipliers_are_cert()
+    ensures { MultipliersAreCert }
 {}

@@ -19,16 +19,18 @@ mod errors;
 mod growth;
 mod laws;
 mod nodes;
-mod systems;
 #[cfg(test)]
 mod tests;
 
 use borders::all_borders;
 pub use errors::TreeError;
 use growth::grown;
-pub use laws::one_tree;
+pub use laws::{multipliers_are_cert, one_tree, table_laws};
+use mpc_cover::cover_laws;
 use mpc_rows::{LawTable, Qp, Tree};
+use mpc_sets::count_laws;
 use std::alloc::Global;
+use std::thread::Threads;
 
 /// The search tree of a table of laws over the box (Tøndel, Johansen and Bemporad, 2003): at each
 /// cell the first law whose region meets it. The cell is a leaf where it lies in that region, and
@@ -41,7 +43,12 @@ use std::alloc::Global;
 /// ends of the runs of the simplex method by least numbers that decide the leaf.
 ///
 /// `Wide` names the first run, node by node in preorder, with a number that needs more than 128 bits.
-pub fn build(alloc: Global, qp: &Qp, laws: &LawTable) -> Result<Tree, TreeError>
+pub fn build<T: Threads + Sync>(
+    rt: &T,
+    alloc: Global,
+    qp: &Qp,
+    laws: &LawTable,
+) -> Result<Tree, TreeError>
     requires definite { IsDefinite qp.now.h.rows }
     requires table { IsTable qp.now laws.now }
     requires rows_fit { All (λ law. LawRowsFit qp.now law (height qp.now.g)) laws.now }
@@ -54,6 +61,26 @@ pub fn build(alloc: Global, qp: &Qp, laws: &LawTable) -> Result<Tree, TreeError>
     ensures wide { MatchResult result (λ nodes. IsFittingTree qp.now laws.now whole_box nodes)
         (λ e. IfWide e (IsFirstWide qp.now laws.now whole_box 1)) }
 {
+    let _ = rt;
+    build_alone(alloc, qp, laws)
+}
+
+/// The same tree, for a caller that has no threads to give.
+pub fn build_alone(alloc: Global, qp: &Qp, laws: &LawTable) -> Result<Tree, TreeError>
+    requires definite { IsDefinite qp.now.h.rows }
+    requires table { IsTable qp.now laws.now }
+    requires rows_fit { All (λ law. LawRowsFit qp.now law (height qp.now.g)) laws.now }
+    ensures tree { IfOk result (λ nodes. IsTreeOf qp.now laws.now whole_box nodes) }
+    ensures certs { IfOk result (λ nodes. IsTreeWhere AnySplit (HasItsCerts qp.now laws.now) whole_box nodes) }
+    ensures certified { IfOk result (λ nodes. IsCertified qp.now laws.now whole_box nodes) }
+    ensures no_move { IfOk result (λ nodes. IsTreeWhere AnySplit (IsRightlyEmpty qp.now) whole_box nodes) }
+
+    // The runs are those of the search in preorder.
+    ensures wide { MatchResult result (λ nodes. IsFittingTree qp.now laws.now whole_box nodes)
+        (λ e. IfWide e (IsFirstWide qp.now laws.now whole_box 1)) }
+{
+    cover_laws();
+    count_laws();
     let borders = all_borders(alloc, qp, laws)?;
     grown(alloc, qp, laws, &borders)
 }

@@ -4,24 +4,24 @@ ghost use Rattle.std.specs.Prelude.{◌≡◌, ◌+◌, ◌<◌, ◌≤◌, ◌^
 ghost use Rattle.mpc_rows.specs.LawRows.{AreLawRows};
 ghost use Rattle.mpc_rows.specs.RunWidth.{RunFits};
 ghost use Rattle.mpc_simplex.specs.Answer.{HasPoint, IfWide as IfRunWide};
-ghost use Rattle.mpc_region.specs.Writing.{IsOfSize, AreOfSize};
-ghost use Rattle.mpc_tree.specs.Borders.{HasBoxWidth, AreBorders};
+ghost use Rattle.mpc_systems.specs.Writing.{HasBoxWidth, IsOfSize, AreOfSize};
+ghost use Rattle.mpc_tree.specs.Borders.{AreBorders};
 ghost use Rattle.mpc_tree.specs.Causes.{IfWide};
 ghost use Rattle.mpc_tree.specs.Cells.{NoneMeetsBefore, FailsOn};
 ghost use Rattle.mpc_tree.specs.Growth.{RegionsCover, IsFirstMeeting, IsHeld, NamesWideRow, IsPlaced};
 ghost use Rattle.mpc_tree.specs.LeafCerts.{IsCertOf};
-ghost use Rattle.mpc_tree.specs.Systems.{meet_system, hold_system, joint_system};
+ghost use Rattle.mpc_systems.specs.Systems.{meet_system, hold_system, joint_system};
 ghost use Rattle.mpc_tree.specs.WideRuns.{IsWideAt};
 
 use crate::borders::Border;
 use crate::certs::refutation;
 use crate::errors::TreeError;
-use crate::systems::{hold_system, joint_system, meet_system};
 use mpc_frac::NoMemory;
 use mpc_linear::RowInt;
 use mpc_region::has_point;
-use mpc_rows::{Cert, Certs, LawTable, Node, Place, Qp, Row};
+use mpc_rows::{Cert, Certs, LawTable, Node, Place, Qp, Row, region_laws};
 use mpc_simplex::SimplexError;
+use mpc_systems::{hold_system, joint_system, meet_system};
 use std::alloc::Global;
 
 /// Whether the rows of a law hold on a cell.
@@ -72,6 +72,7 @@ fn hold_cert(
     ensures wide { MatchResult result (λ _. RunFits (hold_system qp.now cell.now row.now))
         (λ e. IfRunWide e (¬ RunFits (hold_system qp.now cell.now row.now))) }
 {
+    region_laws();
     let Ok(system) = hold_system(alloc, qp, cell, row) else {
         return Err(SimplexError::NoMemory);
     };
@@ -96,6 +97,7 @@ fn first_meeting(
     ensures below { IfOk result (λ o. MatchOption o (next ≡ next) (λ place. (next ≤ place) × (place < length laws.now))) }
     ensures wide { IfErr result (λ e. IfWide e (IsWideAt qp.now laws.now (record { rows = cell.now; next = next }) node)) }
 {
+    region_laws();
     for place in next..laws.len() {
         match region_meets(alloc, qp, cell, borders[place].as_slice()) {
             Ok(true) => return Ok(Some(place)),
@@ -174,6 +176,7 @@ pub fn place_node(
     ensures placed { IfOk result (λ p. IsPlaced qp.now laws.now borders.now (record { rows = cell.now; next = next }) p) }
     ensures wide { IfErr result (λ e. IfWide e (IsWideAt qp.now laws.now (record { rows = cell.now; next = next }) node)) }
 {
+    region_laws();
     match first_meeting(alloc, qp, laws, borders, cell, next, node)? {
         None => {
             let cert = joint_cert(alloc, qp, cell, node)?;

@@ -1,4 +1,4 @@
-use Rattle.std.proofs.Common.{◌≡◌, Some, slice_get, subst, arith, refl, length}
+use Rattle.std.proofs.Common.{◌≡◌, ◌+◌, Some, slice_get, subst, arith, refl, length}
 use Rattle.std.proofs.lemmas.Option.{slice_get_read}
 use Rattle.mpc_tree.specs.Cells.{NoneFailsBefore}
 use Rattle.mpc_tree.specs.LeafCerts.{AreCertsOf}
@@ -14,7 +14,7 @@ returns-in-Ok-None-clause-held c =
 pub returns-in-Err-Wide-clause-wide : goal.returns-in-Err-Wide-clause-wide
 returns-in-Err-Wide-clause-wide c =
     let is : slice_get c.args.rows.now c.loop-place.place ≡ Some c.index-rows-place.result = slice_get_read c.args.rows.now (length c.args.rows.now) c.loop-place.place c.index-rows-place.result refl c.loop-place-test.true c.index-rows-place.is in
-    (refl, refl, holds_wide c.args.qp.now c.args.cell.now c.args.rows.now c.loop-place.place c.index-rows-place.result is c.loop-place.invariant.none c.loop-place.invariant.fits (rw c.in-Err-Wide.field-0-is at c.in-Err-Wide.ensures.wide))
+    (c.loop-place.place + 1, refl, holds_wide c.args.qp.now c.args.cell.now c.args.rows.now c.loop-place.place c.index-rows-place.result is c.loop-place.invariant.none c.loop-place.invariant.fits (rw c.in-Err-Wide.field-0-is at c.in-Err-Wide.ensures.wide))
 
 pub loop-place-preserved : goal.loop-place-preserved
 loop-place-preserved c =

@@ -1,9 +1,0 @@
-use Rattle.std.proofs.Common.{◌≡◌, ◌++◌, map, take}
-use Rattle.mpc_tree.specs.Systems.{widened}
-use Rattle.mpc_tree.proofs.systems.push_cell.Given as goal
-
-abbrev pub invariant-loop-row : goal.invariant-loop-row
-invariant-loop-row l = record {
-  width : l.system.width ≡ l.fn.system.width;
-  rows : l.system.rows ≡ l.fn.system.rows ++ map (widened l.more) (take l.row-index l.cell);
-}
