@@ -5,10 +5,11 @@ use Rattle.std.proofs.lemmas.Bool.{cases_eq, cases_lt}
 use Rattle.std.proofs.lemmas.List.{length-replicate, get_or-replicate, length-set, get_or-map, length-append, get_or_append_left}
 use Rattle.std.proofs.Math.Seq.{get_or-append_seam}
 use Rattle.std.proofs.lemmas.Option.{get_or_from_slice_get, slice_get_within}
-use Rattle.mpc_exact.specs.Rational.{ℚ, int}
-use Rattle.mpc_space.specs.Vector.{coordinate, column, zeros, dot, mat_vec}
+use Rattle.mpc_exact.specs.Rational.{ℚ, int, ◌+ℚ◌}
+use Rattle.mpc_frac.specs.Fits.{FitsSum}
+use Rattle.mpc_space.specs.Vector.{coordinate, column, zeros, dot, vec_add, mat_vec}
 use Rattle.mpc_space.specs.Matrix.{RationalMatrix, height, IsRectangular, entry}
-use Rattle.mpc_space.proofs.Entries.{same_entries, coordinate-zeros, coordinate-listed, length-listed}
+use Rattle.mpc_space.proofs.Entries.{same_entries, coordinate-add, coordinate-zeros, coordinate-listed, length-add, length-listed}
 use Rattle.mpc_space.proofs.Matrix.{length-mat_vec, coordinate-mat_vec, length-column, coordinate-column}
 use Rattle.mpc_linear.specs.Dot.{DotFits}
 use Rattle.mpc_linear.specs.Entries.{with_entry, zero_matrix}
@@ -17,11 +18,11 @@ use Rattle.mpc_plant.specs.declared.plants.Plant.{Plant}
 use Rattle.mpc_linear.specs.Shape.{HasShape}
 use Rattle.mpc_condense.specs.Motion.{first_move, lows, steps, first_entry, motion, StateFits}
 use Rattle.mpc_condense.specs.Blocks.{row_at, WritesBlock, AllInBlock}
-use Rattle.mpc_condense.specs.Stages.{IsMotion}
+use Rattle.mpc_condense.specs.Stages.{HoldsColumns, IsMotion}
 use Rattle.mpc_condense.specs.declared.motions.Motion.{Motion}
 use Rattle.mpc_condense.specs.MotionList.{AreMotions}
 use Rattle.mpc_condense.specs.Causes.{StatesFit}
-use Rattle.mpc_condense.proofs.StateColumns.{motion-first, motion-image, motion-input, motion-later, motion-zero, first-grows, first_entry-low, first_entry-step, first_entry-other}
+use Rattle.mpc_condense.proofs.StateColumns.{motion-first, motion-drift, motion-image, motion-input, motion-later, motion-zero, first-grows, first_entry-low, first_entry-step, first_entry-other}
 use Rattle.mpc_condense.proofs.Writing.{with_entry-same, with_entry-row, with_entry-others, with_entry-rectangular}
 
 -- ---- matrices of zeros
@@ -41,7 +42,7 @@ zero_matrix-shape n w = record {
   rectangular = λ k d l. ap length (get_or-replicate n k (zeros w) d (omega (arith, zero_matrix-height n w))) ∙ length-replicate w (int (pos 0));
 }
 
-row_length : (m : RationalMatrix) (r c i : ℕ) → HasShape m r c → i < r → length (row_at m i) ≡ c
+pub row_length : (m : RationalMatrix) (r c i : ℕ) → HasShape m r c → i < r → length (row_at m i) ≡ c
 row_length m r c i s l = s.rectangular i [] (omega (arith, s.rows_are)) ∙ s.columns_are
 
 -- a row with the entries of a vector is the vector
@@ -143,8 +144,9 @@ starts_all plant x z i e f w = subst (IsMotion plant 0 x) (sym f) (record {
     size j = ap length (motion-first plant j) ∙ length-listed plant.n (first_entry plant j)
 
 -- ---- the next state
-module _ (plant : Plant) (k : ℕ) (x z nx nz mz : RationalMatrix) (w : IsMotion plant k x z)
-    (xw : WritesBlock (zero_matrix (height x) (height plant.a)) nx 0 (plant.n + 1) 0 (height plant.a) (λ j i. dot (row_at plant.a i) (row_at x j)))
+module _ (plant : Plant) (k : ℕ) (x z nx nz mx mz : RationalMatrix) (ds : List ℚ) (w : IsMotion plant k x z) (ed : ds ≡ plant.drift)
+    (xw : WritesBlock (zero_matrix (height x) (height plant.a)) mx 0 (plant.n + 1) 0 (height plant.a) (λ j i. dot (row_at plant.a i) (row_at x j)))
+    (dw : WritesBlock mx nx 0 (0 + 1) 0 (length ds) (λ j i. entry mx j i +ℚ coordinate ds i))
     (zw : WritesBlock (zero_matrix (height z) (height plant.a)) mz 0 (plant.p * k) 0 (height plant.a) (λ j i. dot (row_at plant.a i) (row_at z j)))
     (bw : WritesBlock mz nz (plant.p * k) (plant.p * k + plant.b.columns) 0 (height plant.b) (λ j i. entry plant.b i (j - plant.p * k))) where
   a_rows : height plant.a ≡ plant.n
@@ -156,12 +158,15 @@ module _ (plant : Plant) (k : ℕ) (x z nx nz mz : RationalMatrix) (w : IsMotion
   b_columns : plant.b.columns ≡ plant.p
   b_columns = plant.is_plant.b_shape.columns_are
 
-  shape_x : HasShape nx (plant.n + 1) plant.n
-  shape_x = record {
+  shape_mx : HasShape mx (plant.n + 1) plant.n
+  shape_mx = record {
     rows_are = xw.height_is ∙ zero_matrix-height (height x) (height plant.a) ∙ w.x_shape.rows_are;
     columns_are = xw.columns_is ∙ a_rows;
     rectangular = xw.rectangular;
   }
+
+  shape_x : HasShape nx (plant.n + 1) plant.n
+  shape_x = shape_of_block mx nx _ _ _ _ _ _ _ shape_mx dw
 
   shape_z : HasShape nz (plant.p * plant.horizon) plant.n
   shape_z = record {
@@ -173,12 +178,32 @@ module _ (plant : Plant) (k : ℕ) (x z nx nz mz : RationalMatrix) (w : IsMotion
   image_length : (j : ℕ) → length (mat_vec plant.a.rows (motion plant k j)) ≡ plant.n
   image_length j = length-mat_vec plant.a.rows (motion plant k j) ∙ a_rows
 
-  x_row : (j : ℕ) → j < plant.n + 1 → row_at nx j ≡ motion plant (suc k) j
-  x_row j l =
+  drift_length : length ds ≡ plant.n
+  drift_length = ap length ed ∙ plant.is_plant.drift_size
+
+  -- A times a column
+  image_entry : (j i : ℕ) → j < plant.n + 1 → i < plant.n → entry mx j i ≡ coordinate (mat_vec plant.a.rows (motion plant k j)) i
+  image_entry j i l m =
+      xw.inside j i (record { from_row = omega arith; to_row = l; from_column = omega arith; to_column = omega (arith, a_rows) })
+      ∙ ap (dot (row_at plant.a i)) (w.x_is j l) ∙ sym (coordinate-mat_vec plant.a.rows (motion plant k j) i)
+
+  first_row : row_at nx 0 ≡ motion plant (suc k) 0
+  first_row =
+      let ds_size : length (mat_vec plant.a.rows (motion plant k 0)) ≡ length plant.drift = image_length 0 ∙ sym plant.is_plant.drift_size in
+      row_is nx (plant.n + 1) plant.n 0 (vec_add (mat_vec plant.a.rows (motion plant k 0)) plant.drift) shape_x (omega arith) (length-add (mat_vec plant.a.rows (motion plant k 0)) plant.drift ds_size ∙ image_length 0)
+      (λ i m. dw.inside 0 i (record { from_row = omega arith; to_row = omega arith; from_column = omega arith; to_column = omega (arith, drift_length) })
+      ∙ (λ t. image_entry 0 i (omega arith) m t +ℚ coordinate (ed t) i)
+      ∙ sym (coordinate-add (mat_vec plant.a.rows (motion plant k 0)) plant.drift i))
+      ∙ sym (motion-drift plant k)
+
+  later_row : (j : ℕ) → 0 < j → j < plant.n + 1 → row_at nx j ≡ motion plant (suc k) j
+  later_row j some l =
       row_is nx (plant.n + 1) plant.n j (mat_vec plant.a.rows (motion plant k j)) shape_x l (image_length j)
-      (λ i m. xw.inside j i (record { from_row = omega arith; to_row = l; from_column = omega arith; to_column = omega (arith, a_rows) })
-      ∙ ap (dot (row_at plant.a i)) (w.x_is j l) ∙ sym (coordinate-mat_vec plant.a.rows (motion plant k j) i))
-      ∙ sym (motion-image plant k j (omega arith))
+      (λ i m. dw.outside j i (λ h. omega (arith, h.to_row)) ∙ image_entry j i l m)
+      ∙ sym (motion-image plant k j some (omega arith))
+
+  x_row : (j : ℕ) → j < plant.n + 1 → row_at nx j ≡ motion plant (suc k) j
+  x_row j l = ⊎_elim (λ e. subst (λ q. row_at nx q ≡ motion plant (suc k) q) (sym e) first_row) (λ e. later_row j (omega arith) l) (cases_eq j 0)
 
   z_before : (j : ℕ) → j < plant.p * plant.horizon → j < plant.p * k → row_at nz j ≡ motion plant (suc k) (plant.n + 1 + j)
   z_before j l m =
@@ -186,7 +211,7 @@ module _ (plant : Plant) (k : ℕ) (x z nx nz mz : RationalMatrix) (w : IsMotion
       (λ i q. bw.outside j i (λ h. omega (arith, h.from_row))
       ∙ zw.inside j i (record { from_row = omega arith; to_row = m; from_column = omega arith; to_column = omega (arith, a_rows) })
       ∙ ap (dot (row_at plant.a i)) (w.z_is j l) ∙ sym (coordinate-mat_vec plant.a.rows (motion plant k (plant.n + 1 + j)) i))
-      ∙ sym (motion-image plant k (plant.n + 1 + j) (omega arith))
+      ∙ sym (motion-image plant k (plant.n + 1 + j) (omega arith) (omega arith))
 
   z_now : (j : ℕ) → j < plant.p * plant.horizon → plant.p * k ≤ j → j < plant.p * k + plant.p → row_at nz j ≡ motion plant (suc k) (plant.n + 1 + j)
   z_now j l m n =
@@ -213,30 +238,55 @@ module _ (plant : Plant) (k : ℕ) (x z nx nz mz : RationalMatrix) (w : IsMotion
   })
 
 -- ---- what fits: the dots of the rows of a with the columns
-module _ (plant : Plant) (k : ℕ) (a x z : RationalMatrix) (rows_of_a : height a ≡ plant.n) (w : IsMotion plant k x z) (within : plant.p * k ≤ plant.p * plant.horizon) where
+module _ (plant : Plant) (columns : ℕ → List ℚ) (k : ℕ) (a x z : RationalMatrix) (rows_of_a : height a ≡ plant.n) (w : HoldsColumns plant columns x z) (within : plant.p * k ≤ plant.p * plant.horizon) where
   pub dots_fit : AllInBlock 0 (plant.n + 1) 0 (height a) (λ j i. DotFits (row_at a i) (row_at x j)) →
       AllInBlock 0 (plant.p * k) 0 (height a) (λ j i. DotFits (row_at a i) (row_at z j)) →
-      (j i : ℕ) → j < first_move plant k → i < plant.n → DotFits (row_at a i) (motion plant k j)
+      (j i : ℕ) → j < first_move plant k → i < plant.n → DotFits (row_at a i) (columns j)
   dots_fit xf zf j i l m = ⊎_elim
       (λ h. subst (DotFits (row_at a i)) (w.x_is j h) (xf.each j i (record { from_row = omega arith; to_row = h; from_column = omega arith; to_column = omega (arith, rows_of_a) })))
       (λ h. let e : plant.n + 1 + (j - (plant.n + 1)) ≡ j = omega arith in
-      subst (DotFits (row_at a i)) (w.z_is (j - (plant.n + 1)) (omega arith) ∙ ap (motion plant k) e)
+      subst (DotFits (row_at a i)) (w.z_is (j - (plant.n + 1)) (omega arith) ∙ ap columns e)
       (zf.each (j - (plant.n + 1)) i (record { from_row = omega arith; to_row = omega arith; from_column = omega arith; to_column = omega (arith, rows_of_a) })))
       (cases_lt j (plant.n + 1))
 
   pub dots_wide_x : (AllInBlock 0 (plant.n + 1) 0 (height a) (λ j i. DotFits (row_at a i) (row_at x j)) → ⊥) →
-      ((j i : ℕ) → j < first_move plant k → i < plant.n → DotFits (row_at a i) (motion plant k j)) → ⊥
+      ((j i : ℕ) → j < first_move plant k → i < plant.n → DotFits (row_at a i) (columns j)) → ⊥
   dots_wide_x h s = h (record { each = λ j i b. subst (DotFits (row_at a i)) (sym (w.x_is j b.to_row)) (s j i (omega (arith, b.to_row)) (omega (arith, b.to_column, rows_of_a))) })
 
   pub dots_wide_z : (AllInBlock 0 (plant.p * k) 0 (height a) (λ j i. DotFits (row_at a i) (row_at z j)) → ⊥) →
-      ((j i : ℕ) → j < first_move plant k → i < plant.n → DotFits (row_at a i) (motion plant k j)) → ⊥
+      ((j i : ℕ) → j < first_move plant k → i < plant.n → DotFits (row_at a i) (columns j)) → ⊥
   dots_wide_z h s = h (record { each = λ j i b. subst (DotFits (row_at a i)) (sym (w.z_is j (omega (arith, b.to_row)))) (s (plant.n + 1 + j) i (omega (arith, b.to_row)) (omega (arith, b.to_column, rows_of_a))) })
 
 pub products_within : (p k n : ℕ) → k ≤ n → p * k ≤ p * n
 products_within p k n l = mul-le-mul_left p l
 
-pub state_fits : (plant : Plant) (k : ℕ) → ((j i : ℕ) → j < first_move plant k → i < plant.n → DotFits (row_at plant.a i) (motion plant k j)) → StateFits plant k
-state_fits plant k h = record { dots = h }
+-- the sum of the first column with the drift
+module _ (plant : Plant) (k : ℕ) (x z mx : RationalMatrix) (ds : List ℚ) (w : IsMotion plant k x z) (ed : ds ≡ plant.drift)
+    (xw : WritesBlock (zero_matrix (height x) (height plant.a)) mx 0 (plant.n + 1) 0 (height plant.a) (λ j i. dot (row_at plant.a i) (row_at x j))) where
+  drift_entry : (i : ℕ) → i < plant.n → entry mx 0 i ≡ coordinate (mat_vec plant.a.rows (motion plant k 0)) i
+  drift_entry i l =
+      xw.inside 0 i (record { from_row = omega arith; to_row = omega arith; from_column = omega arith; to_column = omega (arith, plant.is_plant.a_shape.rows_are) })
+      ∙ ap (dot (row_at plant.a i)) (w.x_is 0 (omega arith)) ∙ sym (coordinate-mat_vec plant.a.rows (motion plant k 0) i)
+
+  size_of_drift : length ds ≡ plant.n
+  size_of_drift = ap length ed ∙ plant.is_plant.drift_size
+
+  pub state_fits : ((j i : ℕ) → j < first_move plant k → i < plant.n → DotFits (row_at plant.a i) (motion plant k j)) →
+      AllInBlock 0 (0 + 1) 0 (length ds) (λ j i. FitsSum (entry mx j i) (coordinate ds i)) → StateFits plant k
+  state_fits h d = record {
+    dots = h;
+    drift = λ i l. subst (λ v. FitsSum (coordinate (mat_vec plant.a.rows (motion plant k 0)) i) (coordinate v i)) ed
+        (subst (λ q. FitsSum q (coordinate ds i)) (drift_entry i l) (d.each 0 i (record { from_row = omega arith; to_row = omega arith; from_column = omega arith; to_column = omega (arith, size_of_drift) })));
+  }
+
+  pub drift_fits : StateFits plant k → AllInBlock 0 (0 + 1) 0 (length ds) (λ j i. FitsSum (entry mx j i) (coordinate ds i))
+  drift_fits s = record {
+    each = λ j i b.
+        let e : 0 ≡ j = omega (arith, b.to_row) in
+        let l : i < plant.n = omega (arith, b.to_column, size_of_drift) in
+        subst (λ q. FitsSum (entry mx q i) (coordinate ds i)) e
+        (subst (λ v. FitsSum (entry mx 0 i) (coordinate v i)) (sym ed) (subst (λ q. FitsSum q (coordinate plant.drift i)) (sym (drift_entry i l)) (s.drift i l)));
+  }
 
 -- ---- the list of the states
 pub are_more : (plant : Plant) (xs ys : List Motion) (m : Motion) (n : ℕ) → ys ≡ xs ++ m ∷ [] → IsMotion plant n m.x m.z → AreMotions plant xs n → AreMotions plant ys (n + 1)

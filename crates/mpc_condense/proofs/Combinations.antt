@@ -3,15 +3,23 @@ use Rattle.std.proofs.Common.{◌≡◌, ℕ, ◌+◌, ◌<◌, List, [], ◌∷
 use Rattle.mpc_exact.specs.Rational.{ℚ, int, ◌+ℚ◌, ◌*ℚ◌}
 use Rattle.mpc_exact.proofs.RationalRing.{reads, by_ring}
 use Rattle.mpc_space.specs.Vector.{coordinate, dot, mat_vec, quadratic, IsSymmetric}
-use Rattle.mpc_space.specs.Total.{total}
+use Rattle.mpc_space.specs.Total.{total, unit}
 use Rattle.mpc_space.proofs.Vector.{dot_comm}
 use Rattle.mpc_space.proofs.Entries.{dot-total}
 use Rattle.mpc_space.proofs.Matrix.{coordinate-mat_vec, symmetric_swap}
-use Rattle.mpc_space.proofs.Total.{total-same, total-zeros, total-add, total-scale, total-swap, total-split}
+use Rattle.mpc_space.proofs.Total.{total-same, total-zeros, total-add, total-scale, total-swap, total-split, total-unit}
 
 -- x is the sum of the columns m 0, .., m (w - 1), each times its factor
 pub record Combines (w : ℕ) (e : ℕ → ℚ) (m : ℕ → List ℚ) (x : List ℚ) : Type 0 where
   pub entries : (i : ℕ) → coordinate x i ≡ total w (λ j. e j *ℚ coordinate (m j) i)
+
+-- a first factor 1 counts what the first column has more
+pub total-more : (w : ℕ) (e f g : ℕ → ℚ) (c : ℚ) → 0 < w → e 0 ≡ int (pos 1) → ((j : ℕ) → j < w → g j ≡ f j +ℚ unit 0 j *ℚ c) → total w (λ j. e j *ℚ g j) ≡ total w (λ j. e j *ℚ f j) +ℚ c
+total-more w e f g c some one h =
+    total-same w (λ j. e j *ℚ g j) (λ j. e j *ℚ f j +ℚ unit 0 j *ℚ (e j *ℚ c))
+    (λ j l. ap (λ u. e j *ℚ u) (h j l) ∙ by_ring (e j ∷ f j ∷ unit 0 j ∷ c ∷ []) (search reads depth 30) (search reads depth 30) tt)
+    ∙ total-add w (λ j. e j *ℚ f j) (λ j. unit 0 j *ℚ (e j *ℚ c))
+    ∙ ap (λ u. total w (λ j. e j *ℚ f j) +ℚ u) (total-unit w 0 (λ j. e j *ℚ c) some ∙ ap (λ u. u *ℚ c) one ∙ by_ring (c ∷ []) (search reads depth 30) (search reads depth 30) tt)
 
 pub dot-combined : (w : ℕ) (e : ℕ → ℚ) (m : ℕ → List ℚ) (x a : List ℚ) → Combines w e m x → dot a x ≡ total w (λ j. e j *ℚ dot a (m j))
 dot-combined w e m x a h =

@@ -5,7 +5,9 @@ pub mod CostForm
 pub mod SameProgram
 pub mod Writing
 pub mod Advance
+pub mod Distances
 pub mod Sums
+pub mod MoveSums
 pub mod RowLemmas
 pub mod Condensing
 pub mod Admissible

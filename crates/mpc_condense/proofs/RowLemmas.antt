@@ -23,12 +23,6 @@ use Rattle.mpc_condense.specs.Rows.{right_entry, left_entry, HasRow, AddsRow, Ro
 use Rattle.mpc_condense.specs.Causes.{StatesFit, CostsFit, RowsFit, IsWideRow, row_count}
 use Rattle.mpc_condense.proofs.Advance.{shape_of_block, zero_matrix-shape, zero_matrix-entry}
 
-pub difference_is : (b p v x y : ℚ) → b ≡ x → p ≡ y → v ≡ b +ℚ neg_ℚ p → v ≡ x -ℚ y
-difference_is b p v x y e f g = g ∙ (λ t. e t -ℚ f t)
-
-pub fits_difference_as : (b p x y : ℚ) → b ≡ x → p ≡ y → FitsSum b (neg_ℚ p) → FitsSum x (neg_ℚ y)
-fits_difference_as b p x y e f h = subst (λ z. FitsSum z (neg_ℚ y)) e (subst (λ z. FitsSum b (neg_ℚ z)) f h)
-
 module _ (plant : Plant) (k : ℕ) (row : PlantRow) (i : ℕ) (x z : RationalMatrix) where
   -- ---- the entries
   pub adds_row : (g w g1 g2 w1 : RationalMatrix) (xs : List ℚ) → IsMotion plant k x z → plant.p * k ≤ plant.p * plant.horizon → xs ≡ row.x → length row.u ≤ plant.p → ((j : ℕ) → entry g i j ≡ int (pos 0)) →

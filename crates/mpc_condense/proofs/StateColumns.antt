@@ -1,21 +1,21 @@
 -- The states of a plant are the combinations of the columns that condensing forms.
-use Rattle.std.proofs.Common.{◌≡◌, ◌≢◌, ℕ, zero, suc, ◌+◌, ◌-◌, ◌*◌, ◌<◌, ◌≤◌, cond, List, [], ◌∷◌, length, get_or, pos, refl, sym, ◌∙◌, ap, arith, ⊎_elim, add-one, eqb, ltb}
+use Rattle.std.proofs.Common.{◌≡◌, ◌≢◌, ℕ, zero, suc, ◌+◌, ◌-◌, ◌*◌, ◌<◌, ◌≤◌, cond, List, [], ◌∷◌, length, get_or, pos, refl, sym, ◌∙◌, ap, subst, arith, ⊎_elim, add-one, eqb, ltb}
 use Rattle.std.proofs.Math.Nat.{mul-le-mul_left}
 use Rattle.std.proofs.lemmas.Bool.{cases_eq, cases_lt, cond-true, cond-false, eq-eqb, ne_eqb, lt-ltb, le-ltb}
 use Rattle.std.proofs.lemmas.List.{length-map}
-use Rattle.mpc_exact.specs.Rational.{ℚ, int, ◌+ℚ◌, ◌*ℚ◌}
+use Rattle.mpc_exact.specs.Rational.{ℚ, int, ◌+ℚ◌, ◌-ℚ◌, ◌*ℚ◌, neg_ℚ}
 use Rattle.mpc_exact.proofs.RationalRing.{reads, by_ring}
-use Rattle.mpc_space.specs.Vector.{coordinate, cell, column, listed, zeros, mat_vec}
+use Rattle.mpc_space.specs.Vector.{coordinate, cell, column, listed, zeros, vec_add, vec_sub, mat_vec}
 use Rattle.mpc_space.specs.Total.{total, unit}
 use Rattle.mpc_space.proofs.Vector.{dot_comm}
-use Rattle.mpc_space.proofs.Entries.{coordinate_past, coordinate-add, coordinate-listed, coordinate-zeros, length-listed, dot-total_within, dot-zero, zero_by_entries}
+use Rattle.mpc_space.proofs.Entries.{coordinate_past, coordinate-add, coordinate-sub, coordinate-listed, coordinate-zeros, length-listed, dot-total_within, dot-zero, zero_by_entries}
 use Rattle.mpc_space.proofs.Matrix.{coordinate-mat_vec, coordinate-column}
 use Rattle.mpc_space.proofs.Total.{total-same, total-zeros, total-add, total-first, total-split, total-unit, unit-same, unit-other}
 use Rattle.mpc_plant.specs.declared.lists.Coordinate.{Coordinate}
 use Rattle.mpc_plant.specs.declared.plants.Plant.{Plant}
 use Rattle.mpc_plant.specs.Trajectory.{values_at, state_of, state_at, move_at, IsSequence}
-use Rattle.mpc_condense.specs.Motion.{first_move, lows, steps, first_entry, motion}
-use Rattle.mpc_condense.proofs.Combinations.{Combines, mat_vec-combined}
+use Rattle.mpc_condense.specs.Motion.{first_move, lows, steps, first_entry, motion, distance}
+use Rattle.mpc_condense.proofs.Combinations.{Combines, total-more, mat_vec-combined}
 use Rattle.mpc_condense.proofs.Sequences.{total-block, stacked-at, factors, factors-head, factors-tail}
 
 -- ---- the columns, case by case
@@ -24,13 +24,23 @@ module _ (plant : Plant) where
   unfolding motion
   motion-first j = refl
 
-  pub motion-image : (k j : ℕ) → j < first_move plant k → motion plant (suc k) j ≡ mat_vec plant.a.rows (motion plant k j)
+  pub motion-drift : (k : ℕ) → motion plant (suc k) 0 ≡ vec_add (mat_vec plant.a.rows (motion plant k 0)) plant.drift
   unfolding motion
-  motion-image k j l = cond-true (ltb j (first_move plant k)) _ _ (lt-ltb j (first_move plant k) l)
+  motion-drift k = refl
+
+  -- the columns behind the first
+  behind_first : {X : Type 0} (j : ℕ) (x y : X) → 0 < j → cond (eqb j 0) x y ≡ y
+  behind_first j x y some = cond-false (eqb j 0) x y (ne_eqb j 0 (λ e. omega arith))
+
+  pub motion-image : (k j : ℕ) → 0 < j → j < first_move plant k → motion plant (suc k) j ≡ mat_vec plant.a.rows (motion plant k j)
+  unfolding motion
+  motion-image k j some l = behind_first j _ _ some ∙ cond-true (ltb j (first_move plant k)) _ _ (lt-ltb j (first_move plant k) l)
 
   pub motion-input : (k j : ℕ) → first_move plant k ≤ j → j < first_move plant (suc k) → motion plant (suc k) j ≡ column plant.b.rows (j - first_move plant k)
   unfolding motion
-  motion-input k j l m = cond-false (ltb j (first_move plant k)) _ _ (le-ltb j (first_move plant k) l) ∙ cond-true (ltb j (first_move plant (suc k))) _ _ (lt-ltb j (first_move plant (suc k)) m)
+  motion-input k j l m =
+      behind_first j _ _ (omega arith) ∙ cond-false (ltb j (first_move plant k)) _ _ (le-ltb j (first_move plant k) l)
+      ∙ cond-true (ltb j (first_move plant (suc k))) _ _ (lt-ltb j (first_move plant (suc k)) m)
 
   pub first-grows : (k : ℕ) → first_move plant (suc k) ≡ first_move plant k + plant.p
   first-grows k = omega arith
@@ -38,8 +48,17 @@ module _ (plant : Plant) where
   pub motion-later : (k j : ℕ) → first_move plant (suc k) ≤ j → motion plant (suc k) j ≡ zeros plant.n
   unfolding motion
   motion-later k j l =
-      cond-false (ltb j (first_move plant k)) _ _ (le-ltb j (first_move plant k) (omega (arith, first-grows k)))
+      behind_first j _ _ (omega arith)
+      ∙ cond-false (ltb j (first_move plant k)) _ _ (le-ltb j (first_move plant k) (omega (arith, first-grows k)))
       ∙ cond-false (ltb j (first_move plant (suc k))) _ _ (le-ltb j (first_move plant (suc k)) l)
+
+  pub distance-first : (k : ℕ) → distance plant k 0 ≡ vec_sub (motion plant k 0) plant.xgoal
+  unfolding distance
+  distance-first k = refl
+
+  pub distance-other : (k j : ℕ) → 0 < j → distance plant k j ≡ motion plant k j
+  unfolding distance
+  distance-other k j some = behind_first j _ _ some
 
   pub first_entry-low : (i : ℕ) → first_entry plant 0 i ≡ coordinate (lows plant.grid) i
   first_entry-low i = refl
@@ -57,6 +76,9 @@ module _ (plant : Plant) where
       (λ m. coordinate_past (listed plant.n (first_entry plant j)) i (omega (arith, length-listed plant.n (first_entry plant j))))
       (cases_lt i plant.n)
   motion-zero (suc k) j i l = ap (λ x. coordinate x i) (motion-later k j l) ∙ coordinate-zeros plant.n i
+
+  pub distance-zero : (k j i : ℕ) → first_move plant k ≤ j → coordinate (distance plant k j) i ≡ int (pos 0)
+  distance-zero k j i l = ap (λ x. coordinate x i) (distance-other k j (omega arith)) ∙ motion-zero k j i l
 
   -- what the move at step k adds to column j
   pub input : ℕ → ℕ → ℕ → ℚ
@@ -81,9 +103,19 @@ module _ (plant : Plant) where
       coordinate-mat_vec plant.a.rows (motion plant k j) i
       ∙ dot-zero (get_or plant.a.rows i []) (motion plant k j) (zero_by_entries (motion plant k j) (λ q m. motion-zero k j q l))
 
-  motion-sum : (k j i : ℕ) → coordinate (motion plant (suc k) j) i ≡ coordinate (mat_vec plant.a.rows (motion plant k j)) i +ℚ input k j i
-  motion-sum k j i = ⊎_elim
-      (λ l. ap (λ x. coordinate x i) (motion-image k j l) ∙ plus_zero (coordinate (mat_vec plant.a.rows (motion plant k j)) i) (input k j i) (input-before k j i l))
+  plus_zero : (x y : ℚ) → y ≡ int (pos 0) → x ≡ x +ℚ y
+  plus_zero x y e = by_ring (x ∷ []) (search reads depth 30) (search reads depth 30) tt ∙ ap (λ u. x +ℚ u) (sym e)
+
+  zero_plus : (x y : ℚ) → x ≡ int (pos 0) → y ≡ x +ℚ y
+  zero_plus x y e = by_ring (y ∷ []) (search reads depth 30) (search reads depth 30) tt ∙ ap (λ u. u +ℚ y) (sym e)
+
+  -- the step without the drift
+  abbrev moved : ℕ → ℕ → ℕ → ℚ
+  moved k j i = coordinate (mat_vec plant.a.rows (motion plant k j)) i +ℚ input k j i
+
+  motion-moved : (k j i : ℕ) → 0 < j → coordinate (motion plant (suc k) j) i ≡ moved k j i
+  motion-moved k j i some = ⊎_elim
+      (λ l. ap (λ x. coordinate x i) (motion-image k j some l) ∙ plus_zero (coordinate (mat_vec plant.a.rows (motion plant k j)) i) (input k j i) (input-before k j i l))
       (λ l. ⊎_elim
       (λ m. ap (λ x. coordinate x i) (motion-input k j l m) ∙ coordinate-column plant.b.rows i (j - first_move plant k) ∙ sym (input-at k j i l m)
       ∙ zero_plus (coordinate (mat_vec plant.a.rows (motion plant k j)) i) (input k j i) (no_image k j i l))
@@ -91,12 +123,31 @@ module _ (plant : Plant) where
       ∙ zero_plus (coordinate (mat_vec plant.a.rows (motion plant k j)) i) (input k j i) (no_image k j i l))
       (cases_lt j (first_move plant (suc k))))
       (cases_lt j (first_move plant k))
-    where
-      plus_zero : (x y : ℚ) → y ≡ int (pos 0) → x ≡ x +ℚ y
-      plus_zero x y e = by_ring (x ∷ []) (search reads depth 30) (search reads depth 30) tt ∙ ap (λ u. x +ℚ u) (sym e)
 
-      zero_plus : (x y : ℚ) → x ≡ int (pos 0) → y ≡ x +ℚ y
-      zero_plus x y e = by_ring (y ∷ []) (search reads depth 30) (search reads depth 30) tt ∙ ap (λ u. u +ℚ y) (sym e)
+  -- what the first column has more than the others
+  only_first : (j : ℕ) (f g : ℕ → ℚ) (c : ℚ) → g 0 ≡ f 0 +ℚ c → (0 < j → g j ≡ f j) → g j ≡ f j +ℚ unit 0 j *ℚ c
+  only_first j f g c first other = ⊎_elim
+      (λ e. subst (λ z. g z ≡ f z +ℚ unit 0 z *ℚ c) (sym e) (first ∙ one_more (f 0) (unit 0 0) (unit-same 0 0 refl)))
+      (λ e. other (omega arith) ∙ none_more (f j) (unit 0 j) (unit-other 0 j (λ q. e (sym q))))
+      (cases_eq j 0)
+    where
+      one_more : (x u : ℚ) → u ≡ int (pos 1) → x +ℚ c ≡ x +ℚ u *ℚ c
+      one_more x u e = by_ring (x ∷ c ∷ []) (search reads depth 30) (search reads depth 30) tt ∙ ap (λ w. x +ℚ w *ℚ c) (sym e)
+
+      none_more : (x u : ℚ) → u ≡ int (pos 0) → x ≡ x +ℚ u *ℚ c
+      none_more x u e = by_ring (x ∷ c ∷ []) (search reads depth 30) (search reads depth 30) tt ∙ ap (λ w. x +ℚ w *ℚ c) (sym e)
+
+  motion-sum : (k j i : ℕ) → coordinate (motion plant (suc k) j) i ≡ moved k j i +ℚ unit 0 j *ℚ coordinate plant.drift i
+  motion-sum k j i = only_first j (λ z. moved k z i) (λ z. coordinate (motion plant (suc k) z) i) (coordinate plant.drift i) first (motion-moved k j i)
+    where
+      first : coordinate (motion plant (suc k) 0) i ≡ moved k 0 i +ℚ coordinate plant.drift i
+      first =
+          ap (λ x. coordinate x i) (motion-drift k) ∙ coordinate-add (mat_vec plant.a.rows (motion plant k 0)) plant.drift i
+          ∙ ap (λ u. u +ℚ coordinate plant.drift i) (plus_zero (coordinate (mat_vec plant.a.rows (motion plant k 0)) i) (input k 0 i) (input-before k 0 i (omega arith)))
+
+  -- a vector less another, whose columns have it taken from the first
+  pub less_first : (m d : ℕ → List ℚ) (g : List ℚ) → d 0 ≡ vec_sub (m 0) g → ((j : ℕ) → 0 < j → d j ≡ m j) → (j i : ℕ) → coordinate (d j) i ≡ coordinate (m j) i +ℚ unit 0 j *ℚ neg_ℚ (coordinate g i)
+  less_first m d g first other j i = only_first j (λ z. coordinate (m z) i) (λ z. coordinate (d z) i) (neg_ℚ (coordinate g i)) (ap (λ x. coordinate x i) first ∙ coordinate-sub (m 0) g i) (λ l. ap (λ x. coordinate x i) (other j l))
 
 -- ---- the state at a point of the grid
 values_at-at : (grid : List Coordinate) (t : List ℚ) (i : ℕ) → length t ≡ length grid → coordinate (values_at grid t) i ≡ coordinate (lows grid) i +ℚ coordinate (steps grid) i *ℚ coordinate t i
@@ -119,6 +170,18 @@ module _ (plant : Plant) (t : List ℚ) (v : List (List ℚ)) (size : length t �
   factor-move k q l m =
       let e : first_move plant k + q ≡ plant.n + 1 + (plant.p * k + q) = omega arith in
       ap (factors t v) e ∙ factors-tail t v plant.n (plant.p * k + q) size ∙ stacked-at plant.p v k q sequence.inputs (omega (arith, sequence.steps)) m
+
+  -- the first column counts once
+  pub factor-first : factors t v 0 ≡ int (pos 1)
+  factor-first = factors-head t v 0 (omega arith)
+
+  -- a vector less another is the combination of the columns with it taken from the first
+  pub less-combines : (m d : ℕ → List ℚ) (x g : List ℚ) → d 0 ≡ vec_sub (m 0) g → ((j : ℕ) → 0 < j → d j ≡ m j) → Combines width (factors t v) m x → Combines width (factors t v) d (vec_sub x g)
+  less-combines m d x g first other h = record {
+    entries = λ i.
+        coordinate-sub x g i ∙ ap (λ z. z -ℚ coordinate g i) (h.entries i)
+        ∙ sym (total-more width (factors t v) (λ j. coordinate (m j) i) (λ j. coordinate (d j) i) (neg_ℚ (coordinate g i)) (omega arith) factor-first (λ j l. less_first plant m d g first other j i));
+  }
 
   -- a sum over the columns to which only those of the move at step k contribute
   pub move-total : (k : ℕ) (f : ℕ → ℚ) → k < plant.horizon → ((j : ℕ) → j < first_move plant k → f j ≡ int (pos 0)) → ((j : ℕ) → first_move plant (suc k) ≤ j → f j ≡ int (pos 0)) →
@@ -207,15 +270,25 @@ module _ (plant : Plant) (t : List ℚ) (v : List (List ℚ)) (size : length t �
           (λ j m. ap (λ z. factors t v j *ℚ z) (input-before plant k j i m) ∙ by_ring (factors t v j ∷ []) (search reads depth 30) (search reads depth 30) tt)
           (λ j m. ap (λ z. factors t v j *ℚ z) (input-behind plant k j i m) ∙ by_ring (factors t v j ∷ []) (search reads depth 30) (search reads depth 30) tt))
 
-      whole : (i : ℕ) → coordinate (state_at plant t v (suc k)) i ≡ total width (λ j. factors t v j *ℚ coordinate (motion plant (suc k) j) i)
-      whole i =
+      before : (i : ℕ) → coordinate (vec_add (mat_vec plant.a.rows x) (mat_vec plant.b.rows u)) i ≡ total width (λ j. factors t v j *ℚ moved plant k j i)
+      before i =
           coordinate-add (mat_vec plant.a.rows x) (mat_vec plant.b.rows u) i
           ∙ (λ s. (mat_vec-combined width (factors t v) (motion plant k) x plant.a.rows h).entries i s +ℚ inputs i s)
           ∙ sym (total-add width (λ j. factors t v j *ℚ image j i) (λ j. factors t v j *ℚ input plant k j i))
-          ∙ total-same width (λ j. factors t v j *ℚ image j i +ℚ factors t v j *ℚ input plant k j i) (λ j. factors t v j *ℚ coordinate (motion plant (suc k) j) i)
-          (λ j m. by_ring (factors t v j ∷ image j i ∷ input plant k j i ∷ []) (search reads depth 30) (search reads depth 30) tt ∙ ap (λ z. factors t v j *ℚ z) (sym (motion-sum plant k j i)))
+          ∙ total-same width (λ j. factors t v j *ℚ image j i +ℚ factors t v j *ℚ input plant k j i) (λ j. factors t v j *ℚ (image j i +ℚ input plant k j i))
+          (λ j m. by_ring (factors t v j ∷ image j i ∷ input plant k j i ∷ []) (search reads depth 30) (search reads depth 30) tt)
+
+      whole : (i : ℕ) → coordinate (state_at plant t v (suc k)) i ≡ total width (λ j. factors t v j *ℚ coordinate (motion plant (suc k) j) i)
+      whole i =
+          coordinate-add (vec_add (mat_vec plant.a.rows x) (mat_vec plant.b.rows u)) plant.drift i
+          ∙ ap (λ z. z +ℚ coordinate plant.drift i) (before i)
+          ∙ sym (total-more width (factors t v) (λ j. moved plant k j i) (λ j. coordinate (motion plant (suc k) j) i) (coordinate plant.drift i) (omega arith) factor-first (λ j m. motion-sum plant k j i))
 
   -- each state is the combination of its columns
   pub state-combines : length plant.grid ≡ plant.n → (k : ℕ) → k ≤ plant.horizon → Combines width (factors t v) (motion plant k) (state_at plant t v k)
   state-combines grid_size zero l = start-combines grid_size
   state-combines grid_size (suc k) l = step-combines k (omega arith) (state-combines grid_size k (omega arith))
+
+  -- and its distance from the target that of the distance's
+  pub distance-combines : length plant.grid ≡ plant.n → (k : ℕ) → k ≤ plant.horizon → Combines width (factors t v) (distance plant k) (vec_sub (state_at plant t v k) plant.xgoal)
+  distance-combines grid_size k l = less-combines (motion plant k) (distance plant k) (state_at plant t v k) plant.xgoal (distance-first plant k) (distance-other plant k) (state-combines grid_size k l)

@@ -1,15 +1,16 @@
 -- One place of condensing at most is the first that is too wide.
-use Rattle.std.proofs.Common.{◌≡◌, ℕ, ◌-◌, ◌<◌, ◌⊎◌, inl, inr, sym, ◌∙◌, ap, subst, arith}
+use Rattle.std.proofs.Common.{◌≡◌, ℕ, ◌+◌, ◌-◌, ◌<◌, ◌≤◌, ◌⊎◌, inl, inr, refl, sym, ◌∙◌, ap, subst, arith}
 use Rattle.std.proofs.lemmas.Bool.{cases_order}
 use Rattle.std.proofs.lemmas.Option.{slice_get_within}
 use Rattle.mpc_plant.specs.declared.lists.PlantRow.{PlantRow}
 use Rattle.mpc_plant.specs.declared.plants.Plant.{Plant}
 use Rattle.mpc_rows.specs.declared.places.Place.{Place}
 use Rattle.mpc_rows.specs.declared.places.Place.TheVariants.{State, Cost, Row}
+use Rattle.mpc_condense.specs.Motion.{StateFits, CostFits, RowFits}
 use Rattle.mpc_condense.specs.Stages.{IsRow}
-use Rattle.mpc_condense.specs.Causes.{row_count, AllFit, IsWideState, IsWideCost, IsWideRow, IsWidePlace}
+use Rattle.mpc_condense.specs.Causes.{row_count, StatesFit, CostsFit, RowsFit, AllFit, IsWideState, IsWideCost, IsWideRow, IsWidePlace}
 use Rattle.mpc_condense.specs.ProgramLaws.{NoWidePlace, OneWidePlace, RowsWithin}
-use Rattle.mpc_condense.proofs.RowLemmas.{stage_within, terminal_within}
+use Rattle.mpc_condense.proofs.RowLemmas.{stage_within, terminal_within, wide_row}
 
 pub rows_within : RowsWithin
 rows_within plant i k row (inl (r, a, b, c)) = subst (λ n. n < row_count plant) (sym c) (stage_within plant k r a (slice_get_within plant.rows r row b))
@@ -70,3 +71,16 @@ one_wide_place plant a b (inr (inl (k, e, v))) (inr (inr (n, f, w))) = absurd (c
 one_wide_place plant a b (inr (inr (k, e, v))) (inl (n, f, w)) = absurd (state_before_row plant n k w v)
 one_wide_place plant a b (inr (inr (k, e, v))) (inr (inl (n, f, w))) = absurd (cost_before_row plant n k w v)
 one_wide_place plant a b (inr (inr (k, e, v))) (inr (inr (n, f, w))) = e ∙ ap Row (one_row plant k n v w) ∙ sym f
+
+-- ---- the place that a run answers
+pub wide_state : (plant : Plant) (k : ℕ) → k < plant.horizon → StatesFit plant k → (StateFits plant k → ⊥) → IsWidePlace plant (State (k + 1))
+wide_state plant k l before here =
+    let back : k ≡ k + 1 - 1 = omega arith in
+    inl (k + 1, refl, record { some = omega arith; within = omega arith; before = subst (StatesFit plant) back before; here = subst (λ n. StateFits plant n → ⊥) back here })
+
+pub wide_cost : (plant : Plant) (n k : ℕ) → n ≡ k → k ≤ plant.horizon → StatesFit plant plant.horizon → CostsFit plant k → (CostFits plant k → ⊥) → IsWidePlace plant (Cost n)
+wide_cost plant n k e l states before here =
+    subst (λ m. IsWidePlace plant (Cost m)) (sym e) (let at : IsWidePlace plant (Cost k) = inr (inl (k, refl, record { within = l; states = states; before = before; here = here })) in at)
+
+pub wide_row_place : (plant : Plant) (j i k : ℕ) (row : PlantRow) → j ≡ i → IsRow plant i k row → StatesFit plant plant.horizon → CostsFit plant (plant.horizon + 1) → RowsFit plant i → (RowFits plant k row → ⊥) → IsWidePlace plant (Row (j + 1))
+wide_row_place plant j i k row e is states costs before here = inr (inr (j + 1, refl, wide_row plant j i k row e is states costs before here))

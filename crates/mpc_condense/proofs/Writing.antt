@@ -1,15 +1,18 @@
 -- How loops write a block of a matrix, entry by entry and row by row.
-use Rattle.std.proofs.Common.{◌≡◌, ◌≢◌, ℕ, ◌+◌, ◌<◌, ◌≤◌, [], ◌∷◌, length, get_or, set, pos, refl, sym, ◌∙◌, ap, subst, arith, ◌⊎◌, inl, inr, ⊎_elim}
+use Rattle.std.proofs.Common.{◌≡◌, ◌≢◌, ℕ, ◌+◌, ◌<◌, ◌≤◌, [], ◌∷◌, length, get_or, set, pos, refl, sym, ◌∙◌, ap, subst, arith, ◌⊎◌, inl, inr, ⊎_elim, Result, Ok, Err, IfOk, OnOk, MatchResult}
 use Rattle.std.proofs.Math.ListN.{length-set}
 use Rattle.std.proofs.lemmas.Bool.{cases_eq}
 use Rattle.std.proofs.lemmas.List.{get_or-set_same, get_or-set_other}
 use Rattle.std.proofs.lemmas.List.Elements.{All-set}
-use Rattle.mpc_exact.specs.Rational.{ℚ, int, ◌+ℚ◌}
+use Rattle.mpc_exact.specs.Rational.{ℚ, int, ◌+ℚ◌, ◌-ℚ◌, neg_ℚ}
 use Rattle.mpc_exact.proofs.RationalRing.{reads, by_ring}
 use Rattle.mpc_space.specs.Vector.{coordinate}
 use Rattle.mpc_space.specs.Matrix.{RationalMatrix, height, IsRectangular, entry}
 use Rattle.mpc_frac.specs.Fits.{FitsSum}
 use Rattle.mpc_linear.specs.Entries.{with_entry}
+use Rattle.mpc_condense.specs.declared.errors.StageError.{StageError}
+use Rattle.mpc_condense.specs.declared.errors.StageError.TheVariants.{TooWide, OutOfMemory}
+use Rattle.mpc_condense.specs.Causes.{IfTooWide}
 use Rattle.mpc_condense.specs.Blocks.{IsInBlock, WritesBlock, AllInBlock}
 
 -- ---- one entry
@@ -152,6 +155,20 @@ not_row r0 r1 i c0 c1 F G l n e x w = x (record {
       subst (λ z. G z b) p (e b h.from_column h.to_column (w.each i b (record { from_row = l; to_row = n; from_column = h.from_column; to_column = h.to_column })));
 })
 
+-- ---- the first column, row by row
+pub writes_first_of_row : (old m new : RationalMatrix) (r0 i r1 : ℕ) (v : ℚ) (f : ℕ → ℕ → ℚ) → new ≡ with_entry m i 0 v → r1 ≡ i + 1 → r0 ≤ i → i < height old → 0 < old.columns → v ≡ f i 0 →
+    WritesBlock old m r0 i 0 1 f → WritesBlock old new r0 r1 0 1 f
+writes_first_of_row old m new r0 i r1 v f a b l within some e w =
+    writes_row_as old m new r0 i r1 0 1 f f b l w
+    (writes_entry_as m m new i 0 0 1 v f a (omega arith) (omega (arith, w.height_is)) (omega arith) (omega (arith, w.columns_is)) e (writes_no_column m i (i + 1) 0 f w.rectangular))
+    (λ b _ _. refl)
+
+pub all_first_of_row : (r0 i r1 : ℕ) (F : ℕ → ℕ → Type 0) → r1 ≡ i + 1 → r0 ≤ i → F i 0 → AllInBlock r0 i 0 1 F → AllInBlock r0 r1 0 1 F
+all_first_of_row r0 i r1 F a l x w = all_row_as r0 i r1 0 1 F F a (λ b _ _ h. h) (all_entry_as i 0 0 1 F (omega arith) x (all_no_column i (i + 1) 0 F)) w
+
+pub not_first_of_row : (r0 r1 i : ℕ) (F : ℕ → ℕ → Type 0) → r0 ≤ i → i < r1 → (F i 0 → ⊥) → AllInBlock r0 r1 0 1 F → ⊥
+not_first_of_row r0 r1 i F l n x w = x (w.each i 0 (record { from_row = l; to_row = n; from_column = omega arith; to_column = omega arith }))
+
 -- a dot that starts from 0
 pub zero_plus : (z d : ℚ) → z ≡ int (pos 0) → z +ℚ d ≡ d
 zero_plus z d e = ap (λ u. u +ℚ d) e ∙ by_ring (d ∷ []) (search reads depth 30) (search reads depth 30) tt
@@ -162,3 +179,27 @@ sum_is g p s x y a b e = e ∙ (λ t. a t +ℚ b t)
 
 pub fits_sum_as : (g p x y : ℚ) → g ≡ x → p ≡ y → FitsSum g p → FitsSum x y
 fits_sum_as g p x y a b h = subst (λ z. FitsSum z y) a (subst (FitsSum g) b h)
+
+-- and the difference
+pub difference_is : (b p v x y : ℚ) → b ≡ x → p ≡ y → v ≡ b +ℚ neg_ℚ p → v ≡ x -ℚ y
+difference_is b p v x y e f g = g ∙ (λ t. e t -ℚ f t)
+
+pub fits_difference_as : (b p x y : ℚ) → b ≡ x → p ≡ y → FitsSum b (neg_ℚ p) → FitsSum x (neg_ℚ y)
+fits_difference_as b p x y e f h = subst (λ z. FitsSum z (neg_ℚ y)) e (subst (λ z. FitsSum b (neg_ℚ z)) f h)
+
+-- ---- results
+pub if_too_wide : (e : StageError) (P : Type 0) → P → IfTooWide P e
+if_too_wide TooWide P h = h
+if_too_wide OutOfMemory P h = tt
+
+pub value_as : {T E : Type 0} (r : Result T E) (a b : T) → a ≡ b → IfOk r (λ v. v ≡ a) → IfOk r (λ v. v ≡ b)
+value_as (Ok v) a b e h = h ∙ e
+value_as (Err x) a b e h = h
+
+pub fits_as : {T E : Type 0} (r : Result T E) (P Q : Type 0) → (P → Q) → (Q → P) → MatchResult r (λ _. P) (λ _. ¬ P) → MatchResult r (λ _. Q) (λ _. ¬ Q)
+fits_as (Ok v) P Q f g h = f h
+fits_as (Err x) P Q f g h = λ q. h (g q)
+
+pub on_ok_as : {T E : Type 0} (r : Result T E) (P Q : Type 0) → (P → Q) → OnOk r P → OnOk r Q
+on_ok_as (Ok v) P Q f h = f h
+on_ok_as (Err e) P Q f h = h

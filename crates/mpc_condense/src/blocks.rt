@@ -1,9 +1,9 @@
 //! Blocks of matrices, entry by entry.
 
 ghost use Rattle.std.specs.Prelude.{◌≡◌, ◌+◌, ◌-◌, ◌<◌, ◌≤◌, length, IfOk, OnOk, MatchResult, pos};
-ghost use Rattle.mpc_exact.specs.Rational.{int, ◌+ℚ◌};
+ghost use Rattle.mpc_exact.specs.Rational.{int, ◌+ℚ◌, ◌-ℚ◌, neg_ℚ};
 ghost use Rattle.mpc_frac.specs.Fits.{FitsSum};
-ghost use Rattle.mpc_space.specs.Vector.{dot};
+ghost use Rattle.mpc_space.specs.Vector.{coordinate, dot};
 ghost use Rattle.mpc_space.specs.Matrix.{height, entry};
 ghost use Rattle.mpc_linear.specs.Dot.{DotFits};
 ghost use Rattle.mpc_linear.specs.Entries.{zero_matrix};
@@ -178,4 +178,70 @@ pub fn write_columns(out: &mut Matrix, first: u32, m: &Matrix)
     for l in 0..m.cols() {
         write_column(out, first, m, l);
     }
+}
+
+/// Adds a vector to the first entries of row i.
+pub fn add_to_row(out: &mut Matrix, i: u32, vector: &[Frac]) -> Result<(), Wide>
+    requires row { i < height out.old }
+    requires columns { length vector.now ≤ out.old.columns }
+    ensures ok { OnOk result (WritesBlock out.old out.new i (i + 1) 0 (length vector.now) (λ a b. entry out.old a b +ℚ coordinate vector.now b)) }
+    ensures wide { MatchResult result (λ _. AllInBlock i (i + 1) 0 (length vector.now) (λ a b. FitsSum (entry out.old a b) (coordinate vector.now b)))
+        (λ _. ¬ AllInBlock i (i + 1) 0 (length vector.now) (λ a b. FitsSum (entry out.old a b) (coordinate vector.now b))) }
+{
+    let cols = out.cols();
+    prove!(vector.len() <= cols as usize);
+    for b in 0..vector.len() {
+        let sum = out.get(i, b as u32).add(&vector[b])?;
+        out.set(i, b as u32, sum);
+    }
+    Ok(())
+}
+
+/// Takes a vector away from the first entries of row i.
+pub fn take_from_row(out: &mut Matrix, i: u32, vector: &[Frac]) -> Result<(), Wide>
+    requires row { i < height out.old }
+    requires columns { length vector.now ≤ out.old.columns }
+    ensures ok { OnOk result (WritesBlock out.old out.new i (i + 1) 0 (length vector.now) (λ a b. entry out.old a b -ℚ coordinate vector.now b)) }
+    ensures wide { MatchResult result (λ _. AllInBlock i (i + 1) 0 (length vector.now) (λ a b. FitsSum (entry out.old a b) (neg_ℚ (coordinate vector.now b))))
+        (λ _. ¬ AllInBlock i (i + 1) 0 (length vector.now) (λ a b. FitsSum (entry out.old a b) (neg_ℚ (coordinate vector.now b)))) }
+{
+    let cols = out.cols();
+    prove!(vector.len() <= cols as usize);
+    for b in 0..vector.len() {
+        let difference = out.get(i, b as u32).sub(&vector[b])?;
+        out.set(i, b as u32, difference);
+    }
+    Ok(())
+}
+
+/// Takes a vector away from the first column, from row `first` on.
+pub fn take_from_column(out: &mut Matrix, first: u32, vector: &[Frac]) -> Result<(), Wide>
+    requires rows { first + length vector.now ≤ height out.old }
+    requires column { 0 < out.old.columns }
+    ensures ok { OnOk result (WritesBlock out.old out.new first (first + length vector.now) 0 1 (λ a b. entry out.old a b -ℚ coordinate vector.now (a - first))) }
+    ensures wide { MatchResult result (λ _. AllInBlock first (first + length vector.now) 0 1 (λ a b. FitsSum (entry out.old a b) (neg_ℚ (coordinate vector.now (a - first)))))
+        (λ _. ¬ AllInBlock first (first + length vector.now) 0 1 (λ a b. FitsSum (entry out.old a b) (neg_ℚ (coordinate vector.now (a - first))))) }
+{
+    let rows = out.rows();
+    prove!(first as usize + vector.len() <= rows as usize);
+    for i in 0..vector.len() {
+        let row = first + i as u32;
+        let difference = out.get(row, 0).sub(&vector[i])?;
+        out.set(row, 0, difference);
+    }
+    Ok(())
+}
+
+/// Adds a number to the first entry.
+pub fn add_to_first(out: &mut Matrix, value: &Frac) -> Result<(), Wide>
+    requires row { 0 < height out.old }
+    requires column { 0 < out.old.columns }
+    ensures ok { OnOk result (WritesBlock out.old out.new 0 1 0 1 (λ a b. entry out.old a b +ℚ value.now)) }
+    ensures wide { MatchResult result (λ _. FitsSum (entry out.old 0 0) value.now) (λ _. ¬ FitsSum (entry out.old 0 0) value.now) }
+{
+    let rows = out.rows();
+    prove!(0 < rows);
+    let sum = out.get(0, 0).add(value)?;
+    out.set(0, 0, sum);
+    Ok(())
 }

@@ -1,15 +1,18 @@
 //! The cost of a plant as a form in the extended counts and the moves.
 
 ghost use Rattle.std.specs.Prelude.{◌≡◌, ◌+◌, ◌<◌, ◌≤◌, IfOk, IfErr, OnOk, MatchResult};
-ghost use Rattle.mpc_condense.specs.Motion.{weight_at, kernel, kernel_with, WeightsFit, SumsFit, MovesFit};
-ghost use Rattle.mpc_condense.specs.Stages.{IsMotion, IsWeighted, HoldsSums};
+ghost use Rattle.mpc_condense.specs.Motion.{weight_at, kernel, kernel_with, DistanceFits, WeightsFit, SumsFit, GoalFits, MovesFit};
+ghost use Rattle.mpc_condense.specs.Stages.{IsMotion, IsDistance, IsWeighted, IsGoal, HoldsSums};
 ghost use Rattle.mpc_condense.specs.MotionList.{AreMotions};
 ghost use Rattle.mpc_condense.specs.Causes.{IfTooWide, IsCause, StatesFit, CostsFit};
 
-use crate::blocks::{add_block, add_products, images};
+use crate::blocks::{
+    add_block, add_products, add_to_first, dot_of, images, take_from_column, take_from_row,
+    write_dots,
+};
 use crate::errors::{CondenseError, StageError};
 use crate::motions::Motion;
-use mpc_frac::{NoMemory, Wide};
+use mpc_frac::{Frac, NoMemory, Wide};
 use mpc_linear::Matrix;
 use mpc_plant::Plant;
 use mpc_rows::Place;
@@ -23,6 +26,13 @@ pub struct Cost {
     pub y: Matrix,
 }
 
+/// The target of the moves: R times it, as the only row of a matrix, and its dot with that.
+#[derive(Drop)]
+struct Goal {
+    weighted: Matrix,
+    square: Frac,
+}
+
 /// The cost of no step.
 fn no_cost(alloc: Global, plant: &Plant) -> Result<Cost, NoMemory>
     ensures { IfOk result (λ c. HoldsSums plant.now (kernel plant.now 0) c.h c.f c.y) }
@@ -32,6 +42,30 @@ fn no_cost(alloc: Global, plant: &Plant) -> Result<Cost, NoMemory>
     let f = Matrix::zero(alloc, unknowns, plant.n + 1)?;
     let y = Matrix::zero(alloc, plant.n + 1, plant.n + 1)?;
     Ok(Cost { h, f, y })
+}
+
+/// R times the target of the moves.
+fn weigh_goal(alloc: Global, plant: &Plant) -> Result<Goal, StageError>
+    ensures goal { IfOk result (λ g. IsGoal plant.now g.weighted g.square) }
+    ensures wide { MatchResult result (λ _. GoalFits plant.now) (IfTooWide (¬ GoalFits plant.now)) }
+{
+    let target = plant.ugoal.as_slice();
+    let mut weighted = Matrix::zero(alloc, 1, plant.p)?;
+    write_dots(&mut weighted, 0, &plant.r, plant.p, target)?;
+    let square = dot_of(target, weighted.row(0))?;
+    Ok(Goal { weighted, square })
+}
+
+/// The columns of the state's distance from its target, from those of the state at step k.
+fn distance_of(alloc: Global, plant: &Plant, motion: &Motion, k: u32) -> Result<Motion, StageError>
+    requires motion { IsMotion plant.now k motion.now.x motion.now.z }
+    ensures distance { IfOk result (λ d. IsDistance plant.now k d.x d.z) }
+    ensures wide { MatchResult result (λ _. DistanceFits plant.now k) (IfTooWide (¬ DistanceFits plant.now k)) }
+{
+    let mut x = motion.x.copy(alloc)?;
+    take_from_row(&mut x, 0, plant.xgoal.as_slice())?;
+    let z = motion.z.copy(alloc)?;
+    Ok(Motion { x, z })
 }
 
 /// The weight of the state at step k.
@@ -45,16 +79,16 @@ fn weight_of(plant: &Plant, k: u32) -> &Matrix
     }
 }
 
-/// The weight times the columns of the state at step k.
-fn weigh(alloc: Global, plant: &Plant, motion: &Motion, k: u32) -> Result<Motion, StageError>
-    requires motion { IsMotion plant.now k motion.now.x motion.now.z }
+/// The weight times the columns of the state's distance at step k.
+fn weigh(alloc: Global, plant: &Plant, distance: &Motion, k: u32) -> Result<Motion, StageError>
+    requires distance { IsDistance plant.now k distance.now.x distance.now.z }
     requires step { k ≤ plant.now.horizon }
     ensures weighted { IfOk result (λ m. IsWeighted plant.now k m.x m.z) }
     ensures wide { MatchResult result (λ _. WeightsFit plant.now k) (IfTooWide (¬ WeightsFit plant.now k)) }
 {
     let weight = weight_of(plant, k);
-    let x = images(alloc, weight, &motion.x, plant.n + 1)?;
-    let z = images(alloc, weight, &motion.z, plant.p * k)?;
+    let x = images(alloc, weight, &distance.x, plant.n + 1)?;
+    let z = images(alloc, weight, &distance.z, plant.p * k)?;
     Ok(Motion { x, z })
 }
 
@@ -62,11 +96,11 @@ fn weigh(alloc: Global, plant: &Plant, motion: &Motion, k: u32) -> Result<Motion
 fn add_state(
     cost: &mut Cost,
     plant: &Plant,
-    motion: &Motion,
+    distance: &Motion,
     weighted: &Motion,
     k: u32,
 ) -> Result<(), Wide>
-    requires motion { IsMotion plant.now k motion.now.x motion.now.z }
+    requires distance { IsDistance plant.now k distance.now.x distance.now.z }
     requires weighted { IsWeighted plant.now k weighted.now.x weighted.now.z }
     requires step { k ≤ plant.now.horizon }
     requires sums { HoldsSums plant.now (kernel plant.now k) cost.old.h cost.old.f cost.old.y }
@@ -74,11 +108,11 @@ fn add_state(
     ensures wide { MatchResult result (λ _. SumsFit plant.now k) (λ _. ¬ SumsFit plant.now k) }
 {
     let first = plant.p * k;
-    add_products(&mut cost.h, &motion.z, first, &weighted.z, first)?;
-    add_products(&mut cost.f, &motion.z, first, &weighted.x, plant.n + 1)?;
+    add_products(&mut cost.h, &distance.z, first, &weighted.z, first)?;
+    add_products(&mut cost.f, &distance.z, first, &weighted.x, plant.n + 1)?;
     add_products(
         &mut cost.y,
-        &motion.x,
+        &distance.x,
         plant.n + 1,
         &weighted.x,
         plant.n + 1,
@@ -86,13 +120,17 @@ fn add_state(
 }
 
 /// Adds the cost of the move at step k.
-fn add_move(cost: &mut Cost, plant: &Plant, k: u32) -> Result<(), Wide>
+fn add_move(cost: &mut Cost, plant: &Plant, goal: &Goal, k: u32) -> Result<(), Wide>
     requires step { k < plant.now.horizon }
+    requires goal { IsGoal plant.now goal.now.weighted goal.now.square }
     requires sums { HoldsSums plant.now (kernel_with plant.now k) cost.old.h cost.old.f cost.old.y }
     ensures ok { OnOk result (HoldsSums plant.now (kernel plant.now (k + 1)) cost.new.h cost.new.f cost.new.y) }
     ensures wide { MatchResult result (λ _. MovesFit plant.now k) (λ _. ¬ MovesFit plant.now k) }
 {
-    add_block(&mut cost.h, plant.p * k, &plant.r)
+    let first = plant.p * k;
+    add_block(&mut cost.h, first, &plant.r)?;
+    take_from_column(&mut cost.f, first, goal.weighted.row(0))?;
+    add_to_first(&mut cost.y, &goal.square)
 }
 
 /// Adds the cost of the state at step k, from its columns.
@@ -107,11 +145,12 @@ fn add_stage(
     requires step { k ≤ plant.now.horizon }
     requires sums { HoldsSums plant.now (kernel plant.now k) cost.old.h cost.old.f cost.old.y }
     ensures ok { OnOk result (HoldsSums plant.now (kernel_with plant.now k) cost.new.h cost.new.f cost.new.y) }
-    ensures wide { MatchResult result (λ _. WeightsFit plant.now k × SumsFit plant.now k)
-        (IfTooWide (¬ (WeightsFit plant.now k × SumsFit plant.now k))) }
+    ensures wide { MatchResult result (λ _. DistanceFits plant.now k × WeightsFit plant.now k × SumsFit plant.now k)
+        (IfTooWide (¬ (DistanceFits plant.now k × WeightsFit plant.now k × SumsFit plant.now k))) }
 {
-    let weighted = weigh(alloc, plant, motion, k)?;
-    add_state(cost, plant, motion, &weighted, k)?;
+    let distance = distance_of(alloc, plant, motion, k)?;
+    let weighted = weigh(alloc, plant, &distance, k)?;
+    add_state(cost, plant, &distance, &weighted, k)?;
     Ok(())
 }
 
@@ -124,13 +163,18 @@ pub fn costs(alloc: Global, plant: &Plant, motions: &[Motion]) -> Result<Cost, C
     ensures cause { IfErr result (IsCause plant.now) }
 {
     let mut cost = no_cost(alloc, plant)?;
+    let goal = match weigh_goal(alloc, plant) {
+        Ok(goal) => goal,
+        Err(StageError::TooWide) => return Err(CondenseError::Wide(Place::Cost(0))),
+        Err(StageError::OutOfMemory) => return Err(CondenseError::NoMemory),
+    };
     for k in 0..plant.horizon {
         match add_stage(alloc, &mut cost, plant, &motions[k as usize], k) {
             Ok(()) => {}
             Err(StageError::TooWide) => return Err(CondenseError::Wide(Place::Cost(k))),
             Err(StageError::OutOfMemory) => return Err(CondenseError::NoMemory),
         }
-        let Ok(()) = add_move(&mut cost, plant, k) else {
+        let Ok(()) = add_move(&mut cost, plant, &goal, k) else {
             return Err(CondenseError::Wide(Place::Cost(k)));
         };
     }

@@ -6,7 +6,7 @@ ghost use Rattle.mpc_condense.specs.Causes.{IfTooWide, IsCause, StatesFit};
 ghost use Rattle.mpc_condense.specs.Stages.{IsMotion};
 ghost use Rattle.mpc_condense.specs.MotionList.{AreMotions};
 
-use crate::blocks::{images, write_columns};
+use crate::blocks::{add_to_row, images, write_columns};
 use crate::errors::{CondenseError, StageError};
 use mpc_frac::NoMemory;
 use mpc_linear::Matrix;
@@ -44,7 +44,8 @@ pub fn advance(alloc: Global, plant: &Plant, motion: &Motion, k: u32) -> Result<
     ensures wide { MatchResult result (λ _. StateFits plant.now k) (IfTooWide (¬ StateFits plant.now k)) }
 {
     let first = plant.p * k;
-    let x = images(alloc, &plant.a, &motion.x, plant.n + 1)?;
+    let mut x = images(alloc, &plant.a, &motion.x, plant.n + 1)?;
+    add_to_row(&mut x, 0, plant.drift.as_slice())?;
     let mut z = images(alloc, &plant.a, &motion.z, first)?;
     write_columns(&mut z, first, &plant.b);
     Ok(Motion { x, z })

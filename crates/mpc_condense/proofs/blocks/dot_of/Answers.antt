@@ -1,5 +1,5 @@
 use Rattle.mpc_space.specs.Vector.{dot}
-use Rattle.mpc_linear.proofs.Outcomes.{value_as}
+use Rattle.mpc_condense.proofs.Writing.{value_as}
 use Rattle.mpc_condense.proofs.Writing.{zero_plus}
 use Rattle.mpc_condense.proofs.blocks.dot_of.Goals as goal
 

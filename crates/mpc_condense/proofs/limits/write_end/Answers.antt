@@ -1,7 +1,8 @@
 use Rattle.std.proofs.Common.{◌+◌, ◌*◌, arith, ap}
 use Rattle.mpc_condense.specs.Condensed.{terminal_row}
 use Rattle.mpc_condense.specs.Causes.{row_count}
-use Rattle.mpc_condense.proofs.RowLemmas.{end_step, end_fits_step, wide_row, rows_fit_to, terminal_place}
+use Rattle.mpc_condense.proofs.RowLemmas.{end_step, end_fits_step, rows_fit_to, terminal_place}
+use Rattle.mpc_condense.proofs.WidePlaces.{wide_row_place}
 use Rattle.mpc_condense.proofs.limits.write_end.Goals as goal
 
 pub loop-r-preserved : goal.loop-r-preserved
@@ -17,7 +18,7 @@ pub returns-in_default-clause-cause : goal.returns-in_default-clause-cause
 returns-in_default-clause-cause c =
     let plant = c.args.plant.now in
     let e = ap (λ m. plant.horizon * m + c.loop-r.r) c.len.ensures in
-    wide_row plant (plant.horizon * c.len.result + c.loop-r.r) (terminal_row plant c.loop-r.r) plant.horizon c.at.result.now e (terminal_place plant c.loop-r.r c.at.result.now c.at.ensures) c.requires.states c.requires.costs c.loop-r.invariant.fits c.in_default.ensures.wide
+    wide_row_place plant (plant.horizon * c.len.result + c.loop-r.r) (terminal_row plant c.loop-r.r) plant.horizon c.at.result.now e (terminal_place plant c.loop-r.r c.at.result.now c.at.ensures) c.requires.states c.requires.costs c.loop-r.invariant.fits c.in_default.ensures.wide
 
 pub returns-clause-fits : goal.returns-clause-fits
 returns-clause-fits c =

@@ -7,8 +7,7 @@ use Rattle.mpc_space.specs.Matrix.{height}
 use Rattle.mpc_linear.specs.Dot.{DotFits}
 use Rattle.mpc_condense.specs.Motion.{bound_of}
 use Rattle.mpc_condense.specs.Blocks.{row_at}
-use Rattle.mpc_condense.proofs.Writing.{writes_entry_as, all_entry_as, all_to, not_entry}
-use Rattle.mpc_condense.proofs.RowLemmas.{difference_is, fits_difference_as}
+use Rattle.mpc_condense.proofs.Writing.{writes_entry_as, all_entry_as, all_to, not_entry, difference_is, fits_difference_as}
 use Rattle.mpc_condense.proofs.limits.write_right.Goals as goal
 
 pub loop-b-preserved : goal.loop-b-preserved

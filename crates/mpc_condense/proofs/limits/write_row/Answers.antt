@@ -1,8 +1,7 @@
 use Rattle.std.proofs.Common.{rules}
 use Rattle.std.proofs.lemmas.Result.{MatchResult-from_err}
-use Rattle.mpc_linear.proofs.Outcomes.{fits_as}
+use Rattle.mpc_condense.proofs.Writing.{fits_as, on_ok_as}
 use Rattle.mpc_condense.proofs.Advance.{products_within}
-use Rattle.mpc_condense.proofs.Sums.{on_ok_as}
 use Rattle.mpc_condense.proofs.RowLemmas.{adds_row, row_fits, dots_of_row, bounds_of_row}
 use Rattle.mpc_condense.proofs.limits.write_row.Goals as goal
 

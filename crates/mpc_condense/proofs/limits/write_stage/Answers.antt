@@ -1,6 +1,7 @@
 use Rattle.std.proofs.Common.{◌+◌, ◌*◌, arith, ap}
 use Rattle.mpc_condense.specs.Condensed.{stage_row}
-use Rattle.mpc_condense.proofs.RowLemmas.{stage_step, stage_fits_step, wide_row, rows_fit_to, stage_end, stage_place}
+use Rattle.mpc_condense.proofs.RowLemmas.{stage_step, stage_fits_step, rows_fit_to, stage_end, stage_place}
+use Rattle.mpc_condense.proofs.WidePlaces.{wide_row_place}
 use Rattle.mpc_condense.proofs.limits.write_stage.Goals as goal
 
 pub loop-r-preserved : goal.loop-r-preserved
@@ -16,7 +17,7 @@ pub returns-in_default-clause-cause : goal.returns-in_default-clause-cause
 returns-in_default-clause-cause c =
     let plant = c.args.plant.now in
     let e = ap (λ m. c.args.k * m + c.loop-r.r) c.len-count.ensures in
-    wide_row plant (c.args.k * c.len-count.result + c.loop-r.r) (stage_row plant c.args.k c.loop-r.r) c.args.k c.at.result.now e (stage_place plant c.args.k c.loop-r.r c.at.result.now c.requires.step c.at.ensures) c.requires.states c.requires.costs c.loop-r.invariant.fits c.in_default.ensures.wide
+    wide_row_place plant (c.args.k * c.len-count.result + c.loop-r.r) (stage_row plant c.args.k c.loop-r.r) c.args.k c.at.result.now e (stage_place plant c.args.k c.loop-r.r c.at.result.now c.requires.step c.at.ensures) c.requires.states c.requires.costs c.loop-r.invariant.fits c.in_default.ensures.wide
 
 pub returns-clause-fits : goal.returns-clause-fits
 returns-clause-fits c =
