@@ -43,7 +43,7 @@ room_of_holds : (g w m s : ℚ) → w -ℚ g ≡ m -ℚ s → s ≤ℚ m → g �
 room_of_holds g w m s e h = linear_le (g ∷ w ∷ m ∷ s ∷ []) (eq e (le h none)) (search claims depth 40) tt
 
 -- a number below n m is k m + r with k below n and r below m
-pub quotient_below : (i n m : ℕ) → i < n * m → 0 < m → (i / m < n) × ((i / m) * m + i % m ≡ i) × (i % m < m)
+quotient_below : (i n m : ℕ) → i < n * m → 0 < m → (i / m < n) × ((i / m) * m + i % m ≡ i) × (i % m < m)
 quotient_below i n m l some = (below, omega arith, omega arith)
   where
     below : i / m < n

@@ -11,5 +11,4 @@ pub mod MoveSums
 pub mod RowLemmas
 pub mod Condensing
 pub mod Admissible
-pub mod Cut
 pub mod WidePlaces
