@@ -3,10 +3,10 @@ use Rattle.std.proofs.Common.{◌≡◌, ℕ, zero, suc, ◌+◌, ◌*◌, ◌/�
 use Rattle.std.proofs.Math.Nat.{pow-le-pow_right, div-le_self}
 use Rattle.mpc_exact.specs.Gcd.{gcd}
 use Rattle.mpc_exact.specs.Rational.{ℚ, frac, quotient}
+use Rattle.mpc_exact.proofs.School.{quotient_positive}
 use Rattle.mpc_frac.specs.Fits.{FitsFrac}
 use Rattle.mpc_frac.specs.declared.FracError.{FracError}
 use Rattle.mpc_frac.specs.declared.FracError.TheVariants.{ZeroDenominator, Wide}
-use Rattle.mpc_frac.proofs.FracParts.{quotient_from}
 
 pub power_bound : (i n : ℕ) → i ≤ n → 10 ^ i ≤ 10 ^ n
 power_bound i n h = let some : 0 < 10 = lit< tt in pow-le-pow_right some h
@@ -30,9 +30,6 @@ not_zero : (d : ℕ) → 0 < d → pos d ≡ pos 0 → ⊥
 not_zero zero h e = omega arith
 not_zero (suc d) h e = cc
 
-pub quotient_is : (n d : ℕ) → 0 < d → quotient (pos n) (pos d) ≡ frac (pos n) d
-quotient_is n d h = sym (quotient_from (pos n) (pos d) (pos n) d (not_zero d h) h refl)
-
 frac_fits : (n d : ℕ) → 0 < d → n < 2 ^ 127 → d < 2 ^ 127 → FitsFrac (frac (pos n) d)
 unfolding frac
 frac_fits n zero h p k = absurd (omega arith)
@@ -45,7 +42,7 @@ frac_fits n (suc d) h p k =
 -- the numbers as the code has them
 module _ (n d : ℕ) (m k : ℤ) (some : 0 < d) (ns : n < 2 ^ 127) (ds : d < 2 ^ 127) (m_is : m ≡ pos n) (k_is : k ≡ pos d) where
   pub quotient_at : quotient m k ≡ frac (pos n) d
-  quotient_at = (λ i. quotient (m_is i) (k_is i)) ∙ quotient_is n d some
+  quotient_at = (λ i. quotient (m_is i) (k_is i)) ∙ quotient_positive (pos n) d some
 
   pub no_error : (e : FracError) → (◌≡◌ {A = Result ℚ FracError} (Err e) (Err ZeroDenominator) → k ≡ pos 0) → (◌≡◌ {A = Result ℚ FracError} (Err e) (Err Wide) → (k ≢ pos 0) × (¬ FitsFrac (quotient m k))) → ⊥
   no_error ZeroDenominator zero_only wide_only = not_zero d some (sym k_is ∙ zero_only refl)

@@ -1,17 +1,19 @@
-use Rattle.std.proofs.Common.{◌∙◌, ap, pos, to_z, of_z, arith}
+use Rattle.std.proofs.Common.{◌≡◌, ◌∙◌, ℕ, ◌<◌, ◌^◌, ap, pos, to_z, of_z, arith}
 use Rattle.std.specs.Int.{w128}
-use Rattle.std.proofs.lemmas.Int.{to_z_pos}
-use Rattle.mpc_frac.proofs.FracModel.{read_back}
+use Rattle.std.proofs.lemmas.Int.{to_z_pos, to_z-of_z, fits_signed_from_abs}
 use Rattle.mpc_plant.proofs.DigitLemmas.{no_error, quotient_at}
 use Rattle.mpc_plant.proofs.numerals.fraction.Goals as goal
+
+read_back : (d : ℕ) → d < 2 ^ 127 → to_z w128 (of_z w128 (pos d)) ≡ pos d
+read_back d h = to_z-of_z w128 (pos d) (fits_signed_from_abs w128 (pos d) h)
 
 pub unreachable-requires : goal.unreachable-requires
 unreachable-requires c =
     no_error c.args.n c.args.d (to_z w128 c.args.n) (to_z w128 (of_z w128 c.from.result)) c.requires.positive c.requires.small (omega (arith, c.ranges.d.fits)) (to_z_pos w128 c.args.n c.requires.small)
-    (ap (λ z. to_z w128 (of_z w128 z)) c.from.ensures ∙ read_back (pos c.args.d) (omega (arith, c.ranges.d.fits))) c.in-Err.field-0 c.in-Err.ensures.zero.0 c.in-Err.ensures.wide.0
+    (ap (λ z. to_z w128 (of_z w128 z)) c.from.ensures ∙ read_back c.args.d (omega (arith, c.ranges.d.fits))) c.in-Err.field-0 c.in-Err.ensures.zero.0 c.in-Err.ensures.wide.0
 
 pub returns : goal.returns
 returns c =
     c.in-Ok.ensures.value ∙
     quotient_at c.args.n c.args.d (to_z w128 c.args.n) (to_z w128 (of_z w128 c.from.result)) c.requires.positive c.requires.small (omega (arith, c.ranges.d.fits)) (to_z_pos w128 c.args.n c.requires.small)
-    (ap (λ z. to_z w128 (of_z w128 z)) c.from.ensures ∙ read_back (pos c.args.d) (omega (arith, c.ranges.d.fits)))
+    (ap (λ z. to_z w128 (of_z w128 z)) c.from.ensures ∙ read_back c.args.d (omega (arith, c.ranges.d.fits)))
