@@ -23,23 +23,25 @@ use Rattle.mpc_rows.specs.LinearSystem.{height as row_count_of}
 use Rattle.mpc_rows.specs.ActiveSets.{IsInBox, IsFeasible}
 use Rattle.mpc_rows.specs.Laws.{HasLawShape, IsLaw, IsInRegion}
 use Rattle.mpc_rows.specs.LawRows.{IsLawRow, whole_row, broken_row}
-use Rattle.mpc_rows.proofs.RefutedLemmas.{refuted-no_point}
-use Rattle.mpc_rows.proofs.LawPoints.{law_row_size}
+use Rattle.mpc_rows.specs.LawLaws.{LawRowSize}
+use Rattle.mpc_rows.specs.RegionLaws.{BoxSize}
+use Rattle.mpc_rows.specs.SystemLaws.{RefutedHasNoPoint}
 use Rattle.mpc_condense.specs.Condensed.{IsCondensed, counts_of}
-use Rattle.mpc_best.proofs.BestMoves.{law_is_right, infeasible_is_right}
+use Rattle.mpc_best.specs.BestReplies.{LawIsRight, InfeasibleIsRight}
 use Rattle.mpc_file.specs.Parts.{Parts, IsLawFor, IsNodeFor}
 use Rattle.mpc_file.specs.Bounds.{IsController}
 use Rattle.mpc_file.specs.Walk.{Reaches, root as at_root, yes_side as to_yes, no_side as to_no, EndsAt}
 use Rattle.mpc_file.specs.Replies.{RepliesAt, by_law, by_no_law, first_move, IsLawNumbered}
-use Rattle.mpc_file.proofs.BoundLemmas.{all_at}
 use Rattle.mpc_check.specs.Certs.{multipliers_of, named_at, CertRefutes}
 use Rattle.mpc_check.specs.Paths.{PathTo, root, yes_side, no_side}
-use Rattle.mpc_check.specs.Systems.{failing_system, joint_system}
+use Rattle.mpc_systems.specs.Systems.{hold_system, joint_system}
+use Rattle.mpc_systems.specs.CellLaws.{CellLaws}
 use Rattle.mpc_check.specs.Widths.{IsOfWidth}
 use Rattle.mpc_check.specs.LeafConditions.{LawLeafMet, EmptyLeafMet}
-use Rattle.mpc_check.specs.Acceptance.{Accepts}
+use Rattle.mpc_check.specs.Acceptance.{Accepts, AcceptedIsRight}
+use Rattle.mpc_check.proofs.ElementLemmas.{all_at}
 use Rattle.mpc_check.proofs.LawEquations.{law_by_coefficients}
-use Rattle.mpc_check.proofs.LeafPoints.{broken_wide, failing_wide, joint_wide, broken_meets, holds_unless, failing_point, joint_point, region_by_rows}
+use Rattle.mpc_check.proofs.RowWidths.{broken_wide}
 
 -- ---- the walk and the path
 -- a point at which the walk comes to a place meets the rows of a path to it
@@ -51,17 +53,17 @@ record MeetsPath (nodes : List Node) (t : List ℚ) (place : ℕ) : Type 0 where
 one_more : (t : List ℚ) (path : List Row) (r : Row) → All (MeetsRow t) path → MeetsRow t r → All (MeetsRow t) (path ++ r ∷ [])
 one_more t path r before here = All-append (MeetsRow t) path (r ∷ []) before (All-cons (MeetsRow t) r [] here (All-nil (MeetsRow t)))
 
-meets_path : (nodes : List Node) (t : List ℚ) (place : ℕ) → Reaches nodes t place → MeetsPath nodes t place
-meets_path nodes t _ at_root = record { path = []; leads = root; meets = All-nil (MeetsRow t) }
-meets_path nodes t _ (to_yes place row r at h) =
-    let p = meets_path nodes t place r in
+meets_path : CellLaws → (nodes : List Node) (t : List ℚ) (place : ℕ) → Reaches nodes t place → MeetsPath nodes t place
+meets_path cells nodes t _ at_root = record { path = []; leads = root; meets = All-nil (MeetsRow t) }
+meets_path cells nodes t _ (to_yes place row r at h) =
+    let p = meets_path cells nodes t place r in
     record { path = p.path ++ whole_row row ∷ []; leads = yes_side place row p.path p.leads at; meets = one_more t p.path (whole_row row) p.meets h.at_most }
-meets_path nodes t _ (to_no place next row r at h side) =
-    let p = meets_path nodes t place r in
+meets_path cells nodes t _ (to_no place next row r at h side) =
+    let p = meets_path cells nodes t place r in
     record {
       path = p.path ++ broken_row row ∷ [];
       leads = no_side place next row p.path p.leads at side;
-      meets = one_more t p.path (broken_row row) p.meets (broken_meets row t (λ m. h (record { at_most = m })));
+      meets = one_more t p.path (broken_row row) p.meets ((cells.broken_points row t).1 (λ m. h (record { at_most = m })));
     }
 
 -- ---- widths of paths
@@ -85,8 +87,8 @@ path_wide nodes n laws fit _ _ (no_side place next row path p at side) =
 multipliers_size : (rows : ℕ) (cert : List (ℕ × ℚ)) → length (multipliers_of rows cert) ≡ rows
 multipliers_size rows cert = length-map-range_with_len (named_at cert) 1 rows
 
-pub no_point : (s : LinearSystem) (cert : List (ℕ × ℚ)) → HasWidth s.width s.rows → CertRefutes s cert → (v : List ℚ) → IsPoint s v → ⊥
-no_point s cert wide r v p = refuted-no_point s (multipliers_of (row_count_of s) cert) wide (multipliers_size (row_count_of s) cert) r.refutes v p
+no_point : RefutedHasNoPoint → (s : LinearSystem) (cert : List (ℕ × ℚ)) → HasWidth s.width s.rows → CertRefutes s cert → (v : List ℚ) → IsPoint s v → ⊥
+no_point refuted_has_none s cert wide r v p = refuted_has_none s (multipliers_of (row_count_of s) cert) wide (multipliers_size (row_count_of s) cert) r.refutes v p
 
 -- ---- lists of what there is at each place
 record Collected {X : Type 0} (P : ℕ → X → Type 0) (d : X) (n : ℕ) : Type 0 where
@@ -106,16 +108,27 @@ collected P d (suc n) f =
     by (suc i) first rest h = rest.each i (omega arith)
 
 -- ---- a leaf with a law
-module _ (qp : Qp) (law : LawOfSet) (shape : HasLawShape qp law) (is : IsLaw qp law) (path : List Row) (wide : All (IsOfWidth (length qp.counts)) path) (certs : List (List (ℕ × ℚ))) (met : LawLeafMet qp path law certs)
+-- what is known of systems, of laws and of the best replies
+record Laws : Type 0 where
+  refuted_has_none : RefutedHasNoPoint
+  cells : CellLaws
+  size_in_box : BoxSize
+  law_row_size : LawRowSize
+  law_is_right : LawIsRight
+  infeasible_is_right : InfeasibleIsRight
+
+module _ (laws : Laws) (qp : Qp) (law : LawOfSet) (shape : HasLawShape qp law) (is : IsLaw qp law) (path : List Row) (wide : All (IsOfWidth (length qp.counts)) path) (certs : List (List (ℕ × ℚ))) (met : LawLeafMet qp path law certs)
     (t : List ℚ) (in_box : IsInBox qp.counts t) (on_path : All (MeetsRow t) path) where
   abbrev HoldsAt : ℕ → RowInt → Type 0
   HoldsAt i row = IsLawRow qp law (i + 1) row × MeetsRow t (whole_row row)
 
   row_holds : (i : ℕ) → i < height qp.g → (row : RowInt) × HoldsAt i row
+  unfolding hold_system
   row_holds i h =
       let m = (met i h).holds_so in
-      let size : length m.row.a ≡ length qp.counts = law_row_size qp law (i + 1) shape m.row m.is_row.multiple in
-      (m.row, (m.is_row, holds_unless m.row t (λ fails. no_point (failing_system qp path m.row) m.cert (failing_wide qp path m.row wide size) m.refutes t (failing_point qp path m.row t in_box on_path fails))))
+      let size : length m.row.a ≡ length qp.counts = laws.law_row_size qp law (i + 1) shape m.row m.is_row.multiple in
+      let none : (¬ MeetsRow t (whole_row m.row)) → ⊥ = λ fails. no_point laws.refuted_has_none (hold_system qp path m.row) m.cert (laws.cells.hold_width qp path m.row wide size) m.refutes t ((laws.cells.hold_points qp path m.row t).0 (in_box, on_path, fails)) in
+      (m.row, (m.is_row, laws.cells.holds_unless m.row t none))
 
   abbrev blank : RowInt
   blank = record { a = []; b = pos 0 }
@@ -123,12 +136,15 @@ module _ (qp : Qp) (law : LawOfSet) (shape : HasLawShape qp law) (is : IsLaw qp 
   in_region : IsInRegion qp law t
   in_region =
       let all = collected HoldsAt blank (height qp.g) row_holds in
-      region_by_rows qp law is all.items (record { one_each = all.size; each = λ i h. (all.each i h).0 }) t in_box
-      (All-from_get_or (λ row. MeetsRow t (whole_row row)) all.items blank (λ i h. (all.each i (subst (λ n. i < n) all.size h)).1))
+      (laws.cells.region_rows qp law is all.items (record { one_each = all.size; each = λ i h. (all.each i h).0 }) t).1
+      (in_box, All-from_get_or (λ row. MeetsRow t (whole_row row)) all.items blank (λ i h. (all.each i (subst (λ n. i < n) all.size h)).1))
 
 -- ---- a leaf without a law
-none_feasible : (qp : Qp) (path : List Row) → All (IsOfWidth (length qp.counts)) path → (cert : List (ℕ × ℚ)) → EmptyLeafMet qp path cert → (t : List ℚ) → All (MeetsRow t) path → (z : List ℚ) → IsFeasible qp t z → ⊥
-none_feasible qp path wide cert met t on_path z f = no_point (joint_system qp path) cert (joint_wide qp path wide) met.holds_so (t ++ z) (joint_point qp path t z wide on_path f)
+none_feasible : Laws → (qp : Qp) (path : List Row) → All (IsOfWidth (length qp.counts)) path → (cert : List (ℕ × ℚ)) → EmptyLeafMet qp path cert → (t : List ℚ) → All (MeetsRow t) path → (z : List ℚ) → IsFeasible qp t z → ⊥
+unfolding joint_system
+none_feasible laws qp path wide cert met t on_path z f =
+    no_point laws.refuted_has_none (joint_system qp path) cert (laws.cells.joint_width qp path wide) met.holds_so (t ++ z)
+    ((laws.cells.joint_points qp path wide t z (laws.size_in_box qp.counts t f.in_box)).0 (on_path, f))
 
 -- ---- the plant's box is the program's
 same_box : (grid : List Coordinate) (t : List ℚ) → IsWithin grid t → IsInBox (counts_of grid) t
@@ -149,7 +165,7 @@ law_shape plant qp c law f =
       mults_shape = record { rows_are = l.rows_are; columns_are = l.columns_are ∙ sym (ap (λ k. k + 1) n); rectangular = l.rectangular };
     }
 
-module _ (parts : Parts) (t : List ℚ) (controller : IsController parts.plant parts.laws parts.tree) (accepted : Accepts parts) (in_plant_box : IsInPlantBox parts.plant t) where
+module _ (laws : Laws) (parts : Parts) (t : List ℚ) (controller : IsController parts.plant parts.laws parts.tree) (accepted : Accepts parts) (in_plant_box : IsInPlantBox parts.plant t) where
   abbrev qp : Qp
   qp = accepted.qp
 
@@ -167,22 +183,24 @@ module _ (parts : Parts) (t : List ℚ) (controller : IsController parts.plant p
 
   law_reply : (place number : ℕ) (certs : List (List (ℕ × ℚ))) (law : LawOfSet) → EndsAt parts.tree t place (Law number certs) → IsLawNumbered parts.laws number law → IsRight parts.plant t (move (first_move parts.plant.p law t))
   law_reply place number certs law e named =
-      let p = meets_path parts.tree t place e.reached in
+      let p = meets_path laws.cells parts.tree t place e.reached in
       let law_within : number - 1 < length parts.laws = slice_get_within parts.laws (number - 1) law named in
       let shape : HasLawShape qp law = law_shape parts.plant qp condensed law (all_at (IsLawFor parts.plant) parts.laws (number - 1) law named controller.shapes.laws_fit) in
       let is : IsLaw qp law = law_by_coefficients qp law shape (accepted.behind.laws (number - 1) law_within law named) in
       let met : LawLeafMet qp p.path law certs = accepted.behind.leaves place (slice_get_within parts.tree place (Law number certs) e.node_at) p.path (Law number certs) p.leads e.node_at law named in
-      law_is_right parts.plant qp law t condensed accepted.convex.definite is (in_region qp law shape is p.path (wide place p.path p.leads) certs met t in_box p.meets)
+      laws.law_is_right parts.plant qp law t condensed accepted.convex.definite is (in_region laws qp law shape is p.path (wide place p.path p.leads) certs met t in_box p.meets)
 
   empty_reply : (place : ℕ) (cert : List (ℕ × ℚ)) → EndsAt parts.tree t place (NoMove cert) → IsRight parts.plant t infeasible
   empty_reply place cert e =
-      let p = meets_path parts.tree t place e.reached in
+      let p = meets_path laws.cells parts.tree t place e.reached in
       let met : EmptyLeafMet qp p.path cert = accepted.behind.leaves place (slice_get_within parts.tree place (NoMove cert) e.node_at) p.path (NoMove cert) p.leads e.node_at in
-      infeasible_is_right parts.plant qp t condensed in_box (λ z f. none_feasible qp p.path (wide place p.path p.leads) cert met t p.meets z f)
+      laws.infeasible_is_right parts.plant qp t condensed in_box (λ z f. none_feasible laws qp p.path (wide place p.path p.leads) cert met t p.meets z f)
 
   reply_right : (reply : Reply) → RepliesAt parts t reply → IsRight parts.plant t reply
   reply_right _ (by_law place number certs law e named) = law_reply place number certs law e named
   reply_right _ (by_no_law place cert e) = empty_reply place cert e
 
-pub accepted_is_right : (parts : Parts) (t : List ℚ) (reply : Reply) → IsController parts.plant parts.laws parts.tree → Accepts parts → IsInPlantBox parts.plant t → RepliesAt parts t reply → IsRight parts.plant t reply
-accepted_is_right parts t reply controller accepted in_plant_box r = reply_right parts t controller accepted in_plant_box reply r
+pub accepted_is_right : RefutedHasNoPoint → CellLaws → BoxSize → LawRowSize → LawIsRight → InfeasibleIsRight → AcceptedIsRight
+accepted_is_right none cells in_box size of_law of_none parts t reply controller accepted in_plant_box r =
+    let laws : Laws = record { refuted_has_none = none; cells = cells; size_in_box = in_box; law_row_size = size; law_is_right = of_law; infeasible_is_right = of_none } in
+    reply_right laws parts t controller accepted in_plant_box reply r

@@ -5,8 +5,10 @@ use Rattle.std.proofs.lemmas.List.{length-append, take_more}
 use Rattle.std.proofs.lemmas.List.Elements.{All-more}
 use Rattle.mpc_exact.specs.Rational.{ℚ, ◌+ℚ◌, ◌*ℚ◌}
 use Rattle.mpc_frac.specs.Fits.{FitsFrac, FitsSum}
+use Rattle.mpc_frac.specs.FitLaws.{FitLaws}
 use Rattle.mpc_space.specs.Vector.{AllNonneg}
 use Rattle.mpc_linear.specs.Dot.{SumFits}
+use Rattle.mpc_linear.specs.ZeroLaws.{ZeroLaws}
 use Rattle.mpc_rows.specs.declared.places.Place.{Place}
 use Rattle.mpc_rows.specs.declared.programs.Qp.{Qp}
 use Rattle.mpc_rows.specs.declared.systems.Row.{Row}
@@ -21,9 +23,9 @@ use Rattle.mpc_check.specs.declared.ways.Turn.{Turn}
 use Rattle.mpc_check.specs.Certs.{IsPositionIn, HasPositionsIn, CertRefutes, CertFits}
 use Rattle.mpc_check.specs.Findings.{IsDecided}
 use Rattle.mpc_check.specs.Picks.{picked_rows, weights, picked_system}
-use Rattle.mpc_check.specs.Systems.{widened}
+use Rattle.mpc_systems.specs.Writing.{widened}
 use Rattle.mpc_check.specs.Ways.{way_rows, system_at}
-use Rattle.mpc_check.proofs.RowWriting.{box_count}
+use Rattle.mpc_check.proofs.RowPlaces.{box_count}
 use Rattle.mpc_check.proofs.SplitRows.{way_count}
 use Rattle.mpc_check.proofs.Thinning.{picked_nonneg, picked_fits, picked_refutes}
 
@@ -89,19 +91,19 @@ decided_sums s m place false r f = (λ n. stable_fits s m (λ k. f (n, k)), λ c
     different : false ≡ true → ⊥
     different e = cc
 
-module _ (s : LinearSystem) (cert : List (ℕ × ℚ)) (rises : IsCert cert) (within : HasPositionsIn (height s) cert) where
+module _ (noughts : ZeroLaws) (fit : FitLaws) (s : LinearSystem) (cert : List (ℕ × ℚ)) (rises : IsCert cert) (within : HasPositionsIn (height s) cert) where
   abbrev Fits : Type 0
   Fits = SumsFitWhere (picked_system s cert) (weights cert)
 
   fits_so : Fits → CertFits s cert
-  fits_so f w n = (picked_fits s cert rises within).0 (f ((picked_nonneg s cert rises within).1 n))
+  fits_so f w n = (picked_fits noughts fit s cert rises within).0 (f ((picked_nonneg noughts fit s cert rises within).1 n))
 
   fits_back : CertFits s cert → Fits
-  fits_back f n = (picked_fits s cert rises within).1 (f within ((picked_nonneg s cert rises within).0 n))
+  fits_back f n = (picked_fits noughts fit s cert rises within).1 (f within ((picked_nonneg noughts fit s cert rises within).0 n))
 
   pub decided_whole : (place : Place) (r : Result Bool CheckError) → IsDecided Fits (Refutes (picked_system s cert) (weights cert)) place r → IsDecided (CertFits s cert) (CertRefutes s cert) place r
-  decided_whole place (Ok true) d = record { fits_so = fits_so d.fits_so; holds_so = record { within = within; refutes = (picked_refutes s cert rises within).0 d.holds_so } }
-  decided_whole place (Ok false) d = (fits_so d.0, λ c. d.1 ((picked_refutes s cert rises within).1 c.refutes))
+  decided_whole place (Ok true) d = record { fits_so = fits_so d.fits_so; holds_so = record { within = within; refutes = (picked_refutes noughts fit s cert rises within).0 d.holds_so } }
+  decided_whole place (Ok false) d = (fits_so d.0, λ c. d.1 ((picked_refutes noughts fit s cert rises within).1 c.refutes))
   decided_whole place (Err (Wide p)) d = (d.0, λ f. d.1 (fits_back f))
   decided_whole place (Err (NotDefinite j)) d = d
   decided_whole place (Err NoMemory) d = tt

@@ -2,12 +2,12 @@
 use Rattle.std.proofs.Common.{◌≡◌, ℕ, zero, suc, ◌-◌, ◌<◌, ◌≤◌, List, [], ◌∷◌, length, get_or, refl, sym, ◌∙◌, ap, arith, ⊎_elim}
 use Rattle.std.proofs.lemmas.Bool.{cases_lt}
 use Rattle.std.proofs.lemmas.List.{get_or-map, length-map}
-use Rattle.mpc_exact.specs.Rational.{ℚ, ◌+ℚ◌}
-use Rattle.mpc_space.specs.Vector.{coordinate, column, dot, vec_add, vec_scale, mat_vec, vec_mat}
+use Rattle.mpc_exact.specs.Rational.{ℚ}
+use Rattle.mpc_space.specs.Vector.{coordinate, dot, vec_add, vec_scale, mat_vec, vec_mat}
 use Rattle.mpc_space.specs.Matrix.{RationalMatrix, height, IsRectangular}
-use Rattle.mpc_space.proofs.Vector.{dot_comm, dot-add_right}
-use Rattle.mpc_space.proofs.Entries.{same_entries, coordinate-add, length-add_within, length-scale, dot_same, dot_nil, zero_by_entries}
-use Rattle.mpc_space.proofs.Matrix.{length-mat_vec, coordinate-mat_vec, coordinate-vec_mat, dot-vec_mat}
+use Rattle.mpc_space.proofs.Vector.{dot_comm}
+use Rattle.mpc_space.proofs.Entries.{same_entries, length-add_within, length-scale, dot_same, dot_nil, zero_by_entries}
+use Rattle.mpc_space.proofs.Matrix.{length-mat_vec, coordinate-mat_vec, coordinate-vec_mat}
 use Rattle.mpc_rows.specs.declared.programs.Qp.{Qp}
 use Rattle.mpc_rows.specs.declared.laws.Law.{Law}
 use Rattle.mpc_rows.specs.ActiveSets.{extended, row_of, rows_of, IsTight, MeetsEquations}

@@ -11,8 +11,10 @@ use Rattle.mpc_rows.specs.declared.systems.Row.{Row}
 use Rattle.mpc_rows.specs.declared.trees.Node.{Node}
 use Rattle.mpc_rows.specs.declared.trees.Node.TheVariants.{Law}
 use Rattle.mpc_rows.specs.LinearSystem.{LinearSystem}
+use Rattle.mpc_rows.specs.SetRuns.{joint_rows}
+use Rattle.mpc_space.specs.Matrix.{height}
 use Rattle.mpc_rows.specs.LawRows.{IsLawRow, LawRowFits, broken_row}
-use Rattle.mpc_rows.proofs.RegionLemmas.{law_row_unique}
+use Rattle.mpc_rows.specs.LawLaws.{OneLawRow}
 use Rattle.mpc_file.specs.Replies.{IsLawNumbered}
 use Rattle.mpc_check.specs.declared.answers.Spot.{Spot}
 use Rattle.mpc_check.specs.declared.answers.CheckError.{CheckError}
@@ -21,7 +23,8 @@ use Rattle.mpc_check.specs.declared.ways.Turn.{Turn}
 use Rattle.mpc_check.specs.Certs.{CertFits, CertRefutes}
 use Rattle.mpc_check.specs.Findings.{Finding, refused, too_wide, not_definite, IsSearched, IsDecided}
 use Rattle.mpc_check.specs.LeafConditions.{RowFits, RowHolds, LawLeafMet, LawLeafFinds, NodeMet, NodeFinds, NodeAtMet, NodeAtFinds}
-use Rattle.mpc_check.specs.Systems.{leaf_system, failing_system, widened}
+use Rattle.mpc_systems.specs.Writing.{widened}
+use Rattle.mpc_systems.specs.Systems.{cell_system, hold_system, joint_system}
 use Rattle.mpc_check.specs.Ways.{way_rows, system_at, IsWay}
 use Rattle.mpc_check.proofs.PathLemmas.{one_path}
 use Rattle.mpc_check.proofs.WayLemmas.{path_of_way}
@@ -31,35 +34,34 @@ pub widened-none : (rows : List Row) → map (widened 0) rows ≡ rows
 widened-none [] = refl
 widened-none (r ∷ rows) = λ i. record { a = append-nil r.a i; b = r.b; strict = r.strict } ∷ widened-none rows i
 
-pub bare : (r : Row) → widened 0 r ≡ r
-bare r = λ i. record { a = append-nil r.a i; b = r.b; strict = r.strict }
-
-pub plain_system : (qp : Qp) (nodes : List Node) (way : List Turn) (row : RowInt) (last : List Row) → last ≡ broken_row row ∷ [] → system_at qp nodes way 0 last ≡ failing_system qp (way_rows nodes way) row
+pub plain_system : (qp : Qp) (nodes : List Node) (way : List Turn) (row : RowInt) (last : List Row) → last ≡ broken_row row ∷ [] → system_at qp nodes way 0 last ≡ hold_system qp (way_rows nodes way) row
+unfolding hold_system
 plain_system qp nodes way row last e =
     let width : length qp.counts + 0 ≡ length qp.counts = omega arith in
-    λ i. leaf_system (width i) qp.counts (widened-none (way_rows nodes way) i) (e i)
+    λ i. cell_system (width i) qp.counts (widened-none (way_rows nodes way) i) (e i)
 
-pub whole_system : (qp : Qp) (nodes : List Node) (way : List Turn) (more : ℕ) (last rows : List Row) (unknowns : ℕ) → more ≡ unknowns → last ≡ rows → system_at qp nodes way more last ≡ system_at qp nodes way unknowns rows
-whole_system qp nodes way more last rows unknowns e f = λ i. system_at qp nodes way (e i) (f i)
+pub whole_system : (qp : Qp) (nodes : List Node) (way : List Turn) (more : ℕ) (last : List Row) → more ≡ height qp.h → last ≡ joint_rows qp → system_at qp nodes way more last ≡ joint_system qp (way_rows nodes way)
+unfolding joint_system
+whole_system qp nodes way more last e f = λ i. system_at qp nodes way (e i) (f i)
 
 pub decided_there : (s t : LinearSystem) → s ≡ t → (cert : List (ℕ × ℚ)) (place : Place) (r : Result Bool CheckError) → IsDecided (CertFits s cert) (CertRefutes s cert) place r → IsDecided (CertFits t cert) (CertRefutes t cert) place r
 decided_there s t e cert place r d = subst (λ u. IsDecided (CertFits u cert) (CertRefutes u cert) place r) e d
 
 -- ---- a row of a leaf's law
-module _ (qp : Qp) (path : List Row) (law : LawOfSet) (certs : List (List (ℕ × ℚ))) (i : ℕ) (row : RowInt) (is_row : IsLawRow qp law (i + 1) row) (row_fits : LawRowFits qp law (i + 1)) (cert : List (ℕ × ℚ)) (is_cert : slice_get certs i ≡ Some cert) where
+module _ (law_row_unique : OneLawRow) (qp : Qp) (path : List Row) (law : LawOfSet) (certs : List (List (ℕ × ℚ))) (i : ℕ) (row : RowInt) (is_row : IsLawRow qp law (i + 1) row) (row_fits : LawRowFits qp law (i + 1)) (cert : List (ℕ × ℚ)) (is_cert : slice_get certs i ≡ Some cert) where
   same_cert : (other : List (ℕ × ℚ)) → slice_get certs i ≡ Some other → cert ≡ other
   same_cert other e = cc
 
-  all_fit : CertFits (failing_system qp path row) cert → RowFits qp path law certs i
+  all_fit : CertFits (hold_system qp path row) cert → RowFits qp path law certs i
   all_fit f = record {
     row_fits = row_fits;
-    sums_fit = λ r c ir ic. subst (λ x. CertFits (failing_system qp path x) c) (law_row_unique qp law (i + 1) row r is_row ir) (subst (CertFits (failing_system qp path row)) (same_cert c ic) f);
+    sums_fit = λ r c ir ic. subst (λ x. CertFits (hold_system qp path x) c) (law_row_unique qp law (i + 1) row r is_row ir) (subst (CertFits (hold_system qp path row)) (same_cert c ic) f);
   }
 
-  its_cert : RowHolds qp path law certs i → CertRefutes (failing_system qp path row) cert
-  its_cert h = subst (CertRefutes (failing_system qp path row)) (sym (same_cert h.cert h.is_cert)) (subst (λ x. CertRefutes (failing_system qp path x) h.cert) (sym (law_row_unique qp law (i + 1) row h.row is_row h.is_row)) h.refutes)
+  its_cert : RowHolds qp path law certs i → CertRefutes (hold_system qp path row) cert
+  its_cert h = subst (CertRefutes (hold_system qp path row)) (sym (same_cert h.cert h.is_cert)) (subst (λ x. CertRefutes (hold_system qp path x) h.cert) (sym (law_row_unique qp law (i + 1) row h.row is_row h.is_row)) h.refutes)
 
-  pub row_decided : (place : Place) (r : Result Bool CheckError) → IsDecided (CertFits (failing_system qp path row) cert) (CertRefutes (failing_system qp path row) cert) place r → IsDecided (RowFits qp path law certs i) (RowHolds qp path law certs i) place r
+  pub row_decided : (place : Place) (r : Result Bool CheckError) → IsDecided (CertFits (hold_system qp path row) cert) (CertRefutes (hold_system qp path row) cert) place r → IsDecided (RowFits qp path law certs i) (RowHolds qp path law certs i) place r
   row_decided place (Ok true) d = record { fits_so = all_fit d.fits_so; holds_so = record { row = row; is_row = is_row; cert = cert; is_cert = is_cert; refutes = d.holds_so } }
   row_decided place (Ok false) d = (all_fit d.0, λ h. d.1 (its_cert h))
   row_decided place (Err (Wide p)) d = (d.0, λ f. d.1 (f.sums_fit row cert is_row is_cert))

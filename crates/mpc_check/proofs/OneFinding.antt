@@ -12,18 +12,19 @@ use Rattle.mpc_rows.specs.declared.places.Place.{Place}
 use Rattle.mpc_rows.specs.declared.places.Place.TheVariants.{Pivot, CheckLaw, CheckLeaf}
 use Rattle.mpc_rows.specs.declared.trees.Node.{Node}
 use Rattle.mpc_rows.specs.declared.trees.Node.TheVariants.{Split, Law, NoMove}
-use Rattle.mpc_best.proofs.SameRows.{one_program}
+use Rattle.mpc_condense.specs.ProgramLaws.{NoWidePlace, OneWidePlace}
+use Rattle.mpc_best.specs.BestReplies.{OneProgram}
 use Rattle.mpc_file.specs.Parts.{Parts}
 use Rattle.mpc_check.specs.declared.answers.Spot.TheVariants.{Stationary, Active, LeafRow, Leaf}
-use Rattle.mpc_check.specs.Systems.{joint_system}
+use Rattle.mpc_systems.specs.Systems.{joint_system}
 use Rattle.mpc_check.specs.Certs.{CertFits, CertRefutes}
 use Rattle.mpc_check.specs.Findings.{Finding, refused, too_wide, not_definite}
 use Rattle.mpc_check.specs.LawConditions.{GradientFits, IsStationaryAt, StationaryMet, StationaryFinds, LineMet, LineFinds, LinesMet, LinesFind, ActiveFits, IsActiveAt, ActiveMet, ActiveFinds, RowMet, RowFinds, MemberMet, MemberFinds, MembersMet, MembersFind, LawMet, LawFinds, LawAtMet, LawAtFinds, LawsMet, LawsFind}
 use Rattle.mpc_check.specs.LeafConditions.{RowFits, RowHolds, LeafRowMet, LeafRowFinds, LawLeafMet, LawLeafFinds, NodeMet, NodeFinds, NodeAtMet, NodeAtFinds, TreeMet, TreeFinds}
-use Rattle.mpc_check.specs.Acceptance.{IsProgramOf, IsConvex, IsWidePivot, IsBadPivot, ProgramFinds, BehindMet, BehindFinds, Accepts, IsFound}
+use Rattle.mpc_check.specs.Acceptance.{IsProgramOf, IsConvex, IsWidePivot, IsBadPivot, ProgramFinds, BehindMet, BehindFinds, NothingFound, OneFinding, NoProgramFinding}
 use Rattle.mpc_check.proofs.FindingLemmas.{IsSingle, single_condition, single_list, single_pair}
 use Rattle.mpc_check.proofs.PathLemmas.{one_path}
-use Rattle.mpc_check.proofs.ProgramPlaces.{not_wide, one_wide_place, passes_not_positive, passes_wide, one_not_positive, one_pivot_wide, not_both}
+use Rattle.mpc_check.proofs.PivotPlaces.{passes_not_positive, passes_wide, one_not_positive, one_pivot_wide, not_both}
 
 -- ---- laws
 module _ (qp : Qp) (number : ℕ) (law : LawOfSet) where
@@ -97,7 +98,7 @@ single_behind qp parts =
     (single_laws qp parts.laws) (single_tree qp parts.laws parts.tree) (BehindMet qp parts) (λ m. m.laws) (λ m. m.leaves)
 
 -- ---- the program
-module _ (plant : Plant) where
+module _ (one_program : OneProgram) (not_wide : NoWidePlace) (one_wide_place : OneWidePlace) (plant : Plant) where
   same_qp : (one two : Qp) → IsProgramOf one plant → IsProgramOf two plant → one ≡ two
   same_qp one two a b = one_program plant one two a.condensed b.condensed
 
@@ -142,12 +143,22 @@ module _ (plant : Plant) where
 behind_there : (parts : Parts) (f : Finding) (one two : Qp) → one ≡ two → BehindFinds one parts f → BehindFinds two parts f
 behind_there parts f one two e b = subst (λ qp. BehindFinds qp parts f) e b
 
-pub nothing_found : (parts : Parts) (f : Finding) → Accepts parts → IsFound parts f → ⊥
-nothing_found parts f a (inl p) = program_met parts.plant f p a.qp a.program a.convex
-nothing_found parts f a (inr b) = (single_behind a.qp parts).not_met f (behind_there parts f b.qp a.qp (same_qp parts.plant b.qp a.qp b.program a.program) b.first) a.behind
+module _ (one_program : OneProgram) (not_wide : NoWidePlace) (one_wide_place : OneWidePlace) where
+  same : (plant : Plant) (one two : Qp) → IsProgramOf one plant → IsProgramOf two plant → one ≡ two
+  same = same_qp one_program not_wide one_wide_place
 
-pub one_finding : (parts : Parts) (f g : Finding) → IsFound parts f → IsFound parts g → f ≡ g
-one_finding parts f g (inl a) (inl b) = one_program_finding parts.plant f g a b
-one_finding parts f g (inl a) (inr b) = absurd (program_met parts.plant f a b.qp b.program b.convex)
-one_finding parts f g (inr a) (inl b) = absurd (program_met parts.plant g b a.qp a.program a.convex)
-one_finding parts f g (inr a) (inr b) = (single_behind b.qp parts).one f g (behind_there parts f a.qp b.qp (same_qp parts.plant a.qp b.qp a.program b.program) a.first) b.first
+  met : (plant : Plant) (f : Finding) → ProgramFinds plant f → (qp : Qp) → IsProgramOf qp plant → IsConvex qp → ⊥
+  met = program_met one_program not_wide one_wide_place
+
+  pub no_program_finding : NoProgramFinding
+  no_program_finding plant qp f p c a = met plant f a qp p c
+
+  pub nothing_found : NothingFound
+  nothing_found parts f a (inl p) = met parts.plant f p a.qp a.program a.convex
+  nothing_found parts f a (inr b) = (single_behind a.qp parts).not_met f (behind_there parts f b.qp a.qp (same parts.plant b.qp a.qp b.program a.program) b.first) a.behind
+
+  pub one_finding : OneFinding
+  one_finding parts f g (inl a) (inl b) = one_program_finding one_program not_wide one_wide_place parts.plant f g a b
+  one_finding parts f g (inl a) (inr b) = absurd (met parts.plant f a b.qp b.program b.convex)
+  one_finding parts f g (inr a) (inl b) = absurd (met parts.plant g b a.qp a.program a.convex)
+  one_finding parts f g (inr a) (inr b) = (single_behind b.qp parts).one f g (behind_there parts f a.qp b.qp (same parts.plant a.qp b.qp a.program b.program) a.first) b.first

@@ -12,15 +12,14 @@ use Rattle.mpc_rows.specs.declared.programs.Qp.{Qp}
 use Rattle.mpc_rows.specs.declared.systems.Row.{Row}
 use Rattle.mpc_rows.specs.declared.trees.Node.{Node}
 use Rattle.mpc_rows.specs.declared.trees.Node.TheVariants.{Split, NoMove}
-use Rattle.mpc_rows.proofs.JointLemmas.{All-split}
 use Rattle.mpc_rows.specs.LinearSystem.{no_row}
 use Rattle.mpc_file.specs.Parts.{IsSplitRow}
-use Rattle.mpc_file.proofs.BoundLemmas.{all_at}
 use Rattle.mpc_check.specs.declared.ways.Turn.{Turn}
-use Rattle.mpc_check.specs.Systems.{widened}
+use Rattle.mpc_systems.specs.Writing.{widened}
 use Rattle.mpc_check.specs.Ways.{HasSplitRow, IsTurn, side_row, split_row, turn_row, way_rows, system_at}
 use Rattle.mpc_check.specs.Widths.{IsOfWidth}
-use Rattle.mpc_check.proofs.LeafPoints.{broken_wide, path_widened, system_wide}
+use Rattle.mpc_check.proofs.ElementLemmas.{all_at, All-split}
+use Rattle.mpc_check.proofs.RowWidths.{broken_wide, path_widened, system_wide}
 
 module _ (n : ℕ) (nodes : List Node) (splits : All (HasSplitRow n) nodes) (place : ℕ) (node : Node) (at : slice_get nodes place ≡ Some node) (row : RowInt) (is : node ≡ Split row) where
   fits : IsSplitRow n row

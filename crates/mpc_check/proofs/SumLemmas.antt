@@ -1,14 +1,14 @@
 -- The sums of a law's conditions, product by product.
 use Rattle.std.proofs.Common.{◌≡◌, ℕ, ◌+◌, ◌-◌, ◌<◌, ◌≤◌, Bool, true, false, ◌&&◌, int_eq, List, [], ◌∷◌, length, get_or, pos, refl, sym, ◌∙◌, ap, subst}
 use Rattle.std.proofs.lemmas.Bool.Decides.{Decides-int_eq}
-use Rattle.std.proofs.lemmas.List.{get_or_default, get_or-map, length-map}
+use Rattle.std.proofs.lemmas.List.{get_or-map, length-map}
 use Rattle.mpc_exact.specs.Rational.{ℚ, int, ◌+ℚ◌, ◌*ℚ◌, same_parts}
 use Rattle.mpc_exact.proofs.RationalRing.{reads, by_ring}
 use Rattle.mpc_space.specs.Vector.{coordinate, column, dot}
 use Rattle.mpc_space.specs.Matrix.{RationalMatrix, height, IsRectangular, entry}
 use Rattle.mpc_space.proofs.Matrix.{length-column, coordinate-column}
 use Rattle.mpc_linear.specs.Dot.{TermFits, SumFits}
-use Rattle.mpc_linear.proofs.DotLemmas.{Goes, goes_more, goes_wide, goes_value, goes_fits}
+use Rattle.mpc_linear.specs.SumLaws.{SumLaws, IsSumSoFar}
 use Rattle.mpc_rows.specs.declared.programs.Qp.{Qp}
 use Rattle.mpc_rows.specs.declared.laws.Law.{Law}
 use Rattle.mpc_rows.specs.ActiveSets.{row_of, rows_of}
@@ -16,9 +16,9 @@ use Rattle.mpc_rows.specs.Laws.{HasLawShape}
 
 -- ---- a row of one matrix with a column of another
 abbrev pub Moved : RationalMatrix → RationalMatrix → ℕ → ℕ → ℚ → ℕ → ℚ → Type 0
-Moved m moves r c start k sum = Goes start (get_or m.rows r []) (column moves.rows c) k sum
+Moved m moves r c start k sum = IsSumSoFar start (get_or m.rows r []) (column moves.rows c) k sum
 
-module _ (m moves : RationalMatrix) (r c : ℕ) (start : ℚ) (row : r < height m) (rectangular : IsRectangular m) (size : m.columns ≡ height moves) (k : ℕ) (sum : ℚ) (g : Moved m moves r c start k sum) where
+module _ (sums : SumLaws) (m moves : RationalMatrix) (r c : ℕ) (start : ℚ) (row : r < height m) (rectangular : IsRectangular m) (size : m.columns ≡ height moves) (k : ℕ) (sum : ℚ) (g : Moved m moves r c start k sum) where
   row_size : length (get_or m.rows r []) ≡ m.columns
   row_size = rectangular r [] row
 
@@ -32,33 +32,30 @@ module _ (m moves : RationalMatrix) (r c : ℕ) (start : ℚ) (row : r < height 
     in_column : k < length (column moves.rows c)
     in_column = subst (λ n. k < n) (sym column_size) h
 
-    x_is : x ≡ get_or (get_or m.rows r []) k x
-    x_is = ex ∙ get_or_default (get_or m.rows r []) k (int (pos 0)) x in_row
-
-    y_is : y ≡ get_or (column moves.rows c) k y
-    y_is = ey ∙ sym (coordinate-column moves.rows k c) ∙ get_or_default (column moves.rows c) k (int (pos 0)) y in_column
+    moved_right : y ≡ coordinate (column moves.rows c) k
+    moved_right = ey ∙ sym (coordinate-column moves.rows k c)
 
     pub moved_more : (next : ℚ) → next ≡ sum +ℚ x *ℚ y → TermFits sum x y → Moved m moves r c start (k + 1) next
-    moved_more next e t = goes_more start (get_or m.rows r []) (column moves.rows c) k sum x y in_row in_column x_is y_is g next e t
+    moved_more next e t = sums.more start (get_or m.rows r []) (column moves.rows c) k sum x y next (record { within_left = in_row; within_right = in_column; left = ex; right = moved_right }) g e t
 
     pub moved_wide : (¬ TermFits sum x y) → ¬ SumFits start (get_or m.rows r []) (column moves.rows c)
-    moved_wide t f = goes_wide start (get_or m.rows r []) (column moves.rows c) k sum x y in_row in_column x_is y_is g t f
+    moved_wide t f = sums.wide start (get_or m.rows r []) (column moves.rows c) k sum x y (record { within_left = in_row; within_right = in_column; left = ex; right = moved_right }) g t f
 
   module _ (h : m.columns ≤ k) where
     over : length (get_or m.rows r []) ≤ k
     over = subst (λ n. n ≤ k) (sym row_size) h
 
     pub moved_value : sum ≡ start +ℚ dot (get_or m.rows r []) (column moves.rows c)
-    moved_value = goes_value start (get_or m.rows r []) (column moves.rows c) k sum over g
+    moved_value = sums.value start (get_or m.rows r []) (column moves.rows c) k sum over g
 
     pub moved_fits : SumFits start (get_or m.rows r []) (column moves.rows c)
-    moved_fits = goes_fits start (get_or m.rows r []) (column moves.rows c) k sum over g
+    moved_fits = sums.fits start (get_or m.rows r []) (column moves.rows c) k sum over g
 
 -- ---- a column of the members' rows with a column of the multipliers
 abbrev pub Weighed : Qp → Law → ℕ → ℕ → ℚ → ℕ → ℚ → Type 0
-Weighed qp law r c start k sum = Goes start (column (rows_of qp.g.rows law.set) r) (column law.mults.rows c) k sum
+Weighed qp law r c start k sum = IsSumSoFar start (column (rows_of qp.g.rows law.set) r) (column law.mults.rows c) k sum
 
-module _ (qp : Qp) (law : Law) (r c : ℕ) (start : ℚ) (shape : HasLawShape qp law) (k : ℕ) (sum : ℚ) (g : Weighed qp law r c start k sum) where
+module _ (sums : SumLaws) (qp : Qp) (law : Law) (r c : ℕ) (start : ℚ) (shape : HasLawShape qp law) (k : ℕ) (sum : ℚ) (g : Weighed qp law r c start k sum) where
   abbrev xs : List ℚ
   xs = column (rows_of qp.g.rows law.set) r
 
@@ -81,27 +78,27 @@ module _ (qp : Qp) (law : Law) (r c : ℕ) (start : ℚ) (shape : HasLawShape qp
     row_there : get_or (rows_of qp.g.rows law.set) k [] ≡ get_or qp.g.rows (i - 1) []
     row_there = get_or-map (row_of qp.g.rows) law.set k 0 [] h ∙ ap (row_of qp.g.rows) (sym member)
 
-    weighed_x : x ≡ get_or xs k x
-    weighed_x = ex ∙ ap (λ row. coordinate row r) (sym row_there) ∙ sym (coordinate-column (rows_of qp.g.rows law.set) k r) ∙ get_or_default xs k (int (pos 0)) x in_xs
+    weighed_left : x ≡ coordinate xs k
+    weighed_left = ex ∙ ap (λ row. coordinate row r) (sym row_there) ∙ sym (coordinate-column (rows_of qp.g.rows law.set) k r)
 
-    weighed_y : y ≡ get_or ys k y
-    weighed_y = ey ∙ sym (coordinate-column law.mults.rows k c) ∙ get_or_default ys k (int (pos 0)) y in_ys
+    weighed_right : y ≡ coordinate ys k
+    weighed_right = ey ∙ sym (coordinate-column law.mults.rows k c)
 
     pub weighed_more : (next : ℚ) → next ≡ sum +ℚ x *ℚ y → TermFits sum x y → Weighed qp law r c start (k + 1) next
-    weighed_more next e t = goes_more start xs ys k sum x y in_xs in_ys weighed_x weighed_y g next e t
+    weighed_more next e t = sums.more start xs ys k sum x y next (record { within_left = in_xs; within_right = in_ys; left = weighed_left; right = weighed_right }) g e t
 
     pub weighed_wide : (¬ TermFits sum x y) → ¬ SumFits start xs ys
-    weighed_wide t f = goes_wide start xs ys k sum x y in_xs in_ys weighed_x weighed_y g t f
+    weighed_wide t f = sums.wide start xs ys k sum x y (record { within_left = in_xs; within_right = in_ys; left = weighed_left; right = weighed_right }) g t f
 
   module _ (h : length law.set ≤ k) where
     past : length xs ≤ k
     past = subst (λ n. n ≤ k) (sym xs_size) h
 
     pub weighed_value : sum ≡ start +ℚ dot xs ys
-    weighed_value = goes_value start xs ys k sum past g
+    weighed_value = sums.value start xs ys k sum past g
 
     pub weighed_fits : SumFits start xs ys
-    weighed_fits = goes_fits start xs ys k sum past g
+    weighed_fits = sums.fits start xs ys k sum past g
 
 -- ---- equal numbers
 both_true : (a b : Bool) → (a && b) ≡ true → (a ≡ true) × (b ≡ true)

@@ -1,40 +1,25 @@
 -- Rows whose multiplier is 0 count for nothing: a certificate refutes a system exactly where its own rows and multipliers do.
-use Rattle.std.proofs.Common.{◌≡◌, ℕ, zero, suc, ◌+◌, ◌-◌, ◌/◌, ◌^◌, ◌<◌, ◌≤◌, ◌⊎◌, inl, inr, ◌↔◌, eqb, true, false, List, [], ◌∷◌, length, get_or, map, ℤ, pos, ◌+ℤ◌, int_div, unsigned_abs, refl, sym, ◌∙◌, ap, subst, arith, ⊎_elim, div-le_self, Some}
+use Rattle.std.proofs.Common.{◌≡◌, ℕ, zero, suc, ◌+◌, ◌-◌, ◌<◌, ◌≤◌, ◌⊎◌, inl, inr, ◌↔◌, eqb, true, false, List, [], ◌∷◌, length, get_or, map, pos, refl, sym, ◌∙◌, ap, subst, arith, ⊎_elim, Some}
 use Rattle.std.specs.Prelude.{slice_get}
 use Rattle.std.specs.List.{range_with_len, AllByRecursion}
 use Rattle.std.proofs.lemmas.Bool.{cases_eq, cond-true, cond-false}
 use Rattle.std.proofs.lemmas.Bool.Decides.{eqb_tells}
 use Rattle.std.proofs.lemmas.List.Elements.{recursion_from_All}
-use Rattle.mpc_exact.specs.Gcd.{gcd}
-use Rattle.mpc_exact.specs.Rational.{ℚ, int, frac, ◌+ℚ◌, ◌*ℚ◌, ◌<ℚ◌, abs-div}
+use Rattle.mpc_exact.specs.Rational.{ℚ, int, ◌+ℚ◌, ◌*ℚ◌, ◌<ℚ◌}
 use Rattle.mpc_exact.proofs.RationalRing.{reads, by_ring}
 use Rattle.mpc_exact.proofs.RationalOrder.{<ℚ_irrefl}
 use Rattle.mpc_exact.proofs.OrderLaws.{≤ℚ_of_≡}
-use Rattle.mpc_frac.specs.Fits.{FitsFrac, FitsSum, left_of_sum, right_of_sum, denom_of_sum}
-use Rattle.mpc_frac.proofs.FracAdd.{denom_of_sum-positive, sum_is}
+use Rattle.mpc_frac.specs.Fits.{FitsFrac}
+use Rattle.mpc_frac.specs.FitLaws.{FitLaws}
 use Rattle.mpc_space.specs.Vector.{coordinate, dot, AllNonneg}
 use Rattle.mpc_linear.specs.Dot.{SumFits}
-use Rattle.mpc_linear.proofs.ZeroFits.{fits_zero, zero_left, nothing_added, same_added}
+use Rattle.mpc_linear.specs.ZeroLaws.{ZeroLaws}
 use Rattle.mpc_rows.specs.declared.systems.Row.{Row}
 use Rattle.mpc_rows.specs.LinearSystem.{LinearSystem, height, no_row}
 use Rattle.mpc_rows.specs.Certificates.{RisesFrom, IsCert}
 use Rattle.mpc_rows.specs.Refutation.{right_sides, WeighsStrict, Refutes, SumsFit}
 use Rattle.mpc_check.specs.Certs.{named_at, multipliers_of, IsPositionIn, HasPositionsIn}
 use Rattle.mpc_check.specs.Picks.{picked_rows, weights, picked_system}
-
--- ---- a sum that fits is a fraction that fits
-below_both : (m n b : ℕ) → m ≤ n → n < b → m < b
-below_both m n b h k = omega arith
-
-frac_small : (n : ℤ) (d : ℕ) → 0 < d → unsigned_abs n < 2 ^ 127 → d < 2 ^ 127 → FitsFrac (frac n d)
-unfolding frac
-frac_small n zero h k l = absurd (omega arith)
-frac_small n (suc d) h k l =
-    let g = gcd (unsigned_abs n) (suc d) in
-    (below_both (unsigned_abs (int_div n (pos g))) (unsigned_abs n) (2 ^ 127) (subst (λ m. m ≤ unsigned_abs n) (sym (abs-div n g)) (div-le_self (unsigned_abs n) g)) k, below_both (suc d / g) (suc d) (2 ^ 127) (div-le_self (suc d) g) l)
-
-sum_small : (x y : ℚ) → FitsSum x y → FitsFrac (x +ℚ y)
-sum_small x y h = subst (λ z. FitsFrac z) (sum_is x y) (frac_small (left_of_sum x y +ℤ right_of_sum x y) (denom_of_sum x y) (denom_of_sum-positive x y) h.sum h.denom)
 
 -- ---- lists without some rows of multiplier 0
 abbrev nought : ℚ
@@ -44,6 +29,13 @@ data Thins : List ℚ → List Row → List ℚ → List Row → Type 0 where
   none : Thins [] [] [] []
   skip : (r : Row) (ms : List ℚ) (rows : List Row) (ws : List ℚ) (picked : List Row) → Thins ms rows ws picked → Thins (int (pos 0) ∷ ms) (r ∷ rows) ws picked
   keep : (m : ℚ) (r : Row) (ms : List ℚ) (rows : List Row) (ws : List ℚ) (picked : List Row) → Thins ms rows ws picked → Thins (m ∷ ms) (r ∷ rows) (m ∷ ws) (r ∷ picked)
+
+-- a product with 0
+no_product : (y : ℚ) → nought *ℚ y ≡ nought
+no_product y = by_ring (y ∷ []) (search reads depth 30) (search reads depth 30) tt
+
+same_added : (s y : ℚ) → s ≡ s +ℚ nought *ℚ y
+same_added s y = by_ring (s ∷ y ∷ []) (search reads depth 30) (search reads depth 30) tt
 
 zero_term : (y d : ℚ) → nought *ℚ y +ℚ d ≡ d
 zero_term y d = by_ring (y ∷ d ∷ []) (search reads depth 30) (search reads depth 30) tt
@@ -56,14 +48,14 @@ thin_dot f _ _ _ _ (keep m r ms rows ws picked h) = ap (λ d. m *ℚ f r +ℚ d)
 thin_fits : (f : Row → ℚ) (s : ℚ) (ms : List ℚ) (rows : List Row) (ws : List ℚ) (picked : List Row) → Thins ms rows ws picked → SumFits s ms (map f rows) → SumFits s ws (map f picked)
 thin_fits f s _ _ _ _ none k = tt
 thin_fits f s _ _ _ _ (skip r ms rows ws picked h) k =
-    thin_fits f s ms rows ws picked h (subst (λ x. SumFits x ms (map f rows)) (sym (same_added s nought (f r) (zero_left nought (f r) refl))) k.1)
+    thin_fits f s ms rows ws picked h (subst (λ x. SumFits x ms (map f rows)) (sym (same_added s (f r))) k.1)
 thin_fits f s _ _ _ _ (keep m r ms rows ws picked h) k = (k.0, thin_fits f (s +ℚ m *ℚ f r) ms rows ws picked h k.1)
 
-whole_fits : (f : Row → ℚ) (s : ℚ) → FitsFrac s → (ms : List ℚ) (rows : List Row) (ws : List ℚ) (picked : List Row) → Thins ms rows ws picked → SumFits s ws (map f picked) → SumFits s ms (map f rows)
-whole_fits f s e _ _ _ _ none k = tt
-whole_fits f s e _ _ _ _ (skip r ms rows ws picked h) k =
-    (nothing_added s nought (f r) e (zero_left nought (f r) refl), subst (λ x. SumFits x ms (map f rows)) (same_added s nought (f r) (zero_left nought (f r) refl)) (whole_fits f s e ms rows ws picked h k))
-whole_fits f s e _ _ _ _ (keep m r ms rows ws picked h) k = (k.0, whole_fits f (s +ℚ m *ℚ f r) (sum_small s (m *ℚ f r) k.0.sum) ms rows ws picked h k.1)
+whole_fits : ZeroLaws → FitLaws → (f : Row → ℚ) (s : ℚ) → FitsFrac s → (ms : List ℚ) (rows : List Row) (ws : List ℚ) (picked : List Row) → Thins ms rows ws picked → SumFits s ws (map f picked) → SumFits s ms (map f rows)
+whole_fits noughts fit f s e _ _ _ _ none k = tt
+whole_fits noughts fit f s e _ _ _ _ (skip r ms rows ws picked h) k =
+    (noughts.no_product_fits s nought (f r) e (no_product (f r)), subst (λ x. SumFits x ms (map f rows)) (same_added s (f r)) (whole_fits noughts fit f s e ms rows ws picked h k))
+whole_fits noughts fit f s e _ _ _ _ (keep m r ms rows ws picked h) k = (k.0, whole_fits noughts fit f (s +ℚ m *ℚ f r) (fit.sum s (m *ℚ f r) k.0.sum) ms rows ws picked h k.1)
 
 thin_nonneg : (ms : List ℚ) (rows : List Row) (ws : List ℚ) (picked : List Row) → Thins ms rows ws picked → AllNonneg ms → AllNonneg ws
 thin_nonneg _ _ _ _ none k = tt
@@ -177,7 +169,7 @@ thinned p (r ∷ rows) [] h b = skip r _ rows [] [] (thinned (p + 1) rows [] tt 
 thinned p (r ∷ rows) (e ∷ cert) h b = thinned_first p r rows e cert h b (λ entries g c. thinned (p + 1) rows entries g c)
 
 -- ---- the tests of a certificate
-module _ (s : LinearSystem) (cert : List (ℕ × ℚ)) (rises : IsCert cert) (within : HasPositionsIn (height s) cert) where
+module _ (noughts : ZeroLaws) (fit : FitLaws) (s : LinearSystem) (cert : List (ℕ × ℚ)) (rises : IsCert cert) (within : HasPositionsIn (height s) cert) where
   abbrev ms : List ℚ
   ms = multipliers_of (height s) cert
 
@@ -195,7 +187,7 @@ module _ (s : LinearSystem) (cert : List (ℕ × ℚ)) (rises : IsCert cert) (wi
   picked_nonneg = (λ h. whole_nonneg ms s.rows (weights cert) (picked_rows s.rows cert) thin h, λ h. thin_nonneg ms s.rows (weights cert) (picked_rows s.rows cert) thin h)
 
   fits_both : (f : Row → ℚ) → SumFits nought (weights cert) (map f (picked_rows s.rows cert)) ↔ SumFits nought ms (map f s.rows)
-  fits_both f = (λ h. whole_fits f nought fits_zero ms s.rows (weights cert) (picked_rows s.rows cert) thin h, λ h. thin_fits f nought ms s.rows (weights cert) (picked_rows s.rows cert) thin h)
+  fits_both f = (λ h. whole_fits noughts fit f nought noughts.zero_fits ms s.rows (weights cert) (picked_rows s.rows cert) thin h, λ h. thin_fits f nought ms s.rows (weights cert) (picked_rows s.rows cert) thin h)
 
   pub picked_fits : SumsFit (picked_system s cert) (weights cert) ↔ SumsFit s ms
   picked_fits = (

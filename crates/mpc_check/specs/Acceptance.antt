@@ -121,3 +121,7 @@ NothingFound = (parts : Parts) (finding : Finding) → Accepts parts → ¬ IsFo
 
 abbrev pub OneFinding : Type 0
 OneFinding = (parts : Parts) (one two : Finding) → IsFound parts one → IsFound parts two → one ≡ two
+
+-- and nothing of a program whose numbers fit and whose pivots are positive
+abbrev pub NoProgramFinding : Type 0
+NoProgramFinding = (plant : Plant) (qp : Qp) (finding : Finding) → IsProgramOf qp plant → IsConvex qp → ¬ ProgramFinds plant finding

@@ -1,5 +1,5 @@
 -- The conditions of Karush, Kuhn and Tucker on a law, as equalities of affine forms, coefficient by coefficient on the extended counts.
-use Rattle.std.specs.Prelude.{◌≡◌, ℕ, ◌+◌, List, [], length, slice_index, slice_index_or, slice_get, Some, pos}
+use Rattle.std.specs.Prelude.{◌≡◌, ℕ, ◌+◌, ◌<◌, List, [], length, slice_index, slice_index_or, slice_get, Some, pos}
 use Rattle.mpc_exact.specs.Rational.{ℚ, int, ◌+ℚ◌}
 use Rattle.mpc_space.specs.Vector.{coordinate, column, dot}
 use Rattle.mpc_space.specs.Matrix.{height, entry}
@@ -8,6 +8,7 @@ use Rattle.mpc_rows.specs.declared.programs.Qp.{Qp}
 use Rattle.mpc_rows.specs.declared.laws.Law.{Law}
 use Rattle.mpc_rows.specs.declared.places.Place.TheVariants.{CheckLaw}
 use Rattle.mpc_rows.specs.ActiveSets.{row_of, rows_of}
+use Rattle.mpc_rows.specs.Laws.{HasLawShape, IsLaw}
 use Rattle.mpc_check.specs.declared.answers.Spot.TheVariants.{Stationary, Active}
 use Rattle.mpc_check.specs.Findings.{Finding, IsMet, IsUnmet, Each, IsFirstOf, IsFirstOfTwo}
 
@@ -103,3 +104,15 @@ LawsMet qp laws = Each (LawAtMet qp laws) (length laws)
 
 abbrev pub LawsFind : Qp → List Law → Finding → Type 0
 LawsFind qp laws = IsFirstOf (LawAtMet qp laws) (LawAtFinds qp laws) (length laws)
+
+-- ---- what the conditions say of a law
+-- the law of its set meets them
+abbrev pub LawIsStationary : Type 0
+LawIsStationary = (qp : Qp) (law : Law) → IsLaw qp law → (r c : ℕ) → c < length qp.counts + 1 → IsStationaryAt qp law r c
+
+abbrev pub LawIsActive : Type 0
+LawIsActive = (qp : Qp) (law : Law) → IsLaw qp law → (k c : ℕ) → k < length law.set → c < length qp.counts + 1 → IsActiveAt qp law (slice_index law.set k) c
+
+-- and what meets them is the law of its set
+abbrev pub MeetingIsLaw : Type 0
+MeetingIsLaw = (qp : Qp) (law : Law) → HasLawShape qp law → LawMet qp law → IsLaw qp law

@@ -12,7 +12,7 @@ use Rattle.mpc_rows.specs.declared.places.Place.TheVariants.{CheckLeaf}
 use Rattle.mpc_rows.specs.LawRows.{IsLawRow, LawRowFits}
 use Rattle.mpc_file.specs.Replies.{IsLawNumbered}
 use Rattle.mpc_check.specs.declared.answers.Spot.TheVariants.{LeafRow, Leaf}
-use Rattle.mpc_check.specs.Systems.{failing_system, joint_system}
+use Rattle.mpc_systems.specs.Systems.{hold_system, joint_system}
 use Rattle.mpc_check.specs.Paths.{PathTo}
 use Rattle.mpc_check.specs.Certs.{CertRefutes, CertFits}
 use Rattle.mpc_check.specs.Findings.{Finding, IsMet, IsUnmet, Each, IsFirstOf}
@@ -24,12 +24,12 @@ pub record RowHolds (qp : Qp) (path : List Row) (law : LawOfSet) (certs : List (
   pub is_row : IsLawRow qp law (i + 1) row
   pub cert : List (ℕ × ℚ)
   pub is_cert : slice_get certs i ≡ Some cert
-  pub refutes : CertRefutes (failing_system qp path row) cert
+  pub refutes : CertRefutes (hold_system qp path row) cert
 
 -- the numbers that form the row fit, and then the certificate's sums, where there is one
 pub record RowFits (qp : Qp) (path : List Row) (law : LawOfSet) (certs : List (List (ℕ × ℚ))) (i : ℕ) : Type 0 where
   pub row_fits : LawRowFits qp law (i + 1)
-  pub sums_fit : (row : RowInt) (cert : List (ℕ × ℚ)) → IsLawRow qp law (i + 1) row → slice_get certs i ≡ Some cert → CertFits (failing_system qp path row) cert
+  pub sums_fit : (row : RowInt) (cert : List (ℕ × ℚ)) → IsLawRow qp law (i + 1) row → slice_get certs i ≡ Some cert → CertFits (hold_system qp path row) cert
 
 abbrev pub LeafRowMet : Qp → List Row → LawOfSet → List (List (ℕ × ℚ)) → ℕ → Type 0
 LeafRowMet qp path law certs i = IsMet (RowFits qp path law certs i) (RowHolds qp path law certs i)

@@ -1,5 +1,4 @@
 pub mod Widths
-pub mod Systems
 pub mod Paths
 pub mod Certs
 pub mod Picks

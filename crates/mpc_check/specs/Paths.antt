@@ -13,3 +13,7 @@ pub data PathTo (nodes : List Node) : ℕ → List Row → Type 0 where
   root : PathTo nodes 0 []
   yes_side : (place : ℕ) (row : RowInt) (path : List Row) → PathTo nodes place path → slice_get nodes place ≡ Some (Split row) → PathTo nodes (place + 1) (path ++ whole_row row ∷ [])
   no_side : (place next : ℕ) (row : RowInt) (path : List Row) → PathTo nodes place path → slice_get nodes place ≡ Some (Split row) → IsNoSide nodes place next → PathTo nodes next (path ++ broken_row row ∷ [])
+
+-- a node has one path
+abbrev pub OnePath : Type 0
+OnePath = (nodes : List Node) (place : ℕ) (one : List Row) → PathTo nodes place one → (two : List Row) → PathTo nodes place two → one ≡ two

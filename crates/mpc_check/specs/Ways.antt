@@ -8,10 +8,11 @@ use Rattle.mpc_rows.specs.declared.trees.Node.{Node}
 use Rattle.mpc_rows.specs.declared.trees.Node.TheVariants.{Split, Law, NoMove}
 use Rattle.mpc_rows.specs.LinearSystem.{LinearSystem}
 use Rattle.mpc_rows.specs.LawRows.{whole_row, broken_row}
+use Rattle.mpc_systems.specs.Writing.{widened}
+use Rattle.mpc_systems.specs.Systems.{cell_system}
 use Rattle.mpc_file.specs.Parts.{IsSplitRow}
 use Rattle.mpc_file.specs.Preorder.{IsTree, IsNoSide}
 use Rattle.mpc_check.specs.declared.ways.Turn.{Turn}
-use Rattle.mpc_check.specs.Systems.{leaf_system, widened}
 
 -- each split's row is on states of n entries
 abbrev pub HasSplitRow : ℕ → Node → Type 0
@@ -48,7 +49,7 @@ way_rows nodes way = map (turn_row nodes) way
 
 -- the system of a leaf, in so many more unknowns than there are coordinates: the box, the way's rows, and some more rows
 abbrev pub system_at : Qp → List Node → List Turn → ℕ → List Row → LinearSystem
-system_at qp nodes way more last = leaf_system (length qp.counts + more) qp.counts (map (widened more) (way_rows nodes way)) last
+system_at qp nodes way more last = cell_system (length qp.counts + more) qp.counts (map (widened more) (way_rows nodes way)) last
 
 -- ---- ways
 abbrev pub turn_at : ℕ → Bool → Turn

@@ -14,7 +14,8 @@ ghost use Rattle.mpc_check.specs.Widths.{IsOfWidth};
 use crate::answers::CheckError;
 use crate::rows::system_row;
 use crate::ways::Turn;
-use mpc_frac::NoMemory;
+use mpc_frac::{NoMemory, fit_laws};
+use mpc_linear::zero_laws;
 use mpc_rows::{Cert, Multipliers, Place, Qp, Row, System, Tree, refutes};
 use std::alloc::Global;
 
@@ -106,6 +107,8 @@ pub fn is_refuted(
     ensures { IsDecided (CertFits (system_at qp.now tree.now way.now more last.now) cert.now)
         (CertRefutes (system_at qp.now tree.now way.now more last.now) cert.now) place result }
 {
+    zero_laws();
+    fit_laws();
     let rows = 2 * qp.counts.len() as u128 + way.len() as u128 + last.len() as u128;
     if !has_positions_in(cert, rows) {
         return Ok(false);

@@ -14,6 +14,7 @@ use mpc_file::Controller;
 use mpc_plant::Plant;
 use mpc_rows::{Place, Qp};
 use std::alloc::Global;
+use std::thread::Threads;
 
 /// The program of the plant.
 fn program(alloc: Global, plant: &Plant) -> Result<Qp, CheckError>
@@ -64,7 +65,19 @@ fn search(alloc: Global, qp: &Qp, controller: &Controller) -> Result<Option<Spot
 /// The conditions come in the order of condensing, the pivots, the laws with their lines and members, and the leaves in preorder with
 /// their rows. The first that isn't met answers: as `Refused` with its spot, as `Wide` with its place where one of its numbers needs
 /// more than 128 bits, or as `NotDefinite` with the first pivot that isn't positive.
-pub fn check(alloc: Global, controller: &Controller) -> Result<Answer, CheckError>
+pub fn check<T: Threads + Sync>(
+    _rt: &T,
+    alloc: Global,
+    controller: &Controller,
+) -> Result<Answer, CheckError>
+    ensures answer { IfOk result (IsAnswer controller.now) }
+    ensures cause { IfErr result (IsCause controller.now) }
+{
+    check_alone(alloc, controller)
+}
+
+/// What [`check`] answers, without a runtime, as it is called from a static library.
+pub fn check_alone(alloc: Global, controller: &Controller) -> Result<Answer, CheckError>
     ensures answer { IfOk result (IsAnswer controller.now) }
     ensures cause { IfErr result (IsCause controller.now) }
 {

@@ -1,17 +1,50 @@
-//! What acceptance means.
+//! What acceptance means, and what the conditions say.
 
-ghost use Rattle.mpc_check.specs.Acceptance.{AcceptedIsRight, NothingFound, OneFinding};
+ghost use Rattle.mpc_check.specs.Acceptance.{AcceptedIsRight, NothingFound, NoProgramFinding, OneFinding};
+ghost use Rattle.mpc_check.specs.LawConditions.{LawIsStationary, LawIsActive, MeetingIsLaw};
+ghost use Rattle.mpc_check.specs.Paths.{OnePath};
+
+use mpc_best::{best_replies, one_program};
+use mpc_condense::place_laws;
+use mpc_rows::{law_laws, region_laws, system_laws};
+use mpc_systems::cell_laws;
 
 /// At every point of the plant's box, also between the states of the grid, the reply of an accepted controller is right: the first move of
 /// the unique cheapest admissible sequence, and `infeasible` only where no sequence is admissible (Karush 1939, Kuhn and Tucker 1951). The
 /// call does nothing: its contract is the law.
 pub fn accepted_replies()
     ensures { AcceptedIsRight }
-{}
+{
+    system_laws();
+    cell_laws();
+    region_laws();
+    law_laws();
+    best_replies();
+}
 
-/// An accepted controller has no finding, and of any controller at most one thing is found, so that each answer of a check but want of
-/// memory comes exactly where its cause holds. The call does nothing: its clauses are the law.
+/// An accepted controller has no finding, nor has a program whose numbers fit and whose pivots are positive, and of any controller at most
+/// one thing is found, so that each answer of a check but want of memory comes exactly where its cause holds. The call does nothing: its
+/// clauses are the law.
 pub fn one_finding()
     ensures accepted { NothingFound }
+    ensures program { NoProgramFinding }
     ensures one { OneFinding }
+{
+    one_program();
+    place_laws();
+}
+
+/// A law is that of its set exactly where it meets the conditions coefficient by coefficient. The call does nothing: its clauses are the
+/// law.
+pub fn law_conditions()
+    ensures stationary { LawIsStationary }
+    ensures active { LawIsActive }
+    ensures of_set { MeetingIsLaw }
+{
+    law_laws();
+}
+
+/// A node of a search tree has one path. The call does nothing: its contract is the law.
+pub fn one_path()
+    ensures { OnePath }
 {}

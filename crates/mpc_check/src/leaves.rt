@@ -4,19 +4,19 @@ ghost use Rattle.std.specs.Prelude.{◌≡◌, ◌+◌, ◌-◌, ◌<◌, ◌≤
 ghost use Rattle.mpc_space.specs.Matrix.{height};
 ghost use Rattle.mpc_rows.specs.Laws.{HasLawShape};
 ghost use Rattle.mpc_rows.specs.declared.places.Place.TheVariants.{CheckLeaf};
+ghost use Rattle.mpc_systems.specs.Systems.{joint_system};
 ghost use Rattle.mpc_file.specs.Preorder.{IsTree};
 ghost use Rattle.mpc_check.specs.Certs.{CertFits, CertRefutes};
 ghost use Rattle.mpc_check.specs.Findings.{IsSearched, IsDecided};
 ghost use Rattle.mpc_check.specs.LeafConditions.{RowFits, RowHolds, LawLeafMet, LawLeafFinds, EmptyLeafMet, EmptyLeafFinds, NodeMet, NodeFinds, NodeAtMet, NodeAtFinds, TreeMet, TreeFinds};
-ghost use Rattle.mpc_check.specs.Systems.{joint_system};
 ghost use Rattle.mpc_check.specs.Ways.{HasSplitRow, NamesLaw, IsTurn, IsWay, way_rows};
 
 use crate::answers::{CheckError, Spot};
 use crate::certs::is_refuted;
-use crate::rows::{broken_row, joint_rows};
 use crate::ways::{Turn, go_on};
 use mpc_linear::LinearError;
-use mpc_rows::{Cert, Certs, Law, LawTable, Node, Place, Qp, Rows, Tree, law_row};
+use mpc_rows::{Cert, Certs, Law, LawTable, Node, Place, Qp, Rows, Tree, law_laws, law_row};
+use mpc_systems::{broken_row, cell_laws, joint_rows};
 use std::alloc::Global;
 
 /// Whether row i of the leaf's law, counted from 0, has a certificate that it holds on the leaf's cell.
@@ -37,6 +37,7 @@ fn is_row_refuted(
     ensures { IsDecided (RowFits qp.now (way_rows tree.now way.now) law.now certs.now i)
         (RowHolds qp.now (way_rows tree.now way.now) law.now certs.now i) (CheckLeaf number (i + 1)) result }
 {
+    law_laws();
     let place = Place::CheckLeaf(number, i + 1);
     let row = match law_row(alloc, qp, law, i + 1) {
         Ok(row) => row,
@@ -47,7 +48,7 @@ fn is_row_refuted(
         return Ok(false);
     }
     let mut last = Rows::new(alloc);
-    last.push(broken_row(alloc, &row, 0)?)?;
+    last.push(broken_row(alloc, &row)?)?;
     is_refuted(
         alloc,
         qp,
@@ -105,6 +106,7 @@ fn is_cell_refuted(
     ensures { IsDecided (CertFits (joint_system qp.now (way_rows tree.now way.now)) cert.now)
         (CertRefutes (joint_system qp.now (way_rows tree.now way.now)) cert.now) (CheckLeaf number 0) result }
 {
+    cell_laws();
     let last = joint_rows(alloc, qp)?;
     let unknowns = qp.h.rows();
     let place = Place::CheckLeaf(number, 0);

@@ -14,5 +14,5 @@ mod tests;
 mod ways;
 
 pub use answers::{Answer, CheckError, Spot};
-pub use checks::check;
-pub use laws::{accepted_replies, one_finding};
+pub use checks::{check, check_alone};
+pub use laws::{accepted_replies, law_conditions, one_finding, one_path};

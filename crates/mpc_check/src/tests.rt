@@ -8,7 +8,7 @@ ghost use Rattle.mpc_file.specs.Certificates.{IsCertOver, HaveCerts};
 ghost use Rattle.mpc_file.specs.Walk.{IsLeaf};
 
 use crate::certs::has_positions_in;
-use crate::{Answer, CheckError, Spot, check};
+use crate::{Answer, CheckError, Spot, check, check_alone};
 use mpc_file::Controller;
 use mpc_frac::{Frac, NoMemory};
 use mpc_linear::Matrix;
@@ -169,6 +169,7 @@ fn bare_leaf(laws: &LawTable, cert: Cert) -> Option<Node>
 
 /// What is found of the controller with one leaf, for a plant with so many rows.
 fn found(
+    rt: &HostRuntime,
     alloc: Global,
     plant: Plant,
     laws: LawTable,
@@ -193,12 +194,24 @@ fn found(
     let Ok(controller) = Controller::seal(alloc, plant, laws, tree) else {
         return None;
     };
-    Some(check(alloc, &controller))
+    let alone = check_alone(alloc, &controller);
+    match (check(rt, alloc, &controller), alone) {
+        (Ok(answer), Ok(other)) if answer != other => None,
+        (found, _) => Some(found),
+    }
 }
 
 /// The file of `x[k+1] = x[k] + u[k]`, one step, without rows.
 const FREE: &[u8] =
     b"{\"version\":1,\"horizon\":1,\"A\":[[1]],\"B\":[[1]],\"Q\":[[1]],\"R\":[[1]],\"P\":[[1]],\"grid\":[{\"low\":-4,\"step\":1,\"count\":8}]}";
+
+/// The same with a drift of 1 and the input held at 1, which has the same law.
+const DRIVEN: &[u8] =
+    b"{\"version\":2,\"horizon\":1,\"A\":[[1]],\"B\":[[1]],\"Q\":[[1]],\"R\":[[1]],\"P\":[[1]],\"drift\":[1],\"ugoal\":[1],\"grid\":[{\"low\":-4,\"step\":1,\"count\":8}]}";
+
+/// The same with the drift alone, which has another.
+const DRIFTING: &[u8] =
+    b"{\"version\":2,\"horizon\":1,\"A\":[[1]],\"B\":[[1]],\"Q\":[[1]],\"R\":[[1]],\"P\":[[1]],\"drift\":[1],\"grid\":[{\"low\":-4,\"step\":1,\"count\":8}]}";
 
 /// The same, where the weight of the move makes the cost indefinite.
 const INDEFINITE: &[u8] =
@@ -217,39 +230,49 @@ const EMPTY: &[u8] =
     b"{\"version\":1,\"horizon\":1,\"A\":[[1]],\"B\":[[1]],\"Q\":[[1]],\"R\":[[1]],\"P\":[[1]],\"rows\":[{\"u\":[1],\"max\":-1},{\"u\":[-1],\"max\":-1}],\"grid\":[{\"low\":-4,\"step\":1,\"count\":8}]}";
 
 /// The one law of no row, with the move `2 + slope t`, for a plant without rows.
-fn free(alloc: Global, file: &[u8], slope: Frac) -> Option<Result<Answer, CheckError>> {
+fn free(
+    rt: &HostRuntime,
+    alloc: Global,
+    file: &[u8],
+    slope: Frac,
+) -> Option<Result<Answer, CheckError>> {
     let plant = read_plant(alloc, file).ok()?;
     let mut laws = LawTable::new(alloc);
     add_law(alloc, &plant, &mut laws, 0, 2, slope, (0, 0))?;
     let leaf = leaf(alloc, &laws)?;
-    found(alloc, plant, laws, leaf, 0)
+    found(rt, alloc, plant, laws, leaf, 0)
 }
 
 /// The same with the row that always holds, and a certificate at this position.
-fn idle(alloc: Global, position: u64) -> Option<Result<Answer, CheckError>> {
+fn idle(rt: &HostRuntime, alloc: Global, position: u64) -> Option<Result<Answer, CheckError>> {
     let plant = read_plant(alloc, IDLE).ok()?;
     let half = Frac::new(-1, 2).ok()?;
     let mut laws = LawTable::new(alloc);
     add_law(alloc, &plant, &mut laws, 0, 2, half, (0, 0))?;
     let leaf = leaf_with(alloc, &laws, cert(alloc, position, 0)?)?;
-    found(alloc, plant, laws, leaf, 1)
+    found(rt, alloc, plant, laws, leaf, 1)
 }
 
 /// The law of the bound, with the move 2 and the multiplier `-t`.
-fn bounded(alloc: Global) -> Option<Result<Answer, CheckError>> {
+fn bounded(rt: &HostRuntime, alloc: Global) -> Option<Result<Answer, CheckError>> {
     let plant = read_plant(alloc, BOUNDED).ok()?;
     let mut laws = LawTable::new(alloc);
     add_law(alloc, &plant, &mut laws, 1, 2, Frac::whole(0), (0, -1))?;
     let leaf = leaf_with(alloc, &laws, cert(alloc, 3, 0)?)?;
-    found(alloc, plant, laws, leaf, 1)
+    found(rt, alloc, plant, laws, leaf, 1)
 }
 
 /// No law, and a certificate at these positions that nothing is admissible.
-fn empty(alloc: Global, first: u64, second: u64) -> Option<Result<Answer, CheckError>> {
+fn empty(
+    rt: &HostRuntime,
+    alloc: Global,
+    first: u64,
+    second: u64,
+) -> Option<Result<Answer, CheckError>> {
     let plant = read_plant(alloc, EMPTY).ok()?;
     let laws = LawTable::new(alloc);
     let leaf = bare_leaf(&laws, cert(alloc, first, second)?)?;
-    found(alloc, plant, laws, leaf, 2)
+    found(rt, alloc, plant, laws, leaf, 2)
 }
 
 /// Whether this was found.
@@ -272,18 +295,38 @@ fn is_not_definite(found: &Result<Answer, CheckError>, pivot: u32) -> bool {
 fn accepts(rt: HostRuntime) -> Result<(), Fail> {
     let alloc = rt.alloc();
     let half = Frac::new(-1, 2)?;
-    assert!(rt; is(&free(alloc, FREE, half).ok_or("none")?, Answer::Accepted));
-    assert!(rt; is(&idle(alloc, 3).ok_or("none")?, Answer::Accepted));
-    assert!(rt; is(&empty(alloc, 3, 4).ok_or("none")?, Answer::Accepted));
+    assert!(rt;
+        is(
+            &free(&rt, alloc, FREE, half).ok_or("none")?,
+            Answer::Accepted
+        )
+    );
+    assert!(rt; is(&idle(&rt, alloc, 3).ok_or("none")?, Answer::Accepted));
+    assert!(rt; is(&empty(&rt, alloc, 3, 4).ok_or("none")?, Answer::Accepted));
+    Ok(())
+}
+
+#[test]
+fn checks_drift_and_targets(rt: HostRuntime) -> Result<(), Fail> {
+    let alloc = rt.alloc();
+    let half = Frac::new(-1, 2)?;
+    assert!(rt;
+        is(
+            &free(&rt, alloc, DRIVEN, half).ok_or("none")?,
+            Answer::Accepted
+        )
+    );
+    let line = free(&rt, alloc, DRIFTING, half).ok_or("none")?;
+    assert!(rt; is(&line, Answer::Refused(Spot::Stationary { law: 1, line: 1 })));
     Ok(())
 }
 
 #[test]
 fn refuses_laws(rt: HostRuntime) -> Result<(), Fail> {
     let alloc = rt.alloc();
-    let line = free(alloc, FREE, Frac::new(-1, 3)?).ok_or("none")?;
+    let line = free(&rt, alloc, FREE, Frac::new(-1, 3)?).ok_or("none")?;
     assert!(rt; is(&line, Answer::Refused(Spot::Stationary { law: 1, line: 1 })));
-    let member = bounded(alloc).ok_or("none")?;
+    let member = bounded(&rt, alloc).ok_or("none")?;
     assert!(rt; is(&member, Answer::Refused(Spot::Active { law: 1, row: 1 })));
     Ok(())
 }
@@ -291,9 +334,9 @@ fn refuses_laws(rt: HostRuntime) -> Result<(), Fail> {
 #[test]
 fn refuses_leaves(rt: HostRuntime) -> Result<(), Fail> {
     let alloc = rt.alloc();
-    let other = idle(alloc, 1).ok_or("none")?;
+    let other = idle(&rt, alloc, 1).ok_or("none")?;
     assert!(rt; is(&other, Answer::Refused(Spot::LeafRow { node: 1, row: 1 })));
-    let short = empty(alloc, 3, 0).ok_or("none")?;
+    let short = empty(&rt, alloc, 3, 0).ok_or("none")?;
     assert!(rt; is(&short, Answer::Refused(Spot::Leaf { node: 1 })));
     Ok(())
 }
@@ -301,7 +344,7 @@ fn refuses_leaves(rt: HostRuntime) -> Result<(), Fail> {
 #[test]
 fn finds_bad_pivots(rt: HostRuntime) -> Result<(), Fail> {
     let half = Frac::new(-1, 2)?;
-    let found = free(rt.alloc(), INDEFINITE, half).ok_or("none")?;
+    let found = free(&rt, rt.alloc(), INDEFINITE, half).ok_or("none")?;
     assert!(rt; is_not_definite(&found, 1));
     Ok(())
 }

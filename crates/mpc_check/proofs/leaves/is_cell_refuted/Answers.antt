@@ -1,9 +1,10 @@
 use Rattle.std.proofs.Common.{◌≡◌, ◌+◌, length, sym, ◌∙◌, subst, All}
 use Rattle.mpc_space.specs.Matrix.{height}
 use Rattle.mpc_rows.specs.SetRuns.{joint_rows}
-use Rattle.mpc_check.specs.Ways.{system_at}
+use Rattle.mpc_systems.specs.Systems.{joint_system}
+use Rattle.mpc_check.specs.Ways.{way_rows, system_at}
 use Rattle.mpc_check.specs.Widths.{IsOfWidth}
-use Rattle.mpc_check.proofs.LeafPoints.{joint_rows_wide}
+use Rattle.mpc_check.proofs.RowWidths.{joint_rows_wide}
 use Rattle.mpc_check.proofs.LeafLemmas.{whole_system, decided_there}
 use Rattle.mpc_check.proofs.leaves.is_cell_refuted.Goals as goal
 
@@ -11,10 +12,10 @@ pub is_refuted-requires-clause-last : goal.is_refuted-requires-clause-last
 is_refuted-requires-clause-last c =
     let last : c.as_slice.result.now ≡ joint_rows c.args.qp.now = c.as_slice.ensures ∙ c.in_ok-last.ensures in
     subst (λ u. All (IsOfWidth (length c.args.qp.now.counts + u)) c.as_slice.result.now) (sym c.rows-unknowns.ensures.value)
-    (subst (λ rows. All (IsOfWidth (length c.args.qp.now.counts + height c.args.qp.now.h)) rows) (sym last) (joint_rows_wide c.args.qp.now))
+    (subst (λ rows. All (IsOfWidth (length c.args.qp.now.counts + height c.args.qp.now.h)) rows) (sym last) (joint_rows_wide c.cell_laws.ensures.joint_width c.args.qp.now))
 
 pub returns : goal.returns
 returns c =
     let last : c.as_slice.result.now ≡ joint_rows c.args.qp.now = c.as_slice.ensures ∙ c.in_ok-last.ensures in
-    decided_there (system_at c.args.qp.now c.args.tree.now c.args.way.now c.rows-unknowns.result c.as_slice.result.now) (system_at c.args.qp.now c.args.tree.now c.args.way.now (height c.args.qp.now.h) (joint_rows c.args.qp.now))
-    (whole_system c.args.qp.now c.args.tree.now c.args.way.now c.rows-unknowns.result c.as_slice.result.now (joint_rows c.args.qp.now) (height c.args.qp.now.h) c.rows-unknowns.ensures.value last) c.args.cert.now _ c.is_refuted.result c.is_refuted.ensures
+    decided_there (system_at c.args.qp.now c.args.tree.now c.args.way.now c.rows-unknowns.result c.as_slice.result.now) (joint_system c.args.qp.now (way_rows c.args.tree.now c.args.way.now))
+    (whole_system c.args.qp.now c.args.tree.now c.args.way.now c.rows-unknowns.result c.as_slice.result.now c.rows-unknowns.ensures.value last) c.args.cert.now _ c.is_refuted.result c.is_refuted.ensures

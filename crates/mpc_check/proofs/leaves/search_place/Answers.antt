@@ -1,5 +1,5 @@
 use Rattle.std.proofs.Common.{length}
-use Rattle.mpc_file.proofs.BoundLemmas.{all_at}
+use Rattle.mpc_check.proofs.ElementLemmas.{all_at}
 use Rattle.mpc_check.specs.Ways.{NamesLaw}
 use Rattle.mpc_check.proofs.LeafLemmas.{node_there}
 use Rattle.mpc_check.proofs.WayLemmas.{turns_of_way}

@@ -2,9 +2,9 @@ use Rattle.std.proofs.Common.{◌≡◌, ◌+◌, ◌-◌, ◌*◌, ◌<◌, len
 use Rattle.std.proofs.lemmas.List.{get_or_default}
 use Rattle.mpc_rows.specs.SetRuns.{box_rows}
 use Rattle.mpc_rows.specs.LinearSystem.{no_row}
-use Rattle.mpc_check.specs.Systems.{widened}
+use Rattle.mpc_systems.specs.Writing.{widened}
 use Rattle.mpc_check.specs.Ways.{way_rows}
-use Rattle.mpc_check.proofs.RowWriting.{same_value, box_count, in_box, in_path, in_last}
+use Rattle.mpc_check.proofs.RowPlaces.{same_value, box_count, in_box, in_path, in_last}
 use Rattle.mpc_check.proofs.SplitRows.{way_row, way_count}
 use Rattle.mpc_check.proofs.rows.system_row.Goals as goal
 
@@ -39,8 +39,8 @@ returns c =
     let states = c.len-states.ensures in
     let behind : c.args.place - 2 * c.len-states.result - length c.args.way.now ≡ c.args.place - 2 * length counts - length c.args.way.now = ap (λ n. c.args.place - 2 * n - length c.args.way.now) states in
     let inside : c.args.place - 2 * c.len-states.result - length c.args.way.now < length c.args.last.now = omega (arith, c.if-place-states.false, c.if-behind-way.false, c.requires.place) in
-    same_value c.copy_of.result _ _
+    same_value c.copy.result _ _
     (c.index-last-behind.is ∙ get_or_default c.args.last.now (c.args.place - 2 * c.len-states.result - length c.args.way.now) c.index-last-behind.result no_row inside
     ∙ ap (λ i. get_or c.args.last.now i no_row) behind
     ∙ in_last (box_rows width counts) path c.args.last.now (2 * length counts) (length c.args.way.now) c.args.place (box_count width 0 counts) (way_count c.args.tree.now c.args.way.now c.args.more) (omega (arith, c.if-place-states.false)) (omega (arith, c.if-behind-way.false)))
-    c.copy_of.ensures
+    c.copy.ensures

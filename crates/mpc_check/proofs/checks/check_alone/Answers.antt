@@ -2,7 +2,7 @@ use Rattle.std.proofs.Common.{Ok, inr, ◌∙◌, ap, subst}
 use Rattle.mpc_check.specs.Findings.{IsSearched}
 use Rattle.mpc_check.specs.Acceptance.{IsProgramOf, IsConvex, BehindMet, BehindFinds}
 use Rattle.mpc_check.proofs.CheckLemmas.{convex_cause, behind_cause}
-use Rattle.mpc_check.proofs.checks.check.Goals as goal
+use Rattle.mpc_check.proofs.checks.check_alone.Goals as goal
 
 pub returns-in-Err-test_convex-clause-cause : goal.returns-in-Err-test_convex-clause-cause
 returns-in-Err-test_convex-clause-cause c =

@@ -1,7 +1,0 @@
-use Rattle.std.proofs.Common.{◌≡◌}
-use Rattle.mpc_space.specs.Vector.{listed}
-use Rattle.mpc_check.proofs.RowWriting.{axis_at}
-use Rattle.mpc_check.proofs.rows.axis.Given as goal
-
-abbrev pub invariant-loop-j : goal.invariant-loop-j
-invariant-loop-j l = l.a ≡ listed l.j (axis_at l.i l.value)

@@ -1,7 +1,0 @@
-use Rattle.std.proofs.Common.{◌≡◌, ◌-◌, map}
-use Rattle.std.specs.List.{range_with_len}
-use Rattle.mpc_rows.specs.SetRuns.{joint_row}
-use Rattle.mpc_check.proofs.rows.joint_rows.Given as goal
-
-abbrev pub invariant-loop-i : goal.invariant-loop-i
-invariant-loop-i l = l.rows ≡ map (joint_row l.qp) (range_with_len 1 (l.i - 1))
