@@ -16,11 +16,11 @@ use Rattle.mpc_rows.specs.LawRows.{AreLawRows, whole_row}
 use Rattle.mpc_rows.specs.Candidates.{IsTable}
 use Rattle.mpc_rows.specs.SetRuns.{box_rows, region_system}
 use Rattle.mpc_rows.specs.LawLaws.{LawLaws}
-use Rattle.mpc_rows.specs.RegionLaws.{RegionLaws}
+use Rattle.mpc_systems.specs.CellLaws.{CellLaws}
 use Rattle.mpc_tree.specs.Cells.{LiesInRegion, NoneMeetsBefore, IsFirstToMeet, IsFirstToFail}
 use Rattle.mpc_tree.specs.Trees.{Cell, Divides, IsOfLaw, IsLeafOf}
 use Rattle.mpc_tree.specs.Certified.{AreLaws}
-use Rattle.mpc_tree.proofs.CellPoints.{All-split}
+use Rattle.mpc_tree.proofs.CellPoints.{region_row}
 
 -- the laws of a table
 pub laws_of_table : (qp : Qp) (laws : List Law) → IsTable qp laws → AreLaws qp laws
@@ -57,17 +57,8 @@ one_failing_row single qp law cell r s f g =
     same_item f.rows f.place g.place r s place f.is is
 
 -- ---- no row of a law fails on a cell that lies in its region
-holds_in_region : (points : RegionLaws) (qp : Qp) (law : Law) → IsLaw qp law → (rows : List RowInt) → AreLawRows qp law rows → (t : List ℚ) → IsInRegion qp law t → All (MeetsRow t) (map whole_row rows)
-unfolding region_system
-holds_in_region points qp law is rows are t r =
-    let point : IsPoint (region_system qp rows) t = (points.region_points qp law is rows are t).0 r in
-    (All-split (MeetsRow t) (box_rows (length qp.counts) qp.counts) (map whole_row rows) point.meets).1
-
-pub fails_not_inside : (points : RegionLaws) (qp : Qp) (law : Law) → IsLaw qp law → (cell : List Row) (row : RowInt) → IsFirstToFail qp law cell row → ¬ LiesInRegion qp cell law
-fails_not_inside points qp law is cell row f lies =
-    let all = holds_in_region points qp law is f.rows f.of_law f.fails.state (lies.each f.fails.state f.fails.in_cell) in
-    let there : slice_get (map whole_row f.rows) f.place ≡ Some (whole_row row) = slice_get-map whole_row f.rows f.place ∙ ap (option_map whole_row) f.is in
-    f.fails.fails (All-contains (MeetsRow f.fails.state) (map whole_row f.rows) (whole_row row) all (is_member (map whole_row f.rows) f.place (whole_row row) there))
+pub fails_not_inside : (points : CellLaws) (qp : Qp) (law : Law) → IsLaw qp law → (cell : List Row) (row : RowInt) → IsFirstToFail qp law cell row → ¬ LiesInRegion qp cell law
+fails_not_inside points qp law is cell row f lies = f.fails.fails (region_row points qp law is f.rows f.of_law f.fails.state (lies.each f.fails.state f.fails.in_cell) f.place row f.is)
 
 -- ---- a cell is divided once, or has a leaf of one law, or a leaf without a law
 module _ (qp : Qp) (laws : List Law) (cell : Cell) where
@@ -78,12 +69,12 @@ module _ (qp : Qp) (laws : List Law) (cell : Cell) where
         one_failing_row single qp d.law cell.rows r s d.fails (subst (λ l. IsFirstToFail qp l cell.rows s) law e.fails),
       )
 
-  pub divides_of_no_law : RegionLaws → AreLaws qp laws → (p number : ℕ) (r : RowInt) → Divides qp laws cell p r → ¬ IsOfLaw qp laws cell number
+  pub divides_of_no_law : CellLaws → AreLaws qp laws → (p number : ℕ) (r : RowInt) → Divides qp laws cell p r → ¬ IsOfLaw qp laws cell number
   divides_of_no_law points are p number r d l =
       let law : l.law ≡ d.law = one_first_law qp laws cell.rows l.place p l.law d.law l.first d.first in
       fails_not_inside points qp d.law (are d.law (is_member laws p d.law d.first.is)) cell.rows r d.fails (subst (LiesInRegion qp cell.rows) law l.lies_in)
 
-  pub divides_not_leaf : RegionLaws → AreLaws qp laws → (p : ℕ) (r : RowInt) (node : Node) → Divides qp laws cell p r → ¬ IsLeafOf qp laws cell node
+  pub divides_not_leaf : CellLaws → AreLaws qp laws → (p : ℕ) (r : RowInt) (node : Node) → Divides qp laws cell p r → ¬ IsLeafOf qp laws cell node
   divides_not_leaf points are p r (Split row) d h = h
   divides_not_leaf points are p r (LawLeaf number certs) d h = divides_of_no_law points are p number r d h
   divides_not_leaf points are p r (NoMove cert) d h = none_not_first qp laws cell.rows p d.law d.first h

@@ -6,7 +6,6 @@ use Rattle.mpc_rows.specs.declared.programs.Qp.{Qp}
 use Rattle.mpc_rows.specs.declared.laws.Law.{Law}
 use Rattle.mpc_rows.specs.declared.places.Place.TheVariants.{Joint}
 use Rattle.mpc_rows.specs.declared.trees.Node.TheVariants.{Law as LawLeaf, NoMove}
-use Rattle.mpc_rows.specs.RegionLaws.{RegionLaws}
 use Rattle.mpc_rows.specs.RunWidth.{RunFits}
 use Rattle.mpc_tree.specs.declared.errors.TreeError.{TreeError}
 use Rattle.mpc_tree.specs.declared.errors.TreeError.TheVariants.{Wide, NoMemory}
@@ -14,6 +13,7 @@ use Rattle.mpc_tree.specs.Borders.{IsBorder, AreBorders}
 use Rattle.mpc_tree.specs.Causes.{IfWide}
 use Rattle.mpc_tree.specs.Growth.{IsMeeting, IsNoMeeting, IsFailing, AllHold, NamesWideRow, IsSplitAt, IsLeafAt}
 use Rattle.mpc_tree.specs.LeafCerts.{IsCertOf}
+use Rattle.mpc_systems.specs.CellLaws.{CellLaws}
 use Rattle.mpc_systems.specs.Systems.{joint_system}
 use Rattle.mpc_tree.specs.Trees.{Cell}
 use Rattle.mpc_tree.specs.WideRuns.{IsWideAt}
@@ -40,7 +40,7 @@ module _ (qp : Qp) (laws : List Law) (borders : List (List RowInt)) (are : AreBo
     };
   }
 
-  pub law_placed : RegionLaws → (certs : List (List (ℕ × ℚ))) → AllHold qp cell.rows rows certs → IsLeafAt qp laws cell (LawLeaf (place + 1) certs)
+  pub law_placed : CellLaws → (certs : List (List (ℕ × ℚ))) → AllHold qp cell.rows rows certs → IsLeafAt qp laws cell (LawLeaf (place + 1) certs)
   law_placed points certs h = record {
     ends = record {
       ends = record { place = place; number_is = refl; law = m.law; first = m.first; lies_in = lies_in points qp m.law rows cell.rows met_border h.none };

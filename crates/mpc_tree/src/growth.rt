@@ -14,8 +14,8 @@ use crate::errors::TreeError;
 use crate::nodes::{Placed, place_node};
 use mpc_frac::NoMemory;
 use mpc_linear::{Ints, RowInt};
-use mpc_rows::{LawTable, Node, Qp, Row, Tree, region_laws};
-use mpc_systems::{broken_row, whole_row};
+use mpc_rows::{LawTable, Node, Qp, Row, Tree};
+use mpc_systems::{broken_row, cell_laws, whole_row};
 use std::alloc::Global;
 
 /// The no side of a split whose yes side comes first: how many rows its cell shares with the split's,
@@ -94,7 +94,7 @@ pub fn grown(alloc: Global, qp: &Qp, laws: &LawTable, borders: &[Border]) -> Res
     ensures built { IfOk result (λ nodes. IsBuilt qp.now laws.now whole_box nodes) }
     ensures wide { IfErr result (λ e. IfWide e (IsFirstWide qp.now laws.now whole_box 1)) }
 {
-    region_laws();
+    cell_laws();
     let mut tree = Tree::new(alloc);
     let mut cell = Vec::new(alloc);
     let mut sides = Vec::new(alloc);

@@ -2,8 +2,9 @@
 
 ghost use Rattle.mpc_tree.specs.Certified.{OneTree, OneFirstWide, FitsNotWide, CertifiedIsTree, CertifiedFits, TableHasLaws, TableHasShapes, TableIsSmall, MultipliersAreCert};
 
-use mpc_rows::{law_laws, region_laws};
+use mpc_rows::law_laws;
 use mpc_sets::count_laws;
+use mpc_systems::cell_laws;
 
 /// The program, the laws and the cell determine the tree with its certificates, and the run that is named as the first that is too
 /// wide. The call does nothing: its contract is the law.
@@ -15,7 +16,7 @@ pub fn one_tree()
     ensures fits { CertifiedFits }
 {
     law_laws();
-    region_laws();
+    cell_laws();
 }
 
 /// Each law of a table is that of its set, with its shape; and a table is small. The call does

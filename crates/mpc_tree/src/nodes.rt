@@ -19,9 +19,9 @@ use crate::errors::TreeError;
 use mpc_frac::NoMemory;
 use mpc_linear::RowInt;
 use mpc_region::has_point;
-use mpc_rows::{Cert, Certs, LawTable, Node, Place, Qp, Row, region_laws};
+use mpc_rows::{Cert, Certs, LawTable, Node, Place, Qp, Row};
 use mpc_simplex::SimplexError;
-use mpc_systems::{hold_system, joint_system, meet_system};
+use mpc_systems::{cell_laws, hold_system, joint_system, meet_system};
 use std::alloc::Global;
 
 /// Whether the rows of a law hold on a cell.
@@ -72,7 +72,7 @@ fn hold_cert(
     ensures wide { MatchResult result (λ _. RunFits (hold_system qp.now cell.now row.now))
         (λ e. IfRunWide e (¬ RunFits (hold_system qp.now cell.now row.now))) }
 {
-    region_laws();
+    cell_laws();
     let Ok(system) = hold_system(alloc, qp, cell, row) else {
         return Err(SimplexError::NoMemory);
     };
@@ -97,7 +97,7 @@ fn first_meeting(
     ensures below { IfOk result (λ o. MatchOption o (next ≡ next) (λ place. (next ≤ place) × (place < length laws.now))) }
     ensures wide { IfErr result (λ e. IfWide e (IsWideAt qp.now laws.now (record { rows = cell.now; next = next }) node)) }
 {
-    region_laws();
+    cell_laws();
     for place in next..laws.len() {
         match region_meets(alloc, qp, cell, borders[place].as_slice()) {
             Ok(true) => return Ok(Some(place)),
@@ -176,7 +176,7 @@ pub fn place_node(
     ensures placed { IfOk result (λ p. IsPlaced qp.now laws.now borders.now (record { rows = cell.now; next = next }) p) }
     ensures wide { IfErr result (λ e. IfWide e (IsWideAt qp.now laws.now (record { rows = cell.now; next = next }) node)) }
 {
-    region_laws();
+    cell_laws();
     match first_meeting(alloc, qp, laws, borders, cell, next, node)? {
         None => {
             let cert = joint_cert(alloc, qp, cell, node)?;

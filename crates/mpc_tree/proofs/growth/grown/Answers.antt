@@ -63,7 +63,7 @@ nodes-smaller-in-Ok-Split c =
 pub nodes-preserved-in-Ok-Split : goal.nodes-preserved-in-Ok-Split
 nodes-preserved-in-Ok-Split c =
     let s : IsSplitAt c.args.qp.now c.args.laws.now c.args.borders.now (record { rows = c.nodes.cell.items; next = c.nodes.next }) c.in-Ok-Split.place c.in-Ok-Split.row = subst (λ rows. IsSplitAt c.args.qp.now c.args.laws.now c.args.borders.now (record { rows = rows; next = c.nodes.next }) c.in-Ok-Split.place c.in-Ok-Split.row) c.deref.ensures.value (rw c.in-Ok-Split.field-0-is at c.in-Ok-Split.ensures.placed) in
-    grown_at c.args.qp.now c.args.laws.now c.args.borders.now c.requires.borders (record { rows = c.nodes.cell.items; next = c.nodes.next }) c.in-Ok-Split.place c.in-Ok-Split.row s c.region_laws.ensures c.nodes.tree c.nodes.sides.items c.nodes.held c.nodes.invariant c.index-rows-row.result (row_read c.args.qp.now c.args.laws.now c.args.borders.now c.requires.borders (record { rows = c.nodes.cell.items; next = c.nodes.next }) c.in-Ok-Split.place c.in-Ok-Split.row s c.as_slice-rows.result.now c.index-rows-row.result (rows_read c.args.qp.now c.args.laws.now c.args.borders.now c.requires.borders (record { rows = c.nodes.cell.items; next = c.nodes.next }) c.in-Ok-Split.place c.in-Ok-Split.row s c.index-borders-place.result c.as_slice-rows.result.now c.index-borders-place.is c.as_slice-rows.ensures) c.index-rows-row.is) c.open_split.new.tree c.open_split.new.cell.items c.open_split.new.sides.items c.in_ok-open_split-in-Ok-Split.ensures.tree c.in_ok-open_split-in-Ok-Split.ensures.cell c.in_ok-open_split-in-Ok-Split.ensures.sides
+    grown_at c.args.qp.now c.args.laws.now c.args.borders.now c.requires.borders (record { rows = c.nodes.cell.items; next = c.nodes.next }) c.in-Ok-Split.place c.in-Ok-Split.row s c.cell_laws.ensures c.nodes.tree c.nodes.sides.items c.nodes.held c.nodes.invariant c.index-rows-row.result (row_read c.args.qp.now c.args.laws.now c.args.borders.now c.requires.borders (record { rows = c.nodes.cell.items; next = c.nodes.next }) c.in-Ok-Split.place c.in-Ok-Split.row s c.as_slice-rows.result.now c.index-rows-row.result (rows_read c.args.qp.now c.args.laws.now c.args.borders.now c.requires.borders (record { rows = c.nodes.cell.items; next = c.nodes.next }) c.in-Ok-Split.place c.in-Ok-Split.row s c.index-borders-place.result c.as_slice-rows.result.now c.index-borders-place.is c.as_slice-rows.ensures) c.index-rows-row.is) c.open_split.new.tree c.open_split.new.cell.items c.open_split.new.sides.items c.in_ok-open_split-in-Ok-Split.ensures.tree c.in_ok-open_split-in-Ok-Split.ensures.cell c.in_ok-open_split-in-Ok-Split.ensures.sides
 
 pub returns-in-None-clause-built : goal.returns-in-None-clause-built
 returns-in-None-clause-built c =

@@ -2,13 +2,13 @@ use Rattle.mpc_tree.proofs.OneTree.{one_tree, one_first_wide, fits_not_wide, tre
 use Rattle.mpc_tree.proofs.laws.one_tree.Goals as goal
 
 pub returns-clause-one_tree : goal.returns-clause-one_tree
-returns-clause-one_tree c = one_tree c.law_laws.ensures c.region_laws.ensures
+returns-clause-one_tree c = one_tree c.law_laws.ensures c.cell_laws.ensures
 
 pub returns-clause-one_first_wide : goal.returns-clause-one_first_wide
-returns-clause-one_first_wide c = one_first_wide c.law_laws.ensures c.region_laws.ensures
+returns-clause-one_first_wide c = one_first_wide c.law_laws.ensures c.cell_laws.ensures
 
 pub returns-clause-fits_not_wide : goal.returns-clause-fits_not_wide
-returns-clause-fits_not_wide c = fits_not_wide c.law_laws.ensures c.region_laws.ensures
+returns-clause-fits_not_wide c = fits_not_wide c.law_laws.ensures c.cell_laws.ensures
 
 pub returns-clause-is_tree : goal.returns-clause-is_tree
 returns-clause-is_tree c = tree_of_certified

@@ -18,7 +18,7 @@ is_border c =
 pub joint_cert-requires-clause-no_point : goal.joint_cert-requires-clause-no_point
 joint_cert-requires-clause-no_point c =
     let none : IsNoMeeting c.args.qp.now c.args.laws.now (record { rows = c.args.cell.now; next = c.args.next }) = subst (IsFirstMeeting c.args.qp.now c.args.laws.now (record { rows = c.args.cell.now; next = c.args.next })) c.in-None.is c.in_ok-first_meeting.ensures.first in
-    no_joint c.args.qp.now c.args.laws.now c.args.cell.now none.none c.region_laws.ensures c.requires.cover.covers c.requires.cell
+    no_joint c.args.qp.now c.args.laws.now c.args.cell.now none.none c.cell_laws.ensures c.requires.cover.covers c.requires.cell
 
 pub first_failing-requires-clause-few : goal.first_failing-requires-clause-few
 first_failing-requires-clause-few c =
@@ -38,7 +38,7 @@ returns-in-Ok-Fails-clause-placed c =
 pub returns-in-Ok-Holds-clause-placed : goal.returns-in-Ok-Holds-clause-placed
 returns-in-Ok-Holds-clause-placed c =
     let d = (goal.at.returns-in-Ok-Holds-clause-placed c).After-as_slice in
-    law_placed c.args.qp.now c.args.laws.now c.args.borders.now c.requires.borders (record { rows = c.args.cell.now; next = c.args.next }) c.in-Some.place (meeting d) c.as_slice.result.now (is_border d) c.region_laws.ensures c.in-Ok-Holds.certs (rw c.in-Ok-Holds.field-0-is at c.in-Ok-Holds.ensures.held)
+    law_placed c.args.qp.now c.args.laws.now c.args.borders.now c.requires.borders (record { rows = c.args.cell.now; next = c.args.next }) c.in-Some.place (meeting d) c.as_slice.result.now (is_border d) c.cell_laws.ensures c.in-Ok-Holds.certs (rw c.in-Ok-Holds.field-0-is at c.in-Ok-Holds.ensures.held)
 
 pub returns-in-Err-clause-wide : goal.returns-in-Err-clause-wide
 returns-in-Err-clause-wide c =
