@@ -1,8 +1,12 @@
 -- Lists that are written entry by entry, and rows that are read one by one.
-use Rattle.std.proofs.Common.{◌≡◌, ℕ, ◌+◌, ◌<◌, ◌∙◌, sym, ap, subst, List, [], ◌∷◌, ◌++◌, length, map, get_or, arith}
-use Rattle.std.specs.List.{range_with_len}
+use Rattle.std.proofs.Common.{◌≡◌, ℕ, ◌+◌, ◌-◌, ◌*◌, ◌<◌, ◌≤◌, ◌∙◌, sym, ap, subst, List, [], ◌∷◌, ◌++◌, length, map, get_or, arith, ⊎_elim}
+use Rattle.std.specs.List.{range_with_len, between}
+use Rattle.std.proofs.lemmas.Bool.{cases_eq, cases_lt}
+use Rattle.std.proofs.lemmas.List.Edits.{get_or-between, length-between}
+use Rattle.std.proofs.lemmas.List.Elements.{All-get_or}
 use Rattle.std.proofs.lemmas.List.FromFn.{map-range_with_len_more, length-map-range_with_len}
 use Rattle.mpc_parts.specs.declared.Parts.{Parts}
+use Rattle.mpc_parts.specs.Parts.{IsReadable}
 use Rattle.mpc_rows.specs.declared.systems.Row.{Row}
 use Rattle.mpc_simplex_c.specs.declared.Side.{Side}
 use Rattle.mpc_exact.specs.Rational.{ℚ}
@@ -10,7 +14,7 @@ use Rattle.mpc_rows.specs.LinearSystem.{LinearSystem, height}
 use Rattle.mpc_simplex.specs.declared.Decision.{Decision}
 use Rattle.mpc_simplex.specs.declared.Decision.TheVariants.{Refuted}
 use Rattle.mpc_simplex.specs.Answer.{IsRunEnd, EndsRefuted}
-use Rattle.mpc_simplex_c.specs.Sent.{sent_row, sent_system}
+use Rattle.mpc_simplex_c.specs.Sent.{no_parts, no_side, sent_row, sent_system, IsReadableRow}
 use Rattle.std.proofs.lemmas.List.{ext_get_or, length-map, get_or-map}
 
 -- each entry passes as that of the other list
@@ -34,3 +38,44 @@ pub refuted_long : (width : ℕ) (coefficients : List Parts) (sides : List Side)
 refuted_long width coefficients sides system decision found sent is end =
     let e : EndsRefuted system found = subst (IsRunEnd system) is end in
     e.multipliers.size ∙ ap height sent ∙ length-map-range_with_len (sent_row width coefficients sides) 0 (length sides)
+
+-- ---- what can be read
+-- the parts of the first rows
+pub record AreReadable (width : ℕ) (coefficients : List Parts) (sides : List Side) (rows : ℕ) : Type 0 where
+  pub left : (k : ℕ) → k < rows * width → IsReadable (get_or coefficients k no_parts)
+  pub right : (k : ℕ) → k < rows → IsReadable (get_or sides k no_side).bound
+
+next_row : (r w : ℕ) → (r + 1) * w ≡ r * w + w
+next_row r w = omega arith
+
+row_within : (r n w : ℕ) → r < n → r * w + w ≤ n * w
+row_within r n w h = grind arith
+
+module _ (width : ℕ) (coefficients : List Parts) (sides : List Side) (shape : length coefficients ≡ length sides * width) where
+  module _ (i : ℕ) (within : i < length sides) where
+    row : List Parts
+    row = between (i * width) (i * width + width) coefficients
+
+    row_size : length row ≡ width
+    unfolding row
+    row_size =
+        let inside : i * width + width ≤ length coefficients = subst (λ n. i * width + width ≤ n) (sym shape) (row_within i (length sides) width within) in
+        length-between coefficients (i * width) (i * width + width) inside ∙ omega arith
+
+    part_at : (k : ℕ) → k < width → get_or row k no_parts ≡ get_or coefficients (i * width + k) no_parts
+    unfolding row
+    part_at k h = get_or-between coefficients (i * width) (i * width + width) k no_parts (omega arith)
+
+    pub more_readable : IsReadableRow (between (i * width) (i * width + width) coefficients) (get_or sides i no_side) → AreReadable width coefficients sides i → AreReadable width coefficients sides (i + 1)
+    unfolding row
+    more_readable r before = record {
+      left = λ k h.
+          ⊎_elim (λ l. before.left k l)
+          (λ l.
+          let below : k - i * width < width = omega (arith, next_row i width) in
+          let place : i * width + (k - i * width) ≡ k = omega arith in
+          subst (λ m. IsReadable (get_or coefficients m no_parts)) place
+          (subst IsReadable (part_at (k - i * width) below) (All-get_or IsReadable row (k - i * width) no_parts (subst (λ n. k - i * width < n) (sym row_size) below) r.left_side)))
+          (cases_lt k (i * width));
+      right = λ k h. ⊎_elim (λ e. subst (λ m. IsReadable (get_or sides m no_side).bound) (sym e) r.right_side) (λ e. before.right k (omega arith)) (cases_eq k i);
+    }

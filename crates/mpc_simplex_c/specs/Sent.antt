@@ -35,9 +35,20 @@ pub record IsReadableSystem (width : ℕ) (coefficients : List Parts) (sides : L
   pub left_sides : All IsReadable coefficients
   pub right_sides : All (λ s. IsReadable s.bound) sides
 
+-- every part of one row is a fraction
+pub record IsReadableRow (coefficients : List Parts) (side : Side) : Type 0 where
+  pub left_side : All IsReadable coefficients
+  pub right_side : IsReadable side.bound
+
 -- the two fractions of a pair
 abbrev pub pair_of : Pair → ℚ × ℚ
 pair_of p = (value_of p.first, value_of p.second)
 
 abbrev pub no_pair : Pair
 no_pair = record { first = no_parts; second = no_parts }
+
+-- a readable system, with room for a pair for each unknown and for a multiplier for each row
+pub record IsSent (width : ℕ) (coefficients : List Parts) (sides : List Side) (point : List Pair) (multipliers : List Parts) : Type 0 where
+  pub system : IsReadableSystem width coefficients sides
+  pub point_size : length point ≡ width
+  pub multipliers_size : length multipliers ≡ length sides

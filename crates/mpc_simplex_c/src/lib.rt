@@ -6,8 +6,8 @@ ghost use Rattle.mpc_parts.specs.Parts.{value_of};
 ghost use Rattle.mpc_rows.specs.LinearSystem.{IsPairPoint};
 ghost use Rattle.mpc_rows.specs.Refutation.{Refutes};
 ghost use Rattle.mpc_rows.specs.RunWidth.{RunFits};
-ghost use Rattle.mpc_simplex.specs.Answer.{EndsWithPoint, EndsRefuted};
-ghost use Rattle.mpc_simplex_c.specs.Sent.{sent_system, pair_of, IsReadableSystem};
+ghost use Rattle.mpc_simplex.specs.Answer.{HasPoint, EndsWithPoint, EndsRefuted};
+ghost use Rattle.mpc_simplex_c.specs.Sent.{sent_system, pair_of, IsSent};
 
 mod passing;
 #[cfg(test)]
@@ -50,8 +50,9 @@ pub struct Pair {
 
 /// Decides the system of `sides.len()` rows with `width` coefficients each, row by row.
 ///
-/// Answers 0 and writes a point, one pair for each unknown; 1 and writes multipliers that refute the system, one for each row; 2 where
-/// a number is too wide; 3 without memory; 4 where a part is no fraction or a length isn't as stated.
+/// Answers 0 where the system has a point, and writes one, a pair for each unknown; 1 where it has none, and writes multipliers that
+/// refute it, one for each row; 2 where a number is too wide; 4 where a part is no fraction or a length isn't as stated. Where there is
+/// no memory it answers 3 instead.
 #[unsafe(no_mangle)]
 pub extern "C" fn mpc_simplex_decide(
     alloc: Global,
@@ -62,15 +63,19 @@ pub extern "C" fn mpc_simplex_decide(
     multipliers: &mut [Parts],
 ) -> u32
     ensures point { result ≡ 0 → IsPairPoint (sent_system width coefficients.now sides.now) (map pair_of point.new) }
+    ensures has_point { result ≡ 0 → HasPoint (sent_system width coefficients.now sides.now) }
     ensures refuted { result ≡ 1 → Refutes (sent_system width coefficients.now sides.now) (map value_of multipliers.new) }
+    ensures no_point { result ≡ 1 → ¬ HasPoint (sent_system width coefficients.now sides.now) }
 
     // The answer is that of the stated run.
     ensures ends_with_point { result ≡ 0 → EndsWithPoint (sent_system width coefficients.now sides.now) (map pair_of point.new) }
     ensures ends_refuted { result ≡ 1 → EndsRefuted (sent_system width coefficients.now sides.now) (map value_of multipliers.new) }
     ensures fits { result ≤ 1 → RunFits (sent_system width coefficients.now sides.now) }
     ensures wide { result ≡ 2 → ¬ RunFits (sent_system width coefficients.now sides.now) }
-    ensures readable { IsReadableSystem width coefficients.now sides.now → length point.old ≡ width
-        → length multipliers.old ≡ length sides.now → result ≢ 4 }
+
+    // What is sent is refused exactly where it can't be read.
+    ensures sent { result ≤ 2 → IsSent width coefficients.now sides.now point.old multipliers.old }
+    ensures unreadable { result ≡ 4 → ¬ IsSent width coefficients.now sides.now point.old multipliers.old }
     ensures codes { result ≤ 4 }
 {
     if point.len() != width as usize || multipliers.len() != sides.len() {

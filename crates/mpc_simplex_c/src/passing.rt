@@ -2,7 +2,7 @@
 
 ghost use Rattle.std.specs.Prelude.{◌≡◌, ℕ, ◌+◌, ◌*◌, ◌<◌, IfOk, MatchResult, All, length, map, ⊤};
 ghost use Rattle.mpc_parts.specs.Parts.{value_of, IsReadable};
-ghost use Rattle.mpc_simplex_c.specs.Sent.{row_of, sent_system, pair_of, IsReadableSystem};
+ghost use Rattle.mpc_simplex_c.specs.Sent.{row_of, sent_system, pair_of, IsReadableRow, IsReadableSystem};
 ghost use Rattle.mpc_simplex_c.specs.Codes.{IfUnreadable, no_memory};
 
 use crate::{Pair, Side};
@@ -29,7 +29,7 @@ impl From<NoMemory> for SentError {
 
 fn read_vector(alloc: Global, parts: &[Parts]) -> Result<Vector, SentError>
     ensures value { IfOk result (λ v. v ≡ map value_of parts.now) }
-    ensures readable { All IsReadable parts.now → MatchResult result (λ _. ⊤) (λ e. IfUnreadable e ⊥) }
+    ensures readable { MatchResult result (λ _. All IsReadable parts.now) (λ e. IfUnreadable e (¬ All IsReadable parts.now)) }
 {
     let mut vector = Vector::new(alloc);
     for part in parts {
@@ -43,8 +43,8 @@ fn read_vector(alloc: Global, parts: &[Parts]) -> Result<Vector, SentError>
 
 fn read_row(alloc: Global, coefficients: &[Parts], side: &Side) -> Result<Row, SentError>
     ensures value { IfOk result (λ r. r ≡ row_of coefficients.now side.now) }
-    ensures readable { All IsReadable coefficients.now → IsReadable side.now.bound
-        → MatchResult result (λ _. ⊤) (λ e. IfUnreadable e ⊥) }
+    ensures readable { MatchResult result (λ _. IsReadableRow coefficients.now side.now)
+        (λ e. IfUnreadable e (¬ IsReadableRow coefficients.now side.now)) }
 {
     let a = read_vector(alloc, coefficients)?;
     let Some(b) = read(&side.bound) else {
@@ -65,8 +65,8 @@ pub(crate) fn read_system(
     sides: &[Side],
 ) -> Result<System, SentError>
     ensures value { IfOk result (λ s. s ≡ sent_system width coefficients.now sides.now) }
-    ensures readable { IsReadableSystem width coefficients.now sides.now
-        → MatchResult result (λ _. ⊤) (λ e. IfUnreadable e ⊥) }
+    ensures readable { MatchResult result (λ _. IsReadableSystem width coefficients.now sides.now)
+        (λ e. IfUnreadable e (¬ IsReadableSystem width coefficients.now sides.now)) }
 {
     if sides.len().checked_mul(width as usize) != Some(coefficients.len()) {
         return Err(SentError::Unreadable);
@@ -82,8 +82,8 @@ fn read_rows(
 ) -> Result<System, SentError>
     requires shape { length coefficients.now ≡ length sides.now * width }
     ensures value { IfOk result (λ s. s ≡ sent_system width coefficients.now sides.now) }
-    ensures readable { IsReadableSystem width coefficients.now sides.now
-        → MatchResult result (λ _. ⊤) (λ e. IfUnreadable e ⊥) }
+    ensures readable { MatchResult result (λ _. IsReadableSystem width coefficients.now sides.now)
+        (λ e. IfUnreadable e (¬ IsReadableSystem width coefficients.now sides.now)) }
 {
     let mut system = System::new(alloc, width);
     for i in 0..sides.len() {

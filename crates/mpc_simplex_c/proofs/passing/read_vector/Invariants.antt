@@ -1,6 +1,10 @@
-use Rattle.std.proofs.Common.{◌≡◌, take, map}
-use Rattle.mpc_parts.specs.Parts.{value_of}
+use Rattle.std.proofs.Common.{◌≡◌, ℕ, ◌<◌, take, map, get_or}
+use Rattle.mpc_parts.specs.Parts.{value_of, IsReadable}
+use Rattle.mpc_simplex_c.specs.Sent.{no_parts}
 use Rattle.mpc_simplex_c.proofs.passing.read_vector.Given as goal
 
 abbrev pub invariant-loop-part : goal.invariant-loop-part
-invariant-loop-part l = l.vector ≡ map value_of (take l.part-index l.parts)
+invariant-loop-part l = record {
+  value : l.vector ≡ map value_of (take l.part-index l.parts);
+  readable : (k : ℕ) → k < l.part-index → IsReadable (get_or l.parts k no_parts);
+}
