@@ -11,6 +11,9 @@ pub struct Frac {
 pub struct Wide;
 
 pub trait Rules {
+    /// The fraction of these parts in lowest terms, where the denominator is positive and both fit.
+    #[allow(dead_code)]
+    fn new(num: i128, den: i128) -> Frac;
     fn add(x: &Frac, y: &Frac) -> Result<Frac, Wide>;
     fn mul(x: &Frac, y: &Frac) -> Result<Frac, Wide>;
     fn cmp(x: &Frac, y: &Frac) -> Ordering;
@@ -34,6 +37,11 @@ pub fn euclid(mut a: u128, mut b: u128) -> u128 {
 }
 
 impl Rules for Plain {
+    fn new(num: i128, den: i128) -> Frac {
+        let g = euclid(num.unsigned_abs(), den as u128) as i128;
+        Frac { num: num / g, den: den / g }
+    }
+
     fn add(x: &Frac, y: &Frac) -> Result<Frac, Wide> {
         let g = euclid(x.den as u128, y.den as u128) as i128;
         let left = fitting(x.num.checked_mul(y.den / g))?;
@@ -177,7 +185,22 @@ fn wide_sum(x: &Frac, y: &Frac) -> Result<Frac, Wide> {
     Ok(Frac { num: signed(num < 0, num.unsigned_abs() / h), den: (den / h) as i128 })
 }
 
+fn quotient(n: u128, g: u128) -> u128 {
+    match (u64::try_from(n), u64::try_from(g)) {
+        (Ok(n), Ok(g)) => (n / g) as u128,
+        _ => n / g,
+    }
+}
+
 impl Rules for Fast {
+    fn new(num: i128, den: i128) -> Frac {
+        let g = divisor(num.unsigned_abs(), den as u128);
+        if g == 1 {
+            return Frac { num, den };
+        }
+        Frac { num: signed(num < 0, quotient(num.unsigned_abs(), g)), den: quotient(den as u128, g) as i128 }
+    }
+
     fn add(x: &Frac, y: &Frac) -> Result<Frac, Wide> {
         match (short(x), short(y)) {
             (Some((a, b)), Some((c, d))) => Ok(short_sum(a, b, c, d)),

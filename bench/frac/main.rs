@@ -8,7 +8,7 @@ mod parts;
 mod timing;
 
 use fractions::{Fast, Frac, Plain, Rules, Wide, euclid, signed};
-use parts::{Parts, parts};
+use parts::{Parts, frac, parts};
 use timing::Timed;
 
 unsafe extern "C" {
@@ -18,6 +18,7 @@ unsafe extern "C" {
     fn mpc_frac_repeat_sums(left: *const Parts, left_len: usize, right: *const Parts, right_len: usize, rounds: u32) -> u64;
     fn mpc_frac_repeat_products(left: *const Parts, left_len: usize, right: *const Parts, right_len: usize, rounds: u32) -> u64;
     fn mpc_frac_repeat_orders(left: *const Parts, left_len: usize, right: *const Parts, right_len: usize, rounds: u32) -> u64;
+    fn mpc_frac_repeat_reads(parts: *const Parts, len: usize, rounds: u32) -> u64;
 }
 
 // ---- random fractions
@@ -42,6 +43,24 @@ impl Random {
         let g = euclid(size, den);
         let num = signed(self.next() & 1 == 1, size / g);
         Frac { num, den: (den / g) as i128 }
+    }
+
+    /// A numerator over this denominator, in lowest terms.
+    fn over(&mut self, bits: u32, den: u128) -> Frac {
+        let size = loop {
+            let size = self.size(bits);
+            if euclid(size, den) == 1 {
+                break size;
+            }
+        };
+        Frac { num: signed(self.next() & 1 == 1, size), den: den as i128 }
+    }
+
+    /// Two numbers as they come, the second of them positive.
+    fn pair(&mut self, bits: u32, whole: bool) -> Frac {
+        let den = if whole { 1 } else { self.size(bits).max(1) };
+        let size = self.size(bits);
+        Frac { num: signed(self.next() & 1 == 1, size), den: den as i128 }
     }
 
     fn mixed(&mut self) -> Frac {
@@ -124,6 +143,56 @@ fn row(name: &str, rounds: u32, proved: impl FnMut(u32) -> u64, fast: impl FnMut
     println!("{name:22} proved {p:7.2} ns   fast Rust {f:7.2} ns (x {:.2})   plain Rust {e:7.2} ns (x {:.2}){same}", p / f, p / e);
 }
 
+/// Sums over one denominator that both have.
+fn like_rows(random: &mut Random) {
+    for (bits, rounds) in [(6, 100), (16, 100), (32, 60), (63, 40), (100, 10)] {
+        let dens: Vec<u128> = (0..COUNT).map(|_| random.size(bits).max(2)).collect();
+        let left: Vec<Frac> = dens.iter().map(|den| random.over(bits, *den)).collect();
+        let right: Vec<Frac> = dens.iter().map(|den| random.over(bits, *den)).collect();
+        let (l, r): (Vec<Parts>, Vec<Parts>) = (left.iter().map(parts).collect(), right.iter().map(parts).collect());
+        row(
+            &format!("add, alike, {bits} bits"),
+            rounds,
+            |n| unsafe { mpc_frac_repeat_sums(l.as_ptr(), COUNT, r.as_ptr(), COUNT, n) },
+            |n| repeat(&left, &right, n, |x, y| low(Fast::add(x, y))),
+            |n| repeat(&left, &right, n, |x, y| low(Plain::add(x, y))),
+        );
+    }
+}
+
+fn read_all<R: Rules>(sent: &[Parts], rounds: u32) -> u64 {
+    let pass = |digest: u64| sent.iter().fold(digest, |digest, parts| {
+        let pair = frac(parts);
+        digest.rotate_left(1) ^ R::new(pair.num, pair.den).num.unsigned_abs() as u64
+    });
+    (0..rounds).fold(0, |digest, _| pass(digest))
+}
+
+/// Fractions made of their parts: whole numbers, parts in lowest terms, and parts as they come.
+fn new_rows(random: &mut Random) {
+    let classes: [(&str, u32, bool, bool, u32); 8] = [
+        ("whole, 20 bits", 20, true, false, 200),
+        ("lowest, 6 bits", 6, false, true, 100),
+        ("lowest, 32 bits", 32, false, true, 60),
+        ("6 bits", 6, false, false, 100),
+        ("16 bits", 16, false, false, 100),
+        ("32 bits", 32, false, false, 60),
+        ("63 bits", 63, false, false, 40),
+        ("100 bits", 100, false, false, 10),
+    ];
+    for (name, bits, whole, lowest, rounds) in classes {
+        let pairs = (0..COUNT).map(|_| if lowest { random.frac(bits, whole) } else { random.pair(bits, whole) });
+        let sent: Vec<Parts> = pairs.map(|pair| parts(&pair)).collect();
+        row(
+            &format!("new, {name}"),
+            rounds,
+            |n| unsafe { mpc_frac_repeat_reads(sent.as_ptr(), COUNT, n) },
+            |n| read_all::<Fast>(&sent, n),
+            |n| read_all::<Plain>(&sent, n),
+        );
+    }
+}
+
 fn main() {
     compare(1_000_000);
     let mut random = Random(88_172_645_463_325_252);
@@ -162,4 +231,6 @@ fn main() {
             |n| repeat(&left, &right, n, |x, y| (Plain::cmp(x, y) as i32).unsigned_abs() as u64),
         );
     }
+    like_rows(&mut random);
+    new_rows(&mut random);
 }

@@ -7,16 +7,14 @@ ghost use Rattle.mpc_exact.specs.Rational.{◌+ℚ◌, ◌*ℚ◌, cmp_ℚ};
 ghost use Rattle.mpc_frac.specs.Fits.{FitsFrac, FitsSum};
 ghost use Rattle.mpc_parts.specs.Parts.{value_of, IsReadable, ArePartsOf};
 ghost use Rattle.mpc_frac_c.specs.Answers.{code_of};
+ghost use Rattle.mpc_frac_c.specs.Digests.{number_at, passes, paired, sum_digit, product_digit, order_digit, number_digit};
 
-use mpc_frac::{Frac, Wide};
+mod repeats;
+
+use mpc_frac::Wide;
 use mpc_parts::{Parts, parts_of, read};
+use repeats::{loaded, order_pass, product_pass, read_pass, sum_pass};
 use std::cmp::Ordering;
-
-/// How many fractions a loop takes.
-const COUNT: usize = 1024;
-
-/// The weight of the high half of a number.
-const HIGH: u128 = 1 << 64;
 
 /// Writes the sum, and answers whether both are fractions and the sum isn't wide. Where it answers
 /// false it writes nothing.
@@ -81,7 +79,7 @@ pub extern "C" fn mpc_frac_order(left: &Parts, right: &Parts) -> i32
     order_code(x.cmp(&y))
 }
 
-fn order_code(order: Ordering) -> i32
+pub(crate) fn order_code(order: Ordering) -> i32
     ensures { result ≡ code_of order }
 {
     match order {
@@ -91,82 +89,56 @@ fn order_code(order: Ordering) -> i32
     }
 }
 
-/// The fractions of a list, with 0 for what is none and behind its end.
-fn loaded(parts: &[Parts]) -> [Frac; COUNT] {
-    let mut fractions = [Frac::whole(0); COUNT];
-    for (place, part) in fractions.iter_mut().zip(parts) {
-        *place = read(part).unwrap_or(Frac::whole(0));
-    }
-    fractions
-}
-
-/// A number mixed into a digest.
-fn mixed(digest: u64, num: i128) -> u64 {
-    digest.rotate_left(1) ^ (num.unsigned_abs() % HIGH) as u64
-}
-
-/// All sums once, mixed into a digest.
-fn all_sums(left: &[Frac], right: &[Frac], mut digest: u64) -> u64 {
-    for (x, y) in left.iter().zip(right) {
-        digest = match x.add(y) {
-            Ok(sum) => mixed(digest, sum.num()),
-            Err(Wide) => digest.rotate_left(1),
-        };
-    }
-    digest
-}
-
-/// All products once, mixed into a digest.
-fn all_products(left: &[Frac], right: &[Frac], mut digest: u64) -> u64 {
-    for (x, y) in left.iter().zip(right) {
-        digest = match x.mul(y) {
-            Ok(product) => mixed(digest, product.num()),
-            Err(Wide) => digest.rotate_left(1),
-        };
-    }
-    digest
-}
-
-/// All comparisons once, mixed into a digest.
-fn all_orders(left: &[Frac], right: &[Frac], mut digest: u64) -> u64 {
-    for (x, y) in left.iter().zip(right) {
-        digest = mixed(digest, order_code(x.cmp(y)) as i128);
-    }
-    digest
-}
-
 /// Adds the first 1024 pairs of two lists again and again, and mixes the sums into a digest.
 #[unsafe(no_mangle)]
-pub extern "C" fn mpc_frac_repeat_sums(left: &[Parts], right: &[Parts], rounds: u32) -> u64 {
-    let left = loaded(left);
-    let right = loaded(right);
+pub extern "C" fn mpc_frac_repeat_sums(left: &[Parts], right: &[Parts], rounds: u32) -> u64
+    ensures { result ≡ passes (paired sum_digit left.now right.now) rounds }
+{
+    let left_numbers = loaded(left);
+    let right_numbers = loaded(right);
     let mut digest = 0;
-    for _ in 0..rounds {
-        digest = all_sums(&left, &right, digest);
+    'rounds: for _ in 0..rounds {
+        digest = sum_pass(&left_numbers, &right_numbers, digest);
     }
     digest
 }
 
 /// Multiplies the first 1024 pairs of two lists again and again.
 #[unsafe(no_mangle)]
-pub extern "C" fn mpc_frac_repeat_products(left: &[Parts], right: &[Parts], rounds: u32) -> u64 {
-    let left = loaded(left);
-    let right = loaded(right);
+pub extern "C" fn mpc_frac_repeat_products(left: &[Parts], right: &[Parts], rounds: u32) -> u64
+    ensures { result ≡ passes (paired product_digit left.now right.now) rounds }
+{
+    let left_numbers = loaded(left);
+    let right_numbers = loaded(right);
     let mut digest = 0;
-    for _ in 0..rounds {
-        digest = all_products(&left, &right, digest);
+    'rounds: for _ in 0..rounds {
+        digest = product_pass(&left_numbers, &right_numbers, digest);
     }
     digest
 }
 
 /// Compares the first 1024 pairs of two lists again and again.
 #[unsafe(no_mangle)]
-pub extern "C" fn mpc_frac_repeat_orders(left: &[Parts], right: &[Parts], rounds: u32) -> u64 {
-    let left = loaded(left);
-    let right = loaded(right);
+pub extern "C" fn mpc_frac_repeat_orders(left: &[Parts], right: &[Parts], rounds: u32) -> u64
+    ensures { result ≡ passes (paired order_digit left.now right.now) rounds }
+{
+    let left_numbers = loaded(left);
+    let right_numbers = loaded(right);
     let mut digest = 0;
-    for _ in 0..rounds {
-        digest = all_orders(&left, &right, digest);
+    'rounds: for _ in 0..rounds {
+        digest = order_pass(&left_numbers, &right_numbers, digest);
+    }
+    digest
+}
+
+/// Reads the first 1024 fractions of a list again and again.
+#[unsafe(no_mangle)]
+pub extern "C" fn mpc_frac_repeat_reads(parts: &[Parts], rounds: u32) -> u64
+    ensures { result ≡ passes (λ place. number_digit (number_at parts.now place)) rounds }
+{
+    let mut digest = 0;
+    'rounds: for _ in 0..rounds {
+        digest = read_pass(parts, digest);
     }
     digest
 }
