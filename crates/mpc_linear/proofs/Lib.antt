@@ -6,7 +6,6 @@ pub mod ZeroFits
 pub mod Outcomes
 pub mod DotLemmas
 pub mod WholeLemmas
-pub mod Words
 pub mod ProductLemmas
 pub mod Places
 pub mod Steps

@@ -1,6 +1,5 @@
 -- Facts of an error, carried along.
 use Rattle.std.proofs.Common.{ℕ}
-pub use Rattle.mpc_space.proofs.Outcomes.{value_as, fits_as}
 use Rattle.mpc_linear.specs.declared.errors.LinearError.{LinearError}
 use Rattle.mpc_linear.specs.declared.errors.LinearError.TheVariants.{Wide, NoMemory}
 use Rattle.mpc_linear.specs.Answers.{IfWide}

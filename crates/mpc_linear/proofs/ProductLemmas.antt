@@ -7,7 +7,6 @@ use Rattle.mpc_exact.specs.Rational.{ℚ, int}
 use Rattle.mpc_space.specs.Vector.{dot, column, listed, coordinate}
 use Rattle.mpc_space.specs.Matrix.{RationalMatrix, height, IsRectangular, mat_mul}
 use Rattle.mpc_space.proofs.Entries.{length-listed}
-pub use Rattle.mpc_space.proofs.Outcomes.{below_next}
 use Rattle.mpc_linear.specs.Grid.{rows_of, grid}
 use Rattle.mpc_linear.specs.Product.{product_row}
 use Rattle.mpc_linear.proofs.GridLemmas.{entry-grid, height-grid}

@@ -4,10 +4,10 @@ use Rattle.std.proofs.lemmas.List.{get_or_default, take_all}
 use Rattle.std.proofs.lemmas.Bool.{true≢false, not-false}
 use Rattle.std.specs.Prelude.{nat_eq, Bool, not, true, false}
 use Rattle.std.specs.Cmp.Lexicographic.{pointwise}
-use Rattle.mpc_sets.specs.RowSet.{IsSetOfRows, with_row, without_row}
+use Rattle.mpc_sets.specs.RowSet.{Among, IsSetOfRows, with_row, without_row}
 use Rattle.mpc_sets.specs.SetOrder.{IsInOrder, pointwise-same, pointwise_true}
 use Rattle.mpc_sets.specs.NextLevel.{IsOfOneSize, ExtendsOneOf, HoldsNext}
-use Rattle.mpc_sets.proofs.RowSets.{Among, Among_last_cases, below_last, with_row-last}
+use Rattle.mpc_sets.proofs.RowSets.{Among_last_cases, below_last, with_row-last}
 use Rattle.mpc_sets.proofs.Joining.{IsReached, row_after, join_pushed, join_skipped, join_started, join_ended, join_left}
 
 -- the set at the place, its last member and the others

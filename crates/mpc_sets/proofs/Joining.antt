@@ -7,10 +7,10 @@ use Rattle.std.proofs.lemmas.List.Quantifiers.{all_pairs_push}
 use Rattle.std.specs.Ordering.{nat_cmp}
 use Rattle.std.specs.Cmp.Lexicographic.{slice_cmp}
 use Rattle.std.specs.declared.cmp.Ordering.TheVariants.{Less}
-use Rattle.mpc_sets.specs.RowSet.{IsSetOfRows, without_row, LacksOne}
+use Rattle.mpc_sets.specs.RowSet.{Among, IsSetOfRows, without_row, LacksOne}
 use Rattle.mpc_sets.specs.SetOrder.{set_cmp, IsBefore, IsInOrder}
 use Rattle.mpc_sets.specs.NextLevel.{IsOfOneSize, IsNextOf, ExtendsOneOf, HoldsNext}
-use Rattle.mpc_sets.proofs.RowSets.{Among, Contains-from_among, Among-from_contains, Among_within, Among_last, Among_front, Among_last_cases, below_last, rises_last, without_row-append, without_row-other, without_row-last, length-without_row, lacked_row, Among-without_row_cases, RisesWithin-without_row}
+use Rattle.mpc_sets.proofs.RowSets.{Contains-from_among, Among-from_contains, Among_within, Among_last, Among_front, Among_last_cases, below_last, rises_last, without_row-append, without_row-other, without_row-last, length-without_row, lacked_row, Among-without_row_cases, RisesWithin-without_row}
 use Rattle.mpc_sets.proofs.SetOrders.{set_cmp-one_size, slice_cmp-last, last_less, slice_cmp-append, between}
 
 -- ---- subsets with one member fewer are the set without one of its rows

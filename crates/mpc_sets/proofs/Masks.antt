@@ -7,9 +7,9 @@ use Rattle.std.proofs.Math.Nat.{pow-suc}
 use Rattle.std.specs.Int.{bit_at, bit_not, trailing_zeros, w64}
 use lib.Bits.{and_step, and_shr, and_self}
 use lib.Count.{ones, ones_step, count_leading_zeros}
-use Rattle.mpc_sets.specs.RowSet.{RisesWithin, IsSetOfRows, with_row, without_row}
+use Rattle.mpc_sets.specs.RowSet.{Among, RisesWithin, IsSetOfRows, with_row, without_row}
 use Rattle.mpc_sets.specs.SetMask.{ones_from, members_of, IsMask}
-use Rattle.mpc_sets.proofs.RowSets.{Among, head_least, greatest_last, length-rises, Among_at, Contains-from_among, Among-from_contains, Among_within, same_members, Among-with_row, Among-with_row_cases, RisesWithin-with_row, Among-without_row, Among-without_row_cases, RisesWithin-without_row}
+use Rattle.mpc_sets.proofs.RowSets.{head_least, greatest_last, length-rises, Among_at, Contains-from_among, Among-from_contains, Among_within, same_members, Among-with_row, Among-with_row_cases, RisesWithin-with_row, Among-without_row, Among-without_row_cases, RisesWithin-without_row}
 
 -- ---- the ones of a number rise
 pub ones_from-rises : (d low first high n : ℕ) → low < first → first + d ≤ high + 1 → RisesWithin low high (ones_from d first n)

@@ -2,8 +2,7 @@
 use Rattle.std.proofs.Common.{◌≡◌, ℕ, suc, zero, ◌+◌, ◌<◌, ◌≤◌, ◌⊎◌, not, List, [], ◌∷◌, ◌++◌, length, get_or, ◌==◌, Contains, refl, sym, ap, ◌∙◌, subst, inl, inr, arith, append-nil}
 use Rattle.std.proofs.lemmas.Bool.{cases_order, cases_eq, lt-ltb, le-ltb, eq-eqb, ne_eqb}
 use Rattle.std.proofs.lemmas.List.Elements.{filter-append}
-use Rattle.mpc_sets.specs.RowSet.{RisesWithin, with_row, without_row}
-pub use Rattle.mpc_sets.specs.RowSet.{Among}
+use Rattle.mpc_sets.specs.RowSet.{RisesWithin, Among, with_row, without_row}
 
 pub Contains-from_among : (i : ℕ) (s : List ℕ) → Among i s → Contains s i
 Contains-from_among i [] h = absurd h

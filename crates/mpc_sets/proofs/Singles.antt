@@ -4,10 +4,10 @@ use Rattle.std.proofs.lemmas.Bool.{cases_eq}
 use Rattle.std.proofs.lemmas.List.{get_or_default}
 use Rattle.std.proofs.lemmas.List.Elements.{Contains-get_or, Contains-append_left, Contains-push, Contains-push_cases}
 use Rattle.std.proofs.lemmas.List.Quantifiers.{all_pairs_push}
-use Rattle.mpc_sets.specs.RowSet.{without_row}
+use Rattle.mpc_sets.specs.RowSet.{Among, without_row}
 use Rattle.mpc_sets.specs.SetOrder.{IsBefore, IsInOrder}
 use Rattle.mpc_sets.specs.NextLevel.{IsOfOneSize, IsNextOf, IsSingle, AllOneLarger, ExtendsOneOf, HoldsNext}
-use Rattle.mpc_sets.proofs.RowSets.{Among, Among_last, without_row-one, without_row-last, length-without_row}
+use Rattle.mpc_sets.proofs.RowSets.{Among_last, without_row-one, without_row-last, length-without_row}
 use Rattle.mpc_sets.proofs.SetOrders.{slice_cmp-last}
 use Rattle.mpc_sets.proofs.Joining.{next_from_without, next_without}
 

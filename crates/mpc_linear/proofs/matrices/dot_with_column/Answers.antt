@@ -5,13 +5,14 @@ use Rattle.mpc_exact.proofs.RationalRing.{reads, by_ring}
 use Rattle.mpc_space.specs.Vector.{dot, column}
 use Rattle.mpc_linear.specs.Grid.{grid}
 use Rattle.mpc_linear.proofs.GridLemmas.{place-below}
-use Rattle.mpc_linear.proofs.DotLemmas.{Goes, goes_none, goes_more, goes_wide, goes_value, goes_fits}
+use Rattle.mpc_linear.specs.SumLaws.{IsSumSoFar}
+use Rattle.mpc_linear.proofs.DotLemmas.{goes_none, goes_more, goes_wide, goes_value, goes_fits}
 use Rattle.mpc_linear.proofs.ProductLemmas.{column_entry, column_length}
 use Rattle.mpc_linear.proofs.matrices.dot_with_column.Goals as goal
 use Rattle.mpc_linear.proofs.matrices.dot_with_column.Goals.{After-index-entries-k}
 
 pub loop-k-init : goal.loop-k-init
-loop-k-init c = subst (λ s. Goes (int (pos 0)) c.args.row.now (column (grid (length c.args.row.now) c.args.width c.args.entries.now).rows c.args.j) 0 s) (sym c.whole-sum.ensures) (goes_none _ _ _)
+loop-k-init c = subst (λ s. IsSumSoFar (int (pos 0)) c.args.row.now (column (grid (length c.args.row.now) c.args.width c.args.entries.now).rows c.args.j) 0 s) (sym c.whole-sum.ensures) (goes_none _ _ _)
 
 below : (c : After-index-entries-k) → c.loop-k.k < length (column (grid (length c.args.row.now) c.args.width c.args.entries.now).rows c.args.j)
 below c = subst (λ n. c.loop-k.k < n) (sym (column_length (length c.args.row.now) c.args.width c.args.entries.now c.args.j)) c.loop-k-test.true

@@ -2,8 +2,8 @@ use Rattle.std.proofs.Common.{length, pos}
 use Rattle.mpc_exact.specs.Rational.{int}
 use Rattle.mpc_space.specs.Vector.{column}
 use Rattle.mpc_linear.specs.Grid.{grid}
-use Rattle.mpc_linear.proofs.DotLemmas.{Goes}
+use Rattle.mpc_linear.specs.SumLaws.{IsSumSoFar}
 use Rattle.mpc_linear.proofs.matrices.dot_with_column.Given as goal
 
 abbrev pub invariant-loop-k : goal.invariant-loop-k
-invariant-loop-k l = Goes (int (pos 0)) l.row (column (grid (length l.row) l.width l.entries).rows l.j) l.k l.sum
+invariant-loop-k l = IsSumSoFar (int (pos 0)) l.row (column (grid (length l.row) l.width l.entries).rows l.j) l.k l.sum
