@@ -1,5 +1,6 @@
 -- A plant has one program: its costs determine y too, and its rows determine g and w.
 use Rattle.std.proofs.Common.{◌≡◌, ℕ, suc, ◌+◌, ◌-◌, ◌*◌, ◌/◌, ◌%◌, ◌<◌, ◌≤◌, List, [], ◌∷◌, length, get_or, pos, refl, sym, ◌∙◌, ap, subst, arith, ⊎_elim}
+use Rattle.std.proofs.Math.Nat.{mul-le-mul_left}
 use Rattle.std.proofs.lemmas.Bool.{cases_lt}
 use Rattle.std.proofs.lemmas.Option.{slice_get-get_or}
 use Rattle.std.proofs.lemmas.List.Elements.{All-from_recursion}
@@ -25,7 +26,6 @@ use Rattle.mpc_rows.specs.declared.programs.Qp.{Qp}
 use Rattle.mpc_rows.specs.Program.{IsProgram}
 use Rattle.mpc_rows.specs.ActiveSets.{extended}
 use Rattle.mpc_condense.specs.Condensed.{stacked, room, stage_row, terminal_row, HasRoom, IsCondensed}
-use Rattle.mpc_condense.proofs.Admissible.{quotient_below}
 use Rattle.mpc_best.proofs.Stacks.{cut_stacked, cut_wide, cut_length}
 use Rattle.mpc_best.proofs.OneProgram.{same_row, same_constant, same_h, same_f, states, h_height, zero_size, zeros_size}
 
@@ -33,6 +33,13 @@ is_program-prop : (h f y g w : RationalMatrix) (counts : List ℕ) → IsProp (I
 is_program-prop h f y g w counts = hlevel props
 
 -- ---- numbers
+-- a number below n m is k m + r with k below n and r below m
+quotient_below : (i n m : ℕ) → i < n * m → 0 < m → (i / m < n) × ((i / m) * m + i % m ≡ i) × (i % m < m)
+quotient_below i n m l some = (below, omega arith, omega arith)
+  where
+    below : i / m < n
+    below = ⊎_elim (λ p. p) (λ p. let h : m * n ≤ m * (i / m) = mul-le-mul_left m p in absurd (omega arith)) (cases_lt (i / m) n)
+
 four_parts : (a b c d e f : ℚ) → a ≡ b → c ≡ d → a +ℚ int (pos 2) *ℚ e +ℚ c ≡ b +ℚ int (pos 2) *ℚ f +ℚ d → e ≡ f
 four_parts a b c d e f p q r =
     ≤ℚ_antisymm (linear_le (a ∷ b ∷ c ∷ d ∷ e ∷ f ∷ []) (eq p (eq q (eq r none))) (search claims depth 60 fits 9000) tt)

@@ -1,5 +1,5 @@
 -- The cost of a sequence as a form in the extended counts and the moves.
-use Rattle.std.proofs.Common.{◌≡◌, ℕ, zero, suc, ◌+◌, ◌-◌, ◌<◌, ◌≤◌, true, false, cond, ◌&&◌, List, [], ◌∷◌, length, get_or, pos, negsuc, refl, sym, ◌∙◌, ap, subst, arith, ⊎_elim, eqb, ltb}
+use Rattle.std.proofs.Common.{◌≡◌, ℕ, zero, suc, ◌+◌, ◌-◌, ◌<◌, ◌≤◌, true, false, List, [], ◌∷◌, length, get_or, pos, negsuc, refl, sym, ◌∙◌, ap, subst, arith, ⊎_elim, eqb, ltb}
 use Rattle.std.proofs.lemmas.Bool.{cases_eq, cases_lt, cases_Bool, cond-true, cond-false, lt-ltb, le-ltb, le-leb, ltb-true, leb-true, ne_eqb, and_from, and_parts, and_left, and_right}
 use Rattle.std.proofs.lemmas.Bool.Decides.{leb_tells}
 use Rattle.mpc_exact.specs.Rational.{ℚ, int, ◌+ℚ◌, ◌*ℚ◌}
@@ -15,7 +15,7 @@ use Rattle.mpc_space.proofs.Total.{total-same, total-zeros, total-zero, total-su
 use Rattle.mpc_plant.specs.declared.plants.Plant.{Plant}
 use Rattle.mpc_plant.specs.Trajectory.{stage_cost, state_at, move_at, IsSequence, cost}
 use Rattle.mpc_condense.specs.Motion.{first_move, distance, weight_at, gram, is_move, move_column, move_distance, move_gram, kernel, kernel_with}
-use Rattle.mpc_condense.proofs.Combinations.{Combines, double, double-same, double-add, double-zero, quadratic-combined, gram-sym}
+use Rattle.mpc_condense.proofs.Combinations.{Combines, double, double-add, double-zero, quadratic-combined, gram-sym}
 use Rattle.mpc_condense.proofs.Sequences.{factors}
 use Rattle.mpc_condense.proofs.StateColumns.{first-grows, width, move-total, factor-move, less-combines, distance-combines}
 

@@ -3,7 +3,7 @@ use Rattle.std.proofs.Common.{◌≡◌, ℕ, suc, ◌+◌, ◌-◌, ◌*◌, �
 use Rattle.std.proofs.Math.Nat.{mul-le-mul_right}
 use Rattle.std.proofs.lemmas.Option.{get_or_from_slice_get, slice_get_within}
 use Rattle.std.proofs.lemmas.Bool.{cases_Bool, cases_eq, cases_lt, cases_order, cond-true, cond-false, lt-ltb, le-ltb}
-use Rattle.mpc_exact.specs.Rational.{ℚ, int, ◌+ℚ◌, ◌-ℚ◌, neg_ℚ}
+use Rattle.mpc_exact.specs.Rational.{ℚ, int, ◌-ℚ◌, neg_ℚ}
 use Rattle.mpc_frac.specs.Fits.{FitsSum}
 use Rattle.mpc_space.specs.Vector.{coordinate, dot}
 use Rattle.mpc_space.specs.Matrix.{RationalMatrix, height, entry}

@@ -1,6 +1,6 @@
 -- The sums of the cost, as the code adds them, are those of the stated run.
-use Rattle.std.proofs.Common.{◌≡◌, ℕ, suc, ◌+◌, ◌-◌, ◌*◌, ◌<◌, ◌≤◌, false, List, [], ◌∷◌, length, get_or, pos, sym, ◌∙◌, ap, subst, arith, ⊎_elim, add-one, ltb}
-use Rattle.std.proofs.lemmas.Bool.{cases_eq, cases_lt, cond-true, cond-false, lt-ltb, le-ltb, and_left, and_right}
+use Rattle.std.proofs.Common.{◌≡◌, ℕ, ◌+◌, ◌-◌, ◌*◌, ◌<◌, ◌≤◌, List, [], ◌∷◌, length, get_or, pos, sym, ◌∙◌, ap, subst, arith, ⊎_elim, ltb}
+use Rattle.std.proofs.lemmas.Bool.{cases_eq, cases_lt, cond-true, cond-false, lt-ltb, le-ltb}
 use Rattle.mpc_exact.specs.Rational.{ℚ, int, ◌+ℚ◌}
 use Rattle.mpc_exact.proofs.RationalRing.{reads, by_ring}
 use Rattle.mpc_frac.specs.Fits.{FitsSum}
@@ -15,7 +15,7 @@ use Rattle.mpc_plant.specs.declared.plants.Plant.{Plant}
 use Rattle.mpc_linear.specs.Shape.{HasShape}
 use Rattle.mpc_condense.specs.Motion.{first_move, distance, weight_at, weighted, gram, kernel, kernel_with, IsKept, WeightsFit, SumsFit, CostFits}
 use Rattle.mpc_condense.specs.Causes.{CostsFit}
-use Rattle.mpc_condense.specs.Blocks.{row_at, IsInBlock, WritesBlock, AllInBlock}
+use Rattle.mpc_condense.specs.Blocks.{row_at, WritesBlock, AllInBlock}
 use Rattle.mpc_condense.specs.Stages.{IsDistance, IsWeighted, HoldsSums}
 use Rattle.mpc_condense.proofs.StateColumns.{distance-zero}
 use Rattle.mpc_condense.proofs.Advance.{zero_matrix-height, zero_matrix-entry, zero_matrix-shape, row_is, shape_of_block, dots_fit}

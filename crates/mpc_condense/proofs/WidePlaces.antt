@@ -4,7 +4,6 @@ use Rattle.std.proofs.lemmas.Bool.{cases_order}
 use Rattle.std.proofs.lemmas.Option.{slice_get_within}
 use Rattle.mpc_plant.specs.declared.lists.PlantRow.{PlantRow}
 use Rattle.mpc_plant.specs.declared.plants.Plant.{Plant}
-use Rattle.mpc_rows.specs.declared.places.Place.{Place}
 use Rattle.mpc_rows.specs.declared.places.Place.TheVariants.{State, Cost, Row}
 use Rattle.mpc_condense.specs.Motion.{StateFits, CostFits, RowFits}
 use Rattle.mpc_condense.specs.Stages.{IsRow}

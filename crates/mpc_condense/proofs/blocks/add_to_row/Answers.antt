@@ -1,4 +1,4 @@
-use Rattle.std.proofs.Common.{◌≡◌, ◌+◌, arith, rules, sym, ◌∙◌, length, pos, refl}
+use Rattle.std.proofs.Common.{◌+◌, arith, rules, sym, ◌∙◌, length, pos, refl}
 use Rattle.std.proofs.lemmas.List.{get_or_read_under}
 use Rattle.std.proofs.lemmas.Result.{MatchResult-from_err}
 use Rattle.mpc_exact.specs.Rational.{int}
