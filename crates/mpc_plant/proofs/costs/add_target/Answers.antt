@@ -1,4 +1,4 @@
-use Rattle.std.proofs.Common.{◌≡◌, ◌∙◌, ap, length}
+use Rattle.std.proofs.Common.{◌∙◌, ap, length}
 use Rattle.mpc_space.proofs.Entries.{length-sub}
 use Rattle.mpc_plant.proofs.costs.add_target.Goals as goal
 

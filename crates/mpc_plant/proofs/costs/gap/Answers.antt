@@ -1,4 +1,4 @@
-use Rattle.std.proofs.Common.{◌≡◌, ◌∙◌, ℕ, sym, ap, subst₂, length, pos, arith}
+use Rattle.std.proofs.Common.{◌≡◌, ◌∙◌, ap, subst₂, length, pos, arith}
 use Rattle.std.proofs.lemmas.List.{get_or_read}
 use Rattle.mpc_exact.specs.Rational.{int, ◌+ℚ◌, neg_ℚ}
 use Rattle.mpc_frac.specs.Fits.{FitsSum}
