@@ -8,6 +8,7 @@ ghost use Rattle.mpc_sets.specs.RowSet.{IsSetOfRows};
 ghost use Rattle.mpc_claim.specs.History.{IsOpen};
 ghost use Rattle.mpc_workers.specs.Alone.{Delivers, IsDoneAlone};
 
+mod pool;
 #[cfg(test)]
 mod tests;
 
@@ -16,6 +17,7 @@ use mpc_frac::NoMemory;
 use mpc_port::Gate;
 use mpc_region::examine;
 use mpc_rows::Qp;
+pub use pool::{WorkError, enumerate};
 use std::alloc::Global;
 
 /// Examines a claimed set, passes the gate and delivers the verdict. Without memory the set is

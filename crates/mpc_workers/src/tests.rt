@@ -6,8 +6,8 @@ ghost use Rattle.mpc_space.specs.Definite.{IsDefinite};
 ghost use Rattle.mpc_space.specs.Matrix.{height};
 ghost use Rattle.mpc_linear.specs.Shape.{HasShape};
 
-use crate::enumerate_alone;
-use mpc_claim::{Action, Phase, Played, World};
+use crate::{WorkError, enumerate, enumerate_alone};
+use mpc_claim::{Action, EventKind, Phase, Played, World};
 use mpc_frac::{Frac, NoMemory};
 use mpc_linear::Matrix;
 use mpc_port::{Gate, OpenGate};
@@ -16,7 +16,7 @@ use mpc_rows::{Counts, Qp};
 use mpc_sets::ActiveSet;
 use std::alloc::Global;
 use std::process::Abort;
-use std::sync::Mutex;
+use std::sync::{Barrier, Mutex, Wait};
 use std::test::Fail;
 
 /// The matrix of one or two columns with these entries, where one column is the first of the two.
@@ -141,6 +141,67 @@ fn passes_the_gate(rt: HostRuntime) -> Result<(), Fail> {
     for (passage, set) in passages.iter().zip(sets) {
         assert_eq!(rt; passage.worker, 1);
         assert_eq!(rt; passage.mask, set.mask());
+    }
+    Ok(())
+}
+
+/// A gate that holds each worker with a set of one member until another has come as far.
+#[derive(Drop)]
+struct Meeting<R: Wait> {
+    rt: R,
+    both: Barrier,
+    passages: Mutex<Vec<Passage>>,
+}
+
+impl<R: Wait> Gate for Meeting<R> {
+    fn between(&self, worker: u32, mask: u64) {
+        if mask != 0 {
+            self.both.wait(&self.rt);
+        }
+        let mut passages = self.passages.lock(&self.rt);
+        let _ = passages.push(Passage { worker, mask });
+    }
+}
+
+#[test]
+fn two_workers_at_once(rt: HostRuntime) -> Result<(), Fail> {
+    let qp = limited(rt.alloc())?;
+    assert!(rt; is_positive_number(&qp.h));
+    let gate = Meeting {
+        rt,
+        both: Barrier::new(2),
+        passages: Mutex::new(Vec::new(rt.alloc())),
+    };
+    let registry = enumerate(&rt, rt.alloc(), &qp, 2, &gate).expect(&rt, "memory");
+    let history = registry.history();
+    assert_eq!(rt; history.len(), 6);
+    assert_eq!(rt; history[2].kind, EventKind::Claim);
+    assert_eq!(rt; history[3].kind, EventKind::Claim);
+    assert!(rt; history[2].worker != history[3].worker);
+    let passages = gate.passages.into_inner();
+    assert_eq!(rt; passages.len(), 3);
+    for passage in passages.iter() {
+        let claims = history.iter().filter(|event| {
+            event.kind == EventKind::Claim
+                && event.set.mask() == passage.mask
+                && event.worker == passage.worker
+        });
+        assert_eq!(rt; claims.count(), 1);
+    }
+    Ok(())
+}
+
+#[test]
+fn many_workers(rt: HostRuntime) -> Result<(), Fail> {
+    let qp = limited(rt.alloc())?;
+    assert!(rt; is_positive_number(&qp.h));
+    let registry = enumerate(&rt, rt.alloc(), &qp, 32, &OpenGate).expect(&rt, "memory");
+    assert!(rt; matches!(registry.phase(), Phase::Finished));
+    let laws = registry.into_laws(rt.alloc())?;
+    assert_eq!(rt; laws.len(), 3);
+    for workers in [0, 33] {
+        let refused = enumerate(&rt, rt.alloc(), &qp, workers, &OpenGate);
+        assert!(rt; matches!(refused, Err(WorkError::BadWorkers)));
     }
     Ok(())
 }

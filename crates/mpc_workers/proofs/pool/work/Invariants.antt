@@ -1,0 +1,5 @@
+use Rattle.mpc_workers.specs.Seats.{Fresh}
+use Rattle.mpc_workers.proofs.pool.work.Given as goal
+
+abbrev pub invariant-loop : goal.invariant-loop
+invariant-loop g l = Fresh l.fn.turn l.fn.qp l.fn._workers l.seat

@@ -1,0 +1,284 @@
+//! Workers that share a registry.
+
+ghost use Rattle.std.specs.Prelude.{◌≡◌, ◌<◌, ◌≤◌, ◌⊎◌, ◌↔◌, [], true, length, vec_len, IsTrue, IfOk, IfErr, OnOk, OnErr, All};
+ghost use Rattle.mpc_space.specs.Definite.{IsDefinite};
+ghost use Rattle.mpc_space.specs.Matrix.{height};
+ghost use Rattle.mpc_sets.specs.RowSet.{IsSetOfRows};
+ghost use Rattle.mpc_claim.specs.declared.events.EventKind.TheVariants.{Done, Drop};
+ghost use Rattle.mpc_claim.specs.declared.events.Tag.{Tag};
+ghost use Rattle.mpc_turn.specs.Known.{EndedAs, InHand};
+ghost use Rattle.mpc_workers.specs.declared.pool.WorkError.TheVariants.{BadWorkers};
+ghost use Rattle.mpc_workers.specs.Seats.{Ended, Fresh, IsDone, IsLeft, Joins, SeesEnd};
+
+use mpc_claim::{Claimed, Registry, Ticket, claim_laws, history_laws, legal_laws};
+use mpc_frac::NoMemory;
+use mpc_port::Gate;
+use mpc_region::examine;
+use mpc_rows::Qp;
+use mpc_turn::{Pass, Turn};
+use std::alloc::Global;
+use std::sync::Wait;
+use std::sync::atomic::{AtomicU64, Ordering};
+use std::thread;
+use std::thread::Threads;
+use thiserror::Error;
+
+/// The most workers of a pool.
+const MOST_WORKERS: u32 = 32;
+
+/// Why a pool has no registry.
+#[derive(Clone, Copy, Debug, PartialEq, Eq, Drop, Error)]
+pub enum WorkError {
+    #[error("out of memory")]
+    NoMemory,
+    /// A pool has from 1 to 32 workers.
+    #[error("a pool has from 1 to 32 workers")]
+    BadWorkers,
+}
+
+impl From<NoMemory> for WorkError {
+    ghost use Rattle.std.specs.Prelude.{◌≡◌};
+    ghost use Rattle.mpc_workers.specs.declared.pool.WorkError.TheVariants.{NoMemory as OutOfMemory};
+
+    ghost from_gives = { λ _ e. e ≡ OutOfMemory };
+
+    fn from(_refused: NoMemory) -> WorkError {
+        WorkError::NoMemory
+    }
+}
+
+/// A worker's pass, and whether it was refused memory.
+#[derive(Drop)]
+pub struct Seat {
+    pub pass: Pass,
+    pub failed: bool,
+}
+
+/// Counts one more delivery or abandonment, and wakes whoever waits for one.
+fn ring(ends: &AtomicU64) {
+    ends.fetch_add(1, Ordering::SeqCst);
+    ends.wake_all();
+}
+
+/// Examines a claimed set, passes the gate and delivers the verdict. Without memory the set is
+/// given up.
+fn work_on<T: Wait, G: Gate>(
+    rt: &T,
+    alloc: Global,
+    turn: &Turn,
+    gate: &G,
+    qp: &Qp,
+    pass: &mut Pass,
+    ticket: Ticket,
+) -> Result<(), NoMemory>
+    requires turn { pass.old.turn ≡ turn.now }
+    requires definite { IsDefinite qp.now.h.rows }
+    requires program { pass.old.program ≡ qp.now }
+    requires hand { InHand ticket pass.old }
+    requires set_of_rows { IsSetOfRows (height qp.now.g) ticket.set }
+    requires few { length ticket.set ≤ height qp.now.h }
+    ensures ok { OnOk result ((tag : Tag) × EndedAs pass.old ticket (Done tag) pass.new) }
+    ensures err { OnErr result (EndedAs pass.old ticket Drop pass.new) }
+{
+    let judged = match examine(alloc, qp, ticket.set()) {
+        Ok(judged) => judged,
+        Err(refused) => {
+            let _ = turn.abandon_as(rt, pass, ticket);
+            return Err(refused);
+        }
+    };
+    gate.between(ticket.worker(), ticket.set().mask());
+    let _ = turn.deliver_as(rt, pass, ticket, judged);
+    Ok(())
+}
+
+/// Claims, examines and delivers until the end or until memory is refused. Where all sets of the
+/// level are claimed, the worker sleeps until one of them is delivered.
+fn work<T: Wait, G: Gate>(
+    rt: &T,
+    alloc: Global,
+    turn: &Turn,
+    gate: &G,
+    qp: &Qp,
+    ends: &AtomicU64,
+    _workers: u32,
+    seat: &mut Seat,
+)
+    requires definite { IsDefinite qp.now.h.rows }
+    requires fresh { Fresh turn.now qp.now _workers seat.old }
+    ensures { Ended turn.now qp.now _workers seat.new }
+{
+    legal_laws();
+    claim_laws();
+    for _ in rt.forever() {
+        let count = ends.load(Ordering::SeqCst);
+        match turn.claim_as(rt, &mut seat.pass) {
+            Ok(Claimed::Job(ticket)) => {
+                match work_on(rt, alloc, turn, gate, qp, &mut seat.pass, ticket) {
+                    Ok(()) => ring(ends),
+                    Err(_) => {
+                        ring(ends);
+                        seat.failed = true;
+                        return;
+                    }
+                }
+            }
+            Ok(Claimed::Idle) => ends.park(rt, (count & 0xffff_ffff) as u32),
+            Ok(Claimed::Finished) => return,
+            Ok(Claimed::Stopped) => return,
+            Err(_) => {
+                seat.failed = true;
+                return;
+            }
+        }
+    }
+    unreachable!()
+}
+
+/// All seats at once.
+fn work_all<T: Threads + Wait + Sync, G: Gate + Sync>(
+    rt: &T,
+    alloc: Global,
+    turn: &Turn,
+    gate: &G,
+    qp: &Qp,
+    workers: u32,
+    seats: &mut [Seat],
+)
+    requires definite { IsDefinite qp.now.h.rows }
+    requires fresh { All (Fresh turn.now qp.now workers) seats.old }
+    ensures len { length seats.new ≡ length seats.old }
+    ensures ended { All (Ended turn.now qp.now workers) seats.new }
+{
+    let ends = AtomicU64::new(0);
+    thread::for_each_mut(
+        rt,
+        seats,
+        MOST_WORKERS as usize,
+        &|_, seat| work(rt, alloc, turn, gate, qp, &ends, workers, seat),
+    );
+}
+
+/// The same of a `Vec`.
+fn work_in<T: Threads + Wait + Sync, G: Gate + Sync>(
+    rt: &T,
+    alloc: Global,
+    turn: &Turn,
+    gate: &G,
+    qp: &Qp,
+    workers: u32,
+    seats: &mut Vec<Seat>,
+)
+    requires definite { IsDefinite qp.now.h.rows }
+    requires fresh { All (Fresh turn.now qp.now workers) seats.old.items }
+    ensures len { vec_len seats.new ≡ vec_len seats.old }
+    ensures ended { All (Ended turn.now qp.now workers) seats.new.items }
+{
+    work_all(rt, alloc, turn, gate, qp, workers, seats.as_mut_slice());
+}
+
+/// A seat for each worker, numbered from 1.
+fn seats_of(
+    alloc: Global,
+    turn: &Turn,
+    first: &mut Pass,
+    workers: u32,
+) -> Result<Vec<Seat>, NoMemory>
+    requires turn { first.old.turn ≡ turn.now }
+    requires first { first.old.first ≡ true }
+    requires none_lent { first.old.lent ≡ 0 }
+    requires few { workers ≤ 32 }
+    ensures first { IfOk result (λ v. first.new ≡ record first.old { lent = workers }) }
+    ensures count { IfOk result (λ v. vec_len v ≡ workers) }
+    ensures seats { IfOk result (λ v. All (Fresh turn.now first.old.program workers) v.items) }
+{
+    let mut seats = Vec::new(alloc);
+    let Ok(()) = seats.reserve(workers as usize) else {
+        return Err(NoMemory);
+    };
+    for i in 0..workers {
+        let pass = turn.split_pass(first, i + 1);
+        seats.push_reserved(Seat {
+            pass,
+            failed: false,
+        });
+    }
+    Ok(seats)
+}
+
+/// Takes all passes back. Whether none of the workers was refused memory.
+fn join_all(turn: &Turn, _qp: &Qp, _workers: u32, first: &mut Pass, mut seats: Vec<Seat>) -> bool
+    requires some { 0 < vec_len seats }
+    requires ended { All (Ended turn.now _qp.now _workers) seats.items }
+    requires first { Joins turn.now _qp.now _workers (vec_len seats) first.old }
+    requires none_ended { first.old.ended ≡ [] }
+    ensures joined { Joins turn.now _qp.now _workers 0 first.new }
+    ensures ended { IsTrue result → SeesEnd _qp.now first.new }
+{
+    let mut kept = true;
+    while let Some(seat) = seats.pop() {
+        let Seat { pass, failed } = seat;
+        turn.join_pass(first, pass);
+        kept = kept && !failed;
+    }
+    kept
+}
+
+/// The last claim, which finds the end that the workers saw.
+fn settle(mut registry: Registry, _qp: &Qp, _workers: u32) -> Result<Registry, NoMemory>
+    requires { IsLeft _qp.now _workers registry }
+    ensures { IfOk result (IsDone _qp.now _workers) }
+{
+    claim_laws();
+    match registry.claim(1)? {
+        Claimed::Job(ticket) => {
+            let _ = registry.abandon(ticket);
+            unreachable!()
+        }
+        Claimed::Idle => unreachable!(),
+        Claimed::Finished => {
+            let _history = registry.history();
+            Ok(registry)
+        }
+        Claimed::Stopped => {
+            let _history = registry.history();
+            Ok(registry)
+        }
+    }
+}
+
+/// Examines the candidates of the program with so many workers beside each other.
+///
+/// The registry is finished, or stopped by a wide verdict, and no set in it is open or given up. The
+/// gate is passed between each verdict and its delivery, with the number of the worker, from 1.
+/// `BadWorkers` where there aren't from 1 to 32 of them. Refused memory is the only other error: a
+/// worker that meets it gives up its set, and the others end.
+pub fn enumerate<T: Threads + Wait + Sync, G: Gate + Sync>(
+    rt: &T,
+    alloc: Global,
+    qp: &Qp,
+    workers: u32,
+    gate: &G,
+) -> Result<Registry, WorkError>
+    requires { IsDefinite qp.now.h.rows }
+    ensures done { IfOk result (IsDone qp.now workers) }
+    ensures workers { IfOk result (λ registry. (0 < workers) × (workers ≤ 32)) }
+    ensures bad_workers { IfErr result (λ e. (e ≡ BadWorkers) ↔ ((workers ≡ 0) ⊎ (32 < workers))) }
+{
+    if workers == 0 || workers > MOST_WORKERS {
+        return Err(WorkError::BadWorkers);
+    }
+    history_laws();
+    legal_laws();
+    let registry = Registry::begin(alloc, qp)?;
+    let (turn, mut first) = Turn::over(alloc, registry)?;
+    let mut seats = seats_of(alloc, &turn, &mut first, workers)?;
+    work_in(rt, alloc, &turn, gate, qp, workers, &mut seats);
+    if !join_all(&turn, qp, workers, &mut first, seats) {
+        return Err(WorkError::NoMemory);
+    }
+    match settle(turn.close(first), qp, workers) {
+        Ok(registry) => Ok(registry),
+        Err(_) => Err(WorkError::NoMemory),
+    }
+}
