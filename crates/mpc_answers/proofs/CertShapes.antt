@@ -1,12 +1,12 @@
 -- The leaves of a tree with its certificates have as many as a controller's leaves have, and each names rows of its leaf's system only.
-use Rattle.std.proofs.Common.{◌≡◌, ℕ, suc, ◌+◌, ◌*◌, ◌<◌, ◌≤◌, List, [], ◌∷◌, ◌++◌, length, get_or, map, cond, true, false, ◌⊎◌, inl, inr, pos, refl, sym, ◌∙◌, ap, subst, arith, append_assoc}
+use Rattle.std.proofs.Common.{◌≡◌, ℕ, suc, ◌+◌, ◌*◌, ◌<◌, ◌≤◌, List, [], ◌∷◌, ◌++◌, length, get_or, map, cond, true, false, ◌⊎◌, inl, inr, pos, refl, sym, ◌∙◌, subst, arith, append_assoc}
 use Rattle.std.specs.Prelude.{All}
 use Rattle.std.proofs.lemmas.Bool.{cond-true, cond-false, cases_Bool}
 use Rattle.std.proofs.lemmas.List.{append-nil, length-append, length-map}
 use Rattle.std.proofs.lemmas.List.FromFn.{length-map-range_with_len}
 use Rattle.std.proofs.lemmas.List.Elements.{All-nil, All-cons, All-from_get_or}
 use Rattle.std.proofs.lemmas.Option.{get_or_from_slice_get, slice_get-get_or}
-use Rattle.mpc_exact.specs.Rational.{ℚ, int}
+use Rattle.mpc_exact.specs.Rational.{ℚ}
 use Rattle.mpc_space.specs.Matrix.{height}
 use Rattle.mpc_linear.specs.declared.integers.RowInt.{RowInt}
 use Rattle.mpc_rows.specs.declared.programs.Qp.{Qp}
@@ -16,34 +16,16 @@ use Rattle.mpc_rows.specs.declared.trees.Node.{Node}
 use Rattle.mpc_rows.specs.declared.trees.Node.TheVariants.{Split, Law, NoMove}
 use Rattle.mpc_rows.specs.LinearSystem.{LinearSystem}
 use Rattle.mpc_rows.specs.Run.{is_zero}
-use Rattle.mpc_rows.specs.Certificates.{RisesFrom}
 use Rattle.mpc_rows.specs.LawRows.{whole_row, broken_row}
 use Rattle.mpc_rows.specs.SetRuns.{box_from, box_rows, joint_row, joint_rows}
-use Rattle.mpc_tree.specs.Systems.{hold_system, joint_system, widened}
+use Rattle.mpc_systems.specs.Writing.{widened}
+use Rattle.mpc_systems.specs.Systems.{hold_system, joint_system}
 use Rattle.mpc_tree.specs.Trees.{Cell, whole_box, yes_side, no_side, leaf, split}
 use Rattle.mpc_tree.specs.LeafCerts.{nonzero_from, IsCertOf, AreCertsOf, AreLawCerts as AreItsCerts, HasItsCerts}
-use Rattle.mpc_tree.specs.Certified.{IsCertified}
+use Rattle.mpc_tree.specs.Certified.{IsCertified, MultipliersAreCert}
 use Rattle.mpc_file.specs.Certificates.{IsCertOver, cell_rows, AreLawCerts, HaveCerts}
 
 -- ---- one certificate
--- the positions of the multipliers that aren't 0 rise
-zero_is_zero : (c : ℚ) → c ≡ int (pos 0) → is_zero c ≡ true
-unfolding Rattle.mpc_exact.specs.Rational.frac Rattle.mpc_exact.specs.Gcd.gcd
-zero_is_zero c e = ap is_zero e
-
-rises : (last p : ℕ) (ms : List ℚ) → last < p → RisesFrom last (nonzero_from p ms)
-rises last p [] h = tt
-rises last p (m ∷ ms) h = by (cases_Bool (is_zero m)) (rises last (p + 1) ms (omega arith)) (rises p (p + 1) ms (omega arith))
-  where
-    true_false : true ≡ false → ⊥
-    true_false e = cc
-
-    by : (is_zero m ≡ true) ⊎ (is_zero m ≡ false) → RisesFrom last (nonzero_from (p + 1) ms) → RisesFrom p (nonzero_from (p + 1) ms) → RisesFrom last (cond (is_zero m) (nonzero_from (p + 1) ms) ((p, m) ∷ nonzero_from (p + 1) ms))
-    by (inl e) skip take = subst (RisesFrom last) (sym (cond-true (is_zero m) (nonzero_from (p + 1) ms) ((p, m) ∷ nonzero_from (p + 1) ms) e)) skip
-    by (inr e) skip take =
-        subst (RisesFrom last) (sym (cond-false (is_zero m) (nonzero_from (p + 1) ms) ((p, m) ∷ nonzero_from (p + 1) ms) e))
-        (h, (λ z. true_false (sym (zero_is_zero m z) ∙ e)), take)
-
 -- the multipliers that aren't 0 stand at places of the list
 nonzero_within : (rows p : ℕ) (ms : List ℚ) → p + length ms ≤ rows + 1 → All (λ (entry : ℕ × ℚ). entry.0 ≤ rows) (nonzero_from p ms)
 nonzero_within rows p [] h = All-nil (λ (entry : ℕ × ℚ). entry.0 ≤ rows)
@@ -59,12 +41,12 @@ nonzero_within rows p (m ∷ ms) h = by (cases_Bool (is_zero m)) (nonzero_within
         subst (All (λ (entry : ℕ × ℚ). entry.0 ≤ rows)) (sym (cond-false (is_zero m) (nonzero_from (p + 1) ms) ((p, m) ∷ nonzero_from (p + 1) ms) e))
         (All-cons (λ (entry : ℕ × ℚ). entry.0 ≤ rows) (p, m) (nonzero_from (p + 1) ms) here later)
 
-nonzero_over : (rows : ℕ) (ms : List ℚ) → length ms ≡ rows → IsCertOver rows (nonzero_from 1 ms)
-nonzero_over rows ms e = record { is_cert = record { rises = rises 0 1 ms (omega arith) }; within = nonzero_within rows 1 ms (omega (arith, e)) }
+nonzero_over : MultipliersAreCert → (rows : ℕ) (ms : List ℚ) → length ms ≡ rows → IsCertOver rows (nonzero_from 1 ms)
+nonzero_over certs_are rows ms e = record { is_cert = certs_are ms; within = nonzero_within rows 1 ms (omega (arith, e)) }
 
 -- a certificate of a system names rows of it
-over_system : (s : LinearSystem) (rows : ℕ) (cert : List (ℕ × ℚ)) → length s.rows ≡ rows → IsCertOf s cert → IsCertOver rows cert
-over_system s rows cert e h = subst (IsCertOver rows) (sym h.is) (nonzero_over rows h.multipliers (h.ends.multipliers.size ∙ e))
+over_system : MultipliersAreCert → (s : LinearSystem) (rows : ℕ) (cert : List (ℕ × ℚ)) → length s.rows ≡ rows → IsCertOf s cert → IsCertOver rows cert
+over_system certs_are s rows cert e h = subst (IsCertOver rows) (sym h.is) (nonzero_over certs_are rows h.multipliers (h.ends.multipliers.size ∙ e))
 
 -- ---- how many rows a leaf's system has
 length-box_from : (width i : ℕ) (counts : List ℕ) → length (box_from width i counts) ≡ 2 * length counts
@@ -74,7 +56,7 @@ length-box_from width i (count ∷ counts) = omega (arith, length-box_from width
 length-one_more : (rows : List Row) (row : Row) → length (rows ++ row ∷ []) ≡ length rows + 1
 length-one_more rows row = omega (arith, length-append rows (row ∷ []))
 
-module _ (qp : Qp) (n m : ℕ) (states : length qp.counts ≡ n) (rows_are : height qp.g ≡ m) where
+module _ (certs_are : MultipliersAreCert) (qp : Qp) (n m : ℕ) (states : length qp.counts ≡ n) (rows_are : height qp.g ≡ m) where
   length-hold : (cell : List Row) (row : RowInt) → length (hold_system qp cell row).rows ≡ cell_rows n (length cell) + 1
   unfolding hold_system
   length-hold cell row =
@@ -103,7 +85,7 @@ module _ (qp : Qp) (n m : ℕ) (states : length qp.counts ≡ n) (rows_are : hei
           let row : RowInt = get_or rows i (record { a = []; b = pos 0 }) in
           let c = h.each i row (omega (arith, h.one_each)) (slice_get-get_or rows i (record { a = []; b = pos 0 }) (omega (arith, h.one_each))) in
           subst (IsCertOver (cell_rows n (length cell) + 1)) (sym (get_or_from_slice_get certs i c.0 [] c.1))
-          (over_system (hold_system qp cell row) (cell_rows n (length cell) + 1) c.0 (length-hold cell row) c.2)
+          (over_system certs_are (hold_system qp cell row) (cell_rows n (length cell) + 1) c.0 (length-hold cell row) c.2)
 
   law_certs : (laws : List LawOfSet) (cell : Cell) (number : ℕ) (certs : List (List (ℕ × ℚ))) → AreItsCerts qp laws cell number certs → AreLawCerts n m (length cell.rows) certs
   law_certs laws cell number certs h = record {
@@ -114,7 +96,7 @@ module _ (qp : Qp) (n m : ℕ) (states : length qp.counts ≡ n) (rows_are : hei
   leaf_certs : (laws : List LawOfSet) (cell : Cell) (node : Node) (depths : List ℕ) (later : List Node) → HasItsCerts qp laws cell node → HaveCerts n m depths later → HaveCerts n m (length cell.rows ∷ depths) (node ∷ later)
   leaf_certs laws cell (Split row) depths later h rest = absurd h
   leaf_certs laws cell (Law number certs) depths later h rest = (law_certs laws cell number certs h, rest)
-  leaf_certs laws cell (NoMove cert) depths later h rest = (over_system (joint_system qp cell.rows) (cell_rows n (length cell.rows) + m) cert (length-joint cell.rows) h, rest)
+  leaf_certs laws cell (NoMove cert) depths later h rest = (over_system certs_are (joint_system qp cell.rows) (cell_rows n (length cell.rows) + m) cert (length-joint cell.rows) h, rest)
 
   -- ---- the certificates of a tree, before those of the trees behind it
   pub tree_certs : (laws : List LawOfSet) (cell : Cell) (nodes : List Node) → IsCertified qp laws cell nodes → (depths : List ℕ) (later : List Node) → HaveCerts n m depths later → HaveCerts n m (length cell.rows ∷ depths) (nodes ++ later)

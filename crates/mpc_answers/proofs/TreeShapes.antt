@@ -23,7 +23,7 @@ use Rattle.mpc_condense.specs.Condensed.{IsCondensed}
 use Rattle.mpc_file.specs.PreorderLaws.{JoinedSpell}
 use Rattle.mpc_file.specs.Parts.{row_count, IsLawFor, IsSplitRow, IsNodeFor}
 use Rattle.mpc_tree.specs.Trees.{Cell, whole_box, yes_side, no_side, leaf, split, Divides, IsLeafOf, IsTreeOf}
-use Rattle.mpc_tree.specs.Certified.{IsCertified}
+use Rattle.mpc_tree.specs.Certified.{CertifiedIsTree, MultipliersAreCert}
 use Rattle.mpc_answers.specs.Replies.{PartsHaveShapes, PlantTableIsSmall}
 use Rattle.mpc_answers.proofs.ElementLemmas.{all_contained}
 use Rattle.mpc_answers.proofs.CertShapes.{whole_certs}
@@ -65,19 +65,13 @@ module _ (region_points : RegionPoints) (law_row_size : LawRowSize) (small_row :
         All-cons (IsNodeFor plant.n (length laws)) (Split row) (one ++ two) (split_for cell place row d)
         (All-append (IsNodeFor plant.n (length laws)) one two (nodes_fit (yes_side cell place row) one y) (nodes_fit (no_side cell place row) two n))
 
--- the certificates aside, a certified tree is a tree of the table
-tree_of_certified : (qp : Qp) (laws : List LawOfSet) (cell : Cell) (nodes : List Node) → IsCertified qp laws cell nodes → IsTreeOf qp laws cell nodes
-tree_of_certified qp laws cell _ (leaf _ node e) = leaf cell node e.0.ends
-tree_of_certified qp laws cell _ (split _ place row one two d y n) =
-    split cell place row one two d.divides (tree_of_certified qp laws (yes_side cell place row) one y) (tree_of_certified qp laws (no_side cell place row) two n)
-
-pub tree_shapes : JoinedSpell → RegionPoints → LawRowSize → SmallPrimitiveRow → PlantTableIsSmall → PartsHaveShapes
-tree_shapes join points size small few qp plant laws nodes condensed table fit is =
-    let tree : IsTreeOf qp laws whole_box nodes = tree_of_certified qp laws whole_box nodes is in
+pub tree_shapes : CertifiedIsTree → MultipliersAreCert → JoinedSpell → RegionPoints → LawRowSize → SmallPrimitiveRow → PlantTableIsSmall → PartsHaveShapes
+tree_shapes is_tree certs_are join points size small few qp plant laws nodes condensed table fit is =
+    let tree : IsTreeOf qp laws whole_box nodes = is_tree qp laws whole_box nodes is in
     record {
       laws_few = few plant qp laws condensed table;
       laws_fit = laws_fit points size small qp plant condensed laws table fit;
       nodes_fit = nodes_fit points size small qp plant condensed laws table fit whole_box nodes tree;
       complete = spells_tree join (Divides qp laws) (IsLeafOf qp laws) (table_leaf qp laws) whole_box nodes tree;
-      certs_fit = whole_certs qp plant.n (row_count plant) (states points size small qp plant condensed) condensed.rows_are laws nodes is;
+      certs_fit = whole_certs certs_are qp plant.n (row_count plant) (states points size small qp plant condensed) condensed.rows_are laws nodes is;
     }

@@ -10,6 +10,7 @@ use mpc_file::preorder_laws;
 use mpc_linear::primitive_laws;
 use mpc_rows::{law_laws, region_laws};
 use mpc_sets::{count_laws, order_laws};
+use mpc_tree::{multipliers_are_cert, one_tree};
 
 /// At each state of the box, also between the grid states, the walk through the tree of a plant's table ends at the first move of the
 /// unique cheapest admissible sequence, and says `infeasible` where no sequence is admissible (Tøndel, Johansen and Bemporad, 2003).
@@ -32,6 +33,8 @@ pub fn tree_shapes()
     region_laws();
     primitive_laws();
     preorder_laws();
+    one_tree();
+    multipliers_are_cert();
 }
 
 /// A table over at most 40 rows has at most 4,598,479 laws, and one in at most four unknowns has at most 523,686. So the table of a
