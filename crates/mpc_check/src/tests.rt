@@ -17,6 +17,7 @@ use mpc_rows::{Cert, Certs, Law, LawTable, Node, Tree};
 use mpc_sets::ActiveSet;
 use std::alloc::Global;
 use std::test::Fail;
+use std::thread::Threads;
 
 /// A matrix of one row.
 fn one_row(alloc: Global, first: Frac, second: Frac) -> Result<Matrix, NoMemory>
@@ -168,8 +169,8 @@ fn bare_leaf(laws: &LawTable, cert: Cert) -> Option<Node>
 }
 
 /// What is found of the controller with one leaf, for a plant with so many rows.
-fn found(
-    rt: &HostRuntime,
+fn found<T: Threads + Sync>(
+    rt: &T,
     alloc: Global,
     plant: Plant,
     laws: LawTable,
@@ -230,8 +231,8 @@ const EMPTY: &[u8] =
     b"{\"version\":1,\"horizon\":1,\"A\":[[1]],\"B\":[[1]],\"Q\":[[1]],\"R\":[[1]],\"P\":[[1]],\"rows\":[{\"u\":[1],\"max\":-1},{\"u\":[-1],\"max\":-1}],\"grid\":[{\"low\":-4,\"step\":1,\"count\":8}]}";
 
 /// The one law of no row, with the move `2 + slope t`, for a plant without rows.
-fn free(
-    rt: &HostRuntime,
+fn free<T: Threads + Sync>(
+    rt: &T,
     alloc: Global,
     file: &[u8],
     slope: Frac,
@@ -244,7 +245,11 @@ fn free(
 }
 
 /// The same with the row that always holds, and a certificate at this position.
-fn idle(rt: &HostRuntime, alloc: Global, position: u64) -> Option<Result<Answer, CheckError>> {
+fn idle<T: Threads + Sync>(
+    rt: &T,
+    alloc: Global,
+    position: u64,
+) -> Option<Result<Answer, CheckError>> {
     let plant = read_plant(alloc, IDLE).ok()?;
     let half = Frac::new(-1, 2).ok()?;
     let mut laws = LawTable::new(alloc);
@@ -254,7 +259,7 @@ fn idle(rt: &HostRuntime, alloc: Global, position: u64) -> Option<Result<Answer,
 }
 
 /// The law of the bound, with the move 2 and the multiplier `-t`.
-fn bounded(rt: &HostRuntime, alloc: Global) -> Option<Result<Answer, CheckError>> {
+fn bounded<T: Threads + Sync>(rt: &T, alloc: Global) -> Option<Result<Answer, CheckError>> {
     let plant = read_plant(alloc, BOUNDED).ok()?;
     let mut laws = LawTable::new(alloc);
     add_law(alloc, &plant, &mut laws, 1, 2, Frac::whole(0), (0, -1))?;
@@ -263,8 +268,8 @@ fn bounded(rt: &HostRuntime, alloc: Global) -> Option<Result<Answer, CheckError>
 }
 
 /// No law, and a certificate at these positions that nothing is admissible.
-fn empty(
-    rt: &HostRuntime,
+fn empty<T: Threads + Sync>(
+    rt: &T,
     alloc: Global,
     first: u64,
     second: u64,

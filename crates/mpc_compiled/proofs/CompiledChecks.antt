@@ -1,8 +1,8 @@
 -- Of what is compiled, nothing is found but numbers that are too wide.
 use Rattle.std.proofs.Common.{◌≡◌, ℕ, ◌+◌, ◌<◌, ◌≤◌, inl, inr, List, length, Some, refl, sym, subst, arith}
-use Rattle.std.specs.Prelude.{slice_get, slice_index}
-use Rattle.mpc_space.specs.Matrix.{height, entry}
-use Rattle.mpc_plant.specs.declared.plants.Plant.{Plant}
+use Rattle.std.specs.Prelude.{Contains, slice_get, slice_index}
+use Rattle.std.proofs.lemmas.Option.{slice_get_within, get_or_from_slice_get}
+use Rattle.mpc_space.specs.Matrix.{height}
 use Rattle.mpc_rows.specs.declared.programs.Qp.{Qp}
 use Rattle.mpc_rows.specs.declared.laws.Law.{Law as LawOfSet}
 use Rattle.mpc_rows.specs.declared.systems.Row.{Row}
@@ -11,26 +11,23 @@ use Rattle.mpc_rows.specs.declared.trees.Node.TheVariants.{Split, Law, NoMove}
 use Rattle.mpc_rows.specs.declared.places.Place.{Place}
 use Rattle.mpc_rows.specs.declared.places.Place.TheVariants.{CheckLaw, CheckLeaf}
 use Rattle.mpc_rows.specs.Laws.{IsLaw}
-use Rattle.mpc_definite.proofs.Forms.{definite_of}
-use Rattle.mpc_best.proofs.SameRows.{one_program}
+use Rattle.mpc_definite.specs.PivotLaws.{DefiniteByPivots}
+use Rattle.mpc_best.specs.BestReplies.{OneProgram}
 use Rattle.mpc_file.specs.Parts.{Parts, row_count}
 use Rattle.mpc_file.specs.Walk.{IsLeaf}
-use Rattle.mpc_answers.proofs.TreeWalks.{contains_at}
-use Rattle.mpc_check.specs.declared.answers.Answer.{Answer}
+use Rattle.mpc_file.specs.PreorderLaws.{JoinedSpell}
 use Rattle.mpc_check.specs.declared.answers.Answer.TheVariants.{Accepted, Refused}
-use Rattle.mpc_check.specs.declared.answers.CheckError.{CheckError}
 use Rattle.mpc_check.specs.declared.answers.CheckError.TheVariants.{Wide, NotDefinite, NoMemory}
 use Rattle.mpc_check.specs.declared.answers.Spot.{Spot}
 use Rattle.mpc_check.specs.declared.answers.Spot.TheVariants.{Stationary, Active, LeafRow, Leaf}
-use Rattle.mpc_check.specs.Systems.{joint_system}
+use Rattle.mpc_systems.specs.Systems.{joint_system}
 use Rattle.mpc_check.specs.Certs.{CertFits, CertRefutes}
 use Rattle.mpc_check.specs.Findings.{Finding, refused, too_wide, not_definite, IsUnmet}
-use Rattle.mpc_check.specs.LawConditions.{GradientFits, IsStationaryAt, ActiveFits, IsActiveAt, LawMet, LawFinds, LawsFind, LawsMet}
+use Rattle.mpc_check.specs.LawConditions.{GradientFits, IsStationaryAt, ActiveFits, IsActiveAt, LawMet, LawFinds, LawsFind, LawsMet, LawIsStationary, LawIsActive}
 use Rattle.mpc_check.specs.LeafConditions.{RowFits, RowHolds, NodeMet, NodeFinds, TreeMet, TreeFinds}
-use Rattle.mpc_check.specs.Acceptance.{IsProgramOf, IsConvex, ProgramFinds, BehindFinds, Accepts, IsFound, IsAnswer, IsCause}
-use Rattle.mpc_check.proofs.ProgramPlaces.{not_wide, passes_not_positive, passes_wide}
-use Rattle.mpc_compiled.specs.Compiled.{IsCompiled, IsOfLawOrLeaf, IsOfWidth, IsWidthError, LawFits, LawsFit, LeafFits, LeavesFit}
-use Rattle.mpc_compiled.proofs.LawForms.{stationary_at, active_at}
+use Rattle.mpc_check.specs.Paths.{OnePath}
+use Rattle.mpc_check.specs.Acceptance.{IsConvex, BehindFinds, NoProgramFinding}
+use Rattle.mpc_compiled.specs.Compiled.{IsCompiled, IsOfLawOrLeaf, IsOfWidth, LawFits, LawsFit, LeafFits, LeavesFit, OnlyWidthFound, NoRefusal, OnlyWidthErrs, FittingIsAccepted}
 use Rattle.mpc_compiled.proofs.LeavesHold.{NodeHolds, nodes_hold}
 
 -- of a condition that holds
@@ -39,23 +36,22 @@ holding parts fits holds spot place p h (refused s) u = u.2 h
 holding parts fits holds spot place p h (too_wide q) u = subst (IsOfLawOrLeaf parts) (sym u.0) p
 holding parts fits holds spot place p h (not_definite j) u = u
 
--- ---- the program has no finding
-module _ (plant : Plant) (qp : Qp) (program : IsProgramOf qp plant) (convex : IsConvex qp) where
-  same_qp : (other : Qp) → IsProgramOf other plant → qp ≡ other
-  same_qp other p = one_program plant qp other program.condensed p.condensed
+contains_at : (laws : List LawOfSet) (place : ℕ) (law : LawOfSet) → slice_get laws place ≡ Some law → Contains laws law
+contains_at laws place law at = (place, slice_get_within laws place law at, get_or_from_slice_get laws place law law at)
 
-  convex_too : (other : Qp) → IsProgramOf other plant → IsConvex other
-  convex_too other p = subst IsConvex (same_qp other p) convex
+-- what is known of pivots, programs, laws, paths and trees
+pub record Laws : Type 0 where
+  definite : DefiniteByPivots
+  one_program : OneProgram
+  no_program_finding : NoProgramFinding
+  stationary_at : LawIsStationary
+  active_at : LawIsActive
+  one_path : OnePath
+  join : JoinedSpell
 
-  no_program_finding : (f : Finding) → ProgramFinds plant f → ⊥
-  no_program_finding (refused spot) a = a
-  no_program_finding (too_wide place) (inl w) = not_wide plant place program.fits w
-  no_program_finding (too_wide place) (inr w) = passes_wide (entry w.qp.h) (height w.qp.h) (convex_too w.qp w.program).passes w.wide.step w.wide.first
-  no_program_finding (not_definite step) a = passes_not_positive (entry a.qp.h) (height a.qp.h) (convex_too a.qp a.program).passes step a.bad.first
-
-module _ (qp : Qp) (parts : Parts) (is : IsCompiled qp parts) where
+module _ (laws : Laws) (qp : Qp) (parts : Parts) (is : IsCompiled qp parts) where
   convex : IsConvex qp
-  convex = record { definite = definite_of qp.h.rows is.program.condensed.h_symmetric (λ m l. is.pivots.positive m l); passes = is.pivots }
+  convex = record { definite = laws.definite qp.h.rows is.program.condensed.h_symmetric (λ m l. is.pivots.positive m l); passes = is.pivots }
 
   rows_are : height qp.g ≡ row_count parts.plant
   rows_are = is.program.condensed.rows_are
@@ -74,12 +70,12 @@ module _ (qp : Qp) (parts : Parts) (is : IsCompiled qp parts) where
   law_found number law l p f (inl a) =
       let r = a.place in
       let c = a.here.place in
-      holding parts (GradientFits qp law r c) (IsStationaryAt qp law r c) (Stationary number (r + 1)) (CheckLaw number) p (stationary_at qp law l r c a.here.within) f a.here.here
+      holding parts (GradientFits qp law r c) (IsStationaryAt qp law r c) (Stationary number (r + 1)) (CheckLaw number) p (laws.stationary_at qp law l r c a.here.within) f a.here.here
   law_found number law l p f (inr a) =
       let k = a.1.place in
       let i = slice_index law.set k in
       let c = a.1.here.place in
-      holding parts (ActiveFits qp law i c) (IsActiveAt qp law i c) (Active number i) (CheckLaw number) p (active_at qp law l k c a.1.within a.1.here.within) f a.1.here.here
+      holding parts (ActiveFits qp law i c) (IsActiveAt qp law i c) (Active number i) (CheckLaw number) p (laws.active_at qp law l k c a.1.within a.1.here.within) f a.1.here.here
 
   laws_found : (f : Finding) → LawsFind qp parts.laws f → IsOfWidth parts f
   laws_found f a = law_found (a.place + 1) a.here.law (law_at a.place a.here.law a.here.is) (of_law a.place a.within) f a.here.finds
@@ -99,7 +95,7 @@ module _ (qp : Qp) (parts : Parts) (is : IsCompiled qp parts) where
   tree_found : (f : Finding) → TreeFinds qp parts.laws parts.tree f → IsOfWidth parts f
   tree_found f a =
       let b = a.here in
-      node_found b.path a.place b.node b.is (nodes_hold qp parts.laws parts.tree is.tree a.place b.path b.node b.leads b.is) f b.finds
+      node_found b.path a.place b.node b.is (nodes_hold qp parts.laws laws.join laws.one_path parts.tree is.tree a.place b.path b.node b.leads b.is) f b.finds
 
   behind_found : (f : Finding) → BehindFinds qp parts f → IsOfWidth parts f
   behind_found f (inl a) = laws_found f a
@@ -108,8 +104,8 @@ module _ (qp : Qp) (parts : Parts) (is : IsCompiled qp parts) where
   -- ---- where all numbers fit
   law_met : (law : LawOfSet) → IsLaw qp law → LawFits qp law → LawMet qp law
   law_met law l fit = record {
-    stationary = λ r below c within. record { fits_so = fit.gradients r c below within; holds_so = stationary_at qp law l r c within };
-    active = λ k below c within. record { fits_so = fit.members k c below within; holds_so = active_at qp law l k c below within };
+    stationary = λ r below c within. record { fits_so = fit.gradients r c below within; holds_so = laws.stationary_at qp law l r c within };
+    active = λ k below c within. record { fits_so = fit.members k c below within; holds_so = laws.active_at qp law l k c below within };
   }
 
   laws_met : LawsFit qp parts.laws → LawsMet qp parts.laws
@@ -121,21 +117,33 @@ module _ (qp : Qp) (parts : Parts) (is : IsCompiled qp parts) where
   node_met path (NoMove cert) h fit = record { fits_so = fit; holds_so = h }
 
   tree_met : LeavesFit qp parts.laws parts.tree → TreeMet qp parts.laws parts.tree
-  tree_met fit place below path node leads at = node_met path node (nodes_hold qp parts.laws parts.tree is.tree place path node leads at) (fit place path node leads at)
+  tree_met fit place below path node leads at = node_met path node (nodes_hold qp parts.laws laws.join laws.one_path parts.tree is.tree place path node leads at) (fit place path node leads at)
 
 -- ---- the laws
-pub only_width : (qp : Qp) (parts : Parts) (f : Finding) → IsCompiled qp parts → IsFound parts f → IsOfWidth parts f
-only_width qp parts f is (inl a) = absurd (no_program_finding parts.plant qp is.program (convex qp parts is) f a)
-only_width qp parts f is (inr a) = behind_found qp parts is f (subst (λ (p : Qp). BehindFinds p parts f) (sym (same_qp parts.plant qp is.program (convex qp parts is) a.qp a.program)) a.first)
+module _ (laws : Laws) where
+  pub only_width : OnlyWidthFound
+  only_width qp parts f is (inl a) = absurd (laws.no_program_finding parts.plant qp f is.program (convex laws qp parts is) a)
+  only_width qp parts f is (inr a) = behind_found laws qp parts is f (subst (λ (p : Qp). BehindFinds p parts f) (laws.one_program parts.plant a.qp qp a.program.condensed is.program.condensed) a.first)
 
-pub no_refusal : (qp : Qp) (parts : Parts) (answer : Answer) → IsCompiled qp parts → IsAnswer parts answer → answer ≡ Accepted
-no_refusal qp parts Accepted is a = refl
-no_refusal qp parts (Refused spot) is a = absurd (only_width qp parts (refused spot) is a)
+  pub no_refusal : NoRefusal
+  no_refusal qp parts Accepted is a = refl
+  no_refusal qp parts (Refused spot) is a = absurd (only_width qp parts (refused spot) is a)
 
-pub only_width_errs : (qp : Qp) (parts : Parts) (error : CheckError) → IsCompiled qp parts → IsCause parts error → IsWidthError parts error
-only_width_errs qp parts (Wide place) is a = only_width qp parts (too_wide place) is a
-only_width_errs qp parts (NotDefinite step) is a = only_width qp parts (not_definite step) is a
-only_width_errs qp parts NoMemory is a = tt
+  pub only_width_errs : OnlyWidthErrs
+  only_width_errs qp parts (Wide place) is a = only_width qp parts (too_wide place) is a
+  only_width_errs qp parts (NotDefinite step) is a = only_width qp parts (not_definite step) is a
+  only_width_errs qp parts NoMemory is a = tt
 
-pub fitting_accepted : (qp : Qp) (parts : Parts) → IsCompiled qp parts → LawsFit qp parts.laws → LeavesFit qp parts.laws parts.tree → Accepts parts
-fitting_accepted qp parts is laws leaves = record { qp = qp; program = is.program; convex = convex qp parts is; behind = record { laws = laws_met qp parts is laws; leaves = tree_met qp parts is leaves } }
+  pub fitting_accepted : FittingIsAccepted
+  fitting_accepted qp parts is fit leaves = record { qp = qp; program = is.program; convex = convex laws qp parts is; behind = record { laws = laws_met laws qp parts is fit; leaves = tree_met laws qp parts is leaves } }
+
+pub the_laws : DefiniteByPivots → OneProgram → NoProgramFinding → LawIsStationary → LawIsActive → OnePath → JoinedSpell → Laws
+the_laws definite one_program none stationary active path join = record {
+  definite = definite;
+  one_program = one_program;
+  no_program_finding = none;
+  stationary_at = stationary;
+  active_at = active;
+  one_path = path;
+  join = join;
+}

@@ -7,13 +7,13 @@ use Rattle.std.proofs.lemmas.List.{append-nil, length-append, get_or_append_left
 use Rattle.std.proofs.lemmas.Option.{slice_get-get_or, get_or_from_slice_get, slice_get_within}
 use Rattle.mpc_linear.specs.declared.integers.RowInt.{RowInt}
 use Rattle.mpc_rows.specs.declared.trees.Node.{Node}
-use Rattle.mpc_rows.specs.declared.trees.Node.TheVariants.{Split, NoMove}
+use Rattle.mpc_rows.specs.declared.trees.Node.TheVariants.{Split, Law, NoMove}
 use Rattle.mpc_file.specs.Preorder.{IsTree, IsNoSide}
+use Rattle.mpc_file.specs.PreorderLaws.{JoinedSpell}
 use Rattle.mpc_file.specs.Walk.{IsLeaf}
 use Rattle.mpc_tree.specs.Trees.{Cell, whole_box, yes_side, no_side, IsTreeWhere, leaf, split}
 use Rattle.mpc_check.specs.Paths.{PathTo, root}
 use Rattle.mpc_check.specs.Paths.{yes_side as to_yes, no_side as to_no}
-use Rattle.mpc_answers.proofs.TreeWalks.{spells_tree}
 
 abbrev no_node : Node
 no_node = NoMove []
@@ -34,7 +34,16 @@ part_there nodes before part behind is =
     let count : length before + length part - length before ≡ length part = omega arith in
     (λ i. take (count i) (drop (length before) (is i))) ∙ ap (take (length part)) (drop-append_seam before (part ++ behind)) ∙ take-append_seam part behind
 
-module _ (splits : Cell → ℕ → RowInt → Type 0) (ends : Cell → Node → Type 0) (leaves : (cell : Cell) (node : Node) → ends cell node → IsLeaf node) where
+module _ (join : JoinedSpell) (splits : Cell → ℕ → RowInt → Type 0) (ends : Cell → Node → Type 0) (leaves : (cell : Cell) (node : Node) → ends cell node → IsLeaf node) where
+  leaf_spells : (node : Node) → IsLeaf node → IsTree (node ∷ [])
+  leaf_spells (Split row) h = absurd h
+  leaf_spells (Law law certs) h = refl
+  leaf_spells (NoMove cert) h = refl
+
+  spells_tree : (cell : Cell) (tree : List Node) → IsTreeWhere splits ends cell tree → IsTree tree
+  spells_tree cell _ (leaf _ node e) = leaf_spells node (leaves cell node e)
+  spells_tree cell _ (split _ place row side other d y n) = join 1 1 side other (spells_tree (yes_side cell place row) side y) (spells_tree (no_side cell place row) other n)
+
   some_nodes : (cell : Cell) (tree : List Node) → IsTreeWhere splits ends cell tree → 0 < length tree
   some_nodes cell _ (leaf _ node e) = omega arith
   some_nodes cell _ (split _ place row side other d y n) = omega arith
@@ -119,7 +128,7 @@ module _ (splits : Cell → ℕ → RowInt → Type 0) (ends : Cell → Node →
     leaves_from : (cell : Cell) (tree : List Node) → IsTreeWhere splits ends cell tree → (before behind : List Node) → nodes ≡ before ++ (tree ++ behind) → PathTo nodes (length before) cell.rows → LeavesFrom (length before) tree
     leaves_from cell _ (leaf _ node e) before behind is p = one_leaf cell node e (length before) p
     leaves_from cell _ (split _ place row side other d y n) before behind is p =
-        let tree : IsTree side = spells_tree splits ends leaves (yes_side cell place row) side y in
+        let tree : IsTree side = spells_tree (yes_side cell place row) side y in
         sides before side other behind row cell place is p
         (leaves_from (yes_side cell place row) side y (before_yes before side other behind row cell place is p) (other ++ behind) (yes_joined before side other behind row cell place is p) (leads_yes before side other behind row cell place is p))
         (leaves_from (no_side cell place row) other n (before_no before side other behind row cell place is p) behind (no_joined before side other behind row cell place is p) (leads_no before side other behind row cell place is p tree (some_nodes (no_side cell place row) other n)))

@@ -11,37 +11,26 @@ use Rattle.mpc_rows.specs.declared.systems.Row.{Row}
 use Rattle.mpc_rows.specs.declared.trees.Node.{Node}
 use Rattle.mpc_rows.specs.declared.trees.Node.TheVariants.{Split, Law, NoMove}
 use Rattle.mpc_rows.specs.LawRows.{IsLawRow}
+use Rattle.mpc_file.specs.PreorderLaws.{JoinedSpell}
 use Rattle.mpc_file.specs.Walk.{IsLeaf}
 use Rattle.mpc_file.specs.Replies.{IsLawNumbered}
-use Rattle.mpc_tree.specs.Systems.{hold_system, joint_system}
+use Rattle.mpc_systems.specs.Systems.{hold_system, joint_system}
 use Rattle.mpc_tree.specs.Trees.{Cell, whole_box}
-use Rattle.mpc_tree.specs.LeafCerts.{IsCertOf, AreLawCerts, HasItsCerts}
+use Rattle.mpc_tree.specs.LeafCerts.{AreLawCerts, HasItsCerts}
 use Rattle.mpc_tree.specs.NodeRuns.{DividesAndFits, EndsAndFits}
 use Rattle.mpc_tree.specs.Certified.{IsCertified}
-use Rattle.mpc_check.specs.Systems.{failing_system}
-use Rattle.mpc_check.specs.Systems.{joint_system as whole_system}
 use Rattle.mpc_check.specs.Certs.{CertRefutes}
-use Rattle.mpc_check.specs.Paths.{PathTo}
+use Rattle.mpc_check.specs.Paths.{PathTo, OnePath}
 use Rattle.mpc_check.specs.LeafConditions.{RowHolds}
-use Rattle.mpc_check.proofs.PathLemmas.{one_path}
 use Rattle.mpc_compiled.proofs.WholeCerts.{cert_refutes}
 use Rattle.mpc_compiled.proofs.LeafPaths.{leaf_at}
 
 module _ (qp : Qp) (laws : List LawOfSet) where
-  -- ---- the systems of the search are those of the checker
-  failing_refutes : (cell : List Row) (row : RowInt) (cert : List (ℕ × ℚ)) → IsCertOf (hold_system qp cell row) cert → CertRefutes (failing_system qp cell row) cert
-  unfolding hold_system
-  failing_refutes cell row cert h = cert_refutes (hold_system qp cell row) cert h
-
-  whole_refutes : (cell : List Row) (cert : List (ℕ × ℚ)) → IsCertOf (joint_system qp cell) cert → CertRefutes (whole_system qp cell) cert
-  unfolding joint_system
-  whole_refutes cell cert h = cert_refutes (joint_system qp cell) cert h
-
   -- ---- a leaf behind the rows of its path
   abbrev pub NodeHolds : List Row → Node → Type 0
   NodeHolds path (Split row) = Unit {0}
   NodeHolds path (Law number certs) = (law : LawOfSet) → IsLawNumbered laws number law → (i : ℕ) → i < height qp.g → RowHolds qp path law certs i
-  NodeHolds path (NoMove cert) = CertRefutes (whole_system qp path) cert
+  NodeHolds path (NoMove cert) = CertRefutes (joint_system qp path) cert
 
   no_row : RowInt
   no_row = record { a = []; b = pos 0 }
@@ -58,13 +47,13 @@ module _ (qp : Qp) (laws : List LawOfSet) where
         is_row = subst (λ (l : LawOfSet). IsLawRow qp l (i + 1) (get_or h.rows i no_row)) same (h.of_law.each i below);
         cert = c.0;
         is_cert = c.1;
-        refutes = failing_refutes cell.rows (get_or h.rows i no_row) c.0 c.2;
+        refutes = cert_refutes (hold_system qp cell.rows (get_or h.rows i no_row)) c.0 c.2;
       }
 
   node_holds : (cell : Cell) (node : Node) → HasItsCerts qp laws cell node → NodeHolds cell.rows node
   node_holds cell (Split row) h = absurd h
   node_holds cell (Law number certs) h = law_holds cell number certs h
-  node_holds cell (NoMove cert) h = whole_refutes cell.rows cert h
+  node_holds cell (NoMove cert) h = cert_refutes (joint_system qp cell.rows) cert h
 
   -- ---- each node of the tree
   abbrev Ends : Cell → Node → Type 0
@@ -75,10 +64,10 @@ module _ (qp : Qp) (laws : List LawOfSet) where
   certified_leaf cell (Law number certs) e = tt
   certified_leaf cell (NoMove cert) e = tt
 
-  module _ (nodes : List Node) (tree : IsCertified qp laws whole_box nodes) where
+  module _ (join : JoinedSpell) (one_path : OnePath) (nodes : List Node) (tree : IsCertified qp laws whole_box nodes) where
     leaf_holds : (place : ℕ) (path : List Row) (node : Node) → PathTo nodes place path → slice_get nodes place ≡ Some node → IsLeaf node → NodeHolds path node
     leaf_holds place path node leads at l =
-        let a = leaf_at (DividesAndFits qp laws) Ends certified_leaf nodes tree place node at l in
+        let a = leaf_at join (DividesAndFits qp laws) Ends certified_leaf nodes tree place node at l in
         subst (λ p. NodeHolds p node) (one_path nodes place a.cell.rows a.leads path leads) (node_holds a.cell node a.ends_here.1)
 
     pub nodes_hold : (place : ℕ) (path : List Row) (node : Node) → PathTo nodes place path → slice_get nodes place ≡ Some node → NodeHolds path node

@@ -1,4 +1,3 @@
-pub mod LawForms
 pub mod WholeCerts
 pub mod LeafPaths
 pub mod LeavesHold

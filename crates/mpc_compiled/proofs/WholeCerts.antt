@@ -1,21 +1,30 @@
 -- The multipliers that a certificate names are those that it was made from, so it refutes its system.
 use Rattle.std.proofs.Common.{◌≡◌, ℕ, zero, suc, ◌+◌, ◌<◌, ◌≤◌, ◌⊎◌, inl, inr, Bool, true, false, cond, List, [], ◌∷◌, length, pos, refl, sym, ◌∙◌, ap, subst, arith}
-use Rattle.std.specs.Prelude.{eqb}
-use Rattle.std.proofs.lemmas.Bool.{cond-true, cond-false}
+use Rattle.std.specs.Prelude.{T, eqb}
+use Rattle.std.proofs.lemmas.Bool.{cond-true, cond-false, and_parts}
 use Rattle.std.proofs.lemmas.Bool.Decides.{eqb_tells}
 use Rattle.std.proofs.lemmas.List.FromFn.{get_or-map-range_with_len, length-map-range_with_len}
 use Rattle.std.proofs.lemmas.List.Elements.{All-nil, All-cons}
-use Rattle.mpc_exact.specs.Rational.{ℚ, int}
+use Rattle.mpc_exact.specs.Rational.{ℚ, int, le_ℚ}
+use Rattle.mpc_exact.proofs.RationalOrder.{≤ℚ_antisymm}
+use Rattle.mpc_exact.proofs.RationalField.{le_ℚ_is}
 use Rattle.mpc_space.specs.Vector.{coordinate}
 use Rattle.mpc_space.proofs.Entries.{same_entries}
 use Rattle.mpc_rows.specs.LinearSystem.{LinearSystem, height}
 use Rattle.mpc_rows.specs.Refutation.{Refutes}
 use Rattle.mpc_rows.specs.Run.{is_zero}
-use Rattle.mpc_simplex.proofs.Turn.{is_zero-true}
 use Rattle.mpc_tree.specs.LeafCerts.{nonzero_from, IsCertOf}
 use Rattle.mpc_check.specs.Certs.{named_at, multipliers_of, IsPositionIn, HasPositionsIn, CertRefutes}
 
 -- ---- the first multiplier
+is_zero-true : (c : ℚ) → is_zero c ≡ true → c ≡ int (pos 0)
+is_zero-true c h =
+    let m = and_parts (le_ℚ c (int (pos 0))) (le_ℚ (int (pos 0)) c) h in
+    ≤ℚ_antisymm ((le_ℚ_is c (int (pos 0))).0 (passes _ m.0)) ((le_ℚ_is (int (pos 0)) c).0 (passes _ m.1))
+  where
+    passes : (b : Bool) → b ≡ true → T b
+    passes b e = subst T (sym e) tt
+
 abbrev put_first : Bool → ℕ → ℚ → List (ℕ × ℚ) → List (ℕ × ℚ)
 put_first drop p m cert = cond drop cert ((p, m) ∷ cert)
 

@@ -4,6 +4,11 @@
 
 ghost use Rattle.mpc_compiled.specs.Compiled.{OnlyWidthFound, NoRefusal, OnlyWidthErrs, FittingIsAccepted};
 
+use mpc_best::one_program;
+use mpc_check::{law_conditions, one_finding, one_path};
+use mpc_definite::pivot_laws;
+use mpc_file::preorder_laws;
+
 /// The laws of a plant's table meet the conditions of Karush, Kuhn and Tucker coefficient by coefficient, and the certificates of its tree
 /// refute the systems of its leaves (Farkas 1902, Motzkin 1936). So a check of what is compiled refuses nothing, and finds no pivot that
 /// isn't positive and no number of condensing or of the pivots that is too wide. It accepts, unless a number of a sum that it forms over a
@@ -14,4 +19,11 @@ pub fn compiled_accepted()
     ensures answer { NoRefusal }
     ensures error { OnlyWidthErrs }
     ensures fitting { FittingIsAccepted }
-{}
+{
+    pivot_laws();
+    one_program();
+    one_finding();
+    law_conditions();
+    one_path();
+    preorder_laws();
+}
