@@ -249,14 +249,6 @@ module _ (plant : Plant) (columns : ℕ → List ℚ) (k : ℕ) (a x z : Rationa
       (zf.each (j - (plant.n + 1)) i (record { from_row = omega arith; to_row = omega arith; from_column = omega arith; to_column = omega (arith, rows_of_a) })))
       (cases_lt j (plant.n + 1))
 
-  pub dots_wide_x : (AllInBlock 0 (plant.n + 1) 0 (height a) (λ j i. DotFits (row_at a i) (row_at x j)) → ⊥) →
-      ((j i : ℕ) → j < first_move plant k → i < plant.n → DotFits (row_at a i) (columns j)) → ⊥
-  dots_wide_x h s = h (record { each = λ j i b. subst (DotFits (row_at a i)) (sym (w.x_is j b.to_row)) (s j i (omega (arith, b.to_row)) (omega (arith, b.to_column, rows_of_a))) })
-
-  pub dots_wide_z : (AllInBlock 0 (plant.p * k) 0 (height a) (λ j i. DotFits (row_at a i) (row_at z j)) → ⊥) →
-      ((j i : ℕ) → j < first_move plant k → i < plant.n → DotFits (row_at a i) (columns j)) → ⊥
-  dots_wide_z h s = h (record { each = λ j i b. subst (DotFits (row_at a i)) (sym (w.z_is j (omega (arith, b.to_row)))) (s (plant.n + 1 + j) i (omega (arith, b.to_row)) (omega (arith, b.to_column, rows_of_a))) })
-
 pub products_within : (p k n : ℕ) → k ≤ n → p * k ≤ p * n
 products_within p k n l = mul-le-mul_left p l
 

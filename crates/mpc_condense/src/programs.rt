@@ -27,6 +27,10 @@ fn counts(alloc: Global, grid: &Coordinates) -> Result<Counts, NoMemory>
 /// The quadratic program of a plant, by elimination of the states (Bemporad, Morari, Dua and Pistikopoulos, 2002): at every state of the
 /// grid it has the same cost and the same rows, for the moves of all steps one after the other.
 ///
+/// For n states, p inputs, N steps and m rows in all, h has p N rows and columns, f has p N rows and n + 1 columns, y is n + 1 square, g has
+/// m rows of p N and w m rows of n + 1. What the drift and the targets add lies in the first columns of f and w and the first row and column
+/// of y; h is as without them.
+///
 /// Answers at the first state, then the first cost, then the first row that needs more than 128 bits, as `Wide`.
 pub fn condense(alloc: Global, plant: &Plant) -> Result<Qp, CondenseError>
     ensures condensed { IfOk result (λ qp. IsCondensed qp plant.now) }
