@@ -10,8 +10,9 @@ use Rattle.mpc_cli.specs.declared.commands.Command.TheVariants.{Run, Compile, Tr
 use Rattle.mpc_cli.specs.declared.answer.Answer.{Answer}
 use Rattle.mpc_cli.specs.declared.status.Status.{Status}
 use Rattle.mpc_cli.specs.declared.status.Status.TheVariants.{Done, Usage, BadPlant, NotDefinite, TooWide, ReadFault, WriteFault, TooLong, NoMemory}
-use Rattle.mpc_cli.specs.declared.programs.SynthesisError.{SynthesisError}
-use Rattle.mpc_cli.specs.Synthesis.{ExplainsSynthesisError}
+use Rattle.mpc_synthesis.specs.declared.errors.SynthesisError.{SynthesisError}
+use Rattle.mpc_synthesis.specs.Refusals.{ExplainsSynthesisError}
+use Rattle.mpc_cli.specs.Extents.{extent_of}
 use Rattle.mpc_cli.specs.StatusText.{line_of}
 use Rattle.mpc_cli.specs.Commands.{Names, plant_text}
 use Rattle.mpc_cli.specs.Cut.{tail_of}
@@ -41,7 +42,7 @@ module _ (c : Command) (words : List (List ℕ)) (input counts : List ℕ) (plan
   pub answers : (status : Status) (text : List ℕ) → IsPlantAnswer c plant counts status text → IsAnswer words input status text
   unfolding given
   answers Done text a = record {
-    due = record { given = given; answerable = a.answerable };
+    due = record { given = given; complete = a.complete };
     text_is = record { command = c; named = named; output_is = output_of c input counts plant text read tail a };
   }
   answers (NotDefinite pivot) text a = record { due = record { given = given; not_definite = a.cause }; text_is = a.line }
@@ -60,7 +61,7 @@ bad_plant_answers c input kind path status text short fault h words named =
     (record { due = record { command = c; taken = record { named = named; short = short }; fault = fault }; text_is = h.1 })
 
 -- the answer to a refused plant, whose cause holds
-pub refused_by : {E : Type 0} (r : Result Answer E) (e : SynthesisError) (c : Command) (plant : Plant) (counts : List ℕ) → ExplainsSynthesisError c plant e
-    → IfOk r (λ a. (k : Command) (p : Plant) (line : List ℕ) → ExplainsSynthesisError k p e → IsPlantAnswer k p line a.status a.text.items) → IfOk r (λ a. IsPlantAnswer c plant counts a.status a.text.items)
+pub refused_by : {E : Type 0} (r : Result Answer E) (e : SynthesisError) (c : Command) (plant : Plant) (counts : List ℕ) → ExplainsSynthesisError (extent_of c) plant e
+    → IfOk r (λ a. (k : Command) (p : Plant) (line : List ℕ) → ExplainsSynthesisError (extent_of k) p e → IsPlantAnswer k p line a.status a.text.items) → IfOk r (λ a. IsPlantAnswer c plant counts a.status a.text.items)
 refused_by (Ok a) e c plant counts cause h = h c plant counts cause
 refused_by (Err error) e c plant counts cause h = tt

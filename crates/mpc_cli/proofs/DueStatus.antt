@@ -2,15 +2,18 @@
 use Rattle.std.proofs.Common.{◌≡◌, ℕ, zero, suc, ◌+◌, ◌<◌, ◌≤◌, lit≤, inl, inr, List, [], length, get_or, refl, sym, ◌∙◌, ap, subst, arith}
 use Rattle.mpc_plant.specs.declared.faults.PlantKind.{PlantKind}
 use Rattle.mpc_plant.specs.declared.plants.Plant.{Plant}
+use Rattle.mpc_condense.specs.Condensed.{IsCondensed}
+use Rattle.mpc_synthesis.specs.Refusals.{FirstWide}
+use Rattle.mpc_synthesis.specs.Outcomes.{Outcome, not_definite, too_wide, complete, IsOutcome, OneOutcome}
 use Rattle.mpc_plant.specs.WholePlant.{ReadsAsPlant, IsFirstFault}
 use Rattle.mpc_cli.specs.declared.commands.Command.{Command}
 use Rattle.mpc_cli.specs.declared.commands.Command.TheVariants.{Run, Compile, Trace}
 use Rattle.mpc_cli.specs.declared.status.Status.{Status}
 use Rattle.mpc_cli.specs.declared.status.Status.TheVariants.{Done, Usage, BadPlant, NotDefinite, TooWide, ReadFault, WriteFault, TooLong, NoMemory}
 use Rattle.mpc_cli.specs.Commands.{word_of, Names, IsCommand, plant_text}
-use Rattle.mpc_cli.specs.Answers.{input_limit, HasPlant, IsDue}
+use Rattle.mpc_cli.specs.Extents.{extent_of}
+use Rattle.mpc_cli.specs.Answers.{input_limit, HasPlant, NothingRefused, IsDue, OneStatus}
 use Rattle.mpc_cli.proofs.Firsts.{FailsFirst, one_first}
-use Rattle.mpc_cli.proofs.PlantStages.{Stage as PlantStage, Fails as PlantFails, one_plant_status, not_definite_first, wide_first, done_first}
 use Rattle.mpc_cli.proofs.SamePlant.{same_plant}
 
 -- ---- the words name one command
@@ -58,12 +61,16 @@ record BadFile (words : List (List ℕ)) (input : List ℕ) (s : Status) : Type 
   fault : IsFirstFault (plant_text command input) kind path
   is : s ≡ BadPlant kind path
 
-abbrev First : Command → Plant → Status → Type 0
-First c plant s = FailsFirst (PlantStage c plant) (PlantFails c plant) s
+abbrev status_of : Outcome → Status
+status_of (not_definite pivot) = NotDefinite pivot
+status_of (too_wide place) = TooWide place
+status_of complete = Done
 
 record OfPlant (words : List (List ℕ)) (input : List ℕ) (s : Status) : Type 0 where
   given : HasPlant words input
-  first : First given.command given.plant s
+  outcome : Outcome
+  comes : IsOutcome (extent_of given.command) given.plant outcome
+  is : s ≡ status_of outcome
 
 abbrev Fails : List (List ℕ) → List ℕ → Status → ℕ → Type 0
 Fails words input s zero = (¬ IsCommand words) × (s ≡ Usage)
@@ -102,20 +109,8 @@ clash words input s (suc (suc zero)) p f =
     no_file (plant_text f.command input) p.plant f.kind f.path (subst (λ c. ReadsAsPlant (plant_text c input) p.plant) (one_command words p.command f.command p.taken.named f.named) p.read) f.fault
 clash words input s (suc (suc (suc n))) p f = p
 
-moved : (c d : Command) (x y : Plant) (s : Status) → c ≡ d → x ≡ y → First c x s → First d y s
-moved c d x y s e f h = subst (λ p. First d p s) f (subst (λ k. First k x s) e h)
-
-one_failure : (words : List (List ℕ)) (input : List ℕ) (s t : Status) (n : ℕ) → Fails words input s n → Fails words input t n → s ≡ t
-one_failure words input s t zero f g = f.1 ∙ sym g.1
-one_failure words input s t (suc zero) f g = f.1 ∙ sym g.1
-one_failure words input s t (suc (suc zero)) f g =
-    let mine : IsFirstFault (plant_text g.command input) f.kind f.path = subst (λ c. IsFirstFault (plant_text c input) f.kind f.path) (one_command words f.command g.command f.named g.named) f.fault in
-    f.is ∙ one_fault (plant_text g.command input) f.kind g.kind f.path g.path mine g.fault ∙ sym g.is
-one_failure words input s t (suc (suc (suc zero))) f g =
-    one_plant_status g.given.command g.given.plant s t
-    (moved f.given.command g.given.command f.given.plant g.given.plant s (same_command words input f.given g.given) (same_given words input f.given g.given) f.first)
-    g.first
-one_failure words input s t (suc (suc (suc (suc n)))) f g = absurd f
+moved : (c d : Command) (x y : Plant) (o : Outcome) → c ≡ d → x ≡ y → IsOutcome (extent_of c) x o → IsOutcome (extent_of d) y o
+moved c d x y o e f h = subst (λ p. IsOutcome (extent_of d) p o) f (subst (λ k. IsOutcome (extent_of k) x o) e h)
 
 abbrev Due : List (List ℕ) → List ℕ → Status → Type 0
 Due words input s = FailsFirst (Stage words input) (Fails words input) s
@@ -136,8 +131,8 @@ given_passed words input h (suc zero) l = h.taken.short
 given_passed words input h (suc (suc zero)) l = h
 given_passed words input h (suc (suc (suc j))) l = absurd (omega (arith, l))
 
-of_plant : (words : List (List ℕ)) (input : List ℕ) (s : Status) (given : HasPlant words input) → First given.command given.plant s → Due words input s
-of_plant words input s given first = record { place = 3; passed = given_passed words input given; fails = record { given = given; first = first } }
+of_plant : (words : List (List ℕ)) (input : List ℕ) (o : Outcome) (given : HasPlant words input) → IsOutcome (extent_of given.command) given.plant o → Due words input (status_of o)
+of_plant words input o given comes = record { place = 3; passed = given_passed words input given; fails = record { given = given; outcome = o; comes = comes; is = refl } }
 
 due_first : (words : List (List ℕ)) (input : List ℕ) (status : Status) → IsDue words input status → Due words input status
 due_first words input Usage h = record { place = 0; passed = λ j l. absurd (omega (arith, l)); fails = (h, refl) }
@@ -147,17 +142,44 @@ due_first words input (BadPlant kind path) h = record {
   passed = taken_passed words input (h.command, h.taken.named) h.taken.short;
   fails = record { command = h.command; named = h.taken.named; kind = kind; path = path; fault = h.fault; is = refl };
 }
-due_first words input (NotDefinite pivot) h = of_plant words input (NotDefinite pivot) h.given (not_definite_first h.given.command h.given.plant pivot h.not_definite)
-due_first words input (TooWide place) h = of_plant words input (TooWide place) h.given (wide_first h.given.command h.given.plant place h.wide)
-due_first words input Done h = of_plant words input Done h.given (done_first h.given.command h.given.plant h.answerable)
+due_first words input (NotDefinite pivot) h = of_plant words input (not_definite pivot) h.given h.not_definite
+due_first words input (TooWide place) h = of_plant words input (too_wide place) h.given h.wide
+due_first words input Done h = of_plant words input complete h.given h.complete
 due_first words input ReadFault h = absurd h
 due_first words input WriteFault h = absurd h
 due_first words input NoMemory h = absurd h
 
-pub due_unique : (words : List (List ℕ)) (input : List ℕ) (s t : Status) → IsDue words input s → IsDue words input t → s ≡ t
-due_unique words input s t h k =
-    one_first (Stage words input) (Fails words input) (λ s n p f. clash words input s n p f) (λ s t n f g. one_failure words input s t n f g) s t (due_first words input s h) (due_first words input t k)
+module _ (one_outcome : OneOutcome) where
+  one_failure : (words : List (List ℕ)) (input : List ℕ) (s t : Status) (n : ℕ) → Fails words input s n → Fails words input t n → s ≡ t
+  one_failure words input s t zero f g = f.1 ∙ sym g.1
+  one_failure words input s t (suc zero) f g = f.1 ∙ sym g.1
+  one_failure words input s t (suc (suc zero)) f g =
+      let mine : IsFirstFault (plant_text g.command input) f.kind f.path = subst (λ c. IsFirstFault (plant_text c input) f.kind f.path) (one_command words f.command g.command f.named g.named) f.fault in
+      f.is ∙ one_fault (plant_text g.command input) f.kind g.kind f.path g.path mine g.fault ∙ sym g.is
+  one_failure words input s t (suc (suc (suc zero))) f g =
+      f.is ∙ ap status_of (one_outcome (extent_of g.given.command) g.given.plant f.outcome g.outcome
+      (moved f.given.command g.given.command f.given.plant g.given.plant f.outcome (same_command words input f.given g.given) (same_given words input f.given g.given) f.comes)
+      g.comes) ∙ sym g.is
+  one_failure words input s t (suc (suc (suc (suc n)))) f g = absurd f
+
+  pub due_unique : OneStatus
+  due_unique words input s t h k =
+      one_first (Stage words input) (Fails words input) (λ s n p f. clash words input s n p f) (λ s t n f g. one_failure words input s t n f g) s t (due_first words input s h) (due_first words input t k)
 
 -- where the words name no command, Usage is due
-pub due_usage : (words : List (List ℕ)) (input : List ℕ) (s : Status) → IsDue words input s → ¬ IsCommand words → s ≡ Usage
-due_usage words input s h wrong = due_unique words input s Usage h wrong
+pub due_usage : OneStatus → (words : List (List ℕ)) (input : List ℕ) (s : Status) → IsDue words input s → ¬ IsCommand words → s ≡ Usage
+due_usage one words input s h wrong = one words input s Usage h wrong
+
+-- where nothing of the plant is refused, Done is due
+pub due_done : (words : List (List ℕ)) (input : List ℕ) (s : Status) → IsDue words input s → NothingRefused words input → s ≡ Done
+due_done words input Usage h n = absurd (h (n.given.command, n.given.taken.named))
+due_done words input TooLong h n = absurd (omega (arith, h.long, n.given.taken.short))
+due_done words input (BadPlant kind path) h n =
+    absurd (no_file (plant_text h.command input) n.given.plant kind path (subst (λ c. ReadsAsPlant (plant_text c input) n.given.plant) (one_command words n.given.command h.command n.given.taken.named h.taken.named) n.given.read) h.fault)
+due_done words input (NotDefinite pivot) h n = absurd (h.not_definite.not_definite (n.definite h.not_definite.qp (subst (IsCondensed h.not_definite.qp) (same_given words input h.given n.given) h.not_definite.has_program.condensed)))
+due_done words input (TooWide place) h n =
+    absurd (n.fits place (subst (λ p. FirstWide p (extent_of n.given.command) place) (same_given words input h.given n.given) (subst (λ c. FirstWide h.given.plant (extent_of c) place) (same_command words input h.given n.given) h.wide)))
+due_done words input Done h n = refl
+due_done words input ReadFault h n = absurd h
+due_done words input WriteFault h n = absurd h
+due_done words input NoMemory h n = absurd h

@@ -4,10 +4,8 @@ pub mod LineLemmas
 pub mod CompileLemmas
 pub mod ReplyLemmas
 pub mod Firsts
-pub mod PlantStages
 pub mod DueStatus
 pub mod RunLemmas
 pub mod AnswerLemmas
 pub mod SamePlant
-pub mod SynthesisLemmas
 pub mod TraceLemmas

@@ -10,9 +10,9 @@ use Rattle.mpc_cli.specs.declared.status.Status.{Status}
 use Rattle.mpc_cli.specs.declared.status.Status.TheVariants.{Done, Usage, BadPlant, NotDefinite, TooWide, ReadFault, WriteFault, TooLong, NoMemory}
 use Rattle.mpc_cli.specs.StatusText.{line_of}
 use Rattle.mpc_cli.specs.Commands.{IsCommand}
-use Rattle.mpc_cli.specs.Answers.{IsDue, IsAnswer, Passage, Answers, TookPart, IsQuiet, RunAnswers, CausesDone}
+use Rattle.mpc_cli.specs.Answers.{IsDue, IsAnswer, OneStatus, NothingRefused, Passage, Answers, TookPart, IsQuiet, RunAnswers}
 use Rattle.mpc_cli.specs.Outcomes.{IsSomeAnswer, Finishes, wrote_all, sink_failed, sink_full}
-use Rattle.mpc_cli.proofs.DueStatus.{due_unique, due_usage}
+use Rattle.mpc_cli.proofs.DueStatus.{due_usage, due_done}
 
 pub if_some : (o : Option (List ℕ)) (P Q : List ℕ → Type 0) → ((x : List ℕ) → P x → Q x) → IfSome o P → IfSome o Q
 if_some None P Q f h = h
@@ -30,18 +30,18 @@ not_device : (words : List (List ℕ)) (s : Status) (text : List ℕ) → IsSome
 not_device words s text some t none e = none some.input (subst (IsDue words some.input) e some.answer.due)
 
 -- all is written
-whole : (words : List (List ℕ)) (p : Passage) (s : Status) (text : List ℕ) → IsSomeAnswer words s text → IfSome p.left (λ input. IsAnswer words input s text)
+whole : OneStatus → (words : List (List ℕ)) (p : Passage) (s : Status) (text : List ℕ) → IsSomeAnswer words s text → IfSome p.left (λ input. IsAnswer words input s text)
     → Appends p.taken p.taken_after text → RunAnswers words p s
-whole words p s text some told wrote =
+whole one words p s text some told wrote =
     let answers : IfSome p.left (Answers words p s) = if_some p.left (λ input. IsAnswer words input s text) (Answers words p s) (λ input a. record { text = text; answer = a; wrote = wrote }) told in
     let at : (t : Status) → s ≡ t → IfSome p.left (Answers words p t) = λ t e. subst (λ t. IfSome p.left (Answers words p t)) e answers in
     let due : IfSome p.left (λ input. (due : Status) → IsDue words input due → IsQuiet p → (s ≡ due) ⊎ (s ≡ NoMemory)) =
     if_some p.left (λ input. IsAnswer words input s text) (λ input. (due : Status) → IsDue words input due → IsQuiet p → (s ≡ due) ⊎ (s ≡ NoMemory))
-    (λ input a due h quiet. inl (due_unique words input s due a.due h)) told in
+    (λ input a due h quiet. inl (one words input s due a.due h)) told in
     record {
       done = at Done;
       usage = λ e. usage_of (subst (λ t. IsAnswer words some.input t text) e some.answer);
-      usage_first = λ wrong. inl (due_usage words some.input s some.answer.due wrong);
+      usage_first = λ wrong. inl (due_usage one words some.input s some.answer.due wrong);
       too_long = at TooLong;
       bad_plant = λ kind path. at (BadPlant kind path);
       not_definite = λ pivot. at (NotDefinite pivot);
@@ -50,7 +50,7 @@ whole words p s text some told wrote =
       write_fault = λ e. absurd (not_device words s text some WriteFault (λ input h. h) e);
       no_memory = λ e. absurd (not_device words s text some NoMemory (λ input h. h) e);
       exact = due;
-      complete = if_some p.left _ (λ input. CausesDone words input → IsQuiet p → (s ≡ Done) ⊎ (s ≡ NoMemory)) (λ input f c quiet. f Done c quiet) due;
+      complete = if_some p.left (λ input. IsAnswer words input s text) (λ input. NothingRefused words input → IsQuiet p → (s ≡ Done) ⊎ (s ≡ NoMemory)) (λ input a n quiet. inl (due_done words input s a.due n)) told;
     }
   where
     usage_of : IsAnswer words some.input Usage text → (IsCommand words → ⊥) × Appends p.taken p.taken_after (line_of Usage)
@@ -95,11 +95,11 @@ out_of_memory words p took = record {
   complete = always_some p.left _ (λ input c quiet. inr refl);
 }
 
-pub finished : (words : List (List ℕ)) (p : Passage) (a s : Status) (text : List ℕ) → IsSomeAnswer words a text → IfSome p.left (λ input. IsAnswer words input a text)
+pub finished : OneStatus → (words : List (List ℕ)) (p : Passage) (a s : Status) (text : List ℕ) → IsSomeAnswer words a text → IfSome p.left (λ input. IsAnswer words input a text)
     → Finishes a text p.taken p.taken_after p.write_faults p.write_faults_after s → RunAnswers words p s
-finished words p a _ text some told (wrote_all wrote) = whole words p a text some told wrote
-finished words p a _ text some told (sink_failed sent rose wrote) = write_failed words p a text sent told rose wrote
-finished words p a _ text some told (sink_full sent wrote) =
+finished one words p a _ text some told (wrote_all wrote) = whole one words p a text some told wrote
+finished one words p a _ text some told (sink_failed sent rose wrote) = write_failed words p a text sent told rose wrote
+finished one words p a _ text some told (sink_full sent wrote) =
     out_of_memory words p (if_some p.left (TookPart words p) (λ input. Keeps p.taken p.taken_after ⊎ TookPart words p input) (λ input took. inr took) (part words p a text sent told wrote))
 
 -- nothing is written

@@ -10,8 +10,8 @@ use Rattle.mpc_plant.specs.declared.plants.Plant.{Plant}
 use Rattle.mpc_plant.specs.Limits.{IsPlant}
 use Rattle.mpc_plant.specs.WholePlant.{Parts, stated_by, ReadsAsPlant}
 
-is_plant-prop : (n p horizon : ℕ) (a b q r last : RationalMatrix) (rows terminal : List PlantRow) (grid : List Coordinate) → IsProp (IsPlant n p horizon a b q r last rows terminal grid)
-is_plant-prop n p horizon a b q r last rows terminal grid = hlevel props
+is_plant-prop : (n p horizon : ℕ) (a b q r last : RationalMatrix) (drift xgoal ugoal : List ℚ) (rows terminal : List PlantRow) (grid : List Coordinate) → IsProp (IsPlant n p horizon a b q r last drift xgoal ugoal rows terminal grid)
+is_plant-prop n p horizon a b q r last drift xgoal ugoal rows terminal grid = hlevel props
 
 same_matrix_parts : (m w : RationalMatrix) → m.rows ≡ w.rows → m.columns ≡ w.columns → m ≡ w
 same_matrix_parts m w e f = λ i. record { rows = e i; columns = f i }
@@ -27,6 +27,9 @@ same_stated x y e =
     let q_rows : x.q.rows ≡ y.q.rows = ap (λ (s : Parts). s.weights.q) e in
     let r_rows : x.r.rows ≡ y.r.rows = ap (λ (s : Parts). s.weights.r) e in
     let last_rows : x.last.rows ≡ y.last.rows = ap (λ (s : Parts). s.weights.last) e in
+    let drift : x.drift ≡ y.drift = ap (λ (s : Parts). s.targets.drift) e in
+    let xgoal : x.xgoal ≡ y.xgoal = ap (λ (s : Parts). s.targets.xgoal) e in
+    let ugoal : x.ugoal ≡ y.ugoal = ap (λ (s : Parts). s.targets.ugoal) e in
     let rows : x.rows ≡ y.rows = ap (λ (s : Parts). s.row_lists.rows) e in
     let terminal : x.terminal ≡ y.terminal = ap (λ (s : Parts). s.row_lists.terminal) e in
     let grid : x.grid ≡ y.grid = ap (λ (s : Parts). s.grid) e in
@@ -46,11 +49,14 @@ same_stated x y e =
       q = q i;
       r = r i;
       last = last i;
+      drift = drift i;
+      xgoal = xgoal i;
+      ugoal = ugoal i;
       rows = rows i;
       terminal = terminal i;
       grid = grid i;
-      is_plant = is_prop→PathP (λ j. IsPlant (n j) (p j) (steps j) (a j) (b j) (q j) (r j) (last j) (rows j) (terminal j) (grid j))
-          (λ j. is_plant-prop (n j) (p j) (steps j) (a j) (b j) (q j) (r j) (last j) (rows j) (terminal j) (grid j)) x.is_plant y.is_plant i;
+      is_plant = is_prop→PathP (λ j. IsPlant (n j) (p j) (steps j) (a j) (b j) (q j) (r j) (last j) (drift j) (xgoal j) (ugoal j) (rows j) (terminal j) (grid j))
+          (λ j. is_plant-prop (n j) (p j) (steps j) (a j) (b j) (q j) (r j) (last j) (drift j) (xgoal j) (ugoal j) (rows j) (terminal j) (grid j)) x.is_plant y.is_plant i;
     }
 
 pub same_plant : (bytes : List ℕ) (x y : Plant) → ReadsAsPlant bytes x → ReadsAsPlant bytes y → x ≡ y

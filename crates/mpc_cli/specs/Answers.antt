@@ -5,14 +5,19 @@ use Rattle.mpc_port.specs.Faults.{Rose}
 use Rattle.mpc_plant.specs.declared.plants.Plant.{Plant}
 use Rattle.mpc_plant.specs.declared.faults.PlantKind.{PlantKind}
 use Rattle.mpc_plant.specs.WholePlant.{ReadsAsPlant, IsFirstFault}
+use Rattle.mpc_rows.specs.declared.programs.Qp.{Qp}
 use Rattle.mpc_rows.specs.declared.places.Place.{Place}
+use Rattle.mpc_space.specs.Definite.{IsDefinite}
+use Rattle.mpc_condense.specs.Condensed.{IsCondensed}
+use Rattle.mpc_synthesis.specs.Refusals.{IsNotDefiniteAt, FirstWide}
+use Rattle.mpc_synthesis.specs.Outcomes.{IsComplete}
 use Rattle.mpc_cli.specs.declared.status.Status.{Status}
 use Rattle.mpc_cli.specs.declared.status.Status.TheVariants.{Done, Usage, BadPlant, NotDefinite, TooWide, ReadFault, WriteFault, TooLong, NoMemory}
 use Rattle.mpc_cli.specs.Cut.{head_of, count_lines}
 use Rattle.mpc_cli.specs.declared.commands.Command.{Command}
 use Rattle.mpc_cli.specs.declared.commands.Command.TheVariants.{Run, Compile, Trace}
 use Rattle.mpc_cli.specs.Commands.{Names, IsCommand, plant_text}
-use Rattle.mpc_cli.specs.Synthesis.{IsNotDefiniteAt, FirstWide, IsAnswerable}
+use Rattle.mpc_cli.specs.Extents.{extent_of}
 use Rattle.mpc_cli.specs.Histories.{IsTraceOf}
 use Rattle.mpc_cli.specs.ControllerFiles.{IsFileOf}
 use Rattle.mpc_cli.specs.ReplyLines.{AreReplies}
@@ -53,11 +58,18 @@ pub record CausesNotDefinite (words : List (List ℕ)) (input : List ℕ) (pivot
 -- the place is the first of which a number is too wide
 pub record CausesTooWide (words : List (List ℕ)) (input : List ℕ) (place : Place) : Type 0 where
   pub given : HasPlant words input
-  pub wide : FirstWide given.plant given.command place
+  pub wide : FirstWide given.plant (extent_of given.command) place
 
 pub record CausesDone (words : List (List ℕ)) (input : List ℕ) : Type 0 where
   pub given : HasPlant words input
-  pub answerable : IsAnswerable given.command given.plant
+  pub complete : IsComplete (extent_of given.command) given.plant
+
+-- The command's input has the file of a plant of which nothing is refused: the weight of the moves is positive definite, and no number of
+-- the stated runs, as far as the command goes, is too wide.
+pub record NothingRefused (words : List (List ℕ)) (input : List ℕ) : Type 0 where
+  pub given : HasPlant words input
+  pub definite : (qp : Qp) → IsCondensed qp given.plant → IsDefinite qp.h.rows
+  pub fits : (place : Place) → ¬ FirstWide given.plant (extent_of given.command) place
 
 -- the status that is due for the words and the input, by devices that don't fail
 abbrev pub IsDue : List (List ℕ) → List ℕ → Status → Type 0
@@ -113,6 +125,10 @@ IsText words input ReadFault text = text ≡ []
 IsText words input WriteFault text = text ≡ []
 IsText words input NoMemory text = text ≡ []
 
+-- at most one status is due
+abbrev pub OneStatus : Type 0
+OneStatus = (words : List (List ℕ)) (input : List ℕ) (one other : Status) → IsDue words input one → IsDue words input other → one ≡ other
+
 -- a status that is due, and its text
 pub record IsAnswer (words : List (List ℕ)) (input : List ℕ) (status : Status) (text : List ℕ) : Type 0 where
   pub due : IsDue words input status
@@ -167,4 +183,4 @@ pub record RunAnswers (words : List (List ℕ)) (passage : Passage) (status : St
   -- each cause brings its status, unless a device fails or memory runs out
   pub exact : IfSome passage.left (λ input. (due : Status) → IsDue words input due → IsQuiet passage → (status ≡ due) ⊎ (status ≡ NoMemory))
   -- in particular, a plant of which nothing is refused is answered
-  pub complete : IfSome passage.left (λ input. CausesDone words input → IsQuiet passage → (status ≡ Done) ⊎ (status ≡ NoMemory))
+  pub complete : IfSome passage.left (λ input. NothingRefused words input → IsQuiet passage → (status ≡ Done) ⊎ (status ≡ NoMemory))

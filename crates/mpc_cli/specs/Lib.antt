@@ -5,7 +5,7 @@ pub mod ReplyLines
 pub mod Answers
 pub mod PlantAnswers
 pub mod Outcomes
-pub mod Synthesis
+pub mod Extents
 pub mod ControllerFiles
 pub mod Commands
 pub mod Histories

@@ -6,7 +6,9 @@ use Rattle.mpc_cli.specs.declared.commands.Command.{Command}
 use Rattle.mpc_cli.specs.declared.commands.Command.TheVariants.{Run, Compile, Trace}
 use Rattle.mpc_cli.specs.declared.status.Status.{Status}
 use Rattle.mpc_cli.specs.declared.status.Status.TheVariants.{Done, Usage, BadPlant, NotDefinite, TooWide, ReadFault, WriteFault, TooLong, NoMemory}
-use Rattle.mpc_cli.specs.Synthesis.{IsNotDefiniteAt, FirstWide, IsAnswerable}
+use Rattle.mpc_synthesis.specs.Refusals.{IsNotDefiniteAt, FirstWide}
+use Rattle.mpc_synthesis.specs.Outcomes.{IsComplete}
+use Rattle.mpc_cli.specs.Extents.{extent_of}
 use Rattle.mpc_cli.specs.ReplyLines.{AreReplies}
 use Rattle.mpc_cli.specs.Histories.{IsTraceOf}
 use Rattle.mpc_cli.specs.ControllerFiles.{IsFileOf}
@@ -20,7 +22,7 @@ IsPlantOutput Trace plant counts text = IsTraceOf plant text
 
 -- nothing is refused, and the text is the output
 pub record IsReplied (c : Command) (plant : Plant) (counts text : List ℕ) : Type 0 where
-  pub answerable : IsAnswerable c plant
+  pub complete : IsComplete (extent_of c) plant
   pub output : IsPlantOutput c plant counts text
 
 pub record IsRefusedAt (status : Status) (Cause : Type 0) (text : List ℕ) : Type 0 where
@@ -30,7 +32,7 @@ pub record IsRefusedAt (status : Status) (Cause : Type 0) (text : List ℕ) : Ty
 abbrev pub IsPlantAnswer : Command → Plant → List ℕ → Status → List ℕ → Type 0
 IsPlantAnswer c plant counts Done text = IsReplied c plant counts text
 IsPlantAnswer c plant counts (NotDefinite pivot) text = IsRefusedAt (NotDefinite pivot) (IsNotDefiniteAt plant pivot) text
-IsPlantAnswer c plant counts (TooWide place) text = IsRefusedAt (TooWide place) (FirstWide plant c place) text
+IsPlantAnswer c plant counts (TooWide place) text = IsRefusedAt (TooWide place) (FirstWide plant (extent_of c) place) text
 IsPlantAnswer c plant counts Usage text = ⊥
 IsPlantAnswer c plant counts (BadPlant kind path) text = ⊥
 IsPlantAnswer c plant counts ReadFault text = ⊥

@@ -10,14 +10,14 @@ ghost use Rattle.mpc_cli.specs.Commands.{Names, plant_text};
 ghost use Rattle.mpc_cli.specs.Cut.{tail_of};
 ghost use Rattle.mpc_cli.specs.Answers.{IsAnswer, input_limit};
 ghost use Rattle.mpc_cli.specs.PlantAnswers.{IsPlantAnswer};
-ghost use Rattle.mpc_cli.specs.Synthesis.{IsController, ExplainsSynthesisError};
+ghost use Rattle.mpc_synthesis.specs.Controllers.{IsController};
+ghost use Rattle.mpc_synthesis.specs.Refusals.{ExplainsSynthesisError};
+ghost use Rattle.mpc_cli.specs.Extents.{extent_of};
 ghost use Rattle.mpc_cli.specs.ReplyLines.{AreReplies};
 ghost use Rattle.mpc_cli.specs.StatusText.{line_of};
 
 use crate::commands::Command;
-use crate::compiling::compile;
 use crate::input::cut;
-use crate::programs::SynthesisError;
 use crate::replies::reply_lines;
 use crate::status::Status;
 use crate::tracing::trace;
@@ -25,6 +25,7 @@ use mpc_file::{Controller, write_file};
 use mpc_frac::NoMemory;
 use mpc_plant::{Plant, PlantError, read_plant};
 use mpc_port::Gate;
+use mpc_synthesis::{SynthesisError, controller, one_controller, right_controller};
 use mpc_table::Table;
 use std::alloc::Global;
 
@@ -47,7 +48,7 @@ pub fn refusal(alloc: Global, status: Status) -> Result<Answer, NoMemory>
 /// The answer to a plant that is refused, where the cause holds of it.
 fn plant_refusal(alloc: Global, error: SynthesisError) -> Result<Answer, NoMemory>
     ensures { IfOk result (λ answer. (c : Command) (plant : Plant) (counts : List ℕ)
-        → ExplainsSynthesisError c plant error
+        → ExplainsSynthesisError (extent_of c) plant error
         → IsPlantAnswer c plant counts answer.status answer.text.items) }
 {
     match error {
@@ -69,12 +70,13 @@ fn output(text: Vec<u8>) -> Answer
 }
 
 /// The replies of a plant's controller to the lines of counts.
-fn replies(alloc: Global, controller: &Controller, counts: &[u8]) -> Result<Vec<u8>, NoMemory>
-    ensures { IfOk result (λ text. (plant : Plant) (qp : Qp) → IsController plant qp controller.now
+fn replies(alloc: Global, parts: &Controller, counts: &[u8]) -> Result<Vec<u8>, NoMemory>
+    ensures { IfOk result (λ text. (plant : Plant) (qp : Qp) → IsController plant qp parts.now
         → AreReplies plant (lines counts.now) text.items) }
 {
-    let table = Table::of(alloc, controller)?;
-    reply_lines(alloc, &table, controller.plant().n as usize, counts)
+    right_controller();
+    let table = Table::of(alloc, parts)?;
+    reply_lines(alloc, &table, parts.plant().n as usize, counts)
 }
 
 /// The answer of the command `run` to a plant and the text of its lines of counts.
@@ -86,9 +88,9 @@ fn run_answer<G: Gate>(
 ) -> Result<Answer, NoMemory>
     ensures { IfOk result (λ answer. IsPlantAnswer Run plant counts.now answer.status answer.text.items) }
 {
-    match compile(alloc, plant, gate) {
-        Ok(controller) => {
-            let text = replies(alloc, &controller, counts)?;
+    match controller(alloc, plant, gate) {
+        Ok(parts) => {
+            let text = replies(alloc, &parts, counts)?;
             Ok(output(text))
         }
         Err(error) => plant_refusal(alloc, error),
@@ -99,9 +101,11 @@ fn run_answer<G: Gate>(
 fn compile_answer<G: Gate>(alloc: Global, plant: Plant, gate: &G) -> Result<Answer, NoMemory>
     ensures { IfOk result (λ answer. IsPlantAnswer Compile plant [] answer.status answer.text.items) }
 {
-    match compile(alloc, plant, gate) {
-        Ok(controller) => {
-            let text = write_file(alloc, &controller)?;
+    right_controller();
+    one_controller();
+    match controller(alloc, plant, gate) {
+        Ok(parts) => {
+            let text = write_file(alloc, &parts)?;
             Ok(output(text))
         }
         Err(error) => plant_refusal(alloc, error),

@@ -7,12 +7,10 @@
 
 mod answer;
 mod commands;
-mod compiling;
 mod counts;
-mod deciding;
 mod histories;
 mod input;
-mod programs;
+mod laws;
 mod replies;
 mod run;
 mod status;

@@ -8,6 +8,7 @@ ghost use Rattle.mpc_cli.specs.StatusText.{line_of};
 
 use crate::answer::{Answer, input_answer, refusal};
 use crate::commands::named_command;
+use crate::laws::one_status;
 use crate::status::Status;
 use mpc_frac::NoMemory;
 use mpc_port::{Gate, ReadError, Sink, Source, WriteError, read_all, write_all};
@@ -80,6 +81,7 @@ pub fn run_alone<T: Threads + Sync, S: Source, K: Sink, G: Gate>(
         }) result }
     ensures unread { (¬ IsCommand (map string_bytes words.now)) → source.new ≡ source.old }
 {
+    one_status();
     match answer_of(alloc, words, source, gate) {
         Ok(answer) => finish(sink, answer),
         Err(Halt::SourceFailed) => Status::ReadFault,

@@ -8,6 +8,10 @@ use std::sync::Wait;
 use std::test::Fail;
 use std::thread::Threads;
 
+mod examples;
+mod offsets;
+mod places;
+
 /// A tank with the levels -4 to 4, and four of them.
 const TANK: &[u8] =
     b"{\"version\":1,\"horizon\":1,\"A\":[[1]],\"B\":[[1]],\"Q\":[[1]],\"R\":[[1]],\"P\":[[1]],\"grid\":[{\"low\":-4,\"step\":1,\"count\":8}]}\nstates\n0\n3\n4\n8\n";

@@ -3,6 +3,7 @@ use Rattle.std.proofs.Common.{◌≡◌, ℕ, zero, suc, ◌-◌, ◌<◌, ◌�
 use Rattle.std.specs.Prelude.{All, slice_get}
 use Rattle.std.proofs.lemmas.List.{length-map, get_or-map}
 use Rattle.std.proofs.lemmas.List.Elements.{All-contains}
+use Rattle.std.proofs.lemmas.Option.{slice_get_within, get_or_from_slice_get}
 use Rattle.mpc_exact.specs.Rational.{ℚ, int}
 use Rattle.mpc_space.specs.Vector.{dot, mat_vec}
 use Rattle.mpc_space.specs.Matrix.{height}
@@ -25,14 +26,11 @@ use Rattle.mpc_tree.specs.Certified.{IsCertified}
 use Rattle.mpc_file.specs.Parts.{Parts, limits_of, IsLawFor, HaveShapes}
 use Rattle.mpc_file.specs.Bounds.{first_move_form}
 use Rattle.mpc_file.specs.Replies.{first_outside, IsLawNumbered, RepliesAt, by_law, by_no_law}
-use Rattle.mpc_file.proofs.BoundLemmas.{all_at}
 use Rattle.mpc_table.specs.Lookup.{Lookup, IsTableOf}
 use Rattle.mpc_table.specs.TableReplies.{IsMoveReply, IsInfeasibleReply, CanMove}
-use Rattle.mpc_table.proofs.TableLemmas.{law_inputs, law_forms_length}
-use Rattle.mpc_answers.proofs.TreeWalks.{replies_right}
+use Rattle.mpc_table.specs.TableLaws.{OneListEach, MovesEachInput}
+use Rattle.mpc_answers.specs.Replies.{RightReplies, PartsHaveShapes, GridIsInBox}
 use Rattle.mpc_tree.proofs.OneTree.{tree_of_certified}
-use Rattle.mpc_answers.proofs.TreeShapes.{tree_shapes}
-use Rattle.mpc_answers.proofs.BoxCounts.{box_of_counts}
 use Rattle.mpc_compile_c.specs.declared.replies.Answer.{Answer}
 use Rattle.mpc_compile_c.specs.declared.replies.Answer.TheVariants.{Moved, Infeasible, Outside}
 use Rattle.mpc_compile_c.specs.Answers.{no_parts, IsControllerOf, HoldsFor, IsMoveOf, RepliesBy, IsRightAt}
@@ -51,20 +49,23 @@ law_at [] j h = absurd (omega arith)
 law_at (l ∷ ls) zero h = (l, refl)
 law_at (l ∷ ls) (suc j) h = law_at ls j (omega arith)
 
+law_fits : (parts : Parts) (j : ℕ) (law : Law) → slice_get parts.laws j ≡ Some law → All (IsLawFor parts.plant) parts.laws → IsLawFor parts.plant law
+law_fits parts j law at all = subst (IsLawFor parts.plant) (get_or_from_slice_get parts.laws j law law at) (all j law (slice_get_within parts.laws j law at))
+
 -- the number is that of input k, counted from 0, by the law with this number
 abbrev pub IsNumberOf : Lookup → List ℕ → ℕ → ℕ → ℚ → Type 0
 IsNumberOf table counts number k u = (parts : Parts) (law : Law) → IsTableOf parts table → IsLawNumbered parts.laws number law → u ≡ dot (first_move_form law k) (extended (point_of counts))
 
-pub is_move : (table : Lookup) (counts : List ℕ) (number : ℕ) (moves : List SentParts) → CanMove table counts number → length moves ≡ table.inputs → ((k : ℕ) → k < length moves → IsNumberOf table counts number k (value_of (get_or moves k no_parts)))
+pub is_move : OneListEach → MovesEachInput → (table : Lookup) (counts : List ℕ) (number : ℕ) (moves : List SentParts) → CanMove table counts number → length moves ≡ table.inputs → ((k : ℕ) → k < length moves → IsNumberOf table counts number k (value_of (get_or moves k no_parts)))
     → (parts : Parts) → HoldsFor parts table → IsMoveOf parts counts number (map value_of moves)
-is_move table counts number moves can room at parts h =
-    let size : length table.laws ≡ length parts.laws = law_forms_length parts.plant.p parts.laws table.laws h.table_of.laws_are in
+is_move one_list each table counts number moves can room at parts h =
+    let size : length table.laws ≡ length parts.laws = sym (one_list parts.plant.p parts.laws table.laws h.table_of.laws_are) in
     let found = law_at parts.laws (number - 1) (omega (arith, can.from_first, can.to_last, size)) in
-    let fits : IsLawFor parts.plant found.0 = all_at (IsLawFor parts.plant) parts.laws (number - 1) found.0 found.1 h.shapes.laws_fit in
+    let fits : IsLawFor parts.plant found.0 = law_fits parts (number - 1) found.0 found.1 h.shapes.laws_fit in
     let inputs : length moves ≡ parts.plant.p = room ∙ h.table_of.inputs_are in (
       found.0,
       found.1,
-      first_moves parts.plant.p found.0.moves.rows (extended (point_of counts)) (map value_of moves) (length-map moves value_of ∙ inputs) (law_inputs parts.plant found.0 fits)
+      first_moves parts.plant.p found.0.moves.rows (extended (point_of counts)) (map value_of moves) (length-map moves value_of ∙ inputs) (each parts.plant found.0 fits)
           (λ k l.
           let inside : k < length moves = subst (λ n. k < n) (sym inputs) l in
           get_or-map value_of moves k no_parts (int (pos 0)) inside ∙ at k inside parts found.0 h.table_of found.1),
@@ -81,14 +82,14 @@ pub past : (parts : Parts) (counts : List ℕ) (i : ℕ) (moves : List ℚ) → 
 past parts counts i moves e h = let a = e in let b = h in absurd cc
 
 -- ---- and by the plant
-module _ (plant : Plant) (parts : Parts) (counts : List ℕ) (is : IsControllerOf plant parts) (size : length counts ≡ plant.n) where
+module _ (right : RightReplies) (grid : GridIsInBox) (plant : Plant) (parts : Parts) (counts : List ℕ) (is : IsControllerOf plant parts) (size : length counts ≡ plant.n) where
   inside_of : first_outside (limits_of parts.plant) counts ≡ None → first_outside (limits_of plant) counts ≡ None
   inside_of h = ap (λ p. first_outside (limits_of p) counts) (sym is.plant_is) ∙ h
 
   right_at : (reply : Reply) → first_outside (limits_of parts.plant) counts ≡ None → RepliesAt parts (point_of counts) reply → IsRight plant (point_of counts) reply
   right_at reply h r =
       subst (λ p. IsRight p (point_of counts) reply) is.plant_is
-      (replies_right is.qp parts (point_of counts) reply (subst (IsCondensed is.qp) (sym is.plant_is) is.condensed) is.definite is.table (tree_of_certified is.qp parts.laws whole_box parts.tree is.tree) (box_of_counts plant is.qp counts is.condensed size (inside_of h)) r)
+      (right is.qp parts (point_of counts) reply (subst (IsCondensed is.qp) (sym is.plant_is) is.condensed) is.definite is.table (tree_of_certified is.qp parts.laws whole_box parts.tree is.tree) (grid plant is.qp counts is.condensed size (inside_of h)) r)
 
   pub right_reply : (moves : List ℚ) (answer : Answer) → RepliesBy parts counts moves answer → IsRightAt plant counts moves answer
   right_reply moves Moved h = (inside_of h.0, right_at (move moves) h.0 h.1)
@@ -105,16 +106,16 @@ counts_size plant parts table counts is h e = e ∙ sym (limits_size plant) ∙ 
 pub inputs_size : (plant : Plant) (parts : Parts) (table : Lookup) (n : ℕ) → IsControllerOf plant parts → IsTableOf parts table → n ≡ plant.p → n ≡ table.inputs
 inputs_size plant parts table n is h e = e ∙ ap (λ (p : Plant). p.p) (sym is.plant_is) ∙ sym h.inputs_are
 
-pub shapes : (qp : Qp) (plant : Plant) (laws : List Law) (nodes : List Node) → IsCondensed qp plant → IsTable qp laws → All (λ law. LawRowsFit qp law (height qp.g)) laws → IsCertified qp laws whole_box nodes → HaveShapes plant laws nodes
-shapes qp plant laws nodes condensed table fit tree = tree_shapes qp plant laws nodes condensed table (λ law c. All-contains (λ l. LawRowsFit qp l (height qp.g)) laws law fit c) tree
+pub shapes : PartsHaveShapes → (qp : Qp) (plant : Plant) (laws : List Law) (nodes : List Node) → IsCondensed qp plant → IsTable qp laws → All (λ law. LawRowsFit qp law (height qp.g)) laws → IsCertified qp laws whole_box nodes → HaveShapes plant laws nodes
+shapes have qp plant laws nodes condensed table fit tree = have qp plant laws nodes condensed table (λ law c. All-contains (λ l. LawRowsFit qp l (height qp.g)) laws law fit c) tree
 
-pub controller_of : (plant : Plant) (qp : Qp) (laws : List Law) (nodes : List Node) (parts : Parts) → IsCondensed qp plant → IsDefinite qp.h.rows → IsTable qp laws → All (λ law. LawRowsFit qp law (height qp.g)) laws → IsCertified qp laws whole_box nodes
+pub controller_of : PartsHaveShapes → (plant : Plant) (qp : Qp) (laws : List Law) (nodes : List Node) (parts : Parts) → IsCondensed qp plant → IsDefinite qp.h.rows → IsTable qp laws → All (λ law. LawRowsFit qp law (height qp.g)) laws → IsCertified qp laws whole_box nodes
     → parts ≡ record { plant = plant; laws = laws; tree = nodes } → IsControllerOf plant parts
-controller_of plant qp laws nodes parts condensed definite table fit tree e =
+controller_of have plant qp laws nodes parts condensed definite table fit tree e =
     subst (IsControllerOf plant) (sym e)
     (record {
       plant_is = refl;
-      shapes = shapes qp plant laws nodes condensed table fit tree;
+      shapes = shapes have qp plant laws nodes condensed table fit tree;
       qp = qp;
       condensed = condensed;
       definite = definite;

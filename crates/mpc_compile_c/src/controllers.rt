@@ -15,6 +15,7 @@ ghost use Rattle.mpc_compile_c.specs.Stops.{EndsBy, ExplainsStop, HasWideRun, Ha
 use crate::Sizes;
 use crate::phases::{Phase, Stop};
 use crate::programs::{collected, convex_program, decided};
+use mpc_answers::tree_shapes;
 use mpc_file::{Controller, SealError};
 use mpc_frac::NoMemory;
 use mpc_plant::Plant;
@@ -77,6 +78,7 @@ pub(crate) fn compile(
     ensures sizes { IfOk result (HaveSizes sizes.new) }
     ensures stops { IfErr result (ExplainsStop plant last) }
 {
+    tree_shapes();
     let program = match convex_program(alloc, &plant, last) {
         Ok(program) => program,
         Err(stop) => return Err(stop),

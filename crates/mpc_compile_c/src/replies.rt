@@ -7,7 +7,7 @@ ghost use Rattle.mpc_table.specs.TableReplies.{CanMove};
 ghost use Rattle.mpc_compile_c.specs.Answers.{IsMoveOf, HoldsFor, RepliesBy};
 
 use mpc_parts::{Parts, parts_of};
-use mpc_table::{Reply, Table};
+use mpc_table::{Reply, Table, table_laws};
 
 /// What is replied to counts.
 #[derive(Clone, Copy, Drop)]
@@ -28,6 +28,7 @@ fn put_moves(table: &Table, law: u32, counts: &[u64], moves: &mut [Parts])
     ensures { (parts : ControllerParts) → HoldsFor parts table.now
         → IsMoveOf parts counts.now law (map value_of moves.new) }
 {
+    table_laws();
     for i in 0..moves.len() {
         moves[i] = parts_of(&table.move_at(law, counts, i as u32 + 1));
     }

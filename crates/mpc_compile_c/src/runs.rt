@@ -10,6 +10,7 @@ use crate::Sizes;
 use crate::controllers::{compile, laid_out};
 use crate::phases::{Phase, Stop};
 use crate::replies::{Answer, replies};
+use mpc_answers::{grid_points, right_replies};
 use mpc_parts::Parts;
 use mpc_plant::{Plant, PlantError, read_plant};
 use std::alloc::Global;
@@ -29,6 +30,8 @@ fn reply_of(
     ensures answered { IfOk result (IsAnsweredFor plant counts.now sizes.new (map value_of moves.new)) }
     ensures stops { IfErr result (ExplainsStop plant last) }
 {
+    right_replies();
+    grid_points();
     let controller = match compile(alloc, plant, last, sizes) {
         Ok(controller) => controller,
         Err(stop) => return Err(stop),

@@ -2,7 +2,7 @@ use Rattle.mpc_cli.proofs.RunLemmas.{finished, read_failed, keeps_same}
 use Rattle.mpc_cli.proofs.run.run_alone.Goals as goal
 
 pub returns-in-Ok-clause-answers : goal.returns-in-Ok-clause-answers
-returns-in-Ok-clause-answers g c = finished _ _ c.in-Ok.answer.status c.finish.result c.in-Ok.answer.text.items c.in-Ok.ensures.some c.in-Ok.ensures.told c.finish.ensures
+returns-in-Ok-clause-answers g c = finished c.one_status.ensures _ _ c.in-Ok.answer.status c.finish.result c.in-Ok.answer.text.items c.in-Ok.ensures.some c.in-Ok.ensures.told c.finish.ensures
 
 pub returns-in-Err-SourceFailed-clause-answers : goal.returns-in-Err-SourceFailed-clause-answers
 returns-in-Err-SourceFailed-clause-answers g c =

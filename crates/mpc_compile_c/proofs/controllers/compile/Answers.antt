@@ -24,13 +24,13 @@ pub sealed-requires : goal.sealed-requires
 sealed-requires c =
     let table = subst (λ p. IsTable p c.in-Ok-collected.laws) c.in-Ok-decided.ensures.program c.in-Ok-collected.ensures.table in
     let fit = subst (λ p. All (λ law. LawRowsFit p law (height p.g)) c.in-Ok-collected.laws) c.in-Ok-decided.ensures.program c.in-Ok-collected.ensures.rows_fit in
-    shapes c.in-Ok.program c.args.plant c.in-Ok-collected.laws c.in-Ok-grown.tree c.in-Ok.ensures.program table fit c.in-Ok-grown.ensures.tree
+    shapes c.tree_shapes.ensures c.in-Ok.program c.args.plant c.in-Ok-collected.laws c.in-Ok-grown.tree c.in-Ok.ensures.program table fit c.in-Ok-grown.ensures.tree
 
 pub returns-clause-controller : goal.returns-clause-controller
 returns-clause-controller c =
     let table = subst (λ p. IsTable p c.in-Ok-collected.laws) c.in-Ok-decided.ensures.program c.in-Ok-collected.ensures.table in
     let fit = subst (λ p. All (λ law. LawRowsFit p law (height p.g)) c.in-Ok-collected.laws) c.in-Ok-decided.ensures.program c.in-Ok-collected.ensures.rows_fit in
-    controller_of c.args.plant c.in-Ok.program c.in-Ok-collected.laws c.in-Ok-grown.tree c.in-Ok-sealed.controller c.in-Ok.ensures.program c.in-Ok.ensures.definite table fit c.in-Ok-grown.ensures.tree c.in-Ok-sealed.ensures.parts
+    controller_of c.tree_shapes.ensures c.args.plant c.in-Ok.program c.in-Ok-collected.laws c.in-Ok-grown.tree c.in-Ok-sealed.controller c.in-Ok.ensures.program c.in-Ok.ensures.definite table fit c.in-Ok-grown.ensures.tree c.in-Ok-sealed.ensures.parts
 
 pub returns-in-Err-sealed-clause-stops : goal.returns-in-Err-sealed-clause-stops
 returns-in-Err-sealed-clause-stops c =

@@ -8,10 +8,13 @@ ghost use Rattle.mpc_claim.specs.declared.events.Phase.TheVariants.{Finished};
 ghost use Rattle.mpc_claim.specs.Board.{is_wide};
 ghost use Rattle.mpc_claim.specs.Answers.{IsFirstBad};
 ghost use Rattle.mpc_workers.specs.Alone.{IsDoneAlone};
-ghost use Rattle.mpc_cli.specs.Synthesis.{ExplainsSetError};
+ghost use Rattle.mpc_synthesis.specs.Programs.{IsDecidedBy};
+ghost use Rattle.mpc_synthesis.specs.Refusals.{verdicts, ExplainsSetError, ExplainsSynthesisError};
 
-use crate::programs::SynthesisError;
+use crate::errors::SynthesisError;
+use crate::programs::convex_program;
 use mpc_claim::{Phase, Registry};
+use mpc_plant::Plant;
 use mpc_port::Gate;
 use mpc_rows::{Place, Qp, Verdict};
 use mpc_workers::enumerate_alone;
@@ -60,5 +63,23 @@ pub fn decide_all<G: Gate>(
     match wide_place(&registry) {
         Some(place) => Err(SynthesisError::TooWide(place)),
         None => Ok(registry),
+    }
+}
+
+/// The registry of a plant's candidates, all decided by one worker.
+///
+/// `NotDefinite` names the first pivot that isn't positive, `TooWide` the first place of condensing, the pivots or the active sets with a
+/// number of more than 128 bits.
+pub fn decided<G: Gate>(alloc: Global, plant: &Plant, gate: &G) -> Result<Registry, SynthesisError>
+    ensures decided { IfOk result (IsDecidedBy plant.now) }
+    ensures refused { IfErr result (ExplainsSynthesisError verdicts plant.now) }
+{
+    let program = match convex_program(alloc, plant) {
+        Ok(program) => program,
+        Err(error) => return Err(error),
+    };
+    match decide_all(alloc, &program, gate) {
+        Ok(registry) => Ok(registry),
+        Err(error) => Err(error),
     }
 }

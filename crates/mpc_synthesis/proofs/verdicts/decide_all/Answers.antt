@@ -1,7 +1,7 @@
 use Rattle.std.proofs.Common.{subst}
 use Rattle.mpc_rows.specs.declared.verdicts.Verdict.TheVariants.{Wide}
 use Rattle.mpc_claim.specs.Answers.{IsFirstBad}
-use Rattle.mpc_cli.proofs.deciding.decide_all.Goals as goal
+use Rattle.mpc_synthesis.proofs.verdicts.decide_all.Goals as goal
 
 pub wide_place-requires : goal.wide_place-requires
 wide_place-requires g c = (c.args.program.now, c.in-Ok.ensures)

@@ -1,0 +1,5 @@
+use Rattle.mpc_cli.proofs.DueStatus.{due_unique}
+use Rattle.mpc_cli.proofs.laws.one_status.Goals as goal
+
+pub returns : goal.returns
+returns c = due_unique c.one_outcome.ensures

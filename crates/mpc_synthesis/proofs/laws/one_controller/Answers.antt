@@ -1,0 +1,22 @@
+use Rattle.mpc_tree.proofs.OneTree.{fitting_of_certified}
+use Rattle.mpc_synthesis.proofs.OneOutcome.{one_controller}
+use Rattle.mpc_synthesis.proofs.laws.one_controller.Goals as goal
+
+pub returns : goal.returns
+returns c = one_controller (record {
+  one_program = c.one_program.ensures;
+  one_verdict = c.one_verdict.ensures;
+  order_of_sets = c.order_laws.ensures;
+  definite_by_pivots = c.pivot_laws.ensures.definite;
+  no_wide_place = c.place_laws.ensures.none;
+  one_wide_place = c.place_laws.ensures.one;
+  one_tree = c.one_tree.ensures.one_tree;
+  one_first_wide = c.one_tree.ensures.one_first_wide;
+  fits_not_wide = c.one_tree.ensures.fits_not_wide;
+  fitting = fitting_of_certified;
+  one_table = c.one_table.ensures;
+  one_broken = c.bound_laws.ensures.one_first_broken;
+  none_broken = c.bound_laws.ensures.kept_not_broken;
+  nothing_found = c.one_finding.ensures.accepted;
+  one_finding = c.one_finding.ensures.one;
+})

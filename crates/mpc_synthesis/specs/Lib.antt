@@ -1,0 +1,4 @@
+pub mod Programs
+pub mod Controllers
+pub mod Refusals
+pub mod Outcomes

@@ -1,0 +1,15 @@
+//! Explicit model predictive control from a plant to its controller: the convex program, the verdicts on its active sets, and the
+//! controller with its table of laws and its search tree, which the independent checker has accepted.
+#![tactic(auto)]
+
+mod controllers;
+mod errors;
+mod laws;
+mod programs;
+mod verdicts;
+
+pub use controllers::controller;
+pub use errors::SynthesisError;
+pub use laws::{one_controller, one_outcome, right_controller};
+pub use programs::convex_program;
+pub use verdicts::{decide_all, decided};
