@@ -22,7 +22,7 @@ use Rattle.mpc_rows.specs.Candidates.{IsTable}
 use Rattle.mpc_rows.specs.SetRuns.{LawRowsFit}
 use Rattle.mpc_condense.specs.Condensed.{IsCondensed}
 use Rattle.mpc_tree.specs.Trees.{whole_box}
-use Rattle.mpc_tree.specs.Certified.{IsCertified}
+use Rattle.mpc_tree.specs.Certified.{IsCertified, CertifiedIsTree}
 use Rattle.mpc_file.specs.Parts.{Parts, limits_of, IsLawFor, HaveShapes}
 use Rattle.mpc_file.specs.Bounds.{first_move_form}
 use Rattle.mpc_file.specs.Replies.{first_outside, IsLawNumbered, RepliesAt, by_law, by_no_law}
@@ -30,7 +30,6 @@ use Rattle.mpc_table.specs.Lookup.{Lookup, IsTableOf}
 use Rattle.mpc_table.specs.TableReplies.{IsMoveReply, IsInfeasibleReply, CanMove}
 use Rattle.mpc_table.specs.TableLaws.{OneListEach, MovesEachInput}
 use Rattle.mpc_answers.specs.Replies.{RightReplies, PartsHaveShapes, GridIsInBox}
-use Rattle.mpc_tree.proofs.OneTree.{tree_of_certified}
 use Rattle.mpc_compile_c.specs.declared.replies.Answer.{Answer}
 use Rattle.mpc_compile_c.specs.declared.replies.Answer.TheVariants.{Moved, Infeasible, Outside}
 use Rattle.mpc_compile_c.specs.Answers.{no_parts, IsControllerOf, HoldsFor, IsMoveOf, RepliesBy, IsRightAt}
@@ -82,14 +81,14 @@ pub past : (parts : Parts) (counts : List ℕ) (i : ℕ) (moves : List ℚ) → 
 past parts counts i moves e h = let a = e in let b = h in absurd cc
 
 -- ---- and by the plant
-module _ (right : RightReplies) (grid : GridIsInBox) (plant : Plant) (parts : Parts) (counts : List ℕ) (is : IsControllerOf plant parts) (size : length counts ≡ plant.n) where
+module _ (right : RightReplies) (tree_of : CertifiedIsTree) (grid : GridIsInBox) (plant : Plant) (parts : Parts) (counts : List ℕ) (is : IsControllerOf plant parts) (size : length counts ≡ plant.n) where
   inside_of : first_outside (limits_of parts.plant) counts ≡ None → first_outside (limits_of plant) counts ≡ None
   inside_of h = ap (λ p. first_outside (limits_of p) counts) (sym is.plant_is) ∙ h
 
   right_at : (reply : Reply) → first_outside (limits_of parts.plant) counts ≡ None → RepliesAt parts (point_of counts) reply → IsRight plant (point_of counts) reply
   right_at reply h r =
       subst (λ p. IsRight p (point_of counts) reply) is.plant_is
-      (right is.qp parts (point_of counts) reply (subst (IsCondensed is.qp) (sym is.plant_is) is.condensed) is.definite is.table (tree_of_certified is.qp parts.laws whole_box parts.tree is.tree) (grid plant is.qp counts is.condensed size (inside_of h)) r)
+      (right is.qp parts (point_of counts) reply (subst (IsCondensed is.qp) (sym is.plant_is) is.condensed) is.definite is.table (tree_of is.qp parts.laws whole_box parts.tree is.tree) (grid plant is.qp counts is.condensed size (inside_of h)) r)
 
   pub right_reply : (moves : List ℚ) (answer : Answer) → RepliesBy parts counts moves answer → IsRightAt plant counts moves answer
   right_reply moves Moved h = (inside_of h.0, right_at (move moves) h.0 h.1)

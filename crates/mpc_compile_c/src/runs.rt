@@ -13,6 +13,7 @@ use crate::replies::{Answer, replies};
 use mpc_answers::{grid_points, right_replies};
 use mpc_parts::Parts;
 use mpc_plant::{Plant, PlantError, read_plant};
+use mpc_tree::one_tree;
 use std::alloc::Global;
 
 /// The reply of a plant's controller to counts, one a state.
@@ -31,6 +32,7 @@ fn reply_of(
     ensures stops { IfErr result (ExplainsStop plant last) }
 {
     right_replies();
+    one_tree();
     grid_points();
     let controller = match compile(alloc, plant, last, sizes) {
         Ok(controller) => controller,

@@ -1,17 +1,11 @@
 -- The laws of the crates below on which the uniqueness of a plant's outcome and controller stands.
-use Rattle.std.proofs.Common.{List}
 use Rattle.mpc_cover.specs.CoverLaws.{OneRightVerdict}
 use Rattle.mpc_sets.specs.SetLaws.{OrderLaws}
-use Rattle.mpc_rows.specs.declared.programs.Qp.{Qp}
-use Rattle.mpc_rows.specs.declared.laws.Law.{Law}
-use Rattle.mpc_rows.specs.declared.trees.Node.{Node}
 use Rattle.mpc_definite.specs.PivotLaws.{DefiniteByPivots}
 use Rattle.mpc_condense.specs.ProgramLaws.{NoWidePlace, OneWidePlace}
 use Rattle.mpc_file.specs.OneBound.{OneFirstBroken, KeptNotBroken}
 use Rattle.mpc_best.specs.BestReplies.{OneProgram}
-use Rattle.mpc_tree.specs.Trees.{Cell}
-use Rattle.mpc_tree.specs.Certified.{IsCertified, OneTree, OneFirstWide, FitsNotWide}
-use Rattle.mpc_tree.specs.NodeRuns.{IsFittingTree}
+use Rattle.mpc_tree.specs.Certified.{OneTree, OneFirstWide, FitsNotWide, CertifiedFits}
 use Rattle.mpc_answers.specs.Replies.{OneTable}
 use Rattle.mpc_check.specs.Acceptance.{NothingFound, OneFinding}
 
@@ -25,7 +19,7 @@ pub record Given : Type 0 where
   pub one_tree : OneTree
   pub one_first_wide : OneFirstWide
   pub fits_not_wide : FitsNotWide
-  pub fitting : (qp : Qp) (laws : List Law) (cell : Cell) (nodes : List Node) → IsCertified qp laws cell nodes → IsFittingTree qp laws cell nodes
+  pub fitting : CertifiedFits
   pub one_table : OneTable
   pub one_broken : OneFirstBroken
   pub none_broken : KeptNotBroken

@@ -16,7 +16,7 @@ use mpc_compiled::compiled_accepted;
 use mpc_file::{Controller, SealError};
 use mpc_plant::Plant;
 use mpc_port::Gate;
-use mpc_tree::{TreeError, build};
+use mpc_tree::{TreeError, build_alone};
 use std::alloc::Global;
 
 /// Why a plant whose tree isn't built is refused.
@@ -45,7 +45,7 @@ fn sealed<G: Gate>(alloc: Global, plant: Plant, gate: &G) -> Result<Controller, 
     let Ok(laws) = registry.into_laws(alloc) else {
         return Err(SynthesisError::NoMemory);
     };
-    let tree = match build(alloc, &program, &laws) {
+    let tree = match build_alone(alloc, &program, &laws) {
         Ok(tree) => tree,
         Err(error) => return Err(without_tree(error)),
     };

@@ -8,7 +8,7 @@ returns-in-Ok-laid_out-clause-answered c =
     let is = c.in-Ok.ensures.controller in
     let replied = c.replies.ensures c.in-Ok.controller (record { shapes = is.shapes; table_of = c.in-Ok-laid_out.ensures.table }) in
     record {
-      right = right_reply c.right_replies.ensures c.grid_points.ensures c.args.plant c.in-Ok.controller c.args.counts.now is c.requires.counts (map value_of c.replies.new.moves) c.replies.result replied;
+      right = right_reply c.right_replies.ensures c.one_tree.ensures.is_tree c.grid_points.ensures c.args.plant c.in-Ok.controller c.args.counts.now is c.requires.counts (map value_of c.replies.new.moves) c.replies.result replied;
       parts = c.in-Ok.controller;
       controller = is;
       sizes_are = c.in-Ok.ensures.sizes;

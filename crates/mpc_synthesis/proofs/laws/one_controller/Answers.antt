@@ -1,4 +1,3 @@
-use Rattle.mpc_tree.proofs.OneTree.{fitting_of_certified}
 use Rattle.mpc_synthesis.proofs.OneOutcome.{one_controller}
 use Rattle.mpc_synthesis.proofs.laws.one_controller.Goals as goal
 
@@ -13,7 +12,7 @@ returns c = one_controller (record {
   one_tree = c.one_tree.ensures.one_tree;
   one_first_wide = c.one_tree.ensures.one_first_wide;
   fits_not_wide = c.one_tree.ensures.fits_not_wide;
-  fitting = fitting_of_certified;
+  fitting = c.one_tree.ensures.fits;
   one_table = c.one_table.ensures;
   one_broken = c.bound_laws.ensures.one_first_broken;
   none_broken = c.bound_laws.ensures.kept_not_broken;
