@@ -21,7 +21,7 @@ use mpc_frac::NoMemory;
 use mpc_plant::Plant;
 use mpc_rows::{LawTable, Qp, Tree};
 use mpc_table::Table;
-use mpc_tree::{TreeError, build};
+use mpc_tree::{TreeError, build_alone};
 use std::alloc::Global;
 
 /// The search tree of a table of laws.
@@ -32,7 +32,7 @@ fn grown(alloc: Global, program: &Qp, laws: &LawTable, last: Phase) -> Result<Tr
     ensures tree { IfOk result (λ nodes. IsCertified program.now laws.now whole_box nodes) }
     ensures stops { IfErr result (EndsBy last (HasWideRun program.now laws.now)) }
 {
-    let tree = match build(alloc, program, laws) {
+    let tree = match build_alone(alloc, program, laws) {
         Ok(tree) => tree,
         Err(TreeError::Wide(_)) => return Err(Stop::TooWide),
         Err(TreeError::NoMemory) => return Err(Stop::NoMemory),
