@@ -1,6 +1,6 @@
 pub mod Firsts
 pub mod FirstPivots
-pub mod Verdicts
+pub mod DecidedLemmas
 pub mod Given
 pub mod OneOutcome
 pub mod ControllerLemmas

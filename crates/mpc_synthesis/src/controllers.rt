@@ -11,7 +11,8 @@ use crate::errors::SynthesisError;
 use crate::programs::convex_program;
 use crate::verdicts::decide_all;
 use mpc_answers::tree_shapes;
-use mpc_check::{Answer, CheckError, check};
+use mpc_check::{Answer, CheckError, check_alone};
+use mpc_claim::legal_laws;
 use mpc_compiled::compiled_accepted;
 use mpc_file::{Controller, SealError};
 use mpc_plant::Plant;
@@ -42,6 +43,7 @@ fn sealed<G: Gate>(alloc: Global, plant: Plant, gate: &G) -> Result<Controller, 
         Ok(registry) => registry,
         Err(error) => return Err(error),
     };
+    legal_laws();
     let Ok(laws) = registry.into_laws(alloc) else {
         return Err(SynthesisError::NoMemory);
     };
@@ -64,7 +66,7 @@ fn accept(alloc: Global, parts: &Controller) -> Result<(), SynthesisError>
     ensures refused { IfErr result (ExplainsCheckError parts.now) }
 {
     compiled_accepted();
-    match check(alloc, parts) {
+    match check_alone(alloc, parts) {
         Ok(Answer::Accepted) => Ok(()),
         Ok(Answer::Refused(_)) => unreachable!(),
         Err(CheckError::Wide(place)) => Err(SynthesisError::TooWide(place)),

@@ -13,7 +13,7 @@ ghost use Rattle.mpc_synthesis.specs.Refusals.{verdicts, ExplainsSetError, Expla
 
 use crate::errors::SynthesisError;
 use crate::programs::convex_program;
-use mpc_claim::{Phase, Registry};
+use mpc_claim::{Phase, Registry, legal_laws};
 use mpc_plant::Plant;
 use mpc_port::Gate;
 use mpc_rows::{Place, Qp, Verdict};
@@ -78,8 +78,10 @@ pub fn decided<G: Gate>(alloc: Global, plant: &Plant, gate: &G) -> Result<Regist
         Ok(program) => program,
         Err(error) => return Err(error),
     };
-    match decide_all(alloc, &program, gate) {
-        Ok(registry) => Ok(registry),
-        Err(error) => Err(error),
-    }
+    legal_laws();
+    let registry = match decide_all(alloc, &program, gate) {
+        Ok(registry) => registry,
+        Err(error) => return Err(error),
+    };
+    Ok(registry)
 }

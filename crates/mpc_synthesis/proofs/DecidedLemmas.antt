@@ -1,5 +1,7 @@
 -- A finished history decides all candidates.
-use Rattle.std.proofs.Common.{◌≡◌, ◌≢◌, ℕ, zero, suc, ◌<◌, ◌⊎◌, inl, inr, false, List, [], ◌∷◌, ◌++◌, ◌+◌, length, get_or, take, append_assoc, refl, sym, ◌∙◌, ap, subst, arith}
+use Rattle.std.proofs.Common.{◌≡◌, ◌≢◌, ℕ, ◌⊎◌, inl, inr, false, List, refl, sym, subst}
+use Rattle.std.specs.Prelude.{Contains}
+use Rattle.std.proofs.lemmas.List.Elements.{Contains-get_or}
 use Rattle.mpc_plant.specs.declared.plants.Plant.{Plant}
 use Rattle.mpc_rows.specs.declared.programs.Qp.{Qp}
 use Rattle.mpc_rows.specs.declared.verdicts.Verdict.{Verdict}
@@ -9,23 +11,14 @@ use Rattle.mpc_claim.specs.declared.events.EventKind.TheVariants.{Done}
 use Rattle.mpc_claim.specs.declared.events.Tag.{Tag}
 use Rattle.mpc_claim.specs.declared.events.Tag.TheVariants.{Wide as WideTag}
 use Rattle.mpc_claim.specs.Board.{Board, event, tag_of, is_wide}
-use Rattle.mpc_claim.specs.History.{IsRightTag, MayFollow, IsLegalAfter, IsLegal, IsFinished, EndsWide}
+use Rattle.mpc_claim.specs.History.{IsLegal, IsFinished, EndsWide}
+use Rattle.mpc_claim.specs.HistoryLaws.{LegalLaws}
 use Rattle.mpc_claim.specs.declared.events.Phase.TheVariants.{Finished, Stopped}
 use Rattle.mpc_workers.specs.Alone.{IsDoneAlone}
 use Rattle.mpc_synthesis.specs.declared.errors.SynthesisError.{SynthesisError}
 use Rattle.mpc_synthesis.specs.declared.errors.SynthesisError.TheVariants.{NotDefinite, TooWide, NoMemory}
 use Rattle.mpc_synthesis.specs.Programs.{HasProgram, PivotsPass, IsDecided, HasVerdicts, IsDecidedBy}
 use Rattle.mpc_synthesis.specs.Refusals.{Extent, ExplainsSynthesisError, ExplainsSetError, wide_set}
-
--- what follows an event is about it
-follows : (qp : Qp) (past : List Event) (e : Event) (w : ℕ) (s : List ℕ) (tag : Tag) → e ≡ event w s (Done tag) → MayFollow qp past e.worker e.set e.kind → IsRightTag qp s tag
-follows qp past e w s tag is may = (subst (λ (d : Event). MayFollow qp past d.worker d.set d.kind) is may).1
-
--- a delivery in a legal history has the tag of a right verdict
-right_after : (qp : Qp) (past es : List Event) → IsLegalAfter qp past es → (w : ℕ) (s : List ℕ) (tag : Tag) (k : ℕ) → k < length es → get_or es k (event w s (Done tag)) ≡ event w s (Done tag) → IsRightTag qp s tag
-right_after qp past [] legal w s tag k below is = absurd (omega (arith, below))
-right_after qp past (e ∷ es) legal w s tag zero below is = follows qp past e w s tag is legal.0
-right_after qp past (e ∷ es) legal w s tag (suc k) below is = right_after qp (past ++ e ∷ []) es legal.1 w s tag k (omega (arith, below)) is
 
 not_wide_by : (v : Verdict) (tag : Tag) → tag_of v ≡ tag → tag ≢ WideTag → is_wide v ≡ false
 not_wide_by Dependent tag e n = refl
@@ -34,11 +27,12 @@ not_wide_by Hollow tag e n = refl
 not_wide_by (Region law) tag e n = refl
 not_wide_by (Wide place) tag e n = absurd (n (sym e))
 
-pub decided_of : (qp : Qp) (history : List Event) → IsLegal qp history → IsFinished qp history → IsDecided qp
-decided_of qp history legal finished s candidate =
+pub decided_of : LegalLaws → (qp : Qp) (history : List Event) → IsLegal qp history → IsFinished qp history → IsDecided qp
+decided_of laws qp history legal finished s candidate =
     let settled = finished.settled s candidate in
     let d = settled.done.delivery in
-    let right = right_after qp [] history legal settled.done.worker s settled.tag d.0 d.1 d.2 in
+    let done = event settled.done.worker s (Done settled.tag) in
+    let right = laws.right_tags qp history settled.done.worker s settled.tag legal (subst (Contains history) d.2 (Contains-get_or history d.0 done d.1)) in
     (right.verdict, right.right, not_wide_by right.verdict settled.tag right.tagged settled.not_wide)
 
 -- ---- the registry of one worker
@@ -52,11 +46,11 @@ finished_by qp board done phase = by done.ended
     by (inl h) = h.1
     by (inr h) = absurd (stopped_not_finished board h.0 phase)
 
-pub verdicts_of : (plant : Plant) (qp : Qp) (board : Board) → HasProgram plant qp → PivotsPass qp → IsDoneAlone qp board → board.phase ≡ Finished → HasVerdicts plant qp
-verdicts_of plant qp board program pivots done phase = record {
+pub verdicts_of : LegalLaws → (plant : Plant) (qp : Qp) (board : Board) → HasProgram plant qp → PivotsPass qp → IsDoneAlone qp board → board.phase ≡ Finished → HasVerdicts plant qp
+verdicts_of laws plant qp board program pivots done phase = record {
   has_program = program;
   pivots = pivots;
-  decided = decided_of qp board.history done.legal (finished_by qp board done phase);
+  decided = decided_of laws qp board.history done.legal (finished_by qp board done phase);
 }
 
 pub wide_set_of : (extent : Extent) (plant : Plant) (qp : Qp) (e : SynthesisError) → HasProgram plant qp → PivotsPass qp → ExplainsSetError qp e → ExplainsSynthesisError extent plant e
@@ -64,5 +58,5 @@ wide_set_of extent plant qp (NotDefinite pivot) program pivots h = absurd h
 wide_set_of extent plant qp (TooWide place) program pivots h = wide_set extent qp place program pivots h
 wide_set_of extent plant qp NoMemory program pivots h = tt
 
-pub decided_by : (plant : Plant) (qp : Qp) (board : Board) → HasProgram plant qp → PivotsPass qp → IsDoneAlone qp board → board.phase ≡ Finished → IsDecidedBy plant board
-decided_by plant qp board program pivots done phase = record { qp = qp; verdicts = verdicts_of plant qp board program pivots done phase; done = done; finished = finished_by qp board done phase }
+pub decided_by : LegalLaws → (plant : Plant) (qp : Qp) (board : Board) → HasProgram plant qp → PivotsPass qp → IsDoneAlone qp board → board.phase ≡ Finished → IsDecidedBy plant board
+decided_by laws plant qp board program pivots done phase = record { qp = qp; verdicts = verdicts_of laws plant qp board program pivots done phase; done = done; finished = finished_by qp board done phase }
