@@ -18,11 +18,10 @@ use Rattle.mpc_claim.specs.declared.events.Event.{Event}
 use Rattle.mpc_claim.specs.declared.tickets.Ticket.{Ticket}
 use Rattle.mpc_claim.specs.Board.{Board, at, event}
 use Rattle.mpc_claim.specs.declared.events.EventKind.{EventKind}
-use Rattle.mpc_claim.specs.declared.candidates.Slot.{Slot}
 use Rattle.mpc_claim.specs.declared.candidates.Slot.TheVariants.{Claimed as ClaimedSlot}
-use Rattle.mpc_claim.specs.History.{is_claim, claimed_sets, has_drop, MayClaim, MayEnd, IsLegal, IsOpen, IsFinished, IsIdle, EndsWide, WantsMemory}
+use Rattle.mpc_claim.specs.History.{is_claim, claimed_sets, has_drop, MayClaim, IsLegal, IsOpen, IsFinished, IsIdle, EndsWide, WantsMemory}
 use Rattle.mpc_claim.specs.OpenClaims.{Held, held_by, same_set, same, open_of, opened, open_after, has, without}
-use Rattle.mpc_claim.specs.HistoryLaws.{next_ticket, AppendLaws, OpenListLaws, ClaimLaws}
+use Rattle.mpc_claim.specs.HistoryLaws.{AppendLaws, OpenListLaws, ClaimLaws}
 use Rattle.mpc_claim.specs.Answers.{Claims}
 use Rattle.mpc_claim.specs.Books.{IsSlotOf, IsSound}
 use Rattle.mpc_turn.specs.declared.view.View.{View}

@@ -1,6 +1,5 @@
 -- What a pass knows.
 use Rattle.std.specs.Prelude.{◌≡◌, ℕ, ◌+◌, ◌-◌, List, [], ◌∷◌, ◌++◌, map, drop, length, true, false, Option, Some, None, if◌then◌else◌, nat_le, ◌⊎◌}
-use Rattle.mpc_rows.specs.declared.programs.Qp.{Qp}
 use Rattle.mpc_claim.specs.declared.events.Event.{Event}
 use Rattle.mpc_claim.specs.Board.{Board}
 use Rattle.mpc_claim.specs.History.{is_claim, IsLegal}

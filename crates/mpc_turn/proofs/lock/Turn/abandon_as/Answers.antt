@@ -1,10 +1,9 @@
-use Rattle.std.proofs.Common.{◌≡◌, ◌∙◌, arith, List, ℕ, sym, ap, subst, ◌++◌, ◌∷◌, []}
+use Rattle.std.proofs.Common.{◌≡◌, ◌∙◌, arith, sym, ap, subst}
 use Rattle.mpc_claim.specs.declared.events.EventKind.TheVariants.{Drop}
 use Rattle.mpc_rows.specs.declared.programs.Qp.{Qp}
-use Rattle.mpc_rows.specs.Verdicts.{IsRight}
-use Rattle.mpc_claim.specs.Board.{Board, event, tag_of}
-use Rattle.mpc_claim.specs.History.{IsLegal, IsOpen}
-use Rattle.mpc_claim.specs.Answers.{abandoned, delivered}
+use Rattle.mpc_claim.specs.Board.{Board, event}
+use Rattle.mpc_claim.specs.History.{IsLegal}
+use Rattle.mpc_claim.specs.Answers.{abandoned}
 use Rattle.mpc_turn.specs.Views.{Starts}
 use Rattle.mpc_turn.specs.Known.{Known, known, called, Holds, InHand}
 use Rattle.mpc_turn.proofs.Calls.{chain, pass_after, worker_of, called_is, EndsBy, end_due, turn_opens}

@@ -1,4 +1,4 @@
-use Rattle.std.proofs.Common.{◌≡◌, ◌∙◌, arith, refl, sym, ap, subst}
+use Rattle.std.proofs.Common.{◌∙◌, arith, refl, sym, ap, subst}
 use Rattle.mpc_turn.specs.Lock.{Sat}
 use Rattle.mpc_claim.specs.Answers.{Claims}
 use Rattle.mpc_claim.specs.History.{IsLegal}

@@ -1,8 +1,7 @@
-use Rattle.std.proofs.Common.{◌≡◌, ◌∙◌, sym, rules}
-use Rattle.mpc_rows.specs.Verdicts.{IsRight}
-use Rattle.mpc_claim.specs.History.{IsLegal, IsOpen}
-use Rattle.mpc_claim.specs.Answers.{Claims, abandoned, delivered}
-use Rattle.mpc_turn.proofs.Slot.{carries, lent, leaves}
+use Rattle.std.proofs.Common.{◌≡◌, ◌∙◌, sym}
+use Rattle.mpc_claim.specs.History.{IsLegal}
+use Rattle.mpc_claim.specs.Answers.{Claims}
+use Rattle.mpc_turn.proofs.Slot.{carries, leaves}
 use Rattle.mpc_turn.proofs.lock.Turn.claim_in.Goals as goal
 
 pub slot_mut-registry-requires : goal.slot_mut-registry-requires

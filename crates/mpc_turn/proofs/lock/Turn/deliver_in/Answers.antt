@@ -1,7 +1,7 @@
-use Rattle.std.proofs.Common.{◌≡◌, ◌∙◌, sym, rules}
+use Rattle.std.proofs.Common.{◌≡◌, ◌∙◌, sym}
 use Rattle.mpc_rows.specs.Verdicts.{IsRight}
 use Rattle.mpc_claim.specs.History.{IsLegal, IsOpen}
-use Rattle.mpc_claim.specs.Answers.{Claims, abandoned, delivered}
+use Rattle.mpc_claim.specs.Answers.{delivered}
 use Rattle.mpc_turn.proofs.Slot.{carries, lent, leaves}
 use Rattle.mpc_turn.proofs.lock.Turn.deliver_in.Goals as goal
 
