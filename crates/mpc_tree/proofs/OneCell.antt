@@ -1,20 +1,15 @@
 -- What is first at a cell is single: the law whose region meets it, and the row of that law that fails on it. A cell that is divided has no leaf.
-use Rattle.std.proofs.Common.{◌≡◌, ℕ, ◌+◌, ◌<◌, List, length, map, sym, ◌∙◌, ap, subst, arith, All, Contains, Some, slice_get}
-use Rattle.std.specs.Option.{option_map}
-use Rattle.std.proofs.lemmas.Option.{slice_get_within, get_or_from_slice_get, slice_get-map}
-use Rattle.std.proofs.lemmas.List.Elements.{All-contains, Contains-get_or}
-use Rattle.mpc_exact.specs.Rational.{ℚ}
+use Rattle.std.proofs.Common.{◌≡◌, ℕ, ◌+◌, ◌<◌, List, length, sym, ◌∙◌, ap, subst, arith, Contains, Some, slice_get}
+use Rattle.std.proofs.lemmas.Option.{slice_get_within, get_or_from_slice_get}
+use Rattle.std.proofs.lemmas.List.Elements.{Contains-get_or}
 use Rattle.mpc_linear.specs.declared.integers.RowInt.{RowInt}
 use Rattle.mpc_rows.specs.declared.programs.Qp.{Qp}
 use Rattle.mpc_rows.specs.declared.laws.Law.{Law}
 use Rattle.mpc_rows.specs.declared.systems.Row.{Row}
 use Rattle.mpc_rows.specs.declared.trees.Node.{Node}
 use Rattle.mpc_rows.specs.declared.trees.Node.TheVariants.{Split, Law as LawLeaf, NoMove}
-use Rattle.mpc_rows.specs.LinearSystem.{MeetsRow, IsPoint}
-use Rattle.mpc_rows.specs.Laws.{IsLaw, IsInRegion}
-use Rattle.mpc_rows.specs.LawRows.{AreLawRows, whole_row}
+use Rattle.mpc_rows.specs.Laws.{IsLaw}
 use Rattle.mpc_rows.specs.Candidates.{IsTable}
-use Rattle.mpc_rows.specs.SetRuns.{box_rows, region_system}
 use Rattle.mpc_rows.specs.LawLaws.{LawLaws}
 use Rattle.mpc_systems.specs.CellLaws.{CellLaws}
 use Rattle.mpc_tree.specs.Cells.{LiesInRegion, NoneMeetsBefore, IsFirstToMeet, IsFirstToFail}

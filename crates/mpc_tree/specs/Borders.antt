@@ -1,9 +1,8 @@
 -- The rows of all laws of a table.
-use Rattle.std.specs.Prelude.{◌≡◌, ℕ, List, length, All, Some, slice_get}
+use Rattle.std.specs.Prelude.{◌≡◌, ℕ, List, length, Some, slice_get}
 use Rattle.mpc_linear.specs.declared.integers.RowInt.{RowInt}
 use Rattle.mpc_rows.specs.declared.programs.Qp.{Qp}
 use Rattle.mpc_rows.specs.declared.laws.Law.{Law}
-use Rattle.mpc_rows.specs.declared.systems.Row.{Row}
 use Rattle.mpc_rows.specs.Laws.{IsLaw}
 use Rattle.mpc_rows.specs.LawRows.{AreLawRows}
 use Rattle.mpc_systems.specs.Writing.{AreOfSize}
