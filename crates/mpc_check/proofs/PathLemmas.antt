@@ -22,17 +22,6 @@ spells_parts (suc t) (Split row ∷ xs) ys left h = spells_parts (suc (suc t)) x
 spells_parts (suc t) (Law law certs ∷ xs) ys left h = spells_parts t xs ys left h
 spells_parts (suc t) (NoMove cert ∷ xs) ys left h = spells_parts t xs ys left h
 
-pub spells_more : (k : ℕ) (xs ys : List Node) (left n : ℕ) → n ≡ k + left → Spells k xs 0 → Spells left ys 0 → Spells n (xs ++ ys) 0
-spells_more zero [] ys left n e a b = subst (λ m. Spells m ys 0) (omega (arith, e)) b
-spells_more (suc k) [] ys left n e a b = absurd (omega (arith, a))
-spells_more zero (x ∷ xs) ys left n e a b = absurd a
-spells_more (suc k) (Split row ∷ xs) ys left zero e a b = absurd (omega (arith, e))
-spells_more (suc k) (Split row ∷ xs) ys left (suc n) e a b = spells_more (suc (suc k)) xs ys left (suc (suc n)) (omega (arith, e)) a b
-spells_more (suc k) (Law law certs ∷ xs) ys left zero e a b = absurd (omega (arith, e))
-spells_more (suc k) (Law law certs ∷ xs) ys left (suc n) e a b = spells_more k xs ys left n (omega (arith, e)) a b
-spells_more (suc k) (NoMove cert ∷ xs) ys left zero e a b = absurd (omega (arith, e))
-spells_more (suc k) (NoMove cert ∷ xs) ys left (suc n) e a b = spells_more k xs ys left n (omega (arith, e)) a b
-
 -- so many trees, and no other number of them
 spells_one : (t u : ℕ) (xs : List Node) → Spells t xs 0 → Spells u xs 0 → t ≡ u
 spells_one zero zero [] a b = refl

@@ -11,11 +11,12 @@ use Rattle.mpc_rows.specs.declared.trees.Node.{Node}
 use Rattle.mpc_rows.specs.declared.trees.Node.TheVariants.{Split, Law, NoMove}
 use Rattle.mpc_rows.specs.LawRows.{whole_row, broken_row}
 use Rattle.mpc_file.specs.Preorder.{Spells, IsTree, IsNoSide}
+use Rattle.mpc_file.specs.PreorderLaws.{JoinedSpell}
 use Rattle.mpc_file.specs.Walk.{IsLeaf}
 use Rattle.mpc_check.specs.Paths.{PathTo, root as path_root, yes_side as path_yes, no_side as path_no}
 use Rattle.mpc_check.specs.declared.ways.Turn.{Turn}
 use Rattle.mpc_check.specs.Ways.{side_row, split_row, turn_row, way_rows, turn_at, IsTurn, IsWay, root, yes_side, no_side, EndsTree}
-use Rattle.mpc_check.proofs.PathLemmas.{spells_parts, spells_more, range_at, nothing_between, no_tree}
+use Rattle.mpc_check.proofs.PathLemmas.{spells_parts, range_at, nothing_between, no_tree}
 
 module _ (nodes : List Node) where
   -- ---- the path of a way
@@ -103,12 +104,9 @@ module _ (nodes : List Node) where
             different q = cc
 
     -- behind a no side its split's tree is ended
-    pub ends_split : turn.yes ≡ false → EndsTree nodes way end
-    ends_split is_no = by last.side
+    pub ends_split : JoinedSpell → turn.yes ≡ false → EndsTree nodes way end
+    ends_split join is_no = by last.side
       where
-        two : 2 ≡ 1 + 1
-        two = omega arith
-
         by : ((turn.yes ≡ true) × (ended.place ≡ turn.split + 1)) ⊎ ((turn.yes ≡ false) × IsNoSide nodes turn.split ended.place) → EndsTree nodes way end
         by (inl y) = absurd (different (sym y.0 ∙ is_no))
           where
@@ -123,7 +121,7 @@ module _ (nodes : List Node) where
               place = turn.split;
               leads = last.leads;
               tree = subst IsTree (sym (range_at nodes turn.split turn.split end (Split last.row) (omega arith) (omega arith) last.is_split ∙ ap (λ xs. xs ++ Split last.row ∷ slice_range nodes (turn.split + 1) end) (nothing_between nodes turn.split turn.split (omega arith))))
-                  (subst (λ xs. Spells 2 xs 0) (sym (joined (turn.split + 1) next end (omega arith) (omega arith))) (spells_more 1 (slice_range nodes (turn.split + 1) next) (slice_range nodes next end) 1 2 two side.yes_side ended.tree));
+                  (subst (λ xs. Spells 2 xs 0) (sym (joined (turn.split + 1) next end (omega arith) (omega arith))) (join 1 1 (slice_range nodes (turn.split + 1) next) (slice_range nodes next end) side.yes_side ended.tree));
             }
           where
             joined : (i j k : ℕ) → i ≤ j → j ≤ k → slice_range nodes i k ≡ slice_range nodes i j ++ slice_range nodes j k

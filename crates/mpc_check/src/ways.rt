@@ -5,6 +5,7 @@ ghost use Rattle.mpc_file.specs.Preorder.{IsTree};
 ghost use Rattle.mpc_file.specs.Walk.{IsLeaf};
 ghost use Rattle.mpc_check.specs.Ways.{IsWay, EndsTree};
 
+use mpc_file::preorder_laws;
 use mpc_frac::NoMemory;
 use mpc_rows::{Node, Tree};
 
@@ -21,6 +22,7 @@ fn turn_over(way: &mut Vec<Turn>, tree: &Tree, end: usize) -> Result<(), NoMemor
     requires ended { EndsTree tree.now way.old.items end }
     ensures { OnOk result (end < length tree.now → IsWay tree.now end way.new.items) }
 {
+    preorder_laws();
     while let Some(turn) = way.pop() {
         if turn.yes {
             let other = Turn {

@@ -101,43 +101,52 @@ fn writes_laws_and_leaves(rt: HostRuntime) -> Result<(), Fail> {
     Ok(())
 }
 
-// One law without rows, which gives 3/2 - t/2, of the plant x + u + 1.
-#[test]
-fn writes_a_drift(rt: HostRuntime) -> Result<(), Fail> {
-    let alloc = rt.alloc();
-    let file =
-        b"{\"version\":2,\"horizon\":1,\"A\":[[1]],\"B\":[[1]],\"Q\":[[1]],\"R\":[[1]],\"P\":[[1]],\"drift\":[1],\"grid\":[{\"low\":-4,\"step\":1,\"count\":8}]}";
-    let plant = read_plant(alloc, file).ok().ok_or("no plant")?;
+/// The law of no row that gives 3/2 - t/2.
+fn one_law(alloc: Global) -> Result<LawTable, Fail> {
     let mut laws = LawTable::new(alloc);
     laws.push(Law {
         set: ActiveSet::empty(),
         moves: one_row(alloc, Frac::new(3, 2)?, Frac::new(-1, 2)?)?,
         mults: Matrix::zero(alloc, 0, 2)?,
     })?;
+    Ok(laws)
+}
+
+/// The tree that is a leaf of the first law, for a plant without rows.
+fn one_leaf(alloc: Global) -> Result<Tree, NoMemory> {
     let mut tree = Tree::new(alloc);
     tree.push(Node::Law {
         law: 1,
         certs: Certs::new(alloc),
     })?;
+    Ok(tree)
+}
+
+/// Whether the text of the plant in this file, with one law and one leaf, is this one.
+fn is_text(alloc: Global, file: &[u8], text: &[u8]) -> Result<bool, Fail> {
+    let plant = read_plant(alloc, file).ok().ok_or("no plant")?;
     let mut out = Vec::new(alloc);
-    write_parts(&plant, &laws, &tree, &mut out)?;
+    write_parts(&plant, &one_law(alloc)?, &one_leaf(alloc)?, &mut out)?;
+    Ok(out.as_slice() == text)
+}
+
+#[test]
+fn writes_a_drift(rt: HostRuntime) -> Result<(), Fail> {
+    let file =
+        b"{\"version\":2,\"horizon\":1,\"A\":[[1]],\"B\":[[1]],\"Q\":[[1]],\"R\":[[1]],\"P\":[[1]],\"drift\":[1],\"grid\":[{\"low\":-4,\"step\":1,\"count\":8}]}";
     let text =
         b"mpc 2\nsize 1 1 1\nA 1\nB 1\nQ 1\nR 1\nP 1\ndrift 1\ngoal 0 0\nrows 0\nterminal 0\ngrid -4 1 8\nlaws 1\nlaw\nmove 3/2 -1/2\ntree\nleaf 1\nend\n";
-    assert_eq!(rt; out.as_slice(), text.as_slice());
+    assert!(rt; is_text(rt.alloc(), file, text)?);
     Ok(())
 }
 
 #[test]
 fn writes_targets(rt: HostRuntime) -> Result<(), Fail> {
-    let alloc = rt.alloc();
     let file =
         b"{\"version\":2,\"horizon\":1,\"A\":[[1,0],[0,1]],\"B\":[[1],[1]],\"Q\":[[1,0],[0,1]],\"R\":[[1]],\"P\":[[1,0],[0,1]],\"xgoal\":[0,\"-1/2\"],\"ugoal\":[3],\"grid\":[{\"low\":-4,\"step\":1,\"count\":8},{\"low\":0,\"step\":1,\"count\":1}]}";
-    let plant = read_plant(alloc, file).ok().ok_or("no plant")?;
-    let mut out = Vec::new(alloc);
-    write_parts(&plant, &LawTable::new(alloc), &Tree::new(alloc), &mut out)?;
     let text =
-        b"mpc 2\nsize 2 1 1\nA 1 0 0 1\nB 1 1\nQ 1 0 0 1\nR 1\nP 1 0 0 1\ndrift 0 0\ngoal 0 -1/2 3\nrows 0\nterminal 0\ngrid -4 1 8\ngrid 0 1 1\nlaws 0\ntree\nend\n";
-    assert_eq!(rt; out.as_slice(), text.as_slice());
+        b"mpc 2\nsize 2 1 1\nA 1 0 0 1\nB 1 1\nQ 1 0 0 1\nR 1\nP 1 0 0 1\ndrift 0 0\ngoal 0 -1/2 3\nrows 0\nterminal 0\ngrid -4 1 8\ngrid 0 1 1\nlaws 1\nlaw\nmove 3/2 -1/2\ntree\nleaf 1\nend\n";
+    assert!(rt; is_text(rt.alloc(), file, text)?);
     Ok(())
 }
 
