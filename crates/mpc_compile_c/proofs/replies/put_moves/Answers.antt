@@ -13,7 +13,7 @@ loop-i-preserved c =
     (λ k h. let ne : k ≢ c.loop-i.i = omega (arith, h) in rw get_or-set_other (c.loop-i.invariant k h))
     (let lt : c.loop-i.i < length c.loop-i.moves = omega (arith, c.loop-i.auto.moves, c.loop-i-test.true) in
     let same : (c.loop-i.i + 1) - 1 ≡ c.loop-i.i = omega arith in
-    rw get_or-set_same (λ parts law t n. c.parts_of.ensures ∙ c.move_at.ensures parts law t n ∙ ap (λ j. dot (first_move_form law j) (extended (point_of c.args.counts.now))) same))
+    rw get_or-set_same (λ parts law t n. c.parts_of.ensures.value ∙ c.move_at.ensures parts law t n ∙ ap (λ j. dot (first_move_form law j) (extended (point_of c.args.counts.now))) same))
 
 all : (c : After-loop-i) → c.loop-i.i ≡ length c.args.moves.now
 all c = let a = c.loop-i.auto.i-end in let k = c.loop-i-test.false in omega arith
