@@ -7,6 +7,8 @@ mod laws;
 mod levels;
 mod moves;
 mod registry;
+#[cfg(test)]
+mod tests;
 mod tickets;
 mod worlds;
 
