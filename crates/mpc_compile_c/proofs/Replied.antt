@@ -58,7 +58,7 @@ IsNumberOf table counts number k u = (parts : Parts) (law : Law) → IsTableOf p
 pub is_move : OneListEach → MovesEachInput → (table : Lookup) (counts : List ℕ) (number : ℕ) (moves : List SentParts) → CanMove table counts number → length moves ≡ table.inputs → ((k : ℕ) → k < length moves → IsNumberOf table counts number k (value_of (get_or moves k no_parts)))
     → (parts : Parts) → HoldsFor parts table → IsMoveOf parts counts number (map value_of moves)
 is_move one_list each table counts number moves can room at parts h =
-    let size : length table.laws ≡ length parts.laws = sym (one_list parts.plant.p parts.laws table.laws h.table_of.laws_are) in
+    let size : length table.laws ≡ length parts.laws = one_list parts.plant.p parts.laws table.laws h.table_of.laws_are in
     let found = law_at parts.laws (number - 1) (omega (arith, can.from_first, can.to_last, size)) in
     let fits : IsLawFor parts.plant found.0 = law_fits parts (number - 1) found.0 found.1 h.shapes.laws_fit in
     let inputs : length moves ≡ parts.plant.p = room ∙ h.table_of.inputs_are in (
