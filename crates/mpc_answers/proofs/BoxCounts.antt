@@ -10,8 +10,8 @@ use Rattle.mpc_plant.specs.Trajectory.{point_of}
 use Rattle.mpc_rows.specs.declared.programs.Qp.{Qp}
 use Rattle.mpc_rows.specs.ActiveSets.{IsInBox}
 use Rattle.mpc_condense.specs.Condensed.{IsCondensed}
-use Rattle.mpc_file.specs.Parts.{limits_of}
-use Rattle.mpc_file.specs.Replies.{outside_from, first_outside}
+use Rattle.mpc_controller.specs.Parts.{limits_of}
+use Rattle.mpc_controller.specs.Replies.{outside_from, first_outside}
 
 not_outside : (over : Bool) (i : ℕ) (rest : Option ℕ) → (if over then Some i else rest) ≡ None → (over ≡ false) × (rest ≡ None)
 not_outside true i rest h = absurd (cc)

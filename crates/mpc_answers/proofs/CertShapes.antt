@@ -23,7 +23,7 @@ use Rattle.mpc_systems.specs.Systems.{hold_system, joint_system}
 use Rattle.mpc_tree.specs.Trees.{Cell, whole_box, yes_side, no_side, leaf, split}
 use Rattle.mpc_tree.specs.LeafCerts.{nonzero_from, IsCertOf, AreCertsOf, AreLawCerts as AreItsCerts, HasItsCerts}
 use Rattle.mpc_tree.specs.Certified.{IsCertified, MultipliersAreCert}
-use Rattle.mpc_file.specs.Certificates.{IsCertOver, cell_rows, AreLawCerts, HaveCerts}
+use Rattle.mpc_controller.specs.Certificates.{IsCertOver, cell_rows, AreLawCerts, HaveCerts}
 
 -- ---- one certificate
 -- the multipliers that aren't 0 stand at places of the list

@@ -20,7 +20,7 @@ use Rattle.mpc_rows.specs.LawRows.{IsLawRow, AreLawRows, law_sides, law_bound, w
 use Rattle.mpc_rows.specs.SetRuns.{box_rows, region_system, LawRowsFit}
 use Rattle.mpc_rows.specs.LawLaws.{LawRowSize}
 use Rattle.mpc_rows.specs.RegionLaws.{RegionPoints}
-use Rattle.mpc_file.specs.Parts.{IsSplitRow}
+use Rattle.mpc_controller.specs.Parts.{IsSplitRow}
 use Rattle.mpc_tree.specs.Cells.{RegionMeets, IsFirstToFail}
 use Rattle.mpc_answers.proofs.ElementLemmas.{All-split}
 

@@ -12,7 +12,7 @@ use Rattle.mpc_rows.specs.declared.programs.Qp.{Qp}
 use Rattle.mpc_rows.specs.declared.laws.Law.{Law}
 use Rattle.mpc_rows.specs.Laws.{HasLawShape}
 use Rattle.mpc_rows.specs.Candidates.{IsTable}
-use Rattle.mpc_file.specs.Parts.{row_count}
+use Rattle.mpc_controller.specs.Parts.{row_count}
 use Rattle.mpc_answers.specs.Replies.{TableIsSmall, TableOfFourIsSmall, PlantTableIsSmall}
 use Rattle.mpc_answers.proofs.ElementLemmas.{all_contained}
 

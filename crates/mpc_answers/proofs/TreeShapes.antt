@@ -20,8 +20,8 @@ use Rattle.mpc_rows.specs.SetRuns.{LawRowsFit}
 use Rattle.mpc_rows.specs.LawLaws.{LawRowSize}
 use Rattle.mpc_rows.specs.RegionLaws.{RegionPoints}
 use Rattle.mpc_condense.specs.Condensed.{IsCondensed}
-use Rattle.mpc_file.specs.PreorderLaws.{JoinedSpell}
-use Rattle.mpc_file.specs.Parts.{row_count, IsLawFor, IsSplitRow, IsNodeFor}
+use Rattle.mpc_controller.specs.PreorderLaws.{JoinedSpell}
+use Rattle.mpc_controller.specs.Parts.{row_count, IsLawFor, IsSplitRow, IsNodeFor}
 use Rattle.mpc_tree.specs.Trees.{Cell, whole_box, yes_side, no_side, leaf, split, Divides, IsLeafOf, IsTreeOf}
 use Rattle.mpc_tree.specs.Certified.{CertifiedIsTree, MultipliersAreCert}
 use Rattle.mpc_answers.specs.Replies.{PartsHaveShapes, PlantTableIsSmall}

@@ -25,11 +25,11 @@ use Rattle.mpc_rows.specs.LawRows.{whole_row, broken_row}
 use Rattle.mpc_condense.specs.Condensed.{IsCondensed}
 use Rattle.mpc_best.specs.BestReplies.{LawIsRight, InfeasibleIsRight}
 use Rattle.mpc_cover.specs.CoverLaws.{TablesCover}
-use Rattle.mpc_file.specs.Parts.{Parts}
-use Rattle.mpc_file.specs.Preorder.{Spells, IsNoSide}
-use Rattle.mpc_file.specs.PreorderLaws.{JoinedSpell}
-use Rattle.mpc_file.specs.Walk.{Satisfies, Reaches, root, yes_side as to_yes, no_side as to_no, IsLeaf, EndsAt}
-use Rattle.mpc_file.specs.Replies.{first_move, IsLawNumbered, RepliesAt, by_law, by_no_law}
+use Rattle.mpc_controller.specs.Parts.{Parts}
+use Rattle.mpc_controller.specs.Preorder.{Spells, IsNoSide}
+use Rattle.mpc_controller.specs.PreorderLaws.{JoinedSpell}
+use Rattle.mpc_controller.specs.Walk.{Satisfies, Reaches, root, yes_side as to_yes, no_side as to_no, IsLeaf, EndsAt}
+use Rattle.mpc_controller.specs.Replies.{first_move, IsLawNumbered, RepliesAt, by_law, by_no_law}
 use Rattle.mpc_answers.specs.Replies.{RightReplies}
 use Rattle.mpc_tree.specs.Cells.{IsInCell, NoneMeetsBefore}
 use Rattle.mpc_tree.specs.Trees.{Cell, whole_box, yes_side, no_side, IsTreeWhere, leaf, split, Divides, IsOfLaw, IsLeafOf, IsTreeOf}

@@ -15,8 +15,8 @@ use Rattle.mpc_rows.specs.SetRuns.{LawRowsFit}
 use Rattle.mpc_condense.specs.Condensed.{IsCondensed}
 use Rattle.mpc_tree.specs.Trees.{IsTreeOf, whole_box}
 use Rattle.mpc_tree.specs.Certified.{IsCertified}
-use Rattle.mpc_file.specs.Parts.{Parts, HaveShapes, limits_of}
-use Rattle.mpc_file.specs.Replies.{RepliesAt, first_outside}
+use Rattle.mpc_controller.specs.Parts.{Parts, HaveShapes, limits_of}
+use Rattle.mpc_controller.specs.Replies.{RepliesAt, first_outside}
 
 -- at each point of the box, the tree's reply is right
 abbrev pub RightReplies : Type 0

@@ -11,7 +11,7 @@ use Rattle.mpc_rows.specs.declared.trees.Node.{Node}
 use Rattle.mpc_rows.specs.declared.trees.Node.TheVariants.{Split, Law, NoMove}
 use Rattle.mpc_rows.specs.Laws.{HasLawShape}
 use Rattle.mpc_condense.specs.Condensed.{IsCondensed}
-use Rattle.mpc_file.specs.Parts.{Parts, IsLawFor, IsNodeFor}
+use Rattle.mpc_controller.specs.Parts.{Parts, IsLawFor, IsNodeFor}
 use Rattle.mpc_check.specs.declared.answers.Spot.{Spot}
 use Rattle.mpc_check.specs.declared.answers.CheckError.{CheckError}
 use Rattle.mpc_check.specs.declared.answers.CheckError.TheVariants.{Wide, NotDefinite, NoMemory}

@@ -15,7 +15,7 @@ use Rattle.mpc_rows.specs.SetRuns.{joint_rows}
 use Rattle.mpc_space.specs.Matrix.{height}
 use Rattle.mpc_rows.specs.LawRows.{IsLawRow, LawRowFits, broken_row}
 use Rattle.mpc_rows.specs.LawLaws.{OneLawRow}
-use Rattle.mpc_file.specs.Replies.{IsLawNumbered}
+use Rattle.mpc_controller.specs.Replies.{IsLawNumbered}
 use Rattle.mpc_check.specs.declared.answers.Spot.{Spot}
 use Rattle.mpc_check.specs.declared.answers.CheckError.{CheckError}
 use Rattle.mpc_check.specs.declared.answers.CheckError.TheVariants.{Wide, NotDefinite, NoMemory}

@@ -9,7 +9,7 @@ use Rattle.mpc_rows.specs.declared.systems.Row.{Row}
 use Rattle.mpc_rows.specs.declared.trees.Node.{Node}
 use Rattle.mpc_rows.specs.declared.trees.Node.TheVariants.{Split, Law, NoMove}
 use Rattle.mpc_rows.specs.LawRows.{whole_row, broken_row}
-use Rattle.mpc_file.specs.Preorder.{Spells, IsTree, IsNoSide}
+use Rattle.mpc_controller.specs.Preorder.{Spells, IsTree, IsNoSide}
 use Rattle.mpc_check.specs.Paths.{PathTo, root, yes_side, no_side}
 
 -- ---- what nodes spell

@@ -13,7 +13,7 @@ use Rattle.mpc_rows.specs.declared.systems.Row.{Row}
 use Rattle.mpc_rows.specs.declared.trees.Node.{Node}
 use Rattle.mpc_rows.specs.declared.trees.Node.TheVariants.{Split, NoMove}
 use Rattle.mpc_rows.specs.LinearSystem.{no_row}
-use Rattle.mpc_file.specs.Parts.{IsSplitRow}
+use Rattle.mpc_controller.specs.Parts.{IsSplitRow}
 use Rattle.mpc_check.specs.declared.ways.Turn.{Turn}
 use Rattle.mpc_systems.specs.Writing.{widened}
 use Rattle.mpc_check.specs.Ways.{HasSplitRow, IsTurn, side_row, split_row, turn_row, way_rows, system_at}

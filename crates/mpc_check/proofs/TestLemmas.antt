@@ -11,10 +11,10 @@ use Rattle.mpc_rows.specs.Certificates.{IsCert}
 use Rattle.mpc_rows.specs.declared.laws.Law.{Law as LawOfSet}
 use Rattle.mpc_rows.specs.declared.trees.Node.{Node}
 use Rattle.mpc_rows.specs.declared.trees.Node.TheVariants.{Split, Law, NoMove}
-use Rattle.mpc_file.specs.Preorder.{Spells}
-use Rattle.mpc_file.specs.Parts.{row_count, IsLawFor, IsNodeFor, HaveShapes}
-use Rattle.mpc_file.specs.Certificates.{IsCertOver, AreLawCerts, HaveCerts}
-use Rattle.mpc_file.specs.Walk.{IsLeaf}
+use Rattle.mpc_controller.specs.Preorder.{Spells}
+use Rattle.mpc_controller.specs.Parts.{row_count, IsLawFor, IsNodeFor, HaveShapes}
+use Rattle.mpc_controller.specs.Certificates.{IsCertOver, AreLawCerts, HaveCerts}
+use Rattle.mpc_controller.specs.Walk.{IsLeaf}
 use Rattle.mpc_check.specs.Certs.{IsPositionIn, HasPositionsIn}
 
 pub all_push : {X : Type 0} (P : X → Type 0) (xs new : List X) (x : X) → new ≡ xs ++ x ∷ [] → All P xs → P x → All P new

@@ -10,9 +10,9 @@ use Rattle.mpc_rows.specs.declared.systems.Row.{Row}
 use Rattle.mpc_rows.specs.declared.trees.Node.{Node}
 use Rattle.mpc_rows.specs.declared.trees.Node.TheVariants.{Split, Law, NoMove}
 use Rattle.mpc_rows.specs.LawRows.{whole_row, broken_row}
-use Rattle.mpc_file.specs.Preorder.{Spells, IsTree, IsNoSide}
-use Rattle.mpc_file.specs.PreorderLaws.{JoinedSpell}
-use Rattle.mpc_file.specs.Walk.{IsLeaf}
+use Rattle.mpc_controller.specs.Preorder.{Spells, IsTree, IsNoSide}
+use Rattle.mpc_controller.specs.PreorderLaws.{JoinedSpell}
+use Rattle.mpc_controller.specs.Walk.{IsLeaf}
 use Rattle.mpc_check.specs.Paths.{PathTo, root as path_root, yes_side as path_yes, no_side as path_no}
 use Rattle.mpc_check.specs.declared.ways.Turn.{Turn}
 use Rattle.mpc_check.specs.Ways.{side_row, split_row, turn_row, way_rows, turn_at, IsTurn, IsWay, root, yes_side, no_side, EndsTree}

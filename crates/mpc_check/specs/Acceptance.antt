@@ -13,9 +13,9 @@ use Rattle.mpc_rows.specs.declared.places.Place.{Place}
 use Rattle.mpc_rows.specs.declared.places.Place.TheVariants.{Pivot}
 use Rattle.mpc_condense.specs.Condensed.{IsCondensed}
 use Rattle.mpc_condense.specs.Causes.{AllFit, IsWidePlace}
-use Rattle.mpc_file.specs.Parts.{Parts}
-use Rattle.mpc_file.specs.Bounds.{IsController}
-use Rattle.mpc_file.specs.Replies.{RepliesAt}
+use Rattle.mpc_controller.specs.Parts.{Parts}
+use Rattle.mpc_controller.specs.Bounds.{IsController}
+use Rattle.mpc_controller.specs.Replies.{RepliesAt}
 use Rattle.mpc_check.specs.declared.answers.Answer.{Answer}
 use Rattle.mpc_check.specs.declared.answers.Answer.TheVariants.{Accepted, Refused}
 use Rattle.mpc_check.specs.declared.answers.CheckError.{CheckError}

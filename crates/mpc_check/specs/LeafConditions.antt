@@ -10,7 +10,7 @@ use Rattle.mpc_rows.specs.declared.trees.Node.{Node}
 use Rattle.mpc_rows.specs.declared.trees.Node.TheVariants.{Split, Law, NoMove}
 use Rattle.mpc_rows.specs.declared.places.Place.TheVariants.{CheckLeaf}
 use Rattle.mpc_rows.specs.LawRows.{IsLawRow, LawRowFits}
-use Rattle.mpc_file.specs.Replies.{IsLawNumbered}
+use Rattle.mpc_controller.specs.Replies.{IsLawNumbered}
 use Rattle.mpc_check.specs.declared.answers.Spot.TheVariants.{LeafRow, Leaf}
 use Rattle.mpc_systems.specs.Systems.{hold_system, joint_system}
 use Rattle.mpc_check.specs.Paths.{PathTo}

@@ -5,7 +5,7 @@ use Rattle.mpc_rows.specs.declared.systems.Row.{Row}
 use Rattle.mpc_rows.specs.declared.trees.Node.{Node}
 use Rattle.mpc_rows.specs.declared.trees.Node.TheVariants.{Split}
 use Rattle.mpc_rows.specs.LawRows.{whole_row, broken_row}
-use Rattle.mpc_file.specs.Preorder.{IsNoSide}
+use Rattle.mpc_controller.specs.Preorder.{IsNoSide}
 
 -- the rows of the path to the node at this place, counted from 0, in the order from the root: those of the splits on whose yes sides it
 -- lies, and those of the others negated and strict

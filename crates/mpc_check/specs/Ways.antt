@@ -10,8 +10,8 @@ use Rattle.mpc_rows.specs.LinearSystem.{LinearSystem}
 use Rattle.mpc_rows.specs.LawRows.{whole_row, broken_row}
 use Rattle.mpc_systems.specs.Writing.{widened}
 use Rattle.mpc_systems.specs.Systems.{cell_system}
-use Rattle.mpc_file.specs.Parts.{IsSplitRow}
-use Rattle.mpc_file.specs.Preorder.{IsTree, IsNoSide}
+use Rattle.mpc_controller.specs.Parts.{IsSplitRow}
+use Rattle.mpc_controller.specs.Preorder.{IsTree, IsNoSide}
 use Rattle.mpc_check.specs.declared.ways.Turn.{Turn}
 
 -- each split's row is on states of n entries

@@ -10,7 +10,7 @@ use crate::gradients::search_laws;
 use crate::leaves::search_tree;
 use mpc_condense::{CondenseError, condense};
 use mpc_definite::{DefiniteError, pivots};
-use mpc_file::Controller;
+use mpc_controller::Controller;
 use mpc_plant::Plant;
 use mpc_rows::{Place, Qp};
 use std::alloc::Global;

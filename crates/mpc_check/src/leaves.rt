@@ -5,7 +5,7 @@ ghost use Rattle.mpc_space.specs.Matrix.{height};
 ghost use Rattle.mpc_rows.specs.Laws.{HasLawShape};
 ghost use Rattle.mpc_rows.specs.declared.places.Place.TheVariants.{CheckLeaf};
 ghost use Rattle.mpc_systems.specs.Systems.{joint_system};
-ghost use Rattle.mpc_file.specs.Preorder.{IsTree};
+ghost use Rattle.mpc_controller.specs.Preorder.{IsTree};
 ghost use Rattle.mpc_check.specs.Certs.{CertFits, CertRefutes};
 ghost use Rattle.mpc_check.specs.Findings.{IsSearched, IsDecided};
 ghost use Rattle.mpc_check.specs.LeafConditions.{RowFits, RowHolds, LawLeafMet, LawLeafFinds, EmptyLeafMet, EmptyLeafFinds, NodeMet, NodeFinds, NodeAtMet, NodeAtFinds, TreeMet, TreeFinds};

@@ -3,13 +3,13 @@
 ghost use Rattle.std.specs.Prelude.{◌≡◌, ◌<◌, ◌≤◌, [], ◌∷◌, All, length, IfSome, IfOk, IsTrue};
 ghost use Rattle.mpc_linear.specs.Shape.{HasShape};
 ghost use Rattle.mpc_sets.specs.RowSet.{IsSetOfRows};
-ghost use Rattle.mpc_file.specs.Parts.{IsLawFor, IsNodeFor};
-ghost use Rattle.mpc_file.specs.Certificates.{IsCertOver, HaveCerts};
-ghost use Rattle.mpc_file.specs.Walk.{IsLeaf};
+ghost use Rattle.mpc_controller.specs.Parts.{IsLawFor, IsNodeFor};
+ghost use Rattle.mpc_controller.specs.Certificates.{IsCertOver, HaveCerts};
+ghost use Rattle.mpc_controller.specs.Walk.{IsLeaf};
 
 use crate::certs::has_positions_in;
 use crate::{Answer, CheckError, Spot, check};
-use mpc_file::Controller;
+use mpc_controller::Controller;
 use mpc_frac::{Frac, NoMemory};
 use mpc_linear::Matrix;
 use mpc_plant::{Plant, read_plant};

@@ -1,11 +1,11 @@
 //! The way from the root of a search tree to each of its nodes in turn, kept as a stack.
 
 ghost use Rattle.std.specs.Prelude.{◌+◌, ◌<◌, ◌↔◌, IsTrue, OnOk, length};
-ghost use Rattle.mpc_file.specs.Preorder.{IsTree};
-ghost use Rattle.mpc_file.specs.Walk.{IsLeaf};
+ghost use Rattle.mpc_controller.specs.Preorder.{IsTree};
+ghost use Rattle.mpc_controller.specs.Walk.{IsLeaf};
 ghost use Rattle.mpc_check.specs.Ways.{IsWay, EndsTree};
 
-use mpc_file::preorder_laws;
+use mpc_controller::preorder_laws;
 use mpc_frac::NoMemory;
 use mpc_rows::{Node, Tree};
 

@@ -10,8 +10,8 @@ use Rattle.mpc_plant.specs.declared.plants.Plant.{Plant}
 use Rattle.mpc_plant.specs.declared.lists.Coordinate.{Coordinate}
 use Rattle.mpc_plant.specs.Trajectory.{IsWithin, IsInBox, point_of}
 use Rattle.mpc_rows.specs.declared.programs.Qp.{Qp}
-use Rattle.mpc_file.specs.Parts.{Parts, limits_of}
-use Rattle.mpc_file.specs.Replies.{outside_from, first_outside}
+use Rattle.mpc_controller.specs.Parts.{Parts, limits_of}
+use Rattle.mpc_controller.specs.Replies.{outside_from, first_outside}
 use Rattle.mpc_file.specs.Text.{text_of}
 use Rattle.mpc_table.specs.Lookup.{Lookup, IsTableOf}
 use Rattle.mpc_synthesis.specs.Controllers.{IsController, ControllerIsRight, ControllerReplies, OneController}

@@ -6,8 +6,8 @@ use Rattle.std.proofs.lemmas.List.{length-map}
 use Rattle.std.proofs.lemmas.Bool.Decides.{nat_tests}
 use Rattle.std.proofs.lemmas.Bool.{false≢true}
 use Rattle.mpc_plant.specs.declared.plants.Plant.{Plant}
-use Rattle.mpc_file.specs.Parts.{limits_of}
-use Rattle.mpc_file.specs.Replies.{Answer, at_state, outside, first_outside, IsAnswerTo}
+use Rattle.mpc_controller.specs.Parts.{limits_of}
+use Rattle.mpc_controller.specs.Replies.{Answer, at_state, outside, first_outside, IsAnswerTo}
 use Rattle.mpc_table.specs.Lookup.{Lookup}
 use Rattle.mpc_table.specs.TableReplies.{answer_text, AddsAnswer}
 use Rattle.mpc_cli.specs.CountLine.{fields, is_count, value_of, counts_of}

@@ -5,8 +5,8 @@ use Rattle.mpc_plant.specs.declared.plants.Plant.{Plant}
 use Rattle.mpc_plant.specs.Reply.{Reply, IsRight}
 use Rattle.mpc_plant.specs.Trajectory.{IsInBox}
 use Rattle.mpc_rows.specs.declared.programs.Qp.{Qp}
-use Rattle.mpc_file.specs.Parts.{Parts}
-use Rattle.mpc_file.specs.Replies.{RepliesAt}
+use Rattle.mpc_controller.specs.Parts.{Parts}
+use Rattle.mpc_controller.specs.Replies.{RepliesAt}
 use Rattle.mpc_file.specs.Text.{text_of}
 use Rattle.mpc_synthesis.specs.Controllers.{IsController}
 

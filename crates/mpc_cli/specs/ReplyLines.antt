@@ -3,8 +3,8 @@ use Rattle.std.specs.Prelude.{◌≡◌, ℕ, None, MatchOption, List, [], ◌�
 use Rattle.mpc_plant.specs.declared.plants.Plant.{Plant}
 use Rattle.mpc_plant.specs.Reply.{Reply, IsRight}
 use Rattle.mpc_plant.specs.Trajectory.{point_of}
-use Rattle.mpc_file.specs.Parts.{Parts, limits_of}
-use Rattle.mpc_file.specs.Replies.{at_state, outside, first_outside, RepliesAt}
+use Rattle.mpc_controller.specs.Parts.{Parts, limits_of}
+use Rattle.mpc_controller.specs.Replies.{at_state, outside, first_outside, RepliesAt}
 use Rattle.mpc_table.specs.Lookup.{Lookup, IsTableOf}
 use Rattle.mpc_table.specs.TableReplies.{answer_text}
 use Rattle.mpc_cli.specs.CountLine.{counts_of}

@@ -23,9 +23,9 @@ use Rattle.mpc_rows.specs.SetRuns.{LawRowsFit}
 use Rattle.mpc_condense.specs.Condensed.{IsCondensed}
 use Rattle.mpc_tree.specs.Trees.{whole_box}
 use Rattle.mpc_tree.specs.Certified.{IsCertified, CertifiedIsTree}
-use Rattle.mpc_file.specs.Parts.{Parts, limits_of, IsLawFor, HaveShapes}
-use Rattle.mpc_file.specs.Bounds.{first_move_form}
-use Rattle.mpc_file.specs.Replies.{first_outside, IsLawNumbered, RepliesAt, by_law, by_no_law}
+use Rattle.mpc_controller.specs.Parts.{Parts, limits_of, IsLawFor, HaveShapes}
+use Rattle.mpc_controller.specs.Bounds.{first_move_form}
+use Rattle.mpc_controller.specs.Replies.{first_outside, IsLawNumbered, RepliesAt, by_law, by_no_law}
 use Rattle.mpc_table.specs.Lookup.{Lookup, IsTableOf}
 use Rattle.mpc_table.specs.TableReplies.{IsMoveReply, IsInfeasibleReply, CanMove}
 use Rattle.mpc_table.specs.TableLaws.{OneListEach, MovesEachInput}

@@ -12,8 +12,8 @@ use Rattle.mpc_rows.specs.Candidates.{IsTable}
 use Rattle.mpc_condense.specs.Condensed.{IsCondensed}
 use Rattle.mpc_tree.specs.Trees.{whole_box}
 use Rattle.mpc_tree.specs.Certified.{IsCertified}
-use Rattle.mpc_file.specs.Parts.{Parts, limits_of, HaveShapes}
-use Rattle.mpc_file.specs.Replies.{first_outside, first_move, IsLawNumbered, RepliesAt}
+use Rattle.mpc_controller.specs.Parts.{Parts, limits_of, HaveShapes}
+use Rattle.mpc_controller.specs.Replies.{first_outside, first_move, IsLawNumbered, RepliesAt}
 use Rattle.mpc_table.specs.Lookup.{Lookup, IsTableOf}
 use Rattle.mpc_compile_c.specs.declared.Sizes.{Sizes}
 use Rattle.mpc_compile_c.specs.declared.replies.Answer.{Answer}

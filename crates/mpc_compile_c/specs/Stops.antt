@@ -16,7 +16,7 @@ use Rattle.mpc_condense.specs.Causes.{IsWidePlace}
 use Rattle.mpc_tree.specs.Trees.{whole_box}
 use Rattle.mpc_tree.specs.Certified.{IsCertified}
 use Rattle.mpc_tree.specs.WideRuns.{IsFirstWide as IsFirstWideRun}
-use Rattle.mpc_file.specs.Bounds.{IsFirstBroken}
+use Rattle.mpc_controller.specs.Bounds.{IsFirstBroken}
 use Rattle.mpc_compile_c.specs.declared.phases.Phase.{Phase}
 use Rattle.mpc_compile_c.specs.declared.phases.Phase.TheVariants.{Replying}
 use Rattle.mpc_compile_c.specs.declared.phases.Stop.{Stop}

@@ -2,7 +2,7 @@
 
 ghost use Rattle.std.specs.Prelude.{◌≡◌, ◌≤◌, length, map};
 ghost use Rattle.mpc_parts.specs.Parts.{value_of};
-ghost use Rattle.mpc_file.specs.Parts.{Parts as ControllerParts};
+ghost use Rattle.mpc_controller.specs.Parts.{Parts as ControllerParts};
 ghost use Rattle.mpc_table.specs.TableReplies.{CanMove};
 ghost use Rattle.mpc_compile_c.specs.Answers.{IsMoveOf, HoldsFor, RepliesBy};
 

@@ -13,9 +13,9 @@ use Rattle.mpc_rows.specs.declared.places.Place.TheVariants.{CheckLaw, CheckLeaf
 use Rattle.mpc_rows.specs.Laws.{IsLaw}
 use Rattle.mpc_definite.specs.PivotLaws.{DefiniteByPivots}
 use Rattle.mpc_best.specs.BestReplies.{OneProgram}
-use Rattle.mpc_file.specs.Parts.{Parts, row_count}
-use Rattle.mpc_file.specs.Walk.{IsLeaf}
-use Rattle.mpc_file.specs.PreorderLaws.{JoinedSpell}
+use Rattle.mpc_controller.specs.Parts.{Parts, row_count}
+use Rattle.mpc_controller.specs.Walk.{IsLeaf}
+use Rattle.mpc_controller.specs.PreorderLaws.{JoinedSpell}
 use Rattle.mpc_check.specs.declared.answers.Answer.TheVariants.{Accepted, Refused}
 use Rattle.mpc_check.specs.declared.answers.CheckError.TheVariants.{Wide, NotDefinite, NoMemory}
 use Rattle.mpc_check.specs.declared.answers.Spot.{Spot}

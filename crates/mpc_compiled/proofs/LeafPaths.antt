@@ -8,9 +8,9 @@ use Rattle.std.proofs.lemmas.Option.{slice_get-get_or, get_or_from_slice_get, sl
 use Rattle.mpc_linear.specs.declared.integers.RowInt.{RowInt}
 use Rattle.mpc_rows.specs.declared.trees.Node.{Node}
 use Rattle.mpc_rows.specs.declared.trees.Node.TheVariants.{Split, Law, NoMove}
-use Rattle.mpc_file.specs.Preorder.{IsTree, IsNoSide}
-use Rattle.mpc_file.specs.PreorderLaws.{JoinedSpell}
-use Rattle.mpc_file.specs.Walk.{IsLeaf}
+use Rattle.mpc_controller.specs.Preorder.{IsTree, IsNoSide}
+use Rattle.mpc_controller.specs.PreorderLaws.{JoinedSpell}
+use Rattle.mpc_controller.specs.Walk.{IsLeaf}
 use Rattle.mpc_tree.specs.Trees.{Cell, whole_box, yes_side, no_side, IsTreeWhere, leaf, split}
 use Rattle.mpc_check.specs.Paths.{PathTo, root}
 use Rattle.mpc_check.specs.Paths.{yes_side as to_yes, no_side as to_no}

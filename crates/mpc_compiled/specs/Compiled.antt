@@ -12,9 +12,9 @@ use Rattle.mpc_rows.specs.declared.places.Place.TheVariants.{CheckLaw, CheckLeaf
 use Rattle.mpc_rows.specs.Candidates.{IsTable}
 use Rattle.mpc_tree.specs.Trees.{whole_box}
 use Rattle.mpc_tree.specs.Certified.{IsCertified}
-use Rattle.mpc_file.specs.Parts.{Parts, row_count}
-use Rattle.mpc_file.specs.Walk.{IsLeaf}
-use Rattle.mpc_file.specs.Replies.{IsLawNumbered}
+use Rattle.mpc_controller.specs.Parts.{Parts, row_count}
+use Rattle.mpc_controller.specs.Walk.{IsLeaf}
+use Rattle.mpc_controller.specs.Replies.{IsLawNumbered}
 use Rattle.mpc_check.specs.declared.answers.Answer.{Answer}
 use Rattle.mpc_check.specs.declared.answers.Answer.TheVariants.{Accepted}
 use Rattle.mpc_check.specs.declared.answers.CheckError.{CheckError}

@@ -1,6 +1,2 @@
-pub mod BoundLemmas
-pub mod OneBoundLemmas
-pub mod PreorderLemmas
-pub mod OneLeafLemmas
 pub mod LineLemmas
 pub mod OffsetLemmas

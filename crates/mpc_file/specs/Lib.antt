@@ -1,12 +1,3 @@
-pub mod Preorder
-pub mod Certificates
-pub mod Parts
-pub mod Bounds
-pub mod OneBound
-pub mod Walk
-pub mod PreorderLaws
-pub mod Replies
-pub mod OneLeaf
 pub mod Offsets
 pub mod Lines
 pub mod Text

@@ -12,7 +12,7 @@ use Rattle.mpc_plant.specs.declared.lists.Coordinate.{Coordinate}
 use Rattle.mpc_rows.specs.declared.laws.Law.{Law as LawOfSet}
 use Rattle.mpc_rows.specs.declared.trees.Node.{Node}
 use Rattle.mpc_rows.specs.declared.trees.Node.TheVariants.{Split, Law, NoMove}
-use Rattle.mpc_file.specs.Parts.{Parts}
+use Rattle.mpc_controller.specs.Parts.{Parts}
 use Rattle.mpc_file.specs.Offsets.{has_no_offset}
 
 -- each word behind a blank

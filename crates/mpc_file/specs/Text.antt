@@ -1,7 +1,7 @@
 -- The one text of a controller.
 use Rattle.std.specs.Prelude.{ℕ, List, ◌++◌, codes}
 use Rattle.std.specs.List.{flat_map}
-use Rattle.mpc_file.specs.Parts.{Parts}
+use Rattle.mpc_controller.specs.Parts.{Parts}
 use Rattle.mpc_file.specs.Lines.{lines_of}
 
 -- a line with the line feed that ends it

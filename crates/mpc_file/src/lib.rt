@@ -1,14 +1,9 @@
-//! The controller of a plant: its laws and a search tree that names at each state the law that holds there.
+//! The file of a controller.
 #![tactic(auto)]
 
-mod bounds;
-mod controllers;
-mod errors;
 mod laws;
 mod writing;
 
-pub use bounds::limits;
-pub use controllers::Controller;
-pub use errors::SealError;
-pub use laws::{bound_laws, offset_test, one_leaf, preorder_laws};
+pub use laws::offset_test;
+pub use mpc_controller::{Controller, SealError};
 pub use writing::write_file;

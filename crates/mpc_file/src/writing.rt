@@ -10,7 +10,7 @@ mod tests;
 mod tree_lines;
 mod words;
 
-use crate::controllers::Controller;
+use mpc_controller::Controller;
 use law_lines::write_table;
 use mpc_frac::NoMemory;
 use mpc_plant::Plant;

@@ -17,8 +17,8 @@ use Rattle.mpc_tree.specs.Causes.{IfWide}
 use Rattle.mpc_tree.specs.WideRuns.{IsFirstWide}
 use Rattle.mpc_tree.specs.Trees.{whole_box}
 use Rattle.mpc_tree.specs.Certified.{IsCertified}
-use Rattle.mpc_file.specs.Parts.{Parts, HaveShapes}
-use Rattle.mpc_file.specs.Bounds.{KeepBounds, IsController as IsControllerOf}
+use Rattle.mpc_controller.specs.Parts.{Parts, HaveShapes}
+use Rattle.mpc_controller.specs.Bounds.{KeepBounds, IsController as IsControllerOf}
 use Rattle.mpc_answers.specs.Replies.{PartsHaveShapes}
 use Rattle.mpc_check.specs.Acceptance.{Accepts, IsProgramOf}
 use Rattle.mpc_compiled.specs.Compiled.{IsCompiled}

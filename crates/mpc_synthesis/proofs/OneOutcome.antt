@@ -22,8 +22,8 @@ use Rattle.mpc_condense.specs.Causes.{AllFit, IsWidePlace}
 use Rattle.mpc_tree.specs.Trees.{whole_box}
 use Rattle.mpc_tree.specs.Certified.{IsCertified, AreLaws}
 use Rattle.mpc_tree.specs.WideRuns.{IsFirstWide as IsFirstWideRun}
-use Rattle.mpc_file.specs.Parts.{Parts}
-use Rattle.mpc_file.specs.Bounds.{KeepBounds, IsFirstBroken}
+use Rattle.mpc_controller.specs.Parts.{Parts}
+use Rattle.mpc_controller.specs.Bounds.{KeepBounds, IsFirstBroken}
 use Rattle.mpc_check.specs.Findings.{Finding, refused, too_wide as found_wide, not_definite as found_not_definite}
 use Rattle.mpc_check.specs.Acceptance.{Accepts, IsFound}
 use Rattle.mpc_synthesis.specs.Programs.{HasProgram, PivotsPass, IsDecided, HasVerdicts}

@@ -9,11 +9,11 @@ use Rattle.mpc_rows.specs.declared.programs.Qp.{Qp}
 use Rattle.mpc_rows.specs.declared.laws.Law.{Law as LawOfSet}
 use Rattle.mpc_rows.specs.declared.trees.Node.{Node}
 use Rattle.mpc_rows.specs.declared.trees.Node.TheVariants.{Split, Law, NoMove}
-use Rattle.mpc_file.specs.Parts.{Parts, IsNodeFor}
-use Rattle.mpc_file.specs.Bounds.{IsController as IsControllerOf}
-use Rattle.mpc_file.specs.Walk.{EndsAt}
-use Rattle.mpc_file.specs.OneLeaf.{EndsOnce, OneLeaf}
-use Rattle.mpc_file.specs.Replies.{RepliesAt, by_law, by_no_law, first_move}
+use Rattle.mpc_controller.specs.Parts.{Parts, IsNodeFor}
+use Rattle.mpc_controller.specs.Bounds.{IsController as IsControllerOf}
+use Rattle.mpc_controller.specs.Walk.{EndsAt}
+use Rattle.mpc_controller.specs.OneLeaf.{EndsOnce, OneLeaf}
+use Rattle.mpc_controller.specs.Replies.{RepliesAt, by_law, by_no_law, first_move}
 use Rattle.mpc_check.specs.Acceptance.{AcceptedIsRight}
 use Rattle.mpc_synthesis.specs.Controllers.{IsController, ControllerIsRight, ControllerReplies}
 

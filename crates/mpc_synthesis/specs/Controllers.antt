@@ -10,9 +10,9 @@ use Rattle.mpc_rows.specs.declared.trees.Node.{Node}
 use Rattle.mpc_rows.specs.Candidates.{IsTable}
 use Rattle.mpc_tree.specs.Trees.{whole_box}
 use Rattle.mpc_tree.specs.Certified.{IsCertified}
-use Rattle.mpc_file.specs.Parts.{Parts}
-use Rattle.mpc_file.specs.Bounds.{IsController as IsControllerOf}
-use Rattle.mpc_file.specs.Replies.{RepliesAt}
+use Rattle.mpc_controller.specs.Parts.{Parts}
+use Rattle.mpc_controller.specs.Bounds.{IsController as IsControllerOf}
+use Rattle.mpc_controller.specs.Replies.{RepliesAt}
 use Rattle.mpc_check.specs.Acceptance.{Accepts}
 use Rattle.mpc_synthesis.specs.Programs.{HasVerdicts}
 

@@ -3,7 +3,7 @@ use Rattle.std.specs.Prelude.{◌≡◌, ℕ}
 use Rattle.mpc_plant.specs.declared.plants.Plant.{Plant}
 use Rattle.mpc_rows.specs.declared.programs.Qp.{Qp}
 use Rattle.mpc_rows.specs.declared.places.Place.{Place}
-use Rattle.mpc_file.specs.Parts.{Parts}
+use Rattle.mpc_controller.specs.Parts.{Parts}
 use Rattle.mpc_synthesis.specs.Programs.{HasVerdicts}
 use Rattle.mpc_synthesis.specs.Controllers.{IsController}
 use Rattle.mpc_synthesis.specs.Refusals.{Extent, verdicts, controller, IsNotDefiniteAt, FirstWide}

@@ -17,8 +17,8 @@ use Rattle.mpc_tree.specs.declared.errors.TreeError.{TreeError}
 use Rattle.mpc_tree.specs.declared.errors.TreeError.TheVariants.{Wide as WideTree, NoMemory as NoTreeMemory}
 use Rattle.mpc_tree.specs.Trees.{whole_box}
 use Rattle.mpc_tree.specs.WideRuns.{IsFirstWide as IsFirstWideRun}
-use Rattle.mpc_file.specs.Parts.{Parts}
-use Rattle.mpc_file.specs.Bounds.{IsFirstBroken}
+use Rattle.mpc_controller.specs.Parts.{Parts}
+use Rattle.mpc_controller.specs.Bounds.{IsFirstBroken}
 use Rattle.mpc_check.specs.Acceptance.{IsFound}
 use Rattle.mpc_check.specs.Findings.{too_wide}
 use Rattle.mpc_synthesis.specs.Programs.{HasProgram, PivotsPass, HasVerdicts}

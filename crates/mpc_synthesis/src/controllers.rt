@@ -14,7 +14,7 @@ use mpc_answers::tree_shapes;
 use mpc_check::{Answer, CheckError, check_alone};
 use mpc_claim::legal_laws;
 use mpc_compiled::compiled_accepted;
-use mpc_file::{Controller, SealError};
+use mpc_controller::{Controller, SealError};
 use mpc_plant::Plant;
 use mpc_port::Gate;
 use mpc_tree::{TreeError, build_alone};

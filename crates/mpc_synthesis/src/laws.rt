@@ -9,7 +9,7 @@ use mpc_check::{accepted_replies, one_finding};
 use mpc_condense::place_laws;
 use mpc_cover::one_verdict;
 use mpc_definite::pivot_laws;
-use mpc_file::{bound_laws, one_leaf};
+use mpc_controller::{bound_laws, one_leaf};
 use mpc_sets::order_laws;
 use mpc_tree::one_tree;
 

@@ -9,7 +9,7 @@ use Rattle.mpc_exact.proofs.RationalField.{*ℚ_cancel}
 use Rattle.mpc_exact.proofs.School.{quotient_is, int_not_zero}
 use Rattle.mpc_space.specs.Vector.{dot}
 use Rattle.mpc_plant.specs.Trajectory.{point_of}
-use Rattle.mpc_file.specs.Bounds.{reach}
+use Rattle.mpc_controller.specs.Bounds.{reach}
 use Rattle.mpc_table.specs.Forms.{weighed, AreUpTo, IsBounded, IsFormOf}
 use Rattle.mpc_linear.specs.declared.integers.IntAffine.{IntAffine}
 

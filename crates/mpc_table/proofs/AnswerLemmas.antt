@@ -15,10 +15,10 @@ use Rattle.mpc_rows.specs.ActiveSets.{extended}
 use Rattle.mpc_rows.specs.declared.laws.Law.{Law as LawOfSet}
 use Rattle.mpc_rows.specs.declared.trees.Node.{Node}
 use Rattle.mpc_rows.specs.declared.trees.Node.TheVariants.{Split, Law, NoMove}
-use Rattle.mpc_file.specs.Preorder.{IsTree, IsNoSide}
-use Rattle.mpc_file.specs.Parts.{Parts, limits_of, IsNodeFor, IsSplitRow}
-use Rattle.mpc_file.specs.Bounds.{IsController, NodeFits, SplitFits}
-use Rattle.mpc_file.specs.Replies.{at_state, outside, first_outside, first_move, by_law, by_no_law}
+use Rattle.mpc_controller.specs.Preorder.{IsTree, IsNoSide}
+use Rattle.mpc_controller.specs.Parts.{Parts, limits_of, IsNodeFor, IsSplitRow}
+use Rattle.mpc_controller.specs.Bounds.{IsController, NodeFits, SplitFits}
+use Rattle.mpc_controller.specs.Replies.{at_state, outside, first_outside, first_move, by_law, by_no_law}
 use Rattle.mpc_table.proofs.ElementLemmas.{all_at}
 use Rattle.mpc_table.specs.declared.steps.Step.{Step}
 use Rattle.mpc_table.specs.Forms.{affine_values, AreFormsOf}

@@ -6,8 +6,8 @@ use Rattle.mpc_exact.specs.Rational.{ℚ}
 use Rattle.mpc_linear.specs.declared.integers.RowInt.{RowInt}
 use Rattle.mpc_rows.specs.declared.trees.Node.{Node}
 use Rattle.mpc_rows.specs.declared.trees.Node.TheVariants.{Split, Law, NoMove}
-use Rattle.mpc_file.specs.Parts.{Parts, limits_of}
-use Rattle.mpc_file.specs.Replies.{outside_from, first_outside}
+use Rattle.mpc_controller.specs.Parts.{Parts, limits_of}
+use Rattle.mpc_controller.specs.Replies.{outside_from, first_outside}
 use Rattle.mpc_table.specs.declared.steps.Step.{Step}
 use Rattle.mpc_table.specs.declared.steps.Step.TheVariants.{Branch, Apply, Stop}
 use Rattle.mpc_table.specs.Forms.{AreUpTo}

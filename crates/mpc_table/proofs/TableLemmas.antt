@@ -18,7 +18,7 @@ use Rattle.mpc_plant.specs.Trajectory.{point_of}
 use Rattle.mpc_rows.specs.ActiveSets.{extended}
 use Rattle.mpc_rows.specs.declared.laws.Law.{Law}
 use Rattle.mpc_rows.specs.declared.trees.Node.{Node}
-use Rattle.mpc_file.specs.Parts.{limits_of, IsLawFor}
+use Rattle.mpc_controller.specs.Parts.{limits_of, IsLawFor}
 use Rattle.mpc_table.specs.declared.steps.Step.{Step}
 use Rattle.mpc_table.specs.Forms.{affine_value, affine_values, IsBounded, IsFormOf, AreFormsOf, AreUpTo}
 use Rattle.mpc_table.specs.Steps.{step_of, steps_of}

@@ -13,12 +13,12 @@ use Rattle.mpc_linear.specs.Shape.{HasShape}
 use Rattle.mpc_rows.specs.declared.laws.Law.{Law as LawOfSet}
 use Rattle.mpc_rows.specs.declared.trees.Node.{Node}
 use Rattle.mpc_rows.specs.declared.trees.Node.TheVariants.{Split, Law, NoMove}
-use Rattle.mpc_file.specs.Preorder.{Spells}
-use Rattle.mpc_file.specs.Parts.{row_count, IsLawFor, IsSplitRow, IsNodeFor, HaveShapes}
-use Rattle.mpc_file.specs.Certificates.{IsCertOver, cell_rows, AreLawCerts, HaveCerts}
+use Rattle.mpc_controller.specs.Preorder.{Spells}
+use Rattle.mpc_controller.specs.Parts.{row_count, IsLawFor, IsSplitRow, IsNodeFor, HaveShapes}
+use Rattle.mpc_controller.specs.Certificates.{IsCertOver, cell_rows, AreLawCerts, HaveCerts}
 use Rattle.mpc_table.specs.TestNodes.{IsTestNode}
-use Rattle.mpc_file.specs.Walk.{IsLeaf}
-use Rattle.mpc_file.specs.PreorderLaws.{SplitSpells, LeafSpells}
+use Rattle.mpc_controller.specs.Walk.{IsLeaf}
+use Rattle.mpc_controller.specs.PreorderLaws.{SplitSpells, LeafSpells}
 
 pub all_push : {X : Type 0} (P : X → Type 0) (xs new : List X) (x : X) → new ≡ xs ++ x ∷ [] → All P xs → P x → All P new
 all_push P xs new x e h p = subst (All P) (sym e) (All-append P xs (x ∷ []) h (All-cons P x [] p (All-nil P)))

@@ -13,8 +13,8 @@ use Rattle.mpc_linear.specs.declared.integers.RowInt.{RowInt}
 use Rattle.mpc_plant.specs.Trajectory.{point_of}
 use Rattle.mpc_rows.specs.declared.trees.Node.{Node}
 use Rattle.mpc_rows.specs.declared.trees.Node.TheVariants.{Split, Law, NoMove}
-use Rattle.mpc_file.specs.Bounds.{reach}
-use Rattle.mpc_file.specs.Walk.{Satisfies, yes_side, no_side}
+use Rattle.mpc_controller.specs.Bounds.{reach}
+use Rattle.mpc_controller.specs.Walk.{Satisfies, yes_side, no_side}
 use Rattle.mpc_table.specs.declared.steps.Step.{Step}
 use Rattle.mpc_table.specs.declared.steps.Step.TheVariants.{Branch, Apply, Stop}
 use Rattle.mpc_table.specs.Forms.{weighed}

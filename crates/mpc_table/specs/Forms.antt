@@ -5,7 +5,7 @@ use Rattle.mpc_space.specs.Vector.{dot}
 use Rattle.mpc_linear.specs.declared.integers.IntAffine.{IntAffine}
 use Rattle.mpc_plant.specs.Trajectory.{point_of}
 use Rattle.mpc_rows.specs.ActiveSets.{extended}
-use Rattle.mpc_file.specs.Bounds.{reach}
+use Rattle.mpc_controller.specs.Bounds.{reach}
 
 -- k_1 t_1 + .. + k_n t_n
 abbrev pub weighed : List ℤ → List ℕ → ℤ

@@ -2,7 +2,7 @@
 use Rattle.std.specs.Prelude.{◌≡◌, ℕ, ◌<◌, ◌≤◌, List, [], ◌∷◌, length, All, take}
 use Rattle.mpc_linear.specs.declared.integers.IntAffine.{IntAffine}
 use Rattle.mpc_rows.specs.declared.laws.Law.{Law}
-use Rattle.mpc_file.specs.Parts.{Parts, limits_of}
+use Rattle.mpc_controller.specs.Parts.{Parts, limits_of}
 use Rattle.mpc_table.specs.declared.steps.Step.{Step}
 use Rattle.mpc_table.specs.declared.steps.Step.TheVariants.{Branch, Apply, Stop}
 use Rattle.mpc_table.specs.Forms.{IsBounded, AreFormsOf}

@@ -3,7 +3,7 @@ use Rattle.std.specs.Prelude.{◌≡◌, ℕ, ◌+◌, ◌-◌, ◌<◌, ◌≤�
 use Rattle.mpc_linear.specs.declared.integers.RowInt.{RowInt}
 use Rattle.mpc_rows.specs.declared.trees.Node.{Node}
 use Rattle.mpc_rows.specs.declared.trees.Node.TheVariants.{Split}
-use Rattle.mpc_file.specs.Preorder.{Spells, IsNoSide}
+use Rattle.mpc_controller.specs.Preorder.{Spells, IsNoSide}
 
 -- the split at a place is open before node k: so many trees are left to be spelled until its yes side is ended
 pub record IsOpen (nodes : List Node) (k place trees : ℕ) : Type 0 where

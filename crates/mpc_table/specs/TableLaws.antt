@@ -4,7 +4,7 @@ use Rattle.mpc_space.specs.Matrix.{height}
 use Rattle.mpc_linear.specs.declared.integers.IntAffine.{IntAffine}
 use Rattle.mpc_plant.specs.declared.plants.Plant.{Plant}
 use Rattle.mpc_rows.specs.declared.laws.Law.{Law}
-use Rattle.mpc_file.specs.Parts.{IsLawFor}
+use Rattle.mpc_controller.specs.Parts.{IsLawFor}
 use Rattle.mpc_table.specs.Lookup.{AreLawForms}
 
 -- one list of forms

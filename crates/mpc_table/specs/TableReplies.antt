@@ -6,9 +6,9 @@ use Rattle.mpc_frac.specs.Text.{text_of}
 use Rattle.mpc_plant.specs.Reply.{move, infeasible}
 use Rattle.mpc_plant.specs.Trajectory.{point_of}
 use Rattle.mpc_rows.specs.declared.trees.Node.TheVariants.{Law, NoMove}
-use Rattle.mpc_file.specs.Parts.{Parts, limits_of}
-use Rattle.mpc_file.specs.Walk.{EndsAt}
-use Rattle.mpc_file.specs.Replies.{Answer, at_state, outside, first_outside, IsAnswerTo}
+use Rattle.mpc_controller.specs.Parts.{Parts, limits_of}
+use Rattle.mpc_controller.specs.Walk.{EndsAt}
+use Rattle.mpc_controller.specs.Replies.{Answer, at_state, outside, first_outside, IsAnswerTo}
 use Rattle.mpc_table.specs.declared.replies.Reply.{Reply}
 use Rattle.mpc_table.specs.declared.replies.Reply.TheVariants.{Move, Infeasible, Outside}
 use Rattle.mpc_table.specs.Forms.{AreUpTo}

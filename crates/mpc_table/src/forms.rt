@@ -4,8 +4,8 @@ ghost use Rattle.std.specs.Prelude.{◌≡◌, ◌+◌, ◌≤◌, [], ◌∷◌
 ghost use Rattle.std.specs.List.{join_with_byte};
 ghost use Rattle.mpc_frac.specs.Text.{text_of};
 ghost use Rattle.mpc_space.specs.Matrix.{height};
-ghost use Rattle.mpc_file.specs.Bounds.{FormFits, InputsFit, LawFits};
-ghost use Rattle.mpc_file.specs.Parts.{limits_of, IsLawFor};
+ghost use Rattle.mpc_controller.specs.Bounds.{FormFits, InputsFit, LawFits};
+ghost use Rattle.mpc_controller.specs.Parts.{limits_of, IsLawFor};
 ghost use Rattle.mpc_table.specs.Forms.{IsBounded, IsFormOf, AreFormsOf, affine_values};
 ghost use Rattle.mpc_table.specs.Lookup.{AreInputForms, AreLawForms};
 

@@ -1,12 +1,12 @@
 //! Where the no sides of a tree's splits begin, by one pass over its nodes in preorder.
 
 ghost use Rattle.std.specs.Prelude.{◌+◌, ◌<◌, ◌↔◌, IfOk, OnOk, IsTrue, length};
-ghost use Rattle.mpc_file.specs.Preorder.{IsTree};
-ghost use Rattle.mpc_file.specs.Walk.{IsLeaf};
+ghost use Rattle.mpc_controller.specs.Preorder.{IsTree};
+ghost use Rattle.mpc_controller.specs.Walk.{IsLeaf};
 ghost use Rattle.mpc_table.specs.Steps.{AreNoSides};
 ghost use Rattle.mpc_table.specs.OpenSplits.{AreSidesTo};
 
-use mpc_file::preorder_laws;
+use mpc_controller::preorder_laws;
 use mpc_frac::NoMemory;
 use mpc_rows::{Node, Tree};
 use std::alloc::Global;

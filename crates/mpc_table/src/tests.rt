@@ -1,12 +1,12 @@
 ghost use Rattle.std.specs.Prelude.{◌≡◌, ◌+◌, ◌-◌, ◌^◌, ◌<◌, ◌≤◌, All, [], length, unsigned_abs, IfSome, IfOk};
 ghost use Rattle.mpc_linear.specs.Shape.{HasShape};
 ghost use Rattle.mpc_sets.specs.RowSet.{IsSetOfRows};
-ghost use Rattle.mpc_file.specs.Preorder.{Spells, IsTree};
-ghost use Rattle.mpc_file.specs.Parts.{IsLawFor};
+ghost use Rattle.mpc_controller.specs.Preorder.{Spells, IsTree};
+ghost use Rattle.mpc_controller.specs.Parts.{IsLawFor};
 ghost use Rattle.mpc_table.specs.TestNodes.{IsTestNode};
 
 use crate::{Reply, Table};
-use mpc_file::{Controller, preorder_laws};
+use mpc_controller::{Controller, preorder_laws};
 use mpc_frac::{Frac, NoMemory};
 use mpc_linear::{Ints, Matrix, RowInt};
 use mpc_plant::{Plant, read_plant};

@@ -3,8 +3,8 @@
 ghost use Rattle.std.specs.Prelude.{◌≡◌, ◌+◌, ◌*◌, ◌^◌, ◌<◌, ◌≤◌, ◌↔◌, pos, ◌+ℤ◌, ◌*ℤ◌, ◌<ℤ◌, ◌≤ℤ◌, unsigned_abs, length, IsTrue};
 ghost use Rattle.mpc_exact.specs.Rational.{quotient};
 ghost use Rattle.mpc_plant.specs.Trajectory.{point_of};
-ghost use Rattle.mpc_file.specs.Bounds.{reach};
-ghost use Rattle.mpc_file.specs.Walk.{Satisfies};
+ghost use Rattle.mpc_controller.specs.Bounds.{reach};
+ghost use Rattle.mpc_controller.specs.Walk.{Satisfies};
 ghost use Rattle.mpc_table.specs.Forms.{weighed, affine_value, IsBounded};
 
 use mpc_frac::Frac;

@@ -2,7 +2,7 @@ ghost use Rattle.std.specs.Prelude.{◌≡◌, ◌<◌, [], ◌∷◌, pos, IfOk
 ghost use Rattle.mpc_exact.specs.Rational.{int};
 
 use super::{write_file, write_parts};
-use crate::Controller;
+use mpc_controller::Controller;
 use mpc_frac::{Frac, NoMemory};
 use mpc_linear::{Ints, Matrix, RowInt};
 use mpc_plant::read_plant;

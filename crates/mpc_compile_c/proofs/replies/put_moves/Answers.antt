@@ -2,7 +2,7 @@ use Rattle.std.proofs.Common.{◌≡◌, ◌≢◌, ◌+◌, ◌-◌, ◌<◌, �
 use Rattle.mpc_space.specs.Vector.{dot}
 use Rattle.mpc_plant.specs.Trajectory.{point_of}
 use Rattle.mpc_rows.specs.ActiveSets.{extended}
-use Rattle.mpc_file.specs.Bounds.{first_move_form}
+use Rattle.mpc_controller.specs.Bounds.{first_move_form}
 use Rattle.mpc_compile_c.proofs.Replied.{is_move}
 use Rattle.mpc_compile_c.proofs.replies.put_moves.Goals as goal
 use Rattle.mpc_compile_c.proofs.replies.put_moves.Goals.{After-loop-i}

@@ -1,6 +1,6 @@
 use Rattle.std.proofs.Common.{◌≡◌, ◌++◌, ◌∷◌, [], sym, subst, rules}
-use Rattle.mpc_file.specs.Parts.{IsLawFor}
-use Rattle.mpc_file.specs.Bounds.{LawFits, InputsFit}
+use Rattle.mpc_controller.specs.Parts.{IsLawFor}
+use Rattle.mpc_controller.specs.Bounds.{LawFits, InputsFit}
 use Rattle.mpc_table.proofs.ElementLemmas.{all_at}
 use Rattle.mpc_table.proofs.TableLemmas.{law_inputs, law_columns, law_forms_next, input_forms_next}
 use Rattle.mpc_table.proofs.forms.law_forms.Goals as goal

@@ -1,4 +1,4 @@
-use Rattle.mpc_file.specs.Walk.{root}
+use Rattle.mpc_controller.specs.Walk.{root}
 use Rattle.mpc_table.proofs.steps.leaf_place.Goals as goal
 
 pub loop-next-init : goal.loop-next-init

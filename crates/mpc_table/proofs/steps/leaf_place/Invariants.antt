@@ -1,7 +1,7 @@
 use Rattle.std.proofs.Common.{◌≡◌, ◌<◌, ◌-◌, List, length}
 use Rattle.mpc_plant.specs.Trajectory.{point_of}
 use Rattle.mpc_rows.specs.declared.trees.Node.{Node}
-use Rattle.mpc_file.specs.Walk.{Reaches}
+use Rattle.mpc_controller.specs.Walk.{Reaches}
 use Rattle.mpc_table.specs.Steps.{steps_of, AreNoSides}
 use Rattle.mpc_table.proofs.steps.leaf_place.Given as goal
 

@@ -1,5 +1,5 @@
 use Rattle.std.proofs.Common.{◌≡◌, ◌+◌, drop}
-use Rattle.mpc_file.specs.Replies.{outside_from}
+use Rattle.mpc_controller.specs.Replies.{outside_from}
 use Rattle.mpc_table.proofs.tables.find_outside.Given as goal
 
 abbrev pub invariant-loop-i : goal.invariant-loop-i

@@ -1,6 +1,6 @@
 use Rattle.std.proofs.Common.{length, ◌+◌}
 use Rattle.mpc_rows.specs.declared.trees.Node.TheVariants.{NoMove}
-use Rattle.mpc_file.specs.Certificates.{cell_rows}
+use Rattle.mpc_controller.specs.Certificates.{cell_rows}
 use Rattle.mpc_table.specs.TestNodes.{IsTestNode}
 use Rattle.mpc_table.proofs.TestLemmas.{all_push, leaf_push, bare}
 use Rattle.mpc_table.proofs.tests.add_bare_leaf.Goals as goal

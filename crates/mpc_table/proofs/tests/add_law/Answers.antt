@@ -1,7 +1,7 @@
 use Rattle.std.proofs.Common.{◌+◌, ◌≤◌, length, subst, arith}
 use Rattle.mpc_linear.specs.Shape.{HasShape}
 use Rattle.mpc_rows.specs.declared.laws.Law.{Law}
-use Rattle.mpc_file.specs.Parts.{IsLawFor}
+use Rattle.mpc_controller.specs.Parts.{IsLawFor}
 use Rattle.mpc_table.proofs.TestLemmas.{all_push, law_for}
 use Rattle.mpc_table.proofs.tests.add_law.Goals as goal
 use Rattle.mpc_table.proofs.tests.add_law.Goals.{else-member-stage-via-then-member-stage+else-member-stage-2, else-member-stage-via-else-member-stage}

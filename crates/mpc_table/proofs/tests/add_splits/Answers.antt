@@ -1,5 +1,5 @@
 use Rattle.std.proofs.Common.{◌≡◌, ◌+◌, subst, arith}
-use Rattle.mpc_file.specs.Preorder.{Spells}
+use Rattle.mpc_controller.specs.Preorder.{Spells}
 use Rattle.mpc_table.proofs.tests.add_splits.Goals as goal
 
 pub loop-k-init : goal.loop-k-init

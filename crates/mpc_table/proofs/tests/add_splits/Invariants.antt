@@ -1,5 +1,5 @@
 use Rattle.std.proofs.Common.{All, ◌+◌, length}
-use Rattle.mpc_file.specs.Preorder.{Spells}
+use Rattle.mpc_controller.specs.Preorder.{Spells}
 use Rattle.mpc_table.specs.TestNodes.{IsTestNode}
 use Rattle.mpc_table.proofs.tests.add_splits.Given as goal
 

@@ -1,7 +1,7 @@
 use Rattle.std.proofs.Common.{◌≡◌, ◌+◌, ◌*◌, ◌^◌, ◌<◌, pos, ◌+ℤ◌, ◌*ℤ◌, unsigned_abs, get_or, drop, sym, ◌∙◌, ap, subst, arith}
 use Rattle.std.specs.Int.{w128}
 use mir.Val.{to_z, of_z}
-use Rattle.mpc_file.specs.Bounds.{reach}
+use Rattle.mpc_controller.specs.Bounds.{reach}
 use Rattle.mpc_table.specs.Forms.{weighed}
 use Rattle.mpc_table.proofs.WholeNumbers.{read, read_term}
 use Rattle.mpc_table.proofs.AffineLemmas.{sum_step, reach_step, term_fits}

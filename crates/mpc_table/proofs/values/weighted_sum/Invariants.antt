@@ -1,5 +1,5 @@
 use Rattle.std.proofs.Common.{◌≡◌, ◌+◌, ◌^◌, ◌<◌, ◌+ℤ◌, unsigned_abs, drop}
-use Rattle.mpc_file.specs.Bounds.{reach}
+use Rattle.mpc_controller.specs.Bounds.{reach}
 use Rattle.mpc_table.specs.Forms.{weighed}
 use Rattle.mpc_table.proofs.values.weighted_sum.Given as goal
 

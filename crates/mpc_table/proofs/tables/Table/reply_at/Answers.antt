@@ -1,5 +1,5 @@
 use Rattle.std.proofs.Common.{◌≡◌, length, None, sym, subst}
-use Rattle.mpc_file.specs.Replies.{first_outside}
+use Rattle.mpc_controller.specs.Replies.{first_outside}
 use Rattle.mpc_table.specs.Steps.{AreSafe, WalksTo}
 use Rattle.mpc_table.specs.Lookup.{Lookup, IsTableOf}
 use Rattle.mpc_table.specs.TableReplies.{CanMove}

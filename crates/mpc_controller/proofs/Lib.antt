@@ -1,0 +1,4 @@
+pub mod BoundLemmas
+pub mod OneBoundLemmas
+pub mod PreorderLemmas
+pub mod OneLeafLemmas

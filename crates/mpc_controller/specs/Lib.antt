@@ -1,0 +1,9 @@
+pub mod Preorder
+pub mod Certificates
+pub mod Parts
+pub mod Bounds
+pub mod OneBound
+pub mod Walk
+pub mod PreorderLaws
+pub mod Replies
+pub mod OneLeaf

@@ -1,0 +1,26 @@
+//! What holds of every search tree, and of the bounds on every controller's numbers.
+
+ghost use Rattle.mpc_controller.specs.OneBound.{OneFirstBroken, KeptNotBroken};
+ghost use Rattle.mpc_controller.specs.OneLeaf.{OneLeaf};
+ghost use Rattle.mpc_controller.specs.PreorderLaws.{SplitSpells, LeafSpells, JoinedSpell};
+
+/// At each point the walk through a tree ends, and at one leaf only. The call does nothing: its
+/// contract is the law.
+pub fn one_leaf()
+    ensures { OneLeaf }
+{}
+
+/// Nodes in preorder spell trees one after another: one node more spells one tree less or one more, and
+/// the nodes of other trees may stand behind them. The call does nothing: its contract is the laws.
+pub fn preorder_laws()
+    ensures split { SplitSpells }
+    ensures leaf { LeafSpells }
+    ensures joined { JoinedSpell }
+{}
+
+/// One bound is the first that is broken, and none is where all are kept. The call does nothing: its
+/// contract is the laws.
+pub fn bound_laws()
+    ensures one_first_broken { OneFirstBroken }
+    ensures kept_not_broken { KeptNotBroken }
+{}

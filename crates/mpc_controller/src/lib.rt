@@ -1,0 +1,12 @@
+//! The controller of a plant: its laws and a search tree that names at each state the law that holds there.
+#![tactic(auto)]
+
+mod bounds;
+mod controllers;
+mod errors;
+mod laws;
+
+pub use bounds::limits;
+pub use controllers::Controller;
+pub use errors::SealError;
+pub use laws::{bound_laws, one_leaf, preorder_laws};

@@ -1,5 +1,0 @@
-use Rattle.mpc_file.specs.Bounds.{InputsFit}
-use Rattle.mpc_file.proofs.bounds.first_wide_input.Given as goal
-
-abbrev pub invariant-loop-i : goal.invariant-loop-i
-invariant-loop-i l = InputsFit l.counts l.law l.i

@@ -1,7 +1,0 @@
-use Rattle.std.proofs.Common.{take}
-use Rattle.std.specs.Prelude.{All}
-use Rattle.mpc_file.specs.Bounds.{NodeFits}
-use Rattle.mpc_file.proofs.bounds.first_wide_node.Given as goal
-
-abbrev pub invariant-loop-k : goal.invariant-loop-k
-invariant-loop-k l = All (NodeFits l.counts) (take l.k l.tree)
