@@ -20,10 +20,12 @@ use Rattle.mpc_controller.specs.Parts.{Parts, limits_of, IsNodeFor, IsSplitRow}
 use Rattle.mpc_controller.specs.Bounds.{IsController, NodeFits, SplitFits}
 use Rattle.mpc_controller.specs.Replies.{at_state, outside, first_outside, first_move, by_law, by_no_law}
 use Rattle.mpc_table.proofs.ElementLemmas.{all_at}
-use Rattle.mpc_table.specs.declared.steps.Step.{Step}
+use Rattle.mpc_table.specs.Steps.{Action, step_of, steps_of, AreNoSides, IsSafeBranch, AreSafe}
 use Rattle.mpc_table.specs.Forms.{affine_values, AreFormsOf}
-use Rattle.mpc_table.specs.Steps.{step_of, steps_of, AreNoSides, IsSafeBranch, AreSafe}
 use Rattle.mpc_table.specs.Lookup.{Lookup, AreInputForms, NamesLaw, IsLookup, AreLawForms, IsTableOf}
+use Rattle.mpc_table.specs.declared.steps.Step.{Step}
+use Rattle.mpc_table.specs.SharedSteps.{actions_at, AreStepsOf}
+use Rattle.mpc_table.specs.SharedLookup.{IsShared}
 use Rattle.mpc_table.specs.TableReplies.{IsMoveReply, IsInfeasibleReply, CanMove, AddsAnswer}
 use Rattle.mpc_table.proofs.FormLemmas.{forms_values, take-mat_vec}
 use Rattle.mpc_table.proofs.TableLemmas.{law_forms_length, law_forms_at}
@@ -99,7 +101,7 @@ module _ (plant : Plant) (laws : List LawOfSet) (tree : List Node) (ok : IsContr
       law_at_node (x ∷ xs) zero h = (x, refl)
       law_at_node (x ∷ xs) (suc k) h = law_at_node xs k (omega arith)
 
-      named_at : (k : ℕ) (done : Step) → k < length tree → (node : Node) × (slice_get tree k ≡ Some node) → NamesLaw (length forms) (get_or (steps_of tree) k done)
+      named_at : (k : ℕ) (done : Action) → k < length tree → (node : Node) × (slice_get tree k ≡ Some node) → NamesLaw (length forms) (get_or (steps_of tree) k done)
       named_at k done inside found =
           subst (NamesLaw (length forms)) (sym (get_or-map step_of tree k found.0 done inside ∙ ap step_of (get_at tree k found.0 found.1)))
           (named plant.n (length laws) (length forms) found.0 (law_forms_length plant.p laws forms h) (all_at (IsNodeFor plant.n (length laws)) tree k found.0 found.1 ok.shapes.nodes_fit))
@@ -116,10 +118,19 @@ module _ (plant : Plant) (laws : List LawOfSet) (tree : List Node) (ok : IsContr
     safe = safe sides sides_are;
   }
 
-pub lookup_of : (parts : Parts) → IsController parts.plant parts.laws parts.tree → (plant : Plant) (laws : List LawOfSet) (tree other : List Node) (limits counts : List ℕ) (forms : List (List IntAffine)) (steps : List Step) (sides : List ℕ)
+pub lookup_from : (parts : Parts) → IsController parts.plant parts.laws parts.tree → (plant : Plant) (laws : List LawOfSet) (tree other : List Node) (limits counts : List ℕ) (forms : List (List IntAffine)) (steps : List Action) (sides : List ℕ)
     → plant ≡ parts.plant → laws ≡ parts.laws → tree ≡ parts.tree → other ≡ parts.tree → limits ≡ limits_of plant → counts ≡ limits → AreLawForms plant.p laws forms → All (AreInputForms counts plant.p) forms → steps ≡ steps_of tree → AreNoSides other sides
     → IsLookup limits plant.p forms steps sides
-lookup_of parts ok plant laws tree other limits counts forms steps sides ep el et eo limits_are same of_laws bounded steps_are sides_are =
+lookup_from parts ok plant laws tree other limits counts forms steps sides ep el et eo limits_are same of_laws bounded steps_are sides_are =
     let ok_here : IsController plant laws tree = subst (λ p. IsController p laws tree) (sym ep) (subst (λ l. IsController parts.plant l tree) (sym el) (subst (IsController parts.plant parts.laws) (sym et) ok)) in
     subst (λ s. IsLookup limits plant.p forms s sides) (sym steps_are)
     (lookup plant laws tree ok_here limits limits_are forms sides of_laws (subst (λ l. All (AreInputForms l plant.p) forms) same bounded) (subst (λ t. AreNoSides t sides) (eo ∙ sym et) sides_are))
+
+pub shared_from : (parts : Parts) → IsController parts.plant parts.laws parts.tree → (plant : Plant) (laws : List LawOfSet) (tree other : List Node) (limits counts : List ℕ) (forms : List (List IntAffine)) (rows : List RowInt) (steps : List Step) (sides : List ℕ)
+    → plant ≡ parts.plant → laws ≡ parts.laws → tree ≡ parts.tree → other ≡ parts.tree → limits ≡ limits_of plant → counts ≡ limits → AreLawForms plant.p laws forms → All (AreInputForms counts plant.p) forms → AreStepsOf tree rows steps → AreNoSides other sides
+    → IsShared limits plant.p forms rows steps sides
+shared_from parts ok plant laws tree other limits counts forms rows steps sides ep el et eo limits_are same of_laws bounded steps_are sides_are = record {
+  lookup = lookup_from parts ok plant laws tree other limits counts forms (actions_at rows steps) sides ep el et eo limits_are same of_laws bounded steps_are.actions_are sides_are;
+  rows_named = steps_are.named;
+  rows_different = steps_are.different;
+}

@@ -1,4 +1,5 @@
 pub mod ElementLemmas
+pub mod PlaceLemmas
 pub mod WholeNumbers
 pub mod AffineLemmas
 pub mod FormLemmas
@@ -6,6 +7,7 @@ pub mod WalkLemmas
 pub mod SideLemmas
 pub mod LeafLemmas
 pub mod TableLemmas
+pub mod SharedLemmas
 pub mod ReplyLemmas
 pub mod AnswerLemmas
 pub mod TestLemmas

@@ -19,9 +19,8 @@ use Rattle.mpc_rows.specs.ActiveSets.{extended}
 use Rattle.mpc_rows.specs.declared.laws.Law.{Law}
 use Rattle.mpc_rows.specs.declared.trees.Node.{Node}
 use Rattle.mpc_controller.specs.Parts.{limits_of, IsLawFor}
-use Rattle.mpc_table.specs.declared.steps.Step.{Step}
+use Rattle.mpc_table.specs.Steps.{Action, step_of, steps_of}
 use Rattle.mpc_table.specs.Forms.{affine_value, affine_values, IsBounded, IsFormOf, AreFormsOf, AreUpTo}
-use Rattle.mpc_table.specs.Steps.{step_of, steps_of}
 use Rattle.mpc_table.specs.Lookup.{AreInputForms, AreLawForms}
 use Rattle.mpc_table.proofs.AffineLemmas.{bounded_at}
 use Rattle.mpc_table.proofs.FormLemmas.{first_text, next_text, text_at, texts_length}
@@ -59,7 +58,7 @@ law_forms_next p laws j law all new forms at e h k =
 pub input_forms_next : (counts : List ℕ) (p : ℕ) (all new : List (List IntAffine)) (forms : List IntAffine) → new ≡ all ++ forms ∷ [] → All (AreInputForms counts p) all → AreInputForms counts p forms → All (AreInputForms counts p) new
 input_forms_next counts p all new forms e h k = subst (All (AreInputForms counts p)) (sym e) (All-append (AreInputForms counts p) all (forms ∷ []) h (All-cons (AreInputForms counts p) forms [] k (All-nil (AreInputForms counts p))))
 
-pub steps_next : (nodes : List Node) (k : ℕ) (node : Node) (old new : List Step) (done : Step) → slice_get nodes k ≡ Some node → old ≡ take k (steps_of nodes) → new ≡ old ++ done ∷ [] → done ≡ step_of node → new ≡ take (k + 1) (steps_of nodes)
+pub steps_next : (nodes : List Node) (k : ℕ) (node : Node) (old new : List Action) (done : Action) → slice_get nodes k ≡ Some node → old ≡ take k (steps_of nodes) → new ≡ old ++ done ∷ [] → done ≡ step_of node → new ≡ take (k + 1) (steps_of nodes)
 steps_next nodes k node old new done at before pushed is =
     let inside : k < length nodes = slice_get_within nodes k node at in
     let within : k < length (steps_of nodes) = omega (arith, length-map nodes step_of) in

@@ -15,11 +15,9 @@ use Rattle.mpc_rows.specs.declared.trees.Node.{Node}
 use Rattle.mpc_rows.specs.declared.trees.Node.TheVariants.{Split, Law, NoMove}
 use Rattle.mpc_controller.specs.Bounds.{reach}
 use Rattle.mpc_controller.specs.Walk.{Satisfies, yes_side, no_side}
-use Rattle.mpc_table.specs.declared.steps.Step.{Step}
-use Rattle.mpc_table.specs.declared.steps.Step.TheVariants.{Branch, Apply, Stop}
+use Rattle.mpc_table.specs.Steps.{Action, branch, apply, stop, step_of, steps_of, IsSafeBranch, LeadsTo, IsLast, IsLastAt}
 use Rattle.mpc_table.specs.Forms.{weighed}
 use Rattle.mpc_table.proofs.WholeNumbers.{read}
-use Rattle.mpc_table.specs.Steps.{step_of, steps_of, IsSafeBranch, LeadsTo, IsLast, IsLastAt}
 
 -- ---- a row at counts
 pub dot_weighed : (ks : List ℤ) (ts : List ℕ) → dot (map int ks) (point_of ts) ≡ int (weighed ks ts)
@@ -44,35 +42,35 @@ satisfies_iff r z row a ts z_small within test is same =
     (λ t. satisfied row ts (subst (λ w. w ≤ℤ row.b) value (subst (λ w. to_z w128 (of_z w128 z) ≤ℤ w) bound (test.0 t))), λ h. test.1 (subst (λ w. to_z w128 (of_z w128 z) ≤ℤ w) (sym bound) (subst (λ w. w ≤ℤ row.b) (sym value) (at_most row ts h))))
 
 -- ---- steps and nodes
-node_step : (node : Node) (row : RowInt) → step_of node ≡ Branch row → node ≡ Split row
+node_step : (node : Node) (row : RowInt) → step_of node ≡ branch row → node ≡ Split row
 node_step (Split r) row e = let same : r ≡ row = cc in ap Split same
 node_step (Law law certs) row e = absurd cc
 node_step (NoMove cert) row e = absurd cc
 
-pub step_node : (nodes : List Node) (place : ℕ) (done : Step) → slice_get (steps_of nodes) place ≡ Some done → (node : Node) × (slice_get nodes place ≡ Some node) × (step_of node ≡ done)
+pub step_node : (nodes : List Node) (place : ℕ) (done : Action) → slice_get (steps_of nodes) place ≡ Some done → (node : Node) × (slice_get nodes place ≡ Some node) × (step_of node ≡ done)
 step_node [] place done e = absurd cc
 step_node (node ∷ nodes) zero done e = (node, refl, cc)
 step_node (node ∷ nodes) (suc place) done e = step_node nodes place done e
 
-pub branch_node : (nodes : List Node) (place : ℕ) (row : RowInt) → slice_get (steps_of nodes) place ≡ Some (Branch row) → slice_get nodes place ≡ Some (Split row)
-branch_node nodes place row e = let n = step_node nodes place (Branch row) e in n.1 ∙ ap Some (node_step n.0 row n.2)
+pub branch_node : (nodes : List Node) (place : ℕ) (row : RowInt) → slice_get (steps_of nodes) place ≡ Some (branch row) → slice_get nodes place ≡ Some (Split row)
+branch_node nodes place row e = let n = step_node nodes place (branch row) e in n.1 ∙ ap Some (node_step n.0 row n.2)
 
 -- what the code read at a place
-pub read_at : (steps : List Step) (place : ℕ) (found : Step) (done : Step) → place < length steps → found ≡ get_or steps place found → found ≡ done → slice_get steps place ≡ Some done
+pub read_at : (steps : List Action) (place : ℕ) (found : Action) (done : Action) → place < length steps → found ≡ get_or steps place found → found ≡ done → slice_get steps place ≡ Some done
 read_at steps place found done inside read is = slice_get-get_or steps place found inside ∙ ap Some (sym read ∙ is)
 
-pub last_at : (steps : List Step) (place : ℕ) (done : Step) → slice_get steps place ≡ Some done → IsLast done → IsLastAt steps place
+pub last_at : (steps : List Action) (place : ℕ) (done : Action) → slice_get steps place ≡ Some done → IsLast done → IsLastAt steps place
 last_at steps place done at is = record { step = done; step_at = at; is_last = is }
 
-pub last_read : (steps : List Step) (place : ℕ) (found : Step) → place < length steps → found ≡ get_or steps place found → ((row : RowInt) → found ≡ Branch row → ⊥) → IsLastAt steps place
-last_read steps place (Branch row) inside read other = absurd (other row refl)
-last_read steps place (Apply law) inside read other = last_at steps place (Apply law) (read_at steps place (Apply law) (Apply law) inside read refl) tt
-last_read steps place Stop inside read other = last_at steps place Stop (read_at steps place Stop Stop inside read refl) tt
+pub last_read : (steps : List Action) (place : ℕ) (found : Action) → place < length steps → found ≡ get_or steps place found → ((row : RowInt) → found ≡ branch row → ⊥) → IsLastAt steps place
+last_read steps place (branch row) inside read other = absurd (other row refl)
+last_read steps place (apply law) inside read other = last_at steps place (apply law) (read_at steps place (apply law) (apply law) inside read refl) tt
+last_read steps place stop inside read other = last_at steps place stop (read_at steps place stop stop inside read refl) tt
 
 -- ---- from a branch to the next place
-module _ (steps : List Step) (sides counts : List ℕ) (place : ℕ) (row : RowInt) (at : slice_get steps place ≡ Some (Branch row)) (safe : IsSafeBranch counts steps sides place row) where
+module _ (steps : List Action) (sides counts : List ℕ) (place : ℕ) (row : RowInt) (at : slice_get steps place ≡ Some (branch row)) (safe : IsSafeBranch counts steps sides place row) where
   split_at : (nodes : List Node) → steps ≡ steps_of nodes → slice_get nodes place ≡ Some (Split row)
-  split_at nodes is = branch_node nodes place row (subst (λ s. slice_get s place ≡ Some (Branch row)) is at)
+  split_at nodes is = branch_node nodes place row (subst (λ s. slice_get s place ≡ Some (branch row)) is at)
 
   pub to_yes_side : Satisfies row (point_of counts) → LeadsTo steps sides counts place (place + 1)
   to_yes_side h =

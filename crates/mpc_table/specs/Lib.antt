@@ -1,7 +1,10 @@
+pub mod Places
 pub mod Forms
 pub mod Steps
+pub mod SharedSteps
 pub mod OpenSplits
 pub mod Lookup
+pub mod SharedLookup
 pub mod TableLaws
 pub mod TableReplies
 pub mod TestNodes

@@ -3,17 +3,15 @@ use Rattle.std.specs.Prelude.{◌≡◌, ℕ, ◌<◌, ◌≤◌, List, [], ◌�
 use Rattle.mpc_linear.specs.declared.integers.IntAffine.{IntAffine}
 use Rattle.mpc_rows.specs.declared.laws.Law.{Law}
 use Rattle.mpc_controller.specs.Parts.{Parts, limits_of}
-use Rattle.mpc_table.specs.declared.steps.Step.{Step}
-use Rattle.mpc_table.specs.declared.steps.Step.TheVariants.{Branch, Apply, Stop}
+use Rattle.mpc_table.specs.Steps.{Action, branch, apply, stop, steps_of, AreNoSides, AreSafe}
 use Rattle.mpc_table.specs.Forms.{IsBounded, AreFormsOf}
-use Rattle.mpc_table.specs.Steps.{steps_of, AreNoSides, AreSafe}
 
 -- the greatest counts, the number of inputs, the forms of each law's first move, and the tree laid out for walks
 pub record Lookup : Type 0 where
   pub limits : List ℕ
   pub inputs : ℕ
   pub laws : List (List IntAffine)
-  pub steps : List Step
+  pub steps : List Action
   pub sides : List ℕ
 
 -- one bounded form for each input
@@ -22,13 +20,13 @@ pub record AreInputForms (limits : List ℕ) (inputs : ℕ) (forms : List IntAff
   pub bounded : All (IsBounded limits) forms
 
 -- a law that is applied is one of so many
-abbrev pub NamesLaw : ℕ → Step → Type 0
-NamesLaw laws (Branch row) = Unit {0}
-NamesLaw laws (Apply law) = (1 ≤ law) × (law ≤ laws)
-NamesLaw laws Stop = Unit {0}
+abbrev pub NamesLaw : ℕ → Action → Type 0
+NamesLaw laws (branch row) = Unit {0}
+NamesLaw laws (apply law) = (1 ≤ law) × (law ≤ laws)
+NamesLaw laws stop = Unit {0}
 
 -- what every table is
-pub record IsLookup (limits : List ℕ) (inputs : ℕ) (laws : List (List IntAffine)) (steps : List Step) (sides : List ℕ) : Type 0 where
+pub record IsLookup (limits : List ℕ) (inputs : ℕ) (laws : List (List IntAffine)) (steps : List Action) (sides : List ℕ) : Type 0 where
   pub limits_few : length limits ≤ 4
   pub forms : All (AreInputForms limits inputs) laws
   pub root : 0 < length steps

@@ -3,7 +3,9 @@
 
 mod forms;
 mod laws;
+mod places;
 mod replies;
+mod rows;
 mod sides;
 mod steps;
 mod tables;

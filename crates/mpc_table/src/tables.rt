@@ -15,34 +15,38 @@ ghost use Rattle.mpc_table.specs.TableReplies.{IsReply, IsWritable, AddsAnswer};
 use crate::forms::{Forms, law_forms, write_values};
 use crate::replies::Reply;
 use crate::sides::no_sides;
-use crate::steps::{Step, all_steps, leaf_place};
+use crate::steps::{Step, Steps, all_steps, leaf_place};
 use crate::values::value_at;
 use itoa::Buffer;
 use mpc_controller::{Controller, limits};
 use mpc_frac::{Frac, NoMemory};
+use mpc_linear::RowInt;
 use mpc_rows::Counts;
 use std::alloc::Global;
 use std::marker::Model;
 
 /// A controller without its certificates, laid out for replies: the first move of each law over common
-/// denominators, and for each split of the tree the place of its no side.
+/// denominators, and for each split of the tree the place of its no side. Equal rows of splits are kept
+/// once, and the steps name them by their places.
 #[derive(Drop)]
 pub struct Table {
     limits: Counts,
     inputs: u32,
     laws: Vec<Forms>,
+    rows: Vec<RowInt>,
     steps: Vec<Step>,
     sides: Vec<usize>,
 }
 
 impl Model for Table {
-    ghost use Rattle.mpc_table.specs.Lookup.{Lookup, IsLookup};
+    ghost use Rattle.mpc_table.specs.Lookup.{Lookup};
+    ghost use Rattle.mpc_table.specs.SharedLookup.{lookup_of, IsShared};
 
     ghost Value = { Lookup };
 
-    ghost view = { λ t. record { limits = t.limits; inputs = t.inputs; laws = t.laws.items; steps = t.steps.items; sides = t.sides.items } };
+    ghost view = { λ t. lookup_of t.limits t.inputs t.laws.items t.rows.items t.steps.items t.sides.items };
 
-    ghost invariant = { λ t. IsLookup t.limits t.inputs t.laws.items t.steps.items t.sides.items };
+    ghost invariant = { λ t. IsShared t.limits t.inputs t.laws.items t.rows.items t.steps.items t.sides.items };
 }
 
 /// The number, from 1, of the first count above its limit.
@@ -91,12 +95,13 @@ impl Table {
         let plant = controller.plant();
         let limits = limits(alloc, plant)?;
         let laws = law_forms(alloc, plant, controller.laws(), limits.as_slice())?;
-        let steps = all_steps(alloc, controller.tree())?;
+        let Steps { rows, steps } = all_steps(alloc, controller.tree())?;
         let sides = no_sides(alloc, controller.tree())?;
         Ok(Table {
             limits,
             inputs: plant.p,
             laws,
+            rows,
             steps,
             sides,
         })
@@ -111,7 +116,12 @@ impl Table {
         if let Some(coordinate) = find_outside(self.limits.as_slice(), counts) {
             return Reply::Outside { coordinate };
         }
-        let place = leaf_place(self.steps.as_slice(), self.sides.as_slice(), counts);
+        let place = leaf_place(
+            self.rows.as_slice(),
+            self.steps.as_slice(),
+            self.sides.as_slice(),
+            counts,
+        );
         let node = place as u64 + 1;
         match &self.steps[place] {
             Step::Branch(_) => unreachable!(),

@@ -13,7 +13,7 @@ value_at-requires c =
     let law_in : c.args.law ≤ length t.laws.items = subst (λ (x : Lookup). c.args.law ≤ length x.laws) (sym c.self.view_is) c.requires.to_last_law in
     let input_in : c.args.input ≤ t.inputs = subst (λ (x : Lookup). c.args.input ≤ x.inputs) (sym c.self.view_is) c.requires.to_last_input in
     let up : AreUpTo c.args.counts.now t.limits = subst (λ (x : Lookup). AreUpTo c.args.counts.now x.limits) (sym c.self.view_is) c.requires.inside in
-    form_bounded t.limits c.args.counts.now t.inputs t.laws.items c.self.invariant.forms up (c.args.law - 1) (omega arith) c.as_slice-forms.result.now
+    form_bounded t.limits c.args.counts.now t.inputs t.laws.items c.self.invariant.lookup.forms up (c.args.law - 1) (omega arith) c.as_slice-forms.result.now
     (reread t.laws.items (c.args.law - 1) c.index.result.now c.as_slice-forms.result.now c.as_slice-forms.ensures c.index.ensures) (c.args.input - 1) c.index-forms-input.result (omega arith) c.index-forms-input.is
 
 pub returns : goal.returns
@@ -27,5 +27,5 @@ returns c = λ parts of_set is_table numbered.
     let of_parts = subst (IsTableOf parts) (sym c.self.view_is) is_table in
     let laws_are : AreLawForms t.inputs parts.laws t.laws.items = subst (λ p. AreLawForms p parts.laws t.laws.items) (sym of_parts.inputs_are) of_parts.laws_are in
     c.value_at.ensures
-    ∙ form_value t.limits c.args.counts.now t.inputs t.laws.items c.self.invariant.forms up (c.args.law - 1) (omega arith) c.as_slice-forms.result.now
+    ∙ form_value t.limits c.args.counts.now t.inputs t.laws.items c.self.invariant.lookup.forms up (c.args.law - 1) (omega arith) c.as_slice-forms.result.now
     (reread t.laws.items (c.args.law - 1) c.index.result.now c.as_slice-forms.result.now c.as_slice-forms.ensures c.index.ensures) parts.laws of_set (c.args.input - 1) c.index-forms-input.result laws_are numbered (omega arith) c.index-forms-input.is

@@ -1,0 +1,41 @@
+//! Rows that are kept once each.
+
+ghost use Rattle.std.specs.Prelude.{◌≡◌, map, IfOk};
+ghost use Rattle.mpc_table.specs.Places.{ArePlaces, IsKept};
+ghost use Rattle.mpc_table.specs.SharedSteps.{row_line};
+
+use crate::places::{Places, line_of};
+use mpc_frac::NoMemory;
+use mpc_linear::{Ints, RowInt};
+use std::alloc::Global;
+
+/// A copy of the row.
+fn copy_of(alloc: Global, row: &RowInt) -> Result<RowInt, NoMemory>
+    ensures { IfOk result (λ r. r ≡ row.now) }
+{
+    let mut a = Ints::new(alloc);
+    for z in row.a.as_slice() {
+        a.push(*z)?;
+    }
+    Ok(RowInt { a, b: row.b })
+}
+
+/// The place of the row among the rows, behind which it is put where it is new.
+pub fn keep_row(
+    alloc: Global,
+    row: &RowInt,
+    rows: &mut Vec<RowInt>,
+    places: &mut Places,
+) -> Result<usize, NoMemory>
+    requires { ArePlaces places.old (map row_line rows.old.items) }
+    ensures { IfOk result (IsKept row_line row.now rows.old.items rows.new.items places.new) }
+{
+    let line = line_of(alloc, &row.b, row.a.as_slice())?;
+    let place = places.place(line)?;
+    if place < rows.len() {
+        return Ok(place);
+    }
+    let copy = copy_of(alloc, row)?;
+    rows.push(copy)?;
+    Ok(place)
+}
