@@ -24,6 +24,7 @@ use Rattle.mpc_table.specs.Steps.{Action, step_of, steps_of, AreNoSides, IsSafeB
 use Rattle.mpc_table.specs.Forms.{affine_values, AreFormsOf}
 use Rattle.mpc_table.specs.Lookup.{Lookup, AreInputForms, NamesLaw, IsLookup, AreLawForms, IsTableOf}
 use Rattle.mpc_table.specs.declared.steps.Step.{Step}
+use Rattle.mpc_table.specs.SharedForms.{all_forms_at, AreLawPlaces}
 use Rattle.mpc_table.specs.SharedSteps.{actions_at, AreStepsOf}
 use Rattle.mpc_table.specs.SharedLookup.{IsShared}
 use Rattle.mpc_table.specs.TableReplies.{IsMoveReply, IsInfeasibleReply, CanMove, AddsAnswer}
@@ -126,11 +127,13 @@ lookup_from parts ok plant laws tree other limits counts forms steps sides ep el
     subst (λ s. IsLookup limits plant.p forms s sides) (sym steps_are)
     (lookup plant laws tree ok_here limits limits_are forms sides of_laws (subst (λ l. All (AreInputForms l plant.p) forms) same bounded) (subst (λ t. AreNoSides t sides) (eo ∙ sym et) sides_are))
 
-pub shared_from : (parts : Parts) → IsController parts.plant parts.laws parts.tree → (plant : Plant) (laws : List LawOfSet) (tree other : List Node) (limits counts : List ℕ) (forms : List (List IntAffine)) (rows : List RowInt) (steps : List Step) (sides : List ℕ)
-    → plant ≡ parts.plant → laws ≡ parts.laws → tree ≡ parts.tree → other ≡ parts.tree → limits ≡ limits_of plant → counts ≡ limits → AreLawForms plant.p laws forms → All (AreInputForms counts plant.p) forms → AreStepsOf tree rows steps → AreNoSides other sides
-    → IsShared limits plant.p forms rows steps sides
-shared_from parts ok plant laws tree other limits counts forms rows steps sides ep el et eo limits_are same of_laws bounded steps_are sides_are = record {
-  lookup = lookup_from parts ok plant laws tree other limits counts forms (actions_at rows steps) sides ep el et eo limits_are same of_laws bounded steps_are.actions_are sides_are;
+pub shared_from : (parts : Parts) → IsController parts.plant parts.laws parts.tree → (plant : Plant) (laws : List LawOfSet) (tree other : List Node) (limits counts : List ℕ) (forms : List IntAffine) (places : List (List ℕ)) (rows : List RowInt) (steps : List Step) (sides : List ℕ)
+    → plant ≡ parts.plant → laws ≡ parts.laws → tree ≡ parts.tree → other ≡ parts.tree → limits ≡ limits_of plant → counts ≡ limits → AreLawPlaces counts plant.p laws forms places → AreStepsOf tree rows steps → AreNoSides other sides
+    → IsShared limits plant.p forms places rows steps sides
+shared_from parts ok plant laws tree other limits counts forms places rows steps sides ep el et eo limits_are same laws_are steps_are sides_are = record {
+  lookup = lookup_from parts ok plant laws tree other limits counts (all_forms_at forms places) (actions_at rows steps) sides ep el et eo limits_are same laws_are.forms_are laws_are.bounded steps_are.actions_are sides_are;
+  forms_named = laws_are.below;
+  forms_different = laws_are.different;
   rows_named = steps_are.named;
   rows_different = steps_are.different;
 }

@@ -8,6 +8,8 @@ pub mod SideLemmas
 pub mod LeafLemmas
 pub mod TableLemmas
 pub mod SharedLemmas
+pub mod SharedFormLemmas
+pub mod ReadLemmas
 pub mod ReplyLemmas
 pub mod AnswerLemmas
 pub mod TestLemmas

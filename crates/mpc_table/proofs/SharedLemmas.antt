@@ -2,7 +2,7 @@
 use Rattle.std.proofs.Common.{◌≡◌, ℕ, ◌+◌, ◌<◌, ◌≤◌, pos, List, [], ◌∷◌, ◌++◌, length, get_or, take, take_all, Some, refl, sym, ◌∙◌, ap, subst, arith}
 use Rattle.std.specs.Prelude.{All, slice_get}
 use Rattle.std.proofs.lemmas.List.{map-append, length-map, length-append, get_or-map, get_or_append_left, get_or_default}
-use Rattle.std.proofs.lemmas.List.Elements.{All-append, All-cons, All-nil, All-head, All-tail, All-weaker}
+use Rattle.std.proofs.lemmas.List.Elements.{All-append, All-cons, All-nil, All-weaker}
 use Rattle.mpc_linear.specs.declared.integers.RowInt.{RowInt}
 use Rattle.mpc_rows.specs.declared.trees.Node.{Node}
 use Rattle.mpc_table.specs.declared.places.Places.{Places}
@@ -11,6 +11,7 @@ use Rattle.mpc_table.specs.declared.steps.Step.TheVariants.{Branch, Apply, Stop}
 use Rattle.mpc_table.specs.Places.{ArePlaces}
 use Rattle.mpc_table.specs.Steps.{branch, step_of, steps_of, IsLastAt}
 use Rattle.mpc_table.specs.SharedSteps.{row_line, row_at, action_at, actions_at, NamesRow, IsStepFor, AreStepsTo, AreStepsOf}
+use Rattle.mpc_table.proofs.ElementLemmas.{same_map}
 use Rattle.mpc_table.proofs.WalkLemmas.{read_at, last_read}
 use Rattle.mpc_table.proofs.TableLemmas.{steps_next}
 
@@ -30,8 +31,7 @@ action_kept rows behind (Apply law) h = refl
 action_kept rows behind Stop h = refl
 
 actions_kept : (rows behind : List RowInt) (steps : List Step) → All (NamesRow (length rows)) steps → actions_at (rows ++ behind) steps ≡ actions_at rows steps
-actions_kept rows behind [] h = refl
-actions_kept rows behind (step ∷ steps) h = λ i. action_kept rows behind step (All-head (NamesRow (length rows)) step steps h) i ∷ actions_kept rows behind steps (All-tail (NamesRow (length rows)) step steps h) i
+actions_kept rows behind steps named = same_map (NamesRow (length rows)) (action_at (rows ++ behind)) (action_at rows) (action_kept rows behind) steps named
 
 names_more : (few many : ℕ) → few ≤ many → (step : Step) → NamesRow few step → NamesRow many step
 names_more few many le (Branch place) h = omega arith

@@ -4,6 +4,7 @@ pub mod Steps
 pub mod SharedSteps
 pub mod OpenSplits
 pub mod Lookup
+pub mod SharedForms
 pub mod SharedLookup
 pub mod TableLaws
 pub mod TableReplies

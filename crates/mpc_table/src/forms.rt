@@ -6,9 +6,11 @@ ghost use Rattle.mpc_frac.specs.Text.{text_of};
 ghost use Rattle.mpc_space.specs.Matrix.{height};
 ghost use Rattle.mpc_controller.specs.Bounds.{FormFits, InputsFit, LawFits};
 ghost use Rattle.mpc_controller.specs.Parts.{limits_of, IsLawFor};
-ghost use Rattle.mpc_table.specs.Forms.{IsBounded, IsFormOf, AreFormsOf, affine_values};
-ghost use Rattle.mpc_table.specs.Lookup.{AreInputForms, AreLawForms};
+ghost use Rattle.mpc_table.specs.Places.{ArePlaces, IsKept};
+ghost use Rattle.mpc_table.specs.Forms.{IsBounded, IsFormOf, affine_values};
+ghost use Rattle.mpc_table.specs.SharedForms.{form_line, forms_at, AreBelow, AreFormPlaces, AreLawPlaces};
 
+use crate::places::{Places, line_of};
 use crate::values::value_at;
 use mpc_frac::{Frac, NoMemory};
 use mpc_linear::{IntAffine, LinearError, Vector, common};
@@ -17,40 +19,39 @@ use mpc_rows::{Law, LawTable};
 use std::alloc::Global;
 use std::marker::Model;
 
-/// A list of affine forms.
+/// The places of a law's forms.
 #[derive(Drop)]
-pub struct Forms {
-    items: Vec<IntAffine>,
+pub struct FormPlaces {
+    items: Vec<usize>,
 }
 
-impl Model for Forms {
-    ghost use Rattle.std.specs.Prelude.{List};
-    ghost use Rattle.mpc_linear.specs.declared.integers.IntAffine.{IntAffine};
+impl Model for FormPlaces {
+    ghost use Rattle.std.specs.Prelude.{ℕ, List};
 
-    ghost Value = { List IntAffine };
+    ghost Value = { List ℕ };
 
     ghost view = { λ v. v.items.items };
 }
 
-impl Forms {
+impl FormPlaces {
     /// The empty list, which takes no memory.
     fn new(alloc: Global) -> Self
         ensures { result ≡ [] }
     {
-        Forms {
+        FormPlaces {
             items: Vec::new(alloc),
         }
     }
 
-    /// The forms, in their order.
-    pub fn as_slice(&self) -> &[IntAffine]
+    /// The places, in the order of the inputs.
+    pub fn as_slice(&self) -> &[usize]
         ensures { result.now ≡ self.now }
     {
         self.items.as_slice()
     }
 
-    /// Puts one form behind the others. Without memory the list stays as it was.
-    fn push(&mut self, item: IntAffine) -> Result<(), NoMemory>
+    /// Puts one place behind the others. Without memory the list stays as it was.
+    fn push(&mut self, item: usize) -> Result<(), NoMemory>
         ensures ok { OnOk result (self.new ≡ self.old ++ item ∷ []) }
         ensures err { OnErr result (self.new ≡ self.old) }
     {
@@ -59,6 +60,13 @@ impl Forms {
         }
         Ok(())
     }
+}
+
+/// The forms of laws' first moves, and for each law the places of its forms: equal forms are kept once.
+#[derive(Drop)]
+pub struct LawForms {
+    pub forms: Vec<IntAffine>,
+    pub laws: Vec<FormPlaces>,
 }
 
 /// The vector of these numbers.
@@ -87,21 +95,49 @@ fn whole_form(alloc: Global, row: &[Frac], counts: &[u64]) -> Result<IntAffine, 
     }
 }
 
-/// The forms of the law's first rows.
-fn forms_of(alloc: Global, law: &Law, inputs: u32, counts: &[u64]) -> Result<Forms, NoMemory>
+/// The place of the form among the forms, behind which it is put where it is new.
+fn keep_form(
+    alloc: Global,
+    form: IntAffine,
+    forms: &mut Vec<IntAffine>,
+    lines: &mut Places,
+) -> Result<usize, NoMemory>
+    requires { ArePlaces lines.old (map form_line forms.old.items) }
+    ensures { IfOk result (IsKept form_line form forms.old.items forms.new.items lines.new) }
+{
+    let line = line_of(alloc, &form.den, form.k.as_slice())?;
+    let place = lines.place(line)?;
+    if place < forms.len() {
+        return Ok(place);
+    }
+    forms.push(form)?;
+    Ok(place)
+}
+
+/// The places of the forms of the law's first rows, which are kept with the other forms.
+fn forms_of(
+    alloc: Global,
+    law: &Law,
+    inputs: u32,
+    counts: &[u64],
+    forms: &mut Vec<IntAffine>,
+    lines: &mut Places,
+) -> Result<FormPlaces, NoMemory>
     requires inputs { inputs ≤ height law.now.moves }
     requires columns { law.now.moves.columns ≡ length counts.now + 1 }
     requires fits { InputsFit counts.now law.now inputs }
-    ensures forms { IfOk result (AreFormsOf (take inputs law.now.moves.rows)) }
-    ensures bounded { IfOk result (AreInputForms counts.now inputs) }
+    requires kept { ArePlaces lines.old (map form_line forms.old.items) }
+    ensures { IfOk result (AreFormPlaces counts.now (take inputs law.now.moves.rows) inputs
+        forms.old.items forms.new.items lines.new) }
 {
     prove!(law.moves.cols() as usize == counts.len() + 1);
-    let mut forms = Forms::new(alloc);
+    let mut places = FormPlaces::new(alloc);
     for i in 0..inputs {
         let form = whole_form(alloc, law.moves.row(i), counts)?;
-        forms.push(form)?;
+        let place = keep_form(alloc, form, forms, lines)?;
+        places.push(place)?;
     }
-    Ok(forms)
+    Ok(places)
 }
 
 /// The forms of each law's first move.
@@ -110,19 +146,20 @@ pub fn law_forms(
     plant: &Plant,
     laws: &LawTable,
     counts: &[u64],
-) -> Result<Vec<Forms>, NoMemory>
+) -> Result<LawForms, NoMemory>
     requires counts { counts.now ≡ limits_of plant.now }
     requires shapes { All (IsLawFor plant.now) laws.now }
     requires fits { All (LawFits plant.now) laws.now }
-    ensures forms { IfOk result (λ forms. AreLawForms plant.now.p laws.now forms.items) }
-    ensures bounded { IfOk result (λ forms. All (AreInputForms counts.now plant.now.p) forms.items) }
+    ensures { IfOk result (λ all. AreLawPlaces counts.now plant.now.p laws.now all.forms.items all.laws.items) }
 {
+    let mut forms = Vec::new(alloc);
+    let mut lines = Places::new(alloc);
     let mut all = Vec::new(alloc);
     for j in 0..laws.len() {
-        let forms = forms_of(alloc, laws.at(j), plant.p, counts)?;
-        all.push(forms).map_err(|_| NoMemory)?;
+        let places = forms_of(alloc, laws.at(j), plant.p, counts, &mut forms, &mut lines)?;
+        all.push(places).map_err(|_| NoMemory)?;
     }
-    Ok(all)
+    Ok(LawForms { forms, laws: all })
 }
 
 /// Appends the fraction's text, behind a blank unless it is the first. Without memory `out` stays as it
@@ -144,17 +181,24 @@ fn write_next(value: &Frac, first: bool, out: &mut Vec<u8>) -> Result<(), NoMemo
     Ok(())
 }
 
-/// Appends the values of the forms at the counts, with one blank between two. Without memory `out`
-/// stays as it was.
-pub fn write_values(forms: &[IntAffine], counts: &[u64], out: &mut Vec<u8>) -> Result<(), NoMemory>
-    requires { All (IsBounded counts.now) forms.now }
+/// Appends the values of the forms at these places at the counts, with one blank between two. Without
+/// memory `out` stays as it was.
+pub fn write_values(
+    forms: &[IntAffine],
+    places: &[usize],
+    counts: &[u64],
+    out: &mut Vec<u8>,
+) -> Result<(), NoMemory>
+    requires below { AreBelow (length forms.now) places.now }
+    requires bounded { All (IsBounded counts.now) (forms_at forms.now places.now) }
     ensures ok { OnOk result (out.new.items ≡ out.old.items
-        ++ join_with_byte 32 (map text_of (affine_values forms.now counts.now))) }
+        ++ join_with_byte 32 (map text_of (affine_values (forms_at forms.now places.now) counts.now))) }
     ensures err { OnErr result (out.new.items ≡ out.old.items) }
 {
     let start = out.len();
-    for i in 0..forms.len() {
-        let Ok(()) = write_next(&value_at(&forms[i], counts), i == 0, out) else {
+    for i in 0..places.len() {
+        let form = &forms[places[i]];
+        let Ok(()) = write_next(&value_at(form, counts), i == 0, out) else {
             out.truncate(start);
             return Err(NoMemory);
         };

@@ -12,7 +12,7 @@ ghost use Rattle.mpc_table.specs.Forms.{AreUpTo};
 ghost use Rattle.mpc_table.specs.Lookup.{IsTableOf};
 ghost use Rattle.mpc_table.specs.TableReplies.{IsReply, IsWritable, AddsAnswer};
 
-use crate::forms::{Forms, law_forms, write_values};
+use crate::forms::{FormPlaces, LawForms, law_forms, write_values};
 use crate::replies::Reply;
 use crate::sides::no_sides;
 use crate::steps::{Step, Steps, all_steps, leaf_place};
@@ -20,19 +20,20 @@ use crate::values::value_at;
 use itoa::Buffer;
 use mpc_controller::{Controller, limits};
 use mpc_frac::{Frac, NoMemory};
-use mpc_linear::RowInt;
+use mpc_linear::{IntAffine, RowInt};
 use mpc_rows::Counts;
 use std::alloc::Global;
 use std::marker::Model;
 
 /// A controller without its certificates, laid out for replies: the first move of each law over common
-/// denominators, and for each split of the tree the place of its no side. Equal rows of splits are kept
-/// once, and the steps name them by their places.
+/// denominators, and for each split of the tree the place of its no side. Equal forms of moves and equal
+/// rows of splits are kept once, and the laws and the steps name them by their places.
 #[derive(Drop)]
 pub struct Table {
     limits: Counts,
     inputs: u32,
-    laws: Vec<Forms>,
+    forms: Vec<IntAffine>,
+    laws: Vec<FormPlaces>,
     rows: Vec<RowInt>,
     steps: Vec<Step>,
     sides: Vec<usize>,
@@ -44,9 +45,9 @@ impl Model for Table {
 
     ghost Value = { Lookup };
 
-    ghost view = { λ t. lookup_of t.limits t.inputs t.laws.items t.rows.items t.steps.items t.sides.items };
+    ghost view = { λ t. lookup_of t.limits t.inputs t.forms.items t.laws.items t.rows.items t.steps.items t.sides.items };
 
-    ghost invariant = { λ t. IsShared t.limits t.inputs t.laws.items t.rows.items t.steps.items t.sides.items };
+    ghost invariant = { λ t. IsShared t.limits t.inputs t.forms.items t.laws.items t.rows.items t.steps.items t.sides.items };
 }
 
 /// The number, from 1, of the first count above its limit.
@@ -94,12 +95,18 @@ impl Table {
     {
         let plant = controller.plant();
         let limits = limits(alloc, plant)?;
-        let laws = law_forms(alloc, plant, controller.laws(), limits.as_slice())?;
+        let LawForms { forms, laws } = law_forms(
+            alloc,
+            plant,
+            controller.laws(),
+            limits.as_slice(),
+        )?;
         let Steps { rows, steps } = all_steps(alloc, controller.tree())?;
         let sides = no_sides(alloc, controller.tree())?;
         Ok(Table {
             limits,
             inputs: plant.p,
+            forms,
             laws,
             rows,
             steps,
@@ -142,8 +149,8 @@ impl Table {
             → IsLawNumbered parts.laws law of_set
             → result ≡ dot (first_move_form of_set (input - 1)) (extended (point_of counts.now)) }
     {
-        let forms = self.laws[law as usize - 1].as_slice();
-        value_at(&forms[input as usize - 1], counts)
+        let places = self.laws[law as usize - 1].as_slice();
+        value_at(&self.forms[places[input as usize - 1]], counts)
     }
 
     /// Appends the text of a reply to counts: the moves with one blank between two, `infeasible`, or
@@ -162,7 +169,8 @@ impl Table {
     {
         match *reply {
             Reply::Move { law, .. } => {
-                write_values(self.laws[law as usize - 1].as_slice(), counts, out)
+                let places = self.laws[law as usize - 1].as_slice();
+                write_values(self.forms.as_slice(), places, counts, out)
             }
             Reply::Infeasible { .. } => write_word(b"infeasible", out),
             Reply::Outside { coordinate } => write_outside(coordinate, out),

@@ -1,10 +1,16 @@
-use Rattle.std.proofs.Common.{arith}
-use Rattle.mpc_table.proofs.FormLemmas.{forms_next}
-use Rattle.mpc_table.proofs.TableLemmas.{input_forms_more}
+use Rattle.std.proofs.Common.{sym, subst, take, arith}
+use Rattle.mpc_table.specs.SharedForms.{AreFormPlaces}
+use Rattle.mpc_table.proofs.SharedFormLemmas.{forms_none, form_places_next}
 use Rattle.mpc_table.proofs.forms.forms_of.Goals as goal
 
+pub loop-i-init : goal.loop-i-init
+loop-i-init c =
+    subst (AreFormPlaces c.args.counts.now (take 0 c.args.law.now.moves.rows) 0 c.args.forms.now.items c.args.forms.now.items c.args.lines.now) (sym c.new-places.ensures)
+    (forms_none c.args.counts.now c.args.law.now.moves.rows c.args.forms.now.items c.args.lines.now c.requires.kept)
+
+pub keep_form-requires : goal.keep_form-requires
+keep_form-requires c = c.loop-i.invariant.lines_are
+
 pub loop-i-preserved : goal.loop-i-preserved
-loop-i-preserved c = record {
-  forms = forms_next c.args.law.now.moves.rows c.loop-i.i _ _ _ _ (omega arith) c.row.ensures c.in_ok-push.ensures.ok c.loop-i.invariant.forms c.in_ok-form.ensures.value;
-  bounded = input_forms_more c.args.counts.now c.loop-i.i _ _ _ c.in_ok-push.ensures.ok c.loop-i.invariant.bounded c.in_ok-form.ensures.bounded;
-}
+loop-i-preserved c =
+    form_places_next c.args.counts.now c.args.law.now.moves.rows c.loop-i.i _ _ _ _ _ _ _ _ _ _ (omega arith) c.row.ensures c.in_ok-form.ensures.value c.in_ok-form.ensures.bounded c.in_ok-push.ensures.ok c.loop-i.invariant c.in_ok-place.ensures

@@ -51,7 +51,7 @@ returns-in-Apply-clause-reply c = λ parts is_table.
     (subst (λ steps. WalksTo (actions_at c.as_slice-2.result.now steps) t.sides.items c.args.counts.now c.leaf_place-place.result) c.as_slice-3.ensures.value
     (subst (λ sides. WalksTo (actions_at c.as_slice-2.result.now c.as_slice-3.result.now) sides c.args.counts.now c.leaf_place-place.result) c.as_slice-4.ensures.value c.leaf_place-place.ensures)) in
     let inside : c.leaf_place-place.result < length t.steps.items = subst (λ n. c.leaf_place-place.result < n) (length-map t.steps.items (action_at t.rows.items)) walk.inside in
-    move_reply (lookup_of t.limits t.inputs t.laws.items t.rows.items t.steps.items t.sides.items) c.args.counts.now c.leaf_place-place.result walk none (action_at t.rows.items c.index.result.now) (action_read t.rows.items t.steps.items c.leaf_place-place.result c.index.result.now inside c.index.ensures) c.in-Apply.law (ap (action_at t.rows.items) c.in-Apply.is) parts
+    move_reply (lookup_of t.limits t.inputs t.forms.items t.laws.items t.rows.items t.steps.items t.sides.items) c.args.counts.now c.leaf_place-place.result walk none (action_at t.rows.items c.index.result.now) (action_read t.rows.items t.steps.items c.leaf_place-place.result c.index.result.now inside c.index.ensures) c.in-Apply.law (ap (action_at t.rows.items) c.in-Apply.is) parts
     (subst (IsTableOf parts) (sym c.self.view_is) is_table)
 
 pub returns-in-Apply-clause-writable : goal.returns-in-Apply-clause-writable
@@ -65,7 +65,7 @@ returns-in-Apply-clause-writable c =
     (subst (λ sides. WalksTo (actions_at c.as_slice-2.result.now c.as_slice-3.result.now) sides c.args.counts.now c.leaf_place-place.result) c.as_slice-4.ensures.value c.leaf_place-place.ensures)) in
     let inside : c.leaf_place-place.result < length t.steps.items = subst (λ n. c.leaf_place-place.result < n) (length-map t.steps.items (action_at t.rows.items)) walk.inside in
     subst (λ (x : Lookup). CanMove x c.args.counts.now c.in-Apply.law) c.self.view_is
-    (can_move (lookup_of t.limits t.inputs t.laws.items t.rows.items t.steps.items t.sides.items) c.args.counts.now c.leaf_place-place.result walk none (action_at t.rows.items c.index.result.now) (action_read t.rows.items t.steps.items c.leaf_place-place.result c.index.result.now inside c.index.ensures) c.in-Apply.law (ap (action_at t.rows.items) c.in-Apply.is) c.self.invariant.lookup.numbers size)
+    (can_move (lookup_of t.limits t.inputs t.forms.items t.laws.items t.rows.items t.steps.items t.sides.items) c.args.counts.now c.leaf_place-place.result walk none (action_at t.rows.items c.index.result.now) (action_read t.rows.items t.steps.items c.leaf_place-place.result c.index.result.now inside c.index.ensures) c.in-Apply.law (ap (action_at t.rows.items) c.in-Apply.is) c.self.invariant.lookup.numbers size)
 
 pub returns-in-Stop-clause-reply : goal.returns-in-Stop-clause-reply
 returns-in-Stop-clause-reply c = λ parts is_table.
@@ -76,5 +76,5 @@ returns-in-Stop-clause-reply c = λ parts is_table.
     (subst (λ steps. WalksTo (actions_at c.as_slice-2.result.now steps) t.sides.items c.args.counts.now c.leaf_place-place.result) c.as_slice-3.ensures.value
     (subst (λ sides. WalksTo (actions_at c.as_slice-2.result.now c.as_slice-3.result.now) sides c.args.counts.now c.leaf_place-place.result) c.as_slice-4.ensures.value c.leaf_place-place.ensures)) in
     let inside : c.leaf_place-place.result < length t.steps.items = subst (λ n. c.leaf_place-place.result < n) (length-map t.steps.items (action_at t.rows.items)) walk.inside in
-    infeasible_reply (lookup_of t.limits t.inputs t.laws.items t.rows.items t.steps.items t.sides.items) c.args.counts.now c.leaf_place-place.result walk none (action_at t.rows.items c.index.result.now) (action_read t.rows.items t.steps.items c.leaf_place-place.result c.index.result.now inside c.index.ensures) (ap (action_at t.rows.items) c.in-Stop.is) parts
+    infeasible_reply (lookup_of t.limits t.inputs t.forms.items t.laws.items t.rows.items t.steps.items t.sides.items) c.args.counts.now c.leaf_place-place.result walk none (action_at t.rows.items c.index.result.now) (action_read t.rows.items t.steps.items c.leaf_place-place.result c.index.result.now inside c.index.ensures) (ap (action_at t.rows.items) c.in-Stop.is) parts
     (subst (IsTableOf parts) (sym c.self.view_is) is_table)
