@@ -8,6 +8,8 @@ mod counts;
 mod input;
 mod laws;
 mod reply_lines;
+#[cfg(test)]
+mod tests;
 
 pub use input::{Sections, cut};
 pub use laws::{one_text, right_replies};
