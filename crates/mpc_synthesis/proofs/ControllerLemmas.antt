@@ -1,5 +1,5 @@
 -- From the parts of a plant's controller to the controller.
-use Rattle.std.proofs.Common.{◌≡◌, List, refl, sym, subst}
+use Rattle.std.proofs.Common.{◌≡◌, ℕ, List, refl, sym, ◌∙◌, subst}
 use Rattle.std.specs.Prelude.{All}
 use Rattle.std.proofs.lemmas.List.Elements.{All-contains}
 use Rattle.mpc_space.specs.Matrix.{height}
@@ -7,10 +7,8 @@ use Rattle.mpc_plant.specs.declared.plants.Plant.{Plant}
 use Rattle.mpc_rows.specs.declared.programs.Qp.{Qp}
 use Rattle.mpc_rows.specs.declared.laws.Law.{Law}
 use Rattle.mpc_rows.specs.declared.trees.Node.{Node}
-use Rattle.mpc_rows.specs.declared.places.Place.{Place}
 use Rattle.mpc_rows.specs.Candidates.{IsTable}
 use Rattle.mpc_rows.specs.SetRuns.{LawRowsFit}
-use Rattle.mpc_condense.specs.Condensed.{IsCondensed}
 use Rattle.mpc_tree.specs.declared.errors.TreeError.{TreeError}
 use Rattle.mpc_tree.specs.declared.errors.TreeError.TheVariants.{Wide as WideTree, NoMemory as NoTreeMemory}
 use Rattle.mpc_tree.specs.Causes.{IfWide}
@@ -18,15 +16,30 @@ use Rattle.mpc_tree.specs.WideRuns.{IsFirstWide}
 use Rattle.mpc_tree.specs.Trees.{whole_box}
 use Rattle.mpc_tree.specs.Certified.{IsCertified}
 use Rattle.mpc_controller.specs.Parts.{Parts, HaveShapes}
-use Rattle.mpc_controller.specs.Bounds.{KeepBounds, IsController as IsControllerOf}
+use Rattle.mpc_controller.specs.Bounds.{KeepBounds}
 use Rattle.mpc_answers.specs.Replies.{PartsHaveShapes}
 use Rattle.mpc_check.specs.Acceptance.{Accepts, IsProgramOf}
 use Rattle.mpc_compiled.specs.Compiled.{IsCompiled}
-use Rattle.mpc_synthesis.specs.Programs.{HasProgram, HasVerdicts}
+use Rattle.mpc_claim.specs.Board.{Board}
+use Rattle.mpc_synthesis.specs.Programs.{HasProgram, HasVerdicts, IsDecidedBy}
 use Rattle.mpc_synthesis.specs.Controllers.{HasTree, IsSealed, IsController}
 use Rattle.mpc_synthesis.specs.Refusals.{controller, ExplainsSynthesisError, ExplainsCheckError, refusal_of, wide_tree, wide_check}
 use Rattle.mpc_synthesis.specs.declared.errors.SynthesisError.{SynthesisError}
 use Rattle.mpc_synthesis.specs.declared.errors.SynthesisError.TheVariants.{NotDefinite, TooWide, NoMemory}
+
+-- ---- the table of a decided program
+pub record IsTabled (plant : Plant) (qp : Qp) (laws : List Law) : Type 0 where
+  pub verdicts : HasVerdicts plant qp
+  pub table : IsTable qp laws
+  pub fit : All (λ law. LawRowsFit qp law (height qp.g)) laws
+
+pub tabled : (plant : Plant) (qp : Qp) (laws : List Law) (board : Board) → ((workers : ℕ) × IsDecidedBy workers plant board) → qp ≡ board.program → IsTable board.program laws → All (λ law. LawRowsFit board.program law (height board.program.g)) laws
+    → IsTabled plant qp laws
+tabled plant qp laws board by e table fit = record {
+  verdicts = subst (HasVerdicts plant) (sym (e ∙ by.1.done.program)) by.1.verdicts;
+  table = subst (λ p. IsTable p laws) (sym e) table;
+  fit = subst (λ p. All (λ law. LawRowsFit p law (height p.g)) laws) (sym e) fit;
+}
 
 pub shapes : PartsHaveShapes → (qp : Qp) (plant : Plant) (laws : List Law) (nodes : List Node) → HasProgram plant qp → IsTable qp laws → All (λ law. LawRowsFit qp law (height qp.g)) laws → IsCertified qp laws whole_box nodes
     → HaveShapes plant laws nodes

@@ -14,9 +14,9 @@ use Rattle.mpc_claim.specs.Board.{Board, event, tag_of, is_wide}
 use Rattle.mpc_claim.specs.History.{IsLegal, IsFinished, EndsWide}
 use Rattle.mpc_claim.specs.HistoryLaws.{LegalLaws}
 use Rattle.mpc_claim.specs.declared.events.Phase.TheVariants.{Finished, Stopped}
-use Rattle.mpc_workers.specs.Alone.{IsDoneAlone}
 use Rattle.mpc_synthesis.specs.declared.errors.SynthesisError.{SynthesisError}
 use Rattle.mpc_synthesis.specs.declared.errors.SynthesisError.TheVariants.{NotDefinite, TooWide, NoMemory}
+use Rattle.mpc_synthesis.specs.Crews.{HasEnded}
 use Rattle.mpc_synthesis.specs.Programs.{HasProgram, PivotsPass, IsDecided, HasVerdicts, IsDecidedBy}
 use Rattle.mpc_synthesis.specs.Refusals.{Extent, ExplainsSynthesisError, ExplainsSetError, wide_set}
 
@@ -35,22 +35,22 @@ decided_of laws qp history legal finished s candidate =
     let right = laws.right_tags qp history settled.done.worker s settled.tag legal (subst (Contains history) d.2 (Contains-get_or history d.0 done d.1)) in
     (right.verdict, right.right, not_wide_by right.verdict settled.tag right.tagged settled.not_wide)
 
--- ---- the registry of one worker
+-- ---- the registry of all workers
 stopped_not_finished : (board : Board) → board.phase ≡ Stopped → board.phase ≡ Finished → ⊥
 stopped_not_finished board e f = cc
 
-pub finished_by : (qp : Qp) (board : Board) → IsDoneAlone qp board → board.phase ≡ Finished → IsFinished qp board.history
-finished_by qp board done phase = by done.ended
+pub finished_by : (workers : ℕ) (qp : Qp) (board : Board) → HasEnded workers qp board → board.phase ≡ Finished → IsFinished qp board.history
+finished_by workers qp board done phase = by done.ended
   where
     by : ((board.phase ≡ Finished) × IsFinished qp board.history) ⊎ ((board.phase ≡ Stopped) × EndsWide qp board.history) → IsFinished qp board.history
     by (inl h) = h.1
     by (inr h) = absurd (stopped_not_finished board h.0 phase)
 
-pub verdicts_of : LegalLaws → (plant : Plant) (qp : Qp) (board : Board) → HasProgram plant qp → PivotsPass qp → IsDoneAlone qp board → board.phase ≡ Finished → HasVerdicts plant qp
-verdicts_of laws plant qp board program pivots done phase = record {
+pub verdicts_of : LegalLaws → (workers : ℕ) (plant : Plant) (qp : Qp) (board : Board) → HasProgram plant qp → PivotsPass qp → HasEnded workers qp board → board.phase ≡ Finished → HasVerdicts plant qp
+verdicts_of laws workers plant qp board program pivots done phase = record {
   has_program = program;
   pivots = pivots;
-  decided = decided_of laws qp board.history done.legal (finished_by qp board done phase);
+  decided = decided_of laws qp board.history done.legal (finished_by workers qp board done phase);
 }
 
 pub wide_set_of : (extent : Extent) (plant : Plant) (qp : Qp) (e : SynthesisError) → HasProgram plant qp → PivotsPass qp → ExplainsSetError qp e → ExplainsSynthesisError extent plant e
@@ -58,5 +58,5 @@ wide_set_of extent plant qp (NotDefinite pivot) program pivots h = absurd h
 wide_set_of extent plant qp (TooWide place) program pivots h = wide_set extent qp place program pivots h
 wide_set_of extent plant qp NoMemory program pivots h = tt
 
-pub decided_by : LegalLaws → (plant : Plant) (qp : Qp) (board : Board) → HasProgram plant qp → PivotsPass qp → IsDoneAlone qp board → board.phase ≡ Finished → IsDecidedBy plant board
-decided_by laws plant qp board program pivots done phase = record { qp = qp; verdicts = verdicts_of laws plant qp board program pivots done phase; done = done; finished = finished_by qp board done phase }
+pub decided_by : LegalLaws → (workers : ℕ) (plant : Plant) (qp : Qp) (board : Board) → HasProgram plant qp → PivotsPass qp → HasEnded workers qp board → board.phase ≡ Finished → IsDecidedBy workers plant board
+decided_by laws workers plant qp board program pivots done phase = record { qp = qp; verdicts = verdicts_of laws workers plant qp board program pivots done phase; done = done; phase = phase; finished = finished_by workers qp board done phase }

@@ -1,6 +1,7 @@
 pub mod Firsts
 pub mod FirstPivots
 pub mod DecidedLemmas
+pub mod CrewLemmas
 pub mod Given
 pub mod OneOutcome
 pub mod ControllerLemmas

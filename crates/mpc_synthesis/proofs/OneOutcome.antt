@@ -27,7 +27,7 @@ use Rattle.mpc_controller.specs.Bounds.{KeepBounds, IsFirstBroken}
 use Rattle.mpc_check.specs.Findings.{Finding, refused, too_wide as found_wide, not_definite as found_not_definite}
 use Rattle.mpc_check.specs.Acceptance.{Accepts, IsFound}
 use Rattle.mpc_synthesis.specs.Programs.{HasProgram, PivotsPass, IsDecided, HasVerdicts}
-use Rattle.mpc_synthesis.specs.Controllers.{HasTree, IsSealed, IsController, OneController}
+use Rattle.mpc_synthesis.specs.Controllers.{IsSealed, IsController, OneController}
 use Rattle.mpc_synthesis.specs.Refusals.{Extent, verdicts, controller, BuildsController, IsNotDefiniteAt, FirstWide, wide_program, wide_pivot, wide_set, wide_tree, wide_bound, wide_check}
 use Rattle.mpc_synthesis.specs.Outcomes.{Outcome, not_definite, too_wide, complete, IsComplete, IsOutcome, OneOutcome}
 use Rattle.mpc_synthesis.proofs.Given.{Given}

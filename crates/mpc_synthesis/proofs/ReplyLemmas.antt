@@ -2,10 +2,8 @@
 use Rattle.std.proofs.Common.{◌≡◌, ℕ, ◌-◌, ◌≤◌, inl, inr, List, length, sym, subst, arith, Some, slice_get}
 use Rattle.std.proofs.lemmas.Option.{slice_get_within, slice_get_cases, get_or_from_slice_get}
 use Rattle.mpc_exact.specs.Rational.{ℚ}
-use Rattle.mpc_plant.specs.declared.plants.Plant.{Plant}
 use Rattle.mpc_plant.specs.Reply.{Reply, move, infeasible, IsRight}
 use Rattle.mpc_plant.specs.Trajectory.{IsInBox}
-use Rattle.mpc_rows.specs.declared.programs.Qp.{Qp}
 use Rattle.mpc_rows.specs.declared.laws.Law.{Law as LawOfSet}
 use Rattle.mpc_rows.specs.declared.trees.Node.{Node}
 use Rattle.mpc_rows.specs.declared.trees.Node.TheVariants.{Split, Law, NoMove}
@@ -15,7 +13,7 @@ use Rattle.mpc_controller.specs.Walk.{EndsAt}
 use Rattle.mpc_controller.specs.OneLeaf.{EndsOnce, OneLeaf}
 use Rattle.mpc_controller.specs.Replies.{RepliesAt, by_law, by_no_law, first_move}
 use Rattle.mpc_check.specs.Acceptance.{AcceptedIsRight}
-use Rattle.mpc_synthesis.specs.Controllers.{IsController, ControllerIsRight, ControllerReplies}
+use Rattle.mpc_synthesis.specs.Controllers.{ControllerIsRight, ControllerReplies}
 
 pub controller_right : AcceptedIsRight → ControllerIsRight
 controller_right accepted plant qp parts t reply is box replies =

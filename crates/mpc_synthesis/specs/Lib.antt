@@ -1,3 +1,4 @@
+pub mod Crews
 pub mod Programs
 pub mod Controllers
 pub mod Refusals

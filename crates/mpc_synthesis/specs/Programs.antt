@@ -6,12 +6,13 @@ use Rattle.mpc_rows.specs.declared.programs.Qp.{Qp}
 use Rattle.mpc_rows.specs.declared.verdicts.Verdict.{Verdict}
 use Rattle.mpc_rows.specs.Candidates.{IsCandidate}
 use Rattle.mpc_rows.specs.Verdicts.{IsRight}
+use Rattle.mpc_claim.specs.declared.events.Phase.TheVariants.{Finished}
 use Rattle.mpc_claim.specs.Board.{Board, is_wide}
 use Rattle.mpc_claim.specs.History.{IsFinished}
-use Rattle.mpc_workers.specs.Alone.{IsDoneAlone}
 use Rattle.mpc_definite.specs.Pivots.{PassesBelow}
 use Rattle.mpc_condense.specs.Condensed.{IsCondensed}
 use Rattle.mpc_condense.specs.Causes.{AllFit}
+use Rattle.mpc_synthesis.specs.Crews.{HasEnded}
 
 -- the plant's program, and no number of condensing is too wide
 pub record HasProgram (plant : Plant) (qp : Qp) : Type 0 where
@@ -32,9 +33,10 @@ pub record HasVerdicts (plant : Plant) (qp : Qp) : Type 0 where
   pub pivots : PivotsPass qp
   pub decided : IsDecided qp
 
--- one worker has decided all candidates of the plant's program
-pub record IsDecidedBy (plant : Plant) (board : Board) : Type 0 where
+-- so many workers have decided all candidates of the plant's program
+pub record IsDecidedBy (workers : ℕ) (plant : Plant) (board : Board) : Type 0 where
   pub qp : Qp
   pub verdicts : HasVerdicts plant qp
-  pub done : IsDoneAlone qp board
+  pub done : HasEnded workers qp board
+  pub phase : board.phase ≡ Finished
   pub finished : IsFinished qp board.history

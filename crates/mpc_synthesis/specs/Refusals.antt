@@ -1,5 +1,5 @@
 -- Why a plant is refused: the first pivot that isn't positive, or the first place of which a number is too wide.
-use Rattle.std.specs.Prelude.{◌≡◌, ℕ, List}
+use Rattle.std.specs.Prelude.{ℕ, List}
 use Rattle.mpc_space.specs.Definite.{IsDefinite}
 use Rattle.mpc_space.specs.Matrix.{height, entry}
 use Rattle.mpc_plant.specs.declared.plants.Plant.{Plant}

@@ -7,9 +7,9 @@ use mpc_answers::one_table;
 use mpc_best::one_program;
 use mpc_check::{accepted_replies, one_finding};
 use mpc_condense::place_laws;
+use mpc_controller::{bound_laws, one_leaf};
 use mpc_cover::one_verdict;
 use mpc_definite::pivot_laws;
-use mpc_controller::{bound_laws, one_leaf};
 use mpc_sets::order_laws;
 use mpc_tree::one_tree;
 

@@ -8,8 +8,8 @@ mod laws;
 mod programs;
 mod verdicts;
 
-pub use controllers::controller;
+pub use controllers::{controller, controller_in_threads, controller_of};
 pub use errors::SynthesisError;
 pub use laws::{one_controller, one_outcome, right_controller};
 pub use programs::convex_program;
-pub use verdicts::{decide_all, decided};
+pub use verdicts::{decided, decided_in_threads};

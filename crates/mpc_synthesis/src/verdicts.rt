@@ -1,15 +1,15 @@
 //! The verdicts on all candidates of a program.
 
-ghost use Rattle.std.specs.Prelude.{◌≡◌, true, IfOk, IfErr, MatchOption};
+ghost use Rattle.std.specs.Prelude.{◌≡◌, ℕ, ◌≤◌, true, IfOk, IfErr, MatchOption};
 ghost use Rattle.mpc_space.specs.Definite.{IsDefinite};
 ghost use Rattle.mpc_rows.specs.declared.programs.Qp.{Qp};
 ghost use Rattle.mpc_rows.specs.declared.verdicts.Verdict.TheVariants.{Wide};
 ghost use Rattle.mpc_claim.specs.declared.events.Phase.TheVariants.{Finished};
 ghost use Rattle.mpc_claim.specs.Board.{is_wide};
 ghost use Rattle.mpc_claim.specs.Answers.{IsFirstBad};
-ghost use Rattle.mpc_workers.specs.Alone.{IsDoneAlone};
+ghost use Rattle.mpc_synthesis.specs.Crews.{HasEnded};
 ghost use Rattle.mpc_synthesis.specs.Programs.{IsDecidedBy};
-ghost use Rattle.mpc_synthesis.specs.Refusals.{verdicts, ExplainsSetError, ExplainsSynthesisError};
+ghost use Rattle.mpc_synthesis.specs.Refusals.{Extent, ExplainsSetError, ExplainsSynthesisError};
 
 use crate::errors::SynthesisError;
 use crate::programs::convex_program;
@@ -17,8 +17,10 @@ use mpc_claim::{Phase, Registry, legal_laws};
 use mpc_plant::Plant;
 use mpc_port::Gate;
 use mpc_rows::{Place, Qp, Verdict};
-use mpc_workers::enumerate_alone;
+use mpc_workers::{WorkError, enumerate, enumerate_alone};
 use std::alloc::Global;
+use std::sync::Wait;
+use std::thread::Threads;
 
 /// The place that a wide verdict names.
 fn place_of(verdict: &Verdict) -> Place
@@ -31,9 +33,9 @@ fn place_of(verdict: &Verdict) -> Place
     }
 }
 
-/// The first place that is too wide, where the registry's worker came to one.
+/// The first place that is too wide, where the registry's workers came to one.
 fn wide_place(registry: &Registry) -> Option<Place>
-    requires { (qp : Qp) × IsDoneAlone qp registry.now }
+    requires { (workers : ℕ) × (qp : Qp) × HasEnded workers qp registry.now }
     ensures { MatchOption result (registry.now.phase ≡ Finished)
         (λ place. IsFirstBad registry.now.program (Wide place)) }
 {
@@ -46,40 +48,96 @@ fn wide_place(registry: &Registry) -> Option<Place>
     }
 }
 
-/// The registry of a program's candidates, all decided by one worker.
-pub fn decide_all<G: Gate>(
-    alloc: Global,
-    program: &Qp,
-    gate: &G,
-) -> Result<Registry, SynthesisError>
-    requires { IsDefinite program.now.h.rows }
-    ensures done { IfOk result (IsDoneAlone program.now) }
-    ensures finished { IfOk result (λ registry. registry.phase ≡ Finished) }
-    ensures refused { IfErr result (ExplainsSetError program.now) }
+/// The registry at its end, where no candidate is too wide.
+fn all_decided(registry: Registry) -> Result<Registry, SynthesisError>
+    requires { (workers : ℕ) × (qp : Qp) × HasEnded workers qp registry }
+    ensures same { IfOk result (λ r. r ≡ registry) }
+    ensures finished { IfOk result (λ r. r.phase ≡ Finished) }
+    ensures refused { IfErr result (ExplainsSetError registry.program) }
 {
-    let Ok(registry) = enumerate_alone(alloc, program, gate) else {
-        return Err(SynthesisError::NoMemory);
-    };
     match wide_place(&registry) {
         Some(place) => Err(SynthesisError::TooWide(place)),
         None => Ok(registry),
     }
 }
 
-/// The registry of a plant's candidates, all decided by one worker.
+/// The registry of a program's candidates, all decided by one worker.
+fn decide_alone<G: Gate>(alloc: Global, program: &Qp, gate: &G) -> Result<Registry, SynthesisError>
+    requires { IsDefinite program.now.h.rows }
+    ensures done { IfOk result (HasEnded 1 program.now) }
+    ensures finished { IfOk result (λ registry. registry.phase ≡ Finished) }
+    ensures refused { IfErr result (ExplainsSetError program.now) }
+{
+    let Ok(registry) = enumerate_alone(alloc, program, gate) else {
+        return Err(SynthesisError::NoMemory);
+    };
+    all_decided(registry)
+}
+
+/// The registry of a program's candidates, all decided by two or more workers, each in a thread of its own.
+fn decide_together<T: Threads + Wait + Sync, G: Gate + Sync>(
+    rt: &T,
+    alloc: Global,
+    program: &Qp,
+    workers: u32,
+    gate: &G,
+) -> Result<Registry, SynthesisError>
+    requires definite { IsDefinite program.now.h.rows }
+    requires from_two { 2 ≤ workers }
+    requires to_last { workers ≤ 32 }
+    ensures done { IfOk result (HasEnded workers program.now) }
+    ensures finished { IfOk result (λ registry. registry.phase ≡ Finished) }
+    ensures refused { IfErr result (ExplainsSetError program.now) }
+{
+    match enumerate(rt, alloc, program, workers, gate) {
+        Ok(registry) => all_decided(registry),
+        Err(WorkError::NoMemory) => Err(SynthesisError::NoMemory),
+        Err(WorkError::BadWorkers) => unreachable!(),
+    }
+}
+
+/// The registry of a plant's candidates, all decided by one worker, who starts no thread and waits for nobody.
 ///
 /// `NotDefinite` names the first pivot that isn't positive, `TooWide` the first place of condensing, the pivots or the active sets with a
 /// number of more than 128 bits.
 pub fn decided<G: Gate>(alloc: Global, plant: &Plant, gate: &G) -> Result<Registry, SynthesisError>
-    ensures decided { IfOk result (IsDecidedBy plant.now) }
-    ensures refused { IfErr result (ExplainsSynthesisError verdicts plant.now) }
+    ensures decided { IfOk result (IsDecidedBy 1 plant.now) }
+    ensures refused { IfErr result (λ e. (extent : Extent) → ExplainsSynthesisError extent plant.now e) }
 {
     let program = match convex_program(alloc, plant) {
         Ok(program) => program,
         Err(error) => return Err(error),
     };
     legal_laws();
-    let registry = match decide_all(alloc, &program, gate) {
+    let registry = match decide_alone(alloc, &program, gate) {
+        Ok(registry) => registry,
+        Err(error) => return Err(error),
+    };
+    Ok(registry)
+}
+
+/// What [`decided`] gives, by so many workers: each in a thread of its own, where there are two or more.
+pub fn decided_in_threads<T: Threads + Wait + Sync, G: Gate + Sync>(
+    rt: &T,
+    alloc: Global,
+    plant: &Plant,
+    workers: u32,
+    gate: &G,
+) -> Result<Registry, SynthesisError>
+    requires from_one { 1 ≤ workers }
+    requires to_last { workers ≤ 32 }
+    ensures decided { IfOk result (IsDecidedBy workers plant.now) }
+    ensures refused { IfErr result (λ e. (extent : Extent) → ExplainsSynthesisError extent plant.now e) }
+{
+    if workers == 1 {
+        return decided(alloc, plant, gate);
+    }
+    let program = match convex_program(alloc, plant) {
+        Ok(program) => program,
+        Err(error) => return Err(error),
+    };
+    legal_laws();
+    let registry = match decide_together(rt, alloc, &program, workers, gate) {
         Ok(registry) => registry,
         Err(error) => return Err(error),
     };

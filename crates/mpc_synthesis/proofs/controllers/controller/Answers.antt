@@ -1,11 +1,5 @@
-use Rattle.mpc_synthesis.proofs.ControllerLemmas.{compiled_sealed, accepted_of, wide_check_of}
+use Rattle.mpc_synthesis.specs.Refusals.{controller}
 use Rattle.mpc_synthesis.proofs.controllers.controller.Goals as goal
 
-pub accept-requires : goal.accept-requires
-accept-requires g c = compiled_sealed c.args.plant c.in-Ok.parts c.in-Ok.ensures.parts
-
-pub returns-in-Ok-accept-clause-controller : goal.returns-in-Ok-accept-clause-controller
-returns-in-Ok-accept-clause-controller g c = accepted_of c.args.plant c.in-Ok.parts c.in-Ok.ensures.parts c.in-Ok-accept.ensures.accepted
-
-pub returns-in-Err-accept-clause-refused : goal.returns-in-Err-accept-clause-refused
-returns-in-Err-accept-clause-refused g c = wide_check_of c.args.plant c.in-Ok.parts c.in-Err-accept.error c.in-Ok.ensures.parts c.in-Err-accept.ensures.refused
+pub returns-in-Err-clause-refused : goal.returns-in-Err-clause-refused
+returns-in-Err-clause-refused g c = c.in-Err.ensures.refused controller
