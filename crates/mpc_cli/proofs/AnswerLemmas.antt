@@ -18,32 +18,29 @@ use Rattle.mpc_cli.specs.Commands.{Names, plant_text}
 use Rattle.mpc_cli.specs.Cut.{tail_of}
 use Rattle.mpc_cli.specs.ReplyLines.{AreReplies}
 use Rattle.mpc_cli.specs.PlantAnswers.{IsReplied, IsPlantAnswer}
-use Rattle.mpc_cli.specs.Answers.{input_limit, HasPlant, IsOutput, IsAnswer}
+use Rattle.mpc_cli.specs.Answers.{input_limit, IsTaken, HasPlant, IsOutput, IsAnswer}
+use Rattle.mpc_cli.specs.declared.requests.Request.{Request}
+use Rattle.mpc_cli.specs.declared.requests.Beginning.TheVariants.{Asked}
+use Rattle.mpc_cli.specs.Requests.{IsBegun}
 
 pub both : {T E : Type 0} (r : Result T E) (P Q : T → Type 0) → IfOk r P → IfOk r Q → IfOk r (λ x. P x × Q x)
 both (Ok x) P Q p q = (p, q)
 both (Err e) P Q p q = tt
 
--- the lines of counts of the input of `run`; the other commands have none
-abbrev pub CountsOf : Command → List ℕ → List ℕ → Type 0
-CountsOf Run input counts = counts ≡ tail_of input
-CountsOf Compile input counts = Unit {0}
-CountsOf Trace input counts = Unit {0}
+output_of : (c : Command) (input : List ℕ) (plant : Plant) (text : List ℕ) → ReadsAsPlant (plant_text c input) plant → IsReplied c plant (tail_of input) text → IsOutput c input text
+output_of Run input plant text read a = record { plant = plant; read = read; replies = a.output }
+output_of (Compile workers) input plant text read a = record { plant = plant; read = read; file = a.output }
+output_of (Trace workers) input plant text read a = record { plant = plant; read = read; traced = a.output }
 
-output_of : (c : Command) (input counts : List ℕ) (plant : Plant) (text : List ℕ) → ReadsAsPlant (plant_text c input) plant → CountsOf c input counts → IsReplied c plant counts text → IsOutput c input text
-output_of Run input counts plant text read tail a = record { plant = plant; read = read; replies = subst (λ t. AreReplies plant (lines t) text) tail a.output }
-output_of Compile input counts plant text read tail a = record { plant = plant; read = read; file = a.output }
-output_of Trace input counts plant text read tail a = record { plant = plant; read = read; traced = a.output }
-
-module _ (c : Command) (words : List (List ℕ)) (input counts : List ℕ) (plant : Plant) (named : Names c words) (short : length input ≤ input_limit) (read : ReadsAsPlant (plant_text c input) plant) (tail : CountsOf c input counts) where
+module _ (c : Command) (words : List (List ℕ)) (input : List ℕ) (plant : Plant) (taken : IsTaken c words input) (read : ReadsAsPlant (plant_text c input) plant) where
   given : HasPlant words input
-  given = record { command = c; taken = record { named = named; short = short }; plant = plant; read = read }
+  given = record { command = c; taken = taken; plant = plant; read = read }
 
-  pub answers : (status : Status) (text : List ℕ) → IsPlantAnswer c plant counts status text → IsAnswer words input status text
+  pub answers : (status : Status) (text : List ℕ) → IsPlantAnswer c plant (tail_of input) status text → IsAnswer words input status text
   unfolding given
   answers Done text a = record {
     due = record { given = given; complete = a.complete };
-    text_is = record { command = c; named = named; output_is = output_of c input counts plant text read tail a };
+    text_is = record { command = c; named = taken.named; output_is = output_of c input plant text read a };
   }
   answers (NotDefinite pivot) text a = record { due = record { given = given; not_definite = a.cause }; text_is = a.line }
   answers (TooWide place) text a = record { due = record { given = given; wide = a.cause }; text_is = a.line }
@@ -53,6 +50,11 @@ module _ (c : Command) (words : List (List ℕ)) (input counts : List ℕ) (plan
   answers WriteFault text a = absurd a
   answers TooLong text a = absurd a
   answers NoMemory text a = absurd a
+
+pub begun_answers : (request : Request) (status : Status) (text : List ℕ) → IsPlantAnswer request.command request.plant (tail_of request.input.items) status text
+    → (words : List (List ℕ)) (input : List ℕ) → IsBegun words input (Asked request) → IsAnswer words input status text
+begun_answers request status text a words input begun =
+    subst (λ (bytes : List ℕ). IsAnswer words bytes status text) begun.1 (answers request.command words request.input.items request.plant begun.0.taken begun.0.read status text a)
 
 pub bad_plant_answers : (c : Command) (input : List ℕ) (kind : PlantKind) (path : List ℕ) (status : Status) (text : List ℕ) → length input ≤ input_limit → IsFirstFault (plant_text c input) kind path
     → (status ≡ BadPlant kind path) × (text ≡ line_of (BadPlant kind path)) → (words : List (List ℕ)) → Names c words → IsAnswer words input status text

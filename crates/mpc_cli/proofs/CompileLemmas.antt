@@ -75,7 +75,7 @@ replied plant counts text out status parts is h e f =
     subst (λ s. IsPlantAnswer Run plant counts s out) (sym e) (subst (IsPlantAnswer Run plant counts Done) (sym f) (record { complete = (is.0, (parts, is.1)); output = h plant is.0 is.1 }))
 
 pub compiled : ControllerIsRight → ControllerReplies → OneController → (plant : Plant) (text out : List ℕ) (status : Status) (parts : Parts) → ((qp : Qp) × IsController plant qp parts) → text ≡ text_of parts → status ≡ Done → out ≡ text
-    → IsPlantAnswer Compile plant [] status out
-compiled right replies one plant text out status parts is written e f =
-    subst (λ s. IsPlantAnswer Compile plant [] s out) (sym e)
-    (subst (IsPlantAnswer Compile plant [] Done) (sym f) (record { complete = (is.0, (parts, is.1)); output = file_of right replies one plant is.0 parts is.1 text written }))
+    → (workers : ℕ) (counts : List ℕ) → IsPlantAnswer (Compile workers) plant counts status out
+compiled right replies one plant text out status parts is written e f workers counts =
+    subst (λ s. IsPlantAnswer (Compile workers) plant counts s out) (sym e)
+    (subst (IsPlantAnswer (Compile workers) plant counts Done) (sym f) (record { complete = (is.0, (parts, is.1)); output = file_of right replies one plant is.0 parts is.1 text written }))

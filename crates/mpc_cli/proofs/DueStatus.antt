@@ -1,5 +1,5 @@
 -- For given words and input one status is due.
-use Rattle.std.proofs.Common.{◌≡◌, ℕ, zero, suc, ◌+◌, ◌<◌, ◌≤◌, lit≤, inl, inr, List, [], length, get_or, refl, sym, ◌∙◌, ap, subst, arith}
+use Rattle.std.proofs.Common.{◌≡◌, ℕ, zero, suc, ◌<◌, ◌≤◌, inl, inr, List, length, refl, sym, ◌∙◌, ap, subst, arith}
 use Rattle.mpc_plant.specs.declared.faults.PlantKind.{PlantKind}
 use Rattle.mpc_plant.specs.declared.plants.Plant.{Plant}
 use Rattle.mpc_condense.specs.Condensed.{IsCondensed}
@@ -7,44 +7,14 @@ use Rattle.mpc_synthesis.specs.Refusals.{FirstWide}
 use Rattle.mpc_synthesis.specs.Outcomes.{Outcome, not_definite, too_wide, complete, IsOutcome, OneOutcome}
 use Rattle.mpc_plant.specs.WholePlant.{ReadsAsPlant, IsFirstFault}
 use Rattle.mpc_cli.specs.declared.commands.Command.{Command}
-use Rattle.mpc_cli.specs.declared.commands.Command.TheVariants.{Run, Compile, Trace}
 use Rattle.mpc_cli.specs.declared.status.Status.{Status}
 use Rattle.mpc_cli.specs.declared.status.Status.TheVariants.{Done, Usage, BadPlant, NotDefinite, TooWide, ReadFault, WriteFault, TooLong, NoMemory}
-use Rattle.mpc_cli.specs.Commands.{word_of, Names, IsCommand, plant_text}
+use Rattle.mpc_cli.specs.Commands.{Names, IsCommand, plant_text}
 use Rattle.mpc_cli.specs.Extents.{extent_of}
 use Rattle.mpc_cli.specs.Answers.{input_limit, HasPlant, NothingRefused, IsDue, OneStatus}
+use Rattle.mpc_cli.proofs.CommandLemmas.{one_command}
 use Rattle.mpc_cli.proofs.Firsts.{FailsFirst, one_first}
 use Rattle.mpc_cli.proofs.SamePlant.{same_plant}
-
--- ---- the words name one command
-abbrev first_word : List (List ℕ) → List ℕ
-first_word words = get_or words 0 []
-
-apart : (m n : ℕ) → m + 2 ≤ n → m ≡ n → ⊥
-apart m n l e = omega (arith, l, e)
-
-short : 3 + 2 ≤ 5
-short = lit≤ tt
-
-long : 5 + 2 ≤ 7
-long = lit≤ tt
-
-longer : 3 + 2 ≤ 7
-longer = lit≤ tt
-
-lengths : (words : List (List ℕ)) (c d : Command) → Names c words → Names d words → length (word_of c) ≡ length (word_of d)
-lengths words c d a b = ap length (ap first_word (sym a ∙ b))
-
-one_command : (words : List (List ℕ)) (c d : Command) → Names c words → Names d words → c ≡ d
-one_command words Run Run a b = refl
-one_command words Run Compile a b = absurd (apart (length (word_of Run)) (length (word_of Compile)) longer (lengths words Run Compile a b))
-one_command words Run Trace a b = absurd (apart (length (word_of Run)) (length (word_of Trace)) short (lengths words Run Trace a b))
-one_command words Compile Run a b = absurd (apart (length (word_of Run)) (length (word_of Compile)) longer (sym (lengths words Compile Run a b)))
-one_command words Compile Compile a b = refl
-one_command words Compile Trace a b = absurd (apart (length (word_of Trace)) (length (word_of Compile)) long (sym (lengths words Compile Trace a b)))
-one_command words Trace Run a b = absurd (apart (length (word_of Run)) (length (word_of Trace)) short (sym (lengths words Trace Run a b)))
-one_command words Trace Compile a b = absurd (apart (length (word_of Trace)) (length (word_of Compile)) long (lengths words Trace Compile a b))
-one_command words Trace Trace a b = refl
 
 -- ---- the tests in their order
 abbrev Stage : List (List ℕ) → List ℕ → ℕ → Type 0

@@ -4,8 +4,11 @@ pub mod LineLemmas
 pub mod CompileLemmas
 pub mod ReplyLemmas
 pub mod Firsts
+pub mod CommandLemmas
 pub mod DueStatus
 pub mod RunLemmas
+pub mod RequestLemmas
 pub mod AnswerLemmas
 pub mod SamePlant
+pub mod HistoryLemmas
 pub mod TraceLemmas

@@ -1,6 +1,6 @@
 -- What the top call answers, from the ends of its parts.
-use Rattle.std.proofs.Common.{◌≡◌, ℕ, ◌⊎◌, inl, inr, List, Option, Some, None, take, refl, subst}
-use Rattle.std.specs.Prelude.{IfSome}
+use Rattle.std.proofs.Common.{◌≡◌, ℕ, ◌⊎◌, inl, inr, List, Option, Some, None, take, refl, sym, subst}
+use Rattle.std.specs.Prelude.{Result, Ok, Err, IfOk, IfErr, IfSome}
 use Rattle.std.specs.Io.KnownBytes.{Appends, Keeps}
 use Rattle.mpc_port.specs.Faults.{Rose}
 use Rattle.mpc_port.specs.WriteError.{sent_before, ExplainsWriteError}
@@ -11,7 +11,10 @@ use Rattle.mpc_cli.specs.declared.status.Status.TheVariants.{Done, Usage, BadPla
 use Rattle.mpc_cli.specs.StatusText.{line_of}
 use Rattle.mpc_cli.specs.Commands.{IsCommand}
 use Rattle.mpc_cli.specs.Answers.{IsDue, IsAnswer, OneStatus, NothingRefused, Passage, Answers, TookPart, IsQuiet, RunAnswers}
-use Rattle.mpc_cli.specs.Outcomes.{IsSomeAnswer, Finishes, wrote_all, sink_failed, sink_full}
+use Rattle.mpc_cli.specs.declared.answer.Answer.{Answer}
+use Rattle.mpc_cli.specs.declared.requests.Halt.{Halt}
+use Rattle.mpc_cli.specs.declared.requests.Halt.TheVariants.{SourceFailed, OutOfMemory}
+use Rattle.mpc_cli.specs.Outcomes.{IsSomeAnswer, ExplainsHalt, Closes, Finishes, wrote_all, sink_failed, sink_full}
 use Rattle.mpc_cli.proofs.DueStatus.{due_usage, due_done}
 
 pub if_some : (o : Option (List ℕ)) (P Q : List ℕ → Type 0) → ((x : List ℕ) → P x → Q x) → IfSome o P → IfSome o Q
@@ -132,3 +135,11 @@ pub no_memory_ends : (status : Status) (text bytes : List ℕ) (taken taken_afte
     → Appends taken taken_after (take (sent_before e) bytes) → Finishes status text taken taken_after faults faults_after NoMemory
 no_memory_ends status text bytes taken taken_after faults faults_after e sent is same wrote =
     sink_full sent (subst (Appends taken taken_after) (λ i. take (sent_before (is i)) (same i)) wrote)
+
+-- ---- a run by an answer, or by none
+pub closed : OneStatus → (words : List (List ℕ)) (p : Passage) (outcome : Result Answer Halt) (s : Status) → IfOk outcome (λ a. IsSomeAnswer words a.status a.text.items)
+    → IfOk outcome (λ a. IfSome p.left (λ input. IsAnswer words input a.status a.text.items)) → IfErr outcome (ExplainsHalt words p.read_faults p.read_faults_after)
+    → Closes outcome p.taken p.taken_after p.write_faults p.write_faults_after s → RunAnswers words p s
+closed one words p (Ok a) s some told halt ends = finished one words p a.status s a.text.items some told ends
+closed one words p (Err SourceFailed) s some told halt ends = subst (RunAnswers words p) (sym ends.0) (read_failed words p halt.0 halt.1 ends.1)
+closed one words p (Err OutOfMemory) s some told halt ends = subst (RunAnswers words p) (sym ends.0) (halted words p ends.1)

@@ -1,22 +1,38 @@
--- The history that one worker's registry is written as.
-use Rattle.std.proofs.Common.{◌≡◌, ℕ, ◌<◌, List, [], ◌∷◌, ◌++◌, ◌+◌, length, get_or, take, append_assoc, sym, ◌∙◌, ap}
+-- The history that a registry is written as.
+use Rattle.std.proofs.Common.{◌≡◌, ℕ, ◌<◌, List, [], ◌∷◌, ◌++◌, ◌+◌, length, get_or, take, append_assoc, sym, ◌∙◌, ap, subst}
 use Rattle.std.proofs.lemmas.List.{append-nil, take_more}
 use Rattle.mpc_plant.specs.declared.plants.Plant.{Plant}
 use Rattle.mpc_claim.specs.declared.events.Event.{Event}
 use Rattle.mpc_claim.specs.Board.{Board}
+use Rattle.mpc_claim.specs.HistoryLaws.{LegalLaws, ClaimLaws, AppendLaws, LegalBeginnings}
 use Rattle.mpc_synthesis.specs.Programs.{IsDecidedBy}
+use Rattle.mpc_cli.specs.declared.commands.Command.TheVariants.{Trace}
+use Rattle.mpc_cli.specs.declared.status.Status.{Status}
+use Rattle.mpc_cli.specs.declared.status.Status.TheVariants.{Done}
+use Rattle.mpc_cli.specs.PlantAnswers.{IsPlantAnswer}
 use Rattle.mpc_cli.specs.Histories.{event_text, history_text, IsTraceOf}
+use Rattle.mpc_cli.proofs.HistoryLemmas.{each_claimed, each_delivered}
 
-pub traced : (plant : Plant) (board : Board) (history : List Event) (text : List ℕ) → IsDecidedBy plant board → history ≡ board.history → text ≡ history_text history → IsTraceOf plant text
-traced plant board history text by is written = record {
-  qp = by.qp;
-  condensed = by.verdicts.has_program.condensed;
-  history = board.history;
-  legal = by.done.legal;
-  finished = by.finished;
-  turns = by.done.turns;
-  written = written ∙ ap history_text is;
-}
+module _ (legal : LegalLaws) (claims : ClaimLaws) (appended : AppendLaws) (beginnings : LegalBeginnings) where
+  pub traced : (board : Board) (history : List Event) (text : List ℕ) → history ≡ board.history → text ≡ history_text history → (workers : ℕ) (plant : Plant) → IsDecidedBy workers plant board → IsTraceOf workers plant text
+  traced board history text is written workers plant by = record {
+    qp = by.qp;
+    condensed = by.verdicts.has_program.condensed;
+    history = board.history;
+    legal = by.done.legal;
+    finished = by.finished;
+    claimed = each_claimed legal claims appended beginnings by.qp board.history by.done.legal by.finished;
+    delivered = each_delivered legal claims appended beginnings by.qp board.history by.done.legal by.finished;
+    by_workers = by.done.by_workers;
+    turns = by.done.turns;
+    written = written ∙ ap history_text is;
+  }
+
+pub trace_answers : (board : Board) (text out : List ℕ) (status : Status) → ((workers : ℕ) (plant : Plant) → IsDecidedBy workers plant board → IsTraceOf workers plant text) → status ≡ Done → out ≡ text
+    → (workers : ℕ) (plant : Plant) (counts : List ℕ) → IsDecidedBy workers plant board → IsPlantAnswer (Trace workers) plant counts status out
+trace_answers board text out status h e f workers plant counts by =
+    subst (λ s. IsPlantAnswer (Trace workers) plant counts s out) (sym e)
+    (subst (IsPlantAnswer (Trace workers) plant counts Done) (sym f) (record { complete = (by.qp, by.verdicts); output = h workers plant by }))
 
 -- ---- the text of a history, event by event
 history_text-push : (es : List Event) (e : Event) → history_text (es ++ e ∷ []) ≡ history_text es ++ event_text e

@@ -97,16 +97,16 @@ pub record IsCompiled (input output : List ℕ) : Type 0 where
   pub file : IsFileOf plant output
 
 -- the output of `trace`: the input reads as a plant, and the text is a history of its program's candidates in which each is claimed and
--- delivered once, one after the other
-pub record IsTrace (input output : List ℕ) : Type 0 where
+-- delivered once, by so many workers
+pub record IsTrace (workers : ℕ) (input output : List ℕ) : Type 0 where
   pub plant : Plant
   pub read : ReadsAsPlant input plant
-  pub traced : IsTraceOf plant output
+  pub traced : IsTraceOf workers plant output
 
 abbrev pub IsOutput : Command → List ℕ → List ℕ → Type 0
 IsOutput Run input output = IsReplies input output
-IsOutput Compile input output = IsCompiled input output
-IsOutput Trace input output = IsTrace input output
+IsOutput (Compile workers) input output = IsCompiled input output
+IsOutput (Trace workers) input output = IsTrace workers input output
 
 pub record IsOutputOf (words : List (List ℕ)) (input output : List ℕ) : Type 0 where
   pub command : Command

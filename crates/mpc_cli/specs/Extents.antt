@@ -5,5 +5,5 @@ use Rattle.mpc_cli.specs.declared.commands.Command.TheVariants.{Run, Compile, Tr
 
 abbrev pub extent_of : Command → Extent
 extent_of Run = controller
-extent_of Compile = controller
-extent_of Trace = verdicts
+extent_of (Compile workers) = controller
+extent_of (Trace workers) = verdicts

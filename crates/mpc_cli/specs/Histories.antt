@@ -1,16 +1,18 @@
 -- How a history of claims and deliveries is written, and which one `trace` writes.
-use Rattle.std.specs.Prelude.{◌≡◌, ℕ, List, [], ◌∷◌, ◌++◌, codes, decimal}
+use Rattle.std.specs.Prelude.{◌≡◌, ◌≢◌, ℕ, All, AllPairs, Contains, List, [], ◌∷◌, ◌++◌, codes, decimal}
 use Rattle.mpc_sets.specs.SetText.{set_text}
 use Rattle.mpc_plant.specs.declared.plants.Plant.{Plant}
 use Rattle.mpc_rows.specs.declared.programs.Qp.{Qp}
+use Rattle.mpc_rows.specs.Candidates.{IsCandidate}
 use Rattle.mpc_condense.specs.Condensed.{IsCondensed}
 use Rattle.mpc_claim.specs.declared.events.Event.{Event}
 use Rattle.mpc_claim.specs.declared.events.EventKind.{EventKind}
 use Rattle.mpc_claim.specs.declared.events.EventKind.TheVariants.{Claim, Done, Drop}
 use Rattle.mpc_claim.specs.declared.events.Tag.{Tag}
 use Rattle.mpc_claim.specs.declared.events.Tag.TheVariants.{Dependent, Unreachable, Hollow, Region, Wide}
-use Rattle.mpc_claim.specs.History.{IsLegal, IsFinished}
+use Rattle.mpc_claim.specs.History.{claimed_sets, ended_sets, IsLegal, IsFinished}
 use Rattle.mpc_workers.specs.Alone.{AreTurns}
+use Rattle.mpc_workers.specs.Seats.{IsWorker}
 
 abbrev pub tag_text : Tag → List ℕ
 tag_text Dependent = codes "dependent"
@@ -38,13 +40,22 @@ abbrev pub history_text : List Event → List ℕ
 history_text [] = []
 history_text (e ∷ es) = event_text e ++ history_text es
 
--- The text of a legal history in which the candidates of the plant's program are claimed and decided: each once, one after the other, by one
--- worker.
-pub record IsTraceOf (plant : Plant) (text : List ℕ) : Type 0 where
+-- the list has each candidate of the program exactly once, and no other set
+pub record IsEachCandidate (qp : Qp) (sets : List (List ℕ)) : Type 0 where
+  pub once : AllPairs (λ (s t : List ℕ). s ≢ t) sets
+  pub all : (s : List ℕ) → IsCandidate qp s → Contains sets s
+  pub only : (s : List ℕ) → Contains sets s → IsCandidate qp s
+
+-- The text of a legal history in which the workers from 1 to `workers` claim and decide the candidates of the plant's program: each is claimed
+-- once and delivered once, and none is given up. One worker delivers each set before it claims the next one.
+pub record IsTraceOf (workers : ℕ) (plant : Plant) (text : List ℕ) : Type 0 where
   pub qp : Qp
   pub condensed : IsCondensed qp plant
   pub history : List Event
   pub legal : IsLegal qp history
   pub finished : IsFinished qp history
-  pub turns : AreTurns history
+  pub claimed : IsEachCandidate qp (claimed_sets history)
+  pub delivered : IsEachCandidate qp (ended_sets history)
+  pub by_workers : All (λ (e : Event). IsWorker workers e.worker) history
+  pub turns : workers ≡ 1 → AreTurns history
   pub written : text ≡ history_text history

@@ -5,6 +5,7 @@ pub mod ReplyLines
 pub mod Answers
 pub mod PlantAnswers
 pub mod Outcomes
+pub mod Requests
 pub mod Extents
 pub mod ControllerFiles
 pub mod Commands

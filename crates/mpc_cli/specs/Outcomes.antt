@@ -1,11 +1,12 @@
 -- How the parts of the top call end.
-use Rattle.std.specs.Prelude.{ℕ, List, Option, take}
-use Rattle.std.specs.Io.KnownBytes.{Appends}
+use Rattle.std.specs.Prelude.{◌≡◌, ℕ, List, Option, Result, Ok, Err, take}
+use Rattle.std.specs.Io.KnownBytes.{Appends, Keeps}
 use Rattle.mpc_port.specs.Faults.{Rose}
 use Rattle.mpc_cli.specs.declared.status.Status.{Status}
-use Rattle.mpc_cli.specs.declared.status.Status.TheVariants.{WriteFault, NoMemory}
-use Rattle.mpc_cli.specs.declared.run.Halt.{Halt}
-use Rattle.mpc_cli.specs.declared.run.Halt.TheVariants.{SourceFailed, OutOfMemory}
+use Rattle.mpc_cli.specs.declared.status.Status.TheVariants.{ReadFault, WriteFault, NoMemory}
+use Rattle.mpc_cli.specs.declared.answer.Answer.{Answer}
+use Rattle.mpc_cli.specs.declared.requests.Halt.{Halt}
+use Rattle.mpc_cli.specs.declared.requests.Halt.TheVariants.{SourceFailed, OutOfMemory}
 use Rattle.mpc_cli.specs.Commands.{IsCommand}
 use Rattle.mpc_cli.specs.Answers.{IsAnswer}
 
@@ -24,3 +25,9 @@ pub data Finishes (status : Status) (text : List ℕ) (taken taken_after : Optio
   wrote_all : Appends taken taken_after text → Finishes status text taken taken_after faults faults_after status
   sink_failed : (sent : ℕ) → Rose faults faults_after → Appends taken taken_after (take sent text) → Finishes status text taken taken_after faults faults_after WriteFault
   sink_full : (sent : ℕ) → Appends taken taken_after (take sent text) → Finishes status text taken taken_after faults faults_after NoMemory
+
+-- the ends of a run that has an answer or none: without one, nothing is written
+abbrev pub Closes : Result Answer Halt → Option (List ℕ) → Option (List ℕ) → ℕ → ℕ → Status → Type 0
+Closes (Ok answer) taken taken_after faults faults_after status = Finishes answer.status answer.text.items taken taken_after faults faults_after status
+Closes (Err SourceFailed) taken taken_after faults faults_after status = (status ≡ ReadFault) × Keeps taken taken_after
+Closes (Err OutOfMemory) taken taken_after faults faults_after status = (status ≡ NoMemory) × Keeps taken taken_after

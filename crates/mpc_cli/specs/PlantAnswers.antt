@@ -17,8 +17,8 @@ use Rattle.mpc_cli.specs.StatusText.{line_of}
 -- the output: one reply line a line of counts, the file of the plant's controller, or the history of its candidates
 abbrev pub IsPlantOutput : Command → Plant → List ℕ → List ℕ → Type 0
 IsPlantOutput Run plant counts text = AreReplies plant (lines counts) text
-IsPlantOutput Compile plant counts text = IsFileOf plant text
-IsPlantOutput Trace plant counts text = IsTraceOf plant text
+IsPlantOutput (Compile workers) plant counts text = IsFileOf plant text
+IsPlantOutput (Trace workers) plant counts text = IsTraceOf workers plant text
 
 -- nothing is refused, and the text is the output
 pub record IsReplied (c : Command) (plant : Plant) (counts text : List ℕ) : Type 0 where

@@ -1,17 +1,20 @@
-//! The answer to an input: its status and what is written.
+//! The answer to a request: its status and what is written.
 
-ghost use Rattle.std.specs.Prelude.{◌≡◌, ◌≤◌, IfOk, length, List, [], ℕ};
+ghost use Rattle.std.specs.Prelude.{◌≡◌, IfOk, IfErr, List, ℕ};
 ghost use Rattle.std.specs.Str.Lines.{lines};
 ghost use Rattle.mpc_plant.specs.declared.plants.Plant.{Plant};
 ghost use Rattle.mpc_rows.specs.declared.programs.Qp.{Qp};
 ghost use Rattle.mpc_cli.specs.declared.commands.Command.{Command};
 ghost use Rattle.mpc_cli.specs.declared.commands.Command.TheVariants.{Run, Compile, Trace};
-ghost use Rattle.mpc_cli.specs.Commands.{Names, plant_text};
+ghost use Rattle.mpc_cli.specs.Commands.{workers_of};
 ghost use Rattle.mpc_cli.specs.Cut.{tail_of};
-ghost use Rattle.mpc_cli.specs.Answers.{IsAnswer, input_limit};
+ghost use Rattle.mpc_cli.specs.Answers.{IsAnswer};
+ghost use Rattle.mpc_cli.specs.declared.requests.Beginning.TheVariants.{Asked};
+ghost use Rattle.mpc_cli.specs.Requests.{IsBegun};
 ghost use Rattle.mpc_cli.specs.PlantAnswers.{IsPlantAnswer};
+ghost use Rattle.mpc_synthesis.specs.Programs.{IsDecidedBy};
 ghost use Rattle.mpc_synthesis.specs.Controllers.{IsController};
-ghost use Rattle.mpc_synthesis.specs.Refusals.{ExplainsSynthesisError};
+ghost use Rattle.mpc_synthesis.specs.Refusals.{Extent, ExplainsSynthesisError};
 ghost use Rattle.mpc_cli.specs.Extents.{extent_of};
 ghost use Rattle.mpc_cli.specs.ReplyLines.{AreReplies};
 ghost use Rattle.mpc_cli.specs.StatusText.{line_of};
@@ -19,14 +22,15 @@ ghost use Rattle.mpc_cli.specs.StatusText.{line_of};
 use crate::commands::Command;
 use crate::input::cut;
 use crate::replies::reply_lines;
+use crate::requests::Request;
 use crate::status::Status;
 use crate::tracing::trace;
+use mpc_claim::Registry;
 use mpc_controller::Controller;
 use mpc_file::write_file;
 use mpc_frac::NoMemory;
-use mpc_plant::{Plant, PlantError, read_plant};
-use mpc_port::Gate;
-use mpc_synthesis::{SynthesisError, controller, one_controller, right_controller};
+use mpc_plant::Plant;
+use mpc_synthesis::{SynthesisError, controller_of, one_controller, right_controller};
 use mpc_table::Table;
 use std::alloc::Global;
 
@@ -80,16 +84,17 @@ fn replies(alloc: Global, parts: &Controller, counts: &[u8]) -> Result<Vec<u8>, 
     reply_lines(alloc, &table, parts.plant().n as usize, counts)
 }
 
-/// The answer of the command `run` to a plant and the text of its lines of counts.
-fn run_answer<G: Gate>(
+/// The answer of the command `run` to a plant whose active sets are decided, and the text of its lines of counts.
+fn run_answer(
     alloc: Global,
     plant: Plant,
     counts: &[u8],
-    gate: &G,
+    registry: Registry,
 ) -> Result<Answer, NoMemory>
+    requires { (workers : ℕ) × IsDecidedBy workers plant registry }
     ensures { IfOk result (λ answer. IsPlantAnswer Run plant counts.now answer.status answer.text.items) }
 {
-    match controller(alloc, plant, gate) {
+    match controller_of(alloc, plant, registry) {
         Ok(parts) => {
             let text = replies(alloc, &parts, counts)?;
             Ok(output(text))
@@ -98,13 +103,15 @@ fn run_answer<G: Gate>(
     }
 }
 
-/// The answer of the command `compile` to a plant.
-fn compile_answer<G: Gate>(alloc: Global, plant: Plant, gate: &G) -> Result<Answer, NoMemory>
-    ensures { IfOk result (λ answer. IsPlantAnswer Compile plant [] answer.status answer.text.items) }
+/// The answer of the command `compile` to a plant whose active sets are decided. It is the same for every number of workers.
+fn compile_answer(alloc: Global, plant: Plant, registry: Registry) -> Result<Answer, NoMemory>
+    requires { (workers : ℕ) × IsDecidedBy workers plant registry }
+    ensures { IfOk result (λ answer. (workers : ℕ) (counts : List ℕ)
+        → IsPlantAnswer (Compile workers) plant counts answer.status answer.text.items) }
 {
     right_controller();
     one_controller();
-    match controller(alloc, plant, gate) {
+    match controller_of(alloc, plant, registry) {
         Ok(parts) => {
             let text = write_file(alloc, &parts)?;
             Ok(output(text))
@@ -113,70 +120,47 @@ fn compile_answer<G: Gate>(alloc: Global, plant: Plant, gate: &G) -> Result<Answ
     }
 }
 
-/// The answer of the command `trace` to a plant.
-fn trace_answer<G: Gate>(alloc: Global, plant: &Plant, gate: &G) -> Result<Answer, NoMemory>
-    ensures { IfOk result (λ answer. IsPlantAnswer Trace plant.now [] answer.status answer.text.items) }
+/// The answer of the command `trace` to a plant whose active sets are decided.
+fn trace_answer(alloc: Global, registry: &Registry) -> Result<Answer, NoMemory>
+    ensures { IfOk result (λ answer. (workers : ℕ) (plant : Plant) (counts : List ℕ)
+        → IsDecidedBy workers plant registry.now
+        → IsPlantAnswer (Trace workers) plant counts answer.status answer.text.items) }
 {
-    match trace(alloc, plant, gate) {
-        Ok(text) => Ok(output(text)),
-        Err(error) => plant_refusal(alloc, error),
-    }
+    let text = trace(alloc, registry)?;
+    Ok(output(text))
 }
 
-/// The answer of the command `run` to an input that isn't too long.
-fn answer_to_run<G: Gate>(alloc: Global, input: &[u8], gate: &G) -> Result<Answer, NoMemory>
-    requires { length input.now ≤ input_limit }
-    ensures { IfOk result (λ answer. (words : List (List ℕ)) → Names Run words
-        → IsAnswer words input.now answer.status answer.text.items) }
+/// The answer to a request whose plant's active sets are decided.
+fn decided_answer(alloc: Global, request: Request, registry: Registry) -> Result<Answer, NoMemory>
+    requires { IsDecidedBy (workers_of request.command) request.plant registry }
+    ensures { IfOk result (λ answer. IsPlantAnswer request.command request.plant (tail_of request.input.items)
+        answer.status answer.text.items) }
 {
-    let sections = cut(input);
-    match read_plant(alloc, sections.head) {
-        Ok(plant) => run_answer(alloc, plant, sections.counts, gate),
-        Err(PlantError::Bad(kind, path)) => refusal(alloc, Status::BadPlant(kind, path)),
-        Err(PlantError::NoMemory) => Err(NoMemory),
-    }
-}
-
-/// The answer of the command `compile` to an input that isn't too long.
-fn answer_to_compile<G: Gate>(alloc: Global, input: &[u8], gate: &G) -> Result<Answer, NoMemory>
-    requires { length input.now ≤ input_limit }
-    ensures { IfOk result (λ answer. (words : List (List ℕ)) → Names Compile words
-        → IsAnswer words input.now answer.status answer.text.items) }
-{
-    match read_plant(alloc, input) {
-        Ok(plant) => compile_answer(alloc, plant, gate),
-        Err(PlantError::Bad(kind, path)) => refusal(alloc, Status::BadPlant(kind, path)),
-        Err(PlantError::NoMemory) => Err(NoMemory),
-    }
-}
-
-/// The answer of the command `trace` to an input that isn't too long.
-fn answer_to_trace<G: Gate>(alloc: Global, input: &[u8], gate: &G) -> Result<Answer, NoMemory>
-    requires { length input.now ≤ input_limit }
-    ensures { IfOk result (λ answer. (words : List (List ℕ)) → Names Trace words
-        → IsAnswer words input.now answer.status answer.text.items) }
-{
-    match read_plant(alloc, input) {
-        Ok(plant) => trace_answer(alloc, &plant, gate),
-        Err(PlantError::Bad(kind, path)) => refusal(alloc, Status::BadPlant(kind, path)),
-        Err(PlantError::NoMemory) => Err(NoMemory),
-    }
-}
-
-/// The answer of a command to an input that isn't too long.
-pub fn input_answer<G: Gate>(
-    alloc: Global,
-    command: Command,
-    input: &[u8],
-    gate: &G,
-) -> Result<Answer, NoMemory>
-    requires { length input.now ≤ input_limit }
-    ensures { IfOk result (λ answer. (words : List (List ℕ)) → Names command words
-        → IsAnswer words input.now answer.status answer.text.items) }
-{
+    let Request {
+        command,
+        input,
+        plant,
+    } = request;
     match command {
-        Command::Run => answer_to_run(alloc, input, gate),
-        Command::Compile => answer_to_compile(alloc, input, gate),
-        Command::Trace => answer_to_trace(alloc, input, gate),
+        Command::Run => run_answer(alloc, plant, cut(&input).counts, registry),
+        Command::Compile(_) => compile_answer(alloc, plant, registry),
+        Command::Trace(_) => trace_answer(alloc, &registry),
+    }
+}
+
+/// The answer to a request, by what came of its plant's active sets: they are decided, or the plant is refused for a cause.
+pub fn request_answer(
+    alloc: Global,
+    request: Request,
+    outcome: Result<Registry, SynthesisError>,
+) -> Result<Answer, NoMemory>
+    requires decided { IfOk outcome (IsDecidedBy (workers_of request.command) request.plant) }
+    requires refused { IfErr outcome (λ e. (extent : Extent) → ExplainsSynthesisError extent request.plant e) }
+    ensures { IfOk result (λ answer. (words : List (List ℕ)) (input : List ℕ)
+        → IsBegun words input (Asked request) → IsAnswer words input answer.status answer.text.items) }
+{
+    match outcome {
+        Ok(registry) => decided_answer(alloc, request, registry),
+        Err(error) => plant_refusal(alloc, error),
     }
 }

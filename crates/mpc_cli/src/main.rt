@@ -2,7 +2,9 @@
 //!
 //! `mpc run` reads the file of a plant, a line `states` and lines of counts from standard input, and
 //! writes the first move of the cheapest input sequence from each of these states to standard output;
-//! `mpc trace` reads the file of a plant and writes how its active sets were claimed and decided.
+//! `mpc compile` reads the file of a plant and writes the file of its controller; `mpc trace` reads
+//! the file of a plant and writes how its active sets were claimed and decided. Both take
+//! `--workers W`, with W from 1 to 32.
 #![tactic(auto)]
 
 mod answer;
@@ -12,6 +14,7 @@ mod histories;
 mod input;
 mod laws;
 mod replies;
+mod requests;
 mod run;
 mod status;
 #[cfg(test)]

@@ -1,30 +1,26 @@
 //! The top call: from the words and the bytes of the source to the bytes of the sink and a status.
 
-ghost use Rattle.std.specs.Prelude.{◌≡◌, ◌≢◌, map, string_bytes, IfOk, IfErr, IfSome, Err};
-ghost use Rattle.mpc_cli.specs.Commands.{IsCommand};
+ghost use Rattle.std.specs.Prelude.{◌≡◌, ◌≢◌, ◌≤◌, map, string_bytes, IfOk, IfErr, IfSome, Err, List, ℕ};
+ghost use Rattle.mpc_synthesis.specs.Programs.{IsDecidedBy};
+ghost use Rattle.mpc_synthesis.specs.Refusals.{Extent, ExplainsSynthesisError};
+ghost use Rattle.mpc_cli.specs.declared.requests.Beginning.TheVariants.{Asked};
+ghost use Rattle.mpc_cli.specs.Commands.{HaveWorkers, IsCommand, Waits, workers_of};
+ghost use Rattle.mpc_cli.specs.Requests.{IsBegun};
 ghost use Rattle.mpc_cli.specs.Answers.{IsAnswer, RunAnswers};
-ghost use Rattle.mpc_cli.specs.Outcomes.{IsSomeAnswer, ExplainsHalt, Finishes};
-ghost use Rattle.mpc_cli.specs.StatusText.{line_of};
+ghost use Rattle.mpc_cli.specs.Outcomes.{Closes, IsSomeAnswer, ExplainsHalt, Finishes};
 
-use crate::answer::{Answer, input_answer, refusal};
-use crate::commands::named_command;
+use crate::answer::{Answer, request_answer};
+use crate::commands::workers_asked;
 use crate::laws::one_status;
+use crate::requests::{Beginning, Halt, Request, begin};
 use crate::status::Status;
+use mpc_claim::Registry;
 use mpc_frac::NoMemory;
-use mpc_port::{Gate, ReadError, Sink, Source, WriteError, read_all, write_all};
+use mpc_port::{Gate, Sink, Source, WriteError, write_all};
+use mpc_synthesis::{SynthesisError, decided, decided_in_threads};
 use std::alloc::Global;
 use std::sync::Wait;
 use std::thread::Threads;
-
-/// The most bytes that an input has.
-const INPUT_LIMIT: usize = 16_777_216;
-
-/// Why nothing is written.
-#[derive(Clone, Copy, Debug, PartialEq, Eq)]
-enum Halt {
-    SourceFailed,
-    OutOfMemory,
-}
 
 /// Runs the command that the words name: reads its input from `source` and writes its output, or the
 /// status's line, to `sink`.
@@ -37,6 +33,10 @@ enum Halt {
 ///
 /// `trace`: from the file of a plant it writes the history in which the active sets of its program are
 /// claimed and decided.
+///
+/// `compile` and `trace` take `--workers W` with a number W from 1 to 32 in decimal: so many workers decide
+/// the active sets, each in a thread of its own where there are two or more. The file of a controller is the
+/// same for every number.
 pub fn run<T: Threads + Wait + Sync, S: Source, K: Sink, G: Gate + Sync>(
     rt: &T,
     alloc: Global,
@@ -57,10 +57,16 @@ pub fn run<T: Threads + Wait + Sync, S: Source, K: Sink, G: Gate + Sync>(
         }) result }
     ensures unread { (¬ IsCommand (map string_bytes words.now)) → source.new ≡ source.old }
 {
+    let workers = workers_asked(words);
+    if workers > 1 {
+        one_status();
+        let outcome = answer_in_threads(rt, alloc, words, source, workers, gate);
+        return close(sink, outcome);
+    }
     run_alone(rt, alloc, words, source, sink, gate)
 }
 
-/// What [`run`] does where the words name a command that waits for nobody, as all do today.
+/// What [`run`] does where the words don't ask for two workers or more: it waits for nobody.
 pub fn run_alone<T: Threads + Sync, S: Source, K: Sink, G: Gate>(
     _rt: &T,
     alloc: Global,
@@ -69,6 +75,7 @@ pub fn run_alone<T: Threads + Sync, S: Source, K: Sink, G: Gate>(
     sink: &mut K,
     gate: &G,
 ) -> Status
+    requires { ¬ Waits (map string_bytes words.now) }
     ensures answers { RunAnswers (map string_bytes words.now)
         (record {
           left = S.left source.old;
@@ -82,20 +89,18 @@ pub fn run_alone<T: Threads + Sync, S: Source, K: Sink, G: Gate>(
     ensures unread { (¬ IsCommand (map string_bytes words.now)) → source.new ≡ source.old }
 {
     one_status();
-    match answer_of(alloc, words, source, gate) {
-        Ok(answer) => finish(sink, answer),
-        Err(Halt::SourceFailed) => Status::ReadFault,
-        Err(Halt::OutOfMemory) => Status::NoMemory,
-    }
+    let outcome = answer_alone(alloc, words, source, gate);
+    close(sink, outcome)
 }
 
-/// The answer to the words and the input, which is read only where the words name a command.
-fn answer_of<S: Source, G: Gate>(
+/// The answer to the words and the input, by one worker.
+fn answer_alone<S: Source, G: Gate>(
     alloc: Global,
     words: &[String],
     source: &mut S,
     gate: &G,
 ) -> Result<Answer, Halt>
+    requires { HaveWorkers (map string_bytes words.now) 1 }
     ensures some { IfOk result (λ answer.
         IsSomeAnswer (map string_bytes words.now) answer.status answer.text.items) }
     ensures told { IfOk result (λ answer. IfSome (S.left source.old) (λ input.
@@ -104,29 +109,72 @@ fn answer_of<S: Source, G: Gate>(
         (S.faults source.old) (S.faults source.new)) }
     ensures unread { (¬ IsCommand (map string_bytes words.now)) → source.new ≡ source.old }
 {
-    let Some(command) = named_command(words) else {
-        return refused(alloc, Status::Usage);
-    };
-    match read_all(alloc, source, INPUT_LIMIT) {
-        Ok(input) => match input_answer(alloc, command, &input, gate) {
-            Ok(answer) => Ok(answer),
-            Err(NoMemory) => Err(Halt::OutOfMemory),
-        },
-        Err(ReadError::TooLong) => refused(alloc, Status::TooLong),
-        Err(ReadError::ReadFault) => Err(Halt::SourceFailed),
-        Err(ReadError::NoMemory) => Err(Halt::OutOfMemory),
+    match begin(alloc, words, source) {
+        Ok(Beginning::Asked(request)) => {
+            let outcome = decided(alloc, &request.plant, gate);
+            respond(alloc, request, outcome)
+        }
+        Ok(Beginning::Refused(answer)) => Ok(answer),
+        Err(halt) => Err(halt),
     }
 }
 
-/// A status with its line, where memory suffices.
-fn refused(alloc: Global, status: Status) -> Result<Answer, Halt>
-    ensures status { IfOk result (λ answer. answer.status ≡ status) }
-    ensures text { IfOk result (λ answer. answer.text.items ≡ line_of status) }
+/// The answer to the words and the input, by so many workers in threads.
+fn answer_in_threads<T: Threads + Wait + Sync, S: Source, G: Gate + Sync>(
+    rt: &T,
+    alloc: Global,
+    words: &[String],
+    source: &mut S,
+    workers: u32,
+    gate: &G,
+) -> Result<Answer, Halt>
+    requires asked { HaveWorkers (map string_bytes words.now) workers }
+    requires from_one { 1 ≤ workers }
+    requires to_last { workers ≤ 32 }
+    ensures some { IfOk result (λ answer.
+        IsSomeAnswer (map string_bytes words.now) answer.status answer.text.items) }
+    ensures told { IfOk result (λ answer. IfSome (S.left source.old) (λ input.
+        IsAnswer (map string_bytes words.now) input answer.status answer.text.items)) }
+    ensures halt { IfErr result (ExplainsHalt (map string_bytes words.now)
+        (S.faults source.old) (S.faults source.new)) }
+    ensures unread { (¬ IsCommand (map string_bytes words.now)) → source.new ≡ source.old }
+{
+    match begin(alloc, words, source) {
+        Ok(Beginning::Asked(request)) => {
+            let outcome = decided_in_threads(rt, alloc, &request.plant, workers, gate);
+            respond(alloc, request, outcome)
+        }
+        Ok(Beginning::Refused(answer)) => Ok(answer),
+        Err(halt) => Err(halt),
+    }
+}
+
+/// The answer to a request, where memory suffices.
+fn respond(
+    alloc: Global,
+    request: Request,
+    outcome: Result<Registry, SynthesisError>,
+) -> Result<Answer, Halt>
+    requires decided { IfOk outcome (IsDecidedBy (workers_of request.command) request.plant) }
+    requires refused { IfErr outcome (λ e. (extent : Extent) → ExplainsSynthesisError extent request.plant e) }
+    ensures answer { IfOk result (λ answer. (words : List (List ℕ)) (input : List ℕ)
+        → IsBegun words input (Asked request) → IsAnswer words input answer.status answer.text.items) }
     ensures halt { result ≢ Err Halt.SourceFailed }
 {
-    match refusal(alloc, status) {
+    match request_answer(alloc, request, outcome) {
         Ok(answer) => Ok(answer),
         Err(NoMemory) => Err(Halt::OutOfMemory),
+    }
+}
+
+/// Writes the answer where there is one, and gives the status of the run.
+fn close<K: Sink>(sink: &mut K, outcome: Result<Answer, Halt>) -> Status
+    ensures { Closes outcome (K.taken sink.old) (K.taken sink.new) (K.faults sink.old) (K.faults sink.new) result }
+{
+    match outcome {
+        Ok(answer) => finish(sink, answer),
+        Err(Halt::SourceFailed) => Status::ReadFault,
+        Err(Halt::OutOfMemory) => Status::NoMemory,
     }
 }
 

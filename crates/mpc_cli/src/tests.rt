@@ -11,6 +11,7 @@ use std::thread::Threads;
 mod examples;
 mod offsets;
 mod places;
+mod workers;
 
 /// A tank with the levels -4 to 4, and four of them.
 const TANK: &[u8] =
@@ -20,23 +21,32 @@ const TANK: &[u8] =
 const LIMITED: &[u8] =
     b"{\"version\":1,\"horizon\":1,\"A\":[[1]],\"B\":[[1]],\"Q\":[[1]],\"R\":[[1]],\"P\":[[1]],\"rows\":[{\"u\":[1],\"max\":1},{\"u\":[-1],\"max\":1}],\"grid\":[{\"low\":-4,\"step\":1,\"count\":8}]}";
 
-/// What the command of a word ends with and writes.
+/// What the command of these words, with a blank between two, ends with and writes.
 #[derive(Drop)]
 struct Case {
-    word: &'static str,
+    words: &'static str,
     input: &'static [u8],
     ends: &'static [u8],
     code: u8,
 }
 
+/// The words between the blanks of a line.
+fn split_words(alloc: Global, line: &str) -> Result<Vec<String>, Fail> {
+    let mut words = Vec::new(alloc);
+    for word in line.split(' ') {
+        words.push(String::from_str(alloc, word)?)?;
+    }
+    Ok(words)
+}
+
 fn run_words<T: Threads + Wait + Sync, S: Source, K: Sink>(
     rt: &T,
     alloc: Global,
-    word: &str,
+    line: &str,
     source: &mut S,
     sink: &mut K,
 ) -> Result<Status, Fail> {
-    let words = vec![in alloc; String::from_str(alloc, word)?]?;
+    let words = split_words(alloc, line)?;
     Ok(run(rt, alloc, &words, source, sink, &OpenGate))
 }
 
@@ -47,7 +57,7 @@ fn check_case<T: Threads + Wait + Sync + Abort>(
 ) -> Result<(), Fail> {
     let mut source = QuietSource::new(case.input.to_vec(alloc)?);
     let mut sink = QuietSink::new(alloc);
-    let status = run_words(rt, alloc, case.word, &mut source, &mut sink)?;
+    let status = run_words(rt, alloc, case.words, &mut source, &mut sink)?;
     assert_eq!(rt; status.code(), case.code);
     assert_eq!(rt; sink.bytes(), case.ends);
     Ok(())
@@ -57,91 +67,111 @@ fn check_case<T: Threads + Wait + Sync + Abort>(
 fn answers(rt: HostRuntime) -> Result<(), Fail> {
     let cases = [
         Case {
-            word: "run",
+            words: "run",
             input: TANK,
             ends: b"2\n1/2\n0\n-2\n",
             code: 0,
         },
         Case {
-            word: "run",
+            words: "run",
             input: b"{\"version\":1,\"horizon\":1,\"A\":[[1]],\"B\":[[1]],\"Q\":[[1]],\"R\":[[-1]],\"P\":[[2]],\"grid\":[{\"low\":-4,\"step\":1,\"count\":8}]}\nstates\n3",
             ends: b"2\n",
             code: 0,
         },
         Case {
-            word: "run",
-            input: b"{\"version\":1,\"horizon\":1,\"A\":[[1]],\"B\":[[1]],\"Q\":[[1]],\"R\":[[0]],\"P\":[[0]],\"grid\":[{\"low\":-4,\"step\":1,\"count\":8}]}\nstates\n3\n",
-            ends: b"not definite 1\n",
-            code: 4,
-        },
-        Case {
-            word: "run",
+            words: "run",
             input: b"{\"version\":1,\"horizon\":1,\"A\":[[1]],\"B\":[[1]],\"Q\":[[1]],\"R\":[[1]],\"P\":[[1]],\"grid\":[{\"low\":3,\"step\":1,\"count\":0}]}\r\nstates\r\n0\r\n1\r\n",
             ends: b"-3/2\noutside 1\n",
             code: 0,
         },
         Case {
-            word: "run",
+            words: "run",
             input: b"{\"version\":1,\"horizon\":1,\"A\":[[1]],\"B\":[[1]],\"Q\":[[1]],\"R\":[[1]],\"P\":[[1]],\"grid\":[{\"low\":-4,\"step\":1,\"count\":1000000}]}\nstates\n1000000\n",
             ends: b"-499998\n",
             code: 0,
         },
         Case {
-            word: "run",
+            words: "run",
             input: b"{\"version\":1,\"horizon\":1,\"A\":[[1]],\"B\":[[1]],\"Q\":[[1]],\"R\":[[1]],\"P\":[[1]],\"grid\":[{\"low\":-4,\"step\":1,\"count\":8}]}\nstates\n\nx\n3 3\n9\n3\n",
             ends: b"bad line\nbad line\nbad line\noutside 1\n1/2\n",
             code: 0,
         },
         Case {
-            word: "run",
+            words: "run",
             input: b"{\"version\":1,\"horizon\":1,\"A\":[[1]],\"B\":[[1]],\"Q\":[[1]],\"R\":[[1]],\"P\":[[1]],\"grid\":[{\"low\":-4,\"step\":1,\"count\":8}]}\n",
             ends: b"",
             code: 0,
         },
+    ];
+    for case in &cases {
+        check_case(&rt, rt.alloc(), case)?;
+    }
+    Ok(())
+}
+
+#[test]
+fn refuses_plants(rt: HostRuntime) -> Result<(), Fail> {
+    let cases = [
         Case {
-            word: "run",
+            words: "run",
+            input: b"{\"version\":1,\"horizon\":1,\"A\":[[1]],\"B\":[[1]],\"Q\":[[1]],\"R\":[[0]],\"P\":[[0]],\"grid\":[{\"low\":-4,\"step\":1,\"count\":8}]}\nstates\n3\n",
+            ends: b"not definite 1\n",
+            code: 4,
+        },
+        Case {
+            words: "run",
             input: b"{\"version\": 1, \"horizon\": 1, \"A\": [[156731814582207]], \"B\": [[-2]], \"Q\": [[0]], \"R\": [[-2]], \"P\": [[3]], \"grid\": [{\"low\": -1, \"step\": 972022575021797, \"count\": 8}]}\nstates\n8\n",
             ends: b"too wide condense cost 1\n",
             code: 5,
         },
         Case {
-            word: "run",
+            words: "run",
             input: b"",
             ends: b"bad plant NotJson\n",
             code: 3,
         },
         Case {
-            word: "run",
+            words: "run",
             input: b"[]",
             ends: b"bad plant NotObject\n",
             code: 3,
         },
         Case {
-            word: "run",
+            words: "run",
             input: b"{\"version\":1,\"horizon\":1,\"A\":[[0.1]],\"B\":[[1]],\"Q\":[[1]],\"R\":[[1]],\"P\":[[1]],\"grid\":[{\"low\":-4,\"step\":1,\"count\":8}]}\nstates\n0\n",
             ends: b"bad plant BadNumber /A/0/0\n",
             code: 3,
         },
         Case {
-            word: "run",
+            words: "run",
             input: b"{\"version\":1,\"horizon\":1,\"A\":[[1]],\"B\":[[1]],\"Q\":[[1]],\"R\":[[1]],\"P\":[[1]],\"grid\":[{\"low\":-4,\"step\":\"0\",\"count\":8}]}",
             ends: b"bad plant StepNotPositive /grid/0/step\n",
             code: 3,
         },
         Case {
-            word: "run",
+            words: "run",
             input: b"{\"version\":1,\"horizon\":2,\"A\":[[\"1/999999999999999999\"]],\"B\":[[1]],\"Q\":[[1]],\"R\":[[1]],\"P\":[[1]],\"grid\":[{\"low\":-4,\"step\":1,\"count\":8}]}\nstates\n0\n",
             ends: b"too wide condense cost 2\n",
             code: 5,
         },
+    ];
+    for case in &cases {
+        check_case(&rt, rt.alloc(), case)?;
+    }
+    Ok(())
+}
+
+#[test]
+fn answers_plants_of_two_inputs_or_states(rt: HostRuntime) -> Result<(), Fail> {
+    let cases = [
         Case {
-            word: "run",
+            words: "run",
             input: b"{\"version\":1,\"horizon\":1,\"A\":[[1]],\"B\":[[1,1]],\"Q\":[[1]],\"R\":[[1,0],[0,1]],\"P\":[[1]],\"grid\":[{\"low\":-4,\"step\":1,\"count\":8}]}\nstates\n0\n3\n",
             ends: b"4/3 4/3\n1/3 1/3\n",
             code: 0,
         },
         Case {
-            word: "run",
+            words: "run",
             input: b"{\"version\":1,\"horizon\":2,\"A\":[[1,1],[0,1]],\"B\":[[0],[1]],\"Q\":[[1,0],[0,1]],\"R\":[[1]],\"P\":[[1,0],[0,1]],\"grid\":[{\"low\":-10,\"step\":1,\"count\":20},{\"low\":-10,\"step\":1,\"count\":20}]}\nstates\n11 10\n20 7\n20 20\n20 21\n21 0\n3\n",
             ends: b"-2/7\n1/7\n-90/7\noutside 2\noutside 1\nbad line\n",
             code: 0,
@@ -157,61 +187,71 @@ fn answers(rt: HostRuntime) -> Result<(), Fail> {
 fn answers_plants_with_rows(rt: HostRuntime) -> Result<(), Fail> {
     let cases = [
         Case {
-            word: "run",
+            words: "run",
             input: b"{\"version\":1,\"horizon\":1,\"A\":[[1]],\"B\":[[1]],\"Q\":[[1]],\"R\":[[1]],\"P\":[[1]],\"rows\":[{\"u\":[1],\"max\":1},{\"u\":[-1],\"max\":1}],\"grid\":[{\"low\":-4,\"step\":1,\"count\":8}]}\nstates\n0\n3\n8\n2\n6\n",
             ends: b"1\n1/2\n-1\n1\n-1\n",
             code: 0,
         },
         Case {
-            word: "run",
+            words: "run",
             input: b"{\"version\":1,\"horizon\":1,\"A\":[[1]],\"B\":[[1]],\"Q\":[[1]],\"R\":[[1]],\"P\":[[1]],\"rows\":[{\"u\":[1],\"max\":1},{\"u\":[-1],\"max\":1}],\"terminal\":[{\"x\":[1],\"max\":1},{\"x\":[-1],\"max\":1}],\"grid\":[{\"low\":-4,\"step\":1,\"count\":8}]}\nstates\n1\n2\n6\n7\n",
             ends: b"infeasible\n1\n-1\ninfeasible\n",
             code: 0,
         },
         Case {
-            word: "run",
+            words: "run",
             input: b"{\"version\":1,\"horizon\":2,\"A\":[[1,1],[0,1]],\"B\":[[0],[1]],\"Q\":[[1,0],[0,1]],\"R\":[[1]],\"P\":[[1,0],[0,1]],\"rows\":[{\"u\":[1],\"max\":1},{\"u\":[-1],\"max\":1}],\"grid\":[{\"low\":-10,\"step\":1,\"count\":20},{\"low\":-10,\"step\":1,\"count\":20}]}\nstates\n11 10\n10 10\n20 7\n20 20\n",
             ends: b"-2/7\n0\n1/4\n-1\n",
             code: 0,
         },
         Case {
-            word: "run",
+            words: "run",
             input: b"{\"version\":1,\"horizon\":2,\"A\":[[1,\"0.25\"],[0,\"0.95\"]],\"B\":[[0],[\"0.25\"]],\"Q\":[[1,0],[0,1]],\"R\":[[1]],\"P\":[[1,0],[0,1]],\"rows\":[{\"u\":[1],\"max\":\"0.5\"},{\"u\":[-1],\"max\":\"0.5\"},{\"x\":[0,1],\"max\":\"1.5\"},{\"x\":[0,-1],\"max\":\"1.5\"}],\"grid\":[{\"low\":-5,\"step\":\"0.5\",\"count\":20},{\"low\":-2,\"step\":\"0.25\",\"count\":16}]}\nstates\n10 8\n12 8\n10 4\n10 2\n10 1\n",
             ends: b"0\n-6800/121801\n255519/609005\n1/2\ninfeasible\n",
             code: 0,
         },
         Case {
-            word: "run",
+            words: "run",
             input: b"{\"version\":1,\"horizon\":1,\"A\":[[1]],\"B\":[[1]],\"Q\":[[1]],\"R\":[[1]],\"P\":[[1]],\"rows\":[{\"u\":[1],\"max\":1},{\"u\":[1],\"max\":1},{\"u\":[-1],\"max\":1}],\"grid\":[{\"low\":-4,\"step\":1,\"count\":8}]}\nstates\n0\n3\n8\n",
             ends: b"1\n1/2\n-1\n",
             code: 0,
         },
         Case {
-            word: "run",
+            words: "run",
             input: b"{\"version\":1,\"horizon\":1,\"A\":[[1]],\"B\":[[1]],\"Q\":[[1]],\"R\":[[1]],\"P\":[[1]],\"rows\":[{\"x\":[1],\"max\":2}],\"grid\":[{\"low\":-4,\"step\":1,\"count\":8}]}\nstates\n6\n7\n",
             ends: b"-1\ninfeasible\n",
             code: 0,
         },
+    ];
+    for case in &cases {
+        check_case(&rt, rt.alloc(), case)?;
+    }
+    Ok(())
+}
+
+#[test]
+fn answers_odd_rows(rt: HostRuntime) -> Result<(), Fail> {
+    let cases = [
         Case {
-            word: "run",
+            words: "run",
             input: b"{\"version\":1,\"horizon\":1,\"A\":[[1]],\"B\":[[1]],\"Q\":[[1]],\"R\":[[1]],\"P\":[[1]],\"rows\":[{\"u\":[1],\"max\":-1},{\"u\":[-1],\"max\":-1}],\"grid\":[{\"low\":-4,\"step\":1,\"count\":8}]}\nstates\n0\n8\n",
             ends: b"infeasible\ninfeasible\n",
             code: 0,
         },
         Case {
-            word: "run",
+            words: "run",
             input: b"{\"version\":1,\"horizon\":1,\"A\":[[1]],\"B\":[[1]],\"Q\":[[1]],\"R\":[[1]],\"P\":[[1]],\"rows\":[{\"u\":[1],\"max\":1},{\"u\":[-1],\"max\":1}],\"grid\":[{\"low\":0,\"step\":1,\"count\":4}]}\nstates\n4\n",
             ends: b"-1\n",
             code: 0,
         },
         Case {
-            word: "run",
+            words: "run",
             input: b"{\"version\":1,\"horizon\":1,\"A\":[[1]],\"B\":[[1]],\"Q\":[[1]],\"R\":[[1]],\"P\":[[1]],\"rows\":[{\"u\":[1],\"max\":1},{\"u\":[2],\"max\":2},{\"u\":[-1],\"max\":1},{\"max\":0}],\"grid\":[{\"low\":-4,\"step\":1,\"count\":8}]}\nstates\n0\n3\n8\n",
             ends: b"1\n1/2\n-1\n",
             code: 0,
         },
         Case {
-            word: "run",
+            words: "run",
             input: b"{\"version\":1,\"horizon\":1,\"A\":[[1]],\"B\":[[1]],\"Q\":[[1]],\"R\":[[1]],\"P\":[[1]],\"rows\":[{\"u\":[1],\"max\":0},{\"u\":[-1],\"max\":0}],\"grid\":[{\"low\":-4,\"step\":1,\"count\":8}]}\nstates\n0\n4\n8\n",
             ends: b"0\n0\n0\n",
             code: 0,
@@ -227,37 +267,37 @@ fn answers_plants_with_rows(rt: HostRuntime) -> Result<(), Fail> {
 fn compiles(rt: HostRuntime) -> Result<(), Fail> {
     let cases = [
         Case {
-            word: "compile",
+            words: "compile",
             input: b"{\"version\":1,\"horizon\":1,\"A\":[[1]],\"B\":[[1]],\"Q\":[[1]],\"R\":[[1]],\"P\":[[1]],\"grid\":[{\"low\":-4,\"step\":1,\"count\":8}]}",
             ends: b"mpc 1\nsize 1 1 1\nA 1\nB 1\nQ 1\nR 1\nP 1\nrows 0\nterminal 0\ngrid -4 1 8\nlaws 1\nlaw\nmove 2 -1/2\ntree\nleaf 1\nend\n",
             code: 0,
         },
         Case {
-            word: "compile",
+            words: "compile",
             input: b"{\"version\":1,\"horizon\":1,\"A\":[[1]],\"B\":[[1]],\"Q\":[[1]],\"R\":[[1]],\"P\":[[1]],\"rows\":[{\"u\":[1],\"max\":1},{\"u\":[-1],\"max\":1}],\"grid\":[{\"low\":-4,\"step\":1,\"count\":8}]}",
             ends: b"mpc 1\nsize 1 1 1\nA 1\nB 1\nQ 1\nR 1\nP 1\nrows 2\nrow 0 1 1\nrow 0 -1 1\nterminal 0\ngrid -4 1 8\nlaws 3\nlaw\nmove 2 -1/2\nlaw 1\nmove 1 0\nmult 2 -1\nlaw 2\nmove -1 0\nmult -6 1\ntree\nsplit -1 -2\nsplit 1 6\nleaf 1\ncert 3 1 5 1\ncert 4 1 5 1\nleaf 3\ncert 5 1\ncert 4 1 5 1\nleaf 2\ncert 3 1 4 1\ncert 4 1\nend\n",
             code: 0,
         },
         Case {
-            word: "compile",
+            words: "compile",
             input: b"{\"version\":1,\"horizon\":1,\"A\":[[1]],\"B\":[[1]],\"Q\":[[1]],\"R\":[[1]],\"P\":[[1]],\"rows\":[{\"u\":[1],\"max\":1},{\"u\":[-1],\"max\":1}],\"terminal\":[{\"x\":[1],\"max\":1},{\"x\":[-1],\"max\":1}],\"grid\":[{\"low\":-4,\"step\":1,\"count\":8}]}",
             ends: b"mpc 1\nsize 1 1 1\nA 1\nB 1\nQ 1\nR 1\nP 1\nrows 2\nrow 0 1 1\nrow 0 -1 1\nterminal 2\nlast 1 1\nlast -1 1\ngrid -4 1 8\nlaws 5\nlaw\nmove 2 -1/2\nlaw 1\nmove 1 0\nmult 2 -1\nlaw 2\nmove -1 0\nmult -6 1\nlaw 3\nmove 5 -1\nmult -6 1\nlaw 4\nmove 3 -1\nmult 2 -1\ntree\nsplit -1 -2\nsplit 1 6\nleaf 1\ncert 3 1 5 1\ncert 4 1 5 1\ncert 4 1 5 1\ncert 3 1 5 1\nnone\ncert 4 1 6 1 7 1\nnone\ncert 3 1 4 1 7 1\nend\n",
             code: 0,
         },
         Case {
-            word: "compile",
+            words: "compile",
             input: b"{\"version\":1,\"horizon\":1,\"A\":[[1]],\"B\":[[1]],\"Q\":[[1]],\"R\":[[1]],\"P\":[[1]],\"rows\":[{\"u\":[1],\"max\":-1},{\"u\":[-1],\"max\":-1}],\"grid\":[{\"low\":-4,\"step\":1,\"count\":8}]}",
             ends: b"mpc 1\nsize 1 1 1\nA 1\nB 1\nQ 1\nR 1\nP 1\nrows 2\nrow 0 1 -1\nrow 0 -1 -1\nterminal 0\ngrid -4 1 8\nlaws 0\ntree\nnone\ncert 3 1 4 1\nend\n",
             code: 0,
         },
         Case {
-            word: "compile",
+            words: "compile",
             input: b"{\"version\":1,\"horizon\":1,\"A\":[[1]],\"B\":[[1]],\"Q\":[[1]],\"R\":[[0]],\"P\":[[0]],\"grid\":[{\"low\":-4,\"step\":1,\"count\":8}]}",
             ends: b"not definite 1\n",
             code: 4,
         },
         Case {
-            word: "compile",
+            words: "compile",
             input: b"{",
             ends: b"bad plant NotJson\n",
             code: 3,
@@ -273,43 +313,43 @@ fn compiles(rt: HostRuntime) -> Result<(), Fail> {
 fn traces(rt: HostRuntime) -> Result<(), Fail> {
     let cases = [
         Case {
-            word: "trace",
+            words: "trace",
             input: b"{\"version\":1,\"horizon\":1,\"A\":[[1]],\"B\":[[1]],\"Q\":[[1]],\"R\":[[1]],\"P\":[[1]],\"rows\":[{\"x\":[1],\"max\":2}],\"grid\":[{\"low\":-4,\"step\":1,\"count\":8}]}",
             ends: b"claim 1 {}\ndone 1 {} region\nclaim 1 {1}\ndone 1 {1} dependent\n",
             code: 0,
         },
         Case {
-            word: "trace",
+            words: "trace",
             input: b"{\"version\":1,\"horizon\":1,\"A\":[[1]],\"B\":[[1]],\"Q\":[[1]],\"R\":[[1]],\"P\":[[1]],\"rows\":[{\"u\":[1],\"max\":-1},{\"u\":[-1],\"max\":-1}],\"grid\":[{\"low\":-4,\"step\":1,\"count\":8}]}",
             ends: b"claim 1 {}\ndone 1 {} unreachable\n",
             code: 0,
         },
         Case {
-            word: "trace",
+            words: "trace",
             input: b"{\"version\":1,\"horizon\":1,\"A\":[[1]],\"B\":[[1]],\"Q\":[[1]],\"R\":[[1]],\"P\":[[1]],\"rows\":[{\"u\":[1],\"max\":1},{\"u\":[-1],\"max\":1}],\"grid\":[{\"low\":0,\"step\":1,\"count\":4}]}",
             ends: b"claim 1 {}\ndone 1 {} region\nclaim 1 {1}\ndone 1 {1} hollow\nclaim 1 {2}\ndone 1 {2} region\n",
             code: 0,
         },
         Case {
-            word: "trace",
+            words: "trace",
             input: b"{\"version\":1,\"horizon\":1,\"A\":[[1]],\"B\":[[1]],\"Q\":[[1]],\"R\":[[1]],\"P\":[[1]],\"rows\":[{\"u\":[1],\"max\":1},{\"u\":[-1],\"max\":1}],\"grid\":[{\"low\":-4,\"step\":1,\"count\":8}]}",
             ends: b"claim 1 {}\ndone 1 {} region\nclaim 1 {1}\ndone 1 {1} region\nclaim 1 {2}\ndone 1 {2} region\n",
             code: 0,
         },
         Case {
-            word: "trace",
+            words: "trace",
             input: b"{\"version\":1,\"horizon\":1,\"A\":[[1]],\"B\":[[1]],\"Q\":[[1]],\"R\":[[0]],\"P\":[[0]],\"grid\":[{\"low\":-4,\"step\":1,\"count\":8}]}",
             ends: b"not definite 1\n",
             code: 4,
         },
         Case {
-            word: "trace",
+            words: "trace",
             input: b"[]",
             ends: b"bad plant NotObject\n",
             code: 3,
         },
         Case {
-            word: "trace",
+            words: "trace",
             input: b"{\"version\": 1, \"horizon\": 2, \"A\": [[1]], \"B\": [[1, 0]], \"Q\": [[1]], \"R\": [[1, 0], [0, 1]], \"P\": [[1]], \"rows\": [{\"u\": [1, \"1.179957\"], \"x\": [\"56887/35807\"], \"max\": \"4313076/7498723\"}], \"terminal\": [], \"grid\": [{\"low\": -2, \"step\": 1, \"count\": 10}]}",
             ends: b"too wide law {1,2}\n",
             code: 5,
@@ -325,37 +365,37 @@ fn traces(rt: HostRuntime) -> Result<(), Fail> {
 fn traces_every_candidate(rt: HostRuntime) -> Result<(), Fail> {
     let cases = [
         Case {
-            word: "trace",
+            words: "trace",
             input: b"{\"version\":1,\"horizon\":1,\"A\":[[1]],\"B\":[[1]],\"Q\":[[1]],\"R\":[[1]],\"P\":[[1]],\"rows\":[{\"u\":[1],\"max\":1},{\"u\":[-1],\"max\":1}],\"terminal\":[{\"x\":[1],\"max\":1},{\"x\":[-1],\"max\":1}],\"grid\":[{\"low\":-4,\"step\":1,\"count\":8}]}",
             ends: b"claim 1 {}\ndone 1 {} region\nclaim 1 {1}\ndone 1 {1} region\nclaim 1 {2}\ndone 1 {2} region\nclaim 1 {3}\ndone 1 {3} region\nclaim 1 {4}\ndone 1 {4} region\n",
             code: 0,
         },
         Case {
-            word: "trace",
+            words: "trace",
             input: b"{\"version\":1,\"horizon\":1,\"A\":[[1]],\"B\":[[1]],\"Q\":[[1]],\"R\":[[1]],\"P\":[[1]],\"rows\":[{\"u\":[1],\"max\":1},{\"u\":[1],\"max\":1},{\"u\":[-1],\"max\":1}],\"grid\":[{\"low\":-4,\"step\":1,\"count\":8}]}",
             ends: b"claim 1 {}\ndone 1 {} region\nclaim 1 {1}\ndone 1 {1} region\nclaim 1 {2}\ndone 1 {2} region\nclaim 1 {3}\ndone 1 {3} region\n",
             code: 0,
         },
         Case {
-            word: "trace",
+            words: "trace",
             input: b"{\"version\":1,\"horizon\":1,\"A\":[[1]],\"B\":[[1]],\"Q\":[[1]],\"R\":[[1]],\"P\":[[1]],\"rows\":[{\"u\":[1],\"max\":1},{\"u\":[2],\"max\":2},{\"u\":[-1],\"max\":1},{\"max\":0}],\"grid\":[{\"low\":-4,\"step\":1,\"count\":8}]}",
             ends: b"claim 1 {}\ndone 1 {} region\nclaim 1 {1}\ndone 1 {1} region\nclaim 1 {2}\ndone 1 {2} region\nclaim 1 {3}\ndone 1 {3} region\nclaim 1 {4}\ndone 1 {4} dependent\n",
             code: 0,
         },
         Case {
-            word: "trace",
+            words: "trace",
             input: b"{\"version\":1,\"horizon\":1,\"A\":[[1]],\"B\":[[1]],\"Q\":[[1]],\"R\":[[1]],\"P\":[[1]],\"rows\":[{\"u\":[1],\"max\":0},{\"u\":[-1],\"max\":0}],\"grid\":[{\"low\":-4,\"step\":1,\"count\":8}]}",
             ends: b"claim 1 {}\ndone 1 {} region\nclaim 1 {1}\ndone 1 {1} region\nclaim 1 {2}\ndone 1 {2} region\n",
             code: 0,
         },
         Case {
-            word: "trace",
+            words: "trace",
             input: b"{\"version\":1,\"horizon\":2,\"A\":[[1,1],[0,1]],\"B\":[[0],[1]],\"Q\":[[1,0],[0,1]],\"R\":[[1]],\"P\":[[1,0],[0,1]],\"rows\":[{\"u\":[1],\"max\":1},{\"u\":[-1],\"max\":1}],\"grid\":[{\"low\":-10,\"step\":1,\"count\":20},{\"low\":-10,\"step\":1,\"count\":20}]}",
             ends: b"claim 1 {}\ndone 1 {} region\nclaim 1 {1}\ndone 1 {1} region\nclaim 1 {2}\ndone 1 {2} region\nclaim 1 {3}\ndone 1 {3} region\nclaim 1 {4}\ndone 1 {4} region\nclaim 1 {1,2}\ndone 1 {1,2} dependent\nclaim 1 {1,3}\ndone 1 {1,3} region\nclaim 1 {1,4}\ndone 1 {1,4} region\nclaim 1 {2,3}\ndone 1 {2,3} region\nclaim 1 {2,4}\ndone 1 {2,4} region\nclaim 1 {3,4}\ndone 1 {3,4} dependent\n",
             code: 0,
         },
         Case {
-            word: "trace",
+            words: "trace",
             input: b"{\"version\":1,\"horizon\":2,\"A\":[[1,\"0.25\"],[0,\"0.95\"]],\"B\":[[0],[\"0.25\"]],\"Q\":[[1,0],[0,1]],\"R\":[[1]],\"P\":[[1,0],[0,1]],\"rows\":[{\"u\":[1],\"max\":\"0.5\"},{\"u\":[-1],\"max\":\"0.5\"},{\"x\":[0,1],\"max\":\"1.5\"},{\"x\":[0,-1],\"max\":\"1.5\"}],\"grid\":[{\"low\":-5,\"step\":\"0.5\",\"count\":20},{\"low\":-2,\"step\":\"0.25\",\"count\":16}]}",
             ends: b"claim 1 {}\ndone 1 {} region\nclaim 1 {1}\ndone 1 {1} region\nclaim 1 {2}\ndone 1 {2} region\nclaim 1 {3}\ndone 1 {3} dependent\nclaim 1 {4}\ndone 1 {4} dependent\nclaim 1 {5}\ndone 1 {5} hollow\nclaim 1 {6}\ndone 1 {6} hollow\nclaim 1 {7}\ndone 1 {7} hollow\nclaim 1 {8}\ndone 1 {8} hollow\nclaim 1 {1,2}\ndone 1 {1,2} dependent\nclaim 1 {1,5}\ndone 1 {1,5} hollow\nclaim 1 {1,6}\ndone 1 {1,6} hollow\nclaim 1 {1,7}\ndone 1 {1,7} dependent\nclaim 1 {1,8}\ndone 1 {1,8} dependent\nclaim 1 {2,5}\ndone 1 {2,5} hollow\nclaim 1 {2,6}\ndone 1 {2,6} hollow\nclaim 1 {2,7}\ndone 1 {2,7} dependent\nclaim 1 {2,8}\ndone 1 {2,8} dependent\nclaim 1 {5,6}\ndone 1 {5,6} dependent\nclaim 1 {5,7}\ndone 1 {5,7} hollow\nclaim 1 {5,8}\ndone 1 {5,8} hollow\nclaim 1 {6,7}\ndone 1 {6,7} hollow\nclaim 1 {6,8}\ndone 1 {6,8} hollow\nclaim 1 {7,8}\ndone 1 {7,8} dependent\n",
             code: 0,

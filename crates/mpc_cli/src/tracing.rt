@@ -1,28 +1,22 @@
 //! The history in which a plant's active sets are claimed and decided.
 
-ghost use Rattle.std.specs.Prelude.{IfOk, IfErr, OnOk};
-ghost use Rattle.mpc_synthesis.specs.Refusals.{verdicts, ExplainsSynthesisError};
-ghost use Rattle.mpc_synthesis.specs.Outcomes.{IsComplete};
+ghost use Rattle.std.specs.Prelude.{ℕ, IfOk};
+ghost use Rattle.mpc_plant.specs.declared.plants.Plant.{Plant};
+ghost use Rattle.mpc_synthesis.specs.Programs.{IsDecidedBy};
 ghost use Rattle.mpc_cli.specs.Histories.{IsTraceOf};
 
 use crate::histories::history_lines;
-use mpc_plant::Plant;
-use mpc_port::Gate;
-use mpc_synthesis::{SynthesisError, decided};
+use mpc_claim::{Registry, history_laws, legal_laws};
+use mpc_frac::NoMemory;
 use std::alloc::Global;
 
-/// The text of the history in which one worker decides the plant's candidates.
-pub fn trace<G: Gate>(alloc: Global, plant: &Plant, gate: &G) -> Result<Vec<u8>, SynthesisError>
-    ensures complete { OnOk result (IsComplete verdicts plant.now) }
-    ensures history { IfOk result (λ text. IsTraceOf plant.now text.items) }
-    ensures refused { IfErr result (ExplainsSynthesisError verdicts plant.now) }
+/// The text of the history in which a plant's candidates were decided.
+pub fn trace(alloc: Global, registry: &Registry) -> Result<Vec<u8>, NoMemory>
+    ensures { IfOk result (λ text. (workers : ℕ) (plant : Plant) → IsDecidedBy workers plant registry.now
+        → IsTraceOf workers plant text.items) }
 {
-    let registry = match decided(alloc, plant, gate) {
-        Ok(registry) => registry,
-        Err(error) => return Err(error),
-    };
-    let Ok(text) = history_lines(alloc, registry.history()) else {
-        return Err(SynthesisError::NoMemory);
-    };
+    legal_laws();
+    history_laws();
+    let text = history_lines(alloc, registry.history())?;
     Ok(text)
 }

@@ -1,11 +1,20 @@
-use Rattle.std.proofs.Common.{[]}
+use Rattle.std.proofs.Common.{ℕ, List}
+use Rattle.std.proofs.lemmas.Result.{IfOk-weaker}
+use Rattle.mpc_plant.specs.declared.plants.Plant.{Plant}
+use Rattle.mpc_cli.specs.declared.commands.Command.{Command}
 use Rattle.mpc_cli.specs.declared.commands.Command.TheVariants.{Compile}
-use Rattle.mpc_cli.proofs.AnswerLemmas.{refused_by}
+use Rattle.mpc_synthesis.specs.Refusals.{ExplainsSynthesisError}
+use Rattle.mpc_cli.specs.Extents.{extent_of}
+use Rattle.mpc_cli.specs.PlantAnswers.{IsPlantAnswer}
 use Rattle.mpc_cli.proofs.CompileLemmas.{compiled}
 use Rattle.mpc_cli.proofs.answer.compile_answer.Goals as goal
 
 pub returns-in_ok-text-in-Ok : goal.returns-in_ok-text-in-Ok
-returns-in_ok-text-in-Ok g c = compiled c.right_controller.ensures.right c.right_controller.ensures.replies c.one_controller.ensures c.args.plant c.in_ok-text-in-Ok.text.items c.output.result.text.items c.output.result.status c.in-Ok.parts c.in-Ok.ensures.controller c.in_ok-text-in-Ok.ensures c.output.ensures.status c.output.ensures.text
+returns-in_ok-text-in-Ok c = compiled c.right_controller.ensures.right c.right_controller.ensures.replies c.one_controller.ensures c.args.plant c.in_ok-text-in-Ok.text.items c.output.result.text.items c.output.result.status c.in-Ok.parts c.in-Ok.ensures.controller c.in_ok-text-in-Ok.ensures c.output.ensures.status c.output.ensures.text
 
 pub returns-in-Err : goal.returns-in-Err
-returns-in-Err g c = refused_by c.plant_refusal.result c.in-Err.error Compile c.args.plant [] c.in-Err.ensures.refused c.plant_refusal.ensures
+returns-in-Err c =
+    IfOk-weaker c.plant_refusal.result (λ a. (k : Command) (plant : Plant) (counts : List ℕ) → ExplainsSynthesisError (extent_of k) plant c.in-Err.error → IsPlantAnswer k plant counts a.status a.text.items)
+    (λ a. (workers : ℕ) (counts : List ℕ) → IsPlantAnswer (Compile workers) c.args.plant counts a.status a.text.items)
+    (λ a h workers counts. h (Compile workers) c.args.plant counts c.in-Err.ensures.refused)
+    c.plant_refusal.ensures

@@ -1,7 +1,5 @@
-use Rattle.std.proofs.Common.{[]}
-use Rattle.mpc_cli.specs.declared.commands.Command.TheVariants.{Trace}
-use Rattle.mpc_cli.proofs.AnswerLemmas.{refused_by}
+use Rattle.mpc_cli.proofs.TraceLemmas.{trace_answers}
 use Rattle.mpc_cli.proofs.answer.trace_answer.Goals as goal
 
-pub returns-in-Err : goal.returns-in-Err
-returns-in-Err g c = refused_by c.plant_refusal.result c.in-Err.error Trace c.args.plant.now [] (c.in-Err.ensures.refused) c.plant_refusal.ensures
+pub returns : goal.returns
+returns c = trace_answers c.args.registry.now c.in_ok-text.text.items c.output.result.text.items c.output.result.status c.in_ok-text.ensures c.output.ensures.status c.output.ensures.text

@@ -1,0 +1,23 @@
+-- How a run begins: with a command and its plant, or with a refusal.
+use Rattle.std.specs.Prelude.{◌≡◌, ℕ, List}
+use Rattle.mpc_plant.specs.WholePlant.{ReadsAsPlant}
+use Rattle.mpc_cli.specs.declared.requests.Request.{Request}
+use Rattle.mpc_cli.specs.declared.requests.Beginning.{Beginning}
+use Rattle.mpc_cli.specs.declared.requests.Beginning.TheVariants.{Asked, Refused}
+use Rattle.mpc_cli.specs.Commands.{plant_text}
+use Rattle.mpc_cli.specs.Answers.{IsTaken, IsAnswer}
+
+-- the words name the command, the input isn't too long, and it has the file of the plant
+pub record IsRequest (words : List (List ℕ)) (request : Request) : Type 0 where
+  pub taken : IsTaken request.command words request.input.items
+  pub read : ReadsAsPlant (plant_text request.command request.input.items) request.plant
+
+-- what the words and the input ask for, or what they are refused with
+abbrev pub IsBegun : List (List ℕ) → List ℕ → Beginning → Type 0
+IsBegun words input (Asked request) = IsRequest words request × (request.input.items ≡ input)
+IsBegun words input (Refused answer) = IsAnswer words input answer.status answer.text.items
+
+-- so some input begins
+pub record IsSomeBeginning (words : List (List ℕ)) (beginning : Beginning) : Type 0 where
+  pub input : List ℕ
+  pub begun : IsBegun words input beginning

@@ -1,0 +1,110 @@
+//! What the words and the input ask for: a command, and the plant that it is about.
+
+ghost use Rattle.std.specs.Prelude.{◌≡◌, ◌≢◌, ◌≤◌, IfOk, IfErr, IfSome, map, string_bytes, vec_len, List, ℕ, Err};
+ghost use Rattle.mpc_cli.specs.Commands.{IsCommand, Names, plant_text};
+ghost use Rattle.mpc_cli.specs.Answers.{input_limit};
+ghost use Rattle.mpc_cli.specs.Outcomes.{ExplainsHalt};
+ghost use Rattle.mpc_cli.specs.Requests.{IsBegun, IsSomeBeginning};
+ghost use Rattle.mpc_cli.specs.StatusText.{line_of};
+
+use crate::answer::{Answer, refusal};
+use crate::commands::{Command, named_command};
+use crate::input::cut;
+use crate::status::Status;
+use mpc_frac::NoMemory;
+use mpc_plant::{Plant, PlantError, read_plant};
+use mpc_port::{ReadError, Source, read_all};
+use std::alloc::Global;
+
+/// The most bytes that an input has.
+const INPUT_LIMIT: usize = 16_777_216;
+
+/// A command, its whole input, and the plant that the input has.
+#[derive(Drop)]
+pub struct Request {
+    pub command: Command,
+    pub input: Vec<u8>,
+    pub plant: Plant,
+}
+
+/// How a run begins.
+#[derive(Drop)]
+pub enum Beginning {
+    /// A command is to be answered.
+    Asked(Request),
+    /// The words or the input are refused.
+    Refused(Answer),
+}
+
+/// Why nothing is written.
+#[derive(Clone, Copy, Debug, PartialEq, Eq)]
+pub enum Halt {
+    SourceFailed,
+    OutOfMemory,
+}
+
+/// The file of the plant in the input of a command.
+fn plant_bytes(command: Command, input: &[u8]) -> &[u8]
+    ensures { result.now ≡ plant_text command input.now }
+{
+    match command {
+        Command::Run => cut(input).head,
+        Command::Compile(_) | Command::Trace(_) => input,
+    }
+}
+
+/// How a run of the command begins, whose input isn't too long.
+fn input_beginning(alloc: Global, command: Command, input: Vec<u8>) -> Result<Beginning, NoMemory>
+    requires { vec_len input ≤ input_limit }
+    ensures { IfOk result (λ beginning. (words : List (List ℕ)) → Names command words
+        → IsBegun words input.items beginning) }
+{
+    let read = read_plant(alloc, plant_bytes(command, &input));
+    match read {
+        Ok(plant) => Ok(Beginning::Asked(Request {
+            command,
+            input,
+            plant,
+        })),
+        Err(PlantError::Bad(kind, path)) => {
+            let answer = refusal(alloc, Status::BadPlant(kind, path))?;
+            Ok(Beginning::Refused(answer))
+        }
+        Err(PlantError::NoMemory) => Err(NoMemory),
+    }
+}
+
+/// A status with its line, where memory suffices.
+fn refused(alloc: Global, status: Status) -> Result<Answer, Halt>
+    ensures status { IfOk result (λ answer. answer.status ≡ status) }
+    ensures text { IfOk result (λ answer. answer.text.items ≡ line_of status) }
+    ensures halt { result ≢ Err Halt.SourceFailed }
+{
+    match refusal(alloc, status) {
+        Ok(answer) => Ok(answer),
+        Err(NoMemory) => Err(Halt::OutOfMemory),
+    }
+}
+
+/// How a run begins. The input is read only where the words name a command.
+pub fn begin<S: Source>(alloc: Global, words: &[String], source: &mut S) -> Result<Beginning, Halt>
+    ensures some { IfOk result (IsSomeBeginning (map string_bytes words.now)) }
+    ensures told { IfOk result (λ beginning. IfSome (S.left source.old) (λ input.
+        IsBegun (map string_bytes words.now) input beginning)) }
+    ensures halt { IfErr result (ExplainsHalt (map string_bytes words.now)
+        (S.faults source.old) (S.faults source.new)) }
+    ensures unread { (¬ IsCommand (map string_bytes words.now)) → source.new ≡ source.old }
+{
+    let Some(command) = named_command(words) else {
+        return Ok(Beginning::Refused(refused(alloc, Status::Usage)?));
+    };
+    match read_all(alloc, source, INPUT_LIMIT) {
+        Ok(input) => match input_beginning(alloc, command, input) {
+            Ok(beginning) => Ok(beginning),
+            Err(NoMemory) => Err(Halt::OutOfMemory),
+        },
+        Err(ReadError::TooLong) => Ok(Beginning::Refused(refused(alloc, Status::TooLong)?)),
+        Err(ReadError::ReadFault) => Err(Halt::SourceFailed),
+        Err(ReadError::NoMemory) => Err(Halt::OutOfMemory),
+    }
+}
