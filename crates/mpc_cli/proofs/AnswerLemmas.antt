@@ -1,9 +1,10 @@
 -- Answers to an input, from those of its parts.
-use Rattle.std.proofs.Common.{◌≡◌, ℕ, ◌≤◌, List, length, sym, subst}
+use Rattle.std.proofs.Common.{◌≡◌, ℕ, ◌≤◌, List, length, refl, sym, subst}
 use Rattle.std.specs.Prelude.{Result, Ok, Err, IfOk}
-use Rattle.std.specs.Str.Lines.{lines}
 use Rattle.mpc_plant.specs.declared.plants.Plant.{Plant}
 use Rattle.mpc_plant.specs.declared.faults.PlantKind.{PlantKind}
+use Rattle.mpc_plant.specs.declared.faults.PlantError.{PlantError}
+use Rattle.mpc_plant.specs.declared.faults.PlantError.TheVariants.{Bad, NoMemory as OutOfMemory}
 use Rattle.mpc_plant.specs.WholePlant.{ReadsAsPlant, IsFirstFault}
 use Rattle.mpc_cli.specs.declared.commands.Command.{Command}
 use Rattle.mpc_cli.specs.declared.commands.Command.TheVariants.{Run, Compile, Trace}
@@ -16,12 +17,11 @@ use Rattle.mpc_cli.specs.Extents.{extent_of}
 use Rattle.mpc_cli.specs.StatusText.{line_of}
 use Rattle.mpc_cli.specs.Commands.{Names, plant_text}
 use Rattle.mpc_cli.specs.Cut.{tail_of}
-use Rattle.mpc_cli.specs.ReplyLines.{AreReplies}
 use Rattle.mpc_cli.specs.PlantAnswers.{IsReplied, IsPlantAnswer}
 use Rattle.mpc_cli.specs.Answers.{input_limit, IsTaken, HasPlant, IsOutput, IsAnswer}
 use Rattle.mpc_cli.specs.declared.requests.Request.{Request}
 use Rattle.mpc_cli.specs.declared.requests.Beginning.TheVariants.{Asked}
-use Rattle.mpc_cli.specs.Requests.{IsBegun}
+use Rattle.mpc_cli.specs.Requests.{IsBegun, IsRefusalOf}
 
 pub both : {T E : Type 0} (r : Result T E) (P Q : T → Type 0) → IfOk r P → IfOk r Q → IfOk r (λ x. P x × Q x)
 both (Ok x) P Q p q = (p, q)
@@ -61,6 +61,13 @@ pub bad_plant_answers : (c : Command) (input : List ℕ) (kind : PlantKind) (pat
 bad_plant_answers c input kind path status text short fault h words named =
     subst (λ s. IsAnswer words input s text) (sym h.0)
     (record { due = record { command = c; taken = record { named = named; short = short }; fault = fault }; text_is = h.1 })
+
+pub bad_error_answers : (c : Command) (input : List ℕ) (error : PlantError) (answer : Answer) → length input ≤ input_limit
+    → ((kind : PlantKind) (path : List ℕ) → error ≡ Bad kind path → IsFirstFault (plant_text c input) kind path)
+    → IsRefusalOf error answer → (words : List (List ℕ)) → Names c words → IsAnswer words input answer.status answer.text.items
+bad_error_answers c input (Bad kind path) answer short first h words named =
+    bad_plant_answers c input kind path answer.status answer.text.items short (first kind path refl) h words named
+bad_error_answers c input OutOfMemory answer short first h words named = absurd h
 
 -- the answer to a refused plant, whose cause holds
 pub refused_by : {E : Type 0} (r : Result Answer E) (e : SynthesisError) (c : Command) (plant : Plant) (counts : List ℕ) → ExplainsSynthesisError (extent_of c) plant e

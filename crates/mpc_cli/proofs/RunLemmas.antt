@@ -143,3 +143,8 @@ pub closed : OneStatus → (words : List (List ℕ)) (p : Passage) (outcome : Re
 closed one words p (Ok a) s some told halt ends = finished one words p a.status s a.text.items some told ends
 closed one words p (Err SourceFailed) s some told halt ends = subst (RunAnswers words p) (sym ends.0) (read_failed words p halt.0 halt.1 ends.1)
 closed one words p (Err OutOfMemory) s some told halt ends = subst (RunAnswers words p) (sym ends.0) (halted words p ends.1)
+
+-- what writes nothing closes with its status
+pub halt_closes : (h : Halt) (status : Status) (taken : Option (List ℕ)) (faults : ℕ) → (h ≡ SourceFailed → status ≡ ReadFault) → (h ≡ OutOfMemory → status ≡ NoMemory) → Closes (Err h) taken taken faults faults status
+halt_closes SourceFailed status taken faults source memory = (source refl, keeps_same taken)
+halt_closes OutOfMemory status taken faults source memory = (memory refl, keeps_same taken)

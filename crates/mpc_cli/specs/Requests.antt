@@ -1,6 +1,11 @@
 -- How a run begins: with a command and its plant, or with a refusal.
 use Rattle.std.specs.Prelude.{◌≡◌, ℕ, List}
 use Rattle.mpc_plant.specs.WholePlant.{ReadsAsPlant}
+use Rattle.mpc_plant.specs.declared.faults.PlantError.{PlantError}
+use Rattle.mpc_plant.specs.declared.faults.PlantError.TheVariants.{Bad, NoMemory}
+use Rattle.mpc_cli.specs.declared.status.Status.TheVariants.{BadPlant}
+use Rattle.mpc_cli.specs.declared.answer.Answer.{Answer}
+use Rattle.mpc_cli.specs.StatusText.{line_of}
 use Rattle.mpc_cli.specs.declared.requests.Request.{Request}
 use Rattle.mpc_cli.specs.declared.requests.Beginning.{Beginning}
 use Rattle.mpc_cli.specs.declared.requests.Beginning.TheVariants.{Asked, Refused}
@@ -21,3 +26,8 @@ IsBegun words input (Refused answer) = IsAnswer words input answer.status answer
 pub record IsSomeBeginning (words : List (List ℕ)) (beginning : Beginning) : Type 0 where
   pub input : List ℕ
   pub begun : IsBegun words input beginning
+
+-- a plant's file is refused with the kind and the path of its fault
+abbrev pub IsRefusalOf : PlantError → Answer → Type 0
+IsRefusalOf (Bad kind path) answer = (answer.status ≡ BadPlant kind path) × (answer.text.items ≡ line_of (BadPlant kind path))
+IsRefusalOf NoMemory answer = ⊥

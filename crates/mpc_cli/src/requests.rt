@@ -4,7 +4,7 @@ ghost use Rattle.std.specs.Prelude.{◌≡◌, ◌≢◌, ◌≤◌, IfOk, IfErr
 ghost use Rattle.mpc_cli.specs.Commands.{IsCommand, Names, plant_text};
 ghost use Rattle.mpc_cli.specs.Answers.{input_limit};
 ghost use Rattle.mpc_cli.specs.Outcomes.{ExplainsHalt};
-ghost use Rattle.mpc_cli.specs.Requests.{IsBegun, IsSomeBeginning};
+ghost use Rattle.mpc_cli.specs.Requests.{IsBegun, IsRefusalOf, IsSomeBeginning};
 ghost use Rattle.mpc_cli.specs.StatusText.{line_of};
 
 use crate::answer::{Answer, refusal};
@@ -53,6 +53,16 @@ fn plant_bytes(command: Command, input: &[u8]) -> &[u8]
     }
 }
 
+/// The answer where no plant is read, unless memory ran out.
+fn plant_error_refusal(alloc: Global, error: PlantError) -> Result<Answer, NoMemory>
+    ensures { IfOk result (IsRefusalOf error) }
+{
+    match error {
+        PlantError::Bad(kind, path) => refusal(alloc, Status::BadPlant(kind, path)),
+        PlantError::NoMemory => Err(NoMemory),
+    }
+}
+
 /// How a run of the command begins, whose input isn't too long.
 fn input_beginning(alloc: Global, command: Command, input: Vec<u8>) -> Result<Beginning, NoMemory>
     requires { vec_len input ≤ input_limit }
@@ -66,11 +76,10 @@ fn input_beginning(alloc: Global, command: Command, input: Vec<u8>) -> Result<Be
             input,
             plant,
         })),
-        Err(PlantError::Bad(kind, path)) => {
-            let answer = refusal(alloc, Status::BadPlant(kind, path))?;
+        Err(error) => {
+            let answer = plant_error_refusal(alloc, error)?;
             Ok(Beginning::Refused(answer))
         }
-        Err(PlantError::NoMemory) => Err(NoMemory),
     }
 }
 

@@ -173,8 +173,18 @@ fn close<K: Sink>(sink: &mut K, outcome: Result<Answer, Halt>) -> Status
 {
     match outcome {
         Ok(answer) => finish(sink, answer),
-        Err(Halt::SourceFailed) => Status::ReadFault,
-        Err(Halt::OutOfMemory) => Status::NoMemory,
+        Err(halt) => halt_status(halt),
+    }
+}
+
+/// The status of a run that writes nothing.
+fn halt_status(halt: Halt) -> Status
+    ensures source { halt ≡ Halt.SourceFailed → result ≡ Status.ReadFault }
+    ensures memory { halt ≡ Halt.OutOfMemory → result ≡ Status.NoMemory }
+{
+    match halt {
+        Halt::SourceFailed => Status::ReadFault,
+        Halt::OutOfMemory => Status::NoMemory,
     }
 }
 
