@@ -1,3 +1,8 @@
-pub mod Offsets
+pub mod Versions
+pub mod Reading
 pub mod Lines
-pub mod Text
+pub mod PlantGrammar
+pub mod LawGrammar
+pub mod TreeGrammar
+pub mod FileGrammar
+pub mod Spelling

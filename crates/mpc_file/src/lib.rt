@@ -1,9 +1,12 @@
-//! The file of a controller.
+//! The file of a controller: three versions of its text are read, one is written.
 #![tactic(auto)]
 
-mod laws;
-mod writing;
+mod errors;
+mod lines;
+mod plant_parts;
+mod spelling;
+mod versions;
 
-pub use laws::offset_test;
+pub use errors::{FileError, FileKind};
 pub use mpc_controller::{Controller, SealError};
-pub use writing::write_file;
+pub use versions::Version;

@@ -1,7 +1,0 @@
-use Rattle.std.proofs.Common.{◌∷◌}
-use Rattle.mpc_file.specs.Lines.{pair_words}
-use Rattle.mpc_file.proofs.LineLemmas.{spread_at}
-use Rattle.mpc_file.proofs.writing.tree_lines.write_pairs.Goals as goal
-
-pub loop-i-preserved : goal.loop-i-preserved
-loop-i-preserved c = spread_at (λ word. 32 ∷ word) pair_words c.args.cert.now c.loop-i.i c.at.result.now c.args.out.now.items c.loop-i.out.items c.write_pair.new.out.items c.at.ensures c.loop-i.invariant c.in_ok-write_pair.ensures

@@ -1,7 +1,0 @@
-use Rattle.std.proofs.Common.{◌≡◌, ◌++◌, take}
-use Rattle.std.specs.List.{flat_map}
-use Rattle.mpc_file.specs.Lines.{behind_blanks, pair_words}
-use Rattle.mpc_file.proofs.writing.tree_lines.write_pairs.Given as goal
-
-abbrev pub invariant-loop-i : goal.invariant-loop-i
-invariant-loop-i l = l.out.items ≡ l.initial.out.items ++ behind_blanks (flat_map pair_words (take l.i l.cert))
