@@ -1,6 +1,7 @@
 //! The file of a controller: three versions of its text are read, one is written.
 #![tactic(auto)]
 
+mod bounds;
 mod errors;
 mod lines;
 mod plant_parts;
