@@ -6,3 +6,4 @@ pub mod LawGrammar
 pub mod TreeGrammar
 pub mod FileGrammar
 pub mod Spelling
+pub mod PlantNumbers

@@ -4,6 +4,7 @@
 mod bounds;
 mod errors;
 mod lines;
+mod plant_lines;
 mod plant_parts;
 mod spelling;
 mod versions;
