@@ -7,3 +7,4 @@ pub mod TreeGrammar
 pub mod FileGrammar
 pub mod Spelling
 pub mod PlantNumbers
+pub mod LimitNumbers

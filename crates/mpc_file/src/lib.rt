@@ -3,9 +3,11 @@
 
 mod bounds;
 mod errors;
+mod limit_lines;
 mod lines;
 mod plant_lines;
 mod plant_parts;
+mod plants;
 mod spelling;
 mod versions;
 
