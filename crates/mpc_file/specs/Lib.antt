@@ -8,3 +8,5 @@ pub mod FileGrammar
 pub mod Spelling
 pub mod PlantNumbers
 pub mod LimitNumbers
+pub mod TreeReading
+pub mod PlaneReading

@@ -5,10 +5,13 @@ mod bounds;
 mod errors;
 mod limit_lines;
 mod lines;
+mod named_trees;
 mod plant_lines;
 mod plant_parts;
 mod plants;
 mod spelling;
+mod tree_depths;
+mod tree_lines;
 mod versions;
 
 pub use errors::{FileError, FileKind};
