@@ -1,3 +1,4 @@
 pub mod OutcomeLemmas
 pub mod Exactness
 pub mod LineNumbers
+pub mod SpellingLemmas
