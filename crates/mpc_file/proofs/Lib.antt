@@ -2,3 +2,8 @@ pub mod OutcomeLemmas
 pub mod Exactness
 pub mod LineNumbers
 pub mod SpellingLemmas
+pub mod ManyLemmas
+pub mod Stability
+pub mod LawShapes
+pub mod TreeShapes
+pub mod FileShapes
