@@ -7,3 +7,5 @@ pub mod Stability
 pub mod LawShapes
 pub mod TreeShapes
 pub mod FileShapes
+pub mod PlantLineLemmas
+pub mod MirrorLemmas

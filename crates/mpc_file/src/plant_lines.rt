@@ -154,7 +154,10 @@ pub(crate) fn read_matrix(
 fn are_equal(x: &Frac, y: &Frac) -> bool
     ensures { MatchBool result (x.now ≡ y.now) (x.now ≢ y.now) }
 {
-    x.cmp(y) == Ordering::Equal
+    match x.cmp(y) {
+        Ordering::Equal => true,
+        Ordering::Less | Ordering::Greater => false,
+    }
 }
 
 /// Whether row i is column i, as far as the diagonal.
@@ -277,14 +280,13 @@ fn read_drift(alloc: Global, lines: &mut Lines, states: u32) -> Result<Vector, F
     }
 }
 
-/// So many entries from a place on.
-fn part(alloc: Global, entries: &Vector, start: usize, count: usize) -> Result<Vector, NoMemory>
-    requires { start + count ≤ length entries.now }
-    ensures { IfOk result (λ xs. xs ≡ take count (drop start entries.now)) }
+/// The vector of these entries.
+fn vector_of(alloc: Global, entries: &[Frac]) -> Result<Vector, NoMemory>
+    ensures { IfOk result (λ xs. xs ≡ entries.now) }
 {
-    let mut copy = Vector::with_capacity(alloc, count)?;
-    for i in 0..count {
-        copy.push(*entries.at(start + i))?;
+    let mut copy = Vector::with_capacity(alloc, entries.len())?;
+    for entry in entries {
+        copy.push(*entry)?;
     }
     Ok(copy)
 }
@@ -299,25 +301,19 @@ fn targets_in(alloc: Global, text: &[u8], sizes: &Sizes) -> Result<Option<Target
         return Ok(None);
     };
     let states = sizes.states as usize;
-    let inputs = sizes.inputs as usize;
-    if goals.len() != states + inputs {
+    if goals.len() != states + sizes.inputs as usize {
         return Ok(None);
     }
-    let xgoal = part(alloc, &goals, 0, states)?;
-    let ugoal = part(alloc, &goals, states, inputs)?;
+    let xgoal = vector_of(alloc, &goals.as_slice()[..states])?;
+    let ugoal = vector_of(alloc, &goals.as_slice()[states..])?;
     Ok(Some(Targets { xgoal, ugoal }))
 }
 
 /// Whether each entry is 0.
 fn are_zero(entries: &Vector) -> bool
-    ensures { MatchBool result (AreZero entries.now) (¬ AreZero entries.now) }
+    ensures { IsTrue result ↔ AreZero entries.now }
 {
-    for i in 0..entries.len() {
-        if !entries.at(i).is_zero() {
-            return false;
-        }
-    }
-    true
+    entries.as_slice().iter().all(|entry| entry.is_zero())
 }
 
 /// Whether a text of this version may state this drift and these targets.
