@@ -10,3 +10,4 @@ pub mod PlantNumbers
 pub mod LimitNumbers
 pub mod TreeReading
 pub mod PlaneReading
+pub mod FormLists

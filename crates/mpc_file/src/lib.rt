@@ -3,8 +3,12 @@
 
 mod bounds;
 mod errors;
+mod forms;
+mod law_lines;
 mod limit_lines;
+mod line_sets;
 mod lines;
+mod named_laws;
 mod named_trees;
 mod plant_lines;
 mod plant_parts;
