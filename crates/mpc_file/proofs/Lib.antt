@@ -9,3 +9,4 @@ pub mod TreeShapes
 pub mod FileShapes
 pub mod PlantLineLemmas
 pub mod MirrorLemmas
+pub mod NumberLines
