@@ -10,3 +10,4 @@ pub mod FileShapes
 pub mod PlantLineLemmas
 pub mod MirrorLemmas
 pub mod NumberLines
+pub mod PlantExact

@@ -11,3 +11,4 @@ pub mod LimitNumbers
 pub mod TreeReading
 pub mod PlaneReading
 pub mod FormLists
+pub mod TextLaws

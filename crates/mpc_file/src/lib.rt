@@ -7,6 +7,7 @@ mod forms;
 mod law_lines;
 mod limit_lines;
 mod line_sets;
+mod laws;
 mod lines;
 mod named_laws;
 mod named_trees;
@@ -19,5 +20,6 @@ mod tree_lines;
 mod versions;
 
 pub use errors::{FileError, FileKind};
+pub use laws::one_reading;
 pub use mpc_controller::{Controller, SealError};
 pub use versions::Version;

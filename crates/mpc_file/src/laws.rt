@@ -1,0 +1,21 @@
+//! What holds of every text. The calls do nothing: their contracts are the laws.
+
+ghost use Rattle.mpc_file.specs.TextLaws.{OneVersion, OneController, SpelledNeverFails, OneLine, OneReason};
+
+use mpc_words::{cut_laws, fraction_laws, integer_laws, line_laws, natural_laws};
+
+/// A text spells one controller in one version at most, and fails at one line at most, for one reason,
+/// and then it spells none.
+pub fn one_reading()
+    ensures one_version { OneVersion }
+    ensures one_controller { OneController }
+    ensures spelled_never_fails { SpelledNeverFails }
+    ensures one_line { OneLine }
+    ensures one_reason { OneReason }
+{
+    cut_laws();
+    line_laws();
+    natural_laws();
+    integer_laws();
+    fraction_laws();
+}
