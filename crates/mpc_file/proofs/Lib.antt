@@ -11,3 +11,4 @@ pub mod PlantLineLemmas
 pub mod MirrorLemmas
 pub mod NumberLines
 pub mod PlantExact
+pub mod LimitLemmas

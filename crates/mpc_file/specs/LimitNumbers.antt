@@ -1,6 +1,6 @@
 -- Which rows and coordinates numbers state.
 use Rattle.std.specs.Prelude.{◌≡◌, ℕ, ◌≤◌, List, [], ◌∷◌, ◌++◌, pos}
-use Rattle.mpc_exact.specs.Rational.{ℚ, int}
+use Rattle.mpc_exact.specs.Rational.{ℚ}
 use Rattle.mpc_plant.specs.Limits.{FitsRow, IsCoordinate, greatest_count}
 use Rattle.mpc_plant.specs.declared.lists.PlantRow.{PlantRow}
 use Rattle.mpc_plant.specs.declared.lists.Coordinate.{Coordinate}
@@ -11,11 +11,14 @@ pub record StatesRow (states inputs : ℕ) (numbers : List ℚ) (row : PlantRow)
   pub sizes : FitsRow states inputs row
 
 -- the fraction is a number of steps that a coordinate may have
-pub record IsWholeCount (x : ℚ) (count : ℕ) : Type 0 where
-  pub is_whole : x ≡ int (pos count)
+pub record IsStepCount (x : ℚ) (count : ℕ) : Type 0 where
+  pub numer : x.numer ≡ pos count
+  pub denom : x.denom ≡ 1
   pub small : count ≤ greatest_count
 
 -- the numbers are the least value of the coordinate, its step, and how many steps it has
 pub record StatesAxis (numbers : List ℚ) (axis : Coordinate) : Type 0 where
-  pub numbers_are : numbers ≡ axis.low ∷ axis.step ∷ int (pos axis.count) ∷ []
+  pub last : ℚ
+  pub numbers_are : numbers ≡ axis.low ∷ axis.step ∷ last ∷ []
+  pub count_is : IsStepCount last axis.count
   pub allowed : IsCoordinate axis

@@ -8,7 +8,7 @@ ghost use Rattle.mpc_plant.specs.Limits.{greatest_count};
 ghost use Rattle.mpc_file.specs.Reading.{Outcome, one_line};
 ghost use Rattle.mpc_file.specs.Versions.{greatest_rows as most_rows};
 ghost use Rattle.mpc_file.specs.PlantGrammar.{plain_rule, so_many, IsRowCount, IsRow, IsLast, IsAxis, AllFit, row_list, last_list, grid, limits};
-ghost use Rattle.mpc_file.specs.LimitNumbers.{StatesRow, StatesAxis, IsWholeCount};
+ghost use Rattle.mpc_file.specs.LimitNumbers.{StatesRow, StatesAxis, IsStepCount};
 
 use crate::errors::{FileError, FileKind};
 use crate::lines::Lines;
@@ -133,11 +133,11 @@ fn last_in(alloc: Global, text: &[u8], sizes: &Sizes) -> Result<Option<PlantRow>
     }
 }
 
-/// The number of steps that a fraction is.
+/// The number of steps that a fraction is, if a coordinate may have so many.
 fn steps_of(number: &Frac) -> Option<u64>
     ensures { MatchOption result
-        ((count : ℕ) → ¬ IsWholeCount number.now count)
-        (λ count. IsWholeCount number.now count) }
+        ((count : ℕ) → ¬ IsStepCount number.now count)
+        (λ count. IsStepCount number.now count) }
 {
     let count = number.num();
     if number.den() == 1 && 0 <= count && count <= GREATEST_COUNT {
