@@ -1,11 +1,11 @@
 -- The lines of a plant: its sizes, its matrices, its drift and targets, its rows and its grid.
-use Rattle.std.specs.Prelude.{◌≡◌, ◌≢◌, ℕ, ◌+◌, ◌*◌, ◌≤◌, Bool, nat_lt, List, [], ◌∷◌, ◌++◌, length, map, All, codes, decimal, pos}
+use Rattle.std.specs.Prelude.{◌≡◌, ℕ, ◌+◌, ◌*◌, ◌≤◌, nat_lt, List, [], ◌∷◌, ◌++◌, length, All, codes, decimal, pos}
 use Rattle.mpc_exact.specs.Rational.{ℚ, int}
 use Rattle.mpc_space.specs.Vector.{zeros}
 use Rattle.mpc_space.specs.Matrix.{RationalMatrix}
 use Rattle.mpc_frac.specs.Fits.{FitsFrac}
 use Rattle.mpc_linear.specs.Shape.{HasShape}
-use Rattle.mpc_plant.specs.Limits.{IsFromTo, IsWeight, FitsRow, IsCoordinate, row_limit}
+use Rattle.mpc_plant.specs.Limits.{IsFromTo, IsWeight, FitsRow, IsCoordinate}
 use Rattle.mpc_plant.specs.declared.plants.Plant.{Plant}
 use Rattle.mpc_plant.specs.declared.lists.PlantRow.{PlantRow}
 use Rattle.mpc_plant.specs.declared.lists.Coordinate.{Coordinate}

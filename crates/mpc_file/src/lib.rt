@@ -6,6 +6,7 @@ mod errors;
 mod forms;
 mod law_lines;
 mod limit_lines;
+mod line_laws;
 mod line_sets;
 mod laws;
 mod lines;
