@@ -8,6 +8,9 @@ ghost use Rattle.mpc_file.specs.Lines.{count_line, fractions_line, integers_line
 ghost use Rattle.mpc_file.specs.PlantGrammar.{AllFit};
 ghost use Rattle.mpc_file.specs.Spelling.{AreFractions, AreIntegers, IsOneNumber, IsOneCount, numeral_line};
 
+#[cfg(test)]
+mod tests;
+
 use mpc_frac::NoMemory;
 use mpc_linear::{Ints, Vector};
 use mpc_words::{
