@@ -12,3 +12,8 @@ pub mod MirrorLemmas
 pub mod NumberLines
 pub mod PlantExact
 pub mod LimitLemmas
+pub mod GrownTexts
+pub mod PrintLemmas
+pub mod WithoutLemmas
+pub mod PlantPrints
+pub mod NameLemmas

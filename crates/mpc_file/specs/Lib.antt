@@ -12,3 +12,6 @@ pub mod TreeReading
 pub mod PlaneReading
 pub mod FormLists
 pub mod TextLaws
+pub mod Writing
+pub mod WrittenFits
+pub mod Names

@@ -19,6 +19,7 @@ mod spelling;
 mod tree_depths;
 mod tree_lines;
 mod versions;
+mod writing;
 
 pub use errors::{FileError, FileKind};
 pub use laws::one_reading;
