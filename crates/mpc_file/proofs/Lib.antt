@@ -17,3 +17,4 @@ pub mod PrintLemmas
 pub mod WithoutLemmas
 pub mod PlantPrints
 pub mod NameLemmas
+pub mod LawExact
