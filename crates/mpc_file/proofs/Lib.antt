@@ -18,3 +18,5 @@ pub mod WithoutLemmas
 pub mod PlantPrints
 pub mod NameLemmas
 pub mod LawExact
+pub mod Runs
+pub mod TreeExact
