@@ -1,5 +1,5 @@
 -- Lines of numbers: natural numbers are spelled as whole numbers, these as fractions, and a certificate's line is one of fractions.
-use Rattle.std.proofs.Common.{◌≡◌, ℕ, ◌^◌, ◌<◌, eqb, List, [], ◌∷◌, ◌++◌, map, flat_map, All, codes, ℤ, pos, unsigned_abs, decimal, refl, sym, ap, ◌∙◌, subst, arith, lit<, append-nil}
+use Rattle.std.proofs.Common.{◌≡◌, ℕ, ◌^◌, ◌<◌, eqb, List, [], ◌∷◌, ◌++◌, map, flat_map, All, codes, ℤ, pos, unsigned_abs, decimal, refl, sym, ap, ◌∙◌, subst, lit<, append-nil}
 use Rattle.std.specs.Fmt.{signed_decimal}
 use Rattle.std.proofs.lemmas.Bool.{eq-eqb, cond-true}
 use Rattle.std.proofs.lemmas.List.Elements.{All-nil, All-cons, All-head, All-tail, All-map}
@@ -10,11 +10,11 @@ use Rattle.mpc_frac.specs.Fits.{FitsFrac}
 use Rattle.mpc_frac.specs.Text.{text_of as fraction_text}
 use Rattle.mpc_linear.specs.Whole.{AreSmall}
 use Rattle.mpc_words.specs.Numerals.{numeral}
-use Rattle.mpc_words.specs.Words.{IsWord, line}
+use Rattle.mpc_words.specs.Words.{line}
 use Rattle.mpc_file.specs.Lines.{count_line, integers_line, fractions_line, pair_words, cert_line}
 use Rattle.mpc_file.specs.PlantGrammar.{AllFit}
 use Rattle.mpc_file.specs.Spelling.{numeral_line}
-use Rattle.mpc_file.proofs.SpellingLemmas.{PartsLaw, one_list_of, IsSmall, small_word, behind_name}
+use Rattle.mpc_file.proofs.SpellingLemmas.{IsSmall, behind_name}
 
 -- ---- whole numbers are fractions
 coprime_to_one : (n : ℕ) → gcd n 1 ≡ 1
@@ -124,14 +124,7 @@ same_pairs ((n, x) ∷ xs) ((m, y) ∷ ys) e =
     let rest : xs ≡ ys = same_pairs xs ys back in
     λ i. (place i, multiplier i) ∷ rest i
 
--- ---- a line spells one list of numbers
-module _ (parts : PartsLaw) where
-  pub one_fractions_line : ((x : ℚ) → FitsFrac x → IsWord (fraction_text x)) → ((x y : ℚ) → FitsFrac x → FitsFrac y → fraction_text x ≡ fraction_text y → x ≡ y) → (name : List ℕ) (xs ys : List ℚ) → AllFit xs → AllFit ys → fractions_line name xs ≡ fractions_line name ys → xs ≡ ys
-  one_fractions_line word_of one = one_list_of fraction_text FitsFrac word_of parts one
-
-  pub one_integers_line : ((z : ℤ) → unsigned_abs z < 10 ^ 64 → IsWord (signed_decimal z)) → ((y z : ℤ) → unsigned_abs y < 10 ^ 64 → unsigned_abs z < 10 ^ 64 → signed_decimal y ≡ signed_decimal z → y ≡ z) → (name : List ℕ) (ys zs : List ℤ) → AreSmall ys → AreSmall zs → integers_line name ys ≡ integers_line name zs → ys ≡ zs
-  one_integers_line word_of one = one_list_of signed_decimal IsSmall (small_word word_of) parts (λ y z h k. one y z (omega arith) (omega arith))
-
+-- ---- one number
 -- a line whose only further word is this
 pub one_word_line : (name word other : List ℕ) → line name (word ∷ []) ≡ line name (other ∷ []) → word ≡ other
 one_word_line name word other e = behind_name name (line name (word ∷ [])) word other (ap (λ w. name ++ 32 ∷ w) (append-nil word)) e

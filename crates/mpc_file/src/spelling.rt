@@ -1,12 +1,9 @@
 //! The numbers that the words of a line spell behind its first word.
 
-ghost use Rattle.std.specs.Prelude.{◌≡◌, ◌≢◌, List, ℕ, ℤ, ◌∷◌, ◌++◌, ◌^◌, ◌<◌, MatchOption, IfOk};
+ghost use Rattle.std.specs.Prelude.{◌≡◌, ◌≢◌, List, ℕ, ℤ, ◌∷◌, ◌++◌, MatchOption, IfOk};
 ghost use Rattle.mpc_exact.specs.Rational.{ℚ};
-ghost use Rattle.mpc_linear.specs.Whole.{AreSmall};
 ghost use Rattle.mpc_words.specs.Words.{line};
-ghost use Rattle.mpc_file.specs.Lines.{count_line, fractions_line, integers_line};
-ghost use Rattle.mpc_file.specs.PlantGrammar.{AllFit};
-ghost use Rattle.mpc_file.specs.Spelling.{AreFractions, AreIntegers, IsOneNumber, IsOneCount, numeral_line};
+ghost use Rattle.mpc_file.specs.Spelling.{AreFractions, AreIntegers, IsOneNumber, IsOneCount};
 
 #[cfg(test)]
 mod tests;
@@ -14,24 +11,10 @@ mod tests;
 use mpc_frac::NoMemory;
 use mpc_linear::{Ints, Vector};
 use mpc_words::{
-    Natural, fraction_laws, integer_laws, line_laws, natural_laws, read_fraction, read_integer,
-    read_natural, split_word,
+    Natural, fraction_laws, integer_laws, line_laws, read_fraction, read_integer, read_natural,
+    split_word,
 };
 use std::alloc::Global;
-
-/// A line spells one list of numbers only. The call does nothing: its contract is the laws.
-pub fn spelling_laws()
-    ensures fractions { (name : List ℕ) (xs ys : List ℚ) → AllFit xs → AllFit ys → fractions_line name xs ≡ fractions_line name ys → xs ≡ ys }
-    ensures integers { (name : List ℕ) (ys zs : List ℤ) → AreSmall ys → AreSmall zs → integers_line name ys ≡ integers_line name zs → ys ≡ zs }
-    ensures numeral { (name : List ℕ) (m n : ℕ) → numeral_line name m ≡ numeral_line name n → m ≡ n }
-    ensures count { (name : List ℕ) (m n : ℕ) → m < 10 ^ 64 → n < 10 ^ 64 → count_line name m ≡ count_line name n → m ≡ n }
-    ensures printed { (name : List ℕ) (n : ℕ) → n < 10 ^ 64 → count_line name n ≡ numeral_line name n }
-{
-    line_laws();
-    natural_laws();
-    integer_laws();
-    fraction_laws();
-}
 
 /// What stands behind the blank behind the word `name`, or in it `None` where the line is this word
 /// alone, if the line begins so.
