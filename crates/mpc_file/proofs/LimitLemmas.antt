@@ -1,5 +1,5 @@
 -- The lines of a plant's rows and of its grid.
-use Rattle.std.proofs.Common.{◌≡◌, ℕ, ◌+◌, ◌*◌, ◌^◌, ◌<◌, ◌≤◌, Bool, true, false, leb, List, [], ◌∷◌, ◌++◌, ℤ, pos, negsuc, unsigned_abs, to_z, of_z, decimal, refl, sym, ap, ◌∙◌, subst, arith, append-nil}
+use Rattle.std.proofs.Common.{◌≡◌, ℕ, ◌+◌, ◌*◌, ◌^◌, ◌<◌, ◌≤◌, Bool, true, false, leb, ltb, List, [], ◌∷◌, ◌++◌, ℤ, pos, negsuc, length, get_or, unsigned_abs, to_z, of_z, decimal, refl, sym, ap, ◌∙◌, subst, arith, append-nil}
 use Rattle.std.specs.Int.{w128}
 use Rattle.std.specs.Int.Signed.{le_z}
 use Rattle.std.proofs.lemmas.Bool.{leb-true, le-leb}
@@ -8,7 +8,9 @@ use Rattle.std.proofs.lemmas.Fmt.{decimal_injective}
 use Rattle.std.proofs.lemmas.List.{append_cancel_left}
 use Rattle.mpc_words.specs.Words.{line}
 use Rattle.mpc_file.specs.Lines.{count_line}
+use Rattle.mpc_file.specs.Reading.{Cursor, LineRule, one_line, ReadsItems}
 use Rattle.mpc_file.specs.PlantGrammar.{IsRowCount}
+use Rattle.mpc_file.proofs.OutcomeLemmas.{none_read, more_read, asks_for_more}
 use Rattle.mpc_exact.specs.Rational.{ℚ}
 use Rattle.mpc_frac.specs.Fits.{FitsFrac}
 use Rattle.mpc_plant.specs.Limits.{greatest_count}
@@ -65,3 +67,23 @@ module _ (x : ℚ) (num den : ℤ) (num_is : num ≡ x.numer) (den_is : den ≡ 
 
     pub not_above : le_z (to_z w128 (of_z w128 num)) (pos 1000000) ≡ true
     not_above = ap (λ z. le_z z (pos 1000000)) num_is_count ∙ le-leb count 1000000 is.small
+
+-- ---- three numbers
+pub three_of : {A : Type 0} (xs : List A) (a b c : A) → length xs ≡ 3 → a ≡ get_or xs 0 a → b ≡ get_or xs 1 b → c ≡ get_or xs 2 c → xs ≡ a ∷ b ∷ c ∷ []
+three_of [] a b c n e f g = absurd (omega arith)
+three_of (x ∷ []) a b c n e f g = absurd (omega arith)
+three_of (x ∷ y ∷ []) a b c n e f g = absurd (omega arith)
+three_of (x ∷ y ∷ z ∷ []) a b c n e f g = λ i. sym e i ∷ sym f i ∷ sym g i ∷ []
+three_of (x ∷ y ∷ z ∷ w ∷ ws) a b c n e f g = absurd (omega arith)
+
+-- ---- so many items, each by the same rule
+module _ {X : Type 0} (rule : LineRule X) (count : ℕ) (here : Cursor) where
+  abbrev pub HasRead : List X → Cursor → Type 0
+  HasRead items behind = ReadsItems X (λ before. one_line rule) (λ (before : List X). ltb (length before) count) here items behind
+
+  pub none_so_far : (items : List X) → items ≡ [] → HasRead items here
+  none_so_far items e = subst (λ xs. HasRead xs here) (sym e) (none_read (λ before. one_line rule) (λ (before : List X). ltb (length before) count) here)
+
+  pub one_further : (between behind : Cursor) (items more : List X) (x : X) (k : ℕ) → HasRead items between → length items ≡ k → k < count → (one_line rule).Reads between x behind → more ≡ items ++ x ∷ [] → HasRead more behind
+  one_further between behind items more x k before size some reads e =
+      more_read (λ xs. one_line rule) (λ (xs : List X). ltb (length xs) count) here between behind items more x before (asks_for_more items count (omega arith)) reads e

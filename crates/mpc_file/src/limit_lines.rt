@@ -1,7 +1,7 @@
 //! The lines of a plant's rows and of its grid.
 
-ghost use Rattle.std.specs.Prelude.{◌≡◌, ◌≢◌, ◌+◌, ◌*◌, ◌^◌, ◌<◌, ◌≤◌, ℕ, length, MatchOption, IfOk};
-ghost use Rattle.mpc_exact.specs.Rational.{ℚ};
+ghost use Rattle.std.specs.Prelude.{◌≡◌, ◌≢◌, ◌+◌, ◌*◌, ◌^◌, ◌<◌, ◌≤◌, ℕ, length, MatchOption, MatchBool, IfOk};
+ghost use Rattle.mpc_exact.specs.Rational.{IsPositive};
 ghost use Rattle.mpc_plant.specs.declared.lists.PlantRow.{PlantRow as Row};
 ghost use Rattle.mpc_plant.specs.declared.lists.Coordinate.{Coordinate as Axis};
 ghost use Rattle.mpc_plant.specs.Limits.{greatest_count};
@@ -147,6 +147,13 @@ fn steps_of(number: &Frac) -> Option<u64>
     }
 }
 
+/// Whether the number is above 0.
+fn is_positive(number: &Frac) -> bool
+    ensures { MatchBool result (IsPositive number.now) (¬ IsPositive number.now) }
+{
+    Frac::whole(0).cmp(number) == Ordering::Less
+}
+
 /// The coordinate that three numbers state.
 fn axis_of(numbers: &[Frac]) -> Option<Coordinate>
     ensures { MatchOption result
@@ -156,13 +163,14 @@ fn axis_of(numbers: &[Frac]) -> Option<Coordinate>
     if numbers.len() != 3 {
         return None;
     }
-    if Frac::whole(0).cmp(&numbers[1]) != Ordering::Less {
+    let step = numbers[1];
+    if !is_positive(&step) {
         return None;
     }
     let count = steps_of(&numbers[2])?;
     Some(Coordinate {
         low: numbers[0],
-        step: numbers[1],
+        step,
         count,
     })
 }
