@@ -20,3 +20,5 @@ pub mod NameLemmas
 pub mod LawExact
 pub mod Runs
 pub mod TreeExact
+pub mod FileRuns
+pub mod FileExact

@@ -202,7 +202,7 @@ module _ (cuts : CutLaws) (laws : WordLaws) where
     none_begins_so = λ text h. split_begins text _ h.1.0.spelled;
   }
 
-  exact_word : (word : List ℕ) (here : Cursor) → IsExactAt (one_line (plain_rule (IsWord word))) here
+  pub exact_word : (word : List ℕ) (here : Cursor) → IsExactAt (one_line (plain_rule (IsWord word))) here
   exact_word word here = exact_plain cuts laws (IsWord word) (λ text x y h k. refl) here
 
   pub exact_written_tree : (plant : Plant) (count : ℕ) → count ≤ 4598479 → (here : Cursor) → reach here ≤ 2 ^ 65 → IsExactAt (written_tree plant count) here
