@@ -22,3 +22,4 @@ pub mod Runs
 pub mod TreeExact
 pub mod FileRuns
 pub mod FileExact
+pub mod PlantTexts
