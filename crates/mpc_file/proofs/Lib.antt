@@ -23,3 +23,5 @@ pub mod TreeExact
 pub mod FileRuns
 pub mod FileExact
 pub mod PlantTexts
+pub mod OneText
+pub mod PartText
