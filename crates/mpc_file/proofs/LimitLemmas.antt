@@ -1,31 +1,27 @@
 -- The lines of a plant's rows and of its grid.
-use Rattle.std.proofs.Common.{◌≡◌, ℕ, ◌+◌, ◌*◌, ◌^◌, ◌<◌, ◌≤◌, Bool, true, false, leb, ltb, List, [], ◌∷◌, ◌++◌, ℤ, pos, negsuc, length, get_or, unsigned_abs, to_z, of_z, decimal, refl, sym, ap, ◌∙◌, subst, arith, append-nil}
+use Rattle.std.proofs.Common.{◌≡◌, ◌≢◌, ℕ, ◌+◌, ◌*◌, ◌^◌, ◌<◌, ◌≤◌, Bool, true, false, leb, ltb, List, [], ◌∷◌, ◌++◌, ℤ, pos, negsuc, length, get_or, codes, Option, Some, None, MatchOption, unsigned_abs, to_z, of_z, decimal, refl, sym, ap, ◌∙◌, subst, arith, append-nil, length-append}
 use Rattle.std.specs.Int.{w128}
 use Rattle.std.specs.Int.Signed.{le_z}
 use Rattle.std.proofs.lemmas.Bool.{leb-true, le-leb}
 use Rattle.std.proofs.lemmas.Int.{fits_signed_from_abs, to_z-of_z}
-use Rattle.std.proofs.lemmas.Fmt.{decimal_injective}
-use Rattle.std.proofs.lemmas.List.{append_cancel_left}
-use Rattle.mpc_words.specs.Words.{line}
-use Rattle.mpc_file.specs.Lines.{count_line}
 use Rattle.mpc_file.specs.Reading.{Cursor, LineRule, one_line, ReadsItems}
-use Rattle.mpc_file.specs.PlantGrammar.{IsRowCount}
+use Rattle.mpc_file.specs.PlantGrammar.{AllFit, IsRowCount, IsRow, IsLast, IsAxis}
+use Rattle.mpc_file.proofs.NumberLines.{whole_numer, whole_denom, natural_text, natural_fits}
 use Rattle.mpc_file.proofs.OutcomeLemmas.{none_read, more_read, asks_for_more}
-use Rattle.mpc_exact.specs.Rational.{ℚ}
+use Rattle.std.proofs.lemmas.List.Elements.{All-nil, All-cons, All-head, All-tail}
+use Rattle.mpc_exact.specs.Rational.{ℚ, int, same_parts}
 use Rattle.mpc_frac.specs.Fits.{FitsFrac}
+use Rattle.mpc_frac.specs.Text.{text_of as fraction_text}
+use Rattle.mpc_words.specs.Words.{line}
+use Rattle.mpc_plant.specs.declared.lists.PlantRow.{PlantRow}
+use Rattle.mpc_plant.specs.declared.lists.Coordinate.{Coordinate}
+use Rattle.mpc_file.specs.declared.plant_parts.Sizes.{Sizes}
+use Rattle.mpc_file.specs.Lines.{fractions_line, grid_line}
+use Rattle.mpc_file.specs.Spelling.{AreFractions}
 use Rattle.mpc_plant.specs.Limits.{greatest_count}
 use Rattle.mpc_file.specs.LimitNumbers.{StatesRow, StatesAxis, IsStepCount}
 
 -- ---- the number of rows
-behind_name : (name xs ys : List ℕ) → line name (xs ∷ []) ≡ line name (ys ∷ []) → xs ≡ ys
-behind_name name xs ys e =
-    let cut : (32 ∷ xs) ++ [] ≡ (32 ∷ ys) ++ [] = append_cancel_left name ((32 ∷ xs) ++ []) ((32 ∷ ys) ++ []) e in
-    let bare : 32 ∷ xs ≡ 32 ∷ ys = sym (append-nil (32 ∷ xs)) ∙ cut ∙ append-nil (32 ∷ ys) in
-    cc
-
-pub same_count : (name : List ℕ) (m n : ℕ) → m < 2 ^ 64 → n < 2 ^ 64 → count_line name m ≡ count_line name n → m ≡ n
-same_count name m n h k e = decimal_injective m n h k (behind_name name (decimal m) (decimal n) e)
-
 -- at least one row each
 few_each : (each count : ℕ) → 0 < each → count ≤ each * count
 few_each each count h = grind arith
@@ -37,8 +33,8 @@ small_count name text each others most count some limit is = omega (arith, is.fe
 read_back : (z : ℤ) → unsigned_abs z < 2 ^ 127 → to_z w128 (of_z w128 z) ≡ z
 read_back z h = to_z-of_z w128 z (fits_signed_from_abs w128 z h)
 
-whole_denom : (z : ℤ) (d : ℕ) → z ≡ pos d → d < 2 ^ 127 → of_z w128 z ≡ 1 → d ≡ 1
-whole_denom z d e h one =
+one_denom_of : (z : ℤ) (d : ℕ) → z ≡ pos d → d < 2 ^ 127 → of_z w128 z ≡ 1 → d ≡ 1
+one_denom_of z d e h one =
     let back : pos d ≡ pos 1 = sym (read_back (pos d) h) ∙ ap (λ y. to_z w128 (of_z w128 y)) (sym e) ∙ ap (to_z w128) one in
     cc
 
@@ -53,7 +49,7 @@ module _ (x : ℚ) (num den : ℤ) (num_is : num ≡ x.numer) (den_is : den ≡ 
   pub step_count : of_z w128 den ≡ 1 → le_z (pos 0) (to_z w128 (of_z w128 num)) ≡ true → le_z (to_z w128 (of_z w128 num)) (pos 1000000) ≡ true → IsStepCount x (unsigned_abs (to_z w128 (of_z w128 num)))
   step_count one low high =
       let number = step_number (to_z w128 (of_z w128 num)) x.numer num_back low high in
-      record { numer = number.0; denom = whole_denom den x.denom den_is fits.1 one; small = number.1 }
+      record { numer = number.0; denom = one_denom_of den x.denom den_is fits.1 one; small = number.1 }
 
   module _ (count : ℕ) (is : IsStepCount x count) where
     num_is_count : to_z w128 (of_z w128 num) ≡ pos count
@@ -87,3 +83,103 @@ module _ {X : Type 0} (rule : LineRule X) (count : ℕ) (here : Cursor) where
   pub one_further : (between behind : Cursor) (items more : List X) (x : X) (k : ℕ) → HasRead items between → length items ≡ k → k < count → (one_line rule).Reads between x behind → more ≡ items ++ x ∷ [] → HasRead more behind
   one_further between behind items more x k before size some reads e =
       more_read (λ xs. one_line rule) (λ (xs : List X). ltb (length xs) count) here between behind items more x before (asks_for_more items count (omega arith)) reads e
+
+-- ---- a row's line
+-- a line states one list of fractions only
+abbrev pub OneFractions : Type 0
+OneFractions = (name : List ℕ) (xs ys : List ℚ) → AllFit xs → AllFit ys → fractions_line name xs ≡ fractions_line name ys → xs ≡ ys
+
+-- what is read of a line: fractions or none
+abbrev pub IsReadAs : List ℕ → List ℕ → Option (List ℚ) → Type 0
+IsReadAs name text found = MatchOption found ((xs : List ℚ) → ¬ AreFractions name text xs) (λ xs. AreFractions name text xs)
+
+pub some_fractions : (name text : List ℕ) (found : Option (List ℚ)) (xs ys : List ℚ) → IsReadAs name text found → found ≡ Some xs → ys ≡ xs → AreFractions name text ys
+some_fractions name text found xs ys h e f = subst (λ zs. AreFractions name text zs) (sym f) (subst (IsReadAs name text) e h)
+
+pub no_fractions : (name text : List ℕ) (found : Option (List ℚ)) → IsReadAs name text found → found ≡ None → (xs : List ℚ) → ¬ AreFractions name text xs
+no_fractions name text found h e = subst (IsReadAs name text) e h
+
+-- a row that weighs no inputs
+empty_list : {A : Type 0} (xs : List A) → length xs ≡ 0 → xs ≡ []
+empty_list [] e = refl
+empty_list (x ∷ xs) e = absurd (omega arith)
+
+bare : (row : PlantRow) → length row.u ≡ 0 → row.x ++ row.u ++ row.max ∷ [] ≡ row.x ++ row.max ∷ []
+bare row e = ap (λ xs. xs ++ row.max ∷ []) (ap (λ u. row.x ++ u) (empty_list row.u e) ∙ append-nil row.x)
+
+pub row_spelled : (s : Sizes) (text : List ℕ) (row : PlantRow) → IsRow s text row → AreFractions (codes "row") text (row.x ++ row.u ++ row.max ∷ [])
+row_spelled s text row is = record { spelled = is.spelled; fits = is.fits }
+
+pub last_spelled : (s : Sizes) (text : List ℕ) (row : PlantRow) → IsLast s text row → AreFractions (codes "last") text (row.x ++ row.max ∷ [])
+last_spelled s text row is = record { spelled = is.spelled; fits = is.fits }
+
+module _ (one : OneFractions) (s : Sizes) (text : List ℕ) (numbers : List ℚ) where
+  is_row : AreFractions (codes "row") text numbers → (row : PlantRow) → StatesRow s.states s.inputs numbers row → IsRow s text row
+  is_row are row states = record { spelled = are.spelled ∙ ap (fractions_line (codes "row")) states.numbers_are; sizes = states.sizes; fits = subst AllFit states.numbers_are are.fits }
+
+  no_row : AreFractions (codes "row") text numbers → length numbers ≢ s.states + s.inputs + 1 → (row : PlantRow) → ¬ IsRow s text row
+  no_row are other row is =
+      let e : numbers ≡ row.x ++ row.u ++ row.max ∷ [] = one (codes "row") numbers (row.x ++ row.u ++ row.max ∷ []) are.fits is.fits (sym are.spelled ∙ is.spelled) in
+      other (ap length e ∙ length-append (row.x ++ row.u) (row.max ∷ []) ∙ ap (λ n. n + 1) (length-append row.x row.u) ∙ (λ i. is.sizes.x_size i + is.sizes.u_size i + 1))
+
+  pub row_found : AreFractions (codes "row") text numbers → (found : Option PlantRow) → MatchOption found (length numbers ≢ s.states + s.inputs + 1) (λ row. StatesRow s.states s.inputs numbers row) → MatchOption found ((row : PlantRow) → ¬ IsRow s text row) (λ row. IsRow s text row)
+  row_found are None h = no_row are h
+  row_found are (Some row) h = is_row are row h
+
+  is_last : AreFractions (codes "last") text numbers → (row : PlantRow) → StatesRow s.states 0 numbers row → IsLast s text row
+  is_last are row states =
+      let e : numbers ≡ row.x ++ row.max ∷ [] = states.numbers_are ∙ bare row states.sizes.u_size in
+      record { spelled = are.spelled ∙ ap (fractions_line (codes "last")) e; sizes = states.sizes; fits = subst AllFit e are.fits }
+
+  no_last : AreFractions (codes "last") text numbers → length numbers ≢ s.states + 0 + 1 → (row : PlantRow) → ¬ IsLast s text row
+  no_last are other row is =
+      let e : numbers ≡ row.x ++ row.max ∷ [] = one (codes "last") numbers (row.x ++ row.max ∷ []) are.fits is.fits (sym are.spelled ∙ is.spelled) in
+      other (ap length e ∙ length-append row.x (row.max ∷ []) ∙ omega (arith, is.sizes.x_size))
+
+  pub last_found : AreFractions (codes "last") text numbers → (found : Option PlantRow) → MatchOption found (length numbers ≢ s.states + 0 + 1) (λ row. StatesRow s.states 0 numbers row) → MatchOption found ((row : PlantRow) → ¬ IsLast s text row) (λ row. IsLast s text row)
+  last_found are None h = no_last are h
+  last_found are (Some row) h = is_last are row h
+
+-- ---- a coordinate's line
+module _ (x : ℚ) (count : ℕ) (is : IsStepCount x count) where
+  step_text : fraction_text x ≡ decimal count
+  step_text = ap fraction_text (same_parts x (int (pos count)) (is.numer ∙ sym (whole_numer (pos count))) (is.denom ∙ sym (whole_denom (pos count)))) ∙ natural_text count
+
+axis_line : (axis : Coordinate) → grid_line axis ≡ fractions_line (codes "grid") (axis.low ∷ axis.step ∷ int (pos axis.count) ∷ [])
+axis_line axis = ap (λ word. line (codes "grid") (fraction_text axis.low ∷ fraction_text axis.step ∷ word ∷ [])) (sym (natural_text axis.count))
+
+pub axis_spelled : (text : List ℕ) (axis : Coordinate) → IsAxis text axis → AreFractions (codes "grid") text (axis.low ∷ axis.step ∷ int (pos axis.count) ∷ [])
+axis_spelled text axis is =
+    let behind : AllFit (axis.step ∷ []) = All-tail FitsFrac axis.low (axis.step ∷ []) is.fits in
+    let count_fits : AllFit (int (pos axis.count) ∷ []) = All-cons FitsFrac (int (pos axis.count)) [] (natural_fits axis.count (omega (arith, is.allowed.count_small))) (All-nil FitsFrac) in
+    record {
+      spelled = is.spelled ∙ axis_line axis;
+      fits = All-cons FitsFrac axis.low (axis.step ∷ int (pos axis.count) ∷ []) (All-head FitsFrac axis.low (axis.step ∷ []) is.fits) (All-cons FitsFrac axis.step (int (pos axis.count) ∷ []) (All-head FitsFrac axis.step [] behind) count_fits);
+    }
+
+module _ (one : OneFractions) (text : List ℕ) (numbers : List ℚ) (are : AreFractions (codes "grid") text numbers) where
+  is_axis : (axis : Coordinate) → StatesAxis numbers axis → IsAxis text axis
+  is_axis axis states =
+      let fits : AllFit (axis.low ∷ axis.step ∷ states.last ∷ []) = subst AllFit states.numbers_are are.fits in
+      let behind : AllFit (axis.step ∷ states.last ∷ []) = All-tail FitsFrac axis.low (axis.step ∷ states.last ∷ []) fits in
+      record {
+        spelled =
+          are.spelled ∙ ap (fractions_line (codes "grid")) states.numbers_are
+          ∙ ap (λ word. line (codes "grid") (fraction_text axis.low ∷ fraction_text axis.step ∷ word ∷ [])) (step_text states.last axis.count states.count_is);
+        allowed = states.allowed;
+        fits = All-cons FitsFrac axis.low (axis.step ∷ []) (All-head FitsFrac axis.low (axis.step ∷ states.last ∷ []) fits) (All-cons FitsFrac axis.step [] (All-head FitsFrac axis.step (states.last ∷ []) behind) (All-nil FitsFrac));
+      }
+
+  states_axis : (axis : Coordinate) → IsAxis text axis → StatesAxis numbers axis
+  states_axis axis is =
+      let same : AreFractions (codes "grid") text (axis.low ∷ axis.step ∷ int (pos axis.count) ∷ []) = axis_spelled text axis is in
+      record {
+        last = int (pos axis.count);
+        numbers_are = one (codes "grid") numbers (axis.low ∷ axis.step ∷ int (pos axis.count) ∷ []) are.fits same.fits (sym are.spelled ∙ same.spelled);
+        count_is = record { numer = whole_numer (pos axis.count); denom = whole_denom (pos axis.count); small = is.allowed.count_small };
+        allowed = is.allowed;
+      }
+
+  pub axis_found : (found : Option Coordinate) → MatchOption found ((axis : Coordinate) → ¬ StatesAxis numbers axis) (λ axis. StatesAxis numbers axis) → MatchOption found ((axis : Coordinate) → ¬ IsAxis text axis) (λ axis. IsAxis text axis)
+  axis_found None h = λ axis is. h axis (states_axis axis is)
+  axis_found (Some axis) h = is_axis axis h

@@ -11,12 +11,13 @@ ghost use Rattle.mpc_file.specs.PlantGrammar.{plain_rule, so_many, IsRowCount, I
 ghost use Rattle.mpc_file.specs.LimitNumbers.{StatesRow, StatesAxis, IsStepCount};
 
 use crate::errors::{FileError, FileKind};
+use crate::line_laws::{one_fractions, one_number};
 use crate::lines::Lines;
+use crate::plant_lines::vector_of;
 use crate::plant_parts::{Limits, Sizes};
 use crate::spelling::{fractions_of, number_of};
 use crate::versions::Version;
 use mpc_frac::{Frac, NoMemory};
-use mpc_linear::Vector;
 use mpc_plant::{Coordinate, Coordinates, PlantRow, PlantRows};
 use mpc_words::Natural;
 use std::alloc::Global;
@@ -43,6 +44,7 @@ fn count_in(text: &[u8], name: &[u8], each: u32, others: u128, most: u64) -> Opt
         ((count : ℕ) → ¬ IsRowCount name.now each others most text.now count)
         (λ count. IsRowCount name.now each others most text.now count) }
 {
+    one_number();
     match number_of(text, name) {
         Natural::Small(count) => if each as u128 * count as u128 + others <= most as u128 {
             Some(count)
@@ -72,17 +74,6 @@ fn read_count(
         Some(count) => Ok(count),
         None => Err(FileError::Bad(FileKind::BadLine, number)),
     }
-}
-
-/// A vector of these entries.
-fn vector_of(alloc: Global, entries: &[Frac]) -> Result<Vector, NoMemory>
-    ensures { IfOk result (λ v. v ≡ entries.now) }
-{
-    let mut items = Vector::new(alloc);
-    for entry in entries {
-        items.push(*entry)?;
-    }
-    Ok(items)
 }
 
 /// The row that numbers state: first the state's coefficients, then the move's, at last the bound.
@@ -115,6 +106,7 @@ fn row_in(alloc: Global, text: &[u8], sizes: &Sizes) -> Result<Option<PlantRow>,
         ((row : Row) → ¬ IsRow sizes.now text.now row)
         (λ row. IsRow sizes.now text.now row)) }
 {
+    one_fractions();
     match fractions_of(alloc, text, b"row")? {
         Some(numbers) => row_of(alloc, numbers.as_slice(), sizes.states, sizes.inputs),
         None => Ok(None),
@@ -127,6 +119,7 @@ fn last_in(alloc: Global, text: &[u8], sizes: &Sizes) -> Result<Option<PlantRow>
         ((row : Row) → ¬ IsLast sizes.now text.now row)
         (λ row. IsLast sizes.now text.now row)) }
 {
+    one_fractions();
     match fractions_of(alloc, text, b"last")? {
         Some(numbers) => row_of(alloc, numbers.as_slice(), sizes.states, 0),
         None => Ok(None),
@@ -181,6 +174,7 @@ fn axis_in(alloc: Global, text: &[u8]) -> Result<Option<Coordinate>, NoMemory>
         ((axis : Axis) → ¬ IsAxis text.now axis)
         (λ axis. IsAxis text.now axis)) }
 {
+    one_fractions();
     match fractions_of(alloc, text, b"grid")? {
         Some(numbers) => Ok(axis_of(numbers.as_slice())),
         None => Ok(None),

@@ -281,7 +281,7 @@ fn read_drift(alloc: Global, lines: &mut Lines, states: u32) -> Result<Vector, F
 }
 
 /// The vector of these entries.
-fn vector_of(alloc: Global, entries: &[Frac]) -> Result<Vector, NoMemory>
+pub(crate) fn vector_of(alloc: Global, entries: &[Frac]) -> Result<Vector, NoMemory>
     ensures { IfOk result (λ xs. xs ≡ entries.now) }
 {
     let mut copy = Vector::with_capacity(alloc, entries.len())?;

@@ -8,9 +8,9 @@ ghost use Rattle.mpc_file.specs.FileGrammar.{IsVersion};
 
 use crate::errors::{FileError, FileKind};
 use crate::limit_lines::read_limits;
+use crate::line_laws::one_number;
 use crate::lines::Lines;
 use crate::plant_lines::{read_dynamics, read_offsets, read_sizes, read_weights};
-use crate::plant_parts::{Dynamics, Limits, Offsets, Weights};
 use crate::spelling::number_of;
 use crate::versions::Version;
 use mpc_plant::Plant;
@@ -23,6 +23,7 @@ fn version_in(text: &[u8]) -> Option<Version>
         ((version : Edition) → ¬ IsVersion text.now version)
         (λ version. IsVersion text.now version) }
 {
+    one_number();
     match number_of(text, b"mpc") {
         Natural::Small(1) => Some(Version::One),
         Natural::Small(2) => Some(Version::Two),
