@@ -3,16 +3,16 @@ use Rattle.std.proofs.Common.{◌≡◌, ◌≢◌, ℕ, ◌+◌, ◌*◌, ◌<�
 use Rattle.std.proofs.lemmas.List.{take-append-drop, take_at, drop_at, length-append, length-take-le, length-drop}
 use Rattle.std.proofs.lemmas.List.Elements.{All-nil, All-cons, All-append, All-take, All-drop}
 use Rattle.mpc_exact.specs.Rational.{ℚ}
+use Rattle.std.specs.Fmt.{signed_decimal}
 use Rattle.mpc_frac.specs.Fits.{FitsFrac}
+use Rattle.mpc_frac.specs.Text.{text_of}
 use Rattle.mpc_space.specs.Vector.{IsSymmetric}
 use Rattle.mpc_space.specs.Matrix.{RationalMatrix}
 use Rattle.mpc_linear.specs.Grid.{grid}
 use Rattle.mpc_linear.specs.Shape.{HasShape}
 use Rattle.mpc_linear.specs.Whole.{AreSmall}
 use Rattle.mpc_plant.specs.Limits.{IsFromTo}
-use Rattle.mpc_words.specs.Words.{IsWithout}
-use Rattle.mpc_words.proofs.LineLemmas.{one_list}
-use Rattle.mpc_words.proofs.NumeralLemmas.{one_number, numeral_word, printed}
+use Rattle.mpc_words.proofs.LineLemmas.{words_of_line}
 use Rattle.mpc_words.proofs.IntegerLemmas.{one_integer, signed_word}
 use Rattle.mpc_words.proofs.FractionLemmas.{one_fraction, fraction_word}
 use Rattle.mpc_file.specs.Lines.{fractions_line, integers_line}
@@ -28,27 +28,17 @@ use Rattle.mpc_file.specs.declared.plant_parts.Targets.{Targets}
 use Rattle.mpc_file.specs.declared.plant_parts.Offsets.{Offsets}
 use Rattle.mpc_file.specs.declared.plant_parts.Weights.{Weights}
 use Rattle.mpc_file.proofs.OutcomeLemmas.{error_from}
-use Rattle.mpc_file.proofs.LineNumbers.{WordLaws, one_fractions, one_integers, without, same_front, same_back}
+use Rattle.mpc_file.proofs.LineNumbers.{same_front, same_back}
+use Rattle.mpc_file.proofs.SpellingLemmas.{IsSmall, small_word, one_list_of}
 use Rattle.mpc_file.proofs.PlantLineLemmas.{joined, joined-grid, joined-fit, grid-fits, grid-shape, entries_many, grid-joined}
 
-pub word_laws : WordLaws
-word_laws = record {
-  one_list = one_list;
-  one_natural = one_number;
-  natural_word = numeral_word;
-  printed = printed;
-  one_integer = one_integer;
-  integer_word = signed_word;
-  one_fraction = one_fraction;
-  fraction_word = fraction_word;
-}
-
 -- ---- a line states its numbers alone
-pub same_fractions : (name text : List ℕ) (xs ys : List ℚ) → IsWithout 32 name → AreFractions name text xs → AreFractions name text ys → xs ≡ ys
-same_fractions name text xs ys h a b = one_fractions word_laws name xs ys h a.fits b.fits (sym a.spelled ∙ b.spelled)
+pub same_fractions : (name text : List ℕ) (xs ys : List ℚ) → AreFractions name text xs → AreFractions name text ys → xs ≡ ys
+same_fractions name text xs ys a b = one_list_of text_of FitsFrac fraction_word words_of_line one_fraction name xs ys a.fits b.fits (sym a.spelled ∙ b.spelled)
 
-pub same_integers : (name text : List ℕ) (xs ys : List ℤ) → IsWithout 32 name → AreIntegers name text xs → AreIntegers name text ys → xs ≡ ys
-same_integers name text xs ys h a b = one_integers word_laws name xs ys h a.small b.small (sym a.spelled ∙ b.spelled)
+pub same_integers : (name text : List ℕ) (xs ys : List ℤ) → AreIntegers name text xs → AreIntegers name text ys → xs ≡ ys
+same_integers name text xs ys a b =
+    one_list_of signed_decimal IsSmall (small_word signed_word) words_of_line (λ y z small_y small_z. one_integer y z (omega arith) (omega arith)) name xs ys a.small b.small (sym a.spelled ∙ b.spelled)
 
 -- ---- the sizes
 module _ (text : List ℕ) where
@@ -78,7 +68,7 @@ module _ (text : List ℕ) where
 
     size_numbers : (s : Sizes) → AreSizes text s → AreSizeNumbers zs s
     size_numbers s h = record {
-      numbers = same_integers (codes "size") text zs (pos s.states ∷ pos s.inputs ∷ pos s.steps ∷ []) (without 32 (codes "size") refl) numbers (sizes_numbers s h);
+      numbers = same_integers (codes "size") text zs (pos s.states ∷ pos s.inputs ∷ pos s.steps ∷ []) numbers (sizes_numbers s h);
       states = h.states;
       inputs = h.inputs;
       steps = h.steps;
@@ -104,13 +94,12 @@ module _ (name text : List ℕ) (rows columns : ℕ) where
     fits = grid-fits rows columns xs h.fits;
   })
 
-  module _ (whole : IsWithout 32 name) where
-    pub wrong_size : (xs : List ℚ) → AreFractions name text xs → length xs ≢ rows * columns → (m : RationalMatrix) → ¬ IsMatrix name rows columns text m
-    wrong_size xs h ne m is = ne (ap length (same_fractions name text xs (joined m.rows) whole h (matrix_numbers m is)) ∙ entries_many m rows columns is.shape)
+  pub wrong_size : (xs : List ℚ) → AreFractions name text xs → length xs ≢ rows * columns → (m : RationalMatrix) → ¬ IsMatrix name rows columns text m
+  wrong_size xs h ne m is = ne (ap length (same_fractions name text xs (joined m.rows) h (matrix_numbers m is)) ∙ entries_many m rows columns is.shape)
 
-    pub one_matrix : (m other : RationalMatrix) → IsMatrix name rows columns text m → IsMatrix name rows columns text other → m ≡ other
-    one_matrix m other h k =
-        sym (grid-joined m rows columns h.shape) ∙ ap (grid rows columns) (same_fractions name text (joined m.rows) (joined other.rows) whole (matrix_numbers m h) (matrix_numbers other k)) ∙ grid-joined other rows columns k.shape
+  pub one_matrix : (m other : RationalMatrix) → IsMatrix name rows columns text m → IsMatrix name rows columns text other → m ≡ other
+  one_matrix m other h k =
+      sym (grid-joined m rows columns h.shape) ∙ ap (grid rows columns) (same_fractions name text (joined m.rows) (joined other.rows) (matrix_numbers m h) (matrix_numbers other k)) ∙ grid-joined other rows columns k.shape
 
 -- a weight is a square matrix that is symmetric
 plain_matrix : (name text : List ℕ) (size : ℕ) (m : RationalMatrix) → IsWeightLine name size text m → IsMatrix name size size text m
@@ -120,9 +109,9 @@ module _ (name text : List ℕ) (size : ℕ) where
   pub no_weight : ((m : RationalMatrix) → ¬ IsMatrix name size size text m) → (m : RationalMatrix) → ¬ IsWeightLine name size text m
   no_weight none m h = none m (plain_matrix name text size m h)
 
-  pub not_symmetric : (m : RationalMatrix) → IsWithout 32 name → IsMatrix name size size text m → ¬ IsSymmetric m.rows → (other : RationalMatrix) → ¬ IsWeightLine name size text other
-  not_symmetric m whole h differs other k =
-      differs (subst (λ (w : RationalMatrix). IsSymmetric w.rows) (one_matrix name text size size whole other m (plain_matrix name text size other k) h) k.weight.symmetric)
+  pub not_symmetric : (m : RationalMatrix) → IsMatrix name size size text m → ¬ IsSymmetric m.rows → (other : RationalMatrix) → ¬ IsWeightLine name size text other
+  not_symmetric m h differs other k =
+      differs (subst (λ (w : RationalMatrix). IsSymmetric w.rows) (one_matrix name text size size other m (plain_matrix name text size other k) h) k.weight.symmetric)
 
   pub weight_line : (m : RationalMatrix) → IsMatrix name size size text m → IsSymmetric m.rows → IsWeightLine name size text m
   weight_line m h s = record { spelled = h.spelled; weight = record { shape = h.shape; symmetric = s }; fits = h.fits }
@@ -130,7 +119,7 @@ module _ (name text : List ℕ) (size : ℕ) where
 -- ---- the drift
 pub wrong_drift : (text : List ℕ) (states : ℕ) (xs : List ℚ) → AreFractions (codes "drift") text xs → length xs ≢ states → (drift : List ℚ) → ¬ IsDrift states text drift
 wrong_drift text states xs h ne drift is =
-    ne (ap length (same_fractions (codes "drift") text xs drift (without 32 (codes "drift") refl) h (record { spelled = is.spelled; fits = is.fits })) ∙ is.size)
+    ne (ap length (same_fractions (codes "drift") text xs drift h (record { spelled = is.spelled; fits = is.fits })) ∙ is.size)
 
 -- ---- the targets
 module _ (text : List ℕ) (s : Sizes) where
@@ -143,7 +132,7 @@ module _ (text : List ℕ) (s : Sizes) where
   module _ (xs : List ℚ) (numbers : AreFractions (codes "goal") text xs) where
     pub wrong_targets : length xs ≢ s.states + s.inputs → (t : Targets) → ¬ AreTargets s text t
     wrong_targets ne t h =
-        ne (ap length (same_fractions (codes "goal") text xs (t.xgoal ++ t.ugoal) (without 32 (codes "goal") refl) numbers (target_numbers t h)) ∙ length-append t.xgoal t.ugoal ∙ (λ i. h.states i + h.inputs i))
+        ne (ap length (same_fractions (codes "goal") text xs (t.xgoal ++ t.ugoal) numbers (target_numbers t h)) ∙ length-append t.xgoal t.ugoal ∙ (λ i. h.states i + h.inputs i))
 
     pub targets_are : (x u : List ℚ) → length xs ≡ s.states + s.inputs → x ≡ take s.states xs → u ≡ drop s.states xs → AreTargets s text (record { xgoal = x; ugoal = u })
     targets_are x u size front back = record {
@@ -156,7 +145,7 @@ module _ (text : List ℕ) (s : Sizes) where
 
   one_targets : (t other : Targets) → AreTargets s text t → AreTargets s text other → t ≡ other
   one_targets t other h k =
-      let same : t.xgoal ++ t.ugoal ≡ other.xgoal ++ other.ugoal = same_fractions (codes "goal") text (t.xgoal ++ t.ugoal) (other.xgoal ++ other.ugoal) (without 32 (codes "goal") refl) (target_numbers t h) (target_numbers other k) in
+      let same : t.xgoal ++ t.ugoal ≡ other.xgoal ++ other.ugoal = same_fractions (codes "goal") text (t.xgoal ++ t.ugoal) (other.xgoal ++ other.ugoal) (target_numbers t h) (target_numbers other k) in
       let sized : length t.xgoal ≡ length other.xgoal = h.states ∙ sym k.states in
       λ i. record { xgoal = same_front t.xgoal t.ugoal other.xgoal other.ugoal sized same i; ugoal = same_back t.xgoal t.ugoal other.xgoal other.ugoal sized same i }
 

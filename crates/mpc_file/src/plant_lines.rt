@@ -6,7 +6,6 @@ ghost use Rattle.mpc_space.specs.Vector.{IsSymmetric, zeros};
 ghost use Rattle.mpc_space.specs.Matrix.{RationalMatrix, height, entry};
 ghost use Rattle.mpc_linear.specs.Grid.{grid};
 ghost use Rattle.mpc_linear.specs.Shape.{HasShape};
-ghost use Rattle.mpc_words.specs.Words.{IsWithout};
 ghost use Rattle.mpc_file.specs.Reading.{Outcome, one_line};
 ghost use Rattle.mpc_file.specs.PlantGrammar.{AreSizes, IsMatrix, IsWeightLine, IsDrift, AreTargets, AreTargetsOf, AreZero, MayHave, plain_rule, offsets_with, no_offsets, sizes as sizes_grammar, matrix as matrix_grammar, weight as weight_grammar, dynamics as dynamics_grammar, weights as weights_grammar, offsets as offsets_grammar, offset_lines};
 ghost use Rattle.mpc_file.specs.PlantNumbers.{IsBetween, AreSizeNumbers, filled, IsMirroredRow};
@@ -116,7 +115,6 @@ fn matrix_in(
     rows: u32,
     columns: u32,
 ) -> Result<Option<Matrix>, NoMemory>
-    requires { IsWithout 32 name.now }
     ensures { IfOk result (λ found. MatchOption found
         ((m : RationalMatrix) → ¬ IsMatrix name.now rows columns text.now m)
         (λ m. IsMatrix name.now rows columns text.now m)) }
@@ -139,7 +137,6 @@ pub(crate) fn read_matrix(
     rows: u32,
     columns: u32,
 ) -> Result<Matrix, FileError>
-    requires { IsWithout 32 name.now }
     ensures { Outcome (matrix_grammar name.now rows columns) lines.old lines.new result }
 {
     let number = lines.number();
@@ -194,7 +191,6 @@ fn weight_in(
     name: &[u8],
     size: u32,
 ) -> Result<Option<Matrix>, NoMemory>
-    requires { IsWithout 32 name.now }
     ensures { IfOk result (λ found. MatchOption found
         ((m : RationalMatrix) → ¬ IsWeightLine name.now size text.now m)
         (λ m. IsWeightLine name.now size text.now m)) }
@@ -215,7 +211,6 @@ pub(crate) fn read_weight(
     name: &[u8],
     size: u32,
 ) -> Result<Matrix, FileError>
-    requires { IsWithout 32 name.now }
     ensures { Outcome (weight_grammar name.now size) lines.old lines.new result }
 {
     let number = lines.number();

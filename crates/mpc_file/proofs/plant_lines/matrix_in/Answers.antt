@@ -8,7 +8,7 @@ returns-in_default c =
 
 pub returns-then-len-rows : goal.returns-then-len-rows
 returns-then-len-rows c =
-    wrong_size c.args.name.now c.args.text.now c.args.rows c.args.columns c.requires c.in-Some.entries (some_fractions c.args.name.now c.args.text.now c.in_ok-entries.field-0 c.in-Some.entries c.in-Some.is c.in_ok-entries.ensures)
+    wrong_size c.args.name.now c.args.text.now c.args.rows c.args.columns c.in-Some.entries (some_fractions c.args.name.now c.args.text.now c.in_ok-entries.field-0 c.in-Some.entries c.in-Some.is c.in_ok-entries.ensures)
     (λ e. c.if-len-rows.true (c.len.ensures ∙ e))
 
 pub returns : goal.returns
