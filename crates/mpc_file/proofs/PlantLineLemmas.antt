@@ -1,8 +1,8 @@
 -- The matrix of a line: its entries stand row by row, and no other matrix has that line.
-use Rattle.std.proofs.Common.{◌≡◌, ◌≢◌, ℕ, zero, suc, ◌+◌, ◌*◌, ◌-◌, ◌<◌, ◌≤◌, List, [], ◌∷◌, ◌++◌, length, take, drop, get_or, set, replicate, map, All, pos, Ordering, Less, Equal, Greater, refl, sym, ◌∙◌, ap, subst, add-one, add-zero, arith}
+use Rattle.std.proofs.Common.{◌≡◌, ℕ, zero, suc, ◌+◌, ◌*◌, ◌-◌, ◌<◌, List, [], ◌∷◌, ◌++◌, length, take, drop, get_or, set, All, pos, refl, sym, ◌∙◌, ap, subst, arith}
 use Rattle.std.specs.List.{flat_map}
-use Rattle.std.proofs.lemmas.List.{append-nil, take_all, drop_all, take_at, drop_at, take-append-drop, length-take-le, length-drop, length-append, length-replicate, nil_from_length}
-use Rattle.std.proofs.lemmas.List.Elements.{All-nil, All-cons, All-head, All-tail, All-append, All-take, All-drop}
+use Rattle.std.proofs.lemmas.List.{append-nil, take_all, drop_all, take_at, drop_at, take-append-drop, length-drop, length-append, length-replicate, nil_from_length}
+use Rattle.std.proofs.lemmas.List.Elements.{All-nil, All-cons, All-head, All-tail, All-take, All-drop}
 use Rattle.mpc_exact.specs.Rational.{ℚ, int}
 use Rattle.mpc_frac.specs.Fits.{FitsFrac}
 use Rattle.mpc_space.specs.Vector.{zeros}
@@ -66,10 +66,6 @@ length-joined w (row ∷ rows) h =
 rows_of-fit : (n w : ℕ) (xs : List ℚ) → AllFit xs → All AllFit (rows_of n w xs)
 rows_of-fit zero w xs h = All-nil AllFit
 rows_of-fit (suc n) w xs h = All-cons AllFit (take w xs) (rows_of n w (drop w xs)) (All-take FitsFrac w xs h) (rows_of-fit n w (drop w xs) (All-drop FitsFrac w xs h))
-
-pub joined-fit : (rows : List (List ℚ)) → All AllFit rows → AllFit (joined rows)
-joined-fit [] h = All-nil FitsFrac
-joined-fit (row ∷ rows) h = All-append FitsFrac row (joined rows) (All-head AllFit row rows h) (joined-fit rows (All-tail AllFit row rows h))
 
 -- ---- the matrix of a list
 pub joined-grid : (rows columns : ℕ) (xs : List ℚ) → length xs ≡ rows * columns → joined (grid rows columns xs).rows ≡ xs

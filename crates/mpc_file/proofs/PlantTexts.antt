@@ -1,6 +1,6 @@
 -- What the numbers of a plant's line state, and that they state nothing else.
-use Rattle.std.proofs.Common.{◌≡◌, ◌≢◌, ℕ, ◌+◌, ◌*◌, ◌<◌, ◌≤◌, ◌^◌, List, [], ◌∷◌, ◌++◌, length, map, take, drop, All, ℤ, pos, unsigned_abs, codes, decimal, Option, Some, None, MatchOption, Result, Ok, Err, IsErrAnd, ◌⊎◌, inl, inr, refl, sym, ◌∙◌, ap, subst, arith}
-use Rattle.std.proofs.lemmas.List.{take-append-drop, take_at, drop_at, length-append, length-take-le, length-drop}
+use Rattle.std.proofs.Common.{◌≡◌, ◌≢◌, ℕ, ◌+◌, ◌*◌, ◌<◌, ◌^◌, List, [], ◌∷◌, ◌++◌, length, take, drop, ℤ, pos, unsigned_abs, codes, Option, Some, None, MatchOption, Result, Ok, Err, IsErrAnd, ◌⊎◌, inl, inr, refl, sym, ◌∙◌, ap, subst, arith}
+use Rattle.std.proofs.lemmas.List.{take-append-drop, length-append, length-take-le, length-drop}
 use Rattle.std.proofs.lemmas.List.Elements.{All-nil, All-cons, All-append, All-take, All-drop}
 use Rattle.mpc_exact.specs.Rational.{ℚ}
 use Rattle.std.specs.Fmt.{signed_decimal}
@@ -9,9 +9,6 @@ use Rattle.mpc_frac.specs.Text.{text_of}
 use Rattle.mpc_space.specs.Vector.{IsSymmetric}
 use Rattle.mpc_space.specs.Matrix.{RationalMatrix}
 use Rattle.mpc_linear.specs.Grid.{grid}
-use Rattle.mpc_linear.specs.Shape.{HasShape}
-use Rattle.mpc_linear.specs.Whole.{AreSmall}
-use Rattle.mpc_plant.specs.Limits.{IsFromTo}
 use Rattle.mpc_words.proofs.LineLemmas.{words_of_line}
 use Rattle.mpc_words.proofs.IntegerLemmas.{one_integer, signed_word}
 use Rattle.mpc_words.proofs.FractionLemmas.{one_fraction, fraction_word}
@@ -28,9 +25,9 @@ use Rattle.mpc_file.specs.declared.plant_parts.Targets.{Targets}
 use Rattle.mpc_file.specs.declared.plant_parts.Offsets.{Offsets}
 use Rattle.mpc_file.specs.declared.plant_parts.Weights.{Weights}
 use Rattle.mpc_file.proofs.OutcomeLemmas.{error_from}
-use Rattle.mpc_file.proofs.LineNumbers.{same_front, same_back}
+use Rattle.mpc_file.proofs.LineNumbers.{same_front, same_back, all_in_rows}
 use Rattle.mpc_file.proofs.SpellingLemmas.{IsSmall, small_word, one_list_of}
-use Rattle.mpc_file.proofs.PlantLineLemmas.{joined, joined-grid, joined-fit, grid-fits, grid-shape, entries_many, grid-joined}
+use Rattle.mpc_file.proofs.PlantLineLemmas.{joined, joined-grid, grid-fits, grid-shape, entries_many, grid-joined}
 
 -- ---- a line states its numbers alone
 pub same_fractions : (name text : List ℕ) (xs ys : List ℚ) → AreFractions name text xs → AreFractions name text ys → xs ≡ ys
@@ -82,7 +79,7 @@ module _ (text : List ℕ) where
 -- ---- a matrix
 module _ (name text : List ℕ) (rows columns : ℕ) where
   matrix_numbers : (m : RationalMatrix) → IsMatrix name rows columns text m → AreFractions name text (joined m.rows)
-  matrix_numbers m h = record { spelled = h.spelled; fits = joined-fit m.rows h.fits }
+  matrix_numbers m h = record { spelled = h.spelled; fits = all_in_rows m.rows h.fits }
 
   pub no_matrix : ((xs : List ℚ) → ¬ AreFractions name text xs) → (m : RationalMatrix) → ¬ IsMatrix name rows columns text m
   no_matrix none m h = none (joined m.rows) (matrix_numbers m h)

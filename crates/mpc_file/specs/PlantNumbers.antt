@@ -1,5 +1,5 @@
 -- What the numbers of a plant's lines are: the sizes, the entries of a matrix row by row, and the targets of the state and of the input.
-use Rattle.std.specs.Prelude.{◌≡◌, ℕ, ◌+◌, ◌*◌, ◌<◌, ◌≤◌, List, [], ◌∷◌, ◌++◌, ℤ, pos, take, drop, length}
+use Rattle.std.specs.Prelude.{◌≡◌, ℕ, ◌*◌, ◌<◌, ◌≤◌, List, [], ◌∷◌, ◌++◌, ℤ, pos, take, drop}
 use Rattle.mpc_exact.specs.Rational.{ℚ}
 use Rattle.mpc_space.specs.Vector.{zeros, cell}
 use Rattle.mpc_space.specs.Matrix.{RationalMatrix}

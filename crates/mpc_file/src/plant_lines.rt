@@ -1,9 +1,9 @@
 //! The lines of a plant before its rows: its sizes, its matrices, its drift and its targets.
 
-ghost use Rattle.std.specs.Prelude.{◌≡◌, ◌≢◌, ◌+◌, ◌*◌, ◌<◌, ◌≤◌, ℕ, List, [], ◌++◌, IfOk, MatchOption, MatchBool, IsTrue, ◌↔◌, codes, length, take, drop};
+ghost use Rattle.std.specs.Prelude.{◌≡◌, ◌≢◌, ◌+◌, ◌*◌, ◌<◌, ℕ, List, IfOk, MatchOption, MatchBool, IsTrue, ◌↔◌, length};
 ghost use Rattle.mpc_exact.specs.Rational.{ℚ};
 ghost use Rattle.mpc_space.specs.Vector.{IsSymmetric, zeros};
-ghost use Rattle.mpc_space.specs.Matrix.{RationalMatrix, height, entry};
+ghost use Rattle.mpc_space.specs.Matrix.{RationalMatrix, height};
 ghost use Rattle.mpc_linear.specs.Grid.{grid};
 ghost use Rattle.mpc_linear.specs.Shape.{HasShape};
 ghost use Rattle.mpc_file.specs.Reading.{Outcome, one_line};
@@ -85,18 +85,15 @@ fn write_row(matrix: &mut Matrix, i: u32, entries: &Vector)
     requires before { matrix.old ≡ filled (height matrix.old) matrix.old.columns (i * matrix.old.columns) entries.now }
     ensures { matrix.new ≡ filled (height matrix.old) matrix.old.columns ((i + 1) * matrix.old.columns) entries.now }
 {
-    for j in 0..matrix.cols() {
-        matrix.set(i, j, *entries.at(i as usize * matrix.cols() as usize + j as usize));
+    let columns = matrix.cols();
+    for j in 0..columns {
+        let place = i as usize * columns as usize + j as usize;
+        matrix.set(i, j, *entries.at(place));
     }
 }
 
 /// The matrix of these entries, row by row.
-fn matrix_with(
-    alloc: Global,
-    entries: &Vector,
-    rows: u32,
-    columns: u32,
-) -> Result<Matrix, NoMemory>
+fn matrix_with(alloc: Global, entries: &Vector, rows: u32, columns: u32) -> Result<Matrix, NoMemory>
     requires { length entries.now ≡ rows * columns }
     ensures { IfOk result (λ m. m ≡ grid rows columns entries.now) }
 {
@@ -185,12 +182,7 @@ fn is_symmetric(matrix: &Matrix, size: u32) -> bool
 }
 
 /// The symmetric matrix of this size that a line states behind its name.
-fn weight_in(
-    alloc: Global,
-    text: &[u8],
-    name: &[u8],
-    size: u32,
-) -> Result<Option<Matrix>, NoMemory>
+fn weight_in(alloc: Global, text: &[u8], name: &[u8], size: u32) -> Result<Option<Matrix>, NoMemory>
     ensures { IfOk result (λ found. MatchOption found
         ((m : RationalMatrix) → ¬ IsWeightLine name.now size text.now m)
         (λ m. IsWeightLine name.now size text.now m)) }

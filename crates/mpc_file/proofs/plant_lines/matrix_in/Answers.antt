@@ -1,4 +1,4 @@
-use Rattle.std.proofs.Common.{◌≡◌, ◌≢◌, ◌*◌, length, sym, ◌∙◌}
+use Rattle.std.proofs.Common.{sym, ◌∙◌}
 use Rattle.mpc_file.proofs.PlantTexts.{no_matrix, matrix_is, wrong_size, some_fractions, no_fractions}
 use Rattle.mpc_file.proofs.plant_lines.matrix_in.Goals as goal
 

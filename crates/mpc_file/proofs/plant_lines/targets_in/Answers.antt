@@ -1,4 +1,4 @@
-use Rattle.std.proofs.Common.{codes, ◌-◌, length, take, drop, sym, ap, ◌∙◌}
+use Rattle.std.proofs.Common.{codes, take, drop, sym, ap, ◌∙◌}
 use Rattle.std.proofs.lemmas.List.{take_rest}
 use Rattle.mpc_file.proofs.PlantTexts.{wrong_targets, targets_are, some_fractions}
 use Rattle.mpc_file.proofs.plant_lines.targets_in.Goals as goal
