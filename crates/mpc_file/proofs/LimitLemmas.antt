@@ -1,11 +1,14 @@
 -- The lines of a plant's rows and of its grid.
-use Rattle.std.proofs.Common.{◌≡◌, ◌≢◌, ℕ, ◌+◌, ◌*◌, ◌^◌, ◌<◌, ◌≤◌, Bool, true, false, leb, ltb, List, [], ◌∷◌, ◌++◌, ℤ, pos, negsuc, length, get_or, codes, Option, Some, None, MatchOption, unsigned_abs, to_z, of_z, decimal, refl, sym, ap, ◌∙◌, subst, arith, append-nil, length-append}
+use Rattle.std.proofs.Common.{◌≡◌, ◌≢◌, ℕ, ◌+◌, ◌*◌, ◌^◌, ◌<◌, ◌≤◌, Bool, true, false, leb, ltb, List, [], ◌∷◌, ◌++◌, ℤ, pos, negsuc, length, get_or, codes, Option, Some, None, MatchOption, Err, inl, inr, unsigned_abs, to_z, of_z, decimal, refl, sym, ap, ◌∙◌, subst, arith, append-nil, length-append}
 use Rattle.std.specs.Int.{w128}
 use Rattle.std.specs.Int.Signed.{le_z}
 use Rattle.std.proofs.lemmas.Bool.{leb-true, le-leb}
 use Rattle.std.proofs.lemmas.Int.{fits_signed_from_abs, to_z-of_z}
-use Rattle.mpc_file.specs.Reading.{Cursor, LineRule, one_line, ReadsItems}
-use Rattle.mpc_file.specs.PlantGrammar.{AllFit, IsRowCount, IsRow, IsLast, IsAxis}
+use Rattle.mpc_file.specs.Reading.{Cursor, LineRule, one_line, ReadsItems, Outcome}
+use Rattle.mpc_file.specs.declared.errors.FileError.{FileError}
+use Rattle.mpc_file.specs.declared.errors.FileError.TheVariants.{Bad, NoMemory}
+use Rattle.mpc_file.specs.declared.versions.Version.{Version}
+use Rattle.mpc_file.specs.PlantGrammar.{AllFit, IsRowCount, IsRow, IsLast, IsAxis, row_list, last_list, grid, limits}
 use Rattle.mpc_file.proofs.NumberLines.{whole_numer, whole_denom, natural_text, natural_fits}
 use Rattle.mpc_file.proofs.OutcomeLemmas.{none_read, more_read, asks_for_more}
 use Rattle.std.proofs.lemmas.List.Elements.{All-nil, All-cons, All-head, All-tail}
@@ -183,3 +186,9 @@ module _ (one : OneFractions) (text : List ℕ) (numbers : List ℚ) (are : AreF
   pub axis_found : (found : Option Coordinate) → MatchOption found ((axis : Coordinate) → ¬ StatesAxis numbers axis) (λ axis. StatesAxis numbers axis) → MatchOption found ((axis : Coordinate) → ¬ IsAxis text axis) (λ axis. IsAxis text axis)
   axis_found None h = λ axis is. h axis (states_axis axis is)
   axis_found (Some axis) h = is_axis axis h
+
+-- ---- the rows, those of the end, and the grid
+pub grid_fails : (version : Version) (s : Sizes) (here between beyond behind end : Cursor) (rows terminal : List PlantRow) (error : FileError) → (row_list version s).Reads here rows between → (last_list version s rows).Reads between terminal beyond
+  → Outcome (grid s) beyond behind (Err error) → Outcome (limits version s) here end (Err error)
+grid_fails version s here between beyond behind end rows terminal (Bad kind number) first second h = inr (rows, (between, (first, inr (terminal, (beyond, (second, inl h))))))
+grid_fails version s here between beyond behind end rows terminal NoMemory first second h = tt
