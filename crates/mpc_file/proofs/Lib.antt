@@ -25,3 +25,4 @@ pub mod FileExact
 pub mod PlantTexts
 pub mod OneText
 pub mod PartText
+pub mod FormLemmas

@@ -79,8 +79,8 @@ pub fn matrix_of(alloc: Global, forms: &Forms, columns: u32) -> Result<Matrix, N
     ensures { IfOk result (λ m. m ≡ matrix_with forms.now columns) }
 {
     let mut matrix = Matrix::zero(alloc, forms.len() as u32, columns)?;
-    for i in 0..matrix.rows() {
-        fill_row(&mut matrix, i, forms.at(i as usize));
+    for i in 0..forms.len() {
+        fill_row(&mut matrix, i as u32, forms.at(i));
     }
     Ok(matrix)
 }

@@ -2,6 +2,8 @@
 
 ghost use Rattle.std.specs.Prelude.{◌≡◌, ◌≢◌, ℕ, ◌+◌, ◌*◌, ◌<◌, ◌≤◌, ◌↔◌, List, length, map, IsTrue, IfOk, MatchOption, MatchBool, codes, pos};
 ghost use Rattle.mpc_exact.specs.Rational.{ℚ};
+ghost use Rattle.mpc_linear.specs.Whole.{AreSmall};
+ghost use Rattle.mpc_plant.specs.Limits.{IsFromTo};
 ghost use Rattle.mpc_sets.specs.RowSet.{IsSetOfRows};
 ghost use Rattle.mpc_controller.specs.Parts.{limits_of, row_count};
 ghost use Rattle.mpc_controller.specs.Bounds.{FormFits};
@@ -12,11 +14,12 @@ ghost use Rattle.mpc_file.specs.LawGrammar.{unknowns, IsLawLine, IsForm, move_ru
 use crate::bounds::form_fits;
 use crate::errors::{FileError, FileKind};
 use crate::forms::{Forms, matrix_of};
+use crate::line_laws::{one_fractions, one_integers};
 use crate::lines::Lines;
 use crate::spelling::{fractions_of, integers_of, number_of};
 use mpc_controller::limits;
 use mpc_frac::NoMemory;
-use mpc_linear::{Ints, Matrix, Vector};
+use mpc_linear::{Matrix, Vector};
 use mpc_plant::Plant;
 use mpc_rows::{Law, LawTable};
 use mpc_sets::ActiveSet;
@@ -34,21 +37,38 @@ fn row_count(plant: &Plant) -> u32
     plant.horizon * plant.rows.len() as u32 + plant.terminal.len() as u32
 }
 
+/// The whole number as a natural number from `low` to `high`.
+pub fn natural_in(number: i128, low: u64, high: u64) -> Option<u64>
+    ensures { MatchOption result ((k : ℕ) → IsFromTo low high k → number ≢ pos k)
+        (λ k. IsFromTo low high k × (number ≡ pos k)) }
+{
+    if number < 0 {
+        return None;
+    }
+    let size = number.unsigned_abs();
+    if size >= u128::from(low) && size <= u128::from(high) {
+        Some(size as u64)
+    } else {
+        None
+    }
+}
+
 /// The set of these row numbers, if they rise from 1 on to no more than `rows`.
-fn set_of(numbers: &Ints, rows: u32) -> Option<ActiveSet>
-    requires { rows ≤ 60 }
+fn set_of(numbers: &[i128], rows: u32) -> Option<ActiveSet>
+    requires few { rows ≤ 60 }
+    requires small { AreSmall numbers.now }
     ensures { MatchOption result
         ((set : List ℕ) → IsSetOfRows rows set → map pos set ≢ numbers.now)
         (λ set. IsSetOfRows rows set × (map pos set ≡ numbers.now)) }
 {
     let mut set = ActiveSet::empty();
     let mut last = 0;
-    for number in numbers.as_slice() {
-        if *number <= i128::from(last) || *number > i128::from(rows) {
+    for number in numbers {
+        let Some(row) = natural_in(*number, last + 1, u64::from(rows)) else {
             return None;
-        }
-        last = *number as u32;
-        set = set.with(last);
+        };
+        set = set.with(row as u32);
+        last = row;
     }
     Some(set)
 }
@@ -59,13 +79,14 @@ pub fn set_in(alloc: Global, text: &[u8], plant: &Plant) -> Result<Option<Active
         ((set : List ℕ) → ¬ IsLawLine plant.now text.now set)
         (λ set. IsLawLine plant.now text.now set)) }
 {
+    one_integers();
     let Some(numbers) = integers_of(alloc, text, b"law")? else {
         return Ok(None);
     };
     if numbers.len() > (plant.p * plant.horizon) as usize {
         return Ok(None);
     }
-    Ok(set_of(&numbers, row_count(plant)))
+    Ok(set_of(numbers.as_slice(), row_count(plant)))
 }
 
 /// Reads the line of a law's set.
@@ -91,6 +112,7 @@ pub fn form_in(
         ((form : List ℚ) → ¬ IsForm name.now n text.now form)
         (λ form. IsForm name.now n text.now form)) }
 {
+    one_fractions();
     let Some(form) = fractions_of(alloc, text, name)? else {
         return Ok(None);
     };

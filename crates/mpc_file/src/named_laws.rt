@@ -2,6 +2,7 @@
 
 ghost use Rattle.std.specs.Prelude.{◌≡◌, ◌≢◌, ℕ, ◌+◌, ◌^◌, ◌<◌, ◌≤◌, ◌↔◌, List, [], ◌∷◌, ◌++◌, length, map, take, All, Contains, IsTrue, IfOk, MatchOption, codes, pos};
 ghost use Rattle.mpc_exact.specs.Rational.{ℚ};
+ghost use Rattle.mpc_linear.specs.Whole.{AreSmall};
 ghost use Rattle.mpc_controller.specs.Parts.{limits_of};
 ghost use Rattle.mpc_controller.specs.Bounds.{FormFits};
 ghost use Rattle.mpc_file.specs.Reading.{Outcome, one_line};
@@ -12,13 +13,14 @@ ghost use Rattle.mpc_file.specs.FormLists.{matrix_with, NamesAll, HasLinesOf, Re
 use crate::bounds::form_fits;
 use crate::errors::{FileError, FileKind};
 use crate::forms::{Forms, fill_row};
-use crate::law_lines::{form_in, read_law_count, read_set};
+use crate::law_lines::{form_in, natural_in, read_law_count, read_set};
+use crate::line_laws::{one_fractions, one_integers};
 use crate::line_sets::LineSet;
 use crate::lines::Lines;
 use crate::spelling::{integers_of, number_of};
 use mpc_controller::limits;
 use mpc_frac::NoMemory;
-use mpc_linear::{Ints, Matrix, Vector};
+use mpc_linear::{Matrix, Vector};
 use mpc_plant::Plant;
 use mpc_rows::{Counts, Law, LawTable};
 use mpc_sets::ActiveSet;
@@ -64,6 +66,7 @@ fn read_new_form<'a>(
     ensures outcome { Outcome (one_line (plain_rule (IsNewForm plant.now.n before.now))) lines.old lines.new result }
     ensures known { IfOk result (λ form. HasLinesOf known.new (before.now ++ form ∷ [])) }
 {
+    one_fractions();
     let number = lines.number();
     let text = lines.take()?;
     let Some(form) = form_in(alloc, text, b"form", plant.n)? else {
@@ -103,37 +106,45 @@ fn numbers_in(
         ((numbers : List ℕ) → ¬ AreFormNumbers name.now all used count text.now numbers)
         (λ numbers. AreFormNumbers name.now all used count text.now numbers)) }
 {
+    one_integers();
     let Some(integers) = integers_of(alloc, text, name)? else {
         return Ok(None);
     };
     if integers.len() != count as usize {
         return Ok(None);
     }
-    named_by(alloc, &integers, all, used)
+    named_by(alloc, integers.as_slice(), all, used)
+}
+
+/// The greatest number that a form may have where so many are used before.
+fn greatest_number(all: u64, used: u64) -> u64
+    ensures within { result ≤ all }
+    ensures next { result ≤ used + 1 }
+    ensures greatest { (k : ℕ) → k ≤ all → k ≤ used + 1 → k ≤ result }
+{
+    if used < all { used + 1 } else { all }
 }
 
 /// These numbers, if they name forms, where so many are used before.
 fn named_by(
     alloc: Global,
-    integers: &Ints,
+    integers: &[i128],
     all: u64,
     used: u64,
 ) -> Result<Option<Counts>, NoMemory>
+    requires { AreSmall integers.now }
     ensures { IfOk result (λ found. MatchOption found
         ((numbers : List ℕ) → NameForms all used numbers → map pos numbers ≢ integers.now)
         (λ numbers. NameForms all used numbers × (map pos numbers ≡ integers.now))) }
 {
     let mut numbers = Counts::new(alloc);
     let mut last = used;
-    for integer in integers.as_slice() {
-        if *integer < 1 || *integer > i128::from(all) || *integer > i128::from(last) + 1 {
+    for integer in integers {
+        let Some(number) = natural_in(*integer, 1, greatest_number(all, last)) else {
             return Ok(None);
-        }
-        let number = *integer as u64;
+        };
         numbers.push(number)?;
-        if last < number {
-            last = number;
-        }
+        last = last.max(number);
     }
     Ok(Some(numbers))
 }
@@ -144,9 +155,7 @@ fn used_with(used: u64, numbers: &[u64]) -> u64
 {
     let mut last = used;
     for number in numbers {
-        if last < *number {
-            last = *number;
-        }
+        last = last.max(*number);
     }
     last
 }
@@ -183,9 +192,8 @@ fn named_matrix(
     ensures { IfOk result (λ m. m ≡ matrix_with (map (form_named forms.now) numbers.now) columns) }
 {
     let mut matrix = Matrix::zero(alloc, numbers.len() as u32, columns)?;
-    for i in 0..matrix.rows() {
-        let number = numbers[i as usize];
-        fill_row(&mut matrix, i, forms.at(number as usize - 1));
+    for i in 0..numbers.len() {
+        fill_row(&mut matrix, i as u32, forms.at(numbers[i] as usize - 1));
     }
     Ok(matrix)
 }
