@@ -195,8 +195,8 @@ module _ {X : Type 0} (item : List X → Grammar X) (asks_more : List X → Bool
   not_longer : (items others : List X) (end stop : Cursor) → ReadsAll item asks_more here items end → ReadsItems X item asks_more here others stop → length others ≤ length items
   not_longer items others end stop (reads, none) takes = ⊎_elim
       (λ l. let s : IsStage item asks_more here (length items) = stage item asks_more here others stop takes (length items) l in
-        let same : (s.front ≡ items) × (s.place ≡ end) = same_items s.front items s.place end s.reads reads s.size in
-        absurd (true≢false (sym s.more ∙ ap asks_more same.0 ∙ none)))
+      let same : (s.front ≡ items) × (s.place ≡ end) = same_items s.front items s.place end s.reads reads s.size in
+      absurd (true≢false (sym s.more ∙ ap asks_more same.0 ∙ none)))
       (λ l. l)
       (cases_lt (length items) (length others))
 
@@ -218,19 +218,19 @@ module _ {X : Type 0} (item : List X → Grammar X) (asks_more : List X → Bool
   all_fail_not items end kind number h (others, (stop, (takes, asks, fails))) = ⊎_elim
       (λ l. no_shorter items others end stop kind number h.0 takes fails l)
       (λ l. let le : length others ≤ length items = not_longer items others end stop h takes in
-        let same : (others ≡ items) × (stop ≡ end) = same_items others items stop end takes h.0 (omega arith) in
-        true≢false (sym asks ∙ ap asks_more same.0 ∙ h.1))
+      let same : (others ≡ items) × (stop ≡ end) = same_items others items stop end takes h.0 (omega arith) in
+      true≢false (sym asks ∙ ap asks_more same.0 ∙ h.1))
       (cases_lt (length others) (length items))
 
   same_failure : (kind other : FileKind) (number place : ℕ) → FailsItem item asks_more here kind number → FailsItem item asks_more here other place → (kind ≡ other) × (number ≡ place)
   same_failure kind other number place (items, (end, (reads, more, fails))) (others, (stop, (takes, asks, fails_too))) = ⊎_elim
       (λ l. absurd (no_shorter items others end stop other place reads takes fails_too l))
       (λ l. ⊎_elim
-        (λ m. absurd (no_shorter others items stop end kind number takes reads fails m))
-        (λ m. let same : (others ≡ items) × (stop ≡ end) = same_items others items stop end takes reads (omega arith) in
-          let too : (item items).Fails end other place = subst (λ c. (item items).Fails c other place) same.1 (subst (λ xs. (item xs).Fails stop other place) same.0 fails_too) in
-          ((each items end reads more).one_kind kind other number place fails too, (each items end reads more).one_number kind other number place fails too))
-        (cases_lt (length items) (length others)))
+      (λ m. absurd (no_shorter others items stop end kind number takes reads fails m))
+      (λ m. let same : (others ≡ items) × (stop ≡ end) = same_items others items stop end takes reads (omega arith) in
+      let too : (item items).Fails end other place = subst (λ c. (item items).Fails c other place) same.1 (subst (λ xs. (item xs).Fails stop other place) same.0 fails_too) in
+      ((each items end reads more).one_kind kind other number place fails too, (each items end reads more).one_number kind other number place fails too))
+      (cases_lt (length items) (length others)))
       (cases_lt (length others) (length items))
 
   pub exact_many : IsExactAt (many item asks_more) here

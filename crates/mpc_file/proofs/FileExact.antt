@@ -1,21 +1,19 @@
 -- A controller's file is read in one way.
-use Rattle.std.proofs.Common.{◌≡◌, ℕ, ◌+◌, ◌^◌, ◌<◌, ◌≤◌, ◌⊎◌, inl, inr, List, [], ◌∷◌, ◌++◌, length, codes, refl, sym, ap, subst, ◌∙◌, arith}
+use Rattle.std.proofs.Common.{◌≡◌, ℕ, ◌+◌, ◌^◌, ◌<◌, ◌≤◌, inl, inr, List, [], ◌++◌, length, codes, refl, sym, ap, ◌∙◌, arith}
 use Rattle.mpc_plant.specs.declared.plants.Plant.{Plant}
 use Rattle.mpc_controller.specs.Parts.{Parts}
-use Rattle.mpc_file.specs.declared.errors.FileKind.{FileKind}
-use Rattle.mpc_file.specs.declared.errors.FileKind.TheVariants.{TailAfterEnd}
 use Rattle.mpc_file.specs.declared.versions.Version.{Version}
 use Rattle.mpc_file.specs.declared.versions.Version.TheVariants.{One, Two, Three}
 use Rattle.mpc_file.specs.Versions.{number_of}
-use Rattle.mpc_file.specs.Reading.{Cursor, Grammar, one_line, give, ◌>>=◌}
+use Rattle.mpc_file.specs.Reading.{Cursor, one_line}
 use Rattle.mpc_file.specs.PlantGrammar.{plain_rule, plant}
-use Rattle.mpc_file.specs.LawGrammar.{forms, named_laws, used_by, written_laws}
-use Rattle.mpc_file.specs.TreeGrammar.{IsWord, planes, planes_used, written_tree, named_tree}
-use Rattle.mpc_file.specs.FileGrammar.{IsVersion, parts_with, written, IsEnd, parts_named, named, behind_plant, in_version, start, Spells, whole_file, HasTail, FailsAt}
+use Rattle.mpc_file.specs.LawGrammar.{used_by}
+use Rattle.mpc_file.specs.TreeGrammar.{planes_used}
+use Rattle.mpc_file.specs.FileGrammar.{IsVersion, parts_with, written, IsEnd, parts_named, named, behind_plant, in_version, start, Spells, whole_file}
 use Rattle.mpc_file.specs.TextLaws.{OneVersion, OneController, SpelledNeverFails, OneLine, OneReason, NoPrefix}
 use Rattle.mpc_file.proofs.Exactness.{IsExactAt, CutLaws, exact_give, exact_both}
 use Rattle.mpc_file.proofs.LineNumbers.{WordLaws, without, one_count}
-use Rattle.mpc_file.proofs.Runs.{IsRun, reach, run_line}
+use Rattle.mpc_file.proofs.Runs.{reach, run_line}
 use Rattle.mpc_file.proofs.PlantExact.{exact_plain, exact_plant}
 use Rattle.mpc_file.proofs.LawExact.{exact_written_laws, exact_forms, exact_named_laws, written_laws_few, named_laws_few, forms_few}
 use Rattle.mpc_file.proofs.TreeExact.{exact_written_tree, exact_planes, exact_named_tree, exact_word, planes_few}
@@ -41,27 +39,27 @@ module _ (cuts : CutLaws) (laws : WordLaws) where
   exact_written : (plant : Plant) (here : Cursor) → reach here ≤ 2 ^ 65 → IsExactAt (written plant) here
   exact_written plant here near =
       exact_both _ _ here (exact_written_laws cuts laws plant here)
-        (λ ls at h.
-          let short : reach at ≤ reach here = (run_written_laws plant).shorter here ls at h in
-          exact_both _ _ at (exact_written_tree cuts laws plant (length ls) (written_laws_few plant here at ls h) at (omega arith))
-            (λ tree to k. exact_both _ _ to (exact_word cuts laws (codes "end") to) (λ u end l. exact_give (parts_with plant ls tree) end)))
+      (λ ls at h.
+      let short : reach at ≤ reach here = (run_written_laws plant).shorter here ls at h in
+      exact_both _ _ at (exact_written_tree cuts laws plant (length ls) (written_laws_few plant here at ls h) at (omega arith))
+      (λ tree to k. exact_both _ _ to (exact_word cuts laws (codes "end") to) (λ u end l. exact_give (parts_with plant ls tree) end)))
 
   exact_named : (plant : Plant) (here : Cursor) → reach here ≤ 2 ^ 65 → IsExactAt (named plant) here
   exact_named plant here near =
       exact_both _ _ here (exact_forms cuts laws plant here)
-        (λ fs behind_forms h.
-          let a : reach behind_forms ≤ reach here = (run_forms plant).shorter here fs behind_forms h in
-          exact_both _ _ behind_forms (exact_named_laws cuts laws plant fs (forms_few plant here behind_forms fs h) behind_forms)
-            (λ ls behind_laws k.
-              let b : reach behind_laws ≤ reach behind_forms = (run_named_laws plant fs).shorter behind_forms ls behind_laws k in
-              exact_both _ _ behind_laws (exact_planes cuts laws plant (length fs) (used_by ls) behind_laws)
-                (λ ps behind_planes l.
-                  let c : reach behind_planes ≤ reach behind_laws = (run_planes plant (length fs) (used_by ls)).shorter behind_laws ps behind_planes l in
-                  exact_both _ _ behind_planes
-                    (exact_named_tree cuts laws plant (length ls) (named_laws_few plant fs behind_forms behind_laws ls k) ps (planes_few plant (length fs) (used_by ls) behind_laws behind_planes ps l) behind_planes (omega arith))
-                    (λ ns behind_tree m.
-                      exact_both _ _ behind_tree (exact_plain cuts laws (IsEnd (length ps) (planes_used ns)) (λ text x y p q. refl) behind_tree)
-                        (λ u end q. exact_give (parts_named plant fs ls ps ns) end)))))
+      (λ fs behind_forms h.
+      let a : reach behind_forms ≤ reach here = (run_forms plant).shorter here fs behind_forms h in
+      exact_both _ _ behind_forms (exact_named_laws cuts laws plant fs (forms_few plant here behind_forms fs h) behind_forms)
+      (λ ls behind_laws k.
+      let b : reach behind_laws ≤ reach behind_forms = (run_named_laws plant fs).shorter behind_forms ls behind_laws k in
+      exact_both _ _ behind_laws (exact_planes cuts laws plant (length fs) (used_by ls) behind_laws)
+      (λ ps behind_planes l.
+      let c : reach behind_planes ≤ reach behind_laws = (run_planes plant (length fs) (used_by ls)).shorter behind_laws ps behind_planes l in
+      exact_both _ _ behind_planes
+      (exact_named_tree cuts laws plant (length ls) (named_laws_few plant fs behind_forms behind_laws ls k) ps (planes_few plant (length fs) (used_by ls) behind_laws behind_planes ps l) behind_planes (omega arith))
+      (λ ns behind_tree m.
+      exact_both _ _ behind_tree (exact_plain cuts laws (IsEnd (length ps) (planes_used ns)) (λ text x y p q. refl) behind_tree)
+      (λ u end q. exact_give (parts_named plant fs ls ps ns) end)))))
 
   exact_behind_plant : (version : Version) (plant : Plant) (here : Cursor) → reach here ≤ 2 ^ 65 → IsExactAt (behind_plant version plant) here
   exact_behind_plant One plant here near = exact_written plant here near
@@ -71,7 +69,7 @@ module _ (cuts : CutLaws) (laws : WordLaws) where
   exact_in_version : (version : Version) (here : Cursor) → reach here ≤ 2 ^ 65 → IsExactAt (in_version version) here
   exact_in_version version here near =
       exact_both _ _ here (exact_plant cuts laws version here)
-        (λ p at h. let short : reach at ≤ reach here = (run_plant version).shorter here p at h in exact_behind_plant version p at (omega arith))
+      (λ p at h. let short : reach at ≤ reach here = (run_plant version).shorter here p at h in exact_behind_plant version p at (omega arith))
 
   same_version : (line : List ℕ) (v w : Version) → IsVersion line v → IsVersion line w → v ≡ w
   same_version line v w h k =
@@ -85,7 +83,7 @@ module _ (cuts : CutLaws) (laws : WordLaws) where
   exact_file : (here : Cursor) → reach here ≤ 2 ^ 65 → IsExactAt whole_file here
   exact_file here near =
       exact_both _ _ here (exact_version here)
-        (λ v at h. let short : reach at ≤ reach here = (run_line (plain_rule IsVersion)).shorter here v at h in exact_in_version v at (omega arith))
+      (λ v at h. let short : reach at ≤ reach here = (run_line (plain_rule IsVersion)).shorter here v at h in exact_in_version v at (omega arith))
 
   -- ---- texts
   exact_text : (bytes : List ℕ) → length bytes < 2 ^ 64 → IsExactAt whole_file (start bytes)
@@ -124,5 +122,5 @@ module _ (cuts : CutLaws) (laws : WordLaws) where
   pub no_prefix : NoPrefix
   no_prefix bytes more version other x y small h k =
       ap (λ (c : Cursor). c.rest)
-        ((exact_text (bytes ++ more) small).one_place x y (record { rest = more; number = h.number }) (record { rest = []; number = k.number })
-          (run_file.extends more (start bytes) x (record { rest = []; number = h.number }) (read_of bytes version x h)) (read_of (bytes ++ more) other y k))
+      ((exact_text (bytes ++ more) small).one_place x y (record { rest = more; number = h.number }) (record { rest = []; number = k.number })
+      (run_file.extends more (start bytes) x (record { rest = []; number = h.number }) (read_of bytes version x h)) (read_of (bytes ++ more) other y k))

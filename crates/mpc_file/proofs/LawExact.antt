@@ -1,17 +1,17 @@
 -- The lines of laws are read in one way.
-use Rattle.std.proofs.Common.{◌≡◌, ℕ, zero, suc, ◌+◌, ◌*◌, ◌^◌, ◌<◌, ◌≤◌, Bool, true, false, IsTrue, nat_lt, cond, List, [], ◌∷◌, ◌++◌, map, length, codes, decimal, refl, sym, ap, subst, ◌∙◌, arith, All, length-append, ltb-true, ltb}
+use Rattle.std.proofs.Common.{◌≡◌, ℕ, ◌*◌, ◌^◌, ◌<◌, ◌≤◌, nat_lt, cond, List, [], ◌∷◌, length, codes, refl, sym, ◌∙◌, arith, All, length-append, ltb-true}
 use Rattle.std.proofs.lemmas.List.Elements.{All-nil, All-cons}
 use Rattle.mpc_exact.specs.Rational.{ℚ}
-use Rattle.mpc_sets.specs.RowSet.{RisesWithin, IsSetOfRows}
+use Rattle.mpc_sets.specs.RowSet.{RisesWithin}
 use Rattle.mpc_plant.specs.declared.plants.Plant.{Plant}
 use Rattle.mpc_rows.specs.declared.laws.Law.{Law}
 use Rattle.mpc_controller.specs.Parts.{row_count}
 use Rattle.mpc_words.specs.Words.{IsWithout}
 use Rattle.mpc_file.specs.declared.versions.Version.TheVariants.{Three}
-use Rattle.mpc_file.specs.Reading.{Cursor, LineRule, Grammar, one_line, give, ◌>>=◌, ReadsItems, no_item, one_more, many}
-use Rattle.mpc_file.specs.PlantGrammar.{AllFit, plain_rule, so_many}
+use Rattle.mpc_file.specs.Reading.{Cursor, Grammar, one_line, ReadsItems, no_item, one_more}
+use Rattle.mpc_file.specs.PlantGrammar.{plain_rule}
 use Rattle.mpc_file.specs.LawGrammar.{unknowns, IsLawLine, IsForm, move_rule, moves, mults, law_with, written_law, IsLawCount, law_count, written_laws, IsShortCount, IsNewForm, forms, NameForms, used_behind, AreFormNumbers, named_moves_rule, named_mults, NamedLaw, used_by, named_law, named_laws}
-use Rattle.mpc_file.proofs.Exactness.{IsExactAt, IsExactRule, CutLaws, exact_line, exact_give, exact_both, exact_many}
+use Rattle.mpc_file.proofs.Exactness.{IsExactAt, CutLaws, exact_line, exact_give, exact_both, exact_many}
 use Rattle.mpc_file.proofs.LineNumbers.{WordLaws, IsShortNumber, without, one_naturals, one_count, one_fractions}
 use Rattle.mpc_file.proofs.PlantExact.{few_rows, exact_plain, exact_so_many}
 
@@ -42,7 +42,7 @@ module _ (cuts : CutLaws) (laws : WordLaws) where
   one_set : (plant : Plant) (line : List ℕ) (x y : List ℕ) → IsLawLine plant line x → IsLawLine plant line y → x ≡ y
   one_set plant line x y h k =
       one_naturals laws (codes "law") x y (without 32 (codes "law") refl) (rises_short 0 (row_count plant) x (row_count_few plant) h.set_of_rows.rises)
-        (rises_short 0 (row_count plant) y (row_count_few plant) k.set_of_rows.rises) (sym h.spelled ∙ k.spelled)
+      (rises_short 0 (row_count plant) y (row_count_few plant) k.set_of_rows.rises) (sym h.spelled ∙ k.spelled)
 
   one_form : (name : List ℕ) → IsWithout 32 name → (n : ℕ) (line : List ℕ) (x y : List ℚ) → IsForm name n line x → IsForm name n line y → x ≡ y
   one_form name plain n line x y h k = one_fractions laws name x y plain h.fits k.fits (sym h.spelled ∙ k.spelled)
@@ -50,7 +50,7 @@ module _ (cuts : CutLaws) (laws : WordLaws) where
   exact_moves : (plant : Plant) (here : Cursor) → IsExactAt (moves plant) here
   exact_moves plant here =
       exact_many (λ (before : List (List ℚ)). one_line (move_rule plant (length before))) (λ (before : List (List ℚ)). nat_lt (length before) (unknowns plant)) here
-        (λ before at reads more. exact_line cuts (move_rule plant (length before)) (record { one = one_form (codes "move") (without 32 (codes "move") refl) plant.n; no_bad_node = λ line x h k. k }) at)
+      (λ before at reads more. exact_line cuts (move_rule plant (length before)) (record { one = one_form (codes "move") (without 32 (codes "move") refl) plant.n; no_bad_node = λ line x h k. k }) at)
 
   exact_mults : (plant : Plant) (members : ℕ) (here : Cursor) → IsExactAt (mults plant members) here
   exact_mults plant members here =
@@ -62,9 +62,9 @@ module _ (cuts : CutLaws) (laws : WordLaws) where
   exact_written_law : (plant : Plant) (here : Cursor) → IsExactAt (written_law plant) here
   exact_written_law plant here =
       exact_both _ _ here (exact_set plant here)
-        (λ set at h. exact_both _ _ at (exact_moves plant at)
-          (λ zs to k. exact_both _ _ to (exact_mults plant (length set) to)
-            (λ ls end l. exact_give (law_with plant set zs ls) end)))
+      (λ set at h. exact_both _ _ at (exact_moves plant at)
+      (λ zs to k. exact_both _ _ to (exact_mults plant (length set) to)
+      (λ ls end l. exact_give (law_with plant set zs ls) end)))
 
   one_law_count : (line : List ℕ) (m n : ℕ) → IsLawCount line m → IsLawCount line n → m ≡ n
   one_law_count line m n h k =
@@ -78,7 +78,7 @@ module _ (cuts : CutLaws) (laws : WordLaws) where
   pub exact_written_laws : (plant : Plant) (here : Cursor) → IsExactAt (written_laws plant) here
   exact_written_laws plant here =
       exact_both _ _ here (exact_law_count here)
-        (λ count at h. exact_many (λ before. written_law plant) (λ (before : List Law). nat_lt (length before) count) at (λ before to reads more. exact_written_law plant to))
+      (λ count at h. exact_many (λ before. written_law plant) (λ (before : List Law). nat_lt (length before) count) at (λ before to reads more. exact_written_law plant to))
 
   -- ---- named laws
   pub one_short_count : (name : List ℕ) → IsWithout 32 name → (line : List ℕ) (m n : ℕ) → IsShortCount name line m → IsShortCount name line n → m ≡ n
@@ -90,8 +90,8 @@ module _ (cuts : CutLaws) (laws : WordLaws) where
   pub exact_forms : (plant : Plant) (here : Cursor) → IsExactAt (forms plant) here
   exact_forms plant here =
       exact_both _ _ here (exact_plain cuts laws (IsShortCount (codes "forms")) (one_short_count (codes "forms") (without 32 (codes "forms") refl)) here)
-        (λ count at h. exact_many (λ before. one_line (plain_rule (IsNewForm plant.n before))) (λ (before : List (List ℚ)). nat_lt (length before) count) at
-          (λ before to reads more. exact_plain cuts laws (IsNewForm plant.n before) (λ line x y k l. one_form (codes "form") (without 32 (codes "form") refl) plant.n line x y k.form_is l.form_is) to))
+      (λ count at h. exact_many (λ before. one_line (plain_rule (IsNewForm plant.n before))) (λ (before : List (List ℚ)). nat_lt (length before) count) at
+      (λ before to reads more. exact_plain cuts laws (IsNewForm plant.n before) (λ line x y k l. one_form (codes "form") (without 32 (codes "form") refl) plant.n line x y k.form_is l.form_is) to))
 
   one_list_of_numbers : (name : List ℕ) → IsWithout 32 name → (all used count : ℕ) → all < 10 ^ 18 → (line : List ℕ) (x y : List ℕ) → AreFormNumbers name all used count line x → AreFormNumbers name all used count line y → x ≡ y
   one_list_of_numbers name plain all used count few line x y h k =
@@ -106,20 +106,20 @@ module _ (cuts : CutLaws) (laws : WordLaws) where
     exact_named_mults used [] here = exact_give [] here
     exact_named_mults used (i ∷ set) here =
         exact_plain cuts laws (AreFormNumbers (codes "mult") (length fs) used (length (i ∷ set)))
-          (one_list_of_numbers (codes "mult") (without 32 (codes "mult") refl) (length fs) used (length (i ∷ set)) few) here
+        (one_list_of_numbers (codes "mult") (without 32 (codes "mult") refl) (length fs) used (length (i ∷ set)) few) here
 
     exact_named_law : (used : ℕ) (here : Cursor) → IsExactAt (named_law plant fs used) here
     exact_named_law used here =
         exact_both _ _ here (exact_set plant here)
-          (λ set at h. exact_both _ _ at (exact_named_moves used at)
-            (λ zs to k. exact_both _ _ to (exact_named_mults (used_behind used zs) set to)
-              (λ ls end l. exact_give (record { set = set; moves = zs; mults = ls }) end)))
+        (λ set at h. exact_both _ _ at (exact_named_moves used at)
+        (λ zs to k. exact_both _ _ to (exact_named_mults (used_behind used zs) set to)
+        (λ ls end l. exact_give (record { set = set; moves = zs; mults = ls }) end)))
 
     pub exact_named_laws : (here : Cursor) → IsExactAt (named_laws plant fs) here
     exact_named_laws here =
         exact_both _ _ here (exact_law_count here)
-          (λ count at h. exact_many (λ (before : List NamedLaw). named_law plant fs (used_by before)) (λ (before : List NamedLaw). nat_lt (length before) count) at
-            (λ before to reads more. exact_named_law (used_by before) to))
+        (λ count at h. exact_many (λ (before : List NamedLaw). named_law plant fs (used_by before)) (λ (before : List NamedLaw). nat_lt (length before) count) at
+        (λ before to reads more. exact_named_law (used_by before) to))
 
 -- ---- how many are read
 pub written_laws_few : (plant : Plant) (here behind : Cursor) (ls : List Law) → (written_laws plant).Reads here ls behind → length ls ≤ 4598479

@@ -26,3 +26,6 @@ pub mod PlantTexts
 pub mod OneText
 pub mod PartText
 pub mod FormLemmas
+pub mod NamedOnce
+pub mod NamedText
+pub mod FileText

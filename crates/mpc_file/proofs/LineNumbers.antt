@@ -1,5 +1,5 @@
 -- A line states the numbers only that its words are the texts of.
-use Rattle.std.proofs.Common.{◌≡◌, ◌≢◌, ℕ, ◌+◌, ◌*◌, ◌^◌, ◌<◌, ◌≤◌, Bool, true, false, not, ◌&&◌, ◌==◌, eqb, IsTrue, List, [], ◌∷◌, ◌++◌, map, length, take, drop, refl, sym, ap, subst, ◌∙◌, arith, All, ℤ, unsigned_abs, decimal, flat_map}
+use Rattle.std.proofs.Common.{◌≡◌, ℕ, ◌+◌, ◌^◌, ◌<◌, Bool, true, false, not, ◌&&◌, ◌==◌, List, [], ◌∷◌, ◌++◌, map, length, take, drop, refl, sym, subst, ◌∙◌, arith, All, ℤ, unsigned_abs, decimal, flat_map}
 use Rattle.std.specs.Fmt.{signed_decimal}
 use Rattle.std.proofs.lemmas.List.Elements.{All-nil, All-cons, All-head, All-tail}
 use Rattle.std.proofs.lemmas.Bool.{and_parts}
@@ -56,7 +56,7 @@ same_rows {A} width (x ∷ xs) (y ∷ ys) n h k e =
     let len : length x ≡ length y = All-head (λ (row : List A). length row ≡ width) x xs h ∙ sym (All-head (λ (row : List A). length row ≡ width) y ys k) in
     let front : x ≡ y = same_front x (flat_map (λ row. row) xs) y (flat_map (λ row. row) ys) len e in
     let back : xs ≡ ys = same_rows width xs ys (omega arith) (All-tail (λ (row : List A). length row ≡ width) x xs h) (All-tail (λ (row : List A). length row ≡ width) y ys k)
-        (same_back x (flat_map (λ row. row) xs) y (flat_map (λ row. row) ys) len e) in
+    (same_back x (flat_map (λ row. row) xs) y (flat_map (λ row. row) ys) len e) in
     λ i. front i ∷ back i
 
 pub all_in_rows : (rows : List (List ℚ)) → All AllFit rows → AllFit (flat_map (λ row. row) rows)
@@ -104,7 +104,7 @@ module _ (laws : WordLaws) where
   pub one_naturals : (first : List ℕ) (xs ys : List ℕ) → IsWithout 32 first → All IsShortNumber xs → All IsShortNumber ys → line first (map decimal xs) ≡ line first (map decimal ys) → xs ≡ ys
   one_naturals first xs ys h k l e =
       one_map decimal IsShortNumber one_decimal xs ys k l
-        (one_words first (map decimal xs) (map decimal ys) h (whole decimal IsShortNumber decimal_word xs k) (whole decimal IsShortNumber decimal_word ys l) e)
+      (one_words first (map decimal xs) (map decimal ys) h (whole decimal IsShortNumber decimal_word xs k) (whole decimal IsShortNumber decimal_word ys l) e)
 
   pub one_count : (first : List ℕ) (m n : ℕ) → IsWithout 32 first → IsShortNumber m → IsShortNumber n → line first (decimal m ∷ []) ≡ line first (decimal n ∷ []) → m ≡ n
   one_count first m n h k l e =
@@ -122,13 +122,13 @@ module _ (laws : WordLaws) where
       let one : (y z : ℤ) → Small y → Small z → signed_decimal y ≡ signed_decimal z → y ≡ z = λ y z s t. laws.one_integer y z (wide y s) (wide z t) in
       let word : (z : ℤ) → Small z → IsWord (signed_decimal z) = λ z s. laws.integer_word z (wide z s) in
       one_map signed_decimal Small one xs ys k l
-        (one_words first (map signed_decimal xs) (map signed_decimal ys) h (whole signed_decimal Small word xs k) (whole signed_decimal Small word ys l) e)
+      (one_words first (map signed_decimal xs) (map signed_decimal ys) h (whole signed_decimal Small word xs k) (whole signed_decimal Small word ys l) e)
 
   -- a line of fractions
   pub one_fractions : (first : List ℕ) (xs ys : List ℚ) → IsWithout 32 first → AllFit xs → AllFit ys → fractions_line first xs ≡ fractions_line first ys → xs ≡ ys
   one_fractions first xs ys h k l e =
       one_map text_of FitsFrac laws.one_fraction xs ys k l
-        (one_words first (map text_of xs) (map text_of ys) h (whole text_of FitsFrac laws.fraction_word xs k) (whole text_of FitsFrac laws.fraction_word ys l) e)
+      (one_words first (map text_of xs) (map text_of ys) h (whole text_of FitsFrac laws.fraction_word xs k) (whole text_of FitsFrac laws.fraction_word ys l) e)
 
   -- a certificate's line
   abbrev pub IsShortPair : (ℕ × ℚ) → Type 0
@@ -139,7 +139,7 @@ module _ (laws : WordLaws) where
   whole_pairs ((n, x) ∷ xs) h =
       let fits : IsShortPair (n, x) = All-head IsShortPair (n, x) xs h in
       All-cons (IsWithout 32) (decimal n) (text_of x ∷ flat_map pair_words xs) (decimal_word n fits.0).no_blank
-        (All-cons (IsWithout 32) (text_of x) (flat_map pair_words xs) (laws.fraction_word x fits.1).no_blank (whole_pairs xs (All-tail IsShortPair (n, x) xs h)))
+      (All-cons (IsWithout 32) (text_of x) (flat_map pair_words xs) (laws.fraction_word x fits.1).no_blank (whole_pairs xs (All-tail IsShortPair (n, x) xs h)))
 
   one_pairs : (xs ys : List (ℕ × ℚ)) → All IsShortPair xs → All IsShortPair ys → flat_map pair_words xs ≡ flat_map pair_words ys → xs ≡ ys
   one_pairs [] [] h k e = refl

@@ -1,7 +1,7 @@
 -- What is read determines the bytes that it is read from. This holds of the ways in which grammars are joined where it holds of their parts and
 -- what both parts state determines what the first does.
-use Rattle.std.proofs.Common.{◌≡◌, ℕ, ◌+◌, ◌<◌, ◌≤◌, Bool, true, false, IsTrue, nat_lt, List, [], ◌∷◌, ◌++◌, length, refl, sym, ap, subst, ◌∙◌, arith, length-append, ltb-false}
-use Rattle.mpc_file.specs.Reading.{Cursor, TakesLine, LineRule, Grammar, ReadsLine, one_line, give, ◌>>=◌, that_which, ReadsItems, no_item, one_more, ReadsAll, many}
+use Rattle.std.proofs.Common.{◌≡◌, ℕ, ◌+◌, ◌≤◌, Bool, nat_lt, List, [], ◌∷◌, ◌++◌, length, refl, sym, ap, subst, ◌∙◌, arith, length-append, ltb-false}
+use Rattle.mpc_file.specs.Reading.{Cursor, LineRule, Grammar, one_line, give, ◌>>=◌, that_which, ReadsItems, no_item, one_more, ReadsAll, many}
 use Rattle.mpc_file.specs.PlantGrammar.{plain_rule, so_many}
 use Rattle.mpc_file.proofs.LineNumbers.{same_front, same_back}
 use Rattle.mpc_file.proofs.LawExact.{so_few}
@@ -14,8 +14,8 @@ pub record HasOneText {X : Type 0} (g : Grammar X) : Type 0 where
 pub text_line : {X : Type 0} (rule : LineRule X) → ((line other : List ℕ) (x : X) → rule.States line x → rule.States other x → line ≡ other) → HasOneText (one_line rule)
 text_line rule one = record {
   same = λ here there behind beyond x (line, (taken, good)) (other, (takes, fine)) e.
-    let same : line ≡ other = one line other x good.0 fine.0 in
-    taken.cut.joined ∙ (λ i. same i ++ 10 ∷ e i) ∙ sym takes.cut.joined;
+      let same : line ≡ other = one line other x good.0 fine.0 in
+      taken.cut.joined ∙ (λ i. same i ++ 10 ∷ e i) ∙ sym takes.cut.joined;
 }
 
 pub text_plain : {X : Type 0} (states : List ℕ → X → Type 0) → ((line other : List ℕ) (x : X) → states line x → states other x → line ≡ other) → HasOneText (one_line (plain_rule states))
@@ -34,13 +34,13 @@ abbrev pub Settles : {X Y : Type 0} → Grammar X → (X → Grammar Y) → Type
 Settles {X} {Y} first second =
     (here there between at behind beyond : Cursor) (x z : X) (y : Y) → first.Reads here x between → (second x).Reads between y behind → first.Reads there z at → (second z).Reads at y beyond → x ≡ z
 
-pub text_both : {X Y : Type 0} (first : Grammar X) (second : X → Grammar Y) → HasOneText first → ((x : X) → HasOneText (second x)) → Settles first second → HasOneText (first >>= second)
+pub text_both : {X Y : Type 0} (first : Grammar X) (second : X → Grammar Y) → HasOneText first → ((x : X) (here between : Cursor) → first.Reads here x between → HasOneText (second x)) → Settles first second → HasOneText (first >>= second)
 text_both first second front back settles = record {
   same = λ here there behind beyond y (x, (between, (h, k))) (z, (at, (l, m))) e.
-    let one : x ≡ z = settles here there between at behind beyond x z y h k l m in
-    let back_too : (second x).Reads at y beyond = subst (λ v. (second v).Reads at y beyond) (sym one) m in
-    let front_too : first.Reads there x at = subst (λ v. first.Reads there v at) (sym one) l in
-    front.same here there between at x h front_too ((back x).same between at behind beyond y k back_too e);
+      let one : x ≡ z = settles here there between at behind beyond x z y h k l m in
+      let back_too : (second x).Reads at y beyond = subst (λ v. (second v).Reads at y beyond) (sym one) m in
+      let front_too : first.Reads there x at = subst (λ v. first.Reads there v at) (sym one) l in
+      front.same here there between at x h front_too ((back x here between h).same between at behind beyond y k back_too e);
 }
 
 -- the first part is a part of the whole
@@ -48,7 +48,7 @@ pub settled_by : {X Y : Type 0} (first : Grammar X) (second : X → Grammar Y) (
 settled_by first second part is here there between at behind beyond x z y h k l m = sym (is between x y behind k) ∙ is at z y beyond m
 
 pub text_with : {X Y : Type 0} (first : Grammar X) (second : X → Grammar Y) (part : Y → X) → HasOneText first → ((x : X) → HasOneText (second x)) → ((here : Cursor) (x : X) (y : Y) (behind : Cursor) → (second x).Reads here y behind → part y ≡ x) → HasOneText (first >>= second)
-text_with first second part front back is = text_both first second front back (settled_by first second part is)
+text_with first second part front back is = text_both first second front (λ x here between h. back x) (settled_by first second part is)
 
 -- ---- items one behind another
 module _ {X : Type 0} (item : List X → Grammar X) (asks_more : List X → Bool) (each : (items : List X) → HasOneText (item items)) where

@@ -1,8 +1,7 @@
 -- What is read from a place goes on from it, and is read the same where more bytes stand behind. This holds of the ways in which grammars are
 -- joined where it holds of their parts.
-use Rattle.std.proofs.Common.{◌≡◌, ℕ, ◌+◌, ◌<◌, ◌≤◌, Bool, true, false, List, [], ◌∷◌, ◌++◌, length, refl, sym, ap, subst, ◌∙◌, arith, length-append, append_assoc}
-use Rattle.mpc_words.specs.Words.{IsCutAt}
-use Rattle.mpc_file.specs.Reading.{Cursor, TakesLine, LineRule, Grammar, ReadsLine, one_line, give, ◌>>=◌, that_which, ReadsItems, no_item, one_more, ReadsAll, many}
+use Rattle.std.proofs.Common.{◌≡◌, ℕ, ◌+◌, ◌<◌, ◌≤◌, Bool, List, [], ◌∷◌, ◌++◌, length, ap, ◌∙◌, arith, length-append, append_assoc}
+use Rattle.mpc_file.specs.Reading.{Cursor, TakesLine, LineRule, Grammar, one_line, give, ◌>>=◌, that_which, ReadsItems, no_item, one_more, many}
 
 -- a place with more bytes behind it
 abbrev pub with_more : List ℕ → Cursor → Cursor

@@ -1,5 +1,5 @@
 -- The lines of a search tree are read in one way: those of its nodes, of their certificates, and of its planes.
-use Rattle.std.proofs.Common.{◌≡◌, ℕ, zero, suc, ◌+◌, ◌-◌, ◌*◌, ◌^◌, ◌<◌, ◌≤◌, ◌⊎◌, inl, inr, Bool, true, false, IsTrue, nat_lt, cond, ℤ, List, [], ◌∷◌, ◌++◌, map, fold, length, codes, decimal, refl, sym, ap, subst, ◌∙◌, arith, All, length-append, get_or, ltb-true}
+use Rattle.std.proofs.Common.{◌≡◌, ℕ, ◌+◌, ◌-◌, ◌^◌, ◌<◌, ◌≤◌, inl, inr, Bool, nat_lt, ℤ, List, [], ◌∷◌, ◌++◌, map, fold, length, codes, decimal, refl, sym, ap, subst, ◌∙◌, arith, All, get_or}
 use Rattle.std.proofs.lemmas.List.Elements.{All-nil, All-cons, All-head, All-tail}
 use Rattle.mpc_exact.specs.Rational.{ℚ}
 use Rattle.mpc_frac.specs.Fits.{FitsFrac}
@@ -10,13 +10,12 @@ use Rattle.mpc_controller.specs.Parts.{row_count}
 use Rattle.mpc_controller.specs.Certificates.{cell_rows}
 use Rattle.mpc_words.specs.Numerals.{numeral}
 use Rattle.mpc_words.specs.Words.{IsWithout, line}
-use Rattle.mpc_file.specs.Reading.{Cursor, LineRule, Grammar, one_line, give, ◌>>=◌, ReadsItems, many}
-use Rattle.mpc_file.specs.Lines.{count_line, integers_line, cert_line}
-use Rattle.mpc_file.specs.PlantGrammar.{AllFit, plain_rule, so_many}
-use Rattle.mpc_file.specs.LawGrammar.{IsShortCount}
-use Rattle.mpc_file.specs.TreeGrammar.{IsRowOf, IsPlane, IsPlaneLine, IsNoPlane, NamesNone, IsCertLine, certs, NodeLine, split_at, leaf_of, no_move, StatesNode, splits, names_law, has_none, node_rule, NodeOver, split_node, law_node, no_move_node, node_behind, node_at, owed_behind, owed, is_owed, next_depth, nodes, written_split, written_node, IsWord, written_tree, IsNewPlane, plane_rule, IsPlaneCount, planes, planes_used, NamesPlane, NamesNoPlane, named_split, named_tree}
+use Rattle.mpc_file.specs.Reading.{Cursor, LineRule, Grammar, one_line}
+use Rattle.mpc_file.specs.Lines.{count_line}
+use Rattle.mpc_file.specs.PlantGrammar.{AllFit, plain_rule}
+use Rattle.mpc_file.specs.TreeGrammar.{IsRowOf, IsPlane, IsPlaneLine, IsNoPlane, IsCertLine, certs, NodeLine, split_at, leaf_of, no_move, StatesNode, splits, names_law, has_none, node_rule, NodeOver, split_node, law_node, no_move_node, node_behind, node_at, owed_behind, owed, is_owed, next_depth, nodes, written_split, written_node, IsWord, written_tree, plane_rule, IsPlaneCount, planes, planes_used, named_split, named_tree}
 use Rattle.mpc_file.proofs.Exactness.{IsExactAt, IsExactRule, CutLaws, exact_line, exact_give, exact_both, exact_many}
-use Rattle.mpc_file.proofs.LineNumbers.{WordLaws, IsShortNumber, IsShortPair, without, same_front, same_back, one_words, one_decimal, decimal_word, one_count, one_integers, one_cert}
+use Rattle.mpc_file.proofs.LineNumbers.{WordLaws, IsShortNumber, IsShortPair, without, same_front, same_back, one_words, decimal_word, one_count, one_integers, one_cert}
 use Rattle.mpc_file.proofs.Runs.{IsRun, reach, run_line, run_give, run_both, run_many, items_shorter, items_few}
 use Rattle.mpc_file.proofs.PlantExact.{exact_plain, exact_so_many}
 use Rattle.mpc_file.proofs.LawExact.{row_count_few, so_few, one_short_count}
@@ -61,7 +60,7 @@ all_owed : {Row : Type 0} (nodes : List (NodeOver Row)) (m : ℕ) (ds : List ℕ
 all_owed [] m ds h = deeper m (m + 0) ds (omega arith) h
 all_owed (node ∷ nodes) m ds h =
     deeper (m + 1 + length nodes) (m + length (node ∷ nodes)) (fold (λ depths node. owed_behind node depths) (owed_behind node ds) nodes) (omega arith)
-      (all_owed nodes (m + 1) (owed_behind node ds) (owed_deeper m node ds h))
+    (all_owed nodes (m + 1) (owed_behind node ds) (owed_deeper m node ds h))
 
 first_within : (m : ℕ) (ds : List ℕ) → WithinDepth m ds → next_depth ds ≤ m
 first_within m [] h = omega arith
@@ -96,7 +95,7 @@ module _ (cuts : CutLaws) (laws : WordLaws) where
   short_pairs rows ((n, x) ∷ cert) few h k =
       let low : n ≤ rows = All-head (λ (entry : ℕ × ℚ). entry.0 ≤ rows) (n, x) cert h in
       All-cons (IsShortPair laws) (n, x) cert (omega arith, All-head FitsFrac x (map (λ entry. entry.1) cert) k)
-        (short_pairs rows cert few (All-tail (λ (entry : ℕ × ℚ). entry.0 ≤ rows) (n, x) cert h) (All-tail FitsFrac x (map (λ entry. entry.1) cert) k))
+      (short_pairs rows cert few (All-tail (λ (entry : ℕ × ℚ). entry.0 ≤ rows) (n, x) cert h) (All-tail FitsFrac x (map (λ entry. entry.1) cert) k))
 
   same_cert : (rows : ℕ) → rows < 10 ^ 64 → (text : List ℕ) (x y : List (ℕ × ℚ)) → IsCertLine rows text x → IsCertLine rows text y → x ≡ y
   same_cert rows few text x y h k =
@@ -112,8 +111,8 @@ module _ (cuts : CutLaws) (laws : WordLaws) where
   same_number : (first : List ℕ) → IsWithout 32 first → (j k : ℕ) → IsShortNumber j → count_line first j ≡ line first (numeral k ∷ []) → j ≡ k
   same_number first plain j k short e =
       let words : ◌≡◌ {A = List (List ℕ)} (decimal j ∷ []) (numeral k ∷ []) =
-        one_words laws first (decimal j ∷ []) (numeral k ∷ []) plain (All-cons (IsWithout 32) (decimal j) [] (decimal_word laws j short).no_blank (All-nil (IsWithout 32)))
-          (All-cons (IsWithout 32) (numeral k) [] (laws.natural_word k).no_blank (All-nil (IsWithout 32))) e in
+      one_words laws first (decimal j ∷ []) (numeral k ∷ []) plain (All-cons (IsWithout 32) (decimal j) [] (decimal_word laws j short).no_blank (All-nil (IsWithout 32)))
+      (All-cons (IsWithout 32) (numeral k) [] (laws.natural_word k).no_blank (All-nil (IsWithout 32))) e in
       let word : decimal j ≡ numeral k = cc in
       laws.one_natural j k (laws.printed j short ∙ word)
 
@@ -172,11 +171,11 @@ module _ (cuts : CutLaws) (laws : WordLaws) where
       let item : List (NodeOver Row) → Grammar (NodeOver Row) = λ before. node_at plant count (split before) (next_depth (owed before)) in
       let asks : List (NodeOver Row) → Bool = λ before. is_owed (owed before) in
       exact_many item asks here
-        (λ before at reads more.
-          let lines : here.number + length before ≤ at.number = items_few item asks (λ items from x to h. node_takes plant count (split items) (next_depth (owed items)) from x to h) here before at reads in
-          let short : reach at ≤ reach here = items_shorter item asks (λ items. run_node plant count (split items) (next_depth (owed items))) here before at reads in
-          let low : next_depth (owed before) ≤ length before = depth_few before in
-          exact_node plant (next_depth (owed before)) (omega arith) count few (split before) (is before) at)
+      (λ before at reads more.
+      let lines : here.number + length before ≤ at.number = items_few item asks (λ items from x to h. node_takes plant count (split items) (next_depth (owed items)) from x to h) here before at reads in
+      let short : reach at ≤ reach here = items_shorter item asks (λ items. run_node plant count (split items) (next_depth (owed items))) here before at reads in
+      let low : next_depth (owed before) ≤ length before = depth_few before in
+      exact_node plant (next_depth (owed before)) (omega arith) count few (split before) (is before) at)
 
   -- ---- rows
   one_row_of : (name : List ℕ) → IsWithout 32 name → (n : ℕ) (text : List ℕ) (x y : RowInt) → IsRowOf name n text x → IsRowOf name n text y → x ≡ y
@@ -208,29 +207,29 @@ module _ (cuts : CutLaws) (laws : WordLaws) where
   pub exact_written_tree : (plant : Plant) (count : ℕ) → count ≤ 4598479 → (here : Cursor) → reach here ≤ 2 ^ 65 → IsExactAt (written_tree plant count) here
   exact_written_tree plant count few here near =
       exact_both _ _ here (exact_word (codes "tree") here)
-        (λ u at h.
-          let short : reach at ≤ reach here = (run_line (plain_rule (IsWord (codes "tree")))).shorter here u at h in
-          exact_both _ _ at (exact_nodes plant count few (λ before. written_split plant) (λ before. written_rule plant) at (omega arith)) (λ ns to k. exact_give (map written_node ns) to))
+      (λ u at h.
+      let short : reach at ≤ reach here = (run_line (plain_rule (IsWord (codes "tree")))).shorter here u at h in
+      exact_both _ _ at (exact_nodes plant count few (λ before. written_split plant) (λ before. written_rule plant) at (omega arith)) (λ ns to k. exact_give (map written_node ns) to))
 
   -- ---- planes
   pub exact_planes : (plant : Plant) (all used : ℕ) (here : Cursor) → IsExactAt (planes plant all used) here
   exact_planes plant all used here =
       exact_both _ _ here
-        (exact_plain cuts laws (IsPlaneCount all used) (λ text x y h k. one_short_count cuts laws (codes "planes") (without 32 (codes "planes") refl) text x y h.count_is k.count_is) here)
-        (λ count at h. exact_many (λ before. one_line (plane_rule plant before)) (λ (before : List RowInt). nat_lt (length before) count) at
-          (λ before to reads more. exact_line cuts (plane_rule plant before)
-            (record {
-              one = λ text x y k l. one_row_of (codes "plane") (without 32 (codes "plane") refl) plant.n text x y k.plane_is.row_is l.plane_is.row_is;
-              no_bad_node = λ text x k l. no_other_plane (codes "plane") (without 32 (codes "plane") refl) plant.n text x k.plane_is l;
-            }) to))
+      (exact_plain cuts laws (IsPlaneCount all used) (λ text x y h k. one_short_count cuts laws (codes "planes") (without 32 (codes "planes") refl) text x y h.count_is k.count_is) here)
+      (λ count at h. exact_many (λ before. one_line (plane_rule plant before)) (λ (before : List RowInt). nat_lt (length before) count) at
+      (λ before to reads more. exact_line cuts (plane_rule plant before)
+      (record {
+        one = λ text x y k l. one_row_of (codes "plane") (without 32 (codes "plane") refl) plant.n text x y k.plane_is.row_is l.plane_is.row_is;
+        no_bad_node = λ text x k l. no_other_plane (codes "plane") (without 32 (codes "plane") refl) plant.n text x k.plane_is l;
+      }) to))
 
   named_rule : (all used : ℕ) → all < 10 ^ 18 → IsSplitRule (named_split all used)
   named_rule all used few = record {
     exact = record {
       one = λ text j k h l. one_count laws (codes "split") j k (without 32 (codes "split") refl) (omega (arith, h.is_plane)) (omega (arith, l.is_plane)) (sym h.spelled ∙ l.spelled);
       no_bad_node = λ text j h (k, (e, not)).
-        let same : j ≡ k = same_number (codes "split") (without 32 (codes "split") refl) j k (omega (arith, h.is_plane)) (sym h.spelled ∙ e) in
-        not (omega (arith, h.from_one), omega (arith, h.is_plane), omega (arith, h.in_order));
+          let same : j ≡ k = same_number (codes "split") (without 32 (codes "split") refl) j k (omega (arith, h.is_plane)) (sym h.spelled ∙ e) in
+          not (omega (arith, h.from_one), omega (arith, h.is_plane), omega (arith, h.in_order));
     };
     begins = λ text k h. split_begins text (decimal k ∷ []) h.spelled;
     none_begins_so = λ text h. split_begins text (numeral h.0 ∷ []) h.1.0;
@@ -239,11 +238,11 @@ module _ (cuts : CutLaws) (laws : WordLaws) where
   pub exact_named_tree : (plant : Plant) (count : ℕ) → count ≤ 4598479 → (ps : List RowInt) → length ps < 10 ^ 18 → (here : Cursor) → reach here ≤ 2 ^ 65 → IsExactAt (named_tree plant count ps) here
   exact_named_tree plant count few ps short here near =
       exact_both _ _ here (exact_word (codes "tree") here)
-        (λ u at h.
-          let less : reach at ≤ reach here = (run_line (plain_rule (IsWord (codes "tree")))).shorter here u at h in
-          exact_both _ _ at
-            (exact_nodes plant count few (λ before. named_split (length ps) (planes_used before)) (λ before. named_rule (length ps) (planes_used before) short) at (omega arith))
-            (λ ns to k. exact_give ns to))
+      (λ u at h.
+      let less : reach at ≤ reach here = (run_line (plain_rule (IsWord (codes "tree")))).shorter here u at h in
+      exact_both _ _ at
+      (exact_nodes plant count few (λ before. named_split (length ps) (planes_used before)) (λ before. named_rule (length ps) (planes_used before) short) at (omega arith))
+      (λ ns to k. exact_give ns to))
 
 pub planes_few : (plant : Plant) (all used : ℕ) (here behind : Cursor) (ps : List RowInt) → (planes plant all used).Reads here ps behind → length ps < 10 ^ 18
 planes_few plant all used here behind ps (count, (between, ((text, (taken, (states, over))), (reads, none)))) =

@@ -1,5 +1,5 @@
--- What holds of every text. A text here has fewer than 2^64 bytes, as each slice has: of longer ones the printed positions of a certificate
--- under 10^64 splits may be those of two.
+-- What holds of every text. Where a law speaks of texts of fewer than 2^64 bytes, as slices are, it is because a number is printed with 64 digits
+-- at most: below 10^64 splits the position of a row is told by its digits.
 use Rattle.std.specs.Prelude.{◌≡◌, ℕ, ◌^◌, ◌<◌, List, [], ◌++◌, length}
 use Rattle.mpc_controller.specs.Parts.{Parts}
 use Rattle.mpc_file.specs.declared.errors.FileKind.{FileKind}
@@ -29,3 +29,7 @@ OneReason = (bytes : List ℕ) (kind other : FileKind) (number place : ℕ) → 
 -- no bytes behind the text of a controller make another's
 abbrev pub NoPrefix : Type 0
 NoPrefix = (bytes more : List ℕ) (version other : Version) (x y : Parts) → length (bytes ++ more) < 2 ^ 64 → Spells bytes version x → Spells (bytes ++ more) other y → more ≡ []
+
+-- a version has one text for a controller
+abbrev pub OneText : Type 0
+OneText = (bytes others : List ℕ) (version : Version) (x : Parts) → Spells bytes version x → Spells others version x → bytes ≡ others

@@ -1,6 +1,6 @@
 //! What holds of every text. The calls do nothing: their contracts are the laws.
 
-ghost use Rattle.mpc_file.specs.TextLaws.{OneVersion, OneController, SpelledNeverFails, OneLine, OneReason, NoPrefix};
+ghost use Rattle.mpc_file.specs.TextLaws.{OneVersion, OneController, SpelledNeverFails, OneLine, OneReason, NoPrefix, OneText};
 
 use mpc_words::{cut_laws, fraction_laws, integer_laws, line_laws, natural_laws};
 
@@ -30,3 +30,8 @@ pub fn no_prefix()
     integer_laws();
     fraction_laws();
 }
+
+/// A controller has one text in each version. The call does nothing: its contract is the law.
+pub fn one_text()
+    ensures { OneText }
+{}

@@ -22,6 +22,6 @@ mod versions;
 mod writing;
 
 pub use errors::{FileError, FileKind};
-pub use laws::{no_prefix, one_reading};
+pub use laws::{no_prefix, one_reading, one_text};
 pub use mpc_controller::{Controller, SealError};
 pub use versions::Version;
