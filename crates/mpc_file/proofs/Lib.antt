@@ -29,3 +29,4 @@ pub mod FormLemmas
 pub mod NamedOnce
 pub mod NamedText
 pub mod FileText
+pub mod PlantShapes

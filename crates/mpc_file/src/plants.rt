@@ -1,8 +1,9 @@
 //! The version of a controller's text, and its plant.
 
-ghost use Rattle.std.specs.Prelude.{◌≡◌, MatchOption};
+ghost use Rattle.std.specs.Prelude.{◌≡◌, ◌≢◌, MatchOption};
 ghost use Rattle.mpc_file.specs.Reading.{Outcome, one_line};
 ghost use Rattle.mpc_file.specs.declared.versions.Version.{Version as Edition};
+ghost use Rattle.mpc_file.specs.Versions.{number_of};
 ghost use Rattle.mpc_file.specs.PlantGrammar.{plain_rule, plant};
 ghost use Rattle.mpc_file.specs.FileGrammar.{IsVersion};
 
@@ -17,6 +18,19 @@ use mpc_plant::Plant;
 use mpc_words::Natural;
 use std::alloc::Global;
 
+/// The version with a number.
+fn version_with(number: u64) -> Option<Version>
+    ensures { MatchOption result ((version : Edition) → number ≢ number_of version)
+        (λ version. number ≡ number_of version) }
+{
+    match number {
+        1 => Some(Version::One),
+        2 => Some(Version::Two),
+        3 => Some(Version::Three),
+        _ => None,
+    }
+}
+
 /// The version that a line states.
 fn version_in(text: &[u8]) -> Option<Version>
     ensures { MatchOption result
@@ -25,10 +39,8 @@ fn version_in(text: &[u8]) -> Option<Version>
 {
     one_number();
     match number_of(text, b"mpc") {
-        Natural::Small(1) => Some(Version::One),
-        Natural::Small(2) => Some(Version::Two),
-        Natural::Small(3) => Some(Version::Three),
-        _ => None,
+        Natural::Small(number) => version_with(number),
+        Natural::Large | Natural::Misspelled => None,
     }
 }
 
