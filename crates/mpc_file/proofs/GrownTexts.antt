@@ -18,7 +18,7 @@ grown text piece more xs i x d start old new inside is before after =
     after ∙ ap (λ t. t ++ piece x) before ∙ append_assoc start (text (take i xs)) (piece x)
     ∙ ap (λ t. start ++ t) (sym (more (take i xs) x) ∙ ap (λ y. text (take i xs ++ y ∷ [])) is ∙ ap text (sym (take_more xs i d inside)))
 
-mapped-push : {X Y : Type 0} (h : Y → List ℕ) (g : X → Y) (xs : List X) (x : X) → flat_map h (map g (xs ++ x ∷ [])) ≡ flat_map h (map g xs) ++ h (g x)
+pub mapped-push : {X Y : Type 0} (h : Y → List ℕ) (g : X → Y) (xs : List X) (x : X) → flat_map h (map g (xs ++ x ∷ [])) ≡ flat_map h (map g xs) ++ h (g x)
 mapped-push h g xs x = ap (flat_map h) (map-append g xs (x ∷ [])) ∙ flat_map-append h (map g xs) (g x ∷ []) ∙ ap (λ t. flat_map h (map g xs) ++ t) (append-nil (h (g x)))
 
 spread-push : {X Y : Type 0} (h : Y → List ℕ) (g : X → List Y) (xs : List X) (x : X) → flat_map h (flat_map g (xs ++ x ∷ [])) ≡ flat_map h (flat_map g xs) ++ flat_map h (g x)
@@ -54,7 +54,7 @@ pub entries_next : (rows : List (List ℚ)) (i : ℕ) (row d : List ℚ) (start 
 entries_next = grown (λ rows. behind_blanks (map fraction_text (flat_map (λ r. r) rows))) (λ row. behind_blanks (map fraction_text row)) entries-push
 
 -- a text of pieces
-pieces-push : {X : Type 0} (g : X → List ℕ) (xs : List X) (x : X) → flat_map g (xs ++ x ∷ []) ≡ flat_map g xs ++ g x
+pub pieces-push : {X : Type 0} (g : X → List ℕ) (xs : List X) (x : X) → flat_map g (xs ++ x ∷ []) ≡ flat_map g xs ++ g x
 pieces-push g xs x = flat_map-append g xs (x ∷ []) ∙ ap (λ t. flat_map g xs ++ t) (append-nil (g x))
 
 pub pieces_at : {X : Type 0} (g : X → List ℕ) (xs : List X) (i : ℕ) (x : X) (start old new : List ℕ)

@@ -30,3 +30,9 @@ pub mod NamedOnce
 pub mod NamedText
 pub mod FileText
 pub mod PlantShapes
+pub mod StepLemmas
+pub mod FormLemmas
+pub mod LawPrints
+pub mod PlaneLemmas
+pub mod TreePrints
+pub mod FilePrints

@@ -7,10 +7,16 @@ use Rattle.std.specs.Cmp.Lexicographic.{slice_cmp, nat_list_cmp_total}
 use Rattle.std.specs.declared.cmp.Ordering.{Ordering}
 use Rattle.std.specs.declared.cmp.Ordering.TheVariants.{Less, Equal, Greater}
 use Rattle.std.proofs.lemmas.Map.Lookups.{exact_bytes}
-use Rattle.std.proofs.lemmas.Bool.{ltb-true, ltb-false}
+use Rattle.std.proofs.lemmas.Bool.{ltb-true, ltb-false, lt-ltb, le-ltb}
 use Rattle.std.proofs.Math.ListN.{get_or-append}
 use Rattle.std.proofs.Math.Seq.{get_or-append_seam}
-use Rattle.mpc_file.specs.Names.{IsNew, AreDifferent, IsNumberOf}
+use Rattle.std.specs.Global.{Vec}
+use Rattle.std.specs.BTreeMap.{get, btree_map_len}
+use Rattle.std.proofs.lemmas.List.{append-nil}
+use Rattle.std.proofs.lemmas.List.Concat.{flat_map-append}
+use Rattle.mpc_file.specs.Writing.{ended, text_of_lines}
+use Rattle.mpc_file.specs.Names.{IsNew, AreDifferent, IsNumberOf, AreNames, IsNamed}
+use Rattle.mpc_file.specs.declared.writing.names.Names.{Names}
 
 below_or_at : (j n : ℕ) (b : Bool) → nat_lt j n ≡ b → j < n + 1 → (j < n) ⊎ (j ≡ n)
 below_or_at j n true e h = inl (ltb-true j n e)
@@ -84,3 +90,49 @@ found_by lines text key false r now same other e h = subst (λ o. MatchOption o 
 pub found_more : (lines : List (List ℕ)) (text key : List ℕ) (r now : Option ℕ) → now ≡ cond (is_eq (slice_cmp nat_cmp text key)) (Some (length lines + 1)) r
     → MatchOption r (IsNew lines key) (λ k. IsNumberOf lines key k) → MatchOption now (IsNew (lines ++ text ∷ []) key) (λ k. IsNumberOf (lines ++ text ∷ []) key k)
 found_more lines text key r now e h = found_by lines text key (is_eq (slice_cmp nat_cmp text key)) r now (same_bytes text key) (other_bytes text key) e h
+
+abbrev key_cmp : Vec ℕ → Vec ℕ → Ordering
+key_cmp x y = slice_cmp nat_cmp x.items y.items
+
+at_some : {X : Type 0} (A : Type 0) (B : X → Type 0) (r : Option X) (x : X) → r ≡ Some x → MatchOption r A B → B x
+at_some A B r x e h = subst (λ o. MatchOption o A B) e h
+
+at_none : {X : Type 0} (A : Type 0) (B : X → Type 0) (r : Option X) → r ≡ None → MatchOption r A B → A
+at_none A B r e h = subst (λ o. MatchOption o A B) e h
+
+-- what is found is the number
+pub is_found : (names : Names) (lines : List (List ℕ)) (key : Vec ℕ) (k : ℕ) → AreNames names lines → get key_cmp names.numbers key ≡ Some k → IsNumberOf lines key.items k
+is_found names lines key k are e = at_some (IsNew lines key.items) (λ n. IsNumberOf lines key.items n) (get key_cmp names.numbers key) k e (are.found key)
+
+-- ---- a line that came before
+pub named_before : (names : Names) (lines : List (List ℕ)) (text : List ℕ) (k : ℕ) → AreNames names lines → IsNumberOf lines text k → IsNamed lines text k names
+named_before names lines text k are is =
+    let most = is.is_line in
+    record {
+      behind = [];
+      behind_is = inl refl;
+      names_are = subst (AreNames names) (sym (append-nil lines)) are;
+      number_of = number_more lines [] text k is;
+      used = ap length (append-nil lines) ∙ ap (λ b. cond b k (length lines)) (sym (le-ltb (length lines) k most));
+      in_order = omega arith
+    }
+
+-- ---- a new line
+pub named_behind : (names new : Names) (lines : List (List ℕ)) (line : Vec ℕ) → AreNames names lines → get key_cmp names.numbers line ≡ None
+    → ((q : Vec ℕ) → get key_cmp new.numbers q ≡ cond (is_eq (slice_cmp nat_cmp line.items q.items)) (Some (length lines + 1)) (get key_cmp names.numbers q))
+    → btree_map_len new.numbers ≡ length lines + 1 → new.text.items ≡ names.text.items ++ ended line.items → IsNamed lines line.items (length lines + 1) new
+named_behind names new lines line are absent updates size text =
+    let fresh : IsNew lines line.items = at_none (IsNew lines line.items) (λ n. IsNumberOf lines line.items n) (get key_cmp names.numbers line) absent (are.found line) in
+    record {
+      behind = line.items ∷ [];
+      behind_is = inr refl;
+      names_are = record {
+        found = λ key. found_more lines line.items key.items (get key_cmp names.numbers key) (get key_cmp new.numbers key) (updates key) (are.found key);
+        count = size ∙ sym (length-append lines (line.items ∷ []));
+        text = text ∙ ap (λ t. t ++ ended line.items) are.text ∙ sym (flat_map-append ended lines (line.items ∷ []) ∙ ap (λ t. text_of_lines lines ++ t) (append-nil (ended line.items)));
+        different = different_more lines line.items are.different fresh
+      };
+      number_of = number_last lines line.items;
+      used = length-append lines (line.items ∷ []) ∙ ap (λ b. cond b (length lines + 1) (length lines)) (sym (lt-ltb (length lines) (length lines + 1) (omega arith)));
+      in_order = omega arith
+    }

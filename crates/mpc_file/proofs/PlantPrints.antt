@@ -108,7 +108,7 @@ offsets_print v is drift goal =
     (prints_end (one_line (plain_rule (AreTargetsOf Three (sizes_of v) v.drift))) (λ targets. give (offsets_with v.drift targets)) (targets_of v) (offsets_of v) (ended (goal_line v)) (goal_prints v is goal) (prints_give (offsets_of v)))
 
 -- ---- rows
-all_both : {X : Type 0} (P Q R : X → Type 0) → ((x : X) → P x → Q x → R x) → (xs : List X) → All P xs → All Q xs → All R xs
+pub all_both : {X : Type 0} (P Q R : X → Type 0) → ((x : X) → P x → Q x → R x) → (xs : List X) → All P xs → All Q xs → All R xs
 all_both P Q R both [] p q = All-nil R
 all_both P Q R both (x ∷ xs) p q = All-cons R x xs (both x (All-head P x xs p) (All-head Q x xs q)) (all_both P Q R both xs (All-tail P x xs p) (All-tail Q x xs q))
 
@@ -129,11 +129,11 @@ axis_prints : (axis : Coordinate) → IsCoordinate axis → AxisFits axis → Pr
 axis_prints axis is fits = prints_plain IsAxis axis (grid_line axis) (axis_without axis is fits) (record { spelled = refl; allowed = is; fits = fits })
 
 -- items that are lines
-each_ended : {X : Type 0} (f : X → List ℕ) (xs : List X) → text_of_lines (map f xs) ≡ flat_map (λ x. ended (f x)) xs
+pub each_ended : {X : Type 0} (f : X → List ℕ) (xs : List X) → text_of_lines (map f xs) ≡ flat_map (λ x. ended (f x)) xs
 each_ended f [] = refl
 each_ended f (x ∷ xs) = ap (λ t. ended (f x) ++ t) (each_ended f xs)
 
-limit_small : (unknowns : ℕ) → row_limit unknowns ≤ 60
+pub limit_small : (unknowns : ℕ) → row_limit unknowns ≤ 60
 limit_small unknowns = grind arith
 
 rows_print : (v : Plant) → IsPlantOf v → All RowFits v.rows → Prints (row_list Three (sizes_of v)) v.rows (text_of_lines (row_lines v.rows))

@@ -81,7 +81,7 @@ prints_counted {X} item count text xs size each =
     (λ before x after whole. (lt-ltb (length before) count (let short = shorter xs before x after whole in omega arith), each before x after whole))
     (le-ltb (length xs) count (omega arith))
 
-in_list : {X : Type 0} (P : X → Type 0) (before : List X) (x : X) (after : List X) → All P (before ++ x ∷ after) → P x
+pub in_list : {X : Type 0} (P : X → Type 0) (before : List X) (x : X) (after : List X) → All P (before ++ x ∷ after) → P x
 in_list P [] x after all = All-head P x after all
 in_list P (y ∷ before) x after all = in_list P before x after (All-tail P y (before ++ x ∷ after) all)
 

@@ -15,3 +15,5 @@ pub mod TextLaws
 pub mod Writing
 pub mod WrittenFits
 pub mod Names
+pub mod FormNames
+pub mod PlaneNames

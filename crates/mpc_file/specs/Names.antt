@@ -1,5 +1,5 @@
 -- Lines that are written once and named by their numbers, from 1, in the order in which they come first.
-use Rattle.std.specs.Prelude.{◌≡◌, ◌≢◌, ℕ, ◌+◌, ◌-◌, ◌<◌, ◌≤◌, cond, nat_lt, List, [], ◌∷◌, ◌++◌, length, slice_index_or, MatchOption}
+use Rattle.std.specs.Prelude.{◌≡◌, ◌≢◌, ℕ, ◌+◌, ◌-◌, ◌<◌, ◌≤◌, ◌⊎◌, cond, nat_lt, List, [], ◌∷◌, ◌++◌, length, slice_index_or, MatchOption}
 use Rattle.std.specs.BTreeMap.{get, btree_map_len}
 use Rattle.std.specs.Cmp.Lexicographic.{slice_cmp}
 use Rattle.std.specs.Ordering.{nat_cmp}
@@ -31,6 +31,7 @@ pub record AreNames (names : Names) (lines : List (List ℕ)) : Type 0 where
 -- behind these lines the line is named by this number, as the next one where it is new
 pub record IsNamed (lines : List (List ℕ)) (text : List ℕ) (k : ℕ) (names : Names) : Type 0 where
   pub behind : List (List ℕ)
+  pub behind_is : (behind ≡ []) ⊎ (behind ≡ text ∷ [])
   pub names_are : AreNames names (lines ++ behind)
   pub number_of : IsNumberOf (lines ++ behind) text k
   pub used : length (lines ++ behind) ≡ cond (nat_lt (length lines) k) k (length lines)

@@ -25,3 +25,4 @@ pub use errors::{FileError, FileKind};
 pub use laws::{no_prefix, one_reading, one_text};
 pub use mpc_controller::{Controller, SealError};
 pub use versions::Version;
+pub use writing::write_file;
