@@ -24,7 +24,7 @@ use Rattle.mpc_file.specs.declared.versions.Version.TheVariants.{Three}
 use Rattle.mpc_file.proofs.PrintLemmas.{prints_plain, prints_give, prints_both, prints_end}
 use Rattle.mpc_file.proofs.WithoutLemmas.{plain_without, count_line_without}
 use Rattle.mpc_file.proofs.PlantPrints.{limit_small, all_both}
-use Rattle.mpc_file.proofs.FormLemmas.{same_size}
+use Rattle.mpc_file.proofs.FormNameLemmas.{same_size}
 use Rattle.mpc_file.proofs.LawPrints.{forms_print, laws_print, all_good, laws_same, rows_few, law_widths}
 use Rattle.mpc_file.proofs.TreePrints.{planes_print, planes_few, tree_prints}
 

@@ -31,7 +31,7 @@ pub mod NamedText
 pub mod FileText
 pub mod PlantShapes
 pub mod StepLemmas
-pub mod FormLemmas
+pub mod FormNameLemmas
 pub mod LawPrints
 pub mod PlaneLemmas
 pub mod TreePrints

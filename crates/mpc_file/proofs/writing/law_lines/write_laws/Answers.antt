@@ -2,7 +2,7 @@ use Rattle.std.proofs.Common.{◌≡◌, ◌+◌, ◌∷◌, ◌++◌, [], take,
 use Rattle.std.proofs.lemmas.List.{take_more}
 use Rattle.std.proofs.lemmas.Option.{slice_get_within, get_or_from_slice_get}
 use Rattle.mpc_file.specs.FormNames.{AreLawsNumbered}
-use Rattle.mpc_file.proofs.FormLemmas.{laws_more}
+use Rattle.mpc_file.proofs.FormNameLemmas.{laws_more}
 use Rattle.mpc_file.proofs.writing.law_lines.write_laws.Goals as goal
 
 pub loop-j-preserved : goal.loop-j-preserved

@@ -4,7 +4,7 @@ use Rattle.mpc_exact.specs.Rational.{ℚ}
 use Rattle.mpc_file.specs.FormNames.{AreForms, AreNumbered}
 use Rattle.mpc_file.specs.Names.{IsNamed, AreNames}
 use Rattle.mpc_file.specs.FormNames.{form_line}
-use Rattle.mpc_file.proofs.FormLemmas.{numbered_none, numbered_more}
+use Rattle.mpc_file.proofs.FormNameLemmas.{numbered_none, numbered_more}
 use Rattle.mpc_file.proofs.writing.law_lines.write_numbers.Goals as goal
 
 pub loop-i-init : goal.loop-i-init

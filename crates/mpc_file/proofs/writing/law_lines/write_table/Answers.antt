@@ -4,7 +4,7 @@ use Rattle.std.specs.Prelude.{codes}
 use Rattle.mpc_file.specs.Lines.{count_line}
 use Rattle.mpc_file.specs.Writing.{ended}
 use Rattle.mpc_file.specs.FormNames.{AreForms, AreLawsNumbered}
-use Rattle.mpc_file.proofs.FormLemmas.{no_forms, table_written}
+use Rattle.mpc_file.proofs.FormNameLemmas.{no_forms, table_written}
 use Rattle.mpc_file.proofs.writing.law_lines.write_table.Goals as goal
 
 pub returns : goal.returns
