@@ -8,6 +8,8 @@ use Rattle.mpc_rows.specs.declared.trees.Node.{Node}
 use Rattle.mpc_controller.specs.Parts.{Parts}
 use Rattle.mpc_file.specs.declared.errors.FileKind.{FileKind}
 use Rattle.mpc_file.specs.declared.errors.FileKind.TheVariants.{TailAfterEnd}
+use Rattle.mpc_file.specs.declared.errors.FileError.{FileError}
+use Rattle.mpc_file.specs.declared.errors.FileError.TheVariants.{Bad, NoMemory}
 use Rattle.mpc_file.specs.declared.versions.Version.{Version}
 use Rattle.mpc_file.specs.declared.versions.Version.TheVariants.{One, Two, Three}
 use Rattle.mpc_file.specs.Versions.{number_of}
@@ -72,3 +74,12 @@ HasTail bytes number = (parts : Parts) × ((behind : Cursor) × (whole_file.Read
 -- the first line that fails, by its number from 1, and why
 abbrev pub FailsAt : List ℕ → FileKind → ℕ → Type 0
 FailsAt bytes kind number = whole_file.Fails (start bytes) kind number ⊎ ((kind ≡ TailAfterEnd) × HasTail bytes number)
+
+-- the bytes are the controller's text in one of the versions
+abbrev pub IsSpelled : List ℕ → Parts → Type 0
+IsSpelled bytes parts = (version : Version) × Spells bytes version parts
+
+-- why bytes are no controller's file; nothing is said of want of memory
+abbrev pub ExplainsFileError : List ℕ → FileError → Type 0
+ExplainsFileError bytes (Bad kind number) = FailsAt bytes kind number
+ExplainsFileError bytes NoMemory = Unit {0}
