@@ -1,6 +1,6 @@
 //! The file of a controller, read.
 
-ghost use Rattle.std.specs.Prelude.{◌≡◌, codes, IfOk, IfErr, List, ◌×◌};
+ghost use Rattle.std.specs.Prelude.{◌≡◌, codes, IfOk, IfErr};
 ghost use Rattle.mpc_controller.specs.Bounds.{IsController};
 ghost use Rattle.mpc_file.specs.Reading.{Outcome, one_line};
 ghost use Rattle.mpc_file.specs.PlantGrammar.{plain_rule};
