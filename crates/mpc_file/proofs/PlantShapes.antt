@@ -1,5 +1,5 @@
 -- What the lines of a plant state are the parts of a plant.
-use Rattle.std.proofs.Common.{◌≡◌, ◌≢◌, ℕ, ◌+◌, ◌*◌, ◌^◌, ◌<◌, ◌≤◌, Bool, true, false, cond, nat_le, nat_lt, List, length, codes, pos, Option, Some, None, MatchOption, refl, sym, ap, ◌∙◌, subst, arith, lit<, lit≤}
+use Rattle.std.proofs.Common.{◌≡◌, ◌≢◌, ℕ, ◌+◌, ◌*◌, ◌^◌, ◌<◌, ◌≤◌, Bool, true, false, cond, nat_le, nat_lt, List, length, codes, pos, Option, Some, None, MatchOption, Err, inl, inr, refl, sym, ap, ◌∙◌, subst, arith, lit<, lit≤}
 use Rattle.std.specs.Prelude.{All}
 use Rattle.std.proofs.lemmas.List.{length-replicate}
 use Rattle.mpc_exact.specs.Rational.{ℚ, int}
@@ -17,8 +17,11 @@ use Rattle.mpc_file.specs.declared.plant_parts.Offsets.{Offsets}
 use Rattle.mpc_file.specs.declared.plant_parts.Limits.{Limits}
 use Rattle.mpc_file.specs.Lines.{count_line}
 use Rattle.mpc_file.specs.Versions.{number_of, greatest_rows}
-use Rattle.mpc_file.specs.Reading.{Cursor, one_line}
-use Rattle.mpc_file.specs.PlantGrammar.{plain_rule, so_many, IsRow, IsLast, IsAxis, sizes, dynamics, weights, offset_lines, offsets, row_list, last_list, grid, limits}
+use Rattle.mpc_file.specs.Reading.{Cursor, one_line, Outcome}
+use Rattle.mpc_file.specs.declared.errors.FileError.{FileError}
+use Rattle.mpc_file.specs.declared.errors.FileError.TheVariants.{Bad, NoMemory}
+use Rattle.mpc_plant.specs.declared.plants.Plant.{Plant}
+use Rattle.mpc_file.specs.PlantGrammar.{plain_rule, so_many, IsRow, IsLast, IsAxis, sizes, dynamics, weights, offset_lines, offsets, row_list, last_list, grid, limits, IsPlantWith, plant}
 use Rattle.mpc_file.specs.FileGrammar.{IsVersion}
 use Rattle.mpc_file.proofs.ManyLemmas.{all_items, just_so_many}
 
@@ -134,3 +137,21 @@ module _ (version : Version) (s : Sizes) (d : Dynamics) (w : Weights) (o : Offse
         grid_size = rows.grid_size;
         grid_ok = rows.grid_ok;
       }
+
+-- ---- where a part fails
+module _ (version : Version) (s : Sizes) (here c1 c2 : Cursor) (d : Dynamics) (first : sizes.Reads here s c1) (second : (dynamics s).Reads c1 d c2) where
+  pub weights_fail : (behind end : Cursor) (error : FileError) → Outcome (weights s) c2 behind (Err error) → Outcome (plant version) here end (Err error)
+  weights_fail behind end (Bad kind number) h = inr (s, (c1, (first, inr (d, (c2, (second, inl h))))))
+  weights_fail behind end NoMemory h = tt
+
+  module _ (c3 : Cursor) (w : Weights) (third : (weights s).Reads c2 w c3) where
+    pub offsets_fail : (behind end : Cursor) (error : FileError) → Outcome (offsets version s) c3 behind (Err error) → Outcome (plant version) here end (Err error)
+    offsets_fail behind end (Bad kind number) h = inr (s, (c1, (first, inr (d, (c2, (second, inr (w, (c3, (third, inl h)))))))))
+    offsets_fail behind end NoMemory h = tt
+
+    pub limits_fail : (c4 behind end : Cursor) (o : Offsets) (error : FileError) → (offsets version s).Reads c3 o c4 → Outcome (limits version s) c4 behind (Err error) → Outcome (plant version) here end (Err error)
+    limits_fail c4 behind end o (Bad kind number) fourth h = inr (s, (c1, (first, inr (d, (c2, (second, inr (w, (c3, (third, inr (o, (c4, (fourth, inl h))))))))))))
+    limits_fail c4 behind end o NoMemory fourth h = tt
+
+    pub plant_reads : (c4 c5 : Cursor) (o : Offsets) (l : Limits) (x : Plant) → (offsets version s).Reads c3 o c4 → (limits version s).Reads c4 l c5 → IsPlantWith s d w o l x → (plant version).Reads here x c5
+    plant_reads c4 c5 o l x fourth fifth is = (s, (c1, (first, (d, (c2, (second, (w, (c3, (third, (o, (c4, (fourth, (l, (c5, (fifth, (is, refl))))))))))))))))
