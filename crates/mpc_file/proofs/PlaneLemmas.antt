@@ -1,6 +1,6 @@
 -- Planes that are named by their numbers: one node more.
 use Rattle.std.proofs.Common.{◌≡◌, ℕ, ◌+◌, ◌-◌, ◌^◌, ◌<◌, ◌≤◌, cond, nat_lt, List, [], ◌∷◌, ◌++◌, length, map, take, refl, sym, ◌∙◌, ap, subst, append_assoc, arith, length-append}
-use Rattle.std.specs.Prelude.{All, fold, slice_index_or, codes, decimal, Result, Ok, Err, OnOk}
+use Rattle.std.specs.Prelude.{All, fold, unsigned_abs, slice_index_or, codes, decimal, Result, Ok, Err, OnOk}
 use Rattle.std.specs.Fmt.{signed_decimal}
 use Rattle.std.specs.List.{flat_map}
 use Rattle.std.specs.Global.{Vec}
@@ -23,13 +23,14 @@ use Rattle.mpc_file.specs.Names.{AreNames, IsNamed}
 use Rattle.mpc_file.specs.PlaneNames.{plane_line, IsGoodPlane, IsGoodNode, ArePlanes, CertFits, CertsFit, leaf_text, bare_leaf_text, node_text, NamesInOrder, PlanesInOrder, IsNodeNumbered, AreNodesNumbered, planes_text, tree_text, IsTreeWritten}
 use Rattle.mpc_file.specs.declared.writing.names.Names.{Names}
 use Rattle.mpc_file.proofs.LineNumbers.{same_front, same_back}
-use Rattle.mpc_file.proofs.NumberLines.{one_integers_line}
+use Rattle.mpc_file.proofs.SpellingLemmas.{one_list_of}
 use Rattle.mpc_file.proofs.GrownTexts.{pieces-push}
 use Rattle.mpc_file.proofs.StepLemmas.{IsItemStep, item_step}
 
 one_plane : (plant : Plant) (x y : RowInt) → IsGoodPlane plant x → IsGoodPlane plant y → plane_line x ≡ plane_line y → x ≡ y
 one_plane plant x y good other e =
-    let same : x.a ++ x.b ∷ [] ≡ y.a ++ y.b ∷ [] = one_integers_line words_of_line signed_word one_integer (codes "plane") (x.a ++ x.b ∷ []) (y.a ++ y.b ∷ []) good.is_row.small other.is_row.small e in
+    let same : x.a ++ x.b ∷ [] ≡ y.a ++ y.b ∷ [] = one_list_of signed_decimal (λ z. unsigned_abs z < 2 ^ 127) (λ z h. signed_word z (omega arith)) words_of_line (λ p q h k. one_integer p q (omega arith) (omega arith)) (codes "plane") (x.a ++ x.b ∷ []) (y.a ++ y.b ∷ [])
+        good.is_row.small other.is_row.small e in
     let size : length x.a ≡ length y.a = good.is_row.size ∙ sym other.is_row.size in
     let front : x.a ≡ y.a = same_front x.a (x.b ∷ []) y.a (y.b ∷ []) size same in
     let back : x.b ∷ [] ≡ y.b ∷ [] = same_back x.a (x.b ∷ []) y.a (y.b ∷ []) size same in
