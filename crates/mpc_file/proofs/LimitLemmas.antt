@@ -1,5 +1,5 @@
 -- The lines of a plant's rows and of its grid.
-use Rattle.std.proofs.Common.{◌≡◌, ◌≢◌, ℕ, ◌+◌, ◌*◌, ◌^◌, ◌<◌, ◌≤◌, Bool, true, false, leb, ltb, List, [], ◌∷◌, ◌++◌, ℤ, pos, negsuc, length, get_or, codes, Option, Some, None, MatchOption, Err, inl, inr, unsigned_abs, to_z, of_z, decimal, refl, sym, ap, ◌∙◌, subst, arith, append-nil, length-append}
+use Rattle.std.proofs.Common.{◌≡◌, ◌≢◌, ℕ, ◌+◌, ◌*◌, ◌^◌, ◌<◌, ◌≤◌, true, ltb, List, [], ◌∷◌, ◌++◌, ℤ, pos, negsuc, length, get_or, codes, Option, Some, None, MatchOption, Err, inl, inr, unsigned_abs, to_z, of_z, decimal, refl, sym, ap, ◌∙◌, subst, arith, append-nil, length-append}
 use Rattle.std.specs.Int.{w128}
 use Rattle.std.specs.Int.Signed.{le_z}
 use Rattle.std.proofs.lemmas.Bool.{leb-true, le-leb}
@@ -167,8 +167,8 @@ module _ (one : OneFractions) (text : List ℕ) (numbers : List ℚ) (are : AreF
       let behind : AllFit (axis.step ∷ states.last ∷ []) = All-tail FitsFrac axis.low (axis.step ∷ states.last ∷ []) fits in
       record {
         spelled =
-          are.spelled ∙ ap (fractions_line (codes "grid")) states.numbers_are
-          ∙ ap (λ word. line (codes "grid") (fraction_text axis.low ∷ fraction_text axis.step ∷ word ∷ [])) (step_text states.last axis.count states.count_is);
+            are.spelled ∙ ap (fractions_line (codes "grid")) states.numbers_are
+            ∙ ap (λ word. line (codes "grid") (fraction_text axis.low ∷ fraction_text axis.step ∷ word ∷ [])) (step_text states.last axis.count states.count_is);
         allowed = states.allowed;
         fits = All-cons FitsFrac axis.low (axis.step ∷ []) (All-head FitsFrac axis.low (axis.step ∷ states.last ∷ []) fits) (All-cons FitsFrac axis.step [] (All-head FitsFrac axis.step (states.last ∷ []) behind) (All-nil FitsFrac));
       }
@@ -189,6 +189,6 @@ module _ (one : OneFractions) (text : List ℕ) (numbers : List ℚ) (are : AreF
 
 -- ---- the rows, those of the end, and the grid
 pub grid_fails : (version : Version) (s : Sizes) (here between beyond behind end : Cursor) (rows terminal : List PlantRow) (error : FileError) → (row_list version s).Reads here rows between → (last_list version s rows).Reads between terminal beyond
-  → Outcome (grid s) beyond behind (Err error) → Outcome (limits version s) here end (Err error)
+    → Outcome (grid s) beyond behind (Err error) → Outcome (limits version s) here end (Err error)
 grid_fails version s here between beyond behind end rows terminal (Bad kind number) first second h = inr (rows, (between, (first, inr (terminal, (beyond, (second, inl h))))))
 grid_fails version s here between beyond behind end rows terminal NoMemory first second h = tt

@@ -2,10 +2,9 @@
 use Rattle.std.proofs.Common.{◌≡◌, ◌≢◌, ℕ, ◌+◌, ◌*◌, ◌^◌, ◌<◌, ◌≤◌, Bool, true, false, cond, nat_le, nat_lt, List, length, codes, pos, Option, Some, None, MatchOption, Err, inl, inr, refl, sym, ap, ◌∙◌, subst, arith, lit<, lit≤}
 use Rattle.std.specs.Prelude.{All}
 use Rattle.std.proofs.lemmas.List.{length-replicate}
-use Rattle.mpc_exact.specs.Rational.{ℚ, int}
-use Rattle.mpc_space.specs.Vector.{zeros}
+use Rattle.mpc_exact.specs.Rational.{int}
 use Rattle.mpc_linear.specs.Shape.{HasShape}
-use Rattle.mpc_plant.specs.Limits.{IsFromTo, IsWeight, FitsRow, IsCoordinate, IsPlant, row_limit}
+use Rattle.mpc_plant.specs.Limits.{IsWeight, FitsRow, IsCoordinate, IsPlant, row_limit}
 use Rattle.mpc_plant.specs.declared.lists.PlantRow.{PlantRow}
 use Rattle.mpc_plant.specs.declared.lists.Coordinate.{Coordinate}
 use Rattle.mpc_file.specs.declared.versions.Version.{Version}
@@ -21,7 +20,7 @@ use Rattle.mpc_file.specs.Reading.{Cursor, one_line, Outcome}
 use Rattle.mpc_file.specs.declared.errors.FileError.{FileError}
 use Rattle.mpc_file.specs.declared.errors.FileError.TheVariants.{Bad, NoMemory}
 use Rattle.mpc_plant.specs.declared.plants.Plant.{Plant}
-use Rattle.mpc_file.specs.PlantGrammar.{plain_rule, so_many, IsRow, IsLast, IsAxis, sizes, dynamics, weights, offset_lines, offsets, row_list, last_list, grid, limits, IsPlantWith, plant}
+use Rattle.mpc_file.specs.PlantGrammar.{plain_rule, so_many, IsRow, IsLast, IsAxis, sizes, dynamics, weights, offset_lines, offsets, grid, limits, IsPlantWith, plant}
 use Rattle.mpc_file.specs.FileGrammar.{IsVersion}
 use Rattle.mpc_file.proofs.ManyLemmas.{all_items, just_so_many}
 

@@ -1,13 +1,12 @@
 //! The lines of a plant's rows and of its grid.
 
-ghost use Rattle.std.specs.Prelude.{◌≡◌, ◌≢◌, ◌+◌, ◌*◌, ◌^◌, ◌<◌, ◌≤◌, ℕ, length, MatchOption, MatchBool, IfOk};
+ghost use Rattle.std.specs.Prelude.{◌≡◌, ◌≢◌, ◌+◌, ◌^◌, ◌<◌, ℕ, length, MatchOption, MatchBool, IfOk};
 ghost use Rattle.mpc_exact.specs.Rational.{IsPositive};
 ghost use Rattle.mpc_plant.specs.declared.lists.PlantRow.{PlantRow as Row};
 ghost use Rattle.mpc_plant.specs.declared.lists.Coordinate.{Coordinate as Axis};
-ghost use Rattle.mpc_plant.specs.Limits.{greatest_count};
 ghost use Rattle.mpc_file.specs.Reading.{Outcome, one_line};
 ghost use Rattle.mpc_file.specs.Versions.{greatest_rows as most_rows};
-ghost use Rattle.mpc_file.specs.PlantGrammar.{plain_rule, so_many, IsRowCount, IsRow, IsLast, IsAxis, AllFit, row_list, last_list, grid, limits};
+ghost use Rattle.mpc_file.specs.PlantGrammar.{plain_rule, so_many, IsRowCount, IsRow, IsLast, IsAxis, row_list, last_list, grid, limits};
 ghost use Rattle.mpc_file.specs.LimitNumbers.{StatesRow, StatesAxis, IsStepCount};
 
 use crate::errors::{FileError, FileKind};
@@ -28,7 +27,7 @@ const GREATEST_COUNT: i128 = 1_000_000;
 
 /// The most rows of a program of so many unknowns.
 fn greatest_rows(version: Version, unknowns: u64) -> u64
-    ensures value { result ≡ most_rows version unknowns }
+    ensures { result ≡ most_rows version unknowns }
 {
     match version {
         Version::One | Version::Two => 40,
@@ -36,7 +35,7 @@ fn greatest_rows(version: Version, unknowns: u64) -> u64
     }
 }
 
-/// The number of rows that a line states, each of which counts `each` times, with others.
+/// The number of rows that a line states behind its name, if they, each counted `each` times, and the others are at most `most`.
 fn count_in(text: &[u8], name: &[u8], each: u32, others: u128, most: u64) -> Option<u64>
     requires some { 0 < each }
     requires others { others < 2 ^ 96 }
@@ -56,7 +55,7 @@ fn count_in(text: &[u8], name: &[u8], each: u32, others: u128, most: u64) -> Opt
     }
 }
 
-/// Reads the line of a number of rows.
+/// Reads the line of the number of rows.
 fn read_count(
     lines: &mut Lines,
     name: &[u8],

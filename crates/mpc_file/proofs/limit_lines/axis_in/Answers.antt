@@ -6,7 +6,7 @@ use Rattle.mpc_file.proofs.limit_lines.axis_in.Goals as goal
 pub returns-in-Some : goal.returns-in-Some
 returns-in-Some c =
     axis_found c.one_fractions.ensures c.args.text.now c.as_slice.result.now
-      (some_fractions (codes "grid") c.args.text.now c.in_ok-numbers.field-0 c.in-Some.numbers c.as_slice.result.now c.in_ok-numbers.ensures c.in-Some.is c.as_slice.ensures) c.axis_of.result c.axis_of.ensures
+    (some_fractions (codes "grid") c.args.text.now c.in_ok-numbers.field-0 c.in-Some.numbers c.as_slice.result.now c.in_ok-numbers.ensures c.in-Some.is c.as_slice.ensures) c.axis_of.result c.axis_of.ensures
 
 pub returns-in-None : goal.returns-in-None
 returns-in-None c = λ axis is.

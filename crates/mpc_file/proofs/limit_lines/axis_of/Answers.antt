@@ -1,4 +1,4 @@
-use Rattle.std.proofs.Common.{◌≡◌, length, rules}
+use Rattle.std.proofs.Common.{rules}
 use Rattle.mpc_exact.specs.Rational.{IsPositive}
 use Rattle.mpc_file.specs.LimitNumbers.{IsStepCount}
 use Rattle.mpc_file.proofs.LimitLemmas.{three_of}

@@ -1,4 +1,3 @@
-use Rattle.std.proofs.Common.{◌≡◌, true, false, sym, ◌∙◌}
 use Rattle.mpc_file.proofs.LimitLemmas.{step_count, one_denom, not_below, not_above}
 use Rattle.mpc_file.proofs.limit_lines.steps_of.Goals as goal
 use Rattle.mpc_file.proofs.limit_lines.steps_of.Goals.{else-den-eq1-via-then-den-eq1+then-count-ge0+else-count-le-GREATEST_COUNT, else-den-eq1-via-then-den-eq1+else-count-ge0, else-den-eq1-via-else-den-eq1}
