@@ -77,7 +77,7 @@ spells parts bytes rest whole prints =
       behind_first = record { rest = rest ++ []; number = behind };
       first = subst (λ t. (one_line (plain_rule IsVersion)).Reads (record { rest = t; number = 1 }) Three (record { rest = rest ++ []; number = behind })) (sym whole) first;
       number = last;
-      lines = lines
+      lines = lines;
     }
 
 pub written : (parts : Parts) (t0 t1 t2 t3 t4 t5 : List ℕ) → IsController parts.plant parts.laws parts.tree → t0 ≡ [] → t1 ≡ t0 ++ ended (count_line (codes "mpc") 3) → t2 ≡ t1 ++ text_of_lines (plant_lines parts.plant) → Prints (plant Three) parts.plant (text_of_lines (plant_lines parts.plant))
@@ -90,7 +90,7 @@ written parts t0 t1 t2 t3 t4 t5 is empty h1 h2 plant_is w tree_is h5 =
     let laws : map (law_named v w.forms) w.named ≡ parts.laws = laws_same v w.forms w.named parts.laws w.laws_are is.shapes.laws_fit in
     let same : parts_named v w.forms w.named t.planes t.named ≡ parts = λ i. parts_with v (laws i) (t.nodes_are i) in
     let bytes : t5 ≡ ended (count_line (codes "mpc") 3) ++ ((p ++ behind) ++ []) =
-        h5 ∙ ap (λ x. x ++ ended (codes "end")) (t.text ∙ ap (λ x. x ++ (planes_text t.planes ++ tree_text t.named)) (w.text ∙ ap (λ x. x ++ (forms_text w.forms ++ laws_text w.named)) (h2 ∙ ap (λ x. x ++ p) (h1 ∙ ap (λ x. x ++ ended (count_line (codes "mpc") 3)) empty))))
-        ∙ regroup (ended (count_line (codes "mpc") 3)) p (forms_text w.forms) (laws_text w.named) (planes_text t.planes) (tree_text t.named) (ended (codes "end")) in
+    h5 ∙ ap (λ x. x ++ ended (codes "end")) (t.text ∙ ap (λ x. x ++ (planes_text t.planes ++ tree_text t.named)) (w.text ∙ ap (λ x. x ++ (forms_text w.forms ++ laws_text w.named)) (h2 ∙ ap (λ x. x ++ p) (h1 ∙ ap (λ x. x ++ ended (count_line (codes "mpc") 3)) empty))))
+    ∙ regroup (ended (count_line (codes "mpc") 3)) p (forms_text w.forms) (laws_text w.named) (planes_text t.planes) (tree_text t.named) (ended (codes "end")) in
     spells parts t5 (p ++ behind) bytes
     (prints_both (plant Three) (behind_plant Three) v parts p behind plant_is (subst (λ x. Prints (named v) x behind) same (named_prints v parts.laws parts.tree t2 t3 t4 is w t)))

@@ -58,8 +58,9 @@ all_but_last P (y ∷ xs) x h = let rest = all_but_last P xs x (All-tail P y (xs
 none_or_last : {X : Type 0} (P : X → Type 0) (xs more : List X) (x : X) → (more ≡ []) ⊎ (more ≡ x ∷ []) → All P xs → P x → All P (xs ++ more)
 none_or_last P xs more x which h here =
     elim which [
-      inl none ↦ subst (λ m. All P (xs ++ m)) (sym none) (subst (All P) (sym (append-nil xs)) h)
-    | inr last ↦ subst (λ m. All P (xs ++ m)) (sym last) (All-push P xs x h here) ]
+      | inl none ↦ subst (λ m. All P (xs ++ m)) (sym none) (subst (All P) (sym (append-nil xs)) h)
+      | inr last ↦ subst (λ m. All P (xs ++ m)) (sym last) (All-push P xs x h here)
+    ]
 
 pub numbered_more : (forms rows : List (List ℚ)) (row : List ℚ) (k : ℕ) (old mid new : List ℕ) (names next : Names) → AllFit row → ((lines : List (List ℕ)) → AreNames names lines → IsNamed lines (form_line row) k next)
     → new ≡ mid ++ 32 ∷ decimal k → AreNumbered forms rows old mid names → AreNumbered forms (rows ++ row ∷ []) old new next
@@ -81,7 +82,7 @@ numbered_more forms rows row k old mid new names next fits named added n =
       in_order = name_more (length (n.all ++ step.more)) (length forms) k n.numbers (name_wider (length n.all) (length (n.all ++ step.more)) (length forms) n.numbers (omega arith) n.in_order) step.from_one step.most (omega arith);
       used = used_more (length forms) k n.numbers ∙ ap (λ u. cond (nat_lt u k) k u) n.used ∙ sym step.used;
       few = simp length-append (omega arith);
-      widths = λ w h r. let parts = all_but_last (HasWidth w) rows row r in none_or_last (HasWidth w) n.all step.more row step.more_is (n.widths w h parts.0) parts.1
+      widths = λ w h r. let parts = all_but_last (HasWidth w) rows row r in none_or_last (HasWidth w) n.all step.more row step.more_is (n.widths w h parts.0) parts.1;
     }
 
 -- ---- laws
@@ -104,7 +105,9 @@ pub law_without : (forms : List (List ℚ)) (law : Law) (t0 t1 t2 t3 t4 : List �
 law_without forms law t0 t1 t2 t3 t4 names set name n feed none =
     let few = n.few in
     record {
-      behind = n.behind; all = n.all; all_are = n.all_are;
+      behind = n.behind;
+      all = n.all;
+      all_are = n.all_are;
       named = record { set = law.set; moves = n.numbers; mults = [] };
       forms_are = n.forms_are;
       law_is = record { set = refl; moves = n.rows_are; mults = sym none };
@@ -114,7 +117,7 @@ law_without forms law t0 t1 t2 t3 t4 names set name n feed none =
       mults_in_order = tt;
       used = n.used;
       few = omega arith;
-      widths = λ w h l. n.widths w h l.0
+      widths = λ w h l. n.widths w h l.0;
     }
 
 pub law_with_mults : (forms : List (List ℚ)) (law : Law) (t0 t1 t2 t3 t4 t5 t6 t7 : List ℕ) (names next : Names) → t1 ≡ t0 ++ ended (line (codes "law") (map decimal law.set)) → t2 ≡ t1 ++ codes "move" → AreNumbered forms law.moves.rows t2 t3 names → t4 ≡ t3 ++ codes "\n"
@@ -126,18 +129,19 @@ law_with_mults forms law t0 t1 t2 t3 t4 t5 t6 t7 names next set name n feed mult
     let size : length m.all ≡ length n.all + length m.behind = ap length m.all_are ∙ length-append n.all m.behind in
     let count : length m.numbers ≡ length law.mults.rows = size_of_numbers m.all m.numbers law.mults.rows m.rows_are in
     let before : t4 ≡ t0 ++ (ended (line (codes "law") (map decimal law.set)) ++ ended (line (codes "move") (map decimal n.numbers))) =
-        text_three t0 t1 t2 t3 t4 (ended (line (codes "law") (map decimal law.set))) (codes "move") (behind_blanks (map decimal n.numbers)) set name n.text feed in
+    text_three t0 t1 t2 t3 t4 (ended (line (codes "law") (map decimal law.set))) (codes "move") (behind_blanks (map decimal n.numbers)) set name n.text feed in
     let whole : t7 ≡ t0 ++ ((ended (line (codes "law") (map decimal law.set)) ++ ended (line (codes "move") (map decimal n.numbers))) ++ ended (line (codes "mult") (map decimal m.numbers))) =
-        text_three t0 t4 t5 t6 t7 (ended (line (codes "law") (map decimal law.set)) ++ ended (line (codes "move") (map decimal n.numbers))) (codes "mult") (behind_blanks (map decimal m.numbers)) before mult m.text last in
+    text_three t0 t4 t5 t6 t7 (ended (line (codes "law") (map decimal law.set)) ++ ended (line (codes "move") (map decimal n.numbers))) (codes "mult") (behind_blanks (map decimal m.numbers)) before mult m.text last in
     record {
-      behind = n.behind ++ m.behind; all = m.all;
+      behind = n.behind ++ m.behind;
+      all = m.all;
       all_are = m.all_are ∙ ap (λ t. t ++ m.behind) n.all_are ∙ append_assoc forms n.behind m.behind;
       named = record { set = law.set; moves = n.numbers; mults = m.numbers };
       forms_are = m.forms_are;
       law_is = record {
         set = refl;
         moves = ap (λ fs. map (form_named fs) n.numbers) m.all_are ∙ all_front n.all m.behind (length forms) n.numbers n.in_order ∙ n.rows_are;
-        mults = m.rows_are
+        mults = m.rows_are;
       };
       text = whole ∙ ap (λ t. t0 ++ t) (append_assoc (ended (line (codes "law") (map decimal law.set))) (ended (line (codes "move") (map decimal n.numbers))) (ended (line (codes "mult") (map decimal m.numbers)))
           ∙ ap (λ t. ended (line (codes "law") (map decimal law.set)) ++ (ended (line (codes "move") (map decimal n.numbers)) ++ t)) (sym (some_mults m.numbers (omega arith))));
@@ -145,7 +149,7 @@ law_with_mults forms law t0 t1 t2 t3 t4 t5 t6 t7 names next set name n feed mult
       mults_in_order = subst (λ u. NameForms (length m.all) u m.numbers) (sym n.used) m.in_order;
       used = ap (λ u. used_behind u m.numbers) n.used ∙ m.used;
       few = omega arith;
-      widths = λ w h l. m.widths w (n.widths w h l.0) l.1
+      widths = λ w h l. m.widths w (n.widths w h l.0) l.1;
     }
 
 -- ---- all laws
@@ -205,7 +209,7 @@ laws_more laws law old mid new names next numbered a =
           (subst (λ u. NameForms (length l.all) u l.named.moves) (sym a.used) l.moves_in_order) (subst (λ u. NameForms (length l.all) (used_behind u l.named.moves) l.named.mults) (sym a.used) l.mults_in_order);
       used = fold_more 0 a.named l.named ∙ ap (λ u. used_step u l.named) a.used ∙ l.used;
       few = omega arith;
-      widths = λ w h. let parts = all_but_last (LawHasWidth w) laws law h in l.widths w (a.widths w parts.0) parts.1
+      widths = λ w h. let parts = all_but_last (LawHasWidth w) laws law h in l.widths w (a.widths w parts.0) parts.1;
     }
 
 pub no_rows : (rows : List (List ℚ)) → length rows ≡ 0 → rows ≡ []
@@ -244,5 +248,5 @@ table_written laws t0 t1 t2 t3 t4 text names_text count names a counted names_ar
       few = a.few;
       widths = a.widths;
       text = text_four t0 t1 t2 t3 t4 (ended (count_line (codes "forms") (length a.forms))) (text_of_lines (map form_line a.forms)) (ended (count_line (codes "laws") (length a.named))) (flat_map law_text a.named)
-          (h1 ∙ ap (λ n. t0 ++ ended (count_line (codes "forms") n)) forms_count) (h2 ∙ ap (λ t. t1 ++ t) (names_are ∙ are.text)) (h3 ∙ ap (λ n. t2 ++ ended (count_line (codes "laws") n)) laws_count) (h4 ∙ ap (λ t. t3 ++ t) a.text)
+          (h1 ∙ ap (λ n. t0 ++ ended (count_line (codes "forms") n)) forms_count) (h2 ∙ ap (λ t. t1 ++ t) (names_are ∙ are.text)) (h3 ∙ ap (λ n. t2 ++ ended (count_line (codes "laws") n)) laws_count) (h4 ∙ ap (λ t. t3 ++ t) a.text);
     }

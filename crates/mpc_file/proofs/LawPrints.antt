@@ -108,8 +108,8 @@ laws_print plant fs named rows few count good order =
     (prints_plain IsLawCount (length named) (count_line (codes "laws") (length named)) (count_line_without (codes "laws") (length named) refl (omega arith)) (record { spelled = refl; few = count }))
     (prints_counted (λ (before : List NamedLaw). named_law plant fs (used_by before)) (length named) law_text named refl
     (λ before n after whole.
-      let at = in_order_at (length fs) 0 before n after (subst (InOrder (length fs) 0) whole order) in
-      law_prints plant fs (used_by before) n rows few (in_list (IsGoodNamed plant fs) before n after (subst (All (IsGoodNamed plant fs)) whole good)) at.0 at.1))
+    let at = in_order_at (length fs) 0 before n after (subst (InOrder (length fs) 0) whole order) in
+    law_prints plant fs (used_by before) n rows few (in_list (IsGoodNamed plant fs) before n after (subst (All (IsGoodNamed plant fs)) whole good)) at.0 at.1))
 
 -- ---- from the laws that are named
 from_take : (xs : List ℕ) (p i d : ℕ) → i < p → i < length xs → get_or (take p xs) i d ≡ get_or xs i d
@@ -128,7 +128,7 @@ good_named plant fs n law is for fits =
       bounds = λ i d h. let (below, inside) = in_take n.moves plant.p i h in
           subst (FormFits (limits_of plant))
           (ap (λ rows. slice_index_or rows i []) (sym is.moves) ∙ get_or-map (form_named fs) n.moves i d [] inside ∙ ap (form_named fs) (sym (from_take n.moves plant.p i d below inside)))
-          (fits i below)
+          (fits i below);
     }
 
 pub all_good : (plant : Plant) (fs : List (List ℚ)) (named : List NamedLaw) (laws : List Law) → AllZip (IsLawNamed fs) named laws → All (IsLawFor plant) laws → All (LawFits plant) laws → All (IsGoodNamed plant fs) named

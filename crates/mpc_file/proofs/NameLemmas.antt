@@ -37,8 +37,9 @@ different_none j inside i before same = absurd (omega arith)
 pub different_more : (lines : List (List ℕ)) (text : List ℕ) → AreDifferent lines → IsNew lines text → AreDifferent (lines ++ text ∷ [])
 different_more lines text different new j inside i before same =
     elim (inside_more lines text j inside) [
-      inl below ↦ different j below i before (sym (front lines (text ∷ []) i (omega arith)) ∙ same ∙ front lines (text ∷ []) j below)
-    | inr last ↦ new i (omega arith) (sym (front lines (text ∷ []) i (omega arith)) ∙ same ∙ ap (λ k. slice_index_or (lines ++ text ∷ []) k []) last ∙ seam lines text) ]
+      | inl below ↦ different j below i before (sym (front lines (text ∷ []) i (omega arith)) ∙ same ∙ front lines (text ∷ []) j below)
+      | inr last ↦ new i (omega arith) (sym (front lines (text ∷ []) i (omega arith)) ∙ same ∙ ap (λ k. slice_index_or (lines ++ text ∷ []) k []) last ∙ seam lines text)
+    ]
 
 pub number_more : (lines more : List (List ℕ)) (text : List ℕ) (k : ℕ) → IsNumberOf lines text k → IsNumberOf (lines ++ more) text k
 number_more lines more text k is =
@@ -55,8 +56,9 @@ number_last lines text =
 new_more : (lines : List (List ℕ)) (text key : List ℕ) → IsNew lines key → text ≢ key → IsNew (lines ++ text ∷ []) key
 new_more lines text key new other i inside same =
     elim (inside_more lines text i inside) [
-      inl below ↦ new i below (sym (front lines (text ∷ []) i below) ∙ same)
-    | inr last ↦ other (sym (seam lines text) ∙ sym (ap (λ k. slice_index_or (lines ++ text ∷ []) k []) last) ∙ same) ]
+      | inl below ↦ new i below (sym (front lines (text ∷ []) i below) ∙ same)
+      | inr last ↦ other (sym (seam lines text) ∙ sym (ap (λ k. slice_index_or (lines ++ text ∷ []) k []) last) ∙ same)
+    ]
 
 equal_from : (r : Ordering) → is_eq r ≡ true → r ≡ Equal
 equal_from Less h = cc
@@ -114,7 +116,7 @@ named_before names lines text k are is =
       names_are = subst (AreNames names) (sym (append-nil lines)) are;
       number_of = number_more lines [] text k is;
       used = ap length (append-nil lines) ∙ ap (λ b. cond b k (length lines)) (sym (le-ltb (length lines) k most));
-      in_order = omega arith
+      in_order = omega arith;
     }
 
 -- ---- a new line
@@ -130,9 +132,9 @@ named_behind names new lines line are absent updates size text =
         found = λ key. found_more lines line.items key.items (get key_cmp names.numbers key) (get key_cmp new.numbers key) (updates key) (are.found key);
         count = size ∙ sym (length-append lines (line.items ∷ []));
         text = text ∙ ap (λ t. t ++ ended line.items) are.text ∙ sym (flat_map-append ended lines (line.items ∷ []) ∙ ap (λ t. text_of_lines lines ++ t) (append-nil (ended line.items)));
-        different = different_more lines line.items are.different fresh
+        different = different_more lines line.items are.different fresh;
       };
       number_of = number_last lines line.items;
       used = length-append lines (line.items ∷ []) ∙ ap (λ b. cond b (length lines + 1) (length lines)) (sym (lt-ltb (length lines) (length lines + 1) (omega arith)));
-      in_order = omega arith
+      in_order = omega arith;
     }

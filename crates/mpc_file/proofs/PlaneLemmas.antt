@@ -30,7 +30,7 @@ use Rattle.mpc_file.proofs.StepLemmas.{IsItemStep, item_step}
 one_plane : (plant : Plant) (x y : RowInt) → IsGoodPlane plant x → IsGoodPlane plant y → plane_line x ≡ plane_line y → x ≡ y
 one_plane plant x y good other e =
     let same : x.a ++ x.b ∷ [] ≡ y.a ++ y.b ∷ [] = one_list_of signed_decimal (λ z. unsigned_abs z < 2 ^ 127) (λ z h. signed_word z (omega arith)) words_of_line (λ p q h k. one_integer p q (omega arith) (omega arith)) (codes "plane") (x.a ++ x.b ∷ []) (y.a ++ y.b ∷ [])
-        good.is_row.small other.is_row.small e in
+    good.is_row.small other.is_row.small e in
     let size : length x.a ≡ length y.a = good.is_row.size ∙ sym other.is_row.size in
     let front : x.a ≡ y.a = same_front x.a (x.b ∷ []) y.a (y.b ∷ []) size same in
     let back : x.b ∷ [] ≡ y.b ∷ [] = same_back x.a (x.b ∷ []) y.a (y.b ∷ []) size same in
@@ -52,27 +52,39 @@ split_numbered plant planes row k old new names next good are named text =
       text = text;
       in_order = (step.from_one, step.most, step.in_order);
       used = sym step.used;
-      certs = tt
+      certs = tt;
     }
 
 pub leaf_numbered : (plant : Plant) (planes : List RowInt) (law : ℕ) (certs : List (List (ℕ × ℚ))) (old new : List ℕ) (names : Names) → ArePlanes plant names planes → new ≡ old ++ leaf_text law certs → All CertFits certs
     → IsNodeNumbered plant planes (LawLeaf law certs) old new names
 leaf_numbered plant planes law certs old new names are text fits =
     record {
-      behind = []; all = planes; all_are = sym (append-nil planes);
+      behind = [];
+      all = planes;
+      all_are = sym (append-nil planes);
       named = law_node law certs;
-      planes_are = are; node_is = refl; text = text; in_order = tt; used = refl;
-      certs = fits
+      planes_are = are;
+      node_is = refl;
+      text = text;
+      in_order = tt;
+      used = refl;
+      certs = fits;
     }
 
 pub bare_numbered : (plant : Plant) (planes : List RowInt) (cert : List (ℕ × ℚ)) (old new : List ℕ) (names : Names) → ArePlanes plant names planes → new ≡ old ++ bare_leaf_text cert → CertFits cert
     → IsNodeNumbered plant planes (NoMove cert) old new names
 bare_numbered plant planes cert old new names are text fits =
     record {
-      behind = []; all = planes; all_are = sym (append-nil planes);
+      behind = [];
+      all = planes;
+      all_are = sym (append-nil planes);
       named = no_move_node cert;
-      planes_are = are; node_is = refl; text = text; in_order = tt; used = refl;
-      certs = fits
+      planes_are = are;
+      node_is = refl;
+      text = text;
+      in_order = tt;
+      used = refl;
+      certs = fits;
     }
 
 -- ---- all nodes
@@ -120,7 +132,7 @@ nodes_more plant nodes node old mid new names next numbered a =
       text = l.text ∙ ap (λ t. t ++ node_text l.named) a.text ∙ append_assoc old (flat_map node_text a.named) (node_text l.named) ∙ ap (λ t. old ++ t) (sym (pieces-push node_text a.named l.named));
       in_order = order_more (length l.all) 0 a.named l.named (nodes_wider (length a.planes) (length l.all) 0 a.named (omega arith) a.in_order) (subst (λ u. NamesInOrder (length l.all) u l.named) (sym a.used) l.in_order);
       used = fold_last 0 a.named l.named ∙ ap (λ u. used_with u l.named) a.used ∙ l.used;
-      certs = All-push CertsFit a.named l.named a.certs l.certs
+      certs = All-push CertsFit a.named l.named a.certs l.certs;
     }
 
 pub no_planes : (plant : Plant) (names : Names) → AreNames names [] → ArePlanes plant names []
@@ -151,7 +163,7 @@ tree_written plant nodes t0 t1 t2 t3 t4 text names_text count names a counted na
       used = a.used;
       certs = a.certs;
       text = text_two t0 t1 t2 t3 t4 (ended (count_line (codes "planes") (length a.planes))) (text_of_lines (map plane_line a.planes)) (ended (codes "tree")) (flat_map node_text a.named)
-          (h1 ∙ ap (λ n. t0 ++ ended (count_line (codes "planes") n)) planes_count) (h2 ∙ ap (λ t. t1 ++ t) (names_are ∙ are.text)) h3 (h4 ∙ ap (λ t. t3 ++ t) a.text)
+          (h1 ∙ ap (λ n. t0 ++ ended (count_line (codes "planes") n)) planes_count) (h2 ∙ ap (λ t. t1 ++ t) (names_are ∙ are.text)) h3 (h4 ∙ ap (λ t. t3 ++ t) a.text);
     }
 
 -- a vector's bytes are fewer than 2^63

@@ -15,7 +15,7 @@ use Rattle.mpc_file.specs.Writing.{Prints, ended}
 pub prints_line : {X : Type 0} (rule : LineRule X) (x : X) (text : List ℕ) → IsWithout 10 text → rule.States text x → ¬ rule.IsOver x → Prints (one_line rule) x (ended text)
 prints_line rule x text without states within =
     record {
-      reads = λ more number. (number + 1, (text, (record { cut = record { first = without; joined = append_assoc text (10 ∷ []) more }; next = refl }, (states, within))))
+      reads = λ more number. (number + 1, (text, (record { cut = record { first = without; joined = append_assoc text (10 ∷ []) more }; next = refl }, (states, within))));
     }
 
 pub prints_plain : {X : Type 0} (states : List ℕ → X → Type 0) (x : X) (text : List ℕ) → IsWithout 10 text → states text x → Prints (one_line (plain_rule states)) x (ended text)
@@ -35,7 +35,7 @@ prints_both first second x y s t one two =
       reads = λ more number.
           let (between, reads_one) = one.reads (t ++ more) number in
           let (after, reads_two) = two.reads more between in
-          (after, (x, (record { rest = t ++ more; number = between }, (subst (λ text. first.Reads (record { rest = text; number = number }) x (record { rest = t ++ more; number = between })) (sym (append_assoc s t more)) reads_one, reads_two))))
+          (after, (x, (record { rest = t ++ more; number = between }, (subst (λ text. first.Reads (record { rest = text; number = number }) x (record { rest = t ++ more; number = between })) (sym (append_assoc s t more)) reads_one, reads_two))));
     }
 
 -- the last part has no line
@@ -59,7 +59,7 @@ items_on {X} item asks_more text xs before (x ∷ after) here more number each w
     let (asked, prints) = each before x after whole in
     let (next, reads) = prints.reads (flat_map text after ++ more) number in
     let from_here : (item before).Reads (record { rest = (text x ++ flat_map text after) ++ more; number = number }) x (record { rest = flat_map text after ++ more; number = next }) =
-        subst (λ t. (item before).Reads (record { rest = t; number = number }) x (record { rest = flat_map text after ++ more; number = next })) (sym (append_assoc (text x) (flat_map text after) more)) reads in
+    subst (λ t. (item before).Reads (record { rest = t; number = number }) x (record { rest = flat_map text after ++ more; number = next })) (sym (append_assoc (text x) (flat_map text after) more)) reads in
     items_on item asks_more text xs (before ++ x ∷ []) after here more next each (whole ∙ sym (append_assoc before (x ∷ []) after))
     (one_more before (record { rest = (text x ++ flat_map text after) ++ more; number = number }) x (record { rest = flat_map text after ++ more; number = next }) read asked from_here)
 

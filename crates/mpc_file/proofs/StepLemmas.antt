@@ -44,15 +44,16 @@ module _ {X : Type 0} (f : X → List ℕ) (Good : X → Type 0) (d : X) (one : 
         in_order = omega arith;
         item_is = item_of_number (xs ++ more) x k good here is;
         used = sym all_size ∙ ap length (sym same) ∙ used ∙ ap (λ n. cond (nat_lt n k) k n) size;
-        few = simp length-append (omega arith)
+        few = simp length-append (omega arith);
       }
 
   pub item_step : (xs : List X) (x : X) (k : ℕ) (next : Names) → All Good xs → Good x → IsNamed (map f xs) (f x) k next → IsItemStep f Good d xs x k next
   item_step xs x k next good here is =
       elim (is.behind_is) [
-        inl none ↦
-          with_more xs [] (map f xs ++ is.behind) x k next (ap (λ b. map f xs ++ b) none ∙ append-nil (map f xs) ∙ ap (map f) (sym (append-nil xs))) (inl refl) (omega arith) (subst (All Good) (sym (append-nil xs)) good) here
-          is.names_are is.number_of is.used is.in_order
-      | inr last ↦
-          with_more xs (x ∷ []) (map f xs ++ is.behind) x k next (ap (λ b. map f xs ++ b) last ∙ sym (map-append f xs (x ∷ []))) (inr refl) (omega arith) (All-push Good xs x good here) here
-          is.names_are is.number_of is.used is.in_order ]
+        | inl none ↦
+            with_more xs [] (map f xs ++ is.behind) x k next (ap (λ b. map f xs ++ b) none ∙ append-nil (map f xs) ∙ ap (map f) (sym (append-nil xs))) (inl refl) (omega arith) (subst (All Good) (sym (append-nil xs)) good) here
+            is.names_are is.number_of is.used is.in_order
+        | inr last ↦
+            with_more xs (x ∷ []) (map f xs ++ is.behind) x k next (ap (λ b. map f xs ++ b) last ∙ sym (map-append f xs (x ∷ []))) (inr refl) (omega arith) (All-push Good xs x good here) here
+            is.names_are is.number_of is.used is.in_order
+      ]

@@ -123,7 +123,7 @@ node_ready plant laws all used ps (depth ∷ depths) (split_node k) rest few sho
       owed_one = refl;
       prints = prints_end (one_line (node_rule laws (named_split all used))) (node_behind plant depth) (split_at k) (split_node k) (ended (count_line (codes "split") k))
           (prints_line (node_rule laws (named_split all used)) (split_at k) (count_line (codes "split") k) (count_line_without (codes "split") k refl (omega arith)) (splits k (record { spelled = refl; from_one = order.0; is_plane = order.1; in_order = order.2 })) (λ over. over))
-          (prints_give (split_node k))
+          (prints_give (split_node k));
     }
 node_ready plant laws all used ps (depth ∷ depths) (law_node j cs) rest few short order fit is have =
     let most = is.to_high in
@@ -131,14 +131,14 @@ node_ready plant laws all used ps (depth ∷ depths) (law_node j cs) rest few sh
       owed_one = refl;
       prints = prints_both (one_line (node_rule laws (named_split all used))) (node_behind plant depth) (leaf_of j) (law_node j cs) (ended (count_line (codes "leaf") j)) (certs_text cs)
           (prints_line (node_rule laws (named_split all used)) (leaf_of j) (count_line (codes "leaf") j) (count_line_without (codes "leaf") j refl (omega arith)) (names_law j refl is) (λ over. over))
-          (prints_end (certs (cell_rows plant.n depth + 1) (row_count plant)) (λ cs. give (law_node j cs)) cs (law_node j cs) (certs_text cs) (certs_print (cell_rows plant.n depth + 1) (row_count plant) cs have.0.one_each have.0.each fit) (prints_give (law_node j cs)))
+          (prints_end (certs (cell_rows plant.n depth + 1) (row_count plant)) (λ cs. give (law_node j cs)) cs (law_node j cs) (certs_text cs) (certs_print (cell_rows plant.n depth + 1) (row_count plant) cs have.0.one_each have.0.each fit) (prints_give (law_node j cs)));
     }
 node_ready plant laws all used ps (depth ∷ depths) (no_move_node c) rest few short order fit is have =
     record {
       owed_one = refl;
       prints = prints_both (one_line (node_rule laws (named_split all used))) (node_behind plant depth) no_move (no_move_node c) (ended (codes "none")) (ended (cert_line c))
           (prints_line (node_rule laws (named_split all used)) no_move (codes "none") (plain_without (codes "none") refl) (has_none refl) (λ over. over))
-          (prints_end (one_line (plain_rule (IsCertLine (cell_rows plant.n depth + row_count plant)))) (λ c. give (no_move_node c)) c (no_move_node c) (ended (cert_line c)) (cert_prints (cell_rows plant.n depth + row_count plant) c have.0 fit) (prints_give (no_move_node c)))
+          (prints_end (one_line (plain_rule (IsCertLine (cell_rows plant.n depth + row_count plant)))) (λ c. give (no_move_node c)) c (no_move_node c) (ended (cert_line c)) (cert_prints (cell_rows plant.n depth + row_count plant) c have.0 fit) (prints_give (no_move_node c)));
     }
 
 -- ---- all nodes
@@ -180,12 +180,12 @@ tree_prints plant laws ps named tree same few short order fit are is have =
     (prints_end (nodes plant laws (λ before. named_split (length ps) (planes_used before))) (λ ns. give ns) named named (flat_map node_text named)
     (prints_many (λ before. node_at plant laws (named_split (length ps) (planes_used before)) (next_depth (owed before))) (λ (before : List (NodeOver ℕ)). is_owed (owed before)) node_text named
     (λ before x after whole.
-      let ready : IsReady plant laws (length ps) (planes_used before) (owed before) x =
-          node_ready plant laws (length ps) (planes_used before) ps (owed before) x (map (named_node ps) after) few short
-          (order_at (length ps) 0 before x after (subst (PlanesInOrder (length ps) 0) whole order))
-          (in_list CertsFit before x after (subst (All CertsFit) whole fit))
-          (in_list (λ y. IsNodeFor plant.n laws (named_node ps y)) before x after (subst (All (λ y. IsNodeFor plant.n laws (named_node ps y))) whole nodes_are))
-          (certs_at plant.n (row_count plant) ps (0 ∷ []) before x after (subst (HaveCerts plant.n (row_count plant) (0 ∷ [])) (sym same ∙ ap (map (named_node ps)) whole) have)) in
-      (ready.owed_one, ready.prints))
+    let ready : IsReady plant laws (length ps) (planes_used before) (owed before) x =
+    node_ready plant laws (length ps) (planes_used before) ps (owed before) x (map (named_node ps) after) few short
+    (order_at (length ps) 0 before x after (subst (PlanesInOrder (length ps) 0) whole order))
+    (in_list CertsFit before x after (subst (All CertsFit) whole fit))
+    (in_list (λ y. IsNodeFor plant.n laws (named_node ps y)) before x after (subst (All (λ y. IsNodeFor plant.n laws (named_node ps y))) whole nodes_are))
+    (certs_at plant.n (row_count plant) ps (0 ∷ []) before x after (subst (HaveCerts plant.n (row_count plant) (0 ∷ [])) (sym same ∙ ap (map (named_node ps)) whole) have)) in
+    (ready.owed_one, ready.prints))
     (nothing_owed (owed named) (none_owed ps (0 ∷ []) named 0 (subst (λ ns. SpellsTrees 1 ns 0) (sym same) is))))
     (prints_give named))

@@ -14,7 +14,6 @@ use Rattle.mpc_file.specs.Lines.{count_line, fractions_line, matrix_line}
 use Rattle.mpc_file.specs.PlantGrammar.{AllFit}
 use Rattle.mpc_space.specs.Matrix.{RationalMatrix}
 
-
 abbrev pub is_plain : List ℕ → Bool
 is_plain [] = true
 is_plain (c ∷ cs) = cond (c == 10) false (is_plain cs)

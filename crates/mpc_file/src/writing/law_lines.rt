@@ -64,12 +64,7 @@ fn write_set(set: ActiveSet, out: &mut Vec<u8>) -> Result<(), NoMemory>
 }
 
 /// Appends the lines of the law.
-fn write_law(
-    alloc: Global,
-    law: &Law,
-    names: &mut Names,
-    out: &mut Vec<u8>,
-) -> Result<(), NoMemory>
+fn write_law(alloc: Global, law: &Law, names: &mut Names, out: &mut Vec<u8>) -> Result<(), NoMemory>
     ensures { OnOk result ((forms : List (List ℚ)) → AreForms names.old forms
         → IsLawNumbered forms law.now out.old.items out.new.items names.new) }
 {

@@ -179,13 +179,7 @@ fn one_leaf(alloc: Global) -> Result<Tree, NoMemory> {
 fn is_text(alloc: Global, file: &[u8], text: &[u8]) -> Result<bool, Fail> {
     let plant = read_plant(alloc, file).ok().ok_or("no plant")?;
     let mut out = Vec::new(alloc);
-    write_parts(
-        alloc,
-        &plant,
-        &one_law(alloc)?,
-        &one_leaf(alloc)?,
-        &mut out,
-    )?;
+    write_parts(alloc, &plant, &one_law(alloc)?, &one_leaf(alloc)?, &mut out)?;
     Ok(out.as_slice() == text)
 }
 

@@ -17,7 +17,7 @@ loop-i-preserved c = λ forms are.
     let i = c.loop-i.i in
     let inside : i < length rows = omega (arith, c.rows-i-end.ensures.value) in
     let named : (lines : List (List ℕ)) → AreNames c.loop-i.names lines → IsNamed lines (form_line row) c.in_ok-number.number c.number.new.self =
-        λ lines h. subst (λ t. IsNamed lines t c.in_ok-number.number c.number.new.self) c.in_ok-text.ensures.text (c.in_ok-number.ensures lines h) in
+    λ lines h. subst (λ t. IsNamed lines t c.in_ok-number.number c.number.new.self) c.in_ok-text.ensures.text (c.in_ok-number.ensures lines h) in
     let same : take i rows ++ row ∷ [] ≡ take (i + 1) rows = ap (λ r. take i rows ++ r ∷ []) c.row.ensures ∙ sym (take_more rows i [] inside) in
     subst (λ rs. AreNumbered forms rs c.args.out.now.items c.write_count.new.out.items c.number.new.self) same
     (numbered_more forms (take i rows) row c.in_ok-number.number c.args.out.now.items c.loop-i.out.items c.write_count.new.out.items c.loop-i.names c.number.new.self c.in_ok-text.ensures.fits named c.in_ok-write_count.ensures (c.loop-i.invariant forms are))

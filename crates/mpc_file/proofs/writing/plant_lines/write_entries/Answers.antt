@@ -9,5 +9,5 @@ loop-i-preserved c =
     let inside : c.loop-i.i < length rows = omega (arith, c.rows-i-end.ensures.value) in
     record {
       text = entries_next rows c.loop-i.i c.row.result.now [] c.args.out.now.items c.loop-i.out.items c.write_fractions.new.out.items inside c.row.ensures c.loop-i.invariant.text c.in_ok-write_fractions.ensures.text;
-      fits = all_next AllFit rows c.loop-i.i c.row.result.now [] inside c.row.ensures c.loop-i.invariant.fits c.in_ok-write_fractions.ensures.fits
+      fits = all_next AllFit rows c.loop-i.i c.row.result.now [] inside c.row.ensures c.loop-i.invariant.fits c.in_ok-write_fractions.ensures.fits;
     }

@@ -9,5 +9,5 @@ use Rattle.mpc_file.proofs.writing.plant_lines.write_entries.Given as goal
 abbrev pub invariant-loop-i : goal.invariant-loop-i
 invariant-loop-i l = record {
   text : l.out.items ≡ l.initial.out.items ++ behind_blanks (map fraction_text (flat_map (λ row. row) (take l.i l.matrix.rows)));
-  fits : All AllFit (take l.i l.matrix.rows)
+  fits : All AllFit (take l.i l.matrix.rows);
 }

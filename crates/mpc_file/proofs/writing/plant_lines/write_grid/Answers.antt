@@ -8,5 +8,5 @@ pub loop-i-preserved : goal.loop-i-preserved
 loop-i-preserved c =
     record {
       text = mapped_at ended grid_line c.args.grid.now c.loop-i.i c.at.result.now c.args.out.now.items c.loop-i.out.items c.write_coordinate.new.out.items c.at.ensures c.loop-i.invariant.text c.in_ok-write_coordinate.ensures.text;
-      fits = all_at AxisFits c.args.grid.now c.loop-i.i c.at.result.now c.at.ensures c.loop-i.invariant.fits c.in_ok-write_coordinate.ensures.fits
+      fits = all_at AxisFits c.args.grid.now c.loop-i.i c.at.result.now c.at.ensures c.loop-i.invariant.fits c.in_ok-write_coordinate.ensures.fits;
     }

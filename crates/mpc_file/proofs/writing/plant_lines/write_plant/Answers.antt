@@ -33,6 +33,6 @@ returns-clause-prints c =
       goal = c.in_ok-write_goal.ensures.fits;
       rows = c.in_ok-write_rows.ensures.fits;
       terminal = c.in_ok-write_terminal.ensures.fits;
-      grid = fits
+      grid = fits;
     }))
     c.write_grid.ensures.fits

@@ -8,5 +8,5 @@ pub loop-i-preserved : goal.loop-i-preserved
 loop-i-preserved c =
     record {
       text = mapped_at ended last_line c.args.rows.now c.loop-i.i c.at.result.now c.write_count_line.new.out.items c.loop-i.out.items c.write_last.new.out.items c.at.ensures c.loop-i.invariant.text c.in_ok-write_last.ensures.text;
-      fits = all_at LastFits c.args.rows.now c.loop-i.i c.at.result.now c.at.ensures c.loop-i.invariant.fits c.in_ok-write_last.ensures.fits
+      fits = all_at LastFits c.args.rows.now c.loop-i.i c.at.result.now c.at.ensures c.loop-i.invariant.fits c.in_ok-write_last.ensures.fits;
     }

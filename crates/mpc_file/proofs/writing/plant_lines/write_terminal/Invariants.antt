@@ -8,5 +8,5 @@ use Rattle.mpc_file.proofs.writing.plant_lines.write_terminal.Given as goal
 abbrev pub invariant-loop-i : goal.invariant-loop-i
 invariant-loop-i l = record {
   text : l.out.items ≡ l.initial.out.items ++ text_of_lines (map last_line (take l.i l.rows));
-  fits : All LastFits (take l.i l.rows)
+  fits : All LastFits (take l.i l.rows);
 }

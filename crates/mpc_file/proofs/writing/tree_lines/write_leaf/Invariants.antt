@@ -6,5 +6,5 @@ use Rattle.mpc_file.proofs.writing.tree_lines.write_leaf.Given as goal
 abbrev pub invariant-loop-i : goal.invariant-loop-i
 invariant-loop-i l = record {
   text : l.out.items ≡ l.initial.out.items ++ certs_text (take l.i l.certs);
-  fits : All CertFits (take l.i l.certs)
+  fits : All CertFits (take l.i l.certs);
 }

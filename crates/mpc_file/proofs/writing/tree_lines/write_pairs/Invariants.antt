@@ -9,5 +9,5 @@ use Rattle.mpc_file.proofs.writing.tree_lines.write_pairs.Given as goal
 abbrev pub invariant-loop-i : goal.invariant-loop-i
 invariant-loop-i l = record {
   text : l.out.items ≡ l.initial.out.items ++ behind_blanks (flat_map pair_words (take l.i l.cert));
-  fits : CertFits (take l.i l.cert)
+  fits : CertFits (take l.i l.cert);
 }

@@ -10,5 +10,5 @@ loop-fraction-preserved c =
     let x = c.fraction-item.result in
     record {
       text = mapped_next (λ word. 32 ∷ word) fraction_text xs c.loop-fraction.fraction-index x x c.args.out.now.items c.loop-fraction.out.items c.write_fraction.new.out.items c.loop-fraction-test.true c.fraction-item.is c.loop-fraction.invariant.text c.in_ok-write_fraction.ensures.text;
-      fits = all_next FitsFrac xs c.loop-fraction.fraction-index x x c.loop-fraction-test.true c.fraction-item.is c.loop-fraction.invariant.fits c.write_fraction.ensures.fits
+      fits = all_next FitsFrac xs c.loop-fraction.fraction-index x x c.loop-fraction-test.true c.fraction-item.is c.loop-fraction.invariant.fits c.write_fraction.ensures.fits;
     }

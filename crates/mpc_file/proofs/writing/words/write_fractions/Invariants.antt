@@ -7,5 +7,5 @@ use Rattle.mpc_file.proofs.writing.words.write_fractions.Given as goal
 abbrev pub invariant-loop-fraction : goal.invariant-loop-fraction
 invariant-loop-fraction l = record {
   text : l.out.items ≡ l.initial.out.items ++ behind_blanks (map fraction_text (take l.fraction-index l.fractions));
-  fits : AllFit (take l.fraction-index l.fractions)
+  fits : AllFit (take l.fraction-index l.fractions);
 }
