@@ -1,25 +1,22 @@
 -- What is written of a controller spells it.
-use Rattle.std.proofs.Common.{◌≡◌, ℕ, ◌+◌, ◌*◌, ◌^◌, ◌<◌, ◌≤◌, List, [], ◌∷◌, ◌++◌, length, map, refl, sym, ◌∙◌, ap, subst, append_assoc, arith}
+use Rattle.std.proofs.Common.{◌≡◌, ℕ, ◌+◌, ◌*◌, ◌^◌, ◌<◌, ◌≤◌, List, [], ◌++◌, length, map, refl, sym, ◌∙◌, ap, subst, append_assoc, arith}
 use Rattle.std.specs.Prelude.{All, codes}
 use Rattle.std.proofs.lemmas.List.{append-nil}
-use Rattle.mpc_exact.specs.Rational.{ℚ}
-use Rattle.mpc_linear.specs.declared.integers.RowInt.{RowInt}
 use Rattle.mpc_plant.specs.declared.plants.Plant.{Plant}
 use Rattle.mpc_rows.specs.declared.laws.Law.{Law}
 use Rattle.mpc_rows.specs.declared.trees.Node.{Node}
 use Rattle.mpc_rows.specs.declared.trees.Node.TheVariants.{Split, Law as LawLeaf, NoMove}
-use Rattle.mpc_controller.specs.Parts.{Parts, limits_of, row_count, IsLawFor, IsNodeFor, HaveShapes}
-use Rattle.mpc_controller.specs.Bounds.{LawFits, NodeFits, IsController}
-use Rattle.mpc_file.specs.Reading.{Cursor, Grammar, one_line, give, ◌>>=◌}
+use Rattle.mpc_controller.specs.Parts.{Parts, limits_of, row_count, IsLawFor, IsNodeFor}
+use Rattle.mpc_controller.specs.Bounds.{NodeFits, IsController}
+use Rattle.mpc_file.specs.Reading.{one_line, give, ◌>>=◌}
 use Rattle.mpc_file.specs.Lines.{count_line}
 use Rattle.mpc_file.specs.PlantGrammar.{plain_rule, plant}
-use Rattle.mpc_file.specs.LawGrammar.{unknowns, forms, NamedLaw, used_by, named_laws, law_named}
-use Rattle.mpc_file.specs.TreeGrammar.{NodeOver, planes, planes_used, named_node, named_tree}
-use Rattle.mpc_file.specs.FileGrammar.{IsVersion, IsEnd, parts_with, parts_named, named, behind_plant, in_version, start, Spells}
+use Rattle.mpc_file.specs.LawGrammar.{forms, used_by, named_laws, law_named}
+use Rattle.mpc_file.specs.TreeGrammar.{planes, planes_used, named_tree}
+use Rattle.mpc_file.specs.FileGrammar.{IsVersion, IsEnd, parts_with, parts_named, named, behind_plant, in_version, Spells}
 use Rattle.mpc_file.specs.Writing.{Prints, ended, text_of_lines, plant_lines}
 use Rattle.mpc_file.specs.FormNames.{IsLawNamed, rows_in, forms_text, laws_text, IsTableWritten}
-use Rattle.mpc_file.specs.PlaneNames.{IsGoodPlane, IsGoodNode, planes_text, tree_text, IsTreeWritten}
-use Rattle.mpc_file.specs.declared.versions.Version.{Version}
+use Rattle.mpc_file.specs.PlaneNames.{IsGoodNode, planes_text, tree_text, IsTreeWritten}
 use Rattle.mpc_file.specs.declared.versions.Version.TheVariants.{Three}
 use Rattle.mpc_file.proofs.PrintLemmas.{prints_plain, prints_give, prints_both, prints_end}
 use Rattle.mpc_file.proofs.WithoutLemmas.{plain_without, count_line_without}

@@ -1,6 +1,6 @@
 -- Forms that are named by their numbers: one row more, one law more.
-use Rattle.std.proofs.Common.{◌≡◌, ◌≢◌, ℕ, ◌+◌, ◌-◌, ◌<◌, ◌≤◌, ◌⊎◌, inl, inr, cond, nat_lt, List, [], ◌∷◌, ◌++◌, length, map, take, refl, sym, ◌∙◌, ap, subst, append_assoc, arith, length-append}
-use Rattle.std.specs.Prelude.{All, fold, slice_index_or, codes, decimal}
+use Rattle.std.proofs.Common.{◌≡◌, ℕ, ◌+◌, ◌-◌, ◌≤◌, ◌⊎◌, inl, inr, cond, nat_lt, List, [], ◌∷◌, ◌++◌, length, map, refl, sym, ◌∙◌, ap, subst, append_assoc, arith, length-append}
+use Rattle.std.specs.Prelude.{All, fold, codes, decimal}
 use Rattle.std.specs.List.{flat_map, AllZip}
 use Rattle.std.proofs.lemmas.List.{append-nil, map-append, length-map}
 use Rattle.std.proofs.lemmas.List.Elements.{All-nil, All-cons, All-head, All-tail, All-push}
@@ -13,7 +13,7 @@ use Rattle.mpc_words.specs.Words.{line, behind_blanks}
 use Rattle.mpc_words.proofs.LineLemmas.{words_of_line}
 use Rattle.mpc_words.proofs.FractionLemmas.{one_fraction, fraction_word}
 use Rattle.mpc_file.specs.PlantGrammar.{AllFit}
-use Rattle.mpc_file.specs.LawGrammar.{NameForms, used_behind, form_named, NamedLaw, used_by}
+use Rattle.mpc_file.specs.LawGrammar.{NameForms, used_behind, form_named, NamedLaw}
 use Rattle.mpc_file.specs.Lines.{count_line}
 use Rattle.mpc_file.specs.Writing.{ended, text_of_lines}
 use Rattle.mpc_file.specs.Names.{AreNames, IsNamed}

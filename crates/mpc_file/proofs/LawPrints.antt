@@ -1,25 +1,23 @@
 -- The lines of forms and of laws that name them are read as the laws.
-use Rattle.std.proofs.Common.{◌≡◌, ◌≢◌, ℕ, ◌+◌, ◌-◌, ◌*◌, ◌^◌, ◌<◌, ◌≤◌, cond, nat_lt, List, [], ◌∷◌, ◌++◌, length, map, take, get_or, refl, sym, ◌∙◌, ap, subst, append_assoc, arith, length-append}
+use Rattle.std.proofs.Common.{◌≡◌, ℕ, ◌+◌, ◌*◌, ◌^◌, ◌<◌, ◌≤◌, cond, nat_lt, List, [], ◌∷◌, ◌++◌, length, map, take, get_or, refl, sym, ◌∙◌, ap, subst, arith, length-append}
 use Rattle.std.specs.Prelude.{All, Contains, fold, slice_index_or, codes, decimal}
 use Rattle.std.specs.List.{flat_map, AllZip}
-use Rattle.std.proofs.lemmas.List.{append-nil, get_or-map, get_or-take, length-map}
+use Rattle.std.proofs.lemmas.List.{get_or-map, get_or-take, length-map}
 use Rattle.std.proofs.lemmas.List.{length-take}
 use Rattle.std.proofs.lemmas.List.Elements.{All-nil, All-cons, All-head, All-tail, All-map, All-weaker}
 use Rattle.std.proofs.Math.ListN.{get_or-append}
 use Rattle.std.proofs.Math.Seq.{get_or-append_seam}
 use Rattle.mpc_exact.specs.Rational.{ℚ}
-use Rattle.mpc_linear.specs.Shape.{HasShape}
 use Rattle.mpc_sets.specs.RowSet.{IsSetOfRows, RisesWithin}
-use Rattle.mpc_space.specs.Matrix.{RationalMatrix, height, IsRectangular}
 use Rattle.mpc_plant.specs.declared.plants.Plant.{Plant}
 use Rattle.mpc_rows.specs.declared.laws.Law.{Law}
 use Rattle.mpc_controller.specs.Parts.{limits_of, row_count, IsLawFor}
-use Rattle.mpc_controller.specs.Bounds.{FormFits, LawFits, InputsFit}
+use Rattle.mpc_controller.specs.Bounds.{FormFits, LawFits}
 use Rattle.mpc_words.specs.Words.{IsWithout, line}
-use Rattle.mpc_file.specs.Reading.{Grammar, one_line, give, ◌>>=◌}
-use Rattle.mpc_file.specs.Lines.{count_line, fractions_line}
+use Rattle.mpc_file.specs.Reading.{one_line, give, ◌>>=◌}
+use Rattle.mpc_file.specs.Lines.{count_line}
 use Rattle.mpc_file.specs.PlantGrammar.{AllFit, plain_rule}
-use Rattle.mpc_file.specs.LawGrammar.{unknowns, IsLawLine, IsForm, law_with, IsLawCount, law_count, IsShortCount, IsNewForm, forms, NameForms, used_behind, form_named, AreFormNumbers, named_moves_rule, named_mults, NamedLaw, used_by, named_law, named_laws, law_named}
+use Rattle.mpc_file.specs.LawGrammar.{unknowns, IsLawLine, IsLawCount, law_count, IsShortCount, IsNewForm, forms, NameForms, used_behind, form_named, AreFormNumbers, named_moves_rule, named_mults, NamedLaw, used_by, named_law, named_laws, law_named}
 use Rattle.mpc_file.specs.Writing.{Prints, ended, text_of_lines}
 use Rattle.mpc_file.specs.Names.{AreDifferent}
 use Rattle.mpc_file.specs.FormNames.{form_line, HasWidth, LawHasWidth, mults_text, law_text, IsLawNamed, InOrder, rows_in, forms_text, laws_text}

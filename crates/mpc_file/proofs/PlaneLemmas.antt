@@ -1,14 +1,13 @@
 -- Planes that are named by their numbers: one node more.
-use Rattle.std.proofs.Common.{◌≡◌, ℕ, ◌+◌, ◌-◌, ◌^◌, ◌<◌, ◌≤◌, cond, nat_lt, List, [], ◌∷◌, ◌++◌, length, map, take, refl, sym, ◌∙◌, ap, subst, append_assoc, arith, length-append}
-use Rattle.std.specs.Prelude.{All, fold, unsigned_abs, slice_index_or, codes, decimal, Result, Ok, Err, OnOk}
+use Rattle.std.proofs.Common.{◌≡◌, ℕ, ◌+◌, ◌-◌, ◌^◌, ◌<◌, ◌≤◌, List, [], ◌∷◌, ◌++◌, length, map, refl, sym, ◌∙◌, ap, subst, append_assoc, arith, length-append}
+use Rattle.std.specs.Prelude.{All, fold, unsigned_abs, slice_index_or, codes, Result, Ok, Err, OnOk}
 use Rattle.std.specs.Fmt.{signed_decimal}
 use Rattle.std.specs.List.{flat_map}
 use Rattle.std.specs.Global.{Vec}
 use Rattle.std.proofs.lemmas.List.{append-nil, map-append, length-map}
-use Rattle.std.proofs.lemmas.List.Elements.{All-nil, All-cons, All-head, All-tail, All-map, All-weaker, All-push}
+use Rattle.std.proofs.lemmas.List.Elements.{All-nil, All-push}
 use Rattle.std.proofs.Math.ListN.{get_or-append}
 use Rattle.mpc_exact.specs.Rational.{ℚ}
-use Rattle.mpc_frac.specs.Fits.{FitsFrac}
 use Rattle.mpc_linear.specs.declared.integers.RowInt.{RowInt}
 use Rattle.mpc_plant.specs.declared.plants.Plant.{Plant}
 use Rattle.mpc_rows.specs.declared.trees.Node.{Node}
@@ -16,11 +15,11 @@ use Rattle.mpc_rows.specs.declared.trees.Node.TheVariants.{Split, Law as LawLeaf
 use Rattle.mpc_words.proofs.LineLemmas.{words_of_line}
 use Rattle.mpc_words.proofs.IntegerLemmas.{one_integer, signed_word}
 use Rattle.mpc_file.specs.Lines.{count_line}
-use Rattle.mpc_file.specs.TreeGrammar.{NodeOver, used_with, planes_used, named_node, no_plane, plane_named}
+use Rattle.mpc_file.specs.TreeGrammar.{NodeOver, used_with, named_node, no_plane, plane_named}
 use Rattle.mpc_file.specs.TreeGrammar.NodeOver.{split_node, law_node, no_move_node}
 use Rattle.mpc_file.specs.Writing.{ended, text_of_lines}
 use Rattle.mpc_file.specs.Names.{AreNames, IsNamed}
-use Rattle.mpc_file.specs.PlaneNames.{plane_line, IsGoodPlane, IsGoodNode, ArePlanes, CertFits, CertsFit, leaf_text, bare_leaf_text, node_text, NamesInOrder, PlanesInOrder, IsNodeNumbered, AreNodesNumbered, planes_text, tree_text, IsTreeWritten}
+use Rattle.mpc_file.specs.PlaneNames.{plane_line, IsGoodPlane, IsGoodNode, ArePlanes, CertFits, CertsFit, leaf_text, bare_leaf_text, node_text, NamesInOrder, PlanesInOrder, IsNodeNumbered, AreNodesNumbered, IsTreeWritten}
 use Rattle.mpc_file.specs.declared.writing.names.Names.{Names}
 use Rattle.mpc_file.proofs.LineNumbers.{same_front, same_back}
 use Rattle.mpc_file.proofs.SpellingLemmas.{one_list_of}

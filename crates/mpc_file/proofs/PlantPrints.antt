@@ -1,10 +1,9 @@
 -- A plant's lines are read as the plant.
-use Rattle.std.proofs.Common.{◌≡◌, ℕ, ◌+◌, ◌*◌, ◌<◌, ◌≤◌, ◌^◌, List, [], ◌∷◌, ◌++◌, length, map, refl, sym, ◌∙◌, ap, subst, append_assoc, arith}
+use Rattle.std.proofs.Common.{◌≡◌, ℕ, ◌+◌, ◌*◌, ◌<◌, ◌≤◌, ◌^◌, List, [], ◌∷◌, ◌++◌, length, map, refl, sym, ◌∙◌, ap, append_assoc, arith}
 use Rattle.std.specs.Prelude.{All, codes, decimal}
 use Rattle.std.specs.List.{flat_map}
 use Rattle.std.proofs.lemmas.List.Concat.{flat_map-append}
-use Rattle.std.proofs.lemmas.List.Elements.{All-nil, All-cons, All-head, All-tail, All-append, All-from_get_or, All-get_or}
-use Rattle.mpc_exact.specs.Rational.{ℚ}
+use Rattle.std.proofs.lemmas.List.Elements.{All-nil, All-cons, All-head, All-tail, All-append}
 use Rattle.mpc_space.specs.Matrix.{RationalMatrix}
 use Rattle.mpc_frac.specs.Fits.{FitsFrac}
 use Rattle.mpc_frac.specs.Text.{text_of as fraction_text}
@@ -13,12 +12,12 @@ use Rattle.mpc_plant.specs.Limits.{IsFromTo, IsWeight, FitsRow, IsCoordinate, Is
 use Rattle.mpc_plant.specs.declared.plants.Plant.{Plant}
 use Rattle.mpc_plant.specs.declared.lists.PlantRow.{PlantRow}
 use Rattle.mpc_plant.specs.declared.lists.Coordinate.{Coordinate}
-use Rattle.mpc_words.specs.Words.{IsWithout, line}
-use Rattle.mpc_file.specs.Reading.{Grammar, one_line, give, that_which, ◌>>=◌}
-use Rattle.mpc_file.specs.Lines.{count_line, fractions_line, matrix_line, row_line, last_line, grid_line}
-use Rattle.mpc_file.specs.PlantGrammar.{AllFit, AreSizes, plain_rule, sizes, IsMatrix, IsWeightLine, matrix, weight, dynamics, weights, IsDrift, AreTargets, AreTargetsOf, offsets_with, offset_lines, offsets, IsRowCount, IsRow, IsLast, so_many, row_list, last_list, IsAxis, grid, limits, IsPlantWith, plant}
+use Rattle.mpc_words.specs.Words.{IsWithout}
+use Rattle.mpc_file.specs.Reading.{one_line, give, that_which, ◌>>=◌}
+use Rattle.mpc_file.specs.Lines.{count_line, matrix_line, row_line, last_line, grid_line}
+use Rattle.mpc_file.specs.PlantGrammar.{AllFit, AreSizes, plain_rule, sizes, IsMatrix, IsWeightLine, matrix, weight, dynamics, weights, IsDrift, AreTargetsOf, offsets_with, offsets, IsRowCount, IsRow, IsLast, so_many, row_list, last_list, IsAxis, grid, limits, IsPlantWith, plant}
 use Rattle.mpc_file.specs.Versions.{greatest_rows}
-use Rattle.mpc_file.specs.Writing.{Prints, ended, text_of_lines, size_line, matrix_lines, drift_line, goal_line, row_lines, last_lines, plant_lines}
+use Rattle.mpc_file.specs.Writing.{Prints, ended, text_of_lines, size_line, drift_line, goal_line, row_lines, last_lines, plant_lines}
 use Rattle.mpc_file.specs.WrittenFits.{RowFits, LastFits, AxisFits, MatricesFit, GoalFits, PlantFits}
 use Rattle.mpc_file.specs.declared.versions.Version.TheVariants.{Three}
 use Rattle.mpc_file.specs.declared.plant_parts.Sizes.{Sizes}

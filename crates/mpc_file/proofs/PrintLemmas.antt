@@ -1,12 +1,12 @@
 -- Lines that are read as they were meant: one line, parts one behind another, and items one behind another.
-use Rattle.std.proofs.Common.{◌≡◌, ℕ, ◌+◌, ◌<◌, Bool, true, false, nat_lt, List, [], ◌∷◌, ◌++◌, length, refl, sym, ◌∙◌, ap, subst, append_assoc, arith, length-append}
+use Rattle.std.proofs.Common.{◌≡◌, ℕ, ◌+◌, ◌<◌, Bool, false, nat_lt, List, [], ◌∷◌, ◌++◌, length, refl, sym, ◌∙◌, ap, subst, append_assoc, arith, length-append}
 use Rattle.std.specs.Prelude.{IsTrue, All}
 use Rattle.std.specs.List.{flat_map}
 use Rattle.std.proofs.lemmas.List.{append-nil}
 use Rattle.std.proofs.lemmas.List.Elements.{All-head, All-tail}
 use Rattle.std.proofs.lemmas.Bool.{lt-ltb, le-ltb}
 use Rattle.mpc_words.specs.Words.{IsWithout}
-use Rattle.mpc_file.specs.Reading.{Cursor, LineRule, Grammar, one_line, give, that_which, ◌>>=◌, many, ReadsItems, TakesLine}
+use Rattle.mpc_file.specs.Reading.{Cursor, LineRule, Grammar, one_line, give, that_which, ◌>>=◌, many, ReadsItems}
 use Rattle.mpc_file.specs.Reading.ReadsItems.{no_item, one_more}
 use Rattle.mpc_file.specs.PlantGrammar.{so_many, plain_rule}
 use Rattle.mpc_file.specs.Writing.{Prints, ended}

@@ -1,5 +1,5 @@
 -- The lines of planes and of nodes that name them are read as the tree.
-use Rattle.std.proofs.Common.{◌≡◌, ◌≢◌, ℕ, ℤ, ◌+◌, ◌-◌, ◌*◌, ◌^◌, ◌<◌, ◌≤◌, cond, nat_lt, Bool, true, false, List, [], ◌∷◌, ◌++◌, length, map, refl, sym, ◌∙◌, ap, subst, arith, length-append}
+use Rattle.std.proofs.Common.{◌≡◌, ℕ, ℤ, ◌+◌, ◌*◌, ◌^◌, ◌<◌, ◌≤◌, false, List, [], ◌∷◌, ◌++◌, length, map, refl, sym, ◌∙◌, ap, subst, arith, length-append}
 use Rattle.std.specs.Prelude.{All, IsTrue, Contains, fold, codes, decimal, unsigned_abs}
 use Rattle.std.specs.Fmt.{signed_decimal}
 use Rattle.std.specs.List.{flat_map}
@@ -9,20 +9,17 @@ use Rattle.mpc_frac.specs.Fits.{FitsFrac}
 use Rattle.mpc_frac.specs.Text.{text_of as fraction_text}
 use Rattle.mpc_linear.specs.declared.integers.RowInt.{RowInt}
 use Rattle.mpc_linear.specs.Whole.{AreSmall}
-use Rattle.mpc_plant.specs.Limits.{IsFromTo}
 use Rattle.mpc_plant.specs.declared.plants.Plant.{Plant}
 use Rattle.mpc_rows.specs.declared.trees.Node.{Node}
-use Rattle.mpc_rows.specs.declared.trees.Node.TheVariants.{Split, Law as LawLeaf, NoMove}
-use Rattle.mpc_controller.specs.Parts.{limits_of, row_count, IsNodeFor}
-use Rattle.mpc_controller.specs.Bounds.{SplitFits}
-use Rattle.mpc_controller.specs.Certificates.{IsCertOver, cell_rows, AreLawCerts, HaveCerts}
+use Rattle.mpc_controller.specs.Parts.{row_count, IsNodeFor}
+use Rattle.mpc_controller.specs.Certificates.{IsCertOver, cell_rows, HaveCerts}
 use Rattle.mpc_controller.specs.Preorder.{IsTree, Spells as SpellsTrees}
-use Rattle.mpc_words.specs.Words.{IsWithout, line, behind_blanks}
+use Rattle.mpc_words.specs.Words.{IsWithout, behind_blanks}
 use Rattle.mpc_words.proofs.IntegerLemmas.{signed_without, signed_word}
-use Rattle.mpc_file.specs.Reading.{Grammar, one_line, give, ◌>>=◌}
-use Rattle.mpc_file.specs.Lines.{count_line, integers_line, pair_words, cert_line}
-use Rattle.mpc_file.specs.PlantGrammar.{AllFit, plain_rule}
-use Rattle.mpc_file.specs.TreeGrammar.{IsNewPlane, plane_rule, IsPlaneCount, planes, IsCertLine, certs, NodeLine, node_rule, NodeOver, node_behind, node_at, owed_behind, owed, is_owed, next_depth, nodes, IsWord, used_with, planes_used, named_split, named_node, named_tree}
+use Rattle.mpc_file.specs.Reading.{one_line, give, ◌>>=◌}
+use Rattle.mpc_file.specs.Lines.{count_line, pair_words, cert_line}
+use Rattle.mpc_file.specs.PlantGrammar.{plain_rule}
+use Rattle.mpc_file.specs.TreeGrammar.{plane_rule, IsPlaneCount, planes, IsCertLine, certs, node_rule, NodeOver, node_behind, node_at, owed_behind, owed, is_owed, next_depth, nodes, IsWord, used_with, planes_used, named_split, named_node, named_tree}
 use Rattle.mpc_file.specs.TreeGrammar.NodeLine.{split_at, leaf_of, no_move}
 use Rattle.mpc_file.specs.TreeGrammar.StatesNode.{splits, names_law, has_none}
 use Rattle.mpc_file.specs.TreeGrammar.NodeOver.{split_node, law_node, no_move_node}

@@ -1,14 +1,13 @@
 -- No line feed stands in a line.
-use Rattle.std.proofs.Common.{◌≡◌, ℕ, ℤ, ◌+◌, ◌<◌, ◌^◌, Bool, true, false, List, [], ◌∷◌, ◌++◌, map, refl, arith}
-use Rattle.std.specs.Prelude.{All, cond, ◌==◌, decimal, unsigned_abs}
-use Rattle.std.specs.Fmt.{signed_decimal}
+use Rattle.std.proofs.Common.{◌≡◌, ℕ, ◌<◌, ◌^◌, Bool, true, false, List, [], ◌∷◌, map, refl, arith}
+use Rattle.std.specs.Prelude.{All, cond, ◌==◌, decimal}
 use Rattle.std.specs.List.{flat_map}
 use Rattle.std.proofs.lemmas.List.Elements.{All-nil, All-cons, All-head, All-tail, All-append, All-map, All-weaker}
 use Rattle.mpc_exact.specs.Rational.{ℚ}
 use Rattle.mpc_frac.specs.Fits.{FitsFrac}
 use Rattle.mpc_frac.specs.Text.{text_of as fraction_text}
 use Rattle.mpc_words.specs.Words.{IsWithout, line, behind_blanks}
-use Rattle.mpc_words.proofs.IntegerLemmas.{decimal_without, signed_without}
+use Rattle.mpc_words.proofs.IntegerLemmas.{decimal_without}
 use Rattle.mpc_words.proofs.FractionLemmas.{fraction_word}
 use Rattle.mpc_file.specs.Lines.{count_line, fractions_line, matrix_line}
 use Rattle.mpc_file.specs.PlantGrammar.{AllFit}

@@ -1,8 +1,7 @@
 -- Affine forms that are named by their numbers, and the text of the laws that name them.
-use Rattle.std.specs.Prelude.{◌≡◌, ℕ, ◌+◌, ◌≤◌, List, [], ◌∷◌, ◌++◌, length, map, fold, All, codes, decimal}
+use Rattle.std.specs.Prelude.{◌≡◌, ℕ, ◌+◌, ◌≤◌, List, [], ◌∷◌, ◌++◌, length, map, All, codes, decimal}
 use Rattle.std.specs.List.{flat_map, AllZip}
 use Rattle.mpc_exact.specs.Rational.{ℚ}
-use Rattle.mpc_plant.specs.declared.plants.Plant.{Plant}
 use Rattle.mpc_rows.specs.declared.laws.Law.{Law}
 use Rattle.mpc_words.specs.Words.{line, behind_blanks}
 use Rattle.mpc_file.specs.Lines.{count_line, fractions_line}

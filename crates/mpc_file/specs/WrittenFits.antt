@@ -1,5 +1,5 @@
 -- Which of a plant's fractions have parts that fit: all of them.
-use Rattle.std.specs.Prelude.{List, [], ◌∷◌, ◌++◌, All}
+use Rattle.std.specs.Prelude.{[], ◌∷◌, ◌++◌, All}
 use Rattle.mpc_plant.specs.declared.plants.Plant.{Plant}
 use Rattle.mpc_plant.specs.declared.lists.PlantRow.{PlantRow}
 use Rattle.mpc_plant.specs.declared.lists.Coordinate.{Coordinate}

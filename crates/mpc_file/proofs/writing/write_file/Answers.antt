@@ -1,7 +1,4 @@
-use Rattle.std.proofs.Common.{◌≡◌, List, sym, ap, subst}
-use Rattle.mpc_plant.specs.declared.plants.Plant.{Plant}
-use Rattle.mpc_rows.specs.declared.laws.Law.{Law}
-use Rattle.mpc_rows.specs.declared.trees.Node.{Node}
+use Rattle.std.proofs.Common.{◌≡◌, sym, subst}
 use Rattle.mpc_controller.specs.Parts.{Parts}
 use Rattle.mpc_controller.specs.Bounds.{IsController}
 use Rattle.mpc_file.specs.FileGrammar.{Spells, parts_with}

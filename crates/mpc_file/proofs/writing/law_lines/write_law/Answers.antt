@@ -1,4 +1,4 @@
-use Rattle.std.proofs.Common.{◌≡◌, ◌≤◌, ◌∙◌, sym, List, [], length, arith}
+use Rattle.std.proofs.Common.{◌≤◌, ◌∙◌, sym, length, arith}
 use Rattle.std.proofs.lemmas.Result.{on_ok_weaker}
 use Rattle.mpc_file.proofs.FormNameLemmas.{law_without, law_with_mults, no_rows}
 use Rattle.mpc_file.proofs.writing.law_lines.write_law.Goals as goal

@@ -1,7 +1,6 @@
-use Rattle.std.proofs.Common.{◌≡◌, ◌<◌, ◌+◌, List, ℕ, [], ◌∷◌, ◌++◌, length, map, take, sym, subst, ap, ◌∙◌, arith}
-use Rattle.std.proofs.lemmas.List.{take_more, take_all}
-use Rattle.mpc_exact.specs.Rational.{ℚ}
-use Rattle.mpc_file.specs.FormNames.{AreForms, AreNumbered}
+use Rattle.std.proofs.Common.{◌≡◌, ◌<◌, ◌+◌, List, ℕ, [], ◌∷◌, ◌++◌, length, take, sym, subst, ap, ◌∙◌, arith}
+use Rattle.std.proofs.lemmas.List.{take_more}
+use Rattle.mpc_file.specs.FormNames.{AreNumbered}
 use Rattle.mpc_file.specs.Names.{IsNamed, AreNames}
 use Rattle.mpc_file.specs.FormNames.{form_line}
 use Rattle.mpc_file.proofs.FormNameLemmas.{numbered_none, numbered_more}

@@ -1,9 +1,9 @@
-use Rattle.std.proofs.Common.{[], sym, ◌∙◌, ap, subst, ◌++◌, ◌≡◌, length}
+use Rattle.std.proofs.Common.{[], ◌∙◌, ap, subst, ◌++◌}
 use Rattle.std.proofs.lemmas.Result.{on_ok_weaker}
 use Rattle.std.specs.Prelude.{codes}
 use Rattle.mpc_file.specs.Lines.{count_line}
 use Rattle.mpc_file.specs.Writing.{ended}
-use Rattle.mpc_file.specs.FormNames.{AreForms, AreLawsNumbered}
+use Rattle.mpc_file.specs.FormNames.{AreLawsNumbered}
 use Rattle.mpc_file.proofs.FormNameLemmas.{no_forms, table_written}
 use Rattle.mpc_file.proofs.writing.law_lines.write_table.Goals as goal
 

@@ -1,6 +1,3 @@
-use Rattle.std.proofs.Common.{ℕ, List}
-use Rattle.std.specs.Prelude.{All}
-use Rattle.mpc_exact.specs.Rational.{ℚ}
 use Rattle.mpc_file.specs.Lines.{cert_line}
 use Rattle.mpc_file.specs.Writing.{ended}
 use Rattle.mpc_file.proofs.GrownTexts.{pieces_at, all_at}

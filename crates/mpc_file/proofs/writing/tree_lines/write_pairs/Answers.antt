@@ -1,5 +1,4 @@
-use Rattle.std.proofs.Common.{ℕ, ◌∷◌}
-use Rattle.mpc_exact.specs.Rational.{ℚ}
+use Rattle.std.proofs.Common.{◌∷◌}
 use Rattle.mpc_file.specs.Lines.{pair_words}
 use Rattle.mpc_file.proofs.GrownTexts.{spread_at, all_at}
 use Rattle.mpc_file.specs.PlaneNames.{IsPairFit}

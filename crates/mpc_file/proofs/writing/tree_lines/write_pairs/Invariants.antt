@@ -1,5 +1,4 @@
 use Rattle.std.proofs.Common.{◌≡◌, ◌++◌, take}
-use Rattle.std.specs.Prelude.{All}
 use Rattle.std.specs.List.{flat_map}
 use Rattle.mpc_words.specs.Words.{behind_blanks}
 use Rattle.mpc_file.specs.Lines.{pair_words}

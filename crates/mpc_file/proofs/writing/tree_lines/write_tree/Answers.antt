@@ -1,4 +1,4 @@
-use Rattle.std.proofs.Common.{[], sym, ◌∙◌, ap, subst, ◌++◌, ◌≡◌, length, arith, ◌<◌, ◌^◌}
+use Rattle.std.proofs.Common.{sym, ◌∙◌, ap, subst, ◌++◌, length, ◌<◌, ◌^◌}
 use Rattle.std.proofs.lemmas.Result.{on_ok_weaker}
 use Rattle.mpc_file.specs.PlaneNames.{AreNodesNumbered}
 use Rattle.mpc_file.proofs.PlaneLemmas.{no_planes, tree_written, few_bytes}

@@ -1,15 +1,12 @@
-use Rattle.std.proofs.Common.{◌≡◌, ℕ, ◌+◌, ◌<◌, ◌≤◌, cond, nat_lt, false, true, List, [], ◌∷◌, ◌++◌, length, refl, sym, ◌∙◌, ap, subst, arith, Some, None, append_assoc, inl, inr}
-use Rattle.std.specs.Prelude.{MatchOption, codes, if◌then◌else◌}
+use Rattle.std.proofs.Common.{◌≡◌, ◌+◌, cond, ◌++◌, length, sym, ◌∙◌, ap, subst, Some, None, append_assoc}
+use Rattle.std.specs.Prelude.{codes, if◌then◌else◌}
 use Rattle.std.specs.Option.{is_some}
 use Rattle.std.specs.BTreeMap.{get, btree_map_len}
 use Rattle.std.specs.Ordering.{nat_cmp, is_eq}
 use Rattle.std.specs.Cmp.Lexicographic.{slice_cmp}
-use Rattle.std.proofs.lemmas.List.{append-nil}
-use Rattle.std.proofs.lemmas.List.Concat.{flat_map-append}
-use Rattle.std.proofs.lemmas.Bool.{lt-ltb, le-ltb}
-use Rattle.mpc_file.specs.Writing.{ended, text_of_lines}
-use Rattle.mpc_file.specs.Names.{AreNames, IsNamed, IsNew, IsNumberOf}
-use Rattle.mpc_file.proofs.NameLemmas.{different_more, number_last, found_more, is_found, named_before, named_behind}
+use Rattle.mpc_file.specs.Writing.{ended}
+use Rattle.mpc_file.specs.Names.{IsNamed}
+use Rattle.mpc_file.proofs.NameLemmas.{is_found, named_before, named_behind}
 use Rattle.mpc_file.proofs.writing.names.Names.number.Goals as goal
 
 pub returns-in-Some : goal.returns-in-Some
