@@ -1,10 +1,10 @@
 -- Matrices filled row by row, and the numbers of a law's lines.
-use Rattle.std.proofs.Common.{◌≡◌, ◌≢◌, ℕ, ◌+◌, ◌<◌, ◌≤◌, cond, List, [], ◌∷◌, ◌++◌, length, get_or, take, drop, map, refl, sym, ap, ◌∙◌, subst, arith, append_assoc, append-nil, inl, inr, pos, ℤ, to_z, of_z, set, nat_lt, replicate, unsigned_abs, ◌^◌, decimal, codes, Option, Some, None, MatchOption}
+use Rattle.std.proofs.Common.{◌≡◌, ◌≢◌, ℕ, ◌+◌, ◌<◌, ◌≤◌, cond, List, [], ◌∷◌, ◌++◌, length, get_or, take, drop, map, refl, sym, ap, ◌∙◌, subst, arith, append_assoc, append-nil, inl, inr, pos, ℤ, to_z, of_z, set, nat_lt, replicate, unsigned_abs, ◌^◌, decimal, codes, Option, Some, None, MatchOption, Result, Ok, Err, IfOk, ltb}
 use Rattle.std.specs.Prelude.{All}
+use Rattle.std.specs.Result.{IsErrAnd}
 use Rattle.std.specs.Fmt.{signed_decimal}
 use Rattle.std.proofs.lemmas.List.Elements.{All-nil, All-cons, All-map, All-weaker}
-use Rattle.std.proofs.lemmas.List.{take_more, take-append-drop, set-set, set-get_or, set_at, length-take-le, drop_more, take_all, drop_all, length-append, length-drop, get_or-set_same, get_or-map, map-append, take-map, length-map, length-replicate}
-use Rattle.std.proofs.lemmas.Simd.{map-map}
+use Rattle.std.proofs.lemmas.List.{take_more, take-append-drop, set-set, set-get_or, set_at, length-take-le, drop_more, take_all, drop_all, length-append, length-drop, get_or-set_same, get_or-map, map-append, take-map, length-map, length-replicate, length_push}
 use Rattle.std.specs.Int.{w128}
 use Rattle.std.proofs.lemmas.Int.{fits_signed_from_abs, to_z-of_z}
 use Rattle.mpc_linear.specs.Whole.{AreSmall}
@@ -16,10 +16,16 @@ use Rattle.mpc_sets.proofs.RowSets.{with_row-last}
 use Rattle.mpc_plant.specs.declared.plants.Plant.{Plant}
 use Rattle.mpc_words.specs.Words.{line}
 use Rattle.mpc_controller.specs.Parts.{row_count}
+use Rattle.mpc_frac.specs.declared.NoMemory.{NoMemory}
+use Rattle.mpc_file.specs.declared.errors.FileError.{FileError}
+use Rattle.mpc_file.specs.declared.errors.FileError.TheVariants.{Bad, NoMemory as NoMoreMemory}
+use Rattle.mpc_file.specs.Reading.{Cursor, Grammar, one_line, ReadsItems, many, Outcome}
+use Rattle.mpc_file.proofs.ManyLemmas.{just_so_many}
+use Rattle.mpc_file.proofs.OutcomeLemmas.{none_read, more_read, asks_for_more, item_error}
 use Rattle.mpc_file.specs.Lines.{integers_line, fractions_line}
-use Rattle.mpc_file.specs.PlantGrammar.{AllFit}
+use Rattle.mpc_file.specs.PlantGrammar.{AllFit, plain_rule}
 use Rattle.mpc_file.specs.Spelling.{AreFractions, AreIntegers}
-use Rattle.mpc_file.specs.LawGrammar.{unknowns, IsLawLine, IsForm, NameForms, used_behind, AreFormNumbers}
+use Rattle.mpc_file.specs.LawGrammar.{unknowns, IsLawLine, IsForm, move_rule, moves, mults, written_law, NameForms, used_behind, AreFormNumbers}
 use Rattle.mpc_file.specs.FormLists.{matrix_with, with_filled_row, NamesAll}
 
 -- ---- entries and rows written one after another
@@ -218,8 +224,15 @@ OneIntegers = (name : List ℕ) (xs ys : List ℤ) → AreSmall xs → AreSmall 
 pub no_form : OneFractions → (name text : List ℕ) (n : ℕ) (xs : List ℚ) → AreFractions name text xs → length xs ≢ n + 1 → (form : List ℚ) → ¬ IsForm name n text form
 no_form one name text n xs are size form is = size (ap length (one name xs form are.fits is.fits (sym are.spelled ∙ is.spelled)) ∙ is.size)
 
+printed_numbers : (numbers : List ℕ) → map decimal numbers ≡ map signed_decimal (map pos numbers)
+printed_numbers [] = refl
+printed_numbers (n ∷ numbers) = ap (λ words. decimal n ∷ words) (printed_numbers numbers)
+
 printed_line : (name : List ℕ) (numbers : List ℕ) → line name (map decimal numbers) ≡ integers_line name (map pos numbers)
-printed_line name numbers = ap (line name) (sym (map-map pos signed_decimal numbers))
+printed_line name numbers = ap (line name) (printed_numbers numbers)
+
+pub at_none : {X : Type 0} (A : Type 0) (B : X → Type 0) (r : Option X) → r ≡ None → MatchOption r A B → A
+at_none A B r e h = subst (λ y. MatchOption y A B) e h
 
 small_numbers : (high : ℕ) (numbers : List ℕ) → high < 2 ^ 64 → All (λ k. k ≤ high) numbers → AreSmall (map pos numbers)
 small_numbers high numbers h all = All-map (λ z. unsigned_abs z < 2 ^ 127) pos numbers (All-weaker (λ k. k ≤ high) (λ k. unsigned_abs (pos k) < 2 ^ 127) (λ k l. omega (arith, l, h)) numbers all)
@@ -262,13 +275,20 @@ module _ (one : OneIntegers) (plant : Plant) (text : List ℕ) (few : row_count 
   pub law_too_long : (zs : List ℤ) → AreIntegers (codes "law") text zs → unknowns plant < length zs → (members : List ℕ) → ¬ IsLawLine plant text members
   law_too_long zs are long members is = let e : length (map pos members) ≡ length zs = ap length (law_numbers zs members are is) in omega (arith, e, length-map members pos, is.few, long)
 
-  pub law_read : (zs : List ℤ) (found : Option (List ℕ)) → AreIntegers (codes "law") text zs → length zs ≤ unknowns plant
+  law_read_of : (zs : List ℤ) (found : Option (List ℕ)) → AreIntegers (codes "law") text zs → length zs ≤ unknowns plant
       → MatchOption found ((s : List ℕ) → IsSetOfRows (row_count plant) s → map pos s ≢ zs) (λ s. IsSetOfRows (row_count plant) s × (map pos s ≡ zs))
       → MatchOption found ((s : List ℕ) → ¬ IsLawLine plant text s) (λ s. IsLawLine plant text s)
-  law_read zs None are short none = λ s is. none s is.set_of_rows (law_numbers zs s are is)
-  law_read zs (Some s) are short h =
+  law_read_of zs None are short none = λ s is. none s is.set_of_rows (law_numbers zs s are is)
+  law_read_of zs (Some s) are short h =
       let e : length (map pos s) ≡ length zs = ap length h.1 in
       record { spelled = printed_as (codes "law") text zs s are h.1; set_of_rows = h.0; few = omega (arith, e, length-map s pos, short) }
+
+  pub law_read : (zs slice : List ℤ) (rows : ℕ) (found : Option (List ℕ)) → AreIntegers (codes "law") text zs → length zs ≤ unknowns plant → rows ≡ row_count plant → slice ≡ zs
+      → MatchOption found ((s : List ℕ) → IsSetOfRows rows s → map pos s ≢ slice) (λ s. IsSetOfRows rows s × (map pos s ≡ slice))
+      → MatchOption found ((s : List ℕ) → ¬ IsLawLine plant text s) (λ s. IsLawLine plant text s)
+  law_read zs slice rows found are short e f h =
+      let Found : ℕ → List ℤ → Type 0 = λ r z. MatchOption found ((s : List ℕ) → IsSetOfRows r s → map pos s ≢ z) (λ s. IsSetOfRows r s × (map pos s ≡ z)) in
+      law_read_of zs found are short (subst (λ r. Found r zs) e (subst (Found rows) f h))
 
 -- ---- numbers of forms on a line
 module _ (one : OneIntegers) (name text : List ℕ) (all used count : ℕ) (few : all < 2 ^ 64) where
@@ -281,9 +301,62 @@ module _ (one : OneIntegers) (name text : List ℕ) (all used count : ℕ) (few 
   pub wrong_count : (zs : List ℤ) → AreIntegers name text zs → length zs ≢ count → (numbers : List ℕ) → ¬ AreFormNumbers name all used count text numbers
   wrong_count zs are size numbers is = size (sym (ap length (form_numbers zs numbers are is)) ∙ length-map numbers pos ∙ is.size)
 
-  pub numbers_read : (zs : List ℤ) (found : Option (List ℕ)) → AreIntegers name text zs → length zs ≡ count
+  numbers_read_of : (zs : List ℤ) (found : Option (List ℕ)) → AreIntegers name text zs → length zs ≡ count
       → MatchOption found ((s : List ℕ) → NameForms all used s → map pos s ≢ zs) (λ s. NameForms all used s × (map pos s ≡ zs))
       → MatchOption found ((s : List ℕ) → ¬ AreFormNumbers name all used count text s) (λ s. AreFormNumbers name all used count text s)
-  numbers_read zs None are size none = λ s is. none s is.name_forms (form_numbers zs s are is)
-  numbers_read zs (Some s) are size h =
+  numbers_read_of zs None are size none = λ s is. none s is.name_forms (form_numbers zs s are is)
+  numbers_read_of zs (Some s) are size h =
       record { spelled = printed_as name text zs s are h.1; size = sym (length-map s pos) ∙ ap length h.1 ∙ size; name_forms = h.0 }
+
+  pub numbers_read : (zs slice : List ℤ) (r : Result (Option (List ℕ)) NoMemory) → AreIntegers name text zs → length zs ≡ count → slice ≡ zs
+      → IfOk r (λ found. MatchOption found ((s : List ℕ) → NameForms all used s → map pos s ≢ slice) (λ s. NameForms all used s × (map pos s ≡ slice)))
+      → IfOk r (λ found. MatchOption found ((s : List ℕ) → ¬ AreFormNumbers name all used count text s) (λ s. AreFormNumbers name all used count text s))
+  numbers_read zs slice (Err e) are size f h = tt
+  numbers_read zs slice (Ok found) are size f h = numbers_read_of zs found are size (subst (λ z. MatchOption found ((s : List ℕ) → NameForms all used s → map pos s ≢ z) (λ s. NameForms all used s × (map pos s ≡ z))) f h)
+
+-- ---- how many forms are used
+pub used_next : (used : ℕ) (numbers : List ℕ) (i last k then_used : ℕ) → i < length numbers → last ≡ used_behind used (take i numbers) → k ≡ get_or numbers i 0 → then_used ≡ cond (nat_lt last k) k last → then_used ≡ used_behind used (take (i + 1) numbers)
+used_next used numbers i last k then_used inside before is used_is =
+    used_is ∙ (λ j. cond (nat_lt (before j) (is j)) (is j) (before j)) ∙ sym (used-push used (take i numbers) (get_or numbers i 0)) ∙ ap (used_behind used) (sym (take_more numbers i 0 inside))
+
+pub used_done : (used : ℕ) (numbers : List ℕ) (i last : ℕ) → length numbers ≤ i → last ≡ used_behind used (take i numbers) → last ≡ used_behind used numbers
+used_done used numbers i last h before = before ∙ ap (used_behind used) (take_all i numbers h)
+
+-- ---- items that are counted
+module _ {X : Type 0} (item : List X → Grammar X) (count : ℕ) (here : Cursor) where
+  pub no_items : (items : List X) → items ≡ [] → ReadsItems X item (λ (before : List X). ltb (length before) count) here items here
+  no_items items e = subst (λ xs. ReadsItems X item (λ (before : List X). ltb (length before) count) here xs here) (sym e) (none_read item (λ (before : List X). ltb (length before) count) here)
+
+  pub further : (between behind : Cursor) (items more : List X) (x : X) (k : ℕ) → ReadsItems X item (λ (before : List X). ltb (length before) count) here items between → length items ≡ k → k < count → (item items).Reads between x behind → more ≡ items ++ x ∷ []
+      → ReadsItems X item (λ (before : List X). ltb (length before) count) here more behind
+  further between behind items more x k before size some reads e =
+      more_read item (λ (before : List X). ltb (length before) count) here between behind items more x before (asks_for_more items count (omega arith)) reads e
+
+  pub further_error : (between behind end : Cursor) (items : List X) (k : ℕ) (error : FileError) → ReadsItems X item (λ (before : List X). ltb (length before) count) here items between → length items ≡ k → k < count → Outcome (item items) between behind (Err error)
+      → Outcome (many item (λ (before : List X). ltb (length before) count)) here end (Err error)
+  further_error between behind end items k error before size some h = item_error item (λ (before : List X). ltb (length before) count) here between behind end items error before (asks_for_more items count (omega arith)) h
+
+pub one_longer : {X : Type 0} (items more : List X) (x : X) (k : ℕ) → more ≡ items ++ x ∷ [] → length items ≡ k → length more ≡ k + 1
+one_longer items more x k e size = ap length e ∙ length_push items x ∙ ap (λ n. n + 1) size
+
+-- an error that is passed on
+pub passed_on : {X : Type 0} (grammar : Grammar X) (here end : Cursor) (r : Result X FileError) (error : FileError) → IsErrAnd r (λ e. e ≡ error) → Outcome grammar here end (Err error) → Outcome grammar here end r
+passed_on grammar here end (Ok x) error e h = absurd e
+passed_on grammar here end (Err told) error e h = subst (λ x. Outcome grammar here end (Err x)) (sym e) h
+
+-- ---- a law whose forms are written out
+module _ (plant : Plant) where
+  pub moves_few : (here behind : Cursor) (zs : List (List ℚ)) → (moves plant).Reads here zs behind → length zs < 2 ^ 32
+  moves_few here behind zs h =
+      let e : length zs ≡ unknowns plant = just_so_many (List ℚ) (λ before. one_line (move_rule plant (length before))) (unknowns plant) here zs behind h in
+      omega (arith, e, plant.is_plant.moves_few)
+
+  pub mults_few : (members : ℕ) (here behind : Cursor) (ls : List (List ℚ)) → members ≤ 60 → (mults plant members).Reads here ls behind → length ls < 2 ^ 32
+  mults_few members here behind ls few h =
+      let e : length ls ≡ members = just_so_many (List ℚ) (λ before. one_line (plain_rule (IsForm (codes "mult") plant.n))) members here ls behind h in
+      omega (arith, e, few)
+
+  pub mults_error : (here between beyond behind end : Cursor) (members : List ℕ) (zs : List (List ℚ)) (error : FileError) → (one_line (plain_rule (IsLawLine plant))).Reads here members between → (moves plant).Reads between zs beyond → Outcome (mults plant (length members)) beyond behind (Err error)
+      → Outcome (written_law plant) here end (Err error)
+  mults_error here between beyond behind end members zs (Bad kind number) first second h = inr (members, (between, (first, inr (zs, (beyond, (second, inl h))))))
+  mults_error here between beyond behind end members zs NoMoreMemory first second h = tt

@@ -22,11 +22,11 @@ use Rattle.mpc_file.proofs.ManyLemmas.{all_items, at_most, just_so_many}
 abbrev HasSize : ℕ → List ℚ → Type 0
 HasSize n form = length form ≡ n + 1
 
-move_sizes : (plant : Plant) (here : Cursor) (zs : List (List ℚ)) (behind : Cursor) → (moves plant).Reads here zs behind → All (HasSize plant.n) zs
+pub move_sizes : (plant : Plant) (here : Cursor) (zs : List (List ℚ)) (behind : Cursor) → (moves plant).Reads here zs behind → All (HasSize plant.n) zs
 move_sizes plant here zs behind h =
     all_items (List ℚ) (λ before. one_line (move_rule plant (length before))) (λ before. nat_lt (length before) (unknowns plant)) (HasSize plant.n) (λ before b x c more reads. reads.1.1.0.size) here zs behind h.0
 
-mult_sizes : (plant : Plant) (members : ℕ) (here : Cursor) (ls : List (List ℚ)) (behind : Cursor) → (mults plant members).Reads here ls behind → All (HasSize plant.n) ls
+pub mult_sizes : (plant : Plant) (members : ℕ) (here : Cursor) (ls : List (List ℚ)) (behind : Cursor) → (mults plant members).Reads here ls behind → All (HasSize plant.n) ls
 mult_sizes plant members here ls behind h =
     all_items (List ℚ) (λ before. one_line (plain_rule (IsForm (Rattle.std.specs.Prelude.codes "mult") plant.n))) (λ before. nat_lt (length before) members) (HasSize plant.n) (λ before b x c more reads. reads.1.1.0.size) here ls behind h.0
 

@@ -14,7 +14,7 @@ ghost use Rattle.mpc_file.specs.LawGrammar.{unknowns, IsLawLine, IsForm, move_ru
 use crate::bounds::form_fits;
 use crate::errors::{FileError, FileKind};
 use crate::forms::{Forms, matrix_of};
-use crate::line_laws::{one_fractions, one_integers};
+use crate::line_laws::{one_fractions, one_integers, one_number};
 use crate::lines::Lines;
 use crate::spelling::{fractions_of, integers_of, number_of};
 use mpc_controller::limits;
@@ -80,13 +80,14 @@ pub fn set_in(alloc: Global, text: &[u8], plant: &Plant) -> Result<Option<Active
         (λ set. IsLawLine plant.now text.now set)) }
 {
     one_integers();
+    let rows = row_count(plant);
     let Some(numbers) = integers_of(alloc, text, b"law")? else {
         return Ok(None);
     };
     if numbers.len() > (plant.p * plant.horizon) as usize {
         return Ok(None);
     }
-    Ok(set_of(numbers.as_slice(), row_count(plant)))
+    Ok(set_of(numbers.as_slice(), rows))
 }
 
 /// Reads the line of a law's set.
@@ -202,7 +203,7 @@ fn read_mults(
     ensures { Outcome (mults plant.now members) lines.old lines.new result }
 {
     let mut forms = Forms::new(alloc);
-    for _member in 0..members {
+    for _ in 0..members {
         let form = read_mult(alloc, lines, plant)?;
         forms.push(form)?;
     }
@@ -231,6 +232,7 @@ fn read_written_law(
 fn law_count_in(text: &[u8]) -> Option<u64>
     ensures { MatchOption result ((count : ℕ) → ¬ IsLawCount text.now count) (IsLawCount text.now) }
 {
+    one_number();
     match number_of(text, b"laws") {
         Natural::Small(count) if count <= MOST_LAWS => Some(count),
         _ => None,
@@ -260,7 +262,7 @@ pub fn read_written_laws(
     let counts = limits(alloc, plant)?;
     let count = read_law_count(lines)?;
     let mut laws = LawTable::new(alloc);
-    for _law in 0..count {
+    for _ in 0..count {
         let law = read_written_law(alloc, lines, plant, counts.as_slice())?;
         laws.push(law)?;
     }

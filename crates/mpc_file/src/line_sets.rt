@@ -36,9 +36,9 @@ impl<'a> LineSet<'a> {
         ensures new { IfOk result (λ added. IsTrue added ↔ (¬ Contains self.old line.now)) }
         ensures lines { OnOk result ((other : List ℕ) → Contains self.new other ↔ (Contains self.old other ⊎ (other ≡ line.now))) }
     {
-        match self.lines.insert(line) {
-            Ok(added) => Ok(added),
-            Err(_) => Err(NoMemory),
-        }
+        let Ok(added) = self.lines.insert(line) else {
+            return Err(NoMemory);
+        };
+        Ok(added)
     }
 }

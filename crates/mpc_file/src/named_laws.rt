@@ -1,6 +1,6 @@
 //! The lines of affine forms that laws name, and those of such laws.
 
-ghost use Rattle.std.specs.Prelude.{◌≡◌, ◌≢◌, ℕ, ◌+◌, ◌^◌, ◌<◌, ◌≤◌, ◌↔◌, List, [], ◌∷◌, ◌++◌, length, map, take, All, Contains, IsTrue, IfOk, MatchOption, codes, pos};
+ghost use Rattle.std.specs.Prelude.{◌≡◌, ◌≢◌, ℕ, ◌+◌, ◌^◌, ◌<◌, ◌≤◌, ◌↔◌, List, [], ◌∷◌, ◌++◌, length, map, take, cond, nat_lt, All, Contains, IsTrue, IfOk, MatchOption, codes, pos};
 ghost use Rattle.mpc_exact.specs.Rational.{ℚ};
 ghost use Rattle.mpc_linear.specs.Whole.{AreSmall};
 ghost use Rattle.mpc_controller.specs.Parts.{limits_of};
@@ -14,7 +14,7 @@ use crate::bounds::form_fits;
 use crate::errors::{FileError, FileKind};
 use crate::forms::{Forms, fill_row};
 use crate::law_lines::{form_in, natural_in, read_law_count, read_set};
-use crate::line_laws::{one_fractions, one_integers};
+use crate::line_laws::{one_fractions, one_integers, one_number};
 use crate::line_sets::LineSet;
 use crate::lines::Lines;
 use crate::spelling::{integers_of, number_of};
@@ -35,6 +35,7 @@ pub fn short_count_in(text: &[u8], name: &[u8]) -> Option<u64>
     ensures { MatchOption result ((count : ℕ) → ¬ IsShortCount name.now text.now count)
         (IsShortCount name.now text.now) }
 {
+    one_number();
     match number_of(text, name) {
         Natural::Small(count) if count < SHORT => Some(count),
         _ => None,
@@ -86,7 +87,7 @@ pub fn read_forms(alloc: Global, lines: &mut Lines, plant: &Plant) -> Result<For
     let count = read_form_count(lines)?;
     let mut forms = Forms::new(alloc);
     let mut known = LineSet::new(alloc);
-    for _form in 0..count {
+    for _ in 0..count {
         let form = read_new_form(alloc, lines, plant, &mut known, &forms)?;
         forms.push(form)?;
     }
@@ -125,6 +126,13 @@ fn greatest_number(all: u64, used: u64) -> u64
     if used < all { used + 1 } else { all }
 }
 
+/// How many forms are used behind one number more.
+fn used_now(used: u64, number: u64) -> u64
+    ensures { result ≡ cond (nat_lt used number) number used }
+{
+    if used < number { number } else { used }
+}
+
 /// These numbers, if they name forms, where so many are used before.
 fn named_by(
     alloc: Global,
@@ -144,7 +152,7 @@ fn named_by(
             return Ok(None);
         };
         numbers.push(number)?;
-        last = last.max(number);
+        last = used_now(last, number);
     }
     Ok(Some(numbers))
 }
@@ -155,7 +163,7 @@ fn used_with(used: u64, numbers: &[u64]) -> u64
 {
     let mut last = used;
     for number in numbers {
-        last = last.max(*number);
+        last = used_now(last, *number);
     }
     last
 }
@@ -282,7 +290,7 @@ pub fn read_named_laws(
     let count = read_law_count(lines)?;
     let mut laws = LawTable::new(alloc);
     let mut used = 0;
-    for _law in 0..count {
+    for _ in 0..count {
         let (law, used_now) = read_named_law(alloc, lines, plant, forms, used, counts.as_slice())?;
         laws.push(law)?;
         used = used_now;
