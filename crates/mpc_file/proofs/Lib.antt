@@ -36,3 +36,4 @@ pub mod LawPrints
 pub mod PlaneLemmas
 pub mod TreePrints
 pub mod FilePrints
+pub mod CertReading

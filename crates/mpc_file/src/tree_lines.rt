@@ -55,12 +55,14 @@ fn position_of(x: &Frac, last: u64, rows: u64) -> Option<u64>
     ensures { MatchOption result ((k : ℕ) → last < k → k ≤ rows → x.now ≢ int (pos k))
         (λ k. (x.now ≡ int (pos k)) × (last < k) × (k ≤ rows)) }
 {
-    let position = x.num();
-    if x.den() == 1 && i128::from(last) < position && position <= i128::from(rows) {
-        Some(position as u64)
-    } else {
-        None
+    if x.den() != 1 {
+        return None;
     }
+    let position = x.num();
+    if position <= i128::from(last) || i128::from(rows) < position {
+        return None;
+    }
+    Some(position as u64)
 }
 
 /// The certificate over so many rows whose positions and multipliers these are.
