@@ -1,17 +1,21 @@
 -- The pairs of a certificate are read one after another.
-use Rattle.std.proofs.Common.{◌≡◌, ◌≢◌, ℕ, ◌+◌, ◌^◌, ◌<◌, ◌≤◌, ◌==◌, Bool, true, false, List, [], ◌∷◌, ◌++◌, length, get_or, take, drop, ◌-◌, All, ℤ, pos, negsuc, unsigned_abs, to_z, of_z, refl, sym, ap, ◌∙◌, subst, subst₂, arith, append_assoc, append-nil}
+use Rattle.std.proofs.Common.{◌≡◌, ◌≢◌, ℕ, ◌+◌, ◌^◌, ◌<◌, ◌≤◌, ◌==◌, Bool, true, false, List, [], ◌∷◌, ◌++◌, length, get_or, take, drop, ◌-◌, All, ℤ, pos, negsuc, unsigned_abs, to_z, of_z, refl, sym, ap, ◌∙◌, subst, subst₂, arith, append_assoc, append-nil, codes, Option, Some, None, MatchOption, Result, Ok, Err, IfOk}
 use lib.Signed.{le_z, lt_z}
 use Rattle.std.specs.Int.{w128}
 use Rattle.std.proofs.lemmas.Int.{ints}
 use Rattle.std.proofs.lemmas.Bool.Decides.{nat_tests}
 use Rattle.std.proofs.lemmas.List.{take_all}
-use Rattle.std.proofs.lemmas.List.Elements.{All-nil, All-cons, All-head, All-tail, All-push}
+use Rattle.std.proofs.lemmas.List.Elements.{All-nil, All-cons, All-head, All-tail, All-push, All-weaker}
 use Rattle.mpc_exact.specs.Rational.{ℚ, int}
 use Rattle.mpc_exact.proofs.Denominator.{whole_of_denom}
 use Rattle.mpc_space.proofs.Words.{read_back, read_natural}
 use Rattle.mpc_rows.specs.Certificates.{RisesFrom}
 use Rattle.mpc_controller.specs.Certificates.{IsCertOver}
-use Rattle.mpc_file.proofs.NumberLines.{whole_numer, whole_denom, fractions_of_pairs, same_natural}
+use Rattle.mpc_file.proofs.NumberLines.{whole_numer, whole_denom, fractions_of_pairs, same_natural, cert_is_fractions, pairs_fit, multipliers_fit}
+use Rattle.mpc_file.specs.Lines.{fractions_line}
+use Rattle.mpc_file.specs.PlantGrammar.{AllFit}
+use Rattle.mpc_file.specs.Spelling.{AreFractions}
+use Rattle.mpc_file.specs.TreeGrammar.{IsCertLine}
 
 -- ---- a position
 above : (z : ℤ) (last : ℕ) → le_z z (pos last) ≡ false → (z ≡ pos (unsigned_abs z)) × (last < unsigned_abs z)
@@ -173,3 +177,32 @@ is_empty (x ∷ xs) e = let none : length (x ∷ xs) ≡ 0 = zero_if (length (x 
 pub not_empty : {X : Type 0} (xs : List X) → false ≡ (length xs == 0) → xs ≢ []
 not_empty [] e h = cc
 not_empty (x ∷ xs) e h = cc
+
+-- ---- a line
+abbrev pub FractionsLaw : Type 0
+FractionsLaw = (name : List ℕ) (xs ys : List ℚ) → AllFit xs → AllFit ys → fractions_line name xs ≡ fractions_line name ys → xs ≡ ys
+
+placed : (rows : ℕ) → rows < 2 ^ 64 → (entry : ℕ × ℚ) → entry.0 ≤ rows → entry.0 < 2 ^ 127
+placed rows h (n, x) l = omega arith
+
+-- a certificate's line is a line of fractions
+as_fractions : (rows : ℕ) → rows < 2 ^ 64 → (text : List ℕ) (c : List (ℕ × ℚ)) → IsCertLine rows text c → AreFractions (codes "cert") text (fractions_of_pairs c)
+as_fractions rows h text c is = record { spelled = is.spelled ∙ cert_is_fractions c; fits = pairs_fit c (All-weaker (IsUpTo rows) (λ entry. entry.0 < 2 ^ 127) (placed rows h) c is.cert_is.within) is.fits }
+
+pub no_fractions : (rows : ℕ) → rows < 2 ^ 64 → (text : List ℕ) → ((xs : List ℚ) → ¬ AreFractions (codes "cert") text xs) → (c : List (ℕ × ℚ)) → ¬ IsCertLine rows text c
+no_fractions rows h text none c is = none (fractions_of_pairs c) (as_fractions rows h text c is)
+
+pub cert_found : {E : Type 0} → FractionsLaw → (rows : ℕ) → rows < 2 ^ 64 → (text : List ℕ) (xs ys : List ℚ) → ys ≡ xs → AreFractions (codes "cert") text xs → (r : Result (Option (List (ℕ × ℚ))) E)
+    → IfOk r (λ found. MatchOption found ((c : List (ℕ × ℚ)) → IsCertOver rows c → ys ≢ fractions_of_pairs c) (λ c. IsCertOver rows c))
+    → IfOk r (λ found. MatchOption found (Unit {0}) (λ c. ys ≡ fractions_of_pairs c))
+    → IfOk r (λ found. MatchOption found ((c : List (ℕ × ℚ)) → ¬ IsCertLine rows text c) (λ c. IsCertLine rows text c))
+cert_found one rows h text xs ys e are (Ok None) none same = λ c is.
+    let fractions = as_fractions rows h text c is in
+    none c is.cert_is (e ∙ one (codes "cert") xs (fractions_of_pairs c) are.fits fractions.fits (sym are.spelled ∙ fractions.spelled))
+cert_found one rows h text xs ys e are (Ok (Some c)) is same =
+    record {
+      spelled = are.spelled ∙ ap (fractions_line (codes "cert")) (sym e ∙ same) ∙ sym (cert_is_fractions c);
+      cert_is = is;
+      fits = multipliers_fit c (subst AllFit (sym e ∙ same) are.fits);
+    }
+cert_found one rows h text xs ys e are (Err error) is same = tt

@@ -12,7 +12,7 @@ ghost use Rattle.mpc_file.specs.PlaneReading.{ReadsNamedSplit, AreLinesOf};
 
 use crate::errors::{FileError, FileKind};
 use crate::lines::Lines;
-use crate::spelling::number_of;
+use crate::spelling::{number_of, spelling_laws};
 use crate::tree_depths::Depths;
 use crate::tree_lines::{PlaneLine, ints_of, plane_in, read_leaf, read_tree_word};
 use mpc_controller::limits;
@@ -132,6 +132,7 @@ fn plane_count_in(text: &[u8], all: u64, used: u64) -> Option<u64>
     ensures { MatchOption result ((count : ℕ) → ¬ IsPlaneCount all used text.now count)
         (λ count. IsPlaneCount all used text.now count) }
 {
+    spelling_laws();
     match number_of(text, b"planes") {
         Natural::Small(count) => if count < 1_000_000_000_000_000_000 && used == all {
             Some(count)
@@ -167,6 +168,7 @@ fn read_plane(
 {
     let number = lines.number();
     let line = lines.take()?;
+    spelling_laws();
     if !before.add(alloc, line)? {
         return Err(FileError::Bad(FileKind::BadLine, number));
     }

@@ -14,7 +14,7 @@ ghost use Rattle.mpc_file.specs.TreeReading.{pair_fractions, ReadsPlane, ReadsLe
 use crate::bounds::split_fits;
 use crate::errors::{FileError, FileKind};
 use crate::lines::Lines;
-use crate::spelling::{fractions_of, integers_of, number_of};
+use crate::spelling::{fractions_of, integers_of, number_of, spelling_laws};
 use crate::tree_depths::Depths;
 use mpc_controller::limits;
 use mpc_frac::{Frac, NoMemory, greatest_common_divisor};
@@ -96,6 +96,7 @@ fn cert_in(alloc: Global, text: &[u8], rows: u64) -> Result<Option<Cert>, NoMemo
         ((c : List (ℕ × ℚ)) → ¬ IsCertLine rows text.now c)
         (λ c. IsCertLine rows text.now c)) }
 {
+    spelling_laws();
     match fractions_of(alloc, text, b"cert")? {
         Some(parts) => cert_of(alloc, parts.as_slice(), rows),
         None => Ok(None),
@@ -202,6 +203,7 @@ pub(crate) fn plane_in(
 ) -> Result<PlaneLine, NoMemory>
     ensures { IfOk result (λ line. ReadsPlane name.now (length counts.now) counts.now text.now line) }
 {
+    spelling_laws();
     let Some(integers) = integers_of(alloc, text, name)? else {
         return Ok(PlaneLine::NoRow);
     };
