@@ -37,3 +37,4 @@ pub mod PlaneLemmas
 pub mod TreePrints
 pub mod FilePrints
 pub mod CertReading
+pub mod TreeReading

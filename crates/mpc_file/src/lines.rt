@@ -47,6 +47,13 @@ impl<'a> Lines<'a> {
         self.number
     }
 
+    /// How many bytes are left.
+    pub fn left(&self) -> usize
+        ensures { result ≡ length self.now.rest }
+    {
+        self.rest.len()
+    }
+
     /// Whether no byte is left.
     pub fn is_at_end(&self) -> bool
         ensures { IsTrue result ↔ (self.now.rest ≡ []) }

@@ -11,8 +11,9 @@ ghost use Rattle.mpc_file.specs.TreeReading.{plane_rows, named_node_at, named_no
 ghost use Rattle.mpc_file.specs.PlaneReading.{ReadsNamedSplit, AreLinesOf};
 
 use crate::errors::{FileError, FileKind};
+use crate::line_laws::{one_integers, one_number};
 use crate::lines::Lines;
-use crate::spelling::{number_of, spelling_laws};
+use crate::spelling::number_of;
 use crate::tree_depths::Depths;
 use crate::tree_lines::{PlaneLine, ints_of, plane_in, read_leaf, read_tree_word};
 use mpc_controller::limits;
@@ -132,7 +133,7 @@ fn plane_count_in(text: &[u8], all: u64, used: u64) -> Option<u64>
     ensures { MatchOption result ((count : ℕ) → ¬ IsPlaneCount all used text.now count)
         (λ count. IsPlaneCount all used text.now count) }
 {
-    spelling_laws();
+    one_number();
     match number_of(text, b"planes") {
         Natural::Small(count) => if count < 1_000_000_000_000_000_000 && used == all {
             Some(count)
@@ -168,7 +169,7 @@ fn read_plane(
 {
     let number = lines.number();
     let line = lines.take()?;
-    spelling_laws();
+    one_integers();
     if !before.add(alloc, line)? {
         return Err(FileError::Bad(FileKind::BadLine, number));
     }
@@ -281,7 +282,8 @@ fn read_named_nodes(
     requires { laws ≤ 4598479 }
     ensures { Outcome (named_nodes plant.now laws planes.now) lines.old lines.new result }
 {
-    let _start = lines.number();
+    // Depths don't overflow: each node takes two bytes at least.
+    let _left = lines.left();
     let mut owed = Depths::of_root(alloc)?;
     let mut tree = Tree::new(alloc);
     let mut used = 0;

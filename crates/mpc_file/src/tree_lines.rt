@@ -13,8 +13,9 @@ ghost use Rattle.mpc_file.specs.TreeReading.{pair_fractions, ReadsPlane, ReadsLe
 
 use crate::bounds::split_fits;
 use crate::errors::{FileError, FileKind};
+use crate::line_laws::{one_fractions, one_integers};
 use crate::lines::Lines;
-use crate::spelling::{fractions_of, integers_of, number_of, spelling_laws};
+use crate::spelling::{fractions_of, integers_of, number_of};
 use crate::tree_depths::Depths;
 use mpc_controller::limits;
 use mpc_frac::{Frac, NoMemory, greatest_common_divisor};
@@ -96,7 +97,7 @@ fn cert_in(alloc: Global, text: &[u8], rows: u64) -> Result<Option<Cert>, NoMemo
         ((c : List (ℕ × ℚ)) → ¬ IsCertLine rows text.now c)
         (λ c. IsCertLine rows text.now c)) }
 {
-    spelling_laws();
+    one_fractions();
     match fractions_of(alloc, text, b"cert")? {
         Some(parts) => cert_of(alloc, parts.as_slice(), rows),
         None => Ok(None),
@@ -203,7 +204,7 @@ pub(crate) fn plane_in(
 ) -> Result<PlaneLine, NoMemory>
     ensures { IfOk result (λ line. ReadsPlane name.now (length counts.now) counts.now text.now line) }
 {
-    spelling_laws();
+    one_integers();
     let Some(integers) = integers_of(alloc, text, name)? else {
         return Ok(PlaneLine::NoRow);
     };
@@ -316,7 +317,8 @@ fn read_written_nodes(
     requires limits { counts.now ≡ limits_of plant.now }
     ensures { Outcome (written_nodes plant.now laws) lines.old lines.new result }
 {
-    let _start = lines.number();
+    // Depths don't overflow: each node takes two bytes at least.
+    let _left = lines.left();
     let mut owed = Depths::of_root(alloc)?;
     let mut tree = Tree::new(alloc);
     while let Some(depth) = owed.next() {

@@ -7,7 +7,7 @@ use Rattle.mpc_file.proofs.tree_lines.cert_in.Goals as goal
 
 pub returns-in-Some : goal.returns-in-Some
 returns-in-Some c =
-    cert_found c.spelling_laws.ensures.fractions c.args.rows c.ranges.rows.fits c.args.text.now c.in-Some.parts c.as_slice.result.now c.as_slice.ensures
+    cert_found c.one_fractions.ensures c.args.rows c.ranges.rows.fits c.args.text.now c.in-Some.parts c.as_slice.result.now c.as_slice.ensures
     (at_some ((xs : List ℚ) → ¬ AreFractions (codes "cert") c.args.text.now xs) (λ xs. AreFractions (codes "cert") c.args.text.now xs) c.in_ok-parts.field-0 c.in-Some.parts c.in-Some.is c.in_ok-parts.ensures)
     c.cert_of.result c.cert_of.ensures.is_cert c.cert_of.ensures.parts
 
