@@ -38,3 +38,4 @@ pub mod TreePrints
 pub mod FilePrints
 pub mod CertReading
 pub mod TreeReading
+pub mod NamedReading

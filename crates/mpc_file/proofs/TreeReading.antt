@@ -3,7 +3,7 @@ use Rattle.std.specs.Int.{◌∣◌}
 use Rattle.std.proofs.Common.{◌≡◌, ◌≢◌, ℕ, ◌+◌, ◌*◌, ◌^◌, ◌<◌, ◌≤◌, Bool, true, false, nat_eq, nat_lt, IsTrue, ◌↔◌, List, [], ◌∷◌, ◌++◌, length, map, fold, All, ℤ, pos, codes, Result, Ok, Err, IsErrAnd, inl, inr, refl, sym, ap, ◌∙◌, subst, arith}
 use Rattle.std.proofs.lemmas.Bool.{false≢true}
 use Rattle.std.proofs.lemmas.Bool.Decides.{nat_tests}
-use Rattle.std.proofs.lemmas.List.{length-append, map-append}
+use Rattle.std.proofs.lemmas.List.{length-append, length-map, map-append}
 use Rattle.std.proofs.lemmas.List.Sums.{fold-append}
 use Rattle.std.proofs.lemmas.List.Elements.{All-nil, All-cons, All-head, All-tail, All-weaker}
 use native.Mathlib.Nat.{eq-one_of_dvd-one}
@@ -13,16 +13,17 @@ use Rattle.mpc_linear.specs.Whole.{IsShared}
 use Rattle.mpc_plant.specs.declared.plants.Plant.{Plant}
 use Rattle.mpc_rows.specs.declared.trees.Node.{Node}
 use Rattle.mpc_rows.specs.declared.trees.Node.TheVariants.{Split, Law as LawLeaf, NoMove}
-use Rattle.mpc_controller.specs.Parts.{row_count}
+use Rattle.mpc_controller.specs.Parts.{row_count, limits_of}
 use Rattle.mpc_controller.specs.Certificates.{cell_rows}
 use Rattle.mpc_file.specs.declared.errors.FileKind.{FileKind}
 use Rattle.mpc_file.specs.declared.errors.FileKind.TheVariants.{BadLine, BadNode, OverBound}
 use Rattle.mpc_file.specs.declared.errors.FileError.{FileError}
 use Rattle.mpc_file.specs.declared.errors.FileError.TheVariants.{Bad, NoMemory}
+use Rattle.mpc_file.specs.declared.tree_lines.PlaneLine.{PlaneLine}
 use Rattle.mpc_file.specs.Reading.{Cursor, TakesLine, LineRule, Grammar, one_line, give, ◌>>=◌, ReadsItems, no_item, one_more, ReadsAll, many, Outcome}
 use Rattle.mpc_file.specs.PlantGrammar.{plain_rule}
 use Rattle.mpc_file.specs.TreeGrammar.{IsPlane, IsCertLine, NodeLine, split_at, leaf_of, no_move, StatesNode, splits, names_law, has_none, NodeOver, split_node, law_node, no_move_node, node_rule, node_behind, node_at, owed_behind, owed, is_owed, next_depth, nodes, certs, IsRowOf, IsPlaneLine, written_split, written_node}
-use Rattle.mpc_file.specs.TreeReading.{owed_under, NamesLaw, IsNoLeaf, ReadsLeafNode, FailsLeafNode, names_none, is_other, certs_fail, cert_fails, LeafOutcome, law_certs, no_move_cert, written_node_at}
+use Rattle.mpc_file.specs.TreeReading.{ReadsPlane, owed_under, NamesLaw, IsNoLeaf, ReadsLeafNode, FailsLeafNode, names_none, is_other, certs_fail, cert_fails, LeafOutcome, law_certs, no_move_cert, written_node_at}
 use Rattle.mpc_file.proofs.OutcomeLemmas.{more_read, item_error, all_read, error_from}
 
 -- ---- planes
@@ -91,7 +92,7 @@ module _ {Row : Type 0} (plant : Plant) (laws : ℕ) where
       omega arith
 
   -- ---- all nodes
-  owed_more : (before : List (NodeOver Row)) (x : NodeOver Row) → owed (before ++ x ∷ []) ≡ owed_behind x (owed before)
+  pub owed_more : (before : List (NodeOver Row)) (x : NodeOver Row) → owed (before ++ x ∷ []) ≡ owed_behind x (owed before)
   owed_more before x = fold-append (λ depths node. owed_behind node depths) (0 ∷ []) before (x ∷ [])
 
   more_items : (before : List (NodeOver Row)) (x : NodeOver Row) → length (before ++ x ∷ []) ≡ length before + 1
@@ -137,17 +138,17 @@ module _ {Row : Type 0} (plant : Plant) (laws : ℕ) where
       pub tree_is : tree ≡ map form ns
       pub owing_is : owing ≡ owed ns
 
-    pub no_node : (form : NodeOver Row → Node) (here : Cursor) (tree : List Node) (owing : List ℕ) → tree ≡ [] → owing ≡ 0 ∷ [] → NodesRead form here here tree owing
+    unfoldable pub no_node : (form : NodeOver Row → Node) (here : Cursor) (tree : List Node) (owing : List ℕ) → tree ≡ [] → owing ≡ 0 ∷ [] → NodesRead form here here tree owing
     no_node form here tree owing e f = record { ns = []; reads = no_item; tree_is = e; owing_is = f }
 
     module _ (form : NodeOver Row → Node) (here between : Cursor) (tree : List Node) (owing depths : List ℕ) (depth : ℕ) (r : NodesRead form here between tree owing) (at : owing ≡ depth ∷ depths) where
-      owed_is : owed r.ns ≡ depth ∷ depths
+      pub owed_is : owed r.ns ≡ depth ∷ depths
       owed_is = sym r.owing_is ∙ at
 
-      depth_is : next_depth (owed r.ns) ≡ depth
+      pub depth_is : next_depth (owed r.ns) ≡ depth
       depth_is = ap next_depth owed_is
 
-      asked : IsTrue (asks r.ns)
+      pub asked : IsTrue (asks r.ns)
       asked = ap is_owed owed_is
 
       -- the next node is no deeper than half of the bytes
@@ -158,7 +159,7 @@ module _ {Row : Type 0} (plant : Plant) (laws : ℕ) where
           omega arith
 
       -- one node more
-      pub node_more : ((x : NodeOver Row) (d : ℕ) (ds : List ℕ) → owed_behind x (d ∷ ds) ≡ owed_under (form x) d ds) → (x : NodeOver Row) (behind : Cursor) → (node_at plant laws (split r.ns) depth).Reads between x behind
+      unfoldable pub node_more : ((x : NodeOver Row) (d : ℕ) (ds : List ℕ) → owed_behind x (d ∷ ds) ≡ owed_under (form x) d ds) → (x : NodeOver Row) (behind : Cursor) → (node_at plant laws (split r.ns) depth).Reads between x behind
           → (node : Node) (more : List Node) (then : List ℕ) → node ≡ form x → more ≡ tree ++ node ∷ [] → then ≡ owed_under node depth depths → NodesRead form here behind more then
       node_more owes x behind reads node more then e m t =
           record {
@@ -261,3 +262,17 @@ written_owes (no_move_node c) d ds = refl
 -- the line of a split that is written out isn't empty
 pub written_text : (plant : Plant) (text : List ℕ) (row : RowInt) → IsPlaneLine (codes "split") plant.n text row → 1 ≤ length text
 written_text plant text row is = subst (λ t. 1 ≤ length t) (sym is.row_is.spelled) (omega arith)
+
+-- the counts go up to those of the plant's grid
+pub plane_reads : (name : List ℕ) (plant : Plant) (counts : List ℕ) → counts ≡ limits_of plant → (text : List ℕ) (line found : PlaneLine) → line ≡ found → ReadsPlane name (length counts) counts text line → ReadsPlane name plant.n (limits_of plant) text found
+plane_reads name plant counts e text line found same h =
+    subst (λ n. ReadsPlane name n (limits_of plant) text found) (length-map plant.grid (λ axis. axis.count) ∙ plant.is_plant.grid_size)
+    (subst (λ cs. ReadsPlane name (length cs) cs text found) e (subst (λ l. ReadsPlane name (length counts) counts text l) same h))
+
+-- one certificate more
+pub one_longer : {X : Type 0} (xs ys : List X) (x : X) (i : ℕ) → ys ≡ xs ++ x ∷ [] → length xs ≡ i → length ys ≡ i + 1
+one_longer xs ys x i e l = ap length e ∙ length-append xs (x ∷ []) ∙ ap (λ n. n + 1) l
+
+-- where the node itself is given on
+pub node_given : {Row Y : Type 0} (plant : Plant) (laws depth : ℕ) (split : LineRule Row) (f : NodeOver Row → Y) (here behind : Cursor) (y : Y) (h : (node_at plant laws split depth >>= λ n. give (f n)).Reads here y behind) → (node_at plant laws split depth).Reads here h.0 behind
+node_given plant laws depth split f here behind y h = subst (λ b. (node_at plant laws split depth).Reads here h.0 b) (sym h.1.1.1.1) h.1.1.0
