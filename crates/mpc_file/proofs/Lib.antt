@@ -39,3 +39,4 @@ pub mod FilePrints
 pub mod CertReading
 pub mod TreeReading
 pub mod NamedReading
+pub mod PlaneLists

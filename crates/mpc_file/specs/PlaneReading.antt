@@ -3,8 +3,9 @@ use Rattle.std.specs.Prelude.{◌≡◌, ◌≢◌, ℕ, ◌+◌, ◌⊎◌, Lis
 use Rattle.mpc_linear.specs.declared.integers.RowInt.{RowInt}
 use Rattle.mpc_file.specs.declared.named_trees.SplitLine.{SplitLine}
 use Rattle.mpc_file.specs.declared.named_trees.SplitLine.TheVariants.{Plane, NoPlane, NoSplit}
+use Rattle.mpc_linear.specs.Whole.{AreSmall}
 use Rattle.mpc_file.specs.Lines.{integers_line}
-use Rattle.mpc_file.specs.TreeGrammar.{NamesPlane, NamesNoPlane}
+use Rattle.mpc_file.specs.TreeGrammar.{IsPlane, NamesPlane, NamesNoPlane}
 
 -- the line is no split's
 pub record IsNoSplit (all used : ℕ) (text : List ℕ) : Type 0 where
@@ -24,4 +25,5 @@ plane_text row = integers_line (codes "plane") (row.a ++ row.b ∷ [])
 -- the lines are those of these planes
 pub record AreLinesOf (lines : List (List ℕ)) (rows : List RowInt) : Type 0 where
   pub each_line : All (λ row. Contains lines (plane_text row)) rows
+  pub each_plane : All (λ row. IsPlane row × AreSmall (row.a ++ row.b ∷ [])) rows
   pub each_row : All (λ text. (row : RowInt) × (Contains rows row × (text ≡ plane_text row))) lines

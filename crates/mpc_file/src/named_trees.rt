@@ -12,6 +12,7 @@ ghost use Rattle.mpc_file.specs.PlaneReading.{ReadsNamedSplit, AreLinesOf};
 
 use crate::errors::{FileError, FileKind};
 use crate::line_laws::{one_integers, one_number};
+use crate::line_sets::LineSet;
 use crate::lines::Lines;
 use crate::spelling::number_of;
 use crate::tree_depths::Depths;
@@ -23,7 +24,6 @@ use mpc_plant::Plant;
 use mpc_rows::{Node, Tree};
 use mpc_words::Natural;
 use std::alloc::Global;
-use std::collections::BTreeSet;
 use std::marker::Model;
 
 /// The different rows of a tree's splits.
@@ -78,45 +78,6 @@ impl Planes {
     }
 }
 
-/// The lines that were read before.
-#[derive(Drop)]
-struct LinesBefore {
-    lines: BTreeSet<Vec<u8>>,
-}
-
-impl Model for LinesBefore {
-    ghost use Rattle.std.specs.Prelude.{ℕ, List, map};
-
-    ghost Value = { List (List ℕ) };
-
-    ghost view = { λ before. map (λ line. line.items) before.lines.keys };
-}
-
-impl LinesBefore {
-    /// No line.
-    fn new(alloc: Global) -> LinesBefore
-        ensures { result ≡ [] }
-    {
-        LinesBefore {
-            lines: BTreeSet::new(alloc),
-        }
-    }
-
-    /// Adds a line, and says whether it is a new one.
-    fn add(&mut self, alloc: Global, line: &[u8]) -> Result<bool, NoMemory>
-        ensures added { IfOk result (λ added. IsTrue added ↔ (¬ Contains self.old line.now)) }
-        ensures lines { OnOk result ((text : List ℕ) → Contains self.new text ↔ (Contains self.old text ⊎ (text ≡ line.now))) }
-    {
-        let Ok(copy) = line.to_vec(alloc) else {
-            return Err(NoMemory);
-        };
-        match self.lines.insert(copy) {
-            Ok(added) => Ok(added),
-            Err(_) => Err(NoMemory),
-        }
-    }
-}
-
 /// Which plane the line of a split names.
 #[derive(Clone, Copy, Drop)]
 pub(crate) enum SplitLine {
@@ -157,10 +118,10 @@ fn read_plane_count(lines: &mut Lines, all: u64, used: u64) -> Result<u64, FileE
 }
 
 /// Reads the line of the next plane, which is none of those before.
-fn read_plane(
+fn read_plane<'a>(
     alloc: Global,
-    lines: &mut Lines,
-    before: &mut LinesBefore,
+    lines: &mut Lines<'a>,
+    before: &mut LineSet<'a>,
     counts: &[u64],
 ) -> Result<RowInt, FileError>
     ensures read { (plant : ThePlant) (rows : List Row) → counts.now ≡ limits_of plant → AreLinesOf before.old rows →
@@ -170,7 +131,8 @@ fn read_plane(
     let number = lines.number();
     let line = lines.take()?;
     one_integers();
-    if !before.add(alloc, line)? {
+    let is_new = before.insert(line)?;
+    if !is_new {
         return Err(FileError::Bad(FileKind::BadLine, number));
     }
     match plane_in(alloc, line, b"plane", counts)? {
@@ -191,7 +153,7 @@ fn read_plane_rows(
     ensures { Outcome (plane_rows plant.now count) lines.old lines.new result }
 {
     let counts = limits(alloc, plant)?;
-    let mut before = LinesBefore::new(alloc);
+    let mut before = LineSet::new(alloc);
     let mut planes = Planes::new(alloc);
     for _i in 0..count {
         let plane = read_plane(alloc, lines, &mut before, counts.as_slice())?;
