@@ -48,14 +48,14 @@ module _ (one : IntegersLaw) (lines : List (List ℕ)) (rows : List RowInt) (are
   not_new h x is = h (λ c. is.new_one (found c x is.plane_is.row_is))
 
   pub no_other : ¬ (¬ Contains lines text) → ¬ IsNoPlane (codes "plane") n text
-  no_other h (row, (is, no)) = h (λ c. no (All-contains (λ r. IsPlane r × AreSmall (r.a ++ r.b ∷ [])) rows row are.each_plane (found c row is)).0)
+  no_other h (row, (is, none)) = h (λ c. none (All-contains (λ r. IsPlane r × AreSmall (r.a ++ r.b ∷ [])) rows row are.each_plane (found c row is)).0)
 
   -- a plane whose line doesn't
   pub is_new : ¬ Contains lines text → (x : RowInt) → IsPlaneLine (codes "plane") n text x → IsNewPlane n rows text x
   is_new h x is =
       record {
         plane_is = is;
-        new_one = λ c. h (subst (Contains lines) (sym is.row_is.spelled) (All-contains (λ row. Contains lines (plane_text row)) rows x are.each_line c))
+        new_one = λ c. h (subst (Contains lines) (sym is.row_is.spelled) (All-contains (λ row. Contains lines (plane_text row)) rows x are.each_line c));
       }
 
   All-by : {X : Type 0} (P : X → Type 0) (xs : List X) → ((x : X) → Contains xs x → P x) → All P xs
@@ -68,7 +68,7 @@ module _ (one : IntegersLaw) (lines : List (List ℕ)) (rows : List RowInt) (are
         each_line = All-push (λ row. Contains more (plane_text row)) rows x (All-weaker (λ row. Contains lines (plane_text row)) (λ row. Contains more (plane_text row)) (λ row c. (has (plane_text row)).1 (inl c)) rows are.each_line)
             ((has (plane_text x)).1 (inr (sym is.row_is.spelled)));
         each_plane = All-push (λ row. IsPlane row × AreSmall (row.a ++ row.b ∷ [])) rows x are.each_plane (is.plane, is.row_is.small);
-        each_row = All-by (λ t. (row : RowInt) × (Contains (rows ++ x ∷ []) row × (t ≡ plane_text row))) more (λ t c. row_of t ((has t).0 c))
+        each_row = All-by (λ t. (row : RowInt) × (Contains (rows ++ x ∷ []) row × (t ≡ plane_text row))) more (λ t c. row_of t ((has t).0 c));
       }
     where
       row_of : (t : List ℕ) → Contains lines t ⊎ (t ≡ text) → (row : RowInt) × (Contains (rows ++ x ∷ []) row × (t ≡ plane_text row))
