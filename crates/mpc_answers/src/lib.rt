@@ -5,8 +5,8 @@
 ghost use Rattle.mpc_answers.specs.Replies.{RightReplies, PartsHaveShapes, TableIsSmall, TableOfFourIsSmall, PlantTableIsSmall, OneTable, GridIsInBox};
 
 use mpc_best::best_replies;
-use mpc_cover::cover_laws;
 use mpc_controller::preorder_laws;
+use mpc_cover::cover_laws;
 use mpc_linear::primitive_laws;
 use mpc_rows::{law_laws, region_laws};
 use mpc_sets::{count_laws, order_laws};

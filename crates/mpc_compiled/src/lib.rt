@@ -6,8 +6,8 @@ ghost use Rattle.mpc_compiled.specs.Compiled.{OnlyWidthFound, NoRefusal, OnlyWid
 
 use mpc_best::one_program;
 use mpc_check::{law_conditions, one_finding, one_path};
-use mpc_definite::pivot_laws;
 use mpc_controller::preorder_laws;
+use mpc_definite::pivot_laws;
 
 /// The laws of a plant's table meet the conditions of Karush, Kuhn and Tucker coefficient by coefficient, and the certificates of its tree
 /// refute the systems of its leaves (Farkas 1902, Motzkin 1936). So a check of what is compiled refuses nothing, and finds no pivot that

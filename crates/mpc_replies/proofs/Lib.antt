@@ -1,0 +1,6 @@
+pub mod CutLemmas
+pub mod CountLemmas
+pub mod LineLemmas
+pub mod BoxLemmas
+pub mod ReplyLemmas
+pub mod LawLemmas
