@@ -40,3 +40,5 @@ pub mod CertReading
 pub mod TreeReading
 pub mod NamedReading
 pub mod PlaneLists
+pub mod LineSetLemmas
+pub mod NamedLemmas

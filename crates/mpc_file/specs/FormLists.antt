@@ -6,6 +6,7 @@ use Rattle.mpc_plant.specs.declared.plants.Plant.{Plant}
 use Rattle.mpc_rows.specs.declared.laws.Law.{Law}
 use Rattle.mpc_file.specs.Reading.{Cursor}
 use Rattle.mpc_file.specs.Lines.{fractions_line}
+use Rattle.mpc_file.specs.PlantGrammar.{AllFit}
 use Rattle.mpc_file.specs.LawGrammar.{used_behind, NamedLaw, used_by, named_law, named_laws, law_named}
 use Rattle.mpc_file.specs.declared.errors.FileError.{FileError}
 use Rattle.mpc_file.specs.declared.errors.FileError.TheVariants.{Bad, NoMemory}
@@ -22,9 +23,9 @@ with_filled_row m i form = record { rows = slice_set m.rows i form; columns = m.
 abbrev pub NamesAll : ℕ → List ℕ → Type 0
 NamesAll all numbers = All (λ k. (1 ≤ k) × (k ≤ all)) numbers
 
--- of the lines of forms the set has those of these forms
+-- of the lines of forms whose parts fit the set has those of these forms
 abbrev pub HasLinesOf : List (List ℕ) → List (List ℚ) → Type 0
-HasLinesOf lines forms = (form : List ℚ) → Contains lines (fractions_line (codes "form") form) ↔ Contains forms form
+HasLinesOf lines forms = (form : List ℚ) → AllFit form → Contains lines (fractions_line (codes "form") form) ↔ Contains forms form
 
 -- ---- laws that name forms
 -- the lines from one place to another state this law, where so many forms are used before, and so many are then

@@ -1,0 +1,91 @@
+-- Forms of which no two are equal, and laws that name forms.
+use Rattle.std.proofs.Common.{◌≡◌, ◌≢◌, ℕ, ◌+◌, ◌-◌, ◌<◌, ◌≤◌, ◌⊎◌, ◌↔◌, List, [], ◌∷◌, ◌++◌, length, get_or, take, map, fold, codes, ltb, Result, Ok, Err, inl, inr, refl, sym, ap, ◌∙◌, subst, arith}
+use Rattle.std.specs.Prelude.{All, Contains}
+use Rattle.std.proofs.lemmas.List.{take_all, map-append}
+use Rattle.std.proofs.lemmas.List.Sums.{fold-append}
+use Rattle.std.proofs.lemmas.List.Elements.{All-more, Contains-append_left, Contains-push, Contains-push_cases}
+use Rattle.mpc_exact.specs.Rational.{ℚ}
+use Rattle.mpc_plant.specs.declared.plants.Plant.{Plant}
+use Rattle.mpc_rows.specs.declared.laws.Law.{Law}
+use Rattle.mpc_controller.specs.Bounds.{FormFits}
+use Rattle.mpc_file.specs.Reading.{Cursor, ReadsItems, one_line, Outcome}
+use Rattle.mpc_file.specs.PlantGrammar.{AllFit, plain_rule}
+use Rattle.mpc_file.specs.Lines.{fractions_line}
+use Rattle.mpc_file.specs.LawGrammar.{IsForm, IsNewForm, form_named, NamedLaw, used_by, used_behind, named_law, named_laws, law_named, law_count, forms}
+use Rattle.mpc_file.specs.FormLists.{NamesAll, HasLinesOf, IsReadLaw, ReadsLaw, AreReadLaws, ReadsLaws}
+use Rattle.mpc_file.specs.declared.errors.FileError.{FileError}
+use Rattle.mpc_file.specs.declared.errors.FileError.TheVariants.{Bad, NoMemory}
+use Rattle.mpc_file.proofs.ManyLemmas.{all_items}
+use Rattle.mpc_file.proofs.FormLemmas.{OneFractions, no_items, further, further_error, one_longer}
+
+-- ---- forms of which no two are equal
+module _ (n : ℕ) (known : List (List ℕ)) (before : List (List ℚ)) (has : HasLinesOf known before) (text : List ℕ) where
+  pub is_new : (form : List ℚ) → IsForm (codes "form") n text form → ¬ Contains known text → IsNewForm n before text form
+  is_new form is new = record { form_is = is; new_one = λ c. new (subst (Contains known) (sym is.spelled) ((has form is.fits).1 c)) }
+
+  pub is_old : Contains known text → (form : List ℚ) → ¬ IsNewForm n before text form
+  is_old c form new = new.new_one ((has form new.form_is.fits).0 (subst (Contains known) new.form_is.spelled c))
+
+  pub is_none : ((form : List ℚ) → ¬ IsForm (codes "form") n text form) → (form : List ℚ) → ¬ IsNewForm n before text form
+  is_none none form new = none form new.form_is
+
+  module _ (one : OneFractions) (more : List (List ℕ)) (added : (other : List ℕ) → Contains more other ↔ (Contains known other ⊎ (other ≡ text))) (form : List ℚ) (is : IsForm (codes "form") n text form) where
+    to_forms : (other : List ℚ) → AllFit other → Contains known (fractions_line (codes "form") other) ⊎ (fractions_line (codes "form") other ≡ text) → Contains (before ++ form ∷ []) other
+    to_forms other fits (inl c) = Contains-append_left before (form ∷ []) other ((has other fits).0 c)
+    to_forms other fits (inr e) = subst (Contains (before ++ form ∷ [])) (one (codes "form") form other is.fits fits (sym (e ∙ is.spelled))) (Contains-push before form)
+
+    to_lines : (other : List ℚ) → AllFit other → Contains before other ⊎ (form ≡ other) → Contains known (fractions_line (codes "form") other) ⊎ (fractions_line (codes "form") other ≡ text)
+    to_lines other fits (inl c) = inl ((has other fits).1 c)
+    to_lines other fits (inr e) = inr (ap (fractions_line (codes "form")) (sym e) ∙ sym is.spelled)
+
+    pub one_more_known : HasLinesOf more (before ++ form ∷ [])
+    one_more_known other fits = ((λ c. to_forms other fits ((added (fractions_line (codes "form") other)).0 c)), (λ c. (added (fractions_line (codes "form") other)).1 (to_lines other fits (Contains-push_cases before form other c))))
+
+none_known : (form : List ℚ) → Contains [] (fractions_line (codes "form") form) ↔ Contains [] form
+none_known form = ((λ c. absurd (omega (arith, c.1))), (λ c. absurd (omega (arith, c.1))))
+
+pub known_start : (known : List (List ℕ)) (fs : List (List ℚ)) → known ≡ [] → fs ≡ [] → HasLinesOf known fs
+known_start known fs e f form fits = subst (λ ls. Contains ls (fractions_line (codes "form") form) ↔ Contains fs form) (sym e) (subst (λ xs. Contains [] (fractions_line (codes "form") form) ↔ Contains xs form) (sym f) (none_known form))
+
+pub forms_sizes : (plant : Plant) (count : ℕ) (here behind : Cursor) (fs : List (List ℚ)) → ReadsItems (List ℚ) (λ (before : List (List ℚ)). one_line (plain_rule (IsNewForm plant.n before))) (λ (before : List (List ℚ)). ltb (length before) count) here fs behind
+    → All (λ form. length form ≡ plant.n + 1) fs
+forms_sizes plant count here behind fs h =
+    all_items (List ℚ) (λ (before : List (List ℚ)). one_line (plain_rule (IsNewForm plant.n before))) (λ (before : List (List ℚ)). ltb (length before) count) (λ form. length form ≡ plant.n + 1) (λ before b x c more reads. reads.1.1.0.form_is.size) here fs behind h
+
+-- ---- laws that name forms
+pub record IsReadSoFar (plant : Plant) (fs : List (List ℚ)) (count : ℕ) (here between : Cursor) (laws : List Law) (used counter : ℕ) : Type 0 where
+  pub named : List NamedLaw
+  pub so_far : ReadsItems NamedLaw (λ (before : List NamedLaw). named_law plant fs (used_by before)) (λ (before : List NamedLaw). ltb (length before) count) here named between
+  pub so_many : length named ≡ counter
+  pub laws_are : laws ≡ map (law_named plant fs) named
+  pub used_is : used ≡ used_by named
+
+module _ (plant : Plant) (fs : List (List ℚ)) (count : ℕ) (here : Cursor) where
+  pub none_read_yet : (laws : List Law) → laws ≡ [] → IsReadSoFar plant fs count here here laws 0 0
+  none_read_yet laws e = record {
+    named = [];
+    so_far = no_items (λ (before : List NamedLaw). named_law plant fs (used_by before)) count here [] refl;
+    so_many = refl;
+    laws_are = e;
+    used_is = refl;
+  }
+
+  used_more : (named : List NamedLaw) (x : NamedLaw) → used_by (named ++ x ∷ []) ≡ used_behind (used_behind (used_by named) x.moves) x.mults
+  used_more named x = fold-append (λ used law. used_behind (used_behind used law.moves) law.mults) 0 named (x ∷ [])
+
+  pub one_law_more : (between behind : Cursor) (laws more : List Law) (law : Law) (used then_used counter : ℕ) → IsReadSoFar plant fs count here between laws used counter → counter < count → IsReadLaw plant fs used between behind law then_used → more ≡ laws ++ law ∷ []
+      → IsReadSoFar plant fs count here behind more then_used (counter + 1)
+  one_law_more between behind laws more law used then_used counter before some is pushed = record {
+    named = before.named ++ is.named ∷ [];
+    so_far = further (λ (before : List NamedLaw). named_law plant fs (used_by before)) count here between behind before.named (before.named ++ is.named ∷ []) is.named counter before.so_far before.so_many some
+        (subst (λ u. (named_law plant fs u).Reads between is.named behind) before.used_is is.reads) refl;
+    so_many = one_longer before.named (before.named ++ is.named ∷ []) is.named counter refl before.so_many;
+    laws_are = pushed ∙ (λ i. before.laws_are i ++ is.law_is i ∷ []) ∙ sym (map-append (law_named plant fs) before.named (is.named ∷ []));
+    used_is = is.used_is ∙ ap (λ u. used_behind (used_behind u is.named.moves) is.named.mults) before.used_is ∙ sym (used_more before.named is.named);
+  }
+
+  pub law_error : (between behind end : Cursor) (laws : List Law) (used counter : ℕ) (error : FileError) → IsReadSoFar plant fs count here between laws used counter → counter < count → ReadsLaw plant fs used between behind (Err error)
+      → (start : Cursor) → law_count.Reads start count here → ReadsLaws plant fs start end (Err error)
+  law_error between behind end laws used counter (Bad kind number) before some h start counted =
+      inr (count, (here, (counted, further_error (λ (before : List NamedLaw). named_law plant fs (used_by before)) count here between behind end before.named counter (Bad kind number) before.so_far before.so_many some (subst (λ u. (named_law plant fs u).Fails between kind number) before.used_is h))))
+  law_error between behind end laws used counter NoMemory before some h start counted = tt
