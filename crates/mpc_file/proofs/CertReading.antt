@@ -1,17 +1,17 @@
 -- The pairs of a certificate are read one after another.
-use Rattle.std.proofs.Common.{◌≡◌, ◌≢◌, ℕ, ◌+◌, ◌^◌, ◌<◌, ◌≤◌, ◌==◌, Bool, true, false, List, [], ◌∷◌, ◌++◌, length, get_or, take, drop, ◌-◌, All, ℤ, pos, negsuc, unsigned_abs, to_z, of_z, refl, sym, ap, ◌∙◌, subst, subst₂, arith, append_assoc, append-nil, codes, Option, Some, None, MatchOption, Result, Ok, Err, IfOk}
+use Rattle.std.proofs.Common.{◌≡◌, ◌≢◌, ℕ, ◌+◌, ◌^◌, ◌<◌, ◌≤◌, ◌==◌, true, false, List, [], ◌∷◌, ◌++◌, length, get_or, take, drop, ◌-◌, All, ℤ, pos, negsuc, unsigned_abs, to_z, of_z, refl, sym, ap, ◌∙◌, subst, arith, append_assoc, append-nil, codes, Option, Some, None, MatchOption, Result, Ok, Err, IfOk}
 use lib.Signed.{le_z, lt_z}
 use Rattle.std.specs.Int.{w128}
 use Rattle.std.proofs.lemmas.Int.{ints}
 use Rattle.std.proofs.lemmas.Bool.Decides.{nat_tests}
 use Rattle.std.proofs.lemmas.List.{take_all}
-use Rattle.std.proofs.lemmas.List.Elements.{All-nil, All-cons, All-head, All-tail, All-push, All-weaker}
+use Rattle.std.proofs.lemmas.List.Elements.{All-nil, All-head, All-tail, All-push, All-weaker}
 use Rattle.mpc_exact.specs.Rational.{ℚ, int}
 use Rattle.mpc_exact.proofs.Denominator.{whole_of_denom}
 use Rattle.mpc_space.proofs.Words.{read_back, read_natural}
 use Rattle.mpc_rows.specs.Certificates.{RisesFrom}
 use Rattle.mpc_controller.specs.Certificates.{IsCertOver}
-use Rattle.mpc_file.proofs.NumberLines.{whole_numer, whole_denom, fractions_of_pairs, same_natural, cert_is_fractions, pairs_fit, multipliers_fit}
+use Rattle.mpc_file.proofs.NumberLines.{whole_numer, fractions_of_pairs, same_natural, cert_is_fractions, pairs_fit, multipliers_fit}
 use Rattle.mpc_file.specs.Lines.{fractions_line}
 use Rattle.mpc_file.specs.PlantGrammar.{AllFit}
 use Rattle.mpc_file.specs.Spelling.{AreFractions}

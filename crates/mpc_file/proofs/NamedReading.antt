@@ -1,12 +1,11 @@
 -- The nodes of a tree whose splits name planes are read one after another.
-use Rattle.std.proofs.Common.{◌≡◌, ℕ, ◌+◌, ◌^◌, ◌<◌, ◌≤◌, nat_lt, cond, List, [], ◌∷◌, ◌++◌, length, map, fold, codes, Result, Ok, Err, IsErrAnd, inl, inr, refl, sym, ap, ◌∙◌, subst, arith}
+use Rattle.std.proofs.Common.{◌≡◌, ℕ, ◌+◌, ◌^◌, ◌<◌, ◌≤◌, nat_lt, cond, List, [], ◌∷◌, ◌++◌, length, map, codes, Result, Ok, Err, IsErrAnd, inl, inr, refl, sym, ap, ◌∙◌, subst, arith}
 use Rattle.std.proofs.lemmas.Bool.Decides.{nat_tests}
 use Rattle.std.proofs.lemmas.List.Sums.{fold-append}
 use Rattle.mpc_linear.specs.declared.integers.RowInt.{RowInt}
 use Rattle.mpc_plant.specs.declared.plants.Plant.{Plant}
 use Rattle.mpc_rows.specs.declared.trees.Node.{Node}
-use Rattle.mpc_rows.specs.declared.trees.Node.TheVariants.{Split, Law as LawLeaf, NoMove}
-use Rattle.mpc_file.specs.declared.errors.FileKind.{FileKind}
+use Rattle.mpc_rows.specs.declared.trees.Node.TheVariants.{Split}
 use Rattle.mpc_file.specs.declared.errors.FileKind.TheVariants.{BadNode}
 use Rattle.mpc_file.specs.declared.errors.FileError.{FileError}
 use Rattle.mpc_file.specs.declared.errors.FileError.TheVariants.{Bad, NoMemory}
@@ -79,7 +78,7 @@ module _ (plant : Plant) (laws : ℕ) (ps : List RowInt) where
     named_more x behind reads node more then used_then e m t u =
         record {
           nodes = node_more plant laws split (named_node ps) here between tree owing depths depth r.nodes at named_owes x behind (subst (λ n. (node_at plant laws (named_split (length ps) n) depth).Reads between x behind) r.used_is reads) node more then e m t;
-          used_is = u ∙ ap (λ n. used_with n x) r.used_is ∙ sym (fold-append used_with 0 r.nodes.ns (x ∷ []))
+          used_is = u ∙ ap (λ n. used_with n x) r.used_is ∙ sym (fold-append used_with 0 r.nodes.ns (x ∷ []));
         }
 
     node_error_by : (error : FileError) (behind end : Cursor) → Outcome (named_node_at plant laws ps used depth) between behind (Err error) → Outcome (named_nodes plant laws ps) here end (Err error)

@@ -1,14 +1,11 @@
 -- Planes are read, each with a line of its own.
-use Rattle.std.proofs.Common.{◌≡◌, ◌≢◌, ◌↔◌, ◌⊎◌, ℕ, ◌+◌, ◌^◌, ◌<◌, ◌≤◌, List, [], ◌∷◌, ◌++◌, length, get_or, All, ℤ, nat_lt, codes, Result, Ok, Err, IsErrAnd, inl, inr, refl, sym, ap, ◌∙◌, subst, arith}
+use Rattle.std.proofs.Common.{◌≡◌, ◌↔◌, ◌⊎◌, ℕ, ◌+◌, ◌^◌, ◌<◌, ◌≤◌, List, [], ◌∷◌, ◌++◌, length, get_or, All, ℤ, nat_lt, codes, Result, Ok, Err, IsErrAnd, inl, inr, refl, sym, ap, ◌∙◌, subst, arith}
 use Rattle.std.specs.Prelude.{Contains}
 use Rattle.std.proofs.lemmas.List.Elements.{All-nil, All-contains, All-push, All-weaker, Contains-get_or, Contains-append_left, Contains-push}
 use Rattle.mpc_linear.specs.declared.integers.RowInt.{RowInt}
 use Rattle.mpc_linear.specs.Whole.{AreSmall}
-use Rattle.mpc_file.specs.declared.errors.FileKind.TheVariants.{BadLine, OverBound}
 use Rattle.mpc_plant.specs.declared.plants.Plant.{Plant}
-use Rattle.mpc_controller.specs.Parts.{limits_of}
-use Rattle.mpc_controller.specs.Bounds.{SplitFits}
-use Rattle.mpc_file.specs.Reading.{Cursor, TakesLine, one_line, ReadsItems, Outcome}
+use Rattle.mpc_file.specs.Reading.{Cursor, one_line, ReadsItems, Outcome}
 use Rattle.mpc_file.specs.declared.errors.FileError.{FileError}
 use Rattle.mpc_file.specs.TreeReading.{plane_rows}
 use Rattle.mpc_file.proofs.OutcomeLemmas.{item_error, asks_for_more}

@@ -1,13 +1,11 @@
 -- The lines of a tree are read one after another.
 use Rattle.std.specs.Int.{◌∣◌}
-use Rattle.std.proofs.Common.{◌≡◌, ◌≢◌, ℕ, ◌+◌, ◌*◌, ◌^◌, ◌<◌, ◌≤◌, Bool, true, false, nat_eq, nat_lt, IsTrue, ◌↔◌, List, [], ◌∷◌, ◌++◌, length, map, fold, All, ℤ, pos, codes, Result, Ok, Err, IsErrAnd, inl, inr, refl, sym, ap, ◌∙◌, subst, arith}
-use Rattle.std.proofs.lemmas.Bool.{false≢true}
+use Rattle.std.proofs.Common.{◌≡◌, ℕ, ◌+◌, ◌*◌, ◌^◌, ◌<◌, ◌≤◌, Bool, nat_eq, nat_lt, IsTrue, ◌↔◌, List, [], ◌∷◌, ◌++◌, length, map, All, ℤ, pos, codes, Result, Ok, Err, IsErrAnd, inl, inr, refl, sym, ap, ◌∙◌, subst, arith}
 use Rattle.std.proofs.lemmas.Bool.Decides.{nat_tests}
 use Rattle.std.proofs.lemmas.List.{length-append, length-map, map-append}
 use Rattle.std.proofs.lemmas.List.Sums.{fold-append}
 use Rattle.std.proofs.lemmas.List.Elements.{All-nil, All-cons, All-head, All-tail, All-weaker}
 use native.Mathlib.Nat.{eq-one_of_dvd-one}
-use Rattle.mpc_exact.specs.Rational.{ℚ}
 use Rattle.mpc_linear.specs.declared.integers.RowInt.{RowInt}
 use Rattle.mpc_linear.specs.Whole.{IsShared}
 use Rattle.mpc_plant.specs.declared.plants.Plant.{Plant}
@@ -16,23 +14,21 @@ use Rattle.mpc_rows.specs.declared.trees.Node.TheVariants.{Split, Law as LawLeaf
 use Rattle.mpc_controller.specs.Parts.{row_count, limits_of}
 use Rattle.mpc_controller.specs.Certificates.{cell_rows}
 use Rattle.mpc_file.specs.declared.errors.FileKind.{FileKind}
-use Rattle.mpc_file.specs.declared.errors.FileKind.TheVariants.{BadLine, BadNode, OverBound}
+use Rattle.mpc_file.specs.declared.errors.FileKind.TheVariants.{BadNode, OverBound}
 use Rattle.mpc_file.specs.declared.errors.FileError.{FileError}
 use Rattle.mpc_file.specs.declared.errors.FileError.TheVariants.{Bad, NoMemory}
 use Rattle.mpc_file.specs.declared.tree_lines.PlaneLine.{PlaneLine}
-use Rattle.mpc_file.specs.Reading.{Cursor, TakesLine, LineRule, Grammar, one_line, give, ◌>>=◌, ReadsItems, no_item, one_more, ReadsAll, many, Outcome}
+use Rattle.mpc_file.specs.Reading.{Cursor, TakesLine, LineRule, Grammar, one_line, give, ◌>>=◌, ReadsItems, no_item, one_more, many, Outcome}
 use Rattle.mpc_file.specs.PlantGrammar.{plain_rule}
-use Rattle.mpc_file.specs.TreeGrammar.{IsPlane, IsCertLine, NodeLine, split_at, leaf_of, no_move, StatesNode, splits, names_law, has_none, NodeOver, split_node, law_node, no_move_node, node_rule, node_behind, node_at, owed_behind, owed, is_owed, next_depth, nodes, certs, IsRowOf, IsPlaneLine, written_split, written_node}
-use Rattle.mpc_file.specs.TreeReading.{ReadsPlane, owed_under, NamesLaw, IsNoLeaf, ReadsLeafNode, FailsLeafNode, names_none, is_other, certs_fail, cert_fails, LeafOutcome, law_certs, no_move_cert, written_node_at}
-use Rattle.mpc_file.proofs.OutcomeLemmas.{more_read, item_error, all_read, error_from}
+use Rattle.mpc_file.specs.TreeGrammar.{IsPlane, IsCertLine, NodeLine, split_at, leaf_of, no_move, StatesNode, splits, names_law, has_none, NodeOver, split_node, law_node, no_move_node, node_behind, node_at, owed_behind, owed, is_owed, next_depth, nodes, certs, IsRowOf, IsPlaneLine, written_split, written_node}
+use Rattle.mpc_file.specs.TreeReading.{ReadsPlane, owed_under, NamesLaw, IsNoLeaf, ReadsLeafNode, FailsLeafNode, names_none, is_other, certs_fail, cert_fails, LeafOutcome, written_node_at}
 
 -- ---- planes
 pub is_plane : (row : RowInt) (entries : List ℤ) (g : ℕ) → entries ≡ row.a → ¬ All (λ z. z ≡ pos 0) entries → IsShared g (row.a ++ row.b ∷ []) → IsTrue (nat_eq g 1) ↔ IsPlane row
-is_plane row entries g e some shared =
-    (
-      (λ t. record { some = subst (λ zs. ¬ All (λ z. z ≡ pos 0) zs) e some; no_divisor = λ d a. eq-one_of_dvd-one (divides_one d g (one_if g t) (shared.greatest d a)) }),
-      (λ is. if_one g (is.no_divisor g shared.divides))
-    )
+is_plane row entries g e some shared = (
+  (λ t. record { some = subst (λ zs. ¬ All (λ z. z ≡ pos 0) zs) e some; no_divisor = λ d a. eq-one_of_dvd-one (divides_one d g (one_if g t) (shared.greatest d a)) }),
+  (λ is. if_one g (is.no_divisor g shared.divides)),
+)
   where
     divides_one : (d g : ℕ) → g ≡ 1 → d ∣ g → d ∣ 1
     divides_one d g e h = subst (λ n. let P : Type 0 = d ∣ n in P) e h
@@ -166,7 +162,7 @@ module _ {Row : Type 0} (plant : Plant) (laws : ℕ) where
             ns = r.ns ++ x ∷ [];
             reads = one_more r.ns between x behind r.reads asked (subst (λ d. (node_at plant laws (split r.ns) d).Reads between x behind) (sym depth_is) reads);
             tree_is = m ∙ (λ i. r.tree_is i ++ e i ∷ []) ∙ sym (map-append form r.ns (x ∷ []));
-            owing_is = t ∙ ap (λ n. owed_under n depth depths) e ∙ sym (owes x depth depths) ∙ ap (owed_behind x) (sym owed_is) ∙ sym (owed_more r.ns x)
+            owing_is = t ∙ ap (λ n. owed_under n depth depths) e ∙ sym (owes x depth depths) ∙ ap (owed_behind x) (sym owed_is) ∙ sym (owed_more r.ns x);
           }
 
       -- the next node fails

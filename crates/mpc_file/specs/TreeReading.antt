@@ -1,5 +1,5 @@
 -- What the functions know that read the lines of a search tree.
-use Rattle.std.specs.Prelude.{◌≡◌, ◌≢◌, ℕ, ◌+◌, ◌⊎◌, ◌↔◌, IsTrue, Bool, nat_lt, ℤ, pos, List, [], ◌∷◌, ◌++◌, length, map, codes, Result, Ok, Err}
+use Rattle.std.specs.Prelude.{◌≡◌, ◌≢◌, ℕ, ◌+◌, nat_lt, pos, List, [], ◌∷◌, length, map, codes, Result, Ok, Err}
 use Rattle.mpc_exact.specs.Rational.{ℚ, int}
 use Rattle.mpc_linear.specs.declared.integers.RowInt.{RowInt}
 use Rattle.mpc_plant.specs.Limits.{IsFromTo}
@@ -18,9 +18,9 @@ use Rattle.mpc_file.specs.declared.tree_lines.PlaneLine.TheVariants.{Plane, NoPl
 use Rattle.mpc_file.specs.declared.tree_lines.LeafLine.{LeafLine}
 use Rattle.mpc_file.specs.declared.tree_lines.LeafLine.TheVariants.{Law, Nothing, NoLaw, NoLeaf}
 use Rattle.mpc_file.specs.Reading.{Cursor, Grammar, one_line, give, ◌>>=◌, many}
-use Rattle.mpc_file.specs.Lines.{count_line, integers_line}
+use Rattle.mpc_file.specs.Lines.{count_line}
 use Rattle.mpc_file.specs.PlantGrammar.{plain_rule}
-use Rattle.mpc_file.specs.TreeGrammar.{IsRowOf, IsPlane, IsPlaneLine, plane_rule, IsNoPlane, IsCertLine, NamesNone, certs, NodeOver, nodes, node_at, written_split, written_node, named_split, named_node, planes_used, used_with, named_tree}
+use Rattle.mpc_file.specs.TreeGrammar.{IsRowOf, IsPlane, IsPlaneLine, plane_rule, IsNoPlane, IsCertLine, NamesNone, certs, nodes, node_at, written_split, written_node, named_split, named_node, planes_used, used_with, named_tree}
 
 -- ---- certificates
 -- the position of a row, as a fraction, and its multiplier

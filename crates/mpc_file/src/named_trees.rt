@@ -1,10 +1,10 @@
 //! Search trees whose splits name planes, and the planes that stand before them.
 
-ghost use Rattle.std.specs.Prelude.{◌≡◌, ℕ, ◌+◌, ◌-◌, ◌^◌, ◌<◌, ◌≤◌, ◌↔◌, ◌⊎◌, List, [], ◌∷◌, ◌++◌, length, map, codes, slice_get, slice_index_or, Some, Contains, IfOk, OnOk, OnErr, MatchOption, IsTrue, true, false};
+ghost use Rattle.std.specs.Prelude.{◌≡◌, ℕ, ◌+◌, ◌-◌, ◌^◌, ◌<◌, ◌≤◌, List, [], ◌∷◌, ◌++◌, length, slice_get, Some, IfOk, OnOk, OnErr, MatchOption};
 ghost use Rattle.mpc_linear.specs.declared.integers.RowInt.{RowInt as Row};
 ghost use Rattle.mpc_plant.specs.declared.plants.Plant.{Plant as ThePlant};
 ghost use Rattle.mpc_controller.specs.Parts.{limits_of};
-ghost use Rattle.mpc_file.specs.Reading.{Cursor, one_line, many, Outcome};
+ghost use Rattle.mpc_file.specs.Reading.{one_line, many, Outcome};
 ghost use Rattle.mpc_file.specs.PlantGrammar.{plain_rule};
 ghost use Rattle.mpc_file.specs.TreeGrammar.{IsPlaneCount, plane_rule, planes, plane_named};
 ghost use Rattle.mpc_file.specs.TreeReading.{plane_rows, named_node_at, named_nodes, named_tree_nodes};

@@ -1,12 +1,12 @@
 //! The lines of a search tree: its nodes in preorder, each with the certificates of its leaf.
 
-ghost use Rattle.std.specs.Prelude.{◌≡◌, ◌≢◌, ℕ, ◌+◌, ◌^◌, ◌<◌, ◌≤◌, ◌↔◌, ℤ, pos, List, [], ◌∷◌, ◌++◌, length, IfOk, MatchOption, IsTrue, All, unsigned_abs, codes};
+ghost use Rattle.std.specs.Prelude.{◌≡◌, ◌≢◌, ℕ, ◌+◌, ◌^◌, ◌<◌, ◌≤◌, ◌↔◌, pos, List, [], ◌∷◌, ◌++◌, length, IfOk, MatchOption, IsTrue, All, unsigned_abs, codes};
 ghost use Rattle.std.specs.List.{flat_map};
 ghost use Rattle.mpc_exact.specs.Rational.{ℚ, int};
 ghost use Rattle.mpc_linear.specs.Whole.{AreSmall, IsShared};
 ghost use Rattle.mpc_controller.specs.Parts.{row_count, limits_of};
 ghost use Rattle.mpc_controller.specs.Certificates.{IsCertOver, cell_rows};
-ghost use Rattle.mpc_file.specs.Reading.{Cursor, TakesLine, one_line, Outcome};
+ghost use Rattle.mpc_file.specs.Reading.{one_line, Outcome};
 ghost use Rattle.mpc_file.specs.PlantGrammar.{plain_rule};
 ghost use Rattle.mpc_file.specs.TreeGrammar.{IsPlane, IsCertLine, certs, IsWord, written_tree};
 ghost use Rattle.mpc_file.specs.TreeReading.{pair_fractions, ReadsPlane, ReadsLeaf, LeafOutcome, written_node_at, written_nodes, IsPlaneOf};
@@ -88,7 +88,11 @@ fn cert_of(alloc: Global, parts: &[Frac], rows: u64) -> Result<Option<Cert>, NoM
         last = place;
         left = rest;
     }
-    if left.is_empty() { Ok(Some(cert)) } else { Ok(None) }
+    if left.is_empty() {
+        Ok(Some(cert))
+    } else {
+        Ok(None)
+    }
 }
 
 /// The certificate over so many rows that a line states.

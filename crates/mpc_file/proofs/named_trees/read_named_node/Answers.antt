@@ -14,8 +14,8 @@ pub returns-after-used-k : goal.returns-after-used-k
 returns-after-used-k c =
     let most : c.if-used-k.used_then ≡ cond (nat_lt c.args.used c.in-Plane.k) c.in-Plane.k c.args.used =
     elim c.if-used-k.branch [
-    | then-used-k w ↦ next_used c.args.used c.in-Plane.k c.if-used-k.used_then w.if-used-k.true w.used_then-is
-    | else-used-k w ↦ same_used c.args.used c.in-Plane.k c.if-used-k.used_then w.if-used-k.false w.used_then-is
+      | then-used-k w ↦ next_used c.args.used c.in-Plane.k c.if-used-k.used_then w.if-used-k.true w.used_then-is
+      | else-used-k w ↦ same_used c.args.used c.in-Plane.k c.if-used-k.used_then w.if-used-k.false w.used_then-is
     ] in
     named_split_reads c.args.plant.now c.args.laws c.args.planes.now c.args.used c.args.depth c.args.lines.now c.take.new.self c.in_ok-line.line.now c.number-number.result c.number-number.ensures c.in_ok-line.ensures.taken
     c.in-Plane.k c.in_ok-row-in-Plane.row c.if-used-k.used_then (subst (λ n. NamesPlane n c.args.used c.in_ok-line.line.now c.in-Plane.k) c.len.ensures c.in-Plane.ensures) c.in_ok-row-in-Plane.ensures most

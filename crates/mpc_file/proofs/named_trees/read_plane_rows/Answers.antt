@@ -13,7 +13,7 @@ loop-i-init c =
     record {
       so_many = ap length c.new-planes.ensures;
       lines_are = no_lines c.new-before.result c.new-planes.result c.new-before.ensures c.new-planes.ensures;
-      reads = subst (λ rows. ReadsItems RowInt (λ before. one_line (plane_rule c.args.plant.now before)) (λ before. nat_lt (length before) c.args.count) c.args.lines.now rows c.args.lines.now) (sym c.new-planes.ensures) no_item
+      reads = subst (λ rows. ReadsItems RowInt (λ before. one_line (plane_rule c.args.plant.now before)) (λ before. nat_lt (length before) c.args.count) c.args.lines.now rows c.args.lines.now) (sym c.new-planes.ensures) no_item;
     }
 
 pub returns-in_err-plane : goal.returns-in_err-plane
@@ -29,5 +29,5 @@ loop-i-preserved c =
       lines_are = subst (AreLinesOf c.read_plane.new.before) (sym c.in_ok-push.ensures.ok) (c.in_ok-plane.ensures.before c.loop-i.planes c.loop-i.invariant.lines_are);
       reads = more_read (λ (before : List RowInt). one_line (plane_rule c.args.plant.now before)) (λ (before : List RowInt). nat_lt (length before) c.args.count) c.args.lines.now c.loop-i.lines c.read_plane.new.lines c.loop-i.planes c.push.new.self c.in_ok-plane.plane
           c.loop-i.invariant.reads (asks_for_more c.loop-i.planes c.args.count (subst (λ n. n < c.args.count) (sym c.loop-i.invariant.so_many) c.loop-i-test.true))
-          (c.in_ok-plane.ensures.read c.args.plant.now c.loop-i.planes (c.as_slice.ensures ∙ c.in_ok-counts.ensures) c.loop-i.invariant.lines_are) c.in_ok-push.ensures.ok
+          (c.in_ok-plane.ensures.read c.args.plant.now c.loop-i.planes (c.as_slice.ensures ∙ c.in_ok-counts.ensures) c.loop-i.invariant.lines_are) c.in_ok-push.ensures.ok;
     }

@@ -10,5 +10,5 @@ invariant-loop-i l =
     record {
       so_many : length l.planes ≡ l._i;
       lines_are : AreLinesOf l.before l.planes;
-      reads : ReadsItems RowInt (λ rows. one_line (plane_rule l.plant rows)) (λ rows. nat_lt (length rows) l.count) l.fn.lines l.planes l.lines
+      reads : ReadsItems RowInt (λ rows. one_line (plane_rule l.plant rows)) (λ rows. nat_lt (length rows) l.count) l.fn.lines l.planes l.lines;
     }

@@ -23,7 +23,7 @@ returns-then-is_zero-clause-is_cert c =
 pub push-requires : goal.push-requires
 push-requires c =
     record {
-      rises = pair_rises c.args.rows c.args.parts.now c.loop-left.left.now c.loop-left.cert c.loop-left.last c.loop-left.invariant c.in-Some.place c.multiplier-item.result c.in-Some.ensures.1 (λ e. false≢true (c.if-is_zero.ensures.value.1 e))
+      rises = pair_rises c.args.rows c.args.parts.now c.loop-left.left.now c.loop-left.cert c.loop-left.last c.loop-left.invariant c.in-Some.place c.multiplier-item.result c.in-Some.ensures.1 (λ e. false≢true (c.if-is_zero.ensures.value.1 e));
     }
 
 at : (c : In_ok-push) → c.loop-left.left.now ≡ c.position-item.result ∷ c.multiplier-item.result ∷ behind_two c.loop-left.left.now

@@ -9,5 +9,5 @@ abbrev pub invariant-loop-i : goal.invariant-loop-i
 invariant-loop-i l =
     record {
       so_many : length l.read ≡ l._i;
-      reads : ReadsItems (List (ℕ × ℚ)) (λ items. one_line (plain_rule (IsCertLine l.rows))) (λ items. nat_lt (length items) l.count) l.fn.lines l.read l.lines
+      reads : ReadsItems (List (ℕ × ℚ)) (λ items. one_line (plain_rule (IsCertLine l.rows))) (λ items. nat_lt (length items) l.count) l.fn.lines l.read l.lines;
     }

@@ -20,7 +20,7 @@ loop-z-preserved c =
     c.unsigned_abs.ensures.value ∙ ap (λ xs. unsigned_abs (to_z w128 (of_z w128 (get_or xs k (pos 0))))) c.as_slice-z-items.ensures ∙ ap unsigned_abs (read_back z small)
     in
     sharing_more row c.args.row.now.b k c.loop-z.shared c.loop-z.invariant z within (get_or_default row k (pos 0) z within) c.unsigned_abs.result size small
-        c.greatest_common_divisor-shared.result c.greatest_common_divisor-shared.ensures.value
+    c.greatest_common_divisor-shared.result c.greatest_common_divisor-shared.ensures.value
 
 pub returns : goal.returns
 returns c =
