@@ -14,8 +14,8 @@ use Rattle.mpc_controller.specs.Bounds.{SplitFits, KeepBounds, IsController}
 use Rattle.mpc_file.specs.declared.versions.Version.{Version}
 use Rattle.mpc_file.specs.declared.versions.Version.TheVariants.{One, Two, Three}
 use Rattle.mpc_file.specs.Reading.{Cursor, one_line}
-use Rattle.mpc_file.specs.LawGrammar.{NamedLaw, law_named, used_by}
-use Rattle.mpc_file.specs.TreeGrammar.{IsPlaneLine, NodeOver, split_node, law_node, no_move_node, written_split, written_node, plane_rule, planes, NamesPlane, planes_used, named_split, plane_named, named_node}
+use Rattle.mpc_file.specs.LawGrammar.{NamedLaw, law_named, used_by, written_laws, forms, named_laws}
+use Rattle.mpc_file.specs.TreeGrammar.{IsPlaneLine, NodeOver, split_node, law_node, no_move_node, written_split, written_node, plane_rule, planes, NamesPlane, planes_used, named_split, plane_named, named_node, written_tree, named_tree}
 use Rattle.mpc_file.specs.FileGrammar.{parts_with, written, named, parts_named, behind_plant, in_version, Spells}
 use Rattle.mpc_file.proofs.ManyLemmas.{all_items}
 use Rattle.mpc_file.proofs.Stability.{split_stable}
@@ -66,20 +66,28 @@ pub IsControllerOf : Plant → Parts → Type 0
 IsControllerOf plant parts = (parts.plant ≡ plant) × IsController parts.plant parts.laws parts.tree
 
 module _ (spells_split : SplitSpells) (spells_leaf : LeafSpells) where
-  written_is : (plant : Plant) (here : Cursor) (parts : Parts) (behind : Cursor) → (written plant).Reads here parts behind → IsController parts.plant parts.laws parts.tree
-  written_is plant here parts behind (laws, (b, (l, (tree, (c, ((u, (d, (t, (ns, (e, (n, is)))))), (v, (f, (w, g))))))))) =
+  pub written_parts : (plant : Plant) (here between behind : Cursor) (laws : List Law) (tree : List Node) → (written_laws plant).Reads here laws between → (written_tree plant (length laws)).Reads between tree behind → IsController plant laws tree
+  written_parts plant here between behind laws tree l (u, (d, (t, (ns, (e, (n, is)))))) =
       let good_nodes : GoodTree plant (length laws) (map (node_of (λ row. row)) ns) = good_tree spells_split spells_leaf plant (length laws) (λ row. row) (λ before. written_split plant) (λ before. written_well plant (length laws)) d ns e n in
       let tree_is : tree ≡ map (node_of (λ row. row)) ns = is.0 ∙ (λ i. map (λ x. written_nodes x i) ns) in
-      subst (λ (p : Parts). IsController p.plant p.laws p.tree) (sym g.0) (together plant laws tree (written_good plant here laws b l) (subst (GoodTree plant (length laws)) (sym tree_is) good_nodes))
+      together plant laws tree (written_good plant here laws between l) (subst (GoodTree plant (length laws)) (sym tree_is) good_nodes)
 
-  named_is : (plant : Plant) (here : Cursor) (parts : Parts) (behind : Cursor) → (named plant).Reads here parts behind → IsController parts.plant parts.laws parts.tree
-  named_is plant here parts behind (fs, (b, (f, (laws, (c, (l, (ps, (d, (p, (ns, (e, ((u, (h, (t, (nodes, (i, (n, is)))))), (v, (j, (w, g))))))))))))))) =
+  pub named_parts : (plant : Plant) (here b c d behind : Cursor) (fs : List (List ℚ)) (laws : List NamedLaw) (ps : List RowInt) (ns : List (NodeOver ℕ)) → (forms plant).Reads here fs b → (named_laws plant fs).Reads b laws c → (planes plant (length fs) (used_by laws)).Reads c ps d → (named_tree plant (length laws) ps).Reads d ns behind
+      → IsController plant (map (law_named plant fs) laws) (map (named_node ps) ns)
+  named_parts plant here b c d behind fs laws ps ns f l p (u, (h, (t, (nodes, (i, (n, is)))))) =
       let names = named_good plant here b fs laws c f l in
       let count : length (map (law_named plant fs) laws) ≡ length laws = length-map laws (law_named plant fs) in
       let good_nodes : GoodTree plant (length laws) (map (node_of (plane_named ps)) nodes) = good_tree spells_split spells_leaf plant (length laws) (plane_named ps) (λ before. named_split (length ps) (planes_used before)) (λ before. named_well plant (length laws) ps (planes_well plant (length fs) (used_by laws) c ps d p) (planes_used before)) h nodes i n in
       let tree_is : map (named_node ps) ns ≡ map (node_of (plane_named ps)) nodes = ap (map (named_node ps)) is.0 ∙ (λ k. map (λ x. named_nodes ps x k) nodes) in
-      subst (λ (q : Parts). IsController q.plant q.laws q.tree) (sym g.0)
-      (together plant (map (law_named plant fs) laws) (map (named_node ps) ns) names (subst (λ k. GoodTree plant k (map (named_node ps) ns)) (sym count) (subst (GoodTree plant (length laws)) (sym tree_is) good_nodes)))
+      together plant (map (law_named plant fs) laws) (map (named_node ps) ns) names (subst (λ k. GoodTree plant k (map (named_node ps) ns)) (sym count) (subst (GoodTree plant (length laws)) (sym tree_is) good_nodes))
+
+  written_is : (plant : Plant) (here : Cursor) (parts : Parts) (behind : Cursor) → (written plant).Reads here parts behind → IsController parts.plant parts.laws parts.tree
+  written_is plant here parts behind (laws, (b, (l, (tree, (c, (t, (v, (f, (w, g))))))))) =
+      subst (λ (p : Parts). IsController p.plant p.laws p.tree) (sym g.0) (written_parts plant here b c laws tree l t)
+
+  named_is : (plant : Plant) (here : Cursor) (parts : Parts) (behind : Cursor) → (named plant).Reads here parts behind → IsController parts.plant parts.laws parts.tree
+  named_is plant here parts behind (fs, (b, (f, (laws, (c, (l, (ps, (d, (p, (ns, (e, (t, (v, (j, (w, g))))))))))))))) =
+      subst (λ (q : Parts). IsController q.plant q.laws q.tree) (sym g.0) (named_parts plant here b c d e fs laws ps ns f l p t)
 
   pub stated_is : (version : Version) (here : Cursor) (parts : Parts) (behind : Cursor) → (in_version version).Reads here parts behind → IsController parts.plant parts.laws parts.tree
   stated_is One here parts behind (plant, (b, (p, h))) = written_is plant b parts behind h

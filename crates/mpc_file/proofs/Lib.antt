@@ -42,3 +42,4 @@ pub mod NamedReading
 pub mod PlaneLists
 pub mod LineSetLemmas
 pub mod NamedLemmas
+pub mod WholeReading
