@@ -1,22 +1,24 @@
 -- Forms of which no two are equal, and laws that name forms.
-use Rattle.std.proofs.Common.{◌≡◌, ◌≢◌, ℕ, ◌+◌, ◌-◌, ◌<◌, ◌≤◌, ◌⊎◌, ◌↔◌, List, [], ◌∷◌, ◌++◌, length, get_or, take, map, fold, codes, ltb, Result, Ok, Err, inl, inr, refl, sym, ap, ◌∙◌, subst, arith}
+use Rattle.std.proofs.Common.{◌≡◌, ◌≢◌, ℕ, ◌+◌, ◌-◌, ◌<◌, ◌≤◌, ◌⊎◌, ◌↔◌, List, [], ◌∷◌, ◌++◌, length, get_or, take, map, fold, codes, ltb, Option, Some, None, MatchOption, Result, Ok, Err, inl, inr, refl, sym, ap, ◌∙◌, subst, arith}
 use Rattle.std.specs.Prelude.{All, Contains}
-use Rattle.std.proofs.lemmas.List.{take_all, map-append}
+use Rattle.std.proofs.lemmas.List.{take_all, map-append, length-map}
 use Rattle.std.proofs.lemmas.List.Sums.{fold-append}
-use Rattle.std.proofs.lemmas.List.Elements.{All-more, Contains-append_left, Contains-push, Contains-push_cases}
+use Rattle.std.proofs.lemmas.List.Elements.{All-more, All-take, Contains-append_left, Contains-push, Contains-push_cases}
 use Rattle.mpc_exact.specs.Rational.{ℚ}
 use Rattle.mpc_plant.specs.declared.plants.Plant.{Plant}
 use Rattle.mpc_rows.specs.declared.laws.Law.{Law}
+use Rattle.mpc_controller.specs.Parts.{limits_of}
 use Rattle.mpc_controller.specs.Bounds.{FormFits}
 use Rattle.mpc_file.specs.Reading.{Cursor, ReadsItems, one_line, Outcome}
 use Rattle.mpc_file.specs.PlantGrammar.{AllFit, plain_rule}
 use Rattle.mpc_file.specs.Lines.{fractions_line}
-use Rattle.mpc_file.specs.LawGrammar.{IsForm, IsNewForm, form_named, NamedLaw, used_by, used_behind, named_law, named_laws, law_named, law_count, forms}
+use Rattle.mpc_file.specs.LawGrammar.{NameForms, AreFormNumbers, IsForm, IsNewForm, form_named, NamedLaw, used_by, used_behind, named_law, named_laws, law_named, law_count, forms}
 use Rattle.mpc_file.specs.FormLists.{NamesAll, HasLinesOf, IsReadLaw, ReadsLaw, AreReadLaws, ReadsLaws}
 use Rattle.mpc_file.specs.declared.errors.FileError.{FileError}
 use Rattle.mpc_file.specs.declared.errors.FileError.TheVariants.{Bad, NoMemory}
+use Rattle.mpc_file.proofs.SpellingLemmas.{at_some}
 use Rattle.mpc_file.proofs.ManyLemmas.{all_items}
-use Rattle.mpc_file.proofs.FormLemmas.{OneFractions, no_items, further, further_error, one_longer}
+use Rattle.mpc_file.proofs.FormLemmas.{at_none, named_all, OneFractions, no_items, further, further_error, one_longer}
 
 -- ---- forms of which no two are equal
 module _ (n : ℕ) (known : List (List ℕ)) (before : List (List ℚ)) (has : HasLinesOf known before) (text : List ℕ) where
@@ -89,3 +91,22 @@ module _ (plant : Plant) (fs : List (List ℚ)) (count : ℕ) (here : Cursor) wh
   law_error between behind end laws used counter (Bad kind number) before some h start counted =
       inr (count, (here, (counted, further_error (λ (before : List NamedLaw). named_law plant fs (used_by before)) count here between behind end before.named counter (Bad kind number) before.so_far before.so_many some (subst (λ u. (named_law plant fs u).Fails between kind number) before.used_is h))))
   law_error between behind end laws used counter NoMemory before some h start counted = tt
+
+-- ---- the numbers of a law's lines
+pub first_named : (all used p : ℕ) (numbers slice : List ℕ) → slice ≡ numbers → NameForms all used numbers → NamesAll all (take p slice)
+first_named all used p numbers slice e h =
+    All-take (λ k. (1 ≤ k) × (k ≤ all)) p slice (subst (NamesAll all) (sym e) (named_all all used numbers h))
+
+pub as_many_counts : (plant : Plant) (counts : List ℕ) (fs : List (List ℚ)) → counts ≡ limits_of plant → All (λ form. length form ≡ plant.n + 1) fs → All (λ form. length form ≡ length counts + 1) fs
+as_many_counts plant counts fs e h =
+    let size : length counts ≡ plant.n = ap length e ∙ length-map plant.grid (λ axis. axis.count) ∙ plant.is_plant.grid_size in
+    subst (λ n. All (λ form. length form ≡ n + 1) fs) (sym size) h
+
+module _ (name text : List ℕ) (all used count : ℕ) (fs : List (List ℚ)) (found : Option (List ℕ)) (e : all ≡ length fs) (h : MatchOption found ((numbers : List ℕ) → ¬ AreFormNumbers name all used count text numbers) (λ numbers. AreFormNumbers name all used count text numbers)) where
+  pub are_read : (numbers : List ℕ) → found ≡ Some numbers → AreFormNumbers name (length fs) used count text numbers
+  are_read numbers is =
+      subst (λ a. AreFormNumbers name a used count text numbers) e (at_some ((s : List ℕ) → ¬ AreFormNumbers name all used count text s) (λ s. AreFormNumbers name all used count text s) found numbers is h)
+
+  pub none_are_read : found ≡ None → (numbers : List ℕ) → ¬ AreFormNumbers name (length fs) used count text numbers
+  none_are_read is numbers are =
+      at_none ((s : List ℕ) → ¬ AreFormNumbers name all used count text s) (λ s. AreFormNumbers name all used count text s) found is h numbers (subst (λ a. AreFormNumbers name a used count text numbers) (sym e) are)
