@@ -1,10 +1,12 @@
 -- Forms of which no two are equal, and laws that name forms.
-use Rattle.std.proofs.Common.{◌≡◌, ◌≢◌, ℕ, ◌+◌, ◌-◌, ◌<◌, ◌≤◌, ◌⊎◌, ◌↔◌, List, [], ◌∷◌, ◌++◌, length, get_or, take, map, fold, codes, ltb, Option, Some, None, MatchOption, Result, Ok, Err, inl, inr, refl, sym, ap, ◌∙◌, subst, arith}
+use Rattle.std.proofs.Common.{◌≡◌, ◌≢◌, ℕ, ◌+◌, ◌-◌, ◌<◌, ◌≤◌, ◌⊎◌, ◌↔◌, List, [], ◌∷◌, ◌++◌, length, get_or, take, map, fold, codes, ltb, Option, Some, None, MatchOption, Result, Ok, Err, inl, inr, refl, sym, ap, ◌∙◌, subst, arith, ◌^◌}
 use Rattle.std.specs.Prelude.{All, Contains}
+use Rattle.std.specs.Result.{IsErrAnd}
 use Rattle.std.proofs.lemmas.List.{take_all, map-append, length-map}
 use Rattle.std.proofs.lemmas.List.Sums.{fold-append}
-use Rattle.std.proofs.lemmas.List.Elements.{All-more, All-take, Contains-append_left, Contains-push, Contains-push_cases}
+use Rattle.std.proofs.lemmas.List.Elements.{All-nil, All-more, All-take, Contains-append_left, Contains-push, Contains-push_cases}
 use Rattle.mpc_exact.specs.Rational.{ℚ}
+use Rattle.mpc_space.specs.Matrix.{RationalMatrix}
 use Rattle.mpc_plant.specs.declared.plants.Plant.{Plant}
 use Rattle.mpc_rows.specs.declared.laws.Law.{Law}
 use Rattle.mpc_controller.specs.Parts.{limits_of}
@@ -12,11 +14,12 @@ use Rattle.mpc_controller.specs.Bounds.{FormFits}
 use Rattle.mpc_file.specs.Reading.{Cursor, ReadsItems, one_line, Outcome}
 use Rattle.mpc_file.specs.PlantGrammar.{AllFit, plain_rule}
 use Rattle.mpc_file.specs.Lines.{fractions_line}
-use Rattle.mpc_file.specs.LawGrammar.{NameForms, AreFormNumbers, IsForm, IsNewForm, form_named, NamedLaw, used_by, used_behind, named_law, named_laws, law_named, law_count, forms}
-use Rattle.mpc_file.specs.FormLists.{NamesAll, HasLinesOf, IsReadLaw, ReadsLaw, AreReadLaws, ReadsLaws}
+use Rattle.mpc_file.specs.LawGrammar.{unknowns, IsLawLine, NameForms, AreFormNumbers, named_moves_rule, named_mults, IsForm, IsNewForm, form_named, NamedLaw, used_by, used_behind, named_law, named_laws, law_named, law_count, forms}
+use Rattle.mpc_file.specs.FormLists.{matrix_with, NamesAll, HasLinesOf, IsReadLaw, ReadsLaw, AreReadLaws, ReadsLaws}
 use Rattle.mpc_file.specs.declared.errors.FileError.{FileError}
 use Rattle.mpc_file.specs.declared.errors.FileError.TheVariants.{Bad, NoMemory}
 use Rattle.mpc_file.proofs.SpellingLemmas.{at_some}
+use Rattle.mpc_file.proofs.OutcomeLemmas.{asks_no_more}
 use Rattle.mpc_file.proofs.ManyLemmas.{all_items}
 use Rattle.mpc_file.proofs.FormLemmas.{at_none, named_all, OneFractions, no_items, further, further_error, one_longer}
 
@@ -110,3 +113,80 @@ module _ (name text : List ℕ) (all used count : ℕ) (fs : List (List ℚ)) (f
   pub none_are_read : found ≡ None → (numbers : List ℕ) → ¬ AreFormNumbers name (length fs) used count text numbers
   none_are_read is numbers are =
       at_none ((s : List ℕ) → ¬ AreFormNumbers name all used count text s) (λ s. AreFormNumbers name all used count text s) found is h numbers (subst (λ a. AreFormNumbers name a used count text numbers) (sym e) are)
+
+-- ---- one law
+module _ (plant : Plant) (fs : List (List ℚ)) where
+  pub named_by_moves : (used : ℕ) (here behind : Cursor) (zs slice : List ℕ) → slice ≡ zs → (one_line (named_moves_rule plant fs used)).Reads here zs behind → NamesAll (length fs) slice
+  named_by_moves used here behind zs slice e h = subst (NamesAll (length fs)) (sym e) (named_all (length fs) used zs h.1.1.0.name_forms)
+
+  pub moves_short : (used : ℕ) (here behind : Cursor) (zs slice : List ℕ) → slice ≡ zs → (one_line (named_moves_rule plant fs used)).Reads here zs behind → length slice < 2 ^ 32
+  moves_short used here behind zs slice e h =
+      let size : length slice ≡ unknowns plant = ap length e ∙ h.1.1.0.size in
+      omega (arith, size, plant.is_plant.moves_few)
+
+  named_by_numbers : (used : ℕ) (here behind : Cursor) (set ls : List ℕ) → (named_mults fs used set).Reads here ls behind → NamesAll (length fs) ls
+  named_by_numbers used here behind [] ls h = subst (NamesAll (length fs)) (sym h.0) (All-nil (λ k. (1 ≤ k) × (k ≤ length fs)))
+  named_by_numbers used here behind (i ∷ set) ls h = named_all (length fs) used ls h.1.1.0.name_forms
+
+  pub named_by_mults : (used : ℕ) (here behind : Cursor) (set ls slice : List ℕ) → slice ≡ ls → (named_mults fs used set).Reads here ls behind → NamesAll (length fs) slice
+  named_by_mults used here behind set ls slice e h = subst (NamesAll (length fs)) (sym e) (named_by_numbers used here behind set ls h)
+
+  as_many : (used : ℕ) (here behind : Cursor) (set ls : List ℕ) → (named_mults fs used set).Reads here ls behind → length ls ≡ length set
+  as_many used here behind [] ls h = ap length h.0
+  as_many used here behind (i ∷ set) ls h = h.1.1.0.size
+
+  pub mults_short : (used : ℕ) (start here behind : Cursor) (set ls slice : List ℕ) → slice ≡ ls → (one_line (plain_rule (IsLawLine plant))).Reads start set here → (between : Cursor) → (named_mults fs used set).Reads between ls behind → length slice < 2 ^ 32
+  mults_short used start here behind set ls slice e first between h =
+      let size : length slice ≡ length set = ap length e ∙ as_many used between behind set ls h in
+      let few : length set ≤ unknowns plant = first.1.1.0.few in
+      omega (arith, size, few, plant.is_plant.moves_few)
+
+  pub law_passed_on : (used : ℕ) (here end : Cursor) (r : Result (Law × ℕ) FileError) (error : FileError) → IsErrAnd r (λ e. e ≡ error) → ReadsLaw plant fs used here end (Err error) → ReadsLaw plant fs used here end r
+  law_passed_on used here end (Ok x) error e h = absurd e
+  law_passed_on used here end (Err told) error e h = subst (λ x. ReadsLaw plant fs used here end (Err x)) (sym e) h
+
+  pub laws_passed_on : (here end : Cursor) (r : Result (List Law × ℕ) FileError) (error : FileError) → IsErrAnd r (λ e. e ≡ error) → ReadsLaws plant fs here end (Err error) → ReadsLaws plant fs here end r
+  laws_passed_on here end (Ok x) error e h = absurd e
+  laws_passed_on here end (Err told) error e h = subst (λ x. ReadsLaws plant fs here end (Err x)) (sym e) h
+
+  pub law_count_error : (here between end : Cursor) (error : FileError) → Outcome law_count here between (Err error) → ReadsLaws plant fs here end (Err error)
+  law_count_error here between end (Bad kind number) h = inl h
+  law_count_error here between end NoMemory h = tt
+
+  pub laws_read : (start here between : Cursor) (count : ℕ) (laws : List Law) (used counter : ℕ) → law_count.Reads start count here → IsReadSoFar plant fs count here between laws used counter → count ≤ counter → AreReadLaws plant fs start between laws used
+  laws_read start here between count laws used counter counted before enough = record {
+    named = before.named;
+    reads = (count, (here, (counted, (before.so_far, asks_no_more before.named count (omega (arith, before.so_many, enough))))));
+    laws_are = before.laws_are;
+    used_is = before.used_is;
+  }
+
+  pub set_error : (used : ℕ) (here between end : Cursor) (error : FileError) → Outcome (one_line (plain_rule (IsLawLine plant))) here between (Err error) → ReadsLaw plant fs used here end (Err error)
+  set_error used here between end (Bad kind number) h = inl h
+  set_error used here between end NoMemory h = tt
+
+  module _ (used : ℕ) (here between : Cursor) (members : List ℕ) (first : (one_line (plain_rule (IsLawLine plant))).Reads here members between) where
+    pub named_moves_error : (behind end : Cursor) (error : FileError) → Outcome (one_line (named_moves_rule plant fs used)) between behind (Err error) → ReadsLaw plant fs used here end (Err error)
+    named_moves_error behind end (Bad kind number) h = inr (members, (between, (first, inl h)))
+    named_moves_error behind end NoMemory h = tt
+
+    module _ (beyond : Cursor) (zs slice : List ℕ) (then_used : ℕ) (second : (one_line (named_moves_rule plant fs used)).Reads between zs beyond) (same : slice ≡ zs) (used_is : then_used ≡ used_behind used slice) where
+      now_used : then_used ≡ used_behind used zs
+      now_used = used_is ∙ ap (used_behind used) same
+
+      pub named_mults_error : (behind end : Cursor) (error : FileError) → Outcome (named_mults fs then_used members) beyond behind (Err error) → ReadsLaw plant fs used here end (Err error)
+      named_mults_error behind end (Bad kind number) h = inr (members, (between, (first, inr (zs, (beyond, (second, inl (subst (λ u. (named_mults fs u members).Fails beyond kind number) now_used h)))))))
+      named_mults_error behind end NoMemory h = tt
+
+      pub one_law_read : (behind : Cursor) (ls others moves_slice mults_slice : List ℕ) (at_last : ℕ) (m l : RationalMatrix) → (named_mults fs then_used members).Reads beyond ls behind → others ≡ ls → at_last ≡ used_behind then_used others
+          → moves_slice ≡ zs → m ≡ matrix_with (map (form_named fs) moves_slice) (plant.n + 1) → mults_slice ≡ ls → l ≡ matrix_with (map (form_named fs) mults_slice) (plant.n + 1)
+          → IsReadLaw plant fs used here behind (record { set = members; moves = m; mults = l }) at_last
+      one_law_read behind ls others moves_slice mults_slice at_last m l third same_others last_is same_moves m_is same_mults l_is =
+          let moves_are : m ≡ matrix_with (map (form_named fs) zs) (plant.n + 1) = m_is ∙ ap (λ ks. matrix_with (map (form_named fs) ks) (plant.n + 1)) same_moves in
+          let mults_are : l ≡ matrix_with (map (form_named fs) ls) (plant.n + 1) = l_is ∙ ap (λ ks. matrix_with (map (form_named fs) ks) (plant.n + 1)) same_mults in
+          record {
+            named = record { set = members; moves = zs; mults = ls };
+            reads = (members, (between, (first, (zs, (beyond, (second, (ls, (behind, (subst (λ u. (named_mults fs u members).Reads beyond ls behind) now_used third, (refl, refl))))))))));
+            law_is = λ i. record { set = members; moves = moves_are i; mults = mults_are i };
+            used_is = last_is ∙ (λ i. used_behind (now_used i) (same_others i));
+          }
