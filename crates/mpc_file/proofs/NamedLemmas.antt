@@ -1,20 +1,19 @@
 -- Forms of which no two are equal, and laws that name forms.
-use Rattle.std.proofs.Common.{◌≡◌, ◌≢◌, ℕ, ◌+◌, ◌-◌, ◌<◌, ◌≤◌, ◌⊎◌, ◌↔◌, List, [], ◌∷◌, ◌++◌, length, get_or, take, map, fold, codes, ltb, Option, Some, None, MatchOption, Result, Ok, Err, inl, inr, refl, sym, ap, ◌∙◌, subst, arith, ◌^◌}
+use Rattle.std.proofs.Common.{◌≡◌, ℕ, ◌+◌, ◌<◌, ◌≤◌, ◌⊎◌, ◌↔◌, List, [], ◌∷◌, ◌++◌, length, take, map, codes, ltb, Option, Some, None, MatchOption, Result, Ok, Err, inl, inr, refl, sym, ap, ◌∙◌, subst, arith, ◌^◌}
 use Rattle.std.specs.Prelude.{All, Contains}
 use Rattle.std.specs.Result.{IsErrAnd}
-use Rattle.std.proofs.lemmas.List.{take_all, map-append, length-map}
+use Rattle.std.proofs.lemmas.List.{map-append, length-map}
 use Rattle.std.proofs.lemmas.List.Sums.{fold-append}
-use Rattle.std.proofs.lemmas.List.Elements.{All-nil, All-more, All-take, Contains-append_left, Contains-push, Contains-push_cases}
+use Rattle.std.proofs.lemmas.List.Elements.{All-nil, All-take, Contains-append_left, Contains-push, Contains-push_cases}
 use Rattle.mpc_exact.specs.Rational.{ℚ}
 use Rattle.mpc_space.specs.Matrix.{RationalMatrix}
 use Rattle.mpc_plant.specs.declared.plants.Plant.{Plant}
 use Rattle.mpc_rows.specs.declared.laws.Law.{Law}
 use Rattle.mpc_controller.specs.Parts.{limits_of}
-use Rattle.mpc_controller.specs.Bounds.{FormFits}
 use Rattle.mpc_file.specs.Reading.{Cursor, ReadsItems, one_line, Outcome}
 use Rattle.mpc_file.specs.PlantGrammar.{AllFit, plain_rule}
 use Rattle.mpc_file.specs.Lines.{fractions_line}
-use Rattle.mpc_file.specs.LawGrammar.{unknowns, IsLawLine, NameForms, AreFormNumbers, named_moves_rule, named_mults, IsForm, IsNewForm, form_named, NamedLaw, used_by, used_behind, named_law, named_laws, law_named, law_count, forms}
+use Rattle.mpc_file.specs.LawGrammar.{unknowns, IsLawLine, NameForms, AreFormNumbers, named_moves_rule, named_mults, IsForm, IsNewForm, form_named, NamedLaw, used_by, used_behind, named_law, law_named, law_count}
 use Rattle.mpc_file.specs.FormLists.{matrix_with, NamesAll, HasLinesOf, IsReadLaw, ReadsLaw, AreReadLaws, ReadsLaws}
 use Rattle.mpc_file.specs.declared.errors.FileError.{FileError}
 use Rattle.mpc_file.specs.declared.errors.FileError.TheVariants.{Bad, NoMemory}

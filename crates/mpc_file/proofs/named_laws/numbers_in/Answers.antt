@@ -1,4 +1,4 @@
-use Rattle.std.proofs.Common.{List, ℤ, arith, sym, ◌∙◌}
+use Rattle.std.proofs.Common.{List, ℤ, sym, ◌∙◌}
 use Rattle.mpc_file.specs.Spelling.{AreIntegers}
 use Rattle.mpc_file.proofs.SpellingLemmas.{at_some}
 use Rattle.mpc_file.proofs.FormLemmas.{at_none, no_form_integers, wrong_count, numbers_read}

@@ -1,4 +1,3 @@
-use Rattle.std.proofs.Common.{◌≡◌, ltb, List, length}
 use Rattle.mpc_file.proofs.NamedLemmas.{IsReadSoFar}
 use Rattle.mpc_file.proofs.named_laws.read_named_laws.Given as goal
 

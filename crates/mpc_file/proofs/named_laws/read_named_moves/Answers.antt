@@ -1,6 +1,5 @@
 use Rattle.std.proofs.Common.{length, take, codes, sym, ◌∙◌, subst}
 use Rattle.std.specs.Prelude.{All}
-use Rattle.std.proofs.lemmas.List.Elements.{All-take}
 use Rattle.std.proofs.lemmas.Bool.{false≢true}
 use Rattle.mpc_controller.specs.Parts.{limits_of}
 use Rattle.mpc_controller.specs.Bounds.{FormFits}
