@@ -4,9 +4,8 @@ use Rattle.mpc_controller.specs.Parts.{Parts}
 use Rattle.mpc_file.specs.declared.errors.FileKind.{FileKind}
 use Rattle.mpc_file.specs.FileGrammar.{FailsAt, IsSpelled}
 use Rattle.mpc_file.specs.TextLaws.{OneController, SpelledNeverFails, OneLine, OneReason}
-use Rattle.mpc_check.specs.Findings.{Finding}
 use Rattle.mpc_check.specs.Acceptance.{Accepts, IsFound, NothingFound, OneFinding}
-use Rattle.mpc_files.specs.FileOutcomes.{FileReading, fails, spells, FileOutcome, bad_file, finds, accepted, OneFileReading, OneFileOutcome}
+use Rattle.mpc_files.specs.FileOutcomes.{fails, spells, bad_file, finds, accepted, OneFileReading, OneFileOutcome}
 
 -- the laws of texts
 pub record ReadingLaws : Type 0 where

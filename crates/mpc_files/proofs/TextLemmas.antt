@@ -1,6 +1,5 @@
 -- For given bytes there is one text of replies and one text in version 3.
-use Rattle.std.proofs.Common.{◌≡◌, ℕ, ◌^◌, ◌<◌, List, length, subst}
-use Rattle.mpc_controller.specs.Parts.{Parts}
+use Rattle.std.proofs.Common.{◌≡◌, subst}
 use Rattle.mpc_file.specs.declared.versions.Version.TheVariants.{Three}
 use Rattle.mpc_file.specs.FileGrammar.{Spells}
 use Rattle.mpc_file.specs.TextLaws.{OneController, OneText as OneFileText}
