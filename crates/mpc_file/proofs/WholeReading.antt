@@ -12,7 +12,8 @@ use Rattle.mpc_file.specs.declared.errors.FileError.{FileError}
 use Rattle.mpc_file.specs.Reading.{Cursor, Grammar, Outcome, one_line, give, ◌>>=◌}
 use Rattle.mpc_file.specs.PlantGrammar.{plain_rule}
 use Rattle.mpc_file.specs.LawGrammar.{written_laws, forms, NamedLaw, named_laws, used_by}
-use Rattle.mpc_file.specs.TreeGrammar.{IsWord, NodeOver, written_tree, planes, planes_used, named_tree}
+use Rattle.mpc_file.specs.TreeGrammar.{IsWord, NodeOver, written_tree, planes, planes_used, named_tree, named_node}
+use Rattle.mpc_file.specs.TreeReading.{named_tree_nodes}
 use Rattle.mpc_file.specs.FileGrammar.{written, named, IsEnd}
 use Rattle.mpc_file.proofs.OutcomeLemmas.{error_from}
 
@@ -62,3 +63,18 @@ module _ (plant : Plant) (here b : Cursor) (fs : List (List ℚ)) (read_forms : 
 
         pub last_read : (u : Unit {0}) (end : Cursor) → (one_line (plain_rule (IsEnd most splits))).Reads e u end → (one_line (plain_rule (IsEnd (length ps) (planes_used ns)))).Reads e u end
         last_read u end f = end_is (λ m n. (one_line (plain_rule (IsEnd m n))).Reads e u end) f
+
+-- ---- the nodes with the rows of their splits
+pub record NodesRead (plant : Plant) (count : ℕ) (ps : List RowInt) (d e : Cursor) (tree : List Node) (splits : ℕ) : Type 0 where
+  pub ns : List (NodeOver ℕ)
+  pub reads : (named_tree plant count ps).Reads d ns e
+  pub tree_is : tree ≡ map (named_node ps) ns
+  pub splits_is : splits ≡ planes_used ns
+
+pub nodes_of : (plant : Plant) (count : ℕ) (ps : List RowInt) (d e : Cursor) (tree : List Node) (splits : ℕ) → (named_tree_nodes plant count ps).Reads d (tree, splits) e → NodesRead plant count ps d e tree splits
+nodes_of plant count ps d e tree splits (ns, (m, (r, (p, q)))) =
+    record { ns = ns; reads = subst (λ x. (named_tree plant count ps).Reads d ns x) (sym q) r; tree_is = ap (λ z. z.0) p; splits_is = ap (λ z. z.1) p }
+
+pub none_behind : (plant : Plant) (count : ℕ) (ps : List RowInt) (d : Cursor) (kind : FileKind) (number : ℕ) → (named_tree_nodes plant count ps).Fails d kind number → (named_tree plant count ps).Fails d kind number
+none_behind plant count ps d kind number (inl f) = f
+none_behind plant count ps d kind number (inr (ns, (m, (r, h)))) = absurd h
