@@ -59,7 +59,7 @@ together : (plant : Plant) (laws : List Law) (tree : List Node) → GoodLaws pla
 together plant laws tree ls ns =
     record {
       shapes = record { laws_few = ls.few; laws_fit = ls.shapes; nodes_fit = ns.nodes_fit; complete = ns.complete; certs_fit = ns.certs_fit };
-      bounds = record { laws_fit = ls.bounds; nodes_fit = ns.bounds }
+      bounds = record { laws_fit = ls.bounds; nodes_fit = ns.bounds };
     }
 
 pub IsControllerOf : Plant → Parts → Type 0

@@ -86,7 +86,7 @@ written_good plant here laws behind (count, (b, (s, h))) =
     record {
       few = omega (arith, just_so_many Law (λ before. written_law plant) count b laws behind h, s.1.1.0.few);
       shapes = all_items Law (λ before. written_law plant) (λ before. nat_lt (length before) count) (IsLawFor plant) (λ before b x c more reads. written_shape plant b x c reads) b laws behind h.0;
-      bounds = all_items Law (λ before. written_law plant) (λ before. nat_lt (length before) count) (LawFits plant) (λ before b x c more reads. written_bounds plant b x c reads) b laws behind h.0
+      bounds = all_items Law (λ before. written_law plant) (λ before. nat_lt (length before) count) (LawFits plant) (λ before b x c more reads. written_bounds plant b x c reads) b laws behind h.0;
     }
 
 -- ---- laws whose forms are named
@@ -120,10 +120,10 @@ module _ (plant : Plant) (fs : List (List ℚ)) (each : All (HasSize plant.n) fs
       let stable : All (λ k. FormFits (limits_of plant) (form_named fs k)) (take plant.p zs) = all_stable (λ k. FormFits (limits_of plant) (form_named fs k)) 0 (λ k. form_stable (limits_of plant) (form_named fs k)) (take plant.p zs) m.1.1.1 in
       let size : length zs ≡ unknowns plant = m.1.1.0.size in
       subst (λ w. LawFits plant (law_named plant fs w)) (sym e.0) (λ i first.
-        let within : i < length zs = omega (arith, size, inputs_few plant, first) in
-        let taken : i < length (take plant.p zs) = omega (arith, length-take plant.p zs, within, first) in
-        let one : FormFits (limits_of plant) (form_named fs (get_or (take plant.p zs) i 0)) = All-get_or (λ k. FormFits (limits_of plant) (form_named fs k)) (take plant.p zs) i 0 taken stable in
-        subst (FormFits (limits_of plant)) (ap (form_named fs) (get_or-take plant.p zs i 0 first) ∙ sym (get_or-map (form_named fs) zs i 0 [] within)) one)
+      let within : i < length zs = omega (arith, size, inputs_few plant, first) in
+      let taken : i < length (take plant.p zs) = omega (arith, length-take plant.p zs, within, first) in
+      let one : FormFits (limits_of plant) (form_named fs (get_or (take plant.p zs) i 0)) = All-get_or (λ k. FormFits (limits_of plant) (form_named fs k)) (take plant.p zs) i 0 taken stable in
+      subst (FormFits (limits_of plant)) (ap (form_named fs) (get_or-take plant.p zs i 0 first) ∙ sym (get_or-map (form_named fs) zs i 0 [] within)) one)
 
 pub named_good : (plant : Plant) (here between : Cursor) (fs : List (List ℚ)) (laws : List NamedLaw) (behind : Cursor) → (forms plant).Reads here fs between → (named_laws plant fs).Reads between laws behind → GoodLaws plant (map (law_named plant fs) laws)
 named_good plant here between fs laws behind f (count, (b, (s, h))) =
@@ -131,5 +131,5 @@ named_good plant here between fs laws behind f (count, (b, (s, h))) =
     record {
       few = omega (arith, length-map laws (law_named plant fs), just_so_many NamedLaw (λ before. named_law plant fs (used_by before)) count b laws behind h, s.1.1.0.few);
       shapes = All-map (IsLawFor plant) (law_named plant fs) laws (all_items NamedLaw (λ before. named_law plant fs (used_by before)) (λ before. nat_lt (length before) count) (λ w. IsLawFor plant (law_named plant fs w)) (λ before b x c more reads. named_shape plant fs sizes (used_by before) b x c reads) b laws behind h.0);
-      bounds = All-map (LawFits plant) (law_named plant fs) laws (all_items NamedLaw (λ before. named_law plant fs (used_by before)) (λ before. nat_lt (length before) count) (λ w. LawFits plant (law_named plant fs w)) (λ before b x c more reads. named_bounds plant fs sizes (used_by before) b x c reads) b laws behind h.0)
+      bounds = All-map (LawFits plant) (law_named plant fs) laws (all_items NamedLaw (λ before. named_law plant fs (used_by before)) (λ before. nat_lt (length before) count) (λ w. LawFits plant (law_named plant fs w)) (λ before b x c more reads. named_bounds plant fs sizes (used_by before) b x c reads) b laws behind h.0);
     }

@@ -20,9 +20,9 @@ form_stable counts form h =
     record {
       whole = record {
         denom = below (common_denom form) (2 ^ 127) (λ no. h (λ (f : FormFits counts form). no f.whole.denom));
-        numers = all_stable (λ x. unsigned_abs (scaled (common_denom form) x) < 2 ^ 127) (int (pos 0)) (λ x. below (unsigned_abs (scaled (common_denom form) x)) (2 ^ 127)) form (λ no. h (λ (f : FormFits counts form). no f.whole.numers))
+        numers = all_stable (λ x. unsigned_abs (scaled (common_denom form) x) < 2 ^ 127) (int (pos 0)) (λ x. below (unsigned_abs (scaled (common_denom form) x)) (2 ^ 127)) form (λ no. h (λ (f : FormFits counts form). no f.whole.numers));
       };
-      reach_fits = below _ (2 ^ 127) (λ no. h (λ (f : FormFits counts form). no f.reach_fits))
+      reach_fits = below _ (2 ^ 127) (λ no. h (λ (f : FormFits counts form). no f.reach_fits));
     }
 
 pub split_stable : (counts : List ℕ) (row : RowInt) → ¬ (¬ SplitFits counts row) → SplitFits counts row

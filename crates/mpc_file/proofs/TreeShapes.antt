@@ -41,7 +41,7 @@ law_certs : (n m depth : ℕ) (here : Cursor) (cs : List (List (ℕ × ℚ))) (b
 law_certs n m depth here cs behind h =
     record {
       one_each = just_so_many (List (ℕ × ℚ)) (λ before. one_line (plain_rule (IsCertLine (cell_rows n depth + 1)))) m here cs behind h;
-      each = all_items (List (ℕ × ℚ)) (λ before. one_line (plain_rule (IsCertLine (cell_rows n depth + 1)))) (λ before. nat_lt (length before) m) (IsCertOver (cell_rows n depth + 1)) (λ before b x c more reads. reads.1.1.0.cert_is) here cs behind h.0
+      each = all_items (List (ℕ × ℚ)) (λ before. one_line (plain_rule (IsCertLine (cell_rows n depth + 1)))) (λ before. nat_lt (length before) m) (IsCertOver (cell_rows n depth + 1)) (λ before b x c more reads. reads.1.1.0.cert_is) here cs behind h.0;
     }
 
 -- the nodes of a tree whose splits have these rows
@@ -80,17 +80,17 @@ module _ (spells_split : SplitSpells) (spells_leaf : LeafSpells) {Row : Type 0} 
   step read (split_node row) depth depths before cert =
       record {
         spelled = spells_split 1 read (length depths) (row_of row) before.spelled;
-        certified = λ tail h. subst (HaveCerts n m (0 ∷ [])) (sym (append_assoc read (Split (row_of row) ∷ []) tail)) (before.certified (Split (row_of row) ∷ tail) h)
+        certified = λ tail h. subst (HaveCerts n m (0 ∷ [])) (sym (append_assoc read (Split (row_of row) ∷ []) tail)) (before.certified (Split (row_of row) ∷ tail) h);
       }
   step read (law_node j cs) depth depths before cert =
       record {
         spelled = spells_leaf 1 read (length depths) (Law j cs) tt before.spelled;
-        certified = λ tail h. subst (HaveCerts n m (0 ∷ [])) (sym (append_assoc read (Law j cs ∷ []) tail)) (before.certified (Law j cs ∷ tail) (cert, h))
+        certified = λ tail h. subst (HaveCerts n m (0 ∷ [])) (sym (append_assoc read (Law j cs ∷ []) tail)) (before.certified (Law j cs ∷ tail) (cert, h));
       }
   step read (no_move_node c) depth depths before cert =
       record {
         spelled = spells_leaf 1 read (length depths) (NoMove c) tt before.spelled;
-        certified = λ tail h. subst (HaveCerts n m (0 ∷ [])) (sym (append_assoc read (NoMove c ∷ []) tail)) (before.certified (NoMove c ∷ tail) (cert, h))
+        certified = λ tail h. subst (HaveCerts n m (0 ∷ [])) (sym (append_assoc read (NoMove c ∷ []) tail)) (before.certified (NoMove c ∷ tail) (cert, h));
       }
 
   step_at : (read : List Node) (x : NodeOver Row) (depths : List ℕ) → IsTrue (is_owed depths) → SoFar n m read depths → CertsOf n m (next_depth depths) (node_of row_of x) → SoFar n m (read ++ node_of row_of x ∷ []) (owed_behind x depths)
@@ -132,5 +132,5 @@ module _ (spells_split : SplitSpells) (spells_leaf : LeafSpells) {Row : Type 0} 
         nodes_fit = All-map (IsNodeFor plant.n laws) (node_of row_of) read (all_items (NodeOver Row) (λ before. node_at plant laws (split before) (next_depth (owed before))) (λ before. is_owed (owed before)) (λ x. IsNodeFor plant.n laws (node_of row_of x)) (λ before b x c more reads. (good_node plant laws row_of (split before) (well before) (next_depth (owed before)) b x c reads).fits) here read behind h.0);
         bounds = All-map (NodeFits (limits_of plant)) (node_of row_of) read (all_items (NodeOver Row) (λ before. node_at plant laws (split before) (next_depth (owed before))) (λ before. is_owed (owed before)) (λ x. NodeFits (limits_of plant) (node_of row_of x)) (λ before b x c more reads. (good_node plant laws row_of (split before) (well before) (next_depth (owed before)) b x c reads).bound) here read behind h.0);
         complete = all.0;
-        certs_fit = all.1
+        certs_fit = all.1;
       }

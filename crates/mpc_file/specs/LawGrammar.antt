@@ -36,7 +36,7 @@ move_rule plant index =
     record {
       States = IsForm (codes "move") plant.n;
       IsNoNode = λ text. ⊥;
-      IsOver = λ form. (index < plant.p) × (¬ FormFits (limits_of plant) form)
+      IsOver = λ form. (index < plant.p) × (¬ FormFits (limits_of plant) form);
     }
 
 abbrev pub moves : Plant → Grammar (List (List ℚ))
@@ -106,7 +106,7 @@ named_moves_rule plant fs used =
     record {
       States = AreFormNumbers (codes "move") (length fs) used (unknowns plant);
       IsNoNode = λ text. ⊥;
-      IsOver = λ numbers. ¬ All (λ k. FormFits (limits_of plant) (form_named fs k)) (take plant.p numbers)
+      IsOver = λ numbers. ¬ All (λ k. FormFits (limits_of plant) (form_named fs k)) (take plant.p numbers);
     }
 
 -- a law of the empty set has no line of multipliers

@@ -62,7 +62,7 @@ abbrev pub ◌>>=◌ : {X Y : Type 0} → Grammar X → (X → Grammar Y) → Gr
 ◌>>=◌ {X} {Y} first second =
     record {
       Reads = λ here y end. (x : X) × ((between : Cursor) × (first.Reads here x between × (second x).Reads between y end));
-      Fails = λ here kind number. first.Fails here kind number ⊎ ((x : X) × ((between : Cursor) × (first.Reads here x between × (second x).Fails between kind number)))
+      Fails = λ here kind number. first.Fails here kind number ⊎ ((x : X) × ((between : Cursor) × (first.Reads here x between × (second x).Fails between kind number)));
     }
 
 -- ---- no line: what is so

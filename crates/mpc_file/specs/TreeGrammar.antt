@@ -75,7 +75,7 @@ node_rule laws split =
     record {
       States = StatesNode laws split.States;
       IsNoNode = λ text. split.IsNoNode text ⊎ NamesNone (codes "leaf") laws text;
-      IsOver = IsOverSplit split.IsOver
+      IsOver = IsOverSplit split.IsOver;
     }
 
 -- a node of a tree, whose splits have such rows

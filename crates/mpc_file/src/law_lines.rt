@@ -103,12 +103,7 @@ pub fn read_set(alloc: Global, lines: &mut Lines, plant: &Plant) -> Result<Activ
 }
 
 /// The affine form of `n` states that a line states behind its first word.
-pub fn form_in(
-    alloc: Global,
-    text: &[u8],
-    name: &[u8],
-    n: u32,
-) -> Result<Option<Vector>, NoMemory>
+pub fn form_in(alloc: Global, text: &[u8], name: &[u8], n: u32) -> Result<Option<Vector>, NoMemory>
     ensures { IfOk result (λ found. MatchOption found
         ((form : List ℚ) → ¬ IsForm name.now n text.now form)
         (λ form. IsForm name.now n text.now form)) }

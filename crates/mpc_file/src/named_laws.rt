@@ -226,7 +226,12 @@ fn read_named_moves(
     let Some(numbers) = numbers_in(alloc, text, b"move", all, used, unknowns)? else {
         return Err(FileError::Bad(FileKind::BadLine, number));
     };
-    if !named_fit(alloc, forms, &numbers.as_slice()[..plant.p as usize], counts)? {
+    if !named_fit(
+        alloc,
+        forms,
+        &numbers.as_slice()[..plant.p as usize],
+        counts,
+    )? {
         return Err(FileError::Bad(FileKind::OverBound, number));
     }
     Ok(numbers)

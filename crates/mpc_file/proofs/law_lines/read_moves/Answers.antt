@@ -23,5 +23,5 @@ pub returns-in_err-form : goal.returns-in_err-form
 returns-in_err-form c =
     passed_on (moves c.args.plant.now) c.args.lines.now c.read_move.new.lines c.from_residual.result c.in_err-form.field-0.0 c.from_residual.ensures.1
     (further_error (λ (before : List (List ℚ)). one_line (move_rule c.args.plant.now (length before))) (unknowns c.args.plant.now) c.args.lines.now c.loop-index.lines c.read_move.new.lines c.read_move.new.lines c.loop-index.forms c.loop-index.index c.in_err-form.field-0.0
-      c.loop-index.invariant.so_far c.loop-index.invariant.so_many c.loop-index-test.true
-      (subst (λ n. Outcome (one_line (move_rule c.args.plant.now n)) c.loop-index.lines c.read_move.new.lines (Err c.in_err-form.field-0.0)) (sym c.loop-index.invariant.so_many) c.in_err-form.ensures))
+    c.loop-index.invariant.so_far c.loop-index.invariant.so_many c.loop-index-test.true
+    (subst (λ n. Outcome (one_line (move_rule c.args.plant.now n)) c.loop-index.lines c.read_move.new.lines (Err c.in_err-form.field-0.0)) (sym c.loop-index.invariant.so_many) c.in_err-form.ensures))

@@ -23,4 +23,4 @@ pub returns-in_err-form : goal.returns-in_err-form
 returns-in_err-form c =
     passed_on (mults c.args.plant.now c.args.members) c.args.lines.now c.read_mult.new.lines c.from_residual.result c.in_err-form.field-0.0 c.from_residual.ensures.1
     (further_error (λ (before : List (List ℚ)). one_line (plain_rule (IsForm (codes "mult") c.args.plant.now.n))) c.args.members c.args.lines.now c.loop.lines c.read_mult.new.lines c.read_mult.new.lines c.loop.forms c.loop.counter c.in_err-form.field-0.0
-      c.loop.invariant.so_far c.loop.invariant.so_many c.loop-test.true c.in_err-form.ensures)
+    c.loop.invariant.so_far c.loop.invariant.so_many c.loop-test.true c.in_err-form.ensures)

@@ -21,4 +21,4 @@ pub returns-in_err-mults : goal.returns-in_err-mults
 returns-in_err-mults c =
     passed_on (written_law c.args.plant.now) c.args.lines.now c.read_mults.new.lines c.from_residual-in_err-mults.result c.in_err-mults.field-0.0 c.from_residual-in_err-mults.ensures.1
     (mults_error c.args.plant.now c.args.lines.now c.read_set.new.lines c.read_moves.new.lines c.read_mults.new.lines c.read_mults.new.lines c.in_ok-set.set c.in_ok-moves.moves c.in_err-mults.field-0.0 c.in_ok-set.ensures c.in_ok-moves.ensures
-      (subst (λ n. Outcome (mults c.args.plant.now n) c.read_moves.new.lines c.read_mults.new.lines (Err c.in_err-mults.field-0.0)) c.size.ensures.value c.in_err-mults.ensures))
+    (subst (λ n. Outcome (mults c.args.plant.now n) c.read_moves.new.lines c.read_mults.new.lines (Err c.in_err-mults.field-0.0)) c.size.ensures.value c.in_err-mults.ensures))

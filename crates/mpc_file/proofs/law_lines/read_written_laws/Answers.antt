@@ -24,5 +24,5 @@ pub returns-in_err-law : goal.returns-in_err-law
 returns-in_err-law c =
     passed_on (written_laws c.args.plant.now) c.args.lines.now c.read_written_law.new.lines c.from_residual-in_err-law.result c.in_err-law.field-0.0 c.from_residual-in_err-law.ensures.1
     (then_outcome law_count (λ (count : ℕ). many (λ (before : List Law). written_law c.args.plant.now) (λ (before : List Law). ltb (length before) count)) c.args.lines.now c.read_law_count.new.lines c.read_written_law.new.lines c.in_ok-count.count (Err c.in_err-law.field-0.0) c.in_ok-count.ensures
-      (further_error (λ (before : List Law). written_law c.args.plant.now) c.in_ok-count.count c.read_law_count.new.lines c.loop.lines c.read_written_law.new.lines c.read_written_law.new.lines c.loop.laws c.loop.counter c.in_err-law.field-0.0
-        c.loop.invariant.so_far c.loop.invariant.so_many c.loop-test.true c.in_err-law.ensures))
+    (further_error (λ (before : List Law). written_law c.args.plant.now) c.in_ok-count.count c.read_law_count.new.lines c.loop.lines c.read_written_law.new.lines c.read_written_law.new.lines c.loop.laws c.loop.counter c.in_err-law.field-0.0
+    c.loop.invariant.so_far c.loop.invariant.so_many c.loop-test.true c.in_err-law.ensures))

@@ -30,7 +30,7 @@ pub returns-in_err-mult_numbers : goal.returns-in_err-mult_numbers
 returns-in_err-mult_numbers c =
     law_passed_on c.args.plant.now c.args.forms.now c.args.used c.args.lines.now c.read_named_mults.new.lines c.from_residual-in_err-mult_numbers.result c.in_err-mult_numbers.field-0.0 c.from_residual-in_err-mult_numbers.ensures.1
     (named_mults_error c.args.plant.now c.args.forms.now c.args.used c.args.lines.now c.read_set.new.lines c.in_ok-set.set c.in_ok-set.ensures c.read_named_moves.new.lines c.in_ok-move_numbers.move_numbers c.as_slice.result.now c.used_with-used.result c.in_ok-move_numbers.ensures c.as_slice.ensures c.used_with-used.ensures
-      c.read_named_mults.new.lines c.read_named_mults.new.lines c.in_err-mult_numbers.field-0.0 (c.in_err-mult_numbers.ensures c.args.forms.now (sym c.len.ensures)))
+    c.read_named_mults.new.lines c.read_named_mults.new.lines c.in_err-mult_numbers.field-0.0 (c.in_err-mult_numbers.ensures c.args.forms.now (sym c.len.ensures)))
 
 pub returns : goal.returns
 returns c =

@@ -14,7 +14,7 @@ pub returns-then-not-branch-clause-outcome : goal.returns-then-not-branch-clause
 returns-then-not-branch-clause-outcome c =
     subst (λ n. (one_line (plain_rule (IsNewForm c.args.plant.now.n c.args.before.now))).Fails c.args.lines.now BadLine n) (sym c.number-number.ensures)
     (plain_bad (IsNewForm c.args.plant.now.n c.args.before.now) c.in_ok-text.ensures.taken
-      (λ form new. false≢true (sym c.if-not-branch.true ∙ c.in_ok-insert.ensures.new.1 (λ held. is_old c.args.plant.now.n c.args.known.now c.args.before.now c.requires c.in_ok-text.text.now held form new))))
+    (λ form new. false≢true (sym c.if-not-branch.true ∙ c.in_ok-insert.ensures.new.1 (λ held. is_old c.args.plant.now.n c.args.known.now c.args.before.now c.requires c.in_ok-text.text.now held form new))))
 
 pub returns-clause-outcome : goal.returns-clause-outcome
 returns-clause-outcome c =

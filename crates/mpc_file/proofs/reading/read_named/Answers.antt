@@ -28,7 +28,7 @@ returns-in_err-tree c =
     let ls = c.in_ok-laws.ensures in
     passed_on (named_tree_nodes c.args.plant c.len-2.result c.in_ok-planes.planes) (named c.args.plant) c.read_planes.new.lines c.read_named_tree.new.lines c.args.lines.now c.read_named_tree.new.lines c.from_residual-in_err-tree.result c.in_err-tree.field-0.0
     (λ kind number f. nodes_fail c.args.plant c.args.lines.now c.read_forms.new.lines c.in_ok-forms.forms c.in_ok-forms.ensures.outcome c.read_named_laws.new.lines ls.named ls.reads c.len.result c.in_ok-laws.used c.len.ensures ls.used_is c.read_planes.new.lines c.in_ok-planes.planes c.in_ok-planes.ensures c.len-2.result
-      (c.len-2.ensures ∙ ap length ls.laws_are ∙ length-map ls.named (law_named c.args.plant c.in_ok-forms.forms)) kind number (none_behind c.args.plant c.len-2.result c.in_ok-planes.planes c.read_planes.new.lines kind number f))
+    (c.len-2.ensures ∙ ap length ls.laws_are ∙ length-map ls.named (law_named c.args.plant c.in_ok-forms.forms)) kind number (none_behind c.args.plant c.len-2.result c.in_ok-planes.planes c.read_planes.new.lines kind number f))
     c.in_err-tree.ensures c.from_residual-in_err-tree.ensures.1
 
 pub returns-in_err-read_end : goal.returns-in_err-read_end
@@ -37,7 +37,7 @@ returns-in_err-read_end c =
     let t = nodes_of c.args.plant c.len-2.result c.in_ok-planes.planes c.read_planes.new.lines c.read_named_tree.new.lines c.in_ok-tree.tree c.in_ok-tree.splits c.in_ok-tree.ensures in
     passed_on (one_line (plain_rule (IsEnd c.len-3.result c.in_ok-tree.splits))) (named c.args.plant) c.read_named_tree.new.lines c.read_end.new.lines c.args.lines.now c.read_end.new.lines c.from_residual-in_err-read_end.result c.in_err-read_end.field-0.0
     (last_fails c.args.plant c.args.lines.now c.read_forms.new.lines c.in_ok-forms.forms c.in_ok-forms.ensures.outcome c.read_named_laws.new.lines ls.named ls.reads c.len.result c.in_ok-laws.used c.len.ensures ls.used_is c.read_planes.new.lines c.in_ok-planes.planes c.in_ok-planes.ensures c.len-2.result
-      (c.len-2.ensures ∙ ap length ls.laws_are ∙ length-map ls.named (law_named c.args.plant c.in_ok-forms.forms)) c.read_named_tree.new.lines t.ns t.reads c.len-3.result c.in_ok-tree.splits c.len-3.ensures t.splits_is)
+    (c.len-2.ensures ∙ ap length ls.laws_are ∙ length-map ls.named (law_named c.args.plant c.in_ok-forms.forms)) c.read_named_tree.new.lines t.ns t.reads c.len-3.result c.in_ok-tree.splits c.len-3.ensures t.splits_is)
     c.in_err-read_end.ensures c.from_residual-in_err-read_end.ensures.1
 
 pub sealed-requires : goal.sealed-requires
@@ -45,23 +45,61 @@ sealed-requires c =
     let ls = c.in_ok-laws.ensures in
     let t = nodes_of c.args.plant c.len-2.result c.in_ok-planes.planes c.read_planes.new.lines c.read_named_tree.new.lines c.in_ok-tree.tree c.in_ok-tree.splits c.in_ok-tree.ensures in
     let good = named_parts c.preorder_laws.ensures.split c.preorder_laws.ensures.leaf c.args.plant c.args.lines.now c.read_forms.new.lines c.read_named_laws.new.lines c.read_planes.new.lines c.read_named_tree.new.lines c.in_ok-forms.forms ls.named c.in_ok-planes.planes t.ns c.in_ok-forms.ensures.outcome ls.reads
-      (planes_read c.args.plant c.args.lines.now c.read_forms.new.lines c.in_ok-forms.forms c.in_ok-forms.ensures.outcome c.read_named_laws.new.lines ls.named ls.reads c.len.result c.in_ok-laws.used c.len.ensures ls.used_is c.read_planes.new.lines c.in_ok-planes.planes c.in_ok-planes.ensures c.len-2.result
-        (c.len-2.ensures ∙ ap length ls.laws_are ∙ length-map ls.named (law_named c.args.plant c.in_ok-forms.forms)))
-      (nodes_read c.args.plant c.args.lines.now c.read_forms.new.lines c.in_ok-forms.forms c.in_ok-forms.ensures.outcome c.read_named_laws.new.lines ls.named ls.reads c.len.result c.in_ok-laws.used c.len.ensures ls.used_is c.read_planes.new.lines c.in_ok-planes.planes c.in_ok-planes.ensures c.len-2.result
-        (c.len-2.ensures ∙ ap length ls.laws_are ∙ length-map ls.named (law_named c.args.plant c.in_ok-forms.forms)) c.read_named_tree.new.lines t.ns t.reads c.len-3.result c.in_ok-tree.splits c.len-3.ensures t.splits_is) in
+    (planes_read c.args.plant c.args.lines.now c.read_forms.new.lines c.in_ok-forms.forms c.in_ok-forms.ensures.outcome c.read_named_laws.new.lines ls.named ls.reads c.len.result c.in_ok-laws.used c.len.ensures ls.used_is c.read_planes.new.lines c.in_ok-planes.planes c.in_ok-planes.ensures c.len-2.result
+    (c.len-2.ensures ∙ ap length ls.laws_are ∙ length-map ls.named (law_named c.args.plant c.in_ok-forms.forms)))
+    (nodes_read c.args.plant c.args.lines.now c.read_forms.new.lines c.in_ok-forms.forms c.in_ok-forms.ensures.outcome c.read_named_laws.new.lines ls.named ls.reads c.len.result c.in_ok-laws.used c.len.ensures ls.used_is c.read_planes.new.lines c.in_ok-planes.planes c.in_ok-planes.ensures c.len-2.result
+    (c.len-2.ensures ∙ ap length ls.laws_are ∙ length-map ls.named (law_named c.args.plant c.in_ok-forms.forms)) c.read_named_tree.new.lines t.ns t.reads c.len-3.result c.in_ok-tree.splits c.len-3.ensures t.splits_is) in
     subst (λ ws. IsController c.args.plant ws c.in_ok-tree.tree) (sym ls.laws_are) (subst (IsController c.args.plant (map (law_named c.args.plant c.in_ok-forms.forms) ls.named)) (sym t.tree_is) good)
 
 pub returns : goal.returns
 returns c =
     let ls = c.in_ok-laws.ensures in
-    let t = nodes_of c.args.plant c.len-2.result c.in_ok-planes.planes c.read_planes.new.lines c.read_named_tree.new.lines c.in_ok-tree.tree c.in_ok-tree.splits c.in_ok-tree.ensures in
-    (c.in_ok-forms.forms, (c.read_forms.new.lines, (c.in_ok-forms.ensures.outcome, (ls.named, (c.read_named_laws.new.lines, (ls.reads, (c.in_ok-planes.planes, (c.read_planes.new.lines,
-    (planes_read c.args.plant c.args.lines.now c.read_forms.new.lines c.in_ok-forms.forms c.in_ok-forms.ensures.outcome c.read_named_laws.new.lines ls.named ls.reads c.len.result c.in_ok-laws.used c.len.ensures ls.used_is c.read_planes.new.lines c.in_ok-planes.planes c.in_ok-planes.ensures c.len-2.result
-      (c.len-2.ensures ∙ ap length ls.laws_are ∙ length-map ls.named (law_named c.args.plant c.in_ok-forms.forms)),
-    (t.ns, (c.read_named_tree.new.lines,
-    (nodes_read c.args.plant c.args.lines.now c.read_forms.new.lines c.in_ok-forms.forms c.in_ok-forms.ensures.outcome c.read_named_laws.new.lines ls.named ls.reads c.len.result c.in_ok-laws.used c.len.ensures ls.used_is c.read_planes.new.lines c.in_ok-planes.planes c.in_ok-planes.ensures c.len-2.result
-      (c.len-2.ensures ∙ ap length ls.laws_are ∙ length-map ls.named (law_named c.args.plant c.in_ok-forms.forms)) c.read_named_tree.new.lines t.ns t.reads c.len-3.result c.in_ok-tree.splits c.len-3.ensures t.splits_is,
-    (tt, (c.read_end.new.lines,
-    (last_read c.args.plant c.args.lines.now c.read_forms.new.lines c.in_ok-forms.forms c.in_ok-forms.ensures.outcome c.read_named_laws.new.lines ls.named ls.reads c.len.result c.in_ok-laws.used c.len.ensures ls.used_is c.read_planes.new.lines c.in_ok-planes.planes c.in_ok-planes.ensures c.len-2.result
-      (c.len-2.ensures ∙ ap length ls.laws_are ∙ length-map ls.named (law_named c.args.plant c.in_ok-forms.forms)) c.read_named_tree.new.lines t.ns t.reads c.len-3.result c.in_ok-tree.splits c.len-3.ensures t.splits_is tt c.read_end.new.lines c.in_ok-read_end.ensures,
-    (c.in_ok-controller.ensures ∙ ap (λ ws. parts_with c.args.plant ws c.in_ok-tree.tree) ls.laws_are ∙ ap (parts_with c.args.plant (map (law_named c.args.plant c.in_ok-forms.forms) ls.named)) t.tree_is, refl))))))))))))))))
+    let t = nodes_of c.args.plant c.len-2.result c.in_ok-planes.planes c.read_planes.new.lines c.read_named_tree.new.lines c.in_ok-tree.tree c.in_ok-tree.splits c.in_ok-tree.ensures in (
+      c.in_ok-forms.forms,
+      (
+        c.read_forms.new.lines,
+        (
+          c.in_ok-forms.ensures.outcome,
+          (
+            ls.named,
+            (
+              c.read_named_laws.new.lines,
+              (
+                ls.reads,
+                (
+                  c.in_ok-planes.planes,
+                  (
+                    c.read_planes.new.lines,
+                    (
+                      planes_read c.args.plant c.args.lines.now c.read_forms.new.lines c.in_ok-forms.forms c.in_ok-forms.ensures.outcome c.read_named_laws.new.lines ls.named ls.reads c.len.result c.in_ok-laws.used c.len.ensures ls.used_is c.read_planes.new.lines c.in_ok-planes.planes c.in_ok-planes.ensures c.len-2.result
+                          (c.len-2.ensures ∙ ap length ls.laws_are ∙ length-map ls.named (law_named c.args.plant c.in_ok-forms.forms)),
+                      (
+                        t.ns,
+                        (
+                          c.read_named_tree.new.lines,
+                          (
+                            nodes_read c.args.plant c.args.lines.now c.read_forms.new.lines c.in_ok-forms.forms c.in_ok-forms.ensures.outcome c.read_named_laws.new.lines ls.named ls.reads c.len.result c.in_ok-laws.used c.len.ensures ls.used_is c.read_planes.new.lines c.in_ok-planes.planes c.in_ok-planes.ensures c.len-2.result
+                                (c.len-2.ensures ∙ ap length ls.laws_are ∙ length-map ls.named (law_named c.args.plant c.in_ok-forms.forms)) c.read_named_tree.new.lines t.ns t.reads c.len-3.result c.in_ok-tree.splits c.len-3.ensures t.splits_is,
+                            (
+                              tt,
+                              (
+                                c.read_end.new.lines,
+                                (
+                                  last_read c.args.plant c.args.lines.now c.read_forms.new.lines c.in_ok-forms.forms c.in_ok-forms.ensures.outcome c.read_named_laws.new.lines ls.named ls.reads c.len.result c.in_ok-laws.used c.len.ensures ls.used_is c.read_planes.new.lines c.in_ok-planes.planes c.in_ok-planes.ensures c.len-2.result
+                                      (c.len-2.ensures ∙ ap length ls.laws_are ∙ length-map ls.named (law_named c.args.plant c.in_ok-forms.forms)) c.read_named_tree.new.lines t.ns t.reads c.len-3.result c.in_ok-tree.splits c.len-3.ensures t.splits_is tt c.read_end.new.lines c.in_ok-read_end.ensures,
+                                  (c.in_ok-controller.ensures ∙ ap (λ ws. parts_with c.args.plant ws c.in_ok-tree.tree) ls.laws_are ∙ ap (parts_with c.args.plant (map (law_named c.args.plant c.in_ok-forms.forms) ls.named)) t.tree_is, refl),
+                                ),
+                              ),
+                            ),
+                          ),
+                        ),
+                      ),
+                    ),
+                  ),
+                ),
+              ),
+            ),
+          ),
+        ),
+      ),
+    )

@@ -27,7 +27,22 @@ sealed-requires c =
     (tree_read c.args.plant c.args.lines.now c.read_written_laws.new.lines c.in_ok-laws.laws c.in_ok-laws.ensures c.len.result c.len.ensures c.read_written_tree.new.lines c.in_ok-tree.tree c.in_ok-tree.ensures)
 
 pub returns : goal.returns
-returns c =
-    (c.in_ok-laws.laws, (c.read_written_laws.new.lines, (c.in_ok-laws.ensures, (c.in_ok-tree.tree, (c.read_written_tree.new.lines,
-    (tree_read c.args.plant c.args.lines.now c.read_written_laws.new.lines c.in_ok-laws.laws c.in_ok-laws.ensures c.len.result c.len.ensures c.read_written_tree.new.lines c.in_ok-tree.tree c.in_ok-tree.ensures,
-    (tt, (c.read_end_word.new.lines, (c.in_ok-read_end_word.ensures, (c.in_ok-controller.ensures, refl))))))))))
+returns c = (
+  c.in_ok-laws.laws,
+  (
+    c.read_written_laws.new.lines,
+    (
+      c.in_ok-laws.ensures,
+      (
+        c.in_ok-tree.tree,
+        (
+          c.read_written_tree.new.lines,
+          (
+            tree_read c.args.plant c.args.lines.now c.read_written_laws.new.lines c.in_ok-laws.laws c.in_ok-laws.ensures c.len.result c.len.ensures c.read_written_tree.new.lines c.in_ok-tree.tree c.in_ok-tree.ensures,
+            (tt, (c.read_end_word.new.lines, (c.in_ok-read_end_word.ensures, (c.in_ok-controller.ensures, refl)))),
+          ),
+        ),
+      ),
+    ),
+  ),
+)
