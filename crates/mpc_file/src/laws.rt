@@ -1,9 +1,37 @@
-//! What holds of every plant and the text of its controller.
+//! What holds of every text. The calls do nothing: their contracts are the laws.
 
-ghost use Rattle.mpc_file.specs.Offsets.{OffsetTest};
+ghost use Rattle.mpc_file.specs.TextLaws.{OneVersion, OneController, SpelledNeverFails, OneLine, OneReason, NoPrefix, OneText};
 
-/// The test by which the version of a controller's text is chosen tells whether the drift and the targets
-/// are all 0. The call does nothing: its contract is the law.
-pub fn offset_test()
-    ensures { OffsetTest }
+use mpc_words::{cut_laws, fraction_laws, integer_laws, line_laws, natural_laws};
+
+/// A text spells one controller in one version at most. It fails at one line at most, for one reason,
+/// and at none where it spells a controller.
+pub fn one_reading()
+    ensures one_version { OneVersion }
+    ensures one_controller { OneController }
+    ensures spelled_never_fails { SpelledNeverFails }
+    ensures one_line { OneLine }
+    ensures one_reason { OneReason }
+{
+    cut_laws();
+    line_laws();
+    natural_laws();
+    integer_laws();
+    fraction_laws();
+}
+
+/// No text of a controller begins with another's.
+pub fn no_prefix()
+    ensures { NoPrefix }
+{
+    cut_laws();
+    line_laws();
+    natural_laws();
+    integer_laws();
+    fraction_laws();
+}
+
+/// A controller has one text in each version. The call does nothing: its contract is the law.
+pub fn one_text()
+    ensures { OneText }
 {}

@@ -1,9 +1,30 @@
-//! The file of a controller.
+//! The file of a controller: three versions of its text are read, one is written.
 #![tactic(auto)]
 
+mod bounds;
+mod errors;
+mod forms;
+mod law_lines;
 mod laws;
+mod limit_lines;
+mod line_laws;
+mod line_sets;
+mod lines;
+mod named_laws;
+mod named_trees;
+mod plant_lines;
+mod plant_parts;
+mod plants;
+mod reading;
+mod spelling;
+mod tree_depths;
+mod tree_lines;
+mod versions;
 mod writing;
 
-pub use laws::offset_test;
+pub use errors::{FileError, FileKind};
+pub use laws::{no_prefix, one_reading, one_text};
 pub use mpc_controller::{Controller, SealError};
+pub use reading::read_file;
+pub use versions::Version;
 pub use writing::write_file;

@@ -1,14 +1,48 @@
-//! The lines of laws.
+//! The lines of laws, whose forms are named by their numbers.
 
-ghost use Rattle.std.specs.Prelude.{◌≡◌, ◌++◌, map, decimal, OnOk};
-ghost use Rattle.mpc_file.specs.Lines.{behind_blanks, fractions_line, law_lines, table_lines};
-ghost use Rattle.mpc_file.specs.Text.{text_of_lines};
+ghost use Rattle.std.specs.Prelude.{◌≡◌, ◌++◌, List, ℕ, map, codes, decimal, OnOk, IfOk, []};
+ghost use Rattle.mpc_exact.specs.Rational.{ℚ};
+ghost use Rattle.mpc_words.specs.Words.{line, behind_blanks};
+ghost use Rattle.mpc_file.specs.PlantGrammar.{AllFit};
+ghost use Rattle.mpc_file.specs.Writing.{ended};
+ghost use Rattle.mpc_file.specs.FormNames.{form_line, AreForms, AreNumbered, IsLawNumbered, AreLawsNumbered, IsTableWritten};
 
-use super::words::{end_line, write_count, write_count_line, write_fractions_line, write_piece};
-use mpc_frac::NoMemory;
+use super::names::Names;
+use super::words::{end_line, write_count, write_count_line, write_fractions, write_piece};
+use mpc_frac::{Frac, NoMemory};
 use mpc_linear::Matrix;
 use mpc_rows::{Law, LawTable};
 use mpc_sets::ActiveSet;
+use std::alloc::Global;
+
+/// The line of a form.
+fn form_line(alloc: Global, form: &[Frac]) -> Result<Vec<u8>, NoMemory>
+    ensures text { IfOk result (λ text. text.items ≡ form_line form.now) }
+    ensures fits { OnOk result (AllFit form.now) }
+{
+    let mut text = Vec::new(alloc);
+    write_piece(b"form", &mut text)?;
+    write_fractions(form, &mut text)?;
+    Ok(text)
+}
+
+/// Appends the numbers of the matrix's rows, each behind a blank.
+fn write_numbers(
+    alloc: Global,
+    matrix: &Matrix,
+    names: &mut Names,
+    out: &mut Vec<u8>,
+) -> Result<(), NoMemory>
+    ensures { OnOk result ((forms : List (List ℚ)) → AreForms names.old forms
+        → AreNumbered forms matrix.now.rows out.old.items out.new.items names.new) }
+{
+    for i in 0..matrix.rows() {
+        let text = form_line(alloc, matrix.row(i))?;
+        let number = names.number(text)?;
+        write_count(number, out)?;
+    }
+    Ok(())
+}
 
 /// Appends the members in rising order, each behind a blank.
 fn write_members(set: ActiveSet, out: &mut Vec<u8>) -> Result<(), NoMemory>
@@ -20,35 +54,56 @@ fn write_members(set: ActiveSet, out: &mut Vec<u8>) -> Result<(), NoMemory>
     Ok(())
 }
 
-/// Appends a line for each row of the matrix, with this first word.
-fn write_forms(first: &[u8], matrix: &Matrix, out: &mut Vec<u8>) -> Result<(), NoMemory>
-    ensures { OnOk result (out.new.items ≡ out.old.items
-        ++ text_of_lines (map (fractions_line first.now) matrix.now.rows)) }
+/// Appends the line of the law's set.
+fn write_set(set: ActiveSet, out: &mut Vec<u8>) -> Result<(), NoMemory>
+    ensures { OnOk result (out.new.items ≡ out.old.items ++ ended (line (codes "law") (map decimal set))) }
 {
-    for i in 0..matrix.rows() {
-        write_fractions_line(first, matrix.row(i), out)?;
-    }
-    Ok(())
+    write_piece(b"law", out)?;
+    write_members(set, out)?;
+    end_line(out)
 }
 
 /// Appends the lines of the law.
-fn write_law(law: &Law, out: &mut Vec<u8>) -> Result<(), NoMemory>
-    ensures { OnOk result (out.new.items ≡ out.old.items ++ text_of_lines (law_lines law.now)) }
+fn write_law(alloc: Global, law: &Law, names: &mut Names, out: &mut Vec<u8>) -> Result<(), NoMemory>
+    ensures { OnOk result ((forms : List (List ℚ)) → AreForms names.old forms
+        → IsLawNumbered forms law.now out.old.items out.new.items names.new) }
 {
-    write_piece(b"law", out)?;
-    write_members(law.set, out)?;
+    write_set(law.set, out)?;
+    write_piece(b"move", out)?;
+    write_numbers(alloc, &law.moves, names, out)?;
     end_line(out)?;
-    write_forms(b"move", &law.moves, out)?;
-    write_forms(b"mult", &law.mults, out)
+    if law.mults.rows() == 0 {
+        return Ok(());
+    }
+    write_piece(b"mult", out)?;
+    write_numbers(alloc, &law.mults, names, out)?;
+    end_line(out)
 }
 
 /// Appends the lines of the laws.
-pub fn write_table(laws: &LawTable, out: &mut Vec<u8>) -> Result<(), NoMemory>
-    ensures { OnOk result (out.new.items ≡ out.old.items ++ text_of_lines (table_lines laws.now)) }
+pub fn write_laws(
+    alloc: Global,
+    laws: &LawTable,
+    names: &mut Names,
+    out: &mut Vec<u8>,
+) -> Result<(), NoMemory>
+    ensures { OnOk result (AreForms names.old [] → AreLawsNumbered laws.now out.old.items out.new.items names.new) }
 {
-    write_count_line(b"laws", laws.len() as u64, out)?;
     for j in 0..laws.len() {
-        write_law(laws.at(j), out)?;
+        write_law(alloc, laws.at(j), names, out)?;
     }
     Ok(())
+}
+
+/// Appends the lines of the different forms, and those of the laws that name them.
+pub fn write_table(alloc: Global, laws: &LawTable, out: &mut Vec<u8>) -> Result<(), NoMemory>
+    ensures { OnOk result (IsTableWritten laws.now out.old.items out.new.items) }
+{
+    let mut names = Names::new(alloc);
+    let mut text = Vec::new(alloc);
+    write_laws(alloc, laws, &mut names, &mut text)?;
+    write_count_line(b"forms", names.len() as u64, out)?;
+    write_piece(names.text(), out)?;
+    write_count_line(b"laws", laws.len() as u64, out)?;
+    write_piece(text.as_slice(), out)
 }

@@ -94,9 +94,62 @@ fn writes_laws_and_leaves(rt: HostRuntime) -> Result<(), Fail> {
         b"{\"version\":1,\"horizon\":1,\"A\":[[1]],\"B\":[[1]],\"Q\":[[1]],\"R\":[[1]],\"P\":[[1]],\"rows\":[{\"u\":[1],\"max\":1},{\"u\":[-1],\"max\":1}],\"grid\":[{\"low\":-4,\"step\":1,\"count\":8}]}";
     let plant = read_plant(alloc, file).ok().ok_or("no plant")?;
     let mut out = Vec::new(alloc);
-    write_parts(&plant, &three_laws(alloc)?, &three_leaves(alloc)?, &mut out)?;
+    write_parts(
+        alloc,
+        &plant,
+        &three_laws(alloc)?,
+        &three_leaves(alloc)?,
+        &mut out,
+    )?;
     let text =
-        b"mpc 1\nsize 1 1 1\nA 1\nB 1\nQ 1\nR 1\nP 1\nrows 2\nrow 0 1 1\nrow 0 -1 1\nterminal 0\ngrid -4 1 8\nlaws 3\nlaw\nmove 2 -1/2\nlaw 1\nmove 1 0\nmult 2 -1\nlaw 2\nmove -1 0\nmult -6 1\ntree\nsplit -1 -2\nsplit 1 6\nleaf 1\ncert 3 1 5 1\ncert 4 1 5 1\nleaf 3\ncert 5 1\ncert 4 1 5 1\nleaf 2\ncert 3 1 4 1\ncert 4 1\nend\n";
+        b"mpc 3\nsize 1 1 1\nA 1\nB 1\nQ 1\nR 1\nP 1\ndrift 0\ngoal 0 0\nrows 2\nrow 0 1 1\nrow 0 -1 1\nterminal 0\ngrid -4 1 8\nforms 5\nform 2 -1/2\nform 1 0\nform 2 -1\nform -1 0\nform -6 1\nlaws 3\nlaw\nmove 1\nlaw 1\nmove 2\nmult 3\nlaw 2\nmove 4\nmult 5\nplanes 2\nplane -1 -2\nplane 1 6\ntree\nsplit 1\nsplit 2\nleaf 1\ncert 3 1 5 1\ncert 4 1 5 1\nleaf 3\ncert 5 1\ncert 4 1 5 1\nleaf 2\ncert 3 1 4 1\ncert 4 1\nend\n";
+    assert_eq!(rt; out.as_slice(), text.as_slice());
+    Ok(())
+}
+
+/// Two laws that share a form, of which the second uses it twice.
+fn sharing_laws(alloc: Global) -> Result<LawTable, Fail> {
+    let mut laws = LawTable::new(alloc);
+    laws.push(Law {
+        set: ActiveSet::empty(),
+        moves: one_row(alloc, Frac::whole(7), Frac::whole(0))?,
+        mults: Matrix::zero(alloc, 0, 2)?,
+    })?;
+    laws.push(Law {
+        set: ActiveSet::empty().with(2),
+        moves: one_row(alloc, Frac::whole(-7), Frac::whole(0))?,
+        mults: one_row(alloc, Frac::whole(7), Frac::whole(0))?,
+    })?;
+    Ok(laws)
+}
+
+/// A tree that splits by one plane twice, and by another between.
+fn sharing_tree(alloc: Global) -> Result<Tree, NoMemory> {
+    let mut tree = Tree::new(alloc);
+    tree.push(split(alloc, -1, 2)?)?;
+    tree.push(split(alloc, 1, 2)?)?;
+    tree.push(split(alloc, -1, 2)?)?;
+    tree.push(leaf(alloc, 1, single(alloc, 1)?, single(alloc, 2)?)?)?;
+    tree.push(leaf(alloc, 2, single(alloc, 3)?, single(alloc, 4)?)?)?;
+    Ok(tree)
+}
+
+#[test]
+fn writes_forms_and_planes_once(rt: HostRuntime) -> Result<(), Fail> {
+    let alloc = rt.alloc();
+    let file =
+        b"{\"version\":1,\"horizon\":1,\"A\":[[1]],\"B\":[[1]],\"Q\":[[1]],\"R\":[[1]],\"P\":[[1]],\"rows\":[{\"u\":[1],\"max\":1},{\"u\":[-1],\"max\":1}],\"grid\":[{\"low\":-4,\"step\":1,\"count\":8}]}";
+    let plant = read_plant(alloc, file).ok().ok_or("no plant")?;
+    let mut out = Vec::new(alloc);
+    write_parts(
+        alloc,
+        &plant,
+        &sharing_laws(alloc)?,
+        &sharing_tree(alloc)?,
+        &mut out,
+    )?;
+    let text =
+        b"mpc 3\nsize 1 1 1\nA 1\nB 1\nQ 1\nR 1\nP 1\ndrift 0\ngoal 0 0\nrows 2\nrow 0 1 1\nrow 0 -1 1\nterminal 0\ngrid -4 1 8\nforms 2\nform 7 0\nform -7 0\nlaws 2\nlaw\nmove 1\nlaw 2\nmove 2\nmult 1\nplanes 2\nplane -1 2\nplane 1 2\ntree\nsplit 1\nsplit 2\nsplit 1\nleaf 1\ncert 1 1\ncert 2 1\nleaf 2\ncert 3 1\ncert 4 1\nend\n";
     assert_eq!(rt; out.as_slice(), text.as_slice());
     Ok(())
 }
@@ -126,7 +179,7 @@ fn one_leaf(alloc: Global) -> Result<Tree, NoMemory> {
 fn is_text(alloc: Global, file: &[u8], text: &[u8]) -> Result<bool, Fail> {
     let plant = read_plant(alloc, file).ok().ok_or("no plant")?;
     let mut out = Vec::new(alloc);
-    write_parts(&plant, &one_law(alloc)?, &one_leaf(alloc)?, &mut out)?;
+    write_parts(alloc, &plant, &one_law(alloc)?, &one_leaf(alloc)?, &mut out)?;
     Ok(out.as_slice() == text)
 }
 
@@ -135,7 +188,7 @@ fn writes_a_drift(rt: HostRuntime) -> Result<(), Fail> {
     let file =
         b"{\"version\":2,\"horizon\":1,\"A\":[[1]],\"B\":[[1]],\"Q\":[[1]],\"R\":[[1]],\"P\":[[1]],\"drift\":[1],\"grid\":[{\"low\":-4,\"step\":1,\"count\":8}]}";
     let text =
-        b"mpc 2\nsize 1 1 1\nA 1\nB 1\nQ 1\nR 1\nP 1\ndrift 1\ngoal 0 0\nrows 0\nterminal 0\ngrid -4 1 8\nlaws 1\nlaw\nmove 3/2 -1/2\ntree\nleaf 1\nend\n";
+        b"mpc 3\nsize 1 1 1\nA 1\nB 1\nQ 1\nR 1\nP 1\ndrift 1\ngoal 0 0\nrows 0\nterminal 0\ngrid -4 1 8\nforms 1\nform 3/2 -1/2\nlaws 1\nlaw\nmove 1\nplanes 0\ntree\nleaf 1\nend\n";
     assert!(rt; is_text(rt.alloc(), file, text)?);
     Ok(())
 }
@@ -145,7 +198,7 @@ fn writes_targets(rt: HostRuntime) -> Result<(), Fail> {
     let file =
         b"{\"version\":2,\"horizon\":1,\"A\":[[1,0],[0,1]],\"B\":[[1],[1]],\"Q\":[[1,0],[0,1]],\"R\":[[1]],\"P\":[[1,0],[0,1]],\"xgoal\":[0,\"-1/2\"],\"ugoal\":[3],\"grid\":[{\"low\":-4,\"step\":1,\"count\":8},{\"low\":0,\"step\":1,\"count\":1}]}";
     let text =
-        b"mpc 2\nsize 2 1 1\nA 1 0 0 1\nB 1 1\nQ 1 0 0 1\nR 1\nP 1 0 0 1\ndrift 0 0\ngoal 0 -1/2 3\nrows 0\nterminal 0\ngrid -4 1 8\ngrid 0 1 1\nlaws 1\nlaw\nmove 3/2 -1/2\ntree\nleaf 1\nend\n";
+        b"mpc 3\nsize 2 1 1\nA 1 0 0 1\nB 1 1\nQ 1 0 0 1\nR 1\nP 1 0 0 1\ndrift 0 0\ngoal 0 -1/2 3\nrows 0\nterminal 0\ngrid -4 1 8\ngrid 0 1 1\nforms 1\nform 3/2 -1/2\nlaws 1\nlaw\nmove 1\nplanes 0\ntree\nleaf 1\nend\n";
     assert!(rt; is_text(rt.alloc(), file, text)?);
     Ok(())
 }
@@ -162,7 +215,7 @@ fn writes_a_controller(rt: HostRuntime) -> Result<(), Fail> {
     })?;
     let controller = Controller::seal(alloc, plant, LawTable::new(alloc), tree)?;
     let text =
-        b"mpc 1\nsize 2 1 2\nA 1 1/4 0 19/20\nB 0 1/4\nQ 1 2 2 7\nR 1\nP 1 0 0 1\nrows 1\nrow 0 -1/3 0 3/2\nterminal 1\nlast 1 2 -1\ngrid -5 1/2 20\ngrid -2 1/4 16\nlaws 0\ntree\nnone\ncert\nend\n";
+        b"mpc 3\nsize 2 1 2\nA 1 1/4 0 19/20\nB 0 1/4\nQ 1 2 2 7\nR 1\nP 1 0 0 1\ndrift 0 0\ngoal 0 0 0\nrows 1\nrow 0 -1/3 0 3/2\nterminal 1\nlast 1 2 -1\ngrid -5 1/2 20\ngrid -2 1/4 16\nforms 0\nlaws 0\nplanes 0\ntree\nnone\ncert\nend\n";
     assert_eq!(rt; write_file(alloc, &controller)?.as_slice(), text.as_slice());
     Ok(())
 }

@@ -1,17 +1,24 @@
-//! The lines of a search tree. Its nodes are a list in preorder, so nothing recurs on its depth.
+//! The lines of a search tree, whose planes are named by their numbers. Its nodes are a list in preorder,
+//! so nothing recurs on its depth.
 
-ghost use Rattle.std.specs.Prelude.{◌≡◌, ◌++◌, ◌∷◌, map, OnOk};
+ghost use Rattle.std.specs.Prelude.{◌≡◌, ◌++◌, ◌∷◌, [], List, map, All, codes, OnOk, IfOk};
 ghost use Rattle.std.specs.Fmt.{signed_decimal};
 ghost use Rattle.std.specs.List.{flat_map};
-ghost use Rattle.mpc_file.specs.Lines.{behind_blanks, count_line, pair_words, cert_line, split_line, node_lines, tree_lines};
-ghost use Rattle.mpc_file.specs.Text.{ended, text_of_lines};
+ghost use Rattle.mpc_linear.specs.declared.integers.RowInt.{RowInt as Row};
+ghost use Rattle.mpc_plant.specs.declared.plants.Plant.{Plant};
+ghost use Rattle.mpc_words.specs.Words.{behind_blanks};
+ghost use Rattle.mpc_file.specs.Lines.{pair_words, cert_line};
+ghost use Rattle.mpc_file.specs.Writing.{ended};
+ghost use Rattle.mpc_file.specs.PlaneNames.{plane_line, IsGoodPlane, IsGoodNode, ArePlanes, IsPairFit, CertFits, leaf_text, bare_leaf_text, IsNodeNumbered, AreNodesNumbered, IsTreeWritten};
 
+use super::names::Names;
 use super::words::{
     end_line, write_count, write_count_line, write_fraction, write_integer, write_piece,
 };
 use mpc_frac::{Frac, NoMemory};
 use mpc_linear::RowInt;
 use mpc_rows::{Cert, Certs, Node, Tree};
+use std::alloc::Global;
 
 /// Appends the integers, each behind a blank.
 fn write_integers(integers: &[i128], out: &mut Vec<u8>) -> Result<(), NoMemory>
@@ -24,19 +31,21 @@ fn write_integers(integers: &[i128], out: &mut Vec<u8>) -> Result<(), NoMemory>
     Ok(())
 }
 
-/// Appends the line of a split.
-fn write_split(row: &RowInt, out: &mut Vec<u8>) -> Result<(), NoMemory>
-    ensures { OnOk result (out.new.items ≡ out.old.items ++ ended (split_line row.now)) }
+/// The line of a plane.
+fn plane_line(alloc: Global, row: &RowInt) -> Result<Vec<u8>, NoMemory>
+    ensures { IfOk result (λ text. text.items ≡ plane_line row.now) }
 {
-    write_piece(b"split", out)?;
-    write_integers(row.a.as_slice(), out)?;
-    write_integer(row.b, out)?;
-    end_line(out)
+    let mut text = Vec::new(alloc);
+    write_piece(b"plane", &mut text)?;
+    write_integers(row.a.as_slice(), &mut text)?;
+    write_integer(row.b, &mut text)?;
+    Ok(text)
 }
 
 /// Appends a position and a multiplier, each behind a blank.
 fn write_pair(pair: &(u64, Frac), out: &mut Vec<u8>) -> Result<(), NoMemory>
-    ensures { OnOk result (out.new.items ≡ out.old.items ++ behind_blanks (pair_words pair.now)) }
+    ensures text { OnOk result (out.new.items ≡ out.old.items ++ behind_blanks (pair_words pair.now)) }
+    ensures fits { OnOk result (IsPairFit pair.now) }
 {
     write_count(pair.0, out)?;
     write_fraction(&pair.1, out)
@@ -44,8 +53,9 @@ fn write_pair(pair: &(u64, Frac), out: &mut Vec<u8>) -> Result<(), NoMemory>
 
 /// Appends the pairs of a certificate.
 fn write_pairs(cert: &Cert, out: &mut Vec<u8>) -> Result<(), NoMemory>
-    ensures { OnOk result (out.new.items ≡ out.old.items
+    ensures text { OnOk result (out.new.items ≡ out.old.items
         ++ behind_blanks (flat_map pair_words cert.now)) }
+    ensures fits { OnOk result (CertFits cert.now) }
 {
     for i in 0..cert.len() {
         write_pair(cert.at(i), out)?;
@@ -55,7 +65,8 @@ fn write_pairs(cert: &Cert, out: &mut Vec<u8>) -> Result<(), NoMemory>
 
 /// Appends the line of a certificate.
 fn write_cert(cert: &Cert, out: &mut Vec<u8>) -> Result<(), NoMemory>
-    ensures { OnOk result (out.new.items ≡ out.old.items ++ ended (cert_line cert.now)) }
+    ensures text { OnOk result (out.new.items ≡ out.old.items ++ ended (cert_line cert.now)) }
+    ensures fits { OnOk result (CertFits cert.now) }
 {
     write_piece(b"cert", out)?;
     write_pairs(cert, out)?;
@@ -64,8 +75,8 @@ fn write_cert(cert: &Cert, out: &mut Vec<u8>) -> Result<(), NoMemory>
 
 /// Appends the lines of a leaf with a law.
 fn write_leaf(law: u32, certs: &Certs, out: &mut Vec<u8>) -> Result<(), NoMemory>
-    ensures { OnOk result (out.new.items ≡ out.old.items
-        ++ text_of_lines (node_lines (Node.Law law certs.now))) }
+    ensures text { OnOk result (out.new.items ≡ out.old.items ++ leaf_text law certs.now) }
+    ensures fits { OnOk result (All CertFits certs.now) }
 {
     write_count_line(b"leaf", law.into(), out)?;
     for i in 0..certs.len() {
@@ -76,31 +87,70 @@ fn write_leaf(law: u32, certs: &Certs, out: &mut Vec<u8>) -> Result<(), NoMemory
 
 /// Appends the lines of a leaf without a law.
 fn write_bare_leaf(cert: &Cert, out: &mut Vec<u8>) -> Result<(), NoMemory>
-    ensures { OnOk result (out.new.items ≡ out.old.items
-        ++ text_of_lines (node_lines (Node.NoMove cert.now))) }
+    ensures text { OnOk result (out.new.items ≡ out.old.items ++ bare_leaf_text cert.now) }
+    ensures fits { OnOk result (CertFits cert.now) }
 {
     write_piece(b"none\n", out)?;
     write_cert(cert, out)
 }
 
+/// Appends the line of a split, which names its plane.
+fn write_split(
+    alloc: Global,
+    row: &RowInt,
+    names: &mut Names,
+    out: &mut Vec<u8>,
+) -> Result<(), NoMemory>
+    ensures { OnOk result ((plant : Plant) (planes : List Row) → IsGoodPlane plant row.now → ArePlanes plant names.old planes
+        → IsNodeNumbered plant planes (Node.Split row.now) out.old.items out.new.items names.new) }
+{
+    let text = plane_line(alloc, row)?;
+    let number = names.number(text)?;
+    write_count_line(b"split", number, out)
+}
+
 /// Appends the lines of a node.
-fn write_node(node: &Node, out: &mut Vec<u8>) -> Result<(), NoMemory>
-    ensures { OnOk result (out.new.items ≡ out.old.items ++ text_of_lines (node_lines node.now)) }
+fn write_node(
+    alloc: Global,
+    node: &Node,
+    names: &mut Names,
+    out: &mut Vec<u8>,
+) -> Result<(), NoMemory>
+    ensures { OnOk result ((plant : Plant) (planes : List Row) → IsGoodNode plant node.now → ArePlanes plant names.old planes
+        → IsNodeNumbered plant planes node.now out.old.items out.new.items names.new) }
 {
     match node {
-        Node::Split(row) => write_split(row, out),
+        Node::Split(row) => write_split(alloc, row, names, out),
         Node::Law { law, certs } => write_leaf(*law, certs, out),
         Node::NoMove { cert } => write_bare_leaf(cert, out),
     }
 }
 
-/// Appends the lines of the tree.
-pub fn write_tree(tree: &Tree, out: &mut Vec<u8>) -> Result<(), NoMemory>
-    ensures { OnOk result (out.new.items ≡ out.old.items ++ text_of_lines (tree_lines tree.now)) }
+/// Appends the lines of the nodes.
+fn write_nodes(
+    alloc: Global,
+    tree: &Tree,
+    names: &mut Names,
+    out: &mut Vec<u8>,
+) -> Result<(), NoMemory>
+    ensures { OnOk result ((plant : Plant) → All (IsGoodNode plant) tree.now → ArePlanes plant names.old []
+        → AreNodesNumbered plant tree.now out.old.items out.new.items names.new) }
 {
-    write_piece(b"tree\n", out)?;
     for k in 0..tree.len() {
-        write_node(tree.at(k), out)?;
+        write_node(alloc, tree.at(k), names, out)?;
     }
     Ok(())
+}
+
+/// Appends the lines of the different planes, and those of the nodes that name them.
+pub fn write_tree(alloc: Global, tree: &Tree, out: &mut Vec<u8>) -> Result<(), NoMemory>
+    ensures { OnOk result ((plant : Plant) → All (IsGoodNode plant) tree.now → IsTreeWritten plant tree.now out.old.items out.new.items) }
+{
+    let mut names = Names::new(alloc);
+    let mut text = Vec::new(alloc);
+    write_nodes(alloc, tree, &mut names, &mut text)?;
+    write_count_line(b"planes", names.len() as u64, out)?;
+    write_piece(names.text(), out)?;
+    write_piece(b"tree\n", out)?;
+    write_piece(text.as_slice(), out)
 }

@@ -3,8 +3,11 @@
 ghost use Rattle.std.specs.Prelude.{◌≡◌, ◌++◌, ◌∷◌, map, codes, decimal, OnOk};
 ghost use Rattle.std.specs.Fmt.{signed_decimal};
 ghost use Rattle.mpc_frac.specs.Text.{text_of as fraction_text};
-ghost use Rattle.mpc_file.specs.Lines.{behind_blanks, count_line, fractions_line};
-ghost use Rattle.mpc_file.specs.Text.{ended};
+ghost use Rattle.mpc_frac.specs.Fits.{FitsFrac};
+ghost use Rattle.mpc_words.specs.Words.{behind_blanks};
+ghost use Rattle.mpc_file.specs.Lines.{count_line, fractions_line};
+ghost use Rattle.mpc_file.specs.PlantGrammar.{AllFit};
+ghost use Rattle.mpc_file.specs.Writing.{ended};
 
 use itoa::Buffer;
 use mpc_frac::{Frac, NoMemory};
@@ -44,16 +47,20 @@ pub fn write_integer(integer: i128, out: &mut Vec<u8>) -> Result<(), NoMemory>
 
 /// Appends a blank and the fraction.
 pub fn write_fraction(fraction: &Frac, out: &mut Vec<u8>) -> Result<(), NoMemory>
-    ensures { OnOk result (out.new.items ≡ out.old.items ++ 32 ∷ fraction_text fraction.now) }
+    ensures text { OnOk result (out.new.items ≡ out.old.items ++ 32 ∷ fraction_text fraction.now) }
+    ensures fits { FitsFrac fraction.now }
 {
+    // Each fraction fits, and its numerator's contract says so.
+    let _numerator = fraction.num();
     write_piece(b" ", out)?;
     fraction.write(out)
 }
 
 /// Appends the fractions, each behind a blank.
 pub fn write_fractions(fractions: &[Frac], out: &mut Vec<u8>) -> Result<(), NoMemory>
-    ensures { OnOk result (out.new.items ≡ out.old.items
+    ensures text { OnOk result (out.new.items ≡ out.old.items
         ++ behind_blanks (map fraction_text fractions.now)) }
+    ensures fits { OnOk result (AllFit fractions.now) }
 {
     for fraction in fractions {
         write_fraction(fraction, out)?;
@@ -76,8 +83,9 @@ pub fn write_fractions_line(
     fractions: &[Frac],
     out: &mut Vec<u8>,
 ) -> Result<(), NoMemory>
-    ensures { OnOk result (out.new.items ≡ out.old.items
+    ensures text { OnOk result (out.new.items ≡ out.old.items
         ++ ended (fractions_line first.now fractions.now)) }
+    ensures fits { OnOk result (AllFit fractions.now) }
 {
     write_piece(first, out)?;
     write_fractions(fractions, out)?;

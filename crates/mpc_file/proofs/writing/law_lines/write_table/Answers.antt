@@ -1,7 +1,20 @@
-use Rattle.mpc_file.specs.Lines.{law_lines}
-use Rattle.mpc_file.specs.Text.{ended}
-use Rattle.mpc_file.proofs.LineLemmas.{spread_at}
+use Rattle.std.proofs.Common.{[], ◌∙◌, ap, subst, ◌++◌}
+use Rattle.std.proofs.lemmas.Result.{on_ok_weaker}
+use Rattle.std.specs.Prelude.{codes}
+use Rattle.mpc_file.specs.Lines.{count_line}
+use Rattle.mpc_file.specs.Writing.{ended}
+use Rattle.mpc_file.specs.FormNames.{AreLawsNumbered}
+use Rattle.mpc_file.proofs.FormNameLemmas.{no_forms, table_written}
 use Rattle.mpc_file.proofs.writing.law_lines.write_table.Goals as goal
 
-pub loop-j-preserved : goal.loop-j-preserved
-loop-j-preserved c = spread_at ended law_lines c.args.laws.now c.loop-j.j c.at.result.now c.write_count_line.new.out.items c.loop-j.out.items c.write_law.new.out.items c.at.ensures c.loop-j.invariant c.in_ok-write_law.ensures
+pub returns : goal.returns
+returns c =
+    let numbered : AreLawsNumbered c.args.laws.now [] c.write_laws.new.out.items c.write_laws.new.names =
+    subst (λ t. AreLawsNumbered c.args.laws.now t c.write_laws.new.out.items c.write_laws.new.names) c.new-text.ensures.items (c.in_ok-write_laws.ensures (no_forms c.new-names.result c.new-names.ensures)) in
+    on_ok_weaker c.write_piece-2.result
+    (λ added. table_written c.args.laws.now c.args.out.now.items c.write_count_line.new.out.items c.write_piece.new.out.items c.write_count_line-2.new.out.items c.write_piece-2.new.out.items
+    c.write_laws.new.out.items c.text.result.now c.len.result c.write_laws.new.names numbered c.len.ensures c.text.ensures
+    c.in_ok-write_count_line.ensures c.in_ok-write_piece.ensures
+    (c.in_ok-write_count_line-2.ensures ∙ ap (λ n. c.write_piece.new.out.items ++ ended (count_line (codes "laws") n)) c.len-2.ensures)
+    (added ∙ ap (λ t. c.write_count_line-2.new.out.items ++ t) c.as_slice.ensures.value))
+    c.write_piece-2.ensures

@@ -1,7 +1,12 @@
 use Rattle.std.proofs.Common.{◌≡◌, ◌++◌, take, map}
+use Rattle.std.specs.Prelude.{All}
 use Rattle.mpc_file.specs.Lines.{grid_line}
-use Rattle.mpc_file.specs.Text.{text_of_lines}
+use Rattle.mpc_file.specs.Writing.{text_of_lines}
+use Rattle.mpc_file.specs.WrittenFits.{AxisFits}
 use Rattle.mpc_file.proofs.writing.plant_lines.write_grid.Given as goal
 
 abbrev pub invariant-loop-i : goal.invariant-loop-i
-invariant-loop-i l = l.out.items ≡ l.initial.out.items ++ text_of_lines (map grid_line (take l.i l.grid))
+invariant-loop-i l = record {
+  text : l.out.items ≡ l.initial.out.items ++ text_of_lines (map grid_line (take l.i l.grid));
+  fits : All AxisFits (take l.i l.grid);
+}

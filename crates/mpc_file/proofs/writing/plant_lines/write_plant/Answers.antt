@@ -1,17 +1,38 @@
-use Rattle.std.proofs.Common.{◌≡◌, ◌++◌, map}
+use Rattle.std.proofs.Common.{◌≡◌, ◌++◌, ◌∷◌, [], map}
 use Rattle.std.proofs.lemmas.Result.{on_ok_weaker}
-use Rattle.mpc_file.specs.Lines.{size_line, matrix_lines, offset_lines, row_lines, last_lines, grid_line}
-use Rattle.mpc_file.specs.Text.{ended, text_of_lines}
-use Rattle.mpc_file.proofs.LineLemmas.{joined, line_and_blocks}
+use Rattle.std.proofs.lemmas.List.{append-nil}
+use Rattle.std.proofs.Common.{◌∙◌, sym, ap}
+use Rattle.mpc_file.specs.Lines.{grid_line}
+use Rattle.mpc_file.specs.Writing.{ended, text_of_lines, size_line, matrix_lines, drift_line, goal_line, row_lines, last_lines}
+use Rattle.mpc_file.proofs.GrownTexts.{joined, line_and_blocks}
+use Rattle.mpc_file.proofs.PlantPrints.{plant_prints}
 use Rattle.mpc_file.proofs.writing.plant_lines.write_plant.Goals as goal
 
-pub returns : goal.returns
-returns c =
+pub returns-clause-text : goal.returns-clause-text
+returns-clause-text c =
     let plant = c.args.plant.now in
-    let terms : c.write_offsets.new.out.items ≡ c.write_size.new.out.items ++ text_of_lines (matrix_lines plant ++ offset_lines plant) =
-    joined ended (matrix_lines plant) (offset_lines plant) c.write_size.new.out.items c.write_matrices.new.out.items c.write_offsets.new.out.items c.in_ok-write_matrices.ensures c.in_ok-write_offsets.ensures in
+    let drift : c.write_drift.new.out.items ≡ c.write_size.new.out.items ++ text_of_lines (matrix_lines plant ++ drift_line plant ∷ []) =
+    joined ended (matrix_lines plant) (drift_line plant ∷ []) c.write_size.new.out.items c.write_matrices.new.out.items c.write_drift.new.out.items c.in_ok-write_matrices.ensures.text
+    (c.in_ok-write_drift.ensures.text ∙ ap (λ t. c.write_matrices.new.out.items ++ t) (sym (append-nil (ended (drift_line plant))))) in
+    let terms : c.write_goal.new.out.items ≡ c.write_size.new.out.items ++ text_of_lines ((matrix_lines plant ++ drift_line plant ∷ []) ++ goal_line plant ∷ []) =
+    joined ended (matrix_lines plant ++ drift_line plant ∷ []) (goal_line plant ∷ []) c.write_size.new.out.items c.write_drift.new.out.items c.write_goal.new.out.items drift
+    (c.in_ok-write_goal.ensures.text ∙ ap (λ t. c.write_drift.new.out.items ++ t) (sym (append-nil (ended (goal_line plant))))) in
     on_ok_weaker c.write_grid.result
-    (λ added. line_and_blocks (size_line plant) (matrix_lines plant ++ offset_lines plant) (row_lines plant.rows) (last_lines plant.terminal) (map grid_line plant.grid)
-    c.args.out.now.items c.write_size.new.out.items c.write_offsets.new.out.items c.write_rows.new.out.items c.write_terminal.new.out.items c.write_grid.new.out.items
-    c.in_ok-write_size.ensures terms c.in_ok-write_rows.ensures c.in_ok-write_terminal.ensures added)
-    c.write_grid.ensures
+    (λ added. line_and_blocks (size_line plant) (matrix_lines plant ++ drift_line plant ∷ goal_line plant ∷ []) (row_lines plant.rows) (last_lines plant.terminal) (map grid_line plant.grid)
+    c.args.out.now.items c.write_size.new.out.items c.write_goal.new.out.items c.write_rows.new.out.items c.write_terminal.new.out.items c.write_grid.new.out.items
+    c.in_ok-write_size.ensures terms c.in_ok-write_rows.ensures.text c.in_ok-write_terminal.ensures.text added)
+    c.write_grid.ensures.text
+
+pub returns-clause-prints : goal.returns-clause-prints
+returns-clause-prints c =
+    on_ok_weaker c.write_grid.result
+    (λ fits. plant_prints c.args.plant.now c.args.plant.now.is_plant
+    (record {
+      matrices = c.in_ok-write_matrices.ensures.fits;
+      drift = c.in_ok-write_drift.ensures.fits;
+      goal = c.in_ok-write_goal.ensures.fits;
+      rows = c.in_ok-write_rows.ensures.fits;
+      terminal = c.in_ok-write_terminal.ensures.fits;
+      grid = fits;
+    }))
+    c.write_grid.ensures.fits

@@ -1,7 +1,12 @@
 use Rattle.std.proofs.Common.{◌≡◌, ◌++◌, take, map}
+use Rattle.std.specs.Prelude.{All}
 use Rattle.mpc_file.specs.Lines.{row_line}
-use Rattle.mpc_file.specs.Text.{text_of_lines}
+use Rattle.mpc_file.specs.Writing.{text_of_lines}
+use Rattle.mpc_file.specs.WrittenFits.{RowFits}
 use Rattle.mpc_file.proofs.writing.plant_lines.write_rows.Given as goal
 
 abbrev pub invariant-loop-i : goal.invariant-loop-i
-invariant-loop-i l = l.out.items ≡ l.initial.out.items ++ text_of_lines (map row_line (take l.i l.rows))
+invariant-loop-i l = record {
+  text : l.out.items ≡ l.initial.out.items ++ text_of_lines (map row_line (take l.i l.rows));
+  fits : All RowFits (take l.i l.rows);
+}

@@ -1,6 +1,6 @@
 use Rattle.std.proofs.Common.{◌≡◌, ◌++◌, take, map}
 use Rattle.std.specs.Fmt.{signed_decimal}
-use Rattle.mpc_file.specs.Lines.{behind_blanks}
+use Rattle.mpc_words.specs.Words.{behind_blanks}
 use Rattle.mpc_file.proofs.writing.tree_lines.write_integers.Given as goal
 
 abbrev pub invariant-loop-integer : goal.invariant-loop-integer

@@ -1,7 +1,10 @@
-use Rattle.std.proofs.Common.{◌≡◌, ◌++◌, take, map}
-use Rattle.mpc_file.specs.Lines.{cert_line}
-use Rattle.mpc_file.specs.Text.{text_of_lines}
+use Rattle.std.proofs.Common.{◌≡◌, ◌++◌, take}
+use Rattle.std.specs.Prelude.{All}
+use Rattle.mpc_file.specs.PlaneNames.{certs_text, CertFits}
 use Rattle.mpc_file.proofs.writing.tree_lines.write_leaf.Given as goal
 
 abbrev pub invariant-loop-i : goal.invariant-loop-i
-invariant-loop-i l = l.out.items ≡ l.initial.out.items ++ text_of_lines (map cert_line (take l.i l.certs))
+invariant-loop-i l = record {
+  text : l.out.items ≡ l.initial.out.items ++ certs_text (take l.i l.certs);
+  fits : All CertFits (take l.i l.certs);
+}

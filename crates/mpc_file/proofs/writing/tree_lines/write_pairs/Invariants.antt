@@ -1,7 +1,12 @@
 use Rattle.std.proofs.Common.{◌≡◌, ◌++◌, take}
 use Rattle.std.specs.List.{flat_map}
-use Rattle.mpc_file.specs.Lines.{behind_blanks, pair_words}
+use Rattle.mpc_words.specs.Words.{behind_blanks}
+use Rattle.mpc_file.specs.Lines.{pair_words}
+use Rattle.mpc_file.specs.PlaneNames.{CertFits}
 use Rattle.mpc_file.proofs.writing.tree_lines.write_pairs.Given as goal
 
 abbrev pub invariant-loop-i : goal.invariant-loop-i
-invariant-loop-i l = l.out.items ≡ l.initial.out.items ++ behind_blanks (flat_map pair_words (take l.i l.cert))
+invariant-loop-i l = record {
+  text : l.out.items ≡ l.initial.out.items ++ behind_blanks (flat_map pair_words (take l.i l.cert));
+  fits : CertFits (take l.i l.cert);
+}

@@ -1,0 +1,11 @@
+use Rattle.std.proofs.Common.{◌≡◌, ltb, List, length}
+use Rattle.mpc_plant.specs.declared.lists.PlantRow.{PlantRow}
+use Rattle.mpc_file.specs.Reading.{ReadsItems, one_line}
+use Rattle.mpc_file.specs.PlantGrammar.{plain_rule, IsLast}
+use Rattle.mpc_file.proofs.limit_lines.read_last_lines.Given as goal
+
+abbrev pub invariant-loop : goal.invariant-loop
+invariant-loop l = record {
+  so_far : ReadsItems PlantRow (λ items. one_line (plain_rule (IsLast l.sizes))) (λ (items : List PlantRow). ltb (length items) l.count) l.initial.lines l.rows l.lines;
+  so_many : length l.rows ≡ l.counter;
+}

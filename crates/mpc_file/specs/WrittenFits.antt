@@ -1,0 +1,34 @@
+-- Which of a plant's fractions have parts that fit: all of them.
+use Rattle.std.specs.Prelude.{[], ◌∷◌, ◌++◌, All}
+use Rattle.mpc_plant.specs.declared.plants.Plant.{Plant}
+use Rattle.mpc_plant.specs.declared.lists.PlantRow.{PlantRow}
+use Rattle.mpc_plant.specs.declared.lists.Coordinate.{Coordinate}
+use Rattle.mpc_file.specs.PlantGrammar.{AllFit}
+
+abbrev pub RowFits : PlantRow → Type 0
+RowFits row = AllFit (row.x ++ row.u ++ row.max ∷ [])
+
+abbrev pub LastFits : PlantRow → Type 0
+LastFits row = AllFit (row.x ++ row.max ∷ [])
+
+abbrev pub AxisFits : Coordinate → Type 0
+AxisFits axis = AllFit (axis.low ∷ axis.step ∷ [])
+
+pub record MatricesFit (plant : Plant) : Type 0 where
+  pub a : All AllFit plant.a.rows
+  pub b : All AllFit plant.b.rows
+  pub q : All AllFit plant.q.rows
+  pub r : All AllFit plant.r.rows
+  pub last : All AllFit plant.last.rows
+
+pub record GoalFits (plant : Plant) : Type 0 where
+  pub xgoal : AllFit plant.xgoal
+  pub ugoal : AllFit plant.ugoal
+
+pub record PlantFits (plant : Plant) : Type 0 where
+  pub matrices : MatricesFit plant
+  pub drift : AllFit plant.drift
+  pub goal : GoalFits plant
+  pub rows : All RowFits plant.rows
+  pub terminal : All LastFits plant.terminal
+  pub grid : All AxisFits plant.grid

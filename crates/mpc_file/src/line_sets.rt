@@ -1,0 +1,44 @@
+//! Sets of lines of a text.
+
+ghost use Rattle.std.specs.Prelude.{◌≡◌, ℕ, List, [], not, IfOk, OnOk, ◌↔◌, ◌⊎◌, Contains, IsTrue};
+
+use mpc_frac::NoMemory;
+use std::alloc::Global;
+use std::collections::BTreeSet;
+use std::marker::Model;
+
+/// A set of lines, in order.
+#[derive(Drop)]
+pub struct LineSet<'a> {
+    lines: BTreeSet<&'a [u8]>,
+}
+
+impl<'a> Model for LineSet<'a> {
+    ghost use Rattle.std.specs.Prelude.{ℕ, List, map};
+
+    ghost Value = { List (List ℕ) };
+
+    ghost view = { λ s. map (λ line. line.now) s.lines.keys };
+}
+
+impl<'a> LineSet<'a> {
+    /// The set without lines, which takes no memory.
+    pub fn new(alloc: Global) -> LineSet<'a>
+        ensures { result ≡ [] }
+    {
+        LineSet {
+            lines: BTreeSet::new(alloc),
+        }
+    }
+
+    /// Puts a line into the set, and answers whether it is new.
+    pub fn insert(&mut self, line: &'a [u8]) -> Result<bool, NoMemory>
+        ensures new { IfOk result (λ added. IsTrue added ↔ (¬ Contains self.old line.now)) }
+        ensures lines { OnOk result ((other : List ℕ) → Contains self.new other ↔ (Contains self.old other ⊎ (other ≡ line.now))) }
+    {
+        let Ok(added) = self.lines.insert(line) else {
+            return Err(NoMemory);
+        };
+        Ok(added)
+    }
+}

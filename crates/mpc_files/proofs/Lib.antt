@@ -1,0 +1,4 @@
+pub mod OutcomeLemmas
+pub mod TextLemmas
+pub mod ReplyLemmas
+pub mod CheckLemmas
