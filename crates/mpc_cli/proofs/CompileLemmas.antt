@@ -12,7 +12,9 @@ use Rattle.mpc_plant.specs.Trajectory.{IsWithin, IsInBox, point_of}
 use Rattle.mpc_rows.specs.declared.programs.Qp.{Qp}
 use Rattle.mpc_controller.specs.Parts.{Parts, limits_of}
 use Rattle.mpc_controller.specs.Replies.{outside_from, first_outside}
-use Rattle.mpc_file.specs.Text.{text_of}
+use Rattle.mpc_file.specs.declared.versions.Version.TheVariants.{Three}
+use Rattle.mpc_file.specs.FileGrammar.{Spells}
+use Rattle.mpc_file.specs.TextLaws.{OneText}
 use Rattle.mpc_table.specs.Lookup.{Lookup, IsTableOf}
 use Rattle.mpc_synthesis.specs.Controllers.{IsController, ControllerIsRight, ControllerReplies, OneController}
 use Rattle.mpc_cli.specs.ReplyLines.{IsRightTable, AreReplies}
@@ -46,13 +48,13 @@ in_box : (plant : Plant) (counts : List ℕ) → length counts ≡ plant.n → f
 in_box plant counts size inside = within_grid 1 plant.grid counts (size ∙ sym plant.is_plant.grid_size) inside
 
 -- ---- the file and the replies
-pub file_of : ControllerIsRight → ControllerReplies → OneController → (plant : Plant) (qp : Qp) (parts : Parts) → IsController plant qp parts → (text : List ℕ) → text ≡ text_of parts → IsFileOf plant text
-file_of right replies one plant qp parts is text written = record {
+pub file_of : ControllerIsRight → ControllerReplies → OneController → OneText → (plant : Plant) (qp : Qp) (parts : Parts) → IsController plant qp parts → (text : List ℕ) → Spells text Three parts → IsFileOf plant text
+file_of right replies one same plant qp parts is text written = record {
   qp = qp;
   parts = parts;
   controller = is;
   written = written;
-  only = λ q other their. written ∙ ap text_of (one plant qp q parts other is their);
+  only = λ q other other_text their spelled. same other_text text Three parts (subst (Spells other_text Three) (sym (one plant qp q parts other is their)) spelled) written;
   replies = λ t box. replies plant qp parts t is box;
   right = λ t reply box r. right plant qp parts t reply is box r;
 }
@@ -74,8 +76,8 @@ pub replied : (plant : Plant) (counts text out : List ℕ) (status : Status) (pa
 replied plant counts text out status parts is h e f =
     subst (λ s. IsPlantAnswer Run plant counts s out) (sym e) (subst (IsPlantAnswer Run plant counts Done) (sym f) (record { complete = (is.0, (parts, is.1)); output = h plant is.0 is.1 }))
 
-pub compiled : ControllerIsRight → ControllerReplies → OneController → (plant : Plant) (text out : List ℕ) (status : Status) (parts : Parts) → ((qp : Qp) × IsController plant qp parts) → text ≡ text_of parts → status ≡ Done → out ≡ text
+pub compiled : ControllerIsRight → ControllerReplies → OneController → OneText → (plant : Plant) (text out : List ℕ) (status : Status) (parts : Parts) → ((qp : Qp) × IsController plant qp parts) → Spells text Three parts → status ≡ Done → out ≡ text
     → (workers : ℕ) (counts : List ℕ) → IsPlantAnswer (Compile workers) plant counts status out
-compiled right replies one plant text out status parts is written e f workers counts =
+compiled right replies one same plant text out status parts is written e f workers counts =
     subst (λ s. IsPlantAnswer (Compile workers) plant counts s out) (sym e)
-    (subst (IsPlantAnswer (Compile workers) plant counts Done) (sym f) (record { complete = (is.0, (parts, is.1)); output = file_of right replies one plant is.0 parts is.1 text written }))
+    (subst (IsPlantAnswer (Compile workers) plant counts Done) (sym f) (record { complete = (is.0, (parts, is.1)); output = file_of right replies one same plant is.0 parts is.1 text written }))

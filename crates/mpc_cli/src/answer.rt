@@ -27,7 +27,7 @@ use crate::status::Status;
 use crate::tracing::trace;
 use mpc_claim::Registry;
 use mpc_controller::Controller;
-use mpc_file::write_file;
+use mpc_file::{one_text, write_file};
 use mpc_frac::NoMemory;
 use mpc_plant::Plant;
 use mpc_synthesis::{SynthesisError, controller_of, one_controller, right_controller};
@@ -111,6 +111,7 @@ fn compile_answer(alloc: Global, plant: Plant, registry: Registry) -> Result<Ans
 {
     right_controller();
     one_controller();
+    one_text();
     match controller_of(alloc, plant, registry) {
         Ok(parts) => {
             let text = write_file(alloc, &parts)?;

@@ -269,25 +269,25 @@ fn compiles(rt: HostRuntime) -> Result<(), Fail> {
         Case {
             words: "compile",
             input: b"{\"version\":1,\"horizon\":1,\"A\":[[1]],\"B\":[[1]],\"Q\":[[1]],\"R\":[[1]],\"P\":[[1]],\"grid\":[{\"low\":-4,\"step\":1,\"count\":8}]}",
-            ends: b"mpc 1\nsize 1 1 1\nA 1\nB 1\nQ 1\nR 1\nP 1\nrows 0\nterminal 0\ngrid -4 1 8\nlaws 1\nlaw\nmove 2 -1/2\ntree\nleaf 1\nend\n",
+            ends: b"mpc 3\nsize 1 1 1\nA 1\nB 1\nQ 1\nR 1\nP 1\ndrift 0\ngoal 0 0\nrows 0\nterminal 0\ngrid -4 1 8\nforms 1\nform 2 -1/2\nlaws 1\nlaw\nmove 1\nplanes 0\ntree\nleaf 1\nend\n",
             code: 0,
         },
         Case {
             words: "compile",
             input: b"{\"version\":1,\"horizon\":1,\"A\":[[1]],\"B\":[[1]],\"Q\":[[1]],\"R\":[[1]],\"P\":[[1]],\"rows\":[{\"u\":[1],\"max\":1},{\"u\":[-1],\"max\":1}],\"grid\":[{\"low\":-4,\"step\":1,\"count\":8}]}",
-            ends: b"mpc 1\nsize 1 1 1\nA 1\nB 1\nQ 1\nR 1\nP 1\nrows 2\nrow 0 1 1\nrow 0 -1 1\nterminal 0\ngrid -4 1 8\nlaws 3\nlaw\nmove 2 -1/2\nlaw 1\nmove 1 0\nmult 2 -1\nlaw 2\nmove -1 0\nmult -6 1\ntree\nsplit -1 -2\nsplit 1 6\nleaf 1\ncert 3 1 5 1\ncert 4 1 5 1\nleaf 3\ncert 5 1\ncert 4 1 5 1\nleaf 2\ncert 3 1 4 1\ncert 4 1\nend\n",
+            ends: b"mpc 3\nsize 1 1 1\nA 1\nB 1\nQ 1\nR 1\nP 1\ndrift 0\ngoal 0 0\nrows 2\nrow 0 1 1\nrow 0 -1 1\nterminal 0\ngrid -4 1 8\nforms 5\nform 2 -1/2\nform 1 0\nform 2 -1\nform -1 0\nform -6 1\nlaws 3\nlaw\nmove 1\nlaw 1\nmove 2\nmult 3\nlaw 2\nmove 4\nmult 5\nplanes 2\nplane -1 -2\nplane 1 6\ntree\nsplit 1\nsplit 2\nleaf 1\ncert 3 1 5 1\ncert 4 1 5 1\nleaf 3\ncert 5 1\ncert 4 1 5 1\nleaf 2\ncert 3 1 4 1\ncert 4 1\nend\n",
             code: 0,
         },
         Case {
             words: "compile",
             input: b"{\"version\":1,\"horizon\":1,\"A\":[[1]],\"B\":[[1]],\"Q\":[[1]],\"R\":[[1]],\"P\":[[1]],\"rows\":[{\"u\":[1],\"max\":1},{\"u\":[-1],\"max\":1}],\"terminal\":[{\"x\":[1],\"max\":1},{\"x\":[-1],\"max\":1}],\"grid\":[{\"low\":-4,\"step\":1,\"count\":8}]}",
-            ends: b"mpc 1\nsize 1 1 1\nA 1\nB 1\nQ 1\nR 1\nP 1\nrows 2\nrow 0 1 1\nrow 0 -1 1\nterminal 2\nlast 1 1\nlast -1 1\ngrid -4 1 8\nlaws 5\nlaw\nmove 2 -1/2\nlaw 1\nmove 1 0\nmult 2 -1\nlaw 2\nmove -1 0\nmult -6 1\nlaw 3\nmove 5 -1\nmult -6 1\nlaw 4\nmove 3 -1\nmult 2 -1\ntree\nsplit -1 -2\nsplit 1 6\nleaf 1\ncert 3 1 5 1\ncert 4 1 5 1\ncert 4 1 5 1\ncert 3 1 5 1\nnone\ncert 4 1 6 1 7 1\nnone\ncert 3 1 4 1 7 1\nend\n",
+            ends: b"mpc 3\nsize 1 1 1\nA 1\nB 1\nQ 1\nR 1\nP 1\ndrift 0\ngoal 0 0\nrows 2\nrow 0 1 1\nrow 0 -1 1\nterminal 2\nlast 1 1\nlast -1 1\ngrid -4 1 8\nforms 7\nform 2 -1/2\nform 1 0\nform 2 -1\nform -1 0\nform -6 1\nform 5 -1\nform 3 -1\nlaws 5\nlaw\nmove 1\nlaw 1\nmove 2\nmult 3\nlaw 2\nmove 4\nmult 5\nlaw 3\nmove 6\nmult 5\nlaw 4\nmove 7\nmult 3\nplanes 2\nplane -1 -2\nplane 1 6\ntree\nsplit 1\nsplit 2\nleaf 1\ncert 3 1 5 1\ncert 4 1 5 1\ncert 4 1 5 1\ncert 3 1 5 1\nnone\ncert 4 1 6 1 7 1\nnone\ncert 3 1 4 1 7 1\nend\n",
             code: 0,
         },
         Case {
             words: "compile",
             input: b"{\"version\":1,\"horizon\":1,\"A\":[[1]],\"B\":[[1]],\"Q\":[[1]],\"R\":[[1]],\"P\":[[1]],\"rows\":[{\"u\":[1],\"max\":-1},{\"u\":[-1],\"max\":-1}],\"grid\":[{\"low\":-4,\"step\":1,\"count\":8}]}",
-            ends: b"mpc 1\nsize 1 1 1\nA 1\nB 1\nQ 1\nR 1\nP 1\nrows 2\nrow 0 1 -1\nrow 0 -1 -1\nterminal 0\ngrid -4 1 8\nlaws 0\ntree\nnone\ncert 3 1 4 1\nend\n",
+            ends: b"mpc 3\nsize 1 1 1\nA 1\nB 1\nQ 1\nR 1\nP 1\ndrift 0\ngoal 0 0\nrows 2\nrow 0 1 -1\nrow 0 -1 -1\nterminal 0\ngrid -4 1 8\nforms 0\nlaws 0\nplanes 0\ntree\nnone\ncert 3 1 4 1\nend\n",
             code: 0,
         },
         Case {
@@ -450,6 +450,6 @@ fn tells_failing_devices(rt: HostRuntime) -> Result<(), Fail> {
     let mut sink = MemorySink::new(rt.alloc(), 10, fails);
     let status = run_words(&rt, rt.alloc(), "compile", &mut source, &mut sink)?;
     assert_eq!(rt; status.code(), 9);
-    assert_eq!(rt; sink.bytes(), b"mpc 1\nsize".as_slice());
+    assert_eq!(rt; sink.bytes(), b"mpc 3\nsize".as_slice());
     Ok(())
 }

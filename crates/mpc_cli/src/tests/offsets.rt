@@ -38,7 +38,7 @@ fn answers_offsets_and_targets(rt: HostRuntime) -> Result<(), Fail> {
         Case {
             words: "compile",
             input: b"{\"version\":2,\"horizon\":1,\"A\":[[1]],\"B\":[[1]],\"Q\":[[1]],\"R\":[[1]],\"P\":[[1]],\"drift\":[1],\"grid\":[{\"low\":-4,\"step\":1,\"count\":8}]}",
-            ends: b"mpc 2\nsize 1 1 1\nA 1\nB 1\nQ 1\nR 1\nP 1\ndrift 1\ngoal 0 0\nrows 0\nterminal 0\ngrid -4 1 8\nlaws 1\nlaw\nmove 3/2 -1/2\ntree\nleaf 1\nend\n",
+            ends: b"mpc 3\nsize 1 1 1\nA 1\nB 1\nQ 1\nR 1\nP 1\ndrift 1\ngoal 0 0\nrows 0\nterminal 0\ngrid -4 1 8\nforms 1\nform 3/2 -1/2\nlaws 1\nlaw\nmove 1\nplanes 0\ntree\nleaf 1\nend\n",
             code: 0,
         },
         Case {
