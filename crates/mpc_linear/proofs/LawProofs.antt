@@ -1,11 +1,23 @@
--- The laws of sums of products, and of 0 in them.
+-- The laws of stored matrices, of sums of products, and of 0 in them.
 use Rattle.std.proofs.Common.{pos, refl, sym, ◌∙◌}
 use Rattle.std.proofs.lemmas.List.{get_or_default}
 use Rattle.mpc_exact.specs.Rational.{int}
+use Rattle.mpc_linear.specs.GridLaws.{GridLaws}
 use Rattle.mpc_linear.specs.SumLaws.{SumLaws}
 use Rattle.mpc_linear.specs.ZeroLaws.{ZeroLaws}
+use Rattle.mpc_linear.proofs.GridLemmas.{height-grid, columns-grid, grid-rectangular, grid-set, grid-zeros, place-below}
 use Rattle.mpc_linear.proofs.DotLemmas.{goes_none, goes_more, goes_wide, goes_value, goes_fits}
 use Rattle.mpc_linear.proofs.ZeroFits.{fits_zero, fits_add_zero, from_zero, taken_from_zero, nothing_added, nothing_taken}
+
+pub grid_laws : GridLaws
+grid_laws = record {
+  rows = height-grid;
+  columns = columns-grid;
+  rectangular = grid-rectangular;
+  place = place-below;
+  entry_set = λ n w xs i j v h k. grid-set n w xs i j v h k;
+  zeros = grid-zeros;
+}
 
 pub sum_laws : SumLaws
 sum_laws = record {

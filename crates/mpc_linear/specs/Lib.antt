@@ -8,6 +8,7 @@ pub mod Product
 pub mod Solution
 pub mod Stored
 pub mod Shape
+pub mod GridLaws
 pub mod SumLaws
 pub mod ZeroLaws
 pub mod PrimitiveRows

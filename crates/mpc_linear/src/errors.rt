@@ -10,7 +10,8 @@ use thiserror::Error;
 /// Why a call on vectors and matrices has no answer.
 #[derive(Clone, Copy, Debug, PartialEq, Eq, Drop, Error)]
 pub enum LinearError {
-    /// A number of this step, counted from 1, is 2^127 or more in size; 0 where the call has no steps.
+    /// A number of this step is 2^127 or more in size. Each call says what it counts as its steps; 0
+    /// where it has none.
     #[error("step {0} needs numbers of more than 128 bits")]
     Wide(u32),
     /// There is no more memory.

@@ -126,7 +126,7 @@ pub fn common(alloc: Global, c: &Vector) -> Result<IntAffine, LinearError>
 }
 
 /// The greatest common divisor of these integers and b; 0 where all are 0.
-fn shared_divisor(row: &Ints, b: i128) -> u128
+pub fn shared_divisor(row: &Ints, b: i128) -> u128
     requires small { AreSmall row.now }
     requires b_small { unsigned_abs b < 2 ^ 127 }
     ensures shared { IsShared result (row.now ++ b ∷ []) }

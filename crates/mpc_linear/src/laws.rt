@@ -1,9 +1,17 @@
-//! What holds of all sums of products, and of all rows in whole numbers. The calls do nothing: their
-//! contracts are the laws.
+//! What holds of all stored matrices, of all sums of products, and of all rows in whole numbers. The
+//! calls do nothing: their contracts are the laws.
 
+ghost use Rattle.mpc_linear.specs.GridLaws.{GridLaws};
 ghost use Rattle.mpc_linear.specs.SumLaws.{SumLaws};
 ghost use Rattle.mpc_linear.specs.ZeroLaws.{ZeroLaws};
 ghost use Rattle.mpc_linear.specs.PrimitiveRows.{OnePrimitiveRow, SmallPrimitiveRow};
+
+/// A list that holds the entries row by row is a matrix of its counts, and setting an entry of the
+/// matrix is setting it in the list.
+#[inline]
+pub fn grid_laws()
+    ensures { GridLaws }
+{}
 
 /// A sum of products is formed product by product, and fits where each of them and each sum on the
 /// way does.

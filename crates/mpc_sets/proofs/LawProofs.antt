@@ -1,6 +1,6 @@
 -- The laws of sets of rows.
 use Rattle.mpc_sets.specs.SetLaws.{MemberLaws, OrderLaws, CountLaws, GivenWithoutOne}
-use Rattle.mpc_sets.proofs.RowSets.{Contains-from_among, Among-from_contains, Among_at, Among_within, rises_last, length-without_row}
+use Rattle.mpc_sets.proofs.RowSets.{Contains-from_among, Among-from_contains, Among_at, Among_within, rises_last, with_row-last, length-without_row}
 use Rattle.mpc_sets.proofs.SetOrders.{IsBefore-irrefl, IsBefore-trans, IsBefore-cases, shorter_before, before_size}
 use Rattle.mpc_sets.proofs.Counting.{length-sets-of_forty, length-sets-of_four, length-sets-of_sixty}
 use Rattle.mpc_sets.proofs.Joining.{next_without, lacks_row}
@@ -12,6 +12,7 @@ member_laws = record {
   in_place = Among_at;
   within = Among_within;
   one_more = rises_last;
+  greatest_last = λ s row h. with_row-last s row h;
   one_fewer = λ low high row s r a. length-without_row row low high s r a;
   lacks_one = λ rows row s h a. lacks_row rows s row h a;
 }

@@ -1,6 +1,6 @@
 -- Laws of sets of rows: their members, their order, how many there are, and the sets of the next level.
 use Rattle.std.specs.Prelude.{◌≡◌, ◌≢◌, ℕ, ◌+◌, ◌<◌, ◌≤◌, ◌⊎◌, List, [], ◌∷◌, ◌++◌, length, slice_index_or, All, AllPairs, Contains}
-use Rattle.mpc_sets.specs.RowSet.{RisesWithin, Among, IsSetOfRows, without_row, LacksOne}
+use Rattle.mpc_sets.specs.RowSet.{RisesWithin, Among, IsSetOfRows, with_row, without_row, LacksOne}
 use Rattle.mpc_sets.specs.SetOrder.{IsBefore}
 use Rattle.mpc_sets.specs.NextLevel.{IsNextOf}
 
@@ -15,6 +15,7 @@ pub record MemberLaws : Type 0 where
   -- a row that is greater than each member can stand behind them
   pub one_more : (low high top : ℕ) (s : List ℕ) (row : ℕ) → RisesWithin low high s → ((i : ℕ) → Among i s → i < row) → low < row → row ≤ top
       → RisesWithin low top (s ++ row ∷ [])
+  pub greatest_last : (s : List ℕ) (row : ℕ) → ((i : ℕ) → Among i s → i < row) → with_row row s ≡ s ++ row ∷ []
   -- without one of its members a set is a set of one member fewer
   pub one_fewer : (low high row : ℕ) (s : List ℕ) → RisesWithin low high s → Among row s → length (without_row row s) + 1 ≡ length s
   pub lacks_one : (rows row : ℕ) (s : List ℕ) → IsSetOfRows rows s → Among row s → IsSetOfRows rows (without_row row s) × LacksOne (without_row row s) s

@@ -1,16 +1,12 @@
 -- Whole numbers as fractions always fit.
-use Rattle.std.proofs.Common.{◌≡◌, ◌≢◌, ◌^◌, ◌<◌, ℤ, pos, unsigned_abs, ◌↔◌, Result, Err, sym, ◌∙◌, subst, ap, lit<, lit≤, to_z, of_z, ℕ, ◌≤◌, arith}
+use Rattle.std.proofs.Common.{◌≡◌, ◌≢◌, ◌^◌, ◌<◌, ℤ, pos, unsigned_abs, ◌↔◌, Result, Err, sym, ◌∙◌, subst, ap, lit<, lit≤, to_z, ℕ, ◌≤◌, arith}
 use Rattle.std.specs.Int.{w128}
-use Rattle.std.proofs.lemmas.Int.{fits_signed_from_abs, to_z_pos, to_z-of_z}
+use Rattle.std.proofs.lemmas.Int.{to_z_pos}
 use Rattle.mpc_exact.specs.Rational.{ℚ, int, quotient}
 use Rattle.mpc_exact.proofs.School.{quotient_positive, int_parts}
 use Rattle.mpc_frac.specs.Fits.{FitsFrac}
 use Rattle.mpc_frac.specs.declared.FracError.{FracError}
 use Rattle.mpc_frac.specs.declared.FracError.TheVariants.{ZeroDenominator, Wide}
-
--- a number below 2^127 in size is read back from its bits
-pub read_back : (z : ℤ) → unsigned_abs z < 2 ^ 127 → to_z w128 (of_z w128 z) ≡ z
-read_back z h = to_z-of_z w128 z (fits_signed_from_abs w128 z h)
 
 over_one : (z : ℤ) → quotient z (pos 1) ≡ int z
 over_one z = quotient_positive z 1 (lit< tt)

@@ -2,7 +2,7 @@ use Rattle.std.proofs.Common.{◌<◌, ◌^◌, ◌∙◌, ap, get_or, map, take
 use Rattle.std.proofs.lemmas.List.Elements.{All-get_or}
 use Rattle.mpc_exact.specs.Rational.{int, neg_ℚ}
 use Rattle.mpc_space.specs.Vector.{vec_scale}
-use Rattle.mpc_systems.proofs.Wholes.{read_back}
+use Rattle.mpc_space.proofs.Words.{read_back}
 use Rattle.mpc_systems.proofs.RowWriting.{pushed, negated_more}
 use Rattle.mpc_systems.proofs.entries.push_negated_wholes.Goals as goal
 

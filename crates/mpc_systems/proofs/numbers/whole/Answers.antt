@@ -1,5 +1,5 @@
 use Rattle.std.proofs.Common.{◌∙◌}
-use Rattle.mpc_systems.proofs.Wholes.{read_back}
+use Rattle.mpc_space.proofs.Words.{read_back}
 use Rattle.mpc_systems.proofs.Wholes.{made_is, made_always}
 use Rattle.mpc_systems.proofs.numbers.whole.Goals as goal
 
