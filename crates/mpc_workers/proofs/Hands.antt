@@ -1,24 +1,24 @@
 -- What a claim and its end do to a hand and to a seat.
-use Rattle.std.proofs.Common.{◌≡◌, ◌⊎◌, ◌<◌, ◌≤◌, ℕ, zero, suc, ◌+◌, ◌-◌, List, [], ◌∷◌, ◌++◌, map, length, Bool, true, false, true≢false, Some, Ok, All, refl, sym, ap, ◌∙◌, subst, arith, eqb, eq-eqb, append_assoc}
-use Rattle.std.specs.Prelude.{slice_get, ◌&&◌, if◌then◌else◌}
+use Rattle.std.proofs.Common.{◌≡◌, ◌≤◌, ℕ, ◌+◌, ◌-◌, List, [], ◌∷◌, ◌++◌, map, length, Bool, true, false, Some, Ok, All, refl, sym, ap, ◌∙◌, subst, arith, eq-eqb}
+use Rattle.std.specs.Prelude.{slice_get, if◌then◌else◌}
 use Rattle.std.proofs.lemmas.List.Elements.{All-push}
 use Rattle.mpc_space.specs.Matrix.{height}
 use Rattle.mpc_sets.specs.RowSet.{IsSetOfRows}
 use Rattle.mpc_rows.specs.declared.programs.Qp.{Qp}
 use Rattle.mpc_claim.specs.declared.events.Event.{Event}
 use Rattle.mpc_claim.specs.declared.events.EventKind.{EventKind}
-use Rattle.mpc_claim.specs.declared.events.EventKind.TheVariants.{Claim, Done, Drop}
-use Rattle.mpc_claim.specs.declared.events.Tag.{Tag}
+use Rattle.mpc_claim.specs.declared.events.EventKind.TheVariants.{Claim}
 use Rattle.mpc_claim.specs.declared.tickets.Ticket.{Ticket}
 use Rattle.mpc_claim.specs.declared.tickets.Claimed.TheVariants.{Job}
 use Rattle.mpc_claim.specs.Board.{event}
 use Rattle.mpc_claim.specs.History.{is_claim, is_drop, claimed_sets}
-use Rattle.mpc_claim.specs.OpenClaims.{Held, held_by, same_set, same, has, without, opened, open_after, open_of}
+use Rattle.mpc_claim.specs.OpenClaims.{Held, held_by, same_set, same, without, opened, open_after, open_of}
 use Rattle.mpc_claim.specs.HistoryLaws.{AppendLaws, CandidateLaws}
 use Rattle.mpc_turn.specs.Views.{Call, hand_of}
 use Rattle.mpc_turn.specs.Known.{Known, TurnId, ClaimedAs, EndedAs, InHand, called}
 use Rattle.mpc_workers.specs.declared.pool.Seat.{Seat}
-use Rattle.mpc_workers.specs.Seats.{IsWorker, GivesNoneUp, IsSeat}
+use Rattle.mpc_workers.specs.Seats.{IsWorker, GivesNoneUp, TakesTurns, IsSeat}
+use Rattle.mpc_workers.proofs.Holding.{turns_more}
 
 -- ---- hands, call by call
 open_after-push : (held : List Held) (es : List Event) (e : Event) → open_after held (es ++ e ∷ []) ≡ opened (open_after held es) e
@@ -97,9 +97,13 @@ module _ (turn : TurnId) (qp : Qp) (most : ℕ) (s : Seat) (t : Ticket) (middle 
         worker = subst (λ (k : Known). IsWorker most k.worker) (sym is) i.worker;
         own = subst (λ (k : Known). All (λ (x : Call). x.1.worker ≡ k.worker) k.calls) (sym is)
             (All-push (λ (x : Call). x.1.worker ≡ s.pass.worker) (s.pass.calls ++ (length c.0, e) ∷ []) (length d.0, e') (All-push (λ (x : Call). x.1.worker ≡ s.pass.worker) s.pass.calls (length c.0, e) i.own refl) own);
+        turns = subst (λ (k : Known). TakesTurns k.calls) (sym is) (turns_more s.pass.calls (length c.0, e) (length d.0, e') i.turns refl ends (refl));
         kept = λ f. subst (λ (k : Known). GivesNoneUp k.calls) (sym is)
             (All-push (λ (x : Call). is_drop x.1.kind ≡ false) (s.pass.calls ++ (length c.0, e) ∷ []) (length d.0, e') (All-push (λ (x : Call). is_drop x.1.kind ≡ false) s.pass.calls (length c.0, e) (i.kept fresh) refl) (kept f));
       }
+
+  pub same_worker : (kind : EventKind) → EndedAs middle t kind last → last.worker ≡ s.pass.worker
+  same_worker kind d = ap (λ (k : Known). k.worker) d.2 ∙ ap (λ (k : Known). k.worker) c.2
 
 -- a claim that gives nothing out leaves the seat with what it has seen
 pub looked_seat : (turn : TurnId) (qp : Qp) (most : ℕ) (s : Seat) (k : Known) (failed : Bool) → IsSeat turn qp most s → s.failed ≡ false → k ≡ record s.pass { seen = k.seen } → IsSeat turn qp most record { pass = k; failed = failed }
@@ -111,5 +115,6 @@ looked_seat turn qp most s k failed i fresh is = record {
   program = ap (λ (x : Known). x.program) is ∙ i.program;
   worker = subst (λ (x : Known). IsWorker most x.worker) (sym is) i.worker;
   own = subst (λ (x : Known). All (λ (c : Call). c.1.worker ≡ x.worker) x.calls) (sym is) i.own;
+  turns = subst (λ (x : Known). TakesTurns x.calls) (sym is) i.turns;
   kept = λ _. subst (λ (x : Known). GivesNoneUp x.calls) (sym is) (i.kept fresh);
 }

@@ -1,5 +1,5 @@
 -- What is left when all passes are back.
-use Rattle.std.proofs.Common.{◌≡◌, ◌≢◌, ◌⊎◌, ℕ, ◌+◌, ◌<◌, List, [], ◌∷◌, ◌++◌, length, drop, Bool, true, false, true≢false, cond, zero, suc, get_or, All, Contains, refl, sym, ap, ◌∙◌, subst, inl, inr, arith, append_assoc, eqb}
+use Rattle.std.proofs.Common.{◌≡◌, ◌⊎◌, ℕ, ◌+◌, ◌<◌, List, [], ◌∷◌, ◌++◌, length, drop, Bool, true, false, true≢false, cond, zero, suc, get_or, All, refl, sym, ap, ◌∙◌, subst, inl, inr, arith, append_assoc}
 use Rattle.std.specs.Prelude.{◌||◌, ◌&&◌, nat_lt, nat_le}
 use Rattle.std.proofs.lemmas.Bool.Decides.{nat_tests}
 use Rattle.std.proofs.lemmas.List.Elements.{All-head, All-tail, All-nil, All-cons}
@@ -7,8 +7,7 @@ use Rattle.std.proofs.lemmas.List.{append-nil}
 use Rattle.mpc_rows.specs.declared.programs.Qp.{Qp}
 use Rattle.mpc_claim.specs.declared.events.Event.{Event}
 use Rattle.mpc_claim.specs.declared.events.EventKind.TheVariants.{Drop}
-use Rattle.mpc_claim.specs.declared.events.Phase.TheVariants.{Working, Finished, Stopped}
-use Rattle.mpc_claim.specs.declared.candidates.Slot.TheVariants.{Dropped}
+use Rattle.mpc_claim.specs.declared.events.Phase.TheVariants.{Finished, Stopped}
 use Rattle.mpc_claim.specs.declared.tickets.Ticket.{Ticket}
 use Rattle.mpc_claim.specs.Board.{Board, at, event}
 use Rattle.mpc_claim.specs.History.{is_drop, has_drop, MayClaim, IsLegal, IsFinished, IsIdle, EndsWide}
@@ -17,8 +16,10 @@ use Rattle.mpc_claim.specs.Books.{IsSlotOf, IsSound}
 use Rattle.mpc_claim.specs.Answers.{GivesJob, FindsIdle}
 use Rattle.mpc_claim.specs.HistoryLaws.{AnswerLaws, AppendLaws, EndedIsWhole}
 use Rattle.mpc_turn.specs.Views.{Call, Starts, weigh, weigh_all, placed, hand_of}
-use Rattle.mpc_turn.specs.Known.{Known, TurnId, Closed, NoneClaimed}
-use Rattle.mpc_workers.specs.Seats.{IsWorker, GivesNoneUp, IsEnded, HasEnd, Joins, SeesEnd, IsLeft, NoneDropped, IsDone}
+use Rattle.mpc_turn.specs.Known.{Known, TurnId, Closed, NoneClaimed, at_place}
+use Rattle.mpc_workers.specs.Holding.{HoldOneSet}
+use Rattle.mpc_workers.specs.Seats.{IsWorker, HasEnd, Joins, SeesEnd, IsLeft, NoneDropped, IsDone}
+use Rattle.mpc_workers.proofs.Holding.{hold_one}
 
 -- ---- sums in which each term is 0
 module _ (f : Call → ℕ) where
@@ -97,18 +98,26 @@ module _ (whole : EndedIsWhole) (appended : AppendLaws) (turn : TurnId) (qp : Qp
   all_seen : r.history ≡ d.past
   all_seen = begins.1 ∙ (ap (λ l. d.past ++ l) (whole qp d.past begins.0 (subst (IsLegal qp) begins.1 legal) (ends d.end)) ∙ append-nil d.past)
 
+  each_once : (p : ℕ) → p < length r.history → weigh_all (at_place p) k.ended ≡ 1
+  each_once p l =
+      let none = ap length j.before_none in
+      let sum = c.once p (omega (arith, none)) l in
+      let own = ap (weigh (at_place p)) j.calls_none in
+      omega (arith, sum, own)
+
   pub left_of_all : IsLeft qp most r
   left_of_all =
       let before : open_of k.before ≡ [] = ap open_of j.before_none in
       let hand : hand_of k.calls ≡ [] = ap hand_of j.calls_none in
-      let nothing = c.settled before hand (λ i e p. (j.ended_all i e p).0) in
+      let nothing = c.settled before hand (λ i e p. (j.ended_all i e p).empty) in
       record {
         program = same_program;
         legal = legal;
         none_open = nothing.0;
         none_claimed = nothing.1;
         no_drop = no_drop;
-        workers = events_in most 0 r.history (counts (strays most) (λ i e p x y q. in_range most _ ((j.ended_all i e p).1 x y q)));
+        workers = events_in most 0 r.history (counts (strays most) (λ i e p x y q. in_range most _ ((j.ended_all i e p).workers x y q)));
+        one_each = hold_one most (length k.before) r.history k.ended each_once c.stands.1 j.ended_all j.in_order;
         ended = subst (λ (h : List Event). IsFinished qp h ⊎ EndsWide qp h) (sym all_seen) (ends d.end);
       }
 
@@ -156,6 +165,7 @@ module _ (qp : Qp) (most : ℕ) (r new : Board) (l : IsLeft qp most r) (sound : 
     legal = subst (λ (b : Board). IsLegal qp b.history) (sym is) l.legal;
     ended = inl (ap (λ (b : Board). b.phase) is, subst (λ (b : Board). IsFinished qp b.history) (sym is) (subst (λ (q : Qp). IsFinished q r.history) l.program f));
     workers = subst (λ (b : Board). All (λ (e : Event). IsWorker most e.worker) b.history) (sym is) l.workers;
+    one_each = subst (λ (b : Board). HoldOneSet b.history) (sym is) l.one_each;
     none_claimed = subst NoneClaimed (sym is) l.none_claimed;
     none_dropped = none_dropped new sound (ap (λ (b : Board). has_drop b.history) is ∙ l.no_drop);
     no_drop = ap (λ (b : Board). has_drop b.history) is ∙ l.no_drop;
@@ -167,6 +177,7 @@ module _ (qp : Qp) (most : ℕ) (r new : Board) (l : IsLeft qp most r) (sound : 
     legal = subst (λ (b : Board). IsLegal qp b.history) (sym is) l.legal;
     ended = inr (ap (λ (b : Board). b.phase) is, subst (λ (b : Board). EndsWide qp b.history) (sym is) (subst (λ (q : Qp). EndsWide q r.history) l.program (wide w)));
     workers = subst (λ (b : Board). All (λ (e : Event). IsWorker most e.worker) b.history) (sym is) l.workers;
+    one_each = subst (λ (b : Board). HoldOneSet b.history) (sym is) l.one_each;
     none_claimed = subst NoneClaimed (sym is) l.none_claimed;
     none_dropped = none_dropped new sound (ap (λ (b : Board). has_drop b.history) is ∙ l.no_drop);
     no_drop = ap (λ (b : Board). has_drop b.history) is ∙ l.no_drop;

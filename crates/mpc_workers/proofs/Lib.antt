@@ -1,3 +1,4 @@
+pub mod Holding
 pub mod Turns
 pub mod SmallPrograms
 pub mod Joining

@@ -15,6 +15,7 @@ use Rattle.mpc_claim.specs.History.{claimed_sets, ended_sets, has_drop, IsLegal,
 use Rattle.mpc_claim.specs.Answers.{GivesJob, FindsIdle}
 use Rattle.mpc_claim.specs.HistoryLaws.{AppendLaws, CandidateLaws, ClaimLaws, LegalLaws}
 use Rattle.mpc_workers.specs.Alone.{IsTurn, AreTurns, Delivers, IsDoneAlone}
+use Rattle.mpc_workers.proofs.Holding.{turns_hold_one}
 
 turns_push : (h : List Event) (c d : Event) → AreTurns h → IsTurn c d → AreTurns (h ++ c ∷ d ∷ [])
 turns_push [] c d h t = (t, tt)
@@ -105,6 +106,7 @@ ends_finished qp old new b e f = subst (IsDoneAlone qp) (sym e) (record {
   legal = b.legal;
   ended = inl (refl, subst (λ (q : Qp). IsFinished q old.history) b.program f);
   turns = b.turns;
+  one_each = turns_hold_one old.history b.turns;
   none_open = λ s c. turns_ended old.history s b.turns c;
   no_drop = turns_no_drop old.history b.turns;
 })
@@ -115,6 +117,7 @@ ends_stopped qp old new b e f = subst (IsDoneAlone qp) (sym e) (record {
   legal = b.legal;
   ended = inr (refl, wide f);
   turns = b.turns;
+  one_each = turns_hold_one old.history b.turns;
   none_open = λ s c. turns_ended old.history s b.turns c;
   no_drop = turns_no_drop old.history b.turns;
 })

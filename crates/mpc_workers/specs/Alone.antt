@@ -11,6 +11,7 @@ use Rattle.mpc_claim.specs.declared.tickets.Ticket.{Ticket}
 use Rattle.mpc_claim.specs.Board.{Board, event}
 use Rattle.mpc_claim.specs.Answers.{delivered}
 use Rattle.mpc_claim.specs.History.{claimed_sets, ended_sets, has_drop, IsLegal, IsFinished, EndsWide}
+use Rattle.mpc_workers.specs.Holding.{HoldOneSet}
 
 -- the first worker claims a set and delivers it at once
 pub record IsTurn (claim done : Event) : Type 0 where
@@ -32,6 +33,7 @@ pub record IsDoneAlone (qp : Qp) (board : Board) : Type 0 where
   pub legal : IsLegal qp board.history
   pub ended : ((board.phase ≡ Finished) × IsFinished qp board.history) ⊎ ((board.phase ≡ Stopped) × EndsWide qp board.history)
   pub turns : AreTurns board.history
+  pub one_each : HoldOneSet board.history
   pub none_open : (s : List ℕ) → Contains (claimed_sets board.history) s → Contains (ended_sets board.history) s
   pub no_drop : has_drop board.history ≡ false
 

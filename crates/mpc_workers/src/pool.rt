@@ -8,7 +8,7 @@ ghost use Rattle.mpc_claim.specs.declared.events.EventKind.TheVariants.{Done, Dr
 ghost use Rattle.mpc_claim.specs.declared.events.Tag.{Tag};
 ghost use Rattle.mpc_turn.specs.Known.{EndedAs, InHand};
 ghost use Rattle.mpc_workers.specs.declared.pool.WorkError.TheVariants.{BadWorkers};
-ghost use Rattle.mpc_workers.specs.Seats.{Ended, Fresh, IsDone, IsLeft, Joins, SeesEnd};
+ghost use Rattle.mpc_workers.specs.Seats.{AreNumbered, Ended, Fresh, IsDone, IsLeft, Joins, SeesEnd};
 
 use mpc_claim::{Claimed, Registry, Ticket, claim_laws, history_laws, legal_laws};
 use mpc_frac::NoMemory;
@@ -106,7 +106,8 @@ fn work<T: Wait, G: Gate>(
 )
     requires definite { IsDefinite qp.now.h.rows }
     requires fresh { Fresh turn.now qp.now _workers seat.old }
-    ensures { Ended turn.now qp.now _workers seat.new }
+    ensures ended { Ended turn.now qp.now _workers seat.new }
+    ensures worker { seat.new.pass.worker ≡ seat.old.pass.worker }
 {
     legal_laws();
     claim_laws();
@@ -147,8 +148,10 @@ fn work_all<T: Threads + Wait + Sync, G: Gate + Sync>(
 )
     requires definite { IsDefinite qp.now.h.rows }
     requires fresh { All (Fresh turn.now qp.now workers) seats.old }
+    requires numbered { AreNumbered seats.old }
     ensures len { length seats.new ≡ length seats.old }
     ensures ended { All (Ended turn.now qp.now workers) seats.new }
+    ensures numbered { AreNumbered seats.new }
 {
     let ends = AtomicU64::new(0);
     thread::for_each_mut(
@@ -171,8 +174,10 @@ fn work_in<T: Threads + Wait + Sync, G: Gate + Sync>(
 )
     requires definite { IsDefinite qp.now.h.rows }
     requires fresh { All (Fresh turn.now qp.now workers) seats.old.items }
+    requires numbered { AreNumbered seats.old.items }
     ensures len { vec_len seats.new ≡ vec_len seats.old }
     ensures ended { All (Ended turn.now qp.now workers) seats.new.items }
+    ensures numbered { AreNumbered seats.new.items }
 {
     work_all(rt, alloc, turn, gate, qp, workers, seats.as_mut_slice());
 }
@@ -191,6 +196,7 @@ fn seats_of(
     ensures first { IfOk result (λ v. first.new ≡ record first.old { lent = workers }) }
     ensures count { IfOk result (λ v. vec_len v ≡ workers) }
     ensures seats { IfOk result (λ v. All (Fresh turn.now first.old.program workers) v.items) }
+    ensures numbered { IfOk result (λ v. AreNumbered v.items) }
 {
     let mut seats = Vec::new(alloc);
     let Ok(()) = seats.reserve(workers as usize) else {
@@ -210,6 +216,7 @@ fn seats_of(
 fn join_all(turn: &Turn, _qp: &Qp, _workers: u32, first: &mut Pass, mut seats: Vec<Seat>) -> bool
     requires some { 0 < vec_len seats }
     requires ended { All (Ended turn.now _qp.now _workers) seats.items }
+    requires numbered { AreNumbered seats.items }
     requires first { Joins turn.now _qp.now _workers (vec_len seats) first.old }
     requires none_ended { first.old.ended ≡ [] }
     ensures joined { Joins turn.now _qp.now _workers 0 first.new }
@@ -218,6 +225,7 @@ fn join_all(turn: &Turn, _qp: &Qp, _workers: u32, first: &mut Pass, mut seats: V
     let mut kept = true;
     while let Some(seat) = seats.pop() {
         let Seat { pass, failed } = seat;
+        pass.facts();
         turn.join_pass(first, pass);
         kept = kept && !failed;
     }
@@ -249,8 +257,9 @@ fn settle(mut registry: Registry, _qp: &Qp, _workers: u32) -> Result<Registry, N
 
 /// Examines the candidates of the program with so many workers beside each other.
 ///
-/// The registry is finished, or stopped by a wide verdict, and no set in it is open or given up. The
-/// gate is passed between each verdict and its delivery, with the number of the worker, from 1.
+/// The registry is finished, or stopped by a wide verdict, and no set in it is open or given up. Each
+/// worker holds one set at a time. The gate is passed between each verdict and its delivery, with
+/// the number of the worker, from 1.
 /// `BadWorkers` where there aren't from 1 to 32 of them. Refused memory is the only other error: a
 /// worker that meets it gives up its set, and the others end.
 pub fn enumerate<T: Threads + Wait + Sync, G: Gate + Sync>(

@@ -1,4 +1,3 @@
-use Rattle.std.proofs.Common.{refl, not, true, ◌≡◌}
 use Rattle.mpc_workers.proofs.Lasting.{left_of_all}
 use Rattle.mpc_workers.proofs.pool.enumerate.Goals as goal
 

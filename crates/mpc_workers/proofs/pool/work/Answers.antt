@@ -1,20 +1,26 @@
-use Rattle.std.proofs.Common.{refl, true, true≢false}
+use Rattle.std.proofs.Common.{refl, true, true≢false, ◌∙◌}
 use Rattle.mpc_claim.specs.declared.events.EventKind.TheVariants.{Done, Drop}
-use Rattle.mpc_workers.proofs.Hands.{in_hand, one_job}
+use Rattle.mpc_workers.proofs.Hands.{in_hand, one_job, same_worker}
 use Rattle.mpc_workers.proofs.pool.work.Goals as goal
 
 pub work_on-requires-clause-hand : goal.work_on-requires-clause-hand
 work_on-requires-clause-hand g c =
     let claimed = rw c.in-Ok-Job.field-0-is at c.in-Ok-Job.ensures in
-    in_hand c.loop.seat.pass c.claim_as.new.pass c.in-Ok-Job.ticket c.legal_laws.ensures.appended c.loop.invariant.0.empty claimed
+    in_hand c.loop.seat.pass c.claim_as.new.pass c.in-Ok-Job.ticket c.legal_laws.ensures.appended c.loop.invariant.fresh.0.empty claimed
 
 pub loop-preserved-in-Ok : goal.loop-preserved-in-Ok
 loop-preserved-in-Ok g c =
     let claimed = rw c.in-Ok-Job.field-0-is at c.in-Ok-Job.ensures in
     let done = c.in-Ok.ensures.ok in
-    (one_job c.args.turn.now c.args.qp.now c.args._workers c.loop.seat c.in-Ok-Job.ticket c.claim_as.new.pass c.work_on.new.pass c.loop.invariant.0 c.loop.invariant.1 claimed (Done done.0) c.loop.seat.failed refl (λ _. refl) done.1, c.loop.invariant.1)
+    record {
+      fresh = (one_job c.args.turn.now c.args.qp.now c.args._workers c.loop.seat c.in-Ok-Job.ticket c.claim_as.new.pass c.work_on.new.pass c.loop.invariant.fresh.0 c.loop.invariant.fresh.1 claimed (Done done.0) c.loop.seat.failed refl (λ _. refl) done.1, c.loop.invariant.fresh.1);
+      worker = same_worker c.args.turn.now c.args.qp.now c.args._workers c.loop.seat c.in-Ok-Job.ticket c.claim_as.new.pass c.work_on.new.pass c.loop.invariant.fresh.0 c.loop.invariant.fresh.1 claimed (Done done.0) done.1 ∙ c.loop.invariant.worker;
+    }
 
 pub returns-in-Err-work_on : goal.returns-in-Err-work_on
 returns-in-Err-work_on g c =
     let claimed = rw c.in-Ok-Job.field-0-is at c.in-Ok-Job.ensures in
-    (one_job c.args.turn.now c.args.qp.now c.args._workers c.loop.seat c.in-Ok-Job.ticket c.claim_as.new.pass c.work_on.new.pass c.loop.invariant.0 c.loop.invariant.1 claimed Drop true refl (λ no. absurd (true≢false no)) c.in-Err-work_on.ensures.err, λ no. absurd (true≢false no))
+    record {
+      ended = (one_job c.args.turn.now c.args.qp.now c.args._workers c.loop.seat c.in-Ok-Job.ticket c.claim_as.new.pass c.work_on.new.pass c.loop.invariant.fresh.0 c.loop.invariant.fresh.1 claimed Drop true refl (λ no. absurd (true≢false no)) c.in-Err-work_on.ensures.err, λ no. absurd (true≢false no));
+      worker = same_worker c.args.turn.now c.args.qp.now c.args._workers c.loop.seat c.in-Ok-Job.ticket c.claim_as.new.pass c.work_on.new.pass c.loop.invariant.fresh.0 c.loop.invariant.fresh.1 claimed Drop c.in-Err-work_on.ensures.err ∙ c.loop.invariant.worker;
+    }

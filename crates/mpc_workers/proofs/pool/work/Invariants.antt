@@ -1,5 +1,9 @@
+use Rattle.std.proofs.Common.{◌≡◌}
 use Rattle.mpc_workers.specs.Seats.{Fresh}
 use Rattle.mpc_workers.proofs.pool.work.Given as goal
 
 abbrev pub invariant-loop : goal.invariant-loop
-invariant-loop g l = Fresh l.fn.turn l.fn.qp l.fn._workers l.seat
+invariant-loop g l = record {
+  fresh : Fresh l.fn.turn l.fn.qp l.fn._workers l.seat;
+  worker : l.seat.pass.worker ≡ l.initial.seat.pass.worker;
+}
