@@ -15,6 +15,7 @@ pub mod SumLemmas
 pub mod LeafLemmas
 pub mod CheckLemmas
 pub mod FindingLemmas
+pub mod StretchLemmas
 pub mod PivotPlaces
 pub mod OneFinding
 pub mod TestLemmas

@@ -1,5 +1,5 @@
 -- Conditions in an order, and what is found at the first that isn't met.
-use Rattle.std.specs.Prelude.{◌≡◌, ℕ, ◌<◌, ◌⊎◌, Option, Some, None, Result, Ok, Err, Bool, true, false}
+use Rattle.std.specs.Prelude.{◌≡◌, ℕ, ◌<◌, ◌≤◌, ◌⊎◌, Option, Some, None, Result, Ok, Err, Bool, true, false}
 use Rattle.mpc_rows.specs.declared.places.Place.{Place}
 use Rattle.mpc_check.specs.declared.answers.Spot.{Spot}
 use Rattle.mpc_check.specs.declared.answers.CheckError.{CheckError}
@@ -31,6 +31,18 @@ pub record IsFirstOf (met : ℕ → Type 0) (finds : ℕ → Finding → Type 0)
   pub place : ℕ
   pub within : place < count
   pub before : Each met place
+  pub here : finds place finding
+
+-- the parts of a stretch: from one place, counted from 0, to before another
+abbrev pub EachFrom : (ℕ → Type 0) → ℕ → ℕ → Type 0
+EachFrom met from to = (k : ℕ) → from ≤ k → k < to → met k
+
+-- of a stretch's parts the first that isn't met gives the finding
+pub record IsFirstFrom (met : ℕ → Type 0) (finds : ℕ → Finding → Type 0) (from to : ℕ) (finding : Finding) : Type 0 where
+  pub place : ℕ
+  pub from_first : from ≤ place
+  pub within : place < to
+  pub before : EachFrom met from place
   pub here : finds place finding
 
 -- the first part gives the finding, or it is met and the second does

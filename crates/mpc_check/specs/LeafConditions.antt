@@ -1,5 +1,5 @@
 -- The conditions on the leaves of a search tree: that their certificates refute what they claim to have no point.
-use Rattle.std.specs.Prelude.{◌≡◌, ℕ, ◌+◌, List, length, slice_get, Some}
+use Rattle.std.specs.Prelude.{◌≡◌, ℕ, ◌+◌, ◌≤◌, List, length, slice_get, Some}
 use Rattle.mpc_exact.specs.Rational.{ℚ}
 use Rattle.mpc_space.specs.Matrix.{height}
 use Rattle.mpc_linear.specs.declared.integers.RowInt.{RowInt}
@@ -15,7 +15,7 @@ use Rattle.mpc_check.specs.declared.answers.Spot.TheVariants.{LeafRow, Leaf}
 use Rattle.mpc_systems.specs.Systems.{hold_system, joint_system}
 use Rattle.mpc_check.specs.Paths.{PathTo}
 use Rattle.mpc_check.specs.Certs.{CertRefutes, CertFits}
-use Rattle.mpc_check.specs.Findings.{Finding, IsMet, IsUnmet, Each, IsFirstOf}
+use Rattle.mpc_check.specs.Findings.{Finding, IsMet, IsUnmet, Each, IsFirstOf, EachFrom, IsFirstFrom, IsFirstOfTwo}
 
 -- ---- a leaf with a law: each row of the law, counted from 0, holds on the path's cell
 -- the row has a certificate, which refutes the box, the path, and the row negated and strict
@@ -83,3 +83,20 @@ TreeMet qp laws nodes = Each (NodeAtMet qp laws nodes) (length nodes)
 
 abbrev pub TreeFinds : Qp → List LawOfSet → List Node → Finding → Type 0
 TreeFinds qp laws nodes = IsFirstOf (NodeAtMet qp laws nodes) (NodeAtFinds qp laws nodes) (length nodes)
+
+-- ---- a stretch of neighbouring nodes
+abbrev pub StretchMet : Qp → List LawOfSet → List Node → ℕ → ℕ → Type 0
+StretchMet qp laws nodes = EachFrom (NodeAtMet qp laws nodes)
+
+abbrev pub StretchFinds : Qp → List LawOfSet → List Node → ℕ → ℕ → Finding → Type 0
+StretchFinds qp laws nodes = IsFirstFrom (NodeAtMet qp laws nodes) (NodeAtFinds qp laws nodes)
+
+-- two neighbouring stretches are one: it is met where both are, and what is found of it is what is found of the first, or else of the second
+abbrev pub StretchesAreMet : Type 0
+StretchesAreMet =
+    (qp : Qp) (laws : List LawOfSet) (nodes : List Node) (from middle to : ℕ) → StretchMet qp laws nodes from middle → StretchMet qp laws nodes middle to → StretchMet qp laws nodes from to
+
+abbrev pub StretchesFind : Type 0
+StretchesFind =
+    (qp : Qp) (laws : List LawOfSet) (nodes : List Node) (from middle to : ℕ) (finding : Finding) → from ≤ middle → middle ≤ to
+    → IsFirstOfTwo (StretchMet qp laws nodes from middle) (StretchFinds qp laws nodes from middle) (StretchFinds qp laws nodes middle to) finding → StretchFinds qp laws nodes from to finding

@@ -7,7 +7,7 @@ ghost use Rattle.mpc_check.specs.Findings.{IsSearched};
 
 use crate::answers::{Answer, CheckError, Spot};
 use crate::gradients::search_laws;
-use crate::leaves::search_tree;
+use crate::stretches::search_tree;
 use mpc_condense::{CondenseError, condense};
 use mpc_controller::Controller;
 use mpc_definite::{DefiniteError, pivots};

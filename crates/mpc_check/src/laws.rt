@@ -2,6 +2,7 @@
 
 ghost use Rattle.mpc_check.specs.Acceptance.{AcceptedIsRight, NothingFound, NoProgramFinding, OneFinding};
 ghost use Rattle.mpc_check.specs.LawConditions.{LawIsStationary, LawIsActive, MeetingIsLaw};
+ghost use Rattle.mpc_check.specs.LeafConditions.{StretchesAreMet, StretchesFind};
 ghost use Rattle.mpc_check.specs.Paths.{OnePath};
 
 use mpc_best::{best_replies, one_program};
@@ -47,4 +48,11 @@ pub fn law_conditions()
 /// A node of a search tree has one path. The call does nothing: its contract is the law.
 pub fn one_path()
     ensures { OnePath }
+{}
+
+/// Two neighbouring stretches of a search tree are one: what is found of it is what is found of the first stretch, or else of the second. The
+/// call does nothing: its clauses are the law.
+pub fn stretch_laws()
+    ensures met { StretchesAreMet }
+    ensures finds { StretchesFind }
 {}

@@ -1,19 +1,18 @@
 //! The conditions on the leaves of the tree: that each certificate refutes what it claims to have no point.
 
-ghost use Rattle.std.specs.Prelude.{◌≡◌, ◌+◌, ◌-◌, ◌<◌, ◌≤◌, All, length, slice_get, Some};
+ghost use Rattle.std.specs.Prelude.{◌+◌, ◌<◌, All, length};
 ghost use Rattle.mpc_space.specs.Matrix.{height};
 ghost use Rattle.mpc_rows.specs.Laws.{HasLawShape};
 ghost use Rattle.mpc_rows.specs.declared.places.Place.TheVariants.{CheckLeaf};
 ghost use Rattle.mpc_systems.specs.Systems.{joint_system};
-ghost use Rattle.mpc_controller.specs.Preorder.{IsTree};
 ghost use Rattle.mpc_check.specs.Certs.{CertFits, CertRefutes};
 ghost use Rattle.mpc_check.specs.Findings.{IsSearched, IsDecided};
-ghost use Rattle.mpc_check.specs.LeafConditions.{RowFits, RowHolds, LawLeafMet, LawLeafFinds, EmptyLeafMet, EmptyLeafFinds, NodeMet, NodeFinds, NodeAtMet, NodeAtFinds, TreeMet, TreeFinds};
-ghost use Rattle.mpc_check.specs.Ways.{HasSplitRow, NamesLaw, IsTurn, IsWay, way_rows};
+ghost use Rattle.mpc_check.specs.LeafConditions.{RowFits, RowHolds, LawLeafMet, LawLeafFinds, EmptyLeafMet, EmptyLeafFinds, NodeMet, NodeFinds};
+ghost use Rattle.mpc_check.specs.Ways.{HasSplitRow, NamesLaw, IsTurn, way_rows};
 
 use crate::answers::{CheckError, Spot};
 use crate::certs::is_refuted;
-use crate::ways::{Turn, go_on};
+use crate::ways::Turn;
 use mpc_linear::LinearError;
 use mpc_rows::{Cert, Certs, Law, LawTable, Node, Place, Qp, Rows, Tree, law_laws, law_row};
 use mpc_systems::{broken_row, cell_laws, joint_rows};
@@ -135,7 +134,7 @@ fn search_empty_leaf(
 }
 
 /// What is found of a node with this number, at the end of this way.
-fn search_node(
+pub(crate) fn search_node(
     alloc: Global,
     qp: &Qp,
     laws: &LawTable,
@@ -159,50 +158,4 @@ fn search_node(
         }
         Node::NoMove { cert } => search_empty_leaf(alloc, qp, tree, way, cert, number),
     }
-}
-
-/// What is found of the node at a place, counted from 0, to which this way leads.
-fn search_place(
-    alloc: Global,
-    qp: &Qp,
-    laws: &LawTable,
-    tree: &Tree,
-    way: &[Turn],
-    place: usize,
-) -> Result<Option<Spot>, CheckError>
-    requires shapes { All (HasLawShape qp.now) laws.now }
-    requires named { All (NamesLaw (length laws.now)) tree.now }
-    requires splits { All (HasSplitRow (length qp.now.counts)) tree.now }
-    requires way { IsWay tree.now place way.now }
-    requires inside { place < length tree.now }
-    ensures { IsSearched (NodeAtMet qp.now laws.now tree.now place) (NodeAtFinds qp.now laws.now tree.now place) result }
-{
-    prove!(place < tree.len());
-    let number = place as u64 + 1;
-    search_node(alloc, qp, laws, tree, way, tree.at(place), number)
-}
-
-/// What is found of the tree, node by node in preorder.
-pub fn search_tree(
-    alloc: Global,
-    qp: &Qp,
-    laws: &LawTable,
-    tree: &Tree,
-) -> Result<Option<Spot>, CheckError>
-    requires shapes { All (HasLawShape qp.now) laws.now }
-    requires complete { IsTree tree.now }
-    requires named { All (NamesLaw (length laws.now)) tree.now }
-    requires splits { All (HasSplitRow (length qp.now.counts)) tree.now }
-    ensures { IsSearched (TreeMet qp.now laws.now tree.now) (TreeFinds qp.now laws.now tree.now) result }
-{
-    let mut way = Vec::new(alloc);
-    for k in 0..tree.len() {
-        match search_place(alloc, qp, laws, tree, way.as_slice(), k) {
-            Ok(None) => {}
-            Ok(Some(spot)) => return Ok(Some(spot)),
-            Err(error) => return Err(error),
-        }
-        go_on(&mut way, tree, k)?;
-    }
-    Ok(None)
 }

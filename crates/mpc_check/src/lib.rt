@@ -9,10 +9,11 @@ mod gradients;
 mod laws;
 mod leaves;
 mod rows;
+mod stretches;
 #[cfg(test)]
 mod tests;
 mod ways;
 
 pub use answers::{Answer, CheckError, Spot};
 pub use checks::{check, check_alone};
-pub use laws::{accepted_replies, law_conditions, one_finding, one_path};
+pub use laws::{accepted_replies, law_conditions, one_finding, one_path, stretch_laws};

@@ -1,0 +1,13 @@
+use Rattle.std.proofs.Common.{length, subst}
+use Rattle.mpc_check.specs.Findings.{IsSearched}
+use Rattle.mpc_check.specs.LeafConditions.{NodeAtMet, NodeAtFinds, StretchMet, StretchFinds}
+use Rattle.mpc_check.proofs.StretchLemmas.{whole_searched}
+use Rattle.mpc_check.proofs.stretches.search_tree.Goals as goal
+
+pub returns : goal.returns
+returns c =
+    let qp = c.args.qp.now in
+    let laws = c.args.laws.now in
+    let nodes = c.args.tree.now in
+    whole_searched (NodeAtMet qp laws nodes) (NodeAtFinds qp laws nodes) (length nodes) c.search_stretch.result
+    (subst (λ to. IsSearched (StretchMet qp laws nodes 0 to) (StretchFinds qp laws nodes 0 to) c.search_stretch.result) c.len.ensures c.search_stretch.ensures)
