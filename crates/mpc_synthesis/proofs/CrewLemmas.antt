@@ -24,6 +24,7 @@ ended_alone qp board d = record {
   legal = d.legal;
   ended = d.ended;
   by_workers = by_first board.history d.turns;
+  one_each = d.one_each;
   turns = λ _. d.turns;
 }
 
@@ -33,5 +34,6 @@ ended_together workers qp board two d = record {
   legal = d.legal;
   ended = d.ended;
   by_workers = d.workers;
+  one_each = d.one_each;
   turns = λ one. absurd (omega (arith, two, one));
 }
