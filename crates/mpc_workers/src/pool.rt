@@ -54,10 +54,16 @@ pub struct Seat {
     pub failed: bool,
 }
 
-/// Counts one more delivery or abandonment, and wakes whoever waits for one.
-fn ring(ends: &AtomicU64) {
-    ends.fetch_add(1, Ordering::SeqCst);
-    ends.wake_all();
+/// Wakes one of those who sleep until there is something to claim.
+fn wake_another(news: &AtomicU64) {
+    news.fetch_add(1, Ordering::SeqCst);
+    news.wake_one();
+}
+
+/// Wakes all of them.
+fn wake_all(news: &AtomicU64) {
+    news.fetch_add(1, Ordering::SeqCst);
+    news.wake_all();
 }
 
 /// Examines a claimed set, passes the gate and delivers the verdict. Without memory the set is
@@ -93,14 +99,15 @@ fn work_on<T: Wait, G: Gate>(
 }
 
 /// Claims, examines and delivers until the end or until memory is refused. Where all sets of the
-/// level are claimed, the worker sleeps until one of them is delivered.
+/// level are claimed, the worker sleeps. Whoever claims a set wakes one other, since the next level
+/// may have more of them.
 fn work<T: Wait, G: Gate>(
     rt: &T,
     alloc: Global,
     turn: &Turn,
     gate: &G,
     qp: &Qp,
-    ends: &AtomicU64,
+    news: &AtomicU64,
     _workers: u32,
     seat: &mut Seat,
 )
@@ -112,19 +119,19 @@ fn work<T: Wait, G: Gate>(
     legal_laws();
     claim_laws();
     for _ in rt.forever() {
-        let count = ends.load(Ordering::SeqCst);
+        let count = news.load(Ordering::SeqCst);
         match turn.claim_as(rt, &mut seat.pass) {
             Ok(Claimed::Job(ticket)) => {
+                wake_another(news);
                 match work_on(rt, alloc, turn, gate, qp, &mut seat.pass, ticket) {
-                    Ok(()) => ring(ends),
+                    Ok(()) => {}
                     Err(_) => {
-                        ring(ends);
                         seat.failed = true;
                         return;
                     }
                 }
             }
-            Ok(Claimed::Idle) => ends.park(rt, (count & 0xffff_ffff) as u32),
+            Ok(Claimed::Idle) => news.park(rt, (count & 0xffff_ffff) as u32),
             Ok(Claimed::Finished) => return,
             Ok(Claimed::Stopped) => return,
             Err(_) => {
@@ -134,6 +141,26 @@ fn work<T: Wait, G: Gate>(
         }
     }
     unreachable!()
+}
+
+/// Works to the end, and wakes the others there, who end too.
+fn work_and_wake<T: Wait, G: Gate>(
+    rt: &T,
+    alloc: Global,
+    turn: &Turn,
+    gate: &G,
+    qp: &Qp,
+    news: &AtomicU64,
+    workers: u32,
+    seat: &mut Seat,
+)
+    requires definite { IsDefinite qp.now.h.rows }
+    requires fresh { Fresh turn.now qp.now workers seat.old }
+    ensures ended { Ended turn.now qp.now workers seat.new }
+    ensures worker { seat.new.pass.worker ≡ seat.old.pass.worker }
+{
+    work(rt, alloc, turn, gate, qp, news, workers, seat);
+    wake_all(news);
 }
 
 /// All seats at once.
@@ -153,12 +180,12 @@ fn work_all<T: Threads + Wait + Sync, G: Gate + Sync>(
     ensures ended { All (Ended turn.now qp.now workers) seats.new }
     ensures numbered { AreNumbered seats.new }
 {
-    let ends = AtomicU64::new(0);
+    let news = AtomicU64::new(0);
     thread::for_each_mut(
         rt,
         seats,
         MOST_WORKERS as usize,
-        &|_, seat| work(rt, alloc, turn, gate, qp, &ends, workers, seat),
+        &|_, seat| work_and_wake(rt, alloc, turn, gate, qp, &news, workers, seat),
     );
 }
 
