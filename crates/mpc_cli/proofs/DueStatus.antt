@@ -1,54 +1,31 @@
 -- For given words and input one status is due.
-use Rattle.std.proofs.Common.{◌≡◌, ℕ, zero, suc, ◌<◌, ◌≤◌, inl, inr, List, length, refl, sym, ◌∙◌, ap, subst, arith}
+use Rattle.std.proofs.Common.{◌≡◌, ℕ, ◌^◌, ◌<◌, ◌≤◌, inl, inr, List, length, refl, sym, ◌∙◌, ap, subst, arith, lit<}
 use Rattle.mpc_plant.specs.declared.faults.PlantKind.{PlantKind}
 use Rattle.mpc_plant.specs.declared.plants.Plant.{Plant}
+use Rattle.mpc_plant.specs.WholePlant.{ReadsAsPlant, IsFirstFault}
+use Rattle.mpc_controller.specs.Parts.{Parts}
+use Rattle.mpc_file.specs.FileGrammar.{IsSpelled}
 use Rattle.mpc_condense.specs.Condensed.{IsCondensed}
 use Rattle.mpc_synthesis.specs.Refusals.{FirstWide}
 use Rattle.mpc_synthesis.specs.Outcomes.{Outcome, not_definite, too_wide, complete, IsOutcome, OneOutcome}
-use Rattle.mpc_plant.specs.WholePlant.{ReadsAsPlant, IsFirstFault}
+use Rattle.mpc_check.specs.Findings.{Finding, refused, too_wide as too_wide_check, not_definite as not_definite_cost}
+use Rattle.mpc_files.specs.FileOutcomes.{FileReading, fails, spells, IsFileReading, FileOutcome, bad_file, finds, accepted, IsFileOutcome, OneFileReading, OneFileOutcome}
 use Rattle.mpc_cli.specs.declared.commands.Command.{Command}
+use Rattle.mpc_cli.specs.declared.commands.Command.TheVariants.{OfPlant, OfFile}
+use Rattle.mpc_cli.specs.declared.commands.PlantCommand.{PlantCommand}
+use Rattle.mpc_cli.specs.declared.commands.FileCommand.{FileCommand}
+use Rattle.mpc_cli.specs.declared.commands.FileCommand.TheVariants.{Check, Reply, Convert}
 use Rattle.mpc_cli.specs.declared.status.Status.{Status}
-use Rattle.mpc_cli.specs.declared.status.Status.TheVariants.{Done, Usage, BadPlant, NotDefinite, TooWide, ReadFault, WriteFault, TooLong, NoMemory}
-use Rattle.mpc_cli.specs.Commands.{Names, IsCommand, plant_text}
+use Rattle.mpc_cli.specs.declared.status.Status.TheVariants.{Done, Usage, BadPlant, NotDefinite, TooWide, BadFile, Refused, ReadFault, WriteFault, TooLong, NoMemory}
+use Rattle.mpc_cli.specs.Commands.{Names, IsCommand, plant_text, file_text}
 use Rattle.mpc_cli.specs.Extents.{extent_of}
-use Rattle.mpc_cli.specs.Answers.{input_limit, HasPlant, NothingRefused, IsDue, OneStatus}
+use Rattle.mpc_cli.specs.FileAnswers.{IsFileDue}
+use Rattle.mpc_cli.specs.Answers.{input_limit, OfItsPlant, IsPlantDue, IsDueTo, Causes, CausesTooLong, NothingRefused, IsDue, OneStatus}
 use Rattle.mpc_cli.proofs.CommandLemmas.{one_command}
-use Rattle.mpc_cli.proofs.Firsts.{FailsFirst, one_first}
+use Rattle.mpc_cli.proofs.HeadLemmas.{head_short}
 use Rattle.mpc_cli.proofs.SamePlant.{same_plant}
 
--- ---- the tests in their order
-abbrev Stage : List (List ℕ) → List ℕ → ℕ → Type 0
-Stage words input zero = IsCommand words
-Stage words input (suc zero) = length input ≤ input_limit
-Stage words input (suc (suc zero)) = HasPlant words input
-Stage words input (suc (suc (suc n))) = ⊥
-
-record BadFile (words : List (List ℕ)) (input : List ℕ) (s : Status) : Type 0 where
-  command : Command
-  named : Names command words
-  kind : PlantKind
-  path : List ℕ
-  fault : IsFirstFault (plant_text command input) kind path
-  is : s ≡ BadPlant kind path
-
-abbrev status_of : Outcome → Status
-status_of (not_definite pivot) = NotDefinite pivot
-status_of (too_wide place) = TooWide place
-status_of complete = Done
-
-record OfPlant (words : List (List ℕ)) (input : List ℕ) (s : Status) : Type 0 where
-  given : HasPlant words input
-  outcome : Outcome
-  comes : IsOutcome (extent_of given.command) given.plant outcome
-  is : s ≡ status_of outcome
-
-abbrev Fails : List (List ℕ) → List ℕ → Status → ℕ → Type 0
-Fails words input s zero = (¬ IsCommand words) × (s ≡ Usage)
-Fails words input s (suc zero) = (input_limit < length input) × (s ≡ TooLong)
-Fails words input s (suc (suc zero)) = BadFile words input s
-Fails words input s (suc (suc (suc zero))) = OfPlant words input s
-Fails words input s (suc (suc (suc (suc n)))) = ⊥
-
+-- ---- of a plant
 no_file : (bytes : List ℕ) (plant : Plant) (kind : PlantKind) (path : List ℕ) → ReadsAsPlant bytes plant → IsFirstFault bytes kind path → ⊥
 no_file bytes plant kind path r (inl h) = (let e = h.unread r.text in let f = r.json in cc)
 no_file bytes plant kind path r (inr h) =
@@ -66,90 +43,175 @@ one_fault bytes kind other path long (inr h) (inr k) =
     let pair : ◌≡◌ {A = PlantKind × List ℕ} (kind, path) (other, long) = (let e = h.failed in let f = k.failed in cc) in
     λ i. BadPlant (pair i).0 (pair i).1
 
-same_command : (words : List (List ℕ)) (input : List ℕ) (v w : HasPlant words input) → v.command ≡ w.command
-same_command words input v w = one_command words v.command w.command v.taken.named w.taken.named
+abbrev status_of : Outcome → Status
+status_of (not_definite pivot) = NotDefinite pivot
+status_of (too_wide place) = TooWide place
+status_of complete = Done
 
-same_given : (words : List (List ℕ)) (input : List ℕ) (v w : HasPlant words input) → v.plant ≡ w.plant
-same_given words input v w = same_plant (plant_text w.command input) v.plant w.plant (subst (λ c. ReadsAsPlant (plant_text c input) v.plant) (same_command words input v w) v.read) w.read
+-- the file has a fault, or its plant has an outcome
+data PlantEnd (c : PlantCommand) (input : List ℕ) (s : Status) : Type 0 where
+  by_fault : (kind : PlantKind) (path : List ℕ) → IsFirstFault (plant_text c input) kind path → s ≡ BadPlant kind path → PlantEnd c input s
+  by_outcome : (plant : Plant) (outcome : Outcome) → ReadsAsPlant (plant_text c input) plant → IsOutcome (extent_of c) plant outcome → s ≡ status_of outcome → PlantEnd c input s
 
-clash : (words : List (List ℕ)) (input : List ℕ) (s : Status) (n : ℕ) → Stage words input n → Fails words input s n → ⊥
-clash words input s zero p f = f.0 p
-clash words input s (suc zero) p f = omega (arith, p, f.0)
-clash words input s (suc (suc zero)) p f =
-    no_file (plant_text f.command input) p.plant f.kind f.path (subst (λ c. ReadsAsPlant (plant_text c input) p.plant) (one_command words p.command f.command p.taken.named f.named) p.read) f.fault
-clash words input s (suc (suc (suc n))) p f = p
+plant_end : (c : PlantCommand) (input : List ℕ) (s : Status) → IsPlantDue c input s → PlantEnd c input s
+plant_end c input (BadPlant kind path) h = by_fault kind path h refl
+plant_end c input (NotDefinite pivot) h = by_outcome h.plant (not_definite pivot) h.read h.so refl
+plant_end c input (TooWide place) h = by_outcome h.plant (too_wide place) h.read h.so refl
+plant_end c input Done h = by_outcome h.plant complete h.read h.so refl
+plant_end c input Usage h = absurd h
+plant_end c input (BadFile kind number) h = absurd h
+plant_end c input (Refused spot) h = absurd h
+plant_end c input ReadFault h = absurd h
+plant_end c input WriteFault h = absurd h
+plant_end c input TooLong h = absurd h
+plant_end c input NoMemory h = absurd h
 
-moved : (c d : Command) (x y : Plant) (o : Outcome) → c ≡ d → x ≡ y → IsOutcome (extent_of c) x o → IsOutcome (extent_of d) y o
-moved c d x y o e f h = subst (λ p. IsOutcome (extent_of d) p o) f (subst (λ k. IsOutcome (extent_of k) x o) e h)
+one_plant_end : OneOutcome → (c : PlantCommand) (input : List ℕ) (s t : Status) → PlantEnd c input s → PlantEnd c input t → s ≡ t
+one_plant_end one c input s t (by_fault kind path h e) (by_fault other long k f) = e ∙ one_fault (plant_text c input) kind other path long h k ∙ sym f
+one_plant_end one c input s t (by_fault kind path h e) (by_outcome plant outcome r k f) = absurd (no_file (plant_text c input) plant kind path r h)
+one_plant_end one c input s t (by_outcome plant outcome r h e) (by_fault kind path k f) = absurd (no_file (plant_text c input) plant kind path r k)
+one_plant_end one c input s t (by_outcome plant outcome r h e) (by_outcome other found q k f) =
+    let mine : IsOutcome (extent_of c) other outcome = subst (λ p. IsOutcome (extent_of c) p outcome) (same_plant (plant_text c input) plant other r q) h in
+    e ∙ ap status_of (one (extent_of c) other outcome found mine k) ∙ sym f
 
-abbrev Due : List (List ℕ) → List ℕ → Status → Type 0
-Due words input s = FailsFirst (Stage words input) (Fails words input) s
+-- ---- of a controller's file
+abbrev found_status : Finding → Status
+found_status (refused spot) = Refused spot
+found_status (too_wide_check place) = TooWide place
+found_status (not_definite_cost pivot) = NotDefinite pivot
 
--- ---- each cause is the first test that fails
-command_passed : (words : List (List ℕ)) (input : List ℕ) → IsCommand words → (j : ℕ) → j < 1 → Stage words input j
-command_passed words input c zero l = c
-command_passed words input c (suc j) l = absurd (omega (arith, l))
+abbrev outcome_status : FileOutcome → Status
+outcome_status (bad_file kind number) = BadFile kind number
+outcome_status (finds finding) = found_status finding
+outcome_status accepted = Done
 
-taken_passed : (words : List (List ℕ)) (input : List ℕ) → IsCommand words → length input ≤ input_limit → (j : ℕ) → j < 2 → Stage words input j
-taken_passed words input c short zero l = c
-taken_passed words input c short (suc zero) l = short
-taken_passed words input c short (suc (suc j)) l = absurd (omega (arith, l))
+abbrev reading_status : FileReading → Status
+reading_status (fails kind number) = BadFile kind number
+reading_status (spells parts) = Done
 
-given_passed : (words : List (List ℕ)) (input : List ℕ) → HasPlant words input → (j : ℕ) → j < 3 → Stage words input j
-given_passed words input h zero l = (h.command, h.taken.named)
-given_passed words input h (suc zero) l = h.taken.short
-given_passed words input h (suc (suc zero)) l = h
-given_passed words input h (suc (suc (suc j))) l = absurd (omega (arith, l))
+small : (n : ℕ) → n ≤ input_limit → n < 2 ^ 64
+small n h = let l : input_limit < 2 ^ 64 = lit< tt in omega (arith, h, l)
 
-of_plant : (words : List (List ℕ)) (input : List ℕ) (o : Outcome) (given : HasPlant words input) → IsOutcome (extent_of given.command) given.plant o → Due words input (status_of o)
-of_plant words input o given comes = record { place = 3; passed = given_passed words input given; fails = record { given = given; outcome = o; comes = comes; is = refl } }
+record CheckEnd (input : List ℕ) (s : Status) : Type 0 where
+  outcome : FileOutcome
+  comes : IsFileOutcome input outcome
+  is : s ≡ outcome_status outcome
 
-due_first : (words : List (List ℕ)) (input : List ℕ) (status : Status) → IsDue words input status → Due words input status
-due_first words input Usage h = record { place = 0; passed = λ j l. absurd (omega (arith, l)); fails = (h, refl) }
-due_first words input TooLong h = record { place = 1; passed = command_passed words input h.command; fails = (h.long, refl) }
-due_first words input (BadPlant kind path) h = record {
-  place = 2;
-  passed = taken_passed words input (h.command, h.taken.named) h.taken.short;
-  fails = record { command = h.command; named = h.taken.named; kind = kind; path = path; fault = h.fault; is = refl };
-}
-due_first words input (NotDefinite pivot) h = of_plant words input (not_definite pivot) h.given h.not_definite
-due_first words input (TooWide place) h = of_plant words input (too_wide place) h.given h.wide
-due_first words input Done h = of_plant words input complete h.given h.complete
-due_first words input ReadFault h = absurd h
-due_first words input WriteFault h = absurd h
-due_first words input NoMemory h = absurd h
+check_end : (input : List ℕ) (s : Status) → IsFileDue Check input s → CheckEnd input s
+check_end input (BadFile kind number) h = record { outcome = bad_file kind number; comes = h; is = refl }
+check_end input (NotDefinite pivot) h = record { outcome = finds (not_definite_cost pivot); comes = h; is = refl }
+check_end input (TooWide place) h = record { outcome = finds (too_wide_check place); comes = h; is = refl }
+check_end input (Refused spot) h = record { outcome = finds (refused spot); comes = h; is = refl }
+check_end input Done h = record { outcome = accepted; comes = h; is = refl }
+check_end input Usage h = absurd h
+check_end input (BadPlant kind path) h = absurd h
+check_end input ReadFault h = absurd h
+check_end input WriteFault h = absurd h
+check_end input TooLong h = absurd h
+check_end input NoMemory h = absurd h
 
-module _ (one_outcome : OneOutcome) where
-  one_failure : (words : List (List ℕ)) (input : List ℕ) (s t : Status) (n : ℕ) → Fails words input s n → Fails words input t n → s ≡ t
-  one_failure words input s t zero f g = f.1 ∙ sym g.1
-  one_failure words input s t (suc zero) f g = f.1 ∙ sym g.1
-  one_failure words input s t (suc (suc zero)) f g =
-      let mine : IsFirstFault (plant_text g.command input) f.kind f.path = subst (λ c. IsFirstFault (plant_text c input) f.kind f.path) (one_command words f.command g.command f.named g.named) f.fault in
-      f.is ∙ one_fault (plant_text g.command input) f.kind g.kind f.path g.path mine g.fault ∙ sym g.is
-  one_failure words input s t (suc (suc (suc zero))) f g =
-      f.is ∙ ap status_of (one_outcome (extent_of g.given.command) g.given.plant f.outcome g.outcome
-      (moved f.given.command g.given.command f.given.plant g.given.plant f.outcome (same_command words input f.given g.given) (same_given words input f.given g.given) f.comes)
-      g.comes) ∙ sym g.is
-  one_failure words input s t (suc (suc (suc (suc n)))) f g = absurd f
+record ReadingEnd (bytes : List ℕ) (s : Status) : Type 0 where
+  reading : FileReading
+  comes : IsFileReading bytes reading
+  is : s ≡ reading_status reading
+
+reply_end : (input : List ℕ) (s : Status) → IsFileDue Reply input s → ReadingEnd (file_text Reply input) s
+reply_end input (BadFile kind number) h = record { reading = fails kind number; comes = h; is = refl }
+reply_end input (NotDefinite pivot) h = absurd h
+reply_end input (TooWide place) h = absurd h
+reply_end input (Refused spot) h = absurd h
+reply_end input Done h = record { reading = spells h.0; comes = h.1; is = refl }
+reply_end input Usage h = absurd h
+reply_end input (BadPlant kind path) h = absurd h
+reply_end input ReadFault h = absurd h
+reply_end input WriteFault h = absurd h
+reply_end input TooLong h = absurd h
+reply_end input NoMemory h = absurd h
+
+convert_end : (input : List ℕ) (s : Status) → IsFileDue Convert input s → ReadingEnd input s
+convert_end input (BadFile kind number) h = record { reading = fails kind number; comes = h; is = refl }
+convert_end input (NotDefinite pivot) h = absurd h
+convert_end input (TooWide place) h = absurd h
+convert_end input (Refused spot) h = absurd h
+convert_end input Done h = record { reading = spells h.0; comes = h.1; is = refl }
+convert_end input Usage h = absurd h
+convert_end input (BadPlant kind path) h = absurd h
+convert_end input ReadFault h = absurd h
+convert_end input WriteFault h = absurd h
+convert_end input TooLong h = absurd h
+convert_end input NoMemory h = absurd h
+
+one_reading_end : OneFileReading → (bytes : List ℕ) (s t : Status) → length bytes < 2 ^ 64 → ReadingEnd bytes s → ReadingEnd bytes t → s ≡ t
+one_reading_end one bytes s t l h k = h.is ∙ ap reading_status (one bytes h.reading k.reading l h.comes k.comes) ∙ sym k.is
+
+one_file_end : OneFileReading → OneFileOutcome → (c : FileCommand) (input : List ℕ) (s t : Status) → length input ≤ input_limit → IsFileDue c input s → IsFileDue c input t → s ≡ t
+one_file_end reading outcome Check input s t l h k =
+    let e = check_end input s h in
+    let f = check_end input t k in
+    e.is ∙ ap outcome_status (outcome input e.outcome f.outcome (small (length input) l) e.comes f.comes) ∙ sym f.is
+one_file_end reading outcome Reply input s t l h k =
+    let shorter : length (file_text Reply input) ≤ length input = head_short input in
+    one_reading_end reading (file_text Reply input) s t (small (length (file_text Reply input)) (omega (arith, shorter, l))) (reply_end input s h) (reply_end input t k)
+one_file_end reading outcome Convert input s t l h k = one_reading_end reading input s t (small (length input) l) (convert_end input s h) (convert_end input t k)
+
+-- ---- of the words and the input
+data DueEnd (words : List (List ℕ)) (input : List ℕ) (s : Status) : Type 0 where
+  by_words : (¬ IsCommand words) → s ≡ Usage → DueEnd words input s
+  by_length : CausesTooLong words input → s ≡ TooLong → DueEnd words input s
+  by_command : Causes words input s → DueEnd words input s
+
+due_end : (words : List (List ℕ)) (input : List ℕ) (s : Status) → IsDue words input s → DueEnd words input s
+due_end words input Usage h = by_words h refl
+due_end words input TooLong h = by_length h refl
+due_end words input (BadPlant kind path) h = by_command h
+due_end words input (NotDefinite pivot) h = by_command h
+due_end words input (TooWide place) h = by_command h
+due_end words input (BadFile kind number) h = by_command h
+due_end words input (Refused spot) h = by_command h
+due_end words input Done h = by_command h
+due_end words input ReadFault h = absurd h
+due_end words input WriteFault h = absurd h
+due_end words input NoMemory h = absurd h
+
+module _ (one_outcome : OneOutcome) (reading : OneFileReading) (file_outcome : OneFileOutcome) where
+  one_due_to : (c : Command) (input : List ℕ) (s t : Status) → length input ≤ input_limit → IsDueTo c input s → IsDueTo c input t → s ≡ t
+  one_due_to (OfPlant c) input s t l h k = one_plant_end one_outcome c input s t (plant_end c input s h) (plant_end c input t k)
+  one_due_to (OfFile c) input s t l h k = one_file_end reading file_outcome c input s t l h k
+
+  one_end : (words : List (List ℕ)) (input : List ℕ) (s t : Status) → DueEnd words input s → DueEnd words input t → s ≡ t
+  one_end words input s t (by_words h e) (by_words k f) = e ∙ sym f
+  one_end words input s t (by_words h e) (by_length k f) = absurd (h k.command)
+  one_end words input s t (by_words h e) (by_command k) = absurd (h (k.command, k.taken.named))
+  one_end words input s t (by_length h e) (by_words k f) = absurd (k h.command)
+  one_end words input s t (by_length h e) (by_length k f) = e ∙ sym f
+  one_end words input s t (by_length h e) (by_command k) = absurd (omega (arith, h.long, k.taken.short))
+  one_end words input s t (by_command h) (by_words k f) = absurd (k (h.command, h.taken.named))
+  one_end words input s t (by_command h) (by_length k f) = absurd (omega (arith, k.long, h.taken.short))
+  one_end words input s t (by_command h) (by_command k) =
+      one_due_to k.command input s t k.taken.short (subst (λ c. IsDueTo c input s) (one_command words h.command k.command h.taken.named k.taken.named) h.due) k.due
 
   pub due_unique : OneStatus
-  due_unique words input s t h k =
-      one_first (Stage words input) (Fails words input) (λ s n p f. clash words input s n p f) (λ s t n f g. one_failure words input s t n f g) s t (due_first words input s h) (due_first words input t k)
+  due_unique words input s t h k = one_end words input s t (due_end words input s h) (due_end words input t k)
 
 -- where the words name no command, Usage is due
 pub due_usage : OneStatus → (words : List (List ℕ)) (input : List ℕ) (s : Status) → IsDue words input s → ¬ IsCommand words → s ≡ Usage
 due_usage one words input s h wrong = one words input s Usage h wrong
 
 -- where nothing of the plant is refused, Done is due
-pub due_done : (words : List (List ℕ)) (input : List ℕ) (s : Status) → IsDue words input s → NothingRefused words input → s ≡ Done
-due_done words input Usage h n = absurd (h (n.given.command, n.given.taken.named))
-due_done words input TooLong h n = absurd (omega (arith, h.long, n.given.taken.short))
-due_done words input (BadPlant kind path) h n =
-    absurd (no_file (plant_text h.command input) n.given.plant kind path (subst (λ c. ReadsAsPlant (plant_text c input) n.given.plant) (one_command words n.given.command h.command n.given.taken.named h.taken.named) n.given.read) h.fault)
-due_done words input (NotDefinite pivot) h n = absurd (h.not_definite.not_definite (n.definite h.not_definite.qp (subst (IsCondensed h.not_definite.qp) (same_given words input h.given n.given) h.not_definite.has_program.condensed)))
-due_done words input (TooWide place) h n =
-    absurd (n.fits place (subst (λ p. FirstWide p (extent_of n.given.command) place) (same_given words input h.given n.given) (subst (λ c. FirstWide h.given.plant (extent_of c) place) (same_command words input h.given n.given) h.wide)))
-due_done words input Done h n = refl
-due_done words input ReadFault h n = absurd h
-due_done words input WriteFault h n = absurd h
-due_done words input NoMemory h n = absurd h
+module _ (words : List (List ℕ)) (input : List ℕ) (n : NothingRefused words input) where
+  plant_done : (s : Status) → PlantEnd n.command input s → s ≡ Done
+  plant_done s (by_fault kind path h e) = absurd (no_file (plant_text n.command input) n.plant kind path n.read h)
+  plant_done s (by_outcome plant (not_definite pivot) r h e) =
+      absurd (h.not_definite (n.definite h.qp (subst (IsCondensed h.qp) (same_plant (plant_text n.command input) plant n.plant r n.read) h.has_program.condensed)))
+  plant_done s (by_outcome plant (too_wide place) r h e) =
+      absurd (n.fits place (subst (λ p. FirstWide p (extent_of n.command) place) (same_plant (plant_text n.command input) plant n.plant r n.read) h))
+  plant_done s (by_outcome plant complete r h e) = e
+
+  end_done : (s : Status) → DueEnd words input s → s ≡ Done
+  end_done s (by_words h e) = absurd (h (OfPlant n.command, n.taken.named))
+  end_done s (by_length h e) = absurd (omega (arith, h.long, n.taken.short))
+  end_done s (by_command h) =
+      plant_done s (plant_end n.command input s (subst (λ c. IsDueTo c input s) (one_command words h.command (OfPlant n.command) h.taken.named n.taken.named) h.due))
+
+  pub due_done : (s : Status) → IsDue words input s → s ≡ Done
+  due_done s h = end_done s (due_end words input s h)

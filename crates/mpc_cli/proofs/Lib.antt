@@ -1,14 +1,12 @@
-pub mod CutLemmas
-pub mod CountLemmas
-pub mod LineLemmas
 pub mod CompileLemmas
-pub mod ReplyLemmas
-pub mod Firsts
 pub mod CommandLemmas
+pub mod HeadLemmas
 pub mod DueStatus
 pub mod RunLemmas
+pub mod ReadLemmas
 pub mod RequestLemmas
 pub mod AnswerLemmas
+pub mod FileAnswerLemmas
 pub mod SamePlant
 pub mod HistoryLemmas
 pub mod TraceLemmas

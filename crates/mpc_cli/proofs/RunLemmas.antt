@@ -1,5 +1,5 @@
 -- What the top call answers, from the ends of its parts.
-use Rattle.std.proofs.Common.{◌≡◌, ℕ, ◌⊎◌, inl, inr, List, Option, Some, None, take, refl, sym, subst}
+use Rattle.std.proofs.Common.{◌≡◌, ℕ, ◌+◌, ◌<◌, ◌⊎◌, arith, length, inl, inr, List, Option, Some, None, take, refl, sym, subst}
 use Rattle.std.specs.Prelude.{Result, Ok, Err, IfOk, IfErr, IfSome}
 use Rattle.std.specs.Io.KnownBytes.{Appends, Keeps}
 use Rattle.mpc_port.specs.Faults.{Rose}
@@ -7,14 +7,14 @@ use Rattle.mpc_port.specs.WriteError.{sent_before, ExplainsWriteError}
 use Rattle.mpc_port.specs.declared.output.WriteError.{WriteError}
 use Rattle.mpc_port.specs.declared.output.WriteError.TheVariants.{WriteFault as SinkFailed, NoMemory as SinkFull}
 use Rattle.mpc_cli.specs.declared.status.Status.{Status}
-use Rattle.mpc_cli.specs.declared.status.Status.TheVariants.{Done, Usage, BadPlant, NotDefinite, TooWide, ReadFault, WriteFault, TooLong, NoMemory}
+use Rattle.mpc_cli.specs.declared.status.Status.TheVariants.{Done, Usage, BadPlant, NotDefinite, TooWide, BadFile, Refused, ReadFault, WriteFault, TooLong, NoMemory}
 use Rattle.mpc_cli.specs.StatusText.{line_of}
 use Rattle.mpc_cli.specs.Commands.{IsCommand}
-use Rattle.mpc_cli.specs.Answers.{IsDue, IsAnswer, OneStatus, NothingRefused, Passage, Answers, TookPart, IsQuiet, RunAnswers}
+use Rattle.mpc_cli.specs.Answers.{input_limit, CausesTooLong, IsDue, IsAnswer, OneStatus, NothingRefused, Passage, Answers, TookPart, IsQuiet, HasRead, RunAnswers}
 use Rattle.mpc_cli.specs.declared.answer.Answer.{Answer}
 use Rattle.mpc_cli.specs.declared.requests.Halt.{Halt}
 use Rattle.mpc_cli.specs.declared.requests.Halt.TheVariants.{SourceFailed, OutOfMemory}
-use Rattle.mpc_cli.specs.Outcomes.{IsSomeAnswer, ExplainsHalt, Closes, Finishes, wrote_all, sink_failed, sink_full}
+use Rattle.mpc_cli.specs.Outcomes.{HasCome, IsSomeAnswer, ExplainsHalt, Closes, Finishes, wrote_all, sink_failed, sink_full}
 use Rattle.mpc_cli.proofs.DueStatus.{due_usage, due_done}
 
 pub if_some : (o : Option (List ℕ)) (P Q : List ℕ → Type 0) → ((x : List ℕ) → P x → Q x) → IfSome o P → IfSome o Q
@@ -29,11 +29,30 @@ pub keeps_same : (o : Option (List ℕ)) → Keeps o o
 keeps_same None = tt
 keeps_same (Some x) = refl
 
-not_device : (words : List (List ℕ)) (s : Status) (text : List ℕ) → IsSomeAnswer words s text → (t : Status) → ((input : List ℕ) → IsDue words input t → ⊥) → s ≡ t → ⊥
-not_device words s text some t none e = none some.input (subst (IsDue words some.input) e some.answer.due)
+not_device : (words : List (List ℕ)) (p : Passage) (s : Status) (text : List ℕ) → IsSomeAnswer words p.left p.left_after s text → (t : Status) → ((input : List ℕ) → IsDue words input t → ⊥) → s ≡ t → ⊥
+not_device words p s text some t none e = none some.input (subst (IsDue words some.input) e some.answer.due)
+
+-- ---- what came of the source
+answered_read : OneStatus → (words : List (List ℕ)) (p : Passage) (s : Status) (text : List ℕ) → IsSomeAnswer words p.left p.left_after s text → IsCommand words → HasRead p.left p.left_after s
+answered_read one words p s text some c = record {
+  bytes = some.input;
+  came = some.came c;
+  most = some.few;
+  long = λ l. inl (one words some.input s TooLong some.answer.due (record { command = c; long = l }));
+  only = λ e. (subst (IsDue words some.input) e some.answer.due).long;
+}
+
+some_read : (words : List (List ℕ)) (p : Passage) (s t : Status) (text : List ℕ) → IsSomeAnswer words p.left p.left_after s text → (t ≡ WriteFault) ⊎ (t ≡ NoMemory) → (t ≡ TooLong → ⊥) → IsCommand words → HasRead p.left p.left_after t
+some_read words p s t text some other not_long c = record { bytes = some.input; came = some.came c; most = some.few; long = λ l. inr other; only = λ e. absurd (not_long e) }
+
+come_read : (words : List (List ℕ)) (p : Passage) → (IsCommand words → HasCome (input_limit + 1) p.left p.left_after) → IsCommand words → HasRead p.left p.left_after NoMemory
+come_read words p h c = let come = h c in record { bytes = come.bytes; came = come.came; most = come.few; long = λ l. inr (inr refl); only = λ e. absurd cc }
+
+failed_read : (p : Passage) → HasCome input_limit p.left p.left_after → HasRead p.left p.left_after ReadFault
+failed_read p h = record { bytes = h.bytes; came = h.came; most = omega (arith, h.few); long = λ l. absurd (omega (arith, l, h.few)); only = λ e. absurd cc }
 
 -- all is written
-whole : OneStatus → (words : List (List ℕ)) (p : Passage) (s : Status) (text : List ℕ) → IsSomeAnswer words s text → IfSome p.left (λ input. IsAnswer words input s text)
+whole : OneStatus → (words : List (List ℕ)) (p : Passage) (s : Status) (text : List ℕ) → IsSomeAnswer words p.left p.left_after s text → IfSome p.left (λ input. IsAnswer words input s text)
     → Appends p.taken p.taken_after text → RunAnswers words p s
 whole one words p s text some told wrote =
     let answers : IfSome p.left (Answers words p s) = if_some p.left (λ input. IsAnswer words input s text) (Answers words p s) (λ input a. record { text = text; answer = a; wrote = wrote }) told in
@@ -46,14 +65,17 @@ whole one words p s text some told wrote =
       usage = λ e. usage_of (subst (λ t. IsAnswer words some.input t text) e some.answer);
       usage_first = λ wrong. inl (due_usage one words some.input s some.answer.due wrong);
       too_long = at TooLong;
+      has_read = answered_read one words p s text some;
       bad_plant = λ kind path. at (BadPlant kind path);
+      bad_file = λ kind number. at (BadFile kind number);
+      refused = λ spot. at (Refused spot);
       not_definite = λ pivot. at (NotDefinite pivot);
       too_wide = λ place. at (TooWide place);
-      read_fault = λ e. absurd (not_device words s text some ReadFault (λ input h. h) e);
-      write_fault = λ e. absurd (not_device words s text some WriteFault (λ input h. h) e);
-      no_memory = λ e. absurd (not_device words s text some NoMemory (λ input h. h) e);
+      read_fault = λ e. absurd (not_device words p s text some ReadFault (λ input h. h) e);
+      write_fault = λ e. absurd (not_device words p s text some WriteFault (λ input h. h) e);
+      no_memory = λ e. absurd (not_device words p s text some NoMemory (λ input h. h) e);
       exact = due;
-      complete = if_some p.left (λ input. IsAnswer words input s text) (λ input. NothingRefused words input → IsQuiet p → (s ≡ Done) ⊎ (s ≡ NoMemory)) (λ input a n quiet. inl (due_done words input s a.due n)) told;
+      complete = if_some p.left (λ input. IsAnswer words input s text) (λ input. NothingRefused words input → IsQuiet p → (s ≡ Done) ⊎ (s ≡ NoMemory)) (λ input a n quiet. inl (due_done words input n s a.due)) told;
     }
   where
     usage_of : IsAnswer words some.input Usage text → (IsCommand words → ⊥) × Appends p.taken p.taken_after (line_of Usage)
@@ -65,9 +87,12 @@ part : (words : List (List ℕ)) (p : Passage) (s : Status) (text : List ℕ) (s
 part words p s text sent told wrote =
     if_some p.left (λ input. IsAnswer words input s text) (TookPart words p) (λ input a. record { status = s; text = text; answer = a; sent = sent; wrote = wrote }) told
 
-write_failed : (words : List (List ℕ)) (p : Passage) (s : Status) (text : List ℕ) (sent : ℕ) → IfSome p.left (λ input. IsAnswer words input s text)
+write_failed : (words : List (List ℕ)) (p : Passage) (s : Status) (text : List ℕ) (sent : ℕ) → IsSomeAnswer words p.left p.left_after s text → IfSome p.left (λ input. IsAnswer words input s text)
     → Rose p.write_faults p.write_faults_after → Appends p.taken p.taken_after (take sent text) → RunAnswers words p WriteFault
-write_failed words p s text sent told rose wrote = record {
+write_failed words p s text sent some told rose wrote = record {
+  has_read = some_read words p s WriteFault text some (inl refl) (λ e. absurd cc);
+  bad_file = λ kind number e. absurd cc;
+  refused = λ spot e. absurd cc;
   done = λ e. absurd cc;
   usage = λ e. absurd cc;
   usage_first = λ wrong. inr (inl refl);
@@ -82,8 +107,11 @@ write_failed words p s text sent told rose wrote = record {
   complete = always_some p.left _ (λ input c quiet. absurd (quiet.writes rose));
 }
 
-out_of_memory : (words : List (List ℕ)) (p : Passage) → IfSome p.left (λ input. Keeps p.taken p.taken_after ⊎ TookPart words p input) → RunAnswers words p NoMemory
-out_of_memory words p took = record {
+out_of_memory : (words : List (List ℕ)) (p : Passage) → (IsCommand words → HasRead p.left p.left_after NoMemory) → IfSome p.left (λ input. Keeps p.taken p.taken_after ⊎ TookPart words p input) → RunAnswers words p NoMemory
+out_of_memory words p read took = record {
+  has_read = read;
+  bad_file = λ kind number e. absurd cc;
+  refused = λ spot e. absurd cc;
   done = λ e. absurd cc;
   usage = λ e. absurd cc;
   usage_first = λ wrong. inr (inr refl);
@@ -98,19 +126,22 @@ out_of_memory words p took = record {
   complete = always_some p.left _ (λ input c quiet. inr refl);
 }
 
-pub finished : OneStatus → (words : List (List ℕ)) (p : Passage) (a s : Status) (text : List ℕ) → IsSomeAnswer words a text → IfSome p.left (λ input. IsAnswer words input a text)
+pub finished : OneStatus → (words : List (List ℕ)) (p : Passage) (a s : Status) (text : List ℕ) → IsSomeAnswer words p.left p.left_after a text → IfSome p.left (λ input. IsAnswer words input a text)
     → Finishes a text p.taken p.taken_after p.write_faults p.write_faults_after s → RunAnswers words p s
 finished one words p a _ text some told (wrote_all wrote) = whole one words p a text some told wrote
-finished one words p a _ text some told (sink_failed sent rose wrote) = write_failed words p a text sent told rose wrote
+finished one words p a _ text some told (sink_failed sent rose wrote) = write_failed words p a text sent some told rose wrote
 finished one words p a _ text some told (sink_full sent wrote) =
-    out_of_memory words p (if_some p.left (TookPart words p) (λ input. Keeps p.taken p.taken_after ⊎ TookPart words p input) (λ input took. inr took) (part words p a text sent told wrote))
+    out_of_memory words p (some_read words p a NoMemory text some (inr refl) (λ e. absurd cc)) (if_some p.left (TookPart words p) (λ input. Keeps p.taken p.taken_after ⊎ TookPart words p input) (λ input took. inr took) (part words p a text sent told wrote))
 
 -- nothing is written
-pub halted : (words : List (List ℕ)) (p : Passage) → Keeps p.taken p.taken_after → RunAnswers words p NoMemory
-halted words p kept = out_of_memory words p (always_some p.left _ (λ input. inl kept))
+pub halted : (words : List (List ℕ)) (p : Passage) → (IsCommand words → HasCome (input_limit + 1) p.left p.left_after) → Keeps p.taken p.taken_after → RunAnswers words p NoMemory
+halted words p come kept = out_of_memory words p (come_read words p come) (always_some p.left _ (λ input. inl kept))
 
-pub read_failed : (words : List (List ℕ)) (p : Passage) → IsCommand words → Rose p.read_faults p.read_faults_after → Keeps p.taken p.taken_after → RunAnswers words p ReadFault
-read_failed words p run rose kept = record {
+pub read_failed : (words : List (List ℕ)) (p : Passage) → IsCommand words → Rose p.read_faults p.read_faults_after → HasCome input_limit p.left p.left_after → Keeps p.taken p.taken_after → RunAnswers words p ReadFault
+read_failed words p run rose come kept = record {
+  has_read = λ c. failed_read p come;
+  bad_file = λ kind number e. absurd cc;
+  refused = λ spot e. absurd cc;
   done = λ e. absurd cc;
   usage = λ e. absurd cc;
   usage_first = λ wrong. absurd (wrong run);
@@ -137,12 +168,12 @@ no_memory_ends status text bytes taken taken_after faults faults_after e sent is
     sink_full sent (subst (Appends taken taken_after) (λ i. take (sent_before (is i)) (same i)) wrote)
 
 -- ---- a run by an answer, or by none
-pub closed : OneStatus → (words : List (List ℕ)) (p : Passage) (outcome : Result Answer Halt) (s : Status) → IfOk outcome (λ a. IsSomeAnswer words a.status a.text.items)
-    → IfOk outcome (λ a. IfSome p.left (λ input. IsAnswer words input a.status a.text.items)) → IfErr outcome (ExplainsHalt words p.read_faults p.read_faults_after)
+pub closed : OneStatus → (words : List (List ℕ)) (p : Passage) (outcome : Result Answer Halt) (s : Status) → IfOk outcome (λ a. IsSomeAnswer words p.left p.left_after a.status a.text.items)
+    → IfOk outcome (λ a. IfSome p.left (λ input. IsAnswer words input a.status a.text.items)) → IfErr outcome (ExplainsHalt words p.left p.left_after p.read_faults p.read_faults_after)
     → Closes outcome p.taken p.taken_after p.write_faults p.write_faults_after s → RunAnswers words p s
 closed one words p (Ok a) s some told halt ends = finished one words p a.status s a.text.items some told ends
-closed one words p (Err SourceFailed) s some told halt ends = subst (RunAnswers words p) (sym ends.0) (read_failed words p halt.0 halt.1 ends.1)
-closed one words p (Err OutOfMemory) s some told halt ends = subst (RunAnswers words p) (sym ends.0) (halted words p ends.1)
+closed one words p (Err SourceFailed) s some told halt ends = subst (RunAnswers words p) (sym ends.0) (read_failed words p halt.0 halt.1 halt.2 ends.1)
+closed one words p (Err OutOfMemory) s some told halt ends = subst (RunAnswers words p) (sym ends.0) (halted words p halt ends.1)
 
 -- what writes nothing closes with its status
 pub halt_closes : (h : Halt) (status : Status) (taken : Option (List ℕ)) (faults : ℕ) → (h ≡ SourceFailed → status ≡ ReadFault) → (h ≡ OutOfMemory → status ≡ NoMemory) → Closes (Err h) taken taken faults faults status

@@ -6,7 +6,7 @@ use Rattle.mpc_claim.specs.declared.events.Event.{Event}
 use Rattle.mpc_claim.specs.Board.{Board}
 use Rattle.mpc_claim.specs.HistoryLaws.{LegalLaws, ClaimLaws, AppendLaws, LegalBeginnings}
 use Rattle.mpc_synthesis.specs.Programs.{IsDecidedBy}
-use Rattle.mpc_cli.specs.declared.commands.Command.TheVariants.{Trace}
+use Rattle.mpc_cli.specs.declared.commands.PlantCommand.TheVariants.{Trace}
 use Rattle.mpc_cli.specs.declared.status.Status.{Status}
 use Rattle.mpc_cli.specs.declared.status.Status.TheVariants.{Done}
 use Rattle.mpc_cli.specs.PlantAnswers.{IsPlantAnswer}

@@ -1,6 +1,6 @@
 -- What the command answers: its causes, its output, and what passes at its source and its sink.
-use Rattle.std.specs.Prelude.{◌≡◌, ℕ, ◌<◌, ◌≤◌, ◌⊎◌, Option, IfSome, List, [], length, take}
-use Rattle.std.specs.Io.KnownBytes.{Appends, Keeps}
+use Rattle.std.specs.Prelude.{◌≡◌, ℕ, ◌+◌, ◌<◌, ◌≤◌, ◌⊎◌, Option, IfSome, List, [], length, take}
+use Rattle.std.specs.Io.KnownBytes.{Appends, Keeps, Consumes}
 use Rattle.mpc_port.specs.Faults.{Rose}
 use Rattle.mpc_plant.specs.declared.plants.Plant.{Plant}
 use Rattle.mpc_plant.specs.declared.faults.PlantKind.{PlantKind}
@@ -9,18 +9,23 @@ use Rattle.mpc_rows.specs.declared.programs.Qp.{Qp}
 use Rattle.mpc_rows.specs.declared.places.Place.{Place}
 use Rattle.mpc_space.specs.Definite.{IsDefinite}
 use Rattle.mpc_condense.specs.Condensed.{IsCondensed}
+use Rattle.mpc_file.specs.declared.errors.FileKind.{FileKind}
+use Rattle.mpc_check.specs.declared.answers.Spot.{Spot}
 use Rattle.mpc_synthesis.specs.Refusals.{IsNotDefiniteAt, FirstWide}
 use Rattle.mpc_synthesis.specs.Outcomes.{IsComplete}
+use Rattle.mpc_replies.specs.Cut.{head_of, count_lines}
+use Rattle.mpc_replies.specs.ReplyLines.{AreReplies}
 use Rattle.mpc_cli.specs.declared.status.Status.{Status}
-use Rattle.mpc_cli.specs.declared.status.Status.TheVariants.{Done, Usage, BadPlant, NotDefinite, TooWide, ReadFault, WriteFault, TooLong, NoMemory}
-use Rattle.mpc_cli.specs.Cut.{head_of, count_lines}
+use Rattle.mpc_cli.specs.declared.status.Status.TheVariants.{Done, Usage, BadPlant, NotDefinite, TooWide, BadFile, Refused, ReadFault, WriteFault, TooLong, NoMemory}
 use Rattle.mpc_cli.specs.declared.commands.Command.{Command}
-use Rattle.mpc_cli.specs.declared.commands.Command.TheVariants.{Run, Compile, Trace}
+use Rattle.mpc_cli.specs.declared.commands.Command.TheVariants.{OfPlant, OfFile}
+use Rattle.mpc_cli.specs.declared.commands.PlantCommand.{PlantCommand}
+use Rattle.mpc_cli.specs.declared.commands.PlantCommand.TheVariants.{Run, Compile, Trace}
 use Rattle.mpc_cli.specs.Commands.{Names, IsCommand, plant_text}
 use Rattle.mpc_cli.specs.Extents.{extent_of}
 use Rattle.mpc_cli.specs.Histories.{IsTraceOf}
 use Rattle.mpc_cli.specs.ControllerFiles.{IsFileOf}
-use Rattle.mpc_cli.specs.ReplyLines.{AreReplies}
+use Rattle.mpc_cli.specs.FileAnswers.{IsFileDue, IsFileOutput}
 use Rattle.mpc_cli.specs.StatusText.{line_of}
 
 -- the most bytes that an input has
@@ -37,48 +42,60 @@ pub record CausesTooLong (words : List (List ℕ)) (input : List ℕ) : Type 0 w
   pub command : IsCommand words
   pub long : input_limit < length input
 
--- a check of the plant's file fails, and this is the first one
-pub record CausesBadPlant (words : List (List ℕ)) (input : List ℕ) (kind : PlantKind) (path : List ℕ) : Type 0 where
-  pub command : Command
-  pub taken : IsTaken command words input
-  pub fault : IsFirstFault (plant_text command input) kind path
-
--- the command's input has the file of a plant
-pub record HasPlant (words : List (List ℕ)) (input : List ℕ) : Type 0 where
-  pub command : Command
-  pub taken : IsTaken command words input
+-- the input of a command on a plant has the file of a plant, of which something holds
+pub record OfItsPlant (c : PlantCommand) (input : List ℕ) (holds : Plant → Type 0) : Type 0 where
   pub plant : Plant
-  pub read : ReadsAsPlant (plant_text command input) plant
+  pub read : ReadsAsPlant (plant_text c input) plant
+  pub so : holds plant
 
+-- the status that is due to a command on a plant for an input that isn't too long
+abbrev pub IsPlantDue : PlantCommand → List ℕ → Status → Type 0
+-- a check of the plant's file fails, and this is the first one
+IsPlantDue c input (BadPlant kind path) = IsFirstFault (plant_text c input) kind path
 -- no number of an earlier run is too wide, and the pivot is the first that isn't positive
-pub record CausesNotDefinite (words : List (List ℕ)) (input : List ℕ) (pivot : ℕ) : Type 0 where
-  pub given : HasPlant words input
-  pub not_definite : IsNotDefiniteAt given.plant pivot
-
+IsPlantDue c input (NotDefinite pivot) = OfItsPlant c input (λ plant. IsNotDefiniteAt plant pivot)
 -- the place is the first of which a number is too wide
-pub record CausesTooWide (words : List (List ℕ)) (input : List ℕ) (place : Place) : Type 0 where
-  pub given : HasPlant words input
-  pub wide : FirstWide given.plant (extent_of given.command) place
+IsPlantDue c input (TooWide place) = OfItsPlant c input (λ plant. FirstWide plant (extent_of c) place)
+IsPlantDue c input Done = OfItsPlant c input (IsComplete (extent_of c))
+IsPlantDue c input Usage = ⊥
+IsPlantDue c input (BadFile kind number) = ⊥
+IsPlantDue c input (Refused spot) = ⊥
+IsPlantDue c input ReadFault = ⊥
+IsPlantDue c input WriteFault = ⊥
+IsPlantDue c input TooLong = ⊥
+IsPlantDue c input NoMemory = ⊥
 
-pub record CausesDone (words : List (List ℕ)) (input : List ℕ) : Type 0 where
-  pub given : HasPlant words input
-  pub complete : IsComplete (extent_of given.command) given.plant
+-- the status that is due to the command for an input that isn't too long
+abbrev pub IsDueTo : Command → List ℕ → Status → Type 0
+IsDueTo (OfPlant c) input status = IsPlantDue c input status
+IsDueTo (OfFile c) input status = IsFileDue c input status
+
+-- the words name a command, to which the status is due
+pub record Causes (words : List (List ℕ)) (input : List ℕ) (status : Status) : Type 0 where
+  pub command : Command
+  pub taken : IsTaken command words input
+  pub due : IsDueTo command input status
 
 -- The command's input has the file of a plant of which nothing is refused: the weight of the moves is positive definite, and no number of
 -- the stated runs, as far as the command goes, is too wide.
 pub record NothingRefused (words : List (List ℕ)) (input : List ℕ) : Type 0 where
-  pub given : HasPlant words input
-  pub definite : (qp : Qp) → IsCondensed qp given.plant → IsDefinite qp.h.rows
-  pub fits : (place : Place) → ¬ FirstWide given.plant (extent_of given.command) place
+  pub command : PlantCommand
+  pub taken : IsTaken (OfPlant command) words input
+  pub plant : Plant
+  pub read : ReadsAsPlant (plant_text command input) plant
+  pub definite : (qp : Qp) → IsCondensed qp plant → IsDefinite qp.h.rows
+  pub fits : (place : Place) → ¬ FirstWide plant (extent_of command) place
 
 -- the status that is due for the words and the input, by devices that don't fail
 abbrev pub IsDue : List (List ℕ) → List ℕ → Status → Type 0
 IsDue words input Usage = ¬ IsCommand words
 IsDue words input TooLong = CausesTooLong words input
-IsDue words input (BadPlant kind path) = CausesBadPlant words input kind path
-IsDue words input (NotDefinite pivot) = CausesNotDefinite words input pivot
-IsDue words input (TooWide place) = CausesTooWide words input place
-IsDue words input Done = CausesDone words input
+IsDue words input (BadPlant kind path) = Causes words input (BadPlant kind path)
+IsDue words input (NotDefinite pivot) = Causes words input (NotDefinite pivot)
+IsDue words input (TooWide place) = Causes words input (TooWide place)
+IsDue words input (BadFile kind number) = Causes words input (BadFile kind number)
+IsDue words input (Refused spot) = Causes words input (Refused spot)
+IsDue words input Done = Causes words input Done
 IsDue words input ReadFault = ⊥
 IsDue words input WriteFault = ⊥
 IsDue words input NoMemory = ⊥
@@ -104,9 +121,10 @@ pub record IsTrace (workers : ℕ) (input output : List ℕ) : Type 0 where
   pub traced : IsTraceOf workers plant output
 
 abbrev pub IsOutput : Command → List ℕ → List ℕ → Type 0
-IsOutput Run input output = IsReplies input output
-IsOutput (Compile workers) input output = IsCompiled input output
-IsOutput (Trace workers) input output = IsTrace workers input output
+IsOutput (OfPlant Run) input output = IsReplies input output
+IsOutput (OfPlant (Compile workers)) input output = IsCompiled input output
+IsOutput (OfPlant (Trace workers)) input output = IsTrace workers input output
+IsOutput (OfFile c) input output = IsFileOutput c input output
 
 pub record IsOutputOf (words : List (List ℕ)) (input output : List ℕ) : Type 0 where
   pub command : Command
@@ -121,6 +139,8 @@ IsText words input TooLong text = text ≡ line_of TooLong
 IsText words input (BadPlant kind path) text = text ≡ line_of (BadPlant kind path)
 IsText words input (NotDefinite pivot) text = text ≡ line_of (NotDefinite pivot)
 IsText words input (TooWide place) text = text ≡ line_of (TooWide place)
+IsText words input (BadFile kind number) text = text ≡ line_of (BadFile kind number)
+IsText words input (Refused spot) text = text ≡ line_of (Refused spot)
 IsText words input ReadFault text = text ≡ []
 IsText words input WriteFault text = text ≡ []
 IsText words input NoMemory text = text ≡ []
@@ -135,9 +155,10 @@ pub record IsAnswer (words : List (List ℕ)) (input : List ℕ) (status : Statu
   pub text_is : IsText words input status text
 
 -- ---- What passes in a call
--- the bytes that the source tells at entry, those that the sink has taken before and after, and the counts of faults before and after
+-- the bytes that the source tells before and after, those that the sink has taken before and after, and the counts of faults before and after
 pub record Passage : Type 0 where
   pub left : Option (List ℕ)
+  pub left_after : Option (List ℕ)
   pub read_faults : ℕ
   pub read_faults_after : ℕ
   pub taken : Option (List ℕ)
@@ -164,17 +185,30 @@ pub record IsQuiet (passage : Passage) : Type 0 where
   pub reads : ¬ Rose passage.read_faults passage.read_faults_after
   pub writes : ¬ Rose passage.write_faults passage.write_faults_after
 
+-- The bytes that came, from the front of what was left, are at most one more than the limit. Where they are more than the limit, the input is
+-- too long, whatever the source would have done afterwards, and that is said where they are.
+pub record HasRead (left left_after : Option (List ℕ)) (status : Status) : Type 0 where
+  pub bytes : List ℕ
+  pub came : Consumes left left_after bytes
+  pub most : length bytes ≤ input_limit + 1
+  pub long : input_limit < length bytes → (status ≡ TooLong) ⊎ ((status ≡ WriteFault) ⊎ (status ≡ NoMemory))
+  pub only : status ≡ TooLong → input_limit < length bytes
+
 -- what the command answers for its words: each status comes just from its cause, and the sink took what is said here
 pub record RunAnswers (words : List (List ℕ)) (passage : Passage) (status : Status) : Type 0 where
-  -- the input has the file of a plant, and the output is that of the command: right replies, the controller's file, or a history of the plant's candidates
+  -- the input has the file of a plant or of a controller, and the output is that of the command: right replies, the controller's file, a
+  -- history of the plant's candidates, that the controller is accepted, the controller's replies, or its text in version 3
   pub done : status ≡ Done → IfSome passage.left (Answers words passage Done)
   -- the words name no command: then no other refusal comes, whatever the source and the sink tell
   pub usage : status ≡ Usage → (¬ IsCommand words) × Appends passage.taken passage.taken_after (line_of Usage)
   pub usage_first : (¬ IsCommand words) → (status ≡ Usage) ⊎ ((status ≡ WriteFault) ⊎ (status ≡ NoMemory))
   pub too_long : status ≡ TooLong → IfSome passage.left (Answers words passage TooLong)
+  pub has_read : IsCommand words → HasRead passage.left passage.left_after status
   pub bad_plant : (kind : PlantKind) (path : List ℕ) → status ≡ BadPlant kind path → IfSome passage.left (Answers words passage (BadPlant kind path))
+  pub bad_file : (kind : FileKind) (number : ℕ) → status ≡ BadFile kind number → IfSome passage.left (Answers words passage (BadFile kind number))
   pub not_definite : (pivot : ℕ) → status ≡ NotDefinite pivot → IfSome passage.left (Answers words passage (NotDefinite pivot))
   pub too_wide : (place : Place) → status ≡ TooWide place → IfSome passage.left (Answers words passage (TooWide place))
+  pub refused : (spot : Spot) → status ≡ Refused spot → IfSome passage.left (Answers words passage (Refused spot))
   -- a fault of the source or the sink, after which the sink took nothing, or the first bytes of what was to be written
   pub read_fault : status ≡ ReadFault → Rose passage.read_faults passage.read_faults_after × Keeps passage.taken passage.taken_after
   pub write_fault : status ≡ WriteFault → Rose passage.write_faults passage.write_faults_after × IfSome passage.left (TookPart words passage)

@@ -1,9 +1,8 @@
-pub mod Cut
-pub mod CountLine
+pub mod SpotText
 pub mod StatusText
-pub mod ReplyLines
 pub mod Answers
 pub mod PlantAnswers
+pub mod FileAnswers
 pub mod Outcomes
 pub mod Requests
 pub mod Extents

@@ -1,10 +1,13 @@
 -- The lines and the exit codes of statuses.
 use Rattle.std.specs.Prelude.{ℕ, List, [], ◌∷◌, ◌++◌, codes, decimal}
 use Rattle.mpc_cli.specs.declared.status.Status.{Status}
-use Rattle.mpc_cli.specs.declared.status.Status.TheVariants.{Done, Usage, BadPlant, NotDefinite, TooWide, ReadFault, WriteFault, TooLong, NoMemory}
+use Rattle.mpc_cli.specs.declared.status.Status.TheVariants.{Done, Usage, BadPlant, NotDefinite, TooWide, BadFile, Refused, ReadFault, WriteFault, TooLong, NoMemory}
 use Rattle.mpc_plant.specs.declared.faults.PlantKind.{PlantKind}
 use Rattle.mpc_plant.specs.declared.faults.PlantKind.TheVariants.{NotJson, NotObject, UnknownKey, MissingKey, WrongKind, BadNumber, WrongShape, OverLimit, NotSymmetric, StepNotPositive, BadVersion}
 use Rattle.mpc_rows.specs.PlaceText.{place_text}
+use Rattle.mpc_file.specs.declared.errors.FileKind.{FileKind}
+use Rattle.mpc_file.specs.declared.errors.FileKind.TheVariants.{BadLine, Truncated, TailAfterEnd, BadNode, OverBound}
+use Rattle.mpc_cli.specs.SpotText.{spot_text}
 
 abbrev pub kind_text : PlantKind → List ℕ
 kind_text NotJson = codes "NotJson"
@@ -19,6 +22,13 @@ kind_text NotSymmetric = codes "NotSymmetric"
 kind_text StepNotPositive = codes "StepNotPositive"
 kind_text BadVersion = codes "BadVersion"
 
+abbrev pub file_kind_text : FileKind → List ℕ
+file_kind_text BadLine = codes "BadLine"
+file_kind_text Truncated = codes "Truncated"
+file_kind_text TailAfterEnd = codes "TailAfterEnd"
+file_kind_text BadNode = codes "BadNode"
+file_kind_text OverBound = codes "OverBound"
+
 -- a blank and the path; nothing where the path is empty
 abbrev pub path_text : List ℕ → List ℕ
 path_text [] = []
@@ -31,6 +41,8 @@ line_of Usage = codes "usage\n"
 line_of (BadPlant kind path) = codes "bad plant " ++ kind_text kind ++ path_text path ++ codes "\n"
 line_of (NotDefinite pivot) = codes "not definite " ++ decimal pivot ++ codes "\n"
 line_of (TooWide place) = codes "too wide " ++ place_text place ++ codes "\n"
+line_of (BadFile kind number) = codes "bad file " ++ file_kind_text kind ++ codes " " ++ decimal number ++ codes "\n"
+line_of (Refused spot) = codes "refused " ++ spot_text spot ++ codes "\n"
 line_of ReadFault = []
 line_of WriteFault = []
 line_of TooLong = codes "too long\n"
@@ -43,6 +55,8 @@ code_of Usage = 2
 code_of (BadPlant kind path) = 3
 code_of (NotDefinite pivot) = 4
 code_of (TooWide place) = 5
+code_of (BadFile kind number) = 6
+code_of (Refused spot) = 7
 code_of ReadFault = 8
 code_of WriteFault = 9
 code_of TooLong = 10

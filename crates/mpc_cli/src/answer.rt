@@ -1,37 +1,30 @@
 //! The answer to a request: its status and what is written.
 
 ghost use Rattle.std.specs.Prelude.{◌≡◌, IfOk, IfErr, List, ℕ};
-ghost use Rattle.std.specs.Str.Lines.{lines};
 ghost use Rattle.mpc_plant.specs.declared.plants.Plant.{Plant};
-ghost use Rattle.mpc_rows.specs.declared.programs.Qp.{Qp};
-ghost use Rattle.mpc_cli.specs.declared.commands.Command.{Command};
-ghost use Rattle.mpc_cli.specs.declared.commands.Command.TheVariants.{Run, Compile, Trace};
+ghost use Rattle.mpc_cli.specs.declared.commands.PlantCommand.{PlantCommand};
+ghost use Rattle.mpc_cli.specs.declared.commands.PlantCommand.TheVariants.{Run, Compile, Trace};
 ghost use Rattle.mpc_cli.specs.Commands.{workers_of};
-ghost use Rattle.mpc_cli.specs.Cut.{tail_of};
+ghost use Rattle.mpc_replies.specs.Cut.{tail_of};
 ghost use Rattle.mpc_cli.specs.Answers.{IsAnswer};
 ghost use Rattle.mpc_cli.specs.declared.requests.Beginning.TheVariants.{Asked};
 ghost use Rattle.mpc_cli.specs.Requests.{IsBegun};
 ghost use Rattle.mpc_cli.specs.PlantAnswers.{IsPlantAnswer};
 ghost use Rattle.mpc_synthesis.specs.Programs.{IsDecidedBy};
-ghost use Rattle.mpc_synthesis.specs.Controllers.{IsController};
 ghost use Rattle.mpc_synthesis.specs.Refusals.{Extent, ExplainsSynthesisError};
 ghost use Rattle.mpc_cli.specs.Extents.{extent_of};
-ghost use Rattle.mpc_cli.specs.ReplyLines.{AreReplies};
 ghost use Rattle.mpc_cli.specs.StatusText.{line_of};
 
-use crate::commands::Command;
-use crate::input::cut;
-use crate::replies::reply_lines;
+use crate::commands::PlantCommand;
 use crate::requests::Request;
 use crate::status::Status;
 use crate::tracing::trace;
 use mpc_claim::Registry;
-use mpc_controller::Controller;
 use mpc_file::{one_text, write_file};
 use mpc_frac::NoMemory;
 use mpc_plant::Plant;
+use mpc_replies::{cut, replies, right_replies};
 use mpc_synthesis::{SynthesisError, controller_of, one_controller, right_controller};
-use mpc_table::Table;
 use std::alloc::Global;
 
 /// A status, and the output or line that is to be written.
@@ -52,7 +45,7 @@ pub fn refusal(alloc: Global, status: Status) -> Result<Answer, NoMemory>
 
 /// The answer to a plant that is refused, where the cause holds of it.
 fn plant_refusal(alloc: Global, error: SynthesisError) -> Result<Answer, NoMemory>
-    ensures { IfOk result (λ answer. (c : Command) (plant : Plant) (counts : List ℕ)
+    ensures { IfOk result (λ answer. (c : PlantCommand) (plant : Plant) (counts : List ℕ)
         → ExplainsSynthesisError (extent_of c) plant error
         → IsPlantAnswer c plant counts answer.status answer.text.items) }
 {
@@ -64,7 +57,7 @@ fn plant_refusal(alloc: Global, error: SynthesisError) -> Result<Answer, NoMemor
 }
 
 /// The output.
-fn output(text: Vec<u8>) -> Answer
+pub fn output(text: Vec<u8>) -> Answer
     ensures status { result.status ≡ Status.Done }
     ensures text { result.text.items ≡ text.items }
 {
@@ -72,16 +65,6 @@ fn output(text: Vec<u8>) -> Answer
         status: Status::Done,
         text,
     }
-}
-
-/// The replies of a plant's controller to the lines of counts.
-fn replies(alloc: Global, parts: &Controller, counts: &[u8]) -> Result<Vec<u8>, NoMemory>
-    ensures { IfOk result (λ text. (plant : Plant) (qp : Qp) → IsController plant qp parts.now
-        → AreReplies plant (lines counts.now) text.items) }
-{
-    right_controller();
-    let table = Table::of(alloc, parts)?;
-    reply_lines(alloc, &table, parts.plant().n as usize, counts)
 }
 
 /// The answer of the command `run` to a plant whose active sets are decided, and the text of its lines of counts.
@@ -94,6 +77,8 @@ fn run_answer(
     requires { (workers : ℕ) × IsDecidedBy workers plant registry }
     ensures { IfOk result (λ answer. IsPlantAnswer Run plant counts.now answer.status answer.text.items) }
 {
+    right_controller();
+    right_replies();
     match controller_of(alloc, plant, registry) {
         Ok(parts) => {
             let text = replies(alloc, &parts, counts)?;
@@ -143,9 +128,9 @@ fn decided_answer(alloc: Global, request: Request, registry: Registry) -> Result
         plant,
     } = request;
     match command {
-        Command::Run => run_answer(alloc, plant, cut(&input).counts, registry),
-        Command::Compile(_) => compile_answer(alloc, plant, registry),
-        Command::Trace(_) => trace_answer(alloc, &registry),
+        PlantCommand::Run => run_answer(alloc, plant, cut(&input).counts, registry),
+        PlantCommand::Compile(_) => compile_answer(alloc, plant, registry),
+        PlantCommand::Trace(_) => trace_answer(alloc, &registry),
     }
 }
 

@@ -1,16 +1,16 @@
 //! The words of the command line.
 
 ghost use Rattle.std.specs.Prelude.{◌≡◌, ◌≢◌, ℕ, ◌<◌, ◌↔◌, [], ◌∷◌, decimal, map, string_bytes, MatchOption};
-ghost use Rattle.mpc_cli.specs.Commands.{HaveWorkers, IsCommand, IsWorkerCount, Names, Waits, workers_of};
+ghost use Rattle.mpc_cli.specs.Commands.{HaveWorkers, IsCommand, IsWorkerCount, Names, Waits, asked_workers};
 
 use itoa::Buffer;
 
 /// The most workers that a command takes.
 const MOST_WORKERS: u32 = 32;
 
-/// What the words ask for.
+/// What is asked about a plant.
 #[derive(Clone, Copy, Debug, PartialEq, Eq)]
-pub enum Command {
+pub enum PlantCommand {
     /// The replies to recorded states.
     Run,
     /// The file of the plant's controller, whose active sets so many workers decide.
@@ -19,14 +19,34 @@ pub enum Command {
     Trace(u32),
 }
 
+/// What is asked about the file of a controller.
+#[derive(Clone, Copy, Debug, PartialEq, Eq)]
+pub enum FileCommand {
+    /// Whether the controller meets all conditions of optimality.
+    Check,
+    /// The controller's replies to recorded states, whether anybody has checked it or not.
+    Reply,
+    /// The controller's file in the newest version.
+    Convert,
+}
+
+/// What the words ask for.
+#[derive(Clone, Copy, Debug, PartialEq, Eq)]
+pub enum Command {
+    /// Something of a plant.
+    OfPlant(PlantCommand),
+    /// Something of a controller's file.
+    OfFile(FileCommand),
+}
+
 impl Command {
-    /// How many workers decide the plant's active sets.
+    /// How many workers decide the plant's active sets: 1 where there is no plant.
     fn workers(self) -> u32
-        ensures { result ≡ workers_of self }
+        ensures { result ≡ asked_workers self }
     {
         match self {
-            Command::Run => 1,
-            Command::Compile(workers) | Command::Trace(workers) => workers,
+            Command::OfPlant(PlantCommand::Compile(workers) | PlantCommand::Trace(workers)) => workers,
+            Command::OfPlant(PlantCommand::Run) | Command::OfFile(_) => 1,
         }
     }
 }
@@ -36,9 +56,12 @@ fn one_word(name: &str) -> Option<Command>
     ensures { MatchOption result (¬ IsCommand (name.now ∷ [])) (λ c. Names c (name.now ∷ [])) }
 {
     match name {
-        "run" => Some(Command::Run),
-        "compile" => Some(Command::Compile(1)),
-        "trace" => Some(Command::Trace(1)),
+        "run" => Some(Command::OfPlant(PlantCommand::Run)),
+        "compile" => Some(Command::OfPlant(PlantCommand::Compile(1))),
+        "trace" => Some(Command::OfPlant(PlantCommand::Trace(1))),
+        "check" => Some(Command::OfFile(FileCommand::Check)),
+        "reply" => Some(Command::OfFile(FileCommand::Reply)),
+        "convert" => Some(Command::OfFile(FileCommand::Convert)),
         _ => None,
     }
 }
@@ -67,8 +90,8 @@ fn three_words(name: &str, option: &str, number: &str) -> Option<Command>
     }
     let workers = worker_count(number)?;
     match name {
-        "compile" => Some(Command::Compile(workers)),
-        "trace" => Some(Command::Trace(workers)),
+        "compile" => Some(Command::OfPlant(PlantCommand::Compile(workers))),
+        "trace" => Some(Command::OfPlant(PlantCommand::Trace(workers))),
         _ => None,
     }
 }

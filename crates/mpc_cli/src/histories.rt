@@ -49,7 +49,7 @@ fn add_event(text: &mut Vec<u8>, event: &Event) -> Result<(), NoMemory>
     ensures { OnOk result (text.new.items ≡ text.old.items ++ event_text event.now) }
 {
     add_text(text, kind_name(event.kind))?;
-    add_number(text, event.worker)?;
+    add_number(text, u64::from(event.worker))?;
     add_text(text, b" ")?;
     write_set(event.set, text)?;
     add_end(text, event.kind)

@@ -2,6 +2,7 @@
 
 ghost use Rattle.mpc_cli.specs.Answers.{OneStatus};
 
+use mpc_files::one_file_answer;
 use mpc_synthesis::one_outcome;
 
 /// For words and an input at most one status is due, by devices that don't fail. The call does nothing: its clause is the law.
@@ -9,4 +10,5 @@ pub fn one_status()
     ensures { OneStatus }
 {
     one_outcome();
+    one_file_answer();
 }

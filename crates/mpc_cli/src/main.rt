@@ -4,18 +4,18 @@
 //! writes the first move of the cheapest input sequence from each of these states to standard output;
 //! `mpc compile` reads the file of a plant and writes the file of its controller; `mpc trace` reads
 //! the file of a plant and writes how its active sets were claimed and decided. Both take
-//! `--workers W`, with W from 1 to 32.
+//! `--workers W`, with W from 1 to 32. `mpc check` checks the file of a controller, `mpc reply` writes
+//! the controller's replies to recorded states, and `mpc convert` its file in the newest version.
 #![tactic(auto)]
 
 mod answer;
 mod commands;
-mod counts;
+mod file_answers;
 mod histories;
-mod input;
 mod laws;
-mod replies;
 mod requests;
 mod run;
+mod spots;
 mod status;
 #[cfg(test)]
 mod tests;

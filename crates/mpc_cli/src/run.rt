@@ -34,6 +34,14 @@ use std::thread::Threads;
 /// `trace`: from the file of a plant it writes the history in which the active sets of its program are
 /// claimed and decided.
 ///
+/// `check`: of the file of a controller it writes `accepted` where the controller meets all conditions of
+/// optimality, and else the first that it doesn't meet.
+///
+/// `reply`: from the file of a controller, a line `states` and lines of counts it writes one reply line a
+/// line of counts, those of the controller, whether anybody has checked it or not.
+///
+/// `convert`: from the file of a controller it writes the file of the same controller in the newest version.
+///
 /// `compile` and `trace` take `--workers W` with a number W from 1 to 32 in decimal: so many workers decide
 /// the active sets, each in a thread of its own where there are two or more. The file of a controller is the
 /// same for every number.
@@ -48,6 +56,7 @@ pub fn run<T: Threads + Wait + Sync, S: Source, K: Sink, G: Gate + Sync>(
     ensures answers { RunAnswers (map string_bytes words.now)
         (record {
           left = S.left source.old;
+          left_after = S.left source.new;
           read_faults = S.faults source.old;
           read_faults_after = S.faults source.new;
           taken = K.taken sink.old;
@@ -68,7 +77,7 @@ pub fn run<T: Threads + Wait + Sync, S: Source, K: Sink, G: Gate + Sync>(
 
 /// What [`run`] does where the words don't ask for two workers or more: it waits for nobody.
 pub fn run_alone<T: Threads + Sync, S: Source, K: Sink, G: Gate>(
-    _rt: &T,
+    rt: &T,
     alloc: Global,
     words: &[String],
     source: &mut S,
@@ -79,6 +88,7 @@ pub fn run_alone<T: Threads + Sync, S: Source, K: Sink, G: Gate>(
     ensures answers { RunAnswers (map string_bytes words.now)
         (record {
           left = S.left source.old;
+          left_after = S.left source.new;
           read_faults = S.faults source.old;
           read_faults_after = S.faults source.new;
           taken = K.taken sink.old;
@@ -89,32 +99,33 @@ pub fn run_alone<T: Threads + Sync, S: Source, K: Sink, G: Gate>(
     ensures unread { (¬ IsCommand (map string_bytes words.now)) → source.new ≡ source.old }
 {
     one_status();
-    let outcome = answer_alone(alloc, words, source, gate);
+    let outcome = answer_alone(rt, alloc, words, source, gate);
     close(sink, outcome)
 }
 
 /// The answer to the words and the input, by one worker.
-fn answer_alone<S: Source, G: Gate>(
+fn answer_alone<T: Threads + Sync, S: Source, G: Gate>(
+    rt: &T,
     alloc: Global,
     words: &[String],
     source: &mut S,
     gate: &G,
 ) -> Result<Answer, Halt>
     requires { HaveWorkers (map string_bytes words.now) 1 }
-    ensures some { IfOk result (λ answer.
-        IsSomeAnswer (map string_bytes words.now) answer.status answer.text.items) }
+    ensures some { IfOk result (λ answer. IsSomeAnswer (map string_bytes words.now)
+        (S.left source.old) (S.left source.new) answer.status answer.text.items) }
     ensures told { IfOk result (λ answer. IfSome (S.left source.old) (λ input.
         IsAnswer (map string_bytes words.now) input answer.status answer.text.items)) }
     ensures halt { IfErr result (ExplainsHalt (map string_bytes words.now)
-        (S.faults source.old) (S.faults source.new)) }
+        (S.left source.old) (S.left source.new) (S.faults source.old) (S.faults source.new)) }
     ensures unread { (¬ IsCommand (map string_bytes words.now)) → source.new ≡ source.old }
 {
-    match begin(alloc, words, source) {
+    match begin(rt, alloc, words, source) {
         Ok(Beginning::Asked(request)) => {
             let outcome = decided(alloc, &request.plant, gate);
             respond(alloc, request, outcome)
         }
-        Ok(Beginning::Refused(answer)) => Ok(answer),
+        Ok(Beginning::Answered(answer)) => Ok(answer),
         Err(halt) => Err(halt),
     }
 }
@@ -131,20 +142,20 @@ fn answer_in_threads<T: Threads + Wait + Sync, S: Source, G: Gate + Sync>(
     requires asked { HaveWorkers (map string_bytes words.now) workers }
     requires from_one { 1 ≤ workers }
     requires to_last { workers ≤ 32 }
-    ensures some { IfOk result (λ answer.
-        IsSomeAnswer (map string_bytes words.now) answer.status answer.text.items) }
+    ensures some { IfOk result (λ answer. IsSomeAnswer (map string_bytes words.now)
+        (S.left source.old) (S.left source.new) answer.status answer.text.items) }
     ensures told { IfOk result (λ answer. IfSome (S.left source.old) (λ input.
         IsAnswer (map string_bytes words.now) input answer.status answer.text.items)) }
     ensures halt { IfErr result (ExplainsHalt (map string_bytes words.now)
-        (S.faults source.old) (S.faults source.new)) }
+        (S.left source.old) (S.left source.new) (S.faults source.old) (S.faults source.new)) }
     ensures unread { (¬ IsCommand (map string_bytes words.now)) → source.new ≡ source.old }
 {
-    match begin(alloc, words, source) {
+    match begin(rt, alloc, words, source) {
         Ok(Beginning::Asked(request)) => {
             let outcome = decided_in_threads(rt, alloc, &request.plant, workers, gate);
             respond(alloc, request, outcome)
         }
-        Ok(Beginning::Refused(answer)) => Ok(answer),
+        Ok(Beginning::Answered(answer)) => Ok(answer),
         Err(halt) => Err(halt),
     }
 }

@@ -1,9 +1,11 @@
 //! What the command ends with.
 
 ghost use Rattle.std.specs.Prelude.{◌≡◌, ◌++◌, IfOk, OnOk};
-ghost use Rattle.mpc_cli.specs.StatusText.{line_of, code_of, kind_text, path_text};
+ghost use Rattle.mpc_cli.specs.StatusText.{line_of, code_of, kind_text, file_kind_text, path_text};
 
+use crate::spots::add_spot;
 use crate::text::{add_number, add_text};
+use mpc_files::{FileKind, Spot};
 use mpc_frac::NoMemory;
 use mpc_plant::{Path, PlantKind};
 use mpc_rows::Place;
@@ -22,6 +24,10 @@ pub enum Status {
     NotDefinite(u32),
     /// A number of this run is too wide for 128 bits.
     TooWide(Place),
+    /// The line with this number, from 1, is the first of a controller's file that fails, and why.
+    BadFile(FileKind, u64),
+    /// The first condition that a controller doesn't meet fails here.
+    Refused(Spot),
     /// The source failed.
     ReadFault,
     /// The sink failed.
@@ -51,6 +57,19 @@ fn kind_name(kind: PlantKind) -> &'static [u8]
     }
 }
 
+/// The name of what is wrong with a line of a controller's file.
+fn file_kind_name(kind: FileKind) -> &'static [u8]
+    ensures { result.now ≡ file_kind_text kind }
+{
+    match kind {
+        FileKind::BadLine => b"BadLine",
+        FileKind::Truncated => b"Truncated",
+        FileKind::TailAfterEnd => b"TailAfterEnd",
+        FileKind::BadNode => b"BadNode",
+        FileKind::OverBound => b"OverBound",
+    }
+}
+
 /// Puts the path with a blank before it behind the text; nothing where the path is empty.
 fn add_path(text: &mut Vec<u8>, path: &Path) -> Result<(), NoMemory>
     ensures { OnOk result (text.new.items ≡ text.old.items ++ path_text path.now) }
@@ -74,6 +93,8 @@ impl Status {
             Status::BadPlant(_, _) => 3,
             Status::NotDefinite(_) => 4,
             Status::TooWide(_) => 5,
+            Status::BadFile(_, _) => 6,
+            Status::Refused(_) => 7,
             Status::ReadFault => 8,
             Status::WriteFault => 9,
             Status::TooLong => 10,
@@ -97,12 +118,24 @@ impl Status {
             }
             Status::NotDefinite(pivot) => {
                 add_text(&mut line, b"not definite ")?;
-                add_number(&mut line, *pivot)?;
+                add_number(&mut line, u64::from(*pivot))?;
                 add_text(&mut line, b"\n")?;
             }
             Status::TooWide(place) => {
                 add_text(&mut line, b"too wide ")?;
                 place.write(&mut line)?;
+                add_text(&mut line, b"\n")?;
+            }
+            Status::BadFile(kind, number) => {
+                add_text(&mut line, b"bad file ")?;
+                add_text(&mut line, file_kind_name(*kind))?;
+                add_text(&mut line, b" ")?;
+                add_number(&mut line, *number)?;
+                add_text(&mut line, b"\n")?;
+            }
+            Status::Refused(spot) => {
+                add_text(&mut line, b"refused ")?;
+                add_spot(&mut line, spot)?;
                 add_text(&mut line, b"\n")?;
             }
             Status::TooLong => add_text(&mut line, b"too long\n")?,

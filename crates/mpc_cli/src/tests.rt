@@ -8,7 +8,9 @@ use std::sync::Wait;
 use std::test::Fail;
 use std::thread::Threads;
 
+mod devices;
 mod examples;
+mod files;
 mod offsets;
 mod places;
 mod workers;

@@ -14,7 +14,7 @@ pub fn add_text(text: &mut Vec<u8>, piece: &[u8]) -> Result<(), NoMemory>
 }
 
 /// Puts a number's decimal digits behind the text. Without memory the text stays as it was.
-pub fn add_number(text: &mut Vec<u8>, number: u32) -> Result<(), NoMemory>
+pub fn add_number(text: &mut Vec<u8>, number: u64) -> Result<(), NoMemory>
     ensures ok { OnOk result (text.new.items ≡ text.old.items ++ decimal number) }
     ensures err { OnErr result (text.new.items ≡ text.old.items) }
 {

@@ -1,8 +1,8 @@
 use Rattle.std.proofs.Common.{ℕ, List}
 use Rattle.std.proofs.lemmas.Result.{IfOk-weaker}
 use Rattle.mpc_plant.specs.declared.plants.Plant.{Plant}
-use Rattle.mpc_cli.specs.declared.commands.Command.{Command}
-use Rattle.mpc_cli.specs.declared.commands.Command.TheVariants.{Compile}
+use Rattle.mpc_cli.specs.declared.commands.PlantCommand.{PlantCommand}
+use Rattle.mpc_cli.specs.declared.commands.PlantCommand.TheVariants.{Compile}
 use Rattle.mpc_synthesis.specs.Refusals.{ExplainsSynthesisError}
 use Rattle.mpc_cli.specs.Extents.{extent_of}
 use Rattle.mpc_cli.specs.PlantAnswers.{IsPlantAnswer}
@@ -14,7 +14,7 @@ returns-in_ok-text-in-Ok c = compiled c.right_controller.ensures.right c.right_c
 
 pub returns-in-Err : goal.returns-in-Err
 returns-in-Err c =
-    IfOk-weaker c.plant_refusal.result (λ a. (k : Command) (plant : Plant) (counts : List ℕ) → ExplainsSynthesisError (extent_of k) plant c.in-Err.error → IsPlantAnswer k plant counts a.status a.text.items)
+    IfOk-weaker c.plant_refusal.result (λ a. (k : PlantCommand) (plant : Plant) (counts : List ℕ) → ExplainsSynthesisError (extent_of k) plant c.in-Err.error → IsPlantAnswer k plant counts a.status a.text.items)
     (λ a. (workers : ℕ) (counts : List ℕ) → IsPlantAnswer (Compile workers) c.args.plant counts a.status a.text.items)
     (λ a h workers counts. h (Compile workers) c.args.plant counts c.in-Err.ensures.refused)
     c.plant_refusal.ensures
