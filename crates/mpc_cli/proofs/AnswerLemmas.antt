@@ -6,7 +6,6 @@ use Rattle.mpc_plant.specs.declared.faults.PlantKind.{PlantKind}
 use Rattle.mpc_plant.specs.declared.faults.PlantError.{PlantError}
 use Rattle.mpc_plant.specs.declared.faults.PlantError.TheVariants.{Bad, NoMemory as OutOfMemory}
 use Rattle.mpc_plant.specs.WholePlant.{ReadsAsPlant, IsFirstFault}
-use Rattle.mpc_cli.specs.declared.commands.Command.{Command}
 use Rattle.mpc_cli.specs.declared.commands.Command.TheVariants.{OfPlant, OfFile}
 use Rattle.mpc_cli.specs.declared.commands.PlantCommand.{PlantCommand}
 use Rattle.mpc_cli.specs.declared.commands.PlantCommand.TheVariants.{Run, Compile, Trace}

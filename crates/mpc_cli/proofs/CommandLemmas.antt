@@ -8,9 +8,8 @@ use Rattle.mpc_cli.specs.declared.commands.Command.{Command}
 use Rattle.mpc_cli.specs.declared.commands.Command.TheVariants.{OfPlant, OfFile}
 use Rattle.mpc_cli.specs.declared.commands.PlantCommand.{PlantCommand}
 use Rattle.mpc_cli.specs.declared.commands.PlantCommand.TheVariants.{Run, Compile, Trace}
-use Rattle.mpc_cli.specs.declared.commands.FileCommand.{FileCommand}
 use Rattle.mpc_cli.specs.declared.commands.FileCommand.TheVariants.{Check, Reply, Convert}
-use Rattle.mpc_cli.specs.Commands.{IsWorkerCount, workers_of, asked_workers, with_workers, AsksFor, AsksOfPlant, file_word, Names, IsCommand, Waits, HaveWorkers}
+use Rattle.mpc_cli.specs.Commands.{IsWorkerCount, asked_workers, with_workers, AsksFor, file_word, Names, IsCommand, Waits, HaveWorkers}
 
 -- ---- the decimal digits of a number are those of no other
 same_number : (m n : ℕ) → m ≤ 32 → n ≤ 32 → decimal m ≡ decimal n → m ≡ n

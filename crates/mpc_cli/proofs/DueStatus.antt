@@ -3,8 +3,6 @@ use Rattle.std.proofs.Common.{◌≡◌, ℕ, ◌^◌, ◌<◌, ◌≤◌, inl, 
 use Rattle.mpc_plant.specs.declared.faults.PlantKind.{PlantKind}
 use Rattle.mpc_plant.specs.declared.plants.Plant.{Plant}
 use Rattle.mpc_plant.specs.WholePlant.{ReadsAsPlant, IsFirstFault}
-use Rattle.mpc_controller.specs.Parts.{Parts}
-use Rattle.mpc_file.specs.FileGrammar.{IsSpelled}
 use Rattle.mpc_condense.specs.Condensed.{IsCondensed}
 use Rattle.mpc_synthesis.specs.Refusals.{FirstWide}
 use Rattle.mpc_synthesis.specs.Outcomes.{Outcome, not_definite, too_wide, complete, IsOutcome, OneOutcome}
@@ -17,10 +15,10 @@ use Rattle.mpc_cli.specs.declared.commands.FileCommand.{FileCommand}
 use Rattle.mpc_cli.specs.declared.commands.FileCommand.TheVariants.{Check, Reply, Convert}
 use Rattle.mpc_cli.specs.declared.status.Status.{Status}
 use Rattle.mpc_cli.specs.declared.status.Status.TheVariants.{Done, Usage, BadPlant, NotDefinite, TooWide, BadFile, Refused, ReadFault, WriteFault, TooLong, NoMemory}
-use Rattle.mpc_cli.specs.Commands.{Names, IsCommand, plant_text, file_text}
+use Rattle.mpc_cli.specs.Commands.{IsCommand, plant_text, file_text}
 use Rattle.mpc_cli.specs.Extents.{extent_of}
 use Rattle.mpc_cli.specs.FileAnswers.{IsFileDue}
-use Rattle.mpc_cli.specs.Answers.{input_limit, OfItsPlant, IsPlantDue, IsDueTo, Causes, CausesTooLong, NothingRefused, IsDue, OneStatus}
+use Rattle.mpc_cli.specs.Answers.{input_limit, IsPlantDue, IsDueTo, Causes, CausesTooLong, NothingRefused, IsDue, OneStatus}
 use Rattle.mpc_cli.proofs.CommandLemmas.{one_command}
 use Rattle.mpc_cli.proofs.HeadLemmas.{head_short}
 use Rattle.mpc_cli.proofs.SamePlant.{same_plant}

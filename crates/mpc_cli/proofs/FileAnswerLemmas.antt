@@ -1,10 +1,8 @@
 -- The answers of the commands on a controller's file, from those of the calls on it.
 use Rattle.std.proofs.Common.{◌≡◌, ℕ, List, refl, sym, subst}
 use Rattle.std.specs.Prelude.{codes}
-use Rattle.mpc_file.specs.declared.errors.FileError.{FileError}
-use Rattle.mpc_file.specs.declared.errors.FileError.TheVariants.{Bad, NoMemory as NoFileMemory}
 use Rattle.mpc_file.specs.declared.errors.FileKind.{FileKind}
-use Rattle.mpc_file.specs.FileGrammar.{FailsAt, ExplainsFileError}
+use Rattle.mpc_file.specs.FileGrammar.{FailsAt}
 use Rattle.mpc_replies.specs.Cut.{count_lines}
 use Rattle.mpc_files.specs.FileAnswers.{FileReplies, Converts, IsAccepted}
 use Rattle.mpc_cli.specs.declared.commands.FileCommand.{FileCommand}

@@ -1,6 +1,6 @@
 -- What came of a source that was read to its end, or to a refusal.
-use Rattle.std.proofs.Common.{◌≡◌, ◌≢◌, ℕ, ◌+◌, ◌<◌, ◌≤◌, ◌↔◌, inl, inr, List, [], ◌++◌, length, Option, Some, None, refl, sym, ◌∙◌, ap, arith, append-nil, ⊎_elim}
-use Rattle.std.specs.Prelude.{Result, Ok, Err, IfOk, IfErr, IfSome, OnSome, IsErrOf}
+use Rattle.std.proofs.Common.{◌≡◌, ◌≢◌, ℕ, ◌+◌, ◌<◌, ◌≤◌, ◌↔◌, List, [], ◌++◌, length, Option, Some, None, refl, sym, ◌∙◌, ap, append-nil, ⊎_elim}
+use Rattle.std.specs.Prelude.{Result, Err, IfSome, OnSome, IsErrOf}
 use Rattle.std.specs.Io.KnownBytes.{Consumes}
 use Rattle.std.proofs.lemmas.Bool.{cases_lt}
 use Rattle.mpc_port.specs.declared.input.ReadError.{ReadError}

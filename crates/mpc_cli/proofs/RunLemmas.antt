@@ -1,5 +1,5 @@
 -- What the top call answers, from the ends of its parts.
-use Rattle.std.proofs.Common.{◌≡◌, ℕ, ◌+◌, ◌<◌, ◌⊎◌, arith, length, inl, inr, List, Option, Some, None, take, refl, sym, subst}
+use Rattle.std.proofs.Common.{◌≡◌, ℕ, ◌+◌, ◌⊎◌, arith, inl, inr, List, Option, Some, None, take, refl, sym, subst}
 use Rattle.std.specs.Prelude.{Result, Ok, Err, IfOk, IfErr, IfSome}
 use Rattle.std.specs.Io.KnownBytes.{Appends, Keeps}
 use Rattle.mpc_port.specs.Faults.{Rose}
@@ -10,7 +10,7 @@ use Rattle.mpc_cli.specs.declared.status.Status.{Status}
 use Rattle.mpc_cli.specs.declared.status.Status.TheVariants.{Done, Usage, BadPlant, NotDefinite, TooWide, BadFile, Refused, ReadFault, WriteFault, TooLong, NoMemory}
 use Rattle.mpc_cli.specs.StatusText.{line_of}
 use Rattle.mpc_cli.specs.Commands.{IsCommand}
-use Rattle.mpc_cli.specs.Answers.{input_limit, CausesTooLong, IsDue, IsAnswer, OneStatus, NothingRefused, Passage, Answers, TookPart, IsQuiet, HasRead, RunAnswers}
+use Rattle.mpc_cli.specs.Answers.{input_limit, IsDue, IsAnswer, OneStatus, NothingRefused, Passage, Answers, TookPart, IsQuiet, HasRead, RunAnswers}
 use Rattle.mpc_cli.specs.declared.answer.Answer.{Answer}
 use Rattle.mpc_cli.specs.declared.requests.Halt.{Halt}
 use Rattle.mpc_cli.specs.declared.requests.Halt.TheVariants.{SourceFailed, OutOfMemory}

@@ -24,6 +24,7 @@ module _ (legal : LegalLaws) (claims : ClaimLaws) (appended : AppendLaws) (begin
     claimed = each_claimed legal claims appended beginnings by.qp board.history by.done.legal by.finished;
     delivered = each_delivered legal claims appended beginnings by.qp board.history by.done.legal by.finished;
     by_workers = by.done.by_workers;
+    one_each = by.done.one_each;
     turns = by.done.turns;
     written = written ∙ ap history_text is;
   }

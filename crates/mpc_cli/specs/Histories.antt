@@ -12,6 +12,7 @@ use Rattle.mpc_claim.specs.declared.events.Tag.{Tag}
 use Rattle.mpc_claim.specs.declared.events.Tag.TheVariants.{Dependent, Unreachable, Hollow, Region, Wide}
 use Rattle.mpc_claim.specs.History.{claimed_sets, ended_sets, IsLegal, IsFinished}
 use Rattle.mpc_workers.specs.Alone.{AreTurns}
+use Rattle.mpc_workers.specs.Holding.{HoldOneSet}
 use Rattle.mpc_workers.specs.Seats.{IsWorker}
 
 abbrev pub tag_text : Tag → List ℕ
@@ -47,7 +48,8 @@ pub record IsEachCandidate (qp : Qp) (sets : List (List ℕ)) : Type 0 where
   pub only : (s : List ℕ) → Contains sets s → IsCandidate qp s
 
 -- The text of a legal history in which the workers from 1 to `workers` claim and decide the candidates of the plant's program: each is claimed
--- once and delivered once, and none is given up. One worker delivers each set before it claims the next one.
+-- once and delivered once, and none is given up; each worker holds one set at a time. A worker who is alone delivers each set right after its
+-- claim.
 pub record IsTraceOf (workers : ℕ) (plant : Plant) (text : List ℕ) : Type 0 where
   pub qp : Qp
   pub condensed : IsCondensed qp plant
@@ -57,5 +59,6 @@ pub record IsTraceOf (workers : ℕ) (plant : Plant) (text : List ℕ) : Type 0 
   pub claimed : IsEachCandidate qp (claimed_sets history)
   pub delivered : IsEachCandidate qp (ended_sets history)
   pub by_workers : All (λ (e : Event). IsWorker workers e.worker) history
+  pub one_each : HoldOneSet history
   pub turns : workers ≡ 1 → AreTurns history
   pub written : text ≡ history_text history

@@ -45,7 +45,8 @@ impl Command {
         ensures { result ≡ asked_workers self }
     {
         match self {
-            Command::OfPlant(PlantCommand::Compile(workers) | PlantCommand::Trace(workers)) => workers,
+            Command::OfPlant(PlantCommand::Compile(workers) | PlantCommand::Trace(workers)) =>
+                workers,
             Command::OfPlant(PlantCommand::Run) | Command::OfFile(_) => 1,
         }
     }

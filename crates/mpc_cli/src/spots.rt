@@ -29,7 +29,13 @@ pub fn add_spot(text: &mut Vec<u8>, spot: &Spot) -> Result<(), NoMemory>
 {
     match spot {
         Spot::Stationary { law, line } => {
-            add_pair(text, b"law ", u64::from(*law), b" stationary ", u64::from(*line))
+            add_pair(
+                text,
+                b"law ",
+                u64::from(*law),
+                b" stationary ",
+                u64::from(*line),
+            )
         }
         Spot::Active { law, row } => {
             add_pair(text, b"law ", u64::from(*law), b" active ", u64::from(*row))

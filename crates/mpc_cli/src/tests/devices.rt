@@ -41,7 +41,9 @@ fn tells_each_failing_write(rt: HostRuntime) -> Result<(), Fail> {
 fn tells_a_failing_write_of_a_refusal(rt: HostRuntime) -> Result<(), Fail> {
     let fails = vec![in rt.alloc(); 1u64]?;
     let mut source = QuietSource::new(
-        b"{\"version\":1,\"horizon\":1,\"A\":[[1]],\"B\":[[1]],\"Q\":[[1]],\"R\":[[0]],\"P\":[[0]],\"grid\":[{\"low\":-4,\"step\":1,\"count\":8}]}".to_vec(rt.alloc())?,
+        b"{\"version\":1,\"horizon\":1,\"A\":[[1]],\"B\":[[1]],\"Q\":[[1]],\"R\":[[0]],\"P\":[[0]],\"grid\":[{\"low\":-4,\"step\":1,\"count\":8}]}".to_vec(
+            rt.alloc(),
+        )?,
     );
     let mut sink = MemorySink::new(rt.alloc(), 1, fails);
     let status = run_words(&rt, rt.alloc(), "compile", &mut source, &mut sink)?;

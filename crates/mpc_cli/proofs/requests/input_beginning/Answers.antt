@@ -1,6 +1,5 @@
-use Rattle.std.proofs.Common.{◌≤◌, ◌∙◌, List, ℕ, length, arith, ap, sym, subst}
+use Rattle.std.proofs.Common.{◌≤◌, List, ℕ, length, arith, subst}
 use Rattle.mpc_cli.specs.declared.commands.Command.{Command}
-use Rattle.mpc_cli.specs.declared.commands.Command.TheVariants.{OfFile}
 use Rattle.mpc_cli.specs.Commands.{Names}
 use Rattle.mpc_cli.specs.FileAnswers.{IsFileAnswer}
 use Rattle.mpc_cli.specs.Answers.{input_limit}
@@ -12,6 +11,6 @@ returns-in_ok-answer-in-OfFile g c = λ words named.
     let a = c.in_ok-answer-in-OfFile in
     let short : length c.args.input.items ≤ input_limit = omega (arith, c.args.input.ok.0, c.requires) in
     let answered : IsFileAnswer c.in-OfFile.command c.args.input.items a.answer.status a.answer.text.items =
-        subst (λ (bytes : List ℕ). IsFileAnswer c.in-OfFile.command bytes a.answer.status a.answer.text.items) c.deref.ensures.value a.ensures in
+    subst (λ (bytes : List ℕ). IsFileAnswer c.in-OfFile.command bytes a.answer.status a.answer.text.items) c.deref.ensures.value a.ensures in
     file_answers c.in-OfFile.command words c.args.input.items
     (record { named = subst (λ (k : Command). Names k words) c.in-OfFile.is named; short = short }) a.answer.status a.answer.text.items answered

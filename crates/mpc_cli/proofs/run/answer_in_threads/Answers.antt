@@ -22,7 +22,7 @@ returns-in-Ok-Asked-clause-told g c =
     told_answered (map string_bytes c.args.words.now) (g.S.Source.left c.args.source.now) (g.S.Source.left c.begin.new.source) a.field-0 a.request a.field-0-is c.respond.result c.respond.ensures.answer a.ensures.told
 
 pub returns-in-Ok-Asked-clause-halt : goal.returns-in-Ok-Asked-clause-halt
-returns-in-Ok-Asked-clause-halt g c = 
+returns-in-Ok-Asked-clause-halt g c =
     let a = c.in-Ok-Asked in
     let words = map string_bytes c.args.words.now in
     let left = g.S.Source.left c.args.source.now in
