@@ -2,3 +2,4 @@ pub mod BoundLemmas
 pub mod OneBoundLemmas
 pub mod PreorderLemmas
 pub mod OneLeafLemmas
+pub mod ReplyLemmas

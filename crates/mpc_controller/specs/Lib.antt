@@ -6,4 +6,5 @@ pub mod OneBound
 pub mod Walk
 pub mod PreorderLaws
 pub mod Replies
+pub mod ReplyLaws
 pub mod OneLeaf

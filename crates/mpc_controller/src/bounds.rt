@@ -3,10 +3,10 @@
 ghost use Rattle.std.specs.Prelude.{◌≡◌, ℕ, ◌+◌, ◌*◌, ◌^◌, ◌<◌, ◌≤◌, ◌↔◌, length, All, unsigned_abs, IsTrue, IfOk, MatchOption};
 ghost use Rattle.mpc_space.specs.Matrix.{height};
 ghost use Rattle.mpc_controller.specs.Parts.{limits_of, IsLawFor, HaveShapes};
-ghost use Rattle.mpc_controller.specs.Bounds.{reach, FormFits, InputsFit, LawFits, NodeFits, HasSize, IsFirstWideForm, IsWideInput, IsFirstWideNode, IsFirstBroken, KeepBounds};
+ghost use Rattle.mpc_controller.specs.Bounds.{reach, FormFits, SplitFits, InputsFit, LawFits, NodeFits, HasSize, IsFirstWideForm, IsWideInput, IsFirstWideNode, IsFirstBroken, KeepBounds};
 
 use mpc_frac::{Frac, NoMemory};
-use mpc_linear::{LinearError, Vector, common};
+use mpc_linear::{LinearError, RowInt, Vector, common};
 use mpc_plant::Plant;
 use mpc_rows::{Counts, Law, LawTable, Node, Place, Tree};
 use std::alloc::Global;
@@ -61,12 +61,11 @@ fn vector_of(alloc: Global, row: &[Frac]) -> Result<Vector, NoMemory>
 
 /// Whether an affine form, its constant first, fits over its least common denominator, with each of
 /// its values at counts up to these.
-fn form_fits(alloc: Global, form: &[Frac], counts: &[u64]) -> Result<bool, NoMemory>
+pub fn form_fits(alloc: Global, form: &Vector, counts: &[u64]) -> Result<bool, NoMemory>
     requires { length form.now ≡ length counts.now + 1 }
     ensures { IfOk result (λ fits. IsTrue fits ↔ FormFits counts.now form.now) }
 {
-    let coefficients = vector_of(alloc, form)?;
-    match common(alloc, &coefficients) {
+    match common(alloc, form) {
         Ok(whole) => {
             let k = whole.k.as_slice();
             Ok(is_within_reach(k[0], &k[1..], counts))
@@ -74,6 +73,14 @@ fn form_fits(alloc: Global, form: &[Frac], counts: &[u64]) -> Result<bool, NoMem
         Err(LinearError::Wide(_)) => Ok(false),
         Err(LinearError::NoMemory) => Err(NoMemory),
     }
+}
+
+/// Whether both sides of a row fit at counts up to these, also together.
+pub fn split_fits(row: &RowInt, counts: &[u64]) -> bool
+    requires { length row.now.a ≡ length counts.now }
+    ensures { IsTrue result ↔ SplitFits counts.now row.now }
+{
+    is_within_reach(row.b, row.a.as_slice(), counts)
 }
 
 /// The number, from 1, of the law's first input whose form doesn't fit.
@@ -90,7 +97,8 @@ fn first_wide_input(
 {
     prove!(law.moves.cols() as usize == counts.len() + 1);
     for i in 0..inputs {
-        if !form_fits(alloc, law.moves.row(i), counts)? {
+        let form = vector_of(alloc, law.moves.row(i))?;
+        if !form_fits(alloc, &form, counts)? {
             return Ok(Some(i + 1));
         }
     }
@@ -125,7 +133,7 @@ fn node_fits(node: &Node, counts: &[u64]) -> bool
     ensures { IsTrue result ↔ NodeFits counts.now node.now }
 {
     match node {
-        Node::Split(row) => is_within_reach(row.b, row.a.as_slice(), counts),
+        Node::Split(row) => split_fits(row, counts),
         Node::Law { .. } | Node::NoMove { .. } => true,
     }
 }

@@ -1,13 +1,19 @@
-//! What holds of every search tree, and of the bounds on every controller's numbers.
+//! What holds of every search tree, of every controller's replies, and of the bounds on its numbers.
 
 ghost use Rattle.mpc_controller.specs.OneBound.{OneFirstBroken, KeptNotBroken};
 ghost use Rattle.mpc_controller.specs.OneLeaf.{OneLeaf};
+ghost use Rattle.mpc_controller.specs.ReplyLaws.{RepliesEverywhere};
 ghost use Rattle.mpc_controller.specs.PreorderLaws.{SplitSpells, LeafSpells, JoinedSpell};
 
 /// At each point the walk through a tree ends, and at one leaf only. The call does nothing: its
 /// contract is the law.
 pub fn one_leaf()
     ensures { OneLeaf }
+{}
+
+/// A controller replies at each point. The call does nothing: its contract is the law.
+pub fn replies_everywhere()
+    ensures { RepliesEverywhere }
 {}
 
 /// Nodes in preorder spell trees one after another: one node more spells one tree less or one more, and

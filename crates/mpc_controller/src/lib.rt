@@ -6,7 +6,7 @@ mod controllers;
 mod errors;
 mod laws;
 
-pub use bounds::limits;
+pub use bounds::{form_fits, limits, split_fits};
 pub use controllers::Controller;
 pub use errors::SealError;
-pub use laws::{bound_laws, one_leaf, preorder_laws};
+pub use laws::{bound_laws, one_leaf, preorder_laws, replies_everywhere};

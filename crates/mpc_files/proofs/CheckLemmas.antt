@@ -2,21 +2,23 @@
 use Rattle.std.proofs.Common.{◌≡◌, ℕ, List, Result, Ok, Err, IfErr, IsErrAnd, sym, subst}
 use Rattle.mpc_controller.specs.Parts.{Parts}
 use Rattle.mpc_controller.specs.Bounds.{IsController}
-use Rattle.mpc_controller.specs.OneLeaf.{OneLeaf}
+use Rattle.mpc_controller.specs.ReplyLaws.{RepliesEverywhere}
 use Rattle.mpc_file.specs.FileGrammar.{IsSpelled}
 use Rattle.mpc_check.specs.declared.answers.Answer.{Answer}
 use Rattle.mpc_check.specs.declared.answers.Answer.TheVariants.{Accepted, Refused}
 use Rattle.mpc_check.specs.declared.answers.CheckError.{CheckError}
 use Rattle.mpc_check.specs.declared.answers.CheckError.TheVariants.{Wide, NotDefinite, NoMemory}
-use Rattle.mpc_check.specs.Acceptance.{AcceptedIsRight, IsAnswer, IsCause}
+use Rattle.mpc_check.specs.Acceptance.{Accepts, AcceptedIsRight, IsAnswer, IsCause}
 use Rattle.mpc_files.specs.declared.errors.CheckFileError.{CheckFileError}
-use Rattle.mpc_files.specs.FileAnswers.{IsAnswerToFile, IsFileCause, of_checker}
-use Rattle.mpc_files.proofs.ReplyLemmas.{replies_rightly}
+use Rattle.mpc_files.specs.FileAnswers.{RepliesRightly, IsAnswerToFile, IsFileCause, of_checker}
+
+replies_rightly : RepliesEverywhere → AcceptedIsRight → (parts : Parts) → IsController parts.plant parts.laws parts.tree → Accepts parts → RepliesRightly parts
+replies_rightly everywhere accepted parts is accepts = record { replies = λ t box. everywhere parts is t; right = λ t reply box replies. accepted parts t reply is accepts box replies }
 
 module _ (bytes : List ℕ) (parts : Parts) (spelled : IsSpelled bytes parts) where
-  pub file_answer : OneLeaf → AcceptedIsRight → IsController parts.plant parts.laws parts.tree → (answer : Answer) → IsAnswer parts answer → IsAnswerToFile bytes answer
-  file_answer one right of_shape Accepted accepts = record { file = record { parts = parts; spelled = spelled; accepts = accepts }; of_shape = of_shape; rightly = replies_rightly one right parts of_shape accepts }
-  file_answer one right of_shape (Refused spot) found = record { parts = parts; spelled = spelled; found = found }
+  pub file_answer : RepliesEverywhere → AcceptedIsRight → IsController parts.plant parts.laws parts.tree → (answer : Answer) → IsAnswer parts answer → IsAnswerToFile bytes answer
+  file_answer everywhere right of_shape Accepted accepts = record { file = record { parts = parts; spelled = spelled; accepts = accepts }; of_shape = of_shape; rightly = replies_rightly everywhere right parts of_shape accepts }
+  file_answer everywhere right of_shape (Refused spot) found = record { parts = parts; spelled = spelled; found = found }
 
   file_cause : (error : CheckError) → IsCause parts error → IsFileCause bytes (of_checker error)
   file_cause (Wide place) found = record { parts = parts; spelled = spelled; found = found }

@@ -1,4 +1,3 @@
 pub mod OutcomeLemmas
 pub mod TextLemmas
-pub mod ReplyLemmas
 pub mod CheckLemmas

@@ -5,7 +5,7 @@ ghost use Rattle.mpc_files.specs.FileAnswers.{IsAnswerToFile, IsFileCause};
 
 use crate::errors::CheckFileError;
 use mpc_check::{Answer, accepted_replies, check};
-use mpc_controller::one_leaf;
+use mpc_controller::replies_everywhere;
 use mpc_file::read_file;
 use std::alloc::Global;
 use std::thread::Threads;
@@ -22,7 +22,7 @@ pub fn check_file<T: Threads + Sync>(
     ensures answer { IfOk result (IsAnswerToFile bytes.now) }
     ensures cause { IfErr result (IsFileCause bytes.now) }
 {
-    one_leaf();
+    replies_everywhere();
     accepted_replies();
     let controller = read_file(alloc, bytes)?;
     let answer = check(rt, alloc, &controller)?;

@@ -7,7 +7,7 @@ use mpc_answers::one_table;
 use mpc_best::one_program;
 use mpc_check::{accepted_replies, one_finding};
 use mpc_condense::place_laws;
-use mpc_controller::{bound_laws, one_leaf};
+use mpc_controller::{bound_laws, replies_everywhere};
 use mpc_cover::one_verdict;
 use mpc_definite::pivot_laws;
 use mpc_sets::order_laws;
@@ -21,7 +21,7 @@ pub fn right_controller()
     ensures replies { ControllerReplies }
 {
     accepted_replies();
-    one_leaf();
+    replies_everywhere();
 }
 
 /// A plant has one controller. The call does nothing: its clause is the law.

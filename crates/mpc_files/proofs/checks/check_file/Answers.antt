@@ -11,4 +11,4 @@ returns-in_err-answer-clause-cause g c =
 pub returns-clause-answer : goal.returns-clause-answer
 returns-clause-answer g c =
     let of_shape = subst (λ (p : Parts). IsController p.plant p.laws p.tree) c.controller.view_is c.controller.invariant in
-    file_answer c.args.bytes.now c.in_ok-controller.controller c.in_ok-controller.ensures.ok c.one_leaf.ensures c.accepted_replies.ensures of_shape c.in_ok-answer.answer c.in_ok-answer.ensures.answer
+    file_answer c.args.bytes.now c.in_ok-controller.controller c.in_ok-controller.ensures.ok c.replies_everywhere.ensures c.accepted_replies.ensures of_shape c.in_ok-answer.answer c.in_ok-answer.ensures.answer

@@ -5,4 +5,4 @@ pub returns-clause-right : goal.returns-clause-right
 returns-clause-right c = controller_right c.accepted_replies.ensures
 
 pub returns-clause-replies : goal.returns-clause-replies
-returns-clause-replies c = controller_replies c.one_leaf.ensures
+returns-clause-replies c = controller_replies c.replies_everywhere.ensures
