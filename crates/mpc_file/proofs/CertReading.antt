@@ -1,5 +1,5 @@
 -- The pairs of a certificate are read one after another.
-use Rattle.std.proofs.Common.{◌≡◌, ◌≢◌, ℕ, ◌+◌, ◌^◌, ◌<◌, ◌≤◌, ◌==◌, true, false, List, [], ◌∷◌, ◌++◌, length, get_or, take, drop, ◌-◌, All, ℤ, pos, negsuc, unsigned_abs, to_z, of_z, refl, sym, ap, ◌∙◌, subst, arith, append_assoc, append-nil, codes, Option, Some, None, MatchOption, Result, Ok, Err, IfOk}
+use Rattle.std.proofs.Common.{◌≡◌, ◌≢◌, ℕ, ◌^◌, ◌<◌, ◌≤◌, ◌==◌, true, false, List, [], ◌∷◌, ◌++◌, length, get_or, take, drop, ◌-◌, All, ℤ, pos, negsuc, unsigned_abs, to_z, of_z, refl, sym, ap, ◌∙◌, subst, arith, append_assoc, append-nil, codes, Option, Some, None, MatchOption, Result, Ok, Err, IfOk}
 use lib.Signed.{le_z, lt_z}
 use Rattle.std.specs.Int.{w128}
 use Rattle.std.proofs.lemmas.Int.{ints}
@@ -15,6 +15,7 @@ use Rattle.mpc_file.proofs.NumberLines.{whole_numer, fractions_of_pairs, same_na
 use Rattle.mpc_file.specs.Lines.{fractions_line}
 use Rattle.mpc_file.specs.PlantGrammar.{AllFit}
 use Rattle.mpc_file.specs.Spelling.{AreFractions}
+use Rattle.mpc_file.specs.LineLaws.{OneFractions}
 use Rattle.mpc_file.specs.TreeGrammar.{IsCertLine}
 
 -- ---- a position
@@ -179,9 +180,6 @@ not_empty [] e h = cc
 not_empty (x ∷ xs) e h = cc
 
 -- ---- a line
-abbrev pub FractionsLaw : Type 0
-FractionsLaw = (name : List ℕ) (xs ys : List ℚ) → AllFit xs → AllFit ys → fractions_line name xs ≡ fractions_line name ys → xs ≡ ys
-
 placed : (rows : ℕ) → rows < 2 ^ 64 → (entry : ℕ × ℚ) → entry.0 ≤ rows → entry.0 < 2 ^ 127
 placed rows h (n, x) l = omega arith
 
@@ -192,7 +190,7 @@ as_fractions rows h text c is = record { spelled = is.spelled ∙ cert_is_fracti
 pub no_fractions : (rows : ℕ) → rows < 2 ^ 64 → (text : List ℕ) → ((xs : List ℚ) → ¬ AreFractions (codes "cert") text xs) → (c : List (ℕ × ℚ)) → ¬ IsCertLine rows text c
 no_fractions rows h text none c is = none (fractions_of_pairs c) (as_fractions rows h text c is)
 
-pub cert_found : {E : Type 0} → FractionsLaw → (rows : ℕ) → rows < 2 ^ 64 → (text : List ℕ) (xs ys : List ℚ) → ys ≡ xs → AreFractions (codes "cert") text xs → (r : Result (Option (List (ℕ × ℚ))) E)
+pub cert_found : {E : Type 0} → OneFractions → (rows : ℕ) → rows < 2 ^ 64 → (text : List ℕ) (xs ys : List ℚ) → ys ≡ xs → AreFractions (codes "cert") text xs → (r : Result (Option (List (ℕ × ℚ))) E)
     → IfOk r (λ found. MatchOption found ((c : List (ℕ × ℚ)) → IsCertOver rows c → ys ≢ fractions_of_pairs c) (λ c. IsCertOver rows c))
     → IfOk r (λ found. MatchOption found (Unit {0}) (λ c. ys ≡ fractions_of_pairs c))
     → IfOk r (λ found. MatchOption found ((c : List (ℕ × ℚ)) → ¬ IsCertLine rows text c) (λ c. IsCertLine rows text c))

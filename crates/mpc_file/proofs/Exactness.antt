@@ -1,6 +1,6 @@
 -- What is read from a place is one value and one place behind it, what is read doesn't fail, and what fails does so in one way. This holds of
 -- the ways in which grammars are joined where it holds of their parts.
-use Rattle.std.proofs.Common.{◌≡◌, ℕ, ◌+◌, ◌<◌, ◌≤◌, ◌⊎◌, inl, inr, ⊎_elim, Bool, true, false, true≢false, IsTrue, List, [], ◌∷◌, ◌++◌, length, refl, sym, ap, subst, ◌∙◌, arith, length-append}
+use Rattle.std.proofs.Common.{◌≡◌, ℕ, ◌<◌, ◌≤◌, inl, inr, ⊎_elim, Bool, true≢false, IsTrue, List, [], ◌∷◌, ◌++◌, length, refl, sym, ap, subst, ◌∙◌, arith, length-append}
 use Rattle.std.proofs.lemmas.Bool.{cases_lt}
 use Rattle.mpc_words.specs.Words.{IsWithout, IsCutAt}
 use Rattle.mpc_file.specs.declared.errors.FileKind.{FileKind}

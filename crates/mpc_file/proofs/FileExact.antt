@@ -1,5 +1,5 @@
 -- A controller's file is read in one way.
-use Rattle.std.proofs.Common.{◌≡◌, ℕ, ◌+◌, ◌^◌, ◌<◌, ◌≤◌, inl, inr, List, [], ◌++◌, length, codes, refl, sym, ap, ◌∙◌, arith}
+use Rattle.std.proofs.Common.{◌≡◌, ℕ, ◌^◌, ◌<◌, ◌≤◌, inl, inr, List, [], ◌++◌, length, codes, refl, sym, ap, ◌∙◌, arith}
 use Rattle.mpc_plant.specs.declared.plants.Plant.{Plant}
 use Rattle.mpc_controller.specs.Parts.{Parts}
 use Rattle.mpc_file.specs.declared.versions.Version.{Version}
@@ -12,7 +12,8 @@ use Rattle.mpc_file.specs.TreeGrammar.{planes_used}
 use Rattle.mpc_file.specs.FileGrammar.{IsVersion, parts_with, written, IsEnd, parts_named, named, behind_plant, in_version, start, Spells, whole_file}
 use Rattle.mpc_file.specs.TextLaws.{OneVersion, OneController, SpelledNeverFails, OneLine, OneReason, NoPrefix}
 use Rattle.mpc_file.proofs.Exactness.{IsExactAt, CutLaws, exact_give, exact_both}
-use Rattle.mpc_file.proofs.LineNumbers.{WordLaws, without, one_count}
+use Rattle.mpc_file.specs.LineLaws.{WordLaws}
+use Rattle.mpc_file.proofs.LineNumbers.{without, one_count}
 use Rattle.mpc_file.proofs.Runs.{reach, run_line}
 use Rattle.mpc_file.proofs.PlantExact.{exact_plain, exact_plant}
 use Rattle.mpc_file.proofs.LawExact.{exact_written_laws, exact_forms, exact_named_laws, written_laws_few, named_laws_few, forms_few}

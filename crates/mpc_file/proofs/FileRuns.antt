@@ -10,7 +10,7 @@ use Rattle.mpc_file.specs.declared.versions.Version.TheVariants.{One, Two, Three
 use Rattle.mpc_file.specs.declared.plant_parts.Sizes.{Sizes}
 use Rattle.mpc_file.specs.Reading.{LineRule}
 use Rattle.mpc_file.specs.PlantGrammar.{AreSizes, plain_rule, IsMatrix, IsWeightLine, dynamics, weights, IsDrift, AreTargetsOf, no_offsets, offsets_with, offset_lines, offsets, IsRowCount, IsRow, IsLast, so_many, row_list, last_list, IsAxis, limits, IsPlantWith, plant}
-use Rattle.mpc_file.specs.LawGrammar.{IsLawLine, IsForm, move_rule, moves, mults, law_with, written_law, IsLawCount, written_laws, IsShortCount, IsNewForm, forms, used_behind, AreFormNumbers, named_moves_rule, named_mults, used_by, named_law, named_laws}
+use Rattle.mpc_file.specs.LawGrammar.{IsLawLine, IsForm, move_rule, moves, law_with, written_law, IsLawCount, written_laws, IsShortCount, IsNewForm, forms, used_behind, AreFormNumbers, named_moves_rule, named_mults, used_by, named_law, named_laws}
 use Rattle.mpc_file.specs.TreeGrammar.{written_split, IsWord, written_tree, IsPlaneCount, plane_rule, planes, planes_used, named_split, named_tree}
 use Rattle.mpc_file.specs.FileGrammar.{IsVersion, parts_with, written, IsEnd, parts_named, named, behind_plant, whole_file}
 use Rattle.mpc_file.proofs.Runs.{IsRun, run_line, run_give, run_that, run_both, run_many}

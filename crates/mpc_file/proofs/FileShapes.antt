@@ -1,5 +1,5 @@
 -- What a whole text states has the shapes of a controller and keeps its bounds.
-use Rattle.std.proofs.Common.{◌≡◌, ℕ, ◌+◌, ◌-◌, ◌<◌, ◌≤◌, IsTrue, List, [], ◌∷◌, ◌++◌, length, map, get_or, refl, sym, ◌∙◌, ap, subst, arith, nat_lt}
+use Rattle.std.proofs.Common.{◌≡◌, ℕ, ◌-◌, List, [], length, map, sym, ◌∙◌, ap, subst, arith, nat_lt}
 use Rattle.std.specs.Prelude.{All, codes}
 use Rattle.std.proofs.lemmas.List.{length-map}
 use Rattle.std.proofs.lemmas.List.Elements.{All-get_or}
@@ -8,19 +8,19 @@ use Rattle.mpc_linear.specs.declared.integers.RowInt.{RowInt}
 use Rattle.mpc_plant.specs.declared.plants.Plant.{Plant}
 use Rattle.mpc_rows.specs.declared.laws.Law.{Law}
 use Rattle.mpc_rows.specs.declared.trees.Node.{Node}
-use Rattle.mpc_controller.specs.Parts.{Parts, limits_of, row_count, IsSplitRow, HaveShapes}
+use Rattle.mpc_controller.specs.Parts.{Parts, limits_of, IsSplitRow}
 use Rattle.mpc_controller.specs.PreorderLaws.{SplitSpells, LeafSpells}
-use Rattle.mpc_controller.specs.Bounds.{SplitFits, KeepBounds, IsController}
+use Rattle.mpc_controller.specs.Bounds.{SplitFits, IsController}
 use Rattle.mpc_file.specs.declared.versions.Version.{Version}
 use Rattle.mpc_file.specs.declared.versions.Version.TheVariants.{One, Two, Three}
 use Rattle.mpc_file.specs.Reading.{Cursor, one_line}
 use Rattle.mpc_file.specs.LawGrammar.{NamedLaw, law_named, used_by, written_laws, forms, named_laws}
-use Rattle.mpc_file.specs.TreeGrammar.{IsPlaneLine, NodeOver, split_node, law_node, no_move_node, written_split, written_node, plane_rule, planes, NamesPlane, planes_used, named_split, plane_named, named_node, written_tree, named_tree}
-use Rattle.mpc_file.specs.FileGrammar.{parts_with, written, named, parts_named, behind_plant, in_version, Spells}
+use Rattle.mpc_file.specs.TreeGrammar.{IsPlaneLine, NodeOver, written_split, plane_rule, planes, planes_used, named_split, plane_named, named_node, written_tree, named_tree}
+use Rattle.mpc_file.specs.FileGrammar.{written, named, in_version}
 use Rattle.mpc_file.proofs.ManyLemmas.{all_items}
 use Rattle.mpc_file.proofs.Stability.{split_stable}
 use Rattle.mpc_file.proofs.LawShapes.{GoodLaws, written_good, named_good}
-use Rattle.mpc_file.proofs.TreeShapes.{node_of, SplitsWell, GoodTree, good_tree}
+use Rattle.mpc_file.proofs.TreeShapes.{node_of, written_nodes, named_nodes, SplitsWell, GoodTree, good_tree}
 
 -- ---- rows of splits
 row_of_line : (name : List ℕ) (n : ℕ) (text : List ℕ) (row : RowInt) → IsPlaneLine name n text row → IsSplitRow n row
@@ -42,17 +42,6 @@ named_well : (plant : Plant) (laws : ℕ) (ps : List RowInt) → All (IsWell pla
 named_well plant laws ps each used text k states in_bounds =
     let w : IsWell plant (plane_named ps k) = All-get_or (IsWell plant) ps (k - 1) (record { a = []; b = Rattle.std.specs.Prelude.pos 0 }) (omega (arith, states.from_one, states.is_plane)) each in
     (w.split_row, w.fits)
-
--- ---- the nodes of both forms
-written_nodes : (x : NodeOver RowInt) → written_node x ≡ node_of (λ row. row) x
-written_nodes (split_node row) = refl
-written_nodes (law_node j cs) = refl
-written_nodes (no_move_node c) = refl
-
-named_nodes : (ps : List RowInt) (x : NodeOver ℕ) → named_node ps x ≡ node_of (plane_named ps) x
-named_nodes ps (split_node k) = refl
-named_nodes ps (law_node j cs) = refl
-named_nodes ps (no_move_node c) = refl
 
 -- ---- the whole
 together : (plant : Plant) (laws : List Law) (tree : List Node) → GoodLaws plant laws → GoodTree plant (length laws) tree → IsController plant laws tree

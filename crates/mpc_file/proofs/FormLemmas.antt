@@ -11,8 +11,8 @@ use Rattle.mpc_linear.specs.Whole.{AreSmall}
 use Rattle.mpc_exact.specs.Rational.{ℚ, int}
 use Rattle.mpc_space.specs.Matrix.{RationalMatrix}
 use Rattle.mpc_linear.specs.Entries.{with_entry, zero_matrix}
+use Rattle.mpc_sets.specs.SetLaws.{MemberLaws}
 use Rattle.mpc_sets.specs.RowSet.{RisesWithin, Among, IsSetOfRows, with_row}
-use Rattle.mpc_sets.proofs.RowSets.{with_row-last}
 use Rattle.mpc_plant.specs.declared.plants.Plant.{Plant}
 use Rattle.mpc_words.specs.Words.{line}
 use Rattle.mpc_controller.specs.Parts.{row_count}
@@ -22,9 +22,10 @@ use Rattle.mpc_file.specs.declared.errors.FileError.TheVariants.{Bad, NoMemory a
 use Rattle.mpc_file.specs.Reading.{Cursor, Grammar, one_line, ReadsItems, many, Outcome}
 use Rattle.mpc_file.proofs.ManyLemmas.{just_so_many}
 use Rattle.mpc_file.proofs.OutcomeLemmas.{none_read, more_read, asks_for_more, item_error}
-use Rattle.mpc_file.specs.Lines.{integers_line, fractions_line}
-use Rattle.mpc_file.specs.PlantGrammar.{AllFit, plain_rule}
+use Rattle.mpc_file.specs.Lines.{integers_line}
+use Rattle.mpc_file.specs.PlantGrammar.{plain_rule}
 use Rattle.mpc_file.specs.Spelling.{AreFractions, AreIntegers}
+use Rattle.mpc_file.specs.LineLaws.{OneFractions, OneIntegers}
 use Rattle.mpc_file.specs.LawGrammar.{unknowns, IsLawLine, IsForm, move_rule, moves, mults, written_law, NameForms, used_behind, AreFormNumbers}
 use Rattle.mpc_file.specs.FormLists.{matrix_with, with_filled_row, NamesAll}
 
@@ -158,10 +159,10 @@ pub record IsSetSoFar (rows : ℕ) (numbers : List ℤ) (count : ℕ) (members :
 pub no_members : (rows : ℕ) (numbers : List ℤ) → IsSetSoFar rows numbers 0 [] 0
 no_members rows numbers = record { rises = tt; same = refl; last_is = refl; within = omega arith }
 
-pub one_member_more : (rows : ℕ) (numbers : List ℤ) (count : ℕ) (members new : List ℕ) (last k : ℕ) → IsSetSoFar rows numbers count members last → count < length numbers → get_or numbers count (pos 0) ≡ pos k → last < k → k ≤ rows → new ≡ with_row k members
+pub one_member_more : MemberLaws → (rows : ℕ) (numbers : List ℤ) (count : ℕ) (members new : List ℕ) (last k : ℕ) → IsSetSoFar rows numbers count members last → count < length numbers → get_or numbers count (pos 0) ≡ pos k → last < k → k ≤ rows → new ≡ with_row k members
     → IsSetSoFar rows numbers (count + 1) new k
-one_member_more rows numbers count members new last k before inside is above within added =
-    let pushed : new ≡ members ++ k ∷ [] = added ∙ with_row-last members k (λ i a. omega (arith, below_last 0 rows i members before.rises a, before.last_is)) in
+one_member_more laws rows numbers count members new last k before inside is above within added =
+    let pushed : new ≡ members ++ k ∷ [] = added ∙ laws.greatest_last members k (λ i a. omega (arith, below_last 0 rows i members before.rises a, before.last_is)) in
     record {
       rises = subst (RisesWithin 0 rows) (sym pushed) (rises-push 0 rows members k before.rises (omega (arith, before.last_is)) within);
       same = read_next numbers count members new k inside before.same is pushed;
@@ -214,12 +215,6 @@ none_named all used integers count numbers last before inside none others name o
     none (get_or others count 0) (sym (next_is integers count numbers others inside before.same others_are)) at.0 at.1 (omega (arith, at.2, before.last_is))
 
 -- ---- lines of numbers
-abbrev pub OneFractions : Type 0
-OneFractions = (name : List ℕ) (xs ys : List ℚ) → AllFit xs → AllFit ys → fractions_line name xs ≡ fractions_line name ys → xs ≡ ys
-
-abbrev pub OneIntegers : Type 0
-OneIntegers = (name : List ℕ) (xs ys : List ℤ) → AreSmall xs → AreSmall ys → integers_line name xs ≡ integers_line name ys → xs ≡ ys
-
 -- the fractions of a line have another number
 pub no_form : OneFractions → (name text : List ℕ) (n : ℕ) (xs : List ℚ) → AreFractions name text xs → length xs ≢ n + 1 → (form : List ℚ) → ¬ IsForm name n text form
 no_form one name text n xs are size form is = size (ap length (one name xs form are.fits is.fits (sym are.spelled ∙ is.spelled)) ∙ is.size)

@@ -6,25 +6,18 @@ use Rattle.std.proofs.lemmas.List.{append-nil, map-append, length-map}
 use Rattle.std.proofs.lemmas.List.Elements.{All-nil, All-cons, All-head, All-tail, All-push}
 use Rattle.std.proofs.Math.ListN.{get_or-append}
 use Rattle.mpc_exact.specs.Rational.{ℚ}
-use Rattle.mpc_frac.specs.Fits.{FitsFrac}
-use Rattle.mpc_frac.specs.Text.{text_of as fraction_text}
 use Rattle.mpc_rows.specs.declared.laws.Law.{Law}
 use Rattle.mpc_words.specs.Words.{line, behind_blanks}
-use Rattle.mpc_words.proofs.LineLemmas.{words_of_line}
-use Rattle.mpc_words.proofs.FractionLemmas.{one_fraction, fraction_word}
 use Rattle.mpc_file.specs.PlantGrammar.{AllFit}
 use Rattle.mpc_file.specs.LawGrammar.{NameForms, used_behind, form_named, NamedLaw}
 use Rattle.mpc_file.specs.Lines.{count_line}
+use Rattle.mpc_file.specs.LineLaws.{OneFractions}
 use Rattle.mpc_file.specs.Writing.{ended, text_of_lines}
 use Rattle.mpc_file.specs.Names.{AreNames, IsNamed}
 use Rattle.mpc_file.specs.FormNames.{form_line, HasWidth, LawHasWidth, AreForms, AreNumbered, mults_text, law_text, IsLawNamed, InOrder, IsLawNumbered, rows_in, AreLawsNumbered, IsTableWritten}
 use Rattle.mpc_file.specs.declared.writing.names.Names.{Names}
-use Rattle.mpc_file.proofs.SpellingLemmas.{one_list_of}
 use Rattle.mpc_file.proofs.GrownTexts.{mapped-push, pieces-push}
 use Rattle.mpc_file.proofs.StepLemmas.{IsItemStep, item_step}
-
-one_form : (x y : List ℚ) → AllFit x → AllFit y → form_line x ≡ form_line y → x ≡ y
-one_form x y fits other same = one_list_of fraction_text FitsFrac fraction_word words_of_line one_fraction (codes "form") x y fits other same
 
 -- ---- numbers in order
 name_more : (all used k : ℕ) (ks : List ℕ) → NameForms all used ks → 1 ≤ k → k ≤ all → k ≤ used_behind used ks + 1 → NameForms all used (ks ++ k ∷ [])
@@ -47,7 +40,7 @@ all_front fs more used [] h = refl
 all_front fs more used (k ∷ ks) h = λ i. named_front fs more k h.0 h.1 i ∷ all_front fs more (cond (nat_lt used k) k used) ks h.3 i
 
 -- ---- rows
-pub numbered_none : (forms : List (List ℚ)) (old : List ℕ) (names : Names) → AreForms names forms → AreNumbered forms [] old old names
+pub numbered_none : (forms : List (List ℚ)) (old : List ℕ) (names : List (List ℕ) → Type 0) → AreForms names forms → AreNumbered forms [] old old names
 numbered_none forms old names are =
     record { behind = []; all = forms; all_are = sym (append-nil forms); numbers = []; forms_are = are; rows_are = refl; text = sym (append-nil old); in_order = tt; used = refl; few = omega arith; widths = λ n h r. h }
 
@@ -62,10 +55,10 @@ none_or_last P xs more x which h here =
       | inr last ↦ subst (λ m. All P (xs ++ m)) (sym last) (All-push P xs x h here)
     ]
 
-pub numbered_more : (forms rows : List (List ℚ)) (row : List ℚ) (k : ℕ) (old mid new : List ℕ) (names next : Names) → AllFit row → ((lines : List (List ℕ)) → AreNames names lines → IsNamed lines (form_line row) k next)
-    → new ≡ mid ++ 32 ∷ decimal k → AreNumbered forms rows old mid names → AreNumbered forms (rows ++ row ∷ []) old new next
-numbered_more forms rows row k old mid new names next fits named added n =
-    let step : IsItemStep form_line AllFit [] n.all row k next = item_step form_line AllFit [] one_form n.all row k next n.forms_are.fit fits (named (map form_line n.all) n.forms_are.names_are) in
+pub numbered_more : OneFractions → (forms rows : List (List ℚ)) (row : List ℚ) (k : ℕ) (old mid new : List ℕ) (names next : List (List ℕ) → Type 0) → AllFit row → (n : AreNumbered forms rows old mid names) → IsNamed (map form_line n.all) (form_line row) k next
+    → new ≡ mid ++ 32 ∷ decimal k → AreNumbered forms (rows ++ row ∷ []) old new next
+numbered_more one forms rows row k old mid new names next fits n named added =
+    let step : IsItemStep form_line AllFit [] n.all row k next = item_step form_line AllFit [] (one (codes "form")) n.all row k next n.forms_are.fit fits named in
     let size : length (n.all ++ step.more) ≡ length n.all + length step.more = length-append n.all step.more in
     let used : used_behind (length forms) n.numbers ≡ length n.all = n.used in
     let near : k ≤ length n.all + 1 = step.in_order in
@@ -100,7 +93,7 @@ some_mults (k ∷ ks) h = refl
 size_of_numbers : (fs : List (List ℚ)) (ks : List ℕ) (rows : List (List ℚ)) → map (form_named fs) ks ≡ rows → length ks ≡ length rows
 size_of_numbers fs ks rows e = sym (length-map ks (form_named fs)) ∙ ap length e
 
-pub law_without : (forms : List (List ℚ)) (law : Law) (t0 t1 t2 t3 t4 : List ℕ) (names : Names) → t1 ≡ t0 ++ ended (line (codes "law") (map decimal law.set)) → t2 ≡ t1 ++ codes "move" → AreNumbered forms law.moves.rows t2 t3 names → t4 ≡ t3 ++ codes "\n"
+pub law_without : (forms : List (List ℚ)) (law : Law) (t0 t1 t2 t3 t4 : List ℕ) (names : List (List ℕ) → Type 0) → t1 ≡ t0 ++ ended (line (codes "law") (map decimal law.set)) → t2 ≡ t1 ++ codes "move" → AreNumbered forms law.moves.rows t2 t3 names → t4 ≡ t3 ++ codes "\n"
     → law.mults.rows ≡ [] → IsLawNumbered forms law t0 t4 names
 law_without forms law t0 t1 t2 t3 t4 names set name n feed none =
     let few = n.few in
@@ -120,10 +113,9 @@ law_without forms law t0 t1 t2 t3 t4 names set name n feed none =
       widths = λ w h l. n.widths w h l.0;
     }
 
-pub law_with_mults : (forms : List (List ℚ)) (law : Law) (t0 t1 t2 t3 t4 t5 t6 t7 : List ℕ) (names next : Names) → t1 ≡ t0 ++ ended (line (codes "law") (map decimal law.set)) → t2 ≡ t1 ++ codes "move" → AreNumbered forms law.moves.rows t2 t3 names → t4 ≡ t3 ++ codes "\n"
-    → t5 ≡ t4 ++ codes "mult" → ((fs : List (List ℚ)) → AreForms names fs → AreNumbered fs law.mults.rows t5 t6 next) → t7 ≡ t6 ++ codes "\n" → 1 ≤ length law.mults.rows → IsLawNumbered forms law t0 t7 next
-law_with_mults forms law t0 t1 t2 t3 t4 t5 t6 t7 names next set name n feed mult numbers last some =
-    let m : AreNumbered n.all law.mults.rows t5 t6 next = numbers n.all n.forms_are in
+pub law_with_mults : (forms : List (List ℚ)) (law : Law) (t0 t1 t2 t3 t4 t5 t6 t7 : List ℕ) (names next : List (List ℕ) → Type 0) → t1 ≡ t0 ++ ended (line (codes "law") (map decimal law.set)) → t2 ≡ t1 ++ codes "move" → (n : AreNumbered forms law.moves.rows t2 t3 names) → t4 ≡ t3 ++ codes "\n"
+    → t5 ≡ t4 ++ codes "mult" → AreNumbered n.all law.mults.rows t5 t6 next → t7 ≡ t6 ++ codes "\n" → 1 ≤ length law.mults.rows → IsLawNumbered forms law t0 t7 next
+law_with_mults forms law t0 t1 t2 t3 t4 t5 t6 t7 names next set name n feed mult m last some =
     let few : length n.all ≤ length forms + length law.moves.rows = n.few in
     let few_mults : length m.all ≤ length n.all + length law.mults.rows = m.few in
     let size : length m.all ≡ length n.all + length m.behind = ap length m.all_are ∙ length-append n.all m.behind in
@@ -189,12 +181,11 @@ rows_in_more : (laws : List Law) (law : Law) → rows_in (laws ++ law ∷ []) �
 rows_in_more [] law = omega arith
 rows_in_more (l ∷ laws) law = let more = rows_in_more laws law in omega arith
 
-pub laws_none : (old : List ℕ) (names : Names) → AreForms names [] → AreLawsNumbered [] old old names
+pub laws_none : (old : List ℕ) (names : List (List ℕ) → Type 0) → AreForms names [] → AreLawsNumbered [] old old names
 laws_none old names are = record { forms = []; named = []; forms_are = are; laws_are = tt; text = sym (append-nil old); in_order = tt; used = refl; few = omega arith; widths = λ w h. All-nil (HasWidth w) }
 
-pub laws_more : (laws : List Law) (law : Law) (old mid new : List ℕ) (names next : Names) → ((fs : List (List ℚ)) → AreForms names fs → IsLawNumbered fs law mid new next) → AreLawsNumbered laws old mid names → AreLawsNumbered (laws ++ law ∷ []) old new next
-laws_more laws law old mid new names next numbered a =
-    let l : IsLawNumbered a.forms law mid new next = numbered a.forms a.forms_are in
+pub laws_more : (laws : List Law) (law : Law) (old mid new : List ℕ) (names next : List (List ℕ) → Type 0) → (a : AreLawsNumbered laws old mid names) → IsLawNumbered a.forms law mid new next → AreLawsNumbered (laws ++ law ∷ []) old new next
+laws_more laws law old mid new names next a l =
     let size : length l.all ≡ length a.forms + length l.behind = ap length l.all_are ∙ length-append a.forms l.behind in
     let few : length a.forms ≤ rows_in laws = a.few in
     let few_law : length l.all ≤ length a.forms + (length law.moves.rows + length law.mults.rows) = l.few in
@@ -216,7 +207,7 @@ pub no_rows : (rows : List (List ℚ)) → length rows ≡ 0 → rows ≡ []
 no_rows [] e = refl
 no_rows (row ∷ rows) e = absurd (omega arith)
 
-pub no_forms : (names : Names) → AreNames names [] → AreForms names []
+pub no_forms : (names : List (List ℕ) → Type 0) → names [] → AreForms names []
 no_forms names are = record { names_are = are; fit = All-nil AllFit }
 
 pub same_size : {A B : Type 0} (R : A → B → Type 0) (xs : List A) (ys : List B) → AllZip R xs ys → length xs ≡ length ys
@@ -231,7 +222,7 @@ text_four t0 t1 t2 t3 t4 a b c d h1 h2 h3 h4 = h4 ∙ ap (λ t. t ++ d) (h3 ∙ 
     regroup : (t0 a b c d : List ℕ) → (((t0 ++ a) ++ b) ++ c) ++ d ≡ t0 ++ ((a ++ b) ++ (c ++ d))
     regroup t0 a b c d = simp append_assoc
 
-pub table_written : (laws : List Law) (t0 t1 t2 t3 t4 text names_text : List ℕ) (count : ℕ) (names : Names) → AreLawsNumbered laws [] text names → ((lines : List (List ℕ)) → AreNames names lines → count ≡ length lines) → names_text ≡ names.text.items
+pub table_written : (laws : List Law) (t0 t1 t2 t3 t4 text names_text : List ℕ) (count : ℕ) (names : Names) → AreLawsNumbered laws [] text (AreNames names) → ((lines : List (List ℕ)) → AreNames names lines → count ≡ length lines) → names_text ≡ names.text.items
     → t1 ≡ t0 ++ ended (count_line (codes "forms") count) → t2 ≡ t1 ++ names_text → t3 ≡ t2 ++ ended (count_line (codes "laws") (length laws)) → t4 ≡ t3 ++ text → IsTableWritten laws t0 t4
 table_written laws t0 t1 t2 t3 t4 text names_text count names a counted names_are h1 h2 h3 h4 =
     let are : AreNames names (map form_line a.forms) = a.forms_are.names_are in

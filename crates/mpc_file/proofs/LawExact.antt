@@ -12,7 +12,8 @@ use Rattle.mpc_file.specs.Reading.{Cursor, Grammar, one_line, ReadsItems, no_ite
 use Rattle.mpc_file.specs.PlantGrammar.{plain_rule}
 use Rattle.mpc_file.specs.LawGrammar.{unknowns, IsLawLine, IsForm, move_rule, moves, mults, law_with, written_law, IsLawCount, law_count, written_laws, IsShortCount, IsNewForm, forms, NameForms, used_behind, AreFormNumbers, named_moves_rule, named_mults, NamedLaw, used_by, named_law, named_laws}
 use Rattle.mpc_file.proofs.Exactness.{IsExactAt, CutLaws, exact_line, exact_give, exact_both, exact_many}
-use Rattle.mpc_file.proofs.LineNumbers.{WordLaws, IsShortNumber, without, one_naturals, one_count, one_fractions}
+use Rattle.mpc_file.specs.LineLaws.{WordLaws}
+use Rattle.mpc_file.proofs.LineNumbers.{IsShortNumber, without, one_naturals, one_count, one_fractions}
 use Rattle.mpc_file.proofs.PlantExact.{few_rows, exact_plain, exact_so_many}
 
 -- ---- small numbers

@@ -1,22 +1,21 @@
 -- The laws that lines state have the shapes of a controller's laws and keep its bounds.
-use Rattle.std.proofs.Common.{◌≡◌, ℕ, ◌+◌, ◌-◌, ◌*◌, cond, take, ◌<◌, ◌≤◌, IsTrue, List, [], ◌∷◌, ◌++◌, length, map, get_or, ◌⊎◌, inl, inr, refl, sym, ◌∙◌, ap, subst, arith, nat_lt}
+use Rattle.std.proofs.Common.{◌≡◌, ℕ, ◌+◌, ◌-◌, ◌*◌, cond, take, ◌<◌, ◌≤◌, List, [], ◌∷◌, ◌++◌, length, map, get_or, ◌⊎◌, inl, inr, refl, sym, ◌∙◌, ap, subst, arith, nat_lt}
 use Rattle.std.specs.Prelude.{All, slice_index_or, slice_get, Some}
 use Rattle.std.proofs.lemmas.List.{length-append, length-map, length-take, get_or-take, get_or-map, get_or_append_left}
 use Rattle.std.proofs.Math.Seq.{get_or-append_seam}
 use Rattle.std.proofs.Math.Nat.{eq-or-lt_of_le, le-mul_of_pos_right}
 use Rattle.std.proofs.lemmas.List.Elements.{All-cons, All-nil, All-get_or, All-map}
-use Rattle.std.proofs.lemmas.Bool.Decides.{nat_tests}
 use Rattle.mpc_exact.specs.Rational.{ℚ}
 use Rattle.mpc_linear.specs.Shape.{HasShape}
 use Rattle.mpc_plant.specs.declared.plants.Plant.{Plant}
 use Rattle.mpc_rows.specs.declared.laws.Law.{Law}
-use Rattle.mpc_controller.specs.Parts.{limits_of, row_count, IsLawFor}
+use Rattle.mpc_controller.specs.Parts.{limits_of, IsLawFor}
 use Rattle.mpc_controller.specs.Bounds.{FormFits, LawFits}
-use Rattle.mpc_file.specs.Reading.{Cursor, Grammar, one_line, ReadsItems, no_item, one_more, ReadsAll}
-use Rattle.mpc_file.specs.PlantGrammar.{plain_rule, so_many}
-use Rattle.mpc_file.specs.LawGrammar.{unknowns, IsLawLine, IsForm, move_rule, moves, mults, matrix_of, law_with, written_law, written_laws, law_count, IsLawCount, forms, IsNewForm, NameForms, used_behind, form_named, AreFormNumbers, named_moves_rule, named_mults, NamedLaw, used_by, named_law, named_laws, law_named}
+use Rattle.mpc_file.specs.Reading.{Cursor, one_line, ReadsItems, no_item, one_more}
+use Rattle.mpc_file.specs.PlantGrammar.{plain_rule}
+use Rattle.mpc_file.specs.LawGrammar.{unknowns, IsForm, move_rule, moves, mults, matrix_of, written_law, written_laws, forms, IsNewForm, NameForms, used_behind, form_named, named_mults, NamedLaw, used_by, named_law, named_laws, law_named}
 use Rattle.mpc_file.proofs.Stability.{form_stable, all_stable}
-use Rattle.mpc_file.proofs.ManyLemmas.{all_items, at_most, just_so_many}
+use Rattle.mpc_file.proofs.ManyLemmas.{all_items, just_so_many}
 
 -- ---- forms
 abbrev HasSize : ℕ → List ℚ → Type 0

@@ -34,8 +34,13 @@ pub mod StepLemmas
 pub mod FormNameLemmas
 pub mod LawPrints
 pub mod PlaneLemmas
+pub mod NodePrints
 pub mod TreePrints
 pub mod FilePrints
+pub mod WrittenPrints
+pub mod Numbering
+pub mod EachText
+pub mod StatedNumbers
 pub mod CertReading
 pub mod TreeReading
 pub mod NamedReading

@@ -21,6 +21,7 @@ use Rattle.mpc_plant.specs.declared.lists.Coordinate.{Coordinate}
 use Rattle.mpc_file.specs.declared.plant_parts.Sizes.{Sizes}
 use Rattle.mpc_file.specs.Lines.{fractions_line, grid_line}
 use Rattle.mpc_file.specs.Spelling.{AreFractions}
+use Rattle.mpc_file.specs.LineLaws.{OneFractions}
 use Rattle.mpc_plant.specs.Limits.{greatest_count}
 use Rattle.mpc_file.specs.LimitNumbers.{StatesRow, StatesAxis, IsStepCount}
 
@@ -88,10 +89,6 @@ module _ {X : Type 0} (rule : LineRule X) (count : ℕ) (here : Cursor) where
       more_read (λ xs. one_line rule) (λ (xs : List X). ltb (length xs) count) here between behind items more x before (asks_for_more items count (omega arith)) reads e
 
 -- ---- a row's line
--- a line states one list of fractions only
-abbrev pub OneFractions : Type 0
-OneFractions = (name : List ℕ) (xs ys : List ℚ) → AllFit xs → AllFit ys → fractions_line name xs ≡ fractions_line name ys → xs ≡ ys
-
 -- what is read of a line: fractions or none
 abbrev pub IsReadAs : List ℕ → List ℕ → Option (List ℚ) → Type 0
 IsReadAs name text found = MatchOption found ((xs : List ℚ) → ¬ AreFractions name text xs) (λ xs. AreFractions name text xs)

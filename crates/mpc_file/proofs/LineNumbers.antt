@@ -1,5 +1,5 @@
 -- A line states the numbers only that its words are the texts of.
-use Rattle.std.proofs.Common.{◌≡◌, ℕ, ◌+◌, ◌^◌, ◌<◌, Bool, true, false, not, ◌&&◌, ◌==◌, List, [], ◌∷◌, ◌++◌, map, length, take, drop, refl, sym, subst, ◌∙◌, arith, All, ℤ, unsigned_abs, decimal, flat_map}
+use Rattle.std.proofs.Common.{◌≡◌, ℕ, ◌^◌, ◌<◌, Bool, true, false, not, ◌&&◌, ◌==◌, List, [], ◌∷◌, ◌++◌, map, length, take, drop, refl, sym, subst, ◌∙◌, arith, All, ℤ, unsigned_abs, decimal, flat_map}
 use Rattle.std.specs.Fmt.{signed_decimal}
 use Rattle.std.proofs.lemmas.List.Elements.{All-nil, All-cons, All-head, All-tail}
 use Rattle.std.proofs.lemmas.Bool.{and_parts}
@@ -8,21 +8,10 @@ use Rattle.mpc_exact.specs.Rational.{ℚ}
 use Rattle.mpc_frac.specs.Fits.{FitsFrac}
 use Rattle.mpc_frac.specs.Text.{text_of}
 use Rattle.mpc_linear.specs.Whole.{AreSmall}
-use Rattle.mpc_words.specs.Numerals.{numeral}
-use Rattle.mpc_words.specs.Words.{IsWithout, IsLineOf, IsWord, line}
+use Rattle.mpc_words.specs.Words.{IsWithout, IsWord, line}
 use Rattle.mpc_file.specs.Lines.{integers_line, fractions_line, pair_words, cert_line}
 use Rattle.mpc_file.specs.PlantGrammar.{AllFit}
-
--- ---- what is used of the spelling of words and numbers
-pub record WordLaws : Type 0 where
-  pub one_list : (text first other : List ℕ) (words others : List (List ℕ)) → IsLineOf text first words → IsLineOf text other others → words ≡ others
-  pub one_natural : (m n : ℕ) → numeral m ≡ numeral n → m ≡ n
-  pub natural_word : (n : ℕ) → IsWord (numeral n)
-  pub printed : (n : ℕ) → n < 10 ^ 64 → numeral n ≡ decimal n
-  pub one_integer : (y z : ℤ) → unsigned_abs y < 10 ^ 64 → unsigned_abs z < 10 ^ 64 → signed_decimal y ≡ signed_decimal z → y ≡ z
-  pub integer_word : (z : ℤ) → unsigned_abs z < 10 ^ 64 → IsWord (signed_decimal z)
-  pub one_fraction : (x y : ℚ) → FitsFrac x → FitsFrac y → text_of x ≡ text_of y → x ≡ y
-  pub fraction_word : (x : ℚ) → FitsFrac x → IsWord (text_of x)
+use Rattle.mpc_file.specs.LineLaws.{WordLaws}
 
 -- ---- names
 -- the test of whether a text is without a byte

@@ -69,10 +69,10 @@ equal_to_itself Less h = cc
 equal_to_itself Equal h = refl
 equal_to_itself Greater h = cc
 
-same_bytes : (xs ys : List ℕ) → is_eq (slice_cmp nat_cmp xs ys) ≡ true → xs ≡ ys
+pub same_bytes : (xs ys : List ℕ) → is_eq (slice_cmp nat_cmp xs ys) ≡ true → xs ≡ ys
 same_bytes xs ys h = exact_bytes xs ys (equal_from (slice_cmp nat_cmp xs ys) h)
 
-other_bytes : (xs ys : List ℕ) → is_eq (slice_cmp nat_cmp xs ys) ≡ false → xs ≢ ys
+pub other_bytes : (xs ys : List ℕ) → is_eq (slice_cmp nat_cmp xs ys) ≡ false → xs ≢ ys
 other_bytes xs ys h e =
     let itself : is_eq (slice_cmp nat_cmp xs xs) ≡ true = equal_to_itself (slice_cmp nat_cmp xs xs) (nat_list_cmp_total.antisymm xs xs) in
     let no : is_eq (slice_cmp nat_cmp xs xs) ≡ false = ap (λ t. is_eq (slice_cmp nat_cmp xs t)) e ∙ h in
@@ -106,7 +106,7 @@ pub is_found : (names : Names) (lines : List (List ℕ)) (key : Vec ℕ) (k : �
 is_found names lines key k are e = at_some (IsNew lines key.items) (λ n. IsNumberOf lines key.items n) (get key_cmp names.numbers key) k e (are.found key)
 
 -- ---- a line that came before
-pub named_before : (names : Names) (lines : List (List ℕ)) (text : List ℕ) (k : ℕ) → AreNames names lines → IsNumberOf lines text k → IsNamed lines text k names
+pub named_before : (names : Names) (lines : List (List ℕ)) (text : List ℕ) (k : ℕ) → AreNames names lines → IsNumberOf lines text k → IsNamed lines text k (AreNames names)
 named_before names lines text k are is =
     let most = is.is_line in
     record {
@@ -121,7 +121,7 @@ named_before names lines text k are is =
 -- ---- a new line
 pub named_behind : (names new : Names) (lines : List (List ℕ)) (line : Vec ℕ) → AreNames names lines → get key_cmp names.numbers line ≡ None
     → ((q : Vec ℕ) → get key_cmp new.numbers q ≡ cond (is_eq (slice_cmp nat_cmp line.items q.items)) (Some (length lines + 1)) (get key_cmp names.numbers q))
-    → btree_map_len new.numbers ≡ length lines + 1 → new.text.items ≡ names.text.items ++ ended line.items → IsNamed lines line.items (length lines + 1) new
+    → btree_map_len new.numbers ≡ length lines + 1 → new.text.items ≡ names.text.items ++ ended line.items → IsNamed lines line.items (length lines + 1) (AreNames new)
 named_behind names new lines line are absent updates size text =
     let fresh : IsNew lines line.items = at_none (IsNew lines line.items) (λ n. IsNumberOf lines line.items n) (get key_cmp names.numbers line) absent (are.found line) in
     record {

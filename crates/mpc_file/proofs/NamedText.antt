@@ -1,5 +1,5 @@
 -- Laws and trees whose forms and planes are named determine the bytes that they are read from, since these are named in the order of first use.
-use Rattle.std.proofs.Common.{◌≡◌, ℕ, ◌+◌, ◌-◌, Bool, nat_lt, cond, List, [], ◌∷◌, ◌++◌, map, fold, flat_map, length, refl, sym, ap, subst, ◌∙◌, length-append, append-nil}
+use Rattle.std.proofs.Common.{◌≡◌, ℕ, ◌+◌, Bool, nat_lt, cond, List, [], ◌∷◌, ◌++◌, map, fold, flat_map, length, refl, sym, ap, subst, ◌∙◌, length-append, append-nil}
 use Rattle.std.proofs.lemmas.List.{map-append, length-map}
 use Rattle.std.proofs.lemmas.Grind.{flat_map-append}
 use Rattle.mpc_exact.specs.Rational.{ℚ}

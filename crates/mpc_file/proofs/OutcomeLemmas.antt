@@ -1,9 +1,9 @@
 -- How one line, parts one behind another, and many items are read and fail, from what a reader knows of each step.
-use Rattle.std.proofs.Common.{◌≡◌, ℕ, ◌<◌, ◌≤◌, ◌⊎◌, Bool, IsTrue, true, false, ltb, List, [], ◌∷◌, ◌++◌, length, Result, Ok, Err, inl, inr, refl, sym, subst}
+use Rattle.std.proofs.Common.{◌≡◌, ℕ, ◌<◌, ◌≤◌, Bool, IsTrue, false, ltb, List, [], ◌∷◌, ◌++◌, length, Result, Ok, Err, inl, inr, refl, sym, subst}
 use Rattle.std.proofs.lemmas.Bool.{lt-ltb, le-ltb}
 use Rattle.mpc_words.specs.Words.{IsWithout}
 use Rattle.mpc_file.specs.Reading.{Cursor, TakesLine, LineRule, Grammar, one_line, ◌>>=◌, ReadsItems, no_item, one_more, many, Outcome}
-use Rattle.mpc_file.specs.PlantGrammar.{plain_rule, so_many}
+use Rattle.mpc_file.specs.PlantGrammar.{plain_rule}
 use Rattle.mpc_file.specs.declared.errors.FileKind.{FileKind}
 use Rattle.mpc_file.specs.declared.errors.FileKind.TheVariants.{BadLine, Truncated, BadNode, OverBound}
 use Rattle.mpc_file.specs.declared.errors.FileError.{FileError}

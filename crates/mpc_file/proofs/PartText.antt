@@ -19,8 +19,8 @@ use Rattle.mpc_file.specs.declared.plant_parts.Targets.{Targets}
 use Rattle.mpc_file.specs.declared.plant_parts.Offsets.{Offsets}
 use Rattle.mpc_file.specs.declared.plant_parts.Limits.{Limits}
 use Rattle.mpc_file.specs.Reading.{Cursor, LineRule, one_line}
-use Rattle.mpc_file.specs.PlantGrammar.{AreSizes, plain_rule, IsMatrix, IsWeightLine, dynamics, weights, IsDrift, AreTargetsOf, no_offsets, offsets_with, offset_lines, offsets, IsRowCount, IsRow, IsLast, row_list, last_list, IsAxis, grid, limits, IsPlantWith, plant}
-use Rattle.mpc_file.specs.LawGrammar.{IsLawLine, IsForm, move_rule, moves, mults, law_with, written_law, IsLawCount, law_count, written_laws, IsShortCount, IsNewForm, forms, used_behind, AreFormNumbers, named_moves_rule, named_mults, NamedLaw, used_by, named_law, named_laws}
+use Rattle.mpc_file.specs.PlantGrammar.{AreSizes, plain_rule, IsMatrix, IsWeightLine, dynamics, weights, IsDrift, AreTargetsOf, no_offsets, offsets_with, offset_lines, offsets, IsRowCount, IsRow, IsLast, row_list, last_list, IsAxis, limits, IsPlantWith, plant}
+use Rattle.mpc_file.specs.LawGrammar.{IsLawLine, IsForm, move_rule, moves, law_with, written_law, IsLawCount, law_count, written_laws, IsShortCount, IsNewForm, forms, used_behind, AreFormNumbers, named_moves_rule, named_mults, NamedLaw, used_by, named_law, named_laws}
 use Rattle.mpc_file.specs.TreeGrammar.{IsCertLine, certs, NodeLine, split_at, leaf_of, no_move, StatesNode, splits, names_law, has_none, node_rule, NodeOver, split_node, law_node, no_move_node, node_behind, node_at, owed, next_depth, nodes, written_split, written_node, IsWord, written_tree, IsPlaneCount, plane_rule, planes, planes_used, named_split, named_tree}
 use Rattle.mpc_file.proofs.OneText.{HasOneText, text_line, text_plain, text_give, text_that, text_with, text_many, text_so_many, so_many_read}
 

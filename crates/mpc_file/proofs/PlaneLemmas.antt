@@ -1,7 +1,6 @@
 -- Planes that are named by their numbers: one node more.
 use Rattle.std.proofs.Common.{◌≡◌, ℕ, ◌+◌, ◌-◌, ◌^◌, ◌<◌, ◌≤◌, List, [], ◌∷◌, ◌++◌, length, map, refl, sym, ◌∙◌, ap, subst, append_assoc, arith, length-append}
-use Rattle.std.specs.Prelude.{All, fold, unsigned_abs, slice_index_or, codes, Result, Ok, Err, OnOk}
-use Rattle.std.specs.Fmt.{signed_decimal}
+use Rattle.std.specs.Prelude.{All, fold, slice_index_or, codes, Result, Ok, Err, OnOk}
 use Rattle.std.specs.List.{flat_map}
 use Rattle.std.specs.Global.{Vec}
 use Rattle.std.proofs.lemmas.List.{append-nil, map-append, length-map}
@@ -12,9 +11,8 @@ use Rattle.mpc_linear.specs.declared.integers.RowInt.{RowInt}
 use Rattle.mpc_plant.specs.declared.plants.Plant.{Plant}
 use Rattle.mpc_rows.specs.declared.trees.Node.{Node}
 use Rattle.mpc_rows.specs.declared.trees.Node.TheVariants.{Split, Law as LawLeaf, NoMove}
-use Rattle.mpc_words.proofs.LineLemmas.{words_of_line}
-use Rattle.mpc_words.proofs.IntegerLemmas.{one_integer, signed_word}
 use Rattle.mpc_file.specs.Lines.{count_line}
+use Rattle.mpc_file.specs.LineLaws.{WordLaws, OneIntegers}
 use Rattle.mpc_file.specs.TreeGrammar.{NodeOver, used_with, named_node, no_plane, plane_named}
 use Rattle.mpc_file.specs.TreeGrammar.NodeOver.{split_node, law_node, no_move_node}
 use Rattle.mpc_file.specs.Writing.{ended, text_of_lines}
@@ -22,14 +20,13 @@ use Rattle.mpc_file.specs.Names.{AreNames, IsNamed}
 use Rattle.mpc_file.specs.PlaneNames.{plane_line, IsGoodPlane, IsGoodNode, ArePlanes, CertFits, CertsFit, leaf_text, bare_leaf_text, node_text, NamesInOrder, PlanesInOrder, IsNodeNumbered, AreNodesNumbered, IsTreeWritten}
 use Rattle.mpc_file.specs.declared.writing.names.Names.{Names}
 use Rattle.mpc_file.proofs.LineNumbers.{same_front, same_back}
-use Rattle.mpc_file.proofs.SpellingLemmas.{one_list_of}
 use Rattle.mpc_file.proofs.GrownTexts.{pieces-push}
+use Rattle.mpc_file.proofs.TreePrints.{planes_few}
 use Rattle.mpc_file.proofs.StepLemmas.{IsItemStep, item_step}
 
-one_plane : (plant : Plant) (x y : RowInt) → IsGoodPlane plant x → IsGoodPlane plant y → plane_line x ≡ plane_line y → x ≡ y
-one_plane plant x y good other e =
-    let same : x.a ++ x.b ∷ [] ≡ y.a ++ y.b ∷ [] = one_list_of signed_decimal (λ z. unsigned_abs z < 2 ^ 127) (λ z h. signed_word z (omega arith)) words_of_line (λ p q h k. one_integer p q (omega arith) (omega arith)) (codes "plane") (x.a ++ x.b ∷ []) (y.a ++ y.b ∷ [])
-    good.is_row.small other.is_row.small e in
+one_plane : OneIntegers → (plant : Plant) (x y : RowInt) → IsGoodPlane plant x → IsGoodPlane plant y → plane_line x ≡ plane_line y → x ≡ y
+one_plane one plant x y good other e =
+    let same : x.a ++ x.b ∷ [] ≡ y.a ++ y.b ∷ [] = one (codes "plane") (x.a ++ x.b ∷ []) (y.a ++ y.b ∷ []) good.is_row.small other.is_row.small e in
     let size : length x.a ≡ length y.a = good.is_row.size ∙ sym other.is_row.size in
     let front : x.a ≡ y.a = same_front x.a (x.b ∷ []) y.a (y.b ∷ []) size same in
     let back : x.b ∷ [] ≡ y.b ∷ [] = same_back x.a (x.b ∷ []) y.a (y.b ∷ []) size same in
@@ -37,10 +34,10 @@ one_plane plant x y good other e =
     λ i. record { a = front i; b = last i }
 
 -- ---- a node
-pub split_numbered : (plant : Plant) (planes : List RowInt) (row : RowInt) (k : ℕ) (old new : List ℕ) (names next : Names) → IsGoodPlane plant row → ArePlanes plant names planes → ((lines : List (List ℕ)) → AreNames names lines → IsNamed lines (plane_line row) k next)
+pub split_numbered : OneIntegers → (plant : Plant) (planes : List RowInt) (row : RowInt) (k : ℕ) (old new : List ℕ) (names next : List (List ℕ) → Type 0) → IsGoodPlane plant row → ArePlanes plant names planes → IsNamed (map plane_line planes) (plane_line row) k next
     → new ≡ old ++ ended (count_line (codes "split") k) → IsNodeNumbered plant planes (Split row) old new next
-split_numbered plant planes row k old new names next good are named text =
-    let step : IsItemStep plane_line (IsGoodPlane plant) no_plane planes row k next = item_step plane_line (IsGoodPlane plant) no_plane (one_plane plant) planes row k next are.good good (named (map plane_line planes) are.names_are) in
+split_numbered one plant planes row k old new names next good are named text =
+    let step : IsItemStep plane_line (IsGoodPlane plant) no_plane planes row k next = item_step plane_line (IsGoodPlane plant) no_plane (one_plane one plant) planes row k next are.good good named in
     record {
       behind = step.more;
       all = planes ++ step.more;
@@ -54,7 +51,7 @@ split_numbered plant planes row k old new names next good are named text =
       certs = tt;
     }
 
-pub leaf_numbered : (plant : Plant) (planes : List RowInt) (law : ℕ) (certs : List (List (ℕ × ℚ))) (old new : List ℕ) (names : Names) → ArePlanes plant names planes → new ≡ old ++ leaf_text law certs → All CertFits certs
+pub leaf_numbered : (plant : Plant) (planes : List RowInt) (law : ℕ) (certs : List (List (ℕ × ℚ))) (old new : List ℕ) (names : List (List ℕ) → Type 0) → ArePlanes plant names planes → new ≡ old ++ leaf_text law certs → All CertFits certs
     → IsNodeNumbered plant planes (LawLeaf law certs) old new names
 leaf_numbered plant planes law certs old new names are text fits =
     record {
@@ -70,7 +67,7 @@ leaf_numbered plant planes law certs old new names are text fits =
       certs = fits;
     }
 
-pub bare_numbered : (plant : Plant) (planes : List RowInt) (cert : List (ℕ × ℚ)) (old new : List ℕ) (names : Names) → ArePlanes plant names planes → new ≡ old ++ bare_leaf_text cert → CertFits cert
+pub bare_numbered : (plant : Plant) (planes : List RowInt) (cert : List (ℕ × ℚ)) (old new : List ℕ) (names : List (List ℕ) → Type 0) → ArePlanes plant names planes → new ≡ old ++ bare_leaf_text cert → CertFits cert
     → IsNodeNumbered plant planes (NoMove cert) old new names
 bare_numbered plant planes cert old new names are text fits =
     record {
@@ -116,12 +113,11 @@ fold_last : (used : ℕ) (nodes : List (NodeOver ℕ)) (node : NodeOver ℕ) →
 fold_last used [] node = refl
 fold_last used (n ∷ nodes) node = fold_last (used_with used n) nodes node
 
-pub nodes_none : (plant : Plant) (old : List ℕ) (names : Names) → ArePlanes plant names [] → AreNodesNumbered plant [] old old names
+pub nodes_none : (plant : Plant) (old : List ℕ) (names : List (List ℕ) → Type 0) → ArePlanes plant names [] → AreNodesNumbered plant [] old old names
 nodes_none plant old names are = record { planes = []; named = []; planes_are = are; nodes_are = refl; text = sym (append-nil old); in_order = tt; used = refl; certs = All-nil CertsFit }
 
-pub nodes_more : (plant : Plant) (nodes : List Node) (node : Node) (old mid new : List ℕ) (names next : Names) → ((ps : List RowInt) → ArePlanes plant names ps → IsNodeNumbered plant ps node mid new next) → AreNodesNumbered plant nodes old mid names → AreNodesNumbered plant (nodes ++ node ∷ []) old new next
-nodes_more plant nodes node old mid new names next numbered a =
-    let l : IsNodeNumbered plant a.planes node mid new next = numbered a.planes a.planes_are in
+pub nodes_more : (plant : Plant) (nodes : List Node) (node : Node) (old mid new : List ℕ) (names next : List (List ℕ) → Type 0) → (a : AreNodesNumbered plant nodes old mid names) → IsNodeNumbered plant a.planes node mid new next → AreNodesNumbered plant (nodes ++ node ∷ []) old new next
+nodes_more plant nodes node old mid new names next a l =
     let size : length l.all ≡ length a.planes + length l.behind = ap length l.all_are ∙ length-append a.planes l.behind in
     record {
       planes = l.all;
@@ -134,7 +130,17 @@ nodes_more plant nodes node old mid new names next numbered a =
       certs = All-push CertsFit a.named l.named a.certs l.certs;
     }
 
-pub no_planes : (plant : Plant) (names : Names) → AreNames names [] → ArePlanes plant names []
+-- the planes then
+pub planes_none : (plant : Plant) (old : List ℕ) (names : List (List ℕ) → Type 0) (are : ArePlanes plant names []) → (nodes_none plant old names are).planes ≡ []
+unfolding nodes_none
+planes_none plant old names are = refl
+
+pub planes_more : (plant : Plant) (nodes : List Node) (node : Node) (old mid new : List ℕ) (names next : List (List ℕ) → Type 0) (a : AreNodesNumbered plant nodes old mid names) (l : IsNodeNumbered plant a.planes node mid new next)
+    → (nodes_more plant nodes node old mid new names next a l).planes ≡ l.all
+unfolding nodes_more
+planes_more plant nodes node old mid new names next a l = refl
+
+pub no_planes : (plant : Plant) (names : List (List ℕ) → Type 0) → names [] → ArePlanes plant names []
 no_planes plant names are = record { names_are = are; good = All-nil (IsGoodPlane plant) }
 
 pub good_at : (plant : Plant) (nodes : List Node) (k : ℕ) (node : Node) → All (IsGoodNode plant) nodes → (k < length nodes) → node ≡ slice_index_or nodes k node → IsGoodNode plant node
@@ -146,9 +152,9 @@ text_two t0 t1 t2 t3 t4 a b c d h1 h2 h3 h4 = h4 ∙ ap (λ t. t ++ d) (h3 ∙ a
     regroup : (t0 a b c d : List ℕ) → (((t0 ++ a) ++ b) ++ c) ++ d ≡ t0 ++ ((a ++ b) ++ (c ++ d))
     regroup t0 a b c d = simp append_assoc
 
-pub tree_written : (plant : Plant) (nodes : List Node) (t0 t1 t2 t3 t4 text names_text : List ℕ) (count : ℕ) (names : Names) → AreNodesNumbered plant nodes [] text names → ((lines : List (List ℕ)) → AreNames names lines → count ≡ length lines) → names_text ≡ names.text.items → length names_text < 2 ^ 63
+pub tree_written : WordLaws → (plant : Plant) (nodes : List Node) (t0 t1 t2 t3 t4 text names_text : List ℕ) (count : ℕ) (names : Names) → AreNodesNumbered plant nodes [] text (AreNames names) → ((lines : List (List ℕ)) → AreNames names lines → count ≡ length lines) → names_text ≡ names.text.items → length names_text < 2 ^ 63
     → t1 ≡ t0 ++ ended (count_line (codes "planes") count) → t2 ≡ t1 ++ names_text → t3 ≡ t2 ++ ended (codes "tree") → t4 ≡ t3 ++ text → IsTreeWritten plant nodes t0 t4
-tree_written plant nodes t0 t1 t2 t3 t4 text names_text count names a counted names_are short h1 h2 h3 h4 =
+tree_written words plant nodes t0 t1 t2 t3 t4 text names_text count names a counted names_are short h1 h2 h3 h4 =
     let are : AreNames names (map plane_line a.planes) = a.planes_are.names_are in
     let planes_count : count ≡ length a.planes = counted (map plane_line a.planes) are ∙ length-map a.planes plane_line in
     record {
@@ -156,7 +162,7 @@ tree_written plant nodes t0 t1 t2 t3 t4 text names_text count names a counted na
       named = a.named;
       good = a.planes_are.good;
       different = are.different;
-      few = subst (λ t. length t < 2 ^ 63) (names_are ∙ are.text) short;
+      few = planes_few words plant a.planes plant.is_plant.states.from_low a.planes_are.good (subst (λ t. length t < 2 ^ 63) (names_are ∙ are.text) short);
       nodes_are = a.nodes_are;
       in_order = a.in_order;
       used = a.used;

@@ -1,5 +1,5 @@
 -- Planes are read, each with a line of its own.
-use Rattle.std.proofs.Common.{◌≡◌, ◌↔◌, ◌⊎◌, ℕ, ◌+◌, ◌^◌, ◌<◌, ◌≤◌, List, [], ◌∷◌, ◌++◌, length, get_or, All, ℤ, nat_lt, codes, Result, Ok, Err, IsErrAnd, inl, inr, refl, sym, ap, ◌∙◌, subst, arith}
+use Rattle.std.proofs.Common.{◌≡◌, ◌↔◌, ◌⊎◌, ℕ, ◌^◌, ◌<◌, ◌≤◌, List, [], ◌∷◌, ◌++◌, length, get_or, All, ℤ, nat_lt, codes, Result, Ok, Err, IsErrAnd, inl, inr, refl, sym, ap, ◌∙◌, subst, arith}
 use Rattle.std.specs.Prelude.{Contains}
 use Rattle.std.proofs.lemmas.List.Elements.{All-nil, All-contains, All-push, All-weaker, Contains-get_or, Contains-append_left, Contains-push}
 use Rattle.mpc_linear.specs.declared.integers.RowInt.{RowInt}
@@ -9,12 +9,10 @@ use Rattle.mpc_file.specs.Reading.{Cursor, one_line, ReadsItems, Outcome}
 use Rattle.mpc_file.specs.declared.errors.FileError.{FileError}
 use Rattle.mpc_file.specs.TreeReading.{plane_rows}
 use Rattle.mpc_file.proofs.OutcomeLemmas.{item_error, asks_for_more}
-use Rattle.mpc_file.specs.Lines.{count_line, integers_line}
+use Rattle.mpc_file.specs.Lines.{count_line}
 use Rattle.mpc_file.specs.TreeGrammar.{IsPlane, IsRowOf, IsPlaneLine, IsNoPlane, IsNewPlane, plane_rule}
 use Rattle.mpc_file.specs.PlaneReading.{plane_text, AreLinesOf}
-
-abbrev pub IntegersLaw : Type 0
-IntegersLaw = (name : List ℕ) (xs ys : List ℤ) → AreSmall xs → AreSmall ys → integers_line name xs ≡ integers_line name ys → xs ≡ ys
+use Rattle.mpc_file.specs.LineLaws.{OneIntegers}
 
 -- a row's entries and its bound
 same_ends : (a c : List ℤ) (b d : ℤ) → a ++ b ∷ [] ≡ c ++ d ∷ [] → (a ≡ c) × (b ≡ d)
@@ -32,7 +30,7 @@ same_ends (x ∷ a) (z ∷ c) b d e =
 same_row : (x y : RowInt) → x.a ++ x.b ∷ [] ≡ y.a ++ y.b ∷ [] → x ≡ y
 same_row x y e = let r = same_ends x.a y.a x.b y.b e in λ i. record { a = r.0 i; b = r.1 i }
 
-module _ (one : IntegersLaw) (lines : List (List ℕ)) (rows : List RowInt) (are : AreLinesOf lines rows) (n : ℕ) (text : List ℕ) where
+module _ (one : OneIntegers) (lines : List (List ℕ)) (rows : List RowInt) (are : AreLinesOf lines rows) (n : ℕ) (text : List ℕ) where
   -- a plane whose line stands before
   found : Contains lines text → (x : RowInt) → IsRowOf (codes "plane") n text x → Contains rows x
   found h x is =

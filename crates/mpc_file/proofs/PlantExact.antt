@@ -24,7 +24,8 @@ use Rattle.mpc_file.specs.declared.plant_parts.Offsets.{Offsets}
 use Rattle.mpc_file.specs.declared.plant_parts.Limits.{Limits}
 use Rattle.mpc_file.specs.PlantGrammar.{AllFit, AreSizes, plain_rule, sizes, IsMatrix, IsWeightLine, matrix, weight, dynamics, weights, IsDrift, AreTargets, AreTargetsOf, no_offsets, offsets_with, offset_lines, offsets, IsRowCount, IsRow, IsLast, so_many, row_list, last_list, IsAxis, grid, limits, IsPlantWith, plant}
 use Rattle.mpc_file.proofs.Exactness.{IsExactAt, IsExactRule, CutLaws, exact_line, exact_give, exact_that, exact_both, exact_many}
-use Rattle.mpc_file.proofs.LineNumbers.{WordLaws, IsShortNumber, without, same_front, same_back, same_rows, all_in_rows, one_words, one_decimal, decimal_word, one_naturals, one_count, one_fractions}
+use Rattle.mpc_file.specs.LineLaws.{WordLaws}
+use Rattle.mpc_file.proofs.LineNumbers.{IsShortNumber, without, same_front, same_back, same_rows, all_in_rows, one_words, one_decimal, decimal_word, one_naturals, one_count, one_fractions}
 
 -- ---- the plant of given parts
 is_plant-prop : (n p horizon : ℕ) (a b q r last : RationalMatrix) (drift xgoal ugoal : List ℚ) (rows terminal : List PlantRow) (grid : List Coordinate) → IsProp (IsPlant n p horizon a b q r last drift xgoal ugoal rows terminal grid)

@@ -10,7 +10,7 @@ use Rattle.mpc_space.specs.Matrix.{RationalMatrix, height}
 use Rattle.mpc_linear.specs.Grid.{rows_of, grid}
 use Rattle.mpc_linear.specs.Entries.{with_entry, zero_matrix}
 use Rattle.mpc_linear.specs.Shape.{HasShape}
-use Rattle.mpc_linear.proofs.GridLemmas.{height-grid, columns-grid, grid-rectangular, grid-set, grid-zeros, place-below}
+use Rattle.mpc_linear.specs.GridLaws.{GridLaws}
 use Rattle.mpc_file.specs.PlantGrammar.{AllFit}
 use Rattle.mpc_file.specs.PlantNumbers.{filled}
 
@@ -21,23 +21,10 @@ mixed-suc (x ∷ xs) [] j d h same = absurd (omega arith)
 mixed-suc (x ∷ xs) (y ∷ old) zero d h same = refl
 mixed-suc (x ∷ xs) (y ∷ old) (suc j) d h same = ap (λ l. x ∷ l) (mixed-suc xs old j d (omega arith) (omega arith))
 
-pub filled_none : (rows columns : ℕ) (xs : List ℚ) → zero_matrix rows columns ≡ filled rows columns 0 xs
-filled_none rows columns xs = sym (grid-zeros rows columns)
-
 pub filled_all : (rows columns count : ℕ) (xs : List ℚ) → length xs ≡ rows * columns → count ≡ rows * columns → filled rows columns count xs ≡ grid rows columns xs
 filled_all rows columns count xs h e =
     let z : length (zeros (rows * columns)) ≡ rows * columns = length-replicate (rows * columns) (int (pos 0)) in
     ap (grid rows columns) ((λ i. take_all count xs (omega arith) i ++ drop_all count (zeros (rows * columns)) (omega arith) i) ∙ append-nil xs)
-
-pub filled_more : (rows columns i j : ℕ) (xs : List ℚ) → i < rows → j < columns → length xs ≡ rows * columns
-    → with_entry (filled rows columns (i * columns + j) xs) i j (get_or xs (i * columns + j) (int (pos 0))) ≡ filled rows columns (i * columns + (j + 1)) xs
-filled_more rows columns i j xs h k e =
-    let z : length (zeros (rows * columns)) ≡ rows * columns = length-replicate (rows * columns) (int (pos 0)) in
-    let below : i * columns + j < rows * columns = place-below rows columns i j h k in
-    let next : suc (i * columns + j) ≡ i * columns + (j + 1) = omega arith in
-    sym (grid-set rows columns (take (i * columns + j) xs ++ drop (i * columns + j) (zeros (rows * columns))) i j (get_or xs (i * columns + j) (int (pos 0))) h k)
-    ∙ ap (grid rows columns) (mixed-suc xs (zeros (rows * columns)) (i * columns + j) (int (pos 0)) (omega arith) (omega arith))
-    ∙ ap (λ count. filled rows columns count xs) next
 
 -- ---- the rows of a list, and the list of the rows
 abbrev pub joined : List (List ℚ) → List ℚ
@@ -76,9 +63,6 @@ pub grid-fits : (rows columns : ℕ) (xs : List ℚ) → AllFit xs → All AllFi
 unfolding grid
 grid-fits rows columns xs h = rows_of-fit rows columns xs h
 
-pub grid-shape : (rows columns : ℕ) (xs : List ℚ) → length xs ≡ rows * columns → HasShape (grid rows columns xs) rows columns
-grid-shape rows columns xs h = record { rows_are = height-grid rows columns xs; columns_are = columns-grid rows columns xs; rectangular = grid-rectangular rows columns xs h }
-
 module _ (m : RationalMatrix) (rows columns : ℕ) (shape : HasShape m rows columns) where
   wide : All (λ row. length row ≡ columns) m.rows
   wide = subst (λ w. All (λ row. length row ≡ w) m.rows) shape.columns_are shape.rectangular
@@ -93,14 +77,32 @@ module _ (m : RationalMatrix) (rows columns : ℕ) (shape : HasShape m rows colu
     columns = sym shape.columns_are i;
   }
 
--- ---- a matrix that is partly filled has its shape
-pub filled_height : (m : RationalMatrix) (rows columns count : ℕ) (xs : List ℚ) → m ≡ filled rows columns count xs → height m ≡ rows
-filled_height m rows columns count xs e = ap height e ∙ height-grid rows columns (take count xs ++ drop count (zeros (rows * columns)))
+-- ---- what the laws of stored matrices say of a list's matrix
+module _ (grids : GridLaws) where
+  pub filled_none : (rows columns : ℕ) (xs : List ℚ) → zero_matrix rows columns ≡ filled rows columns 0 xs
+  filled_none rows columns xs = sym (grids.zeros rows columns)
 
-pub filled_columns : (m : RationalMatrix) (rows columns count : ℕ) (xs : List ℚ) → m ≡ filled rows columns count xs → m.columns ≡ columns
-filled_columns m rows columns count xs e = ap (λ w. w.columns) e ∙ columns-grid rows columns (take count xs ++ drop count (zeros (rows * columns)))
+  pub filled_more : (rows columns i j : ℕ) (xs : List ℚ) → i < rows → j < columns → length xs ≡ rows * columns
+      → with_entry (filled rows columns (i * columns + j) xs) i j (get_or xs (i * columns + j) (int (pos 0))) ≡ filled rows columns (i * columns + (j + 1)) xs
+  filled_more rows columns i j xs h k e =
+      let z : length (zeros (rows * columns)) ≡ rows * columns = length-replicate (rows * columns) (int (pos 0)) in
+      let below : i * columns + j < rows * columns = grids.place rows columns i j h k in
+      let next : suc (i * columns + j) ≡ i * columns + (j + 1) = omega arith in
+      sym (grids.entry_set rows columns (take (i * columns + j) xs ++ drop (i * columns + j) (zeros (rows * columns))) i j (get_or xs (i * columns + j) (int (pos 0))) h k)
+      ∙ ap (grid rows columns) (mixed-suc xs (zeros (rows * columns)) (i * columns + j) (int (pos 0)) (omega arith) (omega arith))
+      ∙ ap (λ count. filled rows columns count xs) next
 
--- one entry more
-pub filled_next : (m next : RationalMatrix) (rows columns i j : ℕ) (xs : List ℚ) (v : ℚ) → i < rows → j < columns → length xs ≡ rows * columns → m ≡ filled rows columns (i * columns + j) xs → v ≡ get_or xs (i * columns + j) (int (pos 0))
-    → next ≡ with_entry m i j v → next ≡ filled rows columns (i * columns + (j + 1)) xs
-filled_next m next rows columns i j xs v h k size so at e = e ∙ (λ t. with_entry (so t) i j (at t)) ∙ filled_more rows columns i j xs h k size
+  pub grid-shape : (rows columns : ℕ) (xs : List ℚ) → length xs ≡ rows * columns → HasShape (grid rows columns xs) rows columns
+  grid-shape rows columns xs h = record { rows_are = grids.rows rows columns xs; columns_are = grids.columns rows columns xs; rectangular = grids.rectangular rows columns xs h }
+
+  -- a matrix that is partly filled has its shape
+  pub filled_height : (m : RationalMatrix) (rows columns count : ℕ) (xs : List ℚ) → m ≡ filled rows columns count xs → height m ≡ rows
+  filled_height m rows columns count xs e = ap height e ∙ grids.rows rows columns (take count xs ++ drop count (zeros (rows * columns)))
+
+  pub filled_columns : (m : RationalMatrix) (rows columns count : ℕ) (xs : List ℚ) → m ≡ filled rows columns count xs → m.columns ≡ columns
+  filled_columns m rows columns count xs e = ap (λ w. w.columns) e ∙ grids.columns rows columns (take count xs ++ drop count (zeros (rows * columns)))
+
+  -- one entry more
+  pub filled_next : (m next : RationalMatrix) (rows columns i j : ℕ) (xs : List ℚ) (v : ℚ) → i < rows → j < columns → length xs ≡ rows * columns → m ≡ filled rows columns (i * columns + j) xs → v ≡ get_or xs (i * columns + j) (int (pos 0))
+      → next ≡ with_entry m i j v → next ≡ filled rows columns (i * columns + (j + 1)) xs
+  filled_next m next rows columns i j xs v h k size so at e = e ∙ (λ t. with_entry (so t) i j (at t)) ∙ filled_more rows columns i j xs h k size

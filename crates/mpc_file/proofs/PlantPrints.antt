@@ -1,9 +1,11 @@
 -- A plant's lines are read as the plant.
-use Rattle.std.proofs.Common.{◌≡◌, ℕ, ◌+◌, ◌*◌, ◌<◌, ◌≤◌, ◌^◌, List, [], ◌∷◌, ◌++◌, length, map, refl, sym, ◌∙◌, ap, append_assoc, arith}
+use Rattle.std.proofs.Common.{◌≡◌, ℕ, zero, suc, pos, ◌+◌, ◌*◌, ◌<◌, ◌≤◌, ◌^◌, List, [], ◌∷◌, ◌++◌, length, map, refl, sym, ◌∙◌, ap, subst, append_assoc, arith}
 use Rattle.std.specs.Prelude.{All, codes, decimal}
 use Rattle.std.specs.List.{flat_map}
 use Rattle.std.proofs.lemmas.List.Concat.{flat_map-append}
 use Rattle.std.proofs.lemmas.List.Elements.{All-nil, All-cons, All-head, All-tail, All-append}
+use Rattle.mpc_exact.specs.Rational.{ℚ, int}
+use Rattle.mpc_space.specs.Vector.{zeros}
 use Rattle.mpc_space.specs.Matrix.{RationalMatrix}
 use Rattle.mpc_frac.specs.Fits.{FitsFrac}
 use Rattle.mpc_frac.specs.Text.{text_of as fraction_text}
@@ -12,19 +14,23 @@ use Rattle.mpc_plant.specs.Limits.{IsFromTo, IsWeight, FitsRow, IsCoordinate, Is
 use Rattle.mpc_plant.specs.declared.plants.Plant.{Plant}
 use Rattle.mpc_plant.specs.declared.lists.PlantRow.{PlantRow}
 use Rattle.mpc_plant.specs.declared.lists.Coordinate.{Coordinate}
+use Rattle.mpc_controller.specs.Parts.{row_count}
 use Rattle.mpc_words.specs.Words.{IsWithout}
 use Rattle.mpc_file.specs.Reading.{one_line, give, that_which, ◌>>=◌}
 use Rattle.mpc_file.specs.Lines.{count_line, matrix_line, row_line, last_line, grid_line}
-use Rattle.mpc_file.specs.PlantGrammar.{AllFit, AreSizes, plain_rule, sizes, IsMatrix, IsWeightLine, matrix, weight, dynamics, weights, IsDrift, AreTargetsOf, offsets_with, offsets, IsRowCount, IsRow, IsLast, so_many, row_list, last_list, IsAxis, grid, limits, IsPlantWith, plant}
+use Rattle.mpc_file.specs.PlantGrammar.{AllFit, AreSizes, plain_rule, sizes, IsMatrix, IsWeightLine, matrix, weight, dynamics, weights, IsDrift, AreTargetsOf, AreZero, AreAllZero, MayHave, no_offsets, offsets_with, offset_lines, offsets, IsRowCount, IsRow, IsLast, so_many, row_list, last_list, IsAxis, grid, limits, IsPlantWith, plant}
 use Rattle.mpc_file.specs.Versions.{greatest_rows}
+use Rattle.mpc_file.specs.LawGrammar.{unknowns}
+use Rattle.mpc_file.specs.LineLaws.{WordLaws}
 use Rattle.mpc_file.specs.Writing.{Prints, ended, text_of_lines, size_line, drift_line, goal_line, row_lines, last_lines, plant_lines}
+use Rattle.mpc_file.specs.Statable.{offsets_of, CanStatePlant}
 use Rattle.mpc_file.specs.WrittenFits.{RowFits, LastFits, AxisFits, MatricesFit, GoalFits, PlantFits}
-use Rattle.mpc_file.specs.declared.versions.Version.TheVariants.{Three}
+use Rattle.mpc_file.specs.declared.versions.Version.{Version}
+use Rattle.mpc_file.specs.declared.versions.Version.TheVariants.{One, Two, Three}
 use Rattle.mpc_file.specs.declared.plant_parts.Sizes.{Sizes}
 use Rattle.mpc_file.specs.declared.plant_parts.Dynamics.{Dynamics}
 use Rattle.mpc_file.specs.declared.plant_parts.Weights.{Weights}
 use Rattle.mpc_file.specs.declared.plant_parts.Targets.{Targets}
-use Rattle.mpc_file.specs.declared.plant_parts.Offsets.{Offsets}
 use Rattle.mpc_file.specs.declared.plant_parts.Limits.{Limits}
 use Rattle.mpc_file.proofs.PrintLemmas.{prints_plain, prints_give, prints_that, prints_both, prints_end, prints_as, prints_so_many}
 use Rattle.mpc_file.proofs.WithoutLemmas.{line_without, count_without, count_line_without, fraction_without, fractions_line_without, matrix_line_without}
@@ -44,25 +50,28 @@ weights_of v = record { q = v.q; r = v.r; last = v.last }
 abbrev targets_of : Plant → Targets
 targets_of v = record { xgoal = v.xgoal; ugoal = v.ugoal }
 
-abbrev offsets_of : Plant → Offsets
-offsets_of v = record { drift = v.drift; xgoal = v.xgoal; ugoal = v.ugoal }
+-- the lines of the offsets, which version 1 hasn't
+abbrev pub offset_text : Version → Plant → List ℕ
+offset_text One v = []
+offset_text Two v = ended (drift_line v) ++ ended (goal_line v)
+offset_text Three v = ended (drift_line v) ++ ended (goal_line v)
 
 abbrev limits_in : Plant → Limits
 limits_in v = record { rows = v.rows; terminal = v.terminal; axes = v.grid }
 
 -- ---- sizes
+-- offsets of so many zeros
+zeros_only : (n : ℕ) (xs : List ℚ) → length xs ≡ n → AreZero xs → xs ≡ zeros n
+zeros_only zero [] size all = refl
+zeros_only zero (x ∷ xs) size all = absurd (omega arith)
+zeros_only (suc n) [] size all = absurd (omega arith)
+zeros_only (suc n) (x ∷ xs) size all = λ i. All-head (λ y. y ≡ int (pos 0)) x xs all i ∷ zeros_only n xs (omega arith) (All-tail (λ y. y ≡ int (pos 0)) x xs all) i
+
+zero_offsets : (v : Plant) → IsPlantOf v → AreAllZero (offsets_of v) → offsets_of v ≡ no_offsets (sizes_of v)
+zero_offsets v is none = λ i. record { drift = zeros_only v.n v.drift is.drift_size none.drift i; xgoal = zeros_only v.n v.xgoal is.xgoal_size none.xgoal i; ugoal = zeros_only v.p v.ugoal is.ugoal_size none.ugoal i }
+
 below_64 : (low high n : ℕ) → IsFromTo low high n → high ≤ 6 → n < 2 ^ 64
 below_64 low high n from small = let to = from.to_high in omega arith
-
-size_without : (v : Plant) → IsPlantOf v → IsWithout 10 (size_line v)
-size_without v is =
-    line_without (codes "size") (decimal v.n ∷ decimal v.p ∷ decimal v.horizon ∷ []) refl
-    (All-cons (IsWithout 10) (decimal v.n) (decimal v.p ∷ decimal v.horizon ∷ []) (count_without v.n (below_64 1 4 v.n is.states (omega arith)))
-    (All-cons (IsWithout 10) (decimal v.p) (decimal v.horizon ∷ []) (count_without v.p (below_64 1 3 v.p is.inputs (omega arith)))
-    (All-cons (IsWithout 10) (decimal v.horizon) [] (count_without v.horizon (below_64 1 6 v.horizon is.steps (omega arith))) (All-nil (IsWithout 10)))))
-
-size_prints : (v : Plant) → IsPlantOf v → Prints sizes (sizes_of v) (ended (size_line v))
-size_prints v is = prints_plain AreSizes (sizes_of v) (size_line v) (size_without v is) (record { spelled = refl; states = is.states; inputs = is.inputs; steps = is.steps; moves_few = is.moves_few })
 
 -- ---- matrices
 matrix_prints : (name : List ℕ) (rows columns : ℕ) (m : RationalMatrix) → IsWithout 10 (matrix_line name m) → HasShape m rows columns → All AllFit m.rows → Prints (matrix name rows columns) m (ended (matrix_line name m))
@@ -71,61 +80,10 @@ matrix_prints name rows columns m without shape fits = prints_plain (IsMatrix na
 weight_prints : (name : List ℕ) (size : ℕ) (m : RationalMatrix) → IsWithout 10 (matrix_line name m) → IsWeight m size → All AllFit m.rows → Prints (weight name size) m (ended (matrix_line name m))
 weight_prints name size m without is fits = prints_plain (IsWeightLine name size) m (matrix_line name m) without (record { spelled = refl; weight = is; fits = fits })
 
-dynamics_prints : (v : Plant) → IsPlantOf v → MatricesFit v → Prints (dynamics (sizes_of v)) (dynamics_of v) (ended (matrix_line (codes "A") v.a) ++ ended (matrix_line (codes "B") v.b))
-dynamics_prints v is fits =
-    prints_both (matrix (codes "A") v.n v.n) (λ a. matrix (codes "B") v.n v.p >>= λ b. give (record { a = a; b = b })) v.a (dynamics_of v) (ended (matrix_line (codes "A") v.a)) (ended (matrix_line (codes "B") v.b))
-    (matrix_prints (codes "A") v.n v.n v.a (matrix_line_without (codes "A") v.a refl fits.a) is.a_shape fits.a)
-    (prints_end (matrix (codes "B") v.n v.p) (λ b. give (record { a = v.a; b = b })) v.b (dynamics_of v) (ended (matrix_line (codes "B") v.b))
-    (matrix_prints (codes "B") v.n v.p v.b (matrix_line_without (codes "B") v.b refl fits.b) is.b_shape fits.b)
-    (prints_give (dynamics_of v)))
-
-weights_prints : (v : Plant) → IsPlantOf v → MatricesFit v → Prints (weights (sizes_of v)) (weights_of v) (ended (matrix_line (codes "Q") v.q) ++ (ended (matrix_line (codes "R") v.r) ++ ended (matrix_line (codes "P") v.last)))
-weights_prints v is fits =
-    prints_both (weight (codes "Q") v.n) (λ q. weight (codes "R") v.p >>= λ r. weight (codes "P") v.n >>= λ last. give (record { q = q; r = r; last = last })) v.q (weights_of v)
-    (ended (matrix_line (codes "Q") v.q)) (ended (matrix_line (codes "R") v.r) ++ ended (matrix_line (codes "P") v.last))
-    (weight_prints (codes "Q") v.n v.q (matrix_line_without (codes "Q") v.q refl fits.q) is.q_weight fits.q)
-    (prints_both (weight (codes "R") v.p) (λ r. weight (codes "P") v.n >>= λ last. give (record { q = v.q; r = r; last = last })) v.r (weights_of v)
-    (ended (matrix_line (codes "R") v.r)) (ended (matrix_line (codes "P") v.last))
-    (weight_prints (codes "R") v.p v.r (matrix_line_without (codes "R") v.r refl fits.r) is.r_weight fits.r)
-    (prints_end (weight (codes "P") v.n) (λ last. give (record { q = v.q; r = v.r; last = last })) v.last (weights_of v) (ended (matrix_line (codes "P") v.last))
-    (weight_prints (codes "P") v.n v.last (matrix_line_without (codes "P") v.last refl fits.last) is.last_weight fits.last)
-    (prints_give (weights_of v))))
-
--- ---- drift and targets
-drift_prints : (v : Plant) → IsPlantOf v → AllFit v.drift → Prints (one_line (plain_rule (IsDrift v.n))) v.drift (ended (drift_line v))
-drift_prints v is fits = prints_plain (IsDrift v.n) v.drift (drift_line v) (fractions_line_without (codes "drift") v.drift refl fits) (record { spelled = refl; size = is.drift_size; fits = fits })
-
-goal_prints : (v : Plant) → IsPlantOf v → GoalFits v → Prints (one_line (plain_rule (AreTargetsOf Three (sizes_of v) v.drift))) (targets_of v) (ended (goal_line v))
-goal_prints v is fits =
-    prints_plain (AreTargetsOf Three (sizes_of v) v.drift) (targets_of v) (goal_line v) (fractions_line_without (codes "goal") (v.xgoal ++ v.ugoal) refl (All-append FitsFrac v.xgoal v.ugoal fits.xgoal fits.ugoal))
-    (record { targets_are = record { spelled = refl; states = is.xgoal_size; inputs = is.ugoal_size; fits_states = fits.xgoal; fits_inputs = fits.ugoal }; allowed = tt })
-
-offsets_print : (v : Plant) → IsPlantOf v → AllFit v.drift → GoalFits v → Prints (offsets Three (sizes_of v)) (offsets_of v) (ended (drift_line v) ++ ended (goal_line v))
-offsets_print v is drift goal =
-    prints_both (one_line (plain_rule (IsDrift v.n))) (λ d. one_line (plain_rule (AreTargetsOf Three (sizes_of v) d)) >>= λ targets. give (offsets_with d targets)) v.drift (offsets_of v)
-    (ended (drift_line v)) (ended (goal_line v)) (drift_prints v is drift)
-    (prints_end (one_line (plain_rule (AreTargetsOf Three (sizes_of v) v.drift))) (λ targets. give (offsets_with v.drift targets)) (targets_of v) (offsets_of v) (ended (goal_line v)) (goal_prints v is goal) (prints_give (offsets_of v)))
-
 -- ---- rows
 pub all_both : {X : Type 0} (P Q R : X → Type 0) → ((x : X) → P x → Q x → R x) → (xs : List X) → All P xs → All Q xs → All R xs
 all_both P Q R both [] p q = All-nil R
 all_both P Q R both (x ∷ xs) p q = All-cons R x xs (both x (All-head P x xs p) (All-head Q x xs q)) (all_both P Q R both xs (All-tail P x xs p) (All-tail Q x xs q))
-
-row_prints : (s : Sizes) (row : PlantRow) → FitsRow s.states s.inputs row → RowFits row → Prints (one_line (plain_rule (IsRow s))) row (ended (row_line row))
-row_prints s row sizes fits = prints_plain (IsRow s) row (row_line row) (fractions_line_without (codes "row") (row.x ++ row.u ++ row.max ∷ []) refl fits) (record { spelled = refl; sizes = sizes; fits = fits })
-
-last_prints : (s : Sizes) (row : PlantRow) → FitsRow s.states 0 row → LastFits row → Prints (one_line (plain_rule (IsLast s))) row (ended (last_line row))
-last_prints s row sizes fits = prints_plain (IsLast s) row (last_line row) (fractions_line_without (codes "last") (row.x ++ row.max ∷ []) refl fits) (record { spelled = refl; sizes = sizes; fits = fits })
-
-axis_without : (axis : Coordinate) → IsCoordinate axis → AxisFits axis → IsWithout 10 (grid_line axis)
-axis_without axis is fits =
-    line_without (codes "grid") (fraction_text axis.low ∷ fraction_text axis.step ∷ decimal axis.count ∷ []) refl
-    (All-cons (IsWithout 10) (fraction_text axis.low) (fraction_text axis.step ∷ decimal axis.count ∷ []) (fraction_without axis.low (All-head FitsFrac axis.low (axis.step ∷ []) fits))
-    (All-cons (IsWithout 10) (fraction_text axis.step) (decimal axis.count ∷ []) (fraction_without axis.step (All-head FitsFrac axis.step [] (All-tail FitsFrac axis.low (axis.step ∷ []) fits)))
-    (All-cons (IsWithout 10) (decimal axis.count) [] (count_without axis.count (let small = is.count_small in omega arith)) (All-nil (IsWithout 10)))))
-
-axis_prints : (axis : Coordinate) → IsCoordinate axis → AxisFits axis → Prints (one_line (plain_rule IsAxis)) axis (ended (grid_line axis))
-axis_prints axis is fits = prints_plain IsAxis axis (grid_line axis) (axis_without axis is fits) (record { spelled = refl; allowed = is; fits = fits })
 
 -- items that are lines
 pub each_ended : {X : Type 0} (f : X → List ℕ) (xs : List X) → text_of_lines (map f xs) ≡ flat_map (λ x. ended (f x)) xs
@@ -134,50 +92,6 @@ each_ended f (x ∷ xs) = ap (λ t. ended (f x) ++ t) (each_ended f xs)
 
 pub limit_small : (unknowns : ℕ) → row_limit unknowns ≤ 60
 limit_small unknowns = grind arith
-
-rows_print : (v : Plant) → IsPlantOf v → All RowFits v.rows → Prints (row_list Three (sizes_of v)) v.rows (text_of_lines (row_lines v.rows))
-rows_print v is fits =
-    prints_both (one_line (plain_rule (IsRowCount (codes "rows") v.horizon 0 (greatest_rows Three (v.p * v.horizon))))) (λ count. so_many count (plain_rule (IsRow (sizes_of v)))) (length v.rows) v.rows
-    (ended (count_line (codes "rows") (length v.rows))) (text_of_lines (map row_line v.rows))
-    (prints_plain (IsRowCount (codes "rows") v.horizon 0 (greatest_rows Three (v.p * v.horizon))) (length v.rows) (count_line (codes "rows") (length v.rows)) (count_line_without (codes "rows") (length v.rows) refl (rows_small v is))
-    (record { spelled = refl; few = let few = is.rows_few in omega arith }))
-    (prints_as (so_many (length v.rows) (plain_rule (IsRow (sizes_of v)))) v.rows (flat_map (λ row. ended (row_line row)) v.rows) (text_of_lines (map row_line v.rows)) (each_ended row_line v.rows)
-    (prints_so_many (plain_rule (IsRow (sizes_of v))) (length v.rows) (λ row. ended (row_line row)) v.rows refl
-    (all_both (FitsRow v.n v.p) RowFits (λ row. Prints (one_line (plain_rule (IsRow (sizes_of v)))) row (ended (row_line row))) (row_prints (sizes_of v)) v.rows is.rows_fit fits)))
-  where
-    rows_small : (v : Plant) → IsPlantOf v → length v.rows < 2 ^ 64
-    rows_small v is = small (length v.rows) v.horizon (length v.terminal) (row_limit (v.p * v.horizon)) is.steps is.rows_few (limit_small (v.p * v.horizon))
-      where
-        small : (rows steps others most : ℕ) → IsFromTo 1 6 steps → steps * rows + others ≤ most → most ≤ 60 → rows < 2 ^ 64
-        small rows steps others most from few limit = let low = from.from_low in let more = one_each rows steps low in omega arith
-          where
-            one_each : (rows steps : ℕ) → 1 ≤ steps → rows ≤ steps * rows
-            one_each rows steps low = grind arith
-
-terminal_prints : (v : Plant) → IsPlantOf v → All LastFits v.terminal → Prints (last_list Three (sizes_of v) v.rows) v.terminal (text_of_lines (last_lines v.terminal))
-terminal_prints v is fits =
-    prints_both (one_line (plain_rule (IsRowCount (codes "terminal") 1 (v.horizon * length v.rows) (greatest_rows Three (v.p * v.horizon))))) (λ count. so_many count (plain_rule (IsLast (sizes_of v)))) (length v.terminal) v.terminal
-    (ended (count_line (codes "terminal") (length v.terminal))) (text_of_lines (map last_line v.terminal))
-    (prints_plain (IsRowCount (codes "terminal") 1 (v.horizon * length v.rows) (greatest_rows Three (v.p * v.horizon))) (length v.terminal) (count_line (codes "terminal") (length v.terminal))
-    (count_line_without (codes "terminal") (length v.terminal) refl (let few = is.rows_few in let limit = limit_small (v.p * v.horizon) in omega arith))
-    (record { spelled = refl; few = let few = is.rows_few in omega arith }))
-    (prints_as (so_many (length v.terminal) (plain_rule (IsLast (sizes_of v)))) v.terminal (flat_map (λ row. ended (last_line row)) v.terminal) (text_of_lines (map last_line v.terminal)) (each_ended last_line v.terminal)
-    (prints_so_many (plain_rule (IsLast (sizes_of v))) (length v.terminal) (λ row. ended (last_line row)) v.terminal refl
-    (all_both (FitsRow v.n 0) LastFits (λ row. Prints (one_line (plain_rule (IsLast (sizes_of v)))) row (ended (last_line row))) (last_prints (sizes_of v)) v.terminal is.terminal_fits fits)))
-
-grid_prints : (v : Plant) → IsPlantOf v → All AxisFits v.grid → Prints (grid (sizes_of v)) v.grid (text_of_lines (map grid_line v.grid))
-grid_prints v is fits =
-    prints_as (grid (sizes_of v)) v.grid (flat_map (λ axis. ended (grid_line axis)) v.grid) (text_of_lines (map grid_line v.grid)) (each_ended grid_line v.grid)
-    (prints_so_many (plain_rule IsAxis) v.n (λ axis. ended (grid_line axis)) v.grid (sym is.grid_size)
-    (all_both IsCoordinate AxisFits (λ axis. Prints (one_line (plain_rule IsAxis)) axis (ended (grid_line axis))) axis_prints v.grid is.grid_ok fits))
-
-limits_print : (v : Plant) → IsPlantOf v → PlantFits v → Prints (limits Three (sizes_of v)) (limits_in v) (text_of_lines (row_lines v.rows) ++ (text_of_lines (last_lines v.terminal) ++ text_of_lines (map grid_line v.grid)))
-limits_print v is fits =
-    prints_both (row_list Three (sizes_of v)) (λ rows. last_list Three (sizes_of v) rows >>= λ terminal. grid (sizes_of v) >>= λ axes. give (record { rows = rows; terminal = terminal; axes = axes })) v.rows (limits_in v)
-    (text_of_lines (row_lines v.rows)) (text_of_lines (last_lines v.terminal) ++ text_of_lines (map grid_line v.grid)) (rows_print v is fits.rows)
-    (prints_both (last_list Three (sizes_of v) v.rows) (λ terminal. grid (sizes_of v) >>= λ axes. give (record { rows = v.rows; terminal = terminal; axes = axes })) v.terminal (limits_in v)
-    (text_of_lines (last_lines v.terminal)) (text_of_lines (map grid_line v.grid)) (terminal_prints v is fits.terminal)
-    (prints_end (grid (sizes_of v)) (λ axes. give (record { rows = v.rows; terminal = v.terminal; axes = axes })) v.grid (limits_in v) (text_of_lines (map grid_line v.grid)) (grid_prints v is fits.grid) (prints_give (limits_in v))))
 
 -- ---- the plant
 regroup : (s a b q r p d g rest : List ℕ) → s ++ (a ++ (b ++ (q ++ (r ++ (p ++ (d ++ (g ++ rest))))))) ≡ s ++ ((a ++ b) ++ ((q ++ (r ++ p)) ++ ((d ++ g) ++ rest)))
@@ -195,18 +109,136 @@ lines_joined v =
     ∙ regroup (ended (size_line v)) (ended (matrix_line (codes "A") v.a)) (ended (matrix_line (codes "B") v.b)) (ended (matrix_line (codes "Q") v.q)) (ended (matrix_line (codes "R") v.r)) (ended (matrix_line (codes "P") v.last)) (ended (drift_line v)) (ended (goal_line v))
     (text_of_lines (row_lines v.rows) ++ (text_of_lines (last_lines v.terminal) ++ text_of_lines (map grid_line v.grid)))
 
+-- the lines of the plant
+abbrev pub plant_text : Version → Plant → List ℕ
+plant_text version v =
+    ended (size_line v) ++ ((ended (matrix_line (codes "A") v.a) ++ ended (matrix_line (codes "B") v.b)) ++ ((ended (matrix_line (codes "Q") v.q) ++ (ended (matrix_line (codes "R") v.r) ++ ended (matrix_line (codes "P") v.last)))
+    ++ (offset_text version v ++ (text_of_lines (row_lines v.rows) ++ (text_of_lines (last_lines v.terminal) ++ text_of_lines (map grid_line v.grid))))))
+
 plant_with : (v : Plant) → IsPlantWith (sizes_of v) (dynamics_of v) (weights_of v) (offsets_of v) (limits_in v) v
 plant_with v = record { n = refl; p = refl; horizon = refl; a = refl; b = refl; q = refl; r = refl; last = refl; drift = refl; xgoal = refl; ugoal = refl; rows = refl; terminal = refl; grid = refl }
 
-pub plant_prints : (v : Plant) → IsPlantOf v → PlantFits v → Prints (plant Three) v (text_of_lines (plant_lines v))
-plant_prints v is fits =
-    prints_as (plant Three) v
-    (ended (size_line v) ++ ((ended (matrix_line (codes "A") v.a) ++ ended (matrix_line (codes "B") v.b)) ++ ((ended (matrix_line (codes "Q") v.q) ++ (ended (matrix_line (codes "R") v.r) ++ ended (matrix_line (codes "P") v.last)))
-    ++ ((ended (drift_line v) ++ ended (goal_line v)) ++ (text_of_lines (row_lines v.rows) ++ (text_of_lines (last_lines v.terminal) ++ text_of_lines (map grid_line v.grid)))))))
-    (text_of_lines (plant_lines v)) (lines_joined v)
-    (prints_both sizes (λ s. dynamics s >>= λ d. weights s >>= λ w. offsets Three s >>= λ o. limits Three s >>= λ l. that_which (IsPlantWith s d w o l)) (sizes_of v) v (ended (size_line v)) _ (size_prints v is)
-    (prints_both (dynamics (sizes_of v)) (λ d. weights (sizes_of v) >>= λ w. offsets Three (sizes_of v) >>= λ o. limits Three (sizes_of v) >>= λ l. that_which (IsPlantWith (sizes_of v) d w o l)) (dynamics_of v) v _ _ (dynamics_prints v is fits.matrices)
-    (prints_both (weights (sizes_of v)) (λ w. offsets Three (sizes_of v) >>= λ o. limits Three (sizes_of v) >>= λ l. that_which (IsPlantWith (sizes_of v) (dynamics_of v) w o l)) (weights_of v) v _ _ (weights_prints v is fits.matrices)
-    (prints_both (offsets Three (sizes_of v)) (λ o. limits Three (sizes_of v) >>= λ l. that_which (IsPlantWith (sizes_of v) (dynamics_of v) (weights_of v) o l)) (offsets_of v) v _ _ (offsets_print v is fits.drift fits.goal)
-    (prints_end (limits Three (sizes_of v)) (λ l. that_which (IsPlantWith (sizes_of v) (dynamics_of v) (weights_of v) (offsets_of v) l)) (limits_in v) v _ (limits_print v is fits)
-    (prints_that (IsPlantWith (sizes_of v) (dynamics_of v) (weights_of v) (offsets_of v) (limits_in v)) v (plant_with v)))))))
+module _ (words : WordLaws) where
+  size_without : (v : Plant) → IsPlantOf v → IsWithout 10 (size_line v)
+  size_without v is =
+      line_without (codes "size") (decimal v.n ∷ decimal v.p ∷ decimal v.horizon ∷ []) refl
+      (All-cons (IsWithout 10) (decimal v.n) (decimal v.p ∷ decimal v.horizon ∷ []) (count_without words v.n (below_64 1 4 v.n is.states (omega arith)))
+      (All-cons (IsWithout 10) (decimal v.p) (decimal v.horizon ∷ []) (count_without words v.p (below_64 1 3 v.p is.inputs (omega arith)))
+      (All-cons (IsWithout 10) (decimal v.horizon) [] (count_without words v.horizon (below_64 1 6 v.horizon is.steps (omega arith))) (All-nil (IsWithout 10)))))
+
+  size_prints : (v : Plant) → IsPlantOf v → Prints sizes (sizes_of v) (ended (size_line v))
+  size_prints v is = prints_plain AreSizes (sizes_of v) (size_line v) (size_without v is) (record { spelled = refl; states = is.states; inputs = is.inputs; steps = is.steps; moves_few = is.moves_few })
+
+  dynamics_prints : (v : Plant) → IsPlantOf v → MatricesFit v → Prints (dynamics (sizes_of v)) (dynamics_of v) (ended (matrix_line (codes "A") v.a) ++ ended (matrix_line (codes "B") v.b))
+  dynamics_prints v is fits =
+      prints_both (matrix (codes "A") v.n v.n) (λ a. matrix (codes "B") v.n v.p >>= λ b. give (record { a = a; b = b })) v.a (dynamics_of v) (ended (matrix_line (codes "A") v.a)) (ended (matrix_line (codes "B") v.b))
+      (matrix_prints (codes "A") v.n v.n v.a (matrix_line_without words (codes "A") v.a refl fits.a) is.a_shape fits.a)
+      (prints_end (matrix (codes "B") v.n v.p) (λ b. give (record { a = v.a; b = b })) v.b (dynamics_of v) (ended (matrix_line (codes "B") v.b))
+      (matrix_prints (codes "B") v.n v.p v.b (matrix_line_without words (codes "B") v.b refl fits.b) is.b_shape fits.b)
+      (prints_give (dynamics_of v)))
+
+  weights_prints : (v : Plant) → IsPlantOf v → MatricesFit v → Prints (weights (sizes_of v)) (weights_of v) (ended (matrix_line (codes "Q") v.q) ++ (ended (matrix_line (codes "R") v.r) ++ ended (matrix_line (codes "P") v.last)))
+  weights_prints v is fits =
+      prints_both (weight (codes "Q") v.n) (λ q. weight (codes "R") v.p >>= λ r. weight (codes "P") v.n >>= λ last. give (record { q = q; r = r; last = last })) v.q (weights_of v)
+      (ended (matrix_line (codes "Q") v.q)) (ended (matrix_line (codes "R") v.r) ++ ended (matrix_line (codes "P") v.last))
+      (weight_prints (codes "Q") v.n v.q (matrix_line_without words (codes "Q") v.q refl fits.q) is.q_weight fits.q)
+      (prints_both (weight (codes "R") v.p) (λ r. weight (codes "P") v.n >>= λ last. give (record { q = v.q; r = r; last = last })) v.r (weights_of v)
+      (ended (matrix_line (codes "R") v.r)) (ended (matrix_line (codes "P") v.last))
+      (weight_prints (codes "R") v.p v.r (matrix_line_without words (codes "R") v.r refl fits.r) is.r_weight fits.r)
+      (prints_end (weight (codes "P") v.n) (λ last. give (record { q = v.q; r = v.r; last = last })) v.last (weights_of v) (ended (matrix_line (codes "P") v.last))
+      (weight_prints (codes "P") v.n v.last (matrix_line_without words (codes "P") v.last refl fits.last) is.last_weight fits.last)
+      (prints_give (weights_of v))))
+
+  -- ---- drift and targets
+  drift_prints : (v : Plant) → IsPlantOf v → AllFit v.drift → Prints (one_line (plain_rule (IsDrift v.n))) v.drift (ended (drift_line v))
+  drift_prints v is fits = prints_plain (IsDrift v.n) v.drift (drift_line v) (fractions_line_without words (codes "drift") v.drift refl fits) (record { spelled = refl; size = is.drift_size; fits = fits })
+
+  goal_prints : (version : Version) (v : Plant) → IsPlantOf v → GoalFits v → MayHave version (offsets_of v) → Prints (one_line (plain_rule (AreTargetsOf version (sizes_of v) v.drift))) (targets_of v) (ended (goal_line v))
+  goal_prints version v is fits allowed =
+      prints_plain (AreTargetsOf version (sizes_of v) v.drift) (targets_of v) (goal_line v) (fractions_line_without words (codes "goal") (v.xgoal ++ v.ugoal) refl (All-append FitsFrac v.xgoal v.ugoal fits.xgoal fits.ugoal))
+      (record { targets_are = record { spelled = refl; states = is.xgoal_size; inputs = is.ugoal_size; fits_states = fits.xgoal; fits_inputs = fits.ugoal }; allowed = allowed })
+
+  offset_lines_print : (version : Version) (v : Plant) → IsPlantOf v → AllFit v.drift → GoalFits v → MayHave version (offsets_of v) → Prints (offset_lines version (sizes_of v)) (offsets_of v) (ended (drift_line v) ++ ended (goal_line v))
+  offset_lines_print version v is drift goal allowed =
+      prints_both (one_line (plain_rule (IsDrift v.n))) (λ d. one_line (plain_rule (AreTargetsOf version (sizes_of v) d)) >>= λ targets. give (offsets_with d targets)) v.drift (offsets_of v)
+      (ended (drift_line v)) (ended (goal_line v)) (drift_prints v is drift)
+      (prints_end (one_line (plain_rule (AreTargetsOf version (sizes_of v) v.drift))) (λ targets. give (offsets_with v.drift targets)) (targets_of v) (offsets_of v) (ended (goal_line v)) (goal_prints version v is goal allowed) (prints_give (offsets_of v)))
+
+  offsets_print : (version : Version) (v : Plant) → IsPlantOf v → AllFit v.drift → GoalFits v → MayHave version (offsets_of v) → Prints (offsets version (sizes_of v)) (offsets_of v) (offset_text version v)
+  offsets_print One v is drift goal none = subst (λ o. Prints (give (no_offsets (sizes_of v))) o []) (sym (zero_offsets v is none)) (prints_give (no_offsets (sizes_of v)))
+  offsets_print Two v is drift goal allowed = offset_lines_print Two v is drift goal allowed
+  offsets_print Three v is drift goal allowed = offset_lines_print Three v is drift goal allowed
+
+  row_prints : (s : Sizes) (row : PlantRow) → FitsRow s.states s.inputs row → RowFits row → Prints (one_line (plain_rule (IsRow s))) row (ended (row_line row))
+  row_prints s row sizes fits = prints_plain (IsRow s) row (row_line row) (fractions_line_without words (codes "row") (row.x ++ row.u ++ row.max ∷ []) refl fits) (record { spelled = refl; sizes = sizes; fits = fits })
+
+  last_prints : (s : Sizes) (row : PlantRow) → FitsRow s.states 0 row → LastFits row → Prints (one_line (plain_rule (IsLast s))) row (ended (last_line row))
+  last_prints s row sizes fits = prints_plain (IsLast s) row (last_line row) (fractions_line_without words (codes "last") (row.x ++ row.max ∷ []) refl fits) (record { spelled = refl; sizes = sizes; fits = fits })
+
+  axis_without : (axis : Coordinate) → IsCoordinate axis → AxisFits axis → IsWithout 10 (grid_line axis)
+  axis_without axis is fits =
+      line_without (codes "grid") (fraction_text axis.low ∷ fraction_text axis.step ∷ decimal axis.count ∷ []) refl
+      (All-cons (IsWithout 10) (fraction_text axis.low) (fraction_text axis.step ∷ decimal axis.count ∷ []) (fraction_without words axis.low (All-head FitsFrac axis.low (axis.step ∷ []) fits))
+      (All-cons (IsWithout 10) (fraction_text axis.step) (decimal axis.count ∷ []) (fraction_without words axis.step (All-head FitsFrac axis.step [] (All-tail FitsFrac axis.low (axis.step ∷ []) fits)))
+      (All-cons (IsWithout 10) (decimal axis.count) [] (count_without words axis.count (let small = is.count_small in omega arith)) (All-nil (IsWithout 10)))))
+
+  axis_prints : (axis : Coordinate) → IsCoordinate axis → AxisFits axis → Prints (one_line (plain_rule IsAxis)) axis (ended (grid_line axis))
+  axis_prints axis is fits = prints_plain IsAxis axis (grid_line axis) (axis_without axis is fits) (record { spelled = refl; allowed = is; fits = fits })
+
+  rows_print : (version : Version) (v : Plant) → IsPlantOf v → row_count v ≤ greatest_rows version (unknowns v) → All RowFits v.rows → Prints (row_list version (sizes_of v)) v.rows (text_of_lines (row_lines v.rows))
+  rows_print version v is few fits =
+      prints_both (one_line (plain_rule (IsRowCount (codes "rows") v.horizon 0 (greatest_rows version (v.p * v.horizon))))) (λ count. so_many count (plain_rule (IsRow (sizes_of v)))) (length v.rows) v.rows
+      (ended (count_line (codes "rows") (length v.rows))) (text_of_lines (map row_line v.rows))
+      (prints_plain (IsRowCount (codes "rows") v.horizon 0 (greatest_rows version (v.p * v.horizon))) (length v.rows) (count_line (codes "rows") (length v.rows)) (count_line_without words (codes "rows") (length v.rows) refl (rows_small v is))
+      (record { spelled = refl; few = omega arith }))
+      (prints_as (so_many (length v.rows) (plain_rule (IsRow (sizes_of v)))) v.rows (flat_map (λ row. ended (row_line row)) v.rows) (text_of_lines (map row_line v.rows)) (each_ended row_line v.rows)
+      (prints_so_many (plain_rule (IsRow (sizes_of v))) (length v.rows) (λ row. ended (row_line row)) v.rows refl
+      (all_both (FitsRow v.n v.p) RowFits (λ row. Prints (one_line (plain_rule (IsRow (sizes_of v)))) row (ended (row_line row))) (row_prints (sizes_of v)) v.rows is.rows_fit fits)))
+    where
+      rows_small : (v : Plant) → IsPlantOf v → length v.rows < 2 ^ 64
+      rows_small v is = small (length v.rows) v.horizon (length v.terminal) (row_limit (v.p * v.horizon)) is.steps is.rows_few (limit_small (v.p * v.horizon))
+        where
+          small : (rows steps others most : ℕ) → IsFromTo 1 6 steps → steps * rows + others ≤ most → most ≤ 60 → rows < 2 ^ 64
+          small rows steps others most from few limit = let low = from.from_low in let more = one_each rows steps low in omega arith
+            where
+              one_each : (rows steps : ℕ) → 1 ≤ steps → rows ≤ steps * rows
+              one_each rows steps low = grind arith
+
+  terminal_prints : (version : Version) (v : Plant) → IsPlantOf v → row_count v ≤ greatest_rows version (unknowns v) → All LastFits v.terminal → Prints (last_list version (sizes_of v) v.rows) v.terminal (text_of_lines (last_lines v.terminal))
+  terminal_prints version v is few fits =
+      prints_both (one_line (plain_rule (IsRowCount (codes "terminal") 1 (v.horizon * length v.rows) (greatest_rows version (v.p * v.horizon))))) (λ count. so_many count (plain_rule (IsLast (sizes_of v)))) (length v.terminal) v.terminal
+      (ended (count_line (codes "terminal") (length v.terminal))) (text_of_lines (map last_line v.terminal))
+      (prints_plain (IsRowCount (codes "terminal") 1 (v.horizon * length v.rows) (greatest_rows version (v.p * v.horizon))) (length v.terminal) (count_line (codes "terminal") (length v.terminal))
+      (count_line_without words (codes "terminal") (length v.terminal) refl (let most = is.rows_few in let limit = limit_small (v.p * v.horizon) in omega arith))
+      (record { spelled = refl; few = omega arith }))
+      (prints_as (so_many (length v.terminal) (plain_rule (IsLast (sizes_of v)))) v.terminal (flat_map (λ row. ended (last_line row)) v.terminal) (text_of_lines (map last_line v.terminal)) (each_ended last_line v.terminal)
+      (prints_so_many (plain_rule (IsLast (sizes_of v))) (length v.terminal) (λ row. ended (last_line row)) v.terminal refl
+      (all_both (FitsRow v.n 0) LastFits (λ row. Prints (one_line (plain_rule (IsLast (sizes_of v)))) row (ended (last_line row))) (last_prints (sizes_of v)) v.terminal is.terminal_fits fits)))
+
+  grid_prints : (v : Plant) → IsPlantOf v → All AxisFits v.grid → Prints (grid (sizes_of v)) v.grid (text_of_lines (map grid_line v.grid))
+  grid_prints v is fits =
+      prints_as (grid (sizes_of v)) v.grid (flat_map (λ axis. ended (grid_line axis)) v.grid) (text_of_lines (map grid_line v.grid)) (each_ended grid_line v.grid)
+      (prints_so_many (plain_rule IsAxis) v.n (λ axis. ended (grid_line axis)) v.grid (sym is.grid_size)
+      (all_both IsCoordinate AxisFits (λ axis. Prints (one_line (plain_rule IsAxis)) axis (ended (grid_line axis))) axis_prints v.grid is.grid_ok fits))
+
+  limits_print : (version : Version) (v : Plant) → IsPlantOf v → CanStatePlant version v → Prints (limits version (sizes_of v)) (limits_in v) (text_of_lines (row_lines v.rows) ++ (text_of_lines (last_lines v.terminal) ++ text_of_lines (map grid_line v.grid)))
+  limits_print version v is can =
+      prints_both (row_list version (sizes_of v)) (λ rows. last_list version (sizes_of v) rows >>= λ terminal. grid (sizes_of v) >>= λ axes. give (record { rows = rows; terminal = terminal; axes = axes })) v.rows (limits_in v)
+      (text_of_lines (row_lines v.rows)) (text_of_lines (last_lines v.terminal) ++ text_of_lines (map grid_line v.grid)) (rows_print version v is can.rows_few can.fits.rows)
+      (prints_both (last_list version (sizes_of v) v.rows) (λ terminal. grid (sizes_of v) >>= λ axes. give (record { rows = v.rows; terminal = terminal; axes = axes })) v.terminal (limits_in v)
+      (text_of_lines (last_lines v.terminal)) (text_of_lines (map grid_line v.grid)) (terminal_prints version v is can.rows_few can.fits.terminal)
+      (prints_end (grid (sizes_of v)) (λ axes. give (record { rows = v.rows; terminal = v.terminal; axes = axes })) v.grid (limits_in v) (text_of_lines (map grid_line v.grid)) (grid_prints v is can.fits.grid) (prints_give (limits_in v))))
+
+  pub plant_prints : (version : Version) (v : Plant) → CanStatePlant version v → Prints (plant version) v (plant_text version v)
+  plant_prints version v can =
+      let is : IsPlantOf v = v.is_plant in
+      prints_both sizes (λ s. dynamics s >>= λ d. weights s >>= λ w. offsets version s >>= λ o. limits version s >>= λ l. that_which (IsPlantWith s d w o l)) (sizes_of v) v (ended (size_line v)) _ (size_prints v is)
+      (prints_both (dynamics (sizes_of v)) (λ d. weights (sizes_of v) >>= λ w. offsets version (sizes_of v) >>= λ o. limits version (sizes_of v) >>= λ l. that_which (IsPlantWith (sizes_of v) d w o l)) (dynamics_of v) v _ _ (dynamics_prints v is can.fits.matrices)
+      (prints_both (weights (sizes_of v)) (λ w. offsets version (sizes_of v) >>= λ o. limits version (sizes_of v) >>= λ l. that_which (IsPlantWith (sizes_of v) (dynamics_of v) w o l)) (weights_of v) v _ _ (weights_prints v is can.fits.matrices)
+      (prints_both (offsets version (sizes_of v)) (λ o. limits version (sizes_of v) >>= λ l. that_which (IsPlantWith (sizes_of v) (dynamics_of v) (weights_of v) o l)) (offsets_of v) v _ _ (offsets_print version v is can.fits.drift can.fits.goal can.offsets)
+      (prints_end (limits version (sizes_of v)) (λ l. that_which (IsPlantWith (sizes_of v) (dynamics_of v) (weights_of v) (offsets_of v) l)) (limits_in v) v _ (limits_print version v is can)
+      (prints_that (IsPlantWith (sizes_of v) (dynamics_of v) (weights_of v) (offsets_of v) (limits_in v)) v (plant_with v))))))
+
+  -- in version 3 they are the lines that are written
+  pub lines_print : (v : Plant) → PlantFits v → Prints (plant Three) v (text_of_lines (plant_lines v))
+  lines_print v fits = prints_as (plant Three) v (plant_text Three v) (text_of_lines (plant_lines v)) (lines_joined v) (plant_prints Three v (record { fits = fits; rows_few = v.is_plant.rows_few; offsets = tt }))

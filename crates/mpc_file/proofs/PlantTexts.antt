@@ -3,17 +3,14 @@ use Rattle.std.proofs.Common.{◌≡◌, ◌≢◌, ℕ, ◌+◌, ◌*◌, ◌<�
 use Rattle.std.proofs.lemmas.List.{take-append-drop, length-append, length-take-le, length-drop}
 use Rattle.std.proofs.lemmas.List.Elements.{All-nil, All-cons, All-append, All-take, All-drop}
 use Rattle.mpc_exact.specs.Rational.{ℚ}
-use Rattle.std.specs.Fmt.{signed_decimal}
 use Rattle.mpc_frac.specs.Fits.{FitsFrac}
-use Rattle.mpc_frac.specs.Text.{text_of}
 use Rattle.mpc_space.specs.Vector.{IsSymmetric}
 use Rattle.mpc_space.specs.Matrix.{RationalMatrix}
 use Rattle.mpc_linear.specs.Grid.{grid}
-use Rattle.mpc_words.proofs.LineLemmas.{words_of_line}
-use Rattle.mpc_words.proofs.IntegerLemmas.{one_integer, signed_word}
-use Rattle.mpc_words.proofs.FractionLemmas.{one_fraction, fraction_word}
+use Rattle.mpc_linear.specs.GridLaws.{GridLaws}
 use Rattle.mpc_file.specs.Lines.{fractions_line, integers_line}
 use Rattle.mpc_file.specs.Spelling.{AreFractions, AreIntegers}
+use Rattle.mpc_file.specs.LineLaws.{OneFractions, OneIntegers}
 use Rattle.mpc_file.specs.PlantGrammar.{AllFit, AreSizes, IsMatrix, IsWeightLine, IsDrift, AreTargets, AreTargetsOf, MayHave, offsets_with, offset_lines, offsets, weight, weights}
 use Rattle.mpc_file.specs.PlantNumbers.{AreSizeNumbers}
 use Rattle.mpc_file.specs.Reading.{Cursor, Outcome}
@@ -26,16 +23,14 @@ use Rattle.mpc_file.specs.declared.plant_parts.Offsets.{Offsets}
 use Rattle.mpc_file.specs.declared.plant_parts.Weights.{Weights}
 use Rattle.mpc_file.proofs.OutcomeLemmas.{error_from}
 use Rattle.mpc_file.proofs.LineNumbers.{same_front, same_back, all_in_rows}
-use Rattle.mpc_file.proofs.SpellingLemmas.{IsSmall, small_word, one_list_of}
 use Rattle.mpc_file.proofs.PlantLineLemmas.{joined, joined-grid, grid-fits, grid-shape, entries_many, grid-joined}
 
 -- ---- a line states its numbers alone
-pub same_fractions : (name text : List ℕ) (xs ys : List ℚ) → AreFractions name text xs → AreFractions name text ys → xs ≡ ys
-same_fractions name text xs ys a b = one_list_of text_of FitsFrac fraction_word words_of_line one_fraction name xs ys a.fits b.fits (sym a.spelled ∙ b.spelled)
+same_fractions : OneFractions → (name text : List ℕ) (xs ys : List ℚ) → AreFractions name text xs → AreFractions name text ys → xs ≡ ys
+same_fractions one name text xs ys a b = one name xs ys a.fits b.fits (sym a.spelled ∙ b.spelled)
 
-pub same_integers : (name text : List ℕ) (xs ys : List ℤ) → AreIntegers name text xs → AreIntegers name text ys → xs ≡ ys
-same_integers name text xs ys a b =
-    one_list_of signed_decimal IsSmall (small_word signed_word) words_of_line (λ y z small_y small_z. one_integer y z (omega arith) (omega arith)) name xs ys a.small b.small (sym a.spelled ∙ b.spelled)
+same_integers : OneIntegers → (name text : List ℕ) (xs ys : List ℤ) → AreIntegers name text xs → AreIntegers name text ys → xs ≡ ys
+same_integers one name text xs ys a b = one name xs ys a.small b.small (sym a.spelled ∙ b.spelled)
 
 -- ---- the sizes
 module _ (text : List ℕ) where
@@ -53,7 +48,7 @@ module _ (text : List ℕ) where
   pub no_sizes : ((zs : List ℤ) → ¬ AreIntegers (codes "size") text zs) → (s : Sizes) → ¬ AreSizes text s
   no_sizes none s h = none (pos s.states ∷ pos s.inputs ∷ pos s.steps ∷ []) (sizes_numbers s h)
 
-  module _ (zs : List ℤ) (numbers : AreIntegers (codes "size") text zs) where
+  module _ (one : OneIntegers) (zs : List ℤ) (numbers : AreIntegers (codes "size") text zs) where
     sizes_are : (s : Sizes) → AreSizeNumbers zs s → AreSizes text s
     sizes_are s h = record {
       spelled = numbers.spelled ∙ ap (λ ys. integers_line (codes "size") ys) h.numbers;
@@ -65,7 +60,7 @@ module _ (text : List ℕ) where
 
     size_numbers : (s : Sizes) → AreSizes text s → AreSizeNumbers zs s
     size_numbers s h = record {
-      numbers = same_integers (codes "size") text zs (pos s.states ∷ pos s.inputs ∷ pos s.steps ∷ []) numbers (sizes_numbers s h);
+      numbers = same_integers one (codes "size") text zs (pos s.states ∷ pos s.inputs ∷ pos s.steps ∷ []) numbers (sizes_numbers s h);
       states = h.states;
       inputs = h.inputs;
       steps = h.steps;
@@ -84,19 +79,19 @@ module _ (name text : List ℕ) (rows columns : ℕ) where
   pub no_matrix : ((xs : List ℚ) → ¬ AreFractions name text xs) → (m : RationalMatrix) → ¬ IsMatrix name rows columns text m
   no_matrix none m h = none (joined m.rows) (matrix_numbers m h)
 
-  pub matrix_is : (xs : List ℚ) (m : RationalMatrix) → AreFractions name text xs → length xs ≡ rows * columns → m ≡ grid rows columns xs → IsMatrix name rows columns text m
-  matrix_is xs m h size e = subst (IsMatrix name rows columns text) (sym e) (record {
+  pub matrix_is : GridLaws → (xs : List ℚ) (m : RationalMatrix) → AreFractions name text xs → length xs ≡ rows * columns → m ≡ grid rows columns xs → IsMatrix name rows columns text m
+  matrix_is grids xs m h size e = subst (IsMatrix name rows columns text) (sym e) (record {
     spelled = h.spelled ∙ ap (λ ys. fractions_line name ys) (sym (joined-grid rows columns xs size));
-    shape = grid-shape rows columns xs size;
+    shape = grid-shape grids rows columns xs size;
     fits = grid-fits rows columns xs h.fits;
   })
 
-  pub wrong_size : (xs : List ℚ) → AreFractions name text xs → length xs ≢ rows * columns → (m : RationalMatrix) → ¬ IsMatrix name rows columns text m
-  wrong_size xs h ne m is = ne (ap length (same_fractions name text xs (joined m.rows) h (matrix_numbers m is)) ∙ entries_many m rows columns is.shape)
+  pub wrong_size : OneFractions → (xs : List ℚ) → AreFractions name text xs → length xs ≢ rows * columns → (m : RationalMatrix) → ¬ IsMatrix name rows columns text m
+  wrong_size one xs h ne m is = ne (ap length (same_fractions one name text xs (joined m.rows) h (matrix_numbers m is)) ∙ entries_many m rows columns is.shape)
 
-  pub one_matrix : (m other : RationalMatrix) → IsMatrix name rows columns text m → IsMatrix name rows columns text other → m ≡ other
-  one_matrix m other h k =
-      sym (grid-joined m rows columns h.shape) ∙ ap (grid rows columns) (same_fractions name text (joined m.rows) (joined other.rows) (matrix_numbers m h) (matrix_numbers other k)) ∙ grid-joined other rows columns k.shape
+  pub one_matrix : OneFractions → (m other : RationalMatrix) → IsMatrix name rows columns text m → IsMatrix name rows columns text other → m ≡ other
+  one_matrix one m other h k =
+      sym (grid-joined m rows columns h.shape) ∙ ap (grid rows columns) (same_fractions one name text (joined m.rows) (joined other.rows) (matrix_numbers m h) (matrix_numbers other k)) ∙ grid-joined other rows columns k.shape
 
 -- a weight is a square matrix that is symmetric
 plain_matrix : (name text : List ℕ) (size : ℕ) (m : RationalMatrix) → IsWeightLine name size text m → IsMatrix name size size text m
@@ -106,17 +101,17 @@ module _ (name text : List ℕ) (size : ℕ) where
   pub no_weight : ((m : RationalMatrix) → ¬ IsMatrix name size size text m) → (m : RationalMatrix) → ¬ IsWeightLine name size text m
   no_weight none m h = none m (plain_matrix name text size m h)
 
-  pub not_symmetric : (m : RationalMatrix) → IsMatrix name size size text m → ¬ IsSymmetric m.rows → (other : RationalMatrix) → ¬ IsWeightLine name size text other
-  not_symmetric m h differs other k =
-      differs (subst (λ (w : RationalMatrix). IsSymmetric w.rows) (one_matrix name text size size other m (plain_matrix name text size other k) h) k.weight.symmetric)
+  pub not_symmetric : OneFractions → (m : RationalMatrix) → IsMatrix name size size text m → ¬ IsSymmetric m.rows → (other : RationalMatrix) → ¬ IsWeightLine name size text other
+  not_symmetric one m h differs other k =
+      differs (subst (λ (w : RationalMatrix). IsSymmetric w.rows) (one_matrix name text size size one other m (plain_matrix name text size other k) h) k.weight.symmetric)
 
   pub weight_line : (m : RationalMatrix) → IsMatrix name size size text m → IsSymmetric m.rows → IsWeightLine name size text m
   weight_line m h s = record { spelled = h.spelled; weight = record { shape = h.shape; symmetric = s }; fits = h.fits }
 
 -- ---- the drift
-pub wrong_drift : (text : List ℕ) (states : ℕ) (xs : List ℚ) → AreFractions (codes "drift") text xs → length xs ≢ states → (drift : List ℚ) → ¬ IsDrift states text drift
-wrong_drift text states xs h ne drift is =
-    ne (ap length (same_fractions (codes "drift") text xs drift h (record { spelled = is.spelled; fits = is.fits })) ∙ is.size)
+pub wrong_drift : OneFractions → (text : List ℕ) (states : ℕ) (xs : List ℚ) → AreFractions (codes "drift") text xs → length xs ≢ states → (drift : List ℚ) → ¬ IsDrift states text drift
+wrong_drift one text states xs h ne drift is =
+    ne (ap length (same_fractions one (codes "drift") text xs drift h (record { spelled = is.spelled; fits = is.fits })) ∙ is.size)
 
 -- ---- the targets
 module _ (text : List ℕ) (s : Sizes) where
@@ -127,9 +122,9 @@ module _ (text : List ℕ) (s : Sizes) where
   no_targets none t h = none (t.xgoal ++ t.ugoal) (target_numbers t h)
 
   module _ (xs : List ℚ) (numbers : AreFractions (codes "goal") text xs) where
-    pub wrong_targets : length xs ≢ s.states + s.inputs → (t : Targets) → ¬ AreTargets s text t
-    wrong_targets ne t h =
-        ne (ap length (same_fractions (codes "goal") text xs (t.xgoal ++ t.ugoal) numbers (target_numbers t h)) ∙ length-append t.xgoal t.ugoal ∙ (λ i. h.states i + h.inputs i))
+    pub wrong_targets : OneFractions → length xs ≢ s.states + s.inputs → (t : Targets) → ¬ AreTargets s text t
+    wrong_targets one ne t h =
+        ne (ap length (same_fractions one (codes "goal") text xs (t.xgoal ++ t.ugoal) numbers (target_numbers t h)) ∙ length-append t.xgoal t.ugoal ∙ (λ i. h.states i + h.inputs i))
 
     pub targets_are : (x u : List ℚ) → length xs ≡ s.states + s.inputs → x ≡ take s.states xs → u ≡ drop s.states xs → AreTargets s text (record { xgoal = x; ugoal = u })
     targets_are x u size front back = record {
@@ -140,14 +135,14 @@ module _ (text : List ℕ) (s : Sizes) where
       fits_inputs = subst AllFit (sym back) (All-drop FitsFrac s.states xs numbers.fits);
     }
 
-  one_targets : (t other : Targets) → AreTargets s text t → AreTargets s text other → t ≡ other
-  one_targets t other h k =
-      let same : t.xgoal ++ t.ugoal ≡ other.xgoal ++ other.ugoal = same_fractions (codes "goal") text (t.xgoal ++ t.ugoal) (other.xgoal ++ other.ugoal) (target_numbers t h) (target_numbers other k) in
+  one_targets : OneFractions → (t other : Targets) → AreTargets s text t → AreTargets s text other → t ≡ other
+  one_targets one t other h k =
+      let same : t.xgoal ++ t.ugoal ≡ other.xgoal ++ other.ugoal = same_fractions one (codes "goal") text (t.xgoal ++ t.ugoal) (other.xgoal ++ other.ugoal) (target_numbers t h) (target_numbers other k) in
       let sized : length t.xgoal ≡ length other.xgoal = h.states ∙ sym k.states in
       λ i. record { xgoal = same_front t.xgoal t.ugoal other.xgoal other.ugoal sized same i; ugoal = same_back t.xgoal t.ugoal other.xgoal other.ugoal sized same i }
 
-  pub not_allowed : (version : Version) (drift : List ℚ) (t : Targets) → AreTargets s text t → ¬ MayHave version (offsets_with drift t) → (other : Targets) → ¬ AreTargetsOf version s drift text other
-  not_allowed version drift t h refused other k = refused (subst (λ w. MayHave version (offsets_with drift w)) (one_targets other t k.targets_are h) k.allowed)
+  pub not_allowed : OneFractions → (version : Version) (drift : List ℚ) (t : Targets) → AreTargets s text t → ¬ MayHave version (offsets_with drift t) → (other : Targets) → ¬ AreTargetsOf version s drift text other
+  not_allowed one version drift t h refused other k = refused (subst (λ w. MayHave version (offsets_with drift w)) (one_targets one other t k.targets_are h) k.allowed)
 
 -- ---- what was found
 pub some_fractions : (name text : List ℕ) (r : Option (List ℚ)) (xs : List ℚ) → r ≡ Some xs → MatchOption r ((ys : List ℚ) → ¬ AreFractions name text ys) (λ ys. AreFractions name text ys) → AreFractions name text xs

@@ -1,12 +1,12 @@
 -- What isn't refuted by a test holds: the bounds on a controller's numbers can be decided.
-use Rattle.std.proofs.Common.{◌≡◌, ℕ, ◌<◌, ◌≤◌, ◌^◌, List, get_or, length, arith, ℤ, pos, unsigned_abs}
+use Rattle.std.proofs.Common.{ℕ, ◌<◌, ◌^◌, List, get_or, arith, pos, unsigned_abs}
 use Rattle.std.specs.Prelude.{All}
 use Rattle.std.proofs.lemmas.List.Elements.{All-from_get_or, All-get_or}
 use Rattle.std.proofs.Math.Nat.{lt_of_not-le}
 use Rattle.mpc_exact.specs.Rational.{ℚ, int}
 use Rattle.mpc_exact.specs.Denominator.{common_denom}
 use Rattle.mpc_linear.specs.declared.integers.RowInt.{RowInt}
-use Rattle.mpc_linear.specs.Whole.{WholeFits, ScaledFit, scaled}
+use Rattle.mpc_linear.specs.Whole.{scaled}
 use Rattle.mpc_controller.specs.Bounds.{FormFits, SplitFits}
 
 below : (m n : ℕ) → ¬ (¬ (m < n)) → m < n

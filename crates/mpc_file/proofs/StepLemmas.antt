@@ -3,13 +3,12 @@ use Rattle.std.proofs.Common.{◌≡◌, ℕ, ◌+◌, ◌-◌, ◌<◌, ◌≤�
 use Rattle.std.specs.Prelude.{All, slice_index_or}
 use Rattle.std.proofs.lemmas.List.{append-nil, map-append, get_or-map, length-map}
 use Rattle.std.proofs.lemmas.List.Elements.{All-push, All-get_or}
-use Rattle.mpc_file.specs.Names.{AreNames, IsNamed, IsNumberOf}
-use Rattle.mpc_file.specs.declared.writing.names.Names.{Names}
+use Rattle.mpc_file.specs.Names.{IsNamed, IsNumberOf}
 
-pub record IsItemStep {X : Type 0} (f : X → List ℕ) (Good : X → Type 0) (d : X) (xs : List X) (x : X) (k : ℕ) (next : Names) : Type 0 where
+pub record IsItemStep {X : Type 0} (f : X → List ℕ) (Good : X → Type 0) (d : X) (xs : List X) (x : X) (k : ℕ) (next : List (List ℕ) → Type 0) : Type 0 where
   pub more : List X
   pub more_is : (more ≡ []) ⊎ (more ≡ x ∷ [])
-  pub names_are : AreNames next (map f (xs ++ more))
+  pub names_are : next (map f (xs ++ more))
   pub good : All Good (xs ++ more)
   pub from_one : 1 ≤ k
   pub most : k ≤ length (xs ++ more)
@@ -27,8 +26,8 @@ module _ {X : Type 0} (f : X → List ℕ) (Good : X → Type 0) (d : X) (one : 
       let inside : k - 1 < length xs = omega arith in
       one (slice_index_or xs (k - 1) d) x (All-get_or Good xs (k - 1) d inside good) here (sym (get_or-map f xs (k - 1) d [] inside) ∙ is.line_is)
 
-  with_more : (xs more : List X) (lines : List (List ℕ)) (x : X) (k : ℕ) (next : Names) → lines ≡ map f (xs ++ more) → (more ≡ []) ⊎ (more ≡ x ∷ []) → length more ≤ 1 → All Good (xs ++ more) → Good x
-      → AreNames next lines → IsNumberOf lines (f x) k → length lines ≡ cond (nat_lt (length (map f xs)) k) k (length (map f xs)) → k ≤ length (map f xs) + 1 → IsItemStep f Good d xs x k next
+  with_more : (xs more : List X) (lines : List (List ℕ)) (x : X) (k : ℕ) (next : List (List ℕ) → Type 0) → lines ≡ map f (xs ++ more) → (more ≡ []) ⊎ (more ≡ x ∷ []) → length more ≤ 1 → All Good (xs ++ more) → Good x
+      → next lines → IsNumberOf lines (f x) k → length lines ≡ cond (nat_lt (length (map f xs)) k) k (length (map f xs)) → k ≤ length (map f xs) + 1 → IsItemStep f Good d xs x k next
   with_more xs more lines x k next same which few good here are number used order =
       let is : IsNumberOf (map f (xs ++ more)) (f x) k = subst (λ ls. IsNumberOf ls (f x) k) same number in
       let all_size : length (map f (xs ++ more)) ≡ length (xs ++ more) = length-map (xs ++ more) f in
@@ -37,7 +36,7 @@ module _ {X : Type 0} (f : X → List ℕ) (Good : X → Type 0) (d : X) (one : 
       record {
         more = more;
         more_is = which;
-        names_are = subst (AreNames next) same are;
+        names_are = subst next same are;
         good = good;
         from_one = is.from_one;
         most = omega arith;
@@ -47,7 +46,7 @@ module _ {X : Type 0} (f : X → List ℕ) (Good : X → Type 0) (d : X) (one : 
         few = simp length-append (omega arith);
       }
 
-  pub item_step : (xs : List X) (x : X) (k : ℕ) (next : Names) → All Good xs → Good x → IsNamed (map f xs) (f x) k next → IsItemStep f Good d xs x k next
+  pub item_step : (xs : List X) (x : X) (k : ℕ) (next : List (List ℕ) → Type 0) → All Good xs → Good x → IsNamed (map f xs) (f x) k next → IsItemStep f Good d xs x k next
   item_step xs x k next good here is =
       elim (is.behind_is) [
         | inl none ↦

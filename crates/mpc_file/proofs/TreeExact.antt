@@ -1,5 +1,5 @@
 -- The lines of a search tree are read in one way: those of its nodes, of their certificates, and of its planes.
-use Rattle.std.proofs.Common.{◌≡◌, ℕ, ◌+◌, ◌-◌, ◌^◌, ◌<◌, ◌≤◌, inl, inr, Bool, nat_lt, ℤ, List, [], ◌∷◌, ◌++◌, map, fold, length, codes, decimal, refl, sym, ap, subst, ◌∙◌, arith, All, get_or}
+use Rattle.std.proofs.Common.{◌≡◌, ℕ, ◌+◌, ◌^◌, ◌<◌, ◌≤◌, inl, inr, Bool, nat_lt, ℤ, List, [], ◌∷◌, ◌++◌, map, fold, length, codes, decimal, refl, sym, ap, subst, ◌∙◌, arith, All, get_or}
 use Rattle.std.proofs.lemmas.List.Elements.{All-nil, All-cons, All-head, All-tail}
 use Rattle.mpc_exact.specs.Rational.{ℚ}
 use Rattle.mpc_frac.specs.Fits.{FitsFrac}
@@ -15,7 +15,8 @@ use Rattle.mpc_file.specs.Lines.{count_line}
 use Rattle.mpc_file.specs.PlantGrammar.{AllFit, plain_rule}
 use Rattle.mpc_file.specs.TreeGrammar.{IsRowOf, IsPlane, IsPlaneLine, IsNoPlane, IsCertLine, certs, NodeLine, split_at, leaf_of, no_move, StatesNode, splits, names_law, has_none, node_rule, NodeOver, split_node, law_node, no_move_node, node_behind, node_at, owed_behind, owed, is_owed, next_depth, nodes, written_split, written_node, IsWord, written_tree, plane_rule, IsPlaneCount, planes, planes_used, named_split, named_tree}
 use Rattle.mpc_file.proofs.Exactness.{IsExactAt, IsExactRule, CutLaws, exact_line, exact_give, exact_both, exact_many}
-use Rattle.mpc_file.proofs.LineNumbers.{WordLaws, IsShortNumber, IsShortPair, without, same_front, same_back, one_words, decimal_word, one_count, one_integers, one_cert}
+use Rattle.mpc_file.specs.LineLaws.{WordLaws}
+use Rattle.mpc_file.proofs.LineNumbers.{IsShortNumber, IsShortPair, without, same_front, same_back, one_words, decimal_word, one_count, one_integers, one_cert}
 use Rattle.mpc_file.proofs.Runs.{IsRun, reach, run_line, run_give, run_both, run_many, items_shorter, items_few}
 use Rattle.mpc_file.proofs.PlantExact.{exact_plain, exact_so_many}
 use Rattle.mpc_file.proofs.LawExact.{row_count_few, so_few, one_short_count}
@@ -81,7 +82,7 @@ run_node_behind plant depth no_move = run_both _ _ (run_line (plain_rule (IsCert
 pub run_node : {Row : Type 0} (plant : Plant) (laws : ℕ) (split : LineRule Row) (depth : ℕ) → IsRun (node_at plant laws split depth)
 run_node plant laws split depth = run_both _ _ (run_line (node_rule laws split)) (λ node. run_node_behind plant depth node)
 
-node_takes : {Row : Type 0} (plant : Plant) (laws : ℕ) (split : LineRule Row) (depth : ℕ) (here : Cursor) (x : NodeOver Row) (behind : Cursor) → (node_at plant laws split depth).Reads here x behind → here.number < behind.number
+pub node_takes : {Row : Type 0} (plant : Plant) (laws : ℕ) (split : LineRule Row) (depth : ℕ) (here : Cursor) (x : NodeOver Row) (behind : Cursor) → (node_at plant laws split depth).Reads here x behind → here.number < behind.number
 node_takes plant laws split depth here x behind (node, (between, ((text, (taken, good)), rest))) =
     omega (arith, taken.next, (run_node_behind plant depth node).onward between x behind rest)
 

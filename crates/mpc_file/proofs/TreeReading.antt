@@ -18,7 +18,7 @@ use Rattle.mpc_file.specs.declared.errors.FileKind.TheVariants.{BadNode, OverBou
 use Rattle.mpc_file.specs.declared.errors.FileError.{FileError}
 use Rattle.mpc_file.specs.declared.errors.FileError.TheVariants.{Bad, NoMemory}
 use Rattle.mpc_file.specs.declared.tree_lines.PlaneLine.{PlaneLine}
-use Rattle.mpc_file.specs.Reading.{Cursor, TakesLine, LineRule, Grammar, one_line, give, ◌>>=◌, ReadsItems, no_item, one_more, many, Outcome}
+use Rattle.mpc_file.specs.Reading.{Cursor, TakesLine, LineRule, Grammar, one_line, give, ◌>>=◌, ReadsItems, no_item, one_more, Outcome}
 use Rattle.mpc_file.specs.PlantGrammar.{plain_rule}
 use Rattle.mpc_file.specs.TreeGrammar.{IsPlane, IsCertLine, NodeLine, split_at, leaf_of, no_move, StatesNode, splits, names_law, has_none, NodeOver, split_node, law_node, no_move_node, node_behind, node_at, owed_behind, owed, is_owed, next_depth, nodes, certs, IsRowOf, IsPlaneLine, written_split, written_node}
 use Rattle.mpc_file.specs.TreeReading.{ReadsPlane, owed_under, NamesLaw, IsNoLeaf, ReadsLeafNode, FailsLeafNode, names_none, is_other, certs_fail, cert_fails, LeafOutcome, written_node_at}

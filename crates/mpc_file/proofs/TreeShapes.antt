@@ -1,14 +1,13 @@
 -- The nodes that lines state are a tree, whose leaves have their certificates.
-use Rattle.std.proofs.Common.{◌≡◌, ℕ, zero, suc, ◌+◌, ◌*◌, ◌<◌, ◌≤◌, Bool, true, false, IsTrue, List, [], ◌∷◌, ◌++◌, length, map, fold, nat_lt, refl, sym, ◌∙◌, ap, subst, arith, append_assoc}
+use Rattle.std.proofs.Common.{◌≡◌, ℕ, ◌+◌, false, IsTrue, List, [], ◌∷◌, ◌++◌, length, map, nat_lt, refl, sym, subst, append_assoc}
 use Rattle.std.specs.Prelude.{All}
-use Rattle.std.proofs.lemmas.List.{length-append, length-map, map-append, append-nil}
+use Rattle.std.proofs.lemmas.List.{map-append, append-nil}
 use Rattle.std.proofs.lemmas.List.Sums.{fold-append}
 use Rattle.std.proofs.lemmas.List.Elements.{All-map}
 use Rattle.std.proofs.lemmas.Bool.{false≢true}
 use Rattle.mpc_exact.specs.Rational.{ℚ}
 use Rattle.mpc_linear.specs.declared.integers.RowInt.{RowInt}
 use Rattle.mpc_plant.specs.declared.plants.Plant.{Plant}
-use Rattle.mpc_plant.specs.Limits.{IsFromTo}
 use Rattle.mpc_rows.specs.declared.trees.Node.{Node}
 use Rattle.mpc_rows.specs.declared.trees.Node.TheVariants.{Split, Law, NoMove}
 use Rattle.mpc_controller.specs.Parts.{limits_of, row_count, IsSplitRow, IsNodeFor}
@@ -16,9 +15,9 @@ use Rattle.mpc_controller.specs.Preorder.{Spells, IsTree}
 use Rattle.mpc_controller.specs.PreorderLaws.{SplitSpells, LeafSpells}
 use Rattle.mpc_controller.specs.Certificates.{IsCertOver, cell_rows, AreLawCerts, HaveCerts}
 use Rattle.mpc_controller.specs.Bounds.{SplitFits, NodeFits}
-use Rattle.mpc_file.specs.Reading.{Cursor, LineRule, Grammar, one_line, ReadsItems, no_item, one_more, ReadsAll}
+use Rattle.mpc_file.specs.Reading.{Cursor, LineRule, Grammar, one_line, ReadsItems, no_item, one_more}
 use Rattle.mpc_file.specs.PlantGrammar.{plain_rule}
-use Rattle.mpc_file.specs.TreeGrammar.{NodeLine, split_at, leaf_of, no_move, StatesNode, splits, names_law, has_none, NodeOver, split_node, law_node, no_move_node, node_rule, node_behind, node_at, owed_behind, owed, is_owed, next_depth, nodes, certs, IsCertLine}
+use Rattle.mpc_file.specs.TreeGrammar.{NodeLine, split_at, leaf_of, no_move, splits, names_law, has_none, NodeOver, split_node, law_node, no_move_node, node_rule, node_behind, node_at, owed_behind, owed, is_owed, next_depth, nodes, certs, IsCertLine, written_node, plane_named, named_node}
 use Rattle.mpc_file.proofs.ManyLemmas.{all_items, just_so_many}
 
 -- ---- what is owed behind one node more
@@ -49,6 +48,17 @@ abbrev pub node_of : {Row : Type 0} → (Row → RowInt) → NodeOver Row → No
 node_of row_of (split_node row) = Split (row_of row)
 node_of row_of (law_node j cs) = Law j cs
 node_of row_of (no_move_node c) = NoMove c
+
+-- those whose rows are written out, and those that name planes
+pub written_nodes : (x : NodeOver RowInt) → written_node x ≡ node_of (λ row. row) x
+written_nodes (split_node row) = refl
+written_nodes (law_node j cs) = refl
+written_nodes (no_move_node c) = refl
+
+pub named_nodes : (ps : List RowInt) (x : NodeOver ℕ) → named_node ps x ≡ node_of (plane_named ps) x
+named_nodes ps (split_node k) = refl
+named_nodes ps (law_node j cs) = refl
+named_nodes ps (no_move_node c) = refl
 
 module _ {Row : Type 0} (plant : Plant) (laws : ℕ) (row_of : Row → RowInt) where
   -- what a split's line gives

@@ -1,15 +1,14 @@
 -- How a whole file is read and fails, part by part.
-use Rattle.std.proofs.Common.{◌≡◌, ℕ, List, length, map, inl, inr, refl, sym, ◌∙◌, ap, subst, Result, Ok, Err}
+use Rattle.std.proofs.Common.{◌≡◌, ℕ, List, length, map, inl, inr, sym, ap, subst, Result, Ok, Err}
 use Rattle.std.specs.Prelude.{IsErrAnd, codes}
 use Rattle.mpc_exact.specs.Rational.{ℚ}
 use Rattle.mpc_linear.specs.declared.integers.RowInt.{RowInt}
 use Rattle.mpc_plant.specs.declared.plants.Plant.{Plant}
 use Rattle.mpc_rows.specs.declared.laws.Law.{Law}
 use Rattle.mpc_rows.specs.declared.trees.Node.{Node}
-use Rattle.mpc_controller.specs.Parts.{Parts}
 use Rattle.mpc_file.specs.declared.errors.FileKind.{FileKind}
 use Rattle.mpc_file.specs.declared.errors.FileError.{FileError}
-use Rattle.mpc_file.specs.Reading.{Cursor, Grammar, Outcome, one_line, give, ◌>>=◌}
+use Rattle.mpc_file.specs.Reading.{Cursor, Grammar, Outcome, one_line}
 use Rattle.mpc_file.specs.PlantGrammar.{plain_rule}
 use Rattle.mpc_file.specs.LawGrammar.{written_laws, forms, NamedLaw, named_laws, used_by}
 use Rattle.mpc_file.specs.TreeGrammar.{IsWord, NodeOver, written_tree, planes, planes_used, named_tree, named_node}

@@ -1,5 +1,5 @@
 -- No line feed stands in a line.
-use Rattle.std.proofs.Common.{◌≡◌, ℕ, ◌<◌, ◌^◌, Bool, true, false, List, [], ◌∷◌, map, refl, arith}
+use Rattle.std.proofs.Common.{◌≡◌, ℕ, ◌<◌, ◌^◌, Bool, true, false, List, [], ◌∷◌, map, refl, subst, arith}
 use Rattle.std.specs.Prelude.{All, cond, ◌==◌, decimal}
 use Rattle.std.specs.List.{flat_map}
 use Rattle.std.proofs.lemmas.List.Elements.{All-nil, All-cons, All-head, All-tail, All-append, All-map, All-weaker}
@@ -7,10 +7,9 @@ use Rattle.mpc_exact.specs.Rational.{ℚ}
 use Rattle.mpc_frac.specs.Fits.{FitsFrac}
 use Rattle.mpc_frac.specs.Text.{text_of as fraction_text}
 use Rattle.mpc_words.specs.Words.{IsWithout, line, behind_blanks}
-use Rattle.mpc_words.proofs.IntegerLemmas.{decimal_without}
-use Rattle.mpc_words.proofs.FractionLemmas.{fraction_word}
 use Rattle.mpc_file.specs.Lines.{count_line, fractions_line, matrix_line}
 use Rattle.mpc_file.specs.PlantGrammar.{AllFit}
+use Rattle.mpc_file.specs.LineLaws.{WordLaws}
 use Rattle.mpc_space.specs.Matrix.{RationalMatrix}
 
 abbrev pub is_plain : List ℕ → Bool
@@ -33,21 +32,25 @@ words_without (word ∷ words) all =
 pub line_without : (first : List ℕ) (words : List (List ℕ)) → is_plain first ≡ true → All (IsWithout 10) words → IsWithout 10 (line first words)
 line_without first words plain all = All-append (λ c. (c == 10) ≡ false) first (behind_blanks words) (plain_without first plain) (words_without words all)
 
-pub count_without : (n : ℕ) → n < 2 ^ 64 → IsWithout 10 (decimal n)
-count_without n small = decimal_without 10 n (omega arith) (omega arith)
-
-pub count_line_without : (first : List ℕ) (n : ℕ) → is_plain first ≡ true → n < 2 ^ 64 → IsWithout 10 (count_line first n)
-count_line_without first n plain small = line_without first (decimal n ∷ []) plain (All-cons (IsWithout 10) (decimal n) [] (count_without n small) (All-nil (IsWithout 10)))
-
-pub fraction_without : (x : ℚ) → FitsFrac x → IsWithout 10 (fraction_text x)
-fraction_without x fits = let word = fraction_word x fits in word.no_line_feed
-
-pub fractions_line_without : (first : List ℕ) (xs : List ℚ) → is_plain first ≡ true → AllFit xs → IsWithout 10 (fractions_line first xs)
-fractions_line_without first xs plain fits = line_without first (map fraction_text xs) plain (All-map (IsWithout 10) fraction_text xs (All-weaker FitsFrac (λ x. IsWithout 10 (fraction_text x)) fraction_without xs fits))
-
 pub entries_fit : (rows : List (List ℚ)) → All AllFit rows → AllFit (flat_map (λ row. row) rows)
 entries_fit [] all = All-nil FitsFrac
 entries_fit (row ∷ rows) all = All-append FitsFrac row (flat_map (λ r. r) rows) (All-head AllFit row rows all) (entries_fit rows (All-tail AllFit row rows all))
 
-pub matrix_line_without : (first : List ℕ) (m : RationalMatrix) → is_plain first ≡ true → All AllFit m.rows → IsWithout 10 (matrix_line first m)
-matrix_line_without first m plain fits = fractions_line_without first (flat_map (λ row. row) m.rows) plain (entries_fit m.rows fits)
+module _ (words : WordLaws) where
+  pub number_without : (n : ℕ) → n < 10 ^ 64 → IsWithout 10 (decimal n)
+  number_without n small = subst (IsWithout 10) (words.printed n small) (words.natural_word n).no_line_feed
+
+  pub count_without : (n : ℕ) → n < 2 ^ 64 → IsWithout 10 (decimal n)
+  count_without n small = number_without n (omega arith)
+
+  pub count_line_without : (first : List ℕ) (n : ℕ) → is_plain first ≡ true → n < 2 ^ 64 → IsWithout 10 (count_line first n)
+  count_line_without first n plain small = line_without first (decimal n ∷ []) plain (All-cons (IsWithout 10) (decimal n) [] (count_without n small) (All-nil (IsWithout 10)))
+
+  pub fraction_without : (x : ℚ) → FitsFrac x → IsWithout 10 (fraction_text x)
+  fraction_without x fits = (words.fraction_word x fits).no_line_feed
+
+  pub fractions_line_without : (first : List ℕ) (xs : List ℚ) → is_plain first ≡ true → AllFit xs → IsWithout 10 (fractions_line first xs)
+  fractions_line_without first xs plain fits = line_without first (map fraction_text xs) plain (All-map (IsWithout 10) fraction_text xs (All-weaker FitsFrac (λ x. IsWithout 10 (fraction_text x)) fraction_without xs fits))
+
+  pub matrix_line_without : (first : List ℕ) (m : RationalMatrix) → is_plain first ≡ true → All AllFit m.rows → IsWithout 10 (matrix_line first m)
+  matrix_line_without first m plain fits = fractions_line_without first (flat_map (λ row. row) m.rows) plain (entries_fit m.rows fits)

@@ -8,8 +8,7 @@ use Rattle.mpc_file.specs.Lines.{count_line, fractions_line}
 use Rattle.mpc_file.specs.PlantGrammar.{AllFit}
 use Rattle.mpc_file.specs.LawGrammar.{NameForms, used_behind, form_named, NamedLaw, used_by}
 use Rattle.mpc_file.specs.Writing.{ended, text_of_lines}
-use Rattle.mpc_file.specs.Names.{AreNames, AreDifferent}
-use Rattle.mpc_file.specs.declared.writing.names.Names.{Names}
+use Rattle.mpc_file.specs.Names.{AreDifferent}
 
 abbrev pub form_line : List ℚ → List ℕ
 form_line form = fractions_line (codes "form") form
@@ -21,18 +20,18 @@ HasWidth n form = length form ≡ n
 abbrev pub LawHasWidth : ℕ → Law → Type 0
 LawHasWidth n law = All (HasWidth n) law.moves.rows × All (HasWidth n) law.mults.rows
 
--- the names are those of these forms
-pub record AreForms (names : Names) (forms : List (List ℚ)) : Type 0 where
-  pub names_are : AreNames names (map form_line forms)
+-- the lines that are named are those of these forms
+pub record AreForms (AreNamed : List (List ℕ) → Type 0) (forms : List (List ℚ)) : Type 0 where
+  pub names_are : AreNamed (map form_line forms)
   pub fit : All AllFit forms
 
 -- behind these forms, rows are named: what was appended, which forms came behind, and which are used
-pub record AreNumbered (forms rows : List (List ℚ)) (old new : List ℕ) (names : Names) : Type 0 where
+pub record AreNumbered (forms rows : List (List ℚ)) (old new : List ℕ) (AreNamed : List (List ℕ) → Type 0) : Type 0 where
   pub behind : List (List ℚ)
   pub all : List (List ℚ)
   pub all_are : all ≡ forms ++ behind
   pub numbers : List ℕ
-  pub forms_are : AreForms names all
+  pub forms_are : AreForms AreNamed all
   pub rows_are : map (form_named all) numbers ≡ rows
   pub text : new ≡ old ++ behind_blanks (map decimal numbers)
   pub in_order : NameForms (length all) (length forms) numbers
@@ -59,12 +58,12 @@ abbrev pub InOrder : ℕ → ℕ → List NamedLaw → Type 0
 InOrder all used [] = Unit {0}
 InOrder all used (law ∷ laws) = NameForms all used law.moves × NameForms all (used_behind used law.moves) law.mults × InOrder all (used_behind (used_behind used law.moves) law.mults) laws
 
-pub record IsLawNumbered (forms : List (List ℚ)) (law : Law) (old new : List ℕ) (names : Names) : Type 0 where
+pub record IsLawNumbered (forms : List (List ℚ)) (law : Law) (old new : List ℕ) (AreNamed : List (List ℕ) → Type 0) : Type 0 where
   pub behind : List (List ℚ)
   pub all : List (List ℚ)
   pub all_are : all ≡ forms ++ behind
   pub named : NamedLaw
-  pub forms_are : AreForms names all
+  pub forms_are : AreForms AreNamed all
   pub law_is : IsLawNamed all named law
   pub text : new ≡ old ++ law_text named
   pub moves_in_order : NameForms (length all) (length forms) named.moves
@@ -78,10 +77,10 @@ abbrev pub rows_in : List Law → ℕ
 rows_in [] = 0
 rows_in (law ∷ laws) = (length law.moves.rows + length law.mults.rows) + rows_in laws
 
-pub record AreLawsNumbered (laws : List Law) (old new : List ℕ) (names : Names) : Type 0 where
+pub record AreLawsNumbered (laws : List Law) (old new : List ℕ) (AreNamed : List (List ℕ) → Type 0) : Type 0 where
   pub forms : List (List ℚ)
   pub named : List NamedLaw
-  pub forms_are : AreForms names forms
+  pub forms_are : AreForms AreNamed forms
   pub laws_are : AllZip (IsLawNamed forms) named laws
   pub text : new ≡ old ++ flat_map law_text named
   pub in_order : InOrder (length forms) 0 named

@@ -1,6 +1,6 @@
 -- The lines of a controller's laws. In versions 1 and 2 a law's forms stand behind its set. In version 3 the different forms stand before
 -- all laws, numbered from 1 in the order in which the laws use them first, and the laws name them.
-use Rattle.std.specs.Prelude.{◌≡◌, ◌≢◌, ℕ, ◌+◌, ◌-◌, ◌*◌, ◌^◌, ◌<◌, ◌≤◌, Bool, nat_lt, cond, List, [], ◌∷◌, ◌++◌, length, map, fold, All, Contains, codes, decimal, slice_index_or, take}
+use Rattle.std.specs.Prelude.{◌≡◌, ℕ, ◌+◌, ◌-◌, ◌*◌, ◌^◌, ◌<◌, ◌≤◌, nat_lt, cond, List, [], ◌∷◌, length, map, fold, All, Contains, codes, decimal, slice_index_or, take}
 use Rattle.mpc_exact.specs.Rational.{ℚ}
 use Rattle.mpc_space.specs.Matrix.{RationalMatrix}
 use Rattle.mpc_sets.specs.RowSet.{IsSetOfRows}

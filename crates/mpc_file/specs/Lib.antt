@@ -6,6 +6,7 @@ pub mod LawGrammar
 pub mod TreeGrammar
 pub mod FileGrammar
 pub mod Spelling
+pub mod LineLaws
 pub mod PlantNumbers
 pub mod LimitNumbers
 pub mod TreeReading
@@ -17,3 +18,4 @@ pub mod WrittenFits
 pub mod Names
 pub mod FormNames
 pub mod PlaneNames
+pub mod Statable

@@ -28,11 +28,12 @@ pub record AreNames (names : Names) (lines : List (List ℕ)) : Type 0 where
   pub text : names.text.items ≡ text_of_lines lines
   pub different : AreDifferent lines
 
--- behind these lines the line is named by this number, as the next one where it is new
-pub record IsNamed (lines : List (List ℕ)) (text : List ℕ) (k : ℕ) (names : Names) : Type 0 where
+-- Behind these lines the line is named by this number, as the next one where it is new. Which lines are named then is told by what holds of
+-- them alone, as of those in a writer's memory.
+pub record IsNamed (lines : List (List ℕ)) (text : List ℕ) (k : ℕ) (AreNamed : List (List ℕ) → Type 0) : Type 0 where
   pub behind : List (List ℕ)
   pub behind_is : (behind ≡ []) ⊎ (behind ≡ text ∷ [])
-  pub names_are : AreNames names (lines ++ behind)
+  pub names_are : AreNamed (lines ++ behind)
   pub number_of : IsNumberOf (lines ++ behind) text k
   pub used : length (lines ++ behind) ≡ cond (nat_lt (length lines) k) k (length lines)
   pub in_order : k ≤ length lines + 1

@@ -13,8 +13,7 @@ use Rattle.mpc_file.specs.Lines.{count_line, integers_line, cert_line}
 use Rattle.mpc_file.specs.TreeGrammar.{NodeOver, used_with, planes_used, named_node}
 use Rattle.mpc_file.specs.TreeGrammar.NodeOver.{split_node, law_node, no_move_node}
 use Rattle.mpc_file.specs.Writing.{ended, text_of_lines}
-use Rattle.mpc_file.specs.Names.{AreNames, AreDifferent}
-use Rattle.mpc_file.specs.declared.writing.names.Names.{Names}
+use Rattle.mpc_file.specs.Names.{AreDifferent}
 
 abbrev pub plane_line : RowInt → List ℕ
 plane_line row = integers_line (codes "plane") (row.a ++ row.b ∷ [])
@@ -29,14 +28,14 @@ IsGoodNode plant (Split row) = IsGoodPlane plant row
 IsGoodNode plant (LawLeaf law certs) = Unit {0}
 IsGoodNode plant (NoMove cert) = Unit {0}
 
--- the names are those of these planes
-pub record ArePlanes (plant : Plant) (names : Names) (planes : List RowInt) : Type 0 where
-  pub names_are : AreNames names (map plane_line planes)
+-- the lines that are named are those of these planes
+pub record ArePlanes (plant : Plant) (AreNamed : List (List ℕ) → Type 0) (planes : List RowInt) : Type 0 where
+  pub names_are : AreNamed (map plane_line planes)
   pub good : All (IsGoodPlane plant) planes
 
--- a position of 64 bits, and a multiplier that fits
+-- a position of at most 64 digits, and a multiplier that fits
 abbrev pub IsPairFit : (ℕ × ℚ) → Type 0
-IsPairFit pair = (pair.0 < 2 ^ 64) × FitsFrac pair.1
+IsPairFit pair = (pair.0 < 10 ^ 64) × FitsFrac pair.1
 
 abbrev pub CertFits : List (ℕ × ℚ) → Type 0
 CertFits cert = All IsPairFit cert
@@ -71,22 +70,22 @@ abbrev pub PlanesInOrder : ℕ → ℕ → List (NodeOver ℕ) → Type 0
 PlanesInOrder all used [] = Unit {0}
 PlanesInOrder all used (node ∷ nodes) = NamesInOrder all used node × PlanesInOrder all (used_with used node) nodes
 
-pub record IsNodeNumbered (plant : Plant) (planes : List RowInt) (node : Node) (old new : List ℕ) (names : Names) : Type 0 where
+pub record IsNodeNumbered (plant : Plant) (planes : List RowInt) (node : Node) (old new : List ℕ) (AreNamed : List (List ℕ) → Type 0) : Type 0 where
   pub behind : List RowInt
   pub all : List RowInt
   pub all_are : all ≡ planes ++ behind
   pub named : NodeOver ℕ
-  pub planes_are : ArePlanes plant names all
+  pub planes_are : ArePlanes plant AreNamed all
   pub node_is : named_node all named ≡ node
   pub text : new ≡ old ++ node_text named
   pub in_order : NamesInOrder (length all) (length planes) named
   pub used : used_with (length planes) named ≡ length all
   pub certs : CertsFit named
 
-pub record AreNodesNumbered (plant : Plant) (nodes : List Node) (old new : List ℕ) (names : Names) : Type 0 where
+pub record AreNodesNumbered (plant : Plant) (nodes : List Node) (old new : List ℕ) (AreNamed : List (List ℕ) → Type 0) : Type 0 where
   pub planes : List RowInt
   pub named : List (NodeOver ℕ)
-  pub planes_are : ArePlanes plant names planes
+  pub planes_are : ArePlanes plant AreNamed planes
   pub nodes_are : map (named_node planes) named ≡ nodes
   pub text : new ≡ old ++ flat_map node_text named
   pub in_order : PlanesInOrder (length planes) 0 named
@@ -106,7 +105,7 @@ pub record IsTreeWritten (plant : Plant) (nodes : List Node) (old new : List ℕ
   pub named : List (NodeOver ℕ)
   pub good : All (IsGoodPlane plant) planes
   pub different : AreDifferent (map plane_line planes)
-  pub few : length (text_of_lines (map plane_line planes)) < 2 ^ 63
+  pub few : length planes < 10 ^ 18
   pub nodes_are : map (named_node planes) named ≡ nodes
   pub in_order : PlanesInOrder (length planes) 0 named
   pub used : planes_used named ≡ length planes

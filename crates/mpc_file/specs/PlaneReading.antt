@@ -1,5 +1,5 @@
 -- What the functions know that read planes, and splits that name them.
-use Rattle.std.specs.Prelude.{◌≡◌, ℕ, ◌+◌, List, [], ◌∷◌, ◌++◌, All, Contains, codes}
+use Rattle.std.specs.Prelude.{◌≡◌, ℕ, List, [], ◌∷◌, ◌++◌, All, Contains, codes}
 use Rattle.mpc_linear.specs.declared.integers.RowInt.{RowInt}
 use Rattle.mpc_file.specs.declared.named_trees.SplitLine.{SplitLine}
 use Rattle.mpc_file.specs.declared.named_trees.SplitLine.TheVariants.{Plane, NoPlane, NoSplit}

@@ -5,6 +5,7 @@ use Rattle.mpc_controller.specs.Parts.{Parts}
 use Rattle.mpc_file.specs.declared.errors.FileKind.{FileKind}
 use Rattle.mpc_file.specs.declared.versions.Version.{Version}
 use Rattle.mpc_file.specs.FileGrammar.{Spells, FailsAt}
+use Rattle.mpc_file.specs.Statable.{CanState}
 
 -- it is a text of one version
 abbrev pub OneVersion : Type 0
@@ -29,6 +30,14 @@ OneReason = (bytes : List ℕ) (kind other : FileKind) (number place : ℕ) → 
 -- no bytes behind the text of a controller make another's
 abbrev pub NoPrefix : Type 0
 NoPrefix = (bytes more : List ℕ) (version other : Version) (x y : Parts) → length (bytes ++ more) < 2 ^ 64 → Spells bytes version x → Spells (bytes ++ more) other y → more ≡ []
+
+-- a version has a text for each controller that it can state, whose nodes are fewer than 10^18, as those in a memory are
+abbrev pub EachText : Type 0
+EachText = (version : Version) (x : Parts) → length x.tree < 10 ^ 18 → CanState version x → (bytes : List ℕ) × Spells bytes version x
+
+-- and for no other
+abbrev pub StatedCanBe : Type 0
+StatedCanBe = (bytes : List ℕ) (version : Version) (x : Parts) → length bytes < 2 ^ 64 → Spells bytes version x → CanState version x
 
 -- a version has one text for a controller
 abbrev pub OneText : Type 0

@@ -1,7 +1,6 @@
 -- The lines of a search tree: its nodes in preorder, each with the certificates of its leaf. In versions 1 and 2 a split's row stands in its
 -- line. In version 3 the different rows stand before the tree as planes, numbered from 1 in the order in which the splits use them first.
-use Rattle.std.specs.Prelude.{◌≡◌, ◌≢◌, ℕ, ◌+◌, ◌-◌, ◌*◌, ◌<◌, ◌≤◌, ◌⊎◌, Bool, true, false, nat_lt, cond, ℤ, pos, List, [], ◌∷◌, ◌++◌, length, map, fold, All, Contains, codes, decimal, slice_index_or}
-use Rattle.std.specs.Fmt.{signed_decimal}
+use Rattle.std.specs.Prelude.{◌≡◌, ℕ, ◌+◌, ◌-◌, ◌≤◌, ◌⊎◌, Bool, true, false, nat_lt, cond, pos, List, [], ◌∷◌, ◌++◌, length, map, fold, All, Contains, codes, slice_index_or}
 use Rattle.mpc_exact.specs.Rational.{ℚ}
 use Rattle.mpc_linear.specs.declared.integers.RowInt.{RowInt}
 use Rattle.mpc_linear.specs.Whole.{DividesAll, AreSmall}
@@ -10,7 +9,7 @@ use Rattle.mpc_plant.specs.declared.plants.Plant.{Plant}
 use Rattle.mpc_rows.specs.declared.trees.Node.{Node}
 use Rattle.mpc_rows.specs.declared.trees.Node.TheVariants.{Split, Law as LawLeaf, NoMove}
 use Rattle.mpc_words.specs.Numerals.{numeral}
-use Rattle.mpc_controller.specs.Parts.{limits_of, row_count, IsSplitRow}
+use Rattle.mpc_controller.specs.Parts.{limits_of, row_count}
 use Rattle.mpc_controller.specs.Certificates.{IsCertOver, cell_rows}
 use Rattle.mpc_controller.specs.Bounds.{SplitFits}
 use Rattle.mpc_file.specs.Reading.{LineRule, Grammar, one_line, give, ◌>>=◌, many}

@@ -1,7 +1,7 @@
 //! Lists of affine forms, and their matrices.
 
-ghost use Rattle.std.specs.Prelude.{◌≡◌, ◌+◌, ◌<◌, ◌≤◌, ◌^◌, [], ◌∷◌, ◌++◌, length, IfOk, OnOk, OnErr, All, slice_index_or, slice_set};
-ghost use Rattle.mpc_space.specs.Matrix.{height, IsRectangular};
+ghost use Rattle.std.specs.Prelude.{◌≡◌, ◌+◌, ◌<◌, ◌^◌, [], ◌∷◌, ◌++◌, length, IfOk, OnOk, OnErr, All, slice_index_or};
+ghost use Rattle.mpc_space.specs.Matrix.{height};
 ghost use Rattle.mpc_file.specs.FormLists.{matrix_with, with_filled_row};
 
 use mpc_frac::NoMemory;

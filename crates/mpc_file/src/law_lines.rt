@@ -1,6 +1,6 @@
 //! The lines of laws: what both forms of them share, and those whose affine forms are written out.
 
-ghost use Rattle.std.specs.Prelude.{◌≡◌, ◌≢◌, ℕ, ◌+◌, ◌*◌, ◌<◌, ◌≤◌, ◌↔◌, List, length, map, IsTrue, IfOk, MatchOption, MatchBool, codes, pos};
+ghost use Rattle.std.specs.Prelude.{◌≡◌, ◌≢◌, ℕ, ◌+◌, ◌*◌, ◌<◌, ◌≤◌, ◌↔◌, List, length, map, IsTrue, IfOk, MatchOption, codes, pos};
 ghost use Rattle.mpc_exact.specs.Rational.{ℚ};
 ghost use Rattle.mpc_linear.specs.Whole.{AreSmall};
 ghost use Rattle.mpc_plant.specs.Limits.{IsFromTo};
@@ -11,18 +11,17 @@ ghost use Rattle.mpc_file.specs.Reading.{Outcome, one_line};
 ghost use Rattle.mpc_file.specs.PlantGrammar.{plain_rule};
 ghost use Rattle.mpc_file.specs.LawGrammar.{unknowns, IsLawLine, IsForm, move_rule, moves, mults, written_law, IsLawCount, law_count, written_laws};
 
-use crate::bounds::form_fits;
 use crate::errors::{FileError, FileKind};
 use crate::forms::{Forms, matrix_of};
 use crate::line_laws::{one_fractions, one_integers, one_number};
 use crate::lines::Lines;
 use crate::spelling::{fractions_of, integers_of, number_of};
-use mpc_controller::limits;
+use mpc_controller::{form_fits, limits};
 use mpc_frac::NoMemory;
-use mpc_linear::{Matrix, Vector};
+use mpc_linear::Vector;
 use mpc_plant::Plant;
 use mpc_rows::{Law, LawTable};
-use mpc_sets::ActiveSet;
+use mpc_sets::{ActiveSet, member_laws};
 use mpc_words::Natural;
 use std::alloc::Global;
 
@@ -61,6 +60,7 @@ fn set_of(numbers: &[i128], rows: u32) -> Option<ActiveSet>
         ((set : List ℕ) → IsSetOfRows rows set → map pos set ≢ numbers.now)
         (λ set. IsSetOfRows rows set × (map pos set ≡ numbers.now)) }
 {
+    member_laws();
     let mut set = ActiveSet::empty();
     let mut last = 0;
     for number in numbers {

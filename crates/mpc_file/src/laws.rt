@@ -1,8 +1,10 @@
 //! What holds of every text. The calls do nothing: their contracts are the laws.
 
-ghost use Rattle.mpc_file.specs.TextLaws.{OneVersion, OneController, SpelledNeverFails, OneLine, OneReason, NoPrefix, OneText};
+ghost use Rattle.mpc_file.specs.TextLaws.{OneVersion, OneController, SpelledNeverFails, OneLine, OneReason, NoPrefix, EachText, StatedCanBe, OneText};
 
-use mpc_words::{cut_laws, fraction_laws, integer_laws, line_laws, natural_laws};
+use crate::line_laws::{one_fractions, one_integers, word_laws};
+use mpc_controller::preorder_laws;
+use mpc_words::cut_laws;
 
 /// A text spells one controller in one version at most. It fails at one line at most, for one reason,
 /// and at none where it spells a controller.
@@ -14,10 +16,7 @@ pub fn one_reading()
     ensures one_reason { OneReason }
 {
     cut_laws();
-    line_laws();
-    natural_laws();
-    integer_laws();
-    fraction_laws();
+    word_laws();
 }
 
 /// No text of a controller begins with another's.
@@ -25,10 +24,20 @@ pub fn no_prefix()
     ensures { NoPrefix }
 {
     cut_laws();
-    line_laws();
-    natural_laws();
-    integer_laws();
-    fraction_laws();
+    word_laws();
+}
+
+/// Each version has a text for each controller that it can state: version 1 for those of at most 40 rows
+/// whose drift and targets are 0, version 2 for those of at most 40 rows whose aren't, and version 3 for
+/// all. It has none for any other.
+pub fn each_text()
+    ensures each { EachText }
+    ensures no_other { StatedCanBe }
+{
+    word_laws();
+    one_fractions();
+    one_integers();
+    preorder_laws();
 }
 
 /// A controller has one text in each version. The call does nothing: its contract is the law.

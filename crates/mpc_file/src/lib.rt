@@ -1,7 +1,6 @@
 //! The file of a controller: three versions of its text are read, one is written.
 #![tactic(auto)]
 
-mod bounds;
 mod errors;
 mod forms;
 mod law_lines;
@@ -23,7 +22,7 @@ mod versions;
 mod writing;
 
 pub use errors::{FileError, FileKind};
-pub use laws::{no_prefix, one_reading, one_text};
+pub use laws::{each_text, no_prefix, one_reading, one_text};
 pub use mpc_controller::{Controller, SealError};
 pub use reading::read_file;
 pub use versions::Version;

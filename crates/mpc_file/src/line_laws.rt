@@ -1,17 +1,25 @@
-//! What holds of every line of numbers. The calls do nothing: their contracts are the laws.
+//! What holds of every word that spells a number, and of every line of numbers. The calls do nothing: their contracts are the laws.
 
-ghost use Rattle.std.specs.Prelude.{◌≡◌, ℕ, ◌^◌, ◌<◌, ℤ, List};
-ghost use Rattle.mpc_exact.specs.Rational.{ℚ};
-ghost use Rattle.mpc_linear.specs.Whole.{AreSmall};
-ghost use Rattle.mpc_file.specs.Lines.{count_line, integers_line, fractions_line};
-ghost use Rattle.mpc_file.specs.PlantGrammar.{AllFit};
+ghost use Rattle.std.specs.Prelude.{◌≡◌, ℕ, ◌^◌, ◌<◌, List};
+ghost use Rattle.mpc_file.specs.Lines.{count_line};
 ghost use Rattle.mpc_file.specs.Spelling.{numeral_line};
+ghost use Rattle.mpc_file.specs.LineLaws.{WordLaws, OneFractions, OneIntegers};
 
 use mpc_words::{fraction_laws, integer_laws, line_laws, natural_laws};
 
+/// Each number is spelled by a word of its own.
+pub fn word_laws()
+    ensures { WordLaws }
+{
+    line_laws();
+    natural_laws();
+    integer_laws();
+    fraction_laws();
+}
+
 /// A line states one list of fractions only.
 pub fn one_fractions()
-    ensures { (name : List ℕ) (xs ys : List ℚ) → AllFit xs → AllFit ys → fractions_line name xs ≡ fractions_line name ys → xs ≡ ys }
+    ensures { OneFractions }
 {
     line_laws();
     fraction_laws();
@@ -19,7 +27,7 @@ pub fn one_fractions()
 
 /// A line states one list of whole numbers only.
 pub fn one_integers()
-    ensures { (name : List ℕ) (xs ys : List ℤ) → AreSmall xs → AreSmall ys → integers_line name xs ≡ integers_line name ys → xs ≡ ys }
+    ensures { OneIntegers }
 {
     line_laws();
     integer_laws();

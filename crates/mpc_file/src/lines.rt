@@ -1,6 +1,6 @@
 //! The lines of a text, taken one after another.
 
-ghost use Rattle.std.specs.Prelude.{◌≡◌, ◌≢◌, ℕ, ◌+◌, ◌^◌, ◌<◌, [], length, IfOk, IfErr, IsTrue, ◌↔◌};
+ghost use Rattle.std.specs.Prelude.{◌≡◌, ◌+◌, ◌^◌, ◌<◌, [], length, IfOk, IfErr, IsTrue, ◌↔◌};
 ghost use Rattle.mpc_words.specs.Words.{IsWithout};
 ghost use Rattle.mpc_file.specs.Reading.{TakesLine};
 ghost use Rattle.mpc_file.specs.FileGrammar.{start};

@@ -1,6 +1,6 @@
 //! The lines of affine forms that laws name, and those of such laws.
 
-ghost use Rattle.std.specs.Prelude.{◌≡◌, ◌≢◌, ℕ, ◌+◌, ◌^◌, ◌<◌, ◌≤◌, ◌↔◌, List, [], ◌∷◌, ◌++◌, length, map, take, cond, nat_lt, All, Contains, IsTrue, IfOk, MatchOption, codes, pos};
+ghost use Rattle.std.specs.Prelude.{◌≡◌, ◌≢◌, ℕ, ◌+◌, ◌^◌, ◌<◌, ◌≤◌, ◌↔◌, List, [], ◌∷◌, ◌++◌, length, map, take, cond, nat_lt, All, IsTrue, IfOk, MatchOption, codes, pos};
 ghost use Rattle.mpc_exact.specs.Rational.{ℚ};
 ghost use Rattle.mpc_linear.specs.Whole.{AreSmall};
 ghost use Rattle.mpc_controller.specs.Parts.{limits_of};
@@ -10,7 +10,6 @@ ghost use Rattle.mpc_file.specs.PlantGrammar.{plain_rule};
 ghost use Rattle.mpc_file.specs.LawGrammar.{unknowns, IsShortCount, IsNewForm, forms, NameForms, used_behind, form_named, AreFormNumbers, named_moves_rule, named_mults};
 ghost use Rattle.mpc_file.specs.FormLists.{matrix_with, NamesAll, HasLinesOf, ReadsLaw, ReadsLaws};
 
-use crate::bounds::form_fits;
 use crate::errors::{FileError, FileKind};
 use crate::forms::{Forms, fill_row};
 use crate::law_lines::{form_in, natural_in, read_law_count, read_set};
@@ -18,7 +17,7 @@ use crate::line_laws::{one_fractions, one_integers, one_number};
 use crate::line_sets::LineSet;
 use crate::lines::Lines;
 use crate::spelling::{integers_of, number_of};
-use mpc_controller::limits;
+use mpc_controller::{form_fits, limits};
 use mpc_frac::NoMemory;
 use mpc_linear::{Matrix, Vector};
 use mpc_plant::Plant;

@@ -16,7 +16,7 @@ use crate::line_sets::LineSet;
 use crate::lines::Lines;
 use crate::spelling::number_of;
 use crate::tree_depths::Depths;
-use crate::tree_lines::{PlaneLine, ints_of, plane_in, read_leaf, read_tree_word};
+use crate::tree_lines::{PlaneLine, ints_of, plane_in, read_leaf, read_word};
 use mpc_controller::limits;
 use mpc_frac::NoMemory;
 use mpc_linear::RowInt;
@@ -269,6 +269,6 @@ pub(crate) fn read_named_tree(
     requires { laws ≤ 4598479 }
     ensures { Outcome (named_tree_nodes plant.now laws planes.now) lines.old lines.new result }
 {
-    read_tree_word(lines)?;
+    read_word(lines, b"tree")?;
     read_named_nodes(alloc, lines, plant, laws, planes)
 }

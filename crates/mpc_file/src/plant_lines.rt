@@ -13,12 +13,13 @@ ghost use Rattle.mpc_file.specs.declared.plant_parts.Sizes.{Sizes as SizesStated
 ghost use Rattle.mpc_file.specs.declared.plant_parts.Targets.{Targets as TargetsStated};
 
 use crate::errors::{FileError, FileKind};
+use crate::line_laws::{one_fractions, one_integers};
 use crate::lines::Lines;
 use crate::plant_parts::{Dynamics, Offsets, Sizes, Targets, Weights};
 use crate::spelling::{fractions_of, integers_of};
 use crate::versions::Version;
 use mpc_frac::{Frac, NoMemory};
-use mpc_linear::{Matrix, Vector};
+use mpc_linear::{Matrix, Vector, grid_laws};
 use std::alloc::Global;
 use std::cmp::Ordering;
 
@@ -60,6 +61,7 @@ fn sizes_in(alloc: Global, text: &[u8]) -> Result<Option<Sizes>, NoMemory>
         ((s : SizesStated) → ¬ AreSizes text.now s)
         (λ s. AreSizes text.now s)) }
 {
+    one_integers();
     match integers_of(alloc, text, b"size")? {
         Some(numbers) => Ok(sizes_of(numbers.as_slice())),
         None => Ok(None),
@@ -85,6 +87,7 @@ fn write_row(matrix: &mut Matrix, i: u32, entries: &Vector)
     requires before { matrix.old ≡ filled (height matrix.old) matrix.old.columns (i * matrix.old.columns) entries.now }
     ensures { matrix.new ≡ filled (height matrix.old) matrix.old.columns ((i + 1) * matrix.old.columns) entries.now }
 {
+    grid_laws();
     let columns = matrix.cols();
     for j in 0..columns {
         let place = i as usize * columns as usize + j as usize;
@@ -97,6 +100,7 @@ fn matrix_with(alloc: Global, entries: &Vector, rows: u32, columns: u32) -> Resu
     requires { length entries.now ≡ rows * columns }
     ensures { IfOk result (λ m. m ≡ grid rows columns entries.now) }
 {
+    grid_laws();
     let mut matrix = Matrix::zero(alloc, rows, columns)?;
     for i in 0..rows {
         write_row(&mut matrix, i, entries);
@@ -116,6 +120,8 @@ fn matrix_in(
         ((m : RationalMatrix) → ¬ IsMatrix name.now rows columns text.now m)
         (λ m. IsMatrix name.now rows columns text.now m)) }
 {
+    one_fractions();
+    grid_laws();
     let Some(entries) = fractions_of(alloc, text, name)? else {
         return Ok(None);
     };
@@ -187,6 +193,7 @@ fn weight_in(alloc: Global, text: &[u8], name: &[u8], size: u32) -> Result<Optio
         ((m : RationalMatrix) → ¬ IsWeightLine name.now size text.now m)
         (λ m. IsWeightLine name.now size text.now m)) }
 {
+    one_fractions();
     let Some(matrix) = matrix_in(alloc, text, name, size, size)? else {
         return Ok(None);
     };
@@ -246,6 +253,7 @@ fn drift_in(alloc: Global, text: &[u8], states: u32) -> Result<Option<Vector>, N
         ((xs : List ℚ) → ¬ IsDrift states text.now xs)
         (λ xs. IsDrift states text.now xs)) }
 {
+    one_fractions();
     let Some(drift) = fractions_of(alloc, text, b"drift")? else {
         return Ok(None);
     };
@@ -284,6 +292,7 @@ fn targets_in(alloc: Global, text: &[u8], sizes: &Sizes) -> Result<Option<Target
         ((t : TargetsStated) → ¬ AreTargets sizes.now text.now t)
         (λ t. AreTargets sizes.now text.now t)) }
 {
+    one_fractions();
     let Some(goals) = fractions_of(alloc, text, b"goal")? else {
         return Ok(None);
     };
@@ -328,6 +337,7 @@ fn allowed_targets_in(
         ((t : TargetsStated) → ¬ AreTargetsOf version sizes.now drift.now text.now t)
         (λ t. AreTargetsOf version sizes.now drift.now text.now t)) }
 {
+    one_fractions();
     let Some(targets) = targets_in(alloc, text, sizes)? else {
         return Ok(None);
     };

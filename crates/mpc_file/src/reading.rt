@@ -1,10 +1,9 @@
 //! The file of a controller, read.
 
-ghost use Rattle.std.specs.Prelude.{◌≡◌, codes, IfOk, IfErr};
+ghost use Rattle.std.specs.Prelude.{◌≡◌, IfOk, IfErr};
 ghost use Rattle.mpc_controller.specs.Bounds.{IsController};
 ghost use Rattle.mpc_file.specs.Reading.{Outcome, one_line};
 ghost use Rattle.mpc_file.specs.PlantGrammar.{plain_rule};
-ghost use Rattle.mpc_file.specs.TreeGrammar.{IsWord};
 ghost use Rattle.mpc_file.specs.FileGrammar.{IsEnd, written, named, behind_plant, in_version, IsSpelled, ExplainsFileError};
 
 use crate::errors::{FileError, FileKind};
@@ -13,26 +12,13 @@ use crate::lines::Lines;
 use crate::named_laws::{read_forms, read_named_laws};
 use crate::named_trees::{read_named_tree, read_planes};
 use crate::plants::{read_plant_lines, read_version};
-use crate::tree_lines::read_written_tree;
+use crate::tree_lines::{read_word, read_written_tree};
 use crate::versions::Version;
 use mpc_controller::{Controller, SealError, bound_laws, preorder_laws};
 use mpc_frac::NoMemory;
 use mpc_plant::Plant;
 use mpc_rows::{LawTable, Tree};
 use std::alloc::Global;
-
-/// Reads the last line, behind laws and a tree that are written out.
-fn read_end_word(lines: &mut Lines) -> Result<(), FileError>
-    ensures { Outcome (one_line (plain_rule (IsWord (codes "end")))) lines.old lines.new result }
-{
-    let number = lines.number();
-    let line = lines.take()?;
-    if line == b"end".as_slice() {
-        Ok(())
-    } else {
-        Err(FileError::Bad(FileKind::BadLine, number))
-    }
-}
 
 /// Reads the last line, behind a tree that uses so many of all planes.
 fn read_end(lines: &mut Lines, all: u64, used: u64) -> Result<(), FileError>
@@ -67,7 +53,7 @@ fn read_written(alloc: Global, lines: &mut Lines, plant: Plant) -> Result<Contro
     preorder_laws();
     let laws = read_written_laws(alloc, lines, &plant)?;
     let tree = read_written_tree(alloc, lines, &plant, laws.len() as u64)?;
-    read_end_word(lines)?;
+    read_word(lines, b"end")?;
     let controller = sealed(alloc, plant, laws, tree)?;
     Ok(controller)
 }

@@ -1,9 +1,9 @@
 //! The lines of a search tree: its nodes in preorder, each with the certificates of its leaf.
 
-ghost use Rattle.std.specs.Prelude.{◌≡◌, ◌≢◌, ℕ, ◌+◌, ◌^◌, ◌<◌, ◌≤◌, ◌↔◌, pos, List, [], ◌∷◌, ◌++◌, length, IfOk, MatchOption, IsTrue, All, unsigned_abs, codes};
+ghost use Rattle.std.specs.Prelude.{◌≡◌, ◌≢◌, ℕ, ◌+◌, ◌^◌, ◌<◌, ◌≤◌, ◌↔◌, pos, List, [], ◌∷◌, ◌++◌, length, IfOk, MatchOption, IsTrue, All, unsigned_abs};
 ghost use Rattle.std.specs.List.{flat_map};
 ghost use Rattle.mpc_exact.specs.Rational.{ℚ, int};
-ghost use Rattle.mpc_linear.specs.Whole.{AreSmall, IsShared};
+ghost use Rattle.mpc_linear.specs.Whole.{AreSmall};
 ghost use Rattle.mpc_controller.specs.Parts.{row_count, limits_of};
 ghost use Rattle.mpc_controller.specs.Certificates.{IsCertOver, cell_rows};
 ghost use Rattle.mpc_file.specs.Reading.{one_line, Outcome};
@@ -11,15 +11,14 @@ ghost use Rattle.mpc_file.specs.PlantGrammar.{plain_rule};
 ghost use Rattle.mpc_file.specs.TreeGrammar.{IsPlane, IsCertLine, certs, IsWord, written_tree};
 ghost use Rattle.mpc_file.specs.TreeReading.{pair_fractions, ReadsPlane, ReadsLeaf, LeafOutcome, written_node_at, written_nodes, IsPlaneOf};
 
-use crate::bounds::split_fits;
 use crate::errors::{FileError, FileKind};
 use crate::line_laws::{one_fractions, one_integers};
 use crate::lines::Lines;
 use crate::spelling::{fractions_of, integers_of, number_of};
 use crate::tree_depths::Depths;
-use mpc_controller::limits;
-use mpc_frac::{Frac, NoMemory, greatest_common_divisor};
-use mpc_linear::{Ints, RowInt};
+use mpc_controller::{limits, split_fits};
+use mpc_frac::{Frac, NoMemory};
+use mpc_linear::{Ints, RowInt, shared_divisor};
 use mpc_plant::Plant;
 use mpc_rows::{Cert, Certs, Node, Tree};
 use mpc_words::Natural;
@@ -160,26 +159,13 @@ fn has_entry(integers: &[i128]) -> bool
     integers.iter().any(|z| *z != 0)
 }
 
-/// The greatest common divisor of a row's integers; 0 where all are 0.
-fn shared_divisor(row: &RowInt) -> u128
-    requires small { AreSmall row.now.a }
-    requires b_small { unsigned_abs row.now.b < 2 ^ 127 }
-    ensures { IsShared result (row.now.a ++ row.now.b ∷ []) }
-{
-    let mut shared = row.b.unsigned_abs();
-    for z in row.a.as_slice() {
-        shared = greatest_common_divisor(shared, z.unsigned_abs());
-    }
-    shared
-}
-
 /// Whether a row weighs some entry, and no number above 1 divides all of its numbers.
 fn is_plane(row: &RowInt) -> bool
     requires small { AreSmall row.now.a }
     requires b_small { unsigned_abs row.now.b < 2 ^ 127 }
     ensures { IsTrue result ↔ IsPlane row.now }
 {
-    has_entry(row.a.as_slice()) && shared_divisor(row) == 1
+    has_entry(row.a.as_slice()) && shared_divisor(&row.a, row.b) == 1
 }
 
 /// What a row of n weights is as a plane.
@@ -333,13 +319,13 @@ fn read_written_nodes(
     Ok(tree)
 }
 
-/// Reads the line above the nodes.
-pub(crate) fn read_tree_word(lines: &mut Lines) -> Result<(), FileError>
-    ensures { Outcome (one_line (plain_rule (IsWord (codes "tree")))) lines.old lines.new result }
+/// Reads a line that is this word, as the one above a tree's nodes.
+pub(crate) fn read_word(lines: &mut Lines, word: &[u8]) -> Result<(), FileError>
+    ensures { Outcome (one_line (plain_rule (IsWord word.now))) lines.old lines.new result }
 {
     let number = lines.number();
     let line = lines.take()?;
-    if line == b"tree".as_slice() {
+    if line == word {
         Ok(())
     } else {
         Err(FileError::Bad(FileKind::BadLine, number))
@@ -357,6 +343,6 @@ pub(crate) fn read_written_tree(
     ensures { Outcome (written_tree plant.now laws) lines.old lines.new result }
 {
     let counts = limits(alloc, plant)?;
-    read_tree_word(lines)?;
+    read_word(lines, b"tree")?;
     read_written_nodes(alloc, lines, plant, laws, counts.as_slice())
 }

@@ -13,6 +13,7 @@ mod tests;
 mod tree_lines;
 mod words;
 
+use crate::line_laws::word_laws;
 use law_lines::write_table;
 use mpc_controller::Controller;
 use mpc_frac::NoMemory;
@@ -34,6 +35,7 @@ fn write_parts(
     ensures { OnOk result (IsController plant.now laws.now tree.now → out.old.items ≡ []
         → Spells out.new.items Three (parts_with plant.now laws.now tree.now)) }
 {
+    word_laws();
     write_count_line(b"mpc", 3, out)?;
     write_plant(plant, out)?;
     write_table(alloc, laws, out)?;

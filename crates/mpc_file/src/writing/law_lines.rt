@@ -1,14 +1,16 @@
 //! The lines of laws, whose forms are named by their numbers.
 
-ghost use Rattle.std.specs.Prelude.{◌≡◌, ◌++◌, List, ℕ, map, codes, decimal, OnOk, IfOk, []};
+ghost use Rattle.std.specs.Prelude.{◌≡◌, ◌++◌, List, map, codes, decimal, OnOk, IfOk, []};
 ghost use Rattle.mpc_exact.specs.Rational.{ℚ};
 ghost use Rattle.mpc_words.specs.Words.{line, behind_blanks};
 ghost use Rattle.mpc_file.specs.PlantGrammar.{AllFit};
 ghost use Rattle.mpc_file.specs.Writing.{ended};
+ghost use Rattle.mpc_file.specs.Names.{AreNames};
 ghost use Rattle.mpc_file.specs.FormNames.{form_line, AreForms, AreNumbered, IsLawNumbered, AreLawsNumbered, IsTableWritten};
 
 use super::names::Names;
 use super::words::{end_line, write_count, write_count_line, write_fractions, write_piece};
+use crate::line_laws::one_fractions;
 use mpc_frac::{Frac, NoMemory};
 use mpc_linear::Matrix;
 use mpc_rows::{Law, LawTable};
@@ -33,9 +35,10 @@ fn write_numbers(
     names: &mut Names,
     out: &mut Vec<u8>,
 ) -> Result<(), NoMemory>
-    ensures { OnOk result ((forms : List (List ℚ)) → AreForms names.old forms
-        → AreNumbered forms matrix.now.rows out.old.items out.new.items names.new) }
+    ensures { OnOk result ((forms : List (List ℚ)) → AreForms (AreNames names.old) forms
+        → AreNumbered forms matrix.now.rows out.old.items out.new.items (AreNames names.new)) }
 {
+    one_fractions();
     for i in 0..matrix.rows() {
         let text = form_line(alloc, matrix.row(i))?;
         let number = names.number(text)?;
@@ -65,8 +68,8 @@ fn write_set(set: ActiveSet, out: &mut Vec<u8>) -> Result<(), NoMemory>
 
 /// Appends the lines of the law.
 fn write_law(alloc: Global, law: &Law, names: &mut Names, out: &mut Vec<u8>) -> Result<(), NoMemory>
-    ensures { OnOk result ((forms : List (List ℚ)) → AreForms names.old forms
-        → IsLawNumbered forms law.now out.old.items out.new.items names.new) }
+    ensures { OnOk result ((forms : List (List ℚ)) → AreForms (AreNames names.old) forms
+        → IsLawNumbered forms law.now out.old.items out.new.items (AreNames names.new)) }
 {
     write_set(law.set, out)?;
     write_piece(b"move", out)?;
@@ -87,7 +90,7 @@ pub fn write_laws(
     names: &mut Names,
     out: &mut Vec<u8>,
 ) -> Result<(), NoMemory>
-    ensures { OnOk result (AreForms names.old [] → AreLawsNumbered laws.now out.old.items out.new.items names.new) }
+    ensures { OnOk result (AreForms (AreNames names.old) [] → AreLawsNumbered laws.now out.old.items out.new.items (AreNames names.new)) }
 {
     for j in 0..laws.len() {
         write_law(alloc, laws.at(j), names, out)?;

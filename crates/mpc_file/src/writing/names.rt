@@ -43,7 +43,7 @@ impl Names {
 
     /// The number of the line, which is put behind the others where it is new.
     pub fn number(&mut self, line: Vec<u8>) -> Result<u64, NoMemory>
-        ensures { IfOk result (λ k. (lines : List (List ℕ)) → AreNames self.old lines → IsNamed lines line.items k self.new) }
+        ensures { IfOk result (λ k. (lines : List (List ℕ)) → AreNames self.old lines → IsNamed lines line.items k (AreNames self.new)) }
     {
         if let Some(number) = self.numbers.get(&line) {
             return Ok(*number);

@@ -1,7 +1,7 @@
 //! The lines of a search tree, whose planes are named by their numbers. Its nodes are a list in preorder,
 //! so nothing recurs on its depth.
 
-ghost use Rattle.std.specs.Prelude.{◌≡◌, ◌++◌, ◌∷◌, [], List, map, All, codes, OnOk, IfOk};
+ghost use Rattle.std.specs.Prelude.{◌≡◌, ◌++◌, [], List, map, All, OnOk, IfOk};
 ghost use Rattle.std.specs.Fmt.{signed_decimal};
 ghost use Rattle.std.specs.List.{flat_map};
 ghost use Rattle.mpc_linear.specs.declared.integers.RowInt.{RowInt as Row};
@@ -9,12 +9,14 @@ ghost use Rattle.mpc_plant.specs.declared.plants.Plant.{Plant};
 ghost use Rattle.mpc_words.specs.Words.{behind_blanks};
 ghost use Rattle.mpc_file.specs.Lines.{pair_words, cert_line};
 ghost use Rattle.mpc_file.specs.Writing.{ended};
+ghost use Rattle.mpc_file.specs.Names.{AreNames};
 ghost use Rattle.mpc_file.specs.PlaneNames.{plane_line, IsGoodPlane, IsGoodNode, ArePlanes, IsPairFit, CertFits, leaf_text, bare_leaf_text, IsNodeNumbered, AreNodesNumbered, IsTreeWritten};
 
 use super::names::Names;
 use super::words::{
     end_line, write_count, write_count_line, write_fraction, write_integer, write_piece,
 };
+use crate::line_laws::{one_integers, word_laws};
 use mpc_frac::{Frac, NoMemory};
 use mpc_linear::RowInt;
 use mpc_rows::{Cert, Certs, Node, Tree};
@@ -101,9 +103,10 @@ fn write_split(
     names: &mut Names,
     out: &mut Vec<u8>,
 ) -> Result<(), NoMemory>
-    ensures { OnOk result ((plant : Plant) (planes : List Row) → IsGoodPlane plant row.now → ArePlanes plant names.old planes
-        → IsNodeNumbered plant planes (Node.Split row.now) out.old.items out.new.items names.new) }
+    ensures { OnOk result ((plant : Plant) (planes : List Row) → IsGoodPlane plant row.now → ArePlanes plant (AreNames names.old) planes
+        → IsNodeNumbered plant planes (Node.Split row.now) out.old.items out.new.items (AreNames names.new)) }
 {
+    one_integers();
     let text = plane_line(alloc, row)?;
     let number = names.number(text)?;
     write_count_line(b"split", number, out)
@@ -116,8 +119,8 @@ fn write_node(
     names: &mut Names,
     out: &mut Vec<u8>,
 ) -> Result<(), NoMemory>
-    ensures { OnOk result ((plant : Plant) (planes : List Row) → IsGoodNode plant node.now → ArePlanes plant names.old planes
-        → IsNodeNumbered plant planes node.now out.old.items out.new.items names.new) }
+    ensures { OnOk result ((plant : Plant) (planes : List Row) → IsGoodNode plant node.now → ArePlanes plant (AreNames names.old) planes
+        → IsNodeNumbered plant planes node.now out.old.items out.new.items (AreNames names.new)) }
 {
     match node {
         Node::Split(row) => write_split(alloc, row, names, out),
@@ -133,8 +136,8 @@ fn write_nodes(
     names: &mut Names,
     out: &mut Vec<u8>,
 ) -> Result<(), NoMemory>
-    ensures { OnOk result ((plant : Plant) → All (IsGoodNode plant) tree.now → ArePlanes plant names.old []
-        → AreNodesNumbered plant tree.now out.old.items out.new.items names.new) }
+    ensures { OnOk result ((plant : Plant) → All (IsGoodNode plant) tree.now → ArePlanes plant (AreNames names.old) []
+        → AreNodesNumbered plant tree.now out.old.items out.new.items (AreNames names.new)) }
 {
     for k in 0..tree.len() {
         write_node(alloc, tree.at(k), names, out)?;
@@ -146,6 +149,7 @@ fn write_nodes(
 pub fn write_tree(alloc: Global, tree: &Tree, out: &mut Vec<u8>) -> Result<(), NoMemory>
     ensures { OnOk result ((plant : Plant) → All (IsGoodNode plant) tree.now → IsTreeWritten plant tree.now out.old.items out.new.items) }
 {
+    word_laws();
     let mut names = Names::new(alloc);
     let mut text = Vec::new(alloc);
     write_nodes(alloc, tree, &mut names, &mut text)?;

@@ -1,4 +1,3 @@
-use Rattle.std.proofs.Common.{◌≡◌, ◌∙◌, codes, sym, arith}
 use Rattle.mpc_file.proofs.named_trees.plane_count_in.Goals.{else-count-lt1000000000000000000-via-then-count-lt1000000000000000000+else-used-all, else-count-lt1000000000000000000-via-else-count-lt1000000000000000000}
 use Rattle.mpc_file.proofs.PlaneLists.{too_long}
 use Rattle.mpc_file.proofs.named_trees.plane_count_in.Goals as goal

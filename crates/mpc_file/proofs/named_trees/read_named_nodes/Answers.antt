@@ -1,4 +1,4 @@
-use Rattle.std.proofs.Common.{◌<◌, ◌^◌, ◌+◌, length, ap, arith}
+use Rattle.std.proofs.Common.{◌<◌, ◌^◌, length, arith}
 use Rattle.mpc_file.proofs.NamedReading.{named_none, named_small, named_more, named_node_error, named_given, named_shrinks}
 use Rattle.mpc_file.proofs.named_trees.read_named_nodes.Goals as goal
 

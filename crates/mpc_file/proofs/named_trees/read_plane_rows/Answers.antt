@@ -1,4 +1,4 @@
-use Rattle.std.proofs.Common.{◌≡◌, ◌∙◌, ◌<◌, List, length, nat_lt, ap, sym, subst}
+use Rattle.std.proofs.Common.{◌∙◌, ◌<◌, List, length, nat_lt, ap, sym, subst}
 use Rattle.mpc_linear.specs.declared.integers.RowInt.{RowInt}
 use Rattle.mpc_file.specs.Reading.{one_line, ReadsItems, no_item}
 use Rattle.mpc_file.specs.TreeGrammar.{plane_rule}

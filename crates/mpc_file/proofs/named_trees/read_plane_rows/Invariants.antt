@@ -1,4 +1,4 @@
-use Rattle.std.proofs.Common.{◌≡◌, nat_lt, List, length}
+use Rattle.std.proofs.Common.{◌≡◌, nat_lt, length}
 use Rattle.mpc_linear.specs.declared.integers.RowInt.{RowInt}
 use Rattle.mpc_file.specs.Reading.{one_line, ReadsItems}
 use Rattle.mpc_file.specs.TreeGrammar.{plane_rule}

@@ -8,10 +8,10 @@ returns-in_default c =
 
 pub returns-then-len-rows : goal.returns-then-len-rows
 returns-then-len-rows c =
-    wrong_size c.args.name.now c.args.text.now c.args.rows c.args.columns c.in-Some.entries (some_fractions c.args.name.now c.args.text.now c.in_ok-entries.field-0 c.in-Some.entries c.in-Some.is c.in_ok-entries.ensures)
+    wrong_size c.args.name.now c.args.text.now c.args.rows c.args.columns c.one_fractions.ensures c.in-Some.entries (some_fractions c.args.name.now c.args.text.now c.in_ok-entries.field-0 c.in-Some.entries c.in-Some.is c.in_ok-entries.ensures)
     (λ e. c.if-len-rows.true (c.len.ensures ∙ e))
 
 pub returns : goal.returns
 returns c =
-    matrix_is c.args.name.now c.args.text.now c.args.rows c.args.columns c.in-Some.entries c.in_ok-matrix.matrix (some_fractions c.args.name.now c.args.text.now c.in_ok-entries.field-0 c.in-Some.entries c.in-Some.is c.in_ok-entries.ensures)
+    matrix_is c.args.name.now c.args.text.now c.args.rows c.args.columns c.grid_laws.ensures c.in-Some.entries c.in_ok-matrix.matrix (some_fractions c.args.name.now c.args.text.now c.in_ok-entries.field-0 c.in-Some.entries c.in-Some.is c.in_ok-entries.ensures)
     (sym c.len.ensures ∙ c.if-len-rows.false) c.in_ok-matrix.ensures

@@ -5,7 +5,7 @@ use Rattle.mpc_file.proofs.plant_lines.sizes_in.Goals as goal
 
 pub returns-in-Some : goal.returns-in-Some
 returns-in-Some c =
-    sizes_told c.args.text.now c.as_slice.result.now
+    sizes_told c.args.text.now c.one_integers.ensures c.as_slice.result.now
     (subst (AreIntegers (codes "size") c.args.text.now) (sym c.as_slice.ensures) (some_integers (codes "size") c.args.text.now c.in_ok-numbers.field-0 c.in-Some.numbers c.in-Some.is c.in_ok-numbers.ensures)) c.sizes_of.result c.sizes_of.ensures
 
 pub returns-in-None : goal.returns-in-None

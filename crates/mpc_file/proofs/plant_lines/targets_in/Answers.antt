@@ -5,7 +5,7 @@ use Rattle.mpc_file.proofs.plant_lines.targets_in.Goals as goal
 
 pub returns-then-len-states : goal.returns-then-len-states
 returns-then-len-states c =
-    wrong_targets c.args.text.now c.args.sizes.now c.in-Some.goals (some_fractions (codes "goal") c.args.text.now c.in_ok-goals.field-0 c.in-Some.goals c.in-Some.is c.in_ok-goals.ensures) (λ e. c.if-len-states.true (c.len.ensures ∙ e))
+    wrong_targets c.args.text.now c.args.sizes.now c.in-Some.goals (some_fractions (codes "goal") c.args.text.now c.in_ok-goals.field-0 c.in-Some.goals c.in-Some.is c.in_ok-goals.ensures) c.one_fractions.ensures (λ e. c.if-len-states.true (c.len.ensures ∙ e))
 
 pub returns : goal.returns
 returns c =

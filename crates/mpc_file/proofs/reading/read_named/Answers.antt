@@ -3,7 +3,7 @@ use Rattle.std.proofs.lemmas.List.{length-map}
 use Rattle.mpc_controller.specs.Bounds.{IsController}
 use Rattle.mpc_file.specs.Reading.{one_line}
 use Rattle.mpc_file.specs.PlantGrammar.{plain_rule}
-use Rattle.mpc_file.specs.LawGrammar.{named_laws, law_named}
+use Rattle.mpc_file.specs.LawGrammar.{law_named}
 use Rattle.mpc_file.specs.TreeGrammar.{planes}
 use Rattle.mpc_file.specs.TreeReading.{named_tree_nodes}
 use Rattle.mpc_file.specs.FileGrammar.{named, IsEnd, parts_with}

@@ -16,10 +16,10 @@ returns-in_err-tree c =
     passed_on (written_tree c.args.plant c.len.result) (written c.args.plant) c.read_written_laws.new.lines c.read_written_tree.new.lines c.args.lines.now c.read_written_tree.new.lines c.from_residual-in_err-tree.result c.in_err-tree.field-0.0
     (tree_fails c.args.plant c.args.lines.now c.read_written_laws.new.lines c.in_ok-laws.laws c.in_ok-laws.ensures c.len.result c.len.ensures) c.in_err-tree.ensures c.from_residual-in_err-tree.ensures.1
 
-pub returns-in_err-read_end_word : goal.returns-in_err-read_end_word
-returns-in_err-read_end_word c =
-    passed_on (one_line (plain_rule (IsWord (Rattle.std.specs.Prelude.codes "end")))) (written c.args.plant) c.read_written_tree.new.lines c.read_end_word.new.lines c.args.lines.now c.read_end_word.new.lines c.from_residual-in_err-read_end_word.result c.in_err-read_end_word.field-0.0
-    (end_fails c.args.plant c.args.lines.now c.read_written_laws.new.lines c.in_ok-laws.laws c.in_ok-laws.ensures c.len.result c.len.ensures c.read_written_tree.new.lines c.in_ok-tree.tree c.in_ok-tree.ensures) c.in_err-read_end_word.ensures c.from_residual-in_err-read_end_word.ensures.1
+pub returns-in_err-read_word : goal.returns-in_err-read_word
+returns-in_err-read_word c =
+    passed_on (one_line (plain_rule (IsWord (Rattle.std.specs.Prelude.codes "end")))) (written c.args.plant) c.read_written_tree.new.lines c.read_word.new.lines c.args.lines.now c.read_word.new.lines c.from_residual-in_err-read_word.result c.in_err-read_word.field-0.0
+    (end_fails c.args.plant c.args.lines.now c.read_written_laws.new.lines c.in_ok-laws.laws c.in_ok-laws.ensures c.len.result c.len.ensures c.read_written_tree.new.lines c.in_ok-tree.tree c.in_ok-tree.ensures) c.in_err-read_word.ensures c.from_residual-in_err-read_word.ensures.1
 
 pub sealed-requires : goal.sealed-requires
 sealed-requires c =
@@ -39,7 +39,7 @@ returns c = (
           c.read_written_tree.new.lines,
           (
             tree_read c.args.plant c.args.lines.now c.read_written_laws.new.lines c.in_ok-laws.laws c.in_ok-laws.ensures c.len.result c.len.ensures c.read_written_tree.new.lines c.in_ok-tree.tree c.in_ok-tree.ensures,
-            (tt, (c.read_end_word.new.lines, (c.in_ok-read_end_word.ensures, (c.in_ok-controller.ensures, refl)))),
+            (tt, (c.read_word.new.lines, (c.in_ok-read_word.ensures, (c.in_ok-controller.ensures, refl)))),
           ),
         ),
       ),

@@ -1,4 +1,4 @@
-use Rattle.std.proofs.Common.{ℕ, List, codes}
+use Rattle.std.proofs.Common.{List, codes}
 use Rattle.mpc_exact.specs.Rational.{ℚ}
 use Rattle.mpc_file.specs.Spelling.{AreFractions}
 use Rattle.mpc_file.proofs.SpellingLemmas.{at_some}

@@ -1,6 +1,5 @@
-use Rattle.std.proofs.Common.{◌≡◌, ◌∷◌, List, refl}
+use Rattle.std.proofs.Common.{◌≡◌, ◌∷◌, refl}
 use Rattle.std.proofs.lemmas.Bool.{false≢true}
-use Rattle.mpc_exact.specs.Rational.{ℚ}
 use Rattle.mpc_file.proofs.CertReading.{no_pair, pair_more, pair_rises, all_pairs, cert_over, refused_position, refused_zero, refused_one, behind_two, two_first, fewer_behind, is_empty, not_empty}
 use Rattle.mpc_file.proofs.tree_lines.cert_of.Goals.{In_ok-push}
 use Rattle.mpc_file.proofs.tree_lines.cert_of.Goals as goal

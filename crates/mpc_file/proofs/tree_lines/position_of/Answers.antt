@@ -1,4 +1,4 @@
-use Rattle.std.proofs.Common.{◌≡◌, ◌∙◌, ap, sym, pos, of_z}
+use Rattle.std.proofs.Common.{◌∙◌, ap, sym, pos, of_z}
 use Rattle.std.specs.Int.{w128}
 use Rattle.mpc_file.proofs.NumberLines.{whole_denom}
 use Rattle.mpc_file.proofs.CertReading.{position_is, too_low, too_high}

@@ -1,6 +1,5 @@
-use Rattle.std.proofs.Common.{◌≡◌, ◌∙◌, ◌<◌, ◌≤◌, ◌^◌, ◌+◌, List, length, sym, arith}
+use Rattle.std.proofs.Common.{◌<◌, ◌^◌, List, length, arith}
 use Rattle.mpc_linear.specs.declared.integers.RowInt.{RowInt}
-use Rattle.mpc_file.specs.Reading.{LineRule}
 use Rattle.mpc_file.specs.TreeGrammar.{NodeOver, written_split, written_node}
 use Rattle.mpc_file.proofs.TreeReading.{no_node, depth_small, node_more, node_shrinks, node_given, written_owes, written_text}
 use Rattle.mpc_file.proofs.tree_lines.read_written_nodes.Goals.{In_ok-push}

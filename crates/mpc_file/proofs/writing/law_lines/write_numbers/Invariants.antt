@@ -1,7 +1,8 @@
 use Rattle.std.proofs.Common.{List, take}
 use Rattle.mpc_exact.specs.Rational.{ℚ}
+use Rattle.mpc_file.specs.Names.{AreNames}
 use Rattle.mpc_file.specs.FormNames.{AreForms, AreNumbered}
 use Rattle.mpc_file.proofs.writing.law_lines.write_numbers.Given as goal
 
 abbrev pub invariant-loop-i : goal.invariant-loop-i
-invariant-loop-i l = (forms : List (List ℚ)) → AreForms l.initial.names forms → AreNumbered forms (take l.i l.matrix.rows) l.initial.out.items l.out.items l.names
+invariant-loop-i l = (forms : List (List ℚ)) → AreForms (AreNames l.initial.names) forms → AreNumbered forms (take l.i l.matrix.rows) l.initial.out.items l.out.items (AreNames l.names)

@@ -4,13 +4,14 @@ use Rattle.std.specs.Prelude.{codes}
 use Rattle.mpc_file.specs.Lines.{count_line}
 use Rattle.mpc_file.specs.Writing.{ended}
 use Rattle.mpc_file.specs.FormNames.{AreLawsNumbered}
+use Rattle.mpc_file.specs.Names.{AreNames}
 use Rattle.mpc_file.proofs.FormNameLemmas.{no_forms, table_written}
 use Rattle.mpc_file.proofs.writing.law_lines.write_table.Goals as goal
 
 pub returns : goal.returns
 returns c =
-    let numbered : AreLawsNumbered c.args.laws.now [] c.write_laws.new.out.items c.write_laws.new.names =
-    subst (λ t. AreLawsNumbered c.args.laws.now t c.write_laws.new.out.items c.write_laws.new.names) c.new-text.ensures.items (c.in_ok-write_laws.ensures (no_forms c.new-names.result c.new-names.ensures)) in
+    let numbered : AreLawsNumbered c.args.laws.now [] c.write_laws.new.out.items (AreNames c.write_laws.new.names) =
+    subst (λ t. AreLawsNumbered c.args.laws.now t c.write_laws.new.out.items (AreNames c.write_laws.new.names)) c.new-text.ensures.items (c.in_ok-write_laws.ensures (no_forms (AreNames c.new-names.result) c.new-names.ensures)) in
     on_ok_weaker c.write_piece-2.result
     (λ added. table_written c.args.laws.now c.args.out.now.items c.write_count_line.new.out.items c.write_piece.new.out.items c.write_count_line-2.new.out.items c.write_piece-2.new.out.items
     c.write_laws.new.out.items c.text.result.now c.len.result c.write_laws.new.names numbered c.len.ensures c.text.ensures

@@ -5,7 +5,7 @@ use Rattle.std.proofs.Common.{◌∙◌, sym, ap}
 use Rattle.mpc_file.specs.Lines.{grid_line}
 use Rattle.mpc_file.specs.Writing.{ended, text_of_lines, size_line, matrix_lines, drift_line, goal_line, row_lines, last_lines}
 use Rattle.mpc_file.proofs.GrownTexts.{joined, line_and_blocks}
-use Rattle.mpc_file.proofs.PlantPrints.{plant_prints}
+use Rattle.mpc_file.proofs.PlantPrints.{lines_print}
 use Rattle.mpc_file.proofs.writing.plant_lines.write_plant.Goals as goal
 
 pub returns-clause-text : goal.returns-clause-text
@@ -26,7 +26,7 @@ returns-clause-text c =
 pub returns-clause-prints : goal.returns-clause-prints
 returns-clause-prints c =
     on_ok_weaker c.write_grid.result
-    (λ fits. plant_prints c.args.plant.now c.args.plant.now.is_plant
+    (λ fits. lines_print c.word_laws.ensures c.args.plant.now
     (record {
       matrices = c.in_ok-write_matrices.ensures.fits;
       drift = c.in_ok-write_drift.ensures.fits;

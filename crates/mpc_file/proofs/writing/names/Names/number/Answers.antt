@@ -5,7 +5,7 @@ use Rattle.std.specs.BTreeMap.{get, btree_map_len}
 use Rattle.std.specs.Ordering.{nat_cmp, is_eq}
 use Rattle.std.specs.Cmp.Lexicographic.{slice_cmp}
 use Rattle.mpc_file.specs.Writing.{ended}
-use Rattle.mpc_file.specs.Names.{IsNamed}
+use Rattle.mpc_file.specs.Names.{AreNames, IsNamed}
 use Rattle.mpc_file.proofs.NameLemmas.{is_found, named_before, named_behind}
 use Rattle.mpc_file.proofs.writing.names.Names.number.Goals as goal
 
@@ -21,7 +21,7 @@ returns c = λ lines are.
     insert.len ∙ ap (λ o. btree_map_len c.args.self.now.numbers + (if is_some o then 0 else 1)) (insert.old ∙ absent) ∙ ap (λ n. n + 1) are.count in
     let text : c.end_line.new.out.items ≡ c.args.self.now.text.items ++ ended c.args.line.items =
     c.in_ok-end_line.ensures ∙ ap (λ t. t ++ codes "\n") (c.in_ok-write_piece.ensures ∙ ap (λ s. c.args.self.now.text.items ++ s) c.as_slice.ensures.value) ∙ append_assoc c.args.self.now.text.items c.args.line.items (codes "\n") in
-    subst (λ k. IsNamed lines c.args.line.items k (record { numbers = c.insert.new.self; text = c.end_line.new.out })) (sym size)
+    subst (λ k. IsNamed lines c.args.line.items k (AreNames (record { numbers = c.insert.new.self; text = c.end_line.new.out }))) (sym size)
     (named_behind c.args.self.now (record { numbers = c.insert.new.self; text = c.end_line.new.out }) lines c.args.line are absent
     (λ q. insert.updates.0 q ∙ ap (λ k. cond (is_eq (slice_cmp nat_cmp c.args.line.items q.items)) (Some k) (get (λ x y. slice_cmp nat_cmp x.items y.items) c.args.self.now.numbers q)) size)
     grown text)
