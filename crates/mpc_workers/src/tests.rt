@@ -1,19 +1,21 @@
 //! Tests of workers on a program with one unknown and one count.
 
-ghost use Rattle.std.specs.Prelude.{◌≡◌, ◌≤◌, IfOk, IsTrue, length, pos};
+ghost use Rattle.std.specs.Prelude.{◌≡◌, ◌≤◌, [], IfOk, IsTrue, length, pos};
 ghost use Rattle.mpc_exact.specs.Rational.{int, lt_ℚ};
 ghost use Rattle.mpc_space.specs.Definite.{IsDefinite};
 ghost use Rattle.mpc_space.specs.Matrix.{height};
 ghost use Rattle.mpc_linear.specs.Shape.{HasShape};
+ghost use Rattle.mpc_turn.specs.Views.{hand_of};
 
 use crate::{WorkError, enumerate, enumerate_alone};
-use mpc_claim::{Action, EventKind, Phase, Played, World};
+use mpc_claim::{Action, Claimed, EventKind, Phase, Played, Registry, World, legal_laws};
 use mpc_frac::{Frac, NoMemory};
 use mpc_linear::Matrix;
 use mpc_port::{Gate, OpenGate};
 use mpc_region::examine;
 use mpc_rows::{Counts, Qp};
 use mpc_sets::ActiveSet;
+use mpc_turn::{Pass, Turn};
 use std::alloc::Global;
 use std::process::Abort;
 use std::sync::{Barrier, Mutex, Wait};
@@ -188,6 +190,58 @@ fn two_workers_at_once(rt: HostRuntime) -> Result<(), Fail> {
         });
         assert_eq!(rt; claims.count(), 1);
     }
+    Ok(())
+}
+
+/// Whether a claim by the pass, which has an empty hand, finds all sets claimed. A set that it is
+/// given is given up.
+fn finds_idle<T: Wait>(rt: &T, turn: &Turn, pass: &mut Pass) -> bool
+    requires turn { pass.old.turn ≡ turn.now }
+    requires empty { hand_of pass.old.calls ≡ [] }
+{
+    legal_laws();
+    match turn.claim_as(rt, pass) {
+        Ok(Claimed::Job(ticket)) => {
+            let _ = turn.abandon_as(rt, pass, ticket);
+            false
+        }
+        Ok(Claimed::Idle) => true,
+        Ok(Claimed::Finished) => false,
+        Ok(Claimed::Stopped) => false,
+        Err(_) => false,
+    }
+}
+
+/// The set that a claim by the first pass is given, where a claim by the other then finds all sets
+/// claimed. The set is given up afterwards.
+fn held_alone<T: Wait>(rt: &T, turn: &Turn, first: &mut Pass, other: &mut Pass) -> Option<u64>
+    requires turn { (first.old.turn ≡ turn.now) × (other.old.turn ≡ turn.now) }
+    requires empty { (hand_of first.old.calls ≡ []) × (hand_of other.old.calls ≡ []) }
+{
+    legal_laws();
+    match turn.claim_as(rt, first) {
+        Ok(Claimed::Job(ticket)) => {
+            let mask = ticket.set().mask();
+            let idle = finds_idle(rt, turn, other);
+            let _ = turn.abandon_as(rt, first, ticket);
+            if idle { Some(mask) } else { None }
+        }
+        Ok(Claimed::Idle) => None,
+        Ok(Claimed::Finished) => None,
+        Ok(Claimed::Stopped) => None,
+        Err(_) => None,
+    }
+}
+
+#[test]
+fn second_pass_waits(rt: HostRuntime) -> Result<(), Fail> {
+    let qp = limited(rt.alloc())?;
+    assert!(rt; is_positive_number(&qp.h));
+    let registry = Registry::begin(rt.alloc(), &qp)?;
+    let (turn, mut first) = Turn::over(rt.alloc(), registry)?;
+    let mut other = turn.split_pass(&mut first, 1);
+    let mask = held_alone(&rt, &turn, &mut first, &mut other);
+    assert_eq!(rt; mask, Some(ActiveSet::empty().mask()));
     Ok(())
 }
 
