@@ -24,15 +24,13 @@ fn tells_each_failing_write(rt: HostRuntime) -> Result<(), Fail> {
     let input =
         b"{\"version\":1,\"horizon\":1,\"A\":[[1]],\"B\":[[1]],\"Q\":[[1]],\"R\":[[1]],\"P\":[[1]],\"rows\":[{\"u\":[1],\"max\":1},{\"u\":[-1],\"max\":1}],\"terminal\":[{\"x\":[1],\"max\":1},{\"x\":[-1],\"max\":1}],\"grid\":[{\"low\":-4,\"step\":1,\"count\":8}]}\nstates\n1\n2\n6\n7\n";
     let output = b"infeasible\n1\n-1\ninfeasible\n".as_slice();
-    let mut call = 1u64;
     for sent in 0..output.len() {
-        let fails = vec![in rt.alloc(); call]?;
+        let fails = vec![in rt.alloc(); sent as u64 + 1]?;
         let mut source = QuietSource::new(input.to_vec(rt.alloc())?);
         let mut sink = MemorySink::new(rt.alloc(), 1, fails);
         let status = run_words(&rt, rt.alloc(), "run", &mut source, &mut sink)?;
         assert_eq!(rt; status.code(), 9);
         assert_eq!(rt; sink.bytes(), &output[..sent]);
-        call += 1;
     }
     Ok(())
 }
