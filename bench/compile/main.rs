@@ -40,8 +40,8 @@ unsafe extern "C" {
     ) -> u32;
 }
 
-const PHASES: [&str; 9] = ["read", "condense", "pivots", "enumerate", "collect", "tree", "seal", "table", "reply"];
-const REPLY: u32 = 9;
+const PHASES: [&str; 5] = ["read", "decide", "controller", "table", "reply"];
+const REPLY: u32 = 5;
 const MOVED: u32 = 0;
 const INFEASIBLE: u32 = 1;
 const ASKED: u32 = 3;
@@ -141,11 +141,11 @@ fn least_time(request: &Request, last: u32, rounds: u32) -> f64 {
 }
 
 /// The least milliseconds of the runs up to each phase; behind the last one, those with more replies.
-fn least_times(request: &Request) -> [f64; 10] {
-    let mut least = [f64::MAX; 10];
+fn least_times(request: &Request) -> [f64; 6] {
+    let mut least = [f64::MAX; 6];
     for _ in 0..GOES {
         for (place, least) in least.iter_mut().enumerate() {
-            let rounds = if place == 9 { REPLIES + 1 } else { 1 };
+            let rounds = if place == 5 { REPLIES + 1 } else { 1 };
             *least = least.min(least_time(request, REPLY.min(place as u32 + 1), rounds));
         }
     }
@@ -153,10 +153,10 @@ fn least_times(request: &Request) -> [f64; 10] {
 }
 
 /// The milliseconds of each phase, from the times of the runs up to them.
-fn phase_times(least: &[f64; 10]) -> [f64; 9] {
+fn phase_times(least: &[f64; 6]) -> [f64; 5] {
     std::array::from_fn(|phase| match phase {
         0 => least[0],
-        8 => (least[9] - least[8]) / REPLIES as f64,
+        4 => (least[5] - least[4]) / REPLIES as f64,
         _ => (least[phase] - least[phase - 1]).max(0.0),
     })
 }
@@ -172,17 +172,17 @@ fn print_line(path: &str) {
     let least = least_times(&request);
     let Sizes { candidates, laws, nodes } = answer.sizes;
     print!("{:18} {candidates:7} {laws:5} {nodes:6}", name_of(path));
-    for time in &phase_times(&least)[..8] {
-        print!(" {time:9.3}");
+    for time in &phase_times(&least)[..4] {
+        print!(" {time:10.3}");
     }
-    println!(" {:9.5} {:10.3}   {}", phase_times(&least)[8], least[8], reply(&answer));
+    println!(" {:10.5} {:10.3}   {}", phase_times(&least)[4], least[4], reply(&answer));
 }
 
 fn main() {
     println!("milliseconds of each phase, and of all");
     print!("{:18} {:>7} {:>5} {:>6}", "plant", "sets", "laws", "nodes");
     for phase in PHASES {
-        print!(" {phase:>9}");
+        print!(" {phase:>10}");
     }
     println!(" {:>10}   reply", "all");
     std::env::args().skip(1).for_each(|path| print_line(&path));

@@ -2,37 +2,31 @@
 use Rattle.std.proofs.Common.{◌≡◌, ℕ, zero, suc, ◌-◌, ◌<◌, ◌≤◌, List, [], ◌∷◌, length, get_or, map, take, Some, None, pos, refl, sym, ◌∙◌, ap, subst, arith}
 use Rattle.std.specs.Prelude.{All, slice_get}
 use Rattle.std.proofs.lemmas.List.{length-map, get_or-map}
-use Rattle.std.proofs.lemmas.List.Elements.{All-contains}
 use Rattle.std.proofs.lemmas.Option.{slice_get_within, get_or_from_slice_get}
 use Rattle.mpc_exact.specs.Rational.{ℚ, int}
 use Rattle.mpc_space.specs.Vector.{dot, mat_vec}
-use Rattle.mpc_space.specs.Matrix.{height}
-use Rattle.mpc_space.specs.Definite.{IsDefinite}
 use Rattle.mpc_parts.specs.declared.Parts.{Parts as SentParts}
 use Rattle.mpc_parts.specs.Parts.{value_of}
 use Rattle.mpc_plant.specs.declared.plants.Plant.{Plant}
 use Rattle.mpc_plant.specs.declared.lists.Coordinate.{Coordinate}
 use Rattle.mpc_plant.specs.Reply.{Reply, move, infeasible, IsRight}
-use Rattle.mpc_plant.specs.Trajectory.{point_of}
-use Rattle.mpc_rows.specs.ActiveSets.{extended}
+use Rattle.mpc_plant.specs.Trajectory.{IsWithin, point_of}
+use Rattle.mpc_rows.specs.ActiveSets.{IsInBox, extended}
 use Rattle.mpc_rows.specs.declared.programs.Qp.{Qp}
 use Rattle.mpc_rows.specs.declared.laws.Law.{Law}
-use Rattle.mpc_rows.specs.declared.trees.Node.{Node}
-use Rattle.mpc_rows.specs.Candidates.{IsTable}
-use Rattle.mpc_rows.specs.SetRuns.{LawRowsFit}
-use Rattle.mpc_condense.specs.Condensed.{IsCondensed}
-use Rattle.mpc_tree.specs.Trees.{whole_box}
-use Rattle.mpc_tree.specs.Certified.{IsCertified, CertifiedIsTree}
+use Rattle.mpc_condense.specs.Condensed.{counts_of, IsCondensed}
 use Rattle.mpc_controller.specs.Parts.{Parts, limits_of, IsLawFor, HaveShapes}
 use Rattle.mpc_controller.specs.Bounds.{first_move_form}
 use Rattle.mpc_controller.specs.Replies.{first_outside, IsLawNumbered, RepliesAt, by_law, by_no_law}
 use Rattle.mpc_table.specs.Lookup.{Lookup, IsTableOf}
 use Rattle.mpc_table.specs.TableReplies.{IsMoveReply, IsInfeasibleReply, CanMove}
 use Rattle.mpc_table.specs.TableLaws.{OneListEach, MovesEachInput}
-use Rattle.mpc_answers.specs.Replies.{RightReplies, PartsHaveShapes, GridIsInBox}
+use Rattle.mpc_answers.specs.Replies.{GridIsInBox}
+use Rattle.mpc_synthesis.specs.Controllers.{IsController, ControllerIsRight}
+use Rattle.mpc_compile_c.specs.declared.Sizes.{Sizes}
 use Rattle.mpc_compile_c.specs.declared.replies.Answer.{Answer}
 use Rattle.mpc_compile_c.specs.declared.replies.Answer.TheVariants.{Moved, Infeasible, Outside}
-use Rattle.mpc_compile_c.specs.Answers.{no_parts, IsControllerOf, HoldsFor, IsMoveOf, RepliesBy, IsRightAt}
+use Rattle.mpc_compile_c.specs.Answers.{no_parts, HaveSizes, HoldsFor, IsMoveOf, RepliesBy, IsRightAt, IsAnsweredFor}
 
 -- ---- the numbers of a move
 first_moves : (p : ℕ) (rows : List (List ℚ)) (x us : List ℚ) → length us ≡ p → p ≤ length rows → ((k : ℕ) → k < p → get_or us k (int (pos 0)) ≡ dot (get_or rows k []) x) → us ≡ take p (mat_vec rows x)
@@ -81,43 +75,43 @@ pub past : (parts : Parts) (counts : List ℕ) (i : ℕ) (moves : List ℚ) → 
 past parts counts i moves e h = let a = e in let b = h in absurd cc
 
 -- ---- and by the plant
-module _ (right : RightReplies) (tree_of : CertifiedIsTree) (grid : GridIsInBox) (plant : Plant) (parts : Parts) (counts : List ℕ) (is : IsControllerOf plant parts) (size : length counts ≡ plant.n) where
+within_grid : (grid : List Coordinate) (t : List ℚ) → IsInBox (counts_of grid) t → IsWithin grid t
+within_grid [] [] h = h
+within_grid [] (x ∷ t) h = absurd h
+within_grid (axis ∷ grid) [] h = absurd h
+within_grid (axis ∷ grid) (x ∷ t) h = (h.0, h.1, within_grid grid t h.2)
+
+module _ (right : ControllerIsRight) (grid : GridIsInBox) (plant : Plant) (qp : Qp) (parts : Parts) (counts : List ℕ) (is : IsController plant qp parts) (size : length counts ≡ plant.n) where
   inside_of : first_outside (limits_of parts.plant) counts ≡ None → first_outside (limits_of plant) counts ≡ None
-  inside_of h = ap (λ p. first_outside (limits_of p) counts) (sym is.plant_is) ∙ h
+  inside_of h = ap (λ p. first_outside (limits_of p) counts) (sym is.is_sealed.plant_is) ∙ h
 
   right_at : (reply : Reply) → first_outside (limits_of parts.plant) counts ≡ None → RepliesAt parts (point_of counts) reply → IsRight plant (point_of counts) reply
   right_at reply h r =
-      subst (λ p. IsRight p (point_of counts) reply) is.plant_is
-      (right is.qp parts (point_of counts) reply (subst (IsCondensed is.qp) (sym is.plant_is) is.condensed) is.definite is.table (tree_of is.qp parts.laws whole_box parts.tree is.tree) (grid plant is.qp counts is.condensed size (inside_of h)) r)
+      let condensed : IsCondensed qp plant = is.is_sealed.has_tree.verdicts.has_program.condensed in
+      right plant qp parts (point_of counts) reply is (within_grid plant.grid (point_of counts) (subst (λ l. IsInBox l (point_of counts)) condensed.counts_are (grid plant qp counts condensed size (inside_of h)))) r
 
-  pub right_reply : (moves : List ℚ) (answer : Answer) → RepliesBy parts counts moves answer → IsRightAt plant counts moves answer
+  right_reply : (moves : List ℚ) (answer : Answer) → RepliesBy parts counts moves answer → IsRightAt plant counts moves answer
   right_reply moves Moved h = (inside_of h.0, right_at (move moves) h.0 h.1)
   right_reply moves Infeasible h = (inside_of h.0, right_at infeasible h.0 h.1)
-  right_reply moves Outside h = λ k. h (ap (λ p. first_outside (limits_of p) counts) is.plant_is ∙ k)
+  right_reply moves Outside h = λ k. h (ap (λ p. first_outside (limits_of p) counts) is.is_sealed.plant_is ∙ k)
 
--- ---- the parts of a controller
-pub limits_size : (plant : Plant) → length (limits_of plant) ≡ plant.n
+  -- what the controller's table replies
+  pub answered : (table : Lookup) (sizes : Sizes) (moves : List ℚ) (answer : Answer) → IsTableOf parts table → HaveSizes sizes parts
+      → ((p : Parts) → HoldsFor p table → RepliesBy p counts moves answer) → IsAnsweredFor plant counts sizes moves answer
+  answered table sizes moves answer of_parts have replied = record {
+    right = right_reply moves answer (replied parts (record { shapes = subst (λ p. HaveShapes p parts.laws parts.tree) (sym is.is_sealed.plant_is) is.is_sealed.fits.shapes; table_of = of_parts }));
+    qp = qp;
+    parts = parts;
+    controller = is;
+    sizes_are = have;
+  }
+
+-- ---- the sizes of a request
+limits_size : (plant : Plant) → length (limits_of plant) ≡ plant.n
 limits_size plant = length-map plant.grid (λ (axis : Coordinate). axis.count) ∙ plant.is_plant.grid_size
 
-pub counts_size : (plant : Plant) (parts : Parts) (table : Lookup) (counts : List ℕ) → IsControllerOf plant parts → IsTableOf parts table → length counts ≡ plant.n → length counts ≡ length table.limits
-counts_size plant parts table counts is h e = e ∙ sym (limits_size plant) ∙ ap (λ p. length (limits_of p)) (sym is.plant_is) ∙ ap length (sym h.limits_are)
+pub counts_size : (plant : Plant) (parts : Parts) (table : Lookup) (n : ℕ) → parts.plant ≡ plant → IsTableOf parts table → n ≡ plant.n → n ≡ length table.limits
+counts_size plant parts table n is h e = e ∙ sym (limits_size plant) ∙ ap (λ p. length (limits_of p)) (sym is) ∙ ap length (sym h.limits_are)
 
-pub inputs_size : (plant : Plant) (parts : Parts) (table : Lookup) (n : ℕ) → IsControllerOf plant parts → IsTableOf parts table → n ≡ plant.p → n ≡ table.inputs
-inputs_size plant parts table n is h e = e ∙ ap (λ (p : Plant). p.p) (sym is.plant_is) ∙ sym h.inputs_are
-
-pub shapes : PartsHaveShapes → (qp : Qp) (plant : Plant) (laws : List Law) (nodes : List Node) → IsCondensed qp plant → IsTable qp laws → All (λ law. LawRowsFit qp law (height qp.g)) laws → IsCertified qp laws whole_box nodes → HaveShapes plant laws nodes
-shapes have qp plant laws nodes condensed table fit tree = have qp plant laws nodes condensed table (λ law c. All-contains (λ l. LawRowsFit qp l (height qp.g)) laws law fit c) tree
-
-pub controller_of : PartsHaveShapes → (plant : Plant) (qp : Qp) (laws : List Law) (nodes : List Node) (parts : Parts) → IsCondensed qp plant → IsDefinite qp.h.rows → IsTable qp laws → All (λ law. LawRowsFit qp law (height qp.g)) laws → IsCertified qp laws whole_box nodes
-    → parts ≡ record { plant = plant; laws = laws; tree = nodes } → IsControllerOf plant parts
-controller_of have plant qp laws nodes parts condensed definite table fit tree e =
-    subst (IsControllerOf plant) (sym e)
-    (record {
-      plant_is = refl;
-      shapes = shapes have qp plant laws nodes condensed table fit tree;
-      qp = qp;
-      condensed = condensed;
-      definite = definite;
-      table = table;
-      tree = tree;
-    })
+pub inputs_size : (plant : Plant) (parts : Parts) (table : Lookup) (n : ℕ) → parts.plant ≡ plant → IsTableOf parts table → n ≡ plant.p → n ≡ table.inputs
+inputs_size plant parts table n is h e = e ∙ ap (λ (p : Plant). p.p) (sym is) ∙ sym h.inputs_are

@@ -1,33 +1,24 @@
--- Why a part of a run ends is why the whole ends.
-use Rattle.std.proofs.Common.{◌≡◌, ℕ, List, ◌⊎◌, inl, inr}
+-- Why the run for a plant ends is why the run for its file ends.
+use Rattle.std.proofs.Common.{◌≡◌, ℕ, List, sym, subst, Result, Ok, Err}
+use Rattle.std.specs.Result.{IfErr, IsErrAnd}
 use Rattle.mpc_plant.specs.declared.plants.Plant.{Plant}
 use Rattle.mpc_plant.specs.WholePlant.{ReadsAsPlant}
+use Rattle.mpc_synthesis.specs.declared.errors.SynthesisError.{SynthesisError}
+use Rattle.mpc_synthesis.specs.declared.errors.SynthesisError.TheVariants.{NotDefinite as NotDefinitePlant, TooWide as TooWidePlant, NoMemory as NoMoreMemory}
+use Rattle.mpc_synthesis.specs.Refusals.{controller, ExplainsSynthesisError}
 use Rattle.mpc_compile_c.specs.declared.phases.Phase.{Phase}
 use Rattle.mpc_compile_c.specs.declared.phases.Stop.{Stop}
 use Rattle.mpc_compile_c.specs.declared.phases.Stop.TheVariants.{Asked, BadPlant, NotDefinite, TooWide, NoMemory, OtherSizes}
-use Rattle.mpc_rows.specs.declared.programs.Qp.{Qp}
-use Rattle.mpc_claim.specs.declared.events.Phase.TheVariants.{Finished, Stopped}
-use Rattle.mpc_claim.specs.Board.{Board}
-use Rattle.mpc_claim.specs.History.{IsFinished, EndsWide}
-use Rattle.mpc_workers.specs.Alone.{IsDoneAlone}
-use Rattle.mpc_compile_c.specs.Stops.{HasWideSet, IsTooWide, EndsBy, ExplainsStop}
-use Rattle.mpc_compile_c.specs.Runs.{ExplainsEnd}
+use Rattle.mpc_compile_c.specs.Runs.{stop_of, ExplainsStop, ExplainsEnd}
 
--- a registry that one worker left unfinished ended with a wide verdict
-pub wide_set : (qp : Qp) (board : Board) → IsDoneAlone qp board → (board.phase ≡ Finished → ⊥) → HasWideSet qp
-wide_set qp board done unfinished = by done.ended
-  where
-    by : ((board.phase ≡ Finished) × IsFinished qp board.history) ⊎ ((board.phase ≡ Stopped) × EndsWide qp board.history) → HasWideSet qp
-    by (inl h) = absurd (unfinished h.0)
-    by (inr h) = (board.history, done.legal, h.1)
+stopped : (plant : Plant) (last : Phase) (error : SynthesisError) → ExplainsSynthesisError controller plant error → ExplainsStop plant last (stop_of error)
+stopped plant last (NotDefinitePlant pivot) h = (pivot, h)
+stopped plant last (TooWidePlant place) h = (place, h)
+stopped plant last NoMoreMemory h = h
 
-pub explained : (plant : Plant) (last : Phase) (W : Type 0) → (W → IsTooWide plant) → (stop : Stop) → EndsBy last W stop → ExplainsStop plant last stop
-explained plant last W f Asked h = h
-explained plant last W f BadPlant h = h
-explained plant last W f NotDefinite h = absurd h
-explained plant last W f TooWide h = f h
-explained plant last W f NoMemory h = h
-explained plant last W f OtherSizes h = h
+pub refused : {T : Type 0} (plant : Plant) (last : Phase) (error : SynthesisError) (r : Result T Stop) → IsErrAnd r (λ stop. stop ≡ stop_of error) → ExplainsSynthesisError controller plant error → IfErr r (ExplainsStop plant last)
+refused plant last error (Ok x) h cause = absurd h
+refused plant last error (Err stop) h cause = subst (ExplainsStop plant last) (sym h) (stopped plant last error cause)
 
 pub ended : (file : List ℕ) (counts room : ℕ) (plant : Plant) (last : Phase) (stop : Stop) → ReadsAsPlant file plant → ExplainsStop plant last stop → ExplainsEnd file counts room last stop
 ended file counts room plant last Asked read h = h

@@ -1,20 +1,16 @@
 -- The controller of a plant, and which answers to counts are right.
 use Rattle.std.specs.Prelude.{◌≡◌, ℕ, List, length, None, false}
 use Rattle.mpc_exact.specs.Rational.{ℚ}
-use Rattle.mpc_space.specs.Definite.{IsDefinite}
 use Rattle.mpc_parts.specs.declared.Parts.{Parts as SentParts}
 use Rattle.mpc_plant.specs.declared.plants.Plant.{Plant}
 use Rattle.mpc_plant.specs.Reply.{move, infeasible, IsRight}
 use Rattle.mpc_plant.specs.Trajectory.{point_of}
 use Rattle.mpc_rows.specs.declared.programs.Qp.{Qp}
 use Rattle.mpc_rows.specs.declared.laws.Law.{Law}
-use Rattle.mpc_rows.specs.Candidates.{IsTable}
-use Rattle.mpc_condense.specs.Condensed.{IsCondensed}
-use Rattle.mpc_tree.specs.Trees.{whole_box}
-use Rattle.mpc_tree.specs.Certified.{IsCertified}
 use Rattle.mpc_controller.specs.Parts.{Parts, limits_of, HaveShapes}
 use Rattle.mpc_controller.specs.Replies.{first_outside, first_move, IsLawNumbered, RepliesAt}
 use Rattle.mpc_table.specs.Lookup.{Lookup, IsTableOf}
+use Rattle.mpc_synthesis.specs.Controllers.{IsController}
 use Rattle.mpc_compile_c.specs.declared.Sizes.{Sizes}
 use Rattle.mpc_compile_c.specs.declared.replies.Answer.{Answer}
 use Rattle.mpc_compile_c.specs.declared.replies.Answer.TheVariants.{Moved, Infeasible, Outside}
@@ -22,16 +18,6 @@ use Rattle.mpc_compile_c.specs.declared.replies.Answer.TheVariants.{Moved, Infea
 -- what stands behind the last number
 abbrev pub no_parts : SentParts
 no_parts = record { negative = false; num_high = 0; num_low = 0; den_high = 0; den_low = 0 }
-
--- the plant, the table of its program's laws, and the table's search tree
-pub record IsControllerOf (plant : Plant) (parts : Parts) : Type 0 where
-  pub plant_is : parts.plant ≡ plant
-  pub shapes : HaveShapes parts.plant parts.laws parts.tree
-  pub qp : Qp
-  pub condensed : IsCondensed qp plant
-  pub definite : IsDefinite qp.h.rows
-  pub table : IsTable qp parts.laws
-  pub tree : IsCertified qp parts.laws whole_box parts.tree
 
 -- as many laws and nodes
 pub record HaveSizes (sizes : Sizes) (parts : Parts) : Type 0 where
@@ -60,9 +46,10 @@ IsRightAt plant counts moves Moved = (first_outside (limits_of plant) counts ≡
 IsRightAt plant counts moves Infeasible = (first_outside (limits_of plant) counts ≡ None) × IsRight plant (point_of counts) infeasible
 IsRightAt plant counts moves Outside = ¬ (first_outside (limits_of plant) counts ≡ None)
 
--- the right answer, and the sizes of the controller that gives it
+-- the right answer, and the sizes of the plant's controller, which the checker accepts
 pub record IsAnsweredFor (plant : Plant) (counts : List ℕ) (sizes : Sizes) (moves : List ℚ) (answer : Answer) : Type 0 where
   pub right : IsRightAt plant counts moves answer
+  pub qp : Qp
   pub parts : Parts
-  pub controller : IsControllerOf plant parts
+  pub controller : IsController plant qp parts
   pub sizes_are : HaveSizes sizes parts

@@ -1,9 +1,13 @@
--- What is answered to a plant file and counts.
+-- What is answered to a plant file and counts, and why a run ends before its reply.
 use Rattle.std.specs.Prelude.{◌≢◌, ℕ, ◌⊎◌, List}
 use Rattle.mpc_exact.specs.Rational.{ℚ}
 use Rattle.mpc_plant.specs.declared.plants.Plant.{Plant}
 use Rattle.mpc_plant.specs.declared.faults.PlantKind.{PlantKind}
 use Rattle.mpc_plant.specs.WholePlant.{ReadsAsPlant, IsFirstFault}
+use Rattle.mpc_rows.specs.declared.places.Place.{Place}
+use Rattle.mpc_synthesis.specs.declared.errors.SynthesisError.{SynthesisError}
+use Rattle.mpc_synthesis.specs.declared.errors.SynthesisError.TheVariants.{NotDefinite as NotDefinitePlant, TooWide as TooWidePlant, NoMemory as NoMoreMemory}
+use Rattle.mpc_synthesis.specs.Refusals.{controller, IsNotDefiniteAt, FirstWide}
 use Rattle.mpc_compile_c.specs.declared.Sizes.{Sizes}
 use Rattle.mpc_compile_c.specs.declared.replies.Answer.{Answer}
 use Rattle.mpc_compile_c.specs.declared.phases.Phase.{Phase}
@@ -11,8 +15,32 @@ use Rattle.mpc_compile_c.specs.declared.phases.Phase.TheVariants.{Replying}
 use Rattle.mpc_compile_c.specs.declared.phases.Stop.{Stop}
 use Rattle.mpc_compile_c.specs.declared.phases.Stop.TheVariants.{Asked, BadPlant, NotDefinite, TooWide, NoMemory, OtherSizes}
 use Rattle.mpc_compile_c.specs.Answers.{IsAnsweredFor}
-use Rattle.mpc_compile_c.specs.Stops.{IsIndefinite, IsTooWide}
 
+-- ---- a plant
+-- some pivot is the first that isn't positive, and the weight of the moves isn't positive definite
+abbrev pub IsIndefinite : Plant → Type 0
+IsIndefinite plant = (pivot : ℕ) × IsNotDefiniteAt plant pivot
+
+-- some place is the first on the way to the plant's controller with a number of more than 128 bits
+abbrev pub IsTooWide : Plant → Type 0
+IsTooWide plant = (place : Place) × FirstWide plant controller place
+
+-- how a run ends for a plant that is refused
+abbrev pub stop_of : SynthesisError → Stop
+stop_of (NotDefinitePlant pivot) = NotDefinite
+stop_of (TooWidePlant place) = TooWide
+stop_of NoMoreMemory = NoMemory
+
+-- why the run for a plant ends before its reply
+abbrev pub ExplainsStop : Plant → Phase → Stop → Type 0
+ExplainsStop plant last Asked = last ≢ Replying
+ExplainsStop plant last BadPlant = ⊥
+ExplainsStop plant last NotDefinite = IsIndefinite plant
+ExplainsStop plant last TooWide = IsTooWide plant
+ExplainsStop plant last NoMemory = Unit {0}
+ExplainsStop plant last OtherSizes = ⊥
+
+-- ---- a file
 -- the bytes are the file of a plant of which this holds
 pub record IsFileOf (file : List ℕ) (P : Plant → Type 0) : Type 0 where
   pub plant : Plant

@@ -4,12 +4,9 @@
 ghost use Rattle.std.specs.Prelude.{◌≡◌, ◌≤◌, length, map};
 ghost use Rattle.mpc_parts.specs.Parts.{value_of};
 ghost use Rattle.mpc_compile_c.specs.declared.replies.Answer.TheVariants.{Moved, Infeasible, Outside};
-ghost use Rattle.mpc_compile_c.specs.Stops.{IsIndefinite, IsTooWide};
-ghost use Rattle.mpc_compile_c.specs.Runs.{IsFileOf, IsAnswered, IsNoPlant, HasOtherSizes};
+ghost use Rattle.mpc_compile_c.specs.Runs.{IsFileOf, IsAnswered, IsNoPlant, IsIndefinite, IsTooWide, HasOtherSizes};
 
-mod controllers;
 mod phases;
-mod programs;
 mod replies;
 mod runs;
 
@@ -49,10 +46,9 @@ pub struct Sizes {
     pub nodes: u64,
 }
 
-/// Makes the controller of a plant file and its reply to counts, one a state, phase by phase: 1 reads the plant, 2 condenses, 3 forms
-/// the pivots, 4 decides the active sets, 5 collects their laws, 6 grows the search tree, 7 seals the controller, 8 lays out its table,
-/// and 9 replies, `rounds` times, and at least once. Behind the phase with the number `last` it ends, and for other numbers with the
-/// reply.
+/// Makes the controller of a plant file and its reply to counts, one a state, phase by phase: 1 reads the plant, 2 condenses it and
+/// decides its active sets, 3 makes the controller and has it checked, 4 lays out its table, and 5 replies, `rounds` times, and at least
+/// once. Behind the phase with the number `last` it ends, and for other numbers with the reply.
 ///
 /// Answers 0 and writes the first move of the cheapest admissible sequence, one number an input; 1 where no sequence is admissible; 2
 /// where a count is above its limit; 3 behind the last phase that was asked for; 4 where the bytes are no plant file; 5 where the weight
@@ -71,7 +67,7 @@ pub extern "C" fn mpc_compile_reply(
     ensures moved { result ≡ 0 → IsAnswered file.now counts.now sizes.new (map value_of moves.new) Moved }
     ensures infeasible { result ≡ 1 → IsAnswered file.now counts.now sizes.new (map value_of moves.new) Infeasible }
     ensures outside { result ≡ 2 → IsAnswered file.now counts.now sizes.new (map value_of moves.new) Outside }
-    ensures asked { result ≡ 3 → last ≤ 8 }
+    ensures asked { result ≡ 3 → last ≤ 4 }
     ensures bad_plant { result ≡ 4 → IsNoPlant file.now }
     ensures not_definite { result ≡ 5 → IsFileOf file.now IsIndefinite }
     ensures too_wide { result ≡ 6 → IsFileOf file.now IsTooWide }

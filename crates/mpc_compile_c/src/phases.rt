@@ -1,18 +1,17 @@
 //! The phases on the way from a plant file to a reply, and why a run ends before its reply.
 
-ghost use Rattle.std.specs.Prelude.{◌≢◌, ◌≤◌};
+ghost use Rattle.std.specs.Prelude.{◌≡◌, ◌≢◌, ◌≤◌};
 ghost use Rattle.mpc_compile_c.specs.declared.phases.Phase.TheVariants.{Replying};
+ghost use Rattle.mpc_compile_c.specs.Runs.{stop_of};
+
+use mpc_synthesis::SynthesisError;
 
 /// A phase; they stand in the order of a run.
 #[derive(Clone, Copy, PartialEq, Eq, Drop)]
 pub(crate) enum Phase {
     Reading,
-    Condensing,
-    Pivots,
-    Enumerating,
-    Collecting,
-    Growing,
-    Sealing,
+    Deciding,
+    Compiling,
     LayingOut,
     Replying,
 }
@@ -20,17 +19,13 @@ pub(crate) enum Phase {
 impl Phase {
     /// The phase with this number, counted from 1, and the last one for every other number.
     pub(crate) fn numbered(number: u32) -> Phase
-        ensures { result ≢ Replying → number ≤ 8 }
+        ensures { result ≢ Replying → number ≤ 4 }
     {
         match number {
             1 => Phase::Reading,
-            2 => Phase::Condensing,
-            3 => Phase::Pivots,
-            4 => Phase::Enumerating,
-            5 => Phase::Collecting,
-            6 => Phase::Growing,
-            7 => Phase::Sealing,
-            8 => Phase::LayingOut,
+            2 => Phase::Deciding,
+            3 => Phase::Compiling,
+            4 => Phase::LayingOut,
             _ => Phase::Replying,
         }
     }
@@ -51,4 +46,16 @@ pub(crate) enum Stop {
     NoMemory,
     /// There isn't one count a state, or not room for one number an input.
     OtherSizes,
+}
+
+impl From<SynthesisError> for Stop {
+    ghost from_gives = { λ error stop. stop ≡ stop_of error };
+
+    fn from(error: SynthesisError) -> Stop {
+        match error {
+            SynthesisError::NotDefinite(_) => Stop::NotDefinite,
+            SynthesisError::TooWide(_) => Stop::TooWide,
+            SynthesisError::NoMemory => Stop::NoMemory,
+        }
+    }
 }

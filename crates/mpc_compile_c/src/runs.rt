@@ -1,22 +1,45 @@
 //! A run: from a plant file to a reply.
 
-ghost use Rattle.std.specs.Prelude.{◌≡◌, ◌≤◌, IfOk, IfErr, length, map};
+ghost use Rattle.std.specs.Prelude.{◌≡◌, ℕ, IfOk, IfErr, length, map};
 ghost use Rattle.mpc_parts.specs.Parts.{value_of};
-ghost use Rattle.mpc_compile_c.specs.Answers.{IsAnsweredFor};
-ghost use Rattle.mpc_compile_c.specs.Stops.{ExplainsStop};
-ghost use Rattle.mpc_compile_c.specs.Runs.{IsAnswered, ExplainsEnd};
+ghost use Rattle.mpc_rows.specs.declared.programs.Qp.{Qp};
+ghost use Rattle.mpc_synthesis.specs.Controllers.{IsController};
+ghost use Rattle.mpc_compile_c.specs.Answers.{HaveSizes, IsAnsweredFor};
+ghost use Rattle.mpc_compile_c.specs.Runs.{IsAnswered, ExplainsStop, ExplainsEnd};
 
 use crate::Sizes;
-use crate::controllers::{compile, laid_out};
 use crate::phases::{Phase, Stop};
 use crate::replies::{Answer, replies};
-use mpc_answers::{grid_points, right_replies};
+use mpc_answers::grid_points;
+use mpc_controller::Controller;
 use mpc_parts::Parts;
 use mpc_plant::{Plant, PlantError, read_plant};
-use mpc_tree::one_tree;
+use mpc_port::OpenGate;
+use mpc_synthesis::{controller_of, decided, right_controller};
+use mpc_table::Table;
 use std::alloc::Global;
 
-/// The reply of a plant's controller to counts, one a state.
+/// The controller of a plant, with its sizes.
+fn compiled(alloc: Global, plant: Plant, last: Phase, sizes: &mut Sizes) -> Result<Controller, Stop>
+    ensures controller { IfOk result (λ parts. (qp : Qp) × IsController plant qp parts) }
+    ensures sizes { IfOk result (HaveSizes sizes.new) }
+    ensures stops { IfErr result (ExplainsStop plant last) }
+{
+    let registry = decided(alloc, &plant, &OpenGate)?;
+    sizes.candidates = registry.history().len() as u64 / 2;
+    if last == Phase::Deciding {
+        return Err(Stop::Asked);
+    }
+    let controller = controller_of(alloc, plant, registry)?;
+    sizes.laws = controller.laws().len() as u64;
+    sizes.nodes = controller.tree().len() as u64;
+    if last == Phase::Compiling {
+        return Err(Stop::Asked);
+    }
+    Ok(controller)
+}
+
+/// The reply of a plant's controller to counts, one a state, with room for a number for each input.
 fn reply_of(
     alloc: Global,
     plant: Plant,
@@ -31,17 +54,19 @@ fn reply_of(
     ensures answered { IfOk result (IsAnsweredFor plant counts.now sizes.new (map value_of moves.new)) }
     ensures stops { IfErr result (ExplainsStop plant last) }
 {
-    right_replies();
-    one_tree();
+    right_controller();
     grid_points();
-    let controller = match compile(alloc, plant, last, sizes) {
+    let controller = match compiled(alloc, plant, last, sizes) {
         Ok(controller) => controller,
         Err(stop) => return Err(stop),
     };
-    match laid_out(alloc, &controller, last) {
-        Ok(table) => Ok(replies(&table, counts, rounds, moves)),
-        Err(stop) => Err(stop),
+    let Ok(table) = Table::of(alloc, &controller) else {
+        return Err(Stop::NoMemory);
+    };
+    if last == Phase::LayingOut {
+        return Err(Stop::Asked);
     }
+    Ok(replies(&table, counts, rounds, moves))
 }
 
 /// The reply of the controller of a plant file to counts, one a state, with room for a number for each input.

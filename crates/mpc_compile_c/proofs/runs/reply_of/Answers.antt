@@ -1,15 +1,17 @@
-use Rattle.std.proofs.Common.{map}
+use Rattle.std.proofs.Common.{length, map}
 use Rattle.mpc_parts.specs.Parts.{value_of}
-use Rattle.mpc_compile_c.proofs.Replied.{right_reply}
+use Rattle.mpc_compile_c.proofs.Replied.{counts_size, inputs_size, answered}
 use Rattle.mpc_compile_c.proofs.runs.reply_of.Goals as goal
 
-pub returns-in-Ok-laid_out-clause-answered : goal.returns-in-Ok-laid_out-clause-answered
-returns-in-Ok-laid_out-clause-answered c =
+pub replies-requires-clause-counts : goal.replies-requires-clause-counts
+replies-requires-clause-counts c =
+    counts_size c.args.plant c.in-Ok.controller c.in-Ok-of.table (length c.args.counts.now) c.in-Ok.ensures.controller.1.is_sealed.plant_is c.in-Ok-of.ensures c.requires.counts
+
+pub replies-requires-clause-room : goal.replies-requires-clause-room
+replies-requires-clause-room c =
+    inputs_size c.args.plant c.in-Ok.controller c.in-Ok-of.table (length c.args.moves.now) c.in-Ok.ensures.controller.1.is_sealed.plant_is c.in-Ok-of.ensures c.requires.room
+
+pub returns-clause-answered : goal.returns-clause-answered
+returns-clause-answered c =
     let is = c.in-Ok.ensures.controller in
-    let replied = c.replies.ensures c.in-Ok.controller (record { shapes = is.shapes; table_of = c.in-Ok-laid_out.ensures.table }) in
-    record {
-      right = right_reply c.right_replies.ensures c.one_tree.ensures.is_tree c.grid_points.ensures c.args.plant c.in-Ok.controller c.args.counts.now is c.requires.counts (map value_of c.replies.new.moves) c.replies.result replied;
-      parts = c.in-Ok.controller;
-      controller = is;
-      sizes_are = c.in-Ok.ensures.sizes;
-    }
+    answered c.right_controller.ensures.right c.grid_points.ensures c.args.plant is.0 c.in-Ok.controller c.args.counts.now is.1 c.requires.counts c.in-Ok-of.table _ (map value_of c.replies.new.moves) c.replies.result c.in-Ok-of.ensures c.in-Ok.ensures.sizes c.replies.ensures
