@@ -8,8 +8,6 @@ mod laws;
 mod limits;
 mod motions;
 mod programs;
-#[cfg(test)]
-mod tests;
 
 pub use errors::CondenseError;
 pub use laws::{place_laws, program_laws};

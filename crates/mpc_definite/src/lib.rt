@@ -12,8 +12,6 @@ ghost use Rattle.mpc_definite.specs.Causes.{IsCause, Disproves};
 ghost use Rattle.mpc_definite.specs.declared.DefiniteError.TheVariants.{NoMemory as OutOfMemory};
 
 mod laws;
-#[cfg(test)]
-mod tests;
 
 pub use laws::pivot_laws;
 use mpc_frac::{Frac, NoMemory, Wide};

@@ -12,8 +12,6 @@ ghost use Rattle.mpc_frac.specs.Text.{text_of};
 mod divisor;
 mod laws;
 mod short;
-#[cfg(test)]
-mod tests;
 
 use divisor::SHORT;
 pub use divisor::greatest_common_divisor;

@@ -16,6 +16,3 @@ pub use laws::{grid_laws, primitive_laws, sum_laws, zero_laws};
 pub use lists::{Ints, Vector};
 pub use matrices::Matrix;
 pub use products::{add_product, dot, dot_from, sub_product};
-
-#[cfg(test)]
-mod tests;

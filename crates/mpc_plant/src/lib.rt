@@ -17,8 +17,6 @@ mod plant_file;
 mod plants;
 mod rolling;
 mod rows;
-#[cfg(test)]
-mod tests;
 mod values;
 mod weights;
 

@@ -376,6 +376,3 @@ pub fn read_plant(alloc: Global, bytes: &[u8]) -> Result<Plant, PlantError>
         Err(_) => Err(PlantError::here(alloc, PlantKind::NotJson)),
     }
 }
-
-#[cfg(test)]
-mod tests;

@@ -18,6 +18,3 @@ pub use input::{Failed, ReadError, Source, read_all};
 pub use memory::{MemorySink, MemorySource};
 pub use output::{Sink, SinkError, WriteError, write_all};
 pub use quiet::{QuietSink, QuietSource};
-
-#[cfg(test)]
-mod tests;

@@ -8,4 +8,3 @@ pub mod LawForms
 pub mod LawEnds
 pub mod LawRowLists
 pub mod Decisions
-pub mod SmallPrograms

@@ -12,8 +12,6 @@ mod matrices;
 mod points;
 mod reach;
 mod region;
-#[cfg(test)]
-mod tests;
 mod verdicts;
 
 use mpc_frac::NoMemory;

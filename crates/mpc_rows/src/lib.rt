@@ -4,18 +4,12 @@
 
 mod counts;
 mod law_rows;
-#[cfg(test)]
-mod law_tests;
 mod laws;
 mod places;
 mod programs;
 mod refuting;
 mod rules;
-#[cfg(test)]
-mod system_tests;
 mod systems;
-#[cfg(test)]
-mod tests;
 mod trees;
 mod verdicts;
 

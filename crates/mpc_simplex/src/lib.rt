@@ -7,15 +7,11 @@ ghost use Rattle.mpc_rows.specs.Refutation.{Refutes};
 ghost use Rattle.mpc_rows.specs.RunWidth.{RunFits};
 ghost use Rattle.mpc_simplex.specs.Answer.{IfPoint, IfRefuted, IfWide, HasPoint, IsRunEnd};
 
-#[cfg(test)]
-mod end_tests;
 mod laws;
 mod numbers;
 mod run;
 mod sides;
 mod tableau;
-#[cfg(test)]
-mod tests;
 mod whole;
 mod whole_ends;
 mod whole_numbers;

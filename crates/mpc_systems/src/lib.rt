@@ -7,8 +7,6 @@ mod numbers;
 mod pushing;
 mod single_rows;
 mod systems;
-#[cfg(test)]
-mod tests;
 
 pub use laws::cell_laws;
 pub use numbers::whole;

@@ -8,8 +8,6 @@ mod integers;
 mod laws;
 mod lines;
 mod naturals;
-#[cfg(test)]
-mod tests;
 
 pub use fractions::read_fraction;
 pub use integers::read_integer;

@@ -1,0 +1,83 @@
+ghost use Rattle.std.specs.Prelude.{◌≡◌, IfOk};
+ghost use Rattle.mpc_space.specs.Vector.{IsSymmetric};
+ghost use Rattle.mpc_space.specs.Matrix.{height};
+
+use mpc_definite::{DefiniteError, pivots};
+use mpc_frac::{Frac, NoMemory};
+use mpc_linear::Matrix;
+use std::alloc::Global;
+use std::test::Fail;
+
+/// The symmetric matrix with these entries on and below its diagonal, row by row.
+fn symmetric(alloc: Global, entries: [Frac; 6]) -> Result<Matrix, NoMemory>
+    ensures { IfOk result (λ m. (m.columns ≡ height m) × IsSymmetric m.rows) }
+{
+    let [a, b, c, d, e, f] = entries;
+    let mut m = Matrix::zero(alloc, 3, 3)?;
+    m.set(0, 0, a);
+    m.set(1, 0, b);
+    m.set(0, 1, b);
+    m.set(1, 1, c);
+    m.set(2, 0, d);
+    m.set(0, 2, d);
+    m.set(2, 1, e);
+    m.set(1, 2, e);
+    m.set(2, 2, f);
+    Ok(m)
+}
+
+#[test]
+fn tridiagonal(rt: HostRuntime) -> Result<(), Fail> {
+    let entries = [2, -1, 2, 0, -1, 2].map(Frac::whole);
+    let m = symmetric(rt.alloc(), entries)?;
+    let found = pivots(rt.alloc(), &m)?;
+    let expected = [Frac::whole(2), Frac::new(3, 2)?, Frac::new(4, 3)?];
+    assert_eq!(rt; found.d.as_slice(), expected.as_slice());
+    assert_eq!(rt; found.l.rows(), 3);
+    assert_eq!(rt; found.l.cols(), 3);
+    assert_eq!(rt; found.l.get(1, 0), Frac::new(-1, 2)?);
+    assert_eq!(rt; found.l.get(2, 0), Frac::whole(0));
+    assert_eq!(rt; found.l.get(2, 1), Frac::new(-2, 3)?);
+    Ok(())
+}
+
+#[test]
+fn first_bad_step(rt: HostRuntime) -> Result<(), Fail> {
+    let zero = Matrix::zero(rt.alloc(), 1, 1)?;
+    assert_eq!(rt;
+        pivots(rt.alloc(), &zero).err(),
+        Some(DefiniteError::NotDefinite(1))
+    );
+    let large = i64::MAX;
+    let cases = [
+        ([-1, 0, 1, 0, 0, 1], DefiniteError::NotDefinite(1)),
+        ([1, 2, 1, 0, 0, 1], DefiniteError::NotDefinite(2)),
+        ([1, 1, 1, 0, 0, 5], DefiniteError::NotDefinite(2)),
+        ([1, 1, 2, 1, 2, 2], DefiniteError::NotDefinite(3)),
+        (
+            [1, 0, 1, large, large, large],
+            DefiniteError::NotDefinite(3),
+        ),
+        (
+            [3, 1, large, 1, large, large],
+            DefiniteError::NotDefinite(3),
+        ),
+    ];
+    for (entries, expected) in cases {
+        let m = symmetric(rt.alloc(), entries.map(Frac::whole))?;
+        assert_eq!(rt; pivots(rt.alloc(), &m).err(), Some(expected));
+    }
+    let huge = Frac::new(1 << 126, 1)?;
+    let one = Frac::whole(1);
+    let wide = symmetric(rt.alloc(), [one, huge, one, one, one, one])?;
+    assert_eq!(rt;
+        pivots(rt.alloc(), &wide).err(),
+        Some(DefiniteError::Wide(1))
+    );
+    let later = symmetric(rt.alloc(), [one, Frac::whole(0), one, one, huge, huge])?;
+    assert_eq!(rt;
+        pivots(rt.alloc(), &later).err(),
+        Some(DefiniteError::Wide(2))
+    );
+    Ok(())
+}

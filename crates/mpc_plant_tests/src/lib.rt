@@ -1,0 +1,11 @@
+//! Tests of plants and their files, of condensing, and of pivots: that calls succeed where memory suffices, and what no clause says.
+#![tactic(auto)]
+
+#[cfg(test)]
+mod condensing;
+#[cfg(test)]
+mod definite;
+#[cfg(test)]
+mod plant_files;
+#[cfg(test)]
+mod plants;
