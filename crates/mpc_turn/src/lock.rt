@@ -20,13 +20,18 @@ use std::alloc::Global;
 use std::marker::Model;
 use std::snapshot::Snapshot;
 use std::sync::Wait;
-use std::thread;
+use std::{hint, thread};
 
 /// The word whose count is the number of the next in the queue.
 const TICKET: usize = 0;
 
 /// The word whose count is the number that has the turn.
 const SERVING: usize = 1;
+
+/// How often whoever waits looks before it lets other threads run in between. A turn mostly takes
+/// less than that, and on a busy machine a thread that has let others run is long in coming back,
+/// while all behind it in the queue wait too.
+const QUICK_LOOKS: u32 = 100;
 
 /// A registry that passes take turns at. Whoever calls draws a number, waits until it is served, has
 /// the registry alone meanwhile, and then serves the next. Contracts see its identity.
@@ -57,12 +62,18 @@ impl Turn {
         ensures taken { HasTurn seat.old.me.0 seat.new.me }
     {
         let mine = self.table.shared.fetch_add::<Draw>(seat, TICKET, 1);
+        let mut looks = 0;
         for _ in rt.forever() {
             let now = self.table.shared.load::<Look>(seat, SERVING);
             if now == mine {
                 return;
             }
-            thread::yield_now();
+            if looks < QUICK_LOOKS {
+                looks += 1;
+                hint::spin_loop();
+            } else {
+                thread::yield_now();
+            }
         }
         unreachable!()
     }

@@ -26,6 +26,10 @@ use thiserror::Error;
 /// The most workers of a pool.
 const MOST_WORKERS: u32 = 32;
 
+/// How often a worker with nothing to do lets other threads run before it sleeps. That many take
+/// less than one set mostly does, and a sleep and its end take the system longer.
+const PAUSES: u32 = 100;
+
 /// Why a pool has no registry.
 #[derive(Clone, Copy, Debug, PartialEq, Eq, Drop, Error)]
 pub enum WorkError {
@@ -66,6 +70,18 @@ fn wake_all(news: &AtomicU64) {
     news.wake_all();
 }
 
+/// Waits for news after this count of them: at first by letting other threads run, then asleep. It
+/// may also return without any.
+fn wait_for_news<T: Wait>(rt: &T, news: &AtomicU64, count: u64) {
+    for _ in 0..PAUSES {
+        if news.load(Ordering::SeqCst) != count {
+            return;
+        }
+        thread::yield_now();
+    }
+    news.park(rt, (count & 0xffff_ffff) as u32);
+}
+
 /// Examines a claimed set, passes the gate and delivers the verdict. Without memory the set is
 /// given up.
 fn work_on<T: Wait, G: Gate>(
@@ -98,9 +114,17 @@ fn work_on<T: Wait, G: Gate>(
     Ok(())
 }
 
-/// Claims, examines and delivers until the end or until memory is refused. Where all sets of the
-/// level are claimed, the worker sleeps. Whoever claims a set wakes one other, since the next level
-/// may have more of them.
+/// Claims, examines and delivers until the end or until memory is refused.
+///
+/// Where all sets of the level are claimed, the worker waits for news. News is that a worker has
+/// claimed its first set of a level, after which it wakes one sleeper, who claims too and wakes the
+/// next; so nobody sleeps who could have a set, and a level wakes no more than it has sets. The one
+/// set of the level without members is no news.
+///
+/// Nobody sleeps for ever. Where a claim finds all sets claimed, another worker holds one of them,
+/// is awake, and claims again after it; so until the end somebody is awake. Whoever ends wakes all
+/// and raises the count, on which a sleep that begins later ends at once, since the count that it
+/// waits on was read before its claim.
 fn work<T: Wait, G: Gate>(
     rt: &T,
     alloc: Global,
@@ -118,11 +142,15 @@ fn work<T: Wait, G: Gate>(
 {
     legal_laws();
     claim_laws();
+    let mut level = 0;
     for _ in rt.forever() {
         let count = news.load(Ordering::SeqCst);
         match turn.claim_as(rt, &mut seat.pass) {
             Ok(Claimed::Job(ticket)) => {
-                wake_another(news);
+                if ticket.set().size() != level {
+                    level = ticket.set().size();
+                    wake_another(news);
+                }
                 match work_on(rt, alloc, turn, gate, qp, &mut seat.pass, ticket) {
                     Ok(()) => {}
                     Err(_) => {
@@ -131,7 +159,7 @@ fn work<T: Wait, G: Gate>(
                     }
                 }
             }
-            Ok(Claimed::Idle) => news.park(rt, (count & 0xffff_ffff) as u32),
+            Ok(Claimed::Idle) => wait_for_news(rt, news, count),
             Ok(Claimed::Finished) => return,
             Ok(Claimed::Stopped) => return,
             Err(_) => {
@@ -163,7 +191,26 @@ fn work_and_wake<T: Wait, G: Gate>(
     wake_all(news);
 }
 
-/// All seats at once.
+/// In how many threads so many seats work on a program with so many rows. A program has as many sets
+/// of one row as it has rows, and a machine runs as many threads at once as it has processors:
+/// further threads would help nobody. Two aren't too many on any machine.
+fn threads_for<T: Threads>(rt: &T, seats: usize, rows: u32) -> usize
+    requires { 0 < seats }
+    ensures { 0 < result }
+{
+    let useful = seats.min(rows as usize).max(1);
+    if useful <= 2 {
+        return useful;
+    }
+    let at_once = match thread::available_parallelism(rt) {
+        Ok(processors) => useful.min(processors.get()).max(2),
+        Err(_) => useful,
+    };
+    seats.div_ceil(seats / at_once)
+}
+
+/// All seats, as many of them at once as that is of use. Those that share a thread work one after the
+/// other: the first of them to the end, which the rest find at once.
 fn work_all<T: Threads + Wait + Sync, G: Gate + Sync>(
     rt: &T,
     alloc: Global,
@@ -180,11 +227,15 @@ fn work_all<T: Threads + Wait + Sync, G: Gate + Sync>(
     ensures ended { All (Ended turn.now qp.now workers) seats.new }
     ensures numbered { AreNumbered seats.new }
 {
+    if seats.is_empty() {
+        return;
+    }
     let news = AtomicU64::new(0);
+    let threads = threads_for(rt, seats.len(), qp.g.rows());
     thread::for_each_mut(
         rt,
         seats,
-        MOST_WORKERS as usize,
+        threads,
         &|_, seat| work_and_wake(rt, alloc, turn, gate, qp, &news, workers, seat),
     );
 }
