@@ -1,10 +1,11 @@
 -- What is so of the tree that is built.
-use Rattle.std.proofs.Common.{List, get_or, All, Result, Ok, Err, IfOk, IfErr, MatchResult}
+use Rattle.std.proofs.Common.{◌≡◌, List, [], length, subst, sym, arith, get_or, All, Result, Ok, Err, IfOk, IfErr, MatchResult}
 use Rattle.std.proofs.lemmas.Result.{IfOk-weaker}
-use Rattle.std.proofs.lemmas.List.Elements.{All-contains_itself}
+use Rattle.std.proofs.lemmas.List.Elements.{All-contains_itself, All-from_recursion}
 use Rattle.mpc_space.specs.Definite.{IsDefinite}
 use Rattle.mpc_rows.specs.declared.programs.Qp.{Qp}
 use Rattle.mpc_rows.specs.declared.laws.Law.{Law}
+use Rattle.mpc_rows.specs.declared.systems.Row.{Row}
 use Rattle.mpc_rows.specs.declared.trees.Node.{Node}
 use Rattle.mpc_rows.specs.declared.trees.Node.TheVariants.{Split, Law as LawLeaf, NoMove}
 use Rattle.mpc_rows.specs.Candidates.{IsTable}
@@ -13,7 +14,7 @@ use Rattle.mpc_cover.specs.CoverLaws.{TablesCover}
 use Rattle.mpc_tree.specs.declared.errors.TreeError.{TreeError}
 use Rattle.mpc_tree.specs.Causes.{IfWide}
 use Rattle.mpc_tree.specs.Certified.{IsCertified}
-use Rattle.mpc_tree.specs.Growth.{RegionsCover, IsLeafAt, IsBuilt}
+use Rattle.mpc_tree.specs.Growth.{IsReady, RegionsCover, IsLeafAt, IsBuilt}
 use Rattle.mpc_tree.specs.LeafCerts.{HasItsCerts}
 use Rattle.mpc_tree.specs.NodeRuns.{DividesAndFits, EndsAndFits, IsFittingTree}
 use Rattle.mpc_tree.specs.Trees.{Cell, whole_box, Divides, IsLeafOf, IsTreeOf, IsTreeWhere, IsRightlyEmpty, AnySplit}
@@ -49,19 +50,37 @@ module _ (qp : Qp) (laws : List Law) (nodes : List Node) where
   empty_of : RegionsCover qp laws → IsBuilt qp laws whole_box nodes → IsTreeWhere AnySplit (IsRightlyEmpty qp) whole_box nodes
   empty_of covers b = weakened (DividesAndFits qp laws) AnySplit (IsLeafAt qp laws) (IsRightlyEmpty qp) (λ c p r h. tt) (rightly_empty covers) whole_box nodes b
 
-module _ (qp : Qp) (laws : List Law) (r : Result (List Node) TreeError) (b : IfOk r (λ nodes. IsBuilt qp laws whole_box nodes)) where
-  pub built_tree : IfOk r (λ nodes. IsTreeOf qp laws whole_box nodes)
-  built_tree = IfOk-weaker r (λ nodes. IsBuilt qp laws whole_box nodes) (λ nodes. IsTreeOf qp laws whole_box nodes) (tree_of qp laws) b
+module _ (qp : Qp) (laws : List Law) (rows : List Row) (empty : rows ≡ []) where
+  -- the box is a cell without rows
+  in_box : (P : Cell → Type 0) → P (record { rows = rows; next = 0 }) → P whole_box
+  in_box P h = subst (λ x. P (record { rows = x; next = 0 })) empty h
 
-  pub built_certs : IfOk r (λ nodes. IsTreeWhere AnySplit (HasItsCerts qp laws) whole_box nodes)
-  built_certs = IfOk-weaker r (λ nodes. IsBuilt qp laws whole_box nodes) (λ nodes. IsTreeWhere AnySplit (HasItsCerts qp laws) whole_box nodes) (certs_of qp laws) b
+  pub box_ready : IsReady qp laws (record { rows = rows; next = 0 })
+  box_ready = subst (λ x. IsReady qp laws (record { rows = x; next = 0 })) (sym empty) (record {
+    width = All-from_recursion (λ r. length r.a ≡ length qp.counts) [] tt;
+    none = λ i law h. absurd (omega arith);
+    within = omega arith;
+  })
 
-  pub built_certified : IfOk r (λ nodes. IsCertified qp laws whole_box nodes)
-  built_certified = IfOk-weaker r (λ nodes. IsBuilt qp laws whole_box nodes) (λ nodes. IsCertified qp laws whole_box nodes) (certified_of qp laws) b
+  module _ (r : Result (List Node) TreeError) (built : IfOk r (λ nodes. IsBuilt qp laws (record { rows = rows; next = 0 }) nodes)) where
+    b : IfOk r (λ nodes. IsBuilt qp laws whole_box nodes)
+    b = in_box (λ cell. IfOk r (IsBuilt qp laws cell)) built
 
-  pub built_empty : RegionsCover qp laws → IfOk r (λ nodes. IsTreeWhere AnySplit (IsRightlyEmpty qp) whole_box nodes)
-  built_empty covers = IfOk-weaker r (λ nodes. IsBuilt qp laws whole_box nodes) (λ nodes. IsTreeWhere AnySplit (IsRightlyEmpty qp) whole_box nodes) (λ nodes. empty_of qp laws nodes covers) b
+    pub built_tree : IfOk r (λ nodes. IsTreeOf qp laws whole_box nodes)
+    built_tree = IfOk-weaker r (λ nodes. IsBuilt qp laws whole_box nodes) (λ nodes. IsTreeOf qp laws whole_box nodes) (tree_of qp laws) b
 
-pub built_wide : (qp : Qp) (laws : List Law) (r : Result (List Node) TreeError) → IfOk r (λ nodes. IsBuilt qp laws whole_box nodes) → IfErr r (λ e. IfWide e (IsFirstWide qp laws whole_box 1)) → MatchResult r (λ nodes. IsFittingTree qp laws whole_box nodes) (λ e. IfWide e (IsFirstWide qp laws whole_box 1))
-built_wide qp laws (Ok nodes) b w = fitting_of qp laws nodes b
-built_wide qp laws (Err e) b w = w
+    pub built_certs : IfOk r (λ nodes. IsTreeWhere AnySplit (HasItsCerts qp laws) whole_box nodes)
+    built_certs = IfOk-weaker r (λ nodes. IsBuilt qp laws whole_box nodes) (λ nodes. IsTreeWhere AnySplit (HasItsCerts qp laws) whole_box nodes) (certs_of qp laws) b
+
+    pub built_certified : IfOk r (λ nodes. IsCertified qp laws whole_box nodes)
+    built_certified = IfOk-weaker r (λ nodes. IsBuilt qp laws whole_box nodes) (λ nodes. IsCertified qp laws whole_box nodes) (certified_of qp laws) b
+
+    pub built_empty : RegionsCover qp laws → IfOk r (λ nodes. IsTreeWhere AnySplit (IsRightlyEmpty qp) whole_box nodes)
+    built_empty covers = IfOk-weaker r (λ nodes. IsBuilt qp laws whole_box nodes) (λ nodes. IsTreeWhere AnySplit (IsRightlyEmpty qp) whole_box nodes) (λ nodes. empty_of qp laws nodes covers) b
+
+    pub built_wide : IfErr r (λ e. IfWide e (IsFirstWide qp laws (record { rows = rows; next = 0 }) 1)) → MatchResult r (λ nodes. IsFittingTree qp laws whole_box nodes) (λ e. IfWide e (IsFirstWide qp laws whole_box 1))
+    built_wide w = by r b (in_box (λ cell. IfErr r (λ e. IfWide e (IsFirstWide qp laws cell 1))) w)
+      where
+        by : (r : Result (List Node) TreeError) → IfOk r (λ nodes. IsBuilt qp laws whole_box nodes) → IfErr r (λ e. IfWide e (IsFirstWide qp laws whole_box 1)) → MatchResult r (λ nodes. IsFittingTree qp laws whole_box nodes) (λ e. IfWide e (IsFirstWide qp laws whole_box 1))
+        by (Ok nodes) b w = fitting_of qp laws nodes b
+        by (Err e) b w = w

@@ -22,12 +22,12 @@ use Rattle.mpc_systems.specs.Writing.{HasBoxWidth, IsOfSize}
 use Rattle.mpc_tree.specs.declared.growth.OpenSide.{OpenSide}
 use Rattle.mpc_tree.specs.Borders.{IsBorder, AreBorders}
 use Rattle.mpc_tree.specs.Cells.{RegionMeets, NoneFailsBefore}
-use Rattle.mpc_tree.specs.Growth.{IsSplitAt, IsLeafAt, IsBuilt}
+use Rattle.mpc_tree.specs.Growth.{IsReady, IsSplitAt, IsLeafAt, IsBuilt}
 use Rattle.mpc_tree.specs.NodeRuns.{DividesAndFits, EndsAndFits, IsFittingTree}
-use Rattle.mpc_tree.specs.Trees.{Cell, whole_box, yes_side, no_side, split}
+use Rattle.mpc_tree.specs.Trees.{Cell, yes_side, no_side, split}
 use Rattle.mpc_tree.specs.WideRuns.{IsFirstWide, in_yes, in_no}
 use Rattle.mpc_tree.proofs.CellPoints.{meets_last, region_front, fails_front, region_row, broken_fails}
-use Rattle.mpc_tree.proofs.Growing.{IsReady, AreReady, AreTrees, IsWideAmong, IsGrown, side_cell}
+use Rattle.mpc_tree.proofs.Growing.{AreReady, AreTrees, IsWideAmong, IsGrown, side_cell}
 use Rattle.mpc_tree.proofs.NodeLemmas.{border_of, same_at}
 use Rattle.mpc_tree.proofs.TreeLemmas.{weakened}
 
@@ -52,7 +52,7 @@ module _ (qp : Qp) (laws : List Law) (borders : List (List RowInt)) (are : AreBo
   wider : (r : Row) → HasBoxWidth qp cell.rows → length r.a ≡ length qp.counts → HasBoxWidth qp (cell.rows ++ r ∷ [])
   wider r w e = All-append (λ r. length r.a ≡ length qp.counts) cell.rows (r ∷ []) w (All-from_recursion (λ r. length r.a ≡ length qp.counts) (r ∷ []) (e, tt))
 
-  yes_ready : HasBoxWidth qp cell.rows → IsReady qp laws (yes_side cell place s.row)
+  pub yes_ready : HasBoxWidth qp cell.rows → IsReady qp laws (yes_side cell place s.row)
   yes_ready w = record {
     width = wider (whole_row s.row) w (length-map s.row.a int ∙ row_plain.size);
     none = λ k other h is m. s.divides.divides.first.before k other h is (region_front qp cell.rows (whole_row s.row) other m);
@@ -64,7 +64,7 @@ module _ (qp : Qp) (laws : List Law) (borders : List (List RowInt)) (are : AreBo
       let own = border_of qp laws borders are cell.rows place s.rows s.is_border other is in
       broken_fails points s.row m.state (meets_last qp cell.rows (broken_row s.row) m.state m.in_cell) (region_row points qp other own.is_law s.rows own.of_law m.state m.in_region i s.row s.is_row)
 
-  no_ready : CellLaws → HasBoxWidth qp cell.rows → IsReady qp laws (no_side cell place s.row)
+  pub no_ready : CellLaws → HasBoxWidth qp cell.rows → IsReady qp laws (no_side cell place s.row)
   no_ready points w = record {
     width = wider (broken_row s.row) w (length-scale _ (map int s.row.a) ∙ length-map s.row.a int ∙ row_plain.size);
     none = λ k other h is m. ⊎_elim
@@ -91,7 +91,7 @@ module _ (qp : Qp) (laws : List Law) (borders : List (List RowInt)) (are : AreBo
   seam : take (length cell.rows) (cell.rows ++ whole_row s.row ∷ []) ≡ cell.rows
   seam = take-append_seam cell.rows (whole_row s.row ∷ [])
 
-  module _ (nodes : List Node) (stack : List OpenSide) (held : ℕ) (g : IsGrown qp laws borders nodes cell stack held) where
+  module _ (root : Cell) (nodes : List Node) (stack : List OpenSide) (held : ℕ) (g : IsGrown qp laws root borders nodes cell stack held) where
     turned : reverse (stack ++ side ∷ []) ≡ side ∷ reverse stack
     turned = reverse-append stack (side ∷ [])
 
@@ -109,20 +109,20 @@ module _ (qp : Qp) (laws : List Law) (borders : List (List RowInt)) (are : AreBo
     both : (left right : List Node) → IsBuilt qp laws (yes_side cell place s.row) left → IsBuilt qp laws (side_cell longer side) right → IsBuilt qp laws cell (Split s.row ∷ (left ++ right))
     both left right y n = split cell place s.row left right s.divides y (subst (λ p. IsBuilt qp laws (record { rows = p ++ broken_row s.row ∷ []; next = place + 1 }) right) seam n)
 
-    completes : (first later : List Node) → IsBuilt qp laws (yes_side cell place s.row) first → AreTrees qp laws longer (side ∷ reverse stack) later → IsBuilt qp laws whole_box ((nodes ++ Split s.row ∷ []) ++ (first ++ later))
+    completes : (first later : List Node) → IsBuilt qp laws (yes_side cell place s.row) first → AreTrees qp laws longer (side ∷ reverse stack) later → IsBuilt qp laws root ((nodes ++ Split s.row ∷ []) ++ (first ++ later))
     completes first later b t =
         let rest : AreTrees qp laws cell.rows (reverse stack) t.1 = subst (λ p. AreTrees qp laws p (reverse stack) t.1) seam t.4 in
         let order : (nodes ++ Split s.row ∷ []) ++ (first ++ later) ≡ nodes ++ ((Split s.row ∷ (first ++ t.0)) ++ t.1) =
         append_assoc nodes (Split s.row ∷ []) (first ++ later) ∙ ap (λ r. nodes ++ Split s.row ∷ r) (ap (λ r. first ++ r) t.2 ∙ sym (append_assoc first t.0 t.1)) in
-        subst (IsBuilt qp laws whole_box) (sym order) (g.completes (Split s.row ∷ (first ++ t.0)) t.1 (both first t.0 b t.3) rest)
+        subst (IsBuilt qp laws root) (sym order) (g.completes (Split s.row ∷ (first ++ t.0)) t.1 (both first t.0 b t.3) rest)
 
     count : length (nodes ++ Split s.row ∷ []) ≡ length nodes + 1
     count = length-append nodes (Split s.row ∷ [])
 
-    wide_here : (at : Place) → IsFirstWide qp laws (yes_side cell place s.row) (length (nodes ++ Split s.row ∷ []) + 1) at → IsFirstWide qp laws whole_box 1 at
+    wide_here : (at : Place) → IsFirstWide qp laws (yes_side cell place s.row) (length (nodes ++ Split s.row ∷ []) + 1) at → IsFirstWide qp laws root 1 at
     wide_here at w = g.wide_here at (in_yes cell (length nodes + 1) place s.row at s.divides (subst (λ n. IsFirstWide qp laws (yes_side cell place s.row) (n + 1) at) count w))
 
-    wide_later : (at : Place) (first : List Node) → IsBuilt qp laws (yes_side cell place s.row) first → IsWideAmong qp laws longer (side ∷ reverse stack) (length (nodes ++ Split s.row ∷ []) + 1 + length first) at → IsFirstWide qp laws whole_box 1 at
+    wide_later : (at : Place) (first : List Node) → IsBuilt qp laws (yes_side cell place s.row) first → IsWideAmong qp laws longer (side ∷ reverse stack) (length (nodes ++ Split s.row ∷ []) + 1 + length first) at → IsFirstWide qp laws root 1 at
     wide_later at first b (inl w) =
         let fits : IsFittingTree qp laws (yes_side cell place s.row) first = weakened (DividesAndFits qp laws) (DividesAndFits qp laws) (IsLeafAt qp laws) (EndsAndFits qp laws) (λ c p r h. h) (λ c n h. h.ends) (yes_side cell place s.row) first b in
         let here : IsFirstWide qp laws (no_side cell place s.row) (length (nodes ++ Split s.row ∷ []) + 1 + length first) at = subst (λ p. IsFirstWide qp laws (record { rows = p ++ broken_row s.row ∷ []; next = place + 1 }) (length (nodes ++ Split s.row ∷ []) + 1 + length first) at) seam w in
@@ -132,7 +132,7 @@ module _ (qp : Qp) (laws : List Law) (borders : List (List RowInt)) (are : AreBo
         let rest : IsWideAmong qp laws cell.rows (reverse stack) (length (nodes ++ Split s.row ∷ []) + 1 + length first + length w.0) at = subst (λ p. IsWideAmong qp laws p (reverse stack) (length (nodes ++ Split s.row ∷ []) + 1 + length first + length w.0) at) seam w.2 in
         g.wide_later at (Split s.row ∷ (first ++ w.0)) (both first w.0 b w.1) (subst (λ n. IsWideAmong qp laws cell.rows (reverse stack) n at) number rest)
 
-    pub grown_split : CellLaws → IsGrown qp laws borders (nodes ++ Split s.row ∷ []) (yes_side cell place s.row) (stack ++ side ∷ []) (i + 1)
+    pub grown_split : CellLaws → IsGrown qp laws root borders (nodes ++ Split s.row ∷ []) (yes_side cell place s.row) (stack ++ side ∷ []) (i + 1)
     grown_split points = record {
       ready = yes_ready g.ready.width;
       held_within = let inside : i < height qp.g = row_within in omega arith;
@@ -159,9 +159,9 @@ module _ (qp : Qp) (laws : List Law) (borders : List (List RowInt)) (are : AreBo
   pub sides_read : (stack : List OpenSide) (row : RowInt) → row ≡ s.row → (sides : List OpenSide) → sides ≡ stack ++ record { shared = length cell.rows; row = broken_row row; next = place + 1 } ∷ [] → sides ≡ stack ++ record { shared = length cell.rows; row = broken_row s.row; next = place + 1 } ∷ []
   sides_read stack row e sides o = o ∙ ap (λ r. stack ++ record { shared = length cell.rows; row = broken_row r; next = place + 1 } ∷ []) e
 
-  pub grown_at : CellLaws → (nodes : List Node) (stack : List OpenSide) (held : ℕ) → IsGrown qp laws borders nodes cell stack held → (row : RowInt) → row ≡ s.row → (tree : List Node) (path : List Row) (sides : List OpenSide) → tree ≡ nodes ++ Split row ∷ [] → path ≡ cell.rows ++ whole_row row ∷ [] → sides ≡ stack ++ record { shared = length cell.rows; row = broken_row row; next = place + 1 } ∷ [] → IsGrown qp laws borders tree (record { rows = path; next = place }) sides (i + 1)
-  grown_at points nodes stack held g row e tree path sides t p o =
-      subst (λ x. IsGrown qp laws borders x (record { rows = path; next = place }) sides (i + 1)) (sym (t ∙ ap (λ r. nodes ++ Split r ∷ []) e))
-      (subst (λ x. IsGrown qp laws borders (nodes ++ Split s.row ∷ []) (record { rows = x; next = place }) sides (i + 1)) (sym (p ∙ ap (λ r. cell.rows ++ whole_row r ∷ []) e))
-      (subst (λ x. IsGrown qp laws borders (nodes ++ Split s.row ∷ []) (yes_side cell place s.row) x (i + 1)) (sym (sides_read stack row e sides o))
-      (grown_split nodes stack held g points)))
+  pub grown_at : CellLaws → (root : Cell) (nodes : List Node) (stack : List OpenSide) (held : ℕ) → IsGrown qp laws root borders nodes cell stack held → (row : RowInt) → row ≡ s.row → (tree : List Node) (path : List Row) (sides : List OpenSide) → tree ≡ nodes ++ Split row ∷ [] → path ≡ cell.rows ++ whole_row row ∷ [] → sides ≡ stack ++ record { shared = length cell.rows; row = broken_row row; next = place + 1 } ∷ [] → IsGrown qp laws root borders tree (record { rows = path; next = place }) sides (i + 1)
+  grown_at points root nodes stack held g row e tree path sides t p o =
+      subst (λ x. IsGrown qp laws root borders x (record { rows = path; next = place }) sides (i + 1)) (sym (t ∙ ap (λ r. nodes ++ Split r ∷ []) e))
+      (subst (λ x. IsGrown qp laws root borders (nodes ++ Split s.row ∷ []) (record { rows = x; next = place }) sides (i + 1)) (sym (p ∙ ap (λ r. cell.rows ++ whole_row r ∷ []) e))
+      (subst (λ x. IsGrown qp laws root borders (nodes ++ Split s.row ∷ []) (yes_side cell place s.row) x (i + 1)) (sym (sides_read stack row e sides o))
+      (grown_split root nodes stack held g points)))

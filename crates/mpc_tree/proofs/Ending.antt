@@ -73,7 +73,7 @@ module _ (qp : Qp) (laws : List Law) where
   one_more : (stack : List OpenSide) (o : OpenSide) → sum_by (weight (length laws) (height qp.g)) (stack ++ o ∷ []) ≡ sum_by (weight (length laws) (height qp.g)) stack + weight (length laws) (height qp.g) o
   one_more stack o = sum_by-append (weight (length laws) (height qp.g)) stack (o ∷ []) ∙ ap (λ n. sum_by (weight (length laws) (height qp.g)) stack + n) (omega arith)
 
-  module _ (borders : List (List RowInt)) (are : AreBorders qp laws borders) (cell : Cell) (place i : ℕ) (s : IsSplitAt qp laws borders cell place i) (nodes : List Node) (stack : List OpenSide) (held : ℕ) (g : IsGrown qp laws borders nodes cell stack held) where
+  module _ (borders : List (List RowInt)) (are : AreBorders qp laws borders) (cell : Cell) (place i : ℕ) (s : IsSplitAt qp laws borders cell place i) (root : Cell) (nodes : List Node) (stack : List OpenSide) (held : ℕ) (g : IsGrown qp laws root borders nodes cell stack held) where
     -- no law before the next meets the cell
     goes_on : cell.next ≤ place
     goes_on = by (cases_order cell.next place)

@@ -1,7 +1,6 @@
 -- The growth of a tree: what is still to come, and why it ends.
 use Rattle.std.proofs.Common.{◌≡◌, ℕ, ◌+◌, ◌≤◌, List, [], ◌∷◌, ◌++◌, length, take, reverse, refl, sym, ◌∙◌, ap, subst, arith, ◌⊎◌, inl, inr, Some, slice_get}
 use Rattle.std.proofs.lemmas.List.{append-nil, append_assoc, length-append, reverse-append, take-append-le}
-use Rattle.std.proofs.lemmas.List.Elements.{All-from_recursion}
 use Rattle.mpc_space.specs.Matrix.{height}
 use Rattle.mpc_linear.specs.declared.integers.RowInt.{RowInt}
 use Rattle.mpc_rows.specs.declared.programs.Qp.{Qp}
@@ -12,11 +11,10 @@ use Rattle.mpc_rows.specs.declared.trees.Node.{Node}
 use Rattle.mpc_tree.specs.declared.growth.OpenSide.{OpenSide}
 use Rattle.mpc_tree.specs.declared.errors.TreeError.{TreeError}
 use Rattle.mpc_tree.specs.declared.errors.TreeError.TheVariants.{Wide, NoMemory}
-use Rattle.mpc_systems.specs.Writing.{HasBoxWidth}
 use Rattle.mpc_tree.specs.Causes.{IfWide}
-use Rattle.mpc_tree.specs.Cells.{NoneMeetsBefore, NoneFailsBefore}
-use Rattle.mpc_tree.specs.Growth.{IsLeafAt, IsBuilt}
-use Rattle.mpc_tree.specs.Trees.{Cell, whole_box, leaf}
+use Rattle.mpc_tree.specs.Cells.{NoneFailsBefore}
+use Rattle.mpc_tree.specs.Growth.{IsReady, IsLeafAt, IsBuilt}
+use Rattle.mpc_tree.specs.Trees.{Cell, leaf}
 use Rattle.mpc_tree.specs.WideRuns.{IsWideAt, IsFirstWide, here}
 
 -- ---- the stack, its top first
@@ -25,15 +23,9 @@ abbrev pub side_cell : List Row → OpenSide → Cell
 side_cell path o = record { rows = take o.shared path ++ o.row ∷ []; next = o.next }
 
 module _ (qp : Qp) (laws : List Law) where
-  -- what is known of a cell before its search
-  pub record IsReady (cell : Cell) : Type 0 where
-    pub width : HasBoxWidth qp cell.rows
-    pub none : NoneMeetsBefore qp laws cell.rows cell.next
-    pub within : cell.next ≤ length laws
-
   abbrev pub AreReady : List Row → List OpenSide → Type 0
   AreReady path [] = Unit {0}
-  AreReady path (o ∷ os) = (o.shared ≤ length path) × IsReady (side_cell path o) × AreReady (take o.shared path) os
+  AreReady path (o ∷ os) = (o.shared ≤ length path) × IsReady qp laws (side_cell path o) × AreReady (take o.shared path) os
 
   -- the nodes are the trees of the open sides, one after the other
   abbrev pub AreTrees : List Row → List OpenSide → List Node → Type 0
@@ -53,7 +45,7 @@ module _ (qp : Qp) (laws : List Law) where
   ready_longer path r [] h = h
   ready_longer path r (o ∷ os) h = (
     omega (arith, h.0, length-append path (r ∷ [])),
-    subst (λ p. IsReady (record { rows = p ++ o.row ∷ []; next = o.next })) (sym (shorter path r o h.0)) h.1,
+    subst (λ p. IsReady qp laws (record { rows = p ++ o.row ∷ []; next = o.next })) (sym (shorter path r o h.0)) h.1,
     subst (λ p. AreReady p os) (sym (shorter path r o h.0)) h.2,
   )
 
@@ -70,65 +62,66 @@ module _ (qp : Qp) (laws : List Law) where
       let e = shorter path r o h.0 in
       inr (w.0, subst (λ p. IsBuilt qp laws (record { rows = p ++ o.row ∷ []; next = o.next }) w.0) e w.1, subst (λ p. IsWideAmong p os (number + length w.0) place) e w.2)
 
-  -- ---- the state of the growth
-  pub record IsGrown (borders : List (List RowInt)) (nodes : List Node) (cell : Cell) (stack : List OpenSide) (held : ℕ) : Type 0 where
-    pub ready : IsReady cell
-    pub held_within : held ≤ height qp.g
-    pub holds : (rows : List RowInt) → slice_get borders cell.next ≡ Some rows → NoneFailsBefore qp rows cell.rows held
-    pub sides : AreReady cell.rows (reverse stack)
-    pub completes : (first later : List Node) → IsBuilt qp laws cell first → AreTrees cell.rows (reverse stack) later → IsBuilt qp laws whole_box (nodes ++ (first ++ later))
-    pub wide_here : (place : Place) → IsFirstWide qp laws cell (length nodes + 1) place → IsFirstWide qp laws whole_box 1 place
-    pub wide_later : (place : Place) (first : List Node) → IsBuilt qp laws cell first → IsWideAmong cell.rows (reverse stack) (length nodes + 1 + length first) place → IsFirstWide qp laws whole_box 1 place
+  -- ---- the state of the growth of the tree of a cell, the root
+  module _ (root : Cell) where
+    pub record IsGrown (borders : List (List RowInt)) (nodes : List Node) (cell : Cell) (stack : List OpenSide) (held : ℕ) : Type 0 where
+      pub ready : IsReady qp laws cell
+      pub held_within : held ≤ height qp.g
+      pub holds : (rows : List RowInt) → slice_get borders cell.next ≡ Some rows → NoneFailsBefore qp rows cell.rows held
+      pub sides : AreReady cell.rows (reverse stack)
+      pub completes : (first later : List Node) → IsBuilt qp laws cell first → AreTrees cell.rows (reverse stack) later → IsBuilt qp laws root (nodes ++ (first ++ later))
+      pub wide_here : (place : Place) → IsFirstWide qp laws cell (length nodes + 1) place → IsFirstWide qp laws root 1 place
+      pub wide_later : (place : Place) (first : List Node) → IsBuilt qp laws cell first → IsWideAmong cell.rows (reverse stack) (length nodes + 1 + length first) place → IsFirstWide qp laws root 1 place
 
-  pub grown_none : (borders : List (List RowInt)) → IsGrown borders [] whole_box [] 0
-  grown_none borders = record {
-    ready = record { width = All-from_recursion (λ r. length r.a ≡ length qp.counts) [] tt; none = λ i law h. absurd (omega arith); within = omega arith };
-    held_within = omega arith;
-    holds = λ rows is i row h. absurd (omega arith);
-    sides = tt;
-    completes = λ first later b t. subst (IsBuilt qp laws whole_box) (sym (ap (λ l. first ++ l) t ∙ append-nil first)) b;
-    wide_here = λ place w. w;
-    wide_later = λ place first b w. absurd w;
-  }
+    pub grown_none : IsReady qp laws root → (borders : List (List RowInt)) → IsGrown borders [] root [] 0
+    grown_none ready borders = record {
+      ready = ready;
+      held_within = omega arith;
+      holds = λ rows is i row h. absurd (omega arith);
+      sides = tt;
+      completes = λ first later b t. subst (IsBuilt qp laws root) (sym (ap (λ l. first ++ l) t ∙ append-nil first)) b;
+      wide_here = λ place w. w;
+      wide_later = λ place first b w. absurd w;
+    }
 
-  -- ---- a leaf
-  pub leaf_last : (borders : List (List RowInt)) (nodes new : List Node) (cell : Cell) (held : ℕ) (node : Node) → IsGrown borders nodes cell [] held → IsLeafAt qp laws cell node → new ≡ nodes ++ node ∷ [] → IsBuilt qp laws whole_box new
-  leaf_last borders nodes new cell held node g l e = subst (IsBuilt qp laws whole_box) (sym (e ∙ ap (λ r. nodes ++ r) (sym (append-nil (node ∷ []))))) (g.completes (node ∷ []) [] (leaf cell node l) refl)
+    -- ---- a leaf
+    pub leaf_last : (borders : List (List RowInt)) (nodes new : List Node) (cell : Cell) (held : ℕ) (node : Node) → IsGrown borders nodes cell [] held → IsLeafAt qp laws cell node → new ≡ nodes ++ node ∷ [] → IsBuilt qp laws root new
+    leaf_last borders nodes new cell held node g l e = subst (IsBuilt qp laws root) (sym (e ∙ ap (λ r. nodes ++ r) (sym (append-nil (node ∷ []))))) (g.completes (node ∷ []) [] (leaf cell node l) refl)
 
-  reversed : (stack : List OpenSide) (o : OpenSide) → reverse (stack ++ o ∷ []) ≡ o ∷ reverse stack
-  reversed stack o = reverse-append stack (o ∷ [])
+    reversed : (stack : List OpenSide) (o : OpenSide) → reverse (stack ++ o ∷ []) ≡ o ∷ reverse stack
+    reversed stack o = reverse-append stack (o ∷ [])
 
-  pub leaf_next : (borders : List (List RowInt)) (nodes : List Node) (cell : Cell) (rest : List OpenSide) (o : OpenSide) (held : ℕ) (node : Node) → IsGrown borders nodes cell (rest ++ o ∷ []) held → IsLeafAt qp laws cell node → IsGrown borders (nodes ++ node ∷ []) (side_cell cell.rows o) rest 0
-  leaf_next borders nodes cell rest o held node g l = record {
-    ready = sides.1;
-    held_within = omega arith;
-    holds = λ rows is i row h. absurd (omega arith);
-    sides = ready_longer (take o.shared cell.rows) o.row (reverse rest) sides.2;
-    completes = λ first later b t.
-        let trees : AreTrees cell.rows (reverse (rest ++ o ∷ [])) (first ++ later) = subst (λ os. AreTrees cell.rows os (first ++ later)) (sym (reversed rest o)) (first, later, refl, b, trees_shorter (take o.shared cell.rows) o.row (reverse rest) later sides.2 t) in
-        subst (IsBuilt qp laws whole_box) (sym (append_assoc nodes (node ∷ []) (first ++ later))) (g.completes (node ∷ []) (first ++ later) (leaf cell node l) trees);
-    wide_here = λ place w. g.wide_later place (node ∷ []) (leaf cell node l) (subst (λ os. IsWideAmong cell.rows os (length nodes + 1 + 1) place) (sym (reversed rest o)) (inl (subst (λ n. IsFirstWide qp laws (side_cell cell.rows o) n place) (omega (arith, length-append nodes (node ∷ []))) w)));
-    wide_later = λ place first b w. g.wide_later place (node ∷ []) (leaf cell node l) (subst (λ os. IsWideAmong cell.rows os (length nodes + 1 + 1) place) (sym (reversed rest o)) (inr (first, b, wide_shorter (take o.shared cell.rows) o.row (reverse rest) (length nodes + 1 + 1 + length first) place sides.2 (subst (λ n. IsWideAmong (take o.shared cell.rows ++ o.row ∷ []) (reverse rest) n place) (omega (arith, length-append nodes (node ∷ []))) w))));
-  }
-    where
-      sides : AreReady cell.rows (o ∷ reverse rest)
-      sides = subst (AreReady cell.rows) (reversed rest o) g.sides
+    pub leaf_next : (borders : List (List RowInt)) (nodes : List Node) (cell : Cell) (rest : List OpenSide) (o : OpenSide) (held : ℕ) (node : Node) → IsGrown borders nodes cell (rest ++ o ∷ []) held → IsLeafAt qp laws cell node → IsGrown borders (nodes ++ node ∷ []) (side_cell cell.rows o) rest 0
+    leaf_next borders nodes cell rest o held node g l = record {
+      ready = sides.1;
+      held_within = omega arith;
+      holds = λ rows is i row h. absurd (omega arith);
+      sides = ready_longer (take o.shared cell.rows) o.row (reverse rest) sides.2;
+      completes = λ first later b t.
+          let trees : AreTrees cell.rows (reverse (rest ++ o ∷ [])) (first ++ later) = subst (λ os. AreTrees cell.rows os (first ++ later)) (sym (reversed rest o)) (first, later, refl, b, trees_shorter (take o.shared cell.rows) o.row (reverse rest) later sides.2 t) in
+          subst (IsBuilt qp laws root) (sym (append_assoc nodes (node ∷ []) (first ++ later))) (g.completes (node ∷ []) (first ++ later) (leaf cell node l) trees);
+      wide_here = λ place w. g.wide_later place (node ∷ []) (leaf cell node l) (subst (λ os. IsWideAmong cell.rows os (length nodes + 1 + 1) place) (sym (reversed rest o)) (inl (subst (λ n. IsFirstWide qp laws (side_cell cell.rows o) n place) (omega (arith, length-append nodes (node ∷ []))) w)));
+      wide_later = λ place first b w. g.wide_later place (node ∷ []) (leaf cell node l) (subst (λ os. IsWideAmong cell.rows os (length nodes + 1 + 1) place) (sym (reversed rest o)) (inr (first, b, wide_shorter (take o.shared cell.rows) o.row (reverse rest) (length nodes + 1 + 1 + length first) place sides.2 (subst (λ n. IsWideAmong (take o.shared cell.rows ++ o.row ∷ []) (reverse rest) n place) (omega (arith, length-append nodes (node ∷ []))) w))));
+    }
+      where
+        sides : AreReady cell.rows (o ∷ reverse rest)
+        sides = subst (AreReady cell.rows) (reversed rest o) g.sides
 
-  -- ---- as the code has them
-  pub next_at : (borders : List (List RowInt)) (nodes tree : List Node) (cell : Cell) (stack rest : List OpenSide) (o : OpenSide) (held : ℕ) (node : Node) (path : List Row) (next : ℕ) → IsGrown borders nodes cell stack held → IsLeafAt qp laws cell node → stack ≡ rest ++ o ∷ [] → tree ≡ nodes ++ node ∷ [] → path ≡ take o.shared cell.rows ++ o.row ∷ [] → next ≡ o.next → IsGrown borders tree (record { rows = path; next = next }) rest 0
-  next_at borders nodes tree cell stack rest o held node path next g l s t p n =
-      let own : IsGrown borders nodes cell (rest ++ o ∷ []) held = subst (λ x. IsGrown borders nodes cell x held) s g in
-      subst (λ x. IsGrown borders x (record { rows = path; next = next }) rest 0) (sym t)
-      (subst (λ x. IsGrown borders (nodes ++ node ∷ []) (record { rows = x; next = next }) rest 0) (sym p)
-      (subst (λ x. IsGrown borders (nodes ++ node ∷ []) (record { rows = take o.shared cell.rows ++ o.row ∷ []; next = x }) rest 0) (sym n)
-      (leaf_next borders nodes cell rest o held node own l)))
+    -- ---- as the code has them
+    pub next_at : (borders : List (List RowInt)) (nodes tree : List Node) (cell : Cell) (stack rest : List OpenSide) (o : OpenSide) (held : ℕ) (node : Node) (path : List Row) (next : ℕ) → IsGrown borders nodes cell stack held → IsLeafAt qp laws cell node → stack ≡ rest ++ o ∷ [] → tree ≡ nodes ++ node ∷ [] → path ≡ take o.shared cell.rows ++ o.row ∷ [] → next ≡ o.next → IsGrown borders tree (record { rows = path; next = next }) rest 0
+    next_at borders nodes tree cell stack rest o held node path next g l s t p n =
+        let own : IsGrown borders nodes cell (rest ++ o ∷ []) held = subst (λ x. IsGrown borders nodes cell x held) s g in
+        subst (λ x. IsGrown borders x (record { rows = path; next = next }) rest 0) (sym t)
+        (subst (λ x. IsGrown borders (nodes ++ node ∷ []) (record { rows = x; next = next }) rest 0) (sym p)
+        (subst (λ x. IsGrown borders (nodes ++ node ∷ []) (record { rows = take o.shared cell.rows ++ o.row ∷ []; next = x }) rest 0) (sym n)
+        (leaf_next borders nodes cell rest o held node own l)))
 
-  pub last_at : (borders : List (List RowInt)) (nodes tree : List Node) (cell : Cell) (stack : List OpenSide) (held : ℕ) (node : Node) → IsGrown borders nodes cell stack held → IsLeafAt qp laws cell node → stack ≡ [] → tree ≡ nodes ++ node ∷ [] → IsBuilt qp laws whole_box tree
-  last_at borders nodes tree cell stack held node g l s t = leaf_last borders nodes tree cell held node (subst (λ x. IsGrown borders nodes cell x held) s g) l t
+    pub last_at : (borders : List (List RowInt)) (nodes tree : List Node) (cell : Cell) (stack : List OpenSide) (held : ℕ) (node : Node) → IsGrown borders nodes cell stack held → IsLeafAt qp laws cell node → stack ≡ [] → tree ≡ nodes ++ node ∷ [] → IsBuilt qp laws root tree
+    last_at borders nodes tree cell stack held node g l s t = leaf_last borders nodes tree cell held node (subst (λ x. IsGrown borders nodes cell x held) s g) l t
 
-  pub shared_within : (borders : List (List RowInt)) (nodes : List Node) (cell : Cell) (stack rest : List OpenSide) (o : OpenSide) (held : ℕ) → IsGrown borders nodes cell stack held → stack ≡ rest ++ o ∷ [] → o.shared ≤ length cell.rows
-  shared_within borders nodes cell stack rest o held g s = (subst (AreReady cell.rows) (reversed rest o) (subst (λ x. AreReady cell.rows (reverse x)) s g.sides)).0
+    pub shared_within : (borders : List (List RowInt)) (nodes : List Node) (cell : Cell) (stack rest : List OpenSide) (o : OpenSide) (held : ℕ) → IsGrown borders nodes cell stack held → stack ≡ rest ++ o ∷ [] → o.shared ≤ length cell.rows
+    shared_within borders nodes cell stack rest o held g s = (subst (AreReady cell.rows) (reversed rest o) (subst (λ x. AreReady cell.rows (reverse x)) s g.sides)).0
 
-  pub wide_at : (borders : List (List RowInt)) (nodes : List Node) (cell : Cell) (stack : List OpenSide) (held : ℕ) → IsGrown borders nodes cell stack held → (e : TreeError) → IfWide e (IsWideAt qp laws cell (length nodes + 1)) → IfWide e (IsFirstWide qp laws whole_box 1)
-  wide_at borders nodes cell stack held g (Wide place) h = g.wide_here place (here cell (length nodes + 1) place h)
-  wide_at borders nodes cell stack held g NoMemory h = h
+    pub wide_at : (borders : List (List RowInt)) (nodes : List Node) (cell : Cell) (stack : List OpenSide) (held : ℕ) → IsGrown borders nodes cell stack held → (e : TreeError) → IfWide e (IsWideAt qp laws cell (length nodes + 1)) → IfWide e (IsFirstWide qp laws root 1)
+    wide_at borders nodes cell stack held g (Wide place) h = g.wide_here place (here cell (length nodes + 1) place h)
+    wide_at borders nodes cell stack held g NoMemory h = h

@@ -6,6 +6,8 @@ pub mod TreeLemmas
 pub mod Growing
 pub mod Dividing
 pub mod Ending
+pub mod Joining
+pub mod Forking
 pub mod BorderLists
 pub mod Built
 pub mod OneCell

@@ -1,5 +1,5 @@
 -- What the search finds at one node.
-use Rattle.std.specs.Prelude.{◌≡◌, ℕ, ◌+◌, List, length, Option, Some, None, slice_get, Contains}
+use Rattle.std.specs.Prelude.{◌≡◌, ℕ, ◌+◌, ◌≤◌, List, length, Option, Some, None, slice_get, Contains}
 use Rattle.mpc_exact.specs.Rational.{ℚ}
 use Rattle.mpc_linear.specs.declared.integers.RowInt.{RowInt}
 use Rattle.mpc_rows.specs.declared.programs.Qp.{Qp}
@@ -10,6 +10,7 @@ use Rattle.mpc_rows.specs.declared.places.Place.{Place}
 use Rattle.mpc_rows.specs.declared.places.Place.TheVariants.{Holds as HoldRun}
 use Rattle.mpc_rows.specs.ActiveSets.{IsFeasible}
 use Rattle.mpc_rows.specs.Laws.{IsInRegion}
+use Rattle.mpc_systems.specs.Writing.{HasBoxWidth}
 use Rattle.mpc_tree.specs.declared.nodes.Held.{Held}
 use Rattle.mpc_tree.specs.declared.nodes.Held.TheVariants.{Fails, Holds}
 use Rattle.mpc_tree.specs.declared.nodes.Placed.{Placed}
@@ -19,6 +20,12 @@ use Rattle.mpc_tree.specs.LeafCerts.{AreCertsOf, HasItsCerts}
 use Rattle.mpc_tree.specs.NodeRuns.{MeetsFit, HoldsFit, DividesAndFits, EndsAndFits}
 use Rattle.mpc_tree.specs.Trees.{Cell, IsTreeWhere}
 use Rattle.mpc_tree.specs.WideRuns.{IsWideHold}
+
+-- what is known of a cell before its search: its rows are over the states, and no law before its next meets it
+pub record IsReady (qp : Qp) (laws : List Law) (cell : Cell) : Type 0 where
+  pub width : HasBoxWidth qp cell.rows
+  pub none : NoneMeetsBefore qp laws cell.rows cell.next
+  pub within : cell.next ≤ length laws
 
 -- each state with admissible unknowns lies in the region of one of the laws
 pub record RegionsCover (qp : Qp) (laws : List Law) : Type 0 where

@@ -5,5 +5,6 @@ pub mod NodeRuns
 pub mod WideRuns
 pub mod Borders
 pub mod Growth
+pub mod Joins
 pub mod Causes
 pub mod Certified

@@ -5,8 +5,7 @@ ghost use Rattle.mpc_linear.specs.Whole.{AreSmall};
 ghost use Rattle.mpc_rows.specs.LawRows.{whole_row, broken_row};
 ghost use Rattle.mpc_tree.specs.Borders.{AreBorders};
 ghost use Rattle.mpc_tree.specs.Causes.{IfWide};
-ghost use Rattle.mpc_tree.specs.Growth.{RegionsCover, IsBuilt};
-ghost use Rattle.mpc_tree.specs.Trees.{whole_box};
+ghost use Rattle.mpc_tree.specs.Growth.{IsReady, RegionsCover, IsBuilt};
 ghost use Rattle.mpc_tree.specs.WideRuns.{IsFirstWide};
 
 use crate::borders::Border;
@@ -28,7 +27,7 @@ pub struct OpenSide {
 }
 
 /// A copy of the row.
-fn copied(alloc: Global, row: &RowInt) -> Result<RowInt, NoMemory>
+pub fn copied(alloc: Global, row: &RowInt) -> Result<RowInt, NoMemory>
     ensures { IfOk result (λ r. r ≡ row.now) }
 {
     let mut a = Ints::new(alloc);
@@ -83,22 +82,29 @@ fn enter(cell: &mut Vec<Row>, side: OpenSide) -> Result<usize, NoMemory>
     Ok(next)
 }
 
-/// The tree, node by node in preorder; the no sides that are still to come lie on a stack.
+/// The tree of the cell with these rows, whose search goes on with the next law, node by node in
+/// preorder; the no sides that are still to come lie on a stack. `Wide` numbers the nodes from 1.
 ///
 /// `held` counts rows of the next law that hold on the cell since the search was split by them: the
 /// next split is by a later one, so the search ends.
-pub fn grown(alloc: Global, qp: &Qp, laws: &LawTable, borders: &[Border]) -> Result<Tree, TreeError>
+pub fn grown(
+    alloc: Global,
+    qp: &Qp,
+    laws: &LawTable,
+    borders: &[Border],
+    mut cell: Vec<Row>,
+    mut next: usize,
+) -> Result<Tree, TreeError>
     requires few { length laws.now < 2 ^ 32 }
     requires borders { AreBorders qp.now laws.now borders.now }
     requires cover { RegionsCover qp.now laws.now }
-    ensures built { IfOk result (λ nodes. IsBuilt qp.now laws.now whole_box nodes) }
-    ensures wide { IfErr result (λ e. IfWide e (IsFirstWide qp.now laws.now whole_box 1)) }
+    requires ready { IsReady qp.now laws.now (record { rows = cell.items; next = next }) }
+    ensures built { IfOk result (λ nodes. IsBuilt qp.now laws.now (record { rows = cell.items; next = next }) nodes) }
+    ensures wide { IfErr result (λ e. IfWide e (IsFirstWide qp.now laws.now (record { rows = cell.items; next = next }) 1)) }
 {
     cell_laws();
     let mut tree = Tree::new(alloc);
-    let mut cell = Vec::new(alloc);
     let mut sides = Vec::new(alloc);
-    let mut next = 0;
     let mut held = 0;
     'nodes: loop {
         let node = tree.len() as u64 + 1;

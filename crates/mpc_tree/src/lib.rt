@@ -16,6 +16,7 @@ ghost use Rattle.mpc_tree.specs.WideRuns.{IsFirstWide};
 mod borders;
 mod certs;
 mod errors;
+mod forks;
 mod growth;
 mod laws;
 mod nodes;
@@ -24,6 +25,7 @@ mod tests;
 
 use borders::all_borders;
 pub use errors::TreeError;
+use forks::forked;
 use growth::grown;
 pub use laws::{multipliers_are_cert, one_tree, table_laws};
 use mpc_cover::cover_laws;
@@ -41,6 +43,9 @@ use std::thread::Threads;
 /// the box, the cell and the law's row negated and strict. At a leaf without one there is the
 /// certificate of the box, the cell and all rows of the program. They are the multipliers at the
 /// ends of the runs of the simplex method by least numbers that decide the leaf.
+///
+/// The two sides of each upper split are built at once, and the tree is the same whether they are or
+/// not.
 ///
 /// `Wide` names the first run, node by node in preorder, with a number that needs more than 128 bits.
 pub fn build<T: Threads + Sync>(
@@ -61,11 +66,13 @@ pub fn build<T: Threads + Sync>(
     ensures wide { MatchResult result (λ nodes. IsFittingTree qp.now laws.now whole_box nodes)
         (λ e. IfWide e (IsFirstWide qp.now laws.now whole_box 1)) }
 {
-    let _ = rt;
-    build_alone(alloc, qp, laws)
+    cover_laws();
+    count_laws();
+    let borders = all_borders(alloc, qp, laws)?;
+    forked(rt, alloc, qp, laws, &borders, Vec::new(alloc), 0, 0)
 }
 
-/// The same tree, for a caller that has no threads to give.
+/// The same tree, by the caller's thread alone.
 pub fn build_alone(alloc: Global, qp: &Qp, laws: &LawTable) -> Result<Tree, TreeError>
     requires definite { IsDefinite qp.now.h.rows }
     requires table { IsTable qp.now laws.now }
@@ -82,5 +89,5 @@ pub fn build_alone(alloc: Global, qp: &Qp, laws: &LawTable) -> Result<Tree, Tree
     cover_laws();
     count_laws();
     let borders = all_borders(alloc, qp, laws)?;
-    grown(alloc, qp, laws, &borders)
+    grown(alloc, qp, laws, &borders, Vec::new(alloc), 0)
 }

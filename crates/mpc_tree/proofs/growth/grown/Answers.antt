@@ -11,7 +11,7 @@ use Rattle.mpc_tree.proofs.growth.grown.Goals as goal
 
 pub returns-in-Err-clause-wide : goal.returns-in-Err-clause-wide
 returns-in-Err-clause-wide c =
-    wide_at c.args.qp.now c.args.laws.now c.args.borders.now c.nodes.tree (record { rows = c.nodes.cell.items; next = c.nodes.next }) c.nodes.sides.items c.nodes.held c.nodes.invariant c.in-Err.error
+    wide_at c.args.qp.now c.args.laws.now (record { rows = c.args.cell.items; next = c.args.next }) c.args.borders.now c.nodes.tree (record { rows = c.nodes.cell.items; next = c.nodes.next }) c.nodes.sides.items c.nodes.held c.nodes.invariant c.in-Err.error
     (subst (λ n. IfWide c.in-Err.error (IsWideAt c.args.qp.now c.args.laws.now (record { rows = c.nodes.cell.items; next = c.nodes.next }) n)) (ap (λ n. n + 1) c.len.ensures)
     (subst (λ rows. IfWide c.in-Err.error (IsWideAt c.args.qp.now c.args.laws.now (record { rows = rows; next = c.nodes.next }) (c.len.result + 1))) c.deref.ensures.value c.in-Err.ensures.wide))
 
@@ -58,17 +58,17 @@ overflow_add-held c =
 pub nodes-smaller-in-Ok-Split : goal.nodes-smaller-in-Ok-Split
 nodes-smaller-in-Ok-Split c =
     let s : IsSplitAt c.args.qp.now c.args.laws.now c.args.borders.now (record { rows = c.nodes.cell.items; next = c.nodes.next }) c.in-Ok-Split.place c.in-Ok-Split.row = subst (λ rows. IsSplitAt c.args.qp.now c.args.laws.now c.args.borders.now (record { rows = rows; next = c.nodes.next }) c.in-Ok-Split.place c.in-Ok-Split.row) c.deref.ensures.value (rw c.in-Ok-Split.field-0-is at c.in-Ok-Split.ensures.placed) in
-    smaller_at c.args.qp.now c.args.laws.now c.args.borders.now c.requires.borders (record { rows = c.nodes.cell.items; next = c.nodes.next }) c.in-Ok-Split.place c.in-Ok-Split.row s c.nodes.tree c.nodes.sides.items c.nodes.held c.nodes.invariant c.index-rows-row.result (row_read c.args.qp.now c.args.laws.now c.args.borders.now c.requires.borders (record { rows = c.nodes.cell.items; next = c.nodes.next }) c.in-Ok-Split.place c.in-Ok-Split.row s c.as_slice-rows.result.now c.index-rows-row.result (rows_read c.args.qp.now c.args.laws.now c.args.borders.now c.requires.borders (record { rows = c.nodes.cell.items; next = c.nodes.next }) c.in-Ok-Split.place c.in-Ok-Split.row s c.index-borders-place.result c.as_slice-rows.result.now c.index-borders-place.is c.as_slice-rows.ensures) c.index-rows-row.is) c.open_split.new.sides.items c.in_ok-open_split-in-Ok-Split.ensures.sides
+    smaller_at c.args.qp.now c.args.laws.now c.args.borders.now c.requires.borders (record { rows = c.nodes.cell.items; next = c.nodes.next }) c.in-Ok-Split.place c.in-Ok-Split.row s (record { rows = c.args.cell.items; next = c.args.next }) c.nodes.tree c.nodes.sides.items c.nodes.held c.nodes.invariant c.index-rows-row.result (row_read c.args.qp.now c.args.laws.now c.args.borders.now c.requires.borders (record { rows = c.nodes.cell.items; next = c.nodes.next }) c.in-Ok-Split.place c.in-Ok-Split.row s c.as_slice-rows.result.now c.index-rows-row.result (rows_read c.args.qp.now c.args.laws.now c.args.borders.now c.requires.borders (record { rows = c.nodes.cell.items; next = c.nodes.next }) c.in-Ok-Split.place c.in-Ok-Split.row s c.index-borders-place.result c.as_slice-rows.result.now c.index-borders-place.is c.as_slice-rows.ensures) c.index-rows-row.is) c.open_split.new.sides.items c.in_ok-open_split-in-Ok-Split.ensures.sides
 
 pub nodes-preserved-in-Ok-Split : goal.nodes-preserved-in-Ok-Split
 nodes-preserved-in-Ok-Split c =
     let s : IsSplitAt c.args.qp.now c.args.laws.now c.args.borders.now (record { rows = c.nodes.cell.items; next = c.nodes.next }) c.in-Ok-Split.place c.in-Ok-Split.row = subst (λ rows. IsSplitAt c.args.qp.now c.args.laws.now c.args.borders.now (record { rows = rows; next = c.nodes.next }) c.in-Ok-Split.place c.in-Ok-Split.row) c.deref.ensures.value (rw c.in-Ok-Split.field-0-is at c.in-Ok-Split.ensures.placed) in
-    grown_at c.args.qp.now c.args.laws.now c.args.borders.now c.requires.borders (record { rows = c.nodes.cell.items; next = c.nodes.next }) c.in-Ok-Split.place c.in-Ok-Split.row s c.cell_laws.ensures c.nodes.tree c.nodes.sides.items c.nodes.held c.nodes.invariant c.index-rows-row.result (row_read c.args.qp.now c.args.laws.now c.args.borders.now c.requires.borders (record { rows = c.nodes.cell.items; next = c.nodes.next }) c.in-Ok-Split.place c.in-Ok-Split.row s c.as_slice-rows.result.now c.index-rows-row.result (rows_read c.args.qp.now c.args.laws.now c.args.borders.now c.requires.borders (record { rows = c.nodes.cell.items; next = c.nodes.next }) c.in-Ok-Split.place c.in-Ok-Split.row s c.index-borders-place.result c.as_slice-rows.result.now c.index-borders-place.is c.as_slice-rows.ensures) c.index-rows-row.is) c.open_split.new.tree c.open_split.new.cell.items c.open_split.new.sides.items c.in_ok-open_split-in-Ok-Split.ensures.tree c.in_ok-open_split-in-Ok-Split.ensures.cell c.in_ok-open_split-in-Ok-Split.ensures.sides
+    grown_at c.args.qp.now c.args.laws.now c.args.borders.now c.requires.borders (record { rows = c.nodes.cell.items; next = c.nodes.next }) c.in-Ok-Split.place c.in-Ok-Split.row s c.cell_laws.ensures (record { rows = c.args.cell.items; next = c.args.next }) c.nodes.tree c.nodes.sides.items c.nodes.held c.nodes.invariant c.index-rows-row.result (row_read c.args.qp.now c.args.laws.now c.args.borders.now c.requires.borders (record { rows = c.nodes.cell.items; next = c.nodes.next }) c.in-Ok-Split.place c.in-Ok-Split.row s c.as_slice-rows.result.now c.index-rows-row.result (rows_read c.args.qp.now c.args.laws.now c.args.borders.now c.requires.borders (record { rows = c.nodes.cell.items; next = c.nodes.next }) c.in-Ok-Split.place c.in-Ok-Split.row s c.index-borders-place.result c.as_slice-rows.result.now c.index-borders-place.is c.as_slice-rows.ensures) c.index-rows-row.is) c.open_split.new.tree c.open_split.new.cell.items c.open_split.new.sides.items c.in_ok-open_split-in-Ok-Split.ensures.tree c.in_ok-open_split-in-Ok-Split.ensures.cell c.in_ok-open_split-in-Ok-Split.ensures.sides
 
 pub returns-in-None-clause-built : goal.returns-in-None-clause-built
 returns-in-None-clause-built c =
     let l : IsLeafAt c.args.qp.now c.args.laws.now (record { rows = c.nodes.cell.items; next = c.nodes.next }) c.in-Ok-Leaf.leaf = subst (λ rows. IsLeafAt c.args.qp.now c.args.laws.now (record { rows = rows; next = c.nodes.next }) c.in-Ok-Leaf.leaf) c.deref.ensures.value (rw c.in-Ok-Leaf.field-0-is at c.in-Ok-Leaf.ensures.placed) in
-    last_at c.args.qp.now c.args.laws.now c.args.borders.now c.nodes.tree c.push.new.self (record { rows = c.nodes.cell.items; next = c.nodes.next }) c.nodes.sides.items c.nodes.held c.in-Ok-Leaf.leaf c.nodes.invariant l (c.in-None.ensures.items ∙ append-nil c.pop.new.self.items ∙ c.in-None.ensures.rest ∙ ap (λ n. take (n - 1) c.nodes.sides.items) c.in-None.ensures.cases.0) c.in_ok-push-in-Ok-Leaf.ensures.ok
+    last_at c.args.qp.now c.args.laws.now (record { rows = c.args.cell.items; next = c.args.next }) c.args.borders.now c.nodes.tree c.push.new.self (record { rows = c.nodes.cell.items; next = c.nodes.next }) c.nodes.sides.items c.nodes.held c.in-Ok-Leaf.leaf c.nodes.invariant l (c.in-None.ensures.items ∙ append-nil c.pop.new.self.items ∙ c.in-None.ensures.rest ∙ ap (λ n. take (n - 1) c.nodes.sides.items) c.in-None.ensures.cases.0) c.in_ok-push-in-Ok-Leaf.ensures.ok
 
 pub nodes-smaller : goal.nodes-smaller
 nodes-smaller c =
@@ -79,4 +79,4 @@ nodes-smaller c =
 pub nodes-preserved : goal.nodes-preserved
 nodes-preserved c =
     let l : IsLeafAt c.args.qp.now c.args.laws.now (record { rows = c.nodes.cell.items; next = c.nodes.next }) c.in-Ok-Leaf.leaf = subst (λ rows. IsLeafAt c.args.qp.now c.args.laws.now (record { rows = rows; next = c.nodes.next }) c.in-Ok-Leaf.leaf) c.deref.ensures.value (rw c.in-Ok-Leaf.field-0-is at c.in-Ok-Leaf.ensures.placed) in
-    next_at c.args.qp.now c.args.laws.now c.args.borders.now c.nodes.tree c.push.new.self (record { rows = c.nodes.cell.items; next = c.nodes.next }) c.nodes.sides.items c.pop.new.self.items c.in-Some.side c.nodes.held c.in-Ok-Leaf.leaf c.enter.new.cell.items c.in_ok-next-in-Some.next c.nodes.invariant l c.in-Some.ensures.items c.in_ok-push-in-Ok-Leaf.ensures.ok c.in_ok-next-in-Some.ensures.cell c.in_ok-next-in-Some.ensures.next
+    next_at c.args.qp.now c.args.laws.now (record { rows = c.args.cell.items; next = c.args.next }) c.args.borders.now c.nodes.tree c.push.new.self (record { rows = c.nodes.cell.items; next = c.nodes.next }) c.nodes.sides.items c.pop.new.self.items c.in-Some.side c.nodes.held c.in-Ok-Leaf.leaf c.enter.new.cell.items c.in_ok-next-in-Some.next c.nodes.invariant l c.in-Some.ensures.items c.in_ok-push-in-Ok-Leaf.ensures.ok c.in_ok-next-in-Some.ensures.cell c.in_ok-next-in-Some.ensures.next

@@ -5,7 +5,7 @@ use Rattle.mpc_tree.proofs.Growing.{IsGrown}
 use Rattle.mpc_tree.proofs.growth.grown.Given as goal
 
 abbrev pub invariant-nodes : goal.invariant-nodes
-invariant-nodes l = IsGrown l.qp l.laws l.borders l.tree (record { rows = l.cell.items; next = l.next }) l.sides.items l.held
+invariant-nodes l = IsGrown l.qp l.laws (record { rows = l.fn.cell.items; next = l.fn.next }) l.borders l.tree (record { rows = l.cell.items; next = l.next }) l.sides.items l.held
 
 abbrev pub decreases-nodes : goal.decreases-nodes
 decreases-nodes l = weights (length l.laws) (height l.qp.g) l.next l.held l.sides.items

@@ -1,0 +1,30 @@
+use Rattle.mpc_tree.proofs.Built.{laws_of_table, table_covers, built_tree, built_certs, built_certified, built_empty, built_wide, box_ready}
+use Rattle.mpc_tree.proofs.TableSizes.{laws_numbered}
+use Rattle.mpc_tree.proofs.build.Goals as goal
+
+pub all_borders-requires-clause-are_laws : goal.all_borders-requires-clause-are_laws
+all_borders-requires-clause-are_laws g c = laws_of_table c.args.qp.now c.args.laws.now c.requires.table
+
+pub forked-requires-clause-few : goal.forked-requires-clause-few
+forked-requires-clause-few g c κs within = laws_numbered c.count_laws.ensures c.args.qp.now c.args.laws.now c.requires.table
+
+pub forked-requires-clause-cover : goal.forked-requires-clause-cover
+forked-requires-clause-cover g c κs within = table_covers c.cover_laws.ensures.of_every_table c.args.qp.now c.args.laws.now c.requires.definite c.requires.table
+
+pub forked-requires-clause-ready : goal.forked-requires-clause-ready
+forked-requires-clause-ready g c κs within = box_ready c.args.qp.now c.args.laws.now c.new.result.items c.new.ensures.items
+
+pub returns-clause-tree : goal.returns-clause-tree
+returns-clause-tree g c = built_tree c.args.qp.now c.args.laws.now c.new.result.items c.new.ensures.items c.forked.result c.forked.ensures.built
+
+pub returns-clause-certs : goal.returns-clause-certs
+returns-clause-certs g c = built_certs c.args.qp.now c.args.laws.now c.new.result.items c.new.ensures.items c.forked.result c.forked.ensures.built
+
+pub returns-clause-certified : goal.returns-clause-certified
+returns-clause-certified g c = built_certified c.args.qp.now c.args.laws.now c.new.result.items c.new.ensures.items c.forked.result c.forked.ensures.built
+
+pub returns-clause-no_move : goal.returns-clause-no_move
+returns-clause-no_move g c = built_empty c.args.qp.now c.args.laws.now c.new.result.items c.new.ensures.items c.forked.result c.forked.ensures.built (table_covers c.cover_laws.ensures.of_every_table c.args.qp.now c.args.laws.now c.requires.definite c.requires.table)
+
+pub returns-clause-wide : goal.returns-clause-wide
+returns-clause-wide g c = built_wide c.args.qp.now c.args.laws.now c.new.result.items c.new.ensures.items c.forked.result c.forked.ensures.built c.forked.ensures.wide
