@@ -16,6 +16,7 @@ pub mod LeafLemmas
 pub mod CheckLemmas
 pub mod FindingLemmas
 pub mod StretchLemmas
+pub mod SideLemmas
 pub mod PivotPlaces
 pub mod OneFinding
 pub mod TestLemmas

@@ -26,6 +26,23 @@ module _ (met : ℕ → Type 0) (finds : ℕ → Finding → Type 0) where
     here = h.1.here;
   }
 
+  -- what is found of the first stretch is found of both
+  pub further_spot : (from middle to : ℕ) → from ≤ middle → middle ≤ to → (spot : Spot) → IsFirstFrom met finds from middle (refused spot) → IsFirstFrom met finds from to (refused spot)
+  further_spot from middle to low high spot h = first_found from middle to (refused spot) low high (inl h)
+
+  pub further_error : (from middle to : ℕ) → from ≤ middle → middle ≤ to → (e : CheckError) → IsSearched (EachFrom met from middle) (IsFirstFrom met finds from middle) (Err e) → IsSearched (EachFrom met from to) (IsFirstFrom met finds from to) (Err e)
+  further_error from middle to low high (Wide place) h = first_found from middle to (too_wide place) low high (inl h)
+  further_error from middle to low high (NotDefinite j) h = first_found from middle to (not_definite j) low high (inl h)
+  further_error from middle to low high NoMemory h = tt
+
+  -- where the first is met, both are searched with the answer of the second
+  pub later_searched : (from middle to : ℕ) → from ≤ middle → middle ≤ to → EachFrom met from middle → (r : Result (Option Spot) CheckError) → IsSearched (EachFrom met middle to) (IsFirstFrom met finds middle to) r → IsSearched (EachFrom met from to) (IsFirstFrom met finds from to) r
+  later_searched from middle to low high first (Ok None) s = both_met from middle to first s
+  later_searched from middle to low high first (Ok (Some spot)) s = first_found from middle to (refused spot) low high (inr (first, s))
+  later_searched from middle to low high first (Err (Wide place)) s = first_found from middle to (too_wide place) low high (inr (first, s))
+  later_searched from middle to low high first (Err (NotDefinite j)) s = first_found from middle to (not_definite j) low high (inr (first, s))
+  later_searched from middle to low high first (Err NoMemory) s = tt
+
   -- ---- part by part
   pub none_yet : (from : ℕ) → EachFrom met from from
   none_yet from k low high = absurd (omega arith)

@@ -72,6 +72,11 @@ IsConvexCause qp (Wide place) = IsWideStep qp place
 IsConvexCause qp (NotDefinite step) = IsBadStep qp step
 IsConvexCause qp NoMemory = Unit {0}
 
+abbrev pub IsProgramRefusal : Plant → CheckError → Type 0
+IsProgramRefusal plant (Wide place) = ProgramFinds plant (too_wide place)
+IsProgramRefusal plant (NotDefinite step) = ProgramFinds plant (not_definite step)
+IsProgramRefusal plant NoMemory = Unit {0}
+
 -- ---- the controller
 -- the laws and the leaves
 pub record BehindMet (qp : Qp) (parts : Parts) : Type 0 where

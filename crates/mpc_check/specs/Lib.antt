@@ -6,4 +6,5 @@ pub mod Findings
 pub mod Ways
 pub mod LawConditions
 pub mod LeafConditions
+pub mod Stretches
 pub mod Acceptance

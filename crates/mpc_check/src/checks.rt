@@ -2,12 +2,12 @@
 
 ghost use Rattle.std.specs.Prelude.{IfOk, IfErr, OnOk};
 ghost use Rattle.mpc_space.specs.Vector.{IsSymmetric};
-ghost use Rattle.mpc_check.specs.Acceptance.{IsProgramOf, IsConvex, IsProgramCause, IsConvexCause, BehindMet, BehindFinds, IsAnswer, IsCause};
+ghost use Rattle.mpc_check.specs.Acceptance.{IsProgramOf, IsConvex, IsProgramCause, IsConvexCause, IsProgramRefusal, BehindMet, BehindFinds, IsAnswer, IsCause};
 ghost use Rattle.mpc_check.specs.Findings.{IsSearched};
 
 use crate::answers::{Answer, CheckError, Spot};
 use crate::gradients::search_laws;
-use crate::stretches::search_tree;
+use crate::stretches::{search_tree, search_tree_in_threads};
 use mpc_condense::{CondenseError, condense};
 use mpc_controller::Controller;
 use mpc_definite::{DefiniteError, pivots};
@@ -42,6 +42,22 @@ fn test_convex(alloc: Global, qp: &Qp) -> Result<(), CheckError>
     }
 }
 
+/// The program of the plant, whose cost is positive definite.
+fn convex_program(alloc: Global, plant: &Plant) -> Result<Qp, CheckError>
+    ensures program { IfOk result (λ qp. IsProgramOf qp plant.now) }
+    ensures convex { IfOk result IsConvex }
+    ensures refused { IfErr result (IsProgramRefusal plant.now) }
+{
+    let qp = match program(alloc, plant) {
+        Ok(qp) => qp,
+        Err(error) => return Err(error),
+    };
+    match test_convex(alloc, &qp) {
+        Ok(()) => Ok(qp),
+        Err(error) => Err(error),
+    }
+}
+
 /// What is found of the laws and of the leaves.
 fn search(alloc: Global, qp: &Qp, controller: &Controller) -> Result<Option<Spot>, CheckError>
     requires { IsProgramOf qp.now controller.now.plant }
@@ -49,6 +65,23 @@ fn search(alloc: Global, qp: &Qp, controller: &Controller) -> Result<Option<Spot
 {
     match search_laws(qp, controller.laws()) {
         Ok(None) => search_tree(alloc, qp, controller.laws(), controller.tree()),
+        Ok(Some(spot)) => Ok(Some(spot)),
+        Err(error) => Err(error),
+    }
+}
+
+/// The same, where the leaves are checked side by side.
+fn search_in_threads<T: Threads + Sync>(
+    rt: &T,
+    alloc: Global,
+    qp: &Qp,
+    parts: &Controller,
+) -> Result<Option<Spot>, CheckError>
+    requires { IsProgramOf qp.now parts.now.plant }
+    ensures { IsSearched (BehindMet qp.now parts.now) (BehindFinds qp.now parts.now) result }
+{
+    match search_laws(qp, parts.laws()) {
+        Ok(None) => search_tree_in_threads(rt, alloc, qp, parts.laws(), parts.tree()),
         Ok(Some(spot)) => Ok(Some(spot)),
         Err(error) => Err(error),
     }
@@ -65,29 +98,37 @@ fn search(alloc: Global, qp: &Qp, controller: &Controller) -> Result<Option<Spot
 /// The conditions come in the order of condensing, the pivots, the laws with their lines and members, and the leaves in preorder with
 /// their rows. The first that isn't met answers: as `Refused` with its spot, as `Wide` with its place where one of its numbers needs
 /// more than 128 bits, or as `NotDefinite` with the first pivot that isn't positive.
+///
+/// The leaves are checked side by side, in as many as 16 stretches of neighbours, each in a thread of its own where one can be started. It
+/// waits for no lock.
 pub fn check<T: Threads + Sync>(
-    _rt: &T,
+    rt: &T,
     alloc: Global,
     controller: &Controller,
 ) -> Result<Answer, CheckError>
     ensures answer { IfOk result (IsAnswer controller.now) }
     ensures cause { IfErr result (IsCause controller.now) }
 {
-    check_alone(alloc, controller)
+    let qp = match convex_program(alloc, controller.plant()) {
+        Ok(qp) => qp,
+        Err(error) => return Err(error),
+    };
+    match search_in_threads(rt, alloc, &qp, controller) {
+        Ok(None) => Ok(Answer::Accepted),
+        Ok(Some(spot)) => Ok(Answer::Refused(spot)),
+        Err(error) => Err(error),
+    }
 }
 
-/// What [`check`] answers, without a runtime, as it is called from a static library.
+/// What [`check`] answers, by the caller alone: it starts no thread, so a static library can call it.
 pub fn check_alone(alloc: Global, controller: &Controller) -> Result<Answer, CheckError>
     ensures answer { IfOk result (IsAnswer controller.now) }
     ensures cause { IfErr result (IsCause controller.now) }
 {
-    let qp = match program(alloc, controller.plant()) {
+    let qp = match convex_program(alloc, controller.plant()) {
         Ok(qp) => qp,
         Err(error) => return Err(error),
     };
-    if let Err(error) = test_convex(alloc, &qp) {
-        return Err(error);
-    }
     match search(alloc, &qp, controller) {
         Ok(None) => Ok(Answer::Accepted),
         Ok(Some(spot)) => Ok(Answer::Refused(spot)),

@@ -1,17 +1,32 @@
 //! The conditions on a stretch of neighbouring nodes of the tree. Each stretch is checked for itself, from its first place to before its last.
 
-ghost use Rattle.std.specs.Prelude.{◌<◌, ◌≤◌, All, length};
-ghost use Rattle.mpc_rows.specs.Laws.{HasLawShape};
-ghost use Rattle.mpc_controller.specs.Preorder.{IsTree};
+ghost use Rattle.std.specs.Prelude.{◌≡◌, ◌<◌, ◌≤◌, ◌↔◌, Ok, None, All, IfOk, IsTrue, length, vec_len};
 ghost use Rattle.mpc_check.specs.Findings.{IsSearched};
 ghost use Rattle.mpc_check.specs.LeafConditions.{NodeAtMet, NodeAtFinds, StretchMet, StretchFinds, TreeMet, TreeFinds};
-ghost use Rattle.mpc_check.specs.Ways.{HasSplitRow, NamesLaw, IsWay};
+ghost use Rattle.mpc_check.specs.Stretches.{HaveProgramShapes, IsStretchOf, AreNeighbours, AnswersAsOne};
+ghost use Rattle.mpc_check.specs.Ways.{IsWay};
 
 use crate::answers::{CheckError, Spot};
 use crate::leaves::search_node;
 use crate::ways::{Turn, go_on, way_to};
+use mpc_frac::NoMemory;
 use mpc_rows::{LawTable, Qp, Tree};
 use std::alloc::Global;
+use std::thread;
+use std::thread::Threads;
+
+/// The most stretches of a tree, each of which may take a thread.
+const MOST_STRETCHES: usize = 16;
+
+/// The fewest nodes for which a thread of their own is worth its start.
+const FEWEST_NODES: usize = 16;
+
+/// Neighbouring nodes of a tree: those at the places `from`, counted from 0, to before `to`.
+#[derive(Clone, Copy, Debug, Drop)]
+pub(crate) struct Stretch {
+    pub from: usize,
+    pub to: usize,
+}
 
 /// What is found of the node at a place, counted from 0, to which this way leads.
 fn search_place(
@@ -22,9 +37,7 @@ fn search_place(
     way: &[Turn],
     place: usize,
 ) -> Result<Option<Spot>, CheckError>
-    requires shapes { All (HasLawShape qp.now) laws.now }
-    requires named { All (NamesLaw (length laws.now)) tree.now }
-    requires splits { All (HasSplitRow (length qp.now.counts)) tree.now }
+    requires shapes { HaveProgramShapes qp.now laws.now tree.now }
     requires way { IsWay tree.now place way.now }
     requires inside { place < length tree.now }
     ensures { IsSearched (NodeAtMet qp.now laws.now tree.now place) (NodeAtFinds qp.now laws.now tree.now place) result }
@@ -34,25 +47,20 @@ fn search_place(
     search_node(alloc, qp, laws, tree, way, tree.at(place), number)
 }
 
-/// What is found of a stretch of the tree, node by node in preorder: of the nodes at the places `from`, counted from 0, to before `to`.
+/// What is found of a stretch of the tree, node by node in preorder. It begins with its own copy of the way from the root to its first node.
 fn search_stretch(
     alloc: Global,
     qp: &Qp,
     laws: &LawTable,
     tree: &Tree,
-    from: usize,
-    to: usize,
+    stretch: Stretch,
 ) -> Result<Option<Spot>, CheckError>
-    requires shapes { All (HasLawShape qp.now) laws.now }
-    requires complete { IsTree tree.now }
-    requires named { All (NamesLaw (length laws.now)) tree.now }
-    requires splits { All (HasSplitRow (length qp.now.counts)) tree.now }
-    requires in_order { from ≤ to }
-    requires inside { to ≤ length tree.now }
-    ensures { IsSearched (StretchMet qp.now laws.now tree.now from to) (StretchFinds qp.now laws.now tree.now from to) result }
+    requires shapes { HaveProgramShapes qp.now laws.now tree.now }
+    requires stretch { IsStretchOf (length tree.now) stretch }
+    ensures { IsSearched (StretchMet qp.now laws.now tree.now stretch.from stretch.to) (StretchFinds qp.now laws.now tree.now stretch.from stretch.to) result }
 {
-    let mut way = way_to(alloc, tree, from)?;
-    for k in from..to {
+    let mut way = way_to(alloc, tree, stretch.from)?;
+    for k in stretch.from..stretch.to {
         match search_place(alloc, qp, laws, tree, way.as_slice(), k) {
             Ok(None) => {}
             Ok(Some(spot)) => return Ok(Some(spot)),
@@ -70,11 +78,73 @@ pub fn search_tree(
     laws: &LawTable,
     tree: &Tree,
 ) -> Result<Option<Spot>, CheckError>
-    requires shapes { All (HasLawShape qp.now) laws.now }
-    requires complete { IsTree tree.now }
-    requires named { All (NamesLaw (length laws.now)) tree.now }
-    requires splits { All (HasSplitRow (length qp.now.counts)) tree.now }
+    requires shapes { HaveProgramShapes qp.now laws.now tree.now }
     ensures { IsSearched (TreeMet qp.now laws.now tree.now) (TreeFinds qp.now laws.now tree.now) result }
 {
-    search_stretch(alloc, qp, laws, tree, 0, tree.len())
+    let whole = Stretch {
+        from: 0,
+        to: tree.len(),
+    };
+    search_stretch(alloc, qp, laws, tree, whole)
+}
+
+/// The tree cut into neighbouring stretches of nearly the same length: into one where there are few nodes.
+fn stretches(alloc: Global, tree: &Tree) -> Result<Vec<Stretch>, NoMemory>
+    ensures whole { IfOk result (λ v. AreNeighbours 0 (length tree.now) v.items) }
+    ensures each { IfOk result (λ v. All (IsStretchOf (length tree.now)) v.items) }
+    ensures few { IfOk result (λ v. vec_len v ≤ 16) }
+{
+    let nodes = tree.len();
+    let count = (nodes / FEWEST_NODES).clamp(1, MOST_STRETCHES);
+    let mut stretches = Vec::new(alloc);
+    let mut from = 0;
+    for k in 0..count {
+        let to = from + (nodes - from) / (count - k);
+        stretches.push(Stretch { from, to }).map_err(|_| NoMemory)?;
+        from = to;
+    }
+    Ok(stretches)
+}
+
+/// Whether the answer is that all conditions are met.
+fn is_met(answer: Result<Option<Spot>, CheckError>) -> bool
+    ensures { IsTrue result ↔ (answer ≡ Ok None) }
+{
+    match answer {
+        Ok(None) => true,
+        Ok(Some(_)) | Err(_) => false,
+    }
+}
+
+/// What is found of neighbouring stretches as one, from what is found of each: of the answers in their order the first that isn't that all
+/// conditions are met.
+fn first_answer(answers: &[Result<Option<Spot>, CheckError>]) -> Result<Option<Spot>, CheckError>
+    ensures { AnswersAsOne answers.now result }
+{
+    for answer in answers {
+        if !is_met(*answer) {
+            return *answer;
+        }
+    }
+    Ok(None)
+}
+
+/// What is found of the tree: its stretches are checked side by side, each in a thread of its own where one can be started, and else by the
+/// caller. It waits for no lock.
+pub fn search_tree_in_threads<T: Threads + Sync>(
+    rt: &T,
+    alloc: Global,
+    qp: &Qp,
+    laws: &LawTable,
+    tree: &Tree,
+) -> Result<Option<Spot>, CheckError>
+    requires shapes { HaveProgramShapes qp.now laws.now tree.now }
+    ensures { IsSearched (TreeMet qp.now laws.now tree.now) (TreeFinds qp.now laws.now tree.now) result }
+{
+    let stretches = stretches(alloc, tree)?;
+    let search = |stretch: Stretch| search_stretch(alloc, qp, laws, tree, stretch);
+    match thread::map_vec(rt, stretches, &search) {
+        Ok(answers) => first_answer(answers.as_slice()),
+        Err(_) => Err(CheckError::NoMemory),
+    }
 }

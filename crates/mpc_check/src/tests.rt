@@ -1,8 +1,9 @@
-//! Controllers of one input, one step and one coordinate, whose tree is one leaf.
+//! Controllers of one input, one step and one coordinate, whose tree is one leaf, or a chain of splits.
 
 ghost use Rattle.std.specs.Prelude.{◌≡◌, ◌<◌, ◌≤◌, [], ◌∷◌, All, length, IfSome, IfOk, IsTrue};
 ghost use Rattle.mpc_linear.specs.Shape.{HasShape};
 ghost use Rattle.mpc_sets.specs.RowSet.{IsSetOfRows};
+ghost use Rattle.mpc_controller.specs.Preorder.{IsTree};
 ghost use Rattle.mpc_controller.specs.Parts.{IsLawFor, IsNodeFor};
 ghost use Rattle.mpc_controller.specs.Certificates.{IsCertOver, HaveCerts};
 ghost use Rattle.mpc_controller.specs.Walk.{IsLeaf};
@@ -11,7 +12,7 @@ use crate::certs::has_positions_in;
 use crate::{Answer, CheckError, Spot, check};
 use mpc_controller::Controller;
 use mpc_frac::{Frac, NoMemory};
-use mpc_linear::Matrix;
+use mpc_linear::{Ints, Matrix, RowInt};
 use mpc_plant::{Plant, read_plant};
 use mpc_rows::{Cert, Certs, Law, LawTable, Node, Tree};
 use mpc_sets::ActiveSet;
@@ -136,16 +137,17 @@ fn leaf(alloc: Global, laws: &LawTable) -> Option<Node>
     Some(Node::Law { law: 1, certs })
 }
 
-/// The leaf of the first law, for a plant with one row, with the certificate of that row.
-fn leaf_with(alloc: Global, laws: &LawTable, cert: Cert) -> Option<Node>
+/// The leaf of the first law under so many splits, for a plant with one row, with the certificate of that row.
+fn leaf_with(alloc: Global, laws: &LawTable, depth: u64, cert: Cert) -> Option<Node>
+    requires { depth ≤ 1000 }
     ensures node { IfSome result (λ node. IsNodeFor 1 (length laws.now) node) }
-    ensures certs { IfSome result (λ node. HaveCerts 1 1 (0 ∷ []) (node ∷ [])) }
+    ensures certs { IfSome result (λ node. HaveCerts 1 1 (depth ∷ []) (node ∷ [])) }
     ensures leaf { IfSome result (λ node. IsLeaf node) }
 {
     if laws.len() == 0 {
         return None;
     }
-    if !is_over(&cert, 3) {
+    if !is_over(&cert, depth as u128 + 3) {
         return None;
     }
     let mut certs = Certs::new(alloc);
@@ -168,19 +170,80 @@ fn bare_leaf(laws: &LawTable, cert: Cert) -> Option<Node>
     Some(Node::NoMove { cert })
 }
 
-/// What is found of the controller with one leaf, for a plant with so many rows.
+/// The tree of one leaf.
+fn one_leaf(alloc: Global, leaf: Node) -> Option<Tree>
+    ensures { IfSome result (λ tree. tree ≡ leaf ∷ []) }
+{
+    let mut tree = Tree::new(alloc);
+    let Ok(()) = tree.push(leaf) else {
+        return None;
+    };
+    Some(tree)
+}
+
+/// The split `t <= 0`.
+fn split(alloc: Global) -> Option<Node>
+    ensures node { IfSome result (λ node. IsNodeFor 1 0 node) }
+    ensures split { IfSome result (λ node. ¬ IsLeaf node) }
+{
+    let mut a = Ints::new(alloc);
+    let Ok(()) = a.push(1) else {
+        return None;
+    };
+    Some(Node::Split(RowInt { a, b: 0 }))
+}
+
+/// The position of the row that always holds in the system of a leaf under so many splits, but of another row at two depths.
+fn position(depth: u64, first: u64, second: u64) -> u64
+    requires { depth ≤ 1000 }
+{
+    if depth == first || depth == second {
+        1
+    } else {
+        depth + 3
+    }
+}
+
+/// A chain of so many splits, each on the no side of the one before it, whose leaves have the first law, for a plant with a row that always
+/// holds. The leaves under so many splits as `first` and `second` say have the certificate of another row, which refutes nothing.
+fn chain(alloc: Global, laws: &LawTable, splits: u64, first: u64, second: u64) -> Option<Tree>
+    requires { splits < 1000 }
+    ensures nodes { IfSome result (λ tree. All (IsNodeFor 1 (length laws.now)) tree) }
+    ensures complete { IfSome result (λ tree. IsTree tree) }
+    ensures certs { IfSome result (λ tree. HaveCerts 1 1 (0 ∷ []) tree) }
+{
+    let mut tree = Tree::new(alloc);
+    for k in 0..splits {
+        let depth = k + 1;
+        let cert = cert(alloc, position(depth, first, second), 0)?;
+        let leaf = leaf_with(alloc, laws, depth, cert)?;
+        let Ok(()) = tree.push(split(alloc)?) else {
+            return None;
+        };
+        let Ok(()) = tree.push(leaf) else {
+            return None;
+        };
+    }
+    let last = leaf_with(alloc, laws, splits, cert(alloc, splits + 3, 0)?)?;
+    let Ok(()) = tree.push(last) else {
+        return None;
+    };
+    Some(tree)
+}
+
+/// What is found of the controller with these laws and this tree, for a plant with so many rows.
 fn found<T: Threads + Sync>(
     rt: &T,
     alloc: Global,
     plant: Plant,
     laws: LawTable,
-    leaf: Node,
+    tree: Tree,
     rows: usize,
 ) -> Option<Result<Answer, CheckError>>
     requires laws { All (IsLawFor plant) laws }
-    requires node { IsNodeFor 1 (length laws) leaf }
-    requires certs { HaveCerts 1 rows (0 ∷ []) (leaf ∷ []) }
-    requires leaf { IsLeaf leaf }
+    requires nodes { All (IsNodeFor 1 (length laws)) tree }
+    requires complete { IsTree tree }
+    requires certs { HaveCerts 1 rows (0 ∷ []) tree }
 {
     if plant.n != 1 || plant.horizon != 1 || laws.len() > 1000 {
         return None;
@@ -188,10 +251,6 @@ fn found<T: Threads + Sync>(
     if rows != plant.rows.len() + plant.terminal.len() {
         return None;
     }
-    let mut tree = Tree::new(alloc);
-    let Ok(()) = tree.push(leaf) else {
-        return None;
-    };
     let Ok(controller) = Controller::seal(alloc, plant, laws, tree) else {
         return None;
     };
@@ -236,8 +295,8 @@ fn free<T: Threads + Sync>(
     let plant = read_plant(alloc, file).ok()?;
     let mut laws = LawTable::new(alloc);
     add_law(alloc, &plant, &mut laws, 0, 2, slope, (0, 0))?;
-    let leaf = leaf(alloc, &laws)?;
-    found(rt, alloc, plant, laws, leaf, 0)
+    let tree = one_leaf(alloc, leaf(alloc, &laws)?)?;
+    found(rt, alloc, plant, laws, tree, 0)
 }
 
 /// The same with the row that always holds, and a certificate at this position.
@@ -250,8 +309,29 @@ fn idle<T: Threads + Sync>(
     let half = Frac::new(-1, 2).ok()?;
     let mut laws = LawTable::new(alloc);
     add_law(alloc, &plant, &mut laws, 0, 2, half, (0, 0))?;
-    let leaf = leaf_with(alloc, &laws, cert(alloc, position, 0)?)?;
-    found(rt, alloc, plant, laws, leaf, 1)
+    let tree = one_leaf(
+        alloc,
+        leaf_with(alloc, &laws, 0, cert(alloc, position, 0)?)?,
+    )?;
+    found(rt, alloc, plant, laws, tree, 1)
+}
+
+/// The same with a chain of so many splits, whose leaves at these depths have another certificate.
+fn chained<T: Threads + Sync>(
+    rt: &T,
+    alloc: Global,
+    splits: u64,
+    first: u64,
+    second: u64,
+) -> Option<Result<Answer, CheckError>>
+    requires { splits < 1000 }
+{
+    let plant = read_plant(alloc, IDLE).ok()?;
+    let half = Frac::new(-1, 2).ok()?;
+    let mut laws = LawTable::new(alloc);
+    add_law(alloc, &plant, &mut laws, 0, 2, half, (0, 0))?;
+    let tree = chain(alloc, &laws, splits, first, second)?;
+    found(rt, alloc, plant, laws, tree, 1)
 }
 
 /// The law of the bound, with the move 2 and the multiplier `-t`.
@@ -259,8 +339,8 @@ fn bounded<T: Threads + Sync>(rt: &T, alloc: Global) -> Option<Result<Answer, Ch
     let plant = read_plant(alloc, BOUNDED).ok()?;
     let mut laws = LawTable::new(alloc);
     add_law(alloc, &plant, &mut laws, 1, 2, Frac::whole(0), (0, -1))?;
-    let leaf = leaf_with(alloc, &laws, cert(alloc, 3, 0)?)?;
-    found(rt, alloc, plant, laws, leaf, 1)
+    let tree = one_leaf(alloc, leaf_with(alloc, &laws, 0, cert(alloc, 3, 0)?)?)?;
+    found(rt, alloc, plant, laws, tree, 1)
 }
 
 /// No law, and a certificate at these positions that nothing is admissible.
@@ -272,8 +352,8 @@ fn empty<T: Threads + Sync>(
 ) -> Option<Result<Answer, CheckError>> {
     let plant = read_plant(alloc, EMPTY).ok()?;
     let laws = LawTable::new(alloc);
-    let leaf = bare_leaf(&laws, cert(alloc, first, second)?)?;
-    found(rt, alloc, plant, laws, leaf, 2)
+    let tree = one_leaf(alloc, bare_leaf(&laws, cert(alloc, first, second)?)?)?;
+    found(rt, alloc, plant, laws, tree, 2)
 }
 
 /// Whether this was found.
@@ -339,6 +419,17 @@ fn refuses_leaves(rt: HostRuntime) -> Result<(), Fail> {
     assert!(rt; is(&other, Answer::Refused(Spot::LeafRow { node: 1, row: 1 })));
     let short = empty(&rt, alloc, 3, 0).ok_or("none")?;
     assert!(rt; is(&short, Answer::Refused(Spot::Leaf { node: 1 })));
+    Ok(())
+}
+
+// 49 nodes are three stretches. Node 20 is in the second, node 40 in the third.
+#[test]
+fn checks_stretches(rt: HostRuntime) -> Result<(), Fail> {
+    let alloc = rt.alloc();
+    let all = chained(&rt, alloc, 24, 0, 0).ok_or("none")?;
+    assert!(rt; is(&all, Answer::Accepted));
+    let two = chained(&rt, alloc, 24, 20, 10).ok_or("none")?;
+    assert!(rt; is(&two, Answer::Refused(Spot::LeafRow { node: 20, row: 1 })));
     Ok(())
 }
 

@@ -1,13 +1,12 @@
-use Rattle.std.proofs.Common.{List, All, Ok, Err, length, sym, ◌∙◌, ap, subst}
-use Rattle.mpc_rows.specs.declared.laws.Law.{Law}
+use Rattle.std.proofs.Common.{All, Ok, Err, sym, ◌∙◌, ap, subst}
 use Rattle.mpc_rows.specs.Laws.{HasLawShape}
 use Rattle.mpc_check.specs.Findings.{IsSearched}
 use Rattle.mpc_check.specs.LawConditions.{LawsMet, LawsFind}
 use Rattle.mpc_check.specs.LeafConditions.{TreeMet, TreeFinds}
 use Rattle.mpc_check.specs.Acceptance.{BehindMet}
 use Rattle.mpc_check.proofs.FindingLemmas.{earlier_error}
-use Rattle.mpc_check.specs.Ways.{HasSplitRow, NamesLaw}
-use Rattle.mpc_check.proofs.CheckLemmas.{laws_shaped, laws_named, splits_shaped, behind_tree}
+use Rattle.mpc_check.specs.Stretches.{HaveProgramShapes}
+use Rattle.mpc_check.proofs.CheckLemmas.{laws_shaped, program_shapes, behind_tree}
 use Rattle.mpc_check.proofs.checks.search.Goals as goal
 
 pub returns-in-Ok-None : goal.returns-in-Ok-None
@@ -33,18 +32,10 @@ search_laws-requires-clause-shapes c =
     let parts = c.args.controller.now in
     subst (All (HasLawShape c.args.qp.now)) (sym c.laws.ensures.value) (laws_shaped parts.plant c.args.qp.now c.requires.condensed parts.laws c.laws.ensures.controller.shapes.laws_fit)
 
-pub search_tree-requires-clause-shapes : goal.search_tree-requires-clause-shapes
-search_tree-requires-clause-shapes c =
+pub search_tree-requires : goal.search_tree-requires
+search_tree-requires c =
     let parts = c.args.controller.now in
-    subst (All (HasLawShape c.args.qp.now)) (sym c.laws-in-Ok-None.ensures.value) (laws_shaped parts.plant c.args.qp.now c.requires.condensed parts.laws c.laws.ensures.controller.shapes.laws_fit)
-
-pub search_tree-requires-clause-named : goal.search_tree-requires-clause-named
-search_tree-requires-clause-named c =
-    let parts = c.args.controller.now in
-    subst (λ (laws : List Law). All (NamesLaw (length laws)) c.tree.result.now) (sym c.laws-in-Ok-None.ensures.value)
-    (subst (All (NamesLaw (length parts.laws))) (sym c.tree.ensures.value) (laws_named parts.plant.n (length parts.laws) parts.tree c.laws.ensures.controller.shapes.nodes_fit))
-
-pub search_tree-requires-clause-splits : goal.search_tree-requires-clause-splits
-search_tree-requires-clause-splits c =
-    let parts = c.args.controller.now in
-    subst (All (HasSplitRow (length c.args.qp.now.counts))) (sym c.tree.ensures.value) (splits_shaped parts.plant c.args.qp.now c.requires.condensed (length parts.laws) parts.tree c.laws.ensures.controller.shapes.nodes_fit)
+    record {
+      shapes = subst (λ laws. HaveProgramShapes c.args.qp.now laws c.tree.result.now) (sym c.laws-in-Ok-None.ensures.value)
+          (subst (HaveProgramShapes c.args.qp.now parts.laws) (sym c.tree.ensures.value) (program_shapes parts c.args.qp.now c.requires c.laws.ensures.controller.shapes));
+    }

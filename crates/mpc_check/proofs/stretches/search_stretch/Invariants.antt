@@ -7,5 +7,5 @@ use Rattle.mpc_check.proofs.stretches.search_stretch.Given as goal
 abbrev pub invariant-loop-k : goal.invariant-loop-k
 invariant-loop-k l = record {
   way : l.k < length l.tree → IsWay l.tree l.k l.way.items;
-  met : EachFrom (NodeAtMet l.qp l.laws l.tree) l.from l.k;
+  met : EachFrom (NodeAtMet l.qp l.laws l.tree) l.fn.stretch.from l.k;
 }

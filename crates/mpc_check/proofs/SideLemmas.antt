@@ -1,0 +1,98 @@
+-- Neighbouring stretches of a tree, searched side by side.
+use Rattle.std.proofs.Common.{◌≡◌, ℕ, zero, suc, ◌+◌, ◌-◌, ◌/◌, ◌<◌, ◌≤◌, List, [], ◌∷◌, ◌++◌, length, get_or, drop, drop-cons, refl, ap, sym, ◌∙◌, subst, arith, Option, Some, None, Result, Ok, Err}
+use Rattle.std.specs.Prelude.{slice_index_or, All}
+use Rattle.std.proofs.lemmas.List.Elements.{All-nil, All-cons}
+use Rattle.std.proofs.Math.Nat.{div-le_self}
+use Rattle.std.proofs.lemmas.List.{drop_all}
+use Rattle.mpc_rows.specs.declared.programs.Qp.{Qp}
+use Rattle.mpc_rows.specs.declared.laws.Law.{Law}
+use Rattle.mpc_rows.specs.declared.trees.Node.{Node}
+use Rattle.mpc_check.specs.declared.answers.Spot.{Spot}
+use Rattle.mpc_check.specs.declared.answers.CheckError.{CheckError}
+use Rattle.mpc_check.specs.declared.stretches.Stretch.{Stretch}
+use Rattle.mpc_check.specs.Findings.{IsSearched}
+use Rattle.mpc_check.specs.LeafConditions.{NodeAtMet, NodeAtFinds, StretchMet, StretchFinds}
+use Rattle.mpc_check.specs.Stretches.{IsStretchOf, AreNeighbours, AreSearched, AnswersAsOne}
+use Rattle.mpc_check.proofs.StretchLemmas.{none_yet, further_spot, further_error, later_searched}
+
+-- ---- how the tree is cut
+pub neighbours_rise : (from to : ℕ) (stretches : List Stretch) → AreNeighbours from to stretches → from ≤ to
+neighbours_rise from to [] h = omega (arith, h)
+neighbours_rise from to (s ∷ stretches) h = let rest = neighbours_rise s.to to stretches h.2 in omega (arith, h.0, h.1, rest)
+
+pub one_more_stretch : (from middle : ℕ) (stretches : List Stretch) (s : Stretch) → AreNeighbours from middle stretches → s.from ≡ middle → s.from ≤ s.to → AreNeighbours from s.to (stretches ++ s ∷ [])
+one_more_stretch from middle [] s h begins rises = (begins ∙ sym h, rises, refl)
+one_more_stretch from middle (first ∷ stretches) s h begins rises = (h.0, h.1, one_more_stretch first.to middle stretches s h.2 begins rises)
+
+pub each_stretch : (from to : ℕ) (stretches : List Stretch) → AreNeighbours from to stretches → All (IsStretchOf to) stretches
+each_stretch from to [] h = All-nil (IsStretchOf to)
+each_stretch from to (s ∷ stretches) h =
+    All-cons (IsStretchOf to) s stretches (record { in_order = h.1; inside = neighbours_rise s.to to stretches h.2 }) (each_stretch s.to to stretches h.2)
+
+-- the last stretch takes all that is left
+pub all_left : (from nodes parts : ℕ) → from ≤ nodes → parts ≡ 1 → from + (nodes - from) / parts ≡ nodes
+all_left from nodes parts low one = (λ i. from + (nodes - from) / one i) ∙ by (nodes - from) (omega arith)
+  where
+    by : (rest : ℕ) → from + rest ≡ nodes → from + rest / 1 ≡ nodes
+    by rest h = grind (arith, h)
+
+pub some_left : (from nodes parts : ℕ) → from ≤ nodes → from + (nodes - from) / parts ≤ nodes
+some_left from nodes parts low = let part = div-le_self (nodes - from) parts in omega (arith, low, part)
+
+-- ---- what is found
+-- the first answer that isn't that all is met
+abbrev pub first_of : List (Result (Option Spot) CheckError) → Result (Option Spot) CheckError
+first_of [] = Ok None
+first_of (Ok None ∷ answers) = first_of answers
+first_of (Ok (Some spot) ∷ answers) = Ok (Some spot)
+first_of (Err e ∷ answers) = Err e
+
+-- an answer that all is met is passed over, and every other one is the first
+at_place : (answers : List (Result (Option Spot) CheckError)) (i : ℕ) (x : Result (Option Spot) CheckError) → i < length answers → x ≡ get_or answers i x → drop i answers ≡ x ∷ drop (i + 1) answers
+at_place answers i x inside is =
+    let next : suc i ≡ i + 1 = omega arith in
+    drop-cons answers i x inside ∙ (λ j. sym is j ∷ drop (next j) answers)
+
+pub passed_over : (answers : List (Result (Option Spot) CheckError)) (i : ℕ) (x : Result (Option Spot) CheckError) → i < length answers → x ≡ get_or answers i x → x ≡ Ok None → first_of answers ≡ first_of (drop i answers) → first_of answers ≡ first_of (drop (i + 1) answers)
+passed_over answers i x inside is none h = h ∙ ap first_of (at_place answers i x inside is) ∙ (λ j. first_of (none j ∷ drop (i + 1) answers))
+
+first_by : (x : Result (Option Spot) CheckError) (answers : List (Result (Option Spot) CheckError)) → ¬ (x ≡ Ok None) → first_of (x ∷ answers) ≡ x
+first_by (Ok None) answers other = absurd (other refl)
+first_by (Ok (Some spot)) answers other = refl
+first_by (Err e) answers other = refl
+
+pub first_at : (answers : List (Result (Option Spot) CheckError)) (i : ℕ) (x : Result (Option Spot) CheckError) → i < length answers → x ≡ get_or answers i x → ¬ (x ≡ Ok None) → first_of answers ≡ first_of (drop i answers) → first_of answers ≡ x
+first_at answers i x inside is other h = h ∙ ap first_of (at_place answers i x inside is) ∙ first_by x (drop (i + 1) answers) other
+
+pub none_of : (answers : List (Result (Option Spot) CheckError)) (i : ℕ) → length answers ≤ i → first_of answers ≡ first_of (drop i answers) → first_of answers ≡ Ok None
+none_of answers i all h = h ∙ ap first_of (drop_all i answers all)
+
+module _ (qp : Qp) (laws : List Law) (nodes : List Node) where
+  abbrev Searched : ℕ → ℕ → Result (Option Spot) CheckError → Type 0
+  Searched from to = IsSearched (StretchMet qp laws nodes from to) (StretchFinds qp laws nodes from to)
+
+  pub each_searched : (stretches : List Stretch) (answers : List (Result (Option Spot) CheckError)) → length answers ≡ length stretches
+      → ((i : ℕ) (s : Stretch) (answer : Result (Option Spot) CheckError) → i < length stretches → IsSearched (StretchMet qp laws nodes (slice_index_or stretches i s).from (slice_index_or stretches i s).to) (StretchFinds qp laws nodes (slice_index_or stretches i s).from (slice_index_or stretches i s).to) (slice_index_or answers i answer))
+      → AreSearched qp laws nodes stretches answers
+  each_searched [] [] same each = tt
+  each_searched [] (answer ∷ answers) same each = absurd (omega (arith, same))
+  each_searched (s ∷ stretches) [] same each = absurd (omega (arith, same))
+  each_searched (s ∷ stretches) (answer ∷ answers) same each =
+      (each 0 s answer (omega arith), each_searched stretches answers (omega (arith, same)) (λ i t a inside. each (suc i) t a (omega (arith, inside))))
+
+  -- it answers for all as one
+  pub as_one : (from to : ℕ) (stretches : List Stretch) (answers : List (Result (Option Spot) CheckError)) → AreNeighbours from to stretches → AreSearched qp laws nodes stretches answers → Searched from to (first_of answers)
+  as_one from to [] [] h s = subst (λ e. StretchMet qp laws nodes from e) h (none_yet (NodeAtMet qp laws nodes) (NodeAtFinds qp laws nodes) from)
+  as_one from to [] (answer ∷ answers) h s = absurd s
+  as_one from to (first ∷ stretches) [] h s = absurd s
+  as_one from to (first ∷ stretches) (Ok None ∷ answers) h s =
+      subst (λ f. Searched f to (first_of answers)) h.0
+      (later_searched (NodeAtMet qp laws nodes) (NodeAtFinds qp laws nodes) first.from first.to to h.1 (neighbours_rise first.to to stretches h.2) s.0 (first_of answers) (as_one first.to to stretches answers h.2 s.1))
+  as_one from to (first ∷ stretches) (Ok (Some spot) ∷ answers) h s =
+      subst (λ f. Searched f to (Ok (Some spot))) h.0 (further_spot (NodeAtMet qp laws nodes) (NodeAtFinds qp laws nodes) first.from first.to to h.1 (neighbours_rise first.to to stretches h.2) spot s.0)
+  as_one from to (first ∷ stretches) (Err e ∷ answers) h s =
+      subst (λ f. Searched f to (Err e)) h.0 (further_error (NodeAtMet qp laws nodes) (NodeAtFinds qp laws nodes) first.from first.to to h.1 (neighbours_rise first.to to stretches h.2) e s.0)
+
+pub answers_as_one : (answers : List (Result (Option Spot) CheckError)) (answer : Result (Option Spot) CheckError) → first_of answers ≡ answer → AnswersAsOne answers answer
+answers_as_one answers answer is qp laws nodes from to stretches neighbours searched =
+    subst (λ r. IsSearched (StretchMet qp laws nodes from to) (StretchFinds qp laws nodes from to) r) is (as_one qp laws nodes from to stretches answers neighbours searched)
