@@ -1,6 +1,6 @@
 -- From the parts of a plant's controller to the controller.
 use Rattle.std.proofs.Common.{◌≡◌, ℕ, List, refl, sym, ◌∙◌, subst}
-use Rattle.std.specs.Prelude.{All}
+use Rattle.std.specs.Prelude.{All, Result, Ok, Err, IfOk, IfErr, OnOk}
 use Rattle.std.proofs.lemmas.List.Elements.{All-contains}
 use Rattle.mpc_space.specs.Matrix.{height}
 use Rattle.mpc_plant.specs.declared.plants.Plant.{Plant}
@@ -22,23 +22,19 @@ use Rattle.mpc_check.specs.Acceptance.{Accepts, IsProgramOf}
 use Rattle.mpc_compiled.specs.Compiled.{IsCompiled}
 use Rattle.mpc_claim.specs.Board.{Board}
 use Rattle.mpc_synthesis.specs.Programs.{HasProgram, HasVerdicts, IsDecidedBy}
+use Rattle.mpc_synthesis.specs.declared.parts.Tabled.{Tabled}
+use Rattle.mpc_synthesis.specs.Tables.{IsTabledBy, HasTable}
 use Rattle.mpc_synthesis.specs.Controllers.{HasTree, IsSealed, IsController}
 use Rattle.mpc_synthesis.specs.Refusals.{controller, ExplainsSynthesisError, ExplainsCheckError, refusal_of, wide_tree, wide_check}
 use Rattle.mpc_synthesis.specs.declared.errors.SynthesisError.{SynthesisError}
 use Rattle.mpc_synthesis.specs.declared.errors.SynthesisError.TheVariants.{NotDefinite, TooWide, NoMemory}
 
 -- ---- the table of a decided program
-pub record IsTabled (plant : Plant) (qp : Qp) (laws : List Law) : Type 0 where
-  pub verdicts : HasVerdicts plant qp
-  pub table : IsTable qp laws
-  pub fit : All (λ law. LawRowsFit qp law (height qp.g)) laws
-
-pub tabled : (plant : Plant) (qp : Qp) (laws : List Law) (board : Board) → ((workers : ℕ) × IsDecidedBy workers plant board) → qp ≡ board.program → IsTable board.program laws → All (λ law. LawRowsFit board.program law (height board.program.g)) laws
-    → IsTabled plant qp laws
-tabled plant qp laws board by e table fit = record {
-  verdicts = subst (HasVerdicts plant) (sym (e ∙ by.1.done.program)) by.1.verdicts;
-  table = subst (λ p. IsTable p laws) (sym e) table;
-  fit = subst (λ p. All (λ law. LawRowsFit p law (height p.g)) laws) (sym e) fit;
+pub has_table : (plant : Plant) (board : Board) (table : Tabled) → ((workers : ℕ) × IsDecidedBy workers plant board) → IsTabledBy board table → HasTable plant table
+has_table plant board table by is = record {
+  verdicts = subst (HasVerdicts plant) (sym (is.program_is ∙ by.1.done.program)) by.1.verdicts;
+  is_table = is.is_table;
+  rows_fit = is.rows_fit;
 }
 
 pub shapes : PartsHaveShapes → (qp : Qp) (plant : Plant) (laws : List Law) (nodes : List Node) → HasProgram plant qp → IsTable qp laws → All (λ law. LawRowsFit qp law (height qp.g)) laws → IsCertified qp laws whole_box nodes
@@ -62,10 +58,12 @@ compiled_of plant qp parts is =
 pub compiled_sealed : (plant : Plant) (parts : Parts) → ((qp : Qp) × IsSealed plant qp parts) → (qp : Qp) × IsCompiled qp parts
 compiled_sealed plant parts is = (is.0, compiled_of plant is.0 parts is.1)
 
-pub accepted_of : (plant : Plant) (parts : Parts) → ((qp : Qp) × IsSealed plant qp parts) → Accepts parts → (qp : Qp) × IsController plant qp parts
-accepted_of plant parts is a = (is.0, record { is_sealed = is.1; accepted = a })
+pub controlled : (plant : Plant) (parts : Parts) (r : Result Parts SynthesisError) → ((qp : Qp) × IsSealed plant qp parts) → IfOk r (λ p. p ≡ parts) → OnOk r (Accepts parts) → IfOk r (λ p. (qp : Qp) × IsController plant qp p)
+controlled plant parts (Ok p) is same accepted = subst (λ q. (qp : Qp) × IsController plant qp q) (sym same) (is.0, record { is_sealed = is.1; accepted = accepted })
+controlled plant parts (Err e) is same accepted = tt
 
-pub wide_check_of : (plant : Plant) (parts : Parts) (e : SynthesisError) → ((qp : Qp) × IsSealed plant qp parts) → ExplainsCheckError parts e → ExplainsSynthesisError controller plant e
-wide_check_of plant parts (NotDefinite pivot) is h = absurd h
-wide_check_of plant parts (TooWide place) is h = wide_check controller is.0 parts place tt is.1 h
-wide_check_of plant parts NoMemory is h = tt
+pub wide_checked : (plant : Plant) (parts : Parts) (r : Result Parts SynthesisError) → ((qp : Qp) × IsSealed plant qp parts) → IfErr r (ExplainsCheckError parts) → IfErr r (ExplainsSynthesisError controller plant)
+wide_checked plant parts (Ok p) is h = tt
+wide_checked plant parts (Err (NotDefinite pivot)) is h = absurd h
+wide_checked plant parts (Err (TooWide place)) is h = wide_check controller is.0 parts place tt is.1 h
+wide_checked plant parts (Err NoMemory) is h = tt

@@ -1,5 +1,6 @@
 pub mod Crews
 pub mod Programs
+pub mod Tables
 pub mod Controllers
 pub mod Refusals
 pub mod Outcomes

@@ -5,10 +5,11 @@
 mod controllers;
 mod errors;
 mod laws;
+mod parts;
 mod programs;
 mod verdicts;
 
-pub use controllers::{controller, controller_in_threads, controller_of};
+pub use controllers::{controller, controller_in_threads, controller_of, controller_of_in_threads};
 pub use errors::SynthesisError;
 pub use laws::{one_controller, one_outcome, right_controller};
 pub use programs::convex_program;

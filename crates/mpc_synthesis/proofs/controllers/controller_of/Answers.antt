@@ -1,11 +1,14 @@
-use Rattle.mpc_synthesis.proofs.ControllerLemmas.{compiled_sealed, accepted_of, wide_check_of}
+use Rattle.mpc_synthesis.proofs.ControllerLemmas.{has_table, compiled_sealed, controlled, wide_checked}
 use Rattle.mpc_synthesis.proofs.controllers.controller_of.Goals as goal
 
-pub accept-requires : goal.accept-requires
-accept-requires c = compiled_sealed c.args.plant c.in-Ok.parts c.in-Ok.ensures.parts
+pub sealed-requires-clause-table : goal.sealed-requires-clause-table
+sealed-requires-clause-table c = has_table c.args.plant c.args.registry c.in-Ok.table c.requires c.in-Ok.ensures
 
-pub returns-in-Ok-accept-clause-controller : goal.returns-in-Ok-accept-clause-controller
-returns-in-Ok-accept-clause-controller c = accepted_of c.args.plant c.in-Ok.parts c.in-Ok.ensures.parts c.in-Ok-accept.ensures.accepted
+pub accepted-requires-clause-compiled : goal.accepted-requires-clause-compiled
+accepted-requires-clause-compiled c = compiled_sealed c.args.plant c.in-Ok-sealed.parts (c.in-Ok.table.program, c.in-Ok-sealed.ensures.parts)
 
-pub returns-in-Err-accept-clause-refused : goal.returns-in-Err-accept-clause-refused
-returns-in-Err-accept-clause-refused c = wide_check_of c.args.plant c.in-Ok.parts c.in-Err-accept.error c.in-Ok.ensures.parts c.in-Err-accept.ensures.refused
+pub returns-clause-controller : goal.returns-clause-controller
+returns-clause-controller c = controlled c.args.plant c.in-Ok-sealed.parts c.accepted.result (c.in-Ok.table.program, c.in-Ok-sealed.ensures.parts) c.accepted.ensures.same c.accepted.ensures.accepted
+
+pub returns-clause-refused : goal.returns-clause-refused
+returns-clause-refused c = wide_checked c.args.plant c.in-Ok-sealed.parts c.accepted.result (c.in-Ok.table.program, c.in-Ok-sealed.ensures.parts) c.accepted.ensures.refused
