@@ -63,7 +63,7 @@ fn without_return(line: &[u8]) -> &[u8]
 
 /// The first line of a text, without its end, and the text behind it. A line ends at a line feed, before
 /// which one carriage return isn't part of it, or at the end of the text.
-pub(crate) fn first_line(text: &[u8]) -> Option<(&[u8], &[u8])>
+pub fn first_line(text: &[u8]) -> Option<(&[u8], &[u8])>
     ensures lines { MatchOption result (lines text.now ≡ [])
         (λ parts. lines text.now ≡ parts.0.now ∷ lines parts.1.now) }
     ensures shorter { MatchOption result (text.now ≡ [])

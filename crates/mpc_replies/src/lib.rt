@@ -11,6 +11,7 @@ mod reply_lines;
 #[cfg(test)]
 mod tests;
 
-pub use input::{Sections, cut};
+pub use counts::read_counts;
+pub use input::{Sections, cut, first_line};
 pub use laws::{one_text, right_replies};
 pub use reply_lines::replies;

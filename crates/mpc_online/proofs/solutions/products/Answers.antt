@@ -1,0 +1,31 @@
+use Rattle.std.proofs.Common.{◌≡◌, List, [], get_or, sym, ◌∙◌, ap, subst, arith}
+use Rattle.mpc_exact.specs.Rational.{ℚ}
+use Rattle.mpc_space.specs.Vector.{dot, mat_vec}
+use Rattle.mpc_space.specs.Matrix.{height}
+use Rattle.mpc_space.proofs.Matrix.{length-mat_vec, coordinate-mat_vec}
+use Rattle.mpc_space.proofs.Outcomes.{below_next}
+use Rattle.mpc_linear.specs.Dot.{DotFits}
+use Rattle.mpc_online.proofs.Filled.{IsFilled, filled_none, filled_more, filled_all}
+use Rattle.mpc_online.proofs.solutions.products.Goals as goal
+
+pub loop-i-init : goal.loop-i-init
+loop-i-init c = record { filled = filled_none _ _ c.in_ok-out.ensures.items; fits = λ k h. absurd (omega arith) }
+
+pub loop-i-preserved : goal.loop-i-preserved
+loop-i-preserved c = record {
+  filled = filled_more _ _ _ _ _ c.in_ok-push-in-Ok.ensures.items (c.in-Ok.ensures.value ∙ ap (λ (r : List ℚ). dot r c.args.c.now) c.row.ensures) c.loop-i.invariant.filled;
+  fits = below_next (λ k. DotFits (get_or c.args.m.now.rows k []) c.args.c.now) c.loop-i.i c.loop-i.invariant.fits (subst (λ (r : List ℚ). DotFits r c.args.c.now) c.row.ensures c.in-Ok.ensures.wide);
+}
+
+pub returns-clause-value : goal.returns-clause-value
+returns-clause-value c =
+    let last : c.loop-i.i ≡ height c.args.m.now = omega (arith, c.loop-i-test.false, c.loop-i.auto.i-end) in
+    filled_all c.loop-i.out.items (mat_vec c.args.m.now.rows c.args.c.now) (height c.args.m.now) (λ i. dot (get_or c.args.m.now.rows i []) c.args.c.now)
+    (subst (λ n. IsFilled c.loop-i.out.items n (λ i. dot (get_or c.args.m.now.rows i []) c.args.c.now)) last c.loop-i.invariant.filled)
+    (length-mat_vec c.args.m.now.rows c.args.c.now) (λ k h. coordinate-mat_vec c.args.m.now.rows c.args.c.now k)
+
+pub returns-clause-wide : goal.returns-clause-wide
+returns-clause-wide c i h = c.loop-i.invariant.fits i (omega (arith, h, c.loop-i-test.false, c.rows-i-end.ensures.value))
+
+pub returns-in-Err-clause-wide : goal.returns-in-Err-clause-wide
+returns-in-Err-clause-wide c = λ f. c.in-Err.ensures.wide (subst (λ (r : List ℚ). DotFits r c.args.c.now) (sym c.row.ensures) (f c.loop-i.i (omega (arith, c.loop-i-test.true, c.rows-i-end.ensures.value))))

@@ -1,0 +1,34 @@
+use Rattle.std.proofs.Common.{◌+◌, sym, ◌∙◌, arith}
+use Rattle.std.proofs.lemmas.Result.{MatchResult-from_err}
+use Rattle.mpc_exact.proofs.OrderLaws.{lt_ℚ-true, lt_ℚ-false, ≤ℚ-not-<}
+use Rattle.mpc_online.proofs.RowTests.{met_none, met_more, found_first, found_fits, met_all, all_fit, found_wide}
+use Rattle.mpc_online.proofs.tests_of_rows.first_violated.Goals as goal
+
+pub loop-i-init : goal.loop-i-init
+loop-i-init c = met_none c.args.qp.now c.args.sides.now c.args.point.now
+
+pub loop-i-preserved : goal.loop-i-preserved
+loop-i-preserved c =
+    met_more c.args.qp.now c.args.sides.now c.args.point.now (c.loop-i.i + 1) c.in_ok-above.above c.in_ok-above.ensures.value
+    (λ h. ≤ℚ-not-< (lt_ℚ-false (sym c.is_positive.ensures ∙ c.if-is_positive.false)) h) c.in_ok-above.ensures.wide c.loop-i.invariant
+
+pub returns-clause-value : goal.returns-clause-value
+returns-clause-value c = met_all c.args.qp.now c.args.sides.now c.args.point.now (c.loop-i.i + 1) (omega (arith, c.loop-i-test.false, c.rows-i-end.ensures.value)) c.loop-i.invariant
+
+pub returns-clause-wide : goal.returns-clause-wide
+returns-clause-wide c = all_fit c.args.qp.now c.args.sides.now c.args.point.now (c.loop-i.i + 1) (omega (arith, c.loop-i-test.false, c.rows-i-end.ensures.value)) c.loop-i.invariant
+
+pub returns-then-is_positive-clause-value : goal.returns-then-is_positive-clause-value
+returns-then-is_positive-clause-value c =
+    found_first c.args.qp.now c.args.sides.now c.args.point.now (c.loop-i.i + 1) c.in_ok-above.above c.in_ok-above.ensures.value
+    (lt_ℚ-true (sym c.is_positive.ensures ∙ c.if-is_positive.true)) (omega arith) (omega (arith, c.loop-i-test.true, c.rows-i-end.ensures.value)) c.loop-i.invariant
+
+pub returns-then-is_positive-clause-wide : goal.returns-then-is_positive-clause-wide
+returns-then-is_positive-clause-wide c =
+    found_fits c.args.qp.now c.args.sides.now c.args.point.now (c.loop-i.i + 1) c.in_ok-above.above c.in_ok-above.ensures.value
+    (lt_ℚ-true (sym c.is_positive.ensures ∙ c.if-is_positive.true)) (omega arith) c.in_ok-above.ensures.wide c.loop-i.invariant
+
+pub returns-in_err-above-clause-wide : goal.returns-in_err-above-clause-wide
+returns-in_err-above-clause-wide c =
+    MatchResult-from_err c.from_residual.result _ _ c.from_residual.ensures.0
+    (λ _. found_wide c.args.qp.now c.args.sides.now c.args.point.now (c.loop-i.i + 1) (omega arith) (omega (arith, c.loop-i-test.true, c.rows-i-end.ensures.value)) c.in_err-above.ensures.wide c.loop-i.invariant)

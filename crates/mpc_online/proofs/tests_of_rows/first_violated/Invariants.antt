@@ -1,0 +1,6 @@
+use Rattle.std.proofs.Common.{◌+◌}
+use Rattle.mpc_online.proofs.RowTests.{AreMet}
+use Rattle.mpc_online.proofs.tests_of_rows.first_violated.Given as goal
+
+abbrev pub invariant-loop-i : goal.invariant-loop-i
+invariant-loop-i l = AreMet l.qp l.sides l.point (l.i + 1)

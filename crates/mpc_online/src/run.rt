@@ -1,0 +1,176 @@
+//! The run of the method, step by step.
+
+ghost use Rattle.std.specs.Prelude.{◌≡◌, ℕ, [], List, IfOk, MatchResult, length, ⊤};
+ghost use Rattle.mpc_space.specs.Vector.{IsSymmetric};
+ghost use Rattle.mpc_space.specs.Matrix.{height};
+ghost use Rattle.mpc_space.specs.Definite.{IsDefinite};
+ghost use Rattle.mpc_online.specs.StateRows.{point_of};
+ghost use Rattle.mpc_online.specs.Positions.{continued};
+ghost use Rattle.mpc_online.specs.Turns.{IsTurn};
+ghost use Rattle.mpc_online.specs.Widths.{StepFits, FirstFits, TurnFits};
+ghost use Rattle.mpc_online.specs.OnlineRun.{IsStep, IsOpening, IsRunEnd, LeadsTo, answered, wide_in};
+ghost use Rattle.mpc_online.specs.Standing.{IsPosition, IsAnswer};
+ghost use Rattle.mpc_online.specs.Answers.{IfWide, IfStopWide, position_of, step_of};
+ghost use Rattle.mpc_rows.specs.ActiveSets.{IsInBox};
+
+use crate::counts::extended;
+use crate::matrices::{opening_right, step_right};
+use crate::moves::{Iterate, dropped, moved, row_joined};
+use crate::refuting::row_multipliers;
+use crate::solutions::{Stop, part, products, solution};
+use crate::tests_of_rows::first_violated;
+use crate::turns::{Turn, turn_of};
+use crate::{Online, OnlineError};
+use mpc_cover::set_laws;
+use mpc_frac::{Frac, NoMemory};
+use mpc_linear::Vector;
+use mpc_rows::Qp;
+use mpc_sets::{ActiveSet, count_laws};
+use std::alloc::Global;
+
+/// What follows a step.
+#[derive(Drop)]
+pub enum Next {
+    /// Another step from here.
+    Goes(Iterate),
+    /// The answer.
+    Ends(Online),
+}
+
+/// The entries as a vector.
+fn vector(alloc: Global, entries: &[Frac]) -> Result<Vector, NoMemory>
+    ensures { IfOk result (λ v. v ≡ entries.now) }
+{
+    let mut out = Vector::with_capacity(alloc, entries.len())?;
+    for x in entries {
+        out.push(*x)?;
+    }
+    Ok(out)
+}
+
+/// The step that follows where this row is the first that the point doesn't meet.
+fn continued(alloc: Global, mut it: Iterate, first: Option<u32>) -> Result<Next, NoMemory>
+    ensures { IfOk result (λ next. step_of next ≡ continued (position_of it) first) }
+{
+    let Some(row) = first else {
+        return Ok(Next::Ends(Online::Best(vector(alloc, &it.point)?)));
+    };
+    it.row = row;
+    it.weight = Frac::whole(0);
+    Ok(Next::Goes(it))
+}
+
+/// Step 0: the first point, and the first row that it doesn't meet.
+fn open(alloc: Global, qp: &Qp, c: &[Frac], sides: &[Frac]) -> Result<Next, Stop>
+    requires definite { IsDefinite qp.now.h.rows }
+    requires extended { qp.now.f.columns ≡ length c.now }
+    requires sides { length sides.now ≡ height qp.now.g }
+    ensures opens { IfOk result (λ next. IsOpening qp.now sides.now c.now (step_of next)) }
+    ensures wide { MatchResult result (λ _. FirstFits qp.now sides.now c.now)
+        (λ stop. IfStopWide stop (¬ FirstFits qp.now sides.now c.now)) }
+{
+    let costs = products(alloc, &qp.f, c)?;
+    let right = opening_right(alloc, qp, &costs)?;
+    let x = solution(alloc, qp, ActiveSet::empty(), &right)?;
+    let point = part(alloc, &x, 0, qp.h.rows())?;
+    let first = first_violated(qp, sides, &point)?;
+    let it = Iterate {
+        point,
+        set: ActiveSet::empty(),
+        multipliers: Vec::new(alloc),
+        row: 0,
+        weight: Frac::whole(0),
+    };
+    Ok(continued(alloc, it, first)?)
+}
+
+/// What the turn makes of the position.
+fn take_turn(
+    alloc: Global,
+    qp: &Qp,
+    sides: &[Frac],
+    it: Iterate,
+    d: &[Frac],
+    e: &[Frac],
+    turn: Turn,
+) -> Result<Next, Stop>
+    requires position { IsPosition qp.now (position_of it) }
+    requires sides { length sides.now ≡ height qp.now.g }
+    requires direction { length d.now ≡ height qp.now.h }
+    requires multipliers { length e.now ≡ length it.set }
+    requires turn { IsTurn qp.now sides.now (position_of it) d.now e.now turn }
+    ensures leads { IfOk result (λ next. LeadsTo qp.now sides.now (position_of it) d.now e.now turn (step_of next)) }
+    ensures wide { MatchResult result (λ _. TurnFits qp.now sides.now (position_of it) d.now e.now turn)
+        (λ stop. IfStopWide stop (¬ TurnFits qp.now sides.now (position_of it) d.now e.now turn)) }
+{
+    match turn {
+        Turn::Refuted => {
+            let multipliers = row_multipliers(alloc, qp, &it, e)?;
+            Ok(Next::Ends(Online::Refuted(multipliers)))
+        }
+        Turn::Drops(place, length) => {
+            let after = moved(it, d, e, &length)?;
+            Ok(Next::Goes(dropped(after, place)))
+        }
+        Turn::Joins(length) => {
+            let after = moved(it, d, e, &length)?;
+            let first = first_violated(qp, sides, &after.point)?;
+            let together = row_joined(after)?;
+            Ok(continued(alloc, together, first)?)
+        }
+    }
+}
+
+/// One step.
+fn advance(alloc: Global, qp: &Qp, sides: &[Frac], it: Iterate) -> Result<Next, Stop>
+    requires definite { IsDefinite qp.now.h.rows }
+    requires position { IsPosition qp.now (position_of it) }
+    requires sides { length sides.now ≡ height qp.now.g }
+    ensures steps { IfOk result (λ next. IsStep qp.now sides.now (position_of it) (step_of next)) }
+    ensures wide { MatchResult result (λ _. StepFits qp.now sides.now (position_of it))
+        (λ stop. IfStopWide stop (¬ StepFits qp.now sides.now (position_of it))) }
+{
+    let right = step_right(alloc, qp, it.set, it.row)?;
+    let x = solution(alloc, qp, it.set, &right)?;
+    let d = part(alloc, &x, 0, qp.h.rows())?;
+    let e = part(alloc, &x, qp.h.rows(), it.set.size())?;
+    let turn = turn_of(qp, sides, &it, &d, &e)?;
+    take_turn(alloc, qp, sides, it, &d, &e, turn)
+}
+
+/// The run from step 0 to its end.
+pub fn answer(alloc: Global, qp: &Qp, counts: &[u64]) -> Result<Online, OnlineError>
+    requires definite { IsDefinite qp.now.h.rows }
+    requires symmetric { IsSymmetric qp.now.h.rows }
+    requires in_box { IsInBox qp.now.counts (point_of counts.now) }
+    ensures answer { IfOk result (λ o. IsAnswer qp.now (point_of counts.now) o) }
+    ensures end { IfOk result (λ o. IsRunEnd qp.now (point_of counts.now) (answered o)) }
+    ensures wide { MatchResult result (λ _. ⊤) (λ e. IfWide e (λ step. IsRunEnd qp.now (point_of counts.now) (wide_in step))) }
+{
+    set_laws();
+    count_laws();
+    let Ok(c) = extended(alloc, counts) else {
+        return Err(OnlineError::NoMemory);
+    };
+    let sides = match products(alloc, &qp.w, &c) {
+        Ok(sides) => sides,
+        Err(Stop::Wide) => return Err(OnlineError::Wide(0)),
+        Err(Stop::NoMemory) => return Err(OnlineError::NoMemory),
+    };
+    let mut it = match open(alloc, qp, &c, &sides) {
+        Ok(Next::Goes(it)) => it,
+        Ok(Next::Ends(online)) => return Ok(online),
+        Err(Stop::Wide) => return Err(OnlineError::Wide(0)),
+        Err(Stop::NoMemory) => return Err(OnlineError::NoMemory),
+    };
+    let mut step: u64 = 1;
+    'steps: loop {
+        match advance(alloc, qp, &sides, it) {
+            Ok(Next::Goes(next)) => it = next,
+            Ok(Next::Ends(online)) => return Ok(online),
+            Err(Stop::Wide) => return Err(OnlineError::Wide(step)),
+            Err(Stop::NoMemory) => return Err(OnlineError::NoMemory),
+        }
+        step += 1;
+    }
+}

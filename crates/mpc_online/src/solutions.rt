@@ -1,0 +1,121 @@
+//! Solutions of the equations, and products with the extended counts.
+
+ghost use Rattle.std.specs.Prelude.{◌≡◌, ◌+◌, ◌<◌, ◌≤◌, length, IfOk, MatchResult};
+ghost use Rattle.mpc_space.specs.Vector.{dot, listed, mat_vec};
+ghost use Rattle.mpc_space.specs.Matrix.{height, entry};
+ghost use Rattle.mpc_space.specs.Definite.{IsDefinite};
+ghost use Rattle.mpc_sets.specs.RowSet.{IsSetOfRows};
+ghost use Rattle.mpc_linear.specs.Dot.{DotFits};
+ghost use Rattle.mpc_linear.specs.Solution.{IsOnlySolution};
+ghost use Rattle.mpc_rows.specs.ActiveSets.{IsIndependentSet};
+ghost use Rattle.mpc_rows.specs.SetRuns.{law_matrix};
+ghost use Rattle.mpc_online.specs.Widths.{ProductsFit, EliminationFits};
+ghost use Rattle.mpc_online.specs.Answers.{IfStopWide};
+ghost use Rattle.mpc_online.specs.declared.solutions.Stop.TheVariants.{Wide as wide_stop, NoMemory as no_memory};
+
+use crate::matrices::law_matrix;
+use mpc_frac::{Frac, NoMemory, Wide};
+use mpc_linear::{LinearError, Matrix, Solved, dot_from, solve};
+use mpc_rows::Qp;
+use mpc_sets::ActiveSet;
+use std::alloc::{AllocError, AllocFailed, Global};
+
+/// Why a step isn't done.
+#[derive(Clone, Copy, Debug, Drop)]
+pub enum Stop {
+    /// A number needs more than 128 bits.
+    Wide,
+    /// There is no more memory.
+    NoMemory,
+}
+
+impl From<Wide> for Stop {
+    ghost from_gives = { λ _ e. e ≡ wide_stop };
+
+    fn from(_error: Wide) -> Stop {
+        Stop::Wide
+    }
+}
+
+impl From<NoMemory> for Stop {
+    ghost from_gives = { λ _ e. e ≡ no_memory };
+
+    fn from(_error: NoMemory) -> Stop {
+        Stop::NoMemory
+    }
+}
+
+impl From<AllocError> for Stop {
+    ghost from_gives = { λ _ e. e ≡ no_memory };
+
+    fn from(_error: AllocError) -> Stop {
+        Stop::NoMemory
+    }
+}
+
+impl<T: Drop> From<AllocFailed<T>> for Stop {
+    ghost from_gives = { λ _ e. e ≡ no_memory };
+
+    fn from(_error: AllocFailed<T>) -> Stop {
+        Stop::NoMemory
+    }
+}
+
+/// The dot of two lists: the products are added from left to right to 0.
+pub fn dot_of(x: &[Frac], y: &[Frac]) -> Result<Frac, Wide>
+    requires { length x.now ≡ length y.now }
+    ensures value { IfOk result (λ v. v ≡ dot x.now y.now) }
+    ensures wide { MatchResult result (λ _. DotFits x.now y.now) (λ _. ¬ DotFits x.now y.now) }
+{
+    dot_from(&Frac::whole(0), x, y)
+}
+
+/// The dots of the rows of m with c.
+pub fn products(alloc: Global, m: &Matrix, c: &[Frac]) -> Result<Vec<Frac>, Stop>
+    requires { m.now.columns ≡ length c.now }
+    ensures value { IfOk result (λ v. v.items ≡ mat_vec m.now.rows c.now) }
+    ensures wide { MatchResult result (λ _. ProductsFit m.now c.now) (λ e. IfStopWide e (¬ ProductsFit m.now c.now)) }
+{
+    let _columns = m.cols();
+    let mut out = Vec::with_capacity(alloc, m.rows() as usize)?;
+    for i in 0..m.rows() {
+        match dot_of(m.row(i), c) {
+            Ok(value) => out.push(value)?,
+            Err(_) => return Err(Stop::Wide),
+        }
+    }
+    Ok(out)
+}
+
+/// The one solution of the equations of an independent set with these right sides.
+pub fn solution(alloc: Global, qp: &Qp, set: ActiveSet, right: &Matrix) -> Result<Matrix, Stop>
+    requires definite { IsDefinite qp.now.h.rows }
+    requires set_of_rows { IsSetOfRows (height qp.now.g) set }
+    requires independent { IsIndependentSet qp.now set }
+    requires rows { height right.now ≡ height qp.now.h + length set }
+    ensures only { IfOk result (λ x. IsOnlySolution (law_matrix qp.now set) right.now x) }
+    ensures wide { MatchResult result (λ _. EliminationFits (law_matrix qp.now set) right.now)
+        (λ e. IfStopWide e (¬ EliminationFits (law_matrix qp.now set) right.now)) }
+{
+    let matrix = law_matrix(alloc, qp, set)?;
+    match solve(alloc, &matrix, right) {
+        Ok(Solved::Unique(x)) => Ok(x),
+        Ok(Solved::Dependent(_)) => unreachable!(),
+        Err(LinearError::Wide(_)) => Err(Stop::Wide),
+        Err(LinearError::NoMemory) => Err(Stop::NoMemory),
+    }
+}
+
+/// So many entries of the first column of x, from the row `first` on.
+pub fn part(alloc: Global, x: &Matrix, first: u32, count: u32) -> Result<Vec<Frac>, AllocError>
+    requires rows { first + count ≤ height x.now }
+    requires column { 0 < x.now.columns }
+    ensures { IfOk result (λ v. v.items ≡ listed count (λ i. entry x.now (first + i) 0)) }
+{
+    let _rows = x.rows();
+    let mut out = Vec::with_capacity(alloc, count as usize)?;
+    for i in 0..count {
+        out.push(x.get(first + i, 0))?;
+    }
+    Ok(out)
+}

@@ -1,0 +1,118 @@
+//! How far a step goes.
+
+ghost use Rattle.std.specs.Prelude.{◌≡◌, ◌≢◌, ◌<◌, ◌≤◌, ◌↔◌, ℕ, IsTrue, IfOk, MatchResult, MatchOption, length, pos, ⊤};
+ghost use Rattle.mpc_exact.specs.Rational.{ℚ, int};
+ghost use Rattle.mpc_space.specs.Vector.{IsZero};
+ghost use Rattle.mpc_space.specs.Matrix.{height};
+ghost use Rattle.mpc_online.specs.StateRows.{level};
+ghost use Rattle.mpc_online.specs.Turns.{shorter_of, NoneFalls, IsShortest, IsShortestWith, full_length, IsTurn};
+ghost use Rattle.mpc_online.specs.Widths.{QuotientsFit, FullFits, LengthsFit};
+ghost use Rattle.mpc_online.specs.Standing.{IsPosition};
+ghost use Rattle.mpc_online.specs.Answers.{position_of};
+
+use crate::moves::Iterate;
+use crate::numbers::{is_less, is_negative};
+use crate::solutions::dot_of;
+use crate::tests_of_rows::excess;
+use mpc_frac::{Frac, Wide};
+use mpc_rows::Qp;
+
+/// What ends a step.
+#[derive(Drop)]
+pub enum Turn {
+    /// The members and the row on its way refute the rows.
+    Refuted,
+    /// The multiplier of the member in this place, from 0, is 0 at this length.
+    Drops(usize, Frac),
+    /// The row on its way holds with equality at this length.
+    Joins(Frac),
+}
+
+/// A place and the length at which its multiplier is 0.
+#[derive(Clone, Copy, Drop)]
+pub struct Partial {
+    pub place: usize,
+    pub length: Frac,
+}
+
+/// The one with the lesser length: the one found before, unless the new one is less.
+fn shorter(best: Option<Partial>, next: Partial) -> Option<Partial>
+    ensures { result ≡ shorter_of best next }
+{
+    let Some(earlier) = best else {
+        return Some(next);
+    };
+    if is_less(&next.length, &earlier.length) {
+        return Some(next);
+    }
+    Some(earlier)
+}
+
+/// The place of the multiplier that is first 0 along e, and the length at which it is.
+fn shortest(multipliers: &[Frac], e: &[Frac]) -> Result<Option<Partial>, Wide>
+    requires { length e.now ≡ length multipliers.now }
+    ensures value { IfOk result (λ o. IsShortestWith multipliers.now e.now o) }
+    ensures wide { MatchResult result (λ _. QuotientsFit multipliers.now e.now)
+        (λ _. ¬ QuotientsFit multipliers.now e.now) }
+{
+    let mut best = None;
+    for k in 0..e.len() {
+        if !is_negative(&e[k]) {
+            continue;
+        }
+        let length = multipliers[k].div(&e[k].neg())?;
+        best = shorter(best, Partial { place: k, length });
+    }
+    Ok(best)
+}
+
+/// Whether all entries are 0.
+fn is_zero(d: &[Frac]) -> bool
+    ensures { IsTrue result ↔ IsZero d.now }
+{
+    d.iter().all(|x| x.is_zero())
+}
+
+/// The length at which the row on its way holds with equality.
+fn full_length(qp: &Qp, sides: &[Frac], it: &Iterate, d: &[Frac]) -> Result<Frac, Wide>
+    requires position { IsPosition qp.now (position_of it.now) }
+    requires sides { length sides.now ≡ height qp.now.g }
+    requires direction { length d.now ≡ height qp.now.h }
+    requires slope { level qp.now d.now it.now.row ≢ int (pos 0) }
+    ensures value { IfOk result (λ v. v ≡ full_length qp.now sides.now (position_of it.now) d.now) }
+    ensures wide { MatchResult result (λ _. FullFits qp.now sides.now (position_of it.now) d.now)
+        (λ _. ¬ FullFits qp.now sides.now (position_of it.now) d.now) }
+{
+    let _rows = qp.g.rows();
+    let above = excess(qp, sides, &it.point, it.row)?;
+    let slope = dot_of(qp.g.row(it.row - 1), d)?;
+    above.div(&slope.neg())
+}
+
+/// What ends the step in this direction.
+pub fn turn_of(qp: &Qp, sides: &[Frac], it: &Iterate, d: &[Frac], e: &[Frac]) -> Result<Turn, Wide>
+    requires position { IsPosition qp.now (position_of it.now) }
+    requires sides { length sides.now ≡ height qp.now.g }
+    requires direction { length d.now ≡ height qp.now.h }
+    requires multipliers { length e.now ≡ length it.now.set }
+    requires slope { ¬ IsZero d.now → level qp.now d.now it.now.row ≢ int (pos 0) }
+    ensures value { IfOk result (λ turn. IsTurn qp.now sides.now (position_of it.now) d.now e.now turn) }
+    ensures wide { MatchResult result (λ _. LengthsFit qp.now sides.now (position_of it.now) d.now e.now)
+        (λ _. ¬ LengthsFit qp.now sides.now (position_of it.now) d.now e.now) }
+{
+    let partial = shortest(&it.multipliers, e)?;
+    if is_zero(d) {
+        let Some(drop) = partial else {
+            return Ok(Turn::Refuted);
+        };
+        return Ok(Turn::Drops(drop.place, drop.length));
+    }
+    let full = full_length(qp, sides, it, d)?;
+    let Some(drop) = partial else {
+        return Ok(Turn::Joins(full));
+    };
+    if is_less(&drop.length, &full) {
+        return Ok(Turn::Drops(drop.place, drop.length));
+    }
+    Ok(Turn::Joins(full))
+}

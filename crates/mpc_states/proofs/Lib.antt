@@ -1,0 +1,12 @@
+pub mod Stacks
+pub mod Replies
+pub mod RightPrograms
+pub mod NoiseCut
+pub mod MoveTexts
+pub mod LineLemmas
+pub mod Carried
+pub mod FirstPivots
+pub mod SamePlant
+pub mod OneOutcomes
+pub mod Complete
+pub mod Solved

@@ -1,0 +1,154 @@
+-- One outcome is that of an input.
+use Rattle.std.proofs.Common.{◌≡◌, ◌≢◌, ℕ, List, inl, inr, refl, sym, ◌∙◌, ap, subst, Option, Some, None}
+use Rattle.mpc_exact.specs.Rational.{ℚ}
+use Rattle.mpc_space.specs.Matrix.{height, entry}
+use Rattle.mpc_plant.specs.declared.faults.PlantKind.{PlantKind}
+use Rattle.mpc_plant.specs.declared.plants.Plant.{Plant}
+use Rattle.mpc_plant.specs.WholePlant.{ReadsAsPlant, IsFirstFault}
+use Rattle.mpc_rows.specs.declared.programs.Qp.{Qp}
+use Rattle.mpc_rows.specs.declared.places.Place.{Place}
+use Rattle.mpc_rows.specs.declared.places.Place.TheVariants.{Pivot}
+use Rattle.mpc_definite.specs.Pivots.{PassesBelow, IsFirstNotPositive, IsFirstWide}
+use Rattle.mpc_condense.specs.Causes.{row_count}
+use Rattle.mpc_condense.specs.ProgramLaws.{NoWidePlace, OneWidePlace}
+use Rattle.mpc_best.specs.BestReplies.{OneProgram}
+use Rattle.mpc_tight.specs.Tightening.{RowsFit, IsWideRow}
+use Rattle.mpc_tight.specs.TightLaws.{OneWideRow, NoWideRow}
+use Rattle.mpc_replies.specs.Cut.{head_of}
+use Rattle.mpc_states.specs.NoisePart.{plant_part, noise_part, noise_from}
+use Rattle.mpc_states.specs.Convex.{HasProgram, IsConvexProgram, ProgramOutcome, not_definite, too_wide, convex, IsNotDefiniteAt, IsFirstWidePlace, wide_program, wide_pivot, IsProgramOutcome}
+use Rattle.mpc_states.specs.Outcomes.{OfPlant, SolveOutcome, bad_plant, of_program, IsSolveOutcome, OneSolveOutcome, RobustOutcome, bad_robust_plant, bad_noise, of_robust_program, wide_row, robust_replies, WithNoise, WithProgram, IsOutcomeOf, IsRobustOutcome, OneRobustOutcome}
+use Rattle.mpc_states.proofs.FirstPivots.{passes_not_positive, passes_wide, one_not_positive, one_pivot_wide, not_both}
+use Rattle.mpc_states.proofs.SamePlant.{same_plant}
+
+-- ---- of a file
+pub no_file : (bytes : List ℕ) (plant : Plant) (kind : PlantKind) (path : List ℕ) → ReadsAsPlant bytes plant → IsFirstFault bytes kind path → ⊥
+no_file bytes plant kind path r (inl h) = (let e = h.unread r.text in let f = r.json in cc)
+no_file bytes plant kind path r (inr h) =
+    let value : r.value ≡ h.value = (let e = r.json in let f = h.json in cc) in
+    let e = r.checked in
+    let f = h.failed in
+    cc
+
+one_fault : {A : Type 0} (say : PlantKind → List ℕ → A) (bytes : List ℕ) (kind other : PlantKind) (path long : List ℕ) → IsFirstFault bytes kind path → IsFirstFault bytes other long → say kind path ≡ say other long
+one_fault say bytes kind other path long (inl h) (inl k) = λ i. say ((h.kind_is ∙ sym k.kind_is) i) ((h.at_top ∙ sym k.at_top) i)
+one_fault say bytes kind other path long (inl h) (inr k) = absurd (let e = h.unread k.text in let f = k.json in cc)
+one_fault say bytes kind other path long (inr h) (inl k) = absurd (let e = k.unread h.text in let f = h.json in cc)
+one_fault say bytes kind other path long (inr h) (inr k) =
+    let value : h.value ≡ k.value = (let e = h.json in let f = k.json in cc) in
+    let pair : ◌≡◌ {A = PlantKind × List ℕ} (kind, path) (other, long) = (let e = h.failed in let f = k.failed in cc) in
+    λ i. say (pair i).0 (pair i).1
+
+-- ---- of a program
+module _ (one_place : OneWidePlace) (no_place : NoWidePlace) (one_program : OneProgram) (plant : Plant) where
+  same_qp : (a b : Qp) → HasProgram plant a → HasProgram plant b → a ≡ b
+  same_qp a b p q = one_program plant a b p.condensed q.condensed
+
+  pub one_program_outcome : (a b : ProgramOutcome) → IsProgramOutcome plant a → IsProgramOutcome plant b → a ≡ b
+  one_program_outcome (not_definite j) (not_definite k) p q =
+      ap not_definite (one_not_positive (entry q.qp.h) (height q.qp.h) j k (subst (λ z. IsFirstNotPositive (entry z.h) (height z.h) j) (same_qp p.qp q.qp p.has_program q.has_program) p.first) q.first)
+  one_program_outcome (not_definite j) (too_wide _) p (wide_program place w) = absurd (no_place plant place p.has_program.fits w)
+  one_program_outcome (not_definite j) (too_wide _) p (wide_pivot qp k has w) =
+      absurd (not_both (entry qp.h) (height qp.h) j k (subst (λ z. IsFirstNotPositive (entry z.h) (height z.h) j) (same_qp p.qp qp p.has_program has) p.first) w)
+  one_program_outcome (not_definite j) convex p (qp, q) =
+      absurd (passes_not_positive (entry qp.h) (height qp.h) q.pivots j (subst (λ z. IsFirstNotPositive (entry z.h) (height z.h) j) (same_qp p.qp qp p.has_program q.has_program) p.first))
+  one_program_outcome (too_wide _) (not_definite j) (wide_program place w) p = absurd (no_place plant place p.has_program.fits w)
+  one_program_outcome (too_wide _) (not_definite j) (wide_pivot qp k has w) p =
+      absurd (not_both (entry qp.h) (height qp.h) j k (subst (λ z. IsFirstNotPositive (entry z.h) (height z.h) j) (same_qp p.qp qp p.has_program has) p.first) w)
+  one_program_outcome (too_wide _) (too_wide _) (wide_program a w) (wide_program b v) = ap too_wide (one_place plant a b w v)
+  one_program_outcome (too_wide _) (too_wide _) (wide_program a w) (wide_pivot qp k has v) = absurd (no_place plant a has.fits w)
+  one_program_outcome (too_wide _) (too_wide _) (wide_pivot qp k has v) (wide_program b w) = absurd (no_place plant b has.fits w)
+  one_program_outcome (too_wide _) (too_wide _) (wide_pivot qp k has v) (wide_pivot other m its w) =
+      ap (λ j. too_wide (Pivot j)) (one_pivot_wide (entry other.h) (height other.h) k m (subst (λ z. IsFirstWide (entry z.h) (height z.h) k) (same_qp qp other has its) v) w)
+  one_program_outcome (too_wide _) convex (wide_program place w) (qp, q) = absurd (no_place plant place q.has_program.fits w)
+  one_program_outcome (too_wide _) convex (wide_pivot other k has w) (qp, q) =
+      absurd (passes_wide (entry qp.h) (height qp.h) q.pivots k (subst (λ z. IsFirstWide (entry z.h) (height z.h) k) (same_qp other qp has q.has_program) w))
+  one_program_outcome convex (not_definite j) (qp, q) p =
+      absurd (passes_not_positive (entry qp.h) (height qp.h) q.pivots j (subst (λ z. IsFirstNotPositive (entry z.h) (height z.h) j) (same_qp p.qp qp p.has_program q.has_program) p.first))
+  one_program_outcome convex (too_wide _) (qp, q) (wide_program place w) = absurd (no_place plant place q.has_program.fits w)
+  one_program_outcome convex (too_wide _) (qp, q) (wide_pivot other k has w) =
+      absurd (passes_wide (entry qp.h) (height qp.h) q.pivots k (subst (λ z. IsFirstWide (entry z.h) (height z.h) k) (same_qp other qp has q.has_program) w))
+  one_program_outcome convex convex p q = refl
+
+-- ---- of an input of `solve`
+module _ (one_place : OneWidePlace) (no_place : NoWidePlace) (one_program : OneProgram) where
+  pub one_solve_outcome : OneSolveOutcome
+  one_solve_outcome input (bad_plant kind path) (bad_plant other long) h k = one_fault bad_plant (head_of input) kind other path long h k
+  one_solve_outcome input (bad_plant kind path) (of_program o) h k = absurd (no_file (head_of input) k.plant kind path k.read h)
+  one_solve_outcome input (of_program o) (bad_plant kind path) k h = absurd (no_file (head_of input) k.plant kind path k.read h)
+  one_solve_outcome input (of_program a) (of_program b) h k =
+      ap of_program (one_program_outcome one_place no_place one_program k.plant a b (subst (λ z. IsProgramOutcome z a) (same_plant (head_of input) h.plant k.plant h.read k.read) h.so) k.so)
+
+  -- ---- of an input of `robust`
+  module _ (one_row : OneWideRow) (no_row : NoWideRow) (input : List ℕ) where
+    abbrev Of : Plant → RobustOutcome → Type 0
+    Of plant o = IsOutcomeOf (noise_part (head_of input)) plant o
+
+    module _ (plant : Plant) where
+      same_noise : {P Q : List ℚ → Type 0} (a : WithNoise (noise_part (head_of input)) plant P) (b : WithNoise (noise_part (head_of input)) plant Q) → a.noise ≡ b.noise
+      same_noise a b = let e = a.noise_is in let f = b.noise_is in cc
+
+      no_noise : {P : List ℚ → Type 0} → noise_from (noise_part (head_of input)) plant.n ≡ None → WithNoise (noise_part (head_of input)) plant P → ⊥
+      no_noise e a = let f = a.noise_is in absurd (cc)
+
+      other_end : (o : ProgramOutcome) (qp : Qp) → (o ≢ convex) × IsProgramOutcome plant o → IsConvexProgram plant qp → ⊥
+      other_end o qp h is = h.0 (one_program_outcome one_place no_place one_program plant o convex h.1 (qp, is))
+
+      row_as : (a b : List ℚ) (one other : Qp) (row : ℕ) → a ≡ b → one ≡ other → IsWideRow plant a one.w row → IsWideRow plant b other.w row
+      row_as a b one other row e f h = subst (λ z. IsWideRow plant z other.w row) e (subst (λ z. IsWideRow plant a z.w row) f h)
+
+      same_programs : (one other : Qp) → IsConvexProgram plant one → IsConvexProgram plant other → one ≡ other
+      same_programs one other p q = one_program plant one other p.has_program.condensed q.has_program.condensed
+
+      pub one_of_plant : (a b : RobustOutcome) → Of plant a → Of plant b → a ≡ b
+      one_of_plant (bad_robust_plant kind path) b h k = absurd h
+      one_of_plant bad_noise (bad_robust_plant kind path) h k = absurd k
+      one_of_plant bad_noise bad_noise h k = refl
+      one_of_plant bad_noise (of_robust_program o) h k = absurd (no_noise h k)
+      one_of_plant bad_noise (wide_row row) h k = absurd (no_noise h k)
+      one_of_plant bad_noise robust_replies h k = absurd (no_noise h k)
+      one_of_plant (of_robust_program o) (bad_robust_plant kind path) h k = absurd k
+      one_of_plant (of_robust_program o) bad_noise h k = absurd (no_noise k h)
+      one_of_plant (of_robust_program a) (of_robust_program b) h k = ap of_robust_program (one_program_outcome one_place no_place one_program plant a b h.so.1 k.so.1)
+      one_of_plant (of_robust_program o) (wide_row row) h k = absurd (other_end o k.so.qp h.so k.so.is_convex)
+      one_of_plant (of_robust_program o) robust_replies h k = absurd (other_end o k.so.qp h.so k.so.is_convex)
+      one_of_plant (wide_row row) (bad_robust_plant kind path) h k = absurd k
+      one_of_plant (wide_row row) bad_noise h k = absurd (no_noise k h)
+      one_of_plant (wide_row row) (of_robust_program o) h k = absurd (other_end o h.so.qp k.so h.so.is_convex)
+      one_of_plant (wide_row i) (wide_row j) h k =
+          ap wide_row (one_row plant k.noise k.so.qp.w i j (row_as h.noise k.noise h.so.qp k.so.qp i (same_noise h k) (same_programs h.so.qp k.so.qp h.so.is_convex k.so.is_convex) h.so.so) k.so.so)
+      one_of_plant (wide_row row) robust_replies h k =
+          absurd (no_row plant k.noise k.so.qp.w row k.so.so (row_as h.noise k.noise h.so.qp k.so.qp row (same_noise h k) (same_programs h.so.qp k.so.qp h.so.is_convex k.so.is_convex) h.so.so))
+      one_of_plant robust_replies (bad_robust_plant kind path) h k = absurd k
+      one_of_plant robust_replies bad_noise h k = absurd (no_noise k h)
+      one_of_plant robust_replies (of_robust_program o) h k = absurd (other_end o h.so.qp k.so h.so.is_convex)
+      one_of_plant robust_replies (wide_row row) h k =
+          absurd (no_row plant h.noise h.so.qp.w row h.so.so (row_as k.noise h.noise k.so.qp h.so.qp row (sym (same_noise h k)) (sym (same_programs h.so.qp k.so.qp h.so.is_convex k.so.is_convex)) k.so.so))
+      one_of_plant robust_replies robust_replies h k = refl
+
+    abbrev head : List ℕ
+    head = plant_part (head_of input)
+
+    -- an outcome is a fault of the file, or says something of the plant
+    data End (o : RobustOutcome) : Type 0 where
+      by_fault : (kind : PlantKind) (path : List ℕ) → IsFirstFault (plant_part (head_of input)) kind path → o ≡ bad_robust_plant kind path → End o
+      by_plant : (plant : Plant) → ReadsAsPlant (plant_part (head_of input)) plant → Of plant o → End o
+
+    end_of : (o : RobustOutcome) → IsRobustOutcome input o → End o
+    end_of (bad_robust_plant kind path) h = by_fault kind path h refl
+    end_of bad_noise h = by_plant h.plant h.read h.so
+    end_of (of_robust_program o) h = by_plant h.plant h.read h.so
+    end_of (wide_row row) h = by_plant h.plant h.read h.so
+    end_of robust_replies h = by_plant h.plant h.read h.so
+
+    same_end : (a b : RobustOutcome) → End a → End b → a ≡ b
+    same_end a b (by_fault kind path h e) (by_fault other long k f) = e ∙ one_fault bad_robust_plant head kind other path long h k ∙ sym f
+    same_end a b (by_fault kind path h e) (by_plant plant r k) = absurd (no_file head plant kind path r h)
+    same_end a b (by_plant plant r k) (by_fault kind path h e) = absurd (no_file head plant kind path r h)
+    same_end a b (by_plant plant r h) (by_plant other s k) = one_of_plant other a b (subst (λ z. Of z a) (same_plant head plant other r s) h) k
+
+    pub one_robust : (a b : RobustOutcome) → IsRobustOutcome input a → IsRobustOutcome input b → a ≡ b
+    one_robust a b h k = same_end a b (end_of a h) (end_of b k)
+
+  pub one_robust_outcome : OneWideRow → NoWideRow → OneRobustOutcome
+  one_robust_outcome one_row no_row input a b h k = one_robust one_row no_row input a b h k

@@ -1,0 +1,34 @@
+//! What holds of every input, and of every program's replies.
+
+ghost use Rattle.mpc_states.specs.Outcomes.{OneSolveOutcome, OneRobustOutcome};
+ghost use Rattle.mpc_states.specs.StateLaws.{ProgramIsRight, RobustProgramIsRight, SolveIsComplete, RobustIsComplete};
+
+use mpc_best::one_program;
+use mpc_condense::{place_laws, program_laws};
+use mpc_tight::tight_laws;
+
+/// The cheapest choice of a plant's program begins with the first move of the best sequence, and where there is no choice, no sequence is
+/// admissible; so it is with a tightened program, the robustly best sequence and the robustly admissible ones. The call does nothing: its
+/// clauses are the law.
+pub fn right_programs()
+    ensures plain { ProgramIsRight }
+    ensures robust { RobustProgramIsRight }
+{
+    program_laws();
+}
+
+/// At most one outcome is that of an input of `solve`, and one that of an input of `robust`. The call does nothing: its clauses are the law.
+pub fn one_outcome()
+    ensures solve { OneSolveOutcome }
+    ensures robust { OneRobustOutcome }
+{
+    place_laws();
+    one_program();
+    tight_laws();
+}
+
+/// An input of whose plant, noise and rows nothing is refused has replies. The call does nothing: its clauses are the law.
+pub fn complete_inputs()
+    ensures solve { SolveIsComplete }
+    ensures robust { RobustIsComplete }
+{}

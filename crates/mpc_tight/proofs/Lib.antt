@@ -1,0 +1,11 @@
+pub mod Products
+pub mod Spread
+pub mod Worst
+pub mod RowPlaces
+pub mod Written
+pub mod TightenedRows
+pub mod ProgramShapes
+pub mod Robust
+pub mod SameTightened
+pub mod Numerals
+pub mod NoiseLines

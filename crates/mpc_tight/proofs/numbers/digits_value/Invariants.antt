@@ -1,0 +1,12 @@
+use Rattle.std.proofs.Common.{◌≡◌, ◌+◌, ◌≤◌, ◌^◌, true, take}
+use Rattle.std.specs.List.{list_all}
+use Rattle.std.specs.Char.{is_ascii_digit}
+use Rattle.mpc_plant.specs.Decimals.{decimal_value}
+use Rattle.mpc_tight.proofs.numbers.digits_value.Given as goal
+
+abbrev pub invariant-loop-c : goal.invariant-loop-c
+invariant-loop-c l = record {
+  digits : list_all is_ascii_digit (take l.c-index l.text) ≡ true;
+  value : l.value ≡ decimal_value (take l.c-index l.text);
+  small : l.value + 1 ≤ 10 ^ l.c-index;
+}

@@ -1,0 +1,29 @@
+use Rattle.std.proofs.Common.{◌≡◌, ◌∙◌, ℕ, ◌<◌, ◌^◌, ap, pos, sym, subst, to_z, of_z, arith}
+use Rattle.std.specs.Int.{w128}
+use Rattle.std.proofs.lemmas.Int.{to_z-of_z, fits_signed_from_abs}
+use Rattle.mpc_exact.specs.Rational.{IsNonneg}
+use Rattle.mpc_exact.proofs.RationalOrder.{nonneg_int, positive_int, nonneg_cancel}
+use Rattle.mpc_exact.proofs.School.{frac_times}
+use Rattle.mpc_tight.proofs.Numerals.{no_error, quotient_at}
+use Rattle.mpc_tight.proofs.numbers.fraction.Goals as goal
+
+read_back : (d : ℕ) → d < 2 ^ 127 → to_z w128 (of_z w128 (pos d)) ≡ pos d
+read_back d h = to_z-of_z w128 (pos d) (fits_signed_from_abs w128 (pos d) h)
+
+pub unreachable-requires : goal.unreachable-requires
+unreachable-requires c =
+    no_error c.args.n c.args.d (to_z w128 (of_z w128 c.from.result)) (to_z w128 (of_z w128 c.from-2.result)) c.requires (omega (arith, c.ranges.n.fits)) (omega (arith, c.ranges.d.fits))
+    (ap (λ z. to_z w128 (of_z w128 z)) c.from.ensures ∙ read_back c.args.n (omega (arith, c.ranges.n.fits)))
+    (ap (λ z. to_z w128 (of_z w128 z)) c.from-2.ensures ∙ read_back c.args.d (omega (arith, c.ranges.d.fits))) c.in-Err.field-0 c.in-Err.ensures.zero.0 c.in-Err.ensures.wide.0
+
+pub returns-clause-value : goal.returns-clause-value
+returns-clause-value c =
+    c.in-Ok.ensures.value ∙
+    quotient_at c.args.n c.args.d (to_z w128 (of_z w128 c.from.result)) (to_z w128 (of_z w128 c.from-2.result)) c.requires (omega (arith, c.ranges.n.fits)) (omega (arith, c.ranges.d.fits))
+    (ap (λ z. to_z w128 (of_z w128 z)) c.from.ensures ∙ read_back c.args.n (omega (arith, c.ranges.n.fits)))
+    (ap (λ z. to_z w128 (of_z w128 z)) c.from-2.ensures ∙ read_back c.args.d (omega (arith, c.ranges.d.fits)))
+
+pub returns-clause-nonneg : goal.returns-clause-nonneg
+returns-clause-nonneg c =
+    subst IsNonneg (sym (returns-clause-value c))
+    (nonneg_cancel (positive_int c.args.d c.requires) (subst IsNonneg (sym (frac_times (pos c.args.n) c.args.d c.requires)) (nonneg_int c.args.n)))

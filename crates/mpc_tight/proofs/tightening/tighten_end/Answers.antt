@@ -1,0 +1,41 @@
+use Rattle.std.proofs.Common.{◌≡◌, ◌+◌, ◌*◌, arith, ap, subst, refl}
+use Rattle.mpc_condense.specs.Condensed.{terminal_row}
+use Rattle.mpc_condense.specs.Causes.{row_count}
+use Rattle.mpc_tight.specs.Tightening.{RowsFit}
+use Rattle.mpc_tight.specs.Tightened.{RowsTightened}
+use Rattle.mpc_tight.proofs.RowPlaces.{row_within}
+use Rattle.mpc_tight.proofs.TightenedRows.{terminal_place, tightened_more, fit_more, wide_row}
+use Rattle.mpc_tight.proofs.tightening.tighten_end.Goals as goal
+
+pub loop-r-preserved : goal.loop-r-preserved
+loop-r-preserved c =
+    let plant = c.args.plant.now in
+    let r = c.loop-r.r in
+    let i = terminal_row plant r in
+    let is = terminal_place plant r c.at.result.now c.at.ensures in
+    let at = ap (λ m. plant.horizon * m + r) c.len.ensures in
+    let within = row_within plant i plant.horizon c.at.result.now is in
+    record {
+      done = tightened_more plant c.args.noise.now c.args.old.now i plant.horizon c.at.result.now is c.loop-r.w c.tighten_row.new.w (plant.horizon * c.len.result + r) (terminal_row plant (r + 1)) at (omega arith)
+          (omega (arith, within, c.requires.shape.rows_are)) (omega (arith, c.requires.shape.columns_are)) c.in-Ok.ensures.ok c.loop-r.invariant.done;
+      fits = fit_more plant c.args.noise.now c.args.old.now i plant.horizon c.at.result.now is (plant.horizon * c.len.result + r) (terminal_row plant (r + 1)) at (omega arith) c.in-Ok.ensures.wide c.loop-r.invariant.fits;
+    }
+
+pub returns-in-Err-TooWide-clause-cause : goal.returns-in-Err-TooWide-clause-cause
+returns-in-Err-TooWide-clause-cause c =
+    let plant = c.args.plant.now in
+    let r = c.loop-r.r in
+    let i = terminal_row plant r in
+    let is = terminal_place plant r c.at.result.now c.at.ensures in
+    let at = ap (λ m. plant.horizon * m + r) c.len.ensures in
+    wide_row plant c.args.noise.now c.args.old.now i plant.horizon c.at.result.now is (plant.horizon * c.len.result + r) (plant.horizon * c.len.result + r + 1) at refl c.loop-r.invariant.fits (rw c.in-Err-TooWide.field-0-is at c.in-Err-TooWide.ensures.wide)
+
+pub returns-clause-done : goal.returns-clause-done
+returns-clause-done c =
+    let e : terminal_row c.args.plant.now c.loop-r.r ≡ row_count c.args.plant.now = omega arith in
+    subst (RowsTightened c.args.plant.now c.args.noise.now c.args.old.now c.loop-r.w) e c.loop-r.invariant.done
+
+pub returns-clause-fits : goal.returns-clause-fits
+returns-clause-fits c =
+    let e : terminal_row c.args.plant.now c.loop-r.r ≡ row_count c.args.plant.now = omega arith in
+    subst (RowsFit c.args.plant.now c.args.noise.now c.args.old.now) e c.loop-r.invariant.fits

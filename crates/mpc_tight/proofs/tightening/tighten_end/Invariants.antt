@@ -1,0 +1,10 @@
+use Rattle.mpc_condense.specs.Condensed.{terminal_row}
+use Rattle.mpc_tight.specs.Tightening.{RowsFit}
+use Rattle.mpc_tight.specs.Tightened.{RowsTightened}
+use Rattle.mpc_tight.proofs.tightening.tighten_end.Given as goal
+
+abbrev pub invariant-loop-r : goal.invariant-loop-r
+invariant-loop-r l = record {
+  done : RowsTightened l.plant l.noise l.old l.w (terminal_row l.plant l.r);
+  fits : RowsFit l.plant l.noise l.old (terminal_row l.plant l.r);
+}

@@ -1,0 +1,41 @@
+use Rattle.std.proofs.Common.{◌+◌, ◌*◌, arith, ap, subst, refl}
+use Rattle.mpc_condense.specs.Condensed.{stage_row}
+use Rattle.mpc_tight.specs.Tightening.{RowsFit}
+use Rattle.mpc_tight.specs.Tightened.{RowsTightened}
+use Rattle.mpc_tight.proofs.RowPlaces.{row_within}
+use Rattle.mpc_tight.proofs.TightenedRows.{stage_place, tightened_more, fit_more, wide_row}
+use Rattle.mpc_tight.proofs.ProgramShapes.{stage_end}
+use Rattle.mpc_tight.proofs.tightening.tighten_stage.Goals as goal
+
+pub loop-r-preserved : goal.loop-r-preserved
+loop-r-preserved c =
+    let plant = c.args.plant.now in
+    let r = c.loop-r.r in
+    let k = c.args.k in
+    let i = stage_row plant k r in
+    let is = stage_place plant k r c.at.result.now c.requires.step c.at.ensures in
+    let at = ap (λ m. k * m + r) c.len-count.ensures in
+    let within = row_within plant i k c.at.result.now is in
+    record {
+      done = tightened_more plant c.args.noise.now c.args.old.now i k c.at.result.now is c.loop-r.w c.tighten_row.new.w (k * c.len-count.result + r) (stage_row plant k (r + 1)) at (omega arith)
+          (omega (arith, within, c.requires.shape.rows_are)) (omega (arith, c.requires.shape.columns_are)) c.in-Ok.ensures.ok c.loop-r.invariant.done;
+      fits = fit_more plant c.args.noise.now c.args.old.now i k c.at.result.now is (k * c.len-count.result + r) (stage_row plant k (r + 1)) at (omega arith) c.in-Ok.ensures.wide c.loop-r.invariant.fits;
+    }
+
+pub returns-in-Err-TooWide-clause-cause : goal.returns-in-Err-TooWide-clause-cause
+returns-in-Err-TooWide-clause-cause c =
+    let plant = c.args.plant.now in
+    let r = c.loop-r.r in
+    let k = c.args.k in
+    let i = stage_row plant k r in
+    let is = stage_place plant k r c.at.result.now c.requires.step c.at.ensures in
+    let at = ap (λ m. k * m + r) c.len-count.ensures in
+    wide_row plant c.args.noise.now c.args.old.now i k c.at.result.now is (k * c.len-count.result + r) (k * c.len-count.result + r + 1) at refl c.loop-r.invariant.fits (rw c.in-Err-TooWide.field-0-is at c.in-Err-TooWide.ensures.wide)
+
+pub returns-clause-done : goal.returns-clause-done
+returns-clause-done c =
+    subst (RowsTightened c.args.plant.now c.args.noise.now c.args.old.now c.loop-r.w) (stage_end c.args.plant.now c.args.k c.loop-r.r (omega arith)) c.loop-r.invariant.done
+
+pub returns-clause-fits : goal.returns-clause-fits
+returns-clause-fits c =
+    subst (RowsFit c.args.plant.now c.args.noise.now c.args.old.now) (stage_end c.args.plant.now c.args.k c.loop-r.r (omega arith)) c.loop-r.invariant.fits

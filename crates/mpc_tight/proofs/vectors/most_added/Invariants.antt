@@ -1,0 +1,8 @@
+use Rattle.std.proofs.Common.{pos}
+use Rattle.mpc_exact.specs.Rational.{int}
+use Rattle.mpc_linear.specs.SumLaws.{IsSumSoFar}
+use Rattle.mpc_tight.specs.Disturbed.{sizes}
+use Rattle.mpc_tight.proofs.vectors.most_added.Given as goal
+
+abbrev pub invariant-loop-k : goal.invariant-loop-k
+invariant-loop-k l = IsSumSoFar (int (pos 0)) (sizes l.row) l.noise l.k l.sum

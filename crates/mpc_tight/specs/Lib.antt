@@ -1,0 +1,5 @@
+pub mod Noise
+pub mod Disturbed
+pub mod Tightening
+pub mod Tightened
+pub mod TightLaws

@@ -1,0 +1,18 @@
+//! Rows with room for disturbances: the program of a plant whose sequences of moves keep the plant's rows whatever a box of disturbances
+//! adds to the state at each step (Witsenhausen, 1968; Mayne, Rawlings, Rao and Scokaert, 2000).
+#![tactic(auto)]
+
+mod errors;
+mod laws;
+mod noise;
+mod numbers;
+mod programs;
+#[cfg(test)]
+mod tests;
+mod tightening;
+mod vectors;
+
+pub use errors::{NoiseError, TightError};
+pub use laws::tight_laws;
+pub use noise::read_noise;
+pub use programs::tighten;

@@ -1,0 +1,103 @@
+//! The numbers of a line of noise.
+
+ghost use Rattle.std.specs.Prelude.{◌≡◌, ◌*◌, ◌+◌, ◌^◌, ◌<◌, ◌≤◌, ◌==◌, length, take, drop, position, pos, Some, None, IfSome, option_map, if◌then◌else◌};
+ghost use Rattle.std.specs.List.{list_all};
+ghost use Rattle.std.specs.Char.{is_ascii_digit};
+ghost use Rattle.mpc_exact.specs.Rational.{frac, IsNonneg};
+ghost use Rattle.mpc_plant.specs.Decimals.{decimal_value, numeral, parted, ratio_of, whole_of};
+ghost use Rattle.mpc_tight.specs.Noise.{number_of};
+
+use mpc_frac::Frac;
+
+/// The largest numeral has 18 digits.
+const MOST_DIGITS: usize = 18;
+
+/// The value of decimal digits, of which there are few.
+fn digits_value(text: &[u8]) -> Option<u64>
+    requires { length text.now ≤ 18 }
+    ensures value { result
+        ≡ (if list_all is_ascii_digit text.now then Some (decimal_value text.now) else None) }
+    ensures small { IfSome result (λ value. value < 1000000000000000000) }
+{
+    let mut value = 0;
+    for c in text {
+        if *c < b'0' || *c > b'9' {
+            return None;
+        }
+        value = value * 10 + u64::from(*c - b'0');
+    }
+    Some(value)
+}
+
+/// The value of a numeral of 1 to 18 digits.
+fn numeral_value(text: &[u8]) -> Option<u64>
+    ensures value { result ≡ numeral text.now }
+    ensures small { IfSome result (λ value. value < 1000000000000000000) }
+{
+    if text.is_empty() || text.len() > MOST_DIGITS {
+        return None;
+    }
+    digits_value(text)
+}
+
+/// The place of the first such byte.
+fn place_of(text: &[u8], byte: u8) -> Option<usize>
+    ensures { result ≡ position (λ c. c == byte) text.now }
+{
+    text.iter().position(|c| *c == byte)
+}
+
+/// What stands before and after the first such byte.
+fn part_at(text: &[u8], byte: u8) -> Option<(&[u8], &[u8])>
+    ensures { option_map (λ parts. (parts.0.now, parts.1.now)) result ≡ parted byte text.now }
+{
+    match place_of(text, byte) {
+        Some(place) => Some((&text[..place], &text[place + 1..])),
+        None => None,
+    }
+}
+
+/// The fraction n / d.
+fn fraction(n: u64, d: u64) -> Frac
+    requires { 0 < d }
+    ensures value { result ≡ frac (pos n) d }
+    ensures nonneg { IsNonneg result }
+{
+    match Frac::new(i128::from(n), i128::from(d)) {
+        Ok(fraction) => fraction,
+        Err(_) => unreachable!(),
+    }
+}
+
+/// The number n / d of two numerals.
+fn ratio(n: &[u8], d: &[u8]) -> Option<Frac>
+    ensures value { result ≡ ratio_of (n.now, d.now) }
+    ensures nonneg { IfSome result IsNonneg }
+{
+    let above = numeral_value(n)?;
+    let below = numeral_value(d)?;
+    if below == 0 {
+        return None;
+    }
+    Some(fraction(above, below))
+}
+
+/// The number that a numeral spells.
+fn whole(text: &[u8]) -> Option<Frac>
+    ensures value { result ≡ whole_of text.now }
+    ensures nonneg { IfSome result IsNonneg }
+{
+    let value = numeral_value(text)?;
+    Some(fraction(value, 1))
+}
+
+/// The number that a word spells: one numeral, or two with a stroke between them.
+pub(crate) fn number_in(word: &[u8]) -> Option<Frac>
+    ensures value { result ≡ number_of word.now }
+    ensures nonneg { IfSome result IsNonneg }
+{
+    match part_at(word, b'/') {
+        Some((n, d)) => ratio(n, d),
+        None => whole(word),
+    }
+}
