@@ -1,0 +1,17 @@
+pub mod ElementLemmas
+pub mod PathLemmas
+pub mod WayLemmas
+pub mod FormLemmas
+pub mod SumLemmas
+pub mod RowLemmas
+pub mod SystemLemmas
+pub mod WalkLemmas
+pub mod StepLemmas
+pub mod SafetyLemmas
+pub mod FindingLemmas
+pub mod OneOutcomes
+pub mod LoopLemmas
+pub mod TargetLemmas
+pub mod LeafLemmas
+pub mod SplitRows
+pub mod ExactLemmas

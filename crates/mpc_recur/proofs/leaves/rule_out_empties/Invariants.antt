@@ -1,0 +1,16 @@
+use Rattle.std.proofs.Common.{◌≡◌, ◌<◌, List, length}
+use Rattle.mpc_rows.specs.declared.laws.Law.{Law}
+use Rattle.mpc_rows.specs.declared.systems.Row.{Row}
+use Rattle.mpc_recur.specs.Forms.{next_forms}
+use Rattle.mpc_recur.specs.Findings.{Each}
+use Rattle.mpc_recur.specs.Targets.{IsBaseOf, EmptyMet}
+use Rattle.mpc_recur.specs.Ways.{IsWay}
+use Rattle.mpc_recur.proofs.leaves.rule_out_empties.Given as goal
+
+abbrev pub invariant-loop-k : goal.invariant-loop-k
+invariant-loop-k l = record {
+  way : l.k < length l.controller.tree → IsWay l.controller.tree l.k l.way.items;
+  width : l.system.width ≡ l.fn.system.width;
+  kept : l.system.rows ≡ l.fn.system.rows;
+  met : (law : Law) (path : List Row) → IsBaseOf l.controller.plant path l.fn.system → l.forms ≡ next_forms l.controller.plant law → Each (EmptyMet l.controller.plant l.controller.tree law path) l.k;
+}

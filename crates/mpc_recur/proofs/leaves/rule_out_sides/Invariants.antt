@@ -1,0 +1,16 @@
+use Rattle.std.proofs.Common.{◌≡◌, List}
+use Rattle.mpc_plant.specs.declared.plants.Plant.{Plant}
+use Rattle.mpc_rows.specs.declared.laws.Law.{Law}
+use Rattle.mpc_rows.specs.declared.systems.Row.{Row}
+use Rattle.mpc_controller.specs.Parts.{limits_of}
+use Rattle.mpc_recur.specs.Forms.{next_forms}
+use Rattle.mpc_recur.specs.Findings.{Each}
+use Rattle.mpc_recur.specs.Targets.{IsBaseOf, SideMet}
+use Rattle.mpc_recur.proofs.leaves.rule_out_sides.Given as goal
+
+abbrev pub invariant-loop-i : goal.invariant-loop-i
+invariant-loop-i l = record {
+  width : l.system.width ≡ l.fn.system.width;
+  kept : l.system.rows ≡ l.fn.system.rows;
+  met : (plant : Plant) (law : Law) (path : List Row) → IsBaseOf plant path l.fn.system → l.forms ≡ next_forms plant law → l.limits ≡ limits_of plant → Each (SideMet plant law path) l.i;
+}

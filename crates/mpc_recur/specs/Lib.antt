@@ -1,0 +1,11 @@
+pub mod Paths
+pub mod Ways
+pub mod Successors
+pub mod ClosedLoop
+pub mod Forms
+pub mod Stages
+pub mod Findings
+pub mod Targets
+pub mod Outcomes
+pub mod SafetyLaws
+pub mod NextText

@@ -1,0 +1,3 @@
+pub mod ForeverLemmas
+pub mod OutcomeLemmas
+pub mod FileLemmas

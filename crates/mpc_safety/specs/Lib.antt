@@ -1,0 +1,3 @@
+pub mod RightForever
+pub mod SafetyAnswers
+pub mod SafetyOutcomes
