@@ -1,0 +1,148 @@
+-- What a claim and its end do to a hand and to a pass.
+use Rattle.std.proofs.Common.{◌≡◌, ◌≤◌, ℕ, ◌+◌, ◌-◌, List, [], ◌∷◌, ◌++◌, map, length, Bool, true, false, Some, Ok, All, refl, sym, ap, ◌∙◌, subst, arith, eq-eqb}
+use Rattle.std.specs.Prelude.{slice_get, if◌then◌else◌}
+use Rattle.std.proofs.lemmas.List.Elements.{All-push, All-nil}
+use Rattle.mpc_space.specs.Matrix.{height}
+use Rattle.mpc_sets.specs.RowSet.{IsSetOfRows}
+use Rattle.mpc_rows.specs.declared.programs.Qp.{Qp}
+use Rattle.mpc_claim.specs.declared.events.Event.{Event}
+use Rattle.mpc_claim.specs.declared.events.EventKind.{EventKind}
+use Rattle.mpc_claim.specs.declared.events.EventKind.TheVariants.{Claim}
+use Rattle.mpc_claim.specs.declared.tickets.Ticket.{Ticket}
+use Rattle.mpc_claim.specs.declared.tickets.Claimed.TheVariants.{Job}
+use Rattle.mpc_claim.specs.Board.{event}
+use Rattle.mpc_claim.specs.History.{is_claim, is_drop, claimed_sets}
+use Rattle.mpc_claim.specs.OpenClaims.{Held, held_by, same_set, same, without, opened, open_after, open_of}
+use Rattle.mpc_claim.specs.HistoryLaws.{AppendLaws, CandidateLaws}
+use Rattle.mpc_turn.specs.Views.{Call, hand_of}
+use Rattle.mpc_turn.specs.Known.{Known, TurnId, ClaimedAs, EndedAs, InHand, called}
+use Rattle.mpc_workers.specs.Seats.{GivesNoneUp, TakesTurns}
+use Rattle.mpc_fleet.specs.Passes.{IsPassOf, opening}
+use Rattle.mpc_fleet.proofs.Holding.{turns_more}
+
+-- ---- hands, call by call
+open_after-push : (held : List Held) (es : List Event) (e : Event) → open_after held (es ++ e ∷ []) ≡ opened (open_after held es) e
+open_after-push held [] e = refl
+open_after-push held (x ∷ es) e = open_after-push (opened held x) es e
+
+events-push : (cs : List Call) (c : Call) → map (λ (x : Call). x.1) (cs ++ c ∷ []) ≡ map (λ (x : Call). x.1) cs ++ c.1 ∷ []
+events-push [] c = refl
+events-push (x ∷ cs) c = ap (λ l. x.1 ∷ l) (events-push cs c)
+
+hand_of-push : (cs : List Call) (k : ℕ) (e : Event) → hand_of (cs ++ (k, e) ∷ []) ≡ opened (hand_of cs) e
+hand_of-push cs k e = ap open_of (events-push cs (k, e)) ∙ open_after-push [] (map (λ (x : Call). x.1) cs) e
+
+same_set-refl : (s : List ℕ) → same_set s s ≡ true
+same_set-refl [] = refl
+same_set-refl (i ∷ s) = rw (eq-eqb i i refl) (same_set-refl s)
+
+same-refl : (h : Held) → same h h ≡ true
+same-refl h = rw (eq-eqb h.0 h.0 refl) (same_set-refl h.1)
+
+get_last : (xs : List (List ℕ)) (x : List ℕ) → slice_get (xs ++ x ∷ []) (length xs) ≡ Some x
+get_last [] x = refl
+get_last (y ∷ xs) x = get_last xs x
+
+module _ (a b : Known) (t : Ticket) where
+  pub claimed_hand : hand_of a.calls ≡ [] → ClaimedAs a (Ok (Job t)) b → hand_of b.calls ≡ held_by t ∷ []
+  claimed_hand none c =
+      ap (λ (k : Known). hand_of k.calls) c.2
+      ∙ (hand_of-push a.calls (length c.0) (event a.worker t.set Claim)
+      ∙ (ap (λ (l : List Held). l ++ (a.worker, t.set) ∷ []) none ∙ ap (λ (w : ℕ). (w, t.set) ∷ []) (sym (ap (λ (x : Ticket). x.worker) c.3))))
+
+  pub in_hand : AppendLaws → hand_of a.calls ≡ [] → ClaimedAs a (Ok (Job t)) b → InHand t b
+  in_hand appended none c =
+      let number : t.number ≡ length (claimed_sets c.0) + 1 = ap (λ (x : Ticket). x.number) c.3 in
+      let place : t.number - 1 ≡ length (claimed_sets c.0) = omega (arith, number) in
+      let listed : claimed_sets b.seen ≡ claimed_sets c.0 ++ t.set ∷ [] = ap (λ (k : Known). claimed_sets k.seen) c.2 ∙ appended.claimed c.0 (event a.worker t.set Claim ∷ []) in
+      record {
+        held = rw (claimed_hand none c) (rw (same-refl (held_by t)) refl);
+        from_one = omega (arith, number);
+        numbered = ap (slice_get (claimed_sets b.seen)) place ∙ (ap (λ l. slice_get l (length (claimed_sets c.0))) listed ∙ get_last (claimed_sets c.0) t.set);
+      }
+
+  pub ended_hand : (kind : EventKind) → is_claim kind ≡ false → hand_of a.calls ≡ held_by t ∷ [] → EndedAs a t kind b → hand_of b.calls ≡ []
+  ended_hand kind ends one d =
+      ap (λ (k : Known). hand_of k.calls) d.2
+      ∙ (hand_of-push a.calls (length d.0) (event t.worker t.set kind)
+      ∙ (ap (λ (c : Bool). if c then hand_of a.calls ++ held_by t ∷ [] else without (held_by t) (hand_of a.calls)) ends
+      ∙ (ap (without (held_by t)) one ∙ rw (same-refl (held_by t)) refl)))
+
+-- ---- one set of a pass, from its claim to its end
+module _ (worker : ℕ) (turn : TurnId) (qp : Qp) (p : Known) (t : Ticket) (middle last : Known) (i : IsPassOf worker false turn qp p) (c : ClaimedAs p (Ok (Job t)) middle) where
+  pub job_rows : CandidateLaws → IsSetOfRows (height qp.g) t.set
+  job_rows candidates = subst (λ (q : Qp). IsSetOfRows (height q.g) t.set) i.program (candidates.rows p.program t.set c.4.candidate)
+
+  pub job_few : CandidateLaws → length t.set ≤ height qp.h
+  job_few candidates = subst (λ (q : Qp). length t.set ≤ height q.h) i.program (candidates.few p.program t.set c.4.candidate)
+
+  pub middle_turn : middle.turn ≡ turn
+  middle_turn = ap (λ (k : Known). k.turn) c.2 ∙ i.turn_is
+
+  pub middle_program : middle.program ≡ qp
+  middle_program = ap (λ (k : Known). k.program) c.2 ∙ i.program
+
+  pub one_job : (kind : EventKind) (failed : Bool) → is_claim kind ≡ false → (failed ≡ false → is_drop kind ≡ false) → EndedAs middle t kind last → IsPassOf worker failed turn qp last
+  one_job kind failed ends kept d =
+      let e = event p.worker t.set Claim in
+      let e' = event t.worker t.set kind in
+      let is : last ≡ called (called p c.0 e) d.0 e' = d.2 ∙ ap (λ (k : Known). called k d.0 e') c.2 in
+      let own : t.worker ≡ worker = ap (λ (x : Ticket). x.worker) c.3 ∙ i.worker_is in
+      record {
+        turn_is = ap (λ (k : Known). k.turn) is ∙ i.turn_is;
+        other = ap (λ (k : Known). k.first) is ∙ i.other;
+        empty = ended_hand middle last t kind ends (claimed_hand p middle t i.empty c) d;
+        alone = ap (λ (k : Known). k.ended) is ∙ i.alone;
+        program = ap (λ (k : Known). k.program) is ∙ i.program;
+        worker_is = ap (λ (k : Known). k.worker) is ∙ i.worker_is;
+        own = subst (λ (k : Known). All (λ (x : Call). x.1.worker ≡ worker) k.calls) (sym is)
+            (All-push (λ (x : Call). x.1.worker ≡ worker) (p.calls ++ (length c.0, e) ∷ []) (length d.0, e') (All-push (λ (x : Call). x.1.worker ≡ worker) p.calls (length c.0, e) i.own i.worker_is) own);
+        turns = subst (λ (k : Known). TakesTurns k.calls) (sym is) (turns_more p.calls (length c.0, e) (length d.0, e') i.turns refl ends (refl));
+        kept = λ f. subst (λ (k : Known). GivesNoneUp k.calls) (sym is)
+            (All-push (λ (x : Call). is_drop x.1.kind ≡ false) (p.calls ++ (length c.0, e) ∷ []) (length d.0, e') (All-push (λ (x : Call). is_drop x.1.kind ≡ false) p.calls (length c.0, e) (i.kept refl) refl) (kept f));
+      }
+
+-- a claim that gives nothing out leaves the pass with what it has seen
+pub looked_pass : (worker : ℕ) (turn : TurnId) (qp : Qp) (p k : Known) (failed : Bool) → IsPassOf worker false turn qp p → k ≡ record p { seen = k.seen } → IsPassOf worker failed turn qp k
+looked_pass worker turn qp p k failed i is = record {
+  turn_is = ap (λ (x : Known). x.turn) is ∙ i.turn_is;
+  other = ap (λ (x : Known). x.first) is ∙ i.other;
+  empty = ap (λ (x : Known). hand_of x.calls) is ∙ i.empty;
+  alone = ap (λ (x : Known). x.ended) is ∙ i.alone;
+  program = ap (λ (x : Known). x.program) is ∙ i.program;
+  worker_is = ap (λ (x : Known). x.worker) is ∙ i.worker_is;
+  own = subst (λ (x : Known). All (λ (c : Call). c.1.worker ≡ worker) x.calls) (sym is) i.own;
+  turns = subst (λ (x : Known). TakesTurns x.calls) (sym is) i.turns;
+  kept = λ _. subst (λ (x : Known). GivesNoneUp x.calls) (sym is) (i.kept refl);
+}
+
+-- where a worker has failed, less is said
+pub failed_pass : (worker : ℕ) (turn : TurnId) (qp : Qp) (p : Known) → IsPassOf worker false turn qp p → IsPassOf worker true turn qp p
+failed_pass worker turn qp p i = record {
+  turn_is = i.turn_is;
+  other = i.other;
+  empty = i.empty;
+  alone = i.alone;
+  program = i.program;
+  worker_is = i.worker_is;
+  own = i.own;
+  turns = i.turns;
+  kept = λ _. i.kept refl;
+}
+
+-- a pass that was just split off
+pub split_off : (turn : TurnId) (qp : Qp) (lent worker : ℕ) (first p : Known) → first ≡ opening turn qp lent → p ≡ record first { first = false; lent = 0; worker = worker; calls = []; ended = [] } → IsPassOf worker false turn qp p
+split_off turn qp lent worker first p o is =
+    let all : p ≡ record (opening turn qp lent) { first = false; lent = 0; worker = worker; calls = []; ended = [] } =
+    is ∙ ap (λ (k : Known). record k { first = false; lent = 0; worker = worker; calls = []; ended = [] }) o in
+    subst (IsPassOf worker false turn qp) (sym all) (record {
+      turn_is = refl;
+      other = refl;
+      empty = refl;
+      alone = refl;
+      program = refl;
+      worker_is = refl;
+      own = All-nil (λ (c : Call). c.1.worker ≡ worker);
+      turns = tt;
+      kept = λ _. All-nil (λ (c : Call). is_drop c.1.kind ≡ false);
+    })

@@ -1,0 +1,7 @@
+pub mod SmallPrograms
+pub mod Holding
+pub mod Hands
+pub mod Joins
+pub mod Lasting
+pub mod Programs
+pub mod Splits

@@ -1,0 +1,49 @@
+-- Matrices of tests.
+use Rattle.std.proofs.Common.{◌≡◌, ℕ, ◌<◌, List, [], ◌∷◌, length, get_or, set, All, pos, refl, sym, ◌∙◌, ap, subst, arith}
+use Rattle.std.proofs.lemmas.List.{length-replicate, get_or-replicate, length-set}
+use Rattle.std.proofs.lemmas.List.Elements.{All-set, All-from_recursion}
+use Rattle.mpc_exact.specs.Rational.{ℚ, int, ◌+ℚ◌, ◌*ℚ◌, ◌<ℚ◌, IsPositive}
+use Rattle.mpc_exact.proofs.RationalOrder.{positive-mul}
+use Rattle.mpc_exact.proofs.OrderLaws.{positive_square}
+use Rattle.mpc_exact.proofs.RationalRing.{reads, by_ring}
+use Rattle.mpc_space.specs.Vector.{cell, zeros, quadratic}
+use Rattle.mpc_space.specs.Matrix.{RationalMatrix, height, IsRectangular, entry}
+use Rattle.mpc_space.specs.Definite.{IsDefinite}
+use Rattle.mpc_linear.specs.Entries.{with_entry, zero_matrix}
+use Rattle.mpc_linear.specs.Shape.{HasShape}
+
+pub shape_zero : (m : RationalMatrix) (n w : ℕ) → m ≡ zero_matrix n w → HasShape m n w
+shape_zero m n w e = subst (λ z. HasShape z n w) (sym e) (record {
+  rows_are = length-replicate n (zeros w);
+  columns_are = refl;
+  rectangular = λ k d l. ap length (get_or-replicate n k (zeros w) d (omega (arith, length-replicate n (zeros w)))) ∙ length-replicate w (int (pos 0));
+})
+
+pub shape_kept : (m new : RationalMatrix) (n w i j : ℕ) (v : ℚ) → new ≡ with_entry m i j v → i < n → HasShape m n w → HasShape new n w
+shape_kept m new n w i j v e h s = subst (λ z. HasShape z n w) (sym e) (record {
+  rows_are = length-set m.rows i (set (get_or m.rows i []) j v) ∙ s.rows_are;
+  columns_are = s.columns_are;
+  rectangular = All-set (λ row. length row ≡ m.columns) m.rows i (set (get_or m.rows i []) j v) (length-set (get_or m.rows i []) j v ∙ s.rectangular i [] (omega (arith, s.rows_are))) s.rectangular;
+})
+
+-- a positive number as a matrix is definite
+form : (x y : ℚ) → x *ℚ (y *ℚ y) ≡ y *ℚ (x *ℚ y +ℚ int (pos 0)) +ℚ int (pos 0)
+form x y = by_ring (x ∷ y ∷ []) (search reads depth 30) (search reads depth 30) tt
+
+number_definite : (x : ℚ) → IsPositive x → IsDefinite ((x ∷ []) ∷ [])
+number_definite x p = record { positive = at }
+  where
+    at : (w : List ℚ) → length w ≡ 1 → (All (λ y. y ≡ int (pos 0)) w → ⊥) → int (pos 0) <ℚ quadratic ((x ∷ []) ∷ []) w
+    at [] e n = absurd (omega arith)
+    at (y ∷ z ∷ w) e n = absurd (omega arith)
+    at (y ∷ []) e n = subst IsPositive (form x y) (positive-mul p (positive_square y (λ k. n (All-from_recursion (λ y. y ≡ int (pos 0)) (y ∷ []) (k, tt)))))
+
+rows_definite : (rows : List (List ℚ)) → length rows ≡ 1 → length (get_or rows 0 []) ≡ 1 → IsPositive (cell rows 0 0) → IsDefinite rows
+rows_definite [] e k p = absurd (omega arith)
+rows_definite (row ∷ other ∷ rows) e k p = absurd (omega arith)
+rows_definite ([] ∷ []) e k p = absurd (omega arith)
+rows_definite ((x ∷ y ∷ row) ∷ []) e k p = absurd (omega arith)
+rows_definite ((x ∷ []) ∷ []) e k p = number_definite x p
+
+pub one_definite : (m : RationalMatrix) → height m ≡ 1 → m.columns ≡ 1 → IsRectangular m → IsPositive (entry m 0 0) → IsDefinite m.rows
+one_definite m e k r p = rows_definite m.rows e (r 0 [] (omega arith) ∙ k) p

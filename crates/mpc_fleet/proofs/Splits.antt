@@ -1,0 +1,47 @@
+-- Turns that are opened, and passes that are split off.
+use Rattle.std.proofs.Common.{◌≡◌, ◌≢◌, ℕ, ◌+◌, ◌<◌, ◌≤◌, List, [], ◌∷◌, ◌++◌, length, get_or, set, take, true, false, All, refl, sym, ap, ◌∙◌, subst, arith}
+use Rattle.std.proofs.lemmas.List.{take_more, take_all}
+use Rattle.mpc_rows.specs.declared.programs.Qp.{Qp}
+use Rattle.mpc_claim.specs.Board.{Board, opening as new_board}
+use Rattle.mpc_turn.specs.Known.{Known, TurnId, first_pass}
+use Rattle.mpc_workers.specs.Seats.{IsWorker}
+use Rattle.mpc_fleet.specs.Passes.{AtEach, opening, IsOpening, IsPassOf}
+use Rattle.mpc_fleet.proofs.Programs.{AtEachPlace, places_set, each_push, same_item}
+use Rattle.mpc_fleet.proofs.Hands.{split_off}
+
+-- ---- one turn more is opened
+pub opened_more : (turns new_turns : List TurnId) (programs : List Qp) (firsts new_firsts : List Known) (t : TurnId) (q : Qp) (p : Known) (r : Board) (i : ℕ) → p ≡ first_pass t r → r ≡ new_board q → i < length programs → q ≡ get_or programs i q
+    → new_turns ≡ turns ++ t ∷ [] → new_firsts ≡ firsts ++ p ∷ [] → AtEach (IsOpening 0) turns (take i programs) firsts → AtEach (IsOpening 0) new_turns (take (i + 1) programs) new_firsts
+opened_more turns new_turns programs firsts new_firsts t q p r i first board l program_is turns_is firsts_is a =
+    subst (λ (ts : List TurnId). AtEach (IsOpening 0) ts (take (i + 1) programs) new_firsts) (sym turns_is)
+    (subst (λ (ps : List Known). AtEach (IsOpening 0) (turns ++ t ∷ []) (take (i + 1) programs) ps) (sym firsts_is)
+    (subst (λ (qs : List Qp). AtEach (IsOpening 0) (turns ++ t ∷ []) qs (firsts ++ p ∷ [])) (sym (take_more programs i q l ∙ ap (λ (x : Qp). take i programs ++ x ∷ []) (sym program_is)))
+    (each_push (IsOpening 0) turns (take i programs) firsts t q p a (first ∙ ap (first_pass t) board))))
+
+-- ---- a pass is split off
+-- the passes before this place were split once more than the others
+abbrev pub IsSplit : ℕ → ℕ → ℕ → TurnId → Qp → Known → Type 0
+IsSplit before k j t q p = (j < k → IsOpening (before + 1) t q p) × (k ≤ j → IsOpening before t q p)
+
+module _ (turns : List TurnId) (programs : List Qp) (firsts : List Known) (before k : ℕ) (t : TurnId) (q : Qp) (f : Known) (l : k < length programs) (turn_is : t ≡ get_or turns k t) (program_is : q ≡ get_or programs k q) (a : AtEachPlace (IsSplit before k) turns programs firsts) where
+  pub still_first : get_or firsts k f ≡ opening t q before
+  still_first =
+      subst (λ (v : TurnId). IsOpening before v q (get_or firsts k f)) (sym turn_is)
+      (subst (λ (v : Qp). IsOpening before (get_or turns k t) v (get_or firsts k f)) (sym program_is) ((a.each k t q f l).1 (omega arith)))
+
+  pub split_more : (new : List Known) (x : Known) → new ≡ set firsts k x → x ≡ record (get_or firsts k f) { lent = (get_or firsts k f).lent + 1 } → AtEachPlace (IsSplit before (k + 1)) turns programs new
+  split_more new x is x_is =
+      places_set (IsSplit before k) (IsSplit before (k + 1)) turns programs firsts new k t q x is l turn_is program_is a
+      (λ j u r s apart h. (λ less. h.0 (omega (arith, less, apart)), λ not_less. h.1 (omega (arith, not_less))))
+      (λ _. x_is ∙ ap (λ (y : Known). record y { lent = y.lent + 1 }) still_first, λ not_less. absurd (omega (arith, not_less)))
+
+  pub given_more : (passes new : List Known) (p : Known) → p ≡ record (get_or firsts k f) { first = false; lent = 0; worker = before + 1; calls = []; ended = [] } → new ≡ passes ++ p ∷ []
+      → AtEach (IsPassOf (before + 1) false) (take k turns) (take k programs) passes → AtEach (IsPassOf (before + 1) false) (take (k + 1) turns) (take (k + 1) programs) new
+  given_more passes new p p_is is b =
+      let m = a.turns_are in
+      let turn_more : take (k + 1) turns ≡ take k turns ++ t ∷ [] = take_more turns k t (omega (arith, l, m)) ∙ ap (λ (x : TurnId). take k turns ++ x ∷ []) (sym turn_is) in
+      let program_more : take (k + 1) programs ≡ take k programs ++ q ∷ [] = take_more programs k q l ∙ ap (λ (x : Qp). take k programs ++ x ∷ []) (sym program_is) in
+      subst (λ (ts : List TurnId). AtEach (IsPassOf (before + 1) false) ts (take (k + 1) programs) new) (sym turn_more)
+      (subst (λ (qs : List Qp). AtEach (IsPassOf (before + 1) false) (take k turns ++ t ∷ []) qs new) (sym program_more)
+      (subst (λ (ps : List Known). AtEach (IsPassOf (before + 1) false) (take k turns ++ t ∷ []) (take k programs ++ q ∷ []) ps) (sym is)
+      (each_push (IsPassOf (before + 1) false) (take k turns) (take k programs) passes t q p b (split_off t q before (before + 1) (get_or firsts k f) p still_first p_is))))

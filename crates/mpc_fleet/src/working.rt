@@ -1,0 +1,335 @@
+//! What workers do.
+
+ghost use Rattle.std.specs.Prelude.{◌≡◌, ◌⊎◌, ℕ, ◌<◌, ◌≤◌, true, false, length, vec_len, Ok, OnOk, OnErr, All, slice_index_or};
+ghost use Rattle.mpc_space.specs.Definite.{IsDefinite};
+ghost use Rattle.mpc_space.specs.Matrix.{height};
+ghost use Rattle.mpc_sets.specs.RowSet.{IsSetOfRows};
+ghost use Rattle.mpc_rows.specs.declared.programs.Qp.{Qp as Program};
+ghost use Rattle.mpc_claim.specs.declared.events.EventKind.TheVariants.{Done, Drop};
+ghost use Rattle.mpc_claim.specs.declared.events.Tag.{Tag};
+ghost use Rattle.mpc_turn.specs.Known.{Known, EndedAs, InHand};
+ghost use Rattle.mpc_workers.specs.Seats.{HasEnd};
+ghost use Rattle.mpc_fleet.specs.declared.working.Found.TheVariants.{Ended as EndFound};
+ghost use Rattle.mpc_fleet.specs.declared.working.Round.TheVariants.{Worked as RoundWorked, Ended as RoundEnded};
+ghost use Rattle.mpc_fleet.specs.Passes.{AtEach, IsPassOf, SeeEnds};
+ghost use Rattle.mpc_fleet.specs.Seats.{AreNumbered, Ended, Fresh};
+
+use crate::seats::Seat;
+use crate::waiting::News;
+use mpc_claim::{Claimed, Ticket, claim_laws, legal_laws};
+use mpc_frac::NoMemory;
+use mpc_port::Gate;
+use mpc_region::examine;
+use mpc_rows::Qp;
+use mpc_turn::{Pass, Turn};
+use std::alloc::Global;
+use std::sync::Wait;
+use std::thread;
+use std::thread::Threads;
+
+/// The most workers of a pool.
+pub(crate) const MOST_WORKERS: u32 = 32;
+
+/// What a worker found at a program.
+#[derive(Clone, Copy, Drop)]
+pub enum Found {
+    /// A set, which it has delivered.
+    Worked,
+    /// All sets of the level are claimed.
+    Idle,
+    /// The program has come to its end.
+    Ended,
+}
+
+impl Found {
+    /// Have the programs before come to their end, and this one too?
+    fn ends_too(self, before: bool) -> bool
+        ensures { result ≡ true → (before ≡ true) × (self ≡ EndFound) }
+    {
+        before && matches!(self, Found::Ended)
+    }
+}
+
+/// What a worker found at several programs.
+#[derive(Clone, Copy, Drop)]
+pub enum Round {
+    /// A set of the program with this number, from 0, which it has delivered.
+    Worked(usize),
+    /// Nothing to claim now.
+    Idle,
+    /// All programs have come to their end.
+    Ended,
+}
+
+/// Examines a claimed set, passes the gate and delivers the verdict. Without memory the set is given up.
+fn work_on<T: Wait, G: Gate>(
+    rt: &T,
+    alloc: Global,
+    turn: &Turn,
+    gate: &G,
+    qp: &Qp,
+    pass: &mut Pass,
+    ticket: Ticket,
+) -> Result<(), NoMemory>
+    requires turn { pass.old.turn ≡ turn.now }
+    requires definite { IsDefinite qp.now.h.rows }
+    requires program { pass.old.program ≡ qp.now }
+    requires hand { InHand ticket pass.old }
+    requires set_of_rows { IsSetOfRows (height qp.now.g) ticket.set }
+    requires few { length ticket.set ≤ height qp.now.h }
+    ensures ok { OnOk result ((tag : Tag) × EndedAs pass.old ticket (Done tag) pass.new) }
+    ensures err { OnErr result (EndedAs pass.old ticket Drop pass.new) }
+{
+    let judged = match examine(alloc, qp, ticket.set()) {
+        Ok(judged) => judged,
+        Err(refused) => {
+            let _ = turn.abandon_as(rt, pass, ticket);
+            return Err(refused);
+        }
+    };
+    gate.between(ticket.worker(), ticket.set().mask());
+    let _ = turn.deliver_as(rt, pass, ticket, judged);
+    Ok(())
+}
+
+/// Claims at a program, and where it gets a set, wakes another worker, since there may be more of them, and works on it.
+fn try_program<T: Wait, G: Gate>(
+    rt: &T,
+    alloc: Global,
+    turn: &Turn,
+    gate: &G,
+    qp: &Qp,
+    news: &News,
+    _worker: u32,
+    pass: &mut Pass,
+) -> Result<Found, NoMemory>
+    requires definite { IsDefinite qp.now.h.rows }
+    requires pass { IsPassOf _worker false turn.now qp.now pass.old }
+    ensures ok { OnOk result (IsPassOf _worker false turn.now qp.now pass.new) }
+    ensures err { OnErr result (IsPassOf _worker true turn.now qp.now pass.new) }
+    ensures ended { result ≡ Ok EndFound → HasEnd qp.now pass.new.seen }
+{
+    legal_laws();
+    claim_laws();
+    match turn.claim_as(rt, pass) {
+        Ok(Claimed::Job(ticket)) => {
+            news.wake_another();
+            match work_on(rt, alloc, turn, gate, qp, pass, ticket) {
+                Ok(()) => Ok(Found::Worked),
+                Err(refused) => Err(refused),
+            }
+        }
+        Ok(Claimed::Idle) => Ok(Found::Idle),
+        Ok(Claimed::Finished) => Ok(Found::Ended),
+        Ok(Claimed::Stopped) => Ok(Found::Ended),
+        Err(refused) => Err(refused),
+    }
+}
+
+/// Tries the programs from one number up to another, until one gives a set.
+fn try_from<T: Wait, G: Gate>(
+    rt: &T,
+    alloc: Global,
+    turns: &[Turn],
+    gate: &G,
+    programs: &[Qp],
+    news: &News,
+    worker: u32,
+    passes: &mut [Pass],
+    low: usize,
+    high: usize,
+) -> Result<Round, NoMemory>
+    requires definite { All (λ (qp : Program). IsDefinite qp.h.rows) programs.now }
+    requires low { low ≤ high }
+    requires high { high ≤ length programs.now }
+    requires passes { AtEach (IsPassOf worker false) turns.now programs.now passes.old }
+    ensures ok { OnOk result (AtEach (IsPassOf worker false) turns.now programs.now passes.new) }
+    ensures err { OnErr result (AtEach (IsPassOf worker true) turns.now programs.now passes.new) }
+    ensures worked { (k : ℕ) → result ≡ Ok (RoundWorked k) → k < length programs.now }
+    ensures ended { result ≡ Ok RoundEnded → SeeEnds programs.now passes.new low high }
+    ensures others { (k : ℕ) (p : Known) → (k < low) ⊎ (high ≤ k) → slice_index_or passes.new k p ≡ slice_index_or passes.old k p }
+{
+    let mut ended = true;
+    for k in low..high {
+        match try_program(
+            rt,
+            alloc,
+            &turns[k],
+            gate,
+            &programs[k],
+            news,
+            worker,
+            &mut passes[k],
+        ) {
+            Ok(Found::Worked) => return Ok(Round::Worked(k)),
+            Ok(found) => ended = found.ends_too(ended),
+            Err(refused) => return Err(refused),
+        }
+    }
+    if ended {
+        Ok(Round::Ended)
+    } else {
+        Ok(Round::Idle)
+    }
+}
+
+/// Tries all programs, from this number on and round, until one gives a set.
+fn try_all<T: Wait, G: Gate>(
+    rt: &T,
+    alloc: Global,
+    turns: &[Turn],
+    gate: &G,
+    programs: &[Qp],
+    news: &News,
+    worker: u32,
+    passes: &mut [Pass],
+    from: usize,
+) -> Result<Round, NoMemory>
+    requires definite { All (λ (qp : Program). IsDefinite qp.h.rows) programs.now }
+    requires from { from ≤ length programs.now }
+    requires passes { AtEach (IsPassOf worker false) turns.now programs.now passes.old }
+    ensures ok { OnOk result (AtEach (IsPassOf worker false) turns.now programs.now passes.new) }
+    ensures err { OnErr result (AtEach (IsPassOf worker true) turns.now programs.now passes.new) }
+    ensures worked { (k : ℕ) → result ≡ Ok (RoundWorked k) → k < length programs.now }
+    ensures ended { result ≡ Ok RoundEnded → SeeEnds programs.now passes.new 0 (length programs.now) }
+{
+    let last = programs.len();
+    match try_from(
+        rt, alloc, turns, gate, programs, news, worker, passes, from, last,
+    ) {
+        Ok(Round::Worked(k)) => Ok(Round::Worked(k)),
+        Ok(Round::Idle) => {
+            match try_from(
+                rt, alloc, turns, gate, programs, news, worker, passes, 0, from,
+            ) {
+                Ok(Round::Worked(k)) => Ok(Round::Worked(k)),
+                Ok(_) => Ok(Round::Idle),
+                Err(refused) => Err(refused),
+            }
+        }
+        Ok(Round::Ended) => {
+            try_from(
+                rt, alloc, turns, gate, programs, news, worker, passes, 0, from,
+            )
+        }
+        Err(refused) => Err(refused),
+    }
+}
+
+/// Claims, examines and delivers until all programs have come to their end or memory is refused, at each step from the last program on. Where
+/// no program has a set to claim, the worker sleeps.
+fn work<T: Wait, G: Gate>(
+    rt: &T,
+    alloc: Global,
+    turns: &[Turn],
+    gate: &G,
+    programs: &[Qp],
+    news: &News,
+    _workers: u32,
+    seat: &mut Seat,
+)
+    requires definite { All (λ (qp : Program). IsDefinite qp.h.rows) programs.now }
+    requires fresh { Fresh turns.now programs.now _workers seat.old }
+    ensures ended { Ended turns.now programs.now _workers seat.new }
+    ensures worker { seat.new.worker ≡ seat.old.worker }
+{
+    let mut at = 0;
+    for _ in rt.forever() {
+        let heard = news.heard();
+        let passes = seat.passes.as_mut_slice();
+        match try_all(
+            rt,
+            alloc,
+            turns,
+            gate,
+            programs,
+            news,
+            seat.worker,
+            passes,
+            at,
+        ) {
+            Ok(Round::Worked(k)) => at = k,
+            Ok(Round::Idle) => news.sleep(rt, heard),
+            Ok(Round::Ended) => return,
+            Err(_) => {
+                seat.failed = true;
+                return;
+            }
+        }
+    }
+    unreachable!()
+}
+
+/// Works to the end, and wakes the others there, who end too.
+fn work_and_wake<T: Wait, G: Gate>(
+    rt: &T,
+    alloc: Global,
+    turns: &[Turn],
+    gate: &G,
+    programs: &[Qp],
+    news: &News,
+    workers: u32,
+    seat: &mut Seat,
+)
+    requires definite { All (λ (qp : Program). IsDefinite qp.h.rows) programs.now }
+    requires fresh { Fresh turns.now programs.now workers seat.old }
+    ensures ended { Ended turns.now programs.now workers seat.new }
+    ensures worker { seat.new.worker ≡ seat.old.worker }
+{
+    work(rt, alloc, turns, gate, programs, news, workers, seat);
+    news.wake_all();
+}
+
+/// All seats at once.
+pub(crate) fn work_all<T: Threads + Wait + Sync, G: Gate + Sync>(
+    rt: &T,
+    alloc: Global,
+    turns: &[Turn],
+    gate: &G,
+    programs: &[Qp],
+    workers: u32,
+    seats: &mut [Seat],
+)
+    requires definite { All (λ (qp : Program). IsDefinite qp.h.rows) programs.now }
+    requires fresh { All (Fresh turns.now programs.now workers) seats.old }
+    requires numbered { AreNumbered seats.old }
+    ensures len { length seats.new ≡ length seats.old }
+    ensures ended { All (Ended turns.now programs.now workers) seats.new }
+    ensures numbered { AreNumbered seats.new }
+{
+    let news = News::new();
+    thread::for_each_mut(
+        rt,
+        seats,
+        MOST_WORKERS as usize,
+        &|_, seat| work_and_wake(rt, alloc, turns, gate, programs, &news, workers, seat),
+    );
+}
+
+/// The same of a `Vec`.
+pub(crate) fn work_in<T: Threads + Wait + Sync, G: Gate + Sync>(
+    rt: &T,
+    alloc: Global,
+    turns: &[Turn],
+    gate: &G,
+    programs: &[Qp],
+    workers: u32,
+    seats: &mut Vec<Seat>,
+)
+    requires definite { All (λ (qp : Program). IsDefinite qp.h.rows) programs.now }
+    requires fresh { All (Fresh turns.now programs.now workers) seats.old.items }
+    requires numbered { AreNumbered seats.old.items }
+    ensures len { vec_len seats.new ≡ vec_len seats.old }
+    ensures ended { All (Ended turns.now programs.now workers) seats.new.items }
+    ensures numbered { AreNumbered seats.new.items }
+{
+    work_all(
+        rt,
+        alloc,
+        turns,
+        gate,
+        programs,
+        workers,
+        seats.as_mut_slice(),
+    );
+}
