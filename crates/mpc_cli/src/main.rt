@@ -5,24 +5,12 @@
 //! `mpc compile` reads the file of a plant and writes the file of its controller; `mpc trace` reads
 //! the file of a plant and writes how its active sets were claimed and decided. Both take
 //! `--workers W`, with W from 1 to 32. `mpc check` checks the file of a controller, `mpc reply` writes
-//! the controller's replies to recorded states, and `mpc convert` its file in the newest version.
+//! the controller's replies to recorded states, and `mpc convert` its file in the newest version. `mpc drill S`
+//! reads nothing and counts what is made for one plant of a family, with S from 0 to 95.
 #![tactic(auto)]
 
-mod answer;
-mod commands;
-mod file_answers;
-mod histories;
-mod laws;
-mod requests;
-mod run;
-mod spots;
-mod status;
-#[cfg(test)]
-mod tests;
-mod text;
-mod tracing;
-
 use mpc_port::{HostSink, HostSource, OpenGate};
+use mpc_top::run;
 use std::alloc::Global;
 use std::process::ExitCode;
 use std::rt::Env;
@@ -47,6 +35,6 @@ fn main(rt: HostRuntime) -> ExitCode {
     };
     let mut source = HostSource::new(rt.reader());
     let mut sink = HostSink::new(rt.stdout());
-    let status = run::run(&rt, rt.alloc(), &words, &mut source, &mut sink, &OpenGate);
+    let status = run(&rt, rt.alloc(), &words, &mut source, &mut sink, &OpenGate);
     ExitCode::from(status.code())
 }

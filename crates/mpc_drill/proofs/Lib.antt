@@ -1,0 +1,5 @@
+pub mod TreeLemmas
+pub mod ClaimLemmas
+pub mod PlantLemmas
+pub mod DrillLemmas
+pub mod TextLemmas

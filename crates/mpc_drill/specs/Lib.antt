@@ -1,0 +1,3 @@
+pub mod DrillPlant
+pub mod SearchTree
+pub mod Drills

@@ -1,0 +1,4 @@
+pub mod SectionLemmas
+pub mod SamePlant
+pub mod OneAnswer
+pub mod StepLemmas

@@ -1,0 +1,24 @@
+use Rattle.std.proofs.Common.{◌<◌, length, vec_len, arith}
+use Rattle.mpc_sections.specs.Sections.{sections_of}
+use Rattle.mpc_sections.proofs.StepLemmas.{answering_none, answering_next, answering_few, answering_all, taken_first, registry_of, not_empty}
+use Rattle.mpc_sections.proofs.fleet_answers.answer_all.Goals as goal
+
+pub sections-init : goal.sections-init
+sections-init c = answering_none (sections_of c.args._input.now) c.new-text.result.items c.args.begun.items c.args.registries.items c.new-text.ensures.items c.requires.begun
+
+pub answer_one-requires : goal.answer_one-requires
+answer_one-requires c =
+    let some = not_empty (vec_len c.sections.begun) c.is_empty.result c.is_empty.ensures c.sections-test.true in
+    let counted = c.sections.begun.ok in
+    let more : 0 < length c.sections.begun.items = omega (arith, some, counted) in
+    registry_of c.sections.invariant.left c.sections.begun.items c.sections.registries.items c.sections.invariant.begins c.remove-first.result c.remove-first.new.self.items
+    (taken_first c.sections.begun.items c.remove-first.new.self.items c.remove-first.result c.remove-first.ensures.value c.remove-first.ensures.items more)
+
+pub sections-preserved : goal.sections-preserved
+sections-preserved c =
+    let some = not_empty (vec_len c.sections.begun) c.is_empty.result c.is_empty.ensures c.sections-test.true in
+    let counted = c.sections.begun.ok in
+    let more : 0 < length c.sections.begun.items = omega (arith, some, counted) in
+    answering_next (sections_of c.args._input.now) c.sections.number c.sections.text.items c.add_answer.new.text.items c.sections.begun.items c.remove-first.new.self.items c.sections.registries.items c.answer_one.new.registries.items c.remove-first.result
+    c.in_ok-answer.answer.status c.in_ok-answer.answer.text.items c.sections.invariant
+    (taken_first c.sections.begun.items c.remove-first.new.self.items c.remove-first.result c.remove-first.ensures.value c.remove-first.ensures.items more) c.in_ok-answer.ensures c.in_ok-add_answer.ensures

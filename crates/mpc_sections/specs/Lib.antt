@@ -1,0 +1,4 @@
+pub mod Sections
+pub mod Alone
+pub mod Steps
+pub mod Outcomes

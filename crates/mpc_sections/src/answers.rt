@@ -1,0 +1,115 @@
+//! The answer to a section by itself.
+
+ghost use Rattle.std.specs.Prelude.{◌≡◌, ◌++◌, ℕ, true, IfOk, IfErr, OnOk, MatchOption};
+ghost use Rattle.mpc_rows.specs.declared.programs.Qp.{Qp};
+ghost use Rattle.mpc_rows.specs.declared.verdicts.Verdict.TheVariants.{Wide};
+ghost use Rattle.mpc_claim.specs.declared.events.Phase.TheVariants.{Finished};
+ghost use Rattle.mpc_claim.specs.Board.{is_wide};
+ghost use Rattle.mpc_claim.specs.Answers.{IsFirstBad};
+ghost use Rattle.mpc_workers.specs.Seats.{IsDone};
+ghost use Rattle.mpc_synthesis.specs.Controllers.{IsController};
+ghost use Rattle.mpc_synthesis.specs.Refusals.{controller, ExplainsSynthesisError};
+ghost use Rattle.mpc_status.specs.StatusText.{line_of};
+ghost use Rattle.mpc_sections.specs.Alone.{IsPlantAnswer, heading};
+ghost use Rattle.mpc_sections.specs.Steps.{IsExamined};
+
+use mpc_claim::{Phase, Registry, legal_laws};
+use mpc_controller::Controller;
+use mpc_file::write_file;
+use mpc_frac::NoMemory;
+use mpc_plant::Plant;
+use mpc_rows::{Place, Verdict};
+use mpc_status::Status;
+use mpc_synthesis::{SynthesisError, controller_of};
+use mpc_text::{add_number, add_text};
+use std::alloc::Global;
+
+/// A status, and the file or the line that is to be written.
+#[derive(Drop)]
+pub struct Answer {
+    pub status: Status,
+    pub text: Vec<u8>,
+}
+
+/// A status with its line.
+pub(crate) fn refusal(alloc: Global, status: Status) -> Result<Answer, NoMemory>
+    ensures status { IfOk result (λ answer. answer.status ≡ status) }
+    ensures text { IfOk result (λ answer. answer.text.items ≡ line_of status) }
+{
+    let text = status.line(alloc)?;
+    Ok(Answer { status, text })
+}
+
+/// The place that a wide verdict names.
+fn place_of(verdict: &Verdict) -> Place
+    requires { is_wide verdict.now ≡ true }
+    ensures { verdict.now ≡ Wide result }
+{
+    match verdict {
+        Verdict::Wide(place) => *place,
+        _ => unreachable!(),
+    }
+}
+
+/// The first place that is too wide, where the registry's workers came to one.
+fn wide_place(registry: &Registry) -> Option<Place>
+    requires { (workers : ℕ) × (qp : Qp) × IsDone qp workers registry.now }
+    ensures { MatchOption result (registry.now.phase ≡ Finished)
+        (λ place. IsFirstBad registry.now.program (Wide place)) }
+{
+    match registry.phase() {
+        Phase::Finished => None,
+        Phase::Working | Phase::Stopped => match registry.first_bad() {
+            Some(verdict) => Some(place_of(verdict)),
+            None => unreachable!(),
+        },
+    }
+}
+
+/// The controller of a plant whose candidates are examined.
+fn controller_from(
+    alloc: Global,
+    plant: Plant,
+    registry: Registry,
+) -> Result<Controller, SynthesisError>
+    requires { IsExamined plant registry }
+    ensures controller { IfOk result (λ parts. (qp : Qp) × IsController plant qp parts) }
+    ensures refused { IfErr result (ExplainsSynthesisError controller plant) }
+{
+    legal_laws();
+    match wide_place(&registry) {
+        Some(place) => Err(SynthesisError::TooWide(place)),
+        None => controller_of(alloc, plant, registry),
+    }
+}
+
+/// The answer to a plant whose candidates are examined: the file of its controller, or why it has none.
+pub(crate) fn compiled(alloc: Global, plant: Plant, registry: Registry) -> Result<Answer, NoMemory>
+    requires { IsExamined plant registry }
+    ensures { IfOk result (λ answer. IsPlantAnswer plant answer.status answer.text.items) }
+{
+    match controller_from(alloc, plant, registry) {
+        Ok(parts) => {
+            let text = write_file(alloc, &parts)?;
+            Ok(Answer {
+                status: Status::Done,
+                text,
+            })
+        }
+        Err(SynthesisError::NotDefinite(pivot)) => refusal(alloc, Status::NotDefinite(pivot)),
+        Err(SynthesisError::TooWide(place)) => refusal(alloc, Status::TooWide(place)),
+        Err(SynthesisError::NoMemory) => Err(NoMemory),
+    }
+}
+
+/// Puts the answer to the section with this number under its heading behind the text.
+pub(crate) fn add_answer(text: &mut Vec<u8>, number: u64, answer: &Answer) -> Result<(), NoMemory>
+    ensures { OnOk result (text.new.items ≡ text.old.items ++ (heading number answer.now.status ++ answer.now.text.items)) }
+{
+    add_text(text, b"plant ")?;
+    add_number(text, number)?;
+    add_text(text, b" ")?;
+    add_number(text, u64::from(answer.status.code()))?;
+    add_text(text, b"\n")?;
+    add_text(text, &answer.text)
+}

@@ -1,0 +1,15 @@
+//! Several plants in one input: each section by itself has its answer, and one pool of workers makes all of them.
+#![tactic(auto)]
+
+mod answers;
+mod beginnings;
+mod errors;
+mod fleet_answers;
+mod laws;
+mod sections;
+#[cfg(test)]
+mod tests;
+
+pub use errors::SectionsError;
+pub use fleet_answers::fleet;
+pub use laws::one_answer;

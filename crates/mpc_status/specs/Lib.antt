@@ -1,0 +1,3 @@
+pub mod SpotText
+pub mod LateText
+pub mod StatusText

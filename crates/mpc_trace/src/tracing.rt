@@ -1,0 +1,22 @@
+//! The history in which a plant's active sets are claimed and decided.
+
+ghost use Rattle.std.specs.Prelude.{ℕ, IfOk};
+ghost use Rattle.mpc_plant.specs.declared.plants.Plant.{Plant};
+ghost use Rattle.mpc_synthesis.specs.Programs.{IsDecidedBy};
+ghost use Rattle.mpc_trace.specs.Histories.{IsTraceOf};
+
+use crate::histories::history_lines;
+use mpc_claim::{Registry, history_laws, legal_laws};
+use mpc_frac::NoMemory;
+use std::alloc::Global;
+
+/// The text of the history in which a plant's candidates were decided.
+pub fn trace(alloc: Global, registry: &Registry) -> Result<Vec<u8>, NoMemory>
+    ensures { IfOk result (λ text. (workers : ℕ) (plant : Plant) → IsDecidedBy workers plant registry.now
+        → IsTraceOf workers plant text.items) }
+{
+    legal_laws();
+    history_laws();
+    let text = history_lines(alloc, registry.history())?;
+    Ok(text)
+}
