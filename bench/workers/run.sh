@@ -1,14 +1,29 @@
 #!/bin/sh
 # Plays rounds of `trace` and `compile` with 2, 8 and 32 workers, judges each history and compares each file with that of one worker, and
-# times `trace`: with 1, 2 and 4 workers on larger plants, and with up to 32 on plants with few sets. The word is the number of rounds (200).
+# times `trace`: with 1, 2 and 4 workers on larger plants, and with 1, 8 and 32 on plants of few sets. Then it compares `fleet` on several
+# plants with `compile` on one after the other, and times both. The words, each of which may be left out from the last one on: the number of
+# rounds (200; with 0 it only times), the program (that which `mpc` proves and builds) and plants (which are then timed with 1, 2, 4, 8 and 32
+# workers in place of those here).
 set -e
 here=$(cd "$(dirname "$0")" && pwd)
 top="$here/../.."
 plants="$here/../compile/plants"
-# Without words the program only says how it is used; it is proved and built before that.
-"$top/mpc" < /dev/null > /dev/null 2>&1 || true
+rounds=${1:-200}
+program=${2:-}
+if [ -z "$program" ]; then
+    # Without words the program only says how it is used; it is proved and built before that.
+    "$top/mpc" < /dev/null > /dev/null 2>&1 || true
+    program="$top/crates/mpc_cli/out/mpc_cli"
+fi
 export PYTHONDONTWRITEBYTECODE=1
-program="$top/crates/mpc_cli/out/mpc_cli"
-python3 "$here/rounds.py" "$program" "${1:-200}" "$plants"/*.txt "$here"/plants/triple_integrator_6.json
-python3 "$here/times.py" "$program" 5 1,2,4 "$here"/plants/*.json
-python3 "$here/times.py" "$program" 20 1,2,8,32 "$top"/examples/scalar/plant.json "$plants"/motor.txt "$plants"/pendulum.txt "$plants"/two_rooms.txt
+if [ "$rounds" -gt 0 ]; then
+    python3 "$here/rounds.py" "$program" "$rounds" "$plants"/*.txt "$here"/plants/triple_integrator_6.json
+fi
+if [ $# -gt 2 ]; then
+    shift 2
+    exec python3 "$here/times.py" "$program" 10 1,2,4,8,32 "$@"
+fi
+python3 "$here/times.py" "$program" 7 1,2,4 "$here"/plants/*.json
+python3 "$here/times.py" "$program" 40 1,8,32 "$top"/examples/scalar/plant.json "$plants"/two_rooms.txt "$plants"/motor.txt "$plants"/pendulum.txt "$plants"/drill*.txt
+python3 "$here/fleet.py" "$program" 5 1,2,4 "$plants"/motor.txt "$plants"/pendulum.txt "$plants"/two_rooms.txt "$plants"/two_tanks.txt
+python3 "$here/fleet.py" "$program" 5 1,2,4 "$here"/plants/*.json

@@ -1,0 +1,46 @@
+"""Times `compile` on some of the processors, and `trace`, which ends where the tree begins. The words are the program, the number of runs, the
+workers that decide the active sets, the lists of processors (as 0,1 or 0-3, the first with one alone), and the plants."""
+
+import subprocess
+import sys
+import time
+from pathlib import Path
+
+
+def seconds(program, plant, processors, command, workers):
+    words = [command] if workers == 1 else [command, "--workers", str(workers)]
+    begin = time.perf_counter()
+    done = subprocess.run(["taskset", "-c", processors, program, *words], input=plant, capture_output=True, timeout=600)
+    took = time.perf_counter() - begin
+    if done.returncode != 0:
+        sys.exit(f"{' '.join(words)}: status {done.returncode}: {done.stderr.decode()}")
+    return took, done.stdout
+
+
+def main():
+    program, runs, workers = sys.argv[1], int(sys.argv[2]), int(sys.argv[3])
+    lists = [word for word in sys.argv[4:] if not Path(word).exists()]
+    print("plant | laws | nodes | " + " | ".join(f"on {p}: compile, behind trace" for p in lists))
+    for file in sys.argv[4 + len(lists) :]:
+        plant = Path(file).read_text().split("\nstates\n")[0].encode()
+        least = {(command, p): float("inf") for command in ("trace", "compile") for p in lists}
+        texts = set()
+        for _ in range(runs):
+            for command, processors in least:
+                took, text = seconds(program, plant, processors, command, workers)
+                least[command, processors] = min(least[command, processors], took)
+                if command == "compile":
+                    texts.add(text)
+        if len(texts) != 1:
+            sys.exit(f"{file}: the file differs from run to run")
+        lines = texts.pop().decode().splitlines()
+        nodes = sum(line.split(" ")[0] in ("split", "leaf", "none") for line in lines[lines.index("tree") :]) if "tree" in lines else 0
+        laws = next((line.split(" ")[1] for line in lines if line.startswith("laws ")), "?")
+        whole = [least["compile", p] for p in lists]
+        tree = [least["compile", p] - least["trace", p] for p in lists]
+        shown = " | ".join(f"{w:.3f} s, {t:.3f} s ({tree[0] / t:.2f})" for w, t in zip(whole, tree))
+        print(f"{Path(file).stem} | {laws} | {nodes} | {shown}", flush=True)
+
+
+if __name__ == "__main__":
+    main()
