@@ -1,7 +1,7 @@
--- Where all numbers of a position lie over one denominator and are small enough, no operation at that position is wide.
+-- Where the numbers of each row of a position lie over one denominator of that row and are small enough, no operation at that position is wide.
 use Rattle.std.proofs.Common.{◌≡◌, ◌≢◌, ℕ, zero, suc, ◌+◌, ◌*◌, ◌^◌, ◌<◌, ◌≤◌, false, ℤ, pos, negsuc, ◌+ℤ◌, ◌*ℤ◌, neg_ℤ, unsigned_abs, [], ◌∷◌, refl, sym, ◌∙◌, ap, subst, subst₂, arith, mul-pos, mul-le-mul_right, mul-le-mul_left, le_trans, lit<, zero-lt-suc}
 use Rattle.std.proofs.lemmas.Bool.{both_ways}
-use Rattle.mpc_exact.specs.Rational.{ℚ, frac, int, ◌+ℚ◌, ◌*ℚ◌, neg_ℚ, inv_ℚ}
+use Rattle.mpc_exact.specs.Rational.{ℚ, frac, int, ◌+ℚ◌, ◌*ℚ◌, neg_ℚ, inv_ℚ, upside_down}
 use Rattle.mpc_exact.proofs.Rational.{same_frac, frac-mul, frac-neg}
 use Rattle.mpc_exact.proofs.School.{frac_inv}
 use Rattle.mpc_exact.proofs.IntRing.{int_reads, by_ring_ℤ}
@@ -48,6 +48,13 @@ ratio_is a (negsuc c) d h some =
     ap (λ u. frac a d *ℚ u) (frac_inv (negsuc c) d some h) ∙ frac-mul a d (neg_ℤ (pos d)) (suc c) h (zero-lt-suc c)
     ∙ same_frac (a *ℤ neg_ℤ (pos d)) (d * suc c) (neg_ℤ a) (suc c) (mul-pos h (zero-lt-suc c)) (zero-lt-suc c) (moved_across_negative a (pos d) (pos (suc c)))
 
+inverse_of : (q : ℤ) (d : ℕ) → upside_down q d ≡ frac (turned q (pos d)) (unsigned_abs q)
+inverse_of (pos n) d = refl
+inverse_of (negsuc n) d = refl
+
+pub inverse_is : (q : ℤ) (d : ℕ) → 0 < d → q ≢ pos 0 → inv_ℚ (frac q d) ≡ frac (turned q (pos d)) (unsigned_abs q)
+inverse_is q d h some = frac_inv q d some h ∙ inverse_of q d
+
 pub over_not_zero : {d m : ℕ} {x : ℚ} → 0 < d → (o : Over d m x) → x ≢ int (pos 0) → o.at ≢ pos 0
 over_not_zero {d} some o h e = h (o.is ∙ ap (λ z. frac z d) e ∙ zero_over d some)
 
@@ -66,37 +73,34 @@ one_room n y b h k = let e : suc y * b ≤ n * b = mul-le-mul_right b k in omega
 expanded : (z m d : ℤ) → z *ℤ (d *ℤ m) ≡ (z *ℤ m) *ℤ d
 expanded z m d = by_ring_ℤ (z ∷ m ∷ d ∷ []) (search int_reads depth 30) (search int_reads depth 30) tt
 
-module _ (s : LinearSystem) (p : Position) (d : ℕ) (some : 0 < d) (small : d ≤ 2 ^ 62)
-    (entries : (x y : ℕ) → x < count s → y < count s → Over d (2 ^ 62) (p.coefficient x y)) where
-  d_top : d < 2 ^ 127
-  d_top = omega arith
+module _ (s : LinearSystem) (p : Position) (d : ℕ → ℕ) (some : (x : ℕ) → x < count s → 0 < d x) (small : (x : ℕ) → x < count s → d x ≤ 2 ^ 62)
+    (entries : (x y : ℕ) → x < count s → y < count s → Over (d x) (2 ^ 62) (p.coefficient x y)) where
+  d_top : (x : ℕ) → x < count s → d x < 2 ^ 127
+  d_top x k = let h = small x k in omega arith
 
   -- ---- values, where r says where the nonbasic variables stand
-  module _ (b : ℕ) (room : count s * b ≤ 2 ^ 62) (r : ℕ → ℚ) (rests : (y : ℕ) → y < count s → Over 1 b (r y)) (x : ℕ) (x_in : x < count s) where
-    product_over : (y : ℕ) → y < count s → Over d (2 ^ 62 * b) (p.coefficient x y *ℚ r y)
-    product_over y h =
-        let o = entries x y x_in h in
-        let q = rests y h in
-        record { at = o.at *ℤ q.at; is = (λ i. o.is i *ℚ q.is i) ∙ times_int o.at q.at d some; size = product_at_most o.at q.at (2 ^ 62) b o.size q.size }
+  module _ (b : ℕ) (room : count s * b ≤ 2 ^ 62) (r : ℕ → ℚ) (products : (x y : ℕ) → x < count s → y < count s → Over (d x) (2 ^ 62 * b) (p.coefficient x y *ℚ r y)) (x : ℕ) (x_in : x < count s) where
+    product_over : (y : ℕ) → y < count s → Over (d x) (2 ^ 62 * b) (p.coefficient x y *ℚ r y)
+    product_over y h = products x y x_in h
 
-    sum_over : (y : ℕ) → y ≤ count s → Over d (y * (2 ^ 62 * b)) (total y (λ z. p.coefficient x z *ℚ r z))
-    sum_over zero h = record { at = pos 0; is = total-zero (λ z. p.coefficient x z *ℚ r z) ∙ sym (zero_over d some); size = omega arith }
+    sum_over : (y : ℕ) → y ≤ count s → Over (d x) (y * (2 ^ 62 * b)) (total y (λ z. p.coefficient x z *ℚ r z))
+    sum_over zero h = record { at = pos 0; is = total-zero (λ z. p.coefficient x z *ℚ r z) ∙ sym (zero_over (d x) (some x x_in)); size = omega arith }
     sum_over (suc y) h =
         let o = sum_over y (omega arith) in
         let q = product_over y h in
         record {
           at = o.at +ℤ q.at;
-          is = total-suc y (λ z. p.coefficient x z *ℚ r z) ∙ (λ i. o.is i +ℚ q.is i) ∙ frac_sum o.at q.at d some;
+          is = total-suc y (λ z. p.coefficient x z *ℚ r z) ∙ (λ i. o.is i +ℚ q.is i) ∙ frac_sum o.at q.at (d x) (some x x_in);
           size = let a = abs-sum o.at q.at in let k = o.size in let l = q.size in omega arith;
         }
 
     product_fits : (y : ℕ) → y < count s → FitsFrac (p.coefficient x y *ℚ r y)
-    product_fits y h = over_fits some d_top (product_over y h) (one_room (count s) y b room h)
+    product_fits y h = over_fits (some x x_in) (d_top x x_in) (product_over y h) (one_room (count s) y b room h)
 
     sum_fits : (y : ℕ) → y < count s → FitsSum (total y (λ z. p.coefficient x z *ℚ r z)) (p.coefficient x y *ℚ r y)
-    sum_fits y h = over_sum_fits some d_top (sum_over y (omega arith)) (product_over y h) (product_room (count s) y b room h)
+    sum_fits y h = over_sum_fits (some x x_in) (d_top x x_in) (sum_over y (omega arith)) (product_over y h) (product_room (count s) y b room h)
 
-  module _ (b : ℕ) (room : count s * b ≤ 2 ^ 62) (firsts : (y : ℕ) → y < count s → Over 1 b (rest s y).first) (seconds : (y : ℕ) → y < count s → Over 1 b (rest s y).second) where
+  module _ (b : ℕ) (room : count s * b ≤ 2 ^ 62) (firsts : (x y : ℕ) → x < count s → y < count s → Over (d x) (2 ^ 62 * b) (p.coefficient x y *ℚ (rest s y).first)) (seconds : (x y : ℕ) → x < count s → y < count s → Over (d x) (2 ^ 62 * b) (p.coefficient x y *ℚ (rest s y).second)) where
     pub norm_values : ValuesFit s (count s) p
     norm_values = record {
       values = λ x h basic. record {
@@ -111,7 +115,7 @@ module _ (s : LinearSystem) (p : Position) (d : ℕ) (some : 0 < d) (small : d �
 
   -- ---- a pivot
   module _ (l e : ℕ) (g : Goes s p l e) where
-    at_l : (y : ℕ) → y < count s → Over d (2 ^ 62) (p.coefficient l y)
+    at_l : (y : ℕ) → y < count s → Over (d l) (2 ^ 62) (p.coefficient l y)
     at_l y h = entries l y g.leaves.below h
 
     q : ℤ
@@ -119,7 +123,7 @@ module _ (s : LinearSystem) (p : Position) (d : ℕ) (some : 0 < d) (small : d �
 
     q_some : q ≢ pos 0
     unfolding q
-    q_some = over_not_zero some (at_l e g.below) g.eligible.some
+    q_some = over_not_zero (some l g.leaves.below) (at_l e g.below) g.eligible.some
 
     size : ℕ
     size = unsigned_abs q
@@ -132,15 +136,15 @@ module _ (s : LinearSystem) (p : Position) (d : ℕ) (some : 0 < d) (small : d �
     unfolding size q
     size_small = (at_l e g.below).size
 
-    times_size : (x : ℚ) (o : Over d (2 ^ 62) x) → x *ℚ inv_ℚ (p.coefficient l e) ≡ frac (turned q o.at) size
+    times_size : (x : ℚ) (o : Over (d l) (2 ^ 62) x) → x *ℚ inv_ℚ (p.coefficient l e) ≡ frac (turned q o.at) size
     unfolding size q
-    times_size x o = (λ i. o.is i *ℚ inv_ℚ ((at_l e g.below).is i)) ∙ ratio_is o.at q d some q_some
+    times_size x o = (λ i. o.is i *ℚ inv_ℚ ((at_l e g.below).is i)) ∙ ratio_is o.at q (d l) (some l g.leaves.below) q_some
 
     -- the new row of the entering variable
     own : (y : ℕ) → y < count s → Over size (2 ^ 62) (neg_ℚ (p.coefficient l y) *ℚ inv_ℚ (p.coefficient l e))
     own y h =
         let o = at_l y h in
-        let m : Over d (2 ^ 62) (neg_ℚ (p.coefficient l y)) = record { at = neg_ℤ o.at; is = ap neg_ℚ o.is ∙ frac-neg o.at d some; size = subst (λ n. n ≤ 2 ^ 62) (sym (abs-negated o.at)) o.size } in
+        let m : Over (d l) (2 ^ 62) (neg_ℚ (p.coefficient l y)) = record { at = neg_ℤ o.at; is = ap neg_ℚ o.is ∙ frac-neg o.at (d l) (some l g.leaves.below); size = subst (λ n. n ≤ 2 ^ 62) (sym (abs-negated o.at)) o.size } in
         record { at = turned q m.at; is = times_size (neg_ℚ (p.coefficient l y)) m; size = subst (λ n. n ≤ 2 ^ 62) (sym (abs_turned q m.at)) m.size }
 
     pub norm_entering : EnteringFits (count s) p l e
@@ -152,63 +156,69 @@ module _ (s : LinearSystem) (p : Position) (d : ℕ) (some : 0 < d) (small : d �
     own_entry : (y : ℕ) → y < count s → p.is_basic y ≡ false → (y ≡ e → ⊥) → Over size (2 ^ 62) (entering_row p l e y)
     own_entry y h free apart = subst (Over size (2 ^ 62)) (sym (entering-other p l e y (not_leaving y free) apart)) (own y h)
 
-    over_both : ℕ
-    over_both = d * size
+    over_both : ℕ → ℕ
+    over_both x = d x * size
 
-    both_some : 0 < over_both
+    both_some : (x : ℕ) → x < count s → 0 < over_both x
     unfolding over_both
-    both_some = mul-pos some size_some
+    both_some x h = mul-pos (some x h) size_some
 
-    both_top : over_both < 2 ^ 127
+    both_top : (x : ℕ) → x < count s → over_both x < 2 ^ 127
     unfolding over_both
-    both_top =
+    both_top x h =
         let k : size ≤ 2 ^ 62 = size_small in
-        let m : d * size ≤ 2 ^ 62 * 2 ^ 62 = le_trans (mul-le-mul_right size small) (mul-le-mul_left (2 ^ 62) k) in
+        let m : d x * size ≤ 2 ^ 62 * 2 ^ 62 = le_trans (mul-le-mul_right size (small x h)) (mul-le-mul_left (2 ^ 62) k) in
         omega arith
 
     module _ (x : ℕ) (x_in : x < count s) where
-      k_over : Over d (2 ^ 62) (p.coefficient x e)
+      k_over : Over (d x) (2 ^ 62) (p.coefficient x e)
       k_over = entries x e x_in g.below
 
+      -- c_xe / c_le, where l has a denominator of its own: (n_xe d_l) / (d_x |n_le|)
+      inverse_over : inv_ℚ (p.coefficient l e) ≡ frac (turned q (pos (d l))) size
+      unfolding size q
+      inverse_over = ap inv_ℚ (at_l e g.below).is ∙ inverse_is q (d l) (some l g.leaves.below) q_some
+
       pub leaving_fits : FitsFrac (p.coefficient x e *ℚ entering_row p l e l)
+      unfolding over_both
       leaving_fits =
-          let o : Over size (2 ^ 62) (p.coefficient x e *ℚ entering_row p l e l) =
+          let o : Over (over_both x) (2 ^ 62 * 2 ^ 62) (p.coefficient x e *ℚ entering_row p l e l) =
           record {
-            at = turned q k_over.at;
-            is = ap (λ u. p.coefficient x e *ℚ u) (entering-at_leaving p l e) ∙ times_size (p.coefficient x e) k_over;
-            size = subst (λ n. n ≤ 2 ^ 62) (sym (abs_turned q k_over.at)) k_over.size;
+            at = k_over.at *ℤ turned q (pos (d l));
+            is = ap (λ u. p.coefficient x e *ℚ u) (entering-at_leaving p l e) ∙ (λ i. k_over.is i *ℚ inverse_over i) ∙ frac-mul k_over.at (d x) (turned q (pos (d l))) size (some x x_in) size_some;
+            size = product_at_most k_over.at (turned q (pos (d l))) (2 ^ 62) (2 ^ 62) k_over.size (subst (λ n. n ≤ 2 ^ 62) (sym (abs_turned q (pos (d l)))) (small l g.leaves.below));
           }
           in
-          over_fits size_some (let k : size ≤ 2 ^ 62 = size_small in omega arith) o (lit< tt)
+          over_fits (both_some x x_in) (both_top x x_in) o (lit< tt)
 
       module _ (y : ℕ) (y_in : y < count s) (free : p.is_basic y ≡ false) (apart : y ≡ e → ⊥) where
-        change : Over over_both (2 ^ 62 * 2 ^ 62) (p.coefficient x e *ℚ entering_row p l e y)
+        change : Over (over_both x) (2 ^ 62 * 2 ^ 62) (p.coefficient x e *ℚ entering_row p l e y)
         unfolding over_both
         change =
             let o = own_entry y y_in free apart in
             record {
               at = k_over.at *ℤ o.at;
-              is = (λ i. k_over.is i *ℚ o.is i) ∙ frac-mul k_over.at d o.at size some size_some;
+              is = (λ i. k_over.is i *ℚ o.is i) ∙ frac-mul k_over.at (d x) o.at size (some x x_in) size_some;
               size = product_at_most k_over.at o.at (2 ^ 62) (2 ^ 62) k_over.size o.size;
             }
 
-        old : Over over_both (2 ^ 62 * 2 ^ 62) (p.coefficient x y)
+        old : Over (over_both x) (2 ^ 62 * 2 ^ 62) (p.coefficient x y)
         unfolding over_both
         old =
             let o = entries x y x_in y_in in
             record {
               at = o.at *ℤ pos size;
-              is = o.is ∙ same_frac o.at d (o.at *ℤ pos size) (d * size) some (mul-pos some size_some) (expanded o.at (pos size) (pos d));
+              is = o.is ∙ same_frac o.at (d x) (o.at *ℤ pos size) (d x * size) (some x x_in) (mul-pos (some x x_in) size_some) (expanded o.at (pos size) (pos (d x)));
               size = product_at_most o.at (pos size) (2 ^ 62) (2 ^ 62) o.size size_small;
             }
 
         pub entry_fits : EntryFits p l e x y
-        entry_fits = record { product = over_fits both_some both_top change (lit< tt); sum = over_sum_fits both_some both_top old change (lit< tt) }
+        entry_fits = record { product = over_fits (both_some x x_in) (both_top x x_in) change (lit< tt); sum = over_sum_fits (both_some x x_in) (both_top x x_in) old change (lit< tt) }
 
     pub norm_rows : RowsFit (count s) p l e
     norm_rows = record { rows = λ x h basic apart other. record { leaving = leaving_fits x h; entries = λ y k free m. entry_fits x h y k free m } }
 
-  pub norms_fit : (b : ℕ) → count s * b ≤ 2 ^ 62 → ((y : ℕ) → y < count s → Over 1 b (rest s y).first) → ((y : ℕ) → y < count s → Over 1 b (rest s y).second) → PositionFits s p
+  pub norms_fit : (b : ℕ) → count s * b ≤ 2 ^ 62 → ((x y : ℕ) → x < count s → y < count s → Over (d x) (2 ^ 62 * b) (p.coefficient x y *ℚ (rest s y).first)) → ((x y : ℕ) → x < count s → y < count s → Over (d x) (2 ^ 62 * b) (p.coefficient x y *ℚ (rest s y).second)) → PositionFits s p
   norms_fit b room firsts seconds = record {
     values = norm_values b room firsts seconds;
     entering = λ l e h. norm_entering l e (turn-at s p (goes_on l e) h);

@@ -1,7 +1,9 @@
 -- A system read into whole numbers, and the unit matrix.
-use Rattle.std.proofs.Common.{◌≡◌, ℕ, ◌+◌, ◌*◌, ◌^◌, ◌<◌, ◌≤◌, List, length, set, ℤ, pos, sym, ◌∙◌, ap, subst, arith, ◌⊎◌, inl, inr, mul-le-mul_left, le_trans, ◌-◌, true, false, not, lit<, lt-ltb}
+use Rattle.std.proofs.Common.{◌≡◌, ℕ, zero, suc, zero-lt-suc, mul_comm, ◌+◌, ◌*◌, ◌^◌, ◌<◌, ◌≤◌, List, length, set, ℤ, pos, ◌*ℤ◌, sym, ◌∙◌, ap, subst, arith, ◌⊎◌, inl, inr, mul-le-mul_left, le_trans, ◌-◌, true, false, not, lit<, lt-ltb}
 use Rattle.std.proofs.lemmas.Bool.{cases_eq, cases_lt, cases_Bool, cond-true, cond-false}
-use Rattle.mpc_exact.specs.Rational.{ℚ, int, frac}
+use Rattle.mpc_exact.specs.Rational.{ℚ, int, frac, denom_positive, frac_self}
+use Rattle.mpc_exact.proofs.RationalOrder.{one_last}
+use Rattle.mpc_exact.proofs.School.{frac_expand}
 use Rattle.mpc_space.specs.Total.{unit}
 use Rattle.mpc_space.proofs.Total.{unit-same, unit-other}
 use Rattle.mpc_rows.specs.LinearSystem.{LinearSystem, height}
@@ -9,23 +11,29 @@ use Rattle.mpc_rows.specs.Run.{is_unknown, opening}
 use Rattle.mpc_simplex.specs.declared.tableau.Seat.{Seat}
 use Rattle.mpc_simplex.specs.declared.tableau.Seat.TheVariants.{Row, Column}
 use Rattle.mpc_simplex.specs.Table.{seat_at, in_row, IsOpeningSeats}
-use Rattle.mpc_simplex.specs.Whole.{whole_at, whole_cell, IsSmall, IsForm, IsUnit, HasRoom, HasBounds}
+use Rattle.mpc_simplex.specs.Whole.{whole_at, whole_cell, scale_at, AreScales, IsSmall, IsForm, IsUnit, HasRoom, HasBounds}
 use Rattle.mpc_simplex.proofs.Seats.{column_same, seats_apart}
 use Rattle.mpc_simplex.proofs.Read.{opening_unknown, unknown_below}
 use Rattle.mpc_simplex.proofs.WholeSteps.{set_same, set_other}
 use Rattle.mpc_simplex.proofs.WholeExchange.{row_below}
 
-module _ (w : ℕ) (old now : List ℤ) (f : ℕ → ℚ) (i j at : ℕ) (z : ℤ) (q : at ≡ i * w + j) (b : at < length now) where
-  pub read_done : ((k : ℕ) → k < j → f k ≡ int (whole_cell w now i k)) → f j ≡ int z → (k : ℕ) → k < j + 1 → f k ≡ int (whole_cell w (set now at z) i k)
+module _ (w scale : ℕ) (old now : List ℤ) (f : ℕ → ℚ) (i j at : ℕ) (z : ℤ) (q : at ≡ i * w + j) (b : at < length now) where
+  pub read_done : ((k : ℕ) → k < j → f k ≡ frac (whole_cell w now i k) scale) → f j ≡ frac z scale → (k : ℕ) → k < j + 1 → f k ≡ frac (whole_cell w (set now at z) i k) scale
   read_done h e k l = by (cases_eq k j)
     where
-      by : (k ≡ j) ⊎ (k ≡ j → ⊥) → f k ≡ int (whole_cell w (set now at z) i k)
-      by (inl m) = ap f m ∙ e ∙ ap int (sym (ap (λ u. whole_at (set now at z) (i * w + u)) m ∙ ap (whole_at (set now at z)) (sym q) ∙ set_same now at z b))
-      by (inr m) = h k (omega arith) ∙ ap int (sym (set_other now at z b (i * w + k) (λ u. m (omega arith))))
+      by : (k ≡ j) ⊎ (k ≡ j → ⊥) → f k ≡ frac (whole_cell w (set now at z) i k) scale
+      by (inl m) = ap f m ∙ e ∙ ap (λ u. frac u scale) (sym (ap (λ u. whole_at (set now at z) (i * w + u)) m ∙ ap (whole_at (set now at z)) (sym q) ∙ set_same now at z b))
+      by (inr m) = h k (omega arith) ∙ ap (λ u. frac u scale) (sym (set_other now at z b (i * w + k) (λ u. m (omega arith))))
 
   pub read_kept : ((k : ℕ) → (k < i * w) ⊎ (i * w + j ≤ k) → whole_at now k ≡ whole_at old k) → (k : ℕ) → (k < i * w) ⊎ (i * w + (j + 1) ≤ k) → whole_at (set now at z) k ≡ whole_at old k
   read_kept h k (inl l) = set_other now at z b k (λ m. omega arith) ∙ h k (inl l)
   read_kept h k (inr l) = set_other now at z b k (λ m. omega arith) ∙ h k (inr (omega arith))
+
+-- ---- one number times a scale
+pub over_factor : (x : ℚ) (q k : ℕ) (z : ℤ) → 0 < k → q * x.denom ≡ k → z ≡ x.numer *ℤ pos q → x ≡ frac z k
+over_factor x zero k z some e f = absurd (omega arith)
+over_factor x (suc q) k z some e f =
+    sym ((λ i. frac (f i) (sym e i)) ∙ ap (frac (x.numer *ℤ pos (suc q))) (mul_comm (suc q) x.denom) ∙ frac_expand x.numer x.denom (suc q) (denom_positive x) (zero-lt-suc q) ∙ frac_self x)
 
 -- ---- the unit matrix, one row more
 apart_below : (w i j c : ℕ) → j < i → c < w → j * w + c ≡ i * w + i → ⊥
@@ -61,48 +69,59 @@ module _ (w : ℕ) (now : List ℤ) (i : ℕ) (i_in : i < w) (b : i * w + i < le
 pub weaker : (m k : ℕ) (xs : List ℤ) → IsSmall m xs → m ≤ k → IsSmall k xs
 weaker m k xs h l = record { each = λ i. le_trans (h.each i) l }
 
-room_for : (w e m : ℕ) → w * (e * m) ≤ 2 ^ 62 → 1 ≤ m → w * (e * 2 ^ 62) ≤ 2 ^ 124
-room_for w e m h k =
+room_for : (w e m q : ℕ) → (w * (e * m)) * q ≤ 2 ^ 62 → 1 ≤ m → 1 ≤ q → w * (e * 2 ^ 62) ≤ 2 ^ 124
+room_for w e m q h k l =
+    let c : (w * (e * m)) * 1 ≤ (w * (e * m)) * q = mul-le-mul_left (w * (e * m)) l in
     let a : e * 1 ≤ e * m = mul-le-mul_left e k in
     let b : w * (e * 1) ≤ w * (e * m) = mul-le-mul_left w a in
     omega arith
 
-pub has_room : (w e m : ℕ) (a : List ℤ) → IsSmall e a → w * (e * m) ≤ 2 ^ 62 → 1 ≤ m → HasRoom w (2 ^ 62) a
-has_room w e m a h r k = record { most = e; each = h; room = room_for w e m r k }
+pub has_room : (w e m q : ℕ) (a : List ℤ) → IsSmall e a → (w * (e * m)) * q ≤ 2 ^ 62 → 1 ≤ m → 1 ≤ q → HasRoom w (2 ^ 62) a
+has_room w e m q a h r k l = record { most = e; each = h; room = room_for w e m q r k l }
 
-pub has_bounds : (s : LinearSystem) (n w e f m : ℕ) (a b : List ℤ) → n ≡ s.width + height s → w ≡ s.width → IsSmall e a → IsSmall f b → 1 ≤ f → w * (e * m) ≤ 2 ^ 62 → m ≤ 2 ^ 62 → n * f ≤ 2 ^ 62 → HasBounds s a b m
-has_bounds s n w e f m a b q u ha hb some room top sides = record {
+pub has_bounds : (s : LinearSystem) (k : List ℕ) (n w e f q m : ℕ) (a b : List ℤ) → n ≡ s.width + height s → w ≡ s.width → IsSmall e a → IsSmall f b → ((x : ℕ) → scale_at k x ≤ q) → 1 ≤ f → (w * (e * m)) * q ≤ 2 ^ 62 → m * q ≤ 2 ^ 62 → n * f ≤ 2 ^ 62 → HasBounds s k a b m
+has_bounds s k n w e f q m a b h u ha hb hk some room top sides = record {
   most_entry = e;
   most_side = f;
-  bounds = record { entries = ha; sides = hb; some_side = some; room = subst (λ x. x * (e * m) ≤ 2 ^ 62) u room; top = top; side_room = subst (λ x. x * f ≤ 2 ^ 62) q sides };
+  most_scale = q;
+  bounds = record {
+    entries = ha;
+    sides = record { sides = hb; some_side = some; side_room = subst (λ x. x * f ≤ 2 ^ 62) h sides };
+    scales = hk;
+    room = subst (λ x. (x * (e * m)) * q ≤ 2 ^ 62) u room;
+    top = top;
+  };
 }
 
 -- ---- the opening
-module _ (s : LinearSystem) (n : ℕ) (whole : n ≡ s.width + height s) (seats : List Seat) (o : IsOpeningSeats s n seats) (v : List ℤ) (u : IsUnit s.width v) where
+module _ (s : LinearSystem) (n : ℕ) (whole : n ≡ s.width + height s) (seats : List Seat) (o : IsOpeningSeats s n seats) (k : List ℕ) (w : AreScales s k) (v : List ℤ) (u : IsUnit s.width v) where
   at_unknown : (y : ℕ) → y < n → is_unknown s y ≡ true → seat_at seats y ≡ Column y
-  at_unknown y h k = o.at y h ∙ cond-true (is_unknown s y) _ _ k
+  at_unknown y h t = o.at y h ∙ cond-true (is_unknown s y) _ _ t
 
   at_side : (y : ℕ) → y < n → is_unknown s y ≡ false → seat_at seats y ≡ Row (y - s.width)
-  at_side y h k = o.at y h ∙ cond-false (is_unknown s y) _ _ k
+  at_side y h t = o.at y h ∙ cond-false (is_unknown s y) _ _ t
 
   basic_first : (y : ℕ) → y < n → (is_unknown s y ≡ true) ⊎ (is_unknown s y ≡ false) → (opening s).is_basic y ≡ in_row (seat_at seats y)
   unfolding opening
-  basic_first y h (inl k) = ap not k ∙ sym (ap in_row (at_unknown y h k))
-  basic_first y h (inr k) = ap not k ∙ sym (ap in_row (at_side y h k))
+  basic_first y h (inl t) = ap not t ∙ sym (ap in_row (at_unknown y h t))
+  basic_first y h (inr t) = ap not t ∙ sym (ap in_row (at_side y h t))
 
   unit_over : (j c : ℕ) → j < s.width → c < s.width → (j ≡ c) ⊎ (j ≡ c → ⊥) → unit j c ≡ frac (whole_cell s.width v j c) 1
-  unit_over j c h k (inl e) = unit-same j c e ∙ ap int (sym (ap (whole_cell s.width v j) (sym e) ∙ u.diagonal j h))
-  unit_over j c h k (inr e) = unit-other j c e ∙ ap int (sym (u.others j c h k e))
+  unit_over j c h l (inl e) = unit-same j c e ∙ ap int (sym (ap (whole_cell s.width v j) (sym e) ∙ u.diagonal j h))
+  unit_over j c h l (inr e) = unit-other j c e ∙ ap int (sym (u.others j c h l e))
 
-  entry_first : (j y c : ℕ) → j < s.width → y < n → seat_at seats y ≡ Column c → (is_unknown s y ≡ true) ⊎ (is_unknown s y ≡ false) → (opening s).coefficient j y ≡ frac (whole_cell s.width v j c) 1
-  entry_first j y c h k q (inl m) =
-      let e : y ≡ c = column_same y c (sym (at_unknown y k m) ∙ q) in
-      opening_unknown s j y (lt-ltb j s.width h) ∙ ap (unit j) e ∙ unit_over j c h (subst (λ z. z < s.width) e (unknown_below s y m)) (cases_eq j c)
-  entry_first j y c h k q (inr m) = absurd (seats_apart (y - s.width) c (sym (at_side y k m) ∙ q))
+  unscaled : (j y c : ℕ) → y < s.width → frac (whole_cell s.width v j c) 1 ≡ frac (whole_cell s.width v j c *ℤ pos (scale_at k y)) 1
+  unscaled j y c h = ap int (sym (ap (λ z. whole_cell s.width v j c *ℤ pos z) (w.own y h) ∙ one_last (whole_cell s.width v j c)))
 
-  pub form_first : IsForm s n seats 1 v (opening s)
+  entry_first : (j y c : ℕ) → j < s.width → y < n → seat_at seats y ≡ Column c → (is_unknown s y ≡ true) ⊎ (is_unknown s y ≡ false) → (opening s).coefficient j y ≡ frac (whole_cell s.width v j c *ℤ pos (scale_at k y)) 1
+  entry_first j y c h l q (inl m) =
+      let e : y ≡ c = column_same y c (sym (at_unknown y l m) ∙ q) in
+      opening_unknown s j y (lt-ltb j s.width h) ∙ ap (unit j) e ∙ unit_over j c h (subst (λ z. z < s.width) e (unknown_below s y m)) (cases_eq j c) ∙ unscaled j y c (unknown_below s y m)
+  entry_first j y c h l q (inr m) = absurd (seats_apart (y - s.width) c (sym (at_side y l m) ∙ q))
+
+  pub form_first : IsForm s n seats k 1 v (opening s)
   form_first = record {
     some = lit< tt;
     basic = λ y h. basic_first y h (cases_Bool (is_unknown s y));
-    entries = λ j y c h k q. entry_first j y c h k q (cases_Bool (is_unknown s y));
+    entries = λ j y c h l q. entry_first j y c h l q (cases_Bool (is_unknown s y));
   }

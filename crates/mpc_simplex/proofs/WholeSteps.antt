@@ -3,18 +3,19 @@ use Rattle.std.proofs.Common.{◌≡◌, ℕ, ◌+◌, ◌-◌, ◌^◌, ◌<◌
 use Rattle.std.specs.Int.{w64}
 use Rattle.std.proofs.lemmas.Bool.{cases_eq}
 use Rattle.std.proofs.lemmas.Int.{ints, fits_signed_from_abs, to_z-of_z}
-use Rattle.mpc_exact.specs.Rational.{ℚ, int, frac, ◌*ℚ◌}
+use Rattle.mpc_exact.specs.Rational.{ℚ, frac, ◌*ℚ◌}
 use Rattle.mpc_space.specs.Total.{total}
 use Rattle.mpc_rows.specs.LinearSystem.{LinearSystem, height}
 use Rattle.mpc_rows.specs.Run.{Position, IsTableau, count, rest, bound, is_unknown}
 use Rattle.mpc_simplex.specs.declared.tableau.Seat.{Seat}
 use Rattle.mpc_simplex.specs.declared.tableau.Seat.TheVariants.{Column}
 use Rattle.mpc_simplex.specs.Table.{seat_at}
-use Rattle.mpc_simplex.specs.Whole.{whole_at, whole_cell, IsSmall, IsForm, HasSides, AreValues}
+use Rattle.mpc_simplex.specs.Whole.{whole_at, whole_cell, scale_at, IsSmall, IsForm, HasSides, AreValues}
 use Rattle.mpc_simplex.proofs.LeftSides.{bound-first}
 use Rattle.mpc_simplex.proofs.Read.{rest_bound}
 use Rattle.mpc_simplex.proofs.Table.{total_more, first_terms, second_terms, value_first, value_second}
-use Rattle.mpc_simplex.proofs.WholeSums.{frac_sum, times_int}
+use Rattle.mpc_simplex.proofs.WholeSums.{frac_sum}
+use Rattle.mpc_simplex.proofs.WholeChanges.{scale_cancels}
 
 -- ---- one number set
 pub read_small : (z : ℤ) → unsigned_abs z ≤ 2 ^ 62 → to_z w64 (of_z w64 z) ≡ z
@@ -49,22 +50,24 @@ module _ (xs : List ℤ) (j : ℕ) (z : ℤ) (b : j < length xs) where
   set_above old h k l = set_other k (λ e. omega arith) ∙ h k (omega arith)
 
 -- ---- a sum of values, one variable on
-module _ (s : LinearSystem) (p : Position) (t : IsTableau p) (n : ℕ) (seats : List Seat) (d : ℕ) (v : List ℤ) (f : IsForm s n seats d v p) where
-  pub value_more : (r : ℕ → ℚ) (y c j : ℕ) (z z' b : ℤ) → y < n → seat_at seats y ≡ Column c → j < s.width → r y ≡ int b → total y (λ x. p.coefficient j x *ℚ r x) ≡ frac z d → z' ≡ z +ℤ (whole_cell s.width v j c *ℤ b) → total (y + 1) (λ x. p.coefficient j x *ℚ r x) ≡ frac z' d
-  value_more r y c j z z' b h e k q sum next =
+module _ (s : LinearSystem) (p : Position) (t : IsTableau p) (n : ℕ) (seats : List Seat) (k : List ℕ) (d : ℕ) (v : List ℤ) (f : IsForm s n seats k d v p) where
+  pub value_more : (r : ℕ → ℚ) (y c j : ℕ) (z z' b : ℤ) → 0 < scale_at k y → y < n → seat_at seats y ≡ Column c → j < s.width → r y ≡ frac b (scale_at k y) → total y (λ x. p.coefficient j x *ℚ r x) ≡ frac z d → z' ≡ z +ℤ (whole_cell s.width v j c *ℤ b) → total (y + 1) (λ x. p.coefficient j x *ℚ r x) ≡ frac z' d
+  value_more r y c j z z' b scale h e l q sum next =
       sym (total_more y (λ x. p.coefficient j x *ℚ r x) (frac z d) (frac (whole_cell s.width v j c *ℤ b) d) (frac z' d) (sym sum)
-      (sym ((λ i. f.entries j y c k h e i *ℚ q i) ∙ times_int (whole_cell s.width v j c) b d f.some))
+      (sym ((λ i. f.entries j y c l h e i *ℚ q i) ∙ scale_cancels (whole_cell s.width v j c) b (scale_at k y) d scale f.some))
       (ap (λ u. frac u d) next ∙ sym (frac_sum z (whole_cell s.width v j c *ℤ b) d f.some)))
 
 module _ (s : LinearSystem) (y : ℕ) (h : s.width ≤ y) where
   unknown_not : is_unknown s y ≡ false
   unknown_not = le-ltb y s.width h
 
-  side_is : s.width + (y - s.width) ≡ y
+  pub side_is : s.width + (y - s.width) ≡ y
   side_is = omega arith
 
-  pub rest_first : (b : List ℤ) → HasSides s b → y - s.width < height s → (rest s y).first ≡ int (whole_at b (y - s.width))
-  rest_first b w k = ap (λ z. z.first) (rest_bound s y unknown_not) ∙ ap (λ z. (bound s z).first) (sym side_is) ∙ bound-first s (y - s.width) ∙ w.sides (y - s.width) k
+  pub rest_first : (k : List ℕ) (b : List ℤ) → HasSides s k b → y - s.width < height s → (rest s y).first ≡ frac (whole_at b (y - s.width)) (scale_at k y)
+  rest_first k b w l =
+      ap (λ z. z.first) (rest_bound s y unknown_not) ∙ ap (λ z. (bound s z).first) (sym side_is) ∙ bound-first s (y - s.width) ∙ w.sides (y - s.width) l
+      ∙ ap (λ z. frac (whole_at b (y - s.width)) (scale_at k z)) side_is
 
   pub rest_second : (rest s y).second ≡ (bound s (s.width + (y - s.width))).second
   rest_second = ap (λ z. z.second) (rest_bound s y unknown_not) ∙ ap (λ z. (bound s z).second) (sym side_is)

@@ -1,5 +1,5 @@
 -- The tests of who leaves and enters, on whole numbers.
-use Rattle.std.proofs.Common.{◌≡◌, ◌≢◌, ℕ, zero, suc, ◌+◌, ◌-◌, ◌<◌, ◌≤◌, Bool, true, false, not, None, ℤ, pos, ◌*ℤ◌, ◌<ℤ◌, ◌≤ℤ◌, refl, sym, ◌∙◌, ap, subst, subst₂, arith, ◌⊎◌, inl, inr, lit<, lt-ltb, le-ltb}
+use Rattle.std.proofs.Common.{◌≡◌, ◌≢◌, ℕ, zero, suc, ◌+◌, ◌-◌, ◌<◌, ◌≤◌, Bool, true, false, not, None, ℤ, pos, ◌*ℤ◌, ◌<ℤ◌, ◌≤ℤ◌, refl, sym, ◌∙◌, ap, subst, subst₂, arith, ◌⊎◌, inl, inr, lit<, lt-ltb, le-ltb, mul-pos, ◌*◌, [], ◌∷◌}
 use lib.Signed.{lt_z}
 use Rattle.std.proofs.lemmas.Bool.{cases_Bool}
 use Rattle.std.proofs.lemmas.Int.{ints}
@@ -7,6 +7,7 @@ use Rattle.mpc_exact.specs.Rational.{ℚ, int, frac, ◌<ℚ◌, ◌≤ℚ◌, l
 use Rattle.mpc_exact.specs.Pair.{Pair, IsBelow, IsAtMost, is_below}
 use Rattle.mpc_exact.proofs.Pair.{is_below-true, is_below-false, at_most-not-below}
 use Rattle.mpc_exact.proofs.Rational.{same_frac}
+use Rattle.mpc_exact.proofs.IntRing.{int_reads, by_ring_ℤ, int_mul-lt, int_mul-le}
 use Rattle.mpc_exact.proofs.RationalOrder.{lt_frac, le_frac, one_last, <ℚ_irrefl}
 use Rattle.mpc_exact.proofs.OrderLaws.{<ℚ_trans}
 use Rattle.mpc_exact.proofs.RationalField.{lt_ℚ_is}
@@ -43,22 +44,42 @@ not_below_so p q h = by (cases_Bool (is_below p q))
 squeezed : (u v : ℤ) → u ≤ℤ v → v ≤ℤ u → u ≡ v
 squeezed u v h k = omega (arith, ints)
 
-module _ (p q : Pair) (b e₁ : ℤ) (d : ℕ) (some : 0 < d) (pb : p.first ≡ int b) (q₁ : q.first ≡ frac e₁ d) where
+shifted : (b d k : ℤ) → (b *ℤ d) *ℤ k ≡ b *ℤ (d *ℤ k)
+shifted b d k = by_ring_ℤ (b ∷ d ∷ k ∷ []) (search int_reads depth 30) (search int_reads depth 30) tt
+
+-- a bound b / k against a value e / (d k)
+module _ (b e : ℤ) (k d : ℕ) (scale : 0 < k) (some : 0 < d) where
+  both : 0 < d * k
+  both = mul-pos some scale
+
+  above_scaled : (b *ℤ pos d) <ℤ e → frac b k <ℚ frac e (d * k)
+  above_scaled h = lt_frac b k e (d * k) scale both (subst (λ z. z <ℤ (e *ℤ pos k)) (shifted b (pos d) (pos k)) (int_mul-lt k scale h))
+
+  below_scaled : e <ℤ (b *ℤ pos d) → frac e (d * k) <ℚ frac b k
+  below_scaled h = lt_frac e (d * k) b k both scale (subst (λ z. (e *ℤ pos k) <ℤ z) (shifted b (pos d) (pos k)) (int_mul-lt k scale h))
+
+  at_most_scaled : e ≤ℤ (b *ℤ pos d) → frac e (d * k) ≤ℚ frac b k
+  at_most_scaled h = le_frac e (d * k) b k both scale (subst (λ z. (e *ℤ pos k) ≤ℤ z) (shifted b (pos d) (pos k)) (int_mul-le k h))
+
+  same_scaled : b *ℤ pos d ≡ e → frac b k ≡ frac e (d * k)
+  same_scaled h = same_frac b k e (d * k) scale both (sym (shifted b (pos d) (pos k)) ∙ ap (λ z. z *ℤ pos k) h)
+
+module _ (p q : Pair) (b e₁ : ℤ) (k d : ℕ) (scale : 0 < k) (some : 0 < d) (pb : p.first ≡ frac b k) (q₁ : q.first ≡ frac e₁ (d * k)) where
   pub out_above : (b *ℤ pos d) <ℤ e₁ → true ≡ is_below p q
-  out_above h = below_so p q (record { below = inl (subst₂ (λ u v. u <ℚ v) (sym pb) (sym q₁) (lt_frac b 1 e₁ d (lit< tt) some (subst (λ z. (b *ℤ pos d) <ℤ z) (sym (one_last e₁)) h))) })
+  out_above h = below_so p q (record { below = inl (subst₂ (λ u v. u <ℚ v) (sym pb) (sym q₁) (above_scaled b e₁ k d scale some h)) })
 
   pub out_below : e₁ <ℤ (b *ℤ pos d) → false ≡ is_below p q
-  out_below h = not_below_so p q (record { at_most = inl (subst₂ (λ u v. u <ℚ v) (sym q₁) (sym pb) (lt_frac e₁ d b 1 some (lit< tt) (subst (λ z. z <ℤ (b *ℤ pos d)) (sym (one_last e₁)) h))) })
+  out_below h = not_below_so p q (record { at_most = inl (subst₂ (λ u v. u <ℚ v) (sym q₁) (sym pb) (below_scaled b e₁ k d scale some h)) })
 
-  module _ (k e₂ : ℤ) (pk : p.second ≡ int k) (q₂ : q.second ≡ frac e₂ d) (h : e₁ ≤ℤ (b *ℤ pos d)) (l : (b *ℤ pos d) ≤ℤ e₁) where
+  module _ (m e₂ : ℤ) (pm : p.second ≡ frac m k) (q₂ : q.second ≡ frac e₂ (d * k)) (h : e₁ ≤ℤ (b *ℤ pos d)) (l : (b *ℤ pos d) ≤ℤ e₁) where
     firsts_same : p.first ≡ q.first
-    firsts_same = pb ∙ same_frac b 1 e₁ d (lit< tt) some (squeezed (b *ℤ pos d) e₁ l h ∙ sym (one_last e₁)) ∙ sym q₁
+    firsts_same = pb ∙ same_scaled b e₁ k d scale some (squeezed (b *ℤ pos d) e₁ l h) ∙ sym q₁
 
-    pub out_next : (k *ℤ pos d) <ℤ e₂ → true ≡ is_below p q
-    out_next m = below_so p q (record { below = inr (firsts_same, subst₂ (λ u v. u <ℚ v) (sym pk) (sym q₂) (lt_frac k 1 e₂ d (lit< tt) some (subst (λ z. (k *ℤ pos d) <ℤ z) (sym (one_last e₂)) m))) })
+    pub out_next : (m *ℤ pos d) <ℤ e₂ → true ≡ is_below p q
+    out_next o = below_so p q (record { below = inr (firsts_same, subst₂ (λ u v. u <ℚ v) (sym pm) (sym q₂) (above_scaled m e₂ k d scale some o)) })
 
-    pub out_not : e₂ ≤ℤ (k *ℤ pos d) → false ≡ is_below p q
-    out_not m = not_below_so p q (record { at_most = inr (sym firsts_same, subst₂ (λ u v. u ≤ℚ v) (sym q₂) (sym pk) (le_frac e₂ d k 1 some (lit< tt) (subst (λ z. z ≤ℤ (k *ℤ pos d)) (sym (one_last e₂)) m))) })
+    pub out_not : e₂ ≤ℤ (m *ℤ pos d) → false ≡ is_below p q
+    out_not o = not_below_so p q (record { at_most = inr (sym firsts_same, subst₂ (λ u v. u ≤ℚ v) (sym q₂) (sym pm) (at_most_scaled m e₂ k d scale some o)) })
 
 -- ---- the least that may leave
 pub none_below : (test : ℕ → Bool) (n : ℕ) → ((x : ℕ) → x < n → test x ≡ false) → least test n ≡ None
@@ -84,6 +105,17 @@ not_zero_test c h = by (cases_Bool (is_zero c))
 
 zero_left : (d : ℤ) → pos 0 *ℤ d ≡ pos 0
 zero_left d = omega (arith, ints)
+
+-- a number times a scale
+module _ (x : ℤ) (k : ℕ) (scale : 0 < k) where
+  pub times_above : pos 0 <ℤ x → pos 0 <ℤ (x *ℤ pos k)
+  times_above h = subst (λ z. z <ℤ (x *ℤ pos k)) (zero_left (pos k)) (int_mul-lt k scale h)
+
+  pub times_below : x <ℤ pos 0 → (x *ℤ pos k) <ℤ pos 0
+  times_below h = subst (λ z. (x *ℤ pos k) <ℤ z) (zero_left (pos k)) (int_mul-lt k scale h)
+
+  pub times_nought : x ≡ pos 0 → x *ℤ pos k ≡ pos 0
+  times_nought h = ap (λ z. z *ℤ pos k) h ∙ zero_left (pos k)
 
 module _ (c : ℚ) (k : ℤ) (d : ℕ) (some : 0 < d) (e : c ≡ frac k d) where
   positive_is : pos 0 <ℤ k → int (pos 0) <ℚ c

@@ -49,9 +49,9 @@ pub enum SimplexError {
 /// Whether the system has a point, by the simplex method with the rule of least numbers (Bland
 /// 1977), strict rows in pairs of fractions.
 ///
-/// A system of whole numbers is run in whole numbers as long as they stay small, and in fractions
-/// elsewhere. Each of the two takes all its memory before its first step. `Wide` where the run forms
-/// a number that doesn't fit.
+/// A system is run in whole numbers as long as they stay small, each row times a scale that makes it
+/// whole, and in fractions elsewhere. Each of the two takes all its memory before its first step.
+/// `Wide` where the run forms a number that doesn't fit.
 pub fn decide(alloc: Global, system: &System) -> Result<Decision, SimplexError>
     ensures point { IfOk result (λ d. IfPoint d (IsPairPoint system.now)) }
     ensures has_point { IfOk result (λ d. IfPoint d (λ _. HasPoint system.now)) }

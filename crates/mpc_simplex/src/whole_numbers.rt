@@ -54,6 +54,15 @@ pub(crate) fn negative(z: i64) -> i64
     -z
 }
 
+/// Minus a number.
+pub(crate) fn minus(n: u64) -> i64
+    requires { n ≤ 2 ^ 40 }
+    ensures value { result ≡ neg_ℤ (pos n) }
+    ensures small { unsigned_abs result ≤ 2 ^ 40 }
+{
+    -(n as i64)
+}
+
 /// z, with its sign changed where q is negative.
 pub(crate) fn turned(q: i64, z: i64) -> i64
     requires { unsigned_abs z ≤ 2 ^ 62 }

@@ -1,9 +1,12 @@
-use Rattle.std.proofs.Common.{◌≡◌, ◌∙◌, ◌<◌, ◌+◌, sym, ap, arith, length, rules, to_z, of_z, neg_ℤ}
-use Rattle.std.specs.Int.{w64}
-use Rattle.mpc_simplex.specs.Whole.{whole_at}
+use Rattle.std.proofs.Common.{◌≡◌, ◌∙◌, ◌<◌, ◌+◌, ◌*◌, ◌*ℤ◌, refl, sym, ap, arith, length, rules, to_z, of_z, neg_ℤ, pos, mul-pos, FitsSigned}
+use Rattle.std.specs.Int.{w64, w128}
+use Rattle.mpc_exact.specs.Rational.{quotient}
+use Rattle.mpc_simplex.specs.Whole.{whole_at, scale_at}
 use Rattle.mpc_simplex.proofs.Answered.{multiplier_own, multiplier_basic, multiplier_free}
 use Rattle.mpc_simplex.proofs.WholeSteps.{read_small}
-use Rattle.mpc_simplex.proofs.WholeEnds.{negative_over}
+use Rattle.mpc_simplex.proofs.WholeEnds.{negative_over, quotient_over}
+use Rattle.mpc_simplex.proofs.WholeChanges.{negative_scaled}
+use Rattle.mpc_simplex.proofs.WholeRooms.{back128, both_back}
 use Rattle.mpc_simplex.proofs.whole_ends.multiplier.Goals as goal
 use Rattle.mpc_simplex.proofs.whole_ends.multiplier.Goals.{After-unknowns, After-column_of-c}
 
@@ -33,9 +36,21 @@ pub returns : goal.returns
 returns c =
     let at = goal.at.returns c in
     let y = c.unknowns.result + c.args.i in
-    let m : to_z w64 (of_z w64 c.negative.result) ≡ neg_ℤ (whole_at c.args.x.now c.column_of-c.result) =
-    read_small c.negative.result c.negative.ensures.small ∙ c.negative.ensures.value ∙ ap neg_ℤ (read_small _ (c.requires.row_small.each c.column_of-c.result))
+    let f : FitsSigned w64 c.negative.result = search rules in
+    let g : FitsSigned w64 c.signed.result = search rules in
+    let u : FitsSigned w64 c.signed-2.result = search rules in
+    let v : FitsSigned w64 c.signed-3.result = search rules in
+    let m : c.negative.result ≡ neg_ℤ (whole_at c.args.x.now c.column_of-c.result) = c.negative.ensures.value ∙ ap neg_ℤ (read_small _ (c.requires.row_small.each c.column_of-c.result)) in
+    let up : to_z w128 (of_z w128 c.product-up.result) ≡ neg_ℤ (whole_at c.args.x.now c.column_of-c.result *ℤ pos (scale_at c.args.scales.now y)) =
+    back128 _ c.product-up.type_inv ∙ both_back _ _ _ f g c.product-up.ensures ∙ ap (λ z. c.negative.result *ℤ z) c.signed.ensures.value
+    ∙ negative_scaled c.negative.result (whole_at c.args.x.now c.column_of-c.result) (pos (scale_at c.args.scales.now y)) m
     in
-    λ p h r. c.in_ok-m.ensures
-    ∙ negative_over (p.coefficient c.args.l y) _ _ c.args.den c.requires.some m (r.coefficients y c.column_of-c.result (below at.After-unknowns) c.column_of-c.ensures)
+    let down : to_z w128 (of_z w128 c.product-down.result) ≡ pos (c.args.den * scale_at c.args.scales.now c.args.l) =
+    back128 _ c.product-down.type_inv ∙ both_back _ _ _ u v c.product-down.ensures ∙ (λ z. c.signed-2.ensures.value z *ℤ c.signed-3.ensures.value z)
+    in
+    λ p h r.
+    let some : 0 < c.args.den * scale_at c.args.scales.now c.args.l = mul-pos c.requires.some r.own in
+    c.in_ok-m.ensures ∙ (λ z. quotient (up z) (down z))
+    ∙ quotient_over (neg_ℤ (whole_at c.args.x.now c.column_of-c.result *ℤ pos (scale_at c.args.scales.now y))) (c.args.den * scale_at c.args.scales.now c.args.l) some
+    ∙ negative_over (p.coefficient c.args.l y) _ _ (c.args.den * scale_at c.args.scales.now c.args.l) some refl (r.coefficients y c.column_of-c.result (below at.After-unknowns) c.column_of-c.ensures)
     ∙ multiplier_free c.args.system.now p c.args.l c.args.i y (place at.After-unknowns) c.if-y-l.false (h.basic y (below at.After-unknowns) ∙ sym c.is_basic.ensures ∙ c.if-is_basic.false)

@@ -1,7 +1,7 @@
 use Rattle.std.proofs.Common.{◌≡◌, ◌∙◌, ◌<◌, ◌+◌, ◌*◌, List, sym, ap, subst, arith, length, get_or, pos, to_z, of_z}
 use Rattle.std.specs.Int.{w64}
 use Rattle.std.proofs.lemmas.List.{get_or_read}
-use Rattle.mpc_exact.specs.Rational.{ℚ, int}
+use Rattle.mpc_exact.specs.Rational.{ℚ, int, frac}
 use Rattle.mpc_rows.specs.declared.systems.Row.{Row}
 use Rattle.mpc_rows.specs.LinearSystem.{entry, height}
 use Rattle.mpc_simplex.proofs.WholeSteps.{read_small}
@@ -28,11 +28,11 @@ loop-j-preserved c =
     let b : c.args.i * c.unknowns-width.result + c.loop-j.j < length c.loop-j.a =
     (let l : length c.loop-j.a ≡ length c.args.a.now = c.loop-j.auto.a in let r = c.requires.room in let k = row_below s.width c.args.i (height s) c.loop-j.j c.requires.row j_in in omega arith)
     in
-    let value : entry s c.args.i c.loop-j.j ≡ int z =
+    let value : entry s c.args.i c.loop-j.j ≡ frac z c.args.scale =
     sym (part_is at.In_ok-z) ∙ sym (get_or_read c.as_slice-row.result.now c.loop-j.j c.index-row-j.result (subst (λ m. c.loop-j.j < m) (sym (part_long at.In_ok-z)) j_in) c.index-row-j.is (int (pos 0)))
-    ∙ c.in_ok-z.ensures.value ∙ ap int (sym (read_small c.in_ok-z.z c.in_ok-z.ensures.small))
+    ∙ c.in_ok-z.ensures.value ∙ ap (λ u. frac u c.args.scale) (sym (read_small c.in_ok-z.z c.in_ok-z.ensures.small))
     in
     record {
-      done = read_done s.width c.args.a.now c.loop-j.a (entry s c.args.i) c.args.i c.loop-j.j (c.args.i * c.unknowns-width.result + c.loop-j.j) z q b c.loop-j.invariant.done value;
-      kept = read_kept s.width c.args.a.now c.loop-j.a (entry s c.args.i) c.args.i c.loop-j.j (c.args.i * c.unknowns-width.result + c.loop-j.j) z q b c.loop-j.invariant.kept;
+      done = read_done s.width c.args.scale c.args.a.now c.loop-j.a (entry s c.args.i) c.args.i c.loop-j.j (c.args.i * c.unknowns-width.result + c.loop-j.j) z q b c.loop-j.invariant.done value;
+      kept = read_kept s.width c.args.scale c.args.a.now c.loop-j.a (entry s c.args.i) c.args.i c.loop-j.j (c.args.i * c.unknowns-width.result + c.loop-j.j) z q b c.loop-j.invariant.kept;
     }

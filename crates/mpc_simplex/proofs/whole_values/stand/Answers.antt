@@ -1,10 +1,10 @@
 use Rattle.std.proofs.Common.{rules, sym, ◌∙◌, ap, ◌≡◌, ◌≤◌, ◌<◌, ◌+◌, ◌-◌, ◌^◌, ◌+ℤ◌, ◌*ℤ◌, ℕ, ℤ, pos, get_or, arith, to_z, of_z, FitsSigned, subst, unsigned_abs, List}
 use Rattle.std.specs.Int.{w64}
 use Rattle.std.proofs.lemmas.Int.{to_z-of_z}
-use Rattle.mpc_exact.specs.Rational.{int, frac}
+use Rattle.mpc_exact.specs.Rational.{frac}
 use Rattle.mpc_rows.specs.LinearSystem.{height}
 use Rattle.mpc_rows.specs.Run.{rest, bound}
-use Rattle.mpc_simplex.specs.Whole.{whole_at, whole_cell, IsSmall}
+use Rattle.mpc_simplex.specs.Whole.{whole_at, whole_cell, scale_at, IsSmall}
 use Rattle.mpc_simplex.proofs.Fits.{skip_term, first_unknowns, second_unknowns}
 use Rattle.mpc_simplex.proofs.WholeSums.{zero_over}
 use Rattle.mpc_simplex.proofs.WholeSteps.{value_more, rest_first, rest_second, values_at, read_small}
@@ -54,18 +54,20 @@ loop-y-preserved c =
     let first_b : whole_at c.args.b.now (c.loop-y.y - s.width) ≡ to_z w64 (of_z w64 (get_or c.args.b.now (c.loop-y.y - c.unknowns-width.result) (pos 0))) =
     ap (λ w. whole_at c.args.b.now (c.loop-y.y - w)) (sym e) ∙ sym (to_z-of_z w64 _ g)
     in
-    let second_b : (rest s c.loop-y.y).second ≡ int (to_z w64 (of_z w64 c.step_of-step.result)) =
-    rest_second s c.loop-y.y low ∙ ap (λ w. (bound s (s.width + (c.loop-y.y - w))).second) (sym e) ∙ sym c.step_of-step.ensures.value
-    ∙ ap int (sym (read_small c.step_of-step.result (let k = c.step_of-step.ensures.small in omega arith)))
+    let scale : 0 < scale_at c.args.scales.now c.loop-y.y = c.requires.scales.some c.loop-y.y (let k = c.loop-y-test.true in let q = c.requires.seated.count in omega arith) in
+    let there : s.width + (c.loop-y.y - c.unknowns-width.result) ≡ c.loop-y.y = omega arith in
+    let second_b : (rest s c.loop-y.y).second ≡ frac (to_z w64 (of_z w64 c.step_of-step.result)) (scale_at c.args.scales.now c.loop-y.y) =
+    rest_second s c.loop-y.y low ∙ ap (λ w. (bound s (s.width + (c.loop-y.y - w))).second) (sym e) ∙ c.step_of-step.ensures.value
+    ∙ (λ i. frac (sym (read_small c.step_of-step.result (let k = c.step_of-step.ensures.small in omega arith)) i) (scale_at c.args.scales.now (there i)))
     in
     record {
       firsts = λ p d t f h j k.
-          value_more s p t c.args.n c.args.seats.now d c.args.v.now f (λ z. (rest s z).first) c.loop-y.y c.column_of-c.result j (whole_at c.loop-y.c_1 j) (whole_at c.add_column.new.list j) _ c.loop-y-test.true c.column_of-c.ensures k
-          (rest_first s c.loop-y.y low c.args.b.now h side ∙ ap int first_b) (c.loop-y.invariant.firsts p d t f h j k)
+          value_more s p t c.args.n c.args.seats.now c.args.scales.now d c.args.v.now f (λ z. (rest s z).first) c.loop-y.y c.column_of-c.result j (whole_at c.loop-y.c_1 j) (whole_at c.add_column.new.list j) _ scale c.loop-y-test.true c.column_of-c.ensures k
+          (rest_first s c.loop-y.y low c.args.scales.now c.args.b.now h side ∙ ap (λ z. frac z (scale_at c.args.scales.now c.loop-y.y)) first_b) (c.loop-y.invariant.firsts p d t f h j k)
           (subst (λ w. whole_at c.add_column.new.list j ≡ whole_at c.loop-y.c_1 j +ℤ (whole_cell w c.args.v.now j c.column_of-c.result *ℤ to_z w64 (of_z w64 (get_or c.args.b.now (c.loop-y.y - c.unknowns-width.result) (pos 0))))) e
           (c.in_ok-add_column.ensures.sums j (omega arith)));
       seconds = λ p d t f h j k.
-          value_more s p t c.args.n c.args.seats.now d c.args.v.now f (λ z. (rest s z).second) c.loop-y.y c.column_of-c.result j (whole_at c.loop-y.c_2 j) (whole_at c.add_column-in-loop-y.new.list j) _ c.loop-y-test.true c.column_of-c.ensures k
+          value_more s p t c.args.n c.args.seats.now c.args.scales.now d c.args.v.now f (λ z. (rest s z).second) c.loop-y.y c.column_of-c.result j (whole_at c.loop-y.c_2 j) (whole_at c.add_column-in-loop-y.new.list j) _ scale c.loop-y-test.true c.column_of-c.ensures k
           second_b (c.loop-y.invariant.seconds p d t f h j k)
           (subst (λ w. whole_at c.add_column-in-loop-y.new.list j ≡ whole_at c.loop-y.c_2 j +ℤ (whole_cell w c.args.v.now j c.column_of-c.result *ℤ to_z w64 (of_z w64 c.step_of-step.result))) e
           (c.in_ok-add_column-2.ensures.sums j (omega arith)));
