@@ -30,6 +30,14 @@ impl<F: FnMut(u32) -> u64> Timed<F> {
         Timed { run, once: f64::MAX, many: f64::MAX, digest: 0 }
     }
 
+    /// The seconds of one round, with what comes before it.
+    #[allow(dead_code)]
+    pub fn first(&mut self) -> f64 {
+        let start = thread_time();
+        (self.run)(1);
+        thread_time() - start
+    }
+
     pub fn go(&mut self, rounds: u32) {
         let start = thread_time();
         (self.run)(1);

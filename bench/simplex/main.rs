@@ -1,5 +1,7 @@
-// Compares the proved decisions of systems of rows with plain Rust ones and with stated results: equal answers first, then how many
-// systems are answered in whole numbers and how many go over to fractions, then pivots a second. The argument names the file of systems.
+// Compares the proved decisions of systems of rows with two plain Rust ones, a run in whole numbers like the proved one and the run over
+// fractions, and with stated results: equal answers first, then how many systems fall back from whole numbers to fractions, then pivots a
+// second, the proved run over fractions beside. The words name files: systems with their results (.tsv), or plants, whose systems are those
+// that are decided on the way to their controllers.
 #[path = "../common/fractions.rs"]
 #[allow(dead_code)]
 mod fractions;
@@ -7,13 +9,16 @@ mod kernel;
 #[path = "../common/parts.rs"]
 mod parts;
 mod plain;
+mod plants;
+mod search;
 #[path = "../common/timing.rs"]
 mod timing;
 
 use fractions::{Frac, euclid};
 use parts::{Parts, frac, parts};
-use plain::{Answer, Row, System, ZERO, decide};
-use std::collections::BTreeMap;
+use plain::{Answer, Row, System, ZERO};
+use plants::Plant;
+use search::search;
 use timing::Timed;
 
 // ---- the proved library
@@ -99,21 +104,30 @@ impl Sent {
     }
 }
 
-// ---- the plain run, repeated
+// ---- the plain runs, repeated
 fn mixed(digest: u64, x: &Frac) -> u64 {
     digest.rotate_left(1) ^ x.num.unsigned_abs() as u64
 }
 
-fn repeat(system: &System, rounds: u32) -> u64 {
+fn repeat(rounds: u32, decide: impl Fn() -> Answer) -> u64 {
     let mut digest: u64 = 0;
     for _ in 0..rounds {
-        digest = match decide(system).0 {
+        digest = match decide() {
             Answer::Point(point) => point.iter().fold(digest, |d, p| mixed(mixed(d, &p.0), &p.1)),
             Answer::Refuted(multipliers) => multipliers.iter().fold(digest, mixed),
             Answer::Wide => digest.rotate_left(1),
         };
     }
     digest
+}
+
+fn by_fractions(system: &System) -> Answer {
+    plain::decide(system).0
+}
+
+/// The answer of the run in whole numbers, and by fractions where it gives up.
+fn by_kernel(system: &System) -> Answer {
+    kernel::decide(system).unwrap_or_else(|| by_fractions(system))
 }
 
 // ---- the file: a line of names, then for each system its width, its rows and its result, with tabs between
@@ -151,98 +165,199 @@ fn read_line(line: &str) -> (System, Answer) {
     (System { width, rows }, read_answer(fields[2]))
 }
 
-// ---- time
-/// Prints a line for these systems, and gives the seconds of one round of both.
-fn measure(name: &str, systems: &[(System, Sent)], pivots: u64) -> (f64, f64) {
-    const ROUNDS: u32 = 20;
-    let all = |step: &dyn Fn(&(System, Sent)) -> u64| systems.iter().fold(0u64, |digest, system| digest.rotate_left(1) ^ step(system));
-    let mut proved = Timed::new(|n| all(&|(_, sent)| sent.repeat(n)));
-    let mut plain = Timed::new(|n| all(&|(system, _)| repeat(system, n)));
-    for _ in 0..11 {
-        proved.go(ROUNDS);
-        plain.go(ROUNDS);
+/// The systems of a file with their results.
+fn stated(text: &str) -> Group {
+    let mut group = Group::default();
+    for (system, stated) in text.lines().skip(1).map(read_line) {
+        group.count(&system);
+        group.add(system, Some(stated));
     }
-    assert_eq!(proved.digest, plain.digest, "the digests of {name}");
-    let (p, f) = (proved.each(ROUNDS), plain.each(ROUNDS));
-    row(name, systems.len(), pivots, p, f);
-    (p, f)
+    group
 }
 
-fn row(name: &str, count: usize, pivots: u64, proved: f64, plain: f64) {
-    println!(
-        "{name:19} {count:4} systems {pivots:6} pivots   proved {:9.0} a second   plain Rust {:9.0} a second   time x {:.2}",
-        pivots as f64 / proved,
-        pivots as f64 / plain,
-        proved / plain
-    );
+// ---- the systems of a plant
+/// At most so many systems of a plant are found, and at most so many of them are measured.
+const MOST_FOUND: usize = 40_000;
+const MOST_KEPT: usize = 600;
+
+/// Some of the systems that come one after another, each with the same chance, and the same ones in each run.
+#[derive(Default)]
+struct Sample {
+    kept: Vec<System>,
+    seen: usize,
+    chance: u64,
 }
 
-/// Whether a system's decision is made in whole numbers.
-fn way(whole: bool) -> &'static str {
-    if whole { "whole" } else { "fractions" }
+impl Sample {
+    fn take(&mut self, system: &System) {
+        self.seen += 1;
+        if self.kept.len() < MOST_KEPT {
+            self.kept.push(system.clone());
+            return;
+        }
+        // the congruence of Knuth's MMIX
+        self.chance = self.chance.wrapping_mul(6364136223846793005).wrapping_add(1442695040888963407);
+        if let Some(place) = self.kept.get_mut((self.chance >> 32) as usize % self.seen) {
+            place.clone_from(system);
+        }
+    }
 }
 
-/// Systems that are measured together, or the sum of several such.
+/// The first systems that are decided on the way to a plant's controller.
+fn of_plant(text: &str) -> Group {
+    let program = Plant::read(text).program().expect("a program whose numbers fit");
+    let (mut group, mut sample) = (Group::default(), Sample::default());
+    let ended = search(&program, &mut |system| {
+        if group.found == MOST_FOUND {
+            return None;
+        }
+        sample.take(system);
+        match group.count(system) {
+            Answer::Point(_) => Some(true),
+            Answer::Refuted(_) => Some(false),
+            Answer::Wide => None,
+        }
+    });
+    group.ended = ended.is_err();
+    sample.kept.into_iter().for_each(|system| group.add(system, None));
+    group
+}
+
+// ---- groups of systems
+fn is_whole(system: &System) -> bool {
+    system.rows.iter().all(|row| row.a.iter().chain([&row.b]).all(|x| x.den == 1))
+}
+
+/// The system with one row more, in front, that holds everywhere and takes part in no step, but has a denominator that is too great for whole
+/// numbers. So the proved run goes by fractions.
+fn hindered(system: &System) -> System {
+    let row = Row { a: vec![ZERO; system.width], b: Frac { num: 1, den: 1 << 126 }, strict: false };
+    System { width: system.width, rows: std::iter::once(row).chain(system.rows.iter().cloned()).collect() }
+}
+
+/// A system as it is and as it goes by fractions, each as it is sent too.
+struct Measured {
+    system: System,
+    sent: Sent,
+    hindered: System,
+    hindered_sent: Sent,
+}
+
+impl Measured {
+    fn new(system: System) -> Self {
+        let hindered = hindered(&system);
+        Measured { sent: Sent::new(&system), system, hindered_sent: Sent::new(&hindered), hindered }
+    }
+}
+
+/// Systems that are measured together.
 #[derive(Default)]
 struct Class {
-    systems: Vec<(System, Sent)>,
-    count: usize,
+    systems: Vec<Measured>,
     pivots: u64,
-    proved: f64,
-    plain: f64,
+    seconds: Seconds,
 }
+
+/// The systems of a file.
+#[derive(Default)]
+struct Group {
+    found: usize,
+    /// How many of those that were found have rows with fractions, and how many fall back.
+    broken: usize,
+    fallen: usize,
+    /// Whether more systems would have been found.
+    ended: bool,
+    different: usize,
+    /// Those in whole numbers with whole rows, those with fractions in their rows, and those that fall back.
+    classes: [Class; 3],
+}
+
+const NAMES: [&str; 3] = ["whole", "with fractions", "fall back"];
+
+impl Group {
+    /// Counts a system that was found, and answers it.
+    fn count(&mut self, system: &System) -> Answer {
+        let answer = kernel::decide(system);
+        self.found += 1;
+        self.broken += usize::from(!is_whole(system));
+        self.fallen += usize::from(answer.is_none());
+        answer.unwrap_or_else(|| by_fractions(system))
+    }
+
+    /// Compares the answers on a system that is to be measured.
+    fn add(&mut self, system: System, stated: Option<Answer>) {
+        let (found, pivots) = plain::decide(&system);
+        let whole = kernel::decide(&system);
+        let class = if whole.is_none() { 2 } else { usize::from(!is_whole(&system)) };
+        let measured = Measured::new(system);
+        let agree = |other: Option<Answer>| other.is_none_or(|other| other == found);
+        self.different += usize::from(measured.sent.decide().as_ref() != Some(&found) || !agree(stated) || !agree(whole));
+        self.classes[class].pivots += pivots;
+        self.classes[class].systems.push(measured);
+    }
+
+    fn print(&mut self, name: &str) {
+        let share = |part: usize| 100.0 * part as f64 / self.found.max(1) as f64;
+        let first = if self.ended { "the first " } else { "" };
+        let (broken, fallen) = (share(self.broken), share(self.fallen));
+        println!("{name}: {first}{} systems, {broken:.1} % with fractions, {fallen:.1} % fall back, {} different", self.found, self.different);
+        let (mut count, mut pivots, mut seconds) = (0, 0, Seconds::default());
+        for (class, name) in self.classes.iter_mut().zip(NAMES).filter(|(class, _)| !class.systems.is_empty()) {
+            class.measure(name);
+            row(name, class.systems.len(), class.pivots, &class.seconds);
+            (count, pivots) = (count + class.systems.len(), pivots + class.pivots);
+            seconds.iter_mut().zip(&class.seconds).for_each(|(sum, more)| *sum += more);
+        }
+        row("all", count, pivots, &seconds);
+    }
+}
+
+// ---- time
+/// The seconds of one round of the proved run, of the plain one in whole numbers, of the proved run over fractions and of the plain one.
+type Seconds = [f64; 4];
+
+const GOES: usize = 11;
+/// How long a go lasts at least, unless that takes more rounds than so many.
+const GO_SECONDS: f64 = 0.02;
+const MOST_ROUNDS: f64 = 50.0;
 
 impl Class {
     fn measure(&mut self, name: &str) {
-        (self.proved, self.plain) = measure(name, &self.systems, self.pivots);
-    }
-
-    fn add(&mut self, other: &Class) {
-        self.count += other.count;
-        self.pivots += other.pivots;
-        self.proved += other.proved;
-        self.plain += other.plain;
-    }
-
-    fn print(&self, name: &str) {
-        row(name, self.count, self.pivots, self.proved, self.plain);
+        let all = |step: &dyn Fn(&Measured) -> u64| self.systems.iter().fold(0u64, |digest, system| digest.rotate_left(1) ^ step(system));
+        let mut proved = Timed::new(|n| all(&|s| s.sent.repeat(n)));
+        let mut whole = Timed::new(|n| all(&|s| repeat(n, || by_kernel(&s.system))));
+        let mut proved_fractions = Timed::new(|n| all(&|s| s.hindered_sent.repeat(n)));
+        let mut fractions = Timed::new(|n| all(&|s| repeat(n, || by_fractions(&s.hindered))));
+        let rounds = (GO_SECONDS / whole.first()).clamp(1.0, MOST_ROUNDS) as u32;
+        let few = rounds.div_ceil(5);
+        for _ in 0..GOES {
+            proved.go(rounds);
+            whole.go(rounds);
+            proved_fractions.go(few);
+            fractions.go(few);
+        }
+        assert!(proved.digest == whole.digest && proved_fractions.digest == fractions.digest, "the digests of {name}");
+        self.seconds = [proved.each(rounds), whole.each(rounds), proved_fractions.each(few), fractions.each(few)];
     }
 }
 
+fn row(name: &str, count: usize, pivots: u64, seconds: &Seconds) {
+    let [proved, whole, by_fractions, fractions] = seconds.map(|s| pivots as f64 / s);
+    let (more, times) = (seconds[0] / seconds[1], seconds[2] / seconds[0]);
+    println!("{name:16} {count:7} {pivots:7} | {proved:9.0} {whole:9.0} {more:7.2} | {by_fractions:9.0} {fractions:9.0} {times:7.1}");
+}
+
 fn main() {
-    let path = std::env::args().nth(1).expect("the file of systems");
-    let text = std::fs::read_to_string(&path).expect("the file of systems");
-    let mut classes: BTreeMap<(usize, bool), Class> = BTreeMap::new();
-    let (mut count, mut different, mut fractions) = (0, 0, 0);
-    for line in text.lines().skip(1) {
-        let (system, stated) = read_line(line);
-        let sent = Sent::new(&system);
-        let (found, pivots) = decide(&system);
-        let whole = kernel::answers(&system);
-        count += 1;
-        fractions += usize::from(!whole);
-        if found != stated || sent.decide() != Some(stated) {
-            different += 1;
-            println!("different at: {line}");
-        }
-        let class = classes.entry((system.width, !whole)).or_default();
-        class.count += 1;
-        class.pivots += pivots;
-        class.systems.push((system, sent));
+    println!("pivots a second: proved and in plain Rust, with the factor of the time; both over fractions, and how many times as fast the proved is");
+    println!("{:16} {:>7} {:>7} | {:>9} {:>9} {:>7} | {:>9} {:>9} {:>7}", "", "systems", "pivots", "proved", "plain", "time x", "fractions", "plain", "times");
+    let mut different = 0;
+    for path in std::env::args().skip(1) {
+        let text = std::fs::read_to_string(&path).unwrap_or_else(|error| panic!("{path}: {error}"));
+        let mut group = if path.ends_with(".tsv") { stated(&text) } else { of_plant(&text) };
+        let file = path.rsplit('/').next().unwrap_or(&path);
+        group.print(file.rsplit_once('.').map_or(file, |(name, _)| name));
+        different += group.different;
     }
-    println!("{count} systems compared: {different} different");
-    println!("{} in whole numbers, {fractions} by fractions ({:.0} %)", count - fractions, 100.0 * fractions as f64 / count as f64);
-    let mut sums = [true, false].map(|whole| (whole, Class::default()));
-    let mut all = Class::default();
-    for ((width, by_fractions), class) in &mut classes {
-        class.measure(&format!("width {width:2}, {}", way(!*by_fractions)));
-        sums[usize::from(*by_fractions)].1.add(class);
-        all.add(class);
-    }
-    for (whole, sum) in &sums {
-        sum.print(way(*whole));
-    }
-    all.print("all");
     if different > 0 {
         std::process::exit(1);
     }

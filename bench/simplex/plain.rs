@@ -3,16 +3,18 @@ use crate::fractions::{Fast, Frac, Rules, Wide};
 use std::cmp::Ordering;
 
 pub const ZERO: Frac = Frac { num: 0, den: 1 };
-const ONE: Frac = Frac { num: 1, den: 1 };
+pub const ONE: Frac = Frac { num: 1, den: 1 };
 const MINUS_ONE: Frac = Frac { num: -1, den: 1 };
 
 /// The row `a v <= b`, or `a v < b` where it is strict.
+#[derive(Clone)]
 pub struct Row {
     pub a: Vec<Frac>,
     pub b: Frac,
     pub strict: bool,
 }
 
+#[derive(Clone)]
 pub struct System {
     pub width: usize,
     pub rows: Vec<Row>,
