@@ -11,9 +11,9 @@ const MOST_SCALE: u64 = 1 << 40;
 /// The most steps that are made on whole numbers.
 const STEPS: u32 = 1_000_000;
 
-/// The coefficients of the unknowns over one denominator, a column for each nonbasic variable, beside the rows in whole numbers.
-struct Kernel<'a> {
-    system: &'a System,
+/// The rows of a system in whole numbers, and what a run on them needs to know beforehand.
+pub struct Rows {
+    width: usize,
     /// What each row was multiplied by.
     scales: Vec<i64>,
     /// Row by row, a number for each unknown.
@@ -21,11 +21,16 @@ struct Kernel<'a> {
     b: Vec<i64>,
     /// The second part of each bound.
     steps: Vec<i64>,
+    /// What no coefficient of an unknown may exceed in size.
+    most: i64,
+}
+
+/// A run: the coefficients of the unknowns over one denominator, a column for each nonbasic variable.
+pub struct Run<'a> {
+    rows: &'a Rows,
     /// Unknown by unknown, a number for each column.
     v: Vec<i64>,
     den: i64,
-    /// What no number of v may exceed in size.
-    most: i64,
     /// The column of each variable, by its number, where it isn't basic.
     columns: Vec<Option<usize>>,
     /// The values of the unknowns times the denominator, in both parts.
@@ -92,8 +97,19 @@ fn limit(width: usize, n: usize, entry: u128, side: u128, scale: u128) -> Option
     (most > 0).then_some(most as i64)
 }
 
-impl<'a> Kernel<'a> {
-    fn read(system: &'a System) -> Option<Kernel<'a>> {
+/// The quotient, if it is whole and no greater in size than that.
+fn quotient(z: i128, by: i64, most: i64) -> Option<i64> {
+    // a division of 64 bits takes a fraction of the time
+    let quotient = match i64::try_from(z) {
+        Ok(z) => (z / by) as i128,
+        Err(_) => z / by as i128,
+    };
+    (quotient.unsigned_abs() <= most.unsigned_abs() as u128 && quotient * by as i128 == z).then_some(quotient as i64)
+}
+
+impl Rows {
+    /// The rows of the system, if they can be had in whole numbers that leave room for a run.
+    pub fn read(system: &System) -> Option<Rows> {
         let (width, height) = (system.width, system.rows.len());
         let (mut scales, mut a, mut b) = (Vec::with_capacity(height), Vec::with_capacity(width * height), Vec::with_capacity(height));
         for row in &system.rows {
@@ -105,36 +121,50 @@ impl<'a> Kernel<'a> {
             scales.push(scale);
         }
         let most = limit(width, width + height, greatest(&a), greatest(&b).max(1), greatest(&scales).max(1))?;
-        let mut v = vec![0; width * width];
-        v.iter_mut().step_by(width + 1).for_each(|entry| *entry = 1);
-        Some(Kernel {
-            system,
-            steps: system.rows.iter().zip(&scales).map(|(row, scale)| if row.strict { -scale } else { 0 }).collect(),
-            scales,
-            a,
-            b,
-            v,
-            den: 1,
-            most,
-            columns: (0..width).map(Some).chain((0..height).map(|_| None)).collect(),
-            first: vec![0; width],
-            second: vec![0; width],
-            row: vec![0; width],
-        })
+        let steps = system.rows.iter().zip(&scales).map(|(row, scale)| if row.strict { -scale } else { 0 }).collect();
+        Some(Rows { width, scales, a, b, steps, most })
+    }
+
+    fn height(&self) -> usize {
+        self.b.len()
     }
 
     fn line(&self, i: usize) -> &[i64] {
-        &self.a[i * self.system.width..(i + 1) * self.system.width]
+        &self.a[i * self.width..(i + 1) * self.width]
+    }
+}
+
+impl<'a> Run<'a> {
+    pub fn new(rows: &'a Rows) -> Run<'a> {
+        let width = rows.width;
+        Run {
+            rows,
+            v: vec![0; width * width],
+            den: 1,
+            columns: vec![None; width + rows.height()],
+            first: vec![0; width],
+            second: vec![0; width],
+            row: vec![0; width],
+        }
+    }
+
+    /// Sets the run to the opening.
+    fn open(&mut self) {
+        let width = self.rows.width;
+        self.v.fill(0);
+        self.v.iter_mut().step_by(width + 1).for_each(|entry| *entry = 1);
+        self.den = 1;
+        self.columns.iter_mut().enumerate().for_each(|(y, column)| *column = (y < width).then_some(y));
     }
 
     /// Forms the values of the unknowns, if they stay small.
     fn stand(&mut self) -> Option<()> {
-        let width = self.system.width;
+        let (rows, width) = (self.rows, self.rows.width);
         self.first.fill(0);
         self.second.fill(0);
         for (i, column) in self.columns[width..].iter().enumerate() {
             let Some(c) = *column else { continue };
-            let (bound, step) = (self.b[i], self.steps[i]);
+            let (bound, step) = (rows.b[i], rows.steps[i]);
             for (j, line) in self.v.chunks_exact(width).enumerate() {
                 self.first[j] = small(self.first[j] as i128 + product(line[c], bound))?;
                 if step != 0 {
@@ -146,20 +176,19 @@ impl<'a> Kernel<'a> {
     }
 
     fn is_out(&self, i: usize) -> bool {
-        let (line, bound) = (self.line(i), product(self.b[i], self.den));
+        let (line, bound) = (self.rows.line(i), product(self.rows.b[i], self.den));
         let value = dot(line, &self.first);
-        value > bound || value == bound && dot(line, &self.second) > product(self.steps[i], self.den)
+        value > bound || value == bound && dot(line, &self.second) > product(self.rows.steps[i], self.den)
     }
 
     /// The least of the basic sides above their bounds.
     fn leaving(&self) -> Option<usize> {
-        let width = self.system.width;
-        (0..self.b.len()).find(|i| self.columns[width + i].is_none() && self.is_out(*i))
+        let width = self.rows.width;
+        (0..self.rows.height()).find(|i| self.columns[width + i].is_none() && self.is_out(*i))
     }
 
     fn form_row(&mut self, i: usize) {
-        let width = self.system.width;
-        let line = &self.a[i * width..(i + 1) * width];
+        let (line, width) = (self.rows.line(i), self.rows.width);
         for (c, x) in self.row.iter_mut().enumerate() {
             let column = self.v.chunks_exact(width).map(|unknown| unknown[c]);
             *x = line.iter().zip(column).map(|(a, v)| product(*a, v)).sum::<i128>() as i64;
@@ -167,14 +196,14 @@ impl<'a> Kernel<'a> {
     }
 
     fn entering(&self) -> Option<usize> {
-        let width = self.system.width;
+        let width = self.rows.width;
         let may_enter = |y: usize, c: usize| self.row[c] > 0 || self.row[c] < 0 && y < width;
         self.columns.iter().enumerate().position(|(y, column)| column.is_some_and(|c| may_enter(y, c)))
     }
 
     /// The pivot on the row and the column, if all numbers stay whole and small.
     fn pivot(&mut self, e: usize) -> Option<()> {
-        let (row, den, most) = (&self.row, self.den as i128, self.most.unsigned_abs() as u128);
+        let row = &self.row;
         let size = row[e].abs();
         for line in self.v.chunks_exact_mut(row.len()) {
             let factor = if row[e] < 0 { -line[e] } else { line[e] };
@@ -183,12 +212,7 @@ impl<'a> Kernel<'a> {
                     *entry = factor;
                     continue;
                 }
-                let dividend = product(*entry, size) - product(factor, *x);
-                let quotient = dividend / den;
-                if quotient.unsigned_abs() > most || quotient * den != dividend {
-                    return None;
-                }
-                *entry = quotient as i64;
+                *entry = quotient(product(*entry, size) - product(factor, *x), self.den, self.rows.most)?;
             }
         }
         self.den = size;
@@ -206,27 +230,29 @@ impl<'a> Kernel<'a> {
         };
         let c = self.columns[y]?;
         self.pivot(c)?;
-        self.columns[self.system.width + i] = Some(c);
+        self.columns[self.rows.width + i] = Some(c);
         self.columns[y] = None;
         Some(Found::Next)
     }
 
     fn point(&self) -> Answer {
-        let quotient = |z: &i64| Fast::new(*z as i128, self.den as i128);
-        Answer::Point(self.first.iter().zip(&self.second).map(|(q, r)| (quotient(q), quotient(r))).collect())
+        let value = |z: &i64| Fast::new(*z as i128, self.den as i128);
+        Answer::Point(self.first.iter().zip(&self.second).map(|(q, r)| (value(q), value(r))).collect())
     }
 
     fn multipliers(&self, l: usize) -> Answer {
-        let den = product(self.den, self.scales[l]);
-        let multiplier = |i: usize| match self.columns[self.system.width + i] {
+        let den = product(self.den, self.rows.scales[l]);
+        let multiplier = |i: usize| match self.columns[self.rows.width + i] {
             None if i == l => ONE,
             None => ZERO,
-            Some(c) => Fast::new(-product(self.row[c], self.scales[i]), den),
+            Some(c) => Fast::new(-product(self.row[c], self.rows.scales[i]), den),
         };
-        Answer::Refuted((0..self.b.len()).map(multiplier).collect())
+        Answer::Refuted((0..self.rows.height()).map(multiplier).collect())
     }
 
-    fn end(&mut self) -> Option<Answer> {
+    /// What the system is found to have, if the run comes to its end. It can be called again.
+    pub fn end(&mut self) -> Option<Answer> {
+        self.open();
         for _ in 0..STEPS {
             match self.step()? {
                 Found::Point => return Some(self.point()),
@@ -240,5 +266,5 @@ impl<'a> Kernel<'a> {
 
 /// What the system is found to have, if the run in whole numbers comes to its end.
 pub fn decide(system: &System) -> Option<Answer> {
-    Kernel::read(system)?.end()
+    Run::new(&Rows::read(system)?).end()
 }

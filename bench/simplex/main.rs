@@ -15,6 +15,7 @@ mod search;
 mod timing;
 
 use fractions::{Frac, euclid};
+use kernel::{Rows, Run};
 use parts::{Parts, frac, parts};
 use plain::{Answer, Row, System, ZERO};
 use plants::Plant;
@@ -109,7 +110,7 @@ fn mixed(digest: u64, x: &Frac) -> u64 {
     digest.rotate_left(1) ^ x.num.unsigned_abs() as u64
 }
 
-fn repeat(rounds: u32, decide: impl Fn() -> Answer) -> u64 {
+fn repeat(rounds: u32, mut decide: impl FnMut() -> Answer) -> u64 {
     let mut digest: u64 = 0;
     for _ in 0..rounds {
         digest = match decide() {
@@ -235,9 +236,10 @@ fn hindered(system: &System) -> System {
     System { width: system.width, rows: std::iter::once(row).chain(system.rows.iter().cloned()).collect() }
 }
 
-/// A system as it is and as it goes by fractions, each as it is sent too.
+/// A system as it is and as it goes by fractions, each as it is sent too, and its rows in whole numbers, where they can be had.
 struct Measured {
     system: System,
+    rows: Option<Rows>,
     sent: Sent,
     hindered: System,
     hindered_sent: Sent,
@@ -246,7 +248,13 @@ struct Measured {
 impl Measured {
     fn new(system: System) -> Self {
         let hindered = hindered(&system);
-        Measured { sent: Sent::new(&system), system, hindered_sent: Sent::new(&hindered), hindered }
+        Measured { sent: Sent::new(&system), rows: Rows::read(&system), system, hindered_sent: Sent::new(&hindered), hindered }
+    }
+
+    /// The plain run in whole numbers again and again, on rows that were read and lists that were taken before.
+    fn repeat_ready(&self, rounds: u32) -> u64 {
+        let mut run = self.rows.as_ref().map(Run::new);
+        repeat(rounds, || run.as_mut().and_then(Run::end).unwrap_or_else(|| by_fractions(&self.system)))
     }
 }
 
@@ -313,8 +321,9 @@ impl Group {
 }
 
 // ---- time
-/// The seconds of one round of the proved run, of the plain one in whole numbers, of the proved run over fractions and of the plain one.
-type Seconds = [f64; 4];
+/// The seconds of one round: of the proved run, of the plain one in whole numbers, of that on rows that were read before, of the proved run
+/// over fractions and of the plain one.
+type Seconds = [f64; 5];
 
 const GOES: usize = 11;
 /// How long a go lasts at least, unless that takes more rounds than so many.
@@ -326,6 +335,7 @@ impl Class {
         let all = |step: &dyn Fn(&Measured) -> u64| self.systems.iter().fold(0u64, |digest, system| digest.rotate_left(1) ^ step(system));
         let mut proved = Timed::new(|n| all(&|s| s.sent.repeat(n)));
         let mut whole = Timed::new(|n| all(&|s| repeat(n, || by_kernel(&s.system))));
+        let mut ready = Timed::new(|n| all(&|s| s.repeat_ready(n)));
         let mut proved_fractions = Timed::new(|n| all(&|s| s.hindered_sent.repeat(n)));
         let mut fractions = Timed::new(|n| all(&|s| repeat(n, || by_fractions(&s.hindered))));
         let rounds = (GO_SECONDS / whole.first()).clamp(1.0, MOST_ROUNDS) as u32;
@@ -333,23 +343,30 @@ impl Class {
         for _ in 0..GOES {
             proved.go(rounds);
             whole.go(rounds);
+            ready.go(rounds);
             proved_fractions.go(few);
             fractions.go(few);
         }
-        assert!(proved.digest == whole.digest && proved_fractions.digest == fractions.digest, "the digests of {name}");
-        self.seconds = [proved.each(rounds), whole.each(rounds), proved_fractions.each(few), fractions.each(few)];
+        assert_eq!([proved.digest; 2], [whole.digest, ready.digest], "the digests of {name}");
+        assert_eq!(proved_fractions.digest, fractions.digest, "the digests over fractions of {name}");
+        self.seconds = [proved.each(rounds), whole.each(rounds), ready.each(rounds), proved_fractions.each(few), fractions.each(few)];
     }
 }
 
 fn row(name: &str, count: usize, pivots: u64, seconds: &Seconds) {
-    let [proved, whole, by_fractions, fractions] = seconds.map(|s| pivots as f64 / s);
-    let (more, times) = (seconds[0] / seconds[1], seconds[2] / seconds[0]);
-    println!("{name:16} {count:7} {pivots:7} | {proved:9.0} {whole:9.0} {more:7.2} | {by_fractions:9.0} {fractions:9.0} {times:7.1}");
+    let [proved, whole, ready, by_fractions, fractions] = seconds.map(|s| pivots as f64 / s);
+    let (more, times) = (seconds[0] / seconds[1], seconds[3] / seconds[0]);
+    println!("{name:16} {count:7} {pivots:7} | {proved:9.0} {whole:9.0} {more:6.2} {ready:9.0} | {by_fractions:9.0} {fractions:9.0} {times:6.1}");
 }
 
+const HEAD: &str = "pivots a second
+  in whole numbers: proved, in plain Rust, the factor of the time, and in plain Rust on rows that were read before
+  over fractions: proved, in plain Rust, and how many times as long the proved run takes as in whole numbers";
+
 fn main() {
-    println!("pivots a second: proved and in plain Rust, with the factor of the time; both over fractions, and how many times as fast the proved is");
-    println!("{:16} {:>7} {:>7} | {:>9} {:>9} {:>7} | {:>9} {:>9} {:>7}", "", "systems", "pivots", "proved", "plain", "time x", "fractions", "plain", "times");
+    println!("{HEAD}");
+    print!("{:16} {:>7} {:>7} | {:>9} {:>9} {:>6} {:>9}", "", "systems", "pivots", "proved", "plain", "time x", "read");
+    println!(" | {:>9} {:>9} {:>6}", "proved", "plain", "times");
     let mut different = 0;
     for path in std::env::args().skip(1) {
         let text = std::fs::read_to_string(&path).unwrap_or_else(|error| panic!("{path}: {error}"));
