@@ -1,13 +1,12 @@
 -- What a step along its direction makes of the equations, of the multipliers and of the value of the relaxed problem.
-use Rattle.std.proofs.Common.{◌≡◌, ℕ, ◌<◌, List, [], ◌∷◌, length, pos, sym, ◌∙◌, ap, subst, arith, ⊎_elim}
+use Rattle.std.proofs.Common.{◌≡◌, ℕ, ◌<◌, List, [], ◌∷◌, length, pos, sym, ◌∙◌, ap, subst, arith}
 use Rattle.mpc_exact.specs.Rational.{ℚ, int, ◌+ℚ◌, ◌-ℚ◌, ◌*ℚ◌, neg_ℚ, ◌≤ℚ◌, ◌<ℚ◌, IsNonneg}
 use Rattle.mpc_exact.proofs.RationalRing.{reads, by_ring, by_equation}
-use Rattle.mpc_exact.proofs.RationalOrder.{nonneg_int, ≤ℚ_of_<}
 use Rattle.mpc_space.specs.Vector.{coordinate, dot, vec_add, vec_scale, mat_vec, vec_mat, quadratic, IsZero, IsSymmetric, AllNonneg}
 use Rattle.mpc_space.specs.Matrix.{height}
 use Rattle.mpc_space.specs.Definite.{IsDefinite}
 use Rattle.mpc_space.specs.Optimality.{objective}
-use Rattle.mpc_space.proofs.Entries.{coordinate-add, coordinate-scale, length-add, length-scale, dot-zero, nonneg_at, nonneg_by_entries, zero_or_not}
+use Rattle.mpc_space.proofs.Entries.{coordinate-add, coordinate-scale, length-add, length-scale, dot-zero, nonneg_at, nonneg_by_entries}
 use Rattle.mpc_space.proofs.Vector.{dot_comm, dot-add, dot-scale}
 use Rattle.mpc_space.proofs.Matrix.{mat_vec-add, mat_vec-scale, vec_mat-add, vec_mat-scale, symmetric_swap}
 use Rattle.mpc_space.proofs.Definite.{definite_at}
@@ -32,9 +31,6 @@ excess_of qp t p = level qp p.point p.row -ℚ side (sides_at qp t) p.row
 
 pub record ValueIs (qp : Qp) (t : List ℚ) (p : Position) (value : ℚ) : Type 0 where
   pub is : value ≡ cost_of qp t p.point +ℚ int (pos 2) *ℚ (p.weight *ℚ excess_of qp t p)
-
-pub nonneg_form : (h : List (List ℚ)) → IsDefinite h → (d : List ℚ) → length d ≡ length h → IsNonneg (quadratic h d)
-nonneg_form h definite d e = ⊎_elim (λ z. subst IsNonneg (sym (dot_comm d (mat_vec h d) ∙ dot-zero (mat_vec h d) d z)) (nonneg_int 0)) (λ k. ≤ℚ_of_< (definite_at definite d e k)) (zero_or_not d)
 
 along_cost : (x a2 s q f0 fd : ℚ) → (x +ℚ int (pos 2) *ℚ (s *ℚ a2) +ℚ (s *ℚ s) *ℚ q) +ℚ int (pos 2) *ℚ (f0 +ℚ s *ℚ fd) ≡ (x +ℚ int (pos 2) *ℚ f0) +ℚ int (pos 2) *ℚ (s *ℚ (a2 +ℚ fd)) +ℚ (s *ℚ s) *ℚ q
 along_cost x a2 s q f0 fd = by_ring (x ∷ a2 ∷ s ∷ q ∷ f0 ∷ fd ∷ []) (search reads depth 30) (search reads depth 30) tt

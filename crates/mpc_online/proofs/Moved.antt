@@ -1,5 +1,5 @@
 -- Positions that move: their parts, and which numbers fit.
-use Rattle.std.proofs.Common.{◌≡◌, List, sym, subst}
+use Rattle.std.proofs.Common.{◌≡◌, List, subst}
 use Rattle.mpc_exact.specs.Rational.{ℚ}
 use Rattle.mpc_frac.specs.Fits.{FitsSum}
 use Rattle.mpc_space.specs.Vector.{vec_add, vec_scale}
@@ -17,12 +17,3 @@ grown_as xs ys zs s d e h = subst (λ us. zs ≡ vec_add us (vec_scale s d)) e h
 
 pub move_fits : (p : Position) (d e : List ℚ) (s : ℚ) → GrowsFit p.point s d → GrowsFit p.multipliers s e → FitsSum p.weight s → MoveFits p d e s
 move_fits p d e s a b c = record { point = a; multipliers = b; weight = c }
-
-pub wide_point : (p : Position) (d e : List ℚ) (s : ℚ) (xs : List ℚ) → xs ≡ p.point → ¬ GrowsFit xs s d → ¬ MoveFits p d e s
-wide_point p d e s xs is h f = h (subst (λ zs. GrowsFit zs s d) (sym is) f.point)
-
-pub wide_multipliers : (p : Position) (d e : List ℚ) (s : ℚ) (xs : List ℚ) → xs ≡ p.multipliers → ¬ GrowsFit xs s e → ¬ MoveFits p d e s
-wide_multipliers p d e s xs is h f = h (subst (λ zs. GrowsFit zs s e) (sym is) f.multipliers)
-
-pub wide_weight : (p : Position) (d e : List ℚ) (s : ℚ) → ¬ FitsSum p.weight s → ¬ MoveFits p d e s
-wide_weight p d e s h f = h f.weight

@@ -1,13 +1,13 @@
 -- How loops write a matrix, entry by entry and row by row.
 use Rattle.std.proofs.Common.{◌≡◌, ◌≢◌, ℕ, ◌+◌, ◌<◌, ◌≤◌, [], length, get_or, set, pos, refl, sym, ◌∙◌, ap, subst, arith, ⊎_elim}
 use Rattle.std.proofs.lemmas.Bool.{cases_eq}
-use Rattle.std.proofs.lemmas.List.{length-replicate, get_or-replicate, length-set, get_or-set_same, get_or-set_other}
+use Rattle.std.proofs.lemmas.List.{length-set, get_or-set_same, get_or-set_other}
 use Rattle.std.proofs.lemmas.List.Elements.{All-set}
 use Rattle.mpc_exact.specs.Rational.{ℚ, int}
-use Rattle.mpc_space.specs.Vector.{coordinate, zeros}
+use Rattle.mpc_space.specs.Vector.{coordinate}
 use Rattle.mpc_space.specs.Matrix.{RationalMatrix, height, IsRectangular, entry, tabled}
 use Rattle.mpc_space.proofs.Matrix.{same_matrix, rectangular-tabled, height-tabled, entry-tabled}
-use Rattle.mpc_linear.specs.Entries.{with_entry, zero_matrix}
+use Rattle.mpc_linear.specs.Entries.{with_entry}
 use Rattle.mpc_online.specs.Writing.{WritesRow}
 
 -- ---- one entry
@@ -71,17 +71,6 @@ pub record WritingTable (m : RationalMatrix) (rows columns k : ℕ) (f : ℕ →
   pub columns_is : m.columns ≡ columns
   pub rectangular : IsRectangular m
   pub entries : (i j : ℕ) → i < k → j < columns → entry m i j ≡ f i j
-
-zero_height : (n w : ℕ) → height (zero_matrix n w) ≡ n
-zero_height n w = length-replicate n (zeros w)
-
-pub table_none : (m : RationalMatrix) (rows columns : ℕ) (f : ℕ → ℕ → ℚ) → m ≡ zero_matrix rows columns → WritingTable m rows columns 0 f
-table_none m n w f e = subst (λ z. WritingTable z n w 0 f) (sym e) (record {
-  height_is = zero_height n w;
-  columns_is = refl;
-  rectangular = λ k d l. ap length (get_or-replicate n k (zeros w) d (omega (arith, zero_height n w))) ∙ length-replicate w (int (pos 0));
-  entries = λ i j h l. absurd (omega arith);
-})
 
 pub table_more : (m new : RationalMatrix) (rows columns k : ℕ) (f : ℕ → ℕ → ℚ) → WritesRow m new k (f k) → WritingTable m rows columns k f → WritingTable new rows columns (k + 1) f
 table_more m new rows columns k f n w = record {

@@ -21,20 +21,6 @@ IsShortestBelow l e n (Some drop) = IsLeastBelow l e n drop.place × (drop.lengt
 pub shortest_none : (l e : List ℚ) → IsShortestBelow l e 0 None
 shortest_none l e k h = absurd (omega arith)
 
--- a place that doesn't fall
-pub shortest_kept : (l e : List ℚ) (n : ℕ) (o : Option Partial) → ¬ IsFalling e n → IsShortestBelow l e n o → IsShortestBelow l e (n + 1) o
-shortest_kept l e n None h s = λ k m f. ⊎_elim (λ q. h (subst (IsFalling e) q f)) (λ q. s k (omega arith) f) (cases_eq k n)
-shortest_kept l e n (Some drop) h s =
-    let b : drop.place < n = s.0.below in (
-      record {
-        below = omega arith;
-        falls = s.0.falls;
-        least = λ j m f. ⊎_elim (λ q. absurd (h (subst (IsFalling e) q f))) (λ q. s.0.least j (omega arith) f) (cases_eq j n);
-        first = s.0.first;
-      },
-      s.1,
-    )
-
 shortest_by : (l e : List ℚ) (n : ℕ) (earlier next : Partial) (b : Bool) → lt_ℚ next.length earlier.length ≡ b → next.place ≡ n → next.length ≡ quotient_at l e n → IsFalling e n → IsLeastBelow l e n earlier.place → earlier.length ≡ quotient_at l e earlier.place → IsShortestBelow l e (n + 1) (cond b (Some next) (Some earlier))
 shortest_by l e n earlier next true test place is f s e_is =
     let less : quotient_at l e n <ℚ quotient_at l e earlier.place = subst (λ u. u <ℚ quotient_at l e earlier.place) is (subst (λ u. next.length <ℚ u) e_is (lt_ℚ-true test)) in

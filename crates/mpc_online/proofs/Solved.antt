@@ -58,9 +58,6 @@ opposite a b q e = by_equation (int (pos 1)) e (by_ring (a ∷ b ∷ q ∷ []) (
 regrouped : (a b q : ℚ) → a +ℚ b +ℚ q ≡ int (pos 0) → a +ℚ q +ℚ b ≡ int (pos 0)
 regrouped a b q e = by_equation (int (pos 1)) e (by_ring (a ∷ b ∷ q ∷ []) (search reads depth 30) (search reads depth 30) tt)
 
-nothing_in_all : (a b c : ℚ) → a ≡ int (pos 0) → b ≡ int (pos 0) → c ≡ int (pos 0) → a +ℚ b +ℚ c ≡ int (pos 0)
-nothing_in_all a b c e f g = (λ i. e i +ℚ f i +ℚ g i) ∙ by_ring [] (search reads depth 30) (search reads depth 30) tt
-
 module _ (qp : Qp) (s : List ℕ) where
   abbrev n : ℕ
   n = height qp.h

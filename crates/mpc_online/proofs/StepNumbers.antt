@@ -49,9 +49,6 @@ slope_of_square q a m e f = by_equations (int (pos 1)) (int (negsuc 0)) e f (by_
 pub slope_below : (q a : ℚ) → a ≡ neg_ℚ q → IsPositive q → a <ℚ int (pos 0)
 slope_below q a e h = linear_lt (q ∷ a ∷ []) (eq e (lt h none)) (search claims depth 40) tt
 
-pub slope_nonpositive : (q a : ℚ) → a ≡ neg_ℚ q → IsNonneg q → a ≤ℚ int (pos 0)
-slope_nonpositive q a e h = linear_le (q ∷ a ∷ []) (eq e (le h none)) (search claims depth 40) tt
-
 -- ---- the equations move along
 pub balanced_along : (a q l u r b e s : ℚ) → a +ℚ q +ℚ (l +ℚ u *ℚ r) ≡ int (pos 0) → b +ℚ r +ℚ e ≡ int (pos 0) → (a +ℚ s *ℚ b) +ℚ q +ℚ ((l +ℚ s *ℚ e) +ℚ (u +ℚ s) *ℚ r) ≡ int (pos 0)
 balanced_along a q l u r b e s f g = by_equations (int (pos 1)) s f g (by_ring (a ∷ q ∷ l ∷ u ∷ r ∷ b ∷ e ∷ s ∷ []) (search reads depth 30) (search reads depth 30) tt)
