@@ -69,9 +69,6 @@ pub behind_some : {A : Type 0} (P : Type 0) (Q : A → Type 0) (o : Option A) (a
 behind_some P Q o a e h = subst (λ o. MatchOption o P Q) e h
 
 -- ---- numbers of words
-one_in_front : Option ℚ → Option (List ℚ) → Option (List ℚ)
-one_in_front x xs = option_and_then (λ y. option_map (λ ys. y ∷ ys) xs) x
-
 some_front : (x : ℚ) (xs : Option (List ℚ)) (numbers : List ℚ) → option_map (λ ys. x ∷ ys) xs ≡ Some numbers → (rest : List ℚ) × ((xs ≡ Some rest) × (numbers ≡ x ∷ rest))
 some_front x None numbers e = absurd (cc)
 some_front x (Some ys) numbers e = (ys, (refl, cc))

@@ -11,9 +11,6 @@ use Rattle.mpc_frac.specs.declared.FracError.TheVariants.{ZeroDenominator, Wide}
 pub power_bound : (i n : ℕ) → i ≤ n → 10 ^ i ≤ 10 ^ n
 power_bound i n h = let some : 0 < 10 = lit< tt in pow-le-pow_right some h
 
-pub power_positive : (n : ℕ) → 0 < 10 ^ n
-power_positive n = let h : 10 ^ 0 ≤ 10 ^ n = power_bound 0 n (omega arith) in omega arith
-
 -- with fewer than 18 digits there is room for one more
 pub digits_fit : (value i : ℕ) → value + 1 ≤ 10 ^ i → i < 18 → value * 10 + 10 ≤ 10 ^ 18
 digits_fit value i small few =
