@@ -1,13 +1,12 @@
 -- An input of which nothing is refused has replies.
-use Rattle.std.proofs.Common.{◌≡◌, ℕ, List, refl, sym, ap, subst, Some, None}
-use Rattle.mpc_exact.specs.Rational.{ℚ}
+use Rattle.std.proofs.Common.{◌≡◌, ℕ, List, refl, ap, subst, None}
 use Rattle.mpc_plant.specs.declared.plants.Plant.{Plant}
 use Rattle.mpc_replies.specs.Cut.{head_of}
 use Rattle.mpc_tight.specs.Tightening.{IsWideRow}
 use Rattle.mpc_states.specs.NoisePart.{plant_part, noise_part, noise_from}
 use Rattle.mpc_states.specs.Convex.{ProgramOutcome, not_definite, too_wide, convex, IsProgramOutcome}
-use Rattle.mpc_states.specs.Outcomes.{SolveOutcome, bad_plant, of_program, IsSolveOutcome, RobustOutcome, bad_robust_plant, bad_noise, of_robust_program, wide_row, robust_replies, IsRobustOutcome, WithNoise, WithProgram}
-use Rattle.mpc_states.specs.StateLaws.{NothingRefused, NothingRobustRefused, SolveIsComplete, RobustIsComplete}
+use Rattle.mpc_states.specs.Outcomes.{bad_plant, of_program, bad_robust_plant, bad_noise, of_robust_program, wide_row, robust_replies, WithNoise, WithProgram}
+use Rattle.mpc_states.specs.StateLaws.{NothingRefused, SolveIsComplete, RobustIsComplete}
 use Rattle.mpc_states.proofs.SamePlant.{same_plant}
 use Rattle.mpc_states.proofs.OneOutcomes.{no_file}
 

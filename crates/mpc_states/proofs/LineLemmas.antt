@@ -1,5 +1,5 @@
 -- What a line adds to the replies.
-use Rattle.std.proofs.Common.{◌≡◌, ℕ, Bool, true, false, List, ◌∷◌, ◌++◌, length, take, map, Some, None, Option, refl, sym, ◌∙◌, ap, subst, arith, append_assoc}
+use Rattle.std.proofs.Common.{◌≡◌, ℕ, Bool, true, false, List, ◌∷◌, ◌++◌, take, map, Some, None, Option, refl, sym, ◌∙◌, ap, subst, append_assoc}
 use Rattle.std.specs.Prelude.{MatchOption, MatchBool, codes}
 use Rattle.std.specs.List.{join_with_byte}
 use Rattle.std.proofs.lemmas.Bool.{false≢true}
@@ -15,15 +15,11 @@ use Rattle.mpc_table.specs.TableReplies.{answer_text}
 use Rattle.mpc_replies.specs.CountLine.{counts_of}
 use Rattle.mpc_online.specs.declared.Online.{Online}
 use Rattle.mpc_online.specs.OnlineRun.{IsRunEnd, answered, wide_in, OneRunEnd}
-use Rattle.mpc_states.specs.StateLines.{IsTooWide, reply_text, IsStateLine, has_reply, has_wide_run, IsLineTo, IsReplyLine, AreStateLines, no_lines, one_more, AddsLine, AddsStateLine, IsOf}
+use Rattle.mpc_states.specs.StateLines.{IsTooWide, reply_text, IsStateLine, has_reply, has_wide_run, IsLineTo, IsReplyLine, AreStateLines, one_more, AddsLine, AddsStateLine, IsOf}
 
 pub at_true : (b : Bool) (P Q : Type 0) → b ≡ true → MatchBool b P Q → P
 at_true true P Q e h = h
 at_true false P Q e h = absurd (false≢true e)
-
-pub at_false : (b : Bool) (P Q : Type 0) → b ≡ false → MatchBool b P Q → Q
-at_false true P Q e h = absurd (false≢true (sym e))
-at_false false P Q e h = h
 
 -- ---- the end of the run
 pub narrow : OneRunEnd → (qp : Qp) (t : List ℚ) (o : Online) → IsRunEnd qp t (answered o) → IsTooWide qp t → ⊥

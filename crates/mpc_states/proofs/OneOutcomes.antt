@@ -1,5 +1,5 @@
 -- One outcome is that of an input.
-use Rattle.std.proofs.Common.{◌≡◌, ◌≢◌, ℕ, List, inl, inr, refl, sym, ◌∙◌, ap, subst, Option, Some, None}
+use Rattle.std.proofs.Common.{◌≡◌, ◌≢◌, ℕ, List, inl, inr, refl, sym, ◌∙◌, ap, subst, None}
 use Rattle.mpc_exact.specs.Rational.{ℚ}
 use Rattle.mpc_space.specs.Matrix.{height, entry}
 use Rattle.mpc_plant.specs.declared.faults.PlantKind.{PlantKind}
@@ -8,16 +8,15 @@ use Rattle.mpc_plant.specs.WholePlant.{ReadsAsPlant, IsFirstFault}
 use Rattle.mpc_rows.specs.declared.programs.Qp.{Qp}
 use Rattle.mpc_rows.specs.declared.places.Place.{Place}
 use Rattle.mpc_rows.specs.declared.places.Place.TheVariants.{Pivot}
-use Rattle.mpc_definite.specs.Pivots.{PassesBelow, IsFirstNotPositive, IsFirstWide}
-use Rattle.mpc_condense.specs.Causes.{row_count}
+use Rattle.mpc_definite.specs.Pivots.{IsFirstNotPositive, IsFirstWide}
 use Rattle.mpc_condense.specs.ProgramLaws.{NoWidePlace, OneWidePlace}
 use Rattle.mpc_best.specs.BestReplies.{OneProgram}
-use Rattle.mpc_tight.specs.Tightening.{RowsFit, IsWideRow}
+use Rattle.mpc_tight.specs.Tightening.{IsWideRow}
 use Rattle.mpc_tight.specs.TightLaws.{OneWideRow, NoWideRow}
 use Rattle.mpc_replies.specs.Cut.{head_of}
 use Rattle.mpc_states.specs.NoisePart.{plant_part, noise_part, noise_from}
-use Rattle.mpc_states.specs.Convex.{HasProgram, IsConvexProgram, ProgramOutcome, not_definite, too_wide, convex, IsNotDefiniteAt, IsFirstWidePlace, wide_program, wide_pivot, IsProgramOutcome}
-use Rattle.mpc_states.specs.Outcomes.{OfPlant, SolveOutcome, bad_plant, of_program, IsSolveOutcome, OneSolveOutcome, RobustOutcome, bad_robust_plant, bad_noise, of_robust_program, wide_row, robust_replies, WithNoise, WithProgram, IsOutcomeOf, IsRobustOutcome, OneRobustOutcome}
+use Rattle.mpc_states.specs.Convex.{HasProgram, IsConvexProgram, ProgramOutcome, not_definite, too_wide, convex, wide_program, wide_pivot, IsProgramOutcome}
+use Rattle.mpc_states.specs.Outcomes.{SolveOutcome, bad_plant, of_program, OneSolveOutcome, RobustOutcome, bad_robust_plant, bad_noise, of_robust_program, wide_row, robust_replies, WithNoise, IsOutcomeOf, IsRobustOutcome, OneRobustOutcome}
 use Rattle.mpc_states.proofs.FirstPivots.{passes_not_positive, passes_wide, one_not_positive, one_pivot_wide, not_both}
 use Rattle.mpc_states.proofs.SamePlant.{same_plant}
 

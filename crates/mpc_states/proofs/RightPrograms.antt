@@ -1,16 +1,12 @@
 -- What a program says is right.
-use Rattle.std.proofs.Common.{◌≡◌, ℕ, List, take, sym, ◌∙◌, length, ◌↔◌}
+use Rattle.std.proofs.Common.{◌≡◌, List, sym, ◌∙◌, length, ◌↔◌}
 use Rattle.mpc_exact.specs.Rational.{ℚ}
-use Rattle.mpc_plant.specs.declared.plants.Plant.{Plant}
 use Rattle.mpc_plant.specs.Trajectory.{IsSequence, IsAdmissible, cost}
-use Rattle.mpc_plant.specs.Reply.{Reply, move, infeasible, IsRight}
-use Rattle.mpc_rows.specs.declared.programs.Qp.{Qp}
-use Rattle.mpc_rows.specs.ActiveSets.{extended, IsInBox, MeetsRows}
-use Rattle.mpc_condense.specs.Condensed.{stacked, program_cost, IsCondensed}
+use Rattle.mpc_plant.specs.Reply.{move, infeasible, IsRight}
+use Rattle.mpc_rows.specs.ActiveSets.{extended, MeetsRows}
+use Rattle.mpc_condense.specs.Condensed.{stacked, program_cost}
 use Rattle.mpc_condense.specs.ProgramLaws.{SameSequences}
-use Rattle.mpc_tight.specs.Disturbed.{IsRobustlyAdmissible, IsRobustlyRight}
-use Rattle.mpc_tight.specs.Tightened.{IsRobustProgram}
-use Rattle.mpc_states.specs.StateLines.{IsOf}
+use Rattle.mpc_tight.specs.Disturbed.{IsRobustlyAdmissible}
 use Rattle.mpc_states.specs.StateLaws.{ProgramIsRight, RobustProgramIsRight}
 use Rattle.mpc_states.proofs.Replies.{point_length, no_sequence, sequence, is_sequence, is_admissible, dearer_sequence, first_move}
 

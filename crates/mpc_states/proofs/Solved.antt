@@ -1,16 +1,15 @@
 -- The answers to whole inputs.
-use Rattle.std.proofs.Common.{◌≡◌, ◌≢◌, ℕ, List, Option, Some, None, Result, Ok, Err, IfOk, OnOk, length, refl, sym, ap, subst, ◌∙◌}
+use Rattle.std.proofs.Common.{◌≡◌, ℕ, List, Option, Some, Result, Ok, Err, IfOk, OnOk, length, ap, subst, ◌∙◌}
 use Rattle.std.specs.Str.Lines.{lines}
 use Rattle.std.proofs.lemmas.List.{length-map}
 use Rattle.mpc_exact.specs.Rational.{ℚ}
 use Rattle.mpc_plant.specs.declared.plants.Plant.{Plant}
 use Rattle.mpc_plant.specs.declared.lists.Coordinate.{Coordinate}
-use Rattle.mpc_plant.specs.Reply.{Reply, IsRight}
+use Rattle.mpc_plant.specs.Reply.{IsRight}
 use Rattle.mpc_plant.specs.WholePlant.{ReadsAsPlant}
 use Rattle.mpc_rows.specs.declared.programs.Qp.{Qp}
 use Rattle.mpc_rows.specs.declared.places.Place.{Place}
-use Rattle.mpc_condense.specs.Condensed.{counts_of, IsCondensed}
-use Rattle.mpc_condense.specs.Causes.{row_count}
+use Rattle.mpc_condense.specs.Condensed.{counts_of}
 use Rattle.mpc_tight.specs.Disturbed.{IsRobustlyRight}
 use Rattle.mpc_tight.specs.Tightening.{IsWideRow}
 use Rattle.mpc_tight.specs.Tightened.{IsTightened, IsRobustProgram}
@@ -19,7 +18,7 @@ use Rattle.mpc_states.specs.NoisePart.{plant_part, noise_part, noise_from}
 use Rattle.mpc_states.specs.StateLines.{IsOf, AreStateLines}
 use Rattle.mpc_states.specs.StateLaws.{ProgramIsRight, RobustProgramIsRight}
 use Rattle.mpc_states.specs.Convex.{ProgramOutcome, not_definite, too_wide, convex, IsNotDefiniteAt, IsFirstWidePlace, IsConvexProgram, IsProgramOutcome}
-use Rattle.mpc_states.specs.Outcomes.{OfPlant, WithNoise, WithProgram, bad_noise, of_robust_program, wide_row, robust_replies, IsOutcomeOf}
+use Rattle.mpc_states.specs.Outcomes.{OfPlant, bad_noise, of_robust_program, wide_row, robust_replies, IsOutcomeOf}
 use Rattle.mpc_states.specs.Inputs.{IsSolvedFor, IsRobustlySolvedFor, IsSolved, IsRobustlySolved, IsSolveCauseFor, IsRobustCauseFor, IsSolveCause, IsRobustCause}
 use Rattle.mpc_states.specs.declared.errors.SolveError.{SolveError}
 use Rattle.mpc_states.specs.declared.errors.SolveError.TheVariants.{BadPlant, NotDefinite, TooWide, NoMemory}

@@ -1,5 +1,3 @@
-use Rattle.std.proofs.Common.{ℕ, List}
-use Rattle.std.specs.Prelude.{option_map}
 use Rattle.std.proofs.lemmas.Result.{IfOk-weaker, IfErr-weaker, on_ok_weaker}
 use Rattle.mpc_states.proofs.Solved.{robustly_solved, robustly_replied, robust_cause}
 use Rattle.mpc_states.proofs.inputs.robust_input.Goals as goal

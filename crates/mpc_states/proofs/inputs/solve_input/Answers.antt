@@ -1,4 +1,3 @@
-use Rattle.std.proofs.Common.{ℕ, List}
 use Rattle.std.proofs.lemmas.Result.{IfOk-weaker, IfErr-weaker}
 use Rattle.mpc_states.proofs.Solved.{solved, replied, solve_cause, on_ok_from}
 use Rattle.mpc_states.proofs.inputs.solve_input.Goals as goal

@@ -1,8 +1,5 @@
-use Rattle.std.proofs.Common.{◌≡◌, ◌++◌, ◌∙◌, ap, sym, subst, take, map}
-use Rattle.std.specs.Prelude.{codes}
-use Rattle.std.specs.List.{join_with_byte}
+use Rattle.std.proofs.Common.{ap, take}
 use Rattle.std.proofs.lemmas.Result.{on_ok_weaker}
-use Rattle.mpc_frac.specs.Text.{text_of}
 use Rattle.mpc_plant.specs.Trajectory.{point_of}
 use Rattle.mpc_states.proofs.LineLemmas.{narrow, adds_moves, adds_none, adds_wide}
 use Rattle.mpc_states.proofs.lines.add_state_line.Goals as goal
