@@ -1,6 +1,6 @@
 //! Lines of counts.
 
-ghost use Rattle.std.specs.Prelude.{◌≡◌, [], ◌∷◌, ◌++◌, Some, None, IfOk, OnOk, MatchBool};
+ghost use Rattle.std.specs.Prelude.{◌≡◌, ◌≤◌, Some, None, IfOk, OnOk, OnErr, MatchBool, vec_capacity};
 ghost use Rattle.mpc_replies.specs.CountLine.{count_of, counts_of};
 
 use mpc_frac::NoMemory;
@@ -29,19 +29,23 @@ fn read_count(text: &[u8]) -> Option<u64>
     Some(value)
 }
 
-/// Puts one more count behind the others.
-fn add_count(counts: &mut Vec<u64>, count: u64) -> Result<(), NoMemory>
-    ensures { OnOk result (counts.new.items ≡ counts.old.items ++ count ∷ []) }
+/// Room for so many counts. Without memory the list stays as it was.
+fn make_room(counts: &mut Vec<u64>, states: usize) -> Result<(), NoMemory>
+    ensures items { counts.new.items ≡ counts.old.items }
+    ensures room { OnOk result (states ≤ vec_capacity counts.new) }
 {
-    counts.push(count).map_err(|_| NoMemory)
+    counts.reserve(states).map_err(|_| NoMemory)
 }
 
 /// Reads a line of `states` counts, with one blank between two, into `counts`, and says whether it is
-/// one. No more counts than that are kept, however long the line is.
+/// one. No more counts than that are kept, however long the line is. Without memory `counts` stays as it
+/// was.
 pub fn read_counts(line: &[u8], states: usize, counts: &mut Vec<u64>) -> Result<bool, NoMemory>
-    ensures { IfOk result (λ known. MatchBool known (counts_of line.now states ≡ Some counts.new.items)
+    ensures known { IfOk result (λ known. MatchBool known (counts_of line.now states ≡ Some counts.new.items)
         (counts_of line.now states ≡ None)) }
+    ensures err { OnErr result (counts.new.items ≡ counts.old.items) }
 {
+    make_room(counts, states)?;
     counts.clear();
     let mut rest = line;
     'words: loop {
@@ -50,7 +54,7 @@ pub fn read_counts(line: &[u8], states: usize, counts: &mut Vec<u64>) -> Result<
             return Ok(false);
         }
         match read_count(word) {
-            Some(count) => add_count(counts, count)?,
+            Some(count) => counts.push_reserved(count),
             None => return Ok(false),
         }
         match behind {
