@@ -55,7 +55,8 @@ def main():
         output = "different" if own != said else "same" if own[0] == 0 else f"same, status {own[0]}"
         times = f"{seconds:8.4f} {other_seconds:8.4f} {seconds / other_seconds:6.2f}"
         room = f"{memory:7.1f} {other_memory:7.1f} {memory / other_memory:6.2f}"
-        print(f"{file.stem:22} {nodes(own[1]):6} | {times} | {room} | {output}", flush=True)
+        name = file.parent.name if file.stem == "plant" else file.stem
+        print(f"{name:22} {nodes(own[1]):6} | {times} | {room} | {output}", flush=True)
     sys.exit(different)
 
 

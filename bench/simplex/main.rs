@@ -363,6 +363,14 @@ const HEAD: &str = "pivots a second
   in whole numbers: proved, in plain Rust, the factor of the time, and in plain Rust on rows that were read before
   over fractions: proved, in plain Rust, and how many times as long the proved run takes as in whole numbers";
 
+/// The name of a file, or that of its folder where it is only `plant`.
+fn name_of(path: &str) -> &str {
+    let mut parts = path.rsplit('/');
+    let file = parts.next().unwrap_or(path);
+    let name = file.rsplit_once('.').map_or(file, |(name, _)| name);
+    if name == "plant" { parts.next().unwrap_or(name) } else { name }
+}
+
 fn main() {
     println!("{HEAD}");
     print!("{:16} {:>7} {:>7} | {:>9} {:>9} {:>6} {:>9}", "", "systems", "pivots", "proved", "plain", "time x", "read");
@@ -371,8 +379,7 @@ fn main() {
     for path in std::env::args().skip(1) {
         let text = std::fs::read_to_string(&path).unwrap_or_else(|error| panic!("{path}: {error}"));
         let mut group = if path.ends_with(".tsv") { stated(&text) } else { of_plant(&text) };
-        let file = path.rsplit('/').next().unwrap_or(&path);
-        group.print(file.rsplit_once('.').map_or(file, |(name, _)| name));
+        group.print(name_of(&path));
         different += group.different;
     }
     if different > 0 {
