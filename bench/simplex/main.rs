@@ -142,17 +142,15 @@ fn read_frac(text: &str) -> Frac {
 fn read_row(text: &str, width: usize) -> Row {
     let words: Vec<&str> = text.split_whitespace().collect();
     assert_eq!(words.len(), width + 2, "the length of the row {text}");
-    Row {
-        a: words[..width].iter().map(|word| read_frac(word)).collect(),
-        b: read_frac(words[width + 1]),
-        strict: words[width] == "<",
-    }
+    Row { a: words[..width].iter().map(|word| read_frac(word)).collect(), b: read_frac(words[width + 1]), strict: words[width] == "<" }
 }
 
 fn read_answer(text: &str) -> Answer {
     let mut words = text.split_whitespace();
     match words.next().expect("a result") {
-        "point" => Answer::Point(words.map(|word| word.split_once(',').expect("a pair")).map(|(q, r)| (read_frac(q), read_frac(r))).collect()),
+        "point" => {
+            Answer::Point(words.map(|word| word.split_once(',').expect("a pair")).map(|(q, r)| (read_frac(q), read_frac(r))).collect())
+        }
         "refuted" => Answer::Refuted(words.map(read_frac).collect()),
         "wide" => Answer::Wide,
         word => panic!("the result {word}"),
@@ -308,7 +306,10 @@ impl Group {
         let share = |part: usize| 100.0 * part as f64 / self.found.max(1) as f64;
         let first = if self.ended { "the first " } else { "" };
         let (broken, fallen) = (share(self.broken), share(self.fallen));
-        println!("{name}: {first}{} systems, {broken:.1} % with fractions, {fallen:.1} % fall back, {} different", self.found, self.different);
+        println!(
+            "{name}: {first}{} systems, {broken:.1} % with fractions, {fallen:.1} % fall back, {} different",
+            self.found, self.different
+        );
         let (mut count, mut pivots, mut seconds) = (0, 0, Seconds::default());
         for (class, name) in self.classes.iter_mut().zip(NAMES).filter(|(class, _)| !class.systems.is_empty()) {
             class.measure(name);
@@ -356,7 +357,9 @@ impl Class {
 fn row(name: &str, count: usize, pivots: u64, seconds: &Seconds) {
     let [proved, whole, ready, by_fractions, fractions] = seconds.map(|s| pivots as f64 / s);
     let (more, times) = (seconds[0] / seconds[1], seconds[3] / seconds[0]);
-    println!("{name:16} {count:7} {pivots:7} | {proved:9.0} {whole:9.0} {more:6.2} {ready:9.0} | {by_fractions:9.0} {fractions:9.0} {times:6.1}");
+    println!(
+        "{name:16} {count:7} {pivots:7} | {proved:9.0} {whole:9.0} {more:6.2} {ready:9.0} | {by_fractions:9.0} {fractions:9.0} {times:6.1}"
+    );
 }
 
 const HEAD: &str = "pivots a second

@@ -74,9 +74,13 @@ fn clear(m: &mut Matrix, from: usize, column: usize) -> Result<bool, Wide> {
 /// The unknowns and the multipliers of a set as forms in c, row by row, if its rows are independent.
 fn law(program: &Program, set: &[usize]) -> Result<Option<Matrix>, Wide> {
     let size = program.h.len() + set.len();
-    let mut m: Matrix = program.h.iter().zip(&program.f).enumerate().map(|(i, (h, f))| {
-        h.iter().copied().chain(set.iter().map(|r| program.g[*r][i])).chain(f.iter().map(negative)).collect()
-    }).collect();
+    let mut m: Matrix = program
+        .h
+        .iter()
+        .zip(&program.f)
+        .enumerate()
+        .map(|(i, (h, f))| h.iter().copied().chain(set.iter().map(|r| program.g[*r][i])).chain(f.iter().map(negative)).collect())
+        .collect();
     m.extend(set.iter().map(|r| -> Vec<Frac> {
         program.g[*r].iter().copied().chain(set.iter().map(|_| ZERO)).chain(program.w[*r].iter().copied()).collect()
     }));
@@ -108,8 +112,10 @@ fn border(program: &Program, set: &[usize], law: &Matrix) -> Result<Vec<Whole>, 
 impl Program {
     /// The rows of the box in so many unknowns.
     fn boxed(&self, width: usize) -> System {
-        let axis = |i: usize, z: i128, b: i128| {
-            Row { a: (0..width).map(|j| whole(if i == j { z } else { 0 })).collect(), b: whole(b), strict: false }
+        let axis = |i: usize, z: i128, b: i128| Row {
+            a: (0..width).map(|j| whole(if i == j { z } else { 0 })).collect(),
+            b: whole(b),
+            strict: false,
         };
         System { width, rows: self.counts.iter().enumerate().flat_map(|(i, count)| [axis(i, -1, 0), axis(i, 1, *count)]).collect() }
     }
