@@ -52,7 +52,7 @@ impl Whole {
 }
 
 // ---- the law of a set
-/// Divides the row by its entry at the column, and takes it from the others.
+/// Brings a row with an entry in the column to this place, divides it by that and takes it from the others; whether there is one.
 fn clear(m: &mut Matrix, from: usize, column: usize) -> Result<bool, Wide> {
     let Some(found) = (from..m.len()).find(|i| m[*i][column].num != 0) else {
         return Ok(false);
