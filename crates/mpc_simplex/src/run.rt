@@ -282,7 +282,7 @@ pub(crate) fn opening_seats(
 ) -> Result<Vec<Seat>, AllocError>
     ensures { IfOk result (λ t. IsOpeningSeats system.now n t.items) }
 {
-    let mut seats = Vec::new(alloc);
+    let mut seats = Vec::with_capacity(alloc, n)?;
     for x in 0..n {
         let seat = opening_seat(system, x);
         seats.push(seat)?;

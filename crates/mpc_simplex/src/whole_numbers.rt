@@ -83,6 +83,31 @@ fn divided(z: i128, by: u128) -> i128
     z / by as i128
 }
 
+/// A number of 64 bits divided by another, towards 0.
+fn short_divided(z: i64, by: u64) -> i64
+    requires positive { 0 < by }
+    requires by_small { by ≤ 2 ^ 62 }
+    requires small { unsigned_abs z ≤ 2 ^ 62 }
+    ensures value { result ≡ int_div z (pos by) }
+    ensures small { unsigned_abs result ≤ 2 ^ 62 }
+{
+    z / by as i64
+}
+
+/// z divided by a number, towards 0, in 64 bits where that can be.
+fn part(z: i128, by: u64) -> i128
+    requires positive { 0 < by }
+    requires by_small { by ≤ 2 ^ 62 }
+    requires small { unsigned_abs z < 2 ^ 127 }
+    ensures value { result ≡ int_div z (pos by) }
+    ensures small { unsigned_abs result < 2 ^ 127 }
+{
+    if z.unsigned_abs() <= 1 << 62 {
+        return widened(short_divided(narrow(z), by));
+    }
+    divided(z, by as u128)
+}
+
 /// A number that is not negative, as a signed one.
 pub(crate) fn signed(n: u64) -> i64
     requires { n ≤ 2 ^ 62 }
@@ -100,7 +125,10 @@ fn small_quotient(z: i128, by: u64, most: u64) -> Option<i64>
     ensures value { IfSome result (λ q. q *ℤ pos by ≡ z) }
     ensures small { IfSome result (λ q. unsigned_abs q ≤ most) }
 {
-    let quotient = divided(z, by as u128);
+    if z == 0 {
+        return Some(0);
+    }
+    let quotient = part(z, by);
     if quotient.unsigned_abs() > most as u128 {
         return None;
     }
