@@ -1,9 +1,7 @@
 -- What a claim and its end do to a hand and to a pass.
-use Rattle.std.proofs.Common.{◌≡◌, ◌≤◌, ℕ, ◌+◌, ◌-◌, List, [], ◌∷◌, ◌++◌, map, length, Bool, true, false, Some, Ok, All, refl, sym, ap, ◌∙◌, subst, arith, eq-eqb}
+use Rattle.std.proofs.Common.{◌≡◌, ℕ, ◌+◌, ◌-◌, List, [], ◌∷◌, ◌++◌, map, length, Bool, true, false, Some, Ok, All, refl, sym, ap, ◌∙◌, subst, arith, eq-eqb}
 use Rattle.std.specs.Prelude.{slice_get, if◌then◌else◌}
 use Rattle.std.proofs.lemmas.List.Elements.{All-push, All-nil}
-use Rattle.mpc_space.specs.Matrix.{height}
-use Rattle.mpc_sets.specs.RowSet.{IsSetOfRows}
 use Rattle.mpc_rows.specs.declared.programs.Qp.{Qp}
 use Rattle.mpc_claim.specs.declared.events.Event.{Event}
 use Rattle.mpc_claim.specs.declared.events.EventKind.{EventKind}
@@ -13,7 +11,7 @@ use Rattle.mpc_claim.specs.declared.tickets.Claimed.TheVariants.{Job}
 use Rattle.mpc_claim.specs.Board.{event}
 use Rattle.mpc_claim.specs.History.{is_claim, is_drop, claimed_sets}
 use Rattle.mpc_claim.specs.OpenClaims.{Held, held_by, same_set, same, without, opened, open_after, open_of}
-use Rattle.mpc_claim.specs.HistoryLaws.{AppendLaws, CandidateLaws}
+use Rattle.mpc_claim.specs.HistoryLaws.{AppendLaws}
 use Rattle.mpc_turn.specs.Views.{Call, hand_of}
 use Rattle.mpc_turn.specs.Known.{Known, TurnId, ClaimedAs, EndedAs, InHand, called}
 use Rattle.mpc_workers.specs.Seats.{GivesNoneUp, TakesTurns}
@@ -70,18 +68,6 @@ module _ (a b : Known) (t : Ticket) where
 
 -- ---- one set of a pass, from its claim to its end
 module _ (worker : ℕ) (turn : TurnId) (qp : Qp) (p : Known) (t : Ticket) (middle last : Known) (i : IsPassOf worker false turn qp p) (c : ClaimedAs p (Ok (Job t)) middle) where
-  pub job_rows : CandidateLaws → IsSetOfRows (height qp.g) t.set
-  job_rows candidates = subst (λ (q : Qp). IsSetOfRows (height q.g) t.set) i.program (candidates.rows p.program t.set c.4.candidate)
-
-  pub job_few : CandidateLaws → length t.set ≤ height qp.h
-  job_few candidates = subst (λ (q : Qp). length t.set ≤ height q.h) i.program (candidates.few p.program t.set c.4.candidate)
-
-  pub middle_turn : middle.turn ≡ turn
-  middle_turn = ap (λ (k : Known). k.turn) c.2 ∙ i.turn_is
-
-  pub middle_program : middle.program ≡ qp
-  middle_program = ap (λ (k : Known). k.program) c.2 ∙ i.program
-
   pub one_job : (kind : EventKind) (failed : Bool) → is_claim kind ≡ false → (failed ≡ false → is_drop kind ≡ false) → EndedAs middle t kind last → IsPassOf worker failed turn qp last
   one_job kind failed ends kept d =
       let e = event p.worker t.set Claim in
@@ -101,34 +87,6 @@ module _ (worker : ℕ) (turn : TurnId) (qp : Qp) (p : Known) (t : Ticket) (midd
         kept = λ f. subst (λ (k : Known). GivesNoneUp k.calls) (sym is)
             (All-push (λ (x : Call). is_drop x.1.kind ≡ false) (p.calls ++ (length c.0, e) ∷ []) (length d.0, e') (All-push (λ (x : Call). is_drop x.1.kind ≡ false) p.calls (length c.0, e) (i.kept refl) refl) (kept f));
       }
-
--- a claim that gives nothing out leaves the pass with what it has seen
-pub looked_pass : (worker : ℕ) (turn : TurnId) (qp : Qp) (p k : Known) (failed : Bool) → IsPassOf worker false turn qp p → k ≡ record p { seen = k.seen } → IsPassOf worker failed turn qp k
-looked_pass worker turn qp p k failed i is = record {
-  turn_is = ap (λ (x : Known). x.turn) is ∙ i.turn_is;
-  other = ap (λ (x : Known). x.first) is ∙ i.other;
-  empty = ap (λ (x : Known). hand_of x.calls) is ∙ i.empty;
-  alone = ap (λ (x : Known). x.ended) is ∙ i.alone;
-  program = ap (λ (x : Known). x.program) is ∙ i.program;
-  worker_is = ap (λ (x : Known). x.worker) is ∙ i.worker_is;
-  own = subst (λ (x : Known). All (λ (c : Call). c.1.worker ≡ worker) x.calls) (sym is) i.own;
-  turns = subst (λ (x : Known). TakesTurns x.calls) (sym is) i.turns;
-  kept = λ _. subst (λ (x : Known). GivesNoneUp x.calls) (sym is) (i.kept refl);
-}
-
--- where a worker has failed, less is said
-pub failed_pass : (worker : ℕ) (turn : TurnId) (qp : Qp) (p : Known) → IsPassOf worker false turn qp p → IsPassOf worker true turn qp p
-failed_pass worker turn qp p i = record {
-  turn_is = i.turn_is;
-  other = i.other;
-  empty = i.empty;
-  alone = i.alone;
-  program = i.program;
-  worker_is = i.worker_is;
-  own = i.own;
-  turns = i.turns;
-  kept = λ _. i.kept refl;
-}
 
 -- a pass that was just split off
 pub split_off : (turn : TurnId) (qp : Qp) (lent worker : ℕ) (first p : Known) → first ≡ opening turn qp lent → p ≡ record first { first = false; lent = 0; worker = worker; calls = []; ended = [] } → IsPassOf worker false turn qp p

@@ -1,14 +1,14 @@
 -- Lists with an item for each program.
-use Rattle.std.proofs.Common.{◌≡◌, ◌≢◌, ℕ, zero, suc, ◌+◌, ◌-◌, ◌<◌, ◌≤◌, ◌⊎◌, inl, inr, List, [], ◌∷◌, ◌++◌, length, get_or, set, take, Bool, true, false, refl, sym, ap, ◌∙◌, subst, arith}
+use Rattle.std.proofs.Common.{◌≡◌, ◌≢◌, ℕ, zero, suc, ◌+◌, ◌<◌, ◌≤◌, ◌⊎◌, inl, inr, List, [], ◌∷◌, ◌++◌, length, get_or, set, take, refl, sym, ap, ◌∙◌, subst, arith}
 use Rattle.std.specs.List.{AllZip}
 use Rattle.std.proofs.Math.Seq.{get_or-append_seam}
-use Rattle.std.proofs.lemmas.List.{length-append, length-set, length-take-le, take_more, take_all, get_or_append_left, get_or-set_same, get_or-set_other}
+use Rattle.std.proofs.lemmas.List.{length-append, length-set, take_more, get_or_append_left, get_or-set_same, get_or-set_other}
 use mathlib.Core.Logic.{dite}
 use native.Mathlib.Decide.{dec_lt}
 use Rattle.mpc_rows.specs.declared.programs.Qp.{Qp}
+use Rattle.mpc_claim.specs.declared.events.Event.{Event}
 use Rattle.mpc_turn.specs.Known.{Known, TurnId}
-use Rattle.mpc_workers.specs.Seats.{HasEnd}
-use Rattle.mpc_fleet.specs.Passes.{AtEach, SeeEnds}
+use Rattle.mpc_fleet.specs.Passes.{AtEach, AllSeen, SeeEnds, FindNothing}
 
 -- ---- one item
 pub same_item : {X : Type 0} (xs : List X) (k : ℕ) (d e : X) → k < length xs → get_or xs k d ≡ get_or xs k e
@@ -31,10 +31,6 @@ pub record AtEachPlace (P : ℕ → TurnId → Qp → Known → Type 0) (turns :
   pub turns_are : length turns ≡ length programs
   pub passes_are : length passes ≡ length programs
   pub each : (k : ℕ) (t : TurnId) (q : Qp) (p : Known) → k < length programs → P k (get_or turns k t) (get_or programs k q) (get_or passes k p)
-
-pub places_weaker : (P Q : ℕ → TurnId → Qp → Known → Type 0) (turns : List TurnId) (programs : List Qp) (passes : List Known)
-    → ((k : ℕ) (t : TurnId) (q : Qp) (p : Known) → k < length programs → P k t q p → Q k t q p) → AtEachPlace P turns programs passes → AtEachPlace Q turns programs passes
-places_weaker P Q turns programs passes f a = record { turns_are = a.turns_are; passes_are = a.passes_are; each = λ k t q p l. f k (get_or turns k t) (get_or programs k q) (get_or passes k p) l (a.each k t q p l) }
 
 -- one of them is changed
 pub places_set : (P Q : ℕ → TurnId → Qp → Known → Type 0) (turns : List TurnId) (programs : List Qp) (passes new : List Known) (k : ℕ) (t : TurnId) (q : Qp) (x : Known) → new ≡ set passes k x → k < length programs
@@ -68,28 +64,37 @@ pub each_set : (P Q : TurnId → Qp → Known → Type 0) (turns : List TurnId) 
 each_set P Q turns programs passes new k t q x is l turn_is program_is a others here =
     unplaced Q turns programs new (places_set (anywhere P) (anywhere Q) turns programs passes new k t q x is l turn_is program_is (placed P turns programs passes a) (λ j u r p apart. others u r p) here)
 
-pub at_one : (P : TurnId → Qp → Known → Type 0) (turns : List TurnId) (programs : List Qp) (passes : List Known) (k : ℕ) (t : TurnId) (q : Qp) (p : Known) → k < length programs
-    → t ≡ get_or turns k t → q ≡ get_or programs k q → p ≡ get_or passes k p → AtEach P turns programs passes → P t q p
-at_one P turns programs passes k t q p l turn_is program_is pass_is a =
-    subst (λ (v : TurnId). P v q p) (sym turn_is) (subst (λ (v : Qp). P (get_or turns k t) v p) (sym program_is) (subst (P (get_or turns k t) (get_or programs k q)) (sym pass_is) (a.each k t q p l)))
+-- ---- what was seen
+module _ (P : Qp → List Event → Type 0) (programs : List Qp) (passes : List Known) where
+  pub seen_more : (new : List Known) (low k : ℕ) (q : Qp) (x : Known) → new ≡ set passes k x → k < length programs → length passes ≡ length programs → q ≡ get_or programs k q
+      → AllSeen P programs passes low k → P q x.seen → AllSeen P programs new low (k + 1)
+  seen_more new low k q x is l count program_is before here = subst (λ (ps : List Known). AllSeen P programs ps low (k + 1)) (sym is)
+      (λ j r p m n.
+      at_set (λ (i : ℕ) (y : Known). low ≤ i → i < k + 1 → P (get_or programs i r) y.seen) passes k j x p (omega (arith, count, l))
+      (λ _ _. subst (λ (v : Qp). P v x.seen) (program_is ∙ same_item programs k q r l) here)
+      (λ apart s t. before j r p s (omega (arith, apart, t))) m n)
 
--- ---- ends that were seen
-pub ends_more : (programs : List Qp) (passes new : List Known) (low k : ℕ) (q : Qp) (x : Known) → new ≡ set passes k x → k < length programs → length passes ≡ length programs → q ≡ get_or programs k q
-    → SeeEnds programs passes low k → HasEnd q x.seen → SeeEnds programs new low (k + 1)
-ends_more programs passes new low k q x is l count program_is before here = subst (λ (ps : List Known). SeeEnds programs ps low (k + 1)) (sym is)
-    (λ j r p m n.
-    at_set (λ (i : ℕ) (y : Known). low ≤ i → i < k + 1 → HasEnd (get_or programs i r) y.seen) passes k j x p (omega (arith, count, l))
-    (λ _ _. subst (λ (v : Qp). HasEnd v x.seen) (program_is ∙ same_item programs k q r l) here)
-    (λ apart s t. before j r p s (omega (arith, apart, t))) m n)
+  pub seen_none : (low : ℕ) → AllSeen P programs passes low low
+  seen_none low k q p a b = absurd (omega (arith, a, b))
 
-pub ends_none : (programs : List Qp) (passes : List Known) (low : ℕ) → SeeEnds programs passes low low
-ends_none programs passes low k q p a b = absurd (omega (arith, a, b))
+  -- a write behind them
+  pub seen_before : (new : List Known) (low k : ℕ) (x : Known) → new ≡ set passes k x → AllSeen P programs passes low k → AllSeen P programs new low k
+  seen_before new low k x is seen = subst (λ (ps : List Known). AllSeen P programs ps low k) (sym is)
+      (λ j r p m n. let apart : j ≢ k = λ e. omega (arith, n, e) in subst (λ (v : Known). P (get_or programs j r) v.seen) (sym (get_or-set_other passes k j x p apart)) (seen j r p m n))
 
-pub ends_joined : (programs : List Qp) (passes new : List Known) (from last : ℕ) → SeeEnds programs passes from last → ((k : ℕ) (p : Known) → (k < 0) ⊎ (from ≤ k) → get_or new k p ≡ get_or passes k p) → SeeEnds programs new 0 from → SeeEnds programs new 0 last
-ends_joined programs passes new from last high same low k q p a b =
-    dite (dec_lt k from)
-    (λ m. low k q p a m)
-    (λ m. let behind : from ≤ k = omega (arith, m) in subst (λ (v : Known). HasEnd (get_or programs k q) v.seen) (sym (same k p (inr behind))) (high k q p behind b))
+  -- the first passes were changed
+  pub seen_behind : (new : List Known) (from last : ℕ) → AllSeen P programs passes from last → ((k : ℕ) (p : Known) → (k < 0) ⊎ (from ≤ k) → get_or new k p ≡ get_or passes k p) → AllSeen P programs new from last
+  seen_behind new from last seen same k q p a b = subst (λ (v : Known). P (get_or programs k q) v.seen) (sym (same k p (inr a))) (seen k q p a b)
+
+  pub seen_joined : (low middle high : ℕ) → AllSeen P programs passes low middle → AllSeen P programs passes middle high → AllSeen P programs passes low high
+  seen_joined low middle high front back k q p a b =
+      dite (dec_lt k middle)
+      (λ m. front k q p a m)
+      (λ m. back k q p (omega (arith, m)) b)
+
+-- who has come to an end has nothing to claim
+pub ends_nothing : (programs : List Qp) (passes : List Known) (low high : ℕ) → SeeEnds programs passes low high → FindNothing programs passes low high
+ends_nothing programs passes low high seen k q p a b = inr (seen k q p a b)
 
 -- ---- the last of a list
 pub front_item : {X : Type 0} (xs ys : List X) (x d : X) (k : ℕ) → xs ≡ ys ++ x ∷ [] → k < length ys → get_or ys k d ≡ get_or xs k d
@@ -133,9 +138,6 @@ each_push P turns programs passes t q p a here =
           (subst (λ (v : Qp). P t v (get_or (passes ++ p ∷ []) k s)) (sym (get_or-append_seam programs q [] r) ∙ ap (λ (i : ℕ). get_or (programs ++ q ∷ []) i r) program_place)
           (subst (P t q) (sym (get_or-append_seam passes p [] s) ∙ ap (λ (i : ℕ). get_or (passes ++ p ∷ []) i s) pass_place) here)));
     }
-
-pub each_none : (P : TurnId → Qp → Known → Type 0) → AtEach P [] [] []
-each_none P = record { turns_are = refl; passes_are = refl; each = λ k t q p l. absurd (omega (arith, l)) }
 
 -- the last program is taken off
 module _ (P : TurnId → Qp → Known → Type 0) (turns : List TurnId) (programs : List Qp) (passes : List Known) (t : TurnId) (q : Qp) (p : Known) (a : AtEach P (turns ++ t ∷ []) (programs ++ q ∷ []) (passes ++ p ∷ [])) where

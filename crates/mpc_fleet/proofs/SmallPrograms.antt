@@ -1,30 +1,13 @@
 -- Matrices of tests.
-use Rattle.std.proofs.Common.{◌≡◌, ℕ, ◌<◌, List, [], ◌∷◌, length, get_or, set, All, pos, refl, sym, ◌∙◌, ap, subst, arith}
-use Rattle.std.proofs.lemmas.List.{length-replicate, get_or-replicate, length-set}
-use Rattle.std.proofs.lemmas.List.Elements.{All-set, All-from_recursion}
+use Rattle.std.proofs.Common.{◌≡◌, List, [], ◌∷◌, length, get_or, All, pos, ◌∙◌, subst, arith}
+use Rattle.std.proofs.lemmas.List.Elements.{All-from_recursion}
 use Rattle.mpc_exact.specs.Rational.{ℚ, int, ◌+ℚ◌, ◌*ℚ◌, ◌<ℚ◌, IsPositive}
 use Rattle.mpc_exact.proofs.RationalOrder.{positive-mul}
 use Rattle.mpc_exact.proofs.OrderLaws.{positive_square}
 use Rattle.mpc_exact.proofs.RationalRing.{reads, by_ring}
-use Rattle.mpc_space.specs.Vector.{cell, zeros, quadratic}
+use Rattle.mpc_space.specs.Vector.{cell, quadratic}
 use Rattle.mpc_space.specs.Matrix.{RationalMatrix, height, IsRectangular, entry}
 use Rattle.mpc_space.specs.Definite.{IsDefinite}
-use Rattle.mpc_linear.specs.Entries.{with_entry, zero_matrix}
-use Rattle.mpc_linear.specs.Shape.{HasShape}
-
-pub shape_zero : (m : RationalMatrix) (n w : ℕ) → m ≡ zero_matrix n w → HasShape m n w
-shape_zero m n w e = subst (λ z. HasShape z n w) (sym e) (record {
-  rows_are = length-replicate n (zeros w);
-  columns_are = refl;
-  rectangular = λ k d l. ap length (get_or-replicate n k (zeros w) d (omega (arith, length-replicate n (zeros w)))) ∙ length-replicate w (int (pos 0));
-})
-
-pub shape_kept : (m new : RationalMatrix) (n w i j : ℕ) (v : ℚ) → new ≡ with_entry m i j v → i < n → HasShape m n w → HasShape new n w
-shape_kept m new n w i j v e h s = subst (λ z. HasShape z n w) (sym e) (record {
-  rows_are = length-set m.rows i (set (get_or m.rows i []) j v) ∙ s.rows_are;
-  columns_are = s.columns_are;
-  rectangular = All-set (λ row. length row ≡ m.columns) m.rows i (set (get_or m.rows i []) j v) (length-set (get_or m.rows i []) j v ∙ s.rectangular i [] (omega (arith, s.rows_are))) s.rectangular;
-})
 
 -- a positive number as a matrix is definite
 form : (x y : ℚ) → x *ℚ (y *ℚ y) ≡ y *ℚ (x *ℚ y +ℚ int (pos 0)) +ℚ int (pos 0)

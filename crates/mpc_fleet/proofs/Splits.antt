@@ -1,10 +1,9 @@
 -- Turns that are opened, and passes that are split off.
-use Rattle.std.proofs.Common.{◌≡◌, ◌≢◌, ℕ, ◌+◌, ◌<◌, ◌≤◌, List, [], ◌∷◌, ◌++◌, length, get_or, set, take, true, false, All, refl, sym, ap, ◌∙◌, subst, arith}
-use Rattle.std.proofs.lemmas.List.{take_more, take_all}
+use Rattle.std.proofs.Common.{◌≡◌, ℕ, ◌+◌, ◌<◌, ◌≤◌, List, [], ◌∷◌, ◌++◌, length, get_or, set, take, false, sym, ap, ◌∙◌, subst, arith}
+use Rattle.std.proofs.lemmas.List.{take_more}
 use Rattle.mpc_rows.specs.declared.programs.Qp.{Qp}
 use Rattle.mpc_claim.specs.Board.{Board, opening as new_board}
 use Rattle.mpc_turn.specs.Known.{Known, TurnId, first_pass}
-use Rattle.mpc_workers.specs.Seats.{IsWorker}
 use Rattle.mpc_fleet.specs.Passes.{AtEach, opening, IsOpening, IsPassOf}
 use Rattle.mpc_fleet.proofs.Programs.{AtEachPlace, places_set, each_push, same_item}
 use Rattle.mpc_fleet.proofs.Hands.{split_off}
@@ -23,7 +22,16 @@ opened_more turns new_turns programs firsts new_firsts t q p r i first board l p
 abbrev pub IsSplit : ℕ → ℕ → ℕ → TurnId → Qp → Known → Type 0
 IsSplit before k j t q p = (j < k → IsOpening (before + 1) t q p) × (k ≤ j → IsOpening before t q p)
 
-module _ (turns : List TurnId) (programs : List Qp) (firsts : List Known) (before k : ℕ) (t : TurnId) (q : Qp) (f : Known) (l : k < length programs) (turn_is : t ≡ get_or turns k t) (program_is : q ≡ get_or programs k q) (a : AtEachPlace (IsSplit before k) turns programs firsts) where
+module _ (turns : List TurnId) (programs : List Qp) (firsts : List Known) (before k : ℕ) (t : TurnId) (f : Known) (within : k < length turns) (turn_is : t ≡ get_or turns k t) (a : AtEachPlace (IsSplit before k) turns programs firsts) where
+  abbrev pub q : Qp
+  q = get_or programs k f.program
+
+  l : k < length programs
+  l = let m = a.turns_are in omega (arith, within, m)
+
+  program_is : q ≡ get_or programs k q
+  program_is = same_item programs k f.program q l
+
   pub still_first : get_or firsts k f ≡ opening t q before
   still_first =
       subst (λ (v : TurnId). IsOpening before v q (get_or firsts k f)) (sym turn_is)

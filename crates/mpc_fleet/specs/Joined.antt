@@ -1,5 +1,5 @@
 -- Passes that are taken back.
-use Rattle.std.specs.Prelude.{◌≡◌, ℕ, ◌⊎◌, List, Bool, true, All}
+use Rattle.std.specs.Prelude.{◌≡◌, ℕ, ◌⊎◌, Bool, true, All}
 use Rattle.mpc_rows.specs.declared.programs.Qp.{Qp}
 use Rattle.mpc_turn.specs.Known.{Known, TurnId}
 use Rattle.mpc_workers.specs.Seats.{GivesNoneUp, Joins, SeesEnd}

@@ -1,6 +1,8 @@
 -- What a worker holds: a pass of each program's turn.
-use Rattle.std.specs.Prelude.{◌≡◌, ℕ, ◌<◌, ◌≤◌, List, [], length, Bool, true, false, All, slice_index_or}
+use Rattle.std.specs.Prelude.{◌≡◌, ℕ, ◌<◌, ◌≤◌, ◌⊎◌, List, [], length, Bool, true, false, All, slice_index_or}
 use Rattle.mpc_rows.specs.declared.programs.Qp.{Qp}
+use Rattle.mpc_claim.specs.declared.events.Event.{Event}
+use Rattle.mpc_claim.specs.History.{IsIdle}
 use Rattle.mpc_turn.specs.Views.{Call, hand_of}
 use Rattle.mpc_turn.specs.Known.{Known, TurnId}
 use Rattle.mpc_workers.specs.Seats.{GivesNoneUp, TakesTurns, HasEnd}
@@ -31,6 +33,21 @@ pub record IsPassOf (worker : ℕ) (failed : Bool) (turn : TurnId) (qp : Qp) (p 
   pub turns : TakesTurns p.calls
   pub kept : failed ≡ false → GivesNoneUp p.calls
 
--- of the programs from the one place up to the other, each pass has seen an end
+-- of the programs from the one place up to the other, this holds with the history that each pass has seen
+abbrev pub AllSeen : (Qp → List Event → Type 0) → List Qp → List Known → ℕ → ℕ → Type 0
+AllSeen P programs passes low high = (k : ℕ) (q : Qp) (p : Known) → low ≤ k → k < high → P (slice_index_or programs k q) (slice_index_or passes k p).seen
+
+-- each has come to its end
 abbrev pub SeeEnds : List Qp → List Known → ℕ → ℕ → Type 0
-SeeEnds programs passes low high = (k : ℕ) (q : Qp) (p : Known) → low ≤ k → k < high → HasEnd (slice_index_or programs k q) (slice_index_or passes k p).seen
+SeeEnds = AllSeen HasEnd
+
+-- there is nothing to claim: all sets of the level are claimed, or the program has come to its end
+abbrev pub HasNothing : Qp → List Event → Type 0
+HasNothing qp past = IsIdle qp past ⊎ HasEnd qp past
+
+abbrev pub FindNothing : List Qp → List Known → ℕ → ℕ → Type 0
+FindNothing = AllSeen HasNothing
+
+-- from the one program on and round, those before the other have nothing to claim
+abbrev pub ComesFirst : List Qp → List Known → ℕ → ℕ → Type 0
+ComesFirst programs passes from k = ((from ≤ k) × FindNothing programs passes from k) ⊎ ((k < from) × FindNothing programs passes from (length programs) × FindNothing programs passes 0 k)

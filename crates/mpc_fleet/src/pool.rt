@@ -10,13 +10,16 @@ ghost use Rattle.mpc_fleet.specs.declared.errors.FleetError.TheVariants.{BadWork
 use crate::errors::FleetError;
 use crate::joining::{close_all, join_all};
 use crate::seats::{Opened, open_turns, seats_of};
-use crate::working::{MOST_WORKERS, work_in};
+use crate::working::work_in;
 use mpc_claim::Registry;
 use mpc_port::Gate;
 use mpc_rows::Qp;
 use std::alloc::Global;
 use std::sync::Wait;
 use std::thread::Threads;
+
+/// The most workers of a pool.
+const MOST_WORKERS: u32 = 32;
 
 /// Examines the candidates of the programs with so many workers beside each other, each of whom turns to another program where one has no set
 /// to claim.

@@ -146,6 +146,22 @@ fn two_programs_at_once(rt: HostRuntime) -> Result<(), Fail> {
 }
 
 #[test]
+fn many_workers(rt: HostRuntime) -> Result<(), Fail> {
+    let one = limited(rt.alloc())?;
+    let other = free(rt.alloc())?;
+    assert!(rt; is_positive_number(&one.h));
+    assert!(rt; is_positive_number(&other.h));
+    let programs = both(rt.alloc(), one, other)?;
+    for workers in [1, 8, 32] {
+        let registries = enumerate_fleet(&rt, rt.alloc(), &programs, workers, &OpenGate)?;
+        assert_eq!(rt; registries.len(), 2);
+        assert_eq!(rt; registries[0].history().len(), 6);
+        assert_eq!(rt; registries[1].history().len(), 2);
+    }
+    Ok(())
+}
+
+#[test]
 fn bad_workers(rt: HostRuntime) {
     let none = Vec::new(rt.alloc());
     for workers in [0, 33] {

@@ -7,15 +7,16 @@ ghost use Rattle.mpc_sets.specs.RowSet.{IsSetOfRows};
 ghost use Rattle.mpc_rows.specs.declared.programs.Qp.{Qp as Program};
 ghost use Rattle.mpc_claim.specs.declared.events.EventKind.TheVariants.{Done, Drop};
 ghost use Rattle.mpc_claim.specs.declared.events.Tag.{Tag};
+ghost use Rattle.mpc_claim.specs.History.{IsIdle};
 ghost use Rattle.mpc_turn.specs.Known.{Known, EndedAs, InHand};
 ghost use Rattle.mpc_workers.specs.Seats.{HasEnd};
-ghost use Rattle.mpc_fleet.specs.declared.working.Found.TheVariants.{Ended as EndFound};
-ghost use Rattle.mpc_fleet.specs.declared.working.Round.TheVariants.{Worked as RoundWorked, Ended as RoundEnded};
-ghost use Rattle.mpc_fleet.specs.Passes.{AtEach, IsPassOf, SeeEnds};
+ghost use Rattle.mpc_fleet.specs.declared.working.Found.TheVariants.{Idle as IdleFound, Ended as EndFound};
+ghost use Rattle.mpc_fleet.specs.declared.working.Round.TheVariants.{Worked as RoundWorked, Idle as RoundIdle, Ended as RoundEnded};
+ghost use Rattle.mpc_fleet.specs.Passes.{AtEach, IsPassOf, FindNothing, SeeEnds, ComesFirst};
 ghost use Rattle.mpc_fleet.specs.Seats.{AreNumbered, Ended, Fresh};
 
 use crate::seats::Seat;
-use crate::waiting::News;
+use crate::waiting::{Listener, News, threads_for};
 use mpc_claim::{Claimed, Ticket, claim_laws, legal_laws};
 use mpc_frac::NoMemory;
 use mpc_port::Gate;
@@ -26,9 +27,6 @@ use std::alloc::Global;
 use std::sync::Wait;
 use std::thread;
 use std::thread::Threads;
-
-/// The most workers of a pool.
-pub(crate) const MOST_WORKERS: u32 = 32;
 
 /// What a worker found at a program.
 #[derive(Clone, Copy, Drop)]
@@ -42,6 +40,13 @@ pub enum Found {
 }
 
 impl Found {
+    /// Has it given a set?
+    fn has_worked(self) -> bool
+        ensures { result ≡ false → (self ≡ IdleFound) ⊎ (self ≡ EndFound) }
+    {
+        matches!(self, Found::Worked)
+    }
+
     /// Have the programs before come to their end, and this one too?
     fn ends_too(self, before: bool) -> bool
         ensures { result ≡ true → (before ≡ true) × (self ≡ EndFound) }
@@ -92,14 +97,14 @@ fn work_on<T: Wait, G: Gate>(
     Ok(())
 }
 
-/// Claims at a program, and where it gets a set, wakes another worker, since there may be more of them, and works on it.
+/// Claims at a program, and works on the set that it gets.
 fn try_program<T: Wait, G: Gate>(
     rt: &T,
     alloc: Global,
     turn: &Turn,
     gate: &G,
     qp: &Qp,
-    news: &News,
+    listener: &mut Listener,
     _worker: u32,
     pass: &mut Pass,
 ) -> Result<Found, NoMemory>
@@ -107,13 +112,14 @@ fn try_program<T: Wait, G: Gate>(
     requires pass { IsPassOf _worker false turn.now qp.now pass.old }
     ensures ok { OnOk result (IsPassOf _worker false turn.now qp.now pass.new) }
     ensures err { OnErr result (IsPassOf _worker true turn.now qp.now pass.new) }
+    ensures idle { result ≡ Ok IdleFound → IsIdle qp.now pass.new.seen }
     ensures ended { result ≡ Ok EndFound → HasEnd qp.now pass.new.seen }
 {
     legal_laws();
     claim_laws();
     match turn.claim_as(rt, pass) {
         Ok(Claimed::Job(ticket)) => {
-            news.wake_another();
+            listener.report_claim(ticket.set().size());
             match work_on(rt, alloc, turn, gate, qp, pass, ticket) {
                 Ok(()) => Ok(Found::Worked),
                 Err(refused) => Err(refused),
@@ -133,7 +139,7 @@ fn try_from<T: Wait, G: Gate>(
     turns: &[Turn],
     gate: &G,
     programs: &[Qp],
-    news: &News,
+    listener: &mut Listener,
     worker: u32,
     passes: &mut [Pass],
     low: usize,
@@ -145,24 +151,30 @@ fn try_from<T: Wait, G: Gate>(
     requires passes { AtEach (IsPassOf worker false) turns.now programs.now passes.old }
     ensures ok { OnOk result (AtEach (IsPassOf worker false) turns.now programs.now passes.new) }
     ensures err { OnErr result (AtEach (IsPassOf worker true) turns.now programs.now passes.new) }
-    ensures worked { (k : ℕ) → result ≡ Ok (RoundWorked k) → k < length programs.now }
+    ensures worked { (k : ℕ) → result ≡ Ok (RoundWorked k) → (low ≤ k) × (k < high) × FindNothing programs.now passes.new low k }
+    ensures idle { result ≡ Ok RoundIdle → FindNothing programs.now passes.new low high }
     ensures ended { result ≡ Ok RoundEnded → SeeEnds programs.now passes.new low high }
     ensures others { (k : ℕ) (p : Known) → (k < low) ⊎ (high ≤ k) → slice_index_or passes.new k p ≡ slice_index_or passes.old k p }
 {
     let mut ended = true;
     for k in low..high {
+        listener.turn_to(k);
         match try_program(
             rt,
             alloc,
             &turns[k],
             gate,
             &programs[k],
-            news,
+            listener,
             worker,
             &mut passes[k],
         ) {
-            Ok(Found::Worked) => return Ok(Round::Worked(k)),
-            Ok(found) => ended = found.ends_too(ended),
+            Ok(found) => {
+                if found.has_worked() {
+                    return Ok(Round::Worked(k));
+                }
+                ended = found.ends_too(ended);
+            }
             Err(refused) => return Err(refused),
         }
     }
@@ -180,7 +192,7 @@ fn try_all<T: Wait, G: Gate>(
     turns: &[Turn],
     gate: &G,
     programs: &[Qp],
-    news: &News,
+    listener: &mut Listener,
     worker: u32,
     passes: &mut [Pass],
     from: usize,
@@ -190,17 +202,17 @@ fn try_all<T: Wait, G: Gate>(
     requires passes { AtEach (IsPassOf worker false) turns.now programs.now passes.old }
     ensures ok { OnOk result (AtEach (IsPassOf worker false) turns.now programs.now passes.new) }
     ensures err { OnErr result (AtEach (IsPassOf worker true) turns.now programs.now passes.new) }
-    ensures worked { (k : ℕ) → result ≡ Ok (RoundWorked k) → k < length programs.now }
+    ensures worked { (k : ℕ) → result ≡ Ok (RoundWorked k) → (k < length programs.now) × ComesFirst programs.now passes.new from k }
     ensures ended { result ≡ Ok RoundEnded → SeeEnds programs.now passes.new 0 (length programs.now) }
 {
     let last = programs.len();
     match try_from(
-        rt, alloc, turns, gate, programs, news, worker, passes, from, last,
+        rt, alloc, turns, gate, programs, listener, worker, passes, from, last,
     ) {
         Ok(Round::Worked(k)) => Ok(Round::Worked(k)),
         Ok(Round::Idle) => {
             match try_from(
-                rt, alloc, turns, gate, programs, news, worker, passes, 0, from,
+                rt, alloc, turns, gate, programs, listener, worker, passes, 0, from,
             ) {
                 Ok(Round::Worked(k)) => Ok(Round::Worked(k)),
                 Ok(_) => Ok(Round::Idle),
@@ -209,15 +221,22 @@ fn try_all<T: Wait, G: Gate>(
         }
         Ok(Round::Ended) => {
             try_from(
-                rt, alloc, turns, gate, programs, news, worker, passes, 0, from,
+                rt, alloc, turns, gate, programs, listener, worker, passes, 0, from,
             )
         }
         Err(refused) => Err(refused),
     }
 }
 
-/// Claims, examines and delivers until all programs have come to their end or memory is refused, at each step from the last program on. Where
-/// no program has a set to claim, the worker sleeps.
+/// Claims, examines and delivers until all programs have come to their end or memory is refused, at each step from the last program on.
+///
+/// Where no program has a set to claim, the worker waits for news. A worker that was woken has found its last program without a set before, so
+/// the next set that it claims is its first of a level, and it wakes another. So nobody sleeps who could have a set, and a level wakes no more
+/// workers than it has sets.
+///
+/// Nobody sleeps for ever. Where a program has come to no end and has no set to claim, another worker holds one of its sets, is awake, and
+/// claims at this program first once it has ended it; so until the end somebody is awake. Whoever ends wakes all and raises the count of the
+/// news, on which a sleep that begins later ends at once, since the count that it waits on was read before its claims.
 fn work<T: Wait, G: Gate>(
     rt: &T,
     alloc: Global,
@@ -234,8 +253,9 @@ fn work<T: Wait, G: Gate>(
     ensures worker { seat.new.worker ≡ seat.old.worker }
 {
     let mut at = 0;
+    let mut listener = Listener::new(news);
     for _ in rt.forever() {
-        let heard = news.heard();
+        listener.start_looking();
         let passes = seat.passes.as_mut_slice();
         match try_all(
             rt,
@@ -243,13 +263,13 @@ fn work<T: Wait, G: Gate>(
             turns,
             gate,
             programs,
-            news,
+            &mut listener,
             seat.worker,
             passes,
             at,
         ) {
             Ok(Round::Worked(k)) => at = k,
-            Ok(Round::Idle) => news.sleep(rt, heard),
+            Ok(Round::Idle) => listener.wait(rt),
             Ok(Round::Ended) => return,
             Err(_) => {
                 seat.failed = true;
@@ -280,8 +300,9 @@ fn work_and_wake<T: Wait, G: Gate>(
     news.wake_all();
 }
 
-/// All seats at once.
-pub(crate) fn work_all<T: Threads + Wait + Sync, G: Gate + Sync>(
+/// All seats, as many of them at once as that is of use. Those that share a thread work one after the other: the first of them to the end,
+/// which the rest find at once.
+fn work_all<T: Threads + Wait + Sync, G: Gate + Sync>(
     rt: &T,
     alloc: Global,
     turns: &[Turn],
@@ -297,11 +318,15 @@ pub(crate) fn work_all<T: Threads + Wait + Sync, G: Gate + Sync>(
     ensures ended { All (Ended turns.now programs.now workers) seats.new }
     ensures numbered { AreNumbered seats.new }
 {
+    if seats.is_empty() {
+        return;
+    }
     let news = News::new();
+    let threads = threads_for(rt, seats.len(), programs);
     thread::for_each_mut(
         rt,
         seats,
-        MOST_WORKERS as usize,
+        threads,
         &|_, seat| work_and_wake(rt, alloc, turns, gate, programs, &news, workers, seat),
     );
 }

@@ -63,7 +63,7 @@ fn answer_all(
 ///
 /// The text has of each section, in order, the line `plant K CODE` and then what that section by itself is answered with: its controller's
 /// file and the code 0, or the line of why it has none and its code. A section that is refused hinders no other.
-/// `TooManyPlants` where the input has more than 8 sections. Refused memory is the only other error.
+/// `TooManyPlants` exactly where the input has more than 8 sections, which takes no memory. Refused memory is the only other error.
 pub fn fleet<T: Threads + Wait + Sync, G: Gate + Sync>(
     rt: &T,
     alloc: Global,
@@ -76,6 +76,7 @@ pub fn fleet<T: Threads + Wait + Sync, G: Gate + Sync>(
     ensures few { IfOk result (λ text. length (sections_of input.now) ≤ 8) }
     ensures answered { IfOk result (λ text. AreAnswered 1 (sections_of input.now) text.items) }
     ensures too_many { IfErr result (λ e. e ≡ TooManyPlants → 8 < length (sections_of input.now)) }
+    ensures before_memory { IfErr result (λ e. 8 < length (sections_of input.now) → e ≡ TooManyPlants) }
 {
     if !are_few(input) {
         return Err(SectionsError::TooManyPlants);

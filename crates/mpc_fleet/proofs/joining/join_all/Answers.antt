@@ -1,4 +1,4 @@
-use Rattle.std.proofs.Common.{◌≡◌, ◌+◌, ◌-◌, ◌∷◌, [], ◌∙◌, ℕ, length, vec_len, true, All, sym, ap, subst, arith}
+use Rattle.std.proofs.Common.{◌≡◌, ◌-◌, ℕ, vec_len, true, All, sym, subst, arith}
 use Rattle.mpc_fleet.specs.Passes.{AtEach, IsOpening}
 use Rattle.mpc_fleet.specs.Joined.{IsJoining}
 use Rattle.mpc_fleet.specs.Seats.{AreNumbered, Ended}

@@ -1,4 +1,4 @@
-use Rattle.std.proofs.Common.{◌≡◌, ◌≤◌, vec_len, All}
+use Rattle.std.proofs.Common.{vec_len, All}
 use Rattle.mpc_fleet.specs.Passes.{AtEach}
 use Rattle.mpc_fleet.specs.Joined.{IsJoining}
 use Rattle.mpc_fleet.specs.Seats.{AreNumbered, Ended}

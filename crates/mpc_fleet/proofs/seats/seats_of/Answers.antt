@@ -1,6 +1,5 @@
-use Rattle.std.proofs.Common.{◌≡◌, ◌+◌, ◌∙◌, ◌∷◌, [], ◌++◌, List, length, All, sym, ap, subst, arith}
+use Rattle.std.proofs.Common.{All, sym, subst, arith}
 use Rattle.std.proofs.lemmas.List.Elements.{All-push}
-use Rattle.mpc_fleet.specs.declared.seats.Seat.{Seat}
 use Rattle.mpc_fleet.specs.Seats.{AreNumbered, Fresh}
 use Rattle.mpc_fleet.proofs.Joins.{numbered_more}
 use Rattle.mpc_fleet.proofs.seats.seats_of.Goals as goal
