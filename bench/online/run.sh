@@ -1,9 +1,23 @@
 #!/bin/sh
-# Times `solve`: the nanoseconds of processor time a state, at random states of larger plants. The word is the number of states (20000).
+# Times `solve` at random states beside the same run in plain Rust, compares their replies with each other and with those of the plant's table,
+# and says from how many states on the table pays. The words, each of which may be left out from the last one on: the number of states (5000),
+# the program (that which `mpc` proves and builds) and plants (those of bench/workers and bench/compile).
 set -e
 here=$(cd "$(dirname "$0")" && pwd)
 top="$here/../.."
-# Without words the program only says how it is used; it is proved and built before that.
-"$top/mpc" < /dev/null > /dev/null 2>&1 || true
+count=${1:-5000}
+program=${2:-}
+if [ -z "$program" ]; then
+    # Without words the program only says how it is used; it is proved and built before that.
+    "$top/mpc" < /dev/null > /dev/null 2>&1 || true
+    program="$top/crates/mpc_cli/out/mpc_cli"
+fi
+if [ $# -gt 2 ]; then
+    shift 2
+else
+    set -- "$here"/../workers/plants/*.json "$here"/../compile/plants/*.txt
+fi
+mkdir -p "$here/build"
+rustc -O --edition 2024 -C target-cpu=x86-64-v2 -o "$here/build/online" "$here/main.rs"
 export PYTHONDONTWRITEBYTECODE=1
-python3 "$here/times.py" "$top/crates/mpc_cli/out/mpc_cli" "${1:-20000}" "$here"/../workers/plants/*.json
+exec python3 "$here/times.py" "$program" "$here/build/online" "$count" "$@"
