@@ -1,6 +1,6 @@
 //! The text of a history of claims and deliveries.
 
-ghost use Rattle.std.specs.Prelude.{◌≡◌, ◌++◌, OnOk, IfOk};
+ghost use Rattle.std.specs.Prelude.{◌≡◌, ◌++◌, take, vec_len, OnOk, IfOk};
 ghost use Rattle.mpc_trace.specs.Histories.{tag_text, kind_word, kind_end, event_text, history_text};
 
 use mpc_claim::{Event, EventKind, Tag};
@@ -33,9 +33,10 @@ fn kind_name(kind: EventKind) -> &'static [u8]
     }
 }
 
-/// Puts the end of an event's line behind the text.
+/// Puts the end of an event's line behind the text. Without memory a beginning of it may stand there.
 fn add_end(text: &mut Vec<u8>, kind: EventKind) -> Result<(), NoMemory>
-    ensures { OnOk result (text.new.items ≡ text.old.items ++ kind_end kind) }
+    ensures text { OnOk result (text.new.items ≡ text.old.items ++ kind_end kind) }
+    ensures kept { take (vec_len text.old) text.new.items ≡ text.old.items }
 {
     if let EventKind::Done(tag) = kind {
         add_text(text, b" ")?;
@@ -44,9 +45,10 @@ fn add_end(text: &mut Vec<u8>, kind: EventKind) -> Result<(), NoMemory>
     add_text(text, b"\n")
 }
 
-/// Puts the line of an event behind the text.
+/// Puts the line of an event behind the text. Without memory a beginning of it may stand there.
 fn add_event(text: &mut Vec<u8>, event: &Event) -> Result<(), NoMemory>
-    ensures { OnOk result (text.new.items ≡ text.old.items ++ event_text event.now) }
+    ensures text { OnOk result (text.new.items ≡ text.old.items ++ event_text event.now) }
+    ensures kept { take (vec_len text.old) text.new.items ≡ text.old.items }
 {
     add_text(text, kind_name(event.kind))?;
     add_number(text, u64::from(event.worker))?;
