@@ -49,6 +49,7 @@ pub(crate) fn code_of(error: FileError, line: &mut u64) -> u32
     ensures bad_node { result ≡ 4 → error ≡ Bad BadNode line.new }
     ensures over_bound { result ≡ 5 → error ≡ Bad OverBound line.new }
     ensures no_memory { result ≡ 6 → error ≡ NoMemory }
+    ensures kept { result ≡ 6 → line.new ≡ line.old }
     ensures from { 1 ≤ result }
     ensures to { result ≤ 6 }
 {

@@ -18,7 +18,7 @@ use texts::{put, third_text};
 ///
 /// Answers 0 where the bytes are one. Otherwise the number, from 1, of the first line that fails is written, and the answer is 1 where the
 /// line isn't what the format demands, 2 where no line feed ends it, 3 where a byte follows the last line, 4 where it names or states
-/// no node, and 5 where a number is too great at the greatest counts. Without memory it is 6.
+/// no node, and 5 where a number is too great at the greatest counts. Without memory it is 6, and nothing is written.
 #[unsafe(no_mangle)]
 pub extern "C" fn mpc_file_read(alloc: Global, bytes: &[u8], line: &mut u64) -> u32
     ensures read { result ≡ 0 → IsFile bytes.now }
@@ -28,6 +28,7 @@ pub extern "C" fn mpc_file_read(alloc: Global, bytes: &[u8], line: &mut u64) -> 
     ensures bad_node { result ≡ 4 → FailsAt bytes.now BadNode line.new }
     ensures over_bound { result ≡ 5 → FailsAt bytes.now OverBound line.new }
     ensures codes { result ≤ 6 }
+    ensures no_line { result ≡ 6 → line.new ≡ line.old }
 {
     let _controller = match read_file(alloc, bytes) {
         Ok(controller) => controller,
@@ -39,7 +40,7 @@ pub extern "C" fn mpc_file_read(alloc: Global, bytes: &[u8], line: &mut u64) -> 
 /// Reads the file of a controller, and writes it in version 3 to the front of `out`.
 ///
 /// Answers 0 where the bytes are such a file, and its text in version 3 is written with its length; 7 where `out` is too short for that
-/// text, whose length is written; and 1 to 6 as `mpc_file_read`.
+/// text, whose length is written; and 1 to 6 as `mpc_file_read`. Nothing else is written.
 #[unsafe(no_mangle)]
 pub extern "C" fn mpc_file_convert(
     alloc: Global,
@@ -58,6 +59,11 @@ pub extern "C" fn mpc_file_convert(
     ensures text { result ≡ 7 → IsTextOfSize bytes.now size.new }
     ensures too_short { result ≡ 7 → length out.old < size.new }
     ensures codes { result ≤ 7 }
+
+    // Where nothing is said of what is written, it is left as it was.
+    ensures no_text { 1 ≤ result → out.new ≡ out.old }
+    ensures no_size { 1 ≤ result → result ≤ 6 → size.new ≡ size.old }
+    ensures no_line { 6 ≤ result → line.new ≡ line.old }
 {
     let text = match third_text(alloc, bytes) {
         Ok(text) => text,

@@ -1,6 +1,7 @@
 //! A controller's file in version 3.
 
 ghost use Rattle.std.specs.Prelude.{◌≡◌, ◌≤◌, ◌<◌, length, take, IfOk, IfErr, MatchBool};
+ghost use Rattle.std.specs.Bool.{OnFalse};
 ghost use Rattle.mpc_file.specs.FileGrammar.{ExplainsFileError};
 ghost use Rattle.mpc_file_c.specs.Texts.{IsConverted};
 
@@ -17,10 +18,11 @@ pub(crate) fn third_text(alloc: Global, bytes: &[u8]) -> Result<Vec<u8>, FileErr
     Ok(text)
 }
 
-/// Writes a text to the front of `out`, if there is room for it.
+/// Writes a text to the front of `out`, if there is room for it. Else `out` stays as it was.
 pub(crate) fn put(text: &[u8], out: &mut [u8]) -> bool
-    ensures { MatchBool result ((take (length text.now) out.new ≡ text.now) × (length text.now ≤ length out.new))
+    ensures written { MatchBool result ((take (length text.now) out.new ≡ text.now) × (length text.now ≤ length out.new))
         (length out.old < length text.now) }
+    ensures kept { OnFalse result (out.new ≡ out.old) }
 {
     if out.len() < text.len() {
         return false;
