@@ -1,7 +1,2 @@
-pub mod Table
-pub mod Exchange
 pub mod Answer
-pub mod Whole
-pub mod Norms
-pub mod Found
 pub mod RunLaws

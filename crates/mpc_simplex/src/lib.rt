@@ -12,13 +12,6 @@ mod numbers;
 mod run;
 mod sides;
 mod tableau;
-mod whole;
-mod whole_ends;
-mod whole_numbers;
-mod whole_pivot;
-mod whole_rows;
-mod whole_turn;
-mod whole_values;
 
 pub use laws::{run_laws, zero_test};
 use mpc_rows::{Multipliers, PairPoint, System, system_laws};

@@ -6,15 +6,7 @@ ghost use Rattle.mpc_exact.specs.Pair.{is_below};
 ghost use Rattle.mpc_rows.specs.Run.{is_zero};
 
 use mpc_frac::{Frac, fit_laws};
-
-/// (q, r) for `q + d r` at every small enough positive d.
-pub(crate) type Standing = (Frac, Frac);
-
-pub(crate) fn zero() -> Frac
-    ensures { result ≡ int (pos 0) }
-{
-    Frac::whole(0)
-}
+use mpc_whole::{Standing, zero};
 
 fn is_less(x: &Frac, y: &Frac) -> bool
     ensures { result ≡ lt_ℚ x.now y.now }

@@ -6,17 +6,20 @@ ghost use Rattle.mpc_rows.specs.LinearSystem.{height};
 ghost use Rattle.mpc_rows.specs.Least.{least};
 ghost use Rattle.mpc_rows.specs.Run.{value, multiplier, may_leave, may_enter, opening};
 ghost use Rattle.mpc_rows.specs.RunWidth.{ValueFits, ValuesFit, RunFits};
-ghost use Rattle.mpc_simplex.specs.Table.{seat_at, in_row, IsSeated, HasShape, IsTable, position_of, opening_seat, IsOpeningSeats, IsOpeningEntries};
+ghost use Rattle.mpc_whole.specs.Table.{seat_at, in_row, IsSeated, HasShape, IsTable, position_of, opening_seat, IsOpeningSeats, IsOpeningEntries};
 ghost use Rattle.mpc_simplex.specs.Answer.{IsValues, IsMultipliers, IsRunEnd, IfWide};
 
-use crate::numbers::{Standing, is_positive, is_zero, zero};
-use crate::sides::{earlier, is_unknown, rest};
-use crate::tableau::{Seat, cell, column_of, exchange, is_basic, row_of};
-use crate::whole::whole_end;
+use crate::numbers::{is_positive, is_zero};
+use crate::sides::{earlier, rest};
+use crate::tableau::{cell, exchange};
 use crate::{Decision, SimplexError};
 use mpc_frac::{Frac, Wide};
 use mpc_linear::{add_product, zero_laws};
 use mpc_rows::{Multipliers, PairPoint, System};
+use mpc_whole::{
+    End, Seat, Standing, column_of, is_basic, is_unknown, opening_seats, row_of, whole_end, zero,
+    zero_pairs, zeros,
+};
 use std::alloc::{AllocError, Global};
 
 /// The coefficient of the nonbasic variable y in the row of the basic variable x.
@@ -263,33 +266,6 @@ fn run(
     }
 }
 
-/// Where the variable x stands at first.
-fn opening_seat(system: &System, x: usize) -> Seat
-    ensures { result ≡ opening_seat system.now x }
-{
-    if is_unknown(system, x) {
-        Seat::Column(x)
-    } else {
-        Seat::Row(x - system.unknowns())
-    }
-}
-
-/// Where each variable stands at first.
-pub(crate) fn opening_seats(
-    alloc: Global,
-    system: &System,
-    n: usize,
-) -> Result<Vec<Seat>, AllocError>
-    ensures { IfOk result (λ t. IsOpeningSeats system.now n t.items) }
-{
-    let mut seats = Vec::with_capacity(alloc, n)?;
-    for x in 0..n {
-        let seat = opening_seat(system, x);
-        seats.push(seat)?;
-    }
-    Ok(seats)
-}
-
 /// The coefficients of the system, row by row.
 fn opening_entries(alloc: Global, system: &System) -> Result<Vec<Frac>, AllocError>
     ensures { IfOk result (λ t. IsOpeningEntries system.now t.items) }
@@ -299,18 +275,6 @@ fn opening_entries(alloc: Global, system: &System) -> Result<Vec<Frac>, AllocErr
         entries.extend_from_slice(system.row(i).a.as_slice())?;
     }
     Ok(entries)
-}
-
-pub(crate) fn zeros(alloc: Global, n: usize) -> Result<Vec<Frac>, AllocError>
-    ensures { IfOk result (λ t. length t.items ≡ n) }
-{
-    vec![in alloc; zero(); n]
-}
-
-pub(crate) fn zero_pairs(alloc: Global, n: usize) -> Result<Vec<Standing>, AllocError>
-    ensures { IfOk result (λ t. length t.items ≡ n) }
-{
-    vec![in alloc; (zero(), zero()); n]
 }
 
 /// The run's end: in whole numbers where they serve for it, else in fractions. Each takes its memory
@@ -325,7 +289,8 @@ pub(crate) fn run_end(alloc: Global, system: &System) -> Result<Decision, Simple
         return Err(SimplexError::NoMemory);
     };
     match whole_end(alloc, system, n) {
-        Ok(Some(decision)) => return Ok(decision),
+        Ok(Some(End::Point(point))) => return Ok(Decision::Point(point)),
+        Ok(Some(End::Refuted(multipliers))) => return Ok(Decision::Refuted(multipliers)),
         Ok(None) => {}
         Err(_) => return Err(SimplexError::NoMemory),
     }

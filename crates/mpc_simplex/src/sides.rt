@@ -6,16 +6,10 @@ ghost use Rattle.mpc_rows.specs.LinearSystem.{height};
 ghost use Rattle.mpc_rows.specs.Least.{or_at};
 ghost use Rattle.mpc_rows.specs.Run.{is_unknown, bound, rest};
 
-use crate::numbers::{Standing, is_below, zero};
+use crate::numbers::is_below;
 use mpc_frac::Frac;
 use mpc_rows::System;
-
-/// Whether x is the number of an unknown.
-pub(crate) fn is_unknown(system: &System, x: usize) -> bool
-    ensures { result ≡ is_unknown system.now x }
-{
-    x < system.unknowns()
-}
+use mpc_whole::{Standing, is_unknown, zero};
 
 /// The bound of the side x.
 fn bound(system: &System, x: usize) -> Standing

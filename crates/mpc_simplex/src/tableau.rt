@@ -2,54 +2,12 @@
 
 ghost use Rattle.std.specs.Prelude.{◌≡◌, ◌≢◌, ℕ, ◌+◌, ◌*◌, ◌<◌, ◌≤◌, ◌^◌, IfOk, MatchResult, length, pos, true, false, slice_index_or};
 ghost use Rattle.mpc_exact.specs.Rational.{int, inv_ℚ};
-ghost use Rattle.mpc_simplex.specs.Table.{seat_at, in_row, cell_at, HasShape};
-ghost use Rattle.mpc_simplex.specs.Exchange.{own_cell, row_at, IsOwnRow, ChangesRow, ChangesRows, PutsRow, IsExchanged, OwnFits, QuotientFits, changed, ChangeFits, ChangesFit, ExchangeFits, EntryFits};
+ghost use Rattle.mpc_whole.specs.Table.{cell_at, HasShape};
+ghost use Rattle.mpc_whole.specs.Exchange.{own_cell, row_at, IsOwnRow, ChangesRow, ChangesRows, PutsRow, IsExchanged, OwnFits, QuotientFits, changed, ChangeFits, ChangesFit, ExchangeFits, EntryFits};
 
 use crate::numbers::inverse;
 use mpc_frac::{Frac, Wide};
 use mpc_linear::add_product;
-
-/// Where a variable stands: a basic one in a row, a nonbasic one in a column.
-#[derive(Clone, Copy, Drop)]
-pub(crate) enum Seat {
-    Row(usize),
-    Column(usize),
-}
-
-/// Whether the variable x is basic.
-pub(crate) fn is_basic(seats: &[Seat], x: usize) -> bool
-    requires { x < length seats.now }
-    ensures { result ≡ in_row (seat_at seats.now x) }
-{
-    match seats[x] {
-        Seat::Row(_) => true,
-        Seat::Column(_) => false,
-    }
-}
-
-/// The row of the basic variable x.
-pub(crate) fn row_of(seats: &[Seat], x: usize) -> usize
-    requires below { x < length seats.now }
-    requires basic { in_row (seat_at seats.now x) ≡ true }
-    ensures { seat_at seats.now x ≡ Seat.Row result }
-{
-    match seats[x] {
-        Seat::Row(row) => row,
-        Seat::Column(_) => unreachable!(),
-    }
-}
-
-/// The column of the nonbasic variable y.
-pub(crate) fn column_of(seats: &[Seat], y: usize) -> usize
-    requires below { y < length seats.now }
-    requires free { in_row (seat_at seats.now y) ≡ false }
-    ensures { seat_at seats.now y ≡ Seat.Column result }
-{
-    match seats[y] {
-        Seat::Row(_) => unreachable!(),
-        Seat::Column(column) => column,
-    }
-}
 
 /// Where the entry of row r and column c is stored.
 pub(crate) fn place(height: usize, width: usize, r: usize, c: usize) -> usize

@@ -1,4 +1,4 @@
-use Rattle.mpc_simplex.proofs.Turn.{zero_passes}
+use Rattle.mpc_whole.proofs.Turn.{zero_passes}
 use Rattle.mpc_simplex.proofs.laws.zero_test.Goals as goal
 
 pub returns : goal.returns

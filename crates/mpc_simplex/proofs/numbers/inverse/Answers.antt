@@ -1,6 +1,6 @@
 use Rattle.std.proofs.Common.{◌≡◌, ◌∙◌, ap, pos, to_z, of_z}
 use Rattle.std.specs.Int.{w128}
-use Rattle.mpc_simplex.proofs.WholeRooms.{read_wide}
+use Rattle.mpc_whole.proofs.WholeRooms.{read_wide}
 use Rattle.mpc_simplex.proofs.TurnedOver.{made_is, made_always}
 use Rattle.mpc_simplex.proofs.numbers.inverse.Goals as goal
 use Rattle.mpc_simplex.proofs.numbers.inverse.Goals.{After-new}

@@ -5,10 +5,10 @@ use Rattle.mpc_exact.specs.Rational.{◌*ℚ◌}
 use Rattle.mpc_space.specs.Total.{total}
 use Rattle.mpc_rows.specs.Run.{count, rest, IsTableau}
 use Rattle.mpc_rows.specs.RunWidth.{TermFits}
-use Rattle.mpc_simplex.specs.Table.{position_of}
-use Rattle.mpc_simplex.proofs.Table.{value_first, value_second, total_more, first_terms, second_terms}
-use Rattle.mpc_simplex.proofs.Fits.{skip_term, below_free, term_fits, wide_first, wide_second, first_unknowns, second_unknowns, unknown_fits}
-use Rattle.mpc_simplex.proofs.Seats.{basic_is, tableau_of}
+use Rattle.mpc_whole.specs.Table.{position_of}
+use Rattle.mpc_whole.proofs.Table.{value_first, value_second, total_more, first_terms, second_terms}
+use Rattle.mpc_whole.proofs.Fits.{skip_term, below_free, term_fits, wide_first, wide_second, first_unknowns, second_unknowns, unknown_fits}
+use Rattle.mpc_whole.proofs.Seats.{basic_is, tableau_of}
 use Rattle.mpc_simplex.proofs.run.value.Goals as goal
 use Rattle.mpc_simplex.proofs.run.value.Goals.{After-loop-y}
 

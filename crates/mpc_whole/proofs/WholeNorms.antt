@@ -1,0 +1,226 @@
+-- Where the numbers of each row of a position lie over one denominator of that row and are small enough, no operation at that position is wide.
+use Rattle.std.proofs.Common.{◌≡◌, ◌≢◌, ℕ, zero, suc, ◌+◌, ◌*◌, ◌^◌, ◌<◌, ◌≤◌, false, ℤ, pos, negsuc, ◌+ℤ◌, ◌*ℤ◌, neg_ℤ, unsigned_abs, [], ◌∷◌, refl, sym, ◌∙◌, ap, subst, subst₂, arith, mul-pos, mul-le-mul_right, mul-le-mul_left, le_trans, lit<, zero-lt-suc}
+use Rattle.std.proofs.lemmas.Bool.{both_ways}
+use Rattle.mpc_exact.specs.Rational.{ℚ, frac, int, ◌+ℚ◌, ◌*ℚ◌, neg_ℚ, inv_ℚ, upside_down}
+use Rattle.mpc_exact.proofs.Rational.{same_frac, frac-mul, frac-neg}
+use Rattle.mpc_exact.proofs.School.{frac_inv}
+use Rattle.mpc_exact.proofs.IntRing.{int_reads, by_ring_ℤ}
+use Rattle.mpc_frac.specs.Fits.{FitsFrac, FitsSum}
+use Rattle.mpc_space.specs.Total.{total}
+use Rattle.mpc_space.proofs.Total.{total-zero, total-suc}
+use Rattle.mpc_rows.specs.LinearSystem.{LinearSystem}
+use Rattle.mpc_rows.specs.Run.{Position, goes_on, count, rest, entering_row}
+use Rattle.mpc_rows.specs.RunWidth.{ValuesFit, EnteringFits, EntryFits, RowsFit, PositionFits}
+use Rattle.mpc_whole.specs.Norms.{Over}
+use Rattle.mpc_whole.specs.Whole.{turned}
+use Rattle.mpc_whole.proofs.Pivot.{entering-at_leaving, entering-other}
+use Rattle.mpc_whole.proofs.Turn.{Goes, turn-at}
+use Rattle.mpc_whole.proofs.WholeFits.{fits_over, fits_sum_over}
+use Rattle.mpc_whole.proofs.WholeSums.{product_at_most, abs-sum, frac_sum, times_int, zero_over}
+
+pub abs-negated : (a : ℤ) → unsigned_abs (neg_ℤ a) ≡ unsigned_abs a
+abs-negated (pos zero) = refl
+abs-negated (pos (suc n)) = refl
+abs-negated (negsuc n) = refl
+
+pub abs_turned : (q a : ℤ) → unsigned_abs (turned q a) ≡ unsigned_abs a
+abs_turned (pos n) a = refl
+abs_turned (negsuc n) a = abs-negated a
+
+pub abs_some : (q : ℤ) → q ≢ pos 0 → 0 < unsigned_abs q
+abs_some (pos zero) h = absurd (h refl)
+abs_some (pos (suc n)) h = omega arith
+abs_some (negsuc n) h = omega arith
+
+moved_across : (a d q : ℤ) → (a *ℤ d) *ℤ q ≡ a *ℤ (d *ℤ q)
+moved_across a d q = by_ring_ℤ (a ∷ d ∷ q ∷ []) (search int_reads depth 30) (search int_reads depth 30) tt
+
+moved_across_negative : (a d q : ℤ) → (a *ℤ neg_ℤ d) *ℤ q ≡ neg_ℤ a *ℤ (d *ℤ q)
+moved_across_negative a d q = by_ring_ℤ (a ∷ d ∷ q ∷ []) (search int_reads depth 30) (search int_reads depth 30) tt
+
+-- a quotient of two over the same denominator
+pub ratio_is : (a q : ℤ) (d : ℕ) → 0 < d → q ≢ pos 0 → frac a d *ℚ inv_ℚ (frac q d) ≡ frac (turned q a) (unsigned_abs q)
+ratio_is a (pos zero) d h some = absurd (some refl)
+ratio_is a (pos (suc c)) d h some =
+    ap (λ u. frac a d *ℚ u) (frac_inv (pos (suc c)) d some h) ∙ frac-mul a d (pos d) (suc c) h (zero-lt-suc c)
+    ∙ same_frac (a *ℤ pos d) (d * suc c) a (suc c) (mul-pos h (zero-lt-suc c)) (zero-lt-suc c) (moved_across a (pos d) (pos (suc c)))
+ratio_is a (negsuc c) d h some =
+    ap (λ u. frac a d *ℚ u) (frac_inv (negsuc c) d some h) ∙ frac-mul a d (neg_ℤ (pos d)) (suc c) h (zero-lt-suc c)
+    ∙ same_frac (a *ℤ neg_ℤ (pos d)) (d * suc c) (neg_ℤ a) (suc c) (mul-pos h (zero-lt-suc c)) (zero-lt-suc c) (moved_across_negative a (pos d) (pos (suc c)))
+
+inverse_of : (q : ℤ) (d : ℕ) → upside_down q d ≡ frac (turned q (pos d)) (unsigned_abs q)
+inverse_of (pos n) d = refl
+inverse_of (negsuc n) d = refl
+
+pub inverse_is : (q : ℤ) (d : ℕ) → 0 < d → q ≢ pos 0 → inv_ℚ (frac q d) ≡ frac (turned q (pos d)) (unsigned_abs q)
+inverse_is q d h some = frac_inv q d some h ∙ inverse_of q d
+
+pub over_not_zero : {d m : ℕ} {x : ℚ} → 0 < d → (o : Over d m x) → x ≢ int (pos 0) → o.at ≢ pos 0
+over_not_zero {d} some o h e = h (o.is ∙ ap (λ z. frac z d) e ∙ zero_over d some)
+
+over_fits : {d m : ℕ} {x : ℚ} → 0 < d → d < 2 ^ 127 → Over d m x → m < 2 ^ 127 → FitsFrac x
+over_fits {d} {m} some top o k = subst (λ z. FitsFrac z) (sym o.is) (fits_over o.at d some (let s = o.size in omega arith) top)
+
+over_sum_fits : {d m k : ℕ} {x y : ℚ} → 0 < d → d < 2 ^ 127 → Over d m x → Over d k y → m + k < 2 ^ 127 → FitsSum x y
+over_sum_fits {d} {m} {k} some top o q h = subst₂ (λ u v. FitsSum u v) (sym o.is) (sym q.is) (fits_sum_over o.at q.at d some (let s = o.size in let t = q.size in omega arith) top)
+
+product_room : (n y b : ℕ) → n * b ≤ 2 ^ 62 → y < n → y * (2 ^ 62 * b) + 2 ^ 62 * b < 2 ^ 127
+product_room n y b h k = let e : suc y * b ≤ n * b = mul-le-mul_right b k in omega arith
+
+one_room : (n y b : ℕ) → n * b ≤ 2 ^ 62 → y < n → 2 ^ 62 * b < 2 ^ 127
+one_room n y b h k = let e : suc y * b ≤ n * b = mul-le-mul_right b k in omega arith
+
+expanded : (z m d : ℤ) → z *ℤ (d *ℤ m) ≡ (z *ℤ m) *ℤ d
+expanded z m d = by_ring_ℤ (z ∷ m ∷ d ∷ []) (search int_reads depth 30) (search int_reads depth 30) tt
+
+module _ (s : LinearSystem) (p : Position) (d : ℕ → ℕ) (some : (x : ℕ) → x < count s → 0 < d x) (small : (x : ℕ) → x < count s → d x ≤ 2 ^ 62)
+    (entries : (x y : ℕ) → x < count s → y < count s → Over (d x) (2 ^ 62) (p.coefficient x y)) where
+  d_top : (x : ℕ) → x < count s → d x < 2 ^ 127
+  d_top x k = let h = small x k in omega arith
+
+  -- ---- values, where r says where the nonbasic variables stand
+  module _ (b : ℕ) (room : count s * b ≤ 2 ^ 62) (r : ℕ → ℚ) (products : (x y : ℕ) → x < count s → y < count s → Over (d x) (2 ^ 62 * b) (p.coefficient x y *ℚ r y)) (x : ℕ) (x_in : x < count s) where
+    product_over : (y : ℕ) → y < count s → Over (d x) (2 ^ 62 * b) (p.coefficient x y *ℚ r y)
+    product_over y h = products x y x_in h
+
+    sum_over : (y : ℕ) → y ≤ count s → Over (d x) (y * (2 ^ 62 * b)) (total y (λ z. p.coefficient x z *ℚ r z))
+    sum_over zero h = record { at = pos 0; is = total-zero (λ z. p.coefficient x z *ℚ r z) ∙ sym (zero_over (d x) (some x x_in)); size = omega arith }
+    sum_over (suc y) h =
+        let o = sum_over y (omega arith) in
+        let q = product_over y h in
+        record {
+          at = o.at +ℤ q.at;
+          is = total-suc y (λ z. p.coefficient x z *ℚ r z) ∙ (λ i. o.is i +ℚ q.is i) ∙ frac_sum o.at q.at (d x) (some x x_in);
+          size = let a = abs-sum o.at q.at in let k = o.size in let l = q.size in omega arith;
+        }
+
+    product_fits : (y : ℕ) → y < count s → FitsFrac (p.coefficient x y *ℚ r y)
+    product_fits y h = over_fits (some x x_in) (d_top x x_in) (product_over y h) (one_room (count s) y b room h)
+
+    sum_fits : (y : ℕ) → y < count s → FitsSum (total y (λ z. p.coefficient x z *ℚ r z)) (p.coefficient x y *ℚ r y)
+    sum_fits y h = over_sum_fits (some x x_in) (d_top x x_in) (sum_over y (omega arith)) (product_over y h) (product_room (count s) y b room h)
+
+  module _ (b : ℕ) (room : count s * b ≤ 2 ^ 62) (firsts : (x y : ℕ) → x < count s → y < count s → Over (d x) (2 ^ 62 * b) (p.coefficient x y *ℚ (rest s y).first)) (seconds : (x y : ℕ) → x < count s → y < count s → Over (d x) (2 ^ 62 * b) (p.coefficient x y *ℚ (rest s y).second)) where
+    pub norm_values : ValuesFit s (count s) p
+    norm_values = record {
+      values = λ x h basic. record {
+        terms = λ y k free. record {
+          first_product = product_fits b room (λ z. (rest s z).first) firsts x h y k;
+          first_sum = sum_fits b room (λ z. (rest s z).first) firsts x h y k;
+          second_product = product_fits b room (λ z. (rest s z).second) seconds x h y k;
+          second_sum = sum_fits b room (λ z. (rest s z).second) seconds x h y k;
+        };
+      };
+    }
+
+  -- ---- a pivot
+  module _ (l e : ℕ) (g : Goes s p l e) where
+    at_l : (y : ℕ) → y < count s → Over (d l) (2 ^ 62) (p.coefficient l y)
+    at_l y h = entries l y g.leaves.below h
+
+    q : ℤ
+    q = (at_l e g.below).at
+
+    q_some : q ≢ pos 0
+    unfolding q
+    q_some = over_not_zero (some l g.leaves.below) (at_l e g.below) g.eligible.some
+
+    size : ℕ
+    size = unsigned_abs q
+
+    size_some : 0 < size
+    unfolding size
+    size_some = abs_some q q_some
+
+    size_small : size ≤ 2 ^ 62
+    unfolding size q
+    size_small = (at_l e g.below).size
+
+    times_size : (x : ℚ) (o : Over (d l) (2 ^ 62) x) → x *ℚ inv_ℚ (p.coefficient l e) ≡ frac (turned q o.at) size
+    unfolding size q
+    times_size x o = (λ i. o.is i *ℚ inv_ℚ ((at_l e g.below).is i)) ∙ ratio_is o.at q (d l) (some l g.leaves.below) q_some
+
+    -- the new row of the entering variable
+    own : (y : ℕ) → y < count s → Over size (2 ^ 62) (neg_ℚ (p.coefficient l y) *ℚ inv_ℚ (p.coefficient l e))
+    own y h =
+        let o = at_l y h in
+        let m : Over (d l) (2 ^ 62) (neg_ℚ (p.coefficient l y)) = record { at = neg_ℤ o.at; is = ap neg_ℚ o.is ∙ frac-neg o.at (d l) (some l g.leaves.below); size = subst (λ n. n ≤ 2 ^ 62) (sym (abs-negated o.at)) o.size } in
+        record { at = turned q m.at; is = times_size (neg_ℚ (p.coefficient l y)) m; size = subst (λ n. n ≤ 2 ^ 62) (sym (abs_turned q m.at)) m.size }
+
+    pub norm_entering : EnteringFits (count s) p l e
+    norm_entering = record { quotients = λ y h free apart. over_fits size_some (let k : size ≤ 2 ^ 62 = size_small in omega arith) (own y h) (lit< tt) }
+
+    not_leaving : (y : ℕ) → p.is_basic y ≡ false → y ≡ l → ⊥
+    not_leaving y free h = both_ways (p.is_basic l) (subst (λ z. p.is_basic z ≡ false) h free) g.leaves.violated.basic
+
+    own_entry : (y : ℕ) → y < count s → p.is_basic y ≡ false → (y ≡ e → ⊥) → Over size (2 ^ 62) (entering_row p l e y)
+    own_entry y h free apart = subst (Over size (2 ^ 62)) (sym (entering-other p l e y (not_leaving y free) apart)) (own y h)
+
+    over_both : ℕ → ℕ
+    over_both x = d x * size
+
+    both_some : (x : ℕ) → x < count s → 0 < over_both x
+    unfolding over_both
+    both_some x h = mul-pos (some x h) size_some
+
+    both_top : (x : ℕ) → x < count s → over_both x < 2 ^ 127
+    unfolding over_both
+    both_top x h =
+        let k : size ≤ 2 ^ 62 = size_small in
+        let m : d x * size ≤ 2 ^ 62 * 2 ^ 62 = le_trans (mul-le-mul_right size (small x h)) (mul-le-mul_left (2 ^ 62) k) in
+        omega arith
+
+    module _ (x : ℕ) (x_in : x < count s) where
+      k_over : Over (d x) (2 ^ 62) (p.coefficient x e)
+      k_over = entries x e x_in g.below
+
+      -- c_xe / c_le, where l has a denominator of its own: (n_xe d_l) / (d_x |n_le|)
+      inverse_over : inv_ℚ (p.coefficient l e) ≡ frac (turned q (pos (d l))) size
+      unfolding size q
+      inverse_over = ap inv_ℚ (at_l e g.below).is ∙ inverse_is q (d l) (some l g.leaves.below) q_some
+
+      pub leaving_fits : FitsFrac (p.coefficient x e *ℚ entering_row p l e l)
+      unfolding over_both
+      leaving_fits =
+          let o : Over (over_both x) (2 ^ 62 * 2 ^ 62) (p.coefficient x e *ℚ entering_row p l e l) =
+          record {
+            at = k_over.at *ℤ turned q (pos (d l));
+            is = ap (λ u. p.coefficient x e *ℚ u) (entering-at_leaving p l e) ∙ (λ i. k_over.is i *ℚ inverse_over i) ∙ frac-mul k_over.at (d x) (turned q (pos (d l))) size (some x x_in) size_some;
+            size = product_at_most k_over.at (turned q (pos (d l))) (2 ^ 62) (2 ^ 62) k_over.size (subst (λ n. n ≤ 2 ^ 62) (sym (abs_turned q (pos (d l)))) (small l g.leaves.below));
+          }
+          in
+          over_fits (both_some x x_in) (both_top x x_in) o (lit< tt)
+
+      module _ (y : ℕ) (y_in : y < count s) (free : p.is_basic y ≡ false) (apart : y ≡ e → ⊥) where
+        change : Over (over_both x) (2 ^ 62 * 2 ^ 62) (p.coefficient x e *ℚ entering_row p l e y)
+        unfolding over_both
+        change =
+            let o = own_entry y y_in free apart in
+            record {
+              at = k_over.at *ℤ o.at;
+              is = (λ i. k_over.is i *ℚ o.is i) ∙ frac-mul k_over.at (d x) o.at size (some x x_in) size_some;
+              size = product_at_most k_over.at o.at (2 ^ 62) (2 ^ 62) k_over.size o.size;
+            }
+
+        old : Over (over_both x) (2 ^ 62 * 2 ^ 62) (p.coefficient x y)
+        unfolding over_both
+        old =
+            let o = entries x y x_in y_in in
+            record {
+              at = o.at *ℤ pos size;
+              is = o.is ∙ same_frac o.at (d x) (o.at *ℤ pos size) (d x * size) (some x x_in) (mul-pos (some x x_in) size_some) (expanded o.at (pos size) (pos (d x)));
+              size = product_at_most o.at (pos size) (2 ^ 62) (2 ^ 62) o.size size_small;
+            }
+
+        pub entry_fits : EntryFits p l e x y
+        entry_fits = record { product = over_fits (both_some x x_in) (both_top x x_in) change (lit< tt); sum = over_sum_fits (both_some x x_in) (both_top x x_in) old change (lit< tt) }
+
+    pub norm_rows : RowsFit (count s) p l e
+    norm_rows = record { rows = λ x h basic apart other. record { leaving = leaving_fits x h; entries = λ y k free m. entry_fits x h y k free m } }
+
+  pub norms_fit : (b : ℕ) → count s * b ≤ 2 ^ 62 → ((x y : ℕ) → x < count s → y < count s → Over (d x) (2 ^ 62 * b) (p.coefficient x y *ℚ (rest s y).first)) → ((x y : ℕ) → x < count s → y < count s → Over (d x) (2 ^ 62 * b) (p.coefficient x y *ℚ (rest s y).second)) → PositionFits s p
+  norms_fit b room firsts seconds = record {
+    values = norm_values b room firsts seconds;
+    entering = λ l e h. norm_entering l e (turn-at s p (goes_on l e) h);
+    rows = λ l e h. norm_rows l e (turn-at s p (goes_on l e) h);
+  }

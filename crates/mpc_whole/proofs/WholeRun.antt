@@ -1,0 +1,202 @@
+-- One turn of the run on whole numbers, at a position of the run.
+use Rattle.std.proofs.Common.{◌≡◌, ℕ, ◌+◌, ◌-◌, ◌*◌, ◌^◌, ◌<◌, ◌≤◌, true, false, List, length, set, ℤ, pos, ◌*ℤ◌, unsigned_abs, Some, None, refl, sym, ◌∙◌, ap, subst, arith, ◌⊎◌, inl, inr, []}
+use Rattle.std.proofs.lemmas.Bool.{cases_lt}
+use Rattle.std.proofs.lemmas.List.{get_or_past}
+use Rattle.mpc_exact.specs.Rational.{ℚ, frac}
+use Rattle.mpc_rows.specs.Least.{least}
+use Rattle.mpc_rows.specs.LinearSystem.{LinearSystem, height}
+use Rattle.mpc_rows.specs.Run.{IsTableau, opening, has_point, is_refuted, goes_on, count, rest, value, may_leave, may_enter, turn, moved, pivot, is_pivot, last_position, position, steps}
+use Rattle.mpc_rows.specs.RunWidth.{PositionFits, ValuesFit, EnteringFits, RowsFit, RunFits}
+use Rattle.mpc_whole.specs.declared.variables.Seat.{Seat}
+use Rattle.mpc_whole.specs.declared.variables.Seat.TheVariants.{Row, Column}
+use Rattle.mpc_whole.specs.Table.{seat_at, in_row, IsSeated}
+use Rattle.mpc_whole.specs.RunEnd.{IsValues, IsMultipliers, EndsWithPoint, EndsRefuted}
+use Rattle.mpc_whole.specs.Whole.{whole_at, scale_at, IsSmall, IsWholeSystem, HasSideBound, IsNarrow, IsForm, HasSides, HasBasis, HasSideValues, AreValues, IsRowOf, IsSideRow, IsWholePivot, ArePairs, Stands, side_cell}
+use Rattle.mpc_whole.proofs.Turn.{Goes, Leaves, leaver, turn-at}
+use Rattle.mpc_whole.proofs.Ends.{Reached, stopped_last, position-zero}
+use Rattle.mpc_whole.proofs.Loop.{Going, going_next, end_fits}
+use Rattle.mpc_whole.proofs.Steps.{turn_point, turn_refuted, turn_goes}
+use Rattle.mpc_whole.proofs.Exchanged.{new_seated}
+use Rattle.mpc_whole.proofs.WholeNorms.{norms_fit}
+use Rattle.mpc_whole.proofs.WholeForm.{reached_tableau, side_first, side_second, side_total, side_entry, row_den, den_some, den_small, entries_over, products_over, rests_over}
+use Rattle.mpc_whole.proofs.WholeScales.{less_with_scale}
+use Rattle.mpc_whole.proofs.WholePivot.{pivot_form}
+
+pub side_values_at : (s : LinearSystem) (k : List ℕ) (a b : List ℤ) → IsWholeSystem s k a b → (q : ℕ) → q ≤ steps s → (n : ℕ) (seats : List Seat) (d : ℕ) (v : List ℤ) → IsForm s n seats k d v (position s q) → (c_1 c_2 : List ℤ) → AreValues s (position s q) d c_1 c_2 → HasSideValues s k a (position s q) d c_1 c_2
+side_values_at s k a b w q order n seats d v f c_1 c_2 h =
+    let r : Reached s (position s q) = record { after = q; order = order; is = refl } in
+    record {
+      first = λ i l. side_first s (position s q) r i l ∙ side_total s (position s q) r k a b w i d (λ j. (value s (position s q) j).first) (whole_at c_1) l f.some h.first;
+      second = λ i l. side_second s (position s q) r i l ∙ side_total s (position s q) r k a b w i d (λ j. (value s (position s q) j).second) (whole_at c_2) l f.some h.second;
+    }
+
+pub run_tableau : (s : LinearSystem) (k : ℕ) → k ≤ steps s → IsTableau (position s k)
+run_tableau s k order = reached_tableau s (position s k) (record { after = k; order = order; is = refl })
+
+reached_of : (s : LinearSystem) (n : ℕ) (seats : List Seat) (k : List ℕ) (d : ℕ) (v : List ℤ) (z : Stands s n seats k d v) → Reached s (position s z.at)
+reached_of s n seats k d v z = record { after = z.at; order = z.order; is = refl }
+
+going_of : (s : LinearSystem) (n : ℕ) (seats : List Seat) (k : List ℕ) (d : ℕ) (v : List ℤ) (z : Stands s n seats k d v) → Going s (position s z.at)
+going_of s n seats k d v z = record { reached = record { after = z.at; order = z.order; is = refl }; done = z.before }
+
+pub opening_stands : (s : LinearSystem) (n : ℕ) (seats : List Seat) (k : List ℕ) (v : List ℤ) → IsForm s n seats k 1 v (opening s) → Stands s n seats k 1 v
+opening_stands s n seats k v f = record { at = 0; order = omega arith; before = λ q h. absurd (omega arith); form = subst (IsForm s n seats k 1 v) (sym (position-zero s)) f }
+
+pub row_small : (s : LinearSystem) (a v : List ℤ) (i : ℕ) (x : List ℤ) → IsSideRow s a v i x → ((c : ℕ) → c < s.width → unsigned_abs (side_cell s a v i c) ≤ 2 ^ 62) → IsSmall (2 ^ 62) x
+row_small s a v i x r h = record { each = λ k. by k (cases_lt k s.width) }
+  where
+    by : (k : ℕ) → (k < s.width) ⊎ (s.width ≤ k) → unsigned_abs (whole_at x k) ≤ 2 ^ 62
+    by k (inl l) = subst (λ z. unsigned_abs z ≤ 2 ^ 62) (sym (r.cells k l)) (h k l)
+    by k (inr l) = subst (λ z. unsigned_abs z ≤ 2 ^ 62) (sym (get_or_past x k (pos 0) (let q : length x ≡ s.width = r.size in omega arith))) (omega arith)
+
+module _ (s : LinearSystem) (n : ℕ) (seats : List Seat) (seated : IsSeated (height s) s.width n seats) (k : List ℕ) (d : ℕ) (v a b : List ℤ) (most_side : ℕ)
+    (w : IsWholeSystem s k a b) (g : HasSideBound s b most_side) (narrow : IsNarrow s n seats k a d v) (z : Stands s n seats k d v) where
+  all : count s ≡ n
+  all = sym seated.count
+
+  reached : Reached s (position s z.at)
+  reached = (reached_of s n seats k d v z)
+
+  pub stands_tableau : IsTableau (position s z.at)
+  stands_tableau = reached_tableau s (position s z.at) (reached_of s n seats k d v z)
+
+  pub sides_are : HasSides s k b
+  sides_are = w.sides
+
+  pub basis_is : HasBasis n seats (position s z.at)
+  basis_is = record { basic = z.form.basic }
+
+  pub stands_fit : PositionFits s (position s z.at)
+  stands_fit =
+      norms_fit s (position s z.at) (row_den s (position s z.at) (reached_of s n seats k d v z) k a b w n (sym seated.count) seats d v z.form)
+      (den_some s (position s z.at) (reached_of s n seats k d v z) k a b w n (sym seated.count) seats d v z.form)
+      (den_small s (position s z.at) (reached_of s n seats k d v z) k a b w n (sym seated.count) seats d v z.form narrow)
+      (entries_over s (position s z.at) (reached_of s n seats k d v z) k a b w n (sym seated.count) seats d v z.form narrow)
+      most_side g.side_room
+      (products_over s (position s z.at) (reached_of s n seats k d v z) k a b w n (sym seated.count) seats d v z.form narrow most_side (λ y. (rest s y).first) (λ y l. (rests_over s k a b w most_side g y l).0))
+      (products_over s (position s z.at) (reached_of s n seats k d v z) k a b w n (sym seated.count) seats d v z.form narrow most_side (λ y. (rest s y).second) (λ y l. (rests_over s k a b w most_side g y l).1))
+
+  pub values_fit : ValuesFit s n (position s z.at)
+  values_fit = subst (λ m. ValuesFit s m (position s z.at)) (sym seated.count) stands_fit.values
+
+  pub side_values : (c_1 c_2 : List ℤ) → AreValues s (position s z.at) d c_1 c_2 → HasSideValues s k a (position s z.at) d c_1 c_2
+  side_values c_1 c_2 h = record {
+    first = λ i l. side_first s (position s z.at) (reached_of s n seats k d v z) i l ∙ side_total s (position s z.at) (reached_of s n seats k d v z) k a b w i d (λ j. (value s (position s z.at) j).first) (whole_at c_1) l z.form.some h.first;
+    second = λ i l. side_second s (position s z.at) (reached_of s n seats k d v z) i l ∙ side_total s (position s z.at) (reached_of s n seats k d v z) k a b w i d (λ j. (value s (position s z.at) j).second) (whole_at c_2) l z.form.some h.second;
+  }
+
+  pub some_scale : (y : ℕ) → y < n → 0 < scale_at k y
+  some_scale y h = w.scales.some y (subst (λ m. y < m) seated.count h)
+
+  pub side_cells_small : (i c : ℕ) → i < height s → c < s.width → unsigned_abs (side_cell s a v i c) ≤ 2 ^ 62
+  side_cells_small i c h l =
+      let u = seated.columns_full c l in
+      less_with_scale (unsigned_abs (side_cell s a v i c)) (scale_at k (seated.of_column c)) (some_scale (seated.of_column c) u.0) (narrow.rows i (seated.of_column c) c h u.0 u.1)
+
+  -- the end with a point
+  module _ (e : None ≡ least (may_leave s (position s z.at)) n) where
+    point_here : turn s (position s z.at) ≡ has_point
+    point_here = turn_point s (position s z.at) n (sym seated.count) e
+
+    point_last : (position s z.at) ≡ last_position s
+    point_last = stopped_last s (position s z.at) (reached_of s n seats k d v z) (ap is_pivot point_here)
+
+    pub point_fits : RunFits s
+    point_fits = end_fits s n (sym seated.count) (position s z.at) (going_of s n seats k d v z) (ap is_pivot point_here) values_fit
+
+    pub point_ends : (c_1 c_2 : List ℤ) (values : List (ℚ × ℚ)) → length c_1 ≡ s.width → AreValues s (position s z.at) d c_1 c_2 → ArePairs d c_1 c_2 values → EndsWithPoint s values
+    point_ends c_1 c_2 values long h q = record {
+      ends = subst (λ p. turn s p ≡ has_point) point_last point_here;
+      values = subst (λ p. IsValues s p values) point_last (record {
+        size = q.size ∙ long;
+        at = λ j k. let u = q.at j (subst (λ m. j < m) (sym long) k) in (u.0, u.1, u.2 ∙ sym (h.first j k), u.3 ∙ sym (h.second j k));
+      });
+    }
+
+  -- l leaves
+  module _ (l : ℕ) (e : Some l ≡ least (may_leave s (position s z.at)) n) where
+    pub leaves_here : Leaves s (position s z.at) l
+    leaves_here = leaver s (position s z.at) n l (sym seated.count) e
+
+    side : ℕ
+    side = l - s.width
+
+    pub side_in : l - s.width < height s
+    side_in = let h : l < count s = leaves_here.below in let k : s.width ≤ l = leaves_here.violated.side in omega arith
+
+    pub side_back : s.width + (l - s.width) ≡ l
+    side_back = let k : s.width ≤ l = leaves_here.violated.side in omega arith
+
+    pub leaving_in : l < n
+    leaving_in = let h : l < count s = leaves_here.below in let k = seated.count in omega arith
+
+    pub leaving_seat : in_row (seat_at seats l) ≡ true
+    leaving_seat = sym (z.form.basic l leaving_in) ∙ leaves_here.violated.basic
+
+    module _ (x : List ℤ) (row : IsSideRow s a v (l - s.width) x) where
+      pub row_of_leaving : IsRowOf n seats k (position s z.at) d l x
+      row_of_leaving = record {
+        own = some_scale l leaving_in;
+        some = some_scale;
+        coefficients = λ y c h q. subst (λ m. (position s z.at).coefficient m y ≡ frac (whole_at x c *ℤ pos (scale_at k y)) (d * scale_at k m)) side_back
+            (side_entry s (position s z.at) (reached_of s n seats k d v z) k a b w n (sym seated.count) seats d v z.form (l - s.width) y c side_in h q
+            ∙ ap (λ u. frac (u *ℤ pos (scale_at k y)) (d * scale_at k (s.width + (l - s.width)))) (sym (row.cells c (seated.columns y c h q).0)));
+      }
+
+      pub row_is_small : IsSmall (2 ^ 62) x
+      row_is_small = row_small s a v (l - s.width) x row (λ c h. side_cells_small (l - s.width) c side_in h)
+
+      -- the end refuted
+      module _ (o : None ≡ least (may_enter s (position s z.at) l) n) where
+        refuted_here : turn s (position s z.at) ≡ is_refuted l
+        refuted_here = turn_refuted s (position s z.at) n (sym seated.count) l e o
+
+        refuted_last : (position s z.at) ≡ last_position s
+        refuted_last = stopped_last s (position s z.at) (reached_of s n seats k d v z) (ap is_pivot refuted_here)
+
+        pub refuted_fits : RunFits s
+        refuted_fits = end_fits s n (sym seated.count) (position s z.at) (going_of s n seats k d v z) (ap is_pivot refuted_here) values_fit
+
+        pub refuted_ends : (m : List ℚ) → IsMultipliers s (position s z.at) l m → EndsRefuted s m
+        refuted_ends m h = record { row = l; ends = subst (λ p. turn s p ≡ is_refuted l) refuted_last refuted_here; multipliers = subst (λ p. IsMultipliers s p l m) refuted_last h }
+
+      -- e enters
+      module _ (f : ℕ) (o : Some f ≡ least (may_enter s (position s z.at) l) n) where
+        pub goes_here : turn s (position s z.at) ≡ goes_on l f
+        goes_here = turn_goes s (position s z.at) n (sym seated.count) l f e o
+
+        pub goes : Goes s (position s z.at) l f
+        goes = turn-at s (position s z.at) (goes_on l f) goes_here
+
+        pub entering_in : f < n
+        entering_in = let h : f < count s = goes.below in let k = seated.count in omega arith
+
+        pub entering_seat : in_row (seat_at seats f) ≡ false
+        entering_seat = sym (z.form.basic f entering_in) ∙ goes.eligible.free
+
+        module _ (r₀ c₀ : ℕ) (sl : seat_at seats l ≡ Row r₀) (sf : seat_at seats f ≡ Column c₀) where
+          pub column_in : c₀ < s.width
+          column_in = (seated.columns f c₀ entering_in sf).0
+
+          pub next_seated : IsSeated (height s) s.width n (set (set seats l (Column c₀)) f (Row r₀))
+          next_seated = new_seated (height s) s.width n seats [] seated l f r₀ c₀ leaving_in entering_in sl sf
+
+          goes_side : Goes s (position s z.at) (s.width + (l - s.width)) f
+          goes_side = subst (λ m. Goes s (position s z.at) m f) (sym side_back) goes
+
+          seat_side : seat_at seats (s.width + (l - s.width)) ≡ Row r₀
+          seat_side = ap (seat_at seats) side_back ∙ sl
+
+          next_going : Going s (pivot (position s z.at) l f)
+          next_going =
+              subst (Going s) (ap (moved (position s z.at)) goes_here)
+              (going_next s n (sym seated.count) (position s z.at) (going_of s n seats k d v z) l f goes_here values_fit (subst (λ m. EnteringFits m (position s z.at) l f) (sym seated.count) (stands_fit.entering l f goes_here)) (subst (λ m. RowsFit m (position s z.at) l f) (sym seated.count) (stands_fit.rows l f goes_here)))
+
+          pub next_stands : (new : List ℤ) → IsWholePivot s.width d v new x c₀ → Stands s n (set (set seats l (Column c₀)) f (Row r₀)) k (unsigned_abs (whole_at x c₀)) new
+          next_stands new piv =
+              let h = next_going in
+              let form : IsForm s n (set (set seats l (Column c₀)) f (Row r₀)) k (unsigned_abs (whole_at x c₀)) new (pivot (position s z.at) l f) =
+              subst (λ m. IsForm s n (set (set seats m (Column c₀)) f (Row r₀)) k (unsigned_abs (whole_at x c₀)) new (pivot (position s z.at) m f)) side_back
+              (pivot_form s (position s z.at) (reached_of s n seats k d v z) k a b w n (sym seated.count) seats seated d v z.form (l - s.width) f goes_side side_in x row r₀ c₀ seat_side sf new piv)
+              in
+              record { at = h.reached.after; order = h.reached.order; before = h.done; form = subst (IsForm s n (set (set seats l (Column c₀)) f (Row r₀)) k (unsigned_abs (whole_at x c₀)) new) h.reached.is form }

@@ -1,0 +1,33 @@
+use Rattle.std.proofs.Common.{sym, ◌∙◌, ap, ◌≡◌, ◌≤◌, ◌<◌, ◌+◌, ◌*◌, ◌^◌, pos, get_or, length, arith, to_z, of_z, subst, unsigned_abs, inr, le_trans, le_refl}
+use Rattle.std.specs.Int.{w64}
+use Rattle.mpc_whole.specs.Whole.{whole_at, whole_cell, IsChanged, turned}
+use Rattle.mpc_whole.proofs.WholeSteps.{read_small, set_small}
+use Rattle.mpc_whole.proofs.WholeExchange.{row_done, row_kept, number_changed, row_below}
+use Rattle.mpc_whole.proofs.whole_pivot.change_row.Goals as goal
+
+pub loop-c-preserved : goal.loop-c-preserved
+loop-c-preserved c =
+    let w = length c.args.x.now in
+    let k = c.args.j * length c.args.x.now + c.loop-c.c in
+    let b : k < length c.loop-c.v = (let l : length c.loop-c.v ≡ length c.args.v.now = c.loop-c.auto.v in let s = c.requires.square in let r = row_below w c.args.j w c.loop-c.c c.requires.row c.loop-c-test.true in omega arith) in
+    let xe : to_z w64 (of_z w64 (get_or c.args.x.now c.args.e (pos 0))) ≡ whole_at c.args.x.now c.args.e = read_small _ (c.requires.row_small.each c.args.e) in
+    let vs : unsigned_abs (get_or c.args.v.now (c.args.j * w + c.args.e) (pos 0)) ≤ 2 ^ 62 = le_trans (c.requires.small.each (c.args.j * w + c.args.e)) c.requires.most_small in
+    let ve : to_z w64 (of_z w64 (get_or c.args.v.now (c.args.j * w + c.args.e) (pos 0))) ≡ whole_cell w c.args.v.now c.args.j c.args.e = read_small _ vs in
+    let fs : unsigned_abs c.turned-factor.result ≤ 2 ^ 62 = le_trans c.turned-factor.ensures.small (subst (λ z. unsigned_abs z ≤ 2 ^ 62) (sym ve) vs) in
+    let factor : to_z w64 (of_z w64 c.turned-factor.result) ≡ turned (whole_at c.args.x.now c.args.e) (whole_cell w c.args.v.now c.args.j c.args.e) =
+    read_small _ fs ∙ c.turned-factor.ensures.value ∙ (λ i. turned (xe i) (ve i))
+    in
+    let old : to_z w64 (of_z w64 (get_or c.loop-c.v k (pos 0))) ≡ whole_cell w c.args.v.now c.args.j c.loop-c.c =
+    read_small _ (le_trans (c.loop-c.invariant.small.each k) c.requires.most_small) ∙ c.loop-c.invariant.kept k (inr (le_refl k))
+    in
+    let y : to_z w64 (of_z w64 (get_or c.args.x.now c.loop-c.c (pos 0))) ≡ whole_at c.args.x.now c.loop-c.c = read_small _ (c.requires.row_small.each c.loop-c.c) in
+    let size : c.unsigned_abs-size.result ≡ unsigned_abs (whole_at c.args.x.now c.args.e) = c.unsigned_abs-size.ensures.value ∙ ap unsigned_abs xe in
+    let back : to_z w64 (of_z w64 c.in_ok-new.new) ≡ c.in_ok-new.new = read_small _ (le_trans c.in_ok-new.ensures.small c.requires.most_small) in
+    let changes : IsChanged w c.args.den c.args.v.now c.args.x.now c.args.j c.args.e c.loop-c.c c.in_ok-new.new =
+    number_changed w c.args.den c.args.v.now c.args.x.now c.args.j c.args.e c.loop-c.c c.in_ok-new.new _ _ _ _ old factor y size c.in_ok-new.ensures.entering c.in_ok-new.ensures.other
+    in
+    record {
+      done = row_done w c.args.den c.args.v.now c.loop-c.v c.args.x.now c.args.j c.args.e c.loop-c.c (to_z w64 (of_z w64 c.in_ok-new.new)) b c.loop-c.invariant.done (subst (IsChanged w c.args.den c.args.v.now c.args.x.now c.args.j c.args.e c.loop-c.c) (sym back) changes);
+      kept = row_kept w c.args.den c.args.v.now c.loop-c.v c.args.x.now c.args.j c.args.e c.loop-c.c (to_z w64 (of_z w64 c.in_ok-new.new)) b c.loop-c.invariant.kept;
+      small = set_small c.loop-c.v k (to_z w64 (of_z w64 c.in_ok-new.new)) b c.args.most c.loop-c.invariant.small (subst (λ z. unsigned_abs z ≤ c.args.most) (sym back) c.in_ok-new.ensures.small);
+    }

@@ -1,0 +1,26 @@
+//! The simplex run by least numbers in whole numbers over one denominator, as far as they stay small.
+#![tactic(auto)]
+
+mod numbers;
+mod variables;
+mod whole;
+mod whole_ends;
+mod whole_numbers;
+mod whole_pivot;
+mod whole_rows;
+mod whole_turn;
+mod whole_values;
+
+use mpc_rows::{Multipliers, PairPoint};
+pub use numbers::{Standing, zero, zero_pairs, zeros};
+pub use variables::{Seat, column_of, is_basic, is_unknown, opening_seats, row_of};
+pub use whole::whole_end;
+
+/// What a run ends with.
+#[derive(Drop)]
+pub enum End {
+    /// The values of the unknowns, in pairs.
+    Point(PairPoint),
+    /// The multipliers of the rows.
+    Refuted(Multipliers),
+}

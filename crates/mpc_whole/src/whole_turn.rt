@@ -1,0 +1,146 @@
+//! Who leaves and who enters, in whole numbers.
+
+ghost use Rattle.std.specs.Prelude.{◌≡◌, ℕ, ℤ, List, pos, ◌+◌, ◌*◌, ◌<◌, ◌≤◌, ◌^◌, ◌*ℤ◌, unsigned_abs, length, true, false};
+ghost use Rattle.mpc_rows.specs.LinearSystem.{height};
+ghost use Rattle.mpc_rows.specs.Least.{least};
+ghost use Rattle.mpc_rows.specs.Run.{Position, bound, value, may_leave, may_enter};
+ghost use Rattle.mpc_exact.specs.Pair.{is_below};
+ghost use Rattle.mpc_whole.specs.Table.{seat_at, in_row, IsSeated};
+ghost use Rattle.mpc_whole.specs.Whole.{whole_at, whole_cell, whole_total, AreScales, IsSmall, HasRoom, HasSides, HasSideValues, HasBasis, IsRowOf};
+
+use crate::variables::{Seat, column_of, is_basic, is_unknown};
+use crate::whole_numbers::{product, row_times, row_times_column, signed};
+use crate::whole_values::step_of;
+use mpc_rows::System;
+
+/// Whether the value of side i is above its bound.
+fn is_out(
+    system: &System,
+    scales: &[u64],
+    a: &[i64],
+    b: &[i64],
+    c_1: &[i64],
+    c_2: &[i64],
+    den: u64,
+    i: usize,
+) -> bool
+    requires side { i < height system.now }
+    requires scales { AreScales system.now scales.now }
+    requires entries { length a.now ≡ height system.now * system.now.width }
+    requires sides { length b.now ≡ height system.now }
+    requires first_size { length c_1.now ≡ system.now.width }
+    requires second_size { length c_2.now ≡ system.now.width }
+    requires room { HasRoom system.now.width (2 ^ 62) a.now }
+    requires first_small { IsSmall (2 ^ 62) c_1.now }
+    requires second_small { IsSmall (2 ^ 62) c_2.now }
+    requires den_small { den ≤ 2 ^ 62 }
+    ensures { (p : Position) → 0 < den → HasSideValues system.now scales.now a.now p den c_1.now c_2.now → HasSides system.now scales.now b.now
+        → result ≡ is_below (bound system.now (system.now.width + i)) (value system.now p (system.now.width + i)) }
+{
+    let first = row_times(a, i, c_1);
+    let limit = product(b[i], signed(den));
+    if limit < first {
+        return true;
+    }
+    if first < limit {
+        return false;
+    }
+    let second = row_times(a, i, c_2);
+    let step = step_of(system, scales, i);
+    let next = product(step, signed(den));
+    if next < second {
+        return true;
+    }
+    false
+}
+
+/// The variable that leaves.
+pub(crate) fn leaving(
+    system: &System,
+    scales: &[u64],
+    seats: &[Seat],
+    a: &[i64],
+    b: &[i64],
+    c_1: &[i64],
+    c_2: &[i64],
+    den: u64,
+    n: usize,
+) -> Option<usize>
+    requires scales { AreScales system.now scales.now }
+    requires seated { IsSeated (height system.now) system.now.width n seats.now }
+    requires entries { length a.now ≡ height system.now * system.now.width }
+    requires sides { length b.now ≡ height system.now }
+    requires first_size { length c_1.now ≡ system.now.width }
+    requires second_size { length c_2.now ≡ system.now.width }
+    requires room { HasRoom system.now.width (2 ^ 62) a.now }
+    requires first_small { IsSmall (2 ^ 62) c_1.now }
+    requires second_small { IsSmall (2 ^ 62) c_2.now }
+    requires den_small { den ≤ 2 ^ 62 }
+    ensures { (p : Position) → 0 < den → HasBasis n seats.now p → HasSideValues system.now scales.now a.now p den c_1.now c_2.now → HasSides system.now scales.now b.now
+        → result ≡ least (may_leave system.now p) n }
+{
+    let width = system.unknowns();
+    for x in width..n {
+        if !is_basic(seats, x) {
+            continue;
+        }
+        if is_out(system, scales, a, b, c_1, c_2, den, x - width) {
+            return Some(x);
+        }
+    }
+    None
+}
+
+/// The row of side i.
+pub(crate) fn side_row(x: &mut [i64], system: &System, a: &[i64], v: &[i64], i: usize)
+    requires side { i < height system.now }
+    requires entries { length a.now ≡ height system.now * system.now.width }
+    requires square { length v.now ≡ system.now.width * system.now.width }
+    requires row_room { length x.old ≡ system.now.width }
+    requires room { HasRoom system.now.width (2 ^ 62) a.now }
+    requires small { IsSmall (2 ^ 62) v.now }
+    requires row_small { (c : ℕ) → c < system.now.width → unsigned_abs (whole_total system.now.width (λ j. whole_cell system.now.width a.now i j *ℤ whole_cell system.now.width v.now j c)) ≤ 2 ^ 62 }
+    ensures cells { (c : ℕ) → c < system.now.width → whole_at x.new c ≡ whole_total system.now.width (λ j. whole_cell system.now.width a.now i j *ℤ whole_cell system.now.width v.now j c) }
+{
+    let width = system.unknowns();
+    for c in 0..width {
+        x[c] = row_times_column(a, i, v, width, c);
+    }
+}
+
+/// Whether y may enter, by the row x of the variable that leaves.
+fn may_enter(system: &System, seats: &[Seat], x: &[i64], n: usize, y: usize) -> bool
+    requires seated { IsSeated (height system.now) system.now.width n seats.now }
+    requires below { y < n }
+    requires row_size { length x.now ≡ system.now.width }
+    requires row_small { IsSmall (2 ^ 62) x.now }
+    ensures { (p : Position) (k : List ℕ) (l d : ℕ) → 0 < d → HasBasis n seats.now p → IsRowOf n seats.now k p d l x.now → result ≡ may_enter system.now p l y }
+{
+    if is_basic(seats, y) {
+        return false;
+    }
+    let c = column_of(seats, y);
+    let k = x[c];
+    if 0 < k {
+        return true;
+    }
+    if k < 0 {
+        return is_unknown(system, y);
+    }
+    false
+}
+
+/// The variable that enters, by the row x of the variable that leaves.
+pub(crate) fn entering(system: &System, seats: &[Seat], x: &[i64], n: usize) -> Option<usize>
+    requires seated { IsSeated (height system.now) system.now.width n seats.now }
+    requires row_size { length x.now ≡ system.now.width }
+    requires row_small { IsSmall (2 ^ 62) x.now }
+    ensures { (p : Position) (k : List ℕ) (l d : ℕ) → 0 < d → HasBasis n seats.now p → IsRowOf n seats.now k p d l x.now → result ≡ least (may_enter system.now p l) n }
+{
+    for y in 0..n {
+        if may_enter(system, seats, x, n, y) {
+            return Some(y);
+        }
+    }
+    None
+}
