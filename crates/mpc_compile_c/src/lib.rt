@@ -73,6 +73,9 @@ pub extern "C" fn mpc_compile_reply(
     ensures too_wide { result ≡ 6 → IsFileOf file.now IsTooWide }
     ensures other_sizes { result ≡ 8 → IsFileOf file.now (HasOtherSizes (length counts.now) (length moves.old)) }
     ensures codes { result ≤ 8 }
+
+    // Without a reply no move is written.
+    ensures no_moves { 3 ≤ result → moves.new ≡ moves.old }
 {
     let phase = Phase::numbered(last);
     match answer_to(alloc, file, counts, phase, rounds, sizes, moves) {

@@ -1,6 +1,6 @@
 //! A run: from a plant file to a reply.
 
-ghost use Rattle.std.specs.Prelude.{◌≡◌, ℕ, IfOk, IfErr, length, map};
+ghost use Rattle.std.specs.Prelude.{◌≡◌, ℕ, IfOk, IfErr, OnErr, length, map};
 ghost use Rattle.mpc_parts.specs.Parts.{value_of};
 ghost use Rattle.mpc_rows.specs.declared.programs.Qp.{Qp};
 ghost use Rattle.mpc_synthesis.specs.Controllers.{IsController};
@@ -53,6 +53,7 @@ fn reply_of(
     requires room { length moves.old ≡ plant.p }
     ensures answered { IfOk result (IsAnsweredFor plant counts.now sizes.new (map value_of moves.new)) }
     ensures stops { IfErr result (ExplainsStop plant last) }
+    ensures kept { OnErr result (moves.new ≡ moves.old) }
 {
     right_controller();
     grid_points();
@@ -81,6 +82,7 @@ pub(crate) fn answer_to(
 ) -> Result<Answer, Stop>
     ensures answered { IfOk result (IsAnswered file.now counts.now sizes.new (map value_of moves.new)) }
     ensures stops { IfErr result (ExplainsEnd file.now (length counts.now) (length moves.old) last) }
+    ensures kept { OnErr result (moves.new ≡ moves.old) }
 {
     let plant = match read_plant(alloc, file) {
         Ok(plant) => plant,
