@@ -145,8 +145,9 @@ impl Status {
         }
     }
 
-    /// Puts the line that is written at this status behind the text: nothing for [`Status::Done`], a fault or want of memory.
-    pub fn write_line(&self, text: &mut Vec<u8>) -> Result<(), NoMemory>
+    /// Puts the line that is written at this status behind the text: nothing for [`Status::Done`], a fault or want of memory. Without memory a
+    /// part of it may stand there.
+    pub(crate) fn write_line(&self, text: &mut Vec<u8>) -> Result<(), NoMemory>
         ensures { OnOk result (text.new.items ≡ text.old.items ++ line_of self.now) }
     {
         match self {
