@@ -1,10 +1,11 @@
 //! Workers that claim the candidates of a program, examine them and deliver their verdicts.
 #![tactic(auto)]
 
-ghost use Rattle.std.specs.Prelude.{◌≡◌, ◌≤◌, IfOk, OnOk, length};
+ghost use Rattle.std.specs.Prelude.{◌≡◌, ◌≤◌, IfOk, OnOk, OnErr, length};
 ghost use Rattle.mpc_space.specs.Definite.{IsDefinite};
 ghost use Rattle.mpc_space.specs.Matrix.{height};
 ghost use Rattle.mpc_sets.specs.RowSet.{IsSetOfRows};
+ghost use Rattle.mpc_claim.specs.Answers.{abandoned};
 ghost use Rattle.mpc_claim.specs.History.{IsOpen};
 ghost use Rattle.mpc_workers.specs.Alone.{Delivers, IsDoneAlone};
 
@@ -32,7 +33,8 @@ fn take_turn<G: Gate>(
     requires open_still { IsOpen registry.old.history ticket }
     requires set_of_rows { IsSetOfRows (height registry.old.program.g) ticket.set }
     requires few { length ticket.set ≤ height registry.old.program.h }
-    ensures { OnOk result (Delivers registry.old ticket registry.new) }
+    ensures ok { OnOk result (Delivers registry.old ticket registry.new) }
+    ensures err { OnErr result (registry.new ≡ abandoned registry.old ticket) }
 {
     let judged = match examine(alloc, registry.program(), ticket.set()) {
         Ok(judged) => judged,

@@ -260,7 +260,7 @@ fn work_in<T: Threads + Wait + Sync, G: Gate + Sync>(
     work_all(rt, alloc, turn, gate, qp, workers, seats.as_mut_slice());
 }
 
-/// A seat for each worker, numbered from 1.
+/// A seat for each worker, numbered from 1. Without memory no pass is lent.
 fn seats_of(
     alloc: Global,
     turn: &Turn,
@@ -272,6 +272,7 @@ fn seats_of(
     requires none_lent { first.old.lent ≡ 0 }
     requires few { workers ≤ 32 }
     ensures first { IfOk result (λ v. first.new ≡ record first.old { lent = workers }) }
+    ensures err { OnErr result (first.new ≡ first.old) }
     ensures count { IfOk result (λ v. vec_len v ≡ workers) }
     ensures seats { IfOk result (λ v. All (Fresh turn.now first.old.program workers) v.items) }
     ensures numbered { IfOk result (λ v. AreNumbered v.items) }

@@ -17,12 +17,12 @@ take_turn-requires-clause-few g c =
 pub turns-smaller : goal.turns-smaller
 turns-smaller g c =
     turn_counts c.legal_laws.ensures.legal c.legal_laws.ensures.claims c.legal_laws.ensures.appended c.claim_laws.ensures.candidates c.args.qp.now c.turns.registry c.claim.new.self c.take_turn.new.registry c.in-Job.ticket c.turns.invariant
-    (subst (λ (a : Claimed). Claims c.turns.registry 1 (Ok a) c.claim.new.self) c.in-Job.is c.in_ok-ticket.ensures) c.in_ok-take_turn-in-Job.ensures
+    (subst (λ (a : Claimed). Claims c.turns.registry 1 (Ok a) c.claim.new.self) c.in-Job.is c.in_ok-ticket.ensures) c.in_ok-take_turn-in-Job.ensures.ok
 
 pub turns-preserved : goal.turns-preserved
 turns-preserved g c =
     turn_taken c.legal_laws.ensures.legal c.legal_laws.ensures.claims c.legal_laws.ensures.appended c.claim_laws.ensures.candidates c.args.qp.now c.turns.registry c.claim.new.self c.take_turn.new.registry c.in-Job.ticket c.turns.invariant
-    (subst (λ (a : Claimed). Claims c.turns.registry 1 (Ok a) c.claim.new.self) c.in-Job.is c.in_ok-ticket.ensures) c.in_ok-take_turn-in-Job.ensures
+    (subst (λ (a : Claimed). Claims c.turns.registry 1 (Ok a) c.claim.new.self) c.in-Job.is c.in_ok-ticket.ensures) c.in_ok-take_turn-in-Job.ensures.ok
 
 pub returns-in-Idle : goal.returns-in-Idle
 returns-in-Idle g c =

@@ -8,8 +8,8 @@ deliver-requires-clause-right g c =
     subst (λ (q : Qp). IsRight q c.args.ticket.set c.in-Ok.judged.verdict) c.program.ensures.value
     (subst (λ (s : List ℕ). IsRight c.program.result.now s c.in-Ok.judged.verdict) c.set.ensures c.in-Ok.ensures.right)
 
-pub returns : goal.returns
-returns g c = record {
+pub returns-clause-ok : goal.returns-clause-ok
+returns-clause-ok g c = record {
   verdict = c.in-Ok.judged.verdict;
   right = subst (λ (q : Qp). IsRight q c.args.ticket.set c.in-Ok.judged.verdict) c.program.ensures.value
       (subst (λ (s : List ℕ). IsRight c.program.result.now s c.in-Ok.judged.verdict) c.set.ensures c.in-Ok.ensures.right);
