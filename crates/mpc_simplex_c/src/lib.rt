@@ -77,6 +77,10 @@ pub extern "C" fn mpc_simplex_decide(
     ensures sent { result ≤ 2 → IsSent width coefficients.now sides.now point.old multipliers.old }
     ensures unreadable { result ≡ 4 → ¬ IsSent width coefficients.now sides.now point.old multipliers.old }
     ensures codes { result ≤ 4 }
+
+    // What isn't the answer's isn't written.
+    ensures point_kept { result ≢ 0 → point.new ≡ point.old }
+    ensures multipliers_kept { result ≢ 1 → multipliers.new ≡ multipliers.old }
 {
     if point.len() != width as usize || multipliers.len() != sides.len() {
         return UNREADABLE;
