@@ -1,6 +1,6 @@
 //! The coefficients of rows, one behind the other.
 
-ghost use Rattle.std.specs.Prelude.{◌≡◌, ◌++◌, cond, nat_lt, negsuc, pos, IfOk, OnOk, map};
+ghost use Rattle.std.specs.Prelude.{◌≡◌, ◌++◌, cond, nat_lt, negsuc, pos, IfOk, OnOk, length, map, take};
 ghost use Rattle.mpc_exact.specs.Rational.{int};
 ghost use Rattle.mpc_space.specs.Vector.{vec_scale, zeros};
 ghost use Rattle.mpc_linear.specs.Whole.{AreSmall};
@@ -11,9 +11,10 @@ use mpc_frac::{Frac, NoMemory};
 use mpc_linear::Vector;
 use std::alloc::Global;
 
-/// Appends the entries.
+/// Appends the entries. Without memory some of them stand there.
 pub fn push_entries(out: &mut Vector, entries: &[Frac]) -> Result<(), NoMemory>
-    ensures { OnOk result (out.new ≡ out.old ++ entries.now) }
+    ensures entries { OnOk result (out.new ≡ out.old ++ entries.now) }
+    ensures kept { take (length out.old) out.new ≡ out.old }
 {
     for x in entries {
         out.push(*x)?;
@@ -21,9 +22,10 @@ pub fn push_entries(out: &mut Vector, entries: &[Frac]) -> Result<(), NoMemory>
     Ok(())
 }
 
-/// Appends the negatives of the entries.
+/// Appends the negatives of the entries. Without memory some of them stand there.
 pub fn push_negatives(out: &mut Vector, entries: &[Frac]) -> Result<(), NoMemory>
-    ensures { OnOk result (out.new ≡ out.old ++ vec_scale (int (negsuc 0)) entries.now) }
+    ensures entries { OnOk result (out.new ≡ out.old ++ vec_scale (int (negsuc 0)) entries.now) }
+    ensures kept { take (length out.old) out.new ≡ out.old }
 {
     for x in entries {
         out.push(x.neg())?;
@@ -31,10 +33,11 @@ pub fn push_negatives(out: &mut Vector, entries: &[Frac]) -> Result<(), NoMemory
     Ok(())
 }
 
-/// Appends the numbers as fractions.
+/// Appends the numbers as fractions. Without memory some of them stand there.
 pub fn push_wholes(out: &mut Vector, numbers: &[i128]) -> Result<(), NoMemory>
     requires { AreSmall numbers.now }
-    ensures { OnOk result (out.new ≡ out.old ++ map int numbers.now) }
+    ensures entries { OnOk result (out.new ≡ out.old ++ map int numbers.now) }
+    ensures kept { take (length out.old) out.new ≡ out.old }
 {
     for z in numbers {
         out.push(whole(*z))?;
@@ -42,10 +45,11 @@ pub fn push_wholes(out: &mut Vector, numbers: &[i128]) -> Result<(), NoMemory>
     Ok(())
 }
 
-/// Appends the negatives of the numbers as fractions.
+/// Appends the negatives of the numbers as fractions. Without memory some of them stand there.
 pub fn push_negated_wholes(out: &mut Vector, numbers: &[i128]) -> Result<(), NoMemory>
     requires { AreSmall numbers.now }
-    ensures { OnOk result (out.new ≡ out.old ++ vec_scale (int (negsuc 0)) (map int numbers.now)) }
+    ensures entries { OnOk result (out.new ≡ out.old ++ vec_scale (int (negsuc 0)) (map int numbers.now)) }
+    ensures kept { take (length out.old) out.new ≡ out.old }
 {
     for z in numbers {
         out.push(whole(*z).neg())?;
@@ -53,9 +57,10 @@ pub fn push_negated_wholes(out: &mut Vector, numbers: &[i128]) -> Result<(), NoM
     Ok(())
 }
 
-/// Appends as many zeros.
+/// Appends as many zeros. Without memory some of them stand there.
 pub fn push_zeros(out: &mut Vector, count: u32) -> Result<(), NoMemory>
-    ensures { OnOk result (out.new ≡ out.old ++ zeros count) }
+    ensures entries { OnOk result (out.new ≡ out.old ++ zeros count) }
+    ensures kept { take (length out.old) out.new ≡ out.old }
 {
     for _k in 0..count {
         out.push(Frac::whole(0))?;
