@@ -69,6 +69,7 @@ pub fn push_met(
     ensures width { system.new.width ≡ system.old.width }
     ensures rows { OnOk result
         (system.new.rows ≡ system.old.rows ++ map (substituted (length forms.now) forms.now) (way_rows tree.now way.now)) }
+    ensures kept { take (length system.old.rows) system.new.rows ≡ system.old.rows }
     ensures wide { MatchResult result
         (λ _. All (SubstitutedFits (length forms.now) forms.now) (way_rows tree.now way.now))
         (IfTooWide (¬ All (SubstitutedFits (length forms.now) forms.now) (way_rows tree.now way.now))) }
