@@ -1,5 +1,5 @@
 -- A section has one answer.
-use Rattle.std.proofs.Common.{◌≡◌, ℕ, ◌+◌, ◌<◌, ◌≤◌, inl, inr, List, [], ◌∷◌, ◌++◌, length, refl, sym, ◌∙◌, ap, subst, arith}
+use Rattle.std.proofs.Common.{◌≡◌, ℕ, ◌+◌, inl, inr, List, ◌++◌, refl, sym, ◌∙◌, ap, subst, arith}
 use Rattle.mpc_plant.specs.declared.faults.PlantKind.{PlantKind}
 use Rattle.mpc_plant.specs.declared.plants.Plant.{Plant}
 use Rattle.mpc_plant.specs.WholePlant.{ReadsAsPlant, IsFirstFault}
@@ -9,13 +9,13 @@ use Rattle.mpc_file.specs.FileGrammar.{Spells}
 use Rattle.mpc_file.specs.TextLaws.{OneText as OneFileText}
 use Rattle.mpc_synthesis.specs.Controllers.{OneController}
 use Rattle.mpc_synthesis.specs.Refusals.{controller}
-use Rattle.mpc_synthesis.specs.Outcomes.{Outcome, not_definite as stops_at, too_wide as wide_at, complete, IsOutcome, OneOutcome}
+use Rattle.mpc_synthesis.specs.Outcomes.{not_definite as stops_at, too_wide as wide_at, complete, IsOutcome, OneOutcome}
 use Rattle.mpc_status.specs.declared.status.Status.{Status}
-use Rattle.mpc_status.specs.declared.status.Status.TheVariants.{Done, BadPlant, NotDefinite, TooWide}
+use Rattle.mpc_status.specs.declared.status.Status.TheVariants.{BadPlant, NotDefinite, TooWide}
 use Rattle.mpc_status.specs.StatusText.{line_of}
 use Rattle.mpc_sections.specs.Sections.{sections_of}
-use Rattle.mpc_sections.specs.Alone.{IsFile, IsPlantAnswer, not_definite, too_wide, compiled, IsAlone, no_plant, of_plant, heading, AreAnswered, none, one_more, OneAlone, OneText}
-use Rattle.mpc_sections.specs.Outcomes.{FleetOutcome, too_many_plants, answered, IsFleetOutcome, OneFleetOutcome}
+use Rattle.mpc_sections.specs.Alone.{IsFile, IsPlantAnswer, not_definite, too_wide, compiled, no_plant, of_plant, heading, none, one_more, OneAlone, OneText}
+use Rattle.mpc_sections.specs.Outcomes.{too_many_plants, answered, OneFleetOutcome}
 use Rattle.mpc_sections.proofs.SamePlant.{same_plant}
 
 -- ---- checks of a plant's file

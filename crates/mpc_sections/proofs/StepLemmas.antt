@@ -23,7 +23,6 @@ use Rattle.mpc_claim.specs.Board.{Board, event, tag_of, is_wide}
 use Rattle.mpc_claim.specs.History.{IsLegal, IsFinished, EndsWide}
 use Rattle.mpc_claim.specs.HistoryLaws.{LegalLaws}
 use Rattle.mpc_workers.specs.Seats.{IsWorker, IsDone}
-use Rattle.mpc_synthesis.specs.Crews.{HasEnded}
 use Rattle.mpc_synthesis.specs.Programs.{IsDecided, IsDecidedBy}
 use Rattle.mpc_status.specs.declared.status.Status.{Status}
 use Rattle.mpc_status.specs.StatusText.{line_of}

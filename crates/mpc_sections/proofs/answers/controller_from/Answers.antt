@@ -1,4 +1,4 @@
-use Rattle.std.proofs.Common.{◌≡◌, subst}
+use Rattle.std.proofs.Common.{subst}
 use Rattle.mpc_rows.specs.declared.programs.Qp.{Qp}
 use Rattle.mpc_rows.specs.declared.verdicts.Verdict.TheVariants.{Wide}
 use Rattle.mpc_claim.specs.Answers.{IsFirstBad}

@@ -1,6 +1,6 @@
 use Rattle.std.proofs.Common.{◌<◌, length, vec_len, arith}
 use Rattle.mpc_sections.specs.Sections.{sections_of}
-use Rattle.mpc_sections.proofs.StepLemmas.{answering_none, answering_next, answering_few, answering_all, taken_first, registry_of, not_empty}
+use Rattle.mpc_sections.proofs.StepLemmas.{answering_none, answering_next, taken_first, registry_of, not_empty}
 use Rattle.mpc_sections.proofs.fleet_answers.answer_all.Goals as goal
 
 pub sections-init : goal.sections-init
