@@ -31,5 +31,7 @@ pub mod WholeSteps
 pub mod WholeTurns
 pub mod WholeExchange
 pub mod WholeEnds
+pub mod WholeSizes
 pub mod WholeRun
 pub mod WholeRows
+pub mod WholeSystems

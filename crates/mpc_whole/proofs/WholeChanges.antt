@@ -1,6 +1,6 @@
 -- The changes of a pivot on fractions of whole numbers, where each variable has a scale: Y of y, E of the entering variable, L of the leaving
 -- one.
-use Rattle.std.proofs.Common.{◌≡◌, ◌≢◌, ℕ, zero, suc, ◌*◌, ◌<◌, ℤ, pos, negsuc, ◌+ℤ◌, ◌*ℤ◌, neg_ℤ, unsigned_abs, [], ◌∷◌, refl, sym, ◌∙◌, ap, subst, mul-pos, mul_comm, arith, lit<}
+use Rattle.std.proofs.Common.{◌≡◌, ◌≢◌, ℕ, zero, suc, ◌*◌, ◌<◌, ℤ, pos, negsuc, ◌+ℤ◌, ◌*ℤ◌, neg_ℤ, unsigned_abs, [], ◌∷◌, sym, ◌∙◌, ap, subst, mul-pos, mul_comm, arith, lit<}
 use Rattle.std.proofs.lemmas.Int.{ints}
 use Rattle.mpc_exact.specs.Rational.{ℚ, frac, int, ◌+ℚ◌, ◌-ℚ◌, ◌*ℚ◌, neg_ℚ, inv_ℚ, ◌<ℚ◌}
 use Rattle.mpc_exact.proofs.Rational.{same_frac, frac-mul, frac-neg, *ℚ_inv}

@@ -16,7 +16,7 @@ use Rattle.mpc_whole.specs.Whole.{turned}
 use Rattle.mpc_whole.proofs.Pivot.{entering-at_leaving, entering-other}
 use Rattle.mpc_whole.proofs.Turn.{Goes, turn-at}
 use Rattle.mpc_whole.proofs.WholeFits.{fits_over, fits_sum_over}
-use Rattle.mpc_whole.proofs.WholeSums.{product_at_most, abs-sum, frac_sum, times_int, zero_over}
+use Rattle.mpc_whole.proofs.WholeSums.{product_at_most, abs-sum, frac_sum, zero_over}
 
 pub abs-negated : (a : ℤ) → unsigned_abs (neg_ℤ a) ≡ unsigned_abs a
 abs-negated (pos zero) = refl

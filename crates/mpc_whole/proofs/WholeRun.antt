@@ -1,20 +1,24 @@
 -- One turn of the run on whole numbers, at a position of the run.
-use Rattle.std.proofs.Common.{◌≡◌, ℕ, ◌+◌, ◌-◌, ◌*◌, ◌^◌, ◌<◌, ◌≤◌, true, false, List, length, set, ℤ, pos, ◌*ℤ◌, unsigned_abs, Some, None, refl, sym, ◌∙◌, ap, subst, arith, ◌⊎◌, inl, inr, []}
-use Rattle.std.proofs.lemmas.Bool.{cases_lt}
+use Rattle.std.proofs.Common.{◌≡◌, ℕ, ◌+◌, ◌-◌, ◌*◌, ◌^◌, ◌<◌, ◌≤◌, true, false, List, length, set, ℤ, pos, ◌*ℤ◌, unsigned_abs, Some, None, refl, suc, sym, ◌∙◌, ap, subst, arith, ◌⊎◌, inl, inr, ⊎_elim, []}
+use Rattle.std.proofs.lemmas.Bool.{cases_lt, cases_eq}
 use Rattle.std.proofs.lemmas.List.{get_or_past}
 use Rattle.mpc_exact.specs.Rational.{ℚ, frac}
 use Rattle.mpc_rows.specs.Least.{least}
 use Rattle.mpc_rows.specs.LinearSystem.{LinearSystem, height}
-use Rattle.mpc_rows.specs.Run.{IsTableau, opening, has_point, is_refuted, goes_on, count, rest, value, may_leave, may_enter, turn, moved, pivot, is_pivot, last_position, position, steps}
-use Rattle.mpc_rows.specs.RunWidth.{PositionFits, ValuesFit, EnteringFits, RowsFit, RunFits}
+use Rattle.mpc_rows.specs.Run.{IsTableau, has_point, is_refuted, goes_on, count, rest, value, may_leave, may_enter, turn, moved, pivot, is_pivot, last_position, position, steps}
+use Rattle.mpc_rows.specs.RunWidth.{PositionFits, ValuesFit, RunFits}
 use Rattle.mpc_whole.specs.declared.variables.Seat.{Seat}
 use Rattle.mpc_whole.specs.declared.variables.Seat.TheVariants.{Row, Column}
+use Rattle.mpc_whole.specs.declared.whole.Ending.TheVariants.{Point, Refuted}
 use Rattle.mpc_whole.specs.Table.{seat_at, in_row, IsSeated}
-use Rattle.mpc_whole.specs.RunEnd.{IsValues, IsMultipliers, EndsWithPoint, EndsRefuted}
+use Rattle.mpc_whole.specs.SharedSizes.{AreSmallBefore}
+use Rattle.mpc_whole.specs.Underway.{IsUnderway, HasEnded}
+use Rattle.mpc_whole.specs.RunEnd.{IsValues}
 use Rattle.mpc_whole.specs.Whole.{whole_at, scale_at, IsSmall, IsWholeSystem, HasSideBound, IsNarrow, IsForm, HasSides, HasBasis, HasSideValues, AreValues, IsRowOf, IsSideRow, IsWholePivot, ArePairs, Stands, side_cell}
 use Rattle.mpc_whole.proofs.Turn.{Goes, Leaves, leaver, turn-at}
-use Rattle.mpc_whole.proofs.Ends.{Reached, stopped_last, position-zero}
-use Rattle.mpc_whole.proofs.Loop.{Going, going_next, end_fits}
+use Rattle.mpc_whole.proofs.Ends.{Reached, stopped_last, before_end, position-suc}
+use Rattle.mpc_whole.proofs.Loop.{Going, end_fits}
+use Rattle.mpc_whole.proofs.WholeSizes.{stops_after, small_form, small_after}
 use Rattle.mpc_whole.proofs.Steps.{turn_point, turn_refuted, turn_goes}
 use Rattle.mpc_whole.proofs.Exchanged.{new_seated}
 use Rattle.mpc_whole.proofs.WholeNorms.{norms_fit}
@@ -38,9 +42,6 @@ reached_of s n seats k d v z = record { after = z.at; order = z.order; is = refl
 
 going_of : (s : LinearSystem) (n : ℕ) (seats : List Seat) (k : List ℕ) (d : ℕ) (v : List ℤ) (z : Stands s n seats k d v) → Going s (position s z.at)
 going_of s n seats k d v z = record { reached = record { after = z.at; order = z.order; is = refl }; done = z.before }
-
-pub opening_stands : (s : LinearSystem) (n : ℕ) (seats : List Seat) (k : List ℕ) (v : List ℤ) → IsForm s n seats k 1 v (opening s) → Stands s n seats k 1 v
-opening_stands s n seats k v f = record { at = 0; order = omega arith; before = λ q h. absurd (omega arith); form = subst (IsForm s n seats k 1 v) (sym (position-zero s)) f }
 
 pub row_small : (s : LinearSystem) (a v : List ℤ) (i : ℕ) (x : List ℤ) → IsSideRow s a v i x → ((c : ℕ) → c < s.width → unsigned_abs (side_cell s a v i c) ≤ 2 ^ 62) → IsSmall (2 ^ 62) x
 row_small s a v i x r h = record { each = λ k. by k (cases_lt k s.width) }
@@ -104,13 +105,12 @@ module _ (s : LinearSystem) (n : ℕ) (seats : List Seat) (seated : IsSeated (he
     pub point_fits : RunFits s
     point_fits = end_fits s n (sym seated.count) (position s z.at) (going_of s n seats k d v z) (ap is_pivot point_here) values_fit
 
-    pub point_ends : (c_1 c_2 : List ℤ) (values : List (ℚ × ℚ)) → length c_1 ≡ s.width → AreValues s (position s z.at) d c_1 c_2 → ArePairs d c_1 c_2 values → EndsWithPoint s values
-    point_ends c_1 c_2 values long h q = record {
-      ends = subst (λ p. turn s p ≡ has_point) point_last point_here;
-      values = subst (λ p. IsValues s p values) point_last (record {
-        size = q.size ∙ long;
-        at = λ j k. let u = q.at j (subst (λ m. j < m) (sym long) k) in (u.0, u.1, u.2 ∙ sym (h.first j k), u.3 ∙ sym (h.second j k));
-      });
+    pub point_kept : (most most_den : ℕ) → AreSmallBefore s k z.at most most_den → HasEnded s n seats k d v most most_den Point
+    point_kept most most_den h = record {
+      form = subst (IsForm s n seats k d v) point_last z.form;
+      before = subst (λ q. AreSmallBefore s k q most most_den) (stops_after s z.at z.order (ap is_pivot point_here)) h;
+      turns = subst (λ p. turn s p ≡ has_point) point_last point_here;
+      fits = point_fits;
     }
 
   -- l leaves
@@ -157,8 +157,13 @@ module _ (s : LinearSystem) (n : ℕ) (seats : List Seat) (seated : IsSeated (he
         pub refuted_fits : RunFits s
         refuted_fits = end_fits s n (sym seated.count) (position s z.at) (going_of s n seats k d v z) (ap is_pivot refuted_here) values_fit
 
-        pub refuted_ends : (m : List ℚ) → IsMultipliers s (position s z.at) l m → EndsRefuted s m
-        refuted_ends m h = record { row = l; ends = subst (λ p. turn s p ≡ is_refuted l) refuted_last refuted_here; multipliers = subst (λ p. IsMultipliers s p l m) refuted_last h }
+        pub refuted_kept : (most most_den : ℕ) → AreSmallBefore s k z.at most most_den → HasEnded s n seats k d v most most_den (Refuted l)
+        refuted_kept most most_den h = record {
+          form = subst (IsForm s n seats k d v) refuted_last z.form;
+          before = subst (λ q. AreSmallBefore s k q most most_den) (stops_after s z.at z.order (ap is_pivot refuted_here)) h;
+          turns = subst (λ p. turn s p ≡ is_refuted l) refuted_last refuted_here;
+          fits = refuted_fits;
+        }
 
       -- e enters
       module _ (f : ℕ) (o : Some f ≡ least (may_enter s (position s z.at) l) n) where
@@ -187,16 +192,74 @@ module _ (s : LinearSystem) (n : ℕ) (seats : List Seat) (seated : IsSeated (he
           seat_side : seat_at seats (s.width + (l - s.width)) ≡ Row r₀
           seat_side = ap (seat_at seats) side_back ∙ sl
 
-          next_going : Going s (pivot (position s z.at) l f)
-          next_going =
-              subst (Going s) (ap (moved (position s z.at)) goes_here)
-              (going_next s n (sym seated.count) (position s z.at) (going_of s n seats k d v z) l f goes_here values_fit (subst (λ m. EnteringFits m (position s z.at) l f) (sym seated.count) (stands_fit.entering l f goes_here)) (subst (λ m. RowsFit m (position s z.at) l f) (sym seated.count) (stands_fit.rows l f goes_here)))
+          next_is : position s (suc z.at) ≡ pivot (position s z.at) l f
+          next_is = position-suc s z.at ∙ ap (moved (position s z.at)) goes_here
 
-          pub next_stands : (new : List ℤ) → IsWholePivot s.width d v new x c₀ → Stands s n (set (set seats l (Column c₀)) f (Row r₀)) k (unsigned_abs (whole_at x c₀)) new
-          next_stands new piv =
-              let h = next_going in
+          pub next_underway : (new : List ℤ) → IsWholePivot s.width d v new x c₀ → (m e most most_den : ℕ) → m ≤ most → e ≤ most_den → IsSmall most v → d ≤ most_den → AreSmallBefore s k z.at m e
+              → IsUnderway s n (set (set seats l (Column c₀)) f (Row r₀)) k (unsigned_abs (whole_at x c₀)) new most most_den
+          next_underway new piv m e most most_den wide wide_den small small_den h =
               let form : IsForm s n (set (set seats l (Column c₀)) f (Row r₀)) k (unsigned_abs (whole_at x c₀)) new (pivot (position s z.at) l f) =
               subst (λ m. IsForm s n (set (set seats m (Column c₀)) f (Row r₀)) k (unsigned_abs (whole_at x c₀)) new (pivot (position s z.at) m f)) side_back
               (pivot_form s (position s z.at) (reached_of s n seats k d v z) k a b w n (sym seated.count) seats seated d v z.form (l - s.width) f goes_side side_in x row r₀ c₀ seat_side sf new piv)
               in
-              record { at = h.reached.after; order = h.reached.order; before = h.done; form = subst (IsForm s n (set (set seats l (Column c₀)) f (Row r₀)) k (unsigned_abs (whole_at x c₀)) new) h.reached.is form }
+              record {
+                stands = record {
+                  at = suc z.at;
+                  order = before_end s z.at z.order (ap is_pivot goes_here);
+                  before = λ q b. ⊎_elim (λ e. subst (λ j. PositionFits s (position s j)) (sym e) stands_fit) (λ e. z.before q (omega arith)) (cases_eq q z.at);
+                  form = subst (IsForm s n (set (set seats l (Column c₀)) f (Row r₀)) k (unsigned_abs (whole_at x c₀)) new) (sym next_is) form;
+                };
+                before = small_after s k z.at m e most most_den wide wide_den h (small_form s k n seats seated d v (position s z.at) z.form most most_den small small_den);
+              }
+
+-- ---- the end
+module _ (s : LinearSystem) (n : ℕ) (seats : List Seat) (k : List ℕ) (d : ℕ) (v : List ℤ) (f : IsForm s n seats k d v (last_position s)) where
+  form_last : IsForm s n seats k d v (position s (steps s))
+  unfolding last_position
+  form_last = f
+
+  reached_last : Reached s (last_position s)
+  unfolding last_position
+  reached_last = record { after = steps s; order = omega arith; is = refl }
+
+  pub last_tableau : IsTableau (last_position s)
+  last_tableau = reached_tableau s (last_position s) reached_last
+
+  pub last_values : (c_1 c_2 : List ℤ) (values : List (ℚ × ℚ)) → length c_1 ≡ s.width → AreValues s (last_position s) d c_1 c_2 → ArePairs d c_1 c_2 values → IsValues s (last_position s) values
+  last_values c_1 c_2 values long h q = record {
+    size = q.size ∙ long;
+    at = λ j l. let u = q.at j (subst (λ m. j < m) (sym long) l) in (u.0, u.1, u.2 ∙ sym (h.first j l), u.3 ∙ sym (h.second j l));
+  }
+
+  module _ (seated : IsSeated (height s) s.width n seats) (a b : List ℤ) (w : IsWholeSystem s k a b) (l : ℕ) (t : turn s (last_position s) ≡ is_refuted l) where
+    last_leaves : Leaves s (last_position s) l
+    last_leaves = (turn-at s (last_position s) (is_refuted l) t).0
+
+    pub last_side : s.width ≤ l
+    last_side = last_leaves.violated.side
+
+    pub last_below : l < n
+    last_below = let h : l < count s = last_leaves.below in let q = seated.count in omega arith
+
+    pub last_in : l - s.width < height s
+    last_in = let h : l < count s = last_leaves.below in let q : s.width ≤ l = last_side in omega arith
+
+    last_back : s.width + (l - s.width) ≡ l
+    last_back = let q : s.width ≤ l = last_side in omega arith
+
+    last_scale : (y : ℕ) → y < n → 0 < scale_at k y
+    last_scale y h = w.scales.some y (subst (λ m. y < m) seated.count h)
+
+    pub last_cells : IsNarrow s n seats k a d v → (c : ℕ) → c < s.width → unsigned_abs (side_cell s a v (l - s.width) c) ≤ 2 ^ 62
+    last_cells narrow c h =
+        let u = seated.columns_full c h in
+        less_with_scale (unsigned_abs (side_cell s a v (l - s.width) c)) (scale_at k (seated.of_column c)) (last_scale (seated.of_column c) u.0) (narrow.rows (l - s.width) (seated.of_column c) c last_in u.0 u.1)
+
+    pub last_row : (x : List ℤ) → IsSideRow s a v (l - s.width) x → IsRowOf n seats k (last_position s) d l x
+    last_row x row = record {
+      own = last_scale l last_below;
+      some = last_scale;
+      coefficients = λ y c h q. subst (λ m. (last_position s).coefficient m y ≡ frac (whole_at x c *ℤ pos (scale_at k y)) (d * scale_at k m)) last_back
+          (side_entry s (last_position s) reached_last k a b w n (sym seated.count) seats d v f (l - s.width) y c last_in h q
+          ∙ ap (λ u. frac (u *ℤ pos (scale_at k y)) (d * scale_at k (s.width + (l - s.width)))) (sym (row.cells c (seated.columns y c h q).0)));
+    }

@@ -1,5 +1,5 @@
 -- A coefficient that is a whole number times a scale, over a denominator, and its product with where a variable of that scale stands.
-use Rattle.std.proofs.Common.{◌≡◌, ℕ, ◌*◌, ◌^◌, ◌<◌, ◌≤◌, ℤ, pos, ◌*ℤ◌, unsigned_abs, [], ◌∷◌, refl, sym, ◌∙◌, ap, subst, arith, mul-le-mul_left, le_trans}
+use Rattle.std.proofs.Common.{◌≡◌, ℕ, ◌*◌, ◌^◌, ◌<◌, ◌≤◌, ℤ, pos, ◌*ℤ◌, unsigned_abs, [], ◌∷◌, sym, ◌∙◌, subst, arith, mul-le-mul_left}
 use Rattle.std.proofs.lemmas.Int.{unsigned_abs-mul}
 use Rattle.mpc_exact.specs.Rational.{ℚ, frac, int, ◌*ℚ◌}
 use Rattle.mpc_exact.proofs.RationalRing.{reads, by_ring}

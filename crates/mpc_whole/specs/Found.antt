@@ -1,19 +1,14 @@
 -- What one turn of the run on whole numbers finds.
-use Rattle.std.specs.Prelude.{ℕ, ⊤}
+use Rattle.std.specs.Prelude.{⊤}
+use Rattle.mpc_whole.specs.declared.whole.Ending.{Ending}
+use Rattle.mpc_whole.specs.declared.whole.Place.{Place}
 use Rattle.mpc_whole.specs.declared.whole.Found.{Found}
-use Rattle.mpc_whole.specs.declared.whole.Found.TheVariants.{Point, Refuted, Next}
+use Rattle.mpc_whole.specs.declared.whole.Found.TheVariants.{Ended, Next}
 
-abbrev pub IfPointFound : Found → Type 0 → Type 0
-IfPointFound Point P = P
-IfPointFound Refuted P = ⊤
-IfPointFound (Next d) P = ⊤
+abbrev pub IfEnded : Found → (Ending → Type 0) → Type 0
+IfEnded (Ended e) P = P e
+IfEnded (Next p) P = ⊤
 
-abbrev pub IfRefutedFound : Found → Type 0 → Type 0
-IfRefutedFound Point P = ⊤
-IfRefutedFound Refuted P = P
-IfRefutedFound (Next d) P = ⊤
-
-abbrev pub IfNext : Found → (ℕ → Type 0) → Type 0
-IfNext Point P = ⊤
-IfNext Refuted P = ⊤
-IfNext (Next d) P = P d
+abbrev pub IfNext : Found → (Place → Type 0) → Type 0
+IfNext (Ended e) P = ⊤
+IfNext (Next p) P = P p

@@ -1,6 +1,9 @@
 pub mod Table
 pub mod Exchange
 pub mod Whole
+pub mod WholeSystems
+pub mod SharedSizes
+pub mod Underway
 pub mod Norms
 pub mod Found
 pub mod RunEnd

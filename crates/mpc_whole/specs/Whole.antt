@@ -1,7 +1,7 @@
 -- A position of the run in whole numbers: the coefficients of the unknowns over one denominator, row by row, where a nonbasic variable has
 -- the column of its seat. Each row of the system is whole once it is multiplied by its scale.
 use Rattle.std.specs.Prelude.{◌≡◌, ℕ, zero, suc, ◌+◌, ◌*◌, ◌<◌, ◌≤◌, ◌^◌, List, length, get_or, ℤ, pos, ◌+ℤ◌, ◌*ℤ◌, neg_ℤ, negsuc, unsigned_abs, slice_get, Some, set}
-use Rattle.mpc_exact.specs.Rational.{ℚ, int, frac}
+use Rattle.mpc_exact.specs.Rational.{ℚ, frac}
 use Rattle.mpc_rows.specs.LinearSystem.{LinearSystem, row_at, height, entry}
 use Rattle.mpc_rows.specs.Run.{Position, count, value, position, steps}
 use Rattle.mpc_rows.specs.RunWidth.{PositionFits}

@@ -8,13 +8,18 @@ mod whole_ends;
 mod whole_numbers;
 mod whole_pivot;
 mod whole_rows;
+mod whole_systems;
 mod whole_turn;
 mod whole_values;
 
 use mpc_rows::{Multipliers, PairPoint};
 pub use numbers::{Standing, zero, zero_pairs, zeros};
 pub use variables::{Seat, column_of, is_basic, is_unknown, opening_seats, row_of};
-pub use whole::whole_end;
+pub use whole::{Ending, Place, whole_run};
+pub use whole_ends::{last_multipliers, last_values};
+pub use whole_rows::{greatest, limit, put_units};
+pub use whole_systems::{WholeNumbers, WholeSystem};
+pub use whole_values::clear;
 
 /// What a run ends with.
 #[derive(Drop)]

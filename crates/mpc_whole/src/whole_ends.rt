@@ -4,16 +4,18 @@ ghost use Rattle.std.specs.Prelude.{◌≡◌, ℕ, ℤ, pos, ◌+◌, ◌*◌, 
 ghost use Rattle.mpc_exact.specs.Rational.{ℚ, int, frac, quotient};
 ghost use Rattle.mpc_space.specs.Vector.{coordinate};
 ghost use Rattle.mpc_rows.specs.LinearSystem.{height};
-ghost use Rattle.mpc_rows.specs.Run.{Position, multiplier};
+ghost use Rattle.mpc_rows.specs.Run.{Position, multiplier, turn, is_refuted, last_position};
 ghost use Rattle.mpc_whole.specs.Table.{seat_at, in_row, IsSeated};
-ghost use Rattle.mpc_whole.specs.RunEnd.{IsMultipliers};
-ghost use Rattle.mpc_whole.specs.Whole.{whole_at, AreScales, IsSmall, HasBasis, IsRowOf, ArePairs};
+ghost use Rattle.mpc_whole.specs.RunEnd.{IsValues, IsMultipliers};
+ghost use Rattle.mpc_whole.specs.Whole.{whole_at, AreScales, HasSides, IsWholeSystem, IsNarrow, IsForm, IsSmall, HasRoom, HasBasis, IsRowOf, ArePairs};
 
 use crate::numbers::{Standing, zero};
 use crate::variables::{Seat, column_of, is_basic};
 use crate::whole_numbers::{negative, product, signed, widened};
+use crate::whole_systems::WholeSystem;
+use crate::whole_turn::leaving_row;
+use crate::whole_values::stand;
 use mpc_frac::Frac;
-use mpc_rows::System;
 
 /// The fraction `z / den`, if it has 128 bits.
 fn quotient(z: i128, den: i128) -> Option<Frac>
@@ -41,7 +43,7 @@ fn fraction(z: i64, den: u64) -> Option<Frac>
 }
 
 /// The values of the unknowns.
-pub(crate) fn point(values: &mut [Standing], c_1: &[i64], c_2: &[i64], den: u64) -> Option<()>
+fn point(values: &mut [Standing], c_1: &[i64], c_2: &[i64], den: u64) -> Option<()>
     requires room { length values.old ≡ length c_1.now }
     requires same { length c_2.now ≡ length c_1.now }
     requires some { 0 < den }
@@ -60,7 +62,7 @@ pub(crate) fn point(values: &mut [Standing], c_1: &[i64], c_2: &[i64], den: u64)
 
 /// The multiplier of row i, where the row x of the variable l refutes.
 fn multiplier(
-    system: &System,
+    system: &WholeSystem,
     scales: &[u64],
     seats: &[Seat],
     x: &[i64],
@@ -94,9 +96,9 @@ fn multiplier(
 }
 
 /// The multipliers, where the row x of the variable l refutes.
-pub(crate) fn multipliers(
+fn multipliers(
     list: &mut [Frac],
-    system: &System,
+    system: &WholeSystem,
     scales: &[u64],
     seats: &[Seat],
     x: &[i64],
@@ -118,5 +120,67 @@ pub(crate) fn multipliers(
         let m = multiplier(system, scales, seats, x, n, den, l, i)?;
         list[i] = m;
     }
+    Some(())
+}
+
+/// The values of the unknowns at the last position of a run.
+pub fn last_values(
+    values: &mut [Standing],
+    c_1: &mut [i64],
+    c_2: &mut [i64],
+    system: &WholeSystem,
+    scales: &[u64],
+    seats: &[Seat],
+    b: &[i64],
+    v: &[i64],
+    n: usize,
+    den: u64,
+) -> Option<()>
+    requires room { length values.old ≡ system.now.width }
+    requires seated { IsSeated (height system.now) system.now.width n seats.now }
+    requires scales { AreScales system.now scales.now }
+    requires sides { HasSides system.now scales.now b.now }
+    requires sides_size { length b.now ≡ height system.now }
+    requires square { length v.now ≡ system.now.width * system.now.width }
+    requires first_size { length c_1.old ≡ system.now.width }
+    requires second_size { length c_2.old ≡ system.now.width }
+    requires den_small { den ≤ 2 ^ 62 }
+    requires form { IsForm system.now n seats.now scales.now den v.now (last_position system.now) }
+    ensures { IfSome result (λ _. IsValues system.now (last_position system.now) values.new) }
+{
+    stand(c_1, c_2, system, scales, seats, b, v, n)?;
+    point(values, c_1, c_2, den)?;
+    Some(())
+}
+
+/// The multipliers at the last position of a run, where the row of the side l refutes.
+pub fn last_multipliers(
+    list: &mut [Frac],
+    x: &mut [i64],
+    system: &WholeSystem,
+    scales: &[u64],
+    seats: &[Seat],
+    a: &[i64],
+    b: &[i64],
+    v: &[i64],
+    n: usize,
+    den: u64,
+    l: usize,
+) -> Option<()>
+    requires list_room { length list.old ≡ height system.now }
+    requires row_room { length x.old ≡ system.now.width }
+    requires seated { IsSeated (height system.now) system.now.width n seats.now }
+    requires whole { IsWholeSystem system.now scales.now a.now b.now }
+    requires room { HasRoom system.now.width (2 ^ 62) a.now }
+    requires square { length v.now ≡ system.now.width * system.now.width }
+    requires small { IsSmall (2 ^ 62) v.now }
+    requires den_small { den ≤ 2 ^ 62 }
+    requires narrow { IsNarrow system.now n seats.now scales.now a.now den v.now }
+    requires form { IsForm system.now n seats.now scales.now den v.now (last_position system.now) }
+    requires refuted { turn system.now (last_position system.now) ≡ is_refuted l }
+    ensures { IfSome result (λ _. IsMultipliers system.now (last_position system.now) l list.new) }
+{
+    leaving_row(x, system, a, v, l);
+    multipliers(list, system, scales, seats, x, n, den, l)?;
     Some(())
 }

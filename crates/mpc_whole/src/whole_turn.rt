@@ -1,21 +1,21 @@
 //! Who leaves and who enters, in whole numbers.
 
-ghost use Rattle.std.specs.Prelude.{◌≡◌, ℕ, ℤ, List, pos, ◌+◌, ◌*◌, ◌<◌, ◌≤◌, ◌^◌, ◌*ℤ◌, unsigned_abs, length, true, false};
+ghost use Rattle.std.specs.Prelude.{◌≡◌, ℕ, ℤ, List, pos, ◌+◌, ◌-◌, ◌*◌, ◌<◌, ◌≤◌, ◌^◌, ◌*ℤ◌, unsigned_abs, length, true, false};
 ghost use Rattle.mpc_rows.specs.LinearSystem.{height};
 ghost use Rattle.mpc_rows.specs.Least.{least};
-ghost use Rattle.mpc_rows.specs.Run.{Position, bound, value, may_leave, may_enter};
+ghost use Rattle.mpc_rows.specs.Run.{Position, is_unknown, bound, value, may_leave, may_enter};
 ghost use Rattle.mpc_exact.specs.Pair.{is_below};
 ghost use Rattle.mpc_whole.specs.Table.{seat_at, in_row, IsSeated};
-ghost use Rattle.mpc_whole.specs.Whole.{whole_at, whole_cell, whole_total, AreScales, IsSmall, HasRoom, HasSides, HasSideValues, HasBasis, IsRowOf};
+ghost use Rattle.mpc_whole.specs.Whole.{whole_at, whole_cell, whole_total, AreScales, IsSmall, HasRoom, HasSides, HasSideValues, HasBasis, IsRowOf, IsSideRow, side_cell};
 
-use crate::variables::{Seat, column_of, is_basic, is_unknown};
+use crate::variables::{Seat, column_of, is_basic};
 use crate::whole_numbers::{product, row_times, row_times_column, signed};
+use crate::whole_systems::WholeSystem;
 use crate::whole_values::step_of;
-use mpc_rows::System;
 
 /// Whether the value of side i is above its bound.
 fn is_out(
-    system: &System,
+    system: &WholeSystem,
     scales: &[u64],
     a: &[i64],
     b: &[i64],
@@ -56,7 +56,7 @@ fn is_out(
 
 /// The variable that leaves.
 pub(crate) fn leaving(
-    system: &System,
+    system: &WholeSystem,
     scales: &[u64],
     seats: &[Seat],
     a: &[i64],
@@ -92,7 +92,7 @@ pub(crate) fn leaving(
 }
 
 /// The row of side i.
-pub(crate) fn side_row(x: &mut [i64], system: &System, a: &[i64], v: &[i64], i: usize)
+fn side_row(x: &mut [i64], system: &WholeSystem, a: &[i64], v: &[i64], i: usize)
     requires side { i < height system.now }
     requires entries { length a.now ≡ height system.now * system.now.width }
     requires square { length v.now ≡ system.now.width * system.now.width }
@@ -108,8 +108,31 @@ pub(crate) fn side_row(x: &mut [i64], system: &System, a: &[i64], v: &[i64], i: 
     }
 }
 
+/// The row of the variable l, which is a side.
+pub(crate) fn leaving_row(x: &mut [i64], system: &WholeSystem, a: &[i64], v: &[i64], l: usize)
+    requires from { system.now.width ≤ l }
+    requires side { l - system.now.width < height system.now }
+    requires entries { length a.now ≡ height system.now * system.now.width }
+    requires room { HasRoom system.now.width (2 ^ 62) a.now }
+    requires square { length v.now ≡ system.now.width * system.now.width }
+    requires small { IsSmall (2 ^ 62) v.now }
+    requires row_size { length x.old ≡ system.now.width }
+    requires row_small { (c : ℕ) → c < system.now.width → unsigned_abs (side_cell system.now a.now v.now (l - system.now.width) c) ≤ 2 ^ 62 }
+    ensures row { IsSideRow system.now a.now v.now (l - system.now.width) x.new }
+    ensures small { IsSmall (2 ^ 62) x.new }
+{
+    side_row(x, system, a, v, l - system.unknowns());
+}
+
+/// Whether x is the number of an unknown.
+fn is_unknown(system: &WholeSystem, x: usize) -> bool
+    ensures { result ≡ is_unknown system.now x }
+{
+    x < system.unknowns()
+}
+
 /// Whether y may enter, by the row x of the variable that leaves.
-fn may_enter(system: &System, seats: &[Seat], x: &[i64], n: usize, y: usize) -> bool
+fn may_enter(system: &WholeSystem, seats: &[Seat], x: &[i64], n: usize, y: usize) -> bool
     requires seated { IsSeated (height system.now) system.now.width n seats.now }
     requires below { y < n }
     requires row_size { length x.now ≡ system.now.width }
@@ -131,7 +154,7 @@ fn may_enter(system: &System, seats: &[Seat], x: &[i64], n: usize, y: usize) -> 
 }
 
 /// The variable that enters, by the row x of the variable that leaves.
-pub(crate) fn entering(system: &System, seats: &[Seat], x: &[i64], n: usize) -> Option<usize>
+pub(crate) fn entering(system: &WholeSystem, seats: &[Seat], x: &[i64], n: usize) -> Option<usize>
     requires seated { IsSeated (height system.now) system.now.width n seats.now }
     requires row_size { length x.now ≡ system.now.width }
     requires row_small { IsSmall (2 ^ 62) x.now }

@@ -9,10 +9,10 @@ ghost use Rattle.mpc_whole.specs.Whole.{whole_at, whole_cell, scale_at, AreScale
 
 use crate::variables::{Seat, column_of, is_basic};
 use crate::whole_numbers::{added, minus};
-use mpc_rows::System;
+use crate::whole_systems::WholeSystem;
 
 /// Writes 0 into each number.
-pub(crate) fn clear(list: &mut [i64])
+pub fn clear(list: &mut [i64])
     ensures { (k : ℕ) → whole_at list.new k ≡ pos 0 }
 {
     for j in 0..list.len() {
@@ -43,13 +43,13 @@ fn add_column(list: &mut [i64], v: &[i64], width: usize, c: usize, b: i64) -> Op
 }
 
 /// The second part of the bound of side i, times the scale of its row: minus the scale where the row is strict.
-pub(crate) fn step_of(system: &System, scales: &[u64], i: usize) -> i64
+pub(crate) fn step_of(system: &WholeSystem, scales: &[u64], i: usize) -> i64
     requires side { i < height system.now }
     requires scales { AreScales system.now scales.now }
     ensures value { (bound system.now (system.now.width + i)).second ≡ frac result (scale_at scales.now (system.now.width + i)) }
     ensures small { unsigned_abs result ≤ 2 ^ 40 }
 {
-    if system.row(i).strict {
+    if system.is_strict(i) {
         return minus(scales[system.unknowns() + i]);
     }
     0
@@ -59,7 +59,7 @@ pub(crate) fn step_of(system: &System, scales: &[u64], i: usize) -> i64
 pub(crate) fn stand(
     c_1: &mut [i64],
     c_2: &mut [i64],
-    system: &System,
+    system: &WholeSystem,
     scales: &[u64],
     seats: &[Seat],
     b: &[i64],

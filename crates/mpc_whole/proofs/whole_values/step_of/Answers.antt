@@ -1,6 +1,5 @@
 use Rattle.std.proofs.Common.{◌∙◌, ◌<◌, ◌+◌, sym, ap, arith, cond, pos, negsuc, neg_ℤ}
 use Rattle.mpc_exact.specs.Rational.{int}
-use Rattle.mpc_rows.specs.declared.systems.Row.{Row}
 use Rattle.mpc_whole.specs.Whole.{scale_at}
 use Rattle.mpc_whole.proofs.LeftSides.{bound-second}
 use Rattle.mpc_whole.proofs.WholeChanges.{strict_over}
@@ -12,15 +11,15 @@ use Rattle.mpc_whole.proofs.whole_values.step_of.Goals.{Start}
 scale : (c : Start) → 0 < scale_at c.args.scales.now (c.args.system.now.width + c.args.i)
 scale c = c.requires.scales.some (c.args.system.now.width + c.args.i) (let h = c.requires.side in omega arith)
 
-pub returns-then-row-clause-value : goal.returns-then-row-clause-value
-returns-then-row-clause-value c =
-    let at = goal.at.returns-then-row-clause-value c in
-    bound-second c.args.system.now c.args.i ∙ ap (λ t. cond t (int (negsuc 0)) (int (pos 0))) (ap (λ (r : Row). r.strict) (sym c.row.ensures.value) ∙ c.if-row.true)
+pub returns-then-is_strict-clause-value : goal.returns-then-is_strict-clause-value
+returns-then-is_strict-clause-value c =
+    let at = goal.at.returns-then-is_strict-clause-value c in
+    bound-second c.args.system.now c.args.i ∙ ap (λ t. cond t (int (negsuc 0)) (int (pos 0))) (sym c.is_strict.ensures ∙ c.if-is_strict.true)
     ∙ strict_over _ _ (scale at.Start)
     (read_small _ (let k = c.minus.ensures.small in omega arith) ∙ c.minus.ensures.value ∙ ap (λ w. neg_ℤ (pos (scale_at c.args.scales.now (w + c.args.i)))) c.unknowns.ensures)
 
 pub returns-clause-value : goal.returns-clause-value
 returns-clause-value c =
     let at = goal.at.returns-clause-value c in
-    bound-second c.args.system.now c.args.i ∙ ap (λ t. cond t (int (negsuc 0)) (int (pos 0))) (ap (λ (r : Row). r.strict) (sym c.row.ensures.value) ∙ c.if-row.false)
+    bound-second c.args.system.now c.args.i ∙ ap (λ t. cond t (int (negsuc 0)) (int (pos 0))) (sym c.is_strict.ensures ∙ c.if-is_strict.false)
     ∙ sym (zero_over _ (scale at.Start))

@@ -1,9 +1,0 @@
-use Rattle.std.proofs.Common.{ℕ, ◌<◌, ◌≤◌}
-use Rattle.mpc_whole.specs.Whole.{scale_at}
-use Rattle.mpc_whole.proofs.whole_rows.greatest_scale.Given as goal
-
-abbrev pub invariant-loop-x : goal.invariant-loop-x
-invariant-loop-x l = record {
-  each : (q : ℕ) → q < l.x → scale_at l.scales q ≤ l.most;
-  some : 1 ≤ l.most;
-}

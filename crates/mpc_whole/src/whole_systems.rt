@@ -1,0 +1,424 @@
+//! Systems whose rows are whole numbers over a scale each.
+
+ghost use Rattle.std.specs.Prelude.{◌≡◌, ℕ, ℤ, pos, ◌+◌, ◌-◌, ◌*◌, ◌<◌, ◌≤◌, ◌^◌, Bool, true, cond, List, [], ◌∷◌, ◌++◌, length, take, get_or, neg_ℤ, unsigned_abs, IsTrue, IfSome, IfOk, OnOk, OnErr};
+ghost use Rattle.mpc_exact.specs.Rational.{int};
+ghost use Rattle.mpc_space.specs.Vector.{coordinate};
+ghost use Rattle.mpc_rows.specs.LinearSystem.{height, row_at};
+ghost use Rattle.mpc_rows.specs.LawRows.{whole_row, broken_row};
+ghost use Rattle.mpc_rows.specs.declared.systems.Row.{Row};
+ghost use Rattle.mpc_whole.specs.declared.whole_systems.WholeLists.{WholeLists};
+ghost use Rattle.mpc_whole.specs.Whole.{whole_at, scale_at, IsSmall, IsWholeSystem};
+ghost use Rattle.mpc_whole.specs.WholeSystems.{system_of, AreLists, AreBehind, IsKept, IsAdded, IsCut, IsSettled, IsCopy, IsEmpty, negated_where};
+
+use crate::whole_numbers::narrow;
+use crate::whole_rows::{row_scale, scaled};
+use mpc_frac::Frac;
+use mpc_linear::RowInt;
+use mpc_rows::{Row, System};
+use std::alloc::{AllocError, Global};
+use std::marker::Model;
+
+/// The numbers of a system: each row times its scale, with bounds that are at least what they bound.
+#[derive(Drop)]
+struct WholeLists {
+    width: usize,
+    /// The coefficients, row by row.
+    a: Vec<i64>,
+    /// The right sides.
+    b: Vec<i64>,
+    /// 1 for each unknown, then the scale of each row.
+    scales: Vec<u64>,
+    /// Which rows are strict.
+    strict: Vec<bool>,
+    /// A bound of the sizes of the coefficients.
+    most_entry: u64,
+    /// A bound of the sizes of the right sides, at least 1.
+    most_side: u64,
+    /// A bound of the scales, at least 1.
+    most_scale: u64,
+}
+
+/// Puts the numbers of a row times its scale behind the others, or some of them where one isn't whole or too great, or without memory.
+/// The result is a bound of them all.
+fn add_entries(
+    a: &mut Vec<i64>,
+    row: &[Frac],
+    scale: u64,
+    most: u64,
+) -> Result<Option<u64>, AllocError>
+    requires some { 0 < scale }
+    requires scale_small { scale ≤ 2 ^ 40 }
+    requires small { IsSmall most a.old.items }
+    ensures kept { take (length a.old.items) a.new.items ≡ a.old.items }
+    ensures behind { IfOk result (λ o. IfSome o (λ m. AreBehind a.old.items a.new.items (length row.now) scale (coordinate row.now) m)) }
+    ensures bound { IfOk result (λ o. IfSome o (λ m. most ≤ m)) }
+{
+    let mut most = most;
+    for x in row {
+        let Some(z) = scaled(x, scale) else {
+            return Ok(None);
+        };
+        a.push(z)?;
+        most = most.max(z.unsigned_abs());
+    }
+    Ok(Some(most))
+}
+
+/// The number, or minus the number, if it is small.
+fn small_number(z: i128, negated: bool) -> Option<i64>
+    ensures value { IfSome result (λ y. y ≡ negated_where negated z) }
+    ensures small { IfSome result (λ y. unsigned_abs y ≤ 2 ^ 62) }
+{
+    if z.unsigned_abs() > 1 << 62 {
+        return None;
+    }
+    let y = narrow(z);
+    if negated { Some(-y) } else { Some(y) }
+}
+
+/// Puts whole numbers, or minus each, behind the others, or some of them where one is too great, or without memory. The result is a bound
+/// of them all.
+fn add_numbers(
+    a: &mut Vec<i64>,
+    row: &[i128],
+    negated: bool,
+    most: u64,
+) -> Result<Option<u64>, AllocError>
+    requires small { IsSmall most a.old.items }
+    ensures kept { take (length a.old.items) a.new.items ≡ a.old.items }
+    ensures behind { IfOk result (λ o. IfSome o (λ m. AreBehind a.old.items a.new.items (length row.now) 1 (λ j. int (negated_where negated (get_or row.now j (pos 0)))) m)) }
+    ensures bound { IfOk result (λ o. IfSome o (λ m. most ≤ m)) }
+{
+    let mut most = most;
+    for z in row {
+        let Some(y) = small_number(*z, negated) else {
+            return Ok(None);
+        };
+        a.push(y)?;
+        most = most.max(y.unsigned_abs());
+    }
+    Ok(Some(most))
+}
+
+/// Puts one item behind each list. Without memory the items of the first lists may stand there.
+fn add_ends(
+    b: &mut Vec<i64>,
+    scales: &mut Vec<u64>,
+    strict: &mut Vec<bool>,
+    side: i64,
+    scale: u64,
+    is_strict: bool,
+) -> Result<(), AllocError>
+    ensures sides { OnOk result (b.new.items ≡ b.old.items ++ side ∷ []) }
+    ensures scales { OnOk result (scales.new.items ≡ scales.old.items ++ scale ∷ []) }
+    ensures strict { OnOk result (strict.new.items ≡ strict.old.items ++ is_strict ∷ []) }
+    ensures sides_kept { take (length b.old.items) b.new.items ≡ b.old.items }
+    ensures scales_kept { take (length scales.old.items) scales.new.items ≡ scales.old.items }
+    ensures strict_kept { take (length strict.old.items) strict.new.items ≡ strict.old.items }
+{
+    b.push(side)?;
+    scales.push(scale)?;
+    strict.push(is_strict)?;
+    Ok(())
+}
+
+/// Puts the row behind the others, or a part of it.
+fn add_row(lists: &mut WholeLists, row: &Row) -> Result<bool, AllocError>
+    requires lists { AreLists lists.old }
+    requires width { length row.now.a ≡ lists.old.width }
+    ensures kept { IsKept lists.old lists.new }
+    ensures added { IfOk result (λ done. IsTrue done → IsAdded lists.old lists.new row.now) }
+{
+    let Some(scale) = row_scale(row) else {
+        return Ok(false);
+    };
+    let Some(side) = scaled(&row.b, scale) else {
+        return Ok(false);
+    };
+    let entries = row.a.as_slice();
+    let Some(most) = add_entries(&mut lists.a, entries, scale, lists.most_entry)? else {
+        return Ok(false);
+    };
+    add_ends(
+        &mut lists.b,
+        &mut lists.scales,
+        &mut lists.strict,
+        side,
+        scale,
+        row.strict,
+    )?;
+    lists.most_entry = most;
+    lists.most_side = lists.most_side.max(side.unsigned_abs());
+    lists.most_scale = lists.most_scale.max(scale);
+    Ok(true)
+}
+
+/// Puts the row, or where it is broken the row outside which it holds, behind the others, or a part of it.
+fn add_whole(lists: &mut WholeLists, row: &RowInt, broken: bool) -> Result<bool, AllocError>
+    requires lists { AreLists lists.old }
+    requires width { length row.now.a ≡ lists.old.width }
+    ensures kept { IsKept lists.old lists.new }
+    ensures added { IfOk result (λ done. IsTrue done → IsAdded lists.old lists.new (cond broken (broken_row row.now) (whole_row row.now))) }
+{
+    let Some(side) = small_number(row.b, broken) else {
+        return Ok(false);
+    };
+    let entries = row.a.as_slice();
+    let Some(most) = add_numbers(&mut lists.a, entries, broken, lists.most_entry)? else {
+        return Ok(false);
+    };
+    add_ends(
+        &mut lists.b,
+        &mut lists.scales,
+        &mut lists.strict,
+        side,
+        1,
+        broken,
+    )?;
+    lists.most_entry = most;
+    lists.most_side = lists.most_side.max(side.unsigned_abs());
+    Ok(true)
+}
+
+/// Keeps the first so many rows.
+fn cut(lists: &mut WholeLists, count: usize)
+    requires width { lists.old.width ≤ length lists.old.scales.items }
+    requires count { count ≤ length lists.old.scales.items - lists.old.width }
+    requires entries { count * lists.old.width ≤ length lists.old.a.items }
+    ensures { IsCut lists.old lists.new count }
+{
+    lists.a.truncate(count * lists.width);
+    lists.b.truncate(count);
+    lists.scales.truncate(lists.width + count);
+    lists.strict.truncate(count);
+}
+
+/// Takes away what an attempt to put one row behind so many others has left, where it failed.
+fn settle(
+    lists: &mut WholeLists,
+    height: usize,
+    added: Result<bool, AllocError>,
+) -> Result<bool, AllocError>
+    requires width { lists.old.width ≤ length lists.old.scales.items }
+    requires count { height ≤ length lists.old.scales.items - lists.old.width }
+    requires entries { height * lists.old.width ≤ length lists.old.a.items }
+    ensures { (first : WholeLists) (row : Row) → AreLists first → length row.a ≡ first.width → height ≡ length first.b.items
+        → IsKept first lists.old → IfOk added (λ done. IsTrue done → IsAdded first lists.old row) → IsSettled first lists.new row result }
+{
+    match added {
+        Ok(true) => Ok(true),
+        Ok(false) => {
+            cut(lists, height);
+            Ok(false)
+        }
+        Err(error) => {
+            cut(lists, height);
+            Err(error)
+        }
+    }
+}
+
+/// Puts the numbers of other lists in place of its own.
+fn refill(lists: &mut WholeLists, other: &WholeLists) -> Result<(), AllocError>
+    ensures { OnOk result (IsCopy other.now lists.new) }
+{
+    lists.a.clear();
+    lists.b.clear();
+    lists.scales.clear();
+    lists.strict.clear();
+    lists.a.extend_from_slice(other.a.as_slice())?;
+    lists.b.extend_from_slice(other.b.as_slice())?;
+    lists.scales.extend_from_slice(other.scales.as_slice())?;
+    lists.strict.extend_from_slice(other.strict.as_slice())?;
+    lists.width = other.width;
+    lists.most_entry = other.most_entry;
+    lists.most_side = other.most_side;
+    lists.most_scale = other.most_scale;
+    Ok(())
+}
+
+/// Gives up all rows and all unknowns.
+fn clear(lists: &mut WholeLists)
+    ensures { IsEmpty lists.new }
+{
+    lists.width = 0;
+    lists.a.clear();
+    lists.b.clear();
+    lists.scales.clear();
+    lists.strict.clear();
+    lists.most_entry = 0;
+    lists.most_side = 1;
+    lists.most_scale = 1;
+}
+
+/// The numbers of a system, with bounds of their sizes.
+#[derive(Clone, Copy, Drop)]
+pub struct WholeNumbers<'a> {
+    /// 1 for each unknown, then the scale of each row.
+    pub scales: &'a [u64],
+    /// The coefficients times the scales of their rows, row by row.
+    pub a: &'a [i64],
+    /// The right sides times the scales of their rows.
+    pub b: &'a [i64],
+    pub most_entry: u64,
+    pub most_side: u64,
+    pub most_scale: u64,
+}
+
+/// A system whose rows are whole numbers over a scale each.
+#[derive(Drop)]
+pub struct WholeSystem {
+    lists: WholeLists,
+}
+
+impl Model for WholeSystem {
+    ghost use Rattle.mpc_rows.specs.LinearSystem.{LinearSystem};
+
+    ghost Value = { LinearSystem };
+
+    ghost use Rattle.mpc_whole.specs.WholeSystems.{system_of, AreLists};
+
+    ghost view = { λ s. system_of s.lists };
+
+    ghost invariant = { λ s. AreLists s.lists };
+}
+
+impl WholeSystem {
+    /// The system without rows.
+    pub fn new(alloc: Global, width: u32) -> Result<WholeSystem, AllocError>
+        ensures width { IfOk result (λ s. s.width ≡ width) }
+        ensures rows { IfOk result (λ s. s.rows ≡ []) }
+    {
+        let width = width as usize;
+        let scales = vec![in alloc; 1; width]?;
+        Ok(WholeSystem {
+            lists: WholeLists {
+                width,
+                a: Vec::new(alloc),
+                b: Vec::new(alloc),
+                scales,
+                strict: Vec::new(alloc),
+                most_entry: 0,
+                most_side: 1,
+                most_scale: 1,
+            },
+        })
+    }
+
+    /// The same rows, if each is whole times a scale of at most 2^40, with numbers of at most 2^62.
+    pub fn read(alloc: Global, system: &System) -> Result<Option<WholeSystem>, AllocError>
+        ensures { IfOk result (λ o. IfSome o (λ w. w ≡ system.now)) }
+    {
+        let mut whole = WholeSystem::new(alloc, system.width)?;
+        for i in 0..system.height() {
+            if !whole.push(system.row(i))? {
+                return Ok(None);
+            }
+        }
+        Ok(Some(whole))
+    }
+
+    /// How many unknowns there are.
+    pub fn unknowns(&self) -> usize
+        ensures { result ≡ self.now.width }
+    {
+        self.lists.width
+    }
+
+    /// How many rows there are.
+    pub fn height(&self) -> usize
+        ensures { result ≡ height self.now }
+    {
+        self.lists.b.len()
+    }
+
+    /// Whether row i, from 0, is strict.
+    pub fn is_strict(&self, i: usize) -> bool
+        requires { i < height self.now }
+        ensures { result ≡ (row_at self.now i).strict }
+    {
+        self.lists.strict[i]
+    }
+
+    /// Puts the row behind the others, if it is whole times a scale of at most 2^40, with numbers of at most 2^62; says whether it was.
+    /// Without memory, and where it wasn't, the system stays as it was.
+    pub fn push(&mut self, row: &Row) -> Result<bool, AllocError>
+        requires { length row.now.a ≡ self.old.width }
+        ensures width { self.new.width ≡ self.old.width }
+        ensures ok { IfOk result (λ done. self.new.rows ≡ cond done (self.old.rows ++ row.now ∷ []) self.old.rows) }
+        ensures err { OnErr result (self.new.rows ≡ self.old.rows) }
+    {
+        let height = self.lists.b.len();
+        let added = add_row(&mut self.lists, row);
+        settle(&mut self.lists, height, added)
+    }
+
+    /// Puts the row behind the others, if its numbers are at most 2^62 in size; says whether they were. Without memory, and where they
+    /// weren't, the system stays as it was.
+    pub fn push_whole(&mut self, row: &RowInt) -> Result<bool, AllocError>
+        requires { length row.now.a ≡ self.old.width }
+        ensures width { self.new.width ≡ self.old.width }
+        ensures ok { IfOk result (λ done. self.new.rows ≡ cond done (self.old.rows ++ whole_row row.now ∷ []) self.old.rows) }
+        ensures err { OnErr result (self.new.rows ≡ self.old.rows) }
+    {
+        let height = self.lists.b.len();
+        let added = add_whole(&mut self.lists, row, false);
+        settle(&mut self.lists, height, added)
+    }
+
+    /// Puts the row outside which this one holds behind the others, `-a · t < -b`, if its numbers are at most 2^62 in size; says whether
+    /// they were. Without memory, and where they weren't, the system stays as it was.
+    pub fn push_broken(&mut self, row: &RowInt) -> Result<bool, AllocError>
+        requires { length row.now.a ≡ self.old.width }
+        ensures width { self.new.width ≡ self.old.width }
+        ensures ok { IfOk result (λ done. self.new.rows ≡ cond done (self.old.rows ++ broken_row row.now ∷ []) self.old.rows) }
+        ensures err { OnErr result (self.new.rows ≡ self.old.rows) }
+    {
+        let height = self.lists.b.len();
+        let added = add_whole(&mut self.lists, row, true);
+        settle(&mut self.lists, height, added)
+    }
+
+    /// Becomes the other system, in its own memory where that is large enough. Without memory it becomes the system without unknowns and
+    /// rows.
+    pub fn set_to(&mut self, other: &WholeSystem) -> Result<(), AllocError>
+        ensures { OnOk result (self.new ≡ other.now) }
+    {
+        let filled = refill(&mut self.lists, &other.lists);
+        if filled.is_err() {
+            clear(&mut self.lists);
+        }
+        filled
+    }
+
+    /// Keeps the first so many rows and gives up the others.
+    pub fn truncate(&mut self, count: usize)
+        ensures width { self.new.width ≡ self.old.width }
+        ensures rows { self.new.rows ≡ take count self.old.rows }
+    {
+        if count < self.lists.b.len() {
+            cut(&mut self.lists, count);
+        }
+    }
+
+    /// The numbers of the rows times their scales.
+    pub fn numbers(&self) -> WholeNumbers
+        ensures whole { IsWholeSystem self.now result.scales.now result.a.now result.b.now }
+        ensures entries_small { IsSmall (2 ^ 62) result.a.now }
+        ensures sides_small { IsSmall (2 ^ 62) result.b.now }
+        ensures entries { IsSmall result.most_entry result.a.now }
+        ensures sides { IsSmall result.most_side result.b.now }
+        ensures some_side { 1 ≤ result.most_side }
+        ensures scales { (x : ℕ) → scale_at result.scales.now x ≤ result.most_scale }
+        ensures some_scale { 1 ≤ result.most_scale }
+    {
+        WholeNumbers {
+            scales: self.lists.scales.as_slice(),
+            a: self.lists.a.as_slice(),
+            b: self.lists.b.as_slice(),
+            most_entry: self.lists.most_entry,
+            most_side: self.lists.most_side,
+            most_scale: self.lists.most_scale,
+        }
+    }
+}
