@@ -1,0 +1,12 @@
+pub mod Prefix
+pub mod SharedRun
+pub mod LateRows
+pub mod SharedFits
+pub mod NumberFits
+pub mod CoefficientsFit
+pub mod TurnedRows
+pub mod LongerSeats
+pub mod WholeShared
+pub mod CoveredRows
+pub mod Continued
+pub mod Seated

@@ -1,0 +1,28 @@
+-- A run in whole numbers that is kept where it ends.
+use Rattle.std.specs.Prelude.{◌≡◌, ℕ, ◌*◌, ◌≤◌, ◌^◌, List, length, ℤ}
+use Rattle.mpc_rows.specs.LinearSystem.{LinearSystem, height}
+use Rattle.mpc_rows.specs.Run.{count, is_refuted, turn, last_position}
+use Rattle.mpc_whole.specs.declared.variables.Seat.{Seat}
+use Rattle.mpc_whole.specs.declared.whole.Ending.{Ending}
+use Rattle.mpc_whole.specs.declared.whole.Place.{Place}
+use Rattle.mpc_whole.specs.Table.{IsSeated}
+use Rattle.mpc_whole.specs.Whole.{IsSmall, HasBounds}
+use Rattle.mpc_whole.specs.Underway.{IsUnderway, HasEnded}
+
+-- the seats and the numbers of the last position, by the scales of the system
+pub record IsKept (s : LinearSystem) (k : List ℕ) (seats : List Seat) (v : List ℤ) (p : Place) (end : Ending) : Type 0 where
+  pub scales : length k ≡ count s
+  pub seated : IsSeated (height s) s.width (count s) seats
+  pub square : length v ≡ s.width * s.width
+  pub small : IsSmall (2 ^ 62) v
+  pub den_small : p.den ≤ 2 ^ 62
+  pub ended : HasEnded s (count s) seats k p.den v p.greatest p.greatest_den end
+
+-- the run stands here, if the sizes that are kept are within what the numbers of a position may have
+pub record IsUnderwayWithin (s : LinearSystem) (n : ℕ) (seats : List Seat) (k : List ℕ) (a b : List ℤ) (scale den : ℕ) (v : List ℤ) (most most_den : ℕ) : Type 0 where
+  pub within : (m : ℕ) → HasBounds s k a b m → most ≤ m → most_den * scale ≤ 2 ^ 62 → IsUnderway s n seats k den v most most_den
+
+-- the run ends without a point, as the row of a side shows
+pub record IsRefuted (s : LinearSystem) : Type 0 where
+  pub row : ℕ
+  pub ends : turn s (last_position s) ≡ is_refuted row

@@ -1,0 +1,518 @@
+//! Runs in whole numbers that are kept where they end.
+
+ghost use Rattle.std.specs.Prelude.{◌≡◌, ℕ, ◌+◌, ◌*◌, ◌<◌, ◌≤◌, ◌^◌, [], ◌∷◌, IsTrue, IfSome, IfOk, All, List, length, map, true, false};
+ghost use Rattle.mpc_rows.specs.LinearSystem.{height};
+ghost use Rattle.mpc_rows.specs.Run.{has_point, is_refuted, turn, last_position};
+ghost use Rattle.mpc_rows.specs.RunWidth.{RunFits};
+ghost use Rattle.mpc_rows.specs.LawRows.{whole_row};
+ghost use Rattle.mpc_whole.specs.declared.variables.Seat.{Seat};
+ghost use Rattle.mpc_whole.specs.Table.{IsSeated};
+ghost use Rattle.mpc_whole.specs.RunEnd.{IsEnd, IsValues, IsMultipliers};
+ghost use Rattle.mpc_whole.specs.Whole.{scale_at, IsSmall, IsNarrow, IsForm, IsWholeSystem, HasBounds, HasRoom};
+ghost use Rattle.mpc_whole.specs.Underway.{turn_of, HasEnded};
+ghost use Rattle.mpc_beginnings.specs.Beginnings.{lengthened};
+ghost use Rattle.mpc_beginnings.specs.Kept.{IsKept, IsUnderwayWithin, IsRefuted};
+
+use crate::lists::{
+    begins_with, first_numbers, first_seats, lengthen, push_rows, put_numbers, put_seats, sizes,
+    with_row,
+};
+use mpc_frac::Frac;
+use mpc_linear::RowInt;
+use mpc_rows::{Multipliers, PairPoint, Row, System};
+use mpc_whole::{
+    End, Ending, Place, Seat, Standing, WholeNumbers, WholeSystem, greatest, last_multipliers,
+    last_values, limit, whole_run, zero_pairs, zeros,
+};
+use std::alloc::{AllocError, Global};
+use std::marker::Model;
+
+/// What the numbers of a position may have, if those that stand and the sizes that are kept of those
+/// before are within that.
+fn limit_of(
+    system: &WholeSystem,
+    numbers: &WholeNumbers,
+    v: &[i64],
+    n: usize,
+    from: Place,
+) -> Option<u64>
+    requires count { n ≡ system.now.width + height system.now }
+    requires entries { IsSmall numbers.now.most_entry numbers.now.a.now }
+    requires sides { IsSmall numbers.now.most_side numbers.now.b.now }
+    requires some_side { 1 ≤ numbers.now.most_side }
+    requires scales { (x : ℕ) → scale_at numbers.now.scales.now x ≤ numbers.now.most_scale }
+    requires some_scale { 1 ≤ numbers.now.most_scale }
+    ensures bounds { IfSome result (λ m. HasBounds system.now numbers.now.scales.now numbers.now.a.now numbers.now.b.now m) }
+    ensures room { IfSome result (λ _. HasRoom system.now.width (2 ^ 62) numbers.now.a.now) }
+    ensures top { IfSome result (λ m. m ≤ 2 ^ 62) }
+    ensures small { IfSome result (λ m. IsSmall m v.now) }
+    ensures den_small { IfSome result (λ _. from.den ≤ 2 ^ 62) }
+    ensures narrow { IfSome result (λ _. (seats : List Seat) → IsNarrow system.now n seats numbers.now.scales.now numbers.now.a.now from.den v.now) }
+    ensures kept_small { IfSome result (λ m. from.greatest ≤ m) }
+    ensures kept_den_small { IfSome result (λ _. from.greatest_den * numbers.now.most_scale ≤ 2 ^ 62) }
+{
+    let most = limit(
+        system.unknowns(),
+        n,
+        numbers.most_entry,
+        numbers.most_side,
+        numbers.most_scale,
+    )?;
+    if greatest(v).max(from.greatest) > most {
+        return None;
+    }
+    let scaled = from.den.max(from.greatest_den) as u128 * numbers.most_scale as u128;
+    if scaled > 1 << 62 {
+        return None;
+    }
+    Some(most)
+}
+
+/// The run from a position to its end, where whole numbers serve for it.
+fn run_on(
+    seats: &mut [Seat],
+    v: &mut [i64],
+    work: &mut [i64],
+    system: &WholeSystem,
+    numbers: &WholeNumbers,
+    n: usize,
+    from: Place,
+) -> Option<(Place, Ending)>
+    requires count { n ≡ system.now.width + height system.now }
+    requires lines { system.now.width + (system.now.width + system.now.width) ≤ length work.old }
+    requires seated { IsSeated (height system.now) system.now.width n seats.old }
+    requires square { length v.old ≡ system.now.width * system.now.width }
+    requires whole { IsWholeSystem system.now numbers.now.scales.now numbers.now.a.now numbers.now.b.now }
+    requires entries { IsSmall numbers.now.most_entry numbers.now.a.now }
+    requires sides { IsSmall numbers.now.most_side numbers.now.b.now }
+    requires some_side { 1 ≤ numbers.now.most_side }
+    requires scales { (x : ℕ) → scale_at numbers.now.scales.now x ≤ numbers.now.most_scale }
+    requires some_scale { 1 ≤ numbers.now.most_scale }
+    requires start { IsUnderwayWithin system.now n seats.old numbers.now.scales.now numbers.now.a.now numbers.now.b.now numbers.now.most_scale from.den v.old from.greatest from.greatest_den }
+    ensures end { IfSome result (λ t. HasEnded system.now n seats.new numbers.now.scales.now t.0.den v.new t.0.greatest t.0.greatest_den t.1) }
+    ensures seated { IfSome result (λ _. IsSeated (height system.now) system.now.width n seats.new) }
+    ensures small { IfSome result (λ _. IsSmall (2 ^ 62) v.new) }
+    ensures den_small { IfSome result (λ t. t.0.den ≤ 2 ^ 62) }
+{
+    let most = limit_of(system, numbers, v, n, from)?;
+    let width = system.unknowns();
+    let (x, others) = work.split_at_mut(width);
+    let (c_1, others) = others.split_at_mut(width);
+    let (c_2, _) = others.split_at_mut(width);
+    let found = whole_run(
+        seats,
+        v,
+        x,
+        c_1,
+        c_2,
+        system,
+        numbers.scales,
+        numbers.a,
+        numbers.b,
+        n,
+        from,
+        most,
+    )?;
+    Some(found)
+}
+
+/// The values of the unknowns at the last position.
+fn point_at(
+    alloc: Global,
+    work: &mut [i64],
+    system: &WholeSystem,
+    scales: &[u64],
+    seats: &[Seat],
+    v: &[i64],
+    n: usize,
+    den: u64,
+) -> Result<Option<PairPoint>, AllocError>
+    requires lines { system.now.width + (system.now.width + system.now.width) ≤ length work.old }
+    requires seated { IsSeated (height system.now) system.now.width n seats.now }
+    requires square { length v.now ≡ system.now.width * system.now.width }
+    requires den_small { den ≤ 2 ^ 62 }
+    requires form { IsForm system.now n seats.now scales.now den v.now (last_position system.now) }
+    ensures { IfOk result (λ o. IfSome o (λ p. IsValues system.now (last_position system.now) p)) }
+{
+    let numbers = system.numbers();
+    if numbers.scales != scales {
+        return Ok(None);
+    }
+    let width = system.unknowns();
+    let mut values = zero_pairs(alloc, width)?;
+    let (c_1, others) = work.split_at_mut(width);
+    let (c_2, _) = others.split_at_mut(width);
+    let found = last_values(
+        &mut values,
+        c_1,
+        c_2,
+        system,
+        numbers.scales,
+        seats,
+        numbers.b,
+        v,
+        n,
+        den,
+    );
+    match found {
+        Some(()) => Ok(Some(PairPoint::of(values))),
+        None => Ok(None),
+    }
+}
+
+/// The multipliers at the last position, where the row of the side l refutes.
+fn multipliers_at(
+    alloc: Global,
+    work: &mut [i64],
+    system: &WholeSystem,
+    scales: &[u64],
+    seats: &[Seat],
+    v: &[i64],
+    n: usize,
+    place: Place,
+    l: usize,
+) -> Result<Option<Multipliers>, AllocError>
+    requires count { n ≡ system.now.width + height system.now }
+    requires lines { system.now.width + (system.now.width + system.now.width) ≤ length work.old }
+    requires seated { IsSeated (height system.now) system.now.width n seats.now }
+    requires square { length v.now ≡ system.now.width * system.now.width }
+    requires small { IsSmall (2 ^ 62) v.now }
+    requires form { IsForm system.now n seats.now scales.now place.den v.now (last_position system.now) }
+    requires refuted { turn system.now (last_position system.now) ≡ is_refuted l }
+    ensures { IfOk result (λ o. IfSome o (λ m. IsMultipliers system.now (last_position system.now) l m)) }
+{
+    let numbers = system.numbers();
+    if numbers.scales != scales {
+        return Ok(None);
+    }
+    let Some(_) = limit_of(system, &numbers, v, n, place) else {
+        return Ok(None);
+    };
+    let mut list = zeros(alloc, system.height())?;
+    let (x, _) = work.split_at_mut(system.unknowns());
+    let found = last_multipliers(
+        &mut list,
+        x,
+        system,
+        numbers.scales,
+        seats,
+        numbers.a,
+        numbers.b,
+        v,
+        n,
+        place.den,
+        l,
+    );
+    match found {
+        Some(()) => Ok(Some(Multipliers::of(list))),
+        None => Ok(None),
+    }
+}
+
+/// Whether the run ends with a point.
+fn is_point(end: Ending) -> bool
+    ensures point { IsTrue result → turn_of end ≡ has_point }
+    ensures refuted { result ≡ false → (l : ℕ) × (turn_of end ≡ is_refuted l) }
+{
+    match end {
+        Ending::Point => true,
+        Ending::Refuted(_) => false,
+    }
+}
+
+/// The system that stood in a workspace, or a first one.
+fn scratch(alloc: Global, system: Option<WholeSystem>) -> Result<WholeSystem, AllocError> {
+    match system {
+        Some(system) => Ok(system),
+        None => WholeSystem::new(alloc, 0),
+    }
+}
+
+/// Lists that runs use, one after the other.
+#[derive(Drop)]
+pub struct Workspace {
+    /// What is needed only during a run.
+    numbers: Vec<i64>,
+    /// A system with further rows, and where its run stands.
+    system: Option<WholeSystem>,
+    seats: Vec<Seat>,
+    v: Vec<i64>,
+}
+
+impl Workspace {
+    /// Lists that take no memory before the first run.
+    pub fn new(alloc: Global) -> Self {
+        Workspace {
+            numbers: Vec::new(alloc),
+            system: None,
+            seats: Vec::new(alloc),
+            v: Vec::new(alloc),
+        }
+    }
+}
+
+/// A system whose run in whole numbers is kept where it ends.
+#[derive(Drop)]
+pub struct KeptRun {
+    system: WholeSystem,
+    /// The scales that the numbers are by: 1 for each unknown, then one for each row.
+    scales: Vec<u64>,
+    seats: Vec<Seat>,
+    /// The numbers of the last position.
+    v: Vec<i64>,
+    place: Place,
+    end: Ending,
+}
+
+impl Model for KeptRun {
+    ghost use Rattle.mpc_rows.specs.LinearSystem.{LinearSystem};
+
+    ghost Value = { LinearSystem };
+
+    ghost use Rattle.mpc_beginnings.specs.Kept.{IsKept};
+
+    ghost view = { λ r. r.system };
+
+    ghost invariant = { λ r. IsKept r.system r.scales.items r.seats.items r.v.items r.place r.end };
+}
+
+/// What is kept of a run that came to its end.
+fn kept(
+    system: WholeSystem,
+    scales: Vec<u64>,
+    seats: Vec<Seat>,
+    v: Vec<i64>,
+    found: Option<(Place, Ending)>,
+) -> Option<KeptRun>
+    requires { IfSome found (λ t. IsKept system scales.items seats.items v.items t.0 t.1) }
+    ensures { IfSome result (λ r. r ≡ system) }
+{
+    let (place, end) = found?;
+    Some(KeptRun {
+        system,
+        scales,
+        seats,
+        v,
+        place,
+        end,
+    })
+}
+
+impl KeptRun {
+    /// The run of the system, kept where it ends. `None` where whole numbers don't serve for it.
+    pub fn begin(
+        alloc: Global,
+        work: &mut Workspace,
+        system: WholeSystem,
+    ) -> Result<Option<KeptRun>, AllocError>
+        ensures { IfOk result (λ o. IfSome o (λ r. r ≡ system)) }
+    {
+        let width = system.unknowns();
+        let Some((n, square, lines)) = sizes(system.height(), width) else {
+            return Ok(None);
+        };
+        let mut seats = first_seats(alloc, &system, n)?;
+        let mut v = first_numbers(alloc, width, square)?;
+        lengthen(&mut work.numbers, lines)?;
+        let numbers = system.numbers();
+        let scales = numbers.scales.to_vec(alloc)?;
+        let from = Place {
+            den: 1,
+            greatest: 0,
+            greatest_den: 0,
+        };
+        let found = run_on(
+            &mut seats,
+            &mut v,
+            &mut work.numbers,
+            &system,
+            &numbers,
+            n,
+            from,
+        );
+        Ok(kept(system, scales, seats, v, found))
+    }
+
+    /// The run of the system with one more row, from where this one ends on. `None` where whole
+    /// numbers don't serve for it.
+    pub fn extend(
+        &self,
+        alloc: Global,
+        work: &mut Workspace,
+        row: &Row,
+    ) -> Result<Option<KeptRun>, AllocError>
+        requires { length row.now.a ≡ self.now.width }
+        ensures { IfOk result (λ o. IfSome o (λ r. r ≡ lengthened self.now (row.now ∷ []))) }
+    {
+        let Some(system) = with_row(alloc, &self.system, row)? else {
+            return Ok(None);
+        };
+        let Some((n, _, lines)) = sizes(system.height(), system.unknowns()) else {
+            return Ok(None);
+        };
+        let mut seats = Vec::with_capacity(alloc, n)?;
+        put_seats(
+            &mut seats,
+            &self.seats,
+            self.system.height(),
+            system.height(),
+        )?;
+        let mut v = self.v.to_vec(alloc)?;
+        lengthen(&mut work.numbers, lines)?;
+        let numbers = system.numbers();
+        if !begins_with(numbers.scales, &self.scales) {
+            return Ok(None);
+        }
+        let scales = numbers.scales.to_vec(alloc)?;
+        let found = run_on(
+            &mut seats,
+            &mut v,
+            &mut work.numbers,
+            &system,
+            &numbers,
+            n,
+            self.place,
+        );
+        Ok(kept(system, scales, seats, v, found))
+    }
+
+    /// Whether the run ends with a point. No number that it forms is wide.
+    pub fn has_point(&self) -> bool
+        ensures point { IsTrue result → turn self.now (last_position self.now) ≡ has_point }
+        ensures refuted { result ≡ false → IsRefuted self.now }
+        ensures fits { RunFits self.now }
+    {
+        is_point(self.end)
+    }
+
+    /// What the run of the system with these rows behind its own ends with, where the system given is
+    /// this one. It becomes the longer one, or has some of the rows.
+    fn end_with(
+        &self,
+        work: &mut Workspace,
+        longer: &mut WholeSystem,
+        rows: &[RowInt],
+    ) -> Result<Option<Ending>, AllocError>
+        requires same { longer.old ≡ self.now }
+        requires rows { All (λ r. length r.a ≡ self.now.width) rows.now }
+        ensures end { IfOk result (λ o. IfSome o (λ e. turn (lengthened self.now (map whole_row rows.now)) (last_position (lengthened self.now (map whole_row rows.now))) ≡ turn_of e)) }
+        ensures fits { IfOk result (λ o. IfSome o (λ _. RunFits (lengthened self.now (map whole_row rows.now)))) }
+    {
+        let height = longer.height();
+        if !push_rows(longer, rows)? {
+            return Ok(None);
+        }
+        let Some((n, _, lines)) = sizes(longer.height(), longer.unknowns()) else {
+            return Ok(None);
+        };
+        put_seats(&mut work.seats, &self.seats, height, longer.height())?;
+        put_numbers(&mut work.v, &self.v)?;
+        lengthen(&mut work.numbers, lines)?;
+        let numbers = longer.numbers();
+        if !begins_with(numbers.scales, &self.scales) {
+            return Ok(None);
+        }
+        let found = run_on(
+            &mut work.seats,
+            &mut work.v,
+            &mut work.numbers,
+            longer,
+            &numbers,
+            n,
+            self.place,
+        );
+        match found {
+            Some((_, end)) => Ok(Some(end)),
+            None => Ok(None),
+        }
+    }
+
+    /// Whether the run of the system with these rows behind its own ends with a point, from where
+    /// this one ends on. `None` where whole numbers don't serve for it, and else no number that it
+    /// forms is wide.
+    ///
+    /// It takes no memory where the lists of the workspace are long enough.
+    pub fn meets(
+        &self,
+        alloc: Global,
+        work: &mut Workspace,
+        rows: &[RowInt],
+    ) -> Result<Option<bool>, AllocError>
+        requires { All (λ r. length r.a ≡ self.now.width) rows.now }
+        ensures point { IfOk result (λ o. IfSome o (λ yes. IsTrue yes → turn (lengthened self.now (map whole_row rows.now)) (last_position (lengthened self.now (map whole_row rows.now))) ≡ has_point)) }
+        ensures refuted { IfOk result (λ o. IfSome o (λ yes. yes ≡ false → IsRefuted (lengthened self.now (map whole_row rows.now)))) }
+        ensures fits { IfOk result (λ o. IfSome o (λ _. RunFits (lengthened self.now (map whole_row rows.now)))) }
+    {
+        let mut system = scratch(alloc, work.system.take())?;
+        system.set_to(&self.system)?;
+        let end = self.end_with(work, &mut system, rows);
+        work.system = Some(system);
+        match end? {
+            Some(end) => Ok(Some(is_point(end))),
+            None => Ok(None),
+        }
+    }
+
+    /// What the run ends with, in fractions. `None` where a fraction is too wide.
+    pub fn end(&self, alloc: Global, work: &mut Workspace) -> Result<Option<End>, AllocError>
+        ensures { IfOk result (λ o. IfSome o (λ d. IsEnd self.now d)) }
+    {
+        let Some((n, _, lines)) = sizes(self.system.height(), self.system.unknowns()) else {
+            return Ok(None);
+        };
+        lengthen(&mut work.numbers, lines)?;
+        match self.end {
+            Ending::Point => {
+                let found = point_at(
+                    alloc,
+                    &mut work.numbers,
+                    &self.system,
+                    &self.scales,
+                    &self.seats,
+                    &self.v,
+                    n,
+                    self.place.den,
+                )?;
+                match found {
+                    Some(point) => Ok(Some(End::Point(point))),
+                    None => Ok(None),
+                }
+            }
+            Ending::Refuted(l) => {
+                let found = multipliers_at(
+                    alloc,
+                    &mut work.numbers,
+                    &self.system,
+                    &self.scales,
+                    &self.seats,
+                    &self.v,
+                    n,
+                    self.place,
+                    l,
+                )?;
+                match found {
+                    Some(multipliers) => Ok(Some(End::Refuted(multipliers))),
+                    None => Ok(None),
+                }
+            }
+        }
+    }
+}
+
+/// The run's end, where whole numbers serve for it, and then no operation of the run is wide. `None`
+/// elsewhere.
+pub fn whole_end(alloc: Global, system: &System) -> Result<Option<End>, AllocError>
+    ensures end { IfOk result (λ o. IfSome o (λ d. IsEnd system.now d)) }
+    ensures fits { IfOk result (λ o. IfSome o (λ _. RunFits system.now)) }
+{
+    let Some(whole) = WholeSystem::read(alloc, system)? else {
+        return Ok(None);
+    };
+    let mut work = Workspace::new(alloc);
+    let Some(run) = KeptRun::begin(alloc, &mut work, whole)? else {
+        return Ok(None);
+    };
+    let _ = run.has_point();
+    let end = run.end(alloc, &mut work)?;
+    Ok(end)
+}

@@ -1,0 +1,9 @@
+//! Runs of the simplex method that begin alike: a system with further rows behind its own goes on from where the shorter one ends.
+#![tactic(auto)]
+
+mod kept;
+mod laws;
+mod lists;
+
+pub use kept::{KeptRun, Workspace, whole_end};
+pub use laws::shared_beginning;

@@ -1,0 +1,154 @@
+//! The lists of a run.
+
+ghost use Rattle.std.specs.Prelude.{◌≡◌, ℕ, ◌+◌, ◌-◌, ◌*◌, ◌<◌, ◌≤◌, [], ◌∷◌, IsTrue, IfSome, IfOk, OnOk, All, length, map};
+ghost use Rattle.mpc_rows.specs.LinearSystem.{LinearSystem};
+ghost use Rattle.mpc_rows.specs.LawRows.{whole_row};
+ghost use Rattle.mpc_whole.specs.Table.{IsSeated, IsOpeningSeats, opening_seat};
+ghost use Rattle.mpc_whole.specs.Whole.{scale_at, IsUnit};
+ghost use Rattle.mpc_beginnings.specs.Beginnings.{lengthened};
+ghost use Rattle.mpc_beginnings.specs.LongerSeats.{AreLongerSeats};
+
+use mpc_linear::RowInt;
+use mpc_rows::Row;
+use mpc_whole::{Seat, WholeSystem, clear, put_units};
+use std::alloc::{AllocError, Global};
+
+/// Makes the list at least so long.
+pub(crate) fn lengthen(list: &mut Vec<i64>, n: usize) -> Result<(), AllocError>
+    ensures { OnOk result (n ≤ length list.new.items) }
+{
+    for k in list.len()..n {
+        let _ = k;
+        list.push(0)?;
+    }
+    Ok(())
+}
+
+/// How many variables there are, how many numbers the rows of the unknowns have, and how many the
+/// lists that are needed during a run.
+pub(crate) fn sizes(height: usize, width: usize) -> Option<(usize, usize, usize)>
+    ensures count { IfSome result (λ t. t.0 ≡ width + height) }
+    ensures square { IfSome result (λ t. t.1 ≡ width * width) }
+    ensures lines { IfSome result (λ t. t.2 ≡ width + (width + width)) }
+{
+    let count = width.checked_add(height)?;
+    let square = width.checked_mul(width)?;
+    let lines = width.checked_add(width)?.checked_add(width)?;
+    Some((count, square, lines))
+}
+
+/// Where the variable x stands at first.
+fn first_seat(width: usize, x: usize) -> Seat
+    ensures { (s : LinearSystem) → s.width ≡ width → result ≡ opening_seat s x }
+{
+    if x < width {
+        Seat::Column(x)
+    } else {
+        Seat::Row(x - width)
+    }
+}
+
+/// Where each variable stands at first.
+pub(crate) fn first_seats(
+    alloc: Global,
+    system: &WholeSystem,
+    n: usize,
+) -> Result<Vec<Seat>, AllocError>
+    ensures { IfOk result (λ t. IsOpeningSeats system.now n t.items) }
+{
+    let mut seats = Vec::with_capacity(alloc, n)?;
+    for x in 0..n {
+        let seat = first_seat(system.unknowns(), x);
+        seats.push(seat)?;
+    }
+    Ok(seats)
+}
+
+/// The numbers of the unknowns at first.
+pub(crate) fn first_numbers(
+    alloc: Global,
+    width: usize,
+    square: usize,
+) -> Result<Vec<i64>, AllocError>
+    requires { square ≡ width * width }
+    ensures size { IfOk result (λ t. length t.items ≡ width * width) }
+    ensures unit { IfOk result (λ t. IsUnit width t.items) }
+{
+    let mut v = vec![in alloc; 0; square]?;
+    clear(&mut v);
+    put_units(&mut v, width);
+    Ok(v)
+}
+
+/// Writes the seats of the variables of a system, and those of further sides behind them, in the
+/// rows from the height of the system on.
+pub(crate) fn put_seats(
+    seats: &mut Vec<Seat>,
+    first: &[Seat],
+    height: usize,
+    longer: usize,
+) -> Result<(), AllocError>
+    requires { height ≤ longer }
+    ensures seated { OnOk result ((w n : ℕ) → IsSeated height w n first.now → IsSeated longer w (n + (longer - height)) seats.new.items) }
+    ensures grown { OnOk result ((w n : ℕ) → IsSeated height w n first.now → AreLongerSeats n first.now seats.new.items) }
+{
+    seats.clear();
+    seats.extend_from_slice(first)?;
+    for r in height..longer {
+        seats.push(Seat::Row(r))?;
+    }
+    Ok(())
+}
+
+/// Writes numbers in place of others.
+pub(crate) fn put_numbers(list: &mut Vec<i64>, v: &[i64]) -> Result<(), AllocError>
+    ensures { OnOk result (list.new.items ≡ v.now) }
+{
+    list.clear();
+    list.extend_from_slice(v)?;
+    Ok(())
+}
+
+/// Whether the first scales are these.
+pub(crate) fn begins_with(scales: &[u64], first: &[u64]) -> bool
+    requires { length first.now ≤ length scales.now }
+    ensures { IsTrue result → (x : ℕ) → x < length first.now → scale_at scales.now x ≡ scale_at first.now x }
+{
+    for x in 0..first.len() {
+        if scales[x] != first[x] {
+            return false;
+        }
+    }
+    true
+}
+
+/// The system with a row more, in lists of its own, if the row is whole times a small scale.
+pub(crate) fn with_row(
+    alloc: Global,
+    system: &WholeSystem,
+    row: &Row,
+) -> Result<Option<WholeSystem>, AllocError>
+    requires { length row.now.a ≡ system.now.width }
+    ensures { IfOk result (λ o. IfSome o (λ s. s ≡ lengthened system.now (row.now ∷ []))) }
+{
+    let mut longer = WholeSystem::new(alloc, 0)?;
+    longer.set_to(system)?;
+    if longer.push(row)? {
+        Ok(Some(longer))
+    } else {
+        Ok(None)
+    }
+}
+
+/// Puts rows behind those of the system; says whether their numbers are small enough.
+pub(crate) fn push_rows(system: &mut WholeSystem, rows: &[RowInt]) -> Result<bool, AllocError>
+    requires { All (λ r. length r.a ≡ system.old.width) rows.now }
+    ensures { IfOk result (λ done. IsTrue done → system.new ≡ lengthened system.old (map whole_row rows.now)) }
+{
+    for row in rows {
+        if !system.push_whole(row)? {
+            return Ok(false);
+        }
+    }
+    Ok(true)
+}
