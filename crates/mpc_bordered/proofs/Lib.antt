@@ -1,0 +1,11 @@
+pub mod Agree
+pub mod FrontLemmas
+pub mod Behind
+pub mod Equal
+pub mod Formed
+pub mod Clearing
+pub mod Pivots
+pub mod Picking
+pub mod RowWriting
+pub mod Solving
+pub mod Outcomes

@@ -1,0 +1,7 @@
+use Rattle.std.proofs.Common.{ℕ, ◌≤◌, length}
+use Rattle.mpc_linear.specs.Elimination.{Table}
+use Rattle.mpc_bordered.specs.Kept.{IsFormedColumn, AreFormed}
+use Rattle.mpc_bordered.proofs.columns.eliminate.Given as goal
+
+abbrev pub invariant-loop-c : goal.invariant-loop-c
+invariant-loop-c l = (t : Table) (u j : ℕ) → l.count ≤ u → AreFormed t u (length l.fn.column) l.count l.done → IsFormedColumn t 0 j l.fn.column → IsFormedColumn t l.c j l.column
