@@ -22,7 +22,7 @@ module _ (laws : SystemLaws) (s : LinearSystem) (w : HasWidth s.width s.rows) wh
   pub ended-refuted : (m : List ℚ) → EndsRefuted s m → Refutes s m
   ended-refuted m h = laws.refutes_from s m (multiplier s (last_position s) h.row) h.multipliers.size h.multipliers.at (subst (EndIs s) h.ends (end_right s))
 
-  ended-no_point : (m : List ℚ) → EndsRefuted s m → ¬ HasPoint s
+  pub ended-no_point : (m : List ℚ) → EndsRefuted s m → ¬ HasPoint s
   ended-no_point m h p = laws.refuted_has_no_point s m w h.multipliers.size (ended-refuted m h) p.0 p.1
 
   if_point : (d : Decision) → IsRunEnd s d → IfPoint d (IsPairPoint s)

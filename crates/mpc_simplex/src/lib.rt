@@ -7,13 +7,17 @@ ghost use Rattle.mpc_rows.specs.Refutation.{Refutes};
 ghost use Rattle.mpc_rows.specs.RunWidth.{RunFits};
 ghost use Rattle.mpc_simplex.specs.Answer.{IfPoint, IfRefuted, IfWide, HasPoint, IsRunEnd};
 
+mod beginnings;
 mod laws;
+mod nonbasic;
 mod numbers;
 mod run;
 mod sides;
 mod tableau;
 
+pub use beginnings::Beginning;
 pub use laws::{run_laws, zero_test};
+pub use mpc_beginnings::Workspace;
 use mpc_rows::{Multipliers, PairPoint, System, system_laws};
 use run::run_end;
 use std::alloc::Global;

@@ -7,18 +7,21 @@ ghost use Rattle.mpc_rows.specs.Least.{least};
 ghost use Rattle.mpc_rows.specs.Run.{value, multiplier, may_leave, may_enter, opening};
 ghost use Rattle.mpc_rows.specs.RunWidth.{ValueFits, ValuesFit, RunFits};
 ghost use Rattle.mpc_whole.specs.Table.{seat_at, in_row, IsSeated, HasShape, IsTable, position_of, opening_seat, IsOpeningSeats, IsOpeningEntries};
+ghost use Rattle.mpc_simplex.specs.Nonbasic.{AreNonbasicSides};
 ghost use Rattle.mpc_simplex.specs.Answer.{IsValues, IsMultipliers, IsRunEnd, IfWide};
 
+use crate::nonbasic::nonbasic_sides;
 use crate::numbers::{is_positive, is_zero};
 use crate::sides::{earlier, rest};
 use crate::tableau::{cell, exchange};
 use crate::{Decision, SimplexError};
+use mpc_beginnings::whole_end;
 use mpc_frac::{Frac, Wide};
 use mpc_linear::{add_product, zero_laws};
 use mpc_rows::{Multipliers, PairPoint, System};
 use mpc_whole::{
-    End, Seat, Standing, column_of, is_basic, is_unknown, opening_seats, row_of, whole_end, zero,
-    zero_pairs, zeros,
+    End, Seat, Standing, column_of, is_basic, is_unknown, opening_seats, row_of, zero, zero_pairs,
+    zeros,
 };
 use std::alloc::{AllocError, Global};
 
@@ -43,16 +46,18 @@ fn coefficient(
     cell(entries, system.height(), system.unknowns(), r, c)
 }
 
-/// The value of the basic variable x. An unknown rests at 0 while it is nonbasic, so that only
-/// sides add to it.
+/// The value of the basic variable x, from the nonbasic sides. An unknown rests at 0 while it is
+/// nonbasic, so that only sides add to it.
 fn value(
     system: &System,
     seats: &[Seat],
     entries: &[Frac],
+    sides: &[usize],
     n: usize,
     x: usize,
 ) -> Result<Standing, Wide>
     requires table { IsTable system.now n seats.now entries.now }
+    requires sides { AreNonbasicSides system.now.width n seats.now sides.now }
     requires x_below { x < n }
     requires x_basic { in_row (seat_at seats.now x) ≡ true }
     ensures first { IfOk result (λ v. v.0 ≡ (value system.now (position_of system.now.width seats.now entries.now) x).first) }
@@ -63,10 +68,8 @@ fn value(
     zero_laws();
     let mut first = zero();
     let mut second = zero();
-    for y in system.unknowns()..n {
-        if is_basic(seats, y) {
-            continue;
-        }
+    for side in sides {
+        let y = *side;
         let k = coefficient(system, seats, entries, n, x, y);
         let stand = rest(system, y);
         first = add_product(&first, &k, &stand.0)?;
@@ -75,25 +78,30 @@ fn value(
     Ok((first, second))
 }
 
-/// The variable that leaves. The values of all basic variables are formed.
+/// The variable that leaves. The values of all basic variables are formed, with room for the list of
+/// the nonbasic sides.
 fn leaving(
+    list: &mut [usize],
     system: &System,
     seats: &[Seat],
     entries: &[Frac],
     n: usize,
 ) -> Result<Option<usize>, Wide>
+    requires room { length list.old ≡ system.now.width }
     requires table { IsTable system.now n seats.now entries.now }
     ensures least { IfOk result (λ o. o ≡ least (may_leave system.now (position_of system.now.width seats.now entries.now)) n) }
     ensures below { IfOk result (λ o. MatchOption o ⊤ (λ l. l < n)) }
     ensures wide { MatchResult result (λ _. ValuesFit system.now n (position_of system.now.width seats.now entries.now))
         (λ _. ¬ ValuesFit system.now n (position_of system.now.width seats.now entries.now)) }
 {
+    let count = nonbasic_sides(list, system, seats, n);
+    let sides = &list[..count];
     let mut out = None;
     for x in 0..n {
         if !is_basic(seats, x) {
             continue;
         }
-        let v = value(system, seats, entries, n, x)?;
+        let v = value(system, seats, entries, sides, n, x)?;
         out = earlier(system, out, x, &v);
     }
     Ok(out)
@@ -146,10 +154,12 @@ fn standing(
     system: &System,
     seats: &[Seat],
     entries: &[Frac],
+    sides: &[usize],
     n: usize,
     j: usize,
 ) -> Result<Standing, Wide>
     requires table { IsTable system.now n seats.now entries.now }
+    requires sides { AreNonbasicSides system.now.width n seats.now sides.now }
     requires j_below { j < n }
     ensures first { IfOk result (λ v. v.0 ≡ (value system.now (position_of system.now.width seats.now entries.now) j).first) }
     ensures second { IfOk result (λ v. v.1 ≡ (value system.now (position_of system.now.width seats.now entries.now) j).second) }
@@ -158,25 +168,29 @@ fn standing(
     if !is_basic(seats, j) {
         return Ok(rest(system, j));
     }
-    let v = value(system, seats, entries, n, j)?;
+    let v = value(system, seats, entries, sides, n, j)?;
     Ok(v)
 }
 
-/// The values of the unknowns.
+/// The values of the unknowns, with room for the list of the nonbasic sides.
 fn point(
     values: &mut [Standing],
+    list: &mut [usize],
     system: &System,
     seats: &[Seat],
     entries: &[Frac],
     n: usize,
 ) -> Result<(), Wide>
     requires room { length values.old ≡ system.now.width }
+    requires list_room { length list.old ≡ system.now.width }
     requires table { IsTable system.now n seats.now entries.now }
     ensures values { IfOk result (λ _. IsValues system.now (position_of system.now.width seats.now entries.now) values.new) }
     ensures wide { MatchResult result (λ _. ⊤) (λ _. ¬ ValuesFit system.now n (position_of system.now.width seats.now entries.now)) }
 {
+    let count = nonbasic_sides(list, system, seats, n);
+    let sides = &list[..count];
     for j in 0..system.unknowns() {
-        let v = standing(system, seats, entries, n, j)?;
+        let v = standing(system, seats, entries, sides, n, j)?;
         values[j] = v;
     }
     Ok(())
@@ -234,12 +248,14 @@ fn run(
     mut seats: Vec<Seat>,
     mut entries: Vec<Frac>,
     mut row: Vec<Frac>,
+    mut sides: Vec<usize>,
     mut values: Vec<Standing>,
     mut list: Vec<Frac>,
     n: usize,
 ) -> Result<Decision, Wide>
     requires table { IsTable system.now n seats.items entries.items }
     requires row_size { length row.items ≡ system.now.width }
+    requires sides_size { length sides.items ≡ system.now.width }
     requires values_size { length values.items ≡ system.now.width }
     requires list_size { length list.items ≡ height system.now }
     requires opens { position_of system.now.width seats.items entries.items ≡ opening system.now }
@@ -249,9 +265,9 @@ fn run(
     let height = system.height();
     let width = system.unknowns();
     'steps: loop {
-        let out = leaving(system, &seats, &entries, n)?;
+        let out = leaving(&mut sides, system, &seats, &entries, n)?;
         let Some(l) = out else {
-            point(&mut values, system, &seats, &entries, n)?;
+            point(&mut values, &mut sides, system, &seats, &entries, n)?;
             return Ok(Decision::Point(PairPoint::of(values)));
         };
         let Some(e) = entering(system, &seats, &entries, n, l) else {
@@ -277,6 +293,13 @@ fn opening_entries(alloc: Global, system: &System) -> Result<Vec<Frac>, AllocErr
     Ok(entries)
 }
 
+/// Room for so many places of variables.
+fn places(alloc: Global, n: usize) -> Result<Vec<usize>, AllocError>
+    ensures { IfOk result (λ t. length t.items ≡ n) }
+{
+    vec![in alloc; 0; n]
+}
+
 /// The run's end: in whole numbers where they serve for it, else in fractions. Each takes its memory
 /// before its first step.
 ///
@@ -288,7 +311,7 @@ pub(crate) fn run_end(alloc: Global, system: &System) -> Result<Decision, Simple
     let Some(n) = system.unknowns().checked_add(system.height()) else {
         return Err(SimplexError::NoMemory);
     };
-    match whole_end(alloc, system, n) {
+    match whole_end(alloc, system) {
         Ok(Some(End::Point(point))) => return Ok(Decision::Point(point)),
         Ok(Some(End::Refuted(multipliers))) => return Ok(Decision::Refuted(multipliers)),
         Ok(None) => {}
@@ -306,13 +329,16 @@ pub(crate) fn run_end(alloc: Global, system: &System) -> Result<Decision, Simple
     let Ok(row) = zeros(alloc, system.unknowns()) else {
         return Err(SimplexError::NoMemory);
     };
+    let Ok(sides) = places(alloc, system.unknowns()) else {
+        return Err(SimplexError::NoMemory);
+    };
     let Ok(values) = zero_pairs(alloc, system.unknowns()) else {
         return Err(SimplexError::NoMemory);
     };
     let Ok(list) = zeros(alloc, system.height()) else {
         return Err(SimplexError::NoMemory);
     };
-    match run(system, seats, entries, row, values, list, n) {
+    match run(system, seats, entries, row, sides, values, list, n) {
         Ok(decision) => Ok(decision),
         Err(_) => Err(SimplexError::Wide),
     }

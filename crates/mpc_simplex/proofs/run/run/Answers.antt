@@ -22,6 +22,7 @@ steps-init c = record {
   going = going_opening c.args.system.now (position_of c.args.system.now.width c.args.seats.items c.args.entries.items) c.requires.opens;
   table = c.requires.table;
   row = c.requires.row_size;
+  sides = c.requires.sides_size;
   values = c.requires.values_size;
   list = c.requires.list_size;
 }
@@ -48,8 +49,8 @@ pub returns-in_default-clause-end : goal.returns-in_default-clause-end
 returns-in_default-clause-end c =
     let at = goal.at.returns-in_default-clause-end c in
     let a : c.in_ok-out.out ≡ None = c.in_default.is in
-    let q : length c.point.new.values ≡ length c.deref_mut.result.now = c.point.auto.values in
-    let x = with_items_is c.steps.values c.point.new.values (q ∙ c.deref_mut.ensures.len) in
+    let q : length c.point.new.values ≡ length c.deref_mut-in_default.result.now = c.point.auto.values in
+    let x = with_items_is c.steps.values c.point.new.values (q ∙ c.deref_mut-in_default.ensures.len) in
     subst (EndsWithPoint c.args.system.now) (sym (c.of.ensures ∙ x))
     (point_answer c.args.system.now c.args.n c.steps.seats.items c.steps.entries.items c.steps.invariant.table c.steps.invariant.going.reached (sym a ∙ left at.In_ok-out) c.point.new.values
     (from_lists (λ p. IsValues c.args.system.now p c.point.new.values) c.args.system.now.width c.deref-in_default.ensures.value c.deref-in_default-2.ensures.value c.in_ok-point.ensures.values))
@@ -177,6 +178,9 @@ returns-in_err-exchange-clause-wide c =
 entries_long : (c : In_ok-exchange) → length c.exchange.new.entries ≡ c.steps.entries.len
 entries_long c = (let q : length c.exchange.new.entries ≡ length c.deref_mut-in-steps.result.now = c.exchange.auto.entries in q) ∙ c.deref_mut-in-steps.ensures.len
 
+sides_long : (c : In_ok-out) → length c.leaving.new.list ≡ c.steps.sides.len
+sides_long c = (let q : length c.leaving.new.list ≡ length c.deref_mut.result.now = c.leaving.auto.list in q) ∙ c.deref_mut.ensures.len
+
 row_long : (c : In_ok-exchange) → length c.exchange.new.row ≡ c.steps.row.len
 row_long c = (let q : length c.exchange.new.row ≡ length c.deref_mut-in-steps-2.result.now = c.exchange.auto.row in q) ∙ c.deref_mut-in-steps-2.ensures.len
 
@@ -217,6 +221,7 @@ steps-preserved c =
         };
       };
       row = ap (λ (t : List ℚ). length t) (with_items_is c.steps.row c.exchange.new.row (row_long at.In_ok-exchange)) ∙ row_long at.In_ok-exchange ∙ c.steps.row.ok.0 ∙ c.steps.invariant.row;
+      sides = ap (λ (t : List ℕ). length t) (with_items_is c.steps.sides c.leaving.new.list (sides_long at.In_ok-out)) ∙ sides_long at.In_ok-out ∙ c.steps.sides.ok.0 ∙ c.steps.invariant.sides;
       values = c.steps.invariant.values;
       list = c.steps.invariant.list;
     }

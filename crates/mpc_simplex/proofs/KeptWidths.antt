@@ -1,0 +1,27 @@
+-- The rows of a longer system have one coefficient for each unknown.
+use Rattle.std.proofs.Common.{◌≡◌, List, [], ◌∷◌, map, length, All, ◌∙◌, subst}
+use Rattle.std.proofs.lemmas.List.{length-map}
+use Rattle.std.proofs.lemmas.List.Elements.{All-append, All-push, All-map, All-weaker}
+use Rattle.mpc_exact.specs.Rational.{int}
+use Rattle.mpc_linear.specs.declared.integers.RowInt.{RowInt}
+use Rattle.mpc_rows.specs.declared.systems.Row.{Row}
+use Rattle.mpc_rows.specs.LinearSystem.{LinearSystem, HasWidth}
+use Rattle.mpc_rows.specs.LawRows.{whole_row}
+use Rattle.mpc_beginnings.specs.Beginnings.{lengthened}
+
+abbrev pub AreWide : LinearSystem → Type 0
+AreWide s = HasWidth s.width s.rows
+
+module _ (s : LinearSystem) (w : AreWide s) where
+  pub same_widths : (t : LinearSystem) → s ≡ t → AreWide t
+  same_widths t e = subst AreWide e w
+
+  pub one_width : (r : Row) → length r.a ≡ s.width → AreWide (lengthened s (r ∷ []))
+  one_width r h = record { each = All-push (λ (q : Row). length q.a ≡ s.width) s.rows r w.each h }
+
+  pub more_widths : (rows : List RowInt) → All (λ r. length r.a ≡ s.width) rows → AreWide (lengthened s (map whole_row rows))
+  more_widths rows h = record {
+    each = All-append (λ (q : Row). length q.a ≡ s.width) s.rows (map whole_row rows) w.each
+        (All-map (λ (q : Row). length q.a ≡ s.width) whole_row rows
+        (All-weaker (λ (q : RowInt). length q.a ≡ s.width) (λ (q : RowInt). length (whole_row q).a ≡ s.width) (λ q e. length-map q.a int ∙ e) rows h));
+  }
