@@ -82,6 +82,63 @@ enum Turn {
     Joins(Frac),
 }
 
+/// `[[h, g'], [g, 0]]` once the columns of h are eliminated, entry by entry where all numbers on the way to it fit. An entry in a column of h
+/// is the factor that its row was cleared with.
+struct Kept {
+    entries: Vec<Option<Frac>>,
+    width: usize,
+}
+
+impl Kept {
+    fn of<R: Rules>(program: &Program) -> Option<Self> {
+        let unknowns = program.h.width;
+        let members: Vec<usize> = (0..program.g.entries.len() / unknowns).collect();
+        let table = equations(program, &members);
+        let width = unknowns + members.len();
+        let mut entries: Vec<Option<Frac>> = (0..width).flat_map(|i| table.row(i)[..width].iter().map(|x| Some(*x))).collect();
+        for c in 0..unknowns {
+            let pivot = entries[c * width + c].filter(|x| x.num != 0)?;
+            for j in c + 1..width {
+                entries[c * width + j] = entries[c * width + j].and_then(|x| quotient::<R>(&x, &pivot).ok());
+            }
+            for i in (0..width).filter(|i| *i != c) {
+                let factor = entries[i * width + c];
+                if factor.is_some_and(|x| x.num == 0) {
+                    continue;
+                }
+                for j in c + 1..width {
+                    entries[i * width + j] = less_product::<R>(entries[i * width + j], factor, entries[c * width + j]);
+                }
+            }
+        }
+        Some(Kept { entries, width })
+    }
+
+    /// The rows and columns of a set's equations, and behind them the column of a row's negative; nothing where a number isn't kept.
+    fn part(&self, unknowns: usize, set: &[usize], row: usize) -> Option<Table> {
+        let places: Vec<usize> = (0..unknowns).chain(set.iter().map(|member| unknowns + member)).collect();
+        let width = places.len() + 1;
+        let mut table = Table::zero(places.len(), width);
+        for (i, place) in places.iter().enumerate() {
+            let kept = &self.entries[place * self.width..(place + 1) * self.width];
+            for (j, column) in places.iter().enumerate() {
+                table.entries[i * width + j] = kept[*column]?;
+            }
+            table.entries[i * width + width - 1] = negated(&kept[unknowns + row]?);
+        }
+        Some(table)
+    }
+}
+
+/// `entry - factor * taken`, where all are known and it fits.
+fn less_product<R: Rules>(entry: Option<Frac>, factor: Option<Frac>, taken: Option<Frac>) -> Option<Frac> {
+    let (entry, factor, taken) = (entry?, factor?, taken?);
+    if taken.num == 0 {
+        return Some(entry);
+    }
+    R::add(&entry, &R::mul(&negated(&factor), &taken).ok()?).ok()
+}
+
 /// `[[h, g_S'], [g_S, 0]]`, and behind it a column for the right sides.
 fn equations(program: &Program, set: &[usize]) -> Table {
     let unknowns = program.h.width;
@@ -99,12 +156,12 @@ fn equations(program: &Program, set: &[usize]) -> Table {
     table
 }
 
-/// The one solution: Gauss-Jordan elimination, with the first pivot that isn't 0.
-fn eliminate<R: Rules>(table: &mut Table) -> Result<Vec<Frac>, Wide> {
+/// The one solution: Gauss-Jordan elimination from column `first` on, with the first pivot that isn't 0.
+fn eliminate<R: Rules>(table: &mut Table, first: usize) -> Result<Vec<Frac>, Wide> {
     let width = table.width;
     let rows = width - 1;
     let entries = &mut table.entries;
-    for c in 0..rows {
+    for c in first..rows {
         let pivot_row = (c..rows).find(|i| entries[i * width + c].num != 0).expect("independent rows");
         for j in c..width {
             entries.swap(c * width + j, pivot_row * width + j);
@@ -127,6 +184,20 @@ fn eliminate<R: Rules>(table: &mut Table) -> Result<Vec<Frac>, Wide> {
         }
     }
     Ok((0..rows).map(|i| entries[i * width + rows]).collect())
+}
+
+/// The direction of a step: what is kept, where that is enough, is eliminated from its members' columns on.
+fn step_solution<R: Rules>(program: &Program, kept: Option<&Kept>, position: &Position) -> Result<Vec<Frac>, Wide> {
+    let unknowns = program.h.width;
+    if let Some(mut table) = kept.and_then(|kept| kept.part(unknowns, &position.set, position.row)) {
+        return eliminate::<R>(&mut table, unknowns);
+    }
+    let mut table = equations(program, &position.set);
+    let width = table.width;
+    for (i, x) in program.g.row(position.row).iter().enumerate() {
+        table.entries[i * width + width - 1] = negated(x);
+    }
+    eliminate::<R>(&mut table, 0)
 }
 
 fn excess<R: Rules>(program: &Program, sides: &[Frac], point: &[Frac], i: usize) -> Result<Frac, Wide> {
@@ -158,7 +229,7 @@ fn open<R: Rules>(program: &Program, c: &[Frac], sides: &[Frac]) -> Result<Next,
     for (i, cost) in program.f.products::<R>(c)?.iter().enumerate() {
         table.entries[i * (unknowns + 1) + unknowns] = negated(cost);
     }
-    let point = eliminate::<R>(&mut table)?;
+    let point = eliminate::<R>(&mut table, 0)?;
     let first = first_violated::<R>(program, sides, &point)?;
     Ok(continued(Position { point, set: Vec::new(), multipliers: Vec::new(), row: 0, weight: ZERO }, first))
 }
@@ -212,14 +283,9 @@ fn row_multipliers(rows: usize, position: &Position, e: &[Frac]) -> Vec<Frac> {
     all
 }
 
-fn advance<R: Rules>(program: &Program, sides: &[Frac], mut position: Position) -> Result<Next, Wide> {
+fn advance<R: Rules>(program: &Program, kept: Option<&Kept>, sides: &[Frac], mut position: Position) -> Result<Next, Wide> {
     let unknowns = program.h.width;
-    let mut table = equations(program, &position.set);
-    let width = table.width;
-    for (i, x) in program.g.row(position.row).iter().enumerate() {
-        table.entries[i * width + width - 1] = negated(x);
-    }
-    let solution = eliminate::<R>(&mut table)?;
+    let solution = step_solution::<R>(program, kept, &position)?;
     let (d, e) = solution.split_at(unknowns);
     match turn_of::<R>(program, sides, &position, d, e)? {
         Turn::Refuted => Ok(Next::Ends(End::Refuted(row_multipliers(sides.len(), &position, e)))),
@@ -240,8 +306,8 @@ fn advance<R: Rules>(program: &Program, sides: &[Frac], mut position: Position) 
     }
 }
 
-/// The answer at the counts. The steps are added to `steps`.
-fn solve_at<R: Rules>(program: &Program, counts: &[u64], steps: &mut u64) -> Result<End, Wide> {
+/// The answer at the counts, by what is kept of the program. The steps are added to `steps`.
+fn solve_at<R: Rules>(program: &Program, kept: Option<&Kept>, counts: &[u64], steps: &mut u64) -> Result<End, Wide> {
     let c: Vec<Frac> = std::iter::once(ONE).chain(counts.iter().map(|count| Frac { num: *count as i128, den: 1 })).collect();
     let sides = program.w.products::<R>(&c)?;
     let mut next = open::<R>(program, &c, &sides)?;
@@ -250,7 +316,7 @@ fn solve_at<R: Rules>(program: &Program, counts: &[u64], steps: &mut u64) -> Res
             Next::Ends(end) => return Ok(end),
             Next::Goes(position) => {
                 *steps += 1;
-                next = advance::<R>(program, &sides, position)?;
+                next = advance::<R>(program, kept, &sides, position)?;
             }
         }
     }
@@ -294,9 +360,10 @@ fn write_reply(reply: &mut String, moves: &[Frac]) {
 /// The reply lines, and the steps of all runs.
 fn replies<'a, R: Rules>(program: &Program, lines: impl Iterator<Item = &'a str>) -> (String, u64) {
     let (mut text, mut steps) = (String::new(), 0);
+    let kept = Kept::of::<R>(program);
     for line in lines {
         let counts: Vec<u64> = line.split(' ').map(|count| count.parse().expect("a count")).collect();
-        match solve_at::<R>(program, &counts, &mut steps) {
+        match solve_at::<R>(program, kept.as_ref(), &counts, &mut steps) {
             Ok(End::Best(point)) => write_reply(&mut text, &point[..program.moves]),
             Ok(End::Refuted(multipliers)) => {
                 assert_eq!(multipliers.len(), program.g.entries.len() / program.g.width);

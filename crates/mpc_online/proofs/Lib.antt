@@ -23,6 +23,8 @@ pub mod Moved
 pub mod SmallPrograms
 pub mod Eliminated
 pub mod Lengths
+pub mod SharedParts
+pub mod KeptSteps
 pub mod RunEnds
 pub mod Found
 pub mod MultiplierLists

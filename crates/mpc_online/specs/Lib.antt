@@ -6,3 +6,4 @@ pub mod Widths
 pub mod OnlineRun
 pub mod Standing
 pub mod Answers
+pub mod Shared

@@ -11,25 +11,31 @@ ghost use Rattle.mpc_rows.specs.Refutation.{Refutes};
 ghost use Rattle.mpc_cover.specs.Cheapest.{IsCheapest};
 ghost use Rattle.mpc_online.specs.StateRows.{point_of, state_system};
 ghost use Rattle.mpc_online.specs.OnlineRun.{IsRunEnd, answered, wide_in};
+ghost use Rattle.mpc_online.specs.Shared.{IsPreparedFor};
 ghost use Rattle.mpc_online.specs.Answers.{IfBest, IfRefuted, IfWide};
 
 mod counts;
+mod directions;
 mod laws;
 mod matrices;
 mod moves;
 mod numbers;
+mod prepared;
 mod refuting;
 mod run;
+mod shared;
 mod solutions;
 #[cfg(test)]
 mod tests;
 mod tests_of_rows;
 mod turns;
 
+pub use directions::prepare;
 pub use laws::run_laws;
 use mpc_cover::cheapest_laws;
 use mpc_linear::Vector;
 use mpc_rows::{Multipliers, Qp, system_laws};
+pub use prepared::Prepared;
 use run::answer;
 use std::alloc::Global;
 use thiserror::Error;
@@ -52,6 +58,35 @@ pub enum OnlineError {
     /// There is no more memory.
     #[error("out of memory")]
     NoMemory,
+}
+
+/// What `solve_at` says, by what all states of the program share: its Hessian isn't eliminated anew in each step.
+pub fn solve_prepared(
+    alloc: Global,
+    qp: &Qp,
+    prepared: &Prepared,
+    counts: &[u64],
+) -> Result<Online, OnlineError>
+    requires definite { IsDefinite qp.now.h.rows }
+    requires symmetric { IsSymmetric qp.now.h.rows }
+    requires prepared { IsPreparedFor qp.now prepared.now }
+    requires in_box { IsInBox qp.now.counts (point_of counts.now) }
+
+    // The choice is admissible, and every other admissible choice costs more.
+    ensures best { IfOk result (λ o. IfBest o (IsCheapest qp.now (point_of counts.now))) }
+
+    // The multipliers refute the rows at the state, so no choice is admissible.
+    ensures refuted { IfOk result (λ o. IfRefuted o (Refutes (state_system qp.now (point_of counts.now)))) }
+    ensures one_each { IfOk result (λ o. IfRefuted o (λ m. length m ≡ height qp.now.g)) }
+    ensures infeasible { IfOk result (λ o. IfRefuted o (λ _. (z : List ℚ) → ¬ IsFeasible qp.now (point_of counts.now) z)) }
+
+    // The answer is the end of the stated run, which has one end.
+    ensures end { IfOk result (λ o. IsRunEnd qp.now (point_of counts.now) (answered o)) }
+    ensures wide { MatchResult result (λ _. ⊤) (λ e. IfWide e (λ step. IsRunEnd qp.now (point_of counts.now) (wide_in step))) }
+{
+    cheapest_laws();
+    system_laws();
+    answer(alloc, qp, prepared, counts)
 }
 
 /// The cheapest admissible choice of the program's unknowns at the counts, or multipliers that show that there is none, by a dual active-set
@@ -77,7 +112,6 @@ pub fn solve_at(alloc: Global, qp: &Qp, counts: &[u64]) -> Result<Online, Online
     ensures end { IfOk result (λ o. IsRunEnd qp.now (point_of counts.now) (answered o)) }
     ensures wide { MatchResult result (λ _. ⊤) (λ e. IfWide e (λ step. IsRunEnd qp.now (point_of counts.now) (wide_in step))) }
 {
-    cheapest_laws();
-    system_laws();
-    answer(alloc, qp, counts)
+    let nothing = Prepared { kept: None };
+    solve_prepared(alloc, qp, &nothing, counts)
 }

@@ -10,12 +10,15 @@ ghost use Rattle.mpc_online.specs.Turns.{IsTurn};
 ghost use Rattle.mpc_online.specs.Widths.{StepFits, FirstFits, TurnFits};
 ghost use Rattle.mpc_online.specs.OnlineRun.{IsStep, IsOpening, IsRunEnd, LeadsTo, answered, wide_in};
 ghost use Rattle.mpc_online.specs.Standing.{IsPosition, IsAnswer};
+ghost use Rattle.mpc_online.specs.Shared.{IsPreparedFor};
 ghost use Rattle.mpc_online.specs.Answers.{IfWide, IfStopWide, position_of, step_of};
 ghost use Rattle.mpc_rows.specs.ActiveSets.{IsInBox};
 
 use crate::counts::extended;
-use crate::matrices::{opening_right, step_right};
+use crate::directions::step_solution;
+use crate::matrices::opening_right;
 use crate::moves::{Iterate, dropped, moved, row_joined};
+use crate::prepared::Prepared;
 use crate::refuting::row_multipliers;
 use crate::solutions::{Stop, part, products, solution};
 use crate::tests_of_rows::first_violated;
@@ -122,16 +125,22 @@ fn take_turn(
 }
 
 /// One step.
-fn advance(alloc: Global, qp: &Qp, sides: &[Frac], it: Iterate) -> Result<Next, Stop>
+fn advance(
+    alloc: Global,
+    qp: &Qp,
+    prepared: &Prepared,
+    sides: &[Frac],
+    it: Iterate,
+) -> Result<Next, Stop>
     requires definite { IsDefinite qp.now.h.rows }
+    requires prepared { IsPreparedFor qp.now prepared.now }
     requires position { IsPosition qp.now (position_of it) }
     requires sides { length sides.now ≡ height qp.now.g }
     ensures steps { IfOk result (λ next. IsStep qp.now sides.now (position_of it) (step_of next)) }
     ensures wide { MatchResult result (λ _. StepFits qp.now sides.now (position_of it))
         (λ stop. IfStopWide stop (¬ StepFits qp.now sides.now (position_of it))) }
 {
-    let right = step_right(alloc, qp, it.set, it.row)?;
-    let x = solution(alloc, qp, it.set, &right)?;
+    let x = step_solution(alloc, qp, prepared, it.set, it.row)?;
     let d = part(alloc, &x, 0, qp.h.rows())?;
     let e = part(alloc, &x, qp.h.rows(), it.set.size())?;
     let turn = turn_of(qp, sides, &it, &d, &e)?;
@@ -139,9 +148,15 @@ fn advance(alloc: Global, qp: &Qp, sides: &[Frac], it: Iterate) -> Result<Next, 
 }
 
 /// The run from step 0 to its end.
-pub fn answer(alloc: Global, qp: &Qp, counts: &[u64]) -> Result<Online, OnlineError>
+pub fn answer(
+    alloc: Global,
+    qp: &Qp,
+    prepared: &Prepared,
+    counts: &[u64],
+) -> Result<Online, OnlineError>
     requires definite { IsDefinite qp.now.h.rows }
     requires symmetric { IsSymmetric qp.now.h.rows }
+    requires prepared { IsPreparedFor qp.now prepared.now }
     requires in_box { IsInBox qp.now.counts (point_of counts.now) }
     ensures answer { IfOk result (λ o. IsAnswer qp.now (point_of counts.now) o) }
     ensures end { IfOk result (λ o. IsRunEnd qp.now (point_of counts.now) (answered o)) }
@@ -165,7 +180,7 @@ pub fn answer(alloc: Global, qp: &Qp, counts: &[u64]) -> Result<Online, OnlineEr
     };
     let mut step: u64 = 1;
     'steps: loop {
-        match advance(alloc, qp, &sides, it) {
+        match advance(alloc, qp, prepared, &sides, it) {
             Ok(Next::Goes(next)) => it = next,
             Ok(Next::Ends(online)) => return Ok(online),
             Err(Stop::Wide) => return Err(OnlineError::Wide(step)),

@@ -10,11 +10,12 @@ ghost use Rattle.mpc_frac.specs.Text.{text_of};
 ghost use Rattle.mpc_rows.specs.ActiveSets.{IsInBox};
 ghost use Rattle.mpc_plant.specs.Trajectory.{point_of};
 ghost use Rattle.mpc_controller.specs.Replies.{first_outside};
+ghost use Rattle.mpc_online.specs.Shared.{IsPreparedFor};
 ghost use Rattle.mpc_states.specs.StateLines.{IsOf, AreStateLines, AddsLine, AddsStateLine};
 
 use itoa::Buffer;
 use mpc_frac::{Frac, NoMemory};
-use mpc_online::{Online, OnlineError, run_laws, solve_at};
+use mpc_online::{Online, OnlineError, Prepared, prepare, run_laws, solve_prepared};
 use mpc_replies::{first_line, read_counts};
 use mpc_rows::Qp;
 use std::alloc::Global;
@@ -77,18 +78,20 @@ fn find_outside(limits: &[u64], counts: &[u64]) -> Option<u32>
 fn add_state_line(
     alloc: Global,
     program: &Qp,
+    prepared: &Prepared,
     inputs: usize,
     counts: &[u64],
     text: &mut Vec<u8>,
 ) -> Result<(), NoMemory>
     requires definite { IsDefinite program.now.h.rows }
     requires symmetric { IsSymmetric program.now.h.rows }
+    requires prepared { IsPreparedFor program.now prepared.now }
     requires inputs { inputs ≤ height program.now.h }
     requires in_box { IsInBox program.now.counts (point_of counts.now) }
     ensures { OnOk result (AddsStateLine (IsOf program.now inputs) program.now (point_of counts.now) text.old.items text.new.items) }
 {
     run_laws();
-    match solve_at(alloc, program, counts) {
+    match solve_prepared(alloc, program, prepared, counts) {
         Ok(Online::Best(moves)) => {
             let all = moves.as_slice();
             add_moves(text, &all[..inputs])
@@ -103,6 +106,7 @@ fn add_state_line(
 fn add_line(
     alloc: Global,
     program: &Qp,
+    prepared: &Prepared,
     inputs: usize,
     line: &[u8],
     counts: &mut Vec<u64>,
@@ -110,6 +114,7 @@ fn add_line(
 ) -> Result<(), NoMemory>
     requires definite { IsDefinite program.now.h.rows }
     requires symmetric { IsSymmetric program.now.h.rows }
+    requires prepared { IsPreparedFor program.now prepared.now }
     requires inputs { inputs ≤ height program.now.h }
     ensures { OnOk result (AddsLine (IsOf program.now inputs) program.now (length program.now.counts) line.now text.old.items text.new.items) }
 {
@@ -119,7 +124,7 @@ fn add_line(
     let point = counts.as_slice();
     match find_outside(program.counts.as_slice(), point) {
         Some(coordinate) => add_outside(text, coordinate),
-        None => add_state_line(alloc, program, inputs, point, text),
+        None => add_state_line(alloc, program, prepared, inputs, point, text),
     }
 }
 
@@ -136,11 +141,20 @@ pub(crate) fn state_lines(
     requires inputs { inputs ≤ height program.now.h }
     ensures { IfOk result (λ text. AreStateLines (IsOf program.now inputs) program.now (length program.now.counts) (lines input.now) text.items) }
 {
+    let prepared = prepare(alloc, program)?;
     let mut text = Vec::new(alloc);
     let mut counts = Vec::new(alloc);
     let mut rest = input;
     while let Some((line, after)) = first_line(rest) {
-        add_line(alloc, program, inputs, line, &mut counts, &mut text)?;
+        add_line(
+            alloc,
+            program,
+            &prepared,
+            inputs,
+            line,
+            &mut counts,
+            &mut text,
+        )?;
         rest = after;
     }
     Ok(text)

@@ -9,7 +9,7 @@ use Rattle.mpc_online.specs.StateRows.{point_of, state_system}
 use Rattle.mpc_online.specs.Standing.{IsAnswer}
 use Rattle.mpc_online.specs.Answers.{IfBest, IfRefuted}
 use Rattle.mpc_online.proofs.Found.{best_found, refuted_found, size_found, none_found}
-use Rattle.mpc_online.proofs.solve_at.Goals as goal
+use Rattle.mpc_online.proofs.solve_prepared.Goals as goal
 
 pub returns-clause-best : goal.returns-clause-best
 returns-clause-best c =

@@ -1,0 +1,34 @@
+-- What the equations of all active sets of a program have in common.
+use Rattle.std.specs.Prelude.{◌≡◌, ℕ, ◌+◌, ◌-◌, ◌<◌, nat_lt, cond, List, length, get_or, pos, IfSome}
+use Rattle.mpc_exact.specs.Rational.{ℚ, int, neg_ℚ}
+use Rattle.mpc_space.specs.Matrix.{RationalMatrix, height, tabled, entry}
+use Rattle.mpc_rows.specs.declared.programs.Qp.{Qp}
+use Rattle.mpc_bordered.specs.declared.kept.Kept.{Kept}
+use Rattle.mpc_online.specs.declared.prepared.Prepared.{Prepared}
+
+-- the rows [h, g', -g']
+abbrev pub upper_entry : Qp → ℕ → ℕ → ℚ
+upper_entry qp i j =
+    let n = height qp.h in
+    let r = height qp.g in
+    cond (nat_lt j n) (entry qp.h i j) (cond (nat_lt j (n + r)) (entry qp.g (j - n) i) (neg_ℚ (entry qp.g (j - n - r) i)))
+
+-- the table [[h, g', -g'], [g, 0, 0]]: the equations of a step have some of its rows and columns
+abbrev pub shared_entry : Qp → ℕ → ℕ → ℚ
+shared_entry qp i j = cond (nat_lt i (height qp.h)) (upper_entry qp i j) (cond (nat_lt j (height qp.h)) (entry qp.g (i - height qp.h) j) (int (pos 0)))
+
+unfoldable pub shared_table : Qp → RationalMatrix
+shared_table qp = tabled (height qp.h + height qp.g) (height qp.h + height qp.g + height qp.g) (shared_entry qp)
+
+-- where the members of a set stand among the rows and the columns of the table
+pub record AreMemberPlaces (n : ℕ) (s places : List ℕ) : Type 0 where
+  pub size : length places ≡ length s
+  pub at : (k : ℕ) → k < length s → get_or places k 0 ≡ n + (get_or s k 0 - 1)
+
+-- what is kept is kept of that table, with the columns of h eliminated
+pub record IsKeptOf (qp : Qp) (k : Kept) : Type 0 where
+  pub table : k.table ≡ shared_table qp
+  pub front : k.front ≡ height qp.h
+
+abbrev pub IsPreparedFor : Qp → Prepared → Type 0
+IsPreparedFor qp p = IfSome p.kept (IsKeptOf qp)
