@@ -1,10 +1,14 @@
 pub mod RowWriting
 pub mod Members
+pub mod SharedParts
 pub mod Endings
 pub mod Kernels
 pub mod Products
 pub mod LawTheorem
 pub mod LawForms
 pub mod LawEnds
+pub mod SharedLaws
 pub mod LawRowLists
 pub mod Decisions
+pub mod ReachRuns
+pub mod BoxRuns

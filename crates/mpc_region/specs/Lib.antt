@@ -1,2 +1,4 @@
 pub mod Writing
 pub mod LawEnd
+pub mod Kept
+pub mod Shared

@@ -1,6 +1,6 @@
 //! The law of an active set.
 
-ghost use Rattle.std.specs.Prelude.{◌≡◌, ◌+◌, ◌≤◌, IfOk, length};
+ghost use Rattle.std.specs.Prelude.{◌≡◌, ◌+◌, ◌≤◌, IfOk, IfSome, length};
 ghost use Rattle.mpc_space.specs.Definite.{IsDefinite};
 ghost use Rattle.mpc_space.specs.Matrix.{height};
 ghost use Rattle.mpc_sets.specs.RowSet.{IsSetOfRows};
@@ -8,11 +8,14 @@ ghost use Rattle.mpc_linear.specs.Solution.{IsOnlySolution};
 ghost use Rattle.mpc_rows.specs.Laws.{IsLaw};
 ghost use Rattle.mpc_rows.specs.SetRuns.{law_matrix, law_right};
 ghost use Rattle.mpc_region.specs.LawEnd.{IsLawEnd};
+ghost use Rattle.mpc_region.specs.Shared.{IsKeptTable, IsSharedBySets};
 
 use crate::matrices::{law_matrix, law_right, part};
+use crate::shared::{Shared, member_places, side_places};
+use mpc_bordered::{Kept, solve_part};
 use mpc_frac::NoMemory;
 use mpc_linear::{LinearError, Matrix, Solved, solve};
-use mpc_rows::{Law, Qp};
+use mpc_rows::{Law, Qp, law_laws};
 use mpc_sets::ActiveSet;
 use std::alloc::Global;
 
@@ -44,7 +47,7 @@ fn law_from(alloc: Global, qp: &Qp, set: ActiveSet, x: &Matrix) -> Result<Law, N
 }
 
 /// The law of an active set, by elimination of its equations.
-pub fn law_of(alloc: Global, qp: &Qp, set: ActiveSet) -> Result<LawEnd, NoMemory>
+fn law_anew(alloc: Global, qp: &Qp, set: ActiveSet) -> Result<LawEnd, NoMemory>
     requires definite { IsDefinite qp.now.h.rows }
     requires set_of_rows { IsSetOfRows (height qp.now.g) set }
     requires few { length set ≤ height qp.now.h }
@@ -58,4 +61,46 @@ pub fn law_of(alloc: Global, qp: &Qp, set: ActiveSet) -> Result<LawEnd, NoMemory
         Err(LinearError::Wide(_)) => Ok(LawEnd::Wide),
         Err(LinearError::NoMemory) => Err(NoMemory),
     }
+}
+
+/// The law of an active set, by what is kept for all sets of the program. Nothing where that isn't enough.
+fn law_by_table(
+    alloc: Global,
+    qp: &Qp,
+    table: &Kept,
+    set: ActiveSet,
+) -> Result<Option<LawEnd>, NoMemory>
+    requires definite { IsDefinite qp.now.h.rows }
+    requires table { IsKeptTable qp.now table.now }
+    requires set_of_rows { IsSetOfRows (height qp.now.g) set }
+    requires few { length set ≤ height qp.now.h }
+    ensures { IfOk result (λ o. IfSome o (IsLawEnd qp.now set)) }
+{
+    law_laws();
+    let unknowns = qp.h.rows();
+    let places = member_places(alloc, unknowns, set)?;
+    let sides = side_places(alloc, unknowns + qp.g.rows(), qp.f.cols())?;
+    match solve_part(alloc, table, &places, &sides) {
+        Ok(None) => Ok(None),
+        Ok(Some(Solved::Unique(x))) => Ok(Some(LawEnd::Found(law_from(alloc, qp, set, &x)?))),
+        Ok(Some(Solved::Dependent(_))) => Ok(Some(LawEnd::Dependent)),
+        Err(LinearError::Wide(_)) => Ok(Some(LawEnd::Wide)),
+        Err(LinearError::NoMemory) => Err(NoMemory),
+    }
+}
+
+/// The law of an active set: by what is kept for all sets of the program, and where that isn't enough by an elimination of its own.
+pub fn law_of(alloc: Global, qp: &Qp, shared: &Shared, set: ActiveSet) -> Result<LawEnd, NoMemory>
+    requires definite { IsDefinite qp.now.h.rows }
+    requires shared { IsSharedBySets qp.now shared.now }
+    requires set_of_rows { IsSetOfRows (height qp.now.g) set }
+    requires few { length set ≤ height qp.now.h }
+    ensures { IfOk result (IsLawEnd qp.now set) }
+{
+    if let Some(table) = &shared.table {
+        if let Some(end) = law_by_table(alloc, qp, table, set)? {
+            return Ok(end);
+        }
+    }
+    law_anew(alloc, qp, set)
 }

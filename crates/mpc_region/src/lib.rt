@@ -7,18 +7,24 @@ ghost use Rattle.mpc_space.specs.Matrix.{height};
 ghost use Rattle.mpc_sets.specs.RowSet.{IsSetOfRows};
 ghost use Rattle.mpc_rows.specs.Verdicts.{IsRight};
 
+mod examiner;
+mod kept;
 mod law;
 mod matrices;
 mod points;
 mod reach;
 mod region;
+mod shared;
 mod verdicts;
 
+pub use examiner::Examiner;
+use kept::kept_of;
 use mpc_frac::NoMemory;
 use mpc_rows::{Judged, Qp};
 use mpc_sets::ActiveSet;
 pub use points::has_point;
 pub use region::law_rows;
+use shared::Shared;
 use std::alloc::Global;
 use verdicts::verdict_on;
 
@@ -28,7 +34,8 @@ use verdicts::verdict_on;
 /// Its law is found by elimination, a state that reaches it and a point of its region by the
 /// simplex method with the rule of least numbers. The first of these runs that decides ends the
 /// search, and so does the first with a number that needs more than 128 bits: the verdict is then
-/// `Wide` with the place of that run. Refused memory is the only error.
+/// `Wide` with the place of that run. Refused memory is the only error. Several sets of one program
+/// are examined faster by one [`Examiner`].
 pub fn examine(alloc: Global, qp: &Qp, set: ActiveSet) -> Result<Judged, NoMemory>
     requires definite { IsDefinite qp.now.h.rows }
     requires set_of_rows { IsSetOfRows (height qp.now.g) set }
@@ -36,6 +43,8 @@ pub fn examine(alloc: Global, qp: &Qp, set: ActiveSet) -> Result<Judged, NoMemor
     ensures set { IfOk result (λ j. j.set ≡ set) }
     ensures right { IfOk result (λ j. IsRight qp.now set j.verdict) }
 {
-    let verdict = verdict_on(alloc, qp, set)?;
+    let shared = Shared { table: None };
+    let mut kept = kept_of(alloc, qp)?;
+    let verdict = verdict_on(alloc, qp, &shared, &mut kept, set)?;
     Ok(Judged::of(set, verdict))
 }

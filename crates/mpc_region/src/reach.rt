@@ -1,22 +1,24 @@
 //! Whether a set can be reached.
 
-ghost use Rattle.std.specs.Prelude.{IsTrue, ◌↔◌, IfOk, MatchResult};
+ghost use Rattle.std.specs.Prelude.{◌≡◌, IsTrue, ◌↔◌, IfOk, MatchResult};
 ghost use Rattle.mpc_space.specs.Matrix.{height};
 ghost use Rattle.mpc_sets.specs.RowSet.{IsSetOfRows};
 ghost use Rattle.mpc_rows.specs.RunWidth.{RunFits};
 ghost use Rattle.mpc_rows.specs.ActiveSets.{IsReachable};
 ghost use Rattle.mpc_rows.specs.SetRuns.{reach_system};
 ghost use Rattle.mpc_simplex.specs.Answer.{IfWide};
+ghost use Rattle.mpc_region.specs.Kept.{IsKept, IsReachRun};
 
+use crate::kept::{Kept, turn_to};
 use crate::points::has_point;
 use mpc_rows::{Qp, region_laws};
 use mpc_sets::ActiveSet;
-use mpc_simplex::SimplexError;
+use mpc_simplex::{Beginning, SimplexError};
 use mpc_systems::reach_system;
 use std::alloc::Global;
 
-/// Whether some state of the box and some unknowns satisfy all rows, those of the set with equality.
-pub fn is_reachable(alloc: Global, qp: &Qp, set: ActiveSet) -> Result<bool, SimplexError>
+/// Whether the set's system has a point, by a run of its own.
+fn is_reachable_anew(alloc: Global, qp: &Qp, set: ActiveSet) -> Result<bool, SimplexError>
     requires { IsSetOfRows (height qp.now.g) set }
     ensures answer { IfOk result (λ yes. IsTrue yes ↔ IsReachable qp.now set) }
     ensures wide { MatchResult result (λ _. RunFits (reach_system qp.now set)) (λ e. IfWide e (¬ RunFits (reach_system qp.now set))) }
@@ -26,4 +28,42 @@ pub fn is_reachable(alloc: Global, qp: &Qp, set: ActiveSet) -> Result<bool, Simp
         return Err(SimplexError::NoMemory);
     };
     has_point(alloc, &system)
+}
+
+/// The same by the run that is kept for the set, and where none is, by a run of its own.
+fn is_reachable_by(
+    alloc: Global,
+    qp: &Qp,
+    set: ActiveSet,
+    run: &Option<Beginning>,
+) -> Result<bool, SimplexError>
+    requires set_of_rows { IsSetOfRows (height qp.now.g) set }
+    requires run { IsReachRun qp.now set run.now }
+    ensures answer { IfOk result (λ yes. IsTrue yes ↔ IsReachable qp.now set) }
+    ensures wide { MatchResult result (λ _. RunFits (reach_system qp.now set)) (λ e. IfWide e (¬ RunFits (reach_system qp.now set))) }
+{
+    region_laws();
+    match run {
+        Some(run) => Ok(run.has_point()),
+        None => is_reachable_anew(alloc, qp, set),
+    }
+}
+
+/// Whether some state of the box and some unknowns satisfy all rows, those of the set with equality.
+pub fn is_reachable(
+    alloc: Global,
+    qp: &Qp,
+    kept: &mut Kept,
+    set: ActiveSet,
+) -> Result<bool, SimplexError>
+    requires set_of_rows { IsSetOfRows (height qp.now.g) set }
+    requires kept { IsKept qp.now kept.old }
+    ensures kept { IsKept qp.now kept.new }
+    ensures answer { IfOk result (λ yes. IsTrue yes ↔ IsReachable qp.now set) }
+    ensures wide { MatchResult result (λ _. RunFits (reach_system qp.now set)) (λ e. IfWide e (¬ RunFits (reach_system qp.now set))) }
+{
+    let Ok(()) = turn_to(alloc, qp, kept, set) else {
+        return Err(SimplexError::NoMemory);
+    };
+    is_reachable_by(alloc, qp, set, &kept.reaches[set.size() as usize])
 }

@@ -1,16 +1,20 @@
 //! Whether the region of a law has a state of the box.
 
-ghost use Rattle.std.specs.Prelude.{IsTrue, ◌↔◌, IfOk, MatchResult, length};
+ghost use Rattle.std.specs.Prelude.{◌≡◌, IsTrue, ◌↔◌, IfOk, IfSome, MatchResult, length};
 ghost use Rattle.mpc_space.specs.Matrix.{height};
 ghost use Rattle.mpc_linear.specs.Answers.{IfWide as IfWideStep};
 ghost use Rattle.mpc_rows.specs.Laws.{HasLawShape, IsLaw, HasRegion};
 ghost use Rattle.mpc_rows.specs.LawRows.{AreLawRows};
-ghost use Rattle.mpc_rows.specs.SetRuns.{RegionFits, LawRowsFit};
+ghost use Rattle.mpc_rows.specs.RunWidth.{RunFits};
+ghost use Rattle.mpc_rows.specs.SetRuns.{RegionFits, LawRowsFit, region_system};
 ghost use Rattle.mpc_rows.specs.Verdicts.{IsFirstWideRow};
-ghost use Rattle.mpc_simplex.specs.Answer.{IfWide};
+ghost use Rattle.mpc_simplex.specs.Answer.{IfWide, HasPoint};
+ghost use Rattle.mpc_region.specs.Kept.{IsKept};
 ghost use Rattle.mpc_systems.specs.Writing.{AreOfSize};
 
+use crate::kept::Kept;
 use crate::points::has_point;
+use mpc_frac::NoMemory;
 use mpc_linear::{LinearError, RowInt};
 use mpc_rows::{Law, Qp, law_laws, law_row, region_laws};
 use mpc_simplex::SimplexError;
@@ -37,8 +41,8 @@ pub fn law_rows(alloc: Global, qp: &Qp, law: &Law) -> Result<Vec<RowInt>, Linear
     Ok(rows)
 }
 
-/// Whether the law's region has a state of the box, by the rows of the law.
-pub fn has_region(alloc: Global, qp: &Qp, law: &Law, rows: &[RowInt]) -> Result<bool, SimplexError>
+/// Whether the law's region has a state of the box, by a run of its own.
+fn has_region_anew(alloc: Global, qp: &Qp, law: &Law, rows: &[RowInt]) -> Result<bool, SimplexError>
     requires law { IsLaw qp.now law.now }
     requires rows { AreLawRows qp.now law.now rows.now }
     requires size { AreOfSize (length qp.now.counts) rows.now }
@@ -51,4 +55,49 @@ pub fn has_region(alloc: Global, qp: &Qp, law: &Law, rows: &[RowInt]) -> Result<
         return Err(SimplexError::NoMemory);
     };
     has_point(alloc, &system)
+}
+
+/// Whether the rows have a point in the box, by the run of the box that is kept. Nothing where that
+/// doesn't serve.
+fn meets_box(
+    alloc: Global,
+    _qp: &Qp,
+    kept: &mut Kept,
+    rows: &[RowInt],
+) -> Result<Option<bool>, NoMemory>
+    requires kept { IsKept _qp.now kept.old }
+    requires size { AreOfSize (length _qp.now.counts) rows.now }
+    ensures kept { IsKept _qp.now kept.new }
+    ensures answer { IfOk result (λ o. IfSome o (λ yes. IsTrue yes ↔ HasPoint (region_system _qp.now rows.now))) }
+    ensures fits { IfOk result (λ o. IfSome o (λ _. RunFits (region_system _qp.now rows.now))) }
+{
+    match &kept.states {
+        Some(run) => run.meets(alloc, &mut kept.work, rows),
+        None => Ok(None),
+    }
+}
+
+/// Whether the law's region has a state of the box, by the rows of the law.
+pub fn has_region(
+    alloc: Global,
+    qp: &Qp,
+    kept: &mut Kept,
+    law: &Law,
+    rows: &[RowInt],
+) -> Result<bool, SimplexError>
+    requires law { IsLaw qp.now law.now }
+    requires rows { AreLawRows qp.now law.now rows.now }
+    requires size { AreOfSize (length qp.now.counts) rows.now }
+    requires kept { IsKept qp.now kept.old }
+    ensures kept { IsKept qp.now kept.new }
+    ensures answer { IfOk result (λ yes. IsTrue yes ↔ HasRegion qp.now law.now) }
+    ensures wide { MatchResult result (λ _. RegionFits qp.now law.now) (λ e. IfWide e (¬ RegionFits qp.now law.now)) }
+{
+    region_laws();
+    law_laws();
+    match meets_box(alloc, qp, kept, rows) {
+        Ok(Some(yes)) => Ok(yes),
+        Ok(None) => has_region_anew(alloc, qp, law, rows),
+        Err(_) => Err(SimplexError::NoMemory),
+    }
 }

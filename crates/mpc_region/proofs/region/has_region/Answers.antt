@@ -1,8 +1,9 @@
-use Rattle.mpc_region.proofs.Decisions.{region_answer, region_wide}
+use Rattle.std.proofs.Common.{subst}
+use Rattle.mpc_rows.specs.RunWidth.{RunFits}
+use Rattle.mpc_rows.specs.SetRuns.{region_system}
 use Rattle.mpc_region.proofs.region.has_region.Goals as goal
 
-pub returns-clause-answer : goal.returns-clause-answer
-returns-clause-answer c = region_answer c.region_laws.ensures c.law_laws.ensures c.args.qp.now c.args.law.now c.requires.law c.args.rows.now c.requires.rows c.in-Ok.system c.in-Ok.ensures c.has_point.result c.has_point.ensures.answer
-
-pub returns-clause-wide : goal.returns-clause-wide
-returns-clause-wide c = region_wide c.region_laws.ensures c.law_laws.ensures c.args.qp.now c.args.law.now c.requires.law c.args.rows.now c.requires.rows c.in-Ok.system c.in-Ok.ensures c.has_point.result c.has_point.ensures.wide
+pub returns-in-Ok-Some-clause-wide : goal.returns-in-Ok-Some-clause-wide
+returns-in-Ok-Some-clause-wide c = λ rows are.
+    subst (λ xs. RunFits (region_system c.args.qp.now xs)) (c.law_laws.ensures.law_rows_unique c.args.qp.now c.args.law.now c.args.rows.now rows c.requires.rows are)
+    (rw c.in-Ok-Some.field-0-is at c.in-Ok-Some.ensures.fits)

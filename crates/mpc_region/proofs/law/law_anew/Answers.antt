@@ -2,7 +2,7 @@ use Rattle.std.proofs.Common.{sym, ◌∙◌, ap}
 use Rattle.mpc_space.specs.Matrix.{height}
 use Rattle.mpc_region.proofs.LawTheorem.{matrix_height, matrix_columns, right_height}
 use Rattle.mpc_region.proofs.LawEnds.{solution, found, dependent, wide}
-use Rattle.mpc_region.proofs.law.law_of.Goals as goal
+use Rattle.mpc_region.proofs.law.law_anew.Goals as goal
 
 pub solve-requires-clause-square : goal.solve-requires-clause-square
 solve-requires-clause-square c =

@@ -1,0 +1,69 @@
+-- The runs of a set's beginnings: the system of a set with one more member is that of the set with one more row.
+use Rattle.std.proofs.Common.{◌≡◌, ℕ, ◌+◌, ◌<◌, ◌≤◌, ◌++◌, List, [], ◌∷◌, length, get_or, take, map, Option, Some, None, Result, Ok, Err, IfOk, IfSome, refl, sym, ◌∙◌, ap, subst, subst₂, arith}
+use Rattle.std.proofs.lemmas.List.{append_assoc, map-append, take_more, take-take, length-take, get_or-take}
+use Rattle.mpc_space.specs.Matrix.{height}
+use Rattle.mpc_rows.specs.declared.programs.Qp.{Qp}
+use Rattle.mpc_rows.specs.declared.systems.Row.{Row}
+use Rattle.mpc_frac.specs.declared.NoMemory.{NoMemory}
+use Rattle.mpc_rows.specs.LinearSystem.{LinearSystem}
+use Rattle.mpc_rows.specs.SetRuns.{box_rows, joint_row, joint_rows, turned, reach_system}
+use Rattle.mpc_beginnings.specs.Beginnings.{lengthened}
+use Rattle.mpc_region.specs.Kept.{IsReachRun, AreReachRuns}
+
+module _ (qp : Qp) where
+  abbrev box : List Row
+  box = box_rows (length qp.counts + height qp.h) qp.counts
+
+  abbrev member_rows : List ℕ → List Row
+  member_rows set = map (λ i. turned (joint_row qp i)) set
+
+  pub reach_width : (set : List ℕ) → (reach_system qp set).width ≡ length qp.counts + height qp.h
+  unfolding reach_system
+  reach_width set = refl
+
+  reach_longer : (set : List ℕ) (i : ℕ) → lengthened (reach_system qp set) (turned (joint_row qp i) ∷ []) ≡ reach_system qp (set ++ i ∷ [])
+  unfolding reach_system
+  reach_longer set i = λ t. record {
+    width = length qp.counts + height qp.h;
+    rows = (append_assoc box (joint_rows qp ++ member_rows set) (member_rows (i ∷ []))
+        ∙ ap (λ z. box ++ z) (append_assoc (joint_rows qp) (member_rows set) (member_rows (i ∷ []))
+        ∙ ap (λ z. joint_rows qp ++ z) (sym (map-append (λ i. turned (joint_row qp i)) set (i ∷ []))))) t;
+  }
+
+  module _ (set : List ℕ) where
+    -- the run of one more member
+    module _ (k : ℕ) (kept : Option LinearSystem) (before : LinearSystem) (there : kept ≡ Some before) (is : IsReachRun qp (take k set) kept) where
+      before_is : before ≡ reach_system qp (take k set)
+      before_is = subst (IsReachRun qp (take k set)) there is
+
+      pub same_width : (width : ℕ) → width ≡ length qp.counts + height qp.h → width ≡ before.width
+      same_width width w = w ∙ sym (ap (λ (s : LinearSystem). s.width) before_is ∙ reach_width (take k set))
+
+      next_is : (i : ℕ) → k < length set → i ≡ get_or set k 0 → (row : Row) → row ≡ turned (joint_row qp i) → lengthened before (row ∷ []) ≡ reach_system qp (take (k + 1) set)
+      next_is i l e row r =
+          (λ t. lengthened (before_is t) (r t ∷ [])) ∙ reach_longer (take k set) i ∙ ap (λ j. reach_system qp (take k set ++ j ∷ [])) e
+          ∙ ap (reach_system qp) (sym (take_more set k 0 l))
+
+      pub reach_next : (i : ℕ) → k < length set → i ≡ get_or set k 0 → (row : Row) → row ≡ turned (joint_row qp i) → (r : Result (Option LinearSystem) NoMemory) → IfOk r (λ o. IfSome o (λ b. b ≡ lengthened before (row ∷ []))) → IfOk r (IsReachRun qp (take (k + 1) set))
+      reach_next i l e row r (Ok (Some b)) h = h ∙ next_is i l e row r
+      reach_next i l e row r (Ok None) h = h
+      reach_next i l e row r (Err x) h = h
+
+    -- ---- the list of runs
+    module _ (runs : List (Option LinearSystem)) (are : AreReachRuns qp set runs) where
+      pub runs_shared : (other : List ℕ) (shared : ℕ) → shared ≤ length set → shared ≤ length other → take shared set ≡ take shared other → (new : List (Option LinearSystem)) → new ≡ take (shared + 1) runs → AreReachRuns qp other new
+      runs_shared other shared in_one in_other alike new e = subst (AreReachRuns qp other) (sym e) (record { few = omega (arith, within); each = by })
+        where
+          within : length (take (shared + 1) runs) ≤ shared + 1
+          within = rw length-take (omega arith)
+
+          fewer : length (take (shared + 1) runs) ≤ length runs
+          fewer = rw length-take (omega arith)
+
+          by : (k : ℕ) → k < length (take (shared + 1) runs) → IsReachRun qp (take k other) (get_or (take (shared + 1) runs) k None)
+          by k h =
+              let l : k ≤ shared = omega (arith, within) in
+              subst₂ (λ s o. IsReachRun qp s o)
+              (sym (take-take k shared set l) ∙ ap (take k) alike ∙ take-take k shared other l)
+              (sym (get_or-take (shared + 1) runs k None (omega arith)))
+              (are.each k (omega (arith, fewer)))

@@ -1,0 +1,135 @@
+//! What is kept of a program from one of its sets to the next: the runs of the beginnings of the last set.
+
+ghost use Rattle.std.specs.Prelude.{◌≡◌, ◌+◌, ◌<◌, ◌≤◌, [], IfOk, OnOk, length, take, vec_len};
+ghost use Rattle.mpc_space.specs.Matrix.{height};
+ghost use Rattle.mpc_sets.specs.RowSet.{IsSetOfRows};
+ghost use Rattle.mpc_region.specs.Kept.{IsKept, IsReachRun};
+
+use mpc_frac::NoMemory;
+use mpc_rows::{Qp, law_laws};
+use mpc_sets::ActiveSet;
+use mpc_simplex::{Beginning, Workspace};
+use mpc_systems::{joint_row, reach_system, region_system, turned};
+use std::alloc::Global;
+
+/// What is kept of a program from one of its sets to the next.
+#[derive(Drop)]
+pub struct Kept {
+    /// The last set that was to be reached.
+    pub set: ActiveSet,
+    /// The run of the states that reach the first k members of the set, for k from 0 on: nothing where
+    /// whole numbers don't serve for it.
+    pub reaches: Vec<Option<Beginning>>,
+    /// The run of the box alone.
+    pub states: Option<Beginning>,
+    /// Lists for the runs of regions.
+    pub work: Workspace,
+}
+
+/// Nothing is kept yet but the run of the box, which takes no step.
+pub fn kept_of(alloc: Global, qp: &Qp) -> Result<Kept, NoMemory>
+    ensures { IfOk result (IsKept qp.now) }
+{
+    let system = region_system(alloc, qp, &[])?;
+    let states = Beginning::begin(alloc, &system)?;
+    Ok(Kept {
+        set: ActiveSet::empty(),
+        reaches: Vec::new(alloc),
+        states,
+        work: Workspace::new(alloc),
+    })
+}
+
+/// With how many members alike two sets begin.
+fn shared_members(one: ActiveSet, other: ActiveSet) -> u32
+    ensures in_one { result ≤ length one }
+    ensures in_other { result ≤ length other }
+    ensures alike { take result one ≡ take result other }
+{
+    let most = one.size().min(other.size());
+    for k in 0..most {
+        if one.member(k + 1) != other.member(k + 1) {
+            return k;
+        }
+    }
+    most
+}
+
+/// The run of the set without members.
+fn first_run(alloc: Global, qp: &Qp) -> Result<Option<Beginning>, NoMemory>
+    ensures { IfOk result (IsReachRun qp.now []) }
+{
+    let system = reach_system(alloc, qp, ActiveSet::empty())?;
+    Beginning::begin(alloc, &system)
+}
+
+/// The run of the first k + 1 members by that of the first k: the row of one more member, the other
+/// way round, comes behind.
+fn next_run(
+    alloc: Global,
+    qp: &Qp,
+    set: ActiveSet,
+    k: u32,
+    before: &Option<Beginning>,
+) -> Result<Option<Beginning>, NoMemory>
+    requires set_of_rows { IsSetOfRows (height qp.now.g) set }
+    requires member { k < length set }
+    requires before { IsReachRun qp.now (take k set) before.now }
+    ensures { IfOk result (IsReachRun qp.now (take (k + 1) set)) }
+{
+    law_laws();
+    prove!(k < set.size());
+    let Some(run) = before else {
+        return Ok(None);
+    };
+    let row = joint_row(alloc, qp, set.member(k + 1))?;
+    let further = turned(alloc, &row)?;
+    run.extend(alloc, &further)
+}
+
+/// One more run of the set. Without memory the others stay.
+fn push_run(alloc: Global, qp: &Qp, kept: &mut Kept) -> Result<(), NoMemory>
+    requires kept { IsKept qp.now kept.old }
+    requires set_of_rows { IsSetOfRows (height qp.now.g) kept.old.set }
+    requires room { vec_len kept.old.reaches ≤ length kept.old.set }
+    ensures kept { IsKept qp.now kept.new }
+    ensures set { kept.new.set ≡ kept.old.set }
+    ensures one_more { OnOk result (vec_len kept.new.reaches ≡ vec_len kept.old.reaches + 1) }
+{
+    let count = kept.reaches.len();
+    prove!(count <= kept.set.size() as usize);
+    let run = if count == 0 {
+        first_run(alloc, qp)?
+    } else {
+        next_run(
+            alloc,
+            qp,
+            kept.set,
+            count as u32 - 1,
+            &kept.reaches[count - 1],
+        )?
+    };
+    let Ok(()) = kept.reaches.push(run) else {
+        return Err(NoMemory);
+    };
+    Ok(())
+}
+
+/// Goes on to a set: the runs of the members with which the last set and this one begin alike stay, and
+/// each further member's comes behind. Without memory some of these are missing.
+pub fn turn_to(alloc: Global, qp: &Qp, kept: &mut Kept, set: ActiveSet) -> Result<(), NoMemory>
+    requires kept { IsKept qp.now kept.old }
+    requires set_of_rows { IsSetOfRows (height qp.now.g) set }
+    ensures kept { IsKept qp.now kept.new }
+    ensures set { kept.new.set ≡ set }
+    ensures whole { OnOk result (vec_len kept.new.reaches ≡ length set + 1) }
+{
+    let shared = shared_members(kept.set, set);
+    kept.reaches.truncate(shared as usize + 1);
+    kept.set = set;
+    let size = set.size() as usize;
+    for _count in kept.reaches.len()..size + 1 {
+        push_run(alloc, qp, kept)?;
+    }
+    Ok(())
+}

@@ -1,0 +1,127 @@
+//! The table whose parts are the equations of the laws of all sets of a program.
+
+ghost use Rattle.std.specs.Prelude.{◌≡◌, ◌+◌, ◌<◌, ◌≤◌, ◌^◌, IfOk, length};
+ghost use Rattle.mpc_space.specs.Matrix.{height};
+ghost use Rattle.mpc_region.specs.Shared.{upper_entry, lower_entry, shared_entry, shared_table, AreMemberPlaces, AreSidePlaces, IsSharedBySets};
+ghost use Rattle.mpc_region.specs.Writing.{WritesRow};
+
+use mpc_bordered::{Kept, keep};
+use mpc_frac::{Frac, NoMemory};
+use mpc_linear::Matrix;
+use mpc_rows::Qp;
+use mpc_sets::ActiveSet;
+use std::alloc::{AllocError, Global};
+
+/// What the laws of all sets of a program share: the elimination of its Hessian in their equations, where it is kept.
+#[derive(Drop)]
+pub struct Shared {
+    pub table: Option<Kept>,
+}
+
+/// The entry of `[h, g', -f]` in row i and column j.
+fn upper_entry(qp: &Qp, i: u32, j: u32) -> Frac
+    requires row { i < height qp.now.h }
+    requires column { j < height qp.now.h + height qp.now.g + (length qp.now.counts + 1) }
+    ensures { result ≡ upper_entry qp.now i j }
+{
+    let unknowns = qp.h.rows();
+    let rows = qp.g.rows();
+    if j < unknowns {
+        qp.h.get(i, j)
+    } else if j < unknowns + rows {
+        qp.g.get(j - unknowns, i)
+    } else {
+        qp.f.get(i, j - unknowns - rows).neg()
+    }
+}
+
+/// The entry of `[g, 0, w]` in row i and column j.
+fn lower_entry(qp: &Qp, i: u32, j: u32) -> Frac
+    requires row { i < height qp.now.g }
+    requires column { j < height qp.now.h + height qp.now.g + (length qp.now.counts + 1) }
+    ensures { result ≡ lower_entry qp.now i j }
+{
+    let unknowns = qp.h.rows();
+    let rows = qp.g.rows();
+    if j < unknowns {
+        qp.g.get(i, j)
+    } else if j < unknowns + rows {
+        Frac::whole(0)
+    } else {
+        qp.w.get(i, j - unknowns - rows)
+    }
+}
+
+/// The entry of `[[h, g', -f], [g, 0, w]]` in row i and column j.
+fn shared_entry(qp: &Qp, i: u32, j: u32) -> Frac
+    requires row { i < height qp.now.h + height qp.now.g }
+    requires column { j < height qp.now.h + height qp.now.g + (length qp.now.counts + 1) }
+    ensures { result ≡ shared_entry qp.now i j }
+{
+    let unknowns = qp.h.rows();
+    if i < unknowns {
+        upper_entry(qp, i, j)
+    } else {
+        lower_entry(qp, i - unknowns, j)
+    }
+}
+
+/// Writes row i of the table.
+fn write_shared(out: &mut Matrix, qp: &Qp, i: u32)
+    requires row { i < height out.old }
+    requires rows { height out.old ≡ height qp.now.h + height qp.now.g }
+    requires columns { out.old.columns ≡ height qp.now.h + height qp.now.g + (length qp.now.counts + 1) }
+    ensures { WritesRow out.old out.new i (shared_entry qp.now i) }
+{
+    let _rows = out.rows();
+    for j in 0..out.cols() {
+        out.set(i, j, shared_entry(qp, i, j));
+    }
+}
+
+/// The table `[[h, g', -f], [g, 0, w]]`.
+fn shared_table(alloc: Global, qp: &Qp) -> Result<Matrix, NoMemory>
+    ensures { IfOk result (λ m. m ≡ shared_table qp.now) }
+{
+    let size = qp.h.rows() + qp.g.rows();
+    let mut out = Matrix::zero(alloc, size, size + qp.f.cols())?;
+    for i in 0..size {
+        write_shared(&mut out, qp, i);
+    }
+    Ok(out)
+}
+
+/// What the laws of all sets of the program share.
+pub fn share(alloc: Global, qp: &Qp) -> Result<Shared, NoMemory>
+    ensures { IfOk result (IsSharedBySets qp.now) }
+{
+    let table = shared_table(alloc, qp)?;
+    let Ok(table) = keep(alloc, table, qp.h.rows()) else {
+        return Err(NoMemory);
+    };
+    Ok(Shared { table })
+}
+
+/// Where the members stand among the rows and the columns of the table, for so many unknowns.
+pub fn member_places(alloc: Global, unknowns: u32, set: ActiveSet) -> Result<Vec<u32>, AllocError>
+    requires { unknowns ≤ 6 }
+    ensures { IfOk result (λ places. AreMemberPlaces unknowns set places.items) }
+{
+    let mut places = Vec::with_capacity(alloc, set.size() as usize)?;
+    for k in 0..set.size() {
+        places.push(unknowns + (set.member(k + 1) - 1))?;
+    }
+    Ok(places)
+}
+
+/// So many columns of the table, from this one on.
+pub fn side_places(alloc: Global, first: u32, count: u32) -> Result<Vec<u32>, AllocError>
+    requires { first + count < 2 ^ 32 }
+    ensures { IfOk result (λ places. AreSidePlaces first count places.items) }
+{
+    let mut places = Vec::with_capacity(alloc, count as usize)?;
+    for k in 0..count {
+        places.push(first + k)?;
+    }
+    Ok(places)
+}
