@@ -1,5 +1,5 @@
 -- What a claim and its end do to a hand and to a pass.
-use Rattle.std.proofs.Common.{◌≡◌, ℕ, ◌+◌, ◌-◌, List, [], ◌∷◌, ◌++◌, map, length, Bool, true, false, Some, Ok, All, refl, sym, ap, ◌∙◌, subst, arith, eq-eqb}
+use Rattle.std.proofs.Common.{◌≡◌, ℕ, ◌+◌, ◌-◌, List, [], ◌∷◌, ◌++◌, map, length, Bool, true, false, true≢false, Some, Ok, All, refl, sym, ap, ◌∙◌, subst, arith, eq-eqb}
 use Rattle.std.specs.Prelude.{slice_get, if◌then◌else◌}
 use Rattle.std.proofs.lemmas.List.Elements.{All-push, All-nil}
 use Rattle.mpc_rows.specs.declared.programs.Qp.{Qp}
@@ -87,6 +87,20 @@ module _ (worker : ℕ) (turn : TurnId) (qp : Qp) (p : Known) (t : Ticket) (midd
         kept = λ f. subst (λ (k : Known). GivesNoneUp k.calls) (sym is)
             (All-push (λ (x : Call). is_drop x.1.kind ≡ false) (p.calls ++ (length c.0, e) ∷ []) (length d.0, e') (All-push (λ (x : Call). is_drop x.1.kind ≡ false) p.calls (length c.0, e) (i.kept refl) refl) (kept f));
       }
+
+-- a pass of a worker who fails
+pub failed_pass : (worker : ℕ) (failed : Bool) (turn : TurnId) (qp : Qp) (p : Known) → IsPassOf worker failed turn qp p → IsPassOf worker true turn qp p
+failed_pass worker failed turn qp p i = record {
+  turn_is = i.turn_is;
+  other = i.other;
+  empty = i.empty;
+  alone = i.alone;
+  program = i.program;
+  worker_is = i.worker_is;
+  own = i.own;
+  turns = i.turns;
+  kept = λ no. absurd (true≢false no);
+}
 
 -- a pass that was just split off
 pub split_off : (turn : TurnId) (qp : Qp) (lent worker : ℕ) (first p : Known) → first ≡ opening turn qp lent → p ≡ record first { first = false; lent = 0; worker = worker; calls = []; ended = [] } → IsPassOf worker false turn qp p

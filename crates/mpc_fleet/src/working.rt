@@ -1,6 +1,6 @@
 //! What workers do.
 
-ghost use Rattle.std.specs.Prelude.{◌≡◌, ◌⊎◌, ℕ, ◌<◌, ◌≤◌, true, false, length, vec_len, Ok, OnOk, OnErr, All, slice_index_or};
+ghost use Rattle.std.specs.Prelude.{◌≡◌, ◌⊎◌, ℕ, ◌<◌, ◌≤◌, true, false, length, vec_len, Ok, IfOk, OnOk, OnErr, All, slice_index_or};
 ghost use Rattle.mpc_space.specs.Definite.{IsDefinite};
 ghost use Rattle.mpc_space.specs.Matrix.{height};
 ghost use Rattle.mpc_sets.specs.RowSet.{IsSetOfRows};
@@ -20,7 +20,7 @@ use crate::waiting::{Listener, News, threads_for};
 use mpc_claim::{Claimed, Ticket, claim_laws, legal_laws};
 use mpc_frac::NoMemory;
 use mpc_port::Gate;
-use mpc_region::examine;
+use mpc_region::Examiner;
 use mpc_rows::Qp;
 use mpc_turn::{Pass, Turn};
 use std::alloc::Global;
@@ -72,20 +72,23 @@ fn work_on<T: Wait, G: Gate>(
     alloc: Global,
     turn: &Turn,
     gate: &G,
-    qp: &Qp,
+    _qp: &Qp,
+    examiner: &mut Examiner,
     pass: &mut Pass,
     ticket: Ticket,
 ) -> Result<(), NoMemory>
     requires turn { pass.old.turn ≡ turn.now }
-    requires definite { IsDefinite qp.now.h.rows }
-    requires program { pass.old.program ≡ qp.now }
+    requires definite { IsDefinite _qp.now.h.rows }
+    requires program { pass.old.program ≡ _qp.now }
+    requires examiner { examiner.old ≡ _qp.now }
     requires hand { InHand ticket pass.old }
-    requires set_of_rows { IsSetOfRows (height qp.now.g) ticket.set }
-    requires few { length ticket.set ≤ height qp.now.h }
+    requires set_of_rows { IsSetOfRows (height _qp.now.g) ticket.set }
+    requires few { length ticket.set ≤ height _qp.now.h }
+    ensures examiner { examiner.new ≡ examiner.old }
     ensures ok { OnOk result ((tag : Tag) × EndedAs pass.old ticket (Done tag) pass.new) }
     ensures err { OnErr result (EndedAs pass.old ticket Drop pass.new) }
 {
-    let judged = match examine(alloc, qp, ticket.set()) {
+    let judged = match examiner.examine(alloc, ticket.set()) {
         Ok(judged) => judged,
         Err(refused) => {
             let _ = turn.abandon_as(rt, pass, ticket);
@@ -106,10 +109,13 @@ fn try_program<T: Wait, G: Gate>(
     qp: &Qp,
     listener: &mut Listener,
     _worker: u32,
+    examiner: &mut Examiner,
     pass: &mut Pass,
 ) -> Result<Found, NoMemory>
     requires definite { IsDefinite qp.now.h.rows }
+    requires examiner { examiner.old ≡ qp.now }
     requires pass { IsPassOf _worker false turn.now qp.now pass.old }
+    ensures examiner { examiner.new ≡ examiner.old }
     ensures ok { OnOk result (IsPassOf _worker false turn.now qp.now pass.new) }
     ensures err { OnErr result (IsPassOf _worker true turn.now qp.now pass.new) }
     ensures idle { result ≡ Ok IdleFound → IsIdle qp.now pass.new.seen }
@@ -120,7 +126,7 @@ fn try_program<T: Wait, G: Gate>(
     match turn.claim_as(rt, pass) {
         Ok(Claimed::Job(ticket)) => {
             listener.report_claim(ticket.set().size());
-            match work_on(rt, alloc, turn, gate, qp, pass, ticket) {
+            match work_on(rt, alloc, turn, gate, qp, examiner, pass, ticket) {
                 Ok(()) => Ok(Found::Worked),
                 Err(refused) => Err(refused),
             }
@@ -141,6 +147,7 @@ fn try_from<T: Wait, G: Gate>(
     programs: &[Qp],
     listener: &mut Listener,
     worker: u32,
+    examiners: &mut [Examiner],
     passes: &mut [Pass],
     low: usize,
     high: usize,
@@ -148,7 +155,9 @@ fn try_from<T: Wait, G: Gate>(
     requires definite { All (λ (qp : Program). IsDefinite qp.h.rows) programs.now }
     requires low { low ≤ high }
     requires high { high ≤ length programs.now }
+    requires examiners { examiners.old ≡ programs.now }
     requires passes { AtEach (IsPassOf worker false) turns.now programs.now passes.old }
+    ensures examiners { examiners.new ≡ examiners.old }
     ensures ok { OnOk result (AtEach (IsPassOf worker false) turns.now programs.now passes.new) }
     ensures err { OnErr result (AtEach (IsPassOf worker true) turns.now programs.now passes.new) }
     ensures worked { (k : ℕ) → result ≡ Ok (RoundWorked k) → (low ≤ k) × (k < high) × FindNothing programs.now passes.new low k }
@@ -167,6 +176,7 @@ fn try_from<T: Wait, G: Gate>(
             &programs[k],
             listener,
             worker,
+            &mut examiners[k],
             &mut passes[k],
         ) {
             Ok(found) => {
@@ -194,12 +204,15 @@ fn try_all<T: Wait, G: Gate>(
     programs: &[Qp],
     listener: &mut Listener,
     worker: u32,
+    examiners: &mut [Examiner],
     passes: &mut [Pass],
     from: usize,
 ) -> Result<Round, NoMemory>
     requires definite { All (λ (qp : Program). IsDefinite qp.h.rows) programs.now }
     requires from { from ≤ length programs.now }
+    requires examiners { examiners.old ≡ programs.now }
     requires passes { AtEach (IsPassOf worker false) turns.now programs.now passes.old }
+    ensures examiners { examiners.new ≡ examiners.old }
     ensures ok { OnOk result (AtEach (IsPassOf worker false) turns.now programs.now passes.new) }
     ensures err { OnErr result (AtEach (IsPassOf worker true) turns.now programs.now passes.new) }
     ensures worked { (k : ℕ) → result ≡ Ok (RoundWorked k) → (k < length programs.now) × ComesFirst programs.now passes.new from k }
@@ -207,12 +220,12 @@ fn try_all<T: Wait, G: Gate>(
 {
     let last = programs.len();
     match try_from(
-        rt, alloc, turns, gate, programs, listener, worker, passes, from, last,
+        rt, alloc, turns, gate, programs, listener, worker, examiners, passes, from, last,
     ) {
         Ok(Round::Worked(k)) => Ok(Round::Worked(k)),
         Ok(Round::Idle) => {
             match try_from(
-                rt, alloc, turns, gate, programs, listener, worker, passes, 0, from,
+                rt, alloc, turns, gate, programs, listener, worker, examiners, passes, 0, from,
             ) {
                 Ok(Round::Worked(k)) => Ok(Round::Worked(k)),
                 Ok(_) => Ok(Round::Idle),
@@ -221,14 +234,30 @@ fn try_all<T: Wait, G: Gate>(
         }
         Ok(Round::Ended) => {
             try_from(
-                rt, alloc, turns, gate, programs, listener, worker, passes, 0, from,
+                rt, alloc, turns, gate, programs, listener, worker, examiners, passes, 0, from,
             )
         }
         Err(refused) => Err(refused),
     }
 }
 
+/// An examiner of each program, in order.
+fn examiners_of(alloc: Global, programs: &[Qp]) -> Result<Vec<Examiner>, NoMemory>
+    ensures { IfOk result (λ v. v.items ≡ programs.now) }
+{
+    let mut examiners = Vec::new(alloc);
+    for qp in programs {
+        let examiner = Examiner::begin(alloc, qp)?;
+        let Ok(()) = examiners.push(examiner) else {
+            return Err(NoMemory);
+        };
+    }
+    Ok(examiners)
+}
+
 /// Claims, examines and delivers until all programs have come to their end or memory is refused, at each step from the last program on.
+///
+/// The worker has one examiner of each program, and the sets that it claims of one come in rising order, so many begin as the last one did.
 ///
 /// Where no program has a set to claim, the worker waits for news. A worker that was woken has found its last program without a set before, so
 /// the next set that it claims is its first of a level, and it wakes another. So nobody sleeps who could have a set, and a level wakes no more
@@ -252,6 +281,10 @@ fn work<T: Wait, G: Gate>(
     ensures ended { Ended turns.now programs.now _workers seat.new }
     ensures worker { seat.new.worker ≡ seat.old.worker }
 {
+    let Ok(mut examiners) = examiners_of(alloc, programs) else {
+        seat.failed = true;
+        return;
+    };
     let mut at = 0;
     let mut listener = Listener::new(news);
     for _ in rt.forever() {
@@ -265,6 +298,7 @@ fn work<T: Wait, G: Gate>(
             programs,
             &mut listener,
             seat.worker,
+            examiners.as_mut_slice(),
             passes,
             at,
         ) {

@@ -16,7 +16,7 @@ mod tests;
 use mpc_claim::{Claimed, Registry, Ticket, claim_laws, legal_laws};
 use mpc_frac::NoMemory;
 use mpc_port::Gate;
-use mpc_region::examine;
+use mpc_region::Examiner;
 use mpc_rows::Qp;
 pub use pool::{WorkError, enumerate};
 use std::alloc::Global;
@@ -26,17 +26,20 @@ use std::alloc::Global;
 fn take_turn<G: Gate>(
     alloc: Global,
     registry: &mut Registry,
+    examiner: &mut Examiner,
     ticket: Ticket,
     gate: &G,
 ) -> Result<(), NoMemory>
+    requires examiner { examiner.old ≡ registry.old.program }
     requires definite { IsDefinite registry.old.program.h.rows }
     requires open_still { IsOpen registry.old.history ticket }
     requires set_of_rows { IsSetOfRows (height registry.old.program.g) ticket.set }
     requires few { length ticket.set ≤ height registry.old.program.h }
+    ensures examiner { examiner.new ≡ examiner.old }
     ensures ok { OnOk result (Delivers registry.old ticket registry.new) }
     ensures err { OnErr result (registry.new ≡ abandoned registry.old ticket) }
 {
-    let judged = match examine(alloc, registry.program(), ticket.set()) {
+    let judged = match examiner.examine(alloc, ticket.set()) {
         Ok(judged) => judged,
         Err(refused) => {
             let _ = registry.abandon(ticket);
@@ -59,9 +62,10 @@ pub fn enumerate_alone<G: Gate>(alloc: Global, qp: &Qp, gate: &G) -> Result<Regi
     legal_laws();
     claim_laws();
     let mut registry = Registry::begin(alloc, qp)?;
+    let mut examiner = Examiner::begin(alloc, qp)?;
     'turns: loop {
         match registry.claim(1)? {
-            Claimed::Job(ticket) => take_turn(alloc, &mut registry, ticket, gate)?,
+            Claimed::Job(ticket) => take_turn(alloc, &mut registry, &mut examiner, ticket, gate)?,
             Claimed::Idle => return Ok(registry),
             Claimed::Finished => return Ok(registry),
             Claimed::Stopped => return Ok(registry),

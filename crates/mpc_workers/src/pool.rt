@@ -13,7 +13,7 @@ ghost use Rattle.mpc_workers.specs.Seats.{AreNumbered, Ended, Fresh, IsDone, IsL
 use mpc_claim::{Claimed, Registry, Ticket, claim_laws, history_laws, legal_laws};
 use mpc_frac::NoMemory;
 use mpc_port::Gate;
-use mpc_region::examine;
+use mpc_region::Examiner;
 use mpc_rows::Qp;
 use mpc_turn::{Pass, Turn};
 use std::alloc::Global;
@@ -89,20 +89,23 @@ fn work_on<T: Wait, G: Gate>(
     alloc: Global,
     turn: &Turn,
     gate: &G,
-    qp: &Qp,
+    _qp: &Qp,
+    examiner: &mut Examiner,
     pass: &mut Pass,
     ticket: Ticket,
 ) -> Result<(), NoMemory>
     requires turn { pass.old.turn ≡ turn.now }
-    requires definite { IsDefinite qp.now.h.rows }
-    requires program { pass.old.program ≡ qp.now }
+    requires definite { IsDefinite _qp.now.h.rows }
+    requires program { pass.old.program ≡ _qp.now }
+    requires examiner { examiner.old ≡ _qp.now }
     requires hand { InHand ticket pass.old }
-    requires set_of_rows { IsSetOfRows (height qp.now.g) ticket.set }
-    requires few { length ticket.set ≤ height qp.now.h }
+    requires set_of_rows { IsSetOfRows (height _qp.now.g) ticket.set }
+    requires few { length ticket.set ≤ height _qp.now.h }
+    ensures examiner { examiner.new ≡ examiner.old }
     ensures ok { OnOk result ((tag : Tag) × EndedAs pass.old ticket (Done tag) pass.new) }
     ensures err { OnErr result (EndedAs pass.old ticket Drop pass.new) }
 {
-    let judged = match examine(alloc, qp, ticket.set()) {
+    let judged = match examiner.examine(alloc, ticket.set()) {
         Ok(judged) => judged,
         Err(refused) => {
             let _ = turn.abandon_as(rt, pass, ticket);
@@ -114,7 +117,8 @@ fn work_on<T: Wait, G: Gate>(
     Ok(())
 }
 
-/// Claims, examines and delivers until the end or until memory is refused.
+/// Claims, examines and delivers until the end or until memory is refused. The worker has one examiner,
+/// and the sets that it claims come in rising order, so many begin as the last one did.
 ///
 /// Where all sets of the level are claimed, the worker waits for news. News is that a worker has
 /// claimed its first set of a level, after which it wakes one sleeper, who claims too and wakes the
@@ -142,6 +146,10 @@ fn work<T: Wait, G: Gate>(
 {
     legal_laws();
     claim_laws();
+    let Ok(mut examiner) = Examiner::begin(alloc, qp) else {
+        seat.failed = true;
+        return;
+    };
     let mut level = 0;
     for _ in rt.forever() {
         let count = news.load(Ordering::SeqCst);
@@ -151,7 +159,16 @@ fn work<T: Wait, G: Gate>(
                     level = ticket.set().size();
                     wake_another(news);
                 }
-                match work_on(rt, alloc, turn, gate, qp, &mut seat.pass, ticket) {
+                match work_on(
+                    rt,
+                    alloc,
+                    turn,
+                    gate,
+                    qp,
+                    &mut examiner,
+                    &mut seat.pass,
+                    ticket,
+                ) {
                     Ok(()) => {}
                     Err(_) => {
                         seat.failed = true;

@@ -5,6 +5,7 @@ use Rattle.mpc_fleet.proofs.working.try_from.Given as goal
 
 abbrev pub invariant-loop-k : goal.invariant-loop-k
 invariant-loop-k g l = record {
+  examiners : l.examiners ≡ l.programs;
   passes : AtEach (IsPassOf l.worker false) l.turns l.programs l.passes;
   ended : l.ended ≡ true → SeeEnds l.programs l.passes l.low l.k;
   nothing : FindNothing l.programs l.passes l.low l.k;

@@ -1,9 +1,25 @@
-use Rattle.std.proofs.Common.{List, ℕ, sym, subst}
+use Rattle.std.proofs.Common.{◌≤◌, List, ℕ, length, sym, ◌∙◌, subst}
+use Rattle.mpc_space.specs.Definite.{IsDefinite}
+use Rattle.mpc_space.specs.Matrix.{height}
+use Rattle.mpc_sets.specs.RowSet.{IsSetOfRows}
 use Rattle.mpc_rows.specs.declared.programs.Qp.{Qp}
 use Rattle.mpc_rows.specs.Verdicts.{IsRight}
 use Rattle.mpc_fleet.proofs.working.work_on.Goals as goal
 
+pub examine-requires-clause-definite : goal.examine-requires-clause-definite
+examine-requires-clause-definite g c = subst (λ (q : Qp). IsDefinite q.h.rows) (sym c.requires.examiner) c.requires.definite
+
+pub examine-requires-clause-set_of_rows : goal.examine-requires-clause-set_of_rows
+examine-requires-clause-set_of_rows g c =
+    subst (λ (q : Qp). IsSetOfRows (height q.g) c.set.result) (sym c.requires.examiner)
+    (subst (λ (s : List ℕ). IsSetOfRows (height c.args._qp.now.g) s) (sym c.set.ensures) c.requires.set_of_rows)
+
+pub examine-requires-clause-few : goal.examine-requires-clause-few
+examine-requires-clause-few g c =
+    subst (λ (q : Qp). length c.set.result ≤ height q.h) (sym c.requires.examiner)
+    (subst (λ (s : List ℕ). length s ≤ height c.args._qp.now.h) (sym c.set.ensures) c.requires.few)
+
 pub deliver_as-requires-clause-right : goal.deliver_as-requires-clause-right
 deliver_as-requires-clause-right g c =
-    subst (λ (q : Qp). IsRight q c.args.ticket.set c.in-Ok.judged.verdict) (sym c.requires.program)
-    (subst (λ (s : List ℕ). IsRight c.args.qp.now s c.in-Ok.judged.verdict) c.set.ensures c.in-Ok.ensures.right)
+    subst (λ (q : Qp). IsRight q c.args.ticket.set c.in-Ok.judged.verdict) (c.requires.examiner ∙ sym c.requires.program)
+    (subst (λ (s : List ℕ). IsRight c.args.examiner.now s c.in-Ok.judged.verdict) c.set.ensures c.in-Ok.ensures.right)

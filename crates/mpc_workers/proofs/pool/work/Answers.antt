@@ -8,12 +8,13 @@ work_on-requires-clause-hand g c =
     let claimed = rw c.in-Ok-Job.field-0-is at c.in-Ok-Job.ensures in
     in_hand c.loop.seat.pass c.claim_as.new.pass c.in-Ok-Job.ticket c.legal_laws.ensures.appended c.loop.invariant.fresh.0.empty claimed
 
-pub loop-preserved-in-Ok : goal.loop-preserved-in-Ok
-loop-preserved-in-Ok g c =
+pub loop-preserved-in-Ok-work_on : goal.loop-preserved-in-Ok-work_on
+loop-preserved-in-Ok-work_on g c =
     let claimed = rw c.in-Ok-Job.field-0-is at c.in-Ok-Job.ensures in
-    let done = c.in-Ok.ensures.ok in
+    let done = c.in-Ok-work_on.ensures.ok in
     record {
       fresh = (one_job c.args.turn.now c.args.qp.now c.args._workers c.loop.seat c.in-Ok-Job.ticket c.claim_as.new.pass c.work_on.new.pass c.loop.invariant.fresh.0 c.loop.invariant.fresh.1 claimed (Done done.0) c.loop.seat.failed refl (λ _. refl) done.1, c.loop.invariant.fresh.1);
+      examiner = c.in-Ok-work_on.ensures.examiner ∙ c.loop.invariant.examiner;
       worker = same_worker c.args.turn.now c.args.qp.now c.args._workers c.loop.seat c.in-Ok-Job.ticket c.claim_as.new.pass c.work_on.new.pass c.loop.invariant.fresh.0 c.loop.invariant.fresh.1 claimed (Done done.0) done.1 ∙ c.loop.invariant.worker;
     }
 
