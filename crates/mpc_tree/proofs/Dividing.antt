@@ -1,5 +1,5 @@
 -- The growth of a tree by a split.
-use Rattle.std.proofs.Common.{◌≡◌, ℕ, ◌+◌, ◌<◌, List, [], ◌∷◌, ◌++◌, length, map, take, reverse, refl, sym, ◌∙◌, ap, subst, arith, inl, inr, ⊎_elim, Some, slice_get, get_or}
+use Rattle.std.proofs.Common.{◌≡◌, ℕ, ◌+◌, ◌<◌, List, [], ◌∷◌, ◌++◌, length, map, take, reverse, refl, sym, ◌∙◌, ap, subst, arith, inl, inr, ⊎_elim, Option, Some, slice_get, get_or}
 use Rattle.std.proofs.lemmas.Bool.{cases_eq}
 use Rattle.std.proofs.lemmas.List.{append_assoc, length-append, length-map, reverse-append}
 use Rattle.std.proofs.lemmas.List.Elements.{All-append, All-from_recursion, All-get_or}
@@ -15,12 +15,13 @@ use Rattle.mpc_rows.specs.declared.systems.Row.{Row}
 use Rattle.mpc_rows.specs.declared.places.Place.{Place}
 use Rattle.mpc_rows.specs.declared.trees.Node.{Node}
 use Rattle.mpc_rows.specs.declared.trees.Node.TheVariants.{Split}
-use Rattle.mpc_rows.specs.LinearSystem.{MeetsRow}
+use Rattle.mpc_rows.specs.LinearSystem.{LinearSystem, MeetsRow}
 use Rattle.mpc_rows.specs.LawRows.{whole_row, broken_row}
 use Rattle.mpc_systems.specs.CellLaws.{CellLaws}
 use Rattle.mpc_systems.specs.Writing.{HasBoxWidth, IsOfSize}
 use Rattle.mpc_tree.specs.declared.growth.OpenSide.{OpenSide}
 use Rattle.mpc_tree.specs.Borders.{IsBorder, AreBorders}
+use Rattle.mpc_tree.specs.CellRuns.{IsRunOf}
 use Rattle.mpc_tree.specs.Cells.{RegionMeets, NoneFailsBefore}
 use Rattle.mpc_tree.specs.Growth.{IsReady, IsSplitAt, IsLeafAt, IsBuilt}
 use Rattle.mpc_tree.specs.NodeRuns.{DividesAndFits, EndsAndFits, IsFittingTree}
@@ -85,31 +86,32 @@ module _ (qp : Qp) (laws : List Law) (borders : List (List RowInt)) (are : AreBo
       (λ p. s.before k row (omega arith) at_rows (fails_front qp cell.rows (whole_row s.row) row f))
       (cases_eq k i)
 
-  abbrev pub side : OpenSide
-  side = record { shared = length cell.rows; row = broken_row s.row; next = place + 1 }
+  abbrev pub side : Option LinearSystem → OpenSide
+  side run = record { shared = length cell.rows; row = broken_row s.row; run = run; next = place + 1 }
 
   seam : take (length cell.rows) (cell.rows ++ whole_row s.row ∷ []) ≡ cell.rows
   seam = take-append_seam cell.rows (whole_row s.row ∷ [])
 
-  module _ (root : Cell) (nodes : List Node) (stack : List OpenSide) (held : ℕ) (g : IsGrown qp laws root borders nodes cell stack held) where
-    turned : reverse (stack ++ side ∷ []) ≡ side ∷ reverse stack
-    turned = reverse-append stack (side ∷ [])
+  module _ (root : Cell) (nodes : List Node) (stack : List OpenSide) (held : ℕ) (g : IsGrown qp laws root borders nodes cell stack held) (run : Option LinearSystem) (kept : IsRunOf qp (cell.rows ++ broken_row s.row ∷ []) run) where
+    turned : reverse (stack ++ side run ∷ []) ≡ side run ∷ reverse stack
+    turned = reverse-append stack (side run ∷ [])
 
     abbrev longer : List Row
     longer = cell.rows ++ whole_row s.row ∷ []
 
-    sides : CellLaws → AreReady qp laws longer (side ∷ reverse stack)
+    sides : CellLaws → AreReady qp laws longer (side run ∷ reverse stack)
     sides points = (
       omega (arith, length-append cell.rows (whole_row s.row ∷ [])),
       subst (λ p. IsReady qp laws (record { rows = p ++ broken_row s.row ∷ []; next = place + 1 })) (sym seam) (no_ready points g.ready.width),
+      subst (λ p. IsRunOf qp (p ++ broken_row s.row ∷ []) run) (sym seam) kept,
       subst (λ p. AreReady qp laws p (reverse stack)) (sym seam) g.sides,
     )
 
     -- the trees of both sides make that of the cell
-    both : (left right : List Node) → IsBuilt qp laws (yes_side cell place s.row) left → IsBuilt qp laws (side_cell longer side) right → IsBuilt qp laws cell (Split s.row ∷ (left ++ right))
+    both : (left right : List Node) → IsBuilt qp laws (yes_side cell place s.row) left → IsBuilt qp laws (side_cell longer (side run)) right → IsBuilt qp laws cell (Split s.row ∷ (left ++ right))
     both left right y n = split cell place s.row left right s.divides y (subst (λ p. IsBuilt qp laws (record { rows = p ++ broken_row s.row ∷ []; next = place + 1 }) right) seam n)
 
-    completes : (first later : List Node) → IsBuilt qp laws (yes_side cell place s.row) first → AreTrees qp laws longer (side ∷ reverse stack) later → IsBuilt qp laws root ((nodes ++ Split s.row ∷ []) ++ (first ++ later))
+    completes : (first later : List Node) → IsBuilt qp laws (yes_side cell place s.row) first → AreTrees qp laws longer (side run ∷ reverse stack) later → IsBuilt qp laws root ((nodes ++ Split s.row ∷ []) ++ (first ++ later))
     completes first later b t =
         let rest : AreTrees qp laws cell.rows (reverse stack) t.1 = subst (λ p. AreTrees qp laws p (reverse stack) t.1) seam t.4 in
         let order : (nodes ++ Split s.row ∷ []) ++ (first ++ later) ≡ nodes ++ ((Split s.row ∷ (first ++ t.0)) ++ t.1) =
@@ -122,7 +124,7 @@ module _ (qp : Qp) (laws : List Law) (borders : List (List RowInt)) (are : AreBo
     wide_here : (at : Place) → IsFirstWide qp laws (yes_side cell place s.row) (length (nodes ++ Split s.row ∷ []) + 1) at → IsFirstWide qp laws root 1 at
     wide_here at w = g.wide_here at (in_yes cell (length nodes + 1) place s.row at s.divides (subst (λ n. IsFirstWide qp laws (yes_side cell place s.row) (n + 1) at) count w))
 
-    wide_later : (at : Place) (first : List Node) → IsBuilt qp laws (yes_side cell place s.row) first → IsWideAmong qp laws longer (side ∷ reverse stack) (length (nodes ++ Split s.row ∷ []) + 1 + length first) at → IsFirstWide qp laws root 1 at
+    wide_later : (at : Place) (first : List Node) → IsBuilt qp laws (yes_side cell place s.row) first → IsWideAmong qp laws longer (side run ∷ reverse stack) (length (nodes ++ Split s.row ∷ []) + 1 + length first) at → IsFirstWide qp laws root 1 at
     wide_later at first b (inl w) =
         let fits : IsFittingTree qp laws (yes_side cell place s.row) first = weakened (DividesAndFits qp laws) (DividesAndFits qp laws) (IsLeafAt qp laws) (EndsAndFits qp laws) (λ c p r h. h) (λ c n h. h.ends) (yes_side cell place s.row) first b in
         let here : IsFirstWide qp laws (no_side cell place s.row) (length (nodes ++ Split s.row ∷ []) + 1 + length first) at = subst (λ p. IsFirstWide qp laws (record { rows = p ++ broken_row s.row ∷ []; next = place + 1 }) (length (nodes ++ Split s.row ∷ []) + 1 + length first) at) seam w in
@@ -132,7 +134,7 @@ module _ (qp : Qp) (laws : List Law) (borders : List (List RowInt)) (are : AreBo
         let rest : IsWideAmong qp laws cell.rows (reverse stack) (length (nodes ++ Split s.row ∷ []) + 1 + length first + length w.0) at = subst (λ p. IsWideAmong qp laws p (reverse stack) (length (nodes ++ Split s.row ∷ []) + 1 + length first + length w.0) at) seam w.2 in
         g.wide_later at (Split s.row ∷ (first ++ w.0)) (both first w.0 b w.1) (subst (λ n. IsWideAmong qp laws cell.rows (reverse stack) n at) number rest)
 
-    pub grown_split : CellLaws → IsGrown qp laws root borders (nodes ++ Split s.row ∷ []) (yes_side cell place s.row) (stack ++ side ∷ []) (i + 1)
+    pub grown_split : CellLaws → IsGrown qp laws root borders (nodes ++ Split s.row ∷ []) (yes_side cell place s.row) (stack ++ side run ∷ []) (i + 1)
     grown_split points = record {
       ready = yes_ready g.ready.width;
       held_within = let inside : i < height qp.g = row_within in omega arith;
@@ -156,12 +158,12 @@ module _ (qp : Qp) (laws : List Law) (borders : List (List RowInt)) (are : AreBo
   pub plain_read : (row : RowInt) → row ≡ s.row → IsOfSize (length qp.counts) row
   plain_read row e = subst (IsOfSize (length qp.counts)) (sym e) row_plain
 
-  pub sides_read : (stack : List OpenSide) (row : RowInt) → row ≡ s.row → (sides : List OpenSide) → sides ≡ stack ++ record { shared = length cell.rows; row = broken_row row; next = place + 1 } ∷ [] → sides ≡ stack ++ record { shared = length cell.rows; row = broken_row s.row; next = place + 1 } ∷ []
-  sides_read stack row e sides o = o ∙ ap (λ r. stack ++ record { shared = length cell.rows; row = broken_row r; next = place + 1 } ∷ []) e
+  pub sides_read : (stack : List OpenSide) (run : Option LinearSystem) (row : RowInt) → row ≡ s.row → (sides : List OpenSide) → sides ≡ stack ++ record { shared = length cell.rows; row = broken_row row; run = run; next = place + 1 } ∷ [] → sides ≡ stack ++ record { shared = length cell.rows; row = broken_row s.row; run = run; next = place + 1 } ∷ []
+  sides_read stack run row e sides o = o ∙ ap (λ r. stack ++ record { shared = length cell.rows; row = broken_row r; run = run; next = place + 1 } ∷ []) e
 
-  pub grown_at : CellLaws → (root : Cell) (nodes : List Node) (stack : List OpenSide) (held : ℕ) → IsGrown qp laws root borders nodes cell stack held → (row : RowInt) → row ≡ s.row → (tree : List Node) (path : List Row) (sides : List OpenSide) → tree ≡ nodes ++ Split row ∷ [] → path ≡ cell.rows ++ whole_row row ∷ [] → sides ≡ stack ++ record { shared = length cell.rows; row = broken_row row; next = place + 1 } ∷ [] → IsGrown qp laws root borders tree (record { rows = path; next = place }) sides (i + 1)
-  grown_at points root nodes stack held g row e tree path sides t p o =
+  pub grown_at : CellLaws → (root : Cell) (nodes : List Node) (stack : List OpenSide) (held : ℕ) → IsGrown qp laws root borders nodes cell stack held → (run : Option LinearSystem) → IsRunOf qp (cell.rows ++ broken_row s.row ∷ []) run → (row : RowInt) → row ≡ s.row → (tree : List Node) (path : List Row) (sides : List OpenSide) → tree ≡ nodes ++ Split row ∷ [] → path ≡ cell.rows ++ whole_row row ∷ [] → sides ≡ stack ++ record { shared = length cell.rows; row = broken_row row; run = run; next = place + 1 } ∷ [] → IsGrown qp laws root borders tree (record { rows = path; next = place }) sides (i + 1)
+  grown_at points root nodes stack held g run kept row e tree path sides t p o =
       subst (λ x. IsGrown qp laws root borders x (record { rows = path; next = place }) sides (i + 1)) (sym (t ∙ ap (λ r. nodes ++ Split r ∷ []) e))
       (subst (λ x. IsGrown qp laws root borders (nodes ++ Split s.row ∷ []) (record { rows = x; next = place }) sides (i + 1)) (sym (p ∙ ap (λ r. cell.rows ++ whole_row r ∷ []) e))
-      (subst (λ x. IsGrown qp laws root borders (nodes ++ Split s.row ∷ []) (yes_side cell place s.row) x (i + 1)) (sym (sides_read stack row e sides o))
-      (grown_split root nodes stack held g points)))
+      (subst (λ x. IsGrown qp laws root borders (nodes ++ Split s.row ∷ []) (yes_side cell place s.row) x (i + 1)) (sym (sides_read stack run row e sides o))
+      (grown_split root nodes stack held g run kept points)))

@@ -1,5 +1,5 @@
 -- Why the growth ends: a split leaves fewer rows of its law to fail on the yes side, and fewer laws to meet the no side.
-use Rattle.std.proofs.Common.{◌≡◌, ℕ, suc, ◌+◌, ◌-◌, ◌*◌, ◌<◌, ◌≤◌, ◌^◌, List, [], ◌∷◌, ◌++◌, length, sum_by, sym, ◌∙◌, ap, subst, arith, lit<, ◌⊎◌, inl, inr, slice_get}
+use Rattle.std.proofs.Common.{◌≡◌, ℕ, suc, ◌+◌, ◌-◌, ◌*◌, ◌<◌, ◌≤◌, ◌^◌, List, [], ◌∷◌, ◌++◌, length, sum_by, sym, ◌∙◌, ap, subst, arith, lit<, ◌⊎◌, inl, inr, Option, slice_get}
 use Rattle.std.proofs.lemmas.Bool.{cases_order}
 use Rattle.std.proofs.lemmas.List.Sums.{sum_by-append}
 use Rattle.std.proofs.Math.Nat.{one-le-pow, pow-le-pow_right, pow-suc, mul-le-mul_right}
@@ -8,6 +8,7 @@ use Rattle.mpc_linear.specs.declared.integers.RowInt.{RowInt}
 use Rattle.mpc_rows.specs.declared.programs.Qp.{Qp}
 use Rattle.mpc_rows.specs.declared.laws.Law.{Law}
 use Rattle.mpc_rows.specs.declared.trees.Node.{Node}
+use Rattle.mpc_rows.specs.LinearSystem.{LinearSystem}
 use Rattle.mpc_rows.specs.LawRows.{broken_row}
 use Rattle.mpc_tree.specs.declared.growth.OpenSide.{OpenSide}
 use Rattle.mpc_tree.specs.Borders.{AreBorders}
@@ -92,15 +93,15 @@ module _ (qp : Qp) (laws : List Law) where
         by (inr (inl l)) = omega arith
         by (inr (inr l)) = absurd (g.holds s.rows (ap (slice_get borders) e ∙ s.is_border) i s.row l s.is_row s.fails)
 
-    pub smaller_split : weights (length laws) (height qp.g) place (i + 1) (stack ++ side qp laws borders are cell place i s ∷ []) < weights (length laws) (height qp.g) cell.next held stack
-    smaller_split =
+    pub smaller_split : (run : Option LinearSystem) → weights (length laws) (height qp.g) place (i + 1) (stack ++ side qp laws borders are cell place i s run ∷ []) < weights (length laws) (height qp.g) cell.next held stack
+    smaller_split run =
         let r = ranks (length laws) (height qp.g) cell.next place held i goes_on (place_within qp laws borders are cell place i s) g.held_within (row_within qp laws borders are cell place i s) past_held in
         let less : 3 ^ rank (length laws) (height qp.g) place (i + 1) + 3 ^ rank (length laws) (height qp.g) (place + 1) 0 < 3 ^ rank (length laws) (height qp.g) cell.next held = two_less _ _ _ r.0 r.1 in
-        let sum = one_more stack (side qp laws borders are cell place i s) in
+        let sum = one_more stack (side qp laws borders are cell place i s run) in
         omega arith
 
-    pub smaller_at : (row : RowInt) → row ≡ s.row → (sides : List OpenSide) → sides ≡ stack ++ record { shared = length cell.rows; row = broken_row row; next = place + 1 } ∷ [] → weights (length laws) (height qp.g) place (i + 1) sides < weights (length laws) (height qp.g) cell.next held stack
-    smaller_at row e sides o = subst (λ x. weights (length laws) (height qp.g) place (i + 1) x < weights (length laws) (height qp.g) cell.next held stack) (sym (sides_read qp laws borders are cell place i s stack row e sides o)) smaller_split
+    pub smaller_at : (run : Option LinearSystem) (row : RowInt) → row ≡ s.row → (sides : List OpenSide) → sides ≡ stack ++ record { shared = length cell.rows; row = broken_row row; run = run; next = place + 1 } ∷ [] → weights (length laws) (height qp.g) place (i + 1) sides < weights (length laws) (height qp.g) cell.next held stack
+    smaller_at run row e sides o = subst (λ x. weights (length laws) (height qp.g) place (i + 1) x < weights (length laws) (height qp.g) cell.next held stack) (sym (sides_read qp laws borders are cell place i s stack run row e sides o)) (smaller_split run)
 
   pub smaller_leaf : (next held : ℕ) (stack : List OpenSide) (o : OpenSide) → weights (length laws) (height qp.g) o.next 0 stack < weights (length laws) (height qp.g) next held (stack ++ o ∷ [])
   smaller_leaf next held stack o =

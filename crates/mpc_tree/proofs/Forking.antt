@@ -1,11 +1,12 @@
 -- A split in the upper part of the tree, as the code has it: the cells of its sides, and what they make together.
-use Rattle.std.proofs.Common.{◌≡◌, ℕ, ◌+◌, List, get_or, [], ◌∷◌, ◌++◌, sym, ◌∙◌, ap, subst, Result, Ok, Err, IfOk, IfErr}
+use Rattle.std.proofs.Common.{◌≡◌, ℕ, ◌+◌, List, get_or, [], ◌∷◌, ◌++◌, sym, ◌∙◌, ap, subst, subst₂, Option, Result, Ok, Err, IfOk, IfErr}
 use Rattle.std.proofs.lemmas.Result.{IfOk-weaker}
 use Rattle.mpc_linear.specs.declared.integers.RowInt.{RowInt}
 use Rattle.mpc_rows.specs.declared.programs.Qp.{Qp}
 use Rattle.mpc_rows.specs.declared.laws.Law.{Law}
 use Rattle.mpc_rows.specs.declared.systems.Row.{Row}
 use Rattle.mpc_rows.specs.declared.trees.Node.{Node}
+use Rattle.mpc_rows.specs.LinearSystem.{LinearSystem}
 use Rattle.mpc_rows.specs.LawRows.{whole_row, broken_row}
 use Rattle.mpc_systems.specs.CellLaws.{CellLaws}
 use Rattle.mpc_systems.specs.Writing.{HasBoxWidth}
@@ -13,6 +14,7 @@ use Rattle.mpc_tree.specs.declared.errors.TreeError.{TreeError}
 use Rattle.mpc_tree.specs.declared.errors.TreeError.TheVariants.{Wide, NoMemory}
 use Rattle.mpc_tree.specs.Borders.{AreBorders}
 use Rattle.mpc_tree.specs.Causes.{IfWide}
+use Rattle.mpc_tree.specs.CellRuns.{IsRunOf}
 use Rattle.mpc_tree.specs.Growth.{IsReady, IsSplitAt, IsLeafAt, IsBuilt}
 use Rattle.mpc_tree.specs.Joins.{AreJoined, IsRefusal}
 use Rattle.mpc_tree.specs.Trees.{Cell, yes_side, no_side, leaf}
@@ -33,6 +35,10 @@ module _ (qp : Qp) (laws : List Law) (borders : List (List RowInt)) (are : AreBo
 
   pub ready_no : (rows : List Row) → rows ≡ cell.rows ++ broken_row row ∷ [] → CellLaws → HasBoxWidth qp cell.rows → IsReady qp laws (record { rows = rows; next = place + 1 })
   ready_no rows e points w = on_no (IsReady qp laws) rows e (no_ready qp laws borders are cell place i s points w)
+
+  -- the no side has the run of where the row fails
+  pub run_no : (broken run : Option LinearSystem) → IsRunOf qp (cell.rows ++ broken_row s.row ∷ []) broken → (rows : List Row) → rows ≡ cell.rows ++ broken_row row ∷ [] → run ≡ broken → IsRunOf qp rows run
+  run_no broken run h rows e r = subst₂ (IsRunOf qp) (sym (e ∙ ap (λ z. cell.rows ++ broken_row z ∷ []) same)) (sym r) h
 
   -- ---- both sides
   module _ (yes_rows no_rows : List Row) (y : yes_rows ≡ cell.rows ++ whole_row row ∷ []) (n : no_rows ≡ cell.rows ++ broken_row row ∷ []) (first second result : Result (List Node) TreeError) where

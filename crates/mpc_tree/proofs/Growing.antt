@@ -1,5 +1,5 @@
 -- The growth of a tree: what is still to come, and why it ends.
-use Rattle.std.proofs.Common.{◌≡◌, ℕ, ◌+◌, ◌≤◌, List, [], ◌∷◌, ◌++◌, length, take, reverse, refl, sym, ◌∙◌, ap, subst, arith, ◌⊎◌, inl, inr, Some, slice_get}
+use Rattle.std.proofs.Common.{◌≡◌, ℕ, ◌+◌, ◌≤◌, List, [], ◌∷◌, ◌++◌, length, take, reverse, refl, sym, ◌∙◌, ap, subst, subst₂, arith, ◌⊎◌, inl, inr, Option, Some, slice_get}
 use Rattle.std.proofs.lemmas.List.{append-nil, append_assoc, length-append, reverse-append, take-append-le}
 use Rattle.mpc_space.specs.Matrix.{height}
 use Rattle.mpc_linear.specs.declared.integers.RowInt.{RowInt}
@@ -8,10 +8,12 @@ use Rattle.mpc_rows.specs.declared.laws.Law.{Law}
 use Rattle.mpc_rows.specs.declared.systems.Row.{Row}
 use Rattle.mpc_rows.specs.declared.places.Place.{Place}
 use Rattle.mpc_rows.specs.declared.trees.Node.{Node}
+use Rattle.mpc_rows.specs.LinearSystem.{LinearSystem}
 use Rattle.mpc_tree.specs.declared.growth.OpenSide.{OpenSide}
 use Rattle.mpc_tree.specs.declared.errors.TreeError.{TreeError}
 use Rattle.mpc_tree.specs.declared.errors.TreeError.TheVariants.{Wide, NoMemory}
 use Rattle.mpc_tree.specs.Causes.{IfWide}
+use Rattle.mpc_tree.specs.CellRuns.{IsRunOf}
 use Rattle.mpc_tree.specs.Cells.{NoneFailsBefore}
 use Rattle.mpc_tree.specs.Growth.{IsReady, IsLeafAt, IsBuilt}
 use Rattle.mpc_tree.specs.Trees.{Cell, leaf}
@@ -25,7 +27,7 @@ side_cell path o = record { rows = take o.shared path ++ o.row ∷ []; next = o.
 module _ (qp : Qp) (laws : List Law) where
   abbrev pub AreReady : List Row → List OpenSide → Type 0
   AreReady path [] = Unit {0}
-  AreReady path (o ∷ os) = (o.shared ≤ length path) × IsReady qp laws (side_cell path o) × AreReady (take o.shared path) os
+  AreReady path (o ∷ os) = (o.shared ≤ length path) × IsReady qp laws (side_cell path o) × IsRunOf qp (take o.shared path ++ o.row ∷ []) o.run × AreReady (take o.shared path) os
 
   -- the nodes are the trees of the open sides, one after the other
   abbrev pub AreTrees : List Row → List OpenSide → List Node → Type 0
@@ -46,7 +48,8 @@ module _ (qp : Qp) (laws : List Law) where
   ready_longer path r (o ∷ os) h = (
     omega (arith, h.0, length-append path (r ∷ [])),
     subst (λ p. IsReady qp laws (record { rows = p ++ o.row ∷ []; next = o.next })) (sym (shorter path r o h.0)) h.1,
-    subst (λ p. AreReady p os) (sym (shorter path r o h.0)) h.2,
+    subst (λ p. IsRunOf qp (p ++ o.row ∷ []) o.run) (sym (shorter path r o h.0)) h.2,
+    subst (λ p. AreReady p os) (sym (shorter path r o h.0)) h.3,
   )
 
   pub trees_shorter : (path : List Row) (r : Row) (os : List OpenSide) (nodes : List Node) → AreReady path os → AreTrees (path ++ r ∷ []) os nodes → AreTrees path os nodes
@@ -96,12 +99,12 @@ module _ (qp : Qp) (laws : List Law) where
       ready = sides.1;
       held_within = omega arith;
       holds = λ rows is i row h. absurd (omega arith);
-      sides = ready_longer (take o.shared cell.rows) o.row (reverse rest) sides.2;
+      sides = ready_longer (take o.shared cell.rows) o.row (reverse rest) sides.3;
       completes = λ first later b t.
-          let trees : AreTrees cell.rows (reverse (rest ++ o ∷ [])) (first ++ later) = subst (λ os. AreTrees cell.rows os (first ++ later)) (sym (reversed rest o)) (first, later, refl, b, trees_shorter (take o.shared cell.rows) o.row (reverse rest) later sides.2 t) in
+          let trees : AreTrees cell.rows (reverse (rest ++ o ∷ [])) (first ++ later) = subst (λ os. AreTrees cell.rows os (first ++ later)) (sym (reversed rest o)) (first, later, refl, b, trees_shorter (take o.shared cell.rows) o.row (reverse rest) later sides.3 t) in
           subst (IsBuilt qp laws root) (sym (append_assoc nodes (node ∷ []) (first ++ later))) (g.completes (node ∷ []) (first ++ later) (leaf cell node l) trees);
       wide_here = λ place w. g.wide_later place (node ∷ []) (leaf cell node l) (subst (λ os. IsWideAmong cell.rows os (length nodes + 1 + 1) place) (sym (reversed rest o)) (inl (subst (λ n. IsFirstWide qp laws (side_cell cell.rows o) n place) (omega (arith, length-append nodes (node ∷ []))) w)));
-      wide_later = λ place first b w. g.wide_later place (node ∷ []) (leaf cell node l) (subst (λ os. IsWideAmong cell.rows os (length nodes + 1 + 1) place) (sym (reversed rest o)) (inr (first, b, wide_shorter (take o.shared cell.rows) o.row (reverse rest) (length nodes + 1 + 1 + length first) place sides.2 (subst (λ n. IsWideAmong (take o.shared cell.rows ++ o.row ∷ []) (reverse rest) n place) (omega (arith, length-append nodes (node ∷ []))) w))));
+      wide_later = λ place first b w. g.wide_later place (node ∷ []) (leaf cell node l) (subst (λ os. IsWideAmong cell.rows os (length nodes + 1 + 1) place) (sym (reversed rest o)) (inr (first, b, wide_shorter (take o.shared cell.rows) o.row (reverse rest) (length nodes + 1 + 1 + length first) place sides.3 (subst (λ n. IsWideAmong (take o.shared cell.rows ++ o.row ∷ []) (reverse rest) n place) (omega (arith, length-append nodes (node ∷ []))) w))));
     }
       where
         sides : AreReady cell.rows (o ∷ reverse rest)
@@ -119,8 +122,16 @@ module _ (qp : Qp) (laws : List Law) where
     pub last_at : (borders : List (List RowInt)) (nodes tree : List Node) (cell : Cell) (stack : List OpenSide) (held : ℕ) (node : Node) → IsGrown borders nodes cell stack held → IsLeafAt qp laws cell node → stack ≡ [] → tree ≡ nodes ++ node ∷ [] → IsBuilt qp laws root tree
     last_at borders nodes tree cell stack held node g l s t = leaf_last borders nodes tree cell held node (subst (λ x. IsGrown borders nodes cell x held) s g) l t
 
-    pub shared_within : (borders : List (List RowInt)) (nodes : List Node) (cell : Cell) (stack rest : List OpenSide) (o : OpenSide) (held : ℕ) → IsGrown borders nodes cell stack held → stack ≡ rest ++ o ∷ [] → o.shared ≤ length cell.rows
-    shared_within borders nodes cell stack rest o held g s = (subst (AreReady cell.rows) (reversed rest o) (subst (λ x. AreReady cell.rows (reverse x)) s g.sides)).0
+    -- the side on the top of the stack
+    module _ (borders : List (List RowInt)) (nodes : List Node) (cell : Cell) (stack rest : List OpenSide) (o : OpenSide) (held : ℕ) (g : IsGrown borders nodes cell stack held) (top : stack ≡ rest ++ o ∷ []) where
+      top_ready : AreReady cell.rows (o ∷ reverse rest)
+      top_ready = subst (AreReady cell.rows) (reversed rest o) (subst (λ x. AreReady cell.rows (reverse x)) top g.sides)
+
+      pub shared_within : o.shared ≤ length cell.rows
+      shared_within = top_ready.0
+
+      pub top_run : (path : List Row) (run : Option LinearSystem) → path ≡ take o.shared cell.rows ++ o.row ∷ [] → run ≡ o.run → IsRunOf qp path run
+      top_run path run p r = subst₂ (IsRunOf qp) (sym p) (sym r) top_ready.2
 
     pub wide_at : (borders : List (List RowInt)) (nodes : List Node) (cell : Cell) (stack : List OpenSide) (held : ℕ) → IsGrown borders nodes cell stack held → (e : TreeError) → IfWide e (IsWideAt qp laws cell (length nodes + 1)) → IfWide e (IsFirstWide qp laws root 1)
     wide_at borders nodes cell stack held g (Wide place) h = g.wide_here place (here cell (length nodes + 1) place h)

@@ -1,4 +1,5 @@
 pub mod CellPoints
+pub mod CellRuns
 pub mod CertLists
 pub mod NodeLemmas
 pub mod Placing

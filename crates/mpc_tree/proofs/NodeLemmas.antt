@@ -1,5 +1,5 @@
 -- What is found at a node, from the ends of its runs.
-use Rattle.std.proofs.Common.{◌≡◌, ℕ, ◌+◌, ◌<◌, ◌≤◌, pos, List, [], ◌∷◌, ◌++◌, length, get_or, refl, sym, ◌∙◌, ap, subst, arith, Contains, ◌⊎◌, inl, inr, ⊎_elim, Option, Some, None, Result, Ok, Err, IfOk, MatchOption, slice_get}
+use Rattle.std.proofs.Common.{◌≡◌, ℕ, ◌+◌, ◌<◌, ◌≤◌, pos, List, [], ◌∷◌, ◌++◌, length, get_or, refl, sym, ◌∙◌, ap, subst, arith, Contains, ◌⊎◌, inl, inr, ⊎_elim, Some, None, slice_get}
 use Rattle.std.proofs.lemmas.Bool.{cases_eq}
 use Rattle.std.proofs.lemmas.Option.{slice_get-get_or, slice_get_within, get_or_from_slice_get, slice_get_cases}
 use Rattle.std.proofs.lemmas.List.{get_or_append_left, length-append}
@@ -10,13 +10,12 @@ use Rattle.mpc_linear.specs.declared.integers.RowInt.{RowInt}
 use Rattle.mpc_rows.specs.declared.programs.Qp.{Qp}
 use Rattle.mpc_rows.specs.declared.laws.Law.{Law}
 use Rattle.mpc_rows.specs.declared.systems.Row.{Row}
-use Rattle.mpc_rows.specs.LinearSystem.{LinearSystem, MeetsRow}
+use Rattle.mpc_rows.specs.LinearSystem.{MeetsRow}
 use Rattle.mpc_rows.specs.RunWidth.{RunFits}
 use Rattle.mpc_rows.specs.ActiveSets.{IsFeasible}
 use Rattle.mpc_rows.specs.Laws.{IsInRegion}
 use Rattle.mpc_rows.specs.LawRows.{whole_row}
 use Rattle.mpc_simplex.specs.Answer.{HasPoint}
-use Rattle.mpc_simplex.specs.declared.SimplexError.{SimplexError}
 use Rattle.mpc_systems.specs.Writing.{HasBoxWidth}
 use Rattle.mpc_tree.specs.Borders.{IsBorder, AreBorders}
 use Rattle.mpc_tree.specs.Cells.{IsInCell, RegionMeets, LiesInRegion, FailsOn, NoneMeetsBefore, IsFirstToMeet, NoneFailsBefore}
@@ -25,7 +24,7 @@ use Rattle.mpc_tree.specs.NodeRuns.{MeetsFit, HoldsFit}
 use Rattle.mpc_systems.specs.CellLaws.{CellLaws}
 use Rattle.mpc_systems.specs.Systems.{meet_system, hold_system, joint_system}
 use Rattle.mpc_tree.specs.WideRuns.{IsWideMeet, IsWideHold}
-use Rattle.mpc_tree.proofs.CellPoints.{region_by_rows, region_meets, fails_where, holds_unless, admitted}
+use Rattle.mpc_tree.proofs.CellPoints.{region_by_rows, region_meets, holds_unless, admitted}
 
 some_one : {A : Type 0} {x y : A} → Some x ≡ Some y → x ≡ y
 some_one e = cc
@@ -39,18 +38,6 @@ there {A = A} xs i h = by (slice_get_cases xs i).1
     by : ((x : A) × (i < length xs) × (slice_get xs i ≡ Some x) × (get_or xs i x ≡ x)) ⊎ ((length xs ≤ i) × (slice_get xs i ≡ None)) → (x : A) × (slice_get xs i ≡ Some x)
     by (inl f) = (f.0, f.2)
     by (inr g) = let past : length xs ≤ i = g.0 in absurd (omega arith)
-
--- ---- one row
-module _ (points : CellLaws) (qp : Qp) (cell : List Row) (row : RowInt) (s : LinearSystem) (e : s ≡ hold_system qp cell row) where
-  pub hold_answer : (r : Result (Option (List (ℕ × ℚ))) SimplexError) → IfOk r (λ o. MatchOption o (HasPoint s) (λ cert. IsCertOf s cert)) → IfOk r (λ o. MatchOption o (FailsOn qp cell row) (λ cert. IsCertOf (hold_system qp cell row) cert))
-  hold_answer (Ok None) h = (fails_where points qp cell row).1 (subst HasPoint e h)
-  hold_answer (Ok (Some cert)) h = subst (λ z. IsCertOf z cert) e h
-  hold_answer (Err x) h = h
-
-  pub hold_holds : (r : Result (Option (List (ℕ × ℚ))) SimplexError) → IfOk r (λ o. MatchOption o (HasPoint s) (λ _. ¬ HasPoint s)) → IfOk r (λ o. MatchOption o (FailsOn qp cell row) (λ _. ¬ FailsOn qp cell row))
-  hold_holds (Ok None) h = (fails_where points qp cell row).1 (subst HasPoint e h)
-  hold_holds (Ok (Some cert)) h = λ f. h (subst HasPoint (sym e) ((fails_where points qp cell row).0 f))
-  hold_holds (Err x) h = h
 
 -- ---- the laws in turn
 module _ (qp : Qp) (laws : List Law) (borders : List (List RowInt)) (are : AreBorders qp laws borders) (cell : List Row) (place : ℕ) (rows : List RowInt) (is : slice_get borders place ≡ Some rows) where

@@ -1,16 +1,19 @@
 -- What stands at a node, from what is found there.
-use Rattle.std.proofs.Common.{◌≡◌, ℕ, ◌+◌, ◌<◌, ◌≤◌, ◌^◌, List, length, refl, inl, inr, arith, lit≤, Some, slice_get}
+use Rattle.std.proofs.Common.{◌≡◌, ℕ, ◌+◌, ◌<◌, ◌≤◌, ◌^◌, List, [], ◌∷◌, ◌++◌, length, refl, inl, inr, arith, lit≤, Option, Some, slice_get}
 use Rattle.mpc_exact.specs.Rational.{ℚ}
 use Rattle.mpc_linear.specs.declared.integers.RowInt.{RowInt}
 use Rattle.mpc_rows.specs.declared.programs.Qp.{Qp}
 use Rattle.mpc_rows.specs.declared.laws.Law.{Law}
 use Rattle.mpc_rows.specs.declared.places.Place.TheVariants.{Joint}
 use Rattle.mpc_rows.specs.declared.trees.Node.TheVariants.{Law as LawLeaf, NoMove}
+use Rattle.mpc_rows.specs.LinearSystem.{LinearSystem}
+use Rattle.mpc_rows.specs.LawRows.{broken_row}
 use Rattle.mpc_rows.specs.RunWidth.{RunFits}
 use Rattle.mpc_tree.specs.declared.errors.TreeError.{TreeError}
 use Rattle.mpc_tree.specs.declared.errors.TreeError.TheVariants.{Wide, NoMemory}
 use Rattle.mpc_tree.specs.Borders.{IsBorder, AreBorders}
 use Rattle.mpc_tree.specs.Causes.{IfWide}
+use Rattle.mpc_tree.specs.CellRuns.{IsRunOf}
 use Rattle.mpc_tree.specs.Growth.{IsMeeting, IsNoMeeting, IsFailing, AllHold, NamesWideRow, IsSplitAt, IsLeafAt}
 use Rattle.mpc_tree.specs.LeafCerts.{IsCertOf}
 use Rattle.mpc_systems.specs.CellLaws.{CellLaws}
@@ -26,8 +29,8 @@ module _ (qp : Qp) (laws : List Law) (borders : List (List RowInt)) (are : AreBo
   pub few_rows : length rows < 2 ^ 32
   few_rows = let wide : 61 ≤ 2 ^ 32 = lit≤ tt in omega (arith, met_border.of_law.one_each, qp.is_program.few_rows)
 
-  pub split_placed : (i : ℕ) → IsFailing qp cell.rows rows i → IsSplitAt qp laws borders cell place i
-  split_placed i f = record {
+  split_at : (i : ℕ) → IsFailing qp cell.rows rows i → IsSplitAt qp laws borders cell place i
+  split_at i f = record {
     rows = rows;
     is_border = is;
     row = f.row;
@@ -39,6 +42,10 @@ module _ (qp : Qp) (laws : List Law) (borders : List (List RowInt)) (are : AreBo
       fits = record { meets = m.fits; law = m.law; is_law = m.first.is; rows = rows; of_law = met_border.of_law; row_place = i; is_row = f.is; holds = f.fits };
     };
   }
+
+  pub split_placed : (i : ℕ) (run : Option LinearSystem) → (f : IsFailing qp cell.rows rows i) × IsRunOf qp (cell.rows ++ broken_row f.row ∷ []) run → (s : IsSplitAt qp laws borders cell place i) × IsRunOf qp (cell.rows ++ broken_row s.row ∷ []) run
+  unfolding split_at
+  split_placed i run h = (split_at i h.0, h.1)
 
   pub law_placed : CellLaws → (certs : List (List (ℕ × ℚ))) → AllHold qp cell.rows rows certs → IsLeafAt qp laws cell (LawLeaf (place + 1) certs)
   law_placed points certs h = record {

@@ -1,5 +1,5 @@
 -- What the search finds at one node.
-use Rattle.std.specs.Prelude.{◌≡◌, ℕ, ◌+◌, ◌≤◌, List, length, Option, Some, None, slice_get, Contains}
+use Rattle.std.specs.Prelude.{◌≡◌, ℕ, ◌+◌, ◌≤◌, List, [], ◌∷◌, ◌++◌, length, Option, Some, None, slice_get, Contains}
 use Rattle.mpc_exact.specs.Rational.{ℚ}
 use Rattle.mpc_linear.specs.declared.integers.RowInt.{RowInt}
 use Rattle.mpc_rows.specs.declared.programs.Qp.{Qp}
@@ -10,11 +10,13 @@ use Rattle.mpc_rows.specs.declared.places.Place.{Place}
 use Rattle.mpc_rows.specs.declared.places.Place.TheVariants.{Holds as HoldRun}
 use Rattle.mpc_rows.specs.ActiveSets.{IsFeasible}
 use Rattle.mpc_rows.specs.Laws.{IsInRegion}
+use Rattle.mpc_rows.specs.LawRows.{broken_row}
 use Rattle.mpc_systems.specs.Writing.{HasBoxWidth}
 use Rattle.mpc_tree.specs.declared.nodes.Held.{Held}
 use Rattle.mpc_tree.specs.declared.nodes.Held.TheVariants.{Fails, Holds}
 use Rattle.mpc_tree.specs.declared.nodes.Placed.{Placed}
 use Rattle.mpc_tree.specs.declared.nodes.Placed.TheVariants.{Split, Leaf}
+use Rattle.mpc_tree.specs.CellRuns.{IsRunOf}
 use Rattle.mpc_tree.specs.Cells.{NoneMeetsBefore, IsFirstToMeet, FailsOn, NoneFailsBefore}
 use Rattle.mpc_tree.specs.LeafCerts.{AreCertsOf, HasItsCerts}
 use Rattle.mpc_tree.specs.NodeRuns.{MeetsFit, HoldsFit, DividesAndFits, EndsAndFits}
@@ -60,7 +62,7 @@ pub record AllHold (qp : Qp) (cell : List Row) (rows : List RowInt) (certs : Lis
   pub fits : HoldsFit qp cell rows (length rows)
 
 abbrev pub IsHeld : Qp → List Row → List RowInt → Held → Type 0
-IsHeld qp cell rows (Fails place) = IsFailing qp cell rows place
+IsHeld qp cell rows (Fails place run) = (f : IsFailing qp cell rows place) × IsRunOf qp (cell ++ broken_row f.row ∷ []) run
 IsHeld qp cell rows (Holds certs) = AllHold qp cell rows certs
 
 -- the place names the first of the rows of this law whose run is too wide
@@ -82,7 +84,7 @@ pub record IsLeafAt (qp : Qp) (laws : List Law) (cell : Cell) (node : Node) : Ty
   pub certs : HasItsCerts qp laws cell node
 
 abbrev pub IsPlaced : Qp → List Law → List (List RowInt) → Cell → Placed → Type 0
-IsPlaced qp laws borders cell (Split place row) = IsSplitAt qp laws borders cell place row
+IsPlaced qp laws borders cell (Split place row run) = (s : IsSplitAt qp laws borders cell place row) × IsRunOf qp (cell.rows ++ broken_row s.row ∷ []) run
 IsPlaced qp laws borders cell (Leaf node) = IsLeafAt qp laws cell node
 
 -- the tree of the cell, whose leaves have their certificates and whose runs all fit

@@ -1,6 +1,8 @@
 pub mod Cells
 pub mod Trees
+pub mod CellRuns
 pub mod LeafCerts
+pub mod Ends
 pub mod NodeRuns
 pub mod WideRuns
 pub mod Borders

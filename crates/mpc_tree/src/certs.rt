@@ -1,14 +1,24 @@
 //! Certificates from the ends of runs.
 
-ghost use Rattle.std.specs.Prelude.{◌≡◌, IfOk, MatchResult, MatchOption};
+ghost use Rattle.std.specs.Prelude.{◌≡◌, IfOk, IfSome, MatchResult};
 ghost use Rattle.mpc_rows.specs.RunWidth.{RunFits};
-ghost use Rattle.mpc_simplex.specs.Answer.{HasPoint, IfWide};
-ghost use Rattle.mpc_tree.specs.LeafCerts.{nonzero_from, IsCertOf};
+ghost use Rattle.mpc_simplex.specs.Answer.{IfWide};
+ghost use Rattle.mpc_tree.specs.Ends.{IsEndOf};
+ghost use Rattle.mpc_tree.specs.LeafCerts.{nonzero_from};
 
 use mpc_frac::NoMemory;
 use mpc_rows::{Cert, Multipliers, System};
-use mpc_simplex::{Decision, SimplexError, decide};
+use mpc_simplex::{Beginning, Decision, SimplexError, decide};
 use std::alloc::Global;
+
+/// What the run of a system ends with.
+#[derive(Drop)]
+pub enum End {
+    /// A point, and the run itself, where it is kept.
+    Point(Option<Beginning>),
+    /// No point, as this certificate shows.
+    Refuted(Cert),
+}
 
 /// The multipliers that aren't 0, with the positions of their rows.
 fn cert_of(alloc: Global, multipliers: &Multipliers) -> Result<Cert, NoMemory>
@@ -24,18 +34,33 @@ fn cert_of(alloc: Global, multipliers: &Multipliers) -> Result<Cert, NoMemory>
     Ok(cert)
 }
 
-/// The certificate that the system has no point; nothing where it has one.
-pub fn refutation(alloc: Global, system: &System) -> Result<Option<Cert>, SimplexError>
-    ensures answer { IfOk result (λ o. MatchOption o (HasPoint system.now) (λ cert. IsCertOf system.now cert)) }
-    ensures no_point { IfOk result (λ o. MatchOption o (HasPoint system.now) (λ _. ¬ HasPoint system.now)) }
+/// What the run of the system ends with. It isn't kept.
+pub fn plain_end(alloc: Global, system: &System) -> Result<End, SimplexError>
+    ensures end { IfOk result (IsEndOf system.now) }
     ensures wide { MatchResult result (λ _. RunFits system.now) (λ e. IfWide e (¬ RunFits system.now)) }
 {
     match decide(alloc, system) {
-        Ok(Decision::Point(_)) => Ok(None),
+        Ok(Decision::Point(_)) => Ok(End::Point(None)),
         Ok(Decision::Refuted(multipliers)) => match cert_of(alloc, &multipliers) {
-            Ok(cert) => Ok(Some(cert)),
+            Ok(cert) => Ok(End::Refuted(cert)),
             Err(NoMemory) => Err(SimplexError::NoMemory),
         },
         Err(error) => Err(error),
+    }
+}
+
+/// What a kept run ends with. Nothing where whole numbers don't serve for its multipliers.
+pub fn kept_end(alloc: Global, run: Beginning) -> Result<Option<End>, NoMemory>
+    ensures { IfOk result (λ o. IfSome o (IsEndOf run)) }
+{
+    if run.has_point() {
+        return Ok(Some(End::Point(Some(run))));
+    }
+    match run.decision(alloc)? {
+        Some(Decision::Refuted(multipliers)) => {
+            Ok(Some(End::Refuted(cert_of(alloc, &multipliers)?)))
+        }
+        Some(Decision::Point(_)) => unreachable!(),
+        None => Ok(None),
     }
 }

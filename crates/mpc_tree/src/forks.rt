@@ -6,6 +6,7 @@ ghost use Rattle.mpc_linear.specs.Whole.{AreSmall};
 ghost use Rattle.mpc_rows.specs.LawRows.{whole_row, broken_row};
 ghost use Rattle.mpc_tree.specs.Borders.{AreBorders};
 ghost use Rattle.mpc_tree.specs.Causes.{IfWide};
+ghost use Rattle.mpc_tree.specs.CellRuns.{IsRunOf, IsRunWith};
 ghost use Rattle.mpc_tree.specs.Growth.{IsReady, RegionsCover, IsBuilt};
 ghost use Rattle.mpc_tree.specs.Joins.{place_behind, IsWideBehind, AreJoined, IsRefusal};
 ghost use Rattle.mpc_tree.specs.WideRuns.{IsFirstWide};
@@ -14,9 +15,11 @@ use crate::borders::Border;
 use crate::errors::TreeError;
 use crate::growth::{copied, grown};
 use crate::nodes::{Placed, place_node};
+use crate::runs::KeptCell;
 use mpc_frac::NoMemory;
 use mpc_linear::RowInt;
 use mpc_rows::{LawTable, Node, Place, Qp, Row, Tree};
+use mpc_simplex::{Beginning, Workspace};
 use mpc_systems::{broken_row, cell_laws, whole_row};
 use std::alloc::Global;
 use std::thread::{Threads, join};
@@ -28,8 +31,8 @@ const FORK_DEPTH: u32 = 5;
 /// The cells of both sides of a split.
 #[derive(Drop)]
 struct Sides {
-    yes: Vec<Row>,
-    no: Vec<Row>,
+    yes: KeptCell,
+    no: KeptCell,
 }
 
 /// The same rows once more.
@@ -45,21 +48,29 @@ fn copied_cell(alloc: Global, cell: &[Row]) -> Result<Vec<Row>, NoMemory>
     Ok(rows)
 }
 
-/// The cells of the sides of a split by the row, each with rows of its own.
-fn sides_of(alloc: Global, cell: Vec<Row>, row: &RowInt) -> Result<Sides, NoMemory>
+/// The cells of the sides of a split by the row, each with rows of its own, the no side's with the
+/// run of where the row fails.
+fn sides_of(
+    alloc: Global,
+    cell: KeptCell,
+    row: &RowInt,
+    broken: Option<Beginning>,
+) -> Result<Sides, NoMemory>
     requires small { AreSmall row.now.a }
     requires b_small { unsigned_abs row.now.b < 2 ^ 127 }
-    ensures yes { IfOk result (λ sides. sides.yes.items ≡ cell.items ++ whole_row row.now ∷ []) }
-    ensures no { IfOk result (λ sides. sides.no.items ≡ cell.items ++ broken_row row.now ∷ []) }
+    requires width { IfSome cell.run (λ run. length row.now.a ≡ run.width) }
+    ensures yes { IfOk result (λ sides. sides.yes.rows.items ≡ cell.rows.items ++ whole_row row.now ∷ []) }
+    ensures yes_run { IfOk result (λ sides. IsRunWith cell.run (whole_row row.now) sides.yes.run) }
+    ensures no { IfOk result (λ sides. sides.no.rows.items ≡ cell.rows.items ++ broken_row row.now ∷ []) }
+    ensures no_run { IfOk result (λ sides. sides.no.run ≡ broken) }
 {
-    let mut no = copied_cell(alloc, &cell)?;
+    let mut rows = copied_cell(alloc, &cell.rows)?;
+    let Ok(()) = rows.push(broken_row(alloc, row)?) else {
+        return Err(NoMemory);
+    };
+    let no = KeptCell { rows, run: broken };
     let mut yes = cell;
-    let Ok(()) = no.push(broken_row(alloc, row)?) else {
-        return Err(NoMemory);
-    };
-    let Ok(()) = yes.push(whole_row(alloc, row)?) else {
-        return Err(NoMemory);
-    };
+    yes.narrow(alloc, whole_row(alloc, row)?)?;
     Ok(Sides { yes, no })
 }
 
@@ -130,24 +141,26 @@ fn both_sides<T: Threads + Sync>(
     requires few { length laws.now < 2 ^ 32 }
     requires borders { AreBorders qp.now laws.now borders.now }
     requires cover { RegionsCover qp.now laws.now }
-    requires yes_ready { IsReady qp.now laws.now (record { rows = sides.yes.items; next = place }) }
-    requires no_ready { IsReady qp.now laws.now (record { rows = sides.no.items; next = place + 1 }) }
-    ensures yes_built { IfOk result.0 (λ nodes. IsBuilt qp.now laws.now (record { rows = sides.yes.items; next = place }) nodes) }
-    ensures yes_wide { IfErr result.0 (λ e. IfWide e (IsFirstWide qp.now laws.now (record { rows = sides.yes.items; next = place }) 1)) }
-    ensures no_built { IfOk result.1 (λ nodes. IsBuilt qp.now laws.now (record { rows = sides.no.items; next = place + 1 }) nodes) }
-    ensures no_wide { IfErr result.1 (λ e. IfWide e (IsFirstWide qp.now laws.now (record { rows = sides.no.items; next = place + 1 }) 1)) }
+    requires yes_ready { IsReady qp.now laws.now (record { rows = sides.yes.rows.items; next = place }) }
+    requires no_ready { IsReady qp.now laws.now (record { rows = sides.no.rows.items; next = place + 1 }) }
+    requires yes_run { IsRunOf qp.now sides.yes.rows.items sides.yes.run }
+    requires no_run { IsRunOf qp.now sides.no.rows.items sides.no.run }
+    ensures yes_built { IfOk result.0 (λ nodes. IsBuilt qp.now laws.now (record { rows = sides.yes.rows.items; next = place }) nodes) }
+    ensures yes_wide { IfErr result.0 (λ e. IfWide e (IsFirstWide qp.now laws.now (record { rows = sides.yes.rows.items; next = place }) 1)) }
+    ensures no_built { IfOk result.1 (λ nodes. IsBuilt qp.now laws.now (record { rows = sides.no.rows.items; next = place + 1 }) nodes) }
+    ensures no_wide { IfErr result.1 (λ e. IfWide e (IsFirstWide qp.now laws.now (record { rows = sides.no.rows.items; next = place + 1 }) 1)) }
 {
     let Sides { yes, no } = sides;
     let later = place + 1;
     let front = move || -> Result<Tree, TreeError>
-        requires { IsSync T.row × (length laws.now < 2 ^ 32) × AreBorders qp.now laws.now borders.now × RegionsCover qp.now laws.now × IsReady qp.now laws.now (record { rows = yes.items; next = place }) }
-        ensures built { IfOk result (λ nodes. IsBuilt qp.entry.now laws.entry.now (record { rows = yes.items; next = place }) nodes) }
-        ensures wide { IfErr result (λ e. IfWide e (IsFirstWide qp.entry.now laws.entry.now (record { rows = yes.items; next = place }) 1)) }
+        requires { IsSync T.row × (length laws.now < 2 ^ 32) × AreBorders qp.now laws.now borders.now × RegionsCover qp.now laws.now × IsReady qp.now laws.now (record { rows = yes.rows.items; next = place }) × IsRunOf qp.now yes.rows.items yes.run }
+        ensures built { IfOk result (λ nodes. IsBuilt qp.entry.now laws.entry.now (record { rows = yes.rows.items; next = place }) nodes) }
+        ensures wide { IfErr result (λ e. IfWide e (IsFirstWide qp.entry.now laws.entry.now (record { rows = yes.rows.items; next = place }) 1)) }
     { forked(rt, alloc, qp, laws, borders, yes, place, depth) };
     let back = move || -> Result<Tree, TreeError>
-        requires { IsSync T.row × (length laws.now < 2 ^ 32) × AreBorders qp.now laws.now borders.now × RegionsCover qp.now laws.now × IsReady qp.now laws.now (record { rows = no.items; next = later }) }
-        ensures built { IfOk result (λ nodes. IsBuilt qp.entry.now laws.entry.now (record { rows = no.items; next = later }) nodes) }
-        ensures wide { IfErr result (λ e. IfWide e (IsFirstWide qp.entry.now laws.entry.now (record { rows = no.items; next = later }) 1)) }
+        requires { IsSync T.row × (length laws.now < 2 ^ 32) × AreBorders qp.now laws.now borders.now × RegionsCover qp.now laws.now × IsReady qp.now laws.now (record { rows = no.rows.items; next = later }) × IsRunOf qp.now no.rows.items no.run }
+        ensures built { IfOk result (λ nodes. IsBuilt qp.entry.now laws.entry.now (record { rows = no.rows.items; next = later }) nodes) }
+        ensures wide { IfErr result (λ e. IfWide e (IsFirstWide qp.entry.now laws.entry.now (record { rows = no.rows.items; next = later }) 1)) }
     { forked(rt, alloc, qp, laws, borders, no, later, depth) };
     join(rt, front, back)
 }
@@ -162,25 +175,27 @@ pub fn forked<T: Threads + Sync>(
     qp: &Qp,
     laws: &LawTable,
     borders: &[Border],
-    cell: Vec<Row>,
+    cell: KeptCell,
     next: usize,
     depth: u32,
 ) -> Result<Tree, TreeError>
     requires few { length laws.now < 2 ^ 32 }
     requires borders { AreBorders qp.now laws.now borders.now }
     requires cover { RegionsCover qp.now laws.now }
-    requires ready { IsReady qp.now laws.now (record { rows = cell.items; next = next }) }
-    ensures built { IfOk result (λ nodes. IsBuilt qp.now laws.now (record { rows = cell.items; next = next }) nodes) }
-    ensures wide { IfErr result (λ e. IfWide e (IsFirstWide qp.now laws.now (record { rows = cell.items; next = next }) 1)) }
+    requires ready { IsReady qp.now laws.now (record { rows = cell.rows.items; next = next }) }
+    requires run { IsRunOf qp.now cell.rows.items cell.run }
+    ensures built { IfOk result (λ nodes. IsBuilt qp.now laws.now (record { rows = cell.rows.items; next = next }) nodes) }
+    ensures wide { IfErr result (λ e. IfWide e (IsFirstWide qp.now laws.now (record { rows = cell.rows.items; next = next }) 1)) }
 {
     if depth > FORK_DEPTH {
         return grown(alloc, qp, laws, borders, cell, next);
     }
     cell_laws();
-    match place_node(alloc, qp, laws, borders, &cell, next, 1) {
-        Ok(Placed::Split { place, row }) => {
+    let mut work = Workspace::new(alloc);
+    match place_node(alloc, &mut work, qp, laws, borders, &cell, next, 1) {
+        Ok(Placed::Split { place, row, run }) => {
             let row = &borders[place].as_slice()[row];
-            let sides = sides_of(alloc, cell, row)?;
+            let sides = sides_of(alloc, cell, row, run)?;
             let (yes, no) = both_sides(rt, alloc, qp, laws, borders, sides, place, depth + 1);
             joined(alloc, row, yes, no)
         }

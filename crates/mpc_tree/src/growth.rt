@@ -1,28 +1,33 @@
 //! The growth of the tree, node by node in preorder.
 
-ghost use Rattle.std.specs.Prelude.{◌≡◌, ◌+◌, ◌<◌, ◌≤◌, ◌^◌, ◌++◌, ◌∷◌, [], IfOk, IfErr, OnOk, length, take, unsigned_abs};
+ghost use Rattle.std.specs.Prelude.{◌≡◌, ◌+◌, ◌<◌, ◌≤◌, ◌^◌, ◌++◌, ◌∷◌, [], IfOk, IfErr, IfSome, OnOk, length, take, unsigned_abs};
 ghost use Rattle.mpc_linear.specs.Whole.{AreSmall};
 ghost use Rattle.mpc_rows.specs.LawRows.{whole_row, broken_row};
 ghost use Rattle.mpc_tree.specs.Borders.{AreBorders};
 ghost use Rattle.mpc_tree.specs.Causes.{IfWide};
+ghost use Rattle.mpc_tree.specs.CellRuns.{IsRunOf, IsRunWith};
 ghost use Rattle.mpc_tree.specs.Growth.{IsReady, RegionsCover, IsBuilt};
 ghost use Rattle.mpc_tree.specs.WideRuns.{IsFirstWide};
 
 use crate::borders::Border;
 use crate::errors::TreeError;
 use crate::nodes::{Placed, place_node};
+use crate::runs::KeptCell;
 use mpc_frac::NoMemory;
 use mpc_linear::{Ints, RowInt};
 use mpc_rows::{LawTable, Node, Qp, Row, Tree};
+use mpc_simplex::{Beginning, Workspace};
 use mpc_systems::{broken_row, cell_laws, whole_row};
 use std::alloc::Global;
 
 /// The no side of a split whose yes side comes first: how many rows its cell shares with the split's,
-/// its last row, and the place of the law with which its search goes on.
+/// its last row, the run of its cell, if it is kept, and the place of the law with which its search
+/// goes on.
 #[derive(Drop)]
 pub struct OpenSide {
     pub shared: usize,
     pub row: Row,
+    pub run: Option<Beginning>,
     pub next: usize,
 }
 
@@ -37,48 +42,58 @@ pub fn copied(alloc: Global, row: &RowInt) -> Result<RowInt, NoMemory>
     Ok(RowInt { a, b: row.b })
 }
 
-/// Puts a split behind the nodes, its no side on the stack, and its row behind the cell's.
+/// Puts a split behind the nodes, its no side, with the run of where the row fails, on the stack, and
+/// its row behind the cell's.
 fn open_split(
     alloc: Global,
     tree: &mut Tree,
-    cell: &mut Vec<Row>,
+    cell: &mut KeptCell,
     sides: &mut Vec<OpenSide>,
     row: &RowInt,
+    broken: Option<Beginning>,
     place: usize,
 ) -> Result<(), NoMemory>
     requires small { AreSmall row.now.a }
     requires b_small { unsigned_abs row.now.b < 2 ^ 127 }
+    requires width { IfSome cell.old.run (λ run. length row.now.a ≡ run.width) }
     requires room { place < 2 ^ 32 }
     ensures tree { OnOk result (tree.new ≡ tree.old ++ Node.Split row.now ∷ []) }
-    ensures cell { OnOk result (cell.new.items ≡ cell.old.items ++ whole_row row.now ∷ []) }
-    ensures sides { OnOk result (sides.new.items ≡ sides.old.items ++ record { shared = length cell.old.items; row = broken_row row.now; next = place + 1 } ∷ []) }
+    ensures cell { OnOk result (cell.new.rows.items ≡ cell.old.rows.items ++ whole_row row.now ∷ []) }
+    ensures run { OnOk result (IsRunWith cell.old.run (whole_row row.now) cell.new.run) }
+    ensures sides { OnOk result (sides.new.items ≡ sides.old.items ++ record { shared = length cell.old.rows.items; row = broken_row row.now; run = broken; next = place + 1 } ∷ []) }
 {
     let side = OpenSide {
-        shared: cell.len(),
+        shared: cell.rows.len(),
         row: broken_row(alloc, row)?,
+        run: broken,
         next: place + 1,
     };
     if sides.push(side).is_err() {
         return Err(NoMemory);
     }
-    if cell.push(whole_row(alloc, row)?).is_err() {
-        return Err(NoMemory);
-    }
+    cell.narrow(alloc, whole_row(alloc, row)?)?;
     tree.push(Node::Split(copied(alloc, row)?))
 }
 
 /// Makes the cell that of the side, and answers with the place of the law with which its search
 /// goes on.
-fn enter(cell: &mut Vec<Row>, side: OpenSide) -> Result<usize, NoMemory>
-    requires { side.shared ≤ length cell.old.items }
-    ensures cell { OnOk result (cell.new.items ≡ take side.shared cell.old.items ++ side.row ∷ []) }
+fn enter(cell: &mut KeptCell, side: OpenSide) -> Result<usize, NoMemory>
+    requires { side.shared ≤ length cell.old.rows.items }
+    ensures cell { OnOk result (cell.new.rows.items ≡ take side.shared cell.old.rows.items ++ side.row ∷ []) }
+    ensures run { OnOk result (cell.new.run ≡ side.run) }
     ensures next { IfOk result (λ next. next ≡ side.next) }
 {
-    let OpenSide { shared, row, next } = side;
-    cell.truncate(shared);
-    if cell.push(row).is_err() {
+    let OpenSide {
+        shared,
+        row,
+        run,
+        next,
+    } = side;
+    cell.rows.truncate(shared);
+    if cell.rows.push(row).is_err() {
         return Err(NoMemory);
     }
+    cell.run = run;
     Ok(next)
 }
 
@@ -92,26 +107,30 @@ pub fn grown(
     qp: &Qp,
     laws: &LawTable,
     borders: &[Border],
-    mut cell: Vec<Row>,
+    mut cell: KeptCell,
     mut next: usize,
 ) -> Result<Tree, TreeError>
     requires few { length laws.now < 2 ^ 32 }
     requires borders { AreBorders qp.now laws.now borders.now }
     requires cover { RegionsCover qp.now laws.now }
-    requires ready { IsReady qp.now laws.now (record { rows = cell.items; next = next }) }
-    ensures built { IfOk result (λ nodes. IsBuilt qp.now laws.now (record { rows = cell.items; next = next }) nodes) }
-    ensures wide { IfErr result (λ e. IfWide e (IsFirstWide qp.now laws.now (record { rows = cell.items; next = next }) 1)) }
+    requires ready { IsReady qp.now laws.now (record { rows = cell.rows.items; next = next }) }
+    requires run { IsRunOf qp.now cell.rows.items cell.run }
+    ensures built { IfOk result (λ nodes. IsBuilt qp.now laws.now (record { rows = cell.rows.items; next = next }) nodes) }
+    ensures wide { IfErr result (λ e. IfWide e (IsFirstWide qp.now laws.now (record { rows = cell.rows.items; next = next }) 1)) }
 {
     cell_laws();
     let mut tree = Tree::new(alloc);
     let mut sides = Vec::new(alloc);
+    let mut work = Workspace::new(alloc);
     let mut held = 0;
     'nodes: loop {
         let node = tree.len() as u64 + 1;
-        match place_node(alloc, qp, laws, borders, &cell, next, node) {
-            Ok(Placed::Split { place, row }) => {
+        match place_node(alloc, &mut work, qp, laws, borders, &cell, next, node) {
+            Ok(Placed::Split { place, row, run }) => {
                 let rows = borders[place].as_slice();
-                open_split(alloc, &mut tree, &mut cell, &mut sides, &rows[row], place)?;
+                open_split(
+                    alloc, &mut tree, &mut cell, &mut sides, &rows[row], run, place,
+                )?;
                 next = place;
                 held = row + 1;
             }

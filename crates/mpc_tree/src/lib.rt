@@ -20,6 +20,7 @@ mod forks;
 mod growth;
 mod laws;
 mod nodes;
+mod runs;
 #[cfg(test)]
 mod tests;
 
@@ -31,6 +32,7 @@ pub use laws::{multipliers_are_cert, one_tree, table_laws};
 use mpc_cover::cover_laws;
 use mpc_rows::{LawTable, Qp, Tree};
 use mpc_sets::count_laws;
+use runs::KeptCell;
 use std::alloc::Global;
 use std::thread::Threads;
 
@@ -69,7 +71,8 @@ pub fn build<T: Threads + Sync>(
     cover_laws();
     count_laws();
     let borders = all_borders(alloc, qp, laws)?;
-    forked(rt, alloc, qp, laws, &borders, Vec::new(alloc), 0, 0)
+    let cell = KeptCell::whole_box(alloc, qp)?;
+    forked(rt, alloc, qp, laws, &borders, cell, 0, 0)
 }
 
 /// The same tree, by the caller's thread alone.
@@ -89,5 +92,6 @@ pub fn build_alone(alloc: Global, qp: &Qp, laws: &LawTable) -> Result<Tree, Tree
     cover_laws();
     count_laws();
     let borders = all_borders(alloc, qp, laws)?;
-    grown(alloc, qp, laws, &borders, Vec::new(alloc), 0)
+    let cell = KeptCell::whole_box(alloc, qp)?;
+    grown(alloc, qp, laws, &borders, cell, 0)
 }

@@ -1,34 +1,42 @@
 //! What stands at one node of the tree.
 
-ghost use Rattle.std.specs.Prelude.{◌≡◌, ◌+◌, ◌<◌, ◌≤◌, ◌^◌, ◌↔◌, Some, All, IsTrue, IfOk, IfErr, MatchOption, MatchResult, length, slice_get};
-ghost use Rattle.mpc_rows.specs.LawRows.{AreLawRows};
+ghost use Rattle.std.specs.Prelude.{◌≡◌, ◌+◌, ◌<◌, ◌≤◌, ◌^◌, ◌↔◌, Some, All, IsTrue, IfOk, IfErr, IfSome, MatchOption, MatchResult, [], ◌∷◌, length};
+ghost use Rattle.mpc_rows.specs.LawRows.{broken_row};
 ghost use Rattle.mpc_rows.specs.RunWidth.{RunFits};
 ghost use Rattle.mpc_simplex.specs.Answer.{HasPoint, IfWide as IfRunWide};
+ghost use Rattle.mpc_beginnings.specs.Beginnings.{lengthened};
 ghost use Rattle.mpc_systems.specs.Writing.{HasBoxWidth, IsOfSize, AreOfSize};
 ghost use Rattle.mpc_tree.specs.Borders.{AreBorders};
 ghost use Rattle.mpc_tree.specs.Causes.{IfWide};
-ghost use Rattle.mpc_tree.specs.Cells.{NoneMeetsBefore, FailsOn};
+ghost use Rattle.mpc_tree.specs.CellRuns.{IsRunOf};
+ghost use Rattle.mpc_tree.specs.Cells.{NoneMeetsBefore};
+ghost use Rattle.mpc_tree.specs.Ends.{IsEndOf};
 ghost use Rattle.mpc_tree.specs.Growth.{RegionsCover, IsFirstMeeting, IsHeld, NamesWideRow, IsPlaced};
 ghost use Rattle.mpc_tree.specs.LeafCerts.{IsCertOf};
 ghost use Rattle.mpc_systems.specs.Systems.{meet_system, hold_system, joint_system};
 ghost use Rattle.mpc_tree.specs.WideRuns.{IsWideAt};
 
 use crate::borders::Border;
-use crate::certs::refutation;
+use crate::certs::{End, kept_end, plain_end};
 use crate::errors::TreeError;
+use crate::runs::KeptCell;
 use mpc_frac::NoMemory;
 use mpc_linear::RowInt;
 use mpc_region::has_point;
 use mpc_rows::{Cert, Certs, LawTable, Node, Place, Qp, Row};
-use mpc_simplex::SimplexError;
-use mpc_systems::{cell_laws, hold_system, joint_system, meet_system};
+use mpc_simplex::{Beginning, SimplexError, Workspace};
+use mpc_systems::{broken_row, cell_laws, hold_system, joint_system, meet_system};
 use std::alloc::Global;
 
 /// Whether the rows of a law hold on a cell.
 #[derive(Drop)]
 pub enum Held {
-    /// The row at this place, from 0, is the first that fails at a state of the cell.
-    Fails(usize),
+    /// The row at this place, from 0, is the first that fails at a state of the cell. The run of where
+    /// it fails comes with it, if it is kept.
+    Fails {
+        place: usize,
+        run: Option<Beginning>,
+    },
     /// All rows hold, as these certificates show.
     Holds(Certs),
 }
@@ -36,70 +44,104 @@ pub enum Held {
 /// What stands at a node.
 #[derive(Drop)]
 pub enum Placed {
-    /// A split by a row of a law, both at their places, from 0.
-    Split { place: usize, row: usize },
+    /// A split by a row of a law, both at their places, from 0, with the run of the no side's cell, if
+    /// it is kept.
+    Split {
+        place: usize,
+        row: usize,
+        run: Option<Beginning>,
+    },
     /// A leaf.
     Leaf(Node),
 }
 
 /// Whether the region with these rows meets the cell.
-fn region_meets(alloc: Global, qp: &Qp, cell: &[Row], rows: &[RowInt]) -> Result<bool, SimplexError>
-    requires cell { HasBoxWidth qp.now cell.now }
+fn region_meets(
+    alloc: Global,
+    work: &mut Workspace,
+    qp: &Qp,
+    cell: &KeptCell,
+    rows: &[RowInt],
+) -> Result<bool, SimplexError>
+    requires cell { HasBoxWidth qp.now cell.now.rows.items }
+    requires run { IsRunOf qp.now cell.now.rows.items cell.now.run }
     requires plain { AreOfSize (length qp.now.counts) rows.now }
-    ensures answer { IfOk result (λ yes. IsTrue yes ↔ HasPoint (meet_system qp.now cell.now rows.now)) }
-    ensures wide { MatchResult result (λ _. RunFits (meet_system qp.now cell.now rows.now))
-        (λ e. IfRunWide e (¬ RunFits (meet_system qp.now cell.now rows.now))) }
+    ensures answer { IfOk result (λ yes. IsTrue yes ↔ HasPoint (meet_system qp.now cell.now.rows.items rows.now)) }
+    ensures wide { MatchResult result (λ _. RunFits (meet_system qp.now cell.now.rows.items rows.now))
+        (λ e. IfRunWide e (¬ RunFits (meet_system qp.now cell.now.rows.items rows.now))) }
 {
-    let Ok(system) = meet_system(alloc, qp, cell, rows) else {
+    if let Some(run) = &cell.run {
+        match run.meets(alloc, work, rows) {
+            Ok(Some(meets)) => return Ok(meets),
+            Ok(None) => {}
+            Err(NoMemory) => return Err(SimplexError::NoMemory),
+        }
+    }
+    let Ok(system) = meet_system(alloc, qp, &cell.rows, rows) else {
         return Err(SimplexError::NoMemory);
     };
     has_point(alloc, &system)
 }
 
-/// The certificate that the row holds on the cell; nothing where it fails at a state of the cell.
-fn hold_cert(
-    alloc: Global,
-    qp: &Qp,
-    cell: &[Row],
-    row: &RowInt,
-) -> Result<Option<Cert>, SimplexError>
-    requires cell { HasBoxWidth qp.now cell.now }
-    requires plain { IsOfSize (length qp.now.counts) row.now }
-    ensures answer { IfOk result
-        (λ o. MatchOption o (FailsOn qp.now cell.now row.now) (λ cert. IsCertOf (hold_system qp.now cell.now row.now) cert)) }
-    ensures holds { IfOk result
-        (λ o. MatchOption o (FailsOn qp.now cell.now row.now) (λ _. ¬ FailsOn qp.now cell.now row.now)) }
-    ensures wide { MatchResult result (λ _. RunFits (hold_system qp.now cell.now row.now))
-        (λ e. IfRunWide e (¬ RunFits (hold_system qp.now cell.now row.now))) }
+/// What the kept run, with the row where this one fails behind it, ends with. Nothing where whole
+/// numbers don't serve for it.
+fn kept_hold(alloc: Global, run: &Beginning, row: &RowInt) -> Result<Option<End>, NoMemory>
+    requires { IsOfSize run.now.width row.now }
+    ensures end { IfOk result (λ o. IfSome o (IsEndOf (lengthened run.now (broken_row row.now ∷ [])))) }
+    ensures fits { IfOk result (λ o. IfSome o (λ _. RunFits (lengthened run.now (broken_row row.now ∷ [])))) }
 {
-    cell_laws();
-    let Ok(system) = hold_system(alloc, qp, cell, row) else {
+    let broken = broken_row(alloc, row)?;
+    match run.extend(alloc, &broken)? {
+        Some(longer) => kept_end(alloc, longer),
+        None => Ok(None),
+    }
+}
+
+/// A certificate that the row holds on the cell, or else that it fails at a state of the cell.
+fn hold_end(alloc: Global, qp: &Qp, cell: &KeptCell, row: &RowInt) -> Result<End, SimplexError>
+    requires cell { HasBoxWidth qp.now cell.now.rows.items }
+    requires run { IsRunOf qp.now cell.now.rows.items cell.now.run }
+    requires plain { IsOfSize (length qp.now.counts) row.now }
+    ensures end { IfOk result (IsEndOf (hold_system qp.now cell.now.rows.items row.now)) }
+    ensures wide { MatchResult result (λ _. RunFits (hold_system qp.now cell.now.rows.items row.now))
+        (λ e. IfRunWide e (¬ RunFits (hold_system qp.now cell.now.rows.items row.now))) }
+{
+    if let Some(run) = &cell.run {
+        match kept_hold(alloc, run, row) {
+            Ok(Some(end)) => return Ok(end),
+            Ok(None) => {}
+            Err(NoMemory) => return Err(SimplexError::NoMemory),
+        }
+    }
+    let Ok(system) = hold_system(alloc, qp, &cell.rows, row) else {
         return Err(SimplexError::NoMemory);
     };
-    refutation(alloc, &system)
+    plain_end(alloc, &system)
 }
 
 /// The place of the first law, from the next one on, whose region meets the cell of the node.
 fn first_meeting(
     alloc: Global,
+    work: &mut Workspace,
     qp: &Qp,
     laws: &LawTable,
     borders: &[Border],
-    cell: &[Row],
+    cell: &KeptCell,
     next: usize,
     node: u64,
 ) -> Result<Option<usize>, TreeError>
     requires few { length laws.now < 2 ^ 32 }
     requires borders { AreBorders qp.now laws.now borders.now }
-    requires cell { HasBoxWidth qp.now cell.now }
-    requires before { NoneMeetsBefore qp.now laws.now cell.now next }
-    ensures first { IfOk result (λ o. IsFirstMeeting qp.now laws.now (record { rows = cell.now; next = next }) o) }
+    requires cell { HasBoxWidth qp.now cell.now.rows.items }
+    requires run { IsRunOf qp.now cell.now.rows.items cell.now.run }
+    requires before { NoneMeetsBefore qp.now laws.now cell.now.rows.items next }
+    ensures first { IfOk result (λ o. IsFirstMeeting qp.now laws.now (record { rows = cell.now.rows.items; next = next }) o) }
     ensures below { IfOk result (λ o. MatchOption o (next ≡ next) (λ place. (next ≤ place) × (place < length laws.now))) }
-    ensures wide { IfErr result (λ e. IfWide e (IsWideAt qp.now laws.now (record { rows = cell.now; next = next }) node)) }
+    ensures wide { IfErr result (λ e. IfWide e (IsWideAt qp.now laws.now (record { rows = cell.now.rows.items; next = next }) node)) }
 {
     cell_laws();
     for place in next..laws.len() {
-        match region_meets(alloc, qp, cell, borders[place].as_slice()) {
+        match region_meets(alloc, work, qp, cell, borders[place].as_slice()) {
             Ok(true) => return Ok(Some(place)),
             Ok(false) => {}
             Err(SimplexError::Wide) => {
@@ -117,21 +159,23 @@ fn first_failing(
     alloc: Global,
     qp: &Qp,
     rows: &[RowInt],
-    cell: &[Row],
+    cell: &KeptCell,
     node: u64,
     law: u32,
 ) -> Result<Held, TreeError>
     requires few { length rows.now < 2 ^ 32 }
     requires plain { AreOfSize (length qp.now.counts) rows.now }
-    requires cell { HasBoxWidth qp.now cell.now }
-    ensures held { IfOk result (λ h. IsHeld qp.now cell.now rows.now h) }
-    ensures wide { IfErr result (λ e. IfWide e (NamesWideRow qp.now cell.now rows.now node law)) }
+    requires cell { HasBoxWidth qp.now cell.now.rows.items }
+    requires run { IsRunOf qp.now cell.now.rows.items cell.now.run }
+    ensures held { IfOk result (λ h. IsHeld qp.now cell.now.rows.items rows.now h) }
+    ensures wide { IfErr result (λ e. IfWide e (NamesWideRow qp.now cell.now.rows.items rows.now node law)) }
 {
+    cell_laws();
     let mut certs = Certs::new(alloc);
     for place in 0..rows.len() {
-        match hold_cert(alloc, qp, cell, &rows[place]) {
-            Ok(Some(cert)) => certs.push(cert)?,
-            Ok(None) => return Ok(Held::Fails(place)),
+        match hold_end(alloc, qp, cell, &rows[place]) {
+            Ok(End::Refuted(cert)) => certs.push(cert)?,
+            Ok(End::Point(run)) => return Ok(Held::Fails { place, run }),
             Err(SimplexError::Wide) => {
                 return Err(TreeError::Wide(Place::Holds(node, law, place as u32 + 1)));
             }
@@ -150,9 +194,9 @@ fn joint_cert(alloc: Global, qp: &Qp, cell: &[Row], node: u64) -> Result<Cert, T
     ensures wide { IfErr result (λ e. IfWide e (λ place. (place ≡ Place.Joint node) × (¬ RunFits (joint_system qp.now cell.now)))) }
 {
     let system = joint_system(alloc, qp, cell)?;
-    match refutation(alloc, &system) {
-        Ok(Some(cert)) => Ok(cert),
-        Ok(None) => unreachable!(),
+    match plain_end(alloc, &system) {
+        Ok(End::Refuted(cert)) => Ok(cert),
+        Ok(End::Point(_)) => unreachable!(),
         Err(SimplexError::Wide) => Err(TreeError::Wide(Place::Joint(node))),
         Err(SimplexError::NoMemory) => Err(TreeError::NoMemory),
     }
@@ -161,31 +205,33 @@ fn joint_cert(alloc: Global, qp: &Qp, cell: &[Row], node: u64) -> Result<Cert, T
 /// What stands at the node of the cell.
 pub fn place_node(
     alloc: Global,
+    work: &mut Workspace,
     qp: &Qp,
     laws: &LawTable,
     borders: &[Border],
-    cell: &[Row],
+    cell: &KeptCell,
     next: usize,
     node: u64,
 ) -> Result<Placed, TreeError>
     requires few { length laws.now < 2 ^ 32 }
     requires borders { AreBorders qp.now laws.now borders.now }
-    requires cell { HasBoxWidth qp.now cell.now }
+    requires cell { HasBoxWidth qp.now cell.now.rows.items }
+    requires run { IsRunOf qp.now cell.now.rows.items cell.now.run }
     requires cover { RegionsCover qp.now laws.now }
-    requires before { NoneMeetsBefore qp.now laws.now cell.now next }
-    ensures placed { IfOk result (λ p. IsPlaced qp.now laws.now borders.now (record { rows = cell.now; next = next }) p) }
-    ensures wide { IfErr result (λ e. IfWide e (IsWideAt qp.now laws.now (record { rows = cell.now; next = next }) node)) }
+    requires before { NoneMeetsBefore qp.now laws.now cell.now.rows.items next }
+    ensures placed { IfOk result (λ p. IsPlaced qp.now laws.now borders.now (record { rows = cell.now.rows.items; next = next }) p) }
+    ensures wide { IfErr result (λ e. IfWide e (IsWideAt qp.now laws.now (record { rows = cell.now.rows.items; next = next }) node)) }
 {
     cell_laws();
-    match first_meeting(alloc, qp, laws, borders, cell, next, node)? {
+    match first_meeting(alloc, work, qp, laws, borders, cell, next, node)? {
         None => {
-            let cert = joint_cert(alloc, qp, cell, node)?;
+            let cert = joint_cert(alloc, qp, &cell.rows, node)?;
             Ok(Placed::Leaf(Node::NoMove { cert }))
         }
         Some(place) => {
             let law = place as u32 + 1;
             match first_failing(alloc, qp, borders[place].as_slice(), cell, node, law) {
-                Ok(Held::Fails(row)) => Ok(Placed::Split { place, row }),
+                Ok(Held::Fails { place: row, run }) => Ok(Placed::Split { place, row, run }),
                 Ok(Held::Holds(certs)) => Ok(Placed::Leaf(Node::Law { law, certs })),
                 Err(error) => Err(error),
             }

@@ -2,7 +2,7 @@
 
 ghost use Rattle.std.specs.Prelude.{◌≡◌, IfOk, length};
 
-use crate::certs::refutation;
+use crate::certs::{End, plain_end};
 use mpc_frac::{Frac, NoMemory};
 use mpc_linear::Vector;
 use mpc_rows::{Cert, Row, System};
@@ -41,7 +41,7 @@ fn pair_at(cert: &Cert, i: usize) -> Option<(u64, Frac)> {
 
 #[test]
 fn leaves_out_unused_rows(rt: HostRuntime) -> Result<(), Fail> {
-    let Ok(Some(cert)) = refutation(rt.alloc(), &pinned(rt.alloc(), true)?) else {
+    let Ok(End::Refuted(cert)) = plain_end(rt.alloc(), &pinned(rt.alloc(), true)?) else {
         panic!(rt; "the system has no point");
     };
     assert_eq!(rt; cert.len(), 2);
@@ -52,7 +52,7 @@ fn leaves_out_unused_rows(rt: HostRuntime) -> Result<(), Fail> {
 
 #[test]
 fn gives_no_certificate_for_a_single_point(rt: HostRuntime) -> Result<(), Fail> {
-    let Ok(None) = refutation(rt.alloc(), &pinned(rt.alloc(), false)?) else {
+    let Ok(End::Point(_)) = plain_end(rt.alloc(), &pinned(rt.alloc(), false)?) else {
         panic!(rt; "the system has a point");
     };
     Ok(())

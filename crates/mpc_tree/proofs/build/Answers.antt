@@ -12,19 +12,19 @@ pub forked-requires-clause-cover : goal.forked-requires-clause-cover
 forked-requires-clause-cover g c κs within = table_covers c.cover_laws.ensures.of_every_table c.args.qp.now c.args.laws.now c.requires.definite c.requires.table
 
 pub forked-requires-clause-ready : goal.forked-requires-clause-ready
-forked-requires-clause-ready g c κs within = box_ready c.args.qp.now c.args.laws.now c.new.result.items c.new.ensures.items
+forked-requires-clause-ready g c κs within = box_ready c.args.qp.now c.args.laws.now c.in_ok-cell.cell.rows.items c.in_ok-cell.ensures.rows
 
 pub returns-clause-tree : goal.returns-clause-tree
-returns-clause-tree g c = built_tree c.args.qp.now c.args.laws.now c.new.result.items c.new.ensures.items c.forked.result c.forked.ensures.built
+returns-clause-tree g c = built_tree c.args.qp.now c.args.laws.now c.in_ok-cell.cell.rows.items c.in_ok-cell.ensures.rows c.forked.result c.forked.ensures.built
 
 pub returns-clause-certs : goal.returns-clause-certs
-returns-clause-certs g c = built_certs c.args.qp.now c.args.laws.now c.new.result.items c.new.ensures.items c.forked.result c.forked.ensures.built
+returns-clause-certs g c = built_certs c.args.qp.now c.args.laws.now c.in_ok-cell.cell.rows.items c.in_ok-cell.ensures.rows c.forked.result c.forked.ensures.built
 
 pub returns-clause-certified : goal.returns-clause-certified
-returns-clause-certified g c = built_certified c.args.qp.now c.args.laws.now c.new.result.items c.new.ensures.items c.forked.result c.forked.ensures.built
+returns-clause-certified g c = built_certified c.args.qp.now c.args.laws.now c.in_ok-cell.cell.rows.items c.in_ok-cell.ensures.rows c.forked.result c.forked.ensures.built
 
 pub returns-clause-no_move : goal.returns-clause-no_move
-returns-clause-no_move g c = built_empty c.args.qp.now c.args.laws.now c.new.result.items c.new.ensures.items c.forked.result c.forked.ensures.built (table_covers c.cover_laws.ensures.of_every_table c.args.qp.now c.args.laws.now c.requires.definite c.requires.table)
+returns-clause-no_move g c = built_empty c.args.qp.now c.args.laws.now c.in_ok-cell.cell.rows.items c.in_ok-cell.ensures.rows c.forked.result c.forked.ensures.built (table_covers c.cover_laws.ensures.of_every_table c.args.qp.now c.args.laws.now c.requires.definite c.requires.table)
 
 pub returns-clause-wide : goal.returns-clause-wide
-returns-clause-wide g c = built_wide c.args.qp.now c.args.laws.now c.new.result.items c.new.ensures.items c.forked.result c.forked.ensures.built c.forked.ensures.wide
+returns-clause-wide g c = built_wide c.args.qp.now c.args.laws.now c.in_ok-cell.cell.rows.items c.in_ok-cell.ensures.rows c.forked.result c.forked.ensures.built c.forked.ensures.wide

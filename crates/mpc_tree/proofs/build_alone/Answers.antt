@@ -12,19 +12,19 @@ pub grown-requires-clause-cover : goal.grown-requires-clause-cover
 grown-requires-clause-cover c = table_covers c.cover_laws.ensures.of_every_table c.args.qp.now c.args.laws.now c.requires.definite c.requires.table
 
 pub grown-requires-clause-ready : goal.grown-requires-clause-ready
-grown-requires-clause-ready c = box_ready c.args.qp.now c.args.laws.now c.new.result.items c.new.ensures.items
+grown-requires-clause-ready c = box_ready c.args.qp.now c.args.laws.now c.in_ok-cell.cell.rows.items c.in_ok-cell.ensures.rows
 
 pub returns-clause-tree : goal.returns-clause-tree
-returns-clause-tree c = built_tree c.args.qp.now c.args.laws.now c.new.result.items c.new.ensures.items c.grown.result c.grown.ensures.built
+returns-clause-tree c = built_tree c.args.qp.now c.args.laws.now c.in_ok-cell.cell.rows.items c.in_ok-cell.ensures.rows c.grown.result c.grown.ensures.built
 
 pub returns-clause-certs : goal.returns-clause-certs
-returns-clause-certs c = built_certs c.args.qp.now c.args.laws.now c.new.result.items c.new.ensures.items c.grown.result c.grown.ensures.built
+returns-clause-certs c = built_certs c.args.qp.now c.args.laws.now c.in_ok-cell.cell.rows.items c.in_ok-cell.ensures.rows c.grown.result c.grown.ensures.built
 
 pub returns-clause-certified : goal.returns-clause-certified
-returns-clause-certified c = built_certified c.args.qp.now c.args.laws.now c.new.result.items c.new.ensures.items c.grown.result c.grown.ensures.built
+returns-clause-certified c = built_certified c.args.qp.now c.args.laws.now c.in_ok-cell.cell.rows.items c.in_ok-cell.ensures.rows c.grown.result c.grown.ensures.built
 
 pub returns-clause-no_move : goal.returns-clause-no_move
-returns-clause-no_move c = built_empty c.args.qp.now c.args.laws.now c.new.result.items c.new.ensures.items c.grown.result c.grown.ensures.built (table_covers c.cover_laws.ensures.of_every_table c.args.qp.now c.args.laws.now c.requires.definite c.requires.table)
+returns-clause-no_move c = built_empty c.args.qp.now c.args.laws.now c.in_ok-cell.cell.rows.items c.in_ok-cell.ensures.rows c.grown.result c.grown.ensures.built (table_covers c.cover_laws.ensures.of_every_table c.args.qp.now c.args.laws.now c.requires.definite c.requires.table)
 
 pub returns-clause-wide : goal.returns-clause-wide
-returns-clause-wide c = built_wide c.args.qp.now c.args.laws.now c.new.result.items c.new.ensures.items c.grown.result c.grown.ensures.built c.grown.ensures.wide
+returns-clause-wide c = built_wide c.args.qp.now c.args.laws.now c.in_ok-cell.cell.rows.items c.in_ok-cell.ensures.rows c.grown.result c.grown.ensures.built c.grown.ensures.wide

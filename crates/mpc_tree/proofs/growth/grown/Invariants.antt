@@ -1,11 +1,15 @@
 use Rattle.std.proofs.Common.{length}
 use Rattle.mpc_space.specs.Matrix.{height}
+use Rattle.mpc_tree.specs.CellRuns.{IsRunOf}
 use Rattle.mpc_tree.proofs.Ending.{weights}
 use Rattle.mpc_tree.proofs.Growing.{IsGrown}
 use Rattle.mpc_tree.proofs.growth.grown.Given as goal
 
 abbrev pub invariant-nodes : goal.invariant-nodes
-invariant-nodes l = IsGrown l.qp l.laws (record { rows = l.fn.cell.items; next = l.fn.next }) l.borders l.tree (record { rows = l.cell.items; next = l.next }) l.sides.items l.held
+invariant-nodes l = record {
+  grown : IsGrown l.qp l.laws (record { rows = l.fn.cell.rows.items; next = l.fn.next }) l.borders l.tree (record { rows = l.cell.rows.items; next = l.next }) l.sides.items l.held;
+  run : IsRunOf l.qp l.cell.rows.items l.cell.run;
+}
 
 abbrev pub decreases-nodes : goal.decreases-nodes
 decreases-nodes l = weights (length l.laws) (height l.qp.g) l.next l.held l.sides.items

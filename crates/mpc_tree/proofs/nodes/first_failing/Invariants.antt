@@ -5,7 +5,7 @@ use Rattle.mpc_tree.proofs.nodes.first_failing.Given as goal
 
 abbrev pub invariant-loop-place : goal.invariant-loop-place
 invariant-loop-place l = record {
-  none : NoneFailsBefore l.qp l.rows l.cell l.place;
-  certs_are : AreCertsOf l.qp l.cell l.rows l.place l.certs;
-  fits : HoldsFit l.qp l.cell l.rows l.place;
+  none : NoneFailsBefore l.qp l.rows l.cell.rows.items l.place;
+  certs_are : AreCertsOf l.qp l.cell.rows.items l.rows l.place l.certs;
+  fits : HoldsFit l.qp l.cell.rows.items l.rows l.place;
 }
