@@ -48,3 +48,4 @@ pub mod PlaneLists
 pub mod LineSetLemmas
 pub mod NamedLemmas
 pub mod WholeReading
+pub mod KeptTexts

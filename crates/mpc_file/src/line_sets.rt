@@ -1,6 +1,6 @@
 //! Sets of lines of a text.
 
-ghost use Rattle.std.specs.Prelude.{◌≡◌, ℕ, List, [], not, IfOk, OnOk, ◌↔◌, ◌⊎◌, Contains, IsTrue};
+ghost use Rattle.std.specs.Prelude.{◌≡◌, ℕ, List, [], not, IfOk, OnOk, OnErr, ◌↔◌, ◌⊎◌, Contains, IsTrue};
 
 use mpc_frac::NoMemory;
 use std::alloc::Global;
@@ -31,10 +31,12 @@ impl<'a> LineSet<'a> {
         }
     }
 
-    /// Puts a line into the set, and answers whether it is new.
+    /// Puts a line into the set, and answers whether it is new. Without memory the set stays as it was.
     pub fn insert(&mut self, line: &'a [u8]) -> Result<bool, NoMemory>
         ensures new { IfOk result (λ added. IsTrue added ↔ (¬ Contains self.old line.now)) }
         ensures lines { OnOk result ((other : List ℕ) → Contains self.new other ↔ (Contains self.old other ⊎ (other ≡ line.now))) }
+        ensures err { OnErr result (self.new ≡ self.old) }
+        ensures kept { (other : List ℕ) → Contains self.old other → Contains self.new other }
     {
         let Ok(added) = self.lines.insert(line) else {
             return Err(NoMemory);

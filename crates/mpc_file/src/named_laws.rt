@@ -1,6 +1,6 @@
 //! The lines of affine forms that laws name, and those of such laws.
 
-ghost use Rattle.std.specs.Prelude.{◌≡◌, ◌≢◌, ℕ, ◌+◌, ◌^◌, ◌<◌, ◌≤◌, ◌↔◌, List, [], ◌∷◌, ◌++◌, length, map, take, cond, nat_lt, All, IsTrue, IfOk, MatchOption, codes, pos};
+ghost use Rattle.std.specs.Prelude.{◌≡◌, ◌≢◌, ℕ, ◌+◌, ◌^◌, ◌<◌, ◌≤◌, ◌↔◌, List, [], ◌∷◌, ◌++◌, length, map, take, cond, nat_lt, All, Contains, IsTrue, IfOk, MatchOption, codes, pos};
 ghost use Rattle.mpc_exact.specs.Rational.{ℚ};
 ghost use Rattle.mpc_linear.specs.Whole.{AreSmall};
 ghost use Rattle.mpc_controller.specs.Parts.{limits_of};
@@ -54,7 +54,7 @@ fn read_form_count(lines: &mut Lines) -> Result<u64, FileError>
 }
 
 /// Reads the line of a form that isn't among those before it, whose lines are known; its own line is known
-/// then too.
+/// then too. On an error it may be known, and those that were known still are.
 fn read_new_form<'a>(
     alloc: Global,
     lines: &mut Lines<'a>,
@@ -65,6 +65,7 @@ fn read_new_form<'a>(
     requires { HasLinesOf known.old before.now }
     ensures outcome { Outcome (one_line (plain_rule (IsNewForm plant.now.n before.now))) lines.old lines.new result }
     ensures known { IfOk result (λ form. HasLinesOf known.new (before.now ++ form ∷ [])) }
+    ensures kept { (line : List ℕ) → Contains known.old line → Contains known.new line }
 {
     one_fractions();
     let number = lines.number();

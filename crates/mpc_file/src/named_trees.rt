@@ -1,6 +1,6 @@
 //! Search trees whose splits name planes, and the planes that stand before them.
 
-ghost use Rattle.std.specs.Prelude.{◌≡◌, ℕ, ◌+◌, ◌-◌, ◌^◌, ◌<◌, ◌≤◌, List, [], ◌∷◌, ◌++◌, length, slice_get, Some, IfOk, OnOk, OnErr, MatchOption};
+ghost use Rattle.std.specs.Prelude.{◌≡◌, ℕ, ◌+◌, ◌-◌, ◌^◌, ◌<◌, ◌≤◌, List, [], ◌∷◌, ◌++◌, length, slice_get, Some, Contains, IfOk, OnOk, OnErr, MatchOption};
 ghost use Rattle.mpc_linear.specs.declared.integers.RowInt.{RowInt as Row};
 ghost use Rattle.mpc_plant.specs.declared.plants.Plant.{Plant as ThePlant};
 ghost use Rattle.mpc_controller.specs.Parts.{limits_of};
@@ -117,7 +117,8 @@ fn read_plane_count(lines: &mut Lines, all: u64, used: u64) -> Result<u64, FileE
     }
 }
 
-/// Reads the line of the next plane, which is none of those before.
+/// Reads the line of the next plane, which is none of those before, and puts it with them. On an error it may
+/// be one of them, and those that were before still are.
 fn read_plane<'a>(
     alloc: Global,
     lines: &mut Lines<'a>,
@@ -127,6 +128,7 @@ fn read_plane<'a>(
     ensures read { (plant : ThePlant) (rows : List Row) → counts.now ≡ limits_of plant → AreLinesOf before.old rows →
         Outcome (one_line (plane_rule plant rows)) lines.old lines.new result }
     ensures before { IfOk result (λ row. (rows : List Row) → AreLinesOf before.old rows → AreLinesOf before.new (rows ++ row ∷ [])) }
+    ensures kept { (line : List ℕ) → Contains before.old line → Contains before.new line }
 {
     let number = lines.number();
     let line = lines.take()?;

@@ -1,6 +1,6 @@
 //! The depths at which nodes of a tree are owed.
 
-ghost use Rattle.std.specs.Prelude.{◌≡◌, ◌+◌, ◌^◌, ◌<◌, [], ◌∷◌, IfOk, OnOk, MatchOption};
+ghost use Rattle.std.specs.Prelude.{◌≡◌, ◌+◌, ◌^◌, ◌<◌, [], ◌∷◌, IfOk, OnOk, OnErr, MatchOption};
 ghost use Rattle.mpc_file.specs.TreeReading.{owed_under};
 
 use mpc_frac::NoMemory;
@@ -41,9 +41,10 @@ impl Depths {
         self.items.pop()
     }
 
-    /// Puts a depth in front of the others.
+    /// Puts a depth in front of the others. Without memory the depths stay as they were.
     fn owe(&mut self, depth: u64) -> Result<(), NoMemory>
-        ensures { OnOk result (self.new ≡ depth ∷ self.old) }
+        ensures ok { OnOk result (self.new ≡ depth ∷ self.old) }
+        ensures err { OnErr result (self.new ≡ self.old) }
     {
         if self.items.push(depth).is_err() {
             return Err(NoMemory);
@@ -51,15 +52,20 @@ impl Depths {
         Ok(())
     }
 
-    /// Puts in front the depths that a node at a depth owes.
+    /// Puts in front the depths that a node at a depth owes. Without memory the depths stay as they were.
     pub(crate) fn owe_under(&mut self, node: &Node, depth: u64) -> Result<(), NoMemory>
         requires { depth + 1 < 2 ^ 64 }
-        ensures { OnOk result (self.new ≡ owed_under node.now depth self.old) }
+        ensures ok { OnOk result (self.new ≡ owed_under node.now depth self.old) }
+        ensures err { OnErr result (self.new ≡ self.old) }
     {
         match node {
             Node::Split(_) => {
                 self.owe(depth + 1)?;
-                self.owe(depth + 1)
+                let Ok(()) = self.owe(depth + 1) else {
+                    self.next();
+                    return Err(NoMemory);
+                };
+                Ok(())
             }
             Node::Law { .. } | Node::NoMove { .. } => Ok(()),
         }

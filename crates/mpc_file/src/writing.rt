@@ -1,6 +1,6 @@
 //! The file of a controller, written in version 3.
 
-ghost use Rattle.std.specs.Prelude.{◌≡◌, [], IfOk, OnOk};
+ghost use Rattle.std.specs.Prelude.{◌≡◌, [], IfOk, OnOk, length, take};
 ghost use Rattle.mpc_controller.specs.Bounds.{IsController};
 ghost use Rattle.mpc_file.specs.FileGrammar.{Spells, parts_with};
 ghost use Rattle.mpc_file.specs.declared.versions.Version.TheVariants.{Three};
@@ -24,7 +24,7 @@ use std::alloc::Global;
 use tree_lines::write_tree;
 use words::{write_count_line, write_piece};
 
-/// Appends the text of these parts.
+/// Appends the text of these parts. Without memory some of it stands there.
 fn write_parts(
     alloc: Global,
     plant: &Plant,
@@ -32,8 +32,9 @@ fn write_parts(
     tree: &Tree,
     out: &mut Vec<u8>,
 ) -> Result<(), NoMemory>
-    ensures { OnOk result (IsController plant.now laws.now tree.now → out.old.items ≡ []
+    ensures spells { OnOk result (IsController plant.now laws.now tree.now → out.old.items ≡ []
         → Spells out.new.items Three (parts_with plant.now laws.now tree.now)) }
+    ensures kept { take (length out.old.items) out.new.items ≡ out.old.items }
 {
     word_laws();
     write_count_line(b"mpc", 3, out)?;

@@ -13,3 +13,4 @@ pub mod ReadLemmas
 pub mod ReplyLemmas
 pub mod AnswerLemmas
 pub mod TestLemmas
+pub mod KeptForms

@@ -95,7 +95,8 @@ fn whole_form(alloc: Global, row: &[Frac], counts: &[u64]) -> Result<IntAffine, 
     }
 }
 
-/// The place of the form among the forms, behind which it is put where it is new.
+/// The place of the form among the forms, behind which it is put where it is new. Without memory the forms
+/// stay as they were, and the places are given up: they may hold the line of a form that isn't there.
 fn keep_form(
     alloc: Global,
     form: IntAffine,
@@ -103,7 +104,9 @@ fn keep_form(
     lines: &mut Places,
 ) -> Result<usize, NoMemory>
     requires { ArePlaces lines.old (map form_line forms.old.items) }
-    ensures { IfOk result (IsKept form_line form forms.old.items forms.new.items lines.new) }
+    ensures place { IfOk result (IsKept form_line form forms.old.items forms.new.items lines.new) }
+    ensures err { OnErr result (forms.new.items ≡ forms.old.items) }
+    ensures kept { take (length forms.old.items) forms.new.items ≡ forms.old.items }
 {
     let line = line_of(alloc, &form.den, form.k.as_slice())?;
     let place = lines.place(line)?;
@@ -114,7 +117,8 @@ fn keep_form(
     Ok(place)
 }
 
-/// The places of the forms of the law's first rows, which are kept with the other forms.
+/// The places of the forms of the law's first rows, which are kept with the other forms. Without memory some
+/// of them stand behind the others, and the places of lines are given up.
 fn forms_of(
     alloc: Global,
     law: &Law,
@@ -127,8 +131,9 @@ fn forms_of(
     requires columns { law.now.moves.columns ≡ length counts.now + 1 }
     requires fits { InputsFit counts.now law.now inputs }
     requires kept { ArePlaces lines.old (map form_line forms.old.items) }
-    ensures { IfOk result (AreFormPlaces counts.now (take inputs law.now.moves.rows) inputs
+    ensures places { IfOk result (AreFormPlaces counts.now (take inputs law.now.moves.rows) inputs
         forms.old.items forms.new.items lines.new) }
+    ensures forms_kept { take (length forms.old.items) forms.new.items ≡ forms.old.items }
 {
     prove!(law.moves.cols() as usize == counts.len() + 1);
     let mut places = FormPlaces::new(alloc);

@@ -1,6 +1,6 @@
 //! Lists of whole numbers that are kept once each, and named by their places.
 
-ghost use Rattle.std.specs.Prelude.{◌≡◌, ℕ, ℤ, List, [], ◌∷◌, IfOk, length};
+ghost use Rattle.std.specs.Prelude.{◌≡◌, ℕ, ℤ, List, [], ◌∷◌, IfOk, OnErr, length};
 ghost use Rattle.mpc_table.specs.Places.{ArePlaces, IsPlaced};
 
 use mpc_frac::NoMemory;
@@ -23,10 +23,12 @@ impl Places {
         }
     }
 
-    /// The place of the line, which is put behind the others where it is new.
+    /// The place of the line, which is put behind the others where it is new. Without memory the places stay
+    /// as they were.
     pub fn place(&mut self, line: Vec<i128>) -> Result<usize, NoMemory>
-        ensures { IfOk result (λ place. (lines : List (List ℤ)) → ArePlaces self.old lines
+        ensures placed { IfOk result (λ place. (lines : List (List ℤ)) → ArePlaces self.old lines
             → IsPlaced lines line.items place self.new) }
+        ensures err { OnErr result (self.new.places.entries ≡ self.old.places.entries) }
     {
         if let Some(place) = self.places.get(&line) {
             return Ok(*place);

@@ -1,6 +1,6 @@
 //! Where the no sides of a tree's splits begin, by one pass over its nodes in preorder.
 
-ghost use Rattle.std.specs.Prelude.{◌+◌, ◌<◌, ◌↔◌, IfOk, OnOk, IsTrue, length};
+ghost use Rattle.std.specs.Prelude.{◌≡◌, ◌+◌, ◌<◌, ◌↔◌, IfOk, OnOk, OnErr, IsTrue, length, take};
 ghost use Rattle.mpc_controller.specs.Preorder.{IsTree};
 ghost use Rattle.mpc_controller.specs.Walk.{IsLeaf};
 ghost use Rattle.mpc_table.specs.Steps.{AreNoSides};
@@ -22,7 +22,8 @@ fn is_leaf(node: &Node) -> bool
 }
 
 /// Puts the next node's place behind those of the nodes before it. A leaf ends the yes side of the
-/// innermost split whose yes side isn't ended.
+/// innermost split whose yes side isn't ended. Without memory the next node's place may stand there, and the
+/// others stay as they were.
 fn add_side(
     sides: &mut Vec<usize>,
     pending: &mut Vec<usize>,
@@ -31,7 +32,9 @@ fn add_side(
 ) -> Result<(), NoMemory>
     requires inside { k < length tree.now }
     requires so_far { AreSidesTo tree.now k sides.old.items pending.old.items }
-    ensures { OnOk result (AreSidesTo tree.now (k + 1) sides.new.items pending.new.items) }
+    ensures next { OnOk result (AreSidesTo tree.now (k + 1) sides.new.items pending.new.items) }
+    ensures kept { OnErr result (take (length sides.old.items) sides.new.items ≡ sides.old.items) }
+    ensures err { OnErr result (pending.new.items ≡ pending.old.items) }
 {
     preorder_laws();
     sides.push(0).map_err(|_| NoMemory)?;

@@ -1,6 +1,6 @@
 //! A search tree laid out for walks, and the walk from its root to a leaf.
 
-ghost use Rattle.std.specs.Prelude.{◌<◌, length, map, All, IfOk, MatchOption};
+ghost use Rattle.std.specs.Prelude.{◌≡◌, ◌<◌, length, map, All, IfOk, OnErr, MatchOption};
 ghost use Rattle.mpc_table.specs.Places.{ArePlaces};
 ghost use Rattle.mpc_table.specs.Steps.{AreSafe, IsLastAt, LeadsTo, WalksTo};
 ghost use Rattle.mpc_table.specs.SharedSteps.{row_line, actions_at, NamesRow, IsStepFor, AreStepsOf};
@@ -31,7 +31,8 @@ pub struct Steps {
     pub steps: Vec<Step>,
 }
 
-/// What is done at the node, whose row is kept with the others.
+/// What is done at the node, whose row is kept with the others. Without memory the rows stay as they were,
+/// and the places are given up.
 fn step_at(
     alloc: Global,
     node: &Node,
@@ -39,7 +40,8 @@ fn step_at(
     places: &mut Places,
 ) -> Result<Step, NoMemory>
     requires { ArePlaces places.old (map row_line rows.old.items) }
-    ensures { IfOk result (IsStepFor node.now rows.old.items rows.new.items places.new) }
+    ensures step { IfOk result (IsStepFor node.now rows.old.items rows.new.items places.new) }
+    ensures err { OnErr result (rows.new.items ≡ rows.old.items) }
 {
     match node {
         Node::Split(row) => Ok(Step::Branch(keep_row(alloc, row, rows, places)?)),

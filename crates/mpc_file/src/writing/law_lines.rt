@@ -1,6 +1,6 @@
 //! The lines of laws, whose forms are named by their numbers.
 
-ghost use Rattle.std.specs.Prelude.{◌≡◌, ◌++◌, List, map, codes, decimal, OnOk, IfOk, []};
+ghost use Rattle.std.specs.Prelude.{◌≡◌, ◌++◌, List, map, codes, decimal, OnOk, IfOk, [], length, take};
 ghost use Rattle.mpc_exact.specs.Rational.{ℚ};
 ghost use Rattle.mpc_words.specs.Words.{line, behind_blanks};
 ghost use Rattle.mpc_file.specs.PlantGrammar.{AllFit};
@@ -28,15 +28,17 @@ fn form_line(alloc: Global, form: &[Frac]) -> Result<Vec<u8>, NoMemory>
     Ok(text)
 }
 
-/// Appends the numbers of the matrix's rows, each behind a blank.
+/// Appends the numbers of the matrix's rows, each behind a blank. Without memory some of them stand there.
 fn write_numbers(
     alloc: Global,
     matrix: &Matrix,
     names: &mut Names,
     out: &mut Vec<u8>,
 ) -> Result<(), NoMemory>
-    ensures { OnOk result ((forms : List (List ℚ)) → AreForms (AreNames names.old) forms
+    ensures numbered { OnOk result ((forms : List (List ℚ)) → AreForms (AreNames names.old) forms
         → AreNumbered forms matrix.now.rows out.old.items out.new.items (AreNames names.new)) }
+    ensures kept { take (length out.old.items) out.new.items ≡ out.old.items }
+    ensures names_kept { take (length names.old.text.items) names.new.text.items ≡ names.old.text.items }
 {
     one_fractions();
     for i in 0..matrix.rows() {
@@ -47,9 +49,10 @@ fn write_numbers(
     Ok(())
 }
 
-/// Appends the members in rising order, each behind a blank.
+/// Appends the members in rising order, each behind a blank. Without memory some of them stand there.
 fn write_members(set: ActiveSet, out: &mut Vec<u8>) -> Result<(), NoMemory>
-    ensures { OnOk result (out.new.items ≡ out.old.items ++ behind_blanks (map decimal set)) }
+    ensures text { OnOk result (out.new.items ≡ out.old.items ++ behind_blanks (map decimal set)) }
+    ensures kept { take (length out.old.items) out.new.items ≡ out.old.items }
 {
     for k in 1..set.size() + 1 {
         write_count(set.member(k).into(), out)?;
@@ -57,19 +60,22 @@ fn write_members(set: ActiveSet, out: &mut Vec<u8>) -> Result<(), NoMemory>
     Ok(())
 }
 
-/// Appends the line of the law's set.
+/// Appends the line of the law's set. Without memory some of it stands there.
 fn write_set(set: ActiveSet, out: &mut Vec<u8>) -> Result<(), NoMemory>
-    ensures { OnOk result (out.new.items ≡ out.old.items ++ ended (line (codes "law") (map decimal set))) }
+    ensures text { OnOk result (out.new.items ≡ out.old.items ++ ended (line (codes "law") (map decimal set))) }
+    ensures kept { take (length out.old.items) out.new.items ≡ out.old.items }
 {
     write_piece(b"law", out)?;
     write_members(set, out)?;
     end_line(out)
 }
 
-/// Appends the lines of the law.
+/// Appends the lines of the law. Without memory some of them stand there.
 fn write_law(alloc: Global, law: &Law, names: &mut Names, out: &mut Vec<u8>) -> Result<(), NoMemory>
-    ensures { OnOk result ((forms : List (List ℚ)) → AreForms (AreNames names.old) forms
+    ensures numbered { OnOk result ((forms : List (List ℚ)) → AreForms (AreNames names.old) forms
         → IsLawNumbered forms law.now out.old.items out.new.items (AreNames names.new)) }
+    ensures kept { take (length out.old.items) out.new.items ≡ out.old.items }
+    ensures names_kept { take (length names.old.text.items) names.new.text.items ≡ names.old.text.items }
 {
     write_set(law.set, out)?;
     write_piece(b"move", out)?;
@@ -83,14 +89,16 @@ fn write_law(alloc: Global, law: &Law, names: &mut Names, out: &mut Vec<u8>) -> 
     end_line(out)
 }
 
-/// Appends the lines of the laws.
+/// Appends the lines of the laws. Without memory some of them stand there.
 pub fn write_laws(
     alloc: Global,
     laws: &LawTable,
     names: &mut Names,
     out: &mut Vec<u8>,
 ) -> Result<(), NoMemory>
-    ensures { OnOk result (AreForms (AreNames names.old) [] → AreLawsNumbered laws.now out.old.items out.new.items (AreNames names.new)) }
+    ensures numbered { OnOk result (AreForms (AreNames names.old) [] → AreLawsNumbered laws.now out.old.items out.new.items (AreNames names.new)) }
+    ensures kept { take (length out.old.items) out.new.items ≡ out.old.items }
+    ensures names_kept { take (length names.old.text.items) names.new.text.items ≡ names.old.text.items }
 {
     for j in 0..laws.len() {
         write_law(alloc, laws.at(j), names, out)?;
@@ -98,9 +106,11 @@ pub fn write_laws(
     Ok(())
 }
 
-/// Appends the lines of the different forms, and those of the laws that name them.
+/// Appends the lines of the different forms, and those of the laws that name them. Without memory some of
+/// them stand there.
 pub fn write_table(alloc: Global, laws: &LawTable, out: &mut Vec<u8>) -> Result<(), NoMemory>
-    ensures { OnOk result (IsTableWritten laws.now out.old.items out.new.items) }
+    ensures written { OnOk result (IsTableWritten laws.now out.old.items out.new.items) }
+    ensures kept { take (length out.old.items) out.new.items ≡ out.old.items }
 {
     let mut names = Names::new(alloc);
     let mut text = Vec::new(alloc);

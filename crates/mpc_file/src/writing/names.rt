@@ -1,6 +1,6 @@
 //! Lines that are written once and named by their numbers.
 
-ghost use Rattle.std.specs.Prelude.{◌≡◌, List, ℕ, [], IfOk, length};
+ghost use Rattle.std.specs.Prelude.{◌≡◌, List, ℕ, [], IfOk, OnErr, length, take};
 ghost use Rattle.mpc_file.specs.Names.{AreNames, IsNamed};
 
 use super::words::{end_line, write_piece};
@@ -41,9 +41,12 @@ impl Names {
         self.text.as_slice()
     }
 
-    /// The number of the line, which is put behind the others where it is new.
+    /// The number of the line, which is put behind the others where it is new. Without memory the numbers stay
+    /// as they were, and the line may stand in the text without a number.
     pub fn number(&mut self, line: Vec<u8>) -> Result<u64, NoMemory>
-        ensures { IfOk result (λ k. (lines : List (List ℕ)) → AreNames self.old lines → IsNamed lines line.items k (AreNames self.new)) }
+        ensures named { IfOk result (λ k. (lines : List (List ℕ)) → AreNames self.old lines → IsNamed lines line.items k (AreNames self.new)) }
+        ensures kept { take (length self.old.text.items) self.new.text.items ≡ self.old.text.items }
+        ensures err { OnErr result (self.new.numbers.entries ≡ self.old.numbers.entries) }
     {
         if let Some(number) = self.numbers.get(&line) {
             return Ok(*number);

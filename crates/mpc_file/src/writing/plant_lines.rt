@@ -1,6 +1,6 @@
 //! The lines of a plant.
 
-ghost use Rattle.std.specs.Prelude.{◌≡◌, ◌++◌, map, All, OnOk};
+ghost use Rattle.std.specs.Prelude.{◌≡◌, [], ◌∷◌, ◌++◌, map, All, OnOk, length, take};
 ghost use Rattle.std.specs.List.{flat_map};
 ghost use Rattle.mpc_frac.specs.Text.{text_of as fraction_text};
 ghost use Rattle.mpc_words.specs.Words.{behind_blanks};
@@ -19,9 +19,10 @@ use mpc_frac::NoMemory;
 use mpc_linear::Matrix;
 use mpc_plant::{Coordinate, Coordinates, Plant, PlantRow, PlantRows};
 
-/// Appends the line of the plant's sizes.
+/// Appends the line of the plant's sizes. Without memory some of it stands there.
 fn write_size(plant: &Plant, out: &mut Vec<u8>) -> Result<(), NoMemory>
-    ensures { OnOk result (out.new.items ≡ out.old.items ++ ended (size_line plant.now)) }
+    ensures text { OnOk result (out.new.items ≡ out.old.items ++ ended (size_line plant.now)) }
+    ensures kept { take (length out.old.items) out.new.items ≡ out.old.items }
 {
     write_piece(b"size", out)?;
     write_count(plant.n.into(), out)?;
@@ -30,11 +31,13 @@ fn write_size(plant: &Plant, out: &mut Vec<u8>) -> Result<(), NoMemory>
     end_line(out)
 }
 
-/// Appends the entries of the matrix row by row, each behind a blank.
+/// Appends the entries of the matrix row by row, each behind a blank. Without memory some of them stand
+/// there.
 fn write_entries(matrix: &Matrix, out: &mut Vec<u8>) -> Result<(), NoMemory>
     ensures text { OnOk result (out.new.items ≡ out.old.items
         ++ behind_blanks (map fraction_text (flat_map (λ row. row) matrix.now.rows))) }
     ensures fits { OnOk result (All AllFit matrix.now.rows) }
+    ensures kept { take (length out.old.items) out.new.items ≡ out.old.items }
 {
     for i in 0..matrix.rows() {
         write_fractions(matrix.row(i), out)?;
@@ -42,20 +45,22 @@ fn write_entries(matrix: &Matrix, out: &mut Vec<u8>) -> Result<(), NoMemory>
     Ok(())
 }
 
-/// Appends the line of the matrix.
+/// Appends the line of the matrix. Without memory some of it stands there.
 fn write_matrix(first: &[u8], matrix: &Matrix, out: &mut Vec<u8>) -> Result<(), NoMemory>
     ensures text { OnOk result (out.new.items ≡ out.old.items ++ ended (matrix_line first.now matrix.now)) }
     ensures fits { OnOk result (All AllFit matrix.now.rows) }
+    ensures kept { take (length out.old.items) out.new.items ≡ out.old.items }
 {
     write_piece(first, out)?;
     write_entries(matrix, out)?;
     end_line(out)
 }
 
-/// Appends the lines of the plant's five matrices.
+/// Appends the lines of the plant's five matrices. Without memory some of them stand there.
 fn write_matrices(plant: &Plant, out: &mut Vec<u8>) -> Result<(), NoMemory>
     ensures text { OnOk result (out.new.items ≡ out.old.items ++ text_of_lines (matrix_lines plant.now)) }
     ensures fits { OnOk result (MatricesFit plant.now) }
+    ensures kept { take (length out.old.items) out.new.items ≡ out.old.items }
 {
     write_matrix(b"A", &plant.a, out)?;
     write_matrix(b"B", &plant.b, out)?;
@@ -64,18 +69,20 @@ fn write_matrices(plant: &Plant, out: &mut Vec<u8>) -> Result<(), NoMemory>
     write_matrix(b"P", &plant.last, out)
 }
 
-/// Appends the line of the drift.
+/// Appends the line of the drift. Without memory some of it stands there.
 fn write_drift(plant: &Plant, out: &mut Vec<u8>) -> Result<(), NoMemory>
     ensures text { OnOk result (out.new.items ≡ out.old.items ++ ended (drift_line plant.now)) }
     ensures fits { OnOk result (AllFit plant.now.drift) }
+    ensures kept { take (length out.old.items) out.new.items ≡ out.old.items }
 {
     write_fractions_line(b"drift", plant.drift.as_slice(), out)
 }
 
-/// Appends the line of the targets, that of the state first.
+/// Appends the line of the targets, that of the state first. Without memory some of it stands there.
 fn write_goal(plant: &Plant, out: &mut Vec<u8>) -> Result<(), NoMemory>
     ensures text { OnOk result (out.new.items ≡ out.old.items ++ ended (goal_line plant.now)) }
     ensures fits { OnOk result (GoalFits plant.now) }
+    ensures kept { take (length out.old.items) out.new.items ≡ out.old.items }
 {
     write_piece(b"goal", out)?;
     write_fractions(plant.xgoal.as_slice(), out)?;
@@ -83,22 +90,35 @@ fn write_goal(plant: &Plant, out: &mut Vec<u8>) -> Result<(), NoMemory>
     end_line(out)
 }
 
-/// Appends the line of a row on states and inputs.
+/// Appends the coefficients of a row on states and inputs and its bound, each behind a blank. Without memory
+/// some of them stand there.
+fn write_sides(row: &PlantRow, out: &mut Vec<u8>) -> Result<(), NoMemory>
+    ensures text { OnOk result (out.new.items ≡ out.old.items
+        ++ behind_blanks (map fraction_text (row.now.x ++ row.now.u ++ row.now.max ∷ []))) }
+    ensures fits { OnOk result (RowFits row.now) }
+    ensures kept { take (length out.old.items) out.new.items ≡ out.old.items }
+{
+    write_fractions(row.x.as_slice(), out)?;
+    write_fractions(row.u.as_slice(), out)?;
+    write_fraction(&row.max, out)
+}
+
+/// Appends the line of a row on states and inputs. Without memory some of it stands there.
 fn write_row(row: &PlantRow, out: &mut Vec<u8>) -> Result<(), NoMemory>
     ensures text { OnOk result (out.new.items ≡ out.old.items ++ ended (row_line row.now)) }
     ensures fits { OnOk result (RowFits row.now) }
+    ensures kept { take (length out.old.items) out.new.items ≡ out.old.items }
 {
     write_piece(b"row", out)?;
-    write_fractions(row.x.as_slice(), out)?;
-    write_fractions(row.u.as_slice(), out)?;
-    write_fraction(&row.max, out)?;
+    write_sides(row, out)?;
     end_line(out)
 }
 
-/// Appends the lines of the rows that hold before the end.
+/// Appends the lines of the rows that hold before the end. Without memory some of them stand there.
 fn write_rows(rows: &PlantRows, out: &mut Vec<u8>) -> Result<(), NoMemory>
     ensures text { OnOk result (out.new.items ≡ out.old.items ++ text_of_lines (row_lines rows.now)) }
     ensures fits { OnOk result (All RowFits rows.now) }
+    ensures kept { take (length out.old.items) out.new.items ≡ out.old.items }
 {
     write_count_line(b"rows", rows.len() as u64, out)?;
     for i in 0..rows.len() {
@@ -107,10 +127,11 @@ fn write_rows(rows: &PlantRows, out: &mut Vec<u8>) -> Result<(), NoMemory>
     Ok(())
 }
 
-/// Appends the line of a row on states alone.
+/// Appends the line of a row on states alone. Without memory some of it stands there.
 fn write_last(row: &PlantRow, out: &mut Vec<u8>) -> Result<(), NoMemory>
     ensures text { OnOk result (out.new.items ≡ out.old.items ++ ended (last_line row.now)) }
     ensures fits { OnOk result (LastFits row.now) }
+    ensures kept { take (length out.old.items) out.new.items ≡ out.old.items }
 {
     write_piece(b"last", out)?;
     write_fractions(row.x.as_slice(), out)?;
@@ -118,10 +139,11 @@ fn write_last(row: &PlantRow, out: &mut Vec<u8>) -> Result<(), NoMemory>
     end_line(out)
 }
 
-/// Appends the lines of the rows that hold at the end.
+/// Appends the lines of the rows that hold at the end. Without memory some of them stand there.
 fn write_terminal(rows: &PlantRows, out: &mut Vec<u8>) -> Result<(), NoMemory>
     ensures text { OnOk result (out.new.items ≡ out.old.items ++ text_of_lines (last_lines rows.now)) }
     ensures fits { OnOk result (All LastFits rows.now) }
+    ensures kept { take (length out.old.items) out.new.items ≡ out.old.items }
 {
     write_count_line(b"terminal", rows.len() as u64, out)?;
     for i in 0..rows.len() {
@@ -130,10 +152,11 @@ fn write_terminal(rows: &PlantRows, out: &mut Vec<u8>) -> Result<(), NoMemory>
     Ok(())
 }
 
-/// Appends the line of a coordinate.
+/// Appends the line of a coordinate. Without memory some of it stands there.
 fn write_coordinate(axis: &Coordinate, out: &mut Vec<u8>) -> Result<(), NoMemory>
     ensures text { OnOk result (out.new.items ≡ out.old.items ++ ended (grid_line axis.now)) }
     ensures fits { OnOk result (AxisFits axis.now) }
+    ensures kept { take (length out.old.items) out.new.items ≡ out.old.items }
 {
     write_piece(b"grid", out)?;
     write_fraction(&axis.low, out)?;
@@ -142,10 +165,11 @@ fn write_coordinate(axis: &Coordinate, out: &mut Vec<u8>) -> Result<(), NoMemory
     end_line(out)
 }
 
-/// Appends the lines of the grid's coordinates.
+/// Appends the lines of the grid's coordinates. Without memory some of them stand there.
 fn write_grid(grid: &Coordinates, out: &mut Vec<u8>) -> Result<(), NoMemory>
     ensures text { OnOk result (out.new.items ≡ out.old.items ++ text_of_lines (map grid_line grid.now)) }
     ensures fits { OnOk result (All AxisFits grid.now) }
+    ensures kept { take (length out.old.items) out.new.items ≡ out.old.items }
 {
     for i in 0..grid.len() {
         write_coordinate(grid.at(i), out)?;
@@ -153,10 +177,11 @@ fn write_grid(grid: &Coordinates, out: &mut Vec<u8>) -> Result<(), NoMemory>
     Ok(())
 }
 
-/// Appends the lines of the plant.
+/// Appends the lines of the plant. Without memory some of them stand there.
 pub fn write_plant(plant: &Plant, out: &mut Vec<u8>) -> Result<(), NoMemory>
     ensures text { OnOk result (out.new.items ≡ out.old.items ++ text_of_lines (plant_lines plant.now)) }
     ensures prints { OnOk result (Prints (plant_of Three) plant.now (text_of_lines (plant_lines plant.now))) }
+    ensures kept { take (length out.old.items) out.new.items ≡ out.old.items }
 {
     word_laws();
     write_size(plant, out)?;

@@ -29,4 +29,4 @@ pub loop-depth-preserved : goal.loop-depth-preserved
 loop-depth-preserved c =
     named_more c.args.plant.now c.args.laws c.args.planes.now c.args.lines.now c.loop-depth.lines c.loop-depth.tree c.loop-depth.owed c.next.new.self c.in-Some.depth c.loop-depth.used c.loop-depth.invariant c.in-Some.ensures
     c.in_ok-node.ensures.0 c.read_named_node.new.lines (named_given c.args.plant.now c.args.laws c.args.planes.now c.loop-depth.used c.in-Some.depth c.loop-depth.lines c.read_named_node.new.lines (c.in_ok-node.node, c.in_ok-node.used_then) c.in_ok-node.ensures)
-    c.in_ok-node.node c.push.new.self c.owe_under.new.self c.in_ok-node.used_then (λ i. (c.in_ok-node.ensures.1.1.1.0 i).0) c.in_ok-push.ensures.ok c.in_ok-owe_under.ensures (λ i. (c.in_ok-node.ensures.1.1.1.0 i).1)
+    c.in_ok-node.node c.push.new.self c.owe_under.new.self c.in_ok-node.used_then (λ i. (c.in_ok-node.ensures.1.1.1.0 i).0) c.in_ok-push.ensures.ok c.in_ok-owe_under.ensures.ok (λ i. (c.in_ok-node.ensures.1.1.1.0 i).1)

@@ -31,4 +31,4 @@ loop-depth-smaller c =
 pub loop-depth-preserved : goal.loop-depth-preserved
 loop-depth-preserved c =
     node_more c.args.plant.now c.args.laws (λ (before : List (NodeOver RowInt)). written_split c.args.plant.now) written_node c.args.lines.now c.loop-depth.lines c.loop-depth.tree c.loop-depth.owed c.next.new.self c.in-Some.depth c.loop-depth.invariant c.in-Some.ensures
-    written_owes c.in_ok-node.ensures.0 c.read_written_node.new.lines (node_given c.args.plant.now c.args.laws c.in-Some.depth (written_split c.args.plant.now) written_node c.loop-depth.lines c.read_written_node.new.lines c.in_ok-node.node c.in_ok-node.ensures) c.in_ok-node.node c.push.new.self c.owe_under.new.self c.in_ok-node.ensures.1.1.1.0 c.in_ok-push.ensures.ok c.in_ok-owe_under.ensures
+    written_owes c.in_ok-node.ensures.0 c.read_written_node.new.lines (node_given c.args.plant.now c.args.laws c.in-Some.depth (written_split c.args.plant.now) written_node c.loop-depth.lines c.read_written_node.new.lines c.in_ok-node.node c.in_ok-node.ensures) c.in_ok-node.node c.push.new.self c.owe_under.new.self c.in_ok-node.ensures.1.1.1.0 c.in_ok-push.ensures.ok c.in_ok-owe_under.ensures.ok

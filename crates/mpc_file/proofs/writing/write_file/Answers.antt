@@ -11,4 +11,4 @@ returns c =
     let same : parts_with c.plant.result.now c.laws.result.now c.tree.result.now ≡ parts = λ i. parts_with (c.plant.ensures.value i) (c.laws.ensures.value i) (c.tree.ensures.value i) in
     let is : IsController c.plant.result.now c.laws.result.now c.tree.result.now =
     subst (λ (p : Parts). IsController p.plant p.laws p.tree) (sym same) c.plant.ensures.controller in
-    subst (Spells c.write_parts.new.out.items Three) same (c.in_ok-write_parts.ensures is c.new-out.ensures.items)
+    subst (Spells c.write_parts.new.out.items Three) same (c.in_ok-write_parts.ensures.spells is c.new-out.ensures.items)

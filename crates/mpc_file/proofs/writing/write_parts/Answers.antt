@@ -3,9 +3,9 @@ use Rattle.mpc_file.specs.FileGrammar.{parts_with}
 use Rattle.mpc_file.proofs.FilePrints.{written}
 use Rattle.mpc_file.proofs.writing.write_parts.Goals as goal
 
-pub returns : goal.returns
-returns c =
+pub returns-clause-spells : goal.returns-clause-spells
+returns-clause-spells c =
     on_ok_weaker c.write_piece.result
     (λ added. λ is empty. written c.word_laws.ensures (parts_with c.args.plant.now c.args.laws.now c.args.tree.now) c.args.out.now.items c.write_count_line.new.out.items c.write_plant.new.out.items c.write_table.new.out.items c.write_tree.new.out.items c.write_piece.new.out.items
-    is empty c.in_ok-write_count_line.ensures c.in_ok-write_plant.ensures.text c.in_ok-write_plant.ensures.prints c.in_ok-write_table.ensures c.in_ok-write_tree.ensures added)
-    c.write_piece.ensures
+    is empty c.in_ok-write_count_line.ensures.text c.in_ok-write_plant.ensures.text c.in_ok-write_plant.ensures.prints c.in_ok-write_table.ensures.written c.in_ok-write_tree.ensures.written added)
+    c.write_piece.ensures.text

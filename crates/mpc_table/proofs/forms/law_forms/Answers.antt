@@ -30,7 +30,7 @@ loop-j-init c =
 pub loop-j-preserved : goal.loop-j-preserved
 loop-j-preserved c =
     let pushed : c.push.new.self.items ≡ c.loop-j.all.items ++ c.in_ok-places.places ∷ [] = search rules in
-    laws_next c.args.counts.now c.args.plant.now.p c.args.laws.now c.loop-j.j c.at.result.now _ _ _ _ _ _ _ c.at.ensures pushed c.loop-j.invariant c.in_ok-places.ensures
+    laws_next c.args.counts.now c.args.plant.now.p c.args.laws.now c.loop-j.j c.at.result.now _ _ _ _ _ _ _ c.at.ensures pushed c.loop-j.invariant c.in_ok-places.ensures.places
 
 pub returns : goal.returns
 returns c = laws_all c.args.counts.now c.args.plant.now.p c.args.laws.now c.loop-j.j c.loop-j.forms.items c.loop-j.lines c.loop-j.all.items c.loop-j.invariant (omega arith)

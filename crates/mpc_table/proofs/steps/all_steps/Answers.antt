@@ -13,7 +13,7 @@ loop-k-init c =
 pub loop-k-preserved : goal.loop-k-preserved
 loop-k-preserved c =
     let pushed : c.push.new.self.items ≡ c.loop-k.steps.items ++ c.in_ok-step.step ∷ [] = search rules in
-    shared_next c.args.tree.now c.loop-k.k c.at.result.now _ _ _ _ _ _ c.in_ok-step.step c.at.ensures pushed c.loop-k.invariant c.in_ok-step.ensures
+    shared_next c.args.tree.now c.loop-k.k c.at.result.now _ _ _ _ _ _ c.in_ok-step.step c.at.ensures pushed c.loop-k.invariant c.in_ok-step.ensures.step
 
 pub returns : goal.returns
 returns c = shared_all c.args.tree.now c.loop-k.k c.loop-k.rows.items c.loop-k.places c.loop-k.steps.items c.loop-k.invariant (omega arith)

@@ -1,4 +1,4 @@
-use Rattle.std.proofs.Common.{sym}
+use Rattle.std.proofs.Common.{inl, sym}
 use Rattle.mpc_file.proofs.LineSetLemmas.{new_iff, lines_iff}
 use Rattle.mpc_file.proofs.line_sets.LineSet.insert.Goals as goal
 
@@ -7,3 +7,6 @@ returns-clause-new c = new_iff c.args.line c.self.inside.lines.keys c.args.self.
 
 pub returns-clause-lines : goal.returns-clause-lines
 returns-clause-lines c = lines_iff c.args.line c.self.inside.lines.keys c.insert.new.self.keys c.args.self.now (sym c.self.view_is) c.in-Ok.ensures.keys
+
+pub returns-clause-kept : goal.returns-clause-kept
+returns-clause-kept c = λ other held. (lines_iff c.args.line c.self.inside.lines.keys c.insert.new.self.keys c.args.self.now (sym c.self.view_is) c.in-Ok.ensures.keys other).1 (inl held)

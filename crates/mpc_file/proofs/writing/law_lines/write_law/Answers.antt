@@ -4,16 +4,16 @@ use Rattle.mpc_file.specs.Names.{AreNames}
 use Rattle.mpc_file.proofs.FormNameLemmas.{law_without, law_with_mults, no_rows}
 use Rattle.mpc_file.proofs.writing.law_lines.write_law.Goals as goal
 
-pub returns-then-rows-eq0 : goal.returns-then-rows-eq0
-returns-then-rows-eq0 c = λ forms are.
+pub returns-then-rows-eq0-clause-numbered : goal.returns-then-rows-eq0-clause-numbered
+returns-then-rows-eq0-clause-numbered c = λ forms are.
     law_without forms c.args.law.now c.args.out.now.items c.write_set.new.out.items c.write_piece.new.out.items c.write_numbers.new.out.items c.end_line.new.out.items (AreNames c.write_numbers.new.names)
-    c.in_ok-write_set.ensures c.in_ok-write_piece.ensures (c.in_ok-write_numbers.ensures forms are) c.in_ok-end_line.ensures (no_rows c.args.law.now.mults.rows (sym c.rows.ensures.value ∙ c.if-rows-eq0.true))
+    c.in_ok-write_set.ensures.text c.in_ok-write_piece.ensures.text (c.in_ok-write_numbers.ensures.numbered forms are) c.in_ok-end_line.ensures.text (no_rows c.args.law.now.mults.rows (sym c.rows.ensures.value ∙ c.if-rows-eq0.true))
 
-pub returns : goal.returns
-returns c =
+pub returns-clause-numbered : goal.returns-clause-numbered
+returns-clause-numbered c =
     let some : 1 ≤ length c.args.law.now.mults.rows = omega (arith, c.rows.ensures.value, c.if-rows-eq0.false) in
     on_ok_weaker c.end_line-2.result
-    (λ added. λ forms are. let moves = c.in_ok-write_numbers.ensures forms are in law_with_mults forms c.args.law.now c.args.out.now.items c.write_set.new.out.items c.write_piece.new.out.items c.write_numbers.new.out.items c.end_line.new.out.items c.write_piece-2.new.out.items c.write_numbers-2.new.out.items c.end_line-2.new.out.items
+    (λ added. λ forms are. let moves = c.in_ok-write_numbers.ensures.numbered forms are in law_with_mults forms c.args.law.now c.args.out.now.items c.write_set.new.out.items c.write_piece.new.out.items c.write_numbers.new.out.items c.end_line.new.out.items c.write_piece-2.new.out.items c.write_numbers-2.new.out.items c.end_line-2.new.out.items
     (AreNames c.write_numbers.new.names) (AreNames c.write_numbers-2.new.names)
-    c.in_ok-write_set.ensures c.in_ok-write_piece.ensures moves c.in_ok-end_line.ensures c.in_ok-write_piece-2.ensures (c.in_ok-write_numbers-2.ensures moves.all moves.forms_are) added some)
-    c.end_line-2.ensures
+    c.in_ok-write_set.ensures.text c.in_ok-write_piece.ensures.text moves c.in_ok-end_line.ensures.text c.in_ok-write_piece-2.ensures.text (c.in_ok-write_numbers-2.ensures.numbered moves.all moves.forms_are) added some)
+    c.end_line-2.ensures.text

@@ -8,14 +8,14 @@ use Rattle.mpc_file.specs.Names.{AreNames}
 use Rattle.mpc_file.proofs.FormNameLemmas.{no_forms, table_written}
 use Rattle.mpc_file.proofs.writing.law_lines.write_table.Goals as goal
 
-pub returns : goal.returns
-returns c =
+pub returns-clause-written : goal.returns-clause-written
+returns-clause-written c =
     let numbered : AreLawsNumbered c.args.laws.now [] c.write_laws.new.out.items (AreNames c.write_laws.new.names) =
-    subst (λ t. AreLawsNumbered c.args.laws.now t c.write_laws.new.out.items (AreNames c.write_laws.new.names)) c.new-text.ensures.items (c.in_ok-write_laws.ensures (no_forms (AreNames c.new-names.result) c.new-names.ensures)) in
+    subst (λ t. AreLawsNumbered c.args.laws.now t c.write_laws.new.out.items (AreNames c.write_laws.new.names)) c.new-text.ensures.items (c.in_ok-write_laws.ensures.numbered (no_forms (AreNames c.new-names.result) c.new-names.ensures)) in
     on_ok_weaker c.write_piece-2.result
     (λ added. table_written c.args.laws.now c.args.out.now.items c.write_count_line.new.out.items c.write_piece.new.out.items c.write_count_line-2.new.out.items c.write_piece-2.new.out.items
     c.write_laws.new.out.items c.text.result.now c.len.result c.write_laws.new.names numbered c.len.ensures c.text.ensures
-    c.in_ok-write_count_line.ensures c.in_ok-write_piece.ensures
-    (c.in_ok-write_count_line-2.ensures ∙ ap (λ n. c.write_piece.new.out.items ++ ended (count_line (codes "laws") n)) c.len-2.ensures)
+    c.in_ok-write_count_line.ensures.text c.in_ok-write_piece.ensures.text
+    (c.in_ok-write_count_line-2.ensures.text ∙ ap (λ n. c.write_piece.new.out.items ++ ended (count_line (codes "laws") n)) c.len-2.ensures)
     (added ∙ ap (λ t. c.write_count_line-2.new.out.items ++ t) c.as_slice.ensures.value))
-    c.write_piece-2.ensures
+    c.write_piece-2.ensures.text

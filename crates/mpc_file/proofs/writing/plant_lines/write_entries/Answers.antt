@@ -1,6 +1,7 @@
 use Rattle.std.proofs.Common.{◌<◌, [], length, arith}
 use Rattle.mpc_file.specs.PlantGrammar.{AllFit}
 use Rattle.mpc_file.proofs.GrownTexts.{entries_next, all_next}
+use Rattle.mpc_file.proofs.KeptTexts.{kept_then}
 use Rattle.mpc_file.proofs.writing.plant_lines.write_entries.Goals as goal
 
 pub loop-i-preserved : goal.loop-i-preserved
@@ -10,4 +11,5 @@ loop-i-preserved c =
     record {
       text = entries_next rows c.loop-i.i c.row.result.now [] c.args.out.now.items c.loop-i.out.items c.write_fractions.new.out.items inside c.row.ensures c.loop-i.invariant.text c.in_ok-write_fractions.ensures.text;
       fits = all_next AllFit rows c.loop-i.i c.row.result.now [] inside c.row.ensures c.loop-i.invariant.fits c.in_ok-write_fractions.ensures.fits;
+      kept = kept_then _ _ _ c.loop-i.invariant.kept c.write_fractions.ensures.kept;
     }

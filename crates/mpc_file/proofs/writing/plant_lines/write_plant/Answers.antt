@@ -20,7 +20,7 @@ returns-clause-text c =
     on_ok_weaker c.write_grid.result
     (λ added. line_and_blocks (size_line plant) (matrix_lines plant ++ drift_line plant ∷ goal_line plant ∷ []) (row_lines plant.rows) (last_lines plant.terminal) (map grid_line plant.grid)
     c.args.out.now.items c.write_size.new.out.items c.write_goal.new.out.items c.write_rows.new.out.items c.write_terminal.new.out.items c.write_grid.new.out.items
-    c.in_ok-write_size.ensures terms c.in_ok-write_rows.ensures.text c.in_ok-write_terminal.ensures.text added)
+    c.in_ok-write_size.ensures.text terms c.in_ok-write_rows.ensures.text c.in_ok-write_terminal.ensures.text added)
     c.write_grid.ensures.text
 
 pub returns-clause-prints : goal.returns-clause-prints

@@ -1,4 +1,4 @@
-use Rattle.std.proofs.Common.{◌≡◌, ◌++◌, take, map}
+use Rattle.std.proofs.Common.{◌≡◌, ◌++◌, take, map, length}
 use Rattle.std.specs.Prelude.{All}
 use Rattle.mpc_file.specs.Lines.{last_line}
 use Rattle.mpc_file.specs.Writing.{text_of_lines}
@@ -9,4 +9,5 @@ abbrev pub invariant-loop-i : goal.invariant-loop-i
 invariant-loop-i l = record {
   text : l.out.items ≡ l.initial.out.items ++ text_of_lines (map last_line (take l.i l.rows));
   fits : All LastFits (take l.i l.rows);
+  kept : take (length l.fn.out.items) l.out.items ≡ l.fn.out.items;
 }

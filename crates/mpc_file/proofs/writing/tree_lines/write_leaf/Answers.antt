@@ -2,10 +2,12 @@ use Rattle.mpc_file.specs.Lines.{cert_line}
 use Rattle.mpc_file.specs.Writing.{ended}
 use Rattle.mpc_file.proofs.GrownTexts.{pieces_at, all_at}
 use Rattle.mpc_file.specs.PlaneNames.{CertFits}
+use Rattle.mpc_file.proofs.KeptTexts.{kept_then}
 use Rattle.mpc_file.proofs.writing.tree_lines.write_leaf.Goals as goal
 
 pub loop-i-preserved : goal.loop-i-preserved
 loop-i-preserved c = record {
   text = pieces_at (λ cert. ended (cert_line cert)) c.args.certs.now c.loop-i.i c.at.result.now c.write_count_line.new.out.items c.loop-i.out.items c.write_cert.new.out.items c.at.ensures c.loop-i.invariant.text c.in_ok-write_cert.ensures.text;
   fits = all_at CertFits c.args.certs.now c.loop-i.i c.at.result.now c.at.ensures c.loop-i.invariant.fits c.in_ok-write_cert.ensures.fits;
+  kept = kept_then _ _ _ c.loop-i.invariant.kept c.write_cert.ensures.kept;
 }

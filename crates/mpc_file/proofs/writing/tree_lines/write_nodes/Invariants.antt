@@ -1,4 +1,4 @@
-use Rattle.std.proofs.Common.{[], take}
+use Rattle.std.proofs.Common.{[], take, ◌≡◌, length}
 use Rattle.std.specs.Prelude.{All}
 use Rattle.mpc_plant.specs.declared.plants.Plant.{Plant}
 use Rattle.mpc_file.specs.PlaneNames.{IsGoodNode, ArePlanes, AreNodesNumbered}
@@ -6,4 +6,8 @@ use Rattle.mpc_file.specs.Names.{AreNames}
 use Rattle.mpc_file.proofs.writing.tree_lines.write_nodes.Given as goal
 
 abbrev pub invariant-loop-k : goal.invariant-loop-k
-invariant-loop-k l = (plant : Plant) → All (IsGoodNode plant) l.tree → ArePlanes plant (AreNames l.initial.names) [] → AreNodesNumbered plant (take l.k l.tree) l.initial.out.items l.out.items (AreNames l.names)
+invariant-loop-k l = record {
+  numbered : (plant : Plant) → All (IsGoodNode plant) l.tree → ArePlanes plant (AreNames l.initial.names) [] → AreNodesNumbered plant (take l.k l.tree) l.initial.out.items l.out.items (AreNames l.names);
+  kept : take (length l.fn.out.items) l.out.items ≡ l.fn.out.items;
+  names_kept : take (length l.fn.names.text.items) l.names.text.items ≡ l.fn.names.text.items;
+}

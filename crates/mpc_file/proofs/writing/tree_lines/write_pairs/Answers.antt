@@ -2,10 +2,12 @@ use Rattle.std.proofs.Common.{◌∷◌}
 use Rattle.mpc_file.specs.Lines.{pair_words}
 use Rattle.mpc_file.proofs.GrownTexts.{spread_at, all_at}
 use Rattle.mpc_file.specs.PlaneNames.{IsPairFit}
+use Rattle.mpc_file.proofs.KeptTexts.{kept_then}
 use Rattle.mpc_file.proofs.writing.tree_lines.write_pairs.Goals as goal
 
 pub loop-i-preserved : goal.loop-i-preserved
 loop-i-preserved c = record {
   text = spread_at (λ word. 32 ∷ word) pair_words c.args.cert.now c.loop-i.i c.at.result.now c.args.out.now.items c.loop-i.out.items c.write_pair.new.out.items c.at.ensures c.loop-i.invariant.text c.in_ok-write_pair.ensures.text;
   fits = all_at IsPairFit c.args.cert.now c.loop-i.i c.at.result.now c.at.ensures c.loop-i.invariant.fits c.in_ok-write_pair.ensures.fits;
+  kept = kept_then _ _ _ c.loop-i.invariant.kept c.write_pair.ensures.kept;
 }

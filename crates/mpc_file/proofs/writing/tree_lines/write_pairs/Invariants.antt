@@ -1,4 +1,4 @@
-use Rattle.std.proofs.Common.{◌≡◌, ◌++◌, take}
+use Rattle.std.proofs.Common.{◌≡◌, ◌++◌, take, length}
 use Rattle.std.specs.List.{flat_map}
 use Rattle.mpc_words.specs.Words.{behind_blanks}
 use Rattle.mpc_file.specs.Lines.{pair_words}
@@ -9,4 +9,5 @@ abbrev pub invariant-loop-i : goal.invariant-loop-i
 invariant-loop-i l = record {
   text : l.out.items ≡ l.initial.out.items ++ behind_blanks (flat_map pair_words (take l.i l.cert));
   fits : CertFits (take l.i l.cert);
+  kept : take (length l.fn.out.items) l.out.items ≡ l.fn.out.items;
 }

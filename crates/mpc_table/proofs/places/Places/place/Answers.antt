@@ -7,11 +7,11 @@ use Rattle.std.specs.Cmp.Lexicographic.{slice_cmp}
 use Rattle.mpc_table.proofs.PlaceLemmas.{placed_before, placed_behind}
 use Rattle.mpc_table.proofs.places.Places.place.Goals as goal
 
-pub returns-in-Some : goal.returns-in-Some
-returns-in-Some c = λ lines are. placed_before c.args.self.now lines c.args.line c.in-Some.place.now are (sym c.in-Some.ensures.value)
+pub returns-in-Some-clause-placed : goal.returns-in-Some-clause-placed
+returns-in-Some-clause-placed c = λ lines are. placed_before c.args.self.now lines c.args.line c.in-Some.place.now are (sym c.in-Some.ensures.value)
 
-pub returns : goal.returns
-returns c = λ lines are.
+pub returns-clause-placed : goal.returns-clause-placed
+returns-clause-placed c = λ lines are.
     let last : c.len-place.result ≡ length lines = c.len-place.ensures.len ∙ are.count in
     let absent : get (λ x y. slice_cmp int_cmp x.items y.items) c.args.self.now.places c.args.line ≡ None = sym c.in_default.ensures.value in
     let insert = c.in_ok-insert.ensures in
