@@ -1,5 +1,5 @@
 -- The system that a C caller sends, and the answer that it takes.
-use Rattle.std.specs.Prelude.{◌≡◌, ℕ, ◌+◌, ◌*◌, List, map, length, All, get_or, false}
+use Rattle.std.specs.Prelude.{◌≡◌, ℕ, ◌+◌, ◌*◌, ◌≤◌, List, map, length, All, get_or, false}
 use Rattle.std.specs.List.{range_with_len, between}
 use Rattle.mpc_exact.specs.Rational.{ℚ}
 use Rattle.mpc_parts.specs.declared.Parts.{Parts}
@@ -52,3 +52,8 @@ pub record IsSent (width : ℕ) (coefficients : List Parts) (sides : List Side) 
   pub system : IsReadableSystem width coefficients sides
   pub point_size : length point ≡ width
   pub multipliers_size : length multipliers ≡ length sides
+
+-- a readable system of at least so many rows
+pub record IsSentFrom (width : ℕ) (coefficients : List Parts) (sides : List Side) (first : ℕ) : Type 0 where
+  pub system : IsReadableSystem width coefficients sides
+  pub first_rows : first ≤ length sides

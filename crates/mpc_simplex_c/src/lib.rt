@@ -1,18 +1,20 @@
-//! Decisions of systems of linear rows for a C caller: one decision on parts, and a loop to measure it.
+//! Decisions of systems of linear rows for a C caller: one decision on parts, a run that goes on, and a loop to measure decisions.
 #![tactic(auto)]
 
-ghost use Rattle.std.specs.Prelude.{◌≡◌, ◌≢◌, ◌≤◌, map, length};
+ghost use Rattle.std.specs.Prelude.{◌≡◌, ◌≢◌, ◌<◌, ◌≤◌, map, length};
 ghost use Rattle.mpc_parts.specs.Parts.{value_of};
 ghost use Rattle.mpc_rows.specs.LinearSystem.{IsPairPoint};
 ghost use Rattle.mpc_rows.specs.Refutation.{Refutes};
 ghost use Rattle.mpc_rows.specs.RunWidth.{RunFits};
 ghost use Rattle.mpc_simplex.specs.Answer.{HasPoint, EndsWithPoint, EndsRefuted};
-ghost use Rattle.mpc_simplex_c.specs.Sent.{sent_system, pair_of, IsSent};
+ghost use Rattle.mpc_simplex_c.specs.Sent.{sent_system, pair_of, IsSent, IsSentFrom};
 
+mod going_on;
 mod passing;
 #[cfg(test)]
 mod tests;
 
+use going_on::{Course, go_on};
 use mpc_parts::Parts;
 use mpc_rows::{Multipliers, PairPoint};
 use mpc_simplex::{Decision, SimplexError, decide};
@@ -31,6 +33,10 @@ const WIDE: u32 = 2;
 const NO_MEMORY: u32 = 3;
 
 const UNREADABLE: u32 = 4;
+
+const NOT_BEGUN: u32 = 5;
+
+const LOST: u32 = 6;
 
 /// The right side of a row, and whether the row is strict.
 #[repr(C)]
@@ -101,6 +107,62 @@ pub extern "C" fn mpc_simplex_decide(
         }
         Err(SimplexError::Wide) => WIDE,
         Err(SimplexError::NoMemory) => NO_MEMORY,
+    }
+}
+
+/// Runs the first rows of the system in whole numbers, and goes on from where that run ends by the others, one after another. The system is
+/// sent as to `mpc_simplex_decide`.
+///
+/// Answers 0 where the run of the whole system is kept and has a point, and 1 where it is kept and has none; 5 where that of the first rows
+/// isn't kept; 6 where one isn't kept with a further row; 4 where a part is no fraction, a length isn't as stated or there are fewer rows
+/// than the first ones. Where there is no memory it answers 3 instead. Where the run of the first rows is kept, and there is memory, it
+/// writes how many rows the last run has that is kept.
+#[unsafe(no_mangle)]
+pub extern "C" fn mpc_simplex_go_on(
+    alloc: Global,
+    width: u32,
+    coefficients: &[Parts],
+    sides: &[Side],
+    first: usize,
+    kept: &mut usize,
+) -> u32
+    ensures has_point { result ≡ 0 → HasPoint (sent_system width coefficients.now sides.now) }
+    ensures no_point { result ≡ 1 → ¬ HasPoint (sent_system width coefficients.now sides.now) }
+    ensures fits { result ≤ 1 → RunFits (sent_system width coefficients.now sides.now) }
+
+    // How many rows the last run has that is kept.
+    ensures all_kept { result ≤ 1 → kept.new ≡ length sides.now }
+    ensures not_before { result ≡ 6 → first ≤ kept.new }
+    ensures some_left { result ≡ 6 → kept.new < length sides.now }
+
+    // What is sent is refused exactly where it can't be read.
+    ensures sent { result ≢ 3 → result ≢ 4 → IsSentFrom width coefficients.now sides.now first }
+    ensures unreadable { result ≡ 4 → ¬ IsSentFrom width coefficients.now sides.now first }
+    ensures codes { result ≤ 6 }
+    ensures not_wide { result ≢ 2 }
+
+    // What isn't known isn't written.
+    ensures count_kept { 2 ≤ result → result ≤ 5 → kept.new ≡ kept.old }
+{
+    if sides.len() < first {
+        return UNREADABLE;
+    }
+    let system = match read_system(alloc, width, coefficients, sides) {
+        Ok(system) => system,
+        Err(SentError::Unreadable) => return UNREADABLE,
+        Err(SentError::NoMemory) => return NO_MEMORY,
+    };
+    match go_on(alloc, &system, first) {
+        Ok(Course::NotBegun) => NOT_BEGUN,
+        Ok(Course::Lost(count)) => {
+            *kept = count;
+            LOST
+        }
+        Ok(Course::Kept(has_point)) => {
+            *kept = sides.len();
+            if has_point { POINT } else { REFUTED }
+        }
+        Err(_) => NO_MEMORY,
     }
 }
 

@@ -1,9 +1,11 @@
-//! A decision whose numbers fit because each value is formed anew, worked out apart in exact numbers.
+//! A decision whose numbers fit because each value is formed anew, worked out apart in exact numbers, and a run that is kept and goes on.
 
 ghost use Rattle.std.specs.Prelude.{◌≡◌, IfOk, length};
 
+use crate::{Side, mpc_simplex_go_on};
 use mpc_frac::{Frac, NoMemory};
 use mpc_linear::Vector;
+use mpc_parts::{Parts, parts_of};
 use mpc_rows::{PairPoint, Row, System};
 use mpc_simplex::{Decision, decide};
 use std::alloc::Global;
@@ -60,5 +62,36 @@ fn forms_each_value_anew(rt: HostRuntime) -> Result<(), Fail> {
     assert!(rt; first_at(&point, 0) == Some(frac(-1, 8_343_720)));
     let second = frac(855_476_366_181_361, 213_207_364_892_365_338_048_400);
     assert!(rt; first_at(&point, 1) == Some(second));
+    Ok(())
+}
+
+fn part(n: i64) -> Parts {
+    parts_of(&Frac::whole(n))
+}
+
+fn side(bound: i64, strict: bool) -> Side {
+    Side {
+        bound: part(bound),
+        strict,
+    }
+}
+
+#[test]
+fn goes_on_by_further_rows(rt: HostRuntime) -> Result<(), Fail> {
+    // 1 <= x and x <= 3, and then x < 2, and then x < 1
+    let coefficients = [part(-1), part(1), part(1), part(1)];
+    let sides = [
+        side(-1, false),
+        side(3, false),
+        side(2, true),
+        side(1, true),
+    ];
+    let mut kept = 0;
+    let three = mpc_simplex_go_on(rt.alloc(), 1, &coefficients[..3], &sides[..3], 1, &mut kept);
+    assert_eq!(rt; three, 0);
+    assert_eq!(rt; kept, 3);
+    let four = mpc_simplex_go_on(rt.alloc(), 1, &coefficients, &sides, 2, &mut kept);
+    assert_eq!(rt; four, 1);
+    assert_eq!(rt; kept, 4);
     Ok(())
 }
