@@ -262,6 +262,24 @@ impl<'a> Run<'a> {
         }
         None
     }
+
+    /// How many pivots the run takes, if it comes to its end.
+    fn pivots(&mut self) -> Option<u64> {
+        self.open();
+        for count in 0..STEPS {
+            match self.step()? {
+                Found::Point | Found::Refuted(_) => return Some(count as u64),
+                Found::Next => {}
+            }
+        }
+        None
+    }
+}
+
+/// How many pivots the run in whole numbers takes on the first so many rows of the system, if it comes to its end.
+pub fn pivots(system: &System, count: usize) -> Option<u64> {
+    let first = System { width: system.width, rows: system.rows[..count].to_vec() };
+    Run::new(&Rows::read(&first)?).pivots()
 }
 
 /// What the system is found to have, if the run in whole numbers comes to its end.

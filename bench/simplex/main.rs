@@ -1,7 +1,7 @@
 // Compares the proved decisions of systems of rows with two plain Rust ones, a run in whole numbers like the proved one and the run over
 // fractions, and with stated results: equal answers first, then how many systems fall back from whole numbers to fractions, then pivots a
-// second, the proved run over fractions beside. The words name files: systems with their results (.tsv), or plants, whose systems are those
-// that are decided on the way to their controllers.
+// second, the proved run over fractions beside, and at last how many systems go on from a run that is kept, by the proved call. The words name
+// files: systems with their results (.tsv), or plants, whose systems are those that are decided on the way to their controllers.
 #[path = "../common/fractions.rs"]
 #[allow(dead_code)]
 mod fractions;
@@ -19,7 +19,7 @@ use kernel::{Rows, Run};
 use parts::{Parts, frac, parts};
 use plain::{Answer, Row, System, ZERO};
 use plants::Plant;
-use search::search;
+use search::{Asked, search};
 use timing::Timed;
 
 // ---- the proved library
@@ -48,6 +48,15 @@ unsafe extern "C" {
         point_len: usize,
         multipliers: *mut Parts,
         multiplier_count: usize,
+    ) -> u32;
+    fn mpc_simplex_go_on(
+        width: u32,
+        coefficients: *const Parts,
+        coefficient_count: usize,
+        sides: *const Side,
+        side_count: usize,
+        first: usize,
+        kept: *mut usize,
     ) -> u32;
     fn mpc_simplex_repeat(
         width: u32,
@@ -95,6 +104,18 @@ impl Sent {
             0 => Some(Answer::Point(point.iter().map(|p| (frac(&p.first), frac(&p.second))).collect())),
             1 => Some(Answer::Refuted(multipliers.iter().map(frac).collect())),
             2 => Some(Answer::Wide),
+            _ => None,
+        }
+    }
+
+    /// Whether the system has a point, by the run of its first rows that goes on by the others, where each of these runs is kept.
+    fn go_on(&self, first: usize) -> Option<bool> {
+        let (coefficients, sides, mut kept) = (&self.coefficients, &self.sides, 0);
+        let kind = unsafe {
+            mpc_simplex_go_on(self.width, coefficients.as_ptr(), coefficients.len(), sides.as_ptr(), sides.len(), first, &mut kept)
+        };
+        match kind {
+            0 | 1 => Some(kind == 0).filter(|_| kept == sides.len()),
             _ => None,
         }
     }
@@ -206,16 +227,18 @@ impl Sample {
 fn of_plant(text: &str) -> Group {
     let program = Plant::read(text).program().expect("a program whose numbers fit");
     let (mut group, mut sample) = (Group::default(), Sample::default());
-    let ended = search(&program, &mut |system| {
+    let ended = search(&program, &mut |asked| {
         if group.found == MOST_FOUND {
             return None;
         }
-        sample.take(system);
-        match group.count(system) {
-            Answer::Point(_) => Some(true),
-            Answer::Refuted(_) => Some(false),
-            Answer::Wide => None,
-        }
+        sample.take(&asked.system);
+        let has_point = match group.count(&asked.system) {
+            Answer::Point(_) => true,
+            Answer::Refuted(_) => false,
+            Answer::Wide => return None,
+        };
+        group.different += usize::from(!group.kinds[asked.kind as usize].count(asked, has_point));
+        Some(has_point)
     });
     group.ended = ended.is_err();
     sample.kept.into_iter().for_each(|system| group.add(system, None));
@@ -264,6 +287,49 @@ struct Class {
     seconds: Seconds,
 }
 
+/// The systems of one kind.
+#[derive(Default)]
+struct Tally {
+    found: usize,
+    /// How many go on from a kept run, by the proved call, and how many could but aren't kept.
+    kept: usize,
+    lost: usize,
+    /// The pivots of all runs from the opening on, and how many are left where a run goes on from a kept one.
+    pivots: u64,
+    left: u64,
+}
+
+/// The names of the kinds, in their order.
+const KINDS: [&str; 5] = ["reach", "region", "meet", "hold", "joint"];
+
+impl Tally {
+    /// Counts a system; whether the run that goes on finds what is so.
+    fn count(&mut self, asked: &Asked, has_point: bool) -> bool {
+        let system = &asked.system;
+        let pivots = |rows| kernel::pivots(system, rows).unwrap_or(0);
+        let all = pivots(system.rows.len());
+        self.found += 1;
+        self.pivots += all;
+        let Some(kept) = asked.kept else {
+            self.left += all;
+            return true;
+        };
+        let Some(answer) = Sent::new(system).go_on(kept.begun) else {
+            self.lost += 1;
+            self.left += all;
+            return true;
+        };
+        self.kept += 1;
+        self.left += all.saturating_sub(pivots(kept.rows));
+        answer == has_point
+    }
+
+    fn print(&self, name: &str) {
+        let Tally { found, kept, lost, pivots, left } = self;
+        println!("{name:16} {found:7} {pivots:7} | {kept:9} {lost:9} {:6} {left:9}", found - kept - lost);
+    }
+}
+
 /// The systems of a file.
 #[derive(Default)]
 struct Group {
@@ -276,6 +342,8 @@ struct Group {
     different: usize,
     /// Those in whole numbers with whole rows, those with fractions in their rows, and those that fall back.
     classes: [Class; 3],
+    /// Those that were found, kind by kind.
+    kinds: [Tally; 5],
 }
 
 const NAMES: [&str; 3] = ["whole", "with fractions", "fall back"];
@@ -318,6 +386,10 @@ impl Group {
             seconds.iter_mut().zip(&class.seconds).for_each(|(sum, more)| *sum += more);
         }
         row("all", count, pivots, &seconds);
+        if self.kinds.iter().any(|kind| kind.found > 0) {
+            println!("{:16} {:>7} {:>7} | {:>9} {:>9} {:>6} {:>9}", "", "systems", "pivots", "kept", "not kept", "afresh", "left");
+            self.kinds.iter().zip(KINDS).filter(|(kind, _)| kind.found > 0).for_each(|(kind, name)| kind.print(name));
+        }
     }
 }
 
@@ -364,7 +436,9 @@ fn row(name: &str, count: usize, pivots: u64, seconds: &Seconds) {
 
 const HEAD: &str = "pivots a second
   in whole numbers: proved, in plain Rust, the factor of the time, and in plain Rust on rows that were read before
-  over fractions: proved, in plain Rust, and how many times as long the proved run takes as in whole numbers";
+  over fractions: proved, in plain Rust, and how many times as long the proved run takes as in whole numbers
+below, of all systems of a plant, kind by kind
+  how many go on from a kept run, how many could but aren't kept, how many begin afresh, and how many pivots are left then";
 
 /// The name of a file, or that of its folder where it is only `plant`.
 fn name_of(path: &str) -> &str {

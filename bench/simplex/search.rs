@@ -4,8 +4,39 @@ use crate::plain::{Row, System};
 use crate::plants::{Matrix, Program, ZERO, negative};
 use std::collections::HashSet;
 
+/// What a system is decided for.
+#[derive(Clone, Copy)]
+pub enum Kind {
+    /// Whether a state reaches a set.
+    Reach,
+    /// Whether the region of a set's law has a point.
+    Region,
+    /// Whether a law meets a cell.
+    Meet,
+    /// Whether a row of a law holds in a cell.
+    Hold,
+    /// Whether a state of a cell is admissible.
+    Joint,
+}
+
+/// The first rows of a system, whose run is kept.
+#[derive(Clone, Copy)]
+pub struct Kept {
+    /// With how many rows the run begins, on which it goes by one row after another.
+    pub begun: usize,
+    /// How many rows are behind it when the system is to be decided.
+    pub rows: usize,
+}
+
+/// A system that is to be decided, and the run from which the compiler goes on, where there is one.
+pub struct Asked {
+    pub system: System,
+    pub kind: Kind,
+    pub kept: Option<Kept>,
+}
+
 /// Answers whether a system has a point, or nothing where the search is to end.
-pub type Judge<'a> = dyn FnMut(&System) -> Option<bool> + 'a;
+pub type Judge<'a> = dyn FnMut(&Asked) -> Option<bool> + 'a;
 
 /// A search that ended early: by the judge, or by a number that is too wide.
 pub struct Ended;
@@ -133,28 +164,34 @@ impl Program {
         Row { a: row.a.iter().map(negative).collect(), b: negative(&row.b), strict: false }
     }
 
-    fn reach(&self, set: &[usize]) -> System {
+    /// The system of a set goes on from that of the set without its last member, by one row.
+    fn reach(&self, set: &[usize]) -> Asked {
         let mut system = self.boxed(self.width());
         system.rows.extend((0..self.g.len()).map(|i| self.joint_row(i)));
+        let begun = system.rows.len();
         system.rows.extend(set.iter().map(|i| self.turned_row(*i)));
-        system
+        let kept = (!set.is_empty()).then(|| Kept { begun, rows: system.rows.len() - 1 });
+        Asked { system, kind: Kind::Reach, kept }
     }
 
-    /// The box, a cell and further rows.
-    fn cut(&self, cell: &[Row], more: impl IntoIterator<Item = Row>) -> System {
+    /// The box, a cell and further rows, by which the run of the cell goes on.
+    fn cut(&self, kind: Kind, cell: &[Row], more: impl IntoIterator<Item = Row>) -> Asked {
         let mut system = self.boxed(self.counts.len());
-        system.rows.extend(cell.iter().cloned().chain(more));
-        system
+        let begun = system.rows.len();
+        system.rows.extend(cell.iter().cloned());
+        let kept = Some(Kept { begun, rows: system.rows.len() });
+        system.rows.extend(more);
+        Asked { system, kind, kept }
     }
 
-    fn joint(&self, cell: &[Row]) -> System {
+    fn joint(&self, cell: &[Row]) -> Asked {
         let mut system = self.boxed(self.width());
         system.rows.extend(cell.iter().cloned().map(|mut row| {
             row.a.resize(self.width(), ZERO);
             row
         }));
         system.rows.extend((0..self.g.len()).map(|i| self.joint_row(i)));
-        system
+        Asked { system, kind: Kind::Joint, kept: None }
     }
 }
 
@@ -176,7 +213,7 @@ fn examine(program: &Program, set: &[usize], judge: &mut Judge) -> Result<(bool,
         return Ok((false, None));
     }
     let rows = border(program, set, &law)?;
-    let has_region = judge(&program.cut(&[], rows.iter().map(Whole::row))).ok_or(Ended)?;
+    let has_region = judge(&program.cut(Kind::Region, &[], rows.iter().map(Whole::row))).ok_or(Ended)?;
     Ok((true, has_region.then_some(rows)))
 }
 
@@ -200,11 +237,11 @@ fn laws(program: &Program, judge: &mut Judge) -> Result<Vec<Vec<Whole>>, Ended> 
 /// The row, and its law, by which a cell is split, if it is. The laws before the next one don't meet the cell.
 fn split(program: &Program, laws: &[Vec<Whole>], cell: &[Row], next: usize, judge: &mut Judge) -> Result<Option<(usize, usize)>, Ended> {
     for (place, rows) in laws.iter().enumerate().skip(next) {
-        if !judge(&program.cut(cell, rows.iter().map(Whole::row))).ok_or(Ended)? {
+        if !judge(&program.cut(Kind::Meet, cell, rows.iter().map(Whole::row))).ok_or(Ended)? {
             continue;
         }
         for (i, row) in rows.iter().enumerate() {
-            if judge(&program.cut(cell, [row.broken()])).ok_or(Ended)? {
+            if judge(&program.cut(Kind::Hold, cell, [row.broken()])).ok_or(Ended)? {
                 return Ok(Some((place, i)));
             }
         }
