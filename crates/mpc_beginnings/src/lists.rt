@@ -1,6 +1,6 @@
 //! The lists of a run.
 
-ghost use Rattle.std.specs.Prelude.{◌≡◌, ℕ, ◌+◌, ◌-◌, ◌*◌, ◌<◌, ◌≤◌, [], ◌∷◌, IsTrue, IfSome, IfOk, OnOk, All, length, map};
+ghost use Rattle.std.specs.Prelude.{◌≡◌, ℕ, ◌+◌, ◌-◌, ◌*◌, ◌<◌, ◌≤◌, [], ◌∷◌, IsTrue, IfSome, IfOk, OnOk, All, length, map, take};
 ghost use Rattle.mpc_rows.specs.LinearSystem.{LinearSystem};
 ghost use Rattle.mpc_rows.specs.LawRows.{whole_row};
 ghost use Rattle.mpc_whole.specs.Table.{IsSeated, IsOpeningSeats, opening_seat};
@@ -140,10 +140,13 @@ pub(crate) fn with_row(
     }
 }
 
-/// Puts rows behind those of the system; says whether their numbers are small enough.
+/// Puts rows behind those of the system; says whether their numbers are small enough. Where they aren't, and without memory, some of them
+/// stand there.
 pub(crate) fn push_rows(system: &mut WholeSystem, rows: &[RowInt]) -> Result<bool, AllocError>
     requires { All (λ r. length r.a ≡ system.old.width) rows.now }
-    ensures { IfOk result (λ done. IsTrue done → system.new ≡ lengthened system.old (map whole_row rows.now)) }
+    ensures rows { IfOk result (λ done. IsTrue done → system.new ≡ lengthened system.old (map whole_row rows.now)) }
+    ensures width { system.new.width ≡ system.old.width }
+    ensures kept { take (length system.old.rows) system.new.rows ≡ system.old.rows }
 {
     for row in rows {
         if !system.push_whole(row)? {

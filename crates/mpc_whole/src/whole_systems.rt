@@ -153,7 +153,7 @@ fn add_row(lists: &mut WholeLists, row: &Row) -> Result<bool, AllocError>
     Ok(true)
 }
 
-/// Puts the row, or where it is broken the row outside which it holds, behind the others, or a part of it.
+/// Puts the row, or where it is broken the strict row that is met where it fails, behind the others, or a part of it.
 fn add_whole(lists: &mut WholeLists, row: &RowInt, broken: bool) -> Result<bool, AllocError>
     requires lists { AreLists lists.old }
     requires width { length row.now.a ≡ lists.old.width }
@@ -366,8 +366,8 @@ impl WholeSystem {
         settle(&mut self.lists, height, added)
     }
 
-    /// Puts the row outside which this one holds behind the others, `-a · t < -b`, if its numbers are at most 2^62 in size; says whether
-    /// they were. Without memory, and where they weren't, the system stays as it was.
+    /// Puts the strict row `-a · t < -b`, which is met where this one fails, behind the others, if its numbers are at most 2^62 in size; says
+    /// whether they were. Without memory, and where they weren't, the system stays as it was.
     pub fn push_broken(&mut self, row: &RowInt) -> Result<bool, AllocError>
         requires { length row.now.a ≡ self.old.width }
         ensures width { self.new.width ≡ self.old.width }
@@ -382,7 +382,9 @@ impl WholeSystem {
     /// Becomes the other system, in its own memory where that is large enough. Without memory it becomes the system without unknowns and
     /// rows.
     pub fn set_to(&mut self, other: &WholeSystem) -> Result<(), AllocError>
-        ensures { OnOk result (self.new ≡ other.now) }
+        ensures ok { OnOk result (self.new ≡ other.now) }
+        ensures err_width { OnErr result (self.new.width ≡ 0) }
+        ensures err_rows { OnErr result (self.new.rows ≡ []) }
     {
         let filled = refill(&mut self.lists, &other.lists);
         if filled.is_err() {

@@ -12,7 +12,7 @@ run_on-found-requires-clause-start c =
     let more = map whole_row c.args.rows.now in
     let own : c.args.longer.now ≡ r.system = c.requires.same ∙ sym c.self.view_is in
     let done : c.in_ok-push_rows.field-0 ≡ true = c.if-not-branch.false in
-    let e : c.push_rows.new.system ≡ lengthened r.system more = c.in_ok-push_rows.ensures done ∙ ap (λ (t : LinearSystem). lengthened t more) own in
+    let e : c.push_rows.new.system ≡ lengthened r.system more = c.in_ok-push_rows.ensures.rows done ∙ ap (λ (t : LinearSystem). lengthened t more) own in
     let same : (x : ℕ) → x < length c.deref-3.result.now → scale_at c.numbers-numbers.result.scales.now x ≡ scale_at c.deref-3.result.now x = c.begins_with.ensures c.if-not-begins_with.false in
     begun_from r.system more r.scales.items r.seats.items r.v.items r.place r.end c.self.invariant c.deref.result.now c.deref.ensures.value
     c.height-height.result (c.height-height.ensures ∙ ap (λ (t : LinearSystem). height t) own)
