@@ -12,3 +12,4 @@ pub mod GridLaws
 pub mod SumLaws
 pub mod ZeroLaws
 pub mod PrimitiveRows
+pub mod EliminationLaws

@@ -1,9 +1,10 @@
-//! What holds of all stored matrices, of all sums of products, and of all rows in whole numbers. The
-//! calls do nothing: their contracts are the laws.
+//! What holds of all stored matrices, of all sums of products, of all eliminations, and of all rows in
+//! whole numbers. The calls do nothing: their contracts are the laws.
 
 ghost use Rattle.mpc_linear.specs.GridLaws.{GridLaws};
 ghost use Rattle.mpc_linear.specs.SumLaws.{SumLaws};
 ghost use Rattle.mpc_linear.specs.ZeroLaws.{ZeroLaws};
+ghost use Rattle.mpc_linear.specs.EliminationLaws.{EliminationAnswers};
 ghost use Rattle.mpc_linear.specs.PrimitiveRows.{OnePrimitiveRow, SmallPrimitiveRow};
 
 /// A list that holds the entries row by row is a matrix of its counts, and setting an entry of the
@@ -32,4 +33,11 @@ pub fn zero_laws()
 pub fn primitive_laws()
     ensures one { OnePrimitiveRow }
     ensures small { SmallPrimitiveRow }
+{}
+
+/// Where the operations of an elimination fit, it answers for the system: with what stands in the last
+/// columns once all are eliminated, or with the first column without a pivot.
+#[inline]
+pub fn elimination_laws()
+    ensures { EliminationAnswers }
 {}

@@ -1,6 +1,6 @@
 //! Lists of fractions and of integers.
 
-ghost use Rattle.std.specs.Prelude.{◌≡◌, ◌≢◌, ◌<◌, [], ◌∷◌, ◌++◌, length, ℤ, pos, slice_index_or, IfOk, IsOk, OnOk, OnErr, IsTrue, ◌↔◌};
+ghost use Rattle.std.specs.Prelude.{◌≡◌, ◌≢◌, ◌<◌, [], ◌∷◌, ◌++◌, length, ℤ, pos, set, slice_index_or, IfOk, IsOk, OnOk, OnErr, IsTrue, ◌↔◌};
 ghost use Rattle.mpc_exact.specs.Rational.{ℚ, int};
 
 use mpc_frac::{Frac, NoMemory};
@@ -152,6 +152,14 @@ impl Ints {
         ensures { result.now ≡ self.now }
     {
         self.items.as_slice()
+    }
+
+    /// Puts another integer into the place i, from 0.
+    pub fn set(&mut self, i: usize, item: i128)
+        requires { i < length self.old }
+        ensures { self.new ≡ set self.old i item }
+    {
+        self.items[i] = item;
     }
 
     /// Puts one integer behind the others. Without memory the list stays as it was.
