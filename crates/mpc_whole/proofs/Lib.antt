@@ -35,3 +35,5 @@ pub mod WholeSizes
 pub mod WholeRun
 pub mod WholeRows
 pub mod WholeSystems
+pub mod OverLaws
+pub mod TurnedWhole

@@ -25,6 +25,7 @@ use Rattle.mpc_whole.proofs.WholeNorms.{norms_fit}
 use Rattle.mpc_whole.proofs.WholeForm.{reached_tableau, side_first, side_second, side_total, side_entry, row_den, den_some, den_small, entries_over, products_over, rests_over}
 use Rattle.mpc_whole.proofs.WholeScales.{less_with_scale}
 use Rattle.mpc_whole.proofs.WholePivot.{pivot_form}
+use Rattle.mpc_whole.proofs.WholeTurns.{unknowns_stay}
 
 pub side_values_at : (s : LinearSystem) (k : List ℕ) (a b : List ℤ) → IsWholeSystem s k a b → (q : ℕ) → q ≤ steps s → (n : ℕ) (seats : List Seat) (d : ℕ) (v : List ℤ) → IsForm s n seats k d v (position s q) → (c_1 c_2 : List ℤ) → AreValues s (position s q) d c_1 c_2 → HasSideValues s k a (position s q) d c_1 c_2
 side_values_at s k a b w q order n seats d v f c_1 c_2 h =
@@ -196,7 +197,7 @@ module _ (s : LinearSystem) (n : ℕ) (seats : List Seat) (seated : IsSeated (he
           next_is = position-suc s z.at ∙ ap (moved (position s z.at)) goes_here
 
           pub next_underway : (new : List ℤ) → IsWholePivot s.width d v new x c₀ → (m e most most_den : ℕ) → m ≤ most → e ≤ most_den → IsSmall most v → d ≤ most_den → AreSmallBefore s k z.at m e
-              → IsUnderway s n (set (set seats l (Column c₀)) f (Row r₀)) k (unsigned_abs (whole_at x c₀)) new most most_den
+              → IsUnderway s n (set (set seats l (Column c₀)) f (Row r₀)) k (unsigned_abs (whole_at x c₀)) new most most_den s.width
           next_underway new piv m e most most_den wide wide_den small small_den h =
               let form : IsForm s n (set (set seats l (Column c₀)) f (Row r₀)) k (unsigned_abs (whole_at x c₀)) new (pivot (position s z.at) l f) =
               subst (λ m. IsForm s n (set (set seats m (Column c₀)) f (Row r₀)) k (unsigned_abs (whole_at x c₀)) new (pivot (position s z.at) m f)) side_back
@@ -209,6 +210,8 @@ module _ (s : LinearSystem) (n : ℕ) (seats : List Seat) (seated : IsSeated (he
                   before = λ q b. ⊎_elim (λ e. subst (λ j. PositionFits s (position s j)) (sym e) stands_fit) (λ e. z.before q (omega arith)) (cases_eq q z.at);
                   form = subst (IsForm s n (set (set seats l (Column c₀)) f (Row r₀)) k (unsigned_abs (whole_at x c₀)) new) (sym next_is) form;
                 };
+                side = omega arith;
+                stay = unknowns_stay s (position s (suc z.at));
                 before = small_after s k z.at m e most most_den wide wide_den h (small_form s k n seats seated d v (position s z.at) z.form most most_den small small_den);
               }
 

@@ -9,6 +9,7 @@ use Rattle.mpc_whole.specs.Whole.{IsSmall, IsForm}
 use Rattle.mpc_whole.specs.SharedSizes.{IsSmallForm, AreSmallBefore}
 use Rattle.mpc_whole.specs.Underway.{IsUnderway}
 use Rattle.mpc_whole.proofs.Ends.{run_ends, position-zero}
+use Rattle.mpc_whole.proofs.WholeTurns.{unknowns_stay}
 
 -- a position of the run where it stops is the last one
 pub stops_after : (s : LinearSystem) (q : ℕ) → q ≤ steps s → is_pivot (turn s (position s q)) ≡ false → q ≡ steps s
@@ -28,8 +29,10 @@ module _ (s : LinearSystem) (k : List ℕ) where
   pub small_after : (q m d most most_den : ℕ) → m ≤ most → d ≤ most_den → AreSmallBefore s k q m d → IsSmallForm s k (position s q) most most_den → AreSmallBefore s k (suc q) most most_den
   small_after q m d most most_den h l b z = record { each = λ i below. ⊎_elim (λ e. subst (λ j. IsSmallForm s k (position s j) most most_den) (sym e) z) (λ e. wider_form (position s i) m d most most_den h l (b.each i (omega arith))) (cases_eq i q) }
 
-  pub opening_underway : (n : ℕ) (seats : List Seat) (v : List ℤ) → IsForm s n seats k 1 v (opening s) → IsUnderway s n seats k 1 v 0 0
+  pub opening_underway : (n : ℕ) (seats : List Seat) (v : List ℤ) → IsForm s n seats k 1 v (opening s) → IsUnderway s n seats k 1 v 0 0 s.width
   opening_underway n seats v f = record {
     stands = record { at = 0; order = omega arith; before = λ q h. absurd (omega arith); form = subst (IsForm s n seats k 1 v) (sym (position-zero s)) f };
     before = record { each = λ q h. absurd (omega arith) };
+    side = omega arith;
+    stay = unknowns_stay s (position s 0);
   }

@@ -343,6 +343,10 @@ behind_as old new m n scale f g most e h a = record {
   limit = a.limit;
 }
 
+-- the same numbers, which are those of another function up to there
+pub behind_listed : (old new : List ℤ) (n scale : ℕ) (f g : ℕ → ℚ) (most : ℕ) → ((j : ℕ) → j < n → g j ≡ f j) → AreBehind old new n scale f most → AreBehind old new n scale g most
+behind_listed old new n scale f g most h a = record { size = a.size; each = λ j l. h j l ∙ a.each j l; small = a.small; limit = a.limit }
+
 -- ---- an attempt to put a row behind the others
 module _ (l n m : WholeLists) (o : AreLists l) (k : IsKept l n) (row : Row) where
   pub settled : {E : Type 0} → length row.a ≡ l.width → IsAdded l n row → IsSettled {E = E} l n row (Ok true)

@@ -1,7 +1,7 @@
 -- The tests of who leaves and enters, on whole numbers.
 use Rattle.std.proofs.Common.{◌≡◌, ◌≢◌, ℕ, zero, suc, ◌+◌, ◌-◌, ◌<◌, ◌≤◌, Bool, true, false, not, None, ℤ, pos, ◌*ℤ◌, ◌<ℤ◌, ◌≤ℤ◌, refl, sym, ◌∙◌, ap, subst, subst₂, arith, ◌⊎◌, inl, inr, lit<, lt-ltb, le-ltb, mul-pos, ◌*◌, [], ◌∷◌}
 use lib.Signed.{lt_z}
-use Rattle.std.proofs.lemmas.Bool.{cases_Bool}
+use Rattle.std.proofs.lemmas.Bool.{cases_Bool, cases_lt}
 use Rattle.std.proofs.lemmas.Int.{ints}
 use Rattle.mpc_exact.specs.Rational.{ℚ, int, frac, ◌<ℚ◌, ◌≤ℚ◌, lt_ℚ}
 use Rattle.mpc_exact.specs.Pair.{Pair, IsBelow, IsAtMost, is_below}
@@ -13,10 +13,12 @@ use Rattle.mpc_exact.proofs.OrderLaws.{<ℚ_trans}
 use Rattle.mpc_exact.proofs.RationalField.{lt_ℚ_is}
 use Rattle.mpc_rows.specs.Least.{least, or_at}
 use Rattle.mpc_rows.specs.LinearSystem.{LinearSystem}
-use Rattle.mpc_rows.specs.Run.{Position, is_unknown, is_zero, bound, value, may_leave, may_enter}
+use Rattle.mpc_rows.specs.Run.{Position, has_point, count, is_unknown, is_zero, bound, value, turn, may_leave, may_enter}
+use Rattle.mpc_whole.specs.Underway.{StayBefore}
+use Rattle.mpc_whole.proofs.LeastLemmas.{LeastIs, least-is}
 use Rattle.mpc_whole.proofs.Flags.{test_true, true_test}
-use Rattle.mpc_whole.proofs.Turn.{is_zero-true, zero-is_zero}
-use Rattle.mpc_whole.proofs.Table.{leave_unknown, leave_test, enter_unknown, enter_side}
+use Rattle.mpc_whole.proofs.Turn.{is_zero-true, zero-is_zero, turn-at}
+use Rattle.mpc_whole.proofs.Table.{leave_unknown, leave_free, leave_test, enter_unknown, enter_side}
 use Rattle.mpc_whole.proofs.WholeSums.{zero_over}
 
 -- ---- the code's tests
@@ -87,8 +89,23 @@ unfolding least
 none_below test zero h = refl
 none_below test (suc n) h = λ i. or_at (none_below test n (λ x k. h x (omega arith)) i) (h n (omega arith) i) n
 
-pub unknowns_stay : (s : LinearSystem) (p : Position) (n : ℕ) → n ≤ s.width → least (may_leave s p) n ≡ None
-unknowns_stay s p n h = none_below (may_leave s p) n (λ x k. leave_unknown s p x (lt-ltb x s.width (omega arith)))
+pub none_up_to : (test : ℕ → Bool) (n m : ℕ) → n ≤ m → least test m ≡ None → least test n ≡ None
+none_up_to test n m h e = none_below test n (λ k l. subst (λ o. LeastIs test m o) e (least-is test m) k (omega arith))
+
+pub unknowns_stay : (s : LinearSystem) (p : Position) → StayBefore s p s.width
+unknowns_stay s p = λ x k. leave_unknown s p x (lt-ltb x s.width k)
+
+-- where a run ends with a point nobody may leave
+pub stay_at_point : (s : LinearSystem) (p : Position) → turn s p ≡ has_point → StayBefore s p (count s)
+stay_at_point s p ends x l = by (cases_lt x s.width)
+  where
+    side : s.width ≤ x → (p.is_basic x ≡ true) ⊎ (p.is_basic x ≡ false) → may_leave s p x ≡ false
+    side h (inl b) = leave_test s p x (le-ltb x s.width h) b ∙ sym (not_below_so (bound s x) (value s p x) (turn-at s p has_point ends x l h b))
+    side h (inr b) = leave_free s p x (le-ltb x s.width h) b
+
+    by : (x < s.width) ⊎ (s.width ≤ x) → may_leave s p x ≡ false
+    by (inl h) = leave_unknown s p x (lt-ltb x s.width h)
+    by (inr h) = side h (cases_Bool (p.is_basic x))
 
 pub leaves_as : (s : LinearSystem) (p : Position) (x : ℕ) → s.width ≤ x → p.is_basic x ≡ true → is_below (bound s (s.width + (x - s.width))) (value s p (s.width + (x - s.width))) ≡ may_leave s p x
 leaves_as s p x h b =

@@ -7,3 +7,4 @@ pub mod Underway
 pub mod Norms
 pub mod Found
 pub mod RunEnd
+pub mod OverLaws

@@ -1,7 +1,7 @@
 -- A run in whole numbers: the numbers of one of its positions, of which all positions before had none greater than a kept size.
-use Rattle.std.specs.Prelude.{◌≡◌, ℕ, List, ℤ}
+use Rattle.std.specs.Prelude.{◌≡◌, ℕ, ◌<◌, ◌≤◌, false, List, ℤ}
 use Rattle.mpc_rows.specs.LinearSystem.{LinearSystem}
-use Rattle.mpc_rows.specs.Run.{Turn, has_point, is_refuted, turn, last_position, steps}
+use Rattle.mpc_rows.specs.Run.{Turn, Position, has_point, is_refuted, may_leave, turn, position, last_position, steps}
 use Rattle.mpc_rows.specs.RunWidth.{RunFits}
 use Rattle.mpc_whole.specs.declared.variables.Seat.{Seat}
 use Rattle.mpc_whole.specs.declared.whole.Ending.{Ending}
@@ -13,10 +13,16 @@ abbrev pub turn_of : Ending → Turn
 turn_of Point = has_point
 turn_of (Refuted l) = is_refuted l
 
--- the run stands at this position
-pub record IsUnderway (s : LinearSystem) (n : ℕ) (seats : List Seat) (k : List ℕ) (den : ℕ) (v : List ℤ) (most most_den : ℕ) : Type 0 where
+-- no variable before this one may leave at a position
+abbrev pub StayBefore : LinearSystem → Position → ℕ → Type 0
+StayBefore s p first = (x : ℕ) → x < first → may_leave s p x ≡ false
+
+-- the run stands at this position, and who leaves there is a side that isn't before this one
+pub record IsUnderway (s : LinearSystem) (n : ℕ) (seats : List Seat) (k : List ℕ) (den : ℕ) (v : List ℤ) (most most_den first : ℕ) : Type 0 where
   pub stands : Stands s n seats k den v
   pub before : AreSmallBefore s k stands.at most most_den
+  pub side : s.width ≤ first
+  pub stay : StayBefore s (position s stands.at) first
 
 -- the run stands at its last position, ends so, and all that it forms fits
 pub record HasEnded (s : LinearSystem) (n : ℕ) (seats : List Seat) (k : List ℕ) (den : ℕ) (v : List ℤ) (most most_den : ℕ) (end : Ending) : Type 0 where

@@ -1,6 +1,7 @@
 //! The simplex run by least numbers in whole numbers over one denominator, as far as they stay small.
 #![tactic(auto)]
 
+mod laws;
 mod numbers;
 mod variables;
 mod whole;
@@ -12,11 +13,13 @@ mod whole_systems;
 mod whole_turn;
 mod whole_values;
 
+pub use laws::over_laws;
 use mpc_rows::{Multipliers, PairPoint};
 pub use numbers::{Standing, zero, zero_pairs, zeros};
 pub use variables::{Seat, column_of, is_basic, is_unknown, opening_seats, row_of};
 pub use whole::{Ending, Place, whole_run};
 pub use whole_ends::{last_multipliers, last_values};
+pub use whole_numbers::{changed, turned};
 pub use whole_rows::{greatest, limit, put_units};
 pub use whole_systems::{WholeNumbers, WholeSystem};
 pub use whole_values::clear;

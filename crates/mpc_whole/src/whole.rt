@@ -9,7 +9,7 @@ ghost use Rattle.mpc_rows.specs.RunWidth.{RunFits};
 ghost use Rattle.mpc_whole.specs.Table.{seat_at, in_row, IsSeated, IsOpeningSeats};
 ghost use Rattle.mpc_whole.specs.RunEnd.{IsEnd, EndsWithPoint, EndsRefuted};
 ghost use Rattle.mpc_whole.specs.Found.{IfEnded, IfNext};
-ghost use Rattle.mpc_whole.specs.Underway.{IsUnderway, HasEnded};
+ghost use Rattle.mpc_whole.specs.Underway.{StayBefore, IsUnderway, HasEnded};
 ghost use Rattle.mpc_whole.specs.Whole.{whole_at, AreScales, IsNarrow, IsSmall, IsWholeSystem, HasBounds, HasRoom, HasBasis, IsRowOf, IsForm, side_cell, Stands, AreValues, IsSideRow, IsSwapped, IsNext};
 
 use crate::variables::{Seat, column_of, row_of};
@@ -19,7 +19,7 @@ use crate::whole_systems::WholeSystem;
 use crate::whole_turn::{entering, leaving, leaving_row};
 use crate::whole_values::stand;
 
-/// The variable that leaves, where the values stay small.
+/// The variable that leaves, from the first on that may, where the values stay small.
 fn look(
     c_1: &mut [i64],
     c_2: &mut [i64],
@@ -31,7 +31,9 @@ fn look(
     v: &[i64],
     n: usize,
     den: u64,
+    first: usize,
 ) -> Option<Option<usize>>
+    requires side { system.now.width ≤ first }
     requires seated { IsSeated (height system.now) system.now.width n seats.now }
     requires whole { IsWholeSystem system.now scales.now a.now b.now }
     requires room { HasRoom system.now.width (2 ^ 62) a.now }
@@ -43,12 +45,12 @@ fn look(
     ensures values { IfSome result (λ _. (k : ℕ) → k ≤ steps system.now → IsForm system.now n seats.now scales.now den v.now (position system.now k)
         → AreValues system.now (position system.now k) den c_1.new c_2.new) }
     ensures least { IfSome result (λ o. (k : ℕ) → k ≤ steps system.now → IsForm system.now n seats.now scales.now den v.now (position system.now k)
-        → o ≡ least (may_leave system.now (position system.now k)) n) }
+        → StayBefore system.now (position system.now k) first → o ≡ least (may_leave system.now (position system.now k)) n) }
     ensures first_small { IfSome result (λ _. IsSmall (2 ^ 62) c_1.new) }
     ensures second_small { IfSome result (λ _. IsSmall (2 ^ 62) c_2.new) }
 {
     stand(c_1, c_2, system, scales, seats, b, v, n)?;
-    let out = leaving(system, scales, seats, a, b, c_1, c_2, den, n);
+    let out = leaving(system, scales, seats, a, b, c_1, c_2, den, n, first);
     Some(out)
 }
 
@@ -124,13 +126,14 @@ pub enum Ending {
     Refuted(usize),
 }
 
-/// Where a run stands: its denominator, and the greatest number and the greatest denominator of the
-/// positions before.
+/// Where a run stands: its denominator, the greatest number and the greatest denominator of the
+/// positions before, and the first variable that may leave.
 #[derive(Clone, Copy, Drop)]
 pub struct Place {
     pub den: u64,
     pub greatest: u64,
     pub greatest_den: u64,
+    pub first: usize,
 }
 
 /// What one turn of the run finds.
@@ -175,18 +178,19 @@ fn step(
     requires second_size { length c_2.old ≡ system.now.width }
     requires den_small { place.den ≤ 2 ^ 62 }
     requires narrow { IsNarrow system.now n seats.old scales.now a.now place.den v.old }
-    requires underway { IsUnderway system.now n seats.old scales.now place.den v.old place.greatest place.greatest_den }
+    requires underway { IsUnderway system.now n seats.old scales.now place.den v.old place.greatest place.greatest_den place.first }
     ensures end { IfSome result (λ f. IfEnded f (λ e. HasEnded system.now n seats.new scales.now place.den v.new place.greatest place.greatest_den e)) }
     ensures end_seated { IfSome result (λ f. IfEnded f (λ _. IsSeated (height system.now) system.now.width n seats.new)) }
     ensures end_small { IfSome result (λ f. IfEnded f (λ _. IsSmall most v.new)) }
     ensures end_narrow { IfSome result (λ f. IfEnded f (λ _. IsNarrow system.now n seats.new scales.now a.now place.den v.new)) }
-    ensures underway { IfSome result (λ f. IfNext f (λ p. IsUnderway system.now n seats.new scales.now p.den v.new p.greatest p.greatest_den)) }
+    ensures underway { IfSome result (λ f. IfNext f (λ p. IsUnderway system.now n seats.new scales.now p.den v.new p.greatest p.greatest_den p.first)) }
     ensures seated { IfSome result (λ f. IfNext f (λ _. IsSeated (height system.now) system.now.width n seats.new)) }
     ensures small { IfSome result (λ f. IfNext f (λ _. IsSmall most v.new)) }
     ensures den_small { IfSome result (λ f. IfNext f (λ p. p.den ≤ 2 ^ 62)) }
     ensures narrow { IfSome result (λ f. IfNext f (λ p. IsNarrow system.now n seats.new scales.now a.now p.den v.new)) }
 {
-    let out = look(c_1, c_2, system, scales, seats, a, b, v, n, place.den)?;
+    let Place { den, first, .. } = place;
+    let out = look(c_1, c_2, system, scales, seats, a, b, v, n, den, first)?;
     let Some(l) = out else {
         return Some(Found::Ended(Ending::Point));
     };
@@ -199,6 +203,7 @@ fn step(
         den: size,
         greatest: greater(place.greatest, own),
         greatest_den: greater(place.greatest_den, place.den),
+        first: system.unknowns(),
     }))
 }
 
@@ -232,7 +237,7 @@ pub fn whole_run(
     requires second_size { length c_2.old ≡ system.now.width }
     requires den_small { from.den ≤ 2 ^ 62 }
     requires narrow { IsNarrow system.now n seats.old scales.now a.now from.den v.old }
-    requires underway { IsUnderway system.now n seats.old scales.now from.den v.old from.greatest from.greatest_den }
+    requires underway { IsUnderway system.now n seats.old scales.now from.den v.old from.greatest from.greatest_den from.first }
     ensures end { IfSome result (λ t. HasEnded system.now n seats.new scales.now t.0.den v.new t.0.greatest t.0.greatest_den t.1) }
     ensures seated { IfSome result (λ _. IsSeated (height system.now) system.now.width n seats.new) }
     ensures small { IfSome result (λ _. IsSmall most v.new) }

@@ -64,7 +64,7 @@ pub(crate) fn minus(n: u64) -> i64
 }
 
 /// z, with its sign changed where q is negative.
-pub(crate) fn turned(q: i64, z: i64) -> i64
+pub fn turned(q: i64, z: i64) -> i64
     requires { unsigned_abs z ≤ 2 ^ 62 }
     ensures value { result ≡ turned q z }
     ensures small { unsigned_abs result ≤ unsigned_abs z }
@@ -151,8 +151,9 @@ fn difference(v: i64, k: i64, x: i64, q: u64) -> i128
     sum(first, second)
 }
 
-/// The number of a column that stays, after a pivot on q, if it is whole and small.
-pub(crate) fn changed(v: i64, k: i64, x: i64, q: u64, den: u64, most: u64) -> Option<i64>
+/// `(v q - k x) / den`, the number of a column that stays after a pivot on q (Bareiss 1968), if it is whole
+/// and small.
+pub fn changed(v: i64, k: i64, x: i64, q: u64, den: u64, most: u64) -> Option<i64>
     requires den_some { 0 < den }
     requires den_small { den ≤ 2 ^ 62 }
     requires q_small { q ≤ 2 ^ 62 }

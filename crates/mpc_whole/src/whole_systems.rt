@@ -1,16 +1,17 @@
 //! Systems whose rows are whole numbers over a scale each.
 
 ghost use Rattle.std.specs.Prelude.{◌≡◌, ℕ, ℤ, pos, ◌+◌, ◌-◌, ◌*◌, ◌<◌, ◌≤◌, ◌^◌, Bool, true, cond, List, [], ◌∷◌, ◌++◌, length, take, get_or, neg_ℤ, unsigned_abs, IsTrue, IfSome, IfOk, OnOk, OnErr};
-ghost use Rattle.mpc_exact.specs.Rational.{int};
+ghost use Rattle.mpc_exact.specs.Rational.{int, frac};
 ghost use Rattle.mpc_space.specs.Vector.{coordinate};
 ghost use Rattle.mpc_rows.specs.LinearSystem.{height, row_at};
 ghost use Rattle.mpc_rows.specs.LawRows.{whole_row, broken_row};
+ghost use Rattle.mpc_rows.specs.SetRuns.{turned};
 ghost use Rattle.mpc_rows.specs.declared.systems.Row.{Row};
 ghost use Rattle.mpc_whole.specs.declared.whole_systems.WholeLists.{WholeLists};
 ghost use Rattle.mpc_whole.specs.Whole.{whole_at, scale_at, IsSmall, IsWholeSystem};
-ghost use Rattle.mpc_whole.specs.WholeSystems.{system_of, AreLists, AreBehind, IsKept, IsAdded, IsCut, IsSettled, IsCopy, IsEmpty, negated_where};
+ghost use Rattle.mpc_whole.specs.WholeSystems.{kept_row, system_of, AreLists, AreBehind, IsKept, IsAdded, IsCut, IsSettled, IsCopy, IsEmpty, negated_where};
 
-use crate::whole_numbers::narrow;
+use crate::whole_numbers::{narrow, negative};
 use crate::whole_rows::{row_scale, scaled};
 use mpc_frac::Frac;
 use mpc_linear::RowInt;
@@ -100,6 +101,21 @@ fn add_numbers(
     Ok(Some(most))
 }
 
+/// Puts the negatives of so many of the numbers, from this place on, behind them, or some of them without memory.
+fn add_negatives(a: &mut Vec<i64>, from: usize, count: usize) -> Result<(), AllocError>
+    requires within { from + count ≤ length a.old.items }
+    requires small { IsSmall (2 ^ 62) a.old.items }
+    ensures kept { take (length a.old.items) a.new.items ≡ a.old.items }
+    ensures behind { OnOk result ((scale most : ℕ) → IsSmall most a.old.items
+        → AreBehind a.old.items a.new.items count scale (λ j. frac (neg_ℤ (whole_at a.old.items (from + j))) scale) most) }
+{
+    for c in 0..count {
+        let z = negative(a[from + c]);
+        a.push(z)?;
+    }
+    Ok(())
+}
+
 /// Puts one item behind each list. Without memory the items of the first lists may stand there.
 fn add_ends(
     b: &mut Vec<i64>,
@@ -180,6 +196,29 @@ fn add_whole(lists: &mut WholeLists, row: &RowInt, broken: bool) -> Result<bool,
     Ok(true)
 }
 
+/// Puts row i, the other way round, behind the others, or a part of it without memory.
+fn add_turned(lists: &mut WholeLists, i: usize) -> Result<bool, AllocError>
+    requires lists { AreLists lists.old }
+    requires row { i < length lists.old.b.items }
+    ensures kept { IsKept lists.old lists.new }
+    ensures added { IfOk result (λ done. IsTrue done → IsAdded lists.old lists.new (turned (kept_row lists.old i))) }
+{
+    let width = lists.width;
+    let side = negative(lists.b[i]);
+    let scale = lists.scales[width + i];
+    let is_strict = lists.strict[i];
+    add_negatives(&mut lists.a, i * width, width)?;
+    add_ends(
+        &mut lists.b,
+        &mut lists.scales,
+        &mut lists.strict,
+        side,
+        scale,
+        is_strict,
+    )?;
+    Ok(true)
+}
+
 /// Keeps the first so many rows.
 fn cut(lists: &mut WholeLists, count: usize)
     requires width { lists.old.width ≤ length lists.old.scales.items }
@@ -235,6 +274,32 @@ fn refill(lists: &mut WholeLists, other: &WholeLists) -> Result<(), AllocError>
     lists.most_side = other.most_side;
     lists.most_scale = other.most_scale;
     Ok(())
+}
+
+/// Takes memory at once for so many rows of so many unknowns more. Without memory that of the first lists may be taken.
+fn reserve(lists: &mut WholeLists, rows: usize, width: usize) -> Result<(), AllocError>
+    ensures { IsCopy lists.old lists.new }
+{
+    lists.a.reserve_exact(rows.saturating_mul(width))?;
+    lists.b.reserve_exact(rows)?;
+    lists.scales.reserve_exact(rows)?;
+    lists.strict.reserve_exact(rows)
+}
+
+/// Empty lists with room for so many rows of so many unknowns.
+fn room_for(alloc: Global, rows: usize, width: usize) -> Result<WholeLists, AllocError>
+    ensures { IfOk result IsEmpty }
+{
+    Ok(WholeLists {
+        width: 0,
+        a: Vec::with_capacity(alloc, rows.saturating_mul(width))?,
+        b: Vec::with_capacity(alloc, rows)?,
+        scales: Vec::with_capacity(alloc, rows.saturating_add(width))?,
+        strict: Vec::with_capacity(alloc, rows)?,
+        most_entry: 0,
+        most_side: 1,
+        most_scale: 1,
+    })
 }
 
 /// Gives up all rows and all unknowns.
@@ -310,12 +375,34 @@ impl WholeSystem {
         ensures { IfOk result (λ o. IfSome o (λ w. w ≡ system.now)) }
     {
         let mut whole = WholeSystem::new(alloc, system.width)?;
+        whole.reserve(system.height())?;
         for i in 0..system.height() {
             if !whole.push(system.row(i))? {
                 return Ok(None);
             }
         }
         Ok(Some(whole))
+    }
+
+    /// Takes memory at once for so many rows more. The system stays as it is.
+    pub fn reserve(&mut self, rows: usize) -> Result<(), AllocError>
+        ensures width { self.new.width ≡ self.old.width }
+        ensures rows { self.new.rows ≡ self.old.rows }
+    {
+        let width = self.lists.width;
+        reserve(&mut self.lists, rows, width)
+    }
+
+    /// The same system in lists of its own, with room for so many rows more.
+    pub fn copy_with_room(&self, alloc: Global, rows: usize) -> Result<WholeSystem, AllocError>
+        ensures { IfOk result (λ s. s ≡ self.now) }
+    {
+        let width = self.lists.width;
+        let rows = self.lists.b.len().saturating_add(rows);
+        let lists = room_for(alloc, rows, width)?;
+        let mut copy = WholeSystem { lists };
+        copy.set_to(self)?;
+        Ok(copy)
     }
 
     /// How many unknowns there are.
@@ -376,6 +463,19 @@ impl WholeSystem {
     {
         let height = self.lists.b.len();
         let added = add_whole(&mut self.lists, row, true);
+        settle(&mut self.lists, height, added)
+    }
+
+    /// Puts row i, from 0, the other way round behind the others. Its numbers are as small as the row's. Without memory the system stays as
+    /// it was.
+    pub fn push_turned(&mut self, i: usize) -> Result<bool, AllocError>
+        requires { i < height self.old }
+        ensures width { self.new.width ≡ self.old.width }
+        ensures ok { IfOk result (λ done. self.new.rows ≡ cond done (self.old.rows ++ turned (row_at self.old i) ∷ []) self.old.rows) }
+        ensures err { OnErr result (self.new.rows ≡ self.old.rows) }
+    {
+        let height = self.lists.b.len();
+        let added = add_turned(&mut self.lists, i);
         settle(&mut self.lists, height, added)
     }
 

@@ -6,6 +6,7 @@ ghost use Rattle.mpc_rows.specs.Least.{least};
 ghost use Rattle.mpc_rows.specs.Run.{Position, is_unknown, bound, value, may_leave, may_enter};
 ghost use Rattle.mpc_exact.specs.Pair.{is_below};
 ghost use Rattle.mpc_whole.specs.Table.{seat_at, in_row, IsSeated};
+ghost use Rattle.mpc_whole.specs.Underway.{StayBefore};
 ghost use Rattle.mpc_whole.specs.Whole.{whole_at, whole_cell, whole_total, AreScales, IsSmall, HasRoom, HasSides, HasSideValues, HasBasis, IsRowOf, IsSideRow, side_cell};
 
 use crate::variables::{Seat, column_of, is_basic};
@@ -54,7 +55,7 @@ fn is_out(
     false
 }
 
-/// The variable that leaves.
+/// The variable that leaves, from the first on that may.
 pub(crate) fn leaving(
     system: &WholeSystem,
     scales: &[u64],
@@ -65,7 +66,9 @@ pub(crate) fn leaving(
     c_2: &[i64],
     den: u64,
     n: usize,
+    first: usize,
 ) -> Option<usize>
+    requires side { system.now.width ≤ first }
     requires scales { AreScales system.now scales.now }
     requires seated { IsSeated (height system.now) system.now.width n seats.now }
     requires entries { length a.now ≡ height system.now * system.now.width }
@@ -77,10 +80,10 @@ pub(crate) fn leaving(
     requires second_small { IsSmall (2 ^ 62) c_2.now }
     requires den_small { den ≤ 2 ^ 62 }
     ensures { (p : Position) → 0 < den → HasBasis n seats.now p → HasSideValues system.now scales.now a.now p den c_1.now c_2.now → HasSides system.now scales.now b.now
-        → result ≡ least (may_leave system.now p) n }
+        → StayBefore system.now p first → result ≡ least (may_leave system.now p) n }
 {
     let width = system.unknowns();
-    for x in width..n {
+    for x in first..n {
         if !is_basic(seats, x) {
             continue;
         }

@@ -13,7 +13,7 @@ use Rattle.mpc_whole.proofs.whole.step.Goals as goal
 use Rattle.mpc_whole.proofs.whole.step.Goals.{In_ok-out, In-Some, In-Some-pick}
 
 found : (c : In_ok-out) → c.in_ok-out.out ≡ least (may_leave c.args.system.now (position c.args.system.now c.requires.underway.stands.at)) c.args.n
-found c = c.in_ok-out.ensures.least c.requires.underway.stands.at c.requires.underway.stands.order c.requires.underway.stands.form
+found c = c.in_ok-out.ensures.least c.requires.underway.stands.at c.requires.underway.stands.order c.requires.underway.stands.form c.requires.underway.stay
 
 pub returns-in_default-clause-end : goal.returns-in_default-clause-end
 returns-in_default-clause-end c =
@@ -83,9 +83,10 @@ returns-clause-underway c =
     let rs = row_seat (seat_at c.args.seats.now c.in-Some.l) (leaving_seat c.args.system.now c.args.n c.args.seats.now c.requires.seated c.args.scales.now c.args.place.den c.args.v.now c.args.a.now c.args.b.now c.requires.bounds.most_side c.requires.whole c.requires.bounds.bounds.sides c.requires.narrow c.requires.underway.stands c.in-Some.l e) in
     let cs = column_seat (seat_at c.args.seats.now c.in-Some-pick.e) (entering_seat c.args.system.now c.args.n c.args.seats.now c.requires.seated c.args.scales.now c.args.place.den c.args.v.now c.args.a.now c.args.b.now c.requires.bounds.most_side c.requires.whole c.requires.bounds.bounds.sides c.requires.narrow c.requires.underway.stands c.in-Some.l e c.pick.new.x c.pick.ensures.row c.in-Some-pick.e o) in
     let piv : IsWholePivot c.args.system.now.width c.args.place.den c.args.v.now c.swap.new.v c.pick.new.x cs.0 = subst (λ w. IsWholePivot w c.args.place.den c.args.v.now c.swap.new.v c.pick.new.x cs.0) c.pick.ensures.row.size (c.in_ok-size.ensures.next.pivot cs.0 cs.1) in
-    subst₂ (λ (t : List Seat) d. IsUnderway c.args.system.now c.args.n t c.args.scales.now d c.swap.new.v c.greater.result c.greater-2.result) (sym (c.in_ok-size.ensures.seats.seats rs.0 cs.0 rs.1 cs.1)) (sym (c.in_ok-size.ensures.next.size_is cs.0 cs.1))
+    subst (IsUnderway c.args.system.now c.args.n c.swap.new.seats c.args.scales.now c.in_ok-size.size c.swap.new.v c.greater.result c.greater-2.result) (sym c.unknowns.ensures)
+    (subst₂ (λ (t : List Seat) d. IsUnderway c.args.system.now c.args.n t c.args.scales.now d c.swap.new.v c.greater.result c.greater-2.result c.args.system.now.width) (sym (c.in_ok-size.ensures.seats.seats rs.0 cs.0 rs.1 cs.1)) (sym (c.in_ok-size.ensures.next.size_is cs.0 cs.1))
     (next_underway c.args.system.now c.args.n c.args.seats.now c.requires.seated c.args.scales.now c.args.place.den c.args.v.now c.args.a.now c.args.b.now c.requires.bounds.most_side c.requires.whole c.requires.bounds.bounds.sides c.requires.narrow c.requires.underway.stands c.in-Some.l e c.pick.new.x c.pick.ensures.row c.in-Some-pick.e o rs.0 cs.0 rs.1 cs.1 c.swap.new.v piv c.args.place.greatest c.args.place.greatest_den c.greater.result c.greater-2.result c.greater.ensures.first c.greater-2.ensures.first
-    (weaker c.greatest-own.result c.greater.result c.args.v.now c.greatest-own.ensures c.greater.ensures.second) c.greater-2.ensures.second c.requires.underway.before)
+    (weaker c.greatest-own.result c.greater.result c.args.v.now c.greatest-own.ensures c.greater.ensures.second) c.greater-2.ensures.second c.requires.underway.before))
 
 pub returns-clause-seated : goal.returns-clause-seated
 returns-clause-seated c =

@@ -7,7 +7,7 @@ use Rattle.mpc_whole.proofs.whole.whole_run.Given as goal
 
 abbrev pub invariant-steps : goal.invariant-steps
 invariant-steps l = record {
-  underway : IsUnderway l.system l.n l.seats l.scales l.place.den l.v l.place.greatest l.place.greatest_den;
+  underway : IsUnderway l.system l.n l.seats l.scales l.place.den l.v l.place.greatest l.place.greatest_den l.place.first;
   seated : IsSeated (height l.system) l.system.width l.n l.seats;
   small : IsSmall l.most l.v;
   den_small : l.place.den ≤ 2 ^ 62;
