@@ -3,19 +3,19 @@ use Rattle.std.proofs.Common.{◌≡◌, ℕ, zero, suc, ◌+◌, ◌-◌, ◌<�
 use Rattle.std.proofs.lemmas.Bool.{cond-true, cond-false, cases_lt, both_ways}
 use Rattle.std.proofs.lemmas.List.{get_or_append_left, get_or-append_right, get_or-replicate, get_or_past, length-replicate}
 use Rattle.mpc_exact.specs.Rational.{ℚ, int, neg_ℚ}
-use Rattle.mpc_exact.specs.Pair.{IsBelow, IsAtMost}
-use Rattle.mpc_exact.proofs.Pair.{at_most-not-below}
 use Rattle.mpc_space.specs.Vector.{coordinate, zeros}
 use Rattle.mpc_rows.specs.declared.systems.Row.{Row}
 use Rattle.mpc_rows.specs.LinearSystem.{LinearSystem, height}
-use Rattle.mpc_rows.specs.Run.{Turn, has_point, is_refuted, count, turn, pivot, position, is_pivot, leaving, entering, GoesOn, steps, last_position, multiplier, value, bound}
+use Rattle.mpc_rows.specs.Run.{Turn, has_point, is_refuted, count, turn, pivot, position, is_pivot, leaving, entering, GoesOn, steps, last_position, multiplier}
+use Rattle.mpc_whole.specs.Underway.{StayBefore}
+use Rattle.mpc_whole.proofs.WholeTurns.{stay_at_point}
 use Rattle.mpc_whole.specs.RunEnd.{IsMultipliers, EndsRefuted}
 use Rattle.mpc_beginnings.specs.Beginnings.{lengthened, Agrees}
-use Rattle.mpc_whole.proofs.Turn.{Leaves, turn-at}
+use Rattle.mpc_whole.proofs.Turn.{turn-at}
 use Rattle.mpc_whole.proofs.Positions.{tableau, goes_at, next_position, left_at, entered_at}
 use Rattle.mpc_whole.proofs.Outside.{within}
 use Rattle.mpc_whole.proofs.Ends.{run_ends, Reached, position-zero}
-use Rattle.mpc_beginnings.proofs.Prefix.{opening_agrees, pivot_agrees, turn_agrees, bound_below, value_agrees}
+use Rattle.mpc_beginnings.proofs.Prefix.{opening_agrees, pivot_agrees, turn_agrees, leave_agrees}
 
 goes_no_point : (t : Turn) → is_pivot t ≡ true → t ≡ has_point → ⊥
 goes_no_point t g e = both_ways (is_pivot t) (ap is_pivot e) g
@@ -125,19 +125,8 @@ module _ (s : LinearSystem) (more : List Row) where
 
   -- ---- where the shorter one ends with a point: who leaves there is a further side
   module _ (ends : turn s (last_position s) ≡ has_point) where
-    later : (l : ℕ) → Leaves (lengthened s more) (position (lengthened s more) (steps s)) l → (l < count s) ⊎ (count s ≤ l) → count s ≤ l
+    pub stay_before : StayBefore (lengthened s more) (position (lengthened s more) (steps s)) (count s)
     unfolding last_position
-    later l h (inl b) =
-        let a : Agrees (count s) (position s (steps s)) (position (lengthened s more) (steps s)) = positions_agree (steps s) (omega arith) in
-        let side : s.width ≤ l = h.violated.side in
-        let kept : IsAtMost (value s (position s (steps s)) l) (bound s l) =
-        turn-at s (position s (steps s)) has_point ends l b side (sym (a.basic l) ∙ h.violated.basic)
-        in
-        let v : value (lengthened s more) (position (lengthened s more) (steps s)) l ≡ value s (position s (steps s)) l =
-        value_agrees s more (position s (steps s)) (position (lengthened s more) (steps s)) (within s (steps s)) (tableau (lengthened s more) (steps s)) a l b
-        in
-        absurd (at_most-not-below kept (subst₂ (λ u w. IsBelow u w) (bound_below s more l side b) v h.violated.above))
-    later l h (inr b) = b
-
-    pub leaves_later : (l : ℕ) → Leaves (lengthened s more) (position (lengthened s more) (steps s)) l → count s ≤ l
-    leaves_later l h = later l h (cases_lt l (count s))
+    stay_before x l =
+        leave_agrees s more (position s (steps s)) (position (lengthened s more) (steps s)) (within s (steps s)) (tableau (lengthened s more) (steps s)) (positions_agree (steps s) (omega arith)) x l
+        ∙ stay_at_point s (position s (steps s)) ends x l

@@ -12,6 +12,7 @@ use Rattle.mpc_whole.specs.declared.variables.Seat.{Seat}
 use Rattle.mpc_whole.specs.declared.variables.Seat.TheVariants.{Row, Column}
 use Rattle.mpc_whole.specs.Table.{seat_at, in_row}
 use Rattle.mpc_whole.specs.Whole.{whole_cell, scale_at, IsSmall, IsWholeSystem, HasBounds, IsNarrow, IsForm, Stands}
+use Rattle.mpc_whole.specs.Underway.{StayBefore}
 use Rattle.mpc_whole.proofs.Outside.{within}
 use Rattle.mpc_whole.proofs.Ends.{Reached}
 use Rattle.mpc_whole.proofs.WholeNorms.{norms_fit}
@@ -142,6 +143,10 @@ module _ (s : LinearSystem) (more : List LinearRow) (k further : List ℕ) (same
         pub before_longer : AreSmallBefore (lengthened s more) further stands_longer.at hist hist_den
         unfolding stands_longer
         before_longer = before_from fits_before n whole seats longer grown den v f m hist hist_den z
+
+        pub stay_longer : (first : ℕ) → StayBefore (lengthened s more) (position (lengthened s more) (steps s)) first → StayBefore (lengthened s more) (position (lengthened s more) stands_longer.at) first
+        unfolding stands_longer stands_from
+        stay_longer first h = h
 
       -- so it does up to the last position, where the shorter system is refuted
       module _ (l : ℕ) (ends : turn s (last_position s) ≡ is_refuted l) (last : IsSmallForm s k (last_position s) hist hist_den) where

@@ -1,13 +1,15 @@
 -- A run in whole numbers that is kept where it ends.
 use Rattle.std.specs.Prelude.{◌≡◌, ℕ, ◌*◌, ◌≤◌, ◌^◌, List, length, ℤ}
+use Rattle.mpc_rows.specs.declared.systems.Row.{Row}
 use Rattle.mpc_rows.specs.LinearSystem.{LinearSystem, height}
-use Rattle.mpc_rows.specs.Run.{count, is_refuted, turn, last_position}
+use Rattle.mpc_rows.specs.Run.{count, is_refuted, turn, position, steps, last_position}
 use Rattle.mpc_whole.specs.declared.variables.Seat.{Seat}
 use Rattle.mpc_whole.specs.declared.whole.Ending.{Ending}
 use Rattle.mpc_whole.specs.declared.whole.Place.{Place}
 use Rattle.mpc_whole.specs.Table.{IsSeated}
 use Rattle.mpc_whole.specs.Whole.{IsSmall, HasBounds}
-use Rattle.mpc_whole.specs.Underway.{IsUnderway, HasEnded}
+use Rattle.mpc_whole.specs.Underway.{StayBefore, IsUnderway, HasEnded}
+use Rattle.mpc_beginnings.specs.Beginnings.{lengthened}
 
 -- the seats and the numbers of the last position, by the scales of the system
 pub record IsKept (s : LinearSystem) (k : List ℕ) (seats : List Seat) (v : List ℤ) (p : Place) (end : Ending) : Type 0 where
@@ -19,8 +21,17 @@ pub record IsKept (s : LinearSystem) (k : List ℕ) (seats : List Seat) (v : Lis
   pub ended : HasEnded s (count s) seats k p.den v p.greatest p.greatest_den end
 
 -- the run stands here, if the sizes that are kept are within what the numbers of a position may have
-pub record IsUnderwayWithin (s : LinearSystem) (n : ℕ) (seats : List Seat) (k : List ℕ) (a b : List ℤ) (scale den : ℕ) (v : List ℤ) (most most_den : ℕ) : Type 0 where
-  pub within : (m : ℕ) → HasBounds s k a b m → most ≤ m → most_den * scale ≤ 2 ^ 62 → IsUnderway s n seats k den v most most_den
+pub record IsUnderwayWithin (s : LinearSystem) (n : ℕ) (seats : List Seat) (k : List ℕ) (a b : List ℤ) (scale den : ℕ) (v : List ℤ) (most most_den first : ℕ) : Type 0 where
+  pub within : (m : ℕ) → HasBounds s k a b m → most ≤ m → most_den * scale ≤ 2 ^ 62 → IsUnderway s n seats k den v most most_den first
+
+-- the second system has further rows behind those of the first
+abbrev pub IsLonger : LinearSystem → LinearSystem → Type 0
+IsLonger s longer = (more : List Row) × (longer ≡ lengthened s more)
+
+-- where the run ends, nobody before this variable may leave, whatever rows stand behind
+pub record IsFirstLater (s : LinearSystem) (first : ℕ) : Type 0 where
+  pub side : s.width ≤ first
+  pub stay : (more : List Row) → StayBefore (lengthened s more) (position (lengthened s more) (steps s)) first
 
 -- the run ends without a point, as the row of a side shows
 pub record IsRefuted (s : LinearSystem) : Type 0 where

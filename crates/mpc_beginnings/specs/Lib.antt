@@ -1,3 +1,4 @@
 pub mod Beginnings
 pub mod LongerSeats
 pub mod Kept
+pub mod Broken

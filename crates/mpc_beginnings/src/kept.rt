@@ -1,21 +1,23 @@
 //! Runs in whole numbers that are kept where they end.
 
 ghost use Rattle.std.specs.Prelude.{◌≡◌, ℕ, ◌+◌, ◌*◌, ◌<◌, ◌≤◌, ◌^◌, [], ◌∷◌, IsTrue, IfSome, IfOk, All, List, length, map, true, false};
-ghost use Rattle.mpc_rows.specs.LinearSystem.{height};
-ghost use Rattle.mpc_rows.specs.Run.{has_point, is_refuted, turn, last_position};
+ghost use Rattle.mpc_rows.specs.LinearSystem.{height, row_at};
+ghost use Rattle.mpc_rows.specs.Run.{count, has_point, is_refuted, turn, last_position};
 ghost use Rattle.mpc_rows.specs.RunWidth.{RunFits};
-ghost use Rattle.mpc_rows.specs.LawRows.{whole_row};
+ghost use Rattle.mpc_rows.specs.LawRows.{whole_row, broken_row};
+ghost use Rattle.mpc_rows.specs.SetRuns.{turned};
 ghost use Rattle.mpc_whole.specs.declared.variables.Seat.{Seat};
 ghost use Rattle.mpc_whole.specs.Table.{IsSeated};
 ghost use Rattle.mpc_whole.specs.RunEnd.{IsEnd, IsValues, IsMultipliers};
 ghost use Rattle.mpc_whole.specs.Whole.{scale_at, IsSmall, IsNarrow, IsForm, IsWholeSystem, HasBounds, HasRoom};
 ghost use Rattle.mpc_whole.specs.Underway.{turn_of, HasEnded};
 ghost use Rattle.mpc_beginnings.specs.Beginnings.{lengthened};
-ghost use Rattle.mpc_beginnings.specs.Kept.{IsKept, IsUnderwayWithin, IsRefuted};
+ghost use Rattle.mpc_beginnings.specs.Broken.{IsBroken};
+ghost use Rattle.mpc_beginnings.specs.Kept.{IsKept, IsFirstLater, IsLonger, IsUnderwayWithin, IsRefuted};
 
 use crate::lists::{
-    begins_with, first_numbers, first_seats, lengthen, push_rows, put_numbers, put_seats, sizes,
-    with_row,
+    begins_with, first_numbers, first_seats, lengthen, push_rows, push_turned, put_numbers,
+    put_seats, sizes, with_row, with_turned,
 };
 use mpc_frac::Frac;
 use mpc_linear::RowInt;
@@ -88,11 +90,13 @@ fn run_on(
     requires some_side { 1 ≤ numbers.now.most_side }
     requires scales { (x : ℕ) → scale_at numbers.now.scales.now x ≤ numbers.now.most_scale }
     requires some_scale { 1 ≤ numbers.now.most_scale }
-    requires start { IsUnderwayWithin system.now n seats.old numbers.now.scales.now numbers.now.a.now numbers.now.b.now numbers.now.most_scale from.den v.old from.greatest from.greatest_den }
+    requires start { IsUnderwayWithin system.now n seats.old numbers.now.scales.now numbers.now.a.now numbers.now.b.now numbers.now.most_scale from.den v.old from.greatest from.greatest_den from.first }
     ensures end { IfSome result (λ t. HasEnded system.now n seats.new numbers.now.scales.now t.0.den v.new t.0.greatest t.0.greatest_den t.1) }
     ensures seated { IfSome result (λ _. IsSeated (height system.now) system.now.width n seats.new) }
     ensures small { IfSome result (λ _. IsSmall (2 ^ 62) v.new) }
     ensures den_small { IfSome result (λ t. t.0.den ≤ 2 ^ 62) }
+    ensures room { IfSome result (λ _. HasRoom system.now.width (2 ^ 62) numbers.now.a.now) }
+    ensures narrow { IfSome result (λ t. IsNarrow system.now n seats.new numbers.now.scales.now numbers.now.a.now t.0.den v.new) }
 {
     let most = limit_of(system, numbers, v, n, from)?;
     let width = system.unknowns();
@@ -160,6 +164,52 @@ fn point_at(
     }
 }
 
+/// The multipliers at the last position, where the row of the side l refutes, from the numbers of the
+/// system.
+fn multipliers_of(
+    alloc: Global,
+    work: &mut [i64],
+    system: &WholeSystem,
+    numbers: &WholeNumbers,
+    seats: &[Seat],
+    v: &[i64],
+    n: usize,
+    den: u64,
+    l: usize,
+) -> Result<Option<Multipliers>, AllocError>
+    requires lines { system.now.width + (system.now.width + system.now.width) ≤ length work.old }
+    requires seated { IsSeated (height system.now) system.now.width n seats.now }
+    requires whole { IsWholeSystem system.now numbers.now.scales.now numbers.now.a.now numbers.now.b.now }
+    requires room { HasRoom system.now.width (2 ^ 62) numbers.now.a.now }
+    requires square { length v.now ≡ system.now.width * system.now.width }
+    requires small { IsSmall (2 ^ 62) v.now }
+    requires den_small { den ≤ 2 ^ 62 }
+    requires narrow { IsNarrow system.now n seats.now numbers.now.scales.now numbers.now.a.now den v.now }
+    requires form { IsForm system.now n seats.now numbers.now.scales.now den v.now (last_position system.now) }
+    requires refuted { turn system.now (last_position system.now) ≡ is_refuted l }
+    ensures { IfOk result (λ o. IfSome o (λ m. IsMultipliers system.now (last_position system.now) l m)) }
+{
+    let mut list = zeros(alloc, system.height())?;
+    let (x, _) = work.split_at_mut(system.unknowns());
+    let found = last_multipliers(
+        &mut list,
+        x,
+        system,
+        numbers.scales,
+        seats,
+        numbers.a,
+        numbers.b,
+        v,
+        n,
+        den,
+        l,
+    );
+    match found {
+        Some(()) => Ok(Some(Multipliers::of(list))),
+        None => Ok(None),
+    }
+}
+
 /// The multipliers at the last position, where the row of the side l refutes.
 fn multipliers_at(
     alloc: Global,
@@ -188,25 +238,7 @@ fn multipliers_at(
     let Some(_) = limit_of(system, &numbers, v, n, place) else {
         return Ok(None);
     };
-    let mut list = zeros(alloc, system.height())?;
-    let (x, _) = work.split_at_mut(system.unknowns());
-    let found = last_multipliers(
-        &mut list,
-        x,
-        system,
-        numbers.scales,
-        seats,
-        numbers.a,
-        numbers.b,
-        v,
-        n,
-        place.den,
-        l,
-    );
-    match found {
-        Some(()) => Ok(Some(Multipliers::of(list))),
-        None => Ok(None),
-    }
+    multipliers_of(alloc, work, system, &numbers, seats, v, n, place.den, l)
 }
 
 /// Whether the run ends with a point.
@@ -298,6 +330,42 @@ fn kept(
     })
 }
 
+/// What is kept of a run that stands at its end, in lists of its own.
+fn kept_copy(
+    alloc: Global,
+    system: &WholeSystem,
+    scales: &[u64],
+    seats: &[Seat],
+    v: &[i64],
+    place: Place,
+    end: Ending,
+) -> Result<KeptRun, AllocError>
+    requires { IsKept system.now scales.now seats.now v.now place end }
+    ensures { IfOk result (λ r. r ≡ system.now) }
+{
+    let own = system.copy_with_room(alloc, 0)?;
+    let scales = scales.to_vec(alloc)?;
+    let seats = seats.to_vec(alloc)?;
+    let v = v.to_vec(alloc)?;
+    Ok(KeptRun {
+        system: own,
+        scales,
+        seats,
+        v,
+        place,
+        end,
+    })
+}
+
+/// What the run of a system with a row behind that is met where another fails ends with.
+#[derive(Drop)]
+pub enum Broken {
+    /// A point, where the other row fails. The run comes with it, kept where it ends.
+    Point(KeptRun),
+    /// No point, as these multipliers show.
+    Refuted(Multipliers),
+}
+
 impl KeptRun {
     /// The run of the system, kept where it ends. `None` where whole numbers don't serve for it.
     pub fn begin(
@@ -320,6 +388,7 @@ impl KeptRun {
             den: 1,
             greatest: 0,
             greatest_den: 0,
+            first: width,
         };
         let found = run_on(
             &mut seats,
@@ -344,35 +413,47 @@ impl KeptRun {
         requires { length row.now.a ≡ self.now.width }
         ensures { IfOk result (λ o. IfSome o (λ r. r ≡ lengthened self.now (row.now ∷ []))) }
     {
-        let Some(system) = with_row(alloc, &self.system, row)? else {
-            return Ok(None);
-        };
-        let Some((n, _, lines)) = sizes(system.height(), system.unknowns()) else {
+        match with_row(alloc, &self.system, row)? {
+            Some(system) => self.kept_longer(alloc, work, system),
+            None => Ok(None),
+        }
+    }
+
+    /// The run of the system with its row i, from 0, the other way round behind its own, from where
+    /// this one ends on. `None` where whole numbers don't serve for it.
+    pub fn extend_turned(
+        &self,
+        alloc: Global,
+        work: &mut Workspace,
+        i: usize,
+    ) -> Result<Option<KeptRun>, AllocError>
+        requires { i < height self.now }
+        ensures { IfOk result (λ o. IfSome o (λ r. r ≡ lengthened self.now (turned (row_at self.now i) ∷ []))) }
+    {
+        match with_turned(alloc, &self.system, i)? {
+            Some(system) => self.kept_longer(alloc, work, system),
+            None => Ok(None),
+        }
+    }
+
+    /// The run of a system with further rows behind this one's, in lists of its own.
+    fn kept_longer(
+        &self,
+        alloc: Global,
+        work: &mut Workspace,
+        system: WholeSystem,
+    ) -> Result<Option<KeptRun>, AllocError>
+        requires { IsLonger self.now system }
+        ensures { IfOk result (λ o. IfSome o (λ r. r ≡ system)) }
+    {
+        let Some((n, square, _)) = sizes(system.height(), system.unknowns()) else {
             return Ok(None);
         };
         let mut seats = Vec::with_capacity(alloc, n)?;
-        put_seats(
-            &mut seats,
-            &self.seats,
-            self.system.height(),
-            system.height(),
-        )?;
-        let mut v = self.v.to_vec(alloc)?;
-        lengthen(&mut work.numbers, lines)?;
+        let mut v = Vec::with_capacity(alloc, square)?;
         let numbers = system.numbers();
-        if !begins_with(numbers.scales, &self.scales) {
-            return Ok(None);
-        }
         let scales = numbers.scales.to_vec(alloc)?;
-        let found = run_on(
-            &mut seats,
-            &mut v,
-            &mut work.numbers,
-            &system,
-            &numbers,
-            n,
-            self.place,
-        );
+        let found = self.go_on(&mut seats, &mut v, &mut work.numbers, &system, &numbers)?;
         Ok(kept(system, scales, seats, v, found))
     }
 
@@ -383,6 +464,58 @@ impl KeptRun {
         ensures fits { RunFits self.now }
     {
         is_point(self.end)
+    }
+
+    /// The first variable that may leave where the run ends, with whatever rows behind: where it ends
+    /// with a point, the side of the first further row.
+    fn first_later(&self) -> usize
+        ensures { IsFirstLater self.now result }
+    {
+        match self.end {
+            Ending::Point => self.seats.len(),
+            Ending::Refuted(_) => self.system.unknowns(),
+        }
+    }
+
+    /// The run of a system with further rows behind this one's, from where this one ends on. The lists
+    /// become its seats and its numbers.
+    fn go_on(
+        &self,
+        seats: &mut Vec<Seat>,
+        v: &mut Vec<i64>,
+        work: &mut Vec<i64>,
+        longer: &WholeSystem,
+        numbers: &WholeNumbers,
+    ) -> Result<Option<(Place, Ending)>, AllocError>
+        requires longer { IsLonger self.now longer.now }
+        requires whole { IsWholeSystem longer.now numbers.now.scales.now numbers.now.a.now numbers.now.b.now }
+        requires entries { IsSmall numbers.now.most_entry numbers.now.a.now }
+        requires sides { IsSmall numbers.now.most_side numbers.now.b.now }
+        requires some_side { 1 ≤ numbers.now.most_side }
+        requires scales { (x : ℕ) → scale_at numbers.now.scales.now x ≤ numbers.now.most_scale }
+        requires some_scale { 1 ≤ numbers.now.most_scale }
+        ensures kept { IfOk result (λ o. IfSome o (λ t. IsKept longer.now numbers.now.scales.now seats.new.items v.new.items t.0 t.1)) }
+        ensures lines { IfOk result (λ o. IfSome o (λ _. longer.now.width + (longer.now.width + longer.now.width) ≤ length work.new.items)) }
+        ensures room { IfOk result (λ o. IfSome o (λ _. HasRoom longer.now.width (2 ^ 62) numbers.now.a.now)) }
+        ensures narrow { IfOk result (λ o. IfSome o (λ t. IsNarrow longer.now (count longer.now) seats.new.items numbers.now.scales.now numbers.now.a.now t.0.den v.new.items)) }
+    {
+        let Some((n, _, lines)) = sizes(longer.height(), longer.unknowns()) else {
+            return Ok(None);
+        };
+        put_seats(seats, &self.seats, self.system.height(), longer.height())?;
+        put_numbers(v, &self.v)?;
+        lengthen(work, lines)?;
+        if !begins_with(numbers.scales, &self.scales) {
+            return Ok(None);
+        }
+        let from = Place {
+            den: self.place.den,
+            greatest: self.place.greatest,
+            greatest_den: self.place.greatest_den,
+            first: self.first_later(),
+        };
+        let found = run_on(seats, v, work, longer, numbers, n, from);
+        Ok(found)
     }
 
     /// What the run of the system with these rows behind its own ends with, where the system given is
@@ -398,31 +531,106 @@ impl KeptRun {
         ensures end { IfOk result (λ o. IfSome o (λ e. turn (lengthened self.now (map whole_row rows.now)) (last_position (lengthened self.now (map whole_row rows.now))) ≡ turn_of e)) }
         ensures fits { IfOk result (λ o. IfSome o (λ _. RunFits (lengthened self.now (map whole_row rows.now)))) }
     {
-        let height = longer.height();
         if !push_rows(longer, rows)? {
             return Ok(None);
         }
-        let Some((n, _, lines)) = sizes(longer.height(), longer.unknowns()) else {
-            return Ok(None);
-        };
-        put_seats(&mut work.seats, &self.seats, height, longer.height())?;
-        put_numbers(&mut work.v, &self.v)?;
-        lengthen(&mut work.numbers, lines)?;
         let numbers = longer.numbers();
-        if !begins_with(numbers.scales, &self.scales) {
-            return Ok(None);
-        }
-        let found = run_on(
+        match self.go_on(
             &mut work.seats,
             &mut work.v,
             &mut work.numbers,
             longer,
             &numbers,
-            n,
-            self.place,
-        );
-        match found {
+        )? {
             Some((_, end)) => Ok(Some(end)),
+            None => Ok(None),
+        }
+    }
+
+    /// What the run of the system with its row i, from 0, the other way round behind its own ends with,
+    /// where the system given is this one. It may become the longer one.
+    fn end_turned(
+        &self,
+        work: &mut Workspace,
+        longer: &mut WholeSystem,
+        i: usize,
+    ) -> Result<Option<Ending>, AllocError>
+        requires same { longer.old ≡ self.now }
+        requires row { i < height self.now }
+        ensures end { IfOk result (λ o. IfSome o (λ e. turn (lengthened self.now (turned (row_at self.now i) ∷ [])) (last_position (lengthened self.now (turned (row_at self.now i) ∷ []))) ≡ turn_of e)) }
+        ensures fits { IfOk result (λ o. IfSome o (λ _. RunFits (lengthened self.now (turned (row_at self.now i) ∷ [])))) }
+    {
+        if !push_turned(longer, i)? {
+            return Ok(None);
+        }
+        let whole = longer.numbers();
+        match self.go_on(
+            &mut work.seats,
+            &mut work.v,
+            &mut work.numbers,
+            longer,
+            &whole,
+        )? {
+            Some((_, end)) => Ok(Some(end)),
+            None => Ok(None),
+        }
+    }
+
+    /// What the run of the system with the row behind its own that is met where this row fails ends
+    /// with, where the system given is this one. It may become the longer one.
+    fn end_broken(
+        &self,
+        alloc: Global,
+        work: &mut Workspace,
+        longer: &mut WholeSystem,
+        row: &RowInt,
+    ) -> Result<Option<Broken>, AllocError>
+        requires same { longer.old ≡ self.now }
+        requires row { length row.now.a ≡ self.now.width }
+        ensures end { IfOk result (λ o. IfSome o (IsBroken (lengthened self.now (broken_row row.now ∷ [])))) }
+        ensures fits { IfOk result (λ o. IfSome o (λ _. RunFits (lengthened self.now (broken_row row.now ∷ [])))) }
+    {
+        if !longer.push_broken(row)? {
+            return Ok(None);
+        }
+        let whole = longer.numbers();
+        match self.go_on(
+            &mut work.seats,
+            &mut work.v,
+            &mut work.numbers,
+            longer,
+            &whole,
+        )? {
+            Some((place, Ending::Point)) => {
+                let run = kept_copy(
+                    alloc,
+                    longer,
+                    whole.scales,
+                    &work.seats,
+                    &work.v,
+                    place,
+                    Ending::Point,
+                )?;
+                Ok(Some(Broken::Point(run)))
+            }
+            Some((place, Ending::Refuted(l))) => {
+                let n = work.seats.len();
+                let found = multipliers_of(
+                    alloc,
+                    &mut work.numbers,
+                    longer,
+                    &whole,
+                    &work.seats,
+                    &work.v,
+                    n,
+                    place.den,
+                    l,
+                )?;
+                match found {
+                    Some(multipliers) => Ok(Some(Broken::Refuted(multipliers))),
+                    None => Ok(None),
+                }
+            }
             None => Ok(None),
         }
     }
@@ -451,6 +659,55 @@ impl KeptRun {
             Some(end) => Ok(Some(is_point(end))),
             None => Ok(None),
         }
+    }
+
+    /// Whether the run of the system with its row i, from 0, the other way round behind its own ends with
+    /// a point, from where this one ends on. `None` where whole numbers don't serve for it, and else no
+    /// number that it forms is wide.
+    ///
+    /// It takes no memory where the lists of the workspace are long enough.
+    pub fn meets_turned(
+        &self,
+        alloc: Global,
+        work: &mut Workspace,
+        i: usize,
+    ) -> Result<Option<bool>, AllocError>
+        requires { i < height self.now }
+        ensures point { IfOk result (λ o. IfSome o (λ yes. IsTrue yes → turn (lengthened self.now (turned (row_at self.now i) ∷ [])) (last_position (lengthened self.now (turned (row_at self.now i) ∷ []))) ≡ has_point)) }
+        ensures refuted { IfOk result (λ o. IfSome o (λ yes. yes ≡ false → IsRefuted (lengthened self.now (turned (row_at self.now i) ∷ [])))) }
+        ensures fits { IfOk result (λ o. IfSome o (λ _. RunFits (lengthened self.now (turned (row_at self.now i) ∷ [])))) }
+    {
+        let mut system = scratch(alloc, work.system.take())?;
+        system.set_to(&self.system)?;
+        let end = self.end_turned(work, &mut system, i);
+        work.system = Some(system);
+        match end? {
+            Some(end) => Ok(Some(is_point(end))),
+            None => Ok(None),
+        }
+    }
+
+    /// What the run of the system with the strict row behind its own that is met where this row fails
+    /// ends with, from where this one ends on. `None` where whole numbers don't serve for it, and else
+    /// no number that it forms is wide.
+    ///
+    /// Where the row fails nowhere it takes no memory but for the multipliers, if the lists of the
+    /// workspace are long enough.
+    pub fn breaks(
+        &self,
+        alloc: Global,
+        work: &mut Workspace,
+        row: &RowInt,
+    ) -> Result<Option<Broken>, AllocError>
+        requires { length row.now.a ≡ self.now.width }
+        ensures end { IfOk result (λ o. IfSome o (IsBroken (lengthened self.now (broken_row row.now ∷ [])))) }
+        ensures fits { IfOk result (λ o. IfSome o (λ _. RunFits (lengthened self.now (broken_row row.now ∷ [])))) }
+    {
+        let mut system = scratch(alloc, work.system.take())?;
+        system.set_to(&self.system)?;
+        let end = self.end_broken(alloc, work, &mut system, row);
+        work.system = Some(system);
+        end
     }
 
     /// What the run ends with, in fractions. `None` where a fraction is too wide.

@@ -5,5 +5,5 @@ mod kept;
 mod laws;
 mod lists;
 
-pub use kept::{KeptRun, Workspace, whole_end};
+pub use kept::{Broken, KeptRun, Workspace, whole_end};
 pub use laws::shared_beginning;

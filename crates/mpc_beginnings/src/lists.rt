@@ -1,8 +1,9 @@
 //! The lists of a run.
 
 ghost use Rattle.std.specs.Prelude.{◌≡◌, ℕ, ◌+◌, ◌-◌, ◌*◌, ◌<◌, ◌≤◌, [], ◌∷◌, IsTrue, IfSome, IfOk, OnOk, All, length, map, take};
-ghost use Rattle.mpc_rows.specs.LinearSystem.{LinearSystem};
+ghost use Rattle.mpc_rows.specs.LinearSystem.{LinearSystem, height, row_at};
 ghost use Rattle.mpc_rows.specs.LawRows.{whole_row};
+ghost use Rattle.mpc_rows.specs.SetRuns.{turned};
 ghost use Rattle.mpc_whole.specs.Table.{IsSeated, IsOpeningSeats, opening_seat};
 ghost use Rattle.mpc_whole.specs.Whole.{scale_at, IsUnit};
 ghost use Rattle.mpc_beginnings.specs.Beginnings.{lengthened};
@@ -131,9 +132,34 @@ pub(crate) fn with_row(
     requires { length row.now.a ≡ system.now.width }
     ensures { IfOk result (λ o. IfSome o (λ s. s ≡ lengthened system.now (row.now ∷ []))) }
 {
-    let mut longer = WholeSystem::new(alloc, 0)?;
-    longer.set_to(system)?;
+    let mut longer = system.copy_with_room(alloc, 1)?;
     if longer.push(row)? {
+        Ok(Some(longer))
+    } else {
+        Ok(None)
+    }
+}
+
+/// Puts row i, from 0, the other way round behind the others; says whether it stands there.
+pub(crate) fn push_turned(system: &mut WholeSystem, i: usize) -> Result<bool, AllocError>
+    requires { i < height system.old }
+    ensures { IfOk result (λ done. IsTrue done → system.new ≡ lengthened system.old (turned (row_at system.old i) ∷ [])) }
+{
+    let done = system.push_turned(i)?;
+    Ok(done)
+}
+
+/// The system with its row i, from 0, the other way round behind its own, in lists of its own.
+pub(crate) fn with_turned(
+    alloc: Global,
+    system: &WholeSystem,
+    i: usize,
+) -> Result<Option<WholeSystem>, AllocError>
+    requires { i < height system.now }
+    ensures { IfOk result (λ o. IfSome o (λ s. s ≡ lengthened system.now (turned (row_at system.now i) ∷ []))) }
+{
+    let mut longer = system.copy_with_room(alloc, 1)?;
+    if longer.push_turned(i)? {
         Ok(Some(longer))
     } else {
         Ok(None)

@@ -1,12 +1,14 @@
 -- The rows of a longer system have one coefficient for each unknown.
-use Rattle.std.proofs.Common.{◌≡◌, List, [], ◌∷◌, map, length, All, ◌∙◌, subst}
+use Rattle.std.proofs.Common.{◌≡◌, ℕ, ◌<◌, List, [], ◌∷◌, map, length, All, ◌∙◌, subst}
 use Rattle.std.proofs.lemmas.List.{length-map}
-use Rattle.std.proofs.lemmas.List.Elements.{All-append, All-push, All-map, All-weaker}
+use Rattle.std.proofs.lemmas.List.Elements.{All-get_or, All-append, All-push, All-map, All-weaker}
 use Rattle.mpc_exact.specs.Rational.{int}
+use Rattle.mpc_space.proofs.Entries.{length-scale}
 use Rattle.mpc_linear.specs.declared.integers.RowInt.{RowInt}
 use Rattle.mpc_rows.specs.declared.systems.Row.{Row}
-use Rattle.mpc_rows.specs.LinearSystem.{LinearSystem, HasWidth}
-use Rattle.mpc_rows.specs.LawRows.{whole_row}
+use Rattle.mpc_rows.specs.LinearSystem.{LinearSystem, HasWidth, height, row_at, no_row}
+use Rattle.mpc_rows.specs.SetRuns.{turned}
+use Rattle.mpc_rows.specs.LawRows.{whole_row, broken_row}
 use Rattle.mpc_beginnings.specs.Beginnings.{lengthened}
 
 abbrev pub AreWide : LinearSystem → Type 0
@@ -18,6 +20,12 @@ module _ (s : LinearSystem) (w : AreWide s) where
 
   pub one_width : (r : Row) → length r.a ≡ s.width → AreWide (lengthened s (r ∷ []))
   one_width r h = record { each = All-push (λ (q : Row). length q.a ≡ s.width) s.rows r w.each h }
+
+  pub turned_width : (i : ℕ) → i < height s → AreWide (lengthened s (turned (row_at s i) ∷ []))
+  turned_width i h = one_width (turned (row_at s i)) (length-scale _ (row_at s i).a ∙ All-get_or (λ (q : Row). length q.a ≡ s.width) s.rows i no_row h w.each)
+
+  pub broken_width : (row : RowInt) → length row.a ≡ s.width → AreWide (lengthened s (broken_row row ∷ []))
+  broken_width row h = one_width (broken_row row) (length-scale _ (map int row.a) ∙ length-map row.a int ∙ h)
 
   pub more_widths : (rows : List RowInt) → All (λ r. length r.a ≡ s.width) rows → AreWide (lengthened s (map whole_row rows))
   more_widths rows h = record {

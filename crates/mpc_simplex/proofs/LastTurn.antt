@@ -35,7 +35,7 @@ module _ (s : LinearSystem) where
   are_multipliers row = record { size = length-listed (height s) (multiplier s (last_position s) row); at = coordinate-listed (height s) (multiplier s (last_position s) row) }
 
   module _ (laws : SystemLaws) (w : HasWidth s.width s.rows) where
-    has_point_there : turn s (last_position s) ≡ has_point → HasPoint s
+    pub has_point_there : turn s (last_position s) ≡ has_point → HasPoint s
     has_point_there h = laws.point_of_pairs s pairs (ended-point laws s w pairs (record { ends = h; values = are_values }))
 
     no_point_there : IsRefuted s → ¬ HasPoint s

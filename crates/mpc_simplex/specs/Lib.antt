@@ -1,3 +1,4 @@
 pub mod Answer
 pub mod Nonbasic
 pub mod RunLaws
+pub mod Broken

@@ -1,18 +1,20 @@
 //! Runs that are kept where they end, for systems with further rows.
 
-ghost use Rattle.std.specs.Prelude.{◌≡◌, ◌↔◌, ◌∷◌, [], All, IsTrue, IfOk, IfSome, length, map};
-ghost use Rattle.mpc_rows.specs.LinearSystem.{IsPairPoint};
-ghost use Rattle.mpc_rows.specs.LawRows.{whole_row};
+ghost use Rattle.std.specs.Prelude.{◌≡◌, ◌<◌, ◌↔◌, ◌∷◌, [], All, IsTrue, IfOk, IfSome, length, map};
+ghost use Rattle.mpc_rows.specs.LinearSystem.{IsPairPoint, height, row_at};
+ghost use Rattle.mpc_rows.specs.LawRows.{whole_row, broken_row};
+ghost use Rattle.mpc_rows.specs.SetRuns.{turned};
 ghost use Rattle.mpc_rows.specs.Refutation.{Refutes};
 ghost use Rattle.mpc_rows.specs.RunWidth.{RunFits};
-ghost use Rattle.mpc_simplex.specs.Answer.{IfPoint, IfRefuted, HasPoint, IsRunEnd};
+ghost use Rattle.mpc_simplex.specs.Answer.{IfPoint, IfRefuted, HasPoint, IsRunEnd, EndsRefuted};
+ghost use Rattle.mpc_simplex.specs.Broken.{IfBroken, IfUnbroken};
 ghost use Rattle.mpc_beginnings.specs.Beginnings.{lengthened};
 
 use crate::Decision;
-use mpc_beginnings::{KeptRun, Workspace};
+use mpc_beginnings::{Broken as KeptBroken, KeptRun, Workspace};
 use mpc_frac::NoMemory;
 use mpc_linear::RowInt;
-use mpc_rows::{Row, System, system_laws};
+use mpc_rows::{Multipliers, Row, System, system_laws};
 use mpc_whole::{End, WholeSystem};
 use std::alloc::Global;
 use std::marker::Model;
@@ -32,6 +34,15 @@ impl Model for Beginning {
     ghost view = { λ b. b.run };
 
     ghost invariant = { λ b. HasWidth b.run.width b.run.rows };
+}
+
+/// What a system with a row behind that is met where another fails is found to have.
+#[derive(Drop)]
+pub enum Broken {
+    /// A point, where the other row fails. The run comes with it, kept where it ends.
+    Point(Beginning),
+    /// No point, as these multipliers show.
+    Refuted(Multipliers),
 }
 
 impl Beginning {
@@ -61,6 +72,42 @@ impl Beginning {
             Some(run) => Ok(Some(Beginning { run })),
             None => Ok(None),
         }
+    }
+
+    /// The run of the system with its row i, from 0, the other way round behind its own, kept where it
+    /// ends. It goes on from where this one ended, and no fraction is read. Nothing where whole numbers
+    /// don't serve for it.
+    pub fn extend_turned(
+        &self,
+        alloc: Global,
+        work: &mut Workspace,
+        i: usize,
+    ) -> Result<Option<Beginning>, NoMemory>
+        requires { i < height self.now }
+        ensures { IfOk result (λ o. IfSome o (λ b. b ≡ lengthened self.now (turned (row_at self.now i) ∷ []))) }
+    {
+        match self.run.extend_turned(alloc, work, i)? {
+            Some(run) => Ok(Some(Beginning { run })),
+            None => Ok(None),
+        }
+    }
+
+    /// Whether the system with its row i, from 0, the other way round behind its own has a point. No
+    /// fraction is read, and nothing is kept. Nothing where whole numbers don't serve for its run, and
+    /// else no number of that is too wide.
+    pub fn meets_turned(
+        &self,
+        alloc: Global,
+        work: &mut Workspace,
+        i: usize,
+    ) -> Result<Option<bool>, NoMemory>
+        requires { i < height self.now }
+        ensures answer { IfOk result (λ o. IfSome o (λ yes. IsTrue yes ↔ HasPoint (lengthened self.now (turned (row_at self.now i) ∷ [])))) }
+        ensures fits { IfOk result (λ o. IfSome o (λ _. RunFits (lengthened self.now (turned (row_at self.now i) ∷ [])))) }
+    {
+        system_laws();
+        let answer = self.run.meets_turned(alloc, work, i)?;
+        Ok(answer)
     }
 
     /// Whether the system has a point. No number of its run is too wide.
@@ -107,5 +154,31 @@ impl Beginning {
         system_laws();
         let answer = self.run.meets(alloc, work, rows)?;
         Ok(answer)
+    }
+
+    /// Whether the system with the strict row behind its own that is met where this row fails has a
+    /// point. Nothing where whole numbers don't serve for its run, and else no number of that is too
+    /// wide.
+    ///
+    /// Where it has one, the answer is as of `extend`. Elsewhere nothing is copied.
+    pub fn breaks(
+        &self,
+        alloc: Global,
+        work: &mut Workspace,
+        row: &RowInt,
+    ) -> Result<Option<Broken>, NoMemory>
+        requires { length row.now.a ≡ self.now.width }
+        ensures point { IfOk result (λ o. IfSome o (λ b. IfBroken b (λ run. (run ≡ lengthened self.now (broken_row row.now ∷ [])) × HasPoint (lengthened self.now (broken_row row.now ∷ []))))) }
+        ensures refuted { IfOk result (λ o. IfSome o (λ b. IfUnbroken b (Refutes (lengthened self.now (broken_row row.now ∷ []))))) }
+        ensures no_point { IfOk result (λ o. IfSome o (λ b. IfUnbroken b (λ _. ¬ HasPoint (lengthened self.now (broken_row row.now ∷ []))))) }
+        ensures end { IfOk result (λ o. IfSome o (λ b. IfUnbroken b (EndsRefuted (lengthened self.now (broken_row row.now ∷ []))))) }
+        ensures fits { IfOk result (λ o. IfSome o (λ _. RunFits (lengthened self.now (broken_row row.now ∷ [])))) }
+    {
+        system_laws();
+        match self.run.breaks(alloc, work, row)? {
+            Some(KeptBroken::Point(run)) => Ok(Some(Broken::Point(Beginning { run }))),
+            Some(KeptBroken::Refuted(multipliers)) => Ok(Some(Broken::Refuted(multipliers))),
+            None => Ok(None),
+        }
     }
 }

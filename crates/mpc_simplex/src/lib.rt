@@ -15,7 +15,7 @@ mod run;
 mod sides;
 mod tableau;
 
-pub use beginnings::Beginning;
+pub use beginnings::{Beginning, Broken};
 pub use laws::{run_laws, zero_test};
 pub use mpc_beginnings::Workspace;
 use mpc_rows::{Multipliers, PairPoint, System, system_laws};

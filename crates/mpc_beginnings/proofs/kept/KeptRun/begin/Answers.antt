@@ -18,4 +18,4 @@ run_on-found-requires-clause-start c =
     let u : IsUnit c.args.system.width c.deref_mut-2.result.now = rw (c.deref_mut-2.ensures.value, ← c.unknowns-width.ensures) c.in_ok-v.ensures.unit in
     let all : c.in-Some.n ≡ c.args.system.width + height c.args.system = (let a = c.in-Some.ensures.count in let b = c.unknowns-width.ensures in let d = c.height.ensures in omega arith) in
     let n = c.numbers-numbers in
-    opening_within c.args.system c.in-Some.n all c.deref_mut.result.now o n.result.scales.now n.ensures.whole.scales c.deref_mut-2.result.now u n.result.a.now n.result.b.now n.result.most_scale
+    opening_within c.args.system c.in-Some.n all c.deref_mut.result.now o n.result.scales.now n.ensures.whole.scales c.deref_mut-2.result.now u n.result.a.now n.result.b.now n.result.most_scale c.unknowns-width.result c.unknowns-width.ensures

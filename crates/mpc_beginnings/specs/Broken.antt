@@ -1,0 +1,12 @@
+-- What the run of a system with a row behind that is met where another fails ends with.
+use Rattle.std.specs.Prelude.{◌≡◌}
+use Rattle.mpc_rows.specs.LinearSystem.{LinearSystem}
+use Rattle.mpc_rows.specs.Run.{has_point, turn, last_position}
+use Rattle.mpc_whole.specs.RunEnd.{EndsRefuted}
+use Rattle.mpc_beginnings.specs.declared.kept.Broken.{Broken}
+use Rattle.mpc_beginnings.specs.declared.kept.Broken.TheVariants.{Point, Refuted}
+
+-- a point, with the run of the system, or the multipliers that refute it
+abbrev pub IsBroken : LinearSystem → Broken → Type 0
+IsBroken s (Point run) = (run ≡ s) × (turn s (last_position s) ≡ has_point)
+IsBroken s (Refuted m) = EndsRefuted s m
