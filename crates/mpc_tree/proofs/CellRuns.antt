@@ -2,7 +2,6 @@
 use Rattle.std.proofs.Common.{◌≡◌, ◌++◌, List, [], ◌∷◌, All, length, map, Option, Some, None, Result, Ok, Err, IfSome, IfOk, refl, sym, ◌∙◌, ap, subst}
 use Rattle.std.proofs.lemmas.List.{append-nil, append_assoc, length-map}
 use Rattle.mpc_exact.specs.Rational.{int}
-use Rattle.mpc_space.proofs.Entries.{length-scale}
 use Rattle.mpc_linear.specs.declared.integers.RowInt.{RowInt}
 use Rattle.mpc_rows.specs.declared.programs.Qp.{Qp}
 use Rattle.mpc_rows.specs.declared.systems.Row.{Row}
@@ -18,9 +17,6 @@ use Rattle.mpc_tree.specs.CellRuns.{boxed_cell, IsRunOf, IsRunWith}
 module _ (row : RowInt) (r : Row) where
   pub whole_width : r ≡ whole_row row → length r.a ≡ length row.a
   whole_width e = ap (λ (z : Row). length z.a) e ∙ length-map row.a int
-
-  pub broken_width : r ≡ broken_row row → length r.a ≡ length row.a
-  broken_width e = ap (λ (z : Row). length z.a) e ∙ length-scale _ (map int row.a) ∙ length-map row.a int
 
   pub whole_fits : (run : Option LinearSystem) → r ≡ whole_row row → IfSome run (λ s. length row.a ≡ s.width) → IfSome run (λ s. length r.a ≡ s.width)
   whole_fits None e h = h
@@ -73,8 +69,8 @@ module _ (qp : Qp) (cell : List Row) where
       pub rows_fit : (rows : List RowInt) → AreOfSize (length qp.counts) rows → All (λ r. length r.a ≡ s.width) rows
       rows_fit rows h = λ i r l. (h.each i r l).size ∙ kept_width
 
-      pub row_of_size : (row : RowInt) → IsOfSize (length qp.counts) row → IsOfSize s.width row
-      row_of_size row h = record { size = h.size ∙ kept_width; small = h.small; b_small = h.b_small }
+      pub row_size : (row : RowInt) → IsOfSize (length qp.counts) row → length row.a ≡ s.width
+      row_size row h = h.size ∙ kept_width
 
     pub row_fits : (row : RowInt) → length row.a ≡ length qp.counts → IfSome run (λ s. length row.a ≡ s.width)
     row_fits row e = by run of_cell

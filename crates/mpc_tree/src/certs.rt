@@ -1,14 +1,17 @@
 //! Certificates from the ends of runs.
 
-ghost use Rattle.std.specs.Prelude.{◌≡◌, IfOk, IfSome, MatchResult};
+ghost use Rattle.std.specs.Prelude.{◌≡◌, [], ◌∷◌, length, IfOk, IfSome, MatchResult};
+ghost use Rattle.mpc_rows.specs.LawRows.{broken_row};
 ghost use Rattle.mpc_rows.specs.RunWidth.{RunFits};
 ghost use Rattle.mpc_simplex.specs.Answer.{IfWide};
+ghost use Rattle.mpc_beginnings.specs.Beginnings.{lengthened};
 ghost use Rattle.mpc_tree.specs.Ends.{IsEndOf};
 ghost use Rattle.mpc_tree.specs.LeafCerts.{nonzero_from};
 
 use mpc_frac::NoMemory;
+use mpc_linear::RowInt;
 use mpc_rows::{Cert, Multipliers, System};
-use mpc_simplex::{Beginning, Decision, SimplexError, decide};
+use mpc_simplex::{Beginning, Broken, Decision, SimplexError, Workspace, decide};
 use std::alloc::Global;
 
 /// What the run of a system ends with.
@@ -49,18 +52,23 @@ pub fn plain_end(alloc: Global, system: &System) -> Result<End, SimplexError>
     }
 }
 
-/// What a kept run ends with. Nothing where whole numbers don't serve for its multipliers.
-pub fn kept_end(alloc: Global, run: Beginning) -> Result<Option<End>, NoMemory>
-    ensures { IfOk result (λ o. IfSome o (IsEndOf run)) }
+/// What the kept run, with the row where this one fails behind it, ends with. Nothing where whole
+/// numbers don't serve for it.
+pub fn broken_end(
+    alloc: Global,
+    work: &mut Workspace,
+    run: &Beginning,
+    row: &RowInt,
+) -> Result<Option<End>, NoMemory>
+    requires { length row.now.a ≡ run.now.width }
+    ensures end { IfOk result (λ o. IfSome o (IsEndOf (lengthened run.now (broken_row row.now ∷ [])))) }
+    ensures fits { IfOk result (λ o. IfSome o (λ _. RunFits (lengthened run.now (broken_row row.now ∷ [])))) }
 {
-    if run.has_point() {
-        return Ok(Some(End::Point(Some(run))));
-    }
-    match run.decision(alloc)? {
-        Some(Decision::Refuted(multipliers)) => {
+    match run.breaks(alloc, work, row)? {
+        Some(Broken::Point(longer)) => Ok(Some(End::Point(Some(longer)))),
+        Some(Broken::Refuted(multipliers)) => {
             Ok(Some(End::Refuted(cert_of(alloc, &multipliers)?)))
         }
-        Some(Decision::Point(_)) => unreachable!(),
         None => Ok(None),
     }
 }

@@ -17,7 +17,7 @@ ghost use Rattle.mpc_systems.specs.Systems.{meet_system, hold_system, joint_syst
 ghost use Rattle.mpc_tree.specs.WideRuns.{IsWideAt};
 
 use crate::borders::Border;
-use crate::certs::{End, kept_end, plain_end};
+use crate::certs::{End, broken_end, plain_end};
 use crate::errors::TreeError;
 use crate::runs::KeptCell;
 use mpc_frac::NoMemory;
@@ -25,7 +25,7 @@ use mpc_linear::RowInt;
 use mpc_region::has_point;
 use mpc_rows::{Cert, Certs, LawTable, Node, Place, Qp, Row};
 use mpc_simplex::{Beginning, SimplexError, Workspace};
-use mpc_systems::{broken_row, cell_laws, hold_system, joint_system, meet_system};
+use mpc_systems::{cell_laws, hold_system, joint_system, meet_system};
 use std::alloc::Global;
 
 /// Whether the rows of a law hold on a cell.
@@ -83,22 +83,14 @@ fn region_meets(
     has_point(alloc, &system)
 }
 
-/// What the kept run, with the row where this one fails behind it, ends with. Nothing where whole
-/// numbers don't serve for it.
-fn kept_hold(alloc: Global, run: &Beginning, row: &RowInt) -> Result<Option<End>, NoMemory>
-    requires { IsOfSize run.now.width row.now }
-    ensures end { IfOk result (λ o. IfSome o (IsEndOf (lengthened run.now (broken_row row.now ∷ [])))) }
-    ensures fits { IfOk result (λ o. IfSome o (λ _. RunFits (lengthened run.now (broken_row row.now ∷ [])))) }
-{
-    let broken = broken_row(alloc, row)?;
-    match run.extend(alloc, &broken)? {
-        Some(longer) => kept_end(alloc, longer),
-        None => Ok(None),
-    }
-}
-
 /// A certificate that the row holds on the cell, or else that it fails at a state of the cell.
-fn hold_end(alloc: Global, qp: &Qp, cell: &KeptCell, row: &RowInt) -> Result<End, SimplexError>
+fn hold_end(
+    alloc: Global,
+    work: &mut Workspace,
+    qp: &Qp,
+    cell: &KeptCell,
+    row: &RowInt,
+) -> Result<End, SimplexError>
     requires cell { HasBoxWidth qp.now cell.now.rows.items }
     requires run { IsRunOf qp.now cell.now.rows.items cell.now.run }
     requires plain { IsOfSize (length qp.now.counts) row.now }
@@ -107,7 +99,7 @@ fn hold_end(alloc: Global, qp: &Qp, cell: &KeptCell, row: &RowInt) -> Result<End
         (λ e. IfRunWide e (¬ RunFits (hold_system qp.now cell.now.rows.items row.now))) }
 {
     if let Some(run) = &cell.run {
-        match kept_hold(alloc, run, row) {
+        match broken_end(alloc, work, run, row) {
             Ok(Some(end)) => return Ok(end),
             Ok(None) => {}
             Err(NoMemory) => return Err(SimplexError::NoMemory),
@@ -157,6 +149,7 @@ fn first_meeting(
 /// certificates or the first row that fails.
 fn first_failing(
     alloc: Global,
+    work: &mut Workspace,
     qp: &Qp,
     rows: &[RowInt],
     cell: &KeptCell,
@@ -173,7 +166,7 @@ fn first_failing(
     cell_laws();
     let mut certs = Certs::new(alloc);
     for place in 0..rows.len() {
-        match hold_end(alloc, qp, cell, &rows[place]) {
+        match hold_end(alloc, work, qp, cell, &rows[place]) {
             Ok(End::Refuted(cert)) => certs.push(cert)?,
             Ok(End::Point(run)) => return Ok(Held::Fails { place, run }),
             Err(SimplexError::Wide) => {
@@ -230,7 +223,7 @@ pub fn place_node(
         }
         Some(place) => {
             let law = place as u32 + 1;
-            match first_failing(alloc, qp, borders[place].as_slice(), cell, node, law) {
+            match first_failing(alloc, work, qp, borders[place].as_slice(), cell, node, law) {
                 Ok(Held::Fails { place: row, run }) => Ok(Placed::Split { place, row, run }),
                 Ok(Held::Holds(certs)) => Ok(Placed::Leaf(Node::Law { law, certs })),
                 Err(error) => Err(error),
