@@ -1,0 +1,10 @@
+pub mod Steps
+pub mod Sequence
+pub mod Befores
+pub mod Unswept
+pub mod Parts
+pub mod OneNumber
+pub mod AllRows
+pub mod SweptEntry
+pub mod SweptOnce
+pub mod FirstTable

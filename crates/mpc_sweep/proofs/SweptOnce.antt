@@ -1,0 +1,204 @@
+-- A table that is swept at one more row.
+use Rattle.std.proofs.Common.{◌≡◌, ◌≢◌, ℕ, suc, ◌+◌, ◌*◌, ◌^◌, ◌<◌, ◌≤◌, List, [], ◌∷◌, ◌++◌, length, get_or, set, ℤ, pos, unsigned_abs, refl, sym, ◌∙◌, ap, subst, arith, ◌⊎◌, inl, inr, mul-pos, mul-le-mul_left, le_trans, length-append, length-set, get_or-set_same, get_or-set_other}
+use Rattle.std.proofs.lemmas.Bool.{cases_eq, cases_lt}
+use Rattle.std.proofs.lemmas.List.{get_or_append_left, take-append-le, take_at}
+use Rattle.std.proofs.Math.Seq.{get_or-append_seam}
+use Rattle.mpc_exact.specs.Rational.{frac, int}
+use Rattle.mpc_linear.specs.Elimination.{Table, reduced}
+use Rattle.mpc_bordered.specs.Fronts.{EntryFits}
+use Rattle.mpc_whole.specs.Whole.{whole_cell}
+use Rattle.mpc_whole.specs.OverLaws.{OverLaws}
+use Rattle.mpc_sweep.specs.declared.numbers.Swept.{Swept}
+use Rattle.mpc_sweep.specs.Sweeps.{swept, pivot_at, before, HasPivots, AreRising, SweepsFit}
+use Rattle.mpc_sweep.specs.Numbers.{scale_of, den_of, number, IsTable, IsWholeTable, IsSwept}
+use Rattle.mpc_sweep.specs.Steps.{IsNumber, AreRows}
+use Rattle.mpc_sweep.proofs.Befores.{swept-more}
+use Rattle.mpc_sweep.proofs.SweptEntry.{abs_some, over_some, entry_fits, own_entry, other_entry}
+
+swept-none : (t : Table) → swept t [] ≡ t
+unfolding swept
+swept-none t = refl
+
+module _ (ps : List ℕ) (p : ℕ) where
+  length-more : length (ps ++ p ∷ []) ≡ suc (length ps)
+  length-more = let e = length-append ps (p ∷ []) in omega arith
+
+  pivot_kept : (k : ℕ) → k < length ps → pivot_at (ps ++ p ∷ []) k ≡ pivot_at ps k
+  pivot_kept k h = get_or_append_left ps (p ∷ []) 0 k h
+
+  pivot_last : (k : ℕ) → k ≡ length ps → pivot_at (ps ++ p ∷ []) k ≡ p
+  pivot_last k e = ap (pivot_at (ps ++ p ∷ [])) e ∙ get_or-append_seam ps p [] 0
+
+  before_kept : (t : Table) (k : ℕ) → k < length ps → before t (ps ++ p ∷ []) k ≡ before t ps k
+  before_kept t k h = ap (swept t) (take-append-le k ps (p ∷ []) (omega arith))
+
+  before_last : (t : Table) (k : ℕ) → k ≡ length ps → before t (ps ++ p ∷ []) k ≡ swept t ps
+  before_last t k e = ap (swept t) (take_at ps (p ∷ []) k (sym e))
+
+-- what one sweep leaves in the other table
+pub record IsOnce (from out : Swept) (p first : ℕ) : Type 0 where
+  pub rows : out.rows ≡ from.rows
+  pub columns : out.columns ≡ from.columns
+  pub den : out.den ≡ unsigned_abs (number from p p)
+  pub most_scale : out.most_scale ≡ from.most_scale
+  pub scales : out.scales.items ≡ set from.scales.items p 1
+  pub numbers : AreRows from.columns from.den from.numbers.items p first from.rows out.numbers.items
+  pub room : unsigned_abs (number from p p) * from.most_scale ≤ 2 ^ 62
+
+module _ (laws : OverLaws) (from out : Swept) (p first : ℕ) (o : IsTable from) (r : p < from.rows) (c : p < from.columns) (pivot : number from p p ≢ pos 0) (w : IsOnce from out p first) where
+  abbrev size : ℕ
+  size = unsigned_abs (number from p p)
+
+  size_some : 0 < unsigned_abs (number from p p)
+  size_some = abs_some (number from p p) pivot
+
+  scale_there : scale_of out p ≡ 1
+  scale_there = ap (λ xs. get_or xs p 0) w.scales ∙ get_or-set_same from.scales.items p 1 0 (let e = o.scales_size in omega arith)
+
+  scale_kept : (i : ℕ) → i ≢ p → scale_of out i ≡ scale_of from i
+  scale_kept i h = ap (λ xs. get_or xs i 0) w.scales ∙ get_or-set_other from.scales.items p i 1 0 h
+
+  some_there : (i : ℕ) → i < out.rows → (i ≡ p) ⊎ (i ≡ p → ⊥) → 0 < scale_of out i
+  some_there i h (inl e) = subst (λ u. 0 < u) (sym (ap (scale_of out) e ∙ scale_there)) (omega arith)
+  some_there i h (inr e) = subst (λ u. 0 < u) (sym (scale_kept i e)) (o.some i (subst (λ u. i < u) w.rows h))
+
+  most_there : (i : ℕ) → i < out.rows → (i ≡ p) ⊎ (i ≡ p → ⊥) → scale_of out i ≤ out.most_scale
+  most_there i h (inl e) =
+      subst (λ u. scale_of out i ≤ u) (sym w.most_scale) (subst (λ u. u ≤ from.most_scale) (sym (ap (scale_of out) e ∙ scale_there)) o.some_scale)
+  most_there i h (inr e) =
+      subst (λ u. scale_of out i ≤ u) (sym w.most_scale) (subst (λ u. u ≤ from.most_scale) (sym (scale_kept i e)) (o.scales i (subst (λ u. i < u) w.rows h)))
+
+  table_there : IsTable out
+  table_there = record {
+    size = w.numbers.size ∙ (λ k. sym w.rows k * sym w.columns k);
+    scales_size = ap (λ (xs : List ℕ). length xs) w.scales ∙ length-set from.scales.items p 1 ∙ o.scales_size ∙ sym w.rows;
+    some_den = subst (λ u. 0 < u) (sym w.den) size_some;
+    some = λ i h. some_there i h (cases_eq i p);
+    scales = λ i h. most_there i h (cases_eq i p);
+    dens = subst (λ u. u ≤ 2 ^ 62) (λ k. sym w.den k * sym w.most_scale k) w.room;
+    some_scale = subst (λ u. 1 ≤ u) (sym w.most_scale) o.some_scale;
+    small = w.numbers.small;
+  }
+
+  dens_small : (i : ℕ) → i < from.rows → den_of from i ≤ 2 ^ 62
+  dens_small i h = le_trans (mul-le-mul_left from.den (o.scales i h)) o.dens
+
+  den_some : (i : ℕ) → i < from.rows → 0 < den_of from i
+  den_some i h = mul-pos o.some_den (o.some i h)
+
+  size_small : unsigned_abs (number from p p) ≤ 2 ^ 62
+  size_small = o.small.each (p * from.columns + p)
+
+  module _ (t : Table) (ps : List ℕ) (rows columns from_column : ℕ) (h : IsSwept t ps rows columns from_column from) (at : from_column ≤ p) (behind : p < first) (above : (k : ℕ) → k < length ps → get_or ps k 0 < p) where
+    row_in : (i : ℕ) → i < rows → i < from.rows
+    row_in i l = subst (λ u. i < u) (sym h.rows_are) l
+
+    column_in : (j : ℕ) → j < columns → j < from.columns
+    column_in j l = subst (λ u. j < u) (sym h.columns_are) l
+
+    p_row : p < rows
+    p_row = subst (λ u. p < u) h.rows_are r
+
+    p_column : p < columns
+    p_column = subst (λ u. p < u) h.columns_are c
+
+    entry_there : (i j : ℕ) → i < rows → from_column ≤ j → j < columns → swept t ps i j ≡ frac (number from i j) (den_of from i)
+    entry_there = h.entries
+
+    module _ (i j : ℕ) (i_row : i < rows) (in_front : from_column ≤ j) (j_column : j < columns) where
+      fits_there : EntryFits p (swept t ps) i j
+      fits_there =
+          entry_fits laws (swept t ps) p i j (number from p p) (number from p j) (number from i p) (number from i j) (den_of from p) (den_of from i)
+          (den_some p r) (den_some i (row_in i i_row)) (dens_small i (row_in i i_row)) pivot
+          (o.small.each (p * from.columns + p)) (o.small.each (p * from.columns + j)) (o.small.each (i * from.columns + p)) (o.small.each (i * from.columns + j))
+          (h.entries p p p_row at p_column) (h.entries p j p_row in_front j_column) (h.entries i p i_row at p_column) (h.entries i j i_row in_front j_column)
+
+      abbrev z : ℤ
+      z = whole_cell from.columns out.numbers.items i j
+
+      new_entry : IsNumber from.columns from.den from.numbers.items p i j z → (i ≡ p) ⊎ (i ≡ p → ⊥) → reduced p (swept t ps) i j ≡ frac z (size * scale_of out i)
+      new_entry n (inl e) =
+          own_entry laws (swept t ps) p i j (number from p p) (number from p j) (number from i p) (number from i j) (den_of from p) (den_of from i)
+          (den_some p r) (den_some i (row_in i i_row)) (dens_small i (row_in i i_row)) pivot
+          (o.small.each (p * from.columns + p)) (o.small.each (p * from.columns + j)) (o.small.each (i * from.columns + p)) (o.small.each (i * from.columns + j))
+          (h.entries p p p_row at p_column) (h.entries p j p_row in_front j_column) (h.entries i p i_row at p_column) (h.entries i j i_row in_front j_column) e
+          ∙ (λ k. frac (sym (n.own e) k) (sized k))
+        where
+          sized : size ≡ size * scale_of out i
+          sized = (let q : size ≡ size * 1 = omega arith in q) ∙ ap (λ u. size * u) (sym (ap (scale_of out) e ∙ scale_there))
+      new_entry n (inr e) =
+          other_entry laws (swept t ps) p i j (number from p p) (number from p j) (number from i p) (number from i j) (den_of from p) (den_of from i)
+          (den_some p r) (den_some i (row_in i i_row)) (dens_small i (row_in i i_row)) pivot
+          (o.small.each (p * from.columns + p)) (o.small.each (p * from.columns + j)) (o.small.each (i * from.columns + p)) (o.small.each (i * from.columns + j))
+          (h.entries p p p_row at p_column) (h.entries p j p_row in_front j_column) (h.entries i p i_row at p_column) (h.entries i j i_row in_front j_column)
+          z from.den (scale_of from i) refl (o.some i (row_in i i_row)) e (n.other e)
+          ∙ ap (λ u. frac z (size * u)) (sym (scale_kept i e))
+
+    entries_there : (i j : ℕ) → i < rows → first ≤ j → j < columns → swept t (ps ++ p ∷ []) i j ≡ frac (number out i j) (den_of out i)
+    entries_there i j i_row l m =
+        ap (λ (u : Table). u i j) (swept-more t ps p)
+        ∙ new_entry i j i_row (omega arith) m (w.numbers.numbers i j (row_in i i_row) l (column_in j m)) (cases_eq i p)
+        ∙ (λ k. frac (whole_cell (sym w.columns k) out.numbers.items i j) (sym w.den k * scale_of out i))
+
+    -- the last sweep, and those before it
+    split : (k : ℕ) → k < length (ps ++ p ∷ []) → (k < length ps) ⊎ (k ≡ length ps)
+    split k l = by (cases_lt k (length ps))
+      where
+        by : (k < length ps) ⊎ (length ps ≤ k) → (k < length ps) ⊎ (k ≡ length ps)
+        by (inl m) = inl m
+        by (inr m) = inr (let e = length-more ps p in omega arith)
+
+    row_of : (P : ℕ → Type 0) → P p → ((k : ℕ) → k < length ps → P (get_or ps k 0)) → (k : ℕ) → k < length (ps ++ p ∷ []) → P (get_or (ps ++ p ∷ []) k 0)
+    row_of P last kept k l = by (split k l)
+      where
+        by : (k < length ps) ⊎ (k ≡ length ps) → P (get_or (ps ++ p ∷ []) k 0)
+        by (inl m) = subst P (sym (pivot_kept ps p k m)) (kept k m)
+        by (inr e) = subst P (sym (pivot_last ps p k e)) last
+
+    rising_there : AreRising (ps ++ p ∷ [])
+    rising_there k l m n = by (split l n)
+      where
+        by : (l < length ps) ⊎ (l ≡ length ps) → pivot_at (ps ++ p ∷ []) k < pivot_at (ps ++ p ∷ []) l
+        by (inl b) = subst (λ u. u < pivot_at (ps ++ p ∷ []) l) (sym (pivot_kept ps p k (omega arith))) (subst (λ u. pivot_at ps k < u) (sym (pivot_kept ps p l b)) (h.rising k l m b))
+        by (inr e) = subst (λ u. u < pivot_at (ps ++ p ∷ []) l) (sym (pivot_kept ps p k (omega arith))) (subst (λ u. pivot_at ps k < u) (sym (pivot_last ps p l e)) (above k (omega arith)))
+
+    pivot_there : swept t ps p p ≢ int (pos 0)
+    pivot_there e = over_some (number from p p) (den_of from p) (den_some p r) pivot (sym (h.entries p p p_row at p_column) ∙ e)
+
+    pivots_there : HasPivots t (ps ++ p ∷ [])
+    pivots_there k l = by (split k l)
+      where
+        by : (k < length ps) ⊎ (k ≡ length ps) → before t (ps ++ p ∷ []) k (pivot_at (ps ++ p ∷ []) k) (pivot_at (ps ++ p ∷ []) k) ≢ int (pos 0)
+        by (inl m) = λ q. h.pivots k m ((λ x. sym (before_kept ps p t k m) x (sym (pivot_kept ps p k m) x) (sym (pivot_kept ps p k m) x)) ∙ q)
+        by (inr e) = λ q. pivot_there ((λ x. sym (before_last ps p t k e) x (sym (pivot_last ps p k e) x) (sym (pivot_last ps p k e) x)) ∙ q)
+
+    all_fit : SweepsFit t (ps ++ p ∷ []) rows columns first
+    all_fit k i j l i_row m next last j_column = by (split k l)
+      where
+        by : (k < length ps) ⊎ (k ≡ length ps) → EntryFits (pivot_at (ps ++ p ∷ []) k) (before t (ps ++ p ∷ []) k) i j
+        by (inl b) =
+            let ahead : pivot_at (ps ++ p ∷ []) (suc k) ≤ j = next (let e = length-more ps p in omega arith) in
+            subst (λ u. EntryFits u (before t (ps ++ p ∷ []) k) i j) (sym (pivot_kept ps p k b))
+            (subst (λ (u : Table). EntryFits (pivot_at ps k) u i j) (sym (before_kept ps p t k b))
+            (h.fits k i j b i_row (subst (λ u. u < j) (pivot_kept ps p k b) m)
+            (λ f. subst (λ u. u ≤ j) (pivot_kept ps p (suc k) f) ahead)
+            (λ f. le_trans at (subst (λ u. u ≤ j) (pivot_last ps p (suc k) f) ahead)) j_column))
+        by (inr e) =
+            let front : first ≤ j = last (let q = length-more ps p in omega arith) in
+            subst (λ u. EntryFits u (before t (ps ++ p ∷ []) k) i j) (sym (pivot_last ps p k e))
+            (subst (λ (u : Table). EntryFits p u i j) (sym (before_last ps p t k e)) (fits_there i j i_row (omega arith) j_column))
+
+    pub swept_once : IsSwept t (ps ++ p ∷ []) rows columns first out
+    swept_once = record {
+      rows_are = w.rows ∙ h.rows_are;
+      columns_are = w.columns ∙ h.columns_are;
+      table = table_there;
+      whole = subst (IsWholeTable t rows columns) (sym w.most_scale) h.whole;
+      entries = entries_there;
+      rising = rising_there;
+      within = row_of (λ u. u < rows) p_row h.within;
+      columns_within = row_of (λ u. u < columns) p_column h.columns_within;
+      pivots = pivots_there;
+      fits = all_fit;
+      swept_scales = row_of (λ u. scale_of out u ≡ 1) scale_there (λ k m. scale_kept (get_or ps k 0) (λ e. let b = above k m in omega arith) ∙ h.swept_scales k m);
+    }

@@ -1,0 +1,5 @@
+pub mod Sweeps
+pub mod Numbers
+pub mod Steps
+pub mod Systems
+pub mod Laws

@@ -1,0 +1,13 @@
+//! Tables of fractions that are swept at some of their rows, in whole numbers over one denominator: what one
+//! sweep leaves serves every system that has its rows and more.
+#![tactic(auto)]
+
+mod laws;
+mod numbers;
+mod reading;
+mod rows;
+#[cfg(test)]
+mod tests;
+
+pub use laws::sweep_laws;
+pub use numbers::Swept;

@@ -1,0 +1,84 @@
+//! A swept table in whole numbers.
+
+ghost use Rattle.std.specs.Prelude.{◌≡◌, ◌≢◌, ℕ, ◌+◌, ◌<◌, ◌≤◌, ◌^◌, ◌++◌, ◌∷◌, [], List, IfOk, IfSome, IsTrue, length, get_or, pos};
+ghost use Rattle.mpc_space.specs.Matrix.{height, entry};
+ghost use Rattle.mpc_linear.specs.Elimination.{Table};
+ghost use Rattle.mpc_sweep.specs.Numbers.{IsSwept, IsTable, number, den_of};
+
+use crate::reading::whole_table;
+use crate::rows::sweep_rows;
+use mpc_frac::NoMemory;
+use mpc_linear::Matrix;
+use std::alloc::Global;
+
+/// A table that is swept at some of its rows, in whole numbers: the entries of a row lie over the
+/// denominator, times the scale of the row where it isn't swept. Only some of its last columns may be told.
+#[derive(Drop)]
+pub struct Swept {
+    pub(crate) rows: usize,
+    pub(crate) columns: usize,
+    pub(crate) den: u64,
+    /// A bound of the scales, at least 1.
+    pub(crate) most_scale: u64,
+    pub(crate) scales: Vec<u64>,
+    /// Row by row.
+    pub(crate) numbers: Vec<i64>,
+}
+
+impl Swept {
+    /// Room for a table, which takes no memory yet.
+    pub fn empty(alloc: Global) -> Swept {
+        Swept {
+            rows: 0,
+            columns: 0,
+            den: 1,
+            most_scale: 1,
+            scales: Vec::new(alloc),
+            numbers: Vec::new(alloc),
+        }
+    }
+
+    /// The table before its first sweep, if each row is whole times a scale of at most 2^40, with numbers of
+    /// at most 2^58 in size.
+    pub fn read(alloc: Global, table: &Matrix) -> Result<Option<Swept>, NoMemory>
+        ensures { IfOk result (λ o. IfSome o (IsSwept (entry table.now) [] (height table.now) table.now.columns 0)) }
+    {
+        whole_table(alloc, table)
+    }
+
+    /// The number in row i and column j, counted from 0.
+    #[inline]
+    pub fn at(&self, i: usize, j: usize) -> i64
+        requires table { IsTable self.now }
+        requires row { i < self.now.rows }
+        requires column { j < self.now.columns }
+        ensures { result ≡ number self.now i j }
+    {
+        self.numbers[i * self.columns + j]
+    }
+
+    /// What the numbers of row i lie over.
+    #[inline]
+    pub fn den_at(&self, i: usize) -> u64
+        requires table { IsTable self.now }
+        requires row { i < self.now.rows }
+        ensures { result ≡ den_of self.now i }
+    {
+        self.den * self.scales[i]
+    }
+
+    /// Sweeps the table at one more row, p, which lies behind those before, into the room of another one, in
+    /// the columns from `first` on. It is `false` where a number of it isn't small; the room holds no table
+    /// then, as where memory is refused.
+    pub fn sweep(&self, out: &mut Swept, p: usize, first: usize) -> Result<bool, NoMemory>
+        requires table { IsTable self.now }
+        requires row { p < self.now.rows }
+        requires column { p < self.now.columns }
+        requires pivot { number self.now p p ≢ pos 0 }
+        requires first { first ≤ self.now.columns }
+        ensures { IfOk result (λ done. IsTrue done → (t : Table) (ps : List ℕ) (rows columns from : ℕ) → IsSwept t ps rows columns from self.now
+            → from ≤ p → p < first → ((k : ℕ) → k < length ps → get_or ps k 0 < p) → IsSwept t (ps ++ p ∷ []) rows columns first out.new) }
+    {
+        sweep_rows(self, out, p, first)
+    }
+}
