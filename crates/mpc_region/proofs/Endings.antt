@@ -21,10 +21,10 @@ module _ (n width : ℕ) (t : Table) where
       (subst (λ q. ColumnFits n width c (exchanged c q (eliminated n t c)))
       (same_some p w.pivot (sym done.pivot ∙ ap (λ k. pivot_row n (eliminated n t k) k) (sym e) ∙ w.has_pivot)) done.fits))
 
-  pub done-not_wide : (c : ℕ) → ColumnsDone n width t n → EndsWide n width t c → ⊥
+  done-not_wide : (c : ℕ) → ColumnsDone n width t n → EndsWide n width t c → ⊥
   done-not_wide c done w = let d = done c w.below in not_wide c d.0 d.1 c (λ i. c) w
 
-  pub dependent-not_wide : (c d : ℕ) → EndsDependent n width t c → EndsWide n width t d → ⊥
+  dependent-not_wide : (c d : ℕ) → EndsDependent n width t c → EndsWide n width t d → ⊥
   dependent-not_wide c d k w =
       ⊎_elim
       (λ l. let e = k.before d l in not_wide d e.0 e.1 d (λ i. d) w)

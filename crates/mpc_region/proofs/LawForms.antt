@@ -17,9 +17,9 @@ use Rattle.mpc_rows.specs.declared.laws.Law.{Law}
 use Rattle.mpc_rows.specs.ActiveSets.{extended, rows_of, MeetsEquations}
 use Rattle.mpc_rows.specs.Laws.{IsLaw}
 use Rattle.mpc_rows.specs.SetRuns.{law_matrix, law_right}
-use Rattle.mpc_region.proofs.Members.{length-rows_of}
+use Rattle.mpc_region.proofs.Members.{length-rows_of, rows_within}
 use Rattle.mpc_region.proofs.Products.{upper_dot, lower_dot, upper_right_dot, lower_right_dot, coordinate_behind}
-use Rattle.mpc_region.proofs.LawTheorem.{matrix_columns, right_columns, rows_within, combination_within}
+use Rattle.mpc_region.proofs.LawTheorem.{matrix_columns, right_columns, combination_within}
 
 -- h z + g'l is the negative of f c
 balanced : (a b f p : ℚ) → p ≡ a +ℚ b → p ≡ int (negsuc 0) *ℚ f → a +ℚ f +ℚ b ≡ int (pos 0)
@@ -103,7 +103,7 @@ module _ (qp : Qp) (s : List ℕ) (x : RationalMatrix) (sol : IsOnlySolution (la
         ∙ balanced (dot (get_or qp.h.rows i []) z) (dot l (column g i)) (dot (get_or qp.f.rows i []) c) (dot (get_or m.rows i []) (z ++ l))
         (upper_dot qp s z l z_size l_size i h) (row_at i ∙ upper_right_dot qp s c c_size i h)
 
-    pub meets_equations : MeetsEquations qp s t z l
+    meets_equations : MeetsEquations qp s t z l
     meets_equations = record {
       stationary = zero_by_entries (vec_add (vec_add (mat_vec qp.h.rows z) (mat_vec qp.f.rows c)) (vec_mat l g)) (λ i h. gradient_entry i (let b = gradient_within in omega arith));
       tight = same_entries (mat_vec g z) (mat_vec (rows_of qp.w.rows s) c)

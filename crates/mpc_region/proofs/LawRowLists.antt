@@ -1,5 +1,5 @@
 -- The rows of a law, formed one after another.
-use Rattle.std.proofs.Common.{◌≡◌, ℕ, ◌+◌, ◌-◌, ◌<◌, ◌≤◌, List, [], ◌∷◌, ◌++◌, length, get_or, pos, refl, sym, ◌∙◌, ap, subst, arith, ⊎_elim}
+use Rattle.std.proofs.Common.{◌≡◌, ℕ, ◌+◌, ◌-◌, ◌<◌, ◌≤◌, List, [], ◌∷◌, ◌++◌, length, get_or, pos, sym, ◌∙◌, ap, subst, arith, ⊎_elim}
 use Rattle.std.proofs.lemmas.Bool.{cases_eq}
 use Rattle.std.proofs.lemmas.List.{length-append, get_or_append_left}
 use Rattle.std.proofs.lemmas.List.Elements.{All-from_get_or}
@@ -8,9 +8,8 @@ use Rattle.mpc_space.specs.Matrix.{height}
 use Rattle.mpc_linear.specs.declared.integers.RowInt.{RowInt}
 use Rattle.mpc_rows.specs.declared.programs.Qp.{Qp}
 use Rattle.mpc_rows.specs.declared.laws.Law.{Law}
-use Rattle.mpc_rows.specs.LawRows.{IsLawRow, AreLawRows, LawRowFits}
+use Rattle.mpc_rows.specs.LawRows.{IsLawRow, LawRowFits}
 use Rattle.mpc_rows.specs.SetRuns.{LawRowsFit}
-use Rattle.mpc_rows.specs.Verdicts.{IsFirstWideRow}
 use Rattle.mpc_systems.specs.Writing.{IsOfSize, AreOfSize}
 
 abbrev pub no_row : RowInt
@@ -24,9 +23,6 @@ pub record AreFirstRows (qp : Qp) (law : Law) (k : ℕ) (rows : List RowInt) : T
   pub fits : LawRowsFit qp law k
 
 module _ (qp : Qp) (law : Law) where
-  pub first_none : AreFirstRows qp law 0 []
-  first_none = record { count = refl; each = λ j h. absurd (omega arith); sizes = λ j h. absurd (omega arith); fits = λ i h k. absurd (omega arith) }
-
   -- row i is the next
   module _ (i : ℕ) (from_one : 1 ≤ i) (rows : List RowInt) (before : AreFirstRows qp law (i - 1) rows) where
     pub first_more : (new : List RowInt) (row : RowInt) → new ≡ rows ++ row ∷ [] → IsLawRow qp law i row → IsOfSize (length qp.counts) row → LawRowFits qp law i → AreFirstRows qp law i new
@@ -49,15 +45,6 @@ module _ (qp : Qp) (law : Law) where
         earlier : (j : ℕ) → j < i - 1 → get_or (rows ++ row ∷ []) j no_row ≡ get_or rows j no_row
         earlier j q = get_or_append_left rows (row ∷ []) no_row j (omega (arith, before.count))
 
-    pub first_wide : i ≤ height qp.g → ¬ LawRowFits qp law i → IsFirstWideRow qp i law
-    first_wide h n = record { from_one = from_one; to_last = h; before = before.fits; here = n }
-
   module _ (k : ℕ) (all : k ≡ height qp.g) (rows : List RowInt) (first : AreFirstRows qp law k rows) where
-    pub first_all : AreLawRows qp law rows
-    first_all = record { one_each = first.count ∙ all; each = λ j h. first.each j (omega arith) }
-
     pub first_sizes : AreOfSize (length qp.counts) rows
     first_sizes = record { each = All-from_get_or (IsOfSize (length qp.counts)) rows no_row (λ j h. first.sizes j (omega (arith, first.count))) }
-
-    pub first_fit : LawRowsFit qp law (height qp.g)
-    first_fit = subst (LawRowsFit qp law) all first.fits

@@ -6,7 +6,7 @@ use Rattle.mpc_exact.specs.Rational.{ℚ, int, ◌+ℚ◌}
 use Rattle.mpc_exact.proofs.Rational.{+ℚ_zero}
 use Rattle.mpc_exact.proofs.OrderLaws.{one-not_zero}
 use Rattle.mpc_space.specs.Vector.{coordinate, vec_add, vec_scale, mat_vec, vec_mat, zeros, IsZero}
-use Rattle.mpc_space.specs.Matrix.{RationalMatrix, height, IsRectangular}
+use Rattle.mpc_space.specs.Matrix.{RationalMatrix, height}
 use Rattle.mpc_space.specs.Definite.{IsDefinite}
 use Rattle.mpc_space.proofs.Entries.{coordinate-add, length-add_within, length-scale, dot-zero, zero_entries, zero_by_entries, zeros_zero}
 use Rattle.mpc_space.proofs.Matrix.{length-mat_vec, coordinate-mat_vec, coordinate-vec_mat, height-tabled}
@@ -15,7 +15,7 @@ use Rattle.mpc_linear.specs.Solution.{IsOnlySolution, IsFirstDependent}
 use Rattle.mpc_rows.specs.declared.programs.Qp.{Qp}
 use Rattle.mpc_rows.specs.ActiveSets.{rows_of, IsIndependentSet}
 use Rattle.mpc_rows.specs.SetRuns.{law_matrix, law_right}
-use Rattle.mpc_region.proofs.Members.{length-rows_of}
+use Rattle.mpc_region.proofs.Members.{length-rows_of, rows_within}
 use Rattle.mpc_region.proofs.Kernels.{only_kernel}
 use Rattle.mpc_region.proofs.Products.{upper_dot, lower_dot}
 
@@ -35,19 +35,6 @@ right_height qp s = height-tabled (height qp.h + length s) (length qp.counts + 1
 pub right_columns : (qp : Qp) (s : List ℕ) → (law_right qp s).columns ≡ length qp.counts + 1
 unfolding law_right
 right_columns qp s = refl
-
-pub row_within : (m : RationalMatrix) (n i : ℕ) → IsRectangular m → m.columns ≡ n → length (get_or m.rows i []) ≤ n
-row_within m n i r e = ⊎_elim (λ l. omega (arith, r i [] l)) (λ l. omega (arith, past m.rows i l)) (cases_lt i (height m))
-  where
-    past : (rows : List (List ℚ)) (i : ℕ) → length rows ≤ i → length (get_or rows i []) ≡ 0
-    past [] i h = refl
-    past (row ∷ rows) zero h = absurd (omega arith)
-    past (row ∷ rows) (suc i) h = past rows i (omega arith)
-
-pub rows_within : (m : RationalMatrix) (n : ℕ) (s : List ℕ) → IsRectangular m → m.columns ≡ n → (i : ℕ) → length (get_or (rows_of m.rows s) i []) ≤ n
-rows_within m n [] r e i = omega arith
-rows_within m n (j ∷ s) r e zero = row_within m n (j - 1) r e
-rows_within m n (j ∷ s) r e (suc i) = rows_within m n s r e i
 
 pub combination_within : (n : ℕ) (l : List ℚ) (rows : List (List ℚ)) → ((i : ℕ) → length (get_or rows i []) ≤ n) → length (vec_mat l rows) ≤ n
 combination_within n [] rows h = omega arith

@@ -1,6 +1,9 @@
 pub mod RowWriting
 pub mod Members
+pub mod SharedEntries
+pub mod SweptParts
 pub mod SharedParts
+pub mod SweptTables
 pub mod Endings
 pub mod Kernels
 pub mod Products
@@ -8,7 +11,15 @@ pub mod LawTheorem
 pub mod LawForms
 pub mod LawEnds
 pub mod SharedLaws
+pub mod SweptLaws
 pub mod LawRowLists
 pub mod Decisions
+pub mod RightVerdicts
 pub mod ReachRuns
 pub mod BoxRuns
+pub mod SweptDivisors
+pub mod SweptRows
+pub mod SweptFits
+pub mod SweptEntries
+pub mod SweptForms
+pub mod SweptLawRows

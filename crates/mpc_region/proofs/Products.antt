@@ -1,6 +1,5 @@
 -- The products of the matrix of an active set and of its right sides.
-use Rattle.std.proofs.Common.{◌≡◌, ℕ, ◌+◌, ◌-◌, ◌<◌, ◌≤◌, cond, nat_lt, List, [], ◌∷◌, ◌++◌, length, get_or, pos, negsuc, refl, sym, ◌∙◌, ap, arith}
-use Rattle.std.proofs.lemmas.Bool.{cond_below, cond_above}
+use Rattle.std.proofs.Common.{◌≡◌, ℕ, ◌+◌, ◌<◌, ◌≤◌, List, [], ◌∷◌, ◌++◌, length, get_or, pos, negsuc, refl, sym, ◌∙◌, ap, arith}
 use Rattle.std.proofs.lemmas.List.{get_or_append_left, get_or-append_right}
 use Rattle.std.proofs.lemmas.List.FromFn.{get_or-map-range_with_len}
 use Rattle.mpc_exact.specs.Rational.{ℚ, int, ◌+ℚ◌, ◌*ℚ◌, neg_ℚ}
@@ -16,9 +15,10 @@ use Rattle.mpc_space.proofs.Matrix.{coordinate-column}
 use Rattle.mpc_rows.specs.declared.programs.Qp.{Qp}
 use Rattle.mpc_rows.specs.ActiveSets.{rows_of}
 use Rattle.mpc_rows.specs.SetRuns.{law_entry, law_matrix, law_side, law_right}
+use Rattle.mpc_region.proofs.SharedEntries.{below, above}
 
 -- ---- dots of listed rows
-pub dot_listed : (n : ℕ) (f : ℕ → ℚ) (v : List ℚ) → dot (listed n f) v ≡ total n (λ j. f j *ℚ coordinate v j)
+dot_listed : (n : ℕ) (f : ℕ → ℚ) (v : List ℚ) → dot (listed n f) v ≡ total n (λ j. f j *ℚ coordinate v j)
 dot_listed n f v =
     dot-total_within n (listed n f) v (omega (arith, length-listed n f))
     ∙ total-same n (λ j. coordinate (listed n f) j *ℚ coordinate v j) (λ j. f j *ℚ coordinate v j) (λ j h. ap (λ u. u *ℚ coordinate v j) (coordinate-listed n f j h))
@@ -26,7 +26,7 @@ dot_listed n f v =
 pub coordinate_behind : (z l : List ℚ) (n j : ℕ) → length z ≡ n → coordinate (z ++ l) (n + j) ≡ coordinate l j
 coordinate_behind z l n j e = get_or-append_right z l n (n + j) (int (pos 0)) e (omega arith) ∙ ap (coordinate l) (omega arith)
 
-pub dot_parts : (n k : ℕ) (f : ℕ → ℚ) (z l : List ℚ) → length z ≡ n → dot (listed (n + k) f) (z ++ l) ≡ total n (λ j. f j *ℚ coordinate z j) +ℚ total k (λ j. f (n + j) *ℚ coordinate l j)
+dot_parts : (n k : ℕ) (f : ℕ → ℚ) (z l : List ℚ) → length z ≡ n → dot (listed (n + k) f) (z ++ l) ≡ total n (λ j. f j *ℚ coordinate z j) +ℚ total k (λ j. f (n + j) *ℚ coordinate l j)
 dot_parts n k f z l e = dot_listed (n + k) f (z ++ l) ∙ total-split n k (λ j. f j *ℚ coordinate (z ++ l) j) ∙ (λ i. first i +ℚ second i)
   where
     first : total n (λ j. f j *ℚ coordinate (z ++ l) j) ≡ total n (λ j. f j *ℚ coordinate z j)
@@ -36,7 +36,7 @@ dot_parts n k f z l e = dot_listed (n + k) f (z ++ l) ∙ total-split n k (λ j.
     second = total-same k (λ j. f (n + j) *ℚ coordinate (z ++ l) (n + j)) (λ j. f (n + j) *ℚ coordinate l j) (λ j h. ap (λ u. f (n + j) *ℚ u) (coordinate_behind z l n j e))
 
 -- a dot whose second vector has n entries, over any entries of the first
-pub total_dot : (n : ℕ) (f : ℕ → ℚ) (row v : List ℚ) → length v ≤ n → ((j : ℕ) → j < n → f j ≡ coordinate row j) → total n (λ j. f j *ℚ coordinate v j) ≡ dot row v
+total_dot : (n : ℕ) (f : ℕ → ℚ) (row v : List ℚ) → length v ≤ n → ((j : ℕ) → j < n → f j ≡ coordinate row j) → total n (λ j. f j *ℚ coordinate v j) ≡ dot row v
 total_dot n f row v h e =
     total-same n (λ j. f j *ℚ coordinate v j) (λ j. coordinate v j *ℚ coordinate row j)
     (λ j l. (λ i. e j l i *ℚ coordinate v j) ∙ by_ring (coordinate row j ∷ coordinate v j ∷ []) (search reads depth 30) (search reads depth 30) tt)
@@ -54,32 +54,22 @@ module _ (qp : Qp) (s : List ℕ) where
   g = rows_of qp.g.rows s
 
   upper_left : (i j : ℕ) → i < n → j < n → law_entry qp s i j ≡ entry qp.h i j
-  upper_left i j h k =
-      sym (cond_below i n (cond (nat_lt j n) (entry qp.h i j) (cell g (j - n) i)) (cond (nat_lt j n) (cell g (i - n) j) (int (pos 0))) h)
-      ∙ sym (cond_below j n (entry qp.h i j) (cell g (j - n) i) k)
+  upper_left i j h k = below i n _ _ h ∙ below j n _ _ k
 
   upper_right : (i j : ℕ) → i < n → law_entry qp s i (n + j) ≡ cell g j i
-  upper_right i j h =
-      sym (cond_below i n (cond (nat_lt (n + j) n) (entry qp.h i (n + j)) (cell g (n + j - n) i)) (cond (nat_lt (n + j) n) (cell g (i - n) (n + j)) (int (pos 0))) h)
-      ∙ sym (cond_above (n + j) n (entry qp.h i (n + j)) (cell g (n + j - n) i) (cell g (n + j - n) i) (omega arith) refl)
-      ∙ ap (λ r. cell g r i) (omega arith)
+  upper_right i j h = below i n _ _ h ∙ above (n + j) n _ _ (omega arith) ∙ ap (λ r. cell g r i) (omega arith)
 
   lower_left : (r j : ℕ) → j < n → law_entry qp s (n + r) j ≡ cell g r j
-  lower_left r j k =
-      sym (cond_above (n + r) n (cond (nat_lt j n) (entry qp.h (n + r) j) (cell g (j - n) (n + r))) (cond (nat_lt j n) (cell g (n + r - n) j) (int (pos 0))) (cond (nat_lt j n) (cell g (n + r - n) j) (int (pos 0))) (omega arith) refl)
-      ∙ sym (cond_below j n (cell g (n + r - n) j) (int (pos 0)) k)
-      ∙ ap (λ q. cell g q j) (omega arith)
+  lower_left r j k = above (n + r) n _ _ (omega arith) ∙ below j n _ _ k ∙ ap (λ q. cell g q j) (omega arith)
 
   lower_right : (r j : ℕ) → law_entry qp s (n + r) (n + j) ≡ int (pos 0)
-  lower_right r j =
-      sym (cond_above (n + r) n (cond (nat_lt (n + j) n) (entry qp.h (n + r) (n + j)) (cell g (n + j - n) (n + r))) (cond (nat_lt (n + j) n) (cell g (n + r - n) (n + j)) (int (pos 0))) (cond (nat_lt (n + j) n) (cell g (n + r - n) (n + j)) (int (pos 0))) (omega arith) refl)
-      ∙ sym (cond_above (n + j) n (cell g (n + r - n) (n + j)) (int (pos 0)) (int (pos 0)) (omega arith) refl)
+  lower_right r j = above (n + r) n _ _ (omega arith) ∙ above (n + j) n _ _ (omega arith)
 
   upper_side : (i j : ℕ) → i < n → law_side qp s i j ≡ neg_ℚ (entry qp.f i j)
-  upper_side i j h = sym (cond_below i n (neg_ℚ (entry qp.f i j)) (cell (rows_of qp.w.rows s) (i - n) j) h)
+  upper_side i j h = below i n _ _ h
 
   lower_side : (r j : ℕ) → law_side qp s (n + r) j ≡ cell (rows_of qp.w.rows s) r j
-  lower_side r j = sym (cond_above (n + r) n (neg_ℚ (entry qp.f (n + r) j)) (cell (rows_of qp.w.rows s) (n + r - n) j) (cell (rows_of qp.w.rows s) (n + r - n) j) (omega arith) refl) ∙ ap (λ q. cell (rows_of qp.w.rows s) q j) (omega arith)
+  lower_side r j = above (n + r) n _ _ (omega arith) ∙ ap (λ q. cell (rows_of qp.w.rows s) q j) (omega arith)
 
   -- ---- the rows against vectors
   matrix_row : (i : ℕ) → i < n + length s → get_or (law_matrix qp s).rows i [] ≡ listed (n + length s) (law_entry qp s i)

@@ -14,7 +14,6 @@ use Rattle.mpc_rows.specs.declared.laws.Law.{Law}
 use Rattle.mpc_rows.specs.ActiveSets.{IsIndependentSet}
 use Rattle.mpc_rows.specs.Laws.{IsLaw}
 use Rattle.mpc_rows.specs.SetRuns.{law_matrix, law_right, LawFits}
-use Rattle.mpc_rows.specs.LawLaws.{LawLaws}
 use Rattle.mpc_bordered.specs.declared.kept.Kept.{Kept}
 use Rattle.mpc_bordered.specs.Parts.{ArePlaces, IsPart, ForPart, IfSolved}
 use Rattle.mpc_region.specs.LawEnd.{IsLawOfSet}
@@ -23,7 +22,7 @@ use Rattle.mpc_region.proofs.LawEnds.{found, dependent}
 use Rattle.mpc_region.proofs.SharedParts.{are_places, is_part}
 
 -- the names that the code has for the table and the places
-module _ (laws : LawLaws) (qp : Qp) (s : List ℕ) (set : IsSetOfRows (height qp.g) s) (k : Kept) (kept : IsKeptTable qp k)
+module _ (qp : Qp) (s : List ℕ) (set : IsSetOfRows (height qp.g) s) (k : Kept) (kept : IsKeptTable qp k)
     (n g w : ℕ) (n_is : n ≡ height qp.h) (g_is : g ≡ height qp.g) (w_is : w ≡ qp.f.columns)
     (ps rs rows rights : List ℕ) (at : AreMemberPlaces n s ps) (right_at : AreSidePlaces (n + g) w rs) (rows_are : rows ≡ ps) (rights_are : rights ≡ rs) where
   places_at : AreMemberPlaces (height qp.h) s rows
@@ -40,7 +39,7 @@ module _ (laws : LawLaws) (qp : Qp) (s : List ℕ) (set : IsSetOfRows (height qp
   carried P h = subst (λ t. P t k.front) (sym kept.table) (subst (λ u. P (shared_table qp) u) (sym kept.front) h)
 
   pub law_places : ArePlaces k.table k.front rows rights
-  law_places = carried (λ t u. ArePlaces t u rows rights) (are_places laws qp s rows rights set places_at rights_at)
+  law_places = carried (λ t u. ArePlaces t u rows rights) (are_places qp s rows rights set places_at rights_at)
 
   abbrev m : RationalMatrix
   m = law_matrix qp s
@@ -49,7 +48,7 @@ module _ (laws : LawLaws) (qp : Qp) (s : List ℕ) (set : IsSetOfRows (height qp
   rhs = law_right qp s
 
   law_part : IsPart k.table k.front rows rights m rhs
-  law_part = carried (λ t u. IsPart t u rows rights m rhs) (is_part laws qp s rows rights set places_at rights_at)
+  law_part = carried (λ t u. IsPart t u rows rights m rhs) (is_part qp s rows rights set places_at rights_at)
 
   solved_of : (P : RationalMatrix → RationalMatrix → Solved → Type 0) (o : Option Solved) (a : Solved) → o ≡ Some a → IfSolved k.table k.front rows rights o P → P m rhs a
   solved_of P o a e h = (subst (λ o. IfSolved k.table k.front rows rights o P) e h) m rhs law_part

@@ -1,201 +1,97 @@
--- The equations of the law of a set are a part of the shared table.
-use Rattle.std.proofs.Common.{◌≡◌, ℕ, ◌+◌, ◌-◌, ◌<◌, ◌≤◌, cond, nat_lt, List, ◌++◌, length, get_or, pos, refl, sym, ◌∙◌, ap, arith, ⊎_elim}
-use Rattle.std.proofs.lemmas.Bool.{cases_lt, cond_below, cond_above}
+-- The equations of the law of a set are a part of the shared table: the places of its members are where the table is swept for the set.
+use Rattle.std.proofs.Common.{◌≡◌, ℕ, ◌+◌, ◌-◌, ◌<◌, ◌≤◌, List, ◌++◌, length, get_or, refl, sym, ◌∙◌, ap, arith, ⊎_elim}
+use Rattle.std.proofs.lemmas.Bool.{cases_lt}
 use Rattle.std.proofs.lemmas.List.{get_or_append_left, get_or-append_right}
-use Rattle.mpc_exact.specs.Rational.{ℚ, int, neg_ℚ}
 use Rattle.mpc_space.specs.Matrix.{height, entry}
-use Rattle.mpc_space.proofs.Matrix.{entry-tabled, height-tabled, rectangular-tabled}
 use Rattle.mpc_sets.specs.RowSet.{IsSetOfRows}
 use Rattle.mpc_rows.specs.declared.programs.Qp.{Qp}
-use Rattle.mpc_rows.specs.SetRuns.{law_entry, law_matrix, law_side, law_right}
-use Rattle.mpc_rows.specs.LawLaws.{LawLaws}
+use Rattle.mpc_rows.specs.SetRuns.{law_matrix, law_right}
 use Rattle.mpc_bordered.specs.Parts.{place, part, ArePlaces, IsPart}
+use Rattle.mpc_sweep.specs.Sweeps.{pivot_at}
+use Rattle.mpc_sweep.specs.Laws.{IsPartOf}
 use Rattle.mpc_region.specs.Shared.{shared_entry, shared_table, AreMemberPlaces, AreSidePlaces}
-use Rattle.mpc_region.proofs.Members.{member_within, member_cell}
+use Rattle.mpc_region.specs.Sweeps.{sweeps_of, rights, all_columns}
+use Rattle.mpc_region.proofs.Members.{member}
+use Rattle.mpc_region.proofs.SharedEntries.{below, above, shared_height, shared_columns, shared_at}
+use Rattle.mpc_region.proofs.SweptParts.{sweeps_size, first_sweep, sweep_later, are_rows, is_part_of}
 
-place_first : (u : ℕ) (rows : List ℕ) (c : ℕ) → c < u → place u rows c ≡ c
-place_first u rows c l = sym (cond_below c u c (get_or rows (c - u) 0) l)
-
-place_later : (u : ℕ) (rows : List ℕ) (i : ℕ) → u ≤ i → place u rows i ≡ get_or rows (i - u) 0
-place_later u rows i l = sym (cond_above i u i (get_or rows (i - u) 0) (get_or rows (i - u) 0) l refl)
-
--- a condition on numbers, by its case
-below : {A : Type 0} (x y : ℕ) (a b : A) → x < y → cond (nat_lt x y) a b ≡ a
-below x y a b l = sym (cond_below x y a b l)
-
-above : {A : Type 0} (x y : ℕ) (a b : A) → y ≤ x → cond (nat_lt x y) a b ≡ b
-above x y a b l = sym (cond_above x y a b b l refl)
-
-pub shared_height : (qp : Qp) → height (shared_table qp) ≡ height qp.h + height qp.g
-unfolding shared_table
-shared_height qp = height-tabled (height qp.h + height qp.g) (height qp.h + height qp.g + (length qp.counts + 1)) (shared_entry qp)
-
-pub shared_columns : (qp : Qp) → (shared_table qp).columns ≡ height qp.h + height qp.g + (length qp.counts + 1)
-unfolding shared_table
-shared_columns qp = refl
-
-module _ (laws : LawLaws) (qp : Qp) (s places rights : List ℕ) (set : IsSetOfRows (height qp.g) s) (at : AreMemberPlaces (height qp.h) s places) (right_at : AreSidePlaces (height qp.h + height qp.g) (length qp.counts + 1) rights) where
+module _ (qp : Qp) (s places sides : List ℕ) (set : IsSetOfRows (height qp.g) s) (at : AreMemberPlaces (height qp.h) s places) (side_at : AreSidePlaces (rights qp) (length qp.counts + 1) sides) where
   abbrev n : ℕ
   n = height qp.h
-
-  abbrev g : ℕ
-  g = height qp.g
 
   abbrev w : ℕ
   w = length qp.counts + 1
 
-  member : (k : ℕ) → k < length s → (1 ≤ get_or s k 0) × (get_or s k 0 ≤ g)
-  member k l = member_within laws g s k (get_or s k 0) set l refl
+  abbrev ps : List ℕ
+  ps = sweeps_of qp s
 
-  member_place : (k : ℕ) → k < length places → (n ≤ get_or places k 0) × (get_or places k 0 < n + g)
-  member_place k l =
+  place_bounds : (k : ℕ) → k < length places → (n ≤ get_or places k 0) × (get_or places k 0 < rights qp)
+  place_bounds k l =
       let l' : k < length s = omega (arith, at.size) in
       let e = at.at k l' in
-      let b = member k l' in
-      let b0 = b.0 in
-      let b1 = b.1 in
+      let m = member (height qp.g) s set k l' in
+      let m0 = m.0 in
+      let m1 = m.1 in
       (omega arith, omega arith)
 
-  right_place : (k : ℕ) → k < length rights → (get_or rights k 0 ≡ n + g + k) × (k < w)
-  right_place k l = let l' : k < w = omega (arith, right_at.size) in (right_at.at k l', l')
+  side_place : (k : ℕ) → k < length sides → (get_or sides k 0 ≡ rights qp + k) × (k < w)
+  side_place k l = let l' : k < w = omega (arith, side_at.size) in (side_at.at k l', l')
 
-  pub are_places : ArePlaces (shared_table qp) n places rights
+  pub are_places : ArePlaces (shared_table qp) n places sides
   are_places = record {
-    behind = λ k l. (member_place k l).0;
-    within = λ k l. let b = (member_place k l).1 in omega (arith, shared_height qp);
-    columns_within = λ k l. let b = (member_place k l).1 in omega (arith, shared_columns qp);
-    rights_behind = λ k l. let e = (right_place k l).0 in omega arith;
-    rights_within = λ k l. let e = (right_place k l).0 in let b = (right_place k l).1 in omega (arith, shared_columns qp);
+    behind = λ k l. (place_bounds k l).0;
+    within = λ k l. let b = (place_bounds k l).1 in omega (arith, shared_height qp);
+    columns_within = λ k l. let b = (place_bounds k l).1 in omega (arith, shared_columns qp);
+    rights_behind = λ k l. let e = (side_place k l).0 in omega arith;
+    rights_within = λ k l. let e = (side_place k l).0 in let b = (side_place k l).1 in omega (arith, shared_columns qp);
   }
 
-  -- ---- the entries
-  shared_at : (i j : ℕ) → i < n + g → j < n + g + w → entry (shared_table qp) i j ≡ shared_entry qp i j
-  unfolding shared_table
-  shared_at i j hi hj = entry-tabled (n + g) (n + g + w) (shared_entry qp) i j hi hj
-
-  hessian : (i j : ℕ) → i < n → j < n → shared_entry qp i j ≡ entry qp.h i j
-  hessian i j hi hj = below i n _ _ hi ∙ below j n _ _ hj
-
-  member_column : (i k : ℕ) → i < n → 1 ≤ k → k ≤ g → shared_entry qp i (n + (k - 1)) ≡ entry qp.g (k - 1) i
-  member_column i k hi a b =
-      below i n _ _ hi ∙ above (n + (k - 1)) n _ _ (omega arith) ∙ below (n + (k - 1)) (n + g) _ _ (omega arith)
-      ∙ (let e : n + (k - 1) - n ≡ k - 1 = omega arith in ap (λ k. entry qp.g k i) e)
-
-  right_column : (i j : ℕ) → i < n → shared_entry qp i (n + g + j) ≡ neg_ℚ (entry qp.f i j)
-  right_column i j hi =
-      below i n _ _ hi ∙ above (n + g + j) n _ _ (omega arith) ∙ above (n + g + j) (n + g) _ _ (omega arith)
-      ∙ (let e : n + g + j - n - g ≡ j = omega arith in ap (λ k. neg_ℚ (entry qp.f i k)) e)
-
-  member_line : (k j : ℕ) → j < n → shared_entry qp (n + (k - 1)) j ≡ entry qp.g (k - 1) j
-  member_line k j hj =
-      above (n + (k - 1)) n _ _ (omega arith) ∙ below j n _ _ hj ∙ (let e : n + (k - 1) - n ≡ k - 1 = omega arith in ap (λ k. entry qp.g k j) e)
-
-  corner : (i j : ℕ) → n ≤ i → n ≤ j → j < n + g → shared_entry qp i j ≡ int (pos 0)
-  corner i j hi hj b = above i n _ _ hi ∙ above j n _ _ hj ∙ below j (n + g) _ _ b
-
-  right_line : (k j : ℕ) → shared_entry qp (n + (k - 1)) (n + g + j) ≡ entry qp.w (k - 1) j
-  right_line k j =
-      above (n + (k - 1)) n _ _ (omega arith) ∙ above (n + g + j) n _ _ (omega arith) ∙ above (n + g + j) (n + g) _ _ (omega arith)
-      ∙ (let e : n + (k - 1) - n ≡ k - 1 = omega arith in let f : n + g + j - n - g ≡ j = omega arith in (λ m. entry qp.w (e m) (f m)))
-
-  -- ---- the part's entries, from those of the table
-  abbrev p : ℕ → ℕ → ℚ
-  p = part (entry (shared_table qp)) n places rights
-
+  -- ---- the rows and the columns of the part
   size : length places ≡ length s
   size = at.size
 
-  row_first : (i : ℕ) → i < n → place n places i ≡ i
-  row_first i l = place_first n places i l
+  row_is : (i : ℕ) → i < n + length s → place n places i ≡ pivot_at ps i
+  row_is i l = ⊎_elim
+      (λ a. below i n _ _ a ∙ sym (first_sweep qp s i a))
+      (λ a. above i n _ _ a ∙ at.at (i - n) (omega arith) ∙ sym (sweep_later qp s i a l))
+      (cases_lt i n)
 
-  row_later : (i : ℕ) → n ≤ i → i < n + length s → place n places i ≡ n + (get_or s (i - n) 0 - 1)
-  row_later i l m = place_later n places i l ∙ at.at (i - n) (omega arith)
+  column_is : (j : ℕ) → j < n + length s → place n (places ++ sides) j ≡ pivot_at ps j
+  column_is j l = ⊎_elim
+      (λ a. below j n _ _ a ∙ sym (first_sweep qp s j a))
+      (λ a. above j n _ _ a ∙ get_or_append_left places sides 0 (j - n) (omega (arith, size)) ∙ at.at (j - n) (omega arith) ∙ sym (sweep_later qp s j a l))
+      (cases_lt j n)
 
-  column_first : (j : ℕ) → j < n → place n (places ++ rights) j ≡ j
-  column_first j l = place_first n (places ++ rights) j l
+  side_is : (j : ℕ) → j < w → place n (places ++ sides) (n + length places + j) ≡ rights qp + j
+  side_is j l =
+      above (n + length places + j) n _ _ (omega arith)
+      ∙ get_or-append_right places sides (length places) (n + length places + j - n) 0 refl (omega arith)
+      ∙ (let e : n + length places + j - n - length places ≡ j = omega arith in ap (λ k. get_or sides k 0) e)
+      ∙ side_at.at j l
 
-  column_later : (j : ℕ) → n ≤ j → j < n + length s → place n (places ++ rights) j ≡ n + (get_or s (j - n) 0 - 1)
-  column_later j l m = place_later n (places ++ rights) j l ∙ get_or_append_left places rights 0 (j - n) (omega (arith, size)) ∙ at.at (j - n) (omega arith)
+  swept_row : (i : ℕ) → i < n + length s → pivot_at ps i < rights qp
+  swept_row i l = (are_rows qp s set).within i (omega (arith, sweeps_size qp s))
 
-  column_right : (j : ℕ) → j < w → place n (places ++ rights) (n + length places + j) ≡ n + g + j
-  column_right j l =
-      place_later n (places ++ rights) (n + length places + j) (omega arith)
-      ∙ get_or-append_right places rights (length places) (n + length places + j - n) 0 refl (omega arith)
-      ∙ (let e : n + length places + j - n - length places ≡ j = omega arith in ap (λ k. get_or rights k 0) e)
-      ∙ right_at.at j l
-
-  part_at : (i j a b : ℕ) → place n places i ≡ a → place n (places ++ rights) j ≡ b → a < n + g → b < n + g + w → p i j ≡ shared_entry qp a b
+  part_at : (i j b : ℕ) → i < n + length s → place n (places ++ sides) j ≡ b → b < all_columns qp → part (entry (shared_table qp)) n places sides i j ≡ shared_entry qp (pivot_at ps i) b
   unfolding part
-  part_at i j a b e f ha hb = (λ m. entry (shared_table qp) (e m) (f m)) ∙ shared_at a b ha hb
+  part_at i j b l e h = (λ m. entry (shared_table qp) (row_is i l m) (e m)) ∙ shared_at qp (pivot_at ps i) b (swept_row i l) h
 
-  law_is : (i j : ℕ) → i < n + length s → j < n + length s → law_entry qp s i j ≡ p i j
-  law_is i j hi hj = ⊎_elim (λ a. ⊎_elim (upper_left a) (upper_right a) (cases_lt j n)) (λ a. ⊎_elim (lower_left a) (lower_right a) (cases_lt j n)) (cases_lt i n)
-    where
-      upper_left : i < n → j < n → law_entry qp s i j ≡ p i j
-      upper_left a b = below i n _ _ a ∙ below j n _ _ b ∙ sym (part_at i j i j (row_first i a) (column_first j b) (omega arith) (omega arith) ∙ hessian i j a b)
+  count : length ps ≡ n + length places
+  count = sweeps_size qp s ∙ ap (λ k. n + k) (sym size)
 
-      upper_right : i < n → n ≤ j → law_entry qp s i j ≡ p i j
-      upper_right a b =
-          let m = member (j - n) (omega arith) in
-          let m0 = m.0 in
-          let m1 = m.1 in
-          below i n _ _ a ∙ above j n _ _ b ∙ sym (member_cell qp.g.rows s (j - n) (get_or s (j - n) 0) i (omega arith) refl)
-          ∙ sym (part_at i j i (n + (get_or s (j - n) 0 - 1)) (row_first i a) (column_later j b hj) (omega arith) (omega arith) ∙ member_column i (get_or s (j - n) 0) a m0 m1)
+  abbrev of_sweeps : IsPartOf (shared_entry qp) ps (rights qp) w (law_matrix qp s) (law_right qp s)
+  of_sweeps = is_part_of qp s set
 
-      lower_left : n ≤ i → j < n → law_entry qp s i j ≡ p i j
-      lower_left a b =
-          let m = member (i - n) (omega arith) in
-          let m0 = m.0 in
-          let m1 = m.1 in
-          above i n _ _ a ∙ below j n _ _ b ∙ sym (member_cell qp.g.rows s (i - n) (get_or s (i - n) 0) j (omega arith) refl)
-          ∙ sym (part_at i j (n + (get_or s (i - n) 0 - 1)) j (row_later i a hi) (column_first j b) (omega arith) (omega arith) ∙ member_line (get_or s (i - n) 0) j b)
-
-      lower_right : n ≤ i → n ≤ j → law_entry qp s i j ≡ p i j
-      lower_right a b =
-          let m = member (i - n) (omega arith) in
-          let m0 = m.0 in
-          let m1 = m.1 in
-          let k = member (j - n) (omega arith) in
-          let k0 = k.0 in
-          let k1 = k.1 in
-          above i n _ _ a ∙ above j n _ _ b
-          ∙ sym (part_at i j (n + (get_or s (i - n) 0 - 1)) (n + (get_or s (j - n) 0 - 1)) (row_later i a hi) (column_later j b hj) (omega arith) (omega arith)
-          ∙ corner (n + (get_or s (i - n) 0 - 1)) (n + (get_or s (j - n) 0 - 1)) (omega arith) (omega arith) (omega arith))
-
-  side_is : (i j : ℕ) → i < n + length s → j < w → law_side qp s i j ≡ p i (n + length places + j)
-  side_is i j hi hj = ⊎_elim upper lower (cases_lt i n)
-    where
-      upper : i < n → law_side qp s i j ≡ p i (n + length places + j)
-      upper a = below i n _ _ a ∙ sym (part_at i (n + length places + j) i (n + g + j) (row_first i a) (column_right j hj) (omega arith) (omega arith) ∙ right_column i j a)
-
-      lower : n ≤ i → law_side qp s i j ≡ p i (n + length places + j)
-      lower a =
-          let m = member (i - n) (omega arith) in
-          let m0 = m.0 in
-          let m1 = m.1 in
-          above i n _ _ a ∙ sym (member_cell qp.w.rows s (i - n) (get_or s (i - n) 0) j (omega arith) refl)
-          ∙ sym (part_at i (n + length places + j) (n + (get_or s (i - n) 0 - 1)) (n + g + j) (row_later i a hi) (column_right j hj) (omega arith) (omega arith)
-          ∙ right_line (get_or s (i - n) 0) j)
-
-  pub is_part : IsPart (shared_table qp) n places rights (law_matrix qp s) (law_right qp s)
-  unfolding law_matrix law_right
+  pub is_part : IsPart (shared_table qp) n places sides (law_matrix qp s) (law_right qp s)
   is_part = record {
-    shape = record {
-      rows_are = height-tabled (n + length s) (n + length s) (law_entry qp s) ∙ ap (λ k. n + k) (sym size);
-      columns_are = ap (λ k. n + k) (sym size);
-      rectangular = rectangular-tabled (n + length s) (n + length s) (law_entry qp s);
-    };
-    right_shape = record {
-      rows_are = height-tabled (n + length s) w (law_side qp s) ∙ ap (λ k. n + k) (sym size);
-      columns_are = sym right_at.size;
-      rectangular = rectangular-tabled (n + length s) w (law_side qp s);
-    };
+    shape = record { rows_are = of_sweeps.shape.rows_are ∙ count; columns_are = of_sweeps.shape.columns_are ∙ count; rectangular = of_sweeps.shape.rectangular };
+    right_shape = record { rows_are = of_sweeps.right_shape.rows_are ∙ count; columns_are = of_sweeps.right_shape.columns_are ∙ sym side_at.size; rectangular = of_sweeps.right_shape.rectangular };
     entries = λ i j hi hj.
         let hi' : i < n + length s = omega (arith, size) in
         let hj' : j < n + length s = omega (arith, size) in
-        entry-tabled (n + length s) (n + length s) (law_entry qp s) i j hi' hj' ∙ law_is i j hi' hj';
+        of_sweeps.entries i j (omega (arith, count)) (omega (arith, count)) ∙ sym (part_at i j (pivot_at ps j) hi' (column_is j hj') (let b = swept_row j hj' in omega arith));
     right_entries = λ i j hi hj.
         let hi' : i < n + length s = omega (arith, size) in
-        let hj' : j < w = omega (arith, right_at.size) in
-        entry-tabled (n + length s) w (law_side qp s) i j hi' hj' ∙ side_is i j hi' hj';
+        let hj' : j < w = omega (arith, side_at.size) in
+        of_sweeps.right_entries i j (omega (arith, count)) hj' ∙ sym (part_at i (n + length places + j) (rights qp + j) hi' (side_is j hj') (omega arith));
   }

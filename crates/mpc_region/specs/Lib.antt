@@ -2,3 +2,6 @@ pub mod Writing
 pub mod LawEnd
 pub mod Kept
 pub mod Shared
+pub mod Sweeps
+pub mod SweptRows
+pub mod SweptSets

@@ -7,7 +7,8 @@ ghost use Rattle.mpc_sets.specs.RowSet.{IsSetOfRows};
 ghost use Rattle.mpc_rows.specs.Verdicts.{IsRight};
 
 use crate::kept::{Kept, kept_of};
-use crate::shared::{Shared, share};
+use crate::shared::Shared;
+use crate::sweeps::{Sweeps, begin};
 use crate::verdicts::verdict_on;
 use mpc_frac::NoMemory;
 use mpc_rows::{Judged, Qp};
@@ -17,12 +18,13 @@ use std::marker::Model;
 
 /// Gives verdicts on the sets of one program. Contracts see the program.
 ///
-/// The columns of the program's Hessian, with which the equations of each law begin, are eliminated once.
-/// It keeps the runs of the last set's beginnings, so a set that begins as the last one did takes the
-/// steps of its further members alone. In any other order of sets the verdicts are the same.
+/// It keeps the swept tables and the runs of the last set's beginnings, so a set that begins as the last
+/// one did takes the steps of its further members alone. In any other order of sets the verdicts are the
+/// same.
 #[derive(Drop)]
 pub struct Examiner<'a> {
     qp: &'a Qp,
+    sweeps: Sweeps,
     shared: Shared,
     kept: Kept,
 }
@@ -36,8 +38,9 @@ impl<'a> Model for Examiner<'a> {
 
     ghost use Rattle.mpc_region.specs.Kept.{IsKept};
     ghost use Rattle.mpc_region.specs.Shared.{IsSharedBySets};
+    ghost use Rattle.mpc_region.specs.SweptSets.{AreSweeps};
 
-    ghost invariant = { λ e. IsSharedBySets e.qp.now e.shared × IsKept e.qp.now e.kept };
+    ghost invariant = { λ e. AreSweeps e.qp.now e.sweeps × IsSharedBySets e.qp.now e.shared × IsKept e.qp.now e.kept };
 }
 
 impl<'a> Examiner<'a> {
@@ -45,9 +48,18 @@ impl<'a> Examiner<'a> {
     pub fn begin(alloc: Global, qp: &'a Qp) -> Result<Examiner<'a>, NoMemory>
         ensures { IfOk result (λ examiner. examiner ≡ qp.now) }
     {
-        let shared = share(alloc, qp)?;
+        let sweeps = begin(alloc, qp)?;
         let kept = kept_of(alloc, qp)?;
-        Ok(Examiner { qp, shared, kept })
+        let shared = Shared {
+            table: None,
+            is_formed: false,
+        };
+        Ok(Examiner {
+            qp,
+            sweeps,
+            shared,
+            kept,
+        })
     }
 
     /// The verdict on an active set of the program, as [`examine`](crate::examine) gives it. Refused
@@ -60,7 +72,14 @@ impl<'a> Examiner<'a> {
         ensures set { IfOk result (λ j. j.set ≡ set) }
         ensures right { IfOk result (λ j. IsRight self.old set j.verdict) }
     {
-        let verdict = verdict_on(alloc, self.qp, &self.shared, &mut self.kept, set)?;
+        let verdict = verdict_on(
+            alloc,
+            self.qp,
+            &mut self.sweeps,
+            &mut self.shared,
+            &mut self.kept,
+            set,
+        )?;
         Ok(Judged::of(set, verdict))
     }
 }

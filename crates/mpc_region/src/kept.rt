@@ -1,6 +1,6 @@
 //! What is kept of a program from one of its sets to the next: the runs of the beginnings of the last set.
 
-ghost use Rattle.std.specs.Prelude.{◌≡◌, ◌+◌, ◌<◌, ◌≤◌, [], IfOk, OnOk, length, take, vec_len};
+ghost use Rattle.std.specs.Prelude.{◌≡◌, ◌+◌, ◌-◌, ◌*◌, ◌<◌, ◌≤◌, [], IfOk, OnOk, length, take, vec_len};
 ghost use Rattle.mpc_space.specs.Matrix.{height};
 ghost use Rattle.mpc_sets.specs.RowSet.{IsSetOfRows};
 ghost use Rattle.mpc_region.specs.Kept.{IsKept, IsReachRun};
@@ -9,7 +9,7 @@ use mpc_frac::NoMemory;
 use mpc_rows::{Qp, law_laws};
 use mpc_sets::ActiveSet;
 use mpc_simplex::{Beginning, Workspace};
-use mpc_systems::{joint_row, reach_system, region_system, turned};
+use mpc_systems::{reach_system, region_system};
 use std::alloc::Global;
 
 /// What is kept of a program from one of its sets to the next.
@@ -17,8 +17,8 @@ use std::alloc::Global;
 pub struct Kept {
     /// The last set that was to be reached.
     pub set: ActiveSet,
-    /// The run of the states that reach the first k members of the set, for k from 0 on: nothing where
-    /// whole numbers don't serve for it.
+    /// The run of the states that reach the first k members of the set, for k from 0 on, but for the whole
+    /// set: nothing where whole numbers don't serve for it.
     pub reaches: Vec<Option<Beginning>>,
     /// The run of the box alone.
     pub states: Option<Beginning>,
@@ -41,7 +41,7 @@ pub fn kept_of(alloc: Global, qp: &Qp) -> Result<Kept, NoMemory>
 }
 
 /// With how many members alike two sets begin.
-fn shared_members(one: ActiveSet, other: ActiveSet) -> u32
+pub fn shared_members(one: ActiveSet, other: ActiveSet) -> u32
     ensures in_one { result ≤ length one }
     ensures in_other { result ≤ length other }
     ensures alike { take result one ≡ take result other }
@@ -63,11 +63,20 @@ fn first_run(alloc: Global, qp: &Qp) -> Result<Option<Beginning>, NoMemory>
     Beginning::begin(alloc, &system)
 }
 
+/// Where the row of a member stands in the system of the states that reach a set, from 0: behind the box.
+pub fn joint_place(qp: &Qp, member: u32) -> usize
+    requires { 1 ≤ member }
+    ensures { result ≡ 2 * length qp.now.counts + (member - 1) }
+{
+    2 * qp.counts.len() + (member - 1) as usize
+}
+
 /// The run of the first k + 1 members by that of the first k: the row of one more member, the other
 /// way round, comes behind.
 fn next_run(
     alloc: Global,
     qp: &Qp,
+    work: &mut Workspace,
     set: ActiveSet,
     k: u32,
     before: &Option<Beginning>,
@@ -82,9 +91,8 @@ fn next_run(
     let Some(run) = before else {
         return Ok(None);
     };
-    let row = joint_row(alloc, qp, set.member(k + 1))?;
-    let further = turned(alloc, &row)?;
-    run.extend(alloc, &further)
+    let place = joint_place(qp, set.member(k + 1));
+    run.extend_turned(alloc, work, place)
 }
 
 /// One more run of the set. Without memory the others stay.
@@ -104,6 +112,7 @@ fn push_run(alloc: Global, qp: &Qp, kept: &mut Kept) -> Result<(), NoMemory>
         next_run(
             alloc,
             qp,
+            &mut kept.work,
             kept.set,
             count as u32 - 1,
             &kept.reaches[count - 1],
@@ -116,19 +125,20 @@ fn push_run(alloc: Global, qp: &Qp, kept: &mut Kept) -> Result<(), NoMemory>
 }
 
 /// Goes on to a set: the runs of the members with which the last set and this one begin alike stay, and
-/// each further member's comes behind. Without memory some of these are missing.
+/// each further member's but the last one's comes behind. Without memory some of these are missing.
 pub fn turn_to(alloc: Global, qp: &Qp, kept: &mut Kept, set: ActiveSet) -> Result<(), NoMemory>
     requires kept { IsKept qp.now kept.old }
     requires set_of_rows { IsSetOfRows (height qp.now.g) set }
     ensures kept { IsKept qp.now kept.new }
     ensures set { kept.new.set ≡ set }
-    ensures whole { OnOk result (vec_len kept.new.reaches ≡ length set + 1) }
+    ensures some { OnOk result (1 ≤ vec_len kept.new.reaches) }
+    ensures most { OnOk result (length set ≤ vec_len kept.new.reaches) }
 {
     let shared = shared_members(kept.set, set);
     kept.reaches.truncate(shared as usize + 1);
     kept.set = set;
-    let size = set.size() as usize;
-    for _count in kept.reaches.len()..size + 1 {
+    let size = (set.size() as usize).max(1);
+    for _count in kept.reaches.len()..size {
         push_run(alloc, qp, kept)?;
     }
     Ok(())

@@ -11,7 +11,7 @@ ghost use Rattle.mpc_region.specs.LawEnd.{IsLawEnd};
 ghost use Rattle.mpc_region.specs.Shared.{IsKeptTable, IsSharedBySets};
 
 use crate::matrices::{law_matrix, law_right, part};
-use crate::shared::{Shared, member_places, side_places};
+use crate::shared::{Shared, form, member_places, side_places};
 use mpc_bordered::{Kept, solve_part};
 use mpc_frac::NoMemory;
 use mpc_linear::{LinearError, Matrix, Solved, solve};
@@ -89,14 +89,22 @@ fn law_by_table(
     }
 }
 
-/// The law of an active set: by what is kept for all sets of the program, and where that isn't enough by an elimination of its own.
-pub fn law_of(alloc: Global, qp: &Qp, shared: &Shared, set: ActiveSet) -> Result<LawEnd, NoMemory>
+/// The law of an active set, by an elimination in fractions: behind the columns of the Hessian, which are
+/// eliminated once for all sets of the program, and where that isn't enough from nothing.
+pub fn law_of(
+    alloc: Global,
+    qp: &Qp,
+    shared: &mut Shared,
+    set: ActiveSet,
+) -> Result<LawEnd, NoMemory>
     requires definite { IsDefinite qp.now.h.rows }
-    requires shared { IsSharedBySets qp.now shared.now }
+    requires shared { IsSharedBySets qp.now shared.old }
     requires set_of_rows { IsSetOfRows (height qp.now.g) set }
     requires few { length set ≤ height qp.now.h }
-    ensures { IfOk result (IsLawEnd qp.now set) }
+    ensures shared { IsSharedBySets qp.now shared.new }
+    ensures end { IfOk result (IsLawEnd qp.now set) }
 {
+    form(alloc, qp, shared)?;
     if let Some(table) = &shared.table {
         if let Some(end) = law_by_table(alloc, qp, table, set)? {
             return Ok(end);

@@ -14,7 +14,9 @@ mod matrices;
 mod points;
 mod reach;
 mod region;
+mod rows;
 mod shared;
+mod sweeps;
 mod verdicts;
 
 pub use examiner::Examiner;
@@ -26,6 +28,7 @@ pub use points::has_point;
 pub use region::law_rows;
 use shared::Shared;
 use std::alloc::Global;
+use sweeps::no_sweeps;
 use verdicts::verdict_on;
 
 /// The verdict on an active set of the program (Bemporad, Morari, Dua and Pistikopoulos, 2002;
@@ -43,8 +46,12 @@ pub fn examine(alloc: Global, qp: &Qp, set: ActiveSet) -> Result<Judged, NoMemor
     ensures set { IfOk result (λ j. j.set ≡ set) }
     ensures right { IfOk result (λ j. IsRight qp.now set j.verdict) }
 {
-    let shared = Shared { table: None };
+    let mut sweeps = no_sweeps(alloc);
+    let mut shared = Shared {
+        table: None,
+        is_formed: true,
+    };
     let mut kept = kept_of(alloc, qp)?;
-    let verdict = verdict_on(alloc, qp, &shared, &mut kept, set)?;
+    let verdict = verdict_on(alloc, qp, &mut sweeps, &mut shared, &mut kept, set)?;
     Ok(Judged::of(set, verdict))
 }

@@ -42,7 +42,12 @@ pub fn law_rows(alloc: Global, qp: &Qp, law: &Law) -> Result<Vec<RowInt>, Linear
 }
 
 /// Whether the law's region has a state of the box, by a run of its own.
-fn has_region_anew(alloc: Global, qp: &Qp, law: &Law, rows: &[RowInt]) -> Result<bool, SimplexError>
+pub fn has_region_anew(
+    alloc: Global,
+    qp: &Qp,
+    law: &Law,
+    rows: &[RowInt],
+) -> Result<bool, SimplexError>
     requires law { IsLaw qp.now law.now }
     requires rows { AreLawRows qp.now law.now rows.now }
     requires size { AreOfSize (length qp.now.counts) rows.now }
@@ -59,7 +64,7 @@ fn has_region_anew(alloc: Global, qp: &Qp, law: &Law, rows: &[RowInt]) -> Result
 
 /// Whether the rows have a point in the box, by the run of the box that is kept. Nothing where that
 /// doesn't serve.
-fn meets_box(
+pub fn meets_box(
     alloc: Global,
     _qp: &Qp,
     kept: &mut Kept,
@@ -74,30 +79,5 @@ fn meets_box(
     match &kept.states {
         Some(run) => run.meets(alloc, &mut kept.work, rows),
         None => Ok(None),
-    }
-}
-
-/// Whether the law's region has a state of the box, by the rows of the law.
-pub fn has_region(
-    alloc: Global,
-    qp: &Qp,
-    kept: &mut Kept,
-    law: &Law,
-    rows: &[RowInt],
-) -> Result<bool, SimplexError>
-    requires law { IsLaw qp.now law.now }
-    requires rows { AreLawRows qp.now law.now rows.now }
-    requires size { AreOfSize (length qp.now.counts) rows.now }
-    requires kept { IsKept qp.now kept.old }
-    ensures kept { IsKept qp.now kept.new }
-    ensures answer { IfOk result (λ yes. IsTrue yes ↔ HasRegion qp.now law.now) }
-    ensures wide { MatchResult result (λ _. RegionFits qp.now law.now) (λ e. IfWide e (¬ RegionFits qp.now law.now)) }
-{
-    region_laws();
-    law_laws();
-    match meets_box(alloc, qp, kept, rows) {
-        Ok(Some(yes)) => Ok(yes),
-        Ok(None) => has_region_anew(alloc, qp, law, rows),
-        Err(_) => Err(SimplexError::NoMemory),
     }
 }

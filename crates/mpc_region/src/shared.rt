@@ -12,10 +12,13 @@ use mpc_rows::Qp;
 use mpc_sets::ActiveSet;
 use std::alloc::{AllocError, Global};
 
-/// What the laws of all sets of a program share: the elimination of its Hessian in their equations, where it is kept.
+/// What the laws of all sets of a program share where no table is swept: the elimination of its Hessian in
+/// their equations, where it is kept. It is formed for the first such law.
 #[derive(Drop)]
 pub struct Shared {
     pub table: Option<Kept>,
+    /// Whether it was formed, or isn't to be.
+    pub is_formed: bool,
 }
 
 /// The entry of `[h, g', -f]` in row i and column j.
@@ -80,7 +83,7 @@ fn write_shared(out: &mut Matrix, qp: &Qp, i: u32)
 }
 
 /// The table `[[h, g', -f], [g, 0, w]]`.
-fn shared_table(alloc: Global, qp: &Qp) -> Result<Matrix, NoMemory>
+pub fn shared_table(alloc: Global, qp: &Qp) -> Result<Matrix, NoMemory>
     ensures { IfOk result (λ m. m ≡ shared_table qp.now) }
 {
     let size = qp.h.rows() + qp.g.rows();
@@ -91,15 +94,21 @@ fn shared_table(alloc: Global, qp: &Qp) -> Result<Matrix, NoMemory>
     Ok(out)
 }
 
-/// What the laws of all sets of the program share.
-pub fn share(alloc: Global, qp: &Qp) -> Result<Shared, NoMemory>
-    ensures { IfOk result (IsSharedBySets qp.now) }
+/// Forms what the laws of all sets of the program share, once.
+pub fn form(alloc: Global, qp: &Qp, shared: &mut Shared) -> Result<(), NoMemory>
+    requires { IsSharedBySets qp.now shared.old }
+    ensures { IsSharedBySets qp.now shared.new }
 {
+    if shared.is_formed {
+        return Ok(());
+    }
     let table = shared_table(alloc, qp)?;
     let Ok(table) = keep(alloc, table, qp.h.rows()) else {
         return Err(NoMemory);
     };
-    Ok(Shared { table })
+    shared.table = table;
+    shared.is_formed = true;
+    Ok(())
 }
 
 /// Where the members stand among the rows and the columns of the table, for so many unknowns.

@@ -12,19 +12,42 @@ ghost use Rattle.mpc_rows.specs.Verdicts.{IsRight, ReachFits};
 ghost use Rattle.mpc_region.specs.Kept.{IsKept};
 ghost use Rattle.mpc_region.specs.LawEnd.{IsLawOfSet};
 ghost use Rattle.mpc_region.specs.Shared.{IsSharedBySets};
+ghost use Rattle.mpc_region.specs.Sweeps.{IsTableOf, rights, swept_law};
+ghost use Rattle.mpc_region.specs.SweptSets.{AreSweeps, IsShown};
 ghost use Rattle.mpc_systems.specs.Writing.{AreOfSize};
 
 use crate::kept::Kept;
 use crate::law::{LawEnd, law_of};
 use crate::reach::is_reachable;
-use crate::region::{has_region, law_rows};
+use crate::region::{has_region_anew, law_rows, meets_box};
+use crate::rows::{fill_rows, law_of_table};
 use crate::shared::Shared;
+use crate::sweeps::{Sweeps, SweptEnd, swept_end};
 use mpc_frac::NoMemory;
 use mpc_linear::{LinearError, RowInt};
-use mpc_rows::{Law, Place, Qp, Verdict};
+use mpc_rows::{Law, Place, Qp, Verdict, law_laws, region_laws};
 use mpc_sets::ActiveSet;
 use mpc_simplex::SimplexError;
+use mpc_sweep::Swept;
 use std::alloc::Global;
+
+/// The verdict on a set that can grow, by a run of its own for the region of its law.
+fn by_run(alloc: Global, qp: &Qp, law: Law, rows: &[RowInt]) -> Result<Verdict, NoMemory>
+    requires law { IsLaw qp.now law }
+    requires grows { CanGrow qp.now law.set }
+    requires reach_fits { ReachFits qp.now law.set }
+    requires rows_fit { LawRowsFit qp.now law (height qp.now.g) }
+    requires rows { AreLawRows qp.now law rows.now }
+    requires size { AreOfSize (length qp.now.counts) rows.now }
+    ensures { IfOk result (IsRight qp.now law.set) }
+{
+    match has_region_anew(alloc, qp, &law, rows) {
+        Ok(true) => Ok(Verdict::Region(law)),
+        Ok(false) => Ok(Verdict::Hollow),
+        Err(SimplexError::Wide) => Ok(Verdict::Wide(Place::Region(law.set))),
+        Err(SimplexError::NoMemory) => Err(NoMemory),
+    }
+}
 
 /// The verdict on a set that can grow, by the rows of its law.
 fn by_region(
@@ -44,11 +67,12 @@ fn by_region(
     ensures kept { IsKept qp.now kept.new }
     ensures right { IfOk result (IsRight qp.now law.set) }
 {
-    match has_region(alloc, qp, kept, &law, rows) {
-        Ok(true) => Ok(Verdict::Region(law)),
-        Ok(false) => Ok(Verdict::Hollow),
-        Err(SimplexError::Wide) => Ok(Verdict::Wide(Place::Region(law.set))),
-        Err(SimplexError::NoMemory) => Err(NoMemory),
+    region_laws();
+    law_laws();
+    match meets_box(alloc, qp, kept, rows)? {
+        Some(true) => Ok(Verdict::Region(law)),
+        Some(false) => Ok(Verdict::Hollow),
+        None => by_run(alloc, qp, law, rows),
     }
 }
 
@@ -83,20 +107,20 @@ fn by_reach(alloc: Global, qp: &Qp, kept: &mut Kept, law: Law) -> Result<Verdict
     }
 }
 
-/// The verdict on a set. Its runs stand in the order law, reach, rows of the law, region; none
-/// begins after the first that decides or is wide.
-pub fn verdict_on(
+/// The verdict on a set, by an elimination of its equations in fractions.
+fn by_fractions(
     alloc: Global,
     qp: &Qp,
-    shared: &Shared,
+    shared: &mut Shared,
     kept: &mut Kept,
     set: ActiveSet,
 ) -> Result<Verdict, NoMemory>
     requires definite { IsDefinite qp.now.h.rows }
-    requires shared { IsSharedBySets qp.now shared.now }
+    requires shared { IsSharedBySets qp.now shared.old }
     requires set_of_rows { IsSetOfRows (height qp.now.g) set }
     requires few { length set ≤ height qp.now.h }
     requires kept { IsKept qp.now kept.old }
+    ensures shared { IsSharedBySets qp.now shared.new }
     ensures kept { IsKept qp.now kept.new }
     ensures right { IfOk result (IsRight qp.now set) }
 {
@@ -104,5 +128,113 @@ pub fn verdict_on(
         LawEnd::Dependent => Ok(Verdict::Dependent),
         LawEnd::Wide => Ok(Verdict::Wide(Place::Law(set))),
         LawEnd::Found(law) => by_reach(alloc, qp, kept, law),
+    }
+}
+
+/// The verdict on a set that can grow, by the table that shows its law. Only a law that has a region is
+/// written out.
+fn by_table(
+    alloc: Global,
+    qp: &Qp,
+    table: &Swept,
+    rows: &mut Vec<RowInt>,
+    kept: &mut Kept,
+    set: ActiveSet,
+) -> Result<Verdict, NoMemory>
+    requires set_of_rows { IsSetOfRows (height qp.now.g) set }
+    requires table { IsTableOf qp.now set (rights qp.now) table.now }
+    requires law { IsLaw qp.now (swept_law qp.now set) }
+    requires grows { CanGrow qp.now set }
+    requires reach_fits { ReachFits qp.now set }
+    requires kept { IsKept qp.now kept.old }
+    ensures kept { IsKept qp.now kept.new }
+    ensures right { IfOk result (IsRight qp.now set) }
+{
+    region_laws();
+    law_laws();
+    fill_rows(alloc, qp, table, set, rows)?;
+    match meets_box(alloc, qp, kept, rows)? {
+        Some(true) => Ok(Verdict::Region(law_of_table(alloc, qp, table, set)?)),
+        Some(false) => Ok(Verdict::Hollow),
+        None => by_run(alloc, qp, law_of_table(alloc, qp, table, set)?, rows),
+    }
+}
+
+/// The verdict on a set that can grow, by the table of the whole set.
+fn by_shown(
+    alloc: Global,
+    qp: &Qp,
+    sweeps: &mut Sweeps,
+    kept: &mut Kept,
+    set: ActiveSet,
+) -> Result<Verdict, NoMemory>
+    requires sweeps { AreSweeps qp.now sweeps.old }
+    requires set_of_rows { IsSetOfRows (height qp.now.g) set }
+    requires shown { IsShown qp.now set sweeps.old }
+    requires law { IsLaw qp.now (swept_law qp.now set) }
+    requires grows { CanGrow qp.now set }
+    requires reach_fits { ReachFits qp.now set }
+    requires kept { IsKept qp.now kept.old }
+    ensures sweeps { AreSweeps qp.now sweeps.new }
+    ensures kept { IsKept qp.now kept.new }
+    ensures right { IfOk result (IsRight qp.now set) }
+{
+    if set.size() == 0 {
+        by_table(alloc, qp, &sweeps.tables[0], &mut sweeps.rows, kept, set)
+    } else {
+        by_table(alloc, qp, &sweeps.last, &mut sweeps.rows, kept, set)
+    }
+}
+
+/// The verdict on an independent set, by the tables that show its law.
+fn by_tables(
+    alloc: Global,
+    qp: &Qp,
+    sweeps: &mut Sweeps,
+    kept: &mut Kept,
+    set: ActiveSet,
+) -> Result<Verdict, NoMemory>
+    requires sweeps { AreSweeps qp.now sweeps.old }
+    requires set_of_rows { IsSetOfRows (height qp.now.g) set }
+    requires shown { IsShown qp.now set sweeps.old }
+    requires law { IsLawOfSet qp.now set (swept_law qp.now set) }
+    requires kept { IsKept qp.now kept.old }
+    ensures sweeps { AreSweeps qp.now sweeps.new }
+    ensures kept { IsKept qp.now kept.new }
+    ensures right { IfOk result (IsRight qp.now set) }
+{
+    match is_reachable(alloc, qp, kept, set) {
+        Ok(true) => by_shown(alloc, qp, sweeps, kept, set),
+        Ok(false) => Ok(Verdict::Unreachable),
+        Err(SimplexError::Wide) => Ok(Verdict::Wide(Place::Reach(set))),
+        Err(SimplexError::NoMemory) => Err(NoMemory),
+    }
+}
+
+/// The verdict on a set. Its runs stand in the order law, reach, rows of the law, region; none
+/// begins after the first that decides or is wide.
+pub fn verdict_on(
+    alloc: Global,
+    qp: &Qp,
+    sweeps: &mut Sweeps,
+    shared: &mut Shared,
+    kept: &mut Kept,
+    set: ActiveSet,
+) -> Result<Verdict, NoMemory>
+    requires definite { IsDefinite qp.now.h.rows }
+    requires sweeps { AreSweeps qp.now sweeps.old }
+    requires shared { IsSharedBySets qp.now shared.old }
+    requires set_of_rows { IsSetOfRows (height qp.now.g) set }
+    requires few { length set ≤ height qp.now.h }
+    requires kept { IsKept qp.now kept.old }
+    ensures sweeps { AreSweeps qp.now sweeps.new }
+    ensures shared { IsSharedBySets qp.now shared.new }
+    ensures kept { IsKept qp.now kept.new }
+    ensures right { IfOk result (IsRight qp.now set) }
+{
+    match swept_end(alloc, qp, sweeps, set)? {
+        Some(SweptEnd::Dependent) => Ok(Verdict::Dependent),
+        Some(SweptEnd::Law) => by_tables(alloc, qp, sweeps, kept, set),
+        None => by_fractions(alloc, qp, shared, kept, set),
     }
 }

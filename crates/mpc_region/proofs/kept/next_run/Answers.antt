@@ -1,16 +1,30 @@
-use Rattle.std.proofs.Common.{◌≡◌, ◌+◌, ◌-◌, get_or, ◌∙◌, ap, arith}
-use Rattle.mpc_rows.specs.SetRuns.{turned}
-use Rattle.mpc_region.proofs.ReachRuns.{same_width, reach_next}
+use Rattle.std.proofs.Common.{◌≡◌, ◌+◌, ◌-◌, ◌<◌, ◌≤◌, get_or, sym, ◌∙◌, ap, subst, arith}
+use Rattle.mpc_space.specs.Matrix.{height}
+use Rattle.mpc_region.proofs.Members.{member}
+use Rattle.mpc_region.proofs.ReachRuns.{row_within, turned_row, reach_next}
 use Rattle.mpc_region.proofs.kept.next_run.Goals as goal
+use Rattle.mpc_region.proofs.kept.next_run.Goals.{After-joint_place-place}
 
-pub extend-requires : goal.extend-requires
-extend-requires c =
-    same_width c.args.qp.now c.args.set c.args.k c.args.before.now c.in-Some.run' c.in-Some.is c.requires.before _
-    (c.in_ok-further.ensures.size ∙ c.in_ok-row.ensures.size)
+module _ (c : After-joint_place-place) where
+  place : c.args.k + 1 - 1 ≡ c.args.k
+  place = omega arith
+
+  member_is : c.member.result ≡ get_or c.args.set c.args.k 0
+  member_is = c.member.ensures.value ∙ ap (λ k. get_or c.args.set k 0) place
+
+  within : (1 ≤ c.member.result) × (c.member.result ≤ height c.args.qp.now.g)
+  within = subst (λ n. (1 ≤ n) × (n ≤ height c.args.qp.now.g)) (sym member_is) (member (height c.args.qp.now.g) c.args.set c.requires.set_of_rows c.args.k c.requires.member)
+
+pub extend_turned-requires : goal.extend_turned-requires
+extend_turned-requires c =
+    let d = (goal.at.extend_turned-requires c).After-joint_place-place in
+    let w = within d in
+    row_within c.args.qp.now c.args.set c.args.k c.args.before.now c.in-Some.run' c.in-Some.is c.requires.before c.member.result c.joint_place-place.result w.0 w.1 c.joint_place-place.ensures
 
 pub returns : goal.returns
 returns c =
-    let place : c.args.k + 1 - 1 ≡ c.args.k = omega arith in
-    reach_next c.args.qp.now c.args.set c.args.k c.args.before.now c.in-Some.run' c.in-Some.is c.requires.before c.member.result c.requires.member
-    (c.member.ensures.value ∙ ap (λ k. get_or c.args.set k 0) place) c.in_ok-further.further (c.in_ok-further.ensures.row ∙ ap turned c.in_ok-row.ensures.row)
-    c.extend.result c.extend.ensures
+    let d = (goal.at.returns c).After-joint_place-place in
+    let w = within d in
+    reach_next c.args.qp.now c.args.set c.args.k c.args.before.now c.in-Some.run' c.in-Some.is c.requires.before c.member.result c.requires.member (member_is d)
+    _ (turned_row c.args.qp.now c.args.set c.args.k c.args.before.now c.in-Some.run' c.in-Some.is c.requires.before c.member.result c.joint_place-place.result w.0 w.1 c.joint_place-place.ensures)
+    c.extend_turned.result c.extend_turned.ensures

@@ -1,13 +1,14 @@
-use Rattle.std.proofs.Common.{◌≡◌, ◌+◌, ◌-◌, ◌≤◌, arith, get_or, ap, ◌∙◌}
+use Rattle.std.proofs.Common.{◌≡◌, ◌+◌, ◌-◌, arith, get_or, ap, ◌∙◌}
 use Rattle.mpc_space.specs.Matrix.{height}
-use Rattle.mpc_region.proofs.Members.{member_within, member_cell}
+use Rattle.mpc_region.proofs.Members.{member, member_cell}
 use Rattle.mpc_region.proofs.matrices.member_entry.Goals as goal
 
 pub get-requires-clause-row : goal.get-requires-clause-row
 get-requires-clause-row c =
     let place : c.args.k + 1 - 1 ≡ c.args.k = omega arith in
-    let w : (1 ≤ c.member.result) × (c.member.result ≤ height c.args.m.now) = member_within c.law_laws.ensures (height c.args.m.now) c.args.set c.args.k c.member.result c.requires.set_of_rows c.requires.member (c.member.ensures.value ∙ ap (λ k. get_or c.args.set k 0) place) in
-    omega (arith, w.0, w.1)
+    let e : c.member.result ≡ get_or c.args.set c.args.k 0 = c.member.ensures.value ∙ ap (λ k. get_or c.args.set k 0) place in
+    let m = member (height c.args.m.now) c.args.set c.requires.set_of_rows c.args.k c.requires.member in
+    omega (arith, e, m.0, m.1)
 
 pub returns : goal.returns
 returns c =

@@ -1,7 +1,7 @@
 use Rattle.std.proofs.Common.{◌∙◌, ap, arith}
 use Rattle.mpc_space.specs.Matrix.{RationalMatrix, height}
-use Rattle.mpc_region.proofs.SharedParts.{shared_height, shared_columns}
-use Rattle.mpc_region.proofs.shared.share.Goals as goal
+use Rattle.mpc_region.proofs.SharedEntries.{shared_height, shared_columns}
+use Rattle.mpc_region.proofs.shared.form.Goals as goal
 
 pub keep-requires-clause-rows : goal.keep-requires-clause-rows
 keep-requires-clause-rows c = omega (arith, c.rows.ensures.value, ap height c.in_ok-table.ensures ∙ shared_height c.args.qp.now)

@@ -1,0 +1,39 @@
+-- What a point of the box that meets the rows of a law, or that there is none, tells of the set.
+use Rattle.std.proofs.Common.{◌≡◌, ℕ, List, Bool, true, false, Option, Some, IfSome, IsTrue, ◌↔◌, subst}
+use Rattle.mpc_space.specs.Matrix.{height}
+use Rattle.mpc_linear.specs.declared.integers.RowInt.{RowInt}
+use Rattle.mpc_rows.specs.declared.programs.Qp.{Qp}
+use Rattle.mpc_rows.specs.declared.laws.Law.{Law}
+use Rattle.mpc_rows.specs.declared.verdicts.Verdict.TheVariants.{Hollow, Region}
+use Rattle.mpc_rows.specs.RunWidth.{RunFits}
+use Rattle.mpc_rows.specs.Candidates.{CanGrow}
+use Rattle.mpc_rows.specs.Laws.{IsLaw}
+use Rattle.mpc_rows.specs.LawRows.{AreLawRows}
+use Rattle.mpc_rows.specs.SetRuns.{region_system, LawRowsFit}
+use Rattle.mpc_rows.specs.Verdicts.{IsRight, ReachFits, AllFit}
+use Rattle.mpc_rows.specs.LawLaws.{LawLaws}
+use Rattle.mpc_rows.specs.RegionLaws.{RegionLaws}
+use Rattle.mpc_simplex.specs.Answer.{HasPoint}
+
+not_both : (b : Bool) → b ≡ true → b ≡ false → ⊥
+not_both b e f = cc
+
+module _ (points : RegionLaws) (single : LawLaws) (qp : Qp) (s : List ℕ) (law : Law) (of_set : law.set ≡ s) (is_law : IsLaw qp law) (grows : CanGrow qp s) (reach_fits : ReachFits qp s) (rows : List RowInt) (are : AreLawRows qp law rows) (fit : LawRowsFit qp law (height qp.g))
+    (o : Option Bool) (yes : Bool) (is : o ≡ Some yes) (met : IfSome o (λ yes. IsTrue yes ↔ HasPoint (region_system qp rows))) (met_fits : IfSome o (λ yes. RunFits (region_system qp rows))) where
+  answer : IsTrue yes ↔ HasPoint (region_system qp rows)
+  answer = subst (λ o. IfSome o (λ yes. IsTrue yes ↔ HasPoint (region_system qp rows))) is met
+
+  run_fits : RunFits (region_system qp rows)
+  run_fits = subst (λ o. IfSome o (λ yes. RunFits (region_system qp rows))) is met_fits
+
+  all_fit : AllFit qp law
+  all_fit = record { rows = fit; region = λ others k. subst (λ xs. RunFits (region_system qp xs)) (single.law_rows_unique qp law rows others are k) run_fits }
+
+  pub right_region : yes ≡ true → IsRight qp s (Region law)
+  right_region e = ((grows, of_set, is_law, (points.has_region qp law is_law rows are).1 (answer.0 e)), (reach_fits, all_fit))
+
+  pub right_hollow : yes ≡ false → IsRight qp s Hollow
+  right_hollow e = (
+    (grows, record { law = law; of_set = of_set; is_law = is_law; holds = λ r. not_both yes (answer.1 ((points.has_region qp law is_law rows are).0 r)) e }),
+    (reach_fits, record { law = law; of_set = of_set; is_law = is_law; holds = all_fit }),
+  )

@@ -1,0 +1,245 @@
+//! The law of an active set and the rows of the law, read from a table that is swept for the set.
+
+ghost use Rattle.std.specs.Prelude.{◌≡◌, ℕ, ◌+◌, ◌<◌, ◌≤◌, ◌^◌, IfOk, OnOk, IsTrue, length, unsigned_abs, pos, ◌*ℤ◌, int_div};
+ghost use Rattle.std.specs.Int.{◌∣◌};
+ghost use Rattle.mpc_exact.specs.Rational.{frac};
+ghost use Rattle.mpc_space.specs.Matrix.{height};
+ghost use Rattle.mpc_sets.specs.RowSet.{IsSetOfRows};
+ghost use Rattle.mpc_rows.specs.LawRows.{AreLawRows};
+ghost use Rattle.mpc_rows.specs.SetRuns.{LawRowsFit};
+ghost use Rattle.mpc_systems.specs.Writing.{AreOfSize};
+ghost use Rattle.mpc_sweep.specs.Numbers.{IsTable, number, den_of};
+ghost use Rattle.mpc_region.specs.Sweeps.{rights, IsTableOf, swept_law};
+ghost use Rattle.mpc_region.specs.SweptRows.{number_from, DividesEach, IsSharedBy, AreSides, IsRowFrom, AreOfWidth};
+ghost use Rattle.mpc_region.specs.Writing.{WritesRow};
+
+use mpc_frac::{Frac, NoMemory, fit_laws, greatest_common_divisor};
+use mpc_linear::{Ints, Matrix, RowInt};
+use mpc_rows::{Law, Qp, law_laws};
+use mpc_sets::ActiveSet;
+use mpc_sweep::{Swept, sweep_laws};
+use mpc_whole::over_laws;
+use std::alloc::Global;
+
+/// The greatest common divisor of so many numbers of row i, from the column `first` on; 0 where all are 0.
+fn shared_divisor(table: &Swept, i: usize, first: usize, count: usize) -> u64
+    requires table { IsTable table.now }
+    requires row { i < table.now.rows }
+    requires columns { first + count ≤ table.now.columns }
+    ensures shared { IsSharedBy (number_from table.now i first) count result }
+    ensures small { result ≤ 2 ^ 62 }
+{
+    let mut shared = 0;
+    for j in 0..count {
+        let size = table.at(i, first + j).unsigned_abs();
+        shared = greatest_common_divisor(shared, size as u128);
+        if shared == 1 {
+            return 1;
+        }
+    }
+    shared as u64
+}
+
+/// z divided by a number, towards 0.
+#[inline]
+fn divided(z: i64, by: u64) -> i64
+    requires small { unsigned_abs z ≤ 2 ^ 62 }
+    requires positive { 0 < by }
+    requires by_small { by ≤ 2 ^ 62 }
+    ensures value { result ≡ int_div z (pos by) }
+    ensures small { unsigned_abs result ≤ 2 ^ 62 }
+{
+    z / by as i64
+}
+
+/// z divided by one of its divisors.
+#[inline]
+fn quotient(z: i64, by: u64) -> i64
+    requires small { unsigned_abs z ≤ 2 ^ 62 }
+    requires positive { 0 < by }
+    requires by_small { by ≤ 2 ^ 62 }
+    requires divides { by ∣ unsigned_abs z }
+    ensures value { result *ℤ pos by ≡ z }
+    ensures small { unsigned_abs result ≤ 2 ^ 62 }
+{
+    if by == 1 { z } else { divided(z, by) }
+}
+
+/// Writes the negatives of the numbers of row i behind the column `first`, each over a divisor of all.
+fn write_sides(sides: &mut Ints, table: &Swept, i: usize, first: usize, by: u64)
+    requires table { IsTable table.now }
+    requires row { i < table.now.rows }
+    requires columns { first + (length sides.old + 1) ≤ table.now.columns }
+    requires positive { 0 < by }
+    requires by_small { by ≤ 2 ^ 62 }
+    requires divides { DividesEach by (number_from table.now i first) (length sides.old + 1) }
+    ensures size { length sides.new ≡ length sides.old }
+    ensures sides { AreSides (number_from table.now i first) by sides.new }
+{
+    for j in 0..sides.len() {
+        let side = quotient(table.at(i, first + (j + 1)), by);
+        sides.set(j, -(side as i128));
+    }
+}
+
+/// Writes the row in t that row i of the table shows, without a common divisor.
+fn write_row(row: &mut RowInt, table: &Swept, i: usize, first: usize)
+    requires table { IsTable table.now }
+    requires row { i < table.now.rows }
+    requires columns { first + (length row.old.a + 1) ≤ table.now.columns }
+    ensures { IsRowFrom (number_from table.now i first) (length row.old.a) row.new }
+{
+    let shared = shared_divisor(table, i, first, row.a.len() + 1);
+    let by = shared.max(1);
+    write_sides(&mut row.a, table, i, first, by);
+    row.b = quotient(table.at(i, first), by) as i128;
+}
+
+/// Whether there are so many rows of so many coefficients.
+fn are_of_width(rows: &[RowInt], count: usize, width: usize) -> bool
+    ensures { IsTrue result → AreOfWidth count width rows.now }
+{
+    if rows.len() != count {
+        return false;
+    }
+    for row in rows {
+        if row.a.len() != width {
+            return false;
+        }
+    }
+    true
+}
+
+/// A row of so many zeros.
+fn blank_row(alloc: Global, width: usize) -> Result<RowInt, NoMemory>
+    ensures { IfOk result (λ row. length row.a ≡ width) }
+{
+    let mut sides = Ints::with_capacity(alloc, width)?;
+    for _ in 0..width {
+        sides.push(0)?;
+    }
+    Ok(RowInt { a: sides, b: 0 })
+}
+
+/// So many rows of so many coefficients, in place of others.
+fn make_rows(
+    alloc: Global,
+    rows: &mut Vec<RowInt>,
+    count: usize,
+    width: usize,
+) -> Result<(), NoMemory>
+    ensures { OnOk result (AreOfWidth count width rows.new.items) }
+{
+    if are_of_width(rows, count, width) {
+        return Ok(());
+    }
+    rows.clear();
+    for _ in 0..count {
+        rows.push(blank_row(alloc, width)?)?;
+    }
+    Ok(())
+}
+
+/// The rows of the law that the table shows, in their order, in the room of other rows.
+pub fn fill_rows(
+    alloc: Global,
+    qp: &Qp,
+    table: &Swept,
+    set: ActiveSet,
+    rows: &mut Vec<RowInt>,
+) -> Result<(), NoMemory>
+    requires set_of_rows { IsSetOfRows (height qp.now.g) set }
+    requires table { IsTableOf qp.now set (rights qp.now) table.now }
+    ensures rows { OnOk result (AreLawRows qp.now (swept_law qp.now set) rows.new.items) }
+    ensures size { OnOk result (AreOfSize (length qp.now.counts) rows.new.items) }
+    ensures fit { LawRowsFit qp.now (swept_law qp.now set) (height qp.now.g) }
+{
+    sweep_laws();
+    over_laws();
+    law_laws();
+    let _ = set;
+    let unknowns = qp.h.rows() as usize;
+    let count = qp.g.rows() as usize;
+    make_rows(alloc, rows, count, qp.counts.len())?;
+    for i in 0..count {
+        write_row(&mut rows[i], table, unknowns + i, unknowns + count);
+    }
+    Ok(())
+}
+
+/// The entry in row i and column j of the table.
+fn table_entry(table: &Swept, i: u32, j: u32) -> Frac
+    requires table { IsTable table.now }
+    requires row { i < table.now.rows }
+    requires column { j < table.now.columns }
+    ensures { result ≡ frac (number table.now i j) (den_of table.now i) }
+{
+    fit_laws();
+    let number = table.at(i as usize, j as usize);
+    let below = table.den_at(i as usize);
+    match Frac::new(number as i128, below as i128) {
+        Ok(x) => x,
+        Err(_) => unreachable!(),
+    }
+}
+
+/// Writes the entries of a row of the table, from the column `first` on, into row i.
+fn write_entries(out: &mut Matrix, i: u32, table: &Swept, source: u32, first: u32)
+    requires row { i < height out.old }
+    requires table { IsTable table.now }
+    requires source { source < table.now.rows }
+    requires columns { first + out.old.columns ≤ table.now.columns }
+    requires last { first + out.old.columns < 2 ^ 32 }
+    ensures { WritesRow out.old out.new i (λ j. frac (number table.now source (first + j)) (den_of table.now source)) }
+{
+    let _rows = out.rows();
+    for j in 0..out.cols() {
+        out.set(i, j, table_entry(table, source, first + j));
+    }
+}
+
+/// The unknowns of the law that the table shows.
+fn table_moves(alloc: Global, qp: &Qp, table: &Swept, set: ActiveSet) -> Result<Matrix, NoMemory>
+    requires set_of_rows { IsSetOfRows (height qp.now.g) set }
+    requires table { IsTableOf qp.now set (rights qp.now) table.now }
+    ensures { IfOk result (λ m. m ≡ (swept_law qp.now set).moves) }
+{
+    let _ = set;
+    let unknowns = qp.h.rows();
+    let first = unknowns + qp.g.rows();
+    let mut out = Matrix::zero(alloc, unknowns, qp.f.cols())?;
+    for i in 0..unknowns {
+        write_entries(&mut out, i, table, i, first);
+    }
+    Ok(out)
+}
+
+/// The members' multipliers of the law that the table shows.
+fn table_mults(alloc: Global, qp: &Qp, table: &Swept, set: ActiveSet) -> Result<Matrix, NoMemory>
+    requires set_of_rows { IsSetOfRows (height qp.now.g) set }
+    requires table { IsTableOf qp.now set (rights qp.now) table.now }
+    ensures { IfOk result (λ m. m ≡ (swept_law qp.now set).mults) }
+{
+    law_laws();
+    let unknowns = qp.h.rows();
+    let first = unknowns + qp.g.rows();
+    let mut out = Matrix::zero(alloc, set.size(), qp.f.cols())?;
+    for k in 0..set.size() {
+        let member = set.member(k + 1);
+        write_entries(&mut out, k, table, unknowns + (member - 1), first);
+    }
+    Ok(out)
+}
+
+/// The law that the table shows.
+pub fn law_of_table(alloc: Global, qp: &Qp, table: &Swept, set: ActiveSet) -> Result<Law, NoMemory>
+    requires set_of_rows { IsSetOfRows (height qp.now.g) set }
+    requires table { IsTableOf qp.now set (rights qp.now) table.now }
+    ensures { IfOk result (λ law. law ≡ swept_law qp.now set) }
+{
+    Ok(Law {
+        set,
+        moves: table_moves(alloc, qp, table, set)?,
+        mults: table_mults(alloc, qp, table, set)?,
+    })
+}
