@@ -5,7 +5,7 @@ use Rattle.mpc_rows.specs.declared.places.Place.{Place}
 use Rattle.mpc_check.specs.declared.answers.Spot.{Spot}
 use Rattle.mpc_check.specs.declared.answers.CheckError.{CheckError}
 use Rattle.mpc_check.specs.declared.answers.CheckError.TheVariants.{Wide, NotDefinite, NoMemory}
-use Rattle.mpc_check.specs.Findings.{Finding, refused, too_wide, not_definite, IsMet, IsUnmet, Each, IsFirstOf, IsFirstOfTwo, IsSearched}
+use Rattle.mpc_check.specs.Findings.{Finding, refused, too_wide, not_definite, IsMet, IsUnmet, Each, IsFirstOf, IsFirstOfTwo, IsSearched, IsDecided}
 
 -- nothing is found where all is met, and at most one thing anyway
 pub record IsSingle (met : Type 0) (finds : Finding → Type 0) : Type 0 where
@@ -82,3 +82,9 @@ pub earlier_error : (met all : Type 0) (finds later : Finding → Type 0) (e : C
 earlier_error met all finds later (Wide place) s = inl s
 earlier_error met all finds later (NotDefinite j) s = inl s
 earlier_error met all finds later NoMemory s = tt
+
+-- an error of what decides one condition
+pub condition_error : (fits holds : Type 0) (spot : Spot) (place : Place) (e : CheckError) → IsDecided fits holds place (Err e) → IsSearched (IsMet fits holds) (IsUnmet fits holds spot place) (Err e)
+condition_error fits holds spot place (Wide p) d = d
+condition_error fits holds spot place (NotDefinite j) d = d
+condition_error fits holds spot place NoMemory d = tt

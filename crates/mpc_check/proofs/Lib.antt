@@ -12,6 +12,11 @@ pub mod RowPlaces
 pub mod SplitRows
 pub mod CertLemmas
 pub mod SumLemmas
+pub mod BorderLemmas
+pub mod WholeFits
+pub mod WholeSums
+pub mod WholeRows
+pub mod ColumnSums
 pub mod LeafLemmas
 pub mod CheckLemmas
 pub mod FindingLemmas

@@ -28,6 +28,9 @@ module _ (n : ℕ) (nodes : List Node) (splits : All (HasSplitRow n) nodes) (pla
   parts : AreSmall row.a × AreSmall (row.b ∷ [])
   parts = All-split (λ z. unsigned_abs z < 2 ^ 127) row.a (row.b ∷ []) fits.small
 
+  pub split_size : length row.a ≡ n
+  split_size = fits.size
+
   pub split_small : AreSmall row.a
   split_small = parts.0
 

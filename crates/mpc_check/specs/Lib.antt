@@ -2,6 +2,8 @@ pub mod Widths
 pub mod Paths
 pub mod Certs
 pub mod Picks
+pub mod Borders
+pub mod Columns
 pub mod Findings
 pub mod Ways
 pub mod LawConditions

@@ -8,15 +8,19 @@ ghost use Rattle.mpc_rows.specs.Refutation.{Refutes, SumsFit};
 ghost use Rattle.mpc_check.specs.Certs.{HasPositionsIn, CertFits, CertRefutes};
 ghost use Rattle.mpc_check.specs.Findings.{IsDecided};
 ghost use Rattle.mpc_check.specs.Picks.{picked_system, weights};
-ghost use Rattle.mpc_check.specs.Ways.{HasSplitRow, IsTurn, system_at};
+ghost use Rattle.mpc_systems.specs.Systems.{hold_system};
+ghost use Rattle.mpc_systems.specs.Writing.{IsOfSize};
+ghost use Rattle.mpc_check.specs.Ways.{HasSplitRow, IsTurn, system_at, way_rows};
 ghost use Rattle.mpc_check.specs.Widths.{IsOfWidth};
 
 use crate::answers::CheckError;
 use crate::rows::system_row;
 use crate::ways::Turn;
+use crate::whole_sums::is_refuted_in_wholes;
 use mpc_frac::{NoMemory, fit_laws};
-use mpc_linear::zero_laws;
-use mpc_rows::{Cert, Multipliers, Place, Qp, Row, System, Tree, refutes};
+use mpc_linear::{RowInt, zero_laws};
+use mpc_rows::{Cert, Multipliers, Place, Qp, Row, Rows, System, Tree, refutes};
+use mpc_systems::broken_row;
 use std::alloc::Global;
 
 /// Whether each position that the certificate names is that of one of so many rows.
@@ -116,4 +120,35 @@ pub fn is_refuted(
     let system = named_system(alloc, qp, tree, way, more, last, cert)?;
     let multipliers = named_multipliers(alloc, cert)?;
     is_refutation(&system, &multipliers, place)
+}
+
+/// Whether the certificate refutes the system of a leaf, in which a row of its law, broken, follows those of the box and the way. It is tested
+/// in whole numbers where their size allows. `Wide` at this place where a number of the sums doesn't fit.
+pub fn is_broken_refuted(
+    alloc: Global,
+    qp: &Qp,
+    tree: &Tree,
+    way: &[Turn],
+    row: &RowInt,
+    cert: &Cert,
+    place: Place,
+) -> Result<bool, CheckError>
+    requires way { All (IsTurn tree.now) way.now }
+    requires splits { All (HasSplitRow (length qp.now.counts)) tree.now }
+    requires size { IsOfSize (length qp.now.counts) row.now }
+    ensures { IsDecided (CertFits (hold_system qp.now (way_rows tree.now way.now) row.now) cert.now)
+        (CertRefutes (hold_system qp.now (way_rows tree.now way.now) row.now) cert.now) place result }
+{
+    zero_laws();
+    fit_laws();
+    let rows = 2 * qp.counts.len() as u128 + way.len() as u128 + 1;
+    if !has_positions_in(cert, rows) {
+        return Ok(false);
+    }
+    if let Some(yes) = is_refuted_in_wholes(qp, tree, way, row, cert) {
+        return Ok(yes);
+    }
+    let mut last = Rows::new(alloc);
+    last.push(broken_row(alloc, row)?)?;
+    is_refuted(alloc, qp, tree, way, 0, last.as_slice(), cert, place)
 }

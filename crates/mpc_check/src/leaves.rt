@@ -1,21 +1,25 @@
 //! The conditions on the leaves of the tree: that each certificate refutes what it claims to have no point.
 
-ghost use Rattle.std.specs.Prelude.{◌+◌, ◌<◌, All, length};
+ghost use Rattle.std.specs.Prelude.{◌≡◌, ◌+◌, ◌<◌, ◌≤◌, All, IfSome, Some, length, slice_get};
+ghost use Rattle.std.specs.Global.{Vec};
 ghost use Rattle.mpc_space.specs.Matrix.{height};
 ghost use Rattle.mpc_rows.specs.Laws.{HasLawShape};
+ghost use Rattle.mpc_rows.specs.declared.laws.Law.{Law};
 ghost use Rattle.mpc_rows.specs.declared.places.Place.TheVariants.{CheckLeaf};
 ghost use Rattle.mpc_systems.specs.Systems.{joint_system};
+ghost use Rattle.mpc_check.specs.Borders.{IsFormed, IsFormedOfSize, AreFormed, AreBorders};
 ghost use Rattle.mpc_check.specs.Certs.{CertFits, CertRefutes};
+ghost use Rattle.mpc_check.specs.declared.borders.Formed.{Formed};
 ghost use Rattle.mpc_check.specs.Findings.{IsSearched, IsDecided};
 ghost use Rattle.mpc_check.specs.LeafConditions.{RowFits, RowHolds, LawLeafMet, LawLeafFinds, EmptyLeafMet, EmptyLeafFinds, NodeMet, NodeFinds};
 ghost use Rattle.mpc_check.specs.Ways.{HasSplitRow, NamesLaw, IsTurn, way_rows};
 
 use crate::answers::{CheckError, Spot};
-use crate::certs::is_refuted;
+use crate::borders::{Formed, form_rows};
+use crate::certs::{is_broken_refuted, is_refuted};
 use crate::ways::Turn;
-use mpc_linear::LinearError;
-use mpc_rows::{Cert, Certs, Law, LawTable, Node, Place, Qp, Rows, Tree, law_laws, law_row};
-use mpc_systems::{broken_row, cell_laws, joint_rows};
+use mpc_rows::{Cert, Certs, LawTable, Node, Place, Qp, Tree, law_laws};
+use mpc_systems::{cell_laws, joint_rows};
 use std::alloc::Global;
 
 /// Whether row i of the leaf's law, counted from 0, has a certificate that it holds on the leaf's cell.
@@ -24,60 +28,51 @@ fn is_row_refuted(
     qp: &Qp,
     tree: &Tree,
     way: &[Turn],
-    law: &Law,
+    formed: &Formed,
     certs: &Certs,
     number: u64,
     i: u32,
 ) -> Result<bool, CheckError>
-    requires shape { HasLawShape qp.now law.now }
     requires row { i < height qp.now.g }
+    requires size { IsFormedOfSize (length qp.now.counts) formed.now }
     requires way { All (IsTurn tree.now) way.now }
     requires splits { All (HasSplitRow (length qp.now.counts)) tree.now }
-    ensures { IsDecided (RowFits qp.now (way_rows tree.now way.now) law.now certs.now i)
-        (RowHolds qp.now (way_rows tree.now way.now) law.now certs.now i) (CheckLeaf number (i + 1)) result }
+    ensures { (law : Law) → IsFormed qp.now law i formed.now
+        → IsDecided (RowFits qp.now (way_rows tree.now way.now) law certs.now i)
+        (RowHolds qp.now (way_rows tree.now way.now) law certs.now i) (CheckLeaf number (i + 1)) result }
 {
     law_laws();
     let place = Place::CheckLeaf(number, i + 1);
-    let row = match law_row(alloc, qp, law, i + 1) {
-        Ok(row) => row,
-        Err(LinearError::Wide(_)) => return Err(CheckError::Wide(place)),
-        Err(LinearError::NoMemory) => return Err(CheckError::NoMemory),
+    let row = match formed {
+        Formed::Row(row) => row,
+        Formed::Wide => return Err(CheckError::Wide(place)),
     };
     if i as usize >= certs.len() {
         return Ok(false);
     }
-    let mut last = Rows::new(alloc);
-    last.push(broken_row(alloc, &row)?)?;
-    is_refuted(
-        alloc,
-        qp,
-        tree,
-        way,
-        0,
-        last.as_slice(),
-        certs.at(i as usize),
-        place,
-    )
+    is_broken_refuted(alloc, qp, tree, way, row, certs.at(i as usize), place)
 }
 
-/// What is found of a leaf with a law, row by row.
+/// What is found of a leaf with the law of these rows, row by row.
 fn search_law_leaf(
     alloc: Global,
     qp: &Qp,
     tree: &Tree,
     way: &[Turn],
-    law: &Law,
+    rows: &[Formed],
     certs: &Certs,
     number: u64,
 ) -> Result<Option<Spot>, CheckError>
-    requires shape { HasLawShape qp.now law.now }
+    requires one_each { height qp.now.g ≤ length rows.now }
+    requires sizes { All (IsFormedOfSize (length qp.now.counts)) rows.now }
     requires way { All (IsTurn tree.now) way.now }
     requires splits { All (HasSplitRow (length qp.now.counts)) tree.now }
-    ensures { IsSearched (LawLeafMet qp.now (way_rows tree.now way.now) law.now certs.now)
-        (LawLeafFinds qp.now (way_rows tree.now way.now) number law.now certs.now) result }
+    ensures { (law : Law) → AreFormed qp.now law rows.now
+        → IsSearched (LawLeafMet qp.now (way_rows tree.now way.now) law certs.now)
+        (LawLeafFinds qp.now (way_rows tree.now way.now) number law certs.now) result }
 {
     for i in 0..qp.g.rows() {
-        match is_row_refuted(alloc, qp, tree, way, law, certs, number, i) {
+        match is_row_refuted(alloc, qp, tree, way, &rows[i as usize], certs, number, i) {
             Ok(true) => {}
             Ok(false) => {
                 return Ok(Some(Spot::LeafRow {
@@ -133,17 +128,31 @@ fn search_empty_leaf(
     }
 }
 
-/// What is found of a node with this number, at the end of this way.
+/// The rows of the law at a place, counted from 0, where all of them are formed.
+fn rows_at(borders: &[Vec<Formed>], place: usize, count: usize) -> Option<&[Formed]>
+    ensures at { IfSome result (λ r. (rows : Vec Formed) × (slice_get borders.now place ≡ Some rows) × (r.now ≡ rows.items)) }
+    ensures count { IfSome result (λ r. count ≤ length r.now) }
+{
+    let rows = borders.get(place)?.as_slice();
+    if rows.len() < count {
+        return None;
+    }
+    Some(rows)
+}
+
+/// What is found of a node with this number, at the end of this way. Where the rows of a leaf's law aren't formed yet, they are formed here.
 pub(crate) fn search_node(
     alloc: Global,
     qp: &Qp,
     laws: &LawTable,
+    borders: &[Vec<Formed>],
     tree: &Tree,
     way: &[Turn],
     node: &Node,
     number: u64,
 ) -> Result<Option<Spot>, CheckError>
     requires shapes { All (HasLawShape qp.now) laws.now }
+    requires borders { AreBorders qp.now laws.now borders.now }
     requires named { NamesLaw (length laws.now) node.now }
     requires way { All (IsTurn tree.now) way.now }
     requires splits { All (HasSplitRow (length qp.now.counts)) tree.now }
@@ -154,7 +163,13 @@ pub(crate) fn search_node(
         Node::Split(_) => Ok(None),
         Node::Law { law, certs } => {
             let of_leaf = laws.at(*law as usize - 1);
-            search_law_leaf(alloc, qp, tree, way, of_leaf, certs, number)
+            match rows_at(borders, *law as usize - 1, qp.g.rows() as usize) {
+                Some(rows) => search_law_leaf(alloc, qp, tree, way, rows, certs, number),
+                None => {
+                    let rows = form_rows(alloc, qp, of_leaf)?;
+                    search_law_leaf(alloc, qp, tree, way, rows.as_slice(), certs, number)
+                }
+            }
         }
         Node::NoMove { cert } => search_empty_leaf(alloc, qp, tree, way, cert, number),
     }

@@ -3,6 +3,7 @@
 #![tactic(auto)]
 
 mod answers;
+mod borders;
 mod certs;
 mod checks;
 mod gradients;
@@ -13,6 +14,7 @@ mod stretches;
 #[cfg(test)]
 mod tests;
 mod ways;
+mod whole_sums;
 
 pub use answers::{Answer, CheckError, Spot};
 pub use checks::{check, check_alone};

@@ -1,12 +1,14 @@
 //! The conditions on a stretch of neighbouring nodes of the tree. Each stretch is checked for itself, from its first place to before its last.
 
 ghost use Rattle.std.specs.Prelude.{◌≡◌, ◌<◌, ◌≤◌, ◌↔◌, Ok, None, All, IfOk, IsTrue, length, vec_len};
+ghost use Rattle.mpc_check.specs.Borders.{AreBorders};
 ghost use Rattle.mpc_check.specs.Findings.{IsSearched};
 ghost use Rattle.mpc_check.specs.LeafConditions.{NodeAtMet, NodeAtFinds, StretchMet, StretchFinds, TreeMet, TreeFinds};
 ghost use Rattle.mpc_check.specs.Stretches.{HaveProgramShapes, IsStretchOf, AreNeighbours, AnswersAsOne};
 ghost use Rattle.mpc_check.specs.Ways.{IsWay};
 
 use crate::answers::{CheckError, Spot};
+use crate::borders::{Formed, form_borders};
 use crate::leaves::search_node;
 use crate::ways::{Turn, go_on, way_to};
 use mpc_frac::NoMemory;
@@ -33,18 +35,20 @@ fn search_place(
     alloc: Global,
     qp: &Qp,
     laws: &LawTable,
+    borders: &[Vec<Formed>],
     tree: &Tree,
     way: &[Turn],
     place: usize,
 ) -> Result<Option<Spot>, CheckError>
     requires shapes { HaveProgramShapes qp.now laws.now tree.now }
+    requires borders { AreBorders qp.now laws.now borders.now }
     requires way { IsWay tree.now place way.now }
     requires inside { place < length tree.now }
     ensures { IsSearched (NodeAtMet qp.now laws.now tree.now place) (NodeAtFinds qp.now laws.now tree.now place) result }
 {
     prove!(place < tree.len());
     let number = place as u64 + 1;
-    search_node(alloc, qp, laws, tree, way, tree.at(place), number)
+    search_node(alloc, qp, laws, borders, tree, way, tree.at(place), number)
 }
 
 /// What is found of a stretch of the tree, node by node in preorder. It begins with its own copy of the way from the root to its first node.
@@ -52,16 +56,18 @@ fn search_stretch(
     alloc: Global,
     qp: &Qp,
     laws: &LawTable,
+    borders: &[Vec<Formed>],
     tree: &Tree,
     stretch: Stretch,
 ) -> Result<Option<Spot>, CheckError>
     requires shapes { HaveProgramShapes qp.now laws.now tree.now }
+    requires borders { AreBorders qp.now laws.now borders.now }
     requires stretch { IsStretchOf (length tree.now) stretch }
     ensures { IsSearched (StretchMet qp.now laws.now tree.now stretch.from stretch.to) (StretchFinds qp.now laws.now tree.now stretch.from stretch.to) result }
 {
     let mut way = way_to(alloc, tree, stretch.from)?;
     for k in stretch.from..stretch.to {
-        match search_place(alloc, qp, laws, tree, way.as_slice(), k) {
+        match search_place(alloc, qp, laws, borders, tree, way.as_slice(), k) {
             Ok(None) => {}
             Ok(Some(spot)) => return Ok(Some(spot)),
             Err(error) => return Err(error),
@@ -81,11 +87,12 @@ pub fn search_tree(
     requires shapes { HaveProgramShapes qp.now laws.now tree.now }
     ensures { IsSearched (TreeMet qp.now laws.now tree.now) (TreeFinds qp.now laws.now tree.now) result }
 {
+    let borders = form_borders(alloc, qp, laws, tree)?;
     let whole = Stretch {
         from: 0,
         to: tree.len(),
     };
-    search_stretch(alloc, qp, laws, tree, whole)
+    search_stretch(alloc, qp, laws, borders.as_slice(), tree, whole)
 }
 
 /// The tree cut into neighbouring stretches of nearly the same length: into one where there are few nodes.
@@ -130,7 +137,7 @@ fn first_answer(answers: &[Result<Option<Spot>, CheckError>]) -> Result<Option<S
 }
 
 /// What is found of the tree: its stretches are checked side by side, each in a thread of its own where one can be started, and else by the
-/// caller. It waits for no lock.
+/// caller. They share the rows of the laws. It waits for no lock.
 pub fn search_tree_in_threads<T: Threads + Sync>(
     rt: &T,
     alloc: Global,
@@ -141,8 +148,10 @@ pub fn search_tree_in_threads<T: Threads + Sync>(
     requires shapes { HaveProgramShapes qp.now laws.now tree.now }
     ensures { IsSearched (TreeMet qp.now laws.now tree.now) (TreeFinds qp.now laws.now tree.now) result }
 {
+    let formed = form_borders(alloc, qp, laws, tree)?;
+    let borders = formed.as_slice();
     let stretches = stretches(alloc, tree)?;
-    let search = |stretch: Stretch| search_stretch(alloc, qp, laws, tree, stretch);
+    let search = |stretch: Stretch| search_stretch(alloc, qp, laws, borders, tree, stretch);
     match thread::map_vec(rt, stretches, &search) {
         Ok(answers) => first_answer(answers.as_slice()),
         Err(_) => Err(CheckError::NoMemory),

@@ -1,13 +1,48 @@
-use Rattle.std.proofs.Common.{◌+◌, Ok, subst}
-use Rattle.mpc_check.specs.Findings.{IsDecided}
-use Rattle.mpc_check.specs.LeafConditions.{RowFits, RowHolds, LeafRowMet}
-use Rattle.mpc_check.specs.Ways.{way_rows}
+use Rattle.std.proofs.Common.{◌+◌, Ok, refl, subst, arith}
+use Rattle.std.proofs.lemmas.Option.{slice_get_read}
+use Rattle.mpc_space.specs.Matrix.{height}
 use Rattle.mpc_rows.specs.declared.places.Place.TheVariants.{CheckLeaf}
-use Rattle.mpc_check.proofs.FindingLemmas.{each_more}
+use Rattle.mpc_check.specs.declared.answers.Spot.TheVariants.{LeafRow}
+use Rattle.mpc_check.specs.Borders.{IsFormed}
+use Rattle.mpc_check.specs.Findings.{IsDecided}
+use Rattle.mpc_check.specs.LeafConditions.{RowFits, RowHolds, LeafRowMet, LeafRowFinds}
+use Rattle.mpc_check.specs.Ways.{way_rows}
+use Rattle.mpc_check.proofs.FindingLemmas.{each_more, each_done, first_error, first_spot, condition_error}
 use Rattle.mpc_check.proofs.leaves.search_law_leaf.Goals as goal
 
-pub loop-i-preserved : goal.loop-i-preserved
-loop-i-preserved c =
+pub bounds-rows-i : goal.bounds-rows-i
+bounds-rows-i c = omega (arith, c.requires.one_each, c.rows-i-end.ensures.value, c.loop-i-test.true)
+
+pub returns-in-Ok-false : goal.returns-in-Ok-false
+returns-in-Ok-false c law formed =
+    let qp = c.args.qp.now in
     let path = way_rows c.args.tree.now c.args.way.now in
-    each_more (LeafRowMet c.args.qp.now path c.args.law.now c.args.certs.now) c.loop-i.i c.loop-i.invariant
-    (subst (λ found. IsDecided (RowFits c.args.qp.now path c.args.law.now c.args.certs.now c.loop-i.i) (RowHolds c.args.qp.now path c.args.law.now c.args.certs.now c.loop-i.i) (CheckLeaf c.args.number (c.loop-i.i + 1)) (Ok found)) c.in-Ok-true.field-0-test c.in-Ok-true.ensures)
+    let i = c.loop-i.i in
+    let here : IsFormed qp law i c.index-rows-i.result = formed i c.index-rows-i.result (slice_get_read c.args.rows.now _ i c.index-rows-i.result refl (omega (arith, c.requires.one_each, c.rows-i-end.ensures.value, c.loop-i-test.true)) c.index-rows-i.is) in
+    let decided = subst (λ found. IsDecided (RowFits qp path law c.args.certs.now i) (RowHolds qp path law c.args.certs.now i) (CheckLeaf c.args.number (i + 1)) (Ok found)) c.in-Ok-false.field-0-test (c.in-Ok-false.ensures law here) in
+    first_spot (LeafRowMet qp path law c.args.certs.now) (LeafRowFinds qp path c.args.number law c.args.certs.now) (height qp.g) i (omega (arith, c.rows-i-end.ensures.value, c.loop-i-test.true)) (c.loop-i.invariant law formed) (LeafRow c.args.number (i + 1))
+    (refl, decided.0, decided.1)
+
+pub returns-in-Err : goal.returns-in-Err
+returns-in-Err c law formed =
+    let qp = c.args.qp.now in
+    let path = way_rows c.args.tree.now c.args.way.now in
+    let i = c.loop-i.i in
+    let here : IsFormed qp law i c.index-rows-i.result = formed i c.index-rows-i.result (slice_get_read c.args.rows.now _ i c.index-rows-i.result refl (omega (arith, c.requires.one_each, c.rows-i-end.ensures.value, c.loop-i-test.true)) c.index-rows-i.is) in
+    first_error (LeafRowMet qp path law c.args.certs.now) (LeafRowFinds qp path c.args.number law c.args.certs.now) (height qp.g) i (omega (arith, c.rows-i-end.ensures.value, c.loop-i-test.true)) (c.loop-i.invariant law formed) c.in-Err.error
+    (condition_error (RowFits qp path law c.args.certs.now i) (RowHolds qp path law c.args.certs.now i) (LeafRow c.args.number (i + 1)) (CheckLeaf c.args.number (i + 1)) c.in-Err.error (c.in-Err.ensures law here))
+
+pub loop-i-preserved : goal.loop-i-preserved
+loop-i-preserved c law formed =
+    let qp = c.args.qp.now in
+    let path = way_rows c.args.tree.now c.args.way.now in
+    let i = c.loop-i.i in
+    let here : IsFormed qp law i c.index-rows-i.result = formed i c.index-rows-i.result (slice_get_read c.args.rows.now _ i c.index-rows-i.result refl (omega (arith, c.requires.one_each, c.rows-i-end.ensures.value, c.loop-i-test.true)) c.index-rows-i.is) in
+    each_more (LeafRowMet qp path law c.args.certs.now) i (c.loop-i.invariant law formed)
+    (subst (λ found. IsDecided (RowFits qp path law c.args.certs.now i) (RowHolds qp path law c.args.certs.now i) (CheckLeaf c.args.number (i + 1)) (Ok found)) c.in-Ok-true.field-0-test (c.in-Ok-true.ensures law here))
+
+pub returns : goal.returns
+returns c law formed =
+    let qp = c.args.qp.now in
+    let path = way_rows c.args.tree.now c.args.way.now in
+    each_done (LeafRowMet qp path law c.args.certs.now) c.loop-i.i (height qp.g) (omega (arith, c.rows-i-end.ensures.value, c.loop-i-test.false)) (c.loop-i.invariant law formed)

@@ -1,7 +1,9 @@
+use Rattle.mpc_check.specs.Borders.{AreFormed}
 use Rattle.mpc_check.specs.Findings.{Each}
 use Rattle.mpc_check.specs.LeafConditions.{LeafRowMet}
 use Rattle.mpc_check.specs.Ways.{way_rows}
+use Rattle.mpc_rows.specs.declared.laws.Law.{Law}
 use Rattle.mpc_check.proofs.leaves.search_law_leaf.Given as goal
 
 abbrev pub invariant-loop-i : goal.invariant-loop-i
-invariant-loop-i l = Each (LeafRowMet l.qp (way_rows l.tree l.way) l.law l.certs) l.i
+invariant-loop-i l = (law : Law) → AreFormed l.qp law l.rows → Each (LeafRowMet l.qp (way_rows l.tree l.way) law l.certs) l.i

@@ -1,0 +1,441 @@
+//! The test of a certificate in whole numbers, over one denominator of all its multipliers. It needs no memory, and gives up where a number
+//! is too large for it.
+
+ghost use Rattle.std.specs.Prelude.{◌≡◌, ℕ, ◌+◌, ◌*◌, ◌/◌, ◌^◌, ◌<◌, ◌≤◌, ◌↔◌, All, IfSome, IsTrue, List, cond, false, length, nat_lt, pos, slice_index_or, true, unsigned_abs, ◌+ℤ◌, ◌*ℤ◌, ◌<ℤ◌};
+ghost use Rattle.std.specs.Int.{◌∣◌};
+ghost use Rattle.mpc_exact.specs.Rational.{frac, int, IsNonneg, ◌<ℚ◌};
+ghost use Rattle.mpc_space.specs.Vector.{AllNonneg, dot};
+ghost use Rattle.mpc_linear.specs.Dot.{DotFits};
+ghost use Rattle.mpc_linear.specs.declared.integers.RowInt.{RowInt};
+ghost use Rattle.mpc_rows.specs.declared.trees.Node.{Node};
+ghost use Rattle.mpc_rows.specs.LawRows.{whole_row, broken_row};
+ghost use Rattle.mpc_rows.specs.LinearSystem.{height, no_row};
+ghost use Rattle.mpc_rows.specs.Refutation.{ColumnsFit, CombinesToZero, Refutes, SumsFit, WeighsStrict};
+ghost use Rattle.mpc_rows.specs.SetRuns.{axis, box_rows};
+ghost use Rattle.mpc_systems.specs.Systems.{hold_system};
+ghost use Rattle.mpc_systems.specs.Writing.{IsOfSize};
+ghost use Rattle.mpc_check.specs.Certs.{HasPositionsIn};
+ghost use Rattle.mpc_check.specs.Columns.{number_in, IsColumnOf, picked_column, HasDenomIn};
+ghost use Rattle.mpc_check.specs.Picks.{picked_rows, picked_system, weights};
+ghost use Rattle.mpc_check.specs.Ways.{HasSplitRow, IsTurn, side_row, turn_row, way_rows};
+
+use crate::ways::Turn;
+use mpc_frac::{Frac, greatest_common_divisor};
+use mpc_linear::{RowInt, sum_laws};
+use mpc_rows::{Cert, Counts, Node, Qp, Tree};
+
+/// The greatest size of the numbers that are multiplied, 2^62.
+const MOST: u128 = 0x4000_0000_0000_0000;
+
+/// The greatest size of a sum of products, 2^126.
+const MOST_IN_SUM: u128 = 0x4000_0000_0000_0000_0000_0000_0000_0000;
+
+/// The numbers of rows that are added up.
+#[derive(Clone, Copy, Debug, Drop)]
+pub(crate) enum Column {
+    /// The coefficients on this unknown, counted from 0.
+    Unknown(usize),
+    /// The right sides.
+    Sides,
+}
+
+// ---- the numbers of the rows
+
+/// Entry j of the vector that is 0 but for the entry i.
+fn axis_number(i: usize, j: usize, value: i128) -> i128
+    ensures { result ≡ cond (nat_lt i j) (pos 0) (cond (nat_lt j i) (pos 0) value) }
+{
+    if i < j || j < i { 0 } else { value }
+}
+
+/// The number in a column of the row `value t_i <= side`.
+fn axis_row_number(i: usize, value: i128, side: i128, column: Column) -> i128
+    ensures { (width : ℕ) → IsColumnOf width column
+        → int result ≡ number_in column (record { a = axis width i (int value); b = int side; strict = false }) }
+{
+    match column {
+        Column::Unknown(j) => axis_number(i, j, value),
+        Column::Sides => side,
+    }
+}
+
+/// The number in a column of the row at a place among those of the box.
+fn box_number(counts: &Counts, place: usize, column: Column) -> i128
+    requires place { place < 2 * length counts.now }
+    requires column { IsColumnOf (length counts.now) column }
+    ensures { int result ≡ number_in column (slice_index_or (box_rows (length counts.now) counts.now) place no_row) }
+{
+    let i = place / 2;
+    if place == i + i {
+        axis_row_number(i, -1, 0, column)
+    } else {
+        axis_row_number(i, 1, *counts.at(i) as i128, column)
+    }
+}
+
+/// The number in a column of the row.
+fn row_number(row: &RowInt, column: Column) -> i128
+    requires size { IsOfSize (length row.now.a) row.now }
+    requires column { IsColumnOf (length row.now.a) column }
+    ensures number { int result ≡ number_in column (whole_row row.now) }
+    ensures small { unsigned_abs result < 2 ^ 127 }
+{
+    match column {
+        Column::Unknown(j) => *row.a.at(j),
+        Column::Sides => row.b,
+    }
+}
+
+/// The number in a column of the row, or of the row negated.
+fn side_row_number(row: &RowInt, yes: bool, column: Column) -> i128
+    requires size { IsOfSize (length row.now.a) row.now }
+    requires column { IsColumnOf (length row.now.a) column }
+    ensures { int result ≡ number_in column (side_row yes row.now) }
+{
+    let number = row_number(row, column);
+    if yes { number } else { -number }
+}
+
+/// The number in a column of the row that holds behind a turn.
+fn turn_number(tree: &Tree, turn: Turn, states: usize, column: Column) -> i128
+    requires turn { IsTurn tree.now turn }
+    requires splits { All (HasSplitRow states) tree.now }
+    requires column { IsColumnOf states column }
+    ensures { int result ≡ number_in column (turn_row tree.now turn) }
+{
+    let Node::Split(row) = tree.at(turn.split) else {
+        unreachable!()
+    };
+    side_row_number(row, turn.yes, column)
+}
+
+/// The number in a column of the row at a place of a leaf's system, counted from 0: first those of the box, then those of the way, then the
+/// row that is broken.
+fn number_at(qp: &Qp, tree: &Tree, way: &[Turn], row: &RowInt, place: usize, column: Column) -> i128
+    requires way { All (IsTurn tree.now) way.now }
+    requires splits { All (HasSplitRow (length qp.now.counts)) tree.now }
+    requires size { IsOfSize (length qp.now.counts) row.now }
+    requires place { place < 2 * length qp.now.counts + length way.now + 1 }
+    requires column { IsColumnOf (length qp.now.counts) column }
+    ensures { int result ≡ number_in column (slice_index_or (hold_system qp.now (way_rows tree.now way.now) row.now).rows place no_row) }
+{
+    let states = qp.counts.len();
+    if place < 2 * states {
+        return box_number(&qp.counts, place, column);
+    }
+    let behind = place - 2 * states;
+    if behind < way.len() {
+        return turn_number(tree, way[behind], states, column);
+    }
+    side_row_number(row, false, column)
+}
+
+/// Whether the row at a place of a leaf's system is strict.
+fn is_strict_at(qp: &Qp, way: &[Turn], place: usize) -> bool
+    requires { place < 2 * length qp.now.counts + length way.now + 1 }
+    ensures { (nodes : List Node) (row : RowInt)
+        → result ≡ (slice_index_or (hold_system qp.now (way_rows nodes way.now) row).rows place no_row).strict }
+{
+    let states = qp.counts.len();
+    if place < 2 * states {
+        return false;
+    }
+    let behind = place - 2 * states;
+    if behind < way.len() {
+        return !way[behind].yes;
+    }
+    true
+}
+
+// ---- one denominator
+
+/// The denominator.
+fn denominator(x: &Frac) -> u128
+    ensures value { result ≡ x.now.denom }
+    ensures positive { 0 < result }
+{
+    x.den() as u128
+}
+
+/// The least common multiple, where it is at most 2^62.
+fn common_multiple(a: u64, b: u128) -> Option<u64>
+    requires a_positive { 0 < a }
+    requires b_positive { 0 < b }
+    ensures of_a { IfSome result (λ m. a ∣ m) }
+    ensures of_b { IfSome result (λ m. b ∣ m) }
+    ensures positive { IfSome result (λ m. 0 < m) }
+    ensures small { IfSome result (λ m. m ≤ 2 ^ 62) }
+{
+    let part = u128::from(a) / greatest_common_divisor(u128::from(a), b);
+    match part.checked_mul(b) {
+        Some(multiple) => if multiple <= MOST {
+            Some(multiple as u64)
+        } else {
+            None
+        },
+        None => None,
+    }
+}
+
+/// A common multiple of the denominators of a certificate's multipliers, where it is at most 2^62.
+fn common_denominator(cert: &Cert) -> Option<u64>
+    ensures multiple { IfSome result (λ m. All (HasDenomIn m) cert.now) }
+    ensures positive { IfSome result (λ m. 0 < m) }
+    ensures small { IfSome result (λ m. m ≤ 2 ^ 62) }
+{
+    let mut all = 1;
+    let entries = cert.as_slice();
+    for i in 0..entries.len() {
+        all = common_multiple(all, denominator(&entries[i].1))?;
+    }
+    Some(all)
+}
+
+// ---- small numbers
+
+/// The number in 64 bits.
+fn narrow(z: i128) -> i64
+    requires { unsigned_abs z ≤ 2 ^ 62 }
+    ensures { result ≡ z }
+{
+    z as i64
+}
+
+/// The number, where it is at most 2^62 in size.
+fn small(z: i128) -> Option<i64>
+    ensures value { IfSome result (λ s. s ≡ z) }
+    ensures small { IfSome result (λ s. unsigned_abs s ≤ 2 ^ 62) }
+{
+    if z.unsigned_abs() <= MOST {
+        Some(narrow(z))
+    } else {
+        None
+    }
+}
+
+/// The product, which fits twice the width.
+fn product(x: i64, y: i64) -> i128
+    ensures { result ≡ x *ℤ y }
+{
+    x as i128 * y as i128
+}
+
+/// A number as a signed one.
+fn signed(n: u64) -> i64
+    requires { n ≤ 2 ^ 62 }
+    ensures value { result ≡ pos n }
+    ensures small { unsigned_abs result ≤ 2 ^ 62 }
+{
+    n as i64
+}
+
+/// Whether the fraction is below 0.
+fn is_negative(x: &Frac) -> bool
+    ensures { IsTrue result ↔ (x.now <ℚ int (pos 0)) }
+{
+    x.sign() < 0
+}
+
+/// Whether the fraction is above 0.
+fn is_positive(x: &Frac) -> bool
+    ensures { IsTrue result ↔ (int (pos 0) <ℚ x.now) }
+{
+    x.sign() > 0
+}
+
+/// How often a denominator goes into a multiple of it.
+fn times_in(all: u64, x: &Frac) -> u64
+    requires multiple { x.now.denom ∣ all }
+    requires positive { 0 < all }
+    requires small { all ≤ 2 ^ 62 }
+    ensures value { result ≡ all / x.now.denom }
+    ensures small { result ≤ 2 ^ 62 }
+{
+    all / denominator(x) as u64
+}
+
+/// The numerator of a fraction over a multiple of its denominator, where the fraction isn't negative and the numerator at most 2^62.
+fn weight_over(x: &Frac, all: u64) -> Option<i64>
+    requires multiple { x.now.denom ∣ all }
+    requires positive { 0 < all }
+    requires small { all ≤ 2 ^ 62 }
+    ensures value { IfSome result (λ w. x.now ≡ frac w all) }
+    ensures nonneg { IfSome result (λ _. IsNonneg x.now) }
+    ensures small { IfSome result (λ w. unsigned_abs w ≤ 2 ^ 62) }
+{
+    if is_negative(x) {
+        return None;
+    }
+    let numerator = small(x.num())?;
+    small(product(numerator, signed(times_in(all, x))))
+}
+
+/// The sum, which fits.
+fn sum(x: i128, y: i128) -> i128
+    requires left { unsigned_abs x ≤ 2 ^ 126 }
+    requires right { unsigned_abs y ≤ 2 ^ 125 }
+    ensures { result ≡ x +ℤ y }
+{
+    x + y
+}
+
+/// The sum with one product more, where it is at most 2^126 in size.
+fn add_term(old: i128, weight: i64, number: i64) -> Option<i128>
+    requires old { unsigned_abs old ≤ 2 ^ 126 }
+    requires weight { unsigned_abs weight ≤ 2 ^ 62 }
+    requires number { unsigned_abs number ≤ 2 ^ 62 }
+    ensures value { IfSome result (λ next. next ≡ old +ℤ (weight *ℤ number)) }
+    ensures small { IfSome result (λ next. unsigned_abs next ≤ 2 ^ 126) }
+{
+    let next = sum(old, product(weight, number));
+    if next.unsigned_abs() <= MOST_IN_SUM {
+        Some(next)
+    } else {
+        None
+    }
+}
+
+/// Whether this sum is 0, and those before it are.
+fn stays_zero(zero: bool, sum: i128) -> bool
+    ensures { IsTrue result ↔ (IsTrue zero × (sum ≡ pos 0)) }
+{
+    zero && sum == 0
+}
+
+/// Whether the sum is 0.
+fn is_zero(sum: i128) -> bool
+    ensures { IsTrue result ↔ (sum ≡ pos 0) }
+{
+    sum == 0
+}
+
+/// Whether the sum is below 0.
+fn is_below_zero(sum: i128) -> bool
+    ensures { IsTrue result ↔ (sum <ℤ pos 0) }
+{
+    sum < 0
+}
+
+// ---- the sums of columns
+
+/// The sum of a column of the rows that the certificate names, each times its multiplier, over a common denominator.
+fn column_sum(
+    qp: &Qp,
+    tree: &Tree,
+    way: &[Turn],
+    row: &RowInt,
+    cert: &Cert,
+    all: u64,
+    column: Column,
+) -> Option<i128>
+    requires way { All (IsTurn tree.now) way.now }
+    requires splits { All (HasSplitRow (length qp.now.counts)) tree.now }
+    requires size { IsOfSize (length qp.now.counts) row.now }
+    requires positions { HasPositionsIn (height (hold_system qp.now (way_rows tree.now way.now) row.now)) cert.now }
+    requires column { IsColumnOf (length qp.now.counts) column }
+    requires multiple { All (HasDenomIn all) cert.now }
+    requires positive { 0 < all }
+    requires small { all ≤ 2 ^ 62 }
+    ensures value { IfSome result
+        (λ sum. dot (weights cert.now) (picked_column column (hold_system qp.now (way_rows tree.now way.now) row.now) cert.now) ≡ frac sum all) }
+    ensures fits { IfSome result
+        (λ _. DotFits (weights cert.now) (picked_column column (hold_system qp.now (way_rows tree.now way.now) row.now) cert.now)) }
+    ensures size { IfSome result (λ sum. unsigned_abs sum ≤ 2 ^ 126) }
+    ensures nonneg { IfSome result (λ _. AllNonneg (weights cert.now)) }
+{
+    sum_laws();
+    let mut total: i128 = 0;
+    let entries = cert.as_slice();
+    for i in 0..entries.len() {
+        let place = entries[i].0 as usize - 1;
+        let number = small(number_at(qp, tree, way, row, place, column))?;
+        let weight = weight_over(&entries[i].1, all)?;
+        total = add_term(total, weight, number)?;
+    }
+    Some(total)
+}
+
+/// Whether the left sides, each times its multiplier, sum to 0. The sums of all unknowns are formed.
+fn combines_to_zero(
+    qp: &Qp,
+    tree: &Tree,
+    way: &[Turn],
+    row: &RowInt,
+    cert: &Cert,
+    all: u64,
+) -> Option<bool>
+    requires way { All (IsTurn tree.now) way.now }
+    requires splits { All (HasSplitRow (length qp.now.counts)) tree.now }
+    requires size { IsOfSize (length qp.now.counts) row.now }
+    requires positions { HasPositionsIn (height (hold_system qp.now (way_rows tree.now way.now) row.now)) cert.now }
+    requires multiple { All (HasDenomIn all) cert.now }
+    requires positive { 0 < all }
+    requires small { all ≤ 2 ^ 62 }
+    ensures value { IfSome result
+        (λ zero. IsTrue zero ↔ CombinesToZero (picked_system (hold_system qp.now (way_rows tree.now way.now) row.now) cert.now) (weights cert.now)) }
+    ensures fits { IfSome result
+        (λ _. ColumnsFit (picked_system (hold_system qp.now (way_rows tree.now way.now) row.now) cert.now) (weights cert.now)) }
+{
+    let mut zero = true;
+    for j in 0..qp.counts.len() {
+        let sum = column_sum(qp, tree, way, row, cert, all, Column::Unknown(j))?;
+        zero = stays_zero(zero, sum);
+    }
+    Some(zero)
+}
+
+/// Whether the row at a place of a leaf's system is strict and the multiplier positive.
+fn counts_as_strict(qp: &Qp, way: &[Turn], place: usize, multiplier: &Frac) -> bool
+    requires { place < 2 * length qp.now.counts + length way.now + 1 }
+    ensures { (nodes : List Node) (row : RowInt)
+        → IsTrue result
+        ↔ (((slice_index_or (hold_system qp.now (way_rows nodes way.now) row).rows place no_row).strict ≡ true) × (int (pos 0) <ℚ multiplier.now)) }
+{
+    is_strict_at(qp, way, place) && is_positive(multiplier)
+}
+
+/// Whether a strict row has a positive multiplier.
+fn weighs_strict(qp: &Qp, tree: &Tree, way: &[Turn], row: &RowInt, cert: &Cert) -> bool
+    requires positions { HasPositionsIn (height (hold_system qp.now (way_rows tree.now way.now) row.now)) cert.now }
+    ensures { IsTrue result
+        ↔ WeighsStrict (picked_rows (hold_system qp.now (way_rows tree.now way.now) row.now).rows cert.now) (weights cert.now) }
+{
+    let entries = cert.as_slice();
+    for i in 0..entries.len() {
+        let place = entries[i].0 as usize - 1;
+        if counts_as_strict(qp, way, place, &entries[i].1) {
+            return true;
+        }
+    }
+    false
+}
+
+/// Whether the certificate refutes the system of a leaf in which a row of its law is broken. `None` where a number of the test is too large
+/// for it, or a multiplier is negative.
+pub fn is_refuted_in_wholes(
+    qp: &Qp,
+    tree: &Tree,
+    way: &[Turn],
+    row: &RowInt,
+    cert: &Cert,
+) -> Option<bool>
+    requires way { All (IsTurn tree.now) way.now }
+    requires splits { All (HasSplitRow (length qp.now.counts)) tree.now }
+    requires size { IsOfSize (length qp.now.counts) row.now }
+    requires positions { HasPositionsIn (height (hold_system qp.now (way_rows tree.now way.now) row.now)) cert.now }
+    ensures answer { IfSome result
+        (λ yes. IsTrue yes ↔ Refutes (picked_system (hold_system qp.now (way_rows tree.now way.now) row.now) cert.now) (weights cert.now)) }
+    ensures fits { IfSome result
+        (λ _. SumsFit (picked_system (hold_system qp.now (way_rows tree.now way.now) row.now) cert.now) (weights cert.now)) }
+{
+    let all = common_denominator(cert)?;
+    let zero = combines_to_zero(qp, tree, way, row, cert, all)?;
+    let side = column_sum(qp, tree, way, row, cert, all, Column::Sides)?;
+    if !zero {
+        return Some(false);
+    }
+    if is_zero(side) {
+        return Some(weighs_strict(qp, tree, way, row, cert));
+    }
+    Some(is_below_zero(side))
+}
