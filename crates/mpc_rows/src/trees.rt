@@ -1,6 +1,6 @@
 //! Search trees over the states of a box, with a certificate of what is claimed at each leaf.
 
-ghost use Rattle.std.specs.Prelude.{◌≡◌, ◌<◌, [], ◌∷◌, ◌++◌, ◌↔◌, Some, IsTrue, OnOk, OnErr, length, slice_get};
+ghost use Rattle.std.specs.Prelude.{◌≡◌, ◌<◌, [], ◌∷◌, ◌++◌, ◌↔◌, Some, IsTrue, IfOk, IsOk, OnOk, OnErr, length, slice_get};
 ghost use Rattle.mpc_rows.specs.Certificates.{IsCert};
 
 use mpc_frac::{Frac, NoMemory};
@@ -38,6 +38,17 @@ impl Cert {
     {
         Cert {
             items: Vec::new(alloc),
+        }
+    }
+
+    /// The empty certificate, with room for so many pairs and no more.
+    pub fn with_capacity(alloc: Global, count: usize) -> Result<Self, NoMemory>
+        ensures empty { IfOk result (λ cert. cert ≡ []) }
+        ensures none_needed { count ≡ 0 → IsOk result }
+    {
+        match Vec::with_capacity(alloc, count) {
+            Ok(items) => Ok(Cert { items }),
+            Err(_) => Err(NoMemory),
         }
     }
 
@@ -112,6 +123,17 @@ impl Certs {
         }
     }
 
+    /// The empty list, with room for so many certificates and no more.
+    pub fn with_capacity(alloc: Global, count: usize) -> Result<Self, NoMemory>
+        ensures empty { IfOk result (λ certs. certs ≡ []) }
+        ensures none_needed { count ≡ 0 → IsOk result }
+    {
+        match Vec::with_capacity(alloc, count) {
+            Ok(items) => Ok(Certs { items }),
+            Err(_) => Err(NoMemory),
+        }
+    }
+
     /// How many certificates there are.
     pub fn len(&self) -> usize
         ensures { result ≡ length self.now }
@@ -151,6 +173,13 @@ impl Certs {
         }
         Ok(())
     }
+
+    /// Gives back the room that no certificate takes. The list stays as it is.
+    pub fn shrink_to_fit(&mut self)
+        ensures { self.new ≡ self.old }
+    {
+        self.items.shrink_to_fit();
+    }
 }
 
 /// A node of a search tree (Tøndel, Johansen and Bemporad, 2003).
@@ -187,6 +216,17 @@ impl Tree {
     {
         Tree {
             items: Vec::new(alloc),
+        }
+    }
+
+    /// The empty list, with room for so many nodes and no more.
+    pub fn with_capacity(alloc: Global, count: usize) -> Result<Self, NoMemory>
+        ensures empty { IfOk result (λ tree. tree ≡ []) }
+        ensures none_needed { count ≡ 0 → IsOk result }
+    {
+        match Vec::with_capacity(alloc, count) {
+            Ok(items) => Ok(Tree { items }),
+            Err(_) => Err(NoMemory),
         }
     }
 
@@ -228,6 +268,13 @@ impl Tree {
             return Err(NoMemory);
         }
         Ok(())
+    }
+
+    /// Gives back the room that no node takes. The tree stays as it is.
+    pub fn shrink_to_fit(&mut self)
+        ensures { self.new ≡ self.old }
+    {
+        self.items.shrink_to_fit();
     }
 
     /// Puts the nodes of another tree behind the others, in their order. Without memory the tree stays as it was, and the other is given up.
