@@ -117,8 +117,8 @@ fn share(factor: u128) -> Option<u64>
     if factor > 1 << 62 {
         return None;
     }
-    let most = (1 << 62) / factor;
-    Some(most as u64)
+    let most = (1 << 62) / factor as u64;
+    Some(most)
 }
 
 /// What the numbers of a position may have, if there is room for any.
