@@ -8,7 +8,7 @@ ghost use Rattle.mpc_sweep.specs.Steps.{AreNumbers, AreRows};
 
 use crate::Swept;
 use mpc_frac::NoMemory;
-use mpc_whole::{changed, over_laws, turned};
+use mpc_whole::{Divisor, changed, over_laws, turned};
 use std::alloc::AllocError;
 
 /// The greatest size of a number.
@@ -61,7 +61,7 @@ fn put_other_row(
     numbers: &mut Vec<i64>,
     table: &[i64],
     columns: usize,
-    den: u64,
+    by: Divisor,
     p: usize,
     first: usize,
     i: usize,
@@ -71,10 +71,10 @@ fn put_other_row(
     requires pivot_inside { p * columns + columns ≤ length table.now }
     requires column { p < columns }
     requires small { IsSmall (2 ^ 62) table.now }
-    requires den_some { 0 < den }
-    requires den_small { den ≤ 2 ^ 62 }
-    ensures { IfOk result (λ done. IsTrue done → (base : List ℤ) → AreNumbers columns den table.now p first i first base numbers.old.items → first ≤ columns
-        → AreNumbers columns den table.now p first i columns base numbers.new.items) }
+    requires den_some { 0 < by.den }
+    requires den_small { by.den ≤ 2 ^ 62 }
+    ensures { IfOk result (λ done. IsTrue done → (base : List ℤ) → AreNumbers columns by.den table.now p first i first base numbers.old.items → first ≤ columns
+        → AreNumbers columns by.den table.now p first i columns base numbers.new.items) }
 {
     let start = i * columns;
     let top = p * columns;
@@ -82,7 +82,7 @@ fn put_other_row(
     let size = pivot.unsigned_abs();
     let factor = turned(pivot, table[start + p]);
     for j in first..columns {
-        let Some(z) = changed(table[start + j], factor, table[top + j], size, den, MOST) else {
+        let Some(z) = changed(table[start + j], factor, table[top + j], size, by, MOST) else {
             return Ok(false);
         };
         numbers.push(z)?;
@@ -95,7 +95,7 @@ fn put_row(
     numbers: &mut Vec<i64>,
     table: &[i64],
     columns: usize,
-    den: u64,
+    by: Divisor,
     p: usize,
     first: usize,
     i: usize,
@@ -105,17 +105,17 @@ fn put_row(
     requires column { p < columns }
     requires first { first ≤ columns }
     requires small { IsSmall (2 ^ 62) table.now }
-    requires den_some { 0 < den }
-    requires den_small { den ≤ 2 ^ 62 }
+    requires den_some { 0 < by.den }
+    requires den_small { by.den ≤ 2 ^ 62 }
     requires numbers_small { IsSmall (2 ^ 62) numbers.old.items }
-    ensures { IfOk result (λ done. IsTrue done → AreNumbers columns den table.now p first i columns numbers.old.items numbers.new.items) }
+    ensures { IfOk result (λ done. IsTrue done → AreNumbers columns by.den table.now p first i columns numbers.old.items numbers.new.items) }
 {
     put_first(numbers, table, columns, first, i)?;
     if i == p {
         put_pivot_row(numbers, table, columns, p, first)?;
         return Ok(true);
     }
-    put_other_row(numbers, table, columns, den, p, first, i)
+    put_other_row(numbers, table, columns, by, p, first, i)
 }
 
 /// Puts all rows into the empty list, or some of them where a number isn't small.
@@ -132,9 +132,10 @@ fn put_rows(
     requires empty { numbers.old.items ≡ [] }
     ensures { IfOk result (λ done. IsTrue done → AreRows from.now.columns from.now.den from.now.numbers.items p first from.now.rows numbers.new.items) }
 {
+    let by = Divisor::of(from.den);
     let table = from.numbers.as_slice();
     for i in 0..from.rows {
-        if !put_row(numbers, table, from.columns, from.den, p, first, i)? {
+        if !put_row(numbers, table, from.columns, by, p, first, i)? {
             return Ok(false);
         }
     }

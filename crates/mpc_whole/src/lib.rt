@@ -1,6 +1,7 @@
 //! The simplex run by least numbers in whole numbers over one denominator, as far as they stay small.
 #![tactic(auto)]
 
+mod divisors;
 mod laws;
 mod numbers;
 mod variables;
@@ -13,6 +14,7 @@ mod whole_systems;
 mod whole_turn;
 mod whole_values;
 
+pub use divisors::Divisor;
 pub use laws::over_laws;
 use mpc_rows::{Multipliers, PairPoint};
 pub use numbers::{Standing, zero, zero_pairs, zeros};

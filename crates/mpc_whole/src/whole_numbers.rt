@@ -1,15 +1,19 @@
 //! Sums and quotients of whole numbers.
 
-ghost use Rattle.std.specs.Prelude.{◌≡◌, ℕ, ℤ, pos, ◌+◌, ◌*◌, ◌<◌, ◌≤◌, ◌^◌, ◌+ℤ◌, ◌*ℤ◌, neg_ℤ, unsigned_abs, IfSome, int_div, length};
+ghost use Rattle.std.specs.Prelude.{◌≡◌, ℕ, ℤ, pos, ◌+◌, ◌*◌, ◌<◌, ◌≤◌, ◌^◌, ◌+ℤ◌, ◌*ℤ◌, neg_ℤ, unsigned_abs, IfSome, length};
 ghost use Rattle.mpc_whole.specs.Whole.{whole_total, whole_at, whole_cell, IsSmall, HasRoom, turned};
 
+use crate::divisors::Divisor;
+
 /// The product of two numbers, which fits twice the width.
+#[inline]
 pub(crate) fn product(x: i64, y: i64) -> i128
     ensures { result ≡ x *ℤ y }
 {
     x as i128 * y as i128
 }
 
+#[inline]
 pub(crate) fn narrow(z: i128) -> i64
     requires { unsigned_abs z ≤ 2 ^ 62 }
     ensures { result ≡ z }
@@ -17,6 +21,7 @@ pub(crate) fn narrow(z: i128) -> i64
     z as i64
 }
 
+#[inline]
 pub(crate) fn widened(z: i64) -> i128
     ensures { result ≡ z }
 {
@@ -24,6 +29,7 @@ pub(crate) fn widened(z: i64) -> i128
 }
 
 /// The sum, which fits where both are small.
+#[inline]
 fn sum(x: i128, y: i128) -> i128
     requires left { unsigned_abs x ≤ 2 ^ 125 }
     requires right { unsigned_abs y ≤ 2 ^ 126 }
@@ -33,6 +39,7 @@ fn sum(x: i128, y: i128) -> i128
 }
 
 /// One more product, where the sum stays small.
+#[inline]
 pub(crate) fn added(old: i64, x: i64, y: i64) -> Option<i64>
     requires { unsigned_abs old ≤ 2 ^ 62 }
     ensures value { IfSome result (λ z. z ≡ old +ℤ (x *ℤ y)) }
@@ -46,6 +53,7 @@ pub(crate) fn added(old: i64, x: i64, y: i64) -> Option<i64>
     }
 }
 
+#[inline]
 pub(crate) fn negative(z: i64) -> i64
     requires { unsigned_abs z ≤ 2 ^ 62 }
     ensures value { result ≡ neg_ℤ z }
@@ -55,6 +63,7 @@ pub(crate) fn negative(z: i64) -> i64
 }
 
 /// Minus a number.
+#[inline]
 pub(crate) fn minus(n: u64) -> i64
     requires { n ≤ 2 ^ 40 }
     ensures value { result ≡ neg_ℤ (pos n) }
@@ -64,6 +73,7 @@ pub(crate) fn minus(n: u64) -> i64
 }
 
 /// z, with its sign changed where q is negative.
+#[inline]
 pub fn turned(q: i64, z: i64) -> i64
     requires { unsigned_abs z ≤ 2 ^ 62 }
     ensures value { result ≡ turned q z }
@@ -72,43 +82,8 @@ pub fn turned(q: i64, z: i64) -> i64
     if q < 0 { -z } else { z }
 }
 
-/// z divided by a number, towards 0.
-fn divided(z: i128, by: u128) -> i128
-    requires positive { 0 < by }
-    requires by_small { by < 2 ^ 127 }
-    requires small { unsigned_abs z < 2 ^ 127 }
-    ensures value { result ≡ int_div z (pos by) }
-    ensures small { unsigned_abs result < 2 ^ 127 }
-{
-    z / by as i128
-}
-
-/// A number of 64 bits divided by another, towards 0.
-fn short_divided(z: i64, by: u64) -> i64
-    requires positive { 0 < by }
-    requires by_small { by ≤ 2 ^ 62 }
-    requires small { unsigned_abs z ≤ 2 ^ 62 }
-    ensures value { result ≡ int_div z (pos by) }
-    ensures small { unsigned_abs result ≤ 2 ^ 62 }
-{
-    z / by as i64
-}
-
-/// z divided by a number, towards 0, in 64 bits where that can be.
-fn part(z: i128, by: u64) -> i128
-    requires positive { 0 < by }
-    requires by_small { by ≤ 2 ^ 62 }
-    requires small { unsigned_abs z < 2 ^ 127 }
-    ensures value { result ≡ int_div z (pos by) }
-    ensures small { unsigned_abs result < 2 ^ 127 }
-{
-    if z.unsigned_abs() <= 1 << 62 {
-        return widened(short_divided(narrow(z), by));
-    }
-    divided(z, by as u128)
-}
-
 /// A number that is not negative, as a signed one.
+#[inline]
 pub(crate) fn signed(n: u64) -> i64
     requires { n ≤ 2 ^ 62 }
     ensures value { result ≡ pos n }
@@ -117,27 +92,23 @@ pub(crate) fn signed(n: u64) -> i64
 }
 
 /// The quotient, if it is whole and small.
-fn small_quotient(z: i128, by: u64, most: u64) -> Option<i64>
-    requires positive { 0 < by }
-    requires by_small { by ≤ 2 ^ 62 }
-    requires small { unsigned_abs z < 2 ^ 127 }
+#[inline]
+fn small_quotient(z: i128, by: Divisor, most: u64) -> Option<i64>
+    requires by_small { by.den ≤ 2 ^ 62 }
     requires most_small { most ≤ 2 ^ 62 }
-    ensures value { IfSome result (λ q. q *ℤ pos by ≡ z) }
+    ensures value { IfSome result (λ q. q *ℤ pos by.den ≡ z) }
     ensures small { IfSome result (λ q. unsigned_abs q ≤ most) }
 {
-    if z == 0 {
-        return Some(0);
-    }
-    let quotient = part(z, by);
-    if quotient.unsigned_abs() > most as u128 {
+    let q = by.guess(z);
+    if q.unsigned_abs() > most {
         return None;
     }
-    let q = narrow(quotient);
-    let back = product(q, signed(by));
+    let back = product(q, signed(by.den));
     if back == z { Some(q) } else { None }
 }
 
 /// `v q - k x`.
+#[inline]
 fn difference(v: i64, k: i64, x: i64, q: u64) -> i128
     requires v_small { unsigned_abs v ≤ 2 ^ 62 }
     requires k_small { unsigned_abs k ≤ 2 ^ 62 }
@@ -153,18 +124,19 @@ fn difference(v: i64, k: i64, x: i64, q: u64) -> i128
 
 /// `(v q - k x) / den`, the number of a column that stays after a pivot on q (Bareiss 1968), if it is whole
 /// and small.
-pub fn changed(v: i64, k: i64, x: i64, q: u64, den: u64, most: u64) -> Option<i64>
-    requires den_some { 0 < den }
-    requires den_small { den ≤ 2 ^ 62 }
+#[inline]
+pub fn changed(v: i64, k: i64, x: i64, q: u64, by: Divisor, most: u64) -> Option<i64>
+    requires den_some { 0 < by.den }
+    requires den_small { by.den ≤ 2 ^ 62 }
     requires q_small { q ≤ 2 ^ 62 }
     requires v_small { unsigned_abs v ≤ 2 ^ 62 }
     requires k_small { unsigned_abs k ≤ 2 ^ 62 }
     requires x_small { unsigned_abs x ≤ 2 ^ 62 }
     requires most_small { most ≤ 2 ^ 62 }
-    ensures value { IfSome result (λ z. z *ℤ pos den ≡ (v *ℤ pos q) +ℤ neg_ℤ (k *ℤ x)) }
+    ensures value { IfSome result (λ z. z *ℤ pos by.den ≡ (v *ℤ pos q) +ℤ neg_ℤ (k *ℤ x)) }
     ensures small { IfSome result (λ z. unsigned_abs z ≤ most) }
 {
-    small_quotient(difference(v, k, x, q), den, most)
+    small_quotient(difference(v, k, x, q), by, most)
 }
 
 /// The row i of a times the numbers of a list.

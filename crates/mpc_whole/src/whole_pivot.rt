@@ -3,9 +3,11 @@
 ghost use Rattle.std.specs.Prelude.{◌≡◌, ◌≢◌, ℕ, ℤ, pos, ◌+◌, ◌*◌, ◌<◌, ◌≤◌, ◌^◌, ◌⊎◌, ◌+ℤ◌, ◌*ℤ◌, neg_ℤ, unsigned_abs, IfSome, length};
 ghost use Rattle.mpc_whole.specs.Whole.{whole_at, whole_cell, IsSmall, IsChanged, IsWholePivot, turned};
 
+use crate::divisors::Divisor;
 use crate::whole_numbers::{changed, turned};
 
 /// The new number of column c in a row, where factor is the one of the column e that enters.
+#[inline]
 fn new_number(
     old: i64,
     factor: i64,
@@ -13,37 +15,37 @@ fn new_number(
     size: u64,
     e: usize,
     c: usize,
-    den: u64,
+    by: Divisor,
     most: u64,
 ) -> Option<i64>
-    requires den_some { 0 < den }
-    requires den_small { den ≤ 2 ^ 62 }
+    requires den_some { 0 < by.den }
+    requires den_small { by.den ≤ 2 ^ 62 }
     requires most_small { most ≤ 2 ^ 62 }
     requires old_small { unsigned_abs old ≤ most }
     requires factor_small { unsigned_abs factor ≤ most }
     requires x_small { unsigned_abs x ≤ 2 ^ 62 }
     requires size_small { size ≤ 2 ^ 62 }
     ensures entering { IfSome result (λ z. c ≡ e → z ≡ factor) }
-    ensures other { IfSome result (λ z. (c ≡ e → ⊥) → z *ℤ pos den ≡ (old *ℤ pos size) +ℤ neg_ℤ (factor *ℤ x)) }
+    ensures other { IfSome result (λ z. (c ≡ e → ⊥) → z *ℤ pos by.den ≡ (old *ℤ pos size) +ℤ neg_ℤ (factor *ℤ x)) }
     ensures small { IfSome result (λ z. unsigned_abs z ≤ most) }
 {
     if c == e {
         return Some(factor);
     }
-    changed(old, factor, x, size, den, most)
+    changed(old, factor, x, size, by, most)
 }
 
 /// Changes row j, where the row x leaves and the column e enters.
-fn change_row(v: &mut [i64], x: &[i64], j: usize, e: usize, den: u64, most: u64) -> Option<()>
+fn change_row(v: &mut [i64], x: &[i64], j: usize, e: usize, by: Divisor, most: u64) -> Option<()>
     requires square { length v.old ≡ length x.now * length x.now }
     requires row { j < length x.now }
     requires column { e < length x.now }
-    requires den_some { 0 < den }
-    requires den_small { den ≤ 2 ^ 62 }
+    requires den_some { 0 < by.den }
+    requires den_small { by.den ≤ 2 ^ 62 }
     requires most_small { most ≤ 2 ^ 62 }
     requires small { IsSmall most v.old }
     requires row_small { IsSmall (2 ^ 62) x.now }
-    ensures cells { IfSome result (λ _. (c : ℕ) → c < length x.now → IsChanged (length x.now) den v.old x.now j e c (whole_cell (length x.now) v.new j c)) }
+    ensures cells { IfSome result (λ _. (c : ℕ) → c < length x.now → IsChanged (length x.now) by.den v.old x.now j e c (whole_cell (length x.now) v.new j c)) }
     ensures others { IfSome result (λ _. (k : ℕ) → (k < j * length x.now) ⊎ (j * length x.now + length x.now ≤ k) → whole_at v.new k ≡ whole_at v.old k) }
     ensures small { IfSome result (λ _. IsSmall most v.new) }
 {
@@ -53,7 +55,7 @@ fn change_row(v: &mut [i64], x: &[i64], j: usize, e: usize, den: u64, most: u64)
     let size = pivot.unsigned_abs();
     for c in 0..x.len() {
         let old = v[from + c];
-        let new = new_number(old, factor, x[c], size, e, c, den, most)?;
+        let new = new_number(old, factor, x[c], size, e, c, by, most)?;
         v[from + c] = new;
     }
     Some(())
@@ -71,8 +73,9 @@ pub(crate) fn exchange(v: &mut [i64], x: &[i64], e: usize, den: u64, most: u64) 
     ensures pivot { IfSome result (λ _. IsWholePivot (length x.now) den v.old v.new x.now e) }
     ensures small { IfSome result (λ _. IsSmall most v.new) }
 {
+    let by = Divisor::of(den);
     for j in 0..x.len() {
-        change_row(v, x, j, e, den, most)?;
+        change_row(v, x, j, e, by, most)?;
     }
     Some(())
 }

@@ -24,11 +24,11 @@ loop-j-preserved c = λ base h.
     let back : z ≡ c.in-Some.z = read_small _ c.in-Some.ensures.small in
     let s : unsigned_abs z ≤ 2 ^ 62 = subst (λ u. unsigned_abs u ≤ 2 ^ 62) (sym back) c.in-Some.ensures.small in
     let r : c.push.new.self.items ≡ now ++ z ∷ [] = c.in_ok-push.ensures.items in
-    subst (AreNumbers w c.args.den v p c.args.first i (j + 1) base) (sym r)
-    (one_more w c.args.den v p c.args.first i j base now (c.loop-j.invariant base h) z s
-    (λ k. other_number w c.args.den v p i j _ _ _ z c.unsigned_abs-size.result c.requires.other size f y x (ap (λ u. u *ℤ pos c.args.den) back ∙ c.in-Some.ensures.value)))
+    subst (AreNumbers w c.args.by.den v p c.args.first i (j + 1) base) (sym r)
+    (one_more w c.args.by.den v p c.args.first i j base now (c.loop-j.invariant base h) z s
+    (λ k. other_number w c.args.by.den v p i j _ _ _ z c.unsigned_abs-size.result c.requires.other size f y x (ap (λ u. u *ℤ pos c.args.by.den) back ∙ c.in-Some.ensures.value)))
 
 pub returns : goal.returns
 returns c = λ _ base h k.
     let e : c.loop-j.j ≡ c.args.columns = (let a = c.loop-j.auto.j-end k in let b = c.loop-j-test.false in omega arith) in
-    subst (λ n. AreNumbers c.args.columns c.args.den c.args.table.now c.args.p c.args.first c.args.i n base c.loop-j.numbers.items) e (c.loop-j.invariant base h)
+    subst (λ n. AreNumbers c.args.columns c.args.by.den c.args.table.now c.args.p c.args.first c.args.i n base c.loop-j.numbers.items) e (c.loop-j.invariant base h)
