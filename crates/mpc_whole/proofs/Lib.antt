@@ -27,6 +27,7 @@ pub mod WholeScales
 pub mod WholeForm
 pub mod WholePivot
 pub mod WholeRooms
+pub mod WholeWraps
 pub mod WholeSteps
 pub mod WholeTurns
 pub mod WholeExchange

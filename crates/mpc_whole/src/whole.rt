@@ -32,10 +32,12 @@ fn look(
     n: usize,
     den: u64,
     first: usize,
+    most: u64,
 ) -> Option<Option<usize>>
     requires side { system.now.width ≤ first }
     requires seated { IsSeated (height system.now) system.now.width n seats.now }
     requires whole { IsWholeSystem system.now scales.now a.now b.now }
+    requires bounds { HasBounds system.now scales.now a.now b.now most }
     requires room { HasRoom system.now.width (2 ^ 62) a.now }
     requires square { length v.now ≡ system.now.width * system.now.width }
     requires first_size { length c_1.old ≡ system.now.width }
@@ -50,7 +52,7 @@ fn look(
     ensures second_small { IfSome result (λ _. IsSmall (2 ^ 62) c_2.new) }
 {
     stand(c_1, c_2, system, scales, seats, b, v, n)?;
-    let out = leaving(system, scales, seats, a, b, c_1, c_2, den, n, first);
+    let out = leaving(system, scales, seats, a, b, c_1, c_2, den, n, first, most);
     Some(out)
 }
 
@@ -101,9 +103,7 @@ fn pick(
 ) -> Option<usize>
     requires seated { IsSeated (height system.now) system.now.width n seats.now }
     requires entries { length a.now ≡ height system.now * system.now.width }
-    requires room { HasRoom system.now.width (2 ^ 62) a.now }
     requires square { length v.now ≡ system.now.width * system.now.width }
-    requires small { IsSmall (2 ^ 62) v.now }
     requires row_size { length x.old ≡ system.now.width }
     requires from { system.now.width ≤ l }
     requires below { l < n }
@@ -190,7 +190,9 @@ fn step(
     ensures narrow { IfSome result (λ f. IfNext f (λ p. IsNarrow system.now n seats.new scales.now a.now p.den v.new)) }
 {
     let Place { den, first, .. } = place;
-    let out = look(c_1, c_2, system, scales, seats, a, b, v, n, den, first)?;
+    let out = look(
+        c_1, c_2, system, scales, seats, a, b, v, n, den, first, most,
+    )?;
     let Some(l) = out else {
         return Some(Found::Ended(Ending::Point));
     };

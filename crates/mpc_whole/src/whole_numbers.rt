@@ -1,7 +1,8 @@
 //! Sums and quotients of whole numbers.
 
-ghost use Rattle.std.specs.Prelude.{◌≡◌, ℕ, ℤ, pos, ◌+◌, ◌*◌, ◌<◌, ◌≤◌, ◌^◌, ◌+ℤ◌, ◌*ℤ◌, neg_ℤ, unsigned_abs, IfSome, length};
+ghost use Rattle.std.specs.Prelude.{◌≡◌, ℕ, ℤ, pos, ◌+◌, ◌*◌, ◌<◌, ◌≤◌, ◌^◌, ◌+ℤ◌, ◌*ℤ◌, neg_ℤ, unsigned_abs, IfSome, IsTrue, length};
 ghost use Rattle.mpc_whole.specs.Whole.{whole_total, whole_at, whole_cell, IsSmall, HasRoom, turned};
+ghost use Rattle.std.specs.Int.{w64, int_wrap};
 
 use crate::divisors::Divisor;
 
@@ -139,8 +140,31 @@ pub fn changed(v: i64, k: i64, x: i64, q: u64, by: Divisor, most: u64) -> Option
     small_quotient(difference(v, k, x, q), by, most)
 }
 
-/// The row i of a times the numbers of a list.
-pub(crate) fn row_times(a: &[i64], i: usize, c: &[i64]) -> i128
+/// One more product, modulo 2^64.
+#[inline]
+fn wrapped(total: i64, x: i64, y: i64) -> i64
+    ensures { result ≡ int_wrap w64 (total +ℤ (x *ℤ y)) }
+{
+    total.wrapping_add(x.wrapping_mul(y))
+}
+
+/// The row i of a times the numbers of a list, which fits 64 bits. The sums on the way may wrap.
+#[inline]
+fn short_row_times(a: &[i64], i: usize, c: &[i64]) -> i64
+    requires inside { i * length c.now + length c.now ≤ length a.now }
+    requires result_small { unsigned_abs (whole_total (length c.now) (λ j. whole_cell (length c.now) a.now i j *ℤ whole_at c.now j)) ≤ 2 ^ 62 }
+    ensures { result ≡ whole_total (length c.now) (λ j. whole_cell (length c.now) a.now i j *ℤ whole_at c.now j) }
+{
+    let from = i * c.len();
+    let mut total = 0;
+    for j in 0..c.len() {
+        total = wrapped(total, a[from + j], c[j]);
+    }
+    total
+}
+
+/// The row i of a times the numbers of a list, which need not fit 64 bits.
+fn wide_row_times(a: &[i64], i: usize, c: &[i64]) -> i128
     requires inside { i * length c.now + length c.now ≤ length a.now }
     requires room { HasRoom (length c.now) (2 ^ 62) a.now }
     requires small { IsSmall (2 ^ 62) c.now }
@@ -155,20 +179,35 @@ pub(crate) fn row_times(a: &[i64], i: usize, c: &[i64]) -> i128
     total
 }
 
-/// The row i of a times the column c of v.
+/// The row i of a times the numbers of a list. Where it is known to fit 64 bits, it is formed in 64 bits.
+#[inline]
+pub(crate) fn row_times(a: &[i64], i: usize, c: &[i64], short: bool) -> i128
+    requires inside { i * length c.now + length c.now ≤ length a.now }
+    requires room { HasRoom (length c.now) (2 ^ 62) a.now }
+    requires small { IsSmall (2 ^ 62) c.now }
+    requires result_small { IsTrue short → unsigned_abs (whole_total (length c.now) (λ j. whole_cell (length c.now) a.now i j *ℤ whole_at c.now j)) ≤ 2 ^ 62 }
+    ensures value { result ≡ whole_total (length c.now) (λ j. whole_cell (length c.now) a.now i j *ℤ whole_at c.now j) }
+    ensures small { unsigned_abs result ≤ 2 ^ 124 }
+{
+    if short {
+        return widened(short_row_times(a, i, c));
+    }
+    wide_row_times(a, i, c)
+}
+
+/// The row i of a times the column c of v, which fits 64 bits. The sums on the way may wrap.
+#[inline]
 pub(crate) fn row_times_column(a: &[i64], i: usize, v: &[i64], width: usize, c: usize) -> i64
     requires inside { i * width + width ≤ length a.now }
     requires square { length v.now ≡ width * width }
     requires column { c < width }
-    requires room { HasRoom width (2 ^ 62) a.now }
-    requires small { IsSmall (2 ^ 62) v.now }
     requires result_small { unsigned_abs (whole_total width (λ j. whole_cell width a.now i j *ℤ whole_cell width v.now j c)) ≤ 2 ^ 62 }
     ensures { result ≡ whole_total width (λ j. whole_cell width a.now i j *ℤ whole_cell width v.now j c) }
 {
     let from = i * width;
     let mut total = 0;
     for j in 0..width {
-        total = sum(total, product(a[from + j], v[j * width + c]));
+        total = wrapped(total, a[from + j], v[j * width + c]);
     }
-    narrow(total)
+    total
 }

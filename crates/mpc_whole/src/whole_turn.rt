@@ -1,16 +1,17 @@
 //! Who leaves and who enters, in whole numbers.
 
-ghost use Rattle.std.specs.Prelude.{◌≡◌, ℕ, ℤ, List, pos, ◌+◌, ◌-◌, ◌*◌, ◌<◌, ◌≤◌, ◌^◌, ◌*ℤ◌, unsigned_abs, length, true, false};
+ghost use Rattle.std.specs.Prelude.{◌≡◌, ℕ, ℤ, List, pos, ◌+◌, ◌-◌, ◌*◌, ◌<◌, ◌≤◌, ◌^◌, ◌*ℤ◌, IsTrue, unsigned_abs, length, true, false};
 ghost use Rattle.mpc_rows.specs.LinearSystem.{height};
 ghost use Rattle.mpc_rows.specs.Least.{least};
 ghost use Rattle.mpc_rows.specs.Run.{Position, is_unknown, bound, value, may_leave, may_enter};
 ghost use Rattle.mpc_exact.specs.Pair.{is_below};
 ghost use Rattle.mpc_whole.specs.Table.{seat_at, in_row, IsSeated};
 ghost use Rattle.mpc_whole.specs.Underway.{StayBefore};
-ghost use Rattle.mpc_whole.specs.Whole.{whole_at, whole_cell, whole_total, AreScales, IsSmall, HasRoom, HasSides, HasSideValues, HasBasis, IsRowOf, IsSideRow, side_cell};
+ghost use Rattle.mpc_whole.specs.Whole.{whole_at, whole_cell, whole_total, AreScales, IsSmall, HasRoom, HasBounds, HasSides, HasSideValues, HasBasis, IsRowOf, IsSideRow, side_cell};
 
 use crate::variables::{Seat, column_of, is_basic};
 use crate::whole_numbers::{product, row_times, row_times_column, signed};
+use crate::whole_rows::greatest;
 use crate::whole_systems::WholeSystem;
 use crate::whole_values::step_of;
 
@@ -23,6 +24,7 @@ fn is_out(
     c_1: &[i64],
     c_2: &[i64],
     den: u64,
+    short: bool,
     i: usize,
 ) -> bool
     requires side { i < height system.now }
@@ -34,11 +36,13 @@ fn is_out(
     requires room { HasRoom system.now.width (2 ^ 62) a.now }
     requires first_small { IsSmall (2 ^ 62) c_1.now }
     requires second_small { IsSmall (2 ^ 62) c_2.now }
+    requires first_fits { IsTrue short → unsigned_abs (whole_total system.now.width (λ j. whole_cell system.now.width a.now i j *ℤ whole_at c_1.now j)) ≤ 2 ^ 62 }
+    requires second_fits { IsTrue short → unsigned_abs (whole_total system.now.width (λ j. whole_cell system.now.width a.now i j *ℤ whole_at c_2.now j)) ≤ 2 ^ 62 }
     requires den_small { den ≤ 2 ^ 62 }
     ensures { (p : Position) → 0 < den → HasSideValues system.now scales.now a.now p den c_1.now c_2.now → HasSides system.now scales.now b.now
         → result ≡ is_below (bound system.now (system.now.width + i)) (value system.now p (system.now.width + i)) }
 {
-    let first = row_times(a, i, c_1);
+    let first = row_times(a, i, c_1, short);
     let limit = product(b[i], signed(den));
     if limit < first {
         return true;
@@ -46,13 +50,27 @@ fn is_out(
     if first < limit {
         return false;
     }
-    let second = row_times(a, i, c_2);
+    let second = row_times(a, i, c_2, short);
     let step = step_of(system, scales, i);
     let next = product(step, signed(den));
     if next < second {
         return true;
     }
     false
+}
+
+/// Whether all numbers of both lists are at most so great in size.
+fn are_small(c_1: &[i64], c_2: &[i64], most: u64) -> bool
+    ensures first { IsTrue result → IsSmall most c_1.now }
+    ensures second { IsTrue result → IsSmall most c_2.now }
+{
+    if greatest(c_1) > most {
+        return false;
+    }
+    if greatest(c_2) > most {
+        return false;
+    }
+    true
 }
 
 /// The variable that leaves, from the first on that may.
@@ -67,6 +85,7 @@ pub(crate) fn leaving(
     den: u64,
     n: usize,
     first: usize,
+    most: u64,
 ) -> Option<usize>
     requires side { system.now.width ≤ first }
     requires scales { AreScales system.now scales.now }
@@ -79,15 +98,17 @@ pub(crate) fn leaving(
     requires first_small { IsSmall (2 ^ 62) c_1.now }
     requires second_small { IsSmall (2 ^ 62) c_2.now }
     requires den_small { den ≤ 2 ^ 62 }
+    requires bounds { HasBounds system.now scales.now a.now b.now most }
     ensures { (p : Position) → 0 < den → HasBasis n seats.now p → HasSideValues system.now scales.now a.now p den c_1.now c_2.now → HasSides system.now scales.now b.now
         → StayBefore system.now p first → result ≡ least (may_leave system.now p) n }
 {
     let width = system.unknowns();
+    let short = are_small(c_1, c_2, most);
     for x in first..n {
         if !is_basic(seats, x) {
             continue;
         }
-        if is_out(system, scales, a, b, c_1, c_2, den, x - width) {
+        if is_out(system, scales, a, b, c_1, c_2, den, short, x - width) {
             return Some(x);
         }
     }
@@ -100,8 +121,6 @@ fn side_row(x: &mut [i64], system: &WholeSystem, a: &[i64], v: &[i64], i: usize)
     requires entries { length a.now ≡ height system.now * system.now.width }
     requires square { length v.now ≡ system.now.width * system.now.width }
     requires row_room { length x.old ≡ system.now.width }
-    requires room { HasRoom system.now.width (2 ^ 62) a.now }
-    requires small { IsSmall (2 ^ 62) v.now }
     requires row_small { (c : ℕ) → c < system.now.width → unsigned_abs (whole_total system.now.width (λ j. whole_cell system.now.width a.now i j *ℤ whole_cell system.now.width v.now j c)) ≤ 2 ^ 62 }
     ensures cells { (c : ℕ) → c < system.now.width → whole_at x.new c ≡ whole_total system.now.width (λ j. whole_cell system.now.width a.now i j *ℤ whole_cell system.now.width v.now j c) }
 {
@@ -116,9 +135,7 @@ pub(crate) fn leaving_row(x: &mut [i64], system: &WholeSystem, a: &[i64], v: &[i
     requires from { system.now.width ≤ l }
     requires side { l - system.now.width < height system.now }
     requires entries { length a.now ≡ height system.now * system.now.width }
-    requires room { HasRoom system.now.width (2 ^ 62) a.now }
     requires square { length v.now ≡ system.now.width * system.now.width }
-    requires small { IsSmall (2 ^ 62) v.now }
     requires row_size { length x.old ≡ system.now.width }
     requires row_small { (c : ℕ) → c < system.now.width → unsigned_abs (side_cell system.now a.now v.now (l - system.now.width) c) ≤ 2 ^ 62 }
     ensures row { IsSideRow system.now a.now v.now (l - system.now.width) x.new }

@@ -1,27 +1,21 @@
-use Rattle.std.proofs.Common.{rules, sym, ◌∙◌, ◌+◌, ◌*◌, ◌^◌, ◌*ℤ◌, pos, get_or, ◌≡◌, to_z, of_z, FitsSigned}
-use Rattle.std.specs.Int.{w64, w128}
+use Rattle.std.proofs.Common.{rules, ◌∙◌, ◌≡◌, ◌+◌, ◌*◌, ◌*ℤ◌, pos, get_or, arith, FitsSigned}
+use Rattle.std.specs.Int.{w64}
+use Rattle.std.proofs.lemmas.Int.{to_z-of_z}
 use Rattle.mpc_whole.specs.Whole.{whole_cell}
-use Rattle.mpc_whole.proofs.WholeSums.{whole_total-zero}
-use Rattle.mpc_whole.proofs.WholeRooms.{old_room, term_room, next_total, back128, both_back}
+use Rattle.mpc_whole.proofs.WholeRooms.{back64}
+use Rattle.mpc_whole.proofs.WholeWraps.{first_wrapped, next_wrapped, unwrapped}
 use Rattle.mpc_whole.proofs.whole_numbers.row_times_column.Goals as goal
-use Rattle.mpc_whole.proofs.whole_numbers.row_times_column.Goals.{After-product, After-loop-j}
 
 pub loop-j-init : goal.loop-j-init
-loop-j-init c = sym (whole_total-zero _)
-
-term_is : (c : After-product) → to_z w128 (of_z w128 c.product.result) ≡ whole_cell (c.args.width) c.args.a.now c.args.i c.loop-j.j *ℤ get_or c.args.v.now (c.loop-j.j * c.args.width + c.args.c) (pos 0)
-term_is c =
-    let f : FitsSigned w64 (get_or c.args.a.now (c.args.i * c.args.width + c.loop-j.j) (pos 0)) = search rules in
-    let g : FitsSigned w64 (get_or c.args.v.now (c.loop-j.j * c.args.width + c.args.c) (pos 0)) = search rules in
-    back128 _ c.product.type_inv ∙ both_back _ _ _ f g c.product.ensures
-
-pub sum-total-requires-clause-left : goal.sum-total-requires-clause-left
-sum-total-requires-clause-left c = old_room (c.args.width) (2 ^ 62) c.args.a.now c.args.i (λ j. whole_cell c.args.width c.args.v.now j c.args.c) c.requires.room (λ j. c.requires.small.each (j * c.args.width + c.args.c)) c.loop-j.j c.loop-j-test.true _ (pos 0) (pos 0) c.loop-j.invariant
-
-pub sum-total-requires-clause-right : goal.sum-total-requires-clause-right
-sum-total-requires-clause-right c = term_room (c.args.width) (2 ^ 62) c.args.a.now c.args.i (λ j. whole_cell c.args.width c.args.v.now j c.args.c) c.requires.room (λ j. c.requires.small.each (j * c.args.width + c.args.c)) c.loop-j.j c.loop-j-test.true _ _ (pos 0) c.loop-j.invariant (term_is c)
+loop-j-init c = first_wrapped _
 
 pub loop-j-preserved : goal.loop-j-preserved
 loop-j-preserved c =
-    let at = goal.at.loop-j-preserved c in
-    next_total (c.args.width) (2 ^ 62) c.args.a.now c.args.i (λ j. whole_cell c.args.width c.args.v.now j c.args.c) c.requires.room (λ j. c.requires.small.each (j * c.args.width + c.args.c)) c.loop-j.j c.loop-j-test.true _ _ _ c.loop-j.invariant (term_is at.After-product) (back128 _ c.sum-total.type_inv ∙ c.sum-total.ensures)
+    let f : FitsSigned w64 (get_or c.args.a.now (c.args.i * c.args.width + c.loop-j.j) (pos 0)) = search rules in
+    let g : FitsSigned w64 (get_or c.args.v.now (c.loop-j.j * c.args.width + c.args.c) (pos 0)) = search rules in
+    next_wrapped c.loop-j.j (λ j. whole_cell c.args.width c.args.a.now c.args.i j *ℤ whole_cell c.args.width c.args.v.now j c.args.c) _ _ _ c.loop-j.invariant (λ k. to_z-of_z w64 _ f k *ℤ to_z-of_z w64 _ g k) (back64 _ c.wrapped-total.type_inv ∙ c.wrapped-total.ensures)
+
+pub returns : goal.returns
+returns c =
+    let e : c.loop-j.j ≡ c.args.width = (let a = c.loop-j.auto.j-end in let b = c.loop-j-test.false in omega arith) in
+    unwrapped c.loop-j.j (c.args.width) (λ j. whole_cell c.args.width c.args.a.now c.args.i j *ℤ whole_cell c.args.width c.args.v.now j c.args.c) _ c.loop-j.invariant e c.requires.result_small

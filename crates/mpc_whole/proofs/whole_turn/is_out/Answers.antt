@@ -1,4 +1,4 @@
-use Rattle.std.proofs.Common.{◌≡◌, ◌∙◌, ◌+◌, ◌*ℤ◌, ◌<ℤ◌, ◌≤ℤ◌, ap, subst₂, pos, get_or, FitsSigned, to_z, of_z, rules, ◌<◌, arith}
+use Rattle.std.proofs.Common.{◌≡◌, ◌∙◌, ◌+◌, ◌*ℤ◌, ◌^◌, ◌≤◌, unsigned_abs, ◌<ℤ◌, ◌≤ℤ◌, ap, sym, subst, subst₂, pos, get_or, FitsSigned, to_z, of_z, rules, ◌<◌, arith}
 use Rattle.std.specs.Int.{w64, w128}
 use Rattle.mpc_exact.specs.Rational.{frac}
 use Rattle.mpc_rows.specs.Run.{bound, value}
@@ -8,6 +8,12 @@ use Rattle.mpc_whole.proofs.WholeRooms.{back128, both_back}
 use Rattle.mpc_whole.proofs.WholeTurns.{out_above, out_below, out_next, out_not, lt_so, not_lt_so}
 use Rattle.mpc_whole.proofs.whole_turn.is_out.Goals as goal
 use Rattle.mpc_whole.proofs.whole_turn.is_out.Goals.{After-product-limit, After-product-next}
+
+pub row_times-first-requires-clause-result_small : goal.row_times-first-requires-clause-result_small
+row_times-first-requires-clause-result_small c = λ t. subst (λ w. unsigned_abs (whole_total w (λ j. whole_cell w c.args.a.now c.args.i j *ℤ whole_at c.args.c_1.now j)) ≤ 2 ^ 62) (sym c.requires.first_size) (c.requires.first_fits t)
+
+pub row_times-second-requires-clause-result_small : goal.row_times-second-requires-clause-result_small
+row_times-second-requires-clause-result_small c = λ t. subst (λ w. unsigned_abs (whole_total w (λ j. whole_cell w c.args.a.now c.args.i j *ℤ whole_at c.args.c_2.now j)) ≤ 2 ^ 62) (sym c.requires.second_size) (c.requires.second_fits t)
 
 limit_is : (c : After-product-limit) → to_z w128 (of_z w128 c.product-limit.result) ≡ whole_at c.args.b.now c.args.i *ℤ pos c.args.den
 limit_is c =

@@ -2,10 +2,19 @@ use Rattle.std.proofs.Common.{sym, ◌≡◌, ◌∙◌, ◌+◌, ◌-◌, arith
 use Rattle.mpc_exact.specs.Pair.{is_below}
 use Rattle.mpc_rows.specs.Run.{Position, may_leave, bound, value}
 use Rattle.mpc_whole.specs.Whole.{HasBasis}
+use Rattle.mpc_whole.proofs.WholeWraps.{value_fits}
 use Rattle.mpc_whole.proofs.Table.{least_none, least_some, least_skip, leave_not_basic}
 use Rattle.mpc_whole.proofs.WholeTurns.{none_below, none_up_to, leaves_as}
 use Rattle.mpc_whole.proofs.whole_turn.leaving.Goals as goal
 use Rattle.mpc_whole.proofs.whole_turn.leaving.Goals.{After-is_out}
+
+pub is_out-requires-clause-first_fits : goal.is_out-requires-clause-first_fits
+is_out-requires-clause-first_fits c = λ t.
+    value_fits c.args.system.now c.args.scales.now c.args.a.now c.args.b.now c.args.c_1.now c.args.most c.requires.bounds c.requires.scales (c.are_small-short.ensures.first t) (c.loop-x.x - c.unknowns-width.result)
+
+pub is_out-requires-clause-second_fits : goal.is_out-requires-clause-second_fits
+is_out-requires-clause-second_fits c = λ t.
+    value_fits c.args.system.now c.args.scales.now c.args.a.now c.args.b.now c.args.c_2.now c.args.most c.requires.bounds c.requires.scales (c.are_small-short.ensures.second t) (c.loop-x.x - c.unknowns-width.result)
 
 pub loop-x-init : goal.loop-x-init
 loop-x-init c = λ p some h v w t. none_below (may_leave c.args.system.now p) c.args.first t

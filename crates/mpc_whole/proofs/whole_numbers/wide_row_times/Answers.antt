@@ -3,8 +3,8 @@ use Rattle.std.specs.Int.{w64, w128}
 use Rattle.mpc_whole.specs.Whole.{whole_at, whole_cell}
 use Rattle.mpc_whole.proofs.WholeSums.{whole_total-zero}
 use Rattle.mpc_whole.proofs.WholeRooms.{partial_small, old_room, term_room, next_total, back128, both_back}
-use Rattle.mpc_whole.proofs.whole_numbers.row_times.Goals as goal
-use Rattle.mpc_whole.proofs.whole_numbers.row_times.Goals.{After-product, After-loop-j}
+use Rattle.mpc_whole.proofs.whole_numbers.wide_row_times.Goals as goal
+use Rattle.mpc_whole.proofs.whole_numbers.wide_row_times.Goals.{After-product, After-loop-j}
 
 pub loop-j-init : goal.loop-j-init
 loop-j-init c = sym (whole_total-zero _)
