@@ -1,4 +1,4 @@
-//! Tests of one sweep, with numbers that were worked out by hand.
+//! Tests of one sweep and of exact quotients, with numbers that were worked out by hand.
 
 ghost use Rattle.std.specs.Prelude.{IfOk, IfSome};
 ghost use Rattle.mpc_sweep.specs.Numbers.{IsTable};
@@ -6,6 +6,7 @@ ghost use Rattle.mpc_sweep.specs.Numbers.{IsTable};
 use crate::Swept;
 use mpc_frac::{Frac, NoMemory};
 use mpc_linear::Matrix;
+use mpc_whole::{Divisor, changed};
 use std::alloc::Global;
 use std::test::Fail;
 
@@ -76,4 +77,17 @@ fn sweeps_at_a_negative_pivot(rt: HostRuntime) -> Result<(), Fail> {
     assert!(rt; entry(&swept, 1, 1) == Some((15, 9)));
     assert!(rt; entry(&swept, 1, 2) == Some((1, 9)));
     Ok(())
+}
+
+#[test]
+fn divides_where_that_is_whole_and_small(rt: HostRuntime) {
+    let dozen = Divisor::of(12);
+    assert!(rt; changed(6, 8, 12, 6, dozen, 5) == Some(-5));
+    assert!(rt; changed(6, 8, 12, 6, dozen, 4) == None);
+    assert!(rt; changed(7, 0, 0, 1, dozen, 100) == None);
+    assert!(rt; changed(7, 5, 9, 1, Divisor::of(1), 100) == Some(-38));
+    let large = Divisor::of(3 << 40);
+    let most = 1 << 62;
+    assert!(rt; changed(1 << 62, 0, 0, 3 << 40, large, most) == Some(1 << 62));
+    assert!(rt; changed(-(1 << 61), 3 << 40, 1 << 61, 3 << 40, large, most) == Some(-(1 << 62)));
 }
