@@ -1,12 +1,13 @@
 -- The run of the longer system, step by step: up to the last position of the shorter one, and how it ends where that one is refuted.
-use Rattle.std.proofs.Common.{◌≡◌, ℕ, zero, suc, ◌+◌, ◌-◌, ◌<◌, ◌≤◌, true, cond, eqb, List, ◌++◌, length, get_or, pos, refl, sym, ◌∙◌, ap, subst, subst₂, arith, ◌⊎◌, inl, inr, ne_eqb, length-append}
+use Rattle.std.proofs.Common.{◌≡◌, ℕ, zero, suc, ◌+◌, ◌-◌, ◌<◌, ◌≤◌, true, cond, eqb, List, ◌++◌, length, get_or, ℤ, pos, refl, sym, ◌∙◌, ap, subst, subst₂, arith, ◌⊎◌, inl, inr, ne_eqb, length-append}
 use Rattle.std.proofs.lemmas.Bool.{cond-true, cond-false, cases_lt, both_ways}
 use Rattle.std.proofs.lemmas.List.{get_or_append_left, get_or-append_right, get_or-replicate, get_or_past, length-replicate}
 use Rattle.mpc_exact.specs.Rational.{ℚ, int, neg_ℚ}
 use Rattle.mpc_space.specs.Vector.{coordinate, zeros}
 use Rattle.mpc_rows.specs.declared.systems.Row.{Row}
 use Rattle.mpc_rows.specs.LinearSystem.{LinearSystem, height}
-use Rattle.mpc_rows.specs.Run.{Turn, has_point, is_refuted, count, turn, pivot, position, is_pivot, leaving, entering, GoesOn, steps, last_position, multiplier}
+use Rattle.mpc_rows.specs.Run.{Turn, has_point, is_refuted, count, value, turn, pivot, position, is_pivot, leaving, entering, GoesOn, steps, last_position, multiplier}
+use Rattle.mpc_whole.specs.Whole.{AreValues}
 use Rattle.mpc_whole.specs.Underway.{StayBefore}
 use Rattle.mpc_whole.proofs.WholeTurns.{stay_at_point}
 use Rattle.mpc_whole.specs.RunEnd.{IsMultipliers, EndsRefuted}
@@ -15,7 +16,7 @@ use Rattle.mpc_whole.proofs.Turn.{turn-at}
 use Rattle.mpc_whole.proofs.Positions.{tableau, goes_at, next_position, left_at, entered_at}
 use Rattle.mpc_whole.proofs.Outside.{within}
 use Rattle.mpc_whole.proofs.Ends.{run_ends, Reached, position-zero}
-use Rattle.mpc_beginnings.proofs.Prefix.{opening_agrees, pivot_agrees, turn_agrees, leave_agrees}
+use Rattle.mpc_beginnings.proofs.Prefix.{opening_agrees, pivot_agrees, value_agrees, turn_agrees, leave_agrees}
 
 goes_no_point : (t : Turn) → is_pivot t ≡ true → t ≡ has_point → ⊥
 goes_no_point t g e = both_ways (is_pivot t) (ap is_pivot e) g
@@ -61,6 +62,17 @@ module _ (s : LinearSystem) (more : List Row) where
   pub last_agrees : Agrees (count s) (last_position s) (position (lengthened s more) (steps s))
   unfolding last_position
   last_agrees = positions_agree (steps s) (omega arith)
+
+  same_value : (x : ℕ) → x < count s → value (lengthened s more) (position (lengthened s more) (steps s)) x ≡ value s (position s (steps s)) x
+  same_value x l = value_agrees s more (position s (steps s)) (position (lengthened s more) (steps s)) (within s (steps s)) (tableau (lengthened s more) (steps s)) (positions_agree (steps s) (omega arith)) x l
+
+  -- and there the unknowns have the same values
+  pub values_agree : (d : ℕ) (c_1 c_2 : List ℤ) → AreValues s (last_position s) d c_1 c_2 → AreValues (lengthened s more) (position (lengthened s more) (steps s)) d c_1 c_2
+  unfolding last_position
+  values_agree d c_1 c_2 h = record {
+    first = λ j l. ap (λ q. q.first) (same_value j (omega arith)) ∙ h.first j l;
+    second = λ j l. ap (λ q. q.second) (same_value j (omega arith)) ∙ h.second j l;
+  }
 
   unfoldable pub last_reached : Reached (lengthened s more) (position (lengthened s more) (steps s))
   last_reached = record { after = steps s; order = steps_longer; is = refl }

@@ -11,7 +11,7 @@ use Rattle.mpc_rows.specs.RunWidth.{PositionFits, RunFits}
 use Rattle.mpc_whole.specs.declared.variables.Seat.{Seat}
 use Rattle.mpc_whole.specs.declared.variables.Seat.TheVariants.{Row, Column}
 use Rattle.mpc_whole.specs.Table.{seat_at, in_row}
-use Rattle.mpc_whole.specs.Whole.{whole_cell, scale_at, IsSmall, IsWholeSystem, HasBounds, IsNarrow, IsForm, Stands}
+use Rattle.mpc_whole.specs.Whole.{whole_cell, scale_at, IsSmall, IsWholeSystem, HasBounds, IsNarrow, IsForm, AreValues, Stands}
 use Rattle.mpc_whole.specs.Underway.{StayBefore}
 use Rattle.mpc_whole.proofs.Outside.{within}
 use Rattle.mpc_whole.proofs.Ends.{Reached}
@@ -20,7 +20,7 @@ use Rattle.mpc_whole.proofs.WholeForm.{row_den, den_some, den_small, entries_ove
 use Rattle.mpc_whole.specs.SharedSizes.{IsSmallForm, AreSmallBefore}
 use Rattle.mpc_beginnings.specs.Beginnings.{lengthened, Agrees}
 use Rattle.mpc_beginnings.specs.LongerSeats.{AreLongerSeats}
-use Rattle.mpc_beginnings.proofs.SharedRun.{positions_agree, steps_longer, refuted_steps, refuted_last}
+use Rattle.mpc_beginnings.proofs.SharedRun.{positions_agree, values_agree, steps_longer, refuted_steps, refuted_last}
 
 -- ---- kept sizes within the limit of a system: all fits at the position
 module _ (s : LinearSystem) (k : List ℕ) (a b : List ℤ) (w : IsWholeSystem s k a b) (most : ℕ) (g : HasBounds s k a b most) (hist hist_den scale : ℕ) (scales : (x : ℕ) → scale_at k x ≤ scale) (small : hist ≤ most) (room : hist_den * scale ≤ 2 ^ 62) where
@@ -139,6 +139,11 @@ module _ (s : LinearSystem) (more : List LinearRow) (k further : List ℕ) (same
       module _ (n : ℕ) (whole : n ≡ count s) (seats longer : List Seat) (grown : AreLongerSeats (count s) seats longer) (den : ℕ) (v : List ℤ) (f : IsForm s n seats k den v (last_position s)) (m : ℕ) where
         unfoldable pub stands_longer : Stands (lengthened s more) m longer further den v
         stands_longer = stands_from fits_before n whole seats longer grown den v f m
+
+        -- with the same values of the unknowns
+        pub values_longer : (c_1 c_2 : List ℤ) → AreValues s (last_position s) den c_1 c_2 → AreValues (lengthened s more) (position (lengthened s more) stands_longer.at) den c_1 c_2
+        unfolding stands_longer stands_from
+        values_longer c_1 c_2 h = values_agree s more den c_1 c_2 h
 
         pub before_longer : AreSmallBefore (lengthened s more) further stands_longer.at hist hist_den
         unfolding stands_longer

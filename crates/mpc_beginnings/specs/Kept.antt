@@ -11,18 +11,22 @@ use Rattle.mpc_whole.specs.Whole.{IsSmall, HasBounds}
 use Rattle.mpc_whole.specs.Underway.{StayBefore, IsUnderway, HasEnded}
 use Rattle.mpc_beginnings.specs.Beginnings.{lengthened}
 
--- the seats and the numbers of the last position, by the scales of the system
-pub record IsKept (s : LinearSystem) (k : List ℕ) (seats : List Seat) (v : List ℤ) (p : Place) (end : Ending) : Type 0 where
+-- the seats and the numbers of the last position, by the scales of the system, and both parts of the values of the unknowns there
+pub record IsKept (s : LinearSystem) (k : List ℕ) (seats : List Seat) (v firsts seconds : List ℤ) (p : Place) (end : Ending) : Type 0 where
   pub scales : length k ≡ count s
   pub seated : IsSeated (height s) s.width (count s) seats
   pub square : length v ≡ s.width * s.width
   pub small : IsSmall (2 ^ 62) v
+  pub first_size : length firsts ≡ s.width
+  pub second_size : length seconds ≡ s.width
+  pub first_small : IsSmall (2 ^ 62) firsts
+  pub second_small : IsSmall (2 ^ 62) seconds
   pub den_small : p.den ≤ 2 ^ 62
-  pub ended : HasEnded s (count s) seats k p.den v p.greatest p.greatest_den end
+  pub ended : HasEnded s (count s) seats k p.den v firsts seconds p.greatest p.greatest_den end
 
 -- the run stands here, if the sizes that are kept are within what the numbers of a position may have
-pub record IsUnderwayWithin (s : LinearSystem) (n : ℕ) (seats : List Seat) (k : List ℕ) (a b : List ℤ) (scale den : ℕ) (v : List ℤ) (most most_den first : ℕ) : Type 0 where
-  pub within : (m : ℕ) → HasBounds s k a b m → most ≤ m → most_den * scale ≤ 2 ^ 62 → IsUnderway s n seats k den v most most_den first
+pub record IsUnderwayWithin (s : LinearSystem) (n : ℕ) (seats : List Seat) (k : List ℕ) (a b : List ℤ) (scale den : ℕ) (v firsts seconds : List ℤ) (most most_den first : ℕ) : Type 0 where
+  pub within : (m : ℕ) → HasBounds s k a b m → most ≤ m → most_den * scale ≤ 2 ^ 62 → IsUnderway s n seats k den v firsts seconds most most_den first
 
 -- the second system has further rows behind those of the first
 abbrev pub IsLonger : LinearSystem → LinearSystem → Type 0

@@ -9,15 +9,15 @@ ghost use Rattle.mpc_rows.specs.SetRuns.{turned};
 ghost use Rattle.mpc_whole.specs.declared.variables.Seat.{Seat};
 ghost use Rattle.mpc_whole.specs.Table.{IsSeated};
 ghost use Rattle.mpc_whole.specs.RunEnd.{IsEnd, IsValues, IsMultipliers};
-ghost use Rattle.mpc_whole.specs.Whole.{scale_at, IsSmall, IsNarrow, IsForm, IsWholeSystem, HasBounds, HasRoom};
+ghost use Rattle.mpc_whole.specs.Whole.{scale_at, IsSmall, IsNarrow, IsForm, AreValues, IsWholeSystem, HasBounds, HasRoom};
 ghost use Rattle.mpc_whole.specs.Underway.{turn_of, HasEnded};
 ghost use Rattle.mpc_beginnings.specs.Beginnings.{lengthened};
 ghost use Rattle.mpc_beginnings.specs.Broken.{IsBroken};
 ghost use Rattle.mpc_beginnings.specs.Kept.{IsKept, IsFirstLater, IsLonger, IsUnderwayWithin, IsRefuted};
 
 use crate::lists::{
-    begins_with, first_numbers, first_seats, lengthen, push_rows, push_turned, put_numbers,
-    put_seats, sizes, with_row, with_turned,
+    begins_with, first_numbers, first_seats, first_values, lengthen, push_rows, push_turned,
+    put_numbers, put_seats, sizes, with_row, with_turned,
 };
 use mpc_frac::Frac;
 use mpc_linear::RowInt;
@@ -70,10 +70,13 @@ fn limit_of(
     Some(most)
 }
 
-/// The run from a position to its end, where whole numbers serve for it.
+/// The run from a position to its end, where whole numbers serve for it. The values of the unknowns go with
+/// it.
 fn run_on(
     seats: &mut [Seat],
     v: &mut [i64],
+    firsts: &mut [i64],
+    seconds: &mut [i64],
     work: &mut [i64],
     system: &WholeSystem,
     numbers: &WholeNumbers,
@@ -81,34 +84,37 @@ fn run_on(
     from: Place,
 ) -> Option<(Place, Ending)>
     requires count { n ≡ system.now.width + height system.now }
-    requires lines { system.now.width + (system.now.width + system.now.width) ≤ length work.old }
+    requires line { system.now.width ≤ length work.old }
     requires seated { IsSeated (height system.now) system.now.width n seats.old }
     requires square { length v.old ≡ system.now.width * system.now.width }
+    requires first_size { length firsts.old ≡ system.now.width }
+    requires second_size { length seconds.old ≡ system.now.width }
+    requires first_small { IsSmall (2 ^ 62) firsts.old }
+    requires second_small { IsSmall (2 ^ 62) seconds.old }
     requires whole { IsWholeSystem system.now numbers.now.scales.now numbers.now.a.now numbers.now.b.now }
     requires entries { IsSmall numbers.now.most_entry numbers.now.a.now }
     requires sides { IsSmall numbers.now.most_side numbers.now.b.now }
     requires some_side { 1 ≤ numbers.now.most_side }
     requires scales { (x : ℕ) → scale_at numbers.now.scales.now x ≤ numbers.now.most_scale }
     requires some_scale { 1 ≤ numbers.now.most_scale }
-    requires start { IsUnderwayWithin system.now n seats.old numbers.now.scales.now numbers.now.a.now numbers.now.b.now numbers.now.most_scale from.den v.old from.greatest from.greatest_den from.first }
-    ensures end { IfSome result (λ t. HasEnded system.now n seats.new numbers.now.scales.now t.0.den v.new t.0.greatest t.0.greatest_den t.1) }
+    requires start { IsUnderwayWithin system.now n seats.old numbers.now.scales.now numbers.now.a.now numbers.now.b.now numbers.now.most_scale from.den v.old firsts.old seconds.old from.greatest from.greatest_den from.first }
+    ensures end { IfSome result (λ t. HasEnded system.now n seats.new numbers.now.scales.now t.0.den v.new firsts.new seconds.new t.0.greatest t.0.greatest_den t.1) }
     ensures seated { IfSome result (λ _. IsSeated (height system.now) system.now.width n seats.new) }
     ensures small { IfSome result (λ _. IsSmall (2 ^ 62) v.new) }
     ensures den_small { IfSome result (λ t. t.0.den ≤ 2 ^ 62) }
     ensures room { IfSome result (λ _. HasRoom system.now.width (2 ^ 62) numbers.now.a.now) }
     ensures narrow { IfSome result (λ t. IsNarrow system.now n seats.new numbers.now.scales.now numbers.now.a.now t.0.den v.new) }
+    ensures first_small { IfSome result (λ _. IsSmall (2 ^ 62) firsts.new) }
+    ensures second_small { IfSome result (λ _. IsSmall (2 ^ 62) seconds.new) }
 {
     let most = limit_of(system, numbers, v, n, from)?;
-    let width = system.unknowns();
-    let (x, others) = work.split_at_mut(width);
-    let (c_1, others) = others.split_at_mut(width);
-    let (c_2, _) = others.split_at_mut(width);
+    let (x, _) = work.split_at_mut(system.unknowns());
     let found = whole_run(
         seats,
         v,
         x,
-        c_1,
-        c_2,
+        firsts,
+        seconds,
         system,
         numbers.scales,
         numbers.a,
@@ -120,44 +126,25 @@ fn run_on(
     Some(found)
 }
 
-/// The values of the unknowns at the last position.
+/// The values of the unknowns at the last position, from the numbers that are kept of them.
 fn point_at(
     alloc: Global,
-    work: &mut [i64],
     system: &WholeSystem,
-    scales: &[u64],
-    seats: &[Seat],
-    v: &[i64],
-    n: usize,
+    firsts: &[i64],
+    seconds: &[i64],
     den: u64,
 ) -> Result<Option<PairPoint>, AllocError>
-    requires lines { system.now.width + (system.now.width + system.now.width) ≤ length work.old }
-    requires seated { IsSeated (height system.now) system.now.width n seats.now }
-    requires square { length v.now ≡ system.now.width * system.now.width }
+    requires first_size { length firsts.now ≡ system.now.width }
+    requires second_size { length seconds.now ≡ system.now.width }
+    requires first_small { IsSmall (2 ^ 62) firsts.now }
+    requires second_small { IsSmall (2 ^ 62) seconds.now }
+    requires some { 0 < den }
     requires den_small { den ≤ 2 ^ 62 }
-    requires form { IsForm system.now n seats.now scales.now den v.now (last_position system.now) }
+    requires values { AreValues system.now (last_position system.now) den firsts.now seconds.now }
     ensures { IfOk result (λ o. IfSome o (λ p. IsValues system.now (last_position system.now) p)) }
 {
-    let numbers = system.numbers();
-    if numbers.scales != scales {
-        return Ok(None);
-    }
-    let width = system.unknowns();
-    let mut values = zero_pairs(alloc, width)?;
-    let (c_1, others) = work.split_at_mut(width);
-    let (c_2, _) = others.split_at_mut(width);
-    let found = last_values(
-        &mut values,
-        c_1,
-        c_2,
-        system,
-        numbers.scales,
-        seats,
-        numbers.b,
-        v,
-        n,
-        den,
-    );
+    let mut values = zero_pairs(alloc, system.unknowns())?;
+    let found = last_values(&mut values, system, firsts, seconds, den);
     match found {
         Some(()) => Ok(Some(PairPoint::of(values))),
         None => Ok(None),
@@ -177,7 +164,7 @@ fn multipliers_of(
     den: u64,
     l: usize,
 ) -> Result<Option<Multipliers>, AllocError>
-    requires lines { system.now.width + (system.now.width + system.now.width) ≤ length work.old }
+    requires line { system.now.width ≤ length work.old }
     requires seated { IsSeated (height system.now) system.now.width n seats.now }
     requires whole { IsWholeSystem system.now numbers.now.scales.now numbers.now.a.now numbers.now.b.now }
     requires room { HasRoom system.now.width (2 ^ 62) numbers.now.a.now }
@@ -223,7 +210,7 @@ fn multipliers_at(
     l: usize,
 ) -> Result<Option<Multipliers>, AllocError>
     requires count { n ≡ system.now.width + height system.now }
-    requires lines { system.now.width + (system.now.width + system.now.width) ≤ length work.old }
+    requires line { system.now.width ≤ length work.old }
     requires seated { IsSeated (height system.now) system.now.width n seats.now }
     requires square { length v.now ≡ system.now.width * system.now.width }
     requires small { IsSmall (2 ^ 62) v.now }
@@ -269,6 +256,8 @@ pub struct Workspace {
     system: Option<WholeSystem>,
     seats: Vec<Seat>,
     v: Vec<i64>,
+    firsts: Vec<i64>,
+    seconds: Vec<i64>,
 }
 
 impl Workspace {
@@ -279,6 +268,8 @@ impl Workspace {
             system: None,
             seats: Vec::new(alloc),
             v: Vec::new(alloc),
+            firsts: Vec::new(alloc),
+            seconds: Vec::new(alloc),
         }
     }
 }
@@ -292,6 +283,9 @@ pub struct KeptRun {
     seats: Vec<Seat>,
     /// The numbers of the last position.
     v: Vec<i64>,
+    /// The values of the unknowns there, in their first parts and in their second ones.
+    firsts: Vec<i64>,
+    seconds: Vec<i64>,
     place: Place,
     end: Ending,
 }
@@ -305,7 +299,7 @@ impl Model for KeptRun {
 
     ghost view = { λ r. r.system };
 
-    ghost invariant = { λ r. IsKept r.system r.scales.items r.seats.items r.v.items r.place r.end };
+    ghost invariant = { λ r. IsKept r.system r.scales.items r.seats.items r.v.items r.firsts.items r.seconds.items r.place r.end };
 }
 
 /// What is kept of a run that came to its end.
@@ -314,9 +308,11 @@ fn kept(
     scales: Vec<u64>,
     seats: Vec<Seat>,
     v: Vec<i64>,
+    firsts: Vec<i64>,
+    seconds: Vec<i64>,
     found: Option<(Place, Ending)>,
 ) -> Option<KeptRun>
-    requires { IfSome found (λ t. IsKept system scales.items seats.items v.items t.0 t.1) }
+    requires { IfSome found (λ t. IsKept system scales.items seats.items v.items firsts.items seconds.items t.0 t.1) }
     ensures { IfSome result (λ r. r ≡ system) }
 {
     let (place, end) = found?;
@@ -325,33 +321,38 @@ fn kept(
         scales,
         seats,
         v,
+        firsts,
+        seconds,
         place,
         end,
     })
 }
 
-/// What is kept of a run that stands at its end, in lists of its own.
+/// What is kept of a run that stands at its end in the lists of a workspace, in lists of its own.
 fn kept_copy(
     alloc: Global,
     system: &WholeSystem,
     scales: &[u64],
-    seats: &[Seat],
-    v: &[i64],
+    work: &Workspace,
     place: Place,
     end: Ending,
 ) -> Result<KeptRun, AllocError>
-    requires { IsKept system.now scales.now seats.now v.now place end }
+    requires { IsKept system.now scales.now work.now.seats.items work.now.v.items work.now.firsts.items work.now.seconds.items place end }
     ensures { IfOk result (λ r. r ≡ system.now) }
 {
     let own = system.copy_with_room(alloc, 0)?;
     let scales = scales.to_vec(alloc)?;
-    let seats = seats.to_vec(alloc)?;
-    let v = v.to_vec(alloc)?;
+    let seats = work.seats.to_vec(alloc)?;
+    let v = work.v.to_vec(alloc)?;
+    let firsts = work.firsts.to_vec(alloc)?;
+    let seconds = work.seconds.to_vec(alloc)?;
     Ok(KeptRun {
         system: own,
         scales,
         seats,
         v,
+        firsts,
+        seconds,
         place,
         end,
     })
@@ -376,12 +377,14 @@ impl KeptRun {
         ensures { IfOk result (λ o. IfSome o (λ r. r ≡ system)) }
     {
         let width = system.unknowns();
-        let Some((n, square, lines)) = sizes(system.height(), width) else {
+        let Some((n, square)) = sizes(system.height(), width) else {
             return Ok(None);
         };
         let mut seats = first_seats(alloc, &system, n)?;
         let mut v = first_numbers(alloc, width, square)?;
-        lengthen(&mut work.numbers, lines)?;
+        let mut firsts = first_values(alloc, width)?;
+        let mut seconds = first_values(alloc, width)?;
+        lengthen(&mut work.numbers, width)?;
         let numbers = system.numbers();
         let scales = numbers.scales.to_vec(alloc)?;
         let from = Place {
@@ -393,13 +396,15 @@ impl KeptRun {
         let found = run_on(
             &mut seats,
             &mut v,
+            &mut firsts,
+            &mut seconds,
             &mut work.numbers,
             &system,
             &numbers,
             n,
             from,
         );
-        Ok(kept(system, scales, seats, v, found))
+        Ok(kept(system, scales, seats, v, firsts, seconds, found))
     }
 
     /// The run of the system with one more row, from where this one ends on. `None` where whole
@@ -446,15 +451,26 @@ impl KeptRun {
         requires { IsLonger self.now system }
         ensures { IfOk result (λ o. IfSome o (λ r. r ≡ system)) }
     {
-        let Some((n, square, _)) = sizes(system.height(), system.unknowns()) else {
+        let width = system.unknowns();
+        let Some((n, square)) = sizes(system.height(), width) else {
             return Ok(None);
         };
         let mut seats = Vec::with_capacity(alloc, n)?;
         let mut v = Vec::with_capacity(alloc, square)?;
+        let mut firsts = Vec::with_capacity(alloc, width)?;
+        let mut seconds = Vec::with_capacity(alloc, width)?;
         let numbers = system.numbers();
         let scales = numbers.scales.to_vec(alloc)?;
-        let found = self.go_on(&mut seats, &mut v, &mut work.numbers, &system, &numbers)?;
-        Ok(kept(system, scales, seats, v, found))
+        let found = self.go_on(
+            &mut seats,
+            &mut v,
+            &mut firsts,
+            &mut seconds,
+            &mut work.numbers,
+            &system,
+            &numbers,
+        )?;
+        Ok(kept(system, scales, seats, v, firsts, seconds, found))
     }
 
     /// Whether the run ends with a point. No number that it forms is wide.
@@ -478,11 +494,13 @@ impl KeptRun {
     }
 
     /// The run of a system with further rows behind this one's, from where this one ends on. The lists
-    /// become its seats and its numbers.
+    /// become its seats, its numbers and the values of its unknowns.
     fn go_on(
         &self,
         seats: &mut Vec<Seat>,
         v: &mut Vec<i64>,
+        firsts: &mut Vec<i64>,
+        seconds: &mut Vec<i64>,
         work: &mut Vec<i64>,
         longer: &WholeSystem,
         numbers: &WholeNumbers,
@@ -494,17 +512,20 @@ impl KeptRun {
         requires some_side { 1 ≤ numbers.now.most_side }
         requires scales { (x : ℕ) → scale_at numbers.now.scales.now x ≤ numbers.now.most_scale }
         requires some_scale { 1 ≤ numbers.now.most_scale }
-        ensures kept { IfOk result (λ o. IfSome o (λ t. IsKept longer.now numbers.now.scales.now seats.new.items v.new.items t.0 t.1)) }
-        ensures lines { IfOk result (λ o. IfSome o (λ _. longer.now.width + (longer.now.width + longer.now.width) ≤ length work.new.items)) }
+        ensures kept { IfOk result (λ o. IfSome o (λ t. IsKept longer.now numbers.now.scales.now seats.new.items v.new.items firsts.new.items seconds.new.items t.0 t.1)) }
+        ensures line { IfOk result (λ o. IfSome o (λ _. longer.now.width ≤ length work.new.items)) }
         ensures room { IfOk result (λ o. IfSome o (λ _. HasRoom longer.now.width (2 ^ 62) numbers.now.a.now)) }
         ensures narrow { IfOk result (λ o. IfSome o (λ t. IsNarrow longer.now (count longer.now) seats.new.items numbers.now.scales.now numbers.now.a.now t.0.den v.new.items)) }
     {
-        let Some((n, _, lines)) = sizes(longer.height(), longer.unknowns()) else {
+        let width = longer.unknowns();
+        let Some((n, _)) = sizes(longer.height(), width) else {
             return Ok(None);
         };
         put_seats(seats, &self.seats, self.system.height(), longer.height())?;
         put_numbers(v, &self.v)?;
-        lengthen(work, lines)?;
+        put_numbers(firsts, &self.firsts)?;
+        put_numbers(seconds, &self.seconds)?;
+        lengthen(work, width)?;
         if !begins_with(numbers.scales, &self.scales) {
             return Ok(None);
         }
@@ -514,7 +535,7 @@ impl KeptRun {
             greatest_den: self.place.greatest_den,
             first: self.first_later(),
         };
-        let found = run_on(seats, v, work, longer, numbers, n, from);
+        let found = run_on(seats, v, firsts, seconds, work, longer, numbers, n, from);
         Ok(found)
     }
 
@@ -538,6 +559,8 @@ impl KeptRun {
         match self.go_on(
             &mut work.seats,
             &mut work.v,
+            &mut work.firsts,
+            &mut work.seconds,
             &mut work.numbers,
             longer,
             &numbers,
@@ -567,6 +590,8 @@ impl KeptRun {
         match self.go_on(
             &mut work.seats,
             &mut work.v,
+            &mut work.firsts,
+            &mut work.seconds,
             &mut work.numbers,
             longer,
             &whole,
@@ -597,20 +622,14 @@ impl KeptRun {
         match self.go_on(
             &mut work.seats,
             &mut work.v,
+            &mut work.firsts,
+            &mut work.seconds,
             &mut work.numbers,
             longer,
             &whole,
         )? {
             Some((place, Ending::Point)) => {
-                let run = kept_copy(
-                    alloc,
-                    longer,
-                    whole.scales,
-                    &work.seats,
-                    &work.v,
-                    place,
-                    Ending::Point,
-                )?;
+                let run = kept_copy(alloc, longer, whole.scales, work, place, Ending::Point)?;
                 Ok(Some(Broken::Point(run)))
             }
             Some((place, Ending::Refuted(l))) => {
@@ -714,20 +733,13 @@ impl KeptRun {
     pub fn end(&self, alloc: Global, work: &mut Workspace) -> Result<Option<End>, AllocError>
         ensures { IfOk result (λ o. IfSome o (λ d. IsEnd self.now d)) }
     {
-        let Some((n, _, lines)) = sizes(self.system.height(), self.system.unknowns()) else {
-            return Ok(None);
-        };
-        lengthen(&mut work.numbers, lines)?;
         match self.end {
             Ending::Point => {
                 let found = point_at(
                     alloc,
-                    &mut work.numbers,
                     &self.system,
-                    &self.scales,
-                    &self.seats,
-                    &self.v,
-                    n,
+                    &self.firsts,
+                    &self.seconds,
                     self.place.den,
                 )?;
                 match found {
@@ -736,6 +748,11 @@ impl KeptRun {
                 }
             }
             Ending::Refuted(l) => {
+                let width = self.system.unknowns();
+                let Some((n, _)) = sizes(self.system.height(), width) else {
+                    return Ok(None);
+                };
+                lengthen(&mut work.numbers, width)?;
                 let found = multipliers_at(
                     alloc,
                     &mut work.numbers,

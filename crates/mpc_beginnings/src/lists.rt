@@ -1,11 +1,11 @@
 //! The lists of a run.
 
-ghost use Rattle.std.specs.Prelude.{◌≡◌, ℕ, ◌+◌, ◌-◌, ◌*◌, ◌<◌, ◌≤◌, [], ◌∷◌, IsTrue, IfSome, IfOk, OnOk, All, length, map, take};
+ghost use Rattle.std.specs.Prelude.{◌≡◌, ℕ, pos, ◌+◌, ◌-◌, ◌*◌, ◌<◌, ◌≤◌, [], ◌∷◌, IsTrue, IfSome, IfOk, OnOk, All, length, map, take};
 ghost use Rattle.mpc_rows.specs.LinearSystem.{LinearSystem, height, row_at};
 ghost use Rattle.mpc_rows.specs.LawRows.{whole_row};
 ghost use Rattle.mpc_rows.specs.SetRuns.{turned};
 ghost use Rattle.mpc_whole.specs.Table.{IsSeated, IsOpeningSeats, opening_seat};
-ghost use Rattle.mpc_whole.specs.Whole.{scale_at, IsUnit};
+ghost use Rattle.mpc_whole.specs.Whole.{whole_at, scale_at, IsUnit};
 ghost use Rattle.mpc_beginnings.specs.Beginnings.{lengthened};
 ghost use Rattle.mpc_beginnings.specs.LongerSeats.{AreLongerSeats};
 
@@ -25,17 +25,14 @@ pub(crate) fn lengthen(list: &mut Vec<i64>, n: usize) -> Result<(), AllocError>
     Ok(())
 }
 
-/// How many variables there are, how many numbers the rows of the unknowns have, and how many the
-/// lists that are needed during a run.
-pub(crate) fn sizes(height: usize, width: usize) -> Option<(usize, usize, usize)>
+/// How many variables there are, and how many numbers the rows of the unknowns have.
+pub(crate) fn sizes(height: usize, width: usize) -> Option<(usize, usize)>
     ensures count { IfSome result (λ t. t.0 ≡ width + height) }
     ensures square { IfSome result (λ t. t.1 ≡ width * width) }
-    ensures lines { IfSome result (λ t. t.2 ≡ width + (width + width)) }
 {
     let count = width.checked_add(height)?;
     let square = width.checked_mul(width)?;
-    let lines = width.checked_add(width)?.checked_add(width)?;
-    Some((count, square, lines))
+    Some((count, square))
 }
 
 /// Where the variable x stands at first.
@@ -79,6 +76,16 @@ pub(crate) fn first_numbers(
     clear(&mut v);
     put_units(&mut v, width);
     Ok(v)
+}
+
+/// One part of the values of the unknowns at first: 0, since no side is nonbasic.
+pub(crate) fn first_values(alloc: Global, width: usize) -> Result<Vec<i64>, AllocError>
+    ensures size { IfOk result (λ t. length t.items ≡ width) }
+    ensures zero { IfOk result (λ t. (k : ℕ) → whole_at t.items k ≡ pos 0) }
+{
+    let mut values = vec![in alloc; 0; width]?;
+    clear(&mut values);
+    Ok(values)
 }
 
 /// Writes the seats of the variables of a system, and those of further sides behind them, in the

@@ -33,6 +33,8 @@ pub mod WholeTurns
 pub mod WholeExchange
 pub mod WholeEnds
 pub mod WholeSizes
+pub mod ValuesAfter
+pub mod WholeMoves
 pub mod WholeRun
 pub mod WholeRows
 pub mod WholeSystems

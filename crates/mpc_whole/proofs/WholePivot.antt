@@ -30,7 +30,7 @@ module _ (s : LinearSystem) (p : Position) (r : Reached s p) (k : List ℕ) (a b
   t : IsTableau p
   t = reached_tableau s p r
 
-  l_in : s.width + i < n
+  pub l_in : s.width + i < n
   l_in = subst (λ m. s.width + i < m) whole g.leaves.below
 
   e_in : e < n
@@ -39,7 +39,7 @@ module _ (s : LinearSystem) (p : Position) (r : Reached s p) (k : List ℕ) (a b
   c₀_in : c₀ < s.width
   c₀_in = (seated.columns e c₀ e_in se).0
 
-  some_at : (y : ℕ) → y < n → 0 < scale_at k y
+  pub some_at : (y : ℕ) → y < n → 0 < scale_at k y
   some_at y h = w.scales.some y (subst (λ m. y < m) (sym whole) h)
 
   -- the scales of the two variables that are exchanged
@@ -49,10 +49,10 @@ module _ (s : LinearSystem) (p : Position) (r : Reached s p) (k : List ℕ) (a b
   abbrev L : ℚ
   L = int (pos (scale_at k (s.width + i)))
 
-  E_some : E ≢ int (pos 0)
+  pub E_some : E ≢ int (pos 0)
   E_some = scale_not_zero (scale_at k e) (some_at e e_in)
 
-  L_some : L ≢ int (pos 0)
+  pub L_some : L ≢ int (pos 0)
   L_some = scale_not_zero (scale_at k (s.width + i)) (some_at (s.width + i) l_in)
 
   row_at_column : (y c : ℕ) → y < n → seat_at seats y ≡ Column c → p.coefficient (s.width + i) y ≡ (frac (whole_at x c) d *ℚ int (pos (scale_at k y))) *ℚ inv_ℚ L
@@ -60,10 +60,10 @@ module _ (s : LinearSystem) (p : Position) (r : Reached s p) (k : List ℕ) (a b
       side_entry s p r k a b w n whole seats d v f i y c b_i h q ∙ ap (λ z. frac (z *ℤ pos (scale_at k y)) (d * scale_at k (s.width + i))) (sym (row.cells c (seated.columns y c h q).0))
       ∙ over_scale (whole_at x c) (scale_at k y) d (scale_at k (s.width + i)) f.some (some_at (s.width + i) l_in)
 
-  pivot_is : p.coefficient (s.width + i) e ≡ (frac (whole_at x c₀) d *ℚ E) *ℚ inv_ℚ L
+  pub pivot_is : p.coefficient (s.width + i) e ≡ (frac (whole_at x c₀) d *ℚ E) *ℚ inv_ℚ L
   pivot_is = row_at_column e c₀ e_in se
 
-  pivot_some : frac (whole_at x c₀) d ≢ int (pos 0)
+  pub pivot_some : frac (whole_at x c₀) d ≢ int (pos 0)
   pivot_some h = g.eligible.some (pivot_is ∙ ap (λ u. (u *ℚ E) *ℚ inv_ℚ L) h ∙ nought_there E (inv_ℚ L))
 
   pub pivot_number_some : whole_at x c₀ ≢ pos 0
@@ -73,7 +73,7 @@ module _ (s : LinearSystem) (p : Position) (r : Reached s p) (k : List ℕ) (a b
   cell_is : (j y c : ℕ) → j < s.width → y < n → seat_at seats y ≡ Column c → p.coefficient j y ≡ frac (whole_cell s.width v j c) d *ℚ int (pos (scale_at k y))
   cell_is j y c h l o = f.entries j y c h l o ∙ sym (times_int (whole_cell s.width v j c) (pos (scale_at k y)) d f.some)
 
-  entering_is : (j : ℕ) → j < s.width → p.coefficient j e ≡ frac (whole_cell s.width v j c₀) d *ℚ E
+  pub entering_is : (j : ℕ) → j < s.width → p.coefficient j e ≡ frac (whole_cell s.width v j c₀) d *ℚ E
   entering_is j h = cell_is j e c₀ h e_in se
 
   up : (x y : ℕ) → (pivot p (s.width + i) e).coefficient x y ≡ p.coefficient x y +ℚ p.coefficient x e *ℚ ((unit (s.width + i) y -ℚ p.coefficient (s.width + i) y) *ℚ inv_ℚ (p.coefficient (s.width + i) e))

@@ -5,7 +5,7 @@ use Rattle.std.proofs.lemmas.List.{get_or_past}
 use Rattle.mpc_exact.specs.Rational.{ℚ, frac}
 use Rattle.mpc_rows.specs.Least.{least}
 use Rattle.mpc_rows.specs.LinearSystem.{LinearSystem, height}
-use Rattle.mpc_rows.specs.Run.{IsTableau, has_point, is_refuted, goes_on, count, rest, value, may_leave, may_enter, turn, moved, pivot, is_pivot, last_position, position, steps}
+use Rattle.mpc_rows.specs.Run.{Position, IsTableau, has_point, is_refuted, goes_on, count, rest, value, may_leave, may_enter, turn, moved, pivot, is_pivot, last_position, position, steps}
 use Rattle.mpc_rows.specs.RunWidth.{PositionFits, ValuesFit, RunFits}
 use Rattle.mpc_whole.specs.declared.variables.Seat.{Seat}
 use Rattle.mpc_whole.specs.declared.variables.Seat.TheVariants.{Row, Column}
@@ -13,8 +13,10 @@ use Rattle.mpc_whole.specs.declared.whole.Ending.TheVariants.{Point, Refuted}
 use Rattle.mpc_whole.specs.Table.{seat_at, in_row, IsSeated}
 use Rattle.mpc_whole.specs.SharedSizes.{AreSmallBefore}
 use Rattle.mpc_whole.specs.Underway.{IsUnderway, HasEnded}
+use Rattle.mpc_whole.specs.Moved.{AreFollowed}
 use Rattle.mpc_whole.specs.RunEnd.{IsValues}
 use Rattle.mpc_whole.specs.Whole.{whole_at, scale_at, IsSmall, IsWholeSystem, HasSideBound, IsNarrow, IsForm, HasSides, HasBasis, HasSideValues, AreValues, IsRowOf, IsSideRow, IsWholePivot, ArePairs, Stands, side_cell}
+use Rattle.mpc_whole.proofs.Positions.{tableau}
 use Rattle.mpc_whole.proofs.Turn.{Goes, Leaves, leaver, turn-at}
 use Rattle.mpc_whole.proofs.Ends.{Reached, stopped_last, before_end, position-suc}
 use Rattle.mpc_whole.proofs.Loop.{Going, end_fits}
@@ -25,6 +27,7 @@ use Rattle.mpc_whole.proofs.WholeNorms.{norms_fit}
 use Rattle.mpc_whole.proofs.WholeForm.{reached_tableau, side_first, side_second, side_total, side_entry, row_den, den_some, den_small, entries_over, products_over, rests_over}
 use Rattle.mpc_whole.proofs.WholeScales.{less_with_scale}
 use Rattle.mpc_whole.proofs.WholePivot.{pivot_form}
+use Rattle.mpc_whole.proofs.WholeMoves.{values_moved}
 use Rattle.mpc_whole.proofs.WholeTurns.{unknowns_stay}
 
 pub side_values_at : (s : LinearSystem) (k : List ℕ) (a b : List ℤ) → IsWholeSystem s k a b → (q : ℕ) → q ≤ steps s → (n : ℕ) (seats : List Seat) (d : ℕ) (v : List ℤ) → IsForm s n seats k d v (position s q) → (c_1 c_2 : List ℤ) → AreValues s (position s q) d c_1 c_2 → HasSideValues s k a (position s q) d c_1 c_2
@@ -106,9 +109,10 @@ module _ (s : LinearSystem) (n : ℕ) (seats : List Seat) (seated : IsSeated (he
     pub point_fits : RunFits s
     point_fits = end_fits s n (sym seated.count) (position s z.at) (going_of s n seats k d v z) (ap is_pivot point_here) values_fit
 
-    pub point_kept : (most most_den : ℕ) → AreSmallBefore s k z.at most most_den → HasEnded s n seats k d v most most_den Point
-    point_kept most most_den h = record {
+    pub point_kept : (c_1 c_2 : List ℤ) → AreValues s (position s z.at) d c_1 c_2 → (most most_den : ℕ) → AreSmallBefore s k z.at most most_den → HasEnded s n seats k d v c_1 c_2 most most_den Point
+    point_kept c_1 c_2 values most most_den h = record {
       form = subst (IsForm s n seats k d v) point_last z.form;
+      values = subst (λ p. AreValues s p d c_1 c_2) point_last values;
       before = subst (λ q. AreSmallBefore s k q most most_den) (stops_after s z.at z.order (ap is_pivot point_here)) h;
       turns = subst (λ p. turn s p ≡ has_point) point_last point_here;
       fits = point_fits;
@@ -158,9 +162,10 @@ module _ (s : LinearSystem) (n : ℕ) (seats : List Seat) (seated : IsSeated (he
         pub refuted_fits : RunFits s
         refuted_fits = end_fits s n (sym seated.count) (position s z.at) (going_of s n seats k d v z) (ap is_pivot refuted_here) values_fit
 
-        pub refuted_kept : (most most_den : ℕ) → AreSmallBefore s k z.at most most_den → HasEnded s n seats k d v most most_den (Refuted l)
-        refuted_kept most most_den h = record {
+        pub refuted_kept : (c_1 c_2 : List ℤ) → AreValues s (position s z.at) d c_1 c_2 → (most most_den : ℕ) → AreSmallBefore s k z.at most most_den → HasEnded s n seats k d v c_1 c_2 most most_den (Refuted l)
+        refuted_kept c_1 c_2 values most most_den h = record {
           form = subst (IsForm s n seats k d v) refuted_last z.form;
+          values = subst (λ p. AreValues s p d c_1 c_2) refuted_last values;
           before = subst (λ q. AreSmallBefore s k q most most_den) (stops_after s z.at z.order (ap is_pivot refuted_here)) h;
           turns = subst (λ p. turn s p ≡ is_refuted l) refuted_last refuted_here;
           fits = refuted_fits;
@@ -196,26 +201,46 @@ module _ (s : LinearSystem) (n : ℕ) (seats : List Seat) (seated : IsSeated (he
           next_is : position s (suc z.at) ≡ pivot (position s z.at) l f
           next_is = position-suc s z.at ∙ ap (moved (position s z.at)) goes_here
 
-          pub next_underway : (new : List ℤ) → IsWholePivot s.width d v new x c₀ → (m e most most_den : ℕ) → m ≤ most → e ≤ most_den → IsSmall most v → d ≤ most_den → AreSmallBefore s k z.at m e
-              → IsUnderway s n (set (set seats l (Column c₀)) f (Row r₀)) k (unsigned_abs (whole_at x c₀)) new most most_den s.width
-          next_underway new piv m e most most_den wide wide_den small small_den h =
-              let form : IsForm s n (set (set seats l (Column c₀)) f (Row r₀)) k (unsigned_abs (whole_at x c₀)) new (pivot (position s z.at) l f) =
-              subst (λ m. IsForm s n (set (set seats m (Column c₀)) f (Row r₀)) k (unsigned_abs (whole_at x c₀)) new (pivot (position s z.at) m f)) side_back
-              (pivot_form s (position s z.at) (reached_of s n seats k d v z) k a b w n (sym seated.count) seats seated d v z.form (l - s.width) f goes_side side_in x row r₀ c₀ seat_side sf new piv)
-              in
-              record {
-                stands = record {
-                  at = suc z.at;
-                  order = before_end s z.at z.order (ap is_pivot goes_here);
-                  before = λ q b. ⊎_elim (λ e. subst (λ j. PositionFits s (position s j)) (sym e) stands_fit) (λ e. z.before q (omega arith)) (cases_eq q z.at);
-                  form = subst (IsForm s n (set (set seats l (Column c₀)) f (Row r₀)) k (unsigned_abs (whole_at x c₀)) new) (sym next_is) form;
-                };
-                side = omega arith;
-                stay = unknowns_stay s (position s (suc z.at));
-                before = small_after s k z.at m e most most_den wide wide_den h (small_form s k n seats seated d v (position s z.at) z.form most most_den small small_den);
-              }
+          next_form : (new : List ℤ) → IsWholePivot s.width d v new x c₀ → IsForm s n (set (set seats l (Column c₀)) f (Row r₀)) k (unsigned_abs (whole_at x c₀)) new (position s (suc z.at))
+          next_form new piv =
+              subst (IsForm s n (set (set seats l (Column c₀)) f (Row r₀)) k (unsigned_abs (whole_at x c₀)) new) (sym next_is)
+              (subst (λ m. IsForm s n (set (set seats m (Column c₀)) f (Row r₀)) k (unsigned_abs (whole_at x c₀)) new (pivot (position s z.at) m f)) side_back
+              (pivot_form s (position s z.at) (reached_of s n seats k d v z) k a b w n (sym seated.count) seats seated d v z.form (l - s.width) f goes_side side_in x row r₀ c₀ seat_side sf new piv))
+
+          -- the values there, moved or formed anew
+          next_values : (new : List ℤ) → IsWholePivot s.width d v new x c₀ → (c_1 c_2 n_1 n_2 : List ℤ) → AreValues s (position s z.at) d c_1 c_2
+              → AreFollowed s n (set (set seats l (Column c₀)) f (Row r₀)) k a b new (l - s.width) c₀ d (unsigned_abs (whole_at x c₀)) c_1 c_2 n_1 n_2 → AreValues s (position s (suc z.at)) (unsigned_abs (whole_at x c₀)) n_1 n_2
+          next_values new piv c_1 c_2 n_1 n_2 values (inl m) =
+              subst (λ p. AreValues s p (unsigned_abs (whole_at x c₀)) n_1 n_2) (sym next_is)
+              (subst (λ q. AreValues s (pivot (position s z.at) q f) (unsigned_abs (whole_at x c₀)) n_1 n_2) side_back
+              (values_moved s (position s z.at) (reached_of s n seats k d v z) k a b w n (sym seated.count) seats seated d v z.form (l - s.width) f goes_side side_in x row r₀ c₀ seat_side sf new piv
+              m.0 c_1 c_2 n_1 n_2 values (side_values c_1 c_2 values) m.1 m.2))
+          next_values new piv c_1 c_2 n_1 n_2 values (inr m) = m.each (position s (suc z.at)) (unsigned_abs (whole_at x c₀)) (tableau s (suc z.at)) (next_form new piv) w.sides
+
+          pub next_underway : (new : List ℤ) → IsWholePivot s.width d v new x c₀ → (c_1 c_2 n_1 n_2 : List ℤ) → AreValues s (position s z.at) d c_1 c_2
+              → AreFollowed s n (set (set seats l (Column c₀)) f (Row r₀)) k a b new (l - s.width) c₀ d (unsigned_abs (whole_at x c₀)) c_1 c_2 n_1 n_2
+              → (m e most most_den : ℕ) → m ≤ most → e ≤ most_den → IsSmall most v → d ≤ most_den → AreSmallBefore s k z.at m e
+              → IsUnderway s n (set (set seats l (Column c₀)) f (Row r₀)) k (unsigned_abs (whole_at x c₀)) new n_1 n_2 most most_den s.width
+          next_underway new piv c_1 c_2 n_1 n_2 values followed m e most most_den wide wide_den small small_den h = record {
+            stands = record {
+              at = suc z.at;
+              order = before_end s z.at z.order (ap is_pivot goes_here);
+              before = λ q b. ⊎_elim (λ e. subst (λ j. PositionFits s (position s j)) (sym e) stands_fit) (λ e. z.before q (omega arith)) (cases_eq q z.at);
+              form = next_form new piv;
+            };
+            values = next_values new piv c_1 c_2 n_1 n_2 values followed;
+            side = omega arith;
+            stay = unknowns_stay s (position s (suc z.at));
+            before = small_after s k z.at m e most most_den wide wide_den h (small_form s k n seats seated d v (position s z.at) z.form most most_den small small_den);
+          }
 
 -- ---- the end
+pub values_paired : (s : LinearSystem) (p : Position) (d : ℕ) (c_1 c_2 : List ℤ) (values : List (ℚ × ℚ)) → length c_1 ≡ s.width → AreValues s p d c_1 c_2 → ArePairs d c_1 c_2 values → IsValues s p values
+values_paired s p d c_1 c_2 values long h q = record {
+  size = q.size ∙ long;
+  at = λ j l. let u = q.at j (subst (λ m. j < m) (sym long) l) in (u.0, u.1, u.2 ∙ sym (h.first j l), u.3 ∙ sym (h.second j l));
+}
+
 module _ (s : LinearSystem) (n : ℕ) (seats : List Seat) (k : List ℕ) (d : ℕ) (v : List ℤ) (f : IsForm s n seats k d v (last_position s)) where
   form_last : IsForm s n seats k d v (position s (steps s))
   unfolding last_position
@@ -224,15 +249,6 @@ module _ (s : LinearSystem) (n : ℕ) (seats : List Seat) (k : List ℕ) (d : �
   reached_last : Reached s (last_position s)
   unfolding last_position
   reached_last = record { after = steps s; order = omega arith; is = refl }
-
-  pub last_tableau : IsTableau (last_position s)
-  last_tableau = reached_tableau s (last_position s) reached_last
-
-  pub last_values : (c_1 c_2 : List ℤ) (values : List (ℚ × ℚ)) → length c_1 ≡ s.width → AreValues s (last_position s) d c_1 c_2 → ArePairs d c_1 c_2 values → IsValues s (last_position s) values
-  last_values c_1 c_2 values long h q = record {
-    size = q.size ∙ long;
-    at = λ j l. let u = q.at j (subst (λ m. j < m) (sym long) l) in (u.0, u.1, u.2 ∙ sym (h.first j l), u.3 ∙ sym (h.second j l));
-  }
 
   module _ (seated : IsSeated (height s) s.width n seats) (a b : List ℤ) (w : IsWholeSystem s k a b) (l : ℕ) (t : turn s (last_position s) ≡ is_refuted l) where
     last_leaves : Leaves s (last_position s) l

@@ -2,59 +2,22 @@
 
 ghost use Rattle.std.specs.Prelude.{◌≡◌, ℕ, ℤ, pos, ◌+◌, ◌*◌, ◌<◌, ◌≤◌, ◌^◌, unsigned_abs, IfSome, IfOk, List, length, true, false, ◌-◌};
 ghost use Rattle.mpc_rows.specs.LinearSystem.{height};
-ghost use Rattle.mpc_rows.specs.Run.{Position, opening, position, steps, may_leave, may_enter};
+ghost use Rattle.mpc_rows.specs.Run.{Position, opening, may_enter};
 ghost use Rattle.mpc_rows.specs.Least.{least};
 ghost use Rattle.mpc_whole.specs.declared.variables.Seat.TheVariants.{Column};
 ghost use Rattle.mpc_rows.specs.RunWidth.{RunFits};
 ghost use Rattle.mpc_whole.specs.Table.{seat_at, in_row, IsSeated, IsOpeningSeats};
 ghost use Rattle.mpc_whole.specs.RunEnd.{IsEnd, EndsWithPoint, EndsRefuted};
 ghost use Rattle.mpc_whole.specs.Found.{IfEnded, IfNext};
-ghost use Rattle.mpc_whole.specs.Underway.{StayBefore, IsUnderway, HasEnded};
-ghost use Rattle.mpc_whole.specs.Whole.{whole_at, AreScales, IsNarrow, IsSmall, IsWholeSystem, HasBounds, HasRoom, HasBasis, IsRowOf, IsForm, side_cell, Stands, AreValues, IsSideRow, IsSwapped, IsNext};
+ghost use Rattle.mpc_whole.specs.Underway.{IsUnderway, HasEnded};
+ghost use Rattle.mpc_whole.specs.Whole.{whole_at, AreScales, IsNarrow, IsSmall, IsWholeSystem, HasBounds, HasRoom, HasBasis, IsRowOf, side_cell, IsSideRow, IsSwapped, IsNext};
 
 use crate::variables::{Seat, column_of, row_of};
 use crate::whole_pivot::exchange;
 use crate::whole_rows::greatest;
 use crate::whole_systems::WholeSystem;
 use crate::whole_turn::{entering, leaving, leaving_row};
-use crate::whole_values::stand;
-
-/// The variable that leaves, from the first on that may, where the values stay small.
-fn look(
-    c_1: &mut [i64],
-    c_2: &mut [i64],
-    system: &WholeSystem,
-    scales: &[u64],
-    seats: &[Seat],
-    a: &[i64],
-    b: &[i64],
-    v: &[i64],
-    n: usize,
-    den: u64,
-    first: usize,
-    most: u64,
-) -> Option<Option<usize>>
-    requires side { system.now.width ≤ first }
-    requires seated { IsSeated (height system.now) system.now.width n seats.now }
-    requires whole { IsWholeSystem system.now scales.now a.now b.now }
-    requires bounds { HasBounds system.now scales.now a.now b.now most }
-    requires room { HasRoom system.now.width (2 ^ 62) a.now }
-    requires square { length v.now ≡ system.now.width * system.now.width }
-    requires first_size { length c_1.old ≡ system.now.width }
-    requires second_size { length c_2.old ≡ system.now.width }
-    requires den_small { den ≤ 2 ^ 62 }
-    requires stands { Stands system.now n seats.now scales.now den v.now }
-    ensures values { IfSome result (λ _. (k : ℕ) → k ≤ steps system.now → IsForm system.now n seats.now scales.now den v.now (position system.now k)
-        → AreValues system.now (position system.now k) den c_1.new c_2.new) }
-    ensures least { IfSome result (λ o. (k : ℕ) → k ≤ steps system.now → IsForm system.now n seats.now scales.now den v.now (position system.now k)
-        → StayBefore system.now (position system.now k) first → o ≡ least (may_leave system.now (position system.now k)) n) }
-    ensures first_small { IfSome result (λ _. IsSmall (2 ^ 62) c_1.new) }
-    ensures second_small { IfSome result (λ _. IsSmall (2 ^ 62) c_2.new) }
-{
-    stand(c_1, c_2, system, scales, seats, b, v, n)?;
-    let out = leaving(system, scales, seats, a, b, c_1, c_2, den, n, first, most);
-    Some(out)
-}
+use crate::whole_values::follow;
 
 /// Exchanges the seats of l and e, and pivots on the row x.
 fn swap(
@@ -151,7 +114,7 @@ fn greater(a: u64, b: u64) -> u64
     if a < b { b } else { a }
 }
 
-/// One turn of the run.
+/// One turn of the run. The values of the unknowns move with the pivot.
 fn step(
     seats: &mut [Seat],
     v: &mut [i64],
@@ -176,23 +139,25 @@ fn step(
     requires row_size { length x.old ≡ system.now.width }
     requires first_size { length c_1.old ≡ system.now.width }
     requires second_size { length c_2.old ≡ system.now.width }
+    requires first_small { IsSmall (2 ^ 62) c_1.old }
+    requires second_small { IsSmall (2 ^ 62) c_2.old }
     requires den_small { place.den ≤ 2 ^ 62 }
     requires narrow { IsNarrow system.now n seats.old scales.now a.now place.den v.old }
-    requires underway { IsUnderway system.now n seats.old scales.now place.den v.old place.greatest place.greatest_den place.first }
-    ensures end { IfSome result (λ f. IfEnded f (λ e. HasEnded system.now n seats.new scales.now place.den v.new place.greatest place.greatest_den e)) }
+    requires underway { IsUnderway system.now n seats.old scales.now place.den v.old c_1.old c_2.old place.greatest place.greatest_den place.first }
+    ensures end { IfSome result (λ f. IfEnded f (λ e. HasEnded system.now n seats.new scales.now place.den v.new c_1.new c_2.new place.greatest place.greatest_den e)) }
     ensures end_seated { IfSome result (λ f. IfEnded f (λ _. IsSeated (height system.now) system.now.width n seats.new)) }
     ensures end_small { IfSome result (λ f. IfEnded f (λ _. IsSmall most v.new)) }
     ensures end_narrow { IfSome result (λ f. IfEnded f (λ _. IsNarrow system.now n seats.new scales.now a.now place.den v.new)) }
-    ensures underway { IfSome result (λ f. IfNext f (λ p. IsUnderway system.now n seats.new scales.now p.den v.new p.greatest p.greatest_den p.first)) }
+    ensures underway { IfSome result (λ f. IfNext f (λ p. IsUnderway system.now n seats.new scales.now p.den v.new c_1.new c_2.new p.greatest p.greatest_den p.first)) }
     ensures seated { IfSome result (λ f. IfNext f (λ _. IsSeated (height system.now) system.now.width n seats.new)) }
     ensures small { IfSome result (λ f. IfNext f (λ _. IsSmall most v.new)) }
     ensures den_small { IfSome result (λ f. IfNext f (λ p. p.den ≤ 2 ^ 62)) }
     ensures narrow { IfSome result (λ f. IfNext f (λ p. IsNarrow system.now n seats.new scales.now a.now p.den v.new)) }
+    ensures first_small { IfSome result (λ _. IsSmall (2 ^ 62) c_1.new) }
+    ensures second_small { IfSome result (λ _. IsSmall (2 ^ 62) c_2.new) }
 {
     let Place { den, first, .. } = place;
-    let out = look(
-        c_1, c_2, system, scales, seats, a, b, v, n, den, first, most,
-    )?;
+    let out = leaving(system, scales, seats, a, b, c_1, c_2, den, n, first, most);
     let Some(l) = out else {
         return Some(Found::Ended(Ending::Point));
     };
@@ -200,11 +165,14 @@ fn step(
         return Some(Found::Ended(Ending::Refuted(l)));
     };
     let own = greatest(v);
-    let size = swap(seats, v, x, l, e, place.den, most)?;
+    let c = column_of(seats, e);
+    let size = swap(seats, v, x, l, e, den, most)?;
+    let i = l - system.unknowns();
+    follow(c_1, c_2, system, scales, seats, a, b, v, n, i, c, den, size)?;
     Some(Found::Next(Place {
         den: size,
         greatest: greater(place.greatest, own),
-        greatest_den: greater(place.greatest_den, place.den),
+        greatest_den: greater(place.greatest_den, den),
         first: system.unknowns(),
     }))
 }
@@ -212,7 +180,8 @@ fn step(
 /// The most steps that are made on whole numbers.
 const STEPS: u32 = 1_000_000;
 
-/// The run from a position to its end: where it stands there, and what it ends with.
+/// The run from a position to its end: where it stands there, and what it ends with. The lists have the
+/// values of the unknowns at the position, and at the end those there.
 pub fn whole_run(
     seats: &mut [Seat],
     v: &mut [i64],
@@ -237,14 +206,18 @@ pub fn whole_run(
     requires row_size { length x.old ≡ system.now.width }
     requires first_size { length c_1.old ≡ system.now.width }
     requires second_size { length c_2.old ≡ system.now.width }
+    requires first_small { IsSmall (2 ^ 62) c_1.old }
+    requires second_small { IsSmall (2 ^ 62) c_2.old }
     requires den_small { from.den ≤ 2 ^ 62 }
     requires narrow { IsNarrow system.now n seats.old scales.now a.now from.den v.old }
-    requires underway { IsUnderway system.now n seats.old scales.now from.den v.old from.greatest from.greatest_den from.first }
-    ensures end { IfSome result (λ t. HasEnded system.now n seats.new scales.now t.0.den v.new t.0.greatest t.0.greatest_den t.1) }
+    requires underway { IsUnderway system.now n seats.old scales.now from.den v.old c_1.old c_2.old from.greatest from.greatest_den from.first }
+    ensures end { IfSome result (λ t. HasEnded system.now n seats.new scales.now t.0.den v.new c_1.new c_2.new t.0.greatest t.0.greatest_den t.1) }
     ensures seated { IfSome result (λ _. IsSeated (height system.now) system.now.width n seats.new) }
     ensures small { IfSome result (λ _. IsSmall most v.new) }
     ensures den_small { IfSome result (λ t. t.0.den ≤ 2 ^ 62) }
     ensures narrow { IfSome result (λ t. IsNarrow system.now n seats.new scales.now a.now t.0.den v.new) }
+    ensures first_small { IfSome result (λ _. IsSmall (2 ^ 62) c_1.new) }
+    ensures second_small { IfSome result (λ _. IsSmall (2 ^ 62) c_2.new) }
 {
     let mut place = from;
     'steps: for _ in 0..STEPS {

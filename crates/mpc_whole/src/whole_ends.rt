@@ -7,14 +7,13 @@ ghost use Rattle.mpc_rows.specs.LinearSystem.{height};
 ghost use Rattle.mpc_rows.specs.Run.{Position, multiplier, turn, is_refuted, last_position};
 ghost use Rattle.mpc_whole.specs.Table.{seat_at, in_row, IsSeated};
 ghost use Rattle.mpc_whole.specs.RunEnd.{IsValues, IsMultipliers};
-ghost use Rattle.mpc_whole.specs.Whole.{whole_at, AreScales, HasSides, IsWholeSystem, IsNarrow, IsForm, IsSmall, HasRoom, HasBasis, IsRowOf, ArePairs};
+ghost use Rattle.mpc_whole.specs.Whole.{whole_at, AreScales, IsWholeSystem, IsNarrow, IsForm, IsSmall, HasRoom, HasBasis, IsRowOf, AreValues, ArePairs};
 
 use crate::numbers::{Standing, zero};
 use crate::variables::{Seat, column_of, is_basic};
 use crate::whole_numbers::{negative, product, signed, widened};
 use crate::whole_systems::WholeSystem;
 use crate::whole_turn::leaving_row;
-use crate::whole_values::stand;
 use mpc_frac::Frac;
 
 /// The fraction `z / den`, if it has 128 bits.
@@ -123,32 +122,24 @@ fn multipliers(
     Some(())
 }
 
-/// The values of the unknowns at the last position of a run.
+/// The values of the unknowns at the last position of a run, in fractions.
 pub fn last_values(
     values: &mut [Standing],
-    c_1: &mut [i64],
-    c_2: &mut [i64],
-    system: &WholeSystem,
-    scales: &[u64],
-    seats: &[Seat],
-    b: &[i64],
-    v: &[i64],
-    n: usize,
+    _system: &WholeSystem,
+    c_1: &[i64],
+    c_2: &[i64],
     den: u64,
 ) -> Option<()>
-    requires room { length values.old ≡ system.now.width }
-    requires seated { IsSeated (height system.now) system.now.width n seats.now }
-    requires scales { AreScales system.now scales.now }
-    requires sides { HasSides system.now scales.now b.now }
-    requires sides_size { length b.now ≡ height system.now }
-    requires square { length v.now ≡ system.now.width * system.now.width }
-    requires first_size { length c_1.old ≡ system.now.width }
-    requires second_size { length c_2.old ≡ system.now.width }
+    requires room { length values.old ≡ _system.now.width }
+    requires first_size { length c_1.now ≡ _system.now.width }
+    requires second_size { length c_2.now ≡ _system.now.width }
+    requires some { 0 < den }
     requires den_small { den ≤ 2 ^ 62 }
-    requires form { IsForm system.now n seats.now scales.now den v.now (last_position system.now) }
-    ensures { IfSome result (λ _. IsValues system.now (last_position system.now) values.new) }
+    requires first_small { IsSmall (2 ^ 62) c_1.now }
+    requires second_small { IsSmall (2 ^ 62) c_2.now }
+    requires are { AreValues _system.now (last_position _system.now) den c_1.now c_2.now }
+    ensures { IfSome result (λ _. IsValues _system.now (last_position _system.now) values.new) }
 {
-    stand(c_1, c_2, system, scales, seats, b, v, n)?;
     point(values, c_1, c_2, den)?;
     Some(())
 }

@@ -31,7 +31,7 @@ pub(crate) fn widened(z: i64) -> i128
 
 /// The sum, which fits where both are small.
 #[inline]
-fn sum(x: i128, y: i128) -> i128
+pub(crate) fn sum(x: i128, y: i128) -> i128
     requires left { unsigned_abs x ≤ 2 ^ 125 }
     requires right { unsigned_abs y ≤ 2 ^ 126 }
     ensures { result ≡ x +ℤ y }
@@ -164,7 +164,7 @@ fn short_row_times(a: &[i64], i: usize, c: &[i64]) -> i64
 }
 
 /// The row i of a times the numbers of a list, which need not fit 64 bits.
-fn wide_row_times(a: &[i64], i: usize, c: &[i64]) -> i128
+pub(crate) fn wide_row_times(a: &[i64], i: usize, c: &[i64]) -> i128
     requires inside { i * length c.now + length c.now ≤ length a.now }
     requires room { HasRoom (length c.now) (2 ^ 62) a.now }
     requires small { IsSmall (2 ^ 62) c.now }

@@ -5,10 +5,14 @@ ghost use Rattle.mpc_exact.specs.Rational.{frac};
 ghost use Rattle.mpc_rows.specs.LinearSystem.{height};
 ghost use Rattle.mpc_rows.specs.Run.{Position, IsTableau, bound};
 ghost use Rattle.mpc_whole.specs.Table.{IsSeated};
-ghost use Rattle.mpc_whole.specs.Whole.{whole_at, whole_cell, scale_at, AreScales, IsSmall, HasSides, IsForm, AreValues};
+ghost use Rattle.mpc_whole.specs.Whole.{whole_at, whole_cell, scale_at, AreScales, IsSmall, HasRoom, HasSides, IsForm, AreValues};
+ghost use Rattle.mpc_whole.specs.Moved.{excess, IsMoved, AreMoved, AreFollowed};
 
+use crate::divisors::Divisor;
 use crate::variables::{Seat, column_of, is_basic};
-use crate::whole_numbers::{added, minus};
+use crate::whole_numbers::{
+    added, changed, minus, narrow, negative, product, signed, sum, wide_row_times,
+};
 use crate::whole_systems::WholeSystem;
 
 /// Writes 0 into each number.
@@ -90,5 +94,137 @@ pub(crate) fn stand(
         add_column(c_1, v, width, c, b[i])?;
         add_column(c_2, v, width, c, step)?;
     }
+    Some(())
+}
+
+/// By how much the value of side i is above its bound, over the denominator and the scale of its row, where
+/// that number is small.
+fn excess(a: &[i64], i: usize, c: &[i64], limit: i64, den: u64) -> Option<i64>
+    requires inside { i * length c.now + length c.now ≤ length a.now }
+    requires room { HasRoom (length c.now) (2 ^ 62) a.now }
+    requires small { IsSmall (2 ^ 62) c.now }
+    requires den_small { den ≤ 2 ^ 62 }
+    ensures value { IfSome result (λ z. z ≡ excess (length c.now) a.now i limit den c.now) }
+    ensures small { IfSome result (λ z. unsigned_abs z ≤ 2 ^ 62) }
+{
+    let at_bound = product(limit, negative(signed(den)));
+    let over = sum(wide_row_times(a, i, c), at_bound);
+    if over.unsigned_abs() <= 1 << 62 {
+        Some(narrow(over))
+    } else {
+        None
+    }
+}
+
+/// Moves one part of the values with a pivot where side i leaves, with the bound that is given in that part,
+/// and the column e enters, if all numbers are whole and small. The numbers v are those after the pivot.
+fn move_part(
+    c: &mut [i64],
+    a: &[i64],
+    i: usize,
+    limit: i64,
+    v: &[i64],
+    e: usize,
+    by: Divisor,
+    size: u64,
+) -> Option<()>
+    requires inside { i * length c.old + length c.old ≤ length a.now }
+    requires room { HasRoom (length c.old) (2 ^ 62) a.now }
+    requires square { length v.now ≡ length c.old * length c.old }
+    requires column { e < length c.old }
+    requires den_some { 0 < by.den }
+    requires den_small { by.den ≤ 2 ^ 62 }
+    requires size_small { size ≤ 2 ^ 62 }
+    requires numbers_small { IsSmall (2 ^ 62) v.now }
+    requires small { IsSmall (2 ^ 62) c.old }
+    ensures moved { IfSome result (λ _. IsMoved (length c.old) a.now i limit v.now e by.den size c.old c.new) }
+    ensures small { IfSome result (λ _. IsSmall (2 ^ 62) c.new) }
+{
+    let over = excess(a, i, c, limit, by.den)?;
+    let width = c.len();
+    for j in 0..width {
+        let new = changed(c[j], v[j * width + e], over, size, by, 1 << 62)?;
+        c[j] = new;
+    }
+    Some(())
+}
+
+/// Moves the values with a pivot where side i leaves and the column e enters, if all numbers are whole and
+/// small. The numbers v are those after the pivot.
+fn move_values(
+    c_1: &mut [i64],
+    c_2: &mut [i64],
+    a: &[i64],
+    i: usize,
+    limit: i64,
+    step: i64,
+    v: &[i64],
+    e: usize,
+    by: Divisor,
+    size: u64,
+) -> Option<()>
+    requires inside { i * length c_1.old + length c_1.old ≤ length a.now }
+    requires same { length c_2.old ≡ length c_1.old }
+    requires room { HasRoom (length c_1.old) (2 ^ 62) a.now }
+    requires square { length v.now ≡ length c_1.old * length c_1.old }
+    requires column { e < length c_1.old }
+    requires den_some { 0 < by.den }
+    requires den_small { by.den ≤ 2 ^ 62 }
+    requires size_small { size ≤ 2 ^ 62 }
+    requires numbers_small { IsSmall (2 ^ 62) v.now }
+    requires first_small { IsSmall (2 ^ 62) c_1.old }
+    requires second_small { IsSmall (2 ^ 62) c_2.old }
+    ensures moved { IfSome result (λ _. AreMoved (length c_1.old) a.now i limit step v.now e by.den size c_1.old c_2.old c_1.new c_2.new) }
+    ensures first_small { IfSome result (λ _. IsSmall (2 ^ 62) c_1.new) }
+    ensures second_small { IfSome result (λ _. IsSmall (2 ^ 62) c_2.new) }
+{
+    move_part(c_1, a, i, limit, v, e, by, size)?;
+    move_part(c_2, a, i, step, v, e, by, size)?;
+    Some(())
+}
+
+/// The values of the unknowns after a pivot where side i has left and the column e entered: moved from those
+/// before it, or formed anew where a number isn't whole and small.
+pub(crate) fn follow(
+    c_1: &mut [i64],
+    c_2: &mut [i64],
+    system: &WholeSystem,
+    scales: &[u64],
+    seats: &[Seat],
+    a: &[i64],
+    b: &[i64],
+    v: &[i64],
+    n: usize,
+    i: usize,
+    e: usize,
+    den: u64,
+    size: u64,
+) -> Option<()>
+    requires scales { AreScales system.now scales.now }
+    requires seated { IsSeated (height system.now) system.now.width n seats.now }
+    requires entries { length a.now ≡ height system.now * system.now.width }
+    requires sides { length b.now ≡ height system.now }
+    requires room { HasRoom system.now.width (2 ^ 62) a.now }
+    requires square { length v.now ≡ system.now.width * system.now.width }
+    requires side { i < height system.now }
+    requires column { e < system.now.width }
+    requires den_some { 0 < den }
+    requires den_small { den ≤ 2 ^ 62 }
+    requires size_small { size ≤ 2 ^ 62 }
+    requires numbers_small { IsSmall (2 ^ 62) v.now }
+    requires first_room { length c_1.old ≡ system.now.width }
+    requires second_room { length c_2.old ≡ system.now.width }
+    requires first_old_small { IsSmall (2 ^ 62) c_1.old }
+    requires second_old_small { IsSmall (2 ^ 62) c_2.old }
+    ensures values { IfSome result (λ _. AreFollowed system.now n seats.now scales.now a.now b.now v.now i e den size c_1.old c_2.old c_1.new c_2.new) }
+    ensures first_small { IfSome result (λ _. IsSmall (2 ^ 62) c_1.new) }
+    ensures second_small { IfSome result (λ _. IsSmall (2 ^ 62) c_2.new) }
+{
+    let step = step_of(system, scales, i);
+    let by = Divisor::of(den);
+    if let Some(()) = move_values(c_1, c_2, a, i, b[i], step, v, e, by, size) {
+        return Some(());
+    }
+    stand(c_1, c_2, system, scales, seats, b, v, n)?;
     Some(())
 }

@@ -13,10 +13,12 @@ run_on-found-requires-clause-start c =
     let more : List Row = c.requires.longer.0 in
     let e : c.args.longer.now ≡ lengthened r.system more = c.requires.longer.1 ∙ ap (λ (t : LinearSystem). lengthened t more) (sym c.self.view_is) in
     let first : IsFirstLater r.system c.first_later.result = subst (λ (t : LinearSystem). IsFirstLater t c.first_later.result) (sym c.self.view_is) c.first_later.ensures in
-    let same : (x : ℕ) → x < length c.deref-3.result.now → scale_at c.args.numbers.now.scales.now x ≡ scale_at c.deref-3.result.now x = c.begins_with.ensures c.if-not-begins_with.false in
-    begun_from r.system more r.scales.items r.seats.items r.v.items r.place r.end c.self.invariant c.first_later.result first c.deref.result.now c.deref.ensures.value
+    let same : (x : ℕ) → x < length c.deref-5.result.now → scale_at c.args.numbers.now.scales.now x ≡ scale_at c.deref-5.result.now x = c.begins_with.ensures c.if-not-begins_with.false in
+    begun_from r.system more r.scales.items r.seats.items r.v.items r.firsts.items r.seconds.items r.place r.end c.self.invariant c.first_later.result first c.deref.result.now c.deref.ensures.value
     c.height-2.result c.height-2.ensures
     c.put_seats.new.seats.items c.deref_mut.result.now c.deref_mut.ensures.value c.in_ok-put_seats.ensures.grown
-    c.deref-3.result.now c.deref-3.ensures.value c.args.numbers.now.scales.now same
+    c.deref-5.result.now c.deref-5.ensures.value c.args.numbers.now.scales.now same
     c.deref_mut-2.result.now (c.deref_mut-2.ensures.value ∙ c.in_ok-put_numbers.ensures ∙ c.deref-2.ensures.value)
+    c.deref_mut-3.result.now (c.deref_mut-3.ensures.value ∙ c.in_ok-put_numbers-2.ensures ∙ c.deref-3.ensures.value)
+    c.deref_mut-4.result.now (c.deref_mut-4.ensures.value ∙ c.in_ok-put_numbers-3.ensures ∙ c.deref-4.ensures.value)
     c.args.longer.now e c.in-Some.n c.args.numbers.now.a.now c.args.numbers.now.b.now c.requires.whole c.args.numbers.now.most_scale c.requires.scales

@@ -1,0 +1,32 @@
+use Rattle.std.proofs.Common.{◌≡◌, ℕ, ◌+◌, ◌*◌, ◌<◌, ◌≤◌, ◌^◌, ◌+ℤ◌, ◌*ℤ◌, neg_ℤ, ℤ, List, pos, get_or, set, length, sym, ◌∙◌, ap, subst, arith, to_z, of_z, unsigned_abs, ◌⊎◌, inl, inr, le_refl}
+use Rattle.std.specs.Int.{w64}
+use Rattle.std.proofs.lemmas.Bool.{cases_eq}
+use Rattle.mpc_whole.specs.Whole.{whole_at, whole_cell}
+use Rattle.mpc_whole.specs.Moved.{excess}
+use Rattle.mpc_whole.proofs.WholeSteps.{read_small, set_same, set_other, set_small, set_above}
+use Rattle.mpc_whole.proofs.whole_values.move_part.Goals as goal
+
+one_more : (xs : List ℤ) (j : ℕ) (z : ℤ) → j < length xs → (d : ℤ) (f : ℕ → ℤ) → ((k : ℕ) → k < j → whole_at xs k *ℤ d ≡ f k) → z *ℤ d ≡ f j → (k : ℕ) → k < j + 1 → whole_at (set xs j z) k *ℤ d ≡ f k
+one_more xs j z b d f h e k l = by (cases_eq k j)
+  where
+    by : (k ≡ j) ⊎ (k ≡ j → ⊥) → whole_at (set xs j z) k *ℤ d ≡ f k
+    by (inl q) = ap (λ u. u *ℤ d) (ap (whole_at (set xs j z)) q ∙ set_same xs j z b) ∙ e ∙ ap f (sym q)
+    by (inr q) = ap (λ u. u *ℤ d) (set_other xs j z b k q) ∙ h k (omega arith)
+
+pub loop-j-preserved : goal.loop-j-preserved
+loop-j-preserved c =
+    let w = length c.args.c.now in
+    let b : c.loop-j.j < length c.loop-j.c = (let q : length c.loop-j.c ≡ length c.args.c.now = c.loop-j.auto.c in let t = c.loop-j-test.true in omega arith) in
+    let z = to_z w64 (of_z w64 c.in_ok-new.new) in
+    let back : z ≡ c.in_ok-new.new = read_small c.in_ok-new.new c.in_ok-new.ensures.small in
+    let old : to_z w64 (of_z w64 (get_or c.loop-j.c c.loop-j.j (pos 0))) ≡ whole_at c.args.c.now c.loop-j.j = read_small _ (c.loop-j.invariant.small.each c.loop-j.j) ∙ c.loop-j.invariant.kept c.loop-j.j (le_refl c.loop-j.j) in
+    let factor : to_z w64 (of_z w64 (get_or c.args.v.now (c.loop-j.j * w + c.args.e) (pos 0))) ≡ whole_cell w c.args.v.now c.loop-j.j c.args.e = read_small _ (c.requires.numbers_small.each (c.loop-j.j * w + c.args.e)) in
+    let over : to_z w64 (of_z w64 c.in_ok-over.over) ≡ excess w c.args.a.now c.args.i (to_z w64 (of_z w64 c.args.limit)) c.args.by.den c.args.c.now = read_small _ c.in_ok-over.ensures.small ∙ c.in_ok-over.ensures.value in
+    let e : z *ℤ pos c.args.by.den ≡ (whole_at c.args.c.now c.loop-j.j *ℤ pos c.args.size) +ℤ neg_ℤ (whole_cell w c.args.v.now c.loop-j.j c.args.e *ℤ excess w c.args.a.now c.args.i (to_z w64 (of_z w64 c.args.limit)) c.args.by.den c.args.c.now) =
+    ap (λ u. u *ℤ pos c.args.by.den) back ∙ c.in_ok-new.ensures.value ∙ (λ t. (old t *ℤ pos c.args.size) +ℤ neg_ℤ (factor t *ℤ over t))
+    in
+    record {
+      done = one_more c.loop-j.c c.loop-j.j z b (pos c.args.by.den) (λ k. (whole_at c.args.c.now k *ℤ pos c.args.size) +ℤ neg_ℤ (whole_cell w c.args.v.now k c.args.e *ℤ excess w c.args.a.now c.args.i (to_z w64 (of_z w64 c.args.limit)) c.args.by.den c.args.c.now)) c.loop-j.invariant.done e;
+      kept = set_above c.loop-j.c c.loop-j.j z b c.args.c.now c.loop-j.invariant.kept;
+      small = set_small c.loop-j.c c.loop-j.j z b (2 ^ 62) c.loop-j.invariant.small (subst (λ u. unsigned_abs u ≤ 2 ^ 62) (sym back) c.in_ok-new.ensures.small);
+    }
