@@ -1,10 +1,10 @@
 //! Runs in whole numbers that are kept where they end.
 
-ghost use Rattle.std.specs.Prelude.{◌≡◌, ℕ, ◌+◌, ◌*◌, ◌<◌, ◌≤◌, ◌^◌, [], ◌∷◌, IsTrue, IfSome, IfOk, All, List, length, map, true, false};
+ghost use Rattle.std.specs.Prelude.{◌≡◌, ℕ, ◌+◌, ◌*◌, ◌<◌, ◌≤◌, ◌^◌, [], ◌∷◌, IsTrue, IfSome, IfOk, List, length, true, false};
 ghost use Rattle.mpc_rows.specs.LinearSystem.{height, row_at};
 ghost use Rattle.mpc_rows.specs.Run.{count, has_point, is_refuted, turn, last_position};
 ghost use Rattle.mpc_rows.specs.RunWidth.{RunFits};
-ghost use Rattle.mpc_rows.specs.LawRows.{whole_row, broken_row};
+ghost use Rattle.mpc_rows.specs.LawRows.{broken_row};
 ghost use Rattle.mpc_rows.specs.SetRuns.{turned};
 ghost use Rattle.mpc_whole.specs.declared.variables.Seat.{Seat};
 ghost use Rattle.mpc_whole.specs.Table.{IsSeated};
@@ -16,8 +16,8 @@ ghost use Rattle.mpc_beginnings.specs.Broken.{IsBroken};
 ghost use Rattle.mpc_beginnings.specs.Kept.{IsKept, IsFirstLater, IsLonger, IsUnderwayWithin, IsRefuted};
 
 use crate::lists::{
-    begins_with, first_numbers, first_seats, first_values, lengthen, push_rows, push_turned,
-    put_numbers, put_seats, sizes, with_row, with_turned,
+    begins_with, first_numbers, first_seats, first_values, lengthen, push_turned, put_numbers,
+    put_seats, sizes, with_row, with_turned,
 };
 use mpc_frac::Frac;
 use mpc_linear::RowInt;
@@ -540,21 +540,19 @@ impl KeptRun {
     }
 
     /// What the run of the system with these rows behind its own ends with, where the system given is
-    /// this one. It becomes the longer one, or has some of the rows.
+    /// this one. It becomes the longer one.
     fn end_with(
         &self,
         work: &mut Workspace,
         longer: &mut WholeSystem,
-        rows: &[RowInt],
+        rows: &WholeSystem,
     ) -> Result<Option<Ending>, AllocError>
         requires same { longer.old ≡ self.now }
-        requires rows { All (λ r. length r.a ≡ self.now.width) rows.now }
-        ensures end { IfOk result (λ o. IfSome o (λ e. turn (lengthened self.now (map whole_row rows.now)) (last_position (lengthened self.now (map whole_row rows.now))) ≡ turn_of e)) }
-        ensures fits { IfOk result (λ o. IfSome o (λ _. RunFits (lengthened self.now (map whole_row rows.now)))) }
+        requires rows { rows.now.width ≡ self.now.width }
+        ensures end { IfOk result (λ o. IfSome o (λ e. turn (lengthened self.now rows.now.rows) (last_position (lengthened self.now rows.now.rows)) ≡ turn_of e)) }
+        ensures fits { IfOk result (λ o. IfSome o (λ _. RunFits (lengthened self.now rows.now.rows))) }
     {
-        if !push_rows(longer, rows)? {
-            return Ok(None);
-        }
+        longer.append(rows)?;
         let numbers = longer.numbers();
         match self.go_on(
             &mut work.seats,
@@ -663,12 +661,12 @@ impl KeptRun {
         &self,
         alloc: Global,
         work: &mut Workspace,
-        rows: &[RowInt],
+        rows: &WholeSystem,
     ) -> Result<Option<bool>, AllocError>
-        requires { All (λ r. length r.a ≡ self.now.width) rows.now }
-        ensures point { IfOk result (λ o. IfSome o (λ yes. IsTrue yes → turn (lengthened self.now (map whole_row rows.now)) (last_position (lengthened self.now (map whole_row rows.now))) ≡ has_point)) }
-        ensures refuted { IfOk result (λ o. IfSome o (λ yes. yes ≡ false → IsRefuted (lengthened self.now (map whole_row rows.now)))) }
-        ensures fits { IfOk result (λ o. IfSome o (λ _. RunFits (lengthened self.now (map whole_row rows.now)))) }
+        requires { rows.now.width ≡ self.now.width }
+        ensures point { IfOk result (λ o. IfSome o (λ yes. IsTrue yes → turn (lengthened self.now rows.now.rows) (last_position (lengthened self.now rows.now.rows)) ≡ has_point)) }
+        ensures refuted { IfOk result (λ o. IfSome o (λ yes. yes ≡ false → IsRefuted (lengthened self.now rows.now.rows))) }
+        ensures fits { IfOk result (λ o. IfSome o (λ _. RunFits (lengthened self.now rows.now.rows))) }
     {
         let mut system = scratch(alloc, work.system.take())?;
         system.set_to(&self.system)?;

@@ -1,15 +1,13 @@
 //! The lists of a run.
 
-ghost use Rattle.std.specs.Prelude.{◌≡◌, ℕ, pos, ◌+◌, ◌-◌, ◌*◌, ◌<◌, ◌≤◌, [], ◌∷◌, IsTrue, IfSome, IfOk, OnOk, All, length, map, take};
+ghost use Rattle.std.specs.Prelude.{◌≡◌, ℕ, pos, ◌+◌, ◌-◌, ◌*◌, ◌<◌, ◌≤◌, [], ◌∷◌, IsTrue, IfSome, IfOk, OnOk, length};
 ghost use Rattle.mpc_rows.specs.LinearSystem.{LinearSystem, height, row_at};
-ghost use Rattle.mpc_rows.specs.LawRows.{whole_row};
 ghost use Rattle.mpc_rows.specs.SetRuns.{turned};
 ghost use Rattle.mpc_whole.specs.Table.{IsSeated, IsOpeningSeats, opening_seat};
 ghost use Rattle.mpc_whole.specs.Whole.{whole_at, scale_at, IsUnit};
 ghost use Rattle.mpc_beginnings.specs.Beginnings.{lengthened};
 ghost use Rattle.mpc_beginnings.specs.LongerSeats.{AreLongerSeats};
 
-use mpc_linear::RowInt;
 use mpc_rows::Row;
 use mpc_whole::{Seat, WholeSystem, clear, put_units};
 use std::alloc::{AllocError, Global};
@@ -171,20 +169,4 @@ pub(crate) fn with_turned(
     } else {
         Ok(None)
     }
-}
-
-/// Puts rows behind those of the system; says whether their numbers are small enough. Where they aren't, and without memory, some of them
-/// stand there.
-pub(crate) fn push_rows(system: &mut WholeSystem, rows: &[RowInt]) -> Result<bool, AllocError>
-    requires { All (λ r. length r.a ≡ system.old.width) rows.now }
-    ensures rows { IfOk result (λ done. IsTrue done → system.new ≡ lengthened system.old (map whole_row rows.now)) }
-    ensures width { system.new.width ≡ system.old.width }
-    ensures kept { take (length system.old.rows) system.new.rows ≡ system.old.rows }
-{
-    for row in rows {
-        if !system.push_whole(row)? {
-            return Ok(false);
-        }
-    }
-    Ok(true)
 }

@@ -10,6 +10,7 @@ use Rattle.mpc_rows.specs.declared.programs.Qp.{Qp}
 use Rattle.mpc_rows.specs.declared.laws.Law.{Law}
 use Rattle.mpc_rows.specs.LawRows.{IsLawRow, LawRowFits}
 use Rattle.mpc_rows.specs.SetRuns.{LawRowsFit}
+use Rattle.mpc_rows.specs.Verdicts.{IsFirstWideRow}
 use Rattle.mpc_systems.specs.Writing.{IsOfSize, AreOfSize}
 
 abbrev pub no_row : RowInt
@@ -48,3 +49,6 @@ module _ (qp : Qp) (law : Law) where
   module _ (k : ℕ) (all : k ≡ height qp.g) (rows : List RowInt) (first : AreFirstRows qp law k rows) where
     pub first_sizes : AreOfSize (length qp.counts) rows
     first_sizes = record { each = All-from_get_or (IsOfSize (length qp.counts)) rows no_row (λ j h. first.sizes j (omega (arith, first.count))) }
+
+pub never_wide : (qp : Qp) (law : Law) (i : ℕ) → LawRowsFit qp law (height qp.g) → IsFirstWideRow qp i law → ⊥
+never_wide qp law i fits w = w.here (fits i w.from_one w.to_last)

@@ -1,5 +1,5 @@
 -- The greatest common divisor of the numbers of a row of a table, number by number, and what is left without it.
-use Rattle.std.proofs.Common.{◌≡◌, ℕ, zero, suc, ◌+◌, ◌*◌, ◌^◌, ◌≤◌, ℤ, pos, negsuc, ◌+ℤ◌, ◌-ℤ◌, ◌*ℤ◌, neg_ℤ, unsigned_abs, to_z, of_z, refl, sym, ◌∙◌, ap, subst, arith, ⊎_elim, zero-lt-suc, le_trans, mul-le-mul_left, mul-le-mul_right}
+use Rattle.std.proofs.Common.{◌≡◌, ℕ, zero, suc, ◌+◌, ◌*◌, ◌^◌, ◌≤◌, ℤ, pos, negsuc, ◌+ℤ◌, ◌*ℤ◌, neg_ℤ, unsigned_abs, to_z, of_z, refl, sym, ◌∙◌, ap, subst, arith, ⊎_elim, zero-lt-suc, le_trans, mul-le-mul_left, mul-le-mul_right}
 use Rattle.std.specs.Int.{◌∣◌, w64, w128}
 use Rattle.std.proofs.lemmas.Bool.{cases_eq}
 use Rattle.std.proofs.lemmas.Int.{ints, unsigned_abs-mul, fits_signed_from_abs, to_z-of_z}
@@ -66,12 +66,6 @@ module _ (z number : ℤ) (e : z ≡ number) (h : unsigned_abs number ≤ 2 ^ 62
   pub read_size : (size : ℕ) → size ≡ unsigned_abs (to_z w64 (of_z w64 z)) → size ≡ unsigned_abs number
   read_size size q = q ∙ ap unsigned_abs read_number
 
--- what the code writes of a quotient, and of its negative
+-- what the code reads of a number in twice the width
 pub read_wide : (z : ℤ) → unsigned_abs z ≤ 2 ^ 62 → to_z w128 (of_z w128 (to_z w64 (of_z w64 z))) ≡ z
 read_wide z h = ap (λ y. to_z w128 (of_z w128 y)) (read_short z h) ∙ read_back z (omega arith)
-
-zero_less : (z : ℤ) → pos 0 -ℤ z ≡ neg_ℤ z
-zero_less z = omega (arith, ints)
-
-pub read_negated : (z : ℤ) → unsigned_abs z ≤ 2 ^ 62 → to_z w128 (of_z w128 (pos 0 -ℤ to_z w128 (of_z w128 (to_z w64 (of_z w64 z))))) ≡ neg_ℤ z
-read_negated z h = ap (λ y. to_z w128 (of_z w128 y)) (ap (λ y. pos 0 -ℤ y) (read_wide z h) ∙ zero_less z) ∙ read_back (neg_ℤ z) (let e = abs_negated z in omega arith)

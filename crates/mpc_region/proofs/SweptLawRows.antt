@@ -2,7 +2,6 @@
 use Rattle.std.proofs.Common.{◌≡◌, ℕ, suc, ◌+◌, ◌-◌, ◌*◌, ◌^◌, ◌<◌, ◌≤◌, List, [], ◌∷◌, ◌++◌, length, get_or, ℤ, pos, ◌*ℤ◌, neg_ℤ, unsigned_abs, refl, sym, ◌∙◌, ap, subst, arith, ⊎_elim, mul-pos, mul-le-mul_left, mul-one, le_trans}
 use Rattle.std.proofs.lemmas.Bool.{cases_lt}
 use Rattle.std.proofs.lemmas.List.{length-append, get_or_append_left}
-use Rattle.std.proofs.lemmas.List.Elements.{All-from_get_or}
 use Rattle.std.proofs.Math.Seq.{get_or-append_seam}
 use native.Mathlib.Nat.{mul_comm}
 use Rattle.mpc_exact.specs.Rational.{ℚ, int, frac, neg_ℚ, ◌*ℚ◌}
@@ -20,7 +19,7 @@ use Rattle.mpc_rows.specs.declared.laws.Law.{Law}
 use Rattle.mpc_rows.specs.ActiveSets.{row_of}
 use Rattle.mpc_rows.specs.LawRows.{law_form, law_sides, law_bound, IsLawRow, AreLawRows, LawRowFits}
 use Rattle.mpc_rows.specs.SetRuns.{LawRowsFit}
-use Rattle.mpc_systems.specs.Writing.{IsOfSize, AreOfSize}
+use Rattle.mpc_rows.specs.LinearSystem.{LinearSystem}
 use Rattle.mpc_whole.specs.OverLaws.{OverLaws}
 use Rattle.mpc_sweep.specs.declared.numbers.Swept.{Swept}
 use Rattle.mpc_sweep.specs.Sweeps.{swept}
@@ -28,10 +27,10 @@ use Rattle.mpc_sweep.specs.Numbers.{den_of, scale_of}
 use Rattle.mpc_sweep.specs.Laws.{RowIsReduced}
 use Rattle.mpc_region.specs.Shared.{shared_entry}
 use Rattle.mpc_region.specs.Sweeps.{sweeps_of, rights, IsTableOf, swept_law}
-use Rattle.mpc_region.specs.SweptRows.{number_from, IsRowFrom}
+use Rattle.mpc_region.specs.SweptRows.{number_from, IsRowFrom, AreRowsOf}
 use Rattle.mpc_region.proofs.LawRowLists.{no_row}
 use Rattle.mpc_region.proofs.SweptDivisors.{abs_negated, abs_product}
-use Rattle.mpc_region.proofs.SweptRows.{AreFilled, row_primitive, row_scaled, row_size}
+use Rattle.mpc_region.proofs.SweptRows.{AreFilled, HasFilled, row_primitive, row_scaled}
 use Rattle.mpc_region.proofs.SweptFits.{Over, sum_fits, whole_fits}
 use Rattle.mpc_region.proofs.SharedEntries.{member_line, right_line}
 use Rattle.mpc_region.proofs.SweptParts.{sweeps_size, first_sweep}
@@ -191,17 +190,14 @@ module _ (reduced : RowIsReduced) (over : OverLaws) (qp : Qp) (s : List ℕ) (ta
     law_row_fits = record { form = λ outside j h. coefficient_fits j h; whole = whole }
 
   -- ---- all rows
-  pub law_rows : (k : ℕ) (rows : List RowInt) → m ≤ k → AreFilled (λ r. number_from table (n + r) (rights qp)) m width k rows → AreLawRows qp (swept_law qp s) rows
+  law_rows : (k : ℕ) (rows : List RowInt) → k ≡ m → AreFilled (λ r. number_from table (n + r) (rights qp)) width k rows → AreLawRows qp (swept_law qp s) rows
   law_rows k rows h a = subst (λ l. AreLawRows qp l rows) (sym (swept_law_is qp s)) (record {
-    one_each = a.of_width.one_each;
+    one_each = a.one_each ∙ h;
     each = λ r l. law_row (r + 1) (omega arith) (omega arith) (get_or rows r no_row) (subst (λ q. IsRowFrom (number_from table (n + q) (rights qp)) width (get_or rows r no_row)) (omega arith) (a.each r (omega arith)));
   })
 
-  pub law_sizes : (k : ℕ) (rows : List RowInt) → m ≤ k → AreFilled (λ r. number_from table (n + r) (rights qp)) m width k rows → AreOfSize width rows
-  law_sizes k rows h a = record {
-    each = All-from_get_or (IsOfSize width) rows no_row
-        (λ r l. let e = a.of_width.one_each in row_size (number_from table (n + r) (rights qp)) width (get_or rows r no_row) (a.each r (omega arith)) (λ j. small (n + r) j));
-  }
+  pub law_system : (k : ℕ) (t : LinearSystem) → k ≡ m → HasFilled (λ r. number_from table (n + r) (rights qp)) width k t → AreRowsOf qp (swept_law qp s) t
+  law_system k t h a = record { list = a.list; of_law = law_rows k a.list h a.filled; width = a.width_is; rows = a.rows }
 
   pub law_fits : LawRowsFit qp (swept_law qp s) m
   law_fits = subst (λ l. LawRowsFit qp l m) (sym (swept_law_is qp s)) (λ i a b. law_row_fits i a b)

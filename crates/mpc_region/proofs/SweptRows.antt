@@ -1,10 +1,11 @@
 -- Rows in whole numbers without a common divisor, as they are read from a table.
 use Rattle.std.proofs.Common.{◌≡◌, ◌≢◌, ℕ, zero, suc, ◌+◌, ◌*◌, ◌^◌, ◌<◌, ◌≤◌, List, [], ◌∷◌, ◌++◌, length, get_or, set, map, max, All, ℤ, pos, negsuc, ◌*ℤ◌, neg_ℤ, unsigned_abs, refl, sym, ◌∙◌, ap, subst, arith, ◌⊎◌, inl, inr, ⊎_elim, mul-one, mul-le-mul_left}
 use Rattle.std.specs.Int.{◌∣◌}
-use Rattle.std.proofs.lemmas.Bool.{cases_eq}
+use Rattle.std.proofs.lemmas.Bool.{cases_eq, cases_lt}
 use Rattle.std.proofs.lemmas.Int.{unsigned_abs-mul}
-use Rattle.std.proofs.lemmas.List.{get_or_default, get_or-map, length-map, length-set, get_or-set_same, get_or-set_other}
+use Rattle.std.proofs.lemmas.List.{get_or_default, get_or-map, length-map, length-set, get_or-set_same, get_or-set_other, length-append, map-append, get_or_append_left, get_or_past}
 use Rattle.std.proofs.lemmas.List.Elements.{All-nil, All-cons, All-head, All-tail, All-push}
+use Rattle.std.proofs.Math.Seq.{get_or-append_seam}
 use Rattle.std.proofs.lemmas.Nat.Gcd.{dvd-zero}
 use Rattle.std.proofs.Math.Nat.{eq-zero_of_zero-dvd}
 use native.Mathlib.Nat.{mul_comm, mul-dvd-mul_left, dvd_of_mul-dvd-mul_left, eq-one_of_dvd-one}
@@ -19,8 +20,10 @@ use Rattle.mpc_space.specs.Vector.{coordinate, vec_scale}
 use Rattle.mpc_space.proofs.Entries.{same_entries, coordinate-scale, length-scale}
 use Rattle.mpc_linear.specs.declared.integers.RowInt.{RowInt}
 use Rattle.mpc_linear.specs.Whole.{IsScaledRow, DividesAll, IsPrimitive}
-use Rattle.mpc_systems.specs.Writing.{IsOfSize}
-use Rattle.mpc_region.specs.SweptRows.{DividesEach, IsSharedBy, AreSides, IsRowFrom, AreOfWidth}
+use Rattle.mpc_rows.specs.LinearSystem.{LinearSystem}
+use Rattle.mpc_rows.specs.LawRows.{whole_row}
+use Rattle.mpc_whole.specs.Whole.{whole_at, IsSmall}
+use Rattle.mpc_region.specs.SweptRows.{DividesEach, IsSharedBy, AreSides, IsRowFrom}
 use Rattle.mpc_region.proofs.LawRowLists.{no_row}
 use Rattle.mpc_region.proofs.SweptDivisors.{abs_negated}
 
@@ -162,38 +165,49 @@ module _ (f : ℕ → ℤ) (width : ℕ) (row : RowInt) (r : IsRowFrom f width r
   at_most_times : (m : ℕ) → m ≤ m * r.by
   at_most_times m = subst (λ n. n ≤ m * r.by) (mul-one m) (mul-le-mul_left m r.positive)
 
-  pub row_size : ((j : ℕ) → unsigned_abs (f j) ≤ 2 ^ 62) → IsOfSize width row
-  row_size small = record {
-    size = r.size;
-    small = λ j d h. below (unsigned_abs (get_or row.a j d)) (suc j) (side_size j d h);
-    b_small = below (unsigned_abs row.b) 0 bound_size;
-  }
-    where
-      below : (m j : ℕ) → m * r.by ≡ unsigned_abs (f j) → m < 2 ^ 127
-      below m j e = let a = at_most_times m in let b = small j in omega arith
+  -- a row of small numbers
+  module _ (small : (j : ℕ) → unsigned_abs (f j) ≤ 2 ^ 62) where
+    below : (m j : ℕ) → m * r.by ≡ unsigned_abs (f j) → m ≤ 2 ^ 62
+    below m j e = let a = at_most_times m in let b = small j in omega arith
+
+    pub sides_small : IsSmall (2 ^ 62) row.a
+    sides_small = record { each = λ j. at j (cases_lt j (length row.a)) }
+      where
+        at : (j : ℕ) → (j < length row.a) ⊎ (length row.a ≤ j) → unsigned_abs (whole_at row.a j) ≤ 2 ^ 62
+        at j (inl h) = below (unsigned_abs (get_or row.a j (pos 0))) (suc j) (side_size j (pos 0) h)
+        at j (inr h) = subst (λ z. unsigned_abs z ≤ 2 ^ 62) (sym (get_or_past row.a j (pos 0) h)) (omega arith)
+
+    pub bound_small : unsigned_abs row.b ≤ 2 ^ 62
+    bound_small = below (unsigned_abs row.b) 0 bound_size
 
 -- ---- the rows that are written so far, from a row of the table on
-pub record AreFilled (f : ℕ → ℕ → ℤ) (count width k : ℕ) (rows : List RowInt) : Type 0 where
-  pub of_width : AreOfWidth count width rows
+pub record AreFilled (f : ℕ → ℕ → ℤ) (width k : ℕ) (rows : List RowInt) : Type 0 where
+  pub one_each : length rows ≡ k
   pub each : (r : ℕ) → r < k → IsRowFrom (f r) width (get_or rows r no_row)
 
-pub filled_none : (f : ℕ → ℕ → ℤ) (count width : ℕ) (rows : List RowInt) → AreOfWidth count width rows → AreFilled f count width 0 rows
-filled_none f count width rows w = record { of_width = w; each = λ r h. absurd (omega arith) }
+-- they are those of a system
+pub record HasFilled (f : ℕ → ℕ → ℤ) (width k : ℕ) (s : LinearSystem) : Type 0 where
+  pub width_is : s.width ≡ width
+  pub list : List RowInt
+  pub filled : AreFilled f width k list
+  pub rows : s.rows ≡ map whole_row list
 
-pub filled_more : (f : ℕ → ℕ → ℤ) (count width k : ℕ) (rows new : List RowInt) (row : RowInt) → k < count → new ≡ set rows k row → IsRowFrom (f k) width row → AreFilled f count width k rows → AreFilled f count width (k + 1) new
-filled_more f count width k rows new row h e i w = subst (AreFilled f count width (k + 1)) (sym e) (record {
-  of_width = record {
-    one_each = length-set rows k row ∙ w.of_width.one_each;
-    widths = λ r l. ⊎_elim
-        (λ p. ap (λ x. length x.a) (here r p) ∙ i.size)
-        (λ p. ap (λ x. length x.a) (get_or-set_other rows k r row no_row p) ∙ w.of_width.widths r l)
+pub filled_none : (f : ℕ → ℕ → ℤ) (width : ℕ) (s : LinearSystem) → s.width ≡ width → s.rows ≡ [] → HasFilled f width 0 s
+filled_none f width s w e = record { width_is = w; list = []; filled = record { one_each = refl; each = λ r h. absurd (omega arith) }; rows = e }
+
+pub filled_more : (f : ℕ → ℕ → ℤ) (width k : ℕ) (s new : LinearSystem) (row : RowInt) → IsRowFrom (f k) width row → new.width ≡ s.width → new.rows ≡ s.rows ++ (whole_row row ∷ []) → HasFilled f width k s → HasFilled f width (k + 1) new
+filled_more f width k s new row i w e h = record {
+  width_is = w ∙ h.width_is;
+  list = h.list ++ (row ∷ []);
+  filled = record {
+    one_each = length-append h.list (row ∷ []) ∙ ap (λ n. n + 1) h.filled.one_each;
+    each = λ r l. ⊎_elim
+        (λ p. subst (λ x. IsRowFrom (f r) width x) (sym (last r p)) (subst (λ y. IsRowFrom (f y) width row) (sym p) i))
+        (λ p. subst (λ x. IsRowFrom (f r) width x) (sym (get_or_append_left h.list (row ∷ []) no_row r (omega (arith, h.filled.one_each)))) (h.filled.each r (omega arith)))
         (cases_eq r k);
   };
-  each = λ r l. ⊎_elim
-      (λ p. subst (λ x. IsRowFrom (f r) width x) (sym (here r p)) (subst (λ y. IsRowFrom (f y) width row) (sym p) i))
-      (λ p. subst (λ x. IsRowFrom (f r) width x) (sym (get_or-set_other rows k r row no_row p)) (w.each r (omega arith)))
-      (cases_eq r k);
-})
+  rows = e ∙ ap (λ xs. xs ++ (whole_row row ∷ [])) h.rows ∙ sym (map-append whole_row h.list (row ∷ []));
+}
   where
-    here : (r : ℕ) → r ≡ k → get_or (set rows k row) r no_row ≡ row
-    here r p = ap (λ y. get_or (set rows k row) y no_row) p ∙ get_or-set_same rows k row no_row (omega (arith, w.of_width.one_each))
+    last : (r : ℕ) → r ≡ k → get_or (h.list ++ (row ∷ [])) r no_row ≡ row
+    last r p = ap (λ y. get_or (h.list ++ (row ∷ [])) y no_row) (p ∙ sym h.filled.one_each) ∙ get_or-append_seam h.list row [] no_row

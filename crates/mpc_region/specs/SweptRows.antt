@@ -1,7 +1,11 @@
 -- A row of a swept table as a row in whole numbers without a common divisor.
-use Rattle.std.specs.Prelude.{◌≡◌, ℕ, suc, ◌+◌, ◌<◌, List, [], length, get_or, ℤ, pos, ◌*ℤ◌, neg_ℤ, unsigned_abs}
+use Rattle.std.specs.Prelude.{◌≡◌, ℕ, suc, ◌+◌, ◌<◌, List, length, map, get_or, ℤ, pos, ◌*ℤ◌, neg_ℤ, unsigned_abs}
 use Rattle.std.specs.Int.{◌∣◌}
 use Rattle.mpc_linear.specs.declared.integers.RowInt.{RowInt}
+use Rattle.mpc_rows.specs.declared.programs.Qp.{Qp}
+use Rattle.mpc_rows.specs.declared.laws.Law.{Law}
+use Rattle.mpc_rows.specs.LinearSystem.{LinearSystem}
+use Rattle.mpc_rows.specs.LawRows.{AreLawRows, whole_row}
 use Rattle.mpc_sweep.specs.declared.numbers.Swept.{Swept}
 use Rattle.mpc_sweep.specs.Numbers.{number}
 
@@ -34,7 +38,9 @@ pub record IsRowFrom (f : ℕ → ℤ) (width : ℕ) (row : RowInt) : Type 0 whe
   pub sides : AreSides f by row.a
   pub bound : row.b *ℤ pos by ≡ f 0
 
--- so many rows of so many coefficients
-pub record AreOfWidth (count width : ℕ) (rows : List RowInt) : Type 0 where
-  pub one_each : length rows ≡ count
-  pub widths : (r : ℕ) → r < count → length (get_or rows r (record { a = []; b = pos 0 })).a ≡ width
+-- the rows of a law as a system in the unknowns t
+pub record AreRowsOf (qp : Qp) (law : Law) (s : LinearSystem) : Type 0 where
+  pub list : List RowInt
+  pub of_law : AreLawRows qp law list
+  pub width : s.width ≡ length qp.counts
+  pub rows : s.rows ≡ map whole_row list

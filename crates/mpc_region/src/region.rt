@@ -1,6 +1,6 @@
 //! Whether the region of a law has a state of the box.
 
-ghost use Rattle.std.specs.Prelude.{◌≡◌, IsTrue, ◌↔◌, IfOk, IfSome, MatchResult, length};
+ghost use Rattle.std.specs.Prelude.{◌≡◌, [], IsTrue, ◌↔◌, IfOk, IfSome, MatchResult, length};
 ghost use Rattle.mpc_space.specs.Matrix.{height};
 ghost use Rattle.mpc_linear.specs.Answers.{IfWide as IfWideStep};
 ghost use Rattle.mpc_rows.specs.Laws.{HasLawShape, IsLaw, HasRegion};
@@ -8,6 +8,7 @@ ghost use Rattle.mpc_rows.specs.LawRows.{AreLawRows};
 ghost use Rattle.mpc_rows.specs.RunWidth.{RunFits};
 ghost use Rattle.mpc_rows.specs.SetRuns.{RegionFits, LawRowsFit, region_system};
 ghost use Rattle.mpc_rows.specs.Verdicts.{IsFirstWideRow};
+ghost use Rattle.mpc_beginnings.specs.Beginnings.{lengthened};
 ghost use Rattle.mpc_simplex.specs.Answer.{IfWide, HasPoint};
 ghost use Rattle.mpc_region.specs.Kept.{IsKept};
 ghost use Rattle.mpc_systems.specs.Writing.{AreOfSize};
@@ -19,6 +20,7 @@ use mpc_linear::{LinearError, RowInt};
 use mpc_rows::{Law, Qp, law_laws, law_row, region_laws};
 use mpc_simplex::SimplexError;
 use mpc_systems::region_system;
+use mpc_whole::WholeSystem;
 use std::alloc::Global;
 
 /// All rows of a law, in their order. `Wide` with the number, from 1, of the first row with a
@@ -62,22 +64,42 @@ pub fn has_region_anew(
     has_point(alloc, &system)
 }
 
-/// Whether the rows have a point in the box, by the run of the box that is kept. Nothing where that
-/// doesn't serve.
+/// Whether the rows of a system have a point in the box, by the run of the box that is kept. Nothing
+/// where that doesn't serve.
 pub fn meets_box(
     alloc: Global,
     _qp: &Qp,
     kept: &mut Kept,
-    rows: &[RowInt],
+    rows: &WholeSystem,
 ) -> Result<Option<bool>, NoMemory>
     requires kept { IsKept _qp.now kept.old }
-    requires size { AreOfSize (length _qp.now.counts) rows.now }
+    requires width { rows.now.width ≡ length _qp.now.counts }
     ensures kept { IsKept _qp.now kept.new }
-    ensures answer { IfOk result (λ o. IfSome o (λ yes. IsTrue yes ↔ HasPoint (region_system _qp.now rows.now))) }
-    ensures fits { IfOk result (λ o. IfSome o (λ _. RunFits (region_system _qp.now rows.now))) }
+    ensures answer { IfOk result (λ o. IfSome o (λ yes. IsTrue yes ↔ HasPoint (lengthened (region_system _qp.now []) rows.now.rows))) }
+    ensures fits { IfOk result (λ o. IfSome o (λ _. RunFits (lengthened (region_system _qp.now []) rows.now.rows))) }
 {
     match &kept.states {
         Some(run) => run.meets(alloc, &mut kept.work, rows),
+        None => Ok(None),
+    }
+}
+
+/// Whether the rows have a point in the box, by the run of the box that is kept. Nothing where that
+/// doesn't serve.
+pub fn rows_meet_box(
+    alloc: Global,
+    qp: &Qp,
+    kept: &mut Kept,
+    rows: &[RowInt],
+) -> Result<Option<bool>, NoMemory>
+    requires kept { IsKept qp.now kept.old }
+    requires size { AreOfSize (length qp.now.counts) rows.now }
+    ensures kept { IsKept qp.now kept.new }
+    ensures answer { IfOk result (λ o. IfSome o (λ yes. IsTrue yes ↔ HasPoint (region_system qp.now rows.now))) }
+    ensures fits { IfOk result (λ o. IfSome o (λ _. RunFits (region_system qp.now rows.now))) }
+{
+    match WholeSystem::of_rows(alloc, qp.counts.len() as u32, rows)? {
+        Some(whole) => meets_box(alloc, qp, kept, &whole),
         None => Ok(None),
     }
 }

@@ -1,24 +1,22 @@
 //! The law of an active set and the rows of the law, read from a table that is swept for the set.
 
-ghost use Rattle.std.specs.Prelude.{◌≡◌, ℕ, ◌+◌, ◌<◌, ◌≤◌, ◌^◌, IfOk, OnOk, IsTrue, length, unsigned_abs, pos, ◌*ℤ◌, int_div};
+ghost use Rattle.std.specs.Prelude.{◌≡◌, ℕ, ◌+◌, ◌<◌, ◌≤◌, ◌^◌, IfOk, OnOk, length, unsigned_abs, pos, ◌*ℤ◌, neg_ℤ, int_div};
 ghost use Rattle.std.specs.Int.{◌∣◌};
 ghost use Rattle.mpc_exact.specs.Rational.{frac};
 ghost use Rattle.mpc_space.specs.Matrix.{height};
 ghost use Rattle.mpc_sets.specs.RowSet.{IsSetOfRows};
-ghost use Rattle.mpc_rows.specs.LawRows.{AreLawRows};
 ghost use Rattle.mpc_rows.specs.SetRuns.{LawRowsFit};
-ghost use Rattle.mpc_systems.specs.Writing.{AreOfSize};
 ghost use Rattle.mpc_sweep.specs.Numbers.{IsTable, number, den_of};
 ghost use Rattle.mpc_region.specs.Sweeps.{rights, IsTableOf, swept_law};
-ghost use Rattle.mpc_region.specs.SweptRows.{number_from, DividesEach, IsSharedBy, AreSides, IsRowFrom, AreOfWidth};
+ghost use Rattle.mpc_region.specs.SweptRows.{number_from, DividesEach, IsSharedBy, AreSides, IsRowFrom, AreRowsOf};
 ghost use Rattle.mpc_region.specs.Writing.{WritesRow};
 
 use mpc_frac::{Frac, NoMemory, fit_laws, greatest_common_divisor};
-use mpc_linear::{Ints, Matrix, RowInt};
+use mpc_linear::Matrix;
 use mpc_rows::{Law, Qp, law_laws};
 use mpc_sets::ActiveSet;
 use mpc_sweep::{Swept, sweep_laws};
-use mpc_whole::over_laws;
+use mpc_whole::{WholeSystem, over_laws};
 use std::alloc::Global;
 
 /// The greatest common divisor of so many numbers of row i, from the column `first` on; 0 where all are 0.
@@ -65,8 +63,18 @@ fn quotient(z: i64, by: u64) -> i64
     if by == 1 { z } else { divided(z, by) }
 }
 
+/// Minus a number.
+#[inline]
+fn negated(z: i64) -> i64
+    requires { unsigned_abs z ≤ 2 ^ 62 }
+    ensures value { result ≡ neg_ℤ z }
+    ensures small { unsigned_abs result ≤ 2 ^ 62 }
+{
+    -z
+}
+
 /// Writes the negatives of the numbers of row i behind the column `first`, each over a divisor of all.
-fn write_sides(sides: &mut Ints, table: &Swept, i: usize, first: usize, by: u64)
+fn write_sides(sides: &mut [i64], table: &Swept, i: usize, first: usize, by: u64)
     requires table { IsTable table.now }
     requires row { i < table.now.rows }
     requires columns { first + (length sides.old + 1) ≤ table.now.columns }
@@ -78,91 +86,74 @@ fn write_sides(sides: &mut Ints, table: &Swept, i: usize, first: usize, by: u64)
 {
     for j in 0..sides.len() {
         let side = quotient(table.at(i, first + (j + 1)), by);
-        sides.set(j, -(side as i128));
+        sides[j] = negated(side);
     }
 }
 
-/// Writes the row in t that row i of the table shows, without a common divisor.
-fn write_row(row: &mut RowInt, table: &Swept, i: usize, first: usize)
+/// Writes the sides of the row in t that row i of the table shows, without a common divisor. The result is its bound.
+fn write_row(sides: &mut [i64], table: &Swept, i: usize, first: usize) -> i64
     requires table { IsTable table.now }
     requires row { i < table.now.rows }
-    requires columns { first + (length row.old.a + 1) ≤ table.now.columns }
-    ensures { IsRowFrom (number_from table.now i first) (length row.old.a) row.new }
+    requires columns { first + (length sides.old + 1) ≤ table.now.columns }
+    ensures { IsRowFrom (number_from table.now i first) (length sides.old) (record { a = sides.new; b = result }) }
 {
-    let shared = shared_divisor(table, i, first, row.a.len() + 1);
+    let shared = shared_divisor(table, i, first, sides.len() + 1);
     let by = shared.max(1);
-    write_sides(&mut row.a, table, i, first, by);
-    row.b = quotient(table.at(i, first), by) as i128;
+    write_sides(sides, table, i, first, by);
+    quotient(table.at(i, first), by)
 }
 
-/// Whether there are so many rows of so many coefficients.
-fn are_of_width(rows: &[RowInt], count: usize, width: usize) -> bool
-    ensures { IsTrue result → AreOfWidth count width rows.now }
-{
-    if rows.len() != count {
-        return false;
-    }
-    for row in rows {
-        if row.a.len() != width {
-            return false;
-        }
-    }
-    true
+/// The rows of a law as a system in the unknowns t, in whole numbers, with room for the sides of the row that is formed.
+#[derive(Drop)]
+pub struct LawLines {
+    pub rows: WholeSystem,
+    sides: Vec<i64>,
 }
 
-/// A row of so many zeros.
-fn blank_row(alloc: Global, width: usize) -> Result<RowInt, NoMemory>
-    ensures { IfOk result (λ row. length row.a ≡ width) }
-{
-    let mut sides = Ints::with_capacity(alloc, width)?;
-    for _ in 0..width {
-        sides.push(0)?;
+/// No rows, which take no memory.
+pub fn no_lines(alloc: Global) -> LawLines {
+    LawLines {
+        rows: WholeSystem::empty(alloc),
+        sides: Vec::new(alloc),
     }
-    Ok(RowInt { a: sides, b: 0 })
 }
 
-/// So many rows of so many coefficients, in place of others.
-fn make_rows(
-    alloc: Global,
-    rows: &mut Vec<RowInt>,
-    count: usize,
-    width: usize,
-) -> Result<(), NoMemory>
-    ensures { OnOk result (AreOfWidth count width rows.new.items) }
+/// Makes the list so long.
+fn make_sides(sides: &mut Vec<i64>, width: usize) -> Result<(), NoMemory>
+    ensures { OnOk result (length sides.new.items ≡ width) }
 {
-    if are_of_width(rows, count, width) {
+    if sides.len() == width {
         return Ok(());
     }
-    rows.clear();
-    for _ in 0..count {
-        rows.push(blank_row(alloc, width)?)?;
+    sides.clear();
+    for _ in 0..width {
+        sides.push(0)?;
     }
     Ok(())
 }
 
 /// The rows of the law that the table shows, in their order, in the room of other rows.
 pub fn fill_rows(
-    alloc: Global,
     qp: &Qp,
     table: &Swept,
     set: ActiveSet,
-    rows: &mut Vec<RowInt>,
+    lines: &mut LawLines,
 ) -> Result<(), NoMemory>
     requires set_of_rows { IsSetOfRows (height qp.now.g) set }
     requires table { IsTableOf qp.now set (rights qp.now) table.now }
-    ensures rows { OnOk result (AreLawRows qp.now (swept_law qp.now set) rows.new.items) }
-    ensures size { OnOk result (AreOfSize (length qp.now.counts) rows.new.items) }
+    ensures rows { OnOk result (AreRowsOf qp.now (swept_law qp.now set) lines.new.rows) }
     ensures fit { LawRowsFit qp.now (swept_law qp.now set) (height qp.now.g) }
 {
     sweep_laws();
     over_laws();
-    law_laws();
     let _ = set;
     let unknowns = qp.h.rows() as usize;
     let count = qp.g.rows() as usize;
-    make_rows(alloc, rows, count, qp.counts.len())?;
+    lines.rows.restart(qp.counts.len())?;
+    make_sides(&mut lines.sides, qp.counts.len())?;
     for i in 0..count {
-        write_row(&mut rows[i], table, unknowns + i, unknowns + count);
+        let bound = write_row(&mut lines.sides, table, unknowns + i, unknowns + count);
+        lines.rows.push_small(&lines.sides, bound)?;
     }
     Ok(())
 }

@@ -13,9 +13,9 @@ ghost use Rattle.mpc_region.specs.Sweeps.{rights, all_columns};
 ghost use Rattle.mpc_region.specs.SweptSets.{AreSweeps, IsSweptEnd};
 
 use crate::kept::shared_members;
+use crate::rows::{LawLines, no_lines};
 use crate::shared::shared_table;
 use mpc_frac::NoMemory;
-use mpc_linear::RowInt;
 use mpc_rows::Qp;
 use mpc_sets::ActiveSet;
 use mpc_sweep::{Swept, sweep_laws};
@@ -35,7 +35,7 @@ pub struct Sweeps {
     /// The table of the whole set, in the right sides.
     pub last: Swept,
     /// The rows of the last law.
-    pub rows: Vec<RowInt>,
+    pub lines: LawLines,
 }
 
 /// What the tables tell of the law of an active set.
@@ -58,7 +58,7 @@ pub fn no_sweeps(alloc: Global) -> Sweeps
         tables: Vec::new(alloc),
         count: 0,
         last: Swept::empty(alloc),
-        rows: Vec::new(alloc),
+        lines: no_lines(alloc),
     }
 }
 

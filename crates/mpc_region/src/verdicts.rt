@@ -19,8 +19,8 @@ ghost use Rattle.mpc_systems.specs.Writing.{AreOfSize};
 use crate::kept::Kept;
 use crate::law::{LawEnd, law_of};
 use crate::reach::is_reachable;
-use crate::region::{has_region_anew, law_rows, meets_box};
-use crate::rows::{fill_rows, law_of_table};
+use crate::region::{has_region_anew, law_rows, meets_box, rows_meet_box};
+use crate::rows::{LawLines, fill_rows, law_of_table};
 use crate::shared::Shared;
 use crate::sweeps::{Sweeps, SweptEnd, swept_end};
 use mpc_frac::NoMemory;
@@ -49,6 +49,22 @@ fn by_run(alloc: Global, qp: &Qp, law: Law, rows: &[RowInt]) -> Result<Verdict, 
     }
 }
 
+/// The verdict on a set that can grow, by a run of its own for the region of its law, of whose rows
+/// none is too wide.
+fn by_rows(alloc: Global, qp: &Qp, law: Law) -> Result<Verdict, NoMemory>
+    requires law { IsLaw qp.now law }
+    requires grows { CanGrow qp.now law.set }
+    requires reach_fits { ReachFits qp.now law.set }
+    requires rows_fit { LawRowsFit qp.now law (height qp.now.g) }
+    ensures { IfOk result (IsRight qp.now law.set) }
+{
+    match law_rows(alloc, qp, &law) {
+        Ok(rows) => by_run(alloc, qp, law, &rows),
+        Err(LinearError::Wide(_)) => unreachable!(),
+        Err(LinearError::NoMemory) => Err(NoMemory),
+    }
+}
+
 /// The verdict on a set that can grow, by the rows of its law.
 fn by_region(
     alloc: Global,
@@ -69,7 +85,7 @@ fn by_region(
 {
     region_laws();
     law_laws();
-    match meets_box(alloc, qp, kept, rows)? {
+    match rows_meet_box(alloc, qp, kept, rows)? {
         Some(true) => Ok(Verdict::Region(law)),
         Some(false) => Ok(Verdict::Hollow),
         None => by_run(alloc, qp, law, rows),
@@ -137,7 +153,7 @@ fn by_table(
     alloc: Global,
     qp: &Qp,
     table: &Swept,
-    rows: &mut Vec<RowInt>,
+    lines: &mut LawLines,
     kept: &mut Kept,
     set: ActiveSet,
 ) -> Result<Verdict, NoMemory>
@@ -152,11 +168,11 @@ fn by_table(
 {
     region_laws();
     law_laws();
-    fill_rows(alloc, qp, table, set, rows)?;
-    match meets_box(alloc, qp, kept, rows)? {
+    fill_rows(qp, table, set, lines)?;
+    match meets_box(alloc, qp, kept, &lines.rows)? {
         Some(true) => Ok(Verdict::Region(law_of_table(alloc, qp, table, set)?)),
         Some(false) => Ok(Verdict::Hollow),
-        None => by_run(alloc, qp, law_of_table(alloc, qp, table, set)?, rows),
+        None => by_rows(alloc, qp, law_of_table(alloc, qp, table, set)?),
     }
 }
 
@@ -180,9 +196,9 @@ fn by_shown(
     ensures right { IfOk result (IsRight qp.now set) }
 {
     if set.size() == 0 {
-        by_table(alloc, qp, &sweeps.tables[0], &mut sweeps.rows, kept, set)
+        by_table(alloc, qp, &sweeps.tables[0], &mut sweeps.lines, kept, set)
     } else {
-        by_table(alloc, qp, &sweeps.last, &mut sweeps.rows, kept, set)
+        by_table(alloc, qp, &sweeps.last, &mut sweeps.lines, kept, set)
     }
 }
 

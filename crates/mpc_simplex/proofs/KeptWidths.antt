@@ -1,14 +1,14 @@
 -- The rows of a longer system have one coefficient for each unknown.
-use Rattle.std.proofs.Common.{◌≡◌, ℕ, ◌<◌, List, [], ◌∷◌, map, length, All, ◌∙◌, subst}
+use Rattle.std.proofs.Common.{◌≡◌, ℕ, ◌<◌, List, [], ◌∷◌, map, length, ◌∙◌, subst}
 use Rattle.std.proofs.lemmas.List.{length-map}
-use Rattle.std.proofs.lemmas.List.Elements.{All-get_or, All-append, All-push, All-map, All-weaker}
+use Rattle.std.proofs.lemmas.List.Elements.{All-get_or, All-append, All-push}
 use Rattle.mpc_exact.specs.Rational.{int}
 use Rattle.mpc_space.proofs.Entries.{length-scale}
 use Rattle.mpc_linear.specs.declared.integers.RowInt.{RowInt}
 use Rattle.mpc_rows.specs.declared.systems.Row.{Row}
 use Rattle.mpc_rows.specs.LinearSystem.{LinearSystem, HasWidth, height, row_at, no_row}
 use Rattle.mpc_rows.specs.SetRuns.{turned}
-use Rattle.mpc_rows.specs.LawRows.{whole_row, broken_row}
+use Rattle.mpc_rows.specs.LawRows.{broken_row}
 use Rattle.mpc_beginnings.specs.Beginnings.{lengthened}
 
 abbrev pub AreWide : LinearSystem → Type 0
@@ -27,9 +27,5 @@ module _ (s : LinearSystem) (w : AreWide s) where
   pub broken_width : (row : RowInt) → length row.a ≡ s.width → AreWide (lengthened s (broken_row row ∷ []))
   broken_width row h = one_width (broken_row row) (length-scale _ (map int row.a) ∙ length-map row.a int ∙ h)
 
-  pub more_widths : (rows : List RowInt) → All (λ r. length r.a ≡ s.width) rows → AreWide (lengthened s (map whole_row rows))
-  more_widths rows h = record {
-    each = All-append (λ (q : Row). length q.a ≡ s.width) s.rows (map whole_row rows) w.each
-        (All-map (λ (q : Row). length q.a ≡ s.width) whole_row rows
-        (All-weaker (λ (q : RowInt). length q.a ≡ s.width) (λ (q : RowInt). length (whole_row q).a ≡ s.width) (λ q e. length-map q.a int ∙ e) rows h));
-  }
+  pub more_widths : (rows : List Row) → HasWidth s.width rows → AreWide (lengthened s rows)
+  more_widths rows h = record { each = All-append (λ (q : Row). length q.a ≡ s.width) s.rows rows w.each h.each }

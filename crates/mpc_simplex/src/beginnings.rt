@@ -1,8 +1,8 @@
 //! Runs that are kept where they end, for systems with further rows.
 
-ghost use Rattle.std.specs.Prelude.{◌≡◌, ◌<◌, ◌↔◌, ◌∷◌, [], All, IsTrue, IfOk, IfSome, length, map};
+ghost use Rattle.std.specs.Prelude.{◌≡◌, ◌<◌, ◌↔◌, ◌∷◌, [], IsTrue, IfOk, IfSome, length};
 ghost use Rattle.mpc_rows.specs.LinearSystem.{IsPairPoint, height, row_at};
-ghost use Rattle.mpc_rows.specs.LawRows.{whole_row, broken_row};
+ghost use Rattle.mpc_rows.specs.LawRows.{broken_row};
 ghost use Rattle.mpc_rows.specs.SetRuns.{turned};
 ghost use Rattle.mpc_rows.specs.Refutation.{Refutes};
 ghost use Rattle.mpc_rows.specs.RunWidth.{RunFits};
@@ -145,13 +145,14 @@ impl Beginning {
         &self,
         alloc: Global,
         work: &mut Workspace,
-        rows: &[RowInt],
+        rows: &WholeSystem,
     ) -> Result<Option<bool>, NoMemory>
-        requires { All (λ r. length r.a ≡ self.now.width) rows.now }
-        ensures answer { IfOk result (λ o. IfSome o (λ yes. IsTrue yes ↔ HasPoint (lengthened self.now (map whole_row rows.now)))) }
-        ensures fits { IfOk result (λ o. IfSome o (λ _. RunFits (lengthened self.now (map whole_row rows.now)))) }
+        requires { rows.now.width ≡ self.now.width }
+        ensures answer { IfOk result (λ o. IfSome o (λ yes. IsTrue yes ↔ HasPoint (lengthened self.now rows.now.rows))) }
+        ensures fits { IfOk result (λ o. IfSome o (λ _. RunFits (lengthened self.now rows.now.rows))) }
     {
         system_laws();
+        rows.has_width();
         let answer = self.run.meets(alloc, work, rows)?;
         Ok(answer)
     }

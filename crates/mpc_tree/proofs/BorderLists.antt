@@ -1,5 +1,5 @@
 -- The rows of the laws, law by law.
-use Rattle.std.proofs.Common.{◌≡◌, ℕ, ◌+◌, ◌<◌, List, [], ◌∷◌, ◌++◌, length, get_or, refl, sym, ◌∙◌, ap, subst, arith, All, ⊎_elim, Some, slice_get}
+use Rattle.std.proofs.Common.{◌≡◌, ℕ, ◌+◌, ◌<◌, List, [], ◌∷◌, ◌++◌, length, get_or, refl, sym, ◌∙◌, ap, subst, arith, All, ⊎_elim, Some, slice_get, Result, Ok, Err, IfOk}
 use Rattle.std.proofs.lemmas.Bool.{cases_eq}
 use Rattle.std.proofs.lemmas.List.{get_or_append_left, length-append}
 use Rattle.std.proofs.lemmas.Option.{slice_get_within, slice_get-get_or, get_or_from_slice_get}
@@ -12,6 +12,11 @@ use Rattle.mpc_rows.specs.SetRuns.{LawRowsFit}
 use Rattle.mpc_rows.specs.Verdicts.{IsFirstWideRow}
 use Rattle.mpc_tree.specs.Borders.{IsBorder}
 use Rattle.mpc_tree.proofs.NodeLemmas.{same_at}
+
+-- a list that has the rows of a law
+pub border_made : {E : Type 0} (qp : Qp) (law : Law) (rows : List RowInt) → IsBorder qp law rows → (made : Result (List RowInt) E) → IfOk made (λ border. border ≡ rows) → IfOk made (IsBorder qp law)
+border_made qp law rows b (Ok border) e = subst (IsBorder qp law) (sym e) b
+border_made qp law rows b (Err x) e = e
 
 -- the borders of the first laws
 pub record AreFirstBorders (qp : Qp) (laws : List Law) (upto : ℕ) (borders : List (List RowInt)) : Type 0 where

@@ -1,5 +1,5 @@
 -- The systems at a node have the rows of its cell first, so their runs go on from the cell's.
-use Rattle.std.proofs.Common.{◌≡◌, ◌++◌, List, [], ◌∷◌, All, length, map, Option, Some, None, Result, Ok, Err, IfSome, IfOk, refl, sym, ◌∙◌, ap, subst}
+use Rattle.std.proofs.Common.{◌≡◌, ◌↔◌, ℕ, ◌++◌, Bool, IsTrue, List, [], ◌∷◌, length, map, Option, Some, None, Result, Ok, Err, IfSome, IfOk, refl, sym, ◌∙◌, ap, subst}
 use Rattle.std.proofs.lemmas.List.{append-nil, append_assoc, length-map}
 use Rattle.mpc_exact.specs.Rational.{int}
 use Rattle.mpc_linear.specs.declared.integers.RowInt.{RowInt}
@@ -8,9 +8,11 @@ use Rattle.mpc_rows.specs.declared.systems.Row.{Row}
 use Rattle.mpc_rows.specs.LinearSystem.{LinearSystem}
 use Rattle.mpc_rows.specs.LawRows.{whole_row, broken_row}
 use Rattle.mpc_rows.specs.SetRuns.{box_rows}
+use Rattle.mpc_rows.specs.RunWidth.{RunFits}
+use Rattle.mpc_simplex.specs.Answer.{HasPoint}
 use Rattle.mpc_beginnings.specs.Beginnings.{lengthened}
 use Rattle.mpc_systems.specs.Systems.{meet_system, hold_system}
-use Rattle.mpc_systems.specs.Writing.{IsOfSize, AreOfSize}
+use Rattle.mpc_systems.specs.Writing.{IsOfSize}
 use Rattle.mpc_tree.specs.CellRuns.{boxed_cell, IsRunOf, IsRunWith}
 
 -- ---- the rows that are put behind a system have its width
@@ -60,14 +62,25 @@ module _ (qp : Qp) (cell : List Row) where
       kept_width : length qp.counts ≡ s.width
       kept_width = sym (ap (λ (z : LinearSystem). z.width) kept ∙ box_width)
 
-      pub meets_from : (rows : List RowInt) → lengthened s (map whole_row rows) ≡ meet_system qp cell rows
+      meets_from : (rows : List RowInt) → lengthened s (map whole_row rows) ≡ meet_system qp cell rows
       meets_from rows = ap (λ z. lengthened z (map whole_row rows)) kept ∙ meets rows
 
       pub holds_from : (row : RowInt) → lengthened s (broken_row row ∷ []) ≡ hold_system qp cell row
       holds_from row = ap (λ z. lengthened z (broken_row row ∷ [])) kept ∙ narrower (broken_row row) ∙ holds_side row
 
-      pub rows_fit : (rows : List RowInt) → AreOfSize (length qp.counts) rows → All (λ r. length r.a ≡ s.width) rows
-      rows_fit rows h = λ i r l. (h.each i r l).size ∙ kept_width
+      -- rows that are kept as a system
+      module _ (rows : List RowInt) (w : ℕ) (wide : w ≡ length qp.counts) (t : LinearSystem) (e : t ≡ record { width = w; rows = map whole_row rows }) where
+        pub behind_width : t.width ≡ s.width
+        behind_width = ap (λ (u : LinearSystem). u.width) e ∙ wide ∙ kept_width
+
+        behind_rows : lengthened s t.rows ≡ meet_system qp cell rows
+        behind_rows = ap (λ (u : LinearSystem). lengthened s u.rows) e ∙ meets_from rows
+
+        pub behind_answer : {E : Type 0} (r : Result (Option Bool) E) → IfOk r (λ o. IfSome o (λ yes. IsTrue yes ↔ HasPoint (lengthened s t.rows))) → IfOk r (λ o. IfSome o (λ yes. IsTrue yes ↔ HasPoint (meet_system qp cell rows)))
+        behind_answer r h = subst (λ u. IfOk r (λ o. IfSome o (λ yes. IsTrue yes ↔ HasPoint u))) behind_rows h
+
+        pub behind_fits : {E : Type 0} (r : Result (Option Bool) E) → IfOk r (λ o. IfSome o (λ _. RunFits (lengthened s t.rows))) → IfOk r (λ o. IfSome o (λ _. RunFits (meet_system qp cell rows)))
+        behind_fits r h = subst (λ u. IfOk r (λ o. IfSome o (λ _. RunFits u))) behind_rows h
 
       pub row_size : (row : RowInt) → IsOfSize (length qp.counts) row → length row.a ≡ s.width
       row_size row h = h.size ∙ kept_width

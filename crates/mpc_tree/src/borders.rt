@@ -1,7 +1,8 @@
 //! The rows of the laws of a table, which bound their regions.
 
-ghost use Rattle.std.specs.Prelude.{◌≡◌, ◌<◌, ◌≤◌, [], ◌∷◌, ◌++◌, All, IfOk, OnOk, length};
+ghost use Rattle.std.specs.Prelude.{◌≡◌, ◌<◌, ◌≤◌, [], ◌∷◌, ◌++◌, All, IfOk, IfSome, OnOk, length, map};
 ghost use Rattle.mpc_space.specs.Matrix.{height};
+ghost use Rattle.mpc_rows.specs.LawRows.{whole_row};
 ghost use Rattle.mpc_rows.specs.Laws.{IsLaw};
 ghost use Rattle.mpc_rows.specs.SetRuns.{LawRowsFit};
 ghost use Rattle.mpc_tree.specs.Borders.{IsBorder, AreBorders};
@@ -10,6 +11,7 @@ use mpc_frac::NoMemory;
 use mpc_linear::{LinearError, RowInt};
 use mpc_region::law_rows;
 use mpc_rows::{Law, LawTable, Qp};
+use mpc_whole::WholeSystem;
 use std::alloc::Global;
 use std::marker::Model;
 
@@ -17,6 +19,8 @@ use std::marker::Model;
 #[derive(Drop)]
 pub struct Border {
     items: Vec<RowInt>,
+    /// The same rows as a system in whole numbers, which is put behind that of a cell at once. Nothing where a number isn't small.
+    whole: Option<WholeSystem>,
 }
 
 impl Model for Border {
@@ -25,15 +29,21 @@ impl Model for Border {
 
     ghost Value = { List RowInt };
 
+    ghost use Rattle.mpc_tree.specs.Borders.{AreWhole};
+
     ghost view = { λ v. v.items.items };
+
+    ghost invariant = { λ v. AreWhole v.items.items v.whole };
 }
 
 impl Border {
-    /// The list of these rows.
-    pub fn of(items: Vec<RowInt>) -> Self
-        ensures { result ≡ items.items }
+    /// The list of these rows, in so many unknowns.
+    pub fn of(alloc: Global, width: u32, items: Vec<RowInt>) -> Result<Self, NoMemory>
+        requires { All (λ r. length r.a ≡ width) items.items }
+        ensures { IfOk result (λ border. border ≡ items.items) }
     {
-        Border { items }
+        let whole = WholeSystem::of_rows(alloc, width, &items)?;
+        Ok(Border { items, whole })
     }
 
     /// The rows, in their order.
@@ -41,6 +51,20 @@ impl Border {
         ensures { result.now ≡ self.now }
     {
         self.items.as_slice()
+    }
+
+    /// The rows as a system of so many unknowns in whole numbers, if they are kept as one.
+    pub fn whole(&self, width: usize) -> Option<&WholeSystem>
+        ensures { IfSome result (λ s. s.now ≡ record { width = width; rows = map whole_row self.now }) }
+    {
+        match &self.whole {
+            Some(rows) => if rows.unknowns() == width {
+                Some(rows)
+            } else {
+                None
+            },
+            None => None,
+        }
     }
 }
 
@@ -51,7 +75,7 @@ fn border_of(alloc: Global, qp: &Qp, law: &Law) -> Result<Border, NoMemory>
     ensures { IfOk result (λ rows. IsBorder qp.now law.now rows) }
 {
     match law_rows(alloc, qp, law) {
-        Ok(rows) => Ok(Border::of(rows)),
+        Ok(rows) => Border::of(alloc, qp.counts.len() as u32, rows),
         Err(LinearError::Wide(_)) => unreachable!(),
         Err(LinearError::NoMemory) => Err(NoMemory),
     }

@@ -55,29 +55,49 @@ pub enum Placed {
     Leaf(Node),
 }
 
+/// Whether the region with these rows meets the cell, by the run that is kept of the cell. Nothing where none is, or where whole numbers
+/// don't serve.
+fn kept_answer(
+    alloc: Global,
+    work: &mut Workspace,
+    qp: &Qp,
+    cell: &KeptCell,
+    border: &Border,
+) -> Result<Option<bool>, NoMemory>
+    requires { IsRunOf qp.now cell.now.rows.items cell.now.run }
+    ensures answer { IfOk result (λ o. IfSome o (λ yes. IsTrue yes ↔ HasPoint (meet_system qp.now cell.now.rows.items border.now))) }
+    ensures fits { IfOk result (λ o. IfSome o (λ _. RunFits (meet_system qp.now cell.now.rows.items border.now))) }
+{
+    let Some(run) = &cell.run else {
+        return Ok(None);
+    };
+    match border.whole(qp.counts.len()) {
+        Some(rows) => run.meets(alloc, work, rows),
+        None => Ok(None),
+    }
+}
+
 /// Whether the region with these rows meets the cell.
 fn region_meets(
     alloc: Global,
     work: &mut Workspace,
     qp: &Qp,
     cell: &KeptCell,
-    rows: &[RowInt],
+    border: &Border,
 ) -> Result<bool, SimplexError>
     requires cell { HasBoxWidth qp.now cell.now.rows.items }
     requires run { IsRunOf qp.now cell.now.rows.items cell.now.run }
-    requires plain { AreOfSize (length qp.now.counts) rows.now }
-    ensures answer { IfOk result (λ yes. IsTrue yes ↔ HasPoint (meet_system qp.now cell.now.rows.items rows.now)) }
-    ensures wide { MatchResult result (λ _. RunFits (meet_system qp.now cell.now.rows.items rows.now))
-        (λ e. IfRunWide e (¬ RunFits (meet_system qp.now cell.now.rows.items rows.now))) }
+    requires plain { AreOfSize (length qp.now.counts) border.now }
+    ensures answer { IfOk result (λ yes. IsTrue yes ↔ HasPoint (meet_system qp.now cell.now.rows.items border.now)) }
+    ensures wide { MatchResult result (λ _. RunFits (meet_system qp.now cell.now.rows.items border.now))
+        (λ e. IfRunWide e (¬ RunFits (meet_system qp.now cell.now.rows.items border.now))) }
 {
-    if let Some(run) = &cell.run {
-        match run.meets(alloc, work, rows) {
-            Ok(Some(meets)) => return Ok(meets),
-            Ok(None) => {}
-            Err(NoMemory) => return Err(SimplexError::NoMemory),
-        }
+    match kept_answer(alloc, work, qp, cell, border) {
+        Ok(Some(meets)) => return Ok(meets),
+        Ok(None) => {}
+        Err(NoMemory) => return Err(SimplexError::NoMemory),
     }
-    let Ok(system) = meet_system(alloc, qp, &cell.rows, rows) else {
+    let Ok(system) = meet_system(alloc, qp, &cell.rows, border.as_slice()) else {
         return Err(SimplexError::NoMemory);
     };
     has_point(alloc, &system)
@@ -133,7 +153,7 @@ fn first_meeting(
 {
     cell_laws();
     for place in next..laws.len() {
-        match region_meets(alloc, work, qp, cell, borders[place].as_slice()) {
+        match region_meets(alloc, work, qp, cell, &borders[place]) {
             Ok(true) => return Ok(Some(place)),
             Ok(false) => {}
             Err(SimplexError::Wide) => {

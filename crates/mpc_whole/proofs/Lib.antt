@@ -38,5 +38,6 @@ pub mod WholeMoves
 pub mod WholeRun
 pub mod WholeRows
 pub mod WholeSystems
+pub mod WholeAppended
 pub mod OverLaws
 pub mod TurnedWhole

@@ -96,26 +96,26 @@ listed_is n f xs e h =
     same_entries (listed n f) xs (length-listed n f ∙ sym e)
     (λ j k. let b : j < n = subst (λ u. j < u) (length-listed n f) k in coordinate-listed n f j b ∙ sym (h j b))
 
--- ---- a row that is left as it was
-row_same : (l m : WholeLists) (i : ℕ) → m.width ≡ l.width → ((j : ℕ) → j < l.width → whole_cell l.width m.a.items i j ≡ whole_cell l.width l.a.items i j)
-    → whole_at m.b.items i ≡ whole_at l.b.items i → scale_at m.scales.items (l.width + i) ≡ scale_at l.scales.items (l.width + i) → get_or m.strict.items i false ≡ get_or l.strict.items i false → kept_row m i ≡ kept_row l i
-row_same l m i w a b k s =
-    let scale : row_scale m i ≡ row_scale l i = ap (λ u. scale_at m.scales.items (u + i)) w ∙ k in
-    let wide : listed m.width (λ j. frac (whole_cell m.width m.a.items i j) (row_scale m i)) ≡ listed l.width (λ j. frac (whole_cell l.width m.a.items i j) (row_scale m i)) =
-    ap (λ u. listed u (λ j. frac (whole_cell u m.a.items i j) (row_scale m i))) w
+-- ---- a row whose numbers are those of a row of other lists
+pub row_same : (l m : WholeLists) (i k : ℕ) → m.width ≡ l.width → ((j : ℕ) → j < l.width → whole_cell l.width m.a.items k j ≡ whole_cell l.width l.a.items i j)
+    → whole_at m.b.items k ≡ whole_at l.b.items i → scale_at m.scales.items (l.width + k) ≡ scale_at l.scales.items (l.width + i) → get_or m.strict.items k false ≡ get_or l.strict.items i false → kept_row m k ≡ kept_row l i
+row_same l m i k w a b c s =
+    let scale : row_scale m k ≡ row_scale l i = ap (λ u. scale_at m.scales.items (u + k)) w ∙ c in
+    let wide : listed m.width (λ j. frac (whole_cell m.width m.a.items k j) (row_scale m k)) ≡ listed l.width (λ j. frac (whole_cell l.width m.a.items k j) (row_scale m k)) =
+    ap (λ u. listed u (λ j. frac (whole_cell u m.a.items k j) (row_scale m k))) w
     in
-    let same : listed l.width (λ j. frac (whole_cell l.width m.a.items i j) (row_scale m i)) ≡ listed l.width (λ j. frac (whole_cell l.width l.a.items i j) (row_scale l i)) =
-    listed_same l.width (λ j. frac (whole_cell l.width m.a.items i j) (row_scale m i)) (λ j. frac (whole_cell l.width l.a.items i j) (row_scale l i)) (λ j h t. frac (a j h t) (scale t))
+    let same : listed l.width (λ j. frac (whole_cell l.width m.a.items k j) (row_scale m k)) ≡ listed l.width (λ j. frac (whole_cell l.width l.a.items i j) (row_scale l i)) =
+    listed_same l.width (λ j. frac (whole_cell l.width m.a.items k j) (row_scale m k)) (λ j. frac (whole_cell l.width l.a.items i j) (row_scale l i)) (λ j h t. frac (a j h t) (scale t))
     in
     let sides = wide ∙ same in
     λ t. record { a = sides t; b = frac (b t) (scale t); strict = s t }
 
-cell_inside : (l : WholeLists) → AreLists l → (i j : ℕ) → i < length l.b.items → j < l.width → i * l.width + j < length l.a.items
+pub cell_inside : (l : WholeLists) → AreLists l → (i j : ℕ) → i < length l.b.items → j < l.width → i * l.width + j < length l.a.items
 cell_inside l o i j h k = let e = o.entries_size in let r = row_below l.width i (length l.b.items) j h k in omega arith
 
-kept_rows : (l m : WholeLists) → AreLists l → IsKept l m → (i : ℕ) → i < length l.b.items → kept_row m i ≡ kept_row l i
+pub kept_rows : (l m : WholeLists) → AreLists l → IsKept l m → (i : ℕ) → i < length l.b.items → kept_row m i ≡ kept_row l i
 kept_rows l m o k i h =
-    row_same l m i k.width (λ j b. kept_at l.a.items m.a.items (pos 0) (i * l.width + j) k.entries (cell_inside l o i j h b))
+    row_same l m i i k.width (λ j b. kept_at l.a.items m.a.items (pos 0) (i * l.width + j) k.entries (cell_inside l o i j h b))
     (kept_at l.b.items m.b.items (pos 0) i k.sides h) (kept_at l.scales.items m.scales.items 0 (l.width + i) k.scales (let e = o.scales_size in omega arith))
     (kept_at l.strict.items m.strict.items false i k.strict (let e = o.strict_size in omega arith))
 
@@ -184,7 +184,7 @@ module _ (l m : WholeLists) (o : AreLists l) (c : IsCopy l m) where
   copied_rows =
       ap (λ (xs : List ℤ). rows_of (length xs) (kept_row m)) c.sides
       ∙ rows_of-same (length l.b.items) (kept_row m) (kept_row l)
-      (λ i h. row_same l m i c.width (λ j b. ap (λ xs. whole_cell l.width xs i j) c.entries) (ap (λ xs. whole_at xs i) c.sides) (ap (λ xs. scale_at xs (l.width + i)) c.scales) (ap (λ xs. get_or xs i false) c.strict))
+      (λ i h. row_same l m i i c.width (λ j b. ap (λ xs. whole_cell l.width xs i j) c.entries) (ap (λ xs. whole_at xs i) c.sides) (ap (λ xs. scale_at xs (l.width + i)) c.scales) (ap (λ xs. get_or xs i false) c.strict))
 
   pub copied_system : system_of m ≡ system_of l
   copied_system = λ t. record { width = c.width t; rows = copied_rows t }
@@ -226,7 +226,7 @@ module _ (l m : WholeLists) (o : AreLists l) (count : ℕ) (few : count ≤ leng
 
   row_fewer : (i : ℕ) → i < count → kept_row m i ≡ kept_row l i
   row_fewer i h =
-      row_same l m i c.width
+      row_same l m i i c.width
       (λ j b. ap (λ xs. whole_cell l.width xs i j) c.entries ∙ get_or-take (count * l.width) l.a.items (i * l.width + j) (pos 0) (row_below l.width i count j h b))
       (ap (λ xs. whole_at xs i) c.sides ∙ get_or-take count l.b.items i (pos 0) h)
       (ap (λ xs. scale_at xs (l.width + i)) c.scales ∙ get_or-take (l.width + count) l.scales.items (l.width + i) 0 (omega arith))

@@ -1,5 +1,5 @@
 -- Systems kept as whole numbers over a scale for each row.
-use Rattle.std.specs.Prelude.{◌≡◌, ℕ, zero, suc, ◌+◌, ◌*◌, ◌<◌, ◌≤◌, ◌^◌, Bool, true, false, cond, List, [], ◌∷◌, ◌++◌, length, take, get_or, ℤ, neg_ℤ, unsigned_abs, Result, IfOk, OnErr}
+use Rattle.std.specs.Prelude.{◌≡◌, ℕ, zero, suc, ◌+◌, ◌*◌, ◌<◌, ◌≤◌, ◌^◌, Bool, true, false, cond, List, [], ◌∷◌, ◌++◌, length, take, drop, get_or, ℤ, neg_ℤ, unsigned_abs, Result, IfOk, OnErr}
 use Rattle.mpc_exact.specs.Rational.{ℚ, frac}
 use Rattle.mpc_space.specs.Vector.{coordinate, listed}
 use Rattle.mpc_rows.specs.LinearSystem.{LinearSystem}
@@ -77,6 +77,17 @@ pub record IsAdded (old new : WholeLists) (row : Row) : Type 0 where
   pub strict : new.strict.items ≡ old.strict.items ++ row.strict ∷ []
   pub side_bound : unsigned_abs side ≤ new.most_side
   pub scale_bound : scale ≤ new.most_scale
+
+-- the rows of other lists stand behind the others, each with its scale, and no bound is below those of either
+pub record AreAdded (old other new : WholeLists) : Type 0 where
+  pub width : new.width ≡ old.width
+  pub entries : new.a.items ≡ old.a.items ++ other.a.items
+  pub sides : new.b.items ≡ old.b.items ++ other.b.items
+  pub scales : new.scales.items ≡ old.scales.items ++ drop other.width other.scales.items
+  pub strict : new.strict.items ≡ old.strict.items ++ other.strict.items
+  pub most_entry : other.most_entry ≤ new.most_entry
+  pub most_side : other.most_side ≤ new.most_side
+  pub most_scale : other.most_scale ≤ new.most_scale
 
 -- only the first so many rows are left
 pub record IsCut (old new : WholeLists) (count : ℕ) : Type 0 where

@@ -1,18 +1,18 @@
 //! Systems whose rows are whole numbers over a scale each.
 
-ghost use Rattle.std.specs.Prelude.{◌≡◌, ℕ, ℤ, pos, ◌+◌, ◌-◌, ◌*◌, ◌<◌, ◌≤◌, ◌^◌, Bool, true, cond, List, [], ◌∷◌, ◌++◌, length, take, get_or, neg_ℤ, unsigned_abs, IsTrue, IfSome, IfOk, OnOk, OnErr};
+ghost use Rattle.std.specs.Prelude.{◌≡◌, ℕ, ℤ, pos, ◌+◌, ◌-◌, ◌*◌, ◌<◌, ◌≤◌, ◌^◌, Bool, true, cond, List, [], ◌∷◌, ◌++◌, All, length, take, map, replicate, get_or, neg_ℤ, unsigned_abs, IsTrue, IfSome, IfOk, OnOk, OnErr};
 ghost use Rattle.mpc_exact.specs.Rational.{int, frac};
 ghost use Rattle.mpc_space.specs.Vector.{coordinate};
-ghost use Rattle.mpc_rows.specs.LinearSystem.{height, row_at};
+ghost use Rattle.mpc_rows.specs.LinearSystem.{HasWidth, height, row_at};
 ghost use Rattle.mpc_rows.specs.LawRows.{whole_row, broken_row};
 ghost use Rattle.mpc_rows.specs.SetRuns.{turned};
 ghost use Rattle.mpc_rows.specs.declared.systems.Row.{Row};
 ghost use Rattle.mpc_whole.specs.declared.whole_systems.WholeLists.{WholeLists};
 ghost use Rattle.mpc_whole.specs.Whole.{whole_at, scale_at, IsSmall, IsWholeSystem};
-ghost use Rattle.mpc_whole.specs.WholeSystems.{kept_row, system_of, AreLists, AreBehind, IsKept, IsAdded, IsCut, IsSettled, IsCopy, IsEmpty, negated_where};
+ghost use Rattle.mpc_whole.specs.WholeSystems.{kept_row, system_of, AreLists, AreBehind, IsKept, IsAdded, AreAdded, IsCut, IsSettled, IsCopy, IsEmpty, negated_where};
 
 use crate::whole_numbers::{narrow, negative};
-use crate::whole_rows::{row_scale, scaled};
+use crate::whole_rows::{greatest, row_scale, scaled};
 use mpc_frac::Frac;
 use mpc_linear::RowInt;
 use mpc_rows::{Row, System};
@@ -219,6 +219,46 @@ fn add_turned(lists: &mut WholeLists, i: usize) -> Result<bool, AllocError>
     Ok(true)
 }
 
+/// Puts the row of these small numbers behind the others, or a part of it without memory.
+fn add_small(lists: &mut WholeLists, entries: &[i64], side: i64) -> Result<(), AllocError>
+    requires lists { AreLists lists.old }
+    requires width { length entries.now ≡ lists.old.width }
+    requires entries_small { IsSmall (2 ^ 62) entries.now }
+    requires side_small { unsigned_abs side ≤ 2 ^ 62 }
+    ensures kept { IsKept lists.old lists.new }
+    ensures added { OnOk result (IsAdded lists.old lists.new (whole_row (record { a = entries.now; b = side }))) }
+{
+    lists.a.extend_from_slice(entries)?;
+    add_ends(
+        &mut lists.b,
+        &mut lists.scales,
+        &mut lists.strict,
+        side,
+        1,
+        false,
+    )?;
+    lists.most_entry = lists.most_entry.max(greatest(entries));
+    lists.most_side = lists.most_side.max(side.unsigned_abs());
+    Ok(())
+}
+
+/// Puts the rows of other lists behind the others, or a part of them without memory.
+fn add_lists(lists: &mut WholeLists, other: &WholeLists) -> Result<(), AllocError>
+    requires { other.now.width ≤ length other.now.scales.items }
+    ensures kept { IsKept lists.old lists.new }
+    ensures added { OnOk result (AreAdded lists.old other.now lists.new) }
+{
+    let scales = other.scales.as_slice();
+    lists.a.extend_from_slice(other.a.as_slice())?;
+    lists.b.extend_from_slice(other.b.as_slice())?;
+    lists.scales.extend_from_slice(&scales[other.width..])?;
+    lists.strict.extend_from_slice(other.strict.as_slice())?;
+    lists.most_entry = lists.most_entry.max(other.most_entry);
+    lists.most_side = lists.most_side.max(other.most_side);
+    lists.most_scale = lists.most_scale.max(other.most_scale);
+    Ok(())
+}
+
 /// Keeps the first so many rows.
 fn cut(lists: &mut WholeLists, count: usize)
     requires width { lists.old.width ≤ length lists.old.scales.items }
@@ -316,6 +356,17 @@ fn clear(lists: &mut WholeLists)
     lists.most_scale = 1;
 }
 
+/// Puts the scale 1 of each of so many unknowns in place of other scales, or of some of them without memory.
+fn put_ones(scales: &mut Vec<u64>, width: usize) -> Result<(), AllocError>
+    ensures { OnOk result (scales.new.items ≡ replicate width 1) }
+{
+    scales.clear();
+    for _ in 0..width {
+        scales.push(1)?;
+    }
+    Ok(())
+}
+
 /// The numbers of a system, with bounds of their sizes.
 #[derive(Clone, Copy, Drop)]
 pub struct WholeNumbers<'a> {
@@ -370,6 +421,25 @@ impl WholeSystem {
         })
     }
 
+    /// The system without unknowns and rows, which takes no memory.
+    pub fn empty(alloc: Global) -> WholeSystem
+        ensures width { result.width ≡ 0 }
+        ensures rows { result.rows ≡ [] }
+    {
+        WholeSystem {
+            lists: WholeLists {
+                width: 0,
+                a: Vec::new(alloc),
+                b: Vec::new(alloc),
+                scales: Vec::new(alloc),
+                strict: Vec::new(alloc),
+                most_entry: 0,
+                most_side: 1,
+                most_scale: 1,
+            },
+        }
+    }
+
     /// The same rows, if each is whole times a scale of at most 2^40, with numbers of at most 2^62.
     pub fn read(alloc: Global, system: &System) -> Result<Option<WholeSystem>, AllocError>
         ensures { IfOk result (λ o. IfSome o (λ w. w ≡ system.now)) }
@@ -378,6 +448,25 @@ impl WholeSystem {
         whole.reserve(system.height())?;
         for i in 0..system.height() {
             if !whole.push(system.row(i))? {
+                return Ok(None);
+            }
+        }
+        Ok(Some(whole))
+    }
+
+    /// The system of these rows, if their numbers are at most 2^62 in size.
+    pub fn of_rows(
+        alloc: Global,
+        width: u32,
+        rows: &[RowInt],
+    ) -> Result<Option<WholeSystem>, AllocError>
+        requires { All (λ r. length r.a ≡ width) rows.now }
+        ensures { IfOk result (λ o. IfSome o (λ w. w ≡ record { width = width; rows = map whole_row rows.now })) }
+    {
+        let mut whole = WholeSystem::new(alloc, width)?;
+        whole.reserve(rows.len())?;
+        for row in rows {
+            if !whole.push_whole(row)? {
                 return Ok(None);
             }
         }
@@ -453,6 +542,42 @@ impl WholeSystem {
         settle(&mut self.lists, height, added)
     }
 
+    /// Puts the row `a · t ≤ b` of numbers of at most 2^62 in size behind the others. Without memory the system stays as it was.
+    pub fn push_small(&mut self, a: &[i64], b: i64) -> Result<(), AllocError>
+        requires width { length a.now ≡ self.old.width }
+        requires entries_small { IsSmall (2 ^ 62) a.now }
+        requires side_small { unsigned_abs b ≤ 2 ^ 62 }
+        ensures width { self.new.width ≡ self.old.width }
+        ensures ok { OnOk result (self.new.rows ≡ self.old.rows ++ whole_row (record { a = a.now; b = b }) ∷ []) }
+        ensures err { OnErr result (self.new.rows ≡ self.old.rows) }
+    {
+        let height = self.lists.b.len();
+        match add_small(&mut self.lists, a, b) {
+            Ok(()) => Ok(()),
+            Err(error) => {
+                cut(&mut self.lists, height);
+                Err(error)
+            }
+        }
+    }
+
+    /// Puts all rows of another system behind the others. Without memory the system stays as it was.
+    pub fn append(&mut self, other: &WholeSystem) -> Result<(), AllocError>
+        requires { other.now.width ≡ self.old.width }
+        ensures width { self.new.width ≡ self.old.width }
+        ensures ok { OnOk result (self.new.rows ≡ self.old.rows ++ other.now.rows) }
+        ensures err { OnErr result (self.new.rows ≡ self.old.rows) }
+    {
+        let height = self.lists.b.len();
+        match add_lists(&mut self.lists, &other.lists) {
+            Ok(()) => Ok(()),
+            Err(error) => {
+                cut(&mut self.lists, height);
+                Err(error)
+            }
+        }
+    }
+
     /// Puts the strict row `-a · t < -b`, which is met where this one fails, behind the others, if its numbers are at most 2^62 in size; says
     /// whether they were. Without memory, and where they weren't, the system stays as it was.
     pub fn push_broken(&mut self, row: &RowInt) -> Result<bool, AllocError>
@@ -493,6 +618,26 @@ impl WholeSystem {
         filled
     }
 
+    /// Becomes the system of so many unknowns without rows, in its own memory where that is large enough. Without memory it becomes the
+    /// system without unknowns and rows.
+    pub fn restart(&mut self, width: usize) -> Result<(), AllocError>
+        ensures ok { OnOk result (self.new.width ≡ width) }
+        ensures err { OnErr result (self.new.width ≡ 0) }
+        ensures rows { self.new.rows ≡ [] }
+    {
+        clear(&mut self.lists);
+        match put_ones(&mut self.lists.scales, width) {
+            Ok(()) => {
+                self.lists.width = width;
+                Ok(())
+            }
+            Err(error) => {
+                self.lists.scales.clear();
+                Err(error)
+            }
+        }
+    }
+
     /// Keeps the first so many rows and gives up the others.
     pub fn truncate(&mut self, count: usize)
         ensures width { self.new.width ≡ self.old.width }
@@ -501,6 +646,13 @@ impl WholeSystem {
         if count < self.lists.b.len() {
             cut(&mut self.lists, count);
         }
+    }
+
+    /// Each row has one coefficient for each unknown. The call does nothing: its contract is the law.
+    pub fn has_width(&self)
+        ensures { HasWidth self.now.width self.now.rows }
+    {
+        let _ = &self.lists;
     }
 
     /// The numbers of the rows times their scales.

@@ -3,10 +3,10 @@ use Rattle.mpc_region.proofs.BoxRuns.{width_is, box_answer, box_fits}
 use Rattle.mpc_region.proofs.region.meets_box.Goals as goal
 
 pub meets-requires : goal.meets-requires
-meets-requires c = λ k d h. (c.requires.size.each k d h).size ∙ sym (width_is c.args._qp.now c.args.kept.now.states c.in-Some.run' c.in-Some.is c.requires.kept.states)
+meets-requires c = c.requires.width ∙ sym (width_is c.args._qp.now c.args.kept.now.states c.in-Some.run' c.in-Some.is c.requires.kept.states)
 
 pub returns-in-Some-clause-answer : goal.returns-in-Some-clause-answer
-returns-in-Some-clause-answer c = box_answer c.args._qp.now c.args.kept.now.states c.in-Some.run' c.in-Some.is c.requires.kept.states c.args.rows.now c.meets.result c.meets.ensures.answer
+returns-in-Some-clause-answer c = box_answer c.args._qp.now c.args.kept.now.states c.in-Some.run' c.in-Some.is c.requires.kept.states c.args.rows.now.rows c.meets.result c.meets.ensures.answer
 
 pub returns-in-Some-clause-fits : goal.returns-in-Some-clause-fits
-returns-in-Some-clause-fits c = box_fits c.args._qp.now c.args.kept.now.states c.in-Some.run' c.in-Some.is c.requires.kept.states c.args.rows.now c.meets.result c.meets.ensures.fits
+returns-in-Some-clause-fits c = box_fits c.args._qp.now c.args.kept.now.states c.in-Some.run' c.in-Some.is c.requires.kept.states c.args.rows.now.rows c.meets.result c.meets.ensures.fits

@@ -1,54 +1,69 @@
-use Rattle.std.proofs.Common.{◌≡◌, ◌<◌, ◌+◌, length, get_or, ◌∙◌, ap, subst₂, refl, arith}
-use Rattle.std.proofs.lemmas.List.{get_or_read}
+use Rattle.std.proofs.Common.{◌≡◌, ◌<◌, ◌≤◌, ◌^◌, ◌+◌, ◌*◌, ◌∷◌, ◌++◌, [], length, drop, unsigned_abs, to_z, of_z, ◌∙◌, sym, ap, subst, subst₂, arith}
+use Rattle.std.specs.Int.{w64}
+use Rattle.std.proofs.lemmas.List.{take_at}
+use Rattle.mpc_linear.specs.declared.integers.RowInt.{RowInt}
 use Rattle.mpc_space.specs.Matrix.{height}
+use Rattle.mpc_rows.specs.LawRows.{whole_row}
 use Rattle.mpc_region.specs.Sweeps.{rights}
-use Rattle.mpc_region.specs.SweptRows.{number_from, IsRowFrom, AreOfWidth}
-use Rattle.mpc_region.proofs.LawRowLists.{no_row}
-use Rattle.mpc_region.proofs.SweptRows.{filled_none, filled_more}
-use Rattle.mpc_region.proofs.SweptLawRows.{law_rows, law_sizes, law_fits}
+use Rattle.mpc_region.specs.SweptRows.{number_from, IsRowFrom}
+use Rattle.mpc_region.proofs.SweptDivisors.{read_short}
+use Rattle.mpc_region.proofs.SweptRows.{filled_more, sides_small, bound_small}
+use Rattle.mpc_region.proofs.SweptLawRows.{law_system, law_fits}
 use Rattle.mpc_region.proofs.rows.fill_rows.Goals as goal
-use Rattle.mpc_region.proofs.rows.fill_rows.Goals.{After-index_mut}
+use Rattle.mpc_region.proofs.rows.fill_rows.Goals.{After-deref}
 
-pub returns-in_err-make_rows-clause-fit : goal.returns-in_err-make_rows-clause-fit
-returns-in_err-make_rows-clause-fit c = law_fits c.sweep_laws.ensures.reduced c.over_laws.ensures c.args.qp.now c.args.set c.args.table.now c.requires.set_of_rows c.requires.table
+pub returns-in_err-restart-clause-fit : goal.returns-in_err-restart-clause-fit
+returns-in_err-restart-clause-fit c = law_fits c.sweep_laws.ensures.reduced c.over_laws.ensures c.args.qp.now c.args.set c.args.table.now c.requires.set_of_rows c.requires.table
 
--- the row that is written next has as many coefficients as the others
-next_width : (c : After-index_mut) → length c.index_mut.result.now.a ≡ length c.args.qp.now.counts
-next_width c =
-    let w = c.loop-i.invariant.of_width in
-    let l : c.loop-i.i < height c.args.qp.now.g = let t = c.loop-i-test.true in let e = c.rows-count.ensures.value in omega arith in
-    let read : c.index_mut.result.now ≡ get_or c.loop-i.rows.items c.loop-i.i no_row = get_or_read c.loop-i.rows.items c.loop-i.i c.index_mut.result.now (let e = w.one_each in omega arith) c.index_mut.ensures.value no_row in
-    ap (λ row. length row.a) read ∙ w.widths c.loop-i.i l
+pub returns-in_err-make_sides-clause-fit : goal.returns-in_err-make_sides-clause-fit
+returns-in_err-make_sides-clause-fit c = law_fits c.sweep_laws.ensures.reduced c.over_laws.ensures c.args.qp.now c.args.set c.args.table.now c.requires.set_of_rows c.requires.table
 
-pub loop-i-init : goal.loop-i-init
-loop-i-init c =
-    filled_none (λ r. number_from c.args.table.now (height c.args.qp.now.h + r) (rights c.args.qp.now)) (height c.args.qp.now.g) (length c.args.qp.now.counts) c.make_rows.new.rows.items
-    (subst₂ (λ count width. AreOfWidth count width c.make_rows.new.rows.items) c.rows-count.ensures.value c.len.ensures c.in_ok-make_rows.ensures)
+pub returns-in_err-push_small-clause-fit : goal.returns-in_err-push_small-clause-fit
+returns-in_err-push_small-clause-fit c = law_fits c.sweep_laws.ensures.reduced c.over_laws.ensures c.args.qp.now c.args.set c.args.table.now c.requires.set_of_rows c.requires.table
 
-pub write_row-requires-clause-columns : goal.write_row-requires-clause-columns
-write_row-requires-clause-columns c =
-    let at = goal.at.write_row-requires-clause-columns c in
-    let w = next_width at.After-index_mut in
-    let e = c.rows-unknowns.ensures.value in
-    let f = c.rows-count.ensures.value in
-    let k = c.requires.table.columns_are in
-    omega arith
+-- the row that is put behind the others
+abbrev row_of : (c : After-deref) → RowInt
+row_of c = record { a = c.deref.result.now; b = c.write_row-bound.result }
+
+-- the sides are what was written over the old ones
+as_long : (c : After-deref) → length c.write_row-bound.new.sides ≡ c.loop-i.lines.sides.len
+as_long c = c.write_row-bound.ensures.size ∙ c.deref_mut.ensures.len
+
+sides_are : (c : After-deref) → c.deref.result.now ≡ c.write_row-bound.new.sides
+sides_are c = c.deref.ensures.value ∙ take_at c.write_row-bound.new.sides (drop (length c.write_row-bound.new.sides) c.loop-i.lines.sides.items) c.loop-i.lines.sides.len (as_long c)
+
+row_is : (c : After-deref) → IsRowFrom (number_from c.args.table.now (height c.args.qp.now.h + c.loop-i.i) (rights c.args.qp.now)) (length c.args.qp.now.counts) (row_of c)
+row_is c =
+    subst₂ (λ f width. IsRowFrom f width (row_of c)) (λ u. number_from c.args.table.now (c.rows-unknowns.ensures.value u + c.loop-i.i) (c.rows-unknowns.ensures.value u + c.rows-count.ensures.value u))
+    (ap (λ xs. length xs) c.deref_mut.ensures.value ∙ c.loop-i.invariant.sides)
+    (subst (λ xs. IsRowFrom (number_from c.args.table.now (c.rows-unknowns.result + c.loop-i.i) (c.rows-unknowns.result + c.rows-count.result)) (length c.deref_mut.result.now) (record { a = xs; b = c.write_row-bound.result })) (sym (sides_are c)) c.write_row-bound.ensures)
+
+small : (c : After-deref) (j : _) → unsigned_abs (number_from c.args.table.now (height c.args.qp.now.h + c.loop-i.i) (rights c.args.qp.now) j) ≤ 2 ^ 62
+small c j = c.requires.table.table.small.each ((height c.args.qp.now.h + c.loop-i.i) * c.args.table.now.columns + (rights c.args.qp.now + j))
+
+pub push_small-requires-clause-entries_small : goal.push_small-requires-clause-entries_small
+push_small-requires-clause-entries_small c = let d = (goal.at.push_small-requires-clause-entries_small c).After-deref in sides_small _ _ (row_of d) (row_is d) (small d)
+
+pub push_small-requires-clause-side_small : goal.push_small-requires-clause-side_small
+push_small-requires-clause-side_small c =
+    let d = (goal.at.push_small-requires-clause-side_small c).After-deref in
+    let b : unsigned_abs c.write_row-bound.result ≤ 2 ^ 62 = bound_small _ _ (row_of d) (row_is d) (small d) in
+    subst (λ z. unsigned_abs z ≤ 2 ^ 62) (sym (read_short c.write_row-bound.result b)) b
 
 pub loop-i-preserved : goal.loop-i-preserved
 loop-i-preserved c =
-    let at = goal.at.loop-i-preserved c in
-    let table = c.args.table.now in
-    let qp = c.args.qp.now in
-    filled_more (λ r. number_from table (height qp.h + r) (rights qp)) (height qp.g) (length qp.counts) c.loop-i.i c.loop-i.rows.items _ c.write_row.new.row
-    (let t = c.loop-i-test.true in let e = c.rows-count.ensures.value in omega arith) refl
-    (subst₂ (λ f width. IsRowFrom f width c.write_row.new.row) (λ u. number_from table (c.rows-unknowns.ensures.value u + c.loop-i.i) (c.rows-unknowns.ensures.value u + c.rows-count.ensures.value u)) (next_width at.After-index_mut) c.write_row.ensures)
-    c.loop-i.invariant
+    let d = (goal.at.loop-i-preserved c).After-deref in
+    let b : unsigned_abs c.write_row-bound.result ≤ 2 ^ 62 = bound_small _ _ (row_of d) (row_is d) (small d) in
+    record {
+      filled = filled_more (λ r. number_from c.args.table.now (height c.args.qp.now.h + r) (rights c.args.qp.now)) (length c.args.qp.now.counts) c.loop-i.i c.loop-i.lines.rows _ (row_of d) (row_is d) c.in_ok-push_small.ensures.width
+          (c.in_ok-push_small.ensures.ok ∙ ap (λ z. c.loop-i.lines.rows.rows ++ whole_row (record { a = c.deref.result.now; b = z }) ∷ []) (read_short c.write_row-bound.result b)) c.loop-i.invariant.filled;
+      sides =
+          ap (λ xs. length xs) (take_at c.write_row-bound.new.sides (drop (length c.write_row-bound.new.sides) c.loop-i.lines.sides.items) c.loop-i.lines.sides.len (as_long d))
+          ∙ c.write_row-bound.ensures.size ∙ ap (λ xs. length xs) c.deref_mut.ensures.value ∙ c.loop-i.invariant.sides;
+    }
 
 pub returns-clause-rows : goal.returns-clause-rows
-returns-clause-rows c = law_rows c.sweep_laws.ensures.reduced c.over_laws.ensures c.args.qp.now c.args.set c.args.table.now c.requires.set_of_rows c.requires.table c.loop-i.i c.loop-i.rows.items (omega arith) c.loop-i.invariant
-
-pub returns-clause-size : goal.returns-clause-size
-returns-clause-size c = law_sizes c.sweep_laws.ensures.reduced c.over_laws.ensures c.args.qp.now c.args.set c.args.table.now c.requires.set_of_rows c.requires.table c.loop-i.i c.loop-i.rows.items (omega arith) c.loop-i.invariant
+returns-clause-rows c = law_system c.sweep_laws.ensures.reduced c.over_laws.ensures c.args.qp.now c.args.set c.args.table.now c.requires.set_of_rows c.requires.table c.loop-i.i c.loop-i.lines.rows (let e = c.rows-count.ensures.value in omega arith) c.loop-i.invariant.filled
 
 pub returns-clause-fit : goal.returns-clause-fit
 returns-clause-fit c = law_fits c.sweep_laws.ensures.reduced c.over_laws.ensures c.args.qp.now c.args.set c.args.table.now c.requires.set_of_rows c.requires.table

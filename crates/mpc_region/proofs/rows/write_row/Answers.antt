@@ -2,16 +2,16 @@ use Rattle.std.proofs.Common.{◌≡◌, ◌+◌, ◌*◌, unsigned_abs, to_z, o
 use Rattle.std.specs.Int.{◌∣◌, w64}
 use Rattle.mpc_sweep.specs.Numbers.{number}
 use Rattle.mpc_region.specs.SweptRows.{number_from, IsSharedBy, DividesEach}
-use Rattle.mpc_region.proofs.SweptDivisors.{read_number, read_wide}
+use Rattle.mpc_region.proofs.SweptDivisors.{read_number, read_short}
 use Rattle.mpc_region.proofs.SweptRows.{by_positive, by_same, by_divides}
 use Rattle.mpc_region.proofs.rows.write_row.Goals as goal
 use Rattle.mpc_region.proofs.rows.write_row.Goals.{After-max-by, After-at}
 
-shared : (c : After-max-by) → IsSharedBy (number_from c.args.table.now c.args.i c.args.first) (length c.args.row.now.a + 1) c.shared_divisor-shared.result
-shared c = subst (λ n. IsSharedBy (number_from c.args.table.now c.args.i c.args.first) (n + 1) c.shared_divisor-shared.result) c.len.ensures c.shared_divisor-shared.ensures.shared
+shared : (c : After-max-by) → IsSharedBy (number_from c.args.table.now c.args.i c.args.first) (length c.args.sides.now + 1) c.shared_divisor-shared.result
+shared c = c.shared_divisor-shared.ensures.shared
 
-divides : (c : After-max-by) → DividesEach c.max-by.result (number_from c.args.table.now c.args.i c.args.first) (length c.args.row.now.a + 1)
-divides c = by_divides (number_from c.args.table.now c.args.i c.args.first) (length c.args.row.now.a + 1) c.shared_divisor-shared.result c.max-by.result (shared c) c.max-by.ensures
+divides : (c : After-max-by) → DividesEach c.max-by.result (number_from c.args.table.now c.args.i c.args.first) (length c.args.sides.now + 1)
+divides c = by_divides (number_from c.args.table.now c.args.i c.args.first) (length c.args.sides.now + 1) c.shared_divisor-shared.result c.max-by.result (shared c) c.max-by.ensures
 
 read : (c : After-at) → to_z w64 (of_z w64 c.at.result) ≡ number_from c.args.table.now c.args.i c.args.first 0
 read c = read_number c.at.result (number_from c.args.table.now c.args.i c.args.first 0) (c.at.ensures ∙ ap (number c.args.table.now c.args.i) (omega arith))
@@ -32,10 +32,10 @@ returns c =
     record {
       by = c.max-by.result;
       shared = c.shared_divisor-shared.result;
-      positive = by_positive f (length c.args.row.now.a + 1) c.shared_divisor-shared.result c.max-by.result (shared at.After-max-by) c.max-by.ensures;
+      positive = by_positive f (length c.args.sides.now + 1) c.shared_divisor-shared.result c.max-by.result (shared at.After-max-by) c.max-by.ensures;
       is_shared = subst (λ n. IsSharedBy f n c.shared_divisor-shared.result) (omega arith) (shared at.After-max-by);
-      same = by_same f (length c.args.row.now.a + 1) c.shared_divisor-shared.result c.max-by.result (shared at.After-max-by) c.max-by.ensures;
+      same = by_same f (length c.args.sides.now + 1) c.shared_divisor-shared.result c.max-by.result (shared at.After-max-by) c.max-by.ensures;
       size = c.write_sides.ensures.size;
       sides = c.write_sides.ensures.sides;
-      bound = ap (λ q. q *ℤ pos c.max-by.result) (read_wide c.quotient.result c.quotient.ensures.small) ∙ c.quotient.ensures.value ∙ read at.After-at;
+      bound = ap (λ q. q *ℤ pos c.max-by.result) (read_short c.quotient.result c.quotient.ensures.small) ∙ c.quotient.ensures.value ∙ read at.After-at;
     }

@@ -1,7 +1,7 @@
-use Rattle.std.proofs.Common.{◌≡◌, ◌+◌, ◌*◌, unsigned_abs, to_z, of_z, arith, ap, ◌∙◌, sym, subst, length, set}
+use Rattle.std.proofs.Common.{◌≡◌, ◌+◌, ◌*◌, neg_ℤ, unsigned_abs, to_z, of_z, arith, ap, ◌∙◌, sym, subst, length, set}
 use Rattle.std.specs.Int.{◌∣◌, w64}
 use Rattle.mpc_region.specs.SweptRows.{number_from}
-use Rattle.mpc_region.proofs.SweptDivisors.{read_number, read_negated}
+use Rattle.mpc_region.proofs.SweptDivisors.{read_number, read_short}
 use Rattle.mpc_region.proofs.SweptRows.{sides_none, sides_more, sides_all}
 use Rattle.mpc_region.proofs.rows.write_sides.Goals as goal
 use Rattle.mpc_region.proofs.rows.write_sides.Goals.{After-at}
@@ -15,18 +15,15 @@ loop-j-init c = sides_none (number_from c.args.table.now c.args.i c.args.first) 
 pub quotient-side-requires-clause-divides : goal.quotient-side-requires-clause-divides
 quotient-side-requires-clause-divides c =
     let at = goal.at.quotient-side-requires-clause-divides c in
-    subst (λ z. c.args.by ∣ unsigned_abs z) (sym (read at.After-at)) (c.requires.divides.each (c.loop-j.j + 1) (let l = c.loop-j-test.true in let e = c.len-j-end.ensures in omega arith))
-
-pub set-requires : goal.set-requires
-set-requires c = let l = c.loop-j-test.true in let e = c.len-j-end.ensures in let s = c.loop-j.invariant.size in omega arith
+    subst (λ z. c.args.by ∣ unsigned_abs z) (sym (read at.After-at)) (c.requires.divides.each (c.loop-j.j + 1) (let l = c.loop-j-test.true in let s = c.loop-j.invariant.size in omega arith))
 
 pub loop-j-preserved : goal.loop-j-preserved
 loop-j-preserved c =
     let at = goal.at.loop-j-preserved c in
-    sides_more (number_from c.args.table.now c.args.i c.args.first) c.args.by (length c.args.sides.now) c.loop-j.j c.loop-j.sides c.set.new.self c.quotient-side.result (to_z w64 (of_z w64 c.at.result))
-    (let l = c.loop-j-test.true in let e = c.len-j-end.ensures in omega arith) c.loop-j.invariant c.quotient-side.ensures.value
+    sides_more (number_from c.args.table.now c.args.i c.args.first) c.args.by (length c.args.sides.now) c.loop-j.j c.loop-j.sides _ c.quotient-side.result (to_z w64 (of_z w64 c.at.result))
+    (let l = c.loop-j-test.true in let s = c.loop-j.invariant.size in omega arith) c.loop-j.invariant c.quotient-side.ensures.value
     (read at.After-at ∙ ap (number_from c.args.table.now c.args.i c.args.first) (omega arith))
-    (c.set.ensures ∙ ap (set c.loop-j.sides c.loop-j.j) (read_negated c.quotient-side.result c.quotient-side.ensures.small))
+    (ap (set c.loop-j.sides c.loop-j.j) (read_short c.negated.result c.negated.ensures.small ∙ c.negated.ensures.value ∙ ap neg_ℤ (read_short c.quotient-side.result c.quotient-side.ensures.small)))
 
 pub returns-clause-sides : goal.returns-clause-sides
-returns-clause-sides c = sides_all _ _ (length c.args.sides.now) c.loop-j.j c.loop-j.sides (let l = c.loop-j-test.false in let e = c.len-j-end.ensures in omega arith) c.loop-j.invariant
+returns-clause-sides c = sides_all _ _ (length c.args.sides.now) c.loop-j.j c.loop-j.sides (let l = c.loop-j-test.false in let s = c.loop-j.invariant.size in omega arith) c.loop-j.invariant

@@ -2,20 +2,20 @@ use Rattle.std.proofs.Common.{◌≡◌, sym, ◌∙◌, ap, subst, IfOk}
 use Rattle.mpc_rows.specs.declared.laws.Law.{Law}
 use Rattle.mpc_rows.specs.declared.verdicts.Verdict.TheVariants.{Region}
 use Rattle.mpc_rows.specs.Candidates.{CanGrow}
-use Rattle.mpc_rows.specs.LawRows.{AreLawRows}
 use Rattle.mpc_rows.specs.Verdicts.{IsRight, ReachFits}
 use Rattle.mpc_region.specs.Sweeps.{swept_law}
+use Rattle.mpc_region.proofs.BoxRuns.{region_answer, region_fits}
 use Rattle.mpc_region.proofs.RightVerdicts.{right_region, right_hollow}
 use Rattle.mpc_region.proofs.SweptLaws.{swept_set}
 use Rattle.mpc_region.proofs.verdicts.by_table.Goals as goal
 
-pub by_run-requires-clause-grows : goal.by_run-requires-clause-grows
-by_run-requires-clause-grows c =
+pub by_rows-requires-clause-grows : goal.by_rows-requires-clause-grows
+by_rows-requires-clause-grows c =
     let e : c.in_ok-law_of_table-in-None.field-0.set ≡ c.args.set = ap (λ (law : Law). law.set) c.in_ok-law_of_table-in-None.ensures ∙ swept_set c.args.qp.now c.args.set in
     subst (CanGrow c.args.qp.now) (sym e) c.requires.grows
 
-pub by_run-requires-clause-reach_fits : goal.by_run-requires-clause-reach_fits
-by_run-requires-clause-reach_fits c =
+pub by_rows-requires-clause-reach_fits : goal.by_rows-requires-clause-reach_fits
+by_rows-requires-clause-reach_fits c =
     let e : c.in_ok-law_of_table-in-None.field-0.set ≡ c.args.set = ap (λ (law : Law). law.set) c.in_ok-law_of_table-in-None.ensures ∙ swept_set c.args.qp.now c.args.set in
     subst (ReachFits c.args.qp.now) (sym e) c.requires.reach_fits
 
@@ -23,16 +23,20 @@ pub returns-in_ok-law_of_table-in-Some-true-clause-right : goal.returns-in_ok-la
 returns-in_ok-law_of_table-in-Some-true-clause-right c =
     subst (λ law. IsRight c.args.qp.now c.args.set (Region law)) (sym c.in_ok-law_of_table-in-Some-true.ensures)
     (right_region c.region_laws.ensures c.law_laws.ensures c.args.qp.now c.args.set (swept_law c.args.qp.now c.args.set) (swept_set c.args.qp.now c.args.set) c.requires.law c.requires.grows c.requires.reach_fits
-    c.deref.result.now (subst (AreLawRows c.args.qp.now (swept_law c.args.qp.now c.args.set)) (sym c.deref.ensures.value) c.in_ok-fill_rows.ensures.rows) c.fill_rows.ensures.fit
-    c.in_ok-meets_box.field-0 c.in-Some-true.field-0 c.in-Some-true.is c.in_ok-meets_box.ensures.answer c.in_ok-meets_box.ensures.fits c.in-Some-true.field-0-test)
+    c.in_ok-fill_rows.ensures.rows.list c.in_ok-fill_rows.ensures.rows.of_law c.fill_rows.ensures.fit
+    c.in_ok-meets_box.field-0 c.in-Some-true.field-0 c.in-Some-true.is
+    (region_answer c.args.qp.now c.in_ok-fill_rows.ensures.rows.list c.fill_rows.new.lines.rows c.in_ok-fill_rows.ensures.rows.rows c.in_ok-meets_box.field-0 c.in_ok-meets_box.ensures.answer)
+    (region_fits c.args.qp.now c.in_ok-fill_rows.ensures.rows.list c.fill_rows.new.lines.rows c.in_ok-fill_rows.ensures.rows.rows c.in_ok-meets_box.field-0 c.in_ok-meets_box.ensures.fits) c.in-Some-true.field-0-test)
 
 pub returns-in-Some-false-clause-right : goal.returns-in-Some-false-clause-right
 returns-in-Some-false-clause-right c =
     right_hollow c.region_laws.ensures c.law_laws.ensures c.args.qp.now c.args.set (swept_law c.args.qp.now c.args.set) (swept_set c.args.qp.now c.args.set) c.requires.law c.requires.grows c.requires.reach_fits
-    c.deref.result.now (subst (AreLawRows c.args.qp.now (swept_law c.args.qp.now c.args.set)) (sym c.deref.ensures.value) c.in_ok-fill_rows.ensures.rows) c.fill_rows.ensures.fit
-    c.in_ok-meets_box.field-0 c.in-Some-false.field-0 c.in-Some-false.is c.in_ok-meets_box.ensures.answer c.in_ok-meets_box.ensures.fits c.in-Some-false.field-0-test
+    c.in_ok-fill_rows.ensures.rows.list c.in_ok-fill_rows.ensures.rows.of_law c.fill_rows.ensures.fit
+    c.in_ok-meets_box.field-0 c.in-Some-false.field-0 c.in-Some-false.is
+    (region_answer c.args.qp.now c.in_ok-fill_rows.ensures.rows.list c.fill_rows.new.lines.rows c.in_ok-fill_rows.ensures.rows.rows c.in_ok-meets_box.field-0 c.in_ok-meets_box.ensures.answer)
+    (region_fits c.args.qp.now c.in_ok-fill_rows.ensures.rows.list c.fill_rows.new.lines.rows c.in_ok-fill_rows.ensures.rows.rows c.in_ok-meets_box.field-0 c.in_ok-meets_box.ensures.fits) c.in-Some-false.field-0-test
 
 pub returns-in_ok-law_of_table-in-None-clause-right : goal.returns-in_ok-law_of_table-in-None-clause-right
 returns-in_ok-law_of_table-in-None-clause-right c =
     let e : c.in_ok-law_of_table-in-None.field-0.set ≡ c.args.set = ap (λ (law : Law). law.set) c.in_ok-law_of_table-in-None.ensures ∙ swept_set c.args.qp.now c.args.set in
-    subst (λ s. IfOk c.by_run.result (IsRight c.args.qp.now s)) e c.by_run.ensures
+    subst (λ s. IfOk c.by_rows.result (IsRight c.args.qp.now s)) e c.by_rows.ensures

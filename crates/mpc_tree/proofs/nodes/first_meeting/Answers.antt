@@ -1,36 +1,36 @@
-use Rattle.std.proofs.Common.{◌≡◌, ◌∙◌, ◌+◌, ◌<◌, inl, Some, slice_get, sym, ap, arith, refl, length}
+use Rattle.std.proofs.Common.{◌≡◌, ◌∙◌, ◌+◌, ◌<◌, inl, Some, slice_get, sym, arith, refl, length}
 use Rattle.std.proofs.lemmas.Option.{slice_get_read}
 use Rattle.mpc_tree.proofs.CertLists.{false_true}
 use Rattle.mpc_tree.proofs.NodeLemmas.{law_of, border_of, meets_none, meets_fit, meets_first, meets_wide}
 use Rattle.mpc_tree.proofs.nodes.first_meeting.Goals as goal
-use Rattle.mpc_tree.proofs.nodes.first_meeting.Goals.{After-as_slice}
+use Rattle.mpc_tree.proofs.nodes.first_meeting.Goals.{After-index-borders-place}
 
-is_border : (c : After-as_slice) → slice_get c.args.borders.now c.loop-place.place ≡ Some c.as_slice.result.now
+is_border : (c : After-index-borders-place) → slice_get c.args.borders.now c.loop-place.place ≡ Some c.index-borders-place.result
 is_border c =
     let within : c.loop-place.place < length c.args.borders.now = omega (arith, c.requires.borders.one_each, c.len-place-end.ensures) in
-    slice_get_read c.args.borders.now (length c.args.borders.now) c.loop-place.place c.index-borders-place.result refl within c.index-borders-place.is ∙ ap Some (sym c.as_slice.ensures)
+    slice_get_read c.args.borders.now (length c.args.borders.now) c.loop-place.place c.index-borders-place.result refl within c.index-borders-place.is
 
 pub region_meets-requires-clause-plain : goal.region_meets-requires-clause-plain
 region_meets-requires-clause-plain c =
-    let is = is_border (goal.at.region_meets-requires-clause-plain c).After-as_slice in
-    let law = law_of c.args.qp.now c.args.laws.now c.args.borders.now c.requires.borders c.args.cell.now.rows.items c.loop-place.place c.as_slice.result.now is in
-    (border_of c.args.qp.now c.args.laws.now c.args.borders.now c.requires.borders c.args.cell.now.rows.items c.loop-place.place c.as_slice.result.now is law.0 law.1).plain
+    let is = is_border (goal.at.region_meets-requires-clause-plain c).After-index-borders-place in
+    let law = law_of c.args.qp.now c.args.laws.now c.args.borders.now c.requires.borders c.args.cell.now.rows.items c.loop-place.place c.index-borders-place.result is in
+    (border_of c.args.qp.now c.args.laws.now c.args.borders.now c.requires.borders c.args.cell.now.rows.items c.loop-place.place c.index-borders-place.result is law.0 law.1).plain
 
 pub returns-in-Ok-true-clause-first : goal.returns-in-Ok-true-clause-first
 returns-in-Ok-true-clause-first c =
-    let is = is_border (goal.at.returns-in-Ok-true-clause-first c).After-as_slice in
-    let first = meets_first c.args.qp.now c.args.laws.now c.args.borders.now c.requires.borders c.args.cell.now.rows.items c.loop-place.place c.as_slice.result.now is c.cell_laws.ensures c.loop-place.invariant.none (c.in-Ok-true.ensures.answer.0 c.in-Ok-true.field-0-test) in
-    record { law = first.0; first = first.1; fits = meets_fit c.args.qp.now c.args.laws.now c.args.borders.now c.requires.borders c.args.cell.now.rows.items c.loop-place.place c.as_slice.result.now is c.args.next c.loop-place.invariant.fits c.in-Ok-true.ensures.wide }
+    let is = is_border (goal.at.returns-in-Ok-true-clause-first c).After-index-borders-place in
+    let first = meets_first c.args.qp.now c.args.laws.now c.args.borders.now c.requires.borders c.args.cell.now.rows.items c.loop-place.place c.index-borders-place.result is c.cell_laws.ensures c.loop-place.invariant.none (c.in-Ok-true.ensures.answer.0 c.in-Ok-true.field-0-test) in
+    record { law = first.0; first = first.1; fits = meets_fit c.args.qp.now c.args.laws.now c.args.borders.now c.requires.borders c.args.cell.now.rows.items c.loop-place.place c.index-borders-place.result is c.args.next c.loop-place.invariant.fits c.in-Ok-true.ensures.wide }
 
 pub returns-in-Err-Wide-clause-wide : goal.returns-in-Err-Wide-clause-wide
 returns-in-Err-Wide-clause-wide c =
-    let is = is_border (goal.at.returns-in-Err-Wide-clause-wide c).After-as_slice in
-    inl (c.loop-place.place + 1, refl, meets_wide c.args.qp.now c.args.laws.now c.args.borders.now c.requires.borders c.args.cell.now.rows.items c.loop-place.place c.as_slice.result.now is c.args.next (omega arith) c.loop-place.invariant.none c.loop-place.invariant.fits (rw c.in-Err-Wide.field-0-is at c.in-Err-Wide.ensures.wide))
+    let is = is_border (goal.at.returns-in-Err-Wide-clause-wide c).After-index-borders-place in
+    inl (c.loop-place.place + 1, refl, meets_wide c.args.qp.now c.args.laws.now c.args.borders.now c.requires.borders c.args.cell.now.rows.items c.loop-place.place c.index-borders-place.result is c.args.next (omega arith) c.loop-place.invariant.none c.loop-place.invariant.fits (rw c.in-Err-Wide.field-0-is at c.in-Err-Wide.ensures.wide))
 
 pub loop-place-preserved : goal.loop-place-preserved
 loop-place-preserved c =
-    let is = is_border (goal.at.loop-place-preserved c).After-as_slice in
+    let is = is_border (goal.at.loop-place-preserved c).After-index-borders-place in
     record {
-      none = meets_none c.args.qp.now c.args.laws.now c.args.borders.now c.requires.borders c.args.cell.now.rows.items c.loop-place.place c.as_slice.result.now is c.cell_laws.ensures c.loop-place.invariant.none (λ p. false_true (sym c.in-Ok-false.field-0-test ∙ c.in-Ok-false.ensures.answer.1 p));
-      fits = meets_fit c.args.qp.now c.args.laws.now c.args.borders.now c.requires.borders c.args.cell.now.rows.items c.loop-place.place c.as_slice.result.now is c.args.next c.loop-place.invariant.fits c.in-Ok-false.ensures.wide;
+      none = meets_none c.args.qp.now c.args.laws.now c.args.borders.now c.requires.borders c.args.cell.now.rows.items c.loop-place.place c.index-borders-place.result is c.cell_laws.ensures c.loop-place.invariant.none (λ p. false_true (sym c.in-Ok-false.field-0-test ∙ c.in-Ok-false.ensures.answer.1 p));
+      fits = meets_fit c.args.qp.now c.args.laws.now c.args.borders.now c.requires.borders c.args.cell.now.rows.items c.loop-place.place c.index-borders-place.result is c.args.next c.loop-place.invariant.fits c.in-Ok-false.ensures.wide;
     }

@@ -1,0 +1,32 @@
+use Rattle.std.proofs.Common.{◌≡◌, ◌^◌, ◌≤◌, ◌++◌, ◌∷◌, [], sym, ◌∙◌, subst, ap, arith, refl, unsigned_abs, to_z, of_z, lit<}
+use Rattle.std.specs.Int.{w64}
+use Rattle.mpc_rows.specs.LawRows.{whole_row}
+use Rattle.mpc_space.specs.Vector.{coordinate}
+use Rattle.mpc_whole.proofs.WholeSteps.{read_small}
+use Rattle.mpc_whole.proofs.WholeSystems.{behind_as}
+use Rattle.mpc_whole.proofs.WholeAppended.{behind_both}
+use Rattle.mpc_whole.proofs.whole_systems.add_small.Goals as goal
+
+pub returns-clause-added : goal.returns-clause-added
+returns-clause-added c =
+    let l = c.args.lists.now in
+    let entries = c.args.entries.now in
+    let z = c.args.side in
+    let read : to_z w64 (of_z w64 z) ≡ z = read_small z c.requires.side_small in
+    let u : c.unsigned_abs.result ≡ unsigned_abs z = c.unsigned_abs.ensures.value ∙ ap unsigned_abs read in
+    let m = c.max-lists-2.ensures in
+    record {
+      side = z;
+      scale = 1;
+      some = lit< tt;
+      small = (omega arith);
+      value = refl;
+      side_small = c.requires.side_small;
+      entries = behind_as l.a.items c.extend_from_slice.new.self.items _ l.width 1 _ (coordinate (whole_row (record { a = entries; b = z })).a) c.max-lists.result c.requires.width (λ j. refl)
+          (behind_both l.a.items entries c.extend_from_slice.new.self.items l.most_entry c.greatest.result c.max-lists.result c.in_ok-extend_from_slice.ensures.items c.requires.lists.entries c.greatest.ensures c.max-lists.ensures c.requires.entries_small z);
+      sides = c.in_ok-add_ends.ensures.sides ∙ ap (λ v. l.b.items ++ v ∷ []) read;
+      scales = c.in_ok-add_ends.ensures.scales;
+      strict = c.in_ok-add_ends.ensures.strict;
+      side_bound = (omega arith);
+      scale_bound = c.requires.lists.some_scale;
+    }
