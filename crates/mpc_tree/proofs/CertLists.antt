@@ -1,7 +1,7 @@
 -- Certificates are made from multipliers one after the other.
 use Rattle.std.proofs.Common.{◌≡◌, ℕ, suc, ◌+◌, ◌<◌, List, [], ◌∷◌, ◌++◌, cond, true, false, ◌⊎◌, inl, inr, length, get_or, take, pos, refl, sym, ◌∙◌, ap, subst, arith}
 use Rattle.std.proofs.lemmas.Bool.{cond-true, cond-false, cases_Bool, and_parts, and_from}
-use Rattle.std.proofs.lemmas.List.{append-nil, take_more, length-take-le}
+use Rattle.std.proofs.lemmas.List.{append-nil, take_more, length-append, length-take-le}
 use Rattle.mpc_exact.specs.Rational.{ℚ, int}
 use Rattle.mpc_rows.specs.Certificates.{RisesFrom, IsCert}
 use Rattle.mpc_rows.specs.Run.{is_zero}
@@ -79,3 +79,12 @@ module _ (ms : List ℚ) (i : ℕ) (m : ℚ) (within : i < length ms) (is : m �
 
   pub cert_grows : (cert : List (ℕ × ℚ)) → cert ≡ nonzero_from 1 (take i ms) → (¬ (m ≡ int (pos 0))) → IsCert (cert ++ (i + 1, m) ∷ [])
   cert_grows cert e z = subst IsCert (sym (more_of_nonzero cert (cert ++ (i + 1, m) ∷ []) e z refl)) (nonzero-is_cert (take (i + 1) ms))
+
+  -- ---- how many there are
+  pub count_of_zero : (count : ℕ) → count ≡ length (nonzero_from 1 (take i ms)) → m ≡ int (pos 0) → count ≡ length (nonzero_from 1 (take (i + 1) ms))
+  count_of_zero count e z = e ∙ ap length (more_of_zero (nonzero_from 1 (take i ms)) refl z)
+
+  pub count_of_nonzero : (count new : ℕ) → count ≡ length (nonzero_from 1 (take i ms)) → (¬ (m ≡ int (pos 0))) → new ≡ count + 1 → new ≡ length (nonzero_from 1 (take (i + 1) ms))
+  count_of_nonzero count new e z k =
+      let cert = nonzero_from 1 (take i ms) in
+      k ∙ ap (λ n. n + 1) e ∙ sym (length-append cert ((i + 1, m) ∷ [])) ∙ ap length (more_of_nonzero cert (cert ++ (i + 1, m) ∷ []) refl z refl)

@@ -12,8 +12,10 @@ use Rattle.mpc_systems.specs.CellLaws.{CellLaws}
 use Rattle.mpc_systems.specs.Writing.{HasBoxWidth}
 use Rattle.mpc_tree.specs.declared.errors.TreeError.{TreeError}
 use Rattle.mpc_tree.specs.declared.errors.TreeError.TheVariants.{Wide, NoMemory}
+use Rattle.mpc_tree.specs.declared.errors.Stop.{Stop}
+use Rattle.mpc_tree.specs.declared.errors.Stop.TheVariants.{Refused, GivenUp}
 use Rattle.mpc_tree.specs.Borders.{AreBorders}
-use Rattle.mpc_tree.specs.Causes.{IfWide}
+use Rattle.mpc_tree.specs.Causes.{IfWide, IfRefused}
 use Rattle.mpc_tree.specs.CellRuns.{IsRunOf}
 use Rattle.mpc_tree.specs.Growth.{IsReady, IsSplitAt, IsLeafAt, IsBuilt}
 use Rattle.mpc_tree.specs.Joins.{AreJoined, IsRefusal}
@@ -41,7 +43,7 @@ module _ (qp : Qp) (laws : List Law) (borders : List (List RowInt)) (are : AreBo
   run_no broken run h rows e r = subst₂ (IsRunOf qp) (sym (e ∙ ap (λ z. cell.rows ++ broken_row z ∷ []) same)) (sym r) h
 
   -- ---- both sides
-  module _ (yes_rows no_rows : List Row) (y : yes_rows ≡ cell.rows ++ whole_row row ∷ []) (n : no_rows ≡ cell.rows ++ broken_row row ∷ []) (first second result : Result (List Node) TreeError) where
+  module _ (yes_rows no_rows : List Row) (y : yes_rows ≡ cell.rows ++ whole_row row ∷ []) (n : no_rows ≡ cell.rows ++ broken_row row ∷ []) (first second result : Result (List Node) Stop) where
     from_yes : (P : Cell → Type 0) → P (record { rows = yes_rows; next = place }) → P (yes_side cell place s.row)
     from_yes P h = subst (λ x. P (record { rows = x; next = place })) (y ∙ ap (λ r. cell.rows ++ whole_row r ∷ []) same) h
 
@@ -52,17 +54,18 @@ module _ (qp : Qp) (laws : List Law) (borders : List (List RowInt)) (are : AreBo
     built_at a b j = IfOk-weaker result (AreJoined row first second) (IsBuilt qp laws cell)
         (λ nodes h. joined_built qp laws cell place s.row s.divides first second nodes (from_yes (λ c. IfOk first (IsBuilt qp laws c)) a) (from_no (λ c. IfOk second (IsBuilt qp laws c)) b) (subst (λ r. AreJoined r first second nodes) same h)) j
 
-    pub refused_at : IfOk first (IsBuilt qp laws (record { rows = yes_rows; next = place })) → IfErr first (λ e. IfWide e (IsFirstWide qp laws (record { rows = yes_rows; next = place }) 1)) → IfErr second (λ e. IfWide e (IsFirstWide qp laws (record { rows = no_rows; next = place + 1 }) 1)) → IfErr result (λ e. IfWide e (IsRefusal first second)) → IfErr result (λ e. IfWide e (IsFirstWide qp laws cell 1))
+    pub refused_at : IfOk first (IsBuilt qp laws (record { rows = yes_rows; next = place })) → IfErr first (λ e. IfRefused e (IsFirstWide qp laws (record { rows = yes_rows; next = place }) 1)) → IfErr second (λ e. IfRefused e (IsFirstWide qp laws (record { rows = no_rows; next = place + 1 }) 1)) → IfErr result (λ e. IfRefused e (IsRefusal first second)) → IfErr result (λ e. IfRefused e (IsFirstWide qp laws cell 1))
     refused_at a v w r = by result r
       where
-        by : (result : Result (List Node) TreeError) → IfErr result (λ e. IfWide e (IsRefusal first second)) → IfErr result (λ e. IfWide e (IsFirstWide qp laws cell 1))
+        by : (result : Result (List Node) Stop) → IfErr result (λ e. IfRefused e (IsRefusal first second)) → IfErr result (λ e. IfRefused e (IsFirstWide qp laws cell 1))
         by (Ok nodes) r = tt
-        by (Err (Wide at)) r = joined_wide qp laws cell place s.row s.divides first second at
+        by (Err (Refused (Wide at))) r = joined_wide qp laws cell place s.row s.divides first second at
             (from_yes (λ c. IfOk first (IsBuilt qp laws c)) a)
-            (from_yes (λ c. IfErr first (λ e. IfWide e (IsFirstWide qp laws c 1))) v)
-            (from_no (λ c. IfErr second (λ e. IfWide e (IsFirstWide qp laws c 1))) w)
+            (from_yes (λ c. IfErr first (λ e. IfRefused e (IsFirstWide qp laws c 1))) v)
+            (from_no (λ c. IfErr second (λ e. IfRefused e (IsFirstWide qp laws c 1))) w)
             r
-        by (Err NoMemory) r = tt
+        by (Err (Refused NoMemory)) r = tt
+        by (Err GivenUp) r = tt
 
 -- the row, as it is read
 pub same_row : (qp : Qp) (laws : List Law) (borders : List (List RowInt)) (are : AreBorders qp laws borders) (cell : Cell) (place i : ℕ) (s : IsSplitAt qp laws borders cell place i) (border slice : List RowInt) (row : RowInt) → border ≡ get_or borders place border → slice ≡ border → row ≡ get_or slice i row → row ≡ s.row

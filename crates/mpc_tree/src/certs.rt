@@ -23,11 +23,25 @@ pub enum End {
     Refuted(Cert),
 }
 
-/// The multipliers that aren't 0, with the positions of their rows.
+/// How many of the multipliers aren't 0.
+fn nonzero_count(multipliers: &Multipliers) -> usize
+    ensures { result ≡ length (nonzero_from 1 multipliers.now) }
+{
+    let mut count = 0;
+    for i in 0..multipliers.len() {
+        if !multipliers.at(i).is_zero() {
+            count += 1;
+        }
+    }
+    count
+}
+
+/// The multipliers that aren't 0, with the positions of their rows. A large tree has many
+/// certificates, so each takes room for as many pairs as it has.
 fn cert_of(alloc: Global, multipliers: &Multipliers) -> Result<Cert, NoMemory>
     ensures { IfOk result (λ cert. cert ≡ nonzero_from 1 multipliers.now) }
 {
-    let mut cert = Cert::new(alloc);
+    let mut cert = Cert::with_capacity(alloc, nonzero_count(multipliers))?;
     for i in 0..multipliers.len() {
         let m = multipliers.at(i);
         if !m.is_zero() {

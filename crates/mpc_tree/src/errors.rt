@@ -1,6 +1,7 @@
 //! Why a tree isn't built.
 
 ghost use Rattle.std.specs.Prelude.{◌≡◌};
+ghost use Rattle.mpc_tree.specs.declared.errors.Stop.TheVariants.{Refused};
 ghost use Rattle.mpc_tree.specs.declared.errors.TreeError.TheVariants.{NoMemory as NoMoreMemory};
 
 use mpc_frac::NoMemory;
@@ -23,5 +24,22 @@ impl From<NoMemory> for TreeError {
 
     fn from(_error: NoMemory) -> TreeError {
         TreeError::NoMemory
+    }
+}
+
+/// Why a part of a tree isn't built.
+#[derive(Clone, Copy, Drop)]
+pub enum Stop {
+    /// It is refused.
+    Refused(TreeError),
+    /// It isn't needed, since a part before it is refused.
+    GivenUp,
+}
+
+impl From<NoMemory> for Stop {
+    ghost from_gives = { λ _ stop. stop ≡ Refused NoMoreMemory };
+
+    fn from(_error: NoMemory) -> Stop {
+        Stop::Refused(TreeError::NoMemory)
     }
 }

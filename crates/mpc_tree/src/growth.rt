@@ -1,17 +1,18 @@
 //! The growth of the tree, node by node in preorder.
 
-ghost use Rattle.std.specs.Prelude.{◌≡◌, ◌+◌, ◌<◌, ◌≤◌, ◌^◌, ◌++◌, ◌∷◌, [], IfOk, IfErr, IfSome, OnOk, length, take, unsigned_abs};
+ghost use Rattle.std.specs.Prelude.{◌≡◌, ◌+◌, ◌<◌, ◌≤◌, ◌^◌, ◌++◌, ◌∷◌, [], IfOk, IfErr, IfSome, IsSome, OnOk, length, take, unsigned_abs};
 ghost use Rattle.mpc_linear.specs.Whole.{AreSmall};
 ghost use Rattle.mpc_rows.specs.LawRows.{whole_row, broken_row};
 ghost use Rattle.mpc_tree.specs.Borders.{AreBorders};
-ghost use Rattle.mpc_tree.specs.Causes.{IfWide};
+ghost use Rattle.mpc_tree.specs.Causes.{IfWide, IfRefused, IfGivenUp};
 ghost use Rattle.mpc_tree.specs.CellRuns.{IsRunOf, IsRunWith};
 ghost use Rattle.mpc_tree.specs.Growth.{IsReady, RegionsCover, IsBuilt};
 ghost use Rattle.mpc_tree.specs.WideRuns.{IsFirstWide};
 
 use crate::borders::Border;
-use crate::errors::TreeError;
+use crate::errors::{Stop, TreeError};
 use crate::nodes::{Placed, place_node};
+use crate::parts::{Watch, is_called_off};
 use crate::runs::KeptCell;
 use mpc_frac::NoMemory;
 use mpc_linear::{Ints, RowInt};
@@ -99,6 +100,7 @@ fn enter(cell: &mut KeptCell, side: OpenSide) -> Result<usize, NoMemory>
 
 /// The tree of the cell with these rows, whose search goes on with the next law, node by node in
 /// preorder; the no sides that are still to come lie on a stack. `Wide` numbers the nodes from 1.
+/// A tree that is watched is given up once it is called off.
 ///
 /// `held` counts rows of the next law that hold on the cell since the search was split by them: the
 /// next split is by a later one, so the search ends.
@@ -109,14 +111,16 @@ pub fn grown(
     borders: &[Border],
     mut cell: KeptCell,
     mut next: usize,
-) -> Result<Tree, TreeError>
+    watch: Option<Watch>,
+) -> Result<Tree, Stop>
     requires few { length laws.now < 2 ^ 32 }
     requires borders { AreBorders qp.now laws.now borders.now }
     requires cover { RegionsCover qp.now laws.now }
     requires ready { IsReady qp.now laws.now (record { rows = cell.rows.items; next = next }) }
     requires run { IsRunOf qp.now cell.rows.items cell.run }
     ensures built { IfOk result (λ nodes. IsBuilt qp.now laws.now (record { rows = cell.rows.items; next = next }) nodes) }
-    ensures wide { IfErr result (λ e. IfWide e (IsFirstWide qp.now laws.now (record { rows = cell.rows.items; next = next }) 1)) }
+    ensures wide { IfErr result (λ e. IfRefused e (IsFirstWide qp.now laws.now (record { rows = cell.rows.items; next = next }) 1)) }
+    ensures given_up { IfErr result (λ e. IfGivenUp e (IsSome watch.entry)) }
 {
     cell_laws();
     let mut tree = Tree::new(alloc);
@@ -124,6 +128,9 @@ pub fn grown(
     let mut work = Workspace::new(alloc);
     let mut held = 0;
     'nodes: loop {
+        if is_called_off(&watch) {
+            return Err(Stop::GivenUp);
+        }
         let node = tree.len() as u64 + 1;
         match place_node(alloc, &mut work, qp, laws, borders, &cell, next, node) {
             Ok(Placed::Split { place, row, run }) => {
@@ -142,7 +149,34 @@ pub fn grown(
                 }
                 held = 0;
             }
-            Err(error) => return Err(error),
+            Err(error) => return Err(Stop::Refused(error)),
         }
+    }
+}
+
+/// The same tree where nothing calls it off, with no more room than its nodes need.
+pub fn grown_alone(
+    alloc: Global,
+    qp: &Qp,
+    laws: &LawTable,
+    borders: &[Border],
+    cell: KeptCell,
+    next: usize,
+) -> Result<Tree, TreeError>
+    requires few { length laws.now < 2 ^ 32 }
+    requires borders { AreBorders qp.now laws.now borders.now }
+    requires cover { RegionsCover qp.now laws.now }
+    requires ready { IsReady qp.now laws.now (record { rows = cell.rows.items; next = next }) }
+    requires run { IsRunOf qp.now cell.rows.items cell.run }
+    ensures built { IfOk result (λ nodes. IsBuilt qp.now laws.now (record { rows = cell.rows.items; next = next }) nodes) }
+    ensures wide { IfErr result (λ e. IfWide e (IsFirstWide qp.now laws.now (record { rows = cell.rows.items; next = next }) 1)) }
+{
+    match grown(alloc, qp, laws, borders, cell, next, None) {
+        Ok(mut tree) => {
+            tree.shrink_to_fit();
+            Ok(tree)
+        }
+        Err(Stop::Refused(error)) => Err(error),
+        Err(Stop::GivenUp) => unreachable!(),
     }
 }

@@ -20,18 +20,21 @@ mod forks;
 mod growth;
 mod laws;
 mod nodes;
+mod parts;
 mod runs;
 #[cfg(test)]
 mod tests;
 
 use borders::all_borders;
+use errors::Stop;
 pub use errors::TreeError;
 use forks::forked;
-use growth::grown;
+use growth::grown_alone;
 pub use laws::{multipliers_are_cert, one_tree, table_laws};
 use mpc_cover::cover_laws;
 use mpc_rows::{LawTable, Qp, Tree};
 use mpc_sets::count_laws;
+use parts::{Parts, Refusals};
 use runs::KeptCell;
 use std::alloc::Global;
 use std::thread::Threads;
@@ -47,7 +50,7 @@ use std::thread::Threads;
 /// ends of the runs of the simplex method by least numbers that decide the leaf.
 ///
 /// The two sides of each upper split are built at once, and the tree is the same whether they are or
-/// not.
+/// not. Where a side is refused, what comes after it in preorder is given up.
 ///
 /// `Wide` names the first run, node by node in preorder, with a number that needs more than 128 bits.
 pub fn build<T: Threads + Sync>(
@@ -72,7 +75,25 @@ pub fn build<T: Threads + Sync>(
     count_laws();
     let borders = all_borders(alloc, qp, laws)?;
     let cell = KeptCell::whole_box(alloc, qp)?;
-    forked(rt, alloc, qp, laws, &borders, cell, 0, 0)
+    let refusals = Refusals::none();
+    match forked(
+        rt,
+        alloc,
+        qp,
+        laws,
+        &borders,
+        &refusals,
+        cell,
+        0,
+        Parts::all(),
+    ) {
+        Ok(tree) => Ok(tree),
+        Err(Stop::Refused(error)) => Err(error),
+
+        // Only a part behind a refused one is given up, and then that refusal is the answer. But what
+        // an atomic contains is no fact, so the case stays.
+        Err(Stop::GivenUp) => build_alone(alloc, qp, laws),
+    }
 }
 
 /// The same tree, by the caller's thread alone.
@@ -93,5 +114,5 @@ pub fn build_alone(alloc: Global, qp: &Qp, laws: &LawTable) -> Result<Tree, Tree
     count_laws();
     let borders = all_borders(alloc, qp, laws)?;
     let cell = KeptCell::whole_box(alloc, qp)?;
-    grown(alloc, qp, laws, &borders, cell, 0)
+    grown_alone(alloc, qp, laws, &borders, cell, 0)
 }

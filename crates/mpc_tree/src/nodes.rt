@@ -195,6 +195,7 @@ fn first_failing(
             Err(SimplexError::NoMemory) => return Err(TreeError::NoMemory),
         }
     }
+    certs.shrink_to_fit();
     Ok(Held::Holds(certs))
 }
 

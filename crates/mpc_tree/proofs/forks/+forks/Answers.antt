@@ -7,6 +7,18 @@ use Rattle.mpc_tree.proofs.Dividing.{plain_read}
 use Rattle.mpc_tree.proofs.Forking.{same_row, ready_yes, ready_no, run_no, built_at, refused_at, leaf_at, wide_here}
 use Rattle.mpc_tree.proofs.forks.+forks.Goals as goal
 
+pub forked-sides_of-requires-clause-small : goal.forked-sides_of-requires-clause-small
+forked-sides_of-requires-clause-small g t c =
+    let s : IsSplitAt c.args.qp.now c.args.laws.now c.args.borders.now (record { rows = c.args.cell.rows.items; next = c.args.next }) c.in-Ok-Split.place c.in-Ok-Split.row = (rw c.in-Ok-Split.field-0-is at c.in-Ok-Split.ensures.placed).0 in
+    let row = same_row c.args.qp.now c.args.laws.now c.args.borders.now c.requires.borders (record { rows = c.args.cell.rows.items; next = c.args.next }) c.in-Ok-Split.place c.in-Ok-Split.row s c.index-borders-place.result c.as_slice.result.now c.index-as_slice-row.result c.index-borders-place.is c.as_slice.ensures c.index-as_slice-row.is in
+    (plain_read c.args.qp.now c.args.laws.now c.args.borders.now c.requires.borders (record { rows = c.args.cell.rows.items; next = c.args.next }) c.in-Ok-Split.place c.in-Ok-Split.row s c.index-as_slice-row.result row).small
+
+pub forked-sides_of-requires-clause-b_small : goal.forked-sides_of-requires-clause-b_small
+forked-sides_of-requires-clause-b_small g t c =
+    let s : IsSplitAt c.args.qp.now c.args.laws.now c.args.borders.now (record { rows = c.args.cell.rows.items; next = c.args.next }) c.in-Ok-Split.place c.in-Ok-Split.row = (rw c.in-Ok-Split.field-0-is at c.in-Ok-Split.ensures.placed).0 in
+    let row = same_row c.args.qp.now c.args.laws.now c.args.borders.now c.requires.borders (record { rows = c.args.cell.rows.items; next = c.args.next }) c.in-Ok-Split.place c.in-Ok-Split.row s c.index-borders-place.result c.as_slice.result.now c.index-as_slice-row.result c.index-borders-place.is c.as_slice.ensures c.index-as_slice-row.is in
+    (plain_read c.args.qp.now c.args.laws.now c.args.borders.now c.requires.borders (record { rows = c.args.cell.rows.items; next = c.args.next }) c.in-Ok-Split.place c.in-Ok-Split.row s c.index-as_slice-row.result row).b_small
+
 pub forked-sides_of-requires-clause-width : goal.forked-sides_of-requires-clause-width
 forked-sides_of-requires-clause-width g t c =
     let s : IsSplitAt c.args.qp.now c.args.laws.now c.args.borders.now (record { rows = c.args.cell.rows.items; next = c.args.next }) c.in-Ok-Split.place c.in-Ok-Split.row = (rw c.in-Ok-Split.field-0-is at c.in-Ok-Split.ensures.placed).0 in

@@ -1,4 +1,4 @@
-use Rattle.std.proofs.Common.{◌≡◌, ◌+◌, Some, slice_get, subst, arith, refl, length}
+use Rattle.std.proofs.Common.{◌≡◌, ◌+◌, Some, slice_get, subst, subst₂, sym, arith, refl, length}
 use Rattle.std.proofs.lemmas.Option.{slice_get_read}
 use Rattle.mpc_tree.specs.Cells.{NoneFailsBefore}
 use Rattle.mpc_tree.specs.LeafCerts.{AreCertsOf}
@@ -42,6 +42,6 @@ returns-clause-held c =
     let all : c.loop-place.place ≡ length c.args.rows.now = omega arith in
     record {
       none = subst (NoneFailsBefore c.args.qp.now c.args.rows.now c.args.cell.now.rows.items) all c.loop-place.invariant.none;
-      certs_are = subst (λ n. AreCertsOf c.args.qp.now c.args.cell.now.rows.items c.args.rows.now n c.loop-place.certs) all c.loop-place.invariant.certs_are;
+      certs_are = subst₂ (AreCertsOf c.args.qp.now c.args.cell.now.rows.items c.args.rows.now) all (sym c.shrink_to_fit.ensures) c.loop-place.invariant.certs_are;
       fits = subst (HoldsFit c.args.qp.now c.args.cell.now.rows.items c.args.rows.now) all c.loop-place.invariant.fits;
     }
