@@ -49,8 +49,8 @@ use std::thread::Threads;
 /// certificate of the box, the cell and all rows of the program. They are the multipliers at the
 /// ends of the runs of the simplex method by least numbers that decide the leaf.
 ///
-/// The two sides of each upper split are built at once, and the tree is the same whether they are or
-/// not. Where a side is refused, what comes after it in preorder is given up.
+/// Where there are many laws, the two sides of each upper split are built at once, and the tree is the
+/// same whether they are or not. Where a side is refused, what comes after it in preorder is given up.
 ///
 /// `Wide` names the first run, node by node in preorder, with a number that needs more than 128 bits.
 pub fn build<T: Threads + Sync>(
@@ -85,7 +85,7 @@ pub fn build<T: Threads + Sync>(
         &refusals,
         cell,
         0,
-        Parts::all(),
+        Parts::all(laws.len()),
     ) {
         Ok(tree) => Ok(tree),
         Err(Stop::Refused(error)) => Err(error),

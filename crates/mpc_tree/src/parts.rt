@@ -6,26 +6,27 @@ use crate::errors::Stop;
 use mpc_rows::Tree;
 use std::sync::atomic::{AtomicU64, Ordering};
 
-/// Into how many parts a tree is cut at most. So there are at most 63 threads beside the caller's.
-const PARTS: u64 = 64;
+/// Into how many parts a tree is cut at most. So there are at most 15 threads beside the caller's.
+const PARTS: u64 = 16;
 
-/// Neighbouring parts of a tree, out of at most 64 that are numbered from 0 in preorder.
+/// From how many laws on a tree is cut. That of fewer is built sooner than a few threads are started.
+const MANY_LAWS: usize = 100;
+
+/// Neighbouring parts of a tree, out of at most 16 that are numbered from 0 in preorder.
 #[derive(Clone, Copy, Drop)]
 pub struct Parts {
     first: u64,
     count: u64,
-    ghost within: { first + count ≤ 64 },
+    ghost within: { first + count ≤ 16 },
 }
 
 impl Parts {
-    /// All parts.
-    pub fn all() -> Self
-        ensures { result.count ≡ 64 }
+    /// The whole tree over so many laws: all parts, or one.
+    pub fn all(laws: usize) -> Self
+        ensures { 1 ≤ result.count }
     {
-        Parts {
-            first: 0,
-            count: PARTS,
-        }
+        let count = if laws < MANY_LAWS { 1 } else { PARTS };
+        Parts { first: 0, count }
     }
 
     /// How many there are.
