@@ -16,8 +16,11 @@ use mpc_linear::Matrix;
 use mpc_rows::{Law, Qp, law_laws};
 use mpc_sets::ActiveSet;
 use mpc_sweep::{Swept, sweep_laws};
-use mpc_whole::{WholeSystem, over_laws};
+use mpc_whole::{Divisor, WholeSystem, changed, over_laws};
 use std::alloc::Global;
+
+/// The greatest size of a number.
+const MOST: u64 = 1 << 62;
 
 /// The greatest common divisor of so many numbers of row i, from the column `first` on; 0 where all are 0.
 fn shared_divisor(table: &Swept, i: usize, first: usize, count: usize) -> u64
@@ -50,7 +53,7 @@ fn divided(z: i64, by: u64) -> i64
     z / by as i64
 }
 
-/// z divided by one of its divisors.
+/// z divided by one of its divisors, by the inverse of that where it serves.
 #[inline]
 fn quotient(z: i64, by: u64) -> i64
     requires small { unsigned_abs z ≤ 2 ^ 62 }
@@ -60,7 +63,13 @@ fn quotient(z: i64, by: u64) -> i64
     ensures value { result *ℤ pos by ≡ z }
     ensures small { unsigned_abs result ≤ 2 ^ 62 }
 {
-    if by == 1 { z } else { divided(z, by) }
+    if by == 1 {
+        return z;
+    }
+    match changed(z, 0, 0, 1, Divisor::of(by), MOST) {
+        Some(q) => q,
+        None => divided(z, by),
+    }
 }
 
 /// Minus a number.
