@@ -1,19 +1,18 @@
 -- Systems kept as whole numbers: all rows of another system behind, and a row of small numbers.
-use Rattle.std.proofs.Common.{◌≡◌, ℕ, zero, suc, ◌+◌, ◌-◌, ◌*◌, ◌^◌, ◌<◌, ◌≤◌, Bool, false, List, [], ◌∷◌, ◌++◌, length, take, drop, get_or, ℤ, pos, unsigned_abs, refl, sym, ◌∙◌, ap, subst, arith, ◌⊎◌, inl, inr, le_trans, length-append, length-drop, append_assoc, max}
+use Rattle.std.proofs.Common.{◌≡◌, ℕ, zero, suc, ◌+◌, ◌-◌, ◌*◌, ◌^◌, ◌<◌, ◌≤◌, Bool, false, List, [], ◌∷◌, ◌++◌, length, drop, get_or, ℤ, pos, unsigned_abs, sym, ◌∙◌, ap, subst, arith, ◌⊎◌, inl, inr, le_trans, length-append, length-drop, append_assoc, max}
 use Rattle.std.proofs.lemmas.Bool.{cases_lt}
 use Rattle.std.proofs.lemmas.List.Elements.{All-nil, All-push}
-use Rattle.std.proofs.lemmas.List.{append-nil, get_or-drop, get_or-append-add, get_or_append_left}
+use Rattle.std.proofs.lemmas.List.{append-nil, get_or-drop, get_or-append-add}
 use Rattle.mpc_exact.specs.Rational.{int, frac}
 use Rattle.mpc_space.specs.Vector.{coordinate}
 use Rattle.mpc_space.proofs.Entries.{length-listed}
-use Rattle.mpc_linear.specs.declared.integers.RowInt.{RowInt}
 use Rattle.mpc_rows.specs.declared.systems.Row.{Row}
 use Rattle.mpc_rows.specs.LawRows.{whole_row}
 use Rattle.mpc_rows.specs.LinearSystem.{HasWidth}
 use Rattle.mpc_whole.specs.declared.whole_systems.WholeLists.{WholeLists}
 use Rattle.mpc_whole.specs.Whole.{whole_at, whole_cell, scale_at, IsSmall}
-use Rattle.mpc_whole.specs.WholeSystems.{row_scale, kept_row, rows_of, system_of, AreLists, AreBehind, IsKept, IsAdded, AreAdded}
-use Rattle.mpc_whole.proofs.WholeSystems.{row_same, cell_inside, kept_rows, kept_at, rows_of-same, whole_coordinate}
+use Rattle.mpc_whole.specs.WholeSystems.{row_scale, kept_row, rows_of, system_of, AreLists, AreBehind, IsKept, AreAdded}
+use Rattle.mpc_whole.proofs.WholeSystems.{row_same, kept_rows, kept_at, rows_of-same, whole_coordinate}
 
 -- ---- two lists, one behind the other
 pub each_of_both : {A : Type 0} (P : A → Type 0) (d : A) (xs ys : List A) → ((k : ℕ) → P (get_or xs k d)) → ((k : ℕ) → P (get_or ys k d)) → (k : ℕ) → P (get_or (xs ++ ys) k d)

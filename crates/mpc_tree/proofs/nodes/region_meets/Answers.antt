@@ -1,4 +1,4 @@
-use Rattle.std.proofs.Common.{◌≡◌, ◌∙◌, ◌↔◌, IsTrue, IfOk, MatchResult, ap, subst}
+use Rattle.std.proofs.Common.{◌≡◌, ◌∙◌, ◌↔◌, IsTrue, IfOk, MatchResult, subst}
 use Rattle.mpc_rows.specs.RunWidth.{RunFits}
 use Rattle.mpc_simplex.specs.Answer.{HasPoint, IfWide}
 use Rattle.mpc_systems.specs.Systems.{meet_system}

@@ -1,4 +1,4 @@
-use Rattle.std.proofs.Common.{◌≡◌, ◌^◌, ◌≤◌, ◌++◌, ◌∷◌, [], sym, ◌∙◌, subst, ap, arith, refl, unsigned_abs, to_z, of_z, lit<}
+use Rattle.std.proofs.Common.{◌≡◌, ◌++◌, ◌∷◌, [], ◌∙◌, ap, arith, refl, unsigned_abs, to_z, of_z, lit<}
 use Rattle.std.specs.Int.{w64}
 use Rattle.mpc_rows.specs.LawRows.{whole_row}
 use Rattle.mpc_space.specs.Vector.{coordinate}

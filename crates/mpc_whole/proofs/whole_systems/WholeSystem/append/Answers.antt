@@ -1,6 +1,5 @@
 use Rattle.std.proofs.Common.{◌≡◌, ◌∙◌, ◌++◌, ap, sym}
 use Rattle.mpc_rows.specs.LinearSystem.{LinearSystem}
-use Rattle.mpc_whole.specs.declared.whole_systems.WholeLists.{WholeLists}
 use Rattle.mpc_whole.proofs.WholeAppended.{both_rows, both_lists}
 use Rattle.mpc_whole.proofs.whole_systems.WholeSystem.append.Goals as goal
 use Rattle.mpc_whole.proofs.whole_systems.WholeSystem.append.Goals.{In-Ok}
