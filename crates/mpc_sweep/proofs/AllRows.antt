@@ -1,38 +1,89 @@
 -- The rows after a sweep, one by one.
-use Rattle.std.proofs.Common.{◌≡◌, ℕ, suc, ◌+◌, ◌*◌, ◌<◌, ◌≤◌, List, [], length, ℤ, sym, ap, subst, arith, ◌⊎◌, inl, inr, mul-le-mul_right, IfOk, Result, Ok, Err}
-use Rattle.std.proofs.lemmas.Bool.{cases_eq}
+use Rattle.std.proofs.Common.{◌≡◌, ℕ, suc, ◌+◌, ◌-◌, ◌*◌, ◌<◌, ◌≤◌, ◌^◌, ◌++◌, List, length, take, ℤ, pos, unsigned_abs, sym, ◌∙◌, ap, subst, arith, ◌⊎◌, inl, inr, mul-le-mul_right, IfOk, Result, Ok, Err}
+use Rattle.std.specs.List.{between}
+use Rattle.std.proofs.lemmas.Bool.{cases_eq, cases_lt}
+use Rattle.std.proofs.lemmas.List.{get_or_append_left, get_or-append_right, get_or-take, length-take-le}
+use Rattle.std.proofs.Math.Nat.{suc-mul}
 use Rattle.mpc_whole.specs.Whole.{whole_at, whole_cell}
-use Rattle.mpc_sweep.specs.Steps.{IsNumber, AreNumbers, AreRows}
+use Rattle.mpc_sweep.specs.Steps.{IsNumber, AreWritten, AreRows}
+use Rattle.mpc_sweep.proofs.OneNumber.{cell_of_row}
+use borrow.Rule.Slice.PartMut.{put_mid, post_of}
 
 pub if_ok : {A E : Type 0} (r : Result A E) (P Q : A → Type 0) → IfOk r P → ((a : A) → P a → Q a) → IfOk r Q
 if_ok (Ok a) P Q h f = f a h
 if_ok (Err e) P Q h f = tt
 
-pub row_below : (w j k c : ℕ) → j < k → c < w → j * w + c < k * w
-row_below w j k c h l = let m : suc j * w ≤ k * w = mul-le-mul_right w h in omega arith
+-- ---- where rows stand
+pub row_below : (w j k first c : ℕ) → j < k → c < first + w → j * w + c < k * w + first
+row_below w j k first c h l = let m : suc j * w ≤ k * w = mul-le-mul_right w h in omega arith
 
--- no row yet
-pub no_rows : (columns den : ℕ) (v : List ℤ) (p first : ℕ) (new : List ℤ) → new ≡ [] → AreRows columns den v p first 0 new
-no_rows columns den v p first new e = subst (AreRows columns den v p first 0) (sym e) (record {
-  size = omega arith;
-  numbers = λ i j h l m. absurd (omega arith);
-  small = record { each = λ k. omega arith };
-})
+-- a row ends within so many rows, where w columns are told behind others
+pub row_within : (w first i rows : ℕ) → i < rows → i * w + (first + w) ≤ first + rows * w
+row_within w first i rows h = let m : suc i * w ≤ rows * w = mul-le-mul_right w h in omega arith
+
+-- a place in the next row
+part_below : (told i first columns n : ℕ) → first + told ≡ columns → i * told ≤ n → n < first + (i + 1) * told → n - i * told < columns
+part_below told i first columns n e b h = let one : i + 1 ≡ suc i = omega arith in let m : (i + 1) * told ≡ i * told + told = ap (λ u. u * told) one ∙ suc-mul i told in omega arith
+
+-- ---- the part of a list that is one row
+module _ (xs ys : List ℤ) (a k : ℕ) (inside : a ≤ length xs) where
+  front_size : length (take a xs) ≡ a
+  front_size = length-take-le a xs inside
+
+  pub put_before : (n : ℕ) → n < a → whole_at (put_mid a k xs ys) n ≡ whole_at xs n
+  put_before n h = get_or_append_left (take a xs) (ys ++ post_of a k xs) (pos 0) n (let e = front_size in omega arith) ∙ get_or-take a xs n (pos 0) h
+
+  pub put_there : (n : ℕ) → a ≤ n → n - a < length ys → whole_at (put_mid a k xs ys) n ≡ whole_at ys (n - a)
+  put_there n h l = get_or-append_right (take a xs) (ys ++ post_of a k xs) a n (pos 0) front_size h ∙ get_or_append_left ys (post_of a k xs) (pos 0) (n - a) l
+
+-- ---- the rows
+-- no row yet: small numbers before them
+pub no_rows : (width den : ℕ) (v : List ℤ) (p first told : ℕ) (new : List ℤ) → ((k : ℕ) → k < first → unsigned_abs (whole_at new k) ≤ 2 ^ 62) → AreRows width den v p first told 0 new
+no_rows width den v p first told new h = record {
+  numbers = λ i j l m n. absurd (omega arith);
+  small = λ k l. h k (omega arith);
+}
 
 -- one row more
-module _ (columns den : ℕ) (v : List ℤ) (p first i : ℕ) (now new : List ℤ) (h : AreRows columns den v p first i now) (r : AreNumbers columns den v p first i columns now new) where
-  pub row_more : AreRows columns den v p first (i + 1) new
+module _ (width den : ℕ) (v : List ℤ) (p first told columns i k : ℕ) (now ys : List ℤ) (h : AreRows width den v p first told i now) (size : length ys ≡ columns) (sum : first + told ≡ columns) (inside : i * told + columns ≤ length now)
+    (w : AreWritten first columns (IsNumber width den v p i) (between (i * told) (i * told + columns) now) ys) where
+  abbrev new : List ℤ
+  new = put_mid (i * told) k now ys
+
+  start_in : i * told ≤ length now
+  start_in = omega arith
+
+  kept : (n : ℕ) → n < i * told + first → whole_at new n ≡ whole_at now n
+  kept n l = by (cases_lt n (i * told))
+    where
+      by : (n < i * told) ⊎ (i * told ≤ n) → whole_at new n ≡ whole_at now n
+      by (inl m) = put_before now ys (i * told) k start_in n m
+      by (inr m) =
+          let e : i * told + (n - i * told) ≡ n = omega arith in
+          put_there now ys (i * told) k start_in n m (omega arith) ∙ w.kept (n - i * told) (omega arith)
+          ∙ cell_of_row now (i * told) columns (n - i * told) (omega arith) ∙ ap (whole_at now) e
+
+  there : (j : ℕ) → j < columns → whole_cell told new i j ≡ whole_at ys j
+  there j l =
+      let e : i * told + j - i * told ≡ j = omega arith in
+      put_there now ys (i * told) k start_in (i * told + j) (omega arith) (omega arith) ∙ ap (whole_at ys) e
+
+  pub row_more : AreRows width den v p first told (i + 1) new
   row_more = record {
-    size = (let a = h.size in let b = r.size in omega arith);
-    numbers = λ k j l m n. by k j l m n (cases_eq k i);
-    small = r.small;
+    numbers = λ r j l m n. number r j l m n (cases_eq r i);
+    small = λ n l. small n l (cases_lt n (i * told + first));
   }
     where
-      by : (k j : ℕ) → k < i + 1 → first ≤ j → j < columns → (k ≡ i) ⊎ (k ≡ i → ⊥) → IsNumber columns den v p k j (whole_cell columns new k j)
-      by k j l m n (inl e) =
-          let q : length now + j ≡ i * columns + j = ap (λ u. u + j) h.size in
-          subst (λ u. IsNumber columns den v p u j (whole_cell columns new u j)) (sym e) (subst (λ u. IsNumber columns den v p i j (whole_at new u)) q (r.numbers j m n))
-      by k j l m n (inr e) =
-          let b : k < i = omega arith in
-          let q : k * columns + j < length now = subst (λ u. k * columns + j < u) (sym h.size) (row_below columns k i j b n) in
-          subst (IsNumber columns den v p k j) (sym (r.kept (k * columns + j) q)) (h.numbers k j b m n)
+      number : (r j : ℕ) → r < i + 1 → first ≤ j → j < first + told → (r ≡ i) ⊎ (r ≡ i → ⊥) → IsNumber width den v p r j (whole_cell told new r j)
+      number r j l m n (inl e) =
+          subst (λ u. IsNumber width den v p u j (whole_cell told new u j)) (sym e) (subst (IsNumber width den v p i j) (sym (there j (omega arith))) (w.numbers j m (omega arith)))
+      number r j l m n (inr e) =
+          let b : r < i = omega arith in
+          let q : r * told + j < i * told + first = row_below told r i first j b n in
+          subst (IsNumber width den v p r j) (sym (kept (r * told + j) q)) (h.numbers r j b m n)
+
+      small : (n : ℕ) → n < first + (i + 1) * told → (n < i * told + first) ⊎ (i * told + first ≤ n) → unsigned_abs (whole_at new n) ≤ 2 ^ 62
+      small n l (inl m) = subst (λ z. unsigned_abs z ≤ 2 ^ 62) (sym (kept n m)) (h.small n (omega arith))
+      small n l (inr m) =
+          let q : n - i * told < columns = part_below told i first columns n sum (omega arith) l in
+          subst (λ z. unsigned_abs z ≤ 2 ^ 62) (sym (put_there now ys (i * told) k start_in n (omega arith) (omega arith))) (w.small (n - i * told) (omega arith) q)

@@ -1,5 +1,5 @@
 -- A table before its first sweep, from the whole numbers of a system.
-use Rattle.std.proofs.Common.{◌≡◌, ℕ, ◌+◌, ◌*◌, ◌^◌, ◌<◌, ◌≤◌, List, [], length, get_or, ℤ, unsigned_abs, Option, Some, None, IfSome, refl, sym, ◌∙◌, ap, subst, arith, le_trans, length-drop}
+use Rattle.std.proofs.Common.{◌≡◌, ℕ, ◌+◌, ◌-◌, ◌*◌, ◌^◌, ◌<◌, ◌≤◌, List, [], length, get_or, ℤ, unsigned_abs, Option, Some, None, IfSome, refl, sym, ◌∙◌, ap, subst, arith, le_trans, length-drop}
 use Rattle.std.proofs.lemmas.List.{get_or-drop}
 use Rattle.mpc_exact.specs.Rational.{frac}
 use Rattle.mpc_space.specs.Matrix.{RationalMatrix, height, entry}
@@ -9,7 +9,7 @@ use Rattle.mpc_rows.specs.LinearSystem.{LinearSystem, row_at, entry as system_en
 use Rattle.mpc_whole.specs.Whole.{whole_cell, scale_at, IsSmall, IsWholeSystem}
 use Rattle.mpc_sweep.specs.declared.numbers.Swept.{Swept}
 use Rattle.mpc_sweep.specs.Sweeps.{swept}
-use Rattle.mpc_sweep.specs.Numbers.{scale_of, number, IsTable, IsWholeTable, IsSwept}
+use Rattle.mpc_sweep.specs.Numbers.{scale_of, told_columns, number, IsTable, IsWholeTable, IsSwept}
 use Rattle.mpc_sweep.specs.Systems.{HasRowsOf, IsFirst}
 
 pub if_some : {A : Type 0} (o : Option A) (P Q : A → Type 0) → IfSome o P → ((a : A) → P a → Q a) → IfSome o Q
@@ -44,8 +44,11 @@ module _ (m : RationalMatrix) (l : LinearSystem) (h : HasRowsOf m (height m) l) 
   most_there : (i : ℕ) → scale_of s i ≤ s.most_scale
   most_there i = subst (λ u. scale_of s i ≤ u) (sym f.bound) (subst (λ u. u ≤ most_scale) (sym (scale_is i)) (bound (l.width + i)))
 
+  told_is : told_columns s ≡ l.width
+  told_is = (λ t. s_columns t - f.first t) ∙ (let e : m.columns - 0 ≡ m.columns = omega arith in e) ∙ sym h.width
+
   number_is : (i j : ℕ) → number s i j ≡ whole_cell l.width a i j
-  number_is i j = (λ t. whole_cell ((s_columns ∙ sym h.width) t) (f.numbers t) i j)
+  number_is i j = (λ t. whole_cell (told_is t) (f.numbers t) i j)
 
   entry_is : (i j : ℕ) → i < height m → j < m.columns → entry m i j ≡ frac (number s i j) (scale_of s i)
   entry_is i j r c =
@@ -54,7 +57,8 @@ module _ (m : RationalMatrix) (l : LinearSystem) (h : HasRowsOf m (height m) l) 
 
   first_table : IsTable s
   first_table = record {
-    size = ap (λ (xs : List ℤ). length xs) f.numbers ∙ w.entries_size ∙ (λ t. (h.rows ∙ sym s_rows) t * (h.width ∙ sym s_columns) t);
+    told = subst (λ u. u ≤ s.columns) (sym f.first) (omega arith);
+    size = ap (λ (xs : List ℤ). length xs) f.numbers ∙ w.entries_size ∙ (λ t. (h.rows ∙ sym s_rows) t * sym told_is t) ∙ (let e : s.rows * told_columns s ≡ 0 + s.rows * told_columns s = omega arith in e) ∙ ap (λ u. u + s.rows * told_columns s) (sym f.first);
     scales_size = ap (λ (xs : List ℕ). length xs) f.row_scales ∙ (let e = length-drop columns k in let q = w.scales.size in let r = h.rows in let x = h.width in let y = s_rows in omega arith);
     some_den = subst (λ u. 0 < u) (sym f.den) (omega arith);
     some = λ i r. some_there i (subst (λ u. i < u) s_rows r);
@@ -78,6 +82,7 @@ module _ (m : RationalMatrix) (l : LinearSystem) (h : HasRowsOf m (height m) l) 
   first_swept = record {
     rows_are = s_rows;
     columns_are = s_columns;
+    told = subst (λ u. u ≤ 0) (sym f.first) (omega arith);
     table = first_table;
     whole = whole_there;
     entries = λ i j r front c.

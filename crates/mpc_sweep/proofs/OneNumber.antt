@@ -1,62 +1,117 @@
 -- The numbers of a row after a sweep, one by one.
-use Rattle.std.proofs.Common.{◌≡◌, ◌≢◌, ℕ, zero, suc, ◌+◌, ◌<◌, ◌≤◌, ◌^◌, List, [], ◌∷◌, ◌++◌, length, get_or, ℤ, pos, ◌+ℤ◌, ◌*ℤ◌, neg_ℤ, unsigned_abs, refl, sym, ◌∙◌, ap, subst, arith, ◌⊎◌, inl, inr, length-append, to_z, of_z}
+use Rattle.std.proofs.Common.{◌≡◌, ◌≢◌, ℕ, ◌+◌, ◌-◌, ◌*◌, ◌<◌, ◌≤◌, ◌^◌, List, [], ◌∷◌, length, get_or, set, ℤ, pos, ◌+ℤ◌, ◌*ℤ◌, neg_ℤ, negsuc, unsigned_abs, refl, sym, ◌∙◌, ap, subst, arith, ◌⊎◌, inl, inr, get_or-set_same, get_or-set_other, to_z, of_z}
 use Rattle.std.specs.Int.{w64}
-use Rattle.std.proofs.lemmas.Bool.{cases_eq}
+use Rattle.std.specs.List.{between}
+use Rattle.std.proofs.lemmas.Bool.{cases_eq, cases_lt}
 use Rattle.std.proofs.lemmas.Int.{fits_signed_from_abs, to_z-of_z}
-use Rattle.std.proofs.lemmas.List.{get_or_append_left}
-use Rattle.std.proofs.Math.Seq.{get_or-append_seam}
+use Rattle.std.proofs.lemmas.List.{get_or_past}
+use Rattle.std.proofs.lemmas.List.Edits.{get_or-between, length-between}
+use Rattle.mpc_exact.proofs.IntRing.{int_reads, by_ring_ℤ}
 use Rattle.mpc_whole.specs.Whole.{whole_at, whole_cell, IsSmall, turned}
-use Rattle.mpc_sweep.specs.Steps.{IsNumber, AreNumbers}
+use Rattle.mpc_sweep.specs.Steps.{IsNumber, IsChanged, AreWritten}
 
 pub read_small : (z : ℤ) → unsigned_abs z ≤ 2 ^ 62 → to_z w64 (of_z w64 z) ≡ z
 read_small z h = to_z-of_z w64 z (fits_signed_from_abs w64 z (omega arith))
 
-pub each_more : {A : Type 0} (P : A → Type 0) (d : A) → P d → (xs : List A) (y : A) → ((k : ℕ) → P (get_or xs k d)) → P y → (k : ℕ) → P (get_or (xs ++ y ∷ []) k d)
-each_more P d o [] y h p zero = p
-each_more P d o [] y h p (suc k) = o
-each_more P d o (x ∷ xs) y h p zero = h zero
-each_more P d o (x ∷ xs) y h p (suc k) = each_more P d o xs y (λ j. h (suc j)) p k
-
--- one number more
-module _ (columns den : ℕ) (v : List ℤ) (p first i j : ℕ) (old now : List ℤ) (h : AreNumbers columns den v p first i j old now) (z : ℤ) (small : unsigned_abs z ≤ 2 ^ 62) (is : first ≤ j → IsNumber columns den v p i j z) where
-  pub one_more : AreNumbers columns den v p first i (j + 1) old (now ++ z ∷ [])
-  one_more = record {
-    size = (let e = length-append now (z ∷ []) in let q = h.size in omega arith);
-    kept = λ k l. get_or_append_left now (z ∷ []) (pos 0) k (let q = h.size in omega arith) ∙ h.kept k l;
-    numbers = λ k l m. by k l m (cases_eq k j);
-    small = record { each = each_more (λ y. unsigned_abs y ≤ 2 ^ 62) (pos 0) (omega arith) now z h.small.each small };
-  }
-    where
-      by : (k : ℕ) → first ≤ k → k < j + 1 → (k ≡ j) ⊎ (k ≡ j → ⊥) → IsNumber columns den v p i k (whole_at (now ++ z ∷ []) (length old + k))
-      by k l m (inl e) =
-          let q : length old + j ≡ length now = (let w = h.size in omega arith) in
-          let n : whole_at (now ++ z ∷ []) (length old + j) ≡ z = ap (whole_at (now ++ z ∷ [])) q ∙ get_or-append_seam now z [] (pos 0) in
-          subst (λ u. IsNumber columns den v p i u (whole_at (now ++ z ∷ []) (length old + u))) (sym e)
-          (subst (IsNumber columns den v p i j) (sym n) (is (subst (λ u. first ≤ u) e l)))
-      by k l m (inr e) =
-          let q : length old + k < length now = (let w = h.size in omega arith) in
-          subst (IsNumber columns den v p i k) (sym (get_or_append_left now (z ∷ []) (pos 0) (length old + k) q)) (h.numbers k l (omega arith))
+-- a number that is read from a list of small ones
+pub read_at : (v : List ℤ) → IsSmall (2 ^ 62) v → (k : ℕ) → to_z w64 (of_z w64 (get_or v k (pos 0))) ≡ whole_at v k
+read_at v h k = read_small (whole_at v k) (h.each k)
 
 -- no number yet
-pub none_yet : (columns den : ℕ) (v : List ℤ) (p first i : ℕ) (old : List ℤ) → IsSmall (2 ^ 62) old → AreNumbers columns den v p first i 0 old old
-none_yet columns den v p first i old s = record {
-  size = omega arith;
+pub none_written : (first : ℕ) (is : ℕ → ℤ → Type 0) (old : List ℤ) → AreWritten first first is old old
+none_written first is old = record {
   kept = λ k l. refl;
   numbers = λ j l m. absurd (omega arith);
-  small = s;
+  small = λ j l m. absurd (omega arith);
 }
 
--- the number of the row of the sweep, from what the code reads
-pub own_number : (columns den : ℕ) (v : List ℤ) (p j : ℕ) (q x z : ℤ) → q ≡ whole_cell columns v p p → x ≡ whole_cell columns v p j → z ≡ turned q x → IsNumber columns den v p p j z
-own_number columns den v p j q x z eq ex ez = record {
-  own = λ e. ez ∙ (λ t. turned (eq t) (ex t));
-  other = λ e. absurd (e refl);
+-- one number more
+module _ (first j : ℕ) (is : ℕ → ℤ → Type 0) (old now : List ℤ) (h : AreWritten first j is old now) (front : first ≤ j) (inside : j < length now) (z : ℤ) (small : unsigned_abs z ≤ 2 ^ 62) (this : is j z) where
+  here : (P : ℤ → Type 0) → P z → P (whole_at (set now j z) j)
+  here P = subst P (sym (get_or-set_same now j z (pos 0) inside))
+
+  elsewhere : (k : ℕ) → k ≢ j → whole_at (set now j z) k ≡ whole_at now k
+  elsewhere k n = get_or-set_other now j k z (pos 0) n
+
+  pub one_written : AreWritten first (j + 1) is old (set now j z)
+  one_written = record {
+    kept = λ k l. elsewhere k (λ e. omega arith) ∙ h.kept k l;
+    numbers = λ k l m. number k l m (cases_eq k j);
+    small = λ k l m. size k l m (cases_eq k j);
+  }
+    where
+      number : (k : ℕ) → first ≤ k → k < j + 1 → (k ≡ j) ⊎ (k ≡ j → ⊥) → is k (whole_at (set now j z) k)
+      number k l m (inl e) = subst (λ u. is u (whole_at (set now j z) u)) (sym e) (here (is j) this)
+      number k l m (inr e) = subst (is k) (sym (elsewhere k e)) (h.numbers k l (omega arith))
+
+      size : (k : ℕ) → first ≤ k → k < j + 1 → (k ≡ j) ⊎ (k ≡ j → ⊥) → unsigned_abs (whole_at (set now j z) k) ≤ 2 ^ 62
+      size k l m (inl e) = subst (λ u. unsigned_abs (whole_at (set now j z) u) ≤ 2 ^ 62) (sym e) (here (λ y. unsigned_abs y ≤ 2 ^ 62) small)
+      size k l m (inr e) = subst (λ y. unsigned_abs y ≤ 2 ^ 62) (sym (elsewhere k e)) (h.small k l (omega arith))
+
+-- fewer numbers, and what they are in other words
+pub written_as : (first count most : ℕ) (is also : ℕ → ℤ → Type 0) (old new : List ℤ) → count ≤ most → ((j : ℕ) (z : ℤ) → j < count → is j z → also j z) → AreWritten first most is old new → AreWritten first count also old new
+written_as first count most is also old new few f h = record {
+  kept = h.kept;
+  numbers = λ j l m. f j (whole_at new j) m (h.numbers j l (omega arith));
+  small = λ j l m. h.small j l (omega arith);
 }
 
--- and that of another row
-pub other_number : (columns den : ℕ) (v : List ℤ) (p i j : ℕ) (f x y z : ℤ) (size : ℕ) → i ≢ p → size ≡ unsigned_abs (whole_cell columns v p p) → f ≡ turned (whole_cell columns v p p) (whole_cell columns v i p)
-    → y ≡ whole_cell columns v i j → x ≡ whole_cell columns v p j → z *ℤ pos den ≡ (y *ℤ pos size) +ℤ neg_ℤ (f *ℤ x) → IsNumber columns den v p i j z
-other_number columns den v p i j f x y z size n es ef ey ex ez = record {
-  own = λ e. absurd (n e);
-  other = λ e. ez ∙ (λ t. (ey t *ℤ pos (es t)) +ℤ neg_ℤ (ef t *ℤ ex t));
-}
+pub fewer_written : (first count most : ℕ) (is : ℕ → ℤ → Type 0) (old new : List ℤ) → count ≤ most → AreWritten first most is old new → AreWritten first count is old new
+fewer_written first count most is old new few = written_as first count most is is old new few (λ j z m x. x)
+
+-- ---- rows as parts of the table
+module _ (v : List ℤ) (start columns : ℕ) where
+  pub cell_of_row : (j : ℕ) → j < columns → whole_at (between start (start + columns) v) j ≡ whole_at v (start + j)
+  cell_of_row j h = get_or-between v start (start + columns) j (pos 0) (omega arith)
+
+-- a row is as long as it has to be, and small
+pub row_size : (v : List ℤ) (start columns : ℕ) → start + columns ≤ length v → length (between start (start + columns) v) ≡ columns
+row_size v start columns h = length-between v start (start + columns) h ∙ (let e : start + columns - start ≡ columns = omega arith in e)
+
+pub row_small : (v : List ℤ) (start columns : ℕ) → start + columns ≤ length v → IsSmall (2 ^ 62) v → IsSmall (2 ^ 62) (between start (start + columns) v)
+row_small v start columns h s = record { each = λ k. by k (cases_lt k columns) }
+  where
+    by : (k : ℕ) → (k < columns) ⊎ (columns ≤ k) → unsigned_abs (whole_at (between start (start + columns) v) k) ≤ 2 ^ 62
+    by k (inl l) = subst (λ z. unsigned_abs z ≤ 2 ^ 62) (sym (cell_of_row v start columns k l)) (s.each (start + k))
+    by k (inr l) = subst (λ z. unsigned_abs z ≤ 2 ^ 62) (sym (get_or_past (between start (start + columns) v) k (pos 0) (let e = row_size v start columns h in omega arith))) (omega arith)
+
+no_product : (y s f x : ℤ) → f ≡ pos 0 → (y *ℤ s) +ℤ neg_ℤ (f *ℤ x) ≡ y *ℤ s
+no_product y s f x e = ap (λ u. (y *ℤ s) +ℤ neg_ℤ (u *ℤ x)) e ∙ by_ring_ℤ (y ∷ s ∷ x ∷ []) (search int_reads depth 30) (search int_reads depth 30) tt
+
+turned_zero : (q : ℤ) → turned q (pos 0) ≡ pos 0
+turned_zero (pos n) = refl
+turned_zero (negsuc n) = refl
+
+module _ (width den : ℕ) (v : List ℤ) (p columns : ℕ) (column : p < columns) where
+  abbrev top : List ℤ
+  top = between (p * width) (p * width + columns) v
+
+  pub pivot_of_row : whole_at top p ≡ whole_cell width v p p
+  pivot_of_row = cell_of_row v (p * width) columns p column
+
+  -- the row of the sweep
+  pub own_number : (i j : ℕ) (q z : ℤ) → i ≡ p → j < columns → q ≡ whole_at top p → z ≡ turned q (whole_at top j) → IsNumber width den v p i j z
+  own_number i j q z e m eq ez = record {
+    own = λ _. ez ∙ (λ t. turned ((eq ∙ pivot_of_row) t) (cell_of_row v (p * width) columns j m t));
+    other = λ n. absurd (n e);
+  }
+
+  -- and another row
+  module _ (i : ℕ) (n : i ≢ p) where
+    abbrev row : List ℤ
+    row = between (i * width) (i * width + columns) v
+
+    pub other_number : (j : ℕ) (z : ℤ) → j < columns → IsChanged den row top p j z → IsNumber width den v p i j z
+    other_number j z m w = record {
+      own = λ e. absurd (n e);
+      other = λ _. w ∙ (λ t. (at j m t *ℤ pos (unsigned_abs (pivot_of_row t))) +ℤ neg_ℤ (turned (pivot_of_row t) (at p column t) *ℤ cell_of_row v (p * width) columns j m t));
+    }
+      where
+        at : (k : ℕ) → k < columns → whole_at row k ≡ whole_cell width v i k
+        at k l = cell_of_row v (i * width) columns k l
+
+    -- which stays where it has nothing in the column of the sweep, and the denominator stays
+    pub same_number : (j : ℕ) (z : ℤ) → j < columns → whole_at row p ≡ pos 0 → unsigned_abs (whole_at top p) ≡ den → z ≡ whole_at row j → IsNumber width den v p i j z
+    same_number j z m none same e = other_number j z m
+        ((λ t. e t *ℤ pos (sym same t))
+        ∙ sym (no_product (whole_at row j) (pos (unsigned_abs (whole_at top p))) (turned (whole_at top p) (whole_at row p)) (whole_at top j) (ap (turned (whole_at top p)) none ∙ turned_zero (whole_at top p))))

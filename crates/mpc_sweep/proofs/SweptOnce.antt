@@ -1,16 +1,16 @@
 -- A table that is swept at one more row.
-use Rattle.std.proofs.Common.{◌≡◌, ◌≢◌, ℕ, suc, ◌+◌, ◌*◌, ◌^◌, ◌<◌, ◌≤◌, List, [], ◌∷◌, ◌++◌, length, get_or, set, ℤ, pos, unsigned_abs, refl, sym, ◌∙◌, ap, subst, arith, ◌⊎◌, inl, inr, mul-pos, mul-le-mul_left, le_trans, length-append, length-set, get_or-set_same, get_or-set_other}
+use Rattle.std.proofs.Common.{◌≡◌, ◌≢◌, ℕ, suc, ◌+◌, ◌-◌, ◌*◌, ◌^◌, ◌<◌, ◌≤◌, List, [], ◌∷◌, ◌++◌, length, get_or, set, ℤ, pos, unsigned_abs, refl, sym, ◌∙◌, ap, subst, subst₂, arith, ◌⊎◌, inl, inr, mul-pos, mul-le-mul_left, le_trans, length-append, length-set, get_or-set_same, get_or-set_other}
 use Rattle.std.proofs.lemmas.Bool.{cases_eq, cases_lt}
-use Rattle.std.proofs.lemmas.List.{get_or_append_left, take-append-le, take_at}
+use Rattle.std.proofs.lemmas.List.{get_or_append_left, get_or_past, take-append-le, take_at}
 use Rattle.std.proofs.Math.Seq.{get_or-append_seam}
 use Rattle.mpc_exact.specs.Rational.{frac, int}
 use Rattle.mpc_linear.specs.Elimination.{Table, reduced}
 use Rattle.mpc_bordered.specs.Fronts.{EntryFits}
-use Rattle.mpc_whole.specs.Whole.{whole_cell}
+use Rattle.mpc_whole.specs.Whole.{whole_at, whole_cell}
 use Rattle.mpc_whole.specs.OverLaws.{OverLaws}
 use Rattle.mpc_sweep.specs.declared.numbers.Swept.{Swept}
 use Rattle.mpc_sweep.specs.Sweeps.{swept, pivot_at, before, HasPivots, AreRising, SweepsFit}
-use Rattle.mpc_sweep.specs.Numbers.{scale_of, den_of, number, IsTable, IsWholeTable, IsSwept}
+use Rattle.mpc_sweep.specs.Numbers.{scale_of, den_of, told_columns, number, IsTable, IsWholeTable, IsSwept}
 use Rattle.mpc_sweep.specs.Steps.{IsNumber, AreRows}
 use Rattle.mpc_sweep.proofs.Befores.{swept-more}
 use Rattle.mpc_sweep.proofs.SweptEntry.{abs_some, over_some, entry_fits, own_entry, other_entry}
@@ -39,10 +39,13 @@ module _ (ps : List ℕ) (p : ℕ) where
 pub record IsOnce (from out : Swept) (p first : ℕ) : Type 0 where
   pub rows : out.rows ≡ from.rows
   pub columns : out.columns ≡ from.columns
+  pub first_told : out.first ≡ first
   pub den : out.den ≡ unsigned_abs (number from p p)
   pub most_scale : out.most_scale ≡ from.most_scale
   pub scales : out.scales.items ≡ set from.scales.items p 1
-  pub numbers : AreRows from.columns from.den from.numbers.items p first from.rows out.numbers.items
+  pub size : length out.numbers.items ≡ first + from.rows * (from.columns - first)
+  pub numbers : AreRows (told_columns from) from.den from.numbers.items p first (from.columns - first) from.rows out.numbers.items
+  pub within : first ≤ from.columns
   pub room : unsigned_abs (number from p p) * from.most_scale ≤ 2 ^ 62
 
 module _ (laws : OverLaws) (from out : Swept) (p first : ℕ) (o : IsTable from) (r : p < from.rows) (c : p < from.columns) (pivot : number from p p ≢ pos 0) (w : IsOnce from out p first) where
@@ -68,16 +71,24 @@ module _ (laws : OverLaws) (from out : Swept) (p first : ℕ) (o : IsTable from)
   most_there i h (inr e) =
       subst (λ u. scale_of out i ≤ u) (sym w.most_scale) (subst (λ u. u ≤ from.most_scale) (sym (scale_kept i e)) (o.scales i (subst (λ u. i < u) w.rows h)))
 
+  told_there : told_columns out ≡ from.columns - first
+  told_there = (λ k. w.columns k - w.first_told k)
+
+  small_there : (k : ℕ) → (k < length out.numbers.items) ⊎ (length out.numbers.items ≤ k) → unsigned_abs (whole_at out.numbers.items k) ≤ 2 ^ 62
+  small_there k (inl l) = w.numbers.small k (subst (λ n. k < n) w.size l)
+  small_there k (inr l) = subst (λ z. unsigned_abs z ≤ 2 ^ 62) (sym (get_or_past out.numbers.items k (pos 0) l)) (omega arith)
+
   table_there : IsTable out
   table_there = record {
-    size = w.numbers.size ∙ (λ k. sym w.rows k * sym w.columns k);
+    told = subst₂ (λ a b. a ≤ b) (sym w.first_told) (sym w.columns) w.within;
+    size = w.size ∙ (λ k. sym w.first_told k + sym w.rows k * sym told_there k);
     scales_size = ap (λ (xs : List ℕ). length xs) w.scales ∙ length-set from.scales.items p 1 ∙ o.scales_size ∙ sym w.rows;
     some_den = subst (λ u. 0 < u) (sym w.den) size_some;
     some = λ i h. some_there i h (cases_eq i p);
     scales = λ i h. most_there i h (cases_eq i p);
     dens = subst (λ u. u ≤ 2 ^ 62) (λ k. sym w.den k * sym w.most_scale k) w.room;
     some_scale = subst (λ u. 1 ≤ u) (sym w.most_scale) o.some_scale;
-    small = w.numbers.small;
+    small = record { each = λ k. small_there k (cases_lt k (length out.numbers.items)) };
   }
 
   dens_small : (i : ℕ) → i < from.rows → den_of from i ≤ 2 ^ 62
@@ -87,7 +98,7 @@ module _ (laws : OverLaws) (from out : Swept) (p first : ℕ) (o : IsTable from)
   den_some i h = mul-pos o.some_den (o.some i h)
 
   size_small : unsigned_abs (number from p p) ≤ 2 ^ 62
-  size_small = o.small.each (p * from.columns + p)
+  size_small = o.small.each (p * told_columns from + p)
 
   module _ (t : Table) (ps : List ℕ) (rows columns from_column : ℕ) (h : IsSwept t ps rows columns from_column from) (at : from_column ≤ p) (behind : p < first) (above : (k : ℕ) → k < length ps → get_or ps k 0 < p) where
     row_in : (i : ℕ) → i < rows → i < from.rows
@@ -110,17 +121,17 @@ module _ (laws : OverLaws) (from out : Swept) (p first : ℕ) (o : IsTable from)
       fits_there =
           entry_fits laws (swept t ps) p i j (number from p p) (number from p j) (number from i p) (number from i j) (den_of from p) (den_of from i)
           (den_some p r) (den_some i (row_in i i_row)) (dens_small i (row_in i i_row)) pivot
-          (o.small.each (p * from.columns + p)) (o.small.each (p * from.columns + j)) (o.small.each (i * from.columns + p)) (o.small.each (i * from.columns + j))
+          (o.small.each (p * told_columns from + p)) (o.small.each (p * told_columns from + j)) (o.small.each (i * told_columns from + p)) (o.small.each (i * told_columns from + j))
           (h.entries p p p_row at p_column) (h.entries p j p_row in_front j_column) (h.entries i p i_row at p_column) (h.entries i j i_row in_front j_column)
 
       abbrev z : ℤ
-      z = whole_cell from.columns out.numbers.items i j
+      z = whole_cell (from.columns - first) out.numbers.items i j
 
-      new_entry : IsNumber from.columns from.den from.numbers.items p i j z → (i ≡ p) ⊎ (i ≡ p → ⊥) → reduced p (swept t ps) i j ≡ frac z (size * scale_of out i)
+      new_entry : IsNumber (told_columns from) from.den from.numbers.items p i j z → (i ≡ p) ⊎ (i ≡ p → ⊥) → reduced p (swept t ps) i j ≡ frac z (size * scale_of out i)
       new_entry n (inl e) =
           own_entry laws (swept t ps) p i j (number from p p) (number from p j) (number from i p) (number from i j) (den_of from p) (den_of from i)
           (den_some p r) (den_some i (row_in i i_row)) (dens_small i (row_in i i_row)) pivot
-          (o.small.each (p * from.columns + p)) (o.small.each (p * from.columns + j)) (o.small.each (i * from.columns + p)) (o.small.each (i * from.columns + j))
+          (o.small.each (p * told_columns from + p)) (o.small.each (p * told_columns from + j)) (o.small.each (i * told_columns from + p)) (o.small.each (i * told_columns from + j))
           (h.entries p p p_row at p_column) (h.entries p j p_row in_front j_column) (h.entries i p i_row at p_column) (h.entries i j i_row in_front j_column) e
           ∙ (λ k. frac (sym (n.own e) k) (sized k))
         where
@@ -129,7 +140,7 @@ module _ (laws : OverLaws) (from out : Swept) (p first : ℕ) (o : IsTable from)
       new_entry n (inr e) =
           other_entry laws (swept t ps) p i j (number from p p) (number from p j) (number from i p) (number from i j) (den_of from p) (den_of from i)
           (den_some p r) (den_some i (row_in i i_row)) (dens_small i (row_in i i_row)) pivot
-          (o.small.each (p * from.columns + p)) (o.small.each (p * from.columns + j)) (o.small.each (i * from.columns + p)) (o.small.each (i * from.columns + j))
+          (o.small.each (p * told_columns from + p)) (o.small.each (p * told_columns from + j)) (o.small.each (i * told_columns from + p)) (o.small.each (i * told_columns from + j))
           (h.entries p p p_row at p_column) (h.entries p j p_row in_front j_column) (h.entries i p i_row at p_column) (h.entries i j i_row in_front j_column)
           z from.den (scale_of from i) refl (o.some i (row_in i i_row)) e (n.other e)
           ∙ ap (λ u. frac z (size * u)) (sym (scale_kept i e))
@@ -137,8 +148,8 @@ module _ (laws : OverLaws) (from out : Swept) (p first : ℕ) (o : IsTable from)
     entries_there : (i j : ℕ) → i < rows → first ≤ j → j < columns → swept t (ps ++ p ∷ []) i j ≡ frac (number out i j) (den_of out i)
     entries_there i j i_row l m =
         ap (λ (u : Table). u i j) (swept-more t ps p)
-        ∙ new_entry i j i_row (omega arith) m (w.numbers.numbers i j (row_in i i_row) l (column_in j m)) (cases_eq i p)
-        ∙ (λ k. frac (whole_cell (sym w.columns k) out.numbers.items i j) (sym w.den k * scale_of out i))
+        ∙ new_entry i j i_row (omega arith) m (w.numbers.numbers i j (row_in i i_row) l (let q = column_in j m in omega arith)) (cases_eq i p)
+        ∙ (λ k. frac (whole_cell (sym told_there k) out.numbers.items i j) (sym w.den k * scale_of out i))
 
     -- the last sweep, and those before it
     split : (k : ℕ) → k < length (ps ++ p ∷ []) → (k < length ps) ⊎ (k ≡ length ps)
@@ -192,6 +203,7 @@ module _ (laws : OverLaws) (from out : Swept) (p first : ℕ) (o : IsTable from)
     swept_once = record {
       rows_are = w.rows ∙ h.rows_are;
       columns_are = w.columns ∙ h.columns_are;
+      told = subst (λ u. u ≤ first) (sym w.first_told) (omega arith);
       table = table_there;
       whole = subst (IsWholeTable t rows columns) (sym w.most_scale) h.whole;
       entries = entries_there;

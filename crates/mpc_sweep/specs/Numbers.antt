@@ -1,5 +1,5 @@
 -- A swept table in whole numbers: over one denominator, and a scale for each row that isn't swept.
-use Rattle.std.specs.Prelude.{◌≡◌, ℕ, ◌*◌, ◌<◌, ◌≤◌, ◌^◌, List, length, get_or, ℤ, unsigned_abs}
+use Rattle.std.specs.Prelude.{◌≡◌, ℕ, ◌+◌, ◌-◌, ◌*◌, ◌<◌, ◌≤◌, ◌^◌, List, length, get_or, ℤ, unsigned_abs}
 use Rattle.mpc_exact.specs.Rational.{frac}
 use Rattle.mpc_linear.specs.Elimination.{Table}
 use Rattle.mpc_whole.specs.Whole.{whole_cell, IsSmall}
@@ -14,13 +14,18 @@ scale_of s i = get_or s.scales.items i 0
 abbrev pub den_of : Swept → ℕ → ℕ
 den_of s i = s.den * scale_of s i
 
--- the number in row i and column j
+-- how many columns are told
+abbrev pub told_columns : Swept → ℕ
+told_columns s = s.columns - s.first
+
+-- the number in row i and column j, if the column is told
 abbrev pub number : Swept → ℕ → ℕ → ℤ
-number s i j = whole_cell s.columns s.numbers.items i j
+number s i j = whole_cell (told_columns s) s.numbers.items i j
 
 -- the shape of the lists, and sizes that leave room for sums of two products
 pub record IsTable (s : Swept) : Type 0 where
-  pub size : length s.numbers.items ≡ s.rows * s.columns
+  pub told : s.first ≤ s.columns
+  pub size : length s.numbers.items ≡ s.first + s.rows * told_columns s
   pub scales_size : length s.scales.items ≡ s.rows
   pub some_den : 0 < s.den
   pub some : (i : ℕ) → i < s.rows → 0 < scale_of s i
@@ -38,10 +43,12 @@ pub record IsWholeTable (t : Table) (rows columns most : ℕ) : Type 0 where
   pub small : (i j : ℕ) → i < rows → j < columns → unsigned_abs (numbers i j) ≤ 2 ^ 58
   pub entries : (i j : ℕ) → i < rows → j < columns → t i j ≡ frac (numbers i j) (scale i)
 
--- The numbers stand for the table that is swept at these rows, in the columns from this one on; all numbers of the sweeps fit.
+-- The numbers stand for the table that is swept at these rows, in the columns from this one on, which are told; all numbers of the
+-- sweeps fit.
 pub record IsSwept (t : Table) (ps : List ℕ) (rows columns first : ℕ) (s : Swept) : Type 0 where
   pub rows_are : s.rows ≡ rows
   pub columns_are : s.columns ≡ columns
+  pub told : s.first ≤ first
   pub table : IsTable s
   pub whole : IsWholeTable t rows columns s.most_scale
   pub entries : (i j : ℕ) → i < rows → first ≤ j → j < columns → swept t ps i j ≡ frac (number s i j) (den_of s i)

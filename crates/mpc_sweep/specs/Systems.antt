@@ -15,6 +15,7 @@ pub record HasRowsOf (m : RationalMatrix) (count : ℕ) (s : LinearSystem) : Typ
 pub record IsFirst (scales : List ℕ) (a : List ℤ) (most_entry most_scale rows columns : ℕ) (s : Swept) : Type 0 where
   pub rows_are : s.rows ≡ rows
   pub columns_are : s.columns ≡ columns
+  pub first : s.first ≡ 0
   pub den : s.den ≡ 1
   pub bound : s.most_scale ≡ most_scale
   pub row_scales : s.scales.items ≡ drop columns scales

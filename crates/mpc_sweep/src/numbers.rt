@@ -12,16 +12,20 @@ use mpc_linear::Matrix;
 use std::alloc::Global;
 
 /// A table that is swept at some of its rows, in whole numbers: the entries of a row lie over the
-/// denominator, times the scale of the row where it isn't swept. Only some of its last columns may be told.
+/// denominator, times the scale of the row where it isn't swept. Only some of its last columns may be told,
+/// and there is no room for the others.
 #[derive(Drop)]
 pub struct Swept {
     pub(crate) rows: usize,
     pub(crate) columns: usize,
+    /// The first column that is told.
+    pub(crate) first: usize,
     pub(crate) den: u64,
     /// A bound of the scales, at least 1.
     pub(crate) most_scale: u64,
     pub(crate) scales: Vec<u64>,
-    /// Row by row.
+    /// The numbers of the columns that are told, row by row, behind one place for each column that isn't: so
+    /// the number in row i and column j stands at i times the columns that are told, and j.
     pub(crate) numbers: Vec<i64>,
 }
 
@@ -31,6 +35,7 @@ impl Swept {
         Swept {
             rows: 0,
             columns: 0,
+            first: 0,
             den: 1,
             most_scale: 1,
             scales: Vec::new(alloc),
@@ -46,7 +51,7 @@ impl Swept {
         whole_table(alloc, table)
     }
 
-    /// The number in row i and column j, counted from 0.
+    /// The number in row i and column j, counted from 0. It says nothing where the column isn't told.
     #[inline]
     pub fn at(&self, i: usize, j: usize) -> i64
         requires table { IsTable self.now }
@@ -54,7 +59,7 @@ impl Swept {
         requires column { j < self.now.columns }
         ensures { result ≡ number self.now i j }
     {
-        self.numbers[i * self.columns + j]
+        self.numbers[i * (self.columns - self.first) + j]
     }
 
     /// What the numbers of row i lie over.
@@ -68,8 +73,8 @@ impl Swept {
     }
 
     /// Sweeps the table at one more row, p, which lies behind those before, into the room of another one, in
-    /// the columns from `first` on. It is `false` where a number of it isn't small; the room holds no table
-    /// then, as where memory is refused.
+    /// the columns from `first` on. It is `false` where a number of it isn't small, or where p or `first` is a
+    /// column that isn't told; the room holds no table then, as where memory is refused.
     pub fn sweep(&self, out: &mut Swept, p: usize, first: usize) -> Result<bool, NoMemory>
         requires table { IsTable self.now }
         requires row { p < self.now.rows }

@@ -66,6 +66,7 @@ fn kept(
     Ok(Some(Swept {
         rows,
         columns,
+        first: 0,
         den: 1,
         most_scale: numbers.most_scale,
         scales: row_scales.to_vec(alloc)?,
