@@ -13,7 +13,7 @@ use std::alloc::Global;
 
 /// A table that is swept at some of its rows, in whole numbers: the entries of a row lie over the
 /// denominator, times the scale of the row where it isn't swept. Only some of its last columns may be told,
-/// and there is no room for the others.
+/// and the others take no room in the rows.
 #[derive(Drop)]
 pub struct Swept {
     pub(crate) rows: usize,

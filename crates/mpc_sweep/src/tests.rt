@@ -79,6 +79,28 @@ fn sweeps_at_a_negative_pivot(rt: HostRuntime) -> Result<(), Fail> {
     Ok(())
 }
 
+/// 1, 2, 3 and 0, 5, 7.
+fn apart(alloc: Global) -> Result<Matrix, NoMemory> {
+    let mut table = Matrix::zero(alloc, 2, 3)?;
+    table.set(0, 0, Frac::whole(1));
+    table.set(0, 1, Frac::whole(2));
+    table.set(0, 2, Frac::whole(3));
+    table.set(1, 1, Frac::whole(5));
+    table.set(1, 2, Frac::whole(7));
+    Ok(table)
+}
+
+#[test]
+fn keeps_a_row_without_the_pivot(rt: HostRuntime) -> Result<(), Fail> {
+    let table = apart(rt.alloc())?;
+    let Some(swept) = swept_at(rt.alloc(), &table, 0, 2)? else {
+        panic!(rt; "the numbers are small");
+    };
+    assert!(rt; entry(&swept, 0, 2) == Some((3, 1)));
+    assert!(rt; entry(&swept, 1, 2) == Some((7, 1)));
+    Ok(())
+}
+
 #[test]
 fn divides_where_that_is_whole_and_small(rt: HostRuntime) {
     let dozen = Divisor::of(12);
