@@ -1,5 +1,5 @@
 -- The entries of a swept table as fractions, which always fit.
-use Rattle.std.proofs.Common.{◌≡◌, ◌≢◌, ℕ, ◌+◌, ◌*◌, ◌^◌, ◌<◌, ◌≤◌, ℤ, pos, unsigned_abs, to_z, of_z, ◌↔◌, Result, Err, sym, ◌∙◌, ap, subst, arith, mul-pos, mul-le-mul_left, le_trans}
+use Rattle.std.proofs.Common.{◌≡◌, ◌≢◌, ℕ, ◌^◌, ◌<◌, ◌≤◌, ℤ, pos, unsigned_abs, to_z, of_z, ◌↔◌, Result, Err, sym, ◌∙◌, ap, subst, arith, mul-pos, mul-le-mul_left, le_trans}
 use Rattle.std.specs.Int.{w64, w128}
 use Rattle.std.proofs.lemmas.Int.{ints}
 use Rattle.mpc_exact.specs.Rational.{ℚ, frac, quotient}
@@ -21,7 +21,7 @@ module _ (table : Swept) (is : IsTable table) (i j : ℕ) (h : i < table.rows) w
   den_small = le_trans (mul-le-mul_left table.den (is.scales i h)) is.dens
 
   number_small : unsigned_abs (number table i j) ≤ 2 ^ 62
-  number_small = is.small.each (i * table.columns + j)
+  number_small = is.small.each _
 
   -- z and d as the code reads them
   module _ (z : ℤ) (d : ℕ) (e : z ≡ number table i j) (q : d ≡ den_of table i) where

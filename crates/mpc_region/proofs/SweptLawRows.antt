@@ -62,7 +62,7 @@ module _ (reduced : RowIsReduced) (over : OverLaws) (qp : Qp) (s : List ℕ) (ta
 
   -- ---- the table's numbers
   small : (r j : ℕ) → unsigned_abs (number_from table r (rights qp) j) ≤ 2 ^ 62
-  small r j = is.table.small.each (r * table.columns + (rights qp + j))
+  small r j = is.table.small.each _
 
   row_in : (r : ℕ) → r < n + m → r < table.rows
   row_in r h = let e = is.rows_are in omega arith

@@ -23,6 +23,7 @@ told_later : (t : Table) (ps : List ℕ) (rows columns a b : ℕ) (s : Swept) �
 told_later t ps rows columns a b s h is = record {
   rows_are = is.rows_are;
   columns_are = is.columns_are;
+  told = let c = is.told in omega arith;
   table = is.table;
   whole = is.whole;
   entries = λ i j l f k. is.entries i j l (omega arith) k;
@@ -61,6 +62,7 @@ module _ (qp : Qp) where
   agrees s is = record {
     rows_are = is.rows_are;
     columns_are = is.columns_are;
+    told = is.told;
     table = is.table;
     whole = record {
       scale = is.whole.scale;

@@ -1,11 +1,11 @@
-use Rattle.std.proofs.Common.{◌≡◌, ◌^◌, ◌+◌, ◌*◌, unsigned_abs, arith}
+use Rattle.std.proofs.Common.{◌≡◌, ◌^◌, ◌+◌, unsigned_abs, arith}
 use Rattle.mpc_region.specs.SweptRows.{number_from}
 use Rattle.mpc_region.proofs.SweptDivisors.{shared_none, shared_more, shared_one, shared_small, read_size}
 use Rattle.mpc_region.proofs.rows.shared_divisor.Goals as goal
 use Rattle.mpc_region.proofs.rows.shared_divisor.Goals.{After-greatest_common_divisor-shared}
 
 size : (c : After-greatest_common_divisor-shared) → c.unsigned_abs-size.result ≡ unsigned_abs (number_from c.args.table.now c.args.i c.args.first c.loop-j.j)
-size c = read_size c.at.result (number_from c.args.table.now c.args.i c.args.first c.loop-j.j) c.at.ensures (c.requires.table.small.each (c.args.i * c.args.table.now.columns + (c.args.first + c.loop-j.j))) c.unsigned_abs-size.result c.unsigned_abs-size.ensures.value
+size c = read_size c.at.result (number_from c.args.table.now c.args.i c.args.first c.loop-j.j) c.at.ensures (c.requires.table.small.each _) c.unsigned_abs-size.result c.unsigned_abs-size.ensures.value
 
 pub loop-j-init : goal.loop-j-init
 loop-j-init c = record { shared = shared_none (number_from c.args.table.now c.args.i c.args.first); small = omega arith }
@@ -24,5 +24,5 @@ loop-j-preserved c =
     record {
       shared = shared_more f c.loop-j.j c.loop-j.shared c.unsigned_abs-size.result c.greatest_common_divisor-shared.result (size at.After-greatest_common_divisor-shared) c.greatest_common_divisor-shared.ensures.value c.loop-j.invariant.shared;
       small = shared_small c.loop-j.shared c.unsigned_abs-size.result c.greatest_common_divisor-shared.result (2 ^ 62) (f c.loop-j.j) (size at.After-greatest_common_divisor-shared)
-          (c.requires.table.small.each (c.args.i * c.args.table.now.columns + (c.args.first + c.loop-j.j))) c.greatest_common_divisor-shared.ensures.value c.loop-j.invariant.small;
+          (c.requires.table.small.each _) c.greatest_common_divisor-shared.ensures.value c.loop-j.invariant.small;
     }

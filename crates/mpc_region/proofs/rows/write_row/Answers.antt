@@ -1,4 +1,4 @@
-use Rattle.std.proofs.Common.{◌≡◌, ◌+◌, ◌*◌, unsigned_abs, to_z, of_z, arith, ap, ◌∙◌, sym, subst, length, pos, ◌*ℤ◌}
+use Rattle.std.proofs.Common.{◌≡◌, ◌+◌, unsigned_abs, to_z, of_z, arith, ap, ◌∙◌, sym, subst, length, pos, ◌*ℤ◌}
 use Rattle.std.specs.Int.{◌∣◌, w64}
 use Rattle.mpc_sweep.specs.Numbers.{number}
 use Rattle.mpc_region.specs.SweptRows.{number_from, IsSharedBy, DividesEach}
@@ -15,7 +15,7 @@ divides c = by_divides (number_from c.args.table.now c.args.i c.args.first) (len
 
 read : (c : After-at) → to_z w64 (of_z w64 c.at.result) ≡ number_from c.args.table.now c.args.i c.args.first 0
 read c = read_number c.at.result (number_from c.args.table.now c.args.i c.args.first 0) (c.at.ensures ∙ ap (number c.args.table.now c.args.i) (omega arith))
-    (c.requires.table.small.each (c.args.i * c.args.table.now.columns + (c.args.first + 0)))
+    (c.requires.table.small.each _)
 
 pub write_sides-requires-clause-divides : goal.write_sides-requires-clause-divides
 write_sides-requires-clause-divides c = divides (goal.at.write_sides-requires-clause-divides c).After-max-by

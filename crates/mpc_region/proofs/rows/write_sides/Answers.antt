@@ -1,4 +1,4 @@
-use Rattle.std.proofs.Common.{◌≡◌, ◌+◌, ◌*◌, neg_ℤ, unsigned_abs, to_z, of_z, arith, ap, ◌∙◌, sym, subst, length, set}
+use Rattle.std.proofs.Common.{◌≡◌, ◌+◌, neg_ℤ, unsigned_abs, to_z, of_z, arith, ap, ◌∙◌, sym, subst, length, set}
 use Rattle.std.specs.Int.{◌∣◌, w64}
 use Rattle.mpc_region.specs.SweptRows.{number_from}
 use Rattle.mpc_region.proofs.SweptDivisors.{read_number, read_short}
@@ -7,7 +7,7 @@ use Rattle.mpc_region.proofs.rows.write_sides.Goals as goal
 use Rattle.mpc_region.proofs.rows.write_sides.Goals.{After-at}
 
 read : (c : After-at) → to_z w64 (of_z w64 c.at.result) ≡ number_from c.args.table.now c.args.i c.args.first (c.loop-j.j + 1)
-read c = read_number c.at.result (number_from c.args.table.now c.args.i c.args.first (c.loop-j.j + 1)) c.at.ensures (c.requires.table.small.each (c.args.i * c.args.table.now.columns + (c.args.first + (c.loop-j.j + 1))))
+read c = read_number c.at.result (number_from c.args.table.now c.args.i c.args.first (c.loop-j.j + 1)) c.at.ensures (c.requires.table.small.each _)
 
 pub loop-j-init : goal.loop-j-init
 loop-j-init c = sides_none (number_from c.args.table.now c.args.i c.args.first) c.args.by c.args.sides.now
