@@ -19,6 +19,13 @@ whole_total-suc n f = refl
 pub whole_total-next : (n : ℕ) (f : ℕ → ℤ) → whole_total (n + 1) f ≡ whole_total n f +ℤ f n
 whole_total-next n f = ap (λ m. whole_total m f) (add-one n) ∙ whole_total-suc n f
 
+zero_sum : (x y : ℤ) → x ≡ pos 0 → y ≡ pos 0 → x +ℤ y ≡ pos 0
+zero_sum x y h k = omega (arith, ints)
+
+pub whole_total-zeros : (n : ℕ) (f : ℕ → ℤ) → ((i : ℕ) → f i ≡ pos 0) → whole_total n f ≡ pos 0
+whole_total-zeros zero f h = whole_total-zero f
+whole_total-zeros (suc n) f h = whole_total-suc n f ∙ zero_sum (whole_total n f) (f n) (whole_total-zeros n f h) (h n)
+
 -- ---- sizes
 pub product_at_most : (u v : ℤ) (m n : ℕ) → unsigned_abs u ≤ m → unsigned_abs v ≤ n → unsigned_abs (u *ℤ v) ≤ m * n
 product_at_most u v m n h k =

@@ -12,6 +12,7 @@ ghost use Rattle.mpc_whole.specs.Found.{IfEnded, IfNext};
 ghost use Rattle.mpc_whole.specs.Underway.{IsUnderway, HasEnded};
 ghost use Rattle.mpc_whole.specs.Whole.{whole_at, AreScales, IsNarrow, IsSmall, IsWholeSystem, HasBounds, HasRoom, HasBasis, IsRowOf, side_cell, IsSideRow, IsSwapped, IsNext};
 
+use crate::divisors::Divisor;
 use crate::variables::{Seat, column_of, row_of};
 use crate::whole_pivot::exchange;
 use crate::whole_rows::greatest;
@@ -26,7 +27,7 @@ fn swap(
     x: &[i64],
     l: usize,
     e: usize,
-    den: u64,
+    by: Divisor,
     most: u64,
 ) -> Option<u64>
     requires leaves_below { l < length seats.old }
@@ -35,20 +36,20 @@ fn swap(
     requires enters { in_row (seat_at seats.old e) ≡ false }
     requires column { (c : ℕ) → seat_at seats.old e ≡ Column c → c < length x.now }
     requires square { length v.old ≡ length x.now * length x.now }
-    requires den_some { 0 < den }
-    requires den_small { den ≤ 2 ^ 62 }
+    requires den_some { 0 < by.den }
+    requires den_small { by.den ≤ 2 ^ 62 }
     requires most_small { most ≤ 2 ^ 62 }
     requires small { IsSmall most v.old }
     requires row_small { IsSmall (2 ^ 62) x.now }
     ensures seats { IfSome result (λ _. IsSwapped seats.old seats.new l e) }
-    ensures next { IfSome result (λ size. IsNext (length x.now) den seats.old v.old v.new x.now e size) }
+    ensures next { IfSome result (λ size. IsNext (length x.now) by.den seats.old v.old v.new x.now e size) }
     ensures size_small { IfSome result (λ size. size ≤ 2 ^ 62) }
     ensures small { IfSome result (λ _. IsSmall most v.new) }
 {
     let r = row_of(seats, l);
     let c = column_of(seats, e);
     let size = x[c].unsigned_abs();
-    exchange(v, x, c, den, most)?;
+    exchange(v, x, c, by, most)?;
     seats[l] = Seat::Column(c);
     seats[e] = Seat::Row(r);
     Some(size)
@@ -166,9 +167,10 @@ fn step(
     };
     let own = greatest(v);
     let c = column_of(seats, e);
-    let size = swap(seats, v, x, l, e, den, most)?;
+    let by = Divisor::of(den);
+    let size = swap(seats, v, x, l, e, by, most)?;
     let i = l - system.unknowns();
-    follow(c_1, c_2, system, scales, seats, a, b, v, n, i, c, den, size)?;
+    follow(c_1, c_2, system, scales, seats, a, b, v, n, i, c, by, size)?;
     Some(Found::Next(Place {
         den: size,
         greatest: greater(place.greatest, own),

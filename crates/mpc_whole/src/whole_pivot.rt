@@ -62,18 +62,17 @@ fn change_row(v: &mut [i64], x: &[i64], j: usize, e: usize, by: Divisor, most: u
 }
 
 /// The pivot where the row x leaves and the column e enters, if all numbers are whole and small.
-pub(crate) fn exchange(v: &mut [i64], x: &[i64], e: usize, den: u64, most: u64) -> Option<()>
+pub(crate) fn exchange(v: &mut [i64], x: &[i64], e: usize, by: Divisor, most: u64) -> Option<()>
     requires square { length v.old ≡ length x.now * length x.now }
     requires column { e < length x.now }
-    requires den_some { 0 < den }
-    requires den_small { den ≤ 2 ^ 62 }
+    requires den_some { 0 < by.den }
+    requires den_small { by.den ≤ 2 ^ 62 }
     requires most_small { most ≤ 2 ^ 62 }
     requires small { IsSmall most v.old }
     requires row_small { IsSmall (2 ^ 62) x.now }
-    ensures pivot { IfSome result (λ _. IsWholePivot (length x.now) den v.old v.new x.now e) }
+    ensures pivot { IfSome result (λ _. IsWholePivot (length x.now) by.den v.old v.new x.now e) }
     ensures small { IfSome result (λ _. IsSmall most v.new) }
 {
-    let by = Divisor::of(den);
     for j in 0..x.len() {
         change_row(v, x, j, e, by, most)?;
     }

@@ -1,6 +1,6 @@
 //! The values at a position in whole numbers.
 
-ghost use Rattle.std.specs.Prelude.{◌≡◌, ℕ, ℤ, pos, ◌+◌, ◌*◌, ◌<◌, ◌≤◌, ◌^◌, ◌+ℤ◌, ◌*ℤ◌, unsigned_abs, IfSome, length, true};
+ghost use Rattle.std.specs.Prelude.{◌≡◌, ℕ, ℤ, pos, ◌+◌, ◌*◌, ◌<◌, ◌≤◌, ◌^◌, ◌+ℤ◌, ◌*ℤ◌, unsigned_abs, IfSome, IsTrue, length, true};
 ghost use Rattle.mpc_exact.specs.Rational.{frac};
 ghost use Rattle.mpc_rows.specs.LinearSystem.{height};
 ghost use Rattle.mpc_rows.specs.Run.{Position, IsTableau, bound};
@@ -22,6 +22,18 @@ pub fn clear(list: &mut [i64])
     for j in 0..list.len() {
         list[j] = 0;
     }
+}
+
+/// Whether each number is 0.
+fn are_zero(list: &[i64]) -> bool
+    ensures { IsTrue result → (k : ℕ) → whole_at list.now k ≡ pos 0 }
+{
+    for j in 0..list.len() {
+        if list[j] != 0 {
+            return false;
+        }
+    }
+    true
 }
 
 /// Adds the column c of v, times b.
@@ -118,6 +130,7 @@ fn excess(a: &[i64], i: usize, c: &[i64], limit: i64, den: u64) -> Option<i64>
 
 /// Moves one part of the values with a pivot where side i leaves, with the bound that is given in that part,
 /// and the column e enters, if all numbers are whole and small. The numbers v are those after the pivot.
+/// Where all of them and the bound are 0 they stay so, as the second parts do while no strict row has left.
 fn move_part(
     c: &mut [i64],
     a: &[i64],
@@ -140,6 +153,9 @@ fn move_part(
     ensures moved { IfSome result (λ _. IsMoved (length c.old) a.now i limit v.now e by.den size c.old c.new) }
     ensures small { IfSome result (λ _. IsSmall (2 ^ 62) c.new) }
 {
+    if limit == 0 && are_zero(c) {
+        return Some(());
+    }
     let over = excess(a, i, c, limit, by.den)?;
     let width = c.len();
     for j in 0..width {
@@ -197,7 +213,7 @@ pub(crate) fn follow(
     n: usize,
     i: usize,
     e: usize,
-    den: u64,
+    by: Divisor,
     size: u64,
 ) -> Option<()>
     requires scales { AreScales system.now scales.now }
@@ -208,20 +224,19 @@ pub(crate) fn follow(
     requires square { length v.now ≡ system.now.width * system.now.width }
     requires side { i < height system.now }
     requires column { e < system.now.width }
-    requires den_some { 0 < den }
-    requires den_small { den ≤ 2 ^ 62 }
+    requires den_some { 0 < by.den }
+    requires den_small { by.den ≤ 2 ^ 62 }
     requires size_small { size ≤ 2 ^ 62 }
     requires numbers_small { IsSmall (2 ^ 62) v.now }
     requires first_room { length c_1.old ≡ system.now.width }
     requires second_room { length c_2.old ≡ system.now.width }
     requires first_old_small { IsSmall (2 ^ 62) c_1.old }
     requires second_old_small { IsSmall (2 ^ 62) c_2.old }
-    ensures values { IfSome result (λ _. AreFollowed system.now n seats.now scales.now a.now b.now v.now i e den size c_1.old c_2.old c_1.new c_2.new) }
+    ensures values { IfSome result (λ _. AreFollowed system.now n seats.now scales.now a.now b.now v.now i e by.den size c_1.old c_2.old c_1.new c_2.new) }
     ensures first_small { IfSome result (λ _. IsSmall (2 ^ 62) c_1.new) }
     ensures second_small { IfSome result (λ _. IsSmall (2 ^ 62) c_2.new) }
 {
     let step = step_of(system, scales, i);
-    let by = Divisor::of(den);
     if let Some(()) = move_values(c_1, c_2, a, i, b[i], step, v, e, by, size) {
         return Some(());
     }

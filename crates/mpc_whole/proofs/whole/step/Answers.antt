@@ -145,12 +145,12 @@ returns-clause-underway c =
     let e = leaver_is at.In-Some (found at.After-leaving-out) in
     let o = enters_is at.In-Some-pick e in
     let rs = row_seat (seat_at c.args.seats.now c.in-Some.l) (leaving_seat c.args.system.now c.args.n c.args.seats.now c.requires.seated c.args.scales.now c.args.place.den c.args.v.now c.args.a.now c.args.b.now c.requires.bounds.most_side c.requires.whole c.requires.bounds.bounds.sides c.requires.narrow c.requires.underway.stands c.in-Some.l e) in
-    let piv : IsWholePivot c.args.system.now.width c.args.place.den c.args.v.now c.swap.new.v c.pick.new.x c.column_of-c.result = subst (λ w. IsWholePivot w c.args.place.den c.args.v.now c.swap.new.v c.pick.new.x c.column_of-c.result) c.pick.ensures.row.size (c.in_ok-size.ensures.next.pivot c.column_of-c.result c.column_of-c.ensures) in
+    let piv : IsWholePivot c.args.system.now.width c.args.place.den c.args.v.now c.swap.new.v c.pick.new.x c.column_of-c.result = subst₂ (λ w d. IsWholePivot w d c.args.v.now c.swap.new.v c.pick.new.x c.column_of-c.result) c.pick.ensures.row.size c.of-by.ensures (c.in_ok-size.ensures.next.pivot c.column_of-c.result c.column_of-c.ensures) in
     let seats_are = c.in_ok-size.ensures.seats.seats rs.0 c.column_of-c.result rs.1 c.column_of-c.ensures in
     let size_is = c.in_ok-size.ensures.next.size_is c.column_of-c.result c.column_of-c.ensures in
     let followed : AreFollowed c.args.system.now c.args.n (set (set c.args.seats.now c.in-Some.l (Column c.column_of-c.result)) c.in-Some-pick.e (Row rs.0)) c.args.scales.now c.args.a.now c.args.b.now c.swap.new.v (c.in-Some.l - c.args.system.now.width) c.column_of-c.result c.args.place.den (unsigned_abs (whole_at c.pick.new.x c.column_of-c.result)) c.args.c_1.now c.args.c_2.now c.follow.new.c_1 c.follow.new.c_2 =
     subst₂ (λ (t : List Seat) d. AreFollowed c.args.system.now c.args.n t c.args.scales.now c.args.a.now c.args.b.now c.swap.new.v (c.in-Some.l - c.args.system.now.width) c.column_of-c.result c.args.place.den d c.args.c_1.now c.args.c_2.now c.follow.new.c_1 c.follow.new.c_2) seats_are size_is
-    (subst (λ w. AreFollowed c.args.system.now c.args.n c.swap.new.seats c.args.scales.now c.args.a.now c.args.b.now c.swap.new.v (c.in-Some.l - w) c.column_of-c.result c.args.place.den c.in_ok-size.size c.args.c_1.now c.args.c_2.now c.follow.new.c_1 c.follow.new.c_2) c.unknowns.ensures c.in_ok-follow.ensures.values)
+    (subst₂ (λ w d. AreFollowed c.args.system.now c.args.n c.swap.new.seats c.args.scales.now c.args.a.now c.args.b.now c.swap.new.v (c.in-Some.l - w) c.column_of-c.result d c.in_ok-size.size c.args.c_1.now c.args.c_2.now c.follow.new.c_1 c.follow.new.c_2) c.unknowns.ensures c.of-by.ensures c.in_ok-follow.ensures.values)
     in
     subst (IsUnderway c.args.system.now c.args.n c.swap.new.seats c.args.scales.now c.in_ok-size.size c.swap.new.v c.follow.new.c_1 c.follow.new.c_2 c.greater.result c.greater-2.result) (sym c.unknowns-2.ensures)
     (subst₂ (λ (t : List Seat) d. IsUnderway c.args.system.now c.args.n t c.args.scales.now d c.swap.new.v c.follow.new.c_1 c.follow.new.c_2 c.greater.result c.greater-2.result c.args.system.now.width) (sym seats_are) (sym size_is)

@@ -1,8 +1,11 @@
-use Rattle.std.proofs.Common.{◌≡◌, ℕ, ◌+◌, ◌*◌, ◌<◌, ◌≤◌, ◌^◌, ◌+ℤ◌, ◌*ℤ◌, neg_ℤ, ℤ, List, pos, get_or, set, length, sym, ◌∙◌, ap, subst, arith, to_z, of_z, unsigned_abs, ◌⊎◌, inl, inr, le_refl}
+use Rattle.std.proofs.Common.{◌≡◌, ℕ, ◌+◌, ◌*◌, ◌<◌, ◌≤◌, ◌^◌, ◌+ℤ◌, ◌*ℤ◌, neg_ℤ, ℤ, List, pos, get_or, set, length, sym, ◌∙◌, ap, subst, arith, to_z, of_z, unsigned_abs, ◌⊎◌, inl, inr, le_refl, [], ◌∷◌}
 use Rattle.std.specs.Int.{w64}
 use Rattle.std.proofs.lemmas.Bool.{cases_eq}
+use Rattle.std.proofs.lemmas.Int.{to_z-of_z}
 use Rattle.mpc_whole.specs.Whole.{whole_at, whole_cell}
-use Rattle.mpc_whole.specs.Moved.{excess}
+use Rattle.mpc_exact.proofs.IntRing.{int_reads, by_ring_ℤ}
+use Rattle.mpc_whole.specs.Moved.{excess, IsMoved}
+use Rattle.mpc_whole.proofs.WholeSums.{whole_total-zeros}
 use Rattle.mpc_whole.proofs.WholeSteps.{read_small, set_same, set_other, set_small, set_above}
 use Rattle.mpc_whole.proofs.whole_values.move_part.Goals as goal
 
@@ -12,6 +15,19 @@ one_more xs j z b d f h e k l = by (cases_eq k j)
     by : (k ≡ j) ⊎ (k ≡ j → ⊥) → whole_at (set xs j z) k *ℤ d ≡ f k
     by (inl q) = ap (λ u. u *ℤ d) (ap (whole_at (set xs j z)) q ∙ set_same xs j z b) ∙ e ∙ ap f (sym q)
     by (inr q) = ap (λ u. u *ℤ d) (set_other xs j z b k q) ∙ h k (omega arith)
+
+times_zero : (x : ℤ) → x *ℤ pos 0 ≡ pos 0
+times_zero x = by_ring_ℤ (x ∷ []) (search int_reads depth 30) (search int_reads depth 30) tt
+
+nothing : (d k f : ℤ) → pos 0 *ℤ d ≡ (pos 0 *ℤ k) +ℤ neg_ℤ (f *ℤ (pos 0 +ℤ neg_ℤ (pos 0 *ℤ d)))
+nothing d k f = by_ring_ℤ (d ∷ k ∷ f ∷ []) (search int_reads depth 30) (search int_reads depth 30) tt
+
+-- where all is 0 it stays so
+stays : (width : ℕ) (a : List ℤ) (i : ℕ) (g : ℤ) (v : List ℤ) (e den size : ℕ) (c : List ℤ) → ((k : ℕ) → whole_at c k ≡ pos 0) → g ≡ pos 0 → IsMoved width a i g v e den size c c
+stays width a i g v e den size c zeros none = record {
+  each = λ j l. ap (λ u. u *ℤ pos den) (zeros j) ∙ nothing (pos den) (pos size) (whole_cell width v j e)
+      ∙ sym (λ t. (zeros j t *ℤ pos size) +ℤ neg_ℤ (whole_cell width v j e *ℤ (whole_total-zeros width (λ m. whole_cell width a i m *ℤ whole_at c m) (λ m. ap (λ u. whole_cell width a i m *ℤ u) (zeros m) ∙ times_zero (whole_cell width a i m)) t +ℤ neg_ℤ (none t *ℤ pos den))));
+}
 
 pub loop-j-preserved : goal.loop-j-preserved
 loop-j-preserved c =
@@ -30,3 +46,8 @@ loop-j-preserved c =
       kept = set_above c.loop-j.c c.loop-j.j z b c.args.c.now c.loop-j.invariant.kept;
       small = set_small c.loop-j.c c.loop-j.j z b (2 ^ 62) c.loop-j.invariant.small (subst (λ u. unsigned_abs u ≤ 2 ^ 62) (sym back) c.in_ok-new.ensures.small);
     }
+
+pub returns-then-are_zero-clause-moved : goal.returns-then-are_zero-clause-moved
+returns-then-are_zero-clause-moved c =
+    stays (length c.args.c.now) c.args.a.now c.args.i c.args.limit c.args.v.now c.args.e c.args.by.den c.args.size c.args.c.now (c.are_zero.ensures c.if-are_zero.true)
+    (sym (to_z-of_z w64 c.args.limit c.ranges.limit) ∙ ap (to_z w64) c.if-limit-eq0.true)
