@@ -17,6 +17,7 @@ pub record IsKept (s : LinearSystem) (k : List ℕ) (seats : List Seat) (v first
   pub seated : IsSeated (height s) s.width (count s) seats
   pub square : length v ≡ s.width * s.width
   pub small : IsSmall (2 ^ 62) v
+  pub own : IsSmall p.own v
   pub first_size : length firsts ≡ s.width
   pub second_size : length seconds ≡ s.width
   pub first_small : IsSmall (2 ^ 62) firsts

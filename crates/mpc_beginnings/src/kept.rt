@@ -1,6 +1,6 @@
 //! Runs in whole numbers that are kept where they end.
 
-ghost use Rattle.std.specs.Prelude.{◌≡◌, ℕ, ◌+◌, ◌*◌, ◌<◌, ◌≤◌, ◌^◌, [], ◌∷◌, IsTrue, IfSome, IfOk, List, length, true, false};
+ghost use Rattle.std.specs.Prelude.{◌≡◌, ℕ, ℤ, ◌+◌, ◌*◌, ◌<◌, ◌≤◌, ◌^◌, [], ◌∷◌, IsTrue, IfSome, IfOk, List, length, true, false};
 ghost use Rattle.mpc_rows.specs.LinearSystem.{height, row_at};
 ghost use Rattle.mpc_rows.specs.Run.{count, has_point, is_refuted, turn, last_position};
 ghost use Rattle.mpc_rows.specs.RunWidth.{RunFits};
@@ -23,21 +23,15 @@ use mpc_frac::Frac;
 use mpc_linear::RowInt;
 use mpc_rows::{Multipliers, PairPoint, Row, System};
 use mpc_whole::{
-    End, Ending, Place, Seat, Standing, WholeNumbers, WholeSystem, greatest, last_multipliers,
-    last_values, limit, whole_run, zero_pairs, zeros,
+    End, Ending, Place, Seat, Standing, WholeNumbers, WholeSystem, last_multipliers, last_values,
+    limit, whole_run, zero_pairs, zeros,
 };
 use std::alloc::{AllocError, Global};
 use std::marker::Model;
 
-/// What the numbers of a position may have, if those that stand and the sizes that are kept of those
+/// What the numbers of a position may have, if the sizes that are kept of those that stand and of those
 /// before are within that.
-fn limit_of(
-    system: &WholeSystem,
-    numbers: &WholeNumbers,
-    v: &[i64],
-    n: usize,
-    from: Place,
-) -> Option<u64>
+fn limit_of(system: &WholeSystem, numbers: &WholeNumbers, n: usize, from: Place) -> Option<u64>
     requires count { n ≡ system.now.width + height system.now }
     requires entries { IsSmall numbers.now.most_entry numbers.now.a.now }
     requires sides { IsSmall numbers.now.most_side numbers.now.b.now }
@@ -47,9 +41,9 @@ fn limit_of(
     ensures bounds { IfSome result (λ m. HasBounds system.now numbers.now.scales.now numbers.now.a.now numbers.now.b.now m) }
     ensures room { IfSome result (λ _. HasRoom system.now.width (2 ^ 62) numbers.now.a.now) }
     ensures top { IfSome result (λ m. m ≤ 2 ^ 62) }
-    ensures small { IfSome result (λ m. IsSmall m v.now) }
+    ensures own_small { IfSome result (λ m. from.own ≤ m) }
     ensures den_small { IfSome result (λ _. from.den ≤ 2 ^ 62) }
-    ensures narrow { IfSome result (λ _. (seats : List Seat) → IsNarrow system.now n seats numbers.now.scales.now numbers.now.a.now from.den v.now) }
+    ensures narrow { IfSome result (λ _. (seats : List Seat) (v : List ℤ) → IsSmall from.own v → IsNarrow system.now n seats numbers.now.scales.now numbers.now.a.now from.den v) }
     ensures kept_small { IfSome result (λ m. from.greatest ≤ m) }
     ensures kept_den_small { IfSome result (λ _. from.greatest_den * numbers.now.most_scale ≤ 2 ^ 62) }
 {
@@ -60,7 +54,7 @@ fn limit_of(
         numbers.most_side,
         numbers.most_scale,
     )?;
-    if greatest(v).max(from.greatest) > most {
+    if from.own.max(from.greatest) > most {
         return None;
     }
     let scaled = from.den.max(from.greatest_den) as u128 * numbers.most_scale as u128;
@@ -97,17 +91,19 @@ fn run_on(
     requires some_side { 1 ≤ numbers.now.most_side }
     requires scales { (x : ℕ) → scale_at numbers.now.scales.now x ≤ numbers.now.most_scale }
     requires some_scale { 1 ≤ numbers.now.most_scale }
+    requires own { IsSmall from.own v.old }
     requires start { IsUnderwayWithin system.now n seats.old numbers.now.scales.now numbers.now.a.now numbers.now.b.now numbers.now.most_scale from.den v.old firsts.old seconds.old from.greatest from.greatest_den from.first }
     ensures end { IfSome result (λ t. HasEnded system.now n seats.new numbers.now.scales.now t.0.den v.new firsts.new seconds.new t.0.greatest t.0.greatest_den t.1) }
     ensures seated { IfSome result (λ _. IsSeated (height system.now) system.now.width n seats.new) }
     ensures small { IfSome result (λ _. IsSmall (2 ^ 62) v.new) }
+    ensures own { IfSome result (λ t. IsSmall t.0.own v.new) }
     ensures den_small { IfSome result (λ t. t.0.den ≤ 2 ^ 62) }
     ensures room { IfSome result (λ _. HasRoom system.now.width (2 ^ 62) numbers.now.a.now) }
     ensures narrow { IfSome result (λ t. IsNarrow system.now n seats.new numbers.now.scales.now numbers.now.a.now t.0.den v.new) }
     ensures first_small { IfSome result (λ _. IsSmall (2 ^ 62) firsts.new) }
     ensures second_small { IfSome result (λ _. IsSmall (2 ^ 62) seconds.new) }
 {
-    let most = limit_of(system, numbers, v, n, from)?;
+    let most = limit_of(system, numbers, n, from)?;
     let (x, _) = work.split_at_mut(system.unknowns());
     let found = whole_run(
         seats,
@@ -214,6 +210,7 @@ fn multipliers_at(
     requires seated { IsSeated (height system.now) system.now.width n seats.now }
     requires square { length v.now ≡ system.now.width * system.now.width }
     requires small { IsSmall (2 ^ 62) v.now }
+    requires own { IsSmall place.own v.now }
     requires form { IsForm system.now n seats.now scales.now place.den v.now (last_position system.now) }
     requires refuted { turn system.now (last_position system.now) ≡ is_refuted l }
     ensures { IfOk result (λ o. IfSome o (λ m. IsMultipliers system.now (last_position system.now) l m)) }
@@ -222,7 +219,7 @@ fn multipliers_at(
     if numbers.scales != scales {
         return Ok(None);
     }
-    let Some(_) = limit_of(system, &numbers, v, n, place) else {
+    let Some(_) = limit_of(system, &numbers, n, place) else {
         return Ok(None);
     };
     multipliers_of(alloc, work, system, &numbers, seats, v, n, place.den, l)
@@ -389,6 +386,7 @@ impl KeptRun {
         let scales = numbers.scales.to_vec(alloc)?;
         let from = Place {
             den: 1,
+            own: 1,
             greatest: 0,
             greatest_den: 0,
             first: width,
@@ -531,6 +529,7 @@ impl KeptRun {
         }
         let from = Place {
             den: self.place.den,
+            own: self.place.own,
             greatest: self.place.greatest,
             greatest_den: self.place.greatest_den,
             first: self.first_later(),

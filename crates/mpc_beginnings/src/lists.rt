@@ -4,7 +4,7 @@ ghost use Rattle.std.specs.Prelude.{◌≡◌, ℕ, pos, ◌+◌, ◌-◌, ◌*�
 ghost use Rattle.mpc_rows.specs.LinearSystem.{LinearSystem, height, row_at};
 ghost use Rattle.mpc_rows.specs.SetRuns.{turned};
 ghost use Rattle.mpc_whole.specs.Table.{IsSeated, IsOpeningSeats, opening_seat};
-ghost use Rattle.mpc_whole.specs.Whole.{whole_at, scale_at, IsUnit};
+ghost use Rattle.mpc_whole.specs.Whole.{whole_at, scale_at, IsSmall, IsUnit};
 ghost use Rattle.mpc_beginnings.specs.Beginnings.{lengthened};
 ghost use Rattle.mpc_beginnings.specs.LongerSeats.{AreLongerSeats};
 
@@ -69,6 +69,7 @@ pub(crate) fn first_numbers(
     requires { square ≡ width * width }
     ensures size { IfOk result (λ t. length t.items ≡ width * width) }
     ensures unit { IfOk result (λ t. IsUnit width t.items) }
+    ensures small { IfOk result (λ t. IsSmall 1 t.items) }
 {
     let mut v = vec![in alloc; 0; square]?;
     clear(&mut v);

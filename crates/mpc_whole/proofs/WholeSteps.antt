@@ -1,5 +1,5 @@
 -- Lists of whole numbers that the code changes, and the sums of values.
-use Rattle.std.proofs.Common.{◌≡◌, ℕ, ◌+◌, ◌-◌, ◌^◌, ◌<◌, ◌≤◌, false, List, length, set, ℤ, pos, ◌+ℤ◌, ◌*ℤ◌, unsigned_abs, sym, ◌∙◌, ap, subst, arith, ◌⊎◌, inl, inr, to_z, of_z, get_or-set_same, get_or-set_other, le-ltb}
+use Rattle.std.proofs.Common.{◌≡◌, ℕ, ◌+◌, ◌-◌, ◌^◌, ◌<◌, ◌≤◌, false, List, length, set, ℤ, pos, ◌+ℤ◌, ◌*ℤ◌, unsigned_abs, sym, ◌∙◌, ap, subst, arith, ◌⊎◌, inl, inr, to_z, of_z, get_or-set_same, get_or-set_other, le-ltb, le_trans}
 use Rattle.std.specs.Int.{w64}
 use Rattle.std.proofs.lemmas.Bool.{cases_eq}
 use Rattle.std.proofs.lemmas.Int.{ints, fits_signed_from_abs, to_z-of_z}
@@ -45,6 +45,14 @@ module _ (xs : List ℤ) (j : ℕ) (z : ℤ) (b : j < length xs) where
       by : (k ≡ j) ⊎ (k ≡ j → ⊥) → whole_at (set xs j z) k ≡ f k
       by (inl q) = ap (whole_at (set xs j z)) q ∙ set_same ∙ e ∙ ap f (sym q)
       by (inr q) = set_other k q ∙ h k (omega arith)
+
+  -- a bound of the numbers below j, and now of that at j too
+  pub set_bound : (m n : ℕ) → ((k : ℕ) → k < j → unsigned_abs (whole_at xs k) ≤ m) → m ≤ n → unsigned_abs z ≤ n → (k : ℕ) → k < j + 1 → unsigned_abs (whole_at (set xs j z) k) ≤ n
+  set_bound m n h l s k i = by (cases_eq k j)
+    where
+      by : (k ≡ j) ⊎ (k ≡ j → ⊥) → unsigned_abs (whole_at (set xs j z) k) ≤ n
+      by (inl e) = subst (λ u. unsigned_abs u ≤ n) (sym (ap (whole_at (set xs j z)) e ∙ set_same)) s
+      by (inr e) = subst (λ u. unsigned_abs u ≤ n) (sym (set_other k e)) (le_trans (h k (omega arith)) l)
 
   pub set_above : (old : List ℤ) → ((k : ℕ) → j ≤ k → whole_at xs k ≡ whole_at old k) → (k : ℕ) → j + 1 ≤ k → whole_at (set xs j z) k ≡ whole_at old k
   set_above old h k l = set_other k (λ e. omega arith) ∙ h k (omega arith)

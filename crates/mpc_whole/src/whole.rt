@@ -15,12 +15,12 @@ ghost use Rattle.mpc_whole.specs.Whole.{whole_at, AreScales, IsNarrow, IsSmall, 
 use crate::divisors::Divisor;
 use crate::variables::{Seat, column_of, row_of};
 use crate::whole_pivot::exchange;
-use crate::whole_rows::greatest;
 use crate::whole_systems::WholeSystem;
 use crate::whole_turn::{entering, leaving, leaving_row};
 use crate::whole_values::follow;
 
-/// Exchanges the seats of l and e, and pivots on the row x.
+/// Exchanges the seats of l and e, and pivots on the row x. It gives the next denominator and the greatest
+/// size of a number.
 fn swap(
     seats: &mut [Seat],
     v: &mut [i64],
@@ -29,7 +29,7 @@ fn swap(
     e: usize,
     by: Divisor,
     most: u64,
-) -> Option<u64>
+) -> Option<(u64, u64)>
     requires leaves_below { l < length seats.old }
     requires enters_below { e < length seats.old }
     requires leaves { in_row (seat_at seats.old l) ≡ true }
@@ -42,17 +42,18 @@ fn swap(
     requires small { IsSmall most v.old }
     requires row_small { IsSmall (2 ^ 62) x.now }
     ensures seats { IfSome result (λ _. IsSwapped seats.old seats.new l e) }
-    ensures next { IfSome result (λ size. IsNext (length x.now) by.den seats.old v.old v.new x.now e size) }
-    ensures size_small { IfSome result (λ size. size ≤ 2 ^ 62) }
+    ensures next { IfSome result (λ t. IsNext (length x.now) by.den seats.old v.old v.new x.now e t.0) }
+    ensures size_small { IfSome result (λ t. t.0 ≤ 2 ^ 62) }
     ensures small { IfSome result (λ _. IsSmall most v.new) }
+    ensures own { IfSome result (λ t. IsSmall t.1 v.new) }
 {
     let r = row_of(seats, l);
     let c = column_of(seats, e);
     let size = x[c].unsigned_abs();
-    exchange(v, x, c, by, most)?;
+    let own = exchange(v, x, c, by, most)?;
     seats[l] = Seat::Column(c);
     seats[e] = Seat::Row(r);
-    Some(size)
+    Some((size, own))
 }
 
 /// The row of the side l that leaves, and the variable that enters.
@@ -90,11 +91,12 @@ pub enum Ending {
     Refuted(usize),
 }
 
-/// Where a run stands: its denominator, the greatest number and the greatest denominator of the
-/// positions before, and the first variable that may leave.
+/// Where a run stands: its denominator, the greatest size of a number there, the greatest number and the
+/// greatest denominator of the positions before, and the first variable that may leave.
 #[derive(Clone, Copy, Drop)]
 pub struct Place {
     pub den: u64,
+    pub own: u64,
     pub greatest: u64,
     pub greatest_den: u64,
     pub first: usize,
@@ -142,16 +144,19 @@ fn step(
     requires second_size { length c_2.old ≡ system.now.width }
     requires first_small { IsSmall (2 ^ 62) c_1.old }
     requires second_small { IsSmall (2 ^ 62) c_2.old }
+    requires own { IsSmall place.own v.old }
     requires den_small { place.den ≤ 2 ^ 62 }
     requires narrow { IsNarrow system.now n seats.old scales.now a.now place.den v.old }
     requires underway { IsUnderway system.now n seats.old scales.now place.den v.old c_1.old c_2.old place.greatest place.greatest_den place.first }
     ensures end { IfSome result (λ f. IfEnded f (λ e. HasEnded system.now n seats.new scales.now place.den v.new c_1.new c_2.new place.greatest place.greatest_den e)) }
     ensures end_seated { IfSome result (λ f. IfEnded f (λ _. IsSeated (height system.now) system.now.width n seats.new)) }
     ensures end_small { IfSome result (λ f. IfEnded f (λ _. IsSmall most v.new)) }
+    ensures end_own { IfSome result (λ f. IfEnded f (λ _. IsSmall place.own v.new)) }
     ensures end_narrow { IfSome result (λ f. IfEnded f (λ _. IsNarrow system.now n seats.new scales.now a.now place.den v.new)) }
     ensures underway { IfSome result (λ f. IfNext f (λ p. IsUnderway system.now n seats.new scales.now p.den v.new c_1.new c_2.new p.greatest p.greatest_den p.first)) }
     ensures seated { IfSome result (λ f. IfNext f (λ _. IsSeated (height system.now) system.now.width n seats.new)) }
     ensures small { IfSome result (λ f. IfNext f (λ _. IsSmall most v.new)) }
+    ensures own { IfSome result (λ f. IfNext f (λ p. IsSmall p.own v.new)) }
     ensures den_small { IfSome result (λ f. IfNext f (λ p. p.den ≤ 2 ^ 62)) }
     ensures narrow { IfSome result (λ f. IfNext f (λ p. IsNarrow system.now n seats.new scales.now a.now p.den v.new)) }
     ensures first_small { IfSome result (λ _. IsSmall (2 ^ 62) c_1.new) }
@@ -165,15 +170,15 @@ fn step(
     let Some(e) = pick(x, system, seats, a, v, n, l) else {
         return Some(Found::Ended(Ending::Refuted(l)));
     };
-    let own = greatest(v);
     let c = column_of(seats, e);
     let by = Divisor::of(den);
-    let size = swap(seats, v, x, l, e, by, most)?;
+    let (size, own) = swap(seats, v, x, l, e, by, most)?;
     let i = l - system.unknowns();
     follow(c_1, c_2, system, scales, seats, a, b, v, n, i, c, by, size)?;
     Some(Found::Next(Place {
         den: size,
-        greatest: greater(place.greatest, own),
+        own,
+        greatest: greater(place.greatest, place.own),
         greatest_den: greater(place.greatest_den, den),
         first: system.unknowns(),
     }))
@@ -210,12 +215,14 @@ pub fn whole_run(
     requires second_size { length c_2.old ≡ system.now.width }
     requires first_small { IsSmall (2 ^ 62) c_1.old }
     requires second_small { IsSmall (2 ^ 62) c_2.old }
+    requires own { IsSmall from.own v.old }
     requires den_small { from.den ≤ 2 ^ 62 }
     requires narrow { IsNarrow system.now n seats.old scales.now a.now from.den v.old }
     requires underway { IsUnderway system.now n seats.old scales.now from.den v.old c_1.old c_2.old from.greatest from.greatest_den from.first }
     ensures end { IfSome result (λ t. HasEnded system.now n seats.new scales.now t.0.den v.new c_1.new c_2.new t.0.greatest t.0.greatest_den t.1) }
     ensures seated { IfSome result (λ _. IsSeated (height system.now) system.now.width n seats.new) }
     ensures small { IfSome result (λ _. IsSmall most v.new) }
+    ensures own { IfSome result (λ t. IsSmall t.0.own v.new) }
     ensures den_small { IfSome result (λ t. t.0.den ≤ 2 ^ 62) }
     ensures narrow { IfSome result (λ t. IsNarrow system.now n seats.new scales.now a.now t.0.den v.new) }
     ensures first_small { IfSome result (λ _. IsSmall (2 ^ 62) c_1.new) }

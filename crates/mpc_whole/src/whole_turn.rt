@@ -11,7 +11,6 @@ ghost use Rattle.mpc_whole.specs.Whole.{whole_at, whole_cell, whole_total, AreSc
 
 use crate::variables::{Seat, column_of, is_basic};
 use crate::whole_numbers::{product, row_times, row_times_column, signed};
-use crate::whole_rows::greatest;
 use crate::whole_systems::WholeSystem;
 use crate::whole_values::step_of;
 
@@ -59,18 +58,24 @@ fn is_out(
     false
 }
 
+/// Whether all numbers are at most so great in size.
+fn is_within(list: &[i64], most: u64) -> bool
+    ensures { IsTrue result → IsSmall most list.now }
+{
+    for j in 0..list.len() {
+        if list[j].unsigned_abs() > most {
+            return false;
+        }
+    }
+    true
+}
+
 /// Whether all numbers of both lists are at most so great in size.
 fn are_small(c_1: &[i64], c_2: &[i64], most: u64) -> bool
     ensures first { IsTrue result → IsSmall most c_1.now }
     ensures second { IsTrue result → IsSmall most c_2.now }
 {
-    if greatest(c_1) > most {
-        return false;
-    }
-    if greatest(c_2) > most {
-        return false;
-    }
-    true
+    is_within(c_1, most) && is_within(c_2, most)
 }
 
 /// The variable that leaves, from the first on that may.

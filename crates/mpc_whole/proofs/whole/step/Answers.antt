@@ -155,7 +155,7 @@ returns-clause-underway c =
     subst (IsUnderway c.args.system.now c.args.n c.swap.new.seats c.args.scales.now c.in_ok-size.size c.swap.new.v c.follow.new.c_1 c.follow.new.c_2 c.greater.result c.greater-2.result) (sym c.unknowns-2.ensures)
     (subst₂ (λ (t : List Seat) d. IsUnderway c.args.system.now c.args.n t c.args.scales.now d c.swap.new.v c.follow.new.c_1 c.follow.new.c_2 c.greater.result c.greater-2.result c.args.system.now.width) (sym seats_are) (sym size_is)
     (next_underway c.args.system.now c.args.n c.args.seats.now c.requires.seated c.args.scales.now c.args.place.den c.args.v.now c.args.a.now c.args.b.now c.requires.bounds.most_side c.requires.whole c.requires.bounds.bounds.sides c.requires.narrow c.requires.underway.stands c.in-Some.l e c.pick.new.x c.pick.ensures.row c.in-Some-pick.e o rs.0 c.column_of-c.result rs.1 c.column_of-c.ensures c.swap.new.v piv c.args.c_1.now c.args.c_2.now c.follow.new.c_1 c.follow.new.c_2 c.requires.underway.values followed c.args.place.greatest c.args.place.greatest_den c.greater.result c.greater-2.result c.greater.ensures.first c.greater-2.ensures.first
-    (weaker c.greatest-own.result c.greater.result c.args.v.now c.greatest-own.ensures c.greater.ensures.second) c.greater-2.ensures.second c.requires.underway.before))
+    (weaker c.args.place.own c.greater.result c.args.v.now c.requires.own c.greater.ensures.second) c.greater-2.ensures.second c.requires.underway.before))
 
 pub returns-clause-seated : goal.returns-clause-seated
 returns-clause-seated c =

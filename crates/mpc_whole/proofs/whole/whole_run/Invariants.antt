@@ -12,6 +12,7 @@ invariant-steps l = record {
   small : IsSmall l.most l.v;
   first_small : IsSmall (2 ^ 62) l.c_1;
   second_small : IsSmall (2 ^ 62) l.c_2;
+  own : IsSmall l.place.own l.v;
   den_small : l.place.den ≤ 2 ^ 62;
   narrow : IsNarrow l.system l.n l.seats l.scales l.a l.place.den l.v;
 }

@@ -1,7 +1,7 @@
 use Rattle.std.proofs.Common.{sym, ◌∙◌, ap, ◌≡◌, ◌≤◌, ◌<◌, ◌+◌, ◌*◌, ◌^◌, pos, get_or, length, arith, to_z, of_z, subst, unsigned_abs, inr, le_trans, le_refl}
 use Rattle.std.specs.Int.{w64}
 use Rattle.mpc_whole.specs.Whole.{whole_at, whole_cell, IsChanged, turned}
-use Rattle.mpc_whole.proofs.WholeSteps.{read_small, set_small}
+use Rattle.mpc_whole.proofs.WholeSteps.{read_small, set_small, set_bound}
 use Rattle.mpc_whole.proofs.WholeExchange.{row_done, row_kept, number_changed, row_below}
 use Rattle.mpc_whole.proofs.whole_pivot.change_row.Goals as goal
 
@@ -30,4 +30,5 @@ loop-c-preserved c =
       done = row_done w c.args.by.den c.args.v.now c.loop-c.v c.args.x.now c.args.j c.args.e c.loop-c.c (to_z w64 (of_z w64 c.in_ok-new.new)) b c.loop-c.invariant.done (subst (IsChanged w c.args.by.den c.args.v.now c.args.x.now c.args.j c.args.e c.loop-c.c) (sym back) changes);
       kept = row_kept w c.args.by.den c.args.v.now c.loop-c.v c.args.x.now c.args.j c.args.e c.loop-c.c (to_z w64 (of_z w64 c.in_ok-new.new)) b c.loop-c.invariant.kept;
       small = set_small c.loop-c.v k (to_z w64 (of_z w64 c.in_ok-new.new)) b c.args.most c.loop-c.invariant.small (subst (λ z. unsigned_abs z ≤ c.args.most) (sym back) c.in_ok-new.ensures.small);
+      own = λ q h. set_bound c.loop-c.v k (to_z w64 (of_z w64 c.in_ok-new.new)) b c.loop-c.own c.max-own.result c.loop-c.invariant.own (let e = c.max-own.ensures in omega arith) (let e = c.max-own.ensures in let f = c.unsigned_abs.ensures.value in omega arith) q (omega arith);
     }

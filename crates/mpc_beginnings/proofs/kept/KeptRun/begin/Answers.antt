@@ -21,3 +21,6 @@ run_on-found-requires-clause-start c =
     let z_2 : (j : ℕ) → whole_at c.deref_mut-4.result.now j ≡ pos 0 = rw c.deref_mut-4.ensures.value c.in_ok-seconds.ensures.zero in
     let n = c.numbers-numbers in
     opening_within c.args.system c.in-Some.n all c.deref_mut.result.now o n.result.scales.now n.ensures.whole.scales c.deref_mut-2.result.now u c.deref_mut-3.result.now c.deref_mut-4.result.now z_1 z_2 n.result.a.now n.result.b.now n.result.most_scale c.unknowns-width.result c.unknowns-width.ensures
+
+pub run_on-found-requires-clause-own : goal.run_on-found-requires-clause-own
+run_on-found-requires-clause-own c = rw c.deref_mut-2.ensures.value c.in_ok-v.ensures.small

@@ -1,7 +1,7 @@
-use Rattle.std.proofs.Common.{◌≡◌, ℕ, ◌<◌, List, length, sym, ◌∙◌, ap, subst}
+use Rattle.std.proofs.Common.{◌≡◌, ℕ, ℤ, ◌<◌, List, length, sym, ◌∙◌, ap, subst}
 use Rattle.mpc_rows.specs.declared.systems.Row.{Row}
 use Rattle.mpc_rows.specs.LinearSystem.{LinearSystem}
-use Rattle.mpc_whole.specs.Whole.{scale_at}
+use Rattle.mpc_whole.specs.Whole.{scale_at, IsSmall}
 use Rattle.mpc_beginnings.specs.Beginnings.{lengthened}
 use Rattle.mpc_beginnings.specs.Kept.{IsFirstLater}
 use Rattle.mpc_beginnings.proofs.Continued.{begun_from}
@@ -22,3 +22,7 @@ run_on-found-requires-clause-start c =
     c.deref_mut-3.result.now (c.deref_mut-3.ensures.value ∙ c.in_ok-put_numbers-2.ensures ∙ c.deref-3.ensures.value)
     c.deref_mut-4.result.now (c.deref_mut-4.ensures.value ∙ c.in_ok-put_numbers-3.ensures ∙ c.deref-4.ensures.value)
     c.args.longer.now e c.in-Some.n c.args.numbers.now.a.now c.args.numbers.now.b.now c.requires.whole c.args.numbers.now.most_scale c.requires.scales
+
+pub run_on-found-requires-clause-own : goal.run_on-found-requires-clause-own
+run_on-found-requires-clause-own c =
+    subst (λ (u : List ℤ). IsSmall c.self.inside.place.own u) (sym (c.deref_mut-2.ensures.value ∙ c.in_ok-put_numbers.ensures ∙ c.deref-2.ensures.value)) c.self.invariant.own
