@@ -53,7 +53,7 @@ least-suc : (test : ℕ → Bool) (n : ℕ) → least test (suc n) ≡ or_at (le
 unfolding least
 least-suc test n = refl
 
-least_stays : (test : ℕ → Bool) (a c x : ℕ) → least test a ≡ Some x → least test (a + c) ≡ Some x
+pub least_stays : (test : ℕ → Bool) (a c x : ℕ) → least test a ≡ Some x → least test (a + c) ≡ Some x
 least_stays test a zero x e = ap (least test) (let q : a + 0 ≡ a = omega arith in q) ∙ e
 least_stays test a (suc c) x e = ap (least test) (let q : a + suc c ≡ suc (a + c) = omega arith in q) ∙ least-suc test (a + c) ∙ ap (λ o. or_at o (test (a + c)) (a + c)) (least_stays test a c x e)
 

@@ -1,5 +1,5 @@
 -- The tests of who leaves and enters, on whole numbers.
-use Rattle.std.proofs.Common.{◌≡◌, ◌≢◌, ℕ, zero, suc, ◌+◌, ◌-◌, ◌<◌, ◌≤◌, Bool, true, false, not, None, ℤ, pos, ◌*ℤ◌, ◌<ℤ◌, ◌≤ℤ◌, refl, sym, ◌∙◌, ap, subst, subst₂, arith, ◌⊎◌, inl, inr, lit<, lt-ltb, le-ltb, mul-pos, ◌*◌, [], ◌∷◌}
+use Rattle.std.proofs.Common.{◌≡◌, ◌≢◌, ℕ, zero, suc, ◌+◌, ◌-◌, ◌<◌, ◌≤◌, Bool, true, false, not, None, ℤ, pos, ◌*ℤ◌, ◌<ℤ◌, ◌≤ℤ◌, refl, sym, ◌∙◌, ap, subst, subst₂, arith, List, negsuc, ◌⊎◌, inl, inr, lit<, lt-ltb, le-ltb, mul-pos, ◌*◌, [], ◌∷◌}
 use lib.Signed.{lt_z}
 use Rattle.std.proofs.lemmas.Bool.{cases_Bool, cases_lt}
 use Rattle.std.proofs.lemmas.Int.{ints}
@@ -14,11 +14,15 @@ use Rattle.mpc_exact.proofs.RationalField.{lt_ℚ_is}
 use Rattle.mpc_rows.specs.Least.{least, or_at}
 use Rattle.mpc_rows.specs.LinearSystem.{LinearSystem}
 use Rattle.mpc_rows.specs.Run.{Position, has_point, count, is_unknown, is_zero, bound, value, turn, may_leave, may_enter}
+use Rattle.mpc_whole.specs.declared.variables.Seat.{Seat}
+use Rattle.mpc_whole.specs.declared.variables.Seat.TheVariants.{Row, Column}
+use Rattle.mpc_whole.specs.Table.{seat_at, in_row}
+use Rattle.mpc_whole.specs.Whole.{whole_at, HasBasis, IsRowOf}
 use Rattle.mpc_whole.specs.Underway.{StayBefore}
 use Rattle.mpc_whole.proofs.LeastLemmas.{LeastIs, least-is}
 use Rattle.mpc_whole.proofs.Flags.{test_true, true_test}
 use Rattle.mpc_whole.proofs.Turn.{is_zero-true, zero-is_zero, turn-at}
-use Rattle.mpc_whole.proofs.Table.{leave_unknown, leave_free, leave_test, enter_unknown, enter_side}
+use Rattle.mpc_whole.proofs.Table.{leave_unknown, leave_free, leave_test, enter_basic, enter_unknown, enter_side}
 use Rattle.mpc_whole.proofs.WholeSums.{zero_over}
 
 -- ---- the code's tests
@@ -190,3 +194,42 @@ module _ (s : LinearSystem) (p : Position) (l y : ℕ) (free : p.is_basic y ≡ 
       by : (is_unknown s y ≡ true) ⊎ (is_unknown s y ≡ false) → false ≡ may_enter s p l y
       by (inl u) = sym (enter_unknown s p l y free u ∙ ap not (zero-is_zero (p.coefficient l y) nought))
       by (inr u) = sym (enter_side s p l y free u ∙ not_positive (p.coefficient l y) k d some e (λ q. <ℚ_irrefl (subst (λ z. int (pos 0) <ℚ z) nought q)))
+
+sign : (k : ℤ) → (pos 0 <ℤ k) ⊎ ((k ≡ pos 0) ⊎ (k <ℤ pos 0))
+sign (pos zero) = inr (inl refl)
+sign (pos (suc n)) = inl (omega (arith, ints))
+sign (negsuc n) = inr (inr (omega (arith, ints)))
+
+-- whether the variable of a column may enter, by its number in the row of the variable that leaves
+module _ (s : LinearSystem) (n : ℕ) (seats : List Seat) (q : List ℕ) (p : Position) (d l : ℕ) (x : List ℤ) (some : 0 < d) (h : HasBasis n seats p) (r : IsRowOf n seats q p d l x) (y : ℕ) (below : y < n) where
+  pub basic_stays : (t : ℕ) → seat_at seats y ≡ Row t → may_enter s p l y ≡ false
+  basic_stays t e = enter_basic s p l y (h.basic y below ∙ ap in_row e)
+
+  module _ (c : ℕ) (e : seat_at seats y ≡ Column c) where
+    free : p.is_basic y ≡ false
+    free = h.basic y below ∙ ap in_row e
+
+    pub side_enters : pos 0 <ℤ whole_at x c → true ≡ may_enter s p l y
+    side_enters k = enters_above s p l y free _ _ (mul-pos some r.own) (r.coefficients y c below e) (times_above _ _ (r.some y below) k)
+
+    pub none_enters : whole_at x c ≡ pos 0 → false ≡ may_enter s p l y
+    none_enters k = enters_not s p l y free _ _ (mul-pos some r.own) (r.coefficients y c below e) (times_nought _ _ (r.some y below) k)
+
+    as_unknown : whole_at x c <ℤ pos 0 → (b : Bool) → b ≡ is_unknown s y → b ≡ may_enter s p l y
+    as_unknown k = enters_below s p l y free _ _ (mul-pos some r.own) (r.coefficients y c below e) (times_below _ _ (r.some y below) k)
+
+    pub unknown_enters : is_unknown s y ≡ true → (whole_at x c ≡ pos 0 → ⊥) → true ≡ may_enter s p l y
+    unknown_enters u k = by (sign (whole_at x c))
+      where
+        by : (pos 0 <ℤ whole_at x c) ⊎ ((whole_at x c ≡ pos 0) ⊎ (whole_at x c <ℤ pos 0)) → true ≡ may_enter s p l y
+        by (inl m) = side_enters m
+        by (inr (inl m)) = absurd (k m)
+        by (inr (inr m)) = as_unknown m true (sym u)
+
+    pub side_stays : is_unknown s y ≡ false → whole_at x c ≤ℤ pos 0 → false ≡ may_enter s p l y
+    side_stays u k = by (sign (whole_at x c))
+      where
+        by : (pos 0 <ℤ whole_at x c) ⊎ ((whole_at x c ≡ pos 0) ⊎ (whole_at x c <ℤ pos 0)) → false ≡ may_enter s p l y
+        by (inl m) = absurd (omega (arith, ints))
+        by (inr (inl m)) = none_enters m
+        by (inr (inr m)) = as_unknown m false (sym u)

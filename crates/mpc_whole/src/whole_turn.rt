@@ -3,13 +3,13 @@
 ghost use Rattle.std.specs.Prelude.{◌≡◌, ℕ, ℤ, List, pos, ◌+◌, ◌-◌, ◌*◌, ◌<◌, ◌≤◌, ◌^◌, ◌*ℤ◌, IsTrue, unsigned_abs, length, true, false};
 ghost use Rattle.mpc_rows.specs.LinearSystem.{height};
 ghost use Rattle.mpc_rows.specs.Least.{least};
-ghost use Rattle.mpc_rows.specs.Run.{Position, is_unknown, bound, value, may_leave, may_enter};
+ghost use Rattle.mpc_rows.specs.Run.{Position, bound, value, may_leave, may_enter};
 ghost use Rattle.mpc_exact.specs.Pair.{is_below};
 ghost use Rattle.mpc_whole.specs.Table.{seat_at, in_row, IsSeated};
 ghost use Rattle.mpc_whole.specs.Underway.{StayBefore};
 ghost use Rattle.mpc_whole.specs.Whole.{whole_at, whole_cell, whole_total, AreScales, IsSmall, HasRoom, HasBounds, HasSides, HasSideValues, HasBasis, IsRowOf, IsSideRow, side_cell};
 
-use crate::variables::{Seat, column_of, is_basic};
+use crate::variables::{Seat, is_basic};
 use crate::whole_numbers::{product, row_times, row_times_column, signed};
 use crate::whole_systems::WholeSystem;
 use crate::whole_values::step_of;
@@ -149,33 +149,43 @@ pub(crate) fn leaving_row(x: &mut [i64], system: &WholeSystem, a: &[i64], v: &[i
     side_row(x, system, a, v, l - system.unknowns());
 }
 
-/// Whether x is the number of an unknown.
-fn is_unknown(system: &WholeSystem, x: usize) -> bool
-    ensures { result ≡ is_unknown system.now x }
-{
-    x < system.unknowns()
-}
-
-/// Whether y may enter, by the row x of the variable that leaves.
-fn may_enter(system: &WholeSystem, seats: &[Seat], x: &[i64], n: usize, y: usize) -> bool
+/// The first unknown that may enter, by the row x of the variable that leaves: a nonbasic one whose coefficient
+/// isn't 0.
+fn entering_unknown(system: &WholeSystem, seats: &[Seat], x: &[i64], n: usize) -> Option<usize>
     requires seated { IsSeated (height system.now) system.now.width n seats.now }
-    requires below { y < n }
     requires row_size { length x.now ≡ system.now.width }
     requires row_small { IsSmall (2 ^ 62) x.now }
-    ensures { (p : Position) (k : List ℕ) (l d : ℕ) → 0 < d → HasBasis n seats.now p → IsRowOf n seats.now k p d l x.now → result ≡ may_enter system.now p l y }
+    ensures { (p : Position) (k : List ℕ) (l d : ℕ) → 0 < d → HasBasis n seats.now p → IsRowOf n seats.now k p d l x.now → result ≡ least (may_enter system.now p l) system.now.width }
 {
-    if is_basic(seats, y) {
-        return false;
+    for y in 0..system.unknowns() {
+        let c = match seats[y] {
+            Seat::Row(_) => continue,
+            Seat::Column(c) => c,
+        };
+        if x[c] != 0 {
+            return Some(y);
+        }
     }
-    let c = column_of(seats, y);
-    let k = x[c];
-    if 0 < k {
-        return true;
+    None
+}
+
+/// The first side that may enter, where no unknown may: a nonbasic one with a positive coefficient.
+fn entering_side(system: &WholeSystem, seats: &[Seat], x: &[i64], n: usize) -> Option<usize>
+    requires seated { IsSeated (height system.now) system.now.width n seats.now }
+    requires row_size { length x.now ≡ system.now.width }
+    requires row_small { IsSmall (2 ^ 62) x.now }
+    ensures { (p : Position) (k : List ℕ) (l d : ℕ) → 0 < d → HasBasis n seats.now p → IsRowOf n seats.now k p d l x.now → least (may_enter system.now p l) system.now.width ≡ None → result ≡ least (may_enter system.now p l) n }
+{
+    for y in system.unknowns()..n {
+        let c = match seats[y] {
+            Seat::Row(_) => continue,
+            Seat::Column(c) => c,
+        };
+        if 0 < x[c] {
+            return Some(y);
+        }
     }
-    if k < 0 {
-        return is_unknown(system, y);
-    }
-    false
+    None
 }
 
 /// The variable that enters, by the row x of the variable that leaves.
@@ -185,10 +195,8 @@ pub(crate) fn entering(system: &WholeSystem, seats: &[Seat], x: &[i64], n: usize
     requires row_small { IsSmall (2 ^ 62) x.now }
     ensures { (p : Position) (k : List ℕ) (l d : ℕ) → 0 < d → HasBasis n seats.now p → IsRowOf n seats.now k p d l x.now → result ≡ least (may_enter system.now p l) n }
 {
-    for y in 0..n {
-        if may_enter(system, seats, x, n, y) {
-            return Some(y);
-        }
+    if let Some(y) = entering_unknown(system, seats, x, n) {
+        return Some(y);
     }
-    None
+    entering_side(system, seats, x, n)
 }
