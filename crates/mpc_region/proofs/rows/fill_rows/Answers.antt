@@ -38,7 +38,7 @@ row_is c =
     (subst (λ xs. IsRowFrom (number_from c.args.table.now (c.rows-unknowns.result + c.loop-i.i) (c.rows-unknowns.result + c.rows-count.result)) (length c.deref_mut.result.now) (record { a = xs; b = c.write_row-bound.result })) (sym (sides_are c)) c.write_row-bound.ensures)
 
 small : (c : After-deref) (j : _) → unsigned_abs (number_from c.args.table.now (height c.args.qp.now.h + c.loop-i.i) (rights c.args.qp.now) j) ≤ 2 ^ 62
-small c j = c.requires.table.table.small.each ((height c.args.qp.now.h + c.loop-i.i) * c.args.table.now.columns + (rights c.args.qp.now + j))
+small c j = c.requires.table.table.small.each _
 
 pub push_small-requires-clause-entries_small : goal.push_small-requires-clause-entries_small
 push_small-requires-clause-entries_small c = let d = (goal.at.push_small-requires-clause-entries_small c).After-deref in sides_small _ _ (row_of d) (row_is d) (small d)
