@@ -5,11 +5,8 @@ use Rattle.std.proofs.lemmas.List.{get_or_append_left, length-append}
 use Rattle.std.proofs.lemmas.Option.{slice_get_within, slice_get-get_or, get_or_from_slice_get}
 use Rattle.std.proofs.Math.Seq.{get_or-append_seam}
 use Rattle.mpc_linear.specs.declared.integers.RowInt.{RowInt}
-use Rattle.mpc_space.specs.Matrix.{height}
 use Rattle.mpc_rows.specs.declared.programs.Qp.{Qp}
 use Rattle.mpc_rows.specs.declared.laws.Law.{Law}
-use Rattle.mpc_rows.specs.SetRuns.{LawRowsFit}
-use Rattle.mpc_rows.specs.Verdicts.{IsFirstWideRow}
 use Rattle.mpc_tree.specs.Borders.{IsBorder}
 use Rattle.mpc_tree.proofs.NodeLemmas.{same_at}
 
@@ -51,6 +48,3 @@ borders_more qp laws i borders new law rows before is border e = subst (AreFirst
 
 pub at_law : (P : Law → Type 0) (laws : List Law) (i : ℕ) (law : Law) → All P laws → slice_get laws i ≡ Some law → P law
 at_law P laws i law h is = subst P (get_or_from_slice_get laws i law law is) (h i law (slice_get_within laws i law is))
-
-pub never_wide : (qp : Qp) (law : Law) (i : ℕ) → LawRowsFit qp law (height qp.g) → IsFirstWideRow qp i law → ⊥
-never_wide qp law i fits w = w.here (fits i w.from_one w.to_last)

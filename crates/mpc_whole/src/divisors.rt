@@ -9,6 +9,7 @@ const LOW: u128 = 0xffff_ffff_ffff_ffff;
 /// an odd number, which has an inverse modulo 2^64.
 #[derive(Clone, Copy, Drop)]
 pub struct Divisor {
+    /// The number itself.
     pub den: u64,
     shift: u32,
     inverse: u64,
@@ -28,6 +29,7 @@ fn inverse_of(odd: u64) -> u64 {
 }
 
 impl Divisor {
+    /// A number to divide by, with the inverse of its odd part. By 0, which has none, nothing is divided.
     #[inline]
     pub fn of(den: u64) -> Self
         ensures { result.den ≡ den }

@@ -94,7 +94,7 @@ pub(crate) fn scaled(x: &Frac, scale: u64) -> Option<i64>
 }
 
 /// The greatest size of a number.
-pub fn greatest(list: &[i64]) -> u64
+pub(crate) fn greatest(list: &[i64]) -> u64
     ensures { IsSmall result list.now }
 {
     let mut most = 0;
