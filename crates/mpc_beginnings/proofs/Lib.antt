@@ -6,6 +6,7 @@ pub mod NumberFits
 pub mod CoefficientsFit
 pub mod TurnedRows
 pub mod LongerSeats
+pub mod Columns
 pub mod WholeShared
 pub mod CoveredRows
 pub mod Continued

@@ -6,15 +6,16 @@ use Rattle.mpc_rows.specs.Run.{count, is_refuted, turn, position, steps, last_po
 use Rattle.mpc_whole.specs.declared.variables.Seat.{Seat}
 use Rattle.mpc_whole.specs.declared.whole.Ending.{Ending}
 use Rattle.mpc_whole.specs.declared.whole.Place.{Place}
-use Rattle.mpc_whole.specs.Table.{IsSeated}
+use Rattle.mpc_whole.specs.Table.{IsSeated, AreNonbasic}
 use Rattle.mpc_whole.specs.Whole.{IsSmall, HasBounds}
 use Rattle.mpc_whole.specs.Underway.{StayBefore, IsUnderway, HasEnded}
 use Rattle.mpc_beginnings.specs.Beginnings.{lengthened}
 
--- the seats and the numbers of the last position, by the scales of the system, and both parts of the values of the unknowns there
-pub record IsKept (s : LinearSystem) (k : List ℕ) (seats : List Seat) (v firsts seconds : List ℤ) (p : Place) (end : Ending) : Type 0 where
+-- the seats, the variables of the columns and the numbers of the last position, by the scales of the system, and both parts of the values of the unknowns there
+pub record IsKept (s : LinearSystem) (k : List ℕ) (seats : List Seat) (nonbasic : List ℕ) (v firsts seconds : List ℤ) (p : Place) (end : Ending) : Type 0 where
   pub scales : length k ≡ count s
   pub seated : IsSeated (height s) s.width (count s) seats
+  pub columns : AreNonbasic s.width seats nonbasic
   pub square : length v ≡ s.width * s.width
   pub small : IsSmall (2 ^ 62) v
   pub own : IsSmall p.own v

@@ -7,7 +7,7 @@ ghost use Rattle.mpc_rows.specs.RunWidth.{RunFits};
 ghost use Rattle.mpc_rows.specs.LawRows.{broken_row};
 ghost use Rattle.mpc_rows.specs.SetRuns.{turned};
 ghost use Rattle.mpc_whole.specs.declared.variables.Seat.{Seat};
-ghost use Rattle.mpc_whole.specs.Table.{IsSeated};
+ghost use Rattle.mpc_whole.specs.Table.{IsSeated, AreNonbasic};
 ghost use Rattle.mpc_whole.specs.RunEnd.{IsEnd, IsValues, IsMultipliers};
 ghost use Rattle.mpc_whole.specs.Whole.{scale_at, IsSmall, IsNarrow, IsForm, AreValues, IsWholeSystem, HasBounds, HasRoom};
 ghost use Rattle.mpc_whole.specs.Underway.{turn_of, HasEnded};
@@ -16,8 +16,8 @@ ghost use Rattle.mpc_beginnings.specs.Broken.{IsBroken};
 ghost use Rattle.mpc_beginnings.specs.Kept.{IsKept, IsFirstLater, IsLonger, IsUnderwayWithin, IsRefuted};
 
 use crate::lists::{
-    begins_with, first_numbers, first_seats, first_values, lengthen, push_turned, put_numbers,
-    put_seats, sizes, with_row, with_turned,
+    begins_with, first_nonbasic, first_numbers, first_seats, first_values, lengthen, push_turned,
+    put_numbers, put_seats, put_variables, sizes, with_row, with_turned,
 };
 use mpc_frac::Frac;
 use mpc_linear::RowInt;
@@ -68,6 +68,7 @@ fn limit_of(system: &WholeSystem, numbers: &WholeNumbers, n: usize, from: Place)
 /// it.
 fn run_on(
     seats: &mut [Seat],
+    nonbasic: &mut [usize],
     v: &mut [i64],
     firsts: &mut [i64],
     seconds: &mut [i64],
@@ -80,6 +81,7 @@ fn run_on(
     requires count { n ≡ system.now.width + height system.now }
     requires line { system.now.width ≤ length work.old }
     requires seated { IsSeated (height system.now) system.now.width n seats.old }
+    requires columns { AreNonbasic system.now.width seats.old nonbasic.old }
     requires square { length v.old ≡ system.now.width * system.now.width }
     requires first_size { length firsts.old ≡ system.now.width }
     requires second_size { length seconds.old ≡ system.now.width }
@@ -95,6 +97,7 @@ fn run_on(
     requires start { IsUnderwayWithin system.now n seats.old numbers.now.scales.now numbers.now.a.now numbers.now.b.now numbers.now.most_scale from.den v.old firsts.old seconds.old from.greatest from.greatest_den from.first }
     ensures end { IfSome result (λ t. HasEnded system.now n seats.new numbers.now.scales.now t.0.den v.new firsts.new seconds.new t.0.greatest t.0.greatest_den t.1) }
     ensures seated { IfSome result (λ _. IsSeated (height system.now) system.now.width n seats.new) }
+    ensures columns { IfSome result (λ _. AreNonbasic system.now.width seats.new nonbasic.new) }
     ensures small { IfSome result (λ _. IsSmall (2 ^ 62) v.new) }
     ensures own { IfSome result (λ t. IsSmall t.0.own v.new) }
     ensures den_small { IfSome result (λ t. t.0.den ≤ 2 ^ 62) }
@@ -107,6 +110,7 @@ fn run_on(
     let (x, _) = work.split_at_mut(system.unknowns());
     let found = whole_run(
         seats,
+        nonbasic,
         v,
         x,
         firsts,
@@ -252,6 +256,7 @@ pub struct Workspace {
     /// A system with further rows, and where its run stands.
     system: Option<WholeSystem>,
     seats: Vec<Seat>,
+    nonbasic: Vec<usize>,
     v: Vec<i64>,
     firsts: Vec<i64>,
     seconds: Vec<i64>,
@@ -264,6 +269,7 @@ impl Workspace {
             numbers: Vec::new(alloc),
             system: None,
             seats: Vec::new(alloc),
+            nonbasic: Vec::new(alloc),
             v: Vec::new(alloc),
             firsts: Vec::new(alloc),
             seconds: Vec::new(alloc),
@@ -277,7 +283,9 @@ pub struct KeptRun {
     system: WholeSystem,
     /// The scales that the numbers are by: 1 for each unknown, then one for each row.
     scales: Vec<u64>,
+    /// Where the variables stand at the last position, and which of them stand in the columns.
     seats: Vec<Seat>,
+    nonbasic: Vec<usize>,
     /// The numbers of the last position.
     v: Vec<i64>,
     /// The values of the unknowns there, in their first parts and in their second ones.
@@ -296,7 +304,7 @@ impl Model for KeptRun {
 
     ghost view = { λ r. r.system };
 
-    ghost invariant = { λ r. IsKept r.system r.scales.items r.seats.items r.v.items r.firsts.items r.seconds.items r.place r.end };
+    ghost invariant = { λ r. IsKept r.system r.scales.items r.seats.items r.nonbasic.items r.v.items r.firsts.items r.seconds.items r.place r.end };
 }
 
 /// What is kept of a run that came to its end.
@@ -304,12 +312,13 @@ fn kept(
     system: WholeSystem,
     scales: Vec<u64>,
     seats: Vec<Seat>,
+    nonbasic: Vec<usize>,
     v: Vec<i64>,
     firsts: Vec<i64>,
     seconds: Vec<i64>,
     found: Option<(Place, Ending)>,
 ) -> Option<KeptRun>
-    requires { IfSome found (λ t. IsKept system scales.items seats.items v.items firsts.items seconds.items t.0 t.1) }
+    requires { IfSome found (λ t. IsKept system scales.items seats.items nonbasic.items v.items firsts.items seconds.items t.0 t.1) }
     ensures { IfSome result (λ r. r ≡ system) }
 {
     let (place, end) = found?;
@@ -317,6 +326,7 @@ fn kept(
         system,
         scales,
         seats,
+        nonbasic,
         v,
         firsts,
         seconds,
@@ -334,12 +344,13 @@ fn kept_copy(
     place: Place,
     end: Ending,
 ) -> Result<KeptRun, AllocError>
-    requires { IsKept system.now scales.now work.now.seats.items work.now.v.items work.now.firsts.items work.now.seconds.items place end }
+    requires { IsKept system.now scales.now work.now.seats.items work.now.nonbasic.items work.now.v.items work.now.firsts.items work.now.seconds.items place end }
     ensures { IfOk result (λ r. r ≡ system.now) }
 {
     let own = system.copy_with_room(alloc, 0)?;
     let scales = scales.to_vec(alloc)?;
     let seats = work.seats.to_vec(alloc)?;
+    let nonbasic = work.nonbasic.to_vec(alloc)?;
     let v = work.v.to_vec(alloc)?;
     let firsts = work.firsts.to_vec(alloc)?;
     let seconds = work.seconds.to_vec(alloc)?;
@@ -347,6 +358,7 @@ fn kept_copy(
         system: own,
         scales,
         seats,
+        nonbasic,
         v,
         firsts,
         seconds,
@@ -378,6 +390,7 @@ impl KeptRun {
             return Ok(None);
         };
         let mut seats = first_seats(alloc, &system, n)?;
+        let mut nonbasic = first_nonbasic(alloc, width)?;
         let mut v = first_numbers(alloc, width, square)?;
         let mut firsts = first_values(alloc, width)?;
         let mut seconds = first_values(alloc, width)?;
@@ -393,6 +406,7 @@ impl KeptRun {
         };
         let found = run_on(
             &mut seats,
+            &mut nonbasic,
             &mut v,
             &mut firsts,
             &mut seconds,
@@ -402,7 +416,7 @@ impl KeptRun {
             n,
             from,
         );
-        Ok(kept(system, scales, seats, v, firsts, seconds, found))
+        Ok(kept(system, scales, seats, nonbasic, v, firsts, seconds, found))
     }
 
     /// The run of the system with one more row, from where this one ends on. `None` where whole
@@ -454,6 +468,7 @@ impl KeptRun {
             return Ok(None);
         };
         let mut seats = Vec::with_capacity(alloc, n)?;
+        let mut nonbasic = Vec::with_capacity(alloc, width)?;
         let mut v = Vec::with_capacity(alloc, square)?;
         let mut firsts = Vec::with_capacity(alloc, width)?;
         let mut seconds = Vec::with_capacity(alloc, width)?;
@@ -461,6 +476,7 @@ impl KeptRun {
         let scales = numbers.scales.to_vec(alloc)?;
         let found = self.go_on(
             &mut seats,
+            &mut nonbasic,
             &mut v,
             &mut firsts,
             &mut seconds,
@@ -468,7 +484,7 @@ impl KeptRun {
             &system,
             &numbers,
         )?;
-        Ok(kept(system, scales, seats, v, firsts, seconds, found))
+        Ok(kept(system, scales, seats, nonbasic, v, firsts, seconds, found))
     }
 
     /// Whether the run ends with a point. No number that it forms is wide.
@@ -492,10 +508,11 @@ impl KeptRun {
     }
 
     /// The run of a system with further rows behind this one's, from where this one ends on. The lists
-    /// become its seats, its numbers and the values of its unknowns.
+    /// become its seats, the variables of its columns, its numbers and the values of its unknowns.
     fn go_on(
         &self,
         seats: &mut Vec<Seat>,
+        nonbasic: &mut Vec<usize>,
         v: &mut Vec<i64>,
         firsts: &mut Vec<i64>,
         seconds: &mut Vec<i64>,
@@ -510,7 +527,7 @@ impl KeptRun {
         requires some_side { 1 ≤ numbers.now.most_side }
         requires scales { (x : ℕ) → scale_at numbers.now.scales.now x ≤ numbers.now.most_scale }
         requires some_scale { 1 ≤ numbers.now.most_scale }
-        ensures kept { IfOk result (λ o. IfSome o (λ t. IsKept longer.now numbers.now.scales.now seats.new.items v.new.items firsts.new.items seconds.new.items t.0 t.1)) }
+        ensures kept { IfOk result (λ o. IfSome o (λ t. IsKept longer.now numbers.now.scales.now seats.new.items nonbasic.new.items v.new.items firsts.new.items seconds.new.items t.0 t.1)) }
         ensures line { IfOk result (λ o. IfSome o (λ _. longer.now.width ≤ length work.new.items)) }
         ensures room { IfOk result (λ o. IfSome o (λ _. HasRoom longer.now.width (2 ^ 62) numbers.now.a.now)) }
         ensures narrow { IfOk result (λ o. IfSome o (λ t. IsNarrow longer.now (count longer.now) seats.new.items numbers.now.scales.now numbers.now.a.now t.0.den v.new.items)) }
@@ -520,6 +537,7 @@ impl KeptRun {
             return Ok(None);
         };
         put_seats(seats, &self.seats, self.system.height(), longer.height())?;
+        put_variables(nonbasic, &self.nonbasic)?;
         put_numbers(v, &self.v)?;
         put_numbers(firsts, &self.firsts)?;
         put_numbers(seconds, &self.seconds)?;
@@ -534,7 +552,9 @@ impl KeptRun {
             greatest_den: self.place.greatest_den,
             first: self.first_later(),
         };
-        let found = run_on(seats, v, firsts, seconds, work, longer, numbers, n, from);
+        let found = run_on(
+            seats, nonbasic, v, firsts, seconds, work, longer, numbers, n, from,
+        );
         Ok(found)
     }
 
@@ -555,6 +575,7 @@ impl KeptRun {
         let numbers = longer.numbers();
         match self.go_on(
             &mut work.seats,
+            &mut work.nonbasic,
             &mut work.v,
             &mut work.firsts,
             &mut work.seconds,
@@ -586,6 +607,7 @@ impl KeptRun {
         let whole = longer.numbers();
         match self.go_on(
             &mut work.seats,
+            &mut work.nonbasic,
             &mut work.v,
             &mut work.firsts,
             &mut work.seconds,
@@ -618,6 +640,7 @@ impl KeptRun {
         let whole = longer.numbers();
         match self.go_on(
             &mut work.seats,
+            &mut work.nonbasic,
             &mut work.v,
             &mut work.firsts,
             &mut work.seconds,

@@ -3,7 +3,7 @@
 ghost use Rattle.std.specs.Prelude.{◌≡◌, ℕ, pos, ◌+◌, ◌-◌, ◌*◌, ◌<◌, ◌≤◌, [], ◌∷◌, IsTrue, IfSome, IfOk, OnOk, length};
 ghost use Rattle.mpc_rows.specs.LinearSystem.{LinearSystem, height, row_at};
 ghost use Rattle.mpc_rows.specs.SetRuns.{turned};
-ghost use Rattle.mpc_whole.specs.Table.{IsSeated, IsOpeningSeats, opening_seat};
+ghost use Rattle.mpc_whole.specs.Table.{IsSeated, IsOpeningSeats, opening_seat, variable_at};
 ghost use Rattle.mpc_whole.specs.Whole.{whole_at, scale_at, IsSmall, IsUnit};
 ghost use Rattle.mpc_beginnings.specs.Beginnings.{lengthened};
 ghost use Rattle.mpc_beginnings.specs.LongerSeats.{AreLongerSeats};
@@ -60,6 +60,18 @@ pub(crate) fn first_seats(
     Ok(seats)
 }
 
+/// The variables of the columns at first: the unknowns.
+pub(crate) fn first_nonbasic(alloc: Global, width: usize) -> Result<Vec<usize>, AllocError>
+    ensures size { IfOk result (λ t. length t.items ≡ width) }
+    ensures own { IfOk result (λ t. (c : ℕ) → c < width → variable_at t.items c ≡ c) }
+{
+    let mut nonbasic = Vec::with_capacity(alloc, width)?;
+    for x in 0..width {
+        nonbasic.push(x)?;
+    }
+    Ok(nonbasic)
+}
+
 /// The numbers of the unknowns at first.
 pub(crate) fn first_numbers(
     alloc: Global,
@@ -113,6 +125,15 @@ pub(crate) fn put_numbers(list: &mut Vec<i64>, v: &[i64]) -> Result<(), AllocErr
 {
     list.clear();
     list.extend_from_slice(v)?;
+    Ok(())
+}
+
+/// Writes variables in place of others.
+pub(crate) fn put_variables(list: &mut Vec<usize>, nonbasic: &[usize]) -> Result<(), AllocError>
+    ensures { OnOk result (list.new.items ≡ nonbasic.now) }
+{
+    list.clear();
+    list.extend_from_slice(nonbasic)?;
     Ok(())
 }
 

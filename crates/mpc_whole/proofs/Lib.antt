@@ -30,6 +30,7 @@ pub mod WholeRooms
 pub mod WholeWraps
 pub mod WholeSteps
 pub mod WholeTurns
+pub mod Nonbasic
 pub mod WholeExchange
 pub mod WholeEnds
 pub mod WholeSizes

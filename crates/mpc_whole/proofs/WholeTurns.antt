@@ -215,7 +215,7 @@ module _ (s : LinearSystem) (n : ℕ) (seats : List Seat) (q : List ℕ) (p : Po
     pub none_enters : whole_at x c ≡ pos 0 → false ≡ may_enter s p l y
     none_enters k = enters_not s p l y free _ _ (mul-pos some r.own) (r.coefficients y c below e) (times_nought _ _ (r.some y below) k)
 
-    as_unknown : whole_at x c <ℤ pos 0 → (b : Bool) → b ≡ is_unknown s y → b ≡ may_enter s p l y
+    pub as_unknown : whole_at x c <ℤ pos 0 → (b : Bool) → b ≡ is_unknown s y → b ≡ may_enter s p l y
     as_unknown k = enters_below s p l y free _ _ (mul-pos some r.own) (r.coefficients y c below e) (times_below _ _ (r.some y below) k)
 
     pub unknown_enters : is_unknown s y ≡ true → (whole_at x c ≡ pos 0 → ⊥) → true ≡ may_enter s p l y

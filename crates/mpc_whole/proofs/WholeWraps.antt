@@ -19,6 +19,15 @@ pub unwrapped : (j width : ℕ) (f : ℕ → ℤ) (sum : ℤ) → sum ≡ int_wr
 unwrapped j width f sum s e h =
     s ∙ ap (λ n. int_wrap w64 (whole_total n f)) e ∙ int_wrap_fits w64 (whole_total width f) (fits_signed_from_abs w64 (whole_total width f) (omega arith))
 
+-- four products, one after the other
+pub four_wrapped : (width : ℕ) (f : ℕ → ℤ) (t₁ t₂ t₃ t₄ s₁ s₂ s₃ s₄ : ℤ) → width ≡ 4 → unsigned_abs (whole_total width f) ≤ 2 ^ 62 → t₁ ≡ f 0 → t₂ ≡ f 1 → t₃ ≡ f 2 → t₄ ≡ f 3
+    → s₁ ≡ int_wrap w64 (pos 0 +ℤ t₁) → s₂ ≡ int_wrap w64 (s₁ +ℤ t₂) → s₃ ≡ int_wrap w64 (s₂ +ℤ t₃) → s₄ ≡ int_wrap w64 (s₃ +ℤ t₄) → s₄ ≡ whole_total width f
+four_wrapped width f t₁ t₂ t₃ t₄ s₁ s₂ s₃ s₄ four fits e₁ e₂ e₃ e₄ n₁ n₂ n₃ n₄ =
+    let w₁ = next_wrapped 0 f (pos 0) t₁ s₁ (first_wrapped f) e₁ n₁ in
+    let w₂ = next_wrapped 1 f s₁ t₂ s₂ w₁ e₂ n₂ in
+    let w₃ = next_wrapped 2 f s₂ t₃ s₃ w₂ e₃ n₃ in
+    unwrapped 4 width f s₄ (next_wrapped 3 f s₃ t₄ s₄ w₃ e₄ n₄) (sym four) fits
+
 -- ---- where the numbers are within the limit of a position, a side's value fits
 module _ (s : LinearSystem) (k : List ℕ) (a b c : List ℤ) (most : ℕ) (g : HasBounds s k a b most) (scales : AreScales s k) (small : IsSmall most c) where
   room_in : (w : ℕ) → s.width ≡ w → w * (g.most_entry * most) ≤ 2 ^ 62

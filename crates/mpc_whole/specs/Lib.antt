@@ -2,6 +2,7 @@ pub mod Table
 pub mod Exchange
 pub mod Whole
 pub mod Moved
+pub mod Sums
 pub mod WholeSystems
 pub mod SharedSizes
 pub mod Underway

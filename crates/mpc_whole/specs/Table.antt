@@ -42,6 +42,15 @@ pub record IsSeated (height width n : ℕ) (seats : List Seat) : Type 0 where
   pub rows_full : (r : ℕ) → r < height → (of_row r < n) × (seat_at seats (of_row r) ≡ Row r)
   pub columns_full : (c : ℕ) → c < width → (of_column c < n) × (seat_at seats (of_column c) ≡ Column c)
 
+-- the variable that stands in each column
+abbrev pub variable_at : List ℕ → ℕ → ℕ
+variable_at nonbasic c = get_or nonbasic c 0
+
+-- these variables stand in the columns, one in each
+pub record AreNonbasic (width : ℕ) (seats : List Seat) (nonbasic : List ℕ) : Type 0 where
+  pub each : length nonbasic ≡ width
+  pub at : (c : ℕ) → c < width → seat_at seats (variable_at nonbasic c) ≡ Column c
+
 pub record HasShape (height width : ℕ) (entries : List ℚ) : Type 0 where
   pub size : length entries ≡ height * width
   pub fits : height * width < 2 ^ 64

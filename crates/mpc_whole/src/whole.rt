@@ -4,9 +4,10 @@ ghost use Rattle.std.specs.Prelude.{◌≡◌, ℕ, ℤ, pos, ◌+◌, ◌*◌, 
 ghost use Rattle.mpc_rows.specs.LinearSystem.{height};
 ghost use Rattle.mpc_rows.specs.Run.{Position, opening, may_enter};
 ghost use Rattle.mpc_rows.specs.Least.{least};
+ghost use Rattle.mpc_whole.specs.declared.variables.Seat.{Seat};
 ghost use Rattle.mpc_whole.specs.declared.variables.Seat.TheVariants.{Column};
 ghost use Rattle.mpc_rows.specs.RunWidth.{RunFits};
-ghost use Rattle.mpc_whole.specs.Table.{seat_at, in_row, IsSeated, IsOpeningSeats};
+ghost use Rattle.mpc_whole.specs.Table.{seat_at, in_row, IsSeated, AreNonbasic};
 ghost use Rattle.mpc_whole.specs.RunEnd.{IsEnd, EndsWithPoint, EndsRefuted};
 ghost use Rattle.mpc_whole.specs.Found.{IfEnded, IfNext};
 ghost use Rattle.mpc_whole.specs.Underway.{IsUnderway, HasEnded};
@@ -19,10 +20,11 @@ use crate::whole_systems::WholeSystem;
 use crate::whole_turn::{entering, leaving, leaving_row};
 use crate::whole_values::follow;
 
-/// Exchanges the seats of l and e, and pivots on the row x. It gives the next denominator and the greatest
-/// size of a number.
+/// Exchanges the seats of l and e, so that l is the variable of the column, and pivots on the row x. It gives the
+/// next denominator and the greatest size of a number.
 fn swap(
     seats: &mut [Seat],
+    nonbasic: &mut [usize],
     v: &mut [i64],
     x: &[i64],
     l: usize,
@@ -35,6 +37,7 @@ fn swap(
     requires leaves { in_row (seat_at seats.old l) ≡ true }
     requires enters { in_row (seat_at seats.old e) ≡ false }
     requires column { (c : ℕ) → seat_at seats.old e ≡ Column c → c < length x.now }
+    requires columns { AreNonbasic (length x.now) seats.old nonbasic.old }
     requires square { length v.old ≡ length x.now * length x.now }
     requires den_some { 0 < by.den }
     requires den_small { by.den ≤ 2 ^ 62 }
@@ -42,6 +45,7 @@ fn swap(
     requires small { IsSmall most v.old }
     requires row_small { IsSmall (2 ^ 62) x.now }
     ensures seats { IfSome result (λ _. IsSwapped seats.old seats.new l e) }
+    ensures columns { IfSome result (λ _. AreNonbasic (length x.now) seats.new nonbasic.new) }
     ensures next { IfSome result (λ t. IsNext (length x.now) by.den seats.old v.old v.new x.now e t.0) }
     ensures size_small { IfSome result (λ t. t.0 ≤ 2 ^ 62) }
     ensures small { IfSome result (λ _. IsSmall most v.new) }
@@ -51,6 +55,7 @@ fn swap(
     let c = column_of(seats, e);
     let size = x[c].unsigned_abs();
     let own = exchange(v, x, c, by, most)?;
+    nonbasic[c] = l;
     seats[l] = Seat::Column(c);
     seats[e] = Seat::Row(r);
     Some((size, own))
@@ -60,13 +65,14 @@ fn swap(
 fn pick(
     x: &mut [i64],
     system: &WholeSystem,
-    seats: &[Seat],
+    nonbasic: &[usize],
     a: &[i64],
     v: &[i64],
     n: usize,
     l: usize,
 ) -> Option<usize>
-    requires seated { IsSeated (height system.now) system.now.width n seats.now }
+    requires count { n ≡ system.now.width + height system.now }
+    requires columns { length nonbasic.now ≡ system.now.width }
     requires entries { length a.now ≡ height system.now * system.now.width }
     requires square { length v.now ≡ system.now.width * system.now.width }
     requires row_size { length x.old ≡ system.now.width }
@@ -75,11 +81,11 @@ fn pick(
     requires row_small { (c : ℕ) → c < system.now.width → unsigned_abs (side_cell system.now a.now v.now (l - system.now.width) c) ≤ 2 ^ 62 }
     ensures row { IsSideRow system.now a.now v.now (l - system.now.width) x.new }
     ensures small { IsSmall (2 ^ 62) x.new }
-    ensures least { (p : Position) (k : List ℕ) (d : ℕ) → 0 < d → HasBasis n seats.now p → IsRowOf n seats.now k p d l x.new
-        → result ≡ least (may_enter system.now p l) n }
+    ensures least { (seats : List Seat) (p : Position) (k : List ℕ) (d : ℕ) → IsSeated (height system.now) system.now.width n seats → AreNonbasic system.now.width seats nonbasic.now
+        → 0 < d → HasBasis n seats p → IsRowOf n seats k p d l x.new → result ≡ least (may_enter system.now p l) n }
 {
     leaving_row(x, system, a, v, l);
-    entering(system, seats, x, n)
+    entering(system, nonbasic, x, n)
 }
 
 /// What a run ends with.
@@ -120,6 +126,7 @@ fn greater(a: u64, b: u64) -> u64
 /// One turn of the run. The values of the unknowns move with the pivot.
 fn step(
     seats: &mut [Seat],
+    nonbasic: &mut [usize],
     v: &mut [i64],
     x: &mut [i64],
     c_1: &mut [i64],
@@ -133,6 +140,7 @@ fn step(
     most: u64,
 ) -> Option<Found>
     requires seated { IsSeated (height system.now) system.now.width n seats.old }
+    requires columns { AreNonbasic system.now.width seats.old nonbasic.old }
     requires whole { IsWholeSystem system.now scales.now a.now b.now }
     requires bounds { HasBounds system.now scales.now a.now b.now most }
     requires room { HasRoom system.now.width (2 ^ 62) a.now }
@@ -150,11 +158,13 @@ fn step(
     requires underway { IsUnderway system.now n seats.old scales.now place.den v.old c_1.old c_2.old place.greatest place.greatest_den place.first }
     ensures end { IfSome result (λ f. IfEnded f (λ e. HasEnded system.now n seats.new scales.now place.den v.new c_1.new c_2.new place.greatest place.greatest_den e)) }
     ensures end_seated { IfSome result (λ f. IfEnded f (λ _. IsSeated (height system.now) system.now.width n seats.new)) }
+    ensures end_columns { IfSome result (λ f. IfEnded f (λ _. AreNonbasic system.now.width seats.new nonbasic.new)) }
     ensures end_small { IfSome result (λ f. IfEnded f (λ _. IsSmall most v.new)) }
     ensures end_own { IfSome result (λ f. IfEnded f (λ _. IsSmall place.own v.new)) }
     ensures end_narrow { IfSome result (λ f. IfEnded f (λ _. IsNarrow system.now n seats.new scales.now a.now place.den v.new)) }
     ensures underway { IfSome result (λ f. IfNext f (λ p. IsUnderway system.now n seats.new scales.now p.den v.new c_1.new c_2.new p.greatest p.greatest_den p.first)) }
     ensures seated { IfSome result (λ f. IfNext f (λ _. IsSeated (height system.now) system.now.width n seats.new)) }
+    ensures columns { IfSome result (λ f. IfNext f (λ _. AreNonbasic system.now.width seats.new nonbasic.new)) }
     ensures small { IfSome result (λ f. IfNext f (λ _. IsSmall most v.new)) }
     ensures own { IfSome result (λ f. IfNext f (λ p. IsSmall p.own v.new)) }
     ensures den_small { IfSome result (λ f. IfNext f (λ p. p.den ≤ 2 ^ 62)) }
@@ -167,12 +177,12 @@ fn step(
     let Some(l) = out else {
         return Some(Found::Ended(Ending::Point));
     };
-    let Some(e) = pick(x, system, seats, a, v, n, l) else {
+    let Some(e) = pick(x, system, nonbasic, a, v, n, l) else {
         return Some(Found::Ended(Ending::Refuted(l)));
     };
     let c = column_of(seats, e);
     let by = Divisor::of(den);
-    let (size, own) = swap(seats, v, x, l, e, by, most)?;
+    let (size, own) = swap(seats, nonbasic, v, x, l, e, by, most)?;
     let i = l - system.unknowns();
     follow(c_1, c_2, system, scales, seats, a, b, v, n, i, c, by, size)?;
     Some(Found::Next(Place {
@@ -191,6 +201,7 @@ const STEPS: u32 = 1_000_000;
 /// values of the unknowns at the position, and at the end those there.
 pub fn whole_run(
     seats: &mut [Seat],
+    nonbasic: &mut [usize],
     v: &mut [i64],
     x: &mut [i64],
     c_1: &mut [i64],
@@ -204,6 +215,7 @@ pub fn whole_run(
     most: u64,
 ) -> Option<(Place, Ending)>
     requires seated { IsSeated (height system.now) system.now.width n seats.old }
+    requires columns { AreNonbasic system.now.width seats.old nonbasic.old }
     requires whole { IsWholeSystem system.now scales.now a.now b.now }
     requires bounds { HasBounds system.now scales.now a.now b.now most }
     requires room { HasRoom system.now.width (2 ^ 62) a.now }
@@ -221,6 +233,7 @@ pub fn whole_run(
     requires underway { IsUnderway system.now n seats.old scales.now from.den v.old c_1.old c_2.old from.greatest from.greatest_den from.first }
     ensures end { IfSome result (λ t. HasEnded system.now n seats.new scales.now t.0.den v.new c_1.new c_2.new t.0.greatest t.0.greatest_den t.1) }
     ensures seated { IfSome result (λ _. IsSeated (height system.now) system.now.width n seats.new) }
+    ensures columns { IfSome result (λ _. AreNonbasic system.now.width seats.new nonbasic.new) }
     ensures small { IfSome result (λ _. IsSmall most v.new) }
     ensures own { IfSome result (λ t. IsSmall t.0.own v.new) }
     ensures den_small { IfSome result (λ t. t.0.den ≤ 2 ^ 62) }
@@ -230,7 +243,9 @@ pub fn whole_run(
 {
     let mut place = from;
     'steps: for _ in 0..STEPS {
-        let found = step(seats, v, x, c_1, c_2, system, scales, a, b, n, place, most)?;
+        let found = step(
+            seats, nonbasic, v, x, c_1, c_2, system, scales, a, b, n, place, most,
+        )?;
         match found {
             Found::Ended(end) => return Some((place, end)),
             Found::Next(next) => place = next,

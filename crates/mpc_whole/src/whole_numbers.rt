@@ -1,6 +1,7 @@
 //! Sums and quotients of whole numbers.
 
-ghost use Rattle.std.specs.Prelude.{◌≡◌, ℕ, ℤ, pos, ◌+◌, ◌*◌, ◌<◌, ◌≤◌, ◌^◌, ◌+ℤ◌, ◌*ℤ◌, neg_ℤ, unsigned_abs, IfSome, IsTrue, length};
+ghost use Rattle.std.specs.Prelude.{◌≡◌, ℕ, ℤ, pos, ◌+◌, ◌*◌, ◌<◌, ◌≤◌, ◌^◌, ◌+ℤ◌, ◌*ℤ◌, neg_ℤ, unsigned_abs, IfSome, true, length};
+ghost use Rattle.mpc_whole.specs.Sums.{are_short, are_of_four};
 ghost use Rattle.mpc_whole.specs.Whole.{whole_total, whole_at, whole_cell, IsSmall, HasRoom, turned};
 ghost use Rattle.std.specs.Int.{w64, int_wrap};
 
@@ -163,6 +164,21 @@ fn short_row_times(a: &[i64], i: usize, c: &[i64]) -> i64
     total
 }
 
+/// The row i of a times the four numbers of a list, which fits 64 bits. The sums on the way may wrap.
+#[inline]
+fn four_row_times(a: &[i64], i: usize, c: &[i64]) -> i64
+    requires four { length c.now ≡ 4 }
+    requires inside { i * length c.now + length c.now ≤ length a.now }
+    requires result_small { unsigned_abs (whole_total (length c.now) (λ j. whole_cell (length c.now) a.now i j *ℤ whole_at c.now j)) ≤ 2 ^ 62 }
+    ensures { result ≡ whole_total (length c.now) (λ j. whole_cell (length c.now) a.now i j *ℤ whole_at c.now j) }
+{
+    let from = i * 4;
+    let one = wrapped(0, a[from], c[0]);
+    let two = wrapped(one, a[from + 1], c[1]);
+    let three = wrapped(two, a[from + 2], c[2]);
+    wrapped(three, a[from + 3], c[3])
+}
+
 /// The row i of a times the numbers of a list, which need not fit 64 bits.
 pub(crate) fn wide_row_times(a: &[i64], i: usize, c: &[i64]) -> i128
     requires inside { i * length c.now + length c.now ≤ length a.now }
@@ -179,20 +195,34 @@ pub(crate) fn wide_row_times(a: &[i64], i: usize, c: &[i64]) -> i128
     total
 }
 
-/// The row i of a times the numbers of a list. Where it is known to fit 64 bits, it is formed in 64 bits.
+/// How the products of a row with a list are summed up.
+#[derive(Clone, Copy, Drop)]
+pub(crate) enum Sums {
+    /// In 128 bits.
+    Wide,
+    /// In 64 bits, which the sum fits.
+    Short,
+    /// In 64 bits, which the sum fits, for a list of four numbers. So few are summed up without a loop: the compiler
+    /// makes one over vectors of it, which takes longer.
+    Four,
+}
+
+/// The row i of a times the numbers of a list.
 #[inline]
-pub(crate) fn row_times(a: &[i64], i: usize, c: &[i64], short: bool) -> i128
+pub(crate) fn row_times(a: &[i64], i: usize, c: &[i64], sums: Sums) -> i128
     requires inside { i * length c.now + length c.now ≤ length a.now }
     requires room { HasRoom (length c.now) (2 ^ 62) a.now }
     requires small { IsSmall (2 ^ 62) c.now }
-    requires result_small { IsTrue short → unsigned_abs (whole_total (length c.now) (λ j. whole_cell (length c.now) a.now i j *ℤ whole_at c.now j)) ≤ 2 ^ 62 }
+    requires result_small { are_short sums ≡ true → unsigned_abs (whole_total (length c.now) (λ j. whole_cell (length c.now) a.now i j *ℤ whole_at c.now j)) ≤ 2 ^ 62 }
+    requires four { are_of_four sums ≡ true → length c.now ≡ 4 }
     ensures value { result ≡ whole_total (length c.now) (λ j. whole_cell (length c.now) a.now i j *ℤ whole_at c.now j) }
     ensures small { unsigned_abs result ≤ 2 ^ 124 }
 {
-    if short {
-        return widened(short_row_times(a, i, c));
+    match sums {
+        Sums::Wide => wide_row_times(a, i, c),
+        Sums::Short => widened(short_row_times(a, i, c)),
+        Sums::Four => widened(four_row_times(a, i, c)),
     }
-    wide_row_times(a, i, c)
 }
 
 /// The row i of a times the column c of v, which fits 64 bits. The sums on the way may wrap.

@@ -5,16 +5,20 @@ ghost use Rattle.mpc_rows.specs.LinearSystem.{height};
 ghost use Rattle.mpc_rows.specs.Least.{least};
 ghost use Rattle.mpc_rows.specs.Run.{Position, bound, value, may_leave, may_enter};
 ghost use Rattle.mpc_exact.specs.Pair.{is_below};
-ghost use Rattle.mpc_whole.specs.Table.{seat_at, in_row, IsSeated};
+ghost use Rattle.mpc_whole.specs.declared.variables.Seat.{Seat};
+ghost use Rattle.mpc_whole.specs.declared.variables.Seat.TheVariants.{Column};
+ghost use Rattle.mpc_whole.specs.Table.{seat_at, in_row, IsSeated, AreNonbasic};
+ghost use Rattle.mpc_whole.specs.Sums.{are_short, are_of_four};
 ghost use Rattle.mpc_whole.specs.Underway.{StayBefore};
 ghost use Rattle.mpc_whole.specs.Whole.{whole_at, whole_cell, whole_total, AreScales, IsSmall, HasRoom, HasBounds, HasSides, HasSideValues, HasBasis, IsRowOf, IsSideRow, side_cell};
 
 use crate::variables::{Seat, is_basic};
-use crate::whole_numbers::{product, row_times, row_times_column, signed};
+use crate::whole_numbers::{Sums, product, row_times, row_times_column, signed};
 use crate::whole_systems::WholeSystem;
 use crate::whole_values::step_of;
 
 /// Whether the value of side i is above its bound.
+#[inline(always)]
 fn is_out(
     system: &WholeSystem,
     scales: &[u64],
@@ -23,7 +27,7 @@ fn is_out(
     c_1: &[i64],
     c_2: &[i64],
     den: u64,
-    short: bool,
+    sums: Sums,
     i: usize,
 ) -> bool
     requires side { i < height system.now }
@@ -35,13 +39,14 @@ fn is_out(
     requires room { HasRoom system.now.width (2 ^ 62) a.now }
     requires first_small { IsSmall (2 ^ 62) c_1.now }
     requires second_small { IsSmall (2 ^ 62) c_2.now }
-    requires first_fits { IsTrue short → unsigned_abs (whole_total system.now.width (λ j. whole_cell system.now.width a.now i j *ℤ whole_at c_1.now j)) ≤ 2 ^ 62 }
-    requires second_fits { IsTrue short → unsigned_abs (whole_total system.now.width (λ j. whole_cell system.now.width a.now i j *ℤ whole_at c_2.now j)) ≤ 2 ^ 62 }
+    requires first_fits { are_short sums ≡ true → unsigned_abs (whole_total system.now.width (λ j. whole_cell system.now.width a.now i j *ℤ whole_at c_1.now j)) ≤ 2 ^ 62 }
+    requires second_fits { are_short sums ≡ true → unsigned_abs (whole_total system.now.width (λ j. whole_cell system.now.width a.now i j *ℤ whole_at c_2.now j)) ≤ 2 ^ 62 }
+    requires four { are_of_four sums ≡ true → system.now.width ≡ 4 }
     requires den_small { den ≤ 2 ^ 62 }
     ensures { (p : Position) → 0 < den → HasSideValues system.now scales.now a.now p den c_1.now c_2.now → HasSides system.now scales.now b.now
         → result ≡ is_below (bound system.now (system.now.width + i)) (value system.now p (system.now.width + i)) }
 {
-    let first = row_times(a, i, c_1, short);
+    let first = row_times(a, i, c_1, sums);
     let limit = product(b[i], signed(den));
     if limit < first {
         return true;
@@ -49,7 +54,7 @@ fn is_out(
     if first < limit {
         return false;
     }
-    let second = row_times(a, i, c_2, short);
+    let second = row_times(a, i, c_2, sums);
     let step = step_of(system, scales, i);
     let next = product(step, signed(den));
     if next < second {
@@ -78,7 +83,53 @@ fn are_small(c_1: &[i64], c_2: &[i64], most: u64) -> bool
     is_within(c_1, most) && is_within(c_2, most)
 }
 
-/// The variable that leaves, from the first on that may.
+/// The variable that leaves, from the first on that may, where the values of the sides are summed up so.
+#[inline(always)]
+fn first_out(
+    system: &WholeSystem,
+    scales: &[u64],
+    seats: &[Seat],
+    a: &[i64],
+    b: &[i64],
+    c_1: &[i64],
+    c_2: &[i64],
+    den: u64,
+    n: usize,
+    first: usize,
+    sums: Sums,
+) -> Option<usize>
+    requires side { system.now.width ≤ first }
+    requires scales { AreScales system.now scales.now }
+    requires seated { IsSeated (height system.now) system.now.width n seats.now }
+    requires entries { length a.now ≡ height system.now * system.now.width }
+    requires sides { length b.now ≡ height system.now }
+    requires first_size { length c_1.now ≡ system.now.width }
+    requires second_size { length c_2.now ≡ system.now.width }
+    requires room { HasRoom system.now.width (2 ^ 62) a.now }
+    requires first_small { IsSmall (2 ^ 62) c_1.now }
+    requires second_small { IsSmall (2 ^ 62) c_2.now }
+    requires den_small { den ≤ 2 ^ 62 }
+    requires first_fits { are_short sums ≡ true → (i : ℕ) → unsigned_abs (whole_total system.now.width (λ j. whole_cell system.now.width a.now i j *ℤ whole_at c_1.now j)) ≤ 2 ^ 62 }
+    requires second_fits { are_short sums ≡ true → (i : ℕ) → unsigned_abs (whole_total system.now.width (λ j. whole_cell system.now.width a.now i j *ℤ whole_at c_2.now j)) ≤ 2 ^ 62 }
+    requires four { are_of_four sums ≡ true → system.now.width ≡ 4 }
+    ensures { (p : Position) → 0 < den → HasBasis n seats.now p → HasSideValues system.now scales.now a.now p den c_1.now c_2.now → HasSides system.now scales.now b.now
+        → StayBefore system.now p first → result ≡ least (may_leave system.now p) n }
+{
+    let width = system.unknowns();
+    for x in first..n {
+        if !is_basic(seats, x) {
+            continue;
+        }
+        if is_out(system, scales, a, b, c_1, c_2, den, sums, x - width) {
+            return Some(x);
+        }
+    }
+    None
+}
+
+/// The variable that leaves, from the first on that may. The loop over the sides stands there once for each way of
+/// summing up, so that it isn't chosen again at each side.
+#[inline(never)]
 pub(crate) fn leaving(
     system: &WholeSystem,
     scales: &[u64],
@@ -107,17 +158,49 @@ pub(crate) fn leaving(
     ensures { (p : Position) → 0 < den → HasBasis n seats.now p → HasSideValues system.now scales.now a.now p den c_1.now c_2.now → HasSides system.now scales.now b.now
         → StayBefore system.now p first → result ≡ least (may_leave system.now p) n }
 {
-    let width = system.unknowns();
-    let short = are_small(c_1, c_2, most);
-    for x in first..n {
-        if !is_basic(seats, x) {
-            continue;
-        }
-        if is_out(system, scales, a, b, c_1, c_2, den, short, x - width) {
-            return Some(x);
-        }
+    if !are_small(c_1, c_2, most) {
+        return first_out(
+            system,
+            scales,
+            seats,
+            a,
+            b,
+            c_1,
+            c_2,
+            den,
+            n,
+            first,
+            Sums::Wide,
+        );
     }
-    None
+    if system.unknowns() == 4 {
+        return first_out(
+            system,
+            scales,
+            seats,
+            a,
+            b,
+            c_1,
+            c_2,
+            den,
+            n,
+            first,
+            Sums::Four,
+        );
+    }
+    first_out(
+        system,
+        scales,
+        seats,
+        a,
+        b,
+        c_1,
+        c_2,
+        den,
+        n,
+        first,
+        Sums::Short,
+    )
 }
 
 /// The row of side i.
@@ -149,54 +232,40 @@ pub(crate) fn leaving_row(x: &mut [i64], system: &WholeSystem, a: &[i64], v: &[i
     side_row(x, system, a, v, l - system.unknowns());
 }
 
-/// The first unknown that may enter, by the row x of the variable that leaves: a nonbasic one whose coefficient
-/// isn't 0.
-fn entering_unknown(system: &WholeSystem, seats: &[Seat], x: &[i64], n: usize) -> Option<usize>
-    requires seated { IsSeated (height system.now) system.now.width n seats.now }
-    requires row_size { length x.now ≡ system.now.width }
+/// Whether the variable y of column c may enter, by the row x of the variable that leaves: an unknown if its
+/// coefficient isn't 0, a side if it is positive.
+fn enters(system: &WholeSystem, x: &[i64], c: usize, y: usize) -> bool
+    requires column { c < length x.now }
     requires row_small { IsSmall (2 ^ 62) x.now }
-    ensures { (p : Position) (k : List ℕ) (l d : ℕ) → 0 < d → HasBasis n seats.now p → IsRowOf n seats.now k p d l x.now → result ≡ least (may_enter system.now p l) system.now.width }
+    ensures { (n : ℕ) (seats : List Seat) (p : Position) (k : List ℕ) (l d : ℕ) → 0 < d → y < n → seat_at seats y ≡ Column c → HasBasis n seats p → IsRowOf n seats k p d l x.now → result ≡ may_enter system.now p l y }
 {
-    for y in 0..system.unknowns() {
-        let c = match seats[y] {
-            Seat::Row(_) => continue,
-            Seat::Column(c) => c,
-        };
-        if x[c] != 0 {
-            return Some(y);
-        }
+    if 0 < x[c] {
+        return true;
     }
-    None
+    if x[c] == 0 {
+        return false;
+    }
+    y < system.unknowns()
 }
 
-/// The first side that may enter, where no unknown may: a nonbasic one with a positive coefficient.
-fn entering_side(system: &WholeSystem, seats: &[Seat], x: &[i64], n: usize) -> Option<usize>
-    requires seated { IsSeated (height system.now) system.now.width n seats.now }
+/// The variable that enters, by the row x of the variable that leaves: the first of those in the columns that may.
+pub(crate) fn entering(
+    system: &WholeSystem,
+    nonbasic: &[usize],
+    x: &[i64],
+    n: usize,
+) -> Option<usize>
+    requires columns { length nonbasic.now ≡ system.now.width }
     requires row_size { length x.now ≡ system.now.width }
     requires row_small { IsSmall (2 ^ 62) x.now }
-    ensures { (p : Position) (k : List ℕ) (l d : ℕ) → 0 < d → HasBasis n seats.now p → IsRowOf n seats.now k p d l x.now → least (may_enter system.now p l) system.now.width ≡ None → result ≡ least (may_enter system.now p l) n }
+    ensures { (seats : List Seat) (p : Position) (k : List ℕ) (l d : ℕ) → IsSeated (height system.now) system.now.width n seats → AreNonbasic system.now.width seats nonbasic.now → 0 < d → HasBasis n seats p → IsRowOf n seats k p d l x.now → result ≡ least (may_enter system.now p l) n }
 {
-    for y in system.unknowns()..n {
-        let c = match seats[y] {
-            Seat::Row(_) => continue,
-            Seat::Column(c) => c,
-        };
-        if 0 < x[c] {
-            return Some(y);
+    let mut first = n;
+    for c in 0..system.unknowns() {
+        let y = nonbasic[c];
+        if y < first && enters(system, x, c, y) {
+            first = y;
         }
     }
-    None
-}
-
-/// The variable that enters, by the row x of the variable that leaves.
-pub(crate) fn entering(system: &WholeSystem, seats: &[Seat], x: &[i64], n: usize) -> Option<usize>
-    requires seated { IsSeated (height system.now) system.now.width n seats.now }
-    requires row_size { length x.now ≡ system.now.width }
-    requires row_small { IsSmall (2 ^ 62) x.now }
-    ensures { (p : Position) (k : List ℕ) (l d : ℕ) → 0 < d → HasBasis n seats.now p → IsRowOf n seats.now k p d l x.now → result ≡ least (may_enter system.now p l) n }
-{
-    if let Some(y) = entering_unknown(system, seats, x, n) {
-        return Some(y);
-    }
-    entering_side(system, seats, x, n)
+    if first < n { Some(first) } else { None }
 }

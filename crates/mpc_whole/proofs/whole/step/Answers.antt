@@ -48,14 +48,14 @@ returns-in_default-pick-clause-end c =
     let r = row_of_leaving c.args.system.now c.args.n c.args.seats.now c.requires.seated c.args.scales.now c.args.place.den c.args.v.now c.args.a.now c.args.b.now c.requires.bounds.most_side c.requires.whole c.requires.bounds.bounds.sides c.requires.narrow c.requires.underway.stands c.in-Some.l e c.pick.new.x c.in_default-pick.ensures.row in
     let b : c.pick.result ≡ None = c.in_default-pick.is in
     let o : None ≡ least (may_enter c.args.system.now (position c.args.system.now c.requires.underway.stands.at) c.in-Some.l) c.args.n =
-    sym b ∙ c.pick.ensures.least (position c.args.system.now c.requires.underway.stands.at) c.args.scales.now c.args.place.den c.requires.underway.stands.form.some (basis_is c.args.system.now c.args.n c.args.seats.now c.requires.seated c.args.scales.now c.args.place.den c.args.v.now c.args.a.now c.args.b.now c.requires.bounds.most_side c.requires.whole c.requires.bounds.bounds.sides c.requires.narrow c.requires.underway.stands) r
+    sym b ∙ c.pick.ensures.least c.args.seats.now (position c.args.system.now c.requires.underway.stands.at) c.args.scales.now c.args.place.den c.requires.seated c.requires.columns c.requires.underway.stands.form.some (basis_is c.args.system.now c.args.n c.args.seats.now c.requires.seated c.args.scales.now c.args.place.den c.args.v.now c.args.a.now c.args.b.now c.requires.bounds.most_side c.requires.whole c.requires.bounds.bounds.sides c.requires.narrow c.requires.underway.stands) r
     in
     refuted_kept c.args.system.now c.args.n c.args.seats.now c.requires.seated c.args.scales.now c.args.place.den c.args.v.now c.args.a.now c.args.b.now c.requires.bounds.most_side c.requires.whole c.requires.bounds.bounds.sides c.requires.narrow c.requires.underway.stands c.in-Some.l e c.pick.new.x c.in_default-pick.ensures.row o c.args.c_1.now c.args.c_2.now c.requires.underway.values c.args.place.greatest c.args.place.greatest_den c.requires.underway.before
 
 enters_is : (c : In-Some-pick) → Some c.in-Some.l ≡ least (may_leave c.args.system.now (position c.args.system.now c.requires.underway.stands.at)) c.args.n → Some c.in-Some-pick.e ≡ least (may_enter c.args.system.now (position c.args.system.now c.requires.underway.stands.at) c.in-Some.l) c.args.n
 enters_is c e =
     let b : c.pick.result ≡ Some c.in-Some-pick.e = c.in-Some-pick.is in
-    sym b ∙ c.pick.ensures.least (position c.args.system.now c.requires.underway.stands.at) c.args.scales.now c.args.place.den c.requires.underway.stands.form.some (basis_is c.args.system.now c.args.n c.args.seats.now c.requires.seated c.args.scales.now c.args.place.den c.args.v.now c.args.a.now c.args.b.now c.requires.bounds.most_side c.requires.whole c.requires.bounds.bounds.sides c.requires.narrow c.requires.underway.stands) (row_of_leaving c.args.system.now c.args.n c.args.seats.now c.requires.seated c.args.scales.now c.args.place.den c.args.v.now c.args.a.now c.args.b.now c.requires.bounds.most_side c.requires.whole c.requires.bounds.bounds.sides c.requires.narrow c.requires.underway.stands c.in-Some.l e c.pick.new.x c.pick.ensures.row)
+    sym b ∙ c.pick.ensures.least c.args.seats.now (position c.args.system.now c.requires.underway.stands.at) c.args.scales.now c.args.place.den c.requires.seated c.requires.columns c.requires.underway.stands.form.some (basis_is c.args.system.now c.args.n c.args.seats.now c.requires.seated c.args.scales.now c.args.place.den c.args.v.now c.args.a.now c.args.b.now c.requires.bounds.most_side c.requires.whole c.requires.bounds.bounds.sides c.requires.narrow c.requires.underway.stands) (row_of_leaving c.args.system.now c.args.n c.args.seats.now c.requires.seated c.args.scales.now c.args.place.den c.args.v.now c.args.a.now c.args.b.now c.requires.bounds.most_side c.requires.whole c.requires.bounds.bounds.sides c.requires.narrow c.requires.underway.stands c.in-Some.l e c.pick.new.x c.pick.ensures.row)
 
 below_of : (c : In-Some) → Some c.in-Some.l ≡ least (may_leave c.args.system.now (position c.args.system.now c.requires.underway.stands.at)) c.args.n → c.in-Some.l < length c.args.seats.now
 below_of c e = subst (λ m. c.in-Some.l < m) (sym c.requires.seated.each) (leaving_in c.args.system.now c.args.n c.args.seats.now c.requires.seated c.args.scales.now c.args.place.den c.args.v.now c.args.a.now c.args.b.now c.requires.bounds.most_side c.requires.whole c.requires.bounds.bounds.sides c.requires.narrow c.requires.underway.stands c.in-Some.l e)

@@ -1,43 +1,14 @@
-use Rattle.std.proofs.Common.{sym, ◌≡◌, ◌∙◌, ◌+◌, ◌-◌, arith, ap, None}
-use Rattle.mpc_exact.specs.Pair.{is_below}
-use Rattle.mpc_rows.specs.Run.{Position, may_leave, bound, value}
-use Rattle.mpc_whole.specs.Whole.{HasBasis}
 use Rattle.mpc_whole.proofs.WholeWraps.{value_fits}
-use Rattle.mpc_whole.proofs.Table.{least_none, least_some, least_skip, leave_not_basic}
-use Rattle.mpc_whole.proofs.WholeTurns.{none_below, none_up_to, leaves_as}
 use Rattle.mpc_whole.proofs.whole_turn.leaving.Goals as goal
-use Rattle.mpc_whole.proofs.whole_turn.leaving.Goals.{After-is_out}
 
-pub is_out-requires-clause-first_fits : goal.is_out-requires-clause-first_fits
-is_out-requires-clause-first_fits c = λ t.
-    value_fits c.args.system.now c.args.scales.now c.args.a.now c.args.b.now c.args.c_1.now c.args.most c.requires.bounds c.requires.scales (c.are_small-short.ensures.first t) (c.loop-x.x - c.unknowns-width.result)
+pub first_out-requires-then-unknowns-eq4-clause-first_fits : goal.first_out-requires-then-unknowns-eq4-clause-first_fits
+first_out-requires-then-unknowns-eq4-clause-first_fits c = λ t i. value_fits c.args.system.now c.args.scales.now c.args.a.now c.args.b.now c.args.c_1.now c.args.most c.requires.bounds c.requires.scales (c.are_small.ensures.first c.if-not-are_small.false) i
 
-pub is_out-requires-clause-second_fits : goal.is_out-requires-clause-second_fits
-is_out-requires-clause-second_fits c = λ t.
-    value_fits c.args.system.now c.args.scales.now c.args.a.now c.args.b.now c.args.c_2.now c.args.most c.requires.bounds c.requires.scales (c.are_small-short.ensures.second t) (c.loop-x.x - c.unknowns-width.result)
+pub first_out-requires-then-unknowns-eq4-clause-second_fits : goal.first_out-requires-then-unknowns-eq4-clause-second_fits
+first_out-requires-then-unknowns-eq4-clause-second_fits c = λ t i. value_fits c.args.system.now c.args.scales.now c.args.a.now c.args.b.now c.args.c_2.now c.args.most c.requires.bounds c.requires.scales (c.are_small.ensures.second c.if-not-are_small.false) i
 
-pub loop-x-init : goal.loop-x-init
-loop-x-init c = λ p some h v w t. none_below (may_leave c.args.system.now p) c.args.first t
+pub first_out-requires-2-clause-first_fits : goal.first_out-requires-2-clause-first_fits
+first_out-requires-2-clause-first_fits c = λ t i. value_fits c.args.system.now c.args.scales.now c.args.a.now c.args.b.now c.args.c_1.now c.args.most c.requires.bounds c.requires.scales (c.are_small.ensures.first c.if-not-are_small.false) i
 
-pub loop-x-preserved-then-not-is_basic : goal.loop-x-preserved-then-not-is_basic
-loop-x-preserved-then-not-is_basic c = λ p some h v w t.
-    least_skip (may_leave c.args.system.now p) c.loop-x.x None (c.loop-x.invariant p some h v w t)
-    (leave_not_basic c.args.system.now p c.loop-x.x (h.basic c.loop-x.x c.loop-x-test.true ∙ sym c.is_basic.ensures ∙ c.if-not-is_basic.true))
-
-test_is : (c : After-is_out) (p : Position) → HasBasis c.args.n c.args.seats.now p → c.is_out.result ≡ is_below (bound c.args.system.now (c.args.system.now.width + (c.loop-x.x - c.unknowns-width.result))) (value c.args.system.now p (c.args.system.now.width + (c.loop-x.x - c.unknowns-width.result))) → c.is_out.result ≡ may_leave c.args.system.now p c.loop-x.x
-test_is c p h e =
-    e ∙ ap (λ w. is_below (bound c.args.system.now (c.args.system.now.width + (c.loop-x.x - w))) (value c.args.system.now p (c.args.system.now.width + (c.loop-x.x - w)))) c.unknowns-width.ensures
-    ∙ leaves_as c.args.system.now p c.loop-x.x (let a = c.loop-x.auto.x in let b = c.requires.side in omega arith) (h.basic c.loop-x.x c.loop-x-test.true ∙ sym c.is_basic.ensures ∙ c.if-not-is_basic.false)
-
-pub returns-then-is_out : goal.returns-then-is_out
-returns-then-is_out c = λ p some h v w t.
-    let at = goal.at.returns-then-is_out c in
-    sym (least_some (may_leave c.args.system.now p) c.args.n c.loop-x.x c.is_out.result c.loop-x-test.true (c.loop-x.invariant p some h v w t) (test_is at.After-is_out p h (c.is_out.ensures p some v w)) c.if-is_out.true)
-
-pub loop-x-preserved : goal.loop-x-preserved
-loop-x-preserved c = λ p some h v w t.
-    let at = goal.at.loop-x-preserved c in
-    least_none (may_leave c.args.system.now p) c.loop-x.x c.is_out.result (c.loop-x.invariant p some h v w t) (test_is at.After-is_out p h (c.is_out.ensures p some v w)) c.if-is_out.false
-
-pub returns : goal.returns
-returns c = λ p some h v w t. sym (none_up_to (may_leave c.args.system.now p) c.args.n c.loop-x.x (let b = c.loop-x-test.false in omega arith) (c.loop-x.invariant p some h v w t))
+pub first_out-requires-2-clause-second_fits : goal.first_out-requires-2-clause-second_fits
+first_out-requires-2-clause-second_fits c = λ t i. value_fits c.args.system.now c.args.scales.now c.args.a.now c.args.b.now c.args.c_2.now c.args.most c.requires.bounds c.requires.scales (c.are_small.ensures.second c.if-not-are_small.false) i
