@@ -100,7 +100,7 @@ fn enter(cell: &mut KeptCell, side: OpenSide) -> Result<usize, NoMemory>
 
 /// The tree of the cell with these rows, whose search goes on with the next law, node by node in
 /// preorder; the no sides that are still to come lie on a stack. `Wide` numbers the nodes from 1.
-/// A tree that is watched is given up once it is called off.
+/// A tree that is watched is given up once it is called off. Its list has no more room than its nodes need.
 ///
 /// `held` counts rows of the next law that hold on the cell since the search was split by them: the
 /// next split is by a later one, so the search ends.
@@ -145,7 +145,10 @@ pub fn grown(
                 tree.push(leaf)?;
                 match sides.pop() {
                     Some(side) => next = enter(&mut cell, side)?,
-                    None => return Ok(tree),
+                    None => {
+                        tree.shrink_to_fit();
+                        return Ok(tree);
+                    }
                 }
                 held = 0;
             }
@@ -154,7 +157,7 @@ pub fn grown(
     }
 }
 
-/// The same tree where nothing calls it off, with no more room than its nodes need.
+/// The same tree where nothing calls it off.
 pub fn grown_alone(
     alloc: Global,
     qp: &Qp,
@@ -172,10 +175,7 @@ pub fn grown_alone(
     ensures wide { IfErr result (λ e. IfWide e (IsFirstWide qp.now laws.now (record { rows = cell.rows.items; next = next }) 1)) }
 {
     match grown(alloc, qp, laws, borders, cell, next, None) {
-        Ok(mut tree) => {
-            tree.shrink_to_fit();
-            Ok(tree)
-        }
+        Ok(tree) => Ok(tree),
         Err(Stop::Refused(error)) => Err(error),
         Err(Stop::GivenUp) => unreachable!(),
     }

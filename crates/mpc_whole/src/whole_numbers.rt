@@ -84,13 +84,14 @@ pub fn turned(q: i64, z: i64) -> i64
     if q < 0 { -z } else { z }
 }
 
-/// A number that is not negative, as a signed one.
+/// A number that is not negative, as a signed one. It is taken by its bits: were the compiler to know that it isn't
+/// negative, it would multiply it as an unsigned one by signed ones, which takes two multiplications.
 #[inline]
 pub(crate) fn signed(n: u64) -> i64
     requires { n ≤ 2 ^ 62 }
     ensures value { result ≡ pos n }
 {
-    n as i64
+    n.cast_signed()
 }
 
 /// The quotient, if it is whole and small.
