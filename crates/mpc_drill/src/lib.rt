@@ -7,8 +7,6 @@ mod entries;
 mod laws;
 mod limits;
 mod plants;
-#[cfg(test)]
-mod tests;
 
 pub use drills::{Drilled, drill};
 pub use laws::one_drill;

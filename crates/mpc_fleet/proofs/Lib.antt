@@ -1,4 +1,3 @@
-pub mod SmallPrograms
 pub mod Holding
 pub mod Hands
 pub mod Joins

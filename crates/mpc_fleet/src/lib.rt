@@ -5,8 +5,6 @@ mod errors;
 mod joining;
 mod pool;
 mod seats;
-#[cfg(test)]
-mod tests;
 mod waiting;
 mod working;
 

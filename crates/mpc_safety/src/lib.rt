@@ -4,8 +4,6 @@
 mod answers;
 mod laws;
 mod safety;
-#[cfg(test)]
-mod tests;
 
 pub use answers::{Safety, SafetyError};
 pub use laws::{one_safety_answer, safe_stays_right};

@@ -7,8 +7,6 @@ mod errors;
 mod fleet_answers;
 mod laws;
 mod sections;
-#[cfg(test)]
-mod tests;
 
 pub use errors::SectionsError;
 pub use fleet_answers::fleet;

@@ -1,6 +1,5 @@
 pub mod Holding
 pub mod Turns
-pub mod SmallPrograms
 pub mod Joining
 pub mod Hands
 pub mod Lasting

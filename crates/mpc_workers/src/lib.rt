@@ -10,8 +10,6 @@ ghost use Rattle.mpc_claim.specs.History.{IsOpen};
 ghost use Rattle.mpc_workers.specs.Alone.{Delivers, IsDoneAlone};
 
 mod pool;
-#[cfg(test)]
-mod tests;
 
 use mpc_claim::{Claimed, Registry, Ticket, claim_laws, legal_laws};
 use mpc_frac::NoMemory;
