@@ -5,8 +5,6 @@ mod late;
 mod names;
 mod spots;
 mod status;
-#[cfg(test)]
-mod tests;
 
 pub use late::LatePlace;
 pub use status::Status;

@@ -17,6 +17,7 @@ mod offsets;
 mod places;
 mod robust;
 mod safety;
+mod statuses;
 mod workers;
 
 /// A tank with the levels -4 to 4, and four of them.
