@@ -7,8 +7,6 @@ mod laws;
 mod levels;
 mod moves;
 mod registry;
-#[cfg(test)]
-mod tests;
 mod tickets;
 mod worlds;
 

@@ -20,7 +20,6 @@ pub mod Advance
 pub mod RowTests
 pub mod Turning
 pub mod Moved
-pub mod SmallPrograms
 pub mod Eliminated
 pub mod Lengths
 pub mod SharedParts

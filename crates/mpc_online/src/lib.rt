@@ -25,8 +25,6 @@ mod refuting;
 mod run;
 mod shared;
 mod solutions;
-#[cfg(test)]
-mod tests;
 mod tests_of_rows;
 mod turns;
 

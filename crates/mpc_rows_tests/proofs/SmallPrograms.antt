@@ -1,30 +1,15 @@
--- Matrices of tests.
-use Rattle.std.proofs.Common.{◌≡◌, ℕ, ◌<◌, List, [], ◌∷◌, length, get_or, set, All, pos, refl, sym, ◌∙◌, ap, subst, arith}
-use Rattle.std.proofs.lemmas.List.{length-replicate, get_or-replicate, length-set}
-use Rattle.std.proofs.lemmas.List.Elements.{All-set, All-from_recursion}
+-- Matrices and counts of tests.
+use Rattle.std.proofs.Common.{◌≡◌, ℕ, zero, suc, ◌≤◌, List, [], ◌∷◌, length, get_or, All, pos, refl, ◌∙◌, subst, arith}
+use Rattle.std.proofs.lemmas.List.Elements.{All-from_recursion}
 use Rattle.mpc_exact.specs.Rational.{ℚ, int, ◌+ℚ◌, ◌*ℚ◌, ◌<ℚ◌, IsPositive}
-use Rattle.mpc_exact.proofs.RationalOrder.{positive-mul}
+use Rattle.mpc_exact.proofs.RationalOrder.{nonneg_int, positive-mul}
+use Rattle.mpc_exact.proofs.School.{natural_le}
+use Rattle.mpc_rows.specs.ActiveSets.{IsInBox}
 use Rattle.mpc_exact.proofs.OrderLaws.{positive_square}
 use Rattle.mpc_exact.proofs.RationalRing.{reads, by_ring}
-use Rattle.mpc_space.specs.Vector.{cell, zeros, quadratic}
+use Rattle.mpc_space.specs.Vector.{cell, quadratic, IsSymmetric}
 use Rattle.mpc_space.specs.Matrix.{RationalMatrix, height, IsRectangular, entry}
 use Rattle.mpc_space.specs.Definite.{IsDefinite}
-use Rattle.mpc_linear.specs.Entries.{with_entry, zero_matrix}
-use Rattle.mpc_linear.specs.Shape.{HasShape}
-
-pub shape_zero : (m : RationalMatrix) (n w : ℕ) → m ≡ zero_matrix n w → HasShape m n w
-shape_zero m n w e = subst (λ z. HasShape z n w) (sym e) (record {
-  rows_are = length-replicate n (zeros w);
-  columns_are = refl;
-  rectangular = λ k d l. ap length (get_or-replicate n k (zeros w) d (omega (arith, length-replicate n (zeros w)))) ∙ length-replicate w (int (pos 0));
-})
-
-pub shape_kept : (m new : RationalMatrix) (n w i j : ℕ) (v : ℚ) → new ≡ with_entry m i j v → i < n → HasShape m n w → HasShape new n w
-shape_kept m new n w i j v e h s = subst (λ z. HasShape z n w) (sym e) (record {
-  rows_are = length-set m.rows i (set (get_or m.rows i []) j v) ∙ s.rows_are;
-  columns_are = s.columns_are;
-  rectangular = All-set (λ row. length row ≡ m.columns) m.rows i (set (get_or m.rows i []) j v) (length-set (get_or m.rows i []) j v ∙ s.rectangular i [] (omega (arith, s.rows_are))) s.rectangular;
-})
 
 -- a positive number as a matrix is definite
 form : (x y : ℚ) → x *ℚ (y *ℚ y) ≡ y *ℚ (x *ℚ y +ℚ int (pos 0)) +ℚ int (pos 0)
@@ -47,3 +32,23 @@ rows_definite ((x ∷ []) ∷ []) e k p = number_definite x p
 
 pub one_definite : (m : RationalMatrix) → height m ≡ 1 → m.columns ≡ 1 → IsRectangular m → IsPositive (entry m 0 0) → IsDefinite m.rows
 one_definite m e k r p = rows_definite m.rows e (r 0 [] (omega arith) ∙ k) p
+
+-- and symmetric
+rows_symmetric : (rows : List (List ℚ)) → length rows ≡ 1 → length (get_or rows 0 []) ≡ 1 → (i j : ℕ) → cell rows i j ≡ cell rows j i
+rows_symmetric [] e k i j = absurd (omega arith)
+rows_symmetric (row ∷ other ∷ rows) e k i j = absurd (omega arith)
+rows_symmetric ([] ∷ []) e k i j = absurd (omega arith)
+rows_symmetric ((x ∷ y ∷ row) ∷ []) e k i j = absurd (omega arith)
+rows_symmetric ((x ∷ []) ∷ []) e k zero zero = refl
+rows_symmetric ((x ∷ []) ∷ []) e k zero (suc j) = refl
+rows_symmetric ((x ∷ []) ∷ []) e k (suc i) zero = refl
+rows_symmetric ((x ∷ []) ∷ []) e k (suc i) (suc j) = refl
+
+pub one_symmetric : (m : RationalMatrix) → height m ≡ 1 → m.columns ≡ 1 → IsRectangular m → IsSymmetric m.rows
+one_symmetric m e k r = record { mirrored = rows_symmetric m.rows e (r 0 [] (omega arith) ∙ k) }
+
+-- a count up to the box's only one
+pub one_in_box : (counts : List ℕ) (n m : ℕ) → length counts ≡ 1 → m ≡ get_or counts 0 0 → n ≤ m → IsInBox counts (int (pos n) ∷ [])
+one_in_box [] n m e is h = absurd (omega arith)
+one_in_box (k ∷ j ∷ counts) n m e is h = absurd (omega arith)
+one_in_box (k ∷ []) n m e is h = (nonneg_int n, (natural_le n k).1 (subst (λ z. n ≤ z) is h), tt)

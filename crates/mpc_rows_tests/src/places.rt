@@ -50,7 +50,7 @@ fn counts(rt: HostRuntime) -> Result<(), Fail> {
 }
 
 /// What threads share and pass on.
-fn crosses<T: Send + Sync>(_value: &T) {}
+pub(crate) fn crosses<T: Send + Sync>(_value: &T) {}
 
 fn crossing(qp: &Qp, laws: &LawTable, tree: &Tree, judged: &Judged) {
     crosses(qp);
