@@ -1,4 +1,4 @@
-//! Tests of plants and their files, of condensing, and of pivots: that calls succeed where memory suffices, and what no clause says.
+//! Tests of plants and their files, of condensing, of room for disturbances, and of pivots: that calls succeed where memory suffices, and what no clause says.
 #![tactic(auto)]
 
 #[cfg(test)]
@@ -9,3 +9,5 @@ mod definite;
 mod plant_files;
 #[cfg(test)]
 mod plants;
+#[cfg(test)]
+mod tightening;

@@ -7,8 +7,6 @@ mod laws;
 mod noise;
 mod numbers;
 mod programs;
-#[cfg(test)]
-mod tests;
 mod tightening;
 mod vectors;
 
