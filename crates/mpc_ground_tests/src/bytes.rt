@@ -5,35 +5,48 @@ use mpc_port::{
     Failed, Gate, HostSink, HostSource, MemorySink, MemorySource, OpenGate, QuietSink, QuietSource,
     ReadError, Sink, SinkError, Source, WriteError, read_all, write_all,
 };
+use std::alloc::Global;
 use std::io;
 use std::io::{ErrorKind, Read, Write};
+use std::process::Abort;
 use std::test::Fail;
 
 const TEXT: &[u8] = b"0123456789ab";
 
-// Each read but the last gives a piece, and the last finds the end. A fault at any of them is
-// answered, and what it left can still be read.
+/// Reads pieces of so many bytes, with a fault at one call. Each read but the last gives a piece, and the last finds the end.
+/// A fault at any of them is answered, and what it left can still be read.
+fn read_with_a_fault(
+    rt: &impl Abort,
+    alloc: Global,
+    piece: usize,
+    reads: u64,
+    failing: u64,
+) -> Result<(), Fail> {
+    assert!(rt; 0 < piece && piece <= 40 && 0 < failing);
+    let fails = vec![in alloc; failing]?;
+    let mut source = MemorySource::new(TEXT.to_vec(alloc)?, piece, fails);
+    let answer = read_all(alloc, &mut source, 12);
+    if failing > reads {
+        assert_eq!(rt; answer?.as_slice(), TEXT);
+        return Ok(());
+    }
+    assert_eq!(rt; answer.err(), Some(ReadError::ReadFault));
+    let rest = read_all(alloc, &mut source, 12)?;
+    assert!(rt; TEXT.ends_with(rest.as_slice()));
+    let read = (failing as usize - 1).min(TEXT.len()) * piece;
+    assert_eq!(rt;
+        rest.len(),
+        TEXT.len().saturating_sub(read),
+        "{piece} {failing}"
+    );
+    Ok(())
+}
+
 #[test]
 fn reads_with_a_fault_at_each_call(rt: HostRuntime) -> Result<(), Fail> {
     for (piece, reads) in [(1, 13), (2, 7), (5, 4), (10, 3), (12, 2), (40, 2)] {
-        assert!(rt; 0 < piece);
         for failing in 1..reads + 2 {
-            let fails = vec![in rt.alloc(); failing]?;
-            let mut source = MemorySource::new(TEXT.to_vec(rt.alloc())?, piece, fails);
-            let answer = read_all(rt.alloc(), &mut source, 12);
-            if failing > reads {
-                assert_eq!(rt; answer?.as_slice(), TEXT);
-                continue;
-            }
-            assert_eq!(rt; answer.err(), Some(ReadError::ReadFault));
-            let rest = read_all(rt.alloc(), &mut source, 12)?;
-            assert!(rt; TEXT.ends_with(rest.as_slice()));
-            let read = (failing as usize - 1).min(TEXT.len()) * piece;
-            assert_eq!(rt;
-                rest.len(),
-                TEXT.len().saturating_sub(read),
-                "{piece} {failing}"
-            );
+            read_with_a_fault(&rt, rt.alloc(), piece, reads, failing)?;
         }
     }
     Ok(())
@@ -62,23 +75,35 @@ fn reads_up_to_the_limit(rt: HostRuntime) -> Result<(), Fail> {
     Ok(())
 }
 
+/// Writes pieces of so many bytes, with a fault at one call.
+fn write_with_a_fault(
+    rt: &impl Abort,
+    alloc: Global,
+    piece: usize,
+    writes: u64,
+    failing: u64,
+) -> Result<(), Fail> {
+    assert!(rt; 0 < piece && piece <= 40 && 0 < failing);
+    let fails = vec![in alloc; failing]?;
+    let mut sink = MemorySink::new(alloc, piece, fails);
+    let answer = write_all(&mut sink, TEXT);
+    if failing > writes {
+        assert_eq!(rt; answer, Ok(()));
+        assert_eq!(rt; sink.bytes(), TEXT);
+        return Ok(());
+    }
+    let sent = (failing as usize - 1).min(TEXT.len()) * piece;
+    assert_eq!(rt; answer, Err(WriteError::WriteFault(sent as u64)));
+    assert_eq!(rt; sink.bytes().len(), sent);
+    assert!(rt; TEXT.starts_with(sink.bytes()));
+    Ok(())
+}
+
 #[test]
 fn writes_with_a_fault_at_each_call(rt: HostRuntime) -> Result<(), Fail> {
     for (piece, writes) in [(1, 12), (2, 6), (5, 3), (10, 2), (12, 1), (40, 1)] {
-        assert!(rt; 0 < piece);
         for failing in 1..writes + 2 {
-            let fails = vec![in rt.alloc(); failing]?;
-            let mut sink = MemorySink::new(rt.alloc(), piece, fails);
-            let answer = write_all(&mut sink, TEXT);
-            if failing > writes {
-                answer?;
-                assert_eq!(rt; sink.bytes(), TEXT);
-                continue;
-            }
-            let sent = (failing as usize - 1).min(TEXT.len()) * piece;
-            assert_eq!(rt; answer, Err(WriteError::WriteFault(sent as u64)));
-            assert_eq!(rt; sink.bytes().len(), sent);
-            assert!(rt; TEXT.starts_with(sink.bytes()));
+            write_with_a_fault(&rt, rt.alloc(), piece, writes, failing)?;
         }
     }
     let mut sink = QuietSink::new(rt.alloc());
@@ -185,25 +210,21 @@ fn open_gate_is_shared() {
     passes(&OpenGate);
 }
 
+/// Whether a text is this message.
+fn says(text: String, message: &str) -> bool {
+    text.as_str() == message
+}
+
 #[test]
 fn errors_say_what_happened(rt: HostRuntime) -> Result<(), Fail> {
     let alloc = rt.alloc();
-    for (text, message) in [
-        (format!(in alloc; "{Failed}")?, "a source or a sink failed"),
-        (
-            format!(in alloc; "{}", ReadError::TooLong)?,
-            "the input is too long",
-        ),
-        (
-            format!(in alloc; "{}", SinkError::NoMemory)?,
-            "memory ran out",
-        ),
-        (
-            format!(in alloc; "{}", WriteError::WriteFault(7))?,
-            "the sink failed after 7 bytes",
-        ),
-    ] {
-        assert_eq!(rt; text.as_str(), message);
-    }
+    let failed = format!(in alloc; "{Failed}")?;
+    assert!(rt; says(failed, "a source or a sink failed"));
+    let long = format!(in alloc; "{}", ReadError::TooLong)?;
+    assert!(rt; says(long, "the input is too long"));
+    let memory = format!(in alloc; "{}", SinkError::NoMemory)?;
+    assert!(rt; says(memory, "memory ran out"));
+    let fault = format!(in alloc; "{}", WriteError::WriteFault(7))?;
+    assert!(rt; says(fault, "the sink failed after 7 bytes"));
     Ok(())
 }

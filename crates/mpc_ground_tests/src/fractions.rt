@@ -47,39 +47,39 @@ fn makes_fractions(rt: HostRuntime) -> Result<(), Fail> {
     Ok(())
 }
 
+/// Whether an operation gave the fraction of this text.
+fn is_text(
+    rt: &impl Abort,
+    alloc: Global,
+    computed: Result<Frac, Wide>,
+    wanted: &[u8],
+) -> Result<bool, NoMemory> {
+    let fraction = found(rt, computed);
+    let written = text(alloc, &fraction)?;
+    Ok(written.as_slice() == wanted)
+}
+
 #[test]
 fn computes(rt: HostRuntime) -> Result<(), Fail> {
-    let half = made(&rt, 1, 2);
-    let third = made(&rt, 1, 3);
-    let largest = made(&rt, LARGEST, 1);
-    let least = made(&rt, 1, LARGEST);
-    let one = Frac::whole(1);
-    let alloc = rt.alloc();
-    assert_eq!(rt;
-        text(alloc, &found(&rt, half.add(&third)))?.as_slice(),
-        b"5/6".as_slice()
-    );
-    assert_eq!(rt;
-        text(alloc, &found(&rt, third.sub(&half)))?.as_slice(),
-        b"-1/6".as_slice()
-    );
-    assert_eq!(rt;
-        text(alloc, &found(&rt, half.mul(&third.neg())))?.as_slice(),
-        b"-1/6".as_slice()
-    );
-    assert_eq!(rt;
-        text(alloc, &found(&rt, largest.mul(&least)))?.as_slice(),
-        b"1".as_slice()
-    );
-    if !third.is_zero() {
-        assert_eq!(rt;
-            text(alloc, &found(&rt, half.div(&third)))?.as_slice(),
-            b"3/2".as_slice()
-        );
+    let (half, third) = (made(&rt, 1, 2), made(&rt, 1, 3));
+    let (largest, least) = (made(&rt, LARGEST, 1), made(&rt, 1, LARGEST));
+    assert!(rt; !third.is_zero());
+    for (computed, wanted) in [
+        (half.add(&third), b"5/6".as_slice()),
+        (third.sub(&half), b"-1/6"),
+        (half.mul(&third.neg()), b"-1/6"),
+        (largest.mul(&least), b"1"),
+        (half.div(&third), b"3/2"),
+    ] {
+        assert!(rt; is_text(&rt, rt.alloc(), computed, wanted)?);
     }
-    assert!(rt; largest.add(&one).is_err());
-    assert!(rt; least.add(&half).is_err());
-    assert!(rt; largest.mul(&largest).is_err());
+    for computed in [
+        largest.add(&Frac::whole(1)),
+        least.add(&half),
+        largest.mul(&largest),
+    ] {
+        assert!(rt; computed.is_err());
+    }
     Ok(())
 }
 
@@ -87,14 +87,18 @@ fn computes(rt: HostRuntime) -> Result<(), Fail> {
 fn compares(rt: HostRuntime) {
     let largest = made(&rt, LARGEST, LARGEST - 1);
     let next = made(&rt, LARGEST - 1, LARGEST - 2);
-    assert_eq!(rt; largest.cmp(&next), Ordering::Less);
-    assert_eq!(rt; largest.neg().cmp(&next), Ordering::Less);
-    assert_eq!(rt; next.cmp(&Frac::whole(1)), Ordering::Greater);
-    assert_eq!(rt; Frac::whole(-3).cmp(&made(&rt, -6, 2)), Ordering::Equal);
-    assert_eq!(rt; Frac::whole(-3).sign(), -1);
-    assert_eq!(rt; Frac::whole(0).sign(), 0);
-    assert_eq!(rt; next.sign(), 1);
-    assert!(rt; Frac::whole(0).is_zero());
-    assert!(rt; Frac::whole(7).is_whole());
-    assert!(rt; !next.is_whole());
+    let (zero, low) = (Frac::whole(0), Frac::whole(-3));
+    for (left, right, order) in [
+        (largest, next, Ordering::Less),
+        (largest.neg(), next, Ordering::Less),
+        (next, Frac::whole(1), Ordering::Greater),
+        (low, made(&rt, -6, 2), Ordering::Equal),
+    ] {
+        assert_eq!(rt; left.cmp(&right), order);
+    }
+    for (fraction, sign) in [(low, -1), (zero, 0), (next, 1)] {
+        assert_eq!(rt; fraction.sign(), sign);
+    }
+    assert!(rt; zero.is_zero());
+    assert!(rt; Frac::whole(7).is_whole() && !next.is_whole());
 }

@@ -49,6 +49,15 @@ fn matrix(
     Ok(matrix)
 }
 
+/// These whole numbers.
+fn wholes(alloc: Global, entries: &[i64]) -> Result<Vector, NoMemory> {
+    let mut fractions = Vector::new(alloc);
+    for entry in entries {
+        fractions.push(Frac::whole(*entry))?;
+    }
+    Ok(fractions)
+}
+
 fn whole_matrix(
     rt: &impl Abort,
     alloc: Global,
@@ -56,10 +65,7 @@ fn whole_matrix(
     cols: u32,
     entries: &[i64],
 ) -> Result<Matrix, NoMemory> {
-    let mut fractions = Vector::new(alloc);
-    for entry in entries {
-        fractions.push(Frac::whole(*entry))?;
-    }
+    let fractions = wholes(alloc, entries)?;
     matrix(rt, alloc, rows, cols, fractions.as_slice())
 }
 
@@ -83,12 +89,66 @@ fn is_matrix(rt: &impl Abort, matrix: &Matrix, entries: &[i64]) -> bool {
     true
 }
 
-fn solved(rt: &impl Abort, alloc: Global, m: &Matrix, rhs: &Matrix) -> Result<Solved, LinearError> {
-    let rows = m.rows();
-    let cols = m.cols();
-    let right = rhs.rows();
-    assert!(rt; rows == cols && right == rows);
-    solve(alloc, m, rhs)
+/// The answer for the system of these entries, row by row, with so many right sides.
+fn solved(
+    rt: &impl Abort,
+    alloc: Global,
+    size: u32,
+    entries: &[Frac],
+    sides: u32,
+    right: &[Frac],
+) -> Result<Solved, LinearError> {
+    let m = matrix(rt, alloc, size, size, entries)?;
+    let rhs = matrix(rt, alloc, size, sides, right)?;
+    let (rows, cols, height) = (m.rows(), m.cols(), rhs.rows());
+    assert!(rt; rows == cols && height == rows);
+    solve(alloc, &m, &rhs)
+}
+
+/// The same for whole numbers.
+fn whole_solved(
+    rt: &impl Abort,
+    alloc: Global,
+    size: u32,
+    entries: &[i64],
+    sides: u32,
+    right: &[i64],
+) -> Result<Solved, LinearError> {
+    let left = wholes(alloc, entries)?;
+    let others = wholes(alloc, right)?;
+    solved(rt, alloc, size, left.as_slice(), sides, others.as_slice())
+}
+
+/// Whether those whole numbers have this one solution.
+fn is_solved(
+    rt: &impl Abort,
+    alloc: Global,
+    size: u32,
+    entries: &[i64],
+    sides: u32,
+    right: &[i64],
+    wanted: &[i64],
+) -> Result<bool, LinearError> {
+    match whole_solved(rt, alloc, size, entries, sides, right)? {
+        Solved::Unique(x) => Ok(is_matrix(rt, &x, wanted)),
+        Solved::Dependent(_) => Ok(false),
+    }
+}
+
+/// Whether this column of theirs depends on those before it.
+fn is_dependent(
+    rt: &impl Abort,
+    alloc: Global,
+    size: u32,
+    entries: &[i64],
+    sides: u32,
+    right: &[i64],
+    column: u32,
+) -> Result<bool, LinearError> {
+    match whole_solved(rt, alloc, size, entries, sides, right)? {
+        Solved::Unique(_) => Ok(false),
+        Solved::Dependent(found) => Ok(found == column),
+    }
 }
 
 fn product(rt: &impl Abort, alloc: Global, a: &Matrix, b: &Matrix) -> Result<Matrix, LinearError> {
@@ -98,134 +158,162 @@ fn product(rt: &impl Abort, alloc: Global, a: &Matrix, b: &Matrix) -> Result<Mat
     a.times(alloc, b)
 }
 
+/// The sum of the products of these entries, if it isn't wide.
+fn dot_of(
+    rt: &impl Abort,
+    alloc: Global,
+    x: &[Frac],
+    y: &[Frac],
+) -> Result<Option<Frac>, NoMemory> {
+    let left = vector(alloc, x)?;
+    let right = vector(alloc, y)?;
+    let (length, other) = (left.len(), right.len());
+    assert!(rt; length == other);
+    Ok(dot(&left, &right).ok())
+}
+
 #[test]
 fn adds_products(rt: HostRuntime) -> Result<(), Fail> {
-    let half = frac(&rt, 1, 2);
-    let third = frac(&rt, 1, 3);
-    let largest = frac(&rt, LARGEST, 1);
-    let one = Frac::whole(1);
-    assert!(rt; matches!(add_product(&one, &half, &third), Ok(v) if v == frac(&rt, 7, 6)));
-    assert!(rt; matches!(sub_product(&one, &half, &third), Ok(v) if v == frac(&rt, 5, 6)));
-    assert!(rt; add_product(&largest, &Frac::whole(0), &largest).is_ok());
-    assert!(rt; add_product(&largest, &one, &one).is_err());
-    let x = vector(rt.alloc(), &[half, third])?;
-    let y = vector(rt.alloc(), &[Frac::whole(2), Frac::whole(3)])?;
-    let wide = vector(rt.alloc(), &[largest, largest])?;
-    let (left, right, sum) = (x.len(), y.len(), wide.len());
-    assert!(rt; left == right && right == sum);
-    assert!(rt; matches!(dot(&x, &y), Ok(v) if v == Frac::whole(2)));
-    assert!(rt; matches!(dot_from(&one, x.as_slice(), y.as_slice()), Ok(v) if v == Frac::whole(3)));
-    assert!(rt; dot(&wide, &y).is_err());
+    let alloc = rt.alloc();
+    let (half, third) = (frac(&rt, 1, 2), frac(&rt, 1, 3));
+    let (largest, one) = (frac(&rt, LARGEST, 1), Frac::whole(1));
+    let (two, three) = (Frac::whole(2), Frac::whole(3));
+    for (found, wanted) in [
+        (add_product(&one, &half, &third).ok(), Some(frac(&rt, 7, 6))),
+        (sub_product(&one, &half, &third).ok(), Some(frac(&rt, 5, 6))),
+        (
+            add_product(&largest, &Frac::whole(0), &largest).ok(),
+            Some(largest),
+        ),
+        (add_product(&largest, &one, &one).ok(), None),
+        (
+            dot_from(&one, &[half, third], &[two, three]).ok(),
+            Some(three),
+        ),
+        (
+            dot_of(&rt, alloc, &[half, third], &[two, three])?,
+            Some(two),
+        ),
+        (
+            dot_of(&rt, alloc, &[largest, largest], &[two, three])?,
+            None,
+        ),
+    ] {
+        assert!(rt; found == wanted);
+    }
+    let x = vector(alloc, &[half, third])?;
     assert!(rt; !x.is_empty());
-    assert!(rt; left == 2);
+    assert!(rt; x.len() == 2);
     assert!(rt; *x.at(1) == third);
     Ok(())
+}
+
+/// Whether the product of two matrices of two rows and columns has these entries.
+fn is_product(
+    rt: &impl Abort,
+    alloc: Global,
+    left: &[i64],
+    right: &[i64],
+    wanted: &[i64],
+) -> Result<bool, LinearError> {
+    let a = whole_matrix(rt, alloc, 2, 2, left)?;
+    let b = whole_matrix(rt, alloc, 2, 2, right)?;
+    let c = product(rt, alloc, &a, &b)?;
+    let rows = c.rows();
+    assert!(rt; rows == 2);
+    Ok(c.row(1).len() == 2 && is_matrix(rt, &c, wanted))
 }
 
 #[test]
 fn multiplies(rt: HostRuntime) -> Result<(), Fail> {
     let alloc = rt.alloc();
-    let a = whole_matrix(&rt, alloc, 2, 2, &[1, 2, 3, 4])?;
-    let b = whole_matrix(&rt, alloc, 2, 2, &[5, 6, 7, 8])?;
-    let c = product(&rt, alloc, &a, &b)?;
-    assert!(rt; is_matrix(&rt, &c, &[19, 22, 43, 50]));
+    assert!(rt; is_product(&rt, alloc, &[1, 2, 3, 4], &[5, 6, 7, 8], &[19, 22, 43, 50])?);
     let tall = matrix(&rt, alloc, 2, 1, &[Frac::whole(1), frac(&rt, LARGEST, 1)])?;
     let two = whole_matrix(&rt, alloc, 1, 1, &[2])?;
     assert!(rt; matches!(product(&rt, alloc, &tall, &two), Err(LinearError::Wide(2))));
-    let rows = c.rows();
-    assert!(rt; rows == 2);
-    assert!(rt; c.row(1).len() == 2);
     Ok(())
 }
 
 #[test]
 fn solves(rt: HostRuntime) -> Result<(), Fail> {
     let alloc = rt.alloc();
-    let m = whole_matrix(&rt, alloc, 2, 2, &[0, 2, 3, 4])?;
-    let rhs = whole_matrix(&rt, alloc, 2, 1, &[2, 10])?;
-    let Solved::Unique(x) = solved(&rt, alloc, &m, &rhs)? else {
-        panic!(rt; "a regular matrix");
-    };
-    assert!(rt; is_matrix(&rt, &x, &[2, 1]));
-    let m = whole_matrix(&rt, alloc, 3, 3, &[1, 2, 3, 2, 4, 5, 1, 0, 1])?;
-    let rhs = whole_matrix(&rt, alloc, 3, 2, &[14, 0, 25, 0, 4, 0])?;
-    let Solved::Unique(x) = solved(&rt, alloc, &m, &rhs)? else {
-        panic!(rt; "a regular matrix");
-    };
-    assert!(rt; is_matrix(&rt, &x, &[1, 0, 2, 0, 3, 0]));
+    assert!(rt; is_solved(&rt, alloc, 2, &[0, 2, 3, 4], 1, &[2, 10], &[2, 1])?);
+    let m = [1, 2, 3, 2, 4, 5, 1, 0, 1];
+    let rhs = [14, 0, 25, 0, 4, 0];
+    assert!(rt; is_solved(&rt, alloc, 3, &m, 2, &rhs, &[1, 0, 2, 0, 3, 0])?);
     Ok(())
 }
 
 #[test]
 fn finds_dependent_columns(rt: HostRuntime) -> Result<(), Fail> {
     let alloc = rt.alloc();
-    let rhs = whole_matrix(&rt, alloc, 3, 1, &[1, 2, 3])?;
-    let rows = [
+    for (entries, column) in [
         ([0, 1, 0, 0, 0, 1, 0, 2, 3], 1),
         ([1, 2, 0, 2, 4, 1, 3, 6, 5], 2),
         ([1, 0, 1, 0, 1, 1, 1, 1, 2], 3),
-    ];
-    for (entries, column) in rows {
-        let m = whole_matrix(&rt, alloc, 3, 3, &entries)?;
-        let Solved::Dependent(found) = solved(&rt, alloc, &m, &rhs)? else {
-            panic!(rt; "column {column} depends on those before it");
-        };
-        assert_eq!(rt; found, column);
+    ] {
+        assert!(rt;
+            is_dependent(&rt, alloc, 3, &entries, 1, &[1, 2, 3], column)?,
+            "column {column} depends on those before it"
+        );
     }
-    let singular = whole_matrix(&rt, alloc, 1, 1, &[0])?;
-    let no_sides = Matrix::zero(alloc, 1, 0)?;
-    assert!(rt;
-        matches!(
-            solved(&rt, alloc, &singular, &no_sides)?,
-            Solved::Dependent(1)
-        )
-    );
+    assert!(rt; is_dependent(&rt, alloc, 1, &[0], 0, &[], 1)?);
     Ok(())
 }
 
 #[test]
-fn finds_wide_columns(rt: HostRuntime) -> Result<(), Fail> {
-    let alloc = rt.alloc();
+fn finds_wide_columns(rt: HostRuntime) {
     let (zero, one) = (Frac::whole(0), Frac::whole(1));
     let (largest, least) = (frac(&rt, LARGEST, 1), frac(&rt, 1, LARGEST));
-    let m = matrix(
-        &rt,
-        alloc,
-        2,
-        2,
-        &[one, largest, one, frac(&rt, -LARGEST, 1)],
-    )?;
-    let rhs = whole_matrix(&rt, alloc, 2, 1, &[0, 0])?;
-    assert!(rt; matches!(solved(&rt, alloc, &m, &rhs), Err(LinearError::Wide(1))));
-    let m = matrix(&rt, alloc, 2, 2, &[one, zero, zero, largest])?;
-    let rhs = matrix(&rt, alloc, 2, 1, &[zero, least])?;
-    assert!(rt; matches!(solved(&rt, alloc, &m, &rhs), Err(LinearError::Wide(2))));
-    Ok(())
+    for (entries, right, column) in [
+        ([one, largest, one, frac(&rt, -LARGEST, 1)], [zero, zero], 1),
+        ([one, zero, zero, largest], [zero, least], 2),
+    ] {
+        let found = solved(&rt, rt.alloc(), 2, &entries, 1, &right);
+        assert_eq!(rt; found.err(), Some(LinearError::Wide(column)));
+    }
+}
+
+/// Whether the form of these entries has these numerators over this denominator.
+fn is_common(
+    alloc: Global,
+    entries: &[Frac],
+    numerators: &[i128],
+    denominator: i128,
+) -> Result<bool, LinearError> {
+    let form = vector(alloc, entries)?;
+    let IntAffine { den, k } = common(alloc, &form)?;
+    Ok(den == denominator && k.as_slice() == numerators)
+}
+
+/// Whether the row of these entries and this right side is this one in whole numbers.
+fn is_primitive(
+    alloc: Global,
+    entries: &[Frac],
+    right: &Frac,
+    wanted: &[i128],
+    side: i128,
+) -> Result<bool, LinearError> {
+    let left = vector(alloc, entries)?;
+    let RowInt { a, b } = primitive(alloc, &left, right)?;
+    Ok(b == side && a.len() == wanted.len() && !a.is_empty() && a.as_slice() == wanted)
 }
 
 #[test]
 fn writes_whole_numbers(rt: HostRuntime) -> Result<(), Fail> {
     let alloc = rt.alloc();
     let (half, third) = (frac(&rt, 1, 2), frac(&rt, -1, 3));
-    let form = vector(alloc, &[half, third, Frac::whole(2)])?;
-    let IntAffine { den, k } = common(alloc, &form)?;
-    assert!(rt; den == 6);
-    assert!(rt; k.as_slice() == [3i128, -2, 12].as_slice());
-    let wide = vector(alloc, &[frac(&rt, 1, LARGEST), half])?;
-    assert!(rt; matches!(common(alloc, &wide), Err(LinearError::Wide(0))));
-    let a = vector(alloc, &[half, third])?;
-    let RowInt { a: row, b } = primitive(alloc, &a, &frac(&rt, 5, 6))?;
-    assert!(rt; b == 5);
-    assert!(rt; row.as_slice() == [3i128, -2].as_slice());
-    let a = vector(alloc, &[Frac::whole(2), Frac::whole(-4)])?;
-    let RowInt { a: row, b } = primitive(alloc, &a, &Frac::whole(6))?;
-    assert!(rt; b == 3);
-    assert!(rt; row.as_slice() == [1i128, -2].as_slice());
-    assert!(rt; row.len() == 2 && !row.is_empty());
-    let none = vector(alloc, &[Frac::whole(0)])?;
-    let RowInt { a: row, b } = primitive(alloc, &none, &Frac::whole(0))?;
-    assert!(rt; b == 0);
-    assert!(rt; row.as_slice() == [0i128].as_slice());
-    assert!(rt; matches!(primitive(alloc, &wide, &half), Err(LinearError::Wide(0))));
+    let (zero, two) = (Frac::whole(0), Frac::whole(2));
+    let wide = [frac(&rt, 1, LARGEST), half];
+    assert!(rt; is_common(alloc, &[half, third, two], &[3, -2, 12], 6)?);
+    assert!(rt; is_common(alloc, &wide, &[], 1) == Err(LinearError::Wide(0)));
+    for (entries, right, wanted, side) in [
+        ([half, third], frac(&rt, 5, 6), [3, -2], 5),
+        ([two, Frac::whole(-4)], Frac::whole(6), [1, -2], 3),
+    ] {
+        assert!(rt; is_primitive(alloc, &entries, &right, &wanted, side)?);
+    }
+    assert!(rt; is_primitive(alloc, &[zero], &zero, &[0], 0)?);
+    assert!(rt; is_primitive(alloc, &wide, &half, &[], 0) == Err(LinearError::Wide(0)));
     Ok(())
 }

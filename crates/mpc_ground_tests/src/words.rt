@@ -25,69 +25,61 @@ fn cuts_lines_and_words(rt: HostRuntime) -> Result<(), Fail> {
 
 #[test]
 fn reads_naturals(rt: HostRuntime) {
-    assert_eq!(rt; read_natural(b"0"), Natural::Small(0));
-    assert_eq!(rt;
-        read_natural(b"18446744073709551615"),
-        Natural::Small(u64::MAX)
-    );
-    assert_eq!(rt; read_natural(b"18446744073709551616"), Natural::Large);
-    assert_eq!(rt;
-        read_natural(b"123456789012345678901234567890"),
-        Natural::Large
-    );
-    assert_eq!(rt;
-        read_natural(b"1234567890123456789012345678901234567890"),
-        Natural::Large
-    );
-    for word in [
-        b"".as_slice(),
-        b"01",
-        b"00",
-        b"+1",
-        b"-1",
-        b"1 ",
-        b"1a",
-        b"a",
-        b"1/1",
+    for (word, wanted) in [
+        (b"0".as_slice(), Natural::Small(0)),
+        (b"18446744073709551615", Natural::Small(u64::MAX)),
+        (b"18446744073709551616", Natural::Large),
+        (b"123456789012345678901234567890", Natural::Large),
+        (b"1234567890123456789012345678901234567890", Natural::Large),
+        (b"", Natural::Misspelled),
+        (b"01", Natural::Misspelled),
+        (b"00", Natural::Misspelled),
+        (b"+1", Natural::Misspelled),
+        (b"-1", Natural::Misspelled),
+        (b"1 ", Natural::Misspelled),
+        (b"1a", Natural::Misspelled),
+        (b"a", Natural::Misspelled),
+        (b"1/1", Natural::Misspelled),
     ] {
-        assert_eq!(rt; read_natural(word), Natural::Misspelled);
+        assert_eq!(rt; read_natural(word), wanted);
     }
 }
 
 #[test]
 fn reads_integers(rt: HostRuntime) {
-    assert_eq!(rt; read_integer(b"0"), Some(0));
-    assert_eq!(rt; read_integer(b"-7"), Some(-7));
-    assert_eq!(rt;
-        read_integer(b"170141183460469231731687303715884105727"),
-        Some(i128::MAX)
-    );
-    assert_eq!(rt;
-        read_integer(b"-170141183460469231731687303715884105727"),
-        Some(-i128::MAX)
-    );
-    for word in [
-        b"170141183460469231731687303715884105728".as_slice(),
-        b"-170141183460469231731687303715884105728",
-        b"-0",
-        b"",
-        b"-",
-        b"--1",
-        b"+1",
-        b"01",
-        b"-01",
-        b"1/2",
+    for (word, wanted) in [
+        (b"0".as_slice(), Some(0)),
+        (b"-7", Some(-7)),
+        (b"170141183460469231731687303715884105727", Some(i128::MAX)),
+        (
+            b"-170141183460469231731687303715884105727",
+            Some(-i128::MAX),
+        ),
+        (b"170141183460469231731687303715884105728", None),
+        (b"-170141183460469231731687303715884105728", None),
+        (b"-0", None),
+        (b"", None),
+        (b"-", None),
+        (b"--1", None),
+        (b"+1", None),
+        (b"01", None),
+        (b"-01", None),
+        (b"1/2", None),
     ] {
-        assert!(rt; read_integer(word).is_none());
+        assert_eq!(rt; read_integer(word), wanted);
     }
 }
 
 #[test]
 fn reads_fractions(rt: HostRuntime) {
-    assert!(rt; is_fraction(b"0", 0, 1));
-    assert!(rt; is_fraction(b"-1/2", -1, 2));
-    assert!(rt; is_fraction(b"3/170141183460469231731687303715884105727", 3, i128::MAX));
-    assert!(rt; is_fraction(b"170141183460469231731687303715884105727", i128::MAX, 1));
+    for (word, num, den) in [
+        (b"0".as_slice(), 0, 1),
+        (b"-1/2", -1, 2),
+        (b"3/170141183460469231731687303715884105727", 3, i128::MAX),
+        (b"170141183460469231731687303715884105727", i128::MAX, 1),
+    ] {
+        assert!(rt; is_fraction(word, num, den));
+    }
     for word in [
         b"2/4".as_slice(),
         b"1/1",
