@@ -17,12 +17,12 @@ ghost use Rattle.mpc_fleet.specs.Seats.{AreNumbered, Ended, Fresh};
 
 use crate::seats::Seat;
 use crate::waiting::{Listener, News, threads_for};
-use mpc_claim::{Claimed, Ticket, claim_laws, legal_laws};
+use mpc_claim::{Claimed, Ticket, claim_laws};
 use mpc_frac::NoMemory;
 use mpc_port::Gate;
 use mpc_region::Examiner;
 use mpc_rows::Qp;
-use mpc_turn::{Pass, Turn};
+use mpc_turn::{Pass, Turn, hand_laws};
 use std::alloc::Global;
 use std::sync::Wait;
 use std::thread;
@@ -121,7 +121,7 @@ fn try_program<T: Wait, G: Gate>(
     ensures idle { result ≡ Ok IdleFound → IsIdle qp.now pass.new.seen }
     ensures ended { result ≡ Ok EndFound → HasEnd qp.now pass.new.seen }
 {
-    legal_laws();
+    hand_laws();
     claim_laws();
     match turn.claim_as(rt, pass) {
         Ok(Claimed::Job(ticket)) => {

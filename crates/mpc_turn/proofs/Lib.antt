@@ -4,3 +4,4 @@ pub mod Lending
 pub mod Once
 pub mod Calls
 pub mod Slot
+pub mod Hands

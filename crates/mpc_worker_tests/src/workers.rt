@@ -5,12 +5,12 @@ ghost use Rattle.mpc_space.specs.Definite.{IsDefinite};
 ghost use Rattle.mpc_turn.specs.Views.{hand_of};
 
 use crate::programs::{is_positive_number, limited};
-use mpc_claim::{Action, Claimed, EventKind, Phase, Played, Registry, World, legal_laws};
+use mpc_claim::{Action, Claimed, EventKind, Phase, Played, Registry, World};
 use mpc_port::{Gate, OpenGate};
 use mpc_region::examine;
 use mpc_rows::Qp;
 use mpc_sets::ActiveSet;
-use mpc_turn::{Pass, Turn};
+use mpc_turn::{Pass, Turn, hand_laws};
 use mpc_workers::{WorkError, enumerate, enumerate_alone};
 use std::alloc::Global;
 use std::process::Abort;
@@ -124,7 +124,7 @@ fn finds_idle<T: Wait>(rt: &T, turn: &Turn, pass: &mut Pass) -> bool
     requires turn { pass.old.turn ≡ turn.now }
     requires empty { hand_of pass.old.calls ≡ [] }
 {
-    legal_laws();
+    hand_laws();
     match turn.claim_as(rt, pass) {
         Ok(Claimed::Job(ticket)) => {
             let _ = turn.abandon_as(rt, pass, ticket);
@@ -143,7 +143,7 @@ fn held_alone<T: Wait>(rt: &T, turn: &Turn, first: &mut Pass, other: &mut Pass) 
     requires turn { (first.old.turn ≡ turn.now) × (other.old.turn ≡ turn.now) }
     requires empty { (hand_of first.old.calls ≡ []) × (hand_of other.old.calls ≡ []) }
 {
-    legal_laws();
+    hand_laws();
     match turn.claim_as(rt, first) {
         Ok(Claimed::Job(ticket)) => {
             let mask = ticket.set().mask();

@@ -1,4 +1,4 @@
--- What a claim and its end do to a hand and to a seat.
+-- What a claim and its end do to a seat.
 use Rattle.std.proofs.Common.{◌≡◌, ◌≤◌, ℕ, ◌+◌, ◌-◌, List, [], ◌∷◌, ◌++◌, map, length, Bool, true, false, Some, Ok, All, refl, sym, ap, ◌∙◌, subst, arith, eq-eqb}
 use Rattle.std.specs.Prelude.{slice_get, if◌then◌else◌}
 use Rattle.std.proofs.lemmas.List.Elements.{All-push}
@@ -16,57 +16,10 @@ use Rattle.mpc_claim.specs.OpenClaims.{Held, held_by, same_set, same, without, o
 use Rattle.mpc_claim.specs.HistoryLaws.{AppendLaws, CandidateLaws}
 use Rattle.mpc_turn.specs.Views.{Call, hand_of}
 use Rattle.mpc_turn.specs.Known.{Known, TurnId, ClaimedAs, EndedAs, InHand, called}
+use Rattle.mpc_turn.specs.HandLaws.{ClaimFills, EndEmpties}
 use Rattle.mpc_workers.specs.declared.pool.Seat.{Seat}
 use Rattle.mpc_workers.specs.Seats.{IsWorker, GivesNoneUp, TakesTurns, IsSeat}
 use Rattle.mpc_workers.proofs.Holding.{turns_more}
-
--- ---- hands, call by call
-open_after-push : (held : List Held) (es : List Event) (e : Event) → open_after held (es ++ e ∷ []) ≡ opened (open_after held es) e
-open_after-push held [] e = refl
-open_after-push held (x ∷ es) e = open_after-push (opened held x) es e
-
-events-push : (cs : List Call) (c : Call) → map (λ (x : Call). x.1) (cs ++ c ∷ []) ≡ map (λ (x : Call). x.1) cs ++ c.1 ∷ []
-events-push [] c = refl
-events-push (x ∷ cs) c = ap (λ l. x.1 ∷ l) (events-push cs c)
-
-hand_of-push : (cs : List Call) (k : ℕ) (e : Event) → hand_of (cs ++ (k, e) ∷ []) ≡ opened (hand_of cs) e
-hand_of-push cs k e = ap open_of (events-push cs (k, e)) ∙ open_after-push [] (map (λ (x : Call). x.1) cs) e
-
-same_set-refl : (s : List ℕ) → same_set s s ≡ true
-same_set-refl [] = refl
-same_set-refl (i ∷ s) = rw (eq-eqb i i refl) (same_set-refl s)
-
-same-refl : (h : Held) → same h h ≡ true
-same-refl h = rw (eq-eqb h.0 h.0 refl) (same_set-refl h.1)
-
-get_last : (xs : List (List ℕ)) (x : List ℕ) → slice_get (xs ++ x ∷ []) (length xs) ≡ Some x
-get_last [] x = refl
-get_last (y ∷ xs) x = get_last xs x
-
-module _ (a b : Known) (t : Ticket) where
-  pub claimed_hand : hand_of a.calls ≡ [] → ClaimedAs a (Ok (Job t)) b → hand_of b.calls ≡ held_by t ∷ []
-  claimed_hand none c =
-      ap (λ (k : Known). hand_of k.calls) c.2
-      ∙ (hand_of-push a.calls (length c.0) (event a.worker t.set Claim)
-      ∙ (ap (λ (l : List Held). l ++ (a.worker, t.set) ∷ []) none ∙ ap (λ (w : ℕ). (w, t.set) ∷ []) (sym (ap (λ (x : Ticket). x.worker) c.3))))
-
-  pub in_hand : AppendLaws → hand_of a.calls ≡ [] → ClaimedAs a (Ok (Job t)) b → InHand t b
-  in_hand appended none c =
-      let number : t.number ≡ length (claimed_sets c.0) + 1 = ap (λ (x : Ticket). x.number) c.3 in
-      let place : t.number - 1 ≡ length (claimed_sets c.0) = omega (arith, number) in
-      let listed : claimed_sets b.seen ≡ claimed_sets c.0 ++ t.set ∷ [] = ap (λ (k : Known). claimed_sets k.seen) c.2 ∙ appended.claimed c.0 (event a.worker t.set Claim ∷ []) in
-      record {
-        held = rw (claimed_hand none c) (rw (same-refl (held_by t)) refl);
-        from_one = omega (arith, number);
-        numbered = ap (slice_get (claimed_sets b.seen)) place ∙ (ap (λ l. slice_get l (length (claimed_sets c.0))) listed ∙ get_last (claimed_sets c.0) t.set);
-      }
-
-  pub ended_hand : (kind : EventKind) → is_claim kind ≡ false → hand_of a.calls ≡ held_by t ∷ [] → EndedAs a t kind b → hand_of b.calls ≡ []
-  ended_hand kind ends one d =
-      ap (λ (k : Known). hand_of k.calls) d.2
-      ∙ (hand_of-push a.calls (length d.0) (event t.worker t.set kind)
-      ∙ (ap (λ (c : Bool). if c then hand_of a.calls ++ held_by t ∷ [] else without (held_by t) (hand_of a.calls)) ends
-      ∙ (ap (without (held_by t)) one ∙ rw (same-refl (held_by t)) refl)))
 
 -- ---- one set of a seat, from its claim to its end
 module _ (turn : TurnId) (qp : Qp) (most : ℕ) (s : Seat) (t : Ticket) (middle last : Known) (i : IsSeat turn qp most s) (fresh : s.failed ≡ false) (c : ClaimedAs s.pass (Ok (Job t)) middle) where
@@ -82,8 +35,8 @@ module _ (turn : TurnId) (qp : Qp) (most : ℕ) (s : Seat) (t : Ticket) (middle 
   pub middle_program : middle.program ≡ qp
   middle_program = ap (λ (k : Known). k.program) c.2 ∙ i.program
 
-  pub one_job : (kind : EventKind) (failed : Bool) → is_claim kind ≡ false → (failed ≡ false → is_drop kind ≡ false) → EndedAs middle t kind last → IsSeat turn qp most record { pass = last; failed = failed }
-  one_job kind failed ends kept d =
+  pub one_job : ClaimFills → EndEmpties → (kind : EventKind) (failed : Bool) → is_claim kind ≡ false → (failed ≡ false → is_drop kind ≡ false) → EndedAs middle t kind last → IsSeat turn qp most record { pass = last; failed = failed }
+  one_job fills empties kind failed ends kept d =
       let e = event s.pass.worker t.set Claim in
       let e' = event t.worker t.set kind in
       let is : last ≡ called (called s.pass c.0 e) d.0 e' = d.2 ∙ ap (λ (k : Known). called k d.0 e') c.2 in
@@ -91,7 +44,7 @@ module _ (turn : TurnId) (qp : Qp) (most : ℕ) (s : Seat) (t : Ticket) (middle 
       record {
         turn_is = ap (λ (k : Known). k.turn) is ∙ i.turn_is;
         other = ap (λ (k : Known). k.first) is ∙ i.other;
-        empty = ended_hand middle last t kind ends (claimed_hand s.pass middle t i.empty c) d;
+        empty = empties middle last t kind ends (fills s.pass middle t i.empty c) d;
         alone = ap (λ (k : Known). k.ended) is ∙ i.alone;
         program = ap (λ (k : Known). k.program) is ∙ i.program;
         worker = subst (λ (k : Known). IsWorker most k.worker) (sym is) i.worker;

@@ -15,7 +15,7 @@ use mpc_frac::NoMemory;
 use mpc_port::Gate;
 use mpc_region::Examiner;
 use mpc_rows::Qp;
-use mpc_turn::{Pass, Turn};
+use mpc_turn::{Pass, Turn, hand_laws};
 use std::alloc::Global;
 use std::sync::Wait;
 use std::sync::atomic::{AtomicU64, Ordering};
@@ -144,7 +144,7 @@ fn work<T: Wait, G: Gate>(
     ensures ended { Ended turn.now qp.now _workers seat.new }
     ensures worker { seat.new.pass.worker ≡ seat.old.pass.worker }
 {
-    legal_laws();
+    hand_laws();
     claim_laws();
     let Ok(mut examiner) = Examiner::begin(alloc, qp) else {
         seat.failed = true;

@@ -78,25 +78,9 @@ nodes-preserved-in-Ok-Split c =
     }
 
 pub returns-in-None-clause-built : goal.returns-in-None-clause-built
-
-pub nodes-smaller-in-Ok-Split : goal.nodes-smaller-in-Ok-Split
-nodes-smaller-in-Ok-Split c =
-    let s : IsSplitAt c.args.qp.now c.args.laws.now c.args.borders.now (record { rows = c.nodes.cell.rows.items; next = c.nodes.next }) c.in-Ok-Split.place c.in-Ok-Split.row = (rw c.in-Ok-Split.field-0-is at c.in-Ok-Split.ensures.placed).0 in
-    smaller_at c.args.qp.now c.args.laws.now c.args.borders.now c.requires.borders (record { rows = c.nodes.cell.rows.items; next = c.nodes.next }) c.in-Ok-Split.place c.in-Ok-Split.row s (record { rows = c.args.cell.rows.items; next = c.args.next }) c.nodes.tree c.nodes.sides.items c.nodes.held c.nodes.invariant.grown c.in-Ok-Split.run' c.index-rows-row.result (row_read c.args.qp.now c.args.laws.now c.args.borders.now c.requires.borders (record { rows = c.nodes.cell.rows.items; next = c.nodes.next }) c.in-Ok-Split.place c.in-Ok-Split.row s c.as_slice-rows.result.now c.index-rows-row.result (rows_read c.args.qp.now c.args.laws.now c.args.borders.now c.requires.borders (record { rows = c.nodes.cell.rows.items; next = c.nodes.next }) c.in-Ok-Split.place c.in-Ok-Split.row s c.index-borders-place.result c.as_slice-rows.result.now c.index-borders-place.is c.as_slice-rows.ensures) c.index-rows-row.is) c.open_split.new.sides.items c.in_ok-open_split-in-Ok-Split.ensures.sides
-
-pub nodes-preserved-in-Ok-Split : goal.nodes-preserved-in-Ok-Split
-nodes-preserved-in-Ok-Split c =
-    let s : IsSplitAt c.args.qp.now c.args.laws.now c.args.borders.now (record { rows = c.nodes.cell.rows.items; next = c.nodes.next }) c.in-Ok-Split.place c.in-Ok-Split.row = (rw c.in-Ok-Split.field-0-is at c.in-Ok-Split.ensures.placed).0 in
-    let row : c.index-rows-row.result ≡ s.row = row_read c.args.qp.now c.args.laws.now c.args.borders.now c.requires.borders (record { rows = c.nodes.cell.rows.items; next = c.nodes.next }) c.in-Ok-Split.place c.in-Ok-Split.row s c.as_slice-rows.result.now c.index-rows-row.result (rows_read c.args.qp.now c.args.laws.now c.args.borders.now c.requires.borders (record { rows = c.nodes.cell.rows.items; next = c.nodes.next }) c.in-Ok-Split.place c.in-Ok-Split.row s c.index-borders-place.result c.as_slice-rows.result.now c.index-borders-place.is c.as_slice-rows.ensures) c.index-rows-row.is in
-    record {
-      grown = grown_at c.args.qp.now c.args.laws.now c.args.borders.now c.requires.borders (record { rows = c.nodes.cell.rows.items; next = c.nodes.next }) c.in-Ok-Split.place c.in-Ok-Split.row s c.cell_laws.ensures (record { rows = c.args.cell.rows.items; next = c.args.next }) c.nodes.tree c.nodes.sides.items c.nodes.held c.nodes.invariant.grown c.in-Ok-Split.run' (rw c.in-Ok-Split.field-0-is at c.in-Ok-Split.ensures.placed).1 c.index-rows-row.result row c.open_split.new.tree c.open_split.new.cell.rows.items c.open_split.new.sides.items c.in_ok-open_split-in-Ok-Split.ensures.tree c.in_ok-open_split-in-Ok-Split.ensures.cell c.in_ok-open_split-in-Ok-Split.ensures.sides;
-      run = subst (λ rows. IsRunOf c.args.qp.now rows c.open_split.new.cell.run) (sym c.in_ok-open_split-in-Ok-Split.ensures.cell) (narrowed c.args.qp.now c.nodes.cell.rows.items c.nodes.cell.run c.nodes.invariant.run (whole_row c.index-rows-row.result) c.open_split.new.cell.run c.in_ok-open_split-in-Ok-Split.ensures.run);
-    }
-
-pub returns-in-None-clause-built : goal.returns-in-None-clause-built
 returns-in-None-clause-built c =
     let l : IsLeafAt c.args.qp.now c.args.laws.now (record { rows = c.nodes.cell.rows.items; next = c.nodes.next }) c.in-Ok-Leaf.leaf = (rw c.in-Ok-Leaf.field-0-is at c.in-Ok-Leaf.ensures.placed) in
-    last_at c.args.qp.now c.args.laws.now (record { rows = c.args.cell.rows.items; next = c.args.next }) c.args.borders.now c.nodes.tree c.push.new.self (record { rows = c.nodes.cell.rows.items; next = c.nodes.next }) c.nodes.sides.items c.nodes.held c.in-Ok-Leaf.leaf c.nodes.invariant.grown l (c.in-None.ensures.items ∙ append-nil c.pop.new.self.items ∙ c.in-None.ensures.rest ∙ ap (λ n. take (n - 1) c.nodes.sides.items) c.in-None.ensures.cases.0) c.in_ok-push-in-Ok-Leaf.ensures.ok
+    last_at c.args.qp.now c.args.laws.now (record { rows = c.args.cell.rows.items; next = c.args.next }) c.args.borders.now c.nodes.tree c.shrink_to_fit.new.self (record { rows = c.nodes.cell.rows.items; next = c.nodes.next }) c.nodes.sides.items c.nodes.held c.in-Ok-Leaf.leaf c.nodes.invariant.grown l (c.in-None.ensures.items ∙ append-nil c.pop.new.self.items ∙ c.in-None.ensures.rest ∙ ap (λ n. take (n - 1) c.nodes.sides.items) c.in-None.ensures.cases.0) (c.shrink_to_fit.ensures ∙ c.in_ok-push-in-Ok-Leaf.ensures.ok)
 
 pub nodes-smaller : goal.nodes-smaller
 nodes-smaller c =
