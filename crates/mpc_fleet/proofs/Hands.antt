@@ -1,19 +1,15 @@
 -- What a claim and its end do to a pass.
-use Rattle.std.proofs.Common.{◌≡◌, ℕ, ◌+◌, ◌-◌, List, [], ◌∷◌, ◌++◌, map, length, Bool, true, false, true≢false, Some, Ok, All, refl, sym, ap, ◌∙◌, subst, arith, eq-eqb}
-use Rattle.std.specs.Prelude.{slice_get, if◌then◌else◌}
+use Rattle.std.proofs.Common.{◌≡◌, ℕ, [], ◌∷◌, ◌++◌, length, Bool, true, false, true≢false, Ok, All, refl, sym, ap, ◌∙◌, subst}
 use Rattle.std.proofs.lemmas.List.Elements.{All-push, All-nil}
 use Rattle.mpc_rows.specs.declared.programs.Qp.{Qp}
-use Rattle.mpc_claim.specs.declared.events.Event.{Event}
 use Rattle.mpc_claim.specs.declared.events.EventKind.{EventKind}
 use Rattle.mpc_claim.specs.declared.events.EventKind.TheVariants.{Claim}
 use Rattle.mpc_claim.specs.declared.tickets.Ticket.{Ticket}
 use Rattle.mpc_claim.specs.declared.tickets.Claimed.TheVariants.{Job}
 use Rattle.mpc_claim.specs.Board.{event}
-use Rattle.mpc_claim.specs.History.{is_claim, is_drop, claimed_sets}
-use Rattle.mpc_claim.specs.OpenClaims.{Held, held_by, same_set, same, without, opened, open_after, open_of}
-use Rattle.mpc_claim.specs.HistoryLaws.{AppendLaws}
-use Rattle.mpc_turn.specs.Views.{Call, hand_of}
-use Rattle.mpc_turn.specs.Known.{Known, TurnId, ClaimedAs, EndedAs, InHand, called}
+use Rattle.mpc_claim.specs.History.{is_claim, is_drop}
+use Rattle.mpc_turn.specs.Views.{Call}
+use Rattle.mpc_turn.specs.Known.{Known, TurnId, ClaimedAs, EndedAs, called}
 use Rattle.mpc_turn.specs.HandLaws.{ClaimFills, EndEmpties}
 use Rattle.mpc_workers.specs.Seats.{GivesNoneUp, TakesTurns}
 use Rattle.mpc_fleet.specs.Passes.{IsPassOf, opening}
