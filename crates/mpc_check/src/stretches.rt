@@ -20,8 +20,8 @@ use std::thread::Threads;
 /// The most stretches of a tree, each of which may take a thread.
 const MOST_STRETCHES: usize = 16;
 
-/// The fewest nodes for which a thread of their own is worth its start.
-const FEWEST_NODES: usize = 16;
+/// The fewest nodes for which a thread of their own is worth its start: they take some milliseconds.
+const FEWEST_NODES: usize = 1024;
 
 /// Neighbouring nodes of a tree: those at the places `from`, counted from 0, to before `to`.
 #[derive(Clone, Copy, Debug, Drop)]

@@ -92,7 +92,7 @@ fn refuses_leaves(rt: HostRuntime) -> Result<(), Fail> {
 
 /// The position of the row that always holds in the system of a leaf under so many splits, but of another row at two depths.
 fn position(depth: u64, first: u64, second: u64) -> u64
-    requires { depth ≤ 1000 }
+    requires { depth ≤ 2000 }
 {
     if depth == first || depth == second {
         1
@@ -101,27 +101,27 @@ fn position(depth: u64, first: u64, second: u64) -> u64
     }
 }
 
-/// A chain of 24 splits `t <= 0`, each on the no side of the one before it, whose leaves have the first law. The leaves under so many splits
+/// A chain of 1100 splits `t <= 0`, each on the no side of the one before it, whose leaves have the first law. The leaves under so many splits
 /// as `first` and `second` say have the certificate of another row, which refutes nothing.
 fn chain(alloc: Global, first: u64, second: u64) -> Result<Vec<u8>, Fail> {
     let mut text = Vec::from_slice(alloc, ABOVE_CHAIN)?;
-    for depth in 1..25 {
+    for depth in 1..1101 {
         let place = position(depth, first, second);
         let nodes = format!(in alloc; "split 1 0\nleaf 1\ncert {place} 1\n")?;
         text.extend_from_slice(nodes.as_bytes())?;
     }
-    repeat(&mut text, b"leaf 1\ncert 27 1\nend\n", 1)?;
+    repeat(&mut text, b"leaf 1\ncert 1103 1\nend\n", 1)?;
     Ok(text)
 }
 
-// 49 nodes are three stretches. Node 20 is in the second, node 40 in the third.
+// 2201 nodes are two stretches. Node 600 is in the first, node 1600 in the second.
 #[test]
 fn checks_stretches(rt: HostRuntime) -> Result<(), Fail> {
     let alloc = rt.alloc();
     let right = chain(alloc, 0, 0)?;
     assert!(rt; found(&rt, alloc, right.as_slice())? == Answer::Accepted);
-    let wrong = chain(alloc, 20, 10)?;
-    let first = Answer::Refused(Spot::LeafRow { node: 20, row: 1 });
+    let wrong = chain(alloc, 800, 300)?;
+    let first = Answer::Refused(Spot::LeafRow { node: 600, row: 1 });
     assert!(rt; found(&rt, alloc, wrong.as_slice())? == first);
     Ok(())
 }
