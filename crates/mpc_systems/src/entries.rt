@@ -83,7 +83,7 @@ fn axis_entry(i: usize, j: usize, value: &Frac) -> Frac
 pub fn axis(alloc: Global, width: usize, i: usize, value: &Frac) -> Result<Vector, NoMemory>
     ensures { IfOk result (λ a. a ≡ axis width i value.now) }
 {
-    let mut a = Vector::new(alloc);
+    let mut a = Vector::with_capacity(alloc, width)?;
     for j in 0..width {
         a.push(axis_entry(i, j, value))?;
     }

@@ -54,7 +54,7 @@ pub fn whole_row(alloc: Global, row: &RowInt) -> Result<Row, NoMemory>
     requires b_small { unsigned_abs row.now.b < 2 ^ 127 }
     ensures { IfOk result (λ r. r ≡ whole_row row.now) }
 {
-    let mut a = Vector::new(alloc);
+    let mut a = Vector::with_capacity(alloc, row.a.len())?;
     push_wholes(&mut a, row.a.as_slice())?;
     Ok(Row {
         a,
@@ -69,7 +69,7 @@ pub fn broken_row(alloc: Global, row: &RowInt) -> Result<Row, NoMemory>
     requires b_small { unsigned_abs row.now.b < 2 ^ 127 }
     ensures { IfOk result (λ r. r ≡ broken_row row.now) }
 {
-    let mut a = Vector::new(alloc);
+    let mut a = Vector::with_capacity(alloc, row.a.len())?;
     push_negated_wholes(&mut a, row.a.as_slice())?;
     Ok(Row {
         a,
@@ -84,7 +84,7 @@ pub fn widened_whole_row(alloc: Global, row: &RowInt, more: u32) -> Result<Row, 
     requires b_small { unsigned_abs row.now.b < 2 ^ 127 }
     ensures { IfOk result (λ r. r ≡ widened more (whole_row row.now)) }
 {
-    let mut a = Vector::new(alloc);
+    let mut a = Vector::with_capacity(alloc, row.a.len().saturating_add(more as usize))?;
     push_wholes(&mut a, row.a.as_slice())?;
     push_zeros(&mut a, more)?;
     Ok(Row {
@@ -100,7 +100,7 @@ pub fn widened_broken_row(alloc: Global, row: &RowInt, more: u32) -> Result<Row,
     requires b_small { unsigned_abs row.now.b < 2 ^ 127 }
     ensures { IfOk result (λ r. r ≡ widened more (broken_row row.now)) }
 {
-    let mut a = Vector::new(alloc);
+    let mut a = Vector::with_capacity(alloc, row.a.len().saturating_add(more as usize))?;
     push_negated_wholes(&mut a, row.a.as_slice())?;
     push_zeros(&mut a, more)?;
     Ok(Row {
@@ -121,9 +121,10 @@ pub fn joint_row(alloc: Global, qp: &Qp, i: u32) -> Result<Row, NoMemory>
 {
     prove!(i <= qp.g.rows() && i <= qp.w.rows() && qp.w.cols() > 0);
     let right = qp.w.row(i - 1);
-    let mut a = Vector::new(alloc);
+    let left = qp.g.row(i - 1);
+    let mut a = Vector::with_capacity(alloc, right.len().saturating_add(left.len()))?;
     push_negatives(&mut a, &right[1..])?;
-    push_entries(&mut a, qp.g.row(i - 1))?;
+    push_entries(&mut a, left)?;
     Ok(Row {
         a,
         b: right[0],
@@ -138,7 +139,7 @@ pub fn turned(alloc: Global, row: &Row) -> Result<Row, NoMemory>
     ensures row { IfOk result (λ r. r ≡ turned row.now) }
     ensures size { IfOk result (λ r. length r.a ≡ length row.now.a) }
 {
-    let mut a = Vector::new(alloc);
+    let mut a = Vector::with_capacity(alloc, row.a.len())?;
     push_negatives(&mut a, row.a.as_slice())?;
     Ok(Row {
         a,
@@ -151,7 +152,7 @@ pub fn turned(alloc: Global, row: &Row) -> Result<Row, NoMemory>
 pub fn widened(alloc: Global, row: &Row, more: u32) -> Result<Row, NoMemory>
     ensures { IfOk result (λ r. r ≡ widened more row.now) }
 {
-    let mut a = Vector::new(alloc);
+    let mut a = Vector::with_capacity(alloc, row.a.len().saturating_add(more as usize))?;
     push_entries(&mut a, row.a.as_slice())?;
     push_zeros(&mut a, more)?;
     Ok(Row {
