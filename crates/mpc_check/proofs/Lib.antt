@@ -24,3 +24,4 @@ pub mod StretchLemmas
 pub mod SideLemmas
 pub mod PivotPlaces
 pub mod OneFinding
+pub mod TestLemmas

@@ -24,7 +24,7 @@ use mpc_systems::broken_row;
 use std::alloc::Global;
 
 /// Whether each position that the certificate names is that of one of so many rows.
-fn has_positions_in(cert: &Cert, rows: u128) -> bool
+pub(crate) fn has_positions_in(cert: &Cert, rows: u128) -> bool
     ensures within { IsTrue result ↔ HasPositionsIn rows cert.now }
     ensures rises { IsCert cert.now }
 {

@@ -11,6 +11,8 @@ mod laws;
 mod leaves;
 mod rows;
 mod stretches;
+#[cfg(test)]
+mod tests;
 mod ways;
 mod whole_sums;
 

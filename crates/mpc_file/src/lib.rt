@@ -16,6 +16,8 @@ mod plant_parts;
 mod plants;
 mod reading;
 mod spelling;
+#[cfg(test)]
+mod tests;
 mod tree_depths;
 mod tree_lines;
 mod versions;

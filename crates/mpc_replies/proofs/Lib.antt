@@ -4,3 +4,4 @@ pub mod LineLemmas
 pub mod BoxLemmas
 pub mod ReplyLemmas
 pub mod LawLemmas
+pub mod TestLemmas

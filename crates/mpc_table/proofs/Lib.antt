@@ -12,4 +12,5 @@ pub mod SharedFormLemmas
 pub mod ReadLemmas
 pub mod ReplyLemmas
 pub mod AnswerLemmas
+pub mod TestLemmas
 pub mod KeptForms

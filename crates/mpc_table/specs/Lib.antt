@@ -8,3 +8,4 @@ pub mod SharedForms
 pub mod SharedLookup
 pub mod TableLaws
 pub mod TableReplies
+pub mod TestNodes

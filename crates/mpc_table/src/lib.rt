@@ -9,6 +9,8 @@ mod rows;
 mod sides;
 mod steps;
 mod tables;
+#[cfg(test)]
+mod tests;
 mod values;
 
 pub use laws::table_laws;
