@@ -20,9 +20,10 @@ use mpc_frac::NoMemory;
 use mpc_plant::Plant;
 use mpc_rows::{Place, Verdict};
 use mpc_status::Status;
-use mpc_synthesis::{SynthesisError, controller_of};
+use mpc_synthesis::{SynthesisError, controller_of_in_threads};
 use mpc_text::{add_number, add_text};
 use std::alloc::Global;
+use std::thread::Threads;
 
 /// A status, and the file or the line that is to be written.
 #[derive(Drop)]
@@ -67,7 +68,8 @@ fn wide_place(registry: &Registry) -> Option<Place>
 }
 
 /// The controller of a plant whose candidates are examined.
-fn controller_from(
+fn controller_from<T: Threads + Sync>(
+    rt: &T,
     alloc: Global,
     plant: Plant,
     registry: Registry,
@@ -79,16 +81,21 @@ fn controller_from(
     legal_laws();
     match wide_place(&registry) {
         Some(place) => Err(SynthesisError::TooWide(place)),
-        None => controller_of(alloc, plant, registry),
+        None => controller_of_in_threads(rt, alloc, plant, registry),
     }
 }
 
 /// The answer to a plant whose candidates are examined: the file of its controller, or why it has none.
-pub(crate) fn compiled(alloc: Global, plant: Plant, registry: Registry) -> Result<Answer, NoMemory>
+pub(crate) fn compiled<T: Threads + Sync>(
+    rt: &T,
+    alloc: Global,
+    plant: Plant,
+    registry: Registry,
+) -> Result<Answer, NoMemory>
     requires { IsExamined plant registry }
     ensures { IfOk result (λ answer. IsPlantAnswer plant answer.status answer.text.items) }
 {
-    match controller_from(alloc, plant, registry) {
+    match controller_from(rt, alloc, plant, registry) {
         Ok(parts) => {
             let text = write_file(alloc, &parts)?;
             Ok(Answer {

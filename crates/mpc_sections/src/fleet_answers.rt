@@ -20,7 +20,8 @@ use std::sync::Wait;
 use std::thread::Threads;
 
 /// The answer to one section. The registry of its plant is the first, and is taken.
-fn answer_one(
+fn answer_one<T: Threads + Sync>(
+    rt: &T,
     alloc: Global,
     begun: Begun,
     registries: &mut Vec<Registry>,
@@ -32,13 +33,14 @@ fn answer_one(
         Begun::Refused(status) => refusal(alloc, status),
         Begun::Convex(plant) => {
             let registry = registries.remove(0);
-            compiled(alloc, plant, registry)
+            compiled(rt, alloc, plant, registry)
         }
     }
 }
 
 /// The text of all sections, where the registries of those with a program come in their order.
-fn answer_all(
+fn answer_all<T: Threads + Sync>(
+    rt: &T,
     alloc: Global,
     _input: &[u8],
     mut begun: Vec<Begun>,
@@ -52,7 +54,7 @@ fn answer_all(
     let mut number = 1;
     'sections: while !begun.is_empty() {
         let first = begun.remove(0);
-        let answer = answer_one(alloc, first, &mut registries)?;
+        let answer = answer_one(rt, alloc, first, &mut registries)?;
         add_answer(&mut text, number, &answer)?;
         number += 1;
     }
@@ -87,7 +89,7 @@ pub fn fleet<T: Threads + Wait + Sync, G: Gate + Sync>(
         Err(FleetError::NoMemory) => return Err(SectionsError::NoMemory),
         Err(FleetError::BadWorkers) => unreachable!(),
     };
-    match answer_all(alloc, input, begun, registries) {
+    match answer_all(rt, alloc, input, begun, registries) {
         Ok(text) => Ok(text),
         Err(_) => Err(SectionsError::NoMemory),
     }
