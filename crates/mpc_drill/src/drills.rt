@@ -108,7 +108,7 @@ fn drill_of<T: Threads + Wait + Sync, G: Gate + Sync>(
 }
 
 /// Makes the controller of the plant with this number, has it accepted by the independent checker, and counts what was made. Four workers
-/// decide the active sets, each in a thread of its own.
+/// decide the active sets, in as many threads as the machine runs at once.
 ///
 /// `NotDefinite` names the first pivot that isn't positive, `TooWide` the first place with a number of more than 128 bits, as they do
 /// where the controller of any other plant is made.

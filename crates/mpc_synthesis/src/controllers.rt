@@ -44,7 +44,7 @@ pub fn controller_of(
     accepted(parts, found)
 }
 
-/// What [`controller_of`] gives, where sides of the tree are built, and stretches of it checked, in threads of their own, as far as threads
+/// What [`controller_of`] gives, where parts of the tree are built, and stretches of it checked, side by side, as far as threads
 /// can be started. It waits for no lock.
 pub fn controller_of_in_threads<T: Threads + Sync>(
     rt: &T,
@@ -88,7 +88,7 @@ pub fn controller<G: Gate>(
     }
 }
 
-/// What [`controller`] gives, where so many workers decide the active sets: each in a thread of its own, where there are two or more. The
+/// What [`controller`] gives, where so many workers decide the active sets, in as many threads as the machine runs at once. The
 /// tree is built and checked as by [`controller_of_in_threads`].
 pub fn controller_in_threads<T: Threads + Wait + Sync, G: Gate + Sync>(
     rt: &T,

@@ -74,7 +74,7 @@ fn decide_alone<G: Gate>(alloc: Global, program: &Qp, gate: &G) -> Result<Regist
     all_decided(registry)
 }
 
-/// The registry of a program's candidates, all decided by two or more workers, each in a thread of its own.
+/// The registry of a program's candidates, all decided by two or more workers, in as many threads as the machine runs at once.
 fn decide_together<T: Threads + Wait + Sync, G: Gate + Sync>(
     rt: &T,
     alloc: Global,
@@ -116,7 +116,7 @@ pub fn decided<G: Gate>(alloc: Global, plant: &Plant, gate: &G) -> Result<Regist
     Ok(registry)
 }
 
-/// What [`decided`] gives, by so many workers: each in a thread of its own, where there are two or more.
+/// What [`decided`] gives, by so many workers, in as many threads as the machine runs at once.
 pub fn decided_in_threads<T: Threads + Wait + Sync, G: Gate + Sync>(
     rt: &T,
     alloc: Global,

@@ -51,8 +51,8 @@ use std::thread::Threads;
 /// how many active sets, laws and leaves it has, and how deep its tree is.
 ///
 /// `compile`, `trace` and `fleet` take `--workers W` with a number W from 1 to 32 in decimal: so many workers decide
-/// the active sets, each in a thread of its own where there are two or more. The file of a controller is the
-/// same for every number.
+/// the active sets, in as many threads as the machine runs at once. The file of a controller is the same for
+/// every number.
 pub fn run<T: Threads + Wait + Sync, S: Source, K: Sink, G: Gate + Sync>(
     rt: &T,
     alloc: Global,
