@@ -80,6 +80,10 @@ ClaimedAs a (Err e) b = Starts b.seen a.seen × (b ≡ looked_on a b.seen) × Wa
 abbrev pub EndedAs : Known → Ticket → EventKind → Known → Type 0
 EndedAs a t kind b = (h : List Event) × Starts h a.seen × (b ≡ called a h (event t.worker t.set kind))
 
+-- a set in the hand was ended, and then a set was claimed, or not
+abbrev pub EndedThenClaimed : Known → Ticket → EventKind → Result Claimed NoMemory → Known → Type 0
+EndedThenClaimed a t kind answer b = (mid : Known) × EndedAs a t kind mid × ClaimedAs mid answer b
+
 -- the pass's calls have claimed the ticket's set and neither delivered it nor given it up, and its number is the count of claims up to that one
 pub record InHand (t : Ticket) (k : Known) : Type 0 where
   pub held : has (held_by t) (hand_of k.calls) ≡ true

@@ -8,7 +8,7 @@ ghost use Rattle.mpc_claim.specs.History.{IsLegal, IsOpen};
 ghost use Rattle.mpc_claim.specs.Answers.{Claims, abandoned, delivered};
 ghost use Rattle.mpc_turn.specs.Views.{Starts, served, longer, Follows};
 ghost use Rattle.mpc_turn.specs.Lock.{IsOutside};
-ghost use Rattle.mpc_turn.specs.Known.{Known, first_pass, ClaimedAs, EndedAs, InHand, HasTurn, Holds, Closed};
+ghost use Rattle.mpc_turn.specs.Known.{Known, first_pass, ClaimedAs, EndedAs, EndedThenClaimed, InHand, HasTurn, Holds, Closed};
 
 use crate::passes::{Pass, Seat};
 use crate::view::{Compare, Draw, Law, Lend, Look, Serve, View};
@@ -179,6 +179,25 @@ impl Turn {
         let answer = self.deliver_in(&mut pass.seat, ticket, judged);
         self.serve(&mut pass.seat);
         answer
+    }
+
+    /// Waits for the turn, delivers the verdict on a set that is in the pass's hand, and claims the
+    /// next one.
+    pub fn deliver_then_claim_as<T: Wait>(
+        &self,
+        rt: &T,
+        pass: &mut Pass,
+        ticket: Ticket,
+        judged: Judged,
+    ) -> Result<Claimed, NoMemory>
+        requires turn { pass.old.turn ≡ self.now }
+        requires hand { InHand ticket pass.old }
+        requires set { judged.set ≡ ticket.set }
+        requires right { IsRight pass.old.program ticket.set judged.verdict }
+        ensures { EndedThenClaimed pass.old ticket (Done (tag_of judged.verdict)) result pass.new }
+    {
+        self.deliver_as(rt, pass, ticket, judged);
+        self.claim_as(rt, pass)
     }
 
     /// Waits for the turn and gives up a set that is in the pass's hand.
