@@ -2,7 +2,7 @@
 use Rattle.std.proofs.Common.{◌≡◌, ◌⊎◌, ℕ, zero, suc, ◌+◌, ◌-◌, ◌<◌, ◌≤◌, List, [], ◌∷◌, ◌++◌, map, length, get_or, drop, Bool, true, false, true≢false, Some, None, refl, sym, ap, ◌∙◌, subst, ⊎_elim, inl, inr, eqb, eqb-true, arith, append_assoc, length-append}
 use Rattle.std.specs.List.{All}
 use Rattle.std.proofs.lemmas.List.Elements.{All-head, All-tail, All-append, All-nil, All-cons, All-same}
-use Rattle.std.specs.Prelude.{cond, slice_get, ◌&&◌, ◌||◌}
+use Rattle.std.specs.Prelude.{cond, slice_get, ◌||◌}
 use Rattle.std.proofs.lemmas.Option.{slice_get_within, get_or_from_slice_get}
 use mathlib.Core.Option.{some, some-injective}
 use lib.ListN.{get_elem?}
@@ -27,8 +27,8 @@ use Rattle.mpc_claim.specs.Books.{IsSlotOf, IsSound}
 use Rattle.mpc_turn.specs.declared.view.View.{View}
 use Rattle.mpc_turn.specs.Views.{Call, weigh, weigh_all, placed, hand_of, hands_of, Starts, numbered, turned, served, both_of, Follows, AreOpen}
 use Rattle.mpc_turn.specs.Lock.{Sat, Kept, IsOutside, Ends, compared}
-use Rattle.mpc_turn.specs.Known.{Known, known, IsPass, StandsFrom, HasTurn, Holds, InHand, NoneClaimed, Closed, called, looked_on, ClaimedAs}
-use Rattle.mpc_turn.proofs.Sums.{drop_whole, append-nil}
+use Rattle.mpc_turn.specs.Known.{Known, known, IsPass, StandsFrom, HasTurn, Holds, ClaimsBy, EndsBy, IsDue, InHand, NoneClaimed, Closed, called, looked_on, ClaimedAs, EndedAs, EndedThenClaimed}
+use Rattle.mpc_turn.proofs.Sums.{and_first, placed-append, drop_whole, append-nil, starts_on}
 use Rattle.mpc_turn.proofs.Once.{once, all_stand}
 use Rattle.mpc_turn.proofs.Lending.{closes}
 use Rattle.mpc_turn.proofs.Keeps.{any}
@@ -48,7 +48,7 @@ pub record Chain (v : View) (Q : Board → Board → Type 0) (m : Sat) : Type 0 
 carried_same : (a b : Board) (c : List (ℕ × Board)) → c ≡ (0, a) ∷ [] → c ≡ (0, b) ∷ [] → a ≡ b
 carried_same a b c p q = ap (λ (l : List (ℕ × Board)). (get_or l 0 (0, a)).1) (sym p ∙ q)
 
-pub chain : (v : View) (m1 m2 m3 : Sat) (Q : Board → Board → Type 0) → HasTurn v m1 → m2.0 ≡ m1.0 → Holds m1.1 (λ r. Holds m2.1 (Q r)) → Holds m2.1 (λ s. m3 ≡ (served m2.0 s.history, [])) → Chain v Q m3
+chain : (v : View) (m1 m2 m3 : Sat) (Q : Board → Board → Type 0) → HasTurn v m1 → m2.0 ≡ m1.0 → Holds m1.1 (λ r. Holds m2.1 (Q r)) → Holds m2.1 (λ s. m3 ≡ (served m2.0 s.history, [])) → Chain v Q m3
 chain v m1 m2 m3 Q turn kept does gave =
     let r = turn.1 in
     let is = turn.2 in
@@ -65,6 +65,13 @@ chain v m1 m2 m3 Q turn kept does gave =
       begins = turn.4;
     }
 
+-- one call behind the other
+abbrev pub Then : (Board → Board → Type 0) → (Board → Board → Type 0) → Board → Board → Type 0
+Then Q R r s = (mid : Board) × Q r mid × R mid s
+
+then_does : (c1 c2 c3 : List (ℕ × Board)) (Q R : Board → Board → Type 0) → Holds c1 (λ r. Holds c2 (Q r)) → Holds c2 (λ r. Holds c3 (R r)) → Holds c1 (λ r. Holds c3 (Then Q R r))
+then_does c1 c2 c3 Q R q r = (q.0, q.1, (r.2.0, r.2.1, (q.2.0, q.2.2, subst (λ (z : Board). R z r.2.0) (carried_same r.0 q.2.0 c2 r.1 q.2.1) r.2.2)))
+
 abbrev Own : ℕ → Call → Type 0
 Own w c = c.1.worker ≡ w
 
@@ -74,10 +81,6 @@ Of w held = (t : Held) → has t held ≡ true → t.0 ≡ w
 pub or_cases : (a b : Bool) → (a || b) ≡ true → (a ≡ true) ⊎ (b ≡ true)
 or_cases true b e = inl refl
 or_cases false b e = inr e
-
-and_first : (a b : Bool) → (a && b) ≡ true → a ≡ true
-and_first true b p = refl
-and_first false b p = absurd (cc)
 
 of-head : (w : ℕ) (t x : Held) → same t x ≡ true → x.0 ≡ w → t.0 ≡ w
 of-head w t x e h = let a : eqb t.0 x.0 ≡ true = and_first (eqb t.0 x.0) (same_set t.1 x.1) e in eqb-true t.0 x.0 a ∙ h
@@ -118,11 +121,21 @@ hand_own : (w : ℕ) (calls : List Call) (held : List Held) → Of w held → Al
 hand_own w [] held old own = old
 hand_own w (c ∷ cs) held old own = hand_own w cs (opened held c.1) (of-opened w held c.1 (All-head (Own w) c cs own) old) (All-tail (Own w) c cs own)
 
-pub worker_of : (w : ℕ) (m : Sat) (t : Ticket) → IsPass w m → has (held_by t) (hand_of m.0.calls) ≡ true → t.worker ≡ w
+worker_of : (w : ℕ) (m : Sat) (t : Ticket) → IsPass w m → has (held_by t) (hand_of m.0.calls) ≡ true → t.worker ≡ w
 worker_of w m t p h = hand_own w m.0.calls [] (λ x e. absurd (cc)) p.own (held_by t) h
 
-added : (found left : List Event) (e : Event) → left ≡ found ++ e ∷ [] → placed (length found) (drop (length found) left) ≡ (length found, e) ∷ []
-added found left e more = ap (placed (length found)) (ap (drop (length found)) more ∙ drop_whole found (e ∷ []))
+added : (found left more : List Event) → left ≡ found ++ more → placed (length found) (drop (length found) left) ≡ placed (length found) more
+added found left more e = ap (placed (length found)) (ap (drop (length found)) e ∙ drop_whole found more)
+
+-- a call that goes on from what another left
+goes_on : (v : View) (found mid left xs ys : List Event) → mid ≡ found ++ xs → left ≡ mid ++ ys → after_call v found left ≡ after_call (after_call v found mid) mid left
+goes_on v found mid left xs ys e f =
+    let whole : left ≡ found ++ (xs ++ ys) = f ∙ (ap (λ l. l ++ ys) e ∙ append_assoc found xs ys) in
+    let places : placed (length found + length xs) ys ≡ placed (length mid) (drop (length mid) left) = ap (λ n. placed n ys) (sym (ap length e ∙ length-append found xs)) ∙ sym (added mid left ys f) in
+    let calls : v.calls ++ placed (length found) (drop (length found) left) ≡ (v.calls ++ placed (length found) (drop (length found) mid)) ++ placed (length mid) (drop (length mid) left) =
+    ap (λ l. v.calls ++ l) (added found left (xs ++ ys) whole ∙ placed-append (length found) xs ys)
+    ∙ (sym (append_assoc v.calls (placed (length found) xs) (placed (length found + length xs) ys)) ∙ (λ i. (v.calls ++ sym (added found mid xs e) i) ++ places i)) in
+    λ i. record v { number = None; turn = false; seen = left; calls = calls i }
 
 get_early : (xs ys : List (List ℕ)) (k : ℕ) (e : List ℕ) → slice_get xs k ≡ Some e → slice_get (xs ++ ys) k ≡ Some e
 get_early [] ys k e h = absurd (cc)
@@ -154,17 +167,14 @@ stands-snoc h e k (c ∷ cs) le s = let b = below_get h c.0 c.1 s.1 in (s.0, get
 starts-length : (xs ys : List Event) → Starts xs ys → length ys ≤ length xs
 starts-length xs ys t = omega (arith, ap length t.1, length-append ys t.0)
 
-starts_on : (xs ys zs : List Event) → Starts xs ys → Starts ys zs → Starts xs zs
-starts_on xs ys zs s t = (t.0 ++ s.0, s.1 ∙ (ap (λ l. l ++ s.0) t.1 ∙ append_assoc zs t.0 s.0))
-
 stands_in : (xs ys : List Event) (k : ℕ) (cs : List Call) → Starts xs ys → StandsFrom ys k cs → StandsFrom xs k cs
 stands_in xs ys k cs s t = subst (λ (l : List Event). StandsFrom l k cs) (sym s.1) (stands_longer ys s.0 k cs t)
 
 unchanged : (v : View) (found left : List Event) → left ≡ found → v.calls ++ placed (length found) (drop (length found) left) ≡ v.calls
-unchanged v found left same = ap (λ l. v.calls ++ placed (length found) l) (ap (drop (length found)) (same ∙ sym (append-nil found)) ∙ drop_whole found []) ∙ append-nil v.calls
+unchanged v found left same = ap (λ l. v.calls ++ l) (added found left [] (same ∙ sym (append-nil found))) ∙ append-nil v.calls
 
 module _ (w : ℕ) (m : Sat) (p : IsPass w m) where
-  pub pass_after : (m' : Sat) (found left : List Event) (e : Event) → Starts found m.0.seen → m' ≡ (after_call m.0 found left, []) → left ≡ found ++ e ∷ [] → e.worker ≡ w → IsLegal m.0.program left → IsPass w m'
+  pass_after : (m' : Sat) (found left : List Event) (e : Event) → Starts found m.0.seen → m' ≡ (after_call m.0 found left, []) → left ≡ found ++ e ∷ [] → e.worker ≡ w → IsLegal m.0.program left → IsPass w m'
   pass_after m' found left e on is more own legal = subst (IsPass w) (sym is) record {
     idle = (refl, refl);
     empty = refl;
@@ -175,13 +185,13 @@ module _ (w : ℕ) (m : Sat) (p : IsPass w m) where
     one = p.one;
     legal = legal;
     own = All-append (Own w) m.0.calls (placed (length found) (drop (length found) left)) p.own
-        (All-same (Own w) (placed (length found) (drop (length found) left)) ((length found, e) ∷ []) (added found left e more) (All-cons (Own w) (length found, e) [] own (All-nil (Own w))));
+        (All-same (Own w) (placed (length found) (drop (length found) left)) ((length found, e) ∷ []) (added found left (e ∷ []) more) (All-cons (Own w) (length found, e) [] own (All-nil (Own w))));
     begins = starts_on left found m.0.before (e ∷ [], more) (starts_on found m.0.seen m.0.before on p.begins);
-    stands = subst (λ (z : List Event × List Call). StandsFrom z.0 (length m.0.before) (m.0.calls ++ z.1)) (λ i. (sym more i, sym (added found left e more) i))
+    stands = subst (λ (z : List Event × List Call). StandsFrom z.0 (length m.0.before) (m.0.calls ++ z.1)) (λ i. (sym more i, sym (added found left (e ∷ []) more) i))
         (stands-snoc found e (length m.0.before) m.0.calls (starts-length found m.0.before (starts_on found m.0.seen m.0.before on p.begins)) (stands_in found m.0.seen (length m.0.before) m.0.calls on p.stands));
   }
 
-  pub still_pass : (m' : Sat) (found left : List Event) → Starts found m.0.seen → m' ≡ (after_call m.0 found left, []) → left ≡ found → IsLegal m.0.program left → IsPass w m'
+  still_pass : (m' : Sat) (found left : List Event) → Starts found m.0.seen → m' ≡ (after_call m.0 found left, []) → left ≡ found → IsLegal m.0.program left → IsPass w m'
   still_pass m' found left on is same legal =
       let calls = unchanged m.0 found left same in
       subst (IsPass w) (sym is) record {
@@ -231,9 +241,9 @@ not_first w u m o m1 m2 found p q first is told = go o.0.first refl
         let z = t.2 in
         absurd (omega (arith, x, y, z))
 
-pub called_is : (id id' : TableId) (w : ℕ) (v : View) (m : Sat) (found left : List Event) (e : Event) → id' ≡ id → m ≡ (after_call v found left, []) → left ≡ found ++ e ∷ [] → known id' w m.0 ≡ called (known id w v) found e
+called_is : (id id' : TableId) (w : ℕ) (v : View) (m : Sat) (found left : List Event) (e : Event) → id' ≡ id → m ≡ (after_call v found left, []) → left ≡ found ++ e ∷ [] → known id' w m.0 ≡ called (known id w v) found e
 called_is id id' w v m found left e same is more =
-    (λ i. known (same i) w (is i).0) ∙ (λ i. record (known id w v) { seen = more i; calls = v.calls ++ added found left e more i })
+    (λ i. known (same i) w (is i).0) ∙ (λ i. record (known id w v) { seen = more i; calls = v.calls ++ added found left (e ∷ []) more i })
 
 looked_is : (id id' : TableId) (w : ℕ) (v : View) (m : Sat) (found left : List Event) → id' ≡ id → m ≡ (after_call v found left, []) → left ≡ found → known id' w m.0 ≡ looked_on (known id w v) found
 looked_is id id' w v m found left same is e =
@@ -244,7 +254,7 @@ module _ (id id' : TableId) (w : ℕ) (v : View) (m : Sat) (r s : Board) (same_i
   quiet_is : s.history ≡ r.history → known id' w m.0 ≡ looked_on (known id w v) r.history
   quiet_is same_history = looked_is id id' w v m r.history s.history same_id is same_history
 
-  pub claimed_is : (res : Result Claimed NoMemory) → Claims r w res s → ClaimedAs (known id w v) res (known id' w m.0)
+  claimed_is : (res : Result Claimed NoMemory) → Claims r w res s → ClaimedAs (known id w v) res (known id' w m.0)
   claimed_is (Ok (Job t)) c = (
     r.history,
     on,
@@ -266,56 +276,136 @@ module _ (id id' : TableId) (w : ℕ) (v : View) (m : Sat) (r s : Board) (same_i
       (on, refl, subst (λ (p : Qp). WantsMemory p r.history) program c.1.wants)
 
 -- a claim leaves the history as it was, or adds itself to it, and the program stays
-pub claim_leaves : (r s : Board) (w : ℕ) (res : Result Claimed NoMemory) → Claims r w res s → (s.program ≡ r.program) × ((s.history ≡ r.history) ⊎ ((t : List ℕ) × (s.history ≡ r.history ++ event w t Claim ∷ [])))
+claim_leaves : (r s : Board) (w : ℕ) (res : Result Claimed NoMemory) → Claims r w res s → (s.program ≡ r.program) × ((s.history ≡ r.history) ⊎ ((t : List ℕ) × (s.history ≡ r.history ++ event w t Claim ∷ [])))
 claim_leaves r s w (Ok (Job t)) c = (c.program, inr (t.set, c.history))
 claim_leaves r s w (Ok Idle) c = (ap (λ (x : Board). x.program) c.0, inl (ap (λ (x : Board). x.history) c.0))
 claim_leaves r s w (Ok Finished) c = (ap (λ (x : Board). x.program) c.0, inl (ap (λ (x : Board). x.history) c.0))
 claim_leaves r s w (Ok Stopped) c = (ap (λ (x : Board). x.program) c.0, inl (ap (λ (x : Board). x.history) c.0))
 claim_leaves r s w (Err e) c = (ap (λ (x : Board). x.program) c.0, inl (ap (λ (x : Board). x.history) c.0))
 
-pub claimed_pass : (w : ℕ) (m m' : Sat) (r s : Board) (res : Result Claimed NoMemory) → IsPass w m → m' ≡ (after_call m.0 r.history s.history, []) → r.program ≡ m.0.program → Starts r.history m.0.seen → Claims r w res s → IsLegal s.program s.history → IsPass w m'
+claimed_pass : (w : ℕ) (m m' : Sat) (r s : Board) (res : Result Claimed NoMemory) → IsPass w m → m' ≡ (after_call m.0 r.history s.history, []) → r.program ≡ m.0.program → Starts r.history m.0.seen → Claims r w res s → IsLegal s.program s.history → IsPass w m'
 claimed_pass w m m' r s res p is program on c legal = go (claim_leaves r s w res c)
   where
     go : (s.program ≡ r.program) × ((s.history ≡ r.history) ⊎ ((t : List ℕ) × (s.history ≡ r.history ++ event w t Claim ∷ []))) → IsPass w m'
     go (same_program, inl same_history) = still_pass w m p m' r.history s.history on is same_history (subst (λ (j : Qp). IsLegal j s.history) (same_program ∙ program) legal)
     go (same_program, inr (t, more)) = pass_after w m p m' r.history s.history (event w t Claim) on is more refl (subst (λ (j : Qp). IsLegal j s.history) (same_program ∙ program) legal)
 
--- ---- before the turn is given up
-pub record IsDue (v : View) (m : Sat) : Type 0 where
-  pub turn : m.0.turn ≡ true
-  pub parts : m.0.parts ≡ v.parts
-  pub follows : Holds m.1 (Follows m.0)
-
-due : (v : View) (m1 m2 : Sat) (Q : Board → Board → Type 0) → HasTurn v m1 → m2.0 ≡ m1.0 → Holds m1.1 (λ r. Holds m2.1 (Q r))
-    → ((r s : Board) → r.program ≡ v.program → Q r s → Follows (turned v r.history) s) → IsDue v m2
-due v m1 m2 Q turn kept does follows =
+-- before the turn is given up
+due : (v : View) (m1 m2 : Sat) (Q : Board → Board → Type 0) → 0 < v.parts → HasTurn v m1 → m2.0 ≡ m1.0 → Holds m1.1 (λ r. Holds m2.1 (Q r))
+    → ((r s : Board) → r.program ≡ v.program → Q r s → Follows (turned v r.history) s) → IsDue m2
+due v m1 m2 Q living turn kept does follows =
     let r = turn.1 in
     let is = turn.2 in
     let same_r : does.0 ≡ r = carried_same does.0 r m1.1 does.1 (ap (λ (m : Sat). m.1) is) in
     let inner = subst (λ (z : Board). Holds m2.1 (Q z)) same_r does.2 in
     let view : m2.0 ≡ turned (numbered v turn.0) r.history = kept ∙ ap (λ (m : Sat). m.0) is in
-    record {
-      turn = ap (λ (u : View). u.turn) view;
-      parts = ap (λ (u : View). u.parts) view;
-      follows = (inner.0, inner.1, subst (λ (u : View). Follows u inner.0) (sym view) (follows r inner.0 turn.3 inner.2));
-    }
+    let parts = ap (λ (u : View). u.parts) view in
+    (ap (λ (u : View). u.turn) view, omega (arith, parts, living), (inner.0, inner.1, subst (λ (u : View). Follows u inner.0) (sym view) (follows r inner.0 turn.3 inner.2)))
 
-pub claim_due : (v : View) (m1 m2 : Sat) (w : ℕ) (res : Result Claimed NoMemory) → HasTurn v m1 → m2.0 ≡ m1.0 → Holds m1.1 (λ r. Holds m2.1 (λ s. Claims r w res s × IsLegal s.program s.history)) → IsDue v m2
-claim_due v m1 m2 w res turn kept does = due v m1 m2 (λ r s. Claims r w res s × IsLegal s.program s.history) turn kept does follows
-  where
-    follows : (r s : Board) → r.program ≡ v.program → Claims r w res s × IsLegal s.program s.history → Follows (turned v r.history) s
-    follows r s program (c, legal) =
-        let l = claim_leaves r s w res c in
-        (l.0 ∙ program, legal, ⊎_elim (λ same_history. inl same_history) (λ more. inr (event w more.0 Claim, more.1, λ no. absurd (true≢false no))) l.1)
+-- one turn of a pass, up to its call and up to the turn's end
+module _ (id id' : TableId) (w : ℕ) (m m1 m2 m3 : Sat) (k : Known) (is : known id w m.0 ≡ k) (p : IsPass w m) (turn : HasTurn m.0 m1) (kept : m2.0 ≡ m1.0) where
+  abbrev Gave : Type 0
+  Gave = Holds m2.1 (λ s. m3 ≡ (served m2.0 s.history, []))
 
-abbrev pub EndsBy : Ticket → EventKind → Board → Board → Type 0
-EndsBy t kind r s = (s.program ≡ r.program) × (s.history ≡ r.history ++ event t.worker t.set kind ∷ []) × IsLegal s.program s.history
+  same_turn : id' ≡ k.turn → id' ≡ id
+  same_turn e = e ∙ sym (ap (λ (k : Known). k.turn) is)
 
-pub end_due : (v : View) (m1 m2 : Sat) (t : Ticket) (kind : EventKind) → HasTurn v m1 → m2.0 ≡ m1.0 → Holds m1.1 (λ r. Holds m2.1 (EndsBy t kind r)) → has (held_by t) (hand_of v.calls) ≡ true → IsDue v m2
-end_due v m1 m2 t kind turn kept does held = due v m1 m2 (EndsBy t kind) turn kept does follows
-  where
-    follows : (r s : Board) → r.program ≡ v.program → EndsBy t kind r s → Follows (turned v r.history) s
-    follows r s program (same_program, more, legal) = (same_program ∙ program, legal, inr (event t.worker t.set kind, more, λ _. held))
+  -- a claim
+  module _ (res : Result Claimed NoMemory) (does : Holds m1.1 (λ r. Holds m2.1 (ClaimsBy w res r))) where
+    pub claim_due : IsDue m2
+    claim_due = due m.0 m1 m2 (ClaimsBy w res) p.living turn kept does follows
+      where
+        follows : (r s : Board) → r.program ≡ m.0.program → ClaimsBy w res r s → Follows (turned m.0 r.history) s
+        follows r s program (c, legal) =
+            let l = claim_leaves r s w res c in
+            (l.0 ∙ program, legal, ⊎_elim (λ same_history. ([], same_history ∙ sym (append-nil r.history), tt)) (λ more. (event w more.0 Claim ∷ [], more.1, λ no. absurd (true≢false no))) l.1)
+
+    pub claim_pass : Gave → IsPass w m3
+    claim_pass gave =
+        let q = chain m.0 m1 m2 m3 (ClaimsBy w res) turn kept does gave in
+        claimed_pass w m m3 q.found q.left res p q.leaves q.program q.begins q.does.0 q.does.1
+
+    pub claim_is : Gave → id' ≡ k.turn → ClaimedAs k res (known id' w m3.0)
+    claim_is gave same_id =
+        let q = chain m.0 m1 m2 m3 (ClaimsBy w res) turn kept does gave in
+        subst (λ (k : Known). ClaimedAs k res (known id' w m3.0)) is (claimed_is id id' w m.0 m3 q.found q.left (same_turn same_id) q.leaves q.program q.begins res q.does.0)
+
+  -- the end of a set in the hand
+  module _ (t : Ticket) (kind : EventKind) (hand : InHand t k) where
+    held : has (held_by t) (hand_of m.0.calls) ≡ true
+    held = (subst (InHand t) (sym is) hand).held
+
+    abbrev e : Event
+    e = event t.worker t.set kind
+
+    module _ (does : Holds m1.1 (λ r. Holds m2.1 (EndsBy t kind r))) where
+      pub end_due : IsDue m2
+      end_due = due m.0 m1 m2 (EndsBy t kind) p.living turn kept does follows
+        where
+          follows : (r s : Board) → r.program ≡ m.0.program → EndsBy t kind r s → Follows (turned m.0 r.history) s
+          follows r s program (same_program, more, legal) = (same_program ∙ program, legal, (e ∷ [], more, λ _. held))
+
+      pub end_pass : Gave → IsPass w m3
+      end_pass gave =
+          let q = chain m.0 m1 m2 m3 (EndsBy t kind) turn kept does gave in
+          pass_after w m p m3 q.found.history q.left.history e q.begins q.leaves q.does.1 (worker_of w m t p held) (subst (λ (j : Qp). IsLegal j q.left.history) (q.does.0 ∙ q.program) q.does.2)
+
+      pub end_is : Gave → id' ≡ k.turn → EndedAs k t kind (known id' w m3.0)
+      end_is gave same_id =
+          let q = chain m.0 m1 m2 m3 (EndsBy t kind) turn kept does gave in
+          subst (λ (k : Known). EndedAs k t kind (known id' w m3.0)) is (q.found.history, q.begins, called_is id id' w m.0 m3 q.found.history q.left.history e (same_turn same_id) q.leaves q.does.1)
+
+    -- and a claim behind it: what is left is what the claim leaves of the pass that the end has left
+    module _ (c : List (ℕ × Board)) (res : Result Claimed NoMemory) (ended : Holds m1.1 (λ r. Holds c (EndsBy t kind r))) (claimed : Holds c (λ r. Holds m2.1 (ClaimsBy w res r))) where
+      does : Holds m1.1 (λ r. Holds m2.1 (Then (EndsBy t kind) (ClaimsBy w res) r))
+      does = then_does m1.1 c m2.1 (EndsBy t kind) (ClaimsBy w res) ended claimed
+
+      pub end_then_claim_due : is_claim kind ≡ false → IsDue m2
+      end_then_claim_due ends = due m.0 m1 m2 (Then (EndsBy t kind) (ClaimsBy w res)) p.living turn kept does follows
+        where
+          follows : (r s : Board) → r.program ≡ m.0.program → Then (EndsBy t kind) (ClaimsBy w res) r s → Follows (turned m.0 r.history) s
+          follows r s program (mid, (same_program, ended, _), (c, legal)) =
+              let l = claim_leaves mid s w res c in (
+                l.0 ∙ (same_program ∙ program),
+                legal,
+                ⊎_elim
+                    (λ same_history. (e ∷ [], same_history ∙ ended, λ _. held))
+                    (λ more. (e ∷ event w more.0 Claim ∷ [], more.1 ∙ (ap (λ (h : List Event). h ++ event w more.0 Claim ∷ []) ended ∙ append_assoc r.history (e ∷ []) (event w more.0 Claim ∷ [])), (ends, held, refl)))
+                    l.1,
+              )
+
+      module _ (gave : Gave) where
+        abbrev q : Chain m.0 (Then (EndsBy t kind) (ClaimsBy w res)) m3
+        q = chain m.0 m1 m2 m3 (Then (EndsBy t kind) (ClaimsBy w res)) turn kept does gave
+
+        abbrev between : Sat
+        between = (after_call m.0 q.found.history q.does.0.history, [])
+
+        program : q.does.0.program ≡ m.0.program
+        program = q.does.1.0 ∙ q.program
+
+        leaves : m3 ≡ (after_call between.0 q.does.0.history q.left.history, [])
+        leaves =
+            let mid = q.does.0.history in
+            let on : Starts q.left.history mid = ⊎_elim (λ same_history. ([], same_history ∙ sym (append-nil mid))) (λ more. (event w more.0 Claim ∷ [], more.1)) (claim_leaves q.does.0 q.left w res q.does.2.0).1 in
+            q.leaves ∙ (λ i. (goes_on m.0 q.found.history mid q.left.history (e ∷ []) on.0 q.does.1.1 on.1 i, []))
+
+        begins : Starts q.does.0.history q.does.0.history
+        begins = ([], sym (append-nil q.does.0.history))
+
+        pub end_then_claim_pass : IsPass w m3
+        end_then_claim_pass =
+            let legal = subst (λ (j : Qp). IsLegal j q.does.0.history) program q.does.1.2 in
+            let there = pass_after w m p between q.found.history q.does.0.history e q.begins refl q.does.1.1 (worker_of w m t p held) legal in
+            claimed_pass w between m3 q.does.0 q.left res there leaves program begins q.does.2.0 q.does.2.1
+
+        pub end_then_claim_is : id' ≡ k.turn → EndedThenClaimed k t kind res (known id' w m3.0)
+        end_then_claim_is same_id = subst (λ (k : Known). EndedThenClaimed k t kind res (known id' w m3.0)) is (
+          called (known id w m.0) q.found.history e,
+          (q.found.history, q.begins, refl),
+          subst (λ (k : Known). ClaimedAs k res (known id' w m3.0)) (called_is id id w m.0 between q.found.history q.does.0.history e refl refl q.does.1.1)
+              (claimed_is id id' w between.0 m3 q.does.0 q.left (same_turn same_id) leaves program begins res q.does.2.0),
+        )
 
 -- the ticket of a hand is open in what the turn finds
 pub open_ticket : OpenListLaws → AppendLaws → (qp : Qp) (seen log : List Event) (calls : List Call) (t : Ticket) → IsLegal qp log → AreOpen calls log → Starts log seen → has (held_by t) (hand_of calls) ≡ true → 1 ≤ t.number → slice_get (claimed_sets seen) (t.number - 1) ≡ Some t.set → IsOpen log t
@@ -325,10 +415,11 @@ open_ticket open_list appended qp seen log calls t legal are_open on held from_o
   may_end = open_list.is_open qp log t.worker t.set legal (are_open (held_by t) held);
 }
 
-pub turn_opens : OpenListLaws → AppendLaws → (id : TableId) (w : ℕ) (v : View) (m : Sat) (t : Ticket) (k : Known) → known id w v ≡ k → InHand t k → HasTurn v m → Holds m.1 (λ r. IsOpen r.history t × (r.program ≡ v.program))
+pub turn_opens : OpenListLaws → AppendLaws → (id : TableId) (w : ℕ) (v : View) (m : Sat) (t : Ticket) (k : Known) → known id w v ≡ k → InHand t k → HasTurn v m → Holds m.1 (λ r. IsOpen r.history t × (r.program ≡ k.program))
 turn_opens open_list appended id w v m t k is hand turn =
     let h : InHand t (known id w v) = subst (InHand t) (sym is) hand in
-    (turn.1, ap (λ (x : Sat). x.1) turn.2, (open_ticket open_list appended turn.1.program v.seen turn.1.history v.calls t turn.5 turn.6 turn.4 h.held h.from_one h.numbered, turn.3))
+    let program : v.program ≡ k.program = ap (λ (k : Known). k.program) is in
+    (turn.1, ap (λ (x : Sat). x.1) turn.2, (open_ticket open_list appended turn.1.program v.seen turn.1.history v.calls t turn.5 turn.6 turn.4 h.held h.from_one h.numbered, turn.3 ∙ program))
 
 -- the end
 ones : (xs : List Held) → weigh (λ _. 1) xs ≡ 0 → xs ≡ []

@@ -1,33 +1,17 @@
 -- What a claim and its end do to a hand.
-use Rattle.std.proofs.Common.{◌≡◌, ℕ, ◌+◌, ◌-◌, List, [], ◌∷◌, ◌++◌, map, length, Bool, true, false, Some, Ok, refl, sym, ap, ◌∙◌, arith, eq-eqb}
+use Rattle.std.proofs.Common.{◌≡◌, ℕ, ◌+◌, ◌-◌, List, [], ◌∷◌, ◌++◌, length, Bool, true, false, Some, Ok, refl, sym, ap, ◌∙◌, arith, eq-eqb}
 use Rattle.std.specs.Prelude.{slice_get, if◌then◌else◌}
-use Rattle.mpc_claim.specs.declared.events.Event.{Event}
 use Rattle.mpc_claim.specs.declared.events.EventKind.{EventKind}
 use Rattle.mpc_claim.specs.declared.events.EventKind.TheVariants.{Claim}
 use Rattle.mpc_claim.specs.declared.tickets.Ticket.{Ticket}
 use Rattle.mpc_claim.specs.declared.tickets.Claimed.TheVariants.{Job}
 use Rattle.mpc_claim.specs.Board.{event}
 use Rattle.mpc_claim.specs.History.{is_claim, claimed_sets}
-use Rattle.mpc_claim.specs.OpenClaims.{Held, held_by, same_set, same, without, opened, open_after, open_of}
+use Rattle.mpc_claim.specs.OpenClaims.{Held, held_by, same, without}
 use Rattle.mpc_claim.specs.HistoryLaws.{AppendLaws}
-use Rattle.mpc_turn.specs.Views.{Call, hand_of}
+use Rattle.mpc_turn.specs.Views.{hand_of}
 use Rattle.mpc_turn.specs.Known.{Known, ClaimedAs, EndedAs, InHand}
-
--- ---- hands, call by call
-open_after-push : (held : List Held) (es : List Event) (e : Event) → open_after held (es ++ e ∷ []) ≡ opened (open_after held es) e
-open_after-push held [] e = refl
-open_after-push held (x ∷ es) e = open_after-push (opened held x) es e
-
-events-push : (cs : List Call) (c : Call) → map (λ (x : Call). x.1) (cs ++ c ∷ []) ≡ map (λ (x : Call). x.1) cs ++ c.1 ∷ []
-events-push [] c = refl
-events-push (x ∷ cs) c = ap (λ l. x.1 ∷ l) (events-push cs c)
-
-hand_of-push : (cs : List Call) (k : ℕ) (e : Event) → hand_of (cs ++ (k, e) ∷ []) ≡ opened (hand_of cs) e
-hand_of-push cs k e = ap open_of (events-push cs (k, e)) ∙ open_after-push [] (map (λ (x : Call). x.1) cs) e
-
-same_set-refl : (s : List ℕ) → same_set s s ≡ true
-same_set-refl [] = refl
-same_set-refl (i ∷ s) = rw (eq-eqb i i refl) (same_set-refl s)
+use Rattle.mpc_turn.proofs.Sums.{hand_of-append, same_set-refl}
 
 same-refl : (h : Held) → same h h ≡ true
 same-refl h = rw (eq-eqb h.0 h.0 refl) (same_set-refl h.1)
@@ -40,7 +24,7 @@ module _ (a b : Known) (t : Ticket) where
   pub claimed_hand : hand_of a.calls ≡ [] → ClaimedAs a (Ok (Job t)) b → hand_of b.calls ≡ held_by t ∷ []
   claimed_hand none c =
       ap (λ (k : Known). hand_of k.calls) c.2
-      ∙ (hand_of-push a.calls (length c.0) (event a.worker t.set Claim)
+      ∙ (hand_of-append a.calls (length c.0) (event a.worker t.set Claim ∷ [])
       ∙ (ap (λ (l : List Held). l ++ (a.worker, t.set) ∷ []) none ∙ ap (λ (w : ℕ). (w, t.set) ∷ []) (sym (ap (λ (x : Ticket). x.worker) c.3))))
 
   pub in_hand : AppendLaws → hand_of a.calls ≡ [] → ClaimedAs a (Ok (Job t)) b → InHand t b
@@ -57,6 +41,6 @@ module _ (a b : Known) (t : Ticket) where
   pub ended_hand : (kind : EventKind) → is_claim kind ≡ false → hand_of a.calls ≡ held_by t ∷ [] → EndedAs a t kind b → hand_of b.calls ≡ []
   ended_hand kind ends one d =
       ap (λ (k : Known). hand_of k.calls) d.2
-      ∙ (hand_of-push a.calls (length d.0) (event t.worker t.set kind)
+      ∙ (hand_of-append a.calls (length d.0) (event t.worker t.set kind ∷ [])
       ∙ (ap (λ (c : Bool). if c then hand_of a.calls ++ held_by t ∷ [] else without (held_by t) (hand_of a.calls)) ends
       ∙ (ap (without (held_by t)) one ∙ rw (same-refl (held_by t)) refl)))

@@ -12,12 +12,12 @@ use Rattle.mpc_rows.specs.declared.programs.Qp.{Qp}
 use Rattle.mpc_claim.specs.declared.events.Event.{Event}
 use Rattle.mpc_claim.specs.Board.{Board}
 use Rattle.mpc_claim.specs.History.{is_claim, IsLegal}
-use Rattle.mpc_claim.specs.OpenClaims.{Held, open_of, opened, has}
+use Rattle.mpc_claim.specs.OpenClaims.{Held, open_after, open_of, opened, has}
 use Rattle.mpc_turn.specs.declared.view.View.{View}
-use Rattle.mpc_turn.specs.Views.{Call, weigh, placed, hand_of, Starts, parts_of, firsts_of, one_if, waits, calls_weight, hands_weight, numbered, turned, served, Follows}
+use Rattle.mpc_turn.specs.Views.{weigh, placed, hand_of, Starts, parts_of, firsts_of, one_if, waits, calls_weight, hands_weight, numbered, turned, served, IsTurn, Follows}
 use Rattle.mpc_turn.specs.Known.{HasTurn}
 use Rattle.mpc_turn.specs.Lock.{Sat, Fits, Kept, drew, looked, gave, Takes}
-use Rattle.mpc_turn.proofs.Sums.{weigh-append, weigh-set, weigh-same, weigh_at, weigh_le, is, has_weighs, weighs_has, weigh-without, hand_of-snoc, placed-snoc, open_after-snoc, drop_whole, append-nil}
+use Rattle.mpc_turn.proofs.Sums.{weigh-append, weigh-set, weigh-same, weigh_at, weigh_le, is, has_weighs, weighs_has, weigh-without, hand_of-append, placed-append, open_after-append, drop_whole, append-nil}
 
 abbrev pub St : Type 0
 St = State Board View
@@ -120,6 +120,7 @@ draws slots id v c st free alive s k len at small =
               has_turn = λ t. absurd (none_at k.served (f.has_turn t).1);
               seen = f.seen;
               beside = f.beside;
+              opening = f.opening;
             }
             (λ j u ne e. let g = k.each j u e in record {
               known = g.known;
@@ -128,6 +129,7 @@ draws slots id v c st free alive s k len at small =
               has_turn = g.has_turn;
               seen = g.seen;
               beside = g.beside;
+              opening = g.opening;
             });
         apart = apart_set s.views id w k.apart (λ j u n ne e p q. let same = some_same k.drawn n q in let h = (k.each j u e).queued n p in omega (arith, h.1, same));
         held = k.held;
@@ -194,6 +196,7 @@ looks_here id v n st s k at number idle alive same home =
               has_turn = λ _. (refl, number ∙ ap Some (sym same), whole);
               seen = ([], sym whole ∙ sym (append-nil k.held.history));
               beside = f.beside;
+              opening = λ _. (k.after, whole);
             }
             (λ j u ne e. let g = k.each j u e in record {
               known = g.known;
@@ -202,6 +205,7 @@ looks_here id v n st s k at number idle alive same home =
               has_turn = λ t. absurd (true≢false (sym (g.has_turn t).0 ∙ home));
               seen = g.seen;
               beside = g.beside;
+              opening = g.opening;
             });
         apart = apart_set s.views id w k.apart (still_apart s.views id v at k.apart);
         held = k.held;
@@ -239,19 +243,44 @@ looks slots id v n st number idle alive s k len at small = dite (ℕ_discrete (g
     (turned v k.held.history, takes 0 k.held, t.0, t.1, λ m p. ((λ _. t.2), (λ ne. absurd (ne (e ∙ ap (λ (z : ℕ). z % 2 ^ 64) (some_same n m (sym number ∙ p))))))))
     (λ ne. (v, keeps, tt, looks_else id v s k at, λ m p. ((λ e. absurd (ne (e ∙ ap (λ (z : ℕ). z % 2 ^ 64) (sym (some_same n m (sym number ∙ p)))))), (λ _. refl))))
 
--- the slot comes back with a history that is `more` longer, and the turn is over
-serves_with : (id : ℕ) (v w : View) (more : List Event) (s : St) (k : Kept s) → At s.views id v → v.turn ≡ true → 0 < v.parts
-    → w.parts ≡ v.parts → w.firsts ≡ v.firsts → w.program ≡ v.program → w.before ≡ v.before → w.beside ≡ v.beside → w.number ≡ None → w.turn ≡ false → w.seen ≡ k.before ++ (k.after ++ more)
-    → IsLegal k.program (k.before ++ (k.after ++ more))
-    → ((f : Call → ℕ) → calls_weight f w + weigh f (placed (length k.before) k.after) ≡ calls_weight f v + weigh f (placed (length k.before) (k.after ++ more)))
-    → ((f : Held → ℕ) → hands_weight f w + weigh f (open_of (k.before ++ k.after)) ≡ hands_weight f v + weigh f (open_of (k.before ++ (k.after ++ more))))
-    → (r : Board) → r.program ≡ k.program → r.history ≡ k.before ++ (k.after ++ more) → Kept (stepped s 1 ((get_or s.words 1 0 + 1) % 2 ^ 64) id ((0, r) ∷ []) w gives)
-serves_with id v w more s k at turn alive wp wf wj wb wo wn wt ws legal counted hands r r_program r_history =
+-- what one turn adds does to a hand what it does to what is open
+opens_alike : (f : Held → ℕ) (hand held : List Held) (e : Event) → (is_claim e.kind ≡ false → has (e.worker, e.set) hand ≡ true) → (is_claim e.kind ≡ false → has (e.worker, e.set) held ≡ true)
+    → weigh f (opened hand e) + weigh f held ≡ weigh f hand + weigh f (opened held e)
+opens_alike f hand held e a b = go (is_claim e.kind) refl
+  where
+    go : (d : Bool) → is_claim e.kind ≡ d → weigh f (opened hand e) + weigh f held ≡ weigh f hand + weigh f (opened held e)
+    go true q = let x = weigh-append f hand ((e.worker, e.set) ∷ []) in let y = weigh-append f held ((e.worker, e.set) ∷ []) in rw q (omega (arith, x, y))
+    go false q = let x = weigh-without f (e.worker, e.set) hand (a q) in let y = weigh-without f (e.worker, e.set) held (b q) in rw q (omega (arith, x, y))
+
+turns_alike : (f : Held → ℕ) (hand held : List Held) (more : List Event) → ((t : Held) → has t hand ≡ true → has t held ≡ true) → IsTurn hand more
+    → weigh f (open_after hand more) + weigh f held ≡ weigh f hand + weigh f (open_after held more)
+turns_alike f hand held [] there turn = omega arith
+turns_alike f hand held (e ∷ []) there turn = opens_alike f hand held e turn (λ q. there (e.worker, e.set) (turn q))
+turns_alike f hand held (e ∷ c ∷ []) there turn =
+    let claim : is_claim c.kind ≡ false → ⊥ = λ q. true≢false (sym turn.2 ∙ q) in
+    let x = opens_alike f hand held e (λ _. turn.1) (λ _. there (e.worker, e.set) turn.1) in
+    let y = opens_alike f (opened hand e) (opened held e) c (λ q. absurd (claim q)) (λ q. absurd (claim q)) in
+    omega (arith, x, y)
+turns_alike f hand held (e ∷ c ∷ d ∷ more) there turn = absurd turn
+
+abbrev carrying : Board → List (ℕ × Board)
+carrying r = (0, r) ∷ []
+
+carried_is : (a b : Board) → carrying a ≡ carrying b → a ≡ b
+carried_is a b e = ap (λ (l : List (ℕ × Board)). (get_or l 0 (0, a)).1) e
+
+-- the slot comes back with what the turn has added, and the turn is over
+serves_kept : (id : ℕ) (v : View) (r : Board) (s : St) (k : Kept s) → At s.views id v → v.turn ≡ true → 0 < v.parts → Follows v r → Kept (stepped s 1 ((get_or s.words 1 0 + 1) % 2 ^ 64) id ((0, r) ∷ []) (served v r.history) gives)
+serves_kept id v r s k at turn alive follows =
+    let w = served v r.history in
     let x : ℕ = (get_or s.words 1 0 + 1) % 2 ^ 64 in
     let f = k.each id v at in
     let mine = f.has_turn turn in
     let two = k.two in
-    let log' = k.before ++ (k.after ++ more) in
+    let more = follows.2.0 in
+    let program : r.program ≡ k.program = follows.0 ∙ (f.known alive).0 in
+    let history : r.history ≡ k.before ++ (k.after ++ more) = follows.2.1 ∙ (ap (λ l. l ++ more) mine.2 ∙ append_assoc k.before k.after more) in
+    let calls : w.calls ≡ v.calls ++ placed (length v.seen) more = ap (λ l. v.calls ++ placed (length v.seen) l) (ap (drop (length v.seen)) follows.2.1 ∙ drop_whole v.seen more) in
     let slot : s.homes ≡ none ∷ [] = subst (λ (b : Bool). s.homes ≡ cond b none (some k.held) ∷ []) mine.0 k.slot in
     -- another view has another number
     let else : (j : ℕ) (u : View) → j ≢ id → At s.views j u → u.number ≡ Some k.served → ⊥ = λ j u ne e q. ne (k.apart j id u v k.served e at q mine.1) in
@@ -265,17 +294,18 @@ serves_with id v w more s k at turn alive wp wf wj wb wo wn wt ws legal counted 
       two = length-set s.words 1 x ∙ two;
       ticket = get_or-set_other s.words 1 0 x 0 (λ e. omega arith) ∙ k.ticket;
       serving = get_or-set_same s.words 1 x 0 (omega arith) ∙ (ap (λ (n : ℕ). (n + 1) % 2 ^ 64) k.serving ∙ mod-add-mod k.served (2 ^ 64) 1);
-      parts = weigh-same parts_of s.views id v w at wp ∙ k.parts;
-      firsts = weigh-same firsts_of s.views id v w at wf ∙ k.firsts;
-      queue = let q = k.queue in let t = weigh-set waits s.views id v w at in let a : waits v ≡ 1 = ap one_if mine.1 in let b : waits w ≡ 0 = ap one_if wn in omega (arith, q, t, a, b);
-      each = each_set s.views id w (Fits k.drawn (k.served + 1) k.program k.before log' false)
+      parts = weigh-same parts_of s.views id v w at refl ∙ k.parts;
+      firsts = weigh-same firsts_of s.views id v w at refl ∙ k.firsts;
+      queue = let q = k.queue in let t = weigh-set waits s.views id v w at in let a : waits v ≡ 1 = ap one_if mine.1 in omega (arith, q, t, a);
+      each = each_set s.views id w (Fits k.drawn (k.served + 1) k.program k.before (k.before ++ (k.after ++ more)) false)
           record {
-            known = λ _. let t = f.known alive in (wj ∙ t.0, wb ∙ t.1);
-            spent = λ z. absurd (omega (arith, wp));
-            queued = λ n e. absurd (none_some n (sym wn ∙ e));
-            has_turn = λ t. absurd (true≢false (sym t ∙ wt));
-            seen = ([], ws' ∙ sym (append-nil w.seen));
-            beside = subst (λ (l : List Event). Starts log' l) (sym wo) (no_prefix s k v.beside more f.beside);
+            known = f.known;
+            spent = λ z. absurd (omega (arith, alive));
+            queued = λ n e. absurd (none_some n e);
+            has_turn = λ t. absurd (off t);
+            seen = ([], sym history ∙ sym (append-nil r.history));
+            beside = no_prefix s k v.beside more f.beside;
+            opening = λ _. (k.after ++ more, history);
           }
           (λ j u ne e. let g = k.each j u e in record {
             known = g.known;
@@ -284,80 +314,36 @@ serves_with id v w more s k at turn alive wp wf wj wb wo wn wt ws legal counted 
             has_turn = λ t. absurd (else j u ne e (g.has_turn t).1);
             seen = no_prefix s k u.seen more g.seen;
             beside = no_prefix s k u.beside more g.beside;
+            opening = g.opening;
           });
-      apart = apart_set s.views id w k.apart (λ j u n ne e p q. none_some n (sym wn ∙ q));
+      apart = apart_set s.views id w k.apart (λ j u n ne e p q. none_some n q);
       held = r;
-      held_program = r_program;
-      held_history = r_history;
+      held_program = program;
+      held_history = history;
       slot = ap (λ (h : List (mathlib.Core.Option.Option Board)). set h 0 (some r)) slot;
       away = λ o. absurd (off o);
-      legal = legal;
-      counted = λ g. let t = weigh-set (calls_weight g) s.views id v w at in let c = k.counted g in let d = counted g in omega (arith, t, c, d);
-      hands = λ g. let t = weigh-set (hands_weight g) s.views id v w at in let c = k.hands g in let d = hands g in omega (arith, t, c, d);
+      legal = subst (λ (z : Qp × List Event). IsLegal z.0 z.1) (λ i. (program i, history i)) follows.1;
+      counted = λ g.
+          let t = weigh-set (calls_weight g) s.views id v w at in
+          let c = k.counted g in
+          let a = ap (weigh g) calls in
+          let b = weigh-append g v.calls (placed (length v.seen) more) in
+          let d = ap (weigh g) (placed-append (length k.before) k.after more) in
+          let e = weigh-append g (placed (length k.before) k.after) (placed (length k.before + length k.after) more) in
+          let n = ap (λ (n : ℕ). weigh g (placed n more)) (ap length mine.2 ∙ length-append k.before k.after) in
+          omega (arith, t, c, a, b, d, e, n);
+      hands = λ g.
+          let t = weigh-set (hands_weight g) s.views id v w at in
+          let c = k.hands g in
+          let a = ap (λ l. weigh g (hand_of l)) calls in
+          let b = ap (weigh g) (hand_of-append v.calls (length v.seen) more) in
+          let d = ap (λ l. weigh g (open_of l)) (sym (append_assoc k.before k.after more)) ∙ ap (weigh g) (open_after-append [] (k.before ++ k.after) more) in
+          let e = turns_alike g (hand_of v.calls) (open_of (k.before ++ k.after)) more (hand_open s k id v at) follows.2.2 in
+          omega (arith, t, c, a, b, d, e);
     }
-  where
-    ws' : k.before ++ (k.after ++ more) ≡ w.seen
-    ws' = sym ws
-
--- what one event more does to a hand and to what is open
-opens_alike : (f : Held → ℕ) (hand held : List Held) (e : Event) → (is_claim e.kind ≡ false → has (e.worker, e.set) hand ≡ true) → (is_claim e.kind ≡ false → has (e.worker, e.set) held ≡ true)
-    → weigh f (opened hand e) + weigh f held ≡ weigh f hand + weigh f (opened held e)
-opens_alike f hand held e a b = go (is_claim e.kind) refl
-  where
-    go : (d : Bool) → is_claim e.kind ≡ d → weigh f (opened hand e) + weigh f held ≡ weigh f hand + weigh f (opened held e)
-    go true q = let x = weigh-append f hand ((e.worker, e.set) ∷ []) in let y = weigh-append f held ((e.worker, e.set) ∷ []) in rw q (omega (arith, x, y))
-    go false q = let x = weigh-without f (e.worker, e.set) hand (a q) in let y = weigh-without f (e.worker, e.set) held (b q) in rw q (omega (arith, x, y))
-
-served_calls : (v : View) (h ext : List Event) → h ≡ v.seen ++ ext → (served v h).calls ≡ v.calls ++ placed (length v.seen) ext
-served_calls v h ext e = ap (λ l. v.calls ++ placed (length v.seen) l) (ap (drop (length v.seen)) e ∙ drop_whole v.seen ext)
-
-abbrev carrying : Board → List (ℕ × Board)
-carrying r = (0, r) ∷ []
-
-carried_is : (a b : Board) → carrying a ≡ carrying b → a ≡ b
-carried_is a b e = ap (λ (l : List (ℕ × Board)). (get_or l 0 (0, a)).1) e
 
 pub serves : (slots id : ℕ) (v : View) (r : Board) (st : Step Board) → v.turn ≡ true → 0 < v.parts → Follows v r → Allows Kept slots id (v, (0, r) ∷ []) 1 (λ n. (n + 1) % 2 ^ 64) (gave st (v, (0, r) ∷ []))
-serves slots id v r st turn alive follows s k len at small = (served v r.history, gives, tt, ⊎_elim none one follows.2, λ r' e. ap (λ (z : Board). (served v z.history, [])) (carried_is r r' e))
-  where
-    seen_is : v.seen ≡ k.before ++ k.after
-    seen_is = ((k.each id v at).has_turn turn).2
-
-    jobs_are : r.program ≡ k.program
-    jobs_are = follows.0 ∙ ((k.each id v at).known alive).0
-
-    with_more : (more : List Event) → r.history ≡ k.before ++ (k.after ++ more)
-        → ((f : Call → ℕ) → calls_weight f (served v r.history) + weigh f (placed (length k.before) k.after) ≡ calls_weight f v + weigh f (placed (length k.before) (k.after ++ more)))
-        → ((f : Held → ℕ) → hands_weight f (served v r.history) + weigh f (open_of (k.before ++ k.after)) ≡ hands_weight f v + weigh f (open_of (k.before ++ (k.after ++ more))))
-        → Kept (stepped s 1 ((get_or s.words 1 0 + 1) % 2 ^ 64) id ((0, r) ∷ []) (served v r.history) gives)
-    with_more more h counted hands = serves_with id v (served v r.history) more s k at turn alive refl refl refl refl refl refl refl h
-        (subst (λ (z : Qp × List Event). IsLegal z.0 z.1) (λ i. (jobs_are i, h i)) follows.1) counted hands r jobs_are h
-
-    none : r.history ≡ v.seen → Kept (stepped s 1 ((get_or s.words 1 0 + 1) % 2 ^ 64) id ((0, r) ∷ []) (served v r.history) gives)
-    none e =
-        let calls : (served v r.history).calls ≡ v.calls = served_calls v r.history [] (e ∙ sym (append-nil v.seen)) ∙ append-nil v.calls in
-        with_more [] (e ∙ (seen_is ∙ ap (λ l. k.before ++ l) (sym (append-nil k.after))))
-        (λ f. let a = ap (weigh f) calls in let b = ap (λ l. weigh f (placed (length k.before) l)) (append-nil k.after) in omega (arith, a, b))
-        (λ f. let a = ap (λ l. weigh f (hand_of l)) calls in let b = ap (λ l. weigh f (open_of (k.before ++ l))) (append-nil k.after) in omega (arith, a, b))
-
-    one : (e : Event) × (r.history ≡ v.seen ++ e ∷ []) × (is_claim e.kind ≡ false → has (e.worker, e.set) (hand_of v.calls) ≡ true) → Kept (stepped s 1 ((get_or s.words 1 0 + 1) % 2 ^ 64) id ((0, r) ∷ []) (served v r.history) gives)
-    one t =
-        let e = t.0 in
-        let calls : (served v r.history).calls ≡ v.calls ++ (length v.seen, e) ∷ [] = served_calls v r.history (e ∷ []) t.1 in
-        with_more (e ∷ []) (t.1 ∙ (ap (λ l. l ++ e ∷ []) seen_is ∙ append_assoc k.before k.after (e ∷ [])))
-        (λ f.
-        let a = ap (weigh f) calls in
-        let b = weigh-append f v.calls ((length v.seen, e) ∷ []) in
-        let c = ap (weigh f) (placed-snoc (length k.before) k.after e) in
-        let d = weigh-append f (placed (length k.before) k.after) ((length k.before + length k.after, e) ∷ []) in
-        let g : f (length v.seen, e) ≡ f (length k.before + length k.after, e) = ap (λ (n : ℕ). f (n, e)) (ap length seen_is ∙ length-append k.before k.after) in
-        omega (arith, a, b, c, d, g))
-        (λ f.
-        let a = ap (λ l. weigh f (hand_of l)) calls in
-        let b = ap (weigh f) (hand_of-snoc v.calls (length v.seen) e) in
-        let c = ap (λ l. weigh f (open_of l)) (sym (append_assoc k.before k.after (e ∷ []))) ∙ ap (weigh f) (open_after-snoc [] (k.before ++ k.after) e) in
-        let d = opens_alike f (hand_of v.calls) (open_of (k.before ++ k.after)) e t.2 (λ q. hand_open s k id v at (e.worker, e.set) (t.2 q)) in
-        omega (arith, a, b, c, d))
+serves slots id v r st turn alive follows s k len at small = (served v r.history, gives, tt, serves_kept id v r s k at turn alive follows, λ r' e. ap (λ (z : Board). (served v z.history, [])) (carried_is r r' e))
 
 -- what these steps tell doesn't depend on the step's operands
 abbrev pub any : Step Board

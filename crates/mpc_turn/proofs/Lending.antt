@@ -19,7 +19,7 @@ use Rattle.mpc_claim.specs.OpenClaims.{open_of}
 use Rattle.mpc_turn.specs.declared.view.View.{View}
 use Rattle.mpc_turn.specs.Views.{weigh, weigh_all, placed, hand_of, hands_of, Starts, nobody, first_view, parts_of, firsts_of, one_if, waits, calls_weight, hands_weight, left_of, right_of, both_of, longer, settled}
 use Rattle.mpc_turn.specs.Lock.{Sat, Fits, Kept, compared, IsOutside, Ends}
-use Rattle.mpc_turn.proofs.Sums.{weigh-append, weigh_all-append, weigh-set, weigh-same, weigh_at, weigh_two, weigh_only, drop_whole, append-nil}
+use Rattle.mpc_turn.proofs.Sums.{weigh-append, weigh_all-append, weigh-set, weigh-same, weigh_at, weigh_two, weigh_only, drop_whole, append-nil, starts_on}
 use Rattle.mpc_turn.proofs.Keeps.{St, At, Apart, each_set, apart_set, holder_set, still_apart, none_some, off, log, any}
 
 -- the table is made
@@ -56,18 +56,15 @@ opens r legal =
     only (suc j) v e = absurd (some-ne-none v (sym e))
 
     each : (j : ℕ) (v : View) → At (first_view r ∷ []) j v → Fits 0 0 r.program r.history (r.history ++ []) false v
-    each j v e = subst (Fits 0 0 r.program r.history (r.history ++ []) false) (sym (ap_only j v e)) record {
+    each j v e = subst (Fits 0 0 r.program r.history (r.history ++ []) false) (sym (only j v e)) record {
       known = λ _. (refl, refl);
       spent = λ z. absurd (omega arith);
       queued = λ n q. absurd (none_some n q);
       has_turn = λ t. absurd (off t);
       seen = ([], refl);
       beside = (r.history ++ [], refl);
+      opening = λ _. ([], sym (append-nil r.history));
     }
-      where
-        ap_only : (j : ℕ) (v : View) → At (first_view r ∷ []) j v → v ≡ first_view r
-        ap_only zero v e = sym (some-injective _ _ e)
-        ap_only (suc j) v e = absurd (some-ne-none v (sym e))
 
 apart_snoc : (vs : List View) (w : View) → w.number ≡ None → Apart vs → Apart (vs ++ w ∷ [])
 apart_snoc vs w free old j k a b n p q x y =
@@ -103,6 +100,7 @@ splits id v idle more s k at =
             has_turn = f.has_turn;
             seen = f.seen;
             beside = f.beside;
+            opening = λ _. f.opening (omega arith);
           }
           (λ i w _ q. k.each i w q) j u)
           (λ (same : r ≡ u). subst (Fits k.drawn k.served k.program k.before (log s k) k.out) same record {
@@ -112,6 +110,7 @@ splits id v idle more s k at =
             has_turn = λ t. absurd (off t);
             seen = f.seen;
             beside = (log s k, refl);
+            opening = λ _. f.opening (omega arith);
           })
           (at_snoc (set s.views id l) r u j e);
       apart = apart_snoc (set s.views id l) r refl (apart_set s.views id l k.apart (still_apart s.views id v at k.apart));
@@ -153,6 +152,7 @@ joins id v other w idle idle' alive s k at apart there =
             has_turn = λ t. absurd (off t);
             seen = (log s k, refl);
             beside = (log s k, refl);
+            opening = λ z. absurd (omega arith);
           }
           (λ j u _. each_set s.views id b (Fits k.drawn k.served k.program k.before (log s k) k.out)
           record {
@@ -162,6 +162,7 @@ joins id v other w idle idle' alive s k at apart there =
             has_turn = f.has_turn;
             seen = f.seen;
             beside = g.seen;
+            opening = λ _. f.opening alive;
           }
           (λ i x _ q. k.each i x q) j u);
       apart = apart_set one other nobody (apart_set s.views id b k.apart (still_apart s.views id v at k.apart)) (λ j u n ne e x y. none_some n y);
@@ -229,6 +230,7 @@ compares beginnings slots id v c st idle alive s k len at small =
               has_turn = λ x. absurd (true≢false (sym x ∙ idle.1));
               seen = t.2;
               beside = (log s k, refl);
+              opening = λ z. starts_on (settled v).seen v.seen k.before t.0 (f.opening z);
             }
             (λ j u _ e. k.each j u e);
         apart = apart_set s.views id w k.apart (still_apart s.views id v at k.apart);

@@ -1,11 +1,12 @@
 -- Sums over lists.
-use Rattle.std.proofs.Common.{◌≡◌, ◌≢◌, ℕ, zero, suc, ◌+◌, ◌≤◌, List, [], ◌∷◌, ◌++◌, map, length, set, drop, Bool, true, false, cond, refl, sym, ap, ◌∙◌, subst, arith, eqb, eqb-true, eq-eqb}
+use Rattle.std.proofs.Common.{◌≡◌, ◌≢◌, ℕ, zero, suc, ◌+◌, ◌≤◌, List, [], ◌∷◌, ◌++◌, map, length, set, drop, Bool, true, false, cond, refl, sym, ap, ◌∙◌, subst, arith, append_assoc, eqb, eqb-true, eq-eqb}
 use Rattle.std.specs.Prelude.{◌&&◌}
+use mathlib.Core.List.{map-append}
 use mathlib.Core.Option.{some, some-injective, some-ne-none}
 use lib.ListN.{get_elem?}
 use Rattle.mpc_claim.specs.declared.events.Event.{Event}
 use Rattle.mpc_claim.specs.OpenClaims.{Held, same_set, same, has, without, opened, open_after, open_of}
-use Rattle.mpc_turn.specs.Views.{Call, weigh, weigh_all, placed, hand_of}
+use Rattle.mpc_turn.specs.Views.{Call, weigh, weigh_all, placed, hand_of, Starts}
 
 module _ {A : Type 0} (f : A → ℕ) where
   pub weigh-append : (xs ys : List A) → weigh f (xs ++ ys) ≡ weigh f xs + weigh f ys
@@ -56,7 +57,7 @@ module _ {A : Type 0} (f g : A → ℕ) where
 abbrev pub is : Held → Held → ℕ
 is t x = cond (same t x) 1 0
 
-and_first : (p q : Bool) → (p && q) ≡ true → p ≡ true
+pub and_first : (p q : Bool) → (p && q) ≡ true → p ≡ true
 and_first true q h = refl
 and_first false q h = absurd (cc)
 
@@ -108,21 +109,22 @@ weigh-without f t [] h = absurd (cc)
 weigh-without f t (x ∷ xs) h = weigh-without_go f t x xs (same t x) refl (weigh-without f t xs) h
 
 -- events with their places
-pub open_after-snoc : (held : List Held) (es : List Event) (e : Event) → open_after held (es ++ e ∷ []) ≡ opened (open_after held es) e
-open_after-snoc held [] e = refl
-open_after-snoc held (x ∷ es) e = open_after-snoc (opened held x) es e
+pub open_after-append : (held : List Held) (xs ys : List Event) → open_after held (xs ++ ys) ≡ open_after (open_after held xs) ys
+open_after-append held [] ys = refl
+open_after-append held (x ∷ xs) ys = open_after-append (opened held x) xs ys
 
-pub map-snoc : (cs : List Call) (c : Call) → map (λ (x : Call). x.1) (cs ++ c ∷ []) ≡ map (λ (x : Call). x.1) cs ++ c.1 ∷ []
-map-snoc [] c = refl
-map-snoc (x ∷ xs) c = ap (λ l. x.1 ∷ l) (map-snoc xs c)
+placed_events : (k : ℕ) (es : List Event) → map (λ (c : Call). c.1) (placed k es) ≡ es
+placed_events k [] = refl
+placed_events k (e ∷ es) = ap (λ l. e ∷ l) (placed_events (k + 1) es)
 
-pub hand_of-snoc : (cs : List Call) (k : ℕ) (e : Event) → hand_of (cs ++ (k, e) ∷ []) ≡ opened (hand_of cs) e
-hand_of-snoc cs k e = ap open_of (map-snoc cs (k, e)) ∙ open_after-snoc [] (map (λ (x : Call). x.1) cs) e
+pub hand_of-append : (cs : List Call) (k : ℕ) (es : List Event) → hand_of (cs ++ placed k es) ≡ open_after (hand_of cs) es
+hand_of-append cs k es =
+    ap open_of (map-append (λ (c : Call). c.1) cs (placed k es) ∙ ap (λ l. map (λ (c : Call). c.1) cs ++ l) (placed_events k es)) ∙ open_after-append [] (map (λ (c : Call). c.1) cs) es
 
-pub placed-snoc : (k : ℕ) (es : List Event) (e : Event) → placed k (es ++ e ∷ []) ≡ placed k es ++ (k + length es, e) ∷ []
-placed-snoc k [] e = let h : k ≡ k + 0 = omega arith in ap (λ (n : ℕ). (n, e) ∷ []) h
-placed-snoc k (x ∷ xs) e = let n : (k + 1) + length xs ≡ k + suc (length xs) = omega arith in
-    ap (λ l. (k, x) ∷ l) (placed-snoc (k + 1) xs e ∙ ap (λ (m : ℕ). placed (k + 1) xs ++ (m, e) ∷ []) n)
+pub placed-append : (k : ℕ) (xs ys : List Event) → placed k (xs ++ ys) ≡ placed k xs ++ placed (k + length xs) ys
+placed-append k [] ys = let h : k ≡ k + 0 = omega arith in ap (λ (n : ℕ). placed n ys) h
+placed-append k (x ∷ xs) ys = let n : (k + 1) + length xs ≡ k + suc (length xs) = omega arith in
+    ap (λ l. (k, x) ∷ l) (placed-append (k + 1) xs ys ∙ ap (λ (m : ℕ). placed (k + 1) xs ++ placed m ys) n)
 
 pub drop_whole : (xs ys : List Event) → drop (length xs) (xs ++ ys) ≡ ys
 drop_whole [] ys = refl
@@ -131,3 +133,6 @@ drop_whole (x ∷ xs) ys = drop_whole xs ys
 pub append-nil : {A : Type 0} (xs : List A) → xs ++ [] ≡ xs
 append-nil [] = refl
 append-nil (x ∷ xs) = ap (λ l. x ∷ l) (append-nil xs)
+
+pub starts_on : (xs ys zs : List Event) → Starts xs ys → Starts ys zs → Starts xs zs
+starts_on xs ys zs s t = (t.0 ++ s.0, s.1 ∙ (ap (λ l. l ++ s.0) t.1 ∙ append_assoc zs t.0 s.0))

@@ -15,8 +15,9 @@ use Rattle.mpc_claim.specs.declared.candidates.Slot.TheVariants.{Claimed as Clai
 use Rattle.mpc_claim.specs.History.{claimed_sets, has_drop, MayClaim, IsLegal, IsFinished, IsIdle, EndsWide, WantsMemory}
 use Rattle.mpc_claim.specs.OpenClaims.{held_by, open_of, has}
 use Rattle.mpc_claim.specs.HistoryLaws.{next_ticket}
+use Rattle.mpc_claim.specs.Answers.{Claims}
 use Rattle.mpc_turn.specs.declared.view.View.{View}
-use Rattle.mpc_turn.specs.Views.{Call, weigh, weigh_all, placed, hand_of, Starts, numbered, turned, AreOpen}
+use Rattle.mpc_turn.specs.Views.{Call, weigh, weigh_all, placed, hand_of, Starts, numbered, turned, Follows, AreOpen}
 use Rattle.mpc_turn.specs.Lock.{Sat, IsOutside}
 
 -- what a clause sees of a turn
@@ -105,6 +106,17 @@ HasTurn v m = (n : ℕ) × (r : Board) × (m ≡ (turned (numbered v n) r.histor
 
 abbrev pub Holds : List (ℕ × Board) → (Board → Type 0) → Type 0
 Holds c P = (r : Board) × (c ≡ (0, r) ∷ []) × P r
+
+-- what a seat that has the turn must have, to give it up
+abbrev pub IsDue : Sat → Type 0
+IsDue m = (m.0.turn ≡ true) × (0 < m.0.parts) × Holds m.1 (Follows m.0)
+
+-- what calls do to the registry that is out
+abbrev pub ClaimsBy : ℕ → Result Claimed NoMemory → Board → Board → Type 0
+ClaimsBy w answer r s = Claims r w answer s × IsLegal s.program s.history
+
+abbrev pub EndsBy : Ticket → EventKind → Board → Board → Type 0
+EndsBy t kind r s = (s.program ≡ r.program) × (s.history ≡ r.history ++ event t.worker t.set kind ∷ []) × IsLegal s.program s.history
 
 -- 1 for a call at this position
 abbrev pub at_place : ℕ → Call → ℕ

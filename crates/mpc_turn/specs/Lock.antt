@@ -19,6 +19,7 @@ pub record Fits (drawn served : ℕ) (program : Qp) (before log : List Event) (o
   pub has_turn : v.turn ≡ true → (out ≡ true) × (v.number ≡ Some served) × (v.seen ≡ log)
   pub seen : Starts log v.seen
   pub beside : Starts log v.beside
+  pub opening : 0 < v.parts → Starts v.seen before
 
 -- The words are the numbers drawn and served, modulo 2^64. `held` is the registry at home, or as it was taken
 pub record Kept (s : State Board View) : Type 0 where

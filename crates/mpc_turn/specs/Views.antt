@@ -1,5 +1,5 @@
 -- What a pass knows.
-use Rattle.std.specs.Prelude.{◌≡◌, ℕ, ◌+◌, ◌-◌, List, [], ◌∷◌, ◌++◌, map, drop, length, true, false, Option, Some, None, if◌then◌else◌, nat_le, ◌⊎◌}
+use Rattle.std.specs.Prelude.{◌≡◌, ℕ, ◌+◌, ◌-◌, List, [], ◌∷◌, ◌++◌, map, drop, length, true, false, Option, Some, None, if◌then◌else◌, nat_le}
 use Rattle.mpc_claim.specs.declared.events.Event.{Event}
 use Rattle.mpc_claim.specs.Board.{Board}
 use Rattle.mpc_claim.specs.History.{is_claim, IsLegal}
@@ -89,10 +89,16 @@ longer xs ys = if nat_le (length xs) (length ys) then ys else xs
 abbrev pub settled : View → View
 settled v = record v { seen = longer v.seen v.beside; beside = [] }
 
--- the registry in the slot after a turn: as it was seen, or with one event more, which is a claim or the end of one in this hand
+-- what one turn may add: nothing, one event, or the end of a set and behind it a claim; an end is of a set in this hand
+abbrev pub IsTurn : List Held → List Event → Type 0
+IsTurn hand [] = Unit {0}
+IsTurn hand (e ∷ []) = is_claim e.kind ≡ false → has (e.worker, e.set) hand ≡ true
+IsTurn hand (e ∷ c ∷ []) = (is_claim e.kind ≡ false) × (has (e.worker, e.set) hand ≡ true) × (is_claim c.kind ≡ true)
+IsTurn hand (e ∷ c ∷ d ∷ more) = ⊥
+
+-- the registry in the slot after a turn: as it was seen, with what the turn adds
 abbrev pub Follows : View → Board → Type 0
-Follows v r = (r.program ≡ v.program) × IsLegal r.program r.history
-    × ((r.history ≡ v.seen) ⊎ ((e : Event) × (r.history ≡ v.seen ++ e ∷ []) × (is_claim e.kind ≡ false → has (e.worker, e.set) (hand_of v.calls) ≡ true)))
+Follows v r = (r.program ≡ v.program) × IsLegal r.program r.history × ((more : List Event) × (r.history ≡ v.seen ++ more) × IsTurn (hand_of v.calls) more)
 
 -- each claim of the hand is open
 abbrev pub AreOpen : List Call → List Event → Type 0

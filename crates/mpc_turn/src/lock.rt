@@ -4,11 +4,10 @@ ghost use Rattle.std.specs.Prelude.{◌≡◌, ◌<◌, ◌+◌, ◌-◌, ℕ, [
 ghost use Rattle.mpc_rows.specs.Verdicts.{IsRight};
 ghost use Rattle.mpc_claim.specs.declared.events.EventKind.TheVariants.{Done, Drop};
 ghost use Rattle.mpc_claim.specs.Board.{tag_of};
-ghost use Rattle.mpc_claim.specs.History.{IsLegal, IsOpen};
-ghost use Rattle.mpc_claim.specs.Answers.{Claims, abandoned, delivered};
-ghost use Rattle.mpc_turn.specs.Views.{Starts, served, longer, Follows};
+ghost use Rattle.mpc_claim.specs.History.{IsOpen};
+ghost use Rattle.mpc_turn.specs.Views.{Starts, served, longer};
 ghost use Rattle.mpc_turn.specs.Lock.{IsOutside};
-ghost use Rattle.mpc_turn.specs.Known.{Known, first_pass, ClaimedAs, EndedAs, EndedThenClaimed, InHand, HasTurn, Holds, Closed};
+ghost use Rattle.mpc_turn.specs.Known.{Known, first_pass, ClaimedAs, EndedAs, EndedThenClaimed, InHand, HasTurn, Holds, IsDue, ClaimsBy, EndsBy, Closed};
 
 use crate::passes::{Pass, Seat};
 use crate::view::{Compare, Draw, Law, Lend, Look, Serve, View};
@@ -81,7 +80,7 @@ impl Turn {
     /// Gives the registry back, and the turn to the next.
     fn serve(&self, seat: &mut Seat)
         requires turn { seat.old.table_id ≡ self.now }
-        requires taken { (seat.old.me.0.turn ≡ true) × (0 < seat.old.me.0.parts) × Holds seat.old.me.1 (Follows seat.old.me.0) }
+        requires taken { IsDue seat.old.me }
         ensures turn { seat.new.table_id ≡ self.now }
         ensures gave { Holds seat.old.me.1 (λ r. seat.new.me ≡ (served seat.old.me.0 r.history, [])) }
     {
@@ -94,7 +93,7 @@ impl Turn {
         requires taken { Holds seat.old.me.1 (λ r. r ≡ r) }
         ensures turn { seat.new.table_id ≡ self.now }
         ensures view { seat.new.me.0 ≡ seat.old.me.0 }
-        ensures claimed { Holds seat.old.me.1 (λ r. Holds seat.new.me.1 (λ s. Claims r worker result s × IsLegal s.program s.history)) }
+        ensures claimed { Holds seat.old.me.1 (λ r. Holds seat.new.me.1 (ClaimsBy worker result r)) }
     {
         let registry = seat.slot_mut(&self.table.shared, 0);
         let answer = registry.claim(worker);
@@ -109,7 +108,7 @@ impl Turn {
         requires taken { Holds seat.old.me.1 (λ r. IsOpen r.history ticket × IsRight r.program ticket.set judged.verdict) }
         ensures turn { seat.new.table_id ≡ self.now }
         ensures view { seat.new.me.0 ≡ seat.old.me.0 }
-        ensures delivered { Holds seat.old.me.1 (λ r. Holds seat.new.me.1 (λ s. (s ≡ delivered r ticket judged.verdict) × IsLegal s.program s.history)) }
+        ensures ended { Holds seat.old.me.1 (λ r. Holds seat.new.me.1 (EndsBy ticket (Done (tag_of judged.verdict)) r)) }
     {
         let registry = seat.slot_mut(&self.table.shared, 0);
         let answer = registry.deliver(ticket, judged);
@@ -123,7 +122,7 @@ impl Turn {
         requires taken { Holds seat.old.me.1 (λ r. IsOpen r.history ticket) }
         ensures turn { seat.new.table_id ≡ self.now }
         ensures view { seat.new.me.0 ≡ seat.old.me.0 }
-        ensures dropped { Holds seat.old.me.1 (λ r. Holds seat.new.me.1 (λ s. (s ≡ abandoned r ticket) × IsLegal s.program s.history)) }
+        ensures ended { Holds seat.old.me.1 (λ r. Holds seat.new.me.1 (EndsBy ticket Drop r)) }
     {
         let registry = seat.slot_mut(&self.table.shared, 0);
         let answer = registry.abandon(ticket);
@@ -196,8 +195,12 @@ impl Turn {
         requires right { IsRight pass.old.program ticket.set judged.verdict }
         ensures { EndedThenClaimed pass.old ticket (Done (tag_of judged.verdict)) result pass.new }
     {
-        self.deliver_as(rt, pass, ticket, judged);
-        self.claim_as(rt, pass)
+        legal_laws();
+        self.take(rt, &mut pass.seat);
+        self.deliver_in(&mut pass.seat, ticket, judged);
+        let answer = self.claim_in(&mut pass.seat, pass.worker);
+        self.serve(&mut pass.seat);
+        answer
     }
 
     /// Waits for the turn and gives up a set that is in the pass's hand.

@@ -1,6 +1,8 @@
-use Rattle.std.proofs.Common.{◌≡◌, ◌∙◌, sym}
-use Rattle.mpc_claim.specs.History.{IsLegal, IsOpen}
-use Rattle.mpc_claim.specs.Answers.{abandoned}
+use Rattle.std.proofs.Common.{◌∙◌, ap, sym}
+use Rattle.mpc_claim.specs.declared.events.EventKind.TheVariants.{Drop}
+use Rattle.mpc_claim.specs.Board.{Board}
+use Rattle.mpc_claim.specs.History.{IsOpen}
+use Rattle.mpc_turn.specs.Known.{EndsBy}
 use Rattle.mpc_turn.proofs.Slot.{carries, lent, leaves}
 use Rattle.mpc_turn.proofs.lock.Turn.abandon_in.Goals as goal
 
@@ -10,6 +12,7 @@ slot_mut-registry-requires c = (c.requires.turn ∙ sym c.self.view_is, carries 
 pub abandon-answer-requires : goal.abandon-answer-requires
 abandon-answer-requires c = lent c.args.seat.now.me.1 c.slot_mut-registry.result.now (λ r. IsOpen r.history c.args.ticket) c.requires.taken c.slot_mut-registry.ensures.value
 
-pub returns-clause-dropped : goal.returns-clause-dropped
-returns-clause-dropped c =
-    leaves c.args.seat.now.me.1 c.slot_mut-registry.result.now c.abandon-answer.new.self (λ r. IsOpen r.history c.args.ticket) (λ r s. (s ≡ abandoned r c.args.ticket) × IsLegal s.program s.history) c.requires.taken c.slot_mut-registry.ensures.value (c.abandon-answer.ensures, c.history-history.ensures.sound.legal)
+pub returns-clause-ended : goal.returns-clause-ended
+returns-clause-ended c =
+    let e = c.abandon-answer.ensures in
+    leaves c.args.seat.now.me.1 c.slot_mut-registry.result.now c.abandon-answer.new.self (λ r. IsOpen r.history c.args.ticket) (EndsBy c.args.ticket Drop) c.requires.taken c.slot_mut-registry.ensures.value (ap (λ (b : Board). b.program) e, ap (λ (b : Board). b.history) e, c.history-history.ensures.sound.legal)

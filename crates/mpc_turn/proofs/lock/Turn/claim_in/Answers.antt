@@ -1,6 +1,5 @@
 use Rattle.std.proofs.Common.{◌≡◌, ◌∙◌, sym}
-use Rattle.mpc_claim.specs.History.{IsLegal}
-use Rattle.mpc_claim.specs.Answers.{Claims}
+use Rattle.mpc_turn.specs.Known.{ClaimsBy}
 use Rattle.mpc_turn.proofs.Slot.{carries, leaves}
 use Rattle.mpc_turn.proofs.lock.Turn.claim_in.Goals as goal
 
@@ -9,4 +8,4 @@ slot_mut-registry-requires c = (c.requires.turn ∙ sym c.self.view_is, carries 
 
 pub returns-clause-claimed : goal.returns-clause-claimed
 returns-clause-claimed c =
-    leaves c.args.seat.now.me.1 c.slot_mut-registry.result.now c.claim-answer.new.self (λ r. r ≡ r) (λ r s. Claims r c.args.worker c.claim-answer.result s × IsLegal s.program s.history) c.requires.taken c.slot_mut-registry.ensures.value (c.claim-answer.ensures, c.history-history.ensures.sound.legal)
+    leaves c.args.seat.now.me.1 c.slot_mut-registry.result.now c.claim-answer.new.self (λ r. r ≡ r) (ClaimsBy c.args.worker c.claim-answer.result) c.requires.taken c.slot_mut-registry.ensures.value (c.claim-answer.ensures, c.history-history.ensures.sound.legal)

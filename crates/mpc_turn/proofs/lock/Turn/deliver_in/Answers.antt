@@ -1,7 +1,9 @@
-use Rattle.std.proofs.Common.{◌≡◌, ◌∙◌, sym}
+use Rattle.std.proofs.Common.{◌∙◌, ap, sym}
+use Rattle.mpc_claim.specs.declared.events.EventKind.TheVariants.{Done}
 use Rattle.mpc_rows.specs.Verdicts.{IsRight}
-use Rattle.mpc_claim.specs.History.{IsLegal, IsOpen}
-use Rattle.mpc_claim.specs.Answers.{delivered}
+use Rattle.mpc_claim.specs.Board.{Board, tag_of}
+use Rattle.mpc_claim.specs.History.{IsOpen}
+use Rattle.mpc_turn.specs.Known.{EndsBy}
 use Rattle.mpc_turn.proofs.Slot.{carries, lent, leaves}
 use Rattle.mpc_turn.proofs.lock.Turn.deliver_in.Goals as goal
 
@@ -14,6 +16,7 @@ deliver-answer-requires-clause-right c = (lent c.args.seat.now.me.1 c.slot_mut-r
 pub deliver-answer-requires-clause-open_still : goal.deliver-answer-requires-clause-open_still
 deliver-answer-requires-clause-open_still c = (lent c.args.seat.now.me.1 c.slot_mut-registry.result.now (λ r. IsOpen r.history c.args.ticket × IsRight r.program c.args.ticket.set c.args.judged.verdict) c.requires.taken c.slot_mut-registry.ensures.value).0
 
-pub returns-clause-delivered : goal.returns-clause-delivered
-returns-clause-delivered c =
-    leaves c.args.seat.now.me.1 c.slot_mut-registry.result.now c.deliver-answer.new.self (λ r. IsOpen r.history c.args.ticket × IsRight r.program c.args.ticket.set c.args.judged.verdict) (λ r s. (s ≡ delivered r c.args.ticket c.args.judged.verdict) × IsLegal s.program s.history) c.requires.taken c.slot_mut-registry.ensures.value (c.deliver-answer.ensures, c.history-history.ensures.sound.legal)
+pub returns-clause-ended : goal.returns-clause-ended
+returns-clause-ended c =
+    let e = c.deliver-answer.ensures in
+    leaves c.args.seat.now.me.1 c.slot_mut-registry.result.now c.deliver-answer.new.self (λ r. IsOpen r.history c.args.ticket × IsRight r.program c.args.ticket.set c.args.judged.verdict) (EndsBy c.args.ticket (Done (tag_of c.args.judged.verdict))) c.requires.taken c.slot_mut-registry.ensures.value (ap (λ (b : Board). b.program) e, ap (λ (b : Board). b.history) e, c.history-history.ensures.sound.legal)
