@@ -1,13 +1,15 @@
 -- Each step keeps the rule.
 use Rattle.std.proofs.Common.{◌≡◌, ◌≢◌, ℕ, zero, suc, ◌+◌, ◌%◌, ◌^◌, ◌<◌, ◌≤◌, List, [], ◌∷◌, ◌++◌, length, set, get_or, drop, Bool, true, false, true≢false, cond, Option, Some, None, refl, sym, ap, ◌∙◌, subst, ⊎_elim, arith, append_assoc, length-append, length-set, get_or-set_other, get_or-set_same}
 use Rattle.std.proofs.Math.Nat.{mod-add-mod}
+use Rattle.std.specs.Prelude.{◌==◌}
+use prog.Atomic.{either}
 use mathlib.Core.Option.{some, none, some-injective, some-ne-none}
 use mathlib.Core.Logic.{dite}
 use native.Mathlib.Decide.{ℕ_discrete}
 use lib.ListN.{get_elem?}
 use lib.Seq.{set-get_or}
-use Rattle.atomic_table.specs.Table.{State, Step, step, keeps, takes, gives, stepped, Allows}
-use Rattle.atomic_table.proofs.Lists.{at_set, set_again, set_here, set_else, one_turn}
+use Rattle.atomic_table.specs.Table.{State, Step, step, Act, keeps, takes, gives, carried_after, Valid, stepped, Allows}
+use Rattle.atomic_table.proofs.Lists.{at_set, set_again, set_here, set_else, one_turn, exchanged}
 use Rattle.mpc_rows.specs.declared.programs.Qp.{Qp}
 use Rattle.mpc_claim.specs.declared.events.Event.{Event}
 use Rattle.mpc_claim.specs.Board.{Board}
@@ -89,60 +91,74 @@ module _ (s : St) (k : Kept s) where
   pub no_prefix : (seen more : List Event) → Starts log seen → Starts (k.before ++ (k.after ++ more)) seen
   no_prefix seen more t = (t.0 ++ more, sym (append_assoc k.before k.after more) ∙ ap (λ l. l ++ more) t.1 ∙ append_assoc seen t.0 more)
 
-pub draws : (slots id : ℕ) (v : View) (c : List (ℕ × Board)) (st : Step Board) → v.number ≡ None → 0 < v.parts → Allows Kept slots id (v, c) 0 (λ n. (n + 1) % 2 ^ 64) (drew st (v, c))
-draws slots id v c st free alive s k len at small =
+-- a word that stays, with a view that stays
+stays : (i id : ℕ) (v : View) (c : List (ℕ × Board)) (s : St) (k : Kept s) → At s.views id v → Kept (stepped s i (get_or s.words i 0) id c v keeps)
+stays i id v c s k at =
+    subst (λ (ws : List ℕ). Kept record { words = ws; homes = s.homes; views = set s.views id v }) (sym (set-get_or s.words i 0))
+    (subst (λ (vs : List View). Kept record { words = s.words; homes = s.homes; views = vs }) (sym (set_again s.views id v at)) k)
+
+draw_kept : (id : ℕ) (v : View) (c : List (ℕ × Board)) (s : St) (k : Kept s) → At s.views id v → v.number ≡ None → 0 < v.parts → Kept (stepped s 0 ((get_or s.words 0 0 + 1) % 2 ^ 64) id c (numbered v k.drawn) keeps)
+draw_kept id v c s k at free alive =
     let w = numbered v k.drawn in
     let x : ℕ = (get_or s.words 0 0 + 1) % 2 ^ 64 in
     let two = k.two in
     let f = k.each id v at in
-    let none_at : (n : ℕ) → v.number ≡ Some n → ⊥ = λ n e. none_some n (sym free ∙ e) in (
-      w,
+    let none_at : (n : ℕ) → v.number ≡ Some n → ⊥ = λ n e. none_some n (sym free ∙ e) in
+    record {
+      drawn = k.drawn + 1;
+      served = k.served;
+      program = k.program;
+      before = k.before;
+      after = k.after;
+      out = k.out;
+      two = length-set s.words 0 x ∙ two;
+      ticket = get_or-set_same s.words 0 x 0 (omega arith) ∙ (ap (λ (n : ℕ). (n + 1) % 2 ^ 64) k.ticket ∙ mod-add-mod k.drawn (2 ^ 64) 1);
+      serving = get_or-set_other s.words 0 1 x 0 (λ e. omega arith) ∙ k.serving;
+      parts = weigh-same parts_of s.views id v w at refl ∙ k.parts;
+      firsts = weigh-same firsts_of s.views id v w at refl ∙ k.firsts;
+      queue = let q = k.queue in let t = weigh-set waits s.views id v w at in let z : waits v ≡ 0 = ap one_if free in omega (arith, q, t, z);
+      each = each_set s.views id w (Fits (k.drawn + 1) k.served k.program k.before (log s k) k.out)
+          record {
+            known = f.known;
+            spent = λ z. absurd (omega arith);
+            queued = λ n e. let same = some_same k.drawn n e in let q = k.queue in (omega arith, omega arith);
+            has_turn = λ t. absurd (none_at k.served (f.has_turn t).1);
+            seen = f.seen;
+            beside = f.beside;
+            opening = f.opening;
+          }
+          (λ j u ne e. let g = k.each j u e in record {
+            known = g.known;
+            spent = g.spent;
+            queued = λ n q. let h = g.queued n q in (h.0, omega (arith, h.1));
+            has_turn = g.has_turn;
+            seen = g.seen;
+            beside = g.beside;
+            opening = g.opening;
+          });
+      apart = apart_set s.views id w k.apart (λ j u n ne e p q. let same = some_same k.drawn n q in let h = (k.each j u e).queued n p in omega (arith, h.1, same));
+      held = k.held;
+      held_program = k.held_program;
+      held_history = k.held_history;
+      slot = k.slot;
+      away = λ o. holder_set s.views id w v at (λ t. t) (k.away o);
+      legal = k.legal;
+      counted = λ g. weigh-same (calls_weight g) s.views id v w at refl ∙ k.counted g;
+      hands = λ g. ap (λ (n : ℕ). n + weigh g (open_of k.before)) (weigh-same (hands_weight g) s.views id v w at refl) ∙ k.hands g;
+    }
+
+-- a number is drawn where the word is as expected, and nothing changes elsewhere
+pub draws : (slots id : ℕ) (m : Sat) (old new : ℕ) → new ≡ (old + 1) % 2 ^ 64 → m.0.number ≡ None → 0 < m.0.parts → Allows Kept slots id m 0 (λ n. either (n == old) new n) (drew (step 0 0 old new none) m)
+draws slots id m old new is free alive s k len at small =
+    exchanged (get_or s.words 0 0) old new (λ x. (w : View) × (a : Act Board) × Valid s.homes m.1 a × Kept (stepped s 0 x id m.1 w a) × drew (step 0 0 old new none) m (get_or s.words 0 0) (w, carried_after m.1 a))
+    (λ e. (
+      numbered m.0 k.drawn,
       keeps,
       tt,
-      record {
-        drawn = k.drawn + 1;
-        served = k.served;
-        program = k.program;
-        before = k.before;
-        after = k.after;
-        out = k.out;
-        two = length-set s.words 0 x ∙ two;
-        ticket = get_or-set_same s.words 0 x 0 (omega arith) ∙ (ap (λ (n : ℕ). (n + 1) % 2 ^ 64) k.ticket ∙ mod-add-mod k.drawn (2 ^ 64) 1);
-        serving = get_or-set_other s.words 0 1 x 0 (λ e. omega arith) ∙ k.serving;
-        parts = weigh-same parts_of s.views id v w at refl ∙ k.parts;
-        firsts = weigh-same firsts_of s.views id v w at refl ∙ k.firsts;
-        queue = let q = k.queue in let t = weigh-set waits s.views id v w at in let z : waits v ≡ 0 = ap one_if free in omega (arith, q, t, z);
-        each = each_set s.views id w (Fits (k.drawn + 1) k.served k.program k.before (log s k) k.out)
-            record {
-              known = f.known;
-              spent = λ z. absurd (omega arith);
-              queued = λ n e. let same = some_same k.drawn n e in let q = k.queue in (omega arith, omega arith);
-              has_turn = λ t. absurd (none_at k.served (f.has_turn t).1);
-              seen = f.seen;
-              beside = f.beside;
-              opening = f.opening;
-            }
-            (λ j u ne e. let g = k.each j u e in record {
-              known = g.known;
-              spent = g.spent;
-              queued = λ n q. let h = g.queued n q in (h.0, omega (arith, h.1));
-              has_turn = g.has_turn;
-              seen = g.seen;
-              beside = g.beside;
-              opening = g.opening;
-            });
-        apart = apart_set s.views id w k.apart (λ j u n ne e p q. let same = some_same k.drawn n q in let h = (k.each j u e).queued n p in omega (arith, h.1, same));
-        held = k.held;
-        held_program = k.held_program;
-        held_history = k.held_history;
-        slot = k.slot;
-        away = λ o. holder_set s.views id w v at (λ t. t) (k.away o);
-        legal = k.legal;
-        counted = λ g. weigh-same (calls_weight g) s.views id v w at refl ∙ k.counted g;
-        hands = λ g. ap (λ (n : ℕ). n + weigh g (open_of k.before)) (weigh-same (hands_weight g) s.views id v w at refl) ∙ k.hands g;
-      },
-      (k.drawn, refl, k.ticket),
-    )
+      subst (λ (x : ℕ). Kept (stepped s 0 x id m.1 (numbered m.0 k.drawn) keeps)) (ap (λ (n : ℕ). (n + 1) % 2 ^ 64) e ∙ sym is) (draw_kept id m.0 m.1 s k at free alive),
+      ((λ _. (k.drawn, refl, k.ticket)), (λ ne. absurd (ne e))),
+    ))
+    (λ ne. (m.0, keeps, tt, stays 0 id m.0 m.1 s k at, ((λ e. absurd (ne e)), (λ _. refl))))
 
 -- the tickets of a hand are open in the history
 hand_open : (s : St) (k : Kept s) (id : ℕ) (v : View) → At s.views id v → (t : Held) → has t (hand_of v.calls) ≡ true → has t (open_of (log s k)) ≡ true
@@ -227,11 +243,6 @@ looks_here id v n st s k at number idle alive same home =
       ),
     )
 
-looks_else : (id : ℕ) (v : View) (s : St) (k : Kept s) → At s.views id v → Kept (stepped s 1 (get_or s.words 1 0) id [] v keeps)
-looks_else id v s k at =
-    subst (λ (ws : List ℕ). Kept record { words = ws; homes = s.homes; views = set s.views id v }) (sym (set-get_or s.words 1 0))
-    (subst (λ (vs : List View). Kept record { words = s.words; homes = s.homes; views = vs }) (sym (set_again s.views id v at)) k)
-
 pub looks : (slots id : ℕ) (v : View) (n : ℕ) (st : Step Board) → v.number ≡ Some n → v.turn ≡ false → 0 < v.parts → Allows Kept slots id (v, []) 1 (λ m. m) (looked st (v, []))
 looks slots id v n st number idle alive s k len at small = dite (ℕ_discrete (get_or s.words 1 0) (n % 2 ^ 64))
     (λ e.
@@ -241,7 +252,7 @@ looks slots id v n st number idle alive s k len at small = dite (ℕ_discrete (g
     let home = at_home s k id v at (number ∙ ap Some (sym same)) idle k.out refl in
     let t = looks_here id v n st s k at number idle alive same home in
     (turned v k.held.history, takes 0 k.held, t.0, t.1, λ m p. ((λ _. t.2), (λ ne. absurd (ne (e ∙ ap (λ (z : ℕ). z % 2 ^ 64) (some_same n m (sym number ∙ p))))))))
-    (λ ne. (v, keeps, tt, looks_else id v s k at, λ m p. ((λ e. absurd (ne (e ∙ ap (λ (z : ℕ). z % 2 ^ 64) (sym (some_same n m (sym number ∙ p)))))), (λ _. refl))))
+    (λ ne. (v, keeps, tt, stays 1 id v [] s k at, λ m p. ((λ e. absurd (ne (e ∙ ap (λ (z : ℕ). z % 2 ^ 64) (sym (some_same n m (sym number ∙ p)))))), (λ _. refl))))
 
 -- what one turn adds does to a hand what it does to what is open
 opens_alike : (f : Held → ℕ) (hand held : List Held) (e : Event) → (is_claim e.kind ≡ false → has (e.worker, e.set) hand ≡ true) → (is_claim e.kind ≡ false → has (e.worker, e.set) held ≡ true)
@@ -355,9 +366,6 @@ looks_as slots id m n number idle alive empty = subst (λ (c : List (ℕ × Boar
 
 pub serves_as : (slots id : ℕ) (m : Sat) (r : Board) → m.1 ≡ (0, r) ∷ [] → m.0.turn ≡ true → 0 < m.0.parts → Follows m.0 r → Allows Kept slots id m 1 (λ n. (n + 1) % 2 ^ 64) (gave any m)
 serves_as slots id m r carries turn alive follows = subst (λ (c : List (ℕ × Board)). Allows Kept slots id (m.0, c) 1 (λ n. (n + 1) % 2 ^ 64) (gave any (m.0, c))) (sym carries) (serves slots id m.0 r any turn alive follows)
-
-pub draws_as : (slots id : ℕ) (m : Sat) → m.0.number ≡ None → 0 < m.0.parts → Allows Kept slots id m 0 (λ n. (n + 1) % 2 ^ 64) (drew any m)
-draws_as slots id m = draws slots id m.0 m.1 any
 
 -- a look that finds the number that was drawn has the turn
 pub takes_turn : (m m1 m2 : Sat) (n found : ℕ) → m1 ≡ (numbered m.0 n, m.1) → m.1 ≡ [] → found ≡ n % 2 ^ 64 → looked any m1 found m2 → HasTurn m.0 m2

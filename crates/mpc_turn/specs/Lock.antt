@@ -49,8 +49,13 @@ pub record Kept (s : State Board View) : Type 0 where
 abbrev pub Sat : Type 0
 Sat = Me Board View
 
+-- the number r was drawn
+abbrev pub Draws : Sat → ℕ → Sat → Type 0
+Draws m r m' = (n : ℕ) × (m' ≡ (numbered m.0 n, m.1)) × (r ≡ n % 2 ^ 64)
+
+-- where the word was as expected
 abbrev pub drew : Step Board → Sat → ℕ → Sat → Type 0
-drew st m r m' = (n : ℕ) × (m' ≡ (numbered m.0 n, m.1)) × (r ≡ n % 2 ^ 64)
+drew st m r m' = (r ≡ st.first → Draws m r m') × (r ≢ st.first → m' ≡ m)
 
 -- the slot is taken, with a registry of this program whose legal history begins with what was seen, and in which the claims of the hand are open
 abbrev pub Takes : Sat → Sat → Type 0

@@ -1,12 +1,12 @@
 //! The lock.
 
-ghost use Rattle.std.specs.Prelude.{◌≡◌, ◌<◌, ◌+◌, ◌-◌, ℕ, [], ◌∷◌, ◌++◌, true, false, length, drop, IfOk};
+ghost use Rattle.std.specs.Prelude.{◌≡◌, ◌<◌, ◌+◌, ◌-◌, ℕ, [], ◌∷◌, ◌++◌, true, false, length, drop, IfOk, MatchOption};
 ghost use Rattle.mpc_rows.specs.Verdicts.{IsRight};
 ghost use Rattle.mpc_claim.specs.declared.events.EventKind.TheVariants.{Done, Drop};
 ghost use Rattle.mpc_claim.specs.Board.{tag_of};
 ghost use Rattle.mpc_claim.specs.History.{IsOpen};
 ghost use Rattle.mpc_turn.specs.Views.{Starts, served, longer};
-ghost use Rattle.mpc_turn.specs.Lock.{IsOutside};
+ghost use Rattle.mpc_turn.specs.Lock.{Draws, IsOutside};
 ghost use Rattle.mpc_turn.specs.Known.{Known, first_pass, ClaimedAs, EndedAs, EndedThenClaimed, InHand, HasTurn, Holds, IsDue, ClaimsBy, EndsBy, Closed};
 
 use crate::passes::{Pass, Seat};
@@ -16,10 +16,11 @@ use mpc_claim::{Claimed, Delivery, Registry, Ticket, history_laws, legal_laws};
 use mpc_frac::NoMemory;
 use mpc_rows::Judged;
 use std::alloc::Global;
+use std::hint;
 use std::marker::Model;
 use std::snapshot::Snapshot;
 use std::sync::Wait;
-use std::{hint, thread};
+use std::sync::atomic::{AtomicU64, Ordering};
 
 /// The word whose count is the number of the next in the queue.
 const TICKET: usize = 0;
@@ -27,16 +28,28 @@ const TICKET: usize = 0;
 /// The word whose count is the number that has the turn.
 const SERVING: usize = 1;
 
-/// How often whoever waits looks before it lets other threads run in between. A turn mostly takes
-/// less than that, and on a busy machine a thread that has let others run is long in coming back,
-/// while all behind it in the queue wait too.
+/// How often whoever waits looks before it sleeps. That many looks take about as long as a sleep
+/// and its end take the system, and a turn mostly takes less, so no wait costs much more than the
+/// better of both.
 const QUICK_LOOKS: u32 = 100;
 
-/// A registry that passes take turns at. Whoever calls draws a number, waits until it is served, has
-/// the registry alone meanwhile, and then serves the next. Contracts see its identity.
+/// A registry that passes take turns at. Whoever calls waits until nobody has the turn, draws the
+/// number that is served, has the registry alone meanwhile, and then serves the next. Contracts see
+/// its identity.
+///
+/// Nobody queues: a number is drawn only by whoever is served at once, so a waiter that is off its
+/// processor stops nobody. It costs one wake, since it sleeps on the number that is served.
+///
+/// No wake is lost. A sleeper counts itself before it reads that number, on which it then parks, and
+/// whoever serves raises the number before it reads the count, all in one order. So where the count
+/// lacks the sleeper, it has read the number as raised, and parks only if another has the turn, who
+/// serves later; and where it was counted, it parks before the wake, or not at all on the old
+/// number. A sleeper that is woken takes the turn, or finds that another has it, and either wakes
+/// the next. That anybody is ever served isn't proved.
 #[derive(Drop)]
 pub struct Turn {
     table: Table<Registry, View, Snapshot<Registry>, Law, Global>,
+    sleepers: AtomicU64,
 }
 
 impl Model for Turn {
@@ -53,31 +66,84 @@ impl Model for Turn {
 }
 
 impl Turn {
-    /// Waits for the turn.
+    /// Draws the number that is served, where nobody has the turn.
+    fn try_draw(&self, seat: &mut Seat) -> Option<u64>
+        requires turn { seat.old.table_id ≡ self.now }
+        requires idle { (seat.old.me.0.number ≡ None) × (0 < seat.old.me.0.parts) }
+        ensures turn { seat.new.table_id ≡ self.now }
+        ensures drawn { MatchOption result (seat.new.me ≡ seat.old.me) (λ n. Draws seat.old.me n seat.new.me) }
+    {
+        let served = self.table.shared.peek(SERVING);
+        if self.table.shared.peek(TICKET) != served {
+            return None;
+        }
+        let next = served.wrapping_add(1);
+        let found = self
+            .table
+            .shared
+            .compare_exchange::<Draw>(seat, TICKET, served, next);
+        if found == served { Some(served) } else { None }
+    }
+
+    /// Sleeps where somebody has the turn, until one ends. It may also return at once.
+    fn sleep<T: Wait>(&self, rt: &T) {
+        self.sleepers.fetch_add(1, Ordering::SeqCst);
+        let served = self.table.shared.peek(SERVING);
+        if self.table.shared.peek(TICKET) != served {
+            let low = (served & 0xffff_ffff) as u32;
+            self.table.shared.park(rt, SERVING, low);
+        }
+        self.sleepers.fetch_sub(1, Ordering::SeqCst);
+    }
+
+    /// Wakes one who sleeps, if there is any.
+    fn wake(&self) {
+        if self.sleepers.load(Ordering::SeqCst) != 0 {
+            self.table.shared.wake_one(SERVING);
+        }
+    }
+
+    /// Waits until nobody has the turn, and draws the number that is served.
+    fn draw<T: Wait>(&self, rt: &T, seat: &mut Seat) -> u64
+        requires turn { seat.old.table_id ≡ self.now }
+        requires idle { (seat.old.me.0.number ≡ None) × (0 < seat.old.me.0.parts) }
+        ensures turn { seat.new.table_id ≡ self.now }
+        ensures drawn { Draws seat.old.me result seat.new.me }
+    {
+        let mut looks = 0;
+        for _ in rt.forever() {
+            if let Some(mine) = self.try_draw(seat) {
+                return mine;
+            }
+            if looks < QUICK_LOOKS {
+                looks += 1;
+                hint::spin_loop();
+            } else {
+                looks = 0;
+                self.sleep(rt);
+            }
+        }
+        unreachable!()
+    }
+
+    /// Waits for the turn. A number that was drawn is served at once, which the loop needn't know.
     fn take<T: Wait>(&self, rt: &T, seat: &mut Seat)
         requires turn { seat.old.table_id ≡ self.now }
         requires idle { IsOutside seat.old.me.0 × (seat.old.me.1 ≡ []) × (0 < seat.old.me.0.parts) }
         ensures turn { seat.new.table_id ≡ self.now }
         ensures taken { HasTurn seat.old.me.0 seat.new.me }
     {
-        let mine = self.table.shared.fetch_add::<Draw>(seat, TICKET, 1);
-        let mut looks = 0;
+        let mine = self.draw(rt, seat);
         for _ in rt.forever() {
             let now = self.table.shared.load::<Look>(seat, SERVING);
             if now == mine {
                 return;
             }
-            if looks < QUICK_LOOKS {
-                looks += 1;
-                hint::spin_loop();
-            } else {
-                thread::yield_now();
-            }
         }
         unreachable!()
     }
 
-    /// Gives the registry back, and the turn to the next.
+    /// Gives the registry back, and the turn to whoever comes next.
     fn serve(&self, seat: &mut Seat)
         requires turn { seat.old.table_id ≡ self.now }
         requires taken { IsDue seat.old.me }
@@ -85,6 +151,7 @@ impl Turn {
         ensures gave { Holds seat.old.me.1 (λ r. seat.new.me ≡ (served seat.old.me.0 r.history, [])) }
     {
         self.table.shared.fetch_add::<Serve>(seat, SERVING, 1);
+        self.wake();
     }
 
     /// A claim on the registry that is out with the seat.
@@ -144,7 +211,8 @@ impl Turn {
         let Ok((table, seat)) = Table::new(alloc, &[0, 0], slots, &about) else {
             return Err(NoMemory);
         };
-        Ok((Turn { table }, Pass { seat, worker: 0 }))
+        let sleepers = AtomicU64::new(0);
+        Ok((Turn { table, sleepers }, Pass { seat, worker: 0 }))
     }
 
     /// Waits for the turn and claims. Afterwards, also without memory, the pass has seen a history
@@ -181,7 +249,7 @@ impl Turn {
     }
 
     /// Waits for the turn, delivers the verdict on a set that is in the pass's hand, and claims the
-    /// next one.
+    /// next one in the same turn.
     pub fn deliver_then_claim_as<T: Wait>(
         &self,
         rt: &T,
@@ -252,7 +320,7 @@ impl Turn {
         ensures { Closed first result }
     {
         legal_laws();
-        let Turn { table } = self;
+        let Turn { table, sleepers: _ } = self;
         let Pass { seat, worker: _ } = first;
         let mut closed = table.close_with(seat);
         let registry = closed.take(0);

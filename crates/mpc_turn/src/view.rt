@@ -36,7 +36,7 @@ impl TableRule<Registry, View, Snapshot<Registry>> for Law {
     ghost first = { λ k. first_view k.value };
 }
 
-/// A number of the queue is drawn.
+/// A number is drawn, where the word is as expected.
 pub(crate) struct Draw;
 
 impl Play<Registry, View> for Draw {
