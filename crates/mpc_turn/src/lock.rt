@@ -265,10 +265,10 @@ impl Turn {
     {
         legal_laws();
         self.take(rt, &mut pass.seat);
-        self.deliver_in(&mut pass.seat, ticket, judged);
-        let answer = self.claim_in(&mut pass.seat, pass.worker);
+        let _ = self.deliver_in(&mut pass.seat, ticket, judged);
+        let claimed = self.claim_in(&mut pass.seat, pass.worker);
         self.serve(&mut pass.seat);
-        answer
+        claimed
     }
 
     /// Waits for the turn and gives up a set that is in the pass's hand.

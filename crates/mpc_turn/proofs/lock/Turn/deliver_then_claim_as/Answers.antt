@@ -11,17 +11,17 @@ deliver_in-requires-clause-taken g c =
     let o = turn_opens c.legal_laws.ensures.open_list c.legal_laws.ensures.appended c.pass.inside.seat.table_id c.pass.inside.worker c.pass.inside.seat.me.0 _ _ _ c.pass.view_is c.requires.hand c.take.ensures.taken in
     (o.0, o.1, (o.2.0, subst (λ (j : Qp). IsRight j c.args.ticket.set c.args.judged.verdict) (sym o.2.1) c.requires.right))
 
-pub claim_in-answer-requires-clause-taken : goal.claim_in-answer-requires-clause-taken
-claim_in-answer-requires-clause-taken g c = let d = c.deliver_in.ensures.ended.2 in (d.0, d.1, refl)
+pub claim_in-claimed-requires-clause-taken : goal.claim_in-claimed-requires-clause-taken
+claim_in-claimed-requires-clause-taken g c = let d = c.deliver_in.ensures.ended.2 in (d.0, d.1, refl)
 
 pub serve-requires-clause-taken : goal.serve-requires-clause-taken
 serve-requires-clause-taken g c =
-    end_then_claim_due _ c.pass.inside.seat.table_id _ _ _ _ c.take.new.seat.me _ c.pass.view_is c.pass.invariant c.take.ensures.taken (c.claim_in-answer.ensures.view ∙ c.deliver_in.ensures.view) c.args.ticket (Done (tag_of c.args.judged.verdict)) c.requires.hand _ c.claim_in-answer.result c.deliver_in.ensures.ended c.claim_in-answer.ensures.claimed refl
+    end_then_claim_due _ c.pass.inside.seat.table_id _ _ _ _ c.take.new.seat.me _ c.pass.view_is c.pass.invariant c.take.ensures.taken (c.claim_in-claimed.ensures.view ∙ c.deliver_in.ensures.view) c.args.ticket (Done (tag_of c.args.judged.verdict)) c.requires.hand _ c.claim_in-claimed.result c.deliver_in.ensures.ended c.claim_in-claimed.ensures.claimed refl
 
 pub invariant_of-pass : goal.invariant_of-pass
 invariant_of-pass g c =
-    end_then_claim_pass _ c.pass.inside.seat.table_id _ _ _ _ _ _ c.pass.view_is c.pass.invariant c.take.ensures.taken (c.claim_in-answer.ensures.view ∙ c.deliver_in.ensures.view) c.args.ticket (Done (tag_of c.args.judged.verdict)) c.requires.hand _ c.claim_in-answer.result c.deliver_in.ensures.ended c.claim_in-answer.ensures.claimed c.serve.ensures.gave
+    end_then_claim_pass _ c.pass.inside.seat.table_id _ _ _ _ _ _ c.pass.view_is c.pass.invariant c.take.ensures.taken (c.claim_in-claimed.ensures.view ∙ c.deliver_in.ensures.view) c.args.ticket (Done (tag_of c.args.judged.verdict)) c.requires.hand _ c.claim_in-claimed.result c.deliver_in.ensures.ended c.claim_in-claimed.ensures.claimed c.serve.ensures.gave
 
 pub returns : goal.returns
 returns g c =
-    end_then_claim_is _ _ _ _ _ _ _ _ c.pass.view_is c.pass.invariant c.take.ensures.taken (c.claim_in-answer.ensures.view ∙ c.deliver_in.ensures.view) c.args.ticket (Done (tag_of c.args.judged.verdict)) c.requires.hand _ c.claim_in-answer.result c.deliver_in.ensures.ended c.claim_in-answer.ensures.claimed c.serve.ensures.gave (c.serve.ensures.turn ∙ sym c.requires.turn)
+    end_then_claim_is _ _ _ _ _ _ _ _ c.pass.view_is c.pass.invariant c.take.ensures.taken (c.claim_in-claimed.ensures.view ∙ c.deliver_in.ensures.view) c.args.ticket (Done (tag_of c.args.judged.verdict)) c.requires.hand _ c.claim_in-claimed.result c.deliver_in.ensures.ended c.claim_in-claimed.ensures.claimed c.serve.ensures.gave (c.serve.ensures.turn ∙ sym c.requires.turn)
