@@ -15,12 +15,12 @@ use Rattle.mpc_claim.specs.declared.events.Event.{Event}
 use Rattle.mpc_claim.specs.Board.{Board}
 use Rattle.mpc_claim.specs.History.{IsLegal}
 use Rattle.mpc_claim.specs.HistoryLaws.{LegalBeginnings}
-use Rattle.mpc_claim.specs.OpenClaims.{open_of}
+use Rattle.mpc_claim.specs.OpenClaims.{Held, open_of}
 use Rattle.mpc_turn.specs.declared.view.View.{View}
-use Rattle.mpc_turn.specs.Views.{weigh, weigh_all, placed, hand_of, hands_of, Starts, nobody, first_view, parts_of, firsts_of, one_if, waits, calls_weight, hands_weight, left_of, right_of, both_of, longer, settled}
+use Rattle.mpc_turn.specs.Views.{Call, weigh, weigh_all, placed, hand_of, hands_of, Starts, nobody, first_view, parts_of, firsts_of, one_if, waits, calls_weight, hands_weight, left_of, right_of, both_of, longer, settled}
 use Rattle.mpc_turn.specs.Lock.{Sat, Fits, Kept, compared, IsOutside, Ends}
 use Rattle.mpc_turn.proofs.Sums.{weigh-append, weigh_all-append, weigh-set, weigh-same, weigh_at, weigh_two, weigh_only, drop_whole, append-nil, starts_on}
-use Rattle.mpc_turn.proofs.Keeps.{St, At, Apart, each_set, apart_set, holder_set, still_apart, none_some, off, log, any}
+use Rattle.mpc_turn.proofs.Keeps.{St, At, Apart, Holder, each_set, apart_set, holder_set, still_apart, none_some, off, log, any}
 
 -- the table is made
 pub opens : (r : Board) → IsLegal r.program r.history → Kept (opening (0 ∷ 0 ∷ []) (r ∷ []) (first_view r))
@@ -73,56 +73,71 @@ apart_snoc vs w free old j k a b n p q x y =
     (λ (e : w ≡ a). absurd (none_some n (sym free ∙ (ap (λ (z : View). z.number) e ∙ x))))
     (at_snoc vs w a j p)
 
+-- other views that weigh the same, with the same words and slot
+reseats : (s : St) (k : Kept s) (vs : List View) → weigh parts_of vs ≡ weigh parts_of s.views → weigh firsts_of vs ≡ weigh firsts_of s.views → weigh waits vs ≡ weigh waits s.views
+    → ((f : Call → ℕ) → weigh (calls_weight f) vs ≡ weigh (calls_weight f) s.views) → ((f : Held → ℕ) → weigh (hands_weight f) vs ≡ weigh (hands_weight f) s.views)
+    → ((j : ℕ) (u : View) → At vs j u → Fits k.drawn k.served k.program k.before (log s k) k.out u) → Apart vs → (Holder s.views → Holder vs) → Kept record { words = s.words; homes = s.homes; views = vs }
+reseats s k vs parts firsts queue counted hands each apart away = record {
+  drawn = k.drawn;
+  served = k.served;
+  program = k.program;
+  before = k.before;
+  after = k.after;
+  out = k.out;
+  two = k.two;
+  ticket = k.ticket;
+  serving = k.serving;
+  parts = parts ∙ k.parts;
+  firsts = firsts ∙ k.firsts;
+  queue = let q = k.queue in omega (arith, q, queue);
+  each = each;
+  apart = apart;
+  held = k.held;
+  held_program = k.held_program;
+  held_history = k.held_history;
+  slot = k.slot;
+  away = λ o. away (k.away o);
+  legal = k.legal;
+  counted = λ f. counted f ∙ k.counted f;
+  hands = λ f. let a = hands f in let b = k.hands f in omega (arith, a, b);
+}
+
 pub splits : (id : ℕ) (v : View) → IsOutside v → 1 < v.parts → Splits Kept id v (left_of v) (right_of v)
 splits id v idle more s k at =
     let l = left_of v in
     let r = right_of v in
     let f = k.each id v at in
+    let weighs : (g : View → ℕ) → g l + g r ≡ g v → weigh g (set s.views id l ++ r ∷ []) ≡ weigh g s.views = λ g e. let a = weigh-append g (set s.views id l) (r ∷ []) in let b = weigh-set g s.views id v l at in omega (arith, a, b, e) in
+    reseats s k (set s.views id l ++ r ∷ [])
+    (weighs parts_of (omega arith))
+    (weighs firsts_of (omega arith))
+    (weighs waits (omega arith))
+    (λ g. weighs (calls_weight g) (omega arith))
+    (λ g. weighs (hands_weight g) (omega arith))
+    (λ j u e. ⊎_elim
+    (each_set s.views id l (Fits k.drawn k.served k.program k.before (log s k) k.out)
     record {
-      drawn = k.drawn;
-      served = k.served;
-      program = k.program;
-      before = k.before;
-      after = k.after;
-      out = k.out;
-      two = k.two;
-      ticket = k.ticket;
-      serving = k.serving;
-      firsts = let a = weigh-append firsts_of (set s.views id l) (r ∷ []) in let b = weigh-same firsts_of s.views id v l at refl in let c = k.firsts in omega (arith, a, b, c);
-      parts = let a = weigh-append parts_of (set s.views id l) (r ∷ []) in let b = weigh-set parts_of s.views id v l at in let c = k.parts in omega (arith, a, b, c);
-      queue = let a = weigh-append waits (set s.views id l) (r ∷ []) in let b = weigh-same waits s.views id v l at refl in let c = k.queue in omega (arith, a, b, c);
-      each = λ j u e. ⊎_elim
-          (each_set s.views id l (Fits k.drawn k.served k.program k.before (log s k) k.out)
-          record {
-            known = λ _. f.known (omega arith);
-            spent = λ z. absurd (omega arith);
-            queued = f.queued;
-            has_turn = f.has_turn;
-            seen = f.seen;
-            beside = f.beside;
-            opening = λ _. f.opening (omega arith);
-          }
-          (λ i w _ q. k.each i w q) j u)
-          (λ (same : r ≡ u). subst (Fits k.drawn k.served k.program k.before (log s k) k.out) same record {
-            known = λ _. f.known (omega arith);
-            spent = λ z. absurd (omega arith);
-            queued = λ n q. absurd (none_some n q);
-            has_turn = λ t. absurd (off t);
-            seen = f.seen;
-            beside = (log s k, refl);
-            opening = λ _. f.opening (omega arith);
-          })
-          (at_snoc (set s.views id l) r u j e);
-      apart = apart_snoc (set s.views id l) r refl (apart_set s.views id l k.apart (still_apart s.views id v at k.apart));
-      held = k.held;
-      held_program = k.held_program;
-      held_history = k.held_history;
-      slot = k.slot;
-      away = λ o. let h = holder_set s.views id l v at (λ t. t) (k.away o) in (h.0, h.1, at_longer (set s.views id l) (r ∷ []) h.0 h.1 h.2, h.3);
-      legal = k.legal;
-      counted = λ g. let a = weigh-append (calls_weight g) (set s.views id l) (r ∷ []) in let b = weigh-same (calls_weight g) s.views id v l at refl in let c = k.counted g in omega (arith, a, b, c);
-      hands = λ g. let a = weigh-append (hands_weight g) (set s.views id l) (r ∷ []) in let b = weigh-same (hands_weight g) s.views id v l at refl in let c = k.hands g in omega (arith, a, b, c);
+      known = λ _. f.known (omega arith);
+      spent = λ z. absurd (omega arith);
+      queued = f.queued;
+      has_turn = f.has_turn;
+      seen = f.seen;
+      beside = f.beside;
+      opening = λ _. f.opening (omega arith);
     }
+    (λ i w _ q. k.each i w q) j u)
+    (λ (same : r ≡ u). subst (Fits k.drawn k.served k.program k.before (log s k) k.out) same record {
+      known = λ _. f.known (omega arith);
+      spent = λ z. absurd (omega arith);
+      queued = λ n q. absurd (none_some n q);
+      has_turn = λ t. absurd (off t);
+      seen = f.seen;
+      beside = (log s k, refl);
+      opening = λ _. f.opening (omega arith);
+    })
+    (at_snoc (set s.views id l) r u j e))
+    (apart_snoc (set s.views id l) r refl (apart_set s.views id l k.apart (still_apart s.views id v at k.apart)))
+    (λ o. let h = holder_set s.views id l v at (λ t. t) o in (h.0, h.1, at_longer (set s.views id l) (r ∷ []) h.0 h.1 h.2, h.3))
 
 pub joins : (id : ℕ) (v : View) (other : ℕ) (w : View) → IsOutside v → IsOutside w → 0 < v.parts → Joins Kept id v other w (both_of v w) nobody
 joins id v other w idle idle' alive s k at apart there =
@@ -131,51 +146,36 @@ joins id v other w idle idle' alive s k at apart there =
     let here : At s.views other w = sym (set_else s.views id other b apart) ∙ there in
     let g = k.each other w here in
     let one = set s.views id b in
+    let weighs : (h : View → ℕ) → h b + h nobody ≡ h v + h w → weigh h (set one other nobody) ≡ weigh h s.views = λ h e. let x = weigh-set h s.views id v b at in let y = weigh-set h one other w nobody there in omega (arith, x, y, e) in
+    reseats s k (set one other nobody)
+    (weighs parts_of (omega arith))
+    (weighs firsts_of (omega arith))
+    (weighs waits (let z : waits w ≡ 0 = ap one_if idle'.0 in omega (arith, z)))
+    (λ h. weighs (calls_weight h) (let z = weigh_all-append h v.ended (w.calls ∷ w.ended) in omega (arith, z)))
+    (λ h. weighs (hands_weight h) (let z = ap (weigh_all h) (map-append hand_of v.ended (w.calls ∷ w.ended)) ∙ weigh_all-append h (hands_of v.ended) (hands_of (w.calls ∷ w.ended)) in omega (arith, z)))
+    (each_set one other nobody (Fits k.drawn k.served k.program k.before (log s k) k.out)
     record {
-      drawn = k.drawn;
-      served = k.served;
-      program = k.program;
-      before = k.before;
-      after = k.after;
-      out = k.out;
-      two = k.two;
-      ticket = k.ticket;
-      serving = k.serving;
-      firsts = let x = weigh-set firsts_of s.views id v b at in let y = weigh-set firsts_of one other w nobody there in let c = k.firsts in omega (arith, x, y, c);
-      parts = let x = weigh-set parts_of s.views id v b at in let y = weigh-set parts_of one other w nobody there in let c = k.parts in omega (arith, x, y, c);
-      queue = let x = weigh-set waits s.views id v b at in let y = weigh-set waits one other w nobody there in let z : waits w ≡ 0 = ap one_if idle'.0 in let c = k.queue in omega (arith, x, y, z, c);
-      each = each_set one other nobody (Fits k.drawn k.served k.program k.before (log s k) k.out)
-          record {
-            known = λ z. absurd (omega arith);
-            spent = λ _. refl;
-            queued = λ n q. absurd (none_some n q);
-            has_turn = λ t. absurd (off t);
-            seen = (log s k, refl);
-            beside = (log s k, refl);
-            opening = λ z. absurd (omega arith);
-          }
-          (λ j u _. each_set s.views id b (Fits k.drawn k.served k.program k.before (log s k) k.out)
-          record {
-            known = λ _. f.known alive;
-            spent = λ z. absurd (omega arith);
-            queued = f.queued;
-            has_turn = f.has_turn;
-            seen = f.seen;
-            beside = g.seen;
-            opening = λ _. f.opening alive;
-          }
-          (λ i x _ q. k.each i x q) j u);
-      apart = apart_set one other nobody (apart_set s.views id b k.apart (still_apart s.views id v at k.apart)) (λ j u n ne e x y. none_some n y);
-      held = k.held;
-      held_program = k.held_program;
-      held_history = k.held_history;
-      slot = k.slot;
-      away = λ o. holder_set one other nobody w there (λ t. absurd (true≢false (sym t ∙ idle'.1))) (holder_set s.views id b v at (λ t. t) (k.away o));
-      legal = k.legal;
-      counted = λ h. let x = weigh-set (calls_weight h) s.views id v b at in let y = weigh-set (calls_weight h) one other w nobody there in let z = weigh_all-append h v.ended (w.calls ∷ w.ended) in let c = k.counted h in omega (arith, x, y, z, c);
-      hands = λ h. let x = weigh-set (hands_weight h) s.views id v b at in let y = weigh-set (hands_weight h) one other w nobody there in
-          let z = ap (weigh_all h) (map-append hand_of v.ended (w.calls ∷ w.ended)) ∙ weigh_all-append h (hands_of v.ended) (hands_of (w.calls ∷ w.ended)) in let c = k.hands h in omega (arith, x, y, z, c);
+      known = λ z. absurd (omega arith);
+      spent = λ _. refl;
+      queued = λ n q. absurd (none_some n q);
+      has_turn = λ t. absurd (off t);
+      seen = (log s k, refl);
+      beside = (log s k, refl);
+      opening = λ z. absurd (omega arith);
     }
+    (λ j u _. each_set s.views id b (Fits k.drawn k.served k.program k.before (log s k) k.out)
+    record {
+      known = λ _. f.known alive;
+      spent = λ z. absurd (omega arith);
+      queued = f.queued;
+      has_turn = f.has_turn;
+      seen = f.seen;
+      beside = g.seen;
+      opening = λ _. f.opening alive;
+    }
+    (λ i x _ q. k.each i x q) j u))
+    (apart_set one other nobody (apart_set s.views id b k.apart (still_apart s.views id v at k.apart)) (λ j u n ne e x y. none_some n y))
+    (λ o. holder_set one other nobody w there (λ t. absurd (true≢false (sym t ∙ idle'.1))) (holder_set s.views id b v at (λ t. t) o))
 
 -- of two beginnings of one list the shorter begins the longer
 begins : (log xs ys : List Event) → Starts log xs → Starts log ys → length xs ≤ length ys → Starts ys xs
@@ -209,40 +209,23 @@ compares beginnings slots id v c st idle alive s k len at small =
       w,
       keeps,
       tt,
-      subst (λ (ws : List ℕ). Kept record { words = ws; homes = s.homes; views = set s.views id w }) (sym (set-get_or s.words 0 0)) record {
-        drawn = k.drawn;
-        served = k.served;
-        program = k.program;
-        before = k.before;
-        after = k.after;
-        out = k.out;
-        two = k.two;
-        ticket = k.ticket;
-        serving = k.serving;
-        parts = weigh-same parts_of s.views id v w at refl ∙ k.parts;
-        firsts = weigh-same firsts_of s.views id v w at refl ∙ k.firsts;
-        queue = let e = weigh-same waits s.views id v w at refl in let q = k.queue in omega (arith, e, q);
-        each = each_set s.views id w (Fits k.drawn k.served k.program k.before (log s k) k.out)
-            record {
-              known = f.known;
-              spent = λ z. absurd (omega arith);
-              queued = f.queued;
-              has_turn = λ x. absurd (true≢false (sym x ∙ idle.1));
-              seen = t.2;
-              beside = (log s k, refl);
-              opening = λ z. starts_on (settled v).seen v.seen k.before t.0 (f.opening z);
-            }
-            (λ j u _ e. k.each j u e);
-        apart = apart_set s.views id w k.apart (still_apart s.views id v at k.apart);
-        held = k.held;
-        held_program = k.held_program;
-        held_history = k.held_history;
-        slot = k.slot;
-        away = λ o. holder_set s.views id w v at (λ x. x) (k.away o);
-        legal = k.legal;
-        counted = λ g. weigh-same (calls_weight g) s.views id v w at refl ∙ k.counted g;
-        hands = λ g. ap (λ (m : ℕ). m + weigh g (open_of k.before)) (weigh-same (hands_weight g) s.views id v w at refl) ∙ k.hands g;
-      },
+      subst (λ (ws : List ℕ). Kept record { words = ws; homes = s.homes; views = set s.views id w }) (sym (set-get_or s.words 0 0))
+          (reseats s k (set s.views id w) (weigh-same parts_of s.views id v w at refl) (weigh-same firsts_of s.views id v w at refl) (weigh-same waits s.views id v w at refl)
+          (λ g. weigh-same (calls_weight g) s.views id v w at refl)
+          (λ g. weigh-same (hands_weight g) s.views id v w at refl)
+          (each_set s.views id w (Fits k.drawn k.served k.program k.before (log s k) k.out)
+          record {
+            known = f.known;
+            spent = λ z. absurd (omega arith);
+            queued = f.queued;
+            has_turn = λ x. absurd (true≢false (sym x ∙ idle.1));
+            seen = t.2;
+            beside = (log s k, refl);
+            opening = λ z. starts_on (settled v).seen v.seen k.before t.0 (f.opening z);
+          }
+          (λ j u _ e. k.each j u e))
+          (apart_set s.views id w k.apart (still_apart s.views id v at k.apart))
+          (holder_set s.views id w v at (λ x. x))),
       (refl, (let a = weigh_at parts_of s.views id v at in let b = k.parts in omega (arith, a, b)), (let a = weigh_at firsts_of s.views id v at in let b = k.firsts in omega (arith, a, b)), legal, t.0, t.1),
     )
 

@@ -40,12 +40,11 @@ const QUICK_LOOKS: u32 = 100;
 /// Nobody queues: a number is drawn only by whoever is served at once, so a waiter that is off its
 /// processor stops nobody. It costs one wake, since it sleeps on the number that is served.
 ///
-/// No wake is lost. A sleeper counts itself before it reads that number, on which it then parks, and
-/// whoever serves raises the number before it reads the count, all in one order. So where the count
-/// lacks the sleeper, it has read the number as raised, and parks only if another has the turn, who
-/// serves later; and where it was counted, it parks before the wake, or not at all on the old
-/// number. A sleeper that is woken takes the turn, or finds that another has it, and either wakes
-/// the next. That anybody is ever served isn't proved.
+/// No wake is lost. Who sleeps is counted first, and then parks only on the number that is served
+/// while another has that turn. So the end of that turn comes later: it raises the number, then reads
+/// the count, and wakes one. Whoever is woken takes the turn, or finds that another has it; either
+/// way a turn ends later, and wakes the next. All these steps have one order. That anybody is ever
+/// served isn't proved.
 #[derive(Drop)]
 pub struct Turn {
     table: Table<Registry, View, Snapshot<Registry>, Law, Global>,
@@ -85,7 +84,8 @@ impl Turn {
         if found == served { Some(served) } else { None }
     }
 
-    /// Sleeps where somebody has the turn, until one ends. It may also return at once.
+    /// Sleeps while somebody has the turn, until one ends. It parks on the low half of the number,
+    /// which comes again after 2^32 turns.
     fn sleep<T: Wait>(&self, rt: &T) {
         self.sleepers.fetch_add(1, Ordering::SeqCst);
         let served = self.table.shared.peek(SERVING);
@@ -126,7 +126,7 @@ impl Turn {
         unreachable!()
     }
 
-    /// Waits for the turn. A number that was drawn is served at once, which the loop needn't know.
+    /// Waits for the turn. The number that was drawn is found at once, which no proof needs to know.
     fn take<T: Wait>(&self, rt: &T, seat: &mut Seat)
         requires turn { seat.old.table_id ≡ self.now }
         requires idle { IsOutside seat.old.me.0 × (seat.old.me.1 ≡ []) × (0 < seat.old.me.0.parts) }
