@@ -29,8 +29,8 @@ use Rattle.mpc_claim.specs.Levels.{IsFirstBadPlace, HoldsCandidates}
 use Rattle.mpc_claim.proofs.Sound.{settled_by, may_claim, shown_wide}
 use Rattle.mpc_claim.proofs.NextCandidates.{size_of_candidate, IsCandidate-of, candidate_few}
 
-pub whole_rest : (cs : List Candidate) (n : ℕ) → take (length cs - n) (drop n cs) ≡ drop n cs
-whole_rest cs n = ap (λ m. take m (drop n cs)) (sym (length-drop n cs)) ∙ take-length (drop n cs)
+pub whole_rest : {X : Type 0} (xs : List X) (n : ℕ) → take (length xs - n) (drop n xs) ≡ drop n xs
+whole_rest xs n = ap (λ m. take m (drop n xs)) (sym (length-drop n xs)) ∙ take-length (drop n xs)
 
 pub nil_of : {X : Type 0} (xs : List X) → length xs ≡ 0 → xs ≡ []
 nil_of [] e = refl

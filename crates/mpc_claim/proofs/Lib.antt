@@ -1,5 +1,6 @@
 pub mod Lists
 pub mod Histories
+pub mod Seen
 pub mod Growth
 pub mod NextCandidates
 pub mod Slots
@@ -9,6 +10,7 @@ pub mod NextLevels
 pub mod Jobs
 pub mod Ends
 pub mod Table
+pub mod Taken
 pub mod Counts
 pub mod Opens
 pub mod Held

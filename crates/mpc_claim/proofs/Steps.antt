@@ -42,6 +42,9 @@ few_candidates most_sets qp sets order are =
     in
     omega arith
 
+pub kept_roomier : (qp : Qp) (cs : List Candidate) (settled n pending size : ℕ) (phase : Phase) (h : List Event) (room more : ℕ) → IsKept qp cs settled n pending size phase h room → room ≤ more → IsKept qp cs settled n pending size phase h more
+kept_roomier qp cs settled n pending size phase h room more k l = let r = k.room in record { definite = k.definite; legal = k.legal; lineup = k.lineup; slots = k.slots; phase_fits = k.phase_fits; room = omega arith }
+
 -- ---- a claim
 pub unended : (qp : Qp) (cs : List Candidate) (settled n pending size : ℕ) (h : List Event) → IsLegal qp h → IsLineup qp (sets_of cs) settled size → HasSlots qp cs settled n pending h → n < length cs → Contains (ended_sets h) (at cs n).set → ⊥
 unended qp cs settled n pending size h legal lineup k p c =

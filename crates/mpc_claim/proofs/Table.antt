@@ -55,7 +55,7 @@ in_verdict Hollow law c = absurd (no_law law c)
 in_verdict (Region other) law c = ap Region (one_law law other c)
 in_verdict (Wide place) law c = absurd (no_law law c)
 
-in_slot : (slot : Slot) (law : Law) → Contains (law_in slot) law → slot ≡ Done (Region law)
+pub in_slot : (slot : Slot) (law : Law) → Contains (law_in slot) law → slot ≡ Done (Region law)
 in_slot Waiting law c = absurd (no_law law c)
 in_slot (Claimed number) law c = absurd (no_law law c)
 in_slot (Done v) law c = ap Done (in_verdict v law c)
@@ -138,6 +138,14 @@ slot_of_law law_unique qp h i law (Claimed number) d b q t = let e = q.done in a
 slot_of_law law_unique qp h i law (Done v) d b q t = ap Done (verdict_of_law law_unique qp law v d b.0 t q.not_bad)
 slot_of_law law_unique qp h i law Dropped d b q t = let e = q.done in absurd (cc)
 
+begun_names : (qp : Qp) (h : List Event) (i : ℕ) (s : List ℕ) (slot : Slot) (law : Law) → IsBegun qp h i s slot → slot ≡ Done (Region law) → law.set ≡ s
+begun_names qp h i s slot law b e = (begun_law qp h i s slot law b e).1
+
+pub names_sets : (qp : Qp) (cs : List Candidate) (settled n pending : ℕ) (h : List Event) → HasSlots qp cs settled n pending h → IsComplete qp cs h → NamesSets cs
+names_sets qp cs settled n pending h k complete i law p e =
+    let all = all_claimed qp cs settled n pending h k (λ j q. (complete.quiet j q).done) in
+    begun_names qp h i (at cs i).set (at cs i).slot law (k.begun i (omega arith)) e
+
 pub is_table : OneLaw → (qp : Qp) (cs : List Candidate) (settled n pending size : ℕ) (h : List Event) → IsDefinite qp.h.rows → IsLineup qp (sets_of cs) settled size → HasSlots qp cs settled n pending h → IsComplete qp cs h → IsTable qp (laws_of cs)
 is_table law_unique qp cs settled n pending size h definite lineup k complete = record {
   in_order = laws_in_order cs names lineup.in_order;
@@ -161,7 +169,7 @@ is_table law_unique qp cs settled n pending size h definite lineup k complete = 
     verdict_at i law p e = begun_law qp h i (at cs i).set (at cs i).slot law (k.begun i (all i p)) e
 
     names : NamesSets cs
-    names i law p e = (verdict_at i law p e).1
+    names = names_sets qp cs settled n pending h k complete
 
 -- ---- the widths of their rows
 begun_rows_fit : (qp : Qp) (h : List Event) (i : ℕ) (s : List ℕ) (slot : Slot) (law : Law) → IsBegun qp h i s slot → slot ≡ Done (Region law) → LawRowsFit qp law (height qp.g)

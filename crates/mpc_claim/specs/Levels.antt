@@ -41,6 +41,10 @@ abbrev pub laws_of : List Candidate → List Law
 laws_of [] = []
 laws_of (c ∷ rest) = law_in c.slot ++ laws_of rest
 
+-- no law stands at two places
+abbrev pub StandOnce : List Candidate → Type 0
+StandOnce candidates = (i j : ℕ) (law : Law) → (at candidates i).slot ≡ Done (Region law) → (at candidates j).slot ≡ Done (Region law) → i ≡ j
+
 -- the place has a wide verdict, and no place before it, from `from` on, has one
 pub record IsFirstBadPlace (candidates : List Candidate) (from place : ℕ) : Type 0 where
   pub from_on : from ≤ place

@@ -1,4 +1,5 @@
 pub mod Board
+pub mod Entries
 pub mod History
 pub mod OpenClaims
 pub mod Answers

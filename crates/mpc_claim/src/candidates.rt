@@ -1,4 +1,4 @@
-//! The candidates of a registry.
+//! The candidates of a registry, as contracts see them.
 
 use mpc_rows::Verdict;
 use mpc_sets::ActiveSet;

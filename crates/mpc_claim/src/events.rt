@@ -26,8 +26,8 @@ pub enum EventKind {
 /// One entry of a registry's history.
 #[derive(Clone, Copy, Debug, PartialEq, Eq)]
 pub struct Event {
-    pub worker: u32,
     pub set: ActiveSet,
+    pub worker: u32,
     pub kind: EventKind,
 }
 

@@ -2,6 +2,7 @@
 #![tactic(auto)]
 
 mod candidates;
+mod entries;
 mod events;
 mod laws;
 mod levels;
@@ -11,6 +12,7 @@ mod tickets;
 mod worlds;
 
 pub use candidates::{Candidate, Slot};
+use entries::{Entry, Mark};
 pub use events::{Event, EventKind, Phase, Tag};
 pub use laws::{claim_laws, history_laws, legal_laws};
 pub use moves::{Action, Played};

@@ -13,8 +13,10 @@ ghost use Rattle.mpc_claim.specs.History.{has_drop, IsOpen};
 ghost use Rattle.mpc_claim.specs.Books.{is_bad, is_done, IsQuiet, IsSound};
 ghost use Rattle.mpc_claim.specs.Answers.{Claims, IsFirstBad, IsLeastBad, abandoned, delivered};
 
-use crate::levels::{append_waiting, collect_laws, find_bad, next_candidates, note_claim, tag};
-use crate::{Candidate, Claimed, Delivery, Event, EventKind, Phase, Slot, Ticket};
+use crate::levels::{
+    append_waiting, collect_laws, find_bad, keep, next_candidates, note_claim, reserve_claims, tag,
+};
+use crate::{Claimed, Delivery, Entry, Event, EventKind, Mark, Phase, Ticket};
 use mpc_frac::NoMemory;
 use mpc_rows::{Judged, LawTable, Qp, Verdict, law_laws};
 use mpc_sets::{ActiveSet, count_laws, member_laws};
@@ -26,7 +28,8 @@ use std::marker::Model;
 pub struct Registry {
     alloc: Global,
     program: Qp,
-    candidates: Vec<Candidate>,
+    entries: Vec<Entry>,
+    verdicts: Vec<Verdict>,
     settled: usize,
     claims: usize,
     pending: usize,
@@ -39,12 +42,13 @@ impl Model for Registry {
     ghost use Rattle.std.specs.Prelude.{vec_capacity};
     ghost use Rattle.mpc_claim.specs.Board.{Board};
     ghost use Rattle.mpc_claim.specs.Books.{IsKept};
+    ghost use Rattle.mpc_claim.specs.Entries.{HasVerdicts, seen};
 
     ghost Value = { Board };
 
-    ghost view = { λ r. record { program = r.program; candidates = r.candidates.items; settled = r.settled; phase = r.phase; history = r.history.items } };
+    ghost view = { λ r. record { program = r.program; candidates = seen r.verdicts.items r.entries.items; settled = r.settled; phase = r.phase; history = r.history.items } };
 
-    ghost invariant = { λ r. IsKept r.program r.candidates.items r.settled r.claims r.pending r.size r.phase r.history.items (vec_capacity r.history) };
+    ghost invariant = { λ r. IsKept r.program (seen r.verdicts.items r.entries.items) r.settled r.claims r.pending r.size r.phase r.history.items (vec_capacity r.history) × HasVerdicts r.entries.items r.verdicts.items r.claims r.pending (vec_capacity r.verdicts) };
 }
 
 impl Registry {
@@ -55,12 +59,13 @@ impl Registry {
         ensures { IfOk result (λ registry. registry ≡ opening qp.now) }
     {
         let program = qp.copy(alloc)?;
-        let mut candidates = Vec::new(alloc);
-        append_waiting(&mut candidates, &[ActiveSet::empty()])?;
+        let mut entries = Vec::new(alloc);
+        append_waiting(&mut entries, &[ActiveSet::empty()])?;
         Ok(Registry {
             alloc,
             program,
-            candidates,
+            entries,
+            verdicts: Vec::new(alloc),
             settled: 0,
             claims: 0,
             pending: 0,
@@ -101,11 +106,9 @@ impl Registry {
         ensures { Claims self.old worker result self.new }
     {
         count_laws();
-        let Ok(()) = self.history.reserve(self.pending + 2) else {
-            return Err(NoMemory);
-        };
+        reserve_claims(&mut self.history, &mut self.verdicts, self.pending, 1)?;
         let place = self.claims;
-        let ticket = note_claim(&mut self.candidates, &mut self.history, place, worker);
+        let ticket = note_claim(&mut self.entries, &mut self.history, place, worker);
         self.claims += 1;
         self.pending += 1;
         Ok(Claimed::Job(ticket))
@@ -119,18 +122,21 @@ impl Registry {
     {
         member_laws();
         count_laws();
-        let level = &self.candidates[self.settled..];
-        let sets = next_candidates(self.alloc, &self.program, level, self.size)?;
+        let level = &self.entries[self.settled..];
+        let sets = next_candidates(self.alloc, &self.program, level, &self.verdicts, self.size)?;
         if sets.is_empty() {
             self.phase = Phase::Finished;
             return Ok(Claimed::Finished);
         }
-        let Ok(()) = self.history.reserve(self.pending + 2) else {
-            return Err(NoMemory);
-        };
-        let place = self.candidates.len();
-        append_waiting(&mut self.candidates, &sets)?;
-        let ticket = note_claim(&mut self.candidates, &mut self.history, place, worker);
+        reserve_claims(
+            &mut self.history,
+            &mut self.verdicts,
+            self.pending,
+            sets.len(),
+        )?;
+        let place = self.entries.len();
+        append_waiting(&mut self.entries, &sets)?;
+        let ticket = note_claim(&mut self.entries, &mut self.history, place, worker);
         self.settled = place;
         self.size += 1;
         self.claims += 1;
@@ -144,7 +150,7 @@ impl Registry {
         requires done { (i : ℕ) → i < length self.old.candidates → is_done (at self.old.candidates i).slot ≡ true }
         ensures { Claims self.old worker result self.new }
     {
-        match find_bad(&self.candidates, self.settled) {
+        match find_bad(&self.entries, &self.verdicts, self.settled) {
             Some(_) => {
                 self.phase = Phase::Stopped;
                 Ok(Claimed::Stopped)
@@ -168,7 +174,7 @@ impl Registry {
             Phase::Stopped => return Ok(Claimed::Stopped),
             Phase::Working => {}
         }
-        if self.claims < self.candidates.len() {
+        if self.claims < self.entries.len() {
             return self.claim_waiting(worker);
         }
         if self.pending > 0 {
@@ -189,13 +195,12 @@ impl Registry {
             worker,
             set,
         } = ticket;
+        count_laws();
         let verdict = judged.into_verdict();
         let kind = EventKind::Done(tag(&verdict));
-        self.candidates[(number - 1) as usize] = Candidate {
-            set,
-            slot: Slot::Done(verdict),
-        };
-        self.history.push_reserved(Event { worker, set, kind });
+        let mark = keep(&mut self.verdicts, verdict);
+        self.entries[(number - 1) as usize] = Entry { set, mark };
+        self.history.push_reserved(Event { set, worker, kind });
         self.pending -= 1;
         Delivery::Taken
     }
@@ -210,13 +215,13 @@ impl Registry {
             worker,
             set,
         } = ticket;
-        self.candidates[number as usize - 1] = Candidate {
+        self.entries[number as usize - 1] = Entry {
             set,
-            slot: Slot::Dropped,
+            mark: Mark::Dropped,
         };
         self.history.push_reserved(Event {
-            worker,
             set,
+            worker,
             kind: EventKind::Drop,
         });
         self.pending -= 1;
@@ -232,9 +237,9 @@ impl Registry {
         ensures stopped { self.now.phase ≡ Stopped → has_drop self.now.history ≡ false →
             MatchOption result ⊥ (λ verdict. IsFirstBad self.now.program verdict.now) }
     {
-        let place = find_bad(&self.candidates, self.settled)?;
-        match &self.candidates[place].slot {
-            Slot::Done(verdict) => Some(verdict),
+        let place = find_bad(&self.entries, &self.verdicts, self.settled)?;
+        match &self.entries[place].mark {
+            Mark::Kept(kept) => Some(&self.verdicts[*kept as usize]),
             _ => None,
         }
     }
@@ -247,7 +252,8 @@ impl Registry {
         ensures rows_fit { IfOk result (λ laws. All (λ law. LawRowsFit self.program law (height self.program.g)) laws) }
     {
         law_laws();
-        let laws = collect_laws(alloc, self.candidates)?;
+        let verdicts = self.verdicts;
+        let laws = collect_laws(alloc, &self.entries, verdicts)?;
         Ok(laws)
     }
 }

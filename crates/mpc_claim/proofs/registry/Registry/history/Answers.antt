@@ -4,4 +4,4 @@ use Rattle.mpc_claim.proofs.Sound.{sound}
 use Rattle.mpc_claim.proofs.registry.Registry.history.Goals as goal
 
 pub returns-clause-sound : goal.returns-clause-sound
-returns-clause-sound c = subst IsSound c.self.view_is (sound _ _ _ _ _ _ _ _ _ c.self.invariant)
+returns-clause-sound c = subst IsSound c.self.view_is (sound _ _ _ _ _ _ _ _ _ c.self.invariant.0)
