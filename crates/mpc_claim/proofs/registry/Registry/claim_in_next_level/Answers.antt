@@ -37,10 +37,12 @@ invariant_of-self c =
     let working : r.phase ≡ Working = ap (λ (b : Board). b.phase) c.self.view_is ∙ c.requires.working in
     let quiet = subst (λ (b : Board). (i : ℕ) → i < length b.candidates → IsQuiet (at b.candidates i).slot) (sym c.self.view_is) c.requires.quiet in
     let empty : vec_len c.in_ok-sets.sets ≡ 0 = eqb-true (vec_len c.in_ok-sets.sets) 0 (sym c.is_empty.ensures ∙ c.if-is_empty.true) in
-    let none : c.in_ok-sets.sets.items ≡ [] = nil_of c.in_ok-sets.sets.items (let counted = c.in_ok-sets.sets.ok in omega arith) in
-    (kept_finished c.member_laws.ensures r.program (seen r.verdicts.items r.entries.items) r.settled r.claims r.pending r.size r.history.items (vec_capacity r.history)
-    (subst (λ (f : Phase). IsKept r.program (seen r.verdicts.items r.entries.items) r.settled r.claims r.pending r.size f r.history.items (vec_capacity r.history)) working c.self.invariant.0) quiet
-    (subst (HoldsCandidates r.program (suc r.size)) none c.in_ok-sets.ensures), c.self.invariant.1)
+    let none : c.in_ok-sets.sets.items ≡ [] = nil_of c.in_ok-sets.sets.items (let counted = c.in_ok-sets.sets.ok in omega arith) in (
+      kept_finished c.member_laws.ensures r.program (seen r.verdicts.items r.entries.items) r.settled r.claims r.pending r.size r.history.items (vec_capacity r.history)
+          (subst (λ (f : Phase). IsKept r.program (seen r.verdicts.items r.entries.items) r.settled r.claims r.pending r.size f r.history.items (vec_capacity r.history)) working c.self.invariant.0) quiet
+          (subst (HoldsCandidates r.program (suc r.size)) none c.in_ok-sets.ensures),
+      c.self.invariant.1,
+    )
 
 pub returns-then-is_empty : goal.returns-then-is_empty
 returns-then-is_empty c =
@@ -80,13 +82,12 @@ invariant_of-self-2 c =
     let es = r.entries.items in
     let sets = c.in_ok-sets.sets.items in
     let more : length vs + (r.pending + 1) ≤ vec_capacity c.reserve_claims.new.verdicts = (let later = c.reserve_claims.new.verdicts.ok in let fit = c.in_ok-reserve_claims.ensures.verdicts_fit in let same = ap length c.in_ok-reserve_claims.ensures.verdicts in omega arith) in (
-    rw (e.mark, e.event, e.capacity, c.in_ok-reserve_claims.ensures.history, c.in_ok-reserve_claims.ensures.verdicts, working, c.in_ok-append_waiting.ensures.ok, c.deref-3.ensures.value, place, seen-claim vs (es ++ map unclaimed sets) r.claims (r.claims + 1), ← set_seen vs (es ++ map unclaimed sets) r.claims, seen-level vs es sets)
-    (kept_next r.program (seen r.verdicts.items r.entries.items) c.in_ok-sets.sets.items r.settled r.claims r.pending r.size r.history.items c.args.worker (vec_capacity r.history) (vec_capacity c.reserve_claims.new.history) c.note_claim-ticket.result
-    (subst (λ (f : Phase). IsKept r.program (seen r.verdicts.items r.entries.items) r.settled r.claims r.pending r.size f r.history.items (vec_capacity r.history)) working c.self.invariant.0) all quiet c.in_ok-sets.ensures some room),
-    rw (e.mark, c.in_ok-append_waiting.ensures.ok, c.deref-3.ensures.value, c.in_ok-reserve_claims.ensures.verdicts, place)
-    (verdicts_after_claim _ _ _ _ _ (verdicts_after_level _ _ _ _ _ c.self.invariant.1 sets) r.claims (r.claims + 1) _ more),
+      rw (e.mark, e.event, e.capacity, c.in_ok-reserve_claims.ensures.history, c.in_ok-reserve_claims.ensures.verdicts, working, c.in_ok-append_waiting.ensures.ok, c.deref-3.ensures.value, place, seen-claim vs (es ++ map unclaimed sets) r.claims (r.claims + 1), ← set_seen vs (es ++ map unclaimed sets) r.claims, seen-level vs es sets)
+          (kept_next r.program (seen r.verdicts.items r.entries.items) c.in_ok-sets.sets.items r.settled r.claims r.pending r.size r.history.items c.args.worker (vec_capacity r.history) (vec_capacity c.reserve_claims.new.history) c.note_claim-ticket.result
+          (subst (λ (f : Phase). IsKept r.program (seen r.verdicts.items r.entries.items) r.settled r.claims r.pending r.size f r.history.items (vec_capacity r.history)) working c.self.invariant.0) all quiet c.in_ok-sets.ensures some room),
+      rw (e.mark, c.in_ok-append_waiting.ensures.ok, c.deref-3.ensures.value, c.in_ok-reserve_claims.ensures.verdicts, place)
+          (verdicts_after_claim _ _ _ _ _ (verdicts_after_level _ _ _ _ _ c.self.invariant.1 sets) r.claims (r.claims + 1) _ more),
     )
-
 
 pub returns : goal.returns
 returns c =

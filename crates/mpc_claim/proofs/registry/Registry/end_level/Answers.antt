@@ -13,9 +13,11 @@ invariant_of-self c =
     let r = c.self.inside in
     let working : r.phase ≡ Working = ap (λ (b : Board). b.phase) c.self.view_is ∙ c.requires.working in
     let done = subst (λ (b : Board). (i : ℕ) → i < length b.candidates → is_done (at b.candidates i).slot ≡ true) (sym c.self.view_is) c.requires.done in
-    let first : IsFirstBadPlace (seen r.verdicts.items r.entries.items) r.settled c.in-Some.field-0 = rw (c.deref.ensures.value, c.deref-2.ensures.value) at c.in-Some.ensures.first in
-    (kept_stopped r.program (seen r.verdicts.items r.entries.items) r.settled r.claims r.pending r.size r.history.items (vec_capacity r.history) c.in-Some.field-0
-    (subst (λ (f : Phase). IsKept r.program (seen r.verdicts.items r.entries.items) r.settled r.claims r.pending r.size f r.history.items (vec_capacity r.history)) working c.self.invariant.0) done first, c.self.invariant.1)
+    let first : IsFirstBadPlace (seen r.verdicts.items r.entries.items) r.settled c.in-Some.field-0 = rw (c.deref.ensures.value, c.deref-2.ensures.value) at c.in-Some.ensures.first in (
+      kept_stopped r.program (seen r.verdicts.items r.entries.items) r.settled r.claims r.pending r.size r.history.items (vec_capacity r.history) c.in-Some.field-0
+          (subst (λ (f : Phase). IsKept r.program (seen r.verdicts.items r.entries.items) r.settled r.claims r.pending r.size f r.history.items (vec_capacity r.history)) working c.self.invariant.0) done first,
+      c.self.invariant.1,
+    )
 
 pub returns-in-Some : goal.returns-in-Some
 returns-in-Some c =
