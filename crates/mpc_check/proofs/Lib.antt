@@ -24,4 +24,3 @@ pub mod StretchLemmas
 pub mod SideLemmas
 pub mod PivotPlaces
 pub mod OneFinding
-pub mod TestLemmas

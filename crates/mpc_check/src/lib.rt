@@ -11,8 +11,6 @@ mod laws;
 mod leaves;
 mod rows;
 mod stretches;
-#[cfg(test)]
-mod tests;
 mod ways;
 mod whole_sums;
 

@@ -16,8 +16,6 @@ mod plant_parts;
 mod plants;
 mod reading;
 mod spelling;
-#[cfg(test)]
-mod tests;
 mod tree_depths;
 mod tree_lines;
 mod versions;

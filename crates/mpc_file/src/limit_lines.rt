@@ -9,9 +9,6 @@ ghost use Rattle.mpc_file.specs.Versions.{greatest_rows as most_rows};
 ghost use Rattle.mpc_file.specs.PlantGrammar.{plain_rule, so_many, IsRowCount, IsRow, IsLast, IsAxis, row_list, last_list, grid, limits};
 ghost use Rattle.mpc_file.specs.LimitNumbers.{StatesRow, StatesAxis, IsStepCount};
 
-#[cfg(test)]
-mod tests;
-
 use crate::errors::{FileError, FileKind};
 use crate::line_laws::{one_fractions, one_number};
 use crate::lines::Lines;

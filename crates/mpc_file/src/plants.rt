@@ -7,9 +7,6 @@ ghost use Rattle.mpc_file.specs.Versions.{number_of};
 ghost use Rattle.mpc_file.specs.PlantGrammar.{plain_rule, plant};
 ghost use Rattle.mpc_file.specs.FileGrammar.{IsVersion};
 
-#[cfg(test)]
-mod tests;
-
 use crate::errors::{FileError, FileKind};
 use crate::limit_lines::read_limits;
 use crate::line_laws::one_number;

@@ -5,9 +5,6 @@ ghost use Rattle.mpc_exact.specs.Rational.{ℚ};
 ghost use Rattle.mpc_words.specs.Words.{line};
 ghost use Rattle.mpc_file.specs.Spelling.{AreFractions, AreIntegers, IsOneNumber, IsOneCount};
 
-#[cfg(test)]
-mod tests;
-
 use mpc_frac::NoMemory;
 use mpc_linear::{Ints, Vector};
 use mpc_words::{

@@ -8,8 +8,6 @@ ghost use Rattle.mpc_file.specs.declared.versions.Version.TheVariants.{Three};
 mod law_lines;
 mod names;
 mod plant_lines;
-#[cfg(test)]
-mod tests;
 mod tree_lines;
 mod words;
 

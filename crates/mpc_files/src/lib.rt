@@ -4,8 +4,6 @@
 mod checks;
 mod errors;
 mod laws;
-#[cfg(test)]
-mod tests;
 mod texts;
 
 pub use checks::check_file;

@@ -2,8 +2,8 @@
 ghost use Rattle.std.specs.Prelude.{◌≤◌, IfOk};
 
 use mpc_port::{
-    Failed, Gate, HostSink, HostSource, MemorySink, MemorySource, OpenGate, QuietSink, QuietSource,
-    ReadError, Sink, SinkError, Source, WriteError, read_all, write_all,
+    Failed, HostSink, HostSource, MemorySink, MemorySource, QuietSink, QuietSource, ReadError,
+    Sink, SinkError, Source, WriteError, read_all, write_all,
 };
 use std::alloc::Global;
 use std::io;
@@ -199,15 +199,6 @@ fn writes_through_a_writer_of_std(rt: HostRuntime) -> Result<(), Fail> {
         assert_eq!(rt; write_all(&mut sink, TEXT), answer);
     }
     Ok(())
-}
-
-fn passes<G: Gate + Sync>(gate: &G) {
-    gate.between(1, 0b10);
-}
-
-#[test]
-fn open_gate_is_shared() {
-    passes(&OpenGate);
 }
 
 /// Whether a text is this message.

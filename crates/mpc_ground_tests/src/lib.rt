@@ -1,4 +1,4 @@
-//! Tests of fractions, vectors and matrices, sets, words, and bytes that come and go: that calls succeed where memory suffices, and what no clause says.
+//! Tests of what no command shows: fractions, columns of linear systems, sets, and bytes that come and go.
 #![tactic(auto)]
 
 #[cfg(test)]
@@ -9,5 +9,3 @@ mod fractions;
 mod linear;
 #[cfg(test)]
 mod sets;
-#[cfg(test)]
-mod words;

@@ -1,8 +1,5 @@
 use mpc_frac::{Frac, NoMemory};
-use mpc_linear::{
-    IntAffine, LinearError, Matrix, RowInt, Solved, Vector, add_product, common, dot, dot_from,
-    primitive, solve, sub_product,
-};
+use mpc_linear::{LinearError, Matrix, Solved, Vector, solve};
 use std::alloc::Global;
 use std::process::Abort;
 use std::test::Fail;
@@ -14,14 +11,6 @@ fn frac(rt: &impl Abort, num: i128, den: i128) -> Frac {
         Ok(fraction) => fraction,
         Err(_) => panic!(rt; "{num}/{den} is refused"),
     }
-}
-
-fn vector(alloc: Global, entries: &[Frac]) -> Result<Vector, NoMemory> {
-    let mut vector = Vector::with_capacity(alloc, entries.len())?;
-    for entry in entries {
-        vector.push(*entry)?;
-    }
-    Ok(vector)
 }
 
 /// The matrix of these entries, row by row.
@@ -119,22 +108,6 @@ fn whole_solved(
     solved(rt, alloc, size, left.as_slice(), sides, others.as_slice())
 }
 
-/// Whether those whole numbers have this one solution.
-fn is_solved(
-    rt: &impl Abort,
-    alloc: Global,
-    size: u32,
-    entries: &[i64],
-    sides: u32,
-    right: &[i64],
-    wanted: &[i64],
-) -> Result<bool, LinearError> {
-    match whole_solved(rt, alloc, size, entries, sides, right)? {
-        Solved::Unique(x) => Ok(is_matrix(rt, &x, wanted)),
-        Solved::Dependent(_) => Ok(false),
-    }
-}
-
 /// Whether this column of theirs depends on those before it.
 fn is_dependent(
     rt: &impl Abort,
@@ -156,56 +129,6 @@ fn product(rt: &impl Abort, alloc: Global, a: &Matrix, b: &Matrix) -> Result<Mat
     let rows = b.rows();
     assert!(rt; inner == rows);
     a.times(alloc, b)
-}
-
-/// The sum of the products of these entries, if it isn't wide.
-fn dot_of(
-    rt: &impl Abort,
-    alloc: Global,
-    x: &[Frac],
-    y: &[Frac],
-) -> Result<Option<Frac>, NoMemory> {
-    let left = vector(alloc, x)?;
-    let right = vector(alloc, y)?;
-    let (length, other) = (left.len(), right.len());
-    assert!(rt; length == other);
-    Ok(dot(&left, &right).ok())
-}
-
-#[test]
-fn adds_products(rt: HostRuntime) -> Result<(), Fail> {
-    let alloc = rt.alloc();
-    let (half, third) = (frac(&rt, 1, 2), frac(&rt, 1, 3));
-    let (largest, one) = (frac(&rt, LARGEST, 1), Frac::whole(1));
-    let (two, three) = (Frac::whole(2), Frac::whole(3));
-    for (found, wanted) in [
-        (add_product(&one, &half, &third).ok(), Some(frac(&rt, 7, 6))),
-        (sub_product(&one, &half, &third).ok(), Some(frac(&rt, 5, 6))),
-        (
-            add_product(&largest, &Frac::whole(0), &largest).ok(),
-            Some(largest),
-        ),
-        (add_product(&largest, &one, &one).ok(), None),
-        (
-            dot_from(&one, &[half, third], &[two, three]).ok(),
-            Some(three),
-        ),
-        (
-            dot_of(&rt, alloc, &[half, third], &[two, three])?,
-            Some(two),
-        ),
-        (
-            dot_of(&rt, alloc, &[largest, largest], &[two, three])?,
-            None,
-        ),
-    ] {
-        assert!(rt; found == wanted);
-    }
-    let x = vector(alloc, &[half, third])?;
-    assert!(rt; !x.is_empty());
-    assert!(rt; x.len() == 2);
-    assert!(rt; *x.at(1) == third);
-    Ok(())
 }
 
 /// Whether the product of two matrices of two rows and columns has these entries.
@@ -231,16 +154,6 @@ fn multiplies(rt: HostRuntime) -> Result<(), Fail> {
     let tall = matrix(&rt, alloc, 2, 1, &[Frac::whole(1), frac(&rt, LARGEST, 1)])?;
     let two = whole_matrix(&rt, alloc, 1, 1, &[2])?;
     assert!(rt; matches!(product(&rt, alloc, &tall, &two), Err(LinearError::Wide(2))));
-    Ok(())
-}
-
-#[test]
-fn solves(rt: HostRuntime) -> Result<(), Fail> {
-    let alloc = rt.alloc();
-    assert!(rt; is_solved(&rt, alloc, 2, &[0, 2, 3, 4], 1, &[2, 10], &[2, 1])?);
-    let m = [1, 2, 3, 2, 4, 5, 1, 0, 1];
-    let rhs = [14, 0, 25, 0, 4, 0];
-    assert!(rt; is_solved(&rt, alloc, 3, &m, 2, &rhs, &[1, 0, 2, 0, 3, 0])?);
     Ok(())
 }
 
@@ -272,48 +185,4 @@ fn finds_wide_columns(rt: HostRuntime) {
         let found = solved(&rt, rt.alloc(), 2, &entries, 1, &right);
         assert_eq!(rt; found.err(), Some(LinearError::Wide(column)));
     }
-}
-
-/// Whether the form of these entries has these numerators over this denominator.
-fn is_common(
-    alloc: Global,
-    entries: &[Frac],
-    numerators: &[i128],
-    denominator: i128,
-) -> Result<bool, LinearError> {
-    let form = vector(alloc, entries)?;
-    let IntAffine { den, k } = common(alloc, &form)?;
-    Ok(den == denominator && k.as_slice() == numerators)
-}
-
-/// Whether the row of these entries and this right side is this one in whole numbers.
-fn is_primitive(
-    alloc: Global,
-    entries: &[Frac],
-    right: &Frac,
-    wanted: &[i128],
-    side: i128,
-) -> Result<bool, LinearError> {
-    let left = vector(alloc, entries)?;
-    let RowInt { a, b } = primitive(alloc, &left, right)?;
-    Ok(b == side && a.len() == wanted.len() && !a.is_empty() && a.as_slice() == wanted)
-}
-
-#[test]
-fn writes_whole_numbers(rt: HostRuntime) -> Result<(), Fail> {
-    let alloc = rt.alloc();
-    let (half, third) = (frac(&rt, 1, 2), frac(&rt, -1, 3));
-    let (zero, two) = (Frac::whole(0), Frac::whole(2));
-    let wide = [frac(&rt, 1, LARGEST), half];
-    assert!(rt; is_common(alloc, &[half, third, two], &[3, -2, 12], 6)?);
-    assert!(rt; is_common(alloc, &wide, &[], 1) == Err(LinearError::Wide(0)));
-    for (entries, right, wanted, side) in [
-        ([half, third], frac(&rt, 5, 6), [3, -2], 5),
-        ([two, Frac::whole(-4)], Frac::whole(6), [1, -2], 3),
-    ] {
-        assert!(rt; is_primitive(alloc, &entries, &right, &wanted, side)?);
-    }
-    assert!(rt; is_primitive(alloc, &[zero], &zero, &[0], 0)?);
-    assert!(rt; is_primitive(alloc, &wide, &half, &[], 0) == Err(LinearError::Wide(0)));
-    Ok(())
 }

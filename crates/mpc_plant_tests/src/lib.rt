@@ -6,8 +6,4 @@ mod condensing;
 #[cfg(test)]
 mod definite;
 #[cfg(test)]
-mod plant_files;
-#[cfg(test)]
 mod plants;
-#[cfg(test)]
-mod tightening;

@@ -3,7 +3,7 @@ ghost use Rattle.mpc_plant.specs.Trajectory.{IsInBox, IsSequence, point_of};
 
 use mpc_frac::Frac;
 use mpc_linear::{LinearError, Matrix};
-use mpc_plant::{Path, Plant, cost, read_plant, roll};
+use mpc_plant::{Plant, cost, read_plant, roll};
 use std::alloc::Global;
 use std::process::Abort;
 use std::test::Fail;
@@ -121,15 +121,5 @@ fn wide_cost(rt: HostRuntime) -> Result<(), Fail> {
         _ => None,
     };
     assert_eq!(rt; place, Some(1));
-    Ok(())
-}
-
-#[test]
-fn a_path_is_a_list_of_bytes(rt: HostRuntime) -> Result<(), Fail> {
-    let mut path = Path::new(rt.alloc());
-    assert!(rt; path.is_empty());
-    path.push(b'A')?;
-    assert_eq!(rt; path.len(), 1);
-    assert_eq!(rt; *path.at(0), b'A');
     Ok(())
 }

@@ -4,4 +4,3 @@ pub mod LineLemmas
 pub mod BoxLemmas
 pub mod ReplyLemmas
 pub mod LawLemmas
-pub mod TestLemmas

@@ -8,8 +8,6 @@ mod counts;
 mod input;
 mod laws;
 mod reply_lines;
-#[cfg(test)]
-mod tests;
 
 pub use counts::read_counts;
 pub use input::{Sections, cut, first_line};

@@ -9,7 +9,12 @@ use std::test::Fail;
 
 /// A line for each system: its width, its rows, and the end of its run.
 const STATED: &str = r"0 | < 77/100; < 77/100 | point
+0 | < 0 | refuted 1
 1 | | point 0,0
+3 | | point 0,0 0,0 0,0
+1 | 1 <= 2; -1 < -2 | refuted 1 1
+1 | 1 <= 2; -1 <= -2 | point 2,0
+1 | 1 <= 5; 1 <= 5; 1 < 3; -1 < -3 | refuted 0 0 1 1
 1 | 5/2 <= 0; 9/5 <= 4/3; 0 <= 0; 9/2 <= -2/3 | point -4/27,0
 1 | 0 <= 0; 3 <= 0; -1 <= -1 | refuted 0 1 3
 1 | -8/3 < -2; -5/3 < -7/4; 5/3 < 7/4; 1/10 < 0 | refuted 0 1 1 0

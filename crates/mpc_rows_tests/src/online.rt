@@ -32,32 +32,11 @@ fn answer(rt: &impl Abort, alloc: Global, qp: &Qp, count: u64) -> Result<Online,
     solve_at(alloc, qp, &[count])
 }
 
-fn assert_best(rt: &impl Abort, found: &Online, expected: &Frac) {
-    match found {
-        Online::Best(z) => {
-            assert_eq!(rt; z.len(), 1);
-            assert_eq!(rt; z.at(0), expected);
-        }
-        Online::Refuted(_) => assert!(rt; false),
-    }
-}
-
 fn assert_refuted(rt: &impl Abort, found: &Online, expected: &[Frac]) {
     match found {
         Online::Best(_) => assert!(rt; false),
         Online::Refuted(m) => assert_eq!(rt; m.as_slice(), expected),
     }
-}
-
-#[test]
-fn choices(rt: HostRuntime) -> Result<(), Fail> {
-    let alloc = rt.alloc();
-    let both = [[1, 0], [-1, 0]].as_slice();
-    let limited = program(alloc, [-4, 1], 8, both, [[1, 0], [1, 0]].as_slice())?;
-    assert_best(&rt, &answer(&rt, alloc, &limited, 0)?, &Frac::whole(1));
-    assert_best(&rt, &answer(&rt, alloc, &limited, 3)?, &Frac::new(1, 2)?);
-    assert_best(&rt, &answer(&rt, alloc, &limited, 8)?, &Frac::whole(-1));
-    Ok(())
 }
 
 #[test]

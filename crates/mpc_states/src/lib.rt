@@ -8,8 +8,6 @@ mod laws;
 mod lines;
 mod noise_part;
 mod programs;
-#[cfg(test)]
-mod tests;
 
 pub use errors::{RobustError, SolveError};
 pub use inputs::{robust_input, solve_input};

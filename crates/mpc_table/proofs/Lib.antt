@@ -12,5 +12,4 @@ pub mod SharedFormLemmas
 pub mod ReadLemmas
 pub mod ReplyLemmas
 pub mod AnswerLemmas
-pub mod TestLemmas
 pub mod KeptForms

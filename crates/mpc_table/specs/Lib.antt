@@ -8,4 +8,3 @@ pub mod SharedForms
 pub mod SharedLookup
 pub mod TableLaws
 pub mod TableReplies
-pub mod TestNodes

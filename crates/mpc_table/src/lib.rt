@@ -9,8 +9,6 @@ mod rows;
 mod sides;
 mod steps;
 mod tables;
-#[cfg(test)]
-mod tests;
 mod values;
 
 pub use laws::table_laws;

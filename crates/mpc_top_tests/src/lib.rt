@@ -1,4 +1,4 @@
-//! Tests of the top call: worked inputs, devices that fail, and workers who meet.
+//! Tests of the top call that no run of the built command shows: devices that fail at one call, and workers who meet.
 #![tactic(auto)]
 
 #[cfg(test)]

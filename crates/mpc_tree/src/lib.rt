@@ -22,8 +22,6 @@ mod laws;
 mod nodes;
 mod parts;
 mod runs;
-#[cfg(test)]
-mod tests;
 
 use borders::all_borders;
 use errors::Stop;

@@ -1,15 +1,11 @@
-//! Tests of workers on one program and on several, and of what is made with threads: sections, drills, and what is found of a controller's file.
+//! Tests of workers on one program and on several, and of the state from which a step leads out of the box.
 #![tactic(auto)]
 
-#[cfg(test)]
-mod drills;
 #[cfg(test)]
 mod fleets;
 #[cfg(test)]
 mod programs;
 #[cfg(test)]
 mod safety;
-#[cfg(test)]
-mod sections;
 #[cfg(test)]
 mod workers;

@@ -1,7 +1,0 @@
-use Rattle.std.proofs.Common.{[], ◌∷◌, ◌++◌, sym, ◌∙◌, subst}
-use Rattle.mpc_exact.proofs.OrderLaws.{one-not_zero}
-use Rattle.mpc_rows.specs.Certificates.{IsCert}
-use Rattle.mpc_file.proofs.writing.tests.single.Goals as goal
-
-pub push-requires : goal.push-requires
-push-requires c = subst (λ es. IsCert (es ++ (c.args.position, c.whole.result) ∷ [])) (sym c.new-cert.ensures) (record { rises = (c.requires, (λ e. one-not_zero (sym c.whole.ensures ∙ e)), tt) })
