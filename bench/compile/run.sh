@@ -4,7 +4,7 @@
 #
 # With the path of another program as the first word, that has the same command `compile`, the whole of `compile` is timed instead, both
 # programs in turn, on the plants of the folders and files that are named behind it, or else on those beside it. RUNS is the number of runs
-# of each (5), and MPC names another program than the one built here.
+# of each (5), and MPC names another program than that which `mpc` runs.
 set -e
 here=$(cd "$(dirname "$0")" && pwd)
 top="$here/../.."
@@ -12,10 +12,9 @@ if [ $# -gt 0 ] && [ -x "$1" ] && [ ! -d "$1" ]; then
     other=$1
     shift
     if [ $# -eq 0 ]; then set -- "$here/plants"; fi
-    # Without words the program only says how it is used; it is proved and built before that.
-    if [ -z "$MPC" ]; then "$top/mpc" < /dev/null > /dev/null 2>&1 || true; fi
+    program=${MPC:-$("$top/release/program")}
     export PYTHONDONTWRITEBYTECODE=1
-    exec python3 "$here/beside.py" "${MPC:-$top/crates/mpc_cli/out/mpc_cli}" "$other" "${RUNS:-5}" "$@"
+    exec python3 "$here/beside.py" "$program" "$other" "${RUNS:-5}" "$@"
 fi
 sh "$here/../common/build.sh" compile mpc_compile_c
 if [ $# -eq 0 ]; then

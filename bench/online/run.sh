@@ -1,17 +1,12 @@
 #!/bin/sh
 # Times `solve` at random states beside the same run in plain Rust, compares their replies with each other and with those of the plant's table,
 # and says from how many states on the table pays. The words, each of which may be left out from the last one on: the number of states (5000),
-# the program (that which `mpc` proves and builds) and plants (those of bench/workers and bench/compile).
+# the program (that which `mpc` runs) and plants (those of bench/workers and bench/compile).
 set -e
 here=$(cd "$(dirname "$0")" && pwd)
 top="$here/../.."
 count=${1:-5000}
-program=${2:-}
-if [ -z "$program" ]; then
-    # Without words the program only says how it is used; it is proved and built before that.
-    "$top/mpc" < /dev/null > /dev/null 2>&1 || true
-    program="$top/crates/mpc_cli/out/mpc_cli"
-fi
+program=${2:-$("$top/release/program")}
 if [ $# -gt 2 ]; then
     shift 2
 else

@@ -3,19 +3,14 @@
 # times `trace`: with 1, 2 and 4 workers on larger plants, with 1 to 32 while other programs take all processors, and with 1, 8 and 32 on plants
 # of few sets. Then it compares `fleet` on several
 # plants with `compile` on one after the other, and times both. The words, each of which may be left out from the last one on: the number of
-# rounds (200; with 0 it only times), the program (that which `mpc` proves and builds) and plants (which are then timed with 1, 2, 4, 8 and 32
+# rounds (200; with 0 it only times), the program (that which `mpc` runs) and plants (which are then timed with 1, 2, 4, 8 and 32
 # workers in place of those here).
 set -e
 here=$(cd "$(dirname "$0")" && pwd)
 top="$here/../.."
 plants="$here/../compile/plants"
 rounds=${1:-200}
-program=${2:-}
-if [ -z "$program" ]; then
-    # Without words the program only says how it is used; it is proved and built before that.
-    "$top/mpc" < /dev/null > /dev/null 2>&1 || true
-    program="$top/crates/mpc_cli/out/mpc_cli"
-fi
+program=${2:-$("$top/release/program")}
 export PYTHONDONTWRITEBYTECODE=1
 if [ "$rounds" -gt 0 ]; then
     python3 "$here/rounds.py" "$program" "$rounds" "$plants"/*.txt "$here"/plants/triple_integrator_6.json
