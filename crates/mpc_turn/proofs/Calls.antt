@@ -370,7 +370,7 @@ module _ (id id' : TableId) (w : ℕ) (m m1 m2 m3 : Sat) (k : Known) (is : known
                 legal,
                 ⊎_elim
                     (λ same_history. (e ∷ [], same_history ∙ ended, λ _. held))
-                    (λ more. (e ∷ event w more.0 Claim ∷ [], more.1 ∙ (ap (λ (h : List Event). h ++ event w more.0 Claim ∷ []) ended ∙ append_assoc r.history (e ∷ []) (event w more.0 Claim ∷ [])), (ends, held, refl)))
+                    (λ more. (e ∷ event w more.0 Claim ∷ [], more.1 ∙ (ap (λ (h : List Event). h ++ event w more.0 Claim ∷ []) ended ∙ append_assoc r.history (e ∷ []) (event w more.0 Claim ∷ [])), (ends, held, refl, sym (worker_of w m t p held))))
                     l.1,
               )
 

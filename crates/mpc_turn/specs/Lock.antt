@@ -53,7 +53,7 @@ Sat = Me Board View
 abbrev pub Draws : Sat → ℕ → Sat → Type 0
 Draws m r m' = (n : ℕ) × (m' ≡ (numbered m.0 n, m.1)) × (r ≡ n % 2 ^ 64)
 
--- where the word was as expected
+-- a number was drawn where the word was as expected, and else nothing changed
 abbrev pub drew : Step Board → Sat → ℕ → Sat → Type 0
 drew st m r m' = (r ≡ st.first → Draws m r m') × (r ≢ st.first → m' ≡ m)
 

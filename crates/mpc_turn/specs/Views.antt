@@ -89,11 +89,11 @@ longer xs ys = if nat_le (length xs) (length ys) then ys else xs
 abbrev pub settled : View → View
 settled v = record v { seen = longer v.seen v.beside; beside = [] }
 
--- what one turn may add: nothing, one event, or the end of a set and behind it a claim; an end is of a set in this hand
+-- what one turn may add: nothing, one event, or the end of a set and behind it the same worker's claim; an end is of a set in this hand
 abbrev pub IsTurn : List Held → List Event → Type 0
 IsTurn hand [] = Unit {0}
 IsTurn hand (e ∷ []) = is_claim e.kind ≡ false → has (e.worker, e.set) hand ≡ true
-IsTurn hand (e ∷ c ∷ []) = (is_claim e.kind ≡ false) × (has (e.worker, e.set) hand ≡ true) × (is_claim c.kind ≡ true)
+IsTurn hand (e ∷ c ∷ []) = (is_claim e.kind ≡ false) × (has (e.worker, e.set) hand ≡ true) × (is_claim c.kind ≡ true) × (c.worker ≡ e.worker)
 IsTurn hand (e ∷ c ∷ d ∷ more) = ⊥
 
 -- the registry in the slot after a turn: as it was seen, with what the turn adds
