@@ -10,6 +10,8 @@ use Rattle.atomic_table.specs.Table.{Final, Seen}
 use Rattle.atomic_table.specs.Seated.{TableId}
 use Rattle.std.specs.Prelude.{Result, Ok, Err}
 use Rattle.mpc_rows.specs.declared.programs.Qp.{Qp}
+use Rattle.mpc_rows.specs.declared.verdicts.Verdict.{Verdict}
+use Rattle.mpc_rows.specs.Verdicts.{IsRight}
 use Rattle.mpc_claim.specs.declared.events.EventKind.TheVariants.{Claim}
 use Rattle.mpc_frac.specs.declared.NoMemory.{NoMemory}
 use Rattle.mpc_claim.specs.declared.tickets.Claimed.{Claimed}
@@ -27,7 +29,7 @@ use Rattle.mpc_claim.specs.Books.{IsSlotOf, IsSound}
 use Rattle.mpc_turn.specs.declared.view.View.{View}
 use Rattle.mpc_turn.specs.Views.{Call, weigh, weigh_all, placed, hand_of, hands_of, Starts, numbered, turned, served, both_of, Follows, AreOpen}
 use Rattle.mpc_turn.specs.Lock.{Sat, Kept, IsOutside, Ends, compared}
-use Rattle.mpc_turn.specs.Known.{Known, known, IsPass, StandsFrom, HasTurn, Holds, ClaimsBy, EndsBy, IsDue, InHand, NoneClaimed, Closed, called, looked_on, ClaimedAs, EndedAs, EndedThenClaimed}
+use Rattle.mpc_turn.specs.Known.{Known, known, IsPass, StandsFrom, HasTurn, Holds, MayDeliver, ClaimsBy, EndsBy, IsDue, InHand, NoneClaimed, Closed, called, looked_on, ClaimedAs, EndedAs, EndedThenClaimed}
 use Rattle.mpc_turn.proofs.Sums.{and_first, placed-append, drop_whole, append-nil, starts_on}
 use Rattle.mpc_turn.proofs.Once.{once, all_stand}
 use Rattle.mpc_turn.proofs.Lending.{closes}
@@ -420,6 +422,11 @@ turn_opens open_list appended id w v m t k is hand turn =
     let h : InHand t (known id w v) = subst (InHand t) (sym is) hand in
     let program : v.program ≡ k.program = ap (λ (k : Known). k.program) is in
     (turn.1, ap (λ (x : Sat). x.1) turn.2, (open_ticket open_list appended turn.1.program v.seen turn.1.history v.calls t turn.5 turn.6 turn.4 h.held h.from_one h.numbered, turn.3 ∙ program))
+
+pub turn_delivers : OpenListLaws → AppendLaws → (id : TableId) (w : ℕ) (v : View) (m : Sat) (t : Ticket) (k : Known) (verdict : Verdict) → known id w v ≡ k → InHand t k → HasTurn v m → IsRight k.program t.set verdict → Holds m.1 (MayDeliver t verdict)
+turn_delivers open_list appended id w v m t k verdict is hand turn right =
+    let o = turn_opens open_list appended id w v m t k is hand turn in
+    (o.0, o.1, (o.2.0, subst (λ (j : Qp). IsRight j t.set verdict) (sym o.2.1) right))
 
 -- the end
 ones : (xs : List Held) → weigh (λ _. 1) xs ≡ 0 → xs ≡ []

@@ -3,6 +3,8 @@ use Rattle.std.specs.Prelude.{◌≡◌, ◌≢◌, ℕ, ◌+◌, ◌-◌, ◌<�
 use Rattle.std.specs.List.{All}
 use Rattle.atomic_table.specs.Seated.{TableId}
 use Rattle.mpc_rows.specs.declared.programs.Qp.{Qp}
+use Rattle.mpc_rows.specs.declared.verdicts.Verdict.{Verdict}
+use Rattle.mpc_rows.specs.Verdicts.{IsRight}
 use Rattle.mpc_claim.specs.declared.events.Event.{Event}
 use Rattle.mpc_claim.specs.declared.events.EventKind.{EventKind}
 use Rattle.mpc_claim.specs.declared.events.EventKind.TheVariants.{Claim}
@@ -12,7 +14,7 @@ use Rattle.mpc_claim.specs.declared.tickets.Claimed.{Claimed}
 use Rattle.mpc_claim.specs.declared.tickets.Claimed.TheVariants.{Job, Idle, Finished, Stopped}
 use Rattle.mpc_claim.specs.Board.{Board, at, event}
 use Rattle.mpc_claim.specs.declared.candidates.Slot.TheVariants.{Claimed as ClaimedSlot}
-use Rattle.mpc_claim.specs.History.{claimed_sets, has_drop, MayClaim, IsLegal, IsFinished, IsIdle, EndsWide, WantsMemory}
+use Rattle.mpc_claim.specs.History.{claimed_sets, has_drop, MayClaim, IsLegal, IsOpen, IsFinished, IsIdle, EndsWide, WantsMemory}
 use Rattle.mpc_claim.specs.OpenClaims.{held_by, open_of, has}
 use Rattle.mpc_claim.specs.HistoryLaws.{next_ticket}
 use Rattle.mpc_claim.specs.Answers.{Claims}
@@ -110,6 +112,10 @@ Holds c P = (r : Board) × (c ≡ (0, r) ∷ []) × P r
 -- what a seat that has the turn must have, to give it up
 abbrev pub IsDue : Sat → Type 0
 IsDue m = (m.0.turn ≡ true) × (0 < m.0.parts) × Holds m.1 (Follows m.0)
+
+-- the verdict may be delivered with this ticket
+abbrev pub MayDeliver : Ticket → Verdict → Board → Type 0
+MayDeliver t verdict r = IsOpen r.history t × IsRight r.program t.set verdict
 
 -- what calls do to the registry that is out
 abbrev pub ClaimsBy : ℕ → Result Claimed NoMemory → Board → Board → Type 0

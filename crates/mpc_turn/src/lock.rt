@@ -7,7 +7,7 @@ ghost use Rattle.mpc_claim.specs.Board.{tag_of};
 ghost use Rattle.mpc_claim.specs.History.{IsOpen};
 ghost use Rattle.mpc_turn.specs.Views.{Starts, served, longer};
 ghost use Rattle.mpc_turn.specs.Lock.{Draws, IsOutside};
-ghost use Rattle.mpc_turn.specs.Known.{Known, first_pass, ClaimedAs, EndedAs, EndedThenClaimed, InHand, HasTurn, Holds, IsDue, ClaimsBy, EndsBy, Closed};
+ghost use Rattle.mpc_turn.specs.Known.{Known, first_pass, ClaimedAs, EndedAs, EndedThenClaimed, InHand, HasTurn, Holds, IsDue, MayDeliver, ClaimsBy, EndsBy, Closed};
 
 use crate::passes::{Pass, Seat};
 use crate::view::{Compare, Draw, Law, Lend, Look, Serve, View};
@@ -172,7 +172,7 @@ impl Turn {
     fn deliver_in(&self, seat: &mut Seat, ticket: Ticket, judged: Judged) -> Delivery
         requires turn { seat.old.table_id ≡ self.now }
         requires set { judged.set ≡ ticket.set }
-        requires taken { Holds seat.old.me.1 (λ r. IsOpen r.history ticket × IsRight r.program ticket.set judged.verdict) }
+        requires taken { Holds seat.old.me.1 (MayDeliver ticket judged.verdict) }
         ensures turn { seat.new.table_id ≡ self.now }
         ensures view { seat.new.me.0 ≡ seat.old.me.0 }
         ensures ended { Holds seat.old.me.1 (λ r. Holds seat.new.me.1 (EndsBy ticket (Done (tag_of judged.verdict)) r)) }

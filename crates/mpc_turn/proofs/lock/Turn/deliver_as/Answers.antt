@@ -1,15 +1,12 @@
-use Rattle.std.proofs.Common.{◌∙◌, subst, sym}
+use Rattle.std.proofs.Common.{◌∙◌, sym}
 use Rattle.mpc_claim.specs.declared.events.EventKind.TheVariants.{Done}
-use Rattle.mpc_rows.specs.declared.programs.Qp.{Qp}
-use Rattle.mpc_rows.specs.Verdicts.{IsRight}
 use Rattle.mpc_claim.specs.Board.{tag_of}
-use Rattle.mpc_turn.proofs.Calls.{turn_opens, end_due, end_pass, end_is}
+use Rattle.mpc_turn.proofs.Calls.{turn_delivers, end_due, end_pass, end_is}
 use Rattle.mpc_turn.proofs.lock.Turn.deliver_as.Goals as goal
 
 pub deliver_in-answer-requires-clause-taken : goal.deliver_in-answer-requires-clause-taken
 deliver_in-answer-requires-clause-taken g c =
-    let o = turn_opens c.legal_laws.ensures.open_list c.legal_laws.ensures.appended c.pass.inside.seat.table_id c.pass.inside.worker c.pass.inside.seat.me.0 _ _ _ c.pass.view_is c.requires.hand c.take.ensures.taken in
-    (o.0, o.1, (o.2.0, subst (λ (j : Qp). IsRight j c.args.ticket.set c.args.judged.verdict) (sym o.2.1) c.requires.right))
+    turn_delivers c.legal_laws.ensures.open_list c.legal_laws.ensures.appended c.pass.inside.seat.table_id c.pass.inside.worker c.pass.inside.seat.me.0 _ _ _ _ c.pass.view_is c.requires.hand c.take.ensures.taken c.requires.right
 
 pub serve-requires-clause-taken : goal.serve-requires-clause-taken
 serve-requires-clause-taken g c =

@@ -1,15 +1,12 @@
-use Rattle.std.proofs.Common.{◌∙◌, refl, subst, sym}
+use Rattle.std.proofs.Common.{◌∙◌, refl, sym}
 use Rattle.mpc_claim.specs.declared.events.EventKind.TheVariants.{Done}
-use Rattle.mpc_rows.specs.declared.programs.Qp.{Qp}
-use Rattle.mpc_rows.specs.Verdicts.{IsRight}
 use Rattle.mpc_claim.specs.Board.{tag_of}
-use Rattle.mpc_turn.proofs.Calls.{turn_opens, end_then_claim_due, end_then_claim_pass, end_then_claim_is}
+use Rattle.mpc_turn.proofs.Calls.{turn_delivers, end_then_claim_due, end_then_claim_pass, end_then_claim_is}
 use Rattle.mpc_turn.proofs.lock.Turn.deliver_then_claim_as.Goals as goal
 
 pub deliver_in-requires-clause-taken : goal.deliver_in-requires-clause-taken
 deliver_in-requires-clause-taken g c =
-    let o = turn_opens c.legal_laws.ensures.open_list c.legal_laws.ensures.appended c.pass.inside.seat.table_id c.pass.inside.worker c.pass.inside.seat.me.0 _ _ _ c.pass.view_is c.requires.hand c.take.ensures.taken in
-    (o.0, o.1, (o.2.0, subst (λ (j : Qp). IsRight j c.args.ticket.set c.args.judged.verdict) (sym o.2.1) c.requires.right))
+    turn_delivers c.legal_laws.ensures.open_list c.legal_laws.ensures.appended c.pass.inside.seat.table_id c.pass.inside.worker c.pass.inside.seat.me.0 _ _ _ _ c.pass.view_is c.requires.hand c.take.ensures.taken c.requires.right
 
 pub claim_in-claimed-requires-clause-taken : goal.claim_in-claimed-requires-clause-taken
 claim_in-claimed-requires-clause-taken g c = let d = c.deliver_in.ensures.ended.2 in (d.0, d.1, refl)
