@@ -1,5 +1,5 @@
 """Times `check` on the controllers of plants, with one, two and four processors in turn. The words are the program, the number of runs and
-the plants, which the program compiles."""
+the plants, which the program compiles; one that is too wide is named with its answer."""
 
 import subprocess
 import sys
@@ -7,13 +7,14 @@ import time
 from pathlib import Path
 
 PROCESSORS = ["0", "0,1", "0-3"]
+TOO_WIDE = 5
 
 
 def run(words, text):
     begin = time.perf_counter()
     done = subprocess.run(words, input=text, capture_output=True, timeout=600)
     took = time.perf_counter() - begin
-    if done.returncode != 0:
+    if done.returncode not in (0, TOO_WIDE):
         sys.exit(f"{' '.join(words)}: status {done.returncode}: {done.stderr.decode()}")
     return took, done.stdout
 
@@ -22,7 +23,10 @@ def main():
     program, runs, plants = sys.argv[1], int(sys.argv[2]), sys.argv[3:]
     print("plant | bytes | nodes | " + " | ".join(f"processors {p}" for p in PROCESSORS))
     for plant in plants:
-        text = run([program, "compile"], Path(plant).read_bytes())[1]
+        text = run([program, "compile"], Path(plant).read_text().split("\nstates\n")[0].encode())[1]
+        if text.startswith(b"too wide"):
+            print(f"{Path(plant).stem} | {text.decode().strip()}", flush=True)
+            continue
         nodes = sum(line.split()[0] in (b"split", b"leaf", b"none") for line in text.splitlines())
         took = {p: [] for p in PROCESSORS}
         for _ in range(runs):

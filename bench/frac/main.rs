@@ -134,8 +134,6 @@ fn row(name: &str, rounds: u32, proved: impl FnMut(u32) -> u64, fast: impl FnMut
     for _ in 0..25 {
         proved.go(rounds);
         fast.go(rounds);
-    }
-    for _ in 0..3 {
         plain.go(rounds);
     }
     let same = if proved.digest == fast.digest && fast.digest == plain.digest { "" } else { "  DIGESTS DIFFER" };

@@ -12,14 +12,19 @@ READ_FAULT, WRITE_FAULT = 8, 9
 
 
 def reader_gone(program, words, text, taken):
-    """Whoever reads the output takes so many bytes and goes, while the program still writes."""
+    """Whoever reads the output takes so many bytes and goes: before the program starts where they are none, since a pipe has room for a short
+    output, or else while it still writes, so its output must be longer than that room."""
+    reader, writer = os.pipe()
+    if not taken:
+        os.close(reader)
     with tempfile.TemporaryFile() as source:
         source.write(text)
         source.seek(0)
-        child = subprocess.Popen([program, *words], stdin=source, stdout=subprocess.PIPE, stderr=subprocess.PIPE)
+        child = subprocess.Popen([program, *words], stdin=source, stdout=writer, stderr=subprocess.PIPE)
+        os.close(writer)
         if taken:
-            child.stdout.read(taken)
-        child.stdout.close()
+            os.read(reader, taken)
+            os.close(reader)
         noise = child.stderr.read()
         return child.wait(60), noise
 
@@ -37,9 +42,9 @@ def main():
     tank = f"printf '%s' '{BOUND.decode()}'"
     rows = [
         ("replies, the reader gone after one byte", reader_gone(program, ["run"], counts, 1), signalled),
-        ("replies, the reader gone at once", reader_gone(program, ["run"], counts, 0), signalled),
-        ("a refusal, the reader gone at once", reader_gone(program, ["run"], b"", 0), signalled),
-        ("usage, the reader gone at once", reader_gone(program, [], b"", 0), signalled),
+        ("replies, the reader gone before", reader_gone(program, ["run"], counts, 0), signalled),
+        ("a refusal, the reader gone before", reader_gone(program, ["run"], b"", 0), signalled),
+        ("usage, the reader gone before", reader_gone(program, [], b"", 0), signalled),
         ("replies | head -1", with_shell(program, f"(printf '%s\\nstates\\n' '{TANK.decode()}'; yes 3 | head -1000000) | mpc run | head -1 > /dev/null; exit ${{PIPESTATUS[1]}}"), signalled),
         ("replies, no output", with_shell(program, "mpc run >&-"), (0, WRITE_FAULT)),
         ("usage, no output", with_shell(program, "mpc >&-"), (WRITE_FAULT,)),

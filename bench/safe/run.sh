@@ -1,10 +1,10 @@
 #!/bin/sh
-# Times `check` and `safe` side by side on larger controller files. The word is the path of the built program; the controllers are
-# those that it compiles from the plants of bench/compile and bench/workers. For each it prints the nodes of the tree, the bytes of the file,
-# what `safe` found, and the least time of three runs of each command, in milliseconds, start and reading included.
+# Times `check` and `safe` side by side on larger controller files. The word is the program (that which `mpc` runs, where none is given); the
+# controllers are those that it compiles from the plants of bench/compile and bench/workers. For each it prints the nodes of the tree, the bytes
+# of the file, what `safe` found, and the least time of three runs of each command, in milliseconds, start and reading included.
 set -e
-program="$1"
 here=$(cd "$(dirname "$0")" && pwd)
+program=${1:-$("$here/../../release/program")}
 work=$(mktemp -d)
 trap 'rm -rf "$work"' EXIT
 
@@ -22,7 +22,7 @@ least() {
 }
 
 printf '%-24s %8s %10s %10s %10s  %s\n' plant nodes bytes check safe answer
-for plant in "$here"/../compile/plants/*.txt "$here"/../workers/plants/*.json; do
+for plant in "$here"/../compile/plants/*.txt "$here"/../compile/plants_large/*.json "$here"/../workers/plants/*.json; do
     name=$(basename "$plant" | sed 's/\..*//')
     sed '/^states$/,$d' "$plant" > "$work/plant"
     if ! "$program" compile < "$work/plant" > "$work/controller"; then

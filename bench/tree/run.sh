@@ -7,7 +7,7 @@ here=$(cd "$(dirname "$0")" && pwd)
 top="$here/../.."
 runs=${1:-5}
 workers=${2:-1}
-if [ $# -gt 2 ]; then shift 2; else set -- "$here"/../workers/plants/*.json; fi
+if [ $# -gt 2 ]; then shift 2; else set -- "$here"/../workers/plants/*.json "$here"/../compile/plants_large/*.json; fi
 program=${MPC:-$("$top/release/program")}
 export PYTHONDONTWRITEBYTECODE=1
 python3 "$here/times.py" "$program" "$runs" "$workers" 0 0,1 0-3 "$@"

@@ -1,10 +1,13 @@
 """Times `compile` on some of the processors, and `trace`, which ends where the tree begins. The words are the program, the number of runs, the
-workers that decide the active sets, the lists of processors (as 0,1 or 0-3, the first with one alone), and the plants."""
+workers that decide the active sets, the lists of processors (as 0,1 or 0-3, the first with one alone), and the plants. A plant that is too wide is
+named with its answer."""
 
 import subprocess
 import sys
 import time
 from pathlib import Path
+
+TOO_WIDE = 5
 
 
 def seconds(program, plant, processors, command, workers):
@@ -12,7 +15,7 @@ def seconds(program, plant, processors, command, workers):
     begin = time.perf_counter()
     done = subprocess.run(["taskset", "-c", processors, program, *words], input=plant, capture_output=True, timeout=600)
     took = time.perf_counter() - begin
-    if done.returncode != 0:
+    if done.returncode not in (0, TOO_WIDE):
         sys.exit(f"{' '.join(words)}: status {done.returncode}: {done.stderr.decode()}")
     return took, done.stdout
 
@@ -34,8 +37,11 @@ def main():
         if len(texts) != 1:
             sys.exit(f"{file}: the file differs from run to run")
         lines = texts.pop().decode().splitlines()
-        nodes = sum(line.split(" ")[0] in ("split", "leaf", "none") for line in lines[lines.index("tree") :]) if "tree" in lines else 0
-        laws = next((line.split(" ")[1] for line in lines if line.startswith("laws ")), "?")
+        if lines[0].startswith("too wide"):
+            print(f"{Path(file).stem} | {lines[0]}", flush=True)
+            continue
+        nodes = sum(line.split(" ")[0] in ("split", "leaf", "none") for line in lines[lines.index("tree") :])
+        laws = next(line.split(" ")[1] for line in lines if line.startswith("laws "))
         whole = [least["compile", p] for p in lists]
         tree = [least["compile", p] - least["trace", p] for p in lists]
         shown = " | ".join(f"{w:.3f} s, {t:.3f} s ({tree[0] / t:.2f})" for w, t in zip(whole, tree))
