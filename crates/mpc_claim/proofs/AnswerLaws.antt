@@ -1,9 +1,9 @@
 -- The causes of a claim's answers, and what ends a history.
-use Rattle.std.proofs.Common.{◌≡◌, ◌≢◌, ◌⊎◌, ℕ, zero, suc, ◌+◌, ◌<◌, ◌≤◌, List, [], ◌∷◌, ◌++◌, Bool, true, false, length, get_or, Contains, refl, sym, ap, ◌∙◌, subst, inl, inr, arith}
+use Rattle.std.proofs.Common.{◌≡◌, ◌≢◌, ℕ, zero, suc, ◌<◌, List, [], ◌∷◌, ◌++◌, Bool, true, false, length, get_or, Contains, refl, sym, ap, ◌∙◌, subst, inl, inr, arith}
 use Rattle.std.specs.Prelude.{if◌then◌else◌, AllPairs}
 use Rattle.std.proofs.lemmas.Bool.{cases_lt}
 use Rattle.std.proofs.lemmas.List.{append_assoc, append-nil}
-use Rattle.std.proofs.lemmas.List.Elements.{Contains-append_left, Contains-push_cases}
+use Rattle.std.proofs.lemmas.List.Elements.{Contains-push_cases}
 use Rattle.mpc_rows.specs.declared.programs.Qp.{Qp}
 use Rattle.mpc_rows.specs.Candidates.{IsCandidate}
 use Rattle.mpc_claim.specs.declared.events.Event.{Event}
@@ -12,7 +12,7 @@ use Rattle.mpc_claim.specs.declared.events.EventKind.TheVariants.{Claim, Done, D
 use Rattle.mpc_claim.specs.declared.events.Tag.{Tag}
 use Rattle.mpc_claim.specs.declared.events.Tag.TheVariants.{Wide}
 use Rattle.mpc_claim.specs.Board.{event}
-use Rattle.mpc_claim.specs.History.{is_claim, claimed_sets, ended_sets, IsDone, IsSettled, IsRightTag, MayClaim, MayEnd, MayFollow, IsLegalAfter, IsLegal, IsFinished, IsIdle, EndsQuiet, EndsWide, WantsMemory}
+use Rattle.mpc_claim.specs.History.{is_claim, claimed_sets, ended_sets, IsDone, IsSettled, IsRightTag, MayClaim, MayEnd, MayFollow, IsLegalAfter, IsLegal, IsIdle, EndsWide, WantsMemory}
 use Rattle.mpc_claim.specs.HistoryLaws.{AnswerLaws, EndsWideIsLast, EndedIsWhole}
 use Rattle.mpc_claim.proofs.Histories.{claimed-claim, claimed-end, IsDone-more, contains_ended, ended_by_done, IsLegal-front, IsLegal-last, no_set_ended_twice, contains_claimed, ended_was_claimed, claimed_is_candidate}
 use Rattle.mpc_claim.proofs.HistoryLaws.{finished_is_last}

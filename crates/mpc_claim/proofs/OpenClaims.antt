@@ -1,6 +1,6 @@
 -- The list of open claims.
 use Rattle.std.proofs.Common.{◌≡◌, ◌≢◌, ◌⊎◌, ℕ, zero, suc, ◌+◌, ◌<◌, ◌≤◌, List, [], ◌∷◌, ◌++◌, Bool, true, false, cond, length, get_or, Contains, refl, sym, ap, ◌∙◌, subst, inl, inr, arith, eqb, eqb-true, eq-eqb}
-use Rattle.std.specs.Prelude.{◌&&◌, ◌||◌, ◌==◌, if◌then◌else◌}
+use Rattle.std.specs.Prelude.{◌&&◌, ◌||◌, if◌then◌else◌}
 use Rattle.std.proofs.lemmas.List.{append_assoc, append-nil}
 use Rattle.std.proofs.lemmas.List.Elements.{Contains-append_left, Contains-push, Contains-push_cases}
 use Rattle.mpc_rows.specs.declared.programs.Qp.{Qp}
@@ -11,7 +11,7 @@ use Rattle.mpc_claim.specs.Board.{event}
 use Rattle.mpc_claim.specs.History.{is_claim, claimed_sets, ended_sets, MayEnd, MayFollow, IsLegalAfter, IsLegal}
 use Rattle.mpc_claim.specs.OpenClaims.{Held, same_set, same, has, without, opened, open_after, open_of}
 use Rattle.mpc_claim.specs.HistoryLaws.{OpenListLaws}
-use Rattle.mpc_claim.proofs.Histories.{claimed-claim, claimed-end, ended-claim, ended-end, IsLegal-push, legal_nothing, contains_claimed, ended_was_claimed}
+use Rattle.mpc_claim.proofs.Histories.{claimed-claim, claimed-end, ended-claim, ended-end, IsLegal-push, legal_nothing, ended_was_claimed}
 
 -- ---- equal pairs
 and_first : (a b : Bool) → (a && b) ≡ true → a ≡ true

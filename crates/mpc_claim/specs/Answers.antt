@@ -1,5 +1,5 @@
 -- What the calls on a registry answer and leave.
-use Rattle.std.specs.Prelude.{◌≡◌, ℕ, ◌+◌, ◌-◌, ◌<◌, ◌⊎◌, List, [], ◌∷◌, ◌++◌, length, true, false, Contains, Result, Ok, Err, slice_set}
+use Rattle.std.specs.Prelude.{◌≡◌, ℕ, ◌+◌, ◌-◌, ◌<◌, ◌⊎◌, List, [], ◌∷◌, ◌++◌, length, true, false, Result, Ok, Err, slice_set}
 use Rattle.mpc_frac.specs.declared.NoMemory.{NoMemory}
 use Rattle.mpc_sets.specs.SetOrder.{IsBefore}
 use Rattle.mpc_rows.specs.declared.programs.Qp.{Qp}
@@ -12,7 +12,7 @@ use Rattle.mpc_claim.specs.declared.candidates.Slot.TheVariants.{Done as DoneSlo
 use Rattle.mpc_claim.specs.declared.tickets.Ticket.{Ticket}
 use Rattle.mpc_claim.specs.declared.tickets.Claimed.{Claimed}
 use Rattle.mpc_claim.specs.declared.tickets.Claimed.TheVariants.{Job, Idle, Finished as FinishedAnswer, Stopped as StoppedAnswer}
-use Rattle.mpc_claim.specs.Board.{Board, at, event, candidate, sets_of, tag_of, is_wide}
+use Rattle.mpc_claim.specs.Board.{Board, at, event, candidate, tag_of, is_wide}
 use Rattle.mpc_claim.specs.History.{claimed_sets, has_drop, MayClaim, IsOpen, IsFinished, IsIdle, EndsWide, WantsMemory}
 use Rattle.mpc_claim.specs.Books.{is_bad, IsSound}
 
