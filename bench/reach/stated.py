@@ -30,7 +30,7 @@ PENDULUM = Decimal("0.2") * Decimal("9.8") * Decimal("0.3") * Decimal("0.7") / D
 FORCE = Decimal("0.06") / Decimal("0.0132")
 TIME = HALVED / PENDULUM.sqrt()
 PUSH = Decimal("0.1") * PENDULUM / FORCE
-SPEED = 2 * PUSH * TIME / Decimal("0.7")
+SPEED = PUSH * TIME / Decimal("0.7")
 
 ORIGINS = {
     "servo": Origin([[0, 1, 0], [0, -10, 1], [0, "-0.02", -2]], [[0], [0], [2]], HALVED / 5, ["0.12", "0.2", 1], [1]),
