@@ -19,19 +19,26 @@ returns-in_err-place-clause-none c =
     let many = length-seen r.verdicts.items r.entries.items in
     rw (c.from_residual.ensures, ← c.self.view_is) (λ i p. elim (cases_lt i r.settled) [ inl l ↦ (c.self.invariant.0.slots.quiet i l).not_bad | inr m ↦ none i m (omega arith) ])
 
+first_place : (c : goal.After-index-in-Kept) → IsFirstBadPlace (seen c.self.inside.verdicts.items c.self.inside.entries.items) c.self.inside.settled c.in_ok-place.place
+first_place c = rw (c.deref.ensures.value, c.deref-2.ensures.value) at c.in_ok-place.ensures.first
+
+slot_there : (c : goal.After-index-in-Kept) → (at (seen c.self.inside.verdicts.items c.self.inside.entries.items) c.in_ok-place.place).slot ≡ Done c.index-in-Kept.result.now
+slot_there c =
+    let r = c.self.inside in
+    let many = length-seen r.verdicts.items r.entries.items in
+    let within : c.in_ok-place.place < length r.entries.items = (let p = (first_place c).in_range in omega arith) in
+    kept_here r.verdicts.items r.entries.items c.in_ok-place.place c.index.result.now c.in-Kept.kept c.index-in-Kept.result.now c.self.invariant.1.within within c.index.ensures c.in-Kept.is c.index-in-Kept.ensures
+
 pub returns-in-Kept-clause-least : goal.returns-in-Kept-clause-least
 returns-in-Kept-clause-least c =
     let r = c.self.inside in
-    let first : IsFirstBadPlace (seen r.verdicts.items r.entries.items) r.settled c.in_ok-place.place = rw (c.deref.ensures.value, c.deref-2.ensures.value) at c.in_ok-place.ensures.first in
-    let many = length-seen r.verdicts.items r.entries.items in
-    let within : c.in_ok-place.place < length r.entries.items = (let p = first.in_range in omega arith) in
-    let slot : (at (seen r.verdicts.items r.entries.items) c.in_ok-place.place).slot ≡ Done c.index-in-Kept.result.now =
-    kept_here r.verdicts.items r.entries.items c.in_ok-place.place c.index.result.now c.in-Kept.kept c.index-in-Kept.result.now c.self.invariant.1.within within c.index.ensures c.in-Kept.is c.index-in-Kept.ensures in
-    subst (λ (b : Board). IsLeastBad b c.index-in-Kept.result.now) c.self.view_is (record {
+    let first = first_place c in
+    subst (λ (b : Board). IsLeastBad b c.index-in-Kept.result.now) c.self.view_is
+    (record {
       place = c.in_ok-place.place;
       in_range = first.in_range;
-      slot_is = slot;
-      wide = sym (ap is_bad slot) ∙ first.bad;
+      slot_is = slot_there c;
+      wide = sym (ap is_bad (slot_there c)) ∙ first.bad;
       before = λ i p. elim (cases_lt i r.settled) [ inl l ↦ (c.self.invariant.0.slots.quiet i l).not_bad | inr m ↦ first.before i m p ];
     })
 
@@ -41,10 +48,5 @@ returns-in-Kept-clause-stopped c = λ stopped no_drop.
     let s : r.phase ≡ Stopped = ap (λ (b : Board). b.phase) c.self.view_is ∙ stopped in
     let none : has_drop r.history.items ≡ false = ap (λ (b : Board). has_drop b.history) c.self.view_is ∙ no_drop in
     let fits : (has_drop r.history.items ≡ true) ⊎ HasBad (seen r.verdicts.items r.entries.items) r.history.items = subst (HasPhase r.program (seen r.verdicts.items r.entries.items) r.history.items) s c.self.invariant.0.phase_fits in
-    let first : IsFirstBadPlace (seen r.verdicts.items r.entries.items) r.settled c.in_ok-place.place = rw (c.deref.ensures.value, c.deref-2.ensures.value) at c.in_ok-place.ensures.first in
-    let many = length-seen r.verdicts.items r.entries.items in
-    let within : c.in_ok-place.place < length r.entries.items = (let p = first.in_range in omega arith) in
-    let slot : (at (seen r.verdicts.items r.entries.items) c.in_ok-place.place).slot ≡ Done c.index-in-Kept.result.now =
-    kept_here r.verdicts.items r.entries.items c.in_ok-place.place c.index.result.now c.in-Kept.kept c.index-in-Kept.result.now c.self.invariant.1.within within c.index.ensures c.in-Kept.is c.index-in-Kept.ensures in
     subst (λ (b : Board). IsFirstBad b.program c.index-in-Kept.result.now) c.self.view_is
-    (first_bad_shown r.program (seen r.verdicts.items r.entries.items) r.settled r.claims r.pending r.size r.history.items c.in_ok-place.place c.index-in-Kept.result.now c.self.invariant.0.lineup c.self.invariant.0.slots (only_bad (seen r.verdicts.items r.entries.items) r.history.items none fits) first slot)
+    (first_bad_shown r.program (seen r.verdicts.items r.entries.items) r.settled r.claims r.pending r.size r.history.items c.in_ok-place.place c.index-in-Kept.result.now c.self.invariant.0.lineup c.self.invariant.0.slots (only_bad (seen r.verdicts.items r.entries.items) r.history.items none fits) (first_place c) (slot_there c))
