@@ -8,5 +8,6 @@ pub mod WideRuns
 pub mod Borders
 pub mod Growth
 pub mod Joins
+pub mod Pieces
 pub mod Causes
 pub mod Certified

@@ -12,7 +12,7 @@ ghost use Rattle.mpc_tree.specs.WideRuns.{IsFirstWide};
 use crate::borders::Border;
 use crate::errors::{Stop, TreeError};
 use crate::nodes::{Placed, place_node};
-use crate::parts::{Watch, is_called_off};
+use crate::refusals::{Watch, is_called_off};
 use crate::runs::KeptCell;
 use mpc_frac::NoMemory;
 use mpc_linear::{Ints, RowInt};

@@ -16,26 +16,25 @@ ghost use Rattle.mpc_tree.specs.WideRuns.{IsFirstWide};
 mod borders;
 mod certs;
 mod errors;
-mod forks;
+mod frontier;
 mod growth;
 mod laws;
 mod nodes;
-mod parts;
+mod refusals;
 mod runs;
+mod threads;
 
 use borders::all_borders;
-use errors::Stop;
 pub use errors::TreeError;
-use forks::forked;
 use growth::grown_alone;
 pub use laws::{multipliers_are_cert, one_tree, table_laws};
 use mpc_cover::cover_laws;
 use mpc_rows::{LawTable, Qp, Tree};
 use mpc_sets::count_laws;
-use parts::{Parts, Refusals};
 use runs::KeptCell;
 use std::alloc::Global;
 use std::thread::Threads;
+use threads::grown_in_threads;
 
 /// The search tree of a table of laws over the box (Tøndel, Johansen and Bemporad, 2003): at each
 /// cell the first law whose region meets it. The cell is a leaf where it lies in that region, and
@@ -47,8 +46,8 @@ use std::thread::Threads;
 /// certificate of the box, the cell and all rows of the program. They are the multipliers at the
 /// ends of the runs of the simplex method by least numbers that decide the leaf.
 ///
-/// Where there are many laws, the two sides of each upper split are built at once, and the tree is the
-/// same whether they are or not. Where a side is refused, what comes after it in preorder is given up.
+/// The cells below the upper part of a large tree are built at once, and the tree is the same whether
+/// they are or not. Where one is refused, what comes after it in preorder is given up.
 ///
 /// `Wide` names the first run, node by node in preorder, with a number that needs more than 128 bits.
 pub fn build<T: Threads + Sync>(
@@ -72,26 +71,8 @@ pub fn build<T: Threads + Sync>(
     cover_laws();
     count_laws();
     let borders = all_borders(alloc, qp, laws)?;
-    let cell = KeptCell::whole_box(alloc, qp)?;
-    let refusals = Refusals::none();
-    match forked(
-        rt,
-        alloc,
-        qp,
-        laws,
-        &borders,
-        &refusals,
-        cell,
-        0,
-        Parts::all(laws.len()),
-    ) {
-        Ok(tree) => Ok(tree),
-        Err(Stop::Refused(error)) => Err(error),
-
-        // Only a part behind a refused one is given up, and then that refusal is the answer. But what
-        // an atomic contains is no fact, so the case stays.
-        Err(Stop::GivenUp) => build_alone(alloc, qp, laws),
-    }
+    let cell = KeptCell::of(alloc, qp, Vec::new(alloc))?;
+    grown_in_threads(rt, alloc, qp, laws, &borders, cell, 0)
 }
 
 /// The same tree, by the caller's thread alone.
@@ -111,6 +92,6 @@ pub fn build_alone(alloc: Global, qp: &Qp, laws: &LawTable) -> Result<Tree, Tree
     cover_laws();
     count_laws();
     let borders = all_borders(alloc, qp, laws)?;
-    let cell = KeptCell::whole_box(alloc, qp)?;
+    let cell = KeptCell::of(alloc, qp, Vec::new(alloc))?;
     grown_alone(alloc, qp, laws, &borders, cell, 0)
 }

@@ -1,12 +1,13 @@
 //! Cells with the runs that are kept of them.
 
 ghost use Rattle.std.specs.Prelude.{◌≡◌, ◌++◌, ◌∷◌, [], IfOk, IfSome, OnOk, length};
+ghost use Rattle.mpc_systems.specs.Writing.{HasBoxWidth};
 ghost use Rattle.mpc_tree.specs.CellRuns.{IsRunOf, IsRunWith};
 
 use mpc_frac::NoMemory;
-use mpc_rows::{Qp, Row, System};
+use mpc_rows::{Qp, Row};
 use mpc_simplex::Beginning;
-use mpc_systems::push_box;
+use mpc_systems::meet_system;
 use std::alloc::Global;
 
 /// A cell of the search by its rows, and the run of the box and these rows, where one is kept: those
@@ -15,6 +16,19 @@ use std::alloc::Global;
 pub struct KeptCell {
     pub rows: Vec<Row>,
     pub run: Option<Beginning>,
+}
+
+/// The same rows once more.
+pub fn copied_rows(alloc: Global, rows: &[Row]) -> Result<Vec<Row>, NoMemory>
+    ensures { IfOk result (λ copy. copy.items ≡ rows.now) }
+{
+    let mut copy = Vec::new(alloc);
+    for row in rows {
+        let Ok(()) = copy.push(row.copy(alloc)?) else {
+            return Err(NoMemory);
+        };
+    }
+    Ok(copy)
 }
 
 /// The run with one more row. Nothing where there is none, or where whole numbers don't serve.
@@ -29,18 +43,15 @@ fn longer(alloc: Global, run: &Option<Beginning>, row: &Row) -> Result<Option<Be
 }
 
 impl KeptCell {
-    /// The whole box.
-    pub fn whole_box(alloc: Global, qp: &Qp) -> Result<Self, NoMemory>
-        ensures rows { IfOk result (λ cell. cell.rows.items ≡ []) }
+    /// The cell with these rows, whose run is begun anew.
+    pub fn of(alloc: Global, qp: &Qp, rows: Vec<Row>) -> Result<Self, NoMemory>
+        requires { HasBoxWidth qp.now rows.items }
+        ensures rows { IfOk result (λ cell. cell.rows.items ≡ rows.items) }
         ensures run { IfOk result (λ cell. IsRunOf qp.now cell.rows.items cell.run) }
     {
-        let mut system = System::new(alloc, qp.counts.len() as u32);
-        push_box(alloc, &mut system, &qp.counts)?;
+        let system = meet_system(alloc, qp, &rows, &[])?;
         let run = Beginning::begin(alloc, &system)?;
-        Ok(KeptCell {
-            rows: Vec::new(alloc),
-            run,
-        })
+        Ok(KeptCell { rows, run })
     }
 
     /// Puts a row behind the cell's. The run goes on by that row, and is given up where whole numbers

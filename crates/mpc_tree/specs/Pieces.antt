@@ -1,0 +1,61 @@
+-- A tree in pieces, in preorder: nodes, and cells whose trees aren't built.
+use Rattle.std.specs.Prelude.{◌≡◌, ℕ, ◌+◌, ◌⊎◌, List, [], ◌∷◌, ◌++◌, length, Some, slice_get, slice_set, ⊤}
+use Rattle.mpc_rows.specs.declared.programs.Qp.{Qp}
+use Rattle.mpc_rows.specs.declared.laws.Law.{Law}
+use Rattle.mpc_rows.specs.declared.places.Place.{Place}
+use Rattle.mpc_rows.specs.declared.trees.Node.{Node}
+use Rattle.mpc_tree.specs.declared.frontier.Piece.{Piece}
+use Rattle.mpc_tree.specs.declared.frontier.Piece.TheVariants.{Closed, Open}
+use Rattle.mpc_tree.specs.declared.runs.KeptCell.{KeptCell}
+use Rattle.mpc_tree.specs.declared.threads.Drawn.{Drawn}
+use Rattle.mpc_tree.specs.CellRuns.{IsRunOf}
+use Rattle.mpc_tree.specs.Growth.{IsReady, IsBuilt}
+use Rattle.mpc_tree.specs.Trees.{Cell}
+use Rattle.mpc_tree.specs.WideRuns.{IsFirstWide}
+
+-- the cell, as its search goes on
+abbrev pub cell_at : KeptCell → ℕ → Cell
+cell_at cell next = record { rows = cell.rows.items; next = next }
+
+module _ (qp : Qp) (laws : List Law) where
+  -- if the piece is a cell, its search may begin
+  abbrev pub IsOpen : Piece → Type 0
+  IsOpen (Closed nodes) = ⊤
+  IsOpen (Open cell next) = IsReady qp laws (cell_at cell next) × IsRunOf qp cell.rows.items cell.run
+
+  -- the nodes that stand for a piece
+  abbrev pub IsOfPiece : Piece → List Node → Type 0
+  IsOfPiece (Closed own) nodes = nodes ≡ own
+  IsOfPiece (Open cell next) nodes = IsBuilt qp laws (cell_at cell next) nodes
+
+  -- the place is the first wide one of a piece whose first node has this number
+  abbrev pub IsWideIn : Piece → ℕ → Place → Type 0
+  IsWideIn (Closed own) number place = ⊥
+  IsWideIn (Open cell next) number place = IsFirstWide qp laws (cell_at cell next) number place
+
+  -- the nodes are those of the pieces, one after the other
+  abbrev pub AreFilled : List Piece → List Node → Type 0
+  AreFilled [] nodes = nodes ≡ []
+  AreFilled (p ∷ ps) nodes = (first : List Node) × (later : List Node) × (nodes ≡ first ++ later) × IsOfPiece p first × AreFilled ps later
+
+  -- the place is the first wide one among the pieces, whose first node has this number
+  abbrev pub IsWideAmong : List Piece → ℕ → Place → Type 0
+  IsWideAmong [] number place = ⊥
+  IsWideAmong (p ∷ ps) number place = IsWideIn p number place ⊎ ((first : List Node) × IsOfPiece p first × IsWideAmong ps (number + length first) place)
+
+  -- what the second pieces say of a tree, the first ones say of it
+  pub record IsFiner (pieces finer : List Piece) : Type 0 where
+    pub filled : (nodes : List Node) → AreFilled finer nodes → AreFilled pieces nodes
+    pub wide : (number : ℕ) (place : Place) → IsWideAmong finer number place → IsWideAmong pieces number place
+
+  -- the tree is that of the open cell at its place among the pieces
+  pub record IsDrawn (pieces : List Piece) (d : Drawn) : Type 0 where
+    pub cell : KeptCell
+    pub next : ℕ
+    pub is : slice_get pieces d.piece ≡ Some (Open cell next)
+    pub built : IsBuilt qp laws (cell_at cell next) d.tree
+
+-- each tree in the place that it was drawn at
+abbrev pub with_trees : List Piece → List Drawn → List Piece
+with_trees pieces [] = pieces
+with_trees pieces (d ∷ ds) = with_trees (slice_set pieces d.piece (Closed d.tree)) ds

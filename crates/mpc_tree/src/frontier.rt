@@ -1,0 +1,192 @@
+//! The upper part of the tree, which is grown breadth-first, with the cells that are left open below.
+
+ghost use Rattle.std.specs.Prelude.{◌≡◌, ◌+◌, ◌<◌, ◌^◌, ◌++◌, ◌∷◌, [], All, IfOk, IfSome, length, unsigned_abs};
+ghost use Rattle.mpc_linear.specs.Whole.{AreSmall};
+ghost use Rattle.mpc_rows.specs.LawRows.{whole_row, broken_row};
+ghost use Rattle.mpc_tree.specs.Borders.{AreBorders};
+ghost use Rattle.mpc_tree.specs.CellRuns.{IsRunOf, IsRunWith};
+ghost use Rattle.mpc_tree.specs.Growth.{IsReady, RegionsCover};
+ghost use Rattle.mpc_tree.specs.Pieces.{IsOpen, IsFiner};
+
+use crate::borders::Border;
+use crate::errors::TreeError;
+use crate::growth::copied;
+use crate::nodes::{Placed, place_node};
+use crate::runs::{KeptCell, copied_rows};
+use mpc_frac::NoMemory;
+use mpc_linear::RowInt;
+use mpc_rows::{LawTable, Node, Qp, Tree};
+use mpc_simplex::{Beginning, Workspace};
+use mpc_systems::{broken_row, cell_laws, whole_row};
+use std::alloc::Global;
+
+/// How many open cells are enough: where the dearest of them takes a fifteenth of the whole, as in
+/// usual large trees, up to eight threads have about as much to do as each other.
+const ENOUGH: usize = 64;
+
+/// After so many rounds the cells stay open, however few they are.
+const MOST_ROUNDS: usize = 64;
+
+/// A piece of a tree in preorder.
+#[derive(Drop)]
+pub enum Piece {
+    /// Neighbouring nodes.
+    Closed(Tree),
+    /// A cell whose tree isn't built, and the place of the law with which its search goes on.
+    Open { cell: KeptCell, next: usize },
+}
+
+/// The cells of both sides of a split.
+#[derive(Drop)]
+struct Sides {
+    yes: KeptCell,
+    no: KeptCell,
+}
+
+/// The cells of the sides of a split by the row, each with rows of its own, the no side's with the
+/// run of where the row fails.
+fn sides_of(
+    alloc: Global,
+    cell: KeptCell,
+    row: &RowInt,
+    broken: Option<Beginning>,
+) -> Result<Sides, NoMemory>
+    requires small { AreSmall row.now.a }
+    requires b_small { unsigned_abs row.now.b < 2 ^ 127 }
+    requires width { IfSome cell.run (λ run. length row.now.a ≡ run.width) }
+    ensures yes { IfOk result (λ sides. sides.yes.rows.items ≡ cell.rows.items ++ whole_row row.now ∷ []) }
+    ensures yes_run { IfOk result (λ sides. IsRunWith cell.run (whole_row row.now) sides.yes.run) }
+    ensures no { IfOk result (λ sides. sides.no.rows.items ≡ cell.rows.items ++ broken_row row.now ∷ []) }
+    ensures no_run { IfOk result (λ sides. sides.no.run ≡ broken) }
+{
+    let mut rows = copied_rows(alloc, &cell.rows)?;
+    let Ok(()) = rows.push(broken_row(alloc, row)?) else {
+        return Err(NoMemory);
+    };
+    let no = KeptCell { rows, run: broken };
+    let mut yes = cell;
+    yes.narrow(alloc, whole_row(alloc, row)?)?;
+    Ok(Sides { yes, no })
+}
+
+/// One node as a piece.
+fn closed(alloc: Global, node: Node) -> Result<Piece, NoMemory>
+    ensures { IfOk result (λ piece. piece ≡ Piece.Closed (node ∷ [])) }
+{
+    let mut nodes = Tree::new(alloc);
+    nodes.push(node)?;
+    nodes.shrink_to_fit();
+    Ok(Piece::Closed(nodes))
+}
+
+/// The pieces that a cell is divided into: a leaf, or a split with both sides open. A cell whose node
+/// is refused stays open: there may be a refusal before it in preorder.
+fn divided(
+    alloc: Global,
+    work: &mut Workspace,
+    qp: &Qp,
+    laws: &LawTable,
+    borders: &[Border],
+    cell: KeptCell,
+    next: usize,
+) -> Result<Vec<Piece>, NoMemory>
+    requires few { length laws.now < 2 ^ 32 }
+    requires borders { AreBorders qp.now laws.now borders.now }
+    requires cover { RegionsCover qp.now laws.now }
+    requires ready { IsReady qp.now laws.now (record { rows = cell.rows.items; next = next }) }
+    requires run { IsRunOf qp.now cell.rows.items cell.run }
+    ensures open { IfOk result (λ pieces. All (IsOpen qp.now laws.now) pieces.items) }
+    ensures finer { IfOk result (λ pieces. IsFiner qp.now laws.now (Piece.Open cell next ∷ []) pieces.items) }
+{
+    cell_laws();
+    let mut pieces = Vec::new(alloc);
+    match place_node(alloc, work, qp, laws, borders, &cell, next, 1) {
+        Ok(Placed::Split { place, row, run }) => {
+            let row = &borders[place].as_slice()[row];
+            let Sides { yes, no } = sides_of(alloc, cell, row, run)?;
+            pieces.push(closed(alloc, Node::Split(copied(alloc, row)?))?)?;
+            pieces.push(Piece::Open {
+                cell: yes,
+                next: place,
+            })?;
+            pieces.push(Piece::Open {
+                cell: no,
+                next: place + 1,
+            })?;
+        }
+        Ok(Placed::Leaf(leaf)) => pieces.push(closed(alloc, leaf)?)?,
+        Err(TreeError::Wide(_)) => pieces.push(Piece::Open { cell, next })?,
+        Err(TreeError::NoMemory) => return Err(NoMemory),
+    }
+    Ok(pieces)
+}
+
+/// The pieces with each open cell divided, in the same order.
+fn finer(
+    alloc: Global,
+    work: &mut Workspace,
+    qp: &Qp,
+    laws: &LawTable,
+    borders: &[Border],
+    pieces: Vec<Piece>,
+) -> Result<Vec<Piece>, NoMemory>
+    requires few { length laws.now < 2 ^ 32 }
+    requires borders { AreBorders qp.now laws.now borders.now }
+    requires cover { RegionsCover qp.now laws.now }
+    requires open { All (IsOpen qp.now laws.now) pieces.items }
+    ensures open { IfOk result (λ finer. All (IsOpen qp.now laws.now) finer.items) }
+    ensures finer { IfOk result (λ finer. IsFiner qp.now laws.now pieces.items finer.items) }
+{
+    let mut finer = Vec::new(alloc);
+    for piece in pieces {
+        match piece {
+            Piece::Open { cell, next } => {
+                let mut new = divided(alloc, work, qp, laws, borders, cell, next)?;
+                finer.append(&mut new)?;
+            }
+            Piece::Closed(nodes) => finer.push(Piece::Closed(nodes))?,
+        }
+    }
+    Ok(finer)
+}
+
+/// How many of the pieces are open cells.
+pub fn open_cells(pieces: &[Piece]) -> usize {
+    pieces
+        .iter()
+        .filter(|piece| match piece {
+            Piece::Open { .. } => true,
+            Piece::Closed(_) => false,
+        })
+        .count()
+}
+
+/// The tree of the cell in pieces: divided breadth-first until enough cells are open, or none.
+pub fn pieces_of(
+    alloc: Global,
+    qp: &Qp,
+    laws: &LawTable,
+    borders: &[Border],
+    cell: KeptCell,
+    next: usize,
+) -> Result<Vec<Piece>, NoMemory>
+    requires few { length laws.now < 2 ^ 32 }
+    requires borders { AreBorders qp.now laws.now borders.now }
+    requires cover { RegionsCover qp.now laws.now }
+    requires ready { IsReady qp.now laws.now (record { rows = cell.rows.items; next = next }) }
+    requires run { IsRunOf qp.now cell.rows.items cell.run }
+    ensures open { IfOk result (λ pieces. All (IsOpen qp.now laws.now) pieces.items) }
+    ensures finer { IfOk result (λ pieces. IsFiner qp.now laws.now (Piece.Open cell next ∷ []) pieces.items) }
+{
+    let mut work = Workspace::new(alloc);
+    let mut pieces = Vec::new(alloc);
+    pieces.push(Piece::Open { cell, next })?;
+    for _round in 0..MOST_ROUNDS {
+        let open = open_cells(&pieces);
+        if open == 0 || ENOUGH <= open {
+            break;
+        }
+        pieces = finer(alloc, &mut work, qp, laws, borders, pieces)?;
+    }
+    Ok(pieces)
+}

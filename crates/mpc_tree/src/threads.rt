@@ -1,0 +1,216 @@
+//! A tree whose open cells are built at once.
+
+ghost use Rattle.std.specs.Prelude.{◌≡◌, ◌<◌, ◌^◌, All, IfOk, IfErr, IfSome, length};
+ghost use Rattle.mpc_tree.specs.Borders.{AreBorders};
+ghost use Rattle.mpc_tree.specs.Causes.{IfWide};
+ghost use Rattle.mpc_tree.specs.CellRuns.{IsRunOf};
+ghost use Rattle.mpc_tree.specs.Growth.{IsReady, RegionsCover, IsBuilt};
+ghost use Rattle.mpc_tree.specs.Pieces.{IsOpen, IsOfPiece, IsWideIn, AreFilled, IsWideAmong, IsDrawn, with_trees};
+ghost use Rattle.mpc_tree.specs.Joins.{place_behind, IsWideBehind};
+ghost use Rattle.mpc_tree.specs.WideRuns.{IsFirstWide};
+
+use crate::borders::Border;
+use crate::errors::TreeError;
+use crate::frontier::{Piece, open_cells, pieces_of};
+use crate::growth::{grown, grown_alone};
+use crate::refusals::{Refusals, Watch};
+use crate::runs::{KeptCell, copied_rows};
+use mpc_frac::NoMemory;
+use mpc_rows::{LawTable, Place, Qp, Tree};
+use std::alloc::Global;
+use std::sync::atomic::{AtomicU64, Ordering};
+use std::thread::{Threads, available_parallelism, map_indices};
+
+/// How many open cells there are for a thread at least: of fewer, one may take most of the time.
+const CELLS_A_THREAD: usize = 4;
+
+/// The tree of the open cell at a place among the pieces.
+#[derive(Drop)]
+pub struct Drawn {
+    pub piece: usize,
+    pub tree: Tree,
+}
+
+/// The trees of the open cells that one thread draws, one after another by a number that all threads
+/// share, until none is left. A cell that is refused is left open, and those behind it are given up.
+fn draw(
+    alloc: Global,
+    qp: &Qp,
+    laws: &LawTable,
+    borders: &[Border],
+    pieces: &[Piece],
+    draws: &AtomicU64,
+    refusals: &Refusals,
+) -> Result<Vec<Drawn>, NoMemory>
+    requires few { length laws.now < 2 ^ 32 }
+    requires borders { AreBorders qp.now laws.now borders.now }
+    requires cover { RegionsCover qp.now laws.now }
+    requires open { All (IsOpen qp.now laws.now) pieces.now }
+    ensures { IfOk result (λ drawn. All (IsDrawn qp.now laws.now pieces.now) drawn.items) }
+{
+    let mut drawn = Vec::new(alloc);
+    for _draw in 0..pieces.len() {
+        let piece = draws.fetch_add(1, Ordering::SeqCst) as usize;
+        if pieces.len() <= piece {
+            break;
+        }
+        if let Piece::Open { cell, next } = &pieces[piece] {
+            let cell = KeptCell::of(alloc, qp, copied_rows(alloc, &cell.rows)?)?;
+            let watch = Watch { piece, refusals };
+            match grown(alloc, qp, laws, borders, cell, *next, Some(watch)) {
+                Ok(tree) => drawn.push(Drawn { piece, tree })?,
+                Err(_) => refusals.note(piece),
+            }
+        }
+    }
+    Ok(drawn)
+}
+
+/// In how many threads so many open cells are built: as many as the machine runs at once.
+fn threads_for<T: Threads>(rt: &T, open: usize) -> usize {
+    let useful = open / CELLS_A_THREAD;
+    if useful < 2 {
+        return 1;
+    }
+    match available_parallelism(rt) {
+        Ok(at_once) => useful.min(at_once.get()),
+        Err(_) => 1,
+    }
+}
+
+/// The trees of the open cells among the pieces, by the threads that have built them. What no thread
+/// has built is lacking.
+fn all_drawn<T: Threads + Sync>(
+    rt: &T,
+    alloc: Global,
+    qp: &Qp,
+    laws: &LawTable,
+    borders: &[Border],
+    pieces: &[Piece],
+) -> Result<Vec<Result<Vec<Drawn>, NoMemory>>, NoMemory>
+    requires few { length laws.now < 2 ^ 32 }
+    requires borders { AreBorders qp.now laws.now borders.now }
+    requires cover { RegionsCover qp.now laws.now }
+    requires open { All (IsOpen qp.now laws.now) pieces.now }
+    ensures { IfOk result (λ hands. All (λ hand. IfOk hand (λ drawn. All (IsDrawn qp.now laws.now pieces.now) drawn.items)) hands.items) }
+{
+    let draws = AtomicU64::new(0);
+    let refusals = Refusals::none();
+    let threads = threads_for(rt, open_cells(pieces));
+    let hand = |_| draw(alloc, qp, laws, borders, pieces, &draws, &refusals);
+    match map_indices(rt, alloc, threads, &hand) {
+        Ok(hands) => Ok(hands),
+        Err(_) => Err(NoMemory),
+    }
+}
+
+/// Puts each tree in the place of its open cell.
+fn lay(pieces: &mut Vec<Piece>, drawn: Vec<Drawn>)
+    requires { All (λ d. d.piece < length pieces.old.items) drawn.items }
+    ensures { pieces.new.items ≡ with_trees pieces.old.items drawn.items }
+{
+    for Drawn { piece, tree } in drawn {
+        pieces[piece] = Piece::Closed(tree);
+    }
+}
+
+/// The nodes of a piece. An open cell is built, with `Wide` numbering its nodes from 1.
+fn nodes_of(
+    alloc: Global,
+    qp: &Qp,
+    laws: &LawTable,
+    borders: &[Border],
+    piece: Piece,
+) -> Result<Tree, TreeError>
+    requires few { length laws.now < 2 ^ 32 }
+    requires borders { AreBorders qp.now laws.now borders.now }
+    requires cover { RegionsCover qp.now laws.now }
+    requires open { IsOpen qp.now laws.now piece }
+    ensures built { IfOk result (IsOfPiece qp.now laws.now piece) }
+    ensures wide { IfErr result (λ e. IfWide e (IsWideIn qp.now laws.now piece 1)) }
+{
+    match piece {
+        Piece::Closed(nodes) => Ok(nodes),
+        Piece::Open { cell, next } => grown_alone(alloc, qp, laws, borders, cell, next),
+    }
+}
+
+/// The place of a run at a node, where so many nodes stand before those that were counted. Nothing
+/// where the node has no number.
+fn moved(place: Place, before: u64) -> Option<Place>
+    ensures { IfSome result (λ moved. moved ≡ place_behind before place) }
+{
+    match place {
+        Place::Meet(node, law) => Some(Place::Meet(node.checked_add(before)?, law)),
+        Place::Holds(node, law, row) => Some(Place::Holds(node.checked_add(before)?, law, row)),
+        Place::Joint(node) => Some(Place::Joint(node.checked_add(before)?)),
+        other => Some(other),
+    }
+}
+
+/// Why a piece isn't built, before whose nodes so many stand.
+fn behind(error: TreeError, before: u64) -> TreeError
+    ensures { IfWide result (IsWideBehind before error) }
+{
+    let TreeError::Wide(place) = error else {
+        return TreeError::NoMemory;
+    };
+    match moved(place, before) {
+        Some(place) => TreeError::Wide(place),
+        None => TreeError::NoMemory,
+    }
+}
+
+/// The tree of the pieces, one behind the other, or the refusal of the first that isn't built. Open
+/// cells are built by the caller. The list has no more room than its nodes need.
+fn joined(
+    alloc: Global,
+    qp: &Qp,
+    laws: &LawTable,
+    borders: &[Border],
+    pieces: Vec<Piece>,
+) -> Result<Tree, TreeError>
+    requires few { length laws.now < 2 ^ 32 }
+    requires borders { AreBorders qp.now laws.now borders.now }
+    requires cover { RegionsCover qp.now laws.now }
+    requires open { All (IsOpen qp.now laws.now) pieces.items }
+    ensures filled { IfOk result (AreFilled qp.now laws.now pieces.items) }
+    ensures wide { IfErr result (λ e. IfWide e (IsWideAmong qp.now laws.now pieces.items 1)) }
+{
+    let mut tree = Tree::new(alloc);
+    for piece in pieces {
+        match nodes_of(alloc, qp, laws, borders, piece) {
+            Ok(nodes) => tree.append(nodes)?,
+            Err(error) => return Err(behind(error, tree.len() as u64)),
+        }
+    }
+    tree.shrink_to_fit();
+    Ok(tree)
+}
+
+/// The tree of the cell with these rows, whose search goes on with the next law. Its upper part is
+/// grown by the caller, and the cells that are open below are built by as many threads as the machine
+/// runs at once. `Wide` numbers the nodes from 1.
+pub fn grown_in_threads<T: Threads + Sync>(
+    rt: &T,
+    alloc: Global,
+    qp: &Qp,
+    laws: &LawTable,
+    borders: &[Border],
+    cell: KeptCell,
+    next: usize,
+) -> Result<Tree, TreeError>
+    requires few { length laws.now < 2 ^ 32 }
+    requires borders { AreBorders qp.now laws.now borders.now }
+    requires cover { RegionsCover qp.now laws.now }
+    requires ready { IsReady qp.now laws.now (record { rows = cell.rows.items; next = next }) }
+    requires run { IsRunOf qp.now cell.rows.items cell.run }
+    ensures built { IfOk result (λ nodes. IsBuilt qp.now laws.now (record { rows = cell.rows.items; next = next }) nodes) }
+    ensures wide { IfErr result (λ e. IfWide e (IsFirstWide qp.now laws.now (record { rows = cell.rows.items; next = next }) 1)) }
+{
+    let mut pieces = pieces_of(alloc, qp, laws, borders, cell, next)?;
+    for hand in all_drawn(rt, alloc, qp, laws, borders, &pieces)? {
+        lay(&mut pieces, hand?);
+    }
+    joined(alloc, qp, laws, borders, pieces)
+}
