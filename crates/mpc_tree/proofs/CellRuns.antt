@@ -97,12 +97,12 @@ module _ (qp : Qp) (cell : List Row) where
     narrowed r None w = w
     narrowed r (Some s) w = w.2 ∙ ap (λ z. lengthened z (r ∷ [])) (kept w.0 w.1) ∙ narrower r
 
--- ---- the whole box
-module _ (qp : Qp) (s : LinearSystem) (w : s.width ≡ length qp.counts) (r : s.rows ≡ box_rows (length qp.counts) qp.counts) where
-  boxed : s ≡ boxed_cell qp []
-  unfolding boxed_cell
-  boxed = λ i. record { width = w i; rows = (r ∙ sym (append-nil (box_rows (length qp.counts) qp.counts))) i }
+-- ---- a cell whose run is begun anew
+module _ (qp : Qp) (cell : List Row) where
+  no_more : meet_system qp cell [] ≡ boxed_cell qp cell
+  unfolding boxed_cell meet_system
+  no_more = λ i. record { width = length qp.counts; rows = box_rows (length qp.counts) qp.counts ++ append-nil cell i }
 
-  pub box_run : (cell : List Row) → cell ≡ [] → (run : Option LinearSystem) → IfSome run (λ b. b ≡ s) → IsRunOf qp cell run
-  box_run cell e None h = h
-  box_run cell e (Some b) h = h ∙ boxed ∙ ap (boxed_cell qp) (sym e)
+  pub own_run : (s : LinearSystem) → s ≡ meet_system qp cell [] → (run : Option LinearSystem) → IfSome run (λ b. b ≡ s) → IsRunOf qp cell run
+  own_run s e None h = h
+  own_run s e (Some b) h = h ∙ e ∙ no_more

@@ -1,18 +1,21 @@
--- The trees of both sides of a split make the tree of its cell, and the first wide run of a side is that of the cell.
-use Rattle.std.proofs.Common.{ℕ, ◌+◌, List, length, subst, sym, ap, arith, Result, Ok, Err, IfOk, IfErr, inl, inr}
-use Rattle.mpc_linear.specs.declared.integers.RowInt.{RowInt}
+-- The trees of pieces, one behind the other, and the place of a wide run in one of them among all nodes.
+use Rattle.std.proofs.Common.{◌≡◌, ℕ, ◌+◌, List, [], ◌∷◌, ◌++◌, length, refl, sym, ◌∙◌, ap, subst, arith, inl, inr}
+use Rattle.std.specs.Prelude.{All}
+use Rattle.std.proofs.lemmas.List.{append-nil, append_assoc, length-append}
+use Rattle.std.proofs.lemmas.List.Elements.{All-head, All-tail}
 use Rattle.mpc_rows.specs.declared.programs.Qp.{Qp}
 use Rattle.mpc_rows.specs.declared.laws.Law.{Law}
 use Rattle.mpc_rows.specs.declared.places.Place.{Place}
 use Rattle.mpc_rows.specs.declared.trees.Node.{Node}
-use Rattle.mpc_tree.specs.declared.errors.Stop.{Stop}
-use Rattle.mpc_tree.specs.Causes.{IfRefused}
-use Rattle.mpc_tree.specs.Growth.{IsBuilt, IsLeafAt}
-use Rattle.mpc_tree.specs.Joins.{place_behind, AreJoined, IsRefusal}
-use Rattle.mpc_tree.specs.NodeRuns.{DividesAndFits, EndsAndFits, IsFittingTree}
-use Rattle.mpc_tree.specs.Trees.{Cell, yes_side, no_side, split}
+use Rattle.mpc_tree.specs.declared.errors.TreeError.{TreeError}
+use Rattle.mpc_tree.specs.declared.errors.TreeError.TheVariants.{Wide, NoMemory}
+use Rattle.mpc_tree.specs.declared.frontier.Piece.{Piece}
+use Rattle.mpc_tree.specs.declared.frontier.Piece.TheVariants.{Closed, Open}
+use Rattle.mpc_tree.specs.Causes.{IfWide}
+use Rattle.mpc_tree.specs.Joins.{place_behind, IsWideBehind}
+use Rattle.mpc_tree.specs.Pieces.{cell_at, IsOpen, IsOfPiece, IsWideIn, AreFilled, IsWideAmong}
+use Rattle.mpc_tree.specs.Trees.{Cell, yes_side, no_side}
 use Rattle.mpc_tree.specs.WideRuns.{IsWideAt, IsFirstWide, here, in_yes, in_no}
-use Rattle.mpc_tree.proofs.TreeLemmas.{weakened}
 
 -- ---- more nodes before a cell's
 module _ (qp : Qp) (laws : List Law) where
@@ -28,22 +31,41 @@ module _ (qp : Qp) (laws : List Law) where
   first_behind before cell number place (in_no c n at row left p d t w) = in_no c (n + before) at row left (place_behind before p) d t
       (subst (λ k. IsFirstWide qp laws (no_side c at row) k (place_behind before p)) (omega arith) (first_behind before (no_side c at row) (n + 1 + length left) p w))
 
-  -- ---- both sides
-  module _ (cell : Cell) (at : ℕ) (row : RowInt) (d : DividesAndFits qp laws cell at row) where
-    pub joined_built : (first second : Result (List Node) Stop) (nodes : List Node) → IfOk first (IsBuilt qp laws (yes_side cell at row)) → IfOk second (IsBuilt qp laws (no_side cell at row)) → AreJoined row first second nodes → IsBuilt qp laws cell nodes
-    joined_built (Ok left) (Ok right) nodes y n e = subst (IsBuilt qp laws cell) (sym e) (split cell at row left right d y n)
-    joined_built (Ok left) (Err e) nodes y n j = absurd j
-    joined_built (Err e) second nodes y n j = absurd j
+  -- what the place of a refusal says of the numbers of a whole tree
+  wide_in_behind : (before : ℕ) (piece : Piece) (place : Place) → IsWideIn qp laws piece 1 place → IsWideIn qp laws piece (before + 1) (place_behind before place)
+  wide_in_behind before (Closed own) place w = w
+  wide_in_behind before (Open cell next) place w = subst (λ k. IsFirstWide qp laws (cell_at cell next) k (place_behind before place)) (omega arith) (first_behind before (cell_at cell next) 1 place w)
 
-    fits : (left : List Node) → IsBuilt qp laws (yes_side cell at row) left → IsFittingTree qp laws (yes_side cell at row) left
-    fits left b = weakened (DividesAndFits qp laws) (DividesAndFits qp laws) (IsLeafAt qp laws) (EndsAndFits qp laws) (λ c p r h. h) (λ c n h. h.ends) (yes_side cell at row) left b
+  -- ---- the tree so far, before the pieces that are left
+  pub record IsJoined (pieces : List Piece) (tree : List Node) (rest : List Piece) : Type 0 where
+    pub filled : (later : List Node) → AreFilled qp laws rest later → AreFilled qp laws pieces (tree ++ later)
+    pub wide : (place : Place) → IsWideAmong qp laws rest (length tree + 1) place → IsWideAmong qp laws pieces 1 place
+    pub ready : All (IsOpen qp laws) rest
 
-    pub joined_wide : (first second : Result (List Node) Stop) (place : Place) → IfOk first (IsBuilt qp laws (yes_side cell at row)) → IfErr first (λ e. IfRefused e (IsFirstWide qp laws (yes_side cell at row) 1)) → IfErr second (λ e. IfRefused e (IsFirstWide qp laws (no_side cell at row) 1)) → IsRefusal first second place → IsFirstWide qp laws cell 1 place
-    joined_wide (Ok left) (Ok right) place b y n r = absurd r
-    joined_wide (Ok left) (Err e) place b y n r =
-        let own : IsFirstWide qp laws (no_side cell at row) 1 r.0 = subst (λ e. IfRefused e (IsFirstWide qp laws (no_side cell at row) 1)) r.1 n in
-        let moved = first_behind (1 + length left) (no_side cell at row) 1 r.0 own in
-        subst (IsFirstWide qp laws cell 1) (sym r.2) (in_no cell 1 at row left (place_behind (1 + length left) r.0) d (fits left b) (subst (λ k. IsFirstWide qp laws (no_side cell at row) k (place_behind (1 + length left) r.0)) (omega arith) moved))
-    joined_wide (Err e) second place b y n r =
-        let own : IsFirstWide qp laws (yes_side cell at row) 1 r.0 = subst (λ e. IfRefused e (IsFirstWide qp laws (yes_side cell at row) 1)) r.1 y in
-        subst (IsFirstWide qp laws cell 1) (sym r.2) (in_yes cell 1 at row (place_behind 1 r.0) d (first_behind 1 (yes_side cell at row) 1 r.0 own))
+  pub joined_none : (pieces : List Piece) (tree : List Node) (all : List Piece) → tree ≡ [] → all ≡ pieces → All (IsOpen qp laws) pieces → IsJoined pieces tree all
+  joined_none pieces tree all t e o = subst (λ x. IsJoined pieces x all) (sym t) (subst (IsJoined pieces []) (sym e) (record { filled = λ later f. f; wide = λ place w. w; ready = o }))
+
+  module _ (pieces : List Piece) (tree : List Node) (rest : List Piece) (piece : Piece) (left : List Piece) (j : IsJoined pieces tree rest) (e : rest ≡ piece ∷ left) where
+    own : IsJoined pieces tree (piece ∷ left)
+    own = subst (IsJoined pieces tree) e j
+
+    pub piece_open : IsOpen qp laws piece
+    piece_open = All-head (IsOpen qp laws) piece left own.ready
+
+    pub joined_more : (nodes new : List Node) → IsOfPiece qp laws piece nodes → new ≡ tree ++ nodes → IsJoined pieces new left
+    joined_more nodes new o n = subst (λ x. IsJoined pieces x left) (sym n) (record {
+      filled = λ later f. subst (AreFilled qp laws pieces) (sym (append_assoc tree nodes later)) (own.filled (nodes ++ later) (nodes, later, refl, o, f));
+      wide = λ place w. own.wide place (inr (nodes, o, subst (λ k. IsWideAmong qp laws left k place) (omega (arith, length-append tree nodes)) w));
+      ready = All-tail (IsOpen qp laws) piece left own.ready;
+    })
+
+    pub refused_at : (error moved : TreeError) → IfWide error (IsWideIn qp laws piece 1) → IfWide moved (IsWideBehind (length tree) error) → IfWide moved (IsWideAmong qp laws pieces 1)
+    refused_at error (Wide place) w b =
+        let in_piece : IsWideIn qp laws piece 1 b.0 = subst (λ x. IfWide x (IsWideIn qp laws piece 1)) b.1 w in
+        own.wide place (inl (subst (IsWideIn qp laws piece (length tree + 1)) (sym b.2) (wide_in_behind (length tree) piece b.0 in_piece)))
+    refused_at error NoMemory w b = tt
+
+  pub joined_all : (pieces : List Piece) (tree new : List Node) (rest : List Piece) → IsJoined pieces tree rest → rest ≡ [] → new ≡ tree → AreFilled qp laws pieces new
+  joined_all pieces tree new rest j e n =
+      let own : IsJoined pieces tree [] = subst (IsJoined pieces tree) e j in
+      subst (AreFilled qp laws pieces) (append-nil tree ∙ sym n) (own.filled [] refl)

@@ -8,6 +8,7 @@ pub mod Growing
 pub mod Dividing
 pub mod Ending
 pub mod Joining
+pub mod PieceLemmas
 pub mod Forking
 pub mod BorderLists
 pub mod Built

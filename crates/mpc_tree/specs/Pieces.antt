@@ -1,14 +1,18 @@
 -- A tree in pieces, in preorder: nodes, and cells whose trees aren't built.
-use Rattle.std.specs.Prelude.{◌≡◌, ℕ, ◌+◌, ◌⊎◌, List, [], ◌∷◌, ◌++◌, length, Some, slice_get, slice_set, ⊤}
+use Rattle.std.specs.Prelude.{◌≡◌, ℕ, ◌+◌, ◌⊎◌, List, [], ◌∷◌, ◌++◌, length, Option, Some, slice_get, slice_set, ⊤}
+use Rattle.mpc_linear.specs.declared.integers.RowInt.{RowInt}
 use Rattle.mpc_rows.specs.declared.programs.Qp.{Qp}
 use Rattle.mpc_rows.specs.declared.laws.Law.{Law}
 use Rattle.mpc_rows.specs.declared.places.Place.{Place}
 use Rattle.mpc_rows.specs.declared.trees.Node.{Node}
+use Rattle.mpc_rows.specs.declared.trees.Node.TheVariants.{Split}
+use Rattle.mpc_rows.specs.LinearSystem.{LinearSystem}
+use Rattle.mpc_rows.specs.LawRows.{whole_row, broken_row}
 use Rattle.mpc_tree.specs.declared.frontier.Piece.{Piece}
 use Rattle.mpc_tree.specs.declared.frontier.Piece.TheVariants.{Closed, Open}
 use Rattle.mpc_tree.specs.declared.runs.KeptCell.{KeptCell}
 use Rattle.mpc_tree.specs.declared.threads.Drawn.{Drawn}
-use Rattle.mpc_tree.specs.CellRuns.{IsRunOf}
+use Rattle.mpc_tree.specs.CellRuns.{IsRunOf, IsRunWith}
 use Rattle.mpc_tree.specs.Growth.{IsReady, IsBuilt}
 use Rattle.mpc_tree.specs.Trees.{Cell}
 use Rattle.mpc_tree.specs.WideRuns.{IsFirstWide}
@@ -16,6 +20,16 @@ use Rattle.mpc_tree.specs.WideRuns.{IsFirstWide}
 -- the cell, as its search goes on
 abbrev pub cell_at : KeptCell → ℕ → Cell
 cell_at cell next = record { rows = cell.rows.items; next = next }
+
+-- the pieces are the split by the row of the law at this place, and the cells of its sides, the no side with this run
+pub record AreSides (cell : KeptCell) (row : RowInt) (broken : Option LinearSystem) (place : ℕ) (pieces : List Piece) : Type 0 where
+  pub yes : KeptCell
+  pub no : KeptCell
+  pub are : pieces ≡ Closed (Split row ∷ []) ∷ (Open yes place ∷ (Open no (place + 1) ∷ []))
+  pub yes_rows : yes.rows.items ≡ cell.rows.items ++ whole_row row ∷ []
+  pub yes_run : IsRunWith cell.run (whole_row row) yes.run
+  pub no_rows : no.rows.items ≡ cell.rows.items ++ broken_row row ∷ []
+  pub no_run : no.run ≡ broken
 
 module _ (qp : Qp) (laws : List Law) where
   -- if the piece is a cell, its search may begin

@@ -1,12 +1,11 @@
 //! The upper part of the tree, which is grown breadth-first, with the cells that are left open below.
 
-ghost use Rattle.std.specs.Prelude.{◌≡◌, ◌+◌, ◌<◌, ◌^◌, ◌++◌, ◌∷◌, [], All, IfOk, IfSome, length, unsigned_abs};
+ghost use Rattle.std.specs.Prelude.{◌≡◌, ◌<◌, ◌^◌, ◌∷◌, [], All, IfOk, IfSome, length, unsigned_abs};
 ghost use Rattle.mpc_linear.specs.Whole.{AreSmall};
-ghost use Rattle.mpc_rows.specs.LawRows.{whole_row, broken_row};
 ghost use Rattle.mpc_tree.specs.Borders.{AreBorders};
-ghost use Rattle.mpc_tree.specs.CellRuns.{IsRunOf, IsRunWith};
+ghost use Rattle.mpc_tree.specs.CellRuns.{IsRunOf};
 ghost use Rattle.mpc_tree.specs.Growth.{IsReady, RegionsCover};
-ghost use Rattle.mpc_tree.specs.Pieces.{IsOpen, IsFiner};
+ghost use Rattle.mpc_tree.specs.Pieces.{AreSides, IsOpen, IsFiner};
 
 use crate::borders::Border;
 use crate::errors::TreeError;
@@ -36,47 +35,55 @@ pub enum Piece {
     Open { cell: KeptCell, next: usize },
 }
 
-/// The cells of both sides of a split.
-#[derive(Drop)]
-struct Sides {
-    yes: KeptCell,
-    no: KeptCell,
-}
-
-/// The cells of the sides of a split by the row, each with rows of its own, the no side's with the
-/// run of where the row fails.
-fn sides_of(
-    alloc: Global,
-    cell: KeptCell,
-    row: &RowInt,
-    broken: Option<Beginning>,
-) -> Result<Sides, NoMemory>
-    requires small { AreSmall row.now.a }
-    requires b_small { unsigned_abs row.now.b < 2 ^ 127 }
-    requires width { IfSome cell.run (λ run. length row.now.a ≡ run.width) }
-    ensures yes { IfOk result (λ sides. sides.yes.rows.items ≡ cell.rows.items ++ whole_row row.now ∷ []) }
-    ensures yes_run { IfOk result (λ sides. IsRunWith cell.run (whole_row row.now) sides.yes.run) }
-    ensures no { IfOk result (λ sides. sides.no.rows.items ≡ cell.rows.items ++ broken_row row.now ∷ []) }
-    ensures no_run { IfOk result (λ sides. sides.no.run ≡ broken) }
+/// A list of one piece.
+fn one(alloc: Global, piece: Piece) -> Result<Vec<Piece>, NoMemory>
+    ensures { IfOk result (λ pieces. pieces.items ≡ piece ∷ []) }
 {
-    let mut rows = copied_rows(alloc, &cell.rows)?;
-    let Ok(()) = rows.push(broken_row(alloc, row)?) else {
-        return Err(NoMemory);
-    };
-    let no = KeptCell { rows, run: broken };
-    let mut yes = cell;
-    yes.narrow(alloc, whole_row(alloc, row)?)?;
-    Ok(Sides { yes, no })
+    let mut pieces = Vec::with_capacity(alloc, 1)?;
+    pieces.push(piece)?;
+    Ok(pieces)
 }
 
 /// One node as a piece.
 fn closed(alloc: Global, node: Node) -> Result<Piece, NoMemory>
     ensures { IfOk result (λ piece. piece ≡ Piece.Closed (node ∷ [])) }
 {
-    let mut nodes = Tree::new(alloc);
+    let mut nodes = Tree::with_capacity(alloc, 1)?;
     nodes.push(node)?;
-    nodes.shrink_to_fit();
     Ok(Piece::Closed(nodes))
+}
+
+/// A cell that is divided by a row of the law at this place: the split and both sides, each with rows
+/// of its own, the no side with the run of where the row fails.
+fn split(
+    alloc: Global,
+    cell: KeptCell,
+    row: &RowInt,
+    broken: Option<Beginning>,
+    place: usize,
+) -> Result<Vec<Piece>, NoMemory>
+    requires small { AreSmall row.now.a }
+    requires b_small { unsigned_abs row.now.b < 2 ^ 127 }
+    requires width { IfSome cell.run (λ run. length row.now.a ≡ run.width) }
+    requires room { place < 2 ^ 32 }
+    ensures { IfOk result (λ pieces. AreSides cell row.now broken place pieces.items) }
+{
+    let mut rows = copied_rows(alloc, &cell.rows)?;
+    rows.push(broken_row(alloc, row)?)?;
+    let no = KeptCell { rows, run: broken };
+    let mut yes = cell;
+    yes.narrow(alloc, whole_row(alloc, row)?)?;
+    let mut pieces = Vec::with_capacity(alloc, 3)?;
+    pieces.push(closed(alloc, Node::Split(copied(alloc, row)?))?)?;
+    pieces.push(Piece::Open {
+        cell: yes,
+        next: place,
+    })?;
+    pieces.push(Piece::Open {
+        cell: no,
+        next: place + 1,
+    })?;
+    Ok(pieces)
 }
 
 /// The pieces that a cell is divided into: a leaf, or a split with both sides open. A cell whose node
@@ -99,26 +106,15 @@ fn divided(
     ensures finer { IfOk result (λ pieces. IsFiner qp.now laws.now (Piece.Open cell next ∷ []) pieces.items) }
 {
     cell_laws();
-    let mut pieces = Vec::new(alloc);
     match place_node(alloc, work, qp, laws, borders, &cell, next, 1) {
         Ok(Placed::Split { place, row, run }) => {
             let row = &borders[place].as_slice()[row];
-            let Sides { yes, no } = sides_of(alloc, cell, row, run)?;
-            pieces.push(closed(alloc, Node::Split(copied(alloc, row)?))?)?;
-            pieces.push(Piece::Open {
-                cell: yes,
-                next: place,
-            })?;
-            pieces.push(Piece::Open {
-                cell: no,
-                next: place + 1,
-            })?;
+            split(alloc, cell, row, run, place)
         }
-        Ok(Placed::Leaf(leaf)) => pieces.push(closed(alloc, leaf)?)?,
-        Err(TreeError::Wide(_)) => pieces.push(Piece::Open { cell, next })?,
-        Err(TreeError::NoMemory) => return Err(NoMemory),
+        Ok(Placed::Leaf(leaf)) => one(alloc, closed(alloc, leaf)?),
+        Err(TreeError::Wide(_)) => one(alloc, Piece::Open { cell, next }),
+        Err(TreeError::NoMemory) => Err(NoMemory),
     }
-    Ok(pieces)
 }
 
 /// The pieces with each open cell divided, in the same order.

@@ -21,6 +21,10 @@ use std::alloc::Global;
 use std::sync::atomic::{AtomicU64, Ordering};
 use std::thread::{Threads, available_parallelism, map_indices};
 
+/// From how many laws on a tree is cut into pieces. That of fewer is built sooner than a few threads
+/// are started.
+const MANY_LAWS: usize = 60;
+
 /// How many open cells there are for a thread at least: of fewer, one may take most of the time.
 const CELLS_A_THREAD: usize = 4;
 
@@ -208,6 +212,9 @@ pub fn grown_in_threads<T: Threads + Sync>(
     ensures built { IfOk result (λ nodes. IsBuilt qp.now laws.now (record { rows = cell.rows.items; next = next }) nodes) }
     ensures wide { IfErr result (λ e. IfWide e (IsFirstWide qp.now laws.now (record { rows = cell.rows.items; next = next }) 1)) }
 {
+    if laws.len() < MANY_LAWS {
+        return grown_alone(alloc, qp, laws, borders, cell, next);
+    }
     let mut pieces = pieces_of(alloc, qp, laws, borders, cell, next)?;
     for hand in all_drawn(rt, alloc, qp, laws, borders, &pieces)? {
         lay(&mut pieces, hand?);

@@ -1,3 +1,4 @@
+use Rattle.std.proofs.Common.{◌∙◌}
 use Rattle.mpc_tree.proofs.Built.{laws_of_table, table_covers, built_tree, built_certs, built_certified, built_empty, built_wide, box_ready}
 use Rattle.mpc_tree.proofs.TableSizes.{laws_numbered}
 use Rattle.mpc_tree.proofs.build_alone.Goals as goal
@@ -12,19 +13,19 @@ pub grown_alone-requires-clause-cover : goal.grown_alone-requires-clause-cover
 grown_alone-requires-clause-cover c = table_covers c.cover_laws.ensures.of_every_table c.args.qp.now c.args.laws.now c.requires.definite c.requires.table
 
 pub grown_alone-requires-clause-ready : goal.grown_alone-requires-clause-ready
-grown_alone-requires-clause-ready c = box_ready c.args.qp.now c.args.laws.now c.in_ok-cell.cell.rows.items c.in_ok-cell.ensures.rows
+grown_alone-requires-clause-ready c = box_ready c.args.qp.now c.args.laws.now c.in_ok-cell.cell.rows.items (c.in_ok-cell.ensures.rows ∙ c.new.ensures.items)
 
 pub returns-clause-tree : goal.returns-clause-tree
-returns-clause-tree c = built_tree c.args.qp.now c.args.laws.now c.in_ok-cell.cell.rows.items c.in_ok-cell.ensures.rows c.grown_alone.result c.grown_alone.ensures.built
+returns-clause-tree c = built_tree c.args.qp.now c.args.laws.now c.in_ok-cell.cell.rows.items (c.in_ok-cell.ensures.rows ∙ c.new.ensures.items) c.grown_alone.result c.grown_alone.ensures.built
 
 pub returns-clause-certs : goal.returns-clause-certs
-returns-clause-certs c = built_certs c.args.qp.now c.args.laws.now c.in_ok-cell.cell.rows.items c.in_ok-cell.ensures.rows c.grown_alone.result c.grown_alone.ensures.built
+returns-clause-certs c = built_certs c.args.qp.now c.args.laws.now c.in_ok-cell.cell.rows.items (c.in_ok-cell.ensures.rows ∙ c.new.ensures.items) c.grown_alone.result c.grown_alone.ensures.built
 
 pub returns-clause-certified : goal.returns-clause-certified
-returns-clause-certified c = built_certified c.args.qp.now c.args.laws.now c.in_ok-cell.cell.rows.items c.in_ok-cell.ensures.rows c.grown_alone.result c.grown_alone.ensures.built
+returns-clause-certified c = built_certified c.args.qp.now c.args.laws.now c.in_ok-cell.cell.rows.items (c.in_ok-cell.ensures.rows ∙ c.new.ensures.items) c.grown_alone.result c.grown_alone.ensures.built
 
 pub returns-clause-no_move : goal.returns-clause-no_move
-returns-clause-no_move c = built_empty c.args.qp.now c.args.laws.now c.in_ok-cell.cell.rows.items c.in_ok-cell.ensures.rows c.grown_alone.result c.grown_alone.ensures.built (table_covers c.cover_laws.ensures.of_every_table c.args.qp.now c.args.laws.now c.requires.definite c.requires.table)
+returns-clause-no_move c = built_empty c.args.qp.now c.args.laws.now c.in_ok-cell.cell.rows.items (c.in_ok-cell.ensures.rows ∙ c.new.ensures.items) c.grown_alone.result c.grown_alone.ensures.built (table_covers c.cover_laws.ensures.of_every_table c.args.qp.now c.args.laws.now c.requires.definite c.requires.table)
 
 pub returns-clause-wide : goal.returns-clause-wide
-returns-clause-wide c = built_wide c.args.qp.now c.args.laws.now c.in_ok-cell.cell.rows.items c.in_ok-cell.ensures.rows c.grown_alone.result c.grown_alone.ensures.built c.grown_alone.ensures.wide
+returns-clause-wide c = built_wide c.args.qp.now c.args.laws.now c.in_ok-cell.cell.rows.items (c.in_ok-cell.ensures.rows ∙ c.new.ensures.items) c.grown_alone.result c.grown_alone.ensures.built c.grown_alone.ensures.wide

@@ -1,0 +1,197 @@
+-- Pieces of a tree that are divided, built and put together.
+use Rattle.std.proofs.Common.{◌≡◌, ℕ, zero, suc, ◌+◌, List, [], ◌∷◌, ◌++◌, length, refl, sym, ◌∙◌, ap, subst, arith, ◌⊎◌, inl, inr, Some, slice_get}
+use Rattle.std.specs.Prelude.{All, slice_set}
+use Rattle.std.specs.List.{AllZip}
+use Rattle.std.proofs.lemmas.List.{append-nil, append_assoc, length-append}
+use Rattle.std.proofs.lemmas.List.Elements.{All-nil, All-cons, All-head, All-tail}
+use Rattle.mpc_linear.specs.declared.integers.RowInt.{RowInt}
+use Rattle.mpc_rows.specs.declared.programs.Qp.{Qp}
+use Rattle.mpc_rows.specs.declared.laws.Law.{Law}
+use Rattle.mpc_rows.specs.declared.places.Place.{Place}
+use Rattle.mpc_rows.specs.declared.trees.Node.{Node}
+use Rattle.mpc_rows.specs.declared.trees.Node.TheVariants.{Split}
+use Rattle.mpc_rows.specs.LawRows.{whole_row, broken_row}
+use Rattle.mpc_tree.specs.declared.frontier.Piece.{Piece}
+use Rattle.mpc_tree.specs.declared.frontier.Piece.TheVariants.{Closed, Open}
+use Rattle.mpc_tree.specs.declared.runs.KeptCell.{KeptCell}
+use Rattle.mpc_tree.specs.declared.threads.Drawn.{Drawn}
+use Rattle.mpc_tree.specs.Growth.{IsBuilt, IsLeafAt}
+use Rattle.mpc_tree.specs.NodeRuns.{DividesAndFits, EndsAndFits, IsFittingTree}
+use Rattle.mpc_tree.specs.Pieces.{cell_at, IsOpen, IsOfPiece, IsWideIn, AreFilled, IsWideAmong, IsFiner, IsDrawn, with_trees}
+use Rattle.mpc_tree.specs.Trees.{yes_side, no_side, leaf, split}
+use Rattle.mpc_tree.specs.WideRuns.{IsFirstWide, in_yes, in_no}
+use Rattle.mpc_tree.proofs.TreeLemmas.{weakened}
+
+module _ (qp : Qp) (laws : List Law) where
+  -- ---- other pieces behind some
+  filled_behind : (done a b : List Piece) → ((nodes : List Node) → AreFilled qp laws a nodes → AreFilled qp laws b nodes) → (nodes : List Node) → AreFilled qp laws (done ++ a) nodes → AreFilled qp laws (done ++ b) nodes
+  filled_behind [] a b h nodes f = h nodes f
+  filled_behind (p ∷ ps) a b h nodes f = (f.0, f.1, f.2, f.3, filled_behind ps a b h f.1 f.4)
+
+  wide_behind : (done a b : List Piece) → ((number : ℕ) (place : Place) → IsWideAmong qp laws a number place → IsWideAmong qp laws b number place) → (number : ℕ) (place : Place) → IsWideAmong qp laws (done ++ a) number place → IsWideAmong qp laws (done ++ b) number place
+  wide_behind [] a b h number place w = h number place w
+  wide_behind (p ∷ ps) a b h number place (inl w) = inl w
+  wide_behind (p ∷ ps) a b h number place (inr w) = inr (w.0, w.1, wide_behind ps a b h (number + length w.0) place w.2)
+
+  -- ---- pieces in two parts
+  filled_parts : (a b : List Piece) (nodes : List Node) → AreFilled qp laws (a ++ b) nodes → (m : List Node) × (n : List Node) × (nodes ≡ m ++ n) × AreFilled qp laws a m × AreFilled qp laws b n
+  filled_parts [] b nodes f = ([], nodes, refl, refl, f)
+  filled_parts (p ∷ ps) b nodes f =
+      let r = filled_parts ps b f.1 f.4 in
+      (f.0 ++ r.0, r.1, f.2 ∙ ap (λ l. f.0 ++ l) r.2 ∙ sym (append_assoc f.0 r.0 r.1), (f.0, r.0, refl, f.3, r.3), r.4)
+
+  wide_parts : (a b : List Piece) (number : ℕ) (place : Place) → IsWideAmong qp laws (a ++ b) number place → IsWideAmong qp laws a number place ⊎ ((m : List Node) × AreFilled qp laws a m × IsWideAmong qp laws b (number + length m) place)
+  wide_parts [] b number place w = inr ([], refl, subst (λ n. IsWideAmong qp laws b n place) (omega arith) w)
+  wide_parts (p ∷ ps) b number place (inl w) = inl (inl w)
+  wide_parts (p ∷ ps) b number place (inr w) = by (wide_parts ps b (number + length w.0) place w.2)
+    where
+      by : IsWideAmong qp laws ps (number + length w.0) place ⊎ ((m : List Node) × AreFilled qp laws ps m × IsWideAmong qp laws b (number + length w.0 + length m) place) → IsWideAmong qp laws (p ∷ ps) number place ⊎ ((m : List Node) × AreFilled qp laws (p ∷ ps) m × IsWideAmong qp laws b (number + length m) place)
+      by (inl v) = inl (inr (w.0, w.1, v))
+      by (inr v) = inr (w.0 ++ v.0, (w.0, v.0, refl, w.1, v.1), subst (λ n. IsWideAmong qp laws b n place) (omega (arith, length-append w.0 v.0)) v.2)
+
+  -- ---- finer pieces
+  pub finer_same : (pieces : List Piece) → IsFiner qp laws pieces pieces
+  finer_same pieces = record { filled = λ nodes f. f; wide = λ number place w. w }
+
+  pub finer_then : (a b c : List Piece) → IsFiner qp laws a b → IsFiner qp laws b c → IsFiner qp laws a c
+  finer_then a b c g h = record { filled = λ nodes f. g.filled nodes (h.filled nodes f); wide = λ number place w. g.wide number place (h.wide number place w) }
+
+  alone : (x : Piece) (nodes : List Node) → AreFilled qp laws (x ∷ []) nodes → IsOfPiece qp laws x nodes
+  alone x nodes f = subst (IsOfPiece qp laws x) (sym (f.2 ∙ ap (λ l. f.0 ++ l) f.4 ∙ append-nil f.0)) f.3
+
+  alone_wide : (x : Piece) (number : ℕ) (place : Place) → IsWideAmong qp laws (x ∷ []) number place → IsWideIn qp laws x number place
+  alone_wide x number place (inl w) = w
+  alone_wide x number place (inr w) = absurd w.2
+
+  finer_front : (x : Piece) (new rest : List Piece) → IsFiner qp laws (x ∷ []) new → IsFiner qp laws (x ∷ rest) (new ++ rest)
+  finer_front x new rest h = record {
+    filled = λ nodes f. let s = filled_parts new rest nodes f in (s.0, s.1, s.2, alone x s.0 (h.filled s.0 s.3), s.4);
+    wide = λ number place w. by number place (wide_parts new rest number place w);
+  }
+    where
+      by : (number : ℕ) (place : Place) → IsWideAmong qp laws new number place ⊎ ((m : List Node) × AreFilled qp laws new m × IsWideAmong qp laws rest (number + length m) place) → IsWideAmong qp laws (x ∷ rest) number place
+      by number place (inl v) = inl (alone_wide x number place (h.wide number place v))
+      by number place (inr v) = inr (v.0, alone x v.0 (h.filled v.0 v.1), v.2)
+
+  -- a piece between others
+  pub finer_between : (whole done new rest : List Piece) (x : Piece) → IsFiner qp laws whole (done ++ x ∷ rest) → IsFiner qp laws (x ∷ []) new → IsFiner qp laws whole ((done ++ new) ++ rest)
+  finer_between whole done new rest x g h =
+      let front = finer_front x new rest h in
+      subst (IsFiner qp laws whole) (sym (append_assoc done new rest)) (finer_then whole (done ++ x ∷ rest) (done ++ (new ++ rest)) g (record {
+        filled = filled_behind done (new ++ rest) (x ∷ rest) front.filled;
+        wide = wide_behind done (new ++ rest) (x ∷ rest) front.wide;
+      }))
+
+  -- ---- a cell that is divided
+  module _ (kept : KeptCell) (next : ℕ) where
+    whole : (nodes : List Node) → IsBuilt qp laws (cell_at kept next) nodes → AreFilled qp laws (Open kept next ∷ []) nodes
+    whole nodes b = (nodes, [], sym (append-nil nodes), b, refl)
+
+    pub of_whole : (nodes : List Node) → AreFilled qp laws (Open kept next ∷ []) nodes → IsBuilt qp laws (cell_at kept next) nodes
+    of_whole nodes f = alone (Open kept next) nodes f
+
+    pub wide_whole : (place : Place) → IsWideAmong qp laws (Open kept next ∷ []) 1 place → IsFirstWide qp laws (cell_at kept next) 1 place
+    wide_whole place w = alone_wide (Open kept next) 1 place w
+
+    pub finer_leaf : (node : Node) → IsLeafAt qp laws (cell_at kept next) node → IsFiner qp laws (Open kept next ∷ []) (Closed (node ∷ []) ∷ [])
+    finer_leaf node l = record {
+      filled = λ nodes f. whole nodes (subst (IsBuilt qp laws (cell_at kept next)) (sym (alone (Closed (node ∷ [])) nodes f)) (leaf (cell_at kept next) node l));
+      wide = λ number place w. absurd (alone_wide (Closed (node ∷ [])) number place w);
+    }
+
+    module _ (place : ℕ) (row : RowInt) (d : DividesAndFits qp laws (cell_at kept next) place row) (yes no : KeptCell) (y : yes.rows.items ≡ kept.rows.items ++ whole_row row ∷ []) (n : no.rows.items ≡ kept.rows.items ++ broken_row row ∷ []) where
+      yes_is : cell_at yes place ≡ yes_side (cell_at kept next) place row
+      yes_is = ap (λ rows. record { rows = rows; next = place }) y
+
+      no_is : cell_at no (place + 1) ≡ no_side (cell_at kept next) place row
+      no_is = ap (λ rows. record { rows = rows; next = place + 1 }) n
+
+      yes_built : (nodes : List Node) → IsBuilt qp laws (cell_at yes place) nodes → IsBuilt qp laws (yes_side (cell_at kept next) place row) nodes
+      yes_built nodes b = subst (λ c. IsBuilt qp laws c nodes) yes_is b
+
+      both : (nodes left right : List Node) → nodes ≡ Split row ∷ (left ++ right) → IsBuilt qp laws (cell_at yes place) left → IsBuilt qp laws (cell_at no (place + 1)) right → IsBuilt qp laws (cell_at kept next) nodes
+      both nodes left right e b c = subst (IsBuilt qp laws (cell_at kept next)) (sym e) (split (cell_at kept next) place row left right d (yes_built left b) (subst (λ c. IsBuilt qp laws c right) no_is c))
+
+      fits : (left : List Node) → IsBuilt qp laws (cell_at yes place) left → IsFittingTree qp laws (yes_side (cell_at kept next) place row) left
+      fits left b = weakened (DividesAndFits qp laws) (DividesAndFits qp laws) (IsLeafAt qp laws) (EndsAndFits qp laws) (λ c p r h. h) (λ c n h. h.ends) (yes_side (cell_at kept next) place row) left (yes_built left b)
+
+      split_filled : (nodes : List Node) → AreFilled qp laws (Closed (Split row ∷ []) ∷ Open yes place ∷ Open no (place + 1) ∷ []) nodes → AreFilled qp laws (Open kept next ∷ []) nodes
+      split_filled nodes f =
+          let right = alone (Open no (place + 1)) f.4.1 f.4.4 in
+          whole nodes (both nodes f.4.0 f.4.1 (f.2 ∙ ap (λ l. l ++ f.1) f.3 ∙ ap (λ l. Split row ∷ l) f.4.2) f.4.3 right)
+
+      split_wide : (number : ℕ) (at : Place) → IsWideAmong qp laws (Closed (Split row ∷ []) ∷ Open yes place ∷ Open no (place + 1) ∷ []) number at → IsWideAmong qp laws (Open kept next ∷ []) number at
+      split_wide number at (inl w) = absurd w
+      split_wide number at (inr w) = by w.2
+        where
+          first : length w.0 ≡ 1
+          first = ap length w.1
+
+          by : IsWideAmong qp laws (Open yes place ∷ Open no (place + 1) ∷ []) (number + length w.0) at → IsWideAmong qp laws (Open kept next ∷ []) number at
+          by (inl v) = inl (in_yes (cell_at kept next) number place row at d (subst (λ k. IsFirstWide qp laws (yes_side (cell_at kept next) place row) (number + k) at) first (subst (λ c. IsFirstWide qp laws c (number + length w.0) at) yes_is v)))
+          by (inr v) = inl (in_no (cell_at kept next) number place row v.0 at d (fits v.0 v.1)
+              (subst (λ k. IsFirstWide qp laws (no_side (cell_at kept next) place row) (number + k + length v.0) at) first
+              (subst (λ c. IsFirstWide qp laws c (number + length w.0 + length v.0) at) no_is (alone_wide (Open no (place + 1)) (number + length w.0 + length v.0) at v.2))))
+
+      pub finer_split : IsFiner qp laws (Open kept next ∷ []) (Closed (Split row ∷ []) ∷ Open yes place ∷ Open no (place + 1) ∷ [])
+      finer_split = record { filled = split_filled; wide = split_wide }
+
+  -- ---- trees in the places of their cells
+  -- the second piece is the first, or its tree
+  abbrev pub Becomes : Piece → Piece → Type 0
+  Becomes x y = (y ≡ x) ⊎ ((cell : KeptCell) × (next : ℕ) × (tree : List Node) × (x ≡ Open cell next) × (y ≡ Closed tree) × IsBuilt qp laws (cell_at cell next) tree)
+
+  becomes_of : (x y : Piece) (first : List Node) → Becomes x y → IsOfPiece qp laws y first → IsOfPiece qp laws x first
+  becomes_of x y first (inl e) o = subst (λ p. IsOfPiece qp laws p first) e o
+  becomes_of x y first (inr b) o =
+      let same : first ≡ b.2 = subst (λ p. IsOfPiece qp laws p first) b.4 o in
+      subst (λ p. IsOfPiece qp laws p first) (sym b.3) (subst (IsBuilt qp laws (cell_at b.0 b.1)) (sym same) b.5)
+
+  becomes_wide : (x y : Piece) (number : ℕ) (place : Place) → Becomes x y → IsWideIn qp laws y number place → IsWideIn qp laws x number place
+  becomes_wide x y number place (inl e) w = subst (λ p. IsWideIn qp laws p number place) e w
+  becomes_wide x y number place (inr b) w = absurd (subst (λ p. IsWideIn qp laws p number place) b.4 w)
+
+  becomes_open : (x y : Piece) → Becomes x y → IsOpen qp laws x → IsOpen qp laws y
+  becomes_open x y (inl e) o = subst (IsOpen qp laws) (sym e) o
+  becomes_open x y (inr b) o = subst (IsOpen qp laws) (sym b.4) tt
+
+  abbrev pub AllBecome : List Piece → List Piece → Type 0
+  AllBecome before now = AllZip Becomes before now
+
+  pub become_same : (pieces : List Piece) → AllBecome pieces pieces
+  become_same [] = tt
+  become_same (p ∷ ps) = (inl refl, become_same ps)
+
+  become_filled : (before now : List Piece) → AllBecome before now → (nodes : List Node) → AreFilled qp laws now nodes → AreFilled qp laws before nodes
+  become_filled [] [] h nodes f = f
+  become_filled [] (y ∷ ys) h nodes f = absurd h
+  become_filled (x ∷ xs) [] h nodes f = absurd h
+  become_filled (x ∷ xs) (y ∷ ys) h nodes f = (f.0, f.1, f.2, becomes_of x y f.0 h.0 f.3, become_filled xs ys h.1 f.1 f.4)
+
+  become_wide : (before now : List Piece) → AllBecome before now → (number : ℕ) (place : Place) → IsWideAmong qp laws now number place → IsWideAmong qp laws before number place
+  become_wide [] [] h number place w = absurd w
+  become_wide [] (y ∷ ys) h number place w = absurd h
+  become_wide (x ∷ xs) [] h number place w = absurd h
+  become_wide (x ∷ xs) (y ∷ ys) h number place (inl w) = inl (becomes_wide x y number place h.0 w)
+  become_wide (x ∷ xs) (y ∷ ys) h number place (inr w) = inr (w.0, becomes_of x y w.0 h.0 w.1, become_wide xs ys h.1 (number + length w.0) place w.2)
+
+  pub become_finer : (before now : List Piece) → AllBecome before now → IsFiner qp laws before now
+  become_finer before now h = record { filled = become_filled before now h; wide = become_wide before now h }
+
+  pub become_open : (before now : List Piece) → AllBecome before now → All (IsOpen qp laws) before → All (IsOpen qp laws) now
+  become_open [] [] h o = o
+  become_open [] (y ∷ ys) h o = absurd h
+  become_open (x ∷ xs) [] h o = absurd h
+  become_open (x ∷ xs) (y ∷ ys) h o = All-cons (IsOpen qp laws) y ys (becomes_open x y h.0 (All-head (IsOpen qp laws) x xs o)) (become_open xs ys h.1 (All-tail (IsOpen qp laws) x xs o))
+
+  laid_at : (before now : List Piece) (i : ℕ) (cell : KeptCell) (next : ℕ) (tree : List Node) → slice_get before i ≡ Some (Open cell next) → IsBuilt qp laws (cell_at cell next) tree → AllBecome before now → AllBecome before (slice_set now i (Closed tree))
+  laid_at [] now i cell next tree is b h = absurd (cc)
+  laid_at (x ∷ xs) [] i cell next tree is b h = absurd h
+  laid_at (x ∷ xs) (y ∷ ys) zero cell next tree is b h = (inr (cell, next, tree, (cc), refl, b), h.1)
+  laid_at (x ∷ xs) (y ∷ ys) (suc i) cell next tree is b h = (h.0, laid_at xs ys i cell next tree is b h.1)
+
+  pub all_laid : (before now : List Piece) (drawn : List Drawn) → All (IsDrawn qp laws before) drawn → AllBecome before now → AllBecome before (with_trees now drawn)
+  all_laid before now [] a h = h
+  all_laid before now (d ∷ ds) a h =
+      let own = All-head (IsDrawn qp laws before) d ds a in
+      all_laid before (slice_set now d.piece (Closed d.tree)) ds (All-tail (IsDrawn qp laws before) d ds a) (laid_at before now d.piece own.cell own.next d.tree own.is own.built h)
