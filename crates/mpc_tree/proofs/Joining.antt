@@ -69,3 +69,8 @@ module _ (qp : Qp) (laws : List Law) where
   joined_all pieces tree new rest j e n =
       let own : IsJoined pieces tree [] = subst (IsJoined pieces tree) e j in
       subst (AreFilled qp laws pieces) (append-nil tree ∙ sym n) (own.filled [] refl)
+
+-- what an iterator over a list has left at its end
+pub none_left : {A : Type 0} (xs : List A) → length xs ≡ 0 → xs ≡ []
+none_left [] e = refl
+none_left (x ∷ xs) e = absurd (omega (arith, e))

@@ -1,16 +1,16 @@
 //! A tree whose open cells are built at once.
 
-ghost use Rattle.std.specs.Prelude.{◌≡◌, ◌<◌, ◌^◌, All, IfOk, IfErr, IfSome, length};
+ghost use Rattle.std.specs.Prelude.{◌≡◌, ◌<◌, ◌^◌, All, IfOk, IfErr, IfSome, length, slice_set};
 ghost use Rattle.mpc_tree.specs.Borders.{AreBorders};
 ghost use Rattle.mpc_tree.specs.Causes.{IfWide};
 ghost use Rattle.mpc_tree.specs.CellRuns.{IsRunOf};
 ghost use Rattle.mpc_tree.specs.Growth.{IsReady, RegionsCover, IsBuilt};
-ghost use Rattle.mpc_tree.specs.Pieces.{IsOpen, IsOfPiece, IsWideIn, AreFilled, IsWideAmong, IsDrawn, with_trees};
+ghost use Rattle.mpc_tree.specs.Pieces.{cell_at, IsOpen, IsOfPiece, IsWideIn, AreFilled, IsWideAmong, IsDrawn, with_trees};
 ghost use Rattle.mpc_tree.specs.Joins.{place_behind, IsWideBehind};
 ghost use Rattle.mpc_tree.specs.WideRuns.{IsFirstWide};
 
 use crate::borders::Border;
-use crate::errors::TreeError;
+use crate::errors::{Stop, TreeError};
 use crate::frontier::{Piece, open_cells, pieces_of};
 use crate::growth::{grown, grown_alone};
 use crate::refusals::{Refusals, Watch};
@@ -33,6 +33,27 @@ const CELLS_A_THREAD: usize = 4;
 pub struct Drawn {
     pub piece: usize,
     pub tree: Tree,
+}
+
+/// The tree of an open cell that others read too, whose run is begun anew. It is given up once it is
+/// called off.
+fn tree_of(
+    alloc: Global,
+    qp: &Qp,
+    laws: &LawTable,
+    borders: &[Border],
+    cell: &KeptCell,
+    next: usize,
+    watch: Watch,
+) -> Result<Tree, Stop>
+    requires few { length laws.now < 2 ^ 32 }
+    requires borders { AreBorders qp.now laws.now borders.now }
+    requires cover { RegionsCover qp.now laws.now }
+    requires ready { IsReady qp.now laws.now (cell_at cell.now next) }
+    ensures { IfOk result (IsBuilt qp.now laws.now (cell_at cell.now next)) }
+{
+    let own = KeptCell::of(alloc, qp, copied_rows(alloc, &cell.rows)?)?;
+    grown(alloc, qp, laws, borders, own, next, Some(watch))
 }
 
 /// The trees of the open cells that one thread draws, one after another by a number that all threads
@@ -59,9 +80,8 @@ fn draw(
             break;
         }
         if let Piece::Open { cell, next } = &pieces[piece] {
-            let cell = KeptCell::of(alloc, qp, copied_rows(alloc, &cell.rows)?)?;
             let watch = Watch { piece, refusals };
-            match grown(alloc, qp, laws, borders, cell, *next, Some(watch)) {
+            match tree_of(alloc, qp, laws, borders, cell, *next, watch) {
                 Ok(tree) => drawn.push(Drawn { piece, tree })?,
                 Err(_) => refusals.note(piece),
             }
@@ -108,13 +128,21 @@ fn all_drawn<T: Threads + Sync>(
     }
 }
 
+/// Puts the tree in the place of its open cell.
+fn lay(pieces: &mut Vec<Piece>, drawn: Drawn)
+    requires { drawn.piece < length pieces.old.items }
+    ensures { pieces.new.items ≡ slice_set pieces.old.items drawn.piece (Piece.Closed drawn.tree) }
+{
+    pieces[drawn.piece] = Piece::Closed(drawn.tree);
+}
+
 /// Puts each tree in the place of its open cell.
-fn lay(pieces: &mut Vec<Piece>, drawn: Vec<Drawn>)
+fn lay_all(pieces: &mut Vec<Piece>, drawn: Vec<Drawn>)
     requires { All (λ d. d.piece < length pieces.old.items) drawn.items }
     ensures { pieces.new.items ≡ with_trees pieces.old.items drawn.items }
 {
-    for Drawn { piece, tree } in drawn {
-        pieces[piece] = Piece::Closed(tree);
+    for one in drawn {
+        lay(pieces, one);
     }
 }
 
@@ -216,8 +244,9 @@ pub fn grown_in_threads<T: Threads + Sync>(
         return grown_alone(alloc, qp, laws, borders, cell, next);
     }
     let mut pieces = pieces_of(alloc, qp, laws, borders, cell, next)?;
-    for hand in all_drawn(rt, alloc, qp, laws, borders, &pieces)? {
-        lay(&mut pieces, hand?);
+    let hands = all_drawn(rt, alloc, qp, laws, borders, &pieces)?;
+    for hand in hands {
+        lay_all(&mut pieces, hand?);
     }
     joined(alloc, qp, laws, borders, pieces)
 }

@@ -7,13 +7,13 @@ pub all_borders-requires-clause-are_laws : goal.all_borders-requires-clause-are_
 all_borders-requires-clause-are_laws g c = laws_of_table c.args.qp.now c.args.laws.now c.requires.table
 
 pub grown_in_threads-requires-clause-few : goal.grown_in_threads-requires-clause-few
-grown_in_threads-requires-clause-few g c = laws_numbered c.count_laws.ensures c.args.qp.now c.args.laws.now c.requires.table
+grown_in_threads-requires-clause-few g c κs within = laws_numbered c.count_laws.ensures c.args.qp.now c.args.laws.now c.requires.table
 
 pub grown_in_threads-requires-clause-cover : goal.grown_in_threads-requires-clause-cover
-grown_in_threads-requires-clause-cover g c = table_covers c.cover_laws.ensures.of_every_table c.args.qp.now c.args.laws.now c.requires.definite c.requires.table
+grown_in_threads-requires-clause-cover g c κs within = table_covers c.cover_laws.ensures.of_every_table c.args.qp.now c.args.laws.now c.requires.definite c.requires.table
 
 pub grown_in_threads-requires-clause-ready : goal.grown_in_threads-requires-clause-ready
-grown_in_threads-requires-clause-ready g c = box_ready c.args.qp.now c.args.laws.now c.in_ok-cell.cell.rows.items (c.in_ok-cell.ensures.rows ∙ c.new.ensures.items)
+grown_in_threads-requires-clause-ready g c κs within = box_ready c.args.qp.now c.args.laws.now c.in_ok-cell.cell.rows.items (c.in_ok-cell.ensures.rows ∙ c.new.ensures.items)
 
 pub returns-clause-tree : goal.returns-clause-tree
 returns-clause-tree g c = built_tree c.args.qp.now c.args.laws.now c.in_ok-cell.cell.rows.items (c.in_ok-cell.ensures.rows ∙ c.new.ensures.items) c.grown_in_threads.result c.grown_in_threads.ensures.built
