@@ -1,9 +1,11 @@
 -- Pieces of a tree that are divided, built and put together.
-use Rattle.std.proofs.Common.{◌≡◌, ℕ, zero, suc, ◌+◌, List, [], ◌∷◌, ◌++◌, length, refl, sym, ◌∙◌, ap, subst, arith, ◌⊎◌, inl, inr, Some, slice_get}
+use Rattle.std.proofs.Common.{◌≡◌, ℕ, zero, suc, ◌+◌, ◌<◌, Vec, Global, Result, Ok, Err, IfOk, IfErr, List, [], ◌∷◌, ◌++◌, length, refl, sym, ◌∙◌, ap, subst, arith, ◌⊎◌, inl, inr, Some, slice_get}
 use Rattle.std.specs.Prelude.{All, slice_set}
 use Rattle.std.specs.List.{AllZip}
 use Rattle.std.proofs.lemmas.List.{append-nil, append_assoc, length-append}
-use Rattle.std.proofs.lemmas.List.Elements.{All-nil, All-cons, All-head, All-tail}
+use Rattle.std.proofs.lemmas.List.Elements.{All-cons, All-head, All-tail, All-weaker}
+use Rattle.std.proofs.lemmas.Option.{slice_get_within}
+use Rattle.mpc_frac.specs.declared.NoMemory.{NoMemory as NoRoom}
 use Rattle.mpc_linear.specs.declared.integers.RowInt.{RowInt}
 use Rattle.mpc_rows.specs.declared.programs.Qp.{Qp}
 use Rattle.mpc_rows.specs.declared.laws.Law.{Law}
@@ -11,10 +13,13 @@ use Rattle.mpc_rows.specs.declared.places.Place.{Place}
 use Rattle.mpc_rows.specs.declared.trees.Node.{Node}
 use Rattle.mpc_rows.specs.declared.trees.Node.TheVariants.{Split}
 use Rattle.mpc_rows.specs.LawRows.{whole_row, broken_row}
+use Rattle.mpc_tree.specs.declared.errors.TreeError.{TreeError}
+use Rattle.mpc_tree.specs.declared.errors.TreeError.TheVariants.{Wide, NoMemory}
 use Rattle.mpc_tree.specs.declared.frontier.Piece.{Piece}
 use Rattle.mpc_tree.specs.declared.frontier.Piece.TheVariants.{Closed, Open}
 use Rattle.mpc_tree.specs.declared.runs.KeptCell.{KeptCell}
 use Rattle.mpc_tree.specs.declared.threads.Drawn.{Drawn}
+use Rattle.mpc_tree.specs.Causes.{IfWide}
 use Rattle.mpc_tree.specs.Growth.{IsBuilt, IsLeafAt}
 use Rattle.mpc_tree.specs.NodeRuns.{DividesAndFits, EndsAndFits, IsFittingTree}
 use Rattle.mpc_tree.specs.Pieces.{cell_at, IsOpen, IsOfPiece, IsWideIn, AreFilled, IsWideAmong, IsFiner, IsDrawn, with_trees}
@@ -90,8 +95,10 @@ module _ (qp : Qp) (laws : List Law) where
     pub of_whole : (nodes : List Node) → AreFilled qp laws (Open kept next ∷ []) nodes → IsBuilt qp laws (cell_at kept next) nodes
     of_whole nodes f = alone (Open kept next) nodes f
 
-    pub wide_whole : (place : Place) → IsWideAmong qp laws (Open kept next ∷ []) 1 place → IsFirstWide qp laws (cell_at kept next) 1 place
-    wide_whole place w = alone_wide (Open kept next) 1 place w
+    pub wide_whole : (pieces : List Piece) → IsFiner qp laws (Open kept next ∷ []) pieces → (tree : Result (List Node) TreeError) → IfErr tree (λ e. IfWide e (IsWideAmong qp laws pieces 1)) → IfErr tree (λ e. IfWide e (IsFirstWide qp laws (cell_at kept next) 1))
+    wide_whole pieces g (Ok nodes) w = tt
+    wide_whole pieces g (Err (Wide place)) w = alone_wide (Open kept next) 1 place (g.wide 1 place w)
+    wide_whole pieces g (Err NoMemory) w = tt
 
     pub finer_leaf : (node : Node) → IsLeafAt qp laws (cell_at kept next) node → IsFiner qp laws (Open kept next ∷ []) (Closed (node ∷ []) ∷ [])
     finer_leaf node l = record {
@@ -195,3 +202,17 @@ module _ (qp : Qp) (laws : List Law) where
   all_laid before now (d ∷ ds) a h =
       let own = All-head (IsDrawn qp laws before) d ds a in
       all_laid before (slice_set now d.piece (Closed d.tree)) ds (All-tail (IsDrawn qp laws before) d ds a) (laid_at before now d.piece own.cell own.next d.tree own.is own.built h)
+
+  become_length : (before now : List Piece) → AllBecome before now → length before ≡ length now
+  become_length [] [] h = refl
+  become_length [] (y ∷ ys) h = absurd h
+  become_length (x ∷ xs) [] h = absurd h
+  become_length (x ∷ xs) (y ∷ ys) h = ap suc (become_length xs ys h.1)
+
+  -- what one thread has drawn
+  abbrev pub IsHand : List Piece → Result (Vec Drawn Global) NoRoom → Type 0
+  IsHand pieces hand = IfOk hand (λ drawn. All (IsDrawn qp laws pieces) drawn.items)
+
+  pub hand_within : (before now : List Piece) → AllBecome before now → (drawn : List Drawn) → All (IsDrawn qp laws before) drawn → All (λ d. d.piece < length now) drawn
+  hand_within before now h drawn a = All-weaker (IsDrawn qp laws before) (λ (d : Drawn). d.piece < length now)
+      (λ d own. subst (λ n. d.piece < n) (become_length before now h) (slice_get_within before d.piece (Open own.cell own.next) own.is)) drawn a
