@@ -46,7 +46,7 @@ def nodes(output):
 
 def main():
     programs, runs = sys.argv[1:3], int(sys.argv[3])
-    print(f"{'plant':22} {'nodes':>6} | {'seconds':>8} {'other':>8} {'ratio':>6} | {'MB':>7} {'other':>7} {'ratio':>6} | output")
+    print(f"{'plant':28} {'nodes':>6} | {'seconds':>8} {'other':>8} {'ratio':>6} | {'MB':>7} {'other':>7} {'ratio':>6} | output")
     different = False
     for file in plants(sys.argv[4:]):
         plant = file.read_text().split("\nstates\n")[0].encode()
@@ -56,7 +56,7 @@ def main():
         times = f"{seconds:8.4f} {other_seconds:8.4f} {seconds / other_seconds:6.2f}"
         room = f"{memory:7.1f} {other_memory:7.1f} {memory / other_memory:6.2f}"
         name = file.parent.name if file.stem == "plant" else file.stem
-        print(f"{name:22} {nodes(own[1]):6} | {times} | {room} | {output}", flush=True)
+        print(f"{name:28} {nodes(own[1]):6} | {times} | {room} | {output}", flush=True)
     sys.exit(different)
 
 

@@ -21,7 +21,7 @@ least() {
     echo "$(( best / 1000 )).$(printf %03d $(( best % 1000 )))"
 }
 
-printf '%-24s %8s %10s %10s %10s  %s\n' plant nodes bytes check safe answer
+printf '%-28s %8s %10s %10s %10s  %s\n' plant nodes bytes check safe answer
 for plant in "$here"/../compile/plants/*.txt "$here"/../compile/plants_large/*.json "$here"/../workers/plants/*.json; do
     name=$(basename "$plant" | sed 's/\..*//')
     sed '/^states$/,$d' "$plant" > "$work/plant"
@@ -33,5 +33,5 @@ for plant in "$here"/../compile/plants/*.txt "$here"/../compile/plants_large/*.j
     bytes=$(wc -c < "$work/controller")
     check=$(least check "$work/controller")
     safe=$(least safe "$work/controller")
-    printf '%-24s %8s %10s %10s %10s  %s\n' "$name" "$nodes" "$bytes" "$check" "$safe" "$(cat "$work/answer")"
+    printf '%-28s %8s %10s %10s %10s  %s\n' "$name" "$nodes" "$bytes" "$check" "$safe" "$(cat "$work/answer")"
 done
