@@ -9,7 +9,7 @@ pub mod Dividing
 pub mod Ending
 pub mod Joining
 pub mod PieceLemmas
-pub mod Forking
+pub mod Sides
 pub mod BorderLists
 pub mod Built
 pub mod OneCell

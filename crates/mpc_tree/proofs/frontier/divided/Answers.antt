@@ -6,7 +6,7 @@ use Rattle.mpc_tree.specs.Growth.{IsSplitAt}
 use Rattle.mpc_tree.specs.Pieces.{cell_at, AreSides, IsOpen, IsFiner}
 use Rattle.mpc_tree.proofs.CellRuns.{row_fits}
 use Rattle.mpc_tree.proofs.Dividing.{place_within, plain_read}
-use Rattle.mpc_tree.proofs.Forking.{same_row, split_open, split_finer, one_open}
+use Rattle.mpc_tree.proofs.Sides.{same_row, split_open, split_finer, one_open}
 use Rattle.mpc_tree.proofs.PieceLemmas.{finer_leaf}
 use Rattle.mpc_tree.proofs.frontier.divided.Goals as goal
 

@@ -2,9 +2,9 @@ use Rattle.std.proofs.Common.{◌≡◌, ◌∷◌, [], ◌++◌, ◌+◌, sym, 
 use Rattle.std.proofs.lemmas.List.Elements.{All-append, All-head, All-tail, All-push}
 use Rattle.std.specs.Prelude.{All}
 use Rattle.std.specs.Vec.Iter.{into_iter_items, into_iter_len}
-use Rattle.mpc_tree.specs.declared.frontier.Piece.TheVariants.{Closed, Open}
+use Rattle.mpc_tree.specs.declared.frontier.Piece.TheVariants.{Closed}
 use Rattle.mpc_tree.specs.Pieces.{IsOpen, IsFiner}
-use Rattle.mpc_tree.proofs.Forking.{pushed_finer}
+use Rattle.mpc_tree.proofs.Sides.{pushed_finer}
 use Rattle.mpc_tree.proofs.PieceLemmas.{finer_same}
 use Rattle.mpc_tree.proofs.frontier.finer.Goals as goal
 

@@ -1,9 +1,8 @@
 use Rattle.std.proofs.Common.{◌≡◌, ◌∙◌, ◌+◌, ◌++◌, ◌∷◌, [], ap, rules}
 use Rattle.mpc_rows.specs.declared.trees.Node.TheVariants.{Split}
-use Rattle.mpc_tree.specs.declared.frontier.Piece.{Piece}
 use Rattle.mpc_tree.specs.declared.frontier.Piece.TheVariants.{Closed, Open}
 use Rattle.mpc_tree.specs.declared.runs.KeptCell.{KeptCell}
-use Rattle.mpc_tree.proofs.Forking.{three}
+use Rattle.mpc_tree.proofs.Sides.{three}
 use Rattle.mpc_tree.proofs.frontier.split.Goals as goal
 
 pub returns : goal.returns

@@ -1,4 +1,4 @@
-use Rattle.std.proofs.Common.{◌≡◌, ◌++◌, ◌∷◌, [], sym, ◌∙◌, subst, length, refl, slice_get, Some, arith, rules}
+use Rattle.std.proofs.Common.{◌≡◌, ◌++◌, ◌∷◌, [], sym, subst, length, refl, slice_get, Some, arith, rules}
 use Rattle.std.proofs.lemmas.List.Elements.{All-push}
 use Rattle.std.proofs.lemmas.Option.{slice_get_read}
 use Rattle.std.specs.Prelude.{All}
@@ -14,13 +14,13 @@ loop-draw-preserved c =
     let laws = c.args.laws.now in
     let pieces = c.args.pieces.now in
     elim c.match-pieces-piece.branch [
-      in-Open+in-Ok+in_ok-push-in-Ok w ↦
-        let d : Drawn = record { piece = c.fetch_add-piece.result; tree = w.in-Ok.tree } in
-        let opened : c.index-pieces-piece.result ≡ Open w.in-Open.cell w.in-Open.next = w.in-Open.is in
-        let is : slice_get pieces d.piece ≡ Some (Open w.in-Open.cell w.in-Open.next) = subst (λ p. slice_get pieces d.piece ≡ Some p) opened (slice_get_read pieces (length pieces) d.piece c.index-pieces-piece.result refl (omega arith) c.index-pieces-piece.is) in
-        let own : IsDrawn qp laws pieces d = record { cell = w.in-Open.cell; next = w.in-Open.next; is = is; built = w.in-Ok.ensures } in
-        let pushed : w.push.new.self.items ≡ c.loop-draw.drawn.items ++ d ∷ [] = search rules in
-        subst (λ v. All (IsDrawn qp laws pieces) v.items) (sym w.drawn-is) (subst (All (IsDrawn qp laws pieces)) (sym pushed) (All-push (IsDrawn qp laws pieces) c.loop-draw.drawn.items d c.loop-draw.invariant own))
-    | in-Open+in-Err w ↦ subst (λ v. All (IsDrawn qp laws pieces) v.items) (sym w.drawn-is) c.loop-draw.invariant
-    | in_default w ↦ subst (λ v. All (IsDrawn qp laws pieces) v.items) (sym w.drawn-is) c.loop-draw.invariant
+      | in-Open+in-Ok+in_ok-push-in-Ok w ↦
+          let d : Drawn = record { piece = c.fetch_add-piece.result; tree = w.in-Ok.tree } in
+          let opened : c.index-pieces-piece.result ≡ Open w.in-Open.cell w.in-Open.next = w.in-Open.is in
+          let is : slice_get pieces d.piece ≡ Some (Open w.in-Open.cell w.in-Open.next) = subst (λ p. slice_get pieces d.piece ≡ Some p) opened (slice_get_read pieces (length pieces) d.piece c.index-pieces-piece.result refl (omega arith) c.index-pieces-piece.is) in
+          let own : IsDrawn qp laws pieces d = record { cell = w.in-Open.cell; next = w.in-Open.next; is = is; built = w.in-Ok.ensures } in
+          let pushed : w.push.new.self.items ≡ c.loop-draw.drawn.items ++ d ∷ [] = search rules in
+          subst (λ v. All (IsDrawn qp laws pieces) v.items) (sym w.drawn-is) (subst (All (IsDrawn qp laws pieces)) (sym pushed) (All-push (IsDrawn qp laws pieces) c.loop-draw.drawn.items d c.loop-draw.invariant own))
+      | in-Open+in-Err w ↦ subst (λ v. All (IsDrawn qp laws pieces) v.items) (sym w.drawn-is) c.loop-draw.invariant
+      | in_default w ↦ subst (λ v. All (IsDrawn qp laws pieces) v.items) (sym w.drawn-is) c.loop-draw.invariant
     ]

@@ -16,7 +16,7 @@ use Rattle.mpc_tree.specs.declared.frontier.Piece.TheVariants.{Closed, Open}
 use Rattle.mpc_tree.specs.declared.runs.KeptCell.{KeptCell}
 use Rattle.mpc_tree.specs.Borders.{AreBorders}
 use Rattle.mpc_tree.specs.CellRuns.{IsRunOf}
-use Rattle.mpc_tree.specs.Growth.{IsReady, IsSplitAt, IsLeafAt}
+use Rattle.mpc_tree.specs.Growth.{IsReady, IsSplitAt}
 use Rattle.mpc_tree.specs.NodeRuns.{DividesAndFits}
 use Rattle.mpc_tree.specs.Pieces.{cell_at, AreSides, IsOpen, IsFiner}
 use Rattle.mpc_tree.specs.Trees.{Cell, yes_side, no_side}
