@@ -1,6 +1,5 @@
 //! Why a pool has no registries.
 
-use mpc_frac::NoMemory;
 use thiserror::Error;
 
 /// Why a pool has no registries.
@@ -11,15 +10,4 @@ pub enum FleetError {
     /// A pool has from 1 to 32 workers.
     #[error("a pool has from 1 to 32 workers")]
     BadWorkers,
-}
-
-impl From<NoMemory> for FleetError {
-    ghost use Rattle.std.specs.Prelude.{◌≡◌};
-    ghost use Rattle.mpc_fleet.specs.declared.errors.FleetError.TheVariants.{NoMemory as OutOfMemory};
-
-    ghost from_gives = { λ _ e. e ≡ OutOfMemory };
-
-    fn from(_refused: NoMemory) -> FleetError {
-        FleetError::NoMemory
-    }
 }

@@ -1,12 +1,8 @@
-//! Several programs in one pool: workers that claim the candidates of all of them, examine them and deliver their verdicts.
+//! Several programs in one pool of workers, at most as many as a fleet has.
 #![tactic(auto)]
 
 mod errors;
-mod joining;
 mod pool;
-mod seats;
-mod waiting;
-mod working;
 
 pub use errors::FleetError;
 pub use pool::enumerate_fleet;

@@ -8,26 +8,21 @@ ghost use Rattle.mpc_workers.specs.Seats.{IsDone};
 ghost use Rattle.mpc_fleet.specs.declared.errors.FleetError.TheVariants.{BadWorkers};
 
 use crate::errors::FleetError;
-use crate::joining::{close_all, join_all};
-use crate::seats::{Opened, open_turns, seats_of};
-use crate::working::work_in;
 use mpc_claim::Registry;
 use mpc_port::Gate;
 use mpc_rows::Qp;
+use mpc_workers::{WorkError, enumerate_each};
 use std::alloc::Global;
 use std::sync::Wait;
 use std::thread::Threads;
 
-/// The most workers of a pool.
-const MOST_WORKERS: u32 = 32;
-
-/// Examines the candidates of the programs with so many workers beside each other, each of whom turns to another program where one has no set
-/// to claim.
+/// Examines the candidates of the programs with so many workers, each of whom turns to another program where one has no set to claim. As many of
+/// them work beside each other as the machine runs at once.
 ///
 /// Of each program, in order, the registry is finished, or stopped by a wide verdict, and no set in it is open or given up. Each worker holds
 /// one set of a program at a time. The gate is passed between each verdict and its delivery, with the number of the worker, from 1.
-/// `BadWorkers` where there aren't from 1 to 32 of them. Refused memory is the only other error: a worker that meets it gives up its set, and
-/// the others end.
+/// `BadWorkers` where there aren't from 1 to 32 of them. Refused memory is the only other error: a worker that meets it gives up its set, if it
+/// holds one, and the others end once they have delivered theirs.
 pub fn enumerate_fleet<T: Threads + Wait + Sync, G: Gate + Sync>(
     rt: &T,
     alloc: Global,
@@ -41,17 +36,9 @@ pub fn enumerate_fleet<T: Threads + Wait + Sync, G: Gate + Sync>(
     ensures workers { IfOk result (λ v. (0 < workers) × (workers ≤ 32)) }
     ensures bad_workers { IfErr result (λ e. (e ≡ BadWorkers) ↔ ((workers ≡ 0) ⊎ (32 < workers))) }
 {
-    if workers == 0 || workers > MOST_WORKERS {
-        return Err(FleetError::BadWorkers);
-    }
-    let Opened { turns, mut firsts } = open_turns(alloc, programs)?;
-    let mut seats = seats_of(alloc, &turns, programs, &mut firsts, workers)?;
-    work_in(rt, alloc, &turns, gate, programs, workers, &mut seats);
-    if !join_all(&turns, programs, workers, &mut firsts, seats) {
-        return Err(FleetError::NoMemory);
-    }
-    match close_all(alloc, turns, firsts, programs, workers) {
+    match enumerate_each(rt, alloc, programs, workers, gate) {
         Ok(registries) => Ok(registries),
-        Err(_) => Err(FleetError::NoMemory),
+        Err(WorkError::NoMemory) => Err(FleetError::NoMemory),
+        Err(WorkError::BadWorkers) => Err(FleetError::BadWorkers),
     }
 }

@@ -1,3 +1,6 @@
 pub mod Holding
 pub mod Alone
+pub mod Calls
+pub mod Posts
 pub mod Seats
+pub mod Joined

@@ -9,14 +9,18 @@ ghost use Rattle.mpc_claim.specs.Answers.{abandoned};
 ghost use Rattle.mpc_claim.specs.History.{IsOpen};
 ghost use Rattle.mpc_workers.specs.Alone.{Delivers, IsDoneAlone};
 
+mod joining;
 mod pool;
+mod seats;
+mod waiting;
+mod working;
 
 use mpc_claim::{Claimed, Registry, Ticket, claim_laws, legal_laws};
 use mpc_frac::NoMemory;
 use mpc_port::Gate;
 use mpc_region::Examiner;
 use mpc_rows::Qp;
-pub use pool::{WorkError, enumerate};
+pub use pool::{WorkError, enumerate, enumerate_each};
 use std::alloc::Global;
 
 /// Examines a claimed set, passes the gate and delivers the verdict. Without memory the set is

@@ -1,10 +1,10 @@
 //! The turns of the programs, and the seats of the workers.
 
-ghost use Rattle.std.specs.Prelude.{◌≡◌, ◌+◌, ◌<◌, ◌≤◌, length, vec_len, IfOk, All};
+ghost use Rattle.std.specs.Prelude.{◌≡◌, ◌+◌, ◌<◌, ◌≤◌, vec_len, IfOk, All};
 ghost use Rattle.mpc_space.specs.Definite.{IsDefinite};
 ghost use Rattle.mpc_rows.specs.declared.programs.Qp.{Qp as Program};
-ghost use Rattle.mpc_fleet.specs.Passes.{AtEach, IsOpening};
-ghost use Rattle.mpc_fleet.specs.Seats.{AreNumbered, Fresh};
+ghost use Rattle.mpc_workers.specs.Posts.{AtEach, IsOpening};
+ghost use Rattle.mpc_workers.specs.Seats.{AreNumbered, IsSeat};
 
 use mpc_claim::Registry;
 use mpc_frac::NoMemory;
@@ -12,19 +12,37 @@ use mpc_rows::Qp;
 use mpc_turn::{Pass, Turn};
 use std::alloc::Global;
 
-/// The turn of each program, and its first pass.
+/// A pass of a program's turn, whether a set was given up by it, and whether it saw the program's end.
+#[derive(Drop)]
+pub struct Post {
+    pub pass: Pass,
+    pub gave_up: bool,
+    pub saw_end: bool,
+}
+
+/// The turn of each program, and the post with its first pass.
 #[derive(Drop)]
 pub struct Opened {
     pub turns: Vec<Turn>,
-    pub firsts: Vec<Pass>,
+    pub firsts: Vec<Post>,
 }
 
-/// A worker's number, its passes, one a program, and whether it was refused memory.
+/// A worker's number and its posts, one a program.
 #[derive(Drop)]
 pub struct Seat {
     pub worker: u32,
-    pub passes: Vec<Pass>,
-    pub failed: bool,
+    pub posts: Vec<Post>,
+}
+
+/// A post with nothing done or seen.
+fn post_of(pass: Pass) -> Post
+    ensures { result ≡ record { pass = pass; gave_up = false; saw_end = false } }
+{
+    Post {
+        pass,
+        gave_up: false,
+        saw_end: false,
+    }
 }
 
 /// Turns over new registries of the programs, in order.
@@ -40,7 +58,7 @@ pub(crate) fn open_turns(alloc: Global, programs: &[Qp]) -> Result<Opened, NoMem
         let Ok(()) = turns.push(turn) else {
             return Err(NoMemory);
         };
-        let Ok(()) = firsts.push(first) else {
+        let Ok(()) = firsts.push(post_of(first)) else {
             return Err(NoMemory);
         };
     }
@@ -52,7 +70,7 @@ fn seat_of(
     alloc: Global,
     turns: &[Turn],
     _programs: &[Qp],
-    firsts: &mut [Pass],
+    firsts: &mut [Post],
     before: u32,
     _workers: u32,
 ) -> Result<Seat, NoMemory>
@@ -60,21 +78,20 @@ fn seat_of(
     requires few { _workers ≤ 32 }
     requires firsts { AtEach (IsOpening before) turns.now _programs.now firsts.old }
     ensures firsts { IfOk result (λ s. AtEach (IsOpening (before + 1)) turns.now _programs.now firsts.new) }
-    ensures seat { IfOk result (Fresh turns.now _programs.now _workers) }
+    ensures seat { IfOk result (IsSeat turns.now _programs.now _workers) }
     ensures worker { IfOk result (λ s. s.worker ≡ before + 1) }
 {
-    let mut passes = Vec::new(alloc);
-    let Ok(()) = passes.reserve(turns.len()) else {
+    let mut posts = Vec::new(alloc);
+    let Ok(()) = posts.reserve(turns.len()) else {
         return Err(NoMemory);
     };
     for k in 0..turns.len() {
-        let pass = turns[k].split_pass(&mut firsts[k], before + 1);
-        passes.push_reserved(pass);
+        let pass = turns[k].split_pass(&mut firsts[k].pass, before + 1);
+        posts.push_reserved(post_of(pass));
     }
     Ok(Seat {
         worker: before + 1,
-        passes,
-        failed: false,
+        posts,
     })
 }
 
@@ -83,14 +100,14 @@ pub(crate) fn seats_of(
     alloc: Global,
     turns: &[Turn],
     programs: &[Qp],
-    firsts: &mut [Pass],
+    firsts: &mut [Post],
     workers: u32,
 ) -> Result<Vec<Seat>, NoMemory>
     requires few { workers ≤ 32 }
     requires firsts { AtEach (IsOpening 0) turns.now programs.now firsts.old }
     ensures firsts { IfOk result (λ v. AtEach (IsOpening workers) turns.now programs.now firsts.new) }
     ensures count { IfOk result (λ v. vec_len v ≡ workers) }
-    ensures seats { IfOk result (λ v. All (Fresh turns.now programs.now workers) v.items) }
+    ensures seats { IfOk result (λ v. All (IsSeat turns.now programs.now workers) v.items) }
     ensures numbered { IfOk result (λ v. AreNumbered v.items) }
 {
     let mut seats = Vec::new(alloc);

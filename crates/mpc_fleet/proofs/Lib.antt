@@ -1,6 +1,0 @@
-pub mod Holding
-pub mod Hands
-pub mod Joins
-pub mod Lasting
-pub mod Programs
-pub mod Splits

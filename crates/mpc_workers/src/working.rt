@@ -1,0 +1,399 @@
+//! What workers do.
+
+ghost use Rattle.std.specs.Prelude.{◌≡◌, ◌≢◌, ◌+◌, ◌<◌, ◌≤◌, true, false, None, Ok, length, vec_len, IfOk, IfSome, OnErr, All, slice_index_or};
+ghost use Rattle.mpc_space.specs.Definite.{IsDefinite};
+ghost use Rattle.mpc_space.specs.Matrix.{height};
+ghost use Rattle.mpc_sets.specs.RowSet.{IsSetOfRows};
+ghost use Rattle.mpc_rows.specs.declared.programs.Qp.{Qp as Program};
+ghost use Rattle.mpc_rows.specs.Verdicts.{IsRight};
+ghost use Rattle.mpc_workers.specs.Posts.{after, CallsOnlyAt, ComesFirst, HasNothing, IsAnswered, IsAtProgram, IsBusy, IsPost};
+ghost use Rattle.mpc_workers.specs.Seats.{IsSeat, KeepWorkers};
+
+use crate::seats::{Post, Seat};
+use crate::waiting::{News, seats_at_once};
+use mpc_claim::{Claimed, Ticket, claim_laws};
+use mpc_frac::NoMemory;
+use mpc_port::Gate;
+use mpc_region::Examiner;
+use mpc_rows::{Judged, Qp};
+use mpc_turn::{Turn, hand_laws};
+use std::alloc::Global;
+use std::sync::Wait;
+use std::thread;
+use std::thread::Threads;
+
+/// What the workers of a pool share.
+#[derive(Drop)]
+pub struct Pool<'a, T, G> {
+    pub rt: &'a T,
+    pub alloc: Global,
+    /// How many workers there are.
+    pub workers: u32,
+    pub turns: &'a [Turn],
+    pub programs: &'a [Qp],
+    pub gate: &'a G,
+    pub news: &'a News,
+}
+
+/// What a worker keeps from one set to the next.
+#[derive(Drop)]
+pub struct Worker<'a> {
+    /// The program of its last set, at first the first one.
+    pub program: usize,
+    /// How many members that set had, 0 before the first one.
+    pub level: u32,
+    /// The examiner of that program.
+    pub examiner: Option<Examiner<'a>>,
+}
+
+impl<'a> Worker<'a> {
+    fn new() -> Worker<'a>
+        ensures { result ≡ record { program = 0; level = 0; examiner = None } }
+    {
+        Worker {
+            program: 0,
+            level: 0,
+            examiner: None,
+        }
+    }
+
+    /// The worker turns to this program. It leaves a program only where all sets of the level are
+    /// claimed, so its next one there is its first of a level.
+    fn turn_to(&mut self, program: usize)
+        ensures program { self.new.program ≡ program }
+        ensures same { self.old.program ≡ program → self.new ≡ self.old }
+        ensures other { self.old.program ≢ program → self.new.examiner ≡ None }
+    {
+        if program != self.program {
+            self.program = program;
+            self.level = 0;
+            self.examiner = None;
+        }
+    }
+
+    /// The worker has claimed a set of so many members. Where it is the worker's first of the level,
+    /// two sleepers are woken, since there may be more of them. The one set of a level without members
+    /// is no news.
+    fn report(&mut self, members: u32, news: &News)
+        ensures { self.new ≡ record self.old { level = members } }
+    {
+        if members != self.level {
+            self.level = members;
+            news.wake_two();
+        }
+    }
+
+    /// The verdict on a claimed set. An examiner begins at the worker's first set of the program.
+    fn examine(&mut self, alloc: Global, qp: &'a Qp, ticket: &Ticket) -> Result<Judged, NoMemory>
+        requires definite { IsDefinite qp.now.h.rows }
+        requires set_of_rows { IsSetOfRows (height qp.now.g) ticket.now.set }
+        requires few { length ticket.now.set ≤ height qp.now.h }
+        requires examiner { IfSome self.old.examiner (λ q. q ≡ qp.now) }
+        ensures program { self.new.program ≡ self.old.program }
+        ensures examiner { IfSome self.new.examiner (λ q. q ≡ qp.now) }
+        ensures set { IfOk result (λ j. j.set ≡ ticket.now.set) }
+        ensures right { IfOk result (λ j. IsRight qp.now ticket.now.set j.verdict) }
+    {
+        let mut examiner = match self.examiner.take() {
+            Some(examiner) => examiner,
+            None => Examiner::begin(alloc, qp)?,
+        };
+        let judged = examiner.examine(alloc, ticket.set())?;
+        self.examiner = Some(examiner);
+        Ok(judged)
+    }
+}
+
+/// What a claim gave a post: a set, or nothing.
+fn taken(
+    _turn: &Turn,
+    _qp: &Qp,
+    post: &mut Post,
+    answer: Result<Claimed, NoMemory>,
+) -> Result<Option<Ticket>, NoMemory>
+    requires working { post.old.saw_end ≡ false }
+    requires answered { IsAnswered post.old.pass.worker _turn.now _qp.now answer post.old }
+    ensures pass { post.new.pass ≡ post.old.pass }
+    ensures some { IfOk result (λ found. IfSome found (λ t. IsBusy post.old.pass.worker _turn.now _qp.now t post.new)) }
+    ensures none { result ≡ Ok None → IsPost post.old.pass.worker _turn.now _qp.now post.new }
+    ensures nothing { result ≡ Ok None → HasNothing _qp.now post.new.pass.seen }
+    ensures err { OnErr result (IsPost post.old.pass.worker _turn.now _qp.now post.new) }
+{
+    match answer {
+        Ok(Claimed::Job(ticket)) => Ok(Some(ticket)),
+        Ok(Claimed::Idle) => Ok(None),
+        Ok(Claimed::Finished) => {
+            post.saw_end = true;
+            Ok(None)
+        }
+        Ok(Claimed::Stopped) => {
+            post.saw_end = true;
+            Ok(None)
+        }
+        Err(refused) => Err(refused),
+    }
+}
+
+/// Claims a set of a program.
+fn claim<T: Wait>(
+    rt: &T,
+    turn: &Turn,
+    qp: &Qp,
+    post: &mut Post,
+) -> Result<Option<Ticket>, NoMemory>
+    requires working { post.old.saw_end ≡ false }
+    requires post { IsPost post.old.pass.worker turn.now qp.now post.old }
+    ensures calls { result ≡ Ok None → post.new.pass.calls ≡ post.old.pass.calls }
+    ensures some { IfOk result (λ found. IfSome found (λ t. IsBusy post.old.pass.worker turn.now qp.now t post.new)) }
+    ensures none { result ≡ Ok None → IsPost post.old.pass.worker turn.now qp.now post.new }
+    ensures nothing { result ≡ Ok None → HasNothing qp.now post.new.pass.seen }
+    ensures err { OnErr result (IsPost post.old.pass.worker turn.now qp.now post.new) }
+{
+    let answer = turn.claim_as(rt, &mut post.pass);
+    taken(turn, qp, post, answer)
+}
+
+/// Examines a set in hand, passes the gate, and delivers the verdict and claims the next set of the
+/// program in one turn. Without memory for its verdict the set is given up. Once the work is called
+/// off, there is no next one.
+fn finish_set<'a, T: Wait, G: Gate>(
+    pool: &Pool<'a, T, G>,
+    turn: &Turn,
+    qp: &'a Qp,
+    worker: &mut Worker<'a>,
+    post: &mut Post,
+    ticket: Ticket,
+) -> Result<Option<Ticket>, NoMemory>
+    requires definite { IsDefinite qp.now.h.rows }
+    requires examiner { IfSome worker.old.examiner (λ q. q ≡ qp.now) }
+    requires post { IsBusy post.old.pass.worker turn.now qp.now ticket post.old }
+    ensures program { worker.new.program ≡ worker.old.program }
+    ensures examiner { IfSome worker.new.examiner (λ q. q ≡ qp.now) }
+    ensures same { post.new.pass.worker ≡ post.old.pass.worker }
+    ensures some { IfOk result (λ found. IfSome found (λ t. IsBusy post.old.pass.worker turn.now qp.now t post.new)) }
+    ensures none { result ≡ Ok None → IsPost post.old.pass.worker turn.now qp.now post.new }
+    ensures err { OnErr result (IsPost post.old.pass.worker turn.now qp.now post.new) }
+{
+    hand_laws();
+    claim_laws();
+    worker.report(ticket.set().size(), pool.news);
+    let judged = match worker.examine(pool.alloc, qp, &ticket) {
+        Ok(judged) => judged,
+        Err(refused) => {
+            post.gave_up = true;
+            let _ = turn.abandon_as(pool.rt, &mut post.pass, ticket);
+            return Err(refused);
+        }
+    };
+    pool.gate.between(ticket.worker(), ticket.set().mask());
+    if pool.news.is_called_off() {
+        let _ = turn.deliver_as(pool.rt, &mut post.pass, ticket, judged);
+        return Err(NoMemory);
+    }
+    let answer = turn.deliver_then_claim_as(pool.rt, &mut post.pass, ticket, judged);
+    taken(turn, qp, post, answer)
+}
+
+/// Works on sets of a program from the one in hand on, until the program has none to claim.
+fn finish_sets<'a, T: Wait, G: Gate>(
+    pool: &Pool<'a, T, G>,
+    turn: &Turn,
+    qp: &'a Qp,
+    worker: &mut Worker<'a>,
+    post: &mut Post,
+    mut ticket: Ticket,
+) -> Result<(), NoMemory>
+    requires definite { IsDefinite qp.now.h.rows }
+    requires examiner { IfSome worker.old.examiner (λ q. q ≡ qp.now) }
+    requires post { IsBusy post.old.pass.worker turn.now qp.now ticket post.old }
+    ensures program { worker.new.program ≡ worker.old.program }
+    ensures examiner { IfSome worker.new.examiner (λ q. q ≡ qp.now) }
+    ensures post { IsPost post.old.pass.worker turn.now qp.now post.new }
+{
+    for _ in pool.rt.forever() {
+        match finish_set(pool, turn, qp, worker, post, ticket) {
+            Ok(Some(next)) => ticket = next,
+            Ok(None) => return Ok(()),
+            Err(refused) => return Err(refused),
+        }
+    }
+    unreachable!()
+}
+
+/// Works at a program, the one with this number from 0, while it has sets to claim. Whether it had one.
+fn work_at<'a, T: Wait, G: Gate>(
+    pool: &Pool<'a, T, G>,
+    turn: &Turn,
+    qp: &'a Qp,
+    k: usize,
+    worker: &mut Worker<'a>,
+    post: &mut Post,
+) -> Result<bool, NoMemory>
+    requires definite { IsDefinite qp.now.h.rows }
+    requires within { k < length pool.now.programs.now }
+    requires program { qp.now ≡ slice_index_or pool.now.programs.now k qp.now }
+    requires worker { IsAtProgram pool.now.programs.now worker.old }
+    requires post { IsPost post.old.pass.worker turn.now qp.now post.old }
+    ensures worker { IsAtProgram pool.now.programs.now worker.new }
+    ensures post { IsPost post.old.pass.worker turn.now qp.now post.new }
+    ensures turned { result ≡ Ok true → worker.new.program ≡ k }
+    ensures same { result ≡ Ok false → worker.new ≡ worker.old }
+    ensures no_calls { result ≡ Ok false → post.new.pass.calls ≡ post.old.pass.calls }
+    ensures nothing { result ≡ Ok false → HasNothing qp.now post.new.pass.seen }
+{
+    if post.saw_end {
+        return Ok(false);
+    }
+    match claim(pool.rt, turn, qp, post) {
+        Ok(Some(ticket)) => {
+            worker.turn_to(k);
+            match finish_sets(pool, turn, qp, worker, post, ticket) {
+                Ok(()) => Ok(true),
+                Err(refused) => Err(refused),
+            }
+        }
+        Ok(None) => Ok(false),
+        Err(refused) => Err(refused),
+    }
+}
+
+/// The number of the program that comes so many places after this one, of so many and round.
+fn place_after(from: usize, steps: usize, count: usize) -> usize
+    requires from { from < count }
+    requires steps { steps < count }
+    ensures place { result ≡ after from steps count }
+    ensures within { result < count }
+{
+    if steps < count - from {
+        from + steps
+    } else {
+        steps - (count - from)
+    }
+}
+
+/// Works at the first program, from that of the worker's last set on and round, that has a set to
+/// claim, while it has. Whether there was one.
+fn work_at_next<'a, T: Wait, G: Gate>(
+    pool: &Pool<'a, T, G>,
+    worker: &mut Worker<'a>,
+    seat: &mut Seat,
+) -> Result<bool, NoMemory>
+    requires definite { All (λ (qp : Program). IsDefinite qp.h.rows) pool.now.programs.now }
+    requires worker { IsAtProgram pool.now.programs.now worker.old }
+    requires seat { IsSeat pool.now.turns.now pool.now.programs.now pool.now.workers seat.old }
+    ensures worker { IsAtProgram pool.now.programs.now worker.new }
+    ensures seat { IsSeat pool.now.turns.now pool.now.programs.now pool.now.workers seat.new }
+    ensures same { seat.new.worker ≡ seat.old.worker }
+    ensures first { result ≡ Ok true → ComesFirst pool.now.programs.now seat.new.posts.items worker.old.program worker.new.program }
+    ensures only { result ≡ Ok true → CallsOnlyAt worker.new.program seat.old.posts.items seat.new.posts.items }
+{
+    let from = worker.program;
+    let posts = seat.posts.as_mut_slice();
+    for steps in 0..posts.len() {
+        let k = place_after(from, steps, posts.len());
+        match work_at(
+            pool,
+            &pool.turns[k],
+            &pool.programs[k],
+            k,
+            worker,
+            &mut posts[k],
+        ) {
+            Ok(true) => return Ok(true),
+            Ok(false) => {}
+            Err(refused) => return Err(refused),
+        }
+    }
+    Ok(false)
+}
+
+/// Works until all programs have come to their end, or until the work is called off.
+///
+/// Where no program has a set to claim, the worker waits for news. A worker that was woken has found
+/// its last program without a set before, so the next set that it claims is its first of a level, and
+/// it wakes two others: so the workers of a level double until all are at it or its sets are claimed.
+///
+/// Nobody sleeps for ever. Where a program has come to no end and has no set to claim, another worker
+/// holds one of its sets, is awake, and claims there again as it delivers it; so until the end somebody
+/// is awake. Whoever ends, at the end or called off, wakes all and raises the count of the news, on
+/// which a sleep that begins later ends at once, since the count that it waits on was read before the
+/// worker looked whether the work is called off, and before its claims.
+fn work<'a, T: Wait, G: Gate>(pool: &Pool<'a, T, G>, seat: &mut Seat)
+    requires definite { All (λ (qp : Program). IsDefinite qp.h.rows) pool.now.programs.now }
+    requires seat { IsSeat pool.now.turns.now pool.now.programs.now pool.now.workers seat.old }
+    ensures seat { IsSeat pool.now.turns.now pool.now.programs.now pool.now.workers seat.new }
+    ensures same { seat.new.worker ≡ seat.old.worker }
+{
+    let mut worker = Worker::new();
+    for _ in pool.rt.forever() {
+        let heard = pool.news.count();
+        if pool.news.is_called_off() {
+            return;
+        }
+        match work_at_next(pool, &mut worker, seat) {
+            Ok(true) => {}
+            Ok(false) => {
+                if seat.posts.iter().all(|post| post.saw_end) {
+                    return;
+                }
+                pool.news.wait(pool.rt, heard);
+            }
+            Err(_) => {
+                pool.news.call_off();
+                return;
+            }
+        }
+    }
+    unreachable!()
+}
+
+/// Works to the end, and wakes the others there, who end too.
+fn work_and_wake<'a, T: Wait, G: Gate>(pool: &Pool<'a, T, G>, seat: &mut Seat)
+    requires definite { All (λ (qp : Program). IsDefinite qp.h.rows) pool.now.programs.now }
+    requires seat { IsSeat pool.now.turns.now pool.now.programs.now pool.now.workers seat.old }
+    ensures seat { IsSeat pool.now.turns.now pool.now.programs.now pool.now.workers seat.new }
+    ensures same { seat.new.worker ≡ seat.old.worker }
+{
+    work(pool, seat);
+    pool.news.wake_all();
+}
+
+/// The work of these seats, in so many threads.
+fn walk<'a, T: Threads + Wait + Sync, G: Gate + Sync>(
+    pool: &Pool<'a, T, G>,
+    seats: &mut [Seat],
+    threads: usize,
+)
+    requires definite { All (λ (qp : Program). IsDefinite qp.h.rows) pool.now.programs.now }
+    requires threads { 0 < threads }
+    requires seats { All (IsSeat pool.now.turns.now pool.now.programs.now pool.now.workers) seats.old }
+    ensures seats { All (IsSeat pool.now.turns.now pool.now.programs.now pool.now.workers) seats.new }
+    ensures workers { KeepWorkers seats.old seats.new }
+{
+    thread::for_each_mut(
+        pool.rt,
+        seats,
+        threads,
+        &|_, seat| work_and_wake(pool, seat),
+    );
+}
+
+/// The work of all seats: of as many as are of use in threads beside each other, and then of the rest,
+/// who find the end.
+pub(crate) fn work_all<'a, T: Threads + Wait + Sync, G: Gate + Sync>(
+    pool: &Pool<'a, T, G>,
+    seats: &mut [Seat],
+)
+    requires definite { All (λ (qp : Program). IsDefinite qp.h.rows) pool.now.programs.now }
+    requires seats { All (IsSeat pool.now.turns.now pool.now.programs.now pool.now.workers) seats.old }
+    ensures seats { All (IsSeat pool.now.turns.now pool.now.programs.now pool.now.workers) seats.new }
+    ensures workers { KeepWorkers seats.old seats.new }
+{
+    if seats.is_empty() {
+        return;
+    }
+    let at_once = seats_at_once(pool.rt, seats.len(), pool.programs);
+    let (first, rest) = seats.split_at_mut(at_once);
+    walk(pool, first, at_once);
+    walk(pool, rest, 1);
+}
