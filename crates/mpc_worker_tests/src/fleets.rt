@@ -4,16 +4,15 @@ ghost use Rattle.std.specs.Prelude.{◌≡◌, IfOk, All, vec_len};
 ghost use Rattle.mpc_space.specs.Definite.{IsDefinite};
 ghost use Rattle.mpc_rows.specs.declared.programs.Qp.{Qp as Program};
 
+use crate::gates::Meeting;
 use crate::programs::{is_positive_number, limited, program};
 use mpc_claim::Phase;
 use mpc_fleet::{FleetError, enumerate_fleet};
 use mpc_frac::NoMemory;
-use mpc_port::{Gate, OpenGate};
+use mpc_port::OpenGate;
 use mpc_rows::Qp;
 use std::alloc::Global;
-use std::sync::atomic::{AtomicU64, Ordering};
 use std::test::Fail;
-use std::thread;
 
 /// The program without rows.
 fn free(alloc: Global) -> Result<Qp, NoMemory> {
@@ -37,28 +36,6 @@ fn both(alloc: Global, one: Qp, other: Qp) -> Result<Vec<Qp>, NoMemory>
     Ok(programs)
 }
 
-/// A gate that holds its first call until a second has come, for a thousand million turns at most, and keeps whether one came.
-#[derive(Drop)]
-struct Meeting {
-    calls: AtomicU64,
-    met: AtomicU64,
-}
-
-impl Gate for Meeting {
-    fn between(&self, _worker: u32, _mask: u64) {
-        if self.calls.fetch_add(1, Ordering::SeqCst) > 0 {
-            return;
-        }
-        for _ in 0..1_000_000_000 {
-            if self.calls.load(Ordering::SeqCst) > 1 {
-                self.met.store(1, Ordering::SeqCst);
-                return;
-            }
-            thread::yield_now();
-        }
-    }
-}
-
 #[test]
 fn two_programs_at_once(rt: HostRuntime) -> Result<(), Fail> {
     let one = free(rt.alloc())?;
@@ -66,12 +43,9 @@ fn two_programs_at_once(rt: HostRuntime) -> Result<(), Fail> {
     assert!(rt; is_positive_number(&one.h));
     assert!(rt; is_positive_number(&other.h));
     let programs = both(rt.alloc(), one, other)?;
-    let gate = Meeting {
-        calls: AtomicU64::new(0),
-        met: AtomicU64::new(0),
-    };
+    let gate = Meeting::new();
     let registries = enumerate_fleet(&rt, rt.alloc(), &programs, 2, &gate)?;
-    assert_eq!(rt; gate.met.load(Ordering::SeqCst), 1);
+    assert!(rt; gate.has_met());
     assert_eq!(rt; registries.len(), 2);
     for registry in &registries {
         assert!(rt; matches!(registry.phase(), Phase::Finished));

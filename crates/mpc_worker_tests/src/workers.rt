@@ -4,6 +4,7 @@ ghost use Rattle.std.specs.Prelude.{◌≡◌, ◌≤◌, [], length};
 ghost use Rattle.mpc_space.specs.Definite.{IsDefinite};
 ghost use Rattle.mpc_turn.specs.Views.{hand_of};
 
+use crate::gates::{LongOpening, Meeting};
 use crate::programs::{is_positive_number, limited};
 use mpc_claim::{Action, Claimed, EventKind, Phase, Played, Registry, World};
 use mpc_port::{Gate, OpenGate};
@@ -14,7 +15,7 @@ use mpc_turn::{Pass, Turn, hand_laws};
 use mpc_workers::{WorkError, enumerate, enumerate_alone};
 use std::alloc::Global;
 use std::process::Abort;
-use std::sync::{Barrier, Mutex, Wait};
+use std::sync::{Mutex, Wait};
 use std::test::Fail;
 
 #[test]
@@ -72,18 +73,18 @@ fn passes_the_gate(rt: HostRuntime) -> Result<(), Fail> {
     Ok(())
 }
 
-/// A gate that holds each worker with a set of one member until another has come as far.
+/// A gate that holds each worker with a set of one member until another has come as far, and keeps its calls.
 #[derive(Drop)]
-struct Meeting<R: Wait> {
+struct MeetingBook<R: Wait> {
     rt: R,
-    both: Barrier,
+    meeting: Meeting,
     passages: Mutex<Vec<Passage>>,
 }
 
-impl<R: Wait> Gate for Meeting<R> {
+impl<R: Wait> Gate for MeetingBook<R> {
     fn between(&self, worker: u32, mask: u64) {
         if mask != 0 {
-            self.both.wait(&self.rt);
+            self.meeting.wait();
         }
         let mut passages = self.passages.lock(&self.rt);
         let _ = passages.push(Passage { worker, mask });
@@ -94,12 +95,13 @@ impl<R: Wait> Gate for Meeting<R> {
 fn two_workers_at_once(rt: HostRuntime) -> Result<(), Fail> {
     let qp = limited(rt.alloc())?;
     assert!(rt; is_positive_number(&qp.h));
-    let gate = Meeting {
+    let gate = MeetingBook {
         rt,
-        both: Barrier::new(2),
+        meeting: Meeting::new(),
         passages: Mutex::new(Vec::new(rt.alloc())),
     };
     let registry = enumerate(&rt, rt.alloc(), &qp, 2, &gate).expect(&rt, "memory");
+    assert!(rt; gate.meeting.has_met());
     let history = registry.history();
     assert_eq!(rt; history.len(), 6);
     assert_eq!(rt; history[2].kind, EventKind::Claim);
@@ -115,6 +117,19 @@ fn two_workers_at_once(rt: HostRuntime) -> Result<(), Fail> {
         });
         assert_eq!(rt; claims.count(), 1);
     }
+    Ok(())
+}
+
+#[test]
+fn a_sleeper_is_woken(rt: HostRuntime) -> Result<(), Fail> {
+    let qp = limited(rt.alloc())?;
+    assert!(rt; is_positive_number(&qp.h));
+    let gate = LongOpening {
+        clock: rt,
+        meeting: Meeting::new(),
+    };
+    let _ = enumerate(&rt, rt.alloc(), &qp, 2, &gate).expect(&rt, "memory");
+    assert!(rt; gate.meeting.has_met());
     Ok(())
 }
 

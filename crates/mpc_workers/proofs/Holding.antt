@@ -12,9 +12,10 @@ use Rattle.mpc_claim.specs.Board.{event}
 use Rattle.mpc_claim.specs.History.{is_claim, ended_sets, MayEnd}
 use Rattle.mpc_turn.specs.Views.{Call, weigh, weigh_all}
 use Rattle.mpc_turn.specs.Known.{StandsFrom, StandsAt, at_place}
+use Rattle.mpc_workers.specs.Calls.{TakesTurns, Rise}
 use Rattle.mpc_workers.specs.Alone.{IsTurn, AreTurns}
 use Rattle.mpc_workers.specs.Holding.{HoldOneSet}
-use Rattle.mpc_workers.specs.Seats.{TakesTurns, IsEnded, AreCountedDown}
+use Rattle.mpc_workers.specs.Joined.{IsEnded, AreCountedDown}
 
 -- ---- calls of one pass
 abbrev IsOneOf : Call → List Call → Type 0
@@ -31,10 +32,22 @@ turns_more [] c e t p q r = (p, q, r, tt)
 turns_more (x ∷ []) c e t p q r = absurd t
 turns_more (x ∷ y ∷ rest) c e t p q r = (t.0, t.1, t.2, turns_more rest c e t.3 p q r)
 
-not_before : (seen : List Event) (k : ℕ) (cs : List Call) (c : Call) → StandsFrom seen k cs → IsOneOf c cs → k ≤ c.0
-not_before seen k [] c s h = absurd h
-not_before seen k (x ∷ xs) c s (inl e) = subst (λ (y : Call). k ≤ y.0) (sym e) s.0
-not_before seen k (x ∷ xs) c s (inr h) = let l = not_before seen (x.0 + 1) xs c s.2 h in let m = s.0 in omega (arith, l, m)
+not_before : (k : ℕ) (cs : List Call) (c : Call) → Rise k cs → IsOneOf c cs → k ≤ c.0
+not_before k [] c s h = absurd h
+not_before k (x ∷ xs) c s (inl e) = subst (λ (y : Call). k ≤ y.0) (sym e) s.0
+not_before k (x ∷ xs) c s (inr h) = let l = not_before (x.0 + 1) xs c s.1 h in let m = s.0 in omega (arith, l, m)
+
+rise_lower : (i j : ℕ) (cs : List Call) → i ≤ j → Rise j cs → Rise i cs
+rise_lower i j [] l r = tt
+rise_lower i j (c ∷ cs) l r = let m = r.0 in (omega (arith, l, m), r.1)
+
+rise_at : (seen : List Event) (k : ℕ) (cs : List Call) → StandsFrom seen k cs → Rise k cs
+rise_at seen k [] s = tt
+rise_at seen k (c ∷ cs) s = (s.0, rise_at seen (c.0 + 1) cs s.2)
+
+-- calls that stand in a history stand at rising positions
+pub rising : (seen : List Event) (k : ℕ) (cs : List Call) → StandsFrom seen k cs → Rise 0 cs
+rising seen k cs s = rise_lower 0 k cs (omega arith) (rise_at seen k cs s)
 
 -- an end of the call's set, before this position
 record EndsBefore (cs : List Call) (c : Call) (p : ℕ) : Type 0 where
@@ -51,23 +64,23 @@ no_claim : (c x : Call) → c ≡ x → is_claim c.1.kind ≡ true → is_claim 
 no_claim c x e p q = true≢false (sym p ∙ (ap (λ (y : Call). is_claim y.1.kind) e ∙ q))
 
 -- between two claims of one pass stands the end of the first one's set
-between : (seen : List Event) (k : ℕ) (cs : List Call) (a b : Call) → TakesTurns cs → StandsFrom seen k cs → IsOneOf a cs → IsOneOf b cs
+between : (k : ℕ) (cs : List Call) (a b : Call) → TakesTurns cs → Rise k cs → IsOneOf a cs → IsOneOf b cs
     → is_claim a.1.kind ≡ true → is_claim b.1.kind ≡ true → a.0 < b.0 → EndsBefore cs a b.0
-between seen k [] a b t s p q i j l = absurd p
-between seen k (x ∷ []) a b t s p q i j l = absurd t
-between seen k (x ∷ y ∷ rest) a b t s (inl e) (inl f) i j l = let g : a.0 ≡ b.0 = ap (λ (c : Call). c.0) (e ∙ sym f) in absurd (omega (arith, g, l))
-between seen k (x ∷ y ∷ rest) a b t s (inl e) (inr (inl f)) i j l = absurd (no_claim b y f j t.1)
-between seen k (x ∷ y ∷ rest) a b t s (inl e) (inr (inr q)) i j l =
-    let m = not_before seen (y.0 + 1) rest b s.2.2 q in
+between k [] a b t s p q i j l = absurd p
+between k (x ∷ []) a b t s p q i j l = absurd t
+between k (x ∷ y ∷ rest) a b t s (inl e) (inl f) i j l = let g : a.0 ≡ b.0 = ap (λ (c : Call). c.0) (e ∙ sym f) in absurd (omega (arith, g, l))
+between k (x ∷ y ∷ rest) a b t s (inl e) (inr (inl f)) i j l = absurd (no_claim b y f j t.1)
+between k (x ∷ y ∷ rest) a b t s (inl e) (inr (inr q)) i j l =
+    let m = not_before (y.0 + 1) rest b s.1.1 q in
     record { end = y; one = inr (inl refl); before = omega (arith, m); set_is = t.2 ∙ sym (ap (λ (c : Call). c.1.set) e); ends = t.1 }
-between seen k (x ∷ y ∷ rest) a b t s (inr (inl e)) q i j l = absurd (no_claim a y e i t.1)
-between seen k (x ∷ y ∷ rest) a b t s (inr (inr p)) (inl f) i j l =
-    let m = not_before seen (y.0 + 1) rest a s.2.2 p in
-    let n = s.2.0 in
+between k (x ∷ y ∷ rest) a b t s (inr (inl e)) q i j l = absurd (no_claim a y e i t.1)
+between k (x ∷ y ∷ rest) a b t s (inr (inr p)) (inl f) i j l =
+    let m = not_before (y.0 + 1) rest a s.1.1 p in
+    let n = s.1.0 in
     let o : b.0 ≡ x.0 = ap (λ (c : Call). c.0) f in
     absurd (omega (arith, m, n, o, l))
-between seen k (x ∷ y ∷ rest) a b t s (inr (inr p)) (inr (inl f)) i j l = absurd (no_claim b y f j t.1)
-between seen k (x ∷ y ∷ rest) a b t s (inr (inr p)) (inr (inr q)) i j l = later x y rest a b.0 (between seen (y.0 + 1) rest a b t.3 s.2.2 p q i j l)
+between k (x ∷ y ∷ rest) a b t s (inr (inr p)) (inr (inl f)) i j l = absurd (no_claim b y f j t.1)
+between k (x ∷ y ∷ rest) a b t s (inr (inr p)) (inr (inr q)) i j l = later x y rest a b.0 (between (y.0 + 1) rest a b t.3 s.1.1 p q i j l)
 
 -- ---- the call that stands at a position
 module _ (p : ℕ) where
@@ -146,7 +159,7 @@ module _ (most k : ℕ) (history : List Event) (ended : List (List Call)) (once 
       let here : IsOneOf b.call calls = subst (λ (i : ℕ). IsOneOf b.call (get_or ended i [])) same b.one in
       let of : IsEnded most calls = each a.pass [] a.within in
       let before : a.call.0 < b.call.0 = let f = a.place_is in let g = b.place_is in omega (arith, f, g, l) in
-      let e = between of.seen of.from calls a.call b.call of.turns of.stands a.one here (ap (λ (x : Event). is_claim x.kind) a.event_is) (ap (λ (x : Event). is_claim x.kind) b.event_is) before in
+      let e = between 0 calls a.call b.call of.turns of.rise a.one here (ap (λ (x : Event). is_claim x.kind) a.event_is) (ap (λ (x : Event). is_claim x.kind) b.event_is) before in
       let at : slice_get history e.end.0 ≡ Some e.end.1 = (all_at (StandsAt history k) calls e.end (stands a.pass [] a.within) e.one).1 in
       let early : e.end.0 < length past = let f = e.before in let g = b.place_is in omega (arith, f, g, within) in
       subst (Contains (ended_sets past)) (e.set_is ∙ ap (λ (x : Event). x.set) a.event_is)

@@ -18,7 +18,10 @@ use Rattle.mpc_claim.specs.HistoryLaws.{AnswerLaws, AppendLaws, EndedIsWhole}
 use Rattle.mpc_turn.specs.Views.{Call, Starts, weigh, weigh_all, placed, hand_of}
 use Rattle.mpc_turn.specs.Known.{Known, TurnId, Closed, NoneClaimed, at_place}
 use Rattle.mpc_workers.specs.Holding.{HoldOneSet}
-use Rattle.mpc_workers.specs.Seats.{IsWorker, HasEnd, Joins, SeesEnd, IsLeft, NoneDropped, IsDone}
+use Rattle.mpc_workers.specs.Calls.{GivesNoneUp}
+use Rattle.mpc_workers.specs.Posts.{HasEnd}
+use Rattle.mpc_workers.specs.Joined.{Joins, SeesEnd, IsLeft}
+use Rattle.mpc_workers.specs.Seats.{IsWorker, NoneDropped, IsDone}
 use Rattle.mpc_workers.proofs.Holding.{hold_one}
 
 -- ---- sums in which each term is 0
@@ -64,7 +67,7 @@ no_drops k (e ∷ es) z = go (is_drop e.kind) refl (no_drops (k + 1) es)
     go false q r = rw q (r (omega arith))
 
 -- ---- the closed turn
-module _ (whole : EndedIsWhole) (appended : AppendLaws) (turn : TurnId) (qp : Qp) (most : ℕ) (k : Known) (r : Board) (j : Joins turn qp most 0 k) (d : SeesEnd qp k) (c : Closed k r) where
+module _ (whole : EndedIsWhole) (appended : AppendLaws) (turn : TurnId) (qp : Qp) (most : ℕ) (k : Known) (r : Board) (j : Joins turn qp most 0 k) (kept : All GivesNoneUp k.ended) (d : SeesEnd qp k) (c : Closed k r) where
   same_program : r.program ≡ qp
   same_program = c.program ∙ j.program
 
@@ -79,7 +82,7 @@ module _ (whole : EndedIsWhole) (appended : AppendLaws) (turn : TurnId) (qp : Qp
       omega (arith, sum, own, others)
 
   no_drop : has_drop r.history ≡ false
-  no_drop = no_drops 0 r.history (counts drops (λ i e p x y q. ap (λ (b : Bool). cond b 1 0) (d.kept i e p x y q)))
+  no_drop = no_drops 0 r.history (counts drops (λ i e p x y q. ap (λ (b : Bool). cond b 1 0) (kept i e p x y q)))
 
   begins : Starts r.history d.past
   begins = (d.begins.0 ++ c.seen.0, c.seen.1 ∙ (ap (λ l. l ++ c.seen.0) d.begins.1 ∙ append_assoc d.past d.begins.0 c.seen.0))

@@ -2,7 +2,7 @@ use Rattle.std.proofs.Common.{Ok, subst}
 use Rattle.mpc_claim.specs.declared.tickets.Claimed.{Claimed}
 use Rattle.mpc_claim.specs.Answers.{Claims}
 use Rattle.mpc_workers.proofs.Lasting.{no_job, ends_finished, ends_stopped}
-use Rattle.mpc_workers.proofs.pool.settle.Goals as goal
+use Rattle.mpc_workers.proofs.joining.settle.Goals as goal
 
 pub unreachable-requires : goal.unreachable-requires
 unreachable-requires c =

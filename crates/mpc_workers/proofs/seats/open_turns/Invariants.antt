@@ -1,0 +1,6 @@
+use Rattle.std.proofs.Common.{take}
+use Rattle.mpc_workers.specs.Posts.{AtEach, IsOpening}
+use Rattle.mpc_workers.proofs.seats.open_turns.Given as goal
+
+abbrev pub invariant-loop-qp : goal.invariant-loop-qp
+invariant-loop-qp l = AtEach (IsOpening 0) l.turns.items (take l.qp-index l.programs) l.firsts.items
