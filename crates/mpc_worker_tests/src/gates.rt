@@ -12,14 +12,14 @@ const TURNS: u32 = 10_000_000;
 #[derive(Drop)]
 pub(crate) struct Meeting {
     arrivals: AtomicU64,
-    met: AtomicBool,
+    in_vain: AtomicBool,
 }
 
 impl Meeting {
     pub(crate) fn new() -> Meeting {
         Meeting {
             arrivals: AtomicU64::new(0),
-            met: AtomicBool::new(false),
+            in_vain: AtomicBool::new(false),
         }
     }
 
@@ -28,16 +28,16 @@ impl Meeting {
         self.arrivals.fetch_add(1, Ordering::SeqCst);
         for _ in 0..TURNS {
             if self.arrivals.load(Ordering::SeqCst) > 1 {
-                self.met.store(true, Ordering::SeqCst);
                 return;
             }
             thread::yield_now();
         }
+        self.in_vain.store(true, Ordering::SeqCst);
     }
 
-    /// Whether nobody waited in vain, and somebody waited.
+    /// Whether two came, and nobody waited in vain.
     pub(crate) fn has_met(&self) -> bool {
-        self.met.load(Ordering::SeqCst)
+        self.arrivals.load(Ordering::SeqCst) > 1 && !self.in_vain.load(Ordering::SeqCst)
     }
 }
 
@@ -58,7 +58,7 @@ pub(crate) struct LongOpening<C: Clock> {
 impl<C: Clock> Gate for LongOpening<C> {
     fn between(&self, _worker: u32, mask: u64) {
         if mask == 0 {
-            thread::sleep(&self.clock, Duration::from_millis(50));
+            thread::sleep(&self.clock, Duration::from_millis(100));
         } else {
             self.meeting.wait();
         }
