@@ -10,16 +10,16 @@ use Rattle.mpc_claim.specs.declared.events.EventKind.{EventKind}
 use Rattle.mpc_claim.specs.declared.events.EventKind.TheVariants.{Claim}
 use Rattle.mpc_claim.specs.declared.tickets.Ticket.{Ticket}
 use Rattle.mpc_claim.specs.declared.tickets.Claimed.{Claimed}
-use Rattle.mpc_claim.specs.declared.tickets.Claimed.TheVariants.{Job}
+use Rattle.mpc_claim.specs.declared.tickets.Claimed.TheVariants.{Job, Idle, Finished, Stopped}
 use Rattle.mpc_claim.specs.Board.{event}
 use Rattle.mpc_claim.specs.History.{is_claim, is_drop}
 use Rattle.mpc_claim.specs.HistoryLaws.{CandidateLaws}
 use Rattle.mpc_turn.specs.Views.{Call, hand_of}
-use Rattle.mpc_turn.specs.Known.{Known, TurnId, ClaimedAs, EndedAs, InHand, called}
+use Rattle.mpc_turn.specs.Known.{Known, TurnId, ClaimedAs, EndedAs, InHand, called, looked_on}
 use Rattle.mpc_turn.specs.HandLaws.{ClaimFills, ClaimIsInHand, EndEmpties}
 use Rattle.mpc_workers.specs.declared.seats.Post.{Post}
 use Rattle.mpc_workers.specs.Calls.{GivesNoneUp, TakesTurns}
-use Rattle.mpc_workers.specs.Posts.{IsPassOf, IsPost, IsAnswered, IsBusy, opening, post_with}
+use Rattle.mpc_workers.specs.Posts.{HasEnd, IsPassOf, IsPost, IsAnswered, IsBusy, opening, post_with}
 use Rattle.mpc_workers.proofs.Holding.{turns_more}
 
 -- ---- a pass that has looked on
@@ -85,6 +85,32 @@ module _ (worker : ℕ) (turn : TurnId) (qp : Qp) (t : Ticket) (post : Post) (b 
     pub ended_kept : is_drop kind ≡ false → post.gave_up ≡ false → GivesNoneUp last.calls
     ended_kept fine f = subst (λ (k : Known). GivesNoneUp k.calls) (sym last_is)
         (All-push (λ (x : Call). is_drop x.1.kind ≡ false) (before.calls ++ (length b.answered.claimed.0, claimed) ∷ []) (length d.0, ended) (All-push (λ (x : Call). is_drop x.1.kind ≡ false) before.calls (length b.answered.claimed.0, claimed) (b.answered.kept f) refl) fine)
+
+-- ---- whose post it is
+claimed_worker : (a b : Known) (answer : Result Claimed NoMemory) → ClaimedAs a answer b → b.worker ≡ a.worker
+claimed_worker a b (Ok (Job t)) c = ap (λ (k : Known). k.worker) c.2
+claimed_worker a b (Ok Idle) c = ap (λ (k : Known). k.worker) c.1
+claimed_worker a b (Ok Finished) c = ap (λ (k : Known). k.worker) c.1
+claimed_worker a b (Ok Stopped) c = ap (λ (k : Known). k.worker) c.1
+claimed_worker a b (Err e) c = ap (λ (k : Known). k.worker) c.1
+
+pub answered_worker : (worker : ℕ) (turn : TurnId) (qp : Qp) (answer : Result Claimed NoMemory) (post : Post) → IsAnswered worker turn qp answer post → post.pass.worker ≡ worker
+answered_worker worker turn qp answer post a = claimed_worker a.before post.pass answer a.claimed ∙ a.pass.worker_is
+
+pub busy_worker : (worker : ℕ) (turn : TurnId) (qp : Qp) (t : Ticket) (post : Post) → IsBusy worker turn qp t post → post.pass.worker ≡ worker
+busy_worker worker turn qp t post b = answered_worker worker turn qp (Ok (Job t)) post b.answered
+
+-- ---- a claim that gave nothing
+module _ (worker : ℕ) (turn : TurnId) (qp : Qp) (answer : Result Claimed NoMemory) (post : Post) (a : IsAnswered worker turn qp answer post) (looked : post.pass ≡ looked_on a.before post.pass.seen) where
+  pub rested : (new : Post) → new.pass ≡ post.pass → new.gave_up ≡ post.gave_up → (new.saw_end ≡ true → HasEnd qp post.pass.seen) → IsPost worker turn qp new
+  rested new same gave end = record {
+    pass = subst (IsPassOf worker turn qp) (sym same) (looked_pass worker turn qp a.before post.pass looked a.pass);
+    kept = λ f. subst (λ (k : Known). GivesNoneUp k.calls) (sym (same ∙ looked)) (a.kept (sym gave ∙ f));
+    ended = λ e. subst (λ (k : Known). HasEnd qp k.seen) (sym same) (end e);
+  }
+
+  pub of_program : (P : Qp → List Event → Type 0) → P a.before.program post.pass.seen → P qp post.pass.seen
+  of_program P h = subst (λ (q : Qp). P q post.pass.seen) a.pass.program h
 
 -- a post with a pass that was just split off
 pub split_off : (turn : TurnId) (qp : Qp) (lent worker : ℕ) (first p : Known) (post : Post) → first ≡ opening turn qp lent → p ≡ record first { first = false; lent = 0; worker = worker; calls = []; ended = [] } → post ≡ post_with p → IsPost worker turn qp post

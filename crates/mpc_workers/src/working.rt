@@ -169,7 +169,6 @@ fn finish_set<'a, T: Wait, G: Gate>(
     requires post { IsBusy post.old.pass.worker turn.now qp.now ticket post.old }
     ensures program { worker.new.program ≡ worker.old.program }
     ensures examiner { IfSome worker.new.examiner (λ q. q ≡ qp.now) }
-    ensures same { post.new.pass.worker ≡ post.old.pass.worker }
     ensures some { IfOk result (λ found. IfSome found (λ t. IsBusy post.old.pass.worker turn.now qp.now t post.new)) }
     ensures none { result ≡ Ok None → IsPost post.old.pass.worker turn.now qp.now post.new }
     ensures err { OnErr result (IsPost post.old.pass.worker turn.now qp.now post.new) }
