@@ -19,7 +19,7 @@ use Rattle.mpc_turn.specs.Known.{Known, TurnId, ClaimedAs, EndedAs, InHand, call
 use Rattle.mpc_turn.specs.HandLaws.{ClaimFills, ClaimIsInHand, EndEmpties}
 use Rattle.mpc_workers.specs.declared.seats.Post.{Post}
 use Rattle.mpc_workers.specs.Calls.{GivesNoneUp, TakesTurns}
-use Rattle.mpc_workers.specs.Posts.{HasEnd, IsPassOf, IsPost, IsAnswered, IsBusy, opening, post_with}
+use Rattle.mpc_workers.specs.Posts.{GivesNoJob, HasEnd, IsPassOf, IsPost, IsAnswered, IsBusy, opening, post_with}
 use Rattle.mpc_workers.proofs.Holding.{turns_more}
 
 -- ---- a pass that has looked on
@@ -100,7 +100,17 @@ answered_worker worker turn qp answer post a = claimed_worker a.before post.pass
 pub busy_worker : (worker : ℕ) (turn : TurnId) (qp : Qp) (t : Ticket) (post : Post) → IsBusy worker turn qp t post → post.pass.worker ≡ worker
 busy_worker worker turn qp t post b = answered_worker worker turn qp (Ok (Job t)) post b.answered
 
+pub answered_own : (worker : ℕ) (turn : TurnId) (qp : Qp) (answer : Result Claimed NoMemory) (post : Post) → IsAnswered worker turn qp answer post → IsAnswered post.pass.worker turn qp answer post
+answered_own worker turn qp answer post a = subst (λ (w : ℕ). IsAnswered w turn qp answer post) (sym (answered_worker worker turn qp answer post a)) a
+
 -- ---- a claim that gave nothing
+pub same_calls : (a b : Known) (answer : Result Claimed NoMemory) → ClaimedAs a answer b → GivesNoJob answer → b.calls ≡ a.calls
+same_calls a b (Ok (Job t)) c h = absurd h
+same_calls a b (Ok Idle) c h = ap (λ (k : Known). k.calls) c.1
+same_calls a b (Ok Finished) c h = ap (λ (k : Known). k.calls) c.1
+same_calls a b (Ok Stopped) c h = ap (λ (k : Known). k.calls) c.1
+same_calls a b (Err e) c h = ap (λ (k : Known). k.calls) c.1
+
 module _ (worker : ℕ) (turn : TurnId) (qp : Qp) (answer : Result Claimed NoMemory) (post : Post) (a : IsAnswered worker turn qp answer post) (looked : post.pass ≡ looked_on a.before post.pass.seen) where
   pub rested : (new : Post) → new.pass ≡ post.pass → new.gave_up ≡ post.gave_up → (new.saw_end ≡ true → HasEnd qp post.pass.seen) → IsPost worker turn qp new
   rested new same gave end = record {

@@ -26,6 +26,12 @@ either : (a b : Bool) → (a || b) ≡ true → (a ≡ true) ⊎ (b ≡ true)
 either true b e = inl refl
 either false b e = inr e
 
+pub or_then : (a b r : Bool) → a ≡ true → r ≡ a → r ≡ (a || b)
+or_then a b r e f = (f ∙ e) ∙ sym (ap (λ (x : Bool). x || b) e)
+
+pub or_else : (a b r : Bool) → a ≡ false → r ≡ b → r ≡ (a || b)
+or_else a b r e f = f ∙ sym (ap (λ (x : Bool). x || b) e)
+
 -- the pass of a seat is taken back
 abbrev pub taken_back : Known → Known → Known
 taken_back k other = record k { lent = k.lent - 1; seen = longer k.seen other.seen; ended = k.ended ++ other.calls ∷ other.ended }

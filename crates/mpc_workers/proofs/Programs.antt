@@ -163,3 +163,15 @@ done_more {X = X} R programs xs new x q n is l program_is here later k r y m =
       where
         next : (h i : ℕ) → (h + 1) + i ≡ h + suc i
         next h i = omega arith
+
+-- of one item and a list's last one
+pub only_one : {A B : Type 0} (R : A → B → Type 0) (x : A) (rest ys : List B) (y : B) → ys ≡ rest ++ y ∷ [] → AllZip R (x ∷ []) ys → R x y
+only_one {A = A} {B = B} R x rest ys y is a = at rest (subst (AllZip R (x ∷ [])) is a)
+  where
+    no_more : (zs : List B) → AllZip R [] (zs ++ y ∷ []) → ⊥
+    no_more [] h = h
+    no_more (z ∷ zs) h = h
+
+    at : (zs : List B) → AllZip R (x ∷ []) (zs ++ y ∷ []) → R x y
+    at [] h = h.0
+    at (z ∷ zs) h = absurd (no_more zs h.1)

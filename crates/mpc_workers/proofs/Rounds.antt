@@ -6,9 +6,10 @@ use Rattle.std.proofs.lemmas.List.{get_or-set_other, get_or-set_same}
 use mathlib.Core.Logic.{dite}
 use native.Mathlib.Decide.{dec_lt}
 use Rattle.mpc_rows.specs.declared.programs.Qp.{Qp}
+use Rattle.mpc_turn.specs.Known.{TurnId}
 use Rattle.mpc_workers.specs.declared.seats.Post.{Post}
 use Rattle.mpc_workers.specs.declared.working.Worker.{Worker}
-use Rattle.mpc_workers.specs.Posts.{after, HasNothing, FindNothing, CallsOnlyAt, IsAtProgram}
+use Rattle.mpc_workers.specs.Posts.{after, HasNothing, FindNothing, AtEach, CallsOnlyAt, IsAtProgram, IsPost}
 use Rattle.mpc_workers.proofs.Programs.{at_set, same_item}
 
 -- two numbers of steps lead to two places
@@ -30,6 +31,26 @@ nothing_more programs posts new from steps k q x is place start within count her
     subst (λ (j : ℕ). HasNothing (get_or programs j r) (get_or (set posts k x) j p).pass.seen) there
     (subst (λ (v : Post). HasNothing (get_or programs k r) v.pass.seen) (sym (get_or-set_same posts k x p (omega (arith, here, count))))
     (subst (λ (v : Qp). HasNothing v x.pass.seen) (program_is ∙ same_item programs k q r here) nothing))))
+
+-- a call at a later program leaves those before without anything to claim
+pub nothing_before : (programs : List Qp) (posts new : List Post) (from steps k : ℕ) (x : Post) → new ≡ set posts k x → k ≡ after from steps (length programs) → from < length programs → steps < length programs → FindNothing programs posts from steps → FindNothing programs new from steps
+nothing_before programs posts new from steps k x is place start within before i r p l =
+    let apart : after from i (length programs) ≢ k = λ e. after_apart from i steps (length programs) start l within (e ∙ place) in
+    subst (λ (ps : List Post). HasNothing (get_or programs (after from i (length programs)) r) (get_or ps (after from i (length programs)) p).pass.seen) (sym is)
+    (subst (λ (v : Post). HasNothing (get_or programs (after from i (length programs)) r) v.pass.seen) (sym (get_or-set_other posts k (after from i (length programs)) x p apart)) (before i r p l))
+
+-- ---- the post of a program
+module _ (number : ℕ) (turns : List TurnId) (programs : List Qp) (posts : List Post) (k : ℕ) (t : TurnId) (q : Qp) (p : Post) (l : k < length programs) (turn_is : t ≡ get_or turns k t) (program_is : q ≡ get_or programs k q) (a : AtEach (IsPost number) turns programs posts) where
+  its_post : IsPost number t q (get_or posts k p)
+  its_post =
+      subst (λ (v : TurnId). IsPost number v q (get_or posts k p)) (sym turn_is)
+      (subst (λ (v : Qp). IsPost number (get_or turns k t) v (get_or posts k p)) (sym program_is) (a.each k t q p l))
+
+  pub own_post : IsPost (get_or posts k p).pass.worker t q (get_or posts k p)
+  own_post = subst (λ (w : ℕ). IsPost w t q (get_or posts k p)) (sym its_post.pass.worker_is) its_post
+
+  pub own_back : (new : Post) → IsPost (get_or posts k p).pass.worker t q new → IsPost number t q new
+  own_back new i = subst (λ (w : ℕ). IsPost w t q new) its_post.pass.worker_is i
 
 -- ---- the program of a worker and its examiner
 module _ (programs : List Qp) (k : ℕ) (qp : Qp) (within : k < length programs) (program_is : qp ≡ get_or programs k qp) where

@@ -1,10 +1,10 @@
 -- What a worker has at each program: a post with a pass of the program's turn.
-use Rattle.std.specs.Prelude.{◌≡◌, ◌≢◌, ℕ, ◌+◌, ◌-◌, ◌<◌, ◌⊎◌, List, [], length, Bool, true, false, Result, Ok, All, IfSome, nat_lt, if◌then◌else◌, slice_index_or}
+use Rattle.std.specs.Prelude.{◌≡◌, ◌≢◌, ℕ, ◌+◌, ◌-◌, ◌<◌, ◌⊎◌, List, [], length, Bool, true, false, Result, Ok, Err, All, IfSome, nat_lt, if◌then◌else◌, slice_index_or}
 use Rattle.mpc_frac.specs.declared.NoMemory.{NoMemory}
 use Rattle.mpc_rows.specs.declared.programs.Qp.{Qp}
 use Rattle.mpc_claim.specs.declared.events.Event.{Event}
 use Rattle.mpc_claim.specs.declared.tickets.Claimed.{Claimed}
-use Rattle.mpc_claim.specs.declared.tickets.Claimed.TheVariants.{Job}
+use Rattle.mpc_claim.specs.declared.tickets.Claimed.TheVariants.{Job, Idle, Finished, Stopped}
 use Rattle.mpc_claim.specs.declared.tickets.Ticket.{Ticket}
 use Rattle.mpc_claim.specs.History.{has_drop, IsFinished, IsIdle, EndsWide}
 use Rattle.mpc_turn.specs.Views.{Call, hand_of}
@@ -44,6 +44,14 @@ pub record IsAnswered (worker : ℕ) (turn : TurnId) (qp : Qp) (answer : Result 
   pub pass : IsPassOf worker turn qp before
   pub kept : post.gave_up ≡ false → GivesNoneUp before.calls
   pub claimed : ClaimedAs before answer post.pass
+
+-- the answer of a claim gives no set out
+abbrev pub GivesNoJob : Result Claimed NoMemory → Type 0
+GivesNoJob (Ok (Job t)) = ⊥
+GivesNoJob (Ok Idle) = Unit {0}
+GivesNoJob (Ok Finished) = Unit {0}
+GivesNoJob (Ok Stopped) = Unit {0}
+GivesNoJob (Err e) = Unit {0}
 
 -- a post with this ticket's set in hand
 pub record IsBusy (worker : ℕ) (turn : TurnId) (qp : Qp) (ticket : Ticket) (post : Post) : Type 0 where

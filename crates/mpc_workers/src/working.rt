@@ -6,7 +6,7 @@ ghost use Rattle.mpc_space.specs.Matrix.{height};
 ghost use Rattle.mpc_sets.specs.RowSet.{IsSetOfRows};
 ghost use Rattle.mpc_rows.specs.declared.programs.Qp.{Qp as Program};
 ghost use Rattle.mpc_rows.specs.Verdicts.{IsRight};
-ghost use Rattle.mpc_workers.specs.Posts.{after, CallsOnlyAt, ComesFirst, HasNothing, IsAnswered, IsAtProgram, IsBusy, IsPost};
+ghost use Rattle.mpc_workers.specs.Posts.{after, AtEach, CallsOnlyAt, ComesFirst, GivesNoJob, HasNothing, IsAnswered, IsAtProgram, IsBusy, IsPost};
 ghost use Rattle.mpc_workers.specs.Seats.{IsSeat, KeepWorkers};
 
 use crate::seats::{Post, Seat};
@@ -83,7 +83,20 @@ impl<'a> Worker<'a> {
         }
     }
 
-    /// The verdict on a claimed set. An examiner begins at the worker's first set of the program.
+    /// The examiner of the program, which begins at the worker's first set there.
+    fn take_examiner(&mut self, alloc: Global, qp: &'a Qp) -> Result<Examiner<'a>, NoMemory>
+        requires { IfSome self.old.examiner (λ q. q ≡ qp.now) }
+        ensures program { self.new.program ≡ self.old.program }
+        ensures taken { self.new.examiner ≡ None }
+        ensures examiner { IfOk result (λ q. q ≡ qp.now) }
+    {
+        match self.examiner.take() {
+            Some(examiner) => Ok(examiner),
+            None => Examiner::begin(alloc, qp),
+        }
+    }
+
+    /// The verdict on a claimed set.
     fn examine(&mut self, alloc: Global, qp: &'a Qp, ticket: &Ticket) -> Result<Judged, NoMemory>
         requires definite { IsDefinite qp.now.h.rows }
         requires set_of_rows { IsSetOfRows (height qp.now.g) ticket.now.set }
@@ -94,10 +107,7 @@ impl<'a> Worker<'a> {
         ensures set { IfOk result (λ j. j.set ≡ ticket.now.set) }
         ensures right { IfOk result (λ j. IsRight qp.now ticket.now.set j.verdict) }
     {
-        let mut examiner = match self.examiner.take() {
-            Some(examiner) => examiner,
-            None => Examiner::begin(alloc, qp)?,
-        };
+        let mut examiner = self.take_examiner(alloc, qp)?;
         let judged = examiner.examine(alloc, ticket.set())?;
         self.examiner = Some(examiner);
         Ok(judged)
@@ -117,6 +127,7 @@ fn taken(
     ensures some { IfOk result (λ found. IfSome found (λ t. IsBusy post.old.pass.worker _turn.now _qp.now t post.new)) }
     ensures none { result ≡ Ok None → IsPost post.old.pass.worker _turn.now _qp.now post.new }
     ensures nothing { result ≡ Ok None → HasNothing _qp.now post.new.pass.seen }
+    ensures no_job { result ≡ Ok None → GivesNoJob answer }
     ensures err { OnErr result (IsPost post.old.pass.worker _turn.now _qp.now post.new) }
 {
     match answer {
@@ -275,19 +286,18 @@ fn place_after(from: usize, steps: usize, count: usize) -> usize
 fn work_at_next<'a, T: Wait, G: Gate>(
     pool: &Pool<'a, T, G>,
     worker: &mut Worker<'a>,
-    seat: &mut Seat,
+    _number: u32,
+    posts: &mut [Post],
 ) -> Result<bool, NoMemory>
     requires definite { All (λ (qp : Program). IsDefinite qp.h.rows) pool.now.programs.now }
     requires worker { IsAtProgram pool.now.programs.now worker.old }
-    requires seat { IsSeat pool.now.turns.now pool.now.programs.now pool.now.workers seat.old }
+    requires posts { AtEach (IsPost _number) pool.now.turns.now pool.now.programs.now posts.old }
     ensures worker { IsAtProgram pool.now.programs.now worker.new }
-    ensures seat { IsSeat pool.now.turns.now pool.now.programs.now pool.now.workers seat.new }
-    ensures same { seat.new.worker ≡ seat.old.worker }
-    ensures first { result ≡ Ok true → ComesFirst pool.now.programs.now seat.new.posts.items worker.old.program worker.new.program }
-    ensures only { result ≡ Ok true → CallsOnlyAt worker.new.program seat.old.posts.items seat.new.posts.items }
+    ensures posts { AtEach (IsPost _number) pool.now.turns.now pool.now.programs.now posts.new }
+    ensures first { result ≡ Ok true → ComesFirst pool.now.programs.now posts.new worker.old.program worker.new.program }
+    ensures only { result ≡ Ok true → CallsOnlyAt worker.new.program posts.old posts.new }
 {
     let from = worker.program;
-    let posts = seat.posts.as_mut_slice();
     for steps in 0..posts.len() {
         let k = place_after(from, steps, posts.len());
         match work_at(
@@ -298,8 +308,11 @@ fn work_at_next<'a, T: Wait, G: Gate>(
             worker,
             &mut posts[k],
         ) {
-            Ok(true) => return Ok(true),
-            Ok(false) => {}
+            Ok(took) => {
+                if took {
+                    return Ok(true);
+                }
+            }
             Err(refused) => return Err(refused),
         }
     }
@@ -329,7 +342,7 @@ fn work<'a, T: Wait, G: Gate>(pool: &Pool<'a, T, G>, seat: &mut Seat)
         if pool.news.is_called_off() {
             return;
         }
-        match work_at_next(pool, &mut worker, seat) {
+        match work_at_next(pool, &mut worker, seat.worker, seat.posts.as_mut_slice()) {
             Ok(true) => {}
             Ok(false) => {
                 if seat.posts.iter().all(|post| post.saw_end) {

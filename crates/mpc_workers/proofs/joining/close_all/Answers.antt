@@ -15,8 +15,8 @@ split : (workers n old : ℕ) (turns fewer : List TurnId) (programs : List Qp) (
 split workers n old turns fewer programs firsts rest t q p turns_is firsts_is count more l program_is a =
     popped (IsJoining workers 0) turns fewer programs firsts rest t q p n turns_is firsts_is count l program_is (subst (λ (i : ℕ). AtEach (IsJoining workers 0) turns (take i programs) firsts) more a)
 
-pub close_one-requires-clause-joined : goal.close_one-requires-clause-joined
-close_one-requires-clause-joined c =
+pub close_one-requires : goal.close_one-requires
+close_one-requires c =
     let long = one_longer c.loop-turn.turns.items c.pop.new.self.items c.in-Some.turn c.in-Some.ensures.items in
     let old_ok = c.loop-turn.turns.ok in
     let new_ok = c.pop.new.self.ok in

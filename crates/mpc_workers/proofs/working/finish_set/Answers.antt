@@ -1,0 +1,51 @@
+use Rattle.std.proofs.Common.{◌∙◌, refl, sym, subst, true≢false}
+use Rattle.mpc_rows.specs.declared.programs.Qp.{Qp}
+use Rattle.mpc_rows.specs.Verdicts.{IsRight}
+use Rattle.mpc_claim.specs.declared.events.EventKind.TheVariants.{Done, Drop}
+use Rattle.mpc_claim.specs.Board.{tag_of}
+use Rattle.mpc_workers.proofs.Hands.{answered_own, ended_kept, ended_pass, its_hand, its_program}
+use Rattle.mpc_workers.proofs.working.finish_set.Goals as goal
+
+pub abandon_as-requires-clause-hand : goal.abandon_as-requires-clause-hand
+abandon_as-requires-clause-hand g c = its_hand c.args.post.now.pass.worker c.args.turn.now c.args.qp.now c.args.ticket c.args.post.now c.requires.post c.hand_laws.ensures.in_hand
+
+pub returns-in-Err-clause-err : goal.returns-in-Err-clause-err
+returns-in-Err-clause-err g c = record {
+  pass = ended_pass c.args.post.now.pass.worker c.args.turn.now c.args.qp.now c.args.ticket c.args.post.now c.requires.post c.hand_laws.ensures.claimed c.hand_laws.ensures.ended Drop refl c.abandon_as.new.pass c.abandon_as.ensures;
+  kept = λ no. absurd (true≢false no);
+  ended = λ e. absurd (true≢false (sym e ∙ c.requires.post.working));
+}
+
+pub deliver_as-requires-clause-hand : goal.deliver_as-requires-clause-hand
+deliver_as-requires-clause-hand g c = its_hand c.args.post.now.pass.worker c.args.turn.now c.args.qp.now c.args.ticket c.args.post.now c.requires.post c.hand_laws.ensures.in_hand
+
+pub deliver_as-requires-clause-right : goal.deliver_as-requires-clause-right
+deliver_as-requires-clause-right g c =
+    subst (λ (q : Qp). IsRight q c.args.ticket.set c.in-Ok.judged.verdict) (sym (its_program c.args.post.now.pass.worker c.args.turn.now c.args.qp.now c.args.ticket c.args.post.now c.requires.post)) c.in-Ok.ensures.right
+
+pub returns-then-is_called_off-clause-err : goal.returns-then-is_called_off-clause-err
+returns-then-is_called_off-clause-err g c =
+    let kind = Done (tag_of c.in-Ok.judged.verdict) in
+    record {
+      pass = ended_pass c.args.post.now.pass.worker c.args.turn.now c.args.qp.now c.args.ticket c.args.post.now c.requires.post c.hand_laws.ensures.claimed c.hand_laws.ensures.ended kind refl c.deliver_as.new.pass c.deliver_as.ensures;
+      kept = ended_kept c.args.post.now.pass.worker c.args.turn.now c.args.qp.now c.args.ticket c.args.post.now c.requires.post c.hand_laws.ensures.claimed c.hand_laws.ensures.ended kind refl c.deliver_as.new.pass c.deliver_as.ensures refl;
+      ended = λ e. absurd (true≢false (sym e ∙ c.requires.post.working));
+    }
+
+pub deliver_then_claim_as-answer-requires-clause-hand : goal.deliver_then_claim_as-answer-requires-clause-hand
+deliver_then_claim_as-answer-requires-clause-hand g c = its_hand c.args.post.now.pass.worker c.args.turn.now c.args.qp.now c.args.ticket c.args.post.now c.requires.post c.hand_laws.ensures.in_hand
+
+pub deliver_then_claim_as-answer-requires-clause-right : goal.deliver_then_claim_as-answer-requires-clause-right
+deliver_then_claim_as-answer-requires-clause-right g c =
+    subst (λ (q : Qp). IsRight q c.args.ticket.set c.in-Ok.judged.verdict) (sym (its_program c.args.post.now.pass.worker c.args.turn.now c.args.qp.now c.args.ticket c.args.post.now c.requires.post)) c.in-Ok.ensures.right
+
+pub taken-requires-clause-answered : goal.taken-requires-clause-answered
+taken-requires-clause-answered g c =
+    let kind = Done (tag_of c.in-Ok.judged.verdict) in
+    let both = c.deliver_then_claim_as-answer.ensures in
+    answered_own c.args.post.now.pass.worker c.args.turn.now c.args.qp.now c.deliver_then_claim_as-answer.result _ (record {
+      before = both.0;
+      pass = ended_pass c.args.post.now.pass.worker c.args.turn.now c.args.qp.now c.args.ticket c.args.post.now c.requires.post c.hand_laws.ensures.claimed c.hand_laws.ensures.ended kind refl both.0 both.1;
+      kept = ended_kept c.args.post.now.pass.worker c.args.turn.now c.args.qp.now c.args.ticket c.args.post.now c.requires.post c.hand_laws.ensures.claimed c.hand_laws.ensures.ended kind refl both.0 both.1 refl;
+      claimed = both.2;
+    })
