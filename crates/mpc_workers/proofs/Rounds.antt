@@ -1,5 +1,5 @@
 -- From a worker's last program on and round.
-use Rattle.std.proofs.Common.{◌≡◌, ◌≢◌, ℕ, ◌+◌, ◌-◌, ◌<◌, ◌≤◌, ◌⊎◌, List, length, get_or, set, IfSome, Option, Some, None, sym, ap, ◌∙◌, subst, inl, inr, arith}
+use Rattle.std.proofs.Common.{◌≡◌, ◌≢◌, ℕ, ◌+◌, ◌-◌, ◌<◌, ◌≤◌, ◌⊎◌, List, length, get_or, set, IfSome, Option, Some, None, refl, sym, ap, ◌∙◌, subst, inl, inr, arith}
 use Rattle.std.specs.Prelude.{nat_lt, if◌then◌else◌}
 use Rattle.std.proofs.lemmas.Bool.Decides.{nat_tests}
 use Rattle.std.proofs.lemmas.List.{get_or-set_other, get_or-set_same}
@@ -10,16 +10,16 @@ use Rattle.mpc_turn.specs.Known.{TurnId}
 use Rattle.mpc_workers.specs.declared.seats.Post.{Post}
 use Rattle.mpc_workers.specs.declared.working.Worker.{Worker}
 use Rattle.mpc_workers.specs.Posts.{after, HasNothing, FindNothing, AtEach, CallsOnlyAt, IsAtProgram, IsPost}
-use Rattle.mpc_workers.proofs.Programs.{at_set, same_item}
+use Rattle.mpc_workers.proofs.Programs.{at_set, each_set, same_item}
 
 -- two numbers of steps lead to two places
 after_apart : (from i j count : ℕ) → from < count → i < j → j < count → after from i count ≢ after from j count
 after_apart from i j count a b c e = grind (arith, nat_tests)
 
 -- one program more has nothing to claim
-pub nothing_more : (programs : List Qp) (posts new : List Post) (from steps k : ℕ) (q : Qp) (x : Post) → new ≡ set posts k x → k ≡ after from steps (length programs) → from < length programs → steps < length programs → length posts ≡ length programs → k < length programs → q ≡ get_or programs k q
-    → FindNothing programs posts from steps → HasNothing q x.pass.seen → FindNothing programs new from (steps + 1)
-nothing_more programs posts new from steps k q x is place start within count here program_is before nothing i r p l =
+pub nothing_more : (programs : List Qp) (posts new : List Post) (from steps k : ℕ) (q : Qp) (x : Post) → new ≡ set posts k x → k ≡ after from steps (length programs) → from < length programs → steps < length programs → length posts ≡ length programs → k < length programs
+    → FindNothing programs posts from steps → HasNothing (get_or programs k q) x.pass.seen → FindNothing programs new from (steps + 1)
+nothing_more programs posts new from steps k q x is place start within count here before nothing i r p l =
     subst (λ (ps : List Post). HasNothing (get_or programs (after from i (length programs)) r) (get_or ps (after from i (length programs)) p).pass.seen) (sym is)
     (dite (dec_lt i steps)
     (λ m.
@@ -30,7 +30,7 @@ nothing_more programs posts new from steps k q x is place start within count her
     let there : k ≡ after from i (length programs) = place ∙ ap (λ (n : ℕ). after from n (length programs)) same in
     subst (λ (j : ℕ). HasNothing (get_or programs j r) (get_or (set posts k x) j p).pass.seen) there
     (subst (λ (v : Post). HasNothing (get_or programs k r) v.pass.seen) (sym (get_or-set_same posts k x p (omega (arith, here, count))))
-    (subst (λ (v : Qp). HasNothing v x.pass.seen) (program_is ∙ same_item programs k q r here) nothing))))
+    (subst (λ (v : Qp). HasNothing v x.pass.seen) (same_item programs k q r here) nothing))))
 
 -- a call at a later program leaves those before without anything to claim
 pub nothing_before : (programs : List Qp) (posts new : List Post) (from steps k : ℕ) (x : Post) → new ≡ set posts k x → k ≡ after from steps (length programs) → from < length programs → steps < length programs → FindNothing programs posts from steps → FindNothing programs new from steps
@@ -40,17 +40,15 @@ nothing_before programs posts new from steps k x is place start within before i 
     (subst (λ (v : Post). HasNothing (get_or programs (after from i (length programs)) r) v.pass.seen) (sym (get_or-set_other posts k (after from i (length programs)) x p apart)) (before i r p l))
 
 -- ---- the post of a program
-module _ (number : ℕ) (turns : List TurnId) (programs : List Qp) (posts : List Post) (k : ℕ) (t : TurnId) (q : Qp) (p : Post) (l : k < length programs) (turn_is : t ≡ get_or turns k t) (program_is : q ≡ get_or programs k q) (a : AtEach (IsPost number) turns programs posts) where
-  its_post : IsPost number t q (get_or posts k p)
-  its_post =
-      subst (λ (v : TurnId). IsPost number v q (get_or posts k p)) (sym turn_is)
-      (subst (λ (v : Qp). IsPost number (get_or turns k t) v (get_or posts k p)) (sym program_is) (a.each k t q p l))
+module _ (number : ℕ) (turns : List TurnId) (programs : List Qp) (posts : List Post) (k : ℕ) (t : TurnId) (q : Qp) (p : Post) (l : k < length programs) (a : AtEach (IsPost number) turns programs posts) where
+  pub own_post : IsPost (get_or posts k p).pass.worker (get_or turns k t) (get_or programs k q) (get_or posts k p)
+  own_post = let i = a.each k t q p l in subst (λ (w : ℕ). IsPost w (get_or turns k t) (get_or programs k q) (get_or posts k p)) (sym i.pass.worker_is) i
 
-  pub own_post : IsPost (get_or posts k p).pass.worker t q (get_or posts k p)
-  own_post = subst (λ (w : ℕ). IsPost w t q (get_or posts k p)) (sym its_post.pass.worker_is) its_post
-
-  pub own_back : (new : Post) → IsPost (get_or posts k p).pass.worker t q new → IsPost number t q new
-  own_back new i = subst (λ (w : ℕ). IsPost w t q new) its_post.pass.worker_is i
+  pub one_changed : (new : Post) → IsPost (get_or posts k p).pass.worker (get_or turns k t) (get_or programs k q) new → AtEach (IsPost number) turns programs (set posts k new)
+  one_changed new i =
+      let m = a.turns_are in
+      each_set (IsPost number) (IsPost number) turns programs posts _ k (get_or turns k t) (get_or programs k q) new refl l (same_item turns k t (get_or turns k t) (omega (arith, l, m))) (same_item programs k q (get_or programs k q) l) a (λ u r s h. h)
+      (subst (λ (w : ℕ). IsPost w (get_or turns k t) (get_or programs k q) new) (a.each k t q p l).pass.worker_is i)
 
 -- ---- the program of a worker and its examiner
 module _ (programs : List Qp) (k : ℕ) (qp : Qp) (within : k < length programs) (program_is : qp ≡ get_or programs k qp) where
