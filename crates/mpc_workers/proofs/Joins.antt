@@ -2,7 +2,7 @@
 use Rattle.std.proofs.Common.{◌≡◌, ◌⊎◌, ℕ, ◌+◌, ◌-◌, ◌<◌, ◌≤◌, List, [], ◌∷◌, ◌++◌, length, get_or, set, Bool, true, false, true≢false, All, refl, sym, ap, ◌∙◌, subst, inl, inr, arith, append_assoc}
 use Rattle.std.specs.Prelude.{◌||◌}
 use Rattle.std.proofs.Math.Seq.{get_or-append_seam}
-use Rattle.std.proofs.lemmas.List.{length-append, get_or_append_left, get_or-append_right}
+use Rattle.std.proofs.lemmas.List.{length-append, get_or_append_left}
 use Rattle.std.proofs.lemmas.List.Elements.{All-push, All-nil}
 use mathlib.Core.Logic.{dite}
 use native.Mathlib.Decide.{dec_lt}
@@ -13,7 +13,7 @@ use Rattle.mpc_workers.specs.declared.seats.Post.{Post}
 use Rattle.mpc_workers.specs.declared.seats.Seat.{Seat}
 use Rattle.mpc_workers.specs.Calls.{GivesNoneUp}
 use Rattle.mpc_workers.specs.Posts.{IsOpening, IsPost}
-use Rattle.mpc_workers.specs.Seats.{IsWorker, IsSeat, AreNumbered, KeepWorkers}
+use Rattle.mpc_workers.specs.Seats.{IsWorker, IsSeat, AreNumbered}
 use Rattle.mpc_workers.specs.Joined.{IsEnded, AreCountedDown, Joins, SeesEnd, IsJoining}
 use Rattle.mpc_workers.proofs.Holding.{rising}
 use Rattle.mpc_workers.proofs.Programs.{AtEachPlace, places_set}
@@ -134,32 +134,6 @@ module _ {X : Type 0} (P : X → Type 0) (xs : List X) (x : X) (a : All P (xs ++
 
   pub all_last : P x
   all_last = let l = length-append xs (x ∷ []) in subst P (get_or-append_seam xs x [] x) (a (length xs) x (omega (arith, l)))
-
--- ---- seats that keep their workers
-pub numbered_kept : (old new : List Seat) → KeepWorkers old new → AreNumbered old → AreNumbered new
-numbered_kept old new k a i d l = let same = k.len in let m : i < length old = omega (arith, l, same) in k.each i d m ∙ a i d m
-
--- two parts of a list, each with its workers kept
-pub kept_parts : (front front' back back' : List Seat) → KeepWorkers front front' → KeepWorkers back back' → KeepWorkers (front ++ back) (front' ++ back')
-kept_parts front front' back back' a b = record {
-  len =
-      let m = a.len in
-      let n = b.len in
-      let p = length-append front back in
-      let q = length-append front' back' in
-      omega (arith, m, n, p, q);
-  each = λ i d l. dite (dec_lt i (length front)) (λ m. in_front i d m) (λ m. let p = length-append front back in in_back i d (omega (arith, m)) (omega (arith, m, l, p)));
-}
-  where
-    in_front : (i : ℕ) (d : Seat) → i < length front → (get_or (front' ++ back') i d).worker ≡ (get_or (front ++ back) i d).worker
-    in_front i d m =
-        let n = a.len in
-        ap (λ (s : Seat). s.worker) (get_or_append_left front' back' d i (omega (arith, m, n))) ∙ (a.each i d m ∙ ap (λ (s : Seat). s.worker) (sym (get_or_append_left front back d i m)))
-
-    in_back : (i : ℕ) (d : Seat) → length front ≤ i → i - length front < length back → (get_or (front' ++ back') i d).worker ≡ (get_or (front ++ back) i d).worker
-    in_back i d m l =
-        let n = a.len in
-        ap (λ (s : Seat). s.worker) (get_or-append_right front' back' (length front) i d n m) ∙ (b.each (i - length front) d l ∙ ap (λ (s : Seat). s.worker) (sym (get_or-append_right front back (length front) i d refl m)))
 
 -- ---- the posts of a seat, one after the other
 -- so many are still to be taken back

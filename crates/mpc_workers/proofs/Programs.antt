@@ -1,8 +1,8 @@
 -- Lists with an item for each program.
-use Rattle.std.proofs.Common.{◌≡◌, ◌≢◌, ℕ, zero, suc, ◌+◌, ◌<◌, ◌≤◌, ◌⊎◌, inl, inr, List, [], ◌∷◌, ◌++◌, length, get_or, set, take, refl, sym, ap, ◌∙◌, subst, arith}
+use Rattle.std.proofs.Common.{◌≡◌, ◌≢◌, ℕ, zero, suc, ◌+◌, ◌<◌, List, [], ◌∷◌, ◌++◌, length, get_or, set, take, refl, sym, ap, ◌∙◌, subst, arith}
 use Rattle.std.specs.List.{AllZip}
 use Rattle.std.proofs.Math.Seq.{get_or-append_seam}
-use Rattle.std.proofs.lemmas.List.{length-append, length-set, take_more, get_or_append_left, get_or-set_same, get_or-set_other, set-get_or}
+use Rattle.std.proofs.lemmas.List.{length-append, length-set, take_more, get_or_append_left, get_or-set_same, get_or-set_other}
 use mathlib.Core.Logic.{dite}
 use native.Mathlib.Decide.{dec_lt}
 use Rattle.mpc_rows.specs.declared.programs.Qp.{Qp}
@@ -25,14 +25,6 @@ at_set P xs k j x d l here there =
     (λ n. let apart : j ≢ k = λ e. omega (arith, n, e) in subst (P j) (sym (get_or-set_other xs k j x d apart)) (there apart))
     (λ n. let same : k ≡ j = omega (arith, m, n) in
     subst (λ (i : ℕ). P i (get_or (set xs k x) i d)) same (subst (P k) (sym (get_or-set_same xs k x d l)) here)))
-
--- a write of the item that was there changes nothing
-pub set_again : {X : Type 0} (xs new : List X) (k : ℕ) (d x : X) → new ≡ set xs k x → x ≡ get_or xs k d → new ≡ xs
-set_again xs new k d x is same = is ∙ ap (set xs k) same ∙ set-get_or xs k d
-
--- equal lists have equal items
-pub one_item : {X : Type 0} (xs ys : List X) (k : ℕ) (d y : X) → xs ≡ ys → k < length ys → y ≡ get_or ys k y → get_or xs k d ≡ y
-one_item {X = X} xs ys k d y e l y_is = ap (λ (zs : List X). get_or zs k d) e ∙ same_item ys k d y l ∙ sym y_is
 
 -- ---- of each program, with the place of each
 pub record AtEachPlace (P : ℕ → TurnId → Qp → Post → Type 0) (turns : List TurnId) (programs : List Qp) (posts : List Post) : Type 0 where

@@ -1,6 +1,5 @@
 -- From a worker's last program on and round.
-use Rattle.std.proofs.Common.{◌≡◌, ◌≢◌, ℕ, ◌+◌, ◌-◌, ◌<◌, ◌≤◌, ◌⊎◌, List, length, get_or, set, IfSome, Option, Some, None, refl, sym, ap, ◌∙◌, subst, inl, inr, arith}
-use Rattle.std.specs.Prelude.{nat_lt, if◌then◌else◌}
+use Rattle.std.proofs.Common.{◌≡◌, ◌≢◌, ℕ, ◌+◌, ◌<◌, List, length, get_or, set, refl, sym, ap, ◌∙◌, subst, arith}
 use Rattle.std.proofs.lemmas.Bool.Decides.{nat_tests}
 use Rattle.std.proofs.lemmas.List.{get_or-set_other, get_or-set_same}
 use mathlib.Core.Logic.{dite}
@@ -8,8 +7,7 @@ use native.Mathlib.Decide.{dec_lt}
 use Rattle.mpc_rows.specs.declared.programs.Qp.{Qp}
 use Rattle.mpc_turn.specs.Known.{TurnId}
 use Rattle.mpc_workers.specs.declared.seats.Post.{Post}
-use Rattle.mpc_workers.specs.declared.working.Worker.{Worker}
-use Rattle.mpc_workers.specs.Posts.{after, HasNothing, FindNothing, AtEach, CallsOnlyAt, IsAtProgram, IsPost}
+use Rattle.mpc_workers.specs.Posts.{after, HasNothing, FindNothing, AtEach, CallsOnlyAt, IsPost}
 use Rattle.mpc_workers.proofs.Programs.{at_set, each_set, same_item}
 
 -- two numbers of steps lead to two places
@@ -49,37 +47,6 @@ module _ (number : ℕ) (turns : List TurnId) (programs : List Qp) (posts : List
       let m = a.turns_are in
       each_set (IsPost number) (IsPost number) turns programs posts _ k (get_or turns k t) (get_or programs k q) new refl l (same_item turns k t (get_or turns k t) (omega (arith, l, m))) (same_item programs k q (get_or programs k q) l) a (λ u r s h. h)
       (subst (λ (w : ℕ). IsPost w (get_or turns k t) (get_or programs k q) new) (a.each k t q p l).pass.worker_is i)
-
--- ---- the program of a worker and its examiner
-module _ (programs : List Qp) (k : ℕ) (qp : Qp) (within : k < length programs) (program_is : qp ≡ get_or programs k qp) where
-  same_program : (q : Qp) → q ≡ get_or programs k q → q ≡ qp
-  same_program q e = e ∙ (same_item programs k q qp within ∙ sym program_is)
-
-  -- the examiner of a worker who has turned to this program is that of the program
-  pub examiner_here : (old new : Worker) → IsAtProgram programs old → (old.program ≡ k → new ≡ old) → (old.program ≢ k → new.examiner ≡ None) → IfSome new.examiner (λ (q : Qp). q ≡ qp)
-  examiner_here old new a same other = dite (dec_lt old.program k)
-      (λ l. none (other (λ e. omega (arith, l, e))))
-      (λ l. dite (dec_lt k old.program)
-      (λ m. none (other (λ e. omega (arith, m, e))))
-      (λ m. let e : old.program ≡ k = omega (arith, l, m) in
-      subst (λ (w : Worker). IfSome w.examiner (λ (q : Qp). q ≡ qp)) (sym (same e)) (here old.examiner (subst (λ (i : ℕ). IfSome old.examiner (λ (q : Qp). q ≡ get_or programs i q)) e a.examiner))))
-    where
-      none : new.examiner ≡ None → IfSome new.examiner (λ (q : Qp). q ≡ qp)
-      none e = subst (λ (x : Option Qp). IfSome x (λ (q : Qp). q ≡ qp)) (sym e) tt
-
-      here : (x : Option Qp) → IfSome x (λ (q : Qp). q ≡ get_or programs k q) → IfSome x (λ (q : Qp). q ≡ qp)
-      here None h = tt
-      here (Some q) h = same_program q h
-
-  pub stays_at : (new : Worker) → new.program ≡ k → IfSome new.examiner (λ (q : Qp). q ≡ qp) → IsAtProgram programs new
-  stays_at new is examiner = record {
-    within = λ _. omega (arith, is, within);
-    examiner = subst (λ (i : ℕ). IfSome new.examiner (λ (q : Qp). q ≡ get_or programs i q)) (sym is) (there new.examiner examiner);
-  }
-    where
-      there : (x : Option Qp) → IfSome x (λ (q : Qp). q ≡ qp) → IfSome x (λ (q : Qp). q ≡ get_or programs k q)
-      there None h = tt
-      there (Some q) h = h ∙ (program_is ∙ same_item programs k qp q within)
 
 -- no program had a call so far
 abbrev pub HaveNoCalls : List Post → List Post → Type 0

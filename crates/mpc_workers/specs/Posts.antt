@@ -1,5 +1,5 @@
 -- What a worker has at each program: a post with a pass of the program's turn.
-use Rattle.std.specs.Prelude.{◌≡◌, ◌≢◌, ℕ, ◌+◌, ◌-◌, ◌<◌, ◌⊎◌, List, [], length, Bool, true, false, Result, Ok, Err, All, IfSome, nat_lt, if◌then◌else◌, slice_index_or}
+use Rattle.std.specs.Prelude.{◌≡◌, ◌≢◌, ℕ, ◌+◌, ◌-◌, ◌<◌, ◌⊎◌, List, [], length, true, false, Result, Ok, Err, All, IfSome, nat_lt, if◌then◌else◌, slice_index_or}
 use Rattle.mpc_frac.specs.declared.NoMemory.{NoMemory}
 use Rattle.mpc_rows.specs.declared.programs.Qp.{Qp}
 use Rattle.mpc_claim.specs.declared.events.Event.{Event}
