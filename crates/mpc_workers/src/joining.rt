@@ -14,14 +14,7 @@ use mpc_turn::Turn;
 use std::alloc::Global;
 
 /// Takes a post of this worker back into the first one of its program.
-fn join_post(
-    turn: &Turn,
-    _qp: &Qp,
-    _workers: u32,
-    _worker: u32,
-    first: &mut Post,
-    post: Post,
-)
+fn join_post(turn: &Turn, _qp: &Qp, _workers: u32, _worker: u32, first: &mut Post, post: Post)
     requires worker { IsWorker _workers _worker }
     requires post { IsPost _worker turn.now _qp.now post }
     requires first { IsJoining _workers _worker turn.now _qp.now first.old }
@@ -39,13 +32,7 @@ fn join_post(
 }
 
 /// Takes a worker's posts back.
-fn join_seat(
-    turns: &[Turn],
-    programs: &[Qp],
-    workers: u32,
-    firsts: &mut [Post],
-    seat: Seat,
-)
+fn join_seat(turns: &[Turn], programs: &[Qp], workers: u32, firsts: &mut [Post], seat: Seat)
     requires seat { IsSeat turns.now programs.now workers seat }
     requires firsts { AtEach (IsJoining workers seat.worker) turns.now programs.now firsts.old }
     ensures { AtEach (IsJoining workers (seat.worker - 1)) turns.now programs.now firsts.new }

@@ -146,12 +146,7 @@ fn taken(
 }
 
 /// Claims a set of a program.
-fn claim<T: Wait>(
-    rt: &T,
-    turn: &Turn,
-    qp: &Qp,
-    post: &mut Post,
-) -> Result<Option<Ticket>, NoMemory>
+fn claim<T: Wait>(rt: &T, turn: &Turn, qp: &Qp, post: &mut Post) -> Result<Option<Ticket>, NoMemory>
     requires working { post.old.saw_end ≡ false }
     requires post { IsPost post.old.pass.worker turn.now qp.now post.old }
     ensures calls { result ≡ Ok None → post.new.pass.calls ≡ post.old.pass.calls }
