@@ -81,7 +81,7 @@ fn vector_of(alloc: Global, row: &[Frac]) -> Result<Vector, NoMemory>
 }
 
 /// The affine form with these coefficients, the constant first, over its least common denominator.
-fn whole_form(alloc: Global, row: &[Frac], counts: &[u64]) -> Result<IntAffine, NoMemory>
+pub fn whole_form(alloc: Global, row: &[Frac], counts: &[u64]) -> Result<IntAffine, NoMemory>
     requires size { length row.now ≡ length counts.now + 1 }
     requires fits { FormFits counts.now row.now }
     ensures value { IfOk result (IsFormOf row.now) }

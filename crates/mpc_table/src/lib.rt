@@ -11,6 +11,9 @@ mod steps;
 mod tables;
 mod values;
 
+pub use forms::whole_form;
 pub use laws::table_laws;
 pub use replies::Reply;
-pub use tables::Table;
+pub use sides::no_sides;
+pub use tables::{Table, find_outside};
+pub use values::weighted_sum;

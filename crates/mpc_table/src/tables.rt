@@ -51,7 +51,7 @@ impl Model for Table {
 }
 
 /// The number, from 1, of the first count above its limit.
-fn find_outside(limits: &[u64], counts: &[u64]) -> Option<u32>
+pub fn find_outside(limits: &[u64], counts: &[u64]) -> Option<u32>
     requires sizes { length counts.now ≡ length limits.now }
     requires few { length limits.now ≤ 4 }
     ensures { result ≡ first_outside limits.now counts.now }

@@ -20,7 +20,7 @@ fn add_term(sum: i128, slope: i128, t: u64) -> i128
 }
 
 /// `start + k_1 t_1 + .. + k_n t_n`.
-fn weighted_sum(start: i128, slopes: &[i128], counts: &[u64]) -> i128
+pub fn weighted_sum(start: i128, slopes: &[i128], counts: &[u64]) -> i128
     requires sizes { length slopes.now ≡ length counts.now }
     requires within { unsigned_abs start + reach slopes.now counts.now < 2 ^ 127 }
     ensures value { result ≡ start +ℤ weighed slopes.now counts.now }
