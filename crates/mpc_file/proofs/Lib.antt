@@ -49,3 +49,5 @@ pub mod LineSetLemmas
 pub mod NamedLemmas
 pub mod WholeReading
 pub mod KeptTexts
+pub mod StatedLines
+pub mod WholeTexts

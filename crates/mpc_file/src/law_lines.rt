@@ -14,7 +14,7 @@ ghost use Rattle.mpc_file.specs.LawGrammar.{unknowns, IsLawLine, IsForm, move_ru
 use crate::errors::{FileError, FileKind};
 use crate::forms::{Forms, matrix_of};
 use crate::line_laws::{one_fractions, one_integers, one_number};
-use crate::lines::Lines;
+use crate::lines::{Lines, stated};
 use crate::spelling::{fractions_of, integers_of, number_of};
 use mpc_controller::{form_fits, limits};
 use mpc_frac::NoMemory;
@@ -96,10 +96,7 @@ pub fn read_set(alloc: Global, lines: &mut Lines, plant: &Plant) -> Result<Activ
 {
     let number = lines.number();
     let text = lines.take()?;
-    match set_in(alloc, text, plant)? {
-        Some(set) => Ok(set),
-        None => Err(FileError::Bad(FileKind::BadLine, number)),
-    }
+    stated(set_in(alloc, text, plant), number)
 }
 
 /// The affine form of `n` states that a line states behind its first word.
@@ -182,10 +179,7 @@ fn read_mult(alloc: Global, lines: &mut Lines, plant: &Plant) -> Result<Vector, 
 {
     let number = lines.number();
     let text = lines.take()?;
-    match form_in(alloc, text, b"mult", plant.n)? {
-        Some(form) => Ok(form),
-        None => Err(FileError::Bad(FileKind::BadLine, number)),
-    }
+    stated(form_in(alloc, text, b"mult", plant.n), number)
 }
 
 /// Reads the lines of the members' forms.

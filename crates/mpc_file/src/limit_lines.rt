@@ -11,7 +11,7 @@ ghost use Rattle.mpc_file.specs.LimitNumbers.{StatesRow, StatesAxis, IsStepCount
 
 use crate::errors::{FileError, FileKind};
 use crate::line_laws::{one_fractions, one_number};
-use crate::lines::Lines;
+use crate::lines::{Lines, stated};
 use crate::plant_lines::vector_of;
 use crate::plant_parts::{Limits, Sizes};
 use crate::spelling::{fractions_of, number_of};
@@ -186,10 +186,7 @@ fn read_row(alloc: Global, lines: &mut Lines, sizes: &Sizes) -> Result<PlantRow,
 {
     let number = lines.number();
     let line = lines.take()?;
-    match row_in(alloc, line, sizes)? {
-        Some(row) => Ok(row),
-        None => Err(FileError::Bad(FileKind::BadLine, number)),
-    }
+    stated(row_in(alloc, line, sizes), number)
 }
 
 /// Reads the line of a row of the end.
@@ -198,10 +195,7 @@ fn read_last(alloc: Global, lines: &mut Lines, sizes: &Sizes) -> Result<PlantRow
 {
     let number = lines.number();
     let line = lines.take()?;
-    match last_in(alloc, line, sizes)? {
-        Some(row) => Ok(row),
-        None => Err(FileError::Bad(FileKind::BadLine, number)),
-    }
+    stated(last_in(alloc, line, sizes), number)
 }
 
 /// Reads the line of a coordinate.
@@ -210,10 +204,7 @@ fn read_axis(alloc: Global, lines: &mut Lines) -> Result<Coordinate, FileError>
 {
     let number = lines.number();
     let line = lines.take()?;
-    match axis_in(alloc, line)? {
-        Some(axis) => Ok(axis),
-        None => Err(FileError::Bad(FileKind::BadLine, number)),
-    }
+    stated(axis_in(alloc, line), number)
 }
 
 /// Reads the lines of so many rows.

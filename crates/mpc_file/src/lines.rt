@@ -1,13 +1,14 @@
 //! The lines of a text, taken one after another.
 
-ghost use Rattle.std.specs.Prelude.{◌≡◌, ◌+◌, ◌^◌, ◌<◌, [], length, IfOk, IfErr, IsTrue, ◌↔◌};
+ghost use Rattle.std.specs.Prelude.{◌≡◌, ◌+◌, ◌^◌, ◌<◌, [], length, Ok, Err, IfOk, IfErr, MatchOption, MatchResult, IsTrue, ◌↔◌};
 ghost use Rattle.mpc_words.specs.Words.{IsWithout};
 ghost use Rattle.mpc_file.specs.Reading.{TakesLine};
 ghost use Rattle.mpc_file.specs.FileGrammar.{start};
-ghost use Rattle.mpc_file.specs.declared.errors.FileError.TheVariants.{Bad};
-ghost use Rattle.mpc_file.specs.declared.errors.FileKind.TheVariants.{Truncated};
+ghost use Rattle.mpc_file.specs.declared.errors.FileError.TheVariants.{Bad, NoMemory as NoMoreMemory};
+ghost use Rattle.mpc_file.specs.declared.errors.FileKind.TheVariants.{BadLine, Truncated};
 
 use crate::errors::{FileError, FileKind};
+use mpc_frac::NoMemory;
 use mpc_words::next_line;
 use std::marker::Model;
 
@@ -76,4 +77,13 @@ impl<'a> Lines<'a> {
             None => Err(FileError::Bad(FileKind::Truncated, self.number)),
         }
     }
+}
+
+/// What a line states, or that the line with this number states nothing.
+pub fn stated<T>(found: Result<Option<T>, NoMemory>, number: u64) -> Result<T, FileError>
+    ensures { MatchResult found
+        (λ it. MatchOption it (result ≡ Err (Bad BadLine number)) (λ x. result ≡ Ok x))
+        (λ _. result ≡ Err NoMoreMemory) }
+{
+    found?.ok_or(FileError::Bad(FileKind::BadLine, number))
 }

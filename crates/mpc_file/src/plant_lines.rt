@@ -12,9 +12,9 @@ ghost use Rattle.mpc_file.specs.PlantNumbers.{IsBetween, AreSizeNumbers, filled,
 ghost use Rattle.mpc_file.specs.declared.plant_parts.Sizes.{Sizes as SizesStated};
 ghost use Rattle.mpc_file.specs.declared.plant_parts.Targets.{Targets as TargetsStated};
 
-use crate::errors::{FileError, FileKind};
+use crate::errors::FileError;
 use crate::line_laws::{one_fractions, one_integers};
-use crate::lines::Lines;
+use crate::lines::{Lines, stated};
 use crate::plant_parts::{Dynamics, Offsets, Sizes, Targets, Weights};
 use crate::spelling::{fractions_of, integers_of};
 use crate::versions::Version;
@@ -74,10 +74,7 @@ pub(crate) fn read_sizes(alloc: Global, lines: &mut Lines) -> Result<Sizes, File
 {
     let number = lines.number();
     let line = lines.take()?;
-    match sizes_in(alloc, line)? {
-        Some(sizes) => Ok(sizes),
-        None => Err(FileError::Bad(FileKind::BadLine, number)),
-    }
+    stated(sizes_in(alloc, line), number)
 }
 
 /// Writes the entries of row i, behind those of the rows before it.
@@ -144,10 +141,7 @@ pub(crate) fn read_matrix(
 {
     let number = lines.number();
     let line = lines.take()?;
-    match matrix_in(alloc, line, name, rows, columns)? {
-        Some(matrix) => Ok(matrix),
-        None => Err(FileError::Bad(FileKind::BadLine, number)),
-    }
+    stated(matrix_in(alloc, line, name, rows, columns), number)
 }
 
 /// Whether two numbers are equal.
@@ -214,10 +208,7 @@ pub(crate) fn read_weight(
 {
     let number = lines.number();
     let line = lines.take()?;
-    match weight_in(alloc, line, name, size)? {
-        Some(matrix) => Ok(matrix),
-        None => Err(FileError::Bad(FileKind::BadLine, number)),
-    }
+    stated(weight_in(alloc, line, name, size), number)
 }
 
 /// Reads the lines of A and B.
@@ -269,10 +260,7 @@ fn read_drift(alloc: Global, lines: &mut Lines, states: u32) -> Result<Vector, F
 {
     let number = lines.number();
     let line = lines.take()?;
-    match drift_in(alloc, line, states)? {
-        Some(drift) => Ok(drift),
-        None => Err(FileError::Bad(FileKind::BadLine, number)),
-    }
+    stated(drift_in(alloc, line, states), number)
 }
 
 /// The vector of these entries.
@@ -359,10 +347,10 @@ fn read_targets(
 {
     let number = lines.number();
     let line = lines.take()?;
-    match allowed_targets_in(alloc, line, version, sizes, drift)? {
-        Some(targets) => Ok(targets),
-        None => Err(FileError::Bad(FileKind::BadLine, number)),
-    }
+    stated(
+        allowed_targets_in(alloc, line, version, sizes, drift),
+        number,
+    )
 }
 
 /// So many zeros.

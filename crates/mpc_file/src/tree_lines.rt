@@ -13,7 +13,7 @@ ghost use Rattle.mpc_file.specs.TreeReading.{pair_fractions, ReadsPlane, ReadsLe
 
 use crate::errors::{FileError, FileKind};
 use crate::line_laws::{one_fractions, one_integers};
-use crate::lines::Lines;
+use crate::lines::{Lines, stated};
 use crate::spelling::{fractions_of, integers_of, number_of};
 use crate::tree_depths::Depths;
 use mpc_controller::{limits, split_fits};
@@ -113,10 +113,7 @@ fn read_cert(alloc: Global, lines: &mut Lines, rows: u64) -> Result<Cert, FileEr
 {
     let number = lines.number();
     let line = lines.take()?;
-    match cert_in(alloc, line, rows)? {
-        Some(cert) => Ok(cert),
-        None => Err(FileError::Bad(FileKind::BadLine, number)),
-    }
+    stated(cert_in(alloc, line, rows), number)
 }
 
 /// Reads the lines of so many certificates, each over so many rows.

@@ -7,8 +7,15 @@ use Rattle.mpc_file.specs.LawGrammar.{IsForm, IsNewForm}
 use Rattle.mpc_file.specs.declared.errors.FileKind.TheVariants.{BadLine}
 use Rattle.mpc_file.proofs.OutcomeLemmas.{plain_reads, plain_bad}
 use Rattle.mpc_file.proofs.SpellingLemmas.{at_some}
-use Rattle.mpc_file.proofs.NamedLemmas.{is_new, is_old, one_more_known}
+use Rattle.mpc_file.proofs.FormLemmas.{at_none}
+use Rattle.mpc_file.proofs.NamedLemmas.{is_new, is_old, is_none, one_more_known}
 use Rattle.mpc_file.proofs.named_laws.read_new_form.Goals as goal
+
+pub returns-in_default-clause-outcome : goal.returns-in_default-clause-outcome
+returns-in_default-clause-outcome c =
+    subst (λ n. (one_line (plain_rule (IsNewForm c.args.plant.now.n c.args.before.now))).Fails c.args.lines.now BadLine n) (sym c.number-number.ensures)
+    (plain_bad (IsNewForm c.args.plant.now.n c.args.before.now) c.in_ok-text.ensures.taken
+    (is_none c.args.plant.now.n c.args.known.now c.args.before.now c.requires c.in_ok-text.text.now (at_none _ _ c.in_ok-form.field-0 c.in_default.is c.in_ok-form.ensures)))
 
 pub returns-then-not-branch-clause-outcome : goal.returns-then-not-branch-clause-outcome
 returns-then-not-branch-clause-outcome c =

@@ -1,5 +1,5 @@
-use Rattle.std.proofs.Common.{◌≡◌, ◌+◌, ◌∷◌, ◌++◌, [], take, sym, ap, subst, ◌∙◌}
-use Rattle.std.proofs.lemmas.List.{take_more}
+use Rattle.std.proofs.Common.{◌≡◌, ◌+◌, ◌∷◌, ◌++◌, [], take, sym, ap, subst, ◌∙◌, arith}
+use Rattle.std.proofs.lemmas.List.{take_more, take_all}
 use Rattle.std.proofs.lemmas.Option.{slice_get_within, get_or_from_slice_get}
 use Rattle.mpc_file.specs.FormNames.{AreLawsNumbered}
 use Rattle.mpc_file.specs.Names.{AreNames}
@@ -20,3 +20,13 @@ loop-j-preserved c = record {
   kept = kept_then _ _ _ c.loop-j.invariant.kept c.write_law.ensures.kept;
   names_kept = kept_then _ _ _ c.loop-j.invariant.names_kept c.write_law.ensures.names_kept;
 }
+
+pub returns-in_err-write_law-clause-kept : goal.returns-in_err-write_law-clause-kept
+returns-in_err-write_law-clause-kept c = kept_then _ _ _ c.loop-j.invariant.kept c.write_law.ensures.kept
+
+pub returns-in_err-write_law-clause-names_kept : goal.returns-in_err-write_law-clause-names_kept
+returns-in_err-write_law-clause-names_kept c = kept_then _ _ _ c.loop-j.invariant.names_kept c.write_law.ensures.names_kept
+
+pub returns-clause-numbered : goal.returns-clause-numbered
+returns-clause-numbered c = λ none.
+    subst (λ ls. AreLawsNumbered ls c.args.out.now.items c.loop-j.out.items (AreNames c.loop-j.names)) (take_all c.loop-j.j c.args.laws.now (omega (arith, c.len-j-end.ensures, c.loop-j-test.false))) (c.loop-j.invariant.numbered none)

@@ -1,6 +1,6 @@
 use Rattle.std.proofs.Math.Seq.{take-length}
 use Rattle.std.proofs.Common.{◌≡◌, ◌<◌, ◌+◌, List, ℕ, [], ◌∷◌, ◌++◌, length, map, take, sym, subst, ap, ◌∙◌, arith}
-use Rattle.std.proofs.lemmas.List.{take_more}
+use Rattle.std.proofs.lemmas.List.{take_more, take_all}
 use Rattle.mpc_file.specs.FormNames.{AreNumbered}
 use Rattle.mpc_file.specs.Names.{IsNamed, AreNames}
 use Rattle.mpc_file.specs.FormNames.{form_line}
@@ -31,3 +31,16 @@ loop-i-preserved c = record {
   kept = kept_then _ _ _ c.loop-i.invariant.kept c.write_count.ensures.kept;
   names_kept = kept_then _ _ _ c.loop-i.invariant.names_kept c.number.ensures.kept;
 }
+
+pub returns-in_err-number-clause-names_kept : goal.returns-in_err-number-clause-names_kept
+returns-in_err-number-clause-names_kept c = kept_then _ _ _ c.loop-i.invariant.names_kept c.number.ensures.kept
+
+pub returns-in_err-write_count-clause-kept : goal.returns-in_err-write_count-clause-kept
+returns-in_err-write_count-clause-kept c = kept_then _ _ _ c.loop-i.invariant.kept c.write_count.ensures.kept
+
+pub returns-in_err-write_count-clause-names_kept : goal.returns-in_err-write_count-clause-names_kept
+returns-in_err-write_count-clause-names_kept c = kept_then _ _ _ c.loop-i.invariant.names_kept c.number.ensures.kept
+
+pub returns-clause-numbered : goal.returns-clause-numbered
+returns-clause-numbered c = λ forms are.
+    subst (λ rs. AreNumbered forms rs c.args.out.now.items c.loop-i.out.items (AreNames c.loop-i.names)) (take_all c.loop-i.i c.args.matrix.now.rows (omega (arith, c.rows-i-end.ensures.value, c.loop-i-test.false))) (c.loop-i.invariant.numbered forms are)

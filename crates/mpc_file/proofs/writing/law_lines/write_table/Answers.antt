@@ -6,6 +6,7 @@ use Rattle.mpc_file.specs.Writing.{ended}
 use Rattle.mpc_file.specs.FormNames.{AreLawsNumbered}
 use Rattle.mpc_file.specs.Names.{AreNames}
 use Rattle.mpc_file.proofs.FormNameLemmas.{no_forms, table_written}
+use Rattle.mpc_file.proofs.KeptTexts.{kept_then}
 use Rattle.mpc_file.proofs.writing.law_lines.write_table.Goals as goal
 
 pub returns-clause-written : goal.returns-clause-written
@@ -19,3 +20,12 @@ returns-clause-written c =
     (c.in_ok-write_count_line-2.ensures.text ∙ ap (λ n. c.write_piece.new.out.items ++ ended (count_line (codes "laws") n)) c.len-2.ensures)
     (added ∙ ap (λ t. c.write_count_line-2.new.out.items ++ t) c.as_slice.ensures.value))
     c.write_piece-2.ensures.text
+
+pub returns-in_err-write_piece-clause-kept : goal.returns-in_err-write_piece-clause-kept
+returns-in_err-write_piece-clause-kept c = kept_then _ _ _ c.write_count_line.ensures.kept c.write_piece.ensures.kept
+
+pub returns-in_err-write_count_line-2-clause-kept : goal.returns-in_err-write_count_line-2-clause-kept
+returns-in_err-write_count_line-2-clause-kept c = kept_then _ _ _ (kept_then _ _ _ c.write_count_line.ensures.kept c.write_piece.ensures.kept) c.write_count_line-2.ensures.kept
+
+pub returns-clause-kept : goal.returns-clause-kept
+returns-clause-kept c = kept_then _ _ _ (kept_then _ _ _ (kept_then _ _ _ c.write_count_line.ensures.kept c.write_piece.ensures.kept) c.write_count_line-2.ensures.kept) c.write_piece-2.ensures.kept

@@ -1,8 +1,10 @@
 use Rattle.mpc_file.specs.Lines.{grid_line}
-use Rattle.mpc_file.specs.Writing.{ended}
+use Rattle.mpc_file.specs.Writing.{ended, text_of_lines}
 use Rattle.mpc_file.specs.WrittenFits.{AxisFits}
 use Rattle.mpc_file.proofs.GrownTexts.{mapped_at, all_at}
 use Rattle.mpc_file.proofs.KeptTexts.{kept_then}
+use Rattle.std.proofs.Common.{map, arith}
+use Rattle.mpc_file.proofs.WholeTexts.{whole_text, whole_list}
 use Rattle.mpc_file.proofs.writing.plant_lines.write_grid.Goals as goal
 
 pub loop-i-preserved : goal.loop-i-preserved
@@ -12,3 +14,12 @@ loop-i-preserved c =
       fits = all_at AxisFits c.args.grid.now c.loop-i.i c.at.result.now c.at.ensures c.loop-i.invariant.fits c.in_ok-write_coordinate.ensures.fits;
       kept = kept_then _ _ _ c.loop-i.invariant.kept c.write_coordinate.ensures.kept;
     }
+
+pub returns-in_err-write_coordinate-clause-kept : goal.returns-in_err-write_coordinate-clause-kept
+returns-in_err-write_coordinate-clause-kept c = kept_then _ _ _ c.loop-i.invariant.kept c.write_coordinate.ensures.kept
+
+pub returns-clause-text : goal.returns-clause-text
+returns-clause-text c = whole_text (λ axes. text_of_lines (map grid_line axes)) c.args.grid.now c.loop-i.i c.args.out.now.items c.loop-i.out.items (omega (arith, c.len-i-end.ensures, c.loop-i-test.false)) c.loop-i.invariant.text
+
+pub returns-clause-fits : goal.returns-clause-fits
+returns-clause-fits c = whole_list AxisFits c.args.grid.now c.loop-i.i (omega (arith, c.len-i-end.ensures, c.loop-i-test.false)) c.loop-i.invariant.fits

@@ -6,6 +6,7 @@ use Rattle.mpc_file.specs.Lines.{grid_line}
 use Rattle.mpc_file.specs.Writing.{ended, text_of_lines, size_line, matrix_lines, drift_line, goal_line, row_lines, last_lines}
 use Rattle.mpc_file.proofs.GrownTexts.{joined, line_and_blocks}
 use Rattle.mpc_file.proofs.PlantPrints.{lines_print}
+use Rattle.mpc_file.proofs.KeptTexts.{kept_then}
 use Rattle.mpc_file.proofs.writing.plant_lines.write_plant.Goals as goal
 
 pub returns-clause-text : goal.returns-clause-text
@@ -36,3 +37,21 @@ returns-clause-prints c =
       grid = fits;
     }))
     c.write_grid.ensures.fits
+
+pub returns-in_err-write_matrices-clause-kept : goal.returns-in_err-write_matrices-clause-kept
+returns-in_err-write_matrices-clause-kept c = kept_then _ _ _ c.write_size.ensures.kept c.write_matrices.ensures.kept
+
+pub returns-in_err-write_drift-clause-kept : goal.returns-in_err-write_drift-clause-kept
+returns-in_err-write_drift-clause-kept c = kept_then _ _ _ (kept_then _ _ _ c.write_size.ensures.kept c.write_matrices.ensures.kept) c.write_drift.ensures.kept
+
+pub returns-in_err-write_goal-clause-kept : goal.returns-in_err-write_goal-clause-kept
+returns-in_err-write_goal-clause-kept c = kept_then _ _ _ (kept_then _ _ _ (kept_then _ _ _ c.write_size.ensures.kept c.write_matrices.ensures.kept) c.write_drift.ensures.kept) c.write_goal.ensures.kept
+
+pub returns-in_err-write_rows-clause-kept : goal.returns-in_err-write_rows-clause-kept
+returns-in_err-write_rows-clause-kept c = kept_then _ _ _ (kept_then _ _ _ (kept_then _ _ _ (kept_then _ _ _ c.write_size.ensures.kept c.write_matrices.ensures.kept) c.write_drift.ensures.kept) c.write_goal.ensures.kept) c.write_rows.ensures.kept
+
+pub returns-in_err-write_terminal-clause-kept : goal.returns-in_err-write_terminal-clause-kept
+returns-in_err-write_terminal-clause-kept c = kept_then _ _ _ (kept_then _ _ _ (kept_then _ _ _ (kept_then _ _ _ (kept_then _ _ _ c.write_size.ensures.kept c.write_matrices.ensures.kept) c.write_drift.ensures.kept) c.write_goal.ensures.kept) c.write_rows.ensures.kept) c.write_terminal.ensures.kept
+
+pub returns-clause-kept : goal.returns-clause-kept
+returns-clause-kept c = kept_then _ _ _ (kept_then _ _ _ (kept_then _ _ _ (kept_then _ _ _ (kept_then _ _ _ (kept_then _ _ _ c.write_size.ensures.kept c.write_matrices.ensures.kept) c.write_drift.ensures.kept) c.write_goal.ensures.kept) c.write_rows.ensures.kept) c.write_terminal.ensures.kept) c.write_grid.ensures.kept

@@ -3,6 +3,8 @@ use Rattle.mpc_file.specs.Writing.{ended}
 use Rattle.mpc_file.specs.WrittenFits.{RowFits}
 use Rattle.mpc_file.proofs.GrownTexts.{mapped_at, all_at}
 use Rattle.mpc_file.proofs.KeptTexts.{kept_then}
+use Rattle.std.proofs.Common.{arith}
+use Rattle.mpc_file.proofs.WholeTexts.{whole_list}
 use Rattle.mpc_file.proofs.writing.plant_lines.write_rows.Goals as goal
 
 pub loop-i-preserved : goal.loop-i-preserved
@@ -12,3 +14,9 @@ loop-i-preserved c =
       fits = all_at RowFits c.args.rows.now c.loop-i.i c.at.result.now c.at.ensures c.loop-i.invariant.fits c.in_ok-write_row.ensures.fits;
       kept = kept_then _ _ _ c.loop-i.invariant.kept c.write_row.ensures.kept;
     }
+
+pub returns-in_err-write_row-clause-kept : goal.returns-in_err-write_row-clause-kept
+returns-in_err-write_row-clause-kept c = kept_then _ _ _ c.loop-i.invariant.kept c.write_row.ensures.kept
+
+pub returns-clause-fits : goal.returns-clause-fits
+returns-clause-fits c = whole_list RowFits c.args.rows.now c.loop-i.i (omega (arith, c.len-i-end.ensures, c.loop-i-test.false)) c.loop-i.invariant.fits

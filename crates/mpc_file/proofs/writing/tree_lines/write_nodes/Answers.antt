@@ -36,3 +36,9 @@ pub returns-clause-numbered : goal.returns-clause-numbered
 returns-clause-numbered c = λ plant good none.
     let done : length c.args.tree.now ≤ c.loop-k.k = omega (arith, c.len-k-end.ensures, c.loop-k-test.false) in
     subst (λ ns. AreNodesNumbered plant ns c.args.out.now.items c.loop-k.out.items (AreNames c.loop-k.names)) (take_all c.loop-k.k c.args.tree.now done) (c.loop-k.invariant.numbered plant good none)
+
+pub returns-in_err-write_node-clause-kept : goal.returns-in_err-write_node-clause-kept
+returns-in_err-write_node-clause-kept c = kept_then _ _ _ c.loop-k.invariant.kept c.write_node.ensures.kept
+
+pub returns-in_err-write_node-clause-names_kept : goal.returns-in_err-write_node-clause-names_kept
+returns-in_err-write_node-clause-names_kept c = kept_then _ _ _ c.loop-k.invariant.names_kept c.write_node.ensures.names_kept

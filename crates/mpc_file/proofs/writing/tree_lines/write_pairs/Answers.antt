@@ -1,8 +1,11 @@
-use Rattle.std.proofs.Common.{◌∷◌}
+use Rattle.std.proofs.Common.{◌∷◌, arith}
 use Rattle.mpc_file.specs.Lines.{pair_words}
 use Rattle.mpc_file.proofs.GrownTexts.{spread_at, all_at}
 use Rattle.mpc_file.specs.PlaneNames.{IsPairFit}
 use Rattle.mpc_file.proofs.KeptTexts.{kept_then}
+use Rattle.std.specs.List.{flat_map}
+use Rattle.mpc_words.specs.Words.{behind_blanks}
+use Rattle.mpc_file.proofs.WholeTexts.{whole_text, whole_list}
 use Rattle.mpc_file.proofs.writing.tree_lines.write_pairs.Goals as goal
 
 pub loop-i-preserved : goal.loop-i-preserved
@@ -11,3 +14,12 @@ loop-i-preserved c = record {
   fits = all_at IsPairFit c.args.cert.now c.loop-i.i c.at.result.now c.at.ensures c.loop-i.invariant.fits c.in_ok-write_pair.ensures.fits;
   kept = kept_then _ _ _ c.loop-i.invariant.kept c.write_pair.ensures.kept;
 }
+
+pub returns-in_err-write_pair-clause-kept : goal.returns-in_err-write_pair-clause-kept
+returns-in_err-write_pair-clause-kept c = kept_then _ _ _ c.loop-i.invariant.kept c.write_pair.ensures.kept
+
+pub returns-clause-text : goal.returns-clause-text
+returns-clause-text c = whole_text (λ pairs. behind_blanks (flat_map pair_words pairs)) c.args.cert.now c.loop-i.i c.args.out.now.items c.loop-i.out.items (omega (arith, c.len-i-end.ensures, c.loop-i-test.false)) c.loop-i.invariant.text
+
+pub returns-clause-fits : goal.returns-clause-fits
+returns-clause-fits c = whole_list IsPairFit c.args.cert.now c.loop-i.i (omega (arith, c.len-i-end.ensures, c.loop-i-test.false)) c.loop-i.invariant.fits

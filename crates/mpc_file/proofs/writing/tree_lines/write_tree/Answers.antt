@@ -3,6 +3,7 @@ use Rattle.std.proofs.lemmas.Result.{on_ok_weaker}
 use Rattle.mpc_file.specs.PlaneNames.{AreNodesNumbered}
 use Rattle.mpc_file.specs.Names.{AreNames}
 use Rattle.mpc_file.proofs.PlaneLemmas.{no_planes, tree_written, few_bytes}
+use Rattle.mpc_file.proofs.KeptTexts.{kept_then}
 use Rattle.mpc_file.proofs.writing.tree_lines.write_tree.Goals as goal
 
 pub returns-clause-written : goal.returns-clause-written
@@ -15,3 +16,12 @@ returns-clause-written c =
     c.in_ok-write_count_line.ensures.text c.in_ok-write_piece.ensures.text c.in_ok-write_piece-2.ensures.text
     (added ∙ ap (λ t. c.write_piece-2.new.out.items ++ t) c.as_slice.ensures.value))
     c.write_piece-3.ensures.text
+
+pub returns-in_err-write_piece-clause-kept : goal.returns-in_err-write_piece-clause-kept
+returns-in_err-write_piece-clause-kept c = kept_then _ _ _ c.write_count_line.ensures.kept c.write_piece.ensures.kept
+
+pub returns-in_err-write_piece-2-clause-kept : goal.returns-in_err-write_piece-2-clause-kept
+returns-in_err-write_piece-2-clause-kept c = kept_then _ _ _ (kept_then _ _ _ c.write_count_line.ensures.kept c.write_piece.ensures.kept) c.write_piece-2.ensures.kept
+
+pub returns-clause-kept : goal.returns-clause-kept
+returns-clause-kept c = kept_then _ _ _ (kept_then _ _ _ (kept_then _ _ _ c.write_count_line.ensures.kept c.write_piece.ensures.kept) c.write_piece-2.ensures.kept) c.write_piece-3.ensures.kept

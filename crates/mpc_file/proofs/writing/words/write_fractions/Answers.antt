@@ -14,3 +14,6 @@ loop-fraction-preserved c =
       fits = all_next FitsFrac xs c.loop-fraction.fraction-index x x c.loop-fraction-test.true c.fraction-item.is c.loop-fraction.invariant.fits c.write_fraction.ensures.fits;
       kept = kept_then _ _ _ c.loop-fraction.invariant.kept c.write_fraction.ensures.kept;
     }
+
+pub returns-in_err-write_fraction-clause-kept : goal.returns-in_err-write_fraction-clause-kept
+returns-in_err-write_fraction-clause-kept c = kept_then _ _ _ c.loop-fraction.invariant.kept c.write_fraction.ensures.kept

@@ -6,6 +6,7 @@ use Rattle.std.specs.Ordering.{nat_cmp, is_eq}
 use Rattle.std.specs.Cmp.Lexicographic.{slice_cmp}
 use Rattle.mpc_file.specs.Writing.{ended}
 use Rattle.mpc_file.specs.Names.{AreNames, IsNamed}
+use Rattle.mpc_file.proofs.KeptTexts.{kept_then}
 use Rattle.mpc_file.proofs.NameLemmas.{is_found, named_before, named_behind}
 use Rattle.mpc_file.proofs.writing.names.Names.number.Goals as goal
 
@@ -25,3 +26,12 @@ returns-clause-named c = λ lines are.
     (named_behind c.args.self.now (record { numbers = c.insert.new.self; text = c.end_line.new.out }) lines c.args.line are absent
     (λ q. insert.updates.0 q ∙ ap (λ k. cond (is_eq (slice_cmp nat_cmp c.args.line.items q.items)) (Some k) (get (λ x y. slice_cmp nat_cmp x.items y.items) c.args.self.now.numbers q)) size)
     grown text)
+
+pub returns-in_err-end_line-clause-kept : goal.returns-in_err-end_line-clause-kept
+returns-in_err-end_line-clause-kept c = kept_then _ _ _ c.write_piece.ensures.kept c.end_line.ensures.kept
+
+pub returns-in_err-insert-clause-kept : goal.returns-in_err-insert-clause-kept
+returns-in_err-insert-clause-kept c = kept_then _ _ _ c.write_piece.ensures.kept c.end_line.ensures.kept
+
+pub returns-clause-kept : goal.returns-clause-kept
+returns-clause-kept c = kept_then _ _ _ c.write_piece.ensures.kept c.end_line.ensures.kept
