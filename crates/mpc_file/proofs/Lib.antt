@@ -51,3 +51,4 @@ pub mod WholeReading
 pub mod KeptTexts
 pub mod StatedLines
 pub mod WholeTexts
+pub mod FoundPlanes

@@ -19,3 +19,4 @@ pub mod Names
 pub mod FormNames
 pub mod PlaneNames
 pub mod Statable
+pub mod Unsealed

@@ -4,6 +4,7 @@ ghost use Rattle.std.specs.Prelude.{◌≡◌, IfOk, IfErr};
 ghost use Rattle.mpc_controller.specs.Bounds.{IsController};
 ghost use Rattle.mpc_file.specs.Reading.{Outcome, one_line};
 ghost use Rattle.mpc_file.specs.PlantGrammar.{plain_rule};
+ghost use Rattle.mpc_file.specs.Unsealed.{unsealed};
 ghost use Rattle.mpc_file.specs.FileGrammar.{IsEnd, written, named, behind_plant, in_version, IsSpelled, ExplainsFileError};
 
 use crate::errors::{FileError, FileKind};
@@ -47,29 +48,50 @@ fn sealed(alloc: Global, plant: Plant, laws: LawTable, tree: Tree) -> Result<Con
 }
 
 /// Reads what stands behind the plant where forms and rows are written out.
-fn read_written(alloc: Global, lines: &mut Lines, plant: Plant) -> Result<Controller, FileError>
-    ensures { Outcome (written plant) lines.old lines.new result }
+fn read_written(
+    alloc: Global,
+    lines: &mut Lines,
+    plant: &Plant,
+) -> Result<(LawTable, Tree), FileError>
+    ensures { Outcome (unsealed plant.now (written plant.now)) lines.old lines.new result }
 {
     preorder_laws();
-    let laws = read_written_laws(alloc, lines, &plant)?;
-    let tree = read_written_tree(alloc, lines, &plant, laws.len() as u64)?;
+    let laws = read_written_laws(alloc, lines, plant)?;
+    let tree = read_written_tree(alloc, lines, plant, laws.len() as u64)?;
     read_word(lines, b"end")?;
-    let controller = sealed(alloc, plant, laws, tree)?;
-    Ok(controller)
+    Ok((laws, tree))
 }
 
 /// Reads what stands behind the plant where forms and rows are named.
-fn read_named(alloc: Global, lines: &mut Lines, plant: Plant) -> Result<Controller, FileError>
-    ensures { Outcome (named plant) lines.old lines.new result }
+fn read_named(
+    alloc: Global,
+    lines: &mut Lines,
+    plant: &Plant,
+) -> Result<(LawTable, Tree), FileError>
+    ensures { Outcome (unsealed plant.now (named plant.now)) lines.old lines.new result }
 {
     preorder_laws();
-    let forms = read_forms(alloc, lines, &plant)?;
-    let (laws, used) = read_named_laws(alloc, lines, &plant, &forms)?;
-    let planes = read_planes(alloc, lines, &plant, forms.len() as u64, used)?;
-    let (tree, splits) = read_named_tree(alloc, lines, &plant, laws.len() as u64, &planes)?;
+    let forms = read_forms(alloc, lines, plant)?;
+    let (laws, used) = read_named_laws(alloc, lines, plant, &forms)?;
+    let planes = read_planes(alloc, lines, plant, forms.len() as u64, used)?;
+    let (tree, splits) = read_named_tree(alloc, lines, plant, laws.len() as u64, &planes)?;
     read_end(lines, planes.len() as u64, splits)?;
-    let controller = sealed(alloc, plant, laws, tree)?;
-    Ok(controller)
+    Ok((laws, tree))
+}
+
+/// Reads the laws and the tree that stand behind the plant.
+fn read_parts(
+    alloc: Global,
+    lines: &mut Lines,
+    version: Version,
+    plant: &Plant,
+) -> Result<(LawTable, Tree), FileError>
+    ensures { Outcome (unsealed plant.now (behind_plant version plant.now)) lines.old lines.new result }
+{
+    match version {
+        Version::One | Version::Two => read_written(alloc, lines, plant),
+        Version::Three => read_named(alloc, lines, plant),
+    }
 }
 
 /// Reads what stands behind the plant.
@@ -81,10 +103,9 @@ fn read_behind_plant(
 ) -> Result<Controller, FileError>
     ensures { Outcome (behind_plant version plant) lines.old lines.new result }
 {
-    match version {
-        Version::One | Version::Two => read_written(alloc, lines, plant),
-        Version::Three => read_named(alloc, lines, plant),
-    }
+    let (laws, tree) = read_parts(alloc, lines, version, &plant)?;
+    let controller = sealed(alloc, plant, laws, tree)?;
+    Ok(controller)
 }
 
 /// Reads what stands behind the first line.

@@ -1,6 +1,6 @@
 use Rattle.std.proofs.Common.{◌∙◌, codes, length, inr, sym, subst}
 use Rattle.std.proofs.lemmas.Bool.{false≢true}
-use Rattle.mpc_file.specs.declared.tree_lines.PlaneLine.TheVariants.{Plane, Wide}
+use Rattle.mpc_file.specs.declared.tree_lines.PlaneLine.TheVariants.{Plane, NoPlane, Wide, NoRow}
 use Rattle.mpc_file.specs.TreeReading.{ReadsPlane}
 use Rattle.mpc_file.proofs.TreeReading.{plane_reads}
 use Rattle.mpc_file.proofs.PlaneLists.{not_new, no_other, is_new, one_plane_more}
@@ -64,3 +64,13 @@ returns-in-Wide-clause-read c = λ plant rows e are.
         ),
       ),
     )
+
+pub returns-in-NoPlane-clause-read : goal.returns-in-NoPlane-clause-read
+returns-in-NoPlane-clause-read c = λ plant rows e are.
+    let p = plane_reads (codes "plane") plant c.args.counts.now e c.in_ok-line.line.now c.in_ok-row.field-0 NoPlane c.in-NoPlane.is c.in_ok-row.ensures in
+    (c.number-number.ensures, inr (c.in_ok-line.line.now, (c.take.new.self, (c.in_ok-line.ensures.taken, p))))
+
+pub returns-in-NoRow-clause-read : goal.returns-in-NoRow-clause-read
+returns-in-NoRow-clause-read c = λ plant rows e are.
+    let p = plane_reads (codes "plane") plant c.args.counts.now e c.in_ok-line.line.now c.in_ok-row.field-0 NoRow c.in-NoRow.is c.in_ok-row.ensures in
+    (c.number-number.ensures, inr (c.in_ok-line.line.now, (c.take.new.self, (c.in_ok-line.ensures.taken, ((λ row is. p row is.plane_is.row_is), (λ no. p no.0 no.1.0))))))

@@ -1,0 +1,17 @@
+-- The laws and the tree of a controller whose plant is read.
+use Rattle.std.specs.Prelude.{List}
+use Rattle.mpc_plant.specs.declared.plants.Plant.{Plant}
+use Rattle.mpc_rows.specs.declared.laws.Law.{Law}
+use Rattle.mpc_rows.specs.declared.trees.Node.{Node}
+use Rattle.mpc_controller.specs.Parts.{Parts}
+use Rattle.mpc_controller.specs.Bounds.{IsController}
+use Rattle.mpc_file.specs.Reading.{Grammar}
+use Rattle.mpc_file.specs.FileGrammar.{parts_with}
+
+-- the same lines, which state the laws and the tree beside this plant; the three are a controller
+abbrev pub unsealed : Plant → Grammar Parts → Grammar (List Law × List Node)
+unsealed plant whole =
+    record {
+      Reads = λ here parts behind. whole.Reads here (parts_with plant parts.0 parts.1) behind × IsController plant parts.0 parts.1;
+      Fails = whole.Fails;
+    }
