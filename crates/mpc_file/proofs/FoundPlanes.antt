@@ -1,5 +1,5 @@
 -- The row that the integers of a line are, and what it is as a plane.
-use Rattle.std.proofs.Common.{◌≡◌, ℕ, ◌+◌, ◌∷◌, ◌++◌, List, [], length, ℤ, sym, subst, ◌∙◌}
+use Rattle.std.proofs.Common.{◌≡◌, ℕ, ◌∷◌, ◌++◌, List, [], length, ℤ, sym, subst, ◌∙◌}
 use Rattle.mpc_linear.specs.Whole.{AreSmall}
 use Rattle.mpc_linear.specs.declared.integers.RowInt.{RowInt}
 use Rattle.mpc_file.specs.Lines.{integers_line}

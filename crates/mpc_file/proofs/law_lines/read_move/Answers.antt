@@ -1,7 +1,6 @@
 use Rattle.std.proofs.Common.{◌<◌, List, codes, sym, subst, ◌∙◌}
 use Rattle.std.proofs.lemmas.Bool.{false≢true}
 use Rattle.mpc_exact.specs.Rational.{ℚ}
-use Rattle.mpc_controller.specs.Parts.{limits_of}
 use Rattle.mpc_controller.specs.Bounds.{FormFits}
 use Rattle.mpc_file.specs.Reading.{one_line}
 use Rattle.mpc_file.specs.LawGrammar.{IsForm, move_rule}

@@ -1,4 +1,4 @@
-use Rattle.std.proofs.Common.{◌≡◌, ◌∷◌, ℤ, pos, get_or, to_z, of_z, rules}
+use Rattle.std.proofs.Common.{◌∷◌, ℤ, pos, get_or, to_z, of_z, rules}
 use Rattle.std.specs.Fmt.{signed_decimal}
 use Rattle.std.specs.Int.{w128}
 use Rattle.std.proofs.lemmas.Int.{to_z-of_z}
