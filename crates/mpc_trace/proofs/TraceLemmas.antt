@@ -1,5 +1,5 @@
 -- The history that a registry is written as.
-use Rattle.std.proofs.Common.{◌≡◌, ℕ, ◌<◌, List, [], ◌∷◌, ◌++◌, ◌+◌, length, get_or, take, append_assoc, sym, ◌∙◌, ap, subst}
+use Rattle.std.proofs.Common.{◌≡◌, ℕ, ◌<◌, List, [], ◌∷◌, ◌++◌, ◌+◌, length, get_or, take, append_assoc, sym, ◌∙◌, ap}
 use Rattle.std.proofs.lemmas.List.{append-nil, take_more}
 use Rattle.mpc_plant.specs.declared.plants.Plant.{Plant}
 use Rattle.mpc_claim.specs.declared.events.Event.{Event}

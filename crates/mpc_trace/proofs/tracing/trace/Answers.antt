@@ -1,7 +1,7 @@
 use Rattle.mpc_trace.proofs.TraceLemmas.{traced}
 use Rattle.mpc_trace.proofs.tracing.trace.Goals as goal
 
-pub returns : goal.returns
-returns c =
+pub returns-clause-trace : goal.returns-clause-trace
+returns-clause-trace c =
     traced c.legal_laws.ensures.legal c.legal_laws.ensures.claims c.legal_laws.ensures.appended c.history_laws.ensures.legal_beginnings
     c.args.registry.now c.history.result.now c.in_ok-text.text.items c.history.ensures.value c.in_ok-text.ensures
