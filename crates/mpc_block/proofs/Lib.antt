@@ -1,0 +1,4 @@
+pub mod SumLemmas
+pub mod BlockLemmas
+pub mod MoveLemmas
+pub mod ReplyLemmas

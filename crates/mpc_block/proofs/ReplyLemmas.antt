@@ -1,0 +1,91 @@
+-- The replies of a block.
+use Rattle.std.proofs.Common.{◌≡◌, ℕ, zero, suc, ◌+◌, ◌-◌, ◌<◌, ◌≤◌, List, [], ◌∷◌, length, max, Some, None, refl, sym, ◌∙◌, ap, subst, arith}
+use Rattle.std.specs.Prelude.{slice_get, slice_range}
+use Rattle.std.proofs.lemmas.List.{length-map}
+use Rattle.mpc_plant.specs.Limits.{IsFromTo}
+use Rattle.mpc_plant.specs.declared.lists.Coordinate.{Coordinate}
+use Rattle.mpc_rows.specs.declared.laws.Law.{Law as LawOfSet}
+use Rattle.mpc_rows.specs.declared.trees.Node.{Node}
+use Rattle.mpc_rows.specs.declared.trees.Node.TheVariants.{Split, Law, NoMove}
+use Rattle.mpc_controller.specs.Parts.{Parts, limits_of, IsNodeFor}
+use Rattle.mpc_controller.specs.Replies.{first_outside, IsLawNumbered}
+use Rattle.mpc_table.specs.TableReplies.{IsMoveReply, IsInfeasibleReply}
+use Rattle.mpc_block.specs.Block.{height_at, side_at, IsNodeLine}
+use Rattle.mpc_block.specs.Walks.{Serves, FindsLeaf}
+use Rattle.mpc_block.specs.BlockReplies.{Suits}
+use Rattle.mpc_block.proofs.SumLemmas.{none_outside}
+use Rattle.mpc_block.proofs.BlockLemmas.{node_at, all_at}
+
+law_at : (laws : List LawOfSet) (j : ℕ) → j < length laws → (law : LawOfSet) × (slice_get laws j ≡ Some law)
+law_at [] j h = absurd (omega arith)
+law_at (l ∷ ls) zero h = (l, refl)
+law_at (l ∷ ls) (suc j) h = law_at ls j (omega arith)
+
+module _ (words counts : List ℕ) (room : ℕ) (parts : Parts) (suits : Suits words counts room parts) (none : None ≡ first_outside (slice_range words 4 (4 + length counts)) counts) where
+  limits_are : slice_range words 4 (4 + length counts) ≡ limits_of parts.plant
+  limits_are = ap (λ n. slice_range words 4 (4 + n)) suits.one_each ∙ suits.block.limits
+
+  pub inside_limits : first_outside (limits_of parts.plant) counts ≡ None
+  inside_limits = ap (λ limits. first_outside limits counts) (sym limits_are) ∙ sym none
+
+  pub serves : Serves words counts parts
+  serves = record {
+    block = suits.block;
+    up_to = none_outside 1 (limits_of parts.plant) counts (suits.one_each ∙ sym (length-map parts.plant.grid (λ (axis : Coordinate). axis.count) ∙ parts.plant.is_plant.grid_size)) inside_limits;
+  }
+
+  module _ (node law : ℕ) (finds : FindsLeaf words counts parts node law) where
+    there : (leaf : Node) × (slice_get parts.tree finds.place ≡ Some leaf)
+    there = node_at parts.tree finds.place finds.ends.inside
+
+    fits : (leaf : Node) → slice_get parts.tree finds.place ≡ Some leaf → IsNodeFor parts.plant.n (length parts.laws) leaf
+    fits leaf at = all_at (IsNodeFor parts.plant.n (length parts.laws)) parts.tree finds.place leaf at suits.block.controller.shapes.nodes_fit
+
+    no_split : (height a b : ℕ) → height ≡ 0 → height ≡ 1 + max a b → ⊥
+    no_split height a b e h = omega arith
+
+    pub infeasible_reply : law ≡ 0 → IsInfeasibleReply parts counts node
+    infeasible_reply is_zero = by there.0 there.1
+      where
+        by : (leaf : Node) → slice_get parts.tree finds.place ≡ Some leaf → IsInfeasibleReply parts counts node
+        by (Split row) at = absurd (no_split _ _ _ finds.ends.height (suits.block.tree finds.place (Split row) at).height)
+        by (Law number certs) at =
+            let from : 1 ≤ number = (fits (Law number certs) at).from_low in
+            let is : law ≡ number = finds.law_is ∙ (suits.block.tree finds.place (Law number certs) at).law_is in
+            absurd (omega arith)
+        by (NoMove cert) at = record {
+          inside = inside_limits;
+          place = finds.place;
+          node_is = finds.node_is;
+          cert = cert;
+          ends = record { reached = finds.ends.reached; node_at = at; is_leaf = tt };
+        }
+
+    pub move_reply : ¬ law ≡ 0 → IsMoveReply parts counts node law
+    move_reply not_zero = by there.0 there.1
+      where
+        by : (leaf : Node) → slice_get parts.tree finds.place ≡ Some leaf → IsMoveReply parts counts node law
+        by (Split row) at = absurd (no_split _ _ _ finds.ends.height (suits.block.tree finds.place (Split row) at).height)
+        by (NoMove cert) at = absurd (not_zero (finds.law_is ∙ (suits.block.tree finds.place (NoMove cert) at).law_is))
+        by (Law number certs) at =
+            let is : number ≡ law = sym (finds.law_is ∙ (suits.block.tree finds.place (Law number certs) at).law_is) in
+            record {
+              inside = inside_limits;
+              place = finds.place;
+              node_is = finds.node_is;
+              certs = certs;
+              ends = record { reached = finds.ends.reached; node_at = at ∙ ap (λ k. Some (Law k certs)) is; is_leaf = tt };
+            }
+
+    pub named_law : ¬ law ≡ 0 → (of_set : LawOfSet) × IsLawNumbered parts.laws law of_set
+    named_law not_zero = by there.0 there.1
+      where
+        by : (leaf : Node) → slice_get parts.tree finds.place ≡ Some leaf → (of_set : LawOfSet) × IsLawNumbered parts.laws law of_set
+        by (Split row) at = absurd (no_split _ _ _ finds.ends.height (suits.block.tree finds.place (Split row) at).height)
+        by (NoMove cert) at = absurd (not_zero (finds.law_is ∙ (suits.block.tree finds.place (NoMove cert) at).law_is))
+        by (Law number certs) at =
+            let is : law ≡ number = finds.law_is ∙ (suits.block.tree finds.place (Law number certs) at).law_is in
+            let range : IsFromTo 1 (length parts.laws) number = fits (Law number certs) at in
+            let from : 1 ≤ number = range.from_low in
+            let to : number ≤ length parts.laws = range.to_high in
+            law_at parts.laws (law - 1) (omega arith)
