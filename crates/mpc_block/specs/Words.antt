@@ -1,9 +1,9 @@
 -- Whole numbers in words of 64 bits, and lines of twelve words.
-use Rattle.std.specs.Prelude.{ℕ, ◌+◌, ◌-◌, ◌*◌, ◌^◌, ℤ, pos, neg_ℤ, nat_lt, if◌then◌else◌, List, [], ◌∷◌, slice_index, slice_range}
+use Rattle.std.specs.Prelude.{ℕ, ◌+◌, ◌*◌, ◌^◌, ℤ, pos, ◌-ℤ◌, nat_lt, if◌then◌else◌, List, [], ◌∷◌, slice_index, slice_range}
 
--- the number in two words: its size below 2^127, the low word first, and in the highest bit of the second word its sign
+-- the number in two words, the low one first: less 2^128 where the highest bit is set, as two's complement has it
 abbrev pub signed_number : ℕ → ℕ → ℤ
-signed_number low high = if nat_lt high (2 ^ 63) then pos (low + 2 ^ 64 * high) else neg_ℤ (pos (low + 2 ^ 64 * (high - 2 ^ 63)))
+signed_number low high = pos (low + 2 ^ 64 * high) -ℤ (if nat_lt high (2 ^ 63) then pos 0 else pos (2 ^ 128))
 
 -- the line with this number, from 0
 abbrev pub line_at : List ℕ → ℕ → List ℕ

@@ -26,8 +26,7 @@ pub fn line(words: &[u64], r: u128) -> Option<&[u64]>
 /// The number in the words 2 i and 2 i + 1 of a line.
 pub fn number(line: &[u64], i: usize) -> i128
     requires { 2 * i + 1 < length line.now }
-    ensures value { result ≡ number_at line.now i }
-    ensures small { unsigned_abs result < 2 ^ 127 }
+    ensures { result ≡ number_at line.now i }
 {
     number_of(line[2 * i], line[2 * i + 1])
 }

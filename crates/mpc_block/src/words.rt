@@ -20,27 +20,30 @@ fn size_of(low: u64, high: u64) -> u128
 
 /// The number in two words.
 pub fn number_of(low: u64, high: u64) -> i128
-    ensures value { result ≡ signed_number low high }
-    ensures small { unsigned_abs result < 2 ^ 127 }
+    ensures { result ≡ signed_number low high }
 {
     if high < SIGN {
         size_of(low, high) as i128
     } else {
-        -(size_of(low, high - SIGN) as i128)
+        -1 - size_of(u64::MAX - low, u64::MAX - high) as i128
     }
 }
 
-/// The two words of the number.
+/// The low and the high word of a size.
+fn words_of_size(size: u128) -> (u64, u64)
+    ensures { result.0 + 2 ^ 64 * result.1 ≡ size }
+{
+    ((size % WORD) as u64, (size / WORD) as u64)
+}
+
+/// The two words of the number, the low one first.
 pub fn words_of(number: i128) -> (u64, u64)
-    requires { unsigned_abs number < 2 ^ 127 }
     ensures { signed_number result.0 result.1 ≡ number }
 {
-    let size = number.unsigned_abs();
-    let low = (size % WORD) as u64;
-    let high = (size / WORD) as u64;
-    if number < 0 {
-        (low, high + SIGN)
+    if number >= 0 {
+        words_of_size(number as u128)
     } else {
-        (low, high)
+        let (low, high) = words_of_size((-1 - number) as u128);
+        (u64::MAX - low, u64::MAX - high)
     }
 }
