@@ -1,4 +1,6 @@
 pub mod SumLemmas
+pub mod LineLemmas
+pub mod HeightLemmas
 pub mod BlockLemmas
 pub mod MoveLemmas
 pub mod ReplyLemmas

@@ -25,7 +25,7 @@ one_times : (k w : ℤ) → k *ℤ pos 1 +ℤ w ≡ k +ℤ w
 one_times k w = omega (arith, ints)
 
 module _ (words counts : List ℕ) (parts : Parts) (s : Serves words counts parts) (of_set : Law) (input : ℕ) (found line : List ℕ) (xs : List ℤ) (den : ℤ)
-    (here : IsFormLine parts of_set input line) (found_is : found ≡ line) (xs_are : xs ≡ numbers_in found) (den_is : den ≡ number_at found 0) where
+    (here : IsFormLine parts.plant of_set input line) (found_is : found ≡ line) (xs_are : xs ≡ numbers_in found) (den_is : den ≡ number_at found 0) where
   abbrev n : ℕ
   n = parts.plant.n
 
@@ -80,7 +80,7 @@ module _ (words counts : List ℕ) (parts : Parts) (s : Serves words counts part
 
 -- ---- where the form of an input stands
 pub record FormThere (words : List ℕ) (parts : Parts) (of_set : Law) (input r : ℕ) : Type 0 where
-  pub form : IsFormLine parts of_set input (line_at words r)
+  pub form : IsFormLine parts.plant of_set input (line_at words r)
   pub inside : 12 * r + 12 ≤ length words
 
 pub form_there : (words counts : List ℕ) (parts : Parts) → Serves words counts parts → (of_set : Law) (law input nodes inputs r : ℕ) → 1 ≤ law → IsLawNumbered parts.laws law of_set → input < inputs → nodes ≡ slice_index words 8 → inputs ≡ parts.plant.p → r ≡ form_place nodes inputs law input

@@ -13,6 +13,7 @@
 use Rattle.std.specs.Prelude.{◌≡◌, ℕ, ◌+◌, ◌-◌, ◌*◌, ◌<◌, ◌≤◌, max, ℤ, List, ◌∷◌, length, take, slice_get, slice_index, slice_range, Some}
 use Rattle.mpc_linear.specs.declared.integers.IntAffine.{IntAffine}
 use Rattle.mpc_linear.specs.declared.integers.RowInt.{RowInt}
+use Rattle.mpc_plant.specs.declared.plants.Plant.{Plant}
 use Rattle.mpc_rows.specs.declared.laws.Law.{Law as LawOfSet}
 use Rattle.mpc_rows.specs.declared.trees.Node.{Node}
 use Rattle.mpc_rows.specs.declared.trees.Node.TheVariants.{Split, Law, NoMove}
@@ -61,9 +62,9 @@ IsNodeLine nodes words place (Law law certs) = IsLeafLine words place law
 IsNodeLine nodes words place (NoMove cert) = IsLeafLine words place 0
 
 -- the line of an input of a law
-pub record IsFormLine (parts : Parts) (law : LawOfSet) (input : ℕ) (line : List ℕ) : Type 0 where
-  pub form_is : IsFormOf (first_move_form law input) (form_in parts.plant.n line)
-  pub bounded : IsBounded (limits_of parts.plant) (form_in parts.plant.n line)
+pub record IsFormLine (plant : Plant) (law : LawOfSet) (input : ℕ) (line : List ℕ) : Type 0 where
+  pub form_is : IsFormOf (first_move_form law input) (form_in plant.n line)
+  pub bounded : IsBounded (limits_of plant) (form_in plant.n line)
 
 -- how many words a controller's block has
 abbrev pub block_size : Parts → ℕ
@@ -90,4 +91,4 @@ pub record IsBlockOf (words : List ℕ) (parts : Parts) : Type 0 where
   pub laws : slice_index words 9 ≡ length parts.laws
   pub low : height_at words 0 < length parts.tree
   pub tree : (place : ℕ) (node : Node) → slice_get parts.tree place ≡ Some node → IsNodeLine parts.tree words place node
-  pub forms : (law : ℕ) (of_set : LawOfSet) (input : ℕ) → IsLawNumbered parts.laws law of_set → input < parts.plant.p → IsFormLine parts of_set input (line_at words (form_place (length parts.tree) parts.plant.p law input))
+  pub forms : (law : ℕ) (of_set : LawOfSet) (input : ℕ) → IsLawNumbered parts.laws law of_set → input < parts.plant.p → IsFormLine parts.plant of_set input (line_at words (form_place (length parts.tree) parts.plant.p law input))

@@ -1,4 +1,5 @@
 pub mod Words
 pub mod Block
+pub mod Layouts
 pub mod Walks
 pub mod BlockReplies

@@ -1,10 +1,13 @@
 //! A controller laid out in words, in memory of the caller's, and replies from these words alone.
 #![tactic(auto)]
 
+mod heights;
+mod layouts;
 mod lines;
 mod replies;
 mod walks;
 mod words;
 
+pub use layouts::LayoutError;
 pub use lines::LAYOUT;
 pub use replies::{BlockReply, Move, reply_in};

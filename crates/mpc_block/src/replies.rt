@@ -80,7 +80,7 @@ fn form_number(nodes: u64, inputs: u64, law: u64, input: u64) -> u128
 fn move_by(words: &[u64], r: u128, counts: &[u64]) -> Option<Move>
     requires { length counts.now ≤ 4 }
     ensures { (parts : Parts) (of_set : Law) (input : ℕ) → Serves words.now counts.now parts
-        → IsFormLine parts of_set input (line_at words.now r) → 12 * r + 12 ≤ length words.now
+        → IsFormLine parts.plant of_set input (line_at words.now r) → 12 * r + 12 ≤ length words.now
         → IsSomeAnd result (IsMoveOf of_set counts.now input) }
 {
     let Some(form) = line(words, r) else {
