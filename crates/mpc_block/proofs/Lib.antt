@@ -4,3 +4,4 @@ pub mod HeightLemmas
 pub mod BlockLemmas
 pub mod MoveLemmas
 pub mod ReplyLemmas
+pub mod LayoutLemmas

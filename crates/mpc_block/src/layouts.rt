@@ -62,7 +62,7 @@ fn form_line(form: &IntAffine) -> [u64; 12]
     ensures { (n : ℕ) → length form.now.k ≡ n + 1 → form_in n result ≡ form.now }
 {
     let k = form.k.as_slice();
-    let (low, high) = words_of(form.den);
+    let (low, high) = words_of(&form.den);
     line_with(low, high, &k[0], &k[1..])
 }
 
@@ -135,4 +135,57 @@ fn head_line(plant: &Plant, limits: &[u64], size: u64, nodes: u64, laws: u64) ->
     ];
     line[4..4 + limits.len()].copy_from_slice(limits);
     line
+}
+
+/// How many words a controller's block has.
+pub fn block_size(controller: &Controller) -> u128
+    ensures { result ≡ block_size controller.now }
+{
+    let forms = controller.laws().len() as u128 * controller.plant().p as u128;
+    12 * (1 + controller.tree().len() as u128 + forms)
+}
+
+/// Writes the block of a controller. Without memory some of it is written.
+fn write_block(alloc: Global, controller: &Controller, words: &mut [u64]) -> Result<(), NoMemory>
+    requires { block_size controller.now ≤ length words.old }
+    ensures { OnOk result (IsBlockOf words.new controller.now) }
+{
+    let plant = controller.plant();
+    let tree = controller.tree();
+    let limits = limits(alloc, plant)?;
+    let sides = no_sides(alloc, tree)?;
+    let heights = heights(alloc, tree, sides.as_slice())?;
+    let laws = controller.laws();
+    let forms = laws.len() * plant.p as usize;
+    let size = 12 * (1 + tree.len() + forms);
+    let head = head_line(
+        plant,
+        limits.as_slice(),
+        size as u64,
+        tree.len() as u64,
+        laws.len() as u64,
+    );
+    put_line(words, 0, &head);
+    write_nodes(tree, sides.as_slice(), heights.as_slice(), words);
+    write_laws(alloc, plant, laws, limits.as_slice(), 1 + tree.len(), words)
+}
+
+/// Lays a controller out in words, for `reply_in`.
+///
+/// Where there is no room for its block, nothing is written. Without memory, which is needed on the way
+/// alone, some of it may be written.
+pub fn lay_out(alloc: Global, controller: &Controller, words: &mut [u64]) -> Result<(), LayoutError>
+    ensures ok { OnOk result (IsBlockOf words.new controller.now) }
+    ensures no_room { (result ≡ Err (LayoutError.NoRoom (block_size controller.now)))
+        ↔ (length words.old < block_size controller.now) }
+    ensures unwritten { length words.old < block_size controller.now → words.new ≡ words.old }
+{
+    let size = block_size(controller);
+    if size > words.len() as u128 {
+        return Err(LayoutError::NoRoom(size));
+    }
+    match write_block(alloc, controller, words) {
+        Ok(()) => Ok(()),
+        Err(NoMemory) => Err(LayoutError::NoMemory),
+    }
 }

@@ -8,6 +8,6 @@ mod replies;
 mod walks;
 mod words;
 
-pub use layouts::LayoutError;
+pub use layouts::{LayoutError, block_size, lay_out};
 pub use lines::LAYOUT;
 pub use replies::{BlockReply, Move, reply_in};

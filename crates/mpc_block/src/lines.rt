@@ -51,7 +51,7 @@ fn put_number(line: &mut [u64], i: usize, number: &i128)
     ensures written { number_at line.new i ≡ number.now }
     ensures others { (k : ℕ) → k ≢ 2 * i → k ≢ 2 * i + 1 → slice_index line.new k ≡ slice_index line.old k }
 {
-    let (low, high) = words_of(*number);
+    let (low, high) = words_of(number);
     line[2 * i] = low;
     line[2 * i + 1] = high;
 }

@@ -37,13 +37,13 @@ fn words_of_size(size: u128) -> (u64, u64)
 }
 
 /// The two words of the number, the low one first.
-pub fn words_of(number: i128) -> (u64, u64)
-    ensures { signed_number result.0 result.1 ≡ number }
+pub fn words_of(number: &i128) -> (u64, u64)
+    ensures { signed_number result.0 result.1 ≡ number.now }
 {
-    if number >= 0 {
-        words_of_size(number as u128)
+    if *number >= 0 {
+        words_of_size(*number as u128)
     } else {
-        let (low, high) = words_of_size((-1 - number) as u128);
+        let (low, high) = words_of_size((-1 - *number) as u128);
         (u64::MAX - low, u64::MAX - high)
     }
 }
