@@ -1,18 +1,25 @@
 -- The replies of a block.
-use Rattle.std.proofs.Common.{◌≡◌, ℕ, zero, suc, ◌+◌, ◌-◌, ◌<◌, ◌≤◌, List, [], ◌∷◌, length, max, Some, None, refl, sym, ◌∙◌, ap, subst, arith}
+use Rattle.std.proofs.Common.{◌≡◌, ℕ, zero, suc, ◌+◌, ◌-◌, ◌<◌, ◌≤◌, List, [], ◌∷◌, length, get_or, map, max, take, Some, None, refl, sym, ◌∙◌, ap, subst, arith}
 use Rattle.std.specs.Prelude.{slice_get, slice_range}
 use Rattle.std.proofs.lemmas.List.{length-map}
+use Rattle.mpc_exact.specs.Rational.{ℚ}
+use Rattle.mpc_space.specs.Vector.{dot, mat_vec}
+use Rattle.mpc_plant.specs.Reply.{move}
+use Rattle.mpc_plant.specs.Trajectory.{point_of}
 use Rattle.mpc_plant.specs.Limits.{IsFromTo}
 use Rattle.mpc_plant.specs.declared.lists.Coordinate.{Coordinate}
+use Rattle.mpc_rows.specs.ActiveSets.{extended}
 use Rattle.mpc_rows.specs.declared.laws.Law.{Law as LawOfSet}
 use Rattle.mpc_rows.specs.declared.trees.Node.{Node}
 use Rattle.mpc_rows.specs.declared.trees.Node.TheVariants.{Split, Law, NoMove}
-use Rattle.mpc_controller.specs.Parts.{Parts, limits_of, IsNodeFor}
-use Rattle.mpc_controller.specs.Replies.{first_outside, IsLawNumbered}
+use Rattle.mpc_controller.specs.Parts.{Parts, limits_of, IsNodeFor, IsLawFor}
+use Rattle.mpc_controller.specs.Replies.{first_outside, first_move, IsLawNumbered, RepliesAt, by_law, by_no_law}
+use Rattle.mpc_table.specs.TableLaws.{MovesEachInput}
 use Rattle.mpc_table.specs.TableReplies.{IsMoveReply, IsInfeasibleReply}
+use Rattle.mpc_block.specs.declared.replies.Move.{Move}
 use Rattle.mpc_block.specs.Block.{height_at, side_at, IsNodeLine}
 use Rattle.mpc_block.specs.Walks.{Serves, FindsLeaf}
-use Rattle.mpc_block.specs.BlockReplies.{Suits}
+use Rattle.mpc_block.specs.BlockReplies.{value_of, BeginWith, IsMovesReply, IsNoMoveReply, Suits}
 use Rattle.mpc_block.proofs.SumLemmas.{none_outside}
 use Rattle.mpc_block.proofs.BlockLemmas.{node_at, all_at}
 
@@ -20,6 +27,11 @@ law_at : (laws : List LawOfSet) (j : ℕ) → j < length laws → (law : LawOfSe
 law_at [] j h = absurd (omega arith)
 law_at (l ∷ ls) zero h = (l, refl)
 law_at (l ∷ ls) (suc j) h = law_at ls j (omega arith)
+
+values_from : (rows : List (List ℚ)) (moves : List Move) (x : List ℚ) → length moves ≤ length rows → ((i : ℕ) (d : Move) → i < length moves → value_of (get_or moves i d) ≡ dot (get_or rows i []) x) → map value_of moves ≡ take (length moves) (mat_vec rows x)
+values_from rows [] x few h = refl
+values_from [] (step ∷ moves) x few h = absurd (omega arith)
+values_from (row ∷ rows) (step ∷ moves) x few h = λ i. h 0 step (omega arith) i ∷ values_from rows moves x (omega arith) (λ k d lt. h (suc k) d (omega arith)) i
 
 module _ (words counts : List ℕ) (room : ℕ) (parts : Parts) (suits : Suits words counts room parts) (none : None ≡ first_outside (slice_range words 4 (4 + length counts)) counts) where
   limits_are : slice_range words 4 (4 + length counts) ≡ limits_of parts.plant
@@ -44,7 +56,7 @@ module _ (words counts : List ℕ) (room : ℕ) (parts : Parts) (suits : Suits w
     no_split : (height a b : ℕ) → height ≡ 0 → height ≡ 1 + max a b → ⊥
     no_split height a b e h = omega arith
 
-    pub infeasible_reply : law ≡ 0 → IsInfeasibleReply parts counts node
+    infeasible_reply : law ≡ 0 → IsInfeasibleReply parts counts node
     infeasible_reply is_zero = by there.0 there.1
       where
         by : (leaf : Node) → slice_get parts.tree finds.place ≡ Some leaf → IsInfeasibleReply parts counts node
@@ -61,7 +73,7 @@ module _ (words counts : List ℕ) (room : ℕ) (parts : Parts) (suits : Suits w
           ends = record { reached = finds.ends.reached; node_at = at; is_leaf = tt };
         }
 
-    pub move_reply : ¬ law ≡ 0 → IsMoveReply parts counts node law
+    move_reply : ¬ law ≡ 0 → IsMoveReply parts counts node law
     move_reply not_zero = by there.0 there.1
       where
         by : (leaf : Node) → slice_get parts.tree finds.place ≡ Some leaf → IsMoveReply parts counts node law
@@ -89,3 +101,21 @@ module _ (words counts : List ℕ) (room : ℕ) (parts : Parts) (suits : Suits w
             let from : 1 ≤ number = range.from_low in
             let to : number ≤ length parts.laws = range.to_high in
             law_at parts.laws (law - 1) (omega arith)
+
+    pub no_move_reply : law ≡ 0 → IsNoMoveReply parts counts node
+    no_move_reply is_zero = let leaf = infeasible_reply is_zero in record { leaf = leaf; answer = (inside_limits, by_no_law leaf.place leaf.cert leaf.ends) }
+
+    pub moves_reply : ¬ law ≡ 0 → (moves : List Move) → length moves ≡ parts.plant.p → MovesEachInput → ((of_set : LawOfSet) → IsLawNumbered parts.laws law of_set → BeginWith of_set counts parts.plant.p moves) → IsMovesReply parts counts moves node law
+    moves_reply not_zero moves size each_input are =
+        let leaf = move_reply not_zero in
+        let named = named_law not_zero in
+        let begin : BeginWith named.0 counts parts.plant.p moves = are named.0 named.1 in
+        let few : parts.plant.p ≤ length named.0.moves.rows = each_input parts.plant named.0 (all_at (IsLawFor parts.plant) parts.laws (law - 1) named.0 named.1 suits.block.controller.shapes.laws_fit) in
+        let values : map value_of moves ≡ first_move parts.plant.p named.0 (point_of counts) =
+            values_from named.0.moves.rows moves (extended (point_of counts)) (omega (arith, few, size)) (λ i d lt. (begin i d (omega (arith, lt, size))).value)
+            ∙ ap (λ p. take p (mat_vec named.0.moves.rows (extended (point_of counts)))) size in
+        record {
+          leaf = leaf;
+          positive = λ i d lt. (begin i d (omega (arith, lt, size))).positive;
+          answer = (inside_limits, subst (λ u. RepliesAt parts (point_of counts) (move u)) (sym values) (by_law leaf.place law leaf.certs named.0 leaf.ends named.1));
+        }

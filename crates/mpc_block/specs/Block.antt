@@ -70,13 +70,15 @@ pub record IsFormLine (plant : Plant) (law : LawOfSet) (input : ℕ) (line : Lis
 abbrev pub block_size : Parts → ℕ
 block_size parts = 12 * (1 + length parts.tree + length parts.laws * parts.plant.p)
 
--- the words begin with a block that says of itself how long it is
-pub record HasHead (words : List ℕ) : Type 0 where
+-- the words begin with a block, by its own head, for so many coordinates and inputs
+pub record HasHead (words : List ℕ) (coordinates inputs : ℕ) : Type 0 where
   pub long : 12 ≤ length words
   pub version : slice_index words 0 ≡ LAYOUT
   pub whole : slice_index words 1 ≤ length words
-  pub coordinates : slice_index words 2 ≤ 4
-  pub inputs : slice_index words 3 ≤ 3
+  pub coordinates_are : slice_index words 2 ≡ coordinates
+  pub inputs_are : slice_index words 3 ≡ inputs
+  pub few_coordinates : coordinates ≤ 4
+  pub few_inputs : inputs ≤ 3
 
 -- the words begin with the block of this controller
 pub record IsBlockOf (words : List ℕ) (parts : Parts) : Type 0 where

@@ -11,7 +11,7 @@ ghost use Rattle.mpc_block.specs.BlockReplies.{IsMoveOf, BeginWith, IsBlockReply
 
 use crate::lines::{LAYOUT, LINE, number, numbers, line};
 use crate::walks::{leaf_place, sum_within};
-use mpc_table::find_outside;
+use mpc_table::{find_outside, table_laws};
 
 /// A move of one input, as a fraction that may have common divisors.
 #[derive(Clone, Copy, Debug, PartialEq, Eq)]
@@ -33,15 +33,17 @@ pub enum BlockReply {
     BadBlock,
 }
 
-/// Whether the words begin with a block that says of itself how long it is.
-fn has_head(words: &[u64]) -> bool
-    ensures { IsTrue result ↔ HasHead words.now }
+/// Whether the words begin with a block, by its own head, for so many coordinates and inputs.
+fn has_head(words: &[u64], coordinates: usize, inputs: usize) -> bool
+    ensures { IsTrue result ↔ HasHead words.now coordinates inputs }
 {
     words.len() >= LINE
         && words[0] == LAYOUT
         && words[1] <= words.len() as u64
-        && words[2] <= 4
-        && words[3] <= 3
+        && words[2] == coordinates as u64
+        && words[3] == inputs as u64
+        && coordinates <= 4
+        && inputs <= 3
 }
 
 /// The node, from 1, of the leaf to which the walk at these counts comes, and the leaf's law, 0 for none.
@@ -125,9 +127,11 @@ fn write_moves(words: &[u64], law: u64, counts: &[u64], moves: &mut [Move]) -> b
 pub fn reply_in(words: &[u64], counts: &[u64], moves: &mut [Move]) -> BlockReply
     ensures reply { (parts : Parts) → Suits words.now counts.now (length moves.old) parts
         → IsBlockReply parts counts.now moves.new result }
-    ensures no_head { ¬ HasHead words.now → result ≡ BlockReply.BadBlock }
+    ensures no_head { ¬ HasHead words.now (length counts.now) (length moves.old)
+        → result ≡ BlockReply.BadBlock }
 {
-    if !has_head(words) || counts.len() as u64 != words[2] || moves.len() as u64 != words[3] {
+    table_laws();
+    if !has_head(words, counts.len(), moves.len()) {
         return BlockReply::BadBlock;
     }
     if let Some(coordinate) = find_outside(&words[4..4 + counts.len()], counts) {

@@ -1,20 +1,20 @@
-use Rattle.std.proofs.Common.{◌≡◌, length, sym, subst}
+use Rattle.std.proofs.Common.{◌≡◌, length, sym, ◌∙◌, subst}
 use Rattle.std.specs.Prelude.{IsSomeAnd}
 use Rattle.mpc_block.specs.Walks.{FindsLeaf}
-use Rattle.mpc_block.proofs.ReplyLemmas.{serves, infeasible_reply, move_reply, named_law}
+use Rattle.mpc_block.proofs.ReplyLemmas.{serves, no_move_reply, moves_reply, named_law}
 use Rattle.mpc_block.proofs.replies.reply_in.Goals as goal
 
 pub returns-in-Some-default-eq0-clause-reply : goal.returns-in-Some-default-eq0-clause-reply
 returns-in-Some-default-eq0-clause-reply c = λ parts suits.
     let none = c.in_default.ensures in
-    infeasible_reply c.args.words.now c.args.counts.now _ parts suits none c.in-Some-default-eq0.node c.in-Some-default-eq0.field-0-1 (c.in-Some-default-eq0.ensures parts (serves _ _ _ parts suits none)) c.in-Some-default-eq0.field-0-1-test
+    no_move_reply c.args.words.now c.args.counts.now _ parts suits none c.in-Some-default-eq0.node c.in-Some-default-eq0.field-0-1 (c.in-Some-default-eq0.ensures parts (serves _ _ _ parts suits none)) c.in-Some-default-eq0.field-0-1-test
 
 pub returns-in-Some-leaf-clause-reply : goal.returns-in-Some-leaf-clause-reply
 returns-in-Some-leaf-clause-reply c = λ parts suits.
     let none = c.in_default.ensures in
     let s = serves _ _ _ parts suits none in
-    (move_reply c.args.words.now c.args.counts.now _ parts suits none c.in-Some-leaf.node c.in-Some-leaf.law (c.in-Some-leaf.ensures parts s) c.in-Some-leaf.law-test.1,
-     λ of_set numbered. (c.if-write_moves.ensures parts of_set s suits.room_each numbered).1)
+    moves_reply c.args.words.now c.args.counts.now _ parts suits none c.in-Some-leaf.node c.in-Some-leaf.law (c.in-Some-leaf.ensures parts s) c.in-Some-leaf.law-test.1 c.write_moves.new.moves (c.write_moves.auto.moves ∙ suits.room_each) c.table_laws.ensures.moves_each_input
+    (λ of_set numbered. (c.if-write_moves.ensures parts of_set s suits.room_each numbered).1)
 
 pub returns-in_default-leaf-clause-reply : goal.returns-in_default-leaf-clause-reply
 returns-in_default-leaf-clause-reply c = λ parts suits.
