@@ -112,8 +112,8 @@ module _ (words counts : List ℕ) (room : ℕ) (parts : Parts) (suits : Suits w
         let begin : BeginWith named.0 counts parts.plant.p moves = are named.0 named.1 in
         let few : parts.plant.p ≤ length named.0.moves.rows = each_input parts.plant named.0 (all_at (IsLawFor parts.plant) parts.laws (law - 1) named.0 named.1 suits.block.controller.shapes.laws_fit) in
         let values : map value_of moves ≡ first_move parts.plant.p named.0 (point_of counts) =
-            values_from named.0.moves.rows moves (extended (point_of counts)) (omega (arith, few, size)) (λ i d lt. (begin i d (omega (arith, lt, size))).value)
-            ∙ ap (λ p. take p (mat_vec named.0.moves.rows (extended (point_of counts)))) size in
+        values_from named.0.moves.rows moves (extended (point_of counts)) (omega (arith, few, size)) (λ i d lt. (begin i d (omega (arith, lt, size))).value)
+        ∙ ap (λ p. take p (mat_vec named.0.moves.rows (extended (point_of counts)))) size in
         record {
           leaf = leaf;
           positive = λ i d lt. (begin i d (omega (arith, lt, size))).positive;

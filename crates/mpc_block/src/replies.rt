@@ -9,7 +9,7 @@ ghost use Rattle.mpc_block.specs.Block.{HasHead, IsFormLine, form_place};
 ghost use Rattle.mpc_block.specs.Walks.{Serves, FindsLeaf};
 ghost use Rattle.mpc_block.specs.BlockReplies.{IsMoveOf, BeginWith, IsBlockReply, Suits};
 
-use crate::lines::{LAYOUT, LINE, number, numbers, line};
+use crate::lines::{LAYOUT, LINE, line, number, numbers};
 use crate::walks::{leaf_place, sum_within};
 use mpc_table::{find_outside, table_laws};
 
@@ -48,15 +48,14 @@ fn has_head(words: &[u64], coordinates: usize, inputs: usize) -> bool
 
 /// The node, from 1, of the leaf to which the walk at these counts comes, and the leaf's law, 0 for none.
 fn leaf(words: &[u64], counts: &[u64]) -> Option<(u64, u64)>
-    requires long { 12 ≤ length words.now }
-    requires few { length counts.now ≤ 4 }
+    requires { length counts.now ≤ 4 }
     ensures { (parts : Parts) → Serves words.now counts.now parts
         → IsSomeAnd result (λ found. FindsLeaf words.now counts.now parts found.0 found.1) }
 {
     let Some(root) = line(words, 1) else {
         return None;
     };
-    if root[0] >= words[8] {
+    if root[0] >= words.len() as u64 {
         return None;
     }
     let Some(place) = leaf_place(words, counts, root[0]) else {
@@ -122,8 +121,8 @@ fn write_moves(words: &[u64], law: u64, counts: &[u64], moves: &mut [Move]) -> b
 
 /// The reply of a block to counts, one a coordinate; where it is `Moves`, they are written, one for each input.
 ///
-/// It takes no memory and waits for nobody, whatever the words are, and makes as many turns as the block's
-/// tree is high at most. At another reply than `Moves` the moves may have been written in part.
+/// Whatever the words are, it takes no memory, waits for nobody, and makes no more turns than the block says
+/// that its tree is high, and than there are words. At `BadBlock` the moves may have been written in part.
 pub fn reply_in(words: &[u64], counts: &[u64], moves: &mut [Move]) -> BlockReply
     ensures reply { (parts : Parts) → Suits words.now counts.now (length moves.old) parts
         → IsBlockReply parts counts.now moves.new result }
@@ -139,7 +138,10 @@ pub fn reply_in(words: &[u64], counts: &[u64], moves: &mut [Move]) -> BlockReply
     }
     match leaf(words, counts) {
         Some((node, 0)) => BlockReply::Infeasible { node },
-        Some((node, law)) if write_moves(words, law, counts, moves) => BlockReply::Moves { node, law },
+        Some((node, law)) if write_moves(words, law, counts, moves) => BlockReply::Moves {
+            node,
+            law,
+        },
         _ => BlockReply::BadBlock,
     }
 }

@@ -7,7 +7,7 @@ ghost use Rattle.mpc_table.specs.Forms.{weighed};
 ghost use Rattle.mpc_block.specs.Block.{height_at};
 ghost use Rattle.mpc_block.specs.Walks.{Serves, IsTurn, EndsIn};
 
-use crate::lines::{numbers, line};
+use crate::lines::{line, numbers};
 use mpc_table::weighted_sum;
 
 /// What the walk does at a node.
