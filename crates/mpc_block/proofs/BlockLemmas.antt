@@ -1,5 +1,5 @@
 -- The nodes of a block, and the walk from one to the next.
-use Rattle.std.proofs.Common.{◌≡◌, ◌≢◌, ℕ, zero, suc, ◌+◌, ◌-◌, ◌*◌, ◌^◌, ◌<◌, ◌≤◌, ℤ, pos, ◌+ℤ◌, ◌≤ℤ◌, unsigned_abs, List, [], ◌∷◌, length, get_or, map, take, max, Some, refl, sym, ◌∙◌, ap, subst, arith}
+use Rattle.std.proofs.Common.{◌≡◌, ◌≢◌, ℕ, zero, suc, ◌+◌, ◌-◌, ◌*◌, ◌^◌, ◌<◌, ◌≤◌, ℤ, pos, ◌+ℤ◌, ◌≤ℤ◌, unsigned_abs, List, [], ◌∷◌, length, get_or, take, Some, refl, sym, ◌∙◌, ap, subst, arith}
 use Rattle.std.specs.Prelude.{All, slice_get, slice_index, slice_range}
 use Rattle.std.specs.Int.{w128}
 use mir.Val.{to_z, of_z}
@@ -9,15 +9,14 @@ use Rattle.std.proofs.lemmas.Option.{slice_get_within, get_or_from_slice_get}
 use Rattle.std.proofs.Math.Nat.{mul-le-mul_right}
 use Rattle.mpc_linear.specs.declared.integers.RowInt.{RowInt}
 use Rattle.mpc_plant.specs.declared.lists.Coordinate.{Coordinate}
-use Rattle.mpc_plant.specs.Trajectory.{point_of}
 use Rattle.mpc_rows.specs.declared.trees.Node.{Node}
 use Rattle.mpc_rows.specs.declared.trees.Node.TheVariants.{Split, Law, NoMove}
 use Rattle.mpc_controller.specs.Parts.{Parts, limits_of, IsNodeFor, IsSplitRow}
 use Rattle.mpc_controller.specs.Bounds.{reach, NodeFits, SplitFits}
-use Rattle.mpc_controller.specs.Walk.{Satisfies, Reaches, root, yes_side, no_side}
+use Rattle.mpc_controller.specs.Walk.{root, yes_side, no_side}
 use Rattle.mpc_table.specs.Forms.{weighed}
-use Rattle.mpc_block.specs.Words.{line_at, number_at, numbers_in}
-use Rattle.mpc_block.specs.Block.{height_at, side_at, node_line, form_place, IsSplitLine, IsNodeLine}
+use Rattle.mpc_block.specs.Words.{number_at, numbers_in}
+use Rattle.mpc_block.specs.Block.{height_at, side_at, node_line, form_place, IsSplitLine}
 use Rattle.mpc_block.specs.Walks.{Serves, GoesTo, HasCome}
 use Rattle.mpc_block.proofs.SumLemmas.{read, reach_mono, up_to_length, satisfied, at_most, behind, first_of_taken}
 

@@ -1,5 +1,5 @@
 -- The lines of a layout, one after another.
-use Rattle.std.proofs.Common.{◌≡◌, ◌≢◌, ℕ, zero, suc, ◌+◌, ◌-◌, ◌*◌, ◌<◌, ◌≤◌, ◌⊎◌, inl, inr, ℤ, pos, List, [], ◌∷◌, length, get_or, take, drop, max, Some, refl, sym, ◌∙◌, ap, subst, arith, lit<}
+use Rattle.std.proofs.Common.{◌≡◌, ◌≢◌, ℕ, ◌+◌, ◌-◌, ◌*◌, ◌<◌, ◌≤◌, ◌⊎◌, inl, inr, ℤ, pos, List, [], ◌∷◌, length, get_or, take, drop, max, Some, refl, sym, ◌∙◌, ap, subst, arith, lit<}
 use Rattle.std.specs.Prelude.{slice_get, slice_index, slice_index_or, slice_range, OnOk, Result, Ok, Err}
 use Rattle.std.proofs.lemmas.Bool.{cases_lt}
 use Rattle.std.proofs.lemmas.List.{drop-take, get_or-take, length-map, take-take, take_all}
@@ -17,7 +17,7 @@ use Rattle.mpc_controller.specs.Parts.{Parts, limits_of}
 use Rattle.mpc_controller.specs.Bounds.{IsController, first_move_form}
 use Rattle.mpc_table.specs.Steps.{AreNoSides}
 use Rattle.mpc_table.specs.Forms.{IsFormOf, IsBounded}
-use Rattle.mpc_block.specs.Words.{signed_number, line_at, number_at, numbers_in}
+use Rattle.mpc_block.specs.Words.{signed_number, line_at, numbers_in}
 use Rattle.mpc_block.specs.Block.{height_at, node_line, block_size, form_in, IsFormLine, IsNodeLine, IsBlockOf}
 use Rattle.mpc_block.specs.Layouts.{AreHeightsFrom, IsLineOf, IsHeadLine, AreLinesTo, AreInputsTo, AreFormsTo, KeepsLines}
 use Rattle.mpc_block.proofs.BlockLemmas.{node_at}

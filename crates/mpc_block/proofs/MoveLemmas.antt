@@ -12,10 +12,10 @@ use Rattle.mpc_rows.specs.declared.laws.Law.{Law}
 use Rattle.mpc_controller.specs.Parts.{Parts, limits_of}
 use Rattle.mpc_controller.specs.Bounds.{reach}
 use Rattle.mpc_controller.specs.Replies.{IsLawNumbered}
-use Rattle.mpc_table.specs.Forms.{weighed, IsBounded}
+use Rattle.mpc_table.specs.Forms.{weighed}
 use Rattle.mpc_block.specs.declared.replies.Move.{Move}
 use Rattle.mpc_block.specs.Words.{line_at, number_at, numbers_in}
-use Rattle.mpc_block.specs.Block.{form_in, form_place, IsFormLine}
+use Rattle.mpc_block.specs.Block.{form_place, IsFormLine}
 use Rattle.mpc_block.specs.Walks.{Serves}
 use Rattle.mpc_block.specs.BlockReplies.{IsMoveOf, BeginWith}
 use Rattle.mpc_block.proofs.SumLemmas.{read, reach_mono, behind, first_of_taken}

@@ -17,7 +17,6 @@ use Rattle.mpc_controller.specs.Replies.{first_outside, first_move, IsLawNumbere
 use Rattle.mpc_table.specs.TableLaws.{MovesEachInput}
 use Rattle.mpc_table.specs.TableReplies.{IsMoveReply, IsInfeasibleReply}
 use Rattle.mpc_block.specs.declared.replies.Move.{Move}
-use Rattle.mpc_block.specs.Block.{height_at, side_at, IsNodeLine}
 use Rattle.mpc_block.specs.Walks.{Serves, FindsLeaf}
 use Rattle.mpc_block.specs.BlockReplies.{value_of, BeginWith, IsMovesReply, IsNoMoveReply, Suits}
 use Rattle.mpc_block.proofs.SumLemmas.{none_outside}

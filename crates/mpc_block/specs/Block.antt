@@ -10,7 +10,7 @@
 --   form    0 .. the denominator and the n + 1 numerators of an input's first move, the constant first, as numbers
 --
 -- The tree below a split is one higher than the higher of its two sides.
-use Rattle.std.specs.Prelude.{◌≡◌, ℕ, ◌+◌, ◌-◌, ◌*◌, ◌<◌, ◌≤◌, max, ℤ, List, ◌∷◌, length, take, slice_get, slice_index, slice_range, Some}
+use Rattle.std.specs.Prelude.{◌≡◌, ℕ, ◌+◌, ◌-◌, ◌*◌, ◌<◌, ◌≤◌, max, List, ◌∷◌, length, take, slice_get, slice_index, slice_range, Some}
 use Rattle.mpc_linear.specs.declared.integers.IntAffine.{IntAffine}
 use Rattle.mpc_linear.specs.declared.integers.RowInt.{RowInt}
 use Rattle.mpc_plant.specs.declared.plants.Plant.{Plant}

@@ -1,5 +1,5 @@
 -- The walk in a block.
-use Rattle.std.specs.Prelude.{◌≡◌, ℕ, ◌+◌, ◌<◌, ◌≤◌, List, length, None}
+use Rattle.std.specs.Prelude.{◌≡◌, ℕ, ◌+◌, ◌<◌, ◌≤◌, List, length}
 use Rattle.mpc_plant.specs.Trajectory.{point_of}
 use Rattle.mpc_controller.specs.Parts.{Parts, limits_of}
 use Rattle.mpc_controller.specs.Walk.{Reaches}

@@ -87,8 +87,14 @@ fn replies_from_a_block(rt: HostRuntime) -> Result<(), Fail> {
     }
     for end in 0..words.len() {
         let mut moves = [Move { num: 0, den: 1 }];
-        assert_eq!(rt; reply_in(&words[..end], &[4], &mut moves), BlockReply::BadBlock);
-        assert_eq!(rt; lay_out(rt.alloc(), &controller, &mut words[..end]), Err(LayoutError::NoRoom(132)));
+        assert_eq!(rt;
+            reply_in(&words[..end], &[4], &mut moves),
+            BlockReply::BadBlock
+        );
+        assert_eq!(rt;
+            lay_out(rt.alloc(), &controller, &mut words[..end]),
+            Err(LayoutError::NoRoom(132))
+        );
     }
     Ok(())
 }

@@ -1,4 +1,4 @@
-use Rattle.std.proofs.Common.{◌≡◌, ◌-◌}
+use Rattle.std.proofs.Common.{◌-◌}
 use Rattle.mpc_block.specs.Layouts.{AreHeightsFrom}
 use Rattle.mpc_block.proofs.heights.heights.Given as goal
 

@@ -1,6 +1,6 @@
-use Rattle.std.proofs.Common.{◌≡◌, ℕ, ◌+◌, ◌≤◌, length, sym, ◌∙◌, subst, arith}
+use Rattle.std.proofs.Common.{◌+◌, ◌≤◌, length, ◌∙◌, subst, arith}
 use Rattle.mpc_block.specs.Block.{block_size}
-use Rattle.mpc_block.specs.Layouts.{IsHeadLine, AreLinesTo, AreHeightsFrom, AreFormsTo}
+use Rattle.mpc_block.specs.Layouts.{AreLinesTo, AreHeightsFrom, AreFormsTo}
 use Rattle.mpc_block.proofs.LayoutLemmas.{block_from, head_kept, lines_kept, on_ok}
 use Rattle.mpc_block.proofs.layouts.write_block.Goals as goal
 

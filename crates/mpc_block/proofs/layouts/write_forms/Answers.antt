@@ -1,4 +1,4 @@
-use Rattle.std.proofs.Common.{◌≡◌, ◌+◌, length, sym, ◌∙◌, ap, arith}
+use Rattle.std.proofs.Common.{◌∙◌, arith}
 use Rattle.mpc_block.proofs.LayoutLemmas.{input_more, form_written}
 use Rattle.mpc_block.proofs.layouts.write_forms.Goals as goal
 

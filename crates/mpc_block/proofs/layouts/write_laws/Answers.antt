@@ -1,4 +1,4 @@
-use Rattle.std.proofs.Common.{◌≡◌, ◌+◌, ◌*◌, ◌≤◌, length, sym, ◌∙◌, ap, arith}
+use Rattle.std.proofs.Common.{◌∙◌, arith}
 use Rattle.mpc_block.proofs.LayoutLemmas.{law_more}
 use Rattle.mpc_block.proofs.layouts.write_laws.Goals as goal
 

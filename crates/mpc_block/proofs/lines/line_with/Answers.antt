@@ -1,4 +1,4 @@
-use Rattle.std.proofs.Common.{◌≡◌, ◌≢◌, ◌+◌, ◌*◌, below_more, sym, ◌∙◌, ap, arith}
+use Rattle.std.proofs.Common.{◌+◌, ◌∙◌, arith}
 use Rattle.mpc_block.proofs.LineLemmas.{same_number, numbers_of, one_number_more}
 use Rattle.mpc_block.proofs.lines.line_with.Goals as goal
 

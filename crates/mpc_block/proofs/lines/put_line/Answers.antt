@@ -1,4 +1,4 @@
-use Rattle.std.proofs.Common.{◌∙◌, arith}
+use Rattle.std.proofs.Common.{arith}
 use Rattle.mpc_block.proofs.LineLemmas.{keeps_line}
 use Rattle.mpc_block.proofs.lines.put_line.Goals as goal
 

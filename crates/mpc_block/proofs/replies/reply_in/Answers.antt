@@ -1,4 +1,4 @@
-use Rattle.std.proofs.Common.{◌≡◌, length, sym, ◌∙◌, subst}
+use Rattle.std.proofs.Common.{◌∙◌, subst}
 use Rattle.std.specs.Prelude.{IsSomeAnd}
 use Rattle.mpc_block.specs.Walks.{FindsLeaf}
 use Rattle.mpc_block.proofs.ReplyLemmas.{serves, no_move_reply, moves_reply, named_law}
