@@ -1,18 +1,21 @@
-use Rattle.std.proofs.Common.{subst}
+use Rattle.std.proofs.Common.{ℕ, subst, rules}
 use Rattle.mpc_rows.specs.declared.programs.Qp.{Qp}
 use Rattle.mpc_rows.specs.declared.verdicts.Verdict.TheVariants.{Wide}
 use Rattle.mpc_claim.specs.Answers.{IsFirstBad}
+use Rattle.mpc_synthesis.specs.Programs.{IsDecidedBy}
 use Rattle.mpc_synthesis.specs.Refusals.{controller, wide_set}
 use Rattle.mpc_sections.proofs.StepLemmas.{decided_by}
 use Rattle.mpc_sections.proofs.answers.controller_from.Goals as goal
 
 pub wide_place-requires : goal.wide_place-requires
-wide_place-requires c = (c.requires.workers, c.requires.qp, c.requires.done)
+wide_place-requires g c = (c.requires.workers, c.requires.qp, c.requires.done)
 
 pub returns-in-Some-clause-refused : goal.returns-in-Some-clause-refused
-returns-in-Some-clause-refused c =
+returns-in-Some-clause-refused g c =
     wide_set controller c.requires.qp c.in-Some.place c.requires.convex.has_program c.requires.convex.pivots
     (subst (λ (q : Qp). IsFirstBad q (Wide c.in-Some.place)) c.requires.done.program c.in-Some.ensures)
 
-pub controller_of-requires : goal.controller_of-requires
-controller_of-requires c = decided_by c.legal_laws.ensures.legal c.args.plant c.args.registry c.requires c.in-None.ensures
+pub controller_of_in_threads-requires : goal.controller_of_in_threads-requires
+controller_of_in_threads-requires g c =
+    let decided : (workers : ℕ) × IsDecidedBy workers c.args.plant c.args.registry = decided_by c.legal_laws.ensures.legal c.args.plant c.args.registry c.requires c.in-None.ensures in
+    search rules

@@ -4,7 +4,7 @@ use Rattle.mpc_sections.proofs.StepLemmas.{IsAnswering}
 use Rattle.mpc_sections.proofs.fleet_answers.answer_all.Given as goal
 
 abbrev pub invariant-sections : goal.invariant-sections
-invariant-sections l = IsAnswering (sections_of l._input) l.number l.text.items l.begun.items l.registries.items
+invariant-sections g l = IsAnswering (sections_of l._input) l.number l.text.items l.begun.items l.registries.items
 
 abbrev pub decreases-sections : goal.decreases-sections
-decreases-sections l = vec_len l.begun
+decreases-sections g l = vec_len l.begun

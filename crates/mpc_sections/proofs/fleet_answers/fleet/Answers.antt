@@ -21,6 +21,6 @@ enumerate_fleet-requires-clause-definite g c = λ κs lives.
     subst (All (λ (qp : Qp). IsDefinite qp.h.rows)) (sym c.deref.ensures.value) (definite_all (sections_of c.args.input.now) c.in_ok-begun.field-0.begun.items c.in_ok-begun.field-0.programs.items c.in_ok-begun.ensures)
 
 pub answer_all-requires-clause-begun : goal.answer_all-requires-clause-begun
-answer_all-requires-clause-begun g c =
+answer_all-requires-clause-begun g c = λ κs lives.
     examined_all c.args.workers (sections_of c.args.input.now) c.in_ok-begun.field-0.begun.items c.in_ok-begun.field-0.programs.items c.in-Ok.registries.items c.in_ok-begun.ensures
     (subst (λ (ps : List Qp). AllZip (λ (qp : Qp) (r : Board). IsDone qp c.args.workers r) ps c.in-Ok.registries.items) c.deref.ensures.value c.in-Ok.ensures.done)
