@@ -6,3 +6,7 @@ pub mod TableSizes
 pub mod TreeShapes
 pub mod BoxCounts
 pub mod OneTable
+pub mod WholeCerts
+pub mod LeafPaths
+pub mod LeavesHold
+pub mod CompiledChecks

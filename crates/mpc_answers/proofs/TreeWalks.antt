@@ -23,7 +23,7 @@ use Rattle.mpc_rows.specs.Laws.{IsInRegion}
 use Rattle.mpc_rows.specs.Candidates.{IsTable}
 use Rattle.mpc_rows.specs.LawRows.{whole_row, broken_row}
 use Rattle.mpc_condense.specs.Condensed.{IsCondensed}
-use Rattle.mpc_best.specs.BestReplies.{LawIsRight, InfeasibleIsRight}
+use Rattle.mpc_condense.specs.BestReplies.{LawIsRight, InfeasibleIsRight}
 use Rattle.mpc_cover.specs.CoverLaws.{TablesCover}
 use Rattle.mpc_controller.specs.Parts.{Parts}
 use Rattle.mpc_controller.specs.Preorder.{Spells, IsNoSide}

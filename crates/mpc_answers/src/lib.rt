@@ -1,12 +1,16 @@
-//! A controller's answers: the tree of a table of laws answers rightly at each state of the box, and its parts have the shapes of a
-//! controller. The crate has no code that computes: the clauses of its functions are what it proves.
+//! A controller's answers: the tree of a table of laws answers rightly at each state of the box, its parts have the shapes of a
+//! controller, and the independent checker accepts it, unless a number of its own sums is too wide. The crate has no code that
+//! computes: the clauses of its functions are what it proves.
 #![tactic(auto)]
 
+ghost use Rattle.mpc_answers.specs.Compiled.{OnlyWidthFound, NoRefusal, OnlyWidthErrs, FittingIsAccepted};
 ghost use Rattle.mpc_answers.specs.Replies.{RightReplies, PartsHaveShapes, TableIsSmall, TableOfFourIsSmall, PlantTableIsSmall, OneTable, GridIsInBox};
 
-use mpc_best::best_replies;
+use mpc_check::{law_conditions, one_finding, one_path};
+use mpc_condense::{best_replies, one_program};
 use mpc_controller::preorder_laws;
 use mpc_cover::cover_laws;
+use mpc_definite::pivot_laws;
 use mpc_linear::primitive_laws;
 use mpc_rows::{law_laws, region_laws};
 use mpc_sets::{count_laws, order_laws};
@@ -59,3 +63,22 @@ pub fn one_table()
 pub fn grid_points()
     ensures { GridIsInBox }
 {}
+
+/// The laws of a plant's table meet the conditions of Karush, Kuhn and Tucker coefficient by coefficient, and the certificates of its tree
+/// refute the systems of its leaves (Farkas 1902, Motzkin 1936). So a check of what is compiled refuses nothing, and finds no pivot that
+/// isn't positive and no number of condensing or of the pivots that is too wide. It accepts, unless a number of a sum that it forms over a
+/// law or at a leaf needs more than 128 bits, or there is no memory. Where all numbers of these sums fit, the controller is one that is
+/// accepted. The call does nothing: its clauses are the law.
+pub fn compiled_accepted()
+    ensures found { OnlyWidthFound }
+    ensures answer { NoRefusal }
+    ensures error { OnlyWidthErrs }
+    ensures fitting { FittingIsAccepted }
+{
+    pivot_laws();
+    one_program();
+    one_finding();
+    law_conditions();
+    one_path();
+    preorder_laws();
+}

@@ -1,8 +1,8 @@
 -- The variables of the columns: those at the opening, and that they stay where rows come behind.
-use Rattle.std.proofs.Common.{◌≡◌, ℕ, ◌-◌, ◌<◌, ◌≤◌, List, length, sym, ◌∙◌, ap, subst, arith, ◌⊎◌, inl, inr, lt-ltb}
+use Rattle.std.proofs.Common.{◌≡◌, ℕ, ◌-◌, ◌<◌, ◌≤◌, List, length, ◌∙◌, ap, subst, arith, ◌⊎◌, inl, inr, lt-ltb}
 use Rattle.std.proofs.lemmas.Bool.{both_ways, cases_lt, cond-true}
 use Rattle.std.proofs.lemmas.List.{get_or_past}
-use Rattle.mpc_rows.specs.LinearSystem.{LinearSystem, height}
+use Rattle.mpc_rows.specs.LinearSystem.{LinearSystem}
 use Rattle.mpc_rows.specs.Run.{is_unknown}
 use Rattle.mpc_whole.specs.declared.variables.Seat.{Seat}
 use Rattle.mpc_whole.specs.declared.variables.Seat.TheVariants.{Row, Column}
@@ -27,12 +27,3 @@ longer_columns h w n seats z longer g nonbasic a = record {
   each = a.each;
   at = λ c l. g.kept (variable_at nonbasic c) (subst (λ m. variable_at nonbasic c < m) z.each (seated_below seats (variable_at nonbasic c) c (a.at c l))) ∙ a.at c l;
 }
-
--- the same where the lists that are given stand for these
-pub columns_from : (w n : ℕ) (seats : List Seat) (h : ℕ) → IsSeated h w n seats → (nonbasic : List ℕ) → AreNonbasic w seats nonbasic → (first : List Seat) → first ≡ seats → (height : ℕ) → height ≡ h → (later now : List Seat) → now ≡ later
-    → ((w n : ℕ) → IsSeated height w n first → AreLongerSeats n first later) → (variables : List ℕ) → variables ≡ nonbasic → (width : ℕ) → width ≡ w → AreNonbasic width now variables
-columns_from w n seats h z nonbasic a first ef height eh later now en grown variables ev width ew =
-    let zf : IsSeated height w n first = subst (λ m. IsSeated m w n first) (sym eh) (subst (λ (t : List Seat). IsSeated h w n t) (sym ef) z) in
-    let af : AreNonbasic w first nonbasic = subst (λ (t : List Seat). AreNonbasic w t nonbasic) (sym ef) a in
-    let l : AreNonbasic w later nonbasic = longer_columns height w n first zf later (grown w n zf) nonbasic af in
-    subst (λ m. AreNonbasic m now variables) (sym ew) (subst (λ (t : List Seat). AreNonbasic w t variables) (sym en) (subst (λ (t : List ℕ). AreNonbasic w later t) (sym ev) l))

@@ -1,21 +1,20 @@
--- At each position of a run the row of a side is the combination of the rows of the unknowns, and so is its value.
+-- At each position of a run the row of a side is the combination of the rows of the unknowns.
 use Rattle.std.proofs.Common.{◌≡◌, ℕ, ◌+◌, ◌<◌, ◌≤◌, List, length, get_or, pos, [], ◌∷◌, sym, ◌∙◌, ap, arith, ◌⊎◌, inl, inr, length-append}
 use Rattle.std.proofs.lemmas.Bool.{cases_lt}
 use Rattle.mpc_exact.specs.Rational.{ℚ, int, ◌*ℚ◌}
-use Rattle.mpc_exact.specs.Pair.{Pair}
 use Rattle.mpc_exact.proofs.RationalRing.{reads, by_ring}
 use Rattle.mpc_space.specs.Total.{total, unit}
 use Rattle.mpc_space.specs.Vector.{coordinate}
 use Rattle.mpc_space.proofs.Total.{total-same, total-zeros, total-unit}
 use Rattle.mpc_rows.specs.declared.systems.Row.{Row}
 use Rattle.mpc_rows.specs.LinearSystem.{LinearSystem, height, row_at, no_row, entry}
-use Rattle.mpc_rows.specs.Run.{count, value, opening, position, steps}
+use Rattle.mpc_rows.specs.Run.{count, opening, position, steps}
 use Rattle.mpc_beginnings.specs.Beginnings.{lengthened, Agrees, late}
 use Rattle.mpc_whole.proofs.TableauRows.{Meets, row_value, values_meet}
 use Rattle.mpc_whole.proofs.LeftSides.{side_value}
-use Rattle.mpc_whole.proofs.Positions.{tableau, same_rows, firsts, seconds, firsts_meet, seconds_meet}
+use Rattle.mpc_whole.proofs.Positions.{tableau, same_rows}
 use Rattle.mpc_whole.proofs.Outside.{within}
-use Rattle.mpc_beginnings.proofs.Prefix.{row_above, value_agrees}
+use Rattle.mpc_beginnings.proofs.Prefix.{row_above}
 use Rattle.mpc_beginnings.proofs.SharedRun.{positions_agree}
 
 times_unit : (n : ℕ) (c : ℕ → ℚ) (y : ℕ) → y < n → total n (λ z. c z *ℚ unit y z) ≡ c y
@@ -53,15 +52,6 @@ module _ (s : LinearSystem) (k : ℕ) where
   pub side_row : (i y : ℕ) → i < height s → (position s k).coefficient (s.width + i) y ≡ late s (row_at s i) (position s k) y
   side_row i y h = row_cases i y h (cases_lt y (count s))
 
-  -- its value, in both parts
-  pub side_first : (i : ℕ) → i < height s → (value s (position s k) (s.width + i)).first ≡ total s.width (λ j. coordinate (row_at s i).a j *ℚ (value s (position s k) j).first)
-  unfolding entry
-  side_first i h = side_value s (firsts s (position s k)) ((same_rows s k).back (firsts s (position s k)) (firsts_meet s k)) i h
-
-  pub side_second : (i : ℕ) → i < height s → (value s (position s k) (s.width + i)).second ≡ total s.width (λ j. coordinate (row_at s i).a j *ℚ (value s (position s k) j).second)
-  unfolding entry
-  side_second i h = side_value s (seconds s (position s k)) ((same_rows s k).back (seconds s (position s k)) (seconds_meet s k)) i h
-
 -- ---- a further side, from the unknowns at the shorter system's position
 module _ (s : LinearSystem) (more : List Row) (k : ℕ) (h : k ≤ steps s) (i : ℕ) (b : i < length more) where
   place : s.width + (height s + i) ≡ count s + i
@@ -83,22 +73,3 @@ module _ (s : LinearSystem) (more : List Row) (k : ℕ) (h : k ≤ steps s) (i :
       ∙ side_row (lengthened s more) k (height s + i) y inside
       ∙ ap (λ r. late (lengthened s more) r (position (lengthened s more) k) y) (row_above s more i)
       ∙ late_agrees (get_or more i no_row) y
-
-  value_at : (j : ℕ) → j < s.width → value (lengthened s more) (position (lengthened s more) k) j ≡ value s (position s k) j
-  value_at j l = value_agrees s more (position s k) (position (lengthened s more) k) (within s k) (tableau (lengthened s more) k) agrees j (omega arith)
-
-  pub appended_first : (value (lengthened s more) (position (lengthened s more) k) (count s + i)).first ≡ total s.width (λ j. coordinate (get_or more i no_row).a j *ℚ (value s (position s k) j).first)
-  appended_first =
-      ap (λ x. (value (lengthened s more) (position (lengthened s more) k) x).first) (sym place)
-      ∙ side_first (lengthened s more) k (height s + i) inside
-      ∙ ap (λ (r : Row). total s.width (λ j. coordinate r.a j *ℚ (value (lengthened s more) (position (lengthened s more) k) j).first)) (row_above s more i)
-      ∙ total-same s.width (λ j. coordinate (get_or more i no_row).a j *ℚ (value (lengthened s more) (position (lengthened s more) k) j).first) (λ j. coordinate (get_or more i no_row).a j *ℚ (value s (position s k) j).first)
-      (λ j l. ap (λ (v : Pair). coordinate (get_or more i no_row).a j *ℚ v.first) (value_at j l))
-
-  pub appended_second : (value (lengthened s more) (position (lengthened s more) k) (count s + i)).second ≡ total s.width (λ j. coordinate (get_or more i no_row).a j *ℚ (value s (position s k) j).second)
-  appended_second =
-      ap (λ x. (value (lengthened s more) (position (lengthened s more) k) x).second) (sym place)
-      ∙ side_second (lengthened s more) k (height s + i) inside
-      ∙ ap (λ (r : Row). total s.width (λ j. coordinate r.a j *ℚ (value (lengthened s more) (position (lengthened s more) k) j).second)) (row_above s more i)
-      ∙ total-same s.width (λ j. coordinate (get_or more i no_row).a j *ℚ (value (lengthened s more) (position (lengthened s more) k) j).second) (λ j. coordinate (get_or more i no_row).a j *ℚ (value s (position s k) j).second)
-      (λ j l. ap (λ (v : Pair). coordinate (get_or more i no_row).a j *ℚ v.second) (value_at j l))

@@ -8,6 +8,5 @@ pub mod TurnedRows
 pub mod LongerSeats
 pub mod Columns
 pub mod WholeShared
-pub mod CoveredRows
 pub mod Continued
 pub mod Seated

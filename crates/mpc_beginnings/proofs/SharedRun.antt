@@ -1,5 +1,5 @@
 -- The run of the longer system, step by step: up to the last position of the shorter one, and how it ends where that one is refuted.
-use Rattle.std.proofs.Common.{◌≡◌, ℕ, zero, suc, ◌+◌, ◌-◌, ◌<◌, ◌≤◌, true, cond, eqb, List, ◌++◌, length, get_or, ℤ, pos, refl, sym, ◌∙◌, ap, subst, subst₂, arith, ◌⊎◌, inl, inr, ne_eqb, length-append}
+use Rattle.std.proofs.Common.{◌≡◌, ℕ, zero, suc, ◌+◌, ◌-◌, ◌<◌, ◌≤◌, true, cond, eqb, List, ◌++◌, length, get_or, ℤ, pos, sym, ◌∙◌, ap, subst, subst₂, arith, ◌⊎◌, inl, inr, ne_eqb, length-append}
 use Rattle.std.proofs.lemmas.Bool.{cond-true, cond-false, cases_lt, both_ways}
 use Rattle.std.proofs.lemmas.List.{get_or_append_left, get_or-append_right, get_or-replicate, get_or_past, length-replicate}
 use Rattle.mpc_exact.specs.Rational.{ℚ, int, neg_ℚ}
@@ -15,7 +15,7 @@ use Rattle.mpc_beginnings.specs.Beginnings.{lengthened, Agrees}
 use Rattle.mpc_whole.proofs.Turn.{turn-at}
 use Rattle.mpc_whole.proofs.Positions.{tableau, goes_at, next_position, left_at, entered_at}
 use Rattle.mpc_whole.proofs.Outside.{within}
-use Rattle.mpc_whole.proofs.Ends.{run_ends, Reached, position-zero}
+use Rattle.mpc_whole.proofs.Ends.{run_ends, position-zero}
 use Rattle.mpc_beginnings.proofs.Prefix.{opening_agrees, pivot_agrees, value_agrees, turn_agrees, leave_agrees}
 
 goes_no_point : (t : Turn) → is_pivot t ≡ true → t ≡ has_point → ⊥
@@ -73,9 +73,6 @@ module _ (s : LinearSystem) (more : List Row) where
     first = λ j l. ap (λ q. q.first) (same_value j (omega arith)) ∙ h.first j l;
     second = λ j l. ap (λ q. q.second) (same_value j (omega arith)) ∙ h.second j l;
   }
-
-  unfoldable pub last_reached : Reached (lengthened s more) (position (lengthened s more) (steps s))
-  last_reached = record { after = steps s; order = steps_longer; is = refl }
 
   -- ---- where the shorter one is refuted
   module _ (l : ℕ) (ends : turn s (last_position s) ≡ is_refuted l) where

@@ -14,7 +14,7 @@ use Rattle.mpc_space.proofs.Total.{total-same, total-scale, total-zeros, total-u
 use Rattle.mpc_rows.specs.declared.systems.Row.{Row}
 use Rattle.mpc_rows.specs.LinearSystem.{LinearSystem, height, row_at}
 use Rattle.mpc_rows.specs.SetRuns.{turned}
-use Rattle.mpc_rows.specs.Run.{Position, IsTableau, is_refuted, goes_on, count, rest, turn, position, entering_row, steps, last_position}
+use Rattle.mpc_rows.specs.Run.{Position, IsTableau, goes_on, count, rest, turn, position, entering_row}
 use Rattle.mpc_rows.specs.RunWidth.{RowFits, PositionFits, RunFits}
 use Rattle.mpc_beginnings.specs.Beginnings.{lengthened, late, SideTermFits, SideValueFits, SideRowFits, AppendedFits, BeginningFits, LaterFits, AllAppendedFit, NumbersFit, AreTurned}
 use Rattle.mpc_whole.proofs.Pivot.{entering-at_leaving, entering-other}
@@ -24,7 +24,7 @@ use Rattle.mpc_whole.proofs.LeftSides.{is_side, bound-first, bound-second}
 use Rattle.mpc_beginnings.proofs.LateRows.{side_row}
 use Rattle.mpc_beginnings.proofs.NumberFits.{fits_as, fits_sum_as, fits_sum_neg, fits_sum_own}
 use Rattle.mpc_beginnings.proofs.CoefficientsFit.{CoefficientsFit, fits_zero, fits_one, coefficients_fit}
-use Rattle.mpc_beginnings.proofs.SharedFits.{there_at, fits_split, refuted_split}
+use Rattle.mpc_beginnings.proofs.SharedFits.{fits_split}
 
 neg_product : (c r : ℚ) → neg_ℚ (c *ℚ r) ≡ neg_ℚ c *ℚ r
 neg_product c r = by_ring (c ∷ r ∷ []) (search reads depth 30) (search reads depth 30) tt
@@ -243,13 +243,6 @@ module _ (laws : FitLaws) where
     pub turned_beginning : RunFits s → BeginningFits s more
     turned_beginning f = record { each = λ k i h m. (turned_all f).each k i (omega arith) m }
 
-    pub turned_before : RunFits s → (q : ℕ) → q < steps s → PositionFits (lengthened s more) (position (lengthened s more) q)
-    turned_before f q l = there_at s more q l (f.fits q (omega arith)) (λ i m. (turned_beginning f).each q i l m)
-
     -- so only what comes from the shorter run's last position on is left
     pub turned_fits : RunFits (lengthened s more) ↔ (RunFits s × LaterFits s more)
     turned_fits = (λ h. (let z = (fits_split s more).0 h in (z.0, z.2)), λ h. (fits_split s more).1 (h.0, turned_beginning h.0, h.1))
-
-    -- and nothing where that one is refuted
-    pub turned_refuted : (l : ℕ) → turn s (last_position s) ≡ is_refuted l → RunFits (lengthened s more) ↔ RunFits s
-    turned_refuted l e = (λ h. ((refuted_split s more l e).0 h).0, λ h. (refuted_split s more l e).1 (h, turned_all h))

@@ -6,13 +6,13 @@ use Rattle.std.proofs.lemmas.List.{get_or_append_left, get_or-append_right, get_
 use Rattle.mpc_exact.specs.Rational.{frac}
 use Rattle.mpc_rows.specs.declared.systems.Row.{Row as LinearRow}
 use Rattle.mpc_rows.specs.LinearSystem.{LinearSystem}
-use Rattle.mpc_rows.specs.Run.{is_refuted, count, rest, turn, position, steps, last_position}
-use Rattle.mpc_rows.specs.RunWidth.{PositionFits, RunFits}
+use Rattle.mpc_rows.specs.Run.{count, rest, position, steps, last_position}
+use Rattle.mpc_rows.specs.RunWidth.{PositionFits}
 use Rattle.mpc_whole.specs.declared.variables.Seat.{Seat}
 use Rattle.mpc_whole.specs.declared.variables.Seat.TheVariants.{Row, Column}
 use Rattle.mpc_whole.specs.Table.{seat_at, in_row}
 use Rattle.mpc_whole.specs.Whole.{whole_cell, scale_at, IsSmall, IsWholeSystem, HasBounds, IsNarrow, IsForm, AreValues, Stands}
-use Rattle.mpc_whole.specs.Underway.{StayBefore}
+use Rattle.mpc_whole.specs.Underway.{StayBefore, IsUnderway}
 use Rattle.mpc_whole.proofs.Outside.{within}
 use Rattle.mpc_whole.proofs.Ends.{Reached}
 use Rattle.mpc_whole.proofs.WholeNorms.{norms_fit}
@@ -20,7 +20,7 @@ use Rattle.mpc_whole.proofs.WholeForm.{row_den, den_some, den_small, entries_ove
 use Rattle.mpc_whole.specs.SharedSizes.{IsSmallForm, AreSmallBefore}
 use Rattle.mpc_beginnings.specs.Beginnings.{lengthened, Agrees}
 use Rattle.mpc_beginnings.specs.LongerSeats.{AreLongerSeats}
-use Rattle.mpc_beginnings.proofs.SharedRun.{positions_agree, values_agree, steps_longer, refuted_steps, refuted_last}
+use Rattle.mpc_beginnings.proofs.SharedRun.{positions_agree, values_agree, steps_longer}
 
 -- ---- kept sizes within the limit of a system: all fits at the position
 module _ (s : LinearSystem) (k : List ℕ) (a b : List ℤ) (w : IsWholeSystem s k a b) (most : ℕ) (g : HasBounds s k a b most) (hist hist_den scale : ℕ) (scales : (x : ℕ) → scale_at k x ≤ scale) (small : hist ≤ most) (room : hist_den * scale ≤ 2 ^ 62) where
@@ -117,16 +117,6 @@ module _ (s : LinearSystem) (more : List LinearRow) (k further : List ℕ) (same
     unfolding stands_from
     before_from = small_longer
 
-  -- ---- where the shorter system is refuted, the numbers at its end stand at the longer run's end
-  module _ (l : ℕ) (ends : turn s (last_position s) ≡ is_refuted l) where
-    pub form_refuted : (n : ℕ) → n ≡ count s → (seats longer : List Seat) → AreLongerSeats (count s) seats longer → (den : ℕ) (v : List ℤ) → IsForm s n seats k den v (last_position s) → (m : ℕ) → IsForm (lengthened s more) m longer further den v (last_position (lengthened s more))
-    unfolding last_position
-    form_refuted n whole seats longer grown den v f m =
-        subst (IsForm (lengthened s more) m longer further den v) (sym (refuted_last s more l ends)) (form_longer (steps s) (omega arith) n whole seats longer grown den v f m)
-
-    pub before_refuted : (most most_den : ℕ) → AreSmallBefore s k (steps s) most most_den → AreSmallBefore (lengthened s more) further (steps (lengthened s more)) most most_den
-    before_refuted most most_den z = subst (λ q. AreSmallBefore (lengthened s more) further q most most_den) (sym (refuted_steps s more l ends)) (small_longer most most_den z)
-
   -- ---- kept sizes within the limit of the longer system
   module _ (a b : List ℤ) (w : IsWholeSystem (lengthened s more) further a b) (most : ℕ) (g : HasBounds (lengthened s more) further a b most) (hist hist_den scale : ℕ) (scales : (x : ℕ) → scale_at further x ≤ scale) (small : hist ≤ most) (room : hist_den * scale ≤ 2 ^ 62) where
     fits_at : (q : ℕ) → q ≤ steps s → IsSmallForm s k (position s q) hist hist_den → PositionFits (lengthened s more) (position (lengthened s more) q)
@@ -137,31 +127,22 @@ module _ (s : LinearSystem) (more : List LinearRow) (k further : List ℕ) (same
       fits_before q l = fits_at q (omega arith) (z.each q l)
 
       module _ (n : ℕ) (whole : n ≡ count s) (seats longer : List Seat) (grown : AreLongerSeats (count s) seats longer) (den : ℕ) (v : List ℤ) (f : IsForm s n seats k den v (last_position s)) (m : ℕ) where
-        unfoldable pub stands_longer : Stands (lengthened s more) m longer further den v
+        unfoldable stands_longer : Stands (lengthened s more) m longer further den v
         stands_longer = stands_from fits_before n whole seats longer grown den v f m
 
         -- with the same values of the unknowns
-        pub values_longer : (c_1 c_2 : List ℤ) → AreValues s (last_position s) den c_1 c_2 → AreValues (lengthened s more) (position (lengthened s more) stands_longer.at) den c_1 c_2
+        values_longer : (c_1 c_2 : List ℤ) → AreValues s (last_position s) den c_1 c_2 → AreValues (lengthened s more) (position (lengthened s more) stands_longer.at) den c_1 c_2
         unfolding stands_longer stands_from
         values_longer c_1 c_2 h = values_agree s more den c_1 c_2 h
 
-        pub before_longer : AreSmallBefore (lengthened s more) further stands_longer.at hist hist_den
+        before_longer : AreSmallBefore (lengthened s more) further stands_longer.at hist hist_den
         unfolding stands_longer
         before_longer = before_from fits_before n whole seats longer grown den v f m hist hist_den z
 
-        pub stay_longer : (first : ℕ) → StayBefore (lengthened s more) (position (lengthened s more) (steps s)) first → StayBefore (lengthened s more) (position (lengthened s more) stands_longer.at) first
+        stay_longer : (first : ℕ) → StayBefore (lengthened s more) (position (lengthened s more) (steps s)) first → StayBefore (lengthened s more) (position (lengthened s more) stands_longer.at) first
         unfolding stands_longer stands_from
         stay_longer first h = h
 
-      -- so it does up to the last position, where the shorter system is refuted
-      module _ (l : ℕ) (ends : turn s (last_position s) ≡ is_refuted l) (last : IsSmallForm s k (last_position s) hist hist_den) where
-        each_fits : (q : ℕ) → (q < steps s) ⊎ (steps s ≤ q) → q ≤ steps (lengthened s more) → PositionFits (lengthened s more) (position (lengthened s more) q)
-        unfolding last_position
-        each_fits q (inl b) h = fits_before q b
-        each_fits q (inr b) h =
-            let o : steps (lengthened s more) ≡ steps s = refuted_steps s more l ends in
-            let e : steps s ≡ q = omega arith in
-            subst (λ i. PositionFits (lengthened s more) (position (lengthened s more) i)) e (fits_at (steps s) (omega arith) last)
-
-        pub fits_refuted : RunFits (lengthened s more)
-        fits_refuted = record { fits = λ q h. each_fits q (cases_lt q (steps s)) h }
+        pub longer_underway : (c_1 c_2 : List ℤ) → AreValues s (last_position s) den c_1 c_2 → (first : ℕ) → s.width ≤ first → StayBefore (lengthened s more) (position (lengthened s more) (steps s)) first
+            → IsUnderway (lengthened s more) m longer further den v c_1 c_2 hist hist_den first
+        longer_underway c_1 c_2 h first from stay = record { stands = stands_longer; values = values_longer c_1 c_2 h; before = before_longer; side = from; stay = stay_longer first stay }

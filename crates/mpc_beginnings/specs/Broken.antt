@@ -2,6 +2,7 @@
 use Rattle.std.specs.Prelude.{◌≡◌}
 use Rattle.mpc_rows.specs.LinearSystem.{LinearSystem}
 use Rattle.mpc_rows.specs.Run.{has_point, turn, last_position}
+use Rattle.mpc_rows.specs.RunWidth.{RunFits}
 use Rattle.mpc_whole.specs.RunEnd.{EndsRefuted}
 use Rattle.mpc_beginnings.specs.declared.kept.Broken.{Broken}
 use Rattle.mpc_beginnings.specs.declared.kept.Broken.TheVariants.{Point, Refuted}
@@ -10,3 +11,7 @@ use Rattle.mpc_beginnings.specs.declared.kept.Broken.TheVariants.{Point, Refuted
 abbrev pub IsBroken : LinearSystem → Broken → Type 0
 IsBroken s (Point run) = (run ≡ s) × (turn s (last_position s) ≡ has_point)
 IsBroken s (Refuted m) = EndsRefuted s m
+
+-- and all that the run forms fits
+abbrev pub IsBrokenEnd : LinearSystem → Broken → Type 0
+IsBrokenEnd s b = IsBroken s b × RunFits s

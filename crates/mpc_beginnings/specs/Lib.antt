@@ -1,4 +1,5 @@
 pub mod Beginnings
 pub mod LongerSeats
+pub mod RunLists
 pub mod Kept
 pub mod Broken

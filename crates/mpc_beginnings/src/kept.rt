@@ -1,43 +1,41 @@
 //! Runs in whole numbers that are kept where they end.
 
-ghost use Rattle.std.specs.Prelude.{◌≡◌, ℕ, ℤ, ◌+◌, ◌*◌, ◌<◌, ◌≤◌, ◌^◌, [], ◌∷◌, IsTrue, IfSome, IfOk, List, length, true, false};
+ghost use Rattle.std.specs.Prelude.{◌≡◌, ℕ, ℤ, ◌*◌, ◌<◌, ◌≤◌, ◌^◌, [], ◌∷◌, IsTrue, IfSome, IfOk, List, length, true, false};
 ghost use Rattle.mpc_rows.specs.LinearSystem.{height, row_at};
 ghost use Rattle.mpc_rows.specs.Run.{count, has_point, is_refuted, turn, last_position};
 ghost use Rattle.mpc_rows.specs.RunWidth.{RunFits};
 ghost use Rattle.mpc_rows.specs.LawRows.{broken_row};
 ghost use Rattle.mpc_rows.specs.SetRuns.{turned};
 ghost use Rattle.mpc_whole.specs.declared.variables.Seat.{Seat};
-ghost use Rattle.mpc_whole.specs.Table.{IsSeated, AreNonbasic};
-ghost use Rattle.mpc_whole.specs.RunEnd.{IsEnd, IsValues, IsMultipliers};
-ghost use Rattle.mpc_whole.specs.Whole.{scale_at, IsSmall, IsNarrow, IsForm, AreValues, IsWholeSystem, HasBounds, HasRoom};
-ghost use Rattle.mpc_whole.specs.Underway.{turn_of, HasEnded};
+ghost use Rattle.mpc_whole.specs.RunEnd.{IsEnd, IsValues, EndsRefuted};
+ghost use Rattle.mpc_whole.specs.Whole.{IsSmall, IsNarrow, HasBounds, HasRoom};
+ghost use Rattle.mpc_whole.specs.Underway.{turn_of};
 ghost use Rattle.mpc_beginnings.specs.Beginnings.{lengthened};
-ghost use Rattle.mpc_beginnings.specs.Broken.{IsBroken};
-ghost use Rattle.mpc_beginnings.specs.Kept.{IsKept, IsFirstLater, IsLonger, IsUnderwayWithin, IsRefuted};
+ghost use Rattle.mpc_beginnings.specs.Broken.{IsBroken, IsBrokenEnd};
+ghost use Rattle.mpc_beginnings.specs.Kept.{AreNumbers, AreListsOf, IsKept, IsReached, IsFirstLater, IsLonger, IsUnderwayWithin, IsRefuted, IsMet};
 
-use crate::lists::{
-    begins_with, first_nonbasic, first_numbers, first_seats, first_values, lengthen, push_turned,
-    put_numbers, put_seats, put_variables, sizes, with_row, with_turned,
-};
-use mpc_frac::Frac;
+use crate::lists::{RunLists, begins_with, lengthen, push_turned, sizes, with_row, with_turned};
 use mpc_linear::RowInt;
 use mpc_rows::{Multipliers, PairPoint, Row, System};
 use mpc_whole::{
-    End, Ending, Place, Seat, Standing, WholeNumbers, WholeSystem, last_multipliers, last_values,
-    limit, whole_run, zero_pairs, zeros,
+    End, Ending, Place, WholeNumbers, WholeSystem, last_multipliers, last_values, limit, whole_run,
+    zero_pairs, zeros,
 };
 use std::alloc::{AllocError, Global};
 use std::marker::Model;
 
+/// The numbers of the rows times their scales, with bounds of their sizes.
+fn numbers_of(system: &WholeSystem) -> WholeNumbers
+    ensures { AreNumbers system.now result }
+{
+    system.numbers()
+}
+
 /// What the numbers of a position may have, if the sizes that are kept of those that stand and of those
 /// before are within that.
 fn limit_of(system: &WholeSystem, numbers: &WholeNumbers, n: usize, from: Place) -> Option<u64>
-    requires count { n ≡ system.now.width + height system.now }
-    requires entries { IsSmall numbers.now.most_entry numbers.now.a.now }
-    requires sides { IsSmall numbers.now.most_side numbers.now.b.now }
-    requires some_side { 1 ≤ numbers.now.most_side }
-    requires scales { (x : ℕ) → scale_at numbers.now.scales.now x ≤ numbers.now.most_scale }
-    requires some_scale { 1 ≤ numbers.now.most_scale }
+    requires count { n ≡ count system.now }
+    requires numbers { AreNumbers system.now numbers.now }
     ensures bounds { IfSome result (λ m. HasBounds system.now numbers.now.scales.now numbers.now.a.now numbers.now.b.now m) }
     ensures room { IfSome result (λ _. HasRoom system.now.width (2 ^ 62) numbers.now.a.now) }
     ensures top { IfSome result (λ m. m ≤ 2 ^ 62) }
@@ -64,57 +62,33 @@ fn limit_of(system: &WholeSystem, numbers: &WholeNumbers, n: usize, from: Place)
     Some(most)
 }
 
-/// The run from a position to its end, where whole numbers serve for it. The values of the unknowns go with
-/// it.
+/// The run from a position to its end, where whole numbers serve for it.
 fn run_on(
-    seats: &mut [Seat],
-    nonbasic: &mut [usize],
-    v: &mut [i64],
-    firsts: &mut [i64],
-    seconds: &mut [i64],
-    work: &mut [i64],
+    lists: &mut RunLists,
+    work: &mut Vec<i64>,
     system: &WholeSystem,
     numbers: &WholeNumbers,
-    n: usize,
     from: Place,
-) -> Option<(Place, Ending)>
-    requires count { n ≡ system.now.width + height system.now }
-    requires line { system.now.width ≤ length work.old }
-    requires seated { IsSeated (height system.now) system.now.width n seats.old }
-    requires columns { AreNonbasic system.now.width seats.old nonbasic.old }
-    requires square { length v.old ≡ system.now.width * system.now.width }
-    requires first_size { length firsts.old ≡ system.now.width }
-    requires second_size { length seconds.old ≡ system.now.width }
-    requires first_small { IsSmall (2 ^ 62) firsts.old }
-    requires second_small { IsSmall (2 ^ 62) seconds.old }
-    requires whole { IsWholeSystem system.now numbers.now.scales.now numbers.now.a.now numbers.now.b.now }
-    requires entries { IsSmall numbers.now.most_entry numbers.now.a.now }
-    requires sides { IsSmall numbers.now.most_side numbers.now.b.now }
-    requires some_side { 1 ≤ numbers.now.most_side }
-    requires scales { (x : ℕ) → scale_at numbers.now.scales.now x ≤ numbers.now.most_scale }
-    requires some_scale { 1 ≤ numbers.now.most_scale }
-    requires own { IsSmall from.own v.old }
-    requires start { IsUnderwayWithin system.now n seats.old numbers.now.scales.now numbers.now.a.now numbers.now.b.now numbers.now.most_scale from.den v.old firsts.old seconds.old from.greatest from.greatest_den from.first }
-    ensures end { IfSome result (λ t. HasEnded system.now n seats.new numbers.now.scales.now t.0.den v.new firsts.new seconds.new t.0.greatest t.0.greatest_den t.1) }
-    ensures seated { IfSome result (λ _. IsSeated (height system.now) system.now.width n seats.new) }
-    ensures columns { IfSome result (λ _. AreNonbasic system.now.width seats.new nonbasic.new) }
-    ensures small { IfSome result (λ _. IsSmall (2 ^ 62) v.new) }
-    ensures own { IfSome result (λ t. IsSmall t.0.own v.new) }
-    ensures den_small { IfSome result (λ t. t.0.den ≤ 2 ^ 62) }
-    ensures room { IfSome result (λ _. HasRoom system.now.width (2 ^ 62) numbers.now.a.now) }
-    ensures narrow { IfSome result (λ t. IsNarrow system.now n seats.new numbers.now.scales.now numbers.now.a.now t.0.den v.new) }
-    ensures first_small { IfSome result (λ _. IsSmall (2 ^ 62) firsts.new) }
-    ensures second_small { IfSome result (λ _. IsSmall (2 ^ 62) seconds.new) }
+) -> Result<Option<(Place, Ending)>, AllocError>
+    requires numbers { AreNumbers system.now numbers.now }
+    requires lists { AreListsOf system.now from.own lists.old }
+    requires start { IsUnderwayWithin system.now numbers.now lists.old from }
+    ensures { IfOk result (λ o. IfSome o (λ t. IsReached system.now numbers.now lists.new t.0 t.1)) }
 {
-    let most = limit_of(system, numbers, n, from)?;
-    let (x, _) = work.split_at_mut(system.unknowns());
+    let width = system.unknowns();
+    lengthen(work, width)?;
+    let n = lists.seats.len();
+    let Some(most) = limit_of(system, numbers, n, from) else {
+        return Ok(None);
+    };
+    let (x, _) = work.split_at_mut(width);
     let found = whole_run(
-        seats,
-        nonbasic,
-        v,
+        &mut lists.seats,
+        &mut lists.nonbasic,
+        &mut lists.v,
         x,
-        firsts,
-        seconds,
+        &mut lists.firsts,
+        &mut lists.seconds,
         system,
         numbers.scales,
         numbers.a,
@@ -122,111 +96,48 @@ fn run_on(
         n,
         from,
         most,
-    )?;
-    Some(found)
-}
-
-/// The values of the unknowns at the last position, from the numbers that are kept of them.
-fn point_at(
-    alloc: Global,
-    system: &WholeSystem,
-    firsts: &[i64],
-    seconds: &[i64],
-    den: u64,
-) -> Result<Option<PairPoint>, AllocError>
-    requires first_size { length firsts.now ≡ system.now.width }
-    requires second_size { length seconds.now ≡ system.now.width }
-    requires first_small { IsSmall (2 ^ 62) firsts.now }
-    requires second_small { IsSmall (2 ^ 62) seconds.now }
-    requires some { 0 < den }
-    requires den_small { den ≤ 2 ^ 62 }
-    requires values { AreValues system.now (last_position system.now) den firsts.now seconds.now }
-    ensures { IfOk result (λ o. IfSome o (λ p. IsValues system.now (last_position system.now) p)) }
-{
-    let mut values = zero_pairs(alloc, system.unknowns())?;
-    let found = last_values(&mut values, system, firsts, seconds, den);
+    );
     match found {
-        Some(()) => Ok(Some(PairPoint::of(values))),
+        Some(found) => Ok(Some(found)),
         None => Ok(None),
     }
 }
 
-/// The multipliers at the last position, where the row of the side l refutes, from the numbers of the
-/// system.
+/// The multipliers at the last position, where the row of the side l refutes.
 fn multipliers_of(
     alloc: Global,
-    work: &mut [i64],
+    work: &mut Vec<i64>,
     system: &WholeSystem,
     numbers: &WholeNumbers,
-    seats: &[Seat],
-    v: &[i64],
-    n: usize,
-    den: u64,
+    lists: &RunLists,
+    place: Place,
     l: usize,
 ) -> Result<Option<Multipliers>, AllocError>
-    requires line { system.now.width ≤ length work.old }
-    requires seated { IsSeated (height system.now) system.now.width n seats.now }
-    requires whole { IsWholeSystem system.now numbers.now.scales.now numbers.now.a.now numbers.now.b.now }
-    requires room { HasRoom system.now.width (2 ^ 62) numbers.now.a.now }
-    requires square { length v.now ≡ system.now.width * system.now.width }
-    requires small { IsSmall (2 ^ 62) v.now }
-    requires den_small { den ≤ 2 ^ 62 }
-    requires narrow { IsNarrow system.now n seats.now numbers.now.scales.now numbers.now.a.now den v.now }
-    requires form { IsForm system.now n seats.now numbers.now.scales.now den v.now (last_position system.now) }
-    requires refuted { turn system.now (last_position system.now) ≡ is_refuted l }
-    ensures { IfOk result (λ o. IfSome o (λ m. IsMultipliers system.now (last_position system.now) l m)) }
+    requires numbers { AreNumbers system.now numbers.now }
+    requires reached { IsReached system.now numbers.now lists.now place (Ending.Refuted l) }
+    ensures { IfOk result (λ o. IfSome o (EndsRefuted system.now)) }
 {
+    let width = system.unknowns();
+    lengthen(work, width)?;
     let mut list = zeros(alloc, system.height())?;
-    let (x, _) = work.split_at_mut(system.unknowns());
+    let (x, _) = work.split_at_mut(width);
     let found = last_multipliers(
         &mut list,
         x,
         system,
         numbers.scales,
-        seats,
+        &lists.seats,
         numbers.a,
         numbers.b,
-        v,
-        n,
-        den,
+        &lists.v,
+        lists.seats.len(),
+        place.den,
         l,
     );
     match found {
         Some(()) => Ok(Some(Multipliers::of(list))),
         None => Ok(None),
     }
-}
-
-/// The multipliers at the last position, where the row of the side l refutes.
-fn multipliers_at(
-    alloc: Global,
-    work: &mut [i64],
-    system: &WholeSystem,
-    scales: &[u64],
-    seats: &[Seat],
-    v: &[i64],
-    n: usize,
-    place: Place,
-    l: usize,
-) -> Result<Option<Multipliers>, AllocError>
-    requires count { n ≡ system.now.width + height system.now }
-    requires line { system.now.width ≤ length work.old }
-    requires seated { IsSeated (height system.now) system.now.width n seats.now }
-    requires square { length v.now ≡ system.now.width * system.now.width }
-    requires small { IsSmall (2 ^ 62) v.now }
-    requires own { IsSmall place.own v.now }
-    requires form { IsForm system.now n seats.now scales.now place.den v.now (last_position system.now) }
-    requires refuted { turn system.now (last_position system.now) ≡ is_refuted l }
-    ensures { IfOk result (λ o. IfSome o (λ m. IsMultipliers system.now (last_position system.now) l m)) }
-{
-    let numbers = system.numbers();
-    if numbers.scales != scales {
-        return Ok(None);
-    }
-    let Some(_) = limit_of(system, &numbers, n, place) else {
-        return Ok(None);
-    };
-    multipliers_of(alloc, work, system, &numbers, seats, v, n, place.den, l)
 }
 
 /// Whether the run ends with a point.
@@ -240,14 +151,6 @@ fn is_point(end: Ending) -> bool
     }
 }
 
-/// The system that stood in a workspace, or a first one.
-fn scratch(alloc: Global, system: Option<WholeSystem>) -> Result<WholeSystem, AllocError> {
-    match system {
-        Some(system) => Ok(system),
-        None => WholeSystem::new(alloc, 0),
-    }
-}
-
 /// Lists that runs use, one after the other.
 #[derive(Drop)]
 pub struct Workspace {
@@ -255,11 +158,7 @@ pub struct Workspace {
     numbers: Vec<i64>,
     /// A system with further rows, and where its run stands.
     system: Option<WholeSystem>,
-    seats: Vec<Seat>,
-    nonbasic: Vec<usize>,
-    v: Vec<i64>,
-    firsts: Vec<i64>,
-    seconds: Vec<i64>,
+    lists: RunLists,
 }
 
 impl Workspace {
@@ -268,31 +167,27 @@ impl Workspace {
         Workspace {
             numbers: Vec::new(alloc),
             system: None,
-            seats: Vec::new(alloc),
-            nonbasic: Vec::new(alloc),
-            v: Vec::new(alloc),
-            firsts: Vec::new(alloc),
-            seconds: Vec::new(alloc),
+            lists: RunLists::new(alloc),
         }
     }
+}
+
+/// The end of a run.
+#[derive(Drop)]
+struct Ended {
+    /// The scales that the numbers are by: 1 for each unknown, then one for each row.
+    scales: Vec<u64>,
+    /// The lists at the last position.
+    lists: RunLists,
+    place: Place,
+    end: Ending,
 }
 
 /// A system whose run in whole numbers is kept where it ends.
 #[derive(Drop)]
 pub struct KeptRun {
     system: WholeSystem,
-    /// The scales that the numbers are by: 1 for each unknown, then one for each row.
-    scales: Vec<u64>,
-    /// Where the variables stand at the last position, and which of them stand in the columns.
-    seats: Vec<Seat>,
-    nonbasic: Vec<usize>,
-    /// The numbers of the last position.
-    v: Vec<i64>,
-    /// The values of the unknowns there, in their first parts and in their second ones.
-    firsts: Vec<i64>,
-    seconds: Vec<i64>,
-    place: Place,
-    end: Ending,
+    last: Ended,
 }
 
 impl Model for KeptRun {
@@ -304,66 +199,65 @@ impl Model for KeptRun {
 
     ghost view = { λ r. r.system };
 
-    ghost invariant = { λ r. IsKept r.system r.scales.items r.seats.items r.nonbasic.items r.v.items r.firsts.items r.seconds.items r.place r.end };
+    ghost invariant = { λ r. IsKept r.system r.last.scales.items r.last.lists r.last.place r.last.end };
 }
 
-/// What is kept of a run that came to its end.
-fn kept(
-    system: WholeSystem,
-    scales: Vec<u64>,
-    seats: Vec<Seat>,
-    nonbasic: Vec<usize>,
-    v: Vec<i64>,
-    firsts: Vec<i64>,
-    seconds: Vec<i64>,
-    found: Option<(Place, Ending)>,
-) -> Option<KeptRun>
-    requires { IfSome found (λ t. IsKept system scales.items seats.items nonbasic.items v.items firsts.items seconds.items t.0 t.1) }
-    ensures { IfSome result (λ r. r ≡ system) }
+/// The run of the system from its opening to its end, where whole numbers serve for it.
+fn first_end(
+    alloc: Global,
+    work: &mut Vec<i64>,
+    system: &WholeSystem,
+) -> Result<Option<Ended>, AllocError>
+    ensures { IfOk result (λ o. IfSome o (λ e. IsKept system.now e.scales.items e.lists e.place e.end)) }
 {
-    let (place, end) = found?;
-    Some(KeptRun {
-        system,
-        scales,
-        seats,
-        nonbasic,
-        v,
-        firsts,
-        seconds,
-        place,
-        end,
-    })
+    let width = system.unknowns();
+    let Some((n, square)) = sizes(system.height(), width) else {
+        return Ok(None);
+    };
+    let mut lists = RunLists::first(alloc, system, n, square)?;
+    let numbers = numbers_of(system);
+    let scales = numbers.scales.to_vec(alloc)?;
+    let from = Place {
+        den: 1,
+        own: 1,
+        greatest: 0,
+        greatest_den: 0,
+        first: width,
+    };
+    match run_on(&mut lists, work, system, &numbers, from)? {
+        Some((place, end)) => Ok(Some(Ended {
+            scales,
+            lists,
+            place,
+            end,
+        })),
+        None => Ok(None),
+    }
 }
 
-/// What is kept of a run that stands at its end in the lists of a workspace, in lists of its own.
+/// What is kept of a run that stands at its end in these lists, in lists of its own.
 fn kept_copy(
     alloc: Global,
     system: &WholeSystem,
     scales: &[u64],
-    work: &Workspace,
+    lists: &RunLists,
     place: Place,
     end: Ending,
 ) -> Result<KeptRun, AllocError>
-    requires { IsKept system.now scales.now work.now.seats.items work.now.nonbasic.items work.now.v.items work.now.firsts.items work.now.seconds.items place end }
+    requires { IsKept system.now scales.now lists.now place end }
     ensures { IfOk result (λ r. r ≡ system.now) }
 {
     let own = system.copy_with_room(alloc, 0)?;
     let scales = scales.to_vec(alloc)?;
-    let seats = work.seats.to_vec(alloc)?;
-    let nonbasic = work.nonbasic.to_vec(alloc)?;
-    let v = work.v.to_vec(alloc)?;
-    let firsts = work.firsts.to_vec(alloc)?;
-    let seconds = work.seconds.to_vec(alloc)?;
+    let lists = lists.copy(alloc)?;
     Ok(KeptRun {
         system: own,
-        scales,
-        seats,
-        nonbasic,
-        v,
-        firsts,
-        seconds,
-        place,
-        end,
+        last: Ended {
+            scales,
+            lists,
+            place,
+            end,
+        },
     })
 }
 
@@ -385,38 +279,10 @@ impl KeptRun {
     ) -> Result<Option<KeptRun>, AllocError>
         ensures { IfOk result (λ o. IfSome o (λ r. r ≡ system)) }
     {
-        let width = system.unknowns();
-        let Some((n, square)) = sizes(system.height(), width) else {
-            return Ok(None);
-        };
-        let mut seats = first_seats(alloc, &system, n)?;
-        let mut nonbasic = first_nonbasic(alloc, width)?;
-        let mut v = first_numbers(alloc, width, square)?;
-        let mut firsts = first_values(alloc, width)?;
-        let mut seconds = first_values(alloc, width)?;
-        lengthen(&mut work.numbers, width)?;
-        let numbers = system.numbers();
-        let scales = numbers.scales.to_vec(alloc)?;
-        let from = Place {
-            den: 1,
-            own: 1,
-            greatest: 0,
-            greatest_den: 0,
-            first: width,
-        };
-        let found = run_on(
-            &mut seats,
-            &mut nonbasic,
-            &mut v,
-            &mut firsts,
-            &mut seconds,
-            &mut work.numbers,
-            &system,
-            &numbers,
-            n,
-            from,
-        );
-        Ok(kept(system, scales, seats, nonbasic, v, firsts, seconds, found))
+        match first_end(alloc, &mut work.numbers, &system)? {
+            Some(last) => Ok(Some(KeptRun { system, last })),
+            None => Ok(None),
+        }
     }
 
     /// The run of the system with one more row, from where this one ends on. `None` where whole
@@ -463,28 +329,34 @@ impl KeptRun {
         requires { IsLonger self.now system }
         ensures { IfOk result (λ o. IfSome o (λ r. r ≡ system)) }
     {
-        let width = system.unknowns();
-        let Some((n, square)) = sizes(system.height(), width) else {
-            return Ok(None);
-        };
-        let mut seats = Vec::with_capacity(alloc, n)?;
-        let mut nonbasic = Vec::with_capacity(alloc, width)?;
-        let mut v = Vec::with_capacity(alloc, square)?;
-        let mut firsts = Vec::with_capacity(alloc, width)?;
-        let mut seconds = Vec::with_capacity(alloc, width)?;
-        let numbers = system.numbers();
+        match self.longer_end(alloc, &mut work.numbers, &system)? {
+            Some(last) => Ok(Some(KeptRun { system, last })),
+            None => Ok(None),
+        }
+    }
+
+    /// The end of the run of a system with further rows behind this one's, in lists of its own.
+    fn longer_end(
+        &self,
+        alloc: Global,
+        work: &mut Vec<i64>,
+        longer: &WholeSystem,
+    ) -> Result<Option<Ended>, AllocError>
+        requires { IsLonger self.now longer.now }
+        ensures { IfOk result (λ o. IfSome o (λ e. IsKept longer.now e.scales.items e.lists e.place e.end)) }
+    {
+        let mut lists = RunLists::with_room(alloc, longer.height(), longer.unknowns())?;
+        let numbers = numbers_of(longer);
         let scales = numbers.scales.to_vec(alloc)?;
-        let found = self.go_on(
-            &mut seats,
-            &mut nonbasic,
-            &mut v,
-            &mut firsts,
-            &mut seconds,
-            &mut work.numbers,
-            &system,
-            &numbers,
-        )?;
-        Ok(kept(system, scales, seats, nonbasic, v, firsts, seconds, found))
+        match self.go_on(&mut lists, work, longer, &numbers)? {
+            Some((place, end)) => Ok(Some(Ended {
+                scales,
+                lists,
+                place,
+                end,
+            })),
+            None => Ok(None),
+        }
     }
 
     /// Whether the run ends with a point. No number that it forms is wide.
@@ -493,7 +365,7 @@ impl KeptRun {
         ensures refuted { result ≡ false → IsRefuted self.now }
         ensures fits { RunFits self.now }
     {
-        is_point(self.end)
+        is_point(self.last.end)
     }
 
     /// The first variable that may leave where the run ends, with whatever rows behind: where it ends
@@ -501,122 +373,127 @@ impl KeptRun {
     fn first_later(&self) -> usize
         ensures { IsFirstLater self.now result }
     {
-        match self.end {
-            Ending::Point => self.seats.len(),
+        match self.last.end {
+            Ending::Point => self.last.lists.seats.len(),
             Ending::Refuted(_) => self.system.unknowns(),
         }
     }
 
-    /// The run of a system with further rows behind this one's, from where this one ends on. The lists
-    /// become its seats, the variables of its columns, its numbers and the values of its unknowns.
+    /// The run of a system with further rows behind this one's, from where this one ends on.
     fn go_on(
         &self,
-        seats: &mut Vec<Seat>,
-        nonbasic: &mut Vec<usize>,
-        v: &mut Vec<i64>,
-        firsts: &mut Vec<i64>,
-        seconds: &mut Vec<i64>,
+        lists: &mut RunLists,
         work: &mut Vec<i64>,
         longer: &WholeSystem,
         numbers: &WholeNumbers,
     ) -> Result<Option<(Place, Ending)>, AllocError>
         requires longer { IsLonger self.now longer.now }
-        requires whole { IsWholeSystem longer.now numbers.now.scales.now numbers.now.a.now numbers.now.b.now }
-        requires entries { IsSmall numbers.now.most_entry numbers.now.a.now }
-        requires sides { IsSmall numbers.now.most_side numbers.now.b.now }
-        requires some_side { 1 ≤ numbers.now.most_side }
-        requires scales { (x : ℕ) → scale_at numbers.now.scales.now x ≤ numbers.now.most_scale }
-        requires some_scale { 1 ≤ numbers.now.most_scale }
-        ensures kept { IfOk result (λ o. IfSome o (λ t. IsKept longer.now numbers.now.scales.now seats.new.items nonbasic.new.items v.new.items firsts.new.items seconds.new.items t.0 t.1)) }
-        ensures line { IfOk result (λ o. IfSome o (λ _. longer.now.width ≤ length work.new.items)) }
-        ensures room { IfOk result (λ o. IfSome o (λ _. HasRoom longer.now.width (2 ^ 62) numbers.now.a.now)) }
-        ensures narrow { IfOk result (λ o. IfSome o (λ t. IsNarrow longer.now (count longer.now) seats.new.items numbers.now.scales.now numbers.now.a.now t.0.den v.new.items)) }
+        requires numbers { AreNumbers longer.now numbers.now }
+        ensures { IfOk result (λ o. IfSome o (λ t. IsReached longer.now numbers.now lists.new t.0 t.1)) }
     {
-        let width = longer.unknowns();
-        let Some((n, _)) = sizes(longer.height(), width) else {
-            return Ok(None);
-        };
-        put_seats(seats, &self.seats, self.system.height(), longer.height())?;
-        put_variables(nonbasic, &self.nonbasic)?;
-        put_numbers(v, &self.v)?;
-        put_numbers(firsts, &self.firsts)?;
-        put_numbers(seconds, &self.seconds)?;
-        lengthen(work, width)?;
-        if !begins_with(numbers.scales, &self.scales) {
+        lists.set_to(&self.last.lists, self.system.height(), longer.height())?;
+        if !begins_with(numbers.scales, &self.last.scales) {
             return Ok(None);
         }
         let from = Place {
-            den: self.place.den,
-            own: self.place.own,
-            greatest: self.place.greatest,
-            greatest_den: self.place.greatest_den,
             first: self.first_later(),
+            ..self.last.place
         };
-        let found = run_on(
-            seats, nonbasic, v, firsts, seconds, work, longer, numbers, n, from,
-        );
-        Ok(found)
+        run_on(lists, work, longer, numbers, from)
     }
 
-    /// What the run of the system with these rows behind its own ends with, where the system given is
-    /// this one. It becomes the longer one.
-    fn end_with(
+    /// Whether the run of a system with further rows behind this one's ends with a point.
+    fn meets_longer(
+        &self,
+        work: &mut Workspace,
+        longer: &WholeSystem,
+    ) -> Result<Option<bool>, AllocError>
+        requires { IsLonger self.now longer.now }
+        ensures { IfOk result (λ o. IfSome o (IsMet longer.now)) }
+    {
+        let numbers = numbers_of(longer);
+        match self.go_on(&mut work.lists, &mut work.numbers, longer, &numbers)? {
+            Some((_, end)) => Ok(Some(is_point(end))),
+            None => Ok(None),
+        }
+    }
+
+    /// What the run of a system with a row behind this one's ends with.
+    fn longer_broken(
+        &self,
+        alloc: Global,
+        work: &mut Workspace,
+        longer: &WholeSystem,
+    ) -> Result<Option<Broken>, AllocError>
+        requires { IsLonger self.now longer.now }
+        ensures { IfOk result (λ o. IfSome o (IsBrokenEnd longer.now)) }
+    {
+        let numbers = numbers_of(longer);
+        match self.go_on(&mut work.lists, &mut work.numbers, longer, &numbers)? {
+            Some((place, Ending::Point)) => {
+                let end = Ending::Point;
+                let run = kept_copy(alloc, longer, numbers.scales, &work.lists, place, end)?;
+                Ok(Some(Broken::Point(run)))
+            }
+            Some((place, Ending::Refuted(l))) => {
+                let Workspace {
+                    numbers: x,
+                    lists,
+                    ..
+                } = work;
+                match multipliers_of(alloc, x, longer, &numbers, lists, place, l)? {
+                    Some(multipliers) => Ok(Some(Broken::Refuted(multipliers))),
+                    None => Ok(None),
+                }
+            }
+            None => Ok(None),
+        }
+    }
+
+    /// This run's system, in lists that the workspace has or in new ones.
+    fn scratch(&self, alloc: Global, work: &mut Workspace) -> Result<WholeSystem, AllocError>
+        ensures { IfOk result (λ s. s ≡ self.now) }
+    {
+        let mut system = match work.system.take() {
+            Some(system) => system,
+            None => WholeSystem::new(alloc, 0)?,
+        };
+        system.set_to(&self.system)?;
+        Ok(system)
+    }
+
+    /// Whether the run of the system with these rows behind its own ends with a point, where the system
+    /// given is this one. It becomes the longer one.
+    fn meets_with(
         &self,
         work: &mut Workspace,
         longer: &mut WholeSystem,
         rows: &WholeSystem,
-    ) -> Result<Option<Ending>, AllocError>
+    ) -> Result<Option<bool>, AllocError>
         requires same { longer.old ≡ self.now }
         requires rows { rows.now.width ≡ self.now.width }
-        ensures end { IfOk result (λ o. IfSome o (λ e. turn (lengthened self.now rows.now.rows) (last_position (lengthened self.now rows.now.rows)) ≡ turn_of e)) }
-        ensures fits { IfOk result (λ o. IfSome o (λ _. RunFits (lengthened self.now rows.now.rows))) }
+        ensures { IfOk result (λ o. IfSome o (IsMet (lengthened self.now rows.now.rows))) }
     {
         longer.append(rows)?;
-        let numbers = longer.numbers();
-        match self.go_on(
-            &mut work.seats,
-            &mut work.nonbasic,
-            &mut work.v,
-            &mut work.firsts,
-            &mut work.seconds,
-            &mut work.numbers,
-            longer,
-            &numbers,
-        )? {
-            Some((_, end)) => Ok(Some(end)),
-            None => Ok(None),
-        }
+        self.meets_longer(work, longer)
     }
 
-    /// What the run of the system with its row i, from 0, the other way round behind its own ends with,
-    /// where the system given is this one. It may become the longer one.
-    fn end_turned(
+    /// Whether the run of the system with its row i, from 0, the other way round behind its own ends with
+    /// a point, where the system given is this one. It may become the longer one.
+    fn meets_with_turned(
         &self,
         work: &mut Workspace,
         longer: &mut WholeSystem,
         i: usize,
-    ) -> Result<Option<Ending>, AllocError>
+    ) -> Result<Option<bool>, AllocError>
         requires same { longer.old ≡ self.now }
         requires row { i < height self.now }
-        ensures end { IfOk result (λ o. IfSome o (λ e. turn (lengthened self.now (turned (row_at self.now i) ∷ [])) (last_position (lengthened self.now (turned (row_at self.now i) ∷ []))) ≡ turn_of e)) }
-        ensures fits { IfOk result (λ o. IfSome o (λ _. RunFits (lengthened self.now (turned (row_at self.now i) ∷ [])))) }
+        ensures { IfOk result (λ o. IfSome o (IsMet (lengthened self.now (turned (row_at self.now i) ∷ [])))) }
     {
-        if !push_turned(longer, i)? {
-            return Ok(None);
-        }
-        let whole = longer.numbers();
-        match self.go_on(
-            &mut work.seats,
-            &mut work.nonbasic,
-            &mut work.v,
-            &mut work.firsts,
-            &mut work.seconds,
-            &mut work.numbers,
-            longer,
-            &whole,
-        )? {
-            Some((_, end)) => Ok(Some(end)),
-            None => Ok(None),
+        if push_turned(longer, i)? {
+            self.meets_longer(work, longer)
+        } else {
+            Ok(None)
         }
     }
 
@@ -631,46 +508,12 @@ impl KeptRun {
     ) -> Result<Option<Broken>, AllocError>
         requires same { longer.old ≡ self.now }
         requires row { length row.now.a ≡ self.now.width }
-        ensures end { IfOk result (λ o. IfSome o (IsBroken (lengthened self.now (broken_row row.now ∷ [])))) }
-        ensures fits { IfOk result (λ o. IfSome o (λ _. RunFits (lengthened self.now (broken_row row.now ∷ [])))) }
+        ensures { IfOk result (λ o. IfSome o (IsBrokenEnd (lengthened self.now (broken_row row.now ∷ [])))) }
     {
-        if !longer.push_broken(row)? {
-            return Ok(None);
-        }
-        let whole = longer.numbers();
-        match self.go_on(
-            &mut work.seats,
-            &mut work.nonbasic,
-            &mut work.v,
-            &mut work.firsts,
-            &mut work.seconds,
-            &mut work.numbers,
-            longer,
-            &whole,
-        )? {
-            Some((place, Ending::Point)) => {
-                let run = kept_copy(alloc, longer, whole.scales, work, place, Ending::Point)?;
-                Ok(Some(Broken::Point(run)))
-            }
-            Some((place, Ending::Refuted(l))) => {
-                let n = work.seats.len();
-                let found = multipliers_of(
-                    alloc,
-                    &mut work.numbers,
-                    longer,
-                    &whole,
-                    &work.seats,
-                    &work.v,
-                    n,
-                    place.den,
-                    l,
-                )?;
-                match found {
-                    Some(multipliers) => Ok(Some(Broken::Refuted(multipliers))),
-                    None => Ok(None),
-                }
-            }
-            None => Ok(None),
+        if longer.push_broken(row)? {
+            self.longer_broken(alloc, work, longer)
+        } else {
+            Ok(None)
         }
     }
 
@@ -690,14 +533,10 @@ impl KeptRun {
         ensures refuted { IfOk result (λ o. IfSome o (λ yes. yes ≡ false → IsRefuted (lengthened self.now rows.now.rows))) }
         ensures fits { IfOk result (λ o. IfSome o (λ _. RunFits (lengthened self.now rows.now.rows))) }
     {
-        let mut system = scratch(alloc, work.system.take())?;
-        system.set_to(&self.system)?;
-        let end = self.end_with(work, &mut system, rows);
+        let mut system = self.scratch(alloc, work)?;
+        let met = self.meets_with(work, &mut system, rows);
         work.system = Some(system);
-        match end? {
-            Some(end) => Ok(Some(is_point(end))),
-            None => Ok(None),
-        }
+        met
     }
 
     /// Whether the run of the system with its row i, from 0, the other way round behind its own ends with
@@ -716,14 +555,10 @@ impl KeptRun {
         ensures refuted { IfOk result (λ o. IfSome o (λ yes. yes ≡ false → IsRefuted (lengthened self.now (turned (row_at self.now i) ∷ [])))) }
         ensures fits { IfOk result (λ o. IfSome o (λ _. RunFits (lengthened self.now (turned (row_at self.now i) ∷ [])))) }
     {
-        let mut system = scratch(alloc, work.system.take())?;
-        system.set_to(&self.system)?;
-        let end = self.end_turned(work, &mut system, i);
+        let mut system = self.scratch(alloc, work)?;
+        let met = self.meets_with_turned(work, &mut system, i);
         work.system = Some(system);
-        match end? {
-            Some(end) => Ok(Some(is_point(end))),
-            None => Ok(None),
-        }
+        met
     }
 
     /// What the run of the system with the strict row behind its own that is met where this row fails
@@ -742,55 +577,89 @@ impl KeptRun {
         ensures end { IfOk result (λ o. IfSome o (IsBroken (lengthened self.now (broken_row row.now ∷ [])))) }
         ensures fits { IfOk result (λ o. IfSome o (λ _. RunFits (lengthened self.now (broken_row row.now ∷ [])))) }
     {
-        let mut system = scratch(alloc, work.system.take())?;
-        system.set_to(&self.system)?;
+        let mut system = self.scratch(alloc, work)?;
         let end = self.end_broken(alloc, work, &mut system, row);
         work.system = Some(system);
         end
+    }
+
+    /// The values of the unknowns at the last position.
+    fn point(&self, alloc: Global) -> Result<Option<PairPoint>, AllocError>
+        ensures { IfOk result (λ o. IfSome o (λ p. IsValues self.now (last_position self.now) p)) }
+    {
+        let Ended { lists, place, .. } = &self.last;
+        let mut values = zero_pairs(alloc, self.system.unknowns())?;
+        let found = last_values(
+            &mut values,
+            &self.system,
+            &lists.firsts,
+            &lists.seconds,
+            place.den,
+        );
+        match found {
+            Some(()) => Ok(Some(PairPoint::of(values))),
+            None => Ok(None),
+        }
+    }
+
+    /// The multipliers at the last position, where the row of the side l refutes.
+    fn multipliers(
+        &self,
+        alloc: Global,
+        work: &mut Vec<i64>,
+        l: usize,
+    ) -> Result<Option<Multipliers>, AllocError>
+        requires { turn self.now (last_position self.now) ≡ is_refuted l }
+        ensures { IfOk result (λ o. IfSome o (EndsRefuted self.now)) }
+    {
+        let Ended {
+            scales,
+            lists,
+            place,
+            ..
+        } = &self.last;
+        let numbers = numbers_of(&self.system);
+        if numbers.scales != scales.as_slice() {
+            return Ok(None);
+        }
+        let Some(_) = limit_of(&self.system, &numbers, lists.seats.len(), *place) else {
+            return Ok(None);
+        };
+        multipliers_of(alloc, work, &self.system, &numbers, lists, *place, l)
     }
 
     /// What the run ends with, in fractions. `None` where a fraction is too wide.
     pub fn end(&self, alloc: Global, work: &mut Workspace) -> Result<Option<End>, AllocError>
         ensures { IfOk result (λ o. IfSome o (λ d. IsEnd self.now d)) }
     {
-        match self.end {
-            Ending::Point => {
-                let found = point_at(
-                    alloc,
-                    &self.system,
-                    &self.firsts,
-                    &self.seconds,
-                    self.place.den,
-                )?;
-                match found {
-                    Some(point) => Ok(Some(End::Point(point))),
-                    None => Ok(None),
-                }
-            }
-            Ending::Refuted(l) => {
-                let width = self.system.unknowns();
-                let Some((n, _)) = sizes(self.system.height(), width) else {
-                    return Ok(None);
-                };
-                lengthen(&mut work.numbers, width)?;
-                let found = multipliers_at(
-                    alloc,
-                    &mut work.numbers,
-                    &self.system,
-                    &self.scales,
-                    &self.seats,
-                    &self.v,
-                    n,
-                    self.place,
-                    l,
-                )?;
-                match found {
-                    Some(multipliers) => Ok(Some(End::Refuted(multipliers))),
-                    None => Ok(None),
-                }
-            }
+        match self.last.end {
+            Ending::Point => match self.point(alloc)? {
+                Some(point) => Ok(Some(End::Point(point))),
+                None => Ok(None),
+            },
+            Ending::Refuted(l) => match self.multipliers(alloc, &mut work.numbers, l)? {
+                Some(multipliers) => Ok(Some(End::Refuted(multipliers))),
+                None => Ok(None),
+            },
         }
     }
+}
+
+/// The run's end, where whole numbers serve for it, and then no operation of the run is wide.
+fn end_of(
+    alloc: Global,
+    work: &mut Workspace,
+    system: WholeSystem,
+) -> Result<Option<End>, AllocError>
+    ensures end { IfOk result (λ o. IfSome o (λ d. IsEnd system d)) }
+    ensures fits { IfOk result (λ o. IfSome o (λ _. RunFits system)) }
+{
+    let Some(run) = KeptRun::begin(alloc, work, system)? else {
+        return Ok(None);
+    };
+    let _ = run.has_point();
+    let end = run.end(alloc, work)?;
+    Ok(end)
 }
 
 /// The run's end, where whole numbers serve for it, and then no operation of the run is wide. `None`
@@ -803,10 +672,5 @@ pub fn whole_end(alloc: Global, system: &System) -> Result<Option<End>, AllocErr
         return Ok(None);
     };
     let mut work = Workspace::new(alloc);
-    let Some(run) = KeptRun::begin(alloc, &mut work, whole)? else {
-        return Ok(None);
-    };
-    let _ = run.has_point();
-    let end = run.end(alloc, &mut work)?;
-    Ok(end)
+    end_of(alloc, &mut work, whole)
 }

@@ -2,11 +2,13 @@
 
 ghost use Rattle.std.specs.Prelude.{◌≡◌, ℕ, pos, ◌+◌, ◌-◌, ◌*◌, ◌<◌, ◌≤◌, [], ◌∷◌, IsTrue, IfSome, IfOk, OnOk, length};
 ghost use Rattle.mpc_rows.specs.LinearSystem.{LinearSystem, height, row_at};
+ghost use Rattle.mpc_rows.specs.Run.{count};
 ghost use Rattle.mpc_rows.specs.SetRuns.{turned};
 ghost use Rattle.mpc_whole.specs.Table.{IsSeated, IsOpeningSeats, opening_seat, variable_at};
 ghost use Rattle.mpc_whole.specs.Whole.{whole_at, scale_at, IsSmall, IsUnit};
 ghost use Rattle.mpc_beginnings.specs.Beginnings.{lengthened};
 ghost use Rattle.mpc_beginnings.specs.LongerSeats.{AreLongerSeats};
+ghost use Rattle.mpc_beginnings.specs.RunLists.{AreCopies, AreLonger, AreOpening};
 
 use mpc_rows::Row;
 use mpc_whole::{Seat, WholeSystem, clear, put_units};
@@ -45,11 +47,7 @@ fn first_seat(width: usize, x: usize) -> Seat
 }
 
 /// Where each variable stands at first.
-pub(crate) fn first_seats(
-    alloc: Global,
-    system: &WholeSystem,
-    n: usize,
-) -> Result<Vec<Seat>, AllocError>
+fn first_seats(alloc: Global, system: &WholeSystem, n: usize) -> Result<Vec<Seat>, AllocError>
     ensures { IfOk result (λ t. IsOpeningSeats system.now n t.items) }
 {
     let mut seats = Vec::with_capacity(alloc, n)?;
@@ -61,7 +59,7 @@ pub(crate) fn first_seats(
 }
 
 /// The variables of the columns at first: the unknowns.
-pub(crate) fn first_nonbasic(alloc: Global, width: usize) -> Result<Vec<usize>, AllocError>
+fn first_nonbasic(alloc: Global, width: usize) -> Result<Vec<usize>, AllocError>
     ensures size { IfOk result (λ t. length t.items ≡ width) }
     ensures own { IfOk result (λ t. (c : ℕ) → c < width → variable_at t.items c ≡ c) }
 {
@@ -73,11 +71,7 @@ pub(crate) fn first_nonbasic(alloc: Global, width: usize) -> Result<Vec<usize>, 
 }
 
 /// The numbers of the unknowns at first.
-pub(crate) fn first_numbers(
-    alloc: Global,
-    width: usize,
-    square: usize,
-) -> Result<Vec<i64>, AllocError>
+fn first_numbers(alloc: Global, width: usize, square: usize) -> Result<Vec<i64>, AllocError>
     requires { square ≡ width * width }
     ensures size { IfOk result (λ t. length t.items ≡ width * width) }
     ensures unit { IfOk result (λ t. IsUnit width t.items) }
@@ -90,7 +84,7 @@ pub(crate) fn first_numbers(
 }
 
 /// One part of the values of the unknowns at first: 0, since no side is nonbasic.
-pub(crate) fn first_values(alloc: Global, width: usize) -> Result<Vec<i64>, AllocError>
+fn first_values(alloc: Global, width: usize) -> Result<Vec<i64>, AllocError>
     ensures size { IfOk result (λ t. length t.items ≡ width) }
     ensures zero { IfOk result (λ t. (k : ℕ) → whole_at t.items k ≡ pos 0) }
 {
@@ -101,7 +95,7 @@ pub(crate) fn first_values(alloc: Global, width: usize) -> Result<Vec<i64>, Allo
 
 /// Writes the seats of the variables of a system, and those of further sides behind them, in the
 /// rows from the height of the system on.
-pub(crate) fn put_seats(
+fn put_seats(
     seats: &mut Vec<Seat>,
     first: &[Seat],
     height: usize,
@@ -120,7 +114,7 @@ pub(crate) fn put_seats(
 }
 
 /// Writes numbers in place of others.
-pub(crate) fn put_numbers(list: &mut Vec<i64>, v: &[i64]) -> Result<(), AllocError>
+fn put_numbers(list: &mut Vec<i64>, v: &[i64]) -> Result<(), AllocError>
     ensures { OnOk result (list.new.items ≡ v.now) }
 {
     list.clear();
@@ -129,12 +123,106 @@ pub(crate) fn put_numbers(list: &mut Vec<i64>, v: &[i64]) -> Result<(), AllocErr
 }
 
 /// Writes variables in place of others.
-pub(crate) fn put_variables(list: &mut Vec<usize>, nonbasic: &[usize]) -> Result<(), AllocError>
+fn put_variables(list: &mut Vec<usize>, nonbasic: &[usize]) -> Result<(), AllocError>
     ensures { OnOk result (list.new.items ≡ nonbasic.now) }
 {
     list.clear();
     list.extend_from_slice(nonbasic)?;
     Ok(())
+}
+
+/// The lists of a run at a position.
+#[derive(Drop)]
+pub(crate) struct RunLists {
+    /// Where the variables stand, and which of them stand in the columns.
+    pub(crate) seats: Vec<Seat>,
+    pub(crate) nonbasic: Vec<usize>,
+    /// The numbers of the position.
+    pub(crate) v: Vec<i64>,
+    /// The values of the unknowns there, in their first parts and in their second ones.
+    pub(crate) firsts: Vec<i64>,
+    pub(crate) seconds: Vec<i64>,
+}
+
+impl RunLists {
+    /// Lists that take no memory.
+    pub(crate) fn new(alloc: Global) -> RunLists {
+        RunLists {
+            seats: Vec::new(alloc),
+            nonbasic: Vec::new(alloc),
+            v: Vec::new(alloc),
+            firsts: Vec::new(alloc),
+            seconds: Vec::new(alloc),
+        }
+    }
+
+    /// Empty lists with room for the run of so many rows of so many unknowns.
+    pub(crate) fn with_room(
+        alloc: Global,
+        height: usize,
+        width: usize,
+    ) -> Result<RunLists, AllocError> {
+        Ok(RunLists {
+            seats: Vec::with_capacity(alloc, width.saturating_add(height))?,
+            nonbasic: Vec::with_capacity(alloc, width)?,
+            v: Vec::with_capacity(alloc, width.saturating_mul(width))?,
+            firsts: Vec::with_capacity(alloc, width)?,
+            seconds: Vec::with_capacity(alloc, width)?,
+        })
+    }
+
+    /// The lists of the first position.
+    pub(crate) fn first(
+        alloc: Global,
+        system: &WholeSystem,
+        n: usize,
+        square: usize,
+    ) -> Result<RunLists, AllocError>
+        requires count { n ≡ count system.now }
+        requires square { square ≡ system.now.width * system.now.width }
+        ensures { IfOk result (AreOpening system.now) }
+    {
+        let width = system.unknowns();
+        Ok(RunLists {
+            seats: first_seats(alloc, system, n)?,
+            nonbasic: first_nonbasic(alloc, width)?,
+            v: first_numbers(alloc, width, square)?,
+            firsts: first_values(alloc, width)?,
+            seconds: first_values(alloc, width)?,
+        })
+    }
+
+    /// The same lists in memory of their own.
+    pub(crate) fn copy(&self, alloc: Global) -> Result<RunLists, AllocError>
+        ensures { IfOk result (AreCopies self.now) }
+    {
+        Ok(RunLists {
+            seats: self.seats.to_vec(alloc)?,
+            nonbasic: self.nonbasic.to_vec(alloc)?,
+            v: self.v.to_vec(alloc)?,
+            firsts: self.firsts.to_vec(alloc)?,
+            seconds: self.seconds.to_vec(alloc)?,
+        })
+    }
+
+    /// Writes other lists in place of these, and the seats of further sides behind theirs, in the rows from
+    /// the height of the system on.
+    pub(crate) fn set_to(
+        &mut self,
+        other: &RunLists,
+        height: usize,
+        longer: usize,
+    ) -> Result<(), AllocError>
+        requires { height ≤ longer }
+        ensures { OnOk result (AreLonger height longer other.now self.new) }
+    {
+        put_seats(&mut self.seats, &other.seats, height, longer)?;
+        put_variables(&mut self.nonbasic, &other.nonbasic)?;
+        put_numbers(&mut self.v, &other.v)?;
+        put_numbers(&mut self.firsts, &other.firsts)?;
+        put_numbers(&mut self.seconds, &other.seconds)?;
+        Ok(())
+    }
 }
 
 /// Whether the first scales are these.

@@ -178,6 +178,7 @@ pub fn lay_out(alloc: Global, controller: &Controller, words: &mut [u64]) -> Res
     ensures ok { OnOk result (IsBlockOf words.new controller.now) }
     ensures no_room { (result ≡ Err (LayoutError.NoRoom (block_size controller.now)))
         ↔ (length words.old < block_size controller.now) }
+    ensures told { (size : ℕ) → result ≡ Err (LayoutError.NoRoom size) → size ≡ block_size controller.now }
     ensures unwritten { length words.old < block_size controller.now → words.new ≡ words.old }
 {
     let size = block_size(controller);

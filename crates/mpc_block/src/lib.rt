@@ -11,3 +11,4 @@ mod words;
 pub use layouts::{LayoutError, block_size, lay_out};
 pub use lines::LAYOUT;
 pub use replies::{BlockReply, Move, reply_in};
+pub use words::words_of;

@@ -32,23 +32,8 @@ clearing_more t c j i xs o hi h w = record {
 pub clearing_all : (t : Table) (c j i : ℕ) (xs : List (Option ℚ)) → length xs ≤ i → Clearing t c j i xs → IsFormedColumn t (suc c) j xs
 clearing_all t c j i xs l w k m = w.done k (omega arith) m
 
--- ---- a column among those that stand one behind another
-pub slice_entry : (xs : List (Option ℚ)) (a w i : ℕ) → i < w → get_or (take w (drop a xs)) i None ≡ get_or xs (a + i) None
-slice_entry xs a w i h = get_or-take w (drop a xs) i None h ∙ get_or-drop a xs i None
-
 pub place_within : (count rows c i : ℕ) → c < count → i < rows → c * rows + i < count * rows
 place_within count rows c i h k = grind arith
-
-pub column_formed : (t : Table) (u rows count c : ℕ) (xs ys : List (Option ℚ)) → count ≤ u → c < count → AreFormed t u rows count xs → ys ≡ take rows (drop (c * rows) xs) → length ys ≡ rows → IsFormedColumn t c c ys
-column_formed t u rows count c xs ys l h f e size i m =
-    let hi : i < rows = omega arith in
-    let q : min c u ≡ c = omega arith in
-    subst (IfFormed t c i c) (sym (ap (λ zs. get_or zs i None) e ∙ slice_entry xs (c * rows) rows i hi))
-    (subst (λ k. IfFormed t k i c (get_or xs (c * rows + i) None)) q (f i c hi h))
-
--- ---- a column more
-pub formed_none : (t : Table) (u rows : ℕ) (xs : List (Option ℚ)) → AreFormed t u rows 0 xs
-formed_none t u rows xs i j hi hj = absurd (omega arith)
 
 pub formed_more : (t : Table) (u rows n : ℕ) (xs ys : List (Option ℚ)) → length xs ≡ n * rows → length ys ≡ rows → AreFormed t u rows n xs → IsFormedColumn t (min n u) n ys → AreFormed t u rows (n + 1) (xs ++ ys)
 formed_more t u rows n xs ys size rest f g i j hi hj = ⊎_elim

@@ -27,7 +27,7 @@ use Rattle.mpc_rows.specs.LawLaws.{LawRowSize}
 use Rattle.mpc_rows.specs.RegionLaws.{BoxSize}
 use Rattle.mpc_rows.specs.SystemLaws.{RefutedHasNoPoint}
 use Rattle.mpc_condense.specs.Condensed.{IsCondensed, counts_of}
-use Rattle.mpc_best.specs.BestReplies.{LawIsRight, InfeasibleIsRight}
+use Rattle.mpc_condense.specs.BestReplies.{LawIsRight, InfeasibleIsRight}
 use Rattle.mpc_controller.specs.Parts.{Parts, IsLawFor, IsNodeFor}
 use Rattle.mpc_controller.specs.Bounds.{IsController}
 use Rattle.mpc_controller.specs.Walk.{Reaches, root as at_root, yes_side as to_yes, no_side as to_no, EndsAt}

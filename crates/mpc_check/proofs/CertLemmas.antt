@@ -44,14 +44,6 @@ system_count qp nodes way more last =
     let path = map (widened more) (way_rows nodes way) in
     length-append box (path ++ last) ∙ omega (arith, box_count (length qp.counts + more) 0 qp.counts, length-append path last, way_count nodes way more)
 
--- ---- the rows that are picked
-pub picked_more : (rows : List Row) (cert : List (ℕ × ℚ)) (i : ℕ) (d : ℕ × ℚ) → i < length cert → picked_rows rows (take (i + 1) cert) ≡ picked_rows rows (take i cert) ++ get_or rows ((get_or cert i d).0 - 1) no_row ∷ []
-picked_more rows cert i d h = ap (picked_rows rows) (take_more cert i d h) ∙ push (take i cert) (get_or cert i d)
-  where
-    push : (xs : List (ℕ × ℚ)) (e : ℕ × ℚ) → picked_rows rows (xs ++ e ∷ []) ≡ picked_rows rows xs ++ get_or rows (e.0 - 1) no_row ∷ []
-    push [] e = refl
-    push (x ∷ xs) e = ap (λ ys. get_or rows (x.0 - 1) no_row ∷ ys) (push xs e)
-
 -- ---- numbers that fit unless they don't
 stable_lt : (m n : ℕ) → (¬ ¬ (m < n)) → m < n
 stable_lt m n h = by (cases_lt m n)

@@ -13,7 +13,7 @@ use Rattle.mpc_rows.specs.declared.places.Place.TheVariants.{Pivot, CheckLaw, Ch
 use Rattle.mpc_rows.specs.declared.trees.Node.{Node}
 use Rattle.mpc_rows.specs.declared.trees.Node.TheVariants.{Split, Law, NoMove}
 use Rattle.mpc_condense.specs.ProgramLaws.{NoWidePlace, OneWidePlace}
-use Rattle.mpc_best.specs.BestReplies.{OneProgram}
+use Rattle.mpc_condense.specs.BestReplies.{OneProgram}
 use Rattle.mpc_controller.specs.Parts.{Parts}
 use Rattle.mpc_check.specs.declared.answers.Spot.TheVariants.{Stationary, Active, LeafRow, Leaf}
 use Rattle.mpc_systems.specs.Systems.{joint_system}

@@ -5,8 +5,7 @@ ghost use Rattle.mpc_check.specs.LawConditions.{LawIsStationary, LawIsActive, Me
 ghost use Rattle.mpc_check.specs.LeafConditions.{StretchesAreMet, StretchesFind};
 ghost use Rattle.mpc_check.specs.Paths.{OnePath};
 
-use mpc_best::{best_replies, one_program};
-use mpc_condense::place_laws;
+use mpc_condense::{best_replies, one_program, place_laws};
 use mpc_rows::{law_laws, region_laws, system_laws};
 use mpc_systems::cell_laws;
 

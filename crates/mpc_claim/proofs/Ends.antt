@@ -66,12 +66,6 @@ kept_stopped qp cs settled n pending size h capacity place k done b = record {
 pub ends_wide : (qp : Qp) (cs : List Candidate) (settled n pending size : ℕ) (h : List Event) (capacity place : ℕ) → IsKept qp cs settled n pending size Working h capacity → ((i : ℕ) → i < length cs → is_done (at cs i).slot ≡ true) → IsFirstBadPlace cs settled place → EndsWide qp h
 ends_wide qp cs settled n pending size h capacity place k done b = shown_wide qp cs settled n pending size h k.lineup k.slots (bad_books cs h settled place k.phase_fits done b)
 
-pub all_quiet : (qp : Qp) (cs : List Candidate) (settled n pending : ℕ) (h : List Event) → HasSlots qp cs settled n pending h → ((i : ℕ) → i < length cs → is_done (at cs i).slot ≡ true) → ((i : ℕ) → settled ≤ i → i < length cs → is_bad (at cs i).slot ≡ false) → (i : ℕ) → i < length cs → IsQuiet (at cs i).slot
-all_quiet qp cs settled n pending h k done none i p = elim (cases_lt i settled) [
-  | inl l ↦ k.quiet i l
-  | inr m ↦ record { done = done i p; not_bad = none i m p }
-]
-
 -- ---- the first wide verdict
 verdict_by : (qp : Qp) (h : List Event) (i : ℕ) (s : List ℕ) (slot : Slot) → is_done slot ≡ true → is_bad slot ≡ false → IsBegun qp h i s slot → (other : Verdict) × IsRight qp s other × (is_wide other ≡ false)
 verdict_by qp h i s Waiting d q b = absurd b

@@ -87,10 +87,6 @@ number_in_front n sets i p q =
     let l = length-take n sets in
     slice_get-get_or (take n sets) i [] (omega (arith, l)) ∙ ap Some (get_or-take n sets i [] p)
 
--- ---- sets in order
-pub before_at : (sets : List (List ℕ)) (i j : ℕ) → IsInOrder sets → i < j → j < length sets → IsBefore (get_or sets i []) (get_or sets j [])
-before_at sets i j h p q = h i j [] p q
-
 pub different_at : (sets : List (List ℕ)) (i j : ℕ) → IsInOrder sets → i < length sets → j < length sets → i ≢ j → get_or sets i [] ≡ get_or sets j [] → ⊥
 different_at sets i j h p q ne e = elim (cases_lt i j) [
   | inl l ↦ IsBefore-irrefl (get_or sets j []) (subst (λ u. IsBefore u (get_or sets j [])) e (h i j [] l q))

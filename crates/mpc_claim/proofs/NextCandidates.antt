@@ -64,14 +64,3 @@ next_are_candidates members level qp k grown sets h few order f = record {
   are = λ s c. next_is_candidate members level qp k grown s h few ((f s).0 c);
   complete = λ s c. (f s).1 (candidate_is_next qp k grown s h c);
 }
-
--- past the number of unknowns there are none
-pub no_candidates : (qp : Qp) (k : ℕ) → height qp.h ≤ k → HoldsCandidates qp (suc k) []
-no_candidates qp k many = record {
-  in_order = λ i j d p q. absurd (omega arith);
-  are = λ s c. absurd (none s c);
-  complete = λ s c. absurd (let few = c.2 in omega arith);
-}
-  where
-    none : (s : List ℕ) → Contains [] s → ⊥
-    none s (i, p, e) = omega arith

@@ -22,13 +22,6 @@ pub record Board : Type 0 where
   pub phase : Phase
   pub history : List Event
 
--- the last level, and the levels before
-abbrev pub level_of : Board → List Candidate
-level_of board = drop board.settled board.candidates
-
-abbrev pub before_of : Board → List Candidate
-before_of board = take board.settled board.candidates
-
 abbrev pub event : ℕ → List ℕ → EventKind → Event
 event worker set kind = record { worker = worker; set = set; kind = kind }
 

@@ -291,9 +291,6 @@ are_more plant xs ys m n e w h = record {
       (cases_eq k n);
 }
 
-pub one_motion : (plant : Plant) (all : List Motion) (n k : ℕ) (m : Motion) → AreMotions plant all n → k < n → m ≡ get_or all k m → IsMotion plant k m.x m.z
-one_motion plant all n k m h l e = subst (λ v. IsMotion plant k v.x v.z) (sym e) (h.each k m l)
-
 pub states_more : (plant : Plant) (n : ℕ) → StateFits plant n → StatesFit plant n → StatesFit plant (n + 1)
 states_more plant n x h = λ k l. ⊎_elim (λ p. subst (StateFits plant) (sym p) x) (λ p. h k (omega arith)) (cases_eq k n)
 

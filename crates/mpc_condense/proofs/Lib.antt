@@ -12,3 +12,7 @@ pub mod RowLemmas
 pub mod Condensing
 pub mod Admissible
 pub mod WidePlaces
+pub mod Stacks
+pub mod BestMoves
+pub mod OneProgram
+pub mod SameRows

@@ -38,12 +38,6 @@ weight_rows plant k = ⊎_elim
     (λ l. ap height (cond-false (ltb k plant.horizon) plant.q plant.last (le-ltb k plant.horizon l)) ∙ plant.is_plant.last_weight.shape.rows_are)
     (cases_lt k plant.horizon)
 
-pub weight_columns : (plant : Plant) (k : ℕ) → (weight_at plant k).columns ≡ plant.n
-weight_columns plant k = ⊎_elim
-    (λ l. ap (λ m. m.columns) (cond-true (ltb k plant.horizon) plant.q plant.last (lt-ltb k plant.horizon l)) ∙ plant.is_plant.q_weight.shape.columns_are)
-    (λ l. ap (λ m. m.columns) (cond-false (ltb k plant.horizon) plant.q plant.last (le-ltb k plant.horizon l)) ∙ plant.is_plant.last_weight.shape.columns_are)
-    (cases_lt k plant.horizon)
-
 -- ---- the weight times the columns
 module _ (plant : Plant) (k : ℕ) (x z nx nz : RationalMatrix) (w : IsDistance plant k x z) (within : plant.p * k ≤ plant.p * plant.horizon)
     (xw : WritesBlock (zero_matrix (height x) (height (weight_at plant k))) nx 0 (plant.n + 1) 0 (height (weight_at plant k)) (λ j i. dot (row_at (weight_at plant k) i) (row_at x j)))

@@ -6,3 +6,4 @@ pub mod Causes
 pub mod MotionList
 pub mod Rows
 pub mod ProgramLaws
+pub mod BestReplies

@@ -1,5 +1,6 @@
 //! What holds of every program of a plant.
 
+ghost use Rattle.mpc_condense.specs.BestReplies.{LawIsRight, InfeasibleIsRight, OneProgram};
 ghost use Rattle.mpc_condense.specs.ProgramLaws.{SameSequences, SameCosts, NoWidePlace, OneWidePlace, RowsWithin};
 
 /// A sequence is admissible exactly where the program's rows hold, and it costs what the program's objective says and a number that the
@@ -15,4 +16,18 @@ pub fn place_laws()
     ensures none { NoWidePlace }
     ensures one { OneWidePlace }
     ensures rows { RowsWithin }
+{}
+
+/// What a law gives in its region is the first move of the unique cheapest admissible sequence (Karush 1939, Kuhn and Tucker 1951), and
+/// where the program's rows have no solution, no sequence is admissible. The call does nothing: its contract is the laws.
+pub fn best_replies()
+    ensures law { LawIsRight }
+    ensures infeasible { InfeasibleIsRight }
+{
+    program_laws();
+}
+
+/// The costs and the rows of a plant determine its program. The call does nothing: its contract is the law.
+pub fn one_program()
+    ensures { OneProgram }
 {}

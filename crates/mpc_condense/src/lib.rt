@@ -10,5 +10,5 @@ mod motions;
 mod programs;
 
 pub use errors::CondenseError;
-pub use laws::{place_laws, program_laws};
+pub use laws::{best_replies, one_program, place_laws, program_laws};
 pub use programs::condense;

@@ -41,14 +41,6 @@ like-trans a b c p q = record { rows_are = q.rows_are ∙ p.rows_are; columns_ar
 pub zero_matrix-height : (n w : ℕ) → height (zero_matrix n w) ≡ n
 zero_matrix-height n w = length-replicate n (replicate w (int (pos 0)))
 
-pub zero_matrix-square : (n : ℕ) → HasShape (zero_matrix n n) n n
-zero_matrix-square n = record {
-  rows_are = zero_matrix-height n n;
-  columns_are = refl;
-  rectangular = All-from_get_or (λ row. length row ≡ n) (replicate n (replicate n (int (pos 0)))) []
-      (λ i l. ap length (get_or-replicate n i (replicate n (int (pos 0))) [] (omega (arith, zero_matrix-height n n))) ∙ length-replicate n (int (pos 0)));
-}
-
 replicate-at : (n i : ℕ) → get_or (replicate n (int (pos 0))) i (int (pos 0)) ≡ int (pos 0)
 replicate-at n i = ⊎_elim (λ p. get_or-replicate n i (int (pos 0)) (int (pos 0)) p) (λ p. get_or-eq_default (replicate n (int (pos 0))) (int (pos 0)) (omega (arith, length-replicate n (int (pos 0))))) (cases_lt i n)
 

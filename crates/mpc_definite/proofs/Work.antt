@@ -8,10 +8,7 @@ use Rattle.mpc_space.specs.Matrix.{RationalMatrix, height, entry}
 use Rattle.mpc_linear.specs.Entries.{with_entry, zero_matrix}
 use Rattle.mpc_definite.specs.Pivots.{without_column, RowFits, StepFits}
 use Rattle.mpc_definite.specs.Steps.{IsSquare, IsLike, CopiesRow, IsLowerOf, EliminatesRow, EliminatesColumn}
-use Rattle.mpc_definite.proofs.Cells.{with_entry-same, with_entry-row, with_entry-others, with_entry-shape, like-trans, zero_matrix-height, zero_matrix-square, zero_matrix-entry}
-
-pub like_self : (m : RationalMatrix) → IsSquare m → IsLike m m
-like_self m s = s
+use Rattle.mpc_definite.proofs.Cells.{with_entry-same, with_entry-row, with_entry-others, with_entry-shape, like-trans, zero_matrix-height, zero_matrix-entry}
 
 -- writing one entry of row i of a matrix like old
 like_with : (old m : RationalMatrix) (i k : ℕ) (v : ℚ) → i < height old → IsLike old m → IsLike old (with_entry m i k v)
@@ -31,58 +28,11 @@ pub record CopiesSome (h old new : RationalMatrix) (i k : ℕ) : Type 0 where
   pub above : (q : ℕ) → k ≤ q → entry new i q ≡ entry old i q
   pub others : (r q : ℕ) → r ≢ i → entry new r q ≡ entry old r q
 
-pub copy_init : (h old : RationalMatrix) (i : ℕ) → IsSquare old → CopiesSome h old old i 0
-copy_init h old i s = record { like = like_self old s; copied = λ q l. absurd (omega arith); above = λ q l. refl; others = λ r q e. refl }
-
-pub copy_step : (h old m : RationalMatrix) (i k : ℕ) (v : ℚ) → i < height old → k < height old → v ≡ entry h i k → CopiesSome h old m i k → CopiesSome h old (with_entry m i k v) i (k + 1)
-copy_step h old m i k v a b e w = record {
-  like = like_with old m i k v a w.like;
-  copied = λ q l. ⊎_elim
-      (λ p. subst (λ z. entry (with_entry m i k v) i z ≡ entry h i z) (sym p) (same_with old m i k v a b w.like ∙ e))
-      (λ p. other_with old m i k v q a p w.like ∙ w.copied q (omega arith))
-      (cases_eq q k);
-  above = λ q l. other_with old m i k v q a (λ p. omega arith) w.like ∙ w.above q (omega arith);
-  others = λ r q p. with_entry-others m i k v r q p ∙ w.others r q p;
-}
-
-pub copy_done : (h old new : RationalMatrix) (i k : ℕ) → k ≡ i + 1 → CopiesSome h old new i k → CopiesRow h old new i
-copy_done h old new i k e w = record {
-  like = w.like;
-  copied = λ q l. w.copied q (omega arith);
-  above = λ q l. w.above q (omega arith);
-  others = w.others;
-}
-
 -- the first rows of the lower triangle
 pub record LowerSome (h new : RationalMatrix) (i : ℕ) : Type 0 where
   pub like : IsLike h new
   pub copied : (r q : ℕ) → r < i → q ≤ r → entry new r q ≡ entry h r q
   pub above : (r q : ℕ) → r < q → entry new r q ≡ int (pos 0)
-
-pub lower_init : (h m : RationalMatrix) (n w : ℕ) → IsSquare h → n ≡ height h → w ≡ h.columns → m ≡ zero_matrix n w → LowerSome h m 0
-lower_init h m n w s a b e =
-    let zeros : m ≡ zero_matrix n n = e ∙ ap (zero_matrix n) (b ∙ s.columns_are ∙ sym a) in
-    subst (λ z. LowerSome h z 0) (sym zeros) (record {
-      like = record { rows_are = zero_matrix-height n n ∙ a; columns_are = a; rectangular = (zero_matrix-square n).rectangular };
-      copied = λ r q l k. absurd (omega arith);
-      above = λ r q l. zero_matrix-entry n n r q;
-    })
-
-pub lower_step : (h m new : RationalMatrix) (i : ℕ) → LowerSome h m i → CopiesRow h m new i → LowerSome h new (i + 1)
-lower_step h m new i w c = record {
-  like = like-trans h m new w.like c.like;
-  copied = λ r q l k. ⊎_elim
-      (λ p. subst (λ z. entry new z q ≡ entry h z q) (sym p) (c.copied q (omega arith)))
-      (λ p. c.others r q p ∙ w.copied r q (omega arith) k)
-      (cases_eq r i);
-  above = λ r q l. ⊎_elim
-      (λ p. subst (λ z. entry new z q ≡ int (pos 0)) (sym p) (c.above q (omega arith) ∙ w.above i q (omega arith)))
-      (λ p. c.others r q p ∙ w.above r q l)
-      (cases_eq r i);
-}
-
-pub lower_done : (h m : RationalMatrix) (i : ℕ) → i ≡ height h → LowerSome h m i → IsLowerOf h m
-lower_done h m i e w = record { like = w.like; copied = λ r q l k. w.copied r q (omega arith) k; above = w.above }
 
 -- ---- one row
 -- the entries of row i behind column j and before column k are done
@@ -92,9 +42,6 @@ pub record RowSome (old new : RationalMatrix) (j i k : ℕ) : Type 0 where
   pub before : (q : ℕ) → q ≤ j → entry new i q ≡ entry old i q
   pub behind : (q : ℕ) → k ≤ q → entry new i q ≡ entry old i q
   pub others : (r q : ℕ) → r ≢ i → entry new r q ≡ entry old r q
-
-pub row_init : (old : RationalMatrix) (j i : ℕ) → IsSquare old → RowSome old old j i (j + 1)
-row_init old j i s = record { like = like_self old s; done = λ q a b. absurd (omega arith); before = λ q a. refl; behind = λ q a. refl; others = λ r q e. refl }
 
 -- the entry of column j above or in row i is still that of before
 pub row_read : (old m : RationalMatrix) (j i k : ℕ) → RowSome old m j i k → (r : ℕ) → entry m r j ≡ entry old r j
@@ -127,17 +74,11 @@ pub record RowFitsTo (m : ℕ → ℕ → ℚ) (j i k : ℕ) : Type 0 where
   pub quotient : FitsFrac (m i j /ℚ m j j)
   pub entries : (q : ℕ) → j < q → q < k → TakenFits (m i q) (m i j /ℚ m j j) (m q j)
 
-pub fits_init : (m : ℕ → ℕ → ℚ) (j i : ℕ) → FitsFrac (m i j /ℚ m j j) → RowFitsTo m j i (j + 1)
-fits_init m j i h = record { quotient = h; entries = λ q a b. absurd (omega arith) }
-
 pub fits_step : (m : ℕ → ℕ → ℚ) (j i k : ℕ) → TakenFits (m i k) (m i j /ℚ m j j) (m k j) → RowFitsTo m j i k → RowFitsTo m j i (k + 1)
 fits_step m j i k p w = record {
   quotient = w.quotient;
   entries = λ q a b. ⊎_elim (λ e. subst (λ z. TakenFits (m i z) (m i j /ℚ m j j) (m z j)) (sym e) p) (λ e. w.entries q a (omega arith)) (cases_eq q k);
 }
-
-pub fits_done : (m : ℕ → ℕ → ℚ) (j i k : ℕ) → k ≡ i + 1 → RowFitsTo m j i k → RowFits m j i
-fits_done m j i k e w = record { quotient = w.quotient; entries = λ q a b. w.entries q a (omega arith) }
 
 -- ---- what the code reads, as the entries before the step
 pub factor_is : (old : RationalMatrix) (j i : ℕ) (f x p : ℚ) → x ≡ entry old i j → p ≡ entry old j j → f ≡ x *ℚ inv_ℚ p → f ≡ entry old i j /ℚ entry old j j
@@ -171,16 +112,6 @@ pub record ColumnSome (old new : RationalMatrix) (j i : ℕ) : Type 0 where
   pub before : (r k : ℕ) → k < j → entry new r k ≡ entry old r k
   pub above : (r k : ℕ) → r < k → entry new r k ≡ entry old r k
   pub others : (r k : ℕ) → r < i → entry new r k ≡ entry old r k
-
-pub column_init : (old : RationalMatrix) (j n : ℕ) → n ≡ height old → IsSquare old → ColumnSome old old j n
-column_init old j n e s = record {
-  like = like_self old s;
-  factor = λ r a b c. absurd (omega arith);
-  rest = λ r k a b c d. absurd (omega arith);
-  before = λ r k a. refl;
-  above = λ r k a. refl;
-  others = λ r k a. refl;
-}
 
 -- rows j and i are still as before, so what row i loses is what it is to lose
 pub column_step : (old m new : RationalMatrix) (j i : ℕ) → j < i → i < height old → ColumnSome old m j (i + 1) → EliminatesRow m new j i → ColumnSome old new j i
@@ -245,9 +176,6 @@ step_fits_of m new n j h s = record { rows = λ i a b. row_fits_of m new j i a (
 
 agrees_some : (old m : RationalMatrix) (j i : ℕ) → ColumnSome old m j (i + 1) → AgreesTo (entry m) (entry old) j i
 agrees_some old m j i w = λ r k a b c. w.others r k (omega arith)
-
-pub rows_init : (m : ℕ → ℕ → ℚ) (n j : ℕ) → RowsFit m n j n
-rows_init m n j = record { rows = λ r a b c. absurd (omega arith) }
 
 pub rows_step : (old m : RationalMatrix) (j i : ℕ) → j < i → i < height old → ColumnSome old m j (i + 1) → RowFits (entry m) j i → RowsFit (entry old) (height old) j (i + 1) → RowsFit (entry old) (height old) j i
 rows_step old m j i a b w r f = record {

@@ -6,7 +6,7 @@ use Rattle.mpc_rows.specs.declared.programs.Qp.{Qp}
 use Rattle.mpc_claim.specs.declared.events.Event.{Event}
 use Rattle.mpc_claim.specs.Board.{Board}
 use Rattle.mpc_claim.specs.History.{claimed_sets}
-use Rattle.mpc_best.specs.BestReplies.{OneProgram}
+use Rattle.mpc_condense.specs.BestReplies.{OneProgram}
 use Rattle.mpc_controller.specs.Parts.{Parts}
 use Rattle.mpc_synthesis.specs.Controllers.{IsController}
 use Rattle.mpc_synthesis.specs.Outcomes.{Outcome, IsOutcome, OneOutcome}

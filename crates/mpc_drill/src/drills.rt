@@ -7,7 +7,7 @@ ghost use Rattle.mpc_drill.specs.Drills.{HasCounts, IsDrilled, ExplainsDrillErro
 
 use crate::counts::{TreeSize, claim_count, tree_size};
 use crate::plants::drill_plant;
-use mpc_best::one_program;
+use mpc_condense::one_program;
 use mpc_controller::Controller;
 use mpc_frac::NoMemory;
 use mpc_plant::Plant;

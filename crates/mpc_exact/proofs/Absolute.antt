@@ -1,7 +1,7 @@
 -- The absolute value, the lesser and the greater of two fractions, and sums of lists.
 use Rattle.std.proofs.Common.{◌≡◌, Bool, true, false, cond, List, [], ◌∷◌, ◌++◌, map, ℤ, pos, negsuc, unsigned_abs, refl, sym, ◌∙◌, ap, subst, ◌⊎◌, inl, inr, ⊎_elim}
 use Rattle.std.specs.List.{AllByRecursion}
-use Rattle.mpc_exact.specs.Rational.{ℚ, int, ◌+ℚ◌, ◌*ℚ◌, neg_ℚ, abs_ℚ, min_ℚ, max_ℚ, sum_ℚ, ◌≤ℚ◌, ◌<ℚ◌, le_ℚ, IsNonneg}
+use Rattle.mpc_exact.specs.Rational.{ℚ, int, ◌+ℚ◌, ◌*ℚ◌, neg_ℚ, abs_ℚ, min_ℚ, max_ℚ, ◌≤ℚ◌, ◌<ℚ◌, le_ℚ, IsNonneg}
 use Rattle.mpc_exact.proofs.Rational.{+ℚ_assoc}
 use Rattle.mpc_exact.proofs.RationalRing.{reads, by_ring}
 use Rattle.mpc_exact.proofs.RationalOrder.{nonneg_int, nonneg-add, nonneg-mul, ≤ℚ_refl, ≤ℚ_of_<, ≤ℚ_antisymm}
@@ -36,9 +36,6 @@ abs_above_neg = abs_choice (λ x z. neg_ℚ x ≤ℚ z) (λ x h. linear_le (x �
 pub abs_at_most : (x b : ℚ) → x ≤ℚ b → neg_ℚ x ≤ℚ b → abs_ℚ x ≤ℚ b
 abs_at_most x b h k = ⊎_elim (λ c. subst (λ z. z ≤ℚ b) (sym c.0) h) (λ c. subst (λ z. z ≤ℚ b) (sym c.0) k) (abs_cases x)
 
-pub abs_zero : (x : ℚ) → abs_ℚ x ≡ int (pos 0) → x ≡ int (pos 0)
-abs_zero x e = ≤ℚ_antisymm (linear_le (x ∷ abs_ℚ x ∷ []) (le (abs_above x) (eq e none)) (search claims depth 40) tt) (linear_le (x ∷ abs_ℚ x ∷ []) (le (abs_above_neg x) (eq e none)) (search claims depth 40) tt)
-
 pub abs_neg : (x : ℚ) → abs_ℚ (neg_ℚ x) ≡ abs_ℚ x
 abs_neg = abs_choice (λ x z. abs_ℚ (neg_ℚ x) ≡ z)
     (λ x h. abs-negated (neg_ℚ x) (linear_le (x ∷ []) (le h none) (search claims depth 40) tt) ∙ by_ring (x ∷ []) (search reads depth 30) (search reads depth 30) tt)
@@ -68,10 +65,6 @@ abs-mul x y = abs_choice (λ x z. (y : ℚ) → abs_ℚ (x *ℚ y) ≡ z *ℚ ab
     same : (x y : ℚ) → neg_ℚ x *ℚ neg_ℚ y ≡ x *ℚ y
     same x y = by_ring (x ∷ y ∷ []) (search reads depth 30) (search reads depth 30) tt
 
-pub abs_int : (n : ℤ) → abs_ℚ (int n) ≡ int (pos (unsigned_abs n))
-abs_int (pos n) = abs-same (int (pos n)) (nonneg_int n)
-abs_int (negsuc n) = abs-negated (int (negsuc n)) ((int_le (negsuc n) (pos 0)).1 (record { le = tt })) ∙ sym (int-neg (negsuc n))
-
 -- ---- the lesser and the greater
 choose : (P : ℚ → Type 0) (x y : ℚ) → ((x ≤ℚ y) → P x) → ((y <ℚ x) → P y) → P (min_ℚ x y)
 unfolding min_ℚ
@@ -98,9 +91,6 @@ min_below_right x y = choose (λ z. z ≤ℚ y) x y (λ h. h) (λ h. ≤ℚ_refl
 pub min_greatest : (x y z : ℚ) → z ≤ℚ x → z ≤ℚ y → z ≤ℚ min_ℚ x y
 min_greatest x y z h k = choose (λ w. z ≤ℚ w) x y (λ l. h) (λ l. k)
 
-pub min_either : (x y : ℚ) → (min_ℚ x y ≡ x) ⊎ (min_ℚ x y ≡ y)
-min_either x y = choose (λ z. (z ≡ x) ⊎ (z ≡ y)) x y (λ h. inl refl) (λ h. inr refl)
-
 pub max_above_left : (x y : ℚ) → x ≤ℚ max_ℚ x y
 max_above_left x y = choose_max (λ z. x ≤ℚ z) x y (λ h. h) (λ h. ≤ℚ_refl x)
 
@@ -109,22 +99,3 @@ max_above_right x y = choose_max (λ z. y ≤ℚ z) x y (λ h. ≤ℚ_refl y) �
 
 pub max_least : (x y z : ℚ) → x ≤ℚ z → y ≤ℚ z → max_ℚ x y ≤ℚ z
 max_least x y z h k = choose_max (λ w. w ≤ℚ z) x y (λ l. k) (λ l. h)
-
-pub max_either : (x y : ℚ) → (max_ℚ x y ≡ x) ⊎ (max_ℚ x y ≡ y)
-max_either x y = choose_max (λ z. (z ≡ x) ⊎ (z ≡ y)) x y (λ h. inr refl) (λ h. inl refl)
-
--- ---- sums of lists
-pub sum-append : (xs ys : List ℚ) → sum_ℚ (xs ++ ys) ≡ sum_ℚ xs +ℚ sum_ℚ ys
-sum-append [] ys = by_ring (sum_ℚ ys ∷ []) (search reads depth 30) (search reads depth 30) tt
-sum-append (x ∷ xs) ys = ap (λ u. x +ℚ u) (sum-append xs ys) ∙ sym (+ℚ_assoc x (sum_ℚ xs) (sum_ℚ ys))
-
-pub sum-scale : (k : ℚ) (xs : List ℚ) → sum_ℚ (map (λ x. k *ℚ x) xs) ≡ k *ℚ sum_ℚ xs
-sum-scale k [] = by_ring (k ∷ []) (search reads depth 30) (search reads depth 30) tt
-sum-scale k (x ∷ xs) = ap (λ u. k *ℚ x +ℚ u) (sum-scale k xs) ∙ by_ring (k ∷ x ∷ sum_ℚ xs ∷ []) (search reads depth 30) (search reads depth 30) tt
-
-pub sum-nonneg : (xs : List ℚ) → AllByRecursion IsNonneg xs → IsNonneg (sum_ℚ xs)
-sum-nonneg [] h = nonneg_int 0
-sum-nonneg (x ∷ xs) h = nonneg-add h.0 (sum-nonneg xs h.1)
-
-pub sum-last : (xs : List ℚ) (x : ℚ) → sum_ℚ (xs ++ (x ∷ [])) ≡ sum_ℚ xs +ℚ x
-sum-last xs x = sum-append xs (x ∷ []) ∙ by_ring (sum_ℚ xs ∷ x ∷ []) (search reads depth 30) (search reads depth 30) tt

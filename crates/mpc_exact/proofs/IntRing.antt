@@ -43,9 +43,6 @@ int_ring = record {
 }
 
 -- ---- the solver that reads the equation itself: `by_ring_ℤ (a ∷ b ∷ []) (search int_reads depth 30) (search int_reads depth 30) tt`
-abbrev pub ReadInt : List ℤ → ℤ → Type 0
-ReadInt xs x = Read int_ring xs x
-
 module _ {xs : List ℤ} where
   abbrev pub int_var : {x : ℤ} → Among xs x → Read int_ring xs x
   int_var p = read_var int_ring p

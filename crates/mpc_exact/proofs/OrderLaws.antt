@@ -43,17 +43,8 @@ pub <ℚ_of_≢ : {x y : ℚ} → x ≤ℚ y → x ≢ y → x <ℚ y
 pub three_ways : (x y : ℚ) → (x <ℚ y) ⊎ ((x ≡ y) ⊎ (y <ℚ x))
 three_ways x y = ⊎_elim (λ l. ⊎_elim inl (λ e. inr (inl e)) (lt_or_eq l)) (λ l. inr (inr l)) (le_or_lt x y)
 
-pub nonneg_or_negative : (x : ℚ) → IsNonneg x ⊎ (x <ℚ int (pos 0))
-nonneg_or_negative x = le_or_lt (int (pos 0)) x
-
-pub positive_or_not : (x : ℚ) → IsPositive x ⊎ (x ≤ℚ int (pos 0))
-positive_or_not x = ⊎_elim inr inl (le_or_lt x (int (pos 0)))
-
 pub zero_or_positive : {x : ℚ} → IsNonneg x → (x ≡ int (pos 0)) ⊎ IsPositive x
 zero_or_positive {x} h = ⊎_elim (λ l. inl (≤ℚ_antisymm l h)) inr (le_or_lt x (int (pos 0)))
-
-pub positive_of_nonneg : {x : ℚ} → IsNonneg x → x ≢ int (pos 0) → IsPositive x
-positive_of_nonneg {x} h e = ⊎_elim (λ l. absurd (e l)) (λ l. l) (zero_or_positive h)
 
 pub positive-not_zero : {x : ℚ} → IsPositive x → x ≢ int (pos 0)
 positive-not_zero {x} h e = <ℚ_irrefl (subst IsPositive e h)
@@ -87,37 +78,8 @@ neg_nonneg {x} h = linear_le (x ∷ []) (le h none) (search claims depth 40) tt
 pub neg_positive : {x : ℚ} → x <ℚ int (pos 0) → IsPositive (neg_ℚ x)
 neg_positive {x} h = linear_lt (x ∷ []) (lt h none) (search claims depth 40) tt
 
-pub neg_reverses : {x y : ℚ} → x ≤ℚ y → neg_ℚ y ≤ℚ neg_ℚ x
-neg_reverses {x} {y} h = linear_le (x ∷ y ∷ []) (le h none) (search claims depth 40) tt
-
-pub neg_reverses_strict : {x y : ℚ} → x <ℚ y → neg_ℚ y <ℚ neg_ℚ x
-neg_reverses_strict {x} {y} h = linear_lt (x ∷ y ∷ []) (lt h none) (search claims depth 40) tt
-
--- ---- sums
-pub +ℚ-<ℚ : {x y z w : ℚ} → x <ℚ y → z ≤ℚ w → (x +ℚ z) <ℚ (y +ℚ w)
-+ℚ-<ℚ {x} {y} {z} {w} h k = linear_lt (x ∷ y ∷ z ∷ w ∷ []) (lt h (le k none)) (search claims depth 40) tt
-
-pub +ℚ-<ℚ_right : {x y z w : ℚ} → x ≤ℚ y → z <ℚ w → (x +ℚ z) <ℚ (y +ℚ w)
-+ℚ-<ℚ_right {x} {y} {z} {w} h k = linear_lt (x ∷ y ∷ z ∷ w ∷ []) (le h (lt k none)) (search claims depth 40) tt
-
-pub +ℚ-≤ℚ_cancel : (x y z : ℚ) → (x +ℚ z) ≤ℚ (y +ℚ z) → x ≤ℚ y
-+ℚ-≤ℚ_cancel x y z h = linear_le (x ∷ y ∷ z ∷ []) (le h none) (search claims depth 40) tt
-
-pub +ℚ-<ℚ_cancel : (x y z : ℚ) → (x +ℚ z) <ℚ (y +ℚ z) → x <ℚ y
-+ℚ-<ℚ_cancel x y z h = linear_lt (x ∷ y ∷ z ∷ []) (lt h none) (search claims depth 40) tt
-
-pub ≤ℚ-+ℚ_nonneg : {x y : ℚ} → IsNonneg y → x ≤ℚ (x +ℚ y)
-≤ℚ-+ℚ_nonneg {x} {y} h = linear_le (x ∷ y ∷ []) (le h none) (search claims depth 40) tt
-
 pub positive-add_right : {x y : ℚ} → IsNonneg x → IsPositive y → IsPositive (x +ℚ y)
 positive-add_right {x} {y} h k = linear_lt (x ∷ y ∷ []) (le h (lt k none)) (search claims depth 40) tt
-
--- two values that are not negative and sum to 0
-pub zero_left_of_sum : {x y : ℚ} → IsNonneg x → IsNonneg y → x +ℚ y ≡ int (pos 0) → x ≡ int (pos 0)
-zero_left_of_sum {x} {y} h k e = ≤ℚ_antisymm (linear_le (x ∷ y ∷ []) (le h (le k (eq e none))) (search claims depth 40) tt) h
-
-pub zero_right_of_sum : {x y : ℚ} → IsNonneg x → IsNonneg y → x +ℚ y ≡ int (pos 0) → y ≡ int (pos 0)
-zero_right_of_sum {x} {y} h k e = ≤ℚ_antisymm (linear_le (x ∷ y ∷ []) (le h (le k (eq e none))) (search claims depth 40) tt) k
 
 -- ---- products
 pub *ℚ-<ℚ : {x y z : ℚ} → IsPositive z → x <ℚ y → (z *ℚ x) <ℚ (z *ℚ y)
@@ -128,9 +90,6 @@ pub *ℚ-≤ℚ_cancel : {x y z : ℚ} → IsPositive z → (z *ℚ x) ≤ℚ (z
 
 pub *ℚ-<ℚ_cancel : {x y z : ℚ} → IsPositive z → (z *ℚ x) <ℚ (z *ℚ y) → x <ℚ y
 *ℚ-<ℚ_cancel {x} {y} {z} p h = by_lt_times (x ∷ y ∷ z ∷ []) p (strict_gap h) (search reads depth 30) (search reads depth 30) tt
-
-pub *ℚ-≤ℚ_negative : {x y z : ℚ} → z ≤ℚ int (pos 0) → x ≤ℚ y → (z *ℚ y) ≤ℚ (z *ℚ x)
-*ℚ-≤ℚ_negative {x} {y} {z} h k = by_le (x ∷ y ∷ z ∷ []) (nonneg-mul (gap h) (gap k)) (search reads depth 30) (search reads depth 30) tt
 
 pub product_nonpositive : {x y : ℚ} → IsNonneg x → y ≤ℚ int (pos 0) → (x *ℚ y) ≤ℚ int (pos 0)
 product_nonpositive {x} {y} h k = by_le (x ∷ y ∷ []) (nonneg-mul h (gap k)) (search reads depth 30) (search reads depth 30) tt
@@ -150,9 +109,6 @@ positive_square x h = by (three_ways x (int (pos 0)))
     by (inr (inl e)) = absurd (h e)
     by (inr (inr l)) = positive-mul l l
 
-pub square_zero : {x : ℚ} → x *ℚ x ≡ int (pos 0) → x ≡ int (pos 0)
-square_zero {x} e = ⊎_elim (λ l. l) (λ l. l) (product_zero x x e)
-
 -- ---- inverses and quotients
 pub inv_not_zero : {x : ℚ} → x ≢ int (pos 0) → inv_ℚ x ≢ int (pos 0)
 inv_not_zero {x} h e = one-not_zero (sym (*ℚ_inv x h) ∙ ap (λ u. x *ℚ u) e ∙ by_ring (x ∷ []) (search reads depth 30) (search reads depth 30) tt)
@@ -171,26 +127,12 @@ pub inv-mul : {x y : ℚ} → x ≢ int (pos 0) → y ≢ int (pos 0) → inv_�
 inv-mul {x} {y} h k =
     sym (inv_unique (x *ℚ y) (inv_ℚ x *ℚ inv_ℚ y) (by_equations (inv_ℚ y *ℚ y) (int (pos 1)) (*ℚ_inv x h) (*ℚ_inv y k) (by_ring (x ∷ y ∷ inv_ℚ x ∷ inv_ℚ y ∷ []) (search reads depth 30) (search reads depth 30) tt)))
 
-pub inv_neg : {x : ℚ} → x ≢ int (pos 0) → inv_ℚ (neg_ℚ x) ≡ neg_ℚ (inv_ℚ x)
-inv_neg {x} h = sym (inv_unique (neg_ℚ x) (neg_ℚ (inv_ℚ x)) (by_ring (x ∷ inv_ℚ x ∷ []) (search reads depth 30) (search reads depth 30) tt ∙ *ℚ_inv x h))
-
 pub inv_one : inv_ℚ (int (pos 1)) ≡ int (pos 1)
 inv_one = sym (inv_unique (int (pos 1)) (int (pos 1)) (by_ring [] (search reads depth 30) (search reads depth 30) tt))
-
-pub inv_negative : {x : ℚ} → x <ℚ int (pos 0) → inv_ℚ x <ℚ int (pos 0)
-inv_negative {x} h =
-    let p : IsPositive (neg_ℚ (inv_ℚ x)) = subst IsPositive (inv_neg (negative-not_zero h)) (inv_positive (neg_positive h)) in
-    linear_lt (inv_ℚ x ∷ []) (lt p none) (search claims depth 40) tt
 
 -- the quotient is what times the divisor gives the dividend
 pub *ℚ-/ℚ : (x y : ℚ) → y ≢ int (pos 0) → y *ℚ (x /ℚ y) ≡ x
 *ℚ-/ℚ x y h = by_equation x (*ℚ_inv y h) (by_ring (x ∷ y ∷ inv_ℚ y ∷ []) (search reads depth 30) (search reads depth 30) tt)
-
-pub /ℚ_unique : (x y z : ℚ) → y ≢ int (pos 0) → y *ℚ z ≡ x → z ≡ x /ℚ y
-/ℚ_unique x y z h e = *ℚ_cancel h (e ∙ sym (*ℚ-/ℚ x y h))
-
-pub /ℚ_self : (x : ℚ) → x ≢ int (pos 0) → x /ℚ x ≡ int (pos 1)
-/ℚ_self x h = *ℚ_inv x h
 
 pub ≤ℚ-/ℚ : (x y z : ℚ) → IsPositive y → (x ≤ℚ (z /ℚ y)) ↔ ((y *ℚ x) ≤ℚ z)
 ≤ℚ-/ℚ x y z p =

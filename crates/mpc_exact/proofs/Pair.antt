@@ -18,9 +18,6 @@ pub record IsPairNonneg (a b : ℚ) : Type 0 where
 zero_plus : (a c : ℚ) → a ≡ int (pos 0) → c ≡ int (pos 0) → a +ℚ c ≡ int (pos 0)
 zero_plus a c e f = (λ i. e i +ℚ f i) ∙ by_ring [] (search reads depth 30) (search reads depth 30) tt
 
-plus_positive : (a c : ℚ) → IsNonneg a → IsPositive c → IsPositive (a +ℚ c)
-plus_positive a c h k = linear_lt (a ∷ c ∷ []) (le h (lt k none)) (search claims depth 40) tt
-
 zero_positive : (a c : ℚ) → a ≡ int (pos 0) → IsPositive c → IsPositive (a +ℚ c)
 zero_positive a c h k = linear_lt (a ∷ c ∷ []) (eq h (lt k none)) (search claims depth 40) tt
 
@@ -90,9 +87,6 @@ gap_same a b e = by_equation (int (negsuc 0)) e (by_ring (a ∷ b ∷ []) (searc
 nonneg_as : (a b c d : ℚ) → a ≡ c → b ≡ d → IsPairNonneg a b → IsPairNonneg c d
 nonneg_as a b c d e f h = subst₂ (λ u v. IsPairNonneg u v) e f h
 
-positive_as : (a b c d : ℚ) → a ≡ c → b ≡ d → IsPairPositive a b → IsPairPositive c d
-positive_as a b c d e f h = subst₂ (λ u v. IsPairPositive u v) e f h
-
 regroup : (a b c d : ℚ) → b -ℚ a +ℚ (d -ℚ c) ≡ (b +ℚ d) -ℚ (a +ℚ c)
 regroup a b c d = by_ring (a ∷ b ∷ c ∷ d ∷ []) (search reads depth 30) (search reads depth 30) tt
 
@@ -103,9 +97,6 @@ spread k a b = by_ring (k ∷ a ∷ b ∷ []) (search reads depth 30) (search re
 pub pair_conflict : (a b : ℚ) → IsPairPositive a b → a ≡ int (pos 0) → b ≡ int (pos 0) → ⊥
 pair_conflict a b h e f = ⊎_elim (λ l. <ℚ_irrefl (subst IsPositive e l)) (λ l. <ℚ_irrefl (subst IsPositive f l.1)) h.it
 
-pub from_below_gap : {p q : Pair} → IsPairPositive (q.first -ℚ p.first) (q.second -ℚ p.second) → IsBelow p q
-from_below_gap {p} {q} h = record { below = ⊎_elim (λ l. inl (from_strict_gap l)) (λ l. inr (gap_same p.first q.first l.0, from_strict_gap l.1)) h.it }
-
 pub from_at_most_gap : {p q : Pair} → IsPairNonneg (q.first -ℚ p.first) (q.second -ℚ p.second) → IsAtMost p q
 from_at_most_gap {p} {q} h = record { at_most = ⊎_elim (λ l. inl (from_strict_gap l)) (λ l. inr (gap_same p.first q.first l.0, from_gap l.1)) h.it }
 
@@ -113,23 +104,8 @@ from_at_most_gap {p} {q} h = record { at_most = ⊎_elim (λ l. inl (from_strict
 pub pair_same : (p q : Pair) → p.first ≡ q.first → p.second ≡ q.second → p ≡ q
 pair_same p q e f = λ i. record { first = e i; second = f i }
 
-pub at_most_refl : (p : Pair) → IsAtMost p p
-at_most_refl p = record { at_most = inr (refl, ≤ℚ_refl p.second) }
-
-pub at_most_of_below : {p q : Pair} → IsBelow p q → IsAtMost p q
-at_most_of_below {p} {q} h = record { at_most = ⊎_elim inl (λ l. inr (l.0, ≤ℚ_of_< l.1)) h.below }
-
 pub below_irrefl : {p : Pair} → IsBelow p p → ⊥
 below_irrefl {p} h = ⊎_elim <ℚ_irrefl (λ l. <ℚ_irrefl l.1) h.below
-
-pub below_trans : {p q r : Pair} → IsBelow p q → IsBelow q r → IsBelow p r
-below_trans {p} {q} {r} h k = by h.below k.below
-  where
-    by : (p.first <ℚ q.first) ⊎ ((p.first ≡ q.first) × (p.second <ℚ q.second)) → (q.first <ℚ r.first) ⊎ ((q.first ≡ r.first) × (q.second <ℚ r.second)) → IsBelow p r
-    by (inl l) (inl m) = record { below = inl (<ℚ_trans l m) }
-    by (inl l) (inr m) = record { below = inl (subst (λ z. p.first <ℚ z) m.0 l) }
-    by (inr l) (inl m) = record { below = inl (subst (λ z. z <ℚ r.first) (sym l.0) m) }
-    by (inr l) (inr m) = record { below = inr (l.0 ∙ m.0, <ℚ_trans l.1 m.1) }
 
 pub at_most_trans : {p q r : Pair} → IsAtMost p q → IsAtMost q r → IsAtMost p r
 at_most_trans {p} {q} {r} h k = by h.at_most k.at_most
@@ -176,20 +152,10 @@ at_most-add {p} {q} {r} {s} h k =
     from_at_most_gap (nonneg_as (q.first -ℚ p.first +ℚ (s.first -ℚ r.first)) (q.second -ℚ p.second +ℚ (s.second -ℚ r.second)) _ _ (regroup p.first q.first r.first s.first) (regroup p.second q.second r.second s.second)
     (pair_nonneg_add (q.first -ℚ p.first) (q.second -ℚ p.second) (s.first -ℚ r.first) (s.second -ℚ r.second) (at_most_gap h) (at_most_gap k)))
 
-pub below-add : {p q r s : Pair} → IsBelow p q → IsAtMost r s → IsBelow (pair_add p r) (pair_add q s)
-below-add {p} {q} {r} {s} h k =
-    from_below_gap (positive_as (q.first -ℚ p.first +ℚ (s.first -ℚ r.first)) (q.second -ℚ p.second +ℚ (s.second -ℚ r.second)) _ _ (regroup p.first q.first r.first s.first) (regroup p.second q.second r.second s.second)
-    (pair_positive_add (q.first -ℚ p.first) (q.second -ℚ p.second) (s.first -ℚ r.first) (s.second -ℚ r.second) (below_gap h) (at_most_gap k)))
-
 pub at_most-scale : {k : ℚ} {p q : Pair} → IsNonneg k → IsAtMost p q → IsAtMost (pair_scale k p) (pair_scale k q)
 at_most-scale {k} {p} {q} n h =
     from_at_most_gap (nonneg_as (k *ℚ (q.first -ℚ p.first)) (k *ℚ (q.second -ℚ p.second)) _ _ (spread k p.first q.first) (spread k p.second q.second)
     (pair_nonneg_scale k (q.first -ℚ p.first) (q.second -ℚ p.second) n (at_most_gap h)))
-
-pub below-scale : {k : ℚ} {p q : Pair} → IsPositive k → IsBelow p q → IsBelow (pair_scale k p) (pair_scale k q)
-below-scale {k} {p} {q} n h =
-    from_below_gap (positive_as (k *ℚ (q.first -ℚ p.first)) (k *ℚ (q.second -ℚ p.second)) _ _ (spread k p.first q.first) (spread k p.second q.second)
-    (pair_positive_scale k (q.first -ℚ p.first) (q.second -ℚ p.second) n (below_gap h)))
 
 -- ---- the test
 by_le_or_eq : (p q : Pair) → p.first ≤ℚ q.first → p.second <ℚ q.second → IsBelow p q

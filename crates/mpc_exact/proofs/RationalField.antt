@@ -10,9 +10,6 @@ use Rattle.mpc_exact.proofs.Rational.{*ℚ_inv, frac-neg}
 use Rattle.mpc_exact.proofs.RationalRing.{reads, by_ring, by_equations}
 use Rattle.mpc_exact.proofs.RationalOrder.{IsNonneg, nonneg_frac}
 
-pub ℚ_set : IsSet ℚ
-ℚ_set = Coded-set coded_ℚ
-
 pub ℚ_discrete : Discrete ℚ
 ℚ_discrete x y = by (ℤ_discrete x.numer y.numer) (ℕ_discrete x.denom y.denom)
   where

@@ -208,9 +208,6 @@ pub ≤ℚ_of_< : {x y : ℚ} → x <ℚ y → x ≤ℚ y
 pub le_or_lt : (x y : ℚ) → (x ≤ℚ y) ⊎ (y <ℚ x)
 le_or_lt x y = by_lt_z (y.numer *ℤ pos x.denom) (x.numer *ℤ pos y.denom) (λ h. inr (record { below = h })) (λ h. inl (record { at_most = h }))
 
-pub ≤ℚ_total : (x y : ℚ) → (x ≤ℚ y) ⊎ (y ≤ℚ x)
-≤ℚ_total x y = ⊎_elim inl (λ h. inr (≤ℚ_of_< h)) (le_or_lt x y)
-
 pub +ℚ-≤ℚ : {x y z w : ℚ} → x ≤ℚ y → z ≤ℚ w → (x +ℚ z) ≤ℚ (y +ℚ w)
 +ℚ-≤ℚ {x} {y} {z} {w} h k = by_le (x ∷ y ∷ z ∷ w ∷ []) (nonneg-add (gap h) (gap k)) (search reads depth 30) (search reads depth 30) tt
 

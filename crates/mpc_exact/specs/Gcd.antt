@@ -90,9 +90,6 @@ gcd_zero a = same_from_IsGcd a 0 (gcd a 0) a (gcd_is a 0) (IsGcd-from_zero a 0 r
 pub gcd_one : (a : ℕ) → gcd a 1 ≡ 1
 gcd_one a = eq-one_of_dvd-one (gcd-divides_right a 1)
 
-pub gcd-positive_left : (a b : ℕ) → 0 < a → 0 < gcd a b
-gcd-positive_left a b some = pos_of_dvd_of_pos (gcd-divides_left a b) some
-
 -- ---- the least common multiple
 unfoldable pub lcm : ℕ → ℕ → ℕ
 lcm a b = a / gcd a b * b

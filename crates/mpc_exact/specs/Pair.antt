@@ -17,9 +17,6 @@ pub record IsAtMost (p q : Pair) : Type 0 where
 unfoldable pub is_below : Pair → Pair → Bool
 is_below p q = lt_ℚ p.first q.first || (le_ℚ p.first q.first && lt_ℚ p.second q.second)
 
-abbrev pub pair_zero : Pair
-pair_zero = record { first = int (pos 0); second = int (pos 0) }
-
 abbrev pub pair_add : Pair → Pair → Pair
 pair_add p q = record { first = p.first +ℚ q.first; second = p.second +ℚ q.second }
 

@@ -156,8 +156,3 @@ max_ℚ x y = cond (le_ℚ x y) y x
 -- m divided by n; 0 where n is 0
 unfoldable pub quotient : ℤ → ℤ → ℚ
 quotient m n = int m /ℚ int n
-
--- the sum of a list
-abbrev pub sum_ℚ : List ℚ → ℚ
-sum_ℚ [] = int (pos 0)
-sum_ℚ (x ∷ xs) = x +ℚ sum_ℚ xs

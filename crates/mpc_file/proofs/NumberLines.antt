@@ -53,34 +53,6 @@ natural_fits n h = whole_fits (pos n) h
 abbrev pub IsBelow : ℕ → Type 0
 IsBelow n = n < 2 ^ 127
 
-pub small_naturals : (ns : List ℕ) → All IsBelow ns → AreSmall (map pos ns)
-small_naturals ns h = All-map IsSmall pos ns h
-
-pub naturals_fit : (ns : List ℕ) → All IsBelow ns → AllFit (map (λ n. int (pos n)) ns)
-naturals_fit [] h = All-nil FitsFrac
-naturals_fit (n ∷ ns) h = All-cons FitsFrac (int (pos n)) (map (λ n. int (pos n)) ns) (natural_fits n (All-head IsBelow n ns h)) (naturals_fit ns (All-tail IsBelow n ns h))
-
-texts_of_naturals : (ns : List ℕ) → map decimal ns ≡ map signed_decimal (map pos ns)
-texts_of_naturals [] = refl
-texts_of_naturals (n ∷ ns) = ap (λ words. decimal n ∷ words) (texts_of_naturals ns)
-
-texts_of_integers : (zs : List ℤ) → map signed_decimal zs ≡ map fraction_text (map int zs)
-texts_of_integers [] = refl
-texts_of_integers (z ∷ zs) = λ i. sym (whole_text z) i ∷ texts_of_integers zs i
-
-naturals_as_fractions : (ns : List ℕ) → map decimal ns ≡ map fraction_text (map (λ n. int (pos n)) ns)
-naturals_as_fractions [] = refl
-naturals_as_fractions (n ∷ ns) = λ i. sym (natural_text n) i ∷ naturals_as_fractions ns i
-
-pub naturals_are_integers : (name : List ℕ) (ns : List ℕ) → line name (map decimal ns) ≡ integers_line name (map pos ns)
-naturals_are_integers name ns = ap (line name) (texts_of_naturals ns)
-
-pub integers_are_fractions : (name : List ℕ) (zs : List ℤ) → integers_line name zs ≡ fractions_line name (map int zs)
-integers_are_fractions name zs = ap (line name) (texts_of_integers zs)
-
-pub naturals_are_fractions : (name : List ℕ) (ns : List ℕ) → line name (map decimal ns) ≡ fractions_line name (map (λ n. int (pos n)) ns)
-naturals_are_fractions name ns = ap (line name) (naturals_as_fractions ns)
-
 -- ---- a certificate's line, as one of twice as many fractions
 abbrev pub pair_fractions : (ℕ × ℚ) → List ℚ
 pair_fractions pair = int (pos pair.0) ∷ pair.1 ∷ []

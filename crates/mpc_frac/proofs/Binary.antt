@@ -103,9 +103,6 @@ step_gcd w x y d m e s p q some fits = gcd_comm (d / 2 ^ trailing_zeros w d) m �
 pub equal_gcd : (x y d : ℕ) → d ≡ abs_diff x y → d ≡ 0 → x ≡ gcd x y
 equal_gcd x y d e z = let same : x ≡ y = omega arith in sym (gcd_self x) ∙ ap (gcd x) same
 
-pub smaller_sum : (x y d m k : ℕ) → d ≡ abs_diff x y → m ≡ min x y → y % 2 ≡ 1 → x % 2 ≡ 1 → k ≤ d → k + m < x + y
-smaller_sum x y d m k e s p q h = omega arith
-
 pub positive_gcd : (a b r : ℕ) → r ≡ gcd a b → 0 < b → 0 < r
 positive_gcd a b r e h = subst (λ n. 0 < n) (sym e) (gcd-positive a b h)
 

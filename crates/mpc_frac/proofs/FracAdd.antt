@@ -45,11 +45,6 @@ module _ (x y : ℚ) where
 clash : (m n : ℕ) → m ≤ n → n < m → ⊥
 clash m n h k = omega arith
 
--- ---- a numerator times a number
-pub signed_alone : (x : ℤ) (n : ℕ) → signed_like x (pos 1) (unsigned_abs x * n) ≡ x *ℤ pos n
-signed_alone (pos x) n = refl
-signed_alone (negsuc x) n = refl
-
 -- ---- lowest terms
 pub signed_part : (n : ℤ) (g : ℕ) → signed_like n (pos 1) (unsigned_abs n / g) ≡ int_div n (pos g)
 signed_part (pos n) g = refl

@@ -48,9 +48,6 @@ and_left : (a b : Bool) → T (a && b) → T a
 and_left true b t = tt
 and_left false b t = t
 
-pub reduced_positive : (z : ℤ) (d : ℕ) → T (is_reduced z d) → 0 < d
-reduced_positive z d t = ltb→lt 0 d (and_left (ltb 0 d) (eqb (gcd (unsigned_abs z) d) 1) t)
-
 -- ---- what a `Frac` keeps, said of its number
 pub fits_is : (f : Inside) (x : ℚ) → IsFrac f → number f ≡ x → FitsFrac x
 fits_is f x h e = subst FitsFrac e (subst FitsFrac (sym (frac_record f.num (unsigned_abs f.den) h.lowest)) (h.numer_fits, h.denom_fits))

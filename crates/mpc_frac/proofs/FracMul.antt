@@ -167,9 +167,6 @@ module _ (x y : ℚ) (a c xd yd l r : ℕ) (ea : a ≡ unsigned_abs x.numer) (ec
 pub product_from : (x y : ℚ) (n d : ℕ) (z : ℤ) → n ≡ size_of_product x y → d ≡ denom_of_product x y → z ≡ signed_like x.numer y.numer n → frac z d ≡ x *ℚ y
 product_from x y n d z p q e = (λ i. frac (e i) (q i)) ∙ ap (λ m. frac (signed_like x.numer y.numer m) (denom_of_product x y)) p ∙ product_value x y
 
-pub reduced_from : (x y : ℚ) (n d : ℕ) (z : ℤ) → n ≡ size_of_product x y → d ≡ denom_of_product x y → z ≡ signed_like x.numer y.numer n → T (is_reduced z d)
-reduced_from x y n d z p q e = subst₂ (λ u v. T (is_reduced u v)) (sym (e ∙ ap (signed_like x.numer y.numer) p)) (sym q) (product_reduced x y)
-
 pub coprime_from : (x y : ℚ) (n d : ℕ) (z : ℤ) → n ≡ size_of_product x y → d ≡ denom_of_product x y → z ≡ signed_like x.numer y.numer n → gcd (unsigned_abs z) d ≡ 1
 coprime_from x y n d z p q e = ap (λ k. gcd k d) (ap unsigned_abs e ∙ signed_abs x.numer y.numer n) ∙ (λ i. gcd (p i) (q i)) ∙ product_alone x y
 

@@ -19,13 +19,6 @@ zero_to x e = ap is_zero e
 pub nonzero_from : (x : ℚ) → is_zero x ≡ false → x ≢ int (pos 0)
 nonzero_from x h e = both_ways (is_zero x) h (zero_to x e)
 
-pub nonzero_to : (x : ℚ) → x ≢ int (pos 0) → is_zero x ≡ false
-nonzero_to x h = by (is_zero x) refl
-  where
-    by : (b : Bool) → is_zero x ≡ b → is_zero x ≡ false
-    by true e = absurd (h (zero_from x e))
-    by false e = e
-
 -- p is the first of so many rows from i on with an entry that isn't 0
 pub record IsFirst (t : Table) (j i count p : ℕ) : Type 0 where
   pub from : i ≤ p

@@ -53,9 +53,6 @@ pub record Exchanging (n w c p j : ℕ) (t s : Table) : Type 0 where
   pub done : (i k : ℕ) → i < n → c ≤ k → k < j → s i k ≡ exchanged c p t i k
   pub rest : (i k : ℕ) → i < n → j ≤ k → k < w → s i k ≡ t i k
 
-pub exchanging_none : (n w c p : ℕ) (t : Table) → Exchanging n w c p c t t
-exchanging_none n w c p t = record { done = λ i k h l m. absurd (omega arith); rest = λ i k h l m. refl }
-
 module _ (n w c p j : ℕ) (t : Table) (xs : List ℚ) (size : length xs ≡ n * w) (hc : c < n) (hp : p < n) (hj : j < w) (g : Exchanging n w c p j t (stored w xs)) where
   at_c : c * w + j < length xs
   at_c = subst (λ m. c * w + j < m) (sym size) (place_below n w c j hc hj)
@@ -90,15 +87,6 @@ pub record Dividing (n w c j : ℕ) (t s : Table) : Type 0 where
   pub front : (i k : ℕ) → i < n → k ≤ c → s i k ≡ t i k
   pub others : (i k : ℕ) → i < n → i ≢ c → k < w → s i k ≡ t i k
 
-pub dividing_none : (n w c : ℕ) (t : Table) → Dividing n w c (c + 1) t t
-dividing_none n w c t = record {
-  done = λ k l m. absurd (omega arith);
-  fits = λ k l m. absurd (omega arith);
-  rest = λ k l m. refl;
-  front = λ i k l m. refl;
-  others = λ i k l m h. refl;
-}
-
 module _ (n w c j : ℕ) (t : Table) (xs : List ℚ) (size : length xs ≡ n * w) (hc : c < n) (hj : j < w) (above : c < j) (g : Dividing n w c j t (stored w xs)) (v : ℚ) where
   pub dividing_more : v ≡ t c j /ℚ t c c → FitsFrac (t c j /ℚ t c c) → Dividing n w c (j + 1) t (stored w (set xs (c * w + j) v))
   dividing_more e f = record {
@@ -112,12 +100,6 @@ module _ (n w c j : ℕ) (t : Table) (xs : List ℚ) (size : length xs ≡ n * w
     others = λ i k hi h m. written_else n w xs size c j v hc hj i k m (λ r s. h r) ∙ g.others i k hi h m;
   }
 
-pub dividing_all : (n w c j : ℕ) (t s : Table) → w ≤ j → Dividing n w c j t s → IsDivided n w c t s
-dividing_all n w c j t s h g = record { pivot = λ k l m. g.done k l (omega arith); front = g.front; others = g.others }
-
-pub dividing_fits : (n w c j : ℕ) (t s : Table) → w ≤ j → Dividing n w c j t s → QuotientsFit w c t
-dividing_fits n w c j t s h g = λ k l m. g.fits k l (omega arith)
-
 -- ---- row c taken away from row i in the columns behind c and before j
 pub record Taking (n w c i j : ℕ) (t s : Table) : Type 0 where
   pub done : (k : ℕ) → c < k → k < j → s i k ≡ t i k -ℚ t i c *ℚ t c k
@@ -125,15 +107,6 @@ pub record Taking (n w c i j : ℕ) (t s : Table) : Type 0 where
   pub rest : (k : ℕ) → j ≤ k → k < w → s i k ≡ t i k
   pub front : (l k : ℕ) → l < n → k ≤ c → s l k ≡ t l k
   pub others : (l k : ℕ) → l < n → l ≢ i → k < w → s l k ≡ t l k
-
-pub taking_none : (n w c i : ℕ) (t : Table) → Taking n w c i (c + 1) t t
-taking_none n w c i t = record {
-  done = λ k l m. absurd (omega arith);
-  fits = λ k l m. absurd (omega arith);
-  rest = λ k l m. refl;
-  front = λ i k l m. refl;
-  others = λ i k l m h. refl;
-}
 
 module _ (n w c i j : ℕ) (t : Table) (xs : List ℚ) (size : length xs ≡ n * w) (hi : i < n) (hj : j < w) (above : c < j) (g : Taking n w c i j t (stored w xs)) (v : ℚ) where
   pub taking_more : v ≡ t i j -ℚ t i c *ℚ t c j → TakenFits (t i j) (t i c) (t c j) → Taking n w c i (j + 1) t (stored w (set xs (i * w + j) v))
@@ -147,12 +120,6 @@ module _ (n w c i j : ℕ) (t : Table) (xs : List ℚ) (size : length xs ≡ n *
     front = λ l k hl m. written_else n w xs size i j v hi hj l k (omega arith) (λ r s. omega arith) ∙ g.front l k hl m;
     others = λ l k hl h m. written_else n w xs size i j v hi hj l k m (λ r s. h r) ∙ g.others l k hl h m;
   }
-
-pub taking_all : (n w c i j : ℕ) (t s : Table) → w ≤ j → Taking n w c i j t s → IsTaken n w c i t s
-taking_all n w c i j t s h g = record { row = λ k l m. g.done k l (omega arith); front = g.front; others = g.others }
-
-pub taking_fits : (n w c i j : ℕ) (t s : Table) → w ≤ j → Taking n w c i j t s → RowTakenFits w c i t
-taking_fits n w c i j t s h g = λ some k l m. g.fits k l (omega arith)
 
 still : (x y z : ℚ) → y ≡ int (pos 0) → x ≡ x -ℚ y *ℚ z
 still x y z e = by_ring (x ∷ z ∷ []) (search reads depth 30) (search reads depth 30) tt ∙ ap (λ u. x -ℚ u *ℚ z) (sym e)
@@ -169,17 +136,6 @@ pub record Clearing (n w c i : ℕ) (t s : Table) : Type 0 where
 
 pub clearing_none : (n w c : ℕ) (t : Table) → Clearing n w c 0 t t
 clearing_none n w c t = record { done = λ k l h. absurd (omega arith); fits = λ k h. absurd (omega arith); rest = λ k l h m j. refl; pivot = λ l h. refl }
-
-pub clearing_skip : (n w c i : ℕ) (t s : Table) → i ≡ c → Clearing n w c i t s → Clearing n w c (i + 1) t s
-clearing_skip n w c i t s e g = record {
-  done = λ k l h m q. g.done k l (below_but k h (λ r. q (r ∙ e))) m q;
-  fits = λ k h q. g.fits k (below_but k h (λ r. q (r ∙ e))) q;
-  rest = λ k l h. g.rest k l (omega arith);
-  pivot = g.pivot;
-}
-  where
-    below_but : (k : ℕ) → k < i + 1 → (k ≡ i → ⊥) → k < i
-    below_but k h q = omega arith
 
 module _ (n w c i : ℕ) (t s r : Table) (hi : i < n) (hc : c < n) (hw : c < w) (apart : i ≢ c) (g : Clearing n w c i t s) where
   taken_same : RowTakenFits w c i s → RowTakenFits w c i t
@@ -209,9 +165,6 @@ module _ (n w c i : ℕ) (t s r : Table) (hi : i < n) (hc : c < n) (hw : c < w) 
 
 pub clearing_all : (n w c i : ℕ) (t s : Table) → n ≤ i → Clearing n w c i t s → IsCleared n w c t s
 clearing_all n w c i t s h g = record { rows = λ k l m. g.done k l (omega arith) m; pivot = g.pivot }
-
-pub clearing_fits : (n w c i : ℕ) (t s : Table) → n ≤ i → Clearing n w c i t s → RowsTakenFit n w c t
-clearing_fits n w c i t s h g = λ k m q. g.fits k (omega arith) q
 
 -- ---- the whole column
 module _ (n w c : ℕ) (e t₁ t₂ t₃ : Table) (hc : c < n) (hw : c < w) (x : SameFrom n w c t₁ e) (d : IsDivided n w c t₁ t₂) where
@@ -250,6 +203,3 @@ module _ (n w c : ℕ) (e t₁ t₂ t₃ : Table) (hc : c < n) (hw : c < w) (x :
         subst₂ (λ u v. FitsSum u (neg_ℚ v)) (sym (other_is i j hi q (omega arith) m)) (λ y. sym (other_is i c hi q (omega arith) hw) y *ℚ sym (divided_is j l m) y)
         (f.differences i j hi q (λ z. some (other_is i c hi q (omega arith) hw ∙ z)) l m);
   }
-
-pub quotients_from : (n w c : ℕ) (e t₁ : Table) → c < n → c < w → SameFrom n w c t₁ e → ColumnFits n w c e → QuotientsFit w c t₁
-quotients_from n w c e t₁ hc hw x f j l m = subst FitsFrac (λ i. sym (x c j hc (omega arith) m) i /ℚ sym (x c c hc (omega arith) hw) i) (f.quotients j l m)

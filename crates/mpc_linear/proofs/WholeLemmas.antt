@@ -98,9 +98,3 @@ form_is c den k e f = subst₂ (λ d j. IsLeastForm c d j) (sym e) (sym f) (form
 
 pub fits_from : (c : List ℚ) (all : ℕ) → all ≡ common_denom c → all < 2 ^ 127 → ScaledFit all c → WholeFits c
 fits_from c all e h f = record { denom = subst (λ n. n < 2 ^ 127) e h; numers = subst (λ n. ScaledFit n c) e f }
-
-pub denom_unfit : (c : List ℚ) → 2 ^ 127 ≤ common_denom c → WholeFits c → ⊥
-denom_unfit c h w = let d = w.denom in omega arith
-
-pub numers_unfit : (c : List ℚ) (all : ℕ) → all ≡ common_denom c → (ScaledFit all c → ⊥) → WholeFits c → ⊥
-numers_unfit c all e h w = h (subst (λ n. ScaledFit n c) (sym e) w.numers)

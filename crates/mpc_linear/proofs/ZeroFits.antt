@@ -37,21 +37,12 @@ zero_left x y e = by_ring (y ∷ []) (search reads depth 30) (search reads depth
 pub zero_right : (x y : ℚ) → y ≡ int (pos 0) → int (pos 0) ≡ x *ℚ y
 zero_right x y e = by_ring (x ∷ []) (search reads depth 30) (search reads depth 30) tt ∙ ap (λ u. x *ℚ u) (sym e)
 
-pub fits_zero_left : (x y : ℚ) → x ≡ int (pos 0) → FitsFrac (x *ℚ y)
-fits_zero_left x y e = subst (λ z. FitsFrac z) (zero_left x y e) fits_zero
-
-pub fits_zero_right : (x y : ℚ) → y ≡ int (pos 0) → FitsFrac (x *ℚ y)
-fits_zero_right x y e = subst (λ z. FitsFrac z) (zero_right x y e) fits_zero
-
 -- the sum of parts a / b and 0 / 1
 times_one : (z : ℤ) (n : ℕ) → n ≡ 1 → z *ℤ pos n ≡ z
 times_one z n e = ap (λ k. z *ℤ pos k) e ∙ omega (arith, ints)
 
 times_nought : (z : ℤ) (n : ℕ) → z ≡ pos 0 → z *ℤ pos n ≡ pos 0
 times_nought z n e = ap (λ k. k *ℤ pos n) e ∙ omega (arith, ints)
-
-one_over : (n : ℕ) → n ≡ 1 → 1 / n ≡ 1
-one_over n e = ap (λ k. 1 / k) e ∙ div-one 1
 
 module _ (x : ℚ) where
   whole_common : common x (int (pos 0)) ≡ 1

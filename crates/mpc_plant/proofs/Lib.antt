@@ -11,3 +11,4 @@ pub mod RightReply
 pub mod RollLemmas
 pub mod RolledStates
 pub mod WorkedPlant
+pub mod OneReading

@@ -13,3 +13,4 @@ pub mod CheckedPlant
 pub mod WholePlant
 pub mod RollWidth
 pub mod CostWidth
+pub mod Readings

@@ -34,12 +34,6 @@ values_at (axis ∷ grid) (t ∷ ts) = (axis.low +ℚ axis.step *ℚ t) ∷ valu
 abbrev pub state_of : Plant → List ℚ → List ℚ
 state_of plant t = values_at plant.grid t
 
--- a point whose entries are whole numbers
-pub record IsGridState (plant : Plant) (t : List ℚ) : Type 0 where
-  pub in_box : IsInBox plant t
-  pub counts : List ℕ
-  pub whole : t ≡ point_of counts
-
 -- ---- moves and motion
 
 -- the move at step k

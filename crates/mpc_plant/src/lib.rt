@@ -22,7 +22,7 @@ mod weights;
 
 pub use costs::cost;
 pub use faults::{Path, PlantError, PlantKind};
-pub use laws::one_right_reply;
+pub use laws::{one_reading, one_right_reply};
 pub use lists::{Coordinate, Coordinates, PlantRow, PlantRows};
 pub use plant_file::read_plant;
 pub use plants::Plant;

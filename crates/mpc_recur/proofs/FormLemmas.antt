@@ -352,9 +352,6 @@ module _ (plant : Plant) (law : Law) (i j : ℕ) (a : Coordinate) (at : slice_ge
   pub not_shifted : j ≡ 0 → (ShiftFits plant i moved → ⊥) → CoefficientFits plant law i j → ⊥
   not_shifted e h f = h (subst (ShiftFits plant i) (sym image_is) (f.shift e))
 
-pub not_with_moves : (plant : Plant) (law : Law) (i j : ℕ) (state : ℚ) → state ≡ dot (get_or plant.a.rows i []) (column (state_forms plant) j) → (SumFits state (get_or plant.b.rows i []) (column law.moves.rows j) → ⊥) → CoefficientFits plant law i j → ⊥
-not_with_moves plant law i j state e h f = h (subst (λ x. SumFits x (get_or plant.b.rows i []) (column law.moves.rows j)) (sym e) f.from_moves)
-
 -- ---- the shift of the first coefficient
 module _ (plant : Plant) (i : ℕ) (a : Coordinate) (at : slice_get plant.grid i ≡ Some a) (sum drift drifted : ℚ) (ed : drift ≡ coordinate plant.drift i) (es : drifted ≡ sum +ℚ drift) where
   drifted_is : drifted ≡ sum +ℚ coordinate plant.drift i

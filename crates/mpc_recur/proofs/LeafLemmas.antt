@@ -78,10 +78,6 @@ module _ (plant : Plant) (law : LawOfSet) (path : List Row) (leaf : ℕ) (s : Li
         → MatchResult r (λ _. EmptyMet plant nodes law path k) (IsStop (EmptyFinds plant nodes law path leaf k))
     empty_found r h = MatchResult-weaker r h (λ u met. empty_met (met_there IsRuledOut met)) (λ e stop. empty_stop e (met_there (λ f x. IsStop (TargetFinds f x (target_of leaf (NoMove (k + 1)))) e) stop))
 
--- other nodes have nothing to be ruled out
-pub not_empty_met : (plant : Plant) (nodes : List Node) (law : LawOfSet) (path : List Row) (k : ℕ) (node : Node) → slice_get nodes k ≡ Some node → ((cert : List (ℕ × ℚ)) → ¬ (node ≡ NoMoveLeaf cert)) → EmptyMet plant nodes law path k
-not_empty_met plant nodes law path k node at not other cert leads is = absurd (not cert (let same : node ≡ NoMoveLeaf cert = cc in same))
-
 pub behind_empties : (plant : Plant) (nodes : List Node) (law : LawOfSet) (path : List Row) (end : ℕ) → EmptiesBefore nodes end → (k : ℕ) → end ≤ k → EmptyMet plant nodes law path k
 behind_empties plant nodes law path end before k h other cert leads is = absurd (let below = before k cert is in omega arith)
 

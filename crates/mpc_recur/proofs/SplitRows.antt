@@ -49,16 +49,6 @@ pub sized : {E : Type 0} (r : Result Row E) (x : Row) (n : ℕ) → IfOk r (λ y
 sized (Ok y) x n h e = ap (λ (z : Row). length z.a) h ∙ e
 sized (Err error) x n h e = tt
 
--- ---- from a controller
-splits_of : (n laws : ℕ) (nodes : List Node) → AllByRecursion (IsNodeFor n laws) nodes → AllByRecursion (HasSplitRow n) nodes
-splits_of n laws [] h = tt
-splits_of n laws (Split row ∷ nodes) h = (h.0, splits_of n laws nodes h.1)
-splits_of n laws (Law law certs ∷ nodes) h = (tt, splits_of n laws nodes h.1)
-splits_of n laws (NoMove cert ∷ nodes) h = (tt, splits_of n laws nodes h.1)
-
-pub splits_there : (n laws : ℕ) (nodes : List Node) → All (IsNodeFor n laws) nodes → All (HasSplitRow n) nodes
-splits_there n laws nodes h = All-from_recursion (HasSplitRow n) nodes (splits_of n laws nodes (recursion_from_All (IsNodeFor n laws) nodes h))
-
 -- ---- one row more of a way
 module _ (nodes : List Node) (way : List Turn) (k : ℕ) (d : Turn) (row : Row) (h : k < length way) (e : row ≡ turn_row nodes (get_or way k d)) where
   rows_more : map (turn_row nodes) (take (k + 1) way) ≡ map (turn_row nodes) (take k way) ++ row ∷ []

@@ -48,9 +48,6 @@ module _ (forming : Type 0) (s : LinearSystem) (one : Next) (fits : forming) whe
   pub found_with : (r : Result Done Stop) → MatchResult r (λ _. IsRuledOut (Unit {0}) s) (IsStop (TargetFinds (Unit {0}) s one)) → MatchResult r (λ _. IsRuledOut forming s) (IsStop (TargetFinds forming s one))
   found_with r h = MatchResult-weaker r h (λ u. ruled_out_with) stops_with
 
-pub too_wide_rows : (forming : Type 0) (s : LinearSystem) (one : Next) → ¬ forming → TargetFinds forming s one (too_wide one)
-too_wide_rows forming s one h = (refl, λ f. h f.rows_fit)
-
 -- ---- the rows of a target behind the base
 pub on_base : (plant : Plant) (path last : List Row) (s : LinearSystem) → IsBaseOf plant path s → with_rows s last ≡ leaf_system plant path last
 on_base plant path last s base = λ i. record { width = base.width i; rows = (ap (λ r. r ++ last) base.rows ∙ append_assoc (box_rows plant.n (limits_of plant)) path last) i }

@@ -1,6 +1,7 @@
 -- The runs of a set's beginnings: the system of a set with one more member is that of the set with one more row.
-use Rattle.std.proofs.Common.{◌≡◌, ℕ, suc, ◌+◌, ◌-◌, ◌*◌, ◌<◌, ◌≤◌, ◌++◌, List, [], ◌∷◌, length, get_or, take, map, Option, Some, None, Result, Ok, Err, IfOk, IfSome, refl, sym, ◌∙◌, ap, subst, subst₂, arith}
-use Rattle.std.proofs.Math.Seq.{take-length}
+use Rattle.std.proofs.Common.{◌≡◌, ℕ, suc, ◌+◌, ◌-◌, ◌*◌, ◌<◌, ◌≤◌, ◌++◌, List, [], ◌∷◌, length, get_or, take, map, Option, Some, None, Result, Ok, Err, IfOk, IfSome, refl, sym, ◌∙◌, ap, subst, subst₂, arith, ⊎_elim}
+use Rattle.std.proofs.Math.Seq.{take-length, get_or-append_seam}
+use Rattle.std.proofs.lemmas.Bool.{cases_lt}
 use Rattle.std.proofs.lemmas.List.{append_assoc, map-append, take_more, take-take, length-append, length-map, length-take, get_or-take, get_or_append_left, get_or-append_right}
 use Rattle.std.proofs.lemmas.List.FromFn.{length-range_with_len, get_or-map-range_with_len}
 use Rattle.std.specs.List.{range_with_len}
@@ -111,3 +112,15 @@ module _ (qp : Qp) where
               (sym (take-take k shared set l) ∙ ap (take k) alike ∙ take-take k shared other l)
               (sym (get_or-take (shared + 1) runs k None (omega arith)))
               (are.each k (omega (arith, fewer)))
+
+      -- one more run
+      pub runs_more : (run : Option LinearSystem) (new : List (Option LinearSystem)) → new ≡ runs ++ run ∷ [] → length runs ≤ length set → IsReachRun qp (take (length runs) set) run → AreReachRuns qp set new
+      runs_more run new e room is = subst (AreReachRuns qp set) (sym e) (record { few = omega (arith, length-append runs (run ∷ [])); each = by })
+        where
+          by : (k : ℕ) → k < length (runs ++ run ∷ []) → IsReachRun qp (take k set) (get_or (runs ++ run ∷ []) k None)
+          by k h = ⊎_elim
+              (λ l. subst (IsReachRun qp (take k set)) (sym (get_or_append_left runs (run ∷ []) None k l)) (are.each k l))
+              (λ l.
+              let last : length runs ≡ k = omega (arith, length-append runs (run ∷ [])) in
+              subst (λ k. IsReachRun qp (take k set) (get_or (runs ++ run ∷ []) k None)) last (subst (IsReachRun qp (take (length runs) set)) (sym (get_or-append_seam runs run [] None)) is))
+              (cases_lt k (length runs))

@@ -1,15 +1,16 @@
 -- What a point of the box that meets the rows of a law, or that there is none, tells of the set.
-use Rattle.std.proofs.Common.{◌≡◌, ℕ, List, Bool, true, false, Option, Some, IfSome, IsTrue, ◌↔◌, subst}
+use Rattle.std.proofs.Common.{◌≡◌, ℕ, List, Bool, true, false, Option, Some, IfSome, IsTrue, ◌↔◌, refl, inr, subst}
 use Rattle.mpc_space.specs.Matrix.{height}
 use Rattle.mpc_linear.specs.declared.integers.RowInt.{RowInt}
 use Rattle.mpc_rows.specs.declared.programs.Qp.{Qp}
 use Rattle.mpc_rows.specs.declared.laws.Law.{Law}
-use Rattle.mpc_rows.specs.declared.verdicts.Verdict.TheVariants.{Hollow, Region}
+use Rattle.mpc_rows.specs.declared.verdicts.Verdict.TheVariants.{Hollow, Region, Wide}
+use Rattle.mpc_rows.specs.declared.places.Place.TheVariants.{Region as RegionRun}
 use Rattle.mpc_rows.specs.RunWidth.{RunFits}
 use Rattle.mpc_rows.specs.Candidates.{CanGrow}
-use Rattle.mpc_rows.specs.Laws.{IsLaw}
+use Rattle.mpc_rows.specs.Laws.{IsLaw, HasRegion}
 use Rattle.mpc_rows.specs.LawRows.{AreLawRows}
-use Rattle.mpc_rows.specs.SetRuns.{region_system, LawRowsFit}
+use Rattle.mpc_rows.specs.SetRuns.{region_system, LawRowsFit, RegionFits}
 use Rattle.mpc_rows.specs.Verdicts.{IsRight, ReachFits, AllFit}
 use Rattle.mpc_rows.specs.LawLaws.{LawLaws}
 use Rattle.mpc_rows.specs.RegionLaws.{RegionLaws}
@@ -17,6 +18,20 @@ use Rattle.mpc_simplex.specs.Answer.{HasPoint}
 
 not_both : (b : Bool) → b ≡ true → b ≡ false → ⊥
 not_both b e f = cc
+
+-- by a run of its own for the region
+module _ (qp : Qp) (law : Law) (is_law : IsLaw qp law) (grows : CanGrow qp law.set) (reach_fits : ReachFits qp law.set) (rows_fit : LawRowsFit qp law (height qp.g)) where
+  pub run_region : (b : Bool) → IsTrue b ↔ HasRegion qp law → RegionFits qp law → b ≡ true → IsRight qp law.set (Region law)
+  run_region b answer fits e = ((grows, refl, is_law, answer.0 e), (reach_fits, record { rows = rows_fit; region = fits }))
+
+  pub run_hollow : (b : Bool) → IsTrue b ↔ HasRegion qp law → RegionFits qp law → b ≡ false → IsRight qp law.set Hollow
+  run_hollow b answer fits e = (
+    (grows, record { law = law; of_set = refl; is_law = is_law; holds = λ r. not_both b (answer.1 r) e }),
+    (reach_fits, record { law = law; of_set = refl; is_law = is_law; holds = record { rows = rows_fit; region = fits } }),
+  )
+
+  pub run_wide : ¬ RegionFits qp law → IsRight qp law.set (Wide (RegionRun law.set))
+  run_wide unfit = inr (inr (inr (refl, reach_fits, grows, record { law = law; of_set = refl; is_law = is_law; holds = record { before = rows_fit; here = unfit } })))
 
 module _ (points : RegionLaws) (single : LawLaws) (qp : Qp) (s : List ℕ) (law : Law) (of_set : law.set ≡ s) (is_law : IsLaw qp law) (grows : CanGrow qp s) (reach_fits : ReachFits qp s) (rows : List RowInt) (are : AreLawRows qp law rows) (fit : LawRowsFit qp law (height qp.g))
     (o : Option Bool) (yes : Bool) (is : o ≡ Some yes) (met : IfSome o (λ yes. IsTrue yes ↔ HasPoint (region_system qp rows))) (met_fits : IfSome o (λ yes. RunFits (region_system qp rows))) where

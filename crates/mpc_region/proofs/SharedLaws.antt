@@ -21,25 +21,24 @@ use Rattle.mpc_region.specs.Shared.{shared_table, AreMemberPlaces, AreSidePlaces
 use Rattle.mpc_region.proofs.LawEnds.{found, dependent}
 use Rattle.mpc_region.proofs.SharedParts.{are_places, is_part}
 
--- the names that the code has for the table and the places
-module _ (qp : Qp) (s : List ℕ) (set : IsSetOfRows (height qp.g) s) (k : Kept) (kept : IsKeptTable qp k)
-    (n g w : ℕ) (n_is : n ≡ height qp.h) (g_is : g ≡ height qp.g) (w_is : w ≡ qp.f.columns)
-    (ps rs rows rights : List ℕ) (at : AreMemberPlaces n s ps) (right_at : AreSidePlaces (n + g) w rs) (rows_are : rows ≡ ps) (rights_are : rights ≡ rs) where
-  places_at : AreMemberPlaces (height qp.h) s rows
-  places_at = subst (λ n. AreMemberPlaces n s rows) n_is (subst (AreMemberPlaces n s) (sym rows_are) at)
+-- the places by the names that the code has for the numbers
+pub places_at : (qp : Qp) (s ps rows : List ℕ) (n : ℕ) → n ≡ height qp.h → AreMemberPlaces n s ps → rows ≡ ps → AreMemberPlaces (height qp.h) s rows
+places_at qp s ps rows n n_is at rows_are = subst (λ n. AreMemberPlaces n s rows) n_is (subst (AreMemberPlaces n s) (sym rows_are) at)
 
-  rights_at : AreSidePlaces (height qp.h + height qp.g) (length qp.counts + 1) rights
-  rights_at =
-      subst (λ w. AreSidePlaces (height qp.h + height qp.g) w rights) (w_is ∙ qp.is_program.f_shape.columns_are)
-      (subst (λ g. AreSidePlaces (height qp.h + g) w rights) g_is
-      (subst (λ n. AreSidePlaces (n + g) w rights) n_is
-      (subst (AreSidePlaces (n + g) w) (sym rights_are) right_at)))
+pub rights_at : (qp : Qp) (rs rights : List ℕ) (n g w : ℕ) → n ≡ height qp.h → g ≡ height qp.g → w ≡ qp.f.columns → AreSidePlaces (n + g) w rs → rights ≡ rs → AreSidePlaces (height qp.h + height qp.g) (length qp.counts + 1) rights
+rights_at qp rs rights n g w n_is g_is w_is right_at rights_are =
+    subst (λ w. AreSidePlaces (height qp.h + height qp.g) w rights) (w_is ∙ qp.is_program.f_shape.columns_are)
+    (subst (λ g. AreSidePlaces (height qp.h + g) w rights) g_is
+    (subst (λ n. AreSidePlaces (n + g) w rights) n_is
+    (subst (AreSidePlaces (n + g) w) (sym rights_are) right_at)))
 
+module _ (qp : Qp) (s : List ℕ) (set : IsSetOfRows (height qp.g) s) (k : Kept) (kept : IsKeptTable qp k) (rows rights : List ℕ) (at : AreMemberPlaces (height qp.h) s rows)
+    (right_at : AreSidePlaces (height qp.h + height qp.g) (length qp.counts + 1) rights) where
   carried : (P : RationalMatrix → ℕ → Type 0) → P (shared_table qp) (height qp.h) → P k.table k.front
   carried P h = subst (λ t. P t k.front) (sym kept.table) (subst (λ u. P (shared_table qp) u) (sym kept.front) h)
 
   pub law_places : ArePlaces k.table k.front rows rights
-  law_places = carried (λ t u. ArePlaces t u rows rights) (are_places qp s rows rights set places_at rights_at)
+  law_places = carried (λ t u. ArePlaces t u rows rights) (are_places qp s rows rights set at right_at)
 
   abbrev m : RationalMatrix
   m = law_matrix qp s
@@ -48,7 +47,7 @@ module _ (qp : Qp) (s : List ℕ) (set : IsSetOfRows (height qp.g) s) (k : Kept)
   rhs = law_right qp s
 
   law_part : IsPart k.table k.front rows rights m rhs
-  law_part = carried (λ t u. IsPart t u rows rights m rhs) (is_part qp s rows rights set places_at rights_at)
+  law_part = carried (λ t u. IsPart t u rows rights m rhs) (is_part qp s rows rights set at right_at)
 
   solved_of : (P : RationalMatrix → RationalMatrix → Solved → Type 0) (o : Option Solved) (a : Solved) → o ≡ Some a → IfSolved k.table k.front rows rights o P → P m rhs a
   solved_of P o a e h = (subst (λ o. IfSolved k.table k.front rows rights o P) e h) m rhs law_part

@@ -1,7 +1,8 @@
 -- The equations of the law of a set are a part of the shared table: the places of its members are where the table is swept for the set.
-use Rattle.std.proofs.Common.{◌≡◌, ℕ, ◌+◌, ◌-◌, ◌<◌, ◌≤◌, List, ◌++◌, length, get_or, refl, sym, ◌∙◌, ap, arith, ⊎_elim}
-use Rattle.std.proofs.lemmas.Bool.{cases_lt}
-use Rattle.std.proofs.lemmas.List.{get_or_append_left, get_or-append_right}
+use Rattle.std.proofs.Common.{◌≡◌, ℕ, ◌+◌, ◌-◌, ◌<◌, ◌≤◌, List, [], ◌∷◌, ◌++◌, length, get_or, refl, sym, ◌∙◌, ap, subst, arith, ⊎_elim}
+use Rattle.std.proofs.Math.Seq.{get_or-append_seam}
+use Rattle.std.proofs.lemmas.Bool.{cases_lt, cases_eq}
+use Rattle.std.proofs.lemmas.List.{length-append, get_or_append_left, get_or-append_right}
 use Rattle.mpc_space.specs.Matrix.{height, entry}
 use Rattle.mpc_sets.specs.RowSet.{IsSetOfRows}
 use Rattle.mpc_rows.specs.declared.programs.Qp.{Qp}
@@ -14,6 +15,16 @@ use Rattle.mpc_region.specs.Sweeps.{sweeps_of, rights, all_columns}
 use Rattle.mpc_region.proofs.Members.{member}
 use Rattle.mpc_region.proofs.SharedEntries.{below, above, shared_height, shared_columns, shared_at}
 use Rattle.mpc_region.proofs.SweptParts.{sweeps_size, first_sweep, sweep_later, are_rows, is_part_of}
+
+-- one more column
+pub sides_more : (first k : ℕ) (places new : List ℕ) (p : ℕ) → AreSidePlaces first k places → p ≡ first + k → new ≡ places ++ p ∷ [] → AreSidePlaces first (k + 1) new
+sides_more first k places new p are e n = subst (AreSidePlaces first (k + 1)) (sym n) (record {
+  size = omega (arith, length-append places (p ∷ []), are.size);
+  at = λ j h. ⊎_elim
+      (λ q. ap (λ i. get_or (places ++ p ∷ []) i 0) (q ∙ sym are.size) ∙ get_or-append_seam places p [] 0 ∙ e ∙ ap (λ i. first + i) (sym q))
+      (λ q. get_or_append_left places (p ∷ []) 0 j (omega (arith, are.size)) ∙ are.at j (omega arith))
+      (cases_eq j k);
+})
 
 module _ (qp : Qp) (s places sides : List ℕ) (set : IsSetOfRows (height qp.g) s) (at : AreMemberPlaces (height qp.h) s places) (side_at : AreSidePlaces (rights qp) (length qp.counts + 1) sides) where
   abbrev n : ℕ

@@ -8,7 +8,7 @@ ghost use Rattle.mpc_rows.specs.Verdicts.{IsRight};
 
 use crate::kept::{Kept, kept_of};
 use crate::shared::Shared;
-use crate::sweeps::{Sweeps, begin};
+use crate::sweeps::{Sweeps, begin, no_sweeps};
 use crate::verdicts::verdict_on;
 use mpc_frac::NoMemory;
 use mpc_rows::{Judged, Qp};
@@ -58,6 +58,22 @@ impl<'a> Examiner<'a> {
             qp,
             sweeps,
             shared,
+            kept,
+        })
+    }
+
+    /// An examiner for one set, which makes no table. Refused memory is the only error.
+    pub(crate) fn once(alloc: Global, qp: &'a Qp) -> Result<Examiner<'a>, NoMemory>
+        ensures { IfOk result (λ examiner. examiner ≡ qp.now) }
+    {
+        let kept = kept_of(alloc, qp)?;
+        Ok(Examiner {
+            qp,
+            sweeps: no_sweeps(alloc),
+            shared: Shared {
+                table: None,
+                is_formed: true,
+            },
             kept,
         })
     }

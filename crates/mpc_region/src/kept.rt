@@ -3,7 +3,7 @@
 ghost use Rattle.std.specs.Prelude.{◌≡◌, ◌+◌, ◌-◌, ◌*◌, ◌<◌, ◌≤◌, [], IfOk, OnOk, length, take, vec_len};
 ghost use Rattle.mpc_space.specs.Matrix.{height};
 ghost use Rattle.mpc_sets.specs.RowSet.{IsSetOfRows};
-ghost use Rattle.mpc_region.specs.Kept.{IsKept, IsReachRun};
+ghost use Rattle.mpc_region.specs.Kept.{AreReachRuns, IsKept, IsReachRun};
 
 use mpc_frac::NoMemory;
 use mpc_rows::{Qp, law_laws};
@@ -95,6 +95,27 @@ fn next_run(
     run.extend_turned(alloc, work, place)
 }
 
+/// The run that comes behind these runs of the set's first members.
+fn further_run(
+    alloc: Global,
+    qp: &Qp,
+    work: &mut Workspace,
+    set: ActiveSet,
+    runs: &[Option<Beginning>],
+) -> Result<Option<Beginning>, NoMemory>
+    requires set_of_rows { IsSetOfRows (height qp.now.g) set }
+    requires room { length runs.now ≤ length set }
+    requires runs { AreReachRuns qp.now set runs.now }
+    ensures { IfOk result (IsReachRun qp.now (take (length runs.now) set)) }
+{
+    let count = runs.len();
+    prove!(count <= set.size() as usize);
+    if count == 0 {
+        return first_run(alloc, qp);
+    }
+    next_run(alloc, qp, work, set, count as u32 - 1, &runs[count - 1])
+}
+
 /// One more run of the set. Without memory the others stay.
 fn push_run(alloc: Global, qp: &Qp, kept: &mut Kept) -> Result<(), NoMemory>
     requires kept { IsKept qp.now kept.old }
@@ -104,20 +125,7 @@ fn push_run(alloc: Global, qp: &Qp, kept: &mut Kept) -> Result<(), NoMemory>
     ensures set { kept.new.set ≡ kept.old.set }
     ensures one_more { OnOk result (vec_len kept.new.reaches ≡ vec_len kept.old.reaches + 1) }
 {
-    let count = kept.reaches.len();
-    prove!(count <= kept.set.size() as usize);
-    let run = if count == 0 {
-        first_run(alloc, qp)?
-    } else {
-        next_run(
-            alloc,
-            qp,
-            &mut kept.work,
-            kept.set,
-            count as u32 - 1,
-            &kept.reaches[count - 1],
-        )?
-    };
+    let run = further_run(alloc, qp, &mut kept.work, kept.set, &kept.reaches)?;
     let Ok(()) = kept.reaches.push(run) else {
         return Err(NoMemory);
     };

@@ -8,7 +8,7 @@ ghost use Rattle.mpc_linear.specs.Solution.{IsOnlySolution};
 ghost use Rattle.mpc_rows.specs.Laws.{IsLaw};
 ghost use Rattle.mpc_rows.specs.SetRuns.{law_matrix, law_right};
 ghost use Rattle.mpc_region.specs.LawEnd.{IsLawEnd};
-ghost use Rattle.mpc_region.specs.Shared.{IsKeptTable, IsSharedBySets};
+ghost use Rattle.mpc_region.specs.Shared.{AreMemberPlaces, AreSidePlaces, IsKeptTable, IsSharedBySets};
 
 use crate::matrices::{law_matrix, law_right, part};
 use crate::shared::{Shared, form, member_places, side_places};
@@ -46,6 +46,29 @@ fn law_from(alloc: Global, qp: &Qp, set: ActiveSet, x: &Matrix) -> Result<Law, N
     })
 }
 
+/// How the elimination of these equations, which are those of the active set, ends.
+fn law_solved(
+    alloc: Global,
+    qp: &Qp,
+    set: ActiveSet,
+    matrix: &Matrix,
+    right: &Matrix,
+) -> Result<LawEnd, NoMemory>
+    requires definite { IsDefinite qp.now.h.rows }
+    requires set_of_rows { IsSetOfRows (height qp.now.g) set }
+    requires few { length set ≤ height qp.now.h }
+    requires matrix { matrix.now ≡ law_matrix qp.now set }
+    requires right { right.now ≡ law_right qp.now set }
+    ensures { IfOk result (IsLawEnd qp.now set) }
+{
+    match solve(alloc, matrix, right) {
+        Ok(Solved::Unique(x)) => Ok(LawEnd::Found(law_from(alloc, qp, set, &x)?)),
+        Ok(Solved::Dependent(_)) => Ok(LawEnd::Dependent),
+        Err(LinearError::Wide(_)) => Ok(LawEnd::Wide),
+        Err(LinearError::NoMemory) => Err(NoMemory),
+    }
+}
+
 /// The law of an active set, by elimination of its equations.
 fn law_anew(alloc: Global, qp: &Qp, set: ActiveSet) -> Result<LawEnd, NoMemory>
     requires definite { IsDefinite qp.now.h.rows }
@@ -55,10 +78,32 @@ fn law_anew(alloc: Global, qp: &Qp, set: ActiveSet) -> Result<LawEnd, NoMemory>
 {
     let matrix = law_matrix(alloc, qp, set)?;
     let right = law_right(alloc, qp, set)?;
-    match solve(alloc, &matrix, &right) {
-        Ok(Solved::Unique(x)) => Ok(LawEnd::Found(law_from(alloc, qp, set, &x)?)),
-        Ok(Solved::Dependent(_)) => Ok(LawEnd::Dependent),
-        Err(LinearError::Wide(_)) => Ok(LawEnd::Wide),
+    law_solved(alloc, qp, set, &matrix, &right)
+}
+
+/// How the elimination of a part of what is kept ends, at the places of the active set. Nothing where what is
+/// kept isn't enough.
+fn part_solved(
+    alloc: Global,
+    qp: &Qp,
+    table: &Kept,
+    set: ActiveSet,
+    places: &[u32],
+    sides: &[u32],
+) -> Result<Option<LawEnd>, NoMemory>
+    requires definite { IsDefinite qp.now.h.rows }
+    requires table { IsKeptTable qp.now table.now }
+    requires set_of_rows { IsSetOfRows (height qp.now.g) set }
+    requires few { length set ≤ height qp.now.h }
+    requires places { AreMemberPlaces (height qp.now.h) set places.now }
+    requires sides { AreSidePlaces (height qp.now.h + height qp.now.g) (length qp.now.counts + 1) sides.now }
+    ensures { IfOk result (λ o. IfSome o (IsLawEnd qp.now set)) }
+{
+    match solve_part(alloc, table, places, sides) {
+        Ok(None) => Ok(None),
+        Ok(Some(Solved::Unique(x))) => Ok(Some(LawEnd::Found(law_from(alloc, qp, set, &x)?))),
+        Ok(Some(Solved::Dependent(_))) => Ok(Some(LawEnd::Dependent)),
+        Err(LinearError::Wide(_)) => Ok(Some(LawEnd::Wide)),
         Err(LinearError::NoMemory) => Err(NoMemory),
     }
 }
@@ -80,13 +125,7 @@ fn law_by_table(
     let unknowns = qp.h.rows();
     let places = member_places(alloc, unknowns, set)?;
     let sides = side_places(alloc, unknowns + qp.g.rows(), qp.f.cols())?;
-    match solve_part(alloc, table, &places, &sides) {
-        Ok(None) => Ok(None),
-        Ok(Some(Solved::Unique(x))) => Ok(Some(LawEnd::Found(law_from(alloc, qp, set, &x)?))),
-        Ok(Some(Solved::Dependent(_))) => Ok(Some(LawEnd::Dependent)),
-        Err(LinearError::Wide(_)) => Ok(Some(LawEnd::Wide)),
-        Err(LinearError::NoMemory) => Err(NoMemory),
-    }
+    part_solved(alloc, qp, table, set, &places, &sides)
 }
 
 /// The law of an active set, by an elimination in fractions: behind the columns of the Hessian, which are

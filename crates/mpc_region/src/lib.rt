@@ -20,16 +20,12 @@ mod sweeps;
 mod verdicts;
 
 pub use examiner::Examiner;
-use kept::kept_of;
 use mpc_frac::NoMemory;
 use mpc_rows::{Judged, Qp};
 use mpc_sets::ActiveSet;
 pub use points::has_point;
 pub use region::law_rows;
-use shared::Shared;
 use std::alloc::Global;
-use sweeps::no_sweeps;
-use verdicts::verdict_on;
 
 /// The verdict on an active set of the program (Bemporad, Morari, Dua and Pistikopoulos, 2002;
 /// Gupta, Bhartiya and Nataraj, 2011).
@@ -46,12 +42,6 @@ pub fn examine(alloc: Global, qp: &Qp, set: ActiveSet) -> Result<Judged, NoMemor
     ensures set { IfOk result (λ j. j.set ≡ set) }
     ensures right { IfOk result (λ j. IsRight qp.now set j.verdict) }
 {
-    let mut sweeps = no_sweeps(alloc);
-    let mut shared = Shared {
-        table: None,
-        is_formed: true,
-    };
-    let mut kept = kept_of(alloc, qp)?;
-    let verdict = verdict_on(alloc, qp, &mut sweeps, &mut shared, &mut kept, set)?;
-    Ok(Judged::of(set, verdict))
+    let mut examiner = Examiner::once(alloc, qp)?;
+    examiner.examine(alloc, set)
 }

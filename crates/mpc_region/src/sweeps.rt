@@ -49,9 +49,7 @@ pub enum SweptEnd {
 
 /// No table is kept, and none will be.
 pub fn no_sweeps(alloc: Global) -> Sweeps
-    ensures sweeps { (qp : Qp) → AreSweeps qp result }
-    ensures set { result.set ≡ [] }
-    ensures none { result.tables.items ≡ [] }
+    ensures { (qp : Qp) → AreSweeps qp result }
 {
     Sweeps {
         set: ActiveSet::empty(),
@@ -93,23 +91,43 @@ fn swept_at_unknowns(alloc: Global, qp: &Qp, whole: Swept) -> Result<Option<Swep
     Ok(Some(table))
 }
 
+/// The table of no member. Nothing where whole numbers don't serve.
+fn first_table(alloc: Global, qp: &Qp) -> Result<Option<Swept>, NoMemory>
+    ensures { IfOk result (λ o. IfSome o (IsSwept (shared_entry qp.now) (range_with_len 0 (height qp.now.h)) (rights qp.now) (all_columns qp.now) (height qp.now.h))) }
+{
+    let table = shared_table(alloc, qp)?;
+    match Swept::read(alloc, &table)? {
+        Some(whole) => swept_at_unknowns(alloc, qp, whole),
+        None => Ok(None),
+    }
+}
+
+/// The tables before the first set, where this is that of no member.
+fn sweeps_from(alloc: Global, _qp: &Qp, first: Swept) -> Result<Sweeps, NoMemory>
+    requires { IsSwept (shared_entry _qp.now) (range_with_len 0 (height _qp.now.h)) (rights _qp.now) (all_columns _qp.now) (height _qp.now.h) first }
+    ensures { IfOk result (AreSweeps _qp.now) }
+{
+    let mut tables = Vec::new(alloc);
+    let Ok(()) = tables.push(first) else {
+        return Err(NoMemory);
+    };
+    Ok(Sweeps {
+        set: ActiveSet::empty(),
+        tables,
+        count: 1,
+        last: Swept::empty(alloc),
+        lines: no_lines(alloc),
+    })
+}
+
 /// The tables before the first set: that of no member, where whole numbers serve.
 pub fn begin(alloc: Global, qp: &Qp) -> Result<Sweeps, NoMemory>
     ensures { IfOk result (AreSweeps qp.now) }
 {
-    let mut sweeps = no_sweeps(alloc);
-    let table = shared_table(alloc, qp)?;
-    let Some(whole) = Swept::read(alloc, &table)? else {
-        return Ok(sweeps);
-    };
-    let Some(first) = swept_at_unknowns(alloc, qp, whole)? else {
-        return Ok(sweeps);
-    };
-    let Ok(()) = sweeps.tables.push(first) else {
-        return Err(NoMemory);
-    };
-    sweeps.count = 1;
-    Ok(sweeps)
+    match first_table(alloc, qp)? {
+        Some(first) => sweeps_from(alloc, qp, first),
+        None => Ok(no_sweeps(alloc)),
+    }
 }
 
 /// Where member k of the set, counted from 1, stands among the rows and the columns of the table.

@@ -100,9 +100,6 @@ pub record HasWords (line rest : List ℕ) (counts : List ℕ) : Type 0 where
   pub are_counts : list_all is_count done ≡ true
   pub numbers : counts ≡ map value_of done
 
-pub words_none : (line counts : List ℕ) → counts ≡ [] → HasWords line line counts
-words_none line counts e = record { done = []; parts = refl; are_counts = refl; numbers = e }
-
 -- a word, and the words behind it, if any
 pub record BeginsWith (rest word : List ℕ) : Type 0 where
   pub more : List (List ℕ)

@@ -41,16 +41,9 @@ pub at_true : (b : Bool) (P Q : Type 0) → b ≡ true → MatchBool b P Q → P
 at_true true P Q e h = h
 at_true false P Q e h = absurd (false≢true e)
 
-pub at_false : (b : Bool) (P Q : Type 0) → b ≡ false → MatchBool b P Q → Q
-at_false true P Q e h = absurd (false≢true (sym e))
-at_false false P Q e h = h
-
 -- the number of coordinates that the code has is the plant's
 pub states_are : (parts : Parts) (table : Lookup) (states : ℕ) → IsTableOf parts table → states ≡ length table.limits → states ≡ parts.plant.n
 states_are parts table states of_parts size = size ∙ ap length of_parts.limits_are ∙ limits_size parts.plant
-
-pub table_size : (parts : Parts) (table : Lookup) → IsTableOf parts table → parts.plant.n ≡ length table.limits
-table_size parts table of_parts = sym (limits_size parts.plant) ∙ ap length (sym of_parts.limits_are)
 
 -- ---- what a line adds
 module _ (parts : Parts) (table : Lookup) (of_parts : IsTableOf parts table) (line before after : List ℕ) (states : ℕ) (size : states ≡ length table.limits) where

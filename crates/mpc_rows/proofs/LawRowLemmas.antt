@@ -77,9 +77,6 @@ member_coefficient qp law i j k x e p h =
     turned : (y : ℚ) → neg_ℚ y ≡ int (negsuc 0) *ℚ y
     turned y = by_ring (y ∷ []) (search reads depth 30) (search reads depth 30) tt
 
-pub member_fits : (qp : Qp) (law : Law) (i j : ℕ) → is_member i law.set ≡ true → CoefficientFits qp law i j
-member_fits qp law i j e f = absurd (false≢true (sym f ∙ e))
-
 module _ (qp : Qp) (law : Law) (i : ℕ) (shape : HasLawShape qp law) where
   pub form_size : ((is_member i law.set ≡ true) → place_of i law.set < length law.set) → length (law_form qp law i) ≡ length qp.counts + 1
   form_size within = by (cases_Bool (is_member i law.set))

@@ -32,14 +32,6 @@ pub place_none : (s : List ℕ) (i : ℕ) → NotBefore s i (length s) → is_me
 place_none [] i n = refl
 place_none (j ∷ s) i n = member_later i j s (λ f. n 0 (zero-lt-suc (length s)) (sym f)) ∙ place_none s i (λ m l. n (suc m) (omega arith))
 
--- one more member that isn't the row
-pub not_before_more : (s : List ℕ) (i k : ℕ) → (get_or s k 0 ≡ i → ⊥) → NotBefore s i k → NotBefore s i (k + 1)
-not_before_more s i k other n j h e = by (cases_eq j k)
-  where
-    by : (j ≡ k) ⊎ (j ≡ k → ⊥) → ⊥
-    by (inl f) = other (ap (λ m. get_or s m 0) (sym f) ∙ e)
-    by (inr f) = n j (omega arith) e
-
 -- ---- a member's place
 pub member_place : (s : List ℕ) (i : ℕ) → is_member i s ≡ true → (place_of i s < length s) × (get_or s (place_of i s) 0 ≡ i)
 member_place [] i e = absurd (false_true e)

@@ -103,9 +103,6 @@ module _ (reach : ℚ) (some : IsPositive reach) where
   unfolding half
   half_less = half_below reach (inv_ℚ (int (pos 2))) half_twice some half_positive
 
-pub pair_point_by : (s : LinearSystem) (p : ℕ → Pair) → IsPairPointBy s p → (v : ℕ → ℚ) × IsPointBy s v
-pair_point_by s p h = (pair_at p (half h.reach h.some), h.meets (half h.reach h.some) (half_some h.reach h.some) (half_less h.reach h.some))
-
 pub point_of_pairs : (s : LinearSystem) (p : List (ℚ × ℚ)) → IsPairPoint s p → (v : List ℚ) × IsPoint s v
 point_of_pairs s p h = (point_at p (half h.reach h.some), h.meets (half h.reach h.some) (half_some h.reach h.some) (half_less h.reach h.some))
 

@@ -1,4 +1,3 @@
 pub mod SectionLemmas
-pub mod SamePlant
 pub mod OneAnswer
 pub mod StepLemmas

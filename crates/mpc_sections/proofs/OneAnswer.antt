@@ -3,6 +3,7 @@ use Rattle.std.proofs.Common.{◌≡◌, ℕ, ◌+◌, inl, inr, List, ◌++◌,
 use Rattle.mpc_plant.specs.declared.faults.PlantKind.{PlantKind}
 use Rattle.mpc_plant.specs.declared.plants.Plant.{Plant}
 use Rattle.mpc_plant.specs.WholePlant.{ReadsAsPlant, IsFirstFault}
+use Rattle.mpc_plant.specs.Readings.{stated, faulty, OneReading}
 use Rattle.mpc_rows.specs.declared.places.Place.{Place}
 use Rattle.mpc_file.specs.declared.versions.Version.TheVariants.{Three}
 use Rattle.mpc_file.specs.FileGrammar.{Spells}
@@ -16,31 +17,12 @@ use Rattle.mpc_status.specs.StatusText.{line_of}
 use Rattle.mpc_sections.specs.Sections.{sections_of}
 use Rattle.mpc_sections.specs.Alone.{IsFile, IsPlantAnswer, not_definite, too_wide, compiled, no_plant, of_plant, heading, none, one_more, OneAlone, OneText}
 use Rattle.mpc_sections.specs.Outcomes.{too_many_plants, answered, OneFleetOutcome}
-use Rattle.mpc_sections.proofs.SamePlant.{same_plant}
-
--- ---- checks of a plant's file
-no_file : (bytes : List ℕ) (plant : Plant) (kind : PlantKind) (path : List ℕ) → ReadsAsPlant bytes plant → IsFirstFault bytes kind path → ⊥
-no_file bytes plant kind path r (inl h) = (let e = h.unread r.text in let f = r.json in cc)
-no_file bytes plant kind path r (inr h) =
-    let value : r.value ≡ h.value = (let e = r.json in let f = h.json in cc) in
-    let e = r.checked in
-    let f = h.failed in
-    cc
-
-one_fault : (bytes : List ℕ) (kind other : PlantKind) (path long : List ℕ) → IsFirstFault bytes kind path → IsFirstFault bytes other long → BadPlant kind path ≡ BadPlant other long
-one_fault bytes kind other path long (inl h) (inl k) = λ i. BadPlant ((h.kind_is ∙ sym k.kind_is) i) ((h.at_top ∙ sym k.at_top) i)
-one_fault bytes kind other path long (inl h) (inr k) = absurd (let e = h.unread k.text in let f = k.json in cc)
-one_fault bytes kind other path long (inr h) (inl k) = absurd (let e = k.unread h.text in let f = h.json in cc)
-one_fault bytes kind other path long (inr h) (inr k) =
-    let value : h.value ≡ k.value = (let e = h.json in let f = k.json in cc) in
-    let pair : ◌≡◌ {A = PlantKind × List ℕ} (kind, path) (other, long) = (let e = h.failed in let f = k.failed in cc) in
-    λ i. BadPlant (pair i).0 (pair i).1
 
 -- ---- a plant
 lines_too : (s t : Status) → s ≡ t → (s ≡ t) × (line_of s ≡ line_of t)
 lines_too s t e = (e, ap line_of e)
 
-module _ (outcomes : OneOutcome) (controllers : OneController) (texts : OneFileText) where
+module _ (readings : OneReading) (outcomes : OneOutcome) (controllers : OneController) (texts : OneFileText) where
   pivots : (plant : Plant) (j k : ℕ) → stops_at j ≡ stops_at k → NotDefinite j ≡ NotDefinite k
   pivots plant j k e = cc
 
@@ -63,6 +45,15 @@ module _ (outcomes : OneOutcome) (controllers : OneController) (texts : OneFileT
       (refl, texts text others Three h.parts h.written (subst (Spells others Three) (controllers plant g.qp h.qp g.parts h.parts g.controller h.controller) g.written))
 
   -- ---- a section
+  same_plant : (bytes : List ℕ) (x y : Plant) → ReadsAsPlant bytes x → ReadsAsPlant bytes y → x ≡ y
+  same_plant bytes x y h k = let e = readings bytes (stated x) (stated y) h k in cc
+
+  no_file : (bytes : List ℕ) (plant : Plant) (kind : PlantKind) (path : List ℕ) → ReadsAsPlant bytes plant → IsFirstFault bytes kind path → ⊥
+  no_file bytes plant kind path h k = let e = readings bytes (stated plant) (faulty kind path) h k in cc
+
+  one_fault : (bytes : List ℕ) (kind other : PlantKind) (path long : List ℕ) → IsFirstFault bytes kind path → IsFirstFault bytes other long → BadPlant kind path ≡ BadPlant other long
+  one_fault bytes kind other path long h k = let e = readings bytes (faulty kind path) (faulty other long) h k in cc
+
   pub one_alone : OneAlone
   one_alone section _ _ _ _ (no_plant kind path h) (no_plant other long k) = lines_too (BadPlant kind path) (BadPlant other long) (one_fault section kind other path long h k)
   one_alone section _ _ _ _ (no_plant kind path h) (of_plant plant status text r k) = absurd (no_file section plant kind path r h)

@@ -235,23 +235,6 @@ answering_next sections number text new begun rest registries after b status own
       begins = n.more;
     }
 
-pub answering_few : (sections : List (List ℕ)) (number : ℕ) (text : List ℕ) (begun : List Begun) (registries : List Board) → IsAnswering sections number text begun registries → number + length begun ≡ length sections + 1
-answering_few sections number text begun registries h =
-    let k = h.counted in
-    let all = ap length h.joined in
-    let long = length-append h.passed h.left in
-    let same = as_many IsExamined h.left begun registries h.begins in
-    omega (arith, k, all, long, same)
-
-pub answering_all : (sections : List (List ℕ)) (number : ℕ) (text : List ℕ) (begun : List Begun) (registries : List Board) → IsAnswering sections number text begun registries → length begun ≡ 0 → AreAnswered 1 sections text
-answering_all sections number text begun registries h e =
-    let same = as_many IsExamined h.left begun registries h.begins in
-    subst (λ (ss : List (List ℕ)). AreAnswered 1 ss text) (sym (h.joined ∙ (ap (λ (t : List (List ℕ)). h.passed ++ t) (nothing h.left (omega (arith, same, e))) ∙ append-nil h.passed))) h.written
-  where
-    nothing : (xs : List (List ℕ)) → length xs ≡ 0 → xs ≡ []
-    nothing [] f = refl
-    nothing (x ∷ xs) f = absurd (omega (arith, f))
-
 -- ---- an answer with the line of its status
 pub refused_as : (plant : Plant) (status : Status) (r : Result Answer NoMemory) → IfOk r (λ (a : Answer). a.status ≡ status) → IfOk r (λ (a : Answer). a.text.items ≡ line_of status) → IsPlantAnswer plant status (line_of status)
     → IfOk r (λ (a : Answer). IsPlantAnswer plant a.status a.text.items)

@@ -60,10 +60,6 @@ no_level sets n s t some within s_is t_is h = (
   h.one_size s t (n - 1, omega arith, sym s_is) (n, within, sym t_is),
 )
 
--- ---- for the callers of `next_level`
-pub IsOfOneSize-part : (sets part : List (List ℕ)) → ((s : List ℕ) → Contains part s → Contains sets s) → IsOfOneSize sets → IsOfOneSize part
-IsOfOneSize-part sets part f h s t c d = h s t (f s c) (f t d)
-
 -- what the test `>=` says
 pub test_from_before : (s t : List ℕ) → IsBefore s t → is_ge (set_cmp s t) ≡ false
 test_from_before s t h = ap is_ge h
@@ -94,61 +90,3 @@ contains_cases s t sets (suc k, p, e) = inr (k, omega arith, e)
 
 contains_later : (s t : List ℕ) (sets : List (List ℕ)) → Contains sets t → Contains (s ∷ sets) t
 contains_later s t sets (k, p, e) = (suc k, omega arith, e)
-
-Contains-filter : (p : List ℕ → Bool) (sets : List (List ℕ)) (t : List ℕ) → Contains (filter p sets) t → Contains sets t
-Contains-filter p [] t c = c
-Contains-filter p (s ∷ sets) t c = by (p s) (Contains-filter p sets t) c
-  where
-    by : (b : Bool) → (Contains (filter p sets) t → Contains sets t) → Contains (cond b (s ∷ filter p sets) (filter p sets)) t → Contains (s ∷ sets) t
-    by true f c = elim (contains_cases s t (filter p sets) c) [ inl e ↦ (0, omega arith, e) | inr d ↦ contains_later s t sets (f d) ]
-    by false f c = contains_later s t sets (f c)
-
--- a part of a level that a test picks is in order, and of one size
-pub IsLevel-filter : (p : List ℕ → Bool) (sets : List (List ℕ)) → IsLevel sets → IsLevel (filter p sets)
-IsLevel-filter p sets h = record { in_order = ordered sets h.in_order; one_size = IsOfOneSize-part sets (filter p sets) (Contains-filter p sets) h.one_size }
-  where
-    ordered : (sets : List (List ℕ)) → IsInOrder sets → IsInOrder (filter p sets)
-    ordered [] h = h
-    ordered (s ∷ sets) h = by (p s) (ordered sets (in_order_tail s sets h))
-      where
-        by : (b : Bool) → IsInOrder (filter p sets) → IsInOrder (cond b (s ∷ filter p sets) (filter p sets))
-        by true k = in_order_cons s (filter p sets) (λ t c. in_order_head s t sets h (Contains-filter p sets t c)) k
-        by false k = k
-
--- what `next_level` answers is a level again
-pub IsLevel-next : (grown : List (List ℕ)) (rows : ℕ) (level : List (List ℕ)) → IsOfOneSize grown → IsInOrder level → ((s : List ℕ) → Contains level s ↔ IsNextOf grown rows s) → IsLevel level
-IsLevel-next grown rows level one_size order f = record { in_order = order; one_size = λ s t c d. same s t ((f s).0 c) ((f t).0 d) }
-  where
-    same : (s t : List ℕ) → IsNextOf grown rows s → IsNextOf grown rows t → length s ≡ length t
-    same [] t n m = absurd (omega (arith, n.has_member))
-    same (i ∷ s) t n m =
-        let given = next_without grown rows (i ∷ s) i n (inl refl) in
-        next_one_larger grown rows one_size (i ∷ s) (without_row i (i ∷ s)) n given ∙ sym (next_one_larger grown rows one_size t (without_row i (i ∷ s)) m given)
-
--- two lists in order with the same sets are one
-pub same_in_order : (sets others : List (List ℕ)) → IsInOrder sets → IsInOrder others → ((s : List ℕ) → Contains sets s → Contains others s) → ((s : List ℕ) → Contains others s → Contains sets s) → sets ≡ others
-same_in_order [] [] h k f g = refl
-same_in_order [] (t ∷ others) h k f g = absurd (none (g t (0, omega arith, refl)))
-  where
-    none : Contains [] t → ⊥
-    none (i, p, e) = omega arith
-same_in_order (s ∷ sets) [] h k f g = absurd (none (f s (0, omega arith, refl)))
-  where
-    none : Contains [] s → ⊥
-    none (i, p, e) = omega arith
-same_in_order (s ∷ sets) (t ∷ others) h k f g =
-    let e = head in
-    let rest = same_in_order sets others (in_order_tail s sets h) (in_order_tail t others k) (λ u c. tail s t sets others h e u c (f u (contains_later s u sets c))) (λ u c. tail t s others sets k (sym e) u c (g u (contains_later t u others c))) in
-    λ i. e i ∷ rest i
-  where
-    head : s ≡ t
-    head = elim (contains_cases t s others (f s (0, omega arith, refl))) [
-      | inl e ↦ sym e
-      | inr c ↦ elim (contains_cases s t sets (g t (0, omega arith, refl))) [
-        | inl e ↦ e
-        | inr d ↦ absurd (IsBefore-irrefl s (IsBefore-trans s t s (in_order_head s t sets h d) (in_order_head t s others k c)))
-      ]
-    ]
-
-    tail : (s t : List ℕ) (sets others : List (List ℕ)) → IsInOrder (s ∷ sets) → s ≡ t → (u : List ℕ) → Contains sets u → Contains (t ∷ others) u → Contains others u
-    tail s t sets others h e u c d = elim (contains_cases t u others d) [ inl g ↦ absurd (IsBefore-irrefl s (subst (IsBefore s) (sym (e ∙ g)) (in_order_head s u sets h c))) | inr b ↦ b ]

@@ -112,11 +112,6 @@ head_least t low high [] d r a least = absurd a
 head_least t low high (j ∷ s) d r (inl e) least = sym e
 head_least t low high (j ∷ s) d r (inr a) least = absurd (omega (arith, (Among_within j high t s r.2 a).0, least j (inl refl)))
 
--- ---- a set and a greater row behind it
-pub rises_front : (low high : ℕ) (s u : List ℕ) → RisesWithin low high (s ++ u) → RisesWithin low high s
-rises_front low high [] u r = tt
-rises_front low high (j ∷ s) u r = (r.0, r.1, rises_front j high s u r.2)
-
 pub Among_last : (s : List ℕ) (x : ℕ) → Among x (s ++ x ∷ [])
 Among_last [] x = inl refl
 Among_last (j ∷ s) x = inr (Among_last s x)

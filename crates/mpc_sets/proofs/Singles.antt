@@ -17,9 +17,6 @@ pub record HoldsSingles (n : ℕ) (level : List (List ℕ)) : Type 0 where
   pub singles : (s : List ℕ) → Contains level s → IsSingle n s
   pub complete : (s : List ℕ) → IsSingle n s → Contains level s
 
-pub singles_none : HoldsSingles 0 []
-singles_none = record { in_order = λ i j d p q. absurd (omega arith); singles = λ s (k, p, e). absurd (omega arith); complete = λ s h. absurd (omega (arith, h.from_one, h.to_rows)) }
-
 pub singles_more : (n m : ℕ) (level : List (List ℕ)) → m ≡ n + 1 → HoldsSingles n level → HoldsSingles m (level ++ (m ∷ []) ∷ [])
 singles_more n m level e h = record {
   in_order = all_pairs_push IsBefore level (m ∷ []) h.in_order (λ k d p. before (get_or level k d) (h.singles (get_or level k d) (Contains-get_or level k d p)));

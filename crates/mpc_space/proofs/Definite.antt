@@ -146,10 +146,3 @@ first_column_is (x ∷ xs) ((y ∷ ys) ∷ rs) e h some = λ k. (sym (h 0) k ∷
 pub bordered_form : (a : ℚ) (b : List ℚ) (rows : List (List ℚ)) → length b ≡ length rows → All (λ row. 0 < length row) rows → IsSymmetric ((a ∷ b) ∷ rows) → (a ∷ b) ∷ rows ≡ bordered a b (map later_entries rows)
 bordered_form a b rows e some s =
     ap (λ rs. (a ∷ b) ∷ rs) (sym (first_column_is b rows e (λ i. s.mirrored (suc i) 0) (recursion_from_All (λ row. 0 < length row) rows some)))
-
-pub definite_nil : IsDefinite []
-definite_nil = record { positive = by }
-  where
-    by : (w : List ℚ) → length w ≡ 0 → (All (λ x. x ≡ int (pos 0)) w → ⊥) → int (pos 0) <ℚ quadratic [] w
-    by [] e some = absurd (some (all_zero [] tt))
-    by (x ∷ xs) e some = absurd (omega arith)

@@ -8,7 +8,7 @@ use Rattle.mpc_exact.proofs.Rational.{*ℚ_comm}
 use Rattle.mpc_exact.proofs.RationalRing.{reads, by_ring}
 use Rattle.mpc_space.specs.Total.{unit}
 use Rattle.std.specs.List.{range_with_len, AllByRecursion}
-use Rattle.mpc_space.specs.Vector.{coordinate, cell, column, listed, dot, vec_add, vec_scale, mat_vec, vec_mat, first_column, transpose, IsSymmetric, mat_add, mat_scale, outer, AllNonneg, AllAtMost}
+use Rattle.mpc_space.specs.Vector.{coordinate, cell, column, listed, dot, vec_add, vec_scale, mat_vec, vec_mat, first_column, transpose, IsSymmetric, mat_add, outer, AllNonneg, AllAtMost}
 use Rattle.mpc_space.specs.Matrix.{tabled, identity, RationalMatrix, entry, mat_mul, IsRectangular, height}
 use Rattle.mpc_space.proofs.Entries.{same_entries, dot-unit, dot_nil, dot_same, coordinate-add, coordinate-scale, coordinate-listed, length-listed}
 use Rattle.mpc_space.proofs.Vector.{dot_comm, dot-add, dot-scale, dot-add_right, dot-scale_right, vec_add_comm, vec_add_assoc, vec_scale-add, vec_scale-scale, add-vec_scale, dot-at_most}
@@ -35,10 +35,6 @@ pub mat_vec-mat_add : (m n : List (List ℚ)) (xs : List ℚ) → mat_vec (mat_a
 mat_vec-mat_add [] n xs = refl
 mat_vec-mat_add (row ∷ rows) [] xs = refl
 mat_vec-mat_add (row ∷ rows) (other ∷ others) xs = λ i. dot-add row other xs i ∷ mat_vec-mat_add rows others xs i
-
-pub mat_vec-mat_scale : (c : ℚ) (m : List (List ℚ)) (xs : List ℚ) → mat_vec (mat_scale c m) xs ≡ vec_scale c (mat_vec m xs)
-mat_vec-mat_scale c [] xs = refl
-mat_vec-mat_scale c (row ∷ rows) xs = λ i. dot-scale c row xs i ∷ mat_vec-mat_scale c rows xs i
 
 -- (x y') z is (y·z) x
 pub mat_vec-outer : (xs ys zs : List ℚ) → mat_vec (outer xs ys) zs ≡ vec_scale (dot ys zs) xs
@@ -109,9 +105,6 @@ cell-transpose [] i j = refl
 cell-transpose (row ∷ rows) i zero = cell-first_column_zero row (transpose rows) i
 cell-transpose (row ∷ rows) i (suc j) = cell-first_column_suc row (transpose rows) i j ∙ cell-transpose rows i j
 
-pub symmetric_of_transpose : (m : List (List ℚ)) → transpose m ≡ m → IsSymmetric m
-symmetric_of_transpose m e = record { mirrored = λ i j. ap (λ n. cell n i j) (sym e) ∙ cell-transpose m i j }
-
 -- ---- the product with a vector sees entries alone
 pub row_same : (xs : List ℚ) (r s : List ℚ) → ((j : ℕ) → coordinate r j ≡ coordinate s j) → dot r xs ≡ dot s xs
 row_same xs r s h = dot_comm r xs ∙ dot_same xs r s (λ j l. h j) ∙ dot_comm xs s
@@ -177,14 +170,6 @@ mat_vec-rows b (row ∷ rows) xs h = λ i. row-mat_mul b row xs h i ∷ mat_vec-
 -- the product of matrices is that of the maps that they are
 pub mat_vec-mat_mul : (a b : RationalMatrix) (xs : List ℚ) → length xs ≤ b.columns → mat_vec (mat_mul a b).rows xs ≡ mat_vec a.rows (mat_vec b.rows xs)
 mat_vec-mat_mul a b xs h = mat_vec-rows b a.rows xs h
-
--- column j of a product is the first matrix times column j of the second
-pub column-mat_mul : (a b : RationalMatrix) (j : ℕ) → j < b.columns → column (mat_mul a b).rows j ≡ mat_vec a.rows (column b.rows j)
-column-mat_mul a b j h = each a.rows
-  where
-    each : (rows : List (List ℚ)) → column (map (λ row. listed b.columns (λ j. dot row (column b.rows j))) rows) j ≡ mat_vec rows (column b.rows j)
-    each [] = refl
-    each (row ∷ rows) = λ i. coordinate-listed b.columns (λ j. dot row (column b.rows j)) j h i ∷ each rows i
 
 pub length-column : (m : List (List ℚ)) (j : ℕ) → length (column m j) ≡ length m
 length-column m j = length-map m (λ row. coordinate row j)

@@ -6,9 +6,9 @@ use Rattle.mpc_space.specs.Total.{total}
 use Rattle.mpc_space.proofs.Total.{total-same, total-scale}
 use Rattle.mpc_space.proofs.Entries.{dot-total_within}
 use Rattle.mpc_exact.proofs.RationalRing.{reads, by_ring}
-use Rattle.mpc_space.specs.Vector.{coordinate, cell, dot, vec_add, vec_scale, vec_sub, mat_vec, IsSymmetric, quadratic, mat_add, mat_scale, outer}
+use Rattle.mpc_space.specs.Vector.{coordinate, cell, dot, vec_add, vec_scale, vec_sub, mat_vec, IsSymmetric, quadratic, mat_add, outer}
 use Rattle.mpc_space.proofs.Vector.{dot_comm, dot-add, dot-scale, dot-add_right, dot-scale_right}
-use Rattle.mpc_space.proofs.Matrix.{coordinate-mat_vec, mat_vec-add, mat_vec-scale, symmetric_swap, mat_vec-mat_add, mat_vec-mat_scale, mat_vec-outer}
+use Rattle.mpc_space.proofs.Matrix.{coordinate-mat_vec, mat_vec-add, mat_vec-scale, symmetric_swap, mat_vec-mat_add, mat_vec-outer}
 
 -- q(x + y) = q x + 2 x' M y + q y
 pub quadratic-add : (m : List (List ℚ)) → IsSymmetric m → (xs ys : List ℚ) → quadratic m (vec_add xs ys) ≡ quadratic m xs +ℚ int (pos 2) *ℚ dot xs (mat_vec m ys) +ℚ quadratic m ys
@@ -40,17 +40,5 @@ quadratic-sub m s xs ys =
 pub quadratic-mat_add : (m n : List (List ℚ)) (xs : List ℚ) → quadratic (mat_add m n) xs ≡ quadratic m xs +ℚ quadratic n xs
 quadratic-mat_add m n xs = ap (dot xs) (mat_vec-mat_add m n xs) ∙ dot-add_right (mat_vec m xs) (mat_vec n xs) xs
 
-pub quadratic-mat_scale : (c : ℚ) (m : List (List ℚ)) (xs : List ℚ) → quadratic (mat_scale c m) xs ≡ c *ℚ quadratic m xs
-quadratic-mat_scale c m xs = ap (dot xs) (mat_vec-mat_scale c m xs) ∙ dot-scale_right c (mat_vec m xs) xs
-
 pub quadratic-outer : (ys zs xs : List ℚ) → quadratic (outer ys zs) xs ≡ dot zs xs *ℚ dot ys xs
 quadratic-outer ys zs xs = ap (dot xs) (mat_vec-outer ys zs xs) ∙ dot-scale_right (dot zs xs) ys xs ∙ ap (λ u. dot zs xs *ℚ u) (dot_comm xs ys)
-
--- as a sum over rows and columns
-pub quadratic-total : (n : ℕ) (m : List (List ℚ)) (xs : List ℚ) → length xs ≤ n → quadratic m xs ≡ total n (λ i. total n (λ j. coordinate xs i *ℚ (cell m i j *ℚ coordinate xs j)))
-quadratic-total n m xs h =
-    dot-total_within n xs (mat_vec m xs) h
-    ∙ total-same n (λ i. coordinate xs i *ℚ coordinate (mat_vec m xs) i) (λ i. total n (λ j. coordinate xs i *ℚ (cell m i j *ℚ coordinate xs j)))
-    (λ i l. ap (λ u. coordinate xs i *ℚ u) (coordinate-mat_vec m xs i ∙ dot_comm (get_or m i []) xs ∙ dot-total_within n xs (get_or m i []) h)
-    ∙ sym (total-scale n (coordinate xs i) (λ j. coordinate xs j *ℚ coordinate (get_or m i []) j))
-    ∙ total-same n (λ j. coordinate xs i *ℚ (coordinate xs j *ℚ cell m i j)) (λ j. coordinate xs i *ℚ (cell m i j *ℚ coordinate xs j)) (λ j k. ap (λ u. coordinate xs i *ℚ u) (*ℚ_comm (coordinate xs j) (cell m i j))))

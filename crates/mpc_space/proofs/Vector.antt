@@ -68,18 +68,6 @@ dot_self-positive (x ∷ xs) h = by (ℚ_discrete x (int (pos 0))) (dot_self-pos
     by (yes p) ih = positive-add_right (nonneg_square x) (ih (λ k. h (p, k)))
     by (no p) ih = positive-add (positive_square x p) (dot_self-nonneg xs)
 
--- one more place
-pub dot_take-suc : (xs ys : List ℚ) (i : ℕ) (d e : ℚ) → i < length xs → i < length ys → dot (take (suc i) xs) (take (suc i) ys) ≡ dot (take i xs) (take i ys) +ℚ get_or xs i d *ℚ get_or ys i e
-dot_take-suc [] ys i d e h k = absurd (omega arith)
-dot_take-suc (x ∷ xs) [] i d e h k = absurd (omega arith)
-dot_take-suc (x ∷ xs) (y ∷ ys) zero d e h k = by_ring (x ∷ y ∷ []) (search reads depth 30) (search reads depth 30) tt
-dot_take-suc (x ∷ xs) (y ∷ ys) (suc i) d e h k =
-    ap (λ u. x *ℚ y +ℚ u) (dot_take-suc xs ys i d e (omega arith) (omega arith))
-    ∙ by_ring (x ∷ y ∷ dot (take i xs) (take i ys) ∷ get_or xs i d ∷ get_or ys i e ∷ []) (search reads depth 30) (search reads depth 30) tt
-
-pub dot_take : (xs ys : List ℚ) (i : ℕ) (d e : ℚ) → i < length xs → i < length ys → dot (take (i + 1) xs) (take (i + 1) ys) ≡ dot (take i xs) (take i ys) +ℚ get_or xs i d *ℚ get_or ys i e
-dot_take xs ys i d e h k = rw add-one (dot_take-suc xs ys i d e h k)
-
 -- ---- sums and multiples
 pub vec_add_comm : (xs ys : List ℚ) → vec_add xs ys ≡ vec_add ys xs
 vec_add_comm [] [] = refl

@@ -90,9 +90,6 @@ mat_add [] ns = ns
 mat_add (row ∷ rows) [] = row ∷ rows
 mat_add (row ∷ rows) (other ∷ others) = vec_add row other ∷ mat_add rows others
 
-abbrev pub mat_scale : ℚ → List (List ℚ) → List (List ℚ)
-mat_scale c m = map (λ row. vec_scale c row) m
-
 -- the matrix x y', of rank 1
 abbrev pub outer : List ℚ → List ℚ → List (List ℚ)
 outer xs ys = map (λ x. vec_scale x ys) xs

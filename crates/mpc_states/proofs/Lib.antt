@@ -6,7 +6,6 @@ pub mod MoveTexts
 pub mod LineLemmas
 pub mod Carried
 pub mod FirstPivots
-pub mod SamePlant
 pub mod OneOutcomes
 pub mod Complete
 pub mod Solved

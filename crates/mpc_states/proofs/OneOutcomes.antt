@@ -5,12 +5,13 @@ use Rattle.mpc_space.specs.Matrix.{height, entry}
 use Rattle.mpc_plant.specs.declared.faults.PlantKind.{PlantKind}
 use Rattle.mpc_plant.specs.declared.plants.Plant.{Plant}
 use Rattle.mpc_plant.specs.WholePlant.{ReadsAsPlant, IsFirstFault}
+use Rattle.mpc_plant.specs.Readings.{stated, faulty, OneReading}
 use Rattle.mpc_rows.specs.declared.programs.Qp.{Qp}
 use Rattle.mpc_rows.specs.declared.places.Place.{Place}
 use Rattle.mpc_rows.specs.declared.places.Place.TheVariants.{Pivot}
 use Rattle.mpc_definite.specs.Pivots.{IsFirstNotPositive, IsFirstWide}
 use Rattle.mpc_condense.specs.ProgramLaws.{NoWidePlace, OneWidePlace}
-use Rattle.mpc_best.specs.BestReplies.{OneProgram}
+use Rattle.mpc_condense.specs.BestReplies.{OneProgram}
 use Rattle.mpc_tight.specs.Tightening.{IsWideRow}
 use Rattle.mpc_tight.specs.TightLaws.{OneWideRow, NoWideRow}
 use Rattle.mpc_replies.specs.Cut.{head_of}
@@ -18,24 +19,18 @@ use Rattle.mpc_states.specs.NoisePart.{plant_part, noise_part, noise_from}
 use Rattle.mpc_states.specs.Convex.{HasProgram, IsConvexProgram, ProgramOutcome, not_definite, too_wide, convex, wide_program, wide_pivot, IsProgramOutcome}
 use Rattle.mpc_states.specs.Outcomes.{SolveOutcome, bad_plant, of_program, OneSolveOutcome, RobustOutcome, bad_robust_plant, bad_noise, of_robust_program, wide_row, robust_replies, WithNoise, IsOutcomeOf, IsRobustOutcome, OneRobustOutcome}
 use Rattle.mpc_states.proofs.FirstPivots.{passes_not_positive, passes_wide, one_not_positive, one_pivot_wide, not_both}
-use Rattle.mpc_states.proofs.SamePlant.{same_plant}
 
 -- ---- of a file
-pub no_file : (bytes : List ℕ) (plant : Plant) (kind : PlantKind) (path : List ℕ) → ReadsAsPlant bytes plant → IsFirstFault bytes kind path → ⊥
-no_file bytes plant kind path r (inl h) = (let e = h.unread r.text in let f = r.json in cc)
-no_file bytes plant kind path r (inr h) =
-    let value : r.value ≡ h.value = (let e = r.json in let f = h.json in cc) in
-    let e = r.checked in
-    let f = h.failed in
-    cc
+pub same_plant : OneReading → (bytes : List ℕ) (x y : Plant) → ReadsAsPlant bytes x → ReadsAsPlant bytes y → x ≡ y
+same_plant one bytes x y h k = let e = one bytes (stated x) (stated y) h k in cc
 
-one_fault : {A : Type 0} (say : PlantKind → List ℕ → A) (bytes : List ℕ) (kind other : PlantKind) (path long : List ℕ) → IsFirstFault bytes kind path → IsFirstFault bytes other long → say kind path ≡ say other long
-one_fault say bytes kind other path long (inl h) (inl k) = λ i. say ((h.kind_is ∙ sym k.kind_is) i) ((h.at_top ∙ sym k.at_top) i)
-one_fault say bytes kind other path long (inl h) (inr k) = absurd (let e = h.unread k.text in let f = k.json in cc)
-one_fault say bytes kind other path long (inr h) (inl k) = absurd (let e = k.unread h.text in let f = h.json in cc)
-one_fault say bytes kind other path long (inr h) (inr k) =
-    let value : h.value ≡ k.value = (let e = h.json in let f = k.json in cc) in
-    let pair : ◌≡◌ {A = PlantKind × List ℕ} (kind, path) (other, long) = (let e = h.failed in let f = k.failed in cc) in
+pub no_file : OneReading → (bytes : List ℕ) (plant : Plant) (kind : PlantKind) (path : List ℕ) → ReadsAsPlant bytes plant → IsFirstFault bytes kind path → ⊥
+no_file one bytes plant kind path h k = let e = one bytes (stated plant) (faulty kind path) h k in cc
+
+one_fault : OneReading → {A : Type 0} (say : PlantKind → List ℕ → A) (bytes : List ℕ) (kind other : PlantKind) (path long : List ℕ) → IsFirstFault bytes kind path → IsFirstFault bytes other long → say kind path ≡ say other long
+one_fault one say bytes kind other path long h k =
+    let e = one bytes (faulty kind path) (faulty other long) h k in
+    let pair : ◌≡◌ {A = PlantKind × List ℕ} (kind, path) (other, long) = cc in
     λ i. say (pair i).0 (pair i).1
 
 -- ---- of a program
@@ -70,13 +65,13 @@ module _ (one_place : OneWidePlace) (no_place : NoWidePlace) (one_program : OneP
   one_program_outcome convex convex p q = refl
 
 -- ---- of an input of `solve`
-module _ (one_place : OneWidePlace) (no_place : NoWidePlace) (one_program : OneProgram) where
+module _ (one_reading : OneReading) (one_place : OneWidePlace) (no_place : NoWidePlace) (one_program : OneProgram) where
   pub one_solve_outcome : OneSolveOutcome
-  one_solve_outcome input (bad_plant kind path) (bad_plant other long) h k = one_fault bad_plant (head_of input) kind other path long h k
-  one_solve_outcome input (bad_plant kind path) (of_program o) h k = absurd (no_file (head_of input) k.plant kind path k.read h)
-  one_solve_outcome input (of_program o) (bad_plant kind path) k h = absurd (no_file (head_of input) k.plant kind path k.read h)
+  one_solve_outcome input (bad_plant kind path) (bad_plant other long) h k = one_fault one_reading bad_plant (head_of input) kind other path long h k
+  one_solve_outcome input (bad_plant kind path) (of_program o) h k = absurd (no_file one_reading (head_of input) k.plant kind path k.read h)
+  one_solve_outcome input (of_program o) (bad_plant kind path) k h = absurd (no_file one_reading (head_of input) k.plant kind path k.read h)
   one_solve_outcome input (of_program a) (of_program b) h k =
-      ap of_program (one_program_outcome one_place no_place one_program k.plant a b (subst (λ z. IsProgramOutcome z a) (same_plant (head_of input) h.plant k.plant h.read k.read) h.so) k.so)
+      ap of_program (one_program_outcome one_place no_place one_program k.plant a b (subst (λ z. IsProgramOutcome z a) (same_plant one_reading (head_of input) h.plant k.plant h.read k.read) h.so) k.so)
 
   -- ---- of an input of `robust`
   module _ (one_row : OneWideRow) (no_row : NoWideRow) (input : List ℕ) where
@@ -141,10 +136,10 @@ module _ (one_place : OneWidePlace) (no_place : NoWidePlace) (one_program : OneP
     end_of robust_replies h = by_plant h.plant h.read h.so
 
     same_end : (a b : RobustOutcome) → End a → End b → a ≡ b
-    same_end a b (by_fault kind path h e) (by_fault other long k f) = e ∙ one_fault bad_robust_plant head kind other path long h k ∙ sym f
-    same_end a b (by_fault kind path h e) (by_plant plant r k) = absurd (no_file head plant kind path r h)
-    same_end a b (by_plant plant r k) (by_fault kind path h e) = absurd (no_file head plant kind path r h)
-    same_end a b (by_plant plant r h) (by_plant other s k) = one_of_plant other a b (subst (λ z. Of z a) (same_plant head plant other r s) h) k
+    same_end a b (by_fault kind path h e) (by_fault other long k f) = e ∙ one_fault one_reading bad_robust_plant head kind other path long h k ∙ sym f
+    same_end a b (by_fault kind path h e) (by_plant plant r k) = absurd (no_file one_reading head plant kind path r h)
+    same_end a b (by_plant plant r k) (by_fault kind path h e) = absurd (no_file one_reading head plant kind path r h)
+    same_end a b (by_plant plant r h) (by_plant other s k) = one_of_plant other a b (subst (λ z. Of z a) (same_plant one_reading head plant other r s) h) k
 
     pub one_robust : (a b : RobustOutcome) → IsRobustOutcome input a → IsRobustOutcome input b → a ≡ b
     one_robust a b h k = same_end a b (end_of a h) (end_of b k)

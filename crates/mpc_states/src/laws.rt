@@ -3,8 +3,8 @@
 ghost use Rattle.mpc_states.specs.Outcomes.{OneSolveOutcome, OneRobustOutcome};
 ghost use Rattle.mpc_states.specs.StateLaws.{ProgramIsRight, RobustProgramIsRight, SolveIsComplete, RobustIsComplete};
 
-use mpc_best::one_program;
-use mpc_condense::{place_laws, program_laws};
+use mpc_condense::{one_program, place_laws, program_laws};
+use mpc_plant::one_reading;
 use mpc_tight::tight_laws;
 
 /// The cheapest choice of a plant's program begins with the first move of the best sequence, and where there is no choice, no sequence is
@@ -22,6 +22,7 @@ pub fn one_outcome()
     ensures solve { OneSolveOutcome }
     ensures robust { OneRobustOutcome }
 {
+    one_reading();
     place_laws();
     one_program();
     tight_laws();
@@ -31,4 +32,6 @@ pub fn one_outcome()
 pub fn complete_inputs()
     ensures solve { SolveIsComplete }
     ensures robust { RobustIsComplete }
-{}
+{
+    one_reading();
+}

@@ -17,14 +17,6 @@ read_small z h = to_z-of_z w64 z (fits_signed_from_abs w64 z (omega arith))
 pub read_at : (v : List ℤ) → IsSmall (2 ^ 62) v → (k : ℕ) → to_z w64 (of_z w64 (get_or v k (pos 0))) ≡ whole_at v k
 read_at v h k = read_small (whole_at v k) (h.each k)
 
--- no number yet
-pub none_written : (first : ℕ) (is : ℕ → ℤ → Type 0) (old : List ℤ) → AreWritten first first is old old
-none_written first is old = record {
-  kept = λ k l. refl;
-  numbers = λ j l m. absurd (omega arith);
-  small = λ j l m. absurd (omega arith);
-}
-
 -- one number more
 module _ (first j : ℕ) (is : ℕ → ℤ → Type 0) (old now : List ℤ) (h : AreWritten first j is old now) (front : first ≤ j) (inside : j < length now) (z : ℤ) (small : unsigned_abs z ≤ 2 ^ 62) (this : is j z) where
   here : (P : ℤ → Type 0) → P z → P (whole_at (set now j z) j)
@@ -55,9 +47,6 @@ written_as first count most is also old new few f h = record {
   numbers = λ j l m. f j (whole_at new j) m (h.numbers j l (omega arith));
   small = λ j l m. h.small j l (omega arith);
 }
-
-pub fewer_written : (first count most : ℕ) (is : ℕ → ℤ → Type 0) (old new : List ℤ) → count ≤ most → AreWritten first most is old new → AreWritten first count is old new
-fewer_written first count most is old new few = written_as first count most is is old new few (λ j z m x. x)
 
 -- ---- rows as parts of the table
 module _ (v : List ℤ) (start columns : ℕ) where

@@ -19,7 +19,7 @@ use Rattle.mpc_controller.specs.Parts.{Parts, HaveShapes}
 use Rattle.mpc_controller.specs.Bounds.{KeepBounds}
 use Rattle.mpc_answers.specs.Replies.{PartsHaveShapes}
 use Rattle.mpc_check.specs.Acceptance.{Accepts, IsProgramOf}
-use Rattle.mpc_compiled.specs.Compiled.{IsCompiled}
+use Rattle.mpc_answers.specs.Compiled.{IsCompiled}
 use Rattle.mpc_claim.specs.Board.{Board}
 use Rattle.mpc_synthesis.specs.Programs.{HasProgram, HasVerdicts, IsDecidedBy}
 use Rattle.mpc_synthesis.specs.declared.parts.Tabled.{Tabled}

@@ -4,7 +4,7 @@ use Rattle.mpc_sets.specs.SetLaws.{OrderLaws}
 use Rattle.mpc_definite.specs.PivotLaws.{DefiniteByPivots}
 use Rattle.mpc_condense.specs.ProgramLaws.{NoWidePlace, OneWidePlace}
 use Rattle.mpc_controller.specs.OneBound.{OneFirstBroken, KeptNotBroken}
-use Rattle.mpc_best.specs.BestReplies.{OneProgram}
+use Rattle.mpc_condense.specs.BestReplies.{OneProgram}
 use Rattle.mpc_tree.specs.Certified.{OneTree, OneFirstWide, FitsNotWide, CertifiedFits}
 use Rattle.mpc_answers.specs.Replies.{OneTable}
 use Rattle.mpc_check.specs.Acceptance.{NothingFound, OneFinding}

@@ -4,9 +4,8 @@ ghost use Rattle.mpc_synthesis.specs.Controllers.{ControllerIsRight, ControllerR
 ghost use Rattle.mpc_synthesis.specs.Outcomes.{OneOutcome};
 
 use mpc_answers::one_table;
-use mpc_best::one_program;
 use mpc_check::{accepted_replies, one_finding};
-use mpc_condense::place_laws;
+use mpc_condense::{one_program, place_laws};
 use mpc_controller::{bound_laws, replies_everywhere};
 use mpc_cover::one_verdict;
 use mpc_definite::pivot_laws;

@@ -9,16 +9,15 @@ ghost use Rattle.mpc_tree.specs.WideRuns.{IsFirstWide};
 ghost use Rattle.mpc_tree.specs.Trees.{whole_box};
 ghost use Rattle.mpc_tree.specs.Certified.{IsCertified};
 ghost use Rattle.mpc_check.specs.Acceptance.{Accepts, IsAnswer, IsCause};
-ghost use Rattle.mpc_compiled.specs.Compiled.{IsCompiled};
+ghost use Rattle.mpc_answers.specs.Compiled.{IsCompiled};
 ghost use Rattle.mpc_synthesis.specs.Tables.{IsTabledBy, HasTable};
 ghost use Rattle.mpc_synthesis.specs.Controllers.{IsSealed};
 ghost use Rattle.mpc_synthesis.specs.Refusals.{controller, ExplainsSynthesisError, ExplainsCheckError, refusal_of};
 
 use crate::errors::SynthesisError;
-use mpc_answers::tree_shapes;
+use mpc_answers::{compiled_accepted, tree_shapes};
 use mpc_check::{Answer, CheckError};
 use mpc_claim::Registry;
-use mpc_compiled::compiled_accepted;
 use mpc_controller::{Controller, SealError};
 use mpc_frac::NoMemory;
 use mpc_plant::Plant;

@@ -42,9 +42,6 @@ pub negated_more : (zs : List ℤ) (i : ℕ) (d : ℤ) (x : ℚ) → i < length 
 negated_more zs i d x h e =
     ap (vec_scale (int (negsuc 0))) (wholes_more zs i d (int (get_or zs i d)) h refl) ∙ negatives-append (map int (take i zs)) (int (get_or zs i d)) ∙ ap (λ y. vec_scale (int (negsuc 0)) (map int (take i zs)) ++ y ∷ []) (sym e)
 
-pub zeros_more : (k : ℕ) (x : ℚ) → x ≡ int (pos 0) → zeros (k + 1) ≡ zeros k ++ x ∷ []
-zeros_more k x e = sym (replicate-append-replicate k 1 (int (pos 0))) ∙ ap (λ y. zeros k ++ y ∷ []) (sym e)
-
 -- ---- the rows of the program
 pub rest_taken : (xs : List ℚ) → take (length xs - 1) (drop 1 xs) ≡ drop 1 xs
 rest_taken [] = refl

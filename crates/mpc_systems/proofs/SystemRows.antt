@@ -54,16 +54,6 @@ pub widened-none : (rows : List Row) → map (widened 0) rows ≡ rows
 widened-none [] = refl
 widened-none (r ∷ rows) = λ i. record { a = append-nil r.a i; b = r.b; strict = r.strict } ∷ widened-none rows i
 
--- the width of a row of a cell
-pub widened-size : (more width : ℕ) (cell : List Row) (r : Row) (i : ℕ) → All (λ r. length r.a + more ≡ width) cell → i < length cell → r ≡ get_or cell i r → length (widened more r).a ≡ width
-widened-size more width cell r i h l e =
-    length-append r.a (zeros more) ∙ ap (λ n. length r.a + n) (length-replicate more (int (pos 0)))
-    ∙ subst (λ x. length x.a + more ≡ width) (sym e) (All-get_or (λ r. length r.a + more ≡ width) cell i r l h)
-
 -- the parts of a system
 pub last_part : (width : ℕ) (a box cell rest : List Row) (s : LinearSystem) → a ≡ box ++ cell → s.rows ≡ a ++ rest → s.width ≡ width → s ≡ record { width = width; rows = box ++ (cell ++ rest) }
 last_part width a box cell rest s e f h = λ t. record { width = h t; rows = (f ∙ ap (λ r. r ++ rest) e ∙ append_assoc box cell rest) t }
-
--- ---- what stays where memory is refused
-pub first_kept : (old rows more : List Row) → rows ≡ old ++ more → take (length old) rows ≡ old
-first_kept old rows more e = ap (take (length old)) e ∙ take-append_seam old more

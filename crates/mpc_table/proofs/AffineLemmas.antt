@@ -48,18 +48,6 @@ reach_step ks ts i d e sum next limit h s inv is =
     let at : unsigned_abs next ≤ unsigned_abs sum + unsigned_abs p = subst (λ n. unsigned_abs n ≤ unsigned_abs sum + unsigned_abs p) (sym is) (abs_sum sum p) in
     omega (arith, reach_drop ks ts i d e h (omega arith), size, at)
 
--- ---- the first term
-pub weighed_first : (ks : List ℤ) (ts : List ℕ) (d : ℤ) → 0 < length ks → weighed ks (1 ∷ ts) ≡ get_or ks 0 d +ℤ weighed (drop 1 ks) ts
-weighed_first [] ts d h = absurd (omega arith)
-weighed_first (k ∷ ks) ts d h = first k (weighed ks ts)
-  where
-    first : (k w : ℤ) → k *ℤ pos 1 +ℤ w ≡ k +ℤ w
-    first k w = omega (arith, ints)
-
-pub reach_first : (ks : List ℤ) (ts : List ℕ) (d : ℤ) → 0 < length ks → reach ks (1 ∷ ts) ≡ unsigned_abs (get_or ks 0 d) + reach (drop 1 ks) ts
-reach_first [] ts d h = absurd (omega arith)
-reach_first (k ∷ ks) ts d h = omega arith
-
 -- ---- smaller counts reach less far
 pub reach_mono : (ks : List ℤ) (ss ts : List ℕ) → AreUpTo ss ts → reach ks ss ≤ reach ks ts
 reach_mono [] ss ts h = omega arith

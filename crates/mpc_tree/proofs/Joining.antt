@@ -10,12 +10,31 @@ use Rattle.mpc_rows.specs.declared.trees.Node.{Node}
 use Rattle.mpc_tree.specs.declared.errors.TreeError.{TreeError}
 use Rattle.mpc_tree.specs.declared.errors.TreeError.TheVariants.{Wide, NoMemory}
 use Rattle.mpc_tree.specs.declared.frontier.Piece.{Piece}
-use Rattle.mpc_tree.specs.declared.frontier.Piece.TheVariants.{Closed, Open}
+use Rattle.mpc_tree.specs.declared.frontier.Piece.TheVariants.{Closed, Open, Refused}
+use Rattle.mpc_rows.specs.declared.places.Place.TheVariants.{State, Cost, Row, Pivot, Law as OfLaw, Reach, Border, Region, Meet, Holds, Joint, LawBound, NodeBound, CheckLaw, CheckLeaf}
 use Rattle.mpc_tree.specs.Causes.{IfWide}
 use Rattle.mpc_tree.specs.Joins.{place_behind, IsWideBehind}
 use Rattle.mpc_tree.specs.Pieces.{cell_at, IsOpen, IsOfPiece, IsWideIn, AreFilled, IsWideAmong}
 use Rattle.mpc_tree.specs.Trees.{Cell, yes_side, no_side}
 use Rattle.mpc_tree.specs.WideRuns.{IsWideAt, IsFirstWide, here, in_yes, in_no}
+
+-- no nodes before
+pub behind_none : (place : Place) → place_behind 0 place ≡ place
+behind_none (Meet node law) = ap (λ n. Meet n law) (omega arith)
+behind_none (Holds node law row) = ap (λ n. Holds n law row) (omega arith)
+behind_none (Joint node) = ap (λ n. Joint n) (omega arith)
+behind_none (State n) = refl
+behind_none (Cost n) = refl
+behind_none (Row n) = refl
+behind_none (Pivot n) = refl
+behind_none (OfLaw set) = refl
+behind_none (Reach set) = refl
+behind_none (Border set n) = refl
+behind_none (Region set) = refl
+behind_none (LawBound law n) = refl
+behind_none (NodeBound n) = refl
+behind_none (CheckLaw n) = refl
+behind_none (CheckLeaf node n) = refl
 
 -- ---- more nodes before a cell's
 module _ (qp : Qp) (laws : List Law) where
@@ -35,6 +54,9 @@ module _ (qp : Qp) (laws : List Law) where
   wide_in_behind : (before : ℕ) (piece : Piece) (place : Place) → IsWideIn qp laws piece 1 place → IsWideIn qp laws piece (before + 1) (place_behind before place)
   wide_in_behind before (Closed own) place w = w
   wide_in_behind before (Open cell next) place w = subst (λ k. IsFirstWide qp laws (cell_at cell next) k (place_behind before place)) (omega arith) (first_behind before (cell_at cell next) 1 place w)
+  wide_in_behind before (Refused own) place w =
+      let none : w.0 ≡ 0 = omega (arith, w.1) in
+      (before, refl, ap (place_behind before) (w.2 ∙ ap (λ k. place_behind k own) none ∙ behind_none own))
 
   -- ---- the tree so far, before the pieces that are left
   pub record IsJoined (pieces : List Piece) (tree : List Node) (rest : List Piece) : Type 0 where

@@ -1,5 +1,5 @@
 -- Pieces of a tree that are divided, built and put together.
-use Rattle.std.proofs.Common.{◌≡◌, ℕ, zero, suc, ◌+◌, ◌<◌, Vec, Global, Result, Ok, Err, IfOk, IfErr, List, [], ◌∷◌, ◌++◌, length, refl, sym, ◌∙◌, ap, subst, arith, ◌⊎◌, inl, inr, Some, slice_get}
+use Rattle.std.proofs.Common.{◌≡◌, ℕ, zero, suc, ◌+◌, ◌<◌, Vec, Global, Result, Ok, Err, IfOk, IfErr, List, [], ◌∷◌, ◌++◌, length, refl, sym, ◌∙◌, ap, subst, subst₂, arith, ◌⊎◌, inl, inr, Some, slice_get}
 use Rattle.std.specs.Prelude.{All, slice_set}
 use Rattle.std.specs.List.{AllZip}
 use Rattle.std.proofs.lemmas.List.{append-nil, append_assoc, length-append}
@@ -16,15 +16,16 @@ use Rattle.mpc_rows.specs.LawRows.{whole_row, broken_row}
 use Rattle.mpc_tree.specs.declared.errors.TreeError.{TreeError}
 use Rattle.mpc_tree.specs.declared.errors.TreeError.TheVariants.{Wide, NoMemory}
 use Rattle.mpc_tree.specs.declared.frontier.Piece.{Piece}
-use Rattle.mpc_tree.specs.declared.frontier.Piece.TheVariants.{Closed, Open}
+use Rattle.mpc_tree.specs.declared.frontier.Piece.TheVariants.{Closed, Open, Refused}
 use Rattle.mpc_tree.specs.declared.runs.KeptCell.{KeptCell}
 use Rattle.mpc_tree.specs.declared.threads.Drawn.{Drawn}
 use Rattle.mpc_tree.specs.Causes.{IfWide}
 use Rattle.mpc_tree.specs.Growth.{IsBuilt, IsLeafAt}
 use Rattle.mpc_tree.specs.NodeRuns.{DividesAndFits, EndsAndFits, IsFittingTree}
-use Rattle.mpc_tree.specs.Pieces.{cell_at, IsOpen, IsOfPiece, IsWideIn, AreFilled, IsWideAmong, IsFiner, IsDrawn, with_trees}
+use Rattle.mpc_tree.specs.Pieces.{cell_at, EndsRefused, IsOpen, IsOfPiece, IsWideIn, AreFilled, IsWideAmong, IsFiner, Becomes, IsDrawn, with_drawn}
 use Rattle.mpc_tree.specs.Trees.{yes_side, no_side, leaf, split}
-use Rattle.mpc_tree.specs.WideRuns.{IsFirstWide, in_yes, in_no}
+use Rattle.mpc_tree.specs.WideRuns.{IsFirstWide, IsWideAt, here, in_yes, in_no}
+use Rattle.mpc_tree.proofs.Joining.{first_behind}
 use Rattle.mpc_tree.proofs.TreeLemmas.{weakened}
 
 module _ (qp : Qp) (laws : List Law) where
@@ -60,6 +61,22 @@ module _ (qp : Qp) (laws : List Law) where
 
   pub finer_then : (a b c : List Piece) → IsFiner qp laws a b → IsFiner qp laws b c → IsFiner qp laws a c
   finer_then a b c g h = record { filled = λ nodes f. g.filled nodes (h.filled nodes f); wide = λ number place w. g.wide number place (h.wide number place w) }
+
+  -- ---- pieces as far as a refused cell
+  none_filled : (front : List Piece) (own : Place) (nodes : List Node) → ¬ AreFilled qp laws (front ++ Refused own ∷ []) nodes
+  none_filled [] own nodes f = f.3
+  none_filled (p ∷ ps) own nodes f = none_filled ps own f.1 f.4
+
+  wide_before : (a b : List Piece) (number : ℕ) (place : Place) → IsWideAmong qp laws a number place → IsWideAmong qp laws (a ++ b) number place
+  wide_before [] b number place w = absurd w
+  wide_before (p ∷ ps) b number place (inl w) = inl w
+  wide_before (p ∷ ps) b number place (inr w) = inr (w.0, w.1, wide_before ps b (number + length w.0) place w.2)
+
+  pub finer_refused : (whole done rest : List Piece) → EndsRefused done → IsFiner qp laws whole (done ++ rest) → IsFiner qp laws whole done
+  finer_refused whole done rest ends g = finer_then whole (done ++ rest) done g (record {
+    filled = λ nodes f. absurd (none_filled ends.0 ends.1 nodes (subst (λ d. AreFilled qp laws d nodes) ends.2 f));
+    wide = wide_before done rest;
+  })
 
   alone : (x : Piece) (nodes : List Node) → AreFilled qp laws (x ∷ []) nodes → IsOfPiece qp laws x nodes
   alone x nodes f = subst (IsOfPiece qp laws x) (sym (f.2 ∙ ap (λ l. f.0 ++ l) f.4 ∙ append-nil f.0)) f.3
@@ -100,12 +117,6 @@ module _ (qp : Qp) (laws : List Law) where
     wide_whole pieces g (Err (Wide place)) w = alone_wide (Open kept next) 1 place (g.wide 1 place w)
     wide_whole pieces g (Err NoMemory) w = tt
 
-    pub finer_leaf : (node : Node) → IsLeafAt qp laws (cell_at kept next) node → IsFiner qp laws (Open kept next ∷ []) (Closed (node ∷ []) ∷ [])
-    finer_leaf node l = record {
-      filled = λ nodes f. whole nodes (subst (IsBuilt qp laws (cell_at kept next)) (sym (alone (Closed (node ∷ [])) nodes f)) (leaf (cell_at kept next) node l));
-      wide = λ number place w. absurd (alone_wide (Closed (node ∷ [])) number place w);
-    }
-
     module _ (place : ℕ) (row : RowInt) (d : DividesAndFits qp laws (cell_at kept next) place row) (yes no : KeptCell) (y : yes.rows.items ≡ kept.rows.items ++ whole_row row ∷ []) (n : no.rows.items ≡ kept.rows.items ++ broken_row row ∷ []) where
       yes_is : cell_at yes place ≡ yes_side (cell_at kept next) place row
       yes_is = ap (λ rows. record { rows = rows; next = place }) y
@@ -143,65 +154,76 @@ module _ (qp : Qp) (laws : List Law) where
       pub finer_split : IsFiner qp laws (Open kept next ∷ []) (Closed (Split row ∷ []) ∷ Open yes place ∷ Open no (place + 1) ∷ [])
       finer_split = record { filled = split_filled; wide = split_wide }
 
-  -- ---- trees in the places of their cells
-  -- the second piece is the first, or its tree
-  abbrev pub Becomes : Piece → Piece → Type 0
-  Becomes x y = (y ≡ x) ⊎ ((cell : KeptCell) × (next : ℕ) × (tree : List Node) × (x ≡ Open cell next) × (y ≡ Closed tree) × IsBuilt qp laws (cell_at cell next) tree)
+  -- ---- cells that have become other pieces
+  pub tree_becomes : (kept : KeptCell) (next : ℕ) (tree : List Node) → IsBuilt qp laws (cell_at kept next) tree → Becomes qp laws (Open kept next) (Closed tree)
+  tree_becomes kept next tree b = record {
+    nodes = λ nodes e. subst (IsBuilt qp laws (cell_at kept next)) (sym e) b;
+    wide = λ number place w. absurd w;
+    ready = λ o. tt;
+  }
 
-  becomes_of : (x y : Piece) (first : List Node) → Becomes x y → IsOfPiece qp laws y first → IsOfPiece qp laws x first
-  becomes_of x y first (inl e) o = subst (λ p. IsOfPiece qp laws p first) e o
-  becomes_of x y first (inr b) o =
-      let same : first ≡ b.2 = subst (λ p. IsOfPiece qp laws p first) b.4 o in
-      subst (λ p. IsOfPiece qp laws p first) (sym b.3) (subst (IsBuilt qp laws (cell_at b.0 b.1)) (sym same) b.5)
+  pub leaf_becomes : (kept : KeptCell) (next : ℕ) (node : Node) → IsLeafAt qp laws (cell_at kept next) node → Becomes qp laws (Open kept next) (Closed (node ∷ []))
+  leaf_becomes kept next node l = tree_becomes kept next (node ∷ []) (leaf (cell_at kept next) node l)
 
-  becomes_wide : (x y : Piece) (number : ℕ) (place : Place) → Becomes x y → IsWideIn qp laws y number place → IsWideIn qp laws x number place
-  becomes_wide x y number place (inl e) w = subst (λ p. IsWideIn qp laws p number place) e w
-  becomes_wide x y number place (inr b) w = absurd (subst (λ p. IsWideIn qp laws p number place) b.4 w)
+  pub refusal_becomes : (kept : KeptCell) (next : ℕ) (own : Place) → IsFirstWide qp laws (cell_at kept next) 1 own → Becomes qp laws (Open kept next) (Refused own)
+  refusal_becomes kept next own w = record {
+    nodes = λ nodes f. absurd f;
+    wide = λ number place v.
+        let same : 1 + v.0 ≡ number = omega (arith, v.1) in
+        subst₂ (IsFirstWide qp laws (cell_at kept next)) same (sym v.2) (first_behind qp laws v.0 (cell_at kept next) 1 own w);
+    ready = λ o. tt;
+  }
 
-  becomes_open : (x y : Piece) → Becomes x y → IsOpen qp laws x → IsOpen qp laws y
-  becomes_open x y (inl e) o = subst (IsOpen qp laws) (sym e) o
-  becomes_open x y (inr b) o = subst (IsOpen qp laws) (sym b.4) tt
+  pub node_refused : (kept : KeptCell) (next : ℕ) (own : Place) → IsWideAt qp laws (cell_at kept next) 1 own → Becomes qp laws (Open kept next) (Refused own)
+  node_refused kept next own w = refusal_becomes kept next own (here (cell_at kept next) 1 own w)
+
+  becomes_same : (x : Piece) → Becomes qp laws x x
+  becomes_same x = record { nodes = λ nodes o. o; wide = λ number place w. w; ready = λ o. o }
 
   abbrev pub AllBecome : List Piece → List Piece → Type 0
-  AllBecome before now = AllZip Becomes before now
+  AllBecome before now = AllZip (Becomes qp laws) before now
 
   pub become_same : (pieces : List Piece) → AllBecome pieces pieces
   become_same [] = tt
-  become_same (p ∷ ps) = (inl refl, become_same ps)
+  become_same (p ∷ ps) = (becomes_same p, become_same ps)
 
   become_filled : (before now : List Piece) → AllBecome before now → (nodes : List Node) → AreFilled qp laws now nodes → AreFilled qp laws before nodes
   become_filled [] [] h nodes f = f
   become_filled [] (y ∷ ys) h nodes f = absurd h
   become_filled (x ∷ xs) [] h nodes f = absurd h
-  become_filled (x ∷ xs) (y ∷ ys) h nodes f = (f.0, f.1, f.2, becomes_of x y f.0 h.0 f.3, become_filled xs ys h.1 f.1 f.4)
+  become_filled (x ∷ xs) (y ∷ ys) h nodes f = (f.0, f.1, f.2, h.0.nodes f.0 f.3, become_filled xs ys h.1 f.1 f.4)
 
   become_wide : (before now : List Piece) → AllBecome before now → (number : ℕ) (place : Place) → IsWideAmong qp laws now number place → IsWideAmong qp laws before number place
   become_wide [] [] h number place w = absurd w
   become_wide [] (y ∷ ys) h number place w = absurd h
   become_wide (x ∷ xs) [] h number place w = absurd h
-  become_wide (x ∷ xs) (y ∷ ys) h number place (inl w) = inl (becomes_wide x y number place h.0 w)
-  become_wide (x ∷ xs) (y ∷ ys) h number place (inr w) = inr (w.0, becomes_of x y w.0 h.0 w.1, become_wide xs ys h.1 (number + length w.0) place w.2)
+  become_wide (x ∷ xs) (y ∷ ys) h number place (inl w) = inl (h.0.wide number place w)
+  become_wide (x ∷ xs) (y ∷ ys) h number place (inr w) = inr (w.0, h.0.nodes w.0 w.1, become_wide xs ys h.1 (number + length w.0) place w.2)
 
   pub become_finer : (before now : List Piece) → AllBecome before now → IsFiner qp laws before now
   become_finer before now h = record { filled = become_filled before now h; wide = become_wide before now h }
+
+  -- a piece alone
+  pub finer_one : (x y : Piece) → Becomes qp laws x y → IsFiner qp laws (x ∷ []) (y ∷ [])
+  finer_one x y b = become_finer (x ∷ []) (y ∷ []) (b, tt)
 
   pub become_open : (before now : List Piece) → AllBecome before now → All (IsOpen qp laws) before → All (IsOpen qp laws) now
   become_open [] [] h o = o
   become_open [] (y ∷ ys) h o = absurd h
   become_open (x ∷ xs) [] h o = absurd h
-  become_open (x ∷ xs) (y ∷ ys) h o = All-cons (IsOpen qp laws) y ys (becomes_open x y h.0 (All-head (IsOpen qp laws) x xs o)) (become_open xs ys h.1 (All-tail (IsOpen qp laws) x xs o))
+  become_open (x ∷ xs) (y ∷ ys) h o = All-cons (IsOpen qp laws) y ys (h.0.ready (All-head (IsOpen qp laws) x xs o)) (become_open xs ys h.1 (All-tail (IsOpen qp laws) x xs o))
 
-  laid_at : (before now : List Piece) (i : ℕ) (cell : KeptCell) (next : ℕ) (tree : List Node) → slice_get before i ≡ Some (Open cell next) → IsBuilt qp laws (cell_at cell next) tree → AllBecome before now → AllBecome before (slice_set now i (Closed tree))
-  laid_at [] now i cell next tree is b h = absurd (cc)
-  laid_at (x ∷ xs) [] i cell next tree is b h = absurd h
-  laid_at (x ∷ xs) (y ∷ ys) zero cell next tree is b h = (inr (cell, next, tree, (cc), refl, b), h.1)
-  laid_at (x ∷ xs) (y ∷ ys) (suc i) cell next tree is b h = (h.0, laid_at xs ys i cell next tree is b h.1)
+  laid_at : (before now : List Piece) (i : ℕ) (x y : Piece) → slice_get before i ≡ Some x → Becomes qp laws x y → AllBecome before now → AllBecome before (slice_set now i y)
+  laid_at [] now i x y is b h = absurd (cc)
+  laid_at (p ∷ ps) [] i x y is b h = absurd h
+  laid_at (p ∷ ps) (q ∷ qs) zero x y is b h = (subst (λ z. Becomes qp laws z y) (cc) b, h.1)
+  laid_at (p ∷ ps) (q ∷ qs) (suc i) x y is b h = (h.0, laid_at ps qs i x y is b h.1)
 
-  pub all_laid : (before now : List Piece) (drawn : List Drawn) → All (IsDrawn qp laws before) drawn → AllBecome before now → AllBecome before (with_trees now drawn)
+  pub all_laid : (before now : List Piece) (drawn : List Drawn) → All (IsDrawn qp laws before) drawn → AllBecome before now → AllBecome before (with_drawn now drawn)
   all_laid before now [] a h = h
   all_laid before now (d ∷ ds) a h =
       let own = All-head (IsDrawn qp laws before) d ds a in
-      all_laid before (slice_set now d.piece (Closed d.tree)) ds (All-tail (IsDrawn qp laws before) d ds a) (laid_at before now d.piece own.cell own.next d.tree own.is own.built h)
+      all_laid before (slice_set now d.piece d.built) ds (All-tail (IsDrawn qp laws before) d ds a) (laid_at before now d.piece own.piece d.built own.is own.becomes h)
 
   become_length : (before now : List Piece) → AllBecome before now → length before ≡ length now
   become_length [] [] h = refl
@@ -215,4 +237,4 @@ module _ (qp : Qp) (laws : List Law) where
 
   pub hand_within : (before now : List Piece) → AllBecome before now → (drawn : List Drawn) → All (IsDrawn qp laws before) drawn → All (λ d. d.piece < length now) drawn
   hand_within before now h drawn a = All-weaker (IsDrawn qp laws before) (λ (d : Drawn). d.piece < length now)
-      (λ d own. subst (λ n. d.piece < n) (become_length before now h) (slice_get_within before d.piece (Open own.cell own.next) own.is)) drawn a
+      (λ d own. subst (λ n. d.piece < n) (become_length before now h) (slice_get_within before d.piece own.piece own.is)) drawn a

@@ -9,11 +9,12 @@ use Rattle.mpc_rows.specs.declared.trees.Node.TheVariants.{Split}
 use Rattle.mpc_rows.specs.LinearSystem.{LinearSystem}
 use Rattle.mpc_rows.specs.LawRows.{whole_row, broken_row}
 use Rattle.mpc_tree.specs.declared.frontier.Piece.{Piece}
-use Rattle.mpc_tree.specs.declared.frontier.Piece.TheVariants.{Closed, Open}
+use Rattle.mpc_tree.specs.declared.frontier.Piece.TheVariants.{Closed, Open, Refused}
 use Rattle.mpc_tree.specs.declared.runs.KeptCell.{KeptCell}
 use Rattle.mpc_tree.specs.declared.threads.Drawn.{Drawn}
 use Rattle.mpc_tree.specs.CellRuns.{IsRunOf, IsRunWith}
 use Rattle.mpc_tree.specs.Growth.{IsReady, IsBuilt}
+use Rattle.mpc_tree.specs.Joins.{place_behind}
 use Rattle.mpc_tree.specs.Trees.{Cell}
 use Rattle.mpc_tree.specs.WideRuns.{IsFirstWide}
 
@@ -36,16 +37,19 @@ module _ (qp : Qp) (laws : List Law) where
   abbrev pub IsOpen : Piece → Type 0
   IsOpen (Closed nodes) = ⊤
   IsOpen (Open cell next) = IsReady qp laws (cell_at cell next) × IsRunOf qp cell.rows.items cell.run
+  IsOpen (Refused place) = ⊤
 
-  -- the nodes that stand for a piece
+  -- the nodes that stand for a piece, none for a cell that is refused
   abbrev pub IsOfPiece : Piece → List Node → Type 0
   IsOfPiece (Closed own) nodes = nodes ≡ own
   IsOfPiece (Open cell next) nodes = IsBuilt qp laws (cell_at cell next) nodes
+  IsOfPiece (Refused own) nodes = ⊥
 
   -- the place is the first wide one of a piece whose first node has this number
   abbrev pub IsWideIn : Piece → ℕ → Place → Type 0
   IsWideIn (Closed own) number place = ⊥
   IsWideIn (Open cell next) number place = IsFirstWide qp laws (cell_at cell next) number place
+  IsWideIn (Refused own) number place = (before : ℕ) × (number ≡ before + 1) × (place ≡ place_behind before own)
 
   -- the nodes are those of the pieces, one after the other
   abbrev pub AreFilled : List Piece → List Node → Type 0
@@ -62,14 +66,23 @@ module _ (qp : Qp) (laws : List Law) where
     pub filled : (nodes : List Node) → AreFilled finer nodes → AreFilled pieces nodes
     pub wide : (number : ℕ) (place : Place) → IsWideAmong finer number place → IsWideAmong pieces number place
 
-  -- the tree is that of the open cell at its place among the pieces
-  pub record IsDrawn (pieces : List Piece) (d : Drawn) : Type 0 where
-    pub cell : KeptCell
-    pub next : ℕ
-    pub is : slice_get pieces d.piece ≡ Some (Open cell next)
-    pub built : IsBuilt qp laws (cell_at cell next) d.tree
+  -- what the second piece says of a tree, the first one says of it
+  pub record Becomes (x y : Piece) : Type 0 where
+    pub nodes : (nodes : List Node) → IsOfPiece y nodes → IsOfPiece x nodes
+    pub wide : (number : ℕ) (place : Place) → IsWideIn y number place → IsWideIn x number place
+    pub ready : IsOpen x → IsOpen y
 
--- each tree in the place that it was drawn at
-abbrev pub with_trees : List Piece → List Drawn → List Piece
-with_trees pieces [] = pieces
-with_trees pieces (d ∷ ds) = with_trees (slice_set pieces d.piece (Closed d.tree)) ds
+  -- the piece at this place among the pieces has become another
+  pub record IsDrawn (pieces : List Piece) (d : Drawn) : Type 0 where
+    pub piece : Piece
+    pub is : slice_get pieces d.piece ≡ Some piece
+    pub becomes : Becomes piece d.built
+
+-- each piece as it was drawn, in its place
+abbrev pub with_drawn : List Piece → List Drawn → List Piece
+with_drawn pieces [] = pieces
+with_drawn pieces (d ∷ ds) = with_drawn (slice_set pieces d.piece d.built) ds
+
+-- a refused cell is the last piece
+abbrev pub EndsRefused : List Piece → Type 0
+EndsRefused pieces = (front : List Piece) × (place : Place) × (pieces ≡ front ++ Refused place ∷ [])

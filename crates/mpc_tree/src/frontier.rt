@@ -1,11 +1,11 @@
-//! The upper part of the tree, which is grown breadth-first, with the cells that are left open below.
+//! The upper part of the tree, which is grown in preorder at first and then breadth-first, with the cells that are left open below.
 
-ghost use Rattle.std.specs.Prelude.{◌≡◌, ◌<◌, ◌^◌, ◌∷◌, [], All, IfOk, IfSome, length, unsigned_abs};
+ghost use Rattle.std.specs.Prelude.{◌≡◌, ◌<◌, ◌^◌, ◌∷◌, [], All, IfOk, IfSome, IsTrue, length, unsigned_abs};
 ghost use Rattle.mpc_linear.specs.Whole.{AreSmall};
 ghost use Rattle.mpc_tree.specs.Borders.{AreBorders};
 ghost use Rattle.mpc_tree.specs.CellRuns.{IsRunOf};
 ghost use Rattle.mpc_tree.specs.Growth.{IsReady, RegionsCover};
-ghost use Rattle.mpc_tree.specs.Pieces.{AreSides, IsOpen, IsFiner};
+ghost use Rattle.mpc_tree.specs.Pieces.{AreSides, EndsRefused, IsOpen, IsFiner};
 
 use crate::borders::Border;
 use crate::errors::TreeError;
@@ -14,7 +14,7 @@ use crate::nodes::{Placed, place_node};
 use crate::runs::{KeptCell, copied_rows};
 use mpc_frac::NoMemory;
 use mpc_linear::RowInt;
-use mpc_rows::{LawTable, Node, Qp, Tree};
+use mpc_rows::{LawTable, Node, Place, Qp, Tree};
 use mpc_simplex::{Beginning, Workspace};
 use mpc_systems::{broken_row, cell_laws, whole_row};
 use std::alloc::Global;
@@ -22,6 +22,10 @@ use std::alloc::Global;
 /// How many open cells are enough: where the dearest of them takes a fifteenth of the whole, as in
 /// usual large trees, up to eight threads have about as much to do as each other.
 const ENOUGH: usize = 64;
+
+/// So many nodes are grown first, one after another in preorder: where one of them is refused, no cell
+/// behind it was opened in vain.
+const FIRST_NODES: usize = 32;
 
 /// After so many rounds the cells stay open, however few they are.
 const MOST_ROUNDS: usize = 64;
@@ -33,6 +37,8 @@ pub enum Piece {
     Closed(Tree),
     /// A cell whose tree isn't built, and the place of the law with which its search goes on.
     Open { cell: KeptCell, next: usize },
+    /// A cell whose tree is refused at this place, its nodes numbered from 1.
+    Refused(Place),
 }
 
 /// A list of one piece.
@@ -86,9 +92,8 @@ fn split(
     Ok(pieces)
 }
 
-/// The pieces that a cell is divided into: a leaf, or a split with both sides open. A cell whose node
-/// is refused stays open: there may be a refusal before it in preorder.
-fn divided(
+/// The pieces that a cell is divided into: a leaf, a split with both sides open, or a refusal.
+fn divided_cell(
     alloc: Global,
     work: &mut Workspace,
     qp: &Qp,
@@ -112,12 +117,53 @@ fn divided(
             split(alloc, cell, row, run, place)
         }
         Ok(Placed::Leaf(leaf)) => one(alloc, closed(alloc, leaf)?),
-        Err(TreeError::Wide(_)) => one(alloc, Piece::Open { cell, next }),
+        Err(TreeError::Wide(place)) => one(alloc, Piece::Refused(place)),
         Err(TreeError::NoMemory) => Err(NoMemory),
     }
 }
 
-/// The pieces with each open cell divided, in the same order.
+/// Whether the last of the pieces is a refused cell.
+fn ends_refused(pieces: &[Piece]) -> bool
+    ensures { IsTrue result → EndsRefused pieces.now }
+{
+    match pieces.last() {
+        Some(Piece::Refused(_)) => true,
+        _ => false,
+    }
+}
+
+/// The pieces that a piece is divided into: those of an open cell while there are divisions left, or
+/// else itself.
+fn divided(
+    alloc: Global,
+    work: &mut Workspace,
+    qp: &Qp,
+    laws: &LawTable,
+    borders: &[Border],
+    piece: Piece,
+    left: &mut usize,
+) -> Result<Vec<Piece>, NoMemory>
+    requires few { length laws.now < 2 ^ 32 }
+    requires borders { AreBorders qp.now laws.now borders.now }
+    requires cover { RegionsCover qp.now laws.now }
+    requires open { IsOpen qp.now laws.now piece }
+    ensures open { IfOk result (λ pieces. All (IsOpen qp.now laws.now) pieces.items) }
+    ensures finer { IfOk result (λ pieces. IsFiner qp.now laws.now (piece ∷ []) pieces.items) }
+{
+    if *left == 0 {
+        return one(alloc, piece);
+    }
+    match piece {
+        Piece::Open { cell, next } => {
+            *left -= 1;
+            divided_cell(alloc, work, qp, laws, borders, cell, next)
+        }
+        other => one(alloc, other),
+    }
+}
+
+/// The pieces with the first open cells divided, at most so many, in the same order. What comes behind a
+/// refused cell is left out: whatever it says, what stands before it answers.
 fn finer(
     alloc: Global,
     work: &mut Workspace,
@@ -125,6 +171,7 @@ fn finer(
     laws: &LawTable,
     borders: &[Border],
     pieces: Vec<Piece>,
+    most: usize,
 ) -> Result<Vec<Piece>, NoMemory>
     requires few { length laws.now < 2 ^ 32 }
     requires borders { AreBorders qp.now laws.now borders.now }
@@ -134,13 +181,12 @@ fn finer(
     ensures finer { IfOk result (λ finer. IsFiner qp.now laws.now pieces.items finer.items) }
 {
     let mut finer = Vec::new(alloc);
+    let mut left = most;
     for piece in pieces {
-        match piece {
-            Piece::Open { cell, next } => {
-                let mut new = divided(alloc, work, qp, laws, borders, cell, next)?;
-                finer.append(&mut new)?;
-            }
-            Piece::Closed(nodes) => finer.push(Piece::Closed(nodes))?,
+        let mut new = divided(alloc, work, qp, laws, borders, piece, &mut left)?;
+        finer.append(&mut new)?;
+        if ends_refused(&finer) {
+            return Ok(finer);
         }
     }
     Ok(finer)
@@ -152,12 +198,13 @@ pub fn open_cells(pieces: &[Piece]) -> usize {
         .iter()
         .filter(|piece| match piece {
             Piece::Open { .. } => true,
-            Piece::Closed(_) => false,
+            _ => false,
         })
         .count()
 }
 
-/// The tree of the cell in pieces: divided breadth-first until enough cells are open, or none.
+/// The tree of the cell in pieces, as far as the first cell that is refused: divided in preorder at
+/// first, and then breadth-first, until enough cells are open, or none.
 pub fn pieces_of(
     alloc: Global,
     qp: &Qp,
@@ -177,12 +224,13 @@ pub fn pieces_of(
     let mut work = Workspace::new(alloc);
     let mut pieces = Vec::new(alloc);
     pieces.push(Piece::Open { cell, next })?;
-    for _round in 0..MOST_ROUNDS {
+    for round in 0..MOST_ROUNDS {
         let open = open_cells(&pieces);
         if open == 0 || ENOUGH <= open {
             break;
         }
-        pieces = finer(alloc, &mut work, qp, laws, borders, pieces)?;
+        let most = if round < FIRST_NODES { 1 } else { open };
+        pieces = finer(alloc, &mut work, qp, laws, borders, pieces, most)?;
     }
     Ok(pieces)
 }

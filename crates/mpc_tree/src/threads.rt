@@ -5,7 +5,7 @@ ghost use Rattle.mpc_tree.specs.Borders.{AreBorders};
 ghost use Rattle.mpc_tree.specs.Causes.{IfWide};
 ghost use Rattle.mpc_tree.specs.CellRuns.{IsRunOf};
 ghost use Rattle.mpc_tree.specs.Growth.{IsReady, RegionsCover, IsBuilt};
-ghost use Rattle.mpc_tree.specs.Pieces.{cell_at, IsOpen, IsOfPiece, IsWideIn, AreFilled, IsWideAmong, IsDrawn, with_trees};
+ghost use Rattle.mpc_tree.specs.Pieces.{cell_at, Becomes, IsOpen, IsOfPiece, IsWideIn, AreFilled, IsWideAmong, IsDrawn, with_drawn};
 ghost use Rattle.mpc_tree.specs.Joins.{place_behind, IsWideBehind};
 ghost use Rattle.mpc_tree.specs.WideRuns.{IsFirstWide};
 
@@ -28,16 +28,16 @@ const MANY_LAWS: usize = 60;
 /// How many open cells there are for a thread at least: of fewer, one may take most of the time.
 const CELLS_A_THREAD: usize = 4;
 
-/// The tree of the open cell at a place among the pieces.
+/// What the open cell at a place among the pieces has become: its tree, or its refusal.
 #[derive(Drop)]
 pub struct Drawn {
     pub piece: usize,
-    pub tree: Tree,
+    pub built: Piece,
 }
 
-/// The tree of an open cell that others read too, whose run is begun anew. It is given up once it is
-/// called off.
-fn tree_of(
+/// What becomes of an open cell that others read too, whose run is begun anew: its tree, or its refusal,
+/// which calls off what comes behind it. Nothing where it is called off itself.
+fn drawn_cell(
     alloc: Global,
     qp: &Qp,
     laws: &LawTable,
@@ -45,19 +45,27 @@ fn tree_of(
     cell: &KeptCell,
     next: usize,
     watch: Watch,
-) -> Result<Tree, Stop>
+) -> Result<Option<Piece>, NoMemory>
     requires few { length laws.now < 2 ^ 32 }
     requires borders { AreBorders qp.now laws.now borders.now }
     requires cover { RegionsCover qp.now laws.now }
     requires ready { IsReady qp.now laws.now (cell_at cell.now next) }
-    ensures { IfOk result (IsBuilt qp.now laws.now (cell_at cell.now next)) }
+    ensures { IfOk result (λ o. IfSome o (Becomes qp.now laws.now (Piece.Open cell.now next))) }
 {
     let own = KeptCell::of(alloc, qp, copied_rows(alloc, &cell.rows)?)?;
-    grown(alloc, qp, laws, borders, own, next, Some(watch))
+    match grown(alloc, qp, laws, borders, own, next, Some(watch)) {
+        Ok(tree) => Ok(Some(Piece::Closed(tree))),
+        Err(Stop::Refused(TreeError::Wide(place))) => {
+            watch.refusals.note(watch.piece);
+            Ok(Some(Piece::Refused(place)))
+        }
+        Err(Stop::Refused(TreeError::NoMemory)) => Err(NoMemory),
+        Err(Stop::GivenUp) => Ok(None),
+    }
 }
 
-/// The trees of the open cells that one thread draws, one after another by a number that all threads
-/// share, until none is left. A cell that is refused is left open, and those behind it are given up.
+/// What becomes of the open cells that one thread draws, one after another by a number that all threads
+/// share, until none is left or one is called off: all that come later are, too.
 fn draw(
     alloc: Global,
     qp: &Qp,
@@ -81,9 +89,9 @@ fn draw(
         }
         if let Piece::Open { cell, next } = &pieces[piece] {
             let watch = Watch { piece, refusals };
-            match tree_of(alloc, qp, laws, borders, cell, *next, watch) {
-                Ok(tree) => drawn.push(Drawn { piece, tree })?,
-                Err(_) => refusals.note(piece),
+            match drawn_cell(alloc, qp, laws, borders, cell, *next, watch)? {
+                Some(built) => drawn.push(Drawn { piece, built })?,
+                None => break,
             }
         }
     }
@@ -102,8 +110,8 @@ fn threads_for<T: Threads>(rt: &T, open: usize) -> usize {
     }
 }
 
-/// The trees of the open cells among the pieces, by the threads that have built them. What no thread
-/// has built is lacking.
+/// What becomes of the open cells among the pieces, by the threads that have drawn them. Those that are
+/// called off are lacking.
 fn all_drawn<T: Threads + Sync>(
     rt: &T,
     alloc: Global,
@@ -128,18 +136,18 @@ fn all_drawn<T: Threads + Sync>(
     }
 }
 
-/// Puts the tree in the place of its open cell.
+/// Puts what an open cell has become in its place.
 fn lay(pieces: &mut Vec<Piece>, drawn: Drawn)
     requires { drawn.piece < length pieces.old.items }
-    ensures { pieces.new.items ≡ slice_set pieces.old.items drawn.piece (Piece.Closed drawn.tree) }
+    ensures { pieces.new.items ≡ slice_set pieces.old.items drawn.piece drawn.built }
 {
-    pieces[drawn.piece] = Piece::Closed(drawn.tree);
+    pieces[drawn.piece] = drawn.built;
 }
 
-/// Puts each tree in the place of its open cell.
+/// Puts what each of these open cells has become in its place.
 fn lay_all(pieces: &mut Vec<Piece>, drawn: Vec<Drawn>)
     requires { All (λ d. d.piece < length pieces.old.items) drawn.items }
-    ensures { pieces.new.items ≡ with_trees pieces.old.items drawn.items }
+    ensures { pieces.new.items ≡ with_drawn pieces.old.items drawn.items }
 {
     for one in drawn {
         lay(pieces, one);
@@ -164,6 +172,7 @@ fn nodes_of(
     match piece {
         Piece::Closed(nodes) => Ok(nodes),
         Piece::Open { cell, next } => grown_alone(alloc, qp, laws, borders, cell, next),
+        Piece::Refused(place) => Err(TreeError::Wide(place)),
     }
 }
 

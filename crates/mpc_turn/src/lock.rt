@@ -22,7 +22,7 @@ use std::snapshot::Snapshot;
 use std::sync::Wait;
 use std::sync::atomic::{AtomicU64, Ordering};
 
-/// The word whose count is the number of the next in the queue.
+/// The word whose count is the number that the next turn will have.
 const TICKET: usize = 0;
 
 /// The word whose count is the number that has the turn.

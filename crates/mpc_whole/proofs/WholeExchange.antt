@@ -38,6 +38,13 @@ changed_through width den old now x j e c z p q h = record {
 pub row_below : (w j k c : ℕ) → j < k → c < w → j * w + c < k * w
 row_below w j k c h l = let m : suc j * w ≤ k * w = mul-le-mul_right w h in omega arith
 
+-- a place of a square, and the end of a row
+pub row_inside : (w j c m : ℕ) → m ≡ w * w → j < w → c < w → j * w + c < m
+row_inside w j c m e h l = let r = row_below w j w c h l in omega arith
+
+pub rows_in : (w j k m : ℕ) → j < k → m ≡ k * w → j * w + w ≤ m
+rows_in w j k m h e = let r : suc j * w ≤ k * w = mul-le-mul_right w h in omega arith
+
 module _ (width den : ℕ) (old now new x : List ℤ) (j e : ℕ) (e_in : e < width)
     (done : (r c : ℕ) → r < j → c < width → IsChanged width den old x r e c (whole_cell width now r c))
     (kept : (k : ℕ) → j * width ≤ k → whole_at now k ≡ whole_at old k)

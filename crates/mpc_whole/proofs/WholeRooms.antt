@@ -1,5 +1,5 @@
 -- Sums of products that stay small.
-use Rattle.std.proofs.Common.{◌≡◌, ℕ, ◌+◌, ◌*◌, ◌^◌, ◌<◌, ◌≤◌, List, ℤ, pos, ◌+ℤ◌, ◌*ℤ◌, neg_ℤ, unsigned_abs, sym, ◌∙◌, ap, subst, arith, mul-le-mul_right, le_trans, to_z, of_z, [], ◌∷◌}
+use Rattle.std.proofs.Common.{◌≡◌, ℕ, ◌+◌, ◌*◌, ◌^◌, ◌<◌, ◌≤◌, List, ℤ, pos, negsuc, ◌+ℤ◌, ◌*ℤ◌, neg_ℤ, unsigned_abs, sym, ◌∙◌, ap, subst, arith, mul-le-mul_right, le_trans, to_z, of_z, [], ◌∷◌}
 use Rattle.std.specs.Int.{w128, w64}
 use Rattle.std.proofs.Common.{FitsSigned}
 use lib.Signed.{mag}
@@ -20,6 +20,17 @@ back64 z h = to_z-of_z w64 z (record { sfits = h })
 
 pub both_back : (p x y : ℤ) → FitsSigned w64 x → FitsSigned w64 y → p ≡ to_z w64 (of_z w64 x) *ℤ to_z w64 (of_z w64 y) → p ≡ x *ℤ y
 both_back p x y f g e = e ∙ (λ i. to_z-of_z w64 x f i *ℤ to_z-of_z w64 y g i)
+
+-- a product of two numbers of 64 bits
+abs64 : (z : ℤ) → FitsSigned w64 z → unsigned_abs z ≤ 2 ^ 63
+abs64 (pos n) f = let h : n < 2 ^ 63 = f.sfits in omega arith
+abs64 (negsuc n) f = let h : n < 2 ^ 63 = f.sfits in omega arith
+
+pub product_within : (p x y : ℤ) (m n : ℕ) → FitsSigned w64 x → FitsSigned w64 y → mag p < 2 ^ 127 → p ≡ to_z w64 (of_z w64 x) *ℤ to_z w64 (of_z w64 y) → unsigned_abs x ≤ m → unsigned_abs y ≤ n → unsigned_abs (to_z w128 (of_z w128 p)) ≤ m * n
+product_within p x y m n f g fits e hx hy = subst (λ z. unsigned_abs z ≤ m * n) (sym (back128 p fits ∙ both_back p x y f g e)) (product_at_most x y m n hx hy)
+
+pub product_room : (p x y : ℤ) → FitsSigned w64 x → FitsSigned w64 y → mag p < 2 ^ 127 → p ≡ to_z w64 (of_z w64 x) *ℤ to_z w64 (of_z w64 y) → unsigned_abs (to_z w128 (of_z w128 p)) ≤ 2 ^ 126
+product_room p x y f g fits e = let r = product_within p x y (2 ^ 63) (2 ^ 63) f g fits e (abs64 x f) (abs64 y g) in omega arith
 
 module _ (width top : ℕ) (a : List ℤ) (i : ℕ) (f : ℕ → ℤ) (h : HasRoom width top a) (s : (j : ℕ) → unsigned_abs (f j) ≤ top) where
   pub partial_small : (j : ℕ) → j ≤ width → unsigned_abs (whole_total j (λ j. whole_cell width a i j *ℤ f j)) ≤ 2 ^ 124

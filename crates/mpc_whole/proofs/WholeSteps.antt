@@ -21,6 +21,9 @@ use Rattle.mpc_whole.proofs.WholeChanges.{scale_cancels}
 pub read_small : (z : ℤ) → unsigned_abs z ≤ 2 ^ 62 → to_z w64 (of_z w64 z) ≡ z
 read_small z h = to_z-of_z w64 z (fits_signed_from_abs w64 z (omega arith))
 
+pub read_bound : (z : ℤ) (m : ℕ) → unsigned_abs z ≤ m → m ≤ 2 ^ 62 → unsigned_abs (to_z w64 (of_z w64 z)) ≤ m
+read_bound z m h l = subst (λ u. unsigned_abs u ≤ m) (sym (read_small z (le_trans h l))) h
+
 pub read_natural : (n : ℕ) → n ≤ 2 ^ 62 → to_z w64 n ≡ pos n
 read_natural n h = omega (arith, ints)
 

@@ -1,8 +1,8 @@
 -- Systems kept as whole numbers: one row more, and fewer rows.
-use Rattle.std.proofs.Common.{◌≡◌, ℕ, zero, suc, ◌+◌, ◌*◌, ◌^◌, ◌<◌, ◌≤◌, Bool, true, false, cond, List, [], ◌∷◌, ◌++◌, length, take, get_or, map, ℤ, pos, negsuc, neg_ℤ, unsigned_abs, refl, sym, ◌∙◌, ap, subst, arith, ◌⊎◌, inl, inr, le_trans, length-append, mul-le-mul_right, Ok, Err}
+use Rattle.std.proofs.Common.{◌≡◌, ℕ, zero, suc, ◌+◌, ◌*◌, ◌^◌, ◌<◌, ◌≤◌, Bool, true, false, cond, List, [], ◌∷◌, ◌++◌, length, take, min, get_or, map, ℤ, pos, negsuc, neg_ℤ, unsigned_abs, refl, sym, ◌∙◌, ap, subst, arith, ◌⊎◌, inl, inr, le_trans, le_refl, length-append, mul-le-mul_right, Ok, Err}
 use Rattle.std.proofs.lemmas.Bool.{cases_eq, cases_lt}
-use Rattle.std.proofs.lemmas.List.{take-append-le, take_all, get_or-take, get_or_append_left, length-take-le}
-use Rattle.std.proofs.Math.Seq.{get_or-append_seam}
+use Rattle.std.proofs.lemmas.List.{take-append-le, take_all, length-take, get_or-take, get_or_append_left, length-take-le}
+use Rattle.std.proofs.Math.Seq.{get_or-append_seam, take-append_seam}
 use Rattle.std.proofs.Math.ListN.{get_or-map, length-map}
 use Rattle.mpc_exact.specs.Rational.{ℚ, int, frac, neg_ℚ, ◌*ℚ◌}
 use Rattle.mpc_exact.proofs.School.{int-neg}
@@ -15,7 +15,7 @@ use Rattle.mpc_rows.specs.LawRows.{whole_row, broken_row}
 use Rattle.mpc_rows.specs.LinearSystem.{entry, row_at, no_row, height}
 use Rattle.mpc_whole.specs.declared.whole_systems.WholeLists.{WholeLists}
 use Rattle.mpc_whole.specs.Whole.{whole_at, whole_cell, scale_at, IsWholeSystem}
-use Rattle.mpc_whole.specs.WholeSystems.{row_scale, kept_row, rows_of, system_of, AreLists, AreBehind, IsKept, IsAdded, IsCut, IsCopy, IsEmpty, IsSettled, negated_where}
+use Rattle.mpc_whole.specs.WholeSystems.{row_scale, kept_row, rows_of, system_of, AreLists, AreBehind, IsKept, IsAdded, HasRows, IsCut, IsCopy, IsEmpty, IsSettled, negated_where}
 use Rattle.mpc_whole.proofs.WholeExchange.{row_below}
 
 -- ---- lists with one item more, or fewer items
@@ -36,6 +36,15 @@ kept_more old now y e h = take-append-le (length old) now (y ∷ []) h ∙ e
 
 pub kept_at : {A : Type 0} (old now : List A) (d : A) (k : ℕ) → take (length old) now ≡ old → k < length old → get_or now k d ≡ get_or old k d
 kept_at old now d k e h = sym (get_or-take (length old) now k d h) ∙ ap (λ xs. get_or xs k d) e
+
+pub kept_whole : {A : Type 0} (old : List A) → take (length old) old ≡ old
+kept_whole old = take_all (length old) old (le_refl (length old))
+
+pub kept_as : {A : Type 0} (old now : List A) → now ≡ old → take (length old) now ≡ old
+kept_as old now e = ap (λ xs. take (length old) xs) e ∙ kept_whole old
+
+pub kept_behind : {A : Type 0} (old now more : List A) → now ≡ old ++ more → take (length old) now ≡ old
+kept_behind old now more e = ap (λ xs. take (length old) xs) e ∙ take-append_seam old more
 
 -- ---- numbers behind a list, one more
 module _ (old now : List ℤ) (n scale : ℕ) (f : ℕ → ℚ) (most : ℕ) (h : AreBehind old now n scale f most) (z : ℤ) (m : ℕ) (v : f n ≡ frac z scale) (l : most ≤ m) (b : unsigned_abs z ≤ m) (t : unsigned_abs z ≤ 2 ^ 62) where
@@ -205,6 +214,30 @@ module _ (l m : WholeLists) (o : AreLists l) (c : IsCopy l m) where
     scales = λ x. subst (λ xs. scale_at xs x ≤ m.most_scale) (sym c.scales) (le_trans (o.scales x) c.most_scale);
     some_scale = le_trans o.some_scale c.most_scale;
   }
+
+-- the rows that were there stand there still
+length_kept : {A : Type 0} (old now : List A) → take (length old) now ≡ old → length old ≤ length now
+length_kept old now e = let q : min (length old) (length now) ≡ length old = sym (length-take (length old) now) ∙ ap length e in omega arith
+
+pub rows_stand : (l n : WholeLists) (count : ℕ) → AreLists l → IsKept l n → count ≡ length l.b.items → HasRows n count
+rows_stand l n count o k e =
+    let w = k.width in
+    let s = o.scales_size in
+    let long = length_kept l.scales.items n.scales.items k.scales in
+    record {
+      width = omega arith;
+      scales = omega arith;
+      entries = subst (λ m. m ≤ length n.a.items) (sym ((λ t. e t * k.width t) ∙ sym o.entries_size)) (length_kept l.a.items n.a.items k.entries);
+    }
+
+pub first_rows : (l : WholeLists) (count : ℕ) → AreLists l → count ≤ length l.b.items → HasRows l count
+first_rows l count o few =
+    let s = o.scales_size in
+    record {
+      width = omega arith;
+      scales = omega arith;
+      entries = subst (λ m. count * l.width ≤ m) (sym o.entries_size) (mul-le-mul_right l.width few);
+    }
 
 -- what was put behind is taken away
 pub cut_back : (l n m : WholeLists) (count : ℕ) → AreLists l → IsKept l n → IsCut n m count → count ≡ length l.b.items → IsCopy l m

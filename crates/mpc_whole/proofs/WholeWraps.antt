@@ -4,6 +4,7 @@ use Rattle.std.specs.Int.{w64, int_wrap}
 use Rattle.std.proofs.lemmas.Int.{fits_signed_from_abs, int_wrap_fits, int_wrap-add_left}
 use Rattle.mpc_rows.specs.LinearSystem.{LinearSystem}
 use Rattle.mpc_whole.specs.Whole.{whole_total, whole_at, whole_cell, scale_at, IsSmall, AreScales, HasBounds}
+use Rattle.mpc_whole.specs.Running.{AreShort}
 use Rattle.mpc_whole.proofs.WholeSums.{total_at_most, product_at_most, whole_total-zero, whole_total-next}
 
 pub first_wrapped : (f : ℕ → ℤ) → pos 0 ≡ int_wrap w64 (whole_total 0 f)
@@ -42,3 +43,6 @@ module _ (s : LinearSystem) (k : List ℕ) (a b c : List ℤ) (most : ℕ) (g : 
   value_fits i =
       le_trans (total_at_most s.width (g.most_entry * most) (λ j. whole_cell s.width a i j *ℤ whole_at c j) (λ j l. product_at_most (whole_cell s.width a i j) (whole_at c j) g.most_entry most (g.bounds.entries.each (i * s.width + j)) (small.each j)))
       (room_in s.width (λ _. s.width))
+
+pub values_short : (s : LinearSystem) (k : List ℕ) (a b c_1 c_2 : List ℤ) (most : ℕ) → HasBounds s k a b most → AreScales s k → IsSmall most c_1 → IsSmall most c_2 → AreShort s.width a c_1 c_2
+values_short s k a b c_1 c_2 most g scales first second = record { first = value_fits s k a b c_1 most g scales first; second = value_fits s k a b c_2 most g scales second }

@@ -7,6 +7,7 @@ pub mod WholeSystems
 pub mod SharedSizes
 pub mod Underway
 pub mod Norms
+pub mod Running
 pub mod Found
 pub mod RunEnd
 pub mod OverLaws

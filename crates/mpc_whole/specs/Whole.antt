@@ -149,11 +149,6 @@ pub record Stands (s : LinearSystem) (n : ℕ) (seats : List Seat) (k : List ℕ
 pub record IsSwapped (old new : List Seat) (l e : ℕ) : Type 0 where
   pub seats : (r c : ℕ) → seat_at old l ≡ Row r → seat_at old e ≡ Column c → new ≡ set (set old l (Column c)) e (Row r)
 
--- and the numbers, where den is now the size of the pivot
-pub record IsNext (width den : ℕ) (seats : List Seat) (old new x : List ℤ) (e size : ℕ) : Type 0 where
-  pub pivot : (c : ℕ) → seat_at seats e ≡ Column c → IsWholePivot width den old new x c
-  pub size_is : (c : ℕ) → seat_at seats e ≡ Column c → size ≡ unsigned_abs (whole_at x c)
-
 -- the unit matrix
 pub record IsUnit (width : ℕ) (v : List ℤ) : Type 0 where
   pub diagonal : (j : ℕ) → j < width → whole_cell width v j j ≡ pos 1

@@ -1,5 +1,5 @@
 -- Systems kept as whole numbers over a scale for each row.
-use Rattle.std.specs.Prelude.{◌≡◌, ℕ, zero, suc, ◌+◌, ◌*◌, ◌<◌, ◌≤◌, ◌^◌, Bool, true, false, cond, List, [], ◌∷◌, ◌++◌, length, take, drop, get_or, ℤ, neg_ℤ, unsigned_abs, Result, IfOk, OnErr}
+use Rattle.std.specs.Prelude.{◌≡◌, ℕ, zero, suc, ◌+◌, ◌-◌, ◌*◌, ◌<◌, ◌≤◌, ◌^◌, Bool, true, false, cond, List, [], ◌∷◌, ◌++◌, length, take, drop, get_or, ℤ, neg_ℤ, unsigned_abs, Result, IfOk, OnErr}
 use Rattle.mpc_exact.specs.Rational.{ℚ, frac}
 use Rattle.mpc_space.specs.Vector.{coordinate, listed}
 use Rattle.mpc_rows.specs.LinearSystem.{LinearSystem}
@@ -88,6 +88,12 @@ pub record AreAdded (old other new : WholeLists) : Type 0 where
   pub most_entry : other.most_entry ≤ new.most_entry
   pub most_side : other.most_side ≤ new.most_side
   pub most_scale : other.most_scale ≤ new.most_scale
+
+-- so many rows are there, whatever stands behind them
+pub record HasRows (l : WholeLists) (count : ℕ) : Type 0 where
+  pub width : l.width ≤ length l.scales.items
+  pub scales : count ≤ length l.scales.items - l.width
+  pub entries : count * l.width ≤ length l.a.items
 
 -- only the first so many rows are left
 pub record IsCut (old new : WholeLists) (count : ℕ) : Type 0 where

@@ -2,6 +2,7 @@
 #![tactic(auto)]
 
 mod divisors;
+mod frames;
 mod laws;
 mod numbers;
 mod variables;

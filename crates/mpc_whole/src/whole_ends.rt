@@ -7,7 +7,8 @@ ghost use Rattle.mpc_rows.specs.LinearSystem.{height};
 ghost use Rattle.mpc_rows.specs.Run.{Position, multiplier, turn, is_refuted, last_position};
 ghost use Rattle.mpc_whole.specs.Table.{seat_at, in_row, IsSeated};
 ghost use Rattle.mpc_whole.specs.RunEnd.{IsValues, IsMultipliers};
-ghost use Rattle.mpc_whole.specs.Whole.{whole_at, AreScales, IsWholeSystem, IsNarrow, IsForm, IsSmall, HasRoom, HasBasis, IsRowOf, AreValues, ArePairs};
+ghost use Rattle.mpc_whole.specs.Running.{IsRefuting};
+ghost use Rattle.mpc_whole.specs.Whole.{IsWholeSystem, IsNarrow, IsForm, IsSmall, HasRoom, HasBasis, IsRowOf, AreValues, ArePairs};
 
 use crate::numbers::{Standing, zero};
 use crate::variables::{Seat, column_of, is_basic};
@@ -65,20 +66,13 @@ fn multiplier(
     scales: &[u64],
     seats: &[Seat],
     x: &[i64],
-    n: usize,
     den: u64,
     l: usize,
     i: usize,
 ) -> Option<Frac>
-    requires scales { AreScales system.now scales.now }
-    requires seated { IsSeated (height system.now) system.now.width n seats.now }
-    requires row_size { length x.now ≡ system.now.width }
-    requires row_small { IsSmall (2 ^ 62) x.now }
-    requires some { 0 < den }
-    requires den_small { den ≤ 2 ^ 62 }
-    requires leaves { l < n }
+    requires row { IsRefuting system.now scales.now seats.now x.now den l }
     requires below { i < height system.now }
-    ensures { IfSome result (λ m. (p : Position) → HasBasis n seats.now p → IsRowOf n seats.now scales.now p den l x.now → m ≡ multiplier system.now p l i) }
+    ensures { IfSome result (λ m. (p : Position) → HasBasis (length seats.now) seats.now p → IsRowOf (length seats.now) seats.now scales.now p den l x.now → m ≡ multiplier system.now p l i) }
 {
     let y = system.unknowns() + i;
     if y == l {
@@ -90,8 +84,7 @@ fn multiplier(
     let c = column_of(seats, y);
     let up = product(negative(x[c]), signed(scales[y]));
     let down = product(signed(den), signed(scales[l]));
-    let m = quotient(up, down)?;
-    Some(m)
+    quotient(up, down)
 }
 
 /// The multipliers, where the row x of the variable l refutes.
@@ -101,22 +94,15 @@ fn multipliers(
     scales: &[u64],
     seats: &[Seat],
     x: &[i64],
-    n: usize,
     den: u64,
     l: usize,
 ) -> Option<()>
     requires room { length list.old ≡ height system.now }
-    requires scales { AreScales system.now scales.now }
-    requires seated { IsSeated (height system.now) system.now.width n seats.now }
-    requires row_size { length x.now ≡ system.now.width }
-    requires row_small { IsSmall (2 ^ 62) x.now }
-    requires some { 0 < den }
-    requires den_small { den ≤ 2 ^ 62 }
-    requires leaves { l < n }
-    ensures { IfSome result (λ _. (p : Position) → HasBasis n seats.now p → IsRowOf n seats.now scales.now p den l x.now → IsMultipliers system.now p l list.new) }
+    requires row { IsRefuting system.now scales.now seats.now x.now den l }
+    ensures { IfSome result (λ _. (p : Position) → HasBasis (length seats.now) seats.now p → IsRowOf (length seats.now) seats.now scales.now p den l x.now → IsMultipliers system.now p l list.new) }
 {
     for i in 0..system.height() {
-        let m = multiplier(system, scales, seats, x, n, den, l, i)?;
+        let m = multiplier(system, scales, seats, x, den, l, i)?;
         list[i] = m;
     }
     Some(())
@@ -140,8 +126,7 @@ pub fn last_values(
     requires are { AreValues _system.now (last_position _system.now) den c_1.now c_2.now }
     ensures { IfSome result (λ _. IsValues _system.now (last_position _system.now) values.new) }
 {
-    point(values, c_1, c_2, den)?;
-    Some(())
+    point(values, c_1, c_2, den)
 }
 
 /// The multipliers at the last position of a run, where the row of the side l refutes.
@@ -172,6 +157,5 @@ pub fn last_multipliers(
     ensures { IfSome result (λ _. IsMultipliers system.now (last_position system.now) l list.new) }
 {
     leaving_row(x, system, a, v, l);
-    multipliers(list, system, scales, seats, x, n, den, l)?;
-    Some(())
+    multipliers(list, system, scales, seats, x, den, l)
 }

@@ -143,8 +143,7 @@ pub fn limit(
     if entries > 1 << 62 {
         return None;
     }
-    let most = share(entries.max(1) * most_scale as u128)?;
-    Some(most)
+    share(entries.max(1) * most_scale as u128)
 }
 
 /// Writes 1 onto the diagonal.

@@ -1,6 +1,6 @@
 //! Systems whose rows are whole numbers over a scale each.
 
-ghost use Rattle.std.specs.Prelude.{◌≡◌, ℕ, ℤ, pos, ◌+◌, ◌-◌, ◌*◌, ◌<◌, ◌≤◌, ◌^◌, Bool, true, cond, List, [], ◌∷◌, ◌++◌, All, length, take, map, replicate, get_or, neg_ℤ, unsigned_abs, IsTrue, IfSome, IfOk, OnOk, OnErr};
+ghost use Rattle.std.specs.Prelude.{◌≡◌, ℕ, ℤ, pos, ◌+◌, ◌*◌, ◌<◌, ◌≤◌, ◌^◌, Bool, true, cond, List, [], ◌∷◌, ◌++◌, All, length, take, map, replicate, get_or, neg_ℤ, unsigned_abs, IsTrue, IfSome, IfOk, OnOk, OnErr};
 ghost use Rattle.mpc_exact.specs.Rational.{int, frac};
 ghost use Rattle.mpc_space.specs.Vector.{coordinate};
 ghost use Rattle.mpc_rows.specs.LinearSystem.{HasWidth, height, row_at};
@@ -9,7 +9,7 @@ ghost use Rattle.mpc_rows.specs.SetRuns.{turned};
 ghost use Rattle.mpc_rows.specs.declared.systems.Row.{Row};
 ghost use Rattle.mpc_whole.specs.declared.whole_systems.WholeLists.{WholeLists};
 ghost use Rattle.mpc_whole.specs.Whole.{whole_at, scale_at, IsSmall, IsWholeSystem};
-ghost use Rattle.mpc_whole.specs.WholeSystems.{kept_row, system_of, AreLists, AreBehind, IsKept, IsAdded, AreAdded, IsCut, IsSettled, IsCopy, IsEmpty, negated_where};
+ghost use Rattle.mpc_whole.specs.WholeSystems.{kept_row, system_of, AreLists, AreBehind, IsKept, IsAdded, AreAdded, HasRows, IsCut, IsSettled, IsCopy, IsEmpty, negated_where};
 
 use crate::whole_numbers::{narrow, negative};
 use crate::whole_rows::{greatest, row_scale, scaled};
@@ -261,9 +261,7 @@ fn add_lists(lists: &mut WholeLists, other: &WholeLists) -> Result<(), AllocErro
 
 /// Keeps the first so many rows.
 fn cut(lists: &mut WholeLists, count: usize)
-    requires width { lists.old.width ≤ length lists.old.scales.items }
-    requires count { count ≤ length lists.old.scales.items - lists.old.width }
-    requires entries { count * lists.old.width ≤ length lists.old.a.items }
+    requires { HasRows lists.old count }
     ensures { IsCut lists.old lists.new count }
 {
     lists.a.truncate(count * lists.width);
@@ -278,9 +276,7 @@ fn settle(
     height: usize,
     added: Result<bool, AllocError>,
 ) -> Result<bool, AllocError>
-    requires width { lists.old.width ≤ length lists.old.scales.items }
-    requires count { height ≤ length lists.old.scales.items - lists.old.width }
-    requires entries { height * lists.old.width ≤ length lists.old.a.items }
+    requires { HasRows lists.old height }
     ensures { (first : WholeLists) (row : Row) → AreLists first → length row.a ≡ first.width → height ≡ length first.b.items
         → IsKept first lists.old → IfOk added (λ done. IsTrue done → IsAdded first lists.old row) → IsSettled first lists.new row result }
 {

@@ -10,9 +10,12 @@ ghost use Rattle.mpc_whole.specs.declared.variables.Seat.TheVariants.{Column};
 ghost use Rattle.mpc_whole.specs.Table.{seat_at, in_row, IsSeated, AreNonbasic};
 ghost use Rattle.mpc_whole.specs.Sums.{are_short, are_of_four};
 ghost use Rattle.mpc_whole.specs.Underway.{StayBefore};
-ghost use Rattle.mpc_whole.specs.Whole.{whole_at, whole_cell, whole_total, AreScales, IsSmall, HasRoom, HasBounds, HasSides, HasSideValues, HasBasis, IsRowOf, IsSideRow, side_cell};
+ghost use Rattle.mpc_whole.specs.Whole.{whole_at, whole_cell, whole_total, IsSmall, HasSides, HasSideValues, HasBasis, IsRowOf, IsSideRow, side_cell};
+ghost use Rattle.mpc_whole.specs.Running.{IsFrame, AreParts, AreShort};
 
+use crate::frames::Frame;
 use crate::variables::{Seat, is_basic};
+use crate::whole::Place;
 use crate::whole_numbers::{Sums, product, row_times, row_times_column, signed};
 use crate::whole_systems::WholeSystem;
 use crate::whole_values::step_of;
@@ -21,9 +24,7 @@ use crate::whole_values::step_of;
 #[inline(always)]
 fn is_out(
     system: &WholeSystem,
-    scales: &[u64],
-    a: &[i64],
-    b: &[i64],
+    frame: &Frame,
     c_1: &[i64],
     c_2: &[i64],
     den: u64,
@@ -31,31 +32,24 @@ fn is_out(
     i: usize,
 ) -> bool
     requires side { i < height system.now }
-    requires scales { AreScales system.now scales.now }
-    requires entries { length a.now ≡ height system.now * system.now.width }
-    requires sides { length b.now ≡ height system.now }
-    requires first_size { length c_1.now ≡ system.now.width }
-    requires second_size { length c_2.now ≡ system.now.width }
-    requires room { HasRoom system.now.width (2 ^ 62) a.now }
-    requires first_small { IsSmall (2 ^ 62) c_1.now }
-    requires second_small { IsSmall (2 ^ 62) c_2.now }
-    requires first_fits { are_short sums ≡ true → unsigned_abs (whole_total system.now.width (λ j. whole_cell system.now.width a.now i j *ℤ whole_at c_1.now j)) ≤ 2 ^ 62 }
-    requires second_fits { are_short sums ≡ true → unsigned_abs (whole_total system.now.width (λ j. whole_cell system.now.width a.now i j *ℤ whole_at c_2.now j)) ≤ 2 ^ 62 }
+    requires frame { IsFrame system.now frame.now.n frame.now.scales.now frame.now.a.now frame.now.b.now frame.now.most }
+    requires parts { AreParts system.now.width c_1.now c_2.now }
+    requires short { are_short sums ≡ true → AreShort system.now.width frame.now.a.now c_1.now c_2.now }
     requires four { are_of_four sums ≡ true → system.now.width ≡ 4 }
     requires den_small { den ≤ 2 ^ 62 }
-    ensures { (p : Position) → 0 < den → HasSideValues system.now scales.now a.now p den c_1.now c_2.now → HasSides system.now scales.now b.now
+    ensures { (p : Position) → 0 < den → HasSideValues system.now frame.now.scales.now frame.now.a.now p den c_1.now c_2.now → HasSides system.now frame.now.scales.now frame.now.b.now
         → result ≡ is_below (bound system.now (system.now.width + i)) (value system.now p (system.now.width + i)) }
 {
-    let first = row_times(a, i, c_1, sums);
-    let limit = product(b[i], signed(den));
+    let first = row_times(frame.a, i, c_1, sums);
+    let limit = product(frame.b[i], signed(den));
     if limit < first {
         return true;
     }
     if first < limit {
         return false;
     }
-    let second = row_times(a, i, c_2, sums);
-    let step = step_of(system, scales, i);
+    let second = row_times(frame.a, i, c_2, sums);
+    let step = step_of(system, frame.scales, i);
     let next = product(step, signed(den));
     if next < second {
         return true;
@@ -87,40 +81,29 @@ fn are_small(c_1: &[i64], c_2: &[i64], most: u64) -> bool
 #[inline(always)]
 fn first_out(
     system: &WholeSystem,
-    scales: &[u64],
+    frame: &Frame,
     seats: &[Seat],
-    a: &[i64],
-    b: &[i64],
     c_1: &[i64],
     c_2: &[i64],
-    den: u64,
-    n: usize,
-    first: usize,
+    place: Place,
     sums: Sums,
 ) -> Option<usize>
-    requires side { system.now.width ≤ first }
-    requires scales { AreScales system.now scales.now }
-    requires seated { IsSeated (height system.now) system.now.width n seats.now }
-    requires entries { length a.now ≡ height system.now * system.now.width }
-    requires sides { length b.now ≡ height system.now }
-    requires first_size { length c_1.now ≡ system.now.width }
-    requires second_size { length c_2.now ≡ system.now.width }
-    requires room { HasRoom system.now.width (2 ^ 62) a.now }
-    requires first_small { IsSmall (2 ^ 62) c_1.now }
-    requires second_small { IsSmall (2 ^ 62) c_2.now }
-    requires den_small { den ≤ 2 ^ 62 }
-    requires first_fits { are_short sums ≡ true → (i : ℕ) → unsigned_abs (whole_total system.now.width (λ j. whole_cell system.now.width a.now i j *ℤ whole_at c_1.now j)) ≤ 2 ^ 62 }
-    requires second_fits { are_short sums ≡ true → (i : ℕ) → unsigned_abs (whole_total system.now.width (λ j. whole_cell system.now.width a.now i j *ℤ whole_at c_2.now j)) ≤ 2 ^ 62 }
+    requires side { system.now.width ≤ place.first }
+    requires frame { IsFrame system.now frame.now.n frame.now.scales.now frame.now.a.now frame.now.b.now frame.now.most }
+    requires seated { IsSeated (height system.now) system.now.width frame.now.n seats.now }
+    requires parts { AreParts system.now.width c_1.now c_2.now }
+    requires short { are_short sums ≡ true → AreShort system.now.width frame.now.a.now c_1.now c_2.now }
     requires four { are_of_four sums ≡ true → system.now.width ≡ 4 }
-    ensures { (p : Position) → 0 < den → HasBasis n seats.now p → HasSideValues system.now scales.now a.now p den c_1.now c_2.now → HasSides system.now scales.now b.now
-        → StayBefore system.now p first → result ≡ least (may_leave system.now p) n }
+    requires den_small { place.den ≤ 2 ^ 62 }
+    ensures { (p : Position) → 0 < place.den → HasBasis frame.now.n seats.now p → HasSideValues system.now frame.now.scales.now frame.now.a.now p place.den c_1.now c_2.now → HasSides system.now frame.now.scales.now frame.now.b.now
+        → StayBefore system.now p place.first → result ≡ least (may_leave system.now p) frame.now.n }
 {
     let width = system.unknowns();
-    for x in first..n {
+    for x in place.first..frame.n {
         if !is_basic(seats, x) {
             continue;
         }
-        if is_out(system, scales, a, b, c_1, c_2, den, sums, x - width) {
+        if is_out(system, frame, c_1, c_2, place.den, sums, x - width) {
             return Some(x);
         }
     }
@@ -132,75 +115,27 @@ fn first_out(
 #[inline(never)]
 pub(crate) fn leaving(
     system: &WholeSystem,
-    scales: &[u64],
+    frame: &Frame,
     seats: &[Seat],
-    a: &[i64],
-    b: &[i64],
     c_1: &[i64],
     c_2: &[i64],
-    den: u64,
-    n: usize,
-    first: usize,
-    most: u64,
+    place: Place,
 ) -> Option<usize>
-    requires side { system.now.width ≤ first }
-    requires scales { AreScales system.now scales.now }
-    requires seated { IsSeated (height system.now) system.now.width n seats.now }
-    requires entries { length a.now ≡ height system.now * system.now.width }
-    requires sides { length b.now ≡ height system.now }
-    requires first_size { length c_1.now ≡ system.now.width }
-    requires second_size { length c_2.now ≡ system.now.width }
-    requires room { HasRoom system.now.width (2 ^ 62) a.now }
-    requires first_small { IsSmall (2 ^ 62) c_1.now }
-    requires second_small { IsSmall (2 ^ 62) c_2.now }
-    requires den_small { den ≤ 2 ^ 62 }
-    requires bounds { HasBounds system.now scales.now a.now b.now most }
-    ensures { (p : Position) → 0 < den → HasBasis n seats.now p → HasSideValues system.now scales.now a.now p den c_1.now c_2.now → HasSides system.now scales.now b.now
-        → StayBefore system.now p first → result ≡ least (may_leave system.now p) n }
+    requires side { system.now.width ≤ place.first }
+    requires frame { IsFrame system.now frame.now.n frame.now.scales.now frame.now.a.now frame.now.b.now frame.now.most }
+    requires seated { IsSeated (height system.now) system.now.width frame.now.n seats.now }
+    requires parts { AreParts system.now.width c_1.now c_2.now }
+    requires den_small { place.den ≤ 2 ^ 62 }
+    ensures { (p : Position) → 0 < place.den → HasBasis frame.now.n seats.now p → HasSideValues system.now frame.now.scales.now frame.now.a.now p place.den c_1.now c_2.now → HasSides system.now frame.now.scales.now frame.now.b.now
+        → StayBefore system.now p place.first → result ≡ least (may_leave system.now p) frame.now.n }
 {
-    if !are_small(c_1, c_2, most) {
-        return first_out(
-            system,
-            scales,
-            seats,
-            a,
-            b,
-            c_1,
-            c_2,
-            den,
-            n,
-            first,
-            Sums::Wide,
-        );
+    if !are_small(c_1, c_2, frame.most) {
+        return first_out(system, frame, seats, c_1, c_2, place, Sums::Wide);
     }
     if system.unknowns() == 4 {
-        return first_out(
-            system,
-            scales,
-            seats,
-            a,
-            b,
-            c_1,
-            c_2,
-            den,
-            n,
-            first,
-            Sums::Four,
-        );
+        return first_out(system, frame, seats, c_1, c_2, place, Sums::Four);
     }
-    first_out(
-        system,
-        scales,
-        seats,
-        a,
-        b,
-        c_1,
-        c_2,
-        den,
-        n,
-        first,
-        Sums::Short,
-    )
+    first_out(system, frame, seats, c_1, c_2, place, Sums::Short)
 }
 
 /// The row of side i.

@@ -7,8 +7,10 @@ ghost use Rattle.mpc_rows.specs.Run.{Position, IsTableau, bound};
 ghost use Rattle.mpc_whole.specs.Table.{IsSeated};
 ghost use Rattle.mpc_whole.specs.Whole.{whole_at, whole_cell, scale_at, AreScales, IsSmall, HasRoom, HasSides, IsForm, AreValues};
 ghost use Rattle.mpc_whole.specs.Moved.{excess, IsMoved, AreMoved, AreFollowed};
+ghost use Rattle.mpc_whole.specs.Running.{IsFrame, AreParts, IsPivot};
 
 use crate::divisors::Divisor;
+use crate::frames::Frame;
 use crate::variables::{Seat, column_of, is_basic};
 use crate::whole_numbers::{
     added, changed, minus, narrow, negative, product, signed, sum, wide_row_times,
@@ -71,39 +73,45 @@ pub(crate) fn step_of(system: &WholeSystem, scales: &[u64], i: usize) -> i64
     0
 }
 
+/// A pivot: side i has left, and the variable of column e entered. The denominator before it is the divisor, and the
+/// one after it the size.
+#[derive(Clone, Copy, Drop)]
+pub(crate) struct Pivot {
+    pub i: usize,
+    pub e: usize,
+    pub by: Divisor,
+    pub size: u64,
+}
+
 /// The values of the unknowns, where they stay small.
-pub(crate) fn stand(
+fn stand(
     c_1: &mut [i64],
     c_2: &mut [i64],
     system: &WholeSystem,
-    scales: &[u64],
+    frame: &Frame,
     seats: &[Seat],
-    b: &[i64],
     v: &[i64],
-    n: usize,
 ) -> Option<()>
-    requires scales { AreScales system.now scales.now }
-    requires seated { IsSeated (height system.now) system.now.width n seats.now }
+    requires frame { IsFrame system.now frame.now.n frame.now.scales.now frame.now.a.now frame.now.b.now frame.now.most }
+    requires seated { IsSeated (height system.now) system.now.width frame.now.n seats.now }
     requires square { length v.now ≡ system.now.width * system.now.width }
-    requires sides { length b.now ≡ height system.now }
     requires first_room { length c_1.old ≡ system.now.width }
     requires second_room { length c_2.old ≡ system.now.width }
-    ensures values { IfSome result (λ _. (p : Position) (d : ℕ) → IsTableau p → IsForm system.now n seats.now scales.now d v.now p → HasSides system.now scales.now b.now
+    ensures values { IfSome result (λ _. (p : Position) (d : ℕ) → IsTableau p → IsForm system.now frame.now.n seats.now frame.now.scales.now d v.now p → HasSides system.now frame.now.scales.now frame.now.b.now
         → AreValues system.now p d c_1.new c_2.new) }
-    ensures first_small { IfSome result (λ _. IsSmall (2 ^ 62) c_1.new) }
-    ensures second_small { IfSome result (λ _. IsSmall (2 ^ 62) c_2.new) }
+    ensures parts { IfSome result (λ _. AreParts system.now.width c_1.new c_2.new) }
 {
     let width = system.unknowns();
     clear(c_1);
     clear(c_2);
-    for y in width..n {
+    for y in width..frame.n {
         if is_basic(seats, y) {
             continue;
         }
         let c = column_of(seats, y);
         let i = y - width;
-        let step = step_of(system, scales, i);
-        add_column(c_1, v, width, c, b[i])?;
+        let step = step_of(system, frame.scales, i);
+        add_column(c_1, v, width, c, frame.b[i])?;
         add_column(c_2, v, width, c, step)?;
     }
     Some(())
@@ -128,118 +136,71 @@ fn excess(a: &[i64], i: usize, c: &[i64], limit: i64, den: u64) -> Option<i64>
     }
 }
 
-/// Moves one part of the values with a pivot where side i leaves, with the bound that is given in that part,
-/// and the column e enters, if all numbers are whole and small. The numbers v are those after the pivot.
+/// Moves one part of the values with a pivot, with the bound of the side that is given in that part, if all numbers
+/// are whole and small. The numbers v are those after the pivot.
 /// Where all of them and the bound are 0 they stay so, as the second parts do while no strict row has left.
-fn move_part(
-    c: &mut [i64],
-    a: &[i64],
-    i: usize,
-    limit: i64,
-    v: &[i64],
-    e: usize,
-    by: Divisor,
-    size: u64,
-) -> Option<()>
-    requires inside { i * length c.old + length c.old ≤ length a.now }
-    requires room { HasRoom (length c.old) (2 ^ 62) a.now }
-    requires square { length v.now ≡ length c.old * length c.old }
-    requires column { e < length c.old }
-    requires den_some { 0 < by.den }
-    requires den_small { by.den ≤ 2 ^ 62 }
-    requires size_small { size ≤ 2 ^ 62 }
-    requires numbers_small { IsSmall (2 ^ 62) v.now }
+fn move_part(c: &mut [i64], a: &[i64], limit: i64, v: &[i64], pivot: Pivot) -> Option<()>
+    requires pivot { IsPivot (length c.old) a.now v.now pivot.i pivot.e pivot.by.den pivot.size }
     requires small { IsSmall (2 ^ 62) c.old }
-    ensures moved { IfSome result (λ _. IsMoved (length c.old) a.now i limit v.now e by.den size c.old c.new) }
+    ensures moved { IfSome result (λ _. IsMoved (length c.old) a.now pivot.i limit v.now pivot.e pivot.by.den pivot.size c.old c.new) }
     ensures small { IfSome result (λ _. IsSmall (2 ^ 62) c.new) }
 {
     if limit == 0 && are_zero(c) {
         return Some(());
     }
-    let over = excess(a, i, c, limit, by.den)?;
+    let over = excess(a, pivot.i, c, limit, pivot.by.den)?;
     let width = c.len();
     for j in 0..width {
-        let new = changed(c[j], v[j * width + e], over, size, by, 1 << 62)?;
+        let factor = v[j * width + pivot.e];
+        let new = changed(c[j], factor, over, pivot.size, pivot.by, 1 << 62)?;
         c[j] = new;
     }
     Some(())
 }
 
-/// Moves the values with a pivot where side i leaves and the column e enters, if all numbers are whole and
-/// small. The numbers v are those after the pivot.
+/// Moves the values with a pivot, with the bound of the side, if all numbers are whole and small. The numbers v are
+/// those after the pivot.
 fn move_values(
     c_1: &mut [i64],
     c_2: &mut [i64],
     a: &[i64],
-    i: usize,
     limit: i64,
     step: i64,
     v: &[i64],
-    e: usize,
-    by: Divisor,
-    size: u64,
+    pivot: Pivot,
 ) -> Option<()>
-    requires inside { i * length c_1.old + length c_1.old ≤ length a.now }
-    requires same { length c_2.old ≡ length c_1.old }
-    requires room { HasRoom (length c_1.old) (2 ^ 62) a.now }
-    requires square { length v.now ≡ length c_1.old * length c_1.old }
-    requires column { e < length c_1.old }
-    requires den_some { 0 < by.den }
-    requires den_small { by.den ≤ 2 ^ 62 }
-    requires size_small { size ≤ 2 ^ 62 }
-    requires numbers_small { IsSmall (2 ^ 62) v.now }
-    requires first_small { IsSmall (2 ^ 62) c_1.old }
-    requires second_small { IsSmall (2 ^ 62) c_2.old }
-    ensures moved { IfSome result (λ _. AreMoved (length c_1.old) a.now i limit step v.now e by.den size c_1.old c_2.old c_1.new c_2.new) }
-    ensures first_small { IfSome result (λ _. IsSmall (2 ^ 62) c_1.new) }
-    ensures second_small { IfSome result (λ _. IsSmall (2 ^ 62) c_2.new) }
+    requires pivot { IsPivot (length c_1.old) a.now v.now pivot.i pivot.e pivot.by.den pivot.size }
+    requires parts { AreParts (length c_1.old) c_1.old c_2.old }
+    ensures moved { IfSome result (λ _. AreMoved (length c_1.old) a.now pivot.i limit step v.now pivot.e pivot.by.den pivot.size c_1.old c_2.old c_1.new c_2.new) }
+    ensures parts { IfSome result (λ _. AreParts (length c_1.old) c_1.new c_2.new) }
 {
-    move_part(c_1, a, i, limit, v, e, by, size)?;
-    move_part(c_2, a, i, step, v, e, by, size)?;
-    Some(())
+    move_part(c_1, a, limit, v, pivot)?;
+    move_part(c_2, a, step, v, pivot)
 }
 
-/// The values of the unknowns after a pivot where side i has left and the column e entered: moved from those
-/// before it, or formed anew where a number isn't whole and small.
+/// The values of the unknowns after a pivot: moved from those before it, or formed anew where a number isn't whole and
+/// small.
 pub(crate) fn follow(
     c_1: &mut [i64],
     c_2: &mut [i64],
     system: &WholeSystem,
-    scales: &[u64],
+    frame: &Frame,
     seats: &[Seat],
-    a: &[i64],
-    b: &[i64],
     v: &[i64],
-    n: usize,
-    i: usize,
-    e: usize,
-    by: Divisor,
-    size: u64,
+    pivot: Pivot,
 ) -> Option<()>
-    requires scales { AreScales system.now scales.now }
-    requires seated { IsSeated (height system.now) system.now.width n seats.now }
-    requires entries { length a.now ≡ height system.now * system.now.width }
-    requires sides { length b.now ≡ height system.now }
-    requires room { HasRoom system.now.width (2 ^ 62) a.now }
-    requires square { length v.now ≡ system.now.width * system.now.width }
-    requires side { i < height system.now }
-    requires column { e < system.now.width }
-    requires den_some { 0 < by.den }
-    requires den_small { by.den ≤ 2 ^ 62 }
-    requires size_small { size ≤ 2 ^ 62 }
-    requires numbers_small { IsSmall (2 ^ 62) v.now }
-    requires first_room { length c_1.old ≡ system.now.width }
-    requires second_room { length c_2.old ≡ system.now.width }
-    requires first_old_small { IsSmall (2 ^ 62) c_1.old }
-    requires second_old_small { IsSmall (2 ^ 62) c_2.old }
-    ensures values { IfSome result (λ _. AreFollowed system.now n seats.now scales.now a.now b.now v.now i e by.den size c_1.old c_2.old c_1.new c_2.new) }
-    ensures first_small { IfSome result (λ _. IsSmall (2 ^ 62) c_1.new) }
-    ensures second_small { IfSome result (λ _. IsSmall (2 ^ 62) c_2.new) }
+    requires frame { IsFrame system.now frame.now.n frame.now.scales.now frame.now.a.now frame.now.b.now frame.now.most }
+    requires seated { IsSeated (height system.now) system.now.width frame.now.n seats.now }
+    requires side { pivot.i < height system.now }
+    requires pivot { IsPivot system.now.width frame.now.a.now v.now pivot.i pivot.e pivot.by.den pivot.size }
+    requires parts { AreParts system.now.width c_1.old c_2.old }
+    ensures values { IfSome result (λ _. AreFollowed system.now frame.now.n seats.now frame.now.scales.now frame.now.a.now frame.now.b.now v.now pivot.i pivot.e pivot.by.den pivot.size c_1.old c_2.old c_1.new c_2.new) }
+    ensures parts { IfSome result (λ _. AreParts system.now.width c_1.new c_2.new) }
 {
-    let step = step_of(system, scales, i);
-    if let Some(()) = move_values(c_1, c_2, a, i, b[i], step, v, e, by, size) {
+    let step = step_of(system, frame.scales, pivot.i);
+    let limit = frame.b[pivot.i];
+    if let Some(()) = move_values(c_1, c_2, frame.a, limit, step, v, pivot) {
         return Some(());
     }
-    stand(c_1, c_2, system, scales, seats, b, v, n)?;
-    Some(())
+    stand(c_1, c_2, system, frame, seats, v)
 }

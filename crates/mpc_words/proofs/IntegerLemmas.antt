@@ -101,12 +101,6 @@ plain_spelled word n z h e =
     let at : SpellsInteger word (pos n) = record { spelled = h.spelled ∙ printed_small n h.below; fits = h.below } in
     subst (SpellsInteger word) (sym e) at
 
-pub no_empty_at : (word : List ℕ) → eqb (length word) 0 ≡ true → (z : ℤ) → ¬ SpellsInteger word z
-no_empty_at word h z s =
-    let some = subst (λ ds. 0 < length ds) (sym s.spelled) (signed_some z (omega (arith, s.fits))) in
-    let none = eqb-true (length word) 0 h in
-    omega arith
-
 -- the numbers as the code has them
 read_back : (z : ℤ) → unsigned_abs z < 2 ^ 127 → to_z w128 (of_z w128 z) ≡ z
 read_back z h = to_z-of_z w128 z (fits_signed_from_abs w128 z h)

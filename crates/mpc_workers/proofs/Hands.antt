@@ -1,7 +1,9 @@
 -- What a claim and its end do to a post.
-use Rattle.std.proofs.Common.{◌≡◌, ℕ, [], ◌∷◌, ◌++◌, length, false, true≢false, Result, Ok, Err, All, refl, sym, ap, ◌∙◌, subst}
+use Rattle.std.proofs.Common.{◌≡◌, ◌≤◌, ℕ, [], ◌∷◌, ◌++◌, length, false, true≢false, Result, Ok, Err, All, refl, sym, ap, ◌∙◌, subst}
 use Rattle.std.proofs.lemmas.List.Elements.{All-push, All-nil}
 use Rattle.mpc_frac.specs.declared.NoMemory.{NoMemory}
+use Rattle.mpc_space.specs.Matrix.{height}
+use Rattle.mpc_sets.specs.RowSet.{IsSetOfRows}
 use Rattle.mpc_rows.specs.declared.programs.Qp.{Qp}
 use Rattle.mpc_claim.specs.declared.events.Event.{Event}
 use Rattle.mpc_claim.specs.declared.events.EventKind.{EventKind}
@@ -11,6 +13,7 @@ use Rattle.mpc_claim.specs.declared.tickets.Claimed.{Claimed}
 use Rattle.mpc_claim.specs.declared.tickets.Claimed.TheVariants.{Job, Idle, Finished, Stopped}
 use Rattle.mpc_claim.specs.Board.{event}
 use Rattle.mpc_claim.specs.History.{is_claim, is_drop}
+use Rattle.mpc_claim.specs.HistoryLaws.{CandidateLaws}
 use Rattle.mpc_turn.specs.Views.{Call}
 use Rattle.mpc_turn.specs.Known.{Known, TurnId, ClaimedAs, EndedAs, InHand, called}
 use Rattle.mpc_turn.specs.HandLaws.{ClaimFills, ClaimIsInHand, EndEmpties}
@@ -26,6 +29,15 @@ module _ (worker : ℕ) (turn : TurnId) (qp : Qp) (t : Ticket) (post : Post) (b 
 
   pub its_program : post.pass.program ≡ qp
   its_program = ap (λ (k : Known). k.program) b.answered.claimed.2 ∙ b.answered.pass.program
+
+  pub its_turn : post.pass.turn ≡ turn
+  its_turn = ap (λ (k : Known). k.turn) b.answered.claimed.2 ∙ b.answered.pass.turn_is
+
+  pub its_rows : CandidateLaws → IsSetOfRows (height qp.g) t.set
+  its_rows laws = subst (λ (q : Qp). IsSetOfRows (height q.g) t.set) b.answered.pass.program (laws.rows before.program t.set b.answered.claimed.4.candidate)
+
+  pub its_few : CandidateLaws → length t.set ≤ height qp.h
+  its_few laws = subst (λ (q : Qp). length t.set ≤ height q.h) b.answered.pass.program (laws.few before.program t.set b.answered.claimed.4.candidate)
 
   pub its_hand : ClaimIsInHand → InHand t post.pass
   its_hand in_hand = in_hand before post.pass t b.answered.pass.empty b.answered.claimed
@@ -61,19 +73,9 @@ module _ (worker : ℕ) (turn : TurnId) (qp : Qp) (t : Ticket) (post : Post) (b 
     ended_kept fine f = subst (λ (k : Known). GivesNoneUp k.calls) (sym last_is)
         (All-push (λ (x : Call). is_drop x.1.kind ≡ false) (before.calls ++ (length b.answered.claimed.0, claimed) ∷ []) (length d.0, ended) (All-push (λ (x : Call). is_drop x.1.kind ≡ false) before.calls (length b.answered.claimed.0, claimed) (b.answered.kept f) refl) fine)
 
--- ---- whose post it is
-claimed_worker : (a b : Known) (answer : Result Claimed NoMemory) → ClaimedAs a answer b → b.worker ≡ a.worker
-claimed_worker a b (Ok (Job t)) c = ap (λ (k : Known). k.worker) c.2
-claimed_worker a b (Ok Idle) c = ap (λ (k : Known). k.worker) c.1
-claimed_worker a b (Ok Finished) c = ap (λ (k : Known). k.worker) c.1
-claimed_worker a b (Ok Stopped) c = ap (λ (k : Known). k.worker) c.1
-claimed_worker a b (Err e) c = ap (λ (k : Known). k.worker) c.1
-
-answered_worker : (worker : ℕ) (turn : TurnId) (qp : Qp) (answer : Result Claimed NoMemory) (post : Post) → IsAnswered worker turn qp answer post → post.pass.worker ≡ worker
-answered_worker worker turn qp answer post a = claimed_worker a.before post.pass answer a.claimed ∙ a.pass.worker_is
-
-pub answered_own : (worker : ℕ) (turn : TurnId) (qp : Qp) (answer : Result Claimed NoMemory) (post : Post) → IsAnswered worker turn qp answer post → IsAnswered post.pass.worker turn qp answer post
-answered_own worker turn qp answer post a = subst (λ (w : ℕ). IsAnswered w turn qp answer post) (sym (answered_worker worker turn qp answer post a)) a
+    -- and after a claim behind it
+    pub then_answered : is_drop kind ≡ false → (answer : Result Claimed NoMemory) (next : Known) → ClaimedAs last answer next → IsAnswered worker turn qp answer (record post { pass = next })
+    then_answered fine answer next claimed = record { before = last; pass = ended_pass; kept = ended_kept fine; claimed = claimed }
 
 -- ---- a claim that gave nothing
 pub same_calls : (a b : Known) (answer : Result Claimed NoMemory) → ClaimedAs a answer b → GivesNoJob answer → b.calls ≡ a.calls

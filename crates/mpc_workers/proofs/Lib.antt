@@ -2,6 +2,7 @@ pub mod Holding
 pub mod Turns
 pub mod Hands
 pub mod Programs
+pub mod Parts
 pub mod Rounds
 pub mod Splits
 pub mod Joins

@@ -1,5 +1,5 @@
 -- What a worker has at each program: a post with a pass of the program's turn.
-use Rattle.std.specs.Prelude.{◌≡◌, ◌≢◌, ℕ, ◌+◌, ◌-◌, ◌<◌, ◌⊎◌, List, [], length, true, false, Result, Ok, Err, All, IfSome, nat_lt, if◌then◌else◌, slice_index_or}
+use Rattle.std.specs.Prelude.{◌≡◌, ◌≢◌, ℕ, ◌+◌, ◌-◌, ◌<◌, ◌⊎◌, List, [], ◌∷◌, ◌++◌, length, true, false, Result, Ok, Err, All, IfSome, nat_lt, if◌then◌else◌, slice_index_or}
 use Rattle.mpc_frac.specs.declared.NoMemory.{NoMemory}
 use Rattle.mpc_rows.specs.declared.programs.Qp.{Qp}
 use Rattle.mpc_claim.specs.declared.events.Event.{Event}
@@ -9,6 +9,7 @@ use Rattle.mpc_claim.specs.declared.tickets.Ticket.{Ticket}
 use Rattle.mpc_claim.specs.History.{has_drop, IsFinished, IsIdle, EndsWide}
 use Rattle.mpc_turn.specs.Views.{Call, hand_of}
 use Rattle.mpc_turn.specs.Known.{Known, TurnId, ClaimedAs}
+use Rattle.mpc_workers.specs.declared.seats.Opened.{Opened}
 use Rattle.mpc_workers.specs.declared.seats.Post.{Post}
 use Rattle.mpc_workers.specs.declared.working.Worker.{Worker}
 use Rattle.mpc_workers.specs.Calls.{GivesNoneUp, TakesTurns}
@@ -75,6 +76,14 @@ post_with pass = record { pass = pass; gave_up = false; saw_end = false }
 
 abbrev pub IsOpening : ℕ → TurnId → Qp → Post → Type 0
 IsOpening lent turn qp post = post ≡ post_with (opening turn qp lent)
+
+-- one turn more, over a new registry of this program, and its first pass
+pub record OpensOne (qp : Qp) (old new : Opened) : Type 0 where
+  pub turn : TurnId
+  pub first : Post
+  pub turns : new.turns.items ≡ old.turns.items ++ turn ∷ []
+  pub firsts : new.firsts.items ≡ old.firsts.items ++ first ∷ []
+  pub opening_is : IsOpening 0 turn qp first
 
 -- ---- from a worker's last program on and round
 -- the number that comes so many places after this one, of so many and round

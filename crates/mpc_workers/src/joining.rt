@@ -1,7 +1,8 @@
 //! Passes are taken back, and turns are closed.
 
-ghost use Rattle.std.specs.Prelude.{◌≡◌, ◌-◌, ◌<◌, vec_len, IfOk, All};
+ghost use Rattle.std.specs.Prelude.{◌≡◌, ◌-◌, ◌<◌, ◌∷◌, vec_len, IfOk, OnOk, All};
 ghost use Rattle.std.specs.List.{AllZip};
+ghost use Rattle.mpc_claim.specs.Board.{Board};
 ghost use Rattle.mpc_workers.specs.Posts.{AtEach, IsOpening, IsPost};
 ghost use Rattle.mpc_workers.specs.Joined.{IsJoining, IsLeft};
 ghost use Rattle.mpc_workers.specs.Seats.{AreNumbered, IsDone, IsSeat, IsWorker};
@@ -71,9 +72,9 @@ pub(crate) fn join_all(
 }
 
 /// The last claim, which finds the end that a worker saw.
-fn settle(mut registry: Registry, _qp: &Qp, _workers: u32) -> Result<Registry, NoMemory>
-    requires { IsLeft _qp.now _workers registry }
-    ensures { IfOk result (IsDone _qp.now _workers) }
+fn settle(registry: &mut Registry, _qp: &Qp, _workers: u32) -> Result<(), NoMemory>
+    requires { IsLeft _qp.now _workers registry.old }
+    ensures { OnOk result (IsDone _qp.now _workers registry.new) }
 {
     claim_laws();
     match registry.claim(1)? {
@@ -84,11 +85,11 @@ fn settle(mut registry: Registry, _qp: &Qp, _workers: u32) -> Result<Registry, N
         Claimed::Idle => unreachable!(),
         Claimed::Finished => {
             let _history = registry.history();
-            Ok(registry)
+            Ok(())
         }
         Claimed::Stopped => {
             let _history = registry.history();
-            Ok(registry)
+            Ok(())
         }
     }
 }
@@ -109,7 +110,27 @@ fn close_one(turn: Turn, first: Post, qp: &Qp, workers: u32) -> Result<Registry,
     if gave_up || !saw_end {
         return Err(NoMemory);
     }
-    settle(turn.close(pass), qp, workers)
+    let mut registry = turn.close(pass);
+    settle(&mut registry, qp, workers)?;
+    Ok(registry)
+}
+
+/// Puts the registry of one program before those of the later ones.
+fn close_into(
+    registries: &mut Vec<Registry>,
+    turn: Turn,
+    first: Post,
+    qp: &Qp,
+    workers: u32,
+) -> Result<(), NoMemory>
+    requires { IsJoining workers 0 turn qp.now first }
+    ensures { OnOk result ((r : Board) × (registries.new.items ≡ r ∷ registries.old.items) × IsDone qp.now workers r) }
+{
+    let registry = close_one(turn, first, qp, workers)?;
+    let Ok(()) = registries.insert(0, registry) else {
+        return Err(NoMemory);
+    };
+    Ok(())
 }
 
 /// The registries, once all passes are back, in the order of the programs.
@@ -129,10 +150,7 @@ pub(crate) fn close_all(
         let Some(first) = firsts.pop() else {
             unreachable!()
         };
-        let registry = close_one(turn, first, &programs[k], workers)?;
-        let Ok(()) = registries.insert(0, registry) else {
-            return Err(NoMemory);
-        };
+        close_into(&mut registries, turn, first, &programs[k], workers)?;
     }
     Ok(registries)
 }

@@ -6,6 +6,7 @@ ghost use Rattle.mpc_space.specs.Definite.{IsDefinite};
 ghost use Rattle.mpc_space.specs.Matrix.{height};
 ghost use Rattle.mpc_sets.specs.RowSet.{IsSetOfRows};
 ghost use Rattle.mpc_claim.specs.Answers.{abandoned};
+ghost use Rattle.mpc_claim.specs.Board.{opening};
 ghost use Rattle.mpc_claim.specs.History.{IsOpen};
 ghost use Rattle.mpc_workers.specs.Alone.{Delivers, IsDoneAlone};
 
@@ -22,6 +23,10 @@ use mpc_region::Examiner;
 use mpc_rows::Qp;
 pub use pool::{WorkError, enumerate, enumerate_each};
 use std::alloc::Global;
+
+/// Lets an examiner go. What it holds is taken apart here alone, since each function that did so would be
+/// dear to prove.
+pub(crate) fn discard(_examiner: Option<Examiner>) {}
 
 /// Examines a claimed set, passes the gate and delivers the verdict. Without memory the set is
 /// given up.
@@ -53,6 +58,48 @@ fn take_turn<G: Gate>(
     Ok(())
 }
 
+/// Examines the candidates of a new registry one after the other, until there is none.
+fn take_turns<G: Gate>(
+    alloc: Global,
+    _qp: &Qp,
+    registry: &mut Registry,
+    examiner: &mut Examiner,
+    gate: &G,
+) -> Result<(), NoMemory>
+    requires definite { IsDefinite _qp.now.h.rows }
+    requires registry { registry.old ≡ opening _qp.now }
+    requires examiner { examiner.old ≡ _qp.now }
+    ensures { OnOk result (IsDoneAlone _qp.now registry.new) }
+{
+    legal_laws();
+    claim_laws();
+    'turns: loop {
+        match registry.claim(1)? {
+            Claimed::Job(ticket) => take_turn(alloc, registry, examiner, ticket, gate)?,
+            Claimed::Idle => return Ok(()),
+            Claimed::Finished => return Ok(()),
+            Claimed::Stopped => return Ok(()),
+        }
+    }
+}
+
+/// Examines the candidates of a new registry by one examiner.
+fn examine_all<G: Gate>(
+    alloc: Global,
+    qp: &Qp,
+    registry: &mut Registry,
+    gate: &G,
+) -> Result<(), NoMemory>
+    requires definite { IsDefinite qp.now.h.rows }
+    requires registry { registry.old ≡ opening qp.now }
+    ensures { OnOk result (IsDoneAlone qp.now registry.new) }
+{
+    let mut examiner = Examiner::begin(alloc, qp)?;
+    let answer = take_turns(alloc, qp, registry, &mut examiner, gate);
+    discard(Some(examiner));
+    answer
+}
+
 /// Examines the candidates of the program one after the other, as worker number 1.
 ///
 /// The registry is finished, or stopped by a wide verdict. The gate is passed between each verdict
@@ -61,16 +108,7 @@ pub fn enumerate_alone<G: Gate>(alloc: Global, qp: &Qp, gate: &G) -> Result<Regi
     requires { IsDefinite qp.now.h.rows }
     ensures { IfOk result (λ registry. IsDoneAlone qp.now registry) }
 {
-    legal_laws();
-    claim_laws();
     let mut registry = Registry::begin(alloc, qp)?;
-    let mut examiner = Examiner::begin(alloc, qp)?;
-    'turns: loop {
-        match registry.claim(1)? {
-            Claimed::Job(ticket) => take_turn(alloc, &mut registry, &mut examiner, ticket, gate)?,
-            Claimed::Idle => return Ok(registry),
-            Claimed::Finished => return Ok(registry),
-            Claimed::Stopped => return Ok(registry),
-        }
-    }
+    examine_all(alloc, qp, &mut registry, gate)?;
+    Ok(registry)
 }

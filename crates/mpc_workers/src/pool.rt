@@ -1,20 +1,23 @@
 //! The pool.
 
-ghost use Rattle.std.specs.Prelude.{◌≡◌, ◌<◌, ◌≤◌, ◌⊎◌, ◌↔◌, IfOk, IfErr, All};
+ghost use Rattle.std.specs.Prelude.{◌≡◌, ◌<◌, ◌≤◌, ◌⊎◌, ◌↔◌, IfOk, IfErr, OnOk, All};
 ghost use Rattle.std.specs.List.{AllZip};
 ghost use Rattle.mpc_space.specs.Definite.{IsDefinite};
 ghost use Rattle.mpc_rows.specs.declared.programs.Qp.{Qp as Program};
 ghost use Rattle.mpc_workers.specs.declared.pool.WorkError.TheVariants.{BadWorkers};
+ghost use Rattle.mpc_workers.specs.Joined.{IsJoining};
+ghost use Rattle.mpc_workers.specs.Posts.{AtEach, IsOpening};
 ghost use Rattle.mpc_workers.specs.Seats.{IsDone};
 
 use crate::joining::{close_all, join_all};
-use crate::seats::{Opened, open_turns, seats_of};
+use crate::seats::{Opened, Post, open_turns, seats_of};
 use crate::waiting::News;
 use crate::working::{Pool, work_all};
 use mpc_claim::Registry;
 use mpc_frac::NoMemory;
 use mpc_port::Gate;
 use mpc_rows::Qp;
+use mpc_turn::Turn;
 use std::alloc::Global;
 use std::slice;
 use std::sync::Wait;
@@ -45,6 +48,36 @@ impl From<NoMemory> for WorkError {
     }
 }
 
+/// The work of so many workers, until all have come to an end and their passes are back.
+fn work_through<T: Threads + Wait + Sync, G: Gate + Sync>(
+    rt: &T,
+    alloc: Global,
+    turns: &[Turn],
+    programs: &[Qp],
+    firsts: &mut [Post],
+    workers: u32,
+    gate: &G,
+) -> Result<(), NoMemory>
+    requires definite { All (λ (qp : Program). IsDefinite qp.h.rows) programs.now }
+    requires few { workers ≤ 32 }
+    requires firsts { AtEach (IsOpening 0) turns.now programs.now firsts.old }
+    ensures { OnOk result (AtEach (IsJoining workers 0) turns.now programs.now firsts.new) }
+{
+    let mut seats = seats_of(alloc, turns, programs, firsts, workers)?;
+    let pool = Pool {
+        rt,
+        alloc,
+        workers,
+        turns,
+        programs,
+        gate,
+        news: &News::new(),
+    };
+    work_all(&pool, &mut seats);
+    join_all(turns, programs, workers, firsts, seats);
+    Ok(())
+}
+
 /// Examines the candidates of the programs with so many workers, each of whom turns to another program
 /// where one has no set to claim. As many of them work beside each other as the machine runs at once.
 ///
@@ -69,18 +102,7 @@ pub fn enumerate_each<T: Threads + Wait + Sync, G: Gate + Sync>(
         return Err(WorkError::BadWorkers);
     }
     let Opened { turns, mut firsts } = open_turns(alloc, programs)?;
-    let mut seats = seats_of(alloc, &turns, programs, &mut firsts, workers)?;
-    let pool = Pool {
-        rt,
-        alloc,
-        workers,
-        turns: &turns,
-        programs,
-        gate,
-        news: &News::new(),
-    };
-    work_all(&pool, &mut seats);
-    join_all(&turns, programs, workers, &mut firsts, seats);
+    work_through(rt, alloc, &turns, programs, &mut firsts, workers, gate)?;
     match close_all(alloc, turns, firsts, programs, workers) {
         Ok(registries) => Ok(registries),
         Err(_) => Err(WorkError::NoMemory),

@@ -1,9 +1,9 @@
 //! The turns of the programs, and the seats of the workers.
 
-ghost use Rattle.std.specs.Prelude.{◌≡◌, ◌+◌, ◌<◌, ◌≤◌, false, vec_len, IfOk, All};
+ghost use Rattle.std.specs.Prelude.{◌≡◌, ◌+◌, ◌<◌, ◌≤◌, false, vec_len, IfOk, OnOk, All};
 ghost use Rattle.mpc_space.specs.Definite.{IsDefinite};
 ghost use Rattle.mpc_rows.specs.declared.programs.Qp.{Qp as Program};
-ghost use Rattle.mpc_workers.specs.Posts.{AtEach, IsOpening};
+ghost use Rattle.mpc_workers.specs.Posts.{AtEach, IsOpening, IsPost, OpensOne};
 ghost use Rattle.mpc_workers.specs.Seats.{AreNumbered, IsSeat};
 
 use mpc_claim::Registry;
@@ -45,40 +45,62 @@ fn post_of(pass: Pass) -> Post
     }
 }
 
+/// Opens a turn over a new registry of the program, behind the others. Without memory, part of it may be
+/// missing.
+fn open_turn(alloc: Global, qp: &Qp, opened: &mut Opened) -> Result<(), NoMemory>
+    requires { IsDefinite qp.now.h.rows }
+    ensures { OnOk result (OpensOne qp.now opened.old opened.new) }
+{
+    let registry = Registry::begin(alloc, qp)?;
+    let (turn, first) = Turn::over(alloc, registry)?;
+    let Ok(()) = opened.turns.push(turn) else {
+        return Err(NoMemory);
+    };
+    let Ok(()) = opened.firsts.push(post_of(first)) else {
+        return Err(NoMemory);
+    };
+    Ok(())
+}
+
 /// Turns over new registries of the programs, in order.
 pub(crate) fn open_turns(alloc: Global, programs: &[Qp]) -> Result<Opened, NoMemory>
     requires { All (λ (qp : Program). IsDefinite qp.h.rows) programs.now }
     ensures { IfOk result (λ o. AtEach (IsOpening 0) o.turns.items programs.now o.firsts.items) }
 {
-    let mut turns = Vec::new(alloc);
-    let mut firsts = Vec::new(alloc);
+    let mut opened = Opened {
+        turns: Vec::new(alloc),
+        firsts: Vec::new(alloc),
+    };
     for qp in programs {
-        let registry = Registry::begin(alloc, qp)?;
-        let (turn, first) = Turn::over(alloc, registry)?;
-        let Ok(()) = turns.push(turn) else {
-            return Err(NoMemory);
-        };
-        let Ok(()) = firsts.push(post_of(first)) else {
-            return Err(NoMemory);
-        };
+        open_turn(alloc, qp, &mut opened)?;
     }
-    Ok(Opened { turns, firsts })
+    Ok(opened)
+}
+
+/// A worker's post at a program, after so many.
+fn split_post(turn: &Turn, _qp: &Qp, first: &mut Post, before: u32) -> Post
+    requires few { before < 32 }
+    requires first { IsOpening before turn.now _qp.now first.old }
+    ensures first { IsOpening (before + 1) turn.now _qp.now first.new }
+    ensures post { IsPost (before + 1) turn.now _qp.now result }
+{
+    post_of(turn.split_pass(&mut first.pass, before + 1))
 }
 
 /// The seat of the worker that comes after so many.
 fn seat_of(
     alloc: Global,
     turns: &[Turn],
-    _programs: &[Qp],
+    programs: &[Qp],
     firsts: &mut [Post],
     before: u32,
     _workers: u32,
 ) -> Result<Seat, NoMemory>
     requires room { before < _workers }
     requires few { _workers ≤ 32 }
-    requires firsts { AtEach (IsOpening before) turns.now _programs.now firsts.old }
-    ensures firsts { IfOk result (λ s. AtEach (IsOpening (before + 1)) turns.now _programs.now firsts.new) }
-    ensures seat { IfOk result (IsSeat turns.now _programs.now _workers) }
+    requires firsts { AtEach (IsOpening before) turns.now programs.now firsts.old }
+    ensures firsts { IfOk result (λ s. AtEach (IsOpening (before + 1)) turns.now programs.now firsts.new) }
+    ensures seat { IfOk result (IsSeat turns.now programs.now _workers) }
     ensures worker { IfOk result (λ s. s.worker ≡ before + 1) }
 {
     let mut posts = Vec::new(alloc);
@@ -86,8 +108,8 @@ fn seat_of(
         return Err(NoMemory);
     };
     for k in 0..turns.len() {
-        let pass = turns[k].split_pass(&mut firsts[k].pass, before + 1);
-        posts.push_reserved(post_of(pass));
+        let post = split_post(&turns[k], &programs[k], &mut firsts[k], before);
+        posts.push_reserved(post);
     }
     Ok(Seat {
         worker: before + 1,

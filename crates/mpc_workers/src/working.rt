@@ -1,6 +1,6 @@
 //! What workers do.
 
-ghost use Rattle.std.specs.Prelude.{◌≡◌, ◌≢◌, ◌+◌, ◌<◌, ◌≤◌, true, false, None, Ok, length, vec_len, IfOk, IfSome, OnErr, All, slice_index_or};
+ghost use Rattle.std.specs.Prelude.{◌≡◌, ◌+◌, ◌<◌, ◌≤◌, true, false, None, Ok, length, vec_len, IfOk, IfSome, OnErr, All, slice_index_or};
 ghost use Rattle.mpc_space.specs.Definite.{IsDefinite};
 ghost use Rattle.mpc_space.specs.Matrix.{height};
 ghost use Rattle.mpc_sets.specs.RowSet.{IsSetOfRows};
@@ -9,6 +9,7 @@ ghost use Rattle.mpc_rows.specs.Verdicts.{IsRight};
 ghost use Rattle.mpc_workers.specs.Posts.{after, AtEach, CallsOnlyAt, ComesFirst, GivesNoJob, HasNothing, IsAnswered, IsAtProgram, IsBusy, IsPost};
 ghost use Rattle.mpc_workers.specs.Seats.{IsSeat, KeepWorkers};
 
+use crate::discard;
 use crate::seats::{Post, Seat};
 use crate::waiting::{News, seats_at_once};
 use mpc_claim::{Claimed, Ticket, claim_laws};
@@ -59,15 +60,15 @@ impl<'a> Worker<'a> {
 
     /// The worker turns to this program. It leaves a program only where all sets of the level are
     /// claimed, so its next one there is its first of a level.
-    fn turn_to(&mut self, program: usize)
+    fn turn_to(&mut self, program: usize, _qp: &Qp)
+        requires { self.old.program ≡ program → IfSome self.old.examiner (λ q. q ≡ _qp.now) }
         ensures program { self.new.program ≡ program }
-        ensures same { self.old.program ≡ program → self.new ≡ self.old }
-        ensures other { self.old.program ≢ program → self.new.examiner ≡ None }
+        ensures examiner { IfSome self.new.examiner (λ q. q ≡ _qp.now) }
     {
         if program != self.program {
             self.program = program;
             self.level = 0;
-            self.examiner = None;
+            discard(self.examiner.take());
         }
     }
 
@@ -108,9 +109,9 @@ impl<'a> Worker<'a> {
         ensures right { IfOk result (λ j. IsRight qp.now ticket.now.set j.verdict) }
     {
         let mut examiner = self.take_examiner(alloc, qp)?;
-        let judged = examiner.examine(alloc, ticket.set())?;
-        self.examiner = Some(examiner);
-        Ok(judged)
+        let judged = examiner.examine(alloc, ticket.set());
+        discard(self.examiner.replace(examiner));
+        judged
     }
 }
 
@@ -118,17 +119,18 @@ impl<'a> Worker<'a> {
 fn taken(
     _turn: &Turn,
     _qp: &Qp,
+    _number: u32,
     post: &mut Post,
     answer: Result<Claimed, NoMemory>,
 ) -> Result<Option<Ticket>, NoMemory>
     requires working { post.old.saw_end ≡ false }
-    requires answered { IsAnswered post.old.pass.worker _turn.now _qp.now answer post.old }
+    requires answered { IsAnswered _number _turn.now _qp.now answer post.old }
     ensures pass { post.new.pass ≡ post.old.pass }
-    ensures some { IfOk result (λ found. IfSome found (λ t. IsBusy post.old.pass.worker _turn.now _qp.now t post.new)) }
-    ensures none { result ≡ Ok None → IsPost post.old.pass.worker _turn.now _qp.now post.new }
+    ensures some { IfOk result (λ found. IfSome found (λ t. IsBusy _number _turn.now _qp.now t post.new)) }
+    ensures none { result ≡ Ok None → IsPost _number _turn.now _qp.now post.new }
     ensures nothing { result ≡ Ok None → HasNothing _qp.now post.new.pass.seen }
     ensures no_job { result ≡ Ok None → GivesNoJob answer }
-    ensures err { OnErr result (IsPost post.old.pass.worker _turn.now _qp.now post.new) }
+    ensures err { OnErr result (IsPost _number _turn.now _qp.now post.new) }
 {
     match answer {
         Ok(Claimed::Job(ticket)) => Ok(Some(ticket)),
@@ -146,17 +148,23 @@ fn taken(
 }
 
 /// Claims a set of a program.
-fn claim<T: Wait>(rt: &T, turn: &Turn, qp: &Qp, post: &mut Post) -> Result<Option<Ticket>, NoMemory>
+fn claim<T: Wait>(
+    rt: &T,
+    turn: &Turn,
+    qp: &Qp,
+    number: u32,
+    post: &mut Post,
+) -> Result<Option<Ticket>, NoMemory>
     requires working { post.old.saw_end ≡ false }
-    requires post { IsPost post.old.pass.worker turn.now qp.now post.old }
+    requires post { IsPost number turn.now qp.now post.old }
     ensures calls { result ≡ Ok None → post.new.pass.calls ≡ post.old.pass.calls }
-    ensures some { IfOk result (λ found. IfSome found (λ t. IsBusy post.old.pass.worker turn.now qp.now t post.new)) }
-    ensures none { result ≡ Ok None → IsPost post.old.pass.worker turn.now qp.now post.new }
+    ensures some { IfOk result (λ found. IfSome found (λ t. IsBusy number turn.now qp.now t post.new)) }
+    ensures none { result ≡ Ok None → IsPost number turn.now qp.now post.new }
     ensures nothing { result ≡ Ok None → HasNothing qp.now post.new.pass.seen }
-    ensures err { OnErr result (IsPost post.old.pass.worker turn.now qp.now post.new) }
+    ensures err { OnErr result (IsPost number turn.now qp.now post.new) }
 {
     let answer = turn.claim_as(rt, &mut post.pass);
-    taken(turn, qp, post, answer)
+    taken(turn, qp, number, post, answer)
 }
 
 /// Examines a set in hand, passes the gate, and delivers the verdict and claims the next set of the
@@ -166,18 +174,19 @@ fn finish_set<'a, T: Wait, G: Gate>(
     pool: &Pool<'a, T, G>,
     turn: &Turn,
     qp: &'a Qp,
+    number: u32,
     worker: &mut Worker<'a>,
     post: &mut Post,
     ticket: Ticket,
 ) -> Result<Option<Ticket>, NoMemory>
     requires definite { IsDefinite qp.now.h.rows }
     requires examiner { IfSome worker.old.examiner (λ q. q ≡ qp.now) }
-    requires post { IsBusy post.old.pass.worker turn.now qp.now ticket post.old }
+    requires post { IsBusy number turn.now qp.now ticket post.old }
     ensures program { worker.new.program ≡ worker.old.program }
     ensures examiner { IfSome worker.new.examiner (λ q. q ≡ qp.now) }
-    ensures some { IfOk result (λ found. IfSome found (λ t. IsBusy post.old.pass.worker turn.now qp.now t post.new)) }
-    ensures none { result ≡ Ok None → IsPost post.old.pass.worker turn.now qp.now post.new }
-    ensures err { OnErr result (IsPost post.old.pass.worker turn.now qp.now post.new) }
+    ensures some { IfOk result (λ found. IfSome found (λ t. IsBusy number turn.now qp.now t post.new)) }
+    ensures none { result ≡ Ok None → IsPost number turn.now qp.now post.new }
+    ensures err { OnErr result (IsPost number turn.now qp.now post.new) }
 {
     hand_laws();
     claim_laws();
@@ -196,7 +205,7 @@ fn finish_set<'a, T: Wait, G: Gate>(
         return Err(NoMemory);
     }
     let answer = turn.deliver_then_claim_as(pool.rt, &mut post.pass, ticket, judged);
-    taken(turn, qp, post, answer)
+    taken(turn, qp, number, post, answer)
 }
 
 /// Works on sets of a program from the one in hand on, until the program has none to claim.
@@ -204,19 +213,20 @@ fn finish_sets<'a, T: Wait, G: Gate>(
     pool: &Pool<'a, T, G>,
     turn: &Turn,
     qp: &'a Qp,
+    number: u32,
     worker: &mut Worker<'a>,
     post: &mut Post,
     mut ticket: Ticket,
 ) -> Result<(), NoMemory>
     requires definite { IsDefinite qp.now.h.rows }
     requires examiner { IfSome worker.old.examiner (λ q. q ≡ qp.now) }
-    requires post { IsBusy post.old.pass.worker turn.now qp.now ticket post.old }
+    requires post { IsBusy number turn.now qp.now ticket post.old }
     ensures program { worker.new.program ≡ worker.old.program }
     ensures examiner { IfSome worker.new.examiner (λ q. q ≡ qp.now) }
-    ensures post { IsPost post.old.pass.worker turn.now qp.now post.new }
+    ensures post { IsPost number turn.now qp.now post.new }
 {
     for _ in pool.rt.forever() {
-        match finish_set(pool, turn, qp, worker, post, ticket) {
+        match finish_set(pool, turn, qp, number, worker, post, ticket) {
             Ok(Some(next)) => ticket = next,
             Ok(None) => return Ok(()),
             Err(refused) => return Err(refused),
@@ -225,12 +235,13 @@ fn finish_sets<'a, T: Wait, G: Gate>(
     unreachable!()
 }
 
-/// Works at a program, the one with this number from 0, while it has sets to claim. Whether it had one.
+/// Works at a program, that at place `k` from 0, while it has sets to claim. Whether it had one.
 fn work_at<'a, T: Wait, G: Gate>(
     pool: &Pool<'a, T, G>,
     turn: &Turn,
     qp: &'a Qp,
     k: usize,
+    number: u32,
     worker: &mut Worker<'a>,
     post: &mut Post,
 ) -> Result<bool, NoMemory>
@@ -238,9 +249,9 @@ fn work_at<'a, T: Wait, G: Gate>(
     requires within { k < length pool.now.programs.now }
     requires program { qp.now ≡ slice_index_or pool.now.programs.now k qp.now }
     requires worker { IsAtProgram pool.now.programs.now worker.old }
-    requires post { IsPost post.old.pass.worker turn.now qp.now post.old }
+    requires post { IsPost number turn.now qp.now post.old }
     ensures worker { IsAtProgram pool.now.programs.now worker.new }
-    ensures post { IsPost post.old.pass.worker turn.now qp.now post.new }
+    ensures post { IsPost number turn.now qp.now post.new }
     ensures turned { result ≡ Ok true → worker.new.program ≡ k }
     ensures same { result ≡ Ok false → worker.new ≡ worker.old }
     ensures no_calls { result ≡ Ok false → post.new.pass.calls ≡ post.old.pass.calls }
@@ -249,10 +260,10 @@ fn work_at<'a, T: Wait, G: Gate>(
     if post.saw_end {
         return Ok(false);
     }
-    match claim(pool.rt, turn, qp, post) {
+    match claim(pool.rt, turn, qp, number, post) {
         Ok(Some(ticket)) => {
-            worker.turn_to(k);
-            match finish_sets(pool, turn, qp, worker, post, ticket) {
+            worker.turn_to(k, qp);
+            match finish_sets(pool, turn, qp, number, worker, post, ticket) {
                 Ok(()) => Ok(true),
                 Err(refused) => Err(refused),
             }
@@ -281,14 +292,14 @@ fn place_after(from: usize, steps: usize, count: usize) -> usize
 fn work_at_next<'a, T: Wait, G: Gate>(
     pool: &Pool<'a, T, G>,
     worker: &mut Worker<'a>,
-    _number: u32,
+    number: u32,
     posts: &mut [Post],
 ) -> Result<bool, NoMemory>
     requires definite { All (λ (qp : Program). IsDefinite qp.h.rows) pool.now.programs.now }
     requires worker { IsAtProgram pool.now.programs.now worker.old }
-    requires posts { AtEach (IsPost _number) pool.now.turns.now pool.now.programs.now posts.old }
+    requires posts { AtEach (IsPost number) pool.now.turns.now pool.now.programs.now posts.old }
     ensures worker { IsAtProgram pool.now.programs.now worker.new }
-    ensures posts { AtEach (IsPost _number) pool.now.turns.now pool.now.programs.now posts.new }
+    ensures posts { AtEach (IsPost number) pool.now.turns.now pool.now.programs.now posts.new }
     ensures first { result ≡ Ok true → ComesFirst pool.now.programs.now posts.new worker.old.program worker.new.program }
     ensures only { result ≡ Ok true → CallsOnlyAt worker.new.program posts.old posts.new }
 {
@@ -300,6 +311,7 @@ fn work_at_next<'a, T: Wait, G: Gate>(
             &pool.turns[k],
             &pool.programs[k],
             k,
+            number,
             worker,
             &mut posts[k],
         ) {
@@ -314,6 +326,40 @@ fn work_at_next<'a, T: Wait, G: Gate>(
     Ok(false)
 }
 
+/// Works at the next program that has a set to claim, or else waits for news. Whether there may be more to
+/// do: not once all programs have come to their end, or the work is called off.
+fn work_on<'a, T: Wait, G: Gate>(
+    pool: &Pool<'a, T, G>,
+    worker: &mut Worker<'a>,
+    number: u32,
+    posts: &mut [Post],
+) -> bool
+    requires definite { All (λ (qp : Program). IsDefinite qp.h.rows) pool.now.programs.now }
+    requires worker { IsAtProgram pool.now.programs.now worker.old }
+    requires posts { AtEach (IsPost number) pool.now.turns.now pool.now.programs.now posts.old }
+    ensures worker { IsAtProgram pool.now.programs.now worker.new }
+    ensures posts { AtEach (IsPost number) pool.now.turns.now pool.now.programs.now posts.new }
+{
+    let heard = pool.news.count();
+    if pool.news.is_called_off() {
+        return false;
+    }
+    match work_at_next(pool, worker, number, posts) {
+        Ok(true) => true,
+        Ok(false) => {
+            let has_ended = posts.iter().all(|post| post.saw_end);
+            if !has_ended {
+                pool.news.wait(pool.rt, heard);
+            }
+            !has_ended
+        }
+        Err(_) => {
+            pool.news.call_off();
+            false
+        }
+    }
+}
+
 /// Works until all programs have come to their end, or until the work is called off.
 ///
 /// Where no program has a set to claim, the worker waits for news. A worker that was woken has found
@@ -325,30 +371,20 @@ fn work_at_next<'a, T: Wait, G: Gate>(
 /// is awake. Whoever ends, at the end or called off, wakes all and raises the count of the news, on
 /// which a sleep that begins later ends at once, since the count that it waits on was read before the
 /// worker looked whether the work is called off, and before its claims.
-fn work<'a, T: Wait, G: Gate>(pool: &Pool<'a, T, G>, seat: &mut Seat)
+fn work<'a, T: Wait, G: Gate>(
+    pool: &Pool<'a, T, G>,
+    worker: &mut Worker<'a>,
+    number: u32,
+    posts: &mut [Post],
+)
     requires definite { All (λ (qp : Program). IsDefinite qp.h.rows) pool.now.programs.now }
-    requires seat { IsSeat pool.now.turns.now pool.now.programs.now pool.now.workers seat.old }
-    ensures seat { IsSeat pool.now.turns.now pool.now.programs.now pool.now.workers seat.new }
-    ensures same { seat.new.worker ≡ seat.old.worker }
+    requires worker { IsAtProgram pool.now.programs.now worker.old }
+    requires posts { AtEach (IsPost number) pool.now.turns.now pool.now.programs.now posts.old }
+    ensures { AtEach (IsPost number) pool.now.turns.now pool.now.programs.now posts.new }
 {
-    let mut worker = Worker::new();
     for _ in pool.rt.forever() {
-        let heard = pool.news.count();
-        if pool.news.is_called_off() {
+        if !work_on(pool, worker, number, posts) {
             return;
-        }
-        match work_at_next(pool, &mut worker, seat.worker, seat.posts.as_mut_slice()) {
-            Ok(true) => {}
-            Ok(false) => {
-                if seat.posts.iter().all(|post| post.saw_end) {
-                    return;
-                }
-                pool.news.wait(pool.rt, heard);
-            }
-            Err(_) => {
-                pool.news.call_off();
-                return;
-            }
         }
     }
     unreachable!()
@@ -361,7 +397,14 @@ fn work_and_wake<'a, T: Wait, G: Gate>(pool: &Pool<'a, T, G>, seat: &mut Seat)
     ensures seat { IsSeat pool.now.turns.now pool.now.programs.now pool.now.workers seat.new }
     ensures same { seat.new.worker ≡ seat.old.worker }
 {
-    work(pool, seat);
+    let mut worker = Worker::new();
+    work(pool, &mut worker, seat.worker, seat.posts.as_mut_slice());
+    let Worker {
+        program: _,
+        level: _,
+        examiner,
+    } = worker;
+    discard(examiner);
     pool.news.wake_all();
 }
 

@@ -6,9 +6,9 @@ use Rattle.mpc_beginnings.proofs.kept.limit_of.Goals as goal
 
 pub returns-clause-room : goal.returns-clause-room
 returns-clause-room c =
-    has_room c.args.system.now.width c.args.numbers.now.most_entry c.in_ok-most.most c.args.numbers.now.most_scale c.args.numbers.now.a.now c.requires.entries
+    has_room c.args.system.now.width c.args.numbers.now.most_entry c.in_ok-most.most c.args.numbers.now.most_scale c.args.numbers.now.a.now c.requires.numbers.entries
     (subst (λ w. (w * (c.args.numbers.now.most_entry * c.in_ok-most.most)) * c.args.numbers.now.most_scale ≤ 2 ^ 62) c.unknowns.ensures c.in_ok-most.ensures.room)
-    c.in_ok-most.ensures.some c.requires.some_scale
+    c.in_ok-most.ensures.some c.requires.numbers.some_scale
 
 pub returns-clause-narrow : goal.returns-clause-narrow
 returns-clause-narrow c = λ seats v small.
@@ -18,12 +18,12 @@ returns-clause-narrow c = λ seats v small.
     let b = c.args.numbers.now.b.now in
     let most = c.in_ok-most.most in
     let g : HasBounds s k a b most =
-    has_bounds s k c.args.n c.unknowns.result c.args.numbers.now.most_entry c.args.numbers.now.most_side c.args.numbers.now.most_scale most a b c.requires.count c.unknowns.ensures c.requires.entries c.requires.sides c.requires.scales c.requires.some_side c.in_ok-most.ensures.room c.in_ok-most.ensures.top c.in_ok-most.ensures.side_room
+    has_bounds s k c.args.n c.unknowns.result c.args.numbers.now.most_entry c.args.numbers.now.most_side c.args.numbers.now.most_scale most a b c.requires.count c.unknowns.ensures c.requires.numbers.entries c.requires.numbers.sides c.requires.numbers.scales c.requires.numbers.some_side c.in_ok-most.ensures.room c.in_ok-most.ensures.top c.in_ok-most.ensures.side_room
     in
     let own : c.args.from.own ≤ most = (let e = c.max.ensures in let l = c.if-max-most.false in omega arith) in
     let d : c.args.from.den ≤ c.max-2.result = (let e = c.max-2.ensures in omega arith) in
     narrow_by_norms s k a b v g.most_entry g.most_side g.most_scale most g.bounds (weaker c.args.from.own most v small own) c.args.n seats c.args.from.den
-    (λ x h. let top : c.max-2.result * c.args.numbers.now.most_scale ≤ 2 ^ 62 = c.if-scaled.false in le_trans (le_trans (mul-le-mul_right (scale_at k x) d) (mul-le-mul_left c.max-2.result (c.requires.scales x))) top)
+    (λ x h. let top : c.max-2.result * c.args.numbers.now.most_scale ≤ 2 ^ 62 = c.if-scaled.false in le_trans (le_trans (mul-le-mul_right (scale_at k x) d) (mul-le-mul_left c.max-2.result (c.requires.numbers.scales x))) top)
 
 pub returns-clause-kept_den_small : goal.returns-clause-kept_den_small
 returns-clause-kept_den_small c =

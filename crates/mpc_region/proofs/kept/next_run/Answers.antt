@@ -1,4 +1,4 @@
-use Rattle.std.proofs.Common.{◌≡◌, ◌+◌, ◌-◌, ◌<◌, ◌≤◌, get_or, sym, ◌∙◌, ap, subst, arith}
+use Rattle.std.proofs.Common.{◌≡◌, ◌+◌, ◌-◌, ◌≤◌, get_or, sym, ◌∙◌, ap, subst, arith}
 use Rattle.mpc_space.specs.Matrix.{height}
 use Rattle.mpc_region.proofs.Members.{member}
 use Rattle.mpc_region.proofs.ReachRuns.{row_within, turned_row, reach_next}

@@ -1,31 +1,9 @@
-use Rattle.mpc_region.proofs.SharedLaws.{law_places, shared_solution, shared_found, shared_dependent, shared_wide}
+use Rattle.mpc_region.proofs.SharedLaws.{places_at, rights_at}
 use Rattle.mpc_region.proofs.law.law_by_table.Goals as goal
 
-pub solve_part-requires-clause-places : goal.solve_part-requires-clause-places
-solve_part-requires-clause-places c =
-    law_places c.args.qp.now c.args.set c.requires.set_of_rows c.args.table.now c.requires.table c.rows-unknowns.result c.rows.result c.cols.result c.rows-unknowns.ensures.value c.rows.ensures.value c.cols.ensures.value
-    c.in_ok-places.places.items c.in_ok-sides.sides.items c.deref.result.now c.deref-2.result.now c.in_ok-places.ensures c.in_ok-sides.ensures c.deref.ensures.value c.deref-2.ensures.value
+pub part_solved-requires-clause-places : goal.part_solved-requires-clause-places
+part_solved-requires-clause-places c = places_at c.args.qp.now c.args.set c.in_ok-places.places.items c.deref.result.now c.rows-unknowns.result c.rows-unknowns.ensures.value c.in_ok-places.ensures c.deref.ensures.value
 
-pub law_from-requires-clause-solution : goal.law_from-requires-clause-solution
-law_from-requires-clause-solution c =
-    shared_solution c.args.qp.now c.args.set c.requires.set_of_rows c.args.table.now c.requires.table c.rows-unknowns.result c.rows.result c.cols.result c.rows-unknowns.ensures.value c.rows.ensures.value c.cols.ensures.value
-    c.in_ok-places.places.items c.in_ok-sides.sides.items c.deref.result.now c.deref-2.result.now c.in_ok-places.ensures c.in_ok-sides.ensures c.deref.ensures.value c.deref-2.ensures.value
-    c.in-Ok-Some-Unique.field-0 c.in-Ok-Some-Unique.field-0-0 c.in-Ok-Some-Unique.x c.in-Ok-Some-Unique.field-0-is c.in-Ok-Some-Unique.field-0-0-is c.in-Ok-Some-Unique.ensures.answer
-
-pub returns-in-Ok-Some-Unique : goal.returns-in-Ok-Some-Unique
-returns-in-Ok-Some-Unique c =
-    shared_found c.args.qp.now c.args.set c.requires.set_of_rows c.args.table.now c.requires.table c.rows-unknowns.result c.rows.result c.cols.result c.rows-unknowns.ensures.value c.rows.ensures.value c.cols.ensures.value
-    c.in_ok-places.places.items c.in_ok-sides.sides.items c.deref.result.now c.deref-2.result.now c.in_ok-places.ensures c.in_ok-sides.ensures c.deref.ensures.value c.deref-2.ensures.value
-    c.in-Ok-Some-Unique.field-0 c.in-Ok-Some-Unique.field-0-0 c.in-Ok-Some-Unique.x c.in_ok-law_from-in-Ok-Some-Unique.field-0 c.in-Ok-Some-Unique.field-0-is c.in-Ok-Some-Unique.field-0-0-is c.in-Ok-Some-Unique.ensures.answer c.in-Ok-Some-Unique.ensures.fits c.in_ok-law_from-in-Ok-Some-Unique.ensures.set c.in_ok-law_from-in-Ok-Some-Unique.ensures.law
-
-pub returns-in-Ok-Some-Dependent : goal.returns-in-Ok-Some-Dependent
-returns-in-Ok-Some-Dependent c =
-    shared_dependent c.args.qp.now c.args.set c.requires.set_of_rows c.args.table.now c.requires.table c.rows-unknowns.result c.rows.result c.cols.result c.rows-unknowns.ensures.value c.rows.ensures.value c.cols.ensures.value
-    c.in_ok-places.places.items c.in_ok-sides.sides.items c.deref.result.now c.deref-2.result.now c.in_ok-places.ensures c.in_ok-sides.ensures c.deref.ensures.value c.deref-2.ensures.value
-    c.in-Ok-Some-Dependent.field-0 c.in-Ok-Some-Dependent.field-0-0 c.in-Ok-Some-Dependent.field-0-0-0 c.in-Ok-Some-Dependent.field-0-is c.in-Ok-Some-Dependent.field-0-0-is c.requires.definite c.in-Ok-Some-Dependent.ensures.answer c.in-Ok-Some-Dependent.ensures.fits
-
-pub returns-in-Err-Wide : goal.returns-in-Err-Wide
-returns-in-Err-Wide c =
-    shared_wide c.args.qp.now c.args.set c.requires.set_of_rows c.args.table.now c.requires.table c.rows-unknowns.result c.rows.result c.cols.result c.rows-unknowns.ensures.value c.rows.ensures.value c.cols.ensures.value
-    c.in_ok-places.places.items c.in_ok-sides.sides.items c.deref.result.now c.deref-2.result.now c.in_ok-places.ensures c.in_ok-sides.ensures c.deref.ensures.value c.deref-2.ensures.value
-    c.in-Err-Wide.field-0 c.in-Err-Wide.field-0-0 c.in-Err-Wide.field-0-is c.in-Err-Wide.ensures.wide
+pub part_solved-requires-clause-sides : goal.part_solved-requires-clause-sides
+part_solved-requires-clause-sides c =
+    rights_at c.args.qp.now c.in_ok-sides.sides.items c.deref-2.result.now c.rows-unknowns.result c.rows.result c.cols.result c.rows-unknowns.ensures.value c.rows.ensures.value c.cols.ensures.value c.in_ok-sides.ensures c.deref-2.ensures.value

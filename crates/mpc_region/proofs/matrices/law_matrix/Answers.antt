@@ -1,7 +1,10 @@
-use Rattle.std.proofs.Common.{arith}
+use Rattle.std.proofs.Common.{refl, arith}
 use Rattle.mpc_rows.specs.SetRuns.{law_matrix}
-use Rattle.mpc_region.proofs.RowWriting.{table_all}
+use Rattle.mpc_region.proofs.RowWriting.{table_more, table_all}
 use Rattle.mpc_region.proofs.matrices.law_matrix.Goals as goal
+
+pub loop-i-preserved : goal.loop-i-preserved
+loop-i-preserved c = table_more c.loop-i.out c.write_entries.new.out _ _ c.loop-i.i _ _ (λ j l. refl) c.write_entries.ensures c.loop-i.invariant
 
 pub returns : goal.returns
 unfolding law_matrix

@@ -1,6 +1,9 @@
-use Rattle.std.proofs.Common.{arith}
-use Rattle.mpc_region.proofs.RowWriting.{table_all}
+use Rattle.std.proofs.Common.{refl, arith}
+use Rattle.mpc_region.proofs.RowWriting.{table_more, table_all}
 use Rattle.mpc_region.proofs.matrices.part.Goals as goal
+
+pub loop-i-preserved : goal.loop-i-preserved
+loop-i-preserved c = table_more c.loop-i.out c.copy_row.new.out _ _ c.loop-i.i _ _ (λ j l. refl) c.copy_row.ensures c.loop-i.invariant
 
 pub returns : goal.returns
 returns c = table_all _ _ _ c.loop-i.i _ (omega arith) c.loop-i.invariant

@@ -1,4 +1,4 @@
-use Rattle.std.proofs.Common.{◌≡◌, ◌↔◌, suc, ◌+◌, ◌-◌, ◌<◌, ◌≤◌, [], ◌∷◌, length, get_or, IfOk, IfSome, IsTrue, sym, ◌∙◌, ap, subst, arith}
+use Rattle.std.proofs.Common.{◌≡◌, ◌↔◌, ◌-◌, ◌<◌, ◌≤◌, [], ◌∷◌, length, get_or, IfOk, IfSome, IsTrue, sym, ◌∙◌, ap, subst, arith}
 use Rattle.mpc_space.specs.Matrix.{height}
 use Rattle.mpc_rows.specs.LinearSystem.{row_at}
 use Rattle.mpc_rows.specs.RunWidth.{RunFits}

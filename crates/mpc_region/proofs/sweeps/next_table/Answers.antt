@@ -35,6 +35,15 @@ sweep_into-requires-clause-first c =
     (subst (IsSetOfRows (height c.args.qp.now.g)) (sym c.make_room.ensures.set) c.requires.set_of_rows) (c.make_room.new.sweeps.count - 1) (omega arith) (omega arith) c.member_place-p.result c.member_place-p.ensures c.index.result.now c.index.result.now c.index.ensures in
     omega arith
 
+pub returns-in_err-make_room-clause-sweeps : goal.returns-in_err-make_room-clause-sweeps
+returns-in_err-make_room-clause-sweeps c = c.make_room.ensures.sweeps
+
+pub returns-in_err-sweep_into-clause-sweeps : goal.returns-in_err-sweep_into-clause-sweeps
+returns-in_err-sweep_into-clause-sweeps c = c.make_room.ensures.sweeps
+
+pub returns-then-not-branch-clause-sweeps : goal.returns-then-not-branch-clause-sweeps
+returns-then-not-branch-clause-sweeps c = c.make_room.ensures.sweeps
+
 pub returns-clause-sweeps : goal.returns-clause-sweeps
 returns-clause-sweeps c =
     subst (λ t. AreTables c.args.qp.now c.make_room.new.sweeps.set (c.make_room.new.sweeps.count + 1) (set c.make_room.new.sweeps.tables.items c.make_room.new.sweeps.count t)) (sym c.swap.ensures.y_after)

@@ -1,13 +1,25 @@
 use Rattle.std.proofs.Common.{◌≡◌, sym, ◌∙◌, ap, subst, IfOk}
 use Rattle.mpc_rows.specs.declared.laws.Law.{Law}
 use Rattle.mpc_rows.specs.declared.verdicts.Verdict.TheVariants.{Region}
+use Rattle.mpc_space.specs.Matrix.{height}
 use Rattle.mpc_rows.specs.Candidates.{CanGrow}
+use Rattle.mpc_rows.specs.Laws.{IsLaw}
+use Rattle.mpc_rows.specs.SetRuns.{LawRowsFit}
 use Rattle.mpc_rows.specs.Verdicts.{IsRight, ReachFits}
 use Rattle.mpc_region.specs.Sweeps.{swept_law}
 use Rattle.mpc_region.proofs.BoxRuns.{region_answer, region_fits}
 use Rattle.mpc_region.proofs.RightVerdicts.{right_region, right_hollow}
 use Rattle.mpc_region.proofs.SweptLaws.{swept_set}
 use Rattle.mpc_region.proofs.verdicts.by_table.Goals as goal
+
+pub meets_box-requires-clause-width : goal.meets_box-requires-clause-width
+meets_box-requires-clause-width c = c.in_ok-fill_rows.ensures.rows.width
+
+pub by_rows-requires-clause-law : goal.by_rows-requires-clause-law
+by_rows-requires-clause-law c = subst (IsLaw c.args.qp.now) (sym c.in_ok-law_of_table-in-None.ensures) c.requires.law
+
+pub by_rows-requires-clause-rows_fit : goal.by_rows-requires-clause-rows_fit
+by_rows-requires-clause-rows_fit c = subst (λ law. LawRowsFit c.args.qp.now law (height c.args.qp.now.g)) (sym c.in_ok-law_of_table-in-None.ensures) c.fill_rows.ensures.fit
 
 pub by_rows-requires-clause-grows : goal.by_rows-requires-clause-grows
 by_rows-requires-clause-grows c =

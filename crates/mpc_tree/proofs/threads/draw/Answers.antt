@@ -6,7 +6,7 @@ use Rattle.mpc_tree.specs.declared.frontier.Piece.TheVariants.{Open}
 use Rattle.mpc_tree.specs.declared.threads.Drawn.{Drawn}
 use Rattle.mpc_tree.specs.Pieces.{IsDrawn}
 use Rattle.mpc_tree.proofs.threads.draw.Goals as goal
-use Rattle.mpc_tree.proofs.threads.draw.Goals.{in-Open+in-Ok+in_ok-push-in-Ok, in-Open+in-Err, in_default}
+use Rattle.mpc_tree.proofs.threads.draw.Goals.{in-Open+in_ok-built+in-Some+in_ok-push-in-Some, in_default}
 
 pub loop-draw-preserved : goal.loop-draw-preserved
 loop-draw-preserved c =
@@ -14,13 +14,12 @@ loop-draw-preserved c =
     let laws = c.args.laws.now in
     let pieces = c.args.pieces.now in
     elim c.match-pieces-piece.branch [
-      | in-Open+in-Ok+in_ok-push-in-Ok w ↦
-          let d : Drawn = record { piece = c.fetch_add-piece.result; tree = w.in-Ok.tree } in
+      | in-Open+in_ok-built+in-Some+in_ok-push-in-Some w ↦
+          let d : Drawn = record { piece = c.fetch_add-piece.result; built = w.in-Some.built } in
           let opened : c.index-pieces-piece.result ≡ Open w.in-Open.cell w.in-Open.next = w.in-Open.is in
           let is : slice_get pieces d.piece ≡ Some (Open w.in-Open.cell w.in-Open.next) = subst (λ p. slice_get pieces d.piece ≡ Some p) opened (slice_get_read pieces (length pieces) d.piece c.index-pieces-piece.result refl (omega arith) c.index-pieces-piece.is) in
-          let own : IsDrawn qp laws pieces d = record { cell = w.in-Open.cell; next = w.in-Open.next; is = is; built = w.in-Ok.ensures } in
+          let own : IsDrawn qp laws pieces d = record { piece = Open w.in-Open.cell w.in-Open.next; is = is; becomes = rw w.in-Some.is at w.in_ok-built.ensures } in
           let pushed : w.push.new.self.items ≡ c.loop-draw.drawn.items ++ d ∷ [] = search rules in
           subst (λ v. All (IsDrawn qp laws pieces) v.items) (sym w.drawn-is) (subst (All (IsDrawn qp laws pieces)) (sym pushed) (All-push (IsDrawn qp laws pieces) c.loop-draw.drawn.items d c.loop-draw.invariant own))
-      | in-Open+in-Err w ↦ subst (λ v. All (IsDrawn qp laws pieces) v.items) (sym w.drawn-is) c.loop-draw.invariant
       | in_default w ↦ subst (λ v. All (IsDrawn qp laws pieces) v.items) (sym w.drawn-is) c.loop-draw.invariant
     ]

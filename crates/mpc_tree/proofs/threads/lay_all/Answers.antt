@@ -4,7 +4,7 @@ use Rattle.std.proofs.lemmas.List.Elements.{All-tail}
 use Rattle.std.specs.Prelude.{All}
 use Rattle.std.specs.Vec.Iter.{into_iter_items, into_iter_len}
 use Rattle.mpc_tree.specs.declared.threads.Drawn.{Drawn}
-use Rattle.mpc_tree.specs.Pieces.{with_trees}
+use Rattle.mpc_tree.specs.Pieces.{with_drawn}
 use Rattle.mpc_tree.proofs.threads.lay_all.Goals as goal
 
 pub loop-one-preserved : goal.loop-one-preserved
@@ -14,7 +14,7 @@ loop-one-preserved c =
     let same : length c.lay.new.pieces.items ≡ length c.loop-one.pieces.items = ap length c.lay.ensures ∙ simp length-set in
     let whole : All (λ (d : Drawn). d.piece < length c.loop-one.pieces.items) (c.in-Some.one ∷ left) = subst (All (λ (d : Drawn). d.piece < length c.loop-one.pieces.items)) steps.0 c.loop-one.invariant.within in
     record {
-      laid = c.loop-one.invariant.laid ∙ ap (with_trees c.loop-one.pieces.items) steps.0 ∙ ap (λ p. with_trees p left) (sym c.lay.ensures);
+      laid = c.loop-one.invariant.laid ∙ ap (with_drawn c.loop-one.pieces.items) steps.0 ∙ ap (λ p. with_drawn p left) (sym c.lay.ensures);
       within = subst (λ n. All (λ (d : Drawn). d.piece < n) left) (sym same) (All-tail (λ (d : Drawn). d.piece < length c.loop-one.pieces.items) c.in-Some.one left whole);
       count = omega (arith, steps.1, c.loop-one.invariant.count, ap length steps.0);
     }

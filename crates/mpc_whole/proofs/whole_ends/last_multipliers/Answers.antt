@@ -1,4 +1,10 @@
+use Rattle.std.proofs.Common.{◌<◌, sym, subst}
+use Rattle.std.proofs.lemmas.Option.{IfSome_then}
+use Rattle.mpc_rows.specs.LinearSystem.{height}
 use Rattle.mpc_rows.specs.Run.{last_position}
+use Rattle.mpc_whole.specs.RunEnd.{IsMultipliers}
+use Rattle.mpc_whole.specs.Table.{IsSeated}
+use Rattle.mpc_whole.specs.Whole.{HasBasis, IsRowOf}
 use Rattle.mpc_whole.proofs.WholeRun.{last_side, last_below, last_in, last_cells, last_row}
 use Rattle.mpc_whole.proofs.whole_ends.last_multipliers.Goals as goal
 
@@ -11,8 +17,19 @@ leaving_row-requires-clause-side c = last_in c.args.system.now c.args.n c.args.s
 pub leaving_row-requires-clause-row_small : goal.leaving_row-requires-clause-row_small
 leaving_row-requires-clause-row_small c = last_cells c.args.system.now c.args.n c.args.seats.now c.args.scales.now c.args.den c.args.v.now c.requires.form c.requires.seated c.args.a.now c.args.b.now c.requires.whole c.args.l c.requires.refuted c.requires.narrow
 
-pub multipliers-requires-clause-leaves : goal.multipliers-requires-clause-leaves
-multipliers-requires-clause-leaves c = last_below c.args.system.now c.args.n c.args.seats.now c.args.scales.now c.args.den c.args.v.now c.requires.form c.requires.seated c.args.a.now c.args.b.now c.requires.whole c.args.l c.requires.refuted
+pub multipliers-requires-clause-row : goal.multipliers-requires-clause-row
+multipliers-requires-clause-row c = record {
+  scales = c.requires.whole.scales;
+  seated = subst (λ m. IsSeated (height c.args.system.now) c.args.system.now.width m c.args.seats.now) (sym c.requires.seated.each) c.requires.seated;
+  row_size = c.leaving_row.ensures.row.size;
+  row_small = c.leaving_row.ensures.small;
+  some = c.requires.form.some;
+  den_small = c.requires.den_small;
+  leaves = subst (λ m. c.args.l < m) (sym c.requires.seated.each) (last_below c.args.system.now c.args.n c.args.seats.now c.args.scales.now c.args.den c.args.v.now c.requires.form c.requires.seated c.args.a.now c.args.b.now c.requires.whole c.args.l c.requires.refuted);
+}
 
 pub returns : goal.returns
-returns c = c.in_ok-multipliers.ensures (last_position c.args.system.now) (record { basic = c.requires.form.basic }) (last_row c.args.system.now c.args.n c.args.seats.now c.args.scales.now c.args.den c.args.v.now c.requires.form c.requires.seated c.args.a.now c.args.b.now c.requires.whole c.args.l c.requires.refuted c.leaving_row.new.x c.leaving_row.ensures.row)
+returns c = IfSome_then c.multipliers.result c.multipliers.ensures
+    (λ u given. subst (λ m. HasBasis m c.args.seats.now (last_position c.args.system.now) → IsRowOf m c.args.seats.now c.args.scales.now (last_position c.args.system.now) c.args.den c.args.l c.leaving_row.new.x → IsMultipliers c.args.system.now (last_position c.args.system.now) c.args.l c.multipliers.new.list)
+    c.requires.seated.each (given (last_position c.args.system.now))
+    (record { basic = c.requires.form.basic }) (last_row c.args.system.now c.args.n c.args.seats.now c.args.scales.now c.args.den c.args.v.now c.requires.form c.requires.seated c.args.a.now c.args.b.now c.requires.whole c.args.l c.requires.refuted c.leaving_row.new.x c.leaving_row.ensures.row))

@@ -1,8 +1,8 @@
-use Rattle.std.proofs.Common.{◌≡◌, ℕ, ◌<◌}
+use Rattle.std.proofs.Common.{◌≡◌, ℕ, ◌<◌, length}
 use Rattle.mpc_rows.specs.Run.{Position, multiplier}
 use Rattle.mpc_space.specs.Vector.{coordinate}
 use Rattle.mpc_whole.specs.Whole.{HasBasis, IsRowOf}
 use Rattle.mpc_whole.proofs.whole_ends.multipliers.Given as goal
 
 abbrev pub invariant-loop-i : goal.invariant-loop-i
-invariant-loop-i l = (p : Position) → HasBasis l.n l.seats p → IsRowOf l.n l.seats l.scales p l.den l.l l.x → (j : ℕ) → j < l.i → coordinate l.list j ≡ multiplier l.system p l.l j
+invariant-loop-i l = (p : Position) → HasBasis (length l.seats) l.seats p → IsRowOf (length l.seats) l.seats l.scales p l.den l.l l.x → (j : ℕ) → j < l.i → coordinate l.list j ≡ multiplier l.system p l.l j

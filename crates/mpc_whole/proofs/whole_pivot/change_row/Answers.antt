@@ -1,9 +1,10 @@
-use Rattle.std.proofs.Common.{sym, ◌∙◌, ap, ◌≡◌, ◌≤◌, ◌<◌, ◌+◌, ◌*◌, ◌^◌, pos, get_or, length, arith, to_z, of_z, subst, unsigned_abs, inr, le_trans, le_refl}
+use Rattle.std.proofs.Common.{sym, ◌∙◌, ap, ◌≡◌, ◌≤◌, ◌<◌, ◌+◌, ◌*◌, ◌^◌, pos, get_or, length, arith, to_z, of_z, subst, unsigned_abs, ◌⊎◌, inr, le_trans, le_refl}
 use Rattle.std.specs.Int.{w64}
 use Rattle.mpc_whole.specs.Whole.{whole_at, whole_cell, IsChanged, turned}
-use Rattle.mpc_whole.proofs.WholeSteps.{read_small, set_small, set_bound}
-use Rattle.mpc_whole.proofs.WholeExchange.{row_done, row_kept, number_changed, row_below}
+use Rattle.mpc_whole.proofs.WholeSteps.{read_small, read_bound, set_small, set_bound}
+use Rattle.mpc_whole.proofs.WholeExchange.{row_done, row_kept, number_changed, row_below, row_inside}
 use Rattle.mpc_whole.proofs.whole_pivot.change_row.Goals as goal
+use Rattle.mpc_whole.proofs.whole_pivot.change_row.Goals.{After-loop-c}
 
 pub loop-c-preserved : goal.loop-c-preserved
 loop-c-preserved c =
@@ -32,3 +33,70 @@ loop-c-preserved c =
       small = set_small c.loop-c.v k (to_z w64 (of_z w64 c.in_ok-new.new)) b c.args.most c.loop-c.invariant.small (subst (λ z. unsigned_abs z ≤ c.args.most) (sym back) c.in_ok-new.ensures.small);
       own = λ q h. set_bound c.loop-c.v k (to_z w64 (of_z w64 c.in_ok-new.new)) b c.loop-c.own c.max-own.result c.loop-c.invariant.own (let e = c.max-own.ensures in omega arith) (let e = c.max-own.ensures in let f = c.unsigned_abs.ensures.value in omega arith) q (omega arith);
     }
+
+-- places in row j
+pub slice_copy_out-turned : goal.slice_copy_out-turned
+slice_copy_out-turned c = row_inside (length c.args.x.now) c.args.j c.args.e (length c.args.v.now) c.requires.square c.requires.row c.requires.column
+
+pub slice_copy_out-old : goal.slice_copy_out-old
+slice_copy_out-old c = subst (λ m. c.args.j * length c.args.x.now + c.loop-c.c < m) (sym (let l : length c.loop-c.v ≡ length c.args.v.now = c.loop-c.auto.v in l)) (row_inside (length c.args.x.now) c.args.j c.loop-c.c (length c.args.v.now) c.requires.square c.requires.row c.loop-c-test.true)
+
+pub bounds-v-from : goal.bounds-v-from
+bounds-v-from c = subst (λ m. c.args.j * length c.args.x.now + c.loop-c.c < m) (sym (let l : length c.loop-c.v ≡ length c.args.v.now = c.loop-c.auto.v in l)) (row_inside (length c.args.x.now) c.args.j c.loop-c.c (length c.args.v.now) c.requires.square c.requires.row c.loop-c-test.true)
+
+pub overflow_mul-from : goal.overflow_mul-from
+overflow_mul-from c = let r = row_inside (length c.args.x.now) c.args.j c.args.e (length c.args.v.now) c.requires.square c.requires.row c.requires.column in omega arith
+
+pub overflow_add-from : goal.overflow_add-from
+overflow_add-from c = let r = row_inside (length c.args.x.now) c.args.j c.args.e (length c.args.v.now) c.requires.square c.requires.row c.requires.column in omega arith
+
+pub offset_bounds-v-from : goal.offset_bounds-v-from
+offset_bounds-v-from c = let r = row_inside (length c.args.x.now) c.args.j c.args.e (length c.args.v.now) c.requires.square c.requires.row c.requires.column in omega arith
+
+pub overflow_add-old : goal.overflow_add-old
+overflow_add-old c = let r = row_inside (length c.args.x.now) c.args.j c.loop-c.c (length c.args.v.now) c.requires.square c.requires.row c.loop-c-test.true in omega arith
+
+pub offset_bounds-v-from-in-loop-c : goal.offset_bounds-v-from-in-loop-c
+offset_bounds-v-from-in-loop-c c = let r = row_inside (length c.args.x.now) c.args.j c.loop-c.c (length c.args.v.now) c.requires.square c.requires.row c.loop-c-test.true in omega arith
+
+pub overflow_add-new : goal.overflow_add-new
+overflow_add-new c = let r = row_inside (length c.args.x.now) c.args.j c.loop-c.c (length c.args.v.now) c.requires.square c.requires.row c.loop-c-test.true in omega arith
+
+pub offset_bounds-v-from-in-loop-c-2 : goal.offset_bounds-v-from-in-loop-c-2
+offset_bounds-v-from-in-loop-c-2 c = let r = row_inside (length c.args.x.now) c.args.j c.loop-c.c (length c.args.v.now) c.requires.square c.requires.row c.loop-c-test.true in omega arith
+
+-- sizes of the numbers that are read
+pub turned-factor-requires : goal.turned-factor-requires
+turned-factor-requires c = le_trans (read_bound (whole_at c.args.v.now (c.args.j * length c.args.x.now + c.args.e)) c.args.most (c.requires.small.each (c.args.j * length c.args.x.now + c.args.e)) c.requires.most_small) c.requires.most_small
+
+pub new_number-requires-clause-old_small : goal.new_number-requires-clause-old_small
+new_number-requires-clause-old_small c = read_bound (whole_at c.loop-c.v (c.args.j * length c.args.x.now + c.loop-c.c)) c.args.most (c.loop-c.invariant.small.each (c.args.j * length c.args.x.now + c.loop-c.c)) c.requires.most_small
+
+pub new_number-requires-clause-factor_small : goal.new_number-requires-clause-factor_small
+new_number-requires-clause-factor_small c =
+    read_bound c.turned-factor.result c.args.most (le_trans c.turned-factor.ensures.small (read_bound (whole_at c.args.v.now (c.args.j * length c.args.x.now + c.args.e)) c.args.most (c.requires.small.each (c.args.j * length c.args.x.now + c.args.e)) c.requires.most_small)) c.requires.most_small
+
+pub new_number-requires-clause-x_small : goal.new_number-requires-clause-x_small
+new_number-requires-clause-x_small c = read_bound (whole_at c.args.x.now c.loop-c.c) (2 ^ 62) (c.requires.row_small.each c.loop-c.c) (le_refl (2 ^ 62))
+
+pub new_number-requires-clause-size_small : goal.new_number-requires-clause-size_small
+new_number-requires-clause-size_small c = subst (λ m. m ≤ 2 ^ 62) (sym c.unsigned_abs-size.ensures.value) (read_bound (whole_at c.args.x.now c.args.e) (2 ^ 62) (c.requires.row_small.each c.args.e) (le_refl (2 ^ 62)))
+
+pub returns-in_err-new : goal.returns-in_err-new
+returns-in_err-new c = rw c.from_residual.ensures (record { cells = tt; others = tt; small = tt; own = tt })
+
+all_of : (c : After-loop-c) → c.loop-c.c ≡ length c.args.x.now
+all_of c = let a = c.loop-c.auto.c-end in let b = c.loop-c-test.false in omega arith
+
+pub returns-clause-cells : goal.returns-clause-cells
+returns-clause-cells c = λ k h. c.loop-c.invariant.done k (let t = c.loop-c-test.false in omega arith)
+
+pub returns-clause-others : goal.returns-clause-others
+returns-clause-others c =
+    let at = goal.at.returns-clause-others c in
+    λ k h. c.loop-c.invariant.kept k (subst (λ m. (k < c.args.j * length c.args.x.now) ⊎ (c.args.j * length c.args.x.now + m ≤ k)) (sym (all_of at.After-loop-c)) h)
+
+pub returns-clause-own : goal.returns-clause-own
+returns-clause-own c =
+    let at = goal.at.returns-clause-own c in
+    λ k h. c.loop-c.invariant.own k (subst (λ m. k < c.args.j * length c.args.x.now + m) (sym (all_of at.After-loop-c)) h)

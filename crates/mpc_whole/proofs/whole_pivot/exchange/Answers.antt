@@ -1,8 +1,8 @@
-use Rattle.std.proofs.Common.{ℕ, ◌≡◌, ◌*◌, ◌<◌, ◌≤◌, ◌⊎◌, inl, inr, length, pos, unsigned_abs, arith, subst, sym, le_trans, mul-le-mul_right}
+use Rattle.std.proofs.Common.{ℕ, ◌≡◌, ◌*◌, ◌<◌, ◌≤◌, ◌⊎◌, inl, inr, length, pos, unsigned_abs, arith, subst, sym, ◌∙◌, le_trans, mul-le-mul_right}
 use Rattle.std.proofs.lemmas.Bool.{cases_lt}
 use Rattle.std.proofs.lemmas.List.{get_or_past}
 use Rattle.mpc_whole.specs.Whole.{whole_at, whole_cell, IsChanged}
-use Rattle.mpc_whole.proofs.WholeExchange.{rows_done, rows_kept}
+use Rattle.mpc_whole.proofs.WholeExchange.{rows_done, rows_kept, pivot_whole}
 use Rattle.mpc_whole.proofs.whole_pivot.exchange.Goals as goal
 use Rattle.mpc_whole.proofs.whole_pivot.exchange.Goals.{After-loop-j}
 
@@ -33,3 +33,17 @@ returns-clause-own c = record { each = λ k. by k (cases_lt k (c.loop-j.j * leng
     by : (k : ℕ) → (k < c.loop-j.j * length c.args.x.now) ⊎ (c.loop-j.j * length c.args.x.now ≤ k) → unsigned_abs (whole_at c.loop-j.v k) ≤ c.loop-j.own
     by k (inl h) = c.loop-j.invariant.own k h
     by k (inr h) = subst (λ z. unsigned_abs z ≤ c.loop-j.own) (sym (get_or_past c.loop-j.v k (pos 0) (le_trans (all_of c) h))) (omega arith)
+
+pub change_row-requires-clause-square : goal.change_row-requires-clause-square
+change_row-requires-clause-square c = (let q : length c.loop-j.v ≡ length c.args.v.now = c.loop-j.auto.v in q) ∙ c.requires.square
+
+pub change_row-requires-clause-before : goal.change_row-requires-clause-before
+change_row-requires-clause-before c = c.loop-j.invariant.own
+
+pub returns-in_err-own : goal.returns-in_err-own
+returns-in_err-own c = rw c.from_residual.ensures (record { pivot = tt; small = tt; own = tt })
+
+pub returns-clause-pivot : goal.returns-clause-pivot
+returns-clause-pivot c =
+    pivot_whole (length c.args.x.now) c.args.by.den c.args.v.now c.loop-j.v c.args.x.now c.args.e c.requires.column
+    (λ j k h l. c.loop-j.invariant.done j k (let t = c.loop-j-test.false in omega arith) l)

@@ -6,6 +6,7 @@ use Rattle.mpc_space.specs.Vector.{coordinate}
 use Rattle.mpc_whole.specs.WholeSystems.{AreBehind}
 use Rattle.mpc_whole.proofs.WholeSteps.{read_small}
 use Rattle.mpc_whole.proofs.WholeSystems.{behind_more, kept_more}
+use Rattle.std.proofs.lemmas.Result.{err_from_is_err_and}
 use Rattle.mpc_whole.proofs.whole_systems.add_entries.Goals as goal
 
 pub loop-x-preserved : goal.loop-x-preserved
@@ -31,3 +32,11 @@ loop-x-preserved c =
       behind = subst (λ xs. AreBehind old xs (j + 1) c.args.scale (coordinate row) c.max-most.result) (sym r) more;
       bound = (let h = c.loop-x.invariant.bound in omega arith);
     }
+
+pub returns-in_err-push : goal.returns-in_err-push
+returns-in_err-push c =
+    let p = err_from_is_err_and c.from_residual.result c.from_residual.ensures.1 in
+    rw p.1 (record { kept = ap (λ xs. take (length c.args.a.now.items) xs) c.in_err-push.ensures.items ∙ c.loop-x.invariant.kept; behind = tt; bound = tt })
+
+pub returns-in_default : goal.returns-in_default
+returns-in_default c = record { kept = c.loop-x.invariant.kept; behind = tt; bound = tt }

@@ -1,12 +1,13 @@
-use Rattle.std.proofs.Common.{◌≡◌, ℕ, ◌+◌, ◌≤◌, ◌^◌, ◌<◌, [], ◌∷◌, ◌++◌, length, take, pos, neg_ℤ, unsigned_abs, to_z, of_z, sym, ◌∙◌, ap, subst, refl, arith}
+use Rattle.std.proofs.Common.{◌≡◌, ℕ, ◌+◌, ◌≤◌, ◌^◌, ◌<◌, [], ◌∷◌, ◌++◌, length, take, pos, neg_ℤ, unsigned_abs, to_z, of_z, sym, ◌∙◌, ap, subst, refl, arith, le_refl}
 use Rattle.std.specs.Int.{w64}
 use Rattle.std.proofs.lemmas.List.{get_or_read}
 use Rattle.mpc_exact.specs.Rational.{frac}
 use Rattle.mpc_whole.specs.Whole.{whole_at, IsSmall}
 use Rattle.mpc_whole.specs.WholeSystems.{AreBehind}
 use Rattle.mpc_whole.proofs.WholeNorms.{abs-negated}
-use Rattle.mpc_whole.proofs.WholeSteps.{read_small}
+use Rattle.mpc_whole.proofs.WholeSteps.{read_small, read_bound}
 use Rattle.mpc_whole.proofs.WholeSystems.{behind_more, kept_more, kept_at, behind_as}
+use Rattle.std.proofs.lemmas.Result.{err_from_is_err_and}
 use Rattle.mpc_whole.proofs.whole_systems.add_negatives.Goals as goal
 
 pub loop-c-preserved : goal.loop-c-preserved
@@ -37,3 +38,26 @@ pub returns-clause-behind : goal.returns-clause-behind
 returns-clause-behind c = λ scale most s.
     let e : c.loop-c.c ≡ c.args.count = omega arith in
     behind_as c.args.a.now.items c.loop-c.a.items c.loop-c.c c.args.count scale _ _ most e (λ j. refl) (c.loop-c.invariant.behind scale most s)
+
+pub returns-in_err-push : goal.returns-in_err-push
+returns-in_err-push c =
+    let p = err_from_is_err_and c.from_residual.result c.from_residual.ensures.1 in
+    rw p.1 (record { kept = ap (λ xs. take (length c.args.a.now.items) xs) c.in_err-push.ensures.items ∙ c.loop-c.invariant.kept; behind = tt })
+
+pub index-requires : goal.index-requires
+index-requires c =
+    let size = (c.loop-c.invariant.behind 1 (2 ^ 62) c.requires.small).size in
+    let w = c.requires.within in
+    let t = c.loop-c-test.true in
+    let o = c.loop-c.a.ok in
+    omega arith
+
+pub negative-z-requires : goal.negative-z-requires
+negative-z-requires c =
+    let old = c.args.a.now.items in
+    let now = c.loop-c.a.items in
+    let k = c.args.from + c.loop-c.c in
+    let size : length now ≡ length old + c.loop-c.c = (c.loop-c.invariant.behind 1 (2 ^ 62) c.requires.small).size in
+    let here : k < length old = (let w = c.requires.within in let t = c.loop-c-test.true in omega arith) in
+    let stored : c.index.result.now ≡ whole_at now k = get_or_read now k c.index.result.now (omega arith) c.index.ensures (pos 0) in
+    read_bound c.index.result.now (2 ^ 62) (subst (λ u. unsigned_abs u ≤ 2 ^ 62) (sym (stored ∙ kept_at old now (pos 0) k c.loop-c.invariant.kept here)) (c.requires.small.each k)) (le_refl (2 ^ 62))

@@ -5,6 +5,7 @@ use Rattle.mpc_exact.specs.Rational.{int, frac}
 use Rattle.mpc_whole.specs.WholeSystems.{AreBehind, negated_where}
 use Rattle.mpc_whole.proofs.WholeSteps.{read_small}
 use Rattle.mpc_whole.proofs.WholeSystems.{behind_more, kept_more}
+use Rattle.std.proofs.lemmas.Result.{err_from_is_err_and}
 use Rattle.mpc_whole.proofs.whole_systems.add_numbers.Goals as goal
 
 pub loop-z-preserved : goal.loop-z-preserved
@@ -30,3 +31,11 @@ loop-z-preserved c =
       behind = subst (λ xs. AreBehind old xs (j + 1) 1 f c.max-most.result) (sym r) more;
       bound = (let h = c.loop-z.invariant.bound in omega arith);
     }
+
+pub returns-in_err-push : goal.returns-in_err-push
+returns-in_err-push c =
+    let p = err_from_is_err_and c.from_residual.result c.from_residual.ensures.1 in
+    rw p.1 (record { kept = ap (λ xs. take (length c.args.a.now.items) xs) c.in_err-push.ensures.items ∙ c.loop-z.invariant.kept; behind = tt; bound = tt })
+
+pub returns-in_default : goal.returns-in_default
+returns-in_default c = record { kept = c.loop-z.invariant.kept; behind = tt; bound = tt }

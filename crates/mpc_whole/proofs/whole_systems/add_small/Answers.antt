@@ -1,10 +1,11 @@
-use Rattle.std.proofs.Common.{◌≡◌, ◌++◌, ◌∷◌, [], ◌∙◌, ap, arith, refl, unsigned_abs, to_z, of_z, lit<}
+use Rattle.std.proofs.Common.{◌≡◌, ◌++◌, ◌∷◌, [], ◌∙◌, ap, arith, refl, le_refl, unsigned_abs, to_z, of_z, lit<}
 use Rattle.std.specs.Int.{w64}
 use Rattle.mpc_rows.specs.LawRows.{whole_row}
 use Rattle.mpc_space.specs.Vector.{coordinate}
 use Rattle.mpc_whole.proofs.WholeSteps.{read_small}
-use Rattle.mpc_whole.proofs.WholeSystems.{behind_as}
+use Rattle.mpc_whole.proofs.WholeSystems.{behind_as, kept_whole, kept_as, kept_behind}
 use Rattle.mpc_whole.proofs.WholeAppended.{behind_both}
+use Rattle.std.proofs.lemmas.Result.{err_from_is_err_and}
 use Rattle.mpc_whole.proofs.whole_systems.add_small.Goals as goal
 
 pub returns-clause-added : goal.returns-clause-added
@@ -30,3 +31,13 @@ returns-clause-added c =
       side_bound = (omega arith);
       scale_bound = c.requires.lists.some_scale;
     }
+
+pub returns-in_err-extend_from_slice : goal.returns-in_err-extend_from_slice
+returns-in_err-extend_from_slice c =
+    let p = err_from_is_err_and c.from_residual.result c.from_residual.ensures.1 in
+    rw p.1 (record { kept = record { width = refl; entries = kept_as _ _ c.in_err-extend_from_slice.ensures.items; sides = kept_whole _; scales = kept_whole _; strict = kept_whole _; most_entry = le_refl _; most_side = le_refl _; most_scale = le_refl _ }; added = tt })
+
+pub returns-in_err-add_ends : goal.returns-in_err-add_ends
+returns-in_err-add_ends c =
+    let p = err_from_is_err_and c.from_residual-in_err-add_ends.result c.from_residual-in_err-add_ends.ensures.1 in
+    rw p.1 (record { kept = record { width = refl; entries = kept_behind _ _ _ c.in_ok-extend_from_slice.ensures.items; sides = c.add_ends.ensures.sides_kept; scales = c.add_ends.ensures.scales_kept; strict = c.add_ends.ensures.strict_kept; most_entry = le_refl _; most_side = le_refl _; most_scale = le_refl _ }; added = tt })

@@ -1,4 +1,4 @@
-use Rattle.std.proofs.Common.{◌≡◌, ℕ, ◌+◌, ◌*◌, ◌<◌, ◌≤◌, ◌^◌, [], ◌∷◌, ◌++◌, length, get_or, pos, false, neg_ℤ, unsigned_abs, to_z, of_z, sym, ◌∙◌, ap, subst, arith}
+use Rattle.std.proofs.Common.{◌≡◌, ℕ, ◌+◌, ◌*◌, ◌<◌, ◌≤◌, ◌^◌, [], ◌∷◌, ◌++◌, length, get_or, pos, false, neg_ℤ, unsigned_abs, to_z, of_z, sym, ◌∙◌, ap, subst, refl, le_refl, arith}
 use Rattle.std.specs.Int.{w64}
 use Rattle.std.proofs.lemmas.List.{get_or_read}
 use Rattle.mpc_exact.specs.Rational.{frac}
@@ -9,7 +9,8 @@ use Rattle.mpc_whole.specs.WholeSystems.{row_scale, kept_row}
 use Rattle.mpc_whole.proofs.TurnedWhole.{turned_entry, turned_side}
 use Rattle.mpc_whole.proofs.WholeNorms.{abs-negated}
 use Rattle.mpc_whole.proofs.WholeSteps.{read_small}
-use Rattle.mpc_whole.proofs.WholeSystems.{behind_listed}
+use Rattle.mpc_whole.proofs.WholeSystems.{behind_listed, kept_whole}
+use Rattle.std.proofs.lemmas.Result.{err_from_is_err_and}
 use Rattle.mpc_whole.proofs.whole_systems.add_turned.Goals as goal
 
 pub returns-clause-added : goal.returns-clause-added
@@ -42,3 +43,13 @@ returns-clause-added c _ =
       side_bound = size l.most_side (o.sides.each i);
       scale_bound = o.scales (l.width + i);
     }
+
+pub returns-in_err-add_negatives : goal.returns-in_err-add_negatives
+returns-in_err-add_negatives c =
+    let p = err_from_is_err_and c.from_residual.result c.from_residual.ensures.1 in
+    rw p.1 (record { kept = record { width = refl; entries = c.add_negatives.ensures.kept; sides = kept_whole _; scales = kept_whole _; strict = kept_whole _; most_entry = le_refl _; most_side = le_refl _; most_scale = le_refl _ }; added = tt })
+
+pub returns-in_err-add_ends : goal.returns-in_err-add_ends
+returns-in_err-add_ends c =
+    let p = err_from_is_err_and c.from_residual-in_err-add_ends.result c.from_residual-in_err-add_ends.ensures.1 in
+    rw p.1 (record { kept = record { width = refl; entries = c.add_negatives.ensures.kept; sides = c.add_ends.ensures.sides_kept; scales = c.add_ends.ensures.scales_kept; strict = c.add_ends.ensures.strict_kept; most_entry = le_refl _; most_side = le_refl _; most_scale = le_refl _ }; added = tt })

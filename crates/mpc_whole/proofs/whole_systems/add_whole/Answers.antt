@@ -1,11 +1,12 @@
-use Rattle.std.proofs.Common.{◌≡◌, ◌∙◌, ◌∷◌, ◌++◌, ◌^◌, ◌≤◌, [], rules, sym, subst, ap, arith, ℕ, ℤ, List, length, get_or, pos, to_z, of_z, FitsSigned, unsigned_abs, lit<}
+use Rattle.std.proofs.Common.{◌≡◌, ◌∙◌, ◌∷◌, ◌++◌, ◌^◌, ◌≤◌, [], rules, sym, subst, ap, arith, ℕ, ℤ, List, length, get_or, pos, to_z, of_z, FitsSigned, unsigned_abs, lit<, refl, le_refl}
 use Rattle.std.specs.Int.{w64, w128}
 use Rattle.std.proofs.lemmas.Int.{to_z-of_z}
 use Rattle.mpc_exact.specs.Rational.{int, frac}
 use Rattle.mpc_space.specs.Vector.{coordinate}
 use Rattle.mpc_whole.specs.WholeSystems.{AreBehind, negated_where}
 use Rattle.mpc_whole.proofs.WholeSteps.{read_small}
-use Rattle.mpc_whole.proofs.WholeSystems.{behind_as, row_where, whole_coordinate, whole_side, whole_strict}
+use Rattle.mpc_whole.proofs.WholeSystems.{kept_whole, behind_as, row_where, whole_coordinate, whole_side, whole_strict}
+use Rattle.std.proofs.lemmas.Result.{err_from_is_err_and}
 use Rattle.mpc_whole.proofs.whole_systems.add_whole.Goals as goal
 
 pub returns-clause-added : goal.returns-clause-added
@@ -40,3 +41,19 @@ returns-clause-added c _ =
       side_bound = (omega arith);
       scale_bound = c.requires.lists.some_scale;
     }
+
+pub returns-in_default-clause-kept : goal.returns-in_default-clause-kept
+returns-in_default-clause-kept c = record { width = refl; entries = kept_whole _; sides = kept_whole _; scales = kept_whole _; strict = kept_whole _; most_entry = le_refl _; most_side = le_refl _; most_scale = le_refl _ }
+
+pub returns-in_err-most : goal.returns-in_err-most
+returns-in_err-most c =
+    let p = err_from_is_err_and c.from_residual.result c.from_residual.ensures.1 in
+    rw p.1 (record { kept = record { width = refl; entries = c.add_numbers.ensures.kept; sides = kept_whole _; scales = kept_whole _; strict = kept_whole _; most_entry = le_refl _; most_side = le_refl _; most_scale = le_refl _ }; added = tt })
+
+pub returns-in_default-2-clause-kept : goal.returns-in_default-2-clause-kept
+returns-in_default-2-clause-kept c = record { width = refl; entries = c.add_numbers.ensures.kept; sides = kept_whole _; scales = kept_whole _; strict = kept_whole _; most_entry = le_refl _; most_side = le_refl _; most_scale = le_refl _ }
+
+pub returns-in_err-add_ends : goal.returns-in_err-add_ends
+returns-in_err-add_ends c =
+    let p = err_from_is_err_and c.from_residual-in_err-add_ends.result c.from_residual-in_err-add_ends.ensures.1 in
+    rw p.1 (record { kept = record { width = refl; entries = c.add_numbers.ensures.kept; sides = c.add_ends.ensures.sides_kept; scales = c.add_ends.ensures.scales_kept; strict = c.add_ends.ensures.strict_kept; most_entry = le_refl _; most_side = le_refl _; most_scale = le_refl _ }; added = tt })

@@ -7,21 +7,15 @@ use Rattle.mpc_whole.proofs.WholeTurns.{none_below, none_up_to, leaves_as}
 use Rattle.mpc_whole.proofs.whole_turn.first_out.Goals as goal
 use Rattle.mpc_whole.proofs.whole_turn.first_out.Goals.{After-is_out}
 
-pub is_out-requires-clause-first_fits : goal.is_out-requires-clause-first_fits
-is_out-requires-clause-first_fits c = λ t. c.requires.first_fits t (c.loop-x.x - c.unknowns-width.result)
-
-pub is_out-requires-clause-second_fits : goal.is_out-requires-clause-second_fits
-is_out-requires-clause-second_fits c = λ t. c.requires.second_fits t (c.loop-x.x - c.unknowns-width.result)
-
 pub loop-x-init : goal.loop-x-init
-loop-x-init c = λ p some h v w t. none_below (may_leave c.args.system.now p) c.args.first t
+loop-x-init c = λ p some h v w t. none_below (may_leave c.args.system.now p) c.args.place.first t
 
 pub loop-x-preserved-then-not-is_basic : goal.loop-x-preserved-then-not-is_basic
 loop-x-preserved-then-not-is_basic c = λ p some h v w t.
     least_skip (may_leave c.args.system.now p) c.loop-x.x None (c.loop-x.invariant p some h v w t)
     (leave_not_basic c.args.system.now p c.loop-x.x (h.basic c.loop-x.x c.loop-x-test.true ∙ sym c.is_basic.ensures ∙ c.if-not-is_basic.true))
 
-test_is : (c : After-is_out) (p : Position) → HasBasis c.args.n c.args.seats.now p → c.is_out.result ≡ is_below (bound c.args.system.now (c.args.system.now.width + (c.loop-x.x - c.unknowns-width.result))) (value c.args.system.now p (c.args.system.now.width + (c.loop-x.x - c.unknowns-width.result))) → c.is_out.result ≡ may_leave c.args.system.now p c.loop-x.x
+test_is : (c : After-is_out) (p : Position) → HasBasis c.args.frame.now.n c.args.seats.now p → c.is_out.result ≡ is_below (bound c.args.system.now (c.args.system.now.width + (c.loop-x.x - c.unknowns-width.result))) (value c.args.system.now p (c.args.system.now.width + (c.loop-x.x - c.unknowns-width.result))) → c.is_out.result ≡ may_leave c.args.system.now p c.loop-x.x
 test_is c p h e =
     e ∙ ap (λ w. is_below (bound c.args.system.now (c.args.system.now.width + (c.loop-x.x - w))) (value c.args.system.now p (c.args.system.now.width + (c.loop-x.x - w)))) c.unknowns-width.ensures
     ∙ leaves_as c.args.system.now p c.loop-x.x (let a = c.loop-x.auto.x in let b = c.requires.side in omega arith) (h.basic c.loop-x.x c.loop-x-test.true ∙ sym c.is_basic.ensures ∙ c.if-not-is_basic.false)
@@ -29,7 +23,7 @@ test_is c p h e =
 pub returns-then-is_out : goal.returns-then-is_out
 returns-then-is_out c = λ p some h v w t.
     let at = goal.at.returns-then-is_out c in
-    sym (least_some (may_leave c.args.system.now p) c.args.n c.loop-x.x c.is_out.result c.loop-x-test.true (c.loop-x.invariant p some h v w t) (test_is at.After-is_out p h (c.is_out.ensures p some v w)) c.if-is_out.true)
+    sym (least_some (may_leave c.args.system.now p) c.args.frame.now.n c.loop-x.x c.is_out.result c.loop-x-test.true (c.loop-x.invariant p some h v w t) (test_is at.After-is_out p h (c.is_out.ensures p some v w)) c.if-is_out.true)
 
 pub loop-x-preserved : goal.loop-x-preserved
 loop-x-preserved c = λ p some h v w t.
@@ -37,4 +31,19 @@ loop-x-preserved c = λ p some h v w t.
     least_none (may_leave c.args.system.now p) c.loop-x.x c.is_out.result (c.loop-x.invariant p some h v w t) (test_is at.After-is_out p h (c.is_out.ensures p some v w)) c.if-is_out.false
 
 pub returns : goal.returns
-returns c = λ p some h v w t. sym (none_up_to (may_leave c.args.system.now p) c.args.n c.loop-x.x (let b = c.loop-x-test.false in omega arith) (c.loop-x.invariant p some h v w t))
+returns c = λ p some h v w t. sym (none_up_to (may_leave c.args.system.now p) c.args.frame.now.n c.loop-x.x (let b = c.loop-x-test.false in omega arith) (c.loop-x.invariant p some h v w t))
+
+pub is_out-requires-clause-frame : goal.is_out-requires-clause-frame
+is_out-requires-clause-frame c = c.requires.frame
+
+pub is_out-requires-clause-parts : goal.is_out-requires-clause-parts
+is_out-requires-clause-parts c = c.requires.parts
+
+pub is_out-requires-clause-short : goal.is_out-requires-clause-short
+is_out-requires-clause-short c = c.requires.short
+
+pub is_out-requires-clause-four : goal.is_out-requires-clause-four
+is_out-requires-clause-four c = c.requires.four
+
+pub is_out-requires-clause-den_small : goal.is_out-requires-clause-den_small
+is_out-requires-clause-den_small c = c.requires.den_small

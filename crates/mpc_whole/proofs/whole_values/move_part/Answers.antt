@@ -6,7 +6,8 @@ use Rattle.mpc_whole.specs.Whole.{whole_at, whole_cell}
 use Rattle.mpc_exact.proofs.IntRing.{int_reads, by_ring_ℤ}
 use Rattle.mpc_whole.specs.Moved.{excess, IsMoved}
 use Rattle.mpc_whole.proofs.WholeSums.{whole_total-zeros}
-use Rattle.mpc_whole.proofs.WholeSteps.{read_small, set_same, set_other, set_small, set_above}
+use Rattle.mpc_whole.proofs.WholeSteps.{read_small, read_bound, set_same, set_other, set_small, set_above}
+use Rattle.mpc_whole.proofs.WholeExchange.{row_inside}
 use Rattle.mpc_whole.proofs.whole_values.move_part.Goals as goal
 
 one_more : (xs : List ℤ) (j : ℕ) (z : ℤ) → j < length xs → (d : ℤ) (f : ℕ → ℤ) → ((k : ℕ) → k < j → whole_at xs k *ℤ d ≡ f k) → z *ℤ d ≡ f j → (k : ℕ) → k < j + 1 → whole_at (set xs j z) k *ℤ d ≡ f k
@@ -36,18 +37,51 @@ loop-j-preserved c =
     let z = to_z w64 (of_z w64 c.in_ok-new.new) in
     let back : z ≡ c.in_ok-new.new = read_small c.in_ok-new.new c.in_ok-new.ensures.small in
     let old : to_z w64 (of_z w64 (get_or c.loop-j.c c.loop-j.j (pos 0))) ≡ whole_at c.args.c.now c.loop-j.j = read_small _ (c.loop-j.invariant.small.each c.loop-j.j) ∙ c.loop-j.invariant.kept c.loop-j.j (le_refl c.loop-j.j) in
-    let factor : to_z w64 (of_z w64 (get_or c.args.v.now (c.loop-j.j * w + c.args.e) (pos 0))) ≡ whole_cell w c.args.v.now c.loop-j.j c.args.e = read_small _ (c.requires.numbers_small.each (c.loop-j.j * w + c.args.e)) in
-    let over : to_z w64 (of_z w64 c.in_ok-over.over) ≡ excess w c.args.a.now c.args.i (to_z w64 (of_z w64 c.args.limit)) c.args.by.den c.args.c.now = read_small _ c.in_ok-over.ensures.small ∙ c.in_ok-over.ensures.value in
-    let e : z *ℤ pos c.args.by.den ≡ (whole_at c.args.c.now c.loop-j.j *ℤ pos c.args.size) +ℤ neg_ℤ (whole_cell w c.args.v.now c.loop-j.j c.args.e *ℤ excess w c.args.a.now c.args.i (to_z w64 (of_z w64 c.args.limit)) c.args.by.den c.args.c.now) =
-    ap (λ u. u *ℤ pos c.args.by.den) back ∙ c.in_ok-new.ensures.value ∙ (λ t. (old t *ℤ pos c.args.size) +ℤ neg_ℤ (factor t *ℤ over t))
+    let factor : to_z w64 (of_z w64 (get_or c.args.v.now (c.loop-j.j * w + c.args.pivot.e) (pos 0))) ≡ whole_cell w c.args.v.now c.loop-j.j c.args.pivot.e = read_small _ (c.requires.pivot.numbers_small.each (c.loop-j.j * w + c.args.pivot.e)) in
+    let over : to_z w64 (of_z w64 c.in_ok-over.over) ≡ excess w c.args.a.now c.args.pivot.i (to_z w64 (of_z w64 c.args.limit)) c.args.pivot.by.den c.args.c.now = read_small _ c.in_ok-over.ensures.small ∙ c.in_ok-over.ensures.value in
+    let e : z *ℤ pos c.args.pivot.by.den ≡ (whole_at c.args.c.now c.loop-j.j *ℤ pos c.args.pivot.size) +ℤ neg_ℤ (whole_cell w c.args.v.now c.loop-j.j c.args.pivot.e *ℤ excess w c.args.a.now c.args.pivot.i (to_z w64 (of_z w64 c.args.limit)) c.args.pivot.by.den c.args.c.now) =
+    ap (λ u. u *ℤ pos c.args.pivot.by.den) back ∙ c.in_ok-new.ensures.value ∙ (λ t. (old t *ℤ pos c.args.pivot.size) +ℤ neg_ℤ (factor t *ℤ over t))
     in
     record {
-      done = one_more c.loop-j.c c.loop-j.j z b (pos c.args.by.den) (λ k. (whole_at c.args.c.now k *ℤ pos c.args.size) +ℤ neg_ℤ (whole_cell w c.args.v.now k c.args.e *ℤ excess w c.args.a.now c.args.i (to_z w64 (of_z w64 c.args.limit)) c.args.by.den c.args.c.now)) c.loop-j.invariant.done e;
+      done = one_more c.loop-j.c c.loop-j.j z b (pos c.args.pivot.by.den) (λ k. (whole_at c.args.c.now k *ℤ pos c.args.pivot.size) +ℤ neg_ℤ (whole_cell w c.args.v.now k c.args.pivot.e *ℤ excess w c.args.a.now c.args.pivot.i (to_z w64 (of_z w64 c.args.limit)) c.args.pivot.by.den c.args.c.now)) c.loop-j.invariant.done e;
       kept = set_above c.loop-j.c c.loop-j.j z b c.args.c.now c.loop-j.invariant.kept;
       small = set_small c.loop-j.c c.loop-j.j z b (2 ^ 62) c.loop-j.invariant.small (subst (λ u. unsigned_abs u ≤ 2 ^ 62) (sym back) c.in_ok-new.ensures.small);
     }
 
 pub returns-then-are_zero-clause-moved : goal.returns-then-are_zero-clause-moved
 returns-then-are_zero-clause-moved c =
-    stays (length c.args.c.now) c.args.a.now c.args.i c.args.limit c.args.v.now c.args.e c.args.by.den c.args.size c.args.c.now (c.are_zero.ensures c.if-are_zero.true)
+    stays (length c.args.c.now) c.args.a.now c.args.pivot.i c.args.limit c.args.v.now c.args.pivot.e c.args.pivot.by.den c.args.pivot.size c.args.c.now (c.are_zero.ensures c.if-are_zero.true)
     (sym (to_z-of_z w64 c.args.limit c.ranges.limit) ∙ ap (to_z w64) c.if-limit-eq0.true)
+
+pub returns-in_err-over : goal.returns-in_err-over
+returns-in_err-over c = rw c.from_residual.ensures (record { moved = tt; small = tt })
+
+-- places in the column
+pub overflow_mul-factor : goal.overflow_mul-factor
+overflow_mul-factor c = let r = row_inside (length c.args.c.now) c.loop-j.j c.args.pivot.e (length c.args.v.now) c.requires.pivot.square c.loop-j-test.true c.requires.pivot.column in omega arith
+
+pub overflow_add-factor : goal.overflow_add-factor
+overflow_add-factor c = let r = row_inside (length c.args.c.now) c.loop-j.j c.args.pivot.e (length c.args.v.now) c.requires.pivot.square c.loop-j-test.true c.requires.pivot.column in omega arith
+
+pub offset_bounds-v-j : goal.offset_bounds-v-j
+offset_bounds-v-j c = let r = row_inside (length c.args.c.now) c.loop-j.j c.args.pivot.e (length c.args.v.now) c.requires.pivot.square c.loop-j-test.true c.requires.pivot.column in omega arith
+
+pub bounds-v-j : goal.bounds-v-j
+bounds-v-j c = row_inside (length c.args.c.now) c.loop-j.j c.args.pivot.e (length c.args.v.now) c.requires.pivot.square c.loop-j-test.true c.requires.pivot.column
+
+pub changed-requires-clause-v_small : goal.changed-requires-clause-v_small
+changed-requires-clause-v_small c = read_bound (whole_at c.loop-j.c c.loop-j.j) (2 ^ 62) (c.loop-j.invariant.small.each c.loop-j.j) (le_refl (2 ^ 62))
+
+pub changed-requires-clause-k_small : goal.changed-requires-clause-k_small
+changed-requires-clause-k_small c = read_bound (whole_at c.args.v.now (c.loop-j.j * length c.args.c.now + c.args.pivot.e)) (2 ^ 62) (c.requires.pivot.numbers_small.each (c.loop-j.j * length c.args.c.now + c.args.pivot.e)) (le_refl (2 ^ 62))
+
+pub changed-requires-clause-x_small : goal.changed-requires-clause-x_small
+changed-requires-clause-x_small c = read_bound c.in_ok-over.over (2 ^ 62) c.in_ok-over.ensures.small (le_refl (2 ^ 62))
+
+pub returns-in_err-new : goal.returns-in_err-new
+returns-in_err-new c = rw c.from_residual-in_err-new.ensures (record { moved = tt; small = tt })
+
+pub returns-clause-moved : goal.returns-clause-moved
+returns-clause-moved c =
+    subst (λ g. IsMoved (length c.args.c.now) c.args.a.now c.args.pivot.i g c.args.v.now c.args.pivot.e c.args.pivot.by.den c.args.pivot.size c.args.c.now c.loop-j.c) (to_z-of_z w64 c.args.limit c.ranges.limit)
+    (record { each = λ j h. c.loop-j.invariant.done j (let t = c.loop-j-test.false in omega arith) })

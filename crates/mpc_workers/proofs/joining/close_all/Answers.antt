@@ -1,4 +1,4 @@
-use Rattle.std.proofs.Common.{◌≡◌, ◌+◌, ◌<◌, ℕ, List, [], ◌∷◌, ◌++◌, length, vec_len, get_or, take, subst, arith}
+use Rattle.std.proofs.Common.{◌≡◌, ◌+◌, ◌<◌, ℕ, List, [], ◌∷◌, ◌++◌, length, vec_len, get_or, take, ap, subst, arith}
 use Rattle.mpc_rows.specs.declared.programs.Qp.{Qp}
 use Rattle.mpc_claim.specs.Board.{Board}
 use Rattle.mpc_turn.specs.Known.{TurnId}
@@ -15,8 +15,8 @@ split : (workers n old : ℕ) (turns fewer : List TurnId) (programs : List Qp) (
 split workers n old turns fewer programs firsts rest t q p turns_is firsts_is count more l program_is a =
     popped (IsJoining workers 0) turns fewer programs firsts rest t q p n turns_is firsts_is count l program_is (subst (λ (i : ℕ). AtEach (IsJoining workers 0) turns (take i programs) firsts) more a)
 
-pub close_one-requires : goal.close_one-requires
-close_one-requires c =
+pub close_into-requires : goal.close_into-requires
+close_into-requires c =
     let long = one_longer c.loop-turn.turns.items c.pop.new.self.items c.in-Some.turn c.in-Some.ensures.items in
     let old_ok = c.loop-turn.turns.ok in
     let new_ok = c.pop.new.self.ok in
@@ -39,9 +39,9 @@ loop-turn-preserved c =
     let new_ok = c.pop.new.self.ok in
     let len = c.len-k.ensures in
     let counted = c.loop-turn.invariant.count in
-    let added = c.in-Ok.ensures.len in
+    let added = ap length c.in_ok-close_into.ensures.1 in
     let registries_ok = c.loop-turn.registries.ok in
-    let new_registries_ok = c.insert.new.self.ok in
+    let new_registries_ok = c.close_into.new.registries.ok in
     let count : c.len-k.result ≡ length c.pop.new.self.items = omega (arith, len, new_ok) in
     let more : vec_len c.loop-turn.turns ≡ c.len-k.result + 1 = omega (arith, long, old_ok, count) in
     let l : c.len-k.result < length c.args.programs.now = omega (arith, more, counted) in
@@ -51,10 +51,10 @@ loop-turn-preserved c =
     record {
       firsts = subst (λ (i : ℕ). AtEach (IsJoining c.args.workers 0) c.pop.new.self.items (take i c.args.programs.now) c.pop-in-Some.new.self.items) len
           (each_front (IsJoining c.args.workers 0) c.pop.new.self.items (take c.len-k.result c.args.programs.now) c.pop-in-Some.new.self.items c.in-Some.turn c.index-programs-k.result c.in-Some-pop.first parts);
-      count = omega (arith, place, counted, added);
+      count = omega (arith, place, counted, added, registries_ok, new_registries_ok);
       done = λ k q r m.
-          done_more (λ (p : Qp) (b : Board). IsDone p c.args.workers b) c.args.programs.now c.loop-turn.registries.items c.insert.new.self.items c.in_ok-registry.registry c.index-programs-k.result (vec_len c.pop.new.self) c.in-Ok.ensures.items
-          (omega (arith, l, len)) (subst (λ (i : ℕ). c.index-programs-k.result ≡ get_or c.args.programs.now i c.index-programs-k.result) len c.index-programs-k.is) c.in_ok-registry.ensures
+          done_more (λ (p : Qp) (b : Board). IsDone p c.args.workers b) c.args.programs.now c.loop-turn.registries.items c.close_into.new.registries.items c.in_ok-close_into.ensures.0 c.index-programs-k.result (vec_len c.pop.new.self) c.in_ok-close_into.ensures.1
+          (omega (arith, l, len)) (subst (λ (i : ℕ). c.index-programs-k.result ≡ get_or c.args.programs.now i c.index-programs-k.result) len c.index-programs-k.is) c.in_ok-close_into.ensures.2
           (λ i s b n. subst (λ (h : ℕ). IsDone (get_or c.args.programs.now (h + i) s) c.args.workers (get_or c.loop-turn.registries.items i b)) place (c.loop-turn.invariant.done i s b (omega (arith, n, registries_ok)))) k q r (omega (arith, m, new_registries_ok));
     }
 

@@ -7,8 +7,8 @@ use Rattle.mpc_workers.proofs.seats.seat_of.Given as goal
 
 abbrev pub invariant-loop-k : goal.invariant-loop-k
 invariant-loop-k l = record {
-  firsts : AtEachPlace (IsSplit l.before l.k) l.turns l._programs l.firsts;
+  firsts : AtEachPlace (IsSplit l.before l.k) l.turns l.programs l.firsts;
   room : length l.turns ≤ vec_capacity l.posts;
   count : vec_len l.posts ≡ l.k;
-  posts : AtEach (IsPost (l.before + 1)) (take l.k l.turns) (take l.k l._programs) l.posts.items;
+  posts : AtEach (IsPost (l.before + 1)) (take l.k l.turns) (take l.k l.programs) l.posts.items;
 }

@@ -1,16 +1,15 @@
 use Rattle.std.proofs.Common.{◌∙◌, ap}
 use Rattle.mpc_turn.specs.Known.{Known}
-use Rattle.mpc_workers.proofs.Hands.{answered_own, same_calls}
+use Rattle.mpc_workers.proofs.Hands.{same_calls}
 use Rattle.mpc_workers.proofs.working.claim.Goals as goal
 
 pub taken-requires-clause-answered : goal.taken-requires-clause-answered
-taken-requires-clause-answered g c =
-    answered_own c.args.post.now.pass.worker c.args.turn.now c.args.qp.now c.claim_as-answer.result _ (record {
-      before = c.args.post.now.pass;
-      pass = c.requires.post.pass;
-      kept = c.requires.post.kept;
-      claimed = c.claim_as-answer.ensures;
-    })
+taken-requires-clause-answered g c = record {
+  before = c.args.post.now.pass;
+  pass = c.requires.post.pass;
+  kept = c.requires.post.kept;
+  claimed = c.claim_as-answer.ensures;
+}
 
 pub returns-clause-calls : goal.returns-clause-calls
 returns-clause-calls g c = λ none.

@@ -3,49 +3,58 @@ use Rattle.mpc_rows.specs.declared.programs.Qp.{Qp}
 use Rattle.mpc_rows.specs.Verdicts.{IsRight}
 use Rattle.mpc_claim.specs.declared.events.EventKind.TheVariants.{Done, Drop}
 use Rattle.mpc_claim.specs.Board.{tag_of}
-use Rattle.mpc_workers.proofs.Hands.{answered_own, ended_kept, ended_pass, its_hand, its_program}
+use Rattle.mpc_workers.proofs.Hands.{ended_kept, ended_pass, its_few, its_hand, its_program, its_rows, its_turn, then_answered}
 use Rattle.mpc_workers.proofs.working.finish_set.Goals as goal
 
+pub examine-requires-clause-set_of_rows : goal.examine-requires-clause-set_of_rows
+examine-requires-clause-set_of_rows g c = its_rows c.args.number c.args.turn.now c.args.qp.now c.args.ticket c.args.post.now c.requires.post c.claim_laws.ensures.candidates
+
+pub examine-requires-clause-few : goal.examine-requires-clause-few
+examine-requires-clause-few g c = its_few c.args.number c.args.turn.now c.args.qp.now c.args.ticket c.args.post.now c.requires.post c.claim_laws.ensures.candidates
+
+pub abandon_as-requires-clause-turn : goal.abandon_as-requires-clause-turn
+abandon_as-requires-clause-turn g c = its_turn c.args.number c.args.turn.now c.args.qp.now c.args.ticket c.args.post.now c.requires.post
+
 pub abandon_as-requires-clause-hand : goal.abandon_as-requires-clause-hand
-abandon_as-requires-clause-hand g c = its_hand c.args.post.now.pass.worker c.args.turn.now c.args.qp.now c.args.ticket c.args.post.now c.requires.post c.hand_laws.ensures.in_hand
+abandon_as-requires-clause-hand g c = its_hand c.args.number c.args.turn.now c.args.qp.now c.args.ticket c.args.post.now c.requires.post c.hand_laws.ensures.in_hand
 
 pub returns-in-Err-clause-err : goal.returns-in-Err-clause-err
 returns-in-Err-clause-err g c = record {
-  pass = ended_pass c.args.post.now.pass.worker c.args.turn.now c.args.qp.now c.args.ticket c.args.post.now c.requires.post c.hand_laws.ensures.claimed c.hand_laws.ensures.ended Drop refl c.abandon_as.new.pass c.abandon_as.ensures;
+  pass = ended_pass c.args.number c.args.turn.now c.args.qp.now c.args.ticket c.args.post.now c.requires.post c.hand_laws.ensures.claimed c.hand_laws.ensures.ended Drop refl c.abandon_as.new.pass c.abandon_as.ensures;
   kept = λ no. absurd (true≢false no);
   ended = λ e. absurd (true≢false (sym e ∙ c.requires.post.working));
 }
 
+pub deliver_as-requires-clause-turn : goal.deliver_as-requires-clause-turn
+deliver_as-requires-clause-turn g c = its_turn c.args.number c.args.turn.now c.args.qp.now c.args.ticket c.args.post.now c.requires.post
+
 pub deliver_as-requires-clause-hand : goal.deliver_as-requires-clause-hand
-deliver_as-requires-clause-hand g c = its_hand c.args.post.now.pass.worker c.args.turn.now c.args.qp.now c.args.ticket c.args.post.now c.requires.post c.hand_laws.ensures.in_hand
+deliver_as-requires-clause-hand g c = its_hand c.args.number c.args.turn.now c.args.qp.now c.args.ticket c.args.post.now c.requires.post c.hand_laws.ensures.in_hand
 
 pub deliver_as-requires-clause-right : goal.deliver_as-requires-clause-right
 deliver_as-requires-clause-right g c =
-    subst (λ (q : Qp). IsRight q c.args.ticket.set c.in-Ok.judged.verdict) (sym (its_program c.args.post.now.pass.worker c.args.turn.now c.args.qp.now c.args.ticket c.args.post.now c.requires.post)) c.in-Ok.ensures.right
+    subst (λ (q : Qp). IsRight q c.args.ticket.set c.in-Ok.judged.verdict) (sym (its_program c.args.number c.args.turn.now c.args.qp.now c.args.ticket c.args.post.now c.requires.post)) c.in-Ok.ensures.right
 
 pub returns-then-is_called_off-clause-err : goal.returns-then-is_called_off-clause-err
 returns-then-is_called_off-clause-err g c =
     let kind = Done (tag_of c.in-Ok.judged.verdict) in
     record {
-      pass = ended_pass c.args.post.now.pass.worker c.args.turn.now c.args.qp.now c.args.ticket c.args.post.now c.requires.post c.hand_laws.ensures.claimed c.hand_laws.ensures.ended kind refl c.deliver_as.new.pass c.deliver_as.ensures;
-      kept = ended_kept c.args.post.now.pass.worker c.args.turn.now c.args.qp.now c.args.ticket c.args.post.now c.requires.post c.hand_laws.ensures.claimed c.hand_laws.ensures.ended kind refl c.deliver_as.new.pass c.deliver_as.ensures refl;
+      pass = ended_pass c.args.number c.args.turn.now c.args.qp.now c.args.ticket c.args.post.now c.requires.post c.hand_laws.ensures.claimed c.hand_laws.ensures.ended kind refl c.deliver_as.new.pass c.deliver_as.ensures;
+      kept = ended_kept c.args.number c.args.turn.now c.args.qp.now c.args.ticket c.args.post.now c.requires.post c.hand_laws.ensures.claimed c.hand_laws.ensures.ended kind refl c.deliver_as.new.pass c.deliver_as.ensures refl;
       ended = λ e. absurd (true≢false (sym e ∙ c.requires.post.working));
     }
 
+pub deliver_then_claim_as-answer-requires-clause-turn : goal.deliver_then_claim_as-answer-requires-clause-turn
+deliver_then_claim_as-answer-requires-clause-turn g c = its_turn c.args.number c.args.turn.now c.args.qp.now c.args.ticket c.args.post.now c.requires.post
+
 pub deliver_then_claim_as-answer-requires-clause-hand : goal.deliver_then_claim_as-answer-requires-clause-hand
-deliver_then_claim_as-answer-requires-clause-hand g c = its_hand c.args.post.now.pass.worker c.args.turn.now c.args.qp.now c.args.ticket c.args.post.now c.requires.post c.hand_laws.ensures.in_hand
+deliver_then_claim_as-answer-requires-clause-hand g c = its_hand c.args.number c.args.turn.now c.args.qp.now c.args.ticket c.args.post.now c.requires.post c.hand_laws.ensures.in_hand
 
 pub deliver_then_claim_as-answer-requires-clause-right : goal.deliver_then_claim_as-answer-requires-clause-right
 deliver_then_claim_as-answer-requires-clause-right g c =
-    subst (λ (q : Qp). IsRight q c.args.ticket.set c.in-Ok.judged.verdict) (sym (its_program c.args.post.now.pass.worker c.args.turn.now c.args.qp.now c.args.ticket c.args.post.now c.requires.post)) c.in-Ok.ensures.right
+    subst (λ (q : Qp). IsRight q c.args.ticket.set c.in-Ok.judged.verdict) (sym (its_program c.args.number c.args.turn.now c.args.qp.now c.args.ticket c.args.post.now c.requires.post)) c.in-Ok.ensures.right
 
 pub taken-requires-clause-answered : goal.taken-requires-clause-answered
 taken-requires-clause-answered g c =
-    let kind = Done (tag_of c.in-Ok.judged.verdict) in
     let both = c.deliver_then_claim_as-answer.ensures in
-    answered_own c.args.post.now.pass.worker c.args.turn.now c.args.qp.now c.deliver_then_claim_as-answer.result _ (record {
-      before = both.0;
-      pass = ended_pass c.args.post.now.pass.worker c.args.turn.now c.args.qp.now c.args.ticket c.args.post.now c.requires.post c.hand_laws.ensures.claimed c.hand_laws.ensures.ended kind refl both.0 both.1;
-      kept = ended_kept c.args.post.now.pass.worker c.args.turn.now c.args.qp.now c.args.ticket c.args.post.now c.requires.post c.hand_laws.ensures.claimed c.hand_laws.ensures.ended kind refl both.0 both.1 refl;
-      claimed = both.2;
-    })
+    then_answered c.args.number c.args.turn.now c.args.qp.now c.args.ticket c.args.post.now c.requires.post c.hand_laws.ensures.claimed c.hand_laws.ensures.ended (Done (tag_of c.in-Ok.judged.verdict)) refl both.0 both.1 refl c.deliver_then_claim_as-answer.result c.deliver_then_claim_as-answer.new.pass both.2

@@ -7,5 +7,5 @@ abbrev pub invariant-loop : goal.invariant-loop
 invariant-loop g l = record {
   program : l.worker.program ≡ l.initial.worker.program;
   examiner : IfSome l.worker.examiner (λ (q : Qp). q ≡ l.fn.qp);
-  post : IsBusy l.initial.post.pass.worker l.fn.turn l.fn.qp l.ticket l.post;
+  post : IsBusy l.number l.fn.turn l.fn.qp l.ticket l.post;
 }

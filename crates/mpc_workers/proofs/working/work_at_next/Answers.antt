@@ -1,6 +1,6 @@
 use Rattle.std.proofs.Common.{◌<◌, ◌∙◌, ℕ, Ok, length, set, refl, sym, ap, subst, arith}
 use Rattle.mpc_workers.specs.Posts.{after, CallsOnlyAt, IsAtProgram}
-use Rattle.mpc_workers.proofs.Rounds.{own_post, one_changed, nothing_more, nothing_before, no_calls_more, calls_only}
+use Rattle.mpc_workers.proofs.Rounds.{one_changed, nothing_more, nothing_before, no_calls_more, calls_only}
 use Rattle.mpc_workers.proofs.working.work_at_next.Goals as goal
 
 pub work_at-requires-clause-worker : goal.work_at-requires-clause-worker
@@ -10,13 +10,13 @@ pub work_at-requires-clause-post : goal.work_at-requires-clause-post
 work_at-requires-clause-post g c =
     let count = c.loop-steps.invariant.posts.posts_are in
     let within : c.place_after-k.result < length c.args.pool.now.programs.now = omega (arith, count, c.place_after-k.ensures.within) in
-    own_post c.args._number c.args.pool.now.turns.now c.args.pool.now.programs.now c.loop-steps.posts c.place_after-k.result c.index-pool-k.result c.index-pool-k-in-loop-steps.result c.index-posts-k.result within c.loop-steps.invariant.posts
+    c.loop-steps.invariant.posts.each c.place_after-k.result c.index-pool-k.result c.index-pool-k-in-loop-steps.result c.index-posts-k.result within
 
 pub returns-then-took-clause-posts : goal.returns-then-took-clause-posts
 returns-then-took-clause-posts g c =
     let count = c.loop-steps.invariant.posts.posts_are in
     let within : c.place_after-k.result < length c.args.pool.now.programs.now = omega (arith, count, c.place_after-k.ensures.within) in
-    one_changed c.args._number c.args.pool.now.turns.now c.args.pool.now.programs.now c.loop-steps.posts c.place_after-k.result c.index-pool-k.result c.index-pool-k-in-loop-steps.result c.index-posts-k.result within c.loop-steps.invariant.posts c.work_at.new.post c.in-Ok.ensures.post
+    one_changed c.args.number c.args.pool.now.turns.now c.args.pool.now.programs.now c.loop-steps.posts c.place_after-k.result c.index-pool-k.result c.index-pool-k-in-loop-steps.result c.index-posts-k.result within c.loop-steps.invariant.posts c.work_at.new.post c.in-Ok.ensures.post
 
 pub returns-then-took-clause-first : goal.returns-then-took-clause-first
 returns-then-took-clause-first g c = λ _.
@@ -39,7 +39,7 @@ pub returns-in-Err-clause-posts : goal.returns-in-Err-clause-posts
 returns-in-Err-clause-posts g c =
     let count = c.loop-steps.invariant.posts.posts_are in
     let within : c.place_after-k.result < length c.args.pool.now.programs.now = omega (arith, count, c.place_after-k.ensures.within) in
-    one_changed c.args._number c.args.pool.now.turns.now c.args.pool.now.programs.now c.loop-steps.posts c.place_after-k.result c.index-pool-k.result c.index-pool-k-in-loop-steps.result c.index-posts-k.result within c.loop-steps.invariant.posts c.work_at.new.post c.in-Err.ensures.post
+    one_changed c.args.number c.args.pool.now.turns.now c.args.pool.now.programs.now c.loop-steps.posts c.place_after-k.result c.index-pool-k.result c.index-pool-k-in-loop-steps.result c.index-posts-k.result within c.loop-steps.invariant.posts c.work_at.new.post c.in-Err.ensures.post
 
 pub loop-steps-preserved : goal.loop-steps-preserved
 loop-steps-preserved g c =
@@ -50,7 +50,7 @@ loop-steps-preserved g c =
     let found = ap Ok c.if-took.false in
     record {
       worker = c.in-Ok.ensures.same found ∙ c.loop-steps.invariant.worker;
-      posts = one_changed c.args._number c.args.pool.now.turns.now c.args.pool.now.programs.now c.loop-steps.posts c.place_after-k.result c.index-pool-k.result c.index-pool-k-in-loop-steps.result c.index-posts-k.result within c.loop-steps.invariant.posts c.work_at.new.post c.in-Ok.ensures.post;
+      posts = one_changed c.args.number c.args.pool.now.turns.now c.args.pool.now.programs.now c.loop-steps.posts c.place_after-k.result c.index-pool-k.result c.index-pool-k-in-loop-steps.result c.index-posts-k.result within c.loop-steps.invariant.posts c.work_at.new.post c.in-Ok.ensures.post;
       nothing = nothing_more c.args.pool.now.programs.now c.loop-steps.posts _ c.args.worker.now.program c.loop-steps.steps c.place_after-k.result c.index-pool-k-in-loop-steps.result c.work_at.new.post refl place (c.requires.worker.within (omega (arith, steps))) steps count within c.loop-steps.invariant.nothing (c.in-Ok.ensures.nothing found);
       no_calls = no_calls_more c.args.posts.now c.loop-steps.posts _ c.place_after-k.result c.index-posts-k.result c.work_at.new.post refl (omega (arith, count, within)) (c.in-Ok.ensures.no_calls found) c.loop-steps.invariant.no_calls;
     }

@@ -1,7 +1,7 @@
 use Rattle.std.proofs.Common.{◌≡◌, ◌∙◌, ◌++◌, ◌∷◌, [], length, sym, ap, subst, arith, cond, IfOk, OnErr, true}
 use Rattle.mpc_rows.specs.LinearSystem.{LinearSystem}
 use Rattle.mpc_rows.specs.LawRows.{broken_row}
-use Rattle.mpc_whole.proofs.WholeSystems.{whole_length}
+use Rattle.mpc_whole.proofs.WholeSystems.{whole_length, rows_stand}
 use Rattle.mpc_whole.specs.WholeSystems.{system_of, IsSettled}
 use Rattle.mpc_whole.proofs.whole_systems.WholeSystem.push_broken.Goals as goal
 use Rattle.mpc_whole.proofs.whole_systems.WholeSystem.push_broken.Goals.{After-settle}
@@ -24,3 +24,8 @@ returns-clause-ok c =
 
 pub returns-clause-err : goal.returns-clause-err
 returns-clause-err c = subst (λ (s : LinearSystem). OnErr c.settle.result ((system_of c.settle.new.lists).rows ≡ s.rows)) c.self.view_is (settled_row c).err
+
+pub settle-requires : goal.settle-requires
+settle-requires c =
+    let size : c.len-height.result ≡ length c.self.inside.lists.b.items = (let o = c.self.inside.lists.b.ok in let e = c.len-height.ensures in omega (arith, o, e)) in
+    rows_stand c.self.inside.lists c.add_whole-added.new.lists c.len-height.result c.self.invariant c.add_whole-added.ensures.kept size

@@ -2,7 +2,7 @@ use Rattle.std.proofs.Common.{◌≡◌, ◌∙◌, ◌≤◌, length, take, sym
 use Rattle.std.proofs.lemmas.List.{take_all}
 use Rattle.mpc_rows.specs.LinearSystem.{LinearSystem}
 use Rattle.mpc_whole.specs.WholeSystems.{system_of}
-use Rattle.mpc_whole.proofs.WholeSystems.{cut_rows, height_is}
+use Rattle.mpc_whole.proofs.WholeSystems.{cut_rows, cut_lists, first_rows, height_is}
 use Rattle.mpc_whole.proofs.whole_systems.WholeSystem.truncate.Goals as goal
 
 pub returns-then-count-len-clause-rows : goal.returns-then-count-len-clause-rows
@@ -18,3 +18,15 @@ returns-else-count-len-clause-rows c =
     (let o = l.b.ok in let e = c.len.ensures in let h = c.if-count-len.false in let q = height_is l c.self.invariant in omega (arith, o, e, h, q))
     in
     subst (λ (s : LinearSystem). s.rows ≡ take c.args.count s.rows) c.self.view_is (sym (take_all c.args.count (system_of l).rows all))
+
+pub cut-requires : goal.cut-requires
+cut-requires c =
+    let l = c.self.inside.lists in
+    let few : c.args.count ≤ length l.b.items = (let o = l.b.ok in let e = c.len.ensures in let h = c.if-count-len.true in omega (arith, o, e, h)) in
+    first_rows l c.args.count c.self.invariant few
+
+pub invariant_of-self : goal.invariant_of-self
+invariant_of-self c =
+    let l = c.self.inside.lists in
+    let few : c.args.count ≤ length l.b.items = (let o = l.b.ok in let e = c.len.ensures in let h = c.if-count-len.true in omega (arith, o, e, h)) in
+    cut_lists l c.cut.new.lists c.self.invariant c.args.count few c.cut.ensures

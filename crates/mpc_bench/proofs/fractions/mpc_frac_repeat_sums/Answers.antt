@@ -1,0 +1,12 @@
+use Rattle.std.proofs.Common.{◌∙◌}
+use Rattle.mpc_bench.specs.Digests.{paired, sum_digit}
+use Rattle.mpc_bench.proofs.DigestLemmas.{no_pass, pass_more, loaded_digits}
+use Rattle.mpc_bench.proofs.fractions.mpc_frac_repeat_sums.Goals as goal
+
+pub rounds-init : goal.rounds-init
+rounds-init c = no_pass _
+
+pub rounds-preserved : goal.rounds-preserved
+rounds-preserved c =
+    pass_more (paired sum_digit c.args.left.now c.args.right.now) c.rounds.counter c.rounds.digest c.sum_pass-digest.result
+    (c.sum_pass-digest.ensures ∙ loaded_digits sum_digit c.args.left.now c.args.right.now _ _ c.loaded-left_numbers.ensures c.loaded-right_numbers.ensures c.rounds.digest) c.rounds.invariant

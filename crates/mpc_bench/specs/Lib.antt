@@ -1,0 +1,9 @@
+pub mod Parts
+pub mod Orders
+pub mod Digests
+pub mod Sent
+pub mod Codes
+pub mod Courses
+pub mod Texts
+pub mod Answers
+pub mod Runs

@@ -1,4 +1,0 @@
-pub mod Stacks
-pub mod BestMoves
-pub mod OneProgram
-pub mod SameRows

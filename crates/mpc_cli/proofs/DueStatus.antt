@@ -1,0 +1,96 @@
+-- For given words and input one status is due.
+use Rattle.std.proofs.Common.{◌≡◌, ℕ, ◌<◌, ◌≤◌, List, length, refl, sym, ◌∙◌, ap, subst, arith}
+use Rattle.mpc_plant.specs.Readings.{OneReading}
+use Rattle.mpc_synthesis.specs.Outcomes.{OneOutcome}
+use Rattle.mpc_files.specs.FileOutcomes.{OneFileReading, OneFileOutcome}
+use Rattle.mpc_drill.specs.Drills.{IsDrillOutcome, OneDrill}
+use Rattle.mpc_safety.specs.SafetyOutcomes.{OneSafetyOutcome}
+use Rattle.mpc_status.specs.declared.status.Status.{Status}
+use Rattle.mpc_status.specs.declared.status.Status.TheVariants.{Done, Usage, TooLong}
+use Rattle.mpc_cli.specs.declared.commands.Command.{Command}
+use Rattle.mpc_cli.specs.declared.commands.Command.TheVariants.{OfPlant, OfFile, OfStates, Drill, Fleet}
+use Rattle.mpc_cli.specs.Commands.{Names, IsCommand, CommandReads, Reads, plant_text}
+use Rattle.mpc_cli.specs.Extents.{extent_of}
+use Rattle.mpc_sections.specs.Outcomes.{IsFleetOutcome, OneFleetOutcome}
+use Rattle.mpc_cli.specs.Statuses.{IsPlantEnd, plant_status, outcome_status, fleet_status}
+use Rattle.mpc_cli.proofs.FleetEnds.{fleet_ranked, fleet_done}
+use Rattle.mpc_cli.specs.Answers.{input_limit, IsDueTo, IsDueFor, too_long, in_limit, IsDue, no_command, by_command, RefusesNothing, NothingRefused, OneStatus}
+use Rattle.mpc_cli.proofs.CommandLemmas.{one_command}
+use Rattle.mpc_cli.proofs.EndLemmas.{one_of, ranked, rank}
+use Rattle.mpc_cli.proofs.PlantEnds.{one_end, plant_ranked, outcome_ranked, end_done}
+use Rattle.mpc_cli.proofs.FileEnds.{one_file, file_due_ranked, passing_due}
+use Rattle.mpc_states.specs.Outcomes.{OneSolveOutcome, OneRobustOutcome}
+use Rattle.mpc_states.specs.StateLaws.{SolveIsComplete, RobustIsComplete}
+use Rattle.mpc_cli.proofs.StateEnds.{one_state, state_due_ranked, states_done}
+use Rattle.mpc_cli.proofs.DrillEnds.{drill_done}
+
+module _ (plant : OneReading) (outcome : OneOutcome) (reading : OneFileReading) (file : OneFileOutcome) (safety : OneSafetyOutcome) (drill : OneDrill) (solve : OneSolveOutcome) (robust : OneRobustOutcome) (fleet : OneFleetOutcome) where
+  one_due_to : (c : Command) (input : List ℕ) (s t : Status) → (CommandReads c → length input ≤ input_limit) → IsDueTo c input s → IsDueTo c input t → s ≡ t
+  one_due_to (OfPlant c) input s t l h k = one_of (IsPlantEnd (extent_of c) (plant_text c input)) plant_status s t (one_end plant outcome (extent_of c) (plant_text c input)) h k
+  one_due_to (OfFile c) input s t l h k = one_file reading file safety c input s t (l tt) h k
+  one_due_to (OfStates c) input s t l h k = one_state solve robust c input s t h k
+  one_due_to (Drill number) input s t l h k = one_of (IsDrillOutcome number) outcome_status s t (drill.outcome number) h k
+  one_due_to (Fleet workers) input s t l h k = one_of (IsFleetOutcome input) fleet_status s t (fleet input) h k
+
+  one_due_for : (c : Command) (input : List ℕ) (s t : Status) → IsDueFor c input s → IsDueFor c input t → s ≡ t
+  one_due_for c input s t (too_long reads l e) (too_long other m f) = e ∙ sym f
+  one_due_for c input s t (too_long reads l e) (in_limit short k) = absurd (let few = short reads in omega (arith, l, few))
+  one_due_for c input s t (in_limit short h) (too_long reads l f) = absurd (let few = short reads in omega (arith, l, few))
+  one_due_for c input s t (in_limit short h) (in_limit less k) = one_due_to c input s t short h k
+
+  one_due : (words : List (List ℕ)) (input : List ℕ) (s t : Status) → IsDue words input s → IsDue words input t → s ≡ t
+  one_due words input s t (no_command none e) (no_command other f) = e ∙ sym f
+  one_due words input s t (no_command none e) (by_command c named k) = absurd (none (c, named))
+  one_due words input s t (by_command c named h) (no_command none f) = absurd (none (c, named))
+  one_due words input s t (by_command c named h) (by_command d called k) = one_due_for d input s t (subst (λ (b : Command). IsDueFor b input s) (one_command words c d named called) h) k
+
+  pub due_unique : OneStatus
+  due_unique = one_due
+
+-- ---- the statuses that no outcome brings
+due_to_ranked : (c : Command) (input : List ℕ) (s : Status) → IsDueTo c input s → rank s ≡ 0
+due_to_ranked (OfPlant c) input s h = ranked (IsPlantEnd (extent_of c) (plant_text c input)) plant_status s plant_ranked h
+due_to_ranked (OfFile c) input s h = file_due_ranked c input s h
+due_to_ranked (OfStates c) input s h = state_due_ranked c input s h
+due_to_ranked (Drill number) input s h = ranked (IsDrillOutcome number) outcome_status s outcome_ranked h
+due_to_ranked (Fleet workers) input s h = ranked (IsFleetOutcome input) fleet_status s fleet_ranked h
+
+-- no fault is due
+pub due_no_fault : (words : List (List ℕ)) (input : List ℕ) (s : Status) → IsDue words input s → rank s ≡ 3 → ⊥
+due_no_fault words input s (no_command none e) f = let r = ap rank e in omega (arith, r, f)
+due_no_fault words input s (by_command c named (too_long reads l e)) f = let r = ap rank e in omega (arith, r, f)
+due_no_fault words input s (by_command c named (in_limit short h)) f = let r = due_to_ranked c input s h in omega (arith, r, f)
+
+-- the causes of Usage and TooLong
+pub long_due : (words : List (List ℕ)) (input : List ℕ) → Reads words → input_limit < length input → IsDue words input TooLong
+long_due words input r l = by_command r.command r.named (too_long r.reads l refl)
+
+pub due_long : (words : List (List ℕ)) (input : List ℕ) → IsDue words input TooLong → input_limit < length input
+due_long words input (no_command none e) = absurd cc
+due_long words input (by_command c named (too_long reads l e)) = l
+due_long words input (by_command c named (in_limit short h)) = absurd (let r = due_to_ranked c input TooLong h in omega (arith, r))
+
+pub usage_cause : (words : List (List ℕ)) (input : List ℕ) → IsDue words input Usage → ¬ IsCommand words
+usage_cause words input (no_command none e) = none
+usage_cause words input (by_command c named (too_long reads l e)) = absurd cc
+usage_cause words input (by_command c named (in_limit short h)) = absurd (let r = due_to_ranked c input Usage h in omega (arith, r))
+
+pub due_usage : OneStatus → (words : List (List ℕ)) (input : List ℕ) (s : Status) → IsDue words input s → ¬ IsCommand words → s ≡ Usage
+due_usage one words input s h none = one words input s Usage h (no_command none refl)
+
+-- ---- where nothing is refused, Done is due
+done_due_to : OneReading → OneOutcome → OneFileReading → OneFileOutcome → OneSafetyOutcome → OneDrill → SolveIsComplete → RobustIsComplete → (c : Command) (input : List ℕ) (s : Status) → (CommandReads c → length input ≤ input_limit) → RefusesNothing c input → IsDueTo c input s → s ≡ Done
+done_due_to plant outcome reading file safety drill solve robust (OfPlant c) input s l n h = end_done plant (extent_of c) (plant_text c input) s n h
+done_due_to plant outcome reading file safety drill solve robust (OfFile c) input s l n h = one_file reading file safety c input s Done (l tt) h (passing_due c input n)
+done_due_to plant outcome reading file safety drill solve robust (OfStates c) input s l n h = states_done solve robust c input s n h
+done_due_to plant outcome reading file safety drill solve robust (Drill number) input s l n h = drill_done drill number s n h
+done_due_to plant outcome reading file safety drill solve robust (Fleet workers) input s l n h = fleet_done input s n h
+
+done_due_for : OneReading → OneOutcome → OneFileReading → OneFileOutcome → OneSafetyOutcome → OneDrill → SolveIsComplete → RobustIsComplete → (c : Command) (input : List ℕ) (s : Status) → (CommandReads c → length input ≤ input_limit) → RefusesNothing c input → IsDueFor c input s → s ≡ Done
+done_due_for plant outcome reading file safety drill solve robust c input s l n (too_long reads m e) = absurd (let few = l reads in omega (arith, m, few))
+done_due_for plant outcome reading file safety drill solve robust c input s l n (in_limit short h) = done_due_to plant outcome reading file safety drill solve robust c input s l n h
+
+pub done_due : OneReading → OneOutcome → OneFileReading → OneFileOutcome → OneSafetyOutcome → OneDrill → SolveIsComplete → RobustIsComplete → (words : List (List ℕ)) (input : List ℕ) (s : Status) → NothingRefused words input → IsDue words input s → s ≡ Done
+done_due plant outcome reading file safety drill solve robust words input s n (no_command none e) = absurd (none (n.command, n.named))
+done_due plant outcome reading file safety drill solve robust words input s n (by_command c named h) =
+    done_due_for plant outcome reading file safety drill solve robust n.command input s n.short n.passes (subst (λ (b : Command). IsDueFor b input s) (one_command words c n.command named n.named) h)

@@ -1,0 +1,13 @@
+pub mod CommandLemmas
+pub mod HeadLemmas
+pub mod EndLemmas
+pub mod PlantEnds
+pub mod StateEnds
+pub mod FleetEnds
+pub mod DueStatus
+pub mod CompileLemmas
+pub mod FileEnds
+pub mod DrillEnds
+pub mod ReadLemmas
+pub mod RespondLemmas
+pub mod RunLemmas

@@ -1,0 +1,16 @@
+use Rattle.std.proofs.Common.{◌∙◌, ℕ, Err, sym, ap, subst}
+use Rattle.std.specs.Prelude.{IfOk}
+use Rattle.mpc_synthesis.specs.Programs.{IsDecidedBy}
+use Rattle.mpc_cli.proofs.PlantEnds.{answers_commands, bad_answers}
+use Rattle.mpc_cli.proofs.plant_answers.plant_answer_in_threads.Goals as goal
+
+pub outcome_answer-requires-clause-decided : goal.outcome_answer-requires-clause-decided
+outcome_answer-requires-clause-decided g c = λ lifetimes outlives. subst (λ (n : ℕ). IfOk c.decided_in_threads-outcome.result (IsDecidedBy n c.in-Ok.plant)) c.workers.ensures c.decided_in_threads-outcome.ensures.decided
+
+pub returns-in-Ok : goal.returns-in-Ok
+returns-in-Ok g c =
+    answers_commands c.outcome_answer.result c.args.command c.args.input.now c.plant_bytes.result.now c.cut.result.counts.now c.in-Ok.plant c.in-Ok.ensures.ok c.plant_bytes.ensures c.cut.ensures.counts c.outcome_answer.ensures
+
+pub returns-in-Err : goal.returns-in-Err
+returns-in-Err g c =
+    bad_answers c.plant_error_refusal.result c.args.command c.args.input.now c.plant_bytes.result.now c.in-Err.error (λ kind path e. c.read_plant-read.ensures.bad kind path (c.in-Err.is ∙ ap Err e)) c.plant_bytes.ensures c.plant_error_refusal.ensures

@@ -1,0 +1,17 @@
+use Rattle.std.proofs.Common.{ℕ, List}
+use Rattle.mpc_states.specs.Inputs.{IsRobustCause}
+use Rattle.mpc_cli.specs.declared.commands.Command.TheVariants.{OfStates}
+use Rattle.mpc_cli.specs.declared.commands.StateCommand.TheVariants.{Robust}
+use Rattle.mpc_cli.specs.Outcomes.{IsAnswerTo}
+use Rattle.mpc_cli.proofs.EndLemmas.{ok_weaker}
+use Rattle.mpc_cli.proofs.StateEnds.{robust_answers}
+use Rattle.mpc_cli.proofs.state_answers.robust_answer.Goals as goal
+
+pub returns-in-Ok : goal.returns-in-Ok
+returns-in-Ok c = robust_answers c.args.input.now c.output.result.status c.output.result.text.items c.in-Ok.text.items c.output.ensures.status c.output.ensures.text c.in-Ok.ensures.replied c.in-Ok.ensures.text
+
+pub returns-in-Err : goal.returns-in-Err
+returns-in-Err c =
+    ok_weaker c.robust_refusal.result (λ a. (input : List ℕ) → IsRobustCause input c.in-Err.error → IsAnswerTo (OfStates Robust) input a.status a.text.items) (λ a. IsAnswerTo (OfStates Robust) c.args.input.now a.status a.text.items)
+    (λ a h. h c.args.input.now c.in-Err.ensures.cause)
+    c.robust_refusal.ensures

@@ -1,0 +1,196 @@
+-- What the command answers: its causes, its output, and what passes at its source and its sink.
+use Rattle.std.specs.Prelude.{◌≡◌, ℕ, ◌+◌, ◌<◌, ◌≤◌, ◌⊎◌, Option, IfSome, List, length, take}
+use Rattle.std.specs.Io.KnownBytes.{Appends, Keeps, Consumes}
+use Rattle.mpc_port.specs.Faults.{Rose}
+use Rattle.mpc_plant.specs.declared.plants.Plant.{Plant}
+use Rattle.mpc_rows.specs.declared.programs.Qp.{Qp}
+use Rattle.mpc_rows.specs.declared.places.Place.{Place}
+use Rattle.mpc_space.specs.Definite.{IsDefinite}
+use Rattle.mpc_condense.specs.Condensed.{IsCondensed}
+use Rattle.mpc_controller.specs.Parts.{Parts}
+use Rattle.mpc_file.specs.FileGrammar.{IsSpelled}
+use Rattle.mpc_files.specs.FileOutcomes.{IsFileReading, IsFileOutcome, AcceptsFile}
+use Rattle.mpc_synthesis.specs.Refusals.{Extent, controller, FirstWide}
+use Rattle.mpc_drill.specs.DrillPlant.{IsDrillPlant}
+use Rattle.mpc_drill.specs.Drills.{IsDrillOutcome}
+use Rattle.mpc_replies.specs.Cut.{head_of}
+use Rattle.mpc_status.specs.declared.status.Status.{Status}
+use Rattle.mpc_status.specs.declared.status.Status.TheVariants.{Done, Usage, ReadFault, WriteFault, TooLong, NoMemory}
+use Rattle.mpc_status.specs.StatusText.{line_of}
+use Rattle.mpc_cli.specs.declared.commands.Command.{Command}
+use Rattle.mpc_cli.specs.declared.commands.Command.TheVariants.{OfPlant, OfFile, OfStates, Drill, Fleet}
+use Rattle.mpc_cli.specs.declared.commands.StateCommand.{StateCommand}
+use Rattle.mpc_cli.specs.declared.commands.StateCommand.TheVariants.{Solve, Robust}
+use Rattle.mpc_cli.specs.declared.commands.FileCommand.{FileCommand}
+use Rattle.mpc_cli.specs.declared.commands.FileCommand.TheVariants.{Check, Reply, Convert, Safe}
+use Rattle.mpc_cli.specs.Commands.{Names, IsCommand, CommandReads, Reads, plant_text}
+use Rattle.mpc_cli.specs.Ends.{ComesOf, IsTextAt}
+use Rattle.mpc_cli.specs.Extents.{extent_of}
+use Rattle.mpc_cli.specs.Outputs.{IsOutput}
+use Rattle.mpc_cli.specs.Statuses.{OfItsPlant, IsPlantEnd, plant_status, outcome_status, file_status, reading_status, safety_status, solve_status, robust_status, fleet_status}
+use Rattle.mpc_sections.specs.Sections.{sections_of}
+use Rattle.mpc_sections.specs.Outcomes.{IsFleetOutcome}
+use Rattle.mpc_exact.specs.Rational.{ℚ}
+use Rattle.mpc_states.specs.Outcomes.{IsSolveOutcome, IsRobustOutcome}
+use Rattle.mpc_states.specs.StateLaws.{NothingRefused as SolveRefusesNothing, NothingRobustRefused as RobustRefusesNothing}
+use Rattle.mpc_safety.specs.SafetyOutcomes.{IsSafetyOutcome, SafeFile}
+
+-- the most bytes that an input has
+abbrev pub input_limit : ℕ
+input_limit = 16777216
+
+-- ---- The causes
+-- the status that is due to a command on a controller's file: where it is checked, that of the first condition that isn't met
+abbrev pub IsFileDue : FileCommand → List ℕ → Status → Type 0
+IsFileDue Check input status = ComesOf (IsFileOutcome input) file_status status
+IsFileDue Reply input status = ComesOf (IsFileReading (head_of input)) reading_status status
+IsFileDue Convert input status = ComesOf (IsFileReading input) reading_status status
+IsFileDue Safe input status = ComesOf (IsSafetyOutcome input) safety_status status
+
+-- the status that is due to a command on recorded states
+abbrev pub IsStateDue : StateCommand → List ℕ → Status → Type 0
+IsStateDue Solve input status = ComesOf (IsSolveOutcome input) solve_status status
+IsStateDue Robust input status = ComesOf (IsRobustOutcome input) robust_status status
+
+-- the status that is due to the command for an input that isn't too long
+abbrev pub IsDueTo : Command → List ℕ → Status → Type 0
+IsDueTo (OfPlant c) input status = ComesOf (IsPlantEnd (extent_of c) (plant_text c input)) plant_status status
+IsDueTo (OfFile c) input status = IsFileDue c input status
+IsDueTo (OfStates c) input status = IsStateDue c input status
+IsDueTo (Drill number) input status = ComesOf (IsDrillOutcome number) outcome_status status
+IsDueTo (Fleet workers) input status = ComesOf (IsFleetOutcome input) fleet_status status
+
+-- and for every input: a command that reads more than the limit has an input that is too long
+pub data IsDueFor (c : Command) (input : List ℕ) (status : Status) : Type 0 where
+  too_long : CommandReads c → input_limit < length input → status ≡ TooLong → IsDueFor c input status
+  in_limit : (CommandReads c → length input ≤ input_limit) → IsDueTo c input status → IsDueFor c input status
+
+-- The status that is due for the words and the input, by devices that don't fail: words that name no command are refused, and else it is that
+-- of the command.
+pub data IsDue (words : List (List ℕ)) (input : List ℕ) (status : Status) : Type 0 where
+  no_command : (¬ IsCommand words) → status ≡ Usage → IsDue words input status
+  by_command : (c : Command) → Names c words → IsDueFor c input status → IsDue words input status
+
+-- at most one status is due
+abbrev pub OneStatus : Type 0
+OneStatus = (words : List (List ℕ)) (input : List ℕ) (one other : Status) → IsDue words input one → IsDue words input other → one ≡ other
+
+-- ---- Where nothing is refused
+-- the weight of the moves is positive definite, and no number of the stated runs is too wide, as far as the plant is taken
+pub record PassesAll (extent : Extent) (plant : Plant) : Type 0 where
+  pub definite : (qp : Qp) → IsCondensed qp plant → IsDefinite qp.h.rows
+  pub fits : (place : Place) → ¬ FirstWide plant extent place
+
+-- the plant of the drill passes
+pub record DrillPasses (number : ℕ) : Type 0 where
+  pub plant : Plant
+  pub is : IsDrillPlant number plant
+  pub passes : PassesAll controller plant
+
+abbrev pub FilePasses : FileCommand → List ℕ → Type 0
+FilePasses Check input = AcceptsFile input
+FilePasses Reply input = (parts : Parts) × IsSpelled (head_of input) parts
+FilePasses Convert input = (parts : Parts) × IsSpelled input parts
+FilePasses Safe input = SafeFile input
+
+-- the head has the file of a plant whose weight of the moves is positive definite, and no number of condensing, the pivots and, where
+-- disturbances may come, their rows is too wide
+abbrev pub StatesPass : StateCommand → List ℕ → Type 0
+StatesPass Solve input = (plant : Plant) × SolveRefusesNothing (head_of input) plant
+StatesPass Robust input = (plant : Plant) × (noise : List ℚ) × RobustRefusesNothing input plant noise
+
+-- nothing is refused: the plant's file passes all checks and its plant passes, or the file spells a controller, which is accepted where it is checked,
+-- and each target of whose closed loop is ruled out where that is followed; or the input has at most
+-- eight sections
+abbrev pub RefusesNothing : Command → List ℕ → Type 0
+RefusesNothing (OfPlant c) input = OfItsPlant (plant_text c input) (PassesAll (extent_of c))
+RefusesNothing (OfFile c) input = FilePasses c input
+RefusesNothing (OfStates c) input = StatesPass c input
+RefusesNothing (Drill number) input = DrillPasses number
+RefusesNothing (Fleet workers) input = length (sections_of input) ≤ 8
+
+-- the words name a command that refuses nothing of its input, which isn't too long
+pub record NothingRefused (words : List (List ℕ)) (input : List ℕ) : Type 0 where
+  pub command : Command
+  pub named : Names command words
+  pub short : CommandReads command → length input ≤ input_limit
+  pub passes : RefusesNothing command input
+
+-- then Done alone is due
+abbrev pub PassingIsDone : Type 0
+PassingIsDone = (words : List (List ℕ)) (input : List ℕ) (due : Status) → NothingRefused words input → IsDue words input due → due ≡ Done
+
+-- ---- What is written
+-- the output of the command that the words name
+pub record IsOutputOf (words : List (List ℕ)) (input output : List ℕ) : Type 0 where
+  pub command : Command
+  pub named : Names command words
+  pub output_is : IsOutput command input output
+
+-- a status that is due, and its text
+pub record IsAnswer (words : List (List ℕ)) (input : List ℕ) (status : Status) (text : List ℕ) : Type 0 where
+  pub due : IsDue words input status
+  pub text_is : IsTextAt (IsOutputOf words input) status text
+
+-- ---- What passes in a call
+-- the bytes that the source tells before and after, those that the sink has taken before and after, and the counts of faults before and after
+pub record Passage : Type 0 where
+  pub left : Option (List ℕ)
+  pub left_after : Option (List ℕ)
+  pub read_faults : ℕ
+  pub read_faults_after : ℕ
+  pub taken : Option (List ℕ)
+  pub taken_after : Option (List ℕ)
+  pub write_faults : ℕ
+  pub write_faults_after : ℕ
+
+-- the status is due, and the sink took just its text
+pub record Answers (words : List (List ℕ)) (passage : Passage) (status : Status) (input : List ℕ) : Type 0 where
+  pub text : List ℕ
+  pub answer : IsAnswer words input status text
+  pub wrote : Appends passage.taken passage.taken_after text
+
+-- the sink took the first bytes of the text of a status that is due
+pub record TookPart (words : List (List ℕ)) (passage : Passage) (input : List ℕ) : Type 0 where
+  pub status : Status
+  pub text : List ℕ
+  pub answer : IsAnswer words input status text
+  pub sent : ℕ
+  pub wrote : Appends passage.taken passage.taken_after (take sent text)
+
+-- no count of faults rose
+pub record IsQuiet (passage : Passage) : Type 0 where
+  pub reads : ¬ Rose passage.read_faults passage.read_faults_after
+  pub writes : ¬ Rose passage.write_faults passage.write_faults_after
+
+-- The bytes that came, from the front of what was left, are at most one more than the limit. Where they are more than the limit, the input is
+-- too long, whatever the source would have done afterwards, and that is said where they are.
+pub record HasRead (left left_after : Option (List ℕ)) (status : Status) : Type 0 where
+  pub bytes : List ℕ
+  pub came : Consumes left left_after bytes
+  pub most : length bytes ≤ input_limit + 1
+  pub long : input_limit < length bytes → (status ≡ TooLong) ⊎ ((status ≡ WriteFault) ⊎ (status ≡ NoMemory))
+  pub only : status ≡ TooLong → input_limit < length bytes
+
+-- a device failed, or memory ran out
+abbrev pub IsFault : Status → Type 0
+IsFault status = (status ≡ ReadFault) ⊎ ((status ≡ WriteFault) ⊎ (status ≡ NoMemory))
+
+-- what the command answers for its words: each status comes just from its cause, and the sink took what is said here
+pub record RunAnswers (words : List (List ℕ)) (passage : Passage) (status : Status) : Type 0 where
+  -- Every status but those of a device that failed and of want of memory is due, and the sink took just its text: at Done the output of the
+  -- command, and else the status's line.
+  pub answered : (¬ IsFault status) → IfSome passage.left (Answers words passage status)
+  -- the words name no command: then no other refusal comes, whatever the source and the sink tell
+  pub usage : status ≡ Usage → (¬ IsCommand words) × Appends passage.taken passage.taken_after (line_of Usage)
+  pub usage_first : (¬ IsCommand words) → (status ≡ Usage) ⊎ ((status ≡ WriteFault) ⊎ (status ≡ NoMemory))
+  pub has_read : Reads words → HasRead passage.left passage.left_after status
+  -- a fault of the source or the sink, after which the sink took nothing, or the first bytes of what was to be written
+  pub read_fault : status ≡ ReadFault → Rose passage.read_faults passage.read_faults_after × Keeps passage.taken passage.taken_after
+  pub write_fault : status ≡ WriteFault → Rose passage.write_faults passage.write_faults_after × IfSome passage.left (TookPart words passage)
+  -- want of memory, likewise
+  pub no_memory : status ≡ NoMemory → IfSome passage.left (λ input. Keeps passage.taken passage.taken_after ⊎ TookPart words passage input)
+  -- each cause brings its status, unless a device fails or memory runs out
+  pub exact : IfSome passage.left (λ input. (due : Status) → IsDue words input due → IsQuiet passage → (status ≡ due) ⊎ (status ≡ NoMemory))
+  -- in particular, a command that refuses nothing is answered
+  pub complete : IfSome passage.left (λ input. NothingRefused words input → IsQuiet passage → (status ≡ Done) ⊎ (status ≡ NoMemory))

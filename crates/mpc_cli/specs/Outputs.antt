@@ -1,0 +1,78 @@
+-- What is written where a command answers.
+use Rattle.std.specs.Prelude.{◌≡◌, ℕ, List, codes}
+use Rattle.mpc_plant.specs.WholePlant.{ReadsAsPlant}
+use Rattle.mpc_plant.specs.declared.plants.Plant.{Plant}
+use Rattle.mpc_replies.specs.Cut.{head_of, count_lines}
+use Rattle.mpc_replies.specs.ReplyLines.{AreReplies}
+use Rattle.mpc_files.specs.FileAnswers.{FileReplies, Converts, IsAccepted}
+use Rattle.mpc_safety.specs.declared.answers.Safety.TheVariants.{Safe as SafeAnswer}
+use Rattle.mpc_safety.specs.SafetyAnswers.{IsAnswerToFile}
+use Rattle.mpc_states.specs.Inputs.{IsSolved, IsRobustlySolved}
+use Rattle.mpc_sections.specs.Sections.{sections_of}
+use Rattle.mpc_sections.specs.Alone.{AreAnswered}
+use Rattle.mpc_trace.specs.Histories.{IsTraceOf}
+use Rattle.mpc_drill.specs.declared.drills.Drilled.{Drilled}
+use Rattle.mpc_drill.specs.Drills.{IsDrilled, drill_text}
+use Rattle.mpc_cli.specs.declared.commands.Command.{Command}
+use Rattle.mpc_cli.specs.declared.commands.Command.TheVariants.{OfPlant, OfFile, OfStates, Drill, Fleet}
+use Rattle.mpc_cli.specs.declared.commands.StateCommand.{StateCommand}
+use Rattle.mpc_cli.specs.declared.commands.StateCommand.TheVariants.{Solve, Robust}
+use Rattle.mpc_cli.specs.declared.commands.PlantCommand.{PlantCommand}
+use Rattle.mpc_cli.specs.declared.commands.PlantCommand.TheVariants.{Run, Compile, Trace}
+use Rattle.mpc_cli.specs.declared.commands.FileCommand.{FileCommand}
+use Rattle.mpc_cli.specs.declared.commands.FileCommand.TheVariants.{Check, Reply, Convert, Safe}
+use Rattle.mpc_cli.specs.ControllerFiles.{IsFileOf}
+
+-- the output of `run`: the head reads as a plant, and each line of counts has its reply line, which is right
+pub record IsReplies (input output : List ℕ) : Type 0 where
+  pub plant : Plant
+  pub read : ReadsAsPlant (head_of input) plant
+  pub replies : AreReplies plant (count_lines input) output
+
+-- the output of `compile`: the input reads as a plant, and the text is the file of its controller
+pub record IsCompiled (input output : List ℕ) : Type 0 where
+  pub plant : Plant
+  pub read : ReadsAsPlant input plant
+  pub file : IsFileOf plant output
+
+-- the output of `trace`: the input reads as a plant, and the text is a history of its program's candidates in which each is claimed and
+-- delivered once, by so many workers
+pub record IsTrace (workers : ℕ) (input output : List ℕ) : Type 0 where
+  pub plant : Plant
+  pub read : ReadsAsPlant input plant
+  pub traced : IsTraceOf workers plant output
+
+abbrev pub IsPlantOutput : PlantCommand → List ℕ → List ℕ → Type 0
+IsPlantOutput Run input output = IsReplies input output
+IsPlantOutput (Compile workers) input output = IsCompiled input output
+IsPlantOutput (Trace workers) input output = IsTrace workers input output
+
+-- The output of a command on a controller's file: that the controller is accepted, and then it replies rightly at every point of its plant's
+-- box, also between the states of the grid; its replies to the lines of counts, of a controller that needn't have been checked; or its text
+-- in version 3; or that the controller is accepted and its closed loop goes on forever: from every point of the box with an admissible sequence,
+-- after every number of steps, the state is in the box and the reply is the first move of the cheapest admissible sequence.
+abbrev pub IsFileOutput : FileCommand → List ℕ → List ℕ → Type 0
+IsFileOutput Check input output = IsAccepted input × (output ≡ codes "accepted\n")
+IsFileOutput Reply input output = FileReplies (head_of input) (count_lines input) output
+IsFileOutput Convert input output = Converts input output
+IsFileOutput Safe input output = IsAnswerToFile input SafeAnswer × (output ≡ codes "safe\n")
+
+-- the output of `drill`: the line of the counts of what was made for its plant
+pub record IsDrillLine (number : ℕ) (output : List ℕ) : Type 0 where
+  pub counts : Drilled
+  pub drilled : IsDrilled number counts
+  pub written : output ≡ drill_text counts
+
+-- The output of a command on recorded states: one reply line a line of counts, at each grid state the reply that is right, for `robust` under the
+-- disturbances that may come, or `too wide` exactly where a number of the state's run is too wide.
+abbrev pub IsStateOutput : StateCommand → List ℕ → List ℕ → Type 0
+IsStateOutput Solve input output = IsSolved input output
+IsStateOutput Robust input output = IsRobustlySolved input output
+
+abbrev pub IsOutput : Command → List ℕ → List ℕ → Type 0
+IsOutput (OfPlant c) input output = IsPlantOutput c input output
+IsOutput (OfFile c) input output = IsFileOutput c input output
+IsOutput (OfStates c) input output = IsStateOutput c input output
+IsOutput (Drill number) input output = IsDrillLine number output
+-- each section is answered as it is by itself, under its heading, whatever the number of workers
+IsOutput (Fleet workers) input output = AreAnswered 1 (sections_of input) output

@@ -1,4 +1,0 @@
-pub mod WholeCerts
-pub mod LeafPaths
-pub mod LeavesHold
-pub mod CompiledChecks

@@ -1,6 +1,0 @@
-use Rattle.std.proofs.Common.{◌≡◌}
-use Rattle.mpc_frac_c.specs.Digests.{passes, number_digit, number_at}
-use Rattle.mpc_frac_c.proofs.mpc_frac_repeat_reads.Given as goal
-
-abbrev pub invariant-rounds : goal.invariant-rounds
-invariant-rounds l = l.digest ≡ passes (λ place. number_digit (number_at l.parts place)) l.counter

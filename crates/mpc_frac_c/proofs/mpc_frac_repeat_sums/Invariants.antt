@@ -1,6 +1,0 @@
-use Rattle.std.proofs.Common.{◌≡◌}
-use Rattle.mpc_frac_c.specs.Digests.{passes, paired, sum_digit}
-use Rattle.mpc_frac_c.proofs.mpc_frac_repeat_sums.Given as goal
-
-abbrev pub invariant-rounds : goal.invariant-rounds
-invariant-rounds l = l.digest ≡ passes (paired sum_digit l.left l.right) l.counter

@@ -1,7 +1,0 @@
-use Rattle.std.proofs.Common.{◌≡◌, ℕ, ◌<◌, Some}
-use Rattle.std.specs.Prelude.{slice_get}
-use Rattle.mpc_frac_c.specs.Digests.{number_at}
-use Rattle.mpc_frac_c.proofs.repeats.loaded.Given as goal
-
-abbrev pub invariant-loop-k : goal.invariant-loop-k
-invariant-loop-k l = (k : ℕ) → k < l.k → slice_get l.place-items k ≡ Some (number_at l.parts k)

@@ -1,5 +1,0 @@
-use Rattle.mpc_frac_c.proofs.DigestLemmas.{low_read, number_found}
-use Rattle.mpc_frac_c.proofs.repeats.number_digit.Goals as goal
-
-pub returns : goal.returns
-returns c = number_found c.args.x.now c.low.result (low_read c.num.result c.args.x.now.numer c.low.result c.low.ensures c.num.ensures.value c.num.ensures.fits.0)

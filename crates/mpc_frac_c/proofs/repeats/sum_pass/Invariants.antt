@@ -1,6 +1,0 @@
-use Rattle.std.proofs.Common.{◌≡◌}
-use Rattle.mpc_frac_c.specs.Digests.{digits_mixed, between, sum_digit}
-use Rattle.mpc_frac_c.proofs.repeats.sum_pass.Given as goal
-
-abbrev pub invariant-loop-k : goal.invariant-loop-k
-invariant-loop-k l = l.digest ≡ digits_mixed (between sum_digit l.left l.right) l.k l.fn.digest

@@ -1,6 +1,0 @@
-use Rattle.std.proofs.Common.{◌≡◌}
-use Rattle.mpc_simplex_c.specs.Courses.{first_rows}
-use Rattle.mpc_simplex_c.proofs.going_on.go_on.Given as goal
-
-abbrev pub invariant-loop-i : goal.invariant-loop-i
-invariant-loop-i l = l.run ≡ first_rows l.system l.i

@@ -1,8 +1,0 @@
-use Rattle.std.proofs.Common.{◌≡◌, ℕ, ◌<◌, get_or}
-use Rattle.mpc_space.specs.Vector.{coordinate}
-use Rattle.mpc_parts.specs.Parts.{value_of}
-use Rattle.mpc_simplex_c.specs.Sent.{no_parts}
-use Rattle.mpc_simplex_c.proofs.passing.put_multipliers.Given as goal
-
-abbrev pub invariant-loop-i : goal.invariant-loop-i
-invariant-loop-i l = (k : ℕ) → k < l.i → value_of (get_or l.out k no_parts) ≡ coordinate l.found k

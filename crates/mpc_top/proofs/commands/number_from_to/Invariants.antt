@@ -1,6 +1,0 @@
-use Rattle.std.proofs.Common.{◌≡◌, ℕ, ◌<◌, ◌≤◌}
-use Rattle.std.specs.Prelude.{decimal}
-use Rattle.mpc_top.proofs.commands.number_from_to.Given as goal
-
-abbrev pub invariant-loop-number : goal.invariant-loop-number
-invariant-loop-number l = (n : ℕ) → l.first ≤ n → n < l.number → l.word ≡ decimal n → ⊥

@@ -1,5 +1,0 @@
-use Rattle.mpc_top.proofs.CompileLemmas.{traced_answers}
-use Rattle.mpc_top.proofs.plant_answers.trace_answer.Goals as goal
-
-pub returns : goal.returns
-returns c = traced_answers c.args.registry.now c.in_ok-text.text.items c.output.result.text.items c.output.result.status c.in_ok-text.ensures.trace c.output.ensures.status c.output.ensures.text

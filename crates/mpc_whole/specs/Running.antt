@@ -1,0 +1,58 @@
+-- What a run in whole numbers stands on, and the numbers of one of its positions.
+use Rattle.std.specs.Prelude.{◌≡◌, ℕ, ◌+◌, ◌*◌, ◌<◌, ◌≤◌, ◌^◌, List, length, ℤ, unsigned_abs, ◌*ℤ◌}
+use Rattle.mpc_rows.specs.LinearSystem.{LinearSystem, height}
+use Rattle.mpc_whole.specs.declared.variables.Seat.{Seat}
+use Rattle.mpc_whole.specs.Table.{IsSeated, AreNonbasic}
+use Rattle.mpc_whole.specs.Whole.{whole_total, whole_at, whole_cell, AreScales, IsSmall, HasRoom, HasBounds, IsWholeSystem, IsNarrow}
+
+-- the numbers of a system of so many variables, with bounds of them and of what a position may have
+pub record IsFrame (s : LinearSystem) (n : ℕ) (k : List ℕ) (a b : List ℤ) (most : ℕ) : Type 0 where
+  pub count : n ≡ s.width + height s
+  pub whole : IsWholeSystem s k a b
+  pub bounds : HasBounds s k a b most
+  pub room : HasRoom s.width (2 ^ 62) a
+  pub most_small : most ≤ 2 ^ 62
+
+-- both parts of the values of the unknowns, in small numbers
+pub record AreParts (width : ℕ) (c_1 c_2 : List ℤ) : Type 0 where
+  pub first_size : length c_1 ≡ width
+  pub second_size : length c_2 ≡ width
+  pub first_small : IsSmall (2 ^ 62) c_1
+  pub second_small : IsSmall (2 ^ 62) c_2
+
+-- the value of each side, in either part, is a number of 64 bits
+pub record AreShort (width : ℕ) (a c_1 c_2 : List ℤ) : Type 0 where
+  pub first : (i : ℕ) → unsigned_abs (whole_total width (λ j. whole_cell width a i j *ℤ whole_at c_1 j)) ≤ 2 ^ 62
+  pub second : (i : ℕ) → unsigned_abs (whole_total width (λ j. whole_cell width a i j *ℤ whole_at c_2 j)) ≤ 2 ^ 62
+
+-- a pivot that side i leaves by and column e enters by: the denominator before it and its size, and the numbers v after it, are small
+pub record IsPivot (width : ℕ) (a v : List ℤ) (i e den size : ℕ) : Type 0 where
+  pub inside : i * width + width ≤ length a
+  pub room : HasRoom width (2 ^ 62) a
+  pub square : length v ≡ width * width
+  pub column : e < width
+  pub den_some : 0 < den
+  pub den_small : den ≤ 2 ^ 62
+  pub size_small : size ≤ 2 ^ 62
+  pub numbers_small : IsSmall (2 ^ 62) v
+
+-- the numbers v over a denominator, none above a size, where the variables stand so, with both parts of the values
+pub record IsHeld (s : LinearSystem) (n : ℕ) (k : List ℕ) (a : List ℤ) (most : ℕ) (seats : List Seat) (nonbasic : List ℕ) (v c_1 c_2 : List ℤ) (den top : ℕ) : Type 0 where
+  pub seated : IsSeated (height s) s.width n seats
+  pub columns : AreNonbasic s.width seats nonbasic
+  pub square : length v ≡ s.width * s.width
+  pub small : IsSmall most v
+  pub own : IsSmall top v
+  pub den_small : den ≤ 2 ^ 62
+  pub narrow : IsNarrow s n seats k a den v
+  pub parts : AreParts s.width c_1 c_2
+
+-- the row x of the variable l, in small numbers over a denominator, where the variables stand so
+pub record IsRefuting (s : LinearSystem) (k : List ℕ) (seats : List Seat) (x : List ℤ) (den l : ℕ) : Type 0 where
+  pub scales : AreScales s k
+  pub seated : IsSeated (height s) s.width (length seats) seats
+  pub row_size : length x ≡ s.width
+  pub row_small : IsSmall (2 ^ 62) x
+  pub some : 0 < den
+  pub den_small : den ≤ 2 ^ 62
+  pub leaves : l < length seats

@@ -1,0 +1,12 @@
+//! What a run in whole numbers leaves as it is.
+
+/// The numbers of a system's rows times their scales, how many variables there are, and what the numbers of a position
+/// may have at most.
+#[derive(Clone, Copy, Drop)]
+pub(crate) struct Frame<'a> {
+    pub scales: &'a [u64],
+    pub a: &'a [i64],
+    pub b: &'a [i64],
+    pub n: usize,
+    pub most: u64,
+}
