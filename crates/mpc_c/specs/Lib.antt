@@ -1,0 +1,5 @@
+pub mod Fractions
+pub mod Findings
+pub mod Texts
+pub mod Tables
+pub mod States

@@ -1,0 +1,66 @@
+-- The answer to one state of a plant.
+use Rattle.std.specs.Prelude.{◌≡◌, ◌≢◌, ℕ, ◌⊎◌, List, length, map, None}
+use Rattle.mpc_exact.specs.Rational.{ℚ}
+use Rattle.mpc_plant.specs.declared.plants.Plant.{Plant}
+use Rattle.mpc_plant.specs.declared.faults.PlantKind.{PlantKind}
+use Rattle.mpc_plant.specs.Reply.{move, infeasible}
+use Rattle.mpc_plant.specs.Trajectory.{point_of}
+use Rattle.mpc_plant.specs.WholePlant.{IsFirstFault}
+use Rattle.mpc_rows.specs.declared.programs.Qp.{Qp}
+use Rattle.mpc_rows.specs.declared.places.Place.{Place}
+use Rattle.mpc_condense.specs.Condensed.{IsCondensed}
+use Rattle.mpc_controller.specs.Parts.{limits_of}
+use Rattle.mpc_controller.specs.Replies.{first_outside}
+use Rattle.mpc_synthesis.specs.Refusals.{Extent, IsNotDefiniteAt, FirstWide}
+use Rattle.mpc_states.specs.StateLines.{IsTooWide}
+use Rattle.mpc_cli.specs.Statuses.{OfItsPlant}
+use Rattle.mpc_c.specs.declared.fractions.Fraction.{Fraction}
+use Rattle.mpc_c.specs.declared.states.Solved.{Solved}
+use Rattle.mpc_c.specs.declared.states.Solved.TheVariants.{Moved, Infeasible, Outside, WideState, BadPlant, NotDefinite, TooWide, NoMemory, OtherSizes}
+use Rattle.mpc_c.specs.Fractions.{move_of, lowest}
+use Rattle.mpc_c.specs.Tables.{IsRightAt}
+
+-- the moves are right at the counts, each in lowest terms
+pub record IsSolvedBy (plant : Plant) (counts : List ℕ) (moves : List Fraction) : Type 0 where
+  pub values : List ℚ
+  pub right : IsRightAt plant counts (move values)
+  pub in_lowest : map move_of moves ≡ map lowest values
+
+-- no count is above its limit, and a number of the run at the counts is too wide
+pub record IsWideAt (plant : Plant) (counts : List ℕ) : Type 0 where
+  pub inside : first_outside (limits_of plant) counts ≡ None
+  pub qp : Qp
+  pub condensed : IsCondensed qp plant
+  pub wide : IsTooWide qp (point_of counts)
+
+-- some count is above its limit
+abbrev pub IsOutsideOf : Plant → List ℕ → Type 0
+IsOutsideOf plant counts = first_outside (limits_of plant) counts ≢ None
+
+-- not one count for each coordinate, or not one move for each input
+abbrev pub HasOtherSizes : ℕ → ℕ → Plant → Type 0
+HasOtherSizes counts moves plant = (counts ≢ plant.n) ⊎ (moves ≢ plant.p)
+
+-- some pivot is the first that isn't positive
+abbrev pub IsIndefinite : Plant → Type 0
+IsIndefinite plant = (pivot : ℕ) × IsNotDefiniteAt plant pivot
+
+-- some place is the first of condensing or the pivots with a number that is too wide, however far the plant is taken
+abbrev pub IsWidePlant : Plant → Type 0
+IsWidePlant plant = (place : Place) × ((extent : Extent) → FirstWide plant extent place)
+
+-- the bytes fail a check of plant files
+abbrev pub IsNoPlant : List ℕ → Type 0
+IsNoPlant file = (kind : PlantKind) × ((path : List ℕ) × IsFirstFault file kind path)
+
+-- what an answer to a file, counts and room for so many moves says; nothing is said of want of memory
+abbrev pub Says : List ℕ → List ℕ → List Fraction → Solved → Type 0
+Says file counts moves Moved = OfItsPlant file (λ plant. IsSolvedBy plant counts moves)
+Says file counts moves Infeasible = OfItsPlant file (λ plant. IsRightAt plant counts infeasible)
+Says file counts moves Outside = OfItsPlant file (λ plant. IsOutsideOf plant counts)
+Says file counts moves WideState = OfItsPlant file (λ plant. IsWideAt plant counts)
+Says file counts moves BadPlant = IsNoPlant file
+Says file counts moves NotDefinite = OfItsPlant file IsIndefinite
+Says file counts moves TooWide = OfItsPlant file IsWidePlant
+Says file counts moves NoMemory = Unit {0}
+Says file counts moves OtherSizes = OfItsPlant file (HasOtherSizes (length counts) (length moves))
