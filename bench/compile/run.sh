@@ -16,7 +16,7 @@ if [ $# -gt 0 ] && [ -x "$1" ] && [ ! -d "$1" ]; then
     export PYTHONDONTWRITEBYTECODE=1
     exec python3 "$here/beside.py" "$program" "$other" "${RUNS:-5}" "$@"
 fi
-sh "$here/../common/build.sh" compile mpc_compile_c
+sh "$here/../common/build.sh" compile
 if [ $# -eq 0 ]; then
     set -- "$here"/plants/*.txt
 fi

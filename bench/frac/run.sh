@@ -2,5 +2,5 @@
 # Builds the proved library and the comparison, and runs it.
 set -e
 here=$(cd "$(dirname "$0")" && pwd)
-sh "$here/../common/build.sh" frac mpc_frac_c
+sh "$here/../common/build.sh" frac
 "$here/build/frac"

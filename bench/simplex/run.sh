@@ -21,5 +21,5 @@ while [ "$count" -gt 0 ]; do
     esac
     count=$((count - 1))
 done
-sh "$here/../common/build.sh" simplex mpc_simplex_c
+sh "$here/../common/build.sh" simplex
 "$here/build/simplex" "$systems" "$@"

@@ -18,8 +18,8 @@ if [ $# -gt 2 ]; then
     shift 2
     exec python3 "$here/times.py" "$program" 10 1,2,4,8,32 "$@"
 fi
-python3 "$here/times.py" "$program" 7 1,2,4 "$here"/plants/*.json
-python3 "$here/busy.py" "$program" 9 1,2,4,8,32 "$here"/plants/double_integrator_*.json
+python3 "$here/times.py" "$program" 7 1,2,4 "$here"/plants/*.json "$here"/../compile/plants_large/double_integrator_6.json
+python3 "$here/busy.py" "$program" 9 1,2,4,8,32 "$here"/plants/double_integrator_*.json "$here"/../compile/plants_large/double_integrator_6.json
 python3 "$here/times.py" "$program" 40 1,8,32 "$top"/examples/scalar/plant.json "$plants"/two_rooms.txt "$plants"/motor.txt "$plants"/pendulum.txt "$plants"/drill*.txt
 python3 "$here/fleet.py" "$program" 25 2,4 "$plants"/motor.txt "$plants"/pendulum.txt "$plants"/two_rooms.txt "$plants"/two_tanks.txt
 python3 "$here/fleet.py" "$program" 5 2,4 "$here"/plants/*.json
