@@ -1,0 +1,2 @@
+//! What the command's answers mean, in definitions that are short enough to be read, and that they follow from what the libraries prove.
+#![tactic(auto)]
