@@ -1,0 +1,6 @@
+mod PlantChecks
+mod PlantValues
+mod PlantObjects
+mod PlantWeights
+mod PlantRows
+mod PlantTexts
