@@ -1,3 +1,4 @@
+mod PlantNumbers
 mod PlantChecks
 mod PlantValues
 mod PlantObjects

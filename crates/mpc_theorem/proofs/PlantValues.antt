@@ -13,6 +13,7 @@ use Rattle.mpc_plant.specs.CheckedEntries.{found, number_of, whole_number_of, li
 use Rattle.mpc_plant.specs.CheckedRows.{vector_or_zeros}
 use Rattle.mpc_plant.specs.CheckedPlant.{square_of, width_of, first_width, side_of, list_or_none}
 use Rattle.mpc_theorem.specs.PlantFile.{IsInteger, IsNumber, whole, spelled, AreItems, no_more, one_more, IsList, IsVector, IsMatrix}
+use Rattle.mpc_theorem.proofs.PlantNumbers.{spelled_read, spelled_ok}
 use Rattle.mpc_theorem.proofs.PlantChecks.{ok_is, both_ok, then_ok, inner_ok, outer_ok, test_ok, found_some, list_array, array_list, each_read, each_ok, items_are, items_length}
 
 -- ---- numbers
@@ -24,7 +25,7 @@ pub number_read : (x : ℚ) (d : Data) → number_of d ≡ Ok x → IsNumber x d
 number_read x null e = absurd cc
 number_read x (boolean b) e = absurd cc
 number_read x (number n) e = let is = integer_found (integer_of (number n)) x e in whole is.0 is.1 is.2
-number_read x (string text) e = spelled text refl (found_some BadNumber (text_number text) x e)
+number_read x (string text) e = spelled text refl (spelled_read text x (found_some BadNumber (text_number text) x e))
 number_read x (array ds) e = absurd cc
 number_read x (object ms) e = absurd cc
 
@@ -38,7 +39,7 @@ integer_number (object ms) z e = absurd cc
 
 pub number_ok : (x : ℚ) (d : Data) → IsNumber x d → number_of d ≡ Ok x
 number_ok x d (whole z e is) = integer_number d z e ∙ ap Ok (sym is)
-number_ok x d (spelled text is e) = ap number_of is ∙ ap (found BadNumber) e
+number_ok x d (spelled text is e) = ap number_of is ∙ ap (found BadNumber) (spelled_ok x text e)
 
 pub integer_read : (z : ℤ) (d : Data) → whole_number_of d ≡ Ok z → IsInteger z d
 integer_read z d e = found_some WrongKind (integer_of d) z e

@@ -1,1 +1,2 @@
+pub mod PlantNumbers
 pub mod PlantFile

@@ -5,11 +5,11 @@ use Rattle.serde_json.specs.Find.{get}
 use Rattle.serde_json.specs.Read.{read}
 use Rattle.mpc_exact.specs.Rational.{ℚ, int}
 use Rattle.mpc_plant.specs.Numbers.{integer_of}
-use Rattle.mpc_plant.specs.Decimals.{text_number}
 use Rattle.mpc_plant.specs.declared.lists.PlantRow.{PlantRow}
 use Rattle.mpc_plant.specs.declared.lists.Coordinate.{Coordinate}
 use Rattle.mpc_plant.specs.declared.plants.Plant.{Plant}
 use Rattle.mpc_plant.specs.WholePlant.{ReadsAsPlant}
+use Rattle.mpc_theorem.specs.PlantNumbers.{IsSpelled}
 
 -- ---- numbers and lists
 abbrev pub IsInteger : ℤ → Data → Type 0
@@ -18,7 +18,7 @@ IsInteger z d = integer_of d ≡ Some z
 -- an integer, or a text that spells a number
 pub data IsNumber (x : ℚ) (d : Data) : Type 0 where
   whole : (z : ℤ) → IsInteger z d → x ≡ int z → IsNumber x d
-  spelled : (text : List ℕ) → d ≡ string text → text_number text ≡ Some x → IsNumber x d
+  spelled : (text : List ℕ) → d ≡ string text → IsSpelled x text → IsNumber x d
 
 -- one item for each element, in their order
 pub data AreItems {A : Type 0} (Is : A → Data → Type 0) : List A → Items → Type 0 where
