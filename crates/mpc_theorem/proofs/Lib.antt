@@ -5,3 +5,4 @@ mod PlantObjects
 mod PlantWeights
 mod PlantRows
 mod PlantTexts
+mod OutputLines

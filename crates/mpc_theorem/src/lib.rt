@@ -2,5 +2,7 @@
 #![tactic(auto)]
 
 mod plant_files;
+mod plant_outputs;
 
 pub use plant_files::plant_texts;
+pub use plant_outputs::output_lines;
