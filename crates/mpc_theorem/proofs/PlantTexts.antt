@@ -19,7 +19,8 @@ use Rattle.mpc_plant.specs.CheckedObjects.{object_with, needed}
 use Rattle.mpc_plant.specs.CheckedRows.{vector_or_zeros, stage_row_of, terminal_row_of, axis_of}
 use Rattle.mpc_plant.specs.CheckedPlant.{at_key, keys_of, is_version, version_of, absent, plain_of, allowed_by, edition_of, horizon_of, square_of, side_of, weight_of, width, list_or_none, grid_of}
 use Rattle.mpc_plant.specs.WholePlant.{Parts, Dynamics, Weights, Targets, RowLists, head_of, dynamics_of, weights_of, targets_of, few_rows, row_lists_of, parts_of, stated_by}
-use Rattle.mpc_theorem.specs.PlantFile.{IsInteger, IsList, IsMatrix, IsVectorOrZeros, AtOr, IsRow, IsTerminalRow, IsAxis, At, HasOnly, IsEdition, one, two, keys_of_one, IsPlantFile, PlantTextsAreRead}
+use Rattle.mpc_plant.specs.Readings.{stated, OneReading}
+use Rattle.mpc_theorem.specs.PlantFile.{IsInteger, IsList, IsMatrix, IsVectorOrZeros, AtOr, IsRow, IsTerminalRow, IsAxis, At, HasOnly, IsEdition, one, two, keys_of_one, IsPlantFile, PlantTextsAreRead, OnePlantText}
 use Rattle.mpc_theorem.proofs.PlantChecks.{ok_is, both_ok, then_ok, inner_ok, outer_ok, test_ok, each_read, each_ok, items_are, items_length}
 use Rattle.mpc_theorem.proofs.PlantValues.{integer_read, integer_ok, sized_read, sized_ok, any, zeros_read, zeros_ok, square_read, square_ok, side_read, side_ok, listed, unlisted}
 use Rattle.mpc_theorem.proofs.PlantObjects.{listed-Decides, needed_ok, at_read, at_ok, only_read, only_ok}
@@ -306,3 +307,6 @@ plant_texts bytes plant = (
   λ r. record { text = r.text; value = r.value; json = r.json; file = plant_says plant r.value (parts_read r.value (stated_by plant) r.checked) },
   λ t. record { text = t.text; value = t.value; json = t.json; checked = parts_ok plant t.value t.file },
 )
+
+pub one_plant_text : OneReading → OnePlantText
+one_plant_text reading bytes x y h k = let e = reading bytes (stated x) (stated y) ((plant_texts bytes x).1 h) ((plant_texts bytes y).1 k) in cc

@@ -76,18 +76,19 @@ pub record IsAxis (axis : Coordinate) (d : Data) : Type 0 where
   pub count : At (codes "count") d (IsInteger (pos axis.count))
 
 -- ---- the file
+-- the keys of version 1, and those of version 2
 abbrev pub keys_of_one : List (List ℕ)
 keys_of_one = codes "version" ∷ codes "horizon" ∷ codes "A" ∷ codes "B" ∷ codes "Q" ∷ codes "R" ∷ codes "P" ∷ codes "rows" ∷ codes "terminal" ∷ codes "grid" ∷ []
 
 abbrev pub keys_of_two : List (List ℕ)
 keys_of_two = keys_of_one ++ codes "drift" ∷ codes "xgoal" ∷ codes "ugoal" ∷ []
 
--- a version, and no key that it hasn't
+-- the version, and nothing at a key that it hasn't
 pub data IsEdition (d : Data) : Type 0 where
   one : At (codes "version") d (IsInteger (pos 1)) → HasOnly keys_of_one d → IsEdition d
   two : At (codes "version") d (IsInteger (pos 2)) → HasOnly keys_of_two d → IsEdition d
 
--- The plant's parts, each at its key. Their sizes, the symmetry of the weights and the limits are in the type of a plant.
+-- The plant's parts, each at its key. Their sizes, the symmetry of the weights and all limits are a fact of the type `Plant`.
 pub record IsPlantFile (plant : Plant) (d : Data) : Type 0 where
   pub edition : IsEdition d
   pub horizon : At (codes "horizon") d (IsInteger (pos plant.horizon))
@@ -110,6 +111,10 @@ pub record IsPlantText (bytes : List ℕ) (plant : Plant) : Type 0 where
   pub json : read bytes ≡ Some value
   pub file : IsPlantFile plant value
 
--- just the plant texts are read, and as that plant
+-- a text is that of one plant at most
+abbrev pub OnePlantText : Type 0
+OnePlantText = (bytes : List ℕ) (one other : Plant) → IsPlantText bytes one → IsPlantText bytes other → one ≡ other
+
+-- just the plant texts pass all checks, and give that plant
 abbrev pub PlantTextsAreRead : Type 0
 PlantTextsAreRead = (bytes : List ℕ) (plant : Plant) → ReadsAsPlant bytes plant ↔ IsPlantText bytes plant

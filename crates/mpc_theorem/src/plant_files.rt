@@ -1,8 +1,14 @@
 //! What a plant file says.
 
-ghost use Rattle.mpc_theorem.specs.PlantFile.{PlantTextsAreRead};
+ghost use Rattle.mpc_theorem.specs.PlantFile.{PlantTextsAreRead, OnePlantText};
 
-/// What the chain of checks of a plant's file reads is just what stands at its keys. The call does nothing: its contract is the law.
+use mpc_plant::one_reading;
+
+/// What passes all checks of a plant's file is just what has the plant's parts at its keys, and it has those of one plant. The call does
+/// nothing: its clauses are the law.
 pub fn plant_texts()
-    ensures { PlantTextsAreRead }
-{}
+    ensures read { PlantTextsAreRead }
+    ensures one { OnePlantText }
+{
+    one_reading();
+}

@@ -5,7 +5,7 @@ pub returns-clause-replies : goal.returns-clause-replies
 returns-clause-replies c = replies_are_lines
 
 pub returns-clause-solve : goal.returns-clause-solve
-returns-clause-solve c = solved_by_run c.plant_texts.ensures
+returns-clause-solve c = solved_by_run c.plant_texts.ensures.read
 
 pub returns-clause-robust : goal.returns-clause-robust
-returns-clause-robust c = robustly_solved_by_run c.plant_texts.ensures
+returns-clause-robust c = robustly_solved_by_run c.plant_texts.ensures.read
