@@ -62,7 +62,7 @@ pub record IsRow (n p : ℕ) (row : PlantRow) (d : Data) : Type 0 where
   pub u : IsVectorOrZeros (codes "u") p row.u d
   pub max : At (codes "max") d (IsNumber row.max)
 
--- x·state <= max
+-- x·state <= max; by the type of a plant such a row weighs no input
 pub record IsTerminalRow (row : PlantRow) (d : Data) : Type 0 where
   pub keys : HasOnly (codes "x" ∷ codes "max" ∷ []) d
   pub x : At (codes "x") d (IsVector row.x)
