@@ -1,5 +1,5 @@
 -- What comes of the file of a plant, and the answers to it.
-use Rattle.std.proofs.Common.{◌≡◌, ◌≢◌, ℕ, inl, inr, List, refl, sym, ◌∙◌, ap, subst}
+use Rattle.std.proofs.Common.{◌≡◌, ◌≢◌, ℕ, List, refl, ◌∙◌, ap, subst}
 use Rattle.std.specs.Prelude.{Result, Ok, Err, IfOk}
 use Rattle.mpc_plant.specs.declared.plants.Plant.{Plant}
 use Rattle.mpc_plant.specs.declared.faults.PlantKind.{PlantKind}
@@ -23,7 +23,7 @@ use Rattle.mpc_cli.specs.declared.commands.PlantCommand.TheVariants.{Run, Compil
 use Rattle.mpc_cli.specs.declared.answer.Answer.{Answer}
 use Rattle.mpc_cli.specs.Commands.{plant_text}
 use Rattle.mpc_cli.specs.Extents.{extent_of}
-use Rattle.mpc_cli.specs.Ends.{ComesOf, IsTextAt}
+use Rattle.mpc_cli.specs.Ends.{ComesOf}
 use Rattle.mpc_cli.specs.Outputs.{IsOutput}
 use Rattle.mpc_cli.specs.Statuses.{OfItsPlant, PlantEnd, bad_plant, ends, IsPlantEnd, plant_status, outcome_status}
 use Rattle.mpc_cli.specs.Answers.{PassesAll}
