@@ -1,0 +1,3 @@
+pub mod PlantNumbers
+pub mod PlantFile
+pub mod PlantOutputs
