@@ -1,0 +1,2 @@
+pub mod ControllerFile
+pub mod FileLaws
