@@ -5,3 +5,11 @@ pub mod PlantLines
 pub mod LawLines
 pub mod TreeLines
 pub mod FileLines
+mod PlantNumbers
+mod PlantChecks
+mod PlantValues
+mod PlantObjects
+mod PlantWeights
+mod PlantRows
+mod PlantTexts
+mod OutputLines

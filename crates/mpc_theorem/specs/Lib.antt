@@ -1,2 +1,5 @@
 pub mod ControllerFile
 pub mod FileLaws
+pub mod PlantNumbers
+pub mod PlantFile
+pub mod PlantOutputs

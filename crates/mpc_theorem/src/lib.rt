@@ -2,5 +2,9 @@
 #![tactic(auto)]
 
 mod controller_files;
+mod plant_files;
+mod plant_outputs;
 
 pub use controller_files::controller_file;
+pub use plant_files::plant_texts;
+pub use plant_outputs::output_lines;
