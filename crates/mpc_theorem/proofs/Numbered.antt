@@ -67,7 +67,7 @@ module _ (lines : List (List ℕ)) (differ : AreDifferent lines) where
       (λ l. one_kept used (k - 1) few (omega (arith, l, from)) ∙ ap (λ n. take n lines) (sym (cond-false (nat_lt used k) k used (le-ltb used k l))))
       (cases_lt used k)
 
-  used_few : (used k : ℕ) → used ≤ length lines → k ≤ length lines → cond (nat_lt used k) k used ≤ length lines
+  pub used_few : (used k : ℕ) → used ≤ length lines → k ≤ length lines → cond (nat_lt used k) k used ≤ length lines
   used_few used k few within = by (nat_lt used k)
     where
       by : (b : Bool) → cond b k used ≤ length lines

@@ -1,4 +1,5 @@
 -- The lines of planes and of the nodes that name them, which tell the planes that the splits use.
+use Rattle.mpc_rows.specs.declared.trees.Node.{Node}
 use Rattle.std.proofs.Common.{◌≡◌, ℕ, ◌+◌, ◌-◌, ◌≤◌, Bool, true, false, nat_lt, cond, ℤ, List, [], ◌∷◌, ◌++◌, map, fold, length, take, drop, refl, sym, ap, subst, ◌∙◌, arith, codes}
 use Rattle.std.specs.List.{flat_map}
 use Rattle.std.proofs.lemmas.List.{length-map, get_or-map, take_all}
@@ -11,17 +12,17 @@ use Rattle.mpc_linear.specs.declared.integers.RowInt.{RowInt}
 use Rattle.mpc_plant.specs.declared.plants.Plant.{Plant}
 use Rattle.mpc_controller.specs.Parts.{row_count}
 use Rattle.mpc_controller.specs.Certificates.{cell_rows}
-use Rattle.mpc_file.specs.Reading.{Cursor, one_line, ReadsItems}
+use Rattle.mpc_file.specs.Reading.{Cursor, one_line, ReadsItems, LineRule}
 use Rattle.mpc_file.specs.Lines.{count_line, cert_line}
 use Rattle.mpc_file.specs.PlantGrammar.{plain_rule}
-use Rattle.mpc_file.specs.TreeGrammar.{IsCertLine, certs, NodeLine, StatesNode, node_rule, NodeOver, node_behind, node_at, owed, is_owed, next_depth, IsWord, plane_rule, IsPlaneCount, planes, used_with, planes_used, NamesPlane, named_split, plane_named, named_node, named_tree, no_plane}
+use Rattle.mpc_file.specs.TreeGrammar.{IsCertLine, certs, NodeLine, StatesNode, node_rule, NodeOver, node_behind, node_at, owed, is_owed, next_depth, written_split, written_node, written_tree, IsWord, plane_rule, IsPlaneCount, planes, used_with, planes_used, NamesPlane, named_split, plane_named, named_node, named_tree, no_plane}
 use Rattle.mpc_file.specs.TreeGrammar.NodeLine.{split_at, leaf_of, no_move}
-use Rattle.mpc_file.specs.TreeGrammar.NodeOver.{split_node}
+use Rattle.mpc_file.specs.TreeGrammar.NodeOver.{split_node, law_node, no_move_node}
 use Rattle.mpc_file.specs.TreeGrammar.StatesNode.{splits, names_law, has_none}
 use Rattle.mpc_file.specs.PlaneNames.{plane_line}
 use Rattle.mpc_file.specs.LineLaws.{OneIntegers}
-use Rattle.mpc_theorem.specs.ControllerFile.{with_line, different, number_in, counted, split_lines, planes_of, node_lines}
-use Rattle.mpc_theorem.proofs.Numbered.{line_at, AreDifferent, one_named, number_named}
+use Rattle.mpc_theorem.specs.ControllerFile.{with_line, different, number_in, counted, split_lines, planes_of, node_lines, tree_lines, split_line, named_split_line}
+use Rattle.mpc_theorem.proofs.Numbered.{line_at, AreDifferent, one_named, used_few, number_named}
 use Rattle.mpc_theorem.proofs.Walks.{HasLines, lines_one, lines_plain, lines_then, lines_are, lines_items, lines_named, different_items, lines_so_many, so_many_items}
 use Rattle.mpc_theorem.proofs.PlantLines.{lines_given}
 use Rattle.mpc_theorem.proofs.LawLines.{flat_map-map}
@@ -55,17 +56,78 @@ lines_planes one v all used here ps behind (count, (b, (first, reads))) =
     )
 
 -- ---- the nodes
-node_words : NodeLine ℕ → List ℕ
-node_words (split_at k) = count_line (codes "split") k
-node_words (leaf_of j) = count_line (codes "leaf") j
-node_words no_move = codes "none"
+module _ {Row : Type 0} where
+  line_words : (Row → List ℕ) → NodeLine Row → List ℕ
+  line_words word (split_at row) = word row
+  line_words word (leaf_of j) = count_line (codes "leaf") j
+  line_words word no_move = codes "none"
 
-states_words : (laws all used : ℕ) (text : List ℕ) (line : NodeLine ℕ) → StatesNode laws (NamesPlane all used) text line → text ≡ node_words line
-unfolding node_words
-states_words laws all used text (split_at k) (splits _ h) = h.spelled
-states_words laws all used text (leaf_of j) (names_law _ e h) = e
-states_words laws all used text no_move (has_none e) = e
+  over_lines : (Row → List ℕ) → NodeOver Row → List (List ℕ)
+  over_lines word (split_node row) = word row ∷ []
+  over_lines word (law_node j cs) = count_line (codes "leaf") j ∷ map cert_line cs
+  over_lines word (no_move_node c) = codes "none" ∷ cert_line c ∷ []
 
+  -- of a split something holds
+  SplitIs : (Row → Type 0) → NodeOver Row → Type 0
+  SplitIs P (split_node row) = P row
+  SplitIs P (law_node j cs) = Unit {0}
+  SplitIs P (no_move_node c) = Unit {0}
+
+  module _ (v : Plant) (laws : ℕ) (split : LineRule Row) (word : Row → List ℕ) (spelled : (text : List ℕ) (row : Row) → split.States text row → text ≡ word row) where
+    abbrev IsStated : Row → Type 0
+    IsStated row = (text : List ℕ) × split.States text row
+
+    states_words : (text : List ℕ) (line : NodeLine Row) → StatesNode laws split.States text line → text ≡ line_words word line
+    unfolding line_words
+    states_words text (split_at row) (splits _ h) = spelled text row h
+    states_words text (leaf_of j) (names_law _ e h) = e
+    states_words text no_move (has_none e) = e
+
+    record IsNodeRead (here : Cursor) (x : NodeOver Row) (behind : Cursor) : Type 0 where
+      text : HasLines here (over_lines word x) behind
+      stated : SplitIs IsStated x
+
+    behind_line : (depth : ℕ) (line : NodeLine Row) (text : List ℕ) (here between : Cursor) (x : NodeOver Row) (behind : Cursor) → StatesNode laws split.States text line → HasLines here (line_words word line ∷ []) between → (node_behind v depth line).Reads between x behind → IsNodeRead here x behind
+    unfolding line_words over_lines SplitIs
+    behind_line depth (split_at row) text here between x behind (splits _ is) h (e, at) = subst (λ y. IsNodeRead here y behind) (sym e) (record { text = lines_given here between behind (word row ∷ []) h at; stated = (text, is) })
+    behind_line depth (leaf_of j) text here between x behind is h (cs, (c, (cert, (e, at)))) =
+        subst (λ y. IsNodeRead here y behind) (sym e)
+        (record {
+          text = lines_given here c behind _ (lines_then here (count_line (codes "leaf") j ∷ []) between (map cert_line cs) c h
+              (lines_so_many (row_count v) (plain_rule (IsCertLine (cell_rows v.n depth + 1))) cert_line (λ l y k. k.spelled) between cs c cert)) at;
+          stated = tt;
+        })
+    behind_line depth no_move text here between x behind is h (cert, (c, (one, (e, at)))) =
+        subst (λ y. IsNodeRead here y behind) (sym e)
+        (record {
+          text = lines_given here c behind _ (lines_then here (codes "none" ∷ []) between (cert_line cert ∷ []) c h (lines_plain (IsCertLine (cell_rows v.n depth + row_count v)) cert_line (λ l y k. k.spelled) between cert c one)) at;
+          stated = tt;
+        })
+
+    node_read : (depth : ℕ) (here : Cursor) (x : NodeOver Row) (behind : Cursor) → (node_at v laws split depth).Reads here x behind → IsNodeRead here x behind
+    node_read depth here x behind (line, (b, ((text, (taken, good)), rest))) =
+        behind_line depth line text here b x behind good.0 (lines_one (node_rule laws split) (line_words word) states_words here line b (text, (taken, good))) rest
+
+-- ---- splits whose rows are written out
+written_same : (x : NodeOver RowInt) → over_lines split_line x ≡ node_lines split_line (written_node x)
+unfolding over_lines
+written_same (split_node row) = refl
+written_same (law_node j cs) = refl
+written_same (no_move_node c) = refl
+
+pub lines_written_tree : (v : Plant) (laws : ℕ) (here : Cursor) (tree : List Node) (behind : Cursor) → (written_tree v laws).Reads here tree behind → HasLines here (tree_lines split_line tree) behind
+lines_written_tree v laws here tree behind (u, (b, (t, (read, (c, (n, (e, at))))))) =
+    let item = λ (before : List (NodeOver RowInt)). node_at v laws (written_split v) (next_depth (owed before)) in
+    let asks = λ (before : List (NodeOver RowInt)). is_owed (owed before) in
+    subst (λ xs. HasLines here (tree_lines split_line xs) behind) (sym e)
+    (lines_given here c behind _
+    (lines_are here c (codes "tree" ∷ flat_map (λ x. node_lines split_line (written_node x)) read) _ (ap (λ l. codes "tree" ∷ l) (sym (flat_map-map (node_lines split_line) written_node read)))
+    (lines_then here (codes "tree" ∷ []) b _ c (lines_plain (IsWord (codes "tree")) (λ x. codes "tree") (λ l x h. h) here u b t)
+    (lines_items item asks (λ x. node_lines split_line (written_node x))
+    (λ before f x g h. lines_are f g (over_lines split_line x) (node_lines split_line (written_node x)) (written_same x)
+    (node_read v laws (written_split v) split_line (λ text row k. k.row_is.spelled) (next_depth (owed before)) f x g h).text) b read c n.0))) at)
+
+-- ---- splits whose planes are named
 module _ (v : Plant) (laws : ℕ) (ps : List RowInt) (differ : AreDifferent (map plane_line ps)) where
   abbrev all : List (List ℕ)
   all = map plane_line ps
@@ -79,68 +141,43 @@ module _ (v : Plant) (laws : ℕ) (ps : List RowInt) (differ : AreDifferent (map
   number : (k : ℕ) → 1 ≤ k → k ≤ length ps → k ≡ number_in all (plane_line (plane_named ps k))
   number k from within = sym (ap (number_in all) (named_line k from within) ∙ number_named all differ k from (subst (λ n. k ≤ n) (sym all_size) within))
 
-  lines_certs : (rows count : ℕ) (here : Cursor) (cs : List (List (ℕ × ℚ))) (behind : Cursor) → (certs rows count).Reads here cs behind → HasLines here (map cert_line cs) behind
-  lines_certs rows count here cs behind h = lines_so_many count (plain_rule (IsCertLine rows)) cert_line (λ l x k. k.spelled) here cs behind h
+  abbrev Names : ℕ → ℕ → Type 0
+  Names used k = (text : List ℕ) × NamesPlane (length ps) used text k
 
-  -- a node's lines, and the plane that it names, if any
-  record IsNodeRead (used : ℕ) (here : Cursor) (x : NodeOver ℕ) (behind : Cursor) : Type 0 where
-    text : HasLines here (node_lines all (named_node ps x)) behind
-    named : used ≤ length all → (fold with_line (take used all) (split_lines (named_node ps x)) ≡ take (used_with used x) all) × (used_with used x ≤ length all)
+  named_same : (used : ℕ) (x : NodeOver ℕ) → SplitIs (Names used) x → over_lines (count_line (codes "split")) x ≡ node_lines (named_split_line all) (named_node ps x)
+  unfolding over_lines SplitIs
+  named_same used (split_node k) h = λ i. count_line (codes "split") (number k h.1.from_one h.1.is_plane i) ∷ []
+  named_same used (law_node j cs) h = refl
+  named_same used (no_move_node c) h = refl
 
-  split_read : (used : ℕ) (here behind : Cursor) (text : List ℕ) (k : ℕ) → NamesPlane (length ps) used text k → HasLines here (count_line (codes "split") k ∷ []) behind → IsNodeRead used here (split_node k) behind
-  split_read used here behind text k is h =
-      let within : k ≤ length all = subst (λ n. k ≤ n) (sym all_size) is.is_plane in
-      record {
-        text = lines_are here behind (count_line (codes "split") k ∷ []) _ (λ i. count_line (codes "split") (number k is.from_one is.is_plane i) ∷ []) h;
-        named = λ few. (
-          ap (with_line (take used all)) (named_line k is.from_one is.is_plane) ∙ one_named all differ used k few is.from_one within is.in_order,
-          within_either used k few within,
-        );
-      }
-    where
-      within_either : (used k : ℕ) → used ≤ length all → k ≤ length all → cond (nat_lt used k) k used ≤ length all
-      within_either used k few within = by (nat_lt used k)
-        where
-          by : (b : Bool) → cond b k used ≤ length all
-          by true = within
-          by false = few
+  node_named : (used : ℕ) (x : NodeOver ℕ) → used ≤ length all → SplitIs (Names used) x → (fold with_line (take used all) (split_lines (named_node ps x)) ≡ take (used_with used x) all) × (used_with used x ≤ length all)
+  unfolding SplitIs
+  node_named used (split_node k) few h =
+      let within : k ≤ length all = subst (λ n. k ≤ n) (sym all_size) h.1.is_plane in
+      (ap (with_line (take used all)) (named_line k h.1.from_one h.1.is_plane) ∙ one_named all differ used k few h.1.from_one within h.1.in_order, used_few all differ used k few within)
+  node_named used (law_node j cs) few h = (refl, few)
+  node_named used (no_move_node c) few h = (refl, few)
 
-  behind_line : (used depth : ℕ) (line : NodeLine ℕ) (text : List ℕ) (here between : Cursor) (x : NodeOver ℕ) (behind : Cursor) → StatesNode laws (NamesPlane (length ps) used) text line → HasLines here (node_words line ∷ []) between → (node_behind v depth line).Reads between x behind → IsNodeRead used here x behind
-  unfolding node_words
-  behind_line used depth (split_at k) text here between x behind (splits _ is) h (e, at) = subst (λ y. IsNodeRead used here y behind) (sym e) (split_read used here behind text k is (lines_given here between behind _ h at))
-  behind_line used depth (leaf_of j) text here between x behind is h (cs, (c, (cert, (e, at)))) =
-      subst (λ y. IsNodeRead used here y behind) (sym e)
-      (record {
-        text = lines_given here c behind _ (lines_then here (count_line (codes "leaf") j ∷ []) between (map cert_line cs) c h (lines_certs (cell_rows v.n depth + 1) (row_count v) between cs c cert)) at;
-        named = λ few. (refl, few);
-      })
-  behind_line used depth no_move text here between x behind is h (cert, (c, (one, (e, at)))) =
-      subst (λ y. IsNodeRead used here y behind) (sym e)
-      (record {
-        text = lines_given here c behind _ (lines_then here (codes "none" ∷ []) between (cert_line cert ∷ []) c h (lines_plain (IsCertLine (cell_rows v.n depth + row_count v)) cert_line (λ l x k. k.spelled) between cert c one)) at;
-        named = λ few. (refl, few);
-      })
-
-  node_read : (used depth : ℕ) (here : Cursor) (x : NodeOver ℕ) (behind : Cursor) → (node_at v laws (named_split (length ps) used) depth).Reads here x behind → IsNodeRead used here x behind
-  node_read used depth here x behind (line, (b, ((text, (taken, good)), rest))) =
-      behind_line used depth line text here b x behind good.0 (lines_one (node_rule laws (named_split (length ps) used)) node_words (states_words laws (length ps) used) here line b (text, (taken, good))) rest
+  abbrev read_at : (used depth : ℕ) (here : Cursor) (x : NodeOver ℕ) (behind : Cursor) → (node_at v laws (named_split (length ps) used) depth).Reads here x behind → IsNodeRead v laws (named_split (length ps) used) (count_line (codes "split")) (λ text k h. h.spelled) here x behind
+  read_at used depth here x behind h = node_read v laws (named_split (length ps) used) (count_line (codes "split")) (λ text k h. h.spelled) depth here x behind h
 
   used_push : (before : List (NodeOver ℕ)) (x : NodeOver ℕ) → planes_used (before ++ x ∷ []) ≡ used_with (planes_used before) x
   used_push before x = fold-append used_with 0 before (x ∷ [])
 
   -- where all planes are used
   pub lines_tree : (here : Cursor) (ns : List (NodeOver ℕ)) (behind : Cursor) → (named_tree v laws ps).Reads here ns behind → planes_used ns ≡ length ps
-      → (planes_of (map (named_node ps) ns) ≡ all) × HasLines here (codes "tree" ∷ flat_map (node_lines all) (map (named_node ps) ns)) behind
+      → (planes_of (map (named_node ps) ns) ≡ all) × HasLines here (tree_lines (named_split_line all) (map (named_node ps) ns)) behind
   lines_tree here ns behind (u, (b, (t, (read, (c, (n, (e, at))))))) used =
       let item = λ (before : List (NodeOver ℕ)). node_at v laws (named_split (length ps) (planes_used before)) (next_depth (owed before)) in
       let asks = λ (before : List (NodeOver ℕ)). is_owed (owed before) in
       let reads : ReadsItems (NodeOver ℕ) item asks b ns c = subst (λ xs. ReadsItems (NodeOver ℕ) item asks b xs c) (sym e) n.0 in
       let told = lines_named item asks all planes_used (λ x. split_lines (named_node ps x)) refl
-      (λ before f x g few h. let this = (node_read (planes_used before) (next_depth (owed before)) f x g h).named few in
-      (this.0 ∙ ap (λ k. take k all) (sym (used_push before x)), subst (λ k. k ≤ length all) (sym (used_push before x)) this.1)) b ns c reads in (
-        ap different (flat_map-map split_lines (named_node ps) ns) ∙ told.0 ∙ take_all (planes_used ns) all (omega (arith, used, all_size)),
-        lines_given here c behind _
-            (lines_are here c (codes "tree" ∷ flat_map (λ x. node_lines all (named_node ps x)) ns) _ (ap (λ l. codes "tree" ∷ l) (sym (flat_map-map (node_lines all) (named_node ps) ns)))
-            (lines_then here (codes "tree" ∷ []) b _ c (lines_plain (IsWord (codes "tree")) (λ x. codes "tree") (λ l x h. h) here u b t)
-            (lines_items item asks (λ x. node_lines all (named_node ps x)) (λ before f x g h. (node_read (planes_used before) (next_depth (owed before)) f x g h).text) b ns c reads))) at,
-      )
+          (λ before f x g few h. let this = node_named (planes_used before) x few (read_at (planes_used before) (next_depth (owed before)) f x g h).stated in
+              (this.0 ∙ ap (λ k. take k all) (sym (used_push before x)), subst (λ k. k ≤ length all) (sym (used_push before x)) this.1)) b ns c reads in
+      (ap different (flat_map-map split_lines (named_node ps) ns) ∙ told.0 ∙ take_all (planes_used ns) all (omega (arith, used, all_size)),
+      lines_given here c behind _
+      (lines_are here c (codes "tree" ∷ flat_map (λ x. node_lines (named_split_line all) (named_node ps x)) ns) _ (ap (λ l. codes "tree" ∷ l) (sym (flat_map-map (node_lines (named_split_line all)) (named_node ps) ns)))
+      (lines_then here (codes "tree" ∷ []) b _ c (lines_plain (IsWord (codes "tree")) (λ x. codes "tree") (λ l x h. h) here u b t)
+      (lines_items item asks (λ x. node_lines (named_split_line all) (named_node ps x))
+      (λ before f x g h. let read_node = read_at (planes_used before) (next_depth (owed before)) f x g h in
+          lines_are f g (over_lines (count_line (codes "split")) x) _ (named_same (planes_used before) x read_node.stated) read_node.text) b ns c reads))) at)
