@@ -103,7 +103,7 @@ answers_command texts replies c input plant status text read a = record {
   text_is = text_weaker (IsOutputFor c plant (tail_of input)) (IsOutput (OfPlant c) input) status text (output_of texts replies c input plant read) a.text_is;
 }
 
-pub answers_commands : PlantTextsAreRead → RepliesAreLines → {E : Type 0} (r : Result Answer E) (c : PlantCommand) (input bytes counts : List ℕ) (plant : Plant) → ReadsAsPlant bytes plant → bytes ≡ plant_text c input → counts ≡ tail_of input
+pub answers_commands : {E : Type 0} → PlantTextsAreRead → RepliesAreLines → (r : Result Answer E) (c : PlantCommand) (input bytes counts : List ℕ) (plant : Plant) → ReadsAsPlant bytes plant → bytes ≡ plant_text c input → counts ≡ tail_of input
     → IfOk r (λ a. IsPlantAnswer c plant counts a.status a.text.items) → IfOk r (λ a. IsAnswerTo (OfPlant c) input a.status a.text.items)
 answers_commands texts replies (Ok a) c input bytes counts plant read e f h =
     answers_command texts replies c input plant a.status a.text.items (subst (λ (b : List ℕ). ReadsAsPlant b plant) e read) (subst (λ (l : List ℕ). IsPlantAnswer c plant l a.status a.text.items) f h)

@@ -1,20 +1,20 @@
 -- The reply lines of the libraries as lines of which each is right.
-use Rattle.std.proofs.Common.{◌≡◌, inl, inr, ℕ, Option, Some, None, List, ◌++◌, codes, refl, ◌∙◌, subst}
+use Rattle.std.proofs.Common.{sym, ap, ◌≡◌, inl, inr, ℕ, Option, Some, None, List, ◌++◌, codes, refl, ◌∙◌, subst}
 use Rattle.std.specs.Prelude.{MatchOption}
 use Rattle.mpc_exact.specs.Rational.{ℚ}
 use Rattle.mpc_plant.specs.declared.plants.Plant.{Plant}
 use Rattle.mpc_plant.specs.Trajectory.{point_of}
-use Rattle.mpc_plant.specs.Reply.{Reply, IsRight}
+use Rattle.mpc_plant.specs.Reply.{Reply, IsRight, OneRightReply}
 use Rattle.mpc_rows.specs.declared.programs.Qp.{Qp}
 use Rattle.mpc_controller.specs.Parts.{limits_of}
-use Rattle.mpc_controller.specs.Replies.{outside, first_outside}
+use Rattle.mpc_controller.specs.Replies.{at_state, outside, first_outside}
 use Rattle.mpc_table.specs.TableReplies.{answer_text}
 use Rattle.mpc_replies.specs.CountLine.{counts_of}
 use Rattle.mpc_replies.specs.ReplyLines.{IsRightLine, IsReplyTo, IsReplyLine, AreReplies, no_lines as no_replies, one_more as one_more_reply}
 use Rattle.mpc_tight.specs.Disturbed.{IsRobustlyRight}
 use Rattle.mpc_states.specs.StateLines.{IsStateLine, has_reply, has_wide_run, AreStateLines, IsLineTo as IsStateLineTo, no_lines as no_state_lines, one_more as one_more_state}
-use Rattle.mpc_theorem.specs.PlantFile.{PlantTextsAreRead}
-use Rattle.mpc_theorem.specs.PlantOutputs.{IsReplyAt, IsReplyOrWide, IsLineTo, IsLine, AreLines, no_lines, one_more, RepliesAreLines, SolvedByRun, RobustlySolvedByRun}
+use Rattle.mpc_theorem.specs.PlantFile.{PlantTextsAreRead, OnePlantText}
+use Rattle.mpc_theorem.specs.PlantOutputs.{IsReplyAt, IsReplyOrWide, IsLineTo, IsLine, AreLines, no_lines, one_more, RepliesAreLines, OneReplies, SolvedByRun, RobustlySolvedByRun}
 
 -- ---- in both cases of a value that may be missing
 both_cases : {A : Type 0} (o : Option A) (No NoOther : Type 0) (Yes Other : A → Type 0) → (No → NoOther) → ((x : A) → Yes x → Other x) → MatchOption o No Yes → MatchOption o NoOther Other
@@ -46,6 +46,32 @@ module _ (plant : Plant) where
 
 pub replies_are_lines : RepliesAreLines
 replies_are_lines plant lines text = (lines_of_replies plant lines text, replies_of_lines plant lines text)
+
+-- ---- one text
+module _ (right : OneRightReply) (plant : Plant) where
+  same_reply : (t : List ℚ) (text other : List ℕ) → IsReplyAt (IsRight plant) t text → IsReplyAt (IsRight plant) t other → text ≡ other
+  same_reply t text other h k = h.written ∙ ap (λ r. answer_text (at_state r) ++ codes "\n") (right plant t h.reply k.reply h.right k.right) ∙ sym k.written
+
+  same_to : (o : Option ℕ) (t : List ℚ) (text other : List ℕ) → MatchOption o (IsReplyAt (IsRight plant) t text) (λ i. text ≡ answer_text (outside i) ++ codes "\n")
+      → MatchOption o (IsReplyAt (IsRight plant) t other) (λ i. other ≡ answer_text (outside i) ++ codes "\n") → text ≡ other
+  same_to None t text other h k = same_reply t text other h k
+  same_to (Some i) t text other h k = h ∙ sym k
+
+  same_line : (o : Option (List ℕ)) (text other : List ℕ) → MatchOption o (text ≡ codes "bad line\n") (λ counts. IsLineTo (IsReplyAt (IsRight plant)) plant counts text)
+      → MatchOption o (other ≡ codes "bad line\n") (λ counts. IsLineTo (IsReplyAt (IsRight plant)) plant counts other) → text ≡ other
+  same_line None text other h k = h ∙ sym k
+  same_line (Some counts) text other h k = same_to (first_outside (limits_of plant) counts) (point_of counts) text other h k
+
+  same_text : (lines : List (List ℕ)) (text other : List ℕ) → AreLines (IsReplyAt (IsRight plant)) plant lines text → AreLines (IsReplyAt (IsRight plant)) plant lines other → text ≡ other
+  same_text _ _ _ no_lines no_lines = refl
+  same_text _ _ _ (one_more line text lines texts h rest) (one_more _ text' _ texts' k rest') =
+      let first = same_line (counts_of line plant.n) text text' h k in
+      let others = same_text lines texts texts' rest rest' in
+      λ i. first i ++ others i
+
+pub one_replies : OnePlantText → OneRightReply → OneReplies
+one_replies one right input text other h k =
+    same_text right k.plant _ text other (subst (λ plant. AreLines (IsReplyAt (IsRight plant)) plant _ text) (one _ h.plant k.plant h.read k.read) h.lines) k.lines
 
 -- ---- of a program that is solved at each state
 module _ (Right : List ℚ → Reply → Type 0) (plant : Plant) (qp : Qp) (counts_are : qp.counts ≡ limits_of plant) where

@@ -71,3 +71,7 @@ SolvedByRun = (input output : List ℕ) → IsSolvedByRun input output → IsSol
 
 abbrev pub RobustlySolvedByRun : Type 0
 RobustlySolvedByRun = (input output : List ℕ) → IsRobustlySolvedByRun input output → IsRobustlySolved input output
+
+-- `run` has one output
+abbrev pub OneReplies : Type 0
+OneReplies = (input one other : List ℕ) → IsReplies input one → IsReplies input other → one ≡ other
