@@ -3,3 +3,4 @@ pub mod FileLaws
 pub mod PlantNumbers
 pub mod PlantFile
 pub mod PlantOutputs
+pub mod FileOutputs
