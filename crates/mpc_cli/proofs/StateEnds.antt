@@ -1,5 +1,5 @@
 -- What comes of recorded states, and the answers to them.
-use Rattle.std.proofs.Common.{◌≡◌, ◌≢◌, ℕ, List, refl, sym, ◌∙◌, ap, subst}
+use Rattle.std.proofs.Common.{◌≡◌, ◌≢◌, ℕ, List, refl, ◌∙◌, ap}
 use Rattle.mpc_states.specs.Convex.{ProgramOutcome, not_definite, too_wide, convex}
 use Rattle.mpc_states.specs.Inputs.{IsSolved as IsSolvedByRun, IsRobustlySolved as IsRobustlySolvedByRun}
 use Rattle.mpc_states.specs.Outcomes.{SolveOutcome, bad_plant, of_program, IsSolveOutcome, OneSolveOutcome, RobustOutcome, bad_robust_plant, bad_noise, of_robust_program, wide_row, robust_replies, IsRobustOutcome, OneRobustOutcome}
@@ -11,7 +11,6 @@ use Rattle.mpc_theorem.specs.PlantOutputs.{SolvedByRun, RobustlySolvedByRun}
 use Rattle.mpc_cli.specs.declared.commands.Command.TheVariants.{OfStates}
 use Rattle.mpc_cli.specs.declared.commands.StateCommand.{StateCommand}
 use Rattle.mpc_cli.specs.declared.commands.StateCommand.TheVariants.{Solve, Robust}
-use Rattle.mpc_cli.specs.Ends.{ComesOf}
 use Rattle.mpc_cli.specs.Outputs.{IsOutput}
 use Rattle.mpc_cli.specs.Statuses.{program_status, solve_status, robust_status}
 use Rattle.mpc_cli.specs.Answers.{IsStateDue, StatesPass}

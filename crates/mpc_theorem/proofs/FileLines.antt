@@ -1,6 +1,5 @@
 -- A text spells a controller in a version exactly where it is the controller's file in that version.
 use Rattle.std.proofs.Common.{◌≡◌, ℕ, List, [], ◌∷◌, ◌++◌, length, map, sym, ap, subst, ◌∙◌, codes, append-nil}
-use Rattle.std.specs.List.{flat_map}
 use Rattle.mpc_plant.specs.declared.plants.Plant.{Plant}
 use Rattle.mpc_controller.specs.Parts.{Parts}
 use Rattle.mpc_file.specs.declared.versions.Version.{Version}
@@ -13,10 +12,9 @@ use Rattle.mpc_file.specs.TreeGrammar.{IsWord, planes_used, named_node}
 use Rattle.mpc_file.specs.FormNames.{form_line}
 use Rattle.mpc_file.specs.PlaneNames.{plane_line}
 use Rattle.mpc_file.specs.FileGrammar.{IsVersion, IsEnd, named, start, Spells, written, behind_plant}
-use Rattle.mpc_file.specs.Statable.{CanState}
 use Rattle.mpc_file.specs.LineLaws.{OneFractions, OneIntegers}
 use Rattle.mpc_file.specs.TextLaws.{EachText, StatedCanBe}
-use Rattle.mpc_theorem.specs.ControllerFile.{counted, plant_lines, law_lines, named_law_lines, laws_lines, split_line, named_split_line, tree_lines, written_lines, named_lines, lines_behind, file_text, IsControllerFile}
+use Rattle.mpc_theorem.specs.ControllerFile.{counted, plant_lines, law_lines, named_law_lines, laws_lines, split_line, named_split_line, tree_lines, written_lines, named_lines, lines_behind, file_text}
 use Rattle.mpc_theorem.specs.FileLaws.{SpelledIsFile, FileIsSpelled}
 use Rattle.mpc_theorem.proofs.Walks.{HasLines, lines_plain, lines_then, lines_are}
 use Rattle.mpc_theorem.proofs.PlantLines.{lines_plant, lines_given}
@@ -74,7 +72,7 @@ module _ (fractions : OneFractions) (integers : OneIntegers) where
       let plant_part : HasLines s.behind_first (plant_lines version x.plant) between =
       subst (λ p. HasLines s.behind_first (plant_lines version p) between) (sym (its_plant version v between x end s.lines.1.1.1)) (lines_plant version s.behind_first v between s.lines.1.1.0) in
       let all = lines_then (start text) first s.behind_first _ end (lines_plain IsVersion (λ w. count_line (codes "mpc") (number_of w)) (λ line w h. h) (start text) version s.behind_first s.first)
-          (lines_then s.behind_first (plant_lines version x.plant) between _ end plant_part behind) in
+      (lines_then s.behind_first (plant_lines version x.plant) between _ end plant_part behind) in
       all.text_is ∙ append-nil (file_text version x)
 
   pub spelled_is_file : StatedCanBe → SpelledIsFile

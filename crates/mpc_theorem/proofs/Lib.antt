@@ -13,3 +13,4 @@ mod PlantWeights
 mod PlantRows
 mod PlantTexts
 mod OutputLines
+pub mod RightControllers

@@ -1,12 +1,11 @@
 -- The lines of planes and of the nodes that name them, which tell the planes that the splits use.
 use Rattle.mpc_rows.specs.declared.trees.Node.{Node}
-use Rattle.std.proofs.Common.{◌≡◌, ℕ, ◌+◌, ◌-◌, ◌≤◌, Bool, true, false, nat_lt, cond, ℤ, List, [], ◌∷◌, ◌++◌, map, fold, length, take, drop, refl, sym, ap, subst, ◌∙◌, arith, codes}
+use Rattle.std.proofs.Common.{◌≡◌, ℕ, ◌+◌, ◌-◌, ◌≤◌, nat_lt, ℤ, List, [], ◌∷◌, ◌++◌, map, fold, length, take, drop, refl, sym, ap, subst, ◌∙◌, arith, codes}
 use Rattle.std.specs.List.{flat_map}
 use Rattle.std.proofs.lemmas.List.{length-map, get_or-map, take_all}
 use Rattle.std.proofs.lemmas.List.Concat.{flat_map_single}
 use Rattle.std.proofs.lemmas.List.Sums.{fold-append}
 use Rattle.std.proofs.Math.Seq.{take-append_seam, drop-append_seam}
-use Rattle.mpc_exact.specs.Rational.{ℚ}
 use Rattle.mpc_linear.specs.Whole.{AreSmall}
 use Rattle.mpc_linear.specs.declared.integers.RowInt.{RowInt}
 use Rattle.mpc_plant.specs.declared.plants.Plant.{Plant}
@@ -15,7 +14,7 @@ use Rattle.mpc_controller.specs.Certificates.{cell_rows}
 use Rattle.mpc_file.specs.Reading.{Cursor, one_line, ReadsItems, LineRule}
 use Rattle.mpc_file.specs.Lines.{count_line, cert_line}
 use Rattle.mpc_file.specs.PlantGrammar.{plain_rule}
-use Rattle.mpc_file.specs.TreeGrammar.{IsCertLine, certs, NodeLine, StatesNode, node_rule, NodeOver, node_behind, node_at, owed, is_owed, next_depth, written_split, written_node, written_tree, IsWord, plane_rule, IsPlaneCount, planes, used_with, planes_used, NamesPlane, named_split, plane_named, named_node, named_tree, no_plane}
+use Rattle.mpc_file.specs.TreeGrammar.{IsCertLine, NodeLine, StatesNode, node_rule, NodeOver, node_behind, node_at, owed, is_owed, next_depth, written_split, written_node, written_tree, IsWord, plane_rule, IsPlaneCount, planes, used_with, planes_used, NamesPlane, named_split, plane_named, named_node, named_tree, no_plane}
 use Rattle.mpc_file.specs.TreeGrammar.NodeLine.{split_at, leaf_of, no_move}
 use Rattle.mpc_file.specs.TreeGrammar.NodeOver.{split_node, law_node, no_move_node}
 use Rattle.mpc_file.specs.TreeGrammar.StatesNode.{splits, names_law, has_none}
@@ -172,12 +171,13 @@ module _ (v : Plant) (laws : ℕ) (ps : List RowInt) (differ : AreDifferent (map
       let asks = λ (before : List (NodeOver ℕ)). is_owed (owed before) in
       let reads : ReadsItems (NodeOver ℕ) item asks b ns c = subst (λ xs. ReadsItems (NodeOver ℕ) item asks b xs c) (sym e) n.0 in
       let told = lines_named item asks all planes_used (λ x. split_lines (named_node ps x)) refl
-          (λ before f x g few h. let this = node_named (planes_used before) x few (read_at (planes_used before) (next_depth (owed before)) f x g h).stated in
-              (this.0 ∙ ap (λ k. take k all) (sym (used_push before x)), subst (λ k. k ≤ length all) (sym (used_push before x)) this.1)) b ns c reads in
-      (ap different (flat_map-map split_lines (named_node ps) ns) ∙ told.0 ∙ take_all (planes_used ns) all (omega (arith, used, all_size)),
-      lines_given here c behind _
-      (lines_are here c (codes "tree" ∷ flat_map (λ x. node_lines (named_split_line all) (named_node ps x)) ns) _ (ap (λ l. codes "tree" ∷ l) (sym (flat_map-map (node_lines (named_split_line all)) (named_node ps) ns)))
-      (lines_then here (codes "tree" ∷ []) b _ c (lines_plain (IsWord (codes "tree")) (λ x. codes "tree") (λ l x h. h) here u b t)
-      (lines_items item asks (λ x. node_lines (named_split_line all) (named_node ps x))
-      (λ before f x g h. let read_node = read_at (planes_used before) (next_depth (owed before)) f x g h in
-          lines_are f g (over_lines (count_line (codes "split")) x) _ (named_same (planes_used before) x read_node.stated) read_node.text) b ns c reads))) at)
+      (λ before f x g few h. let this = node_named (planes_used before) x few (read_at (planes_used before) (next_depth (owed before)) f x g h).stated in
+      (this.0 ∙ ap (λ k. take k all) (sym (used_push before x)), subst (λ k. k ≤ length all) (sym (used_push before x)) this.1)) b ns c reads in (
+        ap different (flat_map-map split_lines (named_node ps) ns) ∙ told.0 ∙ take_all (planes_used ns) all (omega (arith, used, all_size)),
+        lines_given here c behind _
+            (lines_are here c (codes "tree" ∷ flat_map (λ x. node_lines (named_split_line all) (named_node ps x)) ns) _ (ap (λ l. codes "tree" ∷ l) (sym (flat_map-map (node_lines (named_split_line all)) (named_node ps) ns)))
+            (lines_then here (codes "tree" ∷ []) b _ c (lines_plain (IsWord (codes "tree")) (λ x. codes "tree") (λ l x h. h) here u b t)
+            (lines_items item asks (λ x. node_lines (named_split_line all) (named_node ps x))
+            (λ before f x g h. let read_node = read_at (planes_used before) (next_depth (owed before)) f x g h in
+            lines_are f g (over_lines (count_line (codes "split")) x) _ (named_same (planes_used before) x read_node.stated) read_node.text) b ns c reads))) at,
+      )

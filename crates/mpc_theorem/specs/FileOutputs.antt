@@ -1,10 +1,13 @@
 -- What is written of a plant's controller, and of a controller's file.
-use Rattle.std.specs.Prelude.{◌≡◌, ℕ, ◌^◌, ◌<◌, List, length}
+use Rattle.std.specs.Prelude.{ℕ, ◌^◌, ◌<◌, List, length}
+use Rattle.mpc_plant.specs.declared.plants.Plant.{Plant}
+use Rattle.mpc_rows.specs.declared.programs.Qp.{Qp}
 use Rattle.mpc_controller.specs.Parts.{Parts}
 use Rattle.mpc_file.specs.declared.versions.Version.{Version}
 use Rattle.mpc_file.specs.declared.versions.Version.TheVariants.{Three}
 use Rattle.mpc_file.specs.FileGrammar.{Spells}
 use Rattle.mpc_files.specs.FileAnswers.{RepliesRightly, FileReplies, Converts, IsAccepted}
+use Rattle.mpc_synthesis.specs.Controllers.{IsController}
 use Rattle.mpc_replies.specs.ReplyLines.{AreRepliesOf}
 use Rattle.mpc_theorem.specs.PlantFile.{IsPlantText}
 use Rattle.mpc_theorem.specs.ControllerFile.{IsControllerFile}
@@ -41,10 +44,10 @@ pub record IsConverted (input output : List ℕ) : Type 0 where
 
 -- ---- what is written by the library is this, for files of fewer than 2^64 bytes, as each in a memory
 abbrev pub CompiledIsOutput : Type 0
-CompiledIsOutput = (input output : List ℕ) (parts : Parts) → length output < 2 ^ 64 → IsPlantText input parts.plant → Spells output Three parts → RepliesRightly parts → IsCompiled input output
+CompiledIsOutput = (input output : List ℕ) (plant : Plant) (qp : Qp) (parts : Parts) → length output < 2 ^ 64 → IsPlantText input plant → IsController plant qp parts → Spells output Three parts → IsCompiled input output
 
-abbrev pub AcceptedIsRight : Type 0
-AcceptedIsRight = (input : List ℕ) → length input < 2 ^ 64 → IsAccepted input → IsRightFile input
+abbrev pub AcceptedIsRightFile : Type 0
+AcceptedIsRightFile = (input : List ℕ) → length input < 2 ^ 64 → IsAccepted input → IsRightFile input
 
 abbrev pub RepliedIsOutput : Type 0
 RepliedIsOutput = (input output : List ℕ) (lines : List (List ℕ)) → length input < 2 ^ 64 → FileReplies input lines output → AreFileReplies input lines output

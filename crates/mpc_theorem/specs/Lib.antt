@@ -4,3 +4,5 @@ pub mod PlantNumbers
 pub mod PlantFile
 pub mod PlantOutputs
 pub mod FileOutputs
+pub mod DrillLines
+pub mod Fleets

@@ -1,8 +1,17 @@
+use Rattle.std.proofs.Common.{sym, subst}
+use Rattle.mpc_theorem.specs.PlantFile.{IsPlantText}
+use Rattle.mpc_theorem.proofs.RightControllers.{controller_rightly}
 use Rattle.mpc_theorem.proofs.file_outputs.file_output_laws.Goals as goal
 use Rattle.mpc_file.specs.declared.versions.Version.TheVariants.{Three}
 
 pub returns-clause-compiled : goal.returns-clause-compiled
-returns-clause-compiled c = λ input output parts short read spelled rightly. record { parts = parts; read = read; file = c.controller_file.ensures.file output Three parts short spelled; rightly = rightly }
+returns-clause-compiled c = λ input output plant qp parts short read is spelled.
+    record {
+      parts = parts;
+      read = subst (IsPlantText input) (sym is.is_sealed.plant_is) read;
+      file = c.controller_file.ensures.file output Three parts short spelled;
+      rightly = controller_rightly c.right_controller.ensures.right c.right_controller.ensures.replies plant qp parts is;
+    }
 
 pub returns-clause-accepted : goal.returns-clause-accepted
 returns-clause-accepted c = λ input short h.
