@@ -1,5 +1,5 @@
 -- What is answered to a plant's file and to a controller's.
-use Rattle.std.proofs.Common.{◌≡◌, ◌≢◌, ℕ, ◌<◌, ◌≤◌, List, [], length, refl, sym, subst}
+use Rattle.std.proofs.Common.{◌≡◌, ◌≢◌, ℕ, ◌^◌, ◌<◌, ◌≤◌, List, [], length, refl, sym, subst, arith, lit<}
 use Rattle.std.specs.Prelude.{Result, Ok, Err, IfOk, IfErr, codes}
 use Rattle.std.specs.Global.{Vec}
 use Rattle.mpc_plant.specs.declared.plants.Plant.{Plant}
@@ -27,7 +27,8 @@ use Rattle.mpc_safety.specs.SafetyOutcomes.{bad_file as bad_safety_file, finds a
 use Rattle.mpc_status.specs.declared.status.Status.{Status}
 use Rattle.mpc_status.specs.declared.status.Status.TheVariants.{Done, BadPlant, TooLong, NoMemory}
 use Rattle.mpc_status.specs.StatusText.{line_of}
-use Rattle.mpc_theorem.specs.PlantFile.{PlantTextsAreRead}
+use Rattle.mpc_theorem.specs.PlantFile.{IsPlantText, PlantTextsAreRead}
+use Rattle.mpc_theorem.specs.FileOutputs.{CompiledIsOutput, AcceptedIsRightFile}
 use Rattle.mpc_cli.specs.declared.commands.Command.{Command}
 use Rattle.mpc_cli.specs.declared.commands.Command.TheVariants.{OfPlant, OfFile}
 use Rattle.mpc_cli.specs.declared.commands.FileCommand.{FileCommand}
@@ -36,7 +37,7 @@ use Rattle.mpc_cli.specs.declared.commands.PlantCommand.TheVariants.{Compile}
 use Rattle.mpc_cli.specs.Commands.{CommandReads}
 use Rattle.mpc_cli.specs.ControllerFiles.{IsFileOf}
 use Rattle.mpc_cli.specs.Ends.{ComesOf, IsTextAt}
-use Rattle.mpc_cli.specs.Outputs.{IsOutput}
+use Rattle.mpc_cli.specs.StatedOutputs.{IsStatedOutput}
 use Rattle.mpc_cli.specs.Statuses.{bad_plant, ends, outcome_status, finding_status, step_status, reading_status}
 use Rattle.mpc_cli.specs.Answers.{input_limit, IsDueTo, too_long, in_limit, IsFileDue}
 use Rattle.mpc_cli.specs.Outcomes.{IsPlantAnswer, IsAnswerFor}
@@ -50,10 +51,9 @@ line_text IsOutput s other = record { output = λ done. absurd (other done); lin
 done_text : (IsOutput : List ℕ → Type 0) (text : List ℕ) → IsOutput text → IsTextAt IsOutput Done text
 done_text IsOutput text h = record { output = λ done. h; line = λ other. absurd (other refl) }
 
--- an outcome of the one answers is one of the other
-pub outcome_of : (P Q : Status → List ℕ → Type 0) → ((s : Status) (text : List ℕ) → P s text → Q s text) → (r : Result (Vec ℕ) Status) → OutcomeOf P r → OutcomeOf Q r
-outcome_of P Q f (Ok text) h = f Done text.items h
-outcome_of P Q f (Err s) h = λ other. f s (line_of s) (h other)
+-- a vector's bytes are fewer than 2^64
+few_bytes : (v : Vec ℕ) → length v.items < 2 ^ 64
+few_bytes v = let ok = v.ok in let small = v.small in omega arith
 
 pub told_text : (Answers : Status → List ℕ → Type 0) (bytes : List ℕ) (r : Result (Vec ℕ) Status) → IfOk r (λ t. t.items ≡ bytes) → IfErr r (λ s. s ≡ NoMemory) → Answers Done bytes → OutcomeOf Answers r
 told_text Answers bytes (Ok text) is memory h = subst (Answers Done) (sym is) h
@@ -61,14 +61,14 @@ told_text Answers bytes (Err s) is memory h = λ other. absurd (other memory)
 
 -- ---- a command whose input isn't too long
 pub refusal_for : (c : Command) (input : List ℕ) (s : Status) → length input ≤ input_limit → IsDueTo c input s → s ≢ Done → IsAnswerFor c input s (line_of s)
-refusal_for c input s short due other = record { due = in_limit (λ reads. short) due; text_is = line_text (IsOutput c input) s other }
+refusal_for c input s short due other = record { due = in_limit (λ reads. short) due; text_is = line_text (IsStatedOutput c input) s other }
 
-output_for : (c : Command) (input text : List ℕ) → length input ≤ input_limit → IsDueTo c input Done → IsOutput c input text → IsAnswerFor c input Done text
-output_for c input text short due h = record { due = in_limit (λ reads. short) due; text_is = done_text (IsOutput c input) text h }
+output_for : (c : Command) (input text : List ℕ) → length input ≤ input_limit → IsDueTo c input Done → IsStatedOutput c input text → IsAnswerFor c input Done text
+output_for c input text short due h = record { due = in_limit (λ reads. short) due; text_is = done_text (IsStatedOutput c input) text h }
 
 -- and one whose input is
 pub long_for : (c : Command) (input : List ℕ) → CommandReads c → input_limit < length input → IsAnswerFor c input TooLong (line_of TooLong)
-long_for c input reads long = record { due = too_long reads long refl; text_is = line_text (IsOutput c input) TooLong (λ d. absurd cc) }
+long_for c input reads long = record { due = too_long reads long refl; text_is = line_text (IsStatedOutput c input) TooLong (λ d. absurd cc) }
 
 -- ---- a plant
 module _ (workers : ℕ) (plant : Plant) (counts : List ℕ) where
@@ -89,14 +89,22 @@ module _ (workers : ℕ) (plant : Plant) (counts : List ℕ) where
       record { due = record { outcome = complete; came = (qp, (parts, is)); status_is = refl }; text_is = done_text (IsFileOf plant) text file }
 
 module _ (workers : ℕ) (file : List ℕ) (short : length file ≤ input_limit) where
-  plant_output : PlantTextsAreRead → (plant : Plant) → ReadsAsPlant file plant → (s : Status) (text : List ℕ) → IsPlantAnswer (Compile workers) plant [] s text → IsAnswerFor (OfPlant (Compile workers)) file s text
-  plant_output texts plant read s text a = record {
+  plant_output : PlantTextsAreRead → CompiledIsOutput → (plant : Plant) → ReadsAsPlant file plant → (s : Status) (text : List ℕ) → (s ≡ Done → length text < 2 ^ 64) → IsPlantAnswer (Compile workers) plant [] s text
+      → IsAnswerFor (OfPlant (Compile workers)) file s text
+  plant_output texts outputs plant read s text small a = record {
     due = in_limit (λ reads. short) (record { outcome = ends a.due.outcome; came = record { plant = plant; read = read; so = a.due.came }; status_is = a.due.status_is });
-    text_is = record { output = λ done. record { plant = plant; read = (texts file plant).0 read; file = a.text_is.output done }; line = a.text_is.line };
+    text_is = record {
+      output = λ done.
+          let is : IsPlantText file plant = (texts file plant).0 read in
+          let its = a.text_is.output done in
+          (outputs file text plant its.qp its.parts (small done) is its.controller its.written, record { plant = plant; read = is; file = its });
+      line = a.text_is.line;
+    };
   }
 
-  pub plant_file : PlantTextsAreRead → (plant : Plant) → ReadsAsPlant file plant → (r : Result (Vec ℕ) Status) → OutcomeOf (IsPlantAnswer (Compile workers) plant []) r → OutcomeOf (IsAnswerFor (OfPlant (Compile workers)) file) r
-  plant_file texts plant read r h = outcome_of (IsPlantAnswer (Compile workers) plant []) (IsAnswerFor (OfPlant (Compile workers)) file) (plant_output texts plant read) r h
+  pub plant_file : PlantTextsAreRead → CompiledIsOutput → (plant : Plant) → ReadsAsPlant file plant → (r : Result (Vec ℕ) Status) → OutcomeOf (IsPlantAnswer (Compile workers) plant []) r → OutcomeOf (IsAnswerFor (OfPlant (Compile workers)) file) r
+  plant_file texts outputs plant read (Ok text) h = plant_output texts outputs plant read Done text.items (λ done. few_bytes text) h
+  plant_file texts outputs plant read (Err s) h = λ other. plant_output texts outputs plant read s (line_of s) (λ done. subst (λ q. length (line_of q) < 2 ^ 64) (sym done) (omega arith)) (h other)
 
   bad_file_of : (kind : PlantKind) (path : List ℕ) → IsFirstFault file kind path → IsAnswerFor (OfPlant (Compile workers)) file (BadPlant kind path) (line_of (BadPlant kind path))
   bad_file_of kind path fault = refusal_for (OfPlant (Compile workers)) file (BadPlant kind path) short (record { outcome = bad_plant kind path; came = fault; status_is = refl }) (λ d. absurd cc)
@@ -150,15 +158,16 @@ module _ (file : List ℕ) (parts : Parts) (given : HasController file parts) wh
       )
 
   module _ (short : length file ≤ input_limit) (accepts : Accepts parts) where
-    pub accepted_file : RepliesEverywhere → AcceptedIsRight → IsAnswerFor (OfFile Check) file Done (codes "accepted\n")
-    accepted_file everywhere right =
+    pub accepted_file : RepliesEverywhere → AcceptedIsRight → AcceptedIsRightFile → IsAnswerFor (OfFile Check) file Done (codes "accepted\n")
+    accepted_file everywhere right is =
+        let l : input_limit < 2 ^ 64 = lit< tt in
         output_for (OfFile Check) file (codes "accepted\n") short
         (record { outcome = accepted; came = record { parts = parts; spelled = given.spelled; accepts = accepts }; status_is = refl }) (
-          record {
+          is file (omega (arith, short, l)) (record {
             file = record { parts = parts; spelled = given.spelled; accepts = accepts };
             of_shape = given.of_shape;
             rightly = record { replies = λ t box. everywhere parts given.of_shape t; right = λ t reply box r. right parts t reply given.of_shape accepts box r };
-          },
+          }),
           refl,
         )
 

@@ -9,7 +9,7 @@ use Rattle.mpc_status.specs.declared.status.Status.{Status}
 use Rattle.mpc_status.specs.declared.status.Status.TheVariants.{Done, Usage, TooLong}
 use Rattle.mpc_cli.specs.declared.commands.Command.{Command}
 use Rattle.mpc_cli.specs.declared.commands.Command.TheVariants.{OfPlant, OfFile, OfStates, Drill, Fleet}
-use Rattle.mpc_cli.specs.Commands.{Names, IsCommand, CommandReads, Reads, plant_text}
+use Rattle.mpc_cli.specs.Commands.{IsCommand, CommandReads, Reads, plant_text}
 use Rattle.mpc_cli.specs.Extents.{extent_of}
 use Rattle.mpc_sections.specs.Outcomes.{IsFleetOutcome, OneFleetOutcome}
 use Rattle.mpc_cli.specs.Statuses.{IsPlantEnd, plant_status, outcome_status, fleet_status}

@@ -1,11 +1,12 @@
 -- What comes of the file of a controller, and the answers to it.
-use Rattle.std.proofs.Common.{◌≡◌, ◌≢◌, ℕ, ◌^◌, ◌<◌, ◌≤◌, List, length, refl, sym, ◌∙◌, ap, subst, arith, lit<}
+use Rattle.std.proofs.Common.{◌≡◌, ◌≢◌, ℕ, ◌^◌, ◌<◌, ◌≤◌, List, length, refl, sym, subst, arith, lit<}
 use Rattle.std.specs.Prelude.{codes}
 use Rattle.mpc_file.specs.declared.errors.FileKind.{FileKind}
 use Rattle.mpc_file.specs.FileGrammar.{FailsAt}
 use Rattle.mpc_check.specs.Findings.{Finding, refused, too_wide, not_definite}
 use Rattle.mpc_files.specs.FileOutcomes.{FileReading, fails, spells, IsFileReading, FileOutcome, bad_file, finds, accepted, IsFileOutcome, OneFileReading, OneFileOutcome}
 use Rattle.mpc_files.specs.FileAnswers.{FileReplies, Converts, IsAccepted}
+use Rattle.mpc_theorem.specs.FileOutputs.{AcceptedIsRightFile, RepliedIsOutput, ConvertedIsOutput}
 use Rattle.mpc_replies.specs.Cut.{head_of, count_lines}
 use Rattle.mpc_status.specs.declared.status.Status.{Status}
 use Rattle.mpc_status.specs.declared.status.Status.TheVariants.{Done, BadFile}
@@ -13,7 +14,6 @@ use Rattle.mpc_status.specs.StatusText.{line_of}
 use Rattle.mpc_cli.specs.declared.commands.Command.TheVariants.{OfFile}
 use Rattle.mpc_cli.specs.declared.commands.FileCommand.{FileCommand}
 use Rattle.mpc_cli.specs.declared.commands.FileCommand.TheVariants.{Check, Reply, Convert, Safe}
-use Rattle.mpc_cli.specs.Ends.{ComesOf}
 use Rattle.mpc_cli.specs.Outputs.{IsOutput}
 use Rattle.mpc_cli.specs.Statuses.{finding_status, file_status, reading_status, step_status, safety_status}
 use Rattle.mpc_recur.specs.Findings.{Finding as Step, reached, too_wide as too_wide_step}
@@ -93,14 +93,14 @@ bad_convert kind number status text e f input h = line_answer Convert input (Bad
 pub found_answer : (o : FileOutcome) (status : Status) (text : List ℕ) → file_status o ≢ Done → status ≡ file_status o → text ≡ line_of (file_status o) → (input : List ℕ) → IsFileOutcome input o → IsAnswerTo (OfFile Check) input status text
 found_answer o status text other e f input h = line_answer Check input (file_status o) status text (record { outcome = o; came = h; status_is = refl }) other e f
 
-pub accepted_answer : (input : List ℕ) (status : Status) (text : List ℕ) → status ≡ Done → text ≡ codes "accepted\n" → IsAccepted input → IsAnswerTo (OfFile Check) input status text
-accepted_answer input status text e f h = done_answer Check input status text (codes "accepted\n") (record { outcome = accepted; came = h.file; status_is = refl }) e f (h, refl)
+pub accepted_answer : AcceptedIsRightFile → (input : List ℕ) (status : Status) (text : List ℕ) → status ≡ Done → text ≡ codes "accepted\n" → length input < 2 ^ 64 → IsAccepted input → IsAnswerTo (OfFile Check) input status text
+accepted_answer is input status text e f short h = done_answer Check input status text (codes "accepted\n") (record { outcome = accepted; came = h.file; status_is = refl }) e f (is input short h, refl)
 
-pub reply_answers : (input : List ℕ) (status : Status) (text out : List ℕ) → status ≡ Done → text ≡ out → FileReplies (head_of input) (count_lines input) out → IsAnswerTo (OfFile Reply) input status text
-reply_answers input status text out e f h = done_answer Reply input status text out (record { outcome = spells h.parts; came = h.given.spelled; status_is = refl }) e f h
+pub reply_answers : RepliedIsOutput → (input : List ℕ) (status : Status) (text out : List ℕ) → status ≡ Done → text ≡ out → length (head_of input) < 2 ^ 64 → FileReplies (head_of input) (count_lines input) out → IsAnswerTo (OfFile Reply) input status text
+reply_answers is input status text out e f short h = done_answer Reply input status text out (record { outcome = spells h.parts; came = h.given.spelled; status_is = refl }) e f (is (head_of input) out (count_lines input) short h)
 
-pub convert_answers : (input : List ℕ) (status : Status) (text out : List ℕ) → status ≡ Done → text ≡ out → Converts input out → IsAnswerTo (OfFile Convert) input status text
-convert_answers input status text out e f h = done_answer Convert input status text out (record { outcome = spells h.parts; came = h.spelled; status_is = refl }) e f h
+pub convert_answers : ConvertedIsOutput → (input : List ℕ) (status : Status) (text out : List ℕ) → status ≡ Done → text ≡ out → length input < 2 ^ 64 → length out < 2 ^ 64 → Converts input out → IsAnswerTo (OfFile Convert) input status text
+convert_answers is input status text out e f short little h = done_answer Convert input status text out (record { outcome = spells h.parts; came = h.spelled; status_is = refl }) e f (is input out short little h)
 
 pub safety_found : (o : SafetyOutcome) (status : Status) (text : List ℕ) → safety_status o ≢ Done → status ≡ safety_status o → text ≡ line_of (safety_status o) → (input : List ℕ) → IsSafetyOutcome input o → IsAnswerTo (OfFile Safe) input status text
 safety_found o status text other e f input h = line_answer Safe input (safety_status o) status text (record { outcome = o; came = h; status_is = refl }) other e f

@@ -1,5 +1,5 @@
 -- What comes of several plants, and the answers to them.
-use Rattle.std.proofs.Common.{◌≡◌, ℕ, ◌≤◌, List, length, refl, sym, ◌∙◌, arith}
+use Rattle.std.proofs.Common.{◌≡◌, ℕ, ◌^◌, ◌<◌, ◌≤◌, List, length, refl, ◌∙◌, arith}
 use Rattle.mpc_sections.specs.Sections.{sections_of}
 use Rattle.mpc_sections.specs.Alone.{AreAnswered}
 use Rattle.mpc_sections.specs.Outcomes.{FleetOutcome, too_many_plants, answered, IsFleetOutcome}
@@ -8,7 +8,10 @@ use Rattle.mpc_status.specs.declared.status.Status.TheVariants.{Done, TooManyPla
 use Rattle.mpc_status.specs.StatusText.{line_of}
 use Rattle.mpc_cli.specs.declared.commands.Command.TheVariants.{Fleet}
 use Rattle.mpc_cli.specs.Ends.{ComesOf}
-use Rattle.mpc_cli.specs.Outputs.{IsOutput}
+use Rattle.mpc_theorem.specs.PlantFile.{PlantTextsAreRead}
+use Rattle.mpc_theorem.specs.FileOutputs.{CompiledIsOutput}
+use Rattle.mpc_cli.specs.StatedOutputs.{IsStatedOutput}
+use Rattle.mpc_cli.proofs.OutputEnds.{sections_answered}
 use Rattle.mpc_cli.specs.Statuses.{fleet_status}
 use Rattle.mpc_cli.specs.Outcomes.{IsAnswerTo}
 use Rattle.mpc_cli.proofs.EndLemmas.{rank, done_text, line_text}
@@ -28,11 +31,11 @@ fleet_done input s few h = h.status_is ∙ by h.outcome h.came
 pub too_many_answer : (workers : ℕ) (input : List ℕ) (status : Status) (text : List ℕ) → IsFleetOutcome input too_many_plants → status ≡ TooManyPlants → text ≡ line_of TooManyPlants → IsAnswerTo (Fleet workers) input status text
 too_many_answer workers input status text many e f = record {
   due = record { outcome = too_many_plants; came = many; status_is = e };
-  text_is = line_text (IsOutput (Fleet workers) input) TooManyPlants status text (λ d. absurd cc) e f;
+  text_is = line_text (IsStatedOutput (Fleet workers) input) TooManyPlants status text (λ d. absurd cc) e f;
 }
 
-pub fleet_answers : (workers : ℕ) (input : List ℕ) (status : Status) (text out : List ℕ) → status ≡ Done → text ≡ out → length (sections_of input) ≤ 8 → AreAnswered 1 (sections_of input) out → IsAnswerTo (Fleet workers) input status text
-fleet_answers workers input status text out e f few h = record {
+pub fleet_answers : PlantTextsAreRead → CompiledIsOutput → (workers : ℕ) (input : List ℕ) (status : Status) (text out : List ℕ) → status ≡ Done → text ≡ out → length out < 2 ^ 64 → length (sections_of input) ≤ 8 → AreAnswered 1 (sections_of input) out → IsAnswerTo (Fleet workers) input status text
+fleet_answers texts outputs workers input status text out e f short few h = record {
   due = record { outcome = answered out; came = (few, h); status_is = e };
-  text_is = done_text (IsOutput (Fleet workers) input) status text out e f h;
+  text_is = done_text (IsStatedOutput (Fleet workers) input) status text out e f (sections_answered texts outputs 1 (sections_of input) out short h, h);
 }

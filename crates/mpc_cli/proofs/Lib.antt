@@ -11,3 +11,5 @@ pub mod DrillEnds
 pub mod ReadLemmas
 pub mod RespondLemmas
 pub mod RunLemmas
+pub mod StatedLemmas
+pub mod OutputEnds

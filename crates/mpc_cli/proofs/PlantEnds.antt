@@ -1,5 +1,5 @@
 -- What comes of the file of a plant, and the answers to it.
-use Rattle.std.proofs.Common.{◌≡◌, ◌≢◌, ℕ, List, refl, ◌∙◌, ap, subst}
+use Rattle.std.proofs.Common.{◌≡◌, ◌≢◌, ℕ, List, refl, ◌∙◌, ap, subst, length, ◌^◌, ◌<◌}
 use Rattle.std.specs.Prelude.{Result, Ok, Err, IfOk}
 use Rattle.mpc_plant.specs.declared.plants.Plant.{Plant}
 use Rattle.mpc_plant.specs.declared.faults.PlantKind.{PlantKind}
@@ -15,7 +15,8 @@ use Rattle.mpc_synthesis.specs.declared.errors.SynthesisError.{SynthesisError}
 use Rattle.mpc_status.specs.declared.status.Status.{Status}
 use Rattle.mpc_status.specs.declared.status.Status.TheVariants.{Done, BadPlant, NotDefinite, TooWide}
 use Rattle.mpc_status.specs.StatusText.{line_of}
-use Rattle.mpc_theorem.specs.PlantFile.{PlantTextsAreRead}
+use Rattle.mpc_theorem.specs.PlantFile.{IsPlantText, PlantTextsAreRead}
+use Rattle.mpc_theorem.specs.FileOutputs.{CompiledIsOutput}
 use Rattle.mpc_theorem.specs.PlantOutputs.{RepliesAreLines}
 use Rattle.mpc_cli.specs.declared.commands.Command.TheVariants.{OfPlant}
 use Rattle.mpc_cli.specs.declared.commands.PlantCommand.{PlantCommand}
@@ -25,10 +26,12 @@ use Rattle.mpc_cli.specs.Commands.{plant_text}
 use Rattle.mpc_cli.specs.Extents.{extent_of}
 use Rattle.mpc_cli.specs.Ends.{ComesOf}
 use Rattle.mpc_cli.specs.Outputs.{IsOutput}
+use Rattle.mpc_cli.specs.StatedOutputs.{IsStatedOutput}
 use Rattle.mpc_cli.specs.Statuses.{OfItsPlant, PlantEnd, bad_plant, ends, IsPlantEnd, plant_status, outcome_status}
 use Rattle.mpc_cli.specs.Answers.{PassesAll}
 use Rattle.mpc_cli.specs.Outcomes.{IsOutputFor, IsPlantAnswer, IsPlantRefusal, IsAnswerTo}
-use Rattle.mpc_cli.proofs.EndLemmas.{line_text, text_weaker, rank}
+use Rattle.mpc_cli.proofs.OutputEnds.{few_bytes}
+use Rattle.mpc_cli.proofs.EndLemmas.{line_text, rank}
 
 -- ---- one end
 same_plant : OneReading → (bytes : List ℕ) (x y : Plant) → ReadsAsPlant bytes x → ReadsAsPlant bytes y → x ≡ y
@@ -92,28 +95,32 @@ refused_by (Ok a) e c plant counts cause h = h c plant counts cause
 refused_by (Err error) e c plant counts cause h = tt
 
 -- ---- to the command
-output_of : PlantTextsAreRead → RepliesAreLines → (c : PlantCommand) (input : List ℕ) (plant : Plant) → ReadsAsPlant (plant_text c input) plant → (text : List ℕ) → IsOutputFor c plant (tail_of input) text → IsOutput (OfPlant c) input text
-output_of texts replies Run input plant read text h = record { plant = plant; read = (texts (head_of input) plant).0 read; lines = (replies plant (count_lines input) text).0 h }
-output_of texts replies (Compile workers) input plant read text h = record { plant = plant; read = (texts input plant).0 read; file = h }
-output_of texts replies (Trace workers) input plant read text h = record { plant = plant; read = (texts input plant).0 read; traced = h }
+output_of : PlantTextsAreRead → RepliesAreLines → CompiledIsOutput → (c : PlantCommand) (input : List ℕ) (plant : Plant) → ReadsAsPlant (plant_text c input) plant → (text : List ℕ) → length text < 2 ^ 64 → IsOutputFor c plant (tail_of input) text
+    → IsStatedOutput (OfPlant c) input text
+output_of texts replies outputs Run input plant read text short h = record { plant = plant; read = (texts (head_of input) plant).0 read; lines = (replies plant (count_lines input) text).0 h }
+output_of texts replies outputs (Compile workers) input plant read text short h =
+    let is : IsPlantText input plant = (texts input plant).0 read in
+    (outputs input text plant h.qp h.parts short is h.controller h.written, record { plant = plant; read = is; file = h })
+output_of texts replies outputs (Trace workers) input plant read text short h = record { plant = plant; read = (texts input plant).0 read; traced = h }
 
-pub answers_command : PlantTextsAreRead → RepliesAreLines → (c : PlantCommand) (input : List ℕ) (plant : Plant) (status : Status) (text : List ℕ) → ReadsAsPlant (plant_text c input) plant → IsPlantAnswer c plant (tail_of input) status text → IsAnswerTo (OfPlant c) input status text
-answers_command texts replies c input plant status text read a = record {
+answers_command : PlantTextsAreRead → RepliesAreLines → CompiledIsOutput → (c : PlantCommand) (input : List ℕ) (plant : Plant) (status : Status) (text : List ℕ) → length text < 2 ^ 64 → ReadsAsPlant (plant_text c input) plant
+    → IsPlantAnswer c plant (tail_of input) status text → IsAnswerTo (OfPlant c) input status text
+answers_command texts replies outputs c input plant status text short read a = record {
   due = record { outcome = ends a.due.outcome; came = record { plant = plant; read = read; so = a.due.came }; status_is = a.due.status_is };
-  text_is = text_weaker (IsOutputFor c plant (tail_of input)) (IsOutput (OfPlant c) input) status text (output_of texts replies c input plant read) a.text_is;
+  text_is = record { output = λ done. output_of texts replies outputs c input plant read text short (a.text_is.output done); line = a.text_is.line };
 }
 
-pub answers_commands : {E : Type 0} → PlantTextsAreRead → RepliesAreLines → (r : Result Answer E) (c : PlantCommand) (input bytes counts : List ℕ) (plant : Plant) → ReadsAsPlant bytes plant → bytes ≡ plant_text c input → counts ≡ tail_of input
+pub answers_commands : PlantTextsAreRead → RepliesAreLines → CompiledIsOutput → {E : Type 0} (r : Result Answer E) (c : PlantCommand) (input bytes counts : List ℕ) (plant : Plant) → ReadsAsPlant bytes plant → bytes ≡ plant_text c input → counts ≡ tail_of input
     → IfOk r (λ a. IsPlantAnswer c plant counts a.status a.text.items) → IfOk r (λ a. IsAnswerTo (OfPlant c) input a.status a.text.items)
-answers_commands texts replies (Ok a) c input bytes counts plant read e f h =
-    answers_command texts replies c input plant a.status a.text.items (subst (λ (b : List ℕ). ReadsAsPlant b plant) e read) (subst (λ (l : List ℕ). IsPlantAnswer c plant l a.status a.text.items) f h)
-answers_commands texts replies (Err error) c input bytes counts plant read e f h = tt
+answers_commands texts replies outputs (Ok a) c input bytes counts plant read e f h =
+    answers_command texts replies outputs c input plant a.status a.text.items (few_bytes a.text) (subst (λ (b : List ℕ). ReadsAsPlant b plant) e read) (subst (λ (l : List ℕ). IsPlantAnswer c plant l a.status a.text.items) f h)
+answers_commands texts replies outputs (Err error) c input bytes counts plant read e f h = tt
 
 bad_answer : (c : PlantCommand) (input : List ℕ) (kind : PlantKind) (path : List ℕ) (status : Status) (text : List ℕ) → IsFirstFault (plant_text c input) kind path
     → (status ≡ BadPlant kind path) × (text ≡ line_of (BadPlant kind path)) → IsAnswerTo (OfPlant c) input status text
 bad_answer c input kind path status text fault h = record {
   due = record { outcome = bad_plant kind path; came = fault; status_is = h.0 };
-  text_is = line_text (IsOutput (OfPlant c) input) (BadPlant kind path) status text (λ d. absurd cc) h.0 h.1;
+  text_is = line_text (IsStatedOutput (OfPlant c) input) (BadPlant kind path) status text (λ d. absurd cc) h.0 h.1;
 }
 
 bad_error : (c : PlantCommand) (input : List ℕ) (error : PlantError) (status : Status) (text : List ℕ) → ((kind : PlantKind) (path : List ℕ) → error ≡ Bad kind path → IsFirstFault (plant_text c input) kind path)

@@ -1,10 +1,9 @@
 -- From the answer of a command to that of its words.
-use Rattle.std.proofs.Common.{◌≡◌, ◌≢◌, ℕ, ◌+◌, ◌<◌, ◌≤◌, List, [], length, Option, Some, None, Vec, Global, refl, sym, ap, subst, arith}
+use Rattle.std.proofs.Common.{◌≡◌, ◌≢◌, ℕ, ◌+◌, ◌<◌, ◌≤◌, List, [], length, Option, Some, None, Vec, Global, refl, subst, arith}
 use Rattle.std.specs.Prelude.{Result, Ok, Err, IfOk, IfErr, IfSome}
-use Rattle.std.proofs.lemmas.Result.{IfOk-weaker}
 use Rattle.std.specs.Io.KnownBytes.{Consumes}
 use Rattle.mpc_status.specs.declared.status.Status.{Status}
-use Rattle.mpc_status.specs.declared.status.Status.TheVariants.{Done, Usage, TooLong}
+use Rattle.mpc_status.specs.declared.status.Status.TheVariants.{Usage, TooLong}
 use Rattle.mpc_status.specs.StatusText.{line_of}
 use Rattle.mpc_cli.specs.declared.answer.Answer.{Answer}
 use Rattle.mpc_cli.specs.declared.inputs.Halt.{Halt}
@@ -13,12 +12,12 @@ use Rattle.mpc_cli.specs.declared.inputs.Input.{Input}
 use Rattle.mpc_cli.specs.declared.inputs.Input.TheVariants.{Whole, TooLong as LongInput}
 use Rattle.mpc_cli.specs.declared.commands.Command.{Command}
 use Rattle.mpc_cli.specs.declared.commands.Command.TheVariants.{OfPlant, OfFile, OfStates, Drill, Fleet}
-use Rattle.mpc_cli.specs.Commands.{Names, IsCommand, CommandReads, Reads}
-use Rattle.mpc_cli.specs.Ends.{IsTextAt}
-use Rattle.mpc_cli.specs.Outputs.{IsOutput}
-use Rattle.mpc_cli.specs.Answers.{input_limit, IsDueFor, too_long, in_limit, by_command, no_command, IsOutputOf, IsAnswer}
+use Rattle.mpc_cli.specs.Commands.{Names, IsCommand, CommandReads}
+use Rattle.mpc_cli.specs.StatedOutputs.{IsStatedOutput}
+use Rattle.mpc_cli.specs.Answers.{input_limit, too_long, in_limit, by_command, no_command, IsOutputOf, IsAnswer}
 use Rattle.mpc_cli.specs.Outcomes.{IsAnswerTo, IsAnswerFor, HasCome, IsInput, IsInputOf, ExplainsHalt, IsSomeAnswer, ExplainsRunHalt, IsSomeAnswerFor}
 use Rattle.mpc_cli.proofs.CommandLemmas.{named_reads, none_reads}
+use Rattle.mpc_cli.proofs.StatedLemmas.{meaning_of, stated_of}
 use Rattle.mpc_cli.proofs.EndLemmas.{line_text, text_weaker, of_refusal}
 
 pub if_some : (o : Option (List ℕ)) (P Q : List ℕ → Type 0) → ((x : List ℕ) → P x → Q x) → IfSome o P → IfSome o Q
@@ -74,7 +73,7 @@ module _ {E : Type 0} (c : Command) (left left_after : Option (List ℕ)) (read 
 
 -- ---- of a command whose input is too long
 long_answer : (c : Command) (input : List ℕ) (status : Status) (text : List ℕ) → CommandReads c → input_limit < length input → status ≡ TooLong → text ≡ line_of TooLong → IsAnswerFor c input status text
-long_answer c input status text reads l e f = record { due = too_long reads l e; text_is = line_text (IsOutput c input) TooLong status text (λ d. absurd cc) e f }
+long_answer c input status text reads l e f = record { due = too_long reads l e; text_is = line_text (IsStatedOutput c input) TooLong status text (λ d. absurd cc) e f }
 
 pub some_long : (c : Command) (left left_after : Option (List ℕ)) (status : Status) (text : List ℕ) → IsInput c left left_after LongInput → status ≡ TooLong → text ≡ line_of TooLong → IsSomeAnswerFor c left left_after status text
 some_long c left left_after status text h e f = record { input = h.1.0; answer = long_answer c h.1.0 status text h.0 h.1.2 e f; came = λ reads. h.1.1; few = λ reads. h.1.3 }
@@ -106,12 +105,18 @@ module _ (words : List (List ℕ)) (c : Command) (named : Names c words) where
   of_words : (input : List ℕ) (status : Status) (text : List ℕ) → IsAnswerFor c input status text → IsAnswer words input status text
   of_words input status text a = record {
     due = by_command c named a.due;
-    text_is = text_weaker (IsOutput c input) (IsOutputOf words input) status text (λ t h. record { command = c; named = named; output_is = h }) a.text_is;
+    text_is = text_weaker (IsStatedOutput c input) (IsOutputOf words input) status text (λ t h. record { command = c; named = named; output_is = meaning_of c input t h }) a.text_is;
   }
 
   module _ (left left_after : Option (List ℕ)) where
     pub some_words : (r : Result Answer Halt) → IfOk r (λ a. IsSomeAnswerFor c left left_after a.status a.text.items) → IfOk r (λ a. IsSomeAnswer words left left_after a.status a.text.items)
-    some_words (Ok a) h = record { input = h.input; answer = of_words h.input a.status a.text.items h.answer; came = λ r. h.came (named_reads words c named r); few = λ r. h.few (named_reads words c named r) }
+    some_words (Ok a) h = record {
+      input = h.input;
+      answer = of_words h.input a.status a.text.items h.answer;
+      stated = λ done. record { command = c; named = named; stated = stated_of c h.input a.text.items (h.answer.text_is.output done) };
+      came = λ r. h.came (named_reads words c named r);
+      few = λ r. h.few (named_reads words c named r);
+    }
     some_words (Err e) h = tt
 
     pub told_words : (r : Result Answer Halt) → IfOk r (λ a. IfSome left (λ input. IsAnswerFor c input a.status a.text.items)) → IfOk r (λ a. IfSome left (λ input. IsAnswer words input a.status a.text.items))
@@ -130,7 +135,7 @@ module _ (words : List (List ℕ)) (none : ¬ IsCommand words) where
 
   module _ (left left_after : Option (List ℕ)) where
     pub some_usage : (r : Result Answer Halt) → IfOk r (λ a. a.status ≡ Usage) → IfOk r (λ a. a.text.items ≡ line_of Usage) → IfOk r (λ a. IsSomeAnswer words left left_after a.status a.text.items)
-    some_usage (Ok a) e f = record { input = []; answer = usage_answer [] a.status a.text.items e f; came = λ r. absurd (none_reads words none r); few = λ r. absurd (none_reads words none r) }
+    some_usage (Ok a) e f = record { input = []; answer = usage_answer [] a.status a.text.items e f; stated = λ done. absurd cc; came = λ r. absurd (none_reads words none r); few = λ r. absurd (none_reads words none r) }
     some_usage (Err x) e f = tt
 
     pub told_usage : (r : Result Answer Halt) → IfOk r (λ a. a.status ≡ Usage) → IfOk r (λ a. a.text.items ≡ line_of Usage) → IfOk r (λ a. IfSome left (λ input. IsAnswer words input a.status a.text.items))

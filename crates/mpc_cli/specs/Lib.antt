@@ -4,5 +4,6 @@ pub mod Extents
 pub mod ControllerFiles
 pub mod Commands
 pub mod Outputs
+pub mod StatedOutputs
 pub mod Answers
 pub mod Outcomes

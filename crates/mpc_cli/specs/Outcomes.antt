@@ -1,5 +1,5 @@
 -- How the parts of the top call end.
-use Rattle.std.specs.Prelude.{◌≡◌, ℕ, ◌+◌, ◌<◌, ◌≤◌, List, Option, Some, None, Result, Ok, Err, length, take}
+use Rattle.std.specs.Prelude.{◌≡◌, ℕ, ◌+◌, ◌<◌, ◌≤◌, List, Option, Result, Ok, Err, length, take}
 use Rattle.std.specs.Io.KnownBytes.{Appends, Keeps, Consumes}
 use Rattle.mpc_port.specs.Faults.{Rose}
 use Rattle.mpc_plant.specs.declared.plants.Plant.{Plant}
@@ -10,7 +10,7 @@ use Rattle.std.specs.Str.Lines.{lines}
 use Rattle.mpc_synthesis.specs.Outcomes.{IsOutcome}
 use Rattle.mpc_trace.specs.Histories.{IsTraceOf}
 use Rattle.mpc_status.specs.declared.status.Status.{Status}
-use Rattle.mpc_status.specs.declared.status.Status.TheVariants.{BadPlant, ReadFault, WriteFault, NoMemory}
+use Rattle.mpc_status.specs.declared.status.Status.TheVariants.{Done, BadPlant, ReadFault, WriteFault, NoMemory}
 use Rattle.mpc_status.specs.StatusText.{line_of}
 use Rattle.mpc_cli.specs.declared.answer.Answer.{Answer}
 use Rattle.mpc_cli.specs.declared.inputs.Halt.{Halt}
@@ -24,7 +24,7 @@ use Rattle.mpc_cli.specs.Commands.{CommandReads, Reads}
 use Rattle.mpc_cli.specs.ControllerFiles.{IsFileOf}
 use Rattle.mpc_cli.specs.Extents.{extent_of}
 use Rattle.mpc_cli.specs.Ends.{ComesOf, IsTextAt}
-use Rattle.mpc_cli.specs.Outputs.{IsOutput}
+use Rattle.mpc_cli.specs.StatedOutputs.{IsStatedOutput, IsStatedOf}
 use Rattle.mpc_cli.specs.Statuses.{outcome_status}
 use Rattle.mpc_cli.specs.Answers.{input_limit, IsDueTo, IsDueFor, IsAnswer}
 
@@ -48,12 +48,12 @@ IsPlantRefusal OutOfPlantMemory status text = ⊥
 -- for an input that isn't too long
 pub record IsAnswerTo (c : Command) (input : List ℕ) (status : Status) (text : List ℕ) : Type 0 where
   pub due : IsDueTo c input status
-  pub text_is : IsTextAt (IsOutput c input) status text
+  pub text_is : IsTextAt (IsStatedOutput c input) status text
 
 -- and for every input
 pub record IsAnswerFor (c : Command) (input : List ℕ) (status : Status) (text : List ℕ) : Type 0 where
   pub due : IsDueFor c input status
-  pub text_is : IsTextAt (IsOutput c input) status text
+  pub text_is : IsTextAt (IsStatedOutput c input) status text
 
 -- ---- what comes of the source
 -- bytes came from the front of what was left, so many at most
@@ -82,6 +82,7 @@ ExplainsHalt c left left_after faults faults_after OutOfMemory = CommandReads c 
 pub record IsSomeAnswer (words : List (List ℕ)) (left left_after : Option (List ℕ)) (status : Status) (text : List ℕ) : Type 0 where
   pub input : List ℕ
   pub answer : IsAnswer words input status text
+  pub stated : status ≡ Done → IsStatedOf words input text
   pub came : Reads words → Consumes left left_after input
   pub few : Reads words → length input ≤ input_limit + 1
 

@@ -2,17 +2,18 @@
 use Rattle.std.specs.Prelude.{◌≡◌, ℕ, List, codes}
 use Rattle.mpc_plant.specs.declared.plants.Plant.{Plant}
 use Rattle.mpc_replies.specs.Cut.{head_of, count_lines}
-use Rattle.mpc_files.specs.FileAnswers.{FileReplies, Converts, IsAccepted}
 use Rattle.mpc_safety.specs.declared.answers.Safety.TheVariants.{Safe as SafeAnswer}
 use Rattle.mpc_safety.specs.SafetyAnswers.{IsAnswerToFile}
 use Rattle.mpc_states.specs.Inputs.{IsSolved as IsSolvedByRun, IsRobustlySolved as IsRobustlySolvedByRun}
 use Rattle.mpc_sections.specs.Sections.{sections_of}
-use Rattle.mpc_sections.specs.Alone.{AreAnswered}
 use Rattle.mpc_trace.specs.Histories.{IsTraceOf}
-use Rattle.mpc_drill.specs.declared.drills.Drilled.{Drilled}
-use Rattle.mpc_drill.specs.Drills.{IsDrilled, drill_text}
+use Rattle.mpc_synthesis.specs.Refusals.{controller}
+use Rattle.mpc_status.specs.declared.status.Status.{Status}
 use Rattle.mpc_theorem.specs.PlantFile.{IsPlantText}
 use Rattle.mpc_theorem.specs.PlantOutputs.{IsReplies, IsSolved, IsRobustlySolved}
+use Rattle.mpc_theorem.specs.FileOutputs.{IsCompiled, IsRightFile, AreFileReplies, IsConverted}
+use Rattle.mpc_theorem.specs.DrillLines.{IsDrillLine}
+use Rattle.mpc_theorem.specs.Fleets.{AreAnswered}
 use Rattle.mpc_cli.specs.declared.commands.Command.{Command}
 use Rattle.mpc_cli.specs.declared.commands.Command.TheVariants.{OfPlant, OfFile, OfStates, Drill, Fleet}
 use Rattle.mpc_cli.specs.declared.commands.StateCommand.{StateCommand}
@@ -21,13 +22,8 @@ use Rattle.mpc_cli.specs.declared.commands.PlantCommand.{PlantCommand}
 use Rattle.mpc_cli.specs.declared.commands.PlantCommand.TheVariants.{Run, Compile, Trace}
 use Rattle.mpc_cli.specs.declared.commands.FileCommand.{FileCommand}
 use Rattle.mpc_cli.specs.declared.commands.FileCommand.TheVariants.{Check, Reply, Convert, Safe}
-use Rattle.mpc_cli.specs.ControllerFiles.{IsFileOf}
-
--- the output of `compile`: the input is the file of a plant, and the text is the file of its controller
-pub record IsCompiled (input output : List ℕ) : Type 0 where
-  pub plant : Plant
-  pub read : IsPlantText input plant
-  pub file : IsFileOf plant output
+use Rattle.mpc_cli.specs.Ends.{ComesOf, IsTextAt}
+use Rattle.mpc_cli.specs.Statuses.{IsPlantEnd, plant_status}
 
 -- the output of `trace`: the input is the file of a plant, and the text is a history of its program's candidates in which each is claimed and
 -- delivered once, by so many workers
@@ -42,21 +38,20 @@ IsPlantOutput Run input output = IsReplies input output
 IsPlantOutput (Compile workers) input output = IsCompiled input output
 IsPlantOutput (Trace workers) input output = IsTrace workers input output
 
--- The output of a command on a controller's file: that the controller is accepted, and then it replies rightly at every point of its plant's
+-- The output of a command on a controller's file: that the controller is accepted, and it replies rightly at every point of its plant's
 -- box, also between the states of the grid; its replies to the lines of counts, of a controller that needn't have been checked; or its text
 -- in version 3; or that the controller is accepted and its closed loop goes on forever: from every point of the box with an admissible sequence,
 -- after every number of steps, the state is in the box and the reply is the first move of the cheapest admissible sequence.
 abbrev pub IsFileOutput : FileCommand → List ℕ → List ℕ → Type 0
-IsFileOutput Check input output = IsAccepted input × (output ≡ codes "accepted\n")
-IsFileOutput Reply input output = FileReplies (head_of input) (count_lines input) output
-IsFileOutput Convert input output = Converts input output
+IsFileOutput Check input output = IsRightFile input × (output ≡ codes "accepted\n")
+IsFileOutput Reply input output = AreFileReplies (head_of input) (count_lines input) output
+IsFileOutput Convert input output = IsConverted input output
 IsFileOutput Safe input output = IsAnswerToFile input SafeAnswer × (output ≡ codes "safe\n")
 
--- the output of `drill`: the line of the counts of what was made for its plant
-pub record IsDrillLine (number : ℕ) (output : List ℕ) : Type 0 where
-  pub counts : Drilled
-  pub drilled : IsDrilled number counts
-  pub written : output ≡ drill_text counts
+-- what `compile` answers to a section by itself: the status that is due, and its text
+pub record IsSectionAnswer (section : List ℕ) (status : Status) (text : List ℕ) : Type 0 where
+  pub due : ComesOf (IsPlantEnd controller section) plant_status status
+  pub text_is : IsTextAt (IsCompiled section) status text
 
 -- The output of a command on recorded states: one reply line a line of counts, at each grid state the reply that is right, for `robust` under the
 -- disturbances that may come, or `too wide`; and that stands exactly where a number of the state's own run is too wide.
@@ -70,4 +65,4 @@ IsOutput (OfFile c) input output = IsFileOutput c input output
 IsOutput (OfStates c) input output = IsStateOutput c input output
 IsOutput (Drill number) input output = IsDrillLine number output
 -- each section is answered as it is by itself, under its heading, whatever the number of workers
-IsOutput (Fleet workers) input output = AreAnswered 1 (sections_of input) output
+IsOutput (Fleet workers) input output = AreAnswered IsSectionAnswer 1 (sections_of input) output

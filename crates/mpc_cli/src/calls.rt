@@ -3,6 +3,7 @@
 ghost use Rattle.std.specs.Prelude.{◌≡◌, ◌≢◌, map, string_bytes, IfOk, IfErr, IfSome, MatchOption, Err};
 ghost use Rattle.mpc_cli.specs.Commands.{Names, Reads, Waits};
 ghost use Rattle.mpc_cli.specs.Answers.{IsAnswer, RunAnswers};
+ghost use Rattle.mpc_cli.specs.StatedOutputs.{StatesOutput};
 ghost use Rattle.mpc_cli.specs.Outcomes.{Closes, ExplainsRunHalt, Finishes, IsSomeAnswer};
 
 use crate::answer::Answer;
@@ -72,6 +73,8 @@ pub fn run<T: Threads + Wait + Sync, S: Source, K: Sink, G: Gate + Sync>(
           write_faults = K.faults sink.old;
           write_faults_after = K.faults sink.new;
         }) result }
+    ensures stated { StatesOutput (map string_bytes words.now)
+        (S.left source.old) (S.left source.new) (K.taken sink.old) (K.taken sink.new) result }
     ensures unread { (¬ Reads (map string_bytes words.now)) → source.new ≡ source.old }
 {
     match waiting_command(words) {
@@ -105,6 +108,8 @@ pub fn run_alone<T: Threads + Sync, S: Source, K: Sink, G: Gate>(
           write_faults = K.faults sink.old;
           write_faults_after = K.faults sink.new;
         }) result }
+    ensures stated { StatesOutput (map string_bytes words.now)
+        (S.left source.old) (S.left source.new) (K.taken sink.old) (K.taken sink.new) result }
     ensures unread { (¬ Reads (map string_bytes words.now)) → source.new ≡ source.old }
 {
     one_status();

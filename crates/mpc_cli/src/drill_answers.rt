@@ -11,6 +11,7 @@ use mpc_frac::NoMemory;
 use mpc_port::Gate;
 use mpc_status::Status;
 use mpc_synthesis::SynthesisError;
+use mpc_theorem::drill_line_laws;
 use std::alloc::Global;
 use std::sync::Wait;
 use std::thread::Threads;
@@ -37,6 +38,7 @@ pub fn drill_answer<T: Threads + Wait + Sync, G: Gate + Sync>(
     ensures { IfOk result (λ answer. (input : List ℕ)
         → IsAnswerTo (Drill number) input answer.status answer.text.items) }
 {
+    drill_line_laws();
     match drill(rt, alloc, number, gate) {
         Ok(drilled) => {
             let line = drilled.line(alloc)?;

@@ -1,6 +1,6 @@
 //! The answers of the commands on a controller's file.
 
-ghost use Rattle.std.specs.Prelude.{◌≡◌, IfOk, List, ℕ, codes};
+ghost use Rattle.std.specs.Prelude.{◌≡◌, ◌^◌, ◌<◌, IfOk, List, ℕ, codes, length};
 ghost use Rattle.mpc_file.specs.FileGrammar.{ExplainsFileError};
 ghost use Rattle.mpc_files.specs.FileAnswers.{IsFileCause};
 ghost use Rattle.mpc_safety.specs.SafetyOutcomes.{IsCausedBy};
@@ -17,6 +17,7 @@ use mpc_replies::cut;
 use mpc_safety::{Safety, SafetyError, one_safety_answer, safe_file};
 use mpc_status::{LatePlace, Status};
 use mpc_text::add_text;
+use mpc_theorem::file_output_laws;
 use std::alloc::Global;
 use std::thread::Threads;
 
@@ -33,11 +34,20 @@ fn file_refusal(alloc: Global, error: FileError) -> Result<Answer, NoMemory>
     }
 }
 
+/// A slice has fewer than 2^64 bytes. The call does nothing: its clause is the law.
+fn few_bytes(bytes: &[u8])
+    ensures { length bytes.now < 2 ^ 64 }
+{
+    let _count = bytes.len();
+}
+
 /// The answer of the command `reply`.
 fn reply_answer(alloc: Global, input: &[u8]) -> Result<Answer, NoMemory>
     ensures { IfOk result (λ answer. IsAnswerTo (OfFile Reply) input.now answer.status answer.text.items) }
 {
+    file_output_laws();
     let sections = cut(input);
+    few_bytes(sections.head);
     match reply_to(alloc, sections.head, sections.counts) {
         Ok(text) => Ok(output(text)),
         Err(error) => file_refusal(alloc, error),
@@ -48,6 +58,8 @@ fn reply_answer(alloc: Global, input: &[u8]) -> Result<Answer, NoMemory>
 fn convert_answer(alloc: Global, input: &[u8]) -> Result<Answer, NoMemory>
     ensures { IfOk result (λ answer. IsAnswerTo (OfFile Convert) input.now answer.status answer.text.items) }
 {
+    file_output_laws();
+    few_bytes(input);
     match convert(alloc, input) {
         Ok(text) => Ok(output(text)),
         Err(error) => file_refusal(alloc, error),
@@ -81,6 +93,8 @@ fn check_refusal(alloc: Global, error: CheckFileError) -> Result<Answer, NoMemor
 fn check_answer<T: Threads + Sync>(rt: &T, alloc: Global, input: &[u8]) -> Result<Answer, NoMemory>
     ensures { IfOk result (λ answer. IsAnswerTo (OfFile Check) input.now answer.status answer.text.items) }
 {
+    file_output_laws();
+    few_bytes(input);
     match check_file(rt, alloc, input) {
         Ok(Checked::Accepted) => accepted(alloc),
         Ok(Checked::Refused(spot)) => refusal(alloc, Status::Refused(spot)),

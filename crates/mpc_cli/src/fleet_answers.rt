@@ -10,6 +10,7 @@ use mpc_frac::NoMemory;
 use mpc_port::Gate;
 use mpc_sections::{SectionsError, fleet};
 use mpc_status::Status;
+use mpc_theorem::{file_output_laws, plant_texts};
 use std::alloc::Global;
 use std::sync::Wait;
 use std::thread::Threads;
@@ -25,6 +26,8 @@ pub fn fleet_answer<T: Threads + Wait + Sync, G: Gate + Sync>(
     requires { IsWorkerCount workers }
     ensures { IfOk result (λ answer. IsAnswerTo (Fleet workers) input.now answer.status answer.text.items) }
 {
+    plant_texts();
+    file_output_laws();
     match fleet(rt, alloc, input, workers, gate) {
         Ok(text) => Ok(output(text)),
         Err(SectionsError::TooManyPlants) => refusal(alloc, Status::TooManyPlants),

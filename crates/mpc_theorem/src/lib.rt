@@ -1,8 +1,14 @@
 //! What the command's answers mean, in definitions that are short enough to be read, and that they follow from what the libraries prove.
 #![tactic(auto)]
 
+mod controller_files;
+mod drill_lines;
+mod file_outputs;
 mod plant_files;
 mod plant_outputs;
 
+pub use controller_files::controller_file;
+pub use drill_lines::drill_line_laws;
+pub use file_outputs::file_output_laws;
 pub use plant_files::plant_texts;
 pub use plant_outputs::output_lines;

@@ -2,7 +2,7 @@ use Rattle.std.proofs.Common.{ℕ, List}
 use Rattle.std.specs.Prelude.{codes}
 use Rattle.mpc_check.specs.Findings.{refused}
 use Rattle.mpc_files.specs.FileAnswers.{IsFileCause}
-use Rattle.mpc_files.specs.FileOutcomes.{finds, IsFileOutcome}
+use Rattle.mpc_files.specs.FileOutcomes.{finds}
 use Rattle.mpc_status.specs.declared.status.Status.TheVariants.{Done, Refused}
 use Rattle.mpc_cli.specs.declared.commands.Command.TheVariants.{OfFile}
 use Rattle.mpc_cli.specs.declared.commands.FileCommand.TheVariants.{Check}
@@ -14,7 +14,7 @@ use Rattle.mpc_cli.proofs.file_answers.check_answer.Goals as goal
 pub returns-in-Ok-Accepted : goal.returns-in-Ok-Accepted
 returns-in-Ok-Accepted g c =
     of_status c.accepted.result Done (codes "accepted\n") (λ a. IsAnswerTo (OfFile Check) c.args.input.now a.status a.text.items)
-    c.accepted.ensures.status c.accepted.ensures.text (λ a e f. accepted_answer c.args.input.now a.status a.text.items e f (rw c.in-Ok-Accepted.field-0-is at c.in-Ok-Accepted.ensures.answer))
+    c.accepted.ensures.status c.accepted.ensures.text (λ a e f. accepted_answer c.file_output_laws.ensures.accepted c.args.input.now a.status a.text.items e f c.few_bytes.ensures (rw c.in-Ok-Accepted.field-0-is at c.in-Ok-Accepted.ensures.answer))
 
 pub returns-in-Ok-Refused : goal.returns-in-Ok-Refused
 returns-in-Ok-Refused g c =

@@ -1,13 +1,14 @@
-use Rattle.std.proofs.Common.{ℕ, List, refl}
 use Rattle.mpc_status.specs.declared.status.Status.TheVariants.{TooManyPlants}
 use Rattle.mpc_cli.specs.declared.commands.Command.TheVariants.{Fleet}
 use Rattle.mpc_cli.specs.Outcomes.{IsAnswerTo}
 use Rattle.mpc_cli.proofs.EndLemmas.{of_refusal}
+use Rattle.mpc_cli.proofs.OutputEnds.{few_bytes}
 use Rattle.mpc_cli.proofs.FleetEnds.{too_many_answer, fleet_answers}
 use Rattle.mpc_cli.proofs.fleet_answers.fleet_answer.Goals as goal
 
 pub returns-in-Ok : goal.returns-in-Ok
-returns-in-Ok g c = fleet_answers c.args.workers c.args.input.now c.output.result.status c.output.result.text.items c.in-Ok.text.items c.output.ensures.status c.output.ensures.text c.in-Ok.ensures.few c.in-Ok.ensures.answered
+returns-in-Ok g c =
+    fleet_answers c.plant_texts.ensures.read c.file_output_laws.ensures.compiled c.args.workers c.args.input.now c.output.result.status c.output.result.text.items c.in-Ok.text.items c.output.ensures.status c.output.ensures.text (few_bytes c.in-Ok.text) c.in-Ok.ensures.few c.in-Ok.ensures.answered
 
 pub returns-in-Err-TooManyPlants : goal.returns-in-Err-TooManyPlants
 returns-in-Err-TooManyPlants g c =

@@ -1,0 +1,65 @@
+-- Which of the texts that mean the same is written, where the stated rules determine it.
+use Rattle.std.specs.Prelude.{◌≡◌, ℕ, List, Option}
+use Rattle.std.specs.Io.KnownBytes.{Appends, Consumes}
+use Rattle.mpc_plant.specs.declared.plants.Plant.{Plant}
+use Rattle.mpc_drill.specs.declared.drills.Drilled.{Drilled}
+use Rattle.mpc_drill.specs.Drills.{IsDrilled, drill_text}
+use Rattle.mpc_sections.specs.Sections.{sections_of}
+use Rattle.mpc_sections.specs.Alone.{AreAnswered}
+use Rattle.mpc_status.specs.declared.status.Status.{Status}
+use Rattle.mpc_status.specs.declared.status.Status.TheVariants.{Done}
+use Rattle.mpc_theorem.specs.PlantFile.{IsPlantText}
+use Rattle.mpc_cli.specs.declared.commands.Command.{Command}
+use Rattle.mpc_cli.specs.declared.commands.Command.TheVariants.{OfPlant, OfFile, OfStates, Drill, Fleet}
+use Rattle.mpc_cli.specs.declared.commands.PlantCommand.TheVariants.{Run, Compile, Trace}
+use Rattle.mpc_cli.specs.Commands.{Names, Reads}
+use Rattle.mpc_cli.specs.ControllerFiles.{IsFileOf}
+use Rattle.mpc_cli.specs.Outputs.{IsPlantOutput, IsOutput}
+
+-- the input is the file of a plant, and the text is the one file of its controller
+pub record IsTheFile (input output : List ℕ) : Type 0 where
+  pub plant : Plant
+  pub read : IsPlantText input plant
+  pub file : IsFileOf plant output
+
+-- the line of the counts of what was made for the drill's plant
+pub record IsTheDrillLine (number : ℕ) (output : List ℕ) : Type 0 where
+  pub counts : Drilled
+  pub drilled : IsDrilled number counts
+  pub written : output ≡ drill_text counts
+
+abbrev pub IsStated : Command → List ℕ → List ℕ → Type 0
+IsStated (OfPlant Run) input output = Unit {0}
+IsStated (OfPlant (Compile workers)) input output = IsTheFile input output
+IsStated (OfPlant (Trace workers)) input output = Unit {0}
+IsStated (OfFile c) input output = Unit {0}
+IsStated (OfStates c) input output = Unit {0}
+IsStated (Drill number) input output = IsTheDrillLine number output
+IsStated (Fleet workers) input output = AreAnswered 1 (sections_of input) output
+
+-- what the text means, and which it is
+abbrev pub IsStatedOutput : Command → List ℕ → List ℕ → Type 0
+IsStatedOutput (OfPlant Run) input output = IsPlantOutput Run input output
+IsStatedOutput (OfPlant (Compile workers)) input output = IsPlantOutput (Compile workers) input output × IsTheFile input output
+IsStatedOutput (OfPlant (Trace workers)) input output = IsPlantOutput (Trace workers) input output
+IsStatedOutput (OfFile c) input output = IsOutput (OfFile c) input output
+IsStatedOutput (OfStates c) input output = IsOutput (OfStates c) input output
+IsStatedOutput (Drill number) input output = IsOutput (Drill number) input output × IsTheDrillLine number output
+IsStatedOutput (Fleet workers) input output = IsOutput (Fleet workers) input output × AreAnswered 1 (sections_of input) output
+
+-- of the command that the words name
+pub record IsStatedOf (words : List (List ℕ)) (input output : List ℕ) : Type 0 where
+  pub command : Command
+  pub named : Names command words
+  pub stated : IsStated command input output
+
+-- the sink took just such a text for the bytes that came
+pub record TookStated (words : List (List ℕ)) (left left_after taken taken_after : Option (List ℕ)) : Type 0 where
+  pub input : List ℕ
+  pub came : Reads words → Consumes left left_after input
+  pub text : List ℕ
+  pub stated : IsStatedOf words input text
+  pub wrote : Appends taken taken_after text
+
+abbrev pub StatesOutput : List (List ℕ) → Option (List ℕ) → Option (List ℕ) → Option (List ℕ) → Option (List ℕ) → Status → Type 0
+StatesOutput words left left_after taken taken_after status = status ≡ Done → TookStated words left left_after taken taken_after

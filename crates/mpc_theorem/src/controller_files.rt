@@ -1,0 +1,18 @@
+//! The file of a controller.
+
+ghost use Rattle.mpc_theorem.specs.FileLaws.{SpelledIsFile, FileIsSpelled};
+
+use mpc_file::each_text;
+use mpc_words::{fraction_laws, integer_laws, line_laws};
+
+/// A text spells a controller in a version exactly where it is the file of that controller in that version. The call does nothing: its
+/// clauses are the law.
+pub fn controller_file()
+    ensures file { SpelledIsFile }
+    ensures spelled { FileIsSpelled }
+{
+    each_text();
+    line_laws();
+    fraction_laws();
+    integer_laws();
+}
