@@ -1,3 +1,4 @@
 mod FirstLemmas
 mod RowPlaces
 mod ProgramPlaces
+mod BoundPlaces

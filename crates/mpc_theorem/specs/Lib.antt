@@ -1,2 +1,3 @@
 pub mod Firsts
 pub mod Programs
+pub mod Bounds
