@@ -2,3 +2,5 @@ mod FirstLemmas
 mod RowPlaces
 mod ProgramPlaces
 mod BoundPlaces
+mod ProgramRefusals
+mod CheckRefusals

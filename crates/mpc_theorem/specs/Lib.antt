@@ -1,3 +1,4 @@
 pub mod Firsts
 pub mod Programs
 pub mod Bounds
+pub mod CheckLaws
