@@ -4,3 +4,4 @@ mod ProgramPlaces
 mod BoundPlaces
 mod ProgramRefusals
 mod CheckRefusals
+mod StateRefusals

@@ -2,3 +2,4 @@ pub mod Firsts
 pub mod Programs
 pub mod Bounds
 pub mod CheckLaws
+pub mod StateLaws
