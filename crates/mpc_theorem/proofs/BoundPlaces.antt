@@ -1,5 +1,5 @@
 -- The places of the bounds in order are those that a controller's seal speaks of.
-use Rattle.std.proofs.Common.{◌≡◌, ℕ, zero, suc, ◌+◌, ◌-◌, ◌<◌, ◌≤◌, ◌⊎◌, inl, inr, List, [], ◌∷◌, ◌++◌, length, take, slice_get, Some, None, refl, sym, ◌∙◌, ap, subst, arith}
+use Rattle.std.proofs.Common.{◌≡◌, ℕ, zero, suc, ◌+◌, ◌-◌, ◌<◌, ◌≤◌, ◌⊎◌, inl, inr, List, [], ◌∷◌, length, take, slice_get, Some, refl, sym, ◌∙◌, subst, arith}
 use Rattle.std.specs.Prelude.{All, flat_map}
 use Rattle.std.proofs.lemmas.Bool.{cases_order}
 use Rattle.std.proofs.lemmas.Option.{slice_get_within, get_or_from_slice_get}
@@ -10,7 +10,7 @@ use Rattle.mpc_rows.specs.declared.trees.Node.{Node}
 use Rattle.mpc_rows.specs.declared.places.Place.{Place}
 use Rattle.mpc_rows.specs.declared.places.Place.TheVariants.{LawBound, NodeBound}
 use Rattle.mpc_controller.specs.Parts.{limits_of}
-use Rattle.mpc_controller.specs.Bounds.{FormFits, first_move_form, LawFits, NodeFits, InputsFit, IsFirstWideForm, IsWideInput, IsFirstWideNode, IsWideNode, IsBrokenLaw, IsBrokenNode, IsFirstBroken}
+use Rattle.mpc_controller.specs.Bounds.{FormFits, first_move_form, LawFits, NodeFits, IsFirstWideForm, IsWideInput, IsBrokenLaw, IsBrokenNode, IsFirstBroken}
 use Rattle.mpc_theorem.specs.Firsts.{IsFirstOf, numbered}
 use Rattle.mpc_theorem.specs.Bounds.{bound_places, BoundFits}
 use Rattle.mpc_theorem.proofs.FirstLemmas.{first_left, first_right, first_parts, all_left, all_right, each_numbered, numbered_each, IsFirstNumber, to_number, of_number}
@@ -141,30 +141,37 @@ module _ (plant : Plant) (laws : List Law) (nodes : List Node) where
   wide_input : (place : Place) → (b : IsFirstBlock Fits inputs 1 (length laws) place) → IsBrokenLaw plant laws place
   wide_input place b =
       let law = some_at laws (b.number - 1) (omega (arith, b.low, b.high)) in
-      let f = to_number Fits (LawBound b.number) 1 plant.p place b.here in
-      (b.number, f.number, f.is, record {
-        place = b.number - 1;
-        law = law.0;
-        number_is = omega (arith, b.low);
-        law_at = law.1;
-        laws_before = before_take (LawFits plant) laws (b.number - 1) (λ k other l e. law_fits k other e (b.before (suc k) (omega arith) (omega (arith, l))));
-        first = wide_form b.number f.number law.0 law.1 place f;
-      })
+      let f = to_number Fits (LawBound b.number) 1 plant.p place b.here in (
+        b.number,
+        f.number,
+        f.is,
+        record {
+          place = b.number - 1;
+          law = law.0;
+          number_is = omega (arith, b.low);
+          law_at = law.1;
+          laws_before = before_take (LawFits plant) laws (b.number - 1) (λ k other l e. law_fits k other e (b.before (suc k) (omega arith) (omega (arith, l))));
+          first = wide_form b.number f.number law.0 law.1 place f;
+        },
+      )
 
   wide_node : (place : Place) → All Fits law_places → IsFirstNumber Fits NodeBound 1 (length nodes) place → IsBrokenNode plant laws nodes place
   wide_node place h f =
-      let node = some_at nodes (f.number - 1) (omega (arith, f.low, f.high)) in
-      (f.number, f.is, record {
-        laws_fit = laws_fit h;
-        first = record {
-          place = f.number - 1;
-          node = node.0;
-          number_is = omega (arith, f.low);
-          node_at = node.1;
-          nodes_before = before_take (NodeFits (limits_of plant)) nodes (f.number - 1) (λ k other l e. f.before (suc k) (omega arith) (omega (arith, l)) other (at_node k (suc k - 1) other (sym (back k)) e));
-          here = λ fits. f.here (λ other o. subst (NodeFits (limits_of plant)) (same_some (sym node.1 ∙ o)) fits);
-        };
-      })
+      let node = some_at nodes (f.number - 1) (omega (arith, f.low, f.high)) in (
+        f.number,
+        f.is,
+        record {
+          laws_fit = laws_fit h;
+          first = record {
+            place = f.number - 1;
+            node = node.0;
+            number_is = omega (arith, f.low);
+            node_at = node.1;
+            nodes_before = before_take (NodeFits (limits_of plant)) nodes (f.number - 1) (λ k other l e. f.before (suc k) (omega arith) (omega (arith, l)) other (at_node k (suc k - 1) other (sym (back k)) e));
+            here = λ fits. f.here (λ other o. subst (NodeFits (limits_of plant)) (same_some (sym node.1 ∙ o)) fits);
+          };
+        },
+      )
 
   pub to_first_broken : (place : Place) → IsFirstOf (BoundFits plant laws nodes) (bound_places plant laws nodes) place → IsFirstBroken plant laws nodes place
   to_first_broken place h = by (first_parts Fits law_places node_places place h)

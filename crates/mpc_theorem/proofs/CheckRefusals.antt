@@ -1,6 +1,5 @@
 -- What the checker finds of a plant's program, and why that is refused.
-use Rattle.std.proofs.Common.{◌≡◌, ℕ, ◌+◌, ◌⊎◌, inl, inr, List, length, slice_index, sym, subst}
-use Rattle.std.specs.Prelude.{◌↔◌}
+use Rattle.std.proofs.Common.{ℕ, ◌+◌, ◌⊎◌, inl, inr, List, length, slice_index, sym, subst}
 use Rattle.mpc_space.specs.Matrix.{height}
 use Rattle.mpc_plant.specs.declared.plants.Plant.{Plant}
 use Rattle.mpc_rows.specs.declared.places.Place.{Place}

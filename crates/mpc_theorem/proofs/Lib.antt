@@ -5,3 +5,4 @@ mod BoundPlaces
 mod ProgramRefusals
 mod CheckRefusals
 mod StateRefusals
+mod PlantRefusals

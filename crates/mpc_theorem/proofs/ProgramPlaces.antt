@@ -1,10 +1,9 @@
 -- The places of condensing and of the pivots in order are those that the libraries speak of.
-use Rattle.std.proofs.Common.{◌≡◌, ℕ, suc, ◌+◌, ◌-◌, ◌<◌, ◌≤◌, ◌⊎◌, inl, inr, List, ◌++◌, pos, refl, sym, ◌∙◌, ap, subst, arith}
+use Rattle.std.proofs.Common.{◌≡◌, ℕ, suc, ◌+◌, ◌-◌, ◌<◌, ◌≤◌, ◌⊎◌, inl, inr, List, ◌++◌, pos, refl, sym, subst, arith}
 use Rattle.std.specs.Prelude.{All}
 use Rattle.std.proofs.lemmas.List.Elements.{All-append}
 use Rattle.mpc_exact.specs.Rational.{ℚ, int, ◌≤ℚ◌, ◌<ℚ◌}
 use Rattle.mpc_exact.proofs.RationalOrder.{<ℚ-≤ℚ_trans, <ℚ_irrefl}
-use Rattle.mpc_space.specs.Definite.{IsDefinite}
 use Rattle.mpc_space.specs.Matrix.{height, entry}
 use Rattle.mpc_plant.specs.declared.lists.PlantRow.{PlantRow}
 use Rattle.mpc_plant.specs.declared.plants.Plant.{Plant}
@@ -12,9 +11,9 @@ use Rattle.mpc_rows.specs.declared.places.Place.{Place}
 use Rattle.mpc_rows.specs.declared.places.Place.TheVariants.{State, Cost, Row, Pivot}
 use Rattle.mpc_rows.specs.declared.programs.Qp.{Qp}
 use Rattle.mpc_definite.specs.Pivots.{pivot, left_of, StepFits, PassesBelow, IsFirstNotPositive, IsFirstWide}
-use Rattle.mpc_condense.specs.Motion.{StateFits, CostFits, RowFits}
+use Rattle.mpc_condense.specs.Motion.{StateFits, RowFits}
 use Rattle.mpc_condense.specs.Stages.{IsRow}
-use Rattle.mpc_condense.specs.Causes.{row_count, StatesFit, CostsFit, RowsFit, AllFit, IsWideState, IsWideCost, IsWideRow, IsWidePlace}
+use Rattle.mpc_condense.specs.Causes.{row_count, StatesFit, CostsFit, RowsFit, AllFit, IsWidePlace}
 use Rattle.mpc_condense.specs.ProgramLaws.{RowsWithin}
 use Rattle.mpc_theorem.specs.Firsts.{IsFirstOf, numbered}
 use Rattle.mpc_theorem.specs.Programs.{condensing_places, CondensingFits, pivot_places, PivotPasses}
@@ -76,16 +75,20 @@ module _ (plant : Plant) where
   wide_row : (place : Place) → All Fits states → All Fits costs → IsFirstNumber Fits Row 1 (row_count plant) place → IsWidePlace plant place
   wide_row place all fit f =
       let row = row_exists plant (f.number - 1) (omega (arith, f.low, f.high)) in
-      inr (inr (f.number, f.is, record {
-        some = f.low;
-        states = states_fit all;
-        costs = costs_fit fit;
-        before = λ i k other l r. f.before (suc i) (omega arith) (omega (arith, l)) k other (subst (λ m. IsRow plant m k other) (sym (back i)) r);
-        step = row.0;
-        row = row.1;
-        is_row = row.2;
-        here = λ here. f.here (λ k other r. same row.0 k row.1 other (one_row plant (f.number - 1) row.0 k row.1 other row.2 r) here);
-      }))
+      inr (inr (
+        f.number,
+        f.is,
+        record {
+          some = f.low;
+          states = states_fit all;
+          costs = costs_fit fit;
+          before = λ i k other l r. f.before (suc i) (omega arith) (omega (arith, l)) k other (subst (λ m. IsRow plant m k other) (sym (back i)) r);
+          step = row.0;
+          row = row.1;
+          is_row = row.2;
+          here = λ here. f.here (λ k other r. same row.0 k row.1 other (one_row plant (f.number - 1) row.0 k row.1 other row.2 r) here);
+        },
+      ))
     where
       same : (k l : ℕ) (row other : PlantRow) → (k ≡ l) × (row ≡ other) → RowFits plant k row → RowFits plant l other
       same k l row other e h = subst (λ r. RowFits plant l r) e.1 (subst (λ m. RowFits plant m row) e.0 h)
@@ -104,16 +107,32 @@ module _ (plant : Plant) where
   pub of_wide_place : RowsWithin → (place : Place) → IsWidePlace plant place → IsFirstOf (CondensingFits plant) (condensing_places plant) place
   of_wide_place within place (inl (k, e, w)) =
       first_left Fits states (costs ++ rows) place (of_number Fits State 1 plant.horizon place (record {
-        number = k; low = w.some; high = omega (arith, w.within); is = e; before = λ i low high. w.before (i - 1) (omega (arith, low, high)); here = w.here }))
+        number = k;
+        low = w.some;
+        high = omega (arith, w.within);
+        is = e;
+        before = λ i low high. w.before (i - 1) (omega (arith, low, high));
+        here = w.here;
+      }))
   of_wide_place within place (inr (inl (k, e, w))) =
       first_right Fits states (costs ++ rows) place (fit_states w.states) (first_left Fits costs rows place (of_number Fits Cost 0 (plant.horizon + 1) place (record {
-        number = k; low = omega arith; high = omega (arith, w.within); is = e; before = λ i low high. w.before i high; here = w.here })))
+        number = k;
+        low = omega arith;
+        high = omega (arith, w.within);
+        is = e;
+        before = λ i low high. w.before i high;
+        here = w.here;
+      })))
   of_wide_place within place (inr (inr (i, e, w))) =
       let last = within plant (i - 1) w.step w.row w.is_row in
       first_right Fits states (costs ++ rows) place (fit_states w.states) (first_right Fits costs rows place (fit_costs w.costs) (of_number Fits Row 1 (row_count plant) place (record {
-        number = i; low = w.some; high = omega (arith, last, w.some); is = e;
+        number = i;
+        low = w.some;
+        high = omega (arith, last, w.some);
+        is = e;
         before = λ n low high k row r. w.before (n - 1) k row (omega (arith, low, high)) r;
-        here = λ here. w.here (here w.step w.row w.is_row) })))
+        here = λ here. w.here (here w.step w.row w.is_row);
+      })))
 
 -- ---- the pivots
 module _ (qp : Qp) where

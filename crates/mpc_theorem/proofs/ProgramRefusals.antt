@@ -1,5 +1,5 @@
 -- The refusals of a plant's program, from what the libraries say of them and back.
-use Rattle.std.proofs.Common.{◌≡◌, ℕ, ◌-◌, ◌⊎◌, inl, inr, refl}
+use Rattle.std.proofs.Common.{ℕ, inl, inr, refl}
 use Rattle.mpc_space.specs.Definite.{IsDefinite}
 use Rattle.mpc_space.specs.Matrix.{height, entry}
 use Rattle.mpc_plant.specs.declared.plants.Plant.{Plant}
@@ -10,8 +10,8 @@ use Rattle.mpc_definite.specs.Pivots.{IsFirstNotPositive, IsFirstWide}
 use Rattle.mpc_condense.specs.Condensed.{IsCondensed}
 use Rattle.mpc_condense.specs.Causes.{AllFit, IsWidePlace}
 use Rattle.mpc_condense.specs.ProgramLaws.{RowsWithin}
-use Rattle.mpc_theorem.specs.Programs.{HasProgram, StopsAtPivot, IsNotDefinite, IsWidePivot, IsWideProgram}
-use Rattle.mpc_theorem.proofs.ProgramPlaces.{to_all_fit, of_all_fit, to_wide_place, of_wide_place, to_not_positive, of_not_positive, to_wide_pivot, of_wide_pivot}
+use Rattle.mpc_theorem.specs.Programs.{HasProgram, IsNotDefinite, IsWidePivot, IsWideProgram}
+use Rattle.mpc_theorem.proofs.ProgramPlaces.{to_all_fit, of_all_fit, of_wide_place, to_not_positive, of_not_positive, to_wide_pivot, of_wide_pivot}
 
 module _ (plant : Plant) where
   pub not_definite : (qp : Qp) (j : ℕ) → AllFit plant → IsCondensed qp plant → IsFirstNotPositive (entry qp.h) (height qp.h) j → (¬ IsDefinite qp.h.rows) → IsNotDefinite plant j

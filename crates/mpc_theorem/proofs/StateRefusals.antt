@@ -1,22 +1,19 @@
 -- What `solve` and `robust` refuse, and why.
-use Rattle.std.proofs.Common.{◌≡◌, ℕ, suc, ◌+◌, ◌-◌, ◌<◌, ◌≤◌, ◌⊎◌, inl, inr, List, refl, sym, subst, arith}
-use Rattle.std.specs.Prelude.{◌↔◌}
+use Rattle.std.proofs.Common.{◌≡◌, ℕ, suc, ◌-◌, inl, inr, List, refl, sym, subst, arith}
 use Rattle.mpc_exact.specs.Rational.{ℚ}
 use Rattle.mpc_space.specs.Matrix.{entry}
 use Rattle.mpc_plant.specs.declared.lists.PlantRow.{PlantRow}
 use Rattle.mpc_plant.specs.declared.plants.Plant.{Plant}
 use Rattle.mpc_rows.specs.declared.places.Place.{Place}
-use Rattle.mpc_rows.specs.declared.places.Place.TheVariants.{Pivot}
 use Rattle.mpc_rows.specs.declared.programs.Qp.{Qp}
 use Rattle.mpc_condense.specs.Stages.{IsRow}
 use Rattle.mpc_condense.specs.Causes.{row_count}
 use Rattle.mpc_condense.specs.ProgramLaws.{RowsWithin}
 use Rattle.mpc_tight.specs.Tightening.{RowFits, IsWideRow}
 use Rattle.mpc_states.specs.Convex.{IsNotDefiniteAt, IsFirstWidePlace, wide_program, wide_pivot as of_pivot}
-use Rattle.mpc_states.specs.Outcomes.{WithProgram}
 use Rattle.mpc_theorem.specs.Firsts.{IsFirstOf, numbered}
-use Rattle.mpc_theorem.specs.Programs.{IsNotDefinite, IsWidePivot, IsWideProgram}
-use Rattle.mpc_theorem.specs.StateLaws.{TightRowFits, IsWideTightRow, SolvesNotDefinite, SolvesTooWide, TightensWideRow}
+use Rattle.mpc_theorem.specs.Programs.{IsNotDefinite, IsWideProgram}
+use Rattle.mpc_theorem.specs.StateLaws.{TightRowFits, SolvesNotDefinite, SolvesTooWide, TightensWideRow}
 use Rattle.mpc_theorem.proofs.FirstLemmas.{IsFirstNumber, to_number, of_number}
 use Rattle.mpc_theorem.proofs.ProgramPlaces.{to_wide_place}
 use Rattle.mpc_theorem.proofs.ProgramRefusals.{not_definite, first_not_positive, program_fits, wide_pivot, wide_place, first_wide}
@@ -44,7 +41,7 @@ solves_too_wide within plant place = (to place, of)
     of (inl h) = wide_program place (to_wide_place plant place h)
     of (inr h) =
         subst (IsFirstWidePlace plant) (sym h.place_is)
-          (of_pivot h.qp h.j (record { condensed = h.stops.program.condensed; fits = program_fits plant h.qp h.stops.program }) (first_wide plant place h))
+        (of_pivot h.qp h.j (record { condensed = h.stops.program.condensed; fits = program_fits plant h.qp h.stops.program }) (first_wide plant place h))
 
 -- ---- a row that is tightened
 module _ (within : RowsWithin) (plant : Plant) (noise : List ℚ) (qp : Qp) (i : ℕ) where
@@ -90,5 +87,6 @@ module _ (within : RowsWithin) (plant : Plant) (noise : List ℚ) (qp : Qp) (i :
 
 pub tightens_wide_row : RowsWithin → TightensWideRow
 tightens_wide_row within plant noise row = (
-    λ h. record { qp = h.qp; is_convex = h.is_convex; first = to_first within plant noise h.qp row h.so },
-    λ h. record { qp = h.qp; is_convex = h.is_convex; so = of_first within plant noise h.qp row h.first })
+  λ h. record { qp = h.qp; is_convex = h.is_convex; first = to_first within plant noise h.qp row h.so },
+  λ h. record { qp = h.qp; is_convex = h.is_convex; so = of_first within plant noise h.qp row h.first },
+)

@@ -1,5 +1,5 @@
 -- The places of the bounds on a controller's numbers, in order.
-use Rattle.std.specs.Prelude.{◌≡◌, ℕ, ◌-◌, List, ◌++◌, length, flat_map, slice_get, Some}
+use Rattle.std.specs.Prelude.{◌≡◌, ◌-◌, List, ◌++◌, length, flat_map, slice_get, Some}
 use Rattle.mpc_plant.specs.declared.plants.Plant.{Plant}
 use Rattle.mpc_rows.specs.declared.laws.Law.{Law}
 use Rattle.mpc_rows.specs.declared.trees.Node.{Node}

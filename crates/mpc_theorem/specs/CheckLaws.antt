@@ -1,6 +1,5 @@
 -- What the checker finds of a controller's plant is why its program is refused.
 use Rattle.std.specs.Prelude.{ℕ, ◌⊎◌, ◌↔◌}
-use Rattle.mpc_plant.specs.declared.plants.Plant.{Plant}
 use Rattle.mpc_rows.specs.declared.places.Place.{Place}
 use Rattle.mpc_controller.specs.Parts.{Parts}
 use Rattle.mpc_check.specs.Findings.{too_wide, not_definite}

@@ -3,3 +3,4 @@ pub mod Programs
 pub mod Bounds
 pub mod CheckLaws
 pub mod StateLaws
+pub mod Stages

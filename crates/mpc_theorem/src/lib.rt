@@ -3,4 +3,4 @@
 
 mod refusals;
 
-pub use refusals::{check_refusals, state_refusals};
+pub use refusals::{check_refusals, plant_refusals, state_refusals};
