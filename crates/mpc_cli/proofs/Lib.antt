@@ -4,6 +4,7 @@ pub mod EndLemmas
 pub mod PlantEnds
 pub mod StateEnds
 pub mod FleetEnds
+pub mod DueCauses
 pub mod DueStatus
 pub mod CompileLemmas
 pub mod FileEnds

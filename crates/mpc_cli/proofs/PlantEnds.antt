@@ -1,5 +1,5 @@
 -- What comes of the file of a plant, and the answers to it.
-use Rattle.std.proofs.Common.{◌≡◌, ◌≢◌, ℕ, inl, inr, List, refl, sym, ◌∙◌, ap, subst}
+use Rattle.std.proofs.Common.{◌≡◌, ◌≢◌, ℕ, List, refl, ◌∙◌, ap, subst}
 use Rattle.std.specs.Prelude.{Result, Ok, Err, IfOk}
 use Rattle.mpc_plant.specs.declared.plants.Plant.{Plant}
 use Rattle.mpc_plant.specs.declared.faults.PlantKind.{PlantKind}
@@ -8,7 +8,7 @@ use Rattle.mpc_plant.specs.declared.faults.PlantError.TheVariants.{Bad, NoMemory
 use Rattle.mpc_plant.specs.WholePlant.{ReadsAsPlant, IsFirstFault}
 use Rattle.mpc_plant.specs.Readings.{stated, faulty, OneReading}
 use Rattle.mpc_rows.specs.declared.places.Place.{Place}
-use Rattle.mpc_replies.specs.Cut.{head_of, tail_of}
+use Rattle.mpc_replies.specs.Cut.{tail_of}
 use Rattle.mpc_synthesis.specs.Refusals.{Extent, FirstWide, ExplainsSynthesisError, IsNotDefiniteAt}
 use Rattle.mpc_synthesis.specs.Outcomes.{Outcome, not_definite, too_wide, complete, IsOutcome, OneOutcome}
 use Rattle.mpc_synthesis.specs.declared.errors.SynthesisError.{SynthesisError}
@@ -21,12 +21,13 @@ use Rattle.mpc_cli.specs.declared.commands.PlantCommand.TheVariants.{Run, Compil
 use Rattle.mpc_cli.specs.declared.answer.Answer.{Answer}
 use Rattle.mpc_cli.specs.Commands.{plant_text}
 use Rattle.mpc_cli.specs.Extents.{extent_of}
-use Rattle.mpc_cli.specs.Ends.{ComesOf, IsTextAt}
+use Rattle.mpc_cli.specs.Ends.{ComesOf}
 use Rattle.mpc_cli.specs.Outputs.{IsOutput}
-use Rattle.mpc_cli.specs.Statuses.{OfItsPlant, PlantEnd, bad_plant, ends, IsPlantEnd, plant_status, outcome_status}
+use Rattle.mpc_cli.specs.Causes.{OfItsPlant}
+use Rattle.mpc_cli.specs.Statuses.{PlantEnd, bad_plant, ends, IsPlantEnd, plant_status, outcome_status}
 use Rattle.mpc_cli.specs.Answers.{PassesAll}
 use Rattle.mpc_cli.specs.Outcomes.{IsOutputFor, IsPlantAnswer, IsPlantRefusal, IsAnswerTo}
-use Rattle.mpc_cli.proofs.EndLemmas.{line_text, text_weaker, rank}
+use Rattle.mpc_cli.proofs.EndLemmas.{line_text, text_weaker}
 
 -- ---- one end
 same_plant : OneReading → (bytes : List ℕ) (x y : Plant) → ReadsAsPlant bytes x → ReadsAsPlant bytes y → x ≡ y
@@ -45,15 +46,6 @@ one_end reading one extent file (ends o) (bad_plant kind path) h k = absurd (no_
 one_end reading one extent file (ends o) (ends p) h k =
     let mine : IsOutcome extent k.plant o = subst (λ (q : Plant). IsOutcome extent q o) (same_plant reading file h.plant k.plant h.read k.read) h.so in
     ap ends (one extent k.plant o p mine k.so)
-
-pub outcome_ranked : (o : Outcome) → rank (outcome_status o) ≡ 0
-outcome_ranked (not_definite pivot) = refl
-outcome_ranked (too_wide place) = refl
-outcome_ranked complete = refl
-
-pub plant_ranked : (e : PlantEnd) → rank (plant_status e) ≡ 0
-plant_ranked (bad_plant kind path) = refl
-plant_ranked (ends o) = outcome_ranked o
 
 -- ---- where nothing of the plant is refused, Done is due
 pub outcome_done : (extent : Extent) (plant : Plant) (o : Outcome) → PassesAll extent plant → IsOutcome extent plant o → outcome_status o ≡ Done

@@ -5,4 +5,5 @@ pub mod ControllerFiles
 pub mod Commands
 pub mod Outputs
 pub mod Answers
+pub mod Causes
 pub mod Outcomes
