@@ -31,7 +31,7 @@ extern "C" {
 #define MPC_USAGE 2u
 /* A check of the plant's file fails. */
 #define MPC_BAD_PLANT 3u
-/* The weight of the moves isn't positive definite. */
+/* The Hessian of the plant's program isn't positive definite. */
 #define MPC_NOT_DEFINITE 4u
 /* A number that has to be formed needs more than 128 bits. */
 #define MPC_TOO_WIDE 5u

@@ -27,6 +27,7 @@ use Rattle.mpc_safety.specs.SafetyOutcomes.{bad_file as bad_safety_file, finds a
 use Rattle.mpc_status.specs.declared.status.Status.{Status}
 use Rattle.mpc_status.specs.declared.status.Status.TheVariants.{Done, BadPlant, TooLong, NoMemory}
 use Rattle.mpc_status.specs.StatusText.{line_of}
+use Rattle.mpc_theorem.specs.PlantFile.{PlantTextsAreRead}
 use Rattle.mpc_cli.specs.declared.commands.Command.{Command}
 use Rattle.mpc_cli.specs.declared.commands.Command.TheVariants.{OfPlant, OfFile}
 use Rattle.mpc_cli.specs.declared.commands.FileCommand.{FileCommand}
@@ -88,14 +89,14 @@ module _ (workers : ℕ) (plant : Plant) (counts : List ℕ) where
       record { due = record { outcome = complete; came = (qp, (parts, is)); status_is = refl }; text_is = done_text (IsFileOf plant) text file }
 
 module _ (workers : ℕ) (file : List ℕ) (short : length file ≤ input_limit) where
-  plant_output : (plant : Plant) → ReadsAsPlant file plant → (s : Status) (text : List ℕ) → IsPlantAnswer (Compile workers) plant [] s text → IsAnswerFor (OfPlant (Compile workers)) file s text
-  plant_output plant read s text a = record {
+  plant_output : PlantTextsAreRead → (plant : Plant) → ReadsAsPlant file plant → (s : Status) (text : List ℕ) → IsPlantAnswer (Compile workers) plant [] s text → IsAnswerFor (OfPlant (Compile workers)) file s text
+  plant_output texts plant read s text a = record {
     due = in_limit (λ reads. short) (record { outcome = ends a.due.outcome; came = record { plant = plant; read = read; so = a.due.came }; status_is = a.due.status_is });
-    text_is = record { output = λ done. record { plant = plant; read = read; file = a.text_is.output done }; line = a.text_is.line };
+    text_is = record { output = λ done. record { plant = plant; read = (texts file plant).0 read; file = a.text_is.output done }; line = a.text_is.line };
   }
 
-  pub plant_file : (plant : Plant) → ReadsAsPlant file plant → (r : Result (Vec ℕ) Status) → OutcomeOf (IsPlantAnswer (Compile workers) plant []) r → OutcomeOf (IsAnswerFor (OfPlant (Compile workers)) file) r
-  plant_file plant read r h = outcome_of (IsPlantAnswer (Compile workers) plant []) (IsAnswerFor (OfPlant (Compile workers)) file) (plant_output plant read) r h
+  pub plant_file : PlantTextsAreRead → (plant : Plant) → ReadsAsPlant file plant → (r : Result (Vec ℕ) Status) → OutcomeOf (IsPlantAnswer (Compile workers) plant []) r → OutcomeOf (IsAnswerFor (OfPlant (Compile workers)) file) r
+  plant_file texts plant read r h = outcome_of (IsPlantAnswer (Compile workers) plant []) (IsAnswerFor (OfPlant (Compile workers)) file) (plant_output texts plant read) r h
 
   bad_file_of : (kind : PlantKind) (path : List ℕ) → IsFirstFault file kind path → IsAnswerFor (OfPlant (Compile workers)) file (BadPlant kind path) (line_of (BadPlant kind path))
   bad_file_of kind path fault = refusal_for (OfPlant (Compile workers)) file (BadPlant kind path) short (record { outcome = bad_plant kind path; came = fault; status_is = refl }) (λ d. absurd cc)

@@ -9,7 +9,7 @@ pub(crate) const USAGE: u32 = 2;
 /// The plant's file fails a check.
 pub(crate) const BAD_PLANT: u32 = 3;
 
-/// The weight of the moves isn't positive definite.
+/// The Hessian of the plant's program isn't positive definite.
 pub(crate) const NOT_DEFINITE: u32 = 4;
 
 /// A number is too wide for 128 bits.

@@ -23,6 +23,7 @@ use mpc_safety::safe_stays_right;
 use mpc_status::{LatePlace, Status};
 use mpc_synthesis::{SynthesisError, controller, one_controller, right_controller};
 use mpc_text::add_text;
+use mpc_theorem::plant_texts;
 use std::alloc::Global;
 
 /// The most bytes that an input has.
@@ -76,6 +77,7 @@ pub(crate) fn compiled(alloc: Global, file: &[u8]) -> Result<Vec<u8>, Status>
     if file.len() > INPUT_LIMIT {
         return Err(Status::TooLong);
     }
+    plant_texts();
     match read_plant(alloc, file) {
         Ok(plant) => compiled_plant(alloc, plant),
         Err(error) => Err(plant_status(error)),

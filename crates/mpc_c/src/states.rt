@@ -36,7 +36,7 @@ pub(crate) enum Solved {
     WideState,
     /// The plant's file fails a check.
     BadPlant,
-    /// The weight of the moves isn't positive definite.
+    /// The Hessian of the plant's program isn't positive definite.
     NotDefinite,
     /// A number of the plant's program is too wide.
     TooWide,

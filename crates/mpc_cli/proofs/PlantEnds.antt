@@ -8,13 +8,15 @@ use Rattle.mpc_plant.specs.declared.faults.PlantError.TheVariants.{Bad, NoMemory
 use Rattle.mpc_plant.specs.WholePlant.{ReadsAsPlant, IsFirstFault}
 use Rattle.mpc_plant.specs.Readings.{stated, faulty, OneReading}
 use Rattle.mpc_rows.specs.declared.places.Place.{Place}
-use Rattle.mpc_replies.specs.Cut.{tail_of}
+use Rattle.mpc_replies.specs.Cut.{head_of, tail_of, count_lines}
 use Rattle.mpc_synthesis.specs.Refusals.{Extent, FirstWide, ExplainsSynthesisError, IsNotDefiniteAt}
 use Rattle.mpc_synthesis.specs.Outcomes.{Outcome, not_definite, too_wide, complete, IsOutcome, OneOutcome}
 use Rattle.mpc_synthesis.specs.declared.errors.SynthesisError.{SynthesisError}
 use Rattle.mpc_status.specs.declared.status.Status.{Status}
 use Rattle.mpc_status.specs.declared.status.Status.TheVariants.{Done, BadPlant, NotDefinite, TooWide}
 use Rattle.mpc_status.specs.StatusText.{line_of}
+use Rattle.mpc_theorem.specs.PlantFile.{PlantTextsAreRead}
+use Rattle.mpc_theorem.specs.PlantOutputs.{RepliesAreLines}
 use Rattle.mpc_cli.specs.declared.commands.Command.TheVariants.{OfPlant}
 use Rattle.mpc_cli.specs.declared.commands.PlantCommand.{PlantCommand}
 use Rattle.mpc_cli.specs.declared.commands.PlantCommand.TheVariants.{Run, Compile, Trace}
@@ -82,22 +84,22 @@ refused_by (Ok a) e c plant counts cause h = h c plant counts cause
 refused_by (Err error) e c plant counts cause h = tt
 
 -- ---- to the command
-output_of : (c : PlantCommand) (input : List ℕ) (plant : Plant) → ReadsAsPlant (plant_text c input) plant → (text : List ℕ) → IsOutputFor c plant (tail_of input) text → IsOutput (OfPlant c) input text
-output_of Run input plant read text h = record { plant = plant; read = read; replies = h }
-output_of (Compile workers) input plant read text h = record { plant = plant; read = read; file = h }
-output_of (Trace workers) input plant read text h = record { plant = plant; read = read; traced = h }
+output_of : PlantTextsAreRead → RepliesAreLines → (c : PlantCommand) (input : List ℕ) (plant : Plant) → ReadsAsPlant (plant_text c input) plant → (text : List ℕ) → IsOutputFor c plant (tail_of input) text → IsOutput (OfPlant c) input text
+output_of texts replies Run input plant read text h = record { plant = plant; read = (texts (head_of input) plant).0 read; lines = (replies plant (count_lines input) text).0 h }
+output_of texts replies (Compile workers) input plant read text h = record { plant = plant; read = (texts input plant).0 read; file = h }
+output_of texts replies (Trace workers) input plant read text h = record { plant = plant; read = (texts input plant).0 read; traced = h }
 
-pub answers_command : (c : PlantCommand) (input : List ℕ) (plant : Plant) (status : Status) (text : List ℕ) → ReadsAsPlant (plant_text c input) plant → IsPlantAnswer c plant (tail_of input) status text → IsAnswerTo (OfPlant c) input status text
-answers_command c input plant status text read a = record {
+pub answers_command : PlantTextsAreRead → RepliesAreLines → (c : PlantCommand) (input : List ℕ) (plant : Plant) (status : Status) (text : List ℕ) → ReadsAsPlant (plant_text c input) plant → IsPlantAnswer c plant (tail_of input) status text → IsAnswerTo (OfPlant c) input status text
+answers_command texts replies c input plant status text read a = record {
   due = record { outcome = ends a.due.outcome; came = record { plant = plant; read = read; so = a.due.came }; status_is = a.due.status_is };
-  text_is = text_weaker (IsOutputFor c plant (tail_of input)) (IsOutput (OfPlant c) input) status text (output_of c input plant read) a.text_is;
+  text_is = text_weaker (IsOutputFor c plant (tail_of input)) (IsOutput (OfPlant c) input) status text (output_of texts replies c input plant read) a.text_is;
 }
 
-pub answers_commands : {E : Type 0} (r : Result Answer E) (c : PlantCommand) (input bytes counts : List ℕ) (plant : Plant) → ReadsAsPlant bytes plant → bytes ≡ plant_text c input → counts ≡ tail_of input
+pub answers_commands : {E : Type 0} → PlantTextsAreRead → RepliesAreLines → (r : Result Answer E) (c : PlantCommand) (input bytes counts : List ℕ) (plant : Plant) → ReadsAsPlant bytes plant → bytes ≡ plant_text c input → counts ≡ tail_of input
     → IfOk r (λ a. IsPlantAnswer c plant counts a.status a.text.items) → IfOk r (λ a. IsAnswerTo (OfPlant c) input a.status a.text.items)
-answers_commands (Ok a) c input bytes counts plant read e f h =
-    answers_command c input plant a.status a.text.items (subst (λ (b : List ℕ). ReadsAsPlant b plant) e read) (subst (λ (l : List ℕ). IsPlantAnswer c plant l a.status a.text.items) f h)
-answers_commands (Err error) c input bytes counts plant read e f h = tt
+answers_commands texts replies (Ok a) c input bytes counts plant read e f h =
+    answers_command texts replies c input plant a.status a.text.items (subst (λ (b : List ℕ). ReadsAsPlant b plant) e read) (subst (λ (l : List ℕ). IsPlantAnswer c plant l a.status a.text.items) f h)
+answers_commands texts replies (Err error) c input bytes counts plant read e f h = tt
 
 bad_answer : (c : PlantCommand) (input : List ℕ) (kind : PlantKind) (path : List ℕ) (status : Status) (text : List ℕ) → IsFirstFault (plant_text c input) kind path
     → (status ≡ BadPlant kind path) × (text ≡ line_of (BadPlant kind path)) → IsAnswerTo (OfPlant c) input status text

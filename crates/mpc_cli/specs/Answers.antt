@@ -53,7 +53,7 @@ abbrev pub OneStatus : Type 0
 OneStatus = (words : List (List ℕ)) (input : List ℕ) (one other : Status) → IsDue words input one → IsDue words input other → one ≡ other
 
 -- ---- Where nothing is refused
--- the weight of the moves is positive definite, and no number of the stated runs is too wide, as far as the plant is taken
+-- the Hessian of the plant's program is positive definite, and no number of the stated runs is too wide, as far as the plant is taken
 pub record PassesAll (extent : Extent) (plant : Plant) : Type 0 where
   pub definite : (qp : Qp) → IsCondensed qp plant → IsDefinite qp.h.rows
   pub fits : (place : Place) → ¬ FirstWide plant extent place
@@ -70,7 +70,7 @@ FilePasses Reply input = (parts : Parts) × IsSpelled (head_of input) parts
 FilePasses Convert input = (parts : Parts) × IsSpelled input parts
 FilePasses Safe input = SafeFile input
 
--- the head has the file of a plant whose weight of the moves is positive definite, and no number of condensing, the pivots and, where
+-- the head has the file of a plant whose program has a positive definite Hessian, and no number of condensing, the pivots and, where
 -- disturbances may come, their rows is too wide
 abbrev pub StatesPass : StateCommand → List ℕ → Type 0
 StatesPass Solve input = (plant : Plant) × SolveRefusesNothing (head_of input) plant

@@ -1,18 +1,18 @@
 -- What is written where a command answers.
 use Rattle.std.specs.Prelude.{◌≡◌, ℕ, List, codes}
-use Rattle.mpc_plant.specs.WholePlant.{ReadsAsPlant}
 use Rattle.mpc_plant.specs.declared.plants.Plant.{Plant}
 use Rattle.mpc_replies.specs.Cut.{head_of, count_lines}
-use Rattle.mpc_replies.specs.ReplyLines.{AreReplies}
 use Rattle.mpc_files.specs.FileAnswers.{FileReplies, Converts, IsAccepted}
 use Rattle.mpc_safety.specs.declared.answers.Safety.TheVariants.{Safe as SafeAnswer}
 use Rattle.mpc_safety.specs.SafetyAnswers.{IsAnswerToFile}
-use Rattle.mpc_states.specs.Inputs.{IsSolved, IsRobustlySolved}
+use Rattle.mpc_states.specs.Inputs.{IsSolved as IsSolvedByRun, IsRobustlySolved as IsRobustlySolvedByRun}
 use Rattle.mpc_sections.specs.Sections.{sections_of}
 use Rattle.mpc_sections.specs.Alone.{AreAnswered}
 use Rattle.mpc_trace.specs.Histories.{IsTraceOf}
 use Rattle.mpc_drill.specs.declared.drills.Drilled.{Drilled}
 use Rattle.mpc_drill.specs.Drills.{IsDrilled, drill_text}
+use Rattle.mpc_theorem.specs.PlantFile.{IsPlantText}
+use Rattle.mpc_theorem.specs.PlantOutputs.{IsReplies, IsSolved, IsRobustlySolved}
 use Rattle.mpc_cli.specs.declared.commands.Command.{Command}
 use Rattle.mpc_cli.specs.declared.commands.Command.TheVariants.{OfPlant, OfFile, OfStates, Drill, Fleet}
 use Rattle.mpc_cli.specs.declared.commands.StateCommand.{StateCommand}
@@ -23,25 +23,20 @@ use Rattle.mpc_cli.specs.declared.commands.FileCommand.{FileCommand}
 use Rattle.mpc_cli.specs.declared.commands.FileCommand.TheVariants.{Check, Reply, Convert, Safe}
 use Rattle.mpc_cli.specs.ControllerFiles.{IsFileOf}
 
--- the output of `run`: the head reads as a plant, and each line of counts has its reply line, which is right
-pub record IsReplies (input output : List ℕ) : Type 0 where
-  pub plant : Plant
-  pub read : ReadsAsPlant (head_of input) plant
-  pub replies : AreReplies plant (count_lines input) output
-
--- the output of `compile`: the input reads as a plant, and the text is the file of its controller
+-- the output of `compile`: the input is the file of a plant, and the text is the file of its controller
 pub record IsCompiled (input output : List ℕ) : Type 0 where
   pub plant : Plant
-  pub read : ReadsAsPlant input plant
+  pub read : IsPlantText input plant
   pub file : IsFileOf plant output
 
--- the output of `trace`: the input reads as a plant, and the text is a history of its program's candidates in which each is claimed and
+-- the output of `trace`: the input is the file of a plant, and the text is a history of its program's candidates in which each is claimed and
 -- delivered once, by so many workers
 pub record IsTrace (workers : ℕ) (input output : List ℕ) : Type 0 where
   pub plant : Plant
-  pub read : ReadsAsPlant input plant
+  pub read : IsPlantText input plant
   pub traced : IsTraceOf workers plant output
 
+-- `run` writes one reply line a line of counts, and at each grid state the reply that is right
 abbrev pub IsPlantOutput : PlantCommand → List ℕ → List ℕ → Type 0
 IsPlantOutput Run input output = IsReplies input output
 IsPlantOutput (Compile workers) input output = IsCompiled input output
@@ -64,10 +59,10 @@ pub record IsDrillLine (number : ℕ) (output : List ℕ) : Type 0 where
   pub written : output ≡ drill_text counts
 
 -- The output of a command on recorded states: one reply line a line of counts, at each grid state the reply that is right, for `robust` under the
--- disturbances that may come, or `too wide` exactly where a number of the state's run is too wide.
+-- disturbances that may come, or `too wide`; and that stands exactly where a number of the state's own run is too wide.
 abbrev pub IsStateOutput : StateCommand → List ℕ → List ℕ → Type 0
-IsStateOutput Solve input output = IsSolved input output
-IsStateOutput Robust input output = IsRobustlySolved input output
+IsStateOutput Solve input output = IsSolved input output × IsSolvedByRun input output
+IsStateOutput Robust input output = IsRobustlySolved input output × IsRobustlySolvedByRun input output
 
 abbrev pub IsOutput : Command → List ℕ → List ℕ → Type 0
 IsOutput (OfPlant c) input output = IsPlantOutput c input output

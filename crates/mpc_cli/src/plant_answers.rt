@@ -26,6 +26,7 @@ use mpc_synthesis::{
     SynthesisError, controller_of_in_threads, decided, decided_in_threads, one_controller,
     right_controller,
 };
+use mpc_theorem::{output_lines, plant_texts};
 use mpc_trace::trace;
 use std::alloc::Global;
 use std::sync::Wait;
@@ -168,6 +169,8 @@ pub fn plant_answer_alone<T: Threads + Sync, G: Gate>(
     requires { workers_of command ≡ 1 }
     ensures { IfOk result (λ answer. IsAnswerTo (OfPlant command) input.now answer.status answer.text.items) }
 {
+    plant_texts();
+    output_lines();
     let read = read_plant(alloc, plant_bytes(command, input));
     match read {
         Ok(plant) => {
@@ -189,6 +192,8 @@ pub fn plant_answer_in_threads<T: Threads + Wait + Sync, G: Gate + Sync>(
     requires { IsWorkerCount (workers_of command) }
     ensures { IfOk result (λ answer. IsAnswerTo (OfPlant command) input.now answer.status answer.text.items) }
 {
+    plant_texts();
+    output_lines();
     let read = read_plant(alloc, plant_bytes(command, input));
     match read {
         Ok(plant) => {

@@ -11,6 +11,7 @@ use crate::commands::StateCommand;
 use mpc_frac::NoMemory;
 use mpc_states::{RobustError, SolveError, robust_input, solve_input};
 use mpc_status::{LatePlace, Status};
+use mpc_theorem::output_lines;
 use std::alloc::Global;
 
 /// The answer to an input of `solve` that is refused, where the cause holds of it.
@@ -30,6 +31,7 @@ fn solve_refusal(alloc: Global, error: SolveError) -> Result<Answer, NoMemory>
 fn solve_answer(alloc: Global, input: &[u8]) -> Result<Answer, NoMemory>
     ensures { IfOk result (λ answer. IsAnswerTo (OfStates Solve) input.now answer.status answer.text.items) }
 {
+    output_lines();
     match solve_input(alloc, input) {
         Ok(text) => Ok(output(text)),
         Err(error) => solve_refusal(alloc, error),
@@ -55,6 +57,7 @@ fn robust_refusal(alloc: Global, error: RobustError) -> Result<Answer, NoMemory>
 fn robust_answer(alloc: Global, input: &[u8]) -> Result<Answer, NoMemory>
     ensures { IfOk result (λ answer. IsAnswerTo (OfStates Robust) input.now answer.status answer.text.items) }
 {
+    output_lines();
     match robust_input(alloc, input) {
         Ok(text) => Ok(output(text)),
         Err(error) => robust_refusal(alloc, error),

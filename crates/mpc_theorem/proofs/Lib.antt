@@ -6,3 +6,11 @@ mod ProgramRefusals
 mod CheckRefusals
 mod StateRefusals
 mod PlantRefusals
+mod PlantNumbers
+mod PlantChecks
+mod PlantValues
+mod PlantObjects
+mod PlantWeights
+mod PlantRows
+mod PlantTexts
+mod OutputLines

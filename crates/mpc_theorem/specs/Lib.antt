@@ -4,3 +4,6 @@ pub mod Bounds
 pub mod CheckLaws
 pub mod StateLaws
 pub mod Stages
+pub mod PlantNumbers
+pub mod PlantFile
+pub mod PlantOutputs

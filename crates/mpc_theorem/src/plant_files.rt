@@ -1,0 +1,14 @@
+//! What a plant file says.
+
+ghost use Rattle.mpc_theorem.specs.PlantFile.{PlantTextsAreRead, OnePlantText};
+
+use mpc_plant::one_reading;
+
+/// What passes all checks of a plant's file is just what has the plant's parts at its keys, and it has those of one plant. The call does
+/// nothing: its clauses are the law.
+pub fn plant_texts()
+    ensures read { PlantTextsAreRead }
+    ensures one { OnePlantText }
+{
+    one_reading();
+}
