@@ -25,8 +25,7 @@ use Rattle.mpc_cli.specs.Commands.{plant_text}
 use Rattle.mpc_cli.specs.Extents.{extent_of}
 use Rattle.mpc_cli.specs.Ends.{ComesOf}
 use Rattle.mpc_cli.specs.Outputs.{IsOutput}
-use Rattle.mpc_cli.specs.Causes.{OfItsPlant}
-use Rattle.mpc_cli.specs.Statuses.{PlantEnd, bad_plant, ends, IsPlantEnd, plant_status, outcome_status}
+use Rattle.mpc_cli.specs.Statuses.{ReadsWith, PlantEnd, bad_plant, ends, IsPlantEnd, plant_status, outcome_status}
 use Rattle.mpc_cli.specs.Answers.{PassesAll}
 use Rattle.mpc_cli.specs.Outcomes.{IsOutputFor, IsPlantAnswer, IsPlantRefusal, IsAnswerTo}
 use Rattle.mpc_cli.proofs.EndLemmas.{line_text, text_weaker}
@@ -55,7 +54,7 @@ outcome_done extent plant (not_definite pivot) passes h = absurd (h.not_definite
 outcome_done extent plant (too_wide place) passes h = absurd (passes.fits place h)
 outcome_done extent plant complete passes h = refl
 
-pub end_done : OneReading → (extent : Extent) (file : List ℕ) (s : Status) → OfItsPlant file (PassesAll extent) → ComesOf (IsPlantEnd extent file) plant_status s → s ≡ Done
+pub end_done : OneReading → (extent : Extent) (file : List ℕ) (s : Status) → ReadsWith file (PassesAll extent) → ComesOf (IsPlantEnd extent file) plant_status s → s ≡ Done
 end_done reading extent file s passes h = h.status_is ∙ by h.outcome h.came
   where
     by : (e : PlantEnd) → IsPlantEnd extent file e → plant_status e ≡ Done

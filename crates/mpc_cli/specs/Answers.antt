@@ -23,10 +23,11 @@ use Rattle.mpc_cli.specs.declared.commands.StateCommand.TheVariants.{Solve, Robu
 use Rattle.mpc_cli.specs.declared.commands.FileCommand.{FileCommand}
 use Rattle.mpc_cli.specs.declared.commands.FileCommand.TheVariants.{Check, Reply, Convert, Safe}
 use Rattle.mpc_cli.specs.Commands.{Names, IsCommand, CommandReads, Reads, plant_text}
-use Rattle.mpc_cli.specs.Causes.{OfItsPlant, IsDueTo}
+use Rattle.mpc_cli.specs.Causes.{IsDueTo}
 use Rattle.mpc_cli.specs.Ends.{IsTextAt}
 use Rattle.mpc_cli.specs.Extents.{extent_of}
 use Rattle.mpc_cli.specs.Outputs.{IsOutput}
+use Rattle.mpc_cli.specs.Statuses.{ReadsWith}
 use Rattle.mpc_sections.specs.Sections.{sections_of}
 use Rattle.mpc_exact.specs.Rational.{ℚ}
 use Rattle.mpc_states.specs.StateLaws.{NothingRefused as SolveRefusesNothing, NothingRobustRefused as RobustRefusesNothing}
@@ -80,7 +81,7 @@ StatesPass Robust input = (plant : Plant) × (noise : List ℚ) × RobustRefuses
 -- and each target of whose closed loop is ruled out where that is followed; or the input has at most
 -- eight sections
 abbrev pub RefusesNothing : Command → List ℕ → Type 0
-RefusesNothing (OfPlant c) input = OfItsPlant (plant_text c input) (PassesAll (extent_of c))
+RefusesNothing (OfPlant c) input = ReadsWith (plant_text c input) (PassesAll (extent_of c))
 RefusesNothing (OfFile c) input = FilePasses c input
 RefusesNothing (OfStates c) input = StatesPass c input
 RefusesNothing (Drill number) input = DrillPasses number

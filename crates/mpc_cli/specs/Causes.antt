@@ -3,7 +3,7 @@ use Rattle.std.specs.Prelude.{◌≡◌, ℕ, ◌<◌, ◌≤◌, ◌⊎◌, Lis
 use Rattle.mpc_exact.specs.Rational.{ℚ}
 use Rattle.mpc_plant.specs.declared.plants.Plant.{Plant}
 use Rattle.mpc_plant.specs.declared.faults.PlantKind.{PlantKind}
-use Rattle.mpc_plant.specs.WholePlant.{ReadsAsPlant, IsFirstFault}
+use Rattle.mpc_plant.specs.WholePlant.{IsFirstFault}
 use Rattle.mpc_rows.specs.declared.places.Place.{Place}
 use Rattle.mpc_rows.specs.declared.programs.Qp.{Qp}
 use Rattle.mpc_condense.specs.Causes.{row_count}
@@ -23,6 +23,7 @@ use Rattle.mpc_sections.specs.Sections.{sections_of}
 use Rattle.mpc_drill.specs.DrillPlant.{IsDrillPlant}
 use Rattle.mpc_synthesis.specs.Refusals.{controller}
 use Rattle.mpc_synthesis.specs.Outcomes.{IsComplete}
+use Rattle.mpc_theorem.specs.PlantFile.{IsPlantText}
 use Rattle.mpc_theorem.specs.Programs.{IsNotDefinite, IsWideProgram}
 use Rattle.mpc_theorem.specs.Stages.{IsWideStage}
 use Rattle.mpc_theorem.specs.StateLaws.{IsWideTightRow}
@@ -42,7 +43,7 @@ use Rattle.mpc_cli.specs.Extents.{extent_of}
 -- a text is the file of a plant of which something holds
 pub record OfItsPlant (file : List ℕ) (holds : Plant → Type 0) : Type 0 where
   pub plant : Plant
-  pub read : ReadsAsPlant file plant
+  pub text : IsPlantText file plant
   pub so : holds plant
 
 -- a text spells a controller of which something holds
@@ -54,7 +55,7 @@ pub record OfItsController (file : List ℕ) (holds : Parts → Type 0) : Type 0
 -- the head has a plant's file and its noise, of which something holds
 pub record OfItsNoise (input : List ℕ) (holds : Plant → List ℚ → Type 0) : Type 0 where
   pub plant : Plant
-  pub read : ReadsAsPlant (plant_part (head_of input)) plant
+  pub text : IsPlantText (plant_part (head_of input)) plant
   pub noise : List ℚ
   pub noise_is : noise_in input plant.n ≡ Some noise
   pub so : holds plant noise

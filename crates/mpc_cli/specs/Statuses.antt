@@ -1,7 +1,8 @@
 -- The status of each outcome of a library, and what comes to a command.
 use Rattle.std.specs.Prelude.{ℕ, List, ◌↔◌}
 use Rattle.mpc_plant.specs.declared.faults.PlantKind.{PlantKind}
-use Rattle.mpc_plant.specs.WholePlant.{IsFirstFault}
+use Rattle.mpc_plant.specs.declared.plants.Plant.{Plant}
+use Rattle.mpc_plant.specs.WholePlant.{ReadsAsPlant, IsFirstFault}
 use Rattle.mpc_check.specs.Findings.{Finding, refused, too_wide as too_wide_check, not_definite as not_definite_cost}
 use Rattle.mpc_files.specs.FileOutcomes.{FileReading, fails, spells, IsFileReading, FileOutcome, bad_file, finds, accepted, IsFileOutcome}
 use Rattle.mpc_synthesis.specs.Refusals.{Extent}
@@ -21,7 +22,7 @@ use Rattle.mpc_cli.specs.declared.commands.StateCommand.{StateCommand}
 use Rattle.mpc_cli.specs.declared.commands.StateCommand.TheVariants.{Solve, Robust}
 use Rattle.mpc_cli.specs.declared.commands.FileCommand.{FileCommand}
 use Rattle.mpc_cli.specs.declared.commands.FileCommand.TheVariants.{Check, Reply, Convert, Safe}
-use Rattle.mpc_cli.specs.Causes.{OfItsPlant, IsDueTo}
+use Rattle.mpc_cli.specs.Causes.{IsDueTo}
 use Rattle.mpc_cli.specs.Commands.{plant_text}
 use Rattle.mpc_cli.specs.Ends.{ComesOf}
 use Rattle.mpc_cli.specs.Extents.{extent_of}
@@ -37,11 +38,17 @@ pub data PlantEnd : Type 0 where
   bad_plant : PlantKind → List ℕ → PlantEnd
   ends : Outcome → PlantEnd
 
+-- a text reads as a plant of which something holds
+pub record ReadsWith (file : List ℕ) (holds : Plant → Type 0) : Type 0 where
+  pub plant : Plant
+  pub read : ReadsAsPlant file plant
+  pub so : holds plant
+
 abbrev pub IsPlantEnd : Extent → List ℕ → PlantEnd → Type 0
 -- a check of the plant's file fails, and this is the first one
 IsPlantEnd extent file (bad_plant kind path) = IsFirstFault file kind path
 -- the first pivot that isn't positive, the first place with a number that is too wide, or what was asked for
-IsPlantEnd extent file (ends outcome) = OfItsPlant file (λ plant. IsOutcome extent plant outcome)
+IsPlantEnd extent file (ends outcome) = ReadsWith file (λ plant. IsOutcome extent plant outcome)
 
 abbrev pub plant_status : PlantEnd → Status
 plant_status (bad_plant kind path) = BadPlant kind path

@@ -9,12 +9,13 @@ use mpc_plant::one_reading;
 use mpc_safety::one_safety_answer;
 use mpc_states::{complete_inputs, one_outcome as one_state_outcome};
 use mpc_synthesis::one_outcome;
-use mpc_theorem::{check_refusals, plant_refusals, state_refusals};
+use mpc_theorem::{check_refusals, plant_refusals, plant_texts, state_refusals};
 
 /// A status is due to a command just where an outcome of its library has that status. The call does nothing: its clause is the law.
 pub fn due_statuses()
     ensures { DueIsWhatComes }
 {
+    plant_texts();
     plant_refusals();
     check_refusals();
     state_refusals();
