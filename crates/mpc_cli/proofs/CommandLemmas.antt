@@ -6,10 +6,9 @@ use Rattle.std.proofs.lemmas.Fmt.{decimal_is_IsNumeral}
 use Rattle.mpc_cli.specs.declared.commands.Command.{Command}
 use Rattle.mpc_cli.specs.declared.commands.Command.TheVariants.{OfPlant, OfFile, OfStates, Drill, Fleet}
 use Rattle.mpc_cli.specs.declared.commands.StateCommand.TheVariants.{Solve, Robust}
-use Rattle.mpc_cli.specs.declared.commands.PlantCommand.{PlantCommand}
 use Rattle.mpc_cli.specs.declared.commands.PlantCommand.TheVariants.{Run, Compile, Trace}
 use Rattle.mpc_cli.specs.declared.commands.FileCommand.TheVariants.{Check, Reply, Convert, Safe}
-use Rattle.mpc_cli.specs.Commands.{IsWorkerCount, with_workers, AsksFor, Names, IsCommand, HasCount, CommandWaits, CommandReads, Waits, Reads}
+use Rattle.mpc_cli.specs.Commands.{IsWorkerCount, AsksFor, Names, IsCommand, HasCount, CommandWaits, CommandReads, Waits, Reads}
 
 -- ---- the command that words name can be read off them
 value_of : (n : ℕ) → n ≤ 95 → digits_value 10 (decimal n) ≡ n

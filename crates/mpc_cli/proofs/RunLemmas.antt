@@ -7,16 +7,15 @@ use Rattle.mpc_port.specs.WriteError.{sent_before, ExplainsWriteError}
 use Rattle.mpc_port.specs.declared.output.WriteError.{WriteError}
 use Rattle.mpc_port.specs.declared.output.WriteError.TheVariants.{WriteFault as SinkFailed, NoMemory as SinkFull}
 use Rattle.mpc_status.specs.declared.status.Status.{Status}
-use Rattle.mpc_status.specs.declared.status.Status.TheVariants.{Done, Usage, ReadFault, WriteFault, TooLong, NoMemory}
+use Rattle.mpc_status.specs.declared.status.Status.TheVariants.{Done, ReadFault, WriteFault, TooLong, NoMemory}
 use Rattle.mpc_status.specs.StatusText.{line_of}
-use Rattle.mpc_cli.specs.Commands.{IsCommand, CommandReads, Names, Reads}
-use Rattle.mpc_cli.specs.declared.commands.Command.{Command}
-use Rattle.mpc_cli.specs.Answers.{input_limit, IsDueFor, too_long, in_limit, IsDue, no_command, by_command, IsAnswer, OneStatus, PassingIsDone, NothingRefused, Passage, Answers, TookPart, IsQuiet, HasRead, IsFault, RunAnswers}
+use Rattle.mpc_cli.specs.Commands.{Reads}
+use Rattle.mpc_cli.specs.Answers.{input_limit, IsDue, IsAnswer, OneStatus, PassingIsDone, NothingRefused, Passage, Answers, TookPart, IsQuiet, HasRead, RunAnswers}
 use Rattle.mpc_cli.specs.declared.answer.Answer.{Answer}
 use Rattle.mpc_cli.specs.declared.inputs.Halt.{Halt}
 use Rattle.mpc_cli.specs.declared.inputs.Halt.TheVariants.{SourceFailed, OutOfMemory}
 use Rattle.mpc_cli.specs.Outcomes.{HasCome, IsSomeAnswer, ExplainsRunHalt, Closes, Finishes, wrote_all, sink_failed, sink_full}
-use Rattle.mpc_cli.proofs.CommandLemmas.{named_reads, none_reads}
+use Rattle.mpc_cli.proofs.CommandLemmas.{none_reads}
 use Rattle.mpc_cli.proofs.EndLemmas.{rank}
 use Rattle.mpc_cli.proofs.DueStatus.{due_no_fault, due_usage, due_long, long_due, usage_cause}
 use Rattle.mpc_cli.proofs.RespondLemmas.{if_some, always_some}

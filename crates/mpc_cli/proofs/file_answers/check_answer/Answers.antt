@@ -2,7 +2,7 @@ use Rattle.std.proofs.Common.{ℕ, List}
 use Rattle.std.specs.Prelude.{codes}
 use Rattle.mpc_check.specs.Findings.{refused}
 use Rattle.mpc_files.specs.FileAnswers.{IsFileCause}
-use Rattle.mpc_files.specs.FileOutcomes.{finds, IsFileOutcome}
+use Rattle.mpc_files.specs.FileOutcomes.{finds}
 use Rattle.mpc_status.specs.declared.status.Status.TheVariants.{Done, Refused}
 use Rattle.mpc_cli.specs.declared.commands.Command.TheVariants.{OfFile}
 use Rattle.mpc_cli.specs.declared.commands.FileCommand.TheVariants.{Check}

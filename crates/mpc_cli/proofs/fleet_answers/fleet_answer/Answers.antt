@@ -1,4 +1,3 @@
-use Rattle.std.proofs.Common.{ℕ, List, refl}
 use Rattle.mpc_status.specs.declared.status.Status.TheVariants.{TooManyPlants}
 use Rattle.mpc_cli.specs.declared.commands.Command.TheVariants.{Fleet}
 use Rattle.mpc_cli.specs.Outcomes.{IsAnswerTo}

@@ -3,7 +3,7 @@ use Rattle.std.specs.Prelude.{IfOk}
 use Rattle.mpc_plant.specs.declared.plants.Plant.{Plant}
 use Rattle.mpc_synthesis.specs.Programs.{IsDecidedBy}
 use Rattle.mpc_cli.specs.declared.commands.PlantCommand.{PlantCommand}
-use Rattle.mpc_cli.specs.declared.commands.PlantCommand.TheVariants.{Run, Compile, Trace}
+use Rattle.mpc_cli.specs.declared.commands.PlantCommand.TheVariants.{Compile, Trace}
 use Rattle.mpc_cli.specs.Commands.{workers_of}
 use Rattle.mpc_cli.specs.Outcomes.{IsPlantAnswer}
 use Rattle.mpc_cli.proofs.EndLemmas.{ok_weaker}

@@ -1,4 +1,4 @@
-use Rattle.std.proofs.Common.{◌∙◌, ℕ, Err, sym, ap, subst}
+use Rattle.std.proofs.Common.{◌∙◌, ℕ, Err, ap, subst}
 use Rattle.std.specs.Prelude.{IfOk}
 use Rattle.mpc_synthesis.specs.Programs.{IsDecidedBy}
 use Rattle.mpc_cli.proofs.PlantEnds.{answers_commands, bad_answers}
