@@ -6,31 +6,34 @@ use Rattle.mpc_files.specs.FileOutcomes.{OneFileReading, OneFileOutcome}
 use Rattle.mpc_drill.specs.Drills.{IsDrillOutcome, OneDrill}
 use Rattle.mpc_safety.specs.SafetyOutcomes.{OneSafetyOutcome}
 use Rattle.mpc_status.specs.declared.status.Status.{Status}
-use Rattle.mpc_status.specs.declared.status.Status.TheVariants.{Done, Usage, TooLong}
+use Rattle.mpc_status.specs.declared.status.Status.TheVariants.{Done, Usage, BadPlant, NotDefinite, TooWide, BadFile, Refused, TooLong, Unsafe, WideLater, BadNoise, TooManyPlants}
 use Rattle.mpc_cli.specs.declared.commands.Command.{Command}
 use Rattle.mpc_cli.specs.declared.commands.Command.TheVariants.{OfPlant, OfFile, OfStates, Drill, Fleet}
 use Rattle.mpc_cli.specs.Commands.{IsCommand, CommandReads, Reads, plant_text}
 use Rattle.mpc_cli.specs.Extents.{extent_of}
-use Rattle.mpc_sections.specs.Outcomes.{IsFleetOutcome, OneFleetOutcome}
-use Rattle.mpc_cli.specs.Statuses.{IsPlantEnd, plant_status, outcome_status, fleet_status}
-use Rattle.mpc_cli.proofs.FleetEnds.{fleet_ranked, fleet_done}
-use Rattle.mpc_cli.specs.Answers.{input_limit, IsDueTo, IsDueFor, too_long, in_limit, IsDue, no_command, by_command, RefusesNothing, NothingRefused, OneStatus}
+use Rattle.mpc_cli.specs.Causes.{IsDueTo}
+use Rattle.mpc_cli.specs.Statuses.{IsPlantEnd, plant_status, outcome_status, ComesTo, DueIsWhatComes}
+use Rattle.mpc_cli.specs.Answers.{input_limit, IsDueFor, too_long, in_limit, IsDue, no_command, by_command, RefusesNothing, PassingRefusesNothing, PassingIsDone, OneStatus}
+use Rattle.mpc_cli.proofs.DueCauses.{one_fleet, fleet_done}
 use Rattle.mpc_cli.proofs.CommandLemmas.{one_command}
-use Rattle.mpc_cli.proofs.EndLemmas.{one_of, ranked, rank}
-use Rattle.mpc_cli.proofs.PlantEnds.{one_end, plant_ranked, outcome_ranked, end_done}
-use Rattle.mpc_cli.proofs.FileEnds.{one_file, file_due_ranked, passing_due}
+use Rattle.mpc_cli.proofs.EndLemmas.{one_of, rank}
+use Rattle.mpc_cli.proofs.PlantEnds.{one_end, end_done}
+use Rattle.mpc_cli.proofs.FileEnds.{one_file, passing_comes}
 use Rattle.mpc_states.specs.Outcomes.{OneSolveOutcome, OneRobustOutcome}
 use Rattle.mpc_states.specs.StateLaws.{SolveIsComplete, RobustIsComplete}
-use Rattle.mpc_cli.proofs.StateEnds.{one_state, state_due_ranked, states_done}
+use Rattle.mpc_cli.proofs.StateEnds.{one_state, states_done}
 use Rattle.mpc_cli.proofs.DrillEnds.{drill_done}
 
-module _ (plant : OneReading) (outcome : OneOutcome) (reading : OneFileReading) (file : OneFileOutcome) (safety : OneSafetyOutcome) (drill : OneDrill) (solve : OneSolveOutcome) (robust : OneRobustOutcome) (fleet : OneFleetOutcome) where
+module _ (same : DueIsWhatComes) (plant : OneReading) (outcome : OneOutcome) (reading : OneFileReading) (file : OneFileOutcome) (safety : OneSafetyOutcome) (drill : OneDrill) (solve : OneSolveOutcome) (robust : OneRobustOutcome) where
+  one_comes : (c : Command) (input : List ℕ) (s t : Status) → (CommandReads c → length input ≤ input_limit) → ComesTo c input s → ComesTo c input t → s ≡ t
+  one_comes (OfPlant c) input s t l h k = one_of (IsPlantEnd (extent_of c) (plant_text c input)) plant_status s t (one_end plant outcome (extent_of c) (plant_text c input)) h k
+  one_comes (OfFile c) input s t l h k = one_file reading file safety c input s t (l tt) h k
+  one_comes (OfStates c) input s t l h k = one_state solve robust c input s t h k
+  one_comes (Drill number) input s t l h k = one_of (IsDrillOutcome number) outcome_status s t (drill.outcome number) h k
+  one_comes (Fleet workers) input s t l h k = one_fleet workers input s t h k
+
   one_due_to : (c : Command) (input : List ℕ) (s t : Status) → (CommandReads c → length input ≤ input_limit) → IsDueTo c input s → IsDueTo c input t → s ≡ t
-  one_due_to (OfPlant c) input s t l h k = one_of (IsPlantEnd (extent_of c) (plant_text c input)) plant_status s t (one_end plant outcome (extent_of c) (plant_text c input)) h k
-  one_due_to (OfFile c) input s t l h k = one_file reading file safety c input s t (l tt) h k
-  one_due_to (OfStates c) input s t l h k = one_state solve robust c input s t h k
-  one_due_to (Drill number) input s t l h k = one_of (IsDrillOutcome number) outcome_status s t (drill.outcome number) h k
-  one_due_to (Fleet workers) input s t l h k = one_of (IsFleetOutcome input) fleet_status s t (fleet input) h k
+  one_due_to c input s t l h k = one_comes c input s t l ((same c input s).1 h) ((same c input t).1 k)
 
   one_due_for : (c : Command) (input : List ℕ) (s t : Status) → IsDueFor c input s → IsDueFor c input t → s ≡ t
   one_due_for c input s t (too_long reads l e) (too_long other m f) = e ∙ sym f
@@ -47,13 +50,19 @@ module _ (plant : OneReading) (outcome : OneOutcome) (reading : OneFileReading) 
   pub due_unique : OneStatus
   due_unique = one_due
 
--- ---- the statuses that no outcome brings
+-- ---- the statuses that no command has
 due_to_ranked : (c : Command) (input : List ℕ) (s : Status) → IsDueTo c input s → rank s ≡ 0
-due_to_ranked (OfPlant c) input s h = ranked (IsPlantEnd (extent_of c) (plant_text c input)) plant_status s plant_ranked h
-due_to_ranked (OfFile c) input s h = file_due_ranked c input s h
-due_to_ranked (OfStates c) input s h = state_due_ranked c input s h
-due_to_ranked (Drill number) input s h = ranked (IsDrillOutcome number) outcome_status s outcome_ranked h
-due_to_ranked (Fleet workers) input s h = ranked (IsFleetOutcome input) fleet_status s fleet_ranked h
+due_to_ranked c input Done h = refl
+due_to_ranked c input (BadPlant kind path) h = refl
+due_to_ranked c input (NotDefinite pivot) h = refl
+due_to_ranked c input (TooWide place) h = refl
+due_to_ranked c input (BadFile kind number) h = refl
+due_to_ranked c input (Refused spot) h = refl
+due_to_ranked c input (Unsafe one pairs) h = refl
+due_to_ranked c input (WideLater place) h = refl
+due_to_ranked c input BadNoise h = refl
+due_to_ranked c input TooManyPlants h = refl
+due_to_ranked c input other h = absurd h
 
 -- no fault is due
 pub due_no_fault : (words : List (List ℕ)) (input : List ℕ) (s : Status) → IsDue words input s → rank s ≡ 3 → ⊥
@@ -79,18 +88,21 @@ pub due_usage : OneStatus → (words : List (List ℕ)) (input : List ℕ) (s : 
 due_usage one words input s h none = one words input s Usage h (no_command none refl)
 
 -- ---- where nothing is refused, Done is due
-done_due_to : OneReading → OneOutcome → OneFileReading → OneFileOutcome → OneSafetyOutcome → OneDrill → SolveIsComplete → RobustIsComplete → (c : Command) (input : List ℕ) (s : Status) → (CommandReads c → length input ≤ input_limit) → RefusesNothing c input → IsDueTo c input s → s ≡ Done
-done_due_to plant outcome reading file safety drill solve robust (OfPlant c) input s l n h = end_done plant (extent_of c) (plant_text c input) s n h
-done_due_to plant outcome reading file safety drill solve robust (OfFile c) input s l n h = one_file reading file safety c input s Done (l tt) h (passing_due c input n)
-done_due_to plant outcome reading file safety drill solve robust (OfStates c) input s l n h = states_done solve robust c input s n h
-done_due_to plant outcome reading file safety drill solve robust (Drill number) input s l n h = drill_done drill number s n h
-done_due_to plant outcome reading file safety drill solve robust (Fleet workers) input s l n h = fleet_done input s n h
+module _ (same : DueIsWhatComes) (plant : OneReading) (reading : OneFileReading) (file : OneFileOutcome) (safety : OneSafetyOutcome) (drill : OneDrill) (solve : SolveIsComplete) (robust : RobustIsComplete) where
+  passing_done : (c : Command) (input : List ℕ) (s : Status) → (CommandReads c → length input ≤ input_limit) → RefusesNothing c input → ComesTo c input s → s ≡ Done
+  passing_done (OfPlant c) input s l n h = end_done plant (extent_of c) (plant_text c input) s n h
+  passing_done (OfFile c) input s l n h = one_file reading file safety c input s Done (l tt) h (passing_comes c input n)
+  passing_done (OfStates c) input s l n h = states_done solve robust c input s n h
+  passing_done (Drill number) input s l n h = drill_done drill number s n h
+  passing_done (Fleet workers) input s l n h = fleet_done workers input s n h
 
-done_due_for : OneReading → OneOutcome → OneFileReading → OneFileOutcome → OneSafetyOutcome → OneDrill → SolveIsComplete → RobustIsComplete → (c : Command) (input : List ℕ) (s : Status) → (CommandReads c → length input ≤ input_limit) → RefusesNothing c input → IsDueFor c input s → s ≡ Done
-done_due_for plant outcome reading file safety drill solve robust c input s l n (too_long reads m e) = absurd (let few = l reads in omega (arith, m, few))
-done_due_for plant outcome reading file safety drill solve robust c input s l n (in_limit short h) = done_due_to plant outcome reading file safety drill solve robust c input s l n h
+  pub refuses_nothing : PassingRefusesNothing
+  refuses_nothing c input s l n h = passing_done c input s l n ((same c input s).1 h)
 
-pub done_due : OneReading → OneOutcome → OneFileReading → OneFileOutcome → OneSafetyOutcome → OneDrill → SolveIsComplete → RobustIsComplete → (words : List (List ℕ)) (input : List ℕ) (s : Status) → NothingRefused words input → IsDue words input s → s ≡ Done
-done_due plant outcome reading file safety drill solve robust words input s n (no_command none e) = absurd (none (n.command, n.named))
-done_due plant outcome reading file safety drill solve robust words input s n (by_command c named h) =
-    done_due_for plant outcome reading file safety drill solve robust n.command input s n.short n.passes (subst (λ (b : Command). IsDueFor b input s) (one_command words c n.command named n.named) h)
+done_due_for : (c : Command) (input : List ℕ) (s : Status) → (CommandReads c → length input ≤ input_limit) → ((t : Status) → IsDueTo c input t → t ≡ Done) → IsDueFor c input s → s ≡ Done
+done_due_for c input s l passes (too_long reads m e) = absurd (let few = l reads in omega (arith, m, few))
+done_due_for c input s l passes (in_limit short h) = passes s h
+
+pub done_due : PassingIsDone
+done_due words input s n (no_command none e) = absurd (none (n.command, n.named))
+done_due words input s n (by_command c named h) = done_due_for n.command input s n.short n.passes (subst (λ (b : Command). IsDueFor b input s) (one_command words c n.command named n.named) h)

@@ -34,7 +34,7 @@ pub ok_weaker : {E : Type 0} (r : Result Answer E) (P Q : Answer → Type 0) →
 ok_weaker (Ok a) P Q f h = f a h
 ok_weaker (Err x) P Q f h = tt
 
--- ---- the statuses that no outcome brings have a rank above 0
+-- ---- the statuses that no command has have a rank above 0
 abbrev pub rank : Status → ℕ
 rank Done = 0
 rank Usage = 1
@@ -51,6 +51,3 @@ rank (Unsafe one pairs) = 0
 rank (WideLater place) = 0
 rank BadNoise = 0
 rank TooManyPlants = 0
-
-pub ranked : {O : Type 0} (comes : O → Type 0) (status_of : O → Status) (s : Status) → ((o : O) → rank (status_of o) ≡ 0) → ComesOf comes status_of s → rank s ≡ 0
-ranked comes status_of s each h = ap rank h.status_is ∙ each h.outcome

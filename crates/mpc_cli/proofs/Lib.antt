@@ -4,11 +4,11 @@ pub mod EndLemmas
 pub mod PlantEnds
 pub mod StateEnds
 pub mod FleetEnds
+pub mod DueCauses
 pub mod DueStatus
 pub mod CompileLemmas
 pub mod FileEnds
 pub mod DrillEnds
-pub mod ReadLemmas
 pub mod RespondLemmas
 pub mod RunLemmas
 pub mod StatedLemmas

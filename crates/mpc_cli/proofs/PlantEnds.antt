@@ -27,11 +27,11 @@ use Rattle.mpc_cli.specs.Extents.{extent_of}
 use Rattle.mpc_cli.specs.Ends.{ComesOf}
 use Rattle.mpc_cli.specs.Outputs.{IsOutput}
 use Rattle.mpc_cli.specs.StatedOutputs.{IsStatedOutput}
-use Rattle.mpc_cli.specs.Statuses.{OfItsPlant, PlantEnd, bad_plant, ends, IsPlantEnd, plant_status, outcome_status}
+use Rattle.mpc_cli.specs.Statuses.{OfItsPlant, PlantEnd, bad_plant, ends, IsPlantEnd, plant_status, outcome_status, ReadsWith}
 use Rattle.mpc_cli.specs.Answers.{PassesAll}
 use Rattle.mpc_cli.specs.Outcomes.{IsOutputFor, IsPlantAnswer, IsPlantRefusal, IsAnswerTo}
 use Rattle.mpc_cli.proofs.OutputEnds.{few_bytes}
-use Rattle.mpc_cli.proofs.EndLemmas.{line_text, rank}
+use Rattle.mpc_cli.proofs.EndLemmas.{line_text, rank, text_weaker}
 
 -- ---- one end
 same_plant : OneReading → (bytes : List ℕ) (x y : Plant) → ReadsAsPlant bytes x → ReadsAsPlant bytes y → x ≡ y
@@ -51,22 +51,13 @@ one_end reading one extent file (ends o) (ends p) h k =
     let mine : IsOutcome extent k.plant o = subst (λ (q : Plant). IsOutcome extent q o) (same_plant reading file h.plant k.plant h.read k.read) h.so in
     ap ends (one extent k.plant o p mine k.so)
 
-pub outcome_ranked : (o : Outcome) → rank (outcome_status o) ≡ 0
-outcome_ranked (not_definite pivot) = refl
-outcome_ranked (too_wide place) = refl
-outcome_ranked complete = refl
-
-pub plant_ranked : (e : PlantEnd) → rank (plant_status e) ≡ 0
-plant_ranked (bad_plant kind path) = refl
-plant_ranked (ends o) = outcome_ranked o
-
 -- ---- where nothing of the plant is refused, Done is due
 pub outcome_done : (extent : Extent) (plant : Plant) (o : Outcome) → PassesAll extent plant → IsOutcome extent plant o → outcome_status o ≡ Done
 outcome_done extent plant (not_definite pivot) passes h = absurd (h.not_definite (passes.definite h.qp h.has_program.condensed))
 outcome_done extent plant (too_wide place) passes h = absurd (passes.fits place h)
 outcome_done extent plant complete passes h = refl
 
-pub end_done : OneReading → (extent : Extent) (file : List ℕ) (s : Status) → OfItsPlant file (PassesAll extent) → ComesOf (IsPlantEnd extent file) plant_status s → s ≡ Done
+pub end_done : OneReading → (extent : Extent) (file : List ℕ) (s : Status) → ReadsWith file (PassesAll extent) → ComesOf (IsPlantEnd extent file) plant_status s → s ≡ Done
 end_done reading extent file s passes h = h.status_is ∙ by h.outcome h.came
   where
     by : (e : PlantEnd) → IsPlantEnd extent file e → plant_status e ≡ Done

@@ -14,6 +14,8 @@ use Rattle.mpc_cli.specs.declared.commands.Command.{Command}
 use Rattle.mpc_cli.specs.declared.commands.Command.TheVariants.{OfPlant, OfFile, OfStates, Drill, Fleet}
 use Rattle.mpc_cli.specs.Commands.{Names, IsCommand, CommandReads}
 use Rattle.mpc_cli.specs.StatedOutputs.{IsStatedOutput}
+use Rattle.mpc_cli.specs.Outputs.{IsOutput}
+use Rattle.mpc_cli.specs.Statuses.{DueIsWhatComes}
 use Rattle.mpc_cli.specs.Answers.{input_limit, too_long, in_limit, by_command, no_command, IsOutputOf, IsAnswer}
 use Rattle.mpc_cli.specs.Outcomes.{IsAnswerTo, IsAnswerFor, HasCome, IsInput, IsInputOf, ExplainsHalt, IsSomeAnswer, ExplainsRunHalt, IsSomeAnswerFor}
 use Rattle.mpc_cli.proofs.CommandLemmas.{named_reads, none_reads}
@@ -34,42 +36,44 @@ ok_same {E} r (Ok a) P Q e h f = f a (subst (λ (x : Result Answer E). IfOk x P)
 ok_same r (Err x) P Q e h f = tt
 
 -- ---- of a command whose input isn't too long
-for_input : (c : Command) (input : List ℕ) (status : Status) (text : List ℕ) → (CommandReads c → length input ≤ input_limit) → IsAnswerTo c input status text → IsAnswerFor c input status text
-for_input c input status text short a = record { due = in_limit short a.due; text_is = a.text_is }
+module _ (same : DueIsWhatComes) where
+  for_input : (c : Command) (input : List ℕ) (status : Status) (text : List ℕ) → (CommandReads c → length input ≤ input_limit) → IsAnswerTo c input status text → IsAnswerFor c input status text
+  for_input c input status text short a = record { due = in_limit short ((same c input status).0 a.due); text_is = a.text_is }
 
--- what reads nothing is answered alike for every input
-for_any : (c : Command) (bytes input : List ℕ) (status : Status) (text : List ℕ) → (CommandReads c → bytes ≡ input) → (CommandReads c → length bytes ≤ input_limit) → IsAnswerTo c bytes status text → IsAnswerFor c input status text
-for_any (OfPlant c) bytes input status text same short a = subst (λ (b : List ℕ). IsAnswerFor (OfPlant c) b status text) (same tt) (for_input (OfPlant c) bytes status text short a)
-for_any (OfFile c) bytes input status text same short a = subst (λ (b : List ℕ). IsAnswerFor (OfFile c) b status text) (same tt) (for_input (OfFile c) bytes status text short a)
-for_any (OfStates c) bytes input status text same short a = subst (λ (b : List ℕ). IsAnswerFor (OfStates c) b status text) (same tt) (for_input (OfStates c) bytes status text short a)
-for_any (Fleet workers) bytes input status text same short a = subst (λ (b : List ℕ). IsAnswerFor (Fleet workers) b status text) (same tt) (for_input (Fleet workers) bytes status text short a)
-for_any (Drill number) bytes input status text same short a = record { due = in_limit (λ reads. absurd reads) a.due; text_is = record { output = a.text_is.output; line = a.text_is.line } }
+  -- what reads nothing is answered alike for every input
+  for_any : (c : Command) (bytes input : List ℕ) (status : Status) (text : List ℕ) → (CommandReads c → bytes ≡ input) → (CommandReads c → length bytes ≤ input_limit) → IsAnswerTo c bytes status text → IsAnswerFor c input status text
+  for_any (OfPlant c) bytes input status text is short a = subst (λ (b : List ℕ). IsAnswerFor (OfPlant c) b status text) (is tt) (for_input (OfPlant c) bytes status text short a)
+  for_any (OfFile c) bytes input status text is short a = subst (λ (b : List ℕ). IsAnswerFor (OfFile c) b status text) (is tt) (for_input (OfFile c) bytes status text short a)
+  for_any (OfStates c) bytes input status text is short a = subst (λ (b : List ℕ). IsAnswerFor (OfStates c) b status text) (is tt) (for_input (OfStates c) bytes status text short a)
+  for_any (Fleet workers) bytes input status text is short a = subst (λ (b : List ℕ). IsAnswerFor (Fleet workers) b status text) (is tt) (for_input (Fleet workers) bytes status text short a)
+  for_any (Drill number) bytes input status text is short a =
+      record { due = in_limit (λ reads. absurd reads) ((same (Drill number) input status).0 a.due); text_is = record { output = a.text_is.output; line = a.text_is.line } }
 
-module _ (c : Command) (left left_after : Option (List ℕ)) (bytes : List ℕ) (came : CommandReads c → Consumes left left_after bytes × (length bytes ≤ input_limit)) where
-  pub some_whole : (status : Status) (text : List ℕ) → IsAnswerTo c bytes status text → IsSomeAnswerFor c left left_after status text
-  some_whole status text a = record {
-    input = bytes;
-    answer = for_input c bytes status text (λ reads. (came reads).1) a;
-    came = λ reads. (came reads).0;
-    few = λ reads. let few = (came reads).1 in omega (arith, few);
-  }
+  module _ (c : Command) (left left_after : Option (List ℕ)) (bytes : List ℕ) (came : CommandReads c → Consumes left left_after bytes × (length bytes ≤ input_limit)) where
+    pub some_whole : (status : Status) (text : List ℕ) → IsAnswerTo c bytes status text → IsSomeAnswerFor c left left_after status text
+    some_whole status text a = record {
+      input = bytes;
+      answer = for_input c bytes status text (λ reads. (came reads).1) a;
+      came = λ reads. (came reads).0;
+      few = λ reads. let few = (came reads).1 in omega (arith, few);
+    }
 
-  pub told_whole : (status : Status) (text : List ℕ) → IsAnswerTo c bytes status text → IfSome left (λ input. CommandReads c → bytes ≡ input) → IfSome left (λ input. IsAnswerFor c input status text)
-  told_whole status text a told = if_some left (λ input. CommandReads c → bytes ≡ input) (λ input. IsAnswerFor c input status text) (λ input same. for_any c bytes input status text same (λ reads. (came reads).1) a) told
+    pub told_whole : (status : Status) (text : List ℕ) → IsAnswerTo c bytes status text → IfSome left (λ input. CommandReads c → bytes ≡ input) → IfSome left (λ input. IsAnswerFor c input status text)
+    told_whole status text a told = if_some left (λ input. CommandReads c → bytes ≡ input) (λ input. IsAnswerFor c input status text) (λ input is. for_any c bytes input status text is (λ reads. (came reads).1) a) told
 
 -- by what was read and answered
-module _ {E : Type 0} (c : Command) (left left_after : Option (List ℕ)) (read : Input) (input : Vec ℕ Global) (is : read ≡ Whole input) (came : IsInput c left left_after read) (r : Result Answer E) (answer : Result Answer Halt)
+module _ {E : Type 0} (due : DueIsWhatComes) (c : Command) (left left_after : Option (List ℕ)) (read : Input) (input : Vec ℕ Global) (is : read ≡ Whole input) (came : IsInput c left left_after read) (r : Result Answer E) (answer : Result Answer Halt)
     (same : IfOk answer (λ a. r ≡ Ok a)) (answers : IfOk r (λ a. IsAnswerTo c input.items a.status a.text.items)) where
   this : CommandReads c → Consumes left left_after input.items × (length input.items ≤ input_limit)
   this = subst (IsInput c left left_after) is came
 
   pub some_whole_of : IfOk answer (λ a. IsSomeAnswerFor c left left_after a.status a.text.items)
-  some_whole_of = ok_same r answer (λ a. IsAnswerTo c input.items a.status a.text.items) (λ a. IsSomeAnswerFor c left left_after a.status a.text.items) same answers (λ a h. some_whole c left left_after input.items this a.status a.text.items h)
+  some_whole_of = ok_same r answer (λ a. IsAnswerTo c input.items a.status a.text.items) (λ a. IsSomeAnswerFor c left left_after a.status a.text.items) same answers (λ a h. some_whole due c left left_after input.items this a.status a.text.items h)
 
   pub told_whole_of : IfSome left (λ bytes. IsInputOf c bytes read) → IfOk answer (λ a. IfSome left (λ bytes. IsAnswerFor c bytes a.status a.text.items))
   told_whole_of told =
       ok_same r answer (λ a. IsAnswerTo c input.items a.status a.text.items) (λ a. IfSome left (λ bytes. IsAnswerFor c bytes a.status a.text.items)) same answers
-      (λ a h. told_whole c left left_after input.items this a.status a.text.items h (subst (λ (i : Input). IfSome left (λ bytes. IsInputOf c bytes i)) is told))
+      (λ a h. told_whole due c left left_after input.items this a.status a.text.items h (subst (λ (i : Input). IfSome left (λ bytes. IsInputOf c bytes i)) is told))
 
 -- ---- of a command whose input is too long
 long_answer : (c : Command) (input : List ℕ) (status : Status) (text : List ℕ) → CommandReads c → input_limit < length input → status ≡ TooLong → text ≡ line_of TooLong → IsAnswerFor c input status text

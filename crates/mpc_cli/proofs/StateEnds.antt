@@ -2,7 +2,7 @@
 use Rattle.std.proofs.Common.{◌≡◌, ◌≢◌, ℕ, List, refl, ◌∙◌, ap}
 use Rattle.mpc_states.specs.Convex.{ProgramOutcome, not_definite, too_wide, convex}
 use Rattle.mpc_states.specs.Inputs.{IsSolved as IsSolvedByRun, IsRobustlySolved as IsRobustlySolvedByRun}
-use Rattle.mpc_states.specs.Outcomes.{SolveOutcome, bad_plant, of_program, IsSolveOutcome, OneSolveOutcome, RobustOutcome, bad_robust_plant, bad_noise, of_robust_program, wide_row, robust_replies, IsRobustOutcome, OneRobustOutcome}
+use Rattle.mpc_states.specs.Outcomes.{SolveOutcome, of_program, IsSolveOutcome, OneSolveOutcome, RobustOutcome, robust_replies, IsRobustOutcome, OneRobustOutcome}
 use Rattle.mpc_states.specs.StateLaws.{SolveIsComplete, RobustIsComplete}
 use Rattle.mpc_status.specs.declared.status.Status.{Status}
 use Rattle.mpc_status.specs.declared.status.Status.TheVariants.{Done}
@@ -12,38 +12,18 @@ use Rattle.mpc_cli.specs.declared.commands.Command.TheVariants.{OfStates}
 use Rattle.mpc_cli.specs.declared.commands.StateCommand.{StateCommand}
 use Rattle.mpc_cli.specs.declared.commands.StateCommand.TheVariants.{Solve, Robust}
 use Rattle.mpc_cli.specs.Outputs.{IsOutput}
-use Rattle.mpc_cli.specs.Statuses.{program_status, solve_status, robust_status}
-use Rattle.mpc_cli.specs.Answers.{IsStateDue, StatesPass}
+use Rattle.mpc_cli.specs.Statuses.{solve_status, robust_status, ComesToStates}
+use Rattle.mpc_cli.specs.Answers.{StatesPass}
 use Rattle.mpc_cli.specs.Outcomes.{IsAnswerTo}
-use Rattle.mpc_cli.proofs.EndLemmas.{one_of, ranked, rank, done_text, line_text}
+use Rattle.mpc_cli.proofs.EndLemmas.{one_of, done_text, line_text}
 
 -- ---- one end
-pub one_state : OneSolveOutcome → OneRobustOutcome → (c : StateCommand) (input : List ℕ) (s t : Status) → IsStateDue c input s → IsStateDue c input t → s ≡ t
+pub one_state : OneSolveOutcome → OneRobustOutcome → (c : StateCommand) (input : List ℕ) (s t : Status) → ComesToStates c input s → ComesToStates c input t → s ≡ t
 one_state solve robust Solve input s t h k = one_of (IsSolveOutcome input) solve_status s t (solve input) h k
 one_state solve robust Robust input s t h k = one_of (IsRobustOutcome input) robust_status s t (robust input) h k
 
-program_ranked : (o : ProgramOutcome) → rank (program_status o) ≡ 0
-program_ranked (not_definite pivot) = refl
-program_ranked (too_wide place) = refl
-program_ranked convex = refl
-
-solve_ranked : (o : SolveOutcome) → rank (solve_status o) ≡ 0
-solve_ranked (bad_plant kind path) = refl
-solve_ranked (of_program o) = program_ranked o
-
-robust_ranked : (o : RobustOutcome) → rank (robust_status o) ≡ 0
-robust_ranked (bad_robust_plant kind path) = refl
-robust_ranked bad_noise = refl
-robust_ranked (of_robust_program o) = program_ranked o
-robust_ranked (wide_row row) = refl
-robust_ranked robust_replies = refl
-
-pub state_due_ranked : (c : StateCommand) (input : List ℕ) (s : Status) → IsStateDue c input s → rank s ≡ 0
-state_due_ranked Solve input s h = ranked (IsSolveOutcome input) solve_status s solve_ranked h
-state_due_ranked Robust input s h = ranked (IsRobustOutcome input) robust_status s robust_ranked h
-
 -- where nothing is refused, Done is due
-pub states_done : SolveIsComplete → RobustIsComplete → (c : StateCommand) (input : List ℕ) (s : Status) → StatesPass c input → IsStateDue c input s → s ≡ Done
+pub states_done : SolveIsComplete → RobustIsComplete → (c : StateCommand) (input : List ℕ) (s : Status) → StatesPass c input → ComesToStates c input s → s ≡ Done
 states_done solve robust Solve input s n h = h.status_is ∙ ap solve_status (solve input n.0 h.outcome n.1 h.came)
 states_done solve robust Robust input s n h = h.status_is ∙ ap robust_status (robust input n.0 n.1 h.outcome n.2 h.came)
 

@@ -9,10 +9,9 @@ use Rattle.mpc_space.specs.Definite.{IsDefinite}
 use Rattle.mpc_condense.specs.Condensed.{IsCondensed}
 use Rattle.mpc_controller.specs.Parts.{Parts}
 use Rattle.mpc_file.specs.FileGrammar.{IsSpelled}
-use Rattle.mpc_files.specs.FileOutcomes.{IsFileReading, IsFileOutcome, AcceptsFile}
+use Rattle.mpc_files.specs.FileOutcomes.{AcceptsFile}
 use Rattle.mpc_synthesis.specs.Refusals.{Extent, controller, FirstWide}
 use Rattle.mpc_drill.specs.DrillPlant.{IsDrillPlant}
-use Rattle.mpc_drill.specs.Drills.{IsDrillOutcome}
 use Rattle.mpc_replies.specs.Cut.{head_of}
 use Rattle.mpc_status.specs.declared.status.Status.{Status}
 use Rattle.mpc_status.specs.declared.status.Status.TheVariants.{Done, Usage, ReadFault, WriteFault, TooLong, NoMemory}
@@ -24,43 +23,22 @@ use Rattle.mpc_cli.specs.declared.commands.StateCommand.TheVariants.{Solve, Robu
 use Rattle.mpc_cli.specs.declared.commands.FileCommand.{FileCommand}
 use Rattle.mpc_cli.specs.declared.commands.FileCommand.TheVariants.{Check, Reply, Convert, Safe}
 use Rattle.mpc_cli.specs.Commands.{Names, IsCommand, CommandReads, Reads, plant_text}
-use Rattle.mpc_cli.specs.Ends.{ComesOf, IsTextAt}
+use Rattle.mpc_cli.specs.Causes.{IsDueTo}
+use Rattle.mpc_cli.specs.Ends.{IsTextAt}
 use Rattle.mpc_cli.specs.Extents.{extent_of}
 use Rattle.mpc_cli.specs.Outputs.{IsOutput}
-use Rattle.mpc_cli.specs.Statuses.{OfItsPlant, IsPlantEnd, plant_status, outcome_status, file_status, reading_status, safety_status, solve_status, robust_status, fleet_status}
+use Rattle.mpc_cli.specs.Statuses.{ReadsWith}
 use Rattle.mpc_sections.specs.Sections.{sections_of}
-use Rattle.mpc_sections.specs.Outcomes.{IsFleetOutcome}
 use Rattle.mpc_exact.specs.Rational.{ℚ}
-use Rattle.mpc_states.specs.Outcomes.{IsSolveOutcome, IsRobustOutcome}
 use Rattle.mpc_states.specs.StateLaws.{NothingRefused as SolveRefusesNothing, NothingRobustRefused as RobustRefusesNothing}
-use Rattle.mpc_safety.specs.SafetyOutcomes.{IsSafetyOutcome, SafeFile}
+use Rattle.mpc_safety.specs.SafetyOutcomes.{SafeFile}
 
 -- the most bytes that an input has
 abbrev pub input_limit : ℕ
 input_limit = 16777216
 
 -- ---- The causes
--- the status that is due to a command on a controller's file: where it is checked, that of the first condition that isn't met
-abbrev pub IsFileDue : FileCommand → List ℕ → Status → Type 0
-IsFileDue Check input status = ComesOf (IsFileOutcome input) file_status status
-IsFileDue Reply input status = ComesOf (IsFileReading (head_of input)) reading_status status
-IsFileDue Convert input status = ComesOf (IsFileReading input) reading_status status
-IsFileDue Safe input status = ComesOf (IsSafetyOutcome input) safety_status status
-
--- the status that is due to a command on recorded states
-abbrev pub IsStateDue : StateCommand → List ℕ → Status → Type 0
-IsStateDue Solve input status = ComesOf (IsSolveOutcome input) solve_status status
-IsStateDue Robust input status = ComesOf (IsRobustOutcome input) robust_status status
-
--- the status that is due to the command for an input that isn't too long
-abbrev pub IsDueTo : Command → List ℕ → Status → Type 0
-IsDueTo (OfPlant c) input status = ComesOf (IsPlantEnd (extent_of c) (plant_text c input)) plant_status status
-IsDueTo (OfFile c) input status = IsFileDue c input status
-IsDueTo (OfStates c) input status = IsStateDue c input status
-IsDueTo (Drill number) input status = ComesOf (IsDrillOutcome number) outcome_status status
-IsDueTo (Fleet workers) input status = ComesOf (IsFleetOutcome input) fleet_status status
-
--- and for every input: a command that reads more than the limit has an input that is too long
+-- the status that is due to the command: one that reads more than the limit has an input that is too long
 pub data IsDueFor (c : Command) (input : List ℕ) (status : Status) : Type 0 where
   too_long : CommandReads c → input_limit < length input → status ≡ TooLong → IsDueFor c input status
   in_limit : (CommandReads c → length input ≤ input_limit) → IsDueTo c input status → IsDueFor c input status
@@ -103,18 +81,22 @@ StatesPass Robust input = (plant : Plant) × (noise : List ℚ) × RobustRefuses
 -- and each target of whose closed loop is ruled out where that is followed; or the input has at most
 -- eight sections
 abbrev pub RefusesNothing : Command → List ℕ → Type 0
-RefusesNothing (OfPlant c) input = OfItsPlant (plant_text c input) (PassesAll (extent_of c))
+RefusesNothing (OfPlant c) input = ReadsWith (plant_text c input) (PassesAll (extent_of c))
 RefusesNothing (OfFile c) input = FilePasses c input
 RefusesNothing (OfStates c) input = StatesPass c input
 RefusesNothing (Drill number) input = DrillPasses number
 RefusesNothing (Fleet workers) input = length (sections_of input) ≤ 8
 
--- the words name a command that refuses nothing of its input, which isn't too long
+-- then no status but Done is due to the command
+abbrev pub PassingRefusesNothing : Type 0
+PassingRefusesNothing = (c : Command) (input : List ℕ) (due : Status) → (CommandReads c → length input ≤ input_limit) → RefusesNothing c input → IsDueTo c input due → due ≡ Done
+
+-- the words name a command to which, for an input that isn't too long, no refusal is due
 pub record NothingRefused (words : List (List ℕ)) (input : List ℕ) : Type 0 where
   pub command : Command
   pub named : Names command words
   pub short : CommandReads command → length input ≤ input_limit
-  pub passes : RefusesNothing command input
+  pub passes : (due : Status) → IsDueTo command input due → due ≡ Done
 
 -- then Done alone is due
 abbrev pub PassingIsDone : Type 0

@@ -6,4 +6,5 @@ pub mod Commands
 pub mod Outputs
 pub mod StatedOutputs
 pub mod Answers
+pub mod Causes
 pub mod Outcomes

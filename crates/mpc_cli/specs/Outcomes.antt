@@ -25,8 +25,9 @@ use Rattle.mpc_cli.specs.ControllerFiles.{IsFileOf}
 use Rattle.mpc_cli.specs.Extents.{extent_of}
 use Rattle.mpc_cli.specs.Ends.{ComesOf, IsTextAt}
 use Rattle.mpc_cli.specs.StatedOutputs.{IsStatedOutput, IsStatedOf}
-use Rattle.mpc_cli.specs.Statuses.{outcome_status}
+use Rattle.mpc_cli.specs.Statuses.{outcome_status, ComesTo}
 use Rattle.mpc_cli.specs.Answers.{input_limit, IsDueTo, IsDueFor, IsAnswer}
+use Rattle.mpc_cli.specs.Outputs.{IsOutput}
 
 -- ---- what a plant is answered with
 -- the output: one reply line a line of counts, the file of the plant's controller, or the history of its candidates
@@ -47,7 +48,7 @@ IsPlantRefusal OutOfPlantMemory status text = ⊥
 -- ---- what a command is answered with
 -- for an input that isn't too long
 pub record IsAnswerTo (c : Command) (input : List ℕ) (status : Status) (text : List ℕ) : Type 0 where
-  pub due : IsDueTo c input status
+  pub due : ComesTo c input status
   pub text_is : IsTextAt (IsStatedOutput c input) status text
 
 -- and for every input

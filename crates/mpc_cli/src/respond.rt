@@ -11,6 +11,7 @@ use crate::drill_answers::drill_answer;
 use crate::file_answers::file_answer;
 use crate::fleet_answers::fleet_answer;
 use crate::inputs::{Halt, Input, read_input};
+use crate::laws::due_statuses;
 use crate::plant_answers::{plant_answer_alone, plant_answer_in_threads};
 use crate::state_answers::state_answer;
 use mpc_frac::NoMemory;
@@ -101,6 +102,7 @@ pub fn answer_alone<T: Threads + Sync, S: Source, G: Gate>(
         (S.left source.old) (S.left source.new) (S.faults source.old) (S.faults source.new)) }
     ensures unread { (¬ CommandReads command) → source.new ≡ source.old }
 {
+    due_statuses();
     match read_input(alloc, command, source) {
         Ok(Input::Whole(input)) => or_halt(command_answer_alone(rt, alloc, command, &input, gate)),
         Ok(Input::TooLong) => refused(alloc, Status::TooLong),
@@ -125,6 +127,7 @@ pub fn answer_in_threads<T: Threads + Wait + Sync, S: Source, G: Gate + Sync>(
         (S.left source.old) (S.left source.new) (S.faults source.old) (S.faults source.new)) }
     ensures unread { (¬ CommandReads command) → source.new ≡ source.old }
 {
+    due_statuses();
     match read_input(alloc, command, source) {
         Ok(Input::Whole(input)) => or_halt(command_answer_in_threads(
             rt, alloc, command, &input, gate,

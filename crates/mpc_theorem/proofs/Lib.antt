@@ -5,6 +5,14 @@ pub mod PlantLines
 pub mod LawLines
 pub mod TreeLines
 pub mod FileLines
+mod FirstLemmas
+mod RowPlaces
+mod ProgramPlaces
+mod BoundPlaces
+mod ProgramRefusals
+mod CheckRefusals
+mod StateRefusals
+mod PlantRefusals
 mod PlantNumbers
 mod PlantChecks
 mod PlantValues

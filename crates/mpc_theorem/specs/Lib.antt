@@ -1,5 +1,11 @@
 pub mod ControllerFile
 pub mod FileLaws
+pub mod Firsts
+pub mod Programs
+pub mod Bounds
+pub mod CheckLaws
+pub mod StateLaws
+pub mod Stages
 pub mod PlantNumbers
 pub mod PlantFile
 pub mod PlantOutputs

@@ -6,9 +6,11 @@ mod drill_lines;
 mod file_outputs;
 mod plant_files;
 mod plant_outputs;
+mod refusals;
 
 pub use controller_files::controller_file;
 pub use drill_lines::drill_line_laws;
 pub use file_outputs::file_output_laws;
 pub use plant_files::plant_texts;
 pub use plant_outputs::output_lines;
+pub use refusals::{check_refusals, plant_refusals, state_refusals};

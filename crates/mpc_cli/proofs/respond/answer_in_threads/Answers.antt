@@ -7,13 +7,13 @@ use Rattle.mpc_cli.proofs.respond.answer_in_threads.Goals as goal
 pub returns-in-Ok-Whole-clause-some : goal.returns-in-Ok-Whole-clause-some
 returns-in-Ok-Whole-clause-some g c =
     let w = c.in-Ok-Whole in
-    some_whole_of c.args.command (g.S.Source.left c.args.source.now) (g.S.Source.left c.read_input.new.source) w.field-0 w.input w.field-0-is w.ensures.some c.command_answer_in_threads.result c.or_halt.result c.or_halt.ensures.same
+    some_whole_of c.due_statuses.ensures c.args.command (g.S.Source.left c.args.source.now) (g.S.Source.left c.read_input.new.source) w.field-0 w.input w.field-0-is w.ensures.some c.command_answer_in_threads.result c.or_halt.result c.or_halt.ensures.same
     (subst (λ (b : List ℕ). IfOk c.command_answer_in_threads.result (λ a. IsAnswerTo c.args.command b a.status a.text.items)) c.deref.ensures.value c.command_answer_in_threads.ensures)
 
 pub returns-in-Ok-Whole-clause-told : goal.returns-in-Ok-Whole-clause-told
 returns-in-Ok-Whole-clause-told g c =
     let w = c.in-Ok-Whole in
-    told_whole_of c.args.command (g.S.Source.left c.args.source.now) (g.S.Source.left c.read_input.new.source) w.field-0 w.input w.field-0-is w.ensures.some c.command_answer_in_threads.result c.or_halt.result c.or_halt.ensures.same
+    told_whole_of c.due_statuses.ensures c.args.command (g.S.Source.left c.args.source.now) (g.S.Source.left c.read_input.new.source) w.field-0 w.input w.field-0-is w.ensures.some c.command_answer_in_threads.result c.or_halt.result c.or_halt.ensures.same
     (subst (λ (b : List ℕ). IfOk c.command_answer_in_threads.result (λ a. IsAnswerTo c.args.command b a.status a.text.items)) c.deref.ensures.value c.command_answer_in_threads.ensures) w.ensures.told
 
 pub returns-in-Ok-Whole-clause-halt : goal.returns-in-Ok-Whole-clause-halt

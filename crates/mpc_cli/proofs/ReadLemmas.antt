@@ -1,1 +1,0 @@
--- What came of a source that was read to its end, or to a refusal.

@@ -1,0 +1,8 @@
+use Rattle.mpc_theorem.proofs.PlantRefusals.{plant_not_definite, plant_too_wide}
+use Rattle.mpc_theorem.proofs.refusals.plant_refusals.Goals as goal
+
+pub returns-clause-not_definite : goal.returns-clause-not_definite
+returns-clause-not_definite c = plant_not_definite
+
+pub returns-clause-too_wide : goal.returns-clause-too_wide
+returns-clause-too_wide c = plant_too_wide c.place_laws.ensures.none c.place_laws.ensures.rows c.one_program.ensures

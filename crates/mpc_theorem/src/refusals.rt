@@ -1,0 +1,35 @@
+//! Why plants and controllers are refused.
+
+ghost use Rattle.mpc_theorem.specs.CheckLaws.{FindsNotDefinite, FindsTooWide};
+ghost use Rattle.mpc_theorem.specs.Stages.{PlantNotDefinite, PlantTooWide};
+ghost use Rattle.mpc_theorem.specs.StateLaws.{SolvesNotDefinite, SolvesTooWide, TightensWideRow};
+
+use mpc_condense::{one_program, place_laws};
+
+/// A plant on the way to its verdicts or its controller is refused for one of these causes: a pivot of its program, or a place that is too
+/// wide of its program or of a stage behind it. The call does nothing: its clauses are the law.
+pub fn plant_refusals()
+    ensures not_definite { PlantNotDefinite }
+    ensures too_wide { PlantTooWide }
+{
+    one_program();
+    place_laws();
+}
+
+/// What the checker finds of a controller's plant is why its program is refused. The call does nothing: its clauses are the law.
+pub fn check_refusals()
+    ensures not_definite { FindsNotDefinite }
+    ensures too_wide { FindsTooWide }
+{
+    place_laws();
+}
+
+/// Where the program of recorded states is refused, or a row that is tightened, it is for one of these causes. The call does nothing: its
+/// clauses are the law.
+pub fn state_refusals()
+    ensures not_definite { SolvesNotDefinite }
+    ensures too_wide { SolvesTooWide }
+    ensures row { TightensWideRow }
+{
+    place_laws();
+}
