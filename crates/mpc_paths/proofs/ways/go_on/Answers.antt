@@ -1,7 +1,7 @@
 use Rattle.std.proofs.Common.{◌≡◌, ◌++◌, ◌∷◌, [], true, sym, subst, rules}
-use Rattle.mpc_check.specs.Ways.{IsWay, turn_at}
-use Rattle.mpc_check.proofs.WayLemmas.{leaf_ends, split_goes_on}
-use Rattle.mpc_check.proofs.ways.go_on.Goals as goal
+use Rattle.mpc_paths.specs.Ways.{IsWay, turn_at}
+use Rattle.mpc_paths.proofs.WayLemmas.{leaf_ends, split_goes_on}
+use Rattle.mpc_paths.proofs.ways.go_on.Goals as goal
 
 pub turn_over-requires-clause-ended : goal.turn_over-requires-clause-ended
 turn_over-requires-clause-ended c = leaf_ends c.args.tree.now c.args.way.now.items c.args.place c.at.result.now c.requires.way c.at.ensures (c.is_leaf.ensures.0 c.if-is_leaf.true)

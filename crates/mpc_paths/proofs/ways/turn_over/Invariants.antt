@@ -1,6 +1,6 @@
 use Rattle.std.proofs.Common.{vec_len}
-use Rattle.mpc_check.specs.Ways.{EndsTree}
-use Rattle.mpc_check.proofs.ways.turn_over.Given as goal
+use Rattle.mpc_paths.specs.Ways.{EndsTree}
+use Rattle.mpc_paths.proofs.ways.turn_over.Given as goal
 
 abbrev pub invariant-loop-turn : goal.invariant-loop-turn
 invariant-loop-turn l = EndsTree l.tree l.way.items l.end

@@ -13,10 +13,10 @@ use Rattle.mpc_rows.specs.LawRows.{whole_row, broken_row}
 use Rattle.mpc_controller.specs.Preorder.{Spells, IsTree, IsNoSide}
 use Rattle.mpc_controller.specs.PreorderLaws.{JoinedSpell}
 use Rattle.mpc_controller.specs.Walk.{IsLeaf}
-use Rattle.mpc_check.specs.Paths.{PathTo, root as path_root, yes_side as path_yes, no_side as path_no}
-use Rattle.mpc_check.specs.declared.ways.Turn.{Turn}
-use Rattle.mpc_check.specs.Ways.{side_row, split_row, turn_row, way_rows, turn_at, IsTurn, IsWay, root, yes_side, no_side, EndsTree}
-use Rattle.mpc_check.proofs.PathLemmas.{spells_parts, range_at, nothing_between, no_tree}
+use Rattle.mpc_paths.specs.Paths.{PathTo, root as path_root, yes_side as path_yes, no_side as path_no}
+use Rattle.mpc_paths.specs.declared.ways.Turn.{Turn}
+use Rattle.mpc_paths.specs.Ways.{side_row, split_row, turn_row, way_rows, turn_at, IsTurn, IsWay, root, yes_side, no_side, EndsTree}
+use Rattle.mpc_paths.proofs.PathLemmas.{spells_parts, range_at, nothing_between, no_tree}
 
 module _ (nodes : List Node) where
   -- ---- the path of a way

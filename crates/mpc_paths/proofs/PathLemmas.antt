@@ -10,7 +10,7 @@ use Rattle.mpc_rows.specs.declared.trees.Node.{Node}
 use Rattle.mpc_rows.specs.declared.trees.Node.TheVariants.{Split, Law, NoMove}
 use Rattle.mpc_rows.specs.LawRows.{whole_row, broken_row}
 use Rattle.mpc_controller.specs.Preorder.{Spells, IsTree, IsNoSide}
-use Rattle.mpc_check.specs.Paths.{PathTo, root, yes_side, no_side}
+use Rattle.mpc_paths.specs.Paths.{PathTo, root, yes_side, no_side}
 
 -- ---- what nodes spell
 -- the parts of a list spell their trees one after the other

@@ -1,13 +1,14 @@
 //! The way from the root of a search tree to each of its nodes in turn, kept as a stack.
 
-ghost use Rattle.std.specs.Prelude.{◌+◌, ◌<◌, ◌≤◌, ◌↔◌, IsTrue, OnOk, length};
+ghost use Rattle.std.specs.Prelude.{◌+◌, ◌<◌, ◌≤◌, ◌↔◌, IsTrue, IfOk, OnOk, length};
 ghost use Rattle.mpc_controller.specs.Preorder.{IsTree};
 ghost use Rattle.mpc_controller.specs.Walk.{IsLeaf};
-ghost use Rattle.mpc_recur.specs.Ways.{IsWay, EndsTree};
+ghost use Rattle.mpc_paths.specs.Ways.{IsWay, EndsTree};
 
 use mpc_controller::preorder_laws;
 use mpc_frac::NoMemory;
 use mpc_rows::{Node, Tree};
+use std::alloc::Global;
 
 /// The side of a split that a way takes. The split's place is counted from 0.
 #[derive(Clone, Copy, Debug, Drop)]
@@ -63,4 +64,17 @@ pub fn go_on(way: &mut Vec<Turn>, tree: &Tree, place: usize) -> Result<(), NoMem
     };
     way.push(first).map_err(|_| NoMemory)?;
     Ok(())
+}
+
+/// The way from the root to the node at a place, if there is one.
+pub fn way_to(alloc: Global, tree: &Tree, place: usize) -> Result<Vec<Turn>, NoMemory>
+    requires tree { IsTree tree.now }
+    requires inside { place ≤ length tree.now }
+    ensures { IfOk result (λ way. place < length tree.now → IsWay tree.now place way.items) }
+{
+    let mut way = Vec::new(alloc);
+    for k in 0..place {
+        go_on(&mut way, tree, k)?;
+    }
+    Ok(way)
 }

@@ -1,30 +1,20 @@
 -- The turns at the splits on the way from the root of a search tree to a node.
-use Rattle.std.specs.Prelude.{◌≡◌, ℕ, ◌+◌, Bool, true, false, List, [], ◌∷◌, ◌++◌, length, map, pos, slice_get, slice_index_or, slice_range, Some}
+use Rattle.std.specs.Prelude.{◌≡◌, ℕ, ◌+◌, Bool, true, false, List, [], ◌∷◌, ◌++◌, map, pos, slice_get, slice_index_or, slice_range, Some, All}
 use Rattle.mpc_linear.specs.declared.integers.RowInt.{RowInt}
-use Rattle.mpc_plant.specs.Limits.{IsFromTo}
-use Rattle.mpc_rows.specs.declared.programs.Qp.{Qp}
 use Rattle.mpc_rows.specs.declared.systems.Row.{Row}
 use Rattle.mpc_rows.specs.declared.trees.Node.{Node}
 use Rattle.mpc_rows.specs.declared.trees.Node.TheVariants.{Split, Law, NoMove}
-use Rattle.mpc_rows.specs.LinearSystem.{LinearSystem}
 use Rattle.mpc_rows.specs.LawRows.{whole_row, broken_row}
-use Rattle.mpc_systems.specs.Writing.{widened}
-use Rattle.mpc_systems.specs.Systems.{cell_system}
 use Rattle.mpc_controller.specs.Parts.{IsSplitRow}
 use Rattle.mpc_controller.specs.Preorder.{IsTree, IsNoSide}
-use Rattle.mpc_check.specs.declared.ways.Turn.{Turn}
+use Rattle.mpc_paths.specs.declared.ways.Turn.{Turn}
+use Rattle.mpc_paths.specs.Paths.{PathTo}
 
 -- each split's row is on states of n entries
 abbrev pub HasSplitRow : ℕ → Node → Type 0
 HasSplitRow n (Split row) = IsSplitRow n row
 HasSplitRow n (Law law certs) = Unit {0}
 HasSplitRow n (NoMove cert) = Unit {0}
-
--- a leaf names one of so many laws, from 1
-abbrev pub NamesLaw : ℕ → Node → Type 0
-NamesLaw laws (Split row) = Unit {0}
-NamesLaw laws (Law law certs) = IsFromTo 1 laws law
-NamesLaw laws (NoMove cert) = Unit {0}
 
 -- there is a split at the place of the turn
 pub record IsTurn (nodes : List Node) (turn : Turn) : Type 0 where
@@ -47,10 +37,6 @@ turn_row nodes turn = side_row turn.yes (split_row (slice_index_or nodes turn.sp
 abbrev pub way_rows : List Node → List Turn → List Row
 way_rows nodes way = map (turn_row nodes) way
 
--- the system of a leaf, in so many more unknowns than there are coordinates: the box, the way's rows, and some more rows
-abbrev pub system_at : Qp → List Node → List Turn → ℕ → List Row → LinearSystem
-system_at qp nodes way more last = cell_system (length qp.counts + more) qp.counts (map (widened more) (way_rows nodes way)) last
-
 -- ---- ways
 abbrev pub turn_at : ℕ → Bool → Turn
 turn_at place side = record { split = place; yes = side }
@@ -66,3 +52,12 @@ pub record EndsTree (nodes : List Node) (way : List Turn) (end : ℕ) : Type 0 w
   pub place : ℕ
   pub leads : IsWay nodes place way
   pub tree : IsTree (slice_range nodes place end)
+
+-- ---- laws
+-- the rows of a way are those of the path to the same node
+abbrev pub PathOfWay : Type 0
+PathOfWay = (nodes : List Node) (place : ℕ) (way : List Turn) → IsWay nodes place way → PathTo nodes place (way_rows nodes way)
+
+-- and it turns at splits
+abbrev pub TurnsOfWay : Type 0
+TurnsOfWay = (nodes : List Node) (place : ℕ) (way : List Turn) → IsWay nodes place way → All (IsTurn nodes) way

@@ -1,7 +1,7 @@
 use Rattle.std.proofs.Common.{◌≡◌, ◌++◌, ◌∷◌, [], false, sym, subst, rules}
-use Rattle.mpc_recur.specs.Ways.{IsWay, turn_at}
-use Rattle.mpc_recur.proofs.WayLemmas.{to_no_side, ends_split, all_ended}
-use Rattle.mpc_recur.proofs.ways.turn_over.Goals as goal
+use Rattle.mpc_paths.specs.Ways.{IsWay, turn_at}
+use Rattle.mpc_paths.proofs.WayLemmas.{to_no_side, ends_split, all_ended}
+use Rattle.mpc_paths.proofs.ways.turn_over.Goals as goal
 
 pub loop-turn-preserved : goal.loop-turn-preserved
 loop-turn-preserved c =
