@@ -25,7 +25,7 @@ use Rattle.mpc_check.specs.Certs.{CertFits, CertRefutes}
 use Rattle.mpc_check.specs.Findings.{Finding, refused, too_wide, not_definite, IsUnmet}
 use Rattle.mpc_check.specs.LawConditions.{GradientFits, IsStationaryAt, ActiveFits, IsActiveAt, LawMet, LawFinds, LawsFind, LawsMet, LawIsStationary, LawIsActive}
 use Rattle.mpc_check.specs.LeafConditions.{RowFits, RowHolds, NodeMet, NodeFinds, TreeMet, TreeFinds}
-use Rattle.mpc_check.specs.Paths.{OnePath}
+use Rattle.mpc_paths.specs.Paths.{OnePath}
 use Rattle.mpc_check.specs.Acceptance.{IsConvex, BehindFinds, NoProgramFinding}
 use Rattle.mpc_answers.specs.Compiled.{IsCompiled, IsOfLawOrLeaf, IsOfWidth, LawFits, LawsFit, LeafFits, LeavesFit, OnlyWidthFound, NoRefusal, OnlyWidthErrs, FittingIsAccepted}
 use Rattle.mpc_answers.proofs.LeavesHold.{NodeHolds, nodes_hold}

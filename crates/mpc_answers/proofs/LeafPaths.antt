@@ -12,8 +12,8 @@ use Rattle.mpc_controller.specs.Preorder.{IsTree, IsNoSide}
 use Rattle.mpc_controller.specs.PreorderLaws.{JoinedSpell}
 use Rattle.mpc_controller.specs.Walk.{IsLeaf}
 use Rattle.mpc_tree.specs.Trees.{Cell, whole_box, yes_side, no_side, IsTreeWhere, leaf, split}
-use Rattle.mpc_check.specs.Paths.{PathTo, root}
-use Rattle.mpc_check.specs.Paths.{yes_side as to_yes, no_side as to_no}
+use Rattle.mpc_paths.specs.Paths.{PathTo, root}
+use Rattle.mpc_paths.specs.Paths.{yes_side as to_yes, no_side as to_no}
 
 abbrev no_node : Node
 no_node = NoMove []

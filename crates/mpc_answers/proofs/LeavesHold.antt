@@ -20,7 +20,7 @@ use Rattle.mpc_tree.specs.LeafCerts.{AreLawCerts, HasItsCerts}
 use Rattle.mpc_tree.specs.NodeRuns.{DividesAndFits, EndsAndFits}
 use Rattle.mpc_tree.specs.Certified.{IsCertified}
 use Rattle.mpc_check.specs.Certs.{CertRefutes}
-use Rattle.mpc_check.specs.Paths.{PathTo, OnePath}
+use Rattle.mpc_paths.specs.Paths.{PathTo, OnePath}
 use Rattle.mpc_check.specs.LeafConditions.{RowHolds}
 use Rattle.mpc_answers.proofs.WholeCerts.{cert_refutes}
 use Rattle.mpc_answers.proofs.LeafPaths.{leaf_at}

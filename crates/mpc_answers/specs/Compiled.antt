@@ -20,7 +20,7 @@ use Rattle.mpc_check.specs.declared.answers.Answer.TheVariants.{Accepted}
 use Rattle.mpc_check.specs.declared.answers.CheckError.{CheckError}
 use Rattle.mpc_check.specs.declared.answers.CheckError.TheVariants.{Wide, NotDefinite, NoMemory}
 use Rattle.mpc_check.specs.Findings.{Finding, refused, too_wide, not_definite}
-use Rattle.mpc_check.specs.Paths.{PathTo}
+use Rattle.mpc_paths.specs.Paths.{PathTo}
 use Rattle.mpc_systems.specs.Systems.{joint_system}
 use Rattle.mpc_check.specs.Certs.{CertFits}
 use Rattle.mpc_check.specs.LawConditions.{GradientFits, ActiveFits}

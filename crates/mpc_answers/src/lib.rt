@@ -6,12 +6,13 @@
 ghost use Rattle.mpc_answers.specs.Compiled.{OnlyWidthFound, NoRefusal, OnlyWidthErrs, FittingIsAccepted};
 ghost use Rattle.mpc_answers.specs.Replies.{RightReplies, PartsHaveShapes, TableIsSmall, TableOfFourIsSmall, PlantTableIsSmall, OneTable, GridIsInBox};
 
-use mpc_check::{law_conditions, one_finding, one_path};
+use mpc_check::{law_conditions, one_finding};
 use mpc_condense::{best_replies, one_program};
 use mpc_controller::preorder_laws;
 use mpc_cover::cover_laws;
 use mpc_definite::pivot_laws;
 use mpc_linear::primitive_laws;
+use mpc_paths::one_path;
 use mpc_rows::{law_laws, region_laws};
 use mpc_sets::{count_laws, order_laws};
 use mpc_tree::{multipliers_are_cert, one_tree};

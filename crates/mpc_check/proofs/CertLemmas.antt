@@ -19,12 +19,13 @@ use Rattle.mpc_rows.specs.Refutation.{Refutes, SumsFit}
 use Rattle.mpc_rows.specs.SetRuns.{box_rows}
 use Rattle.mpc_check.specs.declared.answers.CheckError.{CheckError}
 use Rattle.mpc_check.specs.declared.answers.CheckError.TheVariants.{Wide, NotDefinite, NoMemory}
-use Rattle.mpc_check.specs.declared.ways.Turn.{Turn}
+use Rattle.mpc_paths.specs.declared.ways.Turn.{Turn}
 use Rattle.mpc_check.specs.Certs.{IsPositionIn, HasPositionsIn, CertRefutes, CertFits}
 use Rattle.mpc_check.specs.Findings.{IsDecided}
 use Rattle.mpc_check.specs.Picks.{picked_rows, weights, picked_system}
 use Rattle.mpc_systems.specs.Writing.{widened}
-use Rattle.mpc_check.specs.Ways.{way_rows, system_at}
+use Rattle.mpc_paths.specs.Ways.{way_rows}
+use Rattle.mpc_check.specs.LeafSystems.{system_at}
 use Rattle.mpc_check.proofs.RowPlaces.{box_count}
 use Rattle.mpc_check.proofs.SplitRows.{way_count}
 use Rattle.mpc_check.proofs.Thinning.{picked_nonneg, picked_fits, picked_refutes}

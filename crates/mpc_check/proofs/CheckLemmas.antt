@@ -20,7 +20,8 @@ use Rattle.mpc_check.specs.LawConditions.{LawsMet}
 use Rattle.mpc_check.specs.LeafConditions.{TreeMet, TreeFinds}
 use Rattle.mpc_check.specs.Acceptance.{IsProgramOf, IsConvex, IsProgramCause, IsConvexCause, IsProgramRefusal, BehindMet, BehindFinds, Accepts, IsFound, IsCause}
 use Rattle.mpc_check.specs.Stretches.{HaveProgramShapes}
-use Rattle.mpc_check.specs.Ways.{HasSplitRow, NamesLaw}
+use Rattle.mpc_paths.specs.Ways.{HasSplitRow}
+use Rattle.mpc_check.specs.LeafSystems.{NamesLaw}
 use Rattle.mpc_check.proofs.Accepted.{law_shape}
 
 -- ---- the shapes of a controller's parts, for the program of its plant

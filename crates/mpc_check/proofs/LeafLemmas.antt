@@ -19,15 +19,16 @@ use Rattle.mpc_controller.specs.Replies.{IsLawNumbered}
 use Rattle.mpc_check.specs.declared.answers.Spot.{Spot}
 use Rattle.mpc_check.specs.declared.answers.CheckError.{CheckError}
 use Rattle.mpc_check.specs.declared.answers.CheckError.TheVariants.{Wide, NotDefinite, NoMemory}
-use Rattle.mpc_check.specs.declared.ways.Turn.{Turn}
+use Rattle.mpc_paths.specs.declared.ways.Turn.{Turn}
 use Rattle.mpc_check.specs.Certs.{CertFits, CertRefutes}
 use Rattle.mpc_check.specs.Findings.{Finding, refused, too_wide, not_definite, IsSearched, IsDecided}
 use Rattle.mpc_check.specs.LeafConditions.{RowFits, RowHolds, LawLeafMet, LawLeafFinds, NodeMet, NodeFinds, NodeAtMet, NodeAtFinds}
 use Rattle.mpc_systems.specs.Writing.{widened}
 use Rattle.mpc_systems.specs.Systems.{cell_system, hold_system, joint_system}
-use Rattle.mpc_check.specs.Ways.{way_rows, system_at, IsWay}
-use Rattle.mpc_check.proofs.PathLemmas.{one_path}
-use Rattle.mpc_check.proofs.WayLemmas.{path_of_way}
+use Rattle.mpc_paths.specs.Ways.{way_rows, IsWay}
+use Rattle.mpc_check.specs.LeafSystems.{system_at}
+use Rattle.mpc_paths.specs.Paths.{OnePath}
+use Rattle.mpc_paths.specs.Ways.{PathOfWay}
 
 -- ---- systems
 pub widened-none : (rows : List Row) → map (widened 0) rows ≡ rows
@@ -80,7 +81,7 @@ law_leaf qp laws path number law_number certs law is (Err (Wide place)) s = reco
 law_leaf qp laws path number law_number certs law is (Err (NotDefinite j)) s = record { law = law; is = is; finds = s }
 law_leaf qp laws path number law_number certs law is (Err NoMemory) s = tt
 
-module _ (qp : Qp) (laws : List LawOfSet) (nodes : List Node) (place : ℕ) (way : List Turn) (leads : IsWay nodes place way) (node : Node) (is : slice_get nodes place ≡ Some node) where
+module _ (one_path : OnePath) (path_of_way : PathOfWay) (qp : Qp) (laws : List LawOfSet) (nodes : List Node) (place : ℕ) (way : List Turn) (leads : IsWay nodes place way) (node : Node) (is : slice_get nodes place ≡ Some node) where
   abbrev path : List Row
   path = way_rows nodes way
 

@@ -5,8 +5,6 @@ pub mod LawEquations
 pub mod RowWidths
 pub mod Accepted
 pub mod Thinning
-pub mod PathLemmas
-pub mod WayLemmas
 pub mod Wholes
 pub mod RowPlaces
 pub mod SplitRows

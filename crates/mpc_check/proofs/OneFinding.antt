@@ -23,7 +23,7 @@ use Rattle.mpc_check.specs.LawConditions.{GradientFits, IsStationaryAt, Stationa
 use Rattle.mpc_check.specs.LeafConditions.{RowFits, RowHolds, LeafRowMet, LeafRowFinds, LawLeafMet, LawLeafFinds, NodeMet, NodeFinds, NodeAtMet, NodeAtFinds, TreeMet, TreeFinds}
 use Rattle.mpc_check.specs.Acceptance.{IsProgramOf, IsConvex, IsWidePivot, IsBadPivot, ProgramFinds, BehindMet, BehindFinds, NothingFound, OneFinding, NoProgramFinding}
 use Rattle.mpc_check.proofs.FindingLemmas.{IsSingle, single_condition, single_list, single_pair}
-use Rattle.mpc_check.proofs.PathLemmas.{one_path}
+use Rattle.mpc_paths.specs.Paths.{OnePath}
 use Rattle.mpc_check.proofs.PivotPlaces.{passes_not_positive, passes_wide, one_not_positive, one_pivot_wide, not_both}
 
 -- ---- laws
@@ -43,122 +43,123 @@ module _ (qp : Qp) (number : ℕ) (law : LawOfSet) where
   single_law : IsSingle (LawMet qp law) (LawFinds qp number law)
   single_law = single_pair (LinesMet qp law) (MembersMet qp law) (LinesFind qp number law) (MembersFind qp number law) single_lines single_members (LawMet qp law) (λ m. m.stationary) (λ m. m.active)
 
-module _ (qp : Qp) (laws : List LawOfSet) where
-  same_law : (place : ℕ) (law other : LawOfSet) → slice_get laws place ≡ Some law → slice_get laws place ≡ Some other → law ≡ other
-  same_law place law other a b = cc
+module _ (one_path : OnePath) where
+  module _ (qp : Qp) (laws : List LawOfSet) where
+    same_law : (place : ℕ) (law other : LawOfSet) → slice_get laws place ≡ Some law → slice_get laws place ≡ Some other → law ≡ other
+    same_law place law other a b = cc
 
-  one_law_at : (place : ℕ) (f g : Finding) → LawAtFinds qp laws place f → LawAtFinds qp laws place g → f ≡ g
-  one_law_at place f g a b =
-      (single_law qp (place + 1) b.law).one f g (subst (λ law. LawFinds qp (place + 1) law f) (same_law place a.law b.law a.is b.is) a.finds) b.finds
+    one_law_at : (place : ℕ) (f g : Finding) → LawAtFinds qp laws place f → LawAtFinds qp laws place g → f ≡ g
+    one_law_at place f g a b =
+        (single_law qp (place + 1) b.law).one f g (subst (λ law. LawFinds qp (place + 1) law f) (same_law place a.law b.law a.is b.is) a.finds) b.finds
 
-  single_law_at : (place : ℕ) → IsSingle (LawAtMet qp laws place) (LawAtFinds qp laws place)
-  single_law_at place = record { not_met = λ f a m. (single_law qp (place + 1) a.law).not_met f a.finds (m a.law a.is); one = one_law_at place }
+    single_law_at : (place : ℕ) → IsSingle (LawAtMet qp laws place) (LawAtFinds qp laws place)
+    single_law_at place = record { not_met = λ f a m. (single_law qp (place + 1) a.law).not_met f a.finds (m a.law a.is); one = one_law_at place }
 
-  pub single_laws : IsSingle (LawsMet qp laws) (LawsFind qp laws)
-  single_laws = single_list (LawAtMet qp laws) (LawAtFinds qp laws) (length laws) single_law_at
+    pub single_laws : IsSingle (LawsMet qp laws) (LawsFind qp laws)
+    single_laws = single_list (LawAtMet qp laws) (LawAtFinds qp laws) (length laws) single_law_at
 
-  -- ---- leaves
-  module _ (path : List Row) (number : ℕ) where
-    single_law_leaf : (law : LawOfSet) (certs : List (List (ℕ × ℚ))) → IsSingle (LawLeafMet qp path law certs) (LawLeafFinds qp path number law certs)
-    single_law_leaf law certs =
-        single_list (LeafRowMet qp path law certs) (LeafRowFinds qp path number law certs) (height qp.g)
-        (λ i. single_condition (RowFits qp path law certs i) (RowHolds qp path law certs i) (LeafRow number (i + 1)) (CheckLeaf number (i + 1)))
+    -- ---- leaves
+    module _ (path : List Row) (number : ℕ) where
+      single_law_leaf : (law : LawOfSet) (certs : List (List (ℕ × ℚ))) → IsSingle (LawLeafMet qp path law certs) (LawLeafFinds qp path number law certs)
+      single_law_leaf law certs =
+          single_list (LeafRowMet qp path law certs) (LeafRowFinds qp path number law certs) (height qp.g)
+          (λ i. single_condition (RowFits qp path law certs i) (RowHolds qp path law certs i) (LeafRow number (i + 1)) (CheckLeaf number (i + 1)))
 
-    node_met : (node : Node) (f : Finding) → NodeFinds qp laws path number node f → NodeMet qp laws path node → ⊥
-    node_met (Split row) f a m = a
-    node_met (Law law_number certs) f a m = (single_law_leaf a.law certs).not_met f a.finds (m a.law a.is)
-    node_met (NoMove cert) f a m = (single_condition (CertFits (joint_system qp path) cert) (CertRefutes (joint_system qp path) cert) (Leaf number) (CheckLeaf number 0)).not_met f a m
+      node_met : (node : Node) (f : Finding) → NodeFinds qp laws path number node f → NodeMet qp laws path node → ⊥
+      node_met (Split row) f a m = a
+      node_met (Law law_number certs) f a m = (single_law_leaf a.law certs).not_met f a.finds (m a.law a.is)
+      node_met (NoMove cert) f a m = (single_condition (CertFits (joint_system qp path) cert) (CertRefutes (joint_system qp path) cert) (Leaf number) (CheckLeaf number 0)).not_met f a m
 
-    one_node : (node : Node) (f g : Finding) → NodeFinds qp laws path number node f → NodeFinds qp laws path number node g → f ≡ g
-    one_node (Split row) f g a b = absurd a
-    one_node (Law law_number certs) f g a b =
-        (single_law_leaf b.law certs).one f g (subst (λ law. LawLeafFinds qp path number law certs f) (same_law (law_number - 1) a.law b.law a.is b.is) a.finds) b.finds
-    one_node (NoMove cert) f g a b = (single_condition (CertFits (joint_system qp path) cert) (CertRefutes (joint_system qp path) cert) (Leaf number) (CheckLeaf number 0)).one f g a b
+      one_node : (node : Node) (f g : Finding) → NodeFinds qp laws path number node f → NodeFinds qp laws path number node g → f ≡ g
+      one_node (Split row) f g a b = absurd a
+      one_node (Law law_number certs) f g a b =
+          (single_law_leaf b.law certs).one f g (subst (λ law. LawLeafFinds qp path number law certs f) (same_law (law_number - 1) a.law b.law a.is b.is) a.finds) b.finds
+      one_node (NoMove cert) f g a b = (single_condition (CertFits (joint_system qp path) cert) (CertRefutes (joint_system qp path) cert) (Leaf number) (CheckLeaf number 0)).one f g a b
 
-  module _ (nodes : List Node) where
-    same_node : (place : ℕ) (node other : Node) → slice_get nodes place ≡ Some node → slice_get nodes place ≡ Some other → node ≡ other
-    same_node place node other a b = cc
+    module _ (nodes : List Node) where
+      same_node : (place : ℕ) (node other : Node) → slice_get nodes place ≡ Some node → slice_get nodes place ≡ Some other → node ≡ other
+      same_node place node other a b = cc
 
-    one_node_at : (place : ℕ) (f g : Finding) → NodeAtFinds qp laws nodes place f → NodeAtFinds qp laws nodes place g → f ≡ g
-    one_node_at place f g a b =
-        one_node b.path (place + 1) b.node f g
-        (subst (λ path. NodeFinds qp laws path (place + 1) b.node f) (one_path nodes place a.path a.leads b.path b.leads)
-        (subst (λ node. NodeFinds qp laws a.path (place + 1) node f) (same_node place a.node b.node a.is b.is) a.finds)) b.finds
+      one_node_at : (place : ℕ) (f g : Finding) → NodeAtFinds qp laws nodes place f → NodeAtFinds qp laws nodes place g → f ≡ g
+      one_node_at place f g a b =
+          one_node b.path (place + 1) b.node f g
+          (subst (λ path. NodeFinds qp laws path (place + 1) b.node f) (one_path nodes place a.path a.leads b.path b.leads)
+          (subst (λ node. NodeFinds qp laws a.path (place + 1) node f) (same_node place a.node b.node a.is b.is) a.finds)) b.finds
 
-    single_node_at : (place : ℕ) → IsSingle (NodeAtMet qp laws nodes place) (NodeAtFinds qp laws nodes place)
-    single_node_at place = record { not_met = λ f a m. node_met a.path (place + 1) a.node f a.finds (m a.path a.node a.leads a.is); one = one_node_at place }
+      single_node_at : (place : ℕ) → IsSingle (NodeAtMet qp laws nodes place) (NodeAtFinds qp laws nodes place)
+      single_node_at place = record { not_met = λ f a m. node_met a.path (place + 1) a.node f a.finds (m a.path a.node a.leads a.is); one = one_node_at place }
 
-    pub single_tree : IsSingle (TreeMet qp laws nodes) (TreeFinds qp laws nodes)
-    single_tree = single_list (NodeAtMet qp laws nodes) (NodeAtFinds qp laws nodes) (length nodes) single_node_at
+      pub single_tree : IsSingle (TreeMet qp laws nodes) (TreeFinds qp laws nodes)
+      single_tree = single_list (NodeAtMet qp laws nodes) (NodeAtFinds qp laws nodes) (length nodes) single_node_at
 
--- ---- behind the program
-single_behind : (qp : Qp) (parts : Parts) → IsSingle (BehindMet qp parts) (BehindFinds qp parts)
-single_behind qp parts =
-    single_pair (LawsMet qp parts.laws) (TreeMet qp parts.laws parts.tree) (LawsFind qp parts.laws) (TreeFinds qp parts.laws parts.tree)
-    (single_laws qp parts.laws) (single_tree qp parts.laws parts.tree) (BehindMet qp parts) (λ m. m.laws) (λ m. m.leaves)
+  -- ---- behind the program
+  single_behind : (qp : Qp) (parts : Parts) → IsSingle (BehindMet qp parts) (BehindFinds qp parts)
+  single_behind qp parts =
+      single_pair (LawsMet qp parts.laws) (TreeMet qp parts.laws parts.tree) (LawsFind qp parts.laws) (TreeFinds qp parts.laws parts.tree)
+      (single_laws qp parts.laws) (single_tree qp parts.laws parts.tree) (BehindMet qp parts) (λ m. m.laws) (λ m. m.leaves)
 
--- ---- the program
-module _ (one_program : OneProgram) (not_wide : NoWidePlace) (one_wide_place : OneWidePlace) (plant : Plant) where
-  same_qp : (one two : Qp) → IsProgramOf one plant → IsProgramOf two plant → one ≡ two
-  same_qp one two a b = one_program plant one two a.condensed b.condensed
+  -- ---- the program
+  module _ (one_program : OneProgram) (not_wide : NoWidePlace) (one_wide_place : OneWidePlace) (plant : Plant) where
+    same_qp : (one two : Qp) → IsProgramOf one plant → IsProgramOf two plant → one ≡ two
+    same_qp one two a b = one_program plant one two a.condensed b.condensed
 
-  program_met : (f : Finding) → ProgramFinds plant f → (qp : Qp) → IsProgramOf qp plant → IsConvex qp → ⊥
-  program_met (refused spot) a qp p c = a
-  program_met (too_wide place) (inl w) qp p c = not_wide plant place p.fits w
-  program_met (too_wide place) (inr w) qp p c = passes_wide (entry w.qp.h) (height w.qp.h) (subst IsConvex (same_qp qp w.qp p w.program) c).passes w.wide.step w.wide.first
-  program_met (not_definite step) a qp p c = passes_not_positive (entry a.qp.h) (height a.qp.h) (subst IsConvex (same_qp qp a.qp p a.program) c).passes step a.bad.first
+    program_met : (f : Finding) → ProgramFinds plant f → (qp : Qp) → IsProgramOf qp plant → IsConvex qp → ⊥
+    program_met (refused spot) a qp p c = a
+    program_met (too_wide place) (inl w) qp p c = not_wide plant place p.fits w
+    program_met (too_wide place) (inr w) qp p c = passes_wide (entry w.qp.h) (height w.qp.h) (subst IsConvex (same_qp qp w.qp p w.program) c).passes w.wide.step w.wide.first
+    program_met (not_definite step) a qp p c = passes_not_positive (entry a.qp.h) (height a.qp.h) (subst IsConvex (same_qp qp a.qp p a.program) c).passes step a.bad.first
 
-  -- the steps of one program
-  wide_steps : (p q : Place) → IsWidePivot plant p → IsWidePivot plant q → p ≡ q
-  wide_steps p q a b =
-      let same : a.qp ≡ b.qp = same_qp a.qp b.qp a.program b.program in
-      let step : a.wide.step ≡ b.wide.step = one_pivot_wide (entry b.qp.h) (height b.qp.h) a.wide.step b.wide.step (subst (λ (qp : Qp). IsFirstWide (entry qp.h) (height qp.h) a.wide.step) same a.wide.first) b.wide.first in
-      a.wide.place_is ∙ ap Pivot step ∙ sym b.wide.place_is
+    -- the steps of one program
+    wide_steps : (p q : Place) → IsWidePivot plant p → IsWidePivot plant q → p ≡ q
+    wide_steps p q a b =
+        let same : a.qp ≡ b.qp = same_qp a.qp b.qp a.program b.program in
+        let step : a.wide.step ≡ b.wide.step = one_pivot_wide (entry b.qp.h) (height b.qp.h) a.wide.step b.wide.step (subst (λ (qp : Qp). IsFirstWide (entry qp.h) (height qp.h) a.wide.step) same a.wide.first) b.wide.first in
+        a.wide.place_is ∙ ap Pivot step ∙ sym b.wide.place_is
 
-  bad_steps : (j k : ℕ) → IsBadPivot plant j → IsBadPivot plant k → j ≡ k
-  bad_steps j k a b =
-      let same : a.qp ≡ b.qp = same_qp a.qp b.qp a.program b.program in
-      one_not_positive (entry b.qp.h) (height b.qp.h) j k (subst (λ (qp : Qp). IsFirstNotPositive (entry qp.h) (height qp.h) j) same a.bad.first) b.bad.first
+    bad_steps : (j k : ℕ) → IsBadPivot plant j → IsBadPivot plant k → j ≡ k
+    bad_steps j k a b =
+        let same : a.qp ≡ b.qp = same_qp a.qp b.qp a.program b.program in
+        one_not_positive (entry b.qp.h) (height b.qp.h) j k (subst (λ (qp : Qp). IsFirstNotPositive (entry qp.h) (height qp.h) j) same a.bad.first) b.bad.first
 
-  bad_and_wide : (j : ℕ) (p : Place) → IsBadPivot plant j → IsWidePivot plant p → ⊥
-  bad_and_wide j p a b =
-      let same : a.qp ≡ b.qp = same_qp a.qp b.qp a.program b.program in
-      not_both (entry b.qp.h) (height b.qp.h) j b.wide.step (subst (λ (qp : Qp). IsFirstNotPositive (entry qp.h) (height qp.h) j) same a.bad.first) b.wide.first
+    bad_and_wide : (j : ℕ) (p : Place) → IsBadPivot plant j → IsWidePivot plant p → ⊥
+    bad_and_wide j p a b =
+        let same : a.qp ≡ b.qp = same_qp a.qp b.qp a.program b.program in
+        not_both (entry b.qp.h) (height b.qp.h) j b.wide.step (subst (λ (qp : Qp). IsFirstNotPositive (entry qp.h) (height qp.h) j) same a.bad.first) b.wide.first
 
-  one_program_finding : (f g : Finding) → ProgramFinds plant f → ProgramFinds plant g → f ≡ g
-  one_program_finding (refused spot) g a b = absurd a
-  one_program_finding (too_wide p) (refused spot) a b = absurd b
-  one_program_finding (too_wide p) (too_wide q) (inl a) (inl b) = ap too_wide (one_wide_place plant p q a b)
-  one_program_finding (too_wide p) (too_wide q) (inl a) (inr b) = absurd (not_wide plant p b.program.fits a)
-  one_program_finding (too_wide p) (too_wide q) (inr a) (inl b) = absurd (not_wide plant q a.program.fits b)
-  one_program_finding (too_wide p) (too_wide q) (inr a) (inr b) = ap too_wide (wide_steps p q a b)
-  one_program_finding (too_wide p) (not_definite k) (inl a) b = absurd (not_wide plant p b.program.fits a)
-  one_program_finding (too_wide p) (not_definite k) (inr a) b = absurd (bad_and_wide k p b a)
-  one_program_finding (not_definite j) (refused spot) a b = absurd b
-  one_program_finding (not_definite j) (too_wide q) a (inl b) = absurd (not_wide plant q a.program.fits b)
-  one_program_finding (not_definite j) (too_wide q) a (inr b) = absurd (bad_and_wide j q a b)
-  one_program_finding (not_definite j) (not_definite k) a b = ap not_definite (bad_steps j k a b)
+    one_program_finding : (f g : Finding) → ProgramFinds plant f → ProgramFinds plant g → f ≡ g
+    one_program_finding (refused spot) g a b = absurd a
+    one_program_finding (too_wide p) (refused spot) a b = absurd b
+    one_program_finding (too_wide p) (too_wide q) (inl a) (inl b) = ap too_wide (one_wide_place plant p q a b)
+    one_program_finding (too_wide p) (too_wide q) (inl a) (inr b) = absurd (not_wide plant p b.program.fits a)
+    one_program_finding (too_wide p) (too_wide q) (inr a) (inl b) = absurd (not_wide plant q a.program.fits b)
+    one_program_finding (too_wide p) (too_wide q) (inr a) (inr b) = ap too_wide (wide_steps p q a b)
+    one_program_finding (too_wide p) (not_definite k) (inl a) b = absurd (not_wide plant p b.program.fits a)
+    one_program_finding (too_wide p) (not_definite k) (inr a) b = absurd (bad_and_wide k p b a)
+    one_program_finding (not_definite j) (refused spot) a b = absurd b
+    one_program_finding (not_definite j) (too_wide q) a (inl b) = absurd (not_wide plant q a.program.fits b)
+    one_program_finding (not_definite j) (too_wide q) a (inr b) = absurd (bad_and_wide j q a b)
+    one_program_finding (not_definite j) (not_definite k) a b = ap not_definite (bad_steps j k a b)
 
--- ---- the controller
-behind_there : (parts : Parts) (f : Finding) (one two : Qp) → one ≡ two → BehindFinds one parts f → BehindFinds two parts f
-behind_there parts f one two e b = subst (λ qp. BehindFinds qp parts f) e b
+  -- ---- the controller
+  behind_there : (parts : Parts) (f : Finding) (one two : Qp) → one ≡ two → BehindFinds one parts f → BehindFinds two parts f
+  behind_there parts f one two e b = subst (λ qp. BehindFinds qp parts f) e b
 
-module _ (one_program : OneProgram) (not_wide : NoWidePlace) (one_wide_place : OneWidePlace) where
-  same : (plant : Plant) (one two : Qp) → IsProgramOf one plant → IsProgramOf two plant → one ≡ two
-  same = same_qp one_program not_wide one_wide_place
+  module _ (one_program : OneProgram) (not_wide : NoWidePlace) (one_wide_place : OneWidePlace) where
+    same : (plant : Plant) (one two : Qp) → IsProgramOf one plant → IsProgramOf two plant → one ≡ two
+    same = same_qp one_program not_wide one_wide_place
 
-  met : (plant : Plant) (f : Finding) → ProgramFinds plant f → (qp : Qp) → IsProgramOf qp plant → IsConvex qp → ⊥
-  met = program_met one_program not_wide one_wide_place
+    met : (plant : Plant) (f : Finding) → ProgramFinds plant f → (qp : Qp) → IsProgramOf qp plant → IsConvex qp → ⊥
+    met = program_met one_program not_wide one_wide_place
 
-  pub no_program_finding : NoProgramFinding
-  no_program_finding plant qp f p c a = met plant f a qp p c
+    pub no_program_finding : NoProgramFinding
+    no_program_finding plant qp f p c a = met plant f a qp p c
 
-  pub nothing_found : NothingFound
-  nothing_found parts f a (inl p) = met parts.plant f p a.qp a.program a.convex
-  nothing_found parts f a (inr b) = (single_behind a.qp parts).not_met f (behind_there parts f b.qp a.qp (same parts.plant b.qp a.qp b.program a.program) b.first) a.behind
+    pub nothing_found : NothingFound
+    nothing_found parts f a (inl p) = met parts.plant f p a.qp a.program a.convex
+    nothing_found parts f a (inr b) = (single_behind a.qp parts).not_met f (behind_there parts f b.qp a.qp (same parts.plant b.qp a.qp b.program a.program) b.first) a.behind
 
-  pub one_finding : OneFinding
-  one_finding parts f g (inl a) (inl b) = one_program_finding one_program not_wide one_wide_place parts.plant f g a b
-  one_finding parts f g (inl a) (inr b) = absurd (met parts.plant f a b.qp b.program b.convex)
-  one_finding parts f g (inr a) (inl b) = absurd (met parts.plant g b a.qp a.program a.convex)
-  one_finding parts f g (inr a) (inr b) = (single_behind b.qp parts).one f g (behind_there parts f a.qp b.qp (same parts.plant a.qp b.qp a.program b.program) a.first) b.first
+    pub one_finding : OneFinding
+    one_finding parts f g (inl a) (inl b) = one_program_finding one_program not_wide one_wide_place parts.plant f g a b
+    one_finding parts f g (inl a) (inr b) = absurd (met parts.plant f a b.qp b.program b.convex)
+    one_finding parts f g (inr a) (inl b) = absurd (met parts.plant g b a.qp a.program a.convex)
+    one_finding parts f g (inr a) (inr b) = (single_behind b.qp parts).one f g (behind_there parts f a.qp b.qp (same parts.plant a.qp b.qp a.program b.program) a.first) b.first

@@ -1,11 +1,10 @@
 pub mod Widths
-pub mod Paths
 pub mod Certs
 pub mod Picks
 pub mod Borders
 pub mod Columns
 pub mod Findings
-pub mod Ways
+pub mod LeafSystems
 pub mod LawConditions
 pub mod LeafConditions
 pub mod Stretches

@@ -10,7 +10,8 @@ use Rattle.mpc_check.specs.declared.answers.CheckError.{CheckError}
 use Rattle.mpc_check.specs.declared.stretches.Stretch.{Stretch}
 use Rattle.mpc_check.specs.Findings.{IsSearched}
 use Rattle.mpc_check.specs.LeafConditions.{StretchMet, StretchFinds}
-use Rattle.mpc_check.specs.Ways.{HasSplitRow, NamesLaw}
+use Rattle.mpc_paths.specs.Ways.{HasSplitRow}
+use Rattle.mpc_check.specs.LeafSystems.{NamesLaw}
 
 -- laws with the shapes of the program, and a tree over them whose splits are on its states
 pub record HaveProgramShapes (qp : Qp) (laws : List Law) (nodes : List Node) : Type 0 where

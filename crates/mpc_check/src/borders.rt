@@ -4,7 +4,7 @@ ghost use Rattle.std.specs.Prelude.{◌≡◌, ◌<◌, All, IfOk, length, vec_l
 ghost use Rattle.mpc_space.specs.Matrix.{height};
 ghost use Rattle.mpc_rows.specs.Laws.{HasLawShape};
 ghost use Rattle.mpc_check.specs.Borders.{IsFormed, AreFormed, AreBorders};
-ghost use Rattle.mpc_check.specs.Ways.{NamesLaw};
+ghost use Rattle.mpc_check.specs.LeafSystems.{NamesLaw};
 
 use mpc_frac::NoMemory;
 use mpc_linear::{LinearError, RowInt};

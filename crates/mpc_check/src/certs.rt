@@ -10,15 +10,16 @@ ghost use Rattle.mpc_check.specs.Findings.{IsDecided};
 ghost use Rattle.mpc_check.specs.Picks.{picked_system, weights};
 ghost use Rattle.mpc_systems.specs.Systems.{hold_system};
 ghost use Rattle.mpc_systems.specs.Writing.{IsOfSize};
-ghost use Rattle.mpc_check.specs.Ways.{HasSplitRow, IsTurn, system_at, way_rows};
+ghost use Rattle.mpc_paths.specs.Ways.{HasSplitRow, IsTurn, way_rows};
+ghost use Rattle.mpc_check.specs.LeafSystems.{system_at};
 ghost use Rattle.mpc_check.specs.Widths.{IsOfWidth};
 
 use crate::answers::CheckError;
 use crate::rows::system_row;
-use crate::ways::Turn;
 use crate::whole_sums::is_refuted_in_wholes;
 use mpc_frac::{NoMemory, fit_laws};
 use mpc_linear::{RowInt, zero_laws};
+use mpc_paths::Turn;
 use mpc_rows::{Cert, Multipliers, Place, Qp, Row, Rows, System, Tree, refutes};
 use mpc_systems::broken_row;
 use std::alloc::Global;

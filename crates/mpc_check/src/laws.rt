@@ -3,9 +3,9 @@
 ghost use Rattle.mpc_check.specs.Acceptance.{AcceptedIsRight, NothingFound, NoProgramFinding, OneFinding};
 ghost use Rattle.mpc_check.specs.LawConditions.{LawIsStationary, LawIsActive, MeetingIsLaw};
 ghost use Rattle.mpc_check.specs.LeafConditions.{StretchesAreMet, StretchesFind};
-ghost use Rattle.mpc_check.specs.Paths.{OnePath};
 
 use mpc_condense::{best_replies, one_program, place_laws};
+use mpc_paths::one_path;
 use mpc_rows::{law_laws, region_laws, system_laws};
 use mpc_systems::cell_laws;
 
@@ -30,6 +30,7 @@ pub fn one_finding()
     ensures program { NoProgramFinding }
     ensures one { OneFinding }
 {
+    one_path();
     one_program();
     place_laws();
 }
@@ -43,11 +44,6 @@ pub fn law_conditions()
 {
     law_laws();
 }
-
-/// A node of a search tree has one path. The call does nothing: its contract is the law.
-pub fn one_path()
-    ensures { OnePath }
-{}
 
 /// Two neighbouring stretches of a search tree are one: what is found of it is what is found of the first stretch, or else of the second. The
 /// call does nothing: its clauses are the law.

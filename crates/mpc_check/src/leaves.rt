@@ -12,12 +12,13 @@ ghost use Rattle.mpc_check.specs.Certs.{CertFits, CertRefutes};
 ghost use Rattle.mpc_check.specs.declared.borders.Formed.{Formed};
 ghost use Rattle.mpc_check.specs.Findings.{IsSearched, IsDecided};
 ghost use Rattle.mpc_check.specs.LeafConditions.{RowFits, RowHolds, LawLeafMet, LawLeafFinds, EmptyLeafMet, EmptyLeafFinds, NodeMet, NodeFinds};
-ghost use Rattle.mpc_check.specs.Ways.{HasSplitRow, NamesLaw, IsTurn, way_rows};
+ghost use Rattle.mpc_paths.specs.Ways.{HasSplitRow, IsTurn, way_rows};
+ghost use Rattle.mpc_check.specs.LeafSystems.{NamesLaw};
 
 use crate::answers::{CheckError, Spot};
 use crate::borders::{Formed, form_rows};
 use crate::certs::{is_broken_refuted, is_refuted};
-use crate::ways::Turn;
+use mpc_paths::Turn;
 use mpc_rows::{Cert, Certs, LawTable, Node, Place, Qp, Tree, law_laws};
 use mpc_systems::{cell_laws, joint_rows};
 use std::alloc::Global;

@@ -11,9 +11,8 @@ mod laws;
 mod leaves;
 mod rows;
 mod stretches;
-mod ways;
 mod whole_sums;
 
 pub use answers::{Answer, CheckError, Spot};
 pub use checks::{check, check_alone};
-pub use laws::{accepted_replies, law_conditions, one_finding, one_path, stretch_laws};
+pub use laws::{accepted_replies, law_conditions, one_finding, stretch_laws};

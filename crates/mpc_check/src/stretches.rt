@@ -5,13 +5,13 @@ ghost use Rattle.mpc_check.specs.Borders.{AreBorders};
 ghost use Rattle.mpc_check.specs.Findings.{IsSearched};
 ghost use Rattle.mpc_check.specs.LeafConditions.{NodeAtMet, NodeAtFinds, StretchMet, StretchFinds, TreeMet, TreeFinds};
 ghost use Rattle.mpc_check.specs.Stretches.{HaveProgramShapes, IsStretchOf, AreNeighbours, AnswersAsOne};
-ghost use Rattle.mpc_check.specs.Ways.{IsWay};
+ghost use Rattle.mpc_paths.specs.Ways.{IsWay};
 
 use crate::answers::{CheckError, Spot};
 use crate::borders::{Formed, form_borders};
 use crate::leaves::search_node;
-use crate::ways::{Turn, go_on, way_to};
 use mpc_frac::NoMemory;
+use mpc_paths::{Turn, go_on, one_path, way_laws, way_to};
 use mpc_rows::{LawTable, Qp, Tree};
 use std::alloc::Global;
 use std::thread;
@@ -46,6 +46,8 @@ fn search_place(
     requires inside { place < length tree.now }
     ensures { IsSearched (NodeAtMet qp.now laws.now tree.now place) (NodeAtFinds qp.now laws.now tree.now place) result }
 {
+    one_path();
+    way_laws();
     prove!(place < tree.len());
     let number = place as u64 + 1;
     search_node(alloc, qp, laws, borders, tree, way, tree.at(place), number)

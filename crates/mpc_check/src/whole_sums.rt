@@ -17,11 +17,11 @@ ghost use Rattle.mpc_systems.specs.Writing.{IsOfSize};
 ghost use Rattle.mpc_check.specs.Certs.{HasPositionsIn};
 ghost use Rattle.mpc_check.specs.Columns.{number_in, IsColumnOf, picked_column, HasDenomIn};
 ghost use Rattle.mpc_check.specs.Picks.{picked_rows, picked_system, weights};
-ghost use Rattle.mpc_check.specs.Ways.{HasSplitRow, IsTurn, side_row, turn_row, way_rows};
+ghost use Rattle.mpc_paths.specs.Ways.{HasSplitRow, IsTurn, side_row, turn_row, way_rows};
 
-use crate::ways::Turn;
 use mpc_frac::{Frac, greatest_common_divisor};
 use mpc_linear::{RowInt, sum_laws};
+use mpc_paths::Turn;
 use mpc_rows::{Cert, Counts, Node, Qp, Tree};
 
 /// The greatest size of the numbers that are multiplied, 2^62.

@@ -19,15 +19,16 @@ use Rattle.mpc_controller.specs.Replies.{IsLawNumbered}
 use Rattle.mpc_recur.specs.declared.answers.Stop.{Stop}
 use Rattle.mpc_recur.specs.declared.answers.Stop.TheVariants.{Reached, Wide, NoMemory}
 use Rattle.mpc_recur.specs.declared.answers.Target.TheVariants.{Low, High, NoMove}
-use Rattle.mpc_recur.specs.Paths.{PathTo}
-use Rattle.mpc_recur.specs.Ways.{way_rows, EmptiesBefore}
+use Rattle.mpc_paths.specs.Paths.{PathTo}
+use Rattle.mpc_paths.specs.Ways.{way_rows}
+use Rattle.mpc_recur.specs.Empties.{EmptiesBefore}
 use Rattle.mpc_recur.specs.Forms.{next_form, next_forms, low_row, high_row, substituted, FormsFit, HighFits, SubstitutedFits}
 use Rattle.mpc_recur.specs.Findings.{Finding, too_wide, IsRuledOut, TargetFinds, IsStop, Each, IsFirstOfTwo}
 use Rattle.mpc_recur.specs.Targets.{IsBaseOf, with_rows, leaf_system, low_system, high_system, met_system, count_at, target_of, LowMet, LowFinds, HighFinds, SideMet, SideFinds, LeafMet, LeafFinds, RowsFit, EmptyMet, EmptyFinds, FormsFind, SidesMet, SidesFind, EmptiesMet, EmptiesFind, TargetsMet, TargetsFind, NodeMet, NodeFinds, NodeAtMet, NodeAtFinds}
 use Rattle.mpc_rows.specs.SetRuns.{box_rows}
-use Rattle.mpc_recur.specs.declared.ways.Turn.{Turn}
+use Rattle.mpc_paths.specs.declared.ways.Turn.{Turn}
 use Rattle.mpc_recur.proofs.FormLemmas.{form_size, forms_size}
-use Rattle.mpc_recur.proofs.PathLemmas.{one_path}
+use Rattle.mpc_paths.specs.Paths.{OnePath}
 use Rattle.mpc_recur.proofs.TargetLemmas.{on_base, earlier_stop, later_stop}
 
 abbrev Done : Type 0
@@ -59,7 +60,7 @@ module _ (plant : Plant) (law : LawOfSet) (path : List Row) (leaf : ℕ) (s : Li
           (λ e stop. later_stop (LowMet plant law path i) (LowFinds plant law path leaf i) (HighFinds plant law path leaf i) e low (high_there (λ f x. IsStop (TargetFinds f x (target_of leaf (High (i + 1)))) e) stop))
 
   -- ---- a leaf without a law
-  module _ (nodes : List Node) (k : ℕ) (other : List Row) (cert : List (ℕ × ℚ)) (leads : PathTo nodes k other) (is : slice_get nodes k ≡ Some (NoMoveLeaf cert)) (n : ℕ) (forms : List (List ℚ)) (en : n ≡ plant.n) (ef : forms ≡ next_forms plant law) where
+  module _ (one_path : OnePath) (nodes : List Node) (k : ℕ) (other : List Row) (cert : List (ℕ × ℚ)) (leads : PathTo nodes k other) (is : slice_get nodes k ≡ Some (NoMoveLeaf cert)) (n : ℕ) (forms : List (List ℚ)) (en : n ≡ plant.n) (ef : forms ≡ next_forms plant law) where
     met_there : (P : Type 0 → LinearSystem → Type 0) → P (All (SubstitutedFits n forms) other) (with_rows s (map (substituted n forms) other)) → P (RowsFit plant law other) (met_system plant law path other)
     met_there P h =
         let on : P (All (SubstitutedFits n forms) other) (leaf_system plant path (map (substituted n forms) other)) = subst (P (All (SubstitutedFits n forms) other)) (on_base plant path (map (substituted n forms) other) s base) h in
@@ -128,7 +129,7 @@ module _ (plant : Plant) (nodes : List Node) (law : LawOfSet) (path : List Row) 
       (λ e stop. later_stop (FormsFit plant law) (FormsFind plant law leaf) Later e fits (later_stop (SidesMet plant law path) (SidesFind plant law path leaf) (EmptiesFind plant nodes law path leaf) e sides stop))
 
 -- ---- the node at a place
-module _ (parts : Parts) (place : ℕ) (path : List Row) (leads : PathTo parts.tree place path) (node : Node) (at : slice_get parts.tree place ≡ Some node) where
+module _ (one_path : OnePath) (parts : Parts) (place : ℕ) (path : List Row) (leads : PathTo parts.tree place path) (node : Node) (at : slice_get parts.tree place ≡ Some node) where
   node_met : NodeMet parts path node → NodeAtMet parts place
   node_met h other mine other_leads is = subst (λ n. NodeMet parts other n) (let same : node ≡ mine = cc in same) (subst (λ p. NodeMet parts p node) (one_path parts.tree place path leads other other_leads) h)
 

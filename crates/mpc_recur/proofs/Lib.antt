@@ -1,6 +1,4 @@
 pub mod ElementLemmas
-pub mod PathLemmas
-pub mod WayLemmas
 pub mod FormLemmas
 pub mod SumLemmas
 pub mod RowLemmas

@@ -15,7 +15,7 @@ use Rattle.mpc_recur.specs.Targets.{low_system, high_system, met_system, HighRow
 use Rattle.mpc_recur.specs.Outcomes.{is_safe, finds}
 use Rattle.mpc_recur.specs.SafetyLaws.{OneOutcome}
 use Rattle.mpc_recur.proofs.FindingLemmas.{IsSingle, single_target, single_list, single_pair}
-use Rattle.mpc_recur.proofs.PathLemmas.{one_path}
+use Rattle.mpc_paths.specs.Paths.{OnePath}
 
 same_node : (nodes : List Node) (place : ℕ) (node other : Node) → slice_get nodes place ≡ Some node → slice_get nodes place ≡ Some other → node ≡ other
 same_node nodes place node other a b = cc
@@ -23,7 +23,7 @@ same_node nodes place node other a b = cc
 same_law : (laws : List LawOfSet) (place : ℕ) (law other : LawOfSet) → slice_get laws place ≡ Some law → slice_get laws place ≡ Some other → law ≡ other
 same_law laws place law other a b = cc
 
-module _ (points : PointOfPairs) where
+module _ (one_path : OnePath) (points : PointOfPairs) where
   -- ---- one leaf
   module _ (plant : Plant) (nodes : List Node) (law : LawOfSet) (path : List Row) (leaf : ℕ) where
     single_side : (i : ℕ) → IsSingle (SideMet plant law path i) (SideFinds plant law path leaf i)

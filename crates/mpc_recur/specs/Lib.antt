@@ -1,5 +1,4 @@
-pub mod Paths
-pub mod Ways
+pub mod Empties
 pub mod Successors
 pub mod ClosedLoop
 pub mod Forms

@@ -4,6 +4,7 @@ ghost use Rattle.mpc_recur.specs.SafetyLaws.{OneOutcome, RuledOutWhereSafe, Foun
 ghost use Rattle.mpc_recur.specs.ClosedLoop.{SafeGoesOn};
 
 use mpc_controller::{one_leaf, replies_everywhere};
+use mpc_paths::one_path;
 use mpc_rows::{region_laws, system_laws};
 use mpc_systems::cell_laws;
 
@@ -12,6 +13,7 @@ use mpc_systems::cell_laws;
 pub fn one_outcome()
     ensures { OneOutcome }
 {
+    one_path();
     system_laws();
 }
 

@@ -8,15 +8,16 @@ ghost use Rattle.mpc_controller.specs.Parts.{limits_of, IsLawFor};
 ghost use Rattle.mpc_recur.specs.Forms.{next_form, next_forms};
 ghost use Rattle.mpc_recur.specs.Findings.{IsStop};
 ghost use Rattle.mpc_recur.specs.Targets.{count_at, IsBaseOf, SideMet, SideFinds, SidesMet, SidesFind, EmptyMet, EmptyFinds, EmptiesMet, EmptiesFind, TargetsMet, TargetsFind};
-ghost use Rattle.mpc_recur.specs.Ways.{IsTurn, IsWay, EmptiesBefore, way_rows};
+ghost use Rattle.mpc_paths.specs.Ways.{IsTurn, IsWay, way_rows};
+ghost use Rattle.mpc_recur.specs.Empties.{EmptiesBefore};
 
 use crate::answers::{Next, StageError, Stop, Target};
 use crate::forms::next_forms;
 use crate::systems::leaf_system;
 use crate::targets::{rule_out_high, rule_out_leaf, rule_out_low};
-use crate::ways::{Turn, go_on};
 use mpc_controller::Controller;
 use mpc_linear::Vector;
+use mpc_paths::{Turn, go_on, one_path, way_laws};
 use mpc_rows::{Counts, Law, Node, System};
 use std::alloc::Global;
 
@@ -99,6 +100,8 @@ fn rule_out_node(
         → MatchResult result (λ _. EmptyMet controller.now.plant controller.now.tree law path k)
         (IsStop (EmptyFinds controller.now.plant controller.now.tree law path leaf k)) }
 {
+    one_path();
+    way_laws();
     let tree = controller.tree();
     prove!(k < tree.len());
     let Node::NoMove { .. } = tree.at(k) else {

@@ -10,7 +10,6 @@ mod rows;
 mod search;
 mod systems;
 mod targets;
-mod ways;
 
 pub use answers::{Next, Recur, RecurError, Target};
 pub use laws::{one_outcome, ruled_out_where_safe, safe_goes_on, safe_is_answered};

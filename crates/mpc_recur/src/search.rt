@@ -5,13 +5,14 @@ ghost use Rattle.mpc_controller.specs.Parts.{limits_of};
 ghost use Rattle.mpc_recur.specs.Findings.{IsStop};
 ghost use Rattle.mpc_recur.specs.Outcomes.{IsAnswer, IsCause};
 ghost use Rattle.mpc_recur.specs.Targets.{NodeAtMet, NodeAtFinds, AllRuledOut, IsFound};
-ghost use Rattle.mpc_recur.specs.Ways.{IsWay, EmptiesBefore};
+ghost use Rattle.mpc_paths.specs.Ways.{IsWay};
+ghost use Rattle.mpc_recur.specs.Empties.{EmptiesBefore};
 
 use crate::answers::{Recur, RecurError, Stop};
 use crate::laws::ruled_out_where_safe;
 use crate::leaves::rule_out_targets;
-use crate::ways::{Turn, go_on};
 use mpc_controller::{Controller, limits};
+use mpc_paths::{Turn, go_on, one_path, way_laws};
 use mpc_rows::{Counts, Node, Tree};
 use std::alloc::Global;
 
@@ -45,6 +46,8 @@ fn rule_out_place(
     requires empties { EmptiesBefore controller.now.tree end }
     ensures { MatchResult result (λ _. NodeAtMet controller.now place) (IsStop (NodeAtFinds controller.now place)) }
 {
+    one_path();
+    way_laws();
     let tree = controller.tree();
     prove!(place < tree.len());
     let Node::Law { law, .. } = tree.at(place) else {

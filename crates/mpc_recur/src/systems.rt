@@ -4,13 +4,13 @@ ghost use Rattle.std.specs.Prelude.{◌≡◌, ◌+◌, ◌++◌, ◌≤◌, All
 ghost use Rattle.mpc_rows.specs.SetRuns.{box_rows};
 ghost use Rattle.mpc_recur.specs.Forms.{substituted, SubstitutedFits};
 ghost use Rattle.mpc_recur.specs.Stages.{IfTooWide};
-ghost use Rattle.mpc_recur.specs.Ways.{HasSplitRow, IsTurn, turn_row, way_rows};
+ghost use Rattle.mpc_paths.specs.Ways.{HasSplitRow, IsTurn, turn_row, way_rows};
 
 use crate::answers::StageError;
 use crate::rows::substituted;
-use crate::ways::Turn;
 use mpc_frac::NoMemory;
 use mpc_linear::Vector;
+use mpc_paths::Turn;
 use mpc_rows::{Counts, Node, Row, System, Tree};
 use mpc_systems::{broken_row, push_box, whole_row};
 use std::alloc::Global;

@@ -4,13 +4,13 @@ ghost use Rattle.std.specs.Prelude.{◌≡◌, ◌+◌, ◌∷◌, [], ◌≤◌
 ghost use Rattle.mpc_recur.specs.Forms.{low_row, high_row, substituted, HighFits, SubstitutedFits};
 ghost use Rattle.mpc_recur.specs.Findings.{IsRuledOut, TargetFinds, IsStop};
 ghost use Rattle.mpc_recur.specs.Targets.{with_rows};
-ghost use Rattle.mpc_recur.specs.Ways.{HasSplitRow, IsTurn, way_rows};
+ghost use Rattle.mpc_paths.specs.Ways.{HasSplitRow, IsTurn, way_rows};
 
 use crate::answers::{Next, StageError, Stop};
 use crate::rows::{high_row, low_row};
 use crate::systems::push_met;
-use crate::ways::Turn;
 use mpc_linear::Vector;
+use mpc_paths::Turn;
 use mpc_rows::{Row, System, Tree};
 use mpc_simplex::{Decision, SimplexError, decide};
 use std::alloc::Global;

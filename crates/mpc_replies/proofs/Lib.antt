@@ -1,4 +1,3 @@
-pub mod CutLemmas
 pub mod CountLemmas
 pub mod LineLemmas
 pub mod BoxLemmas

@@ -1,10 +1,10 @@
 //! The input of a command: its head, and the lines of counts behind the line `states`.
 
-ghost use Rattle.std.specs.Prelude.{◌≡◌, ◌<◌, ◌||◌, [], ◌∷◌, MatchOption, bytes_eq, codes, length};
+ghost use Rattle.std.specs.Prelude.{◌≡◌, ◌<◌, [], ◌∷◌, MatchOption, length};
 ghost use Rattle.std.specs.Str.Lines.{lines, strip_carriage_return};
 ghost use Rattle.mpc_replies.specs.Cut.{head_of, tail_of};
 
-use mpc_words::next_line;
+use mpc_words::{cut_at_line, next_line};
 
 /// What an input is made of.
 #[derive(Drop)]
@@ -15,39 +15,15 @@ pub struct Sections<'a> {
     pub counts: &'a [u8],
 }
 
-/// Is a line, without its line feed, exactly `states`? One carriage return at its end isn't part of it.
-fn is_states(line: &[u8]) -> bool
-    ensures { result ≡ (bytes_eq line.now (codes "states") || bytes_eq line.now (codes "states\r")) }
-{
-    line == b"states".as_slice() || line == b"states\r".as_slice()
-}
-
 /// The input, cut at its first line that is exactly `states`.
 pub fn cut(input: &[u8]) -> Sections<'_>
     ensures head { result.head.now ≡ head_of input.now }
     ensures counts { result.counts.now ≡ tail_of input.now }
 {
-    let mut start = 0;
-    let mut rest = input;
-    while let Some((line, after)) = next_line(rest) {
-        if is_states(line) {
-            return Sections {
-                head: &input[..start],
-                counts: after,
-            };
-        }
-        start += line.len() + 1;
-        rest = after;
-    }
-    if rest == b"states".as_slice() {
-        return Sections {
-            head: &input[..start],
-            counts: &[],
-        };
-    }
+    let (head, counts) = cut_at_line(input, b"states".as_slice());
     Sections {
-        head: input,
-        counts: &[],
+        head,
+        counts: counts.unwrap_or(&[]),
     }
 }
 

@@ -1,19 +1,12 @@
 //! The sections of an input.
 
-ghost use Rattle.std.specs.Prelude.{◌≡◌, ◌<◌, ◌≤◌, ◌||◌, [], ◌∷◌, MatchOption, MatchBool, IfSome, bytes_eq, codes, length};
+ghost use Rattle.std.specs.Prelude.{◌≡◌, ◌<◌, ◌≤◌, [], ◌∷◌, MatchOption, MatchBool, IfSome, length};
 ghost use Rattle.mpc_sections.specs.Sections.{sections_of};
 
-use mpc_words::next_line;
+use mpc_words::{cut_at_line, whole_line_laws};
 
 /// The most plants of an input.
 pub(crate) const MOST_PLANTS: usize = 8;
-
-/// Is a line, without its line feed, exactly `next`? One carriage return at its end isn't part of it.
-fn is_next(line: &[u8]) -> bool
-    ensures { result ≡ (bytes_eq line.now (codes "next") || bytes_eq line.now (codes "next\r")) }
-{
-    line == b"next".as_slice() || line == b"next\r".as_slice()
-}
 
 /// The first section of a text, and the text behind the line `next` that ends it, where there is one.
 pub(crate) fn split_section(text: &[u8]) -> (&[u8], Option<&[u8]>)
@@ -21,19 +14,8 @@ pub(crate) fn split_section(text: &[u8]) -> (&[u8], Option<&[u8]>)
         (λ behind. sections_of text.now ≡ result.0.now ∷ sections_of behind.now) }
     ensures shorter { IfSome result.1 (λ behind. length behind.now < length text.now) }
 {
-    let mut start = 0;
-    let mut rest = text;
-    while let Some((line, after)) = next_line(rest) {
-        if is_next(line) {
-            return (&text[..start], Some(after));
-        }
-        start += line.len() + 1;
-        rest = after;
-    }
-    if rest == b"next".as_slice() {
-        return (&text[..start], Some(&[]));
-    }
-    (text, None)
+    whole_line_laws();
+    cut_at_line(text, b"next".as_slice())
 }
 
 /// Has a text no more sections than are allowed?

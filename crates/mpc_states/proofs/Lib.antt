@@ -1,7 +1,6 @@
 pub mod Stacks
 pub mod Replies
 pub mod RightPrograms
-pub mod NoiseCut
 pub mod MoveTexts
 pub mod LineLemmas
 pub mod Carried

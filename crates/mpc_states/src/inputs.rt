@@ -10,12 +10,12 @@ ghost use Rattle.mpc_states.specs.Inputs.{IsSolvedFor, IsSolved, IsSolveCauseFor
 use crate::errors::{ProgramError, RobustError, SolveError};
 use crate::laws::right_programs;
 use crate::lines::state_lines;
-use crate::noise_part::cut_noise;
 use crate::programs::convex_program;
 use mpc_linear::Vector;
 use mpc_plant::{Plant, PlantError, read_plant};
 use mpc_replies::cut;
 use mpc_tight::{NoiseError, TightError, read_noise, tighten};
+use mpc_words::cut_at_line;
 use std::alloc::Global;
 
 /// The reply lines of a plant to lines of counts.
@@ -106,9 +106,9 @@ pub fn robust_input(alloc: Global, input: &[u8]) -> Result<Vec<u8>, RobustError>
     ensures cause { IfErr result (IsRobustCause input.now) }
 {
     let sections = cut(input);
-    let parts = cut_noise(sections.head);
-    match read_plant(alloc, parts.plant) {
-        Ok(plant) => robust_for(alloc, &plant, parts.noise, sections.counts),
+    let (file, noise) = cut_at_line(sections.head, b"noise".as_slice());
+    match read_plant(alloc, file) {
+        Ok(plant) => robust_for(alloc, &plant, noise, sections.counts),
         Err(PlantError::Bad(kind, path)) => Err(RobustError::BadPlant(kind, path)),
         Err(PlantError::NoMemory) => Err(RobustError::NoMemory),
     }

@@ -6,7 +6,6 @@ mod errors;
 mod inputs;
 mod laws;
 mod lines;
-mod noise_part;
 mod programs;
 
 pub use errors::{RobustError, SolveError};

@@ -3,3 +3,4 @@ pub mod LineLemmas
 pub mod ReadLemmas
 pub mod IntegerLemmas
 pub mod FractionLemmas
+pub mod WholeLineLemmas

@@ -1,11 +1,13 @@
 //! What holds of every text and every spelling. The calls do nothing: their contracts are the laws.
 
-ghost use Rattle.std.specs.Prelude.{◌≡◌, ℕ, ◌^◌, ◌<◌, List, ◌∷◌, ℤ, unsigned_abs, decimal};
+ghost use Rattle.std.specs.Prelude.{◌≡◌, ℕ, ◌^◌, ◌<◌, ◌≤◌, List, ◌∷◌, length, ℤ, unsigned_abs, decimal};
+ghost use Rattle.std.specs.List.{concat};
 ghost use Rattle.std.specs.Fmt.{signed_decimal};
 ghost use Rattle.mpc_exact.specs.Rational.{ℚ};
 ghost use Rattle.mpc_frac.specs.Fits.{FitsFrac};
 ghost use Rattle.mpc_frac.specs.Text.{text_of};
 ghost use Rattle.mpc_words.specs.Numerals.{numeral};
+ghost use Rattle.mpc_words.specs.WholeLines.{before_line, whole_lines};
 ghost use Rattle.mpc_words.specs.Words.{IsWithout, IsCutAt, IsLineOf, IsWord, words_of};
 
 /// A text is cut at the first of a byte in one way, and in none where it hasn't that byte.
@@ -21,6 +23,14 @@ pub fn line_laws()
     ensures parts { (text first : List ℕ) (words : List (List ℕ)) → IsLineOf text first words → words_of text ≡ first ∷ words }
     ensures one_first { (text first other : List ℕ) (words others : List (List ℕ)) → IsLineOf text first words → IsLineOf text other others → first ≡ other }
     ensures one_list { (text first other : List ℕ) (words others : List (List ℕ)) → IsLineOf text first words → IsLineOf text other others → words ≡ others }
+{}
+
+/// The lines of a text, with their ends, are the text, and those behind a line are the lines of what stands
+/// behind it. What stands before a line that is a word is no longer than the text.
+pub fn whole_line_laws()
+    ensures joined { (text : List ℕ) → concat (whole_lines text) ≡ text }
+    ensures rest { (text line : List ℕ) (more : List (List ℕ)) → whole_lines text ≡ line ∷ more → whole_lines (concat more) ≡ more }
+    ensures short { (word text : List ℕ) → length (before_line word (whole_lines text)) ≤ length text }
 {}
 
 /// A natural number has one spelling, a word, and no other number has it. Below 10^64 it is the text

@@ -1,5 +1,5 @@
 use Rattle.std.proofs.Common.{sym, subst, arith, All}
-use Rattle.mpc_check.specs.Ways.{NamesLaw}
+use Rattle.mpc_check.specs.LeafSystems.{NamesLaw}
 use Rattle.mpc_check.proofs.borders.named_laws.Goals as goal
 
 pub index_mut-requires : goal.index_mut-requires

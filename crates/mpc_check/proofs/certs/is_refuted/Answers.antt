@@ -4,7 +4,7 @@ use Rattle.mpc_rows.specs.Refutation.{Refutes}
 use Rattle.mpc_check.specs.Certs.{HasPositionsIn}
 use Rattle.mpc_check.specs.Findings.{IsDecided}
 use Rattle.mpc_check.specs.Picks.{weights}
-use Rattle.mpc_check.specs.Ways.{system_at}
+use Rattle.mpc_check.specs.LeafSystems.{system_at}
 use Rattle.mpc_check.proofs.CertLemmas.{system_count, decided_whole, SumsFitWhere, outside_fits, outside_fails}
 use Rattle.mpc_check.proofs.certs.is_refuted.Goals as goal
 

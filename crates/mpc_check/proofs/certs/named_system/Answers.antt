@@ -2,7 +2,7 @@ use Rattle.std.proofs.Common.{◌-◌, ◌<◌, ap, get_or, length, sym, ◌∙�
 use Rattle.std.proofs.lemmas.List.Elements.{All-get_or}
 use Rattle.mpc_rows.specs.LinearSystem.{height, no_row}
 use Rattle.mpc_check.specs.Certs.{HasPositionsIn, IsPositionIn}
-use Rattle.mpc_check.specs.Ways.{system_at}
+use Rattle.mpc_check.specs.LeafSystems.{system_at}
 use Rattle.mpc_check.specs.Widths.{IsOfWidth}
 use Rattle.mpc_check.proofs.CertLemmas.{system_count}
 use Rattle.mpc_check.proofs.SplitRows.{system_rows_wide}

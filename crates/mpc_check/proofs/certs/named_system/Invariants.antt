@@ -1,6 +1,6 @@
 use Rattle.std.proofs.Common.{◌≡◌, ◌+◌, length, take}
 use Rattle.mpc_check.specs.Picks.{picked_rows}
-use Rattle.mpc_check.specs.Ways.{system_at}
+use Rattle.mpc_check.specs.LeafSystems.{system_at}
 use Rattle.mpc_check.proofs.certs.named_system.Given as goal
 
 abbrev pub invariant-loop-i : goal.invariant-loop-i

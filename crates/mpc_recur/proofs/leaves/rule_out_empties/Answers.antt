@@ -1,7 +1,7 @@
 use Rattle.std.proofs.Common.{◌+◌, ◌<◌, List, length, sym, ◌∙◌, subst, arith}
 use Rattle.mpc_rows.specs.declared.trees.Node.{Node}
 use Rattle.mpc_recur.specs.Targets.{EmptyMet, EmptyFinds}
-use Rattle.mpc_recur.specs.Ways.{IsWay, root}
+use Rattle.mpc_paths.specs.Ways.{IsWay, root}
 use Rattle.mpc_recur.proofs.FindingLemmas.{each_more}
 use Rattle.mpc_recur.proofs.TargetLemmas.{same_base, first_stop}
 use Rattle.mpc_recur.proofs.LeafLemmas.{all_empties}

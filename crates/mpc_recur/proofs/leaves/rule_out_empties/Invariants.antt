@@ -4,7 +4,7 @@ use Rattle.mpc_rows.specs.declared.systems.Row.{Row}
 use Rattle.mpc_recur.specs.Forms.{next_forms}
 use Rattle.mpc_recur.specs.Findings.{Each}
 use Rattle.mpc_recur.specs.Targets.{IsBaseOf, EmptyMet}
-use Rattle.mpc_recur.specs.Ways.{IsWay}
+use Rattle.mpc_paths.specs.Ways.{IsWay}
 use Rattle.mpc_recur.proofs.leaves.rule_out_empties.Given as goal
 
 abbrev pub invariant-loop-k : goal.invariant-loop-k

@@ -1,7 +1,7 @@
 use Rattle.std.proofs.Common.{◌≡◌, length, sym, ◌∙◌, ap, subst}
 use Rattle.mpc_plant.specs.declared.plants.Plant.{Plant}
 use Rattle.mpc_recur.specs.Forms.{next_forms, FormsFit}
-use Rattle.mpc_recur.specs.Ways.{way_rows}
+use Rattle.mpc_paths.specs.Ways.{way_rows}
 use Rattle.mpc_recur.proofs.FormLemmas.{forms_size}
 use Rattle.mpc_recur.proofs.TargetLemmas.{same_base}
 use Rattle.mpc_recur.proofs.LeafLemmas.{limits_count, forms_affine, leaf_base, sides_stop, targets_found}

@@ -1,6 +1,6 @@
 use Rattle.std.proofs.Common.{◌≡◌, ◌++◌, length, map, take, All}
 use Rattle.mpc_recur.specs.Forms.{substituted, SubstitutedFits}
-use Rattle.mpc_recur.specs.Ways.{turn_row}
+use Rattle.mpc_paths.specs.Ways.{turn_row}
 use Rattle.mpc_recur.proofs.systems.push_met.Given as goal
 
 abbrev pub invariant-loop-turn : goal.invariant-loop-turn

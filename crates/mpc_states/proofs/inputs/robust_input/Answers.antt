@@ -6,16 +6,16 @@ pub returns-in-Ok-clause-text : goal.returns-in-Ok-clause-text
 returns-in-Ok-clause-text c =
     IfOk-weaker c.robust_for.result _ _
     (λ text h. robustly_solved c.args.input.now c.cut-sections.result.head.now c.cut-sections.result.counts.now c.in-Ok.plant c.cut-sections.ensures.head c.cut-sections.ensures.counts
-    c.cut_noise-parts.result.plant.now _ c.cut_noise-parts.ensures.plant c.cut_noise-parts.ensures.noise c.in-Ok.ensures.ok text.items h) c.robust_for.ensures.text
+    c.cut_at_line.result.0.now _ c.cut_at_line.ensures.before c.cut_at_line.ensures.behind c.in-Ok.ensures.ok text.items h) c.robust_for.ensures.text
 
 pub returns-in-Ok-clause-replied : goal.returns-in-Ok-clause-replied
 returns-in-Ok-clause-replied c =
     on_ok_weaker c.robust_for.result
     (λ h. robustly_replied c.args.input.now c.cut-sections.result.head.now c.cut-sections.result.counts.now c.in-Ok.plant c.cut-sections.ensures.head c.cut-sections.ensures.counts
-    c.cut_noise-parts.result.plant.now _ c.cut_noise-parts.ensures.plant c.cut_noise-parts.ensures.noise c.in-Ok.ensures.ok h) c.robust_for.ensures.replied
+    c.cut_at_line.result.0.now _ c.cut_at_line.ensures.before c.cut_at_line.ensures.behind c.in-Ok.ensures.ok h) c.robust_for.ensures.replied
 
 pub returns-in-Ok-clause-cause : goal.returns-in-Ok-clause-cause
 returns-in-Ok-clause-cause c =
     IfErr-weaker c.robust_for.result _ _
     (λ e h. robust_cause c.args.input.now c.cut-sections.result.head.now c.cut-sections.result.counts.now c.in-Ok.plant c.cut-sections.ensures.head c.cut-sections.ensures.counts
-    c.cut_noise-parts.result.plant.now _ c.cut_noise-parts.ensures.plant c.cut_noise-parts.ensures.noise c.in-Ok.ensures.ok e h) c.robust_for.ensures.cause
+    c.cut_at_line.result.0.now _ c.cut_at_line.ensures.before c.cut_at_line.ensures.behind c.in-Ok.ensures.ok e h) c.robust_for.ensures.cause
