@@ -52,3 +52,12 @@ pub enum Claimed {
 pub enum Delivery {
     Taken,
 }
+
+/// Candidates to be examined before they are claimed.
+#[derive(Drop)]
+pub struct Ahead {
+    /// The place of the first one among all candidates, from 0.
+    pub first: usize,
+    /// Their sets, in order.
+    pub sets: Vec<ActiveSet>,
+}

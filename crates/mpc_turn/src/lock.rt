@@ -1,18 +1,19 @@
 //! The lock.
 
-ghost use Rattle.std.specs.Prelude.{◌≡◌, ◌<◌, ◌+◌, ◌-◌, ℕ, [], ◌∷◌, ◌++◌, true, false, length, drop, IfOk, MatchOption};
+ghost use Rattle.std.specs.Prelude.{◌≡◌, ◌<◌, ◌+◌, ◌-◌, ℕ, [], ◌∷◌, ◌++◌, true, false, length, drop, IfOk, MatchOption, All};
+ghost use Rattle.mpc_rows.specs.Candidates.{IsCandidate};
 ghost use Rattle.mpc_rows.specs.Verdicts.{IsRight};
 ghost use Rattle.mpc_claim.specs.declared.events.EventKind.TheVariants.{Done, Drop};
 ghost use Rattle.mpc_claim.specs.Board.{tag_of};
 ghost use Rattle.mpc_claim.specs.History.{IsOpen};
 ghost use Rattle.mpc_turn.specs.Views.{Starts, served, longer};
 ghost use Rattle.mpc_turn.specs.Lock.{Draws, IsOutside};
-ghost use Rattle.mpc_turn.specs.Known.{Known, first_pass, ClaimedAs, EndedAs, EndedThenClaimed, InHand, HasTurn, Holds, IsDue, MayDeliver, ClaimsBy, EndsBy, Closed};
+ghost use Rattle.mpc_turn.specs.Known.{Known, first_pass, ClaimedAs, EndedAs, EndedThenClaimed, InHand, HasTurn, Holds, IsDue, MayDeliver, ClaimsBy, EndsBy, Looks, LooksAt, Closed};
 
 use crate::passes::{Pass, Seat};
 use crate::view::{Compare, Draw, Law, Lend, Look, Serve, View};
 use atomic_table::Table;
-use mpc_claim::{Claimed, Delivery, Registry, Ticket, history_laws, legal_laws};
+use mpc_claim::{Ahead, Claimed, Delivery, Registry, Ticket, history_laws, legal_laws};
 use mpc_frac::NoMemory;
 use mpc_rows::Judged;
 use std::alloc::Global;
@@ -168,6 +169,26 @@ impl Turn {
         answer
     }
 
+    /// A look ahead on the registry that is out with the seat.
+    fn look_ahead_in(
+        &self,
+        seat: &mut Seat,
+        known: usize,
+        parts: usize,
+        most: usize,
+    ) -> Result<Ahead, NoMemory>
+        requires turn { seat.old.table_id ≡ self.now }
+        requires taken { Holds seat.old.me.1 (λ r. r ≡ r) }
+        ensures turn { seat.new.table_id ≡ self.now }
+        ensures view { seat.new.me.0 ≡ seat.old.me.0 }
+        ensures looked { Holds seat.old.me.1 (λ r. Holds seat.new.me.1 (LooksAt result r)) }
+    {
+        let registry = seat.slot_mut(&self.table.shared, 0);
+        let answer = registry.look_ahead(known, parts, most);
+        let _history = registry.history();
+        answer
+    }
+
     /// A delivery on the registry that is out with the seat.
     fn deliver_in(&self, seat: &mut Seat, ticket: Ticket, judged: Judged) -> Delivery
         requires turn { seat.old.table_id ≡ self.now }
@@ -223,6 +244,26 @@ impl Turn {
     {
         self.take(rt, &mut pass.seat);
         let answer = self.claim_in(&mut pass.seat, pass.worker);
+        self.serve(&mut pass.seat);
+        answer
+    }
+
+    /// Waits for the turn and looks at candidates that may be claimed later, as the registry's
+    /// `look_ahead` gives them out. Nothing is claimed or ended.
+    pub fn look_ahead_as<T: Wait>(
+        &self,
+        rt: &T,
+        pass: &mut Pass,
+        known: usize,
+        parts: usize,
+        most: usize,
+    ) -> Result<Ahead, NoMemory>
+        requires { pass.old.turn ≡ self.now }
+        ensures looked { Looks pass.old pass.new }
+        ensures candidates { IfOk result (λ ahead. All (IsCandidate pass.old.program) ahead.sets.items) }
+    {
+        self.take(rt, &mut pass.seat);
+        let answer = self.look_ahead_in(&mut pass.seat, known, parts, most);
         self.serve(&mut pass.seat);
         answer
     }
