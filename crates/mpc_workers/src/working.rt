@@ -5,23 +5,34 @@ ghost use Rattle.mpc_space.specs.Definite.{IsDefinite};
 ghost use Rattle.mpc_space.specs.Matrix.{height};
 ghost use Rattle.mpc_sets.specs.RowSet.{IsSetOfRows};
 ghost use Rattle.mpc_rows.specs.declared.programs.Qp.{Qp as Program};
+ghost use Rattle.mpc_rows.specs.Candidates.{IsCandidate};
 ghost use Rattle.mpc_rows.specs.Verdicts.{IsRight};
 ghost use Rattle.mpc_workers.specs.Posts.{after, AtEach, CallsOnlyAt, ComesFirst, GivesNoJob, HasNothing, IsAnswered, IsAtProgram, IsBusy, IsPost};
 ghost use Rattle.mpc_workers.specs.Seats.{IsSeat, KeepWorkers};
 
-use crate::discard;
+use crate::ahead::{NOWHERE, Outlook, discard};
 use crate::seats::{Post, Seat};
 use crate::waiting::{News, seats_at_once};
-use mpc_claim::{Claimed, Ticket, claim_laws};
+use mpc_claim::{Ahead, Claimed, Ticket, claim_laws};
 use mpc_frac::NoMemory;
 use mpc_port::Gate;
-use mpc_region::Examiner;
 use mpc_rows::{Judged, Qp};
 use mpc_turn::{Turn, hand_laws};
 use std::alloc::Global;
 use std::sync::Wait;
 use std::thread;
 use std::thread::Threads;
+
+/// How many candidates a worker looks at ahead at most before it sees whether one of them is claimed next.
+const MOST_AHEAD: usize = 16;
+
+/// With so many verdicts at hand a worker looks no further ahead: others may be off their processors, and
+/// what they hold back is claimed by whoever comes next.
+const MOST_KNOWN: usize = 32;
+
+/// Of the candidates left of a level, a worker looks at one in so many times the number of workers, so that
+/// all come to the level's end together.
+const PARTS: usize = 4;
 
 /// What the workers of a pool share.
 #[derive(Drop)]
@@ -43,8 +54,8 @@ pub struct Worker<'a> {
     pub program: usize,
     /// How many members that set had, 0 before the first one.
     pub level: u32,
-    /// The examiner of that program.
-    pub examiner: Option<Examiner<'a>>,
+    /// The examiner of that program, with the verdicts that it found ahead.
+    pub examiner: Option<Outlook<'a>>,
 }
 
 impl<'a> Worker<'a> {
@@ -85,7 +96,7 @@ impl<'a> Worker<'a> {
     }
 
     /// The examiner of the program, which begins at the worker's first set there.
-    fn take_examiner(&mut self, alloc: Global, qp: &'a Qp) -> Result<Examiner<'a>, NoMemory>
+    fn take_examiner(&mut self, alloc: Global, qp: &'a Qp) -> Result<Outlook<'a>, NoMemory>
         requires { IfSome self.old.examiner (λ q. q ≡ qp.now) }
         ensures program { self.new.program ≡ self.old.program }
         ensures taken { self.new.examiner ≡ None }
@@ -93,7 +104,7 @@ impl<'a> Worker<'a> {
     {
         match self.examiner.take() {
             Some(examiner) => Ok(examiner),
-            None => Examiner::begin(alloc, qp),
+            None => Outlook::begin(alloc, qp),
         }
     }
 
@@ -108,10 +119,41 @@ impl<'a> Worker<'a> {
         ensures set { IfOk result (λ j. j.set ≡ ticket.now.set) }
         ensures right { IfOk result (λ j. IsRight qp.now ticket.now.set j.verdict) }
     {
+        let place = (ticket.number() as usize).wrapping_sub(1);
         let mut examiner = self.take_examiner(alloc, qp)?;
-        let judged = examiner.examine(alloc, ticket.set());
+        let judged = examiner.examine(alloc, place, ticket.set());
         discard(self.examiner.replace(examiner));
         judged
+    }
+
+    /// Finds the verdicts on sets that aren't claimed yet.
+    fn examine_ahead(&mut self, alloc: Global, qp: &'a Qp, ahead: &Ahead) -> Result<(), NoMemory>
+        requires definite { IsDefinite qp.now.h.rows }
+        requires candidates { All (IsCandidate qp.now) ahead.now.sets.items }
+        requires examiner { IfSome self.old.examiner (λ q. q ≡ qp.now) }
+        ensures program { self.new.program ≡ self.old.program }
+        ensures examiner { IfSome self.new.examiner (λ q. q ≡ qp.now) }
+    {
+        let mut examiner = self.take_examiner(alloc, qp)?;
+        let answer = examiner.examine_ahead(alloc, ahead);
+        discard(self.examiner.replace(examiner));
+        answer
+    }
+
+    /// The place of the first set whose verdict is known, if there is one, and else none that a set has.
+    fn first_known(&self) -> usize {
+        match &self.examiner {
+            Some(examiner) => examiner.first_known(),
+            None => NOWHERE,
+        }
+    }
+
+    /// Whether as many verdicts are known as are of use.
+    fn knows_enough(&self) -> bool {
+        match &self.examiner {
+            Some(examiner) => examiner.count_known() >= MOST_KNOWN,
+            None => false,
+        }
     }
 }
 
@@ -167,9 +209,91 @@ fn claim<T: Wait>(
     taken(turn, qp, number, post, answer)
 }
 
-/// Examines a set in hand, passes the gate, and delivers the verdict and claims the next set of the
-/// program in one turn. Without memory for its verdict the set is given up. Once the work is called
-/// off, there is no next one.
+/// Delivers the verdict on a set in hand.
+fn deliver<T: Wait>(
+    rt: &T,
+    turn: &Turn,
+    _qp: &Qp,
+    number: u32,
+    post: &mut Post,
+    ticket: Ticket,
+    judged: Judged,
+)
+    requires post { IsBusy number turn.now _qp.now ticket post.old }
+    requires set { judged.set ≡ ticket.set }
+    requires right { IsRight _qp.now ticket.set judged.verdict }
+    ensures post { IsPost number turn.now _qp.now post.new }
+    ensures working { post.new.saw_end ≡ false }
+{
+    hand_laws();
+    let _ = turn.deliver_as(rt, &mut post.pass, ticket, judged);
+}
+
+/// Examines a stretch of candidates before they are claimed. Whether there may be more of use: not where
+/// the next set to be claimed is known, or all sets of the level are.
+fn look_further<'a, T: Wait, G: Gate>(
+    pool: &Pool<'a, T, G>,
+    turn: &Turn,
+    qp: &'a Qp,
+    number: u32,
+    worker: &mut Worker<'a>,
+    post: &mut Post,
+) -> Result<bool, NoMemory>
+    requires definite { IsDefinite qp.now.h.rows }
+    requires working { post.old.saw_end ≡ false }
+    requires examiner { IfSome worker.old.examiner (λ q. q ≡ qp.now) }
+    requires post { IsPost number turn.now qp.now post.old }
+    ensures program { worker.new.program ≡ worker.old.program }
+    ensures examiner { IfSome worker.new.examiner (λ q. q ≡ qp.now) }
+    ensures post { IsPost number turn.now qp.now post.new }
+    ensures working { post.new.saw_end ≡ false }
+{
+    if worker.knows_enough() {
+        return Ok(false);
+    }
+    let parts = (pool.workers as usize).saturating_mul(PARTS);
+    let known = worker.first_known();
+    let ahead = turn.look_ahead_as(pool.rt, &mut post.pass, known, parts, MOST_AHEAD)?;
+    if ahead.sets.is_empty() {
+        return Ok(false);
+    }
+    worker.examine_ahead(pool.alloc, qp, &ahead)?;
+    Ok(true)
+}
+
+/// Examines stretches of candidates before they are claimed, while that is of use.
+///
+/// A stretch has neighbours, which mostly begin alike. So their beginnings are worked out by one worker, and
+/// once, though each set is claimed by itself and in order. Nobody waits for another's stretch: whoever
+/// has looked far enough ahead claims the next set, and examines it anew.
+fn look_ahead<'a, T: Wait, G: Gate>(
+    pool: &Pool<'a, T, G>,
+    turn: &Turn,
+    qp: &'a Qp,
+    number: u32,
+    worker: &mut Worker<'a>,
+    post: &mut Post,
+) -> Result<(), NoMemory>
+    requires definite { IsDefinite qp.now.h.rows }
+    requires working { post.old.saw_end ≡ false }
+    requires examiner { IfSome worker.old.examiner (λ q. q ≡ qp.now) }
+    requires post { IsPost number turn.now qp.now post.old }
+    ensures program { worker.new.program ≡ worker.old.program }
+    ensures examiner { IfSome worker.new.examiner (λ q. q ≡ qp.now) }
+    ensures post { IsPost number turn.now qp.now post.new }
+    ensures working { post.new.saw_end ≡ false }
+{
+    for _ in 0..MOST_KNOWN {
+        if !look_further(pool, turn, qp, number, worker, post)? {
+            return Ok(());
+        }
+    }
+    Ok(())
+}
+
+/// Examines a set in hand, passes the gate, delivers the verdict and claims the next set of the program:
+/// in one turn where that one's verdict is known, and else once it has looked ahead. Without memory for its
+/// verdict the set is given up. Once the work is called off, there is no next one.
 fn finish_set<'a, T: Wait, G: Gate>(
     pool: &Pool<'a, T, G>,
     turn: &Turn,
@@ -191,6 +315,7 @@ fn finish_set<'a, T: Wait, G: Gate>(
     hand_laws();
     claim_laws();
     worker.report(ticket.set().size(), pool.news);
+    let next = ticket.number() as usize;
     let judged = match worker.examine(pool.alloc, qp, &ticket) {
         Ok(judged) => judged,
         Err(refused) => {
@@ -200,12 +325,16 @@ fn finish_set<'a, T: Wait, G: Gate>(
         }
     };
     pool.gate.between(ticket.worker(), ticket.set().mask());
+    if worker.first_known() == next && !pool.news.is_called_off() {
+        let answer = turn.deliver_then_claim_as(pool.rt, &mut post.pass, ticket, judged);
+        return taken(turn, qp, number, post, answer);
+    }
+    deliver(pool.rt, turn, qp, number, post, ticket, judged);
     if pool.news.is_called_off() {
-        let _ = turn.deliver_as(pool.rt, &mut post.pass, ticket, judged);
         return Err(NoMemory);
     }
-    let answer = turn.deliver_then_claim_as(pool.rt, &mut post.pass, ticket, judged);
-    taken(turn, qp, number, post, answer)
+    look_ahead(pool, turn, qp, number, worker, post)?;
+    claim(pool.rt, turn, qp, number, post)
 }
 
 /// Works on sets of a program from the one in hand on, until the program has none to claim.
