@@ -201,7 +201,12 @@ impl Registry {
         let to = first + share_of(end - first, parts, most);
         let sets = sets_between(self.alloc, &self.program, &self.entries, first, to)?;
         self.looked = to;
-        Ok(Ahead { first, sets })
+        Ok(Ahead {
+            first,
+            next: self.claims,
+            end,
+            sets,
+        })
     }
 
     /// Takes the verdict on a claimed set. It takes no memory.

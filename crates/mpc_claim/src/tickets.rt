@@ -58,6 +58,10 @@ pub enum Delivery {
 pub struct Ahead {
     /// The place of the first one among all candidates, from 0.
     pub first: usize,
+    /// The place of the candidate that is claimed next.
+    pub next: usize,
+    /// The place behind the last candidate.
+    pub end: usize,
     /// Their sets, in order.
     pub sets: Vec<ActiveSet>,
 }

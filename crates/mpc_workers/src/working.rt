@@ -20,19 +20,28 @@ use mpc_rows::{Judged, Qp};
 use mpc_turn::{Turn, hand_laws};
 use std::alloc::Global;
 use std::sync::Wait;
-use std::thread;
 use std::thread::Threads;
+use std::{hint, thread};
 
-/// How many candidates a worker looks at ahead at most before it sees whether one of them is claimed next.
+/// How many candidates a worker looks at ahead at once, at most.
 const MOST_AHEAD: usize = 16;
 
-/// With so many verdicts at hand a worker looks no further ahead: others may be off their processors, and
-/// what they hold back is claimed by whoever comes next.
+/// With so many verdicts at hand a worker looks no further ahead.
 const MOST_KNOWN: usize = 32;
 
 /// Of the candidates left of a level, a worker looks at one in so many times the number of workers, so that
 /// all come to the level's end together.
 const PARTS: usize = 4;
+
+/// How often a worker lets a moment pass where another's stretch comes next. Together these take about as long as
+/// a stretch.
+const PATIENCE: u32 = 64;
+
+/// How long such a moment is, in steps of a few processor cycles each.
+const PAUSE: u32 = 32;
+
+/// How often a worker looks ahead at most before it claims.
+const MOST_LOOKS: u32 = 1 + PATIENCE;
 
 /// What the workers of a pool share.
 #[derive(Drop)]
@@ -54,17 +63,21 @@ pub struct Worker<'a> {
     pub program: usize,
     /// How many members that set had, 0 before the first one.
     pub level: u32,
+    /// How often it still lets a moment pass where another's stretch comes next.
+    pub patience: u32,
     /// The examiner of that program, with the verdicts that it found ahead.
     pub examiner: Option<Outlook<'a>>,
 }
 
 impl<'a> Worker<'a> {
     fn new() -> Worker<'a>
-        ensures { result ≡ record { program = 0; level = 0; examiner = None } }
+        ensures program { result.program ≡ 0 }
+        ensures examiner { result.examiner ≡ None }
     {
         Worker {
             program: 0,
             level: 0,
+            patience: PATIENCE,
             examiner: None,
         }
     }
@@ -148,12 +161,27 @@ impl<'a> Worker<'a> {
         }
     }
 
-    /// Whether as many verdicts are known as are of use.
-    fn knows_enough(&self) -> bool {
+    /// How many candidates to look at ahead at most: none once as many verdicts are known as are of use.
+    fn most_ahead(&self) -> usize {
         match &self.examiner {
-            Some(examiner) => examiner.count_known() >= MOST_KNOWN,
-            None => false,
+            Some(examiner) if examiner.count_known() >= MOST_KNOWN => 0,
+            _ => MOST_AHEAD,
         }
+    }
+
+    /// Lets a moment pass, unless that was done too often since the worker came to a stretch of its own.
+    /// Whether it was.
+    fn is_patient(&mut self) -> bool
+        ensures { self.new ≡ record self.old { patience = self.new.patience } }
+    {
+        if self.patience == 0 {
+            return false;
+        }
+        self.patience -= 1;
+        for _ in 0..PAUSE {
+            hint::spin_loop();
+        }
+        true
     }
 }
 
@@ -229,8 +257,8 @@ fn deliver<T: Wait>(
     let _ = turn.deliver_as(rt, &mut post.pass, ticket, judged);
 }
 
-/// Examines a stretch of candidates before they are claimed. Whether there may be more of use: not where
-/// the next set to be claimed is known, or all sets of the level are.
+/// Examines a stretch of candidates before they are claimed, or else has some patience with others' stretches.
+/// Whether there may be more of use: not where the next set to be claimed is known, or none of the level is left.
 fn look_further<'a, T: Wait, G: Gate>(
     pool: &Pool<'a, T, G>,
     turn: &Turn,
@@ -248,14 +276,19 @@ fn look_further<'a, T: Wait, G: Gate>(
     ensures post { IsPost number turn.now qp.now post.new }
     ensures working { post.new.saw_end ≡ false }
 {
-    if worker.knows_enough() {
-        return Ok(false);
-    }
     let parts = (pool.workers as usize).saturating_mul(PARTS);
     let known = worker.first_known();
-    let ahead = turn.look_ahead_as(pool.rt, &mut post.pass, known, parts, MOST_AHEAD)?;
-    if ahead.sets.is_empty() {
+    let most = worker.most_ahead();
+    let ahead = turn.look_ahead_as(pool.rt, &mut post.pass, known, parts, most)?;
+    if ahead.next == known {
+        worker.patience = PATIENCE;
         return Ok(false);
+    }
+    if ahead.next == ahead.end {
+        return Ok(false);
+    }
+    if ahead.sets.is_empty() {
+        return Ok(worker.is_patient());
     }
     worker.examine_ahead(pool.alloc, qp, &ahead)?;
     Ok(true)
@@ -264,8 +297,10 @@ fn look_further<'a, T: Wait, G: Gate>(
 /// Examines stretches of candidates before they are claimed, while that is of use.
 ///
 /// A stretch has neighbours, which mostly begin alike. So their beginnings are worked out by one worker, and
-/// once, though each set is claimed by itself and in order. Nobody waits for another's stretch: whoever
-/// has looked far enough ahead claims the next set, and examines it anew.
+/// once, though each set is claimed by itself and in order. Where another's stretch comes next, and no
+/// further one is of use, the worker looks again some times and then claims all the same, and examines that
+/// set anew: whoever has the stretch may be off its processor. It looks again as often only once it has come to
+/// a stretch of its own.
 fn look_ahead<'a, T: Wait, G: Gate>(
     pool: &Pool<'a, T, G>,
     turn: &Turn,
@@ -283,7 +318,7 @@ fn look_ahead<'a, T: Wait, G: Gate>(
     ensures post { IsPost number turn.now qp.now post.new }
     ensures working { post.new.saw_end ≡ false }
 {
-    for _ in 0..MOST_KNOWN {
+    for _ in 0..MOST_LOOKS {
         if !look_further(pool, turn, qp, number, worker, post)? {
             return Ok(());
         }
@@ -531,6 +566,7 @@ fn work_and_wake<'a, T: Wait, G: Gate>(pool: &Pool<'a, T, G>, seat: &mut Seat)
     let Worker {
         program: _,
         level: _,
+        patience: _,
         examiner,
     } = worker;
     discard(examiner);
