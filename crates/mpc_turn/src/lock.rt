@@ -50,6 +50,8 @@ const QUICK_LOOKS: u32 = 100;
 pub struct Turn {
     table: Table<Registry, View, Snapshot<Registry>, Law, Global>,
     sleepers: AtomicU64,
+    /// The place of the candidate that is claimed next, as the last claim left it.
+    next: AtomicU64,
 }
 
 impl Model for Turn {
@@ -155,6 +157,13 @@ impl Turn {
         self.wake();
     }
 
+    /// Notes which candidate is claimed next, where the answer gives one out.
+    fn note_next(&self, answer: &Result<Claimed, NoMemory>) {
+        if let Ok(Claimed::Job(ticket)) = answer {
+            self.next.store(ticket.number() as u64, Ordering::SeqCst);
+        }
+    }
+
     /// A claim on the registry that is out with the seat.
     fn claim_in(&self, seat: &mut Seat, worker: u32) -> Result<Claimed, NoMemory>
         requires turn { seat.old.table_id ≡ self.now }
@@ -166,7 +175,14 @@ impl Turn {
         let registry = seat.slot_mut(&self.table.shared, 0);
         let answer = registry.claim(worker);
         let _history = registry.history();
+        self.note_next(&answer);
         answer
+    }
+
+    /// The place of the candidate that is claimed next, from 0, as it may have been a moment ago. No
+    /// clause speaks of it.
+    pub fn next_place(&self) -> u64 {
+        self.next.load(Ordering::SeqCst)
     }
 
     /// A look ahead on the registry that is out with the seat.
@@ -233,7 +249,15 @@ impl Turn {
             return Err(NoMemory);
         };
         let sleepers = AtomicU64::new(0);
-        Ok((Turn { table, sleepers }, Pass { seat, worker: 0 }))
+        let next = AtomicU64::new(0);
+        Ok((
+            Turn {
+                table,
+                sleepers,
+                next,
+            },
+            Pass { seat, worker: 0 },
+        ))
     }
 
     /// Waits for the turn and claims. Afterwards, also without memory, the pass has seen a history
@@ -361,7 +385,11 @@ impl Turn {
         ensures { Closed first result }
     {
         legal_laws();
-        let Turn { table, sleepers: _ } = self;
+        let Turn {
+            table,
+            sleepers: _,
+            next: _,
+        } = self;
         let Pass { seat, worker: _ } = first;
         let mut closed = table.close_with(seat);
         let registry = closed.take(0);

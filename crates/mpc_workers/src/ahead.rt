@@ -1,6 +1,6 @@
 //! Verdicts that a worker finds before the claims of their sets.
 
-ghost use Rattle.std.specs.Prelude.{◌≡◌, ◌≤◌, All, IfOk, IfSome, length};
+ghost use Rattle.std.specs.Prelude.{◌≡◌, ◌≤◌, [], All, IfOk, IfSome, length};
 ghost use Rattle.mpc_space.specs.Definite.{IsDefinite};
 ghost use Rattle.mpc_space.specs.Matrix.{height};
 ghost use Rattle.mpc_sets.specs.RowSet.{IsSetOfRows};
@@ -70,6 +70,18 @@ fn recall(known: &mut VecDeque<Known>, place: usize, set: ActiveSet) -> Option<J
     }
 }
 
+/// No candidate.
+fn no_candidates(alloc: Global) -> Ahead
+    ensures { result.sets.items ≡ [] }
+{
+    Ahead {
+        first: 0,
+        next: 0,
+        end: 0,
+        sets: Vec::new(alloc),
+    }
+}
+
 /// Gives verdicts on the sets of one program, some of them found before the claims of their sets.
 /// Contracts see the program.
 #[derive(Drop)]
@@ -77,6 +89,10 @@ pub struct Outlook<'a> {
     examiner: Examiner<'a>,
     /// The verdicts that were found ahead, in the order of their places.
     known: VecDeque<Known>,
+    /// The last stretch of candidates to be examined ahead.
+    ahead: Ahead,
+    /// How many of them are done with.
+    done: usize,
 }
 
 impl<'a> Model for Outlook<'a> {
@@ -86,9 +102,11 @@ impl<'a> Model for Outlook<'a> {
 
     ghost view = { λ o. o.examiner };
 
+    ghost use Rattle.std.specs.Prelude.{All};
+    ghost use Rattle.mpc_rows.specs.Candidates.{IsCandidate};
     ghost use Rattle.mpc_workers.specs.Ahead.{AreKnown};
 
-    ghost invariant = { λ o. AreKnown o.examiner o.known.items };
+    ghost invariant = { λ o. AreKnown o.examiner o.known.items × All (IsCandidate o.examiner) o.ahead.sets.items };
 }
 
 impl<'a> Outlook<'a> {
@@ -99,6 +117,8 @@ impl<'a> Outlook<'a> {
         Ok(Outlook {
             examiner: Examiner::begin(alloc, qp)?,
             known: VecDeque::new(alloc),
+            ahead: no_candidates(alloc),
+            done: 0,
         })
     }
 
@@ -147,16 +167,31 @@ impl<'a> Outlook<'a> {
         Ok(())
     }
 
-    /// Finds the verdicts on these candidates, and keeps them.
-    pub fn examine_ahead(&mut self, alloc: Global, ahead: &Ahead) -> Result<(), NoMemory>
+    /// Takes a stretch of candidates to be examined ahead, in place of the last one.
+    pub fn take_stretch(&mut self, ahead: Ahead)
+        requires { All (IsCandidate self.old) ahead.sets.items }
+        ensures { self.new ≡ self.old }
+    {
+        self.ahead = ahead;
+        self.done = 0;
+    }
+
+    /// Finds the verdict on the next candidate of the stretch, unless it stands before this place, where others
+    /// have claimed it. Whether there was one.
+    pub fn examine_next(&mut self, alloc: Global, from: usize) -> Result<bool, NoMemory>
         requires definite { IsDefinite self.old.h.rows }
-        requires candidates { All (IsCandidate self.old) ahead.now.sets.items }
         ensures program { self.new ≡ self.old }
     {
         claim_laws();
-        for k in 0..ahead.sets.len() {
-            self.foresee(alloc, ahead.first.wrapping_add(k), ahead.sets[k])?;
+        if self.done >= self.ahead.sets.len() {
+            return Ok(false);
         }
-        Ok(())
+        let place = self.ahead.first.wrapping_add(self.done);
+        let set = self.ahead.sets[self.done];
+        self.done += 1;
+        if place >= from {
+            self.foresee(alloc, place, set)?;
+        }
+        Ok(true)
     }
 }

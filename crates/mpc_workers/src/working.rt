@@ -27,7 +27,7 @@ use std::{hint, thread};
 const MOST_AHEAD: usize = 16;
 
 /// With so many verdicts at hand a worker looks no further ahead.
-const MOST_KNOWN: usize = 32;
+const MOST_KNOWN: usize = 128;
 
 /// Of the candidates left of a level, a worker looks at one in so many times the number of workers, so that
 /// all come to the level's end together.
@@ -39,9 +39,6 @@ const PATIENCE: u32 = 64;
 
 /// How long such a moment is, in steps of a few processor cycles each.
 const PAUSE: u32 = 32;
-
-/// How often a worker looks ahead at most before it claims.
-const MOST_LOOKS: u32 = 1 + PATIENCE;
 
 /// What the workers of a pool share.
 #[derive(Drop)]
@@ -139,18 +136,30 @@ impl<'a> Worker<'a> {
         judged
     }
 
-    /// Finds the verdicts on sets that aren't claimed yet.
-    fn examine_ahead(&mut self, alloc: Global, qp: &'a Qp, ahead: &Ahead) -> Result<(), NoMemory>
-        requires definite { IsDefinite qp.now.h.rows }
-        requires candidates { All (IsCandidate qp.now) ahead.now.sets.items }
-        requires examiner { IfSome self.old.examiner (λ q. q ≡ qp.now) }
+    /// Takes a stretch of candidates to be examined ahead.
+    fn take_stretch(&mut self, _qp: &Qp, ahead: Ahead)
+        requires candidates { All (IsCandidate _qp.now) ahead.sets.items }
+        requires examiner { IfSome self.old.examiner (λ q. q ≡ _qp.now) }
         ensures program { self.new.program ≡ self.old.program }
-        ensures examiner { IfSome self.new.examiner (λ q. q ≡ qp.now) }
+        ensures examiner { IfSome self.new.examiner (λ q. q ≡ _qp.now) }
     {
-        let mut examiner = self.take_examiner(alloc, qp)?;
-        let answer = examiner.examine_ahead(alloc, ahead);
-        discard(self.examiner.replace(examiner));
-        answer
+        if let Some(examiner) = &mut self.examiner {
+            examiner.take_stretch(ahead);
+        }
+    }
+
+    /// Finds the verdict on the next candidate of the stretch, unless it stands before this place. Whether there
+    /// was one.
+    fn examine_next(&mut self, alloc: Global, _qp: &Qp, from: usize) -> Result<bool, NoMemory>
+        requires definite { IsDefinite _qp.now.h.rows }
+        requires examiner { IfSome self.old.examiner (λ q. q ≡ _qp.now) }
+        ensures program { self.new.program ≡ self.old.program }
+        ensures examiner { IfSome self.new.examiner (λ q. q ≡ _qp.now) }
+    {
+        match &mut self.examiner {
+            Some(examiner) => examiner.examine_next(alloc, from),
+            None => Ok(false),
+        }
     }
 
     /// The place of the first set whose verdict is known, if there is one, and else none that a set has.
@@ -257,8 +266,9 @@ fn deliver<T: Wait>(
     let _ = turn.deliver_as(rt, &mut post.pass, ticket, judged);
 }
 
-/// Examines a stretch of candidates before they are claimed, or else has some patience with others' stretches.
-/// Whether there may be more of use: not where the next set to be claimed is known, or none of the level is left.
+/// Takes a further stretch of candidates to be examined ahead, or else has some patience with others'
+/// stretches. Whether there may be more of use: not where the next set to be claimed is known, or none of the
+/// level is left.
 fn look_further<'a, T: Wait, G: Gate>(
     pool: &Pool<'a, T, G>,
     turn: &Turn,
@@ -280,25 +290,51 @@ fn look_further<'a, T: Wait, G: Gate>(
     let known = worker.first_known();
     let most = worker.most_ahead();
     let ahead = turn.look_ahead_as(pool.rt, &mut post.pass, known, parts, most)?;
-    if ahead.next == known {
-        worker.patience = PATIENCE;
-        return Ok(false);
-    }
-    if ahead.next == ahead.end {
+    if ahead.next == known || ahead.next == ahead.end {
         return Ok(false);
     }
     if ahead.sets.is_empty() {
         return Ok(worker.is_patient());
     }
-    worker.examine_ahead(pool.alloc, qp, &ahead)?;
+    worker.take_stretch(qp, ahead);
     Ok(true)
+}
+
+/// One step of looking ahead: examines a candidate of the worker's stretch before its claim, or looks further.
+/// Whether there may be more of use.
+fn step_ahead<'a, T: Wait, G: Gate>(
+    pool: &Pool<'a, T, G>,
+    turn: &Turn,
+    qp: &'a Qp,
+    number: u32,
+    worker: &mut Worker<'a>,
+    post: &mut Post,
+) -> Result<bool, NoMemory>
+    requires definite { IsDefinite qp.now.h.rows }
+    requires working { post.old.saw_end ≡ false }
+    requires examiner { IfSome worker.old.examiner (λ q. q ≡ qp.now) }
+    requires post { IsPost number turn.now qp.now post.old }
+    ensures program { worker.new.program ≡ worker.old.program }
+    ensures examiner { IfSome worker.new.examiner (λ q. q ≡ qp.now) }
+    ensures post { IsPost number turn.now qp.now post.new }
+    ensures working { post.new.saw_end ≡ false }
+{
+    let next = turn.next_place() as usize;
+    if worker.first_known() == next {
+        worker.patience = PATIENCE;
+        return Ok(false);
+    }
+    if worker.examine_next(pool.alloc, qp, next)? {
+        return Ok(true);
+    }
+    look_further(pool, turn, qp, number, worker, post)
 }
 
 /// Examines stretches of candidates before they are claimed, while that is of use.
 ///
 /// A stretch has neighbours, which mostly begin alike. So their beginnings are worked out by one worker, and
-/// once, though each set is claimed by itself and in order. Where another's stretch comes next, and no
-/// further one is of use, the worker looks again some times and then claims all the same, and examines that
+/// once, though each set is claimed by itself and in order. As soon as the next set is one whose verdict
+/// is known, the worker claims. Where another's stretch comes next, and no further one is of use, the worker looks again some times and then claims all the same, and examines that
 /// set anew: whoever has the stretch may be off its processor. It looks again as often only once it has come to
 /// a stretch of its own.
 fn look_ahead<'a, T: Wait, G: Gate>(
@@ -318,12 +354,12 @@ fn look_ahead<'a, T: Wait, G: Gate>(
     ensures post { IsPost number turn.now qp.now post.new }
     ensures working { post.new.saw_end ≡ false }
 {
-    for _ in 0..MOST_LOOKS {
-        if !look_further(pool, turn, qp, number, worker, post)? {
+    for _ in pool.rt.forever() {
+        if !step_ahead(pool, turn, qp, number, worker, post)? {
             return Ok(());
         }
     }
-    Ok(())
+    unreachable!()
 }
 
 /// Examines a set in hand, passes the gate, delivers the verdict and claims the next set of the program:
