@@ -1,7 +1,8 @@
 //! Steps on the lists of a registry.
 
-ghost use Rattle.std.specs.Prelude.{◌≡◌, ℕ, suc, ◌+◌, ◌*◌, ◌^◌, ◌<◌, ◌≤◌, [], ◌∷◌, ◌++◌, true, false, map, length, slice_set, vec_len, vec_capacity, IfOk, OnOk, OnErr, IfSome, IfNone, MatchOption};
+ghost use Rattle.std.specs.Prelude.{◌≡◌, ℕ, suc, ◌+◌, ◌*◌, ◌^◌, ◌<◌, ◌≤◌, [], ◌∷◌, ◌++◌, true, false, map, length, slice_set, vec_len, vec_capacity, IfOk, OnOk, OnErr, IfSome, IfNone, MatchOption, All};
 ghost use Rattle.mpc_sets.specs.NextLevel.{IsLevel};
+ghost use Rattle.mpc_rows.specs.Candidates.{IsCandidate};
 ghost use Rattle.mpc_claim.specs.declared.events.EventKind.TheVariants.{Claim};
 ghost use Rattle.mpc_claim.specs.declared.entries.Mark.TheVariants.{Claimed};
 ghost use Rattle.mpc_claim.specs.Board.{at, event, sets_of, tag_of};
@@ -86,6 +87,38 @@ pub(crate) fn find_bad(entries: &[Entry], verdicts: &[Verdict], from: usize) -> 
         }
     }
     None
+}
+
+/// How many of so many candidates are looked at together: one in so many parts of them, but at least
+/// one, where there is any, and no more than the most.
+pub(crate) fn share_of(left: usize, parts: usize, most: usize) -> usize
+    ensures { result ≤ left }
+{
+    (left / parts.max(1)).max(1).min(most).min(left)
+}
+
+/// The sets of the candidates from this place on, up to that one.
+pub(crate) fn sets_between(
+    alloc: Global,
+    _qp: &Qp,
+    entries: &[Entry],
+    from: usize,
+    to: usize,
+) -> Result<Vec<ActiveSet>, NoMemory>
+    requires within { to ≤ length entries.now }
+    requires candidates { (i : ℕ) → i < length entries.now → IsCandidate _qp.now (entry_at entries.now i).set }
+    ensures { IfOk result (λ sets. All (IsCandidate _qp.now) sets.items) }
+{
+    let mut sets = Vec::new(alloc);
+    let Ok(()) = sets.reserve(to.saturating_sub(from)) else {
+        return Err(NoMemory);
+    };
+    for place in from..to {
+        let Ok(()) = sets.push(entries[place].set) else {
+            return Err(NoMemory);
+        };
+    }
+    Ok(sets)
 }
 
 /// The sets of a level that can grow by a row.

@@ -17,5 +17,5 @@ pub use events::{Event, EventKind, Phase, Tag};
 pub use laws::{claim_laws, history_laws, legal_laws};
 pub use moves::{Action, Played};
 pub use registry::Registry;
-pub use tickets::{Claimed, Delivery, Ticket};
+pub use tickets::{Ahead, Claimed, Delivery, Ticket};
 pub use worlds::World;

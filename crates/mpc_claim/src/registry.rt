@@ -4,7 +4,7 @@ ghost use Rattle.std.specs.Prelude.{◌≡◌, ℕ, ◌<◌, ◌⊎◌, true, fa
 ghost use Rattle.mpc_space.specs.Definite.{IsDefinite};
 ghost use Rattle.mpc_space.specs.Matrix.{height};
 ghost use Rattle.mpc_rows.specs.Verdicts.{IsRight};
-ghost use Rattle.mpc_rows.specs.Candidates.{IsTable};
+ghost use Rattle.mpc_rows.specs.Candidates.{IsCandidate, IsTable};
 ghost use Rattle.mpc_rows.specs.SetRuns.{LawRowsFit};
 ghost use Rattle.mpc_claim.specs.declared.events.Phase.TheVariants.{Working, Finished, Stopped};
 ghost use Rattle.mpc_claim.specs.declared.candidates.Slot.TheVariants.{Waiting};
@@ -14,9 +14,10 @@ ghost use Rattle.mpc_claim.specs.Books.{is_bad, is_done, IsQuiet, IsSound};
 ghost use Rattle.mpc_claim.specs.Answers.{Claims, IsFirstBad, IsLeastBad, abandoned, delivered};
 
 use crate::levels::{
-    append_waiting, collect_laws, find_bad, keep, next_candidates, note_claim, reserve_claims, tag,
+    append_waiting, collect_laws, find_bad, keep, next_candidates, note_claim, reserve_claims,
+    sets_between, share_of, tag,
 };
-use crate::{Claimed, Delivery, Entry, Event, EventKind, Mark, Phase, Ticket};
+use crate::{Ahead, Claimed, Delivery, Entry, Event, EventKind, Mark, Phase, Ticket};
 use mpc_frac::NoMemory;
 use mpc_rows::{Judged, LawTable, Qp, Verdict, law_laws};
 use mpc_sets::{ActiveSet, count_laws, member_laws};
@@ -32,6 +33,8 @@ pub struct Registry {
     verdicts: Vec<Verdict>,
     settled: usize,
     claims: usize,
+    /// Up to which place candidates were looked at ahead. No clause speaks of it.
+    looked: usize,
     pending: usize,
     size: u32,
     phase: Phase,
@@ -68,6 +71,7 @@ impl Registry {
             verdicts: Vec::new(alloc),
             settled: 0,
             claims: 0,
+            looked: 0,
             pending: 0,
             size: 0,
             phase: Phase::Working,
@@ -181,6 +185,28 @@ impl Registry {
             return Ok(Claimed::Idle);
         }
         self.end_level(worker)
+    }
+
+    /// Candidates of the level to be examined before they are claimed: the next ones that were neither
+    /// claimed nor given out by this call, one in so many parts of these, and no more than the most. None
+    /// where the candidate at the place that the caller knows is claimed next. Each can be claimed by
+    /// anyone, as if nobody had looked at it. Refused memory is the only error.
+    pub fn look_ahead(&mut self, known: usize, parts: usize, most: usize) -> Result<Ahead, NoMemory>
+        ensures same { self.new ≡ self.old }
+        ensures candidates { IfOk result (λ ahead. All (IsCandidate self.old.program) ahead.sets.items) }
+    {
+        let end = self.entries.len();
+        let most = if known == self.claims { 0 } else { most };
+        let first = self.looked.max(self.claims).min(end);
+        let to = first + share_of(end - first, parts, most);
+        let sets = sets_between(self.alloc, &self.program, &self.entries, first, to)?;
+        self.looked = to;
+        Ok(Ahead {
+            first,
+            next: self.claims,
+            end,
+            sets,
+        })
     }
 
     /// Takes the verdict on a claimed set. It takes no memory.

@@ -52,3 +52,16 @@ pub enum Claimed {
 pub enum Delivery {
     Taken,
 }
+
+/// Candidates to be examined before they are claimed.
+#[derive(Drop)]
+pub struct Ahead {
+    /// The place of the first one among all candidates, from 0.
+    pub first: usize,
+    /// The place of the candidate that is claimed next.
+    pub next: usize,
+    /// The place behind the last candidate.
+    pub end: usize,
+    /// Their sets, in order.
+    pub sets: Vec<ActiveSet>,
+}

@@ -2,7 +2,7 @@
 use Rattle.std.proofs.Common.{◌≡◌, ◌⊎◌, ℕ, zero, suc, ◌+◌, ◌-◌, ◌<◌, ◌≤◌, List, [], ◌∷◌, ◌++◌, map, length, get_or, drop, Bool, true, false, true≢false, Some, None, refl, sym, ap, ◌∙◌, subst, ⊎_elim, inl, inr, eqb, eqb-true, arith, append_assoc, length-append}
 use Rattle.std.specs.List.{All}
 use Rattle.std.proofs.lemmas.List.Elements.{All-head, All-tail, All-append, All-nil, All-cons, All-same}
-use Rattle.std.specs.Prelude.{cond, slice_get, ◌||◌}
+use Rattle.std.specs.Prelude.{cond, slice_get, ◌||◌, IfOk}
 use Rattle.std.proofs.lemmas.Option.{slice_get_within, get_or_from_slice_get}
 use mathlib.Core.Option.{some, some-injective}
 use lib.ListN.{get_elem?}
@@ -11,9 +11,11 @@ use Rattle.atomic_table.specs.Seated.{TableId}
 use Rattle.std.specs.Prelude.{Result, Ok, Err}
 use Rattle.mpc_rows.specs.declared.programs.Qp.{Qp}
 use Rattle.mpc_rows.specs.declared.verdicts.Verdict.{Verdict}
+use Rattle.mpc_rows.specs.Candidates.{IsCandidate}
 use Rattle.mpc_rows.specs.Verdicts.{IsRight}
 use Rattle.mpc_claim.specs.declared.events.EventKind.TheVariants.{Claim}
 use Rattle.mpc_frac.specs.declared.NoMemory.{NoMemory}
+use Rattle.mpc_claim.specs.declared.tickets.Ahead.{Ahead}
 use Rattle.mpc_claim.specs.declared.tickets.Claimed.{Claimed}
 use Rattle.mpc_claim.specs.declared.tickets.Claimed.TheVariants.{Job, Idle, Finished, Stopped}
 use Rattle.mpc_claim.specs.declared.events.Event.{Event}
@@ -29,7 +31,7 @@ use Rattle.mpc_claim.specs.Books.{IsSlotOf, IsSound}
 use Rattle.mpc_turn.specs.declared.view.View.{View}
 use Rattle.mpc_turn.specs.Views.{Call, weigh, weigh_all, placed, hand_of, hands_of, Starts, numbered, turned, served, both_of, Follows, AreOpen}
 use Rattle.mpc_turn.specs.Lock.{Sat, Kept, IsOutside, Ends, compared}
-use Rattle.mpc_turn.specs.Known.{Known, known, IsPass, StandsFrom, HasTurn, Holds, MayDeliver, ClaimsBy, EndsBy, IsDue, InHand, NoneClaimed, Closed, called, looked_on, ClaimedAs, EndedAs, EndedThenClaimed}
+use Rattle.mpc_turn.specs.Known.{Known, known, IsPass, StandsFrom, HasTurn, Holds, MayDeliver, ClaimsBy, EndsBy, LooksAt, IsDue, InHand, NoneClaimed, Closed, called, looked_on, Looks, ClaimedAs, EndedAs, EndedThenClaimed}
 use Rattle.mpc_turn.proofs.Sums.{and_first, placed-append, drop_whole, append-nil, starts_on}
 use Rattle.mpc_turn.proofs.Once.{once, all_stand}
 use Rattle.mpc_turn.proofs.Lending.{closes}
@@ -331,6 +333,37 @@ module _ (id id' : TableId) (w : ℕ) (m m1 m2 m3 : Sat) (k : Known) (is : known
     claim_is gave same_id =
         let q = chain m.0 m1 m2 m3 (ClaimsBy w res) turn kept does gave in
         subst (λ (k : Known). ClaimedAs k res (known id' w m3.0)) is (claimed_is id id' w m.0 m3 q.found q.left (same_turn same_id) q.leaves q.program q.begins res q.does.0)
+
+  -- a look ahead
+  module _ (res : Result Ahead NoMemory) (does : Holds m1.1 (λ r. Holds m2.1 (LooksAt res r))) where
+    pub look_due : IsDue m2
+    look_due = due m.0 m1 m2 (LooksAt res) p.living turn kept does follows
+      where
+        follows : (r s : Board) → r.program ≡ m.0.program → LooksAt res r s → Follows (turned m.0 r.history) s
+        follows r s program (same, legal, _) = (ap (λ (x : Board). x.program) same ∙ program, legal, ([], ap (λ (x : Board). x.history) same ∙ sym (append-nil r.history), tt))
+
+    module _ (gave : Gave) where
+      abbrev seen : Chain m.0 (LooksAt res) m3
+      seen = chain m.0 m1 m2 m3 (LooksAt res) turn kept does gave
+
+      abbrev same_history : seen.left.history ≡ seen.found.history
+      same_history = ap (λ (x : Board). x.history) seen.does.0
+
+      pub look_pass : IsPass w m3
+      look_pass =
+          still_pass w m p m3 seen.found.history seen.left.history seen.begins seen.leaves same_history (subst (λ (j : Qp). IsLegal j seen.left.history) (ap (λ (x : Board). x.program) seen.does.0 ∙ seen.program) seen.does.1)
+
+      look_is : id' ≡ k.turn → (known id' w m3.0 ≡ looked_on (known id w m.0) seen.found.history)
+      look_is same_id = looked_is id id' w m.0 m3 seen.found.history seen.left.history (same_turn same_id) seen.leaves same_history
+
+      pub look_looks : id' ≡ k.turn → Looks k (known id' w m3.0)
+      look_looks same_id =
+          let at = look_is same_id in
+          subst (λ (k : Known). Looks k (known id' w m3.0)) is
+          (subst (λ (j : Known). Looks (known id w m.0) j) (sym at) (seen.begins, refl))
+
+      pub look_candidates : IfOk res (λ (a : Ahead). All (IsCandidate k.program) a.sets.items)
+      look_candidates = subst (λ (q : Qp). IfOk res (λ (a : Ahead). All (IsCandidate q) a.sets.items)) (seen.program ∙ ap (λ (k : Known). k.program) is) seen.does.2
 
   -- the end of a set in the hand
   module _ (t : Ticket) (kind : EventKind) (hand : InHand t k) where

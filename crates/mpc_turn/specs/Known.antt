@@ -1,15 +1,17 @@
 -- A pass as callers see it, and what each call does to it.
-use Rattle.std.specs.Prelude.{◌≡◌, ◌≢◌, ℕ, ◌+◌, ◌-◌, ◌<◌, ◌≤◌, ◌⊎◌, List, [], ◌∷◌, ◌++◌, length, drop, Bool, true, false, Result, Ok, Err, cond, slice_get, Some, ◌==◌, if◌then◌else◌}
+use Rattle.std.specs.Prelude.{◌≡◌, ◌≢◌, ℕ, ◌+◌, ◌-◌, ◌<◌, ◌≤◌, ◌⊎◌, List, [], ◌∷◌, ◌++◌, length, drop, Bool, true, false, Result, Ok, Err, cond, slice_get, Some, ◌==◌, if◌then◌else◌, IfOk}
 use Rattle.std.specs.List.{All}
 use Rattle.atomic_table.specs.Seated.{TableId}
 use Rattle.mpc_rows.specs.declared.programs.Qp.{Qp}
 use Rattle.mpc_rows.specs.declared.verdicts.Verdict.{Verdict}
+use Rattle.mpc_rows.specs.Candidates.{IsCandidate}
 use Rattle.mpc_rows.specs.Verdicts.{IsRight}
 use Rattle.mpc_claim.specs.declared.events.Event.{Event}
 use Rattle.mpc_claim.specs.declared.events.EventKind.{EventKind}
 use Rattle.mpc_claim.specs.declared.events.EventKind.TheVariants.{Claim}
 use Rattle.mpc_claim.specs.declared.tickets.Ticket.{Ticket}
 use Rattle.mpc_frac.specs.declared.NoMemory.{NoMemory}
+use Rattle.mpc_claim.specs.declared.tickets.Ahead.{Ahead}
 use Rattle.mpc_claim.specs.declared.tickets.Claimed.{Claimed}
 use Rattle.mpc_claim.specs.declared.tickets.Claimed.TheVariants.{Job, Idle, Finished, Stopped}
 use Rattle.mpc_claim.specs.Board.{Board, at, event}
@@ -71,6 +73,10 @@ called a h e = record a { seen = h ++ e ∷ []; calls = a.calls ++ (length h, e)
 abbrev pub looked_on : Known → List Event → Known
 looked_on a h = record a { seen = h }
 
+-- a call that changes nothing saw a history that begins with what was seen
+abbrev pub Looks : Known → Known → Type 0
+Looks a b = Starts b.seen a.seen × (b ≡ looked_on a b.seen)
+
 -- the answer is that of the registry where the call found the history
 abbrev pub ClaimedAs : Known → Result Claimed NoMemory → Known → Type 0
 ClaimedAs a (Ok (Job t)) b = (h : List Event) × Starts h a.seen × (b ≡ called a h (event a.worker t.set Claim)) × (t ≡ next_ticket h a.worker t.set) × MayClaim a.program h t.set
@@ -123,6 +129,10 @@ ClaimsBy w answer r s = Claims r w answer s × IsLegal s.program s.history
 
 abbrev pub EndsBy : Ticket → EventKind → Board → Board → Type 0
 EndsBy t kind r s = (s.program ≡ r.program) × (s.history ≡ r.history ++ event t.worker t.set kind ∷ []) × IsLegal s.program s.history
+
+-- a look ahead leaves it as it was, and answers with candidates
+abbrev pub LooksAt : Result Ahead NoMemory → Board → Board → Type 0
+LooksAt answer r s = (s ≡ r) × IsLegal s.program s.history × IfOk answer (λ (a : Ahead). All (IsCandidate r.program) a.sets.items)
 
 -- 1 for a call at this position
 abbrev pub at_place : ℕ → Call → ℕ

@@ -1,18 +1,19 @@
 //! The lock.
 
-ghost use Rattle.std.specs.Prelude.{◌≡◌, ◌<◌, ◌+◌, ◌-◌, ℕ, [], ◌∷◌, ◌++◌, true, false, length, drop, IfOk, MatchOption};
+ghost use Rattle.std.specs.Prelude.{◌≡◌, ◌<◌, ◌+◌, ◌-◌, ℕ, [], ◌∷◌, ◌++◌, true, false, length, drop, IfOk, MatchOption, All};
+ghost use Rattle.mpc_rows.specs.Candidates.{IsCandidate};
 ghost use Rattle.mpc_rows.specs.Verdicts.{IsRight};
 ghost use Rattle.mpc_claim.specs.declared.events.EventKind.TheVariants.{Done, Drop};
 ghost use Rattle.mpc_claim.specs.Board.{tag_of};
 ghost use Rattle.mpc_claim.specs.History.{IsOpen};
 ghost use Rattle.mpc_turn.specs.Views.{Starts, served, longer};
 ghost use Rattle.mpc_turn.specs.Lock.{Draws, IsOutside};
-ghost use Rattle.mpc_turn.specs.Known.{Known, first_pass, ClaimedAs, EndedAs, EndedThenClaimed, InHand, HasTurn, Holds, IsDue, MayDeliver, ClaimsBy, EndsBy, Closed};
+ghost use Rattle.mpc_turn.specs.Known.{Known, first_pass, ClaimedAs, EndedAs, EndedThenClaimed, InHand, HasTurn, Holds, IsDue, MayDeliver, ClaimsBy, EndsBy, Looks, LooksAt, Closed};
 
 use crate::passes::{Pass, Seat};
 use crate::view::{Compare, Draw, Law, Lend, Look, Serve, View};
 use atomic_table::Table;
-use mpc_claim::{Claimed, Delivery, Registry, Ticket, history_laws, legal_laws};
+use mpc_claim::{Ahead, Claimed, Delivery, Registry, Ticket, history_laws, legal_laws};
 use mpc_frac::NoMemory;
 use mpc_rows::Judged;
 use std::alloc::Global;
@@ -49,6 +50,8 @@ const QUICK_LOOKS: u32 = 100;
 pub struct Turn {
     table: Table<Registry, View, Snapshot<Registry>, Law, Global>,
     sleepers: AtomicU64,
+    /// The place of the candidate that is claimed next, as the last claim left it.
+    next: AtomicU64,
 }
 
 impl Model for Turn {
@@ -154,6 +157,13 @@ impl Turn {
         self.wake();
     }
 
+    /// Notes which candidate is claimed next, where the answer gives one out.
+    fn note_next(&self, answer: &Result<Claimed, NoMemory>) {
+        if let Ok(Claimed::Job(ticket)) = answer {
+            self.next.store(ticket.number() as u64, Ordering::SeqCst);
+        }
+    }
+
     /// A claim on the registry that is out with the seat.
     fn claim_in(&self, seat: &mut Seat, worker: u32) -> Result<Claimed, NoMemory>
         requires turn { seat.old.table_id ≡ self.now }
@@ -164,6 +174,33 @@ impl Turn {
     {
         let registry = seat.slot_mut(&self.table.shared, 0);
         let answer = registry.claim(worker);
+        let _history = registry.history();
+        self.note_next(&answer);
+        answer
+    }
+
+    /// The place of the candidate that is claimed next, from 0, as it may have been a moment ago. No
+    /// clause speaks of it.
+    pub fn next_place(&self) -> u64 {
+        self.next.load(Ordering::SeqCst)
+    }
+
+    /// A look ahead on the registry that is out with the seat.
+    fn look_ahead_in(
+        &self,
+        seat: &mut Seat,
+        known: usize,
+        parts: usize,
+        most: usize,
+    ) -> Result<Ahead, NoMemory>
+        requires turn { seat.old.table_id ≡ self.now }
+        requires taken { Holds seat.old.me.1 (λ r. r ≡ r) }
+        ensures turn { seat.new.table_id ≡ self.now }
+        ensures view { seat.new.me.0 ≡ seat.old.me.0 }
+        ensures looked { Holds seat.old.me.1 (λ r. Holds seat.new.me.1 (LooksAt result r)) }
+    {
+        let registry = seat.slot_mut(&self.table.shared, 0);
+        let answer = registry.look_ahead(known, parts, most);
         let _history = registry.history();
         answer
     }
@@ -212,7 +249,15 @@ impl Turn {
             return Err(NoMemory);
         };
         let sleepers = AtomicU64::new(0);
-        Ok((Turn { table, sleepers }, Pass { seat, worker: 0 }))
+        let next = AtomicU64::new(0);
+        Ok((
+            Turn {
+                table,
+                sleepers,
+                next,
+            },
+            Pass { seat, worker: 0 },
+        ))
     }
 
     /// Waits for the turn and claims. Afterwards, also without memory, the pass has seen a history
@@ -223,6 +268,26 @@ impl Turn {
     {
         self.take(rt, &mut pass.seat);
         let answer = self.claim_in(&mut pass.seat, pass.worker);
+        self.serve(&mut pass.seat);
+        answer
+    }
+
+    /// Waits for the turn and looks at candidates that may be claimed later, as the registry's
+    /// `look_ahead` gives them out. Nothing is claimed or ended.
+    pub fn look_ahead_as<T: Wait>(
+        &self,
+        rt: &T,
+        pass: &mut Pass,
+        known: usize,
+        parts: usize,
+        most: usize,
+    ) -> Result<Ahead, NoMemory>
+        requires { pass.old.turn ≡ self.now }
+        ensures looked { Looks pass.old pass.new }
+        ensures candidates { IfOk result (λ ahead. All (IsCandidate pass.old.program) ahead.sets.items) }
+    {
+        self.take(rt, &mut pass.seat);
+        let answer = self.look_ahead_in(&mut pass.seat, known, parts, most);
         self.serve(&mut pass.seat);
         answer
     }
@@ -320,7 +385,11 @@ impl Turn {
         ensures { Closed first result }
     {
         legal_laws();
-        let Turn { table, sleepers: _ } = self;
+        let Turn {
+            table,
+            sleepers: _,
+            next: _,
+        } = self;
         let Pass { seat, worker: _ } = first;
         let mut closed = table.close_with(seat);
         let registry = closed.take(0);

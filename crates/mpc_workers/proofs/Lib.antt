@@ -1,3 +1,4 @@
+pub mod Foreseen
 pub mod Holding
 pub mod Turns
 pub mod Hands

@@ -1,3 +1,4 @@
+pub mod Ahead
 pub mod Holding
 pub mod Alone
 pub mod Calls

@@ -10,6 +10,7 @@ ghost use Rattle.mpc_claim.specs.Board.{opening};
 ghost use Rattle.mpc_claim.specs.History.{IsOpen};
 ghost use Rattle.mpc_workers.specs.Alone.{Delivers, IsDoneAlone};
 
+mod ahead;
 mod joining;
 mod pool;
 mod seats;
@@ -26,7 +27,7 @@ use std::alloc::Global;
 
 /// Lets an examiner go. What it holds is taken apart here alone, since each function that did so would be
 /// dear to prove.
-pub(crate) fn discard(_examiner: Option<Examiner>) {}
+fn discard(_examiner: Examiner) {}
 
 /// Examines a claimed set, passes the gate and delivers the verdict. Without memory the set is
 /// given up.
@@ -96,7 +97,7 @@ fn examine_all<G: Gate>(
 {
     let mut examiner = Examiner::begin(alloc, qp)?;
     let answer = take_turns(alloc, qp, registry, &mut examiner, gate);
-    discard(Some(examiner));
+    discard(examiner);
     answer
 }
 

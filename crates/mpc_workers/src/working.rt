@@ -5,23 +5,40 @@ ghost use Rattle.mpc_space.specs.Definite.{IsDefinite};
 ghost use Rattle.mpc_space.specs.Matrix.{height};
 ghost use Rattle.mpc_sets.specs.RowSet.{IsSetOfRows};
 ghost use Rattle.mpc_rows.specs.declared.programs.Qp.{Qp as Program};
+ghost use Rattle.mpc_rows.specs.Candidates.{IsCandidate};
 ghost use Rattle.mpc_rows.specs.Verdicts.{IsRight};
 ghost use Rattle.mpc_workers.specs.Posts.{after, AtEach, CallsOnlyAt, ComesFirst, GivesNoJob, HasNothing, IsAnswered, IsAtProgram, IsBusy, IsPost};
 ghost use Rattle.mpc_workers.specs.Seats.{IsSeat, KeepWorkers};
 
-use crate::discard;
+use crate::ahead::{NOWHERE, Outlook, discard};
 use crate::seats::{Post, Seat};
 use crate::waiting::{News, seats_at_once};
-use mpc_claim::{Claimed, Ticket, claim_laws};
+use mpc_claim::{Ahead, Claimed, Ticket, claim_laws};
 use mpc_frac::NoMemory;
 use mpc_port::Gate;
-use mpc_region::Examiner;
 use mpc_rows::{Judged, Qp};
 use mpc_turn::{Turn, hand_laws};
 use std::alloc::Global;
 use std::sync::Wait;
-use std::thread;
 use std::thread::Threads;
+use std::{hint, thread};
+
+/// How many candidates a worker looks at ahead at once, at most.
+const MOST_AHEAD: usize = 16;
+
+/// With so many verdicts at hand a worker looks no further ahead.
+const MOST_KNOWN: usize = 128;
+
+/// Of the candidates left of a level, a worker looks at one in so many times the number of workers, so that
+/// all come to the level's end together.
+const PARTS: usize = 4;
+
+/// How often a worker lets a moment pass where another's stretch comes next. Together these take about as long as
+/// a stretch.
+const PATIENCE: u32 = 64;
+
+/// How long such a moment is, in steps of a few processor cycles each.
+const PAUSE: u32 = 32;
 
 /// What the workers of a pool share.
 #[derive(Drop)]
@@ -43,17 +60,21 @@ pub struct Worker<'a> {
     pub program: usize,
     /// How many members that set had, 0 before the first one.
     pub level: u32,
-    /// The examiner of that program.
-    pub examiner: Option<Examiner<'a>>,
+    /// How often it still lets a moment pass where another's stretch comes next.
+    pub patience: u32,
+    /// The examiner of that program, with the verdicts that it found ahead.
+    pub examiner: Option<Outlook<'a>>,
 }
 
 impl<'a> Worker<'a> {
     fn new() -> Worker<'a>
-        ensures { result ≡ record { program = 0; level = 0; examiner = None } }
+        ensures program { result.program ≡ 0 }
+        ensures examiner { result.examiner ≡ None }
     {
         Worker {
             program: 0,
             level: 0,
+            patience: PATIENCE,
             examiner: None,
         }
     }
@@ -85,7 +106,7 @@ impl<'a> Worker<'a> {
     }
 
     /// The examiner of the program, which begins at the worker's first set there.
-    fn take_examiner(&mut self, alloc: Global, qp: &'a Qp) -> Result<Examiner<'a>, NoMemory>
+    fn take_examiner(&mut self, alloc: Global, qp: &'a Qp) -> Result<Outlook<'a>, NoMemory>
         requires { IfSome self.old.examiner (λ q. q ≡ qp.now) }
         ensures program { self.new.program ≡ self.old.program }
         ensures taken { self.new.examiner ≡ None }
@@ -93,7 +114,7 @@ impl<'a> Worker<'a> {
     {
         match self.examiner.take() {
             Some(examiner) => Ok(examiner),
-            None => Examiner::begin(alloc, qp),
+            None => Outlook::begin(alloc, qp),
         }
     }
 
@@ -108,10 +129,68 @@ impl<'a> Worker<'a> {
         ensures set { IfOk result (λ j. j.set ≡ ticket.now.set) }
         ensures right { IfOk result (λ j. IsRight qp.now ticket.now.set j.verdict) }
     {
+        let place = (ticket.number() as usize).wrapping_sub(1);
         let mut examiner = self.take_examiner(alloc, qp)?;
-        let judged = examiner.examine(alloc, ticket.set());
+        let judged = examiner.examine(alloc, place, ticket.set());
         discard(self.examiner.replace(examiner));
         judged
+    }
+
+    /// Takes a stretch of candidates to be examined ahead.
+    fn take_stretch(&mut self, _qp: &Qp, ahead: Ahead)
+        requires candidates { All (IsCandidate _qp.now) ahead.sets.items }
+        requires examiner { IfSome self.old.examiner (λ q. q ≡ _qp.now) }
+        ensures program { self.new.program ≡ self.old.program }
+        ensures examiner { IfSome self.new.examiner (λ q. q ≡ _qp.now) }
+    {
+        if let Some(examiner) = &mut self.examiner {
+            examiner.take_stretch(ahead);
+        }
+    }
+
+    /// Finds the verdict on the next candidate of the stretch, unless it stands before this place. Whether there
+    /// was one.
+    fn examine_next(&mut self, alloc: Global, _qp: &Qp, from: usize) -> Result<bool, NoMemory>
+        requires definite { IsDefinite _qp.now.h.rows }
+        requires examiner { IfSome self.old.examiner (λ q. q ≡ _qp.now) }
+        ensures program { self.new.program ≡ self.old.program }
+        ensures examiner { IfSome self.new.examiner (λ q. q ≡ _qp.now) }
+    {
+        match &mut self.examiner {
+            Some(examiner) => examiner.examine_next(alloc, from),
+            None => Ok(false),
+        }
+    }
+
+    /// The place of the first set whose verdict is known, if there is one, and else none that a set has.
+    fn first_known(&self) -> usize {
+        match &self.examiner {
+            Some(examiner) => examiner.first_known(),
+            None => NOWHERE,
+        }
+    }
+
+    /// How many candidates to look at ahead at most: none once as many verdicts are known as are of use.
+    fn most_ahead(&self) -> usize {
+        match &self.examiner {
+            Some(examiner) if examiner.count_known() >= MOST_KNOWN => 0,
+            _ => MOST_AHEAD,
+        }
+    }
+
+    /// Lets a moment pass, unless that was done too often since the worker came to a stretch of its own.
+    /// Whether it was.
+    fn is_patient(&mut self) -> bool
+        ensures { self.new ≡ record self.old { patience = self.new.patience } }
+    {
+        if self.patience == 0 {
+            return false;
+        }
+        self.patience -= 1;
+        for _ in 0..PAUSE {
+            hint::spin_loop();
+        }
+        true
     }
 }
 
@@ -167,9 +246,125 @@ fn claim<T: Wait>(
     taken(turn, qp, number, post, answer)
 }
 
-/// Examines a set in hand, passes the gate, and delivers the verdict and claims the next set of the
-/// program in one turn. Without memory for its verdict the set is given up. Once the work is called
-/// off, there is no next one.
+/// Delivers the verdict on a set in hand.
+fn deliver<T: Wait>(
+    rt: &T,
+    turn: &Turn,
+    _qp: &Qp,
+    number: u32,
+    post: &mut Post,
+    ticket: Ticket,
+    judged: Judged,
+)
+    requires post { IsBusy number turn.now _qp.now ticket post.old }
+    requires set { judged.set ≡ ticket.set }
+    requires right { IsRight _qp.now ticket.set judged.verdict }
+    ensures post { IsPost number turn.now _qp.now post.new }
+    ensures working { post.new.saw_end ≡ false }
+{
+    hand_laws();
+    let _ = turn.deliver_as(rt, &mut post.pass, ticket, judged);
+}
+
+/// Takes a further stretch of candidates to be examined ahead, or else has some patience with others'
+/// stretches. Whether there may be more of use: not where the next set to be claimed is known, or none of the
+/// level is left.
+fn look_further<'a, T: Wait, G: Gate>(
+    pool: &Pool<'a, T, G>,
+    turn: &Turn,
+    qp: &'a Qp,
+    number: u32,
+    worker: &mut Worker<'a>,
+    post: &mut Post,
+) -> Result<bool, NoMemory>
+    requires definite { IsDefinite qp.now.h.rows }
+    requires working { post.old.saw_end ≡ false }
+    requires examiner { IfSome worker.old.examiner (λ q. q ≡ qp.now) }
+    requires post { IsPost number turn.now qp.now post.old }
+    ensures program { worker.new.program ≡ worker.old.program }
+    ensures examiner { IfSome worker.new.examiner (λ q. q ≡ qp.now) }
+    ensures post { IsPost number turn.now qp.now post.new }
+    ensures working { post.new.saw_end ≡ false }
+{
+    let parts = (pool.workers as usize).saturating_mul(PARTS);
+    let known = worker.first_known();
+    let most = worker.most_ahead();
+    let ahead = turn.look_ahead_as(pool.rt, &mut post.pass, known, parts, most)?;
+    if ahead.next == known || ahead.next == ahead.end {
+        return Ok(false);
+    }
+    if ahead.sets.is_empty() {
+        return Ok(worker.is_patient());
+    }
+    worker.take_stretch(qp, ahead);
+    Ok(true)
+}
+
+/// One step of looking ahead: examines a candidate of the worker's stretch before its claim, or looks further.
+/// Whether there may be more of use.
+fn step_ahead<'a, T: Wait, G: Gate>(
+    pool: &Pool<'a, T, G>,
+    turn: &Turn,
+    qp: &'a Qp,
+    number: u32,
+    worker: &mut Worker<'a>,
+    post: &mut Post,
+) -> Result<bool, NoMemory>
+    requires definite { IsDefinite qp.now.h.rows }
+    requires working { post.old.saw_end ≡ false }
+    requires examiner { IfSome worker.old.examiner (λ q. q ≡ qp.now) }
+    requires post { IsPost number turn.now qp.now post.old }
+    ensures program { worker.new.program ≡ worker.old.program }
+    ensures examiner { IfSome worker.new.examiner (λ q. q ≡ qp.now) }
+    ensures post { IsPost number turn.now qp.now post.new }
+    ensures working { post.new.saw_end ≡ false }
+{
+    let next = turn.next_place() as usize;
+    if worker.first_known() == next {
+        worker.patience = PATIENCE;
+        return Ok(false);
+    }
+    if worker.examine_next(pool.alloc, qp, next)? {
+        return Ok(true);
+    }
+    look_further(pool, turn, qp, number, worker, post)
+}
+
+/// Examines stretches of candidates before they are claimed, while that is of use.
+///
+/// A stretch has neighbours, which mostly begin alike. So their beginnings are worked out by one worker, and
+/// once, though each set is claimed by itself and in order. As soon as the next set is one whose verdict
+/// is known, the worker claims. Where another's stretch comes next, and no further one is of use, the worker looks again some times and then claims all the same, and examines that
+/// set anew: whoever has the stretch may be off its processor. It looks again as often only once it has come to
+/// a stretch of its own.
+fn look_ahead<'a, T: Wait, G: Gate>(
+    pool: &Pool<'a, T, G>,
+    turn: &Turn,
+    qp: &'a Qp,
+    number: u32,
+    worker: &mut Worker<'a>,
+    post: &mut Post,
+) -> Result<(), NoMemory>
+    requires definite { IsDefinite qp.now.h.rows }
+    requires working { post.old.saw_end ≡ false }
+    requires examiner { IfSome worker.old.examiner (λ q. q ≡ qp.now) }
+    requires post { IsPost number turn.now qp.now post.old }
+    ensures program { worker.new.program ≡ worker.old.program }
+    ensures examiner { IfSome worker.new.examiner (λ q. q ≡ qp.now) }
+    ensures post { IsPost number turn.now qp.now post.new }
+    ensures working { post.new.saw_end ≡ false }
+{
+    for _ in pool.rt.forever() {
+        if !step_ahead(pool, turn, qp, number, worker, post)? {
+            return Ok(());
+        }
+    }
+    unreachable!()
+}
+
+/// Examines a set in hand, passes the gate, delivers the verdict and claims the next set of the program:
+/// in one turn where that one's verdict is known, and else once it has looked ahead. Without memory for its
+/// verdict the set is given up. Once the work is called off, there is no next one.
 fn finish_set<'a, T: Wait, G: Gate>(
     pool: &Pool<'a, T, G>,
     turn: &Turn,
@@ -191,6 +386,7 @@ fn finish_set<'a, T: Wait, G: Gate>(
     hand_laws();
     claim_laws();
     worker.report(ticket.set().size(), pool.news);
+    let next = ticket.number() as usize;
     let judged = match worker.examine(pool.alloc, qp, &ticket) {
         Ok(judged) => judged,
         Err(refused) => {
@@ -200,12 +396,16 @@ fn finish_set<'a, T: Wait, G: Gate>(
         }
     };
     pool.gate.between(ticket.worker(), ticket.set().mask());
+    if worker.first_known() == next && !pool.news.is_called_off() {
+        let answer = turn.deliver_then_claim_as(pool.rt, &mut post.pass, ticket, judged);
+        return taken(turn, qp, number, post, answer);
+    }
+    deliver(pool.rt, turn, qp, number, post, ticket, judged);
     if pool.news.is_called_off() {
-        let _ = turn.deliver_as(pool.rt, &mut post.pass, ticket, judged);
         return Err(NoMemory);
     }
-    let answer = turn.deliver_then_claim_as(pool.rt, &mut post.pass, ticket, judged);
-    taken(turn, qp, number, post, answer)
+    look_ahead(pool, turn, qp, number, worker, post)?;
+    claim(pool.rt, turn, qp, number, post)
 }
 
 /// Works on sets of a program from the one in hand on, until the program has none to claim.
@@ -402,6 +602,7 @@ fn work_and_wake<'a, T: Wait, G: Gate>(pool: &Pool<'a, T, G>, seat: &mut Seat)
     let Worker {
         program: _,
         level: _,
+        patience: _,
         examiner,
     } = worker;
     discard(examiner);

@@ -25,25 +25,6 @@ returns-in-Err-clause-err g c = record {
   ended = λ e. absurd (true≢false (sym e ∙ c.requires.post.working));
 }
 
-pub deliver_as-requires-clause-turn : goal.deliver_as-requires-clause-turn
-deliver_as-requires-clause-turn g c = its_turn c.args.number c.args.turn.now c.args.qp.now c.args.ticket c.args.post.now c.requires.post
-
-pub deliver_as-requires-clause-hand : goal.deliver_as-requires-clause-hand
-deliver_as-requires-clause-hand g c = its_hand c.args.number c.args.turn.now c.args.qp.now c.args.ticket c.args.post.now c.requires.post c.hand_laws.ensures.in_hand
-
-pub deliver_as-requires-clause-right : goal.deliver_as-requires-clause-right
-deliver_as-requires-clause-right g c =
-    subst (λ (q : Qp). IsRight q c.args.ticket.set c.in-Ok.judged.verdict) (sym (its_program c.args.number c.args.turn.now c.args.qp.now c.args.ticket c.args.post.now c.requires.post)) c.in-Ok.ensures.right
-
-pub returns-then-is_called_off-clause-err : goal.returns-then-is_called_off-clause-err
-returns-then-is_called_off-clause-err g c =
-    let kind = Done (tag_of c.in-Ok.judged.verdict) in
-    record {
-      pass = ended_pass c.args.number c.args.turn.now c.args.qp.now c.args.ticket c.args.post.now c.requires.post c.hand_laws.ensures.claimed c.hand_laws.ensures.ended kind refl c.deliver_as.new.pass c.deliver_as.ensures;
-      kept = ended_kept c.args.number c.args.turn.now c.args.qp.now c.args.ticket c.args.post.now c.requires.post c.hand_laws.ensures.claimed c.hand_laws.ensures.ended kind refl c.deliver_as.new.pass c.deliver_as.ensures refl;
-      ended = λ e. absurd (true≢false (sym e ∙ c.requires.post.working));
-    }
-
 pub deliver_then_claim_as-answer-requires-clause-turn : goal.deliver_then_claim_as-answer-requires-clause-turn
 deliver_then_claim_as-answer-requires-clause-turn g c = its_turn c.args.number c.args.turn.now c.args.qp.now c.args.ticket c.args.post.now c.requires.post
 
