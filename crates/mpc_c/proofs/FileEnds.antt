@@ -1,5 +1,5 @@
 -- What is answered to a plant's file and to a controller's.
-use Rattle.std.proofs.Common.{◌≡◌, ◌≢◌, ℕ, ◌<◌, ◌≤◌, List, [], length, refl, sym, subst}
+use Rattle.std.proofs.Common.{◌≡◌, ◌≢◌, ℕ, ◌^◌, ◌<◌, ◌≤◌, List, [], length, refl, sym, subst, arith, lit<}
 use Rattle.std.specs.Prelude.{Result, Ok, Err, IfOk, IfErr, codes}
 use Rattle.std.specs.Global.{Vec}
 use Rattle.mpc_plant.specs.declared.plants.Plant.{Plant}
@@ -24,6 +24,7 @@ use Rattle.mpc_files.specs.FileOutcomes.{FileReading, fails, spells, IsFileReadi
 use Rattle.mpc_files.specs.FileAnswers.{HasController}
 use Rattle.mpc_safety.specs.RightForever.{SafeStaysRight}
 use Rattle.mpc_safety.specs.SafetyOutcomes.{bad_file as bad_safety_file, finds as finds_first, steps, safe}
+use Rattle.mpc_theorem.specs.SafeFiles.{DueIsFound}
 use Rattle.mpc_status.specs.declared.status.Status.{Status}
 use Rattle.mpc_status.specs.declared.status.Status.TheVariants.{Done, BadPlant, TooLong, NoMemory}
 use Rattle.mpc_status.specs.StatusText.{line_of}
@@ -141,14 +142,14 @@ module _ (file : List ℕ) (parts : Parts) (given : HasController file parts) wh
   pub found : (s : Status) → IsFinding parts s → IsCheckRefusal file s
   found s h c u in_memory = let f = h in_memory in (found_by s f c u, subst (λ q. q ≢ Done) (sym f.status_is) (found_done f.outcome))
 
-  pub step_found : (s : Status) → Accepts parts → IsStepFinding parts s → IsRefusal Safe file s
-  step_found s accepts h in_memory =
-      let f = h in_memory in (
-        record { outcome = steps f.outcome; came = record { parts = parts; spelled = given.spelled; accepts = accepts; found = f.came }; status_is = f.status_is },
-        subst (λ q. q ≢ Done) (sym f.status_is) (step_done f.outcome),
-      )
-
   module _ (short : length file ≤ input_limit) (accepts : Accepts parts) where
+    pub step_found : DueIsFound → (s : Status) → IsStepFinding parts s → IsRefusal Safe file s
+    step_found due s h in_memory =
+        let l : input_limit < 2 ^ 64 = lit< tt in
+        let f = h in_memory in
+        let came = (due file (steps f.outcome) (omega (arith, short, l))).1 (record { parts = parts; spelled = given.spelled; accepts = accepts; found = f.came }) in
+        (record { outcome = steps f.outcome; came = came; status_is = f.status_is }, subst (λ q. q ≢ Done) (sym f.status_is) (step_done f.outcome))
+
     pub accepted_file : RepliesEverywhere → AcceptedIsRight → IsAnswerFor (OfFile Check) file Done (codes "accepted\n")
     accepted_file everywhere right =
         output_for (OfFile Check) file (codes "accepted\n") short
@@ -164,15 +165,8 @@ module _ (file : List ℕ) (parts : Parts) (given : HasController file parts) wh
     pub safe_file : SafeStaysRight → IsSafeOutcome parts → IsAnswerFor (OfFile Safe) file Done (codes "safe\n")
     safe_file stays is =
         output_for (OfFile Safe) file (codes "safe\n") short
-        (record { outcome = safe; came = record { parts = parts; spelled = given.spelled; accepts = accepts; ruled_out = is.ruled_out }; status_is = refl }) (
-          record {
-            parts = parts;
-            spelled = given.spelled;
-            of_shape = given.of_shape;
-            is = record { accepts = accepts; safe = is; forever = stays parts given.of_shape accepts is.safe };
-          },
-          refl,
-        )
+        (record { outcome = safe; came = record { parts = parts; spelled = given.spelled; accepts = accepts; goes_on = is.safe; fits = is.fits }; status_is = refl })
+        (record { parts = parts; spelled = given.spelled; forever = stays parts given.of_shape accepts is.safe }, refl)
 
 pub refused_file : (c : FileCommand) (file : List ℕ) (s : Status) → length file ≤ input_limit → IsRefusal c file s → s ≢ NoMemory → IsAnswerFor (OfFile c) file s (line_of s)
 refused_file c file s short h in_memory = let due = h in_memory in refusal_for (OfFile c) file s short due.0 due.1

@@ -23,6 +23,7 @@ use mpc_safety::safe_stays_right;
 use mpc_status::{LatePlace, Status};
 use mpc_synthesis::{SynthesisError, controller, one_controller, right_controller};
 use mpc_text::add_text;
+use mpc_theorem::safe_file_laws;
 use std::alloc::Global;
 
 /// The most bytes that an input has.
@@ -158,6 +159,7 @@ pub(crate) fn stayed(alloc: Global, file: &[u8]) -> Result<Vec<u8>, Status>
     ensures { OutcomeOf (IsAnswerFor (OfFile Safe) file.now) result }
 {
     safe_stays_right();
+    safe_file_laws();
     if file.len() > INPUT_LIMIT {
         return Err(Status::TooLong);
     }

@@ -13,6 +13,7 @@ use Rattle.mpc_synthesis.specs.Outcomes.{complete}
 use Rattle.mpc_synthesis.specs.Programs.{IsDecidedBy}
 use Rattle.mpc_claim.specs.Board.{Board}
 use Rattle.mpc_trace.specs.Histories.{IsTraceOf}
+use Rattle.mpc_theorem.specs.Traces.{TraceIsText}
 use Rattle.mpc_cli.specs.Outcomes.{IsOutputFor, IsPlantAnswer}
 use Rattle.mpc_cli.proofs.EndLemmas.{done_text}
 use Rattle.mpc_cli.specs.ControllerFiles.{IsFileOf}
@@ -47,9 +48,9 @@ compiled right replies one same plant text out status parts is written e f worke
   text_is = done_text (IsOutputFor (Compile workers) plant counts) status out text e f (file_of right replies one same plant is.0 parts is.1 text written);
 }
 
-pub traced_answers : (board : Board) (text out : List ℕ) (status : Status) → ((workers : ℕ) (plant : Plant) → IsDecidedBy workers plant board → IsTraceOf workers plant text) → status ≡ Done → out ≡ text
+pub traced_answers : TraceIsText → (board : Board) (text out : List ℕ) (status : Status) → ((workers : ℕ) (plant : Plant) → IsDecidedBy workers plant board → IsTraceOf workers plant text) → status ≡ Done → out ≡ text
     → (workers : ℕ) (plant : Plant) (counts : List ℕ) → IsDecidedBy workers plant board → IsPlantAnswer (Trace workers) plant counts status out
-traced_answers board text out status h e f workers plant counts by = record {
+traced_answers is board text out status h e f workers plant counts by = record {
   due = record { outcome = complete; came = (by.qp, by.verdicts); status_is = e };
-  text_is = done_text (IsOutputFor (Trace workers) plant counts) status out text e f (h workers plant by);
+  text_is = done_text (IsOutputFor (Trace workers) plant counts) status out text e f (is workers plant text (h workers plant by));
 }

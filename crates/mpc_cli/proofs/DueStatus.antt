@@ -4,12 +4,12 @@ use Rattle.mpc_plant.specs.Readings.{OneReading}
 use Rattle.mpc_synthesis.specs.Outcomes.{OneOutcome}
 use Rattle.mpc_files.specs.FileOutcomes.{OneFileReading, OneFileOutcome}
 use Rattle.mpc_drill.specs.Drills.{IsDrillOutcome, OneDrill}
-use Rattle.mpc_safety.specs.SafetyOutcomes.{OneSafetyOutcome}
+use Rattle.mpc_theorem.specs.SafeFiles.{OneSafetyDue}
 use Rattle.mpc_status.specs.declared.status.Status.{Status}
 use Rattle.mpc_status.specs.declared.status.Status.TheVariants.{Done, Usage, TooLong}
 use Rattle.mpc_cli.specs.declared.commands.Command.{Command}
 use Rattle.mpc_cli.specs.declared.commands.Command.TheVariants.{OfPlant, OfFile, OfStates, Drill, Fleet}
-use Rattle.mpc_cli.specs.Commands.{Names, IsCommand, CommandReads, Reads, plant_text}
+use Rattle.mpc_cli.specs.Commands.{IsCommand, CommandReads, Reads, plant_text}
 use Rattle.mpc_cli.specs.Extents.{extent_of}
 use Rattle.mpc_sections.specs.Outcomes.{IsFleetOutcome, OneFleetOutcome}
 use Rattle.mpc_cli.specs.Statuses.{IsPlantEnd, plant_status, outcome_status, fleet_status}
@@ -24,7 +24,7 @@ use Rattle.mpc_states.specs.StateLaws.{SolveIsComplete, RobustIsComplete}
 use Rattle.mpc_cli.proofs.StateEnds.{one_state, state_due_ranked, states_done}
 use Rattle.mpc_cli.proofs.DrillEnds.{drill_done}
 
-module _ (plant : OneReading) (outcome : OneOutcome) (reading : OneFileReading) (file : OneFileOutcome) (safety : OneSafetyOutcome) (drill : OneDrill) (solve : OneSolveOutcome) (robust : OneRobustOutcome) (fleet : OneFleetOutcome) where
+module _ (plant : OneReading) (outcome : OneOutcome) (reading : OneFileReading) (file : OneFileOutcome) (safety : OneSafetyDue) (drill : OneDrill) (solve : OneSolveOutcome) (robust : OneRobustOutcome) (fleet : OneFleetOutcome) where
   one_due_to : (c : Command) (input : List ℕ) (s t : Status) → (CommandReads c → length input ≤ input_limit) → IsDueTo c input s → IsDueTo c input t → s ≡ t
   one_due_to (OfPlant c) input s t l h k = one_of (IsPlantEnd (extent_of c) (plant_text c input)) plant_status s t (one_end plant outcome (extent_of c) (plant_text c input)) h k
   one_due_to (OfFile c) input s t l h k = one_file reading file safety c input s t (l tt) h k
@@ -79,18 +79,18 @@ pub due_usage : OneStatus → (words : List (List ℕ)) (input : List ℕ) (s : 
 due_usage one words input s h none = one words input s Usage h (no_command none refl)
 
 -- ---- where nothing is refused, Done is due
-done_due_to : OneReading → OneOutcome → OneFileReading → OneFileOutcome → OneSafetyOutcome → OneDrill → SolveIsComplete → RobustIsComplete → (c : Command) (input : List ℕ) (s : Status) → (CommandReads c → length input ≤ input_limit) → RefusesNothing c input → IsDueTo c input s → s ≡ Done
+done_due_to : OneReading → OneOutcome → OneFileReading → OneFileOutcome → OneSafetyDue → OneDrill → SolveIsComplete → RobustIsComplete → (c : Command) (input : List ℕ) (s : Status) → (CommandReads c → length input ≤ input_limit) → RefusesNothing c input → IsDueTo c input s → s ≡ Done
 done_due_to plant outcome reading file safety drill solve robust (OfPlant c) input s l n h = end_done plant (extent_of c) (plant_text c input) s n h
 done_due_to plant outcome reading file safety drill solve robust (OfFile c) input s l n h = one_file reading file safety c input s Done (l tt) h (passing_due c input n)
 done_due_to plant outcome reading file safety drill solve robust (OfStates c) input s l n h = states_done solve robust c input s n h
 done_due_to plant outcome reading file safety drill solve robust (Drill number) input s l n h = drill_done drill number s n h
 done_due_to plant outcome reading file safety drill solve robust (Fleet workers) input s l n h = fleet_done input s n h
 
-done_due_for : OneReading → OneOutcome → OneFileReading → OneFileOutcome → OneSafetyOutcome → OneDrill → SolveIsComplete → RobustIsComplete → (c : Command) (input : List ℕ) (s : Status) → (CommandReads c → length input ≤ input_limit) → RefusesNothing c input → IsDueFor c input s → s ≡ Done
+done_due_for : OneReading → OneOutcome → OneFileReading → OneFileOutcome → OneSafetyDue → OneDrill → SolveIsComplete → RobustIsComplete → (c : Command) (input : List ℕ) (s : Status) → (CommandReads c → length input ≤ input_limit) → RefusesNothing c input → IsDueFor c input s → s ≡ Done
 done_due_for plant outcome reading file safety drill solve robust c input s l n (too_long reads m e) = absurd (let few = l reads in omega (arith, m, few))
 done_due_for plant outcome reading file safety drill solve robust c input s l n (in_limit short h) = done_due_to plant outcome reading file safety drill solve robust c input s l n h
 
-pub done_due : OneReading → OneOutcome → OneFileReading → OneFileOutcome → OneSafetyOutcome → OneDrill → SolveIsComplete → RobustIsComplete → (words : List (List ℕ)) (input : List ℕ) (s : Status) → NothingRefused words input → IsDue words input s → s ≡ Done
+pub done_due : OneReading → OneOutcome → OneFileReading → OneFileOutcome → OneSafetyDue → OneDrill → SolveIsComplete → RobustIsComplete → (words : List (List ℕ)) (input : List ℕ) (s : Status) → NothingRefused words input → IsDue words input s → s ≡ Done
 done_due plant outcome reading file safety drill solve robust words input s n (no_command none e) = absurd (none (n.command, n.named))
 done_due plant outcome reading file safety drill solve robust words input s n (by_command c named h) =
     done_due_for plant outcome reading file safety drill solve robust n.command input s n.short n.passes (subst (λ (b : Command). IsDueFor b input s) (one_command words c n.command named n.named) h)

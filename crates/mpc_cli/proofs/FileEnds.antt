@@ -1,5 +1,5 @@
 -- What comes of the file of a controller, and the answers to it.
-use Rattle.std.proofs.Common.{◌≡◌, ◌≢◌, ℕ, ◌^◌, ◌<◌, ◌≤◌, List, length, refl, sym, ◌∙◌, ap, subst, arith, lit<}
+use Rattle.std.proofs.Common.{◌≡◌, ◌≢◌, ℕ, ◌^◌, ◌<◌, ◌≤◌, List, length, refl, sym, subst, arith, lit<}
 use Rattle.std.specs.Prelude.{codes}
 use Rattle.mpc_file.specs.declared.errors.FileKind.{FileKind}
 use Rattle.mpc_file.specs.FileGrammar.{FailsAt}
@@ -13,13 +13,13 @@ use Rattle.mpc_status.specs.StatusText.{line_of}
 use Rattle.mpc_cli.specs.declared.commands.Command.TheVariants.{OfFile}
 use Rattle.mpc_cli.specs.declared.commands.FileCommand.{FileCommand}
 use Rattle.mpc_cli.specs.declared.commands.FileCommand.TheVariants.{Check, Reply, Convert, Safe}
-use Rattle.mpc_cli.specs.Ends.{ComesOf}
 use Rattle.mpc_cli.specs.Outputs.{IsOutput}
 use Rattle.mpc_cli.specs.Statuses.{finding_status, file_status, reading_status, step_status, safety_status}
 use Rattle.mpc_recur.specs.Findings.{Finding as Step, reached, too_wide as too_wide_step}
 use Rattle.mpc_safety.specs.declared.answers.Safety.TheVariants.{Safe as SafeAnswer}
 use Rattle.mpc_safety.specs.SafetyAnswers.{IsAnswerToFile}
-use Rattle.mpc_safety.specs.SafetyOutcomes.{SafetyOutcome, bad_file as bad_safety_file, finds as finds_first, steps, safe, IsSafetyOutcome, OneSafetyOutcome, AnswerIsOutcome}
+use Rattle.mpc_safety.specs.SafetyOutcomes.{SafetyOutcome, bad_file as bad_safety_file, finds as finds_first, steps, safe}
+use Rattle.mpc_theorem.specs.SafeFiles.{IsSafetyDue, OneSafetyDue, AnswerIsDue, SafeIsForever}
 use Rattle.mpc_cli.specs.Answers.{input_limit, IsFileDue, FilePasses}
 use Rattle.mpc_cli.specs.Outcomes.{IsAnswerTo}
 use Rattle.mpc_cli.proofs.EndLemmas.{one_of, ranked, done_text, line_text, rank}
@@ -32,11 +32,11 @@ small n h = let l : input_limit < 2 ^ 64 = lit< tt in omega (arith, h, l)
 head_small : (input : List ℕ) → length input ≤ input_limit → length (head_of input) < 2 ^ 64
 head_small input l = let shorter = head_short input in small (length (head_of input)) (omega (arith, shorter, l))
 
-pub one_file : OneFileReading → OneFileOutcome → OneSafetyOutcome → (c : FileCommand) (input : List ℕ) (s t : Status) → length input ≤ input_limit → IsFileDue c input s → IsFileDue c input t → s ≡ t
+pub one_file : OneFileReading → OneFileOutcome → OneSafetyDue → (c : FileCommand) (input : List ℕ) (s t : Status) → length input ≤ input_limit → IsFileDue c input s → IsFileDue c input t → s ≡ t
 one_file reading outcome safety Check input s t l h k = one_of (IsFileOutcome input) file_status s t (λ a b. outcome input a b (small (length input) l)) h k
 one_file reading outcome safety Reply input s t l h k = one_of (IsFileReading (head_of input)) reading_status s t (λ a b. reading (head_of input) a b (head_small input l)) h k
 one_file reading outcome safety Convert input s t l h k = one_of (IsFileReading input) reading_status s t (λ a b. reading input a b (small (length input) l)) h k
-one_file reading outcome safety Safe input s t l h k = one_of (IsSafetyOutcome input) safety_status s t (λ a b. safety input a b (small (length input) l)) h k
+one_file reading outcome safety Safe input s t l h k = one_of (IsSafetyDue input) safety_status s t (λ a b. safety input a b (small (length input) l)) h k
 
 finding_ranked : (f : Finding) → rank (finding_status f) ≡ 0
 finding_ranked (refused spot) = refl
@@ -66,7 +66,7 @@ pub file_due_ranked : (c : FileCommand) (input : List ℕ) (s : Status) → IsFi
 file_due_ranked Check input s h = ranked (IsFileOutcome input) file_status s file_ranked h
 file_due_ranked Reply input s h = ranked (IsFileReading (head_of input)) reading_status s reading_ranked h
 file_due_ranked Convert input s h = ranked (IsFileReading input) reading_status s reading_ranked h
-file_due_ranked Safe input s h = ranked (IsSafetyOutcome input) safety_status s safety_ranked h
+file_due_ranked Safe input s h = ranked (IsSafetyDue input) safety_status s safety_ranked h
 
 -- where the file passes, Done is due
 pub passing_due : (c : FileCommand) (input : List ℕ) → FilePasses c input → IsFileDue c input Done
@@ -102,8 +102,8 @@ reply_answers input status text out e f h = done_answer Reply input status text 
 pub convert_answers : (input : List ℕ) (status : Status) (text out : List ℕ) → status ≡ Done → text ≡ out → Converts input out → IsAnswerTo (OfFile Convert) input status text
 convert_answers input status text out e f h = done_answer Convert input status text out (record { outcome = spells h.parts; came = h.spelled; status_is = refl }) e f h
 
-pub safety_found : (o : SafetyOutcome) (status : Status) (text : List ℕ) → safety_status o ≢ Done → status ≡ safety_status o → text ≡ line_of (safety_status o) → (input : List ℕ) → IsSafetyOutcome input o → IsAnswerTo (OfFile Safe) input status text
+pub safety_found : (o : SafetyOutcome) (status : Status) (text : List ℕ) → safety_status o ≢ Done → status ≡ safety_status o → text ≡ line_of (safety_status o) → (input : List ℕ) → IsSafetyDue input o → IsAnswerTo (OfFile Safe) input status text
 safety_found o status text other e f input h = line_answer Safe input (safety_status o) status text (record { outcome = o; came = h; status_is = refl }) other e f
 
-pub safe_answers : AnswerIsOutcome → (input : List ℕ) (status : Status) (text : List ℕ) → status ≡ Done → text ≡ codes "safe\n" → IsAnswerToFile input SafeAnswer → IsAnswerTo (OfFile Safe) input status text
-safe_answers is input status text e f h = done_answer Safe input status text (codes "safe\n") (record { outcome = safe; came = is input SafeAnswer h; status_is = refl }) e f (h, refl)
+pub safe_answers : AnswerIsDue → SafeIsForever → (input : List ℕ) (status : Status) (text : List ℕ) → status ≡ Done → text ≡ codes "safe\n" → IsAnswerToFile input SafeAnswer → IsAnswerTo (OfFile Safe) input status text
+safe_answers is forever input status text e f h = done_answer Safe input status text (codes "safe\n") (record { outcome = safe; came = is input SafeAnswer h; status_is = refl }) e f (forever input h, refl)

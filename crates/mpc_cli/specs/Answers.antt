@@ -33,7 +33,7 @@ use Rattle.mpc_sections.specs.Outcomes.{IsFleetOutcome}
 use Rattle.mpc_exact.specs.Rational.{ℚ}
 use Rattle.mpc_states.specs.Outcomes.{IsSolveOutcome, IsRobustOutcome}
 use Rattle.mpc_states.specs.StateLaws.{NothingRefused as SolveRefusesNothing, NothingRobustRefused as RobustRefusesNothing}
-use Rattle.mpc_safety.specs.SafetyOutcomes.{IsSafetyOutcome, SafeFile}
+use Rattle.mpc_theorem.specs.SafeFiles.{IsSafetyDue, IsSafeFile}
 
 -- the most bytes that an input has
 abbrev pub input_limit : ℕ
@@ -45,7 +45,7 @@ abbrev pub IsFileDue : FileCommand → List ℕ → Status → Type 0
 IsFileDue Check input status = ComesOf (IsFileOutcome input) file_status status
 IsFileDue Reply input status = ComesOf (IsFileReading (head_of input)) reading_status status
 IsFileDue Convert input status = ComesOf (IsFileReading input) reading_status status
-IsFileDue Safe input status = ComesOf (IsSafetyOutcome input) safety_status status
+IsFileDue Safe input status = ComesOf (IsSafetyDue input) safety_status status
 
 -- the status that is due to a command on recorded states
 abbrev pub IsStateDue : StateCommand → List ℕ → Status → Type 0
@@ -76,7 +76,7 @@ abbrev pub OneStatus : Type 0
 OneStatus = (words : List (List ℕ)) (input : List ℕ) (one other : Status) → IsDue words input one → IsDue words input other → one ≡ other
 
 -- ---- Where nothing is refused
--- the weight of the moves is positive definite, and no number of the stated runs is too wide, as far as the plant is taken
+-- the Hessian of the plant's program is positive definite, and no number of the stated runs is too wide, as far as the plant is taken
 pub record PassesAll (extent : Extent) (plant : Plant) : Type 0 where
   pub definite : (qp : Qp) → IsCondensed qp plant → IsDefinite qp.h.rows
   pub fits : (place : Place) → ¬ FirstWide plant extent place
@@ -91,17 +91,16 @@ abbrev pub FilePasses : FileCommand → List ℕ → Type 0
 FilePasses Check input = AcceptsFile input
 FilePasses Reply input = (parts : Parts) × IsSpelled (head_of input) parts
 FilePasses Convert input = (parts : Parts) × IsSpelled input parts
-FilePasses Safe input = SafeFile input
+FilePasses Safe input = IsSafeFile input
 
--- the head has the file of a plant whose weight of the moves is positive definite, and no number of condensing, the pivots and, where
+-- the head has the file of a plant whose program has a positive definite Hessian, and no number of condensing, the pivots and, where
 -- disturbances may come, their rows is too wide
 abbrev pub StatesPass : StateCommand → List ℕ → Type 0
 StatesPass Solve input = (plant : Plant) × SolveRefusesNothing (head_of input) plant
 StatesPass Robust input = (plant : Plant) × (noise : List ℚ) × RobustRefusesNothing input plant noise
 
 -- nothing is refused: the plant's file passes all checks and its plant passes, or the file spells a controller, which is accepted where it is checked,
--- and each target of whose closed loop is ruled out where that is followed; or the input has at most
--- eight sections
+-- and safe, with nothing too wide, where its closed loop is followed; or the input has at most eight sections
 abbrev pub RefusesNothing : Command → List ℕ → Type 0
 RefusesNothing (OfPlant c) input = OfItsPlant (plant_text c input) (PassesAll (extent_of c))
 RefusesNothing (OfFile c) input = FilePasses c input

@@ -1,5 +1,5 @@
 -- How the parts of the top call end.
-use Rattle.std.specs.Prelude.{◌≡◌, ℕ, ◌+◌, ◌<◌, ◌≤◌, List, Option, Some, None, Result, Ok, Err, length, take}
+use Rattle.std.specs.Prelude.{◌≡◌, ℕ, ◌+◌, ◌<◌, ◌≤◌, List, Option, Result, Ok, Err, length, take}
 use Rattle.std.specs.Io.KnownBytes.{Appends, Keeps, Consumes}
 use Rattle.mpc_port.specs.Faults.{Rose}
 use Rattle.mpc_plant.specs.declared.plants.Plant.{Plant}
@@ -8,7 +8,7 @@ use Rattle.mpc_plant.specs.declared.faults.PlantError.TheVariants.{Bad, NoMemory
 use Rattle.mpc_replies.specs.ReplyLines.{AreReplies}
 use Rattle.std.specs.Str.Lines.{lines}
 use Rattle.mpc_synthesis.specs.Outcomes.{IsOutcome}
-use Rattle.mpc_trace.specs.Histories.{IsTraceOf}
+use Rattle.mpc_theorem.specs.Traces.{IsTraceText}
 use Rattle.mpc_status.specs.declared.status.Status.{Status}
 use Rattle.mpc_status.specs.declared.status.Status.TheVariants.{BadPlant, ReadFault, WriteFault, NoMemory}
 use Rattle.mpc_status.specs.StatusText.{line_of}
@@ -33,7 +33,7 @@ use Rattle.mpc_cli.specs.Answers.{input_limit, IsDueTo, IsDueFor, IsAnswer}
 abbrev pub IsOutputFor : PlantCommand → Plant → List ℕ → List ℕ → Type 0
 IsOutputFor Run plant counts text = AreReplies plant (lines counts) text
 IsOutputFor (Compile workers) plant counts text = IsFileOf plant text
-IsOutputFor (Trace workers) plant counts text = IsTraceOf workers plant text
+IsOutputFor (Trace workers) plant counts text = IsTraceText workers plant text
 
 pub record IsPlantAnswer (c : PlantCommand) (plant : Plant) (counts : List ℕ) (status : Status) (text : List ℕ) : Type 0 where
   pub due : ComesOf (IsOutcome (extent_of c) plant) outcome_status status

@@ -5,14 +5,13 @@ use Rattle.mpc_plant.specs.declared.plants.Plant.{Plant}
 use Rattle.mpc_replies.specs.Cut.{head_of, count_lines}
 use Rattle.mpc_replies.specs.ReplyLines.{AreReplies}
 use Rattle.mpc_files.specs.FileAnswers.{FileReplies, Converts, IsAccepted}
-use Rattle.mpc_safety.specs.declared.answers.Safety.TheVariants.{Safe as SafeAnswer}
-use Rattle.mpc_safety.specs.SafetyAnswers.{IsAnswerToFile}
 use Rattle.mpc_states.specs.Inputs.{IsSolved, IsRobustlySolved}
 use Rattle.mpc_sections.specs.Sections.{sections_of}
 use Rattle.mpc_sections.specs.Alone.{AreAnswered}
-use Rattle.mpc_trace.specs.Histories.{IsTraceOf}
 use Rattle.mpc_drill.specs.declared.drills.Drilled.{Drilled}
 use Rattle.mpc_drill.specs.Drills.{IsDrilled, drill_text}
+use Rattle.mpc_theorem.specs.Traces.{IsTraceText}
+use Rattle.mpc_theorem.specs.SafeFiles.{SpellsRightForever}
 use Rattle.mpc_cli.specs.declared.commands.Command.{Command}
 use Rattle.mpc_cli.specs.declared.commands.Command.TheVariants.{OfPlant, OfFile, OfStates, Drill, Fleet}
 use Rattle.mpc_cli.specs.declared.commands.StateCommand.{StateCommand}
@@ -35,12 +34,11 @@ pub record IsCompiled (input output : List ℕ) : Type 0 where
   pub read : ReadsAsPlant input plant
   pub file : IsFileOf plant output
 
--- the output of `trace`: the input reads as a plant, and the text is a history of its program's candidates in which each is claimed and
--- delivered once, by so many workers
+-- the output of `trace`: the input reads as a plant, and the text is a history in which so many workers claim and deliver its program's candidates
 pub record IsTrace (workers : ℕ) (input output : List ℕ) : Type 0 where
   pub plant : Plant
   pub read : ReadsAsPlant input plant
-  pub traced : IsTraceOf workers plant output
+  pub traced : IsTraceText workers plant output
 
 abbrev pub IsPlantOutput : PlantCommand → List ℕ → List ℕ → Type 0
 IsPlantOutput Run input output = IsReplies input output
@@ -49,13 +47,13 @@ IsPlantOutput (Trace workers) input output = IsTrace workers input output
 
 -- The output of a command on a controller's file: that the controller is accepted, and then it replies rightly at every point of its plant's
 -- box, also between the states of the grid; its replies to the lines of counts, of a controller that needn't have been checked; or its text
--- in version 3; or that the controller is accepted and its closed loop goes on forever: from every point of the box with an admissible sequence,
--- after every number of steps, the state is in the box and the reply is the first move of the cheapest admissible sequence.
+-- in version 3; or that its closed loop is right forever: from every point of the box with an admissible sequence, after every number of steps,
+-- the state is in the box and the reply is the first move of the cheapest admissible sequence.
 abbrev pub IsFileOutput : FileCommand → List ℕ → List ℕ → Type 0
 IsFileOutput Check input output = IsAccepted input × (output ≡ codes "accepted\n")
 IsFileOutput Reply input output = FileReplies (head_of input) (count_lines input) output
 IsFileOutput Convert input output = Converts input output
-IsFileOutput Safe input output = IsAnswerToFile input SafeAnswer × (output ≡ codes "safe\n")
+IsFileOutput Safe input output = SpellsRightForever input × (output ≡ codes "safe\n")
 
 -- the output of `drill`: the line of the counts of what was made for its plant
 pub record IsDrillLine (number : ℕ) (output : List ℕ) : Type 0 where

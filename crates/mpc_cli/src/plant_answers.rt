@@ -26,6 +26,7 @@ use mpc_synthesis::{
     SynthesisError, controller_of_in_threads, decided, decided_in_threads, one_controller,
     right_controller,
 };
+use mpc_theorem::trace_laws;
 use mpc_trace::trace;
 use std::alloc::Global;
 use std::sync::Wait;
@@ -115,6 +116,7 @@ fn trace_answer(alloc: Global, registry: &Registry) -> Result<Answer, NoMemory>
         → IsDecidedBy workers plant registry.now
         → IsPlantAnswer (Trace workers) plant counts answer.status answer.text.items) }
 {
+    trace_laws();
     let text = trace(alloc, registry)?;
     Ok(output(text))
 }
