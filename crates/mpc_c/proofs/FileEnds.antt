@@ -24,6 +24,7 @@ use Rattle.mpc_files.specs.FileOutcomes.{FileReading, fails, spells, IsFileReadi
 use Rattle.mpc_files.specs.FileAnswers.{HasController}
 use Rattle.mpc_safety.specs.RightForever.{SafeStaysRight}
 use Rattle.mpc_safety.specs.SafetyOutcomes.{bad_file as bad_safety_file, finds as finds_first, steps, safe}
+use Rattle.mpc_theorem.specs.SafeFiles.{DueIsFound}
 use Rattle.mpc_status.specs.declared.status.Status.{Status}
 use Rattle.mpc_status.specs.declared.status.Status.TheVariants.{Done, BadPlant, TooLong, NoMemory}
 use Rattle.mpc_status.specs.StatusText.{line_of}
@@ -38,8 +39,8 @@ use Rattle.mpc_cli.specs.Commands.{CommandReads}
 use Rattle.mpc_cli.specs.ControllerFiles.{IsFileOf}
 use Rattle.mpc_cli.specs.Ends.{ComesOf, IsTextAt}
 use Rattle.mpc_cli.specs.StatedOutputs.{IsStatedOutput}
-use Rattle.mpc_cli.specs.Statuses.{bad_plant, ends, outcome_status, finding_status, step_status, reading_status}
-use Rattle.mpc_cli.specs.Answers.{input_limit, IsDueTo, too_long, in_limit, IsFileDue}
+use Rattle.mpc_cli.specs.Statuses.{bad_plant, ends, outcome_status, finding_status, step_status, reading_status, ComesToFile, ComesTo, DueIsWhatComes}
+use Rattle.mpc_cli.specs.Answers.{input_limit, too_long, in_limit}
 use Rattle.mpc_cli.specs.Outcomes.{IsPlantAnswer, IsAnswerFor}
 use Rattle.mpc_c.specs.Findings.{IsPlantStatus, Checks, IsRefusal, IsCheckRefusal, IsFinding, IsStepFinding}
 use Rattle.mpc_c.specs.Texts.{OutcomeOf}
@@ -60,11 +61,11 @@ told_text Answers bytes (Ok text) is memory h = subst (Answers Done) (sym is) h
 told_text Answers bytes (Err s) is memory h = λ other. absurd (other memory)
 
 -- ---- a command whose input isn't too long
-pub refusal_for : (c : Command) (input : List ℕ) (s : Status) → length input ≤ input_limit → IsDueTo c input s → s ≢ Done → IsAnswerFor c input s (line_of s)
-refusal_for c input s short due other = record { due = in_limit (λ reads. short) due; text_is = line_text (IsStatedOutput c input) s other }
+pub refusal_for : DueIsWhatComes → (c : Command) (input : List ℕ) (s : Status) → length input ≤ input_limit → ComesTo c input s → s ≢ Done → IsAnswerFor c input s (line_of s)
+refusal_for same c input s short due other = record { due = in_limit (λ reads. short) ((same c input s).0 due); text_is = line_text (IsStatedOutput c input) s other }
 
-output_for : (c : Command) (input text : List ℕ) → length input ≤ input_limit → IsDueTo c input Done → IsStatedOutput c input text → IsAnswerFor c input Done text
-output_for c input text short due h = record { due = in_limit (λ reads. short) due; text_is = done_text (IsStatedOutput c input) text h }
+output_for : DueIsWhatComes → (c : Command) (input text : List ℕ) → length input ≤ input_limit → ComesTo c input Done → IsStatedOutput c input text → IsAnswerFor c input Done text
+output_for same c input text short due h = record { due = in_limit (λ reads. short) ((same c input Done).0 due); text_is = done_text (IsStatedOutput c input) text h }
 
 -- and one whose input is
 pub long_for : (c : Command) (input : List ℕ) → CommandReads c → input_limit < length input → IsAnswerFor c input TooLong (line_of TooLong)
@@ -88,11 +89,11 @@ module _ (workers : ℕ) (plant : Plant) (counts : List ℕ) where
       } in
       record { due = record { outcome = complete; came = (qp, (parts, is)); status_is = refl }; text_is = done_text (IsFileOf plant) text file }
 
-module _ (workers : ℕ) (file : List ℕ) (short : length file ≤ input_limit) where
+module _ (same : DueIsWhatComes) (workers : ℕ) (file : List ℕ) (short : length file ≤ input_limit) where
   plant_output : PlantTextsAreRead → CompiledIsOutput → (plant : Plant) → ReadsAsPlant file plant → (s : Status) (text : List ℕ) → (s ≡ Done → length text < 2 ^ 64) → IsPlantAnswer (Compile workers) plant [] s text
       → IsAnswerFor (OfPlant (Compile workers)) file s text
   plant_output texts outputs plant read s text small a = record {
-    due = in_limit (λ reads. short) (record { outcome = ends a.due.outcome; came = record { plant = plant; read = read; so = a.due.came }; status_is = a.due.status_is });
+    due = in_limit (λ reads. short) ((same (OfPlant (Compile workers)) file s).0 (record { outcome = ends a.due.outcome; came = record { plant = plant; read = read; so = a.due.came }; status_is = a.due.status_is }));
     text_is = record {
       output = λ done.
           let is : IsPlantText file plant = (texts file plant).0 read in
@@ -107,7 +108,7 @@ module _ (workers : ℕ) (file : List ℕ) (short : length file ≤ input_limit)
   plant_file texts outputs plant read (Err s) h = λ other. plant_output texts outputs plant read s (line_of s) (λ done. subst (λ q. length (line_of q) < 2 ^ 64) (sym done) (omega arith)) (h other)
 
   bad_file_of : (kind : PlantKind) (path : List ℕ) → IsFirstFault file kind path → IsAnswerFor (OfPlant (Compile workers)) file (BadPlant kind path) (line_of (BadPlant kind path))
-  bad_file_of kind path fault = refusal_for (OfPlant (Compile workers)) file (BadPlant kind path) short (record { outcome = bad_plant kind path; came = fault; status_is = refl }) (λ d. absurd cc)
+  bad_file_of kind path fault = refusal_for same (OfPlant (Compile workers)) file (BadPlant kind path) short (record { outcome = bad_plant kind path; came = fault; status_is = refl }) (λ d. absurd cc)
 
   pub bad_plant_of : (error : PlantError) (s : Status) → ((kind : PlantKind) (path : List ℕ) → error ≡ Bad kind path → IsFirstFault file kind path) → IsPlantStatus error s → s ≢ NoMemory → IsAnswerFor (OfPlant (Compile workers)) file s (line_of s)
   bad_plant_of (Bad kind path) s first is other = subst (λ q. IsAnswerFor (OfPlant (Compile workers)) file q (line_of q)) (sym is) (bad_file_of kind path (first kind path refl))
@@ -120,7 +121,7 @@ unread file o came other = λ in_memory. (record { outcome = o; came = came; sta
 pub no_refusal : (c : FileCommand) (file : List ℕ) → IsRefusal c file NoMemory
 no_refusal c file = λ in_memory. absurd (in_memory refl)
 
-unchecked_by : (file : List ℕ) (s : Status) (o : FileReading) → IsFileReading file o → s ≡ reading_status o → s ≢ Done → (c : FileCommand) → Checks c → IsFileDue c file s
+unchecked_by : (file : List ℕ) (s : Status) (o : FileReading) → IsFileReading file o → s ≡ reading_status o → s ≢ Done → (c : FileCommand) → Checks c → ComesToFile c file s
 unchecked_by file s (fails kind number) came is other Check u = record { outcome = bad_file kind number; came = came; status_is = is }
 unchecked_by file s (fails kind number) came is other Safe u = record { outcome = bad_safety_file kind number; came = came; status_is = is }
 unchecked_by file s (fails kind number) came is other Reply u = absurd u
@@ -141,7 +142,7 @@ step_done (reached one pairs) = λ d. absurd cc
 step_done (too_wide_step one) = λ d. absurd cc
 
 module _ (file : List ℕ) (parts : Parts) (given : HasController file parts) where
-  found_by : (s : Status) → ComesOf (IsFound parts) finding_status s → (c : FileCommand) → Checks c → IsFileDue c file s
+  found_by : (s : Status) → ComesOf (IsFound parts) finding_status s → (c : FileCommand) → Checks c → ComesToFile c file s
   found_by s h Check u = record { outcome = finds h.outcome; came = record { parts = parts; spelled = given.spelled; found = h.came }; status_is = h.status_is }
   found_by s h Safe u = record { outcome = finds_first h.outcome; came = record { parts = parts; spelled = given.spelled; found = h.came }; status_is = h.status_is }
   found_by s h Reply u = absurd u
@@ -150,18 +151,18 @@ module _ (file : List ℕ) (parts : Parts) (given : HasController file parts) wh
   pub found : (s : Status) → IsFinding parts s → IsCheckRefusal file s
   found s h c u in_memory = let f = h in_memory in (found_by s f c u, subst (λ q. q ≢ Done) (sym f.status_is) (found_done f.outcome))
 
-  pub step_found : (s : Status) → Accepts parts → IsStepFinding parts s → IsRefusal Safe file s
-  step_found s accepts h in_memory =
-      let f = h in_memory in (
-        record { outcome = steps f.outcome; came = record { parts = parts; spelled = given.spelled; accepts = accepts; found = f.came }; status_is = f.status_is },
-        subst (λ q. q ≢ Done) (sym f.status_is) (step_done f.outcome),
-      )
+  module _ (same : DueIsWhatComes) (short : length file ≤ input_limit) (accepts : Accepts parts) where
+    pub step_found : DueIsFound → (s : Status) → IsStepFinding parts s → IsRefusal Safe file s
+    step_found due s h in_memory =
+        let l : input_limit < 2 ^ 64 = lit< tt in
+        let f = h in_memory in
+        let came = (due file (steps f.outcome) (omega (arith, short, l))).1 (record { parts = parts; spelled = given.spelled; accepts = accepts; found = f.came }) in
+        (record { outcome = steps f.outcome; came = came; status_is = f.status_is }, subst (λ q. q ≢ Done) (sym f.status_is) (step_done f.outcome))
 
-  module _ (short : length file ≤ input_limit) (accepts : Accepts parts) where
     pub accepted_file : RepliesEverywhere → AcceptedIsRight → AcceptedIsRightFile → IsAnswerFor (OfFile Check) file Done (codes "accepted\n")
     accepted_file everywhere right is =
         let l : input_limit < 2 ^ 64 = lit< tt in
-        output_for (OfFile Check) file (codes "accepted\n") short
+        output_for same (OfFile Check) file (codes "accepted\n") short
         (record { outcome = accepted; came = record { parts = parts; spelled = given.spelled; accepts = accepts }; status_is = refl }) (
           is file (omega (arith, short, l)) (record {
             file = record { parts = parts; spelled = given.spelled; accepts = accepts };
@@ -173,16 +174,11 @@ module _ (file : List ℕ) (parts : Parts) (given : HasController file parts) wh
 
     pub safe_file : SafeStaysRight → IsSafeOutcome parts → IsAnswerFor (OfFile Safe) file Done (codes "safe\n")
     safe_file stays is =
-        output_for (OfFile Safe) file (codes "safe\n") short
-        (record { outcome = safe; came = record { parts = parts; spelled = given.spelled; accepts = accepts; ruled_out = is.ruled_out }; status_is = refl }) (
-          record {
-            parts = parts;
-            spelled = given.spelled;
-            of_shape = given.of_shape;
-            is = record { accepts = accepts; safe = is; forever = stays parts given.of_shape accepts is.safe };
-          },
-          refl,
+        output_for same (OfFile Safe) file (codes "safe\n") short
+        (record { outcome = safe; came = record { parts = parts; spelled = given.spelled; accepts = accepts; goes_on = is.safe; fits = is.fits }; status_is = refl }) (
+          (record { parts = parts; spelled = given.spelled; forever = stays parts given.of_shape accepts is.safe }, refl),
+          record { parts = parts; spelled = given.spelled; of_shape = given.of_shape; is = record { accepts = accepts; safe = is; forever = stays parts given.of_shape accepts is.safe } },
         )
 
-pub refused_file : (c : FileCommand) (file : List ℕ) (s : Status) → length file ≤ input_limit → IsRefusal c file s → s ≢ NoMemory → IsAnswerFor (OfFile c) file s (line_of s)
-refused_file c file s short h in_memory = let due = h in_memory in refusal_for (OfFile c) file s short due.0 due.1
+pub refused_file : DueIsWhatComes → (c : FileCommand) (file : List ℕ) (s : Status) → length file ≤ input_limit → IsRefusal c file s → s ≢ NoMemory → IsAnswerFor (OfFile c) file s (line_of s)
+refused_file same c file s short h in_memory = let due = h in_memory in refusal_for same (OfFile c) file s short due.0 due.1

@@ -13,7 +13,7 @@ use Rattle.mpc_controller.specs.Parts.{limits_of}
 use Rattle.mpc_controller.specs.Replies.{first_outside}
 use Rattle.mpc_states.specs.StateLines.{IsTooWide}
 use Rattle.mpc_states.specs.StateLaws.{ProgramIsRight}
-use Rattle.mpc_cli.specs.Statuses.{OfItsPlant}
+use Rattle.mpc_cli.specs.Statuses.{ReadsWith}
 use Rattle.mpc_c.specs.declared.fractions.Fraction.{Fraction}
 use Rattle.mpc_c.specs.Fractions.{move_of, lowest}
 use Rattle.mpc_c.specs.Tables.{IsRightAt}
@@ -22,7 +22,7 @@ use Rattle.mpc_c.specs.States.{IsSolvedBy, IsWideAt}
 -- ---- by a program
 module _ (right : ProgramIsRight) (plant : Plant) (file : List ℕ) (read : ReadsAsPlant file plant) (qp : Qp) (condensed : IsCondensed qp plant) (counts : List ℕ)
     (inside : first_outside (limits_of plant) counts ≡ None) (in_box : IsInBox qp.counts (point_of counts)) where
-  pub moved : (z : List ℚ) (moves : List Fraction) (room : ℕ) → IsCheapest qp (point_of counts) z → room ≡ plant.p → map move_of moves ≡ map lowest (take room z) → OfItsPlant file (λ p. IsSolvedBy p counts moves)
+  pub moved : (z : List ℚ) (moves : List Fraction) (room : ℕ) → IsCheapest qp (point_of counts) z → room ≡ plant.p → map move_of moves ≡ map lowest (take room z) → ReadsWith file (λ p. IsSolvedBy p counts moves)
   moved z moves room cheapest each written =
       let values = take plant.p z in
       record {
@@ -35,10 +35,10 @@ module _ (right : ProgramIsRight) (plant : Plant) (file : List ℕ) (read : Read
         };
       }
 
-  pub none : ((z : List ℚ) → ¬ IsFeasible qp (point_of counts) z) → OfItsPlant file (λ p. IsRightAt p counts infeasible)
+  pub none : ((z : List ℚ) → ¬ IsFeasible qp (point_of counts) z) → ReadsWith file (λ p. IsRightAt p counts infeasible)
   none empty = record { plant = plant; read = read; so = (inside, right plant qp (point_of counts) infeasible condensed in_box empty) }
 
-  pub wide : IsTooWide qp (point_of counts) → OfItsPlant file (λ p. IsWideAt p counts)
+  pub wide : IsTooWide qp (point_of counts) → ReadsWith file (λ p. IsWideAt p counts)
   wide h = record { plant = plant; read = read; so = record { inside = inside; qp = qp; condensed = condensed; wide = h } }
 
 -- ---- which count is outside

@@ -10,8 +10,7 @@ use Rattle.mpc_status.specs.declared.status.Status.TheVariants.{Done, BadPlant, 
 use Rattle.mpc_cli.specs.declared.commands.FileCommand.{FileCommand}
 use Rattle.mpc_cli.specs.declared.commands.FileCommand.TheVariants.{Check, Reply, Convert, Safe}
 use Rattle.mpc_cli.specs.Ends.{ComesOf}
-use Rattle.mpc_cli.specs.Statuses.{finding_status, step_status}
-use Rattle.mpc_cli.specs.Answers.{IsFileDue}
+use Rattle.mpc_cli.specs.Statuses.{finding_status, step_status, ComesToFile}
 
 -- the status of a plant's file that isn't read
 abbrev pub IsPlantStatus : PlantError → Status → Type 0
@@ -27,7 +26,7 @@ Checks Safe = Unit {0}
 
 -- the status is due, and isn't Done; nothing is said of want of memory
 abbrev pub IsRefusal : FileCommand → List ℕ → Status → Type 0
-IsRefusal c file status = status ≢ NoMemory → IsFileDue c file status × (status ≢ Done)
+IsRefusal c file status = status ≢ NoMemory → ComesToFile c file status × (status ≢ Done)
 
 -- the same for each command that checks
 abbrev pub IsCheckRefusal : List ℕ → Status → Type 0

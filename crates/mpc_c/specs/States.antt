@@ -13,7 +13,7 @@ use Rattle.mpc_controller.specs.Parts.{limits_of}
 use Rattle.mpc_controller.specs.Replies.{first_outside}
 use Rattle.mpc_synthesis.specs.Refusals.{Extent, IsNotDefiniteAt, FirstWide}
 use Rattle.mpc_states.specs.StateLines.{IsTooWide}
-use Rattle.mpc_cli.specs.Statuses.{OfItsPlant}
+use Rattle.mpc_cli.specs.Statuses.{ReadsWith}
 use Rattle.mpc_c.specs.declared.fractions.Fraction.{Fraction}
 use Rattle.mpc_c.specs.declared.states.Solved.{Solved}
 use Rattle.mpc_c.specs.declared.states.Solved.TheVariants.{Moved, Infeasible, Outside, WideState, BadPlant, NotDefinite, TooWide, NoMemory, OtherSizes}
@@ -55,12 +55,12 @@ IsNoPlant file = (kind : PlantKind) × ((path : List ℕ) × IsFirstFault file k
 
 -- what an answer to a file, counts and room for so many moves says; nothing is said of want of memory
 abbrev pub Says : List ℕ → List ℕ → List Fraction → Solved → Type 0
-Says file counts moves Moved = OfItsPlant file (λ plant. IsSolvedBy plant counts moves)
-Says file counts moves Infeasible = OfItsPlant file (λ plant. IsRightAt plant counts infeasible)
-Says file counts moves Outside = OfItsPlant file (λ plant. IsOutsideOf plant counts)
-Says file counts moves WideState = OfItsPlant file (λ plant. IsWideAt plant counts)
+Says file counts moves Moved = ReadsWith file (λ plant. IsSolvedBy plant counts moves)
+Says file counts moves Infeasible = ReadsWith file (λ plant. IsRightAt plant counts infeasible)
+Says file counts moves Outside = ReadsWith file (λ plant. IsOutsideOf plant counts)
+Says file counts moves WideState = ReadsWith file (λ plant. IsWideAt plant counts)
 Says file counts moves BadPlant = IsNoPlant file
-Says file counts moves NotDefinite = OfItsPlant file IsIndefinite
-Says file counts moves TooWide = OfItsPlant file IsWidePlant
+Says file counts moves NotDefinite = ReadsWith file IsIndefinite
+Says file counts moves TooWide = ReadsWith file IsWidePlant
 Says file counts moves NoMemory = Unit {0}
-Says file counts moves OtherSizes = OfItsPlant file (HasOtherSizes (length counts) (length moves))
+Says file counts moves OtherSizes = ReadsWith file (HasOtherSizes (length counts) (length moves))

@@ -15,7 +15,7 @@ use Rattle.mpc_status.specs.declared.status.Status.TheVariants.{Done}
 use Rattle.mpc_status.specs.StatusText.{code_of}
 use Rattle.mpc_cli.specs.declared.commands.FileCommand.{FileCommand}
 use Rattle.mpc_cli.specs.declared.commands.FileCommand.TheVariants.{Check, Convert}
-use Rattle.mpc_cli.specs.Answers.{IsFileDue}
+use Rattle.mpc_cli.specs.Statuses.{ComesToFile}
 
 -- a word; for a number that is greater the greatest word
 abbrev pub word_of : ℕ → ℕ
@@ -48,7 +48,7 @@ command_of (suc n) = Check
 -- the code is that of a status which is due to that command, and which isn't Done
 pub record IsRefusedWith (file : List ℕ) (check code : ℕ) : Type 0 where
   pub status : Status
-  pub due : IsFileDue (command_of check) file status
+  pub due : ComesToFile (command_of check) file status
   pub other : status ≢ Done
   pub code_is : code ≡ code_of status
 

@@ -13,6 +13,7 @@ ghost use Rattle.mpc_c.specs.Texts.{OutcomeOf};
 ghost use Rattle.mpc_c.specs.Findings.{IsPlantStatus, IsRefusal, IsCheckRefusal, IsFinding, IsStepFinding};
 
 use mpc_check::{Answer, CheckError, accepted_replies, check_alone};
+use mpc_cli::due_statuses;
 use mpc_controller::{Controller, replies_everywhere};
 use mpc_file::{FileError, one_text, read_file, write_file};
 use mpc_frac::NoMemory;
@@ -23,7 +24,7 @@ use mpc_safety::safe_stays_right;
 use mpc_status::{LatePlace, Status};
 use mpc_synthesis::{SynthesisError, controller, one_controller, right_controller};
 use mpc_text::add_text;
-use mpc_theorem::{file_output_laws, plant_texts};
+use mpc_theorem::{file_output_laws, plant_texts, safe_file_laws};
 use std::alloc::Global;
 
 /// The most bytes that an input has.
@@ -79,6 +80,7 @@ pub(crate) fn compiled(alloc: Global, file: &[u8]) -> Result<Vec<u8>, Status>
     }
     plant_texts();
     file_output_laws();
+    due_statuses();
     match read_plant(alloc, file) {
         Ok(plant) => compiled_plant(alloc, plant),
         Err(error) => Err(plant_status(error)),
@@ -147,6 +149,7 @@ pub(crate) fn checked(alloc: Global, file: &[u8]) -> Result<Vec<u8>, Status>
     replies_everywhere();
     accepted_replies();
     file_output_laws();
+    due_statuses();
     if file.len() > INPUT_LIMIT {
         return Err(Status::TooLong);
     }
@@ -162,6 +165,8 @@ pub(crate) fn stayed(alloc: Global, file: &[u8]) -> Result<Vec<u8>, Status>
     ensures { OutcomeOf (IsAnswerFor (OfFile Safe) file.now) result }
 {
     safe_stays_right();
+    safe_file_laws();
+    due_statuses();
     if file.len() > INPUT_LIMIT {
         return Err(Status::TooLong);
     }

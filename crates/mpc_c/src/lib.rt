@@ -12,7 +12,7 @@ ghost use Rattle.mpc_cli.specs.declared.commands.Command.TheVariants.{OfPlant, O
 ghost use Rattle.mpc_cli.specs.declared.commands.FileCommand.TheVariants.{Check, Safe};
 ghost use Rattle.mpc_cli.specs.declared.commands.PlantCommand.TheVariants.{Compile};
 ghost use Rattle.mpc_cli.specs.Commands.{IsWorkerCount};
-ghost use Rattle.mpc_cli.specs.Statuses.{OfItsPlant};
+ghost use Rattle.mpc_cli.specs.Statuses.{ReadsWith};
 ghost use Rattle.mpc_c.specs.Fractions.{move_of};
 ghost use Rattle.mpc_c.specs.Texts.{CallAnswers};
 ghost use Rattle.mpc_c.specs.Tables.{IsMeasured, IsLoaded, IsTooLarge, IsRefusedWith, IsRightAt, HasMoves, HasNoMoves, IsOutside};
@@ -193,14 +193,14 @@ pub extern "C" fn mpc_solve(
     counts: &[u64],
     moves: &mut [Fraction],
 ) -> u32
-    ensures moved { result ≡ 0 → OfItsPlant plant.now (λ p. IsSolvedBy p counts.now moves.new) }
-    ensures infeasible { result ≡ 33 → OfItsPlant plant.now (λ p. IsRightAt p counts.now infeasible) }
-    ensures outside { result ≡ 34 → OfItsPlant plant.now (λ p. IsOutsideOf p counts.now) }
-    ensures wide_state { result ≡ 36 → OfItsPlant plant.now (λ p. IsWideAt p counts.now) }
+    ensures moved { result ≡ 0 → ReadsWith plant.now (λ p. IsSolvedBy p counts.now moves.new) }
+    ensures infeasible { result ≡ 33 → ReadsWith plant.now (λ p. IsRightAt p counts.now infeasible) }
+    ensures outside { result ≡ 34 → ReadsWith plant.now (λ p. IsOutsideOf p counts.now) }
+    ensures wide_state { result ≡ 36 → ReadsWith plant.now (λ p. IsWideAt p counts.now) }
     ensures bad_plant { result ≡ 3 → IsNoPlant plant.now }
-    ensures not_definite { result ≡ 4 → OfItsPlant plant.now IsIndefinite }
-    ensures too_wide { result ≡ 5 → OfItsPlant plant.now IsWidePlant }
-    ensures other_sizes { result ≡ 37 → OfItsPlant plant.now (HasOtherSizes (length counts.now) (length moves.old)) }
+    ensures not_definite { result ≡ 4 → ReadsWith plant.now IsIndefinite }
+    ensures too_wide { result ≡ 5 → ReadsWith plant.now IsWidePlant }
+    ensures other_sizes { result ≡ 37 → ReadsWith plant.now (HasOtherSizes (length counts.now) (length moves.old)) }
     ensures codes { result ≤ 37 }
     ensures kept { result ≢ 0 → moves.new ≡ moves.old }
 {

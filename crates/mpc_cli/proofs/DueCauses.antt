@@ -6,7 +6,8 @@ use Rattle.mpc_check.specs.Findings.{Finding, refused, too_wide as found_too_wid
 use Rattle.mpc_check.specs.Acceptance.{IsFound, FindsBehind}
 use Rattle.mpc_files.specs.FileOutcomes.{FileReading, fails, spells, FileOutcome, bad_file, finds, accepted, FindsInFile, IsFileReading, IsFileOutcome}
 use Rattle.mpc_recur.specs.Findings.{reached, too_wide as too_wide_step}
-use Rattle.mpc_safety.specs.SafetyOutcomes.{SafetyOutcome, bad_file as bad_safety_file, finds as finds_first, steps, safe, IsSafetyOutcome, FindsInFile as FindsFirst}
+use Rattle.mpc_safety.specs.SafetyOutcomes.{SafetyOutcome, bad_file as bad_safety_file, finds as finds_first, steps, safe, FindsInFile as FindsFirst}
+use Rattle.mpc_theorem.specs.SafeFiles.{IsSafetyDue}
 use Rattle.mpc_replies.specs.Cut.{head_of}
 use Rattle.mpc_sections.specs.Sections.{sections_of}
 use Rattle.mpc_drill.specs.Drills.{IsDrillOutcome}
@@ -130,20 +131,20 @@ module _ (definite : FindsNotDefinite) (wide : FindsTooWide) where
   in_safe_file : (input : List ℕ) (f : Finding) → Found input f → FindsFirst input f
   in_safe_file input f h = record { parts = h.parts; spelled = h.spelled; found = h.so }
 
-  safe_due : (input : List ℕ) (o : SafetyOutcome) → IsSafetyOutcome input o → IsDueTo (OfFile Safe) input (safety_status o)
+  safe_due : (input : List ℕ) (o : SafetyOutcome) → IsSafetyDue input o → IsDueTo (OfFile Safe) input (safety_status o)
   safe_due input (bad_safety_file kind number) h = h
   safe_due input (finds_first f) h = found_due Safe input (λ holds k. k) f (record { parts = h.parts; spelled = h.spelled; so = h.found })
-  safe_due input (steps (reached one pairs)) h = record { parts = h.parts; spelled = h.spelled; so = record { accepts = h.accepts; found = h.found } }
+  safe_due input (steps (reached one pairs)) h = h
   safe_due input (steps (too_wide_step one)) h = record { parts = h.parts; spelled = h.spelled; so = record { accepts = h.accepts; found = h.found } }
-  safe_due input safe h = record { parts = h.parts; spelled = h.spelled; so = record { accepts = h.accepts; ruled_out = h.ruled_out } }
+  safe_due input safe h = h
 
   safe_comes : (input : List ℕ) (s : Status) → IsDueTo (OfFile Safe) input s → ComesTo (OfFile Safe) input s
-  safe_comes input Done h = record { outcome = safe; came = record { parts = h.parts; spelled = h.spelled; accepts = h.so.accepts; ruled_out = h.so.ruled_out }; status_is = refl }
+  safe_comes input Done h = record { outcome = safe; came = h; status_is = refl }
   safe_comes input (BadFile kind number) h = record { outcome = bad_safety_file kind number; came = h; status_is = refl }
   safe_comes input (Refused spot) h = record { outcome = finds_first (refused spot); came = in_safe_file input (refused spot) (found_refused input spot h); status_is = refl }
   safe_comes input (NotDefinite pivot) h = record { outcome = finds_first (found_not_definite pivot); came = in_safe_file input (found_not_definite pivot) (found_not input pivot h); status_is = refl }
   safe_comes input (TooWide place) h = record { outcome = finds_first (found_too_wide place); came = in_safe_file input (found_too_wide place) (found_place input place h); status_is = refl }
-  safe_comes input (Unsafe one pairs) h = record { outcome = steps (reached one pairs); came = record { parts = h.parts; spelled = h.spelled; accepts = h.so.accepts; found = h.so.found }; status_is = refl }
+  safe_comes input (Unsafe one pairs) h = record { outcome = steps (reached one pairs); came = h; status_is = refl }
   safe_comes input (WideLater (NextPlace one)) h = record { outcome = steps (too_wide_step one); came = record { parts = h.parts; spelled = h.spelled; accepts = h.so.accepts; found = h.so.found }; status_is = refl }
   safe_comes input (WideLater (Tight row)) h = absurd h
   safe_comes input other h = absurd h
@@ -248,7 +249,7 @@ module _ (texts : PlantTextsAreRead) (plant_not : PlantNotDefinite) (plant_wide_
   file_to_due Check input s h = of_outcome (IsFileOutcome input) file_status (OfFile Check) input s (check_due check_not check_wide input) h
   file_to_due Reply input s h = of_outcome (IsFileReading (head_of input)) reading_status (OfFile Reply) input s (reply_due input) h
   file_to_due Convert input s h = of_outcome (IsFileReading input) reading_status (OfFile Convert) input s (convert_due input) h
-  file_to_due Safe input s h = of_outcome (IsSafetyOutcome input) safety_status (OfFile Safe) input s (safe_due check_not check_wide input) h
+  file_to_due Safe input s h = of_outcome (IsSafetyDue input) safety_status (OfFile Safe) input s (safe_due check_not check_wide input) h
 
   file_of_due : (c : FileCommand) (input : List ℕ) (s : Status) → IsDueTo (OfFile c) input s → ComesTo (OfFile c) input s
   file_of_due Check input s h = check_comes check_not check_wide input s h

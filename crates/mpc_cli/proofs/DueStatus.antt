@@ -4,7 +4,7 @@ use Rattle.mpc_plant.specs.Readings.{OneReading}
 use Rattle.mpc_synthesis.specs.Outcomes.{OneOutcome}
 use Rattle.mpc_files.specs.FileOutcomes.{OneFileReading, OneFileOutcome}
 use Rattle.mpc_drill.specs.Drills.{IsDrillOutcome, OneDrill}
-use Rattle.mpc_safety.specs.SafetyOutcomes.{OneSafetyOutcome}
+use Rattle.mpc_theorem.specs.SafeFiles.{OneSafetyDue}
 use Rattle.mpc_status.specs.declared.status.Status.{Status}
 use Rattle.mpc_status.specs.declared.status.Status.TheVariants.{Done, Usage, BadPlant, NotDefinite, TooWide, BadFile, Refused, TooLong, Unsafe, WideLater, BadNoise, TooManyPlants}
 use Rattle.mpc_cli.specs.declared.commands.Command.{Command}
@@ -24,7 +24,7 @@ use Rattle.mpc_states.specs.StateLaws.{SolveIsComplete, RobustIsComplete}
 use Rattle.mpc_cli.proofs.StateEnds.{one_state, states_done}
 use Rattle.mpc_cli.proofs.DrillEnds.{drill_done}
 
-module _ (same : DueIsWhatComes) (plant : OneReading) (outcome : OneOutcome) (reading : OneFileReading) (file : OneFileOutcome) (safety : OneSafetyOutcome) (drill : OneDrill) (solve : OneSolveOutcome) (robust : OneRobustOutcome) where
+module _ (same : DueIsWhatComes) (plant : OneReading) (outcome : OneOutcome) (reading : OneFileReading) (file : OneFileOutcome) (safety : OneSafetyDue) (drill : OneDrill) (solve : OneSolveOutcome) (robust : OneRobustOutcome) where
   one_comes : (c : Command) (input : List ℕ) (s t : Status) → (CommandReads c → length input ≤ input_limit) → ComesTo c input s → ComesTo c input t → s ≡ t
   one_comes (OfPlant c) input s t l h k = one_of (IsPlantEnd (extent_of c) (plant_text c input)) plant_status s t (one_end plant outcome (extent_of c) (plant_text c input)) h k
   one_comes (OfFile c) input s t l h k = one_file reading file safety c input s t (l tt) h k
@@ -88,7 +88,7 @@ pub due_usage : OneStatus → (words : List (List ℕ)) (input : List ℕ) (s : 
 due_usage one words input s h none = one words input s Usage h (no_command none refl)
 
 -- ---- where nothing is refused, Done is due
-module _ (same : DueIsWhatComes) (plant : OneReading) (reading : OneFileReading) (file : OneFileOutcome) (safety : OneSafetyOutcome) (drill : OneDrill) (solve : SolveIsComplete) (robust : RobustIsComplete) where
+module _ (same : DueIsWhatComes) (plant : OneReading) (reading : OneFileReading) (file : OneFileOutcome) (safety : OneSafetyDue) (drill : OneDrill) (solve : SolveIsComplete) (robust : RobustIsComplete) where
   passing_done : (c : Command) (input : List ℕ) (s : Status) → (CommandReads c → length input ≤ input_limit) → RefusesNothing c input → ComesTo c input s → s ≡ Done
   passing_done (OfPlant c) input s l n h = end_done plant (extent_of c) (plant_text c input) s n h
   passing_done (OfFile c) input s l n h = one_file reading file safety c input s Done (l tt) h (passing_comes c input n)

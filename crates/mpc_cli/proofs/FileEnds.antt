@@ -13,11 +13,12 @@ use Rattle.mpc_status.specs.StatusText.{line_of}
 use Rattle.mpc_cli.specs.declared.commands.Command.TheVariants.{OfFile}
 use Rattle.mpc_cli.specs.declared.commands.FileCommand.{FileCommand}
 use Rattle.mpc_cli.specs.declared.commands.FileCommand.TheVariants.{Check, Reply, Convert, Safe}
-use Rattle.mpc_cli.specs.Outputs.{IsOutput}
+use Rattle.mpc_cli.specs.StatedOutputs.{IsStatedOutput}
 use Rattle.mpc_cli.specs.Statuses.{file_status, reading_status, safety_status, ComesToFile}
 use Rattle.mpc_safety.specs.declared.answers.Safety.TheVariants.{Safe as SafeAnswer}
 use Rattle.mpc_safety.specs.SafetyAnswers.{IsAnswerToFile}
-use Rattle.mpc_safety.specs.SafetyOutcomes.{SafetyOutcome, safe, IsSafetyOutcome, OneSafetyOutcome, AnswerIsOutcome}
+use Rattle.mpc_safety.specs.SafetyOutcomes.{SafetyOutcome, safe}
+use Rattle.mpc_theorem.specs.SafeFiles.{IsSafetyDue, OneSafetyDue, AnswerIsDue, SafeIsForever}
 use Rattle.mpc_cli.specs.Answers.{input_limit, FilePasses}
 use Rattle.mpc_cli.specs.Outcomes.{IsAnswerTo}
 use Rattle.mpc_cli.proofs.EndLemmas.{one_of, done_text, line_text}
@@ -30,11 +31,11 @@ small n h = let l : input_limit < 2 ^ 64 = lit< tt in omega (arith, h, l)
 head_small : (input : List ℕ) → length input ≤ input_limit → length (head_of input) < 2 ^ 64
 head_small input l = let shorter = head_short input in small (length (head_of input)) (omega (arith, shorter, l))
 
-pub one_file : OneFileReading → OneFileOutcome → OneSafetyOutcome → (c : FileCommand) (input : List ℕ) (s t : Status) → length input ≤ input_limit → ComesToFile c input s → ComesToFile c input t → s ≡ t
+pub one_file : OneFileReading → OneFileOutcome → OneSafetyDue → (c : FileCommand) (input : List ℕ) (s t : Status) → length input ≤ input_limit → ComesToFile c input s → ComesToFile c input t → s ≡ t
 one_file reading outcome safety Check input s t l h k = one_of (IsFileOutcome input) file_status s t (λ a b. outcome input a b (small (length input) l)) h k
 one_file reading outcome safety Reply input s t l h k = one_of (IsFileReading (head_of input)) reading_status s t (λ a b. reading (head_of input) a b (head_small input l)) h k
 one_file reading outcome safety Convert input s t l h k = one_of (IsFileReading input) reading_status s t (λ a b. reading input a b (small (length input) l)) h k
-one_file reading outcome safety Safe input s t l h k = one_of (IsSafetyOutcome input) safety_status s t (λ a b. safety input a b (small (length input) l)) h k
+one_file reading outcome safety Safe input s t l h k = one_of (IsSafetyDue input) safety_status s t (λ a b. safety input a b (small (length input) l)) h k
 
 -- where the file passes, Done comes
 pub passing_comes : (c : FileCommand) (input : List ℕ) → FilePasses c input → ComesToFile c input Done
@@ -45,10 +46,10 @@ passing_comes Safe input h = record { outcome = safe; came = h; status_is = refl
 
 -- ---- the answers
 pub line_answer : (c : FileCommand) (input : List ℕ) (s status : Status) (text : List ℕ) → ComesToFile c input s → s ≢ Done → status ≡ s → text ≡ line_of s → IsAnswerTo (OfFile c) input status text
-line_answer c input s status text due other e f = record { due = subst (ComesToFile c input) (sym e) due; text_is = line_text (IsOutput (OfFile c) input) s status text other e f }
+line_answer c input s status text due other e f = record { due = subst (ComesToFile c input) (sym e) due; text_is = line_text (IsStatedOutput (OfFile c) input) s status text other e f }
 
-pub done_answer : (c : FileCommand) (input : List ℕ) (status : Status) (text out : List ℕ) → ComesToFile c input Done → status ≡ Done → text ≡ out → IsOutput (OfFile c) input out → IsAnswerTo (OfFile c) input status text
-done_answer c input status text out due e f h = record { due = subst (ComesToFile c input) (sym e) due; text_is = done_text (IsOutput (OfFile c) input) status text out e f h }
+pub done_answer : (c : FileCommand) (input : List ℕ) (status : Status) (text out : List ℕ) → ComesToFile c input Done → status ≡ Done → text ≡ out → IsStatedOutput (OfFile c) input out → IsAnswerTo (OfFile c) input status text
+done_answer c input status text out due e f h = record { due = subst (ComesToFile c input) (sym e) due; text_is = done_text (IsStatedOutput (OfFile c) input) status text out e f h }
 
 pub bad_reply : (kind : FileKind) (number : ℕ) (status : Status) (text : List ℕ) → status ≡ BadFile kind number → text ≡ line_of (BadFile kind number) → (input : List ℕ) → FailsAt (head_of input) kind number
     → IsAnswerTo (OfFile Reply) input status text
@@ -70,8 +71,8 @@ reply_answers is input status text out e f short h = done_answer Reply input sta
 pub convert_answers : ConvertedIsOutput → (input : List ℕ) (status : Status) (text out : List ℕ) → status ≡ Done → text ≡ out → length input < 2 ^ 64 → length out < 2 ^ 64 → Converts input out → IsAnswerTo (OfFile Convert) input status text
 convert_answers is input status text out e f short little h = done_answer Convert input status text out (record { outcome = spells h.parts; came = h.spelled; status_is = refl }) e f (is input out short little h)
 
-pub safety_found : (o : SafetyOutcome) (status : Status) (text : List ℕ) → safety_status o ≢ Done → status ≡ safety_status o → text ≡ line_of (safety_status o) → (input : List ℕ) → IsSafetyOutcome input o → IsAnswerTo (OfFile Safe) input status text
+pub safety_found : (o : SafetyOutcome) (status : Status) (text : List ℕ) → safety_status o ≢ Done → status ≡ safety_status o → text ≡ line_of (safety_status o) → (input : List ℕ) → IsSafetyDue input o → IsAnswerTo (OfFile Safe) input status text
 safety_found o status text other e f input h = line_answer Safe input (safety_status o) status text (record { outcome = o; came = h; status_is = refl }) other e f
 
-pub safe_answers : AnswerIsOutcome → (input : List ℕ) (status : Status) (text : List ℕ) → status ≡ Done → text ≡ codes "safe\n" → IsAnswerToFile input SafeAnswer → IsAnswerTo (OfFile Safe) input status text
-safe_answers is input status text e f h = done_answer Safe input status text (codes "safe\n") (record { outcome = safe; came = is input SafeAnswer h; status_is = refl }) e f (h, refl)
+pub safe_answers : AnswerIsDue → SafeIsForever → (input : List ℕ) (status : Status) (text : List ℕ) → status ≡ Done → text ≡ codes "safe\n" → IsAnswerToFile input SafeAnswer → IsAnswerTo (OfFile Safe) input status text
+safe_answers is forever input status text e f h = done_answer Safe input status text (codes "safe\n") (record { outcome = safe; came = is input SafeAnswer h; status_is = refl }) e f ((forever input h, refl), h)

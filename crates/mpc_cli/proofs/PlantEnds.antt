@@ -18,6 +18,7 @@ use Rattle.mpc_status.specs.StatusText.{line_of}
 use Rattle.mpc_theorem.specs.PlantFile.{IsPlantText, PlantTextsAreRead}
 use Rattle.mpc_theorem.specs.FileOutputs.{CompiledIsOutput}
 use Rattle.mpc_theorem.specs.PlantOutputs.{RepliesAreLines}
+use Rattle.mpc_theorem.specs.Traces.{TraceIsText}
 use Rattle.mpc_cli.specs.declared.commands.Command.TheVariants.{OfPlant}
 use Rattle.mpc_cli.specs.declared.commands.PlantCommand.{PlantCommand}
 use Rattle.mpc_cli.specs.declared.commands.PlantCommand.TheVariants.{Run, Compile, Trace}
@@ -25,13 +26,12 @@ use Rattle.mpc_cli.specs.declared.answer.Answer.{Answer}
 use Rattle.mpc_cli.specs.Commands.{plant_text}
 use Rattle.mpc_cli.specs.Extents.{extent_of}
 use Rattle.mpc_cli.specs.Ends.{ComesOf}
-use Rattle.mpc_cli.specs.Outputs.{IsOutput}
 use Rattle.mpc_cli.specs.StatedOutputs.{IsStatedOutput}
-use Rattle.mpc_cli.specs.Statuses.{OfItsPlant, PlantEnd, bad_plant, ends, IsPlantEnd, plant_status, outcome_status, ReadsWith}
+use Rattle.mpc_cli.specs.Statuses.{PlantEnd, bad_plant, ends, IsPlantEnd, plant_status, outcome_status, ReadsWith}
 use Rattle.mpc_cli.specs.Answers.{PassesAll}
 use Rattle.mpc_cli.specs.Outcomes.{IsOutputFor, IsPlantAnswer, IsPlantRefusal, IsAnswerTo}
 use Rattle.mpc_cli.proofs.OutputEnds.{few_bytes}
-use Rattle.mpc_cli.proofs.EndLemmas.{line_text, rank, text_weaker}
+use Rattle.mpc_cli.proofs.EndLemmas.{line_text}
 
 -- ---- one end
 same_plant : OneReading → (bytes : List ℕ) (x y : Plant) → ReadsAsPlant bytes x → ReadsAsPlant bytes y → x ≡ y
@@ -86,26 +86,28 @@ refused_by (Ok a) e c plant counts cause h = h c plant counts cause
 refused_by (Err error) e c plant counts cause h = tt
 
 -- ---- to the command
-output_of : PlantTextsAreRead → RepliesAreLines → CompiledIsOutput → (c : PlantCommand) (input : List ℕ) (plant : Plant) → ReadsAsPlant (plant_text c input) plant → (text : List ℕ) → length text < 2 ^ 64 → IsOutputFor c plant (tail_of input) text
+output_of : PlantTextsAreRead → RepliesAreLines → CompiledIsOutput → TraceIsText → (c : PlantCommand) (input : List ℕ) (plant : Plant) → ReadsAsPlant (plant_text c input) plant → (text : List ℕ) → length text < 2 ^ 64 → IsOutputFor c plant (tail_of input) text
     → IsStatedOutput (OfPlant c) input text
-output_of texts replies outputs Run input plant read text short h = record { plant = plant; read = (texts (head_of input) plant).0 read; lines = (replies plant (count_lines input) text).0 h }
-output_of texts replies outputs (Compile workers) input plant read text short h =
+output_of texts replies outputs traces Run input plant read text short h = record { plant = plant; read = (texts (head_of input) plant).0 read; lines = (replies plant (count_lines input) text).0 h }
+output_of texts replies outputs traces (Compile workers) input plant read text short h =
     let is : IsPlantText input plant = (texts input plant).0 read in
     (outputs input text plant h.qp h.parts short is h.controller h.written, record { plant = plant; read = is; file = h })
-output_of texts replies outputs (Trace workers) input plant read text short h = record { plant = plant; read = (texts input plant).0 read; traced = h }
+output_of texts replies outputs traces (Trace workers) input plant read text short h =
+    let is : IsPlantText input plant = (texts input plant).0 read in
+    (record { plant = plant; read = is; traced = traces workers plant text h }, record { plant = plant; read = is; traced = h })
 
-answers_command : PlantTextsAreRead → RepliesAreLines → CompiledIsOutput → (c : PlantCommand) (input : List ℕ) (plant : Plant) (status : Status) (text : List ℕ) → length text < 2 ^ 64 → ReadsAsPlant (plant_text c input) plant
+answers_command : PlantTextsAreRead → RepliesAreLines → CompiledIsOutput → TraceIsText → (c : PlantCommand) (input : List ℕ) (plant : Plant) (status : Status) (text : List ℕ) → length text < 2 ^ 64 → ReadsAsPlant (plant_text c input) plant
     → IsPlantAnswer c plant (tail_of input) status text → IsAnswerTo (OfPlant c) input status text
-answers_command texts replies outputs c input plant status text short read a = record {
+answers_command texts replies outputs traces c input plant status text short read a = record {
   due = record { outcome = ends a.due.outcome; came = record { plant = plant; read = read; so = a.due.came }; status_is = a.due.status_is };
-  text_is = record { output = λ done. output_of texts replies outputs c input plant read text short (a.text_is.output done); line = a.text_is.line };
+  text_is = record { output = λ done. output_of texts replies outputs traces c input plant read text short (a.text_is.output done); line = a.text_is.line };
 }
 
-pub answers_commands : PlantTextsAreRead → RepliesAreLines → CompiledIsOutput → {E : Type 0} (r : Result Answer E) (c : PlantCommand) (input bytes counts : List ℕ) (plant : Plant) → ReadsAsPlant bytes plant → bytes ≡ plant_text c input → counts ≡ tail_of input
+pub answers_commands : PlantTextsAreRead → RepliesAreLines → CompiledIsOutput → TraceIsText → {E : Type 0} (r : Result Answer E) (c : PlantCommand) (input bytes counts : List ℕ) (plant : Plant) → ReadsAsPlant bytes plant → bytes ≡ plant_text c input → counts ≡ tail_of input
     → IfOk r (λ a. IsPlantAnswer c plant counts a.status a.text.items) → IfOk r (λ a. IsAnswerTo (OfPlant c) input a.status a.text.items)
-answers_commands texts replies outputs (Ok a) c input bytes counts plant read e f h =
-    answers_command texts replies outputs c input plant a.status a.text.items (few_bytes a.text) (subst (λ (b : List ℕ). ReadsAsPlant b plant) e read) (subst (λ (l : List ℕ). IsPlantAnswer c plant l a.status a.text.items) f h)
-answers_commands texts replies outputs (Err error) c input bytes counts plant read e f h = tt
+answers_commands texts replies outputs traces (Ok a) c input bytes counts plant read e f h =
+    answers_command texts replies outputs traces c input plant a.status a.text.items (few_bytes a.text) (subst (λ (b : List ℕ). ReadsAsPlant b plant) e read) (subst (λ (l : List ℕ). IsPlantAnswer c plant l a.status a.text.items) f h)
+answers_commands texts replies outputs traces (Err error) c input bytes counts plant read e f h = tt
 
 bad_answer : (c : PlantCommand) (input : List ℕ) (kind : PlantKind) (path : List ℕ) (status : Status) (text : List ℕ) → IsFirstFault (plant_text c input) kind path
     → (status ≡ BadPlant kind path) × (text ≡ line_of (BadPlant kind path)) → IsAnswerTo (OfPlant c) input status text

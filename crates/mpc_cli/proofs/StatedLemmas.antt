@@ -8,6 +8,7 @@ use Rattle.mpc_cli.specs.declared.inputs.Halt.TheVariants.{SourceFailed, OutOfMe
 use Rattle.mpc_cli.specs.declared.commands.Command.{Command}
 use Rattle.mpc_cli.specs.declared.commands.Command.TheVariants.{OfPlant, OfFile, OfStates, Drill, Fleet}
 use Rattle.mpc_cli.specs.declared.commands.PlantCommand.TheVariants.{Run, Compile, Trace}
+use Rattle.mpc_cli.specs.declared.commands.FileCommand.TheVariants.{Check, Reply, Convert, Safe}
 use Rattle.mpc_cli.specs.Outputs.{IsOutput}
 use Rattle.mpc_cli.specs.StatedOutputs.{IsStated, IsStatedOutput, StatesOutput}
 use Rattle.mpc_cli.specs.Outcomes.{IsSomeAnswer, Closes, Finishes, wrote_all, sink_failed, sink_full}
@@ -15,8 +16,11 @@ use Rattle.mpc_cli.specs.Outcomes.{IsSomeAnswer, Closes, Finishes, wrote_all, si
 pub meaning_of : (c : Command) (input output : List ℕ) → IsStatedOutput c input output → IsOutput c input output
 meaning_of (OfPlant Run) input output h = h
 meaning_of (OfPlant (Compile workers)) input output h = h.0
-meaning_of (OfPlant (Trace workers)) input output h = h
-meaning_of (OfFile c) input output h = h
+meaning_of (OfPlant (Trace workers)) input output h = h.0
+meaning_of (OfFile Check) input output h = h
+meaning_of (OfFile Reply) input output h = h
+meaning_of (OfFile Convert) input output h = h
+meaning_of (OfFile Safe) input output h = h.0
 meaning_of (OfStates c) input output h = h
 meaning_of (Drill number) input output h = h.0
 meaning_of (Fleet workers) input output h = h.0
@@ -24,8 +28,11 @@ meaning_of (Fleet workers) input output h = h.0
 pub stated_of : (c : Command) (input output : List ℕ) → IsStatedOutput c input output → IsStated c input output
 stated_of (OfPlant Run) input output h = tt
 stated_of (OfPlant (Compile workers)) input output h = h.1
-stated_of (OfPlant (Trace workers)) input output h = tt
-stated_of (OfFile c) input output h = tt
+stated_of (OfPlant (Trace workers)) input output h = h.1
+stated_of (OfFile Check) input output h = tt
+stated_of (OfFile Reply) input output h = tt
+stated_of (OfFile Convert) input output h = tt
+stated_of (OfFile Safe) input output h = h.1
 stated_of (OfStates c) input output h = tt
 stated_of (Drill number) input output h = h.1
 stated_of (Fleet workers) input output h = h.1

@@ -31,7 +31,7 @@ use Rattle.mpc_cli.specs.Statuses.{ReadsWith}
 use Rattle.mpc_sections.specs.Sections.{sections_of}
 use Rattle.mpc_exact.specs.Rational.{ℚ}
 use Rattle.mpc_states.specs.StateLaws.{NothingRefused as SolveRefusesNothing, NothingRobustRefused as RobustRefusesNothing}
-use Rattle.mpc_safety.specs.SafetyOutcomes.{SafeFile}
+use Rattle.mpc_theorem.specs.SafeFiles.{IsSafeFile}
 
 -- the most bytes that an input has
 abbrev pub input_limit : ℕ
@@ -69,7 +69,7 @@ abbrev pub FilePasses : FileCommand → List ℕ → Type 0
 FilePasses Check input = AcceptsFile input
 FilePasses Reply input = (parts : Parts) × IsSpelled (head_of input) parts
 FilePasses Convert input = (parts : Parts) × IsSpelled input parts
-FilePasses Safe input = SafeFile input
+FilePasses Safe input = IsSafeFile input
 
 -- the head has the file of a plant whose program has a positive definite Hessian, and no number of condensing, the pivots and, where
 -- disturbances may come, their rows is too wide
@@ -78,8 +78,7 @@ StatesPass Solve input = (plant : Plant) × SolveRefusesNothing (head_of input) 
 StatesPass Robust input = (plant : Plant) × (noise : List ℚ) × RobustRefusesNothing input plant noise
 
 -- nothing is refused: the plant's file passes all checks and its plant passes, or the file spells a controller, which is accepted where it is checked,
--- and each target of whose closed loop is ruled out where that is followed; or the input has at most
--- eight sections
+-- and safe, with nothing too wide, where its closed loop is followed; or the input has at most eight sections
 abbrev pub RefusesNothing : Command → List ℕ → Type 0
 RefusesNothing (OfPlant c) input = ReadsWith (plant_text c input) (PassesAll (extent_of c))
 RefusesNothing (OfFile c) input = FilePasses c input

@@ -13,8 +13,9 @@ use Rattle.mpc_file.specs.FileGrammar.{FailsAt, IsSpelled}
 use Rattle.mpc_check.specs.declared.answers.Spot.{Spot}
 use Rattle.mpc_check.specs.Findings.{refused, too_wide}
 use Rattle.mpc_check.specs.Acceptance.{Accepts, FindsBehind}
-use Rattle.mpc_recur.specs.Findings.{Finding as Step, reached, too_wide as too_wide_step}
-use Rattle.mpc_recur.specs.Targets.{AllRuledOut, IsFound as IsStepFound}
+use Rattle.mpc_recur.specs.declared.answers.Next.{Next}
+use Rattle.mpc_recur.specs.Findings.{too_wide as too_wide_step}
+use Rattle.mpc_recur.specs.Targets.{IsFound as IsStepFound}
 use Rattle.mpc_replies.specs.Cut.{head_of}
 use Rattle.mpc_tight.specs.Tightening.{RowsFit}
 use Rattle.mpc_states.specs.Convex.{IsConvexProgram}
@@ -25,6 +26,7 @@ use Rattle.mpc_synthesis.specs.Refusals.{controller}
 use Rattle.mpc_synthesis.specs.Outcomes.{IsComplete}
 use Rattle.mpc_theorem.specs.PlantFile.{IsPlantText}
 use Rattle.mpc_theorem.specs.Programs.{IsNotDefinite, IsWideProgram}
+use Rattle.mpc_theorem.specs.SafeFiles.{IsSafeFile, IsUnsafeFile}
 use Rattle.mpc_theorem.specs.Stages.{IsWideStage}
 use Rattle.mpc_theorem.specs.StateLaws.{IsWideTightRow}
 use Rattle.mpc_status.specs.declared.late.LatePlace.{LatePlace}
@@ -112,21 +114,21 @@ abbrev pub IsRefused : Command → List ℕ → Spot → Type 0
 IsRefused (OfFile c) input spot = OfChecked c input (λ parts. FindsBehind parts (refused spot))
 IsRefused other input spot = ⊥
 
--- the checker accepts, and this comes of the closed loop's first target that isn't ruled out
-pub record StopsAt (step : Step) (parts : Parts) : Type 0 where
-  pub accepts : Accepts parts
-  pub found : IsStepFound parts step
+-- Unsafe: the closed loop of an accepted controller leaves at this target
+abbrev pub IsUnsafe : Command → List ℕ → Next → List (ℚ × ℚ) → Type 0
+IsUnsafe (OfFile Safe) input one pairs = IsUnsafeFile input one pairs
+IsUnsafe other input one pairs = ⊥
 
--- Unsafe and, at a target, WideLater
-abbrev pub LoopStops : Command → List ℕ → Step → Type 0
-LoopStops (OfFile Safe) input step = OfItsController input (StopsAt step)
-LoopStops other input step = ⊥
+-- the checker accepts, and of the closed loop's targets this is the first that isn't ruled out: a number of its test is too wide
+pub record IsWideTarget (one : Next) (parts : Parts) : Type 0 where
+  pub accepts : Accepts parts
+  pub found : IsStepFound parts (too_wide_step one)
 
 -- WideLater: at a target, or at a row that is tightened
 abbrev pub IsWideLater : Command → List ℕ → LatePlace → Type 0
-IsWideLater c input (NextPlace one) = LoopStops c input (too_wide_step one)
+IsWideLater (OfFile Safe) input (NextPlace one) = OfItsController input (IsWideTarget one)
 IsWideLater (OfStates Robust) input (Tight row) = OfItsNoise input (λ plant noise. IsWideTightRow plant noise row)
-IsWideLater other input (Tight row) = ⊥
+IsWideLater other input place = ⊥
 
 -- TooManyPlants: there are more than eight sections
 abbrev pub HasTooMany : Command → List ℕ → Type 0
@@ -134,11 +136,6 @@ HasTooMany (Fleet workers) input = 8 < length (sections_of input)
 HasTooMany other input = ⊥
 
 -- ---- Done
--- each target of an accepted controller is ruled out
-pub record IsRuledOut (parts : Parts) : Type 0 where
-  pub accepts : Accepts parts
-  pub ruled_out : AllRuledOut parts
-
 -- the plant's program is convex, and each of its rows can be tightened
 pub record CanTighten (plant : Plant) (noise : List ℚ) : Type 0 where
   pub qp : Qp
@@ -151,7 +148,7 @@ Passes (OfPlant c) input = OfItsPlant (plant_text c input) (IsComplete (extent_o
 Passes (OfFile Check) input = OfItsController input Accepts
 Passes (OfFile Reply) input = (parts : Parts) × IsSpelled (head_of input) parts
 Passes (OfFile Convert) input = (parts : Parts) × IsSpelled input parts
-Passes (OfFile Safe) input = OfItsController input IsRuledOut
+Passes (OfFile Safe) input = IsSafeFile input
 Passes (OfStates Solve) input = OfItsPlant (head_of input) (λ plant. (qp : Qp) × IsConvexProgram plant qp)
 Passes (OfStates Robust) input = OfItsNoise input CanTighten
 Passes (Drill number) input = OfDrill number (IsComplete controller)
@@ -165,7 +162,7 @@ IsDueTo c input (NotDefinite pivot) = OfThePlant c input (λ plant. IsNotDefinit
 IsDueTo c input (TooWide place) = OfThePlant c input (λ plant. IsWideProgram plant place) ⊎ IsWideBehind c input place
 IsDueTo c input (BadFile kind number) = IsBadFile c input kind number
 IsDueTo c input (Refused spot) = IsRefused c input spot
-IsDueTo c input (Unsafe one pairs) = LoopStops c input (reached one pairs)
+IsDueTo c input (Unsafe one pairs) = IsUnsafe c input one pairs
 IsDueTo c input (WideLater place) = IsWideLater c input place
 IsDueTo c input BadNoise = IsBadNoise c input
 IsDueTo c input TooManyPlants = HasTooMany c input

@@ -26,8 +26,7 @@ use Rattle.mpc_cli.specs.Extents.{extent_of}
 use Rattle.mpc_cli.specs.Ends.{ComesOf, IsTextAt}
 use Rattle.mpc_cli.specs.StatedOutputs.{IsStatedOutput, IsStatedOf}
 use Rattle.mpc_cli.specs.Statuses.{outcome_status, ComesTo}
-use Rattle.mpc_cli.specs.Answers.{input_limit, IsDueTo, IsDueFor, IsAnswer}
-use Rattle.mpc_cli.specs.Outputs.{IsOutput}
+use Rattle.mpc_cli.specs.Answers.{input_limit, IsDueFor, IsAnswer}
 
 -- ---- what a plant is answered with
 -- the output: one reply line a line of counts, the file of the plant's controller, or the history of its candidates

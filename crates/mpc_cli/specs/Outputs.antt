@@ -2,11 +2,8 @@
 use Rattle.std.specs.Prelude.{◌≡◌, ℕ, List, codes}
 use Rattle.mpc_plant.specs.declared.plants.Plant.{Plant}
 use Rattle.mpc_replies.specs.Cut.{head_of, count_lines}
-use Rattle.mpc_safety.specs.declared.answers.Safety.TheVariants.{Safe as SafeAnswer}
-use Rattle.mpc_safety.specs.SafetyAnswers.{IsAnswerToFile}
 use Rattle.mpc_states.specs.Inputs.{IsSolved as IsSolvedByRun, IsRobustlySolved as IsRobustlySolvedByRun}
 use Rattle.mpc_sections.specs.Sections.{sections_of}
-use Rattle.mpc_trace.specs.Histories.{IsTraceOf}
 use Rattle.mpc_synthesis.specs.Refusals.{controller}
 use Rattle.mpc_status.specs.declared.status.Status.{Status}
 use Rattle.mpc_theorem.specs.PlantFile.{IsPlantText}
@@ -14,6 +11,8 @@ use Rattle.mpc_theorem.specs.PlantOutputs.{IsReplies, IsSolved, IsRobustlySolved
 use Rattle.mpc_theorem.specs.FileOutputs.{IsCompiled, IsRightFile, AreFileReplies, IsConverted}
 use Rattle.mpc_theorem.specs.DrillLines.{IsDrillLine}
 use Rattle.mpc_theorem.specs.Fleets.{AreAnswered}
+use Rattle.mpc_theorem.specs.Traces.{IsTraceText}
+use Rattle.mpc_theorem.specs.SafeFiles.{SpellsRightForever}
 use Rattle.mpc_cli.specs.declared.commands.Command.{Command}
 use Rattle.mpc_cli.specs.declared.commands.Command.TheVariants.{OfPlant, OfFile, OfStates, Drill, Fleet}
 use Rattle.mpc_cli.specs.declared.commands.StateCommand.{StateCommand}
@@ -25,12 +24,12 @@ use Rattle.mpc_cli.specs.declared.commands.FileCommand.TheVariants.{Check, Reply
 use Rattle.mpc_cli.specs.Ends.{ComesOf, IsTextAt}
 use Rattle.mpc_cli.specs.Statuses.{IsPlantEnd, plant_status}
 
--- the output of `trace`: the input is the file of a plant, and the text is a history of its program's candidates in which each is claimed and
--- delivered once, by so many workers
+-- the output of `trace`: the input is the file of a plant, and the text is a history in which so many workers claim and deliver its program's
+-- candidates
 pub record IsTrace (workers : ℕ) (input output : List ℕ) : Type 0 where
   pub plant : Plant
   pub read : IsPlantText input plant
-  pub traced : IsTraceOf workers plant output
+  pub traced : IsTraceText workers plant output
 
 -- `run` writes one reply line a line of counts, and at each grid state the reply that is right
 abbrev pub IsPlantOutput : PlantCommand → List ℕ → List ℕ → Type 0
@@ -40,13 +39,13 @@ IsPlantOutput (Trace workers) input output = IsTrace workers input output
 
 -- The output of a command on a controller's file: that the controller is accepted, and it replies rightly at every point of its plant's
 -- box, also between the states of the grid; its replies to the lines of counts, of a controller that needn't have been checked; or its text
--- in version 3; or that the controller is accepted and its closed loop goes on forever: from every point of the box with an admissible sequence,
--- after every number of steps, the state is in the box and the reply is the first move of the cheapest admissible sequence.
+-- in version 3; or that its closed loop is right forever: from every point of the box with an admissible sequence, after every number of steps,
+-- the state is in the box and the reply is the first move of the cheapest admissible sequence.
 abbrev pub IsFileOutput : FileCommand → List ℕ → List ℕ → Type 0
 IsFileOutput Check input output = IsRightFile input × (output ≡ codes "accepted\n")
 IsFileOutput Reply input output = AreFileReplies (head_of input) (count_lines input) output
 IsFileOutput Convert input output = IsConverted input output
-IsFileOutput Safe input output = IsAnswerToFile input SafeAnswer × (output ≡ codes "safe\n")
+IsFileOutput Safe input output = SpellsRightForever input × (output ≡ codes "safe\n")
 
 -- what `compile` answers to a section by itself: the status that is due, and its text
 pub record IsSectionAnswer (section : List ℕ) (status : Status) (text : List ℕ) : Type 0 where

@@ -2,6 +2,9 @@
 use Rattle.std.specs.Prelude.{◌≡◌, ℕ, List, Option}
 use Rattle.std.specs.Io.KnownBytes.{Appends, Consumes}
 use Rattle.mpc_plant.specs.declared.plants.Plant.{Plant}
+use Rattle.mpc_safety.specs.declared.answers.Safety.TheVariants.{Safe as SafeAnswer}
+use Rattle.mpc_safety.specs.SafetyAnswers.{IsAnswerToFile}
+use Rattle.mpc_trace.specs.Histories.{IsTraceOf}
 use Rattle.mpc_drill.specs.declared.drills.Drilled.{Drilled}
 use Rattle.mpc_drill.specs.Drills.{IsDrilled, drill_text}
 use Rattle.mpc_sections.specs.Sections.{sections_of}
@@ -12,6 +15,7 @@ use Rattle.mpc_theorem.specs.PlantFile.{IsPlantText}
 use Rattle.mpc_cli.specs.declared.commands.Command.{Command}
 use Rattle.mpc_cli.specs.declared.commands.Command.TheVariants.{OfPlant, OfFile, OfStates, Drill, Fleet}
 use Rattle.mpc_cli.specs.declared.commands.PlantCommand.TheVariants.{Run, Compile, Trace}
+use Rattle.mpc_cli.specs.declared.commands.FileCommand.TheVariants.{Safe}
 use Rattle.mpc_cli.specs.Commands.{Names, Reads}
 use Rattle.mpc_cli.specs.ControllerFiles.{IsFileOf}
 use Rattle.mpc_cli.specs.Outputs.{IsPlantOutput, IsOutput}
@@ -22,6 +26,12 @@ pub record IsTheFile (input output : List ℕ) : Type 0 where
   pub read : IsPlantText input plant
   pub file : IsFileOf plant output
 
+-- the input is the file of a plant, and the text is that of the legal, finished history of a registry of its program's candidates
+pub record IsTheTrace (workers : ℕ) (input output : List ℕ) : Type 0 where
+  pub plant : Plant
+  pub read : IsPlantText input plant
+  pub traced : IsTraceOf workers plant output
+
 -- the line of the counts of what was made for the drill's plant
 pub record IsTheDrillLine (number : ℕ) (output : List ℕ) : Type 0 where
   pub counts : Drilled
@@ -31,8 +41,10 @@ pub record IsTheDrillLine (number : ℕ) (output : List ℕ) : Type 0 where
 abbrev pub IsStated : Command → List ℕ → List ℕ → Type 0
 IsStated (OfPlant Run) input output = Unit {0}
 IsStated (OfPlant (Compile workers)) input output = IsTheFile input output
-IsStated (OfPlant (Trace workers)) input output = Unit {0}
-IsStated (OfFile c) input output = Unit {0}
+IsStated (OfPlant (Trace workers)) input output = IsTheTrace workers input output
+-- the controller is accepted, each target of its closed loop is ruled out, and so it is right forever
+IsStated (OfFile Safe) input output = IsAnswerToFile input SafeAnswer
+IsStated (OfFile other) input output = Unit {0}
 IsStated (OfStates c) input output = Unit {0}
 IsStated (Drill number) input output = IsTheDrillLine number output
 IsStated (Fleet workers) input output = AreAnswered 1 (sections_of input) output
@@ -41,8 +53,9 @@ IsStated (Fleet workers) input output = AreAnswered 1 (sections_of input) output
 abbrev pub IsStatedOutput : Command → List ℕ → List ℕ → Type 0
 IsStatedOutput (OfPlant Run) input output = IsPlantOutput Run input output
 IsStatedOutput (OfPlant (Compile workers)) input output = IsPlantOutput (Compile workers) input output × IsTheFile input output
-IsStatedOutput (OfPlant (Trace workers)) input output = IsPlantOutput (Trace workers) input output
-IsStatedOutput (OfFile c) input output = IsOutput (OfFile c) input output
+IsStatedOutput (OfPlant (Trace workers)) input output = IsPlantOutput (Trace workers) input output × IsTheTrace workers input output
+IsStatedOutput (OfFile Safe) input output = IsOutput (OfFile Safe) input output × IsAnswerToFile input SafeAnswer
+IsStatedOutput (OfFile other) input output = IsOutput (OfFile other) input output
 IsStatedOutput (OfStates c) input output = IsOutput (OfStates c) input output
 IsStatedOutput (Drill number) input output = IsOutput (Drill number) input output × IsTheDrillLine number output
 IsStatedOutput (Fleet workers) input output = IsOutput (Fleet workers) input output × AreAnswered 1 (sections_of input) output

@@ -15,7 +15,8 @@ use Rattle.mpc_status.specs.declared.late.LatePlace.TheVariants.{Next as NextPla
 use Rattle.mpc_states.specs.Convex.{ProgramOutcome, not_definite as not_definite_program, too_wide as too_wide_program, convex}
 use Rattle.mpc_states.specs.Outcomes.{SolveOutcome, bad_plant as bad_solve_plant, of_program, IsSolveOutcome, RobustOutcome, bad_robust_plant, bad_noise, of_robust_program, wide_row, robust_replies, IsRobustOutcome}
 use Rattle.mpc_recur.specs.Findings.{Finding as Step, reached, too_wide as too_wide_step}
-use Rattle.mpc_safety.specs.SafetyOutcomes.{SafetyOutcome, bad_file as bad_safety_file, finds as finds_first, steps, safe, IsSafetyOutcome}
+use Rattle.mpc_safety.specs.SafetyOutcomes.{SafetyOutcome, bad_file as bad_safety_file, finds as finds_first, steps, safe}
+use Rattle.mpc_theorem.specs.SafeFiles.{IsSafetyDue}
 use Rattle.mpc_cli.specs.declared.commands.Command.{Command}
 use Rattle.mpc_cli.specs.declared.commands.Command.TheVariants.{OfPlant, OfFile, OfStates, Drill, Fleet}
 use Rattle.mpc_cli.specs.declared.commands.StateCommand.{StateCommand}
@@ -102,7 +103,7 @@ abbrev pub ComesToFile : FileCommand → List ℕ → Status → Type 0
 ComesToFile Check input status = ComesOf (IsFileOutcome input) file_status status
 ComesToFile Reply input status = ComesOf (IsFileReading (head_of input)) reading_status status
 ComesToFile Convert input status = ComesOf (IsFileReading input) reading_status status
-ComesToFile Safe input status = ComesOf (IsSafetyOutcome input) safety_status status
+ComesToFile Safe input status = ComesOf (IsSafetyDue input) safety_status status
 
 abbrev pub ComesToStates : StateCommand → List ℕ → Status → Type 0
 ComesToStates Solve input status = ComesOf (IsSolveOutcome input) solve_status status

@@ -17,7 +17,7 @@ use mpc_replies::cut;
 use mpc_safety::{Safety, SafetyError, one_safety_answer, safe_file};
 use mpc_status::{LatePlace, Status};
 use mpc_text::add_text;
-use mpc_theorem::file_output_laws;
+use mpc_theorem::{file_output_laws, safe_file_laws};
 use std::alloc::Global;
 use std::thread::Threads;
 
@@ -131,6 +131,7 @@ fn safe_answer<T: Threads + Sync>(rt: &T, alloc: Global, input: &[u8]) -> Result
     ensures { IfOk result (λ answer. IsAnswerTo (OfFile Safe) input.now answer.status answer.text.items) }
 {
     one_safety_answer();
+    safe_file_laws();
     match safe_file(rt, alloc, input) {
         Ok(Safety::Safe) => safe(alloc),
         Ok(Safety::Refused(spot)) => refusal(alloc, Status::Refused(spot)),

@@ -6,10 +6,9 @@ ghost use Rattle.mpc_cli.specs.Statuses.{DueIsWhatComes};
 use mpc_drill::one_drill;
 use mpc_files::one_file_answer;
 use mpc_plant::one_reading;
-use mpc_safety::one_safety_answer;
 use mpc_states::{complete_inputs, one_outcome as one_state_outcome};
 use mpc_synthesis::one_outcome;
-use mpc_theorem::{check_refusals, plant_refusals, plant_texts, state_refusals};
+use mpc_theorem::{check_refusals, plant_refusals, plant_texts, safe_file_laws, state_refusals};
 
 /// A status is due to a command just where an outcome of its library has that status. The call does nothing: its clause is the law.
 pub fn due_statuses()
@@ -22,7 +21,7 @@ pub fn due_statuses()
 }
 
 /// For words and an input at most one status is due, by devices that don't fail, and `Done` where no refusal is. None is where the plant's
-/// weight of the moves is positive definite and nothing is too wide, or where the controller's file passes. The call does nothing: its
+/// program has a positive definite Hessian and nothing is too wide, or where the controller's file passes. The call does nothing: its
 /// clauses are the law.
 pub fn one_status()
     ensures one { OneStatus }
@@ -34,7 +33,7 @@ pub fn one_status()
     one_outcome();
     one_file_answer();
     one_drill();
-    one_safety_answer();
+    safe_file_laws();
     one_state_outcome();
     complete_inputs();
 }

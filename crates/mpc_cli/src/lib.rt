@@ -14,4 +14,4 @@ mod respond;
 mod state_answers;
 
 pub use calls::{run, run_alone};
-pub use laws::one_status;
+pub use laws::{due_statuses, one_status};

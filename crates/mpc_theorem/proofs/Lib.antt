@@ -22,3 +22,9 @@ mod PlantRows
 mod PlantTexts
 mod OutputLines
 pub mod RightControllers
+pub mod HistoryLemmas
+pub mod TraceLemmas
+pub mod TagLemmas
+pub mod TurnLemmas
+pub mod TextLemmas
+pub mod SafeLemmas

@@ -12,3 +12,5 @@ pub mod PlantOutputs
 pub mod FileOutputs
 pub mod DrillLines
 pub mod Fleets
+pub mod Traces
+pub mod SafeFiles

@@ -7,6 +7,8 @@ mod file_outputs;
 mod plant_files;
 mod plant_outputs;
 mod refusals;
+mod safe_files;
+mod traces;
 
 pub use controller_files::controller_file;
 pub use drill_lines::drill_line_laws;
@@ -14,3 +16,5 @@ pub use file_outputs::file_output_laws;
 pub use plant_files::plant_texts;
 pub use plant_outputs::output_lines;
 pub use refusals::{check_refusals, plant_refusals, state_refusals};
+pub use safe_files::safe_file_laws;
+pub use traces::trace_laws;
