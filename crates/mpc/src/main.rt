@@ -5,7 +5,8 @@
 #![tactic(auto)]
 
 use mpc_cli::run;
-use mpc_port::{HostSink, HostSource, OpenGate};
+use mpc_port::{HostSink, HostSource};
+use mpc_workers::OpenGate;
 use std::alloc::Global;
 use std::process::ExitCode;
 use std::rt::Env;

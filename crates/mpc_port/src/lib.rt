@@ -1,18 +1,16 @@
-//! Where bytes come from and go to, with counts of faults, and the gate before a delivery.
+//! Where bytes come from and go to, with counts of faults.
 //!
 //! A [`Source`] and a [`Sink`] may fail at any call. Each keeps a count of its faults, and
 //! answers a failure only where that count rose, so a caller who finds the count unchanged knows
 //! that nothing failed. [`read_all`] and [`write_all`] go through them whole.
 #![tactic(auto)]
 
-mod delivery;
 mod host;
 mod input;
 mod memory;
 mod output;
 mod quiet;
 
-pub use delivery::{Gate, OpenGate};
 pub use host::{HostSink, HostSource};
 pub use input::{Failed, ReadError, Source, read_all};
 pub use memory::{MemorySink, MemorySource};
