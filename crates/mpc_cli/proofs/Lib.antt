@@ -8,6 +8,5 @@ pub mod DueStatus
 pub mod CompileLemmas
 pub mod FileEnds
 pub mod DrillEnds
-pub mod ReadLemmas
 pub mod RespondLemmas
 pub mod RunLemmas

@@ -1,6 +1,6 @@
 -- Histories that grow piece by piece.
-use Rattle.std.proofs.Common.{◌≡◌, ℕ, ◌+◌, ◌-◌, ◌<◌, ◌≤◌, List, [], ◌∷◌, ◌++◌, length, take, drop, Option, None, Some, refl, sym, ap, ⊎_elim, subst, ◌∙◌, arith, append-nil, append_assoc, length-append, length-drop, length-take, take-append-drop, take_all}
-use Rattle.std.specs.Prelude.{IfSome, Contains, min}
+use Rattle.std.proofs.Common.{◌≡◌, ℕ, ◌+◌, ◌-◌, ◌<◌, List, [], ◌∷◌, ◌++◌, length, take, drop, Option, None, Some, refl, sym, ap, ⊎_elim, subst, ◌∙◌, arith, append-nil, append_assoc, length-append, length-drop, length-take, take-append-drop, take_all}
+use Rattle.std.specs.Prelude.{IfSome, min}
 use Rattle.std.specs.List.{concat}
 use Rattle.std.specs.Io.KnownBytes.{Consumes, Keeps, IsAtEnd}
 use Rattle.std.proofs.KnownBytes.{Consumes-nil, Consumes-trans, Consumes-kept}

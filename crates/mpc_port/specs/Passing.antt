@@ -23,7 +23,7 @@ pub record IsDrawn (left left_after : Option (List ℕ)) (given given_after : Li
   pub all : Contains pieces [] → IfSome left (λ bytes. bytes ≡ concat pieces)
 
 -- a sink took so many first bytes of these
-pub record TookPart (taken taken_after bytes : List ℕ) : Type 0 where
+pub record TookFront (taken taken_after bytes : List ℕ) : Type 0 where
   pub sent : ℕ
   pub took : taken_after ≡ taken ++ take sent bytes
 

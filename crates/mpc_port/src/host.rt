@@ -1,7 +1,7 @@
 //! A reader and a writer of std as a source and a sink.
 ghost use Rattle.std.specs.Prelude.{◌≡◌, ℕ, ◌<◌, ◌≤◌, [], ◌∷◌, ◌++◌, length, take, IfOk, IfErr, IfSome, OnOk, OnErr};
 ghost use Rattle.mpc_port.specs.Faults.{next_count};
-ghost use Rattle.mpc_port.specs.Passing.{IsDrawn, TookPart, TookThrough};
+ghost use Rattle.mpc_port.specs.Passing.{IsDrawn, TookFront, TookThrough};
 ghost use Rattle.mpc_port.specs.SinkError.{ExplainsSinkError};
 
 use crate::history::History;
@@ -149,7 +149,7 @@ impl<W: Write> Sink for HostSink<W> {
         ensures quiet { OnOk result (self.new.faults ≡ self.old.faults) }
         ensures failed { OnErr result (self.new.faults ≡ next_count self.old.faults) }
         ensures cause { IfErr result (ExplainsSinkError self.old.faults self.new.faults) }
-        ensures refused { OnErr result (TookPart self.old.taken self.new.taken piece.now) }
+        ensures refused { OnErr result (TookFront self.old.taken self.new.taken piece.now) }
         ensures lasting { self.old.faults ≤ self.new.faults }
     {
         match self.write_through(piece) {

@@ -14,7 +14,6 @@ mod memory;
 mod output;
 mod quiet;
 
-pub use history::History;
 pub use host::{HostSink, HostSource};
 pub use input::{Failed, ReadError, Source, read_all};
 pub use memory::{MemorySink, MemorySource};

@@ -1,6 +1,6 @@
 //! Bytes that go out.
 ghost use Rattle.std.specs.Prelude.{◌≡◌, ℕ, List, ◌++◌, ◌<◌, ◌≤◌, length, take, IfOk, IfErr, OnOk, OnErr};
-ghost use Rattle.mpc_port.specs.Passing.{TookPart};
+ghost use Rattle.mpc_port.specs.Passing.{TookFront};
 ghost use Rattle.mpc_port.specs.SinkError.{ExplainsSinkError};
 
 use std::error::Error;
@@ -48,7 +48,7 @@ pub trait Sink {
         ensures quiet { OnOk result (faults self.new ≡ faults self.old) }
 
         ensures cause { IfErr result (ExplainsSinkError (faults self.old) (faults self.new)) }
-        ensures refused { OnErr result (TookPart (taken self.old) (taken self.new) piece.now) }
+        ensures refused { OnErr result (TookFront (taken self.old) (taken self.new) piece.now) }
         ensures lasting { faults self.old ≤ faults self.new };
 }
 
@@ -61,7 +61,7 @@ pub trait Sink {
 pub fn write_all<K: Sink>(sink: &mut K, bytes: &[u8]) -> Result<(), SinkError>
     ensures whole { OnOk result (K.taken sink.new ≡ K.taken sink.old ++ bytes.now) }
     ensures quiet { OnOk result (K.faults sink.new ≡ K.faults sink.old) }
-    ensures part { OnErr result (TookPart (K.taken sink.old) (K.taken sink.new) bytes.now) }
+    ensures part { OnErr result (TookFront (K.taken sink.old) (K.taken sink.new) bytes.now) }
     ensures cause { IfErr result (ExplainsSinkError (K.faults sink.old) (K.faults sink.new)) }
     ensures lasting { K.faults sink.old ≤ K.faults sink.new }
 {
