@@ -1,6 +1,8 @@
 -- From the answer of a command to that of its words.
-use Rattle.std.proofs.Common.{◌≡◌, ◌≢◌, ℕ, ◌+◌, ◌<◌, ◌≤◌, List, [], length, Vec, Global, refl, sym, subst, arith, append-nil}
+use Rattle.std.proofs.Common.{◌≡◌, ◌≢◌, ℕ, ◌+◌, ◌<◌, ◌≤◌, List, [], ◌∷◌, ◌++◌, length, Vec, Global, refl, sym, ap, ◌∙◌, subst, arith, append-nil, append_assoc}
 use Rattle.std.specs.Prelude.{Result, Ok, Err, IfOk, IfErr}
+use Rattle.std.specs.List.{concat}
+use Rattle.std.proofs.lemmas.List.Folds.{concat-append}
 use Rattle.mpc_port.specs.Passing.{Passed, PassedToEnd}
 use Rattle.mpc_status.specs.declared.status.Status.{Status}
 use Rattle.mpc_status.specs.declared.status.Status.TheVariants.{Done, Usage, TooLong}
@@ -22,6 +24,20 @@ use Rattle.mpc_cli.proofs.EndLemmas.{line_text, text_weaker, of_refusal}
 ok_same : {E F : Type 0} (r : Result Answer E) (s : Result Answer F) (P Q : Answer → Type 0) → IfOk s (λ a. r ≡ Ok a) → IfOk r P → ((a : Answer) → P a → Q a) → IfOk s Q
 ok_same {E} r (Ok a) P Q e h f = f a (subst (λ (x : Result Answer E). IfOk x P) e h)
 ok_same r (Err x) P Q e h f = tt
+
+-- ---- what came
+-- what was read to the end passed
+pub whole_input : (c : Command) (given given_after : List (List ℕ)) (bytes : List ℕ) → PassedToEnd given given_after bytes → length bytes ≤ input_limit
+    → Passed given given_after bytes × (length bytes ≤ input_limit) × (CommandReads c → PassedToEnd given given_after bytes)
+whole_input c given given_after bytes h few = (
+  record {
+    pieces = h.passed.pieces ++ [] ∷ [];
+    came = h.ended ∙ ap (λ l. l ++ [] ∷ []) h.passed.came ∙ append_assoc given h.passed.pieces ([] ∷ []);
+    whole = concat-append h.passed.pieces ([] ∷ []) ∙ append-nil (concat h.passed.pieces) ∙ h.passed.whole;
+  },
+  few,
+  λ reads. h,
+)
 
 -- ---- of a command
 module _ (c : Command) (given given_after : List (List ℕ)) where

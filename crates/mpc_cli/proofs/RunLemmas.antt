@@ -3,6 +3,9 @@ use Rattle.std.proofs.Common.{◌≡◌, ℕ, ◌+◌, ◌≤◌, ◌⊎◌, ari
 use Rattle.std.specs.Prelude.{Result, Ok, Err, IfOk, IfErr}
 use Rattle.mpc_port.specs.Faults.{Rose}
 use Rattle.mpc_port.specs.Passing.{Passed, TookFront}
+use Rattle.mpc_port.specs.SinkError.{ExplainsSinkError}
+use Rattle.mpc_port.specs.declared.output.SinkError.{SinkError}
+use Rattle.mpc_port.specs.declared.output.SinkError.TheVariants.{Failed as SinkFailed}
 use Rattle.mpc_status.specs.declared.status.Status.{Status}
 use Rattle.mpc_status.specs.declared.status.Status.TheVariants.{ReadFault, WriteFault, TooLong, NoMemory}
 use Rattle.mpc_cli.specs.Commands.{Reads}
@@ -93,6 +96,14 @@ read_failed words p run rose come kept = record {
   exact = λ due h quiet. absurd (quiet.reads rose);
   complete = λ n quiet. absurd (quiet.reads rose);
 }
+
+-- ---- the ends of writing
+pub failed_ends : (status : Status) (text bytes taken taken_after : List ℕ) (faults faults_after : ℕ) (e : SinkError) → e ≡ SinkFailed → bytes ≡ text → TookFront taken taken_after bytes → ExplainsSinkError faults faults_after e
+    → Finishes status text taken taken_after faults faults_after WriteFault
+failed_ends status text bytes taken taken_after faults faults_after e is same took cause = sink_failed (subst (ExplainsSinkError faults faults_after) is cause) (subst (TookFront taken taken_after) same took)
+
+pub full_ends : (status : Status) (text bytes taken taken_after : List ℕ) (faults faults_after : ℕ) → bytes ≡ text → TookFront taken taken_after bytes → Finishes status text taken taken_after faults faults_after NoMemory
+full_ends status text bytes taken taken_after faults faults_after same took = sink_full (subst (TookFront taken taken_after) same took)
 
 -- ---- a run by an answer, or by none
 pub closed : OneStatus → PassingIsDone → (words : List (List ℕ)) (p : Passage) (outcome : Result Answer Halt) (s : Status) → IfOk outcome (λ a. IsSomeAnswer words p.given p.given_after a.status a.text.items)
