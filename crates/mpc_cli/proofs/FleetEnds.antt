@@ -1,19 +1,16 @@
 -- What comes of several plants, and the answers to them.
-use Rattle.std.proofs.Common.{◌≡◌, ℕ, ◌^◌, ◌<◌, ◌≤◌, List, length, refl, ◌∙◌, arith, sym, subst}
+use Rattle.std.proofs.Common.{◌≡◌, ℕ, ◌^◌, ◌<◌, ◌≤◌, List, length, sym, subst}
 use Rattle.mpc_sections.specs.Sections.{sections_of}
 use Rattle.mpc_sections.specs.Alone.{AreAnswered}
 use Rattle.mpc_status.specs.declared.status.Status.{Status}
 use Rattle.mpc_status.specs.declared.status.Status.TheVariants.{Done, TooManyPlants}
 use Rattle.mpc_status.specs.StatusText.{line_of}
 use Rattle.mpc_cli.specs.declared.commands.Command.TheVariants.{Fleet}
-use Rattle.mpc_cli.specs.Ends.{ComesOf}
 use Rattle.mpc_theorem.specs.PlantFile.{PlantTextsAreRead}
 use Rattle.mpc_theorem.specs.FileOutputs.{CompiledIsOutput}
 use Rattle.mpc_cli.specs.StatedOutputs.{IsStatedOutput}
 use Rattle.mpc_cli.proofs.OutputEnds.{sections_answered}
-use Rattle.mpc_cli.specs.Statuses.{fleet_status}
 use Rattle.mpc_cli.specs.Causes.{IsDueTo}
-use Rattle.mpc_cli.specs.Outputs.{IsOutput}
 use Rattle.mpc_cli.specs.Outcomes.{IsAnswerTo}
 use Rattle.mpc_cli.proofs.EndLemmas.{done_text, line_text}
 

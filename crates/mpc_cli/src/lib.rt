@@ -13,5 +13,5 @@ mod plant_answers;
 mod respond;
 mod state_answers;
 
-pub use calls::{run, run_alone};
+pub use calls::{run, run_alone, waits};
 pub use laws::one_status;

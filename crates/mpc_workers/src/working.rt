@@ -9,12 +9,12 @@ ghost use Rattle.mpc_rows.specs.Verdicts.{IsRight};
 ghost use Rattle.mpc_workers.specs.Posts.{after, AtEach, CallsOnlyAt, ComesFirst, GivesNoJob, HasNothing, IsAnswered, IsAtProgram, IsBusy, IsPost};
 ghost use Rattle.mpc_workers.specs.Seats.{IsSeat, KeepWorkers};
 
+use crate::delivery::Gate;
 use crate::discard;
 use crate::seats::{Post, Seat};
 use crate::waiting::{News, seats_at_once};
 use mpc_claim::{Claimed, Ticket, claim_laws};
 use mpc_frac::NoMemory;
-use mpc_port::Gate;
 use mpc_region::Examiner;
 use mpc_rows::{Judged, Qp};
 use mpc_turn::{Turn, hand_laws};
