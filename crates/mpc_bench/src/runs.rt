@@ -14,9 +14,9 @@ use crate::replies::{Answer, replies};
 use mpc_answers::grid_points;
 use mpc_controller::Controller;
 use mpc_plant::{Plant, PlantError, read_plant};
-use mpc_port::OpenGate;
 use mpc_synthesis::{controller_of, decided, right_controller};
 use mpc_table::Table;
+use mpc_workers::OpenGate;
 use std::alloc::Global;
 
 /// The controller of a plant, with its sizes.

@@ -18,13 +18,13 @@ use mpc_controller::{Controller, replies_everywhere};
 use mpc_file::{FileError, one_text, read_file, write_file};
 use mpc_frac::NoMemory;
 use mpc_plant::{Plant, PlantError, read_plant};
-use mpc_port::OpenGate;
 use mpc_recur::{Recur, RecurError, recur};
 use mpc_safety::safe_stays_right;
 use mpc_status::{LatePlace, Status};
 use mpc_synthesis::{SynthesisError, controller, one_controller, right_controller};
 use mpc_text::add_text;
 use mpc_theorem::{file_output_laws, plant_texts, safe_file_laws};
+use mpc_workers::OpenGate;
 use std::alloc::Global;
 
 /// The most bytes that an input has.

@@ -1,5 +1,5 @@
 -- What a text means and which it is, and that the sink took it.
-use Rattle.std.proofs.Common.{List, ℕ, Option}
+use Rattle.std.proofs.Common.{List, ℕ}
 use Rattle.std.specs.Prelude.{Result, Ok, Err, IfOk}
 use Rattle.mpc_status.specs.declared.status.Status.{Status}
 use Rattle.mpc_cli.specs.declared.answer.Answer.{Answer}
@@ -37,14 +37,14 @@ stated_of (OfStates c) input output h = tt
 stated_of (Drill number) input output h = h.1
 stated_of (Fleet workers) input output h = h.1
 
-finished_stated : (words : List (List ℕ)) (left left_after taken taken_after : Option (List ℕ)) (faults faults_after : ℕ) (a s : Status) (text : List ℕ) → IsSomeAnswer words left left_after a text → Finishes a text taken taken_after faults faults_after s
-    → StatesOutput words left left_after taken taken_after s
-finished_stated words left left_after taken taken_after faults faults_after a _ text some (wrote_all wrote) = λ done. record { input = some.input; came = some.came; text = text; stated = some.stated done; wrote = wrote }
-finished_stated words left left_after taken taken_after faults faults_after a _ text some (sink_failed sent rose wrote) = λ done. absurd cc
-finished_stated words left left_after taken taken_after faults faults_after a _ text some (sink_full sent wrote) = λ done. absurd cc
+finished_stated : (words : List (List ℕ)) (given given_after : List (List ℕ)) (taken taken_after : List ℕ) (faults faults_after : ℕ) (a s : Status) (text : List ℕ) → IsSomeAnswer words given given_after a text → Finishes a text taken taken_after faults faults_after s
+    → StatesOutput words given given_after taken taken_after s
+finished_stated words given given_after taken taken_after faults faults_after a _ text some (wrote_all wrote) = λ done. record { input = some.input; passed = some.passed; whole = some.whole; text = text; stated = some.stated done; wrote = wrote }
+finished_stated words given given_after taken taken_after faults faults_after a _ text some (sink_failed rose wrote) = λ done. absurd cc
+finished_stated words given given_after taken taken_after faults faults_after a _ text some (sink_full wrote) = λ done. absurd cc
 
-pub closed_stated : (words : List (List ℕ)) (left left_after taken taken_after : Option (List ℕ)) (faults faults_after : ℕ) (outcome : Result Answer Halt) (s : Status)
-    → IfOk outcome (λ a. IsSomeAnswer words left left_after a.status a.text.items) → Closes outcome taken taken_after faults faults_after s → StatesOutput words left left_after taken taken_after s
-closed_stated words left left_after taken taken_after faults faults_after (Ok a) s some ends = finished_stated words left left_after taken taken_after faults faults_after a.status s a.text.items some ends
-closed_stated words left left_after taken taken_after faults faults_after (Err SourceFailed) s some ends = λ done. let e = ends.0 in absurd cc
-closed_stated words left left_after taken taken_after faults faults_after (Err OutOfMemory) s some ends = λ done. let e = ends.0 in absurd cc
+pub closed_stated : (words : List (List ℕ)) (given given_after : List (List ℕ)) (taken taken_after : List ℕ) (faults faults_after : ℕ) (outcome : Result Answer Halt) (s : Status)
+    → IfOk outcome (λ a. IsSomeAnswer words given given_after a.status a.text.items) → Closes outcome taken taken_after faults faults_after s → StatesOutput words given given_after taken taken_after s
+closed_stated words given given_after taken taken_after faults faults_after (Ok a) s some ends = finished_stated words given given_after taken taken_after faults faults_after a.status s a.text.items some ends
+closed_stated words given given_after taken taken_after faults faults_after (Err SourceFailed) s some ends = λ done. let e = ends.0 in absurd cc
+closed_stated words given given_after taken taken_after faults faults_after (Err OutOfMemory) s some ends = λ done. let e = ends.0 in absurd cc

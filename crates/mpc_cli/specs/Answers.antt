@@ -1,7 +1,7 @@
 -- What the command answers: its causes, its output, and what passes at its source and its sink.
-use Rattle.std.specs.Prelude.{◌≡◌, ℕ, ◌+◌, ◌<◌, ◌≤◌, ◌⊎◌, Option, IfSome, List, length, take}
-use Rattle.std.specs.Io.KnownBytes.{Appends, Keeps, Consumes}
+use Rattle.std.specs.Prelude.{◌≡◌, ℕ, ◌+◌, ◌<◌, ◌≤◌, ◌⊎◌, List, ◌++◌, length}
 use Rattle.mpc_port.specs.Faults.{Rose}
+use Rattle.mpc_port.specs.Passing.{Passed, PassedToEnd, TookFront}
 use Rattle.mpc_plant.specs.declared.plants.Plant.{Plant}
 use Rattle.mpc_rows.specs.declared.programs.Qp.{Qp}
 use Rattle.mpc_rows.specs.declared.places.Place.{Place}
@@ -15,7 +15,6 @@ use Rattle.mpc_drill.specs.DrillPlant.{IsDrillPlant}
 use Rattle.mpc_replies.specs.Cut.{head_of}
 use Rattle.mpc_status.specs.declared.status.Status.{Status}
 use Rattle.mpc_status.specs.declared.status.Status.TheVariants.{Done, Usage, ReadFault, WriteFault, TooLong, NoMemory}
-use Rattle.mpc_status.specs.StatusText.{line_of}
 use Rattle.mpc_cli.specs.declared.commands.Command.{Command}
 use Rattle.mpc_cli.specs.declared.commands.Command.TheVariants.{OfPlant, OfFile, OfStates, Drill, Fleet}
 use Rattle.mpc_cli.specs.declared.commands.StateCommand.{StateCommand}
@@ -114,44 +113,40 @@ pub record IsAnswer (words : List (List ℕ)) (input : List ℕ) (status : Statu
   pub text_is : IsTextAt (IsOutputOf words input) status text
 
 -- ---- What passes in a call
--- the bytes that the source tells before and after, those that the sink has taken before and after, and the counts of faults before and after
+-- the pieces that the source has given and the bytes that the sink has taken, before and after, and the counts of faults before and after
 pub record Passage : Type 0 where
-  pub left : Option (List ℕ)
-  pub left_after : Option (List ℕ)
+  pub given : List (List ℕ)
+  pub given_after : List (List ℕ)
   pub read_faults : ℕ
   pub read_faults_after : ℕ
-  pub taken : Option (List ℕ)
-  pub taken_after : Option (List ℕ)
+  pub taken : List ℕ
+  pub taken_after : List ℕ
   pub write_faults : ℕ
   pub write_faults_after : ℕ
 
+-- where the command reads and the bytes aren't too long, they are all that the source gave before it said that nothing is left
+abbrev pub IsWhole : List (List ℕ) → List (List ℕ) → List (List ℕ) → List ℕ → Type 0
+IsWhole words given given_after input = Reads words → length input ≤ input_limit → PassedToEnd given given_after input
+
 -- the status is due, and the sink took just its text
 pub record Answers (words : List (List ℕ)) (passage : Passage) (status : Status) (input : List ℕ) : Type 0 where
+  pub whole : IsWhole words passage.given passage.given_after input
   pub text : List ℕ
   pub answer : IsAnswer words input status text
-  pub wrote : Appends passage.taken passage.taken_after text
+  pub wrote : passage.taken_after ≡ passage.taken ++ text
 
 -- the sink took the first bytes of the text of a status that is due
 pub record TookPart (words : List (List ℕ)) (passage : Passage) (input : List ℕ) : Type 0 where
+  pub whole : IsWhole words passage.given passage.given_after input
   pub status : Status
   pub text : List ℕ
   pub answer : IsAnswer words input status text
-  pub sent : ℕ
-  pub wrote : Appends passage.taken passage.taken_after (take sent text)
+  pub wrote : TookFront passage.taken passage.taken_after text
 
 -- no count of faults rose
 pub record IsQuiet (passage : Passage) : Type 0 where
   pub reads : ¬ Rose passage.read_faults passage.read_faults_after
   pub writes : ¬ Rose passage.write_faults passage.write_faults_after
-
--- The bytes that came, from the front of what was left, are at most one more than the limit. Where they are more than the limit, the input is
--- too long, whatever the source would have done afterwards, and that is said where they are.
-pub record HasRead (left left_after : Option (List ℕ)) (status : Status) : Type 0 where
-  pub bytes : List ℕ
-  pub came : Consumes left left_after bytes
-  pub most : length bytes ≤ input_limit + 1
-  pub long : input_limit < length bytes → (status ≡ TooLong) ⊎ ((status ≡ WriteFault) ⊎ (status ≡ NoMemory))
-  pub only : status ≡ TooLong → input_limit < length bytes
 
 -- a device failed, or memory ran out
 abbrev pub IsFault : Status → Type 0
@@ -159,19 +154,25 @@ IsFault status = (status ≡ ReadFault) ⊎ ((status ≡ WriteFault) ⊎ (status
 
 -- what the command answers for its words: each status comes just from its cause, and the sink took what is said here
 pub record RunAnswers (words : List (List ℕ)) (passage : Passage) (status : Status) : Type 0 where
-  -- Every status but those of a device that failed and of want of memory is due, and the sink took just its text: at Done the output of the
-  -- command, and else the status's line.
-  pub answered : (¬ IsFault status) → IfSome passage.left (Answers words passage status)
-  -- the words name no command: then no other refusal comes, whatever the source and the sink tell
-  pub usage : status ≡ Usage → (¬ IsCommand words) × Appends passage.taken passage.taken_after (line_of Usage)
+  -- the bytes that the source gave in this call, at most one more than the limit
+  pub input : List ℕ
+  pub passed : Passed passage.given passage.given_after input
+  pub most : length input ≤ input_limit + 1
+  -- Every status but those of a device that failed and of want of memory is due to these bytes, and the sink took just its text: at Done the
+  -- output of the command, and else the status's line.
+  pub answered : (¬ IsFault status) → Answers words passage status input
+  -- the words name no command: then no other refusal comes, whatever the source and the sink do
+  pub usage : status ≡ Usage → ¬ IsCommand words
   pub usage_first : (¬ IsCommand words) → (status ≡ Usage) ⊎ ((status ≡ WriteFault) ⊎ (status ≡ NoMemory))
-  pub has_read : Reads words → HasRead passage.left passage.left_after status
+  -- the bytes are more than the limit: likewise, whatever the source would have done afterwards
+  pub too_long : status ≡ TooLong → input_limit < length input
+  pub too_long_first : input_limit < length input → (status ≡ TooLong) ⊎ ((status ≡ WriteFault) ⊎ (status ≡ NoMemory))
   -- a fault of the source or the sink, after which the sink took nothing, or the first bytes of what was to be written
-  pub read_fault : status ≡ ReadFault → Rose passage.read_faults passage.read_faults_after × Keeps passage.taken passage.taken_after
-  pub write_fault : status ≡ WriteFault → Rose passage.write_faults passage.write_faults_after × IfSome passage.left (TookPart words passage)
+  pub read_fault : status ≡ ReadFault → Rose passage.read_faults passage.read_faults_after × (passage.taken_after ≡ passage.taken)
+  pub write_fault : status ≡ WriteFault → Rose passage.write_faults passage.write_faults_after × TookPart words passage input
   -- want of memory, likewise
-  pub no_memory : status ≡ NoMemory → IfSome passage.left (λ input. Keeps passage.taken passage.taken_after ⊎ TookPart words passage input)
+  pub no_memory : status ≡ NoMemory → (passage.taken_after ≡ passage.taken) ⊎ TookPart words passage input
   -- each cause brings its status, unless a device fails or memory runs out
-  pub exact : IfSome passage.left (λ input. (due : Status) → IsDue words input due → IsQuiet passage → (status ≡ due) ⊎ (status ≡ NoMemory))
+  pub exact : (due : Status) → IsDue words input due → IsQuiet passage → (status ≡ due) ⊎ (status ≡ NoMemory)
   -- in particular, a command that refuses nothing is answered
-  pub complete : IfSome passage.left (λ input. NothingRefused words input → IsQuiet passage → (status ≡ Done) ⊎ (status ≡ NoMemory))
+  pub complete : NothingRefused words input → IsQuiet passage → (status ≡ Done) ⊎ (status ≡ NoMemory)

@@ -1,6 +1,6 @@
 -- Which of the texts that mean the same is written, where the stated rules determine it.
-use Rattle.std.specs.Prelude.{◌≡◌, ℕ, List, Option}
-use Rattle.std.specs.Io.KnownBytes.{Appends, Consumes}
+use Rattle.std.specs.Prelude.{◌≡◌, ℕ, List, ◌++◌}
+use Rattle.mpc_port.specs.Passing.{Passed}
 use Rattle.mpc_plant.specs.declared.plants.Plant.{Plant}
 use Rattle.mpc_safety.specs.declared.answers.Safety.TheVariants.{Safe as SafeAnswer}
 use Rattle.mpc_safety.specs.SafetyAnswers.{IsAnswerToFile}
@@ -19,6 +19,7 @@ use Rattle.mpc_cli.specs.declared.commands.FileCommand.TheVariants.{Safe}
 use Rattle.mpc_cli.specs.Commands.{Names, Reads}
 use Rattle.mpc_cli.specs.ControllerFiles.{IsFileOf}
 use Rattle.mpc_cli.specs.Outputs.{IsPlantOutput, IsOutput}
+use Rattle.mpc_cli.specs.Answers.{IsWhole}
 
 -- the input is the file of a plant, and the text is the one file of its controller
 pub record IsTheFile (input output : List ℕ) : Type 0 where
@@ -66,13 +67,14 @@ pub record IsStatedOf (words : List (List ℕ)) (input output : List ℕ) : Type
   pub named : Names command words
   pub stated : IsStated command input output
 
--- the sink took just such a text for the bytes that came
-pub record TookStated (words : List (List ℕ)) (left left_after taken taken_after : Option (List ℕ)) : Type 0 where
+-- the sink took just such a text for the bytes that passed
+pub record TookStated (words : List (List ℕ)) (given given_after : List (List ℕ)) (taken taken_after : List ℕ) : Type 0 where
   pub input : List ℕ
-  pub came : Reads words → Consumes left left_after input
+  pub passed : Passed given given_after input
+  pub whole : IsWhole words given given_after input
   pub text : List ℕ
   pub stated : IsStatedOf words input text
-  pub wrote : Appends taken taken_after text
+  pub wrote : taken_after ≡ taken ++ text
 
-abbrev pub StatesOutput : List (List ℕ) → Option (List ℕ) → Option (List ℕ) → Option (List ℕ) → Option (List ℕ) → Status → Type 0
-StatesOutput words left left_after taken taken_after status = status ≡ Done → TookStated words left left_after taken taken_after
+abbrev pub StatesOutput : List (List ℕ) → List (List ℕ) → List (List ℕ) → List ℕ → List ℕ → Status → Type 0
+StatesOutput words given given_after taken taken_after status = status ≡ Done → TookStated words given given_after taken taken_after

@@ -1,9 +1,10 @@
 //! The top call: from the words and the bytes of the source to the bytes of the sink and a status.
 
-ghost use Rattle.std.specs.Prelude.{◌≡◌, ◌≢◌, map, string_bytes, IfOk, IfErr, IfSome, MatchOption, Err};
-ghost use Rattle.mpc_cli.specs.Commands.{Names, Reads, Waits};
-ghost use Rattle.mpc_cli.specs.Answers.{IsAnswer, RunAnswers};
+ghost use Rattle.std.specs.Prelude.{◌≡◌, map, string_bytes, IfOk, IfErr, MatchOption, Err, ◌↔◌, IsTrue};
+ghost use Rattle.mpc_cli.specs.Commands.{Names, Reads, Waits, CommandWaits};
+ghost use Rattle.mpc_cli.specs.Answers.{RunAnswers};
 ghost use Rattle.mpc_cli.specs.StatedOutputs.{StatesOutput};
+ghost use Rattle.mpc_port.specs.Passing.{IsDrawn};
 ghost use Rattle.mpc_cli.specs.Outcomes.{Closes, ExplainsRunHalt, Finishes, IsSomeAnswer};
 
 use crate::answer::Answer;
@@ -11,8 +12,9 @@ use crate::commands::{Command, named_command};
 use crate::inputs::Halt;
 use crate::laws::one_status;
 use crate::respond::{answer_alone, answer_in_threads, refused};
-use mpc_port::{Gate, Sink, Source, WriteError, write_all};
+use mpc_port::{Sink, SinkError, Source, write_all};
 use mpc_status::Status;
+use mpc_workers::Gate;
 use std::alloc::Global;
 use std::sync::Wait;
 use std::thread::Threads;
@@ -64,8 +66,8 @@ pub fn run<T: Threads + Wait + Sync, S: Source, K: Sink, G: Gate + Sync>(
 ) -> Status
     ensures answers { RunAnswers (map string_bytes words.now)
         (record {
-          left = S.left source.old;
-          left_after = S.left source.new;
+          given = S.given source.old;
+          given_after = S.given source.new;
           read_faults = S.faults source.old;
           read_faults_after = S.faults source.new;
           taken = K.taken sink.old;
@@ -74,7 +76,8 @@ pub fn run<T: Threads + Wait + Sync, S: Source, K: Sink, G: Gate + Sync>(
           write_faults_after = K.faults sink.new;
         }) result }
     ensures stated { StatesOutput (map string_bytes words.now)
-        (S.left source.old) (S.left source.new) (K.taken sink.old) (K.taken sink.new) result }
+        (S.given source.old) (S.given source.new) (K.taken sink.old) (K.taken sink.new) result }
+    ensures drawn { IsDrawn (S.left source.old) (S.left source.new) (S.given source.old) (S.given source.new) }
     ensures unread { (¬ Reads (map string_bytes words.now)) → source.new ≡ source.old }
 {
     match waiting_command(words) {
@@ -99,8 +102,8 @@ pub fn run_alone<T: Threads + Sync, S: Source, K: Sink, G: Gate>(
     requires { ¬ Waits (map string_bytes words.now) }
     ensures answers { RunAnswers (map string_bytes words.now)
         (record {
-          left = S.left source.old;
-          left_after = S.left source.new;
+          given = S.given source.old;
+          given_after = S.given source.new;
           read_faults = S.faults source.old;
           read_faults_after = S.faults source.new;
           taken = K.taken sink.old;
@@ -109,7 +112,8 @@ pub fn run_alone<T: Threads + Sync, S: Source, K: Sink, G: Gate>(
           write_faults_after = K.faults sink.new;
         }) result }
     ensures stated { StatesOutput (map string_bytes words.now)
-        (S.left source.old) (S.left source.new) (K.taken sink.old) (K.taken sink.new) result }
+        (S.given source.old) (S.given source.new) (K.taken sink.old) (K.taken sink.new) result }
+    ensures drawn { IsDrawn (S.left source.old) (S.left source.new) (S.given source.old) (S.given source.new) }
     ensures unread { (¬ Reads (map string_bytes words.now)) → source.new ≡ source.old }
 {
     one_status();
@@ -117,10 +121,17 @@ pub fn run_alone<T: Threads + Sync, S: Source, K: Sink, G: Gate>(
     close(sink, outcome)
 }
 
+/// Whether the words name a command that waits.
+pub fn waits(words: &[String]) -> bool
+    ensures { IsTrue result ↔ Waits (map string_bytes words.now) }
+{
+    waiting_command(words).is_some()
+}
+
 /// The command that the words name, where it waits.
 fn waiting_command(words: &[String]) -> Option<Command>
     ensures { MatchOption result (¬ Waits (map string_bytes words.now))
-        (λ c. Names c (map string_bytes words.now)) }
+        (λ c. Names c (map string_bytes words.now) × CommandWaits c) }
 {
     let command = named_command(words)?;
     if command.waits() {
@@ -139,11 +150,10 @@ fn words_answer<T: Threads + Sync, S: Source, G: Gate>(
 ) -> Result<Answer, Halt>
     requires { ¬ Waits (map string_bytes words.now) }
     ensures some { IfOk result (λ answer. IsSomeAnswer (map string_bytes words.now)
-        (S.left source.old) (S.left source.new) answer.status answer.text.items) }
-    ensures told { IfOk result (λ answer. IfSome (S.left source.old) (λ input.
-        IsAnswer (map string_bytes words.now) input answer.status answer.text.items)) }
+        (S.given source.old) (S.given source.new) answer.status answer.text.items) }
     ensures halt { IfErr result (ExplainsRunHalt (map string_bytes words.now)
-        (S.left source.old) (S.left source.new) (S.faults source.old) (S.faults source.new)) }
+        (S.given source.old) (S.given source.new) (S.faults source.old) (S.faults source.new)) }
+    ensures drawn { IsDrawn (S.left source.old) (S.left source.new) (S.given source.old) (S.given source.new) }
     ensures unread { (¬ Reads (map string_bytes words.now)) → source.new ≡ source.old }
 {
     match named_command(words) {
@@ -180,7 +190,7 @@ fn finish<K: Sink>(sink: &mut K, answer: Answer) -> Status
 {
     match write_all(sink, &answer.text) {
         Ok(()) => answer.status,
-        Err(WriteError::WriteFault(_)) => Status::WriteFault,
-        Err(WriteError::NoMemory(_)) => Status::NoMemory,
+        Err(SinkError::Failed) => Status::WriteFault,
+        Err(SinkError::NoMemory) => Status::NoMemory,
     }
 }

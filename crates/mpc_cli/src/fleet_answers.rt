@@ -7,10 +7,10 @@ ghost use Rattle.mpc_cli.specs.Outcomes.{IsAnswerTo};
 
 use crate::answer::{Answer, output, refusal};
 use mpc_frac::NoMemory;
-use mpc_port::Gate;
 use mpc_sections::{SectionsError, fleet};
 use mpc_status::Status;
 use mpc_theorem::{file_output_laws, plant_texts};
+use mpc_workers::Gate;
 use std::alloc::Global;
 use std::sync::Wait;
 use std::thread::Threads;

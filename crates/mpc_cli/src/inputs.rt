@@ -1,8 +1,9 @@
 //! The input of a command.
 
-ghost use Rattle.std.specs.Prelude.{◌≡◌, IfOk, IfErr, IfSome};
+ghost use Rattle.std.specs.Prelude.{◌≡◌, IfOk, IfErr};
+ghost use Rattle.mpc_port.specs.Passing.{IsDrawn};
 ghost use Rattle.mpc_cli.specs.Commands.{CommandReads};
-ghost use Rattle.mpc_cli.specs.Outcomes.{ExplainsHalt, IsInput, IsInputOf};
+ghost use Rattle.mpc_cli.specs.Outcomes.{ExplainsHalt, IsInput};
 
 use crate::commands::Command;
 use mpc_port::{ReadError, Source, read_all};
@@ -29,10 +30,10 @@ pub enum Halt {
 
 /// The input of a command. A command without one leaves the source as it is.
 pub fn read_input<S: Source>(alloc: Global, command: Command, source: &mut S) -> Result<Input, Halt>
-    ensures some { IfOk result (IsInput command (S.left source.old) (S.left source.new)) }
-    ensures told { IfOk result (λ read. IfSome (S.left source.old) (λ input. IsInputOf command input read)) }
+    ensures came { IfOk result (IsInput command (S.given source.old) (S.given source.new)) }
     ensures halt { IfErr result (ExplainsHalt command
-        (S.left source.old) (S.left source.new) (S.faults source.old) (S.faults source.new)) }
+        (S.given source.old) (S.given source.new) (S.faults source.old) (S.faults source.new)) }
+    ensures drawn { IsDrawn (S.left source.old) (S.left source.new) (S.given source.old) (S.given source.new) }
     ensures unread { (¬ CommandReads command) → source.new ≡ source.old }
 {
     if !command.reads() {

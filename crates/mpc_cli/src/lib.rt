@@ -15,3 +15,5 @@ mod state_answers;
 
 pub use calls::{run, run_alone};
 pub use laws::{due_statuses, one_status};
+pub use calls::{run, run_alone, waits};
+pub use laws::one_status;

@@ -19,7 +19,6 @@ use mpc_claim::Registry;
 use mpc_file::{one_text, write_file};
 use mpc_frac::NoMemory;
 use mpc_plant::{Plant, PlantError, read_plant};
-use mpc_port::Gate;
 use mpc_replies::{cut, replies, right_replies};
 use mpc_status::Status;
 use mpc_synthesis::{
@@ -28,6 +27,7 @@ use mpc_synthesis::{
 };
 use mpc_theorem::{file_output_laws, output_lines, plant_texts, trace_laws};
 use mpc_trace::trace;
+use mpc_workers::Gate;
 use std::alloc::Global;
 use std::sync::Wait;
 use std::thread::Threads;

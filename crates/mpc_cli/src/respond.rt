@@ -1,9 +1,10 @@
 //! From a command and its input to the answer.
 
-ghost use Rattle.std.specs.Prelude.{◌≡◌, ◌≢◌, IfOk, IfErr, IfSome, Ok, Err};
+ghost use Rattle.std.specs.Prelude.{◌≡◌, ◌≢◌, IfOk, IfErr, Ok, Err};
+ghost use Rattle.mpc_port.specs.Passing.{IsDrawn};
 ghost use Rattle.mpc_status.specs.StatusText.{line_of};
 ghost use Rattle.mpc_cli.specs.Commands.{CommandReads, CommandWaits, HasCount};
-ghost use Rattle.mpc_cli.specs.Outcomes.{ExplainsHalt, IsAnswerFor, IsAnswerTo, IsSomeAnswerFor};
+ghost use Rattle.mpc_cli.specs.Outcomes.{ExplainsHalt, IsAnswerTo, IsSomeAnswerFor};
 
 use crate::answer::{Answer, refusal};
 use crate::commands::Command;
@@ -15,8 +16,9 @@ use crate::laws::due_statuses;
 use crate::plant_answers::{plant_answer_alone, plant_answer_in_threads};
 use crate::state_answers::state_answer;
 use mpc_frac::NoMemory;
-use mpc_port::{Gate, Source};
+use mpc_port::Source;
 use mpc_status::Status;
+use mpc_workers::Gate;
 use std::alloc::Global;
 use std::sync::Wait;
 use std::thread::Threads;
@@ -95,11 +97,10 @@ pub fn answer_alone<T: Threads + Sync, S: Source, G: Gate>(
     requires count { HasCount command }
     requires alone { ¬ CommandWaits command }
     ensures some { IfOk result (λ answer. IsSomeAnswerFor command
-        (S.left source.old) (S.left source.new) answer.status answer.text.items) }
-    ensures told { IfOk result (λ answer. IfSome (S.left source.old) (λ input.
-        IsAnswerFor command input answer.status answer.text.items)) }
+        (S.given source.old) (S.given source.new) answer.status answer.text.items) }
     ensures halt { IfErr result (ExplainsHalt command
-        (S.left source.old) (S.left source.new) (S.faults source.old) (S.faults source.new)) }
+        (S.given source.old) (S.given source.new) (S.faults source.old) (S.faults source.new)) }
+    ensures drawn { IsDrawn (S.left source.old) (S.left source.new) (S.given source.old) (S.given source.new) }
     ensures unread { (¬ CommandReads command) → source.new ≡ source.old }
 {
     due_statuses();
@@ -120,11 +121,10 @@ pub fn answer_in_threads<T: Threads + Wait + Sync, S: Source, G: Gate + Sync>(
 ) -> Result<Answer, Halt>
     requires { HasCount command }
     ensures some { IfOk result (λ answer. IsSomeAnswerFor command
-        (S.left source.old) (S.left source.new) answer.status answer.text.items) }
-    ensures told { IfOk result (λ answer. IfSome (S.left source.old) (λ input.
-        IsAnswerFor command input answer.status answer.text.items)) }
+        (S.given source.old) (S.given source.new) answer.status answer.text.items) }
     ensures halt { IfErr result (ExplainsHalt command
-        (S.left source.old) (S.left source.new) (S.faults source.old) (S.faults source.new)) }
+        (S.given source.old) (S.given source.new) (S.faults source.old) (S.faults source.new)) }
+    ensures drawn { IsDrawn (S.left source.old) (S.left source.new) (S.given source.old) (S.given source.new) }
     ensures unread { (¬ CommandReads command) → source.new ≡ source.old }
 {
     due_statuses();

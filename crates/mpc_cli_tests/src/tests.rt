@@ -1,7 +1,8 @@
 //! The command on devices that fail, and its workers at a gate.
 use mpc_cli::run;
-use mpc_port::{MemorySink, MemorySource, OpenGate, QuietSink, QuietSource, Sink, Source};
+use mpc_port::{MemorySink, MemorySource, QuietSink, QuietSource, Sink, Source};
 use mpc_status::Status;
+use mpc_workers::OpenGate;
 use std::alloc::Global;
 use std::sync::Wait;
 use std::test::Fail;

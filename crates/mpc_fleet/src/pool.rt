@@ -9,9 +9,8 @@ ghost use Rattle.mpc_fleet.specs.declared.errors.FleetError.TheVariants.{BadWork
 
 use crate::errors::FleetError;
 use mpc_claim::Registry;
-use mpc_port::Gate;
 use mpc_rows::Qp;
-use mpc_workers::{WorkError, enumerate_each};
+use mpc_workers::{Gate, WorkError, enumerate_each};
 use std::alloc::Global;
 use std::sync::Wait;
 use std::thread::Threads;

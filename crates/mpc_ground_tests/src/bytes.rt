@@ -3,7 +3,7 @@ ghost use Rattle.std.specs.Prelude.{◌≤◌, IfOk};
 
 use mpc_port::{
     Failed, HostSink, HostSource, MemorySink, MemorySource, QuietSink, QuietSource, ReadError,
-    Sink, SinkError, Source, WriteError, read_all, write_all,
+    Sink, SinkError, Source, read_all, write_all,
 };
 use std::alloc::Global;
 use std::io;
@@ -93,7 +93,7 @@ fn write_with_a_fault(
         return Ok(());
     }
     let sent = (failing as usize - 1).min(TEXT.len()) * piece;
-    assert_eq!(rt; answer, Err(WriteError::WriteFault(sent as u64)));
+    assert_eq!(rt; answer, Err(SinkError::Failed));
     assert_eq!(rt; sink.bytes().len(), sent);
     assert!(rt; TEXT.starts_with(sink.bytes()));
     Ok(())
@@ -190,10 +190,10 @@ fn writes_through_a_writer_of_std(rt: HostRuntime) -> Result<(), Fail> {
 
     for (most, failing, unflushed, answer) in [
         (5, 4, 4, Ok(())),
-        (5, 1, 0, Err(WriteError::WriteFault(0))),
-        (5, 3, 0, Err(WriteError::WriteFault(10))),
-        (5, 0, 2, Err(WriteError::WriteFault(5))),
-        (0, 0, 0, Err(WriteError::WriteFault(0))),
+        (5, 1, 0, Err(SinkError::Failed)),
+        (5, 3, 0, Err(SinkError::Failed)),
+        (5, 0, 2, Err(SinkError::Failed)),
+        (0, 0, 0, Err(SinkError::Failed)),
     ] {
         let mut sink = HostSink::new(Wire::new(most, failing, unflushed));
         assert_eq!(rt; write_all(&mut sink, TEXT), answer);
@@ -215,7 +215,7 @@ fn errors_say_what_happened(rt: HostRuntime) -> Result<(), Fail> {
     assert!(rt; says(long, "the input is too long"));
     let memory = format!(in alloc; "{}", SinkError::NoMemory)?;
     assert!(rt; says(memory, "memory ran out"));
-    let fault = format!(in alloc; "{}", WriteError::WriteFault(7))?;
-    assert!(rt; says(fault, "the sink failed after 7 bytes"));
+    let fault = format!(in alloc; "{}", SinkError::Failed)?;
+    assert!(rt; says(fault, "the sink failed"));
     Ok(())
 }

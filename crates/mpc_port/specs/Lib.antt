@@ -1,5 +1,5 @@
 pub mod Device
 pub mod Faults
+pub mod Passing
 pub mod ReadError
 pub mod SinkError
-pub mod WriteError

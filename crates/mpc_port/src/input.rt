@@ -1,7 +1,7 @@
 //! Bytes that come in.
-ghost use Rattle.std.specs.Prelude.{◌≡◌, ◌≢◌, ◌↔◌, ℕ, List, Option, ◌+◌, ◌<◌, ◌≤◌, [], length, take, drop, vec_len, IfOk, IfErr, OnOk, OnErr, IfSome, OnSome, Some, IsErrOf};
-ghost use Rattle.std.specs.Io.KnownBytes.{Consumes, Keeps};
+ghost use Rattle.std.specs.Prelude.{◌≡◌, ◌≢◌, ◌↔◌, ℕ, List, Option, ◌+◌, ◌<◌, ◌≤◌, [], ◌∷◌, ◌++◌, length, take, drop, vec_len, IfOk, IfErr, OnOk, OnErr, IsErrOf};
 ghost use Rattle.mpc_port.specs.Faults.{Rose};
+ghost use Rattle.mpc_port.specs.Passing.{IsDrawn, Passed, PassedToEnd};
 ghost use Rattle.mpc_port.specs.ReadError.{ExplainsReadError};
 
 use std::alloc::Global;
@@ -22,6 +22,10 @@ impl Error for Failed {}
 
 /// Where bytes come from.
 pub trait Source {
+    // The history of what was given: for each read into a buffer with room its bytes, in order. An
+    // empty piece says that nothing is left.
+    ghost given: { Self → List (List ℕ) };
+
     // The bytes that are left, where the source tells them.
     ghost left: { Self → Option (List ℕ) };
 
@@ -37,15 +41,17 @@ pub trait Source {
     fn read(&mut self, buf: &mut [u8]) -> Result<usize, Failed>
         ensures count { IfOk result (λ k. k ≤ length buf.new) }
 
-        // The bytes read are those at the front of what was left, and are gone from there.
-        ensures given { IfOk result (λ k. Consumes (left self.old) (left self.new) (take k buf.new)) }
+        // Just the bytes read are added to the history, and nothing at an error or without room.
+        ensures piece { IfOk result (λ k. 0 < length buf.old
+            → given self.new ≡ given self.old ++ take k buf.new ∷ []) }
+        ensures no_room { length buf.old ≡ 0 → given self.new ≡ given self.old }
+        ensures refused { OnErr result (given self.new ≡ given self.old) }
 
-        ensures ended { IfOk result (λ k. 0 < length buf.old
-            → IfSome (left self.old) (λ bytes. (k ≡ 0) ↔ (bytes ≡ []))) }
+        // They were the first of those that were left.
+        ensures drawn { IsDrawn (left self.old) (left self.new) (given self.old) (given self.new) }
+
         ensures quiet { OnOk result (faults self.new ≡ faults self.old) }
-
         ensures failed { OnErr result (Rose (faults self.old) (faults self.new)) }
-        ensures refused { OnErr result (Keeps (left self.old) (left self.new)) }
         ensures lasting { faults self.old ≤ faults self.new };
 }
 
@@ -87,16 +93,14 @@ pub fn read_all<S: Source>(
     source: &mut S,
     limit: usize,
 ) -> Result<Vec<u8>, ReadError>
-    // The answer is all that was left, and the source is read to its end.
-    ensures whole { IfOk result (λ bytes. IfSome (S.left source.old) (λ input. bytes.items ≡ input)) }
-    ensures ended { OnOk result (OnSome (S.left source.old) (S.left source.new ≡ Some [])) }
+    // The answer is all that the source gave before it said that nothing is left.
+    ensures to_end { IfOk result (λ bytes. PassedToEnd (S.given source.old) (S.given source.new) bytes.items) }
     ensures within { IfOk result (λ bytes. vec_len bytes ≤ limit) }
 
-    // At each answer some bytes came from the front of what was left, and no others are gone.
-    ensures came { (bytes : List ℕ) × Consumes (S.left source.old) (S.left source.new) bytes
+    // At each answer some bytes passed.
+    ensures passed { (bytes : List ℕ) × Passed (S.given source.old) (S.given source.new) bytes
         × (length bytes ≤ limit + 1) × (IsErrOf result ReadError.TooLong ↔ (limit < length bytes)) }
-    ensures too_long { IsErrOf result ReadError.TooLong
-        → IfSome (S.left source.old) (λ input. limit < length input) }
+    ensures drawn { IsDrawn (S.left source.old) (S.left source.new) (S.given source.old) (S.given source.new) }
 
     ensures quiet { OnOk result (S.faults source.new ≡ S.faults source.old) }
     ensures cause { IfErr result (ExplainsReadError (S.faults source.old) (S.faults source.new)) }
@@ -127,12 +131,11 @@ fn read_more<S: Source>(
     ensures front { take filled bytes.new.items ≡ take filled bytes.old.items }
     ensures held { IfOk result (λ k. filled + k ≤ vec_len bytes.new) }
     ensures within { IfOk result (λ k. filled + k ≤ limit + 1) }
-    ensures came { IfOk result (λ k. Consumes (S.left source.old) (S.left source.new)
-        (take k (drop filled bytes.new.items))) }
-    ensures ended { IfOk result (λ k. k ≡ 0
-        → OnSome (S.left source.old) (S.left source.new ≡ Some [])) }
+    ensures piece { IfOk result (λ k. S.given source.new
+        ≡ S.given source.old ++ take k (drop filled bytes.new.items) ∷ []) }
+    ensures refused { OnErr result (S.given source.new ≡ S.given source.old) }
+    ensures drawn { IsDrawn (S.left source.old) (S.left source.new) (S.given source.old) (S.given source.new) }
     ensures quiet { OnOk result (S.faults source.new ≡ S.faults source.old) }
-    ensures refused { OnErr result (Keeps (S.left source.old) (S.left source.new)) }
     ensures cause { IfErr result (ExplainsReadError (S.faults source.old) (S.faults source.new)) }
     ensures no_long { result ≢ Err ReadError.TooLong }
     ensures lasting { S.faults source.old ≤ S.faults source.new }
@@ -147,11 +150,10 @@ fn read_more<S: Source>(
 fn read_into<S: Source>(source: &mut S, part: &mut [u8]) -> Result<usize, ReadError>
     requires { 0 < length part.old }
     ensures held { IfOk result (λ k. k ≤ length part.new) }
-    ensures came { IfOk result (λ k. Consumes (S.left source.old) (S.left source.new) (take k part.new)) }
-    ensures ended { IfOk result (λ k. k ≡ 0
-        → OnSome (S.left source.old) (S.left source.new ≡ Some [])) }
+    ensures piece { IfOk result (λ k. S.given source.new ≡ S.given source.old ++ take k part.new ∷ []) }
+    ensures refused { OnErr result (S.given source.new ≡ S.given source.old) }
+    ensures drawn { IsDrawn (S.left source.old) (S.left source.new) (S.given source.old) (S.given source.new) }
     ensures quiet { OnOk result (S.faults source.new ≡ S.faults source.old) }
-    ensures refused { OnErr result (Keeps (S.left source.old) (S.left source.new)) }
     ensures cause { IfErr result (ExplainsReadError (S.faults source.old) (S.faults source.new)) }
     ensures no_long { result ≢ Err ReadError.TooLong }
     ensures lasting { S.faults source.old ≤ S.faults source.new }

@@ -1,7 +1,8 @@
 //! A source and a sink in memory that fail by plan.
-ghost use Rattle.std.specs.Prelude.{◌≡◌, ◌↔◌, ◌<◌, ◌≤◌, ◌++◌, [], min, length, take, drop, Contains, IsTrue, IsErr, IfOk, OnErr, IsErrOf, if◌then◌else◌};
+ghost use Rattle.std.specs.Prelude.{◌≡◌, ◌↔◌, ◌<◌, ◌≤◌, ◌∷◌, ◌++◌, [], Some, min, length, take, drop, Contains, IsTrue, IsErr, IfOk, OnErr, IsErrOf, if◌then◌else◌};
 ghost use Rattle.mpc_port.specs.Faults.{next_count};
 ghost use Rattle.mpc_port.specs.Device.{new_device, NextFails, after_failure, after_call};
+ghost use Rattle.mpc_port.specs.Passing.{IsDrawn};
 
 use crate::input::{Failed, Source};
 use crate::output::{Sink, SinkError};
@@ -56,15 +57,19 @@ pub struct MemorySource {
 impl Model for MemorySource {
     ghost use Rattle.std.specs.Prelude.{◌<◌};
     ghost use Rattle.mpc_port.specs.Device.{Device};
+    ghost use Rattle.mpc_port.specs.Passing.{Giving};
 
-    ghost Value = { Device };
+    ghost Value = { Giving Device };
 
     ghost view = { λ s. record {
-      bytes = s.source;
-      piece = s.piece;
-      fails = s.plan.fails.items;
-      calls = s.plan.calls;
-      faults = s.plan.faults;
+      device = record {
+        bytes = s.source.device;
+        piece = s.piece;
+        fails = s.plan.fails.items;
+        calls = s.plan.calls;
+        faults = s.plan.faults;
+      };
+      given = s.source.given;
     } };
 
     ghost invariant = { λ s. 0 < s.piece };
@@ -76,7 +81,7 @@ impl MemorySource {
     /// fails exactly where its number is in `fails`.
     pub fn new(bytes: Vec<u8>, piece: usize, fails: Vec<u64>) -> MemorySource
         requires { 0 < piece }
-        ensures { result ≡ new_device bytes.items piece fails.items }
+        ensures { result ≡ record { device = new_device bytes.items piece fails.items; given = [] } }
     {
         MemorySource {
             source: QuietSource::new(bytes),
@@ -89,18 +94,23 @@ impl MemorySource {
 impl Source for MemorySource {
     ghost use Rattle.std.specs.Prelude.{Some};
 
-    ghost left = { λ device. Some device.bytes };
+    ghost given = { λ source. source.given };
 
-    ghost faults = { λ device. device.faults };
+    ghost left = { λ source. Some source.device.bytes };
+
+    ghost faults = { λ source. source.device.faults };
 
     fn read(&mut self, buf: &mut [u8]) -> Result<usize, Failed>
-        ensures fails { IsErr result ↔ NextFails self.old }
-        ensures value { IfOk result (λ k. k ≡ min (min (length buf.old) self.old.piece) (length self.old.bytes)) }
-        ensures bytes { IfOk result (λ k. take k buf.new ≡ take k self.old.bytes) }
-        ensures rest { IfOk result (λ k. self.new ≡ after_call self.old (drop k self.old.bytes)) }
-        ensures ended { IfOk result (λ k. 0 < length buf.old → (k ≡ 0) ↔ (self.old.bytes ≡ [])) }
-        ensures err { OnErr result (self.new ≡ after_failure self.old) }
-        ensures lasting { self.old.faults ≤ self.new.faults }
+        ensures fails { IsErr result ↔ NextFails self.old.device }
+        ensures value { IfOk result (λ k. k ≡ min (min (length buf.old) self.old.device.piece) (length self.old.device.bytes)) }
+        ensures bytes { IfOk result (λ k. take k buf.new ≡ take k self.old.device.bytes) }
+        ensures rest { IfOk result (λ k. self.new.device ≡ after_call self.old.device (drop k self.old.device.bytes)) }
+        ensures piece { IfOk result (λ k. 0 < length buf.old
+            → self.new.given ≡ self.old.given ++ take k buf.new ∷ []) }
+        ensures no_room { length buf.old ≡ 0 → self.new.given ≡ self.old.given }
+        ensures drawn { IsDrawn (Some self.old.device.bytes) (Some self.new.device.bytes) self.old.given self.new.given }
+        ensures err { OnErr result (self.new ≡ record self.old { device = after_failure self.old.device }) }
+        ensures lasting { self.old.device.faults ≤ self.new.device.faults }
     {
         if self.plan.next_fails() {
             return Err(Failed);
@@ -159,9 +169,7 @@ impl MemorySink {
 }
 
 impl Sink for MemorySink {
-    ghost use Rattle.std.specs.Prelude.{Some};
-
-    ghost taken = { λ device. Some device.bytes };
+    ghost taken = { λ device. device.bytes };
 
     ghost faults = { λ device. device.faults };
 

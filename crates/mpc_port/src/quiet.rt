@@ -1,6 +1,8 @@
 //! A source and a sink in memory that never fail.
-ghost use Rattle.std.specs.Prelude.{◌≡◌, ◌++◌, [], Ok, min, length, take, drop, IfOk, IfErr, OnErr};
+ghost use Rattle.std.specs.Prelude.{◌≡◌, ◌<◌, ◌∷◌, ◌++◌, [], Ok, Some, min, length, take, drop, IfOk, IfErr, OnErr};
+ghost use Rattle.mpc_port.specs.Passing.{IsDrawn};
 
+use crate::history::History;
 use crate::input::{Failed, Source};
 use crate::output::{Sink, SinkError};
 use std::alloc::Global;
@@ -11,14 +13,19 @@ use std::marker::Model;
 pub struct QuietSource {
     bytes: Vec<u8>,
     next: usize,
+    history: History,
 }
 
 impl Model for QuietSource {
     ghost use Rattle.std.specs.Prelude.{List, ℕ, ◌≤◌, drop, length};
+    ghost use Rattle.mpc_port.specs.Passing.{Giving};
 
-    ghost Value = { List ℕ };
+    ghost Value = { Giving (List ℕ) };
 
-    ghost view = { λ source. drop source.next source.bytes.items };
+    ghost view = { λ source. record {
+      device = drop source.next source.bytes.items;
+      given = source.history.pieces;
+    } };
 
     ghost invariant = { λ source. source.next ≤ length source.bytes.items };
 }
@@ -26,28 +33,41 @@ impl Model for QuietSource {
 impl QuietSource {
     /// A source with all of `bytes` left.
     pub fn new(bytes: Vec<u8>) -> QuietSource
-        ensures { result ≡ bytes.items }
+        ensures { result ≡ record { device = bytes.items; given = [] } }
     {
-        QuietSource { bytes, next: 0 }
+        QuietSource {
+            bytes,
+            next: 0,
+            history: History::new(),
+        }
     }
 }
 
 impl Source for QuietSource {
     ghost use Rattle.std.specs.Prelude.{Some};
 
-    ghost left = { λ bytes. Some bytes };
+    ghost given = { λ source. source.given };
+
+    ghost left = { λ source. Some source.device };
 
     ghost faults = { λ _. 0 };
 
     fn read(&mut self, buf: &mut [u8]) -> Result<usize, Failed>
-        ensures value { result ≡ Ok (min (length buf.old) (length self.old)) }
-        ensures bytes { IfOk result (λ k. take k buf.new ≡ take k self.old) }
-        ensures rest { IfOk result (λ k. self.new ≡ drop k self.old) }
+        ensures value { result ≡ Ok (min (length buf.old) (length self.old.device)) }
+        ensures bytes { IfOk result (λ k. take k buf.new ≡ take k self.old.device) }
+        ensures rest { IfOk result (λ k. self.new.device ≡ drop k self.old.device) }
+        ensures piece { IfOk result (λ k. 0 < length buf.old
+            → self.new.given ≡ self.old.given ++ take k buf.new ∷ []) }
+        ensures no_room { length buf.old ≡ 0 → self.new.given ≡ self.old.given }
+        ensures drawn { IsDrawn (Some self.old.device) (Some self.new.device) self.old.given self.new.given }
     {
         let count = buf.len().min(self.bytes.len() - self.next);
         let end = self.next + count;
         buf[..count].copy_from_slice(&self.bytes[self.next..end]);
         self.next = end;
+        if !buf.is_empty() {
+            self.history.note(&buf[..count]);
+        }
         Ok(count)
     }
 }
@@ -85,9 +105,7 @@ impl QuietSink {
 }
 
 impl Sink for QuietSink {
-    ghost use Rattle.std.specs.Prelude.{Some};
-
-    ghost taken = { λ bytes. Some bytes };
+    ghost taken = { λ bytes. bytes };
 
     ghost faults = { λ _. 0 };
 

@@ -14,7 +14,7 @@ use crate::sections::are_few;
 use mpc_claim::Registry;
 use mpc_fleet::{FleetError, enumerate_fleet};
 use mpc_frac::NoMemory;
-use mpc_port::Gate;
+use mpc_workers::Gate;
 use std::alloc::Global;
 use std::sync::Wait;
 use std::thread::Threads;

@@ -9,8 +9,8 @@ use crate::programs::{is_positive_number, limited, program};
 use mpc_claim::Phase;
 use mpc_fleet::{FleetError, enumerate_fleet};
 use mpc_frac::NoMemory;
-use mpc_port::OpenGate;
 use mpc_rows::Qp;
+use mpc_workers::OpenGate;
 use std::alloc::Global;
 use std::test::Fail;
 

@@ -1,6 +1,6 @@
 //! Gates that hold workers.
 
-use mpc_port::Gate;
+use mpc_workers::Gate;
 use std::sync::atomic::{AtomicBool, AtomicU64, Ordering};
 use std::thread;
 use std::time::{Clock, Duration};

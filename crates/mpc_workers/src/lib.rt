@@ -1,4 +1,5 @@
-//! Workers that claim the candidates of a program, examine them and deliver their verdicts.
+//! Workers that claim the candidates of a program, examine them and deliver their verdicts, with the
+//! gate before a delivery.
 #![tactic(auto)]
 
 ghost use Rattle.std.specs.Prelude.{◌≡◌, ◌≤◌, IfOk, OnOk, OnErr, length};
@@ -11,15 +12,16 @@ ghost use Rattle.mpc_claim.specs.History.{IsOpen};
 ghost use Rattle.mpc_workers.specs.Alone.{Delivers, IsDoneAlone};
 
 mod ahead;
+mod delivery;
 mod joining;
 mod pool;
 mod seats;
 mod waiting;
 mod working;
 
+pub use delivery::{Gate, OpenGate};
 use mpc_claim::{Claimed, Registry, Ticket, claim_laws, legal_laws};
 use mpc_frac::NoMemory;
-use mpc_port::Gate;
 use mpc_region::Examiner;
 use mpc_rows::Qp;
 pub use pool::{WorkError, enumerate, enumerate_each};

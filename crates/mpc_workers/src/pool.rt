@@ -9,13 +9,13 @@ ghost use Rattle.mpc_workers.specs.Joined.{IsJoining};
 ghost use Rattle.mpc_workers.specs.Posts.{AtEach, IsOpening};
 ghost use Rattle.mpc_workers.specs.Seats.{IsDone};
 
+use crate::delivery::Gate;
 use crate::joining::{close_all, join_all};
 use crate::seats::{Opened, Post, open_turns, seats_of};
 use crate::waiting::News;
 use crate::working::{Pool, work_all};
 use mpc_claim::Registry;
 use mpc_frac::NoMemory;
-use mpc_port::Gate;
 use mpc_rows::Qp;
 use mpc_turn::Turn;
 use std::alloc::Global;

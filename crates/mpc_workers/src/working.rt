@@ -11,11 +11,11 @@ ghost use Rattle.mpc_workers.specs.Posts.{after, AtEach, CallsOnlyAt, ComesFirst
 ghost use Rattle.mpc_workers.specs.Seats.{IsSeat, KeepWorkers};
 
 use crate::ahead::{NOWHERE, Outlook, discard};
+use crate::delivery::Gate;
 use crate::seats::{Post, Seat};
 use crate::waiting::{News, seats_at_once};
 use mpc_claim::{Ahead, Claimed, Ticket, claim_laws};
 use mpc_frac::NoMemory;
-use mpc_port::Gate;
 use mpc_rows::{Judged, Qp};
 use mpc_turn::{Turn, hand_laws};
 use std::alloc::Global;

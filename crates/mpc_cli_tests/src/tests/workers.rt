@@ -1,8 +1,9 @@
 //! Commands with a number of workers, who meet at a gate.
 use super::{LIMITED, split_words};
 use mpc_cli::run;
-use mpc_port::{Gate, QuietSink, QuietSource};
+use mpc_port::{QuietSink, QuietSource};
 use mpc_sets::ActiveSet;
+use mpc_workers::Gate;
 use std::alloc::Global;
 use std::process::Abort;
 use std::sync::atomic::{AtomicU64, Ordering};

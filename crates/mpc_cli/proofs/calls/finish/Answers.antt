@@ -1,18 +1,15 @@
-use Rattle.std.proofs.Common.{subst}
-use Rattle.std.specs.Io.KnownBytes.{Appends}
+use Rattle.std.proofs.Common.{◌++◌, ◌∙◌, ap}
 use Rattle.mpc_cli.specs.Outcomes.{wrote_all}
-use Rattle.mpc_cli.proofs.RunLemmas.{write_fault_ends, no_memory_ends}
+use Rattle.mpc_cli.proofs.RunLemmas.{failed_ends, full_ends}
 use Rattle.mpc_cli.proofs.calls.finish.Goals as goal
 
 pub returns-in-Ok : goal.returns-in-Ok
-returns-in-Ok g c = wrote_all (subst (Appends (g.K.Sink.taken c.args.sink.now) (g.K.Sink.taken c.write_all.new.sink)) c.deref.ensures.value c.in-Ok.ensures.whole)
+returns-in-Ok g c = wrote_all (c.in-Ok.ensures.whole ∙ ap (λ text. g.K.Sink.taken c.args.sink.now ++ text) c.deref.ensures.value)
 
-pub returns-in-Err-WriteFault : goal.returns-in-Err-WriteFault
-returns-in-Err-WriteFault g c =
-    write_fault_ends c.args.answer.status c.args.answer.text.items c.deref.result.now (g.K.Sink.taken c.args.sink.now) (g.K.Sink.taken c.write_all.new.sink) (g.K.Sink.faults c.args.sink.now) (g.K.Sink.faults c.write_all.new.sink)
-    c.in-Err-WriteFault.field-0 c.in-Err-WriteFault.field-0-0 c.in-Err-WriteFault.field-0-is c.deref.ensures.value c.in-Err-WriteFault.ensures.sent c.in-Err-WriteFault.ensures.cause
+pub returns-in-Err-Failed : goal.returns-in-Err-Failed
+returns-in-Err-Failed g c =
+    let failed = c.in-Err-Failed in
+    failed_ends c.args.answer.status c.args.answer.text.items c.deref.result.now _ _ _ _ failed.field-0 failed.field-0-is c.deref.ensures.value failed.ensures.part failed.ensures.cause
 
 pub returns : goal.returns
-returns g c =
-    no_memory_ends c.args.answer.status c.args.answer.text.items c.deref.result.now (g.K.Sink.taken c.args.sink.now) (g.K.Sink.taken c.write_all.new.sink) (g.K.Sink.faults c.args.sink.now) (g.K.Sink.faults c.write_all.new.sink)
-    c.in-Err-NoMemory.field-0 c.in-Err-NoMemory.field-0-0 c.in-Err-NoMemory.field-0-is c.deref.ensures.value c.in-Err-NoMemory.ensures.sent
+returns g c = full_ends c.args.answer.status c.args.answer.text.items c.deref.result.now _ _ _ _ c.deref.ensures.value c.in-Err-NoMemory.ensures.part
