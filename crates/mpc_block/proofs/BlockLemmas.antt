@@ -104,20 +104,6 @@ module _ (words counts : List ℕ) (parts : Parts) (s : Serves words counts part
         by (Law law certs) at = absurd (leads (s.block.tree place (Law law certs) at).zero_is)
         by (NoMove cert) at = absurd (leads (s.block.tree place (NoMove cert) at).zero_is)
 
-    pub leaf_there : slice_index s.block.heights place ≡ 0 → slice_index line 0 ≡ 0
-    leaf_there low = by found.0 found.1
-      where
-        found : (node : Node) × (slice_get parts.tree place ≡ Some node)
-        found = node_at parts.tree place inside
-
-        no_split : (height a b : ℕ) → height ≡ 0 → height ≡ 1 + max a b → ⊥
-        no_split height a b e h = omega arith
-
-        by : (node : Node) → slice_get parts.tree place ≡ Some node → slice_index line 0 ≡ 0
-        by (Split row) at = absurd (no_split _ _ _ low (s.block.are_heights.each place (omega arith) (Split row) at))
-        by (Law law certs) at = (s.block.tree place (Law law certs) at).zero_is
-        by (NoMove cert) at = (s.block.tree place (NoMove cert) at).zero_is
-
     module _ (leads : ¬ slice_index line 0 ≡ 0) where
       abbrev there : SplitThere words parts s.block.sides place
       there = split_there leads

@@ -27,15 +27,9 @@ module _ (words counts : List ℕ) (parts : Parts) (block : IsBlockOf words part
   pub ends_inside : start + size ≤ length words
   ends_inside = omega (arith, line_ends words parts block ends.place ends.stands.inside, ends.stands.start_is, size_here)
 
-  pub behind_head : 12 ≤ start
-  behind_head = omega (arith, ends.stands.start_is)
-
   module _ (node : List ℕ) (node_is : node ≡ words_from words start size) where
     line_is : node ≡ node_line words (width_of parts) ends.place
     line_is = node_is ∙ (λ i. words_from words (ends.stands.start_is i) (size_here i))
-
-    pub is_zero : slice_index node 0 ≡ 0
-    is_zero = ap (λ l. slice_index l 0) line_is ∙ ends.zero_is
 
     pub finds_leaf : FindsLeaf words counts parts ((start - 12) / size + 1) (slice_index node 1) (slice_index node 2)
     finds_leaf = record {

@@ -64,20 +64,18 @@ fn find_leaf(words: &[u64], counts: &[u64], width: Width) -> Option<Leaf>
     ensures { (parts : Parts) → Serves words.now counts.now parts → width ≡ width_of parts
         → IsSomeAnd result (λ found. FindsLeaf words.now counts.now parts found.node found.law found.start) }
 {
-    if words[10] > words.len() as u64 {
-        return None;
-    }
-    let Some(start) = leaf_start(words, counts, words[10], width) else {
+    let turns = words[10].min(words.len() as u64) + 1;
+    let Some(start) = leaf_start(words, counts, turns, width) else {
         return None;
     };
     let size = line_size(width);
     match part(words, start, size) {
-        Some(node) if node[0] == 0 && start >= LINE as u64 => Some(Leaf {
-            node: (start - LINE as u64) / size as u64 + 1,
+        Some(node) => Some(Leaf {
+            node: start.saturating_sub(LINE as u64) / size as u64 + 1,
             law: node[1],
             start: node[2],
         }),
-        _ => None,
+        None => None,
     }
 }
 
@@ -170,7 +168,7 @@ fn reply_of(words: &[u64], counts: &[u64], moves: &mut [Move]) -> BlockReply
 /// The reply of a block to counts, one a coordinate; where it is `Moves`, they are written, one for each input.
 ///
 /// Whatever the words are, it takes no memory, waits for nobody, and makes no more turns than the block says
-/// that its tree is high, and than there are words. But at `Moves` the moves stay as they were.
+/// that its tree is high, and one, and than there are words. But at `Moves` the moves stay as they were.
 pub fn reply_in(words: &[u64], counts: &[u64], moves: &mut [Move]) -> BlockReply
     ensures reply { (parts : Parts) → Suits words.now counts.now (length moves.old) parts
         → IsBlockReply parts counts.now moves.new result }

@@ -38,13 +38,12 @@ fn turn_at(words: &[u64], counts: &[u64], start: u64, width: Width) -> Turn
     }
 }
 
-/// The word at which the line of the leaf begins to which the walk at these counts comes within so many turns.
+/// The word at which the line of the leaf begins to which the walk at these counts comes in fewer turns than these.
 #[inline(always)]
 pub fn leaf_start(words: &[u64], counts: &[u64], turns: u64, width: Width) -> Option<u64>
-    requires few { length counts.now ≤ 4 }
-    requires height { turns ≡ slice_index words.now 10 }
+    requires { length counts.now ≤ 4 }
     ensures { (parts : Parts) → Serves words.now counts.now parts → width ≡ width_of parts
-        → IsSomeAnd result (EndsIn words.now counts.now parts) }
+        → slice_index words.now 10 < turns → IsSomeAnd result (EndsIn words.now counts.now parts) }
 {
     let mut start = LINE as u64;
     for _ in 0..turns {
@@ -54,5 +53,5 @@ pub fn leaf_start(words: &[u64], counts: &[u64], turns: u64, width: Width) -> Op
             Turn::Bad => return None,
         }
     }
-    Some(start)
+    None
 }
