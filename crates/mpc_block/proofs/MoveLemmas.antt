@@ -1,5 +1,6 @@
 -- The moves by the forms of a block.
-use Rattle.std.proofs.Common.{◌≡◌, ◌≢◌, ℕ, zero, suc, ◌+◌, ◌-◌, ◌*◌, ◌^◌, ◌<◌, ◌≤◌, ℤ, pos, ◌+ℤ◌, ◌*ℤ◌, ◌<ℤ◌, unsigned_abs, to_z, of_z, List, ◌∷◌, length, get_or, set, take, drop, ◌⊎◌, inl, inr, sym, ◌∙◌, ap, subst, arith}
+use Rattle.std.proofs.Common.{◌≡◌, ◌≢◌, ℕ, zero, suc, ◌+◌, ◌-◌, ◌*◌, ◌^◌, ◌<◌, ◌≤◌, ℤ, pos, ◌+ℤ◌, ◌*ℤ◌, unsigned_abs, to_z, of_z, List, ◌∷◌, length, get_or, set, take, drop, ◌⊎◌, inl, inr, sym, ◌∙◌, ap, subst, arith}
+use Rattle.std.specs.Prelude.{slice_index}
 use Rattle.std.specs.Int.{int_wrap, w128}
 use Rattle.std.proofs.lemmas.Bool.{cases_lt}
 use Rattle.std.proofs.lemmas.Int.{ints, int_wrap_fits, fits_signed_from_abs}
@@ -14,7 +15,7 @@ use Rattle.mpc_controller.specs.Replies.{IsLawNumbered}
 use Rattle.mpc_table.specs.Forms.{weighed}
 use Rattle.mpc_block.specs.declared.replies.Move.{Move}
 use Rattle.mpc_block.specs.declared.lines.Width.TheVariants.{Wide}
-use Rattle.mpc_block.specs.Words.{words_from, number_at, entries}
+use Rattle.mpc_block.specs.Words.{signed_number, words_from, number_at, entries}
 use Rattle.mpc_block.specs.Block.{law_start, IsFormLine}
 use Rattle.mpc_block.specs.Walks.{Serves}
 use Rattle.mpc_block.specs.BlockReplies.{IsMoveOf, BeginWith}
@@ -57,7 +58,7 @@ module _ (words counts : List ℕ) (parts : Parts) (s : Serves words counts part
   all_counts : length counts ≤ n
   all_counts = omega (arith, count_each words counts parts s)
 
-  module _ (start sum den : ℤ) (start_is : start ≡ first) (sum_is : sum ≡ int_wrap w128 (to_z w128 (of_z w128 start) +ℤ weighed others counts)) (den_is : den ≡ number_at Wide line 0) where
+  module _ (start sum : ℤ) (low high : ℕ) (start_is : start ≡ first) (sum_is : sum ≡ int_wrap w128 (to_z w128 (of_z w128 start) +ℤ weighed others counts)) (words_are : signed_number low high ≡ to_z w128 (of_z w128 sum)) where
     start_read : to_z w128 (of_z w128 start) ≡ first
     start_read = let h = within in ap (λ z. to_z w128 (of_z w128 z)) start_is ∙ read first (omega arith)
 
@@ -65,17 +66,14 @@ module _ (words counts : List ℕ) (parts : Parts) (s : Serves words counts part
     exact =
         sum_is ∙ (λ i. int_wrap w128 (start_read i +ℤ sym (weighed_taken others n counts all_counts) i)) ∙ int_wrap_fits w128 total (fits_signed_from_abs w128 total small)
 
-    sum_read : to_z w128 (of_z w128 sum) ≡ weighed (take (n + 1) (first ∷ others)) (1 ∷ counts)
+    sum_read : signed_number low high ≡ weighed (take (n + 1) (first ∷ others)) (1 ∷ counts)
     sum_read =
-        ap (λ z. to_z w128 (of_z w128 z)) exact ∙ read total small ∙ sym (one_times first (weighed (take n others) counts)) ∙ ap (λ k. weighed k (1 ∷ counts)) (sym k_is)
+        words_are ∙ ap (λ z. to_z w128 (of_z w128 z)) exact ∙ read total small ∙ sym (one_times first (weighed (take n others) counts)) ∙ ap (λ k. weighed k (1 ∷ counts)) (sym k_is)
 
-    den_read : to_z w128 (of_z w128 den) ≡ number_at Wide line 0
-    den_read = ap (λ z. to_z w128 (of_z w128 z)) den_is ∙ read (number_at Wide line 0) here.bounded.den_fits
-
-    pub is_move : IsMoveOf of_set counts input (record { num = to_z w128 (of_z w128 sum); den = to_z w128 (of_z w128 den) })
+    pub is_move : IsMoveOf of_set counts input (record { num_low = low; num_high = high; den_low = slice_index line 0; den_high = slice_index line 1 })
     is_move = record {
-      positive = subst (λ d. pos 0 <ℤ d) (sym den_read) here.bounded.positive;
-      value = (λ i. quotient (sum_read i) (den_read i)) ∙ here.form_is.value counts;
+      positive = here.bounded.positive;
+      value = ap (λ z. quotient z (number_at Wide line 0)) sum_read ∙ here.form_is.value counts;
     }
 
 -- ---- where the form of an input stands

@@ -1,6 +1,6 @@
 //! Replies from a block.
 
-ghost use Rattle.std.specs.Prelude.{◌≡◌, ℕ, ◌+◌, ◌*◌, ◌<◌, ◌≤◌, ◌↔◌, pos, ◌<ℤ◌, List, length, IsTrue, IsSomeAnd};
+ghost use Rattle.std.specs.Prelude.{◌≡◌, ℕ, ◌+◌, ◌*◌, ◌<◌, ◌≤◌, ◌↔◌, pos, ◌<ℤ◌, List, length, IsTrue, IsFalse, IsSomeAnd};
 ghost use Rattle.mpc_rows.specs.declared.laws.Law.{Law};
 ghost use Rattle.mpc_controller.specs.Parts.{Parts};
 ghost use Rattle.mpc_controller.specs.Replies.{IsLawNumbered};
@@ -8,17 +8,22 @@ ghost use Rattle.mpc_block.specs.declared.lines.Width.TheVariants.{Wide};
 ghost use Rattle.mpc_block.specs.Words.{words_from, number_at};
 ghost use Rattle.mpc_block.specs.Block.{HasHead, IsFormLine, law_start, width_of};
 ghost use Rattle.mpc_block.specs.Walks.{Serves, FindsLeaf};
-ghost use Rattle.mpc_block.specs.BlockReplies.{IsMoveOf, BeginWith, IsBlockReply, Suits};
+ghost use Rattle.mpc_block.specs.BlockReplies.{IsMoveOf, BeginWith, IsBlockReply, KeepsMoves, Suits};
 
 use crate::lines::{LAYOUT, LINE, Width, line_size, number, part, wide_sum};
 use crate::walks::leaf_start;
+use crate::words::words_of;
 use mpc_table::{find_outside, table_laws};
 
-/// A move of one input, as a fraction that may have common divisors.
+/// A move of one input, as a fraction by the words of its numerator and its denominator, each in two's
+/// complement with the low word first. The two may have common divisors.
+#[repr(C)]
 #[derive(Clone, Copy, Debug, PartialEq, Eq)]
 pub struct Move {
-    pub num: i128,
-    pub den: i128,
+    pub num_low: u64,
+    pub num_high: u64,
+    pub den_low: u64,
+    pub den_high: u64,
 }
 
 /// What a block replies to counts. Nodes, laws and coordinates are counted from 1.
@@ -116,9 +121,12 @@ fn move_by(line: &[u64], counts: &[u64]) -> Move
     ensures { (parts : Parts) (of_set : Law) (input : ℕ) (words : List ℕ) → Serves words counts.now parts
         → IsFormLine parts.plant of_set input line.now → IsMoveOf of_set counts.now input result }
 {
+    let (num_low, num_high) = words_of(&wide_sum(number(line, 1), line, counts));
     Move {
-        num: wide_sum(number(line, 1), line, counts),
-        den: number(line, 0),
+        num_low,
+        num_high,
+        den_low: line[0],
+        den_high: line[1],
     }
 }
 
@@ -127,9 +135,10 @@ fn move_by(line: &[u64], counts: &[u64]) -> Move
 fn write_moves(words: &[u64], start: u64, counts: &[u64], moves: &mut [Move]) -> bool
     requires few { length counts.now ≤ 4 }
     requires inputs { length moves.old ≤ 3 }
-    ensures { (parts : Parts) (of_set : Law) (law : ℕ) → Serves words.now counts.now parts → length moves.old ≡ parts.plant.p
-        → 1 ≤ law → IsLawNumbered parts.laws law of_set → start ≡ law_start parts law
+    ensures written { (parts : Parts) (of_set : Law) (law : ℕ) → Serves words.now counts.now parts
+        → length moves.old ≡ parts.plant.p → 1 ≤ law → IsLawNumbered parts.laws law of_set → start ≡ law_start parts law
         → IsTrue result × BeginWith of_set counts.now parts.plant.p moves.new }
+    ensures kept { IsFalse result → moves.new ≡ moves.old }
 {
     let inputs = moves.len();
     let Some(lines) = part(words, start, LINE * inputs) else {
@@ -148,8 +157,9 @@ fn write_moves(words: &[u64], start: u64, counts: &[u64], moves: &mut [Move]) ->
 #[inline(always)]
 fn reply_of(words: &[u64], counts: &[u64], moves: &mut [Move]) -> BlockReply
     requires { HasHead words.now (length counts.now) (length moves.old) }
-    ensures { (parts : Parts) → Suits words.now counts.now (length moves.old) parts
+    ensures reply { (parts : Parts) → Suits words.now counts.now (length moves.old) parts
         → IsBlockReply parts counts.now moves.new result }
+    ensures kept { KeepsMoves moves.old moves.new result }
 {
     table_laws();
     if let Some(coordinate) = find_outside(&words[4..4 + counts.len()], counts) {
@@ -174,6 +184,7 @@ pub fn reply_in(words: &[u64], counts: &[u64], moves: &mut [Move]) -> BlockReply
         → IsBlockReply parts counts.now moves.new result }
     ensures no_head { ¬ HasHead words.now (length counts.now) (length moves.old)
         → result ≡ BlockReply.BadBlock }
+    ensures kept { KeepsMoves moves.old moves.new result }
 {
     if !has_head(words, counts.len(), moves.len()) {
         return BlockReply::BadBlock;

@@ -5,8 +5,8 @@ use Rattle.mpc_block.specs.Words.{words_from, number_at}
 use Rattle.mpc_block.proofs.MoveLemmas.{form_there, one_more}
 use Rattle.mpc_block.proofs.replies.write_moves.Goals as goal
 
-pub returns-then-not-are_positive : goal.returns-then-not-are_positive
-returns-then-not-are_positive c = λ parts of_set law s size from numbered start_is.
+pub returns-then-not-are_positive-clause-written : goal.returns-then-not-are_positive-clause-written
+returns-then-not-are_positive-clause-written c = λ parts of_set law s size from numbered start_is.
     let positive : (input : ℕ) → input < length c.args.moves.now → pos 0 <ℤ number_at Wide (words_from c.in-Some.lines.now (12 * input) 12) 0 =
     λ input lt. (form_there c.args.words.now c.args.counts.now parts s of_set law c.args.start (length c.args.moves.now) size from numbered start_is c.in-Some.lines.now input c.in-Some.ensures.0 lt).bounded.positive in
     let so : c.are_positive.result ≡ true = c.are_positive.ensures positive in
@@ -22,6 +22,6 @@ loop-i-preserved c = λ parts of_set law s size from numbered start_is.
     (c.move_by.ensures parts of_set c.loop-i.i c.args.words.now s
     (form_there c.args.words.now c.args.counts.now parts s of_set law c.args.start (length c.args.moves.now) whole from numbered start_is c.in-Some.lines.now c.loop-i.i c.in-Some.ensures.0 c.loop-i-test.true))
 
-pub returns : goal.returns
-returns c = λ parts of_set law s size from numbered start_is.
+pub returns-clause-written : goal.returns-clause-written
+returns-clause-written c = λ parts of_set law s size from numbered start_is.
     (refl, λ input d lt. c.loop-i.invariant parts of_set law s (c.loop-i.auto.moves ∙ size) from numbered start_is input d (omega (arith, lt, size, c.loop-i-test.false)))
