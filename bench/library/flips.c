@@ -112,30 +112,37 @@ static wide weighed(const uint64_t *line, size_t first, const uint64_t *counts, 
     return sum;
 }
 
-static bool is_above(wide x, wide y) {
-    return (__int128)x > (__int128)y;
+// Whether the row of a split's line holds, in 64 bits or in 128.
+static bool holds(const uint64_t *line, bool is_wide, const uint64_t *counts, size_t n) {
+    if (is_wide) return (__int128)weighed(line, 2, counts, n) <= (__int128)number_at(line, 1);
+    uint64_t sum = 0;
+    for (size_t i = 0; i < n; i++) sum += line[2 + i] * counts[i];
+    return (int64_t)sum <= (int64_t)line[1];
+}
+
+static bool are_there(size_t count, uint64_t start, size_t size) {
+    return size <= count && start <= count - size;
 }
 
 // The reply of the words, by their layout, where they have one.
 static struct reply walked(const uint64_t *words, size_t count, const uint64_t *counts, size_t n, size_t p) {
     struct reply reply = {.answer = MPC_BAD_BLOCK};
-    size_t lines = count / LINE, place = 0;
+    bool is_wide = words[11] != 1;
+    size_t size = is_wide ? LINE : LINE / 2;
+    uint64_t start = LINE, most = words[10] < count ? words[10] : count;
     for (size_t i = 0; i < n; i++) {
         if (counts[i] > words[4 + i]) return (struct reply){.answer = MPC_OUTSIDE};
     }
-    for (size_t turn = 0; place + 1 < lines && words[LINE * (place + 1)] != 0; turn++) {
-        const uint64_t *node = words + LINE * (place + 1);
-        if (turn > lines) return reply;
-        place = is_above(weighed(node, 2, counts, n), number_at(node, 1)) ? node[1] : place + 1;
-        if (place >= lines) return reply;
+    for (uint64_t turn = 0; are_there(count, start, size) && words[start] != 0; turn++) {
+        if (turn >= most) return reply;
+        start = holds(words + start, is_wide, counts, n) ? start + size : words[start];
     }
-    if (place + 1 >= lines) return reply;
-    uint64_t law = words[LINE * (place + 1) + 1];
-    if (law == 0) return (struct reply){.answer = MPC_INFEASIBLE};
+    if (!are_there(count, start, size)) return reply;
+    if (words[start + 1] == 0) return (struct reply){.answer = MPC_INFEASIBLE};
+    start = words[start + 2];
+    if (!are_there(count, start, LINE * p)) return reply;
     for (size_t i = 0; i < p; i++) {
-        wide at = 1 + (wide)words[8] + (wide)(law - 1) * p + i;
-        if (at >= lines) return reply;
-        const uint64_t *form = words + LINE * (size_t)at;
+        const uint64_t *form = words + start + LINE * i;
         wide num = number_at(form, 1) + weighed(form, 2, counts, n);
         reply.moves[i] = (mpc_fraction){(uint64_t)num, (uint64_t)(num >> 64), form[0], form[1]};
     }

@@ -154,7 +154,7 @@ static void print_times(const uint64_t *block, uint64_t words, const struct tabl
         keep_least(&brief, begun);
     }
     double each = 1e9 / (double)states->count;
-    printf(" %u | %u | %llu | %.0f |", table->node_count, table->law_count, (unsigned long long)block[12], each * proved);
+    printf(" %u | %u | %llu | %llu | %.0f |", table->node_count, table->law_count, (unsigned long long)block[10], (unsigned long long)block[11], each * proved);
     printf(" %.0f | %.2f |", each * plain, proved / plain);
     if (table->is_short) {
         printf(" %.0f | %.2f |\n", each * brief, proved / brief);

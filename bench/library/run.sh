@@ -21,8 +21,8 @@ trap 'rm -rf "$work"' EXIT
 
 echo "$(grep -m 1 "^model name" /proc/cpuinfo | cut -d : -f 2 | sed 's/^ //'), $(nproc) processors; nanoseconds a reply, of $count states:"
 echo
-echo "| Plant | Nodes | Laws | Height | Library | Plain C | Library, plain C = 1 | In 64 bits | So |"
-echo "|---|---|---|---|---|---|---|---|---|"
+echo "| Plant | Nodes | Laws | Height | Words a number | Library | Plain C | Library, plain C = 1 | In 64 bits | So |"
+echo "|---|---|---|---|---|---|---|---|---|---|"
 for plant in "$@"; do
     name=$(basename "$plant" | sed 's/\..*//')
     sed '/^states$/,$d' "$plant" > "$work/plant"

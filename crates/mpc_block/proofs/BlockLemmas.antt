@@ -1,24 +1,26 @@
 -- The nodes of a block, and the walk from one to the next.
-use Rattle.std.proofs.Common.{◌≡◌, ◌≢◌, ℕ, zero, suc, ◌+◌, ◌-◌, ◌*◌, ◌^◌, ◌<◌, ◌≤◌, ℤ, pos, ◌+ℤ◌, ◌≤ℤ◌, unsigned_abs, List, [], ◌∷◌, length, get_or, take, Some, refl, sym, ◌∙◌, ap, subst, arith}
-use Rattle.std.specs.Prelude.{All, slice_get, slice_index, slice_range}
-use Rattle.std.specs.Int.{w128}
-use mir.Val.{to_z, of_z}
+use Rattle.std.proofs.Common.{◌≡◌, ℕ, zero, suc, ◌+◌, ◌*◌, ◌^◌, ◌<◌, ◌≤◌, max, ℤ, pos, ◌+ℤ◌, ◌*ℤ◌, ◌≤ℤ◌, unsigned_abs, Bool, true, false, List, [], ◌∷◌, length, map, take, Some, refl, sym, ◌∙◌, ap, subst, arith}
+use Rattle.std.specs.Prelude.{All, IsTrue, ◌↔◌, slice_get, slice_index, ◌&&◌, nat_lt, if◌then◌else◌}
+use Rattle.std.specs.List.{list_all}
+use Rattle.std.proofs.lemmas.Bool.Decides.{nat_tests}
 use Rattle.std.proofs.lemmas.List.{length-map}
-use Rattle.std.proofs.lemmas.Int.{ints}
 use Rattle.std.proofs.lemmas.Option.{slice_get_within, get_or_from_slice_get}
-use Rattle.std.proofs.Math.Nat.{mul-le-mul_right}
 use Rattle.mpc_linear.specs.declared.integers.RowInt.{RowInt}
 use Rattle.mpc_plant.specs.declared.lists.Coordinate.{Coordinate}
 use Rattle.mpc_rows.specs.declared.trees.Node.{Node}
 use Rattle.mpc_rows.specs.declared.trees.Node.TheVariants.{Split, Law, NoMove}
+use Rattle.mpc_controller.specs.Preorder.{IsTree}
 use Rattle.mpc_controller.specs.Parts.{Parts, limits_of, IsNodeFor, IsSplitRow}
 use Rattle.mpc_controller.specs.Bounds.{reach, NodeFits, SplitFits}
 use Rattle.mpc_controller.specs.Walk.{root, yes_side, no_side}
-use Rattle.mpc_table.specs.Forms.{weighed}
-use Rattle.mpc_block.specs.Words.{number_at, numbers_in}
-use Rattle.mpc_block.specs.Block.{height_at, side_at, node_line, form_place, IsSplitLine}
-use Rattle.mpc_block.specs.Walks.{Serves, GoesTo, HasCome}
-use Rattle.mpc_block.proofs.SumLemmas.{read, reach_mono, up_to_length, satisfied, at_most, behind, first_of_taken}
+use Rattle.mpc_table.specs.Forms.{weighed, AreUpTo}
+use Rattle.mpc_block.specs.declared.lines.Width.{Width}
+use Rattle.mpc_block.specs.declared.lines.Width.TheVariants.{Short, Wide}
+use Rattle.mpc_block.specs.Words.{words_from, number_at, entries}
+use Rattle.mpc_block.specs.Sums.{greatest, KeepsWithin}
+use Rattle.mpc_block.specs.Block.{spans_of, fits_word, width_of, line_size, node_start, node_line, IsSplitLine}
+use Rattle.mpc_block.specs.Walks.{Serves, StandsAt, GoesTo, HasCome}
+use Rattle.mpc_block.proofs.SumLemmas.{reach_mono, up_to_length, satisfied, at_most, first_of_taken}
 
 pub node_at : (nodes : List Node) (place : ℕ) → place < length nodes → (node : Node) × (slice_get nodes place ≡ Some node)
 node_at [] place h = absurd (omega arith)
@@ -28,36 +30,83 @@ node_at (node ∷ nodes) (suc place) h = node_at nodes place (omega arith)
 pub all_at : {X : Type 0} (P : X → Type 0) (xs : List X) (i : ℕ) (x : X) → slice_get xs i ≡ Some x → All P xs → P x
 all_at P xs i x at h = subst P (get_or_from_slice_get xs i x x at) (h i x (slice_get_within xs i x at))
 
-pub record SplitThere (words : List ℕ) (parts : Parts) (place : ℕ) : Type 0 where
+both : (a b : Bool) → (a && b) ≡ true → (a ≡ true) × (b ≡ true)
+both true b h = (refl, h)
+both false b h = absurd cc
+
+pub tested_at : {X : Type 0} (test : X → Bool) (xs : List X) (i : ℕ) (x : X) → slice_get xs i ≡ Some x → list_all test xs ≡ true → test x ≡ true
+tested_at test [] i x at h = absurd cc
+tested_at test (y ∷ xs) zero x at h = let here : test y ≡ true = (both (test y) (list_all test xs) h).0 in let same : Some y ≡ Some x = at in cc
+tested_at test (y ∷ xs) (suc i) x at h = tested_at test xs i x at (both (test y) (list_all test xs) h).1
+
+-- ---- counts behind the last one are left out
+pub reach_taken : (ks : List ℤ) (n : ℕ) (ts : List ℕ) → length ts ≤ n → reach (take n ks) ts ≡ reach ks ts
+reach_taken [] zero ts h = refl
+reach_taken [] (suc n) ts h = refl
+reach_taken (k ∷ ks) zero [] h = refl
+reach_taken (k ∷ ks) zero (t ∷ ts) h = absurd (omega arith)
+reach_taken (k ∷ ks) (suc n) [] h = refl
+reach_taken (k ∷ ks) (suc n) (t ∷ ts) h = ap (λ r. unsigned_abs k * t + r) (reach_taken ks n ts (omega arith))
+
+pub weighed_taken : (ks : List ℤ) (n : ℕ) (ts : List ℕ) → length ts ≤ n → weighed (take n ks) ts ≡ weighed ks ts
+weighed_taken [] zero ts h = refl
+weighed_taken [] (suc n) ts h = refl
+weighed_taken (k ∷ ks) zero [] h = refl
+weighed_taken (k ∷ ks) zero (t ∷ ts) h = absurd (omega arith)
+weighed_taken (k ∷ ks) (suc n) [] h = refl
+weighed_taken (k ∷ ks) (suc n) (t ∷ ts) h = ap (λ w. k *ℤ pos t +ℤ w) (weighed_taken ks n ts (omega arith))
+
+up_to_spans : (ts : List ℕ) (grid : List Coordinate) → AreUpTo ts (map (λ axis. axis.count) grid) → AreUpTo ts (map (λ axis. max axis.count 1) grid)
+up_to_spans [] [] h = tt
+up_to_spans [] (axis ∷ grid) h = absurd h
+up_to_spans (t ∷ ts) [] h = absurd h
+up_to_spans (t ∷ ts) (axis ∷ grid) h = (less, up_to_spans ts grid h.1)
+  where
+    less : t ≤ max axis.count 1
+    less = let below : t ≤ axis.count = h.0 in omega arith
+
+pub record SplitThere (words : List ℕ) (parts : Parts) (sides : List ℕ) (place : ℕ) : Type 0 where
   pub row : RowInt
   pub at : slice_get parts.tree place ≡ Some (Split row)
-  pub line : IsSplitLine parts.tree words place row
+  pub line : IsSplitLine (width_of parts) (node_start (width_of parts) (slice_index sides place)) row (node_line words (width_of parts) place)
+
+pub some_node : (nodes : List Node) → IsTree nodes → 0 < length nodes
+some_node [] h = absurd (omega arith)
+some_node (node ∷ nodes) h = omega arith
 
 module _ (words counts : List ℕ) (parts : Parts) (s : Serves words counts parts) where
   pub count_each : length counts ≡ parts.plant.n
   count_each = up_to_length counts (limits_of parts.plant) s.up_to ∙ length-map parts.plant.grid (λ (axis : Coordinate). axis.count) ∙ parts.plant.is_plant.grid_size
 
-  pub at_root : HasCome words counts parts 0 0
-  at_root = record { inside = (let low = s.block.low in omega arith); height = omega arith; reached = root }
+  pub at_root : HasCome words counts parts s.block 0 12
+  at_root = record {
+    place = 0;
+    stands = record { inside = some_node parts.tree s.block.controller.shapes.complete; start_is = omega arith };
+    height = omega arith;
+    reached = root;
+  }
 
   module _ (place : ℕ) (inside : place < length parts.tree) where
-    pub line_inside : 12 * (1 + place) + 12 ≤ length words
-    line_inside = omega (arith, s.block.long)
+    abbrev width : Width
+    width = width_of parts
 
-    pub split_there : height_at words place ≢ 0 → SplitThere words parts place
-    split_there tall = by found.0 found.1
+    abbrev line : List ℕ
+    line = node_line words width place
+
+    split_there : ¬ slice_index line 0 ≡ 0 → SplitThere words parts s.block.sides place
+    split_there leads = by found.0 found.1
       where
         found : (node : Node) × (slice_get parts.tree place ≡ Some node)
         found = node_at parts.tree place inside
 
-        by : (node : Node) → slice_get parts.tree place ≡ Some node → SplitThere words parts place
+        by : (node : Node) → slice_get parts.tree place ≡ Some node → SplitThere words parts s.block.sides place
         by (Split row) at = record { row = row; at = at; line = s.block.tree place (Split row) at }
-        by (Law law certs) at = absurd (tall (s.block.tree place (Law law certs) at).height)
-        by (NoMove cert) at = absurd (tall (s.block.tree place (NoMove cert) at).height)
+        by (Law law certs) at = absurd (leads (s.block.tree place (Law law certs) at).zero_is)
+        by (NoMove cert) at = absurd (leads (s.block.tree place (NoMove cert) at).zero_is)
 
-    module _ (node : List ℕ) (xs : List ℤ) (node_is : node ≡ node_line words place) (xs_are : xs ≡ numbers_in node) (tall : ¬ slice_index node 0 ≡ 0) where
-      abbrev there : SplitThere words parts place
-      there = split_there (λ flat. tall (ap (λ l. slice_index l 0) node_is ∙ flat))
+    module _ (leads : ¬ slice_index line 0 ≡ 0) where
+      abbrev there : SplitThere words parts s.block.sides place
+      there = split_there leads
 
       abbrev row : RowInt
       row = there.row
@@ -68,69 +117,86 @@ module _ (words counts : List ℕ) (parts : Parts) (s : Serves words counts part
       fits : SplitFits (limits_of parts.plant) row
       fits = all_at (NodeFits (limits_of parts.plant)) parts.tree place (Split row) there.at s.block.controller.bounds.nodes_fit
 
-      abbrev first : ℤ
-      first = number_at (node_line words place) 1
+      parts_are : number_at width line 1 ∷ take (length row.a) (entries width line) ≡ row.b ∷ row.a
+      parts_are = sym (first_of_taken (number_at width line 1) (entries width line) (length row.a)) ∙ there.line.row_is
 
-      abbrev others : List ℤ
-      others = number_at (node_line words place) 2 ∷ number_at (node_line words place) 3 ∷ number_at (node_line words place) 4 ∷ number_at (node_line words place) 5 ∷ []
+      bound_is : number_at width line 1 ≡ row.b
+      bound_is = let e : number_at width line 1 ∷ take (length row.a) (entries width line) ≡ row.b ∷ row.a = parts_are in cc
 
-      numbers_are : xs ≡ first ∷ others
-      numbers_are = xs_are ∙ ap numbers_in node_is
+      slopes_are : take (length row.a) (entries width line) ≡ row.a
+      slopes_are = let e : number_at width line 1 ∷ take (length row.a) (entries width line) ≡ row.b ∷ row.a = parts_are in cc
 
-      parts_are : first ∷ take (length row.a) others ≡ row.b ∷ row.a
-      parts_are = sym (first_of_taken first others (length row.a)) ∙ there.line.row_is
+      one_each : length counts ≤ length row.a
+      one_each = omega (arith, count_each, shape.size)
 
-      bound_is : get_or xs 0 (pos 0) ≡ row.b
-      bound_is = let e : first ∷ take (length row.a) others ≡ row.b ∷ row.a = parts_are in ap (λ ys. get_or ys 0 (pos 0)) numbers_are ∙ cc
+      sum_is : weighed (entries width line) counts ≡ weighed row.a counts
+      sum_is = sym (weighed_taken (entries width line) (length row.a) counts one_each) ∙ ap (λ k. weighed k counts) slopes_are
 
-      slopes_are : slice_range xs 1 (1 + length counts) ≡ row.a
-      slopes_are =
-          let e : first ∷ take (length row.a) others ≡ row.b ∷ row.a = parts_are in
-          let taken : take (length row.a) others ≡ row.a = cc in
-          ap (λ ys. slice_range ys 1 (1 + length counts)) numbers_are ∙ behind first others (length counts) ∙ ap (λ n. take n others) (count_each ∙ sym shape.size) ∙ taken
+      reach_is : reach (entries width line) counts ≡ reach row.a counts
+      reach_is = sym (reach_taken (entries width line) (length row.a) counts one_each) ∙ ap (λ k. reach k counts) slopes_are
 
-      bound_small : unsigned_abs row.b < 2 ^ 127
-      bound_small = let small = fits.reach_fits in omega arith
-
-      pub not_wide : ¬ 2 ^ 127 ≤ 0 + reach (slice_range xs 1 (1 + length counts)) counts
-      not_wide h =
-          let same : reach (slice_range xs 1 (1 + length counts)) counts ≡ reach row.a counts = ap (λ a. reach a counts) slopes_are in
+      row_keeps : (short : Bool) → list_all (fits_word (spans_of parts.plant)) parts.tree ≡ short → unsigned_abs row.b + reach row.a counts < greatest (if short then Short else Wide)
+      row_keeps true e =
+          let tested : nat_lt (unsigned_abs row.b + reach row.a (spans_of parts.plant)) (2 ^ 63) ≡ true = tested_at (fits_word (spans_of parts.plant)) parts.tree place (Split row) there.at e in
+          let small : unsigned_abs row.b + reach row.a (spans_of parts.plant) < 2 ^ 63 = grind (arith, nat_tests) in
+          let less : reach row.a counts ≤ reach row.a (spans_of parts.plant) = reach_mono row.a counts (spans_of parts.plant) (up_to_spans counts parts.plant.grid s.up_to) in
+          omega arith
+      row_keeps false e =
           let less : reach row.a counts ≤ reach row.a (limits_of parts.plant) = reach_mono row.a counts (limits_of parts.plant) s.up_to in
           let small : unsigned_abs row.b + reach row.a (limits_of parts.plant) < 2 ^ 127 = fits.reach_fits in
           omega arith
 
-      module _ (sum : ℤ) (is : sum ≡ pos 0 +ℤ weighed (slice_range xs 1 (1 + length counts)) counts) (small : unsigned_abs sum < 2 ^ 127) where
-        sum_read : to_z w128 (of_z w128 sum) ≡ weighed row.a counts
-        sum_read = read sum small ∙ is ∙ none (weighed (slice_range xs 1 (1 + length counts)) counts) ∙ ap (λ a. weighed a counts) slopes_are
-          where
-            none : (w : ℤ) → pos 0 +ℤ w ≡ w
-            none w = omega (arith, ints)
+      keeps : KeepsWithin width line counts
+      keeps = subst (λ b. unsigned_abs b + reach (entries width line) counts < greatest width) (sym bound_is)
+          (subst (λ r. unsigned_abs row.b + r < greatest width) (sym reach_is) (row_keeps (list_all (fits_word (spans_of parts.plant)) parts.tree) refl))
 
-        bound_read : to_z w128 (of_z w128 (get_or xs 0 (pos 0))) ≡ row.b
-        bound_read = ap (λ z. to_z w128 (of_z w128 z)) bound_is ∙ read row.b bound_small
+      module _ (holds : Bool) (says : KeepsWithin width line counts → IsTrue holds ↔ (weighed (entries width line) counts ≤ℤ number_at width line 1)) where
+        yes : holds ≡ true → weighed row.a counts ≤ℤ row.b
+        yes h = subst (λ w. w ≤ℤ row.b) sum_is (subst (λ b. weighed (entries width line) counts ≤ℤ b) bound_is ((says keeps).0 h))
 
-        pub goes_yes : to_z w128 (of_z w128 sum) ≤ℤ to_z w128 (of_z w128 (get_or xs 0 (pos 0))) → GoesTo words counts parts place (place + 1)
-        goes_yes le = record {
-          inside = (let after : place < side_at words place = there.line.side.after in let end : side_at words place < length parts.tree = there.line.side.before_end in omega arith);
-          lower = (let h = there.line.height in grind (arith, h));
-          reaches = λ reached. yes_side place row reached there.at (satisfied row counts (subst (λ w. w ≤ℤ row.b) sum_read (subst (λ b. to_z w128 (of_z w128 sum) ≤ℤ b) bound_read le)));
+        no : holds ≡ false → ¬ weighed row.a counts ≤ℤ row.b
+        no h below =
+            let so : holds ≡ true = (says keeps).1 (subst (λ w. w ≤ℤ number_at width line 1) (sym sum_is) (subst (λ b. weighed row.a counts ≤ℤ b) (sym bound_is) below)) in
+            let not : holds ≡ false = h in
+            cc
+
+        pub goes_yes : holds ≡ true → (start : ℕ) → start ≡ node_start width (place + 1) → GoesTo words counts parts s.block place start
+        goes_yes h start is = record {
+          next = place + 1;
+          stands = record { inside = (let side = s.block.are_sides.each place row there.at in let after = side.after in let end = side.before_end in omega arith); start_is = is };
+          lower = (let e = s.block.are_heights.each place (omega arith) (Split row) there.at in grind (arith, e));
+          reaches = λ reached. yes_side place row reached there.at (satisfied row counts (yes h));
         }
 
-        pub goes_no : ¬ to_z w128 (of_z w128 sum) ≤ℤ to_z w128 (of_z w128 (get_or xs 0 (pos 0))) → GoesTo words counts parts place (slice_index node 1)
-        goes_no not_le = subst (GoesTo words counts parts place) (ap (λ l. slice_index l 1) (sym node_is)) (record {
-          inside = there.line.side.before_end;
-          lower = (let h = there.line.height in grind (arith, h));
-          reaches = λ reached. no_side place (side_at words place) row reached there.at (λ holds. not_le (subst (λ b. to_z w128 (of_z w128 sum) ≤ℤ b) (sym bound_read) (subst (λ w. w ≤ℤ row.b) (sym sum_read) (at_most row counts holds)))) there.line.side;
-        })
+        pub goes_no : holds ≡ false → (start : ℕ) → start ≡ slice_index line 0 → GoesTo words counts parts s.block place start
+        goes_no h start is = record {
+          next = slice_index s.block.sides place;
+          stands = record { inside = (s.block.are_sides.each place row there.at).before_end; start_is = is ∙ there.line.side_is };
+          lower = (let e = s.block.are_heights.each place (omega arith) (Split row) there.at in grind (arith, e));
+          reaches = λ reached. no_side place (slice_index s.block.sides place) row reached there.at (λ satisfies. no h (at_most row counts satisfies)) (s.block.are_sides.each place row there.at);
+        }
 
--- ---- the forms of the laws
-law_ends : (law input laws inputs : ℕ) → 1 ≤ law → law ≤ laws → input < inputs → (law - 1) * inputs + input + 1 ≤ laws * inputs
-law_ends zero input laws inputs h k i = absurd (omega arith)
-law_ends (suc law) input laws inputs h k i =
-    let more : suc law * inputs ≤ laws * inputs = mul-le-mul_right inputs k in
-    let one : suc law * inputs ≡ law * inputs + inputs = omega arith in
-    let less : suc law - 1 ≡ law = omega arith in
-    subst (λ n. n * inputs + input + 1 ≤ laws * inputs) (sym less) (omega arith)
+-- ---- the walk at a line that was read
+module _ (words counts : List ℕ) (parts : Parts) (s : Serves words counts parts) (place start size : ℕ) (width : Width) (node : List ℕ) (width_is : width ≡ width_of parts) (stands : StandsAt parts place start) (size_is : size ≡ line_size width)
+    (node_is : node ≡ words_from words start size) (leads : ¬ slice_index node 0 ≡ 0) (holds : Bool) (says : KeepsWithin width node counts → IsTrue holds ↔ (weighed (entries width node) counts ≤ℤ number_at width node 1)) where
+  size_here : size ≡ line_size (width_of parts)
+  size_here = size_is ∙ ap line_size width_is
 
-pub form_inside : (words : List ℕ) (nodes laws inputs law input : ℕ) → 12 * (1 + nodes + laws * inputs) ≤ length words → 1 ≤ law → law ≤ laws → input < inputs → 12 * form_place nodes inputs law input + 12 ≤ length words
-form_inside words nodes laws inputs law input long h k i = omega (arith, long, law_ends law input laws inputs h k i)
+  line_is : node ≡ node_line words (width_of parts) place
+  line_is = node_is ∙ (λ i. words_from words (stands.start_is i) (size_here i))
+
+  leads_here : ¬ slice_index (node_line words (width_of parts) place) 0 ≡ 0
+  leads_here e = leads (ap (λ l. slice_index l 0) line_is ∙ e)
+
+  says_here : KeepsWithin (width_of parts) (node_line words (width_of parts) place) counts → IsTrue holds ↔ (weighed (entries (width_of parts) (node_line words (width_of parts) place)) counts ≤ℤ number_at (width_of parts) (node_line words (width_of parts) place) 1)
+  says_here = subst (λ l. KeepsWithin (width_of parts) l counts → IsTrue holds ↔ (weighed (entries (width_of parts) l) counts ≤ℤ number_at (width_of parts) l 1)) line_is
+      (subst (λ w. KeepsWithin w node counts → IsTrue holds ↔ (weighed (entries w node) counts ≤ℤ number_at w node 1)) width_is says)
+
+  after : (a b : ℕ) → 12 + a * b + a ≡ 12 + a * (b + 1)
+  after a b = omega arith
+
+  pub turns_yes : holds ≡ true → GoesTo words counts parts s.block place (start + size)
+  turns_yes h = goes_yes words counts parts s place stands.inside leads_here holds says_here h (start + size) ((λ i. stands.start_is i + size_here i) ∙ after (line_size (width_of parts)) place)
+
+  pub turns_no : holds ≡ false → GoesTo words counts parts s.block place (slice_index node 0)
+  turns_no h = goes_no words counts parts s place stands.inside leads_here holds says_here h (slice_index node 0) (ap (λ l. slice_index l 0) line_is)

@@ -6,7 +6,7 @@ use Rattle.std.proofs.lemmas.List.{length-set, get_or-set_same, get_or-set_other
 use Rattle.mpc_rows.specs.declared.trees.Node.{Node}
 use Rattle.mpc_rows.specs.declared.trees.Node.TheVariants.{Split, Law, NoMove}
 use Rattle.mpc_table.specs.Steps.{AreNoSides}
-use Rattle.mpc_block.specs.Layouts.{height_by, IsHeightBy, AreHeightsFrom}
+use Rattle.mpc_block.specs.Heights.{height_by, IsHeightBy, AreHeightsFrom}
 
 module _ (nodes : List Node) (sides : List ℕ) (are_sides : AreNoSides nodes sides) (heights : List ℕ) (place height : ℕ) (inside : place < length nodes) (behind : AreHeightsFrom nodes sides (place + 1) heights)
     (is : IsHeightBy nodes sides heights place height) (low : height + place < length nodes) where

@@ -1,7 +1,10 @@
 pub mod SumLemmas
-pub mod LineLemmas
 pub mod HeightLemmas
+pub mod WrapLemmas
+pub mod LineLemmas
 pub mod BlockLemmas
+pub mod LeafLemmas
+pub mod WidthLemmas
+pub mod LayoutLemmas
 pub mod MoveLemmas
 pub mod ReplyLemmas
-pub mod LayoutLemmas

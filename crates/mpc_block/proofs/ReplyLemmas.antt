@@ -1,7 +1,8 @@
 -- The replies of a block.
-use Rattle.std.proofs.Common.{◌≡◌, ℕ, zero, suc, ◌+◌, ◌-◌, ◌<◌, ◌≤◌, List, [], ◌∷◌, length, get_or, map, max, take, Some, None, refl, sym, ◌∙◌, ap, subst, arith}
-use Rattle.std.specs.Prelude.{slice_get, slice_range}
-use Rattle.std.proofs.lemmas.List.{length-map}
+use Rattle.std.proofs.Common.{◌≡◌, ℕ, zero, suc, ◌+◌, ◌-◌, ◌<◌, ◌≤◌, List, [], ◌∷◌, length, get_or, map, take, Some, None, refl, sym, ◌∙◌, ap, subst, arith}
+use Rattle.std.specs.Prelude.{slice_get, slice_index, slice_range}
+use Rattle.mpc_linear.specs.declared.integers.RowInt.{RowInt}
+use Rattle.std.proofs.lemmas.List.{length-map, take_all}
 use Rattle.mpc_exact.specs.Rational.{ℚ}
 use Rattle.mpc_space.specs.Vector.{dot, mat_vec}
 use Rattle.mpc_plant.specs.Reply.{move}
@@ -18,7 +19,9 @@ use Rattle.mpc_table.specs.TableLaws.{MovesEachInput}
 use Rattle.mpc_table.specs.TableReplies.{IsMoveReply, IsInfeasibleReply}
 use Rattle.mpc_block.specs.declared.replies.Move.{Move}
 use Rattle.mpc_block.specs.Walks.{Serves, FindsLeaf}
-use Rattle.mpc_block.specs.BlockReplies.{value_of, BeginWith, IsMovesReply, IsNoMoveReply, Suits}
+use Rattle.mpc_block.specs.BlockReplies.{value_of, BeginWith, IsMovesReply, IsNoMoveReply, IsBlockReply, Suits}
+use Rattle.mpc_block.specs.declared.replies.BlockReply.{BlockReply}
+use Rattle.mpc_block.specs.Block.{width_of, node_start, law_start, node_line}
 use Rattle.mpc_block.proofs.SumLemmas.{none_outside}
 use Rattle.mpc_block.proofs.BlockLemmas.{node_at, all_at}
 
@@ -45,21 +48,25 @@ module _ (words counts : List ℕ) (room : ℕ) (parts : Parts) (suits : Suits w
     up_to = none_outside 1 (limits_of parts.plant) counts (suits.one_each ∙ sym (length-map parts.plant.grid (λ (axis : Coordinate). axis.count) ∙ parts.plant.is_plant.grid_size)) inside_limits;
   }
 
-  module _ (node law : ℕ) (finds : FindsLeaf words counts parts node law) where
+  module _ (node law start : ℕ) (finds : FindsLeaf words counts parts node law start) where
     there : (leaf : Node) × (slice_get parts.tree finds.place ≡ Some leaf)
-    there = node_at parts.tree finds.place finds.ends.inside
+    there = node_at parts.tree finds.place finds.inside
 
     fits : (leaf : Node) → slice_get parts.tree finds.place ≡ Some leaf → IsNodeFor parts.plant.n (length parts.laws) leaf
     fits leaf at = all_at (IsNodeFor parts.plant.n (length parts.laws)) parts.tree finds.place leaf at suits.block.controller.shapes.nodes_fit
 
-    no_split : (height a b : ℕ) → height ≡ 0 → height ≡ 1 + max a b → ⊥
-    no_split height a b e h = omega arith
+    no_split : (row : RowInt) → slice_get parts.tree finds.place ≡ Some (Split row) → ⊥
+    no_split row at =
+        let line = suits.block.tree finds.place (Split row) at in
+        let zero : slice_index (node_line words (width_of parts) finds.place) 0 ≡ 0 = finds.zero_is in
+        let leads : slice_index (node_line words (width_of parts) finds.place) 0 ≡ node_start (width_of parts) (slice_index suits.block.sides finds.place) = line.side_is in
+        omega arith
 
     infeasible_reply : law ≡ 0 → IsInfeasibleReply parts counts node
     infeasible_reply is_zero = by there.0 there.1
       where
         by : (leaf : Node) → slice_get parts.tree finds.place ≡ Some leaf → IsInfeasibleReply parts counts node
-        by (Split row) at = absurd (no_split _ _ _ finds.ends.height (suits.block.tree finds.place (Split row) at).height)
+        by (Split row) at = absurd (no_split row at)
         by (Law number certs) at =
             let from : 1 ≤ number = (fits (Law number certs) at).from_low in
             let is : law ≡ number = finds.law_is ∙ (suits.block.tree finds.place (Law number certs) at).law_is in
@@ -69,14 +76,14 @@ module _ (words counts : List ℕ) (room : ℕ) (parts : Parts) (suits : Suits w
           place = finds.place;
           node_is = finds.node_is;
           cert = cert;
-          ends = record { reached = finds.ends.reached; node_at = at; is_leaf = tt };
+          ends = record { reached = finds.reached; node_at = at; is_leaf = tt };
         }
 
     move_reply : ¬ law ≡ 0 → IsMoveReply parts counts node law
     move_reply not_zero = by there.0 there.1
       where
         by : (leaf : Node) → slice_get parts.tree finds.place ≡ Some leaf → IsMoveReply parts counts node law
-        by (Split row) at = absurd (no_split _ _ _ finds.ends.height (suits.block.tree finds.place (Split row) at).height)
+        by (Split row) at = absurd (no_split row at)
         by (NoMove cert) at = absurd (not_zero (finds.law_is ∙ (suits.block.tree finds.place (NoMove cert) at).law_is))
         by (Law number certs) at =
             let is : number ≡ law = sym (finds.law_is ∙ (suits.block.tree finds.place (Law number certs) at).law_is) in
@@ -85,14 +92,14 @@ module _ (words counts : List ℕ) (room : ℕ) (parts : Parts) (suits : Suits w
               place = finds.place;
               node_is = finds.node_is;
               certs = certs;
-              ends = record { reached = finds.ends.reached; node_at = at ∙ ap (λ k. Some (Law k certs)) is; is_leaf = tt };
+              ends = record { reached = finds.reached; node_at = at ∙ ap (λ k. Some (Law k certs)) is; is_leaf = tt };
             }
 
     pub named_law : ¬ law ≡ 0 → (of_set : LawOfSet) × IsLawNumbered parts.laws law of_set
     named_law not_zero = by there.0 there.1
       where
         by : (leaf : Node) → slice_get parts.tree finds.place ≡ Some leaf → (of_set : LawOfSet) × IsLawNumbered parts.laws law of_set
-        by (Split row) at = absurd (no_split _ _ _ finds.ends.height (suits.block.tree finds.place (Split row) at).height)
+        by (Split row) at = absurd (no_split row at)
         by (NoMove cert) at = absurd (not_zero (finds.law_is ∙ (suits.block.tree finds.place (NoMove cert) at).law_is))
         by (Law number certs) at =
             let is : law ≡ number = finds.law_is ∙ (suits.block.tree finds.place (Law number certs) at).law_is in
@@ -100,6 +107,17 @@ module _ (words counts : List ℕ) (room : ℕ) (parts : Parts) (suits : Suits w
             let from : 1 ≤ number = range.from_low in
             let to : number ≤ length parts.laws = range.to_high in
             law_at parts.laws (law - 1) (omega arith)
+
+    -- where the lines of the leaf's law begin
+    pub law_begins : ¬ law ≡ 0 → (1 ≤ law) × (start ≡ law_start parts law)
+    law_begins not_zero = by there.0 there.1
+      where
+        by : (leaf : Node) → slice_get parts.tree finds.place ≡ Some leaf → (1 ≤ law) × (start ≡ law_start parts law)
+        by (Split row) at = absurd (no_split row at)
+        by (NoMove cert) at = absurd (not_zero (finds.law_is ∙ (suits.block.tree finds.place (NoMove cert) at).law_is))
+        by (Law number certs) at =
+            let line = suits.block.tree finds.place (Law number certs) at in
+            (omega arith, finds.start_is ∙ line.start_is ∙ ap (law_start parts) (sym (finds.law_is ∙ line.law_is)))
 
     pub no_move_reply : law ≡ 0 → IsNoMoveReply parts counts node
     no_move_reply is_zero = let leaf = infeasible_reply is_zero in record { leaf = leaf; answer = (inside_limits, by_no_law leaf.place leaf.cert leaf.ends) }
@@ -118,3 +136,10 @@ module _ (words counts : List ℕ) (room : ℕ) (parts : Parts) (suits : Suits w
           positive = λ i d lt. (begin i d (omega (arith, lt, size))).positive;
           answer = (inside_limits, subst (λ u. RepliesAt parts (point_of counts) (move u)) (sym values) (by_law leaf.place law leaf.certs named.0 leaf.ends named.1));
         }
+
+-- all counts, as many as they are
+pub by_all : (words counts : List ℕ) (room k : ℕ) (moves : List Move) (reply : BlockReply) → length counts ≡ k → ((parts : Parts) → Suits words (take k counts) room parts → IsBlockReply parts (take k counts) moves reply)
+    → (parts : Parts) → Suits words counts room parts → IsBlockReply parts counts moves reply
+by_all words counts room k moves reply size replies parts suits =
+    let all : take k counts ≡ counts = take_all k counts (omega arith) in
+    subst (λ t. IsBlockReply parts t moves reply) all (replies parts (subst (λ t. Suits words t room parts) (sym all) suits))

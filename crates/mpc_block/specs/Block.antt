@@ -1,74 +1,113 @@
 -- The block of a controller: what its replies need, in words of 64 bits, without a pointer.
 --
--- A block is a list of lines of twelve words: the head, a line for each node of the search tree, in preorder, and then for each law a
--- line for each input. Words that are not named here can be anything.
+-- A block is a list of lines: the head, a line for each node of the search tree, in preorder, and then for each law a line for each input.
+-- The head and the lines of inputs have twelve words. A node's line has six where each row of the tree keeps within 63 bits at all counts
+-- of the grid, and twelve otherwise. Words that are not named here can be anything.
 --
---   head    0 the layout's version    1 how many words the block has    2 coordinates, n    3 inputs, p
---           4 .. the greatest count of each coordinate    8 nodes    9 laws
---   split   0 the height of the tree below it    1 the place of its no side    2 .. the bound of its row and the n entries, as numbers
---   leaf    0 zero    1 its law, from 1, or zero where it has none
---   form    0 .. the denominator and the n + 1 numerators of an input's first move, the constant first, as numbers
---
--- The tree below a split is one higher than the higher of its two sides.
-use Rattle.std.specs.Prelude.{◌≡◌, ℕ, ◌+◌, ◌-◌, ◌*◌, ◌<◌, ◌≤◌, max, List, ◌∷◌, length, take, slice_get, slice_index, slice_range, Some}
+--   head    0 the layout's version    1 how many words the block has    2 coordinates, n    3 inputs, p    4 .. the greatest count of each
+--           coordinate    8 nodes    9 laws    10 the height of the tree    11 how many words a number of a row has, 1 or 2
+--   split   0 the word at which the line of its no side begins; the numbers 1 .. are the bound of its row and the n entries
+--   leaf    0 zero    1 its law, from 1, or zero where it has none    2 the word at which the law's first line begins
+--   input   the numbers 0 .., of two words each, are the denominator and the n + 1 numerators of its first move, the constant first
+use Rattle.std.specs.Prelude.{◌≡◌, ℕ, ◌+◌, ◌-◌, ◌*◌, ◌^◌, ◌<◌, ◌≤◌, max, Bool, true, nat_lt, if◌then◌else◌, unsigned_abs, List, ◌∷◌, length, map, take, slice_get, slice_index, slice_range, Some}
+use Rattle.std.specs.List.{list_all}
 use Rattle.mpc_linear.specs.declared.integers.IntAffine.{IntAffine}
 use Rattle.mpc_linear.specs.declared.integers.RowInt.{RowInt}
 use Rattle.mpc_plant.specs.declared.plants.Plant.{Plant}
 use Rattle.mpc_rows.specs.declared.laws.Law.{Law as LawOfSet}
 use Rattle.mpc_rows.specs.declared.trees.Node.{Node}
 use Rattle.mpc_rows.specs.declared.trees.Node.TheVariants.{Split, Law, NoMove}
-use Rattle.mpc_controller.specs.Preorder.{IsNoSide}
 use Rattle.mpc_controller.specs.Parts.{Parts, limits_of}
-use Rattle.mpc_controller.specs.Bounds.{IsController, first_move_form}
+use Rattle.mpc_controller.specs.Bounds.{reach, IsController, first_move_form}
 use Rattle.mpc_controller.specs.Replies.{IsLawNumbered}
+use Rattle.mpc_table.specs.Steps.{AreNoSides}
 use Rattle.mpc_table.specs.Forms.{IsBounded, IsFormOf}
 use Rattle.mpc_block.specs.declared.lines.TheConstants.{LAYOUT}
-use Rattle.mpc_block.specs.Words.{line_at, number_at, numbers_in}
+use Rattle.mpc_block.specs.declared.lines.Width.{Width}
+use Rattle.mpc_block.specs.declared.lines.Width.TheVariants.{Short, Wide}
+use Rattle.mpc_block.specs.Heights.{AreHeightsFrom}
+use Rattle.mpc_block.specs.Words.{words_from, number_at, numbers_in}
 
--- the line of the node at a place, from 0
-abbrev pub node_line : List ℕ → ℕ → List ℕ
-node_line words place = line_at words (1 + place)
+-- ---- how wide the numbers of rows are
+-- the greatest counts of the plant's grid, and 1 where a coordinate has no other count than 0
+abbrev pub spans_of : Plant → List ℕ
+spans_of plant = map (λ axis. max axis.count 1) plant.grid
 
--- the height of the tree at a place
-abbrev pub height_at : List ℕ → ℕ → ℕ
-height_at words place = slice_index (node_line words place) 0
+-- the row of a split keeps within 63 bits at such counts
+abbrev pub fits_word : List ℕ → Node → Bool
+fits_word spans (Split row) = nat_lt (unsigned_abs row.b + reach row.a spans) (2 ^ 63)
+fits_word spans (Law law certs) = true
+fits_word spans (NoMove cert) = true
 
--- the place of a split's no side, or a leaf's law
-abbrev pub side_at : List ℕ → ℕ → ℕ
-side_at words place = slice_index (node_line words place) 1
+abbrev pub width_of : Parts → Width
+width_of parts = if list_all (fits_word (spans_of parts.plant)) parts.tree then Short else Wide
 
--- the line of an input, from 0, of a law, from 1
-abbrev pub form_place : ℕ → ℕ → ℕ → ℕ → ℕ
-form_place nodes inputs law input = 1 + nodes + ((law - 1) * inputs + input)
+-- how many words a number of a row has
+abbrev pub words_each : Width → ℕ
+words_each Short = 1
+words_each Wide = 2
 
--- the form of a line
+-- how many words the line of a node has
+abbrev pub line_size : Width → ℕ
+line_size Short = 6
+line_size Wide = 12
+
+-- ---- where lines stand
+-- the word at which the line of the node at a place, from 0, begins
+abbrev pub node_start : Width → ℕ → ℕ
+node_start width place = 12 + line_size width * place
+
+abbrev pub node_line : List ℕ → Width → ℕ → List ℕ
+node_line words width place = words_from words (node_start width place) (line_size width)
+
+-- the word at which the first line of a law, from 1, begins
+abbrev pub law_start : Parts → ℕ → ℕ
+law_start parts law = node_start (width_of parts) (length parts.tree) + 12 * ((law - 1) * parts.plant.p)
+
+-- the line of an input, from 0, of a law
+abbrev pub input_line : List ℕ → Parts → ℕ → ℕ → List ℕ
+input_line words parts law input = words_from words (law_start parts law + 12 * input) 12
+
+-- how many words a controller's block has
+abbrev pub block_size : Parts → ℕ
+block_size parts = node_start (width_of parts) (length parts.tree) + 12 * (length parts.laws * parts.plant.p)
+
+-- ---- what lines have
+-- the line of a split, whose no side begins at this word
+pub record IsSplitLine (width : Width) (side : ℕ) (row : RowInt) (line : List ℕ) : Type 0 where
+  pub side_is : slice_index line 0 ≡ side
+  pub row_is : take (length row.a + 1) (numbers_in width line) ≡ row.b ∷ row.a
+
+-- the line of a leaf with this law, whose first line begins at this word
+pub record IsLeafLine (law start : ℕ) (line : List ℕ) : Type 0 where
+  pub zero_is : slice_index line 0 ≡ 0
+  pub law_is : slice_index line 1 ≡ law
+  pub start_is : slice_index line 2 ≡ start
+
+-- the line of a node that leads to this word
+abbrev pub IsNodeLine : Width → ℕ → Node → List ℕ → Type 0
+IsNodeLine width word (Split row) line = IsSplitLine width word row line
+IsNodeLine width word (Law law certs) line = IsLeafLine law word line
+IsNodeLine width word (NoMove cert) line = IsLeafLine 0 word line
+
+-- the word to which a node's line leads: that of a split, whose no side stands at a place, to the line of that one, and a leaf's to its law
+abbrev pub word_after : Parts → ℕ → Node → ℕ
+word_after parts side (Split row) = node_start (width_of parts) side
+word_after parts side (Law law certs) = law_start parts law
+word_after parts side (NoMove cert) = 0
+
+-- the node at a place has its line
+abbrev pub HasLine : List ℕ → Parts → ℕ → ℕ → Node → Type 0
+HasLine words parts side place node = IsNodeLine (width_of parts) (word_after parts side node) node (node_line words (width_of parts) place)
+
+-- the form of an input's line
 abbrev pub form_in : ℕ → List ℕ → IntAffine
-form_in n line = record { den = number_at line 0; k = take (n + 1) (numbers_in line) }
-
--- the line of a split, and where its sides stand
-pub record IsSplitLine (nodes : List Node) (words : List ℕ) (place : ℕ) (row : RowInt) : Type 0 where
-  pub height : height_at words place ≡ 1 + max (height_at words (place + 1)) (height_at words (side_at words place))
-  pub side : IsNoSide nodes place (side_at words place)
-  pub row_is : take (length row.a + 1) (numbers_in (node_line words place)) ≡ row.b ∷ row.a
-
--- the line of a leaf with this law, or with none
-pub record IsLeafLine (words : List ℕ) (place law : ℕ) : Type 0 where
-  pub height : height_at words place ≡ 0
-  pub law_is : side_at words place ≡ law
-
-abbrev pub IsNodeLine : List Node → List ℕ → ℕ → Node → Type 0
-IsNodeLine nodes words place (Split row) = IsSplitLine nodes words place row
-IsNodeLine nodes words place (Law law certs) = IsLeafLine words place law
-IsNodeLine nodes words place (NoMove cert) = IsLeafLine words place 0
+form_in n line = record { den = number_at Wide line 0; k = take (n + 1) (numbers_in Wide line) }
 
 -- the line of an input of a law
 pub record IsFormLine (plant : Plant) (law : LawOfSet) (input : ℕ) (line : List ℕ) : Type 0 where
   pub form_is : IsFormOf (first_move_form law input) (form_in plant.n line)
   pub bounded : IsBounded (limits_of plant) (form_in plant.n line)
-
--- how many words a controller's block has
-abbrev pub block_size : Parts → ℕ
-block_size parts = 12 * (1 + length parts.tree + length parts.laws * parts.plant.p)
 
 -- the words begin with a block, by its own head, for so many coordinates and inputs
 pub record HasHead (words : List ℕ) (coordinates inputs : ℕ) : Type 0 where
@@ -91,6 +130,11 @@ pub record IsBlockOf (words : List ℕ) (parts : Parts) : Type 0 where
   pub limits : slice_range words 4 (4 + parts.plant.n) ≡ limits_of parts.plant
   pub nodes : slice_index words 8 ≡ length parts.tree
   pub laws : slice_index words 9 ≡ length parts.laws
-  pub low : height_at words 0 < length parts.tree
-  pub tree : (place : ℕ) (node : Node) → slice_get parts.tree place ≡ Some node → IsNodeLine parts.tree words place node
-  pub forms : (law : ℕ) (of_set : LawOfSet) (input : ℕ) → IsLawNumbered parts.laws law of_set → input < parts.plant.p → IsFormLine parts.plant of_set input (line_at words (form_place (length parts.tree) parts.plant.p law input))
+  pub sides : List ℕ
+  pub are_sides : AreNoSides parts.tree sides
+  pub heights : List ℕ
+  pub are_heights : AreHeightsFrom parts.tree sides 0 heights
+  pub height : slice_index words 10 ≡ slice_index heights 0
+  pub width : slice_index words 11 ≡ words_each (width_of parts)
+  pub tree : (place : ℕ) (node : Node) → slice_get parts.tree place ≡ Some node → HasLine words parts (slice_index sides place) place node
+  pub forms : (law : ℕ) (of_set : LawOfSet) (input : ℕ) → IsLawNumbered parts.laws law of_set → input < parts.plant.p → IsFormLine parts.plant of_set input (input_line words parts law input)

@@ -1,5 +1,5 @@
 -- What a block replies.
-use Rattle.std.specs.Prelude.{◌≡◌, ℕ, ◌<◌, pos, ◌<ℤ◌, List, length, map, All, slice_index_or}
+use Rattle.std.specs.Prelude.{◌≡◌, ℕ, ◌<◌, ℤ, pos, ◌<ℤ◌, List, length, map, All, slice_index_or}
 use Rattle.mpc_exact.specs.Rational.{ℚ, quotient}
 use Rattle.mpc_space.specs.Vector.{dot}
 use Rattle.mpc_plant.specs.Reply.{move, infeasible}
@@ -13,14 +13,21 @@ use Rattle.mpc_table.specs.TableReplies.{IsMoveReply, IsInfeasibleReply}
 use Rattle.mpc_block.specs.declared.replies.Move.{Move}
 use Rattle.mpc_block.specs.declared.replies.BlockReply.{BlockReply}
 use Rattle.mpc_block.specs.declared.replies.BlockReply.TheVariants.{Moves, Infeasible, Outside, BadBlock}
+use Rattle.mpc_block.specs.Words.{signed_number}
 use Rattle.mpc_block.specs.Block.{IsBlockOf}
+
+abbrev pub num_of : Move → ℤ
+num_of step = signed_number step.num_low step.num_high
+
+abbrev pub den_of : Move → ℤ
+den_of step = signed_number step.den_low step.den_high
 
 -- the fraction
 abbrev pub value_of : Move → ℚ
-value_of step = quotient step.num step.den
+value_of step = quotient (num_of step) (den_of step)
 
 abbrev pub IsPositiveOver : Move → Type 0
-IsPositiveOver step = pos 0 <ℤ step.den
+IsPositiveOver step = pos 0 <ℤ den_of step
 
 -- what the law gives an input, counted from 0, at counts
 pub record IsMoveOf (law : LawOfSet) (counts : List ℕ) (input : ℕ) (step : Move) : Type 0 where
@@ -48,6 +55,13 @@ IsBlockReply parts counts moves (Moves node law) = IsMovesReply parts counts mov
 IsBlockReply parts counts moves (Infeasible node) = IsNoMoveReply parts counts node
 IsBlockReply parts counts moves (Outside i) = IsAnswerTo parts counts (outside i)
 IsBlockReply parts counts moves BadBlock = ⊥
+
+-- where there are no moves, none is written
+abbrev pub KeepsMoves : List Move → List Move → BlockReply → Type 0
+KeepsMoves old new (Moves node law) = Unit {0}
+KeepsMoves old new (Infeasible node) = new ≡ old
+KeepsMoves old new (Outside i) = new ≡ old
+KeepsMoves old new BadBlock = new ≡ old
 
 -- a controller's block, a count for each of its coordinates, and room for a move of each of its inputs
 pub record Suits (words counts : List ℕ) (room : ℕ) (parts : Parts) : Type 0 where

@@ -1,66 +1,35 @@
--- How a block is laid out: the heights of a tree's nodes, and the lines written so far.
-use Rattle.std.specs.Prelude.{◌≡◌, ℕ, ◌+◌, ◌*◌, ◌<◌, ◌≤◌, max, List, ◌∷◌, length, take, slice_get, slice_index, slice_range, Some}
-use Rattle.mpc_linear.specs.declared.integers.RowInt.{RowInt}
+-- How a block is laid out: the lines written so far.
+use Rattle.std.specs.Prelude.{◌≡◌, ℕ, ◌+◌, ◌*◌, ◌^◌, ◌<◌, ◌≤◌, unsigned_abs, All, List, length, take, slice_get, slice_index, slice_range, Some}
 use Rattle.mpc_plant.specs.declared.plants.Plant.{Plant}
 use Rattle.mpc_rows.specs.declared.laws.Law.{Law as LawOfSet}
 use Rattle.mpc_rows.specs.declared.trees.Node.{Node}
-use Rattle.mpc_rows.specs.declared.trees.Node.TheVariants.{Split, Law, NoMove}
-use Rattle.mpc_controller.specs.Parts.{limits_of}
+use Rattle.mpc_rows.specs.declared.trees.Node.TheVariants.{Split, Law as LawLeaf, NoMove}
+use Rattle.mpc_linear.specs.declared.integers.RowInt.{RowInt}
+use Rattle.mpc_block.specs.declared.lines.Width.{Width}
+use Rattle.mpc_block.specs.declared.lines.Width.TheVariants.{Short, Wide}
+use Rattle.mpc_controller.specs.Parts.{Parts, limits_of}
 use Rattle.mpc_block.specs.declared.lines.TheConstants.{LAYOUT}
-use Rattle.mpc_block.specs.Words.{line_at, numbers_in}
-use Rattle.mpc_block.specs.Block.{node_line, IsFormLine}
+use Rattle.mpc_block.specs.Words.{words_from}
+use Rattle.mpc_block.specs.Block.{input_line, HasLine, IsFormLine}
 
--- the height of the tree at a place, by the heights of its sides
-abbrev pub height_by : List ℕ → List ℕ → ℕ → Node → ℕ
-height_by sides heights place (Split row) = 1 + max (slice_index heights (place + 1)) (slice_index heights (slice_index sides place))
-height_by sides heights place (Law law certs) = 0
-height_by sides heights place (NoMove cert) = 0
-
-abbrev pub IsHeightBy : List Node → List ℕ → List ℕ → ℕ → ℕ → Type 0
-IsHeightBy nodes sides heights place height = (node : Node) → slice_get nodes place ≡ Some node → height ≡ height_by sides heights place node
-
--- the heights of the trees from a place on
-pub record AreHeightsFrom (nodes : List Node) (sides : List ℕ) (from : ℕ) (heights : List ℕ) : Type 0 where
-  pub one_each : length heights ≡ length nodes
-  pub each : (place : ℕ) → from ≤ place → IsHeightBy nodes sides heights place (slice_index heights place)
-  pub low : (place : ℕ) → from ≤ place → place < length nodes → slice_index heights place + place < length nodes
-
--- what stands second in a node's line
-abbrev pub label_of : ℕ → Node → ℕ
-label_of side (Split row) = side
-label_of side (Law law certs) = law
-label_of side (NoMove cert) = 0
-
--- the line of a node with this height and this place of its no side
-pub record IsLineOf (height side : ℕ) (node : Node) (line : List ℕ) : Type 0 where
-  pub height_is : slice_index line 0 ≡ height
-  pub label_is : slice_index line 1 ≡ label_of side node
-  pub row_is : (row : RowInt) → node ≡ Split row → take (length row.a + 1) (numbers_in line) ≡ row.b ∷ row.a
+-- all words before this one are kept
+abbrev pub KeepsBefore : ℕ → List ℕ → List ℕ → Type 0
+KeepsBefore start old new = take start new ≡ take start old
 
 -- the lines of the first k nodes
-abbrev pub AreLinesTo : List Node → List ℕ → List ℕ → ℕ → List ℕ → Type 0
-AreLinesTo nodes sides heights k words = (place : ℕ) (node : Node) → place < k → slice_get nodes place ≡ Some node → IsLineOf (slice_index heights place) (slice_index sides place) node (node_line words place)
+abbrev pub AreNodesTo : Parts → List ℕ → ℕ → List ℕ → Type 0
+AreNodesTo parts sides k words = (place : ℕ) (node : Node) → place < k → slice_get parts.tree place ≡ Some node → HasLine words parts (slice_index sides place) place node
 
--- the lines of the first inputs of a law, from this line on
+-- the lines of the first inputs of a law, from this word on
 abbrev pub AreInputsTo : Plant → LawOfSet → ℕ → ℕ → List ℕ → Type 0
-AreInputsTo plant law start inputs words = (input : ℕ) → input < inputs → IsFormLine plant law input (line_at words (start + input))
+AreInputsTo plant law start inputs words = (input : ℕ) → input < inputs → IsFormLine plant law input (words_from words (start + 12 * input) 12)
 
--- the lines of the first k laws, from this line on
-abbrev pub AreFormsTo : Plant → List LawOfSet → ℕ → ℕ → List ℕ → Type 0
-AreFormsTo plant laws start k words = (j : ℕ) (law : LawOfSet) (input : ℕ) → j < k → slice_get laws j ≡ Some law → input < plant.p → IsFormLine plant law input (line_at words (start + (j * plant.p + input)))
-
--- all lines before this one are kept
-abbrev pub KeepsLines : ℕ → List ℕ → List ℕ → Type 0
-KeepsLines end old new = (r : ℕ) → r < end → line_at new r ≡ line_at old r
-
--- a row of a split has no more entries than a line has numbers for them
-abbrev pub IsShort : Node → Type 0
-IsShort (Split row) = length row.a ≤ 4
-IsShort (Law law certs) = Unit {0}
-IsShort (NoMove cert) = Unit {0}
+-- the lines of the first k laws
+abbrev pub AreFormsTo : Parts → ℕ → List ℕ → Type 0
+AreFormsTo parts k words = (j : ℕ) (law : LawOfSet) (input : ℕ) → j < k → slice_get parts.laws j ≡ Some law → input < parts.plant.p → IsFormLine parts.plant law input (input_line words parts (j + 1) input)
 
 -- the head of a block
-pub record IsHeadLine (plant : Plant) (size nodes laws : ℕ) (line : List ℕ) : Type 0 where
+pub record IsHeadLine (plant : Plant) (size nodes laws height each : ℕ) (line : List ℕ) : Type 0 where
   pub version : slice_index line 0 ≡ LAYOUT
   pub size_is : slice_index line 1 ≡ size
   pub coordinates : slice_index line 2 ≡ plant.n
@@ -68,3 +37,15 @@ pub record IsHeadLine (plant : Plant) (size nodes laws : ℕ) (line : List ℕ) 
   pub limits : slice_range line 4 (4 + plant.n) ≡ limits_of plant
   pub nodes_are : slice_index line 8 ≡ nodes
   pub laws_are : slice_index line 9 ≡ laws
+  pub height_is : slice_index line 10 ≡ height
+  pub each_is : slice_index line 11 ≡ each
+
+-- the row of a split, if it is one, has no more entries than a line has numbers for them, and at this width each has its words
+abbrev pub IsRowFor : Width → RowInt → Type 0
+IsRowFor Short row = (length row.a ≤ 4) × (unsigned_abs row.b < 2 ^ 63) × All (λ z. unsigned_abs z < 2 ^ 63) row.a
+IsRowFor Wide row = length row.a ≤ 4
+
+abbrev pub CanHaveLine : Width → Node → Type 0
+CanHaveLine width (Split row) = IsRowFor width row
+CanHaveLine width (LawLeaf law certs) = Unit {0}
+CanHaveLine width (NoMove cert) = Unit {0}

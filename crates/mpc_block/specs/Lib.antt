@@ -1,4 +1,6 @@
 pub mod Words
+pub mod Heights
+pub mod Sums
 pub mod Block
 pub mod Layouts
 pub mod Walks

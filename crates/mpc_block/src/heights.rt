@@ -2,7 +2,7 @@
 
 ghost use Rattle.std.specs.Prelude.{◌≡◌, ◌+◌, ◌<◌, ◌≤◌, length, IfOk};
 ghost use Rattle.mpc_table.specs.Steps.{AreNoSides};
-ghost use Rattle.mpc_block.specs.Layouts.{IsHeightBy, AreHeightsFrom};
+ghost use Rattle.mpc_block.specs.Heights.{IsHeightBy, AreHeightsFrom};
 
 use mpc_frac::NoMemory;
 use mpc_rows::{Node, Tree};

@@ -1,54 +1,147 @@
-//! Lines of twelve words.
+//! Lines of words, and the sums that their rows and forms have at counts.
 
-ghost use Rattle.std.specs.Prelude.{◌≡◌, ◌≢◌, ℕ, ◌+◌, ◌*◌, ◌<◌, ◌≤◌, ◌∷◌, length, take, slice_index, MatchOption};
-ghost use Rattle.mpc_block.specs.Words.{line_at, number_at, numbers_in};
+ghost use Rattle.std.specs.Prelude.{◌≡◌, ◌≢◌, ℕ, ◌+◌, ◌*◌, ◌^◌, ◌<◌, ◌≤◌, ◌↔◌, All, pos, ◌+ℤ◌, ◌*ℤ◌, ◌≤ℤ◌, unsigned_abs, ◌∷◌, length, take, slice_index, IsTrue, MatchOption};
+ghost use Rattle.std.specs.Int.{cast_signed, int_wrap, w64, w128};
+ghost use Rattle.mpc_table.specs.Forms.{weighed};
+ghost use Rattle.mpc_block.specs.declared.lines.Width.TheVariants.{Short, Wide};
+ghost use Rattle.mpc_block.specs.Words.{words_from, number_at, entries, numbers_in};
+ghost use Rattle.mpc_block.specs.Block.{line_size};
+ghost use Rattle.mpc_block.specs.Layouts.{KeepsBefore};
+ghost use Rattle.mpc_block.specs.Sums.{KeepsWithin};
 
 use crate::words::{number_of, words_of};
 
-/// The layout's name and version, the first word of each block: `mpcblk` and 1.
-pub const LAYOUT: u64 = 0x6d70_6362_6c6b_0001;
+/// The layout's name and version, the first word of each block: `mpcblk` and 2.
+pub const LAYOUT: u64 = 0x6d70_6362_6c6b_0002;
 
-/// How many words a line has.
+/// How many words the head has, and a line of an input.
 pub const LINE: usize = 12;
 
-/// The line with this number, from 0, if it is there.
-pub fn line(words: &[u64], r: u128) -> Option<&[u64]>
-    ensures { MatchOption result (length words.now < 12 * r + 12)
-        (λ found. (found.now ≡ line_at words.now r) × (length found.now ≡ 12) × (12 * r + 12 ≤ length words.now)) }
-{
-    if r >= (words.len() / LINE) as u128 {
-        return None;
-    }
-    let start = LINE * r as usize;
-    Some(&words[start..start + LINE])
+/// How many words a number of a row has: one or two.
+#[derive(Clone, Copy, Debug, PartialEq, Eq)]
+pub enum Width {
+    Short,
+    Wide,
 }
 
-/// The number in the words 2 i and 2 i + 1 of a line.
+/// How many words the line of a node has.
+#[inline(always)]
+pub fn line_size(width: Width) -> usize
+    ensures { result ≡ line_size width }
+{
+    match width {
+        Width::Short => 6,
+        Width::Wide => LINE,
+    }
+}
+
+/// So many words from this one on, if they are there.
+#[inline(always)]
+pub fn part(words: &[u64], start: u64, size: usize) -> Option<&[u64]>
+    ensures { MatchOption result (length words.now < start + size)
+        (λ found. (found.now ≡ words_from words.now start size) × (length found.now ≡ size) × (start + size ≤ length words.now)) }
+{
+    if size > words.len() || start > (words.len() - size) as u64 {
+        return None;
+    }
+    let start = start as usize;
+    Some(&words[start..start + size])
+}
+
+/// The number i, of two words, of a line.
+#[inline(always)]
 pub fn number(line: &[u64], i: usize) -> i128
     requires { 2 * i + 1 < length line.now }
-    ensures { result ≡ number_at line.now i }
+    ensures { result ≡ number_at Wide line.now i }
 {
     number_of(line[2 * i], line[2 * i + 1])
 }
 
-/// The five numbers behind a line's first two words.
-pub fn numbers(line: &[u64]) -> [i128; 5]
-    requires { length line.now ≡ 12 }
-    ensures { result ≡ numbers_in line.now }
+/// `sum + entry count`, modulo 2^64.
+#[inline(always)]
+fn short_step(sum: i64, entry: u64, count: u64) -> i64
+    ensures { result ≡ int_wrap w64 (sum +ℤ (cast_signed w64 entry *ℤ pos count)) }
 {
-    [
-        number(line, 1),
-        number(line, 2),
-        number(line, 3),
-        number(line, 4),
-        number(line, 5),
-    ]
+    sum.wrapping_add(entry.cast_signed().wrapping_mul(count.cast_signed()))
 }
 
-/// Writes the number into the words 2 i and 2 i + 1 of a line.
+/// The row's sum at the counts, modulo 2^64.
+#[inline(always)]
+fn short_sum(line: &[u64], counts: &[u64]) -> i64
+    requires size { length line.now ≡ 6 }
+    requires few { length counts.now ≤ 4 }
+    ensures { result ≡ int_wrap w64 (weighed (entries Short line.now) counts.now) }
+{
+    let mut sum = 0;
+    for i in 0..counts.len() {
+        sum = short_step(sum, line[2 + i], counts[i]);
+    }
+    sum
+}
+
+/// `sum + entry count`, modulo 2^128.
+#[inline(always)]
+fn wide_step(sum: i128, entry: i128, count: u64) -> i128
+    ensures { result ≡ int_wrap w128 (sum +ℤ (entry *ℤ pos count)) }
+{
+    sum.wrapping_add(entry.wrapping_mul(i128::from(count)))
+}
+
+/// `start` and the row's sum at the counts, modulo 2^128.
+#[inline(always)]
+pub fn wide_sum(start: i128, line: &[u64], counts: &[u64]) -> i128
+    requires size { length line.now ≡ 12 }
+    requires few { length counts.now ≤ 4 }
+    ensures { result ≡ int_wrap w128 (start +ℤ weighed (entries Wide line.now) counts.now) }
+{
+    let mut sum = start;
+    for i in 0..counts.len() {
+        sum = wide_step(sum, number(line, 2 + i), counts[i]);
+    }
+    sum
+}
+
+/// Whether the row of a split's line holds at the counts, if it keeps within its words at them.
+#[inline(always)]
+pub fn holds(line: &[u64], counts: &[u64], width: Width) -> bool
+    requires size { length line.now ≡ line_size width }
+    requires few { length counts.now ≤ 4 }
+    ensures { KeepsWithin width line.now counts.now
+        → IsTrue result ↔ (weighed (entries width line.now) counts.now ≤ℤ number_at width line.now 1) }
+{
+    match width {
+        Width::Short => short_sum(line, counts) <= line[1].cast_signed(),
+        Width::Wide => wide_sum(0, line, counts) <= number(line, 1),
+    }
+}
+
+/// The word of a number that has one.
+fn word_of(number: &i128) -> u64
+    requires { unsigned_abs number.now < 2 ^ 63 }
+    ensures { cast_signed w64 result ≡ number.now }
+{
+    (*number as i64).cast_unsigned()
+}
+
+/// The line of a split with this first word, the bound of its row and its entries, of one word each.
+pub fn short_line(first: u64, bound: &i128, entries: &[i128]) -> [u64; 6]
+    requires few { length entries.now ≤ 4 }
+    requires bound { unsigned_abs bound.now < 2 ^ 63 }
+    requires small { All (λ z. unsigned_abs z < 2 ^ 63) entries.now }
+    ensures first { slice_index result 0 ≡ first }
+    ensures numbers { take (length entries.now + 1) (numbers_in Short result) ≡ bound.now ∷ entries.now }
+{
+    let mut line = [first, word_of(bound), 0, 0, 0, 0];
+    for i in 0..entries.len() {
+        line[2 + i] = word_of(&entries[i]);
+    }
+    line
+}
+
+/// Writes the number i, of two words, of a line.
 fn put_number(line: &mut [u64], i: usize, number: &i128)
     requires { 2 * i + 1 < length line.old }
-    ensures written { number_at line.new i ≡ number.now }
+    ensures written { number_at Wide line.new i ≡ number.now }
     ensures others { (k : ℕ) → k ≢ 2 * i → k ≢ 2 * i + 1 → slice_index line.new k ≡ slice_index line.old k }
 {
     let (low, high) = words_of(number);
@@ -56,12 +149,12 @@ fn put_number(line: &mut [u64], i: usize, number: &i128)
     line[2 * i + 1] = high;
 }
 
-/// The line that begins with two words, and then has the numbers.
-pub fn line_with(first: u64, second: u64, lead: &i128, others: &[i128]) -> [u64; 12]
+/// The line that begins with two words, and then has the numbers, of two words each.
+pub fn wide_line(first: u64, second: u64, lead: &i128, others: &[i128]) -> [u64; 12]
     requires { length others.now ≤ 4 }
     ensures first { slice_index result 0 ≡ first }
     ensures second { slice_index result 1 ≡ second }
-    ensures numbers { take (length others.now + 1) (numbers_in result) ≡ lead.now ∷ others.now }
+    ensures numbers { take (length others.now + 1) (numbers_in Wide result) ≡ lead.now ∷ others.now }
 {
     let mut line = [0; LINE];
     line[0] = first;
@@ -73,13 +166,11 @@ pub fn line_with(first: u64, second: u64, lead: &i128, others: &[i128]) -> [u64;
     line
 }
 
-/// Writes the line with this number, from 0.
-pub fn put_line(words: &mut [u64], r: usize, line: &[u64])
-    requires inside { 12 * r + 12 ≤ length words.old }
-    requires size { length line.now ≡ 12 }
-    ensures written { line_at words.new r ≡ line.now }
-    ensures others { (q : ℕ) → q ≢ r → line_at words.new q ≡ line_at words.old q }
+/// Writes a line from this word on.
+pub fn put_line(words: &mut [u64], start: usize, line: &[u64])
+    requires { start + length line.now ≤ length words.old }
+    ensures written { words_from words.new start (length line.now) ≡ line.now }
+    ensures kept { KeepsBefore start words.old words.new }
 {
-    let start = LINE * r;
-    words[start..start + LINE].copy_from_slice(line);
+    words[start..start + line.len()].copy_from_slice(line);
 }

@@ -1,23 +1,29 @@
 //! Replies from a block.
 
-ghost use Rattle.std.specs.Prelude.{◌≡◌, ℕ, ◌+◌, ◌*◌, ◌≤◌, ◌↔◌, length, IsTrue, IsSomeAnd};
+ghost use Rattle.std.specs.Prelude.{◌≡◌, ℕ, ◌+◌, ◌*◌, ◌<◌, ◌≤◌, ◌↔◌, pos, ◌<ℤ◌, List, length, IsTrue, IsFalse, IsSomeAnd};
 ghost use Rattle.mpc_rows.specs.declared.laws.Law.{Law};
 ghost use Rattle.mpc_controller.specs.Parts.{Parts};
 ghost use Rattle.mpc_controller.specs.Replies.{IsLawNumbered};
-ghost use Rattle.mpc_block.specs.Words.{line_at};
-ghost use Rattle.mpc_block.specs.Block.{HasHead, IsFormLine, form_place};
+ghost use Rattle.mpc_block.specs.declared.lines.Width.TheVariants.{Wide};
+ghost use Rattle.mpc_block.specs.Words.{words_from, number_at};
+ghost use Rattle.mpc_block.specs.Block.{HasHead, IsFormLine, law_start, width_of};
 ghost use Rattle.mpc_block.specs.Walks.{Serves, FindsLeaf};
-ghost use Rattle.mpc_block.specs.BlockReplies.{IsMoveOf, BeginWith, IsBlockReply, Suits};
+ghost use Rattle.mpc_block.specs.BlockReplies.{IsMoveOf, BeginWith, IsBlockReply, KeepsMoves, Suits};
 
-use crate::lines::{LAYOUT, LINE, line, number, numbers};
-use crate::walks::{leaf_place, sum_within};
+use crate::lines::{LAYOUT, LINE, Width, line_size, number, part, wide_sum};
+use crate::walks::leaf_start;
+use crate::words::words_of;
 use mpc_table::{find_outside, table_laws};
 
-/// A move of one input, as a fraction that may have common divisors.
+/// A move of one input, as a fraction by the words of its numerator and its denominator, each in two's
+/// complement with the low word first. The two may have common divisors.
+#[repr(C)]
 #[derive(Clone, Copy, Debug, PartialEq, Eq)]
 pub struct Move {
-    pub num: i128,
-    pub den: i128,
+    pub num_low: u64,
+    pub num_high: u64,
+    pub den_low: u64,
+    pub den_high: u64,
 }
 
 /// What a block replies to counts. Nodes, laws and coordinates are counted from 1.
@@ -33,7 +39,16 @@ pub enum BlockReply {
     BadBlock,
 }
 
+/// A leaf: its node, from 1, its law, or 0 for none, and the word at which the law's first line begins.
+#[derive(Clone, Copy)]
+pub struct Leaf {
+    pub node: u64,
+    pub law: u64,
+    pub start: u64,
+}
+
 /// Whether the words begin with a block, by its own head, for so many coordinates and inputs.
+#[inline(always)]
 fn has_head(words: &[u64], coordinates: usize, inputs: usize) -> bool
     ensures { IsTrue result ↔ HasHead words.now coordinates inputs }
 {
@@ -46,102 +61,140 @@ fn has_head(words: &[u64], coordinates: usize, inputs: usize) -> bool
         && inputs <= 3
 }
 
-/// The node, from 1, of the leaf to which the walk at these counts comes, and the leaf's law, 0 for none.
-fn leaf(words: &[u64], counts: &[u64]) -> Option<(u64, u64)>
-    requires { length counts.now ≤ 4 }
-    ensures { (parts : Parts) → Serves words.now counts.now parts
-        → IsSomeAnd result (λ found. FindsLeaf words.now counts.now parts found.0 found.1) }
+/// The leaf to which the walk at these counts comes, in a block whose rows have numbers of this width.
+#[inline(always)]
+fn find_leaf(words: &[u64], counts: &[u64], width: Width) -> Option<Leaf>
+    requires few { length counts.now ≤ 4 }
+    requires long { 12 ≤ length words.now }
+    ensures { (parts : Parts) → Serves words.now counts.now parts → width ≡ width_of parts
+        → IsSomeAnd result (λ found. FindsLeaf words.now counts.now parts found.node found.law found.start) }
 {
-    let Some(root) = line(words, 1) else {
+    let turns = words[10].min(words.len() as u64) + 1;
+    let Some(start) = leaf_start(words, counts, turns, width) else {
         return None;
     };
-    if root[0] >= words.len() as u64 {
-        return None;
-    }
-    let Some(place) = leaf_place(words, counts, root[0]) else {
-        return None;
-    };
-    match line(words, 1 + place as u128) {
-        Some(node) if node[0] == 0 => Some((place + 1, node[1])),
-        _ => None,
-    }
-}
-
-/// The number of the line of an input of a law.
-fn form_number(nodes: u64, inputs: u64, law: u64, input: u64) -> u128
-    requires from_first { 1 ≤ law }
-    requires few { inputs ≤ 3 }
-    requires input { input ≤ 3 }
-    ensures { result ≡ form_place nodes inputs law input }
-{
-    1 + nodes as u128 + ((law as u128 - 1) * inputs as u128 + input as u128)
-}
-
-/// The move by the form in the line with this number.
-fn move_by(words: &[u64], r: u128, counts: &[u64]) -> Option<Move>
-    requires { length counts.now ≤ 4 }
-    ensures { (parts : Parts) (of_set : Law) (input : ℕ) → Serves words.now counts.now parts
-        → IsFormLine parts.plant of_set input (line_at words.now r) → 12 * r + 12 ≤ length words.now
-        → IsSomeAnd result (IsMoveOf of_set counts.now input) }
-{
-    let Some(form) = line(words, r) else {
-        return None;
-    };
-    let den = number(form, 0);
-    if den <= 0 {
-        return None;
-    }
-    let k = numbers(form);
-    match sum_within(k[0], &k[1..1 + counts.len()], counts) {
-        Some(num) => Some(Move { num, den }),
+    let size = line_size(width);
+    match part(words, start, size) {
+        Some(node) => Some(Leaf {
+            node: start.saturating_sub(LINE as u64) / size as u64 + 1,
+            law: node[1],
+            start: node[2],
+        }),
         None => None,
     }
 }
 
-/// Writes the first moves of the law, as far as the words have them.
-fn write_moves(words: &[u64], law: u64, counts: &[u64], moves: &mut [Move]) -> bool
-    requires long { 12 ≤ length words.now }
-    requires from_first { 1 ≤ law }
+/// The leaf to which the walk at these counts comes.
+#[inline(always)]
+fn leaf_of(words: &[u64], counts: &[u64]) -> Option<Leaf>
     requires few { length counts.now ≤ 4 }
-    requires inputs { length moves.old ≤ 3 }
-    ensures { (parts : Parts) (of_set : Law) → Serves words.now counts.now parts → length moves.old ≡ parts.plant.p
-        → IsLawNumbered parts.laws law of_set
-        → IsTrue result × BeginWith of_set counts.now parts.plant.p moves.new }
+    requires long { 12 ≤ length words.now }
+    ensures { (parts : Parts) → Serves words.now counts.now parts
+        → IsSomeAnd result (λ found. FindsLeaf words.now counts.now parts found.node found.law found.start) }
 {
-    let inputs = moves.len();
+    if words[11] == 1 {
+        find_leaf(words, counts, Width::Short)
+    } else {
+        find_leaf(words, counts, Width::Wide)
+    }
+}
+
+/// Whether the lines of so many inputs have denominators.
+#[inline(always)]
+fn are_positive(lines: &[u64], inputs: usize) -> bool
+    requires { length lines.now ≡ 12 * inputs }
+    ensures { ((input : ℕ) → input < inputs → pos 0 <ℤ number_at Wide (words_from lines.now (12 * input) 12) 0) → IsTrue result }
+{
     for i in 0..inputs {
-        let r = form_number(words[8], inputs as u64, law, i as u64);
-        match move_by(words, r, counts) {
-            Some(step) => moves[i] = step,
-            None => return false,
+        if number(&lines[LINE * i..LINE * i + LINE], 0) <= 0 {
+            return false;
         }
     }
     true
 }
 
+/// The move by the form in a line.
+#[inline(always)]
+fn move_by(line: &[u64], counts: &[u64]) -> Move
+    requires few { length counts.now ≤ 4 }
+    requires size { length line.now ≡ 12 }
+    ensures { (parts : Parts) (of_set : Law) (input : ℕ) (words : List ℕ) → Serves words counts.now parts
+        → IsFormLine parts.plant of_set input line.now → IsMoveOf of_set counts.now input result }
+{
+    let (num_low, num_high) = words_of(&wide_sum(number(line, 1), line, counts));
+    Move {
+        num_low,
+        num_high,
+        den_low: line[0],
+        den_high: line[1],
+    }
+}
+
+/// Writes the moves by the lines from this word on, if they are there.
+#[inline(always)]
+fn write_moves(words: &[u64], start: u64, counts: &[u64], moves: &mut [Move]) -> bool
+    requires few { length counts.now ≤ 4 }
+    requires inputs { length moves.old ≤ 3 }
+    ensures written { (parts : Parts) (of_set : Law) (law : ℕ) → Serves words.now counts.now parts
+        → length moves.old ≡ parts.plant.p → 1 ≤ law → IsLawNumbered parts.laws law of_set → start ≡ law_start parts law
+        → IsTrue result × BeginWith of_set counts.now parts.plant.p moves.new }
+    ensures kept { IsFalse result → moves.new ≡ moves.old }
+{
+    let inputs = moves.len();
+    let Some(lines) = part(words, start, LINE * inputs) else {
+        return false;
+    };
+    if !are_positive(lines, inputs) {
+        return false;
+    }
+    for i in 0..inputs {
+        moves[i] = move_by(&lines[LINE * i..LINE * i + LINE], counts);
+    }
+    true
+}
+
+/// The reply to counts of a block that has a head for them.
+#[inline(always)]
+fn reply_of(words: &[u64], counts: &[u64], moves: &mut [Move]) -> BlockReply
+    requires { HasHead words.now (length counts.now) (length moves.old) }
+    ensures reply { (parts : Parts) → Suits words.now counts.now (length moves.old) parts
+        → IsBlockReply parts counts.now moves.new result }
+    ensures kept { KeepsMoves moves.old moves.new result }
+{
+    table_laws();
+    if let Some(coordinate) = find_outside(&words[4..4 + counts.len()], counts) {
+        return BlockReply::Outside { coordinate };
+    }
+    match leaf_of(words, counts) {
+        Some(leaf) if leaf.law == 0 => BlockReply::Infeasible { node: leaf.node },
+        Some(leaf) if write_moves(words, leaf.start, counts, moves) => BlockReply::Moves {
+            node: leaf.node,
+            law: leaf.law,
+        },
+        _ => BlockReply::BadBlock,
+    }
+}
+
 /// The reply of a block to counts, one a coordinate; where it is `Moves`, they are written, one for each input.
 ///
 /// Whatever the words are, it takes no memory, waits for nobody, and makes no more turns than the block says
-/// that its tree is high, and than there are words. At `BadBlock` the moves may have been written in part.
+/// that its tree is high, and one, and than there are words. But at `Moves` the moves stay as they were.
 pub fn reply_in(words: &[u64], counts: &[u64], moves: &mut [Move]) -> BlockReply
     ensures reply { (parts : Parts) → Suits words.now counts.now (length moves.old) parts
         → IsBlockReply parts counts.now moves.new result }
     ensures no_head { ¬ HasHead words.now (length counts.now) (length moves.old)
         → result ≡ BlockReply.BadBlock }
+    ensures kept { KeepsMoves moves.old moves.new result }
 {
-    table_laws();
     if !has_head(words, counts.len(), moves.len()) {
         return BlockReply::BadBlock;
     }
-    if let Some(coordinate) = find_outside(&words[4..4 + counts.len()], counts) {
-        return BlockReply::Outside { coordinate };
-    }
-    match leaf(words, counts) {
-        Some((node, 0)) => BlockReply::Infeasible { node },
-        Some((node, law)) if write_moves(words, law, counts, moves) => BlockReply::Moves {
-            node,
-            law,
-        },
-        _ => BlockReply::BadBlock,
+    // (the length is a constant in each call, so that its loops are unrolled)
+    match counts.len() {
+        1 => reply_of(words, &counts[..1], moves),
+        2 => reply_of(words, &counts[..2], moves),
+        3 => reply_of(words, &counts[..3], moves),
+        4 => reply_of(words, &counts[..4], moves),
+        _ => reply_of(words, counts, moves),
     }
 }

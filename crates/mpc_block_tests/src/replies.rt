@@ -1,6 +1,6 @@
 //! A tank whose level must end between -1 and 1: its controller, laid out, and its replies.
 
-use mpc_block::{BlockReply, LayoutError, Move, block_size, lay_out, reply_in};
+use mpc_block::{BlockReply, LayoutError, Move, block_size, lay_out, reply_in, words_of};
 use mpc_file::read_file;
 use std::test::Fail;
 
@@ -49,17 +49,28 @@ cert 3 1 4 1 7 1
 end
 ";
 
+/// No move yet.
+const NONE: Move = Move {
+    num_low: 0,
+    num_high: 0,
+    den_low: 0,
+    den_high: 0,
+};
+
 /// Whether the move is so many halves.
 fn is_halves(step: Move, halves: i128) -> bool {
+    let (num_low, num_high) = words_of(&halves);
     step == Move {
-        num: halves,
-        den: 2,
+        num_low,
+        num_high,
+        den_low: 2,
+        den_high: 0,
     }
 }
 
 /// Whether the block replies to the count as it should.
 fn is_right(words: &[u64], count: u64) -> bool {
-    let mut moves = [Move { num: 0, den: 1 }];
+    let mut moves = [NONE];
     match reply_in(words, &[count], &mut moves) {
         BlockReply::Moves { node, law } => {
             node == 3
@@ -79,21 +90,21 @@ fn replies_from_a_block(rt: HostRuntime) -> Result<(), Fail> {
     let Ok(controller) = read_file(rt.alloc(), TANK) else {
         return Err("file")?;
     };
-    assert_eq!(rt; block_size(&controller), 132);
-    let mut words = [0; 132];
+    assert_eq!(rt; block_size(&controller), 102);
+    let mut words = [0; 102];
     assert!(rt; lay_out(rt.alloc(), &controller, &mut words).is_ok());
     for count in 0..10 {
         assert!(rt; is_right(&words, count), "at {count}");
     }
     for end in 0..words.len() {
-        let mut moves = [Move { num: 0, den: 1 }];
+        let mut moves = [NONE];
         assert_eq!(rt;
             reply_in(&words[..end], &[4], &mut moves),
             BlockReply::BadBlock
         );
         assert_eq!(rt;
             lay_out(rt.alloc(), &controller, &mut words[..end]),
-            Err(LayoutError::NoRoom(132))
+            Err(LayoutError::NoRoom(102))
         );
     }
     Ok(())

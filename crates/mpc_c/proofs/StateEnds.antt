@@ -14,15 +14,15 @@ use Rattle.mpc_controller.specs.Replies.{first_outside}
 use Rattle.mpc_states.specs.StateLines.{IsTooWide}
 use Rattle.mpc_states.specs.StateLaws.{ProgramIsRight}
 use Rattle.mpc_cli.specs.Statuses.{ReadsWith}
-use Rattle.mpc_c.specs.declared.fractions.Fraction.{Fraction}
-use Rattle.mpc_c.specs.Fractions.{move_of, lowest}
+use Rattle.mpc_c.specs.Fractions.{ratio_of, lowest}
+use Rattle.mpc_block.specs.declared.replies.Move.{Move}
 use Rattle.mpc_c.specs.Tables.{IsRightAt}
 use Rattle.mpc_c.specs.States.{IsSolvedBy, IsWideAt}
 
 -- ---- by a program
 module _ (right : ProgramIsRight) (plant : Plant) (file : List ℕ) (read : ReadsAsPlant file plant) (qp : Qp) (condensed : IsCondensed qp plant) (counts : List ℕ)
     (inside : first_outside (limits_of plant) counts ≡ None) (in_box : IsInBox qp.counts (point_of counts)) where
-  pub moved : (z : List ℚ) (moves : List Fraction) (room : ℕ) → IsCheapest qp (point_of counts) z → room ≡ plant.p → map move_of moves ≡ map lowest (take room z) → ReadsWith file (λ p. IsSolvedBy p counts moves)
+  pub moved : (z : List ℚ) (moves : List Move) (room : ℕ) → IsCheapest qp (point_of counts) z → room ≡ plant.p → map ratio_of moves ≡ map lowest (take room z) → ReadsWith file (λ p. IsSolvedBy p counts moves)
   moved z moves room cheapest each written =
       let values = take plant.p z in
       record {

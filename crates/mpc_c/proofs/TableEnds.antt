@@ -47,10 +47,8 @@ module _ (right : AcceptedIsRight) (grid : GridIsInBox) (words counts : List ℕ
       let in_box : IsInBox accepts.qp.counts (point_of counts) = grid parts.plant accepts.qp counts condensed suits.one_each a.0 in
       (a.0, right parts (point_of counts) reply suits.block.controller accepts (within_grid parts.plant.grid (point_of counts) (subst (λ l. IsInBox l (point_of counts)) condensed.counts_are in_box)) a.1)
 
-  pub moved : (found moves : List Move) (node law : ℕ) → IsMovesReply parts counts found node law → moves ≡ found → HasMoves parts counts moves
-  moved found moves node law reply same =
-      let there : IsMovesReply parts counts moves node law = subst (λ m. IsMovesReply parts counts m node law) (sym same) reply in
-      record { node = node; law = law; reply = there; right = right_at _ there.answer }
+  pub moved : (moves : List Move) (node law : ℕ) → IsMovesReply parts counts moves node law → HasMoves parts counts moves
+  moved moves node law reply = record { node = node; law = law; reply = reply; right = right_at _ reply.answer }
 
   pub no_moves : (node : ℕ) → IsNoMoveReply parts counts node → HasNoMoves parts counts
   no_moves node reply = record { node = node; reply = reply; right = right_at infeasible reply.answer }

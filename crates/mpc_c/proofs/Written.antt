@@ -3,22 +3,15 @@ use Rattle.std.proofs.Common.{◌≡◌, ℕ, suc, ◌<◌, ◌≤◌, pos, List
 use Rattle.std.proofs.lemmas.List.{get_or-map, get_or-take, length-map, length-take-le}
 use Rattle.mpc_exact.specs.Rational.{ℚ, int}
 use Rattle.mpc_block.specs.declared.replies.Move.{Move}
-use Rattle.mpc_c.specs.declared.fractions.Fraction.{Fraction}
-use Rattle.mpc_c.specs.Fractions.{move_of, lowest, no_fraction}
+use Rattle.mpc_c.specs.Fractions.{Ratio, ratio_of, lowest, no_move}
 
-same_map : (moves : List Fraction) (found : List Move) (e : Move) → length moves ≡ length found → ((k : ℕ) → k < length moves → move_of (get_or moves k no_fraction) ≡ get_or found k e) → map move_of moves ≡ found
+same_map : (moves : List Move) (found : List Ratio) (e : Ratio) → length moves ≡ length found → ((k : ℕ) → k < length moves → ratio_of (get_or moves k no_move) ≡ get_or found k e) → map ratio_of moves ≡ found
 same_map [] [] e size at = refl
 same_map [] (y ∷ ys) e size at = absurd (omega (arith, size))
 same_map (x ∷ xs) [] e size at = absurd (omega (arith, size))
 same_map (x ∷ xs) (y ∷ ys) e size at = λ i. at 0 (omega arith) i ∷ same_map xs ys e (omega (arith, size)) (λ k l. at (suc k) (omega (arith, l))) i
 
-no_move : Move
-no_move = record { num = pos 0; den = pos 0 }
-
-pub moves_written : (moves : List Fraction) (found : List Move) → length moves ≡ length found → ((k : ℕ) (e : Move) → k < length moves → move_of (get_or moves k no_fraction) ≡ get_or found k e) → map move_of moves ≡ found
-moves_written moves found size at = same_map moves found no_move size (λ k l. at k no_move l)
-
-pub numbers_written : (moves : List Fraction) (numbers : List ℚ) (n : ℕ) → length moves ≡ n → n ≤ length numbers → ((k : ℕ) (e : ℚ) → k < length moves → move_of (get_or moves k no_fraction) ≡ lowest (get_or numbers k e)) → map move_of moves ≡ map lowest (take n numbers)
+pub numbers_written : (moves : List Move) (numbers : List ℚ) (n : ℕ) → length moves ≡ n → n ≤ length numbers → ((k : ℕ) (e : ℚ) → k < length moves → ratio_of (get_or moves k no_move) ≡ lowest (get_or numbers k e)) → map ratio_of moves ≡ map lowest (take n numbers)
 numbers_written moves numbers n size enough at =
     let front = take n numbers in
     let front_size : length front ≡ n = length-take-le n numbers enough in

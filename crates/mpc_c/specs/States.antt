@@ -14,17 +14,17 @@ use Rattle.mpc_controller.specs.Replies.{first_outside}
 use Rattle.mpc_synthesis.specs.Refusals.{Extent, IsNotDefiniteAt, FirstWide}
 use Rattle.mpc_states.specs.StateLines.{IsTooWide}
 use Rattle.mpc_cli.specs.Statuses.{ReadsWith}
-use Rattle.mpc_c.specs.declared.fractions.Fraction.{Fraction}
+use Rattle.mpc_block.specs.declared.replies.Move.{Move}
 use Rattle.mpc_c.specs.declared.states.Solved.{Solved}
 use Rattle.mpc_c.specs.declared.states.Solved.TheVariants.{Moved, Infeasible, Outside, WideState, BadPlant, NotDefinite, TooWide, NoMemory, OtherSizes}
-use Rattle.mpc_c.specs.Fractions.{move_of, lowest}
+use Rattle.mpc_c.specs.Fractions.{ratio_of, lowest}
 use Rattle.mpc_c.specs.Tables.{IsRightAt}
 
 -- the moves are right at the counts, each in lowest terms
-pub record IsSolvedBy (plant : Plant) (counts : List ℕ) (moves : List Fraction) : Type 0 where
+pub record IsSolvedBy (plant : Plant) (counts : List ℕ) (moves : List Move) : Type 0 where
   pub values : List ℚ
   pub right : IsRightAt plant counts (move values)
-  pub in_lowest : map move_of moves ≡ map lowest values
+  pub in_lowest : map ratio_of moves ≡ map lowest values
 
 -- no count is above its limit, and a number of the run at the counts is too wide
 pub record IsWideAt (plant : Plant) (counts : List ℕ) : Type 0 where
@@ -54,7 +54,7 @@ abbrev pub IsNoPlant : List ℕ → Type 0
 IsNoPlant file = (kind : PlantKind) × ((path : List ℕ) × IsFirstFault file kind path)
 
 -- what an answer to a file, counts and room for so many moves says; nothing is said of want of memory
-abbrev pub Says : List ℕ → List ℕ → List Fraction → Solved → Type 0
+abbrev pub Says : List ℕ → List ℕ → List Move → Solved → Type 0
 Says file counts moves Moved = ReadsWith file (λ plant. IsSolvedBy plant counts moves)
 Says file counts moves Infeasible = ReadsWith file (λ plant. IsRightAt plant counts infeasible)
 Says file counts moves Outside = ReadsWith file (λ plant. IsOutsideOf plant counts)

@@ -2,7 +2,7 @@
 //! state without a table.
 #![tactic(auto)]
 
-ghost use Rattle.std.specs.Prelude.{◌≡◌, ◌≢◌, ◌≤◌, ◌⊎◌, ℕ, length, map};
+ghost use Rattle.std.specs.Prelude.{◌≡◌, ◌≢◌, ◌≤◌, ◌⊎◌, ℕ, length};
 ghost use Rattle.mpc_plant.specs.Reply.{infeasible};
 ghost use Rattle.mpc_controller.specs.Parts.{Parts};
 ghost use Rattle.mpc_block.specs.Block.{HasHead};
@@ -13,7 +13,6 @@ ghost use Rattle.mpc_cli.specs.declared.commands.FileCommand.TheVariants.{Check,
 ghost use Rattle.mpc_cli.specs.declared.commands.PlantCommand.TheVariants.{Compile};
 ghost use Rattle.mpc_cli.specs.Commands.{IsWorkerCount};
 ghost use Rattle.mpc_cli.specs.Statuses.{ReadsWith};
-ghost use Rattle.mpc_c.specs.Fractions.{move_of};
 ghost use Rattle.mpc_c.specs.Texts.{CallAnswers};
 ghost use Rattle.mpc_c.specs.Tables.{IsMeasured, IsLoaded, IsTooLarge, IsRefusedWith, IsRightAt, HasMoves, HasNoMoves, IsOutside};
 ghost use Rattle.mpc_c.specs.States.{IsSolvedBy, IsOutsideOf, IsWideAt, IsNoPlant, IsIndefinite, IsWidePlant, HasOtherSizes};
@@ -28,11 +27,10 @@ mod tests;
 mod texts;
 
 use codes::{
-    BAD_BLOCK, BAD_PLANT, DONE, INFEASIBLE, NO_MEMORY, NOT_DEFINITE, OTHER_SIZES, OUTSIDE,
-    TOO_SMALL, TOO_WIDE, USAGE, WIDE_STATE,
+    BAD_PLANT, DONE, INFEASIBLE, NO_MEMORY, NOT_DEFINITE, OTHER_SIZES, OUTSIDE, TOO_SMALL,
+    TOO_WIDE, USAGE, WIDE_STATE,
 };
 use files::{checked, compiled, stayed};
-use fractions::Fraction;
 use mpc_block::{LAYOUT, LayoutError, Move, lay_out};
 use states::{Solved, solve};
 use std::alloc::Global;
@@ -44,9 +42,6 @@ const VERSION: u32 = 1;
 
 /// The most workers that can be asked for.
 const MOST_WORKERS: u32 = 32;
-
-/// The most inputs of a plant.
-const MOST_INPUTS: usize = 3;
 
 /// The version of these calls.
 #[unsafe(no_mangle)]
@@ -160,9 +155,9 @@ pub extern "C" fn mpc_table_load(
 /// Answers 0 and writes the moves; 33 where no sequence of moves is admissible; 34 where a count is above its limit; and 35 where the words
 /// are no block, or none of a controller with so many coordinates and inputs. It takes no memory and waits for nobody.
 #[unsafe(no_mangle)]
-pub extern "C" fn mpc_reply(block: &[u64], counts: &[u64], moves: &mut [Fraction]) -> u32
+pub extern "C" fn mpc_reply(block: &[u64], counts: &[u64], moves: &mut [Move]) -> u32
     ensures moved { result ≡ 0 → (parts : Parts) → Suits block.now counts.now (length moves.old) parts
-        → HasMoves parts counts.now (map move_of moves.new) }
+        → HasMoves parts counts.now moves.new }
     ensures infeasible { result ≡ 33 → (parts : Parts) → Suits block.now counts.now (length moves.old) parts
         → HasNoMoves parts counts.now }
     ensures outside { result ≡ 34 → (parts : Parts) → Suits block.now counts.now (length moves.old) parts
@@ -172,12 +167,7 @@ pub extern "C" fn mpc_reply(block: &[u64], counts: &[u64], moves: &mut [Fraction
     ensures codes { (result ≡ 0) ⊎ ((33 ≤ result) × (result ≤ 35)) }
     ensures kept { result ≢ 0 → moves.new ≡ moves.old }
 {
-    let inputs = moves.len();
-    if inputs > MOST_INPUTS {
-        return BAD_BLOCK;
-    }
-    let mut found = [Move { num: 0, den: 1 }; MOST_INPUTS];
-    reply(block, counts, &mut found[..inputs], moves)
+    reply(block, counts, moves)
 }
 
 /// Replies to a state of a plant by its counts, one for each coordinate, with one move for each input: by one run of the dual active-set
@@ -187,12 +177,7 @@ pub extern "C" fn mpc_reply(block: &[u64], counts: &[u64], moves: &mut [Fraction
 /// where a number of the run needs more than 128 bits; 3, 4 or 5 where the plant is refused, as by the command `solve`; 37 for other
 /// numbers of counts or moves; and 11 without memory.
 #[unsafe(no_mangle)]
-pub extern "C" fn mpc_solve(
-    alloc: Global,
-    plant: &[u8],
-    counts: &[u64],
-    moves: &mut [Fraction],
-) -> u32
+pub extern "C" fn mpc_solve(alloc: Global, plant: &[u8], counts: &[u64], moves: &mut [Move]) -> u32
     ensures moved { result ≡ 0 → ReadsWith plant.now (λ p. IsSolvedBy p counts.now moves.new) }
     ensures infeasible { result ≡ 33 → ReadsWith plant.now (λ p. IsRightAt p counts.now infeasible) }
     ensures outside { result ≡ 34 → ReadsWith plant.now (λ p. IsOutsideOf p counts.now) }

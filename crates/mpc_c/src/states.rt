@@ -13,8 +13,9 @@ ghost use Rattle.mpc_controller.specs.Parts.{limits_of};
 ghost use Rattle.mpc_controller.specs.Replies.{first_outside};
 ghost use Rattle.mpc_c.specs.States.{Says};
 
-use crate::fractions::{Fraction, put_numbers};
+use crate::fractions::put_numbers;
 use mpc_answers::grid_points;
+use mpc_block::Move;
 use mpc_online::{Online, OnlineError, solve_at};
 use mpc_plant::{Plant, PlantError, read_plant};
 use mpc_rows::Qp;
@@ -47,7 +48,7 @@ pub(crate) enum Solved {
 }
 
 /// The answer to counts, none above its limit, by the program of a plant.
-fn solve_program(alloc: Global, program: &Qp, counts: &[u64], moves: &mut [Fraction]) -> Solved
+fn solve_program(alloc: Global, program: &Qp, counts: &[u64], moves: &mut [Move]) -> Solved
     requires definite { IsDefinite program.now.h.rows }
     requires symmetric { IsSymmetric program.now.h.rows }
     requires in_box { IsInBox program.now.counts (point_of counts.now) }
@@ -70,7 +71,7 @@ fn solve_program(alloc: Global, program: &Qp, counts: &[u64], moves: &mut [Fract
 }
 
 /// The answer of a plant to counts.
-fn solve_plant(alloc: Global, plant: &Plant, counts: &[u64], moves: &mut [Fraction]) -> Solved
+fn solve_plant(alloc: Global, plant: &Plant, counts: &[u64], moves: &mut [Move]) -> Solved
     requires counts { length counts.now ≡ plant.now.n }
     requires moves { length moves.old ≡ plant.now.p }
     ensures says { (file : List ℕ) → ReadsAsPlant file plant.now → Says file counts.now moves.new result }
@@ -90,7 +91,7 @@ fn solve_plant(alloc: Global, plant: &Plant, counts: &[u64], moves: &mut [Fracti
 }
 
 /// The answer of a plant's file to counts, one for each coordinate; the moves, one for each input, are written where it is `Moved`.
-pub(crate) fn solve(alloc: Global, file: &[u8], counts: &[u64], moves: &mut [Fraction]) -> Solved
+pub(crate) fn solve(alloc: Global, file: &[u8], counts: &[u64], moves: &mut [Move]) -> Solved
     ensures says { Says file.now counts.now moves.new result }
     ensures kept { result ≢ Solved.Moved → moves.new ≡ moves.old }
 {

@@ -1,18 +1,16 @@
 //! A controller of a file as a table at rest.
 
-ghost use Rattle.std.specs.Prelude.{◌≡◌, ◌≢◌, ◌≤◌, ◌⊎◌, ℕ, length, map, IfOk, IfErr, OnErr};
+ghost use Rattle.std.specs.Prelude.{◌≡◌, ◌≢◌, ◌≤◌, ◌⊎◌, ℕ, length, IfOk, IfErr, OnErr};
 ghost use Rattle.mpc_controller.specs.Parts.{Parts};
 ghost use Rattle.mpc_check.specs.Acceptance.{Accepts};
 ghost use Rattle.mpc_files.specs.FileAnswers.{HasController};
 ghost use Rattle.mpc_block.specs.Block.{HasHead};
 ghost use Rattle.mpc_block.specs.BlockReplies.{Suits};
-ghost use Rattle.mpc_c.specs.Fractions.{move_of};
 ghost use Rattle.mpc_c.specs.Findings.{IsRefusal};
 ghost use Rattle.mpc_c.specs.Tables.{word_of, command_of, IsMeasured, HasMoves, HasNoMoves, IsOutside};
 
 use crate::codes::{BAD_BLOCK, DONE, INFEASIBLE, OUTSIDE};
 use crate::files::{accepted, given};
-use crate::fractions::{Fraction, put_moves};
 use mpc_answers::grid_points;
 use mpc_block::{BlockReply, Move, block_size, reply_in};
 use mpc_check::accepted_replies;
@@ -69,16 +67,11 @@ pub(crate) fn spoil(words: &mut [u64])
     }
 }
 
-/// The code of a block's reply to counts, with its moves written. `found` is room for them.
-pub(crate) fn reply(
-    block: &[u64],
-    counts: &[u64],
-    found: &mut [Move],
-    moves: &mut [Fraction],
-) -> u32
-    requires { length found.old ≡ length moves.old }
+/// The code of a block's reply to counts, with its moves written.
+#[inline(always)]
+pub(crate) fn reply(block: &[u64], counts: &[u64], moves: &mut [Move]) -> u32
     ensures moved { result ≡ 0 → (parts : Parts) → Suits block.now counts.now (length moves.old) parts
-        → HasMoves parts counts.now (map move_of moves.new) }
+        → HasMoves parts counts.now moves.new }
     ensures infeasible { result ≡ 33 → (parts : Parts) → Suits block.now counts.now (length moves.old) parts
         → HasNoMoves parts counts.now }
     ensures outside { result ≡ 34 → (parts : Parts) → Suits block.now counts.now (length moves.old) parts
@@ -90,11 +83,8 @@ pub(crate) fn reply(
 {
     accepted_replies();
     grid_points();
-    match reply_in(block, counts, found) {
-        BlockReply::Moves { .. } => {
-            put_moves(found, moves);
-            DONE
-        }
+    match reply_in(block, counts, moves) {
+        BlockReply::Moves { .. } => DONE,
         BlockReply::Infeasible { .. } => INFEASIBLE,
         BlockReply::Outside { .. } => OUTSIDE,
         BlockReply::BadBlock => BAD_BLOCK,

@@ -1,10 +1,10 @@
 //! Each answer of each call, with values that are worked out by hand.
 
-use crate::fractions::Fraction;
 use crate::{
     mpc_check, mpc_compile, mpc_layout_version, mpc_reply, mpc_safe, mpc_solve, mpc_table_load,
     mpc_table_size, mpc_version,
 };
+use mpc_block::Move;
 use std::alloc::Global;
 use std::test::Fail;
 
@@ -25,7 +25,7 @@ const FINE: &[u8] =
     b"{\"version\":1,\"horizon\":2,\"A\":[[1]],\"B\":[[1]],\"Q\":[[0]],\"R\":[[1]],\"P\":[[1]],\"grid\":[{\"low\":\"1776773089569325/3197919330147103\",\"step\":\"196586919145386413/234374060396012687\",\"count\":1000000}]}";
 
 /// No move.
-const NONE: Fraction = Fraction {
+const NONE: Move = Move {
     num_low: 7,
     num_high: 7,
     den_low: 7,
@@ -49,13 +49,13 @@ fn front(text: &[u8], size: u64) -> &[u8] {
 }
 
 /// A whole number of halves.
-fn halves(number: i64) -> Fraction {
+fn halves(number: i64) -> Move {
     let (num_low, num_high) = if number < 0 {
         (u64::MAX - (-1 - number) as u64, u64::MAX)
     } else {
         (number as u64, 0)
     };
-    Fraction {
+    Move {
         num_low,
         num_high,
         den_low: 2,

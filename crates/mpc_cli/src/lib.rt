@@ -13,7 +13,5 @@ mod plant_answers;
 mod respond;
 mod state_answers;
 
-pub use calls::{run, run_alone};
-pub use laws::{due_statuses, one_status};
 pub use calls::{run, run_alone, waits};
-pub use laws::one_status;
+pub use laws::{due_statuses, one_status};

@@ -1,5 +1,5 @@
 use Rattle.std.proofs.Common.{◌≡◌, ◌+◌, ◌-◌, ◌<◌, length, set, subst, arith}
-use Rattle.mpc_block.specs.Layouts.{AreHeightsFrom, IsHeightBy}
+use Rattle.mpc_block.specs.Heights.{AreHeightsFrom, IsHeightBy}
 use Rattle.mpc_block.proofs.HeightLemmas.{one_lower}
 use Rattle.mpc_block.proofs.heights.heights.Goals as goal
 

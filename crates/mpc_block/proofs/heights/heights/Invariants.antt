@@ -1,5 +1,5 @@
 use Rattle.std.proofs.Common.{◌-◌}
-use Rattle.mpc_block.specs.Layouts.{AreHeightsFrom}
+use Rattle.mpc_block.specs.Heights.{AreHeightsFrom}
 use Rattle.mpc_block.proofs.heights.heights.Given as goal
 
 abbrev pub invariant-loop-i : goal.invariant-loop-i

@@ -1,12 +1,19 @@
-use Rattle.std.proofs.Common.{◌∙◌, arith}
-use Rattle.mpc_block.proofs.LayoutLemmas.{node_more}
+use Rattle.std.proofs.Common.{◌≡◌, Some, subst, arith}
+use Rattle.std.specs.Prelude.{slice_get}
+use Rattle.mpc_block.proofs.WidthLemmas.{can_have_line}
+use Rattle.mpc_block.proofs.LayoutLemmas.{node_more, kept_twice}
 use Rattle.mpc_block.proofs.layouts.write_nodes.Goals as goal
 
-pub loop-k-preserved : goal.loop-k-preserved
-loop-k-preserved c = record {
-  lines = node_more c.args.tree.now c.args.sides.now c.args.heights.now c.loop-k.words c.put_line.new.words c.node_line-line.result c.loop-k.k c.at.result.now c.at.ensures c.node_line-line.ensures c.put_line.ensures.written c.put_line.ensures.others c.loop-k.invariant.lines;
-  head = c.put_line.ensures.others 0 (omega arith) ∙ c.loop-k.invariant.head;
-}
+pub put_node-requires-clause-fits : goal.put_node-requires-clause-fits
+put_node-requires-clause-fits c =
+    let node = c.at-node.result.now in
+    can_have_line c.args.controller.now c.tree-tree.ensures.controller c.args.width c.requires.width c.loop-k.k node (subst (λ t. slice_get t c.loop-k.k ≡ Some node) c.tree-tree.ensures.value c.at-node.ensures)
 
-pub returns-clause-lines : goal.returns-clause-lines
-returns-clause-lines c = λ place node lt. c.loop-k.invariant.lines place node (omega (arith, lt, c.len-k-end.ensures, c.loop-k-test.false))
+pub loop-k-preserved : goal.loop-k-preserved
+loop-k-preserved c =
+    let node = c.at-node.result.now in
+    let at : slice_get c.args.controller.now.tree c.loop-k.k ≡ Some node = subst (λ t. slice_get t c.loop-k.k ≡ Some node) c.tree-tree.ensures.value c.at-node.ensures in
+    record {
+      nodes = node_more c.args.controller.now c.args.sides.now c.loop-k.words c.put_node.new.words c.loop-k.k c.node_start.result c.word_after-word.result c.args.width node at c.requires.width c.node_start.ensures c.word_after-word.ensures c.put_node.ensures.written c.put_node.ensures.kept c.loop-k.invariant.nodes;
+      kept = kept_twice c.args.words.now c.loop-k.words c.put_node.new.words 12 c.node_start.result (omega (arith, c.node_start.ensures)) c.loop-k.invariant.kept c.put_node.ensures.kept;
+    }

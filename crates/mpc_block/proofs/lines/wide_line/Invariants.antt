@@ -1,12 +1,13 @@
 use Rattle.std.proofs.Common.{◌≡◌, ℕ, ◌+◌, ◌<◌, pos, get_or}
 use Rattle.std.specs.Prelude.{slice_index}
+use Rattle.mpc_block.specs.declared.lines.Width.TheVariants.{Wide}
 use Rattle.mpc_block.specs.Words.{number_at}
-use Rattle.mpc_block.proofs.lines.line_with.Given as goal
+use Rattle.mpc_block.proofs.lines.wide_line.Given as goal
 
 abbrev pub invariant-loop-i : goal.invariant-loop-i
 invariant-loop-i l = record {
   first : slice_index l.line 0 ≡ l.first;
   second : slice_index l.line 1 ≡ l.second;
-  lead : number_at l.line 1 ≡ l.lead;
-  others : (k : ℕ) → k < l.i → number_at l.line (2 + k) ≡ get_or l.others k (pos 0);
+  lead : number_at Wide l.line 1 ≡ l.lead;
+  others : (k : ℕ) → k < l.i → number_at Wide l.line (2 + k) ≡ get_or l.others k (pos 0);
 }
