@@ -18,16 +18,16 @@ use Rattle.mpc_cli.proofs.DueCauses.{one_fleet, fleet_done}
 use Rattle.mpc_cli.proofs.CommandLemmas.{one_command}
 use Rattle.mpc_cli.proofs.EndLemmas.{one_of, rank}
 use Rattle.mpc_cli.proofs.PlantEnds.{one_end, end_done}
-use Rattle.mpc_cli.proofs.FileEnds.{one_file, passing_comes}
+use Rattle.mpc_cli.proofs.FileEnds.{LinesBefore, one_file, passing_comes}
 use Rattle.mpc_states.specs.Outcomes.{OneSolveOutcome, OneRobustOutcome}
 use Rattle.mpc_states.specs.StateLaws.{SolveIsComplete, RobustIsComplete}
 use Rattle.mpc_cli.proofs.StateEnds.{one_state, states_done}
 use Rattle.mpc_cli.proofs.DrillEnds.{drill_done}
 
-module _ (same : DueIsWhatComes) (plant : OneReading) (outcome : OneOutcome) (reading : OneFileReading) (file : OneFileOutcome) (safety : OneSafetyDue) (drill : OneDrill) (solve : OneSolveOutcome) (robust : OneRobustOutcome) where
+module _ (lines : LinesBefore) (same : DueIsWhatComes) (plant : OneReading) (outcome : OneOutcome) (reading : OneFileReading) (file : OneFileOutcome) (safety : OneSafetyDue) (drill : OneDrill) (solve : OneSolveOutcome) (robust : OneRobustOutcome) where
   one_comes : (c : Command) (input : List ℕ) (s t : Status) → (CommandReads c → length input ≤ input_limit) → ComesTo c input s → ComesTo c input t → s ≡ t
   one_comes (OfPlant c) input s t l h k = one_of (IsPlantEnd (extent_of c) (plant_text c input)) plant_status s t (one_end plant outcome (extent_of c) (plant_text c input)) h k
-  one_comes (OfFile c) input s t l h k = one_file reading file safety c input s t (l tt) h k
+  one_comes (OfFile c) input s t l h k = one_file lines reading file safety c input s t (l tt) h k
   one_comes (OfStates c) input s t l h k = one_state solve robust c input s t h k
   one_comes (Drill number) input s t l h k = one_of (IsDrillOutcome number) outcome_status s t (drill.outcome number) h k
   one_comes (Fleet workers) input s t l h k = one_fleet workers input s t h k
@@ -88,10 +88,10 @@ pub due_usage : OneStatus → (words : List (List ℕ)) (input : List ℕ) (s : 
 due_usage one words input s h none = one words input s Usage h (no_command none refl)
 
 -- ---- where nothing is refused, Done is due
-module _ (same : DueIsWhatComes) (plant : OneReading) (reading : OneFileReading) (file : OneFileOutcome) (safety : OneSafetyDue) (drill : OneDrill) (solve : SolveIsComplete) (robust : RobustIsComplete) where
+module _ (lines : LinesBefore) (same : DueIsWhatComes) (plant : OneReading) (reading : OneFileReading) (file : OneFileOutcome) (safety : OneSafetyDue) (drill : OneDrill) (solve : SolveIsComplete) (robust : RobustIsComplete) where
   passing_done : (c : Command) (input : List ℕ) (s : Status) → (CommandReads c → length input ≤ input_limit) → RefusesNothing c input → ComesTo c input s → s ≡ Done
   passing_done (OfPlant c) input s l n h = end_done plant (extent_of c) (plant_text c input) s n h
-  passing_done (OfFile c) input s l n h = one_file reading file safety c input s Done (l tt) h (passing_comes c input n)
+  passing_done (OfFile c) input s l n h = one_file lines reading file safety c input s Done (l tt) h (passing_comes c input n)
   passing_done (OfStates c) input s l n h = states_done solve robust c input s n h
   passing_done (Drill number) input s l n h = drill_done drill number s n h
   passing_done (Fleet workers) input s l n h = fleet_done workers input s n h

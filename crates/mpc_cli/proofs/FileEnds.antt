@@ -22,20 +22,23 @@ use Rattle.mpc_theorem.specs.SafeFiles.{IsSafetyDue, OneSafetyDue, AnswerIsDue, 
 use Rattle.mpc_cli.specs.Answers.{input_limit, FilePasses}
 use Rattle.mpc_cli.specs.Outcomes.{IsAnswerTo}
 use Rattle.mpc_cli.proofs.EndLemmas.{one_of, done_text, line_text}
-use Rattle.mpc_cli.proofs.HeadLemmas.{head_short}
+use Rattle.mpc_words.specs.WholeLines.{whole_lines, before_line}
 
 -- ---- one end
 pub small : (n : ℕ) → n ≤ input_limit → n < 2 ^ 64
 small n h = let l : input_limit < 2 ^ 64 = lit< tt in omega (arith, h, l)
 
-head_small : (input : List ℕ) → length input ≤ input_limit → length (head_of input) < 2 ^ 64
-head_small input l = let shorter = head_short input in small (length (head_of input)) (omega (arith, shorter, l))
+abbrev pub LinesBefore : Type 0
+LinesBefore = (word text : List ℕ) → length (before_line word (whole_lines text)) ≤ length text
 
-pub one_file : OneFileReading → OneFileOutcome → OneSafetyDue → (c : FileCommand) (input : List ℕ) (s t : Status) → length input ≤ input_limit → ComesToFile c input s → ComesToFile c input t → s ≡ t
-one_file reading outcome safety Check input s t l h k = one_of (IsFileOutcome input) file_status s t (λ a b. outcome input a b (small (length input) l)) h k
-one_file reading outcome safety Reply input s t l h k = one_of (IsFileReading (head_of input)) reading_status s t (λ a b. reading (head_of input) a b (head_small input l)) h k
-one_file reading outcome safety Convert input s t l h k = one_of (IsFileReading input) reading_status s t (λ a b. reading input a b (small (length input) l)) h k
-one_file reading outcome safety Safe input s t l h k = one_of (IsSafetyDue input) safety_status s t (λ a b. safety input a b (small (length input) l)) h k
+head_small : LinesBefore → (input : List ℕ) → length input ≤ input_limit → length (head_of input) < 2 ^ 64
+head_small lines input l = let shorter = lines (codes "states") input in small (length (head_of input)) (omega (arith, shorter, l))
+
+pub one_file : LinesBefore → OneFileReading → OneFileOutcome → OneSafetyDue → (c : FileCommand) (input : List ℕ) (s t : Status) → length input ≤ input_limit → ComesToFile c input s → ComesToFile c input t → s ≡ t
+one_file lines reading outcome safety Check input s t l h k = one_of (IsFileOutcome input) file_status s t (λ a b. outcome input a b (small (length input) l)) h k
+one_file lines reading outcome safety Reply input s t l h k = one_of (IsFileReading (head_of input)) reading_status s t (λ a b. reading (head_of input) a b (head_small lines input l)) h k
+one_file lines reading outcome safety Convert input s t l h k = one_of (IsFileReading input) reading_status s t (λ a b. reading input a b (small (length input) l)) h k
+one_file lines reading outcome safety Safe input s t l h k = one_of (IsSafetyDue input) safety_status s t (λ a b. safety input a b (small (length input) l)) h k
 
 -- where the file passes, Done comes
 pub passing_comes : (c : FileCommand) (input : List ℕ) → FilePasses c input → ComesToFile c input Done

@@ -1,5 +1,4 @@
 pub mod CommandLemmas
-pub mod HeadLemmas
 pub mod EndLemmas
 pub mod PlantEnds
 pub mod StateEnds

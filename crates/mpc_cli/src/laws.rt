@@ -9,6 +9,7 @@ use mpc_plant::one_reading;
 use mpc_states::{complete_inputs, one_outcome as one_state_outcome};
 use mpc_synthesis::one_outcome;
 use mpc_theorem::{check_refusals, plant_refusals, plant_texts, safe_file_laws, state_refusals};
+use mpc_words::whole_line_laws;
 
 /// A status is due to a command just where an outcome of its library has that status. The call does nothing: its clause is the law.
 pub fn due_statuses()
@@ -36,4 +37,5 @@ pub fn one_status()
     safe_file_laws();
     one_state_outcome();
     complete_inputs();
+    whole_line_laws();
 }
