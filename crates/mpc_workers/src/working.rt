@@ -33,6 +33,9 @@ const MOST_KNOWN: usize = 128;
 /// all come to the level's end together.
 const PARTS: usize = 4;
 
+/// A level with fewer sets than these is narrow: what a look ahead takes would be more than it saves.
+const NARROW: usize = 256;
+
 /// How often a worker lets a moment pass where another's stretch comes next. Together these take about as long as
 /// a stretch.
 const PATIENCE: u32 = 64;
@@ -60,6 +63,10 @@ pub struct Worker<'a> {
     pub program: usize,
     /// How many members that set had, 0 before the first one.
     pub level: u32,
+    /// Up to which place sets are claimed one after the other, without looking ahead.
+    pub plain_until: usize,
+    /// The place behind the last candidate of the level, as the worker last saw it.
+    pub end: usize,
     /// How often it still lets a moment pass where another's stretch comes next.
     pub patience: u32,
     /// The examiner of that program, with the verdicts that it found ahead.
@@ -74,6 +81,8 @@ impl<'a> Worker<'a> {
         Worker {
             program: 0,
             level: 0,
+            plain_until: 0,
+            end: 0,
             patience: PATIENCE,
             examiner: None,
         }
@@ -176,6 +185,25 @@ impl<'a> Worker<'a> {
             Some(examiner) if examiner.count_known() >= MOST_KNOWN => 0,
             _ => MOST_AHEAD,
         }
+    }
+
+    /// Whether to claim without looking ahead: nothing is left of the level, or it is a narrow one, as the
+    /// worker's first look at it shows.
+    fn claims_plainly(&mut self, ahead: &Ahead) -> bool
+        ensures program { self.new.program ≡ self.old.program }
+        ensures examiner { self.new.examiner ≡ self.old.examiner }
+    {
+        let left = ahead.end.saturating_sub(ahead.next);
+        if ahead.end != self.end && left < NARROW {
+            self.plain_until = ahead.end;
+        }
+        self.end = ahead.end;
+        left == 0 || self.plain_until == ahead.end
+    }
+
+    /// Whether the set at this place is one to be claimed at once.
+    fn has_next(&self, next: usize) -> bool {
+        next < self.plain_until || self.first_known() == next
     }
 
     /// Lets a moment pass, unless that was done too often since the worker came to a stretch of its own.
@@ -290,7 +318,7 @@ fn look_further<'a, T: Wait, G: Gate>(
     let known = worker.first_known();
     let most = worker.most_ahead();
     let ahead = turn.look_ahead_as(pool.rt, &mut post.pass, known, parts, most)?;
-    if ahead.next == known || ahead.next == ahead.end {
+    if ahead.next == known || worker.claims_plainly(&ahead) {
         return Ok(false);
     }
     if ahead.sets.is_empty() {
@@ -396,7 +424,7 @@ fn finish_set<'a, T: Wait, G: Gate>(
         }
     };
     pool.gate.between(ticket.worker(), ticket.set().mask());
-    if worker.first_known() == next && !pool.news.is_called_off() {
+    if worker.has_next(next) && !pool.news.is_called_off() {
         let answer = turn.deliver_then_claim_as(pool.rt, &mut post.pass, ticket, judged);
         return taken(turn, qp, number, post, answer);
     }
@@ -602,6 +630,8 @@ fn work_and_wake<'a, T: Wait, G: Gate>(pool: &Pool<'a, T, G>, seat: &mut Seat)
     let Worker {
         program: _,
         level: _,
+        plain_until: _,
+        end: _,
         patience: _,
         examiner,
     } = worker;
