@@ -17,7 +17,7 @@ use Rattle.mpc_bench.specs.declared.phases.Stop.TheVariants.{Asked, BadPlant, No
 use Rattle.mpc_bench.specs.Answers.{IsAnsweredFor}
 
 -- ---- a plant
--- some pivot is the first that isn't positive, and the weight of the moves isn't positive definite
+-- some pivot is the first that isn't positive, and the Hessian of the program isn't positive definite
 abbrev pub IsIndefinite : Plant → Type 0
 IsIndefinite plant = (pivot : ℕ) × IsNotDefiniteAt plant pivot
 

@@ -38,7 +38,7 @@ pub(crate) enum Stop {
     Asked,
     /// The bytes are no plant file.
     BadPlant,
-    /// The weight of the moves isn't positive definite.
+    /// The Hessian of the plant's program isn't positive definite.
     NotDefinite,
     /// A number needs more than 128 bits.
     TooWide,

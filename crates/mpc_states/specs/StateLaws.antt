@@ -28,7 +28,7 @@ abbrev pub RobustProgramIsRight : Type 0
 RobustProgramIsRight = (plant : Plant) (noise : List ℚ) (qp : Qp) (t : List ℚ) (reply : Reply) → IsRobustProgram qp plant noise → IsInBox qp.counts t → IsOf qp plant.p t reply → IsRobustlyRight plant noise t reply
 
 -- ---- inputs of which nothing is refused
--- the head is the file of a plant whose weight of the moves is positive definite, and no number of condensing and pivots is too wide
+-- the head is the file of a plant whose program has a positive definite Hessian, and no number of condensing and pivots is too wide
 pub record NothingRefused (text : List ℕ) (plant : Plant) : Type 0 where
   pub read : ReadsAsPlant text plant
   pub definite : (qp : Qp) → IsCondensed qp plant → IsDefinite qp.h.rows

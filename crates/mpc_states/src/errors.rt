@@ -11,7 +11,7 @@ use mpc_rows::Place;
 /// Why a plant has no convex program.
 #[derive(Clone, Copy, Debug, Drop)]
 pub enum ProgramError {
-    /// The weight of the moves isn't positive definite: this pivot, from 1, is the first that isn't positive.
+    /// The Hessian of the plant's program isn't positive definite: this pivot, from 1, is the first that isn't positive.
     NotDefinite(u32),
     /// This place is the first whose numbers need more than 128 bits.
     TooWide(Place),
@@ -24,7 +24,7 @@ pub enum ProgramError {
 pub enum SolveError {
     /// A check of the plant's file fails: the first one, and its place in the file.
     BadPlant(PlantKind, Path),
-    /// The weight of the moves isn't positive definite: this pivot, from 1, is the first that isn't positive.
+    /// The Hessian of the plant's program isn't positive definite: this pivot, from 1, is the first that isn't positive.
     NotDefinite(u32),
     /// This place is the first whose numbers need more than 128 bits.
     TooWide(Place),
@@ -39,7 +39,7 @@ pub enum RobustError {
     BadPlant(PlantKind, Path),
     /// There is no line `noise`, or what stands behind it isn't one number for each state.
     BadNoise,
-    /// The weight of the moves isn't positive definite: this pivot, from 1, is the first that isn't positive.
+    /// The Hessian of the plant's program isn't positive definite: this pivot, from 1, is the first that isn't positive.
     NotDefinite(u32),
     /// This place is the first whose numbers need more than 128 bits.
     TooWide(Place),

@@ -11,7 +11,7 @@ use mpc_plant::Plant;
 use mpc_rows::{Place, Qp};
 use std::alloc::Global;
 
-/// The plant's quadratic program, whose weight of the moves is positive definite.
+/// The plant's quadratic program, whose Hessian is positive definite.
 pub(crate) fn convex_program(alloc: Global, plant: &Plant) -> Result<Qp, ProgramError>
     ensures program { IfOk result (IsConvexProgram plant.now) }
     ensures cause { IfErr result (IsProgramCause plant.now) }

@@ -12,7 +12,7 @@ use mpc_plant::Plant;
 use mpc_rows::{Place, Qp};
 use std::alloc::Global;
 
-/// The plant's quadratic program, whose weight of the moves is positive definite.
+/// The plant's quadratic program, whose Hessian is positive definite.
 ///
 /// `NotDefinite` names the first pivot that isn't positive, `TooWide` the first place of condensing or the pivots with a number of
 /// more than 128 bits.
