@@ -46,8 +46,8 @@ pub struct Sizes {
 /// once. Behind the phase with the number `last` it ends, and for other numbers with the reply.
 ///
 /// Answers 0 and writes the first move of the cheapest admissible sequence, one number an input; 1 where no sequence is admissible; 2
-/// where a count is above its limit; 3 behind the last phase that was asked for; 4 where the bytes are no plant file; 5 where the weight
-/// of the moves isn't positive definite; 6 where a number is too wide; 7 without memory; 8 where there isn't a count for each state or
+/// where a count is above its limit; 3 behind the last phase that was asked for; 4 where the bytes are no plant file; 5 where the
+/// Hessian of the plant's program isn't positive definite; 6 where a number is too wide; 7 without memory; 8 where there isn't a count for each state or
 /// room for each input. The sizes are written as they become known.
 #[unsafe(no_mangle)]
 pub extern "C" fn mpc_compile_reply(
