@@ -84,21 +84,6 @@ fn find_leaf(words: &[u64], counts: &[u64], width: Width) -> Option<Leaf>
     }
 }
 
-/// The leaf to which the walk at these counts comes.
-#[inline(always)]
-fn leaf_of(words: &[u64], counts: &[u64]) -> Option<Leaf>
-    requires few { length counts.now ≤ 4 }
-    requires long { 12 ≤ length words.now }
-    ensures { (parts : Parts) → Serves words.now counts.now parts
-        → IsSomeAnd result (λ found. FindsLeaf words.now counts.now parts found.node found.law found.start) }
-{
-    if words[11] == 1 {
-        find_leaf(words, counts, Width::Short)
-    } else {
-        find_leaf(words, counts, Width::Wide)
-    }
-}
-
 /// Whether the lines of so many inputs have denominators.
 #[inline(always)]
 fn are_positive(lines: &[u64], inputs: usize) -> bool
@@ -153,11 +138,11 @@ fn write_moves(words: &[u64], start: u64, counts: &[u64], moves: &mut [Move]) ->
     true
 }
 
-/// The reply to counts of a block that has a head for them.
+/// The reply to counts of a block that has a head for them, and whose rows have numbers of this width.
 #[inline(always)]
-fn reply_of(words: &[u64], counts: &[u64], moves: &mut [Move]) -> BlockReply
+fn reply_of(words: &[u64], counts: &[u64], moves: &mut [Move], width: Width) -> BlockReply
     requires { HasHead words.now (length counts.now) (length moves.old) }
-    ensures reply { (parts : Parts) → Suits words.now counts.now (length moves.old) parts
+    ensures reply { (parts : Parts) → Suits words.now counts.now (length moves.old) parts → width ≡ width_of parts
         → IsBlockReply parts counts.now moves.new result }
     ensures kept { KeepsMoves moves.old moves.new result }
 {
@@ -165,13 +150,33 @@ fn reply_of(words: &[u64], counts: &[u64], moves: &mut [Move]) -> BlockReply
     if let Some(coordinate) = find_outside(&words[4..4 + counts.len()], counts) {
         return BlockReply::Outside { coordinate };
     }
-    match leaf_of(words, counts) {
+    match find_leaf(words, counts, width) {
         Some(leaf) if leaf.law == 0 => BlockReply::Infeasible { node: leaf.node },
         Some(leaf) if write_moves(words, leaf.start, counts, moves) => BlockReply::Moves {
             node: leaf.node,
             law: leaf.law,
         },
         _ => BlockReply::BadBlock,
+    }
+}
+
+/// The reply to counts of a block, if it has a head for them.
+#[inline(always)]
+fn headed_reply(words: &[u64], counts: &[u64], moves: &mut [Move]) -> BlockReply
+    ensures reply { (parts : Parts) → Suits words.now counts.now (length moves.old) parts
+        → IsBlockReply parts counts.now moves.new result }
+    ensures no_head { ¬ HasHead words.now (length counts.now) (length moves.old)
+        → result ≡ BlockReply.BadBlock }
+    ensures kept { KeepsMoves moves.old moves.new result }
+{
+    if !has_head(words, counts.len(), moves.len()) {
+        return BlockReply::BadBlock;
+    }
+    // (the width is a constant in each call, so that neither walk pays for the other)
+    if words[11] == 1 {
+        reply_of(words, counts, moves, Width::Short)
+    } else {
+        reply_of(words, counts, moves, Width::Wide)
     }
 }
 
@@ -186,15 +191,12 @@ pub fn reply_in(words: &[u64], counts: &[u64], moves: &mut [Move]) -> BlockReply
         → result ≡ BlockReply.BadBlock }
     ensures kept { KeepsMoves moves.old moves.new result }
 {
-    if !has_head(words, counts.len(), moves.len()) {
-        return BlockReply::BadBlock;
-    }
     // (the length is a constant in each call, so that its loops are unrolled)
     match counts.len() {
-        1 => reply_of(words, &counts[..1], moves),
-        2 => reply_of(words, &counts[..2], moves),
-        3 => reply_of(words, &counts[..3], moves),
-        4 => reply_of(words, &counts[..4], moves),
-        _ => reply_of(words, counts, moves),
+        1 => headed_reply(words, &counts[..1], moves),
+        2 => headed_reply(words, &counts[..2], moves),
+        3 => headed_reply(words, &counts[..3], moves),
+        4 => headed_reply(words, &counts[..4], moves),
+        _ => headed_reply(words, counts, moves),
     }
 }
