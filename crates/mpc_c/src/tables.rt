@@ -68,7 +68,9 @@ pub(crate) fn spoil(words: &mut [u64])
 }
 
 /// The code of a block's reply to counts, with its moves written.
-#[inline(always)]
+///
+/// (It stands by itself, so that it has the addresses in registers of their own, and not as C gives them, which may be null.)
+#[inline(never)]
 pub(crate) fn reply(block: &[u64], counts: &[u64], moves: &mut [Move]) -> u32
     ensures moved { result ≡ 0 → (parts : Parts) → Suits block.now counts.now (length moves.old) parts
         → HasMoves parts counts.now moves.new }
