@@ -235,8 +235,8 @@ def outcome(program, seed, corpus):
 def corpus_of(program):
     """Words and inputs: the examples, their files, and their files with lines of counts."""
     corpus = []
-    for folder in sorted(EXAMPLES.iterdir()):
-        for file in sorted(folder.iterdir()):
+    for file in sorted(EXAMPLES.glob("*/*")):
+        if file.is_file():
             text = file.read_bytes()
             if file.suffix == ".json":
                 corpus += [(words, text) for words in (["compile"], ["trace"], ["trace", "--workers", "2"], ["solve"])]
