@@ -117,7 +117,7 @@ fn move_by(line: &[u64], counts: &[u64]) -> Move
 
 /// Writes the moves by the lines from this word on, if they are there.
 #[inline(always)]
-fn write_moves(words: &[u64], start: u64, counts: &[u64], moves: &mut [Move]) -> bool
+fn write_all(words: &[u64], start: u64, counts: &[u64], moves: &mut [Move]) -> bool
     requires few { length counts.now ≤ 4 }
     requires inputs { length moves.old ≤ 3 }
     ensures written { (parts : Parts) (of_set : Law) (law : ℕ) → Serves words.now counts.now parts
@@ -136,6 +136,22 @@ fn write_moves(words: &[u64], start: u64, counts: &[u64], moves: &mut [Move]) ->
         moves[i] = move_by(&lines[LINE * i..LINE * i + LINE], counts);
     }
     true
+}
+
+/// Writes the moves by the lines from this word on, if they are there. One input is a case of its own, whose reply has no loop.
+#[inline(always)]
+fn write_moves(words: &[u64], start: u64, counts: &[u64], moves: &mut [Move]) -> bool
+    requires few { length counts.now ≤ 4 }
+    requires inputs { length moves.old ≤ 3 }
+    ensures written { (parts : Parts) (of_set : Law) (law : ℕ) → Serves words.now counts.now parts
+        → length moves.old ≡ parts.plant.p → 1 ≤ law → IsLawNumbered parts.laws law of_set → start ≡ law_start parts law
+        → IsTrue result × BeginWith of_set counts.now parts.plant.p moves.new }
+    ensures kept { IsFalse result → moves.new ≡ moves.old }
+{
+    match moves.len() {
+        1 => write_all(words, start, counts, &mut moves[..1]),
+        _ => write_all(words, start, counts, moves),
+    }
 }
 
 /// The reply to counts of a block that has a head for them, and whose rows have numbers of this width.

@@ -5,7 +5,7 @@ use Rattle.mpc_controller.specs.Replies.{IsLawNumbered}
 use Rattle.mpc_block.specs.Block.{law_start}
 use Rattle.mpc_block.specs.Walks.{Serves}
 use Rattle.mpc_block.specs.BlockReplies.{BeginWith}
-use Rattle.mpc_block.proofs.replies.write_moves.Given as goal
+use Rattle.mpc_block.proofs.replies.write_all.Given as goal
 
 abbrev pub invariant-loop-i : goal.invariant-loop-i
 invariant-loop-i l = (parts : Parts) (of_set : Law) (law : ℕ) → Serves l.words l.counts parts → length l.moves ≡ parts.plant.p → 1 ≤ law → IsLawNumbered parts.laws law of_set → l.start ≡ law_start parts law → BeginWith of_set l.counts l.i l.moves
