@@ -20,6 +20,7 @@ use Rattle.mpc_status.specs.declared.late.LatePlace.TheVariants.{Next as NextPla
 use Rattle.mpc_status.specs.declared.status.Status.{Status}
 use Rattle.mpc_status.specs.declared.status.Status.TheVariants.{Done, BadPlant, NotDefinite, TooWide, BadFile, Refused, Unsafe, WideLater, BadNoise, TooManyPlants}
 use Rattle.mpc_theorem.specs.PlantFile.{PlantTextsAreRead}
+use Rattle.mpc_theorem.specs.PlantFaults.{FaultsAreFirst}
 use Rattle.mpc_theorem.specs.Programs.{IsNotDefinite, IsWideProgram}
 use Rattle.mpc_theorem.specs.Stages.{IsWideStage, PlantNotDefinite, PlantTooWide}
 use Rattle.mpc_theorem.specs.CheckLaws.{FindsNotDefinite, FindsTooWide}
@@ -37,21 +38,21 @@ use Rattle.mpc_cli.specs.Causes.{OfItsController, OfChecked, IsDueTo}
 use Rattle.mpc_cli.specs.Statuses.{ReadsWith, PlantEnd, bad_plant, ends, IsPlantEnd, plant_status, outcome_status, finding_status, file_status, reading_status, safety_status, solve_status, robust_status, ComesTo, DueIsWhatComes}
 
 -- ---- of a plant, and of a drill
-module _ (texts : PlantTextsAreRead) (definite : PlantNotDefinite) (wide : PlantTooWide) where
+module _ (texts : PlantTextsAreRead) (faults : FaultsAreFirst) (definite : PlantNotDefinite) (wide : PlantTooWide) where
   plant_wide : (c : PlantCommand) (input : List ℕ) (place : Place) (h : ReadsWith (plant_text c input) (λ plant. IsOutcome (extent_of c) plant (too_wide place)))
       → IsWideProgram h.plant place ⊎ IsWideStage (extent_of c) h.plant place → IsDueTo (OfPlant c) input (TooWide place)
   plant_wide c input place h (inl k) = inl (record { plant = h.plant; text = (texts (plant_text c input) h.plant).0 h.read; so = k })
   plant_wide c input place h (inr k) = inr (record { plant = h.plant; text = (texts (plant_text c input) h.plant).0 h.read; so = k })
 
   plant_due : (c : PlantCommand) (input : List ℕ) (e : PlantEnd) → IsPlantEnd (extent_of c) (plant_text c input) e → IsDueTo (OfPlant c) input (plant_status e)
-  plant_due c input (bad_plant kind path) h = h
+  plant_due c input (bad_plant kind path) h = (faults (plant_text c input) kind path).0 h
   plant_due c input (ends (not_definite pivot)) h = record { plant = h.plant; text = (texts (plant_text c input) h.plant).0 h.read; so = (definite h.plant pivot).0 h.so }
   plant_due c input (ends (too_wide place)) h = plant_wide c input place h ((wide (extent_of c) h.plant place).0 h.so)
   plant_due c input (ends complete) h = record { plant = h.plant; text = (texts (plant_text c input) h.plant).0 h.read; so = h.so }
 
   plant_comes : (c : PlantCommand) (input : List ℕ) (s : Status) → IsDueTo (OfPlant c) input s → ComesTo (OfPlant c) input s
   plant_comes c input Done h = record { outcome = ends complete; came = record { plant = h.plant; read = (texts (plant_text c input) h.plant).1 h.text; so = h.so }; status_is = refl }
-  plant_comes c input (BadPlant kind path) h = record { outcome = bad_plant kind path; came = h; status_is = refl }
+  plant_comes c input (BadPlant kind path) h = record { outcome = bad_plant kind path; came = (faults (plant_text c input) kind path).1 h; status_is = refl }
   plant_comes c input (NotDefinite pivot) h = record { outcome = ends (not_definite pivot); came = record { plant = h.plant; read = (texts (plant_text c input) h.plant).1 h.text; so = (definite h.plant pivot).1 h.so }; status_is = refl }
   plant_comes c input (TooWide place) (inl h) = record { outcome = ends (too_wide place); came = record { plant = h.plant; read = (texts (plant_text c input) h.plant).1 h.text; so = (wide (extent_of c) h.plant place).1 (inl h.so) }; status_is = refl }
   plant_comes c input (TooWide place) (inr h) = record { outcome = ends (too_wide place); came = record { plant = h.plant; read = (texts (plant_text c input) h.plant).1 h.text; so = (wide (extent_of c) h.plant place).1 (inr h.so) }; status_is = refl }
@@ -177,16 +178,16 @@ convert_comes input (WideLater (Tight row)) h = absurd h
 convert_comes input other h = absurd h
 
 -- ---- of recorded states
-module _ (texts : PlantTextsAreRead) (definite : SolvesNotDefinite) (wide : SolvesTooWide) (tight : TightensWideRow) where
+module _ (texts : PlantTextsAreRead) (faults : FaultsAreFirst) (definite : SolvesNotDefinite) (wide : SolvesTooWide) (tight : TightensWideRow) where
   solve_due : (input : List ℕ) (o : SolveOutcome) → IsSolveOutcome input o → IsDueTo (OfStates Solve) input (solve_status o)
-  solve_due input (bad_solve_plant kind path) h = h
+  solve_due input (bad_solve_plant kind path) h = (faults (head_of input) kind path).0 h
   solve_due input (of_program (not_definite_program pivot)) h = record { plant = h.plant; text = (texts (head_of input) h.plant).0 h.read; so = (definite h.plant pivot).0 h.so }
   solve_due input (of_program (too_wide_program place)) h = inl (record { plant = h.plant; text = (texts (head_of input) h.plant).0 h.read; so = (wide h.plant place).0 h.so })
   solve_due input (of_program convex) h = record { plant = h.plant; text = (texts (head_of input) h.plant).0 h.read; so = h.so }
 
   solve_comes : (input : List ℕ) (s : Status) → IsDueTo (OfStates Solve) input s → ComesTo (OfStates Solve) input s
   solve_comes input Done h = record { outcome = of_program convex; came = record { plant = h.plant; read = (texts (head_of input) h.plant).1 h.text; so = h.so }; status_is = refl }
-  solve_comes input (BadPlant kind path) h = record { outcome = bad_solve_plant kind path; came = h; status_is = refl }
+  solve_comes input (BadPlant kind path) h = record { outcome = bad_solve_plant kind path; came = (faults (head_of input) kind path).1 h; status_is = refl }
   solve_comes input (NotDefinite pivot) h = record { outcome = of_program (not_definite_program pivot); came = record { plant = h.plant; read = (texts (head_of input) h.plant).1 h.text; so = (definite h.plant pivot).1 h.so }; status_is = refl }
   solve_comes input (TooWide place) (inl h) = record { outcome = of_program (too_wide_program place); came = record { plant = h.plant; read = (texts (head_of input) h.plant).1 h.text; so = (wide h.plant place).1 h.so }; status_is = refl }
   solve_comes input (TooWide place) (inr h) = absurd h
@@ -195,7 +196,7 @@ module _ (texts : PlantTextsAreRead) (definite : SolvesNotDefinite) (wide : Solv
   solve_comes input other h = absurd h
 
   robust_due : (input : List ℕ) (o : RobustOutcome) → IsRobustOutcome input o → IsDueTo (OfStates Robust) input (robust_status o)
-  robust_due input (bad_robust_plant kind path) h = h
+  robust_due input (bad_robust_plant kind path) h = (faults (plant_part (head_of input)) kind path).0 h
   robust_due input bad_noise h = record { plant = h.plant; text = (texts (plant_part (head_of input)) h.plant).0 h.read; so = h.so }
   robust_due input (of_robust_program (not_definite_program pivot)) h = record { plant = h.plant; text = (texts (plant_part (head_of input)) h.plant).0 h.read; noise = h.so.noise; noise_is = h.so.noise_is; so = (definite h.plant pivot).0 h.so.so.1 }
   robust_due input (of_robust_program (too_wide_program place)) h = inl (record { plant = h.plant; text = (texts (plant_part (head_of input)) h.plant).0 h.read; noise = h.so.noise; noise_is = h.so.noise_is; so = (wide h.plant place).0 h.so.so.1 })
@@ -205,7 +206,7 @@ module _ (texts : PlantTextsAreRead) (definite : SolvesNotDefinite) (wide : Solv
 
   robust_comes : (input : List ℕ) (s : Status) → IsDueTo (OfStates Robust) input s → ComesTo (OfStates Robust) input s
   robust_comes input Done h = record { outcome = robust_replies; came = record { plant = h.plant; read = (texts (plant_part (head_of input)) h.plant).1 h.text; so = record { noise = h.noise; noise_is = h.noise_is; so = record { qp = h.so.qp; is_convex = h.so.is_convex; so = h.so.rows_fit } } }; status_is = refl }
-  robust_comes input (BadPlant kind path) h = record { outcome = bad_robust_plant kind path; came = h; status_is = refl }
+  robust_comes input (BadPlant kind path) h = record { outcome = bad_robust_plant kind path; came = (faults (plant_part (head_of input)) kind path).1 h; status_is = refl }
   robust_comes input BadNoise h = record { outcome = bad_noise; came = record { plant = h.plant; read = (texts (plant_part (head_of input)) h.plant).1 h.text; so = h.so }; status_is = refl }
   robust_comes input (NotDefinite pivot) h =
       record { outcome = of_robust_program (not_definite_program pivot); came = record { plant = h.plant; read = (texts (plant_part (head_of input)) h.plant).1 h.text; so = record { noise = h.noise; noise_is = h.noise_is; so = (λ e. absurd cc, (definite h.plant pivot).1 h.so) } }; status_is = refl }
@@ -240,7 +241,7 @@ pub fleet_done : (workers : ℕ) (input : List ℕ) (s : Status) → length (sec
 fleet_done workers input s few h = one_fleet workers input s Done h few
 
 -- ---- of every command
-module _ (texts : PlantTextsAreRead) (plant_not : PlantNotDefinite) (plant_wide_is : PlantTooWide) (check_not : FindsNotDefinite) (check_wide : FindsTooWide) (state_not : SolvesNotDefinite) (state_wide : SolvesTooWide) (tight : TightensWideRow) where
+module _ (texts : PlantTextsAreRead) (faults : FaultsAreFirst) (plant_not : PlantNotDefinite) (plant_wide_is : PlantTooWide) (check_not : FindsNotDefinite) (check_wide : FindsTooWide) (state_not : SolvesNotDefinite) (state_wide : SolvesTooWide) (tight : TightensWideRow) where
   -- an outcome's status is due
   of_outcome : {O : Type 0} (P : O → Type 0) (status_of : O → Status) (c : Command) (input : List ℕ) (s : Status) → ((o : O) → P o → IsDueTo c input (status_of o)) → ComesOf P status_of s → IsDueTo c input s
   of_outcome P status_of c input s each h = subst (IsDueTo c input) (sym h.status_is) (each h.outcome h.came)
@@ -258,19 +259,19 @@ module _ (texts : PlantTextsAreRead) (plant_not : PlantNotDefinite) (plant_wide_
   file_of_due Safe input s h = safe_comes check_not check_wide input s h
 
   to_due : (c : Command) (input : List ℕ) (s : Status) → ComesTo c input s → IsDueTo c input s
-  to_due (OfPlant c) input s h = of_outcome (IsPlantEnd (extent_of c) (plant_text c input)) plant_status (OfPlant c) input s (plant_due texts plant_not plant_wide_is c input) h
+  to_due (OfPlant c) input s h = of_outcome (IsPlantEnd (extent_of c) (plant_text c input)) plant_status (OfPlant c) input s (plant_due texts faults plant_not plant_wide_is c input) h
   to_due (OfFile c) input s h = file_to_due c input s h
-  to_due (OfStates Solve) input s h = of_outcome (IsSolveOutcome input) solve_status (OfStates Solve) input s (solve_due texts state_not state_wide tight input) h
-  to_due (OfStates Robust) input s h = of_outcome (IsRobustOutcome input) robust_status (OfStates Robust) input s (robust_due texts state_not state_wide tight input) h
-  to_due (Drill number) input s h = of_outcome (IsDrillOutcome number) outcome_status (Drill number) input s (drill_due texts plant_not plant_wide_is number input) h
+  to_due (OfStates Solve) input s h = of_outcome (IsSolveOutcome input) solve_status (OfStates Solve) input s (solve_due texts faults state_not state_wide tight input) h
+  to_due (OfStates Robust) input s h = of_outcome (IsRobustOutcome input) robust_status (OfStates Robust) input s (robust_due texts faults state_not state_wide tight input) h
+  to_due (Drill number) input s h = of_outcome (IsDrillOutcome number) outcome_status (Drill number) input s (drill_due texts faults plant_not plant_wide_is number input) h
   to_due (Fleet workers) input s h = h
 
   of_due : (c : Command) (input : List ℕ) (s : Status) → IsDueTo c input s → ComesTo c input s
-  of_due (OfPlant c) input s h = plant_comes texts plant_not plant_wide_is c input s h
+  of_due (OfPlant c) input s h = plant_comes texts faults plant_not plant_wide_is c input s h
   of_due (OfFile c) input s h = file_of_due c input s h
-  of_due (OfStates Solve) input s h = solve_comes texts state_not state_wide tight input s h
-  of_due (OfStates Robust) input s h = robust_comes texts state_not state_wide tight input s h
-  of_due (Drill number) input s h = drill_comes texts plant_not plant_wide_is number input s h
+  of_due (OfStates Solve) input s h = solve_comes texts faults state_not state_wide tight input s h
+  of_due (OfStates Robust) input s h = robust_comes texts faults state_not state_wide tight input s h
+  of_due (Drill number) input s h = drill_comes texts faults plant_not plant_wide_is number input s h
   of_due (Fleet workers) input s h = h
 
   pub due_is_what_comes : DueIsWhatComes

@@ -7,7 +7,7 @@ use Rattle.mpc_states.specs.StateLaws.{SolveIsComplete, RobustIsComplete}
 use Rattle.mpc_status.specs.declared.status.Status.{Status}
 use Rattle.mpc_status.specs.declared.status.Status.TheVariants.{Done}
 use Rattle.mpc_status.specs.StatusText.{line_of}
-use Rattle.mpc_theorem.specs.PlantOutputs.{SolvedByRun, RobustlySolvedByRun}
+use Rattle.mpc_theorem.specs.PlantOutputs.{SolvedByRun, RobustlySolvedByRun, ExactIsSolved, ExactIsRobustlySolved}
 use Rattle.mpc_cli.specs.declared.commands.Command.TheVariants.{OfStates}
 use Rattle.mpc_cli.specs.declared.commands.StateCommand.{StateCommand}
 use Rattle.mpc_cli.specs.declared.commands.StateCommand.TheVariants.{Solve, Robust}
@@ -31,11 +31,11 @@ states_done solve robust Robust input s n h = h.status_is ∙ ap robust_status (
 pub solve_found : (o : SolveOutcome) (status : Status) (text : List ℕ) → solve_status o ≢ Done → status ≡ solve_status o → text ≡ line_of (solve_status o) → (input : List ℕ) → IsSolveOutcome input o → IsAnswerTo (OfStates Solve) input status text
 solve_found o status text other e f input h = record { due = record { outcome = o; came = h; status_is = e }; text_is = line_text (IsOutput (OfStates Solve) input) (solve_status o) status text other e f }
 
-pub solve_answers : SolvedByRun → (input : List ℕ) (status : Status) (text out : List ℕ) → status ≡ Done → text ≡ out → IsSolveOutcome input (of_program convex) → IsSolvedByRun input out → IsAnswerTo (OfStates Solve) input status text
-solve_answers lines input status text out e f came h = record { due = record { outcome = of_program convex; came = came; status_is = e }; text_is = done_text (IsOutput (OfStates Solve) input) status text out e f (lines input out h, h) }
+pub solve_answers : SolvedByRun → ExactIsSolved → (input : List ℕ) (status : Status) (text out : List ℕ) → status ≡ Done → text ≡ out → IsSolveOutcome input (of_program convex) → IsSolvedByRun input out → IsAnswerTo (OfStates Solve) input status text
+solve_answers exact solved input status text out e f came h = record { due = record { outcome = of_program convex; came = came; status_is = e }; text_is = done_text (IsOutput (OfStates Solve) input) status text out e f (solved input out ((exact input out).0 h), (exact input out).0 h) }
 
 pub robust_found : (o : RobustOutcome) (status : Status) (text : List ℕ) → robust_status o ≢ Done → status ≡ robust_status o → text ≡ line_of (robust_status o) → (input : List ℕ) → IsRobustOutcome input o → IsAnswerTo (OfStates Robust) input status text
 robust_found o status text other e f input h = record { due = record { outcome = o; came = h; status_is = e }; text_is = line_text (IsOutput (OfStates Robust) input) (robust_status o) status text other e f }
 
-pub robust_answers : RobustlySolvedByRun → (input : List ℕ) (status : Status) (text out : List ℕ) → status ≡ Done → text ≡ out → IsRobustOutcome input robust_replies → IsRobustlySolvedByRun input out → IsAnswerTo (OfStates Robust) input status text
-robust_answers lines input status text out e f came h = record { due = record { outcome = robust_replies; came = came; status_is = e }; text_is = done_text (IsOutput (OfStates Robust) input) status text out e f (lines input out h, h) }
+pub robust_answers : RobustlySolvedByRun → ExactIsRobustlySolved → (input : List ℕ) (status : Status) (text out : List ℕ) → status ≡ Done → text ≡ out → IsRobustOutcome input robust_replies → IsRobustlySolvedByRun input out → IsAnswerTo (OfStates Robust) input status text
+robust_answers exact solved input status text out e f came h = record { due = record { outcome = robust_replies; came = came; status_is = e }; text_is = done_text (IsOutput (OfStates Robust) input) status text out e f (solved input out ((exact input out).0 h), (exact input out).0 h) }

@@ -3,7 +3,6 @@ use Rattle.std.specs.Prelude.{◌≡◌, ℕ, ◌<◌, ◌≤◌, ◌⊎◌, Lis
 use Rattle.mpc_exact.specs.Rational.{ℚ}
 use Rattle.mpc_plant.specs.declared.plants.Plant.{Plant}
 use Rattle.mpc_plant.specs.declared.faults.PlantKind.{PlantKind}
-use Rattle.mpc_plant.specs.WholePlant.{IsFirstFault}
 use Rattle.mpc_rows.specs.declared.places.Place.{Place}
 use Rattle.mpc_rows.specs.declared.programs.Qp.{Qp}
 use Rattle.mpc_condense.specs.Causes.{row_count}
@@ -25,6 +24,7 @@ use Rattle.mpc_drill.specs.DrillPlant.{IsDrillPlant}
 use Rattle.mpc_synthesis.specs.Refusals.{controller}
 use Rattle.mpc_synthesis.specs.Outcomes.{IsComplete}
 use Rattle.mpc_theorem.specs.PlantFile.{IsPlantText}
+use Rattle.mpc_theorem.specs.PlantFaults.{IsFaultyText}
 use Rattle.mpc_theorem.specs.Programs.{IsNotDefinite, IsWideProgram}
 use Rattle.mpc_theorem.specs.SafeFiles.{IsSafeFile, IsUnsafeFile}
 use Rattle.mpc_theorem.specs.Stages.{IsWideStage}
@@ -84,11 +84,11 @@ OfThePlant (Drill number) input holds = OfDrill number holds
 OfThePlant (Fleet workers) input holds = ⊥
 
 -- ---- the refusals
--- BadPlant: a check of the plant's file fails, and this is the first one
+-- BadPlant: the plant's file has faults, and this is the first one
 abbrev pub IsBadPlant : Command → List ℕ → PlantKind → List ℕ → Type 0
-IsBadPlant (OfPlant c) input kind path = IsFirstFault (plant_text c input) kind path
-IsBadPlant (OfStates Solve) input kind path = IsFirstFault (head_of input) kind path
-IsBadPlant (OfStates Robust) input kind path = IsFirstFault (plant_part (head_of input)) kind path
+IsBadPlant (OfPlant c) input kind path = IsFaultyText (plant_text c input) kind path
+IsBadPlant (OfStates Solve) input kind path = IsFaultyText (head_of input) kind path
+IsBadPlant (OfStates Robust) input kind path = IsFaultyText (plant_part (head_of input)) kind path
 IsBadPlant other input kind path = ⊥
 
 -- BadNoise: the plant's file is followed by no noise, or by one that isn't spelled

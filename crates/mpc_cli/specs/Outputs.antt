@@ -2,12 +2,10 @@
 use Rattle.std.specs.Prelude.{◌≡◌, ℕ, List, codes}
 use Rattle.mpc_plant.specs.declared.plants.Plant.{Plant}
 use Rattle.mpc_replies.specs.Cut.{head_of, count_lines}
-use Rattle.mpc_states.specs.Inputs.{IsSolved as IsSolvedByRun, IsRobustlySolved as IsRobustlySolvedByRun}
 use Rattle.mpc_sections.specs.Sections.{sections_of}
-use Rattle.mpc_synthesis.specs.Refusals.{controller}
 use Rattle.mpc_status.specs.declared.status.Status.{Status}
 use Rattle.mpc_theorem.specs.PlantFile.{IsPlantText}
-use Rattle.mpc_theorem.specs.PlantOutputs.{IsReplies, IsSolved, IsRobustlySolved}
+use Rattle.mpc_theorem.specs.PlantOutputs.{IsReplies, IsSolved, IsRobustlySolved, IsSolvedExactly, IsRobustlySolvedExactly}
 use Rattle.mpc_theorem.specs.FileOutputs.{IsCompiled, IsRightFile, AreFileReplies, IsConverted}
 use Rattle.mpc_theorem.specs.DrillLines.{IsDrillLine}
 use Rattle.mpc_theorem.specs.Fleets.{AreAnswered}
@@ -21,8 +19,8 @@ use Rattle.mpc_cli.specs.declared.commands.PlantCommand.{PlantCommand}
 use Rattle.mpc_cli.specs.declared.commands.PlantCommand.TheVariants.{Run, Compile, Trace}
 use Rattle.mpc_cli.specs.declared.commands.FileCommand.{FileCommand}
 use Rattle.mpc_cli.specs.declared.commands.FileCommand.TheVariants.{Check, Reply, Convert, Safe}
-use Rattle.mpc_cli.specs.Ends.{ComesOf, IsTextAt}
-use Rattle.mpc_cli.specs.Statuses.{IsPlantEnd, plant_status}
+use Rattle.mpc_cli.specs.Ends.{IsTextAt}
+use Rattle.mpc_cli.specs.Causes.{IsDueTo}
 
 -- the output of `trace`: the input is the file of a plant, and the text is a history in which so many workers claim and deliver its program's
 -- candidates
@@ -48,15 +46,15 @@ IsFileOutput Convert input output = IsConverted input output
 IsFileOutput Safe input output = SpellsRightForever input × (output ≡ codes "safe\n")
 
 -- what `compile` answers to a section by itself: the status that is due, and its text
-pub record IsSectionAnswer (section : List ℕ) (status : Status) (text : List ℕ) : Type 0 where
-  pub due : ComesOf (IsPlantEnd controller section) plant_status status
-  pub text_is : IsTextAt (IsCompiled section) status text
+pub record IsSectionAnswer (IsFile : List ℕ → List ℕ → Type 0) (section : List ℕ) (status : Status) (text : List ℕ) : Type 0 where
+  pub due : IsDueTo (OfPlant (Compile 1)) section status
+  pub text_is : IsTextAt (IsFile section) status text
 
 -- The output of a command on recorded states: one reply line a line of counts, at each grid state the reply that is right, for `robust` under the
 -- disturbances that may come, or `too wide`; and that stands exactly where a number of the state's own run is too wide.
 abbrev pub IsStateOutput : StateCommand → List ℕ → List ℕ → Type 0
-IsStateOutput Solve input output = IsSolved input output × IsSolvedByRun input output
-IsStateOutput Robust input output = IsRobustlySolved input output × IsRobustlySolvedByRun input output
+IsStateOutput Solve input output = IsSolved input output × IsSolvedExactly input output
+IsStateOutput Robust input output = IsRobustlySolved input output × IsRobustlySolvedExactly input output
 
 abbrev pub IsOutput : Command → List ℕ → List ℕ → Type 0
 IsOutput (OfPlant c) input output = IsPlantOutput c input output
@@ -64,4 +62,4 @@ IsOutput (OfFile c) input output = IsFileOutput c input output
 IsOutput (OfStates c) input output = IsStateOutput c input output
 IsOutput (Drill number) input output = IsDrillLine number output
 -- each section is answered as it is by itself, under its heading, whatever the number of workers
-IsOutput (Fleet workers) input output = AreAnswered IsSectionAnswer 1 (sections_of input) output
+IsOutput (Fleet workers) input output = AreAnswered (IsSectionAnswer IsCompiled) 1 (sections_of input) output

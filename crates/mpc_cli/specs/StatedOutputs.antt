@@ -8,17 +8,17 @@ use Rattle.mpc_trace.specs.Histories.{IsTraceOf}
 use Rattle.mpc_drill.specs.declared.drills.Drilled.{Drilled}
 use Rattle.mpc_drill.specs.Drills.{IsDrilled, drill_text}
 use Rattle.mpc_sections.specs.Sections.{sections_of}
-use Rattle.mpc_sections.specs.Alone.{AreAnswered}
 use Rattle.mpc_status.specs.declared.status.Status.{Status}
 use Rattle.mpc_status.specs.declared.status.Status.TheVariants.{Done}
 use Rattle.mpc_theorem.specs.PlantFile.{IsPlantText}
+use Rattle.mpc_theorem.specs.Fleets.{AreAnswered}
 use Rattle.mpc_cli.specs.declared.commands.Command.{Command}
 use Rattle.mpc_cli.specs.declared.commands.Command.TheVariants.{OfPlant, OfFile, OfStates, Drill, Fleet}
 use Rattle.mpc_cli.specs.declared.commands.PlantCommand.TheVariants.{Run, Compile, Trace}
 use Rattle.mpc_cli.specs.declared.commands.FileCommand.TheVariants.{Safe}
-use Rattle.mpc_cli.specs.Commands.{Names, Reads}
+use Rattle.mpc_cli.specs.Commands.{Names}
 use Rattle.mpc_cli.specs.ControllerFiles.{IsFileOf}
-use Rattle.mpc_cli.specs.Outputs.{IsPlantOutput, IsOutput}
+use Rattle.mpc_cli.specs.Outputs.{IsPlantOutput, IsSectionAnswer, IsOutput}
 use Rattle.mpc_cli.specs.Answers.{IsWhole}
 
 -- the input is the file of a plant, and the text is the one file of its controller
@@ -48,7 +48,7 @@ IsStated (OfFile Safe) input output = IsAnswerToFile input SafeAnswer
 IsStated (OfFile other) input output = Unit {0}
 IsStated (OfStates c) input output = Unit {0}
 IsStated (Drill number) input output = IsTheDrillLine number output
-IsStated (Fleet workers) input output = AreAnswered 1 (sections_of input) output
+IsStated (Fleet workers) input output = AreAnswered (IsSectionAnswer IsTheFile) 1 (sections_of input) output
 
 -- what the text means, and which it is
 abbrev pub IsStatedOutput : Command → List ℕ → List ℕ → Type 0
@@ -59,7 +59,7 @@ IsStatedOutput (OfFile Safe) input output = IsOutput (OfFile Safe) input output 
 IsStatedOutput (OfFile other) input output = IsOutput (OfFile other) input output
 IsStatedOutput (OfStates c) input output = IsOutput (OfStates c) input output
 IsStatedOutput (Drill number) input output = IsOutput (Drill number) input output × IsTheDrillLine number output
-IsStatedOutput (Fleet workers) input output = IsOutput (Fleet workers) input output × AreAnswered 1 (sections_of input) output
+IsStatedOutput (Fleet workers) input output = IsOutput (Fleet workers) input output × AreAnswered (IsSectionAnswer IsTheFile) 1 (sections_of input) output
 
 -- of the command that the words name
 pub record IsStatedOf (words : List (List ℕ)) (input output : List ℕ) : Type 0 where

@@ -6,9 +6,12 @@ ghost use Rattle.mpc_cli.specs.Commands.{IsWorkerCount};
 ghost use Rattle.mpc_cli.specs.Outcomes.{IsAnswerTo};
 
 use crate::answer::{Answer, output, refusal};
+use crate::laws::due_statuses;
+use mpc_file::one_text;
 use mpc_frac::NoMemory;
 use mpc_sections::{SectionsError, fleet};
 use mpc_status::Status;
+use mpc_synthesis::{one_controller, right_controller};
 use mpc_theorem::{file_output_laws, plant_texts};
 use mpc_workers::Gate;
 use std::alloc::Global;
@@ -26,8 +29,12 @@ pub fn fleet_answer<T: Threads + Wait + Sync, G: Gate + Sync>(
     requires { IsWorkerCount workers }
     ensures { IfOk result (λ answer. IsAnswerTo (Fleet workers) input.now answer.status answer.text.items) }
 {
+    due_statuses();
     plant_texts();
     file_output_laws();
+    right_controller();
+    one_controller();
+    one_text();
     match fleet(rt, alloc, input, workers, gate) {
         Ok(text) => Ok(output(text)),
         Err(SectionsError::TooManyPlants) => refusal(alloc, Status::TooManyPlants),

@@ -20,6 +20,7 @@ mod PlantObjects
 mod PlantWeights
 mod PlantRows
 mod PlantTexts
+mod PlantFaults
 mod OutputLines
 pub mod RightControllers
 pub mod HistoryLemmas

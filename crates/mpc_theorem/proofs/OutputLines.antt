@@ -14,7 +14,7 @@ use Rattle.mpc_replies.specs.ReplyLines.{IsRightLine, IsReplyTo, IsReplyLine, Ar
 use Rattle.mpc_tight.specs.Disturbed.{IsRobustlyRight}
 use Rattle.mpc_states.specs.StateLines.{IsStateLine, has_reply, has_wide_run, AreStateLines, IsLineTo as IsStateLineTo, no_lines as no_state_lines, one_more as one_more_state}
 use Rattle.mpc_theorem.specs.PlantFile.{PlantTextsAreRead, OnePlantText}
-use Rattle.mpc_theorem.specs.PlantOutputs.{IsReplyAt, IsReplyOrWide, IsLineTo, IsLine, AreLines, no_lines, one_more, RepliesAreLines, OneReplies, SolvedByRun, RobustlySolvedByRun}
+use Rattle.mpc_theorem.specs.PlantOutputs.{IsReplyAt, IsReplyOrWide, IsLineTo, IsLine, AreLines, no_lines, one_more, RepliesAreLines, OneReplies, SolvedByRun, RobustlySolvedByRun, ExactIsSolved, ExactIsRobustlySolved}
 
 -- ---- in both cases of a value that may be missing
 both_cases : {A : Type 0} (o : Option A) (No NoOther : Type 0) (Yes Other : A → Type 0) → (No → NoOther) → ((x : A) → Yes x → Other x) → MatchOption o No Yes → MatchOption o NoOther Other
@@ -74,33 +74,79 @@ one_replies one right input text other h k =
     same_text right k.plant _ text other (subst (λ plant. AreLines (IsReplyAt (IsRight plant)) plant _ text) (one _ h.plant k.plant h.read k.read) h.lines) k.lines
 
 -- ---- of a program that is solved at each state
-module _ (Right : List ℚ → Reply → Type 0) (plant : Plant) (qp : Qp) (counts_are : qp.counts ≡ limits_of plant) where
+module _ (Right : List ℚ → Reply → Type 0) (plant : Plant) (qp : Qp) where
   reply_or_wide : (t : List ℚ) (text : List ℕ) → IsStateLine Right qp t text → IsReplyOrWide Right t text
   reply_or_wide t _ (has_reply reply fits right) = inl (record { reply = reply; right = right; written = refl })
   reply_or_wide t _ (has_wide_run wide) = inr refl
 
-  line_to_counts : (counts text : List ℕ) → IsStateLineTo Right qp counts text → IsLineTo (IsReplyOrWide Right) plant counts text
-  line_to_counts counts text h =
-      both_cases (first_outside (limits_of plant) counts) (IsStateLine Right qp (point_of counts) text) _ _ _ (reply_or_wide (point_of counts) text) (λ i. same)
-      (subst (λ limits. MatchOption (first_outside limits counts) (IsStateLine Right qp (point_of counts) text) (λ i. text ≡ answer_text (outside i) ++ codes "\n")) counts_are h)
+  right_or_wide : (lines : List (List ℕ)) (text : List ℕ) → AreLines (IsStateLine Right qp) plant lines text → AreLines (IsReplyOrWide Right) plant lines text
+  right_or_wide _ _ no_lines = no_lines
+  right_or_wide _ _ (one_more line text lines texts is rest) =
+      one_more line text lines texts
+      (both_cases (counts_of line plant.n) _ _ (λ counts. IsLineTo (IsStateLine Right qp) plant counts text) (λ counts. IsLineTo (IsReplyOrWide Right) plant counts text) same
+      (λ counts. both_cases (first_outside (limits_of plant) counts) (IsStateLine Right qp (point_of counts) text) _ _ _ (reply_or_wide (point_of counts) text) (λ i. same)) is)
+      (right_or_wide lines texts rest)
 
-  pub lines_of_states : (lines : List (List ℕ)) (text : List ℕ) → AreStateLines Right qp plant.n lines text → AreLines (IsReplyOrWide Right) plant lines text
-  lines_of_states _ _ no_state_lines = no_lines
-  lines_of_states _ _ (one_more_state line text lines texts is rest) =
-      one_more line text lines texts (both_cases (counts_of line plant.n) _ _ (λ counts. IsStateLineTo Right qp counts text) (λ counts. IsLineTo (IsReplyOrWide Right) plant counts text) same (λ counts. line_to_counts counts text) is) (lines_of_states lines texts rest)
+  module _ (counts_are : qp.counts ≡ limits_of plant) where
+    abbrev AtLimits : List ℕ → List ℕ → List ℕ → Type 0
+    AtLimits counts text limits = MatchOption (first_outside limits counts) (IsStateLine Right qp (point_of counts) text) (λ i. text ≡ answer_text (outside i) ++ codes "\n")
+
+    lines_of_states : (lines : List (List ℕ)) (text : List ℕ) → AreStateLines Right qp plant.n lines text → AreLines (IsStateLine Right qp) plant lines text
+    lines_of_states _ _ no_state_lines = no_lines
+    lines_of_states _ _ (one_more_state line text lines texts is rest) =
+        one_more line text lines texts (both_cases (counts_of line plant.n) _ _ (λ counts. IsStateLineTo Right qp counts text) (λ counts. IsLineTo (IsStateLine Right qp) plant counts text) same (λ counts. subst (AtLimits counts text) counts_are) is) (lines_of_states lines texts rest)
+
+    states_of_lines : (lines : List (List ℕ)) (text : List ℕ) → AreLines (IsStateLine Right qp) plant lines text → AreStateLines Right qp plant.n lines text
+    states_of_lines _ _ no_lines = no_state_lines
+    states_of_lines _ _ (one_more line text lines texts is rest) =
+        one_more_state line text lines texts (both_cases (counts_of line plant.n) _ _ (λ counts. IsLineTo (IsStateLine Right qp) plant counts text) (λ counts. IsStateLineTo Right qp counts text) same (λ counts. subst (AtLimits counts text) (sym counts_are)) is) (states_of_lines lines texts rest)
 
 pub solved_by_run : PlantTextsAreRead → SolvedByRun
-solved_by_run texts input output s = record {
-  plant = s.plant;
-  read = (texts _ s.plant).0 s.read;
-  lines = lines_of_states (IsRight s.plant) s.plant s.solved.qp s.solved.is_convex.has_program.condensed.counts_are _ output s.solved.state_lines;
-}
+solved_by_run texts input output = (
+  λ s. record {
+    plant = s.plant;
+    read = (texts _ s.plant).0 s.read;
+    qp = s.solved.qp;
+    is_convex = s.solved.is_convex;
+    lines = lines_of_states (IsRight s.plant) s.plant s.solved.qp s.solved.is_convex.has_program.condensed.counts_are _ output s.solved.state_lines;
+  },
+  λ s. record {
+    plant = s.plant;
+    read = (texts _ s.plant).1 s.read;
+    solved = record { qp = s.qp; is_convex = s.is_convex; state_lines = states_of_lines (IsRight s.plant) s.plant s.qp s.is_convex.has_program.condensed.counts_are _ output s.lines };
+  },
+)
 
 pub robustly_solved_by_run : PlantTextsAreRead → RobustlySolvedByRun
-robustly_solved_by_run texts input output s = record {
-  plant = s.plant;
-  read = (texts _ s.plant).0 s.read;
-  noise = s.solved.noise;
-  noise_is = s.solved.noise_is;
-  lines = lines_of_states (IsRobustlyRight s.plant s.solved.noise) s.plant s.solved.tight (s.solved.is_tightened.same_counts ∙ s.solved.is_convex.has_program.condensed.counts_are) _ output s.solved.state_lines;
-}
+robustly_solved_by_run texts input output = (
+  λ s. record {
+    plant = s.plant;
+    read = (texts _ s.plant).0 s.read;
+    noise = s.solved.noise;
+    noise_is = s.solved.noise_is;
+    qp = s.solved.qp;
+    is_convex = s.solved.is_convex;
+    tight = s.solved.tight;
+    is_tightened = s.solved.is_tightened;
+    lines = lines_of_states (IsRobustlyRight s.plant s.solved.noise) s.plant s.solved.tight (s.solved.is_tightened.same_counts ∙ s.solved.is_convex.has_program.condensed.counts_are) _ output s.solved.state_lines;
+  },
+  λ s. record {
+    plant = s.plant;
+    read = (texts _ s.plant).1 s.read;
+    solved = record {
+      noise = s.noise;
+      noise_is = s.noise_is;
+      qp = s.qp;
+      is_convex = s.is_convex;
+      tight = s.tight;
+      is_tightened = s.is_tightened;
+      state_lines = states_of_lines (IsRobustlyRight s.plant s.noise) s.plant s.tight (s.is_tightened.same_counts ∙ s.is_convex.has_program.condensed.counts_are) _ output s.lines;
+    };
+  },
+)
+
+pub exact_is_solved : ExactIsSolved
+exact_is_solved input output s = record { plant = s.plant; read = s.read; lines = right_or_wide (IsRight s.plant) s.plant s.qp _ output s.lines }
+
+pub exact_is_robustly_solved : ExactIsRobustlySolved
+exact_is_robustly_solved input output s = record { plant = s.plant; read = s.read; noise = s.noise; noise_is = s.noise_is; lines = right_or_wide (IsRobustlyRight s.plant s.noise) s.plant s.tight _ output s.lines }

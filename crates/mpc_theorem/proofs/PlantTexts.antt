@@ -117,7 +117,7 @@ module _ (d : Data) where
   keys_read : (x : ⊤) → keys_of d ≡ Ok x → HasOnly plant_keys d
   keys_read x e = let keys = both_ok (object_with plant_keys d) _ x e in only_read plant_keys d keys.0 keys.1
 
-  dynamics_read : (steps : ℕ) (m : Dynamics) → dynamics_of steps d ≡ Ok m → At (codes "A") d (IsMatrix m.a) × At (codes "B") d (IsMatrix m.b)
+  pub dynamics_read : (steps : ℕ) (m : Dynamics) → dynamics_of steps d ≡ Ok m → At (codes "A") d (IsMatrix m.a) × At (codes "B") d (IsMatrix m.b)
   dynamics_read steps m e =
       let a = both_ok (at_key (codes "A") square_of d) _ m e in
       let b = both_ok (at_key (codes "B") (side_of (length a.0)) d) _ m a.2 in

@@ -8,6 +8,7 @@ pub mod StateLaws
 pub mod Stages
 pub mod PlantNumbers
 pub mod PlantFile
+pub mod PlantFaults
 pub mod PlantOutputs
 pub mod FileOutputs
 pub mod DrillLines

@@ -10,8 +10,12 @@ use Rattle.mpc_table.specs.TableReplies.{answer_text}
 use Rattle.mpc_replies.specs.CountLine.{counts_of}
 use Rattle.mpc_replies.specs.Cut.{head_of, count_lines}
 use Rattle.mpc_replies.specs.ReplyLines.{AreReplies}
+use Rattle.mpc_rows.specs.declared.programs.Qp.{Qp}
 use Rattle.mpc_tight.specs.Disturbed.{IsRobustlyRight}
+use Rattle.mpc_tight.specs.Tightened.{IsTightened}
 use Rattle.mpc_states.specs.NoisePart.{plant_part, noise_in}
+use Rattle.mpc_states.specs.Convex.{IsConvexProgram}
+use Rattle.mpc_states.specs.StateLines.{IsStateLine}
 use Rattle.mpc_states.specs.Inputs.{IsSolved as IsSolvedByRun, IsRobustlySolved as IsRobustlySolvedByRun}
 use Rattle.mpc_theorem.specs.PlantFile.{IsPlantText}
 
@@ -60,17 +64,44 @@ pub record IsRobustlySolved (input output : List ℕ) : Type 0 where
   pub noise_is : noise_in input plant.n ≡ Some noise
   pub lines : AreLines (IsReplyOrWide (IsRobustlyRight plant noise)) plant (count_lines input) output
 
+-- ---- where `too wide` stands: exactly where a number of the state's online run is too wide
+-- the run is that of the plant's convex program
+pub record IsSolvedExactly (input output : List ℕ) : Type 0 where
+  pub plant : Plant
+  pub read : IsPlantText (head_of input) plant
+  pub qp : Qp
+  pub is_convex : IsConvexProgram plant qp
+  pub lines : AreLines (IsStateLine (IsRight plant) qp) plant (count_lines input) output
+
+-- or of that program, tightened
+pub record IsRobustlySolvedExactly (input output : List ℕ) : Type 0 where
+  pub plant : Plant
+  pub read : IsPlantText (plant_part (head_of input)) plant
+  pub noise : List ℚ
+  pub noise_is : noise_in input plant.n ≡ Some noise
+  pub qp : Qp
+  pub is_convex : IsConvexProgram plant qp
+  pub tight : Qp
+  pub is_tightened : IsTightened plant noise qp tight
+  pub lines : AreLines (IsStateLine (IsRobustlyRight plant noise) tight) plant (count_lines input) output
+
 -- ---- laws
 -- the replies of a plant are these lines
 abbrev pub RepliesAreLines : Type 0
 RepliesAreLines = (plant : Plant) (lines : List (List ℕ)) (text : List ℕ) → AreReplies plant lines text ↔ AreLines (IsReplyAt (IsRight plant)) plant lines text
 
--- what the stated run solves is answered rightly, or it is too wide
+-- what the stated run solves is such lines, which are right or too wide
 abbrev pub SolvedByRun : Type 0
-SolvedByRun = (input output : List ℕ) → IsSolvedByRun input output → IsSolved input output
+SolvedByRun = (input output : List ℕ) → IsSolvedByRun input output ↔ IsSolvedExactly input output
 
 abbrev pub RobustlySolvedByRun : Type 0
-RobustlySolvedByRun = (input output : List ℕ) → IsRobustlySolvedByRun input output → IsRobustlySolved input output
+RobustlySolvedByRun = (input output : List ℕ) → IsRobustlySolvedByRun input output ↔ IsRobustlySolvedExactly input output
+
+abbrev pub ExactIsSolved : Type 0
+ExactIsSolved = (input output : List ℕ) → IsSolvedExactly input output → IsSolved input output
+
+abbrev pub ExactIsRobustlySolved : Type 0
+ExactIsRobustlySolved = (input output : List ℕ) → IsRobustlySolvedExactly input output → IsRobustlySolved input output
 
 -- `run` has one output
 abbrev pub OneReplies : Type 0

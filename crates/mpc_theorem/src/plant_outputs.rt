@@ -1,6 +1,6 @@
 //! What `run`, `solve` and `robust` write.
 
-ghost use Rattle.mpc_theorem.specs.PlantOutputs.{RepliesAreLines, OneReplies, SolvedByRun, RobustlySolvedByRun};
+ghost use Rattle.mpc_theorem.specs.PlantOutputs.{RepliesAreLines, OneReplies, SolvedByRun, RobustlySolvedByRun, ExactIsSolved, ExactIsRobustlySolved};
 
 use crate::plant_files::plant_texts;
 use mpc_plant::one_right_reply;
@@ -13,6 +13,8 @@ pub fn output_lines()
     ensures one { OneReplies }
     ensures solve { SolvedByRun }
     ensures robust { RobustlySolvedByRun }
+    ensures solved { ExactIsSolved }
+    ensures robustly_solved { ExactIsRobustlySolved }
 {
     plant_texts();
     one_right_reply();

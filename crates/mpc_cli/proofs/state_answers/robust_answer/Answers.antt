@@ -8,7 +8,7 @@ use Rattle.mpc_cli.proofs.StateEnds.{robust_answers}
 use Rattle.mpc_cli.proofs.state_answers.robust_answer.Goals as goal
 
 pub returns-in-Ok : goal.returns-in-Ok
-returns-in-Ok c = robust_answers c.output_lines.ensures.robust c.args.input.now c.output.result.status c.output.result.text.items c.in-Ok.text.items c.output.ensures.status c.output.ensures.text c.in-Ok.ensures.replied c.in-Ok.ensures.text
+returns-in-Ok c = robust_answers c.output_lines.ensures.robust c.output_lines.ensures.robustly_solved c.args.input.now c.output.result.status c.output.result.text.items c.in-Ok.text.items c.output.ensures.status c.output.ensures.text c.in-Ok.ensures.replied c.in-Ok.ensures.text
 
 pub returns-in-Err : goal.returns-in-Err
 returns-in-Err c =
