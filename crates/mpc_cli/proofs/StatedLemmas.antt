@@ -28,11 +28,8 @@ meaning_of (Fleet workers) input output h = h.0
 pub stated_of : (c : Command) (input output : List ℕ) → IsStatedOutput c input output → IsStated c input output
 stated_of (OfPlant Run) input output h = tt
 stated_of (OfPlant (Compile workers)) input output h = h.1
-stated_of (OfPlant (Trace workers)) input output h = h.1
-stated_of (OfFile Check) input output h = tt
-stated_of (OfFile Reply) input output h = tt
-stated_of (OfFile Convert) input output h = tt
-stated_of (OfFile Safe) input output h = h.1
+stated_of (OfPlant (Trace workers)) input output h = tt
+stated_of (OfFile c) input output h = tt
 stated_of (OfStates c) input output h = tt
 stated_of (Drill number) input output h = h.1
 stated_of (Fleet workers) input output h = h.1

