@@ -20,6 +20,8 @@ mod PlantObjects
 mod PlantWeights
 mod PlantRows
 mod PlantTexts
+mod FaultChecks
+mod FaultRows
 mod PlantFaults
 mod OutputLines
 pub mod RightControllers

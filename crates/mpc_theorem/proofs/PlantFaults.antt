@@ -1,281 +1,33 @@
 -- The first check of a plant's file that fails is the first of the file's faults.
-use Rattle.std.proofs.Common.{◌≡◌, ℕ, zero, suc, ◌+◌, ◌-◌, ◌*◌, ◌≤◌, ◌==◌, ◌&&◌, inl, inr, ℤ, pos, negsuc, unsigned_abs, List, [], ◌∷◌, ◌++◌, length, drop, codes, decimal, Bool, true, false, not, cond, nat_le, Option, Some, None, option_map, Ok, Err, refl, sym, ◌∙◌, ap, subst, arith, is_eq, append_assoc, append-nil}
-use Rattle.std.specs.Prelude.{⊤, is_some, is_none, unwrap_or, slice_get}
-use Rattle.std.specs.List.{flat_map, list_any, range_with_len}
+use Rattle.std.proofs.Common.{◌≡◌, ℕ, ◌+◌, ◌*◌, ◌≤◌, ◌&&◌, inl, inr, ℤ, pos, unsigned_abs, List, [], ◌∷◌, ◌++◌, length, drop, codes, Bool, true, false, cond, nat_le, Option, Some, None, option_map, Ok, Err, refl, sym, ◌∙◌, ap, subst, arith, append_assoc, append-nil}
+use Rattle.std.specs.Prelude.{⊤, is_none, unwrap_or, slice_get}
+use Rattle.std.specs.List.{flat_map}
 use Rattle.std.specs.Ordering.{int_eq}
-use Rattle.std.specs.Str.{bytes_eq}
 use Rattle.std.proofs.lemmas.Bool.Decides.{nat_tests}
-use Rattle.std.proofs.lemmas.Int.{ints}
-use Rattle.serde_json.specs.Data.{Data, null, boolean, number, string, array, object, Items, no_items, item, Members, no_members, member}
+use Rattle.serde_json.specs.Data.{Data, null, Items, no_items}
 use Rattle.serde_json.specs.Events.{items_len}
-use Rattle.serde_json.specs.Find.{get, get_item, at, as_array, as_object}
-use Rattle.mpc_exact.specs.Rational.{ℚ, int, lt_ℚ, cmp_ℚ}
-use Rattle.mpc_space.specs.Vector.{coordinate, cell}
+use Rattle.serde_json.specs.Find.{get, get_item, at, as_array}
+use Rattle.mpc_exact.specs.Rational.{ℚ}
 use Rattle.mpc_plant.specs.declared.faults.PlantKind.{PlantKind}
-use Rattle.mpc_plant.specs.declared.faults.PlantKind.TheVariants.{NotJson, NotObject, UnknownKey, MissingKey, WrongKind, BadNumber, WrongShape, OverLimit, NotSymmetric, StepNotPositive, BadVersion}
-use Rattle.mpc_plant.specs.Keys.{plant_keys, axis_keys, row_keys, terminal_row_keys, first_other}
-use Rattle.mpc_plant.specs.Limits.{greatest_count, row_limit}
+use Rattle.mpc_plant.specs.declared.faults.PlantKind.TheVariants.{NotJson, UnknownKey, WrongKind, OverLimit, BadVersion}
+use Rattle.mpc_plant.specs.Keys.{plant_keys}
+use Rattle.mpc_plant.specs.Limits.{row_limit}
 use Rattle.mpc_plant.specs.Numbers.{integer_of}
-use Rattle.mpc_plant.specs.Decimals.{text_number}
-use Rattle.mpc_plant.specs.Faults.{Checked, ◌>>=◌, fault, ensure, under as under_key, each as each_checked}
-use Rattle.mpc_plant.specs.CheckedEntries.{found, number_of as checked_number, whole_number_of, list_of, list_of_length, list_between, is_from_to, vector_of, rows_of}
-use Rattle.mpc_plant.specs.CheckedObjects.{object_with, unknown, shown_key, present, needed}
-use Rattle.mpc_plant.specs.CheckedRows.{vector_or_zeros, stage_row_of, terminal_row_of, step_of, count_in, count_of, axis_of}
-use Rattle.mpc_plant.specs.CheckedPlant.{at_key as checked_at, keys_of, is_version, version_of, absent, plain_of, allowed_by, edition_of, steps_in, horizon_of, first_passing, differs, difference_at, difference_from, no_difference, weight_of, square_of, width_of, first_width, side_of, width, list_or_none, grid_of}
+use Rattle.mpc_plant.specs.Faults.{Checked, ◌>>=◌, ensure, under as under_key, each as each_checked}
+use Rattle.mpc_plant.specs.CheckedEntries.{whole_number_of, list_of, list_between, is_from_to, rows_of}
+use Rattle.mpc_plant.specs.CheckedObjects.{object_with, present, needed}
+use Rattle.mpc_plant.specs.CheckedRows.{vector_or_zeros, stage_row_of, terminal_row_of, axis_of}
+use Rattle.mpc_plant.specs.CheckedPlant.{at_key as checked_at, keys_of, is_version, version_of, absent, plain_of, allowed_by, edition_of, steps_in, horizon_of, weight_of, square_of, side_of, width, list_or_none, grid_of}
 use Rattle.mpc_plant.specs.WholePlant.{Parts, Dynamics, head_of, dynamics_of, weights_of, targets_of, few_rows, row_lists_of, parts_of, IsFirstFault}
 use Rattle.mpc_theorem.specs.PlantFile.{IsInteger, IsMatrix, IsVector, IsNumber, AreItems, no_more, one_more, At, keys_of_two}
-use Rattle.mpc_theorem.specs.PlantFaults.{Fault, unless, under, at_key, each, value_at, item_at, items_of, size, each_item, number as value, integer, other_keys, object_faults, number_faults, is_between, integer_faults, list_faults, short_list_faults, sized_faults, vector_faults, rows_faults, square_faults, side_faults, mirror_faults, weight_faults, row_faults, terminal_row_faults, step_faults, axis_faults, steps, states, inputs, edition_faults, needed_keys, head_faults, dynamics_faults, weights_faults, targets_faults, many_rows, row_lists_faults, grid_faults, plant_faults, IsFaultyText, no_json, faulty, FaultsAreFirst}
+use Rattle.mpc_theorem.specs.PlantFaults.{Fault, unless, under, at_key, each, value_at, item_at, items_of, size, each_item, integer, object_faults, integer_faults, list_faults, vector_faults, square_faults, side_faults, weight_faults, row_faults, terminal_row_faults, axis_faults, steps, states, inputs, edition_faults, needed_keys, head_faults, dynamics_faults, weights_faults, targets_faults, many_rows, row_lists_faults, grid_faults, plant_faults, IsFaultyText, no_json, faulty, FaultsAreFirst}
 use Rattle.mpc_theorem.proofs.PlantChecks.{ok_is, both_ok, inner_ok, test_ok, found_some, list_array, items_length}
-use Rattle.mpc_theorem.proofs.PlantValues.{sized_read, between_read, rows_read, square_read, side_read, number_ok}
+use Rattle.mpc_theorem.proofs.PlantValues.{rows_read, square_read, side_read}
 use Rattle.mpc_theorem.proofs.PlantObjects.{needed_read, at_read}
 use Rattle.mpc_theorem.proofs.PlantRows.{horizon_read}
 use Rattle.mpc_theorem.proofs.PlantTexts.{dynamics_read}
-
--- no faults where a check gives a value, and else its fault is the first
-abbrev Agrees : {A : Type 0} → Checked A → List Fault → Type 0
-Agrees (Ok x) faults = faults ≡ []
-Agrees (Err told) faults = (more : List Fault) × (faults ≡ told ∷ more)
-
--- ---- how checks are joined
-then_agrees : {A B : Type 0} (r : Checked A) (f : A → Checked B) (first second : List Fault) → Agrees r first → ((x : A) → r ≡ Ok x → Agrees (f x) second) → Agrees (r >>= f) (first ++ second)
-then_agrees (Ok x) f first second h k = subst (λ l. Agrees (f x) (l ++ second)) (sym h) (k x refl)
-then_agrees (Err told) f first second h k = (h.0 ++ second, ap (λ l. l ++ second) h.1)
-
-value_agrees : {A B : Type 0} (r : Checked A) (g : A → B) (faults : List Fault) → Agrees r faults → Agrees (r >>= λ x. Ok (g x)) faults
-value_agrees (Ok x) g faults h = h
-value_agrees (Err told) g faults h = h
-
-under_agrees : {A : Type 0} (segment : List ℕ) (r : Checked A) (faults : List Fault) → Agrees r faults → Agrees (under_key segment r) (under segment faults)
-under_agrees segment (Ok x) faults h = ap (under segment) h
-under_agrees segment (Err told) faults h = (under segment h.0, ap (under segment) h.1)
-
-ensure_agrees : (test : Bool) (kind : PlantKind) → Agrees (ensure test kind) (unless test kind)
-ensure_agrees true kind = refl
-ensure_agrees false kind = ([], refl)
-
-found_agrees : {A : Type 0} (kind : PlantKind) (o : Option A) → Agrees (found kind o) (unless (is_some o) kind)
-found_agrees kind None = ([], refl)
-found_agrees kind (Some x) = refl
-
-each_agrees : {A : Type 0} (check : Data → Checked A) (faults : Data → List Fault) → ((d : Data) → Agrees (check d) (faults d)) → (i : ℕ) (items : Items) → Agrees (each_checked check i items) (each faults i items)
-each_agrees check faults h i no_items = refl
-each_agrees check faults h i (item d ds) =
-    then_agrees (under_key (decimal i) (check d)) (λ x. each_checked check (suc i) ds >>= λ xs. Ok (x ∷ xs)) (under (decimal i) (faults d)) (each faults (suc i) ds)
-    (under_agrees (decimal i) (check d) (faults d) (h d)) (λ x _. value_agrees (each_checked check (suc i) ds) (λ xs. x ∷ xs) (each faults (suc i) ds) (each_agrees check faults h (suc i) ds))
-
--- what stands at a key
-found_at : {A : Type 0} (key : List ℕ) (check : Data → Checked A) (faults : Data → List Fault) (d v : Data) → get key d ≡ Some v → Agrees (check v) (faults v) → Agrees (under_key key (check v)) (at_key key faults d)
-found_at key check faults d v e h = subst (λ o. Agrees (under_key key (check v)) (under key (unwrap_or (option_map faults o) []))) (sym e) (under_agrees key (check v) (faults v) h)
-
--- ---- objects
-module _ (keys : List (List ℕ)) where
-  members_agree : (ms : Members) → Agrees (unknown (first_other keys ms)) (other_keys keys ms)
-  members_agree no_members = refl
-  members_agree (member key d ms) = by (list_any (bytes_eq key) keys) (members_agree ms)
-    where
-      by : (b : Bool) → Agrees (unknown (first_other keys ms)) (other_keys keys ms) → Agrees (unknown (cond b (first_other keys ms) (Some key))) (under (shown_key key) (unless b UnknownKey) ++ other_keys keys ms)
-      by true later = later
-      by false later = (other_keys keys ms, refl)
-
-  object_agrees : (o : Option Members) → Agrees (found NotObject o >>= λ ms. unknown (first_other keys ms)) (unless (is_some o) NotObject ++ other_keys keys (unwrap_or o no_members))
-  object_agrees None = ([], refl)
-  object_agrees (Some ms) = members_agree ms
-
--- a key that is needed
-abbrev lacks : Data → List ℕ → List Fault
-lacks d key = under key (unless (is_some (get key d)) MissingKey)
-
-present_agrees : (key : List ℕ) (o : Option Data) → Agrees (present key o) (under key (unless (is_some o) MissingKey))
-present_agrees key None = ([], refl)
-present_agrees key (Some d) = refl
-
-module _ {B : Type 0} (d : Data) where
-  object_then : (keys wanted : List (List ℕ)) (f : ⊤ → Checked B) (faults : List Fault) → ((x : ⊤) → Agrees (f x) (flat_map (lacks d) wanted ++ faults)) → Agrees (object_with keys d >>= f) (object_faults keys wanted d ++ faults)
-  object_then keys wanted f faults h =
-      let kind : List Fault = unless (is_some (as_object d)) NotObject in
-      let others : List Fault = other_keys keys (unwrap_or (as_object d) no_members) in
-      let missing : List Fault = flat_map (lacks d) wanted in
-      subst (Agrees (object_with keys d >>= f)) (sym (ap (λ l. l ++ faults) (sym (append_assoc kind others missing)) ∙ append_assoc (kind ++ others) missing faults))
-      (then_agrees (object_with keys d) f (kind ++ others) (missing ++ faults) (object_agrees keys (as_object d)) (λ x _. h x))
-
-  needed_then : (key : List ℕ) (keys : List (List ℕ)) (f : Data → Checked B) (faults : List Fault) → ((v : Data) → get key d ≡ Some v → Agrees (f v) (flat_map (lacks d) keys ++ faults)) → Agrees (needed key d >>= f) (flat_map (lacks d) (key ∷ keys) ++ faults)
-  needed_then key keys f faults h =
-      subst (Agrees (needed key d >>= f)) (sym (append_assoc (lacks d key) (flat_map (lacks d) keys) faults))
-      (then_agrees (needed key d) f (lacks d key) (flat_map (lacks d) keys ++ faults) (present_agrees key (get key d)) (λ v e. h v (needed_read key d v e)))
-
--- ---- numbers
-number_agrees : (d : Data) → Agrees (checked_number d) (number_faults d)
-number_agrees null = ((BadNumber, []) ∷ [], refl)
-number_agrees (boolean b) = ((BadNumber, []) ∷ [], refl)
-number_agrees (number n) = found_agrees BadNumber (option_map int (integer_of (number n)))
-number_agrees (string text) = found_agrees BadNumber (text_number text)
-number_agrees (array ds) = ((BadNumber, []) ∷ [], refl)
-number_agrees (object ms) = ((BadNumber, []) ∷ [], refl)
-
--- the number that was read
-number_is : (x : ℚ) (d : Data) → checked_number d ≡ Ok x → value d ≡ x
-number_is x null e = absurd cc
-number_is x (boolean b) e = absurd cc
-number_is x (number n) e = ap (λ o. unwrap_or o (int (pos 0))) (found_some BadNumber (option_map int (integer_of (number n))) x e)
-number_is x (string text) e = ap (λ o. unwrap_or o (int (pos 0))) (found_some BadNumber (text_number text) x e)
-number_is x (array ds) e = absurd cc
-number_is x (object ms) e = absurd cc
-
--- a test with the value that it lets pass
-passed_agrees : {A : Type 0} (x : A) (test : Bool) (kind : PlantKind) → Agrees (cond test (Ok x) (fault kind)) (unless test kind)
-passed_agrees x true kind = refl
-passed_agrees x false kind = ([], refl)
-
-integer_agrees : {A : Type 0} (low high : ℕ) (kind : PlantKind) (check : ℤ → Checked A) → ((z : ℤ) → Agrees (check z) (unless (is_between low high z) kind)) → (o : Option ℤ)
-    → Agrees (found WrongKind o >>= check) (unless (is_some o) WrongKind ++ unless (is_between low high (unwrap_or o (pos 0))) kind)
-integer_agrees low high kind check h None = (unless (is_between low high (pos 0)) kind, refl)
-integer_agrees low high kind check h (Some z) = h z
-
-steps_agree : (z : ℤ) → Agrees (steps_in z) (unless (is_between 1 6 z) OverLimit)
-steps_agree (pos k) = passed_agrees k (is_from_to 1 6 k) OverLimit
-steps_agree (negsuc k) = ([], refl)
-
-count_agrees : (z : ℤ) → Agrees (count_in z) (unless (is_between 0 greatest_count z) OverLimit)
-count_agrees (pos k) = subst (λ b. Agrees (count_in (pos k)) (unless b OverLimit)) (same k) (passed_agrees k (nat_le k greatest_count) OverLimit)
-  where
-    same : (k : ℕ) → nat_le k greatest_count ≡ is_from_to 0 greatest_count k
-    same k = let all : nat_le 0 k ≡ true = grind (arith, nat_tests) in ap (λ b. b && nat_le k greatest_count) (sym all)
-count_agrees (negsuc k) = ([], refl)
-
-version_test : (z : ℤ) → is_version z ≡ is_between 1 2 z
-version_test (pos k) = grind (arith, ints, nat_tests)
-version_test (negsuc k) = grind (arith, ints)
-
-version_agrees : (z : ℤ) → Agrees (ensure (is_version z) BadVersion >>= λ _. Ok z) (unless (is_between 1 2 z) BadVersion)
-version_agrees z = value_agrees (ensure (is_version z) BadVersion) (λ _. z) (unless (is_between 1 2 z) BadVersion) (subst (λ b. Agrees (ensure (is_version z) BadVersion) (unless b BadVersion)) (version_test z) (ensure_agrees (is_version z) BadVersion))
-
--- ---- lists
-tested_agrees : (test : ℕ → Bool) (kind : PlantKind) (o : Option Items) → Agrees (found WrongKind o >>= λ items. ensure (test (items_len items)) kind >>= λ _. Ok items) (unless (is_some o) WrongKind ++ unless (test (items_len (unwrap_or o no_items))) kind)
-tested_agrees test kind None = (unless (test 0) kind, refl)
-tested_agrees test kind (Some items) = value_agrees (ensure (test (items_len items)) kind) (λ _. items) (unless (test (items_len items)) kind) (ensure_agrees (test (items_len items)) kind)
-
-sized_agrees : (n : ℕ) (d : Data) → Agrees (list_of_length n d) (sized_faults n d)
-sized_agrees n d = tested_agrees (λ k. k == n) WrongShape (as_array d)
-
-short_agrees : (low high : ℕ) (d : Data) → Agrees (list_between low high d) (short_list_faults low high d)
-short_agrees low high d = tested_agrees (is_from_to low high) OverLimit (as_array d)
-
--- a list of so many items, each of which is checked
-items_agree : {A : Type 0} (n : ℕ) (check : Data → Checked A) (faults : Data → List Fault) → ((d : Data) → Agrees (check d) (faults d)) → (d : Data) → Agrees (list_of_length n d >>= λ items. each_checked check 0 items) (sized_faults n d ++ each_item faults d)
-items_agree n check faults h d =
-    then_agrees (list_of_length n d) (λ items. each_checked check 0 items) (sized_faults n d) (each_item faults d) (sized_agrees n d)
-    (λ items e. subst (λ l. Agrees (each_checked check 0 items) (each faults 0 l)) (sym (ap items_of (sized_read n d items e).0)) (each_agrees check faults h 0 items))
-
-vector_agrees : (n : ℕ) (d : Data) → Agrees (vector_of n d) (vector_faults n d)
-vector_agrees n d = items_agree n checked_number number_faults number_agrees d
-
-rows_agree : (columns : ℕ) (d : Data) (items : Items) → d ≡ array items → Agrees (rows_of columns items) (rows_faults columns d)
-rows_agree columns d items e = subst (λ l. Agrees (rows_of columns items) (each (vector_faults columns) 0 l)) (sym (ap items_of e)) (each_agrees (vector_of columns) (vector_faults columns) (vector_agrees columns) 0 items)
-
-square_agrees : (d : Data) → Agrees (square_of d) (square_faults d)
-square_agrees d =
-    then_agrees (list_between 1 4 d) (λ items. rows_of (items_len items) items) (short_list_faults 1 4 d) (rows_faults (size d) d) (short_agrees 1 4 d)
-    (λ items e. let is : d ≡ array items = between_read 1 4 d items e in subst (λ n. Agrees (rows_of (items_len items) items) (rows_faults n d)) (sym (ap size is)) (rows_agree (items_len items) d items is))
-
-width_agrees : (d : Data) → Agrees (width_of d) (short_list_faults 1 3 d)
-width_agrees d = value_agrees (list_between 1 3 d) items_len (short_list_faults 1 3 d) (short_agrees 1 3 d)
-
-width_is : (d : Data) (columns : ℕ) → width_of d ≡ Ok columns → columns ≡ size d
-width_is d columns e =
-    let one = both_ok (list_between 1 3 d) (λ entries. Ok (items_len entries)) columns e in
-    sym (ok_is (items_len one.0) columns one.2) ∙ sym (ap size (between_read 1 3 d one.0 one.1))
-
-side_agrees : (n : ℕ) (d : Data) → 1 ≤ n → Agrees (side_of n d) (side_faults n d)
-side_agrees n d some =
-    then_agrees (list_of_length n d) (λ items. first_width items >>= λ columns. rows_of columns items) (sized_faults n d) _ (sized_agrees n d)
-    (λ items e. by items (sized_read n d items e).0 (sized_read n d items e).1)
-  where
-    by : (items : Items) → d ≡ array items → items_len items ≡ n → Agrees (first_width items >>= λ columns. rows_of columns items) (under (decimal 0) (short_list_faults 1 3 (item_at 0 d)) ++ rows_faults (size (item_at 0 d)) d)
-    by no_items is len = absurd (omega (arith, len, some))
-    by (item v vs) is len =
-        let first : v ≡ item_at 0 d = sym (ap (item_at 0) is) in
-        subst (λ w. Agrees (under_key (decimal 0) (width_of v) >>= λ columns. rows_of columns (item v vs)) (under (decimal 0) (short_list_faults 1 3 w) ++ rows_faults (size w) d)) first
-        (then_agrees (under_key (decimal 0) (width_of v)) (λ columns. rows_of columns (item v vs)) (under (decimal 0) (short_list_faults 1 3 v)) (rows_faults (size v) d) (under_agrees (decimal 0) (width_of v) (short_list_faults 1 3 v) (width_agrees v))
-        (λ columns e. subst (λ k. Agrees (rows_of columns (item v vs)) (rows_faults k d)) (width_is v columns (inner_ok (decimal 0) (width_of v) columns e)) (rows_agree columns d (item v vs) is)))
-
--- ---- weights
--- the number at a place of what was read
-entry_is : (xs : List ℚ) (items : Items) (i : ℕ) → AreItems IsNumber xs items → value (unwrap_or (get_item i items) null) ≡ coordinate xs i
-entry_is _ _ i no_more = refl
-entry_is _ _ zero (one_more x d xs ds is rest) = number_is x d (number_ok x d is)
-entry_is _ _ (suc i) (one_more x d xs ds is rest) = entry_is xs ds i rest
-
-row_entry_is : (rows : List (List ℚ)) (items : Items) (i j : ℕ) → AreItems IsVector rows items → value (item_at j (unwrap_or (get_item i items) null)) ≡ cell rows i j
-row_entry_is _ _ i j no_more = refl
-row_entry_is _ _ zero j (one_more x d xs ds is rest) = ap (λ v. value (item_at j v)) is.list ∙ entry_is x is.items j is.are
-row_entry_is _ _ (suc i) j (one_more x d xs ds is rest) = row_entry_is xs ds i j rest
-
-module _ (m : List (List ℚ)) (d : Data) (reads : (i j : ℕ) → value (item_at j (item_at i d)) ≡ cell m i j) where
-  abbrev mirrored : ℕ → ℕ → Bool
-  mirrored i j = is_eq (cmp_ℚ (cell m i j) (cell m j i))
-
-  mirror_is : (i j : ℕ) → mirror_faults d i j ≡ under (decimal i) (under (decimal j) (unless (mirrored i j) NotSymmetric))
-  mirror_is i j = λ k. under (decimal i) (under (decimal j) (unless (is_eq (cmp_ℚ (reads i j k) (reads j i k))) NotSymmetric))
-
-  row_agrees_from : (i from count : ℕ) (rest : Option (ℕ × ℕ)) (faults : List Fault) → Agrees (no_difference rest) faults
-      → Agrees (no_difference (difference_at i (first_passing (differs m i) from count) rest)) (flat_map (mirror_faults d i) (range_with_len from count) ++ faults)
-  row_agrees_from i from zero rest faults h = h
-  row_agrees_from i from (suc count) rest faults h =
-      subst (λ l. Agrees (no_difference (difference_at i (first_passing (differs m i) from (suc count)) rest)) ((l ++ flat_map (mirror_faults d i) (range_with_len (from + 1) count)) ++ faults)) (sym (mirror_is i from))
-      (by (mirrored i from) (subst (λ next. Agrees (no_difference (difference_at i (first_passing (differs m i) (suc from) count) rest)) (flat_map (mirror_faults d i) (range_with_len next count) ++ faults)) (omega arith) (row_agrees_from i (suc from) count rest faults h)))
-    where
-      later : List Fault
-      later = flat_map (mirror_faults d i) (range_with_len (from + 1) count)
-
-      by : (b : Bool) → Agrees (no_difference (difference_at i (first_passing (differs m i) (suc from) count) rest)) (flat_map (mirror_faults d i) (range_with_len (from + 1) count) ++ faults)
-          → Agrees (no_difference (difference_at i (cond (not b) (Some from) (first_passing (differs m i) (suc from) count)) rest)) ((under (decimal i) (under (decimal from) (unless b NotSymmetric)) ++ flat_map (mirror_faults d i) (range_with_len (from + 1) count)) ++ faults)
-      by true later = later
-      by false later = (flat_map (mirror_faults d i) (range_with_len (from + 1) count) ++ faults, refl)
-
-  differences_agree : (n i count : ℕ) → Agrees (no_difference (difference_from m n i count)) (flat_map (λ i. flat_map (mirror_faults d i) (range_with_len (i + 1) (n - (i + 1)))) (range_with_len i count))
-  differences_agree n i zero = refl
-  differences_agree n i (suc count) =
-      row_agrees_from i (i + 1) (n - (i + 1)) (difference_from m n (suc i) count) _
-      (subst (λ next. Agrees (no_difference (difference_from m n (suc i) count)) (flat_map (λ i. flat_map (mirror_faults d i) (range_with_len (i + 1) (n - (i + 1)))) (range_with_len next count))) (omega arith) (differences_agree n (suc i) count))
-
-weight_agrees : (n : ℕ) (d : Data) → Agrees (weight_of n d) (weight_faults n d)
-weight_agrees n d =
-    then_agrees (list_of_length n d) (λ items. rows_of n items >>= λ rows. no_difference (difference_from rows n 0 n) >>= λ _. Ok rows) (sized_faults n d) _ (sized_agrees n d)
-    (λ items e. let is : d ≡ array items = (sized_read n d items e).0 in
-    then_agrees (rows_of n items) (λ rows. no_difference (difference_from rows n 0 n) >>= λ _. Ok rows) (rows_faults n d) _ (rows_agree n d items is)
-    (λ rows e. value_agrees (no_difference (difference_from rows n 0 n)) (λ _. rows) _
-    (differences_agree rows d (λ i j. ap (λ v. value (item_at j (item_at i v))) is ∙ row_entry_is rows items i j (rows_read n rows items e)) n 0 n)))
-
--- ---- rows and axes
-zeros_agree : (key : List ℕ) (n : ℕ) (o : Option Data) → Agrees (vector_or_zeros key n o) (under key (unwrap_or (option_map (vector_faults n) o) []))
-zeros_agree key n None = refl
-zeros_agree key n (Some d) = under_agrees key (vector_of n d) (vector_faults n d) (vector_agrees n d)
-
-row_agrees : (n p : ℕ) (d : Data) → Agrees (stage_row_of n p d) (row_faults n p d)
-row_agrees n p d =
-    object_then d row_keys (codes "max" ∷ []) _ _ (λ _. needed_then d (codes "max") [] _ _ (λ top e.
-    then_agrees (vector_or_zeros (codes "x") n (get (codes "x") d)) _ (at_key (codes "x") (vector_faults n) d) _ (zeros_agree (codes "x") n (get (codes "x") d)) (λ x _.
-    then_agrees (vector_or_zeros (codes "u") p (get (codes "u") d)) _ (at_key (codes "u") (vector_faults p) d) _ (zeros_agree (codes "u") p (get (codes "u") d)) (λ u _.
-    value_agrees (under_key (codes "max") (checked_number top)) _ (at_key (codes "max") number_faults d) (found_at (codes "max") checked_number number_faults d top e (number_agrees top))))))
-
-terminal_agrees : (n : ℕ) (d : Data) → Agrees (terminal_row_of n d) (terminal_row_faults n d)
-terminal_agrees n d =
-    object_then d terminal_row_keys terminal_row_keys _ _ (λ _. needed_then d (codes "x") (codes "max" ∷ []) _ _ (λ side in_x. needed_then d (codes "max") [] _ _ (λ top in_max.
-    then_agrees (under_key (codes "x") (vector_of n side)) _ (at_key (codes "x") (vector_faults n) d) _ (found_at (codes "x") (vector_of n) (vector_faults n) d side in_x (vector_agrees n side)) (λ x _.
-    value_agrees (under_key (codes "max") (checked_number top)) _ (at_key (codes "max") number_faults d) (found_at (codes "max") checked_number number_faults d top in_max (number_agrees top))))))
-
-step_agrees : (d : Data) → Agrees (step_of d) (step_faults d)
-step_agrees d =
-    then_agrees (checked_number d) _ (number_faults d) _ (number_agrees d)
-    (λ x e. subst (λ y. Agrees (ensure (lt_ℚ (int (pos 0)) x) StepNotPositive >>= λ _. Ok x) (unless (lt_ℚ (int (pos 0)) y) StepNotPositive)) (sym (number_is x d e))
-    (value_agrees (ensure (lt_ℚ (int (pos 0)) x) StepNotPositive) (λ _. x) _ (ensure_agrees (lt_ℚ (int (pos 0)) x) StepNotPositive)))
-
-axis_agrees : (d : Data) → Agrees (axis_of d) (axis_faults d)
-axis_agrees d =
-    object_then d axis_keys axis_keys _ _ (λ _. needed_then d (codes "low") (codes "step" ∷ codes "count" ∷ []) _ _ (λ low in_low. needed_then d (codes "step") (codes "count" ∷ []) _ _ (λ step in_step. needed_then d (codes "count") [] _ _ (λ count in_count.
-    then_agrees (under_key (codes "low") (checked_number low)) _ (at_key (codes "low") number_faults d) _ (found_at (codes "low") checked_number number_faults d low in_low (number_agrees low)) (λ _ _.
-    then_agrees (under_key (codes "step") (step_of step)) _ (at_key (codes "step") step_faults d) _ (found_at (codes "step") step_of step_faults d step in_step (step_agrees step)) (λ _ _.
-    value_agrees (under_key (codes "count") (count_of count)) _ (at_key (codes "count") (integer_faults 0 greatest_count OverLimit) d) (found_at (codes "count") count_of (integer_faults 0 greatest_count OverLimit) d count in_count (integer_agrees 0 greatest_count OverLimit count_in count_agrees (integer_of count)))))))))
+use Rattle.mpc_theorem.proofs.FaultChecks.{Agrees, then_agrees, value_agrees, under_agrees, ensure_agrees, found_agrees, each_agrees, object_then, needed_then, integer_agrees, steps_agree, version_agrees, items_agree, square_agrees, side_agrees}
+use Rattle.mpc_theorem.proofs.FaultRows.{weight_agrees, zeros_agree, row_agrees, terminal_agrees, axis_agrees}
 
 -- ---- the file
 -- the keys that are needed are there
@@ -451,13 +203,16 @@ module _ (d : Data) where
       by m h (states_are m.a at.0) (inputs_are m.b at.1) long p))
     where
       by : (m : Dynamics) (h : ℕ) → states d ≡ length m.a → inputs d ≡ width m.b → steps d ≡ h → Present d
-          → Agrees {A = Parts} (weights_of (length m.a) (width m.b) d >>= λ weights. targets_of (length m.a) (width m.b) d >>= λ targets. row_lists_of h (length m.a) (width m.b) d >>= λ lists. checked_at (codes "grid") (grid_of (length m.a)) d >>= λ grid. Ok (record { horizon = h; dynamics = m; weights = weights; targets = targets; row_lists = lists; grid = grid }))
+          → Agrees {A = Parts} (weights_of (length m.a) (width m.b) d >>= λ weights. targets_of (length m.a) (width m.b) d >>= λ targets. row_lists_of h (length m.a) (width m.b) d >>= λ lists.
+          checked_at (codes "grid") (grid_of (length m.a)) d >>= λ grid. Ok (record { horizon = h; dynamics = m; weights = weights; targets = targets; row_lists = lists; grid = grid }))
           (weights_faults (states d) (inputs d) d ++ (targets_faults (states d) (inputs d) d ++ (row_lists_faults (states d) (inputs d) (steps d) d ++ at_key (codes "grid") (grid_faults (states d)) d)))
       by m h n p long there =
           then_agrees (weights_of (length m.a) (width m.b) d) _ (weights_faults (states d) (inputs d) d) _ (sized2 (λ n p. Agrees (weights_of (length m.a) (width m.b) d) (weights_faults n p d)) (weights_agree there (length m.a) (width m.b))) (λ _ _.
           then_agrees (targets_of (length m.a) (width m.b) d) _ (targets_faults (states d) (inputs d) d) _ (sized2 (λ n p. Agrees (targets_of (length m.a) (width m.b) d) (targets_faults n p d)) (targets_agree (length m.a) (width m.b))) (λ _ _.
-          then_agrees (row_lists_of h (length m.a) (width m.b) d) _ (row_lists_faults (states d) (inputs d) (steps d) d) _ (subst (λ k. Agrees (row_lists_of h (length m.a) (width m.b) d) (row_lists_faults (states d) (inputs d) k d)) (sym long) (sized2 (λ n p. Agrees (row_lists_of h (length m.a) (width m.b) d) (row_lists_faults n p h d)) (lists_agree (length m.a) (width m.b) h))) (λ _ _.
-          value_agrees (checked_at (codes "grid") (grid_of (length m.a)) d) _ (at_key (codes "grid") (grid_faults (states d)) d) (there_agrees (codes "grid") (grid_of (length m.a)) (grid_faults (states d)) (λ v. subst (λ k. Agrees (grid_of (length m.a) v) (grid_faults k v)) (sym n) (items_agree (length m.a) axis_of axis_faults axis_agrees v)) there.at_grid))))
+          then_agrees (row_lists_of h (length m.a) (width m.b) d) _ (row_lists_faults (states d) (inputs d) (steps d) d) _
+          (subst (λ k. Agrees (row_lists_of h (length m.a) (width m.b) d) (row_lists_faults (states d) (inputs d) k d)) (sym long) (sized2 (λ n p. Agrees (row_lists_of h (length m.a) (width m.b) d) (row_lists_faults n p h d)) (lists_agree (length m.a) (width m.b) h))) (λ _ _.
+          value_agrees (checked_at (codes "grid") (grid_of (length m.a)) d) _ (at_key (codes "grid") (grid_faults (states d)) d)
+          (there_agrees (codes "grid") (grid_of (length m.a)) (grid_faults (states d)) (λ v. subst (λ k. Agrees (grid_of (length m.a) v) (grid_faults k v)) (sym n) (items_agree (length m.a) axis_of axis_faults axis_agrees v)) there.at_grid))))
         where
           sized2 : (P : ℕ → ℕ → Type 0) → P (length m.a) (width m.b) → P (states d) (inputs d)
           sized2 P given = subst (λ k. P k (inputs d)) (sym n) (subst (λ k. P (length m.a) k) (sym p) given)
