@@ -1,5 +1,5 @@
 -- The shapes of a tightened program.
-use Rattle.std.proofs.Common.{◌≡◌, ℕ, ◌+◌, List, length, refl, ap, subst, arith}
+use Rattle.std.proofs.Common.{◌≡◌, ℕ, ◌+◌, List, length, refl, subst, arith}
 use Rattle.mpc_exact.specs.Rational.{ℚ}
 use Rattle.mpc_space.specs.Matrix.{RationalMatrix}
 use Rattle.mpc_linear.specs.Shape.{HasShape}

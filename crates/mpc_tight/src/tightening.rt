@@ -1,9 +1,7 @@
 //! The rows of a program, one after another, with what disturbances can add taken away from their right sides.
 
-ghost use Rattle.std.specs.Prelude.{◌≡◌, ◌+◌, ◌<◌, ◌≤◌, length, IfOk, IfErr, OnOk, MatchResult};
+ghost use Rattle.std.specs.Prelude.{◌≡◌, ◌+◌, ◌<◌, length, IfOk, IfErr, OnOk, MatchResult};
 ghost use Rattle.mpc_exact.specs.Rational.{◌+ℚ◌, ◌-ℚ◌};
-ghost use Rattle.mpc_space.specs.Matrix.{height, entry};
-ghost use Rattle.mpc_linear.specs.Entries.{with_entry};
 ghost use Rattle.mpc_linear.specs.Shape.{HasShape};
 ghost use Rattle.mpc_space.specs.Vector.{dot};
 ghost use Rattle.mpc_condense.specs.Condensed.{stage_row};
@@ -59,35 +57,27 @@ fn tightening_of(
     Ok(whole)
 }
 
-/// Tightens row i, which is a row of the plant at step k: in w goes what is left of the first number of the old row.
-fn tighten_row(
+/// What is left of the right side of a row of the plant at step k.
+fn side_left(
     alloc: Global,
     plant: &Plant,
     noise: &Vector,
     row: &PlantRow,
     k: u32,
-    old: &Matrix,
-    w: &mut Matrix,
-    i: u32,
-) -> Result<(), StepError>
+    side: &Frac,
+) -> Result<Frac, StepError>
     requires size { length row.now.x ≡ plant.now.n }
     requires noise { length noise.now ≡ plant.now.n }
-    requires old_row { i < height old.now }
-    requires old_column { 0 < old.now.columns }
-    requires row { i < height w.old }
-    requires column { 0 < w.old.columns }
-    ensures ok { OnOk result (w.new ≡ with_entry w.old i 0 (entry old.now i 0 -ℚ tightening plant.now noise.now row.now.x k)) }
-    ensures wide { MatchResult result (λ _. RowFits plant.now noise.now (entry old.now i 0) row.now.x k)
-        (IfTooWide (¬ RowFits plant.now noise.now (entry old.now i 0) row.now.x k)) }
+    ensures value { IfOk result (λ v. v ≡ side.now -ℚ tightening plant.now noise.now row.now.x k) }
+    ensures wide { MatchResult result (λ _. RowFits plant.now noise.now side.now row.now.x k)
+        (IfTooWide (¬ RowFits plant.now noise.now side.now row.now.x k)) }
 {
     let most = match tightening_of(alloc, plant, noise, &row.x, k) {
         Ok(most) => most,
         Err(error) => return Err(error),
     };
-    prove!(i < old.rows() && 0 < old.cols());
-    let rest = old.get(i, 0).sub(&most)?;
-    w.set(i, 0, rest);
-    Ok(())
+    let rest = side.sub(&most)?;
+    Ok(rest)
 }
 
 /// Tightens the stage rows of step k, which follow those of the steps before.
@@ -111,8 +101,9 @@ fn tighten_stage(
     let count = plant.rows.len();
     for r in 0..count {
         let i = (k as usize * count + r) as u32;
-        match tighten_row(alloc, plant, noise, plant.rows.at(r), k, old, w, i) {
-            Ok(()) => {}
+        let side = old.get(i, 0);
+        match side_left(alloc, plant, noise, plant.rows.at(r), k, &side) {
+            Ok(rest) => w.set(i, 0, rest),
             Err(StepError::TooWide) => return Err(TightError::Wide(i + 1)),
             Err(StepError::OutOfMemory) => return Err(TightError::NoMemory),
         }
@@ -140,8 +131,9 @@ fn tighten_end(
     let k = plant.horizon;
     for r in 0..plant.terminal.len() {
         let i = (first + r) as u32;
-        match tighten_row(alloc, plant, noise, plant.terminal.at(r), k, old, w, i) {
-            Ok(()) => {}
+        let side = old.get(i, 0);
+        match side_left(alloc, plant, noise, plant.terminal.at(r), k, &side) {
+            Ok(rest) => w.set(i, 0, rest),
             Err(StepError::TooWide) => return Err(TightError::Wide(i + 1)),
             Err(StepError::OutOfMemory) => return Err(TightError::NoMemory),
         }
