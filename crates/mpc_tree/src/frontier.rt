@@ -10,7 +10,7 @@ ghost use Rattle.mpc_tree.specs.Pieces.{AreSides, EndsRefused, IsOpen, IsFiner};
 use crate::borders::Border;
 use crate::errors::TreeError;
 use crate::growth::copied;
-use crate::nodes::{Placed, place_node};
+use crate::nodes::{Placed, Visit, place_node};
 use crate::runs::{KeptCell, copied_rows};
 use mpc_frac::NoMemory;
 use mpc_linear::RowInt;
@@ -19,16 +19,16 @@ use mpc_simplex::{Beginning, Workspace};
 use mpc_systems::{broken_row, cell_laws, whole_row};
 use std::alloc::Global;
 
-/// How many open cells are enough: where the dearest of them takes a fifteenth of the whole, as in
-/// usual large trees, up to eight threads have about as much to do as each other.
-const ENOUGH: usize = 64;
+/// How many open cells are enough: where the dearest of them takes an eighth of the whole, as in usual
+/// large trees, up to four threads have about as much to do as each other.
+const ENOUGH: usize = 48;
 
 /// So many nodes are grown first, one after another in preorder: where one of them is refused, no cell
 /// behind it was opened in vain.
-const FIRST_NODES: usize = 32;
+const FIRST_NODES: usize = 64;
 
 /// After so many rounds the cells stay open, however few they are.
-const MOST_ROUNDS: usize = 64;
+const MOST_ROUNDS: usize = 96;
 
 /// A piece of a tree in preorder.
 #[derive(Drop)]
@@ -111,7 +111,8 @@ fn divided_cell(
     ensures finer { IfOk result (λ pieces. IsFiner qp.now laws.now (Piece.Open cell next ∷ []) pieces.items) }
 {
     cell_laws();
-    match place_node(alloc, work, qp, laws, borders, &cell, next, 1) {
+    let at = Visit { next, node: 1 };
+    match place_node(alloc, work, qp, laws, borders, &cell, at) {
         Ok(Placed::Split { place, row, run }) => {
             let row = &borders[place].as_slice()[row];
             split(alloc, cell, row, run, place)

@@ -11,7 +11,7 @@ ghost use Rattle.mpc_tree.specs.WideRuns.{IsFirstWide};
 
 use crate::borders::Border;
 use crate::errors::{Stop, TreeError};
-use crate::nodes::{Placed, place_node};
+use crate::nodes::{Placed, Visit, place_node};
 use crate::refusals::{Watch, is_called_off};
 use crate::runs::KeptCell;
 use mpc_frac::NoMemory;
@@ -131,8 +131,11 @@ pub fn grown(
         if is_called_off(&watch) {
             return Err(Stop::GivenUp);
         }
-        let node = tree.len() as u64 + 1;
-        match place_node(alloc, &mut work, qp, laws, borders, &cell, next, node) {
+        let at = Visit {
+            next,
+            node: tree.len() as u64 + 1,
+        };
+        match place_node(alloc, &mut work, qp, laws, borders, &cell, at) {
             Ok(Placed::Split { place, row, run }) => {
                 let rows = borders[place].as_slice();
                 open_split(

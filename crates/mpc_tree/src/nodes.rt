@@ -28,6 +28,13 @@ use mpc_simplex::{Beginning, SimplexError, Workspace};
 use mpc_systems::{cell_laws, hold_system, joint_system, meet_system};
 use std::alloc::Global;
 
+/// A visit to a node: the place of the law, from 0, with which its search goes on, and the node's number.
+#[derive(Clone, Copy, Drop)]
+pub struct Visit {
+    pub next: usize,
+    pub node: u64,
+}
+
 /// Whether the rows of a law hold on a cell.
 #[derive(Drop)]
 pub enum Held {
@@ -139,25 +146,24 @@ fn first_meeting(
     laws: &LawTable,
     borders: &[Border],
     cell: &KeptCell,
-    next: usize,
-    node: u64,
+    at: Visit,
 ) -> Result<Option<usize>, TreeError>
     requires few { length laws.now < 2 ^ 32 }
     requires borders { AreBorders qp.now laws.now borders.now }
     requires cell { HasBoxWidth qp.now cell.now.rows.items }
     requires run { IsRunOf qp.now cell.now.rows.items cell.now.run }
-    requires before { NoneMeetsBefore qp.now laws.now cell.now.rows.items next }
-    ensures first { IfOk result (λ o. IsFirstMeeting qp.now laws.now (record { rows = cell.now.rows.items; next = next }) o) }
-    ensures below { IfOk result (λ o. MatchOption o (next ≡ next) (λ place. (next ≤ place) × (place < length laws.now))) }
-    ensures wide { IfErr result (λ e. IfWide e (IsWideAt qp.now laws.now (record { rows = cell.now.rows.items; next = next }) node)) }
+    requires before { NoneMeetsBefore qp.now laws.now cell.now.rows.items at.next }
+    ensures first { IfOk result (λ o. IsFirstMeeting qp.now laws.now (record { rows = cell.now.rows.items; next = at.next }) o) }
+    ensures below { IfOk result (λ o. MatchOption o (at.next ≡ at.next) (λ place. (at.next ≤ place) × (place < length laws.now))) }
+    ensures wide { IfErr result (λ e. IfWide e (IsWideAt qp.now laws.now (record { rows = cell.now.rows.items; next = at.next }) at.node)) }
 {
     cell_laws();
-    for place in next..laws.len() {
+    for place in at.next..laws.len() {
         match region_meets(alloc, work, qp, cell, &borders[place]) {
             Ok(true) => return Ok(Some(place)),
             Ok(false) => {}
             Err(SimplexError::Wide) => {
-                return Err(TreeError::Wide(Place::Meet(node, place as u32 + 1)));
+                return Err(TreeError::Wide(Place::Meet(at.node, place as u32 + 1)));
             }
             Err(SimplexError::NoMemory) => return Err(TreeError::NoMemory),
         }
@@ -224,27 +230,34 @@ pub fn place_node(
     laws: &LawTable,
     borders: &[Border],
     cell: &KeptCell,
-    next: usize,
-    node: u64,
+    at: Visit,
 ) -> Result<Placed, TreeError>
     requires few { length laws.now < 2 ^ 32 }
     requires borders { AreBorders qp.now laws.now borders.now }
     requires cell { HasBoxWidth qp.now cell.now.rows.items }
     requires run { IsRunOf qp.now cell.now.rows.items cell.now.run }
     requires cover { RegionsCover qp.now laws.now }
-    requires before { NoneMeetsBefore qp.now laws.now cell.now.rows.items next }
-    ensures placed { IfOk result (λ p. IsPlaced qp.now laws.now borders.now (record { rows = cell.now.rows.items; next = next }) p) }
-    ensures wide { IfErr result (λ e. IfWide e (IsWideAt qp.now laws.now (record { rows = cell.now.rows.items; next = next }) node)) }
+    requires before { NoneMeetsBefore qp.now laws.now cell.now.rows.items at.next }
+    ensures placed { IfOk result (λ p. IsPlaced qp.now laws.now borders.now (record { rows = cell.now.rows.items; next = at.next }) p) }
+    ensures wide { IfErr result (λ e. IfWide e (IsWideAt qp.now laws.now (record { rows = cell.now.rows.items; next = at.next }) at.node)) }
 {
     cell_laws();
-    match first_meeting(alloc, work, qp, laws, borders, cell, next, node)? {
+    match first_meeting(alloc, work, qp, laws, borders, cell, at)? {
         None => {
-            let cert = joint_cert(alloc, qp, &cell.rows, node)?;
+            let cert = joint_cert(alloc, qp, &cell.rows, at.node)?;
             Ok(Placed::Leaf(Node::NoMove { cert }))
         }
         Some(place) => {
             let law = place as u32 + 1;
-            match first_failing(alloc, work, qp, borders[place].as_slice(), cell, node, law) {
+            match first_failing(
+                alloc,
+                work,
+                qp,
+                borders[place].as_slice(),
+                cell,
+                at.node,
+                law,
+            ) {
                 Ok(Held::Fails { place: row, run }) => Ok(Placed::Split { place, row, run }),
                 Ok(Held::Holds(certs)) => Ok(Placed::Leaf(Node::Law { law, certs })),
                 Err(error) => Err(error),

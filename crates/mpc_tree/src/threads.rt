@@ -13,7 +13,7 @@ use crate::borders::Border;
 use crate::errors::{Stop, TreeError};
 use crate::frontier::{Piece, open_cells, pieces_of};
 use crate::growth::{grown, grown_alone};
-use crate::refusals::{Refusals, Watch};
+use crate::refusals::{Refusals, Watch, is_called_off};
 use crate::runs::{KeptCell, copied_rows};
 use mpc_frac::NoMemory;
 use mpc_rows::{LawTable, Place, Qp, Tree};
@@ -52,6 +52,9 @@ fn drawn_cell(
     requires ready { IsReady qp.now laws.now (cell_at cell.now next) }
     ensures { IfOk result (λ o. IfSome o (Becomes qp.now laws.now (Piece.Open cell.now next))) }
 {
+    if is_called_off(&Some(watch)) {
+        return Ok(None);
+    }
     let own = KeptCell::of(alloc, qp, copied_rows(alloc, &cell.rows)?)?;
     match grown(alloc, qp, laws, borders, own, next, Some(watch)) {
         Ok(tree) => Ok(Some(Piece::Closed(tree))),
@@ -98,20 +101,16 @@ fn draw(
     Ok(drawn)
 }
 
-/// In how many threads so many open cells are built: as many as the machine runs at once.
-fn threads_for<T: Threads>(rt: &T, open: usize) -> usize {
-    let useful = open / CELLS_A_THREAD;
-    if useful < 2 {
-        return 1;
-    }
+/// How many threads the machine runs at once.
+fn threads_at_once<T: Threads>(rt: &T) -> usize {
     match available_parallelism(rt) {
-        Ok(at_once) => useful.min(at_once.get()),
+        Ok(at_once) => at_once.get(),
         Err(_) => 1,
     }
 }
 
-/// What becomes of the open cells among the pieces, by the threads that have drawn them. Those that are
-/// called off are lacking.
+/// What becomes of the open cells among the pieces, by the threads that have drawn them, at most so
+/// many. Those that are called off are lacking.
 fn all_drawn<T: Threads + Sync>(
     rt: &T,
     alloc: Global,
@@ -119,6 +118,7 @@ fn all_drawn<T: Threads + Sync>(
     laws: &LawTable,
     borders: &[Border],
     pieces: &[Piece],
+    most: usize,
 ) -> Result<Vec<Result<Vec<Drawn>, NoMemory>>, NoMemory>
     requires few { length laws.now < 2 ^ 32 }
     requires borders { AreBorders qp.now laws.now borders.now }
@@ -128,7 +128,7 @@ fn all_drawn<T: Threads + Sync>(
 {
     let draws = AtomicU64::new(0);
     let refusals = Refusals::none();
-    let threads = threads_for(rt, open_cells(pieces));
+    let threads = most.min(open_cells(pieces) / CELLS_A_THREAD);
     let hand = |_| draw(alloc, qp, laws, borders, pieces, &draws, &refusals);
     match map_indices(rt, alloc, threads, &hand) {
         Ok(hands) => Ok(hands),
@@ -231,7 +231,7 @@ fn joined(
 
 /// The tree of the cell with these rows, whose search goes on with the next law. Its upper part is
 /// grown by the caller, and the cells that are open below are built by as many threads as the machine
-/// runs at once. `Wide` numbers the nodes from 1.
+/// runs at once. Where that is one, nothing is cut. `Wide` numbers the nodes from 1.
 pub fn grown_in_threads<T: Threads + Sync>(
     rt: &T,
     alloc: Global,
@@ -249,11 +249,12 @@ pub fn grown_in_threads<T: Threads + Sync>(
     ensures built { IfOk result (λ nodes. IsBuilt qp.now laws.now (record { rows = cell.rows.items; next = next }) nodes) }
     ensures wide { IfErr result (λ e. IfWide e (IsFirstWide qp.now laws.now (record { rows = cell.rows.items; next = next }) 1)) }
 {
-    if laws.len() < MANY_LAWS {
+    let most = threads_at_once(rt);
+    if most < 2 || laws.len() < MANY_LAWS {
         return grown_alone(alloc, qp, laws, borders, cell, next);
     }
     let mut pieces = pieces_of(alloc, qp, laws, borders, cell, next)?;
-    let hands = all_drawn(rt, alloc, qp, laws, borders, &pieces)?;
+    let hands = all_drawn(rt, alloc, qp, laws, borders, &pieces, most)?;
     for hand in hands {
         lay_all(&mut pieces, hand?);
     }

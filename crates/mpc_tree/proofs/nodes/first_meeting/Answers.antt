@@ -20,17 +20,17 @@ pub returns-in-Ok-true-clause-first : goal.returns-in-Ok-true-clause-first
 returns-in-Ok-true-clause-first c =
     let is = is_border (goal.at.returns-in-Ok-true-clause-first c).After-index-borders-place in
     let first = meets_first c.args.qp.now c.args.laws.now c.args.borders.now c.requires.borders c.args.cell.now.rows.items c.loop-place.place c.index-borders-place.result is c.cell_laws.ensures c.loop-place.invariant.none (c.in-Ok-true.ensures.answer.0 c.in-Ok-true.field-0-test) in
-    record { law = first.0; first = first.1; fits = meets_fit c.args.qp.now c.args.laws.now c.args.borders.now c.requires.borders c.args.cell.now.rows.items c.loop-place.place c.index-borders-place.result is c.args.next c.loop-place.invariant.fits c.in-Ok-true.ensures.wide }
+    record { law = first.0; first = first.1; fits = meets_fit c.args.qp.now c.args.laws.now c.args.borders.now c.requires.borders c.args.cell.now.rows.items c.loop-place.place c.index-borders-place.result is c.args.at.next c.loop-place.invariant.fits c.in-Ok-true.ensures.wide }
 
 pub returns-in-Err-Wide-clause-wide : goal.returns-in-Err-Wide-clause-wide
 returns-in-Err-Wide-clause-wide c =
     let is = is_border (goal.at.returns-in-Err-Wide-clause-wide c).After-index-borders-place in
-    inl (c.loop-place.place + 1, refl, meets_wide c.args.qp.now c.args.laws.now c.args.borders.now c.requires.borders c.args.cell.now.rows.items c.loop-place.place c.index-borders-place.result is c.args.next (omega arith) c.loop-place.invariant.none c.loop-place.invariant.fits (rw c.in-Err-Wide.field-0-is at c.in-Err-Wide.ensures.wide))
+    inl (c.loop-place.place + 1, refl, meets_wide c.args.qp.now c.args.laws.now c.args.borders.now c.requires.borders c.args.cell.now.rows.items c.loop-place.place c.index-borders-place.result is c.args.at.next (omega arith) c.loop-place.invariant.none c.loop-place.invariant.fits (rw c.in-Err-Wide.field-0-is at c.in-Err-Wide.ensures.wide))
 
 pub loop-place-preserved : goal.loop-place-preserved
 loop-place-preserved c =
     let is = is_border (goal.at.loop-place-preserved c).After-index-borders-place in
     record {
       none = meets_none c.args.qp.now c.args.laws.now c.args.borders.now c.requires.borders c.args.cell.now.rows.items c.loop-place.place c.index-borders-place.result is c.cell_laws.ensures c.loop-place.invariant.none (λ p. false_true (sym c.in-Ok-false.field-0-test ∙ c.in-Ok-false.ensures.answer.1 p));
-      fits = meets_fit c.args.qp.now c.args.laws.now c.args.borders.now c.requires.borders c.args.cell.now.rows.items c.loop-place.place c.index-borders-place.result is c.args.next c.loop-place.invariant.fits c.in-Ok-false.ensures.wide;
+      fits = meets_fit c.args.qp.now c.args.laws.now c.args.borders.now c.requires.borders c.args.cell.now.rows.items c.loop-place.place c.index-borders-place.result is c.args.at.next c.loop-place.invariant.fits c.in-Ok-false.ensures.wide;
     }

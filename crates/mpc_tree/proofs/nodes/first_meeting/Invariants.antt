@@ -5,5 +5,5 @@ use Rattle.mpc_tree.proofs.nodes.first_meeting.Given as goal
 abbrev pub invariant-loop-place : goal.invariant-loop-place
 invariant-loop-place l = record {
   none : NoneMeetsBefore l.qp l.laws l.cell.rows.items l.place;
-  fits : MeetsFit l.qp l.laws (record { rows = l.cell.rows.items; next = l.fn.next }) l.place;
+  fits : MeetsFit l.qp l.laws (record { rows = l.cell.rows.items; next = l.fn.at.next }) l.place;
 }

@@ -8,8 +8,8 @@ use Rattle.mpc_tree.proofs.Placing.{met_border, few_rows, split_placed, law_plac
 use Rattle.mpc_tree.proofs.nodes.place_node.Goals as goal
 use Rattle.mpc_tree.proofs.nodes.place_node.Goals.{After-as_slice}
 
-meeting : (c : After-as_slice) → IsMeeting c.args.qp.now c.args.laws.now (record { rows = c.args.cell.now.rows.items; next = c.args.next }) c.in-Some.place
-meeting c = subst (IsFirstMeeting c.args.qp.now c.args.laws.now (record { rows = c.args.cell.now.rows.items; next = c.args.next })) c.in-Some.is c.in_ok-first_meeting.ensures.first
+meeting : (c : After-as_slice) → IsMeeting c.args.qp.now c.args.laws.now (record { rows = c.args.cell.now.rows.items; next = c.args.at.next }) c.in-Some.place
+meeting c = subst (IsFirstMeeting c.args.qp.now c.args.laws.now (record { rows = c.args.cell.now.rows.items; next = c.args.at.next })) c.in-Some.is c.in_ok-first_meeting.ensures.first
 
 is_border : (c : After-as_slice) → slice_get c.args.borders.now c.in-Some.place ≡ Some c.as_slice.result.now
 is_border c =
@@ -19,30 +19,30 @@ is_border c =
 
 pub joint_cert-requires-clause-no_point : goal.joint_cert-requires-clause-no_point
 joint_cert-requires-clause-no_point c =
-    let none : IsNoMeeting c.args.qp.now c.args.laws.now (record { rows = c.args.cell.now.rows.items; next = c.args.next }) = subst (IsFirstMeeting c.args.qp.now c.args.laws.now (record { rows = c.args.cell.now.rows.items; next = c.args.next })) c.in-None.is c.in_ok-first_meeting.ensures.first in
+    let none : IsNoMeeting c.args.qp.now c.args.laws.now (record { rows = c.args.cell.now.rows.items; next = c.args.at.next }) = subst (IsFirstMeeting c.args.qp.now c.args.laws.now (record { rows = c.args.cell.now.rows.items; next = c.args.at.next })) c.in-None.is c.in_ok-first_meeting.ensures.first in
     subst (λ rows. ¬ HasPoint (joint_system c.args.qp.now rows)) (sym c.deref.ensures.value) (no_joint c.args.qp.now c.args.laws.now c.args.cell.now.rows.items none.none c.cell_laws.ensures c.requires.cover.covers c.requires.cell)
 
 pub first_failing-requires-clause-few : goal.first_failing-requires-clause-few
 first_failing-requires-clause-few c =
     let d = (goal.at.first_failing-requires-clause-few c).After-as_slice in
-    few_rows c.args.qp.now c.args.laws.now c.args.borders.now c.requires.borders (record { rows = c.args.cell.now.rows.items; next = c.args.next }) c.in-Some.place (meeting d) c.as_slice.result.now (is_border d)
+    few_rows c.args.qp.now c.args.laws.now c.args.borders.now c.requires.borders (record { rows = c.args.cell.now.rows.items; next = c.args.at.next }) c.in-Some.place (meeting d) c.as_slice.result.now (is_border d)
 
 pub first_failing-requires-clause-plain : goal.first_failing-requires-clause-plain
 first_failing-requires-clause-plain c =
     let d = (goal.at.first_failing-requires-clause-plain c).After-as_slice in
-    (met_border c.args.qp.now c.args.laws.now c.args.borders.now c.requires.borders (record { rows = c.args.cell.now.rows.items; next = c.args.next }) c.in-Some.place (meeting d) c.as_slice.result.now (is_border d)).plain
+    (met_border c.args.qp.now c.args.laws.now c.args.borders.now c.requires.borders (record { rows = c.args.cell.now.rows.items; next = c.args.at.next }) c.in-Some.place (meeting d) c.as_slice.result.now (is_border d)).plain
 
 pub returns-in-Ok-Fails-clause-placed : goal.returns-in-Ok-Fails-clause-placed
 returns-in-Ok-Fails-clause-placed c =
     let d = (goal.at.returns-in-Ok-Fails-clause-placed c).After-as_slice in
-    split_placed c.args.qp.now c.args.laws.now c.args.borders.now c.requires.borders (record { rows = c.args.cell.now.rows.items; next = c.args.next }) c.in-Some.place (meeting d) c.as_slice.result.now (is_border d) c.in-Ok-Fails.row c.in-Ok-Fails.run' (rw c.in-Ok-Fails.field-0-is at c.in-Ok-Fails.ensures.held)
+    split_placed c.args.qp.now c.args.laws.now c.args.borders.now c.requires.borders (record { rows = c.args.cell.now.rows.items; next = c.args.at.next }) c.in-Some.place (meeting d) c.as_slice.result.now (is_border d) c.in-Ok-Fails.row c.in-Ok-Fails.run' (rw c.in-Ok-Fails.field-0-is at c.in-Ok-Fails.ensures.held)
 
 pub returns-in-Ok-Holds-clause-placed : goal.returns-in-Ok-Holds-clause-placed
 returns-in-Ok-Holds-clause-placed c =
     let d = (goal.at.returns-in-Ok-Holds-clause-placed c).After-as_slice in
-    law_placed c.args.qp.now c.args.laws.now c.args.borders.now c.requires.borders (record { rows = c.args.cell.now.rows.items; next = c.args.next }) c.in-Some.place (meeting d) c.as_slice.result.now (is_border d) c.cell_laws.ensures c.in-Ok-Holds.certs (rw c.in-Ok-Holds.field-0-is at c.in-Ok-Holds.ensures.held)
+    law_placed c.args.qp.now c.args.laws.now c.args.borders.now c.requires.borders (record { rows = c.args.cell.now.rows.items; next = c.args.at.next }) c.in-Some.place (meeting d) c.as_slice.result.now (is_border d) c.cell_laws.ensures c.in-Ok-Holds.certs (rw c.in-Ok-Holds.field-0-is at c.in-Ok-Holds.ensures.held)
 
 pub returns-in-Err-clause-wide : goal.returns-in-Err-clause-wide
 returns-in-Err-clause-wide c =
     let d = (goal.at.returns-in-Err-clause-wide c).After-as_slice in
-    row_wide c.args.qp.now c.args.laws.now c.args.borders.now c.requires.borders (record { rows = c.args.cell.now.rows.items; next = c.args.next }) c.in-Some.place (meeting d) c.as_slice.result.now (is_border d) c.args.node c.in-Err.error c.in-Err.ensures.wide
+    row_wide c.args.qp.now c.args.laws.now c.args.borders.now c.requires.borders (record { rows = c.args.cell.now.rows.items; next = c.args.at.next }) c.in-Some.place (meeting d) c.as_slice.result.now (is_border d) c.args.at.node c.in-Err.error c.in-Err.ensures.wide
