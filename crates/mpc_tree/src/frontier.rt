@@ -19,7 +19,7 @@ use mpc_simplex::{Beginning, Workspace};
 use mpc_systems::{broken_row, cell_laws, whole_row};
 use std::alloc::Global;
 
-/// How many open cells are enough: where the dearest of them takes an eighth of the whole, as in usual
+/// How many open cells are enough: where the dearest of them takes a seventh of the whole, as in usual
 /// large trees, up to four threads have about as much to do as each other.
 const ENOUGH: usize = 48;
 
