@@ -21,7 +21,7 @@ use std::alloc::Global;
 
 /// How many open cells are enough: where the dearest of them takes a seventh of the whole, as in usual
 /// large trees, up to four threads have about as much to do as each other.
-const ENOUGH: usize = 48;
+const ENOUGH: usize = 64;
 
 /// So many nodes are grown first, one after another in preorder: where one of them is refused, no cell
 /// behind it was opened in vain.
