@@ -17,7 +17,8 @@ use Rattle.mpc_controller.specs.Parts.{Parts, row_count}
 use Rattle.mpc_controller.specs.Walk.{IsLeaf}
 use Rattle.mpc_controller.specs.PreorderLaws.{JoinedSpell}
 use Rattle.mpc_check.specs.declared.answers.Answer.TheVariants.{Accepted, Refused}
-use Rattle.mpc_check.specs.declared.answers.CheckError.TheVariants.{Wide, NotDefinite, NoMemory}
+use Rattle.mpc_convex.specs.declared.ProgramError.TheVariants.{TooWide, NotDefinite, NoMemory}
+use Rattle.mpc_convex.specs.Convex.{IsConvexProgram}
 use Rattle.mpc_check.specs.declared.answers.Spot.{Spot}
 use Rattle.mpc_check.specs.declared.answers.Spot.TheVariants.{Stationary, Active, LeafRow, Leaf}
 use Rattle.mpc_systems.specs.Systems.{joint_system}
@@ -26,7 +27,7 @@ use Rattle.mpc_check.specs.Findings.{Finding, refused, too_wide, not_definite, I
 use Rattle.mpc_check.specs.LawConditions.{GradientFits, IsStationaryAt, ActiveFits, IsActiveAt, LawMet, LawFinds, LawsFind, LawsMet, LawIsStationary, LawIsActive}
 use Rattle.mpc_check.specs.LeafConditions.{RowFits, RowHolds, NodeMet, NodeFinds, TreeMet, TreeFinds}
 use Rattle.mpc_paths.specs.Paths.{OnePath}
-use Rattle.mpc_check.specs.Acceptance.{IsConvex, BehindFinds, NoProgramFinding}
+use Rattle.mpc_check.specs.Acceptance.{BehindFinds, NoProgramFinding}
 use Rattle.mpc_answers.specs.Compiled.{IsCompiled, IsOfLawOrLeaf, IsOfWidth, LawFits, LawsFit, LeafFits, LeavesFit, OnlyWidthFound, NoRefusal, OnlyWidthErrs, FittingIsAccepted}
 use Rattle.mpc_answers.proofs.LeavesHold.{NodeHolds, nodes_hold}
 
@@ -50,8 +51,8 @@ pub record Laws : Type 0 where
   join : JoinedSpell
 
 module _ (laws : Laws) (qp : Qp) (parts : Parts) (is : IsCompiled qp parts) where
-  convex : IsConvex qp
-  convex = record { definite = laws.definite qp.h.rows is.program.condensed.h_symmetric (λ m l. is.pivots.positive m l); passes = is.pivots }
+  convex : IsConvexProgram parts.plant qp
+  convex = record { has_program = is.program; pivots = is.pivots; definite = laws.definite qp.h.rows is.program.condensed.h_symmetric (λ m l. is.pivots.positive m l) }
 
   rows_are : height qp.g ≡ row_count parts.plant
   rows_are = is.program.condensed.rows_are
@@ -122,20 +123,20 @@ module _ (laws : Laws) (qp : Qp) (parts : Parts) (is : IsCompiled qp parts) wher
 -- ---- the laws
 module _ (laws : Laws) where
   pub only_width : OnlyWidthFound
-  only_width qp parts f is (inl a) = absurd (laws.no_program_finding parts.plant qp f is.program (convex laws qp parts is) a)
-  only_width qp parts f is (inr a) = behind_found laws qp parts is f (subst (λ (p : Qp). BehindFinds p parts f) (laws.one_program parts.plant a.qp qp a.program.condensed is.program.condensed) a.first)
+  only_width qp parts f is (inl a) = absurd (laws.no_program_finding parts.plant qp f (convex laws qp parts is) a)
+  only_width qp parts f is (inr a) = behind_found laws qp parts is f (subst (λ (p : Qp). BehindFinds p parts f) (laws.one_program parts.plant a.qp qp a.program.has_program.condensed is.program.condensed) a.first)
 
   pub no_refusal : NoRefusal
   no_refusal qp parts Accepted is a = refl
   no_refusal qp parts (Refused spot) is a = absurd (only_width qp parts (refused spot) is a)
 
   pub only_width_errs : OnlyWidthErrs
-  only_width_errs qp parts (Wide place) is a = only_width qp parts (too_wide place) is a
+  only_width_errs qp parts (TooWide place) is a = only_width qp parts (too_wide place) is a
   only_width_errs qp parts (NotDefinite step) is a = only_width qp parts (not_definite step) is a
   only_width_errs qp parts NoMemory is a = tt
 
   pub fitting_accepted : FittingIsAccepted
-  fitting_accepted qp parts is fit leaves = record { qp = qp; program = is.program; convex = convex laws qp parts is; behind = record { laws = laws_met laws qp parts is fit; leaves = tree_met laws qp parts is leaves } }
+  fitting_accepted qp parts is fit leaves = record { qp = qp; program = convex laws qp parts is; behind = record { laws = laws_met laws qp parts is fit; leaves = tree_met laws qp parts is leaves } }
 
 pub the_laws : DefiniteByPivots → OneProgram → NoProgramFinding → LawIsStationary → LawIsActive → OnePath → JoinedSpell → Laws
 the_laws definite one_program none stationary active path join = record {

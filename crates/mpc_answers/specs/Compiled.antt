@@ -1,7 +1,6 @@
 -- What is compiled of a plant, and what a check finds of it.
 use Rattle.std.specs.Prelude.{◌≡◌, ℕ, ◌+◌, ◌<◌, ◌≤◌, ◌⊎◌, List, length, slice_get, slice_index, Some}
-use Rattle.mpc_space.specs.Matrix.{height, entry}
-use Rattle.mpc_definite.specs.Pivots.{PassesBelow}
+use Rattle.mpc_space.specs.Matrix.{height}
 use Rattle.mpc_rows.specs.declared.programs.Qp.{Qp}
 use Rattle.mpc_rows.specs.declared.laws.Law.{Law as LawOfSet}
 use Rattle.mpc_rows.specs.declared.systems.Row.{Row}
@@ -17,21 +16,22 @@ use Rattle.mpc_controller.specs.Walk.{IsLeaf}
 use Rattle.mpc_controller.specs.Replies.{IsLawNumbered}
 use Rattle.mpc_check.specs.declared.answers.Answer.{Answer}
 use Rattle.mpc_check.specs.declared.answers.Answer.TheVariants.{Accepted}
-use Rattle.mpc_check.specs.declared.answers.CheckError.{CheckError}
-use Rattle.mpc_check.specs.declared.answers.CheckError.TheVariants.{Wide, NotDefinite, NoMemory}
+use Rattle.mpc_convex.specs.declared.ProgramError.{ProgramError}
+use Rattle.mpc_convex.specs.declared.ProgramError.TheVariants.{TooWide, NotDefinite, NoMemory}
+use Rattle.mpc_convex.specs.Convex.{HasProgram, PivotsPass}
 use Rattle.mpc_check.specs.Findings.{Finding, refused, too_wide, not_definite}
 use Rattle.mpc_paths.specs.Paths.{PathTo}
 use Rattle.mpc_systems.specs.Systems.{joint_system}
 use Rattle.mpc_check.specs.Certs.{CertFits}
 use Rattle.mpc_check.specs.LawConditions.{GradientFits, ActiveFits}
 use Rattle.mpc_check.specs.LeafConditions.{RowFits}
-use Rattle.mpc_check.specs.Acceptance.{IsProgramOf, Accepts, IsFound, IsAnswer, IsCause}
+use Rattle.mpc_check.specs.Acceptance.{Accepts, IsFound, IsAnswer, IsCause}
 
 -- The program of the plant, whose numbers fit; positive pivots of its cost, whose numbers fit; the table of its laws; and the table's tree of
 -- the whole box, with its certificates.
 pub record IsCompiled (qp : Qp) (parts : Parts) : Type 0 where
-  pub program : IsProgramOf qp parts.plant
-  pub pivots : PassesBelow (entry qp.h) (height qp.h) (height qp.h)
+  pub program : HasProgram parts.plant qp
+  pub pivots : PivotsPass qp
   pub table : IsTable qp parts.laws
   pub tree : IsCertified qp parts.laws whole_box parts.tree
 
@@ -70,13 +70,13 @@ abbrev pub NoRefusal : Type 0
 NoRefusal = (qp : Qp) (parts : Parts) (answer : Answer) → IsCompiled qp parts → IsAnswer parts answer → answer ≡ Accepted
 
 -- or an error: a number that is too wide, of a condition on a law or on a leaf, or no memory
-abbrev pub IsWidthError : Parts → CheckError → Type 0
-IsWidthError parts (Wide place) = IsOfLawOrLeaf parts place
+abbrev pub IsWidthError : Parts → ProgramError → Type 0
+IsWidthError parts (TooWide place) = IsOfLawOrLeaf parts place
 IsWidthError parts (NotDefinite step) = ⊥
 IsWidthError parts NoMemory = Unit {0}
 
 abbrev pub OnlyWidthErrs : Type 0
-OnlyWidthErrs = (qp : Qp) (parts : Parts) (error : CheckError) → IsCompiled qp parts → IsCause parts error → IsWidthError parts error
+OnlyWidthErrs = (qp : Qp) (parts : Parts) (error : ProgramError) → IsCompiled qp parts → IsCause parts error → IsWidthError parts error
 
 -- ---- where all numbers fit
 -- those of the sums over a law

@@ -43,7 +43,7 @@ within_grid (axis ∷ grid) (x ∷ t) h = (h.0, h.1, within_grid grid t h.2)
 module _ (right : AcceptedIsRight) (grid : GridIsInBox) (words counts : List ℕ) (room : ℕ) (parts : Parts) (suits : Suits words counts room parts) where
   right_at : (reply : Reply) → IsAnswerTo parts counts (at_state reply) → Accepts parts → IsRightAt parts.plant counts reply
   right_at reply a accepts =
-      let condensed = accepts.program.condensed in
+      let condensed = accepts.program.has_program.condensed in
       let in_box : IsInBox accepts.qp.counts (point_of counts) = grid parts.plant accepts.qp counts condensed suits.one_each a.0 in
       (a.0, right parts (point_of counts) reply suits.block.controller accepts (within_grid parts.plant.grid (point_of counts) (subst (λ l. IsInBox l (point_of counts)) condensed.counts_are in_box)) a.1)
 

@@ -107,7 +107,7 @@ fn accept(alloc: Global, controller: &Controller) -> Result<(), Status>
     match check_alone(alloc, controller) {
         Ok(Answer::Accepted) => Ok(()),
         Ok(Answer::Refused(spot)) => Err(Status::Refused(spot)),
-        Err(CheckError::Wide(place)) => Err(Status::TooWide(place)),
+        Err(CheckError::TooWide(place)) => Err(Status::TooWide(place)),
         Err(CheckError::NotDefinite(pivot)) => Err(Status::NotDefinite(pivot)),
         Err(CheckError::NoMemory) => Err(Status::NoMemory),
     }

@@ -16,11 +16,11 @@ ghost use Rattle.mpc_c.specs.States.{Says};
 use crate::fractions::put_numbers;
 use mpc_answers::grid_points;
 use mpc_block::Move;
+use mpc_convex::{ProgramError, convex_program};
 use mpc_online::{Online, OnlineError, solve_at};
 use mpc_plant::{Plant, PlantError, read_plant};
 use mpc_rows::Qp;
 use mpc_states::right_programs;
-use mpc_synthesis::{SynthesisError, convex_program};
 use mpc_table::find_outside;
 use std::alloc::Global;
 
@@ -80,9 +80,9 @@ fn solve_plant(alloc: Global, plant: &Plant, counts: &[u64], moves: &mut [Move])
     grid_points();
     let program = match convex_program(alloc, plant) {
         Ok(program) => program,
-        Err(SynthesisError::NotDefinite(_)) => return Solved::NotDefinite,
-        Err(SynthesisError::TooWide(_)) => return Solved::TooWide,
-        Err(SynthesisError::NoMemory) => return Solved::NoMemory,
+        Err(ProgramError::NotDefinite(_)) => return Solved::NotDefinite,
+        Err(ProgramError::TooWide(_)) => return Solved::TooWide,
+        Err(ProgramError::NoMemory) => return Solved::NoMemory,
     };
     match find_outside(program.counts.as_slice(), counts) {
         Some(_) => Solved::Outside,

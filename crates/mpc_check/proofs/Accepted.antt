@@ -170,7 +170,7 @@ module _ (laws : Laws) (parts : Parts) (t : List ℚ) (controller : IsController
   qp = accepted.qp
 
   condensed : IsCondensed qp parts.plant
-  condensed = accepted.program.condensed
+  condensed = accepted.program.has_program.condensed
 
   counts_size : length qp.counts ≡ parts.plant.n
   counts_size = ap length condensed.counts_are ∙ length-map parts.plant.grid (λ (axis : Coordinate). axis.count) ∙ parts.plant.is_plant.grid_size
@@ -188,7 +188,7 @@ module _ (laws : Laws) (parts : Parts) (t : List ℚ) (controller : IsController
       let shape : HasLawShape qp law = law_shape parts.plant qp condensed law (all_at (IsLawFor parts.plant) parts.laws (number - 1) law named controller.shapes.laws_fit) in
       let is : IsLaw qp law = law_by_coefficients qp law shape (accepted.behind.laws (number - 1) law_within law named) in
       let met : LawLeafMet qp p.path law certs = accepted.behind.leaves place (slice_get_within parts.tree place (Law number certs) e.node_at) p.path (Law number certs) p.leads e.node_at law named in
-      laws.law_is_right parts.plant qp law t condensed accepted.convex.definite is (in_region laws qp law shape is p.path (wide place p.path p.leads) certs met t in_box p.meets)
+      laws.law_is_right parts.plant qp law t condensed accepted.program.definite is (in_region laws qp law shape is p.path (wide place p.path p.leads) certs met t in_box p.meets)
 
   empty_reply : (place : ℕ) (cert : List (ℕ × ℚ)) → EndsAt parts.tree t place (NoMove cert) → IsRight parts.plant t infeasible
   empty_reply place cert e =

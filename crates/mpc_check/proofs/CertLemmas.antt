@@ -17,8 +17,8 @@ use Rattle.mpc_rows.specs.LinearSystem.{LinearSystem, height, no_row}
 use Rattle.mpc_rows.specs.Certificates.{RisesFrom, IsCert}
 use Rattle.mpc_rows.specs.Refutation.{Refutes, SumsFit}
 use Rattle.mpc_rows.specs.SetRuns.{box_rows}
-use Rattle.mpc_check.specs.declared.answers.CheckError.{CheckError}
-use Rattle.mpc_check.specs.declared.answers.CheckError.TheVariants.{Wide, NotDefinite, NoMemory}
+use Rattle.mpc_convex.specs.declared.ProgramError.{ProgramError}
+use Rattle.mpc_convex.specs.declared.ProgramError.TheVariants.{TooWide, NotDefinite, NoMemory}
 use Rattle.mpc_paths.specs.declared.ways.Turn.{Turn}
 use Rattle.mpc_check.specs.Certs.{IsPositionIn, HasPositionsIn, CertRefutes, CertFits}
 use Rattle.mpc_check.specs.Findings.{IsDecided}
@@ -94,10 +94,10 @@ module _ (noughts : ZeroLaws) (fit : FitLaws) (s : LinearSystem) (cert : List (�
   fits_back : CertFits s cert → Fits
   fits_back f n = (picked_fits noughts fit s cert rises within).1 (f within ((picked_nonneg noughts fit s cert rises within).0 n))
 
-  pub decided_whole : (place : Place) (r : Result Bool CheckError) → IsDecided Fits (Refutes (picked_system s cert) (weights cert)) place r → IsDecided (CertFits s cert) (CertRefutes s cert) place r
+  pub decided_whole : (place : Place) (r : Result Bool ProgramError) → IsDecided Fits (Refutes (picked_system s cert) (weights cert)) place r → IsDecided (CertFits s cert) (CertRefutes s cert) place r
   decided_whole place (Ok true) d = record { fits_so = fits_so d.fits_so; holds_so = record { within = within; refutes = (picked_refutes noughts fit s cert rises within).0 d.holds_so } }
   decided_whole place (Ok false) d = (fits_so d.0, λ c. d.1 ((picked_refutes noughts fit s cert rises within).1 c.refutes))
-  decided_whole place (Err (Wide p)) d = (d.0, λ f. d.1 (fits_back f))
+  decided_whole place (Err (TooWide p)) d = (d.0, λ f. d.1 (fits_back f))
   decided_whole place (Err (NotDefinite j)) d = d
   decided_whole place (Err NoMemory) d = tt
 

@@ -11,14 +11,16 @@ use Rattle.mpc_rows.specs.declared.trees.Node.{Node}
 use Rattle.mpc_rows.specs.declared.trees.Node.TheVariants.{Split, Law, NoMove}
 use Rattle.mpc_rows.specs.Laws.{HasLawShape}
 use Rattle.mpc_condense.specs.Condensed.{IsCondensed}
+use Rattle.mpc_convex.specs.Convex.{HasProgram, IsConvexProgram}
+use Rattle.mpc_convex.specs.Refusals.{IsProgramCause}
 use Rattle.mpc_controller.specs.Parts.{Parts, IsLawFor, IsNodeFor, HaveShapes}
 use Rattle.mpc_check.specs.declared.answers.Spot.{Spot}
-use Rattle.mpc_check.specs.declared.answers.CheckError.{CheckError}
-use Rattle.mpc_check.specs.declared.answers.CheckError.TheVariants.{Wide, NotDefinite, NoMemory}
+use Rattle.mpc_convex.specs.declared.ProgramError.{ProgramError}
+use Rattle.mpc_convex.specs.declared.ProgramError.TheVariants.{TooWide, NotDefinite, NoMemory}
 use Rattle.mpc_check.specs.Findings.{refused, IsSearched}
 use Rattle.mpc_check.specs.LawConditions.{LawsMet}
 use Rattle.mpc_check.specs.LeafConditions.{TreeMet, TreeFinds}
-use Rattle.mpc_check.specs.Acceptance.{IsProgramOf, IsConvex, IsProgramCause, IsConvexCause, IsProgramRefusal, BehindMet, BehindFinds, Accepts, IsFound, IsCause}
+use Rattle.mpc_check.specs.Acceptance.{BehindMet, BehindFinds, Accepts, IsFound, IsCause}
 use Rattle.mpc_check.specs.Stretches.{HaveProgramShapes}
 use Rattle.mpc_paths.specs.Ways.{HasSplitRow}
 use Rattle.mpc_check.specs.LeafSystems.{NamesLaw}
@@ -60,7 +62,7 @@ pub splits_shaped : (plant : Plant) (qp : Qp) → IsCondensed qp plant → (laws
 splits_shaped plant qp c laws nodes h =
     subst (λ n. All (HasSplitRow n) nodes) (sym (counts_size plant qp c)) (All-from_recursion (HasSplitRow plant.n) nodes (all_split plant.n laws nodes (recursion_from_All (IsNodeFor plant.n laws) nodes h)))
 
-pub program_shapes : (parts : Parts) (qp : Qp) → IsProgramOf qp parts.plant → HaveShapes parts.plant parts.laws parts.tree → HaveProgramShapes qp parts.laws parts.tree
+pub program_shapes : (parts : Parts) (qp : Qp) → HasProgram parts.plant qp → HaveShapes parts.plant parts.laws parts.tree → HaveProgramShapes qp parts.laws parts.tree
 program_shapes parts qp program shapes = record {
   laws_fit = laws_shaped parts.plant qp program.condensed parts.laws shapes.laws_fit;
   complete = shapes.complete;
@@ -70,38 +72,26 @@ program_shapes parts qp program shapes = record {
 
 -- ---- answers
 module _ (qp : Qp) (parts : Parts) where
-  pub behind_tree : (r : Result (Option Spot) CheckError) → LawsMet qp parts.laws → IsSearched (TreeMet qp parts.laws parts.tree) (TreeFinds qp parts.laws parts.tree) r → IsSearched (BehindMet qp parts) (BehindFinds qp parts) r
+  pub behind_tree : (r : Result (Option Spot) ProgramError) → LawsMet qp parts.laws → IsSearched (TreeMet qp parts.laws parts.tree) (TreeFinds qp parts.laws parts.tree) r → IsSearched (BehindMet qp parts) (BehindFinds qp parts) r
   behind_tree (Ok None) m s = record { laws = m; leaves = s }
   behind_tree (Ok (Some spot)) m s = inr (m, s)
-  behind_tree (Err (Wide place)) m s = inr (m, s)
+  behind_tree (Err (TooWide place)) m s = inr (m, s)
   behind_tree (Err (NotDefinite j)) m s = inr (m, s)
   behind_tree (Err NoMemory) m s = tt
 
-  module _ (program : IsProgramOf qp parts.plant) (convex : IsConvex qp) where
+  module _ (program : IsConvexProgram parts.plant qp) where
     pub accepts_all : IsSearched (BehindMet qp parts) (BehindFinds qp parts) (Ok None) → Accepts parts
-    accepts_all s = record { qp = qp; program = program; convex = convex; behind = s }
+    accepts_all s = record { qp = qp; program = program; behind = s }
 
     pub refused_behind : (spot : Spot) → IsSearched (BehindMet qp parts) (BehindFinds qp parts) (Ok (Some spot)) → IsFound parts (refused spot)
-    refused_behind spot s = inr (record { qp = qp; program = program; convex = convex; first = s })
+    refused_behind spot s = inr (record { qp = qp; program = program; first = s })
 
-    pub behind_cause : (e : CheckError) → IsSearched (BehindMet qp parts) (BehindFinds qp parts) (Err e) → IsCause parts e
-    behind_cause (Wide place) s = inr (record { qp = qp; program = program; convex = convex; first = s })
-    behind_cause (NotDefinite step) s = inr (record { qp = qp; program = program; convex = convex; first = s })
+    pub behind_cause : (e : ProgramError) → IsSearched (BehindMet qp parts) (BehindFinds qp parts) (Err e) → IsCause parts e
+    behind_cause (TooWide place) s = inr (record { qp = qp; program = program; first = s })
+    behind_cause (NotDefinite step) s = inr (record { qp = qp; program = program; first = s })
     behind_cause NoMemory s = tt
 
--- ---- refusals of the program
-module _ (plant : Plant) where
-  pub program_refused : (e : CheckError) → IsProgramCause plant e → IsProgramRefusal plant e
-  program_refused (Wide place) h = inl h
-  program_refused (NotDefinite step) h = absurd h
-  program_refused NoMemory h = tt
-
-  pub convex_refused : (qp : Qp) → IsProgramOf qp plant → (e : CheckError) → IsConvexCause qp e → IsProgramRefusal plant e
-  convex_refused qp program (Wide place) h = inr (record { qp = qp; program = program; wide = h })
-  convex_refused qp program (NotDefinite step) h = record { qp = qp; program = program; bad = h }
-  convex_refused qp program NoMemory h = tt
-
-pub refused_cause : (parts : Parts) (e : CheckError) → IsProgramRefusal parts.plant e → IsCause parts e
-refused_cause parts (Wide place) h = inl h
+pub refused_cause : (parts : Parts) (e : ProgramError) → IsProgramCause parts.plant e → IsCause parts e
+refused_cause parts (TooWide place) h = inl h
 refused_cause parts (NotDefinite step) h = inl h
 refused_cause parts NoMemory h = tt

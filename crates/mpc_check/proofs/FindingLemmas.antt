@@ -3,8 +3,8 @@ use Rattle.std.proofs.Common.{◌≡◌, ℕ, ◌+◌, ◌<◌, ◌≤◌, ◌�
 use Rattle.std.proofs.lemmas.Bool.{cases_order}
 use Rattle.mpc_rows.specs.declared.places.Place.{Place}
 use Rattle.mpc_check.specs.declared.answers.Spot.{Spot}
-use Rattle.mpc_check.specs.declared.answers.CheckError.{CheckError}
-use Rattle.mpc_check.specs.declared.answers.CheckError.TheVariants.{Wide, NotDefinite, NoMemory}
+use Rattle.mpc_convex.specs.declared.ProgramError.{ProgramError}
+use Rattle.mpc_convex.specs.declared.ProgramError.TheVariants.{TooWide, NotDefinite, NoMemory}
 use Rattle.mpc_check.specs.Findings.{Finding, refused, too_wide, not_definite, IsMet, IsUnmet, Each, IsFirstOf, IsFirstOfTwo, IsSearched, IsDecided}
 
 -- nothing is found where all is met, and at most one thing anyway
@@ -58,8 +58,8 @@ module _ (met later_met : Type 0) (finds later : Finding → Type 0) (first : Is
   single_pair both to_first to_second = record { not_met = λ f a b. two_met f a (to_first b) (to_second b); one = one_of_two }
 
 -- ---- what a search answers, part by part
-pub first_error : (met : ℕ → Type 0) (finds : ℕ → Finding → Type 0) (count k : ℕ) → k < count → Each met k → (e : CheckError) → IsSearched (met k) (finds k) (Err e) → IsSearched (Each met count) (IsFirstOf met finds count) (Err e)
-first_error met finds count k h before (Wide place) s = record { place = k; within = h; before = before; here = s }
+pub first_error : (met : ℕ → Type 0) (finds : ℕ → Finding → Type 0) (count k : ℕ) → k < count → Each met k → (e : ProgramError) → IsSearched (met k) (finds k) (Err e) → IsSearched (Each met count) (IsFirstOf met finds count) (Err e)
+first_error met finds count k h before (TooWide place) s = record { place = k; within = h; before = before; here = s }
 first_error met finds count k h before (NotDefinite j) s = record { place = k; within = h; before = before; here = s }
 first_error met finds count k h before NoMemory s = tt
 
@@ -78,13 +78,13 @@ pub each_done : (met : ℕ → Type 0) (k count : ℕ) → count ≤ k → Each 
 each_done met k count h all j l = all j (omega arith)
 
 -- an error of the second part, or of the first
-pub earlier_error : (met all : Type 0) (finds later : Finding → Type 0) (e : CheckError) → IsSearched met finds (Err e) → IsSearched all (IsFirstOfTwo met finds later) (Err e)
-earlier_error met all finds later (Wide place) s = inl s
+pub earlier_error : (met all : Type 0) (finds later : Finding → Type 0) (e : ProgramError) → IsSearched met finds (Err e) → IsSearched all (IsFirstOfTwo met finds later) (Err e)
+earlier_error met all finds later (TooWide place) s = inl s
 earlier_error met all finds later (NotDefinite j) s = inl s
 earlier_error met all finds later NoMemory s = tt
 
 -- an error of what decides one condition
-pub condition_error : (fits holds : Type 0) (spot : Spot) (place : Place) (e : CheckError) → IsDecided fits holds place (Err e) → IsSearched (IsMet fits holds) (IsUnmet fits holds spot place) (Err e)
-condition_error fits holds spot place (Wide p) d = d
+pub condition_error : (fits holds : Type 0) (spot : Spot) (place : Place) (e : ProgramError) → IsDecided fits holds place (Err e) → IsSearched (IsMet fits holds) (IsUnmet fits holds spot place) (Err e)
+condition_error fits holds spot place (TooWide p) d = d
 condition_error fits holds spot place (NotDefinite j) d = d
 condition_error fits holds spot place NoMemory d = tt

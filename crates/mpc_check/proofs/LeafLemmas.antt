@@ -17,8 +17,8 @@ use Rattle.mpc_rows.specs.LawRows.{IsLawRow, LawRowFits, broken_row}
 use Rattle.mpc_rows.specs.LawLaws.{OneLawRow}
 use Rattle.mpc_controller.specs.Replies.{IsLawNumbered}
 use Rattle.mpc_check.specs.declared.answers.Spot.{Spot}
-use Rattle.mpc_check.specs.declared.answers.CheckError.{CheckError}
-use Rattle.mpc_check.specs.declared.answers.CheckError.TheVariants.{Wide, NotDefinite, NoMemory}
+use Rattle.mpc_convex.specs.declared.ProgramError.{ProgramError}
+use Rattle.mpc_convex.specs.declared.ProgramError.TheVariants.{TooWide, NotDefinite, NoMemory}
 use Rattle.mpc_paths.specs.declared.ways.Turn.{Turn}
 use Rattle.mpc_check.specs.Certs.{CertFits, CertRefutes}
 use Rattle.mpc_check.specs.Findings.{Finding, refused, too_wide, not_definite, IsSearched, IsDecided}
@@ -45,7 +45,7 @@ pub whole_system : (qp : Qp) (nodes : List Node) (way : List Turn) (more : ℕ) 
 unfolding joint_system
 whole_system qp nodes way more last e f = λ i. system_at qp nodes way (e i) (f i)
 
-pub decided_there : (s t : LinearSystem) → s ≡ t → (cert : List (ℕ × ℚ)) (place : Place) (r : Result Bool CheckError) → IsDecided (CertFits s cert) (CertRefutes s cert) place r → IsDecided (CertFits t cert) (CertRefutes t cert) place r
+pub decided_there : (s t : LinearSystem) → s ≡ t → (cert : List (ℕ × ℚ)) (place : Place) (r : Result Bool ProgramError) → IsDecided (CertFits s cert) (CertRefutes s cert) place r → IsDecided (CertFits t cert) (CertRefutes t cert) place r
 decided_there s t e cert place r d = subst (λ u. IsDecided (CertFits u cert) (CertRefutes u cert) place r) e d
 
 -- ---- a row of a leaf's law
@@ -62,22 +62,22 @@ module _ (law_row_unique : OneLawRow) (qp : Qp) (path : List Row) (law : LawOfSe
   its_cert : RowHolds qp path law certs i → CertRefutes (hold_system qp path row) cert
   its_cert h = subst (CertRefutes (hold_system qp path row)) (sym (same_cert h.cert h.is_cert)) (subst (λ x. CertRefutes (hold_system qp path x) h.cert) (sym (law_row_unique qp law (i + 1) row h.row is_row h.is_row)) h.refutes)
 
-  pub row_decided : (place : Place) (r : Result Bool CheckError) → IsDecided (CertFits (hold_system qp path row) cert) (CertRefutes (hold_system qp path row) cert) place r → IsDecided (RowFits qp path law certs i) (RowHolds qp path law certs i) place r
+  pub row_decided : (place : Place) (r : Result Bool ProgramError) → IsDecided (CertFits (hold_system qp path row) cert) (CertRefutes (hold_system qp path row) cert) place r → IsDecided (RowFits qp path law certs i) (RowHolds qp path law certs i) place r
   row_decided place (Ok true) d = record { fits_so = all_fit d.fits_so; holds_so = record { row = row; is_row = is_row; cert = cert; is_cert = is_cert; refutes = d.holds_so } }
   row_decided place (Ok false) d = (all_fit d.0, λ h. d.1 (its_cert h))
-  row_decided place (Err (Wide p)) d = (d.0, λ f. d.1 (f.sums_fit row cert is_row is_cert))
+  row_decided place (Err (TooWide p)) d = (d.0, λ f. d.1 (f.sums_fit row cert is_row is_cert))
   row_decided place (Err (NotDefinite j)) d = d
   row_decided place (Err NoMemory) d = tt
 
 -- ---- nodes
-pub law_leaf : (qp : Qp) (laws : List LawOfSet) (path : List Row) (number law_number : ℕ) (certs : List (List (ℕ × ℚ))) (law : LawOfSet) → IsLawNumbered laws law_number law → (r : Result (Option Spot) CheckError)
+pub law_leaf : (qp : Qp) (laws : List LawOfSet) (path : List Row) (number law_number : ℕ) (certs : List (List (ℕ × ℚ))) (law : LawOfSet) → IsLawNumbered laws law_number law → (r : Result (Option Spot) ProgramError)
     → IsSearched (LawLeafMet qp path law certs) (LawLeafFinds qp path number law certs) r → IsSearched (NodeMet qp laws path (Law law_number certs)) (NodeFinds qp laws path number (Law law_number certs)) r
 law_leaf qp laws path number law_number certs law is (Ok None) s = λ other e. subst (λ l. LawLeafMet qp path l certs) (same other e) s
   where
     same : (other : LawOfSet) → IsLawNumbered laws law_number other → law ≡ other
     same other e = cc
 law_leaf qp laws path number law_number certs law is (Ok (Some spot)) s = record { law = law; is = is; finds = s }
-law_leaf qp laws path number law_number certs law is (Err (Wide place)) s = record { law = law; is = is; finds = s }
+law_leaf qp laws path number law_number certs law is (Err (TooWide place)) s = record { law = law; is = is; finds = s }
 law_leaf qp laws path number law_number certs law is (Err (NotDefinite j)) s = record { law = law; is = is; finds = s }
 law_leaf qp laws path number law_number certs law is (Err NoMemory) s = tt
 
@@ -94,9 +94,9 @@ module _ (one_path : OnePath) (path_of_way : PathOfWay) (qp : Qp) (laws : List L
   found_there : (f : Finding) → NodeFinds qp laws path (place + 1) node f → NodeAtFinds qp laws nodes place f
   found_there f h = record { path = path; node = node; leads = path_of_way nodes place way leads; is = is; finds = h }
 
-  pub node_there : (r : Result (Option Spot) CheckError) → IsSearched (NodeMet qp laws path node) (NodeFinds qp laws path (place + 1) node) r → IsSearched (NodeAtMet qp laws nodes place) (NodeAtFinds qp laws nodes place) r
+  pub node_there : (r : Result (Option Spot) ProgramError) → IsSearched (NodeMet qp laws path node) (NodeFinds qp laws path (place + 1) node) r → IsSearched (NodeAtMet qp laws nodes place) (NodeAtFinds qp laws nodes place) r
   node_there (Ok None) s = met_there s
   node_there (Ok (Some spot)) s = found_there (refused spot) s
-  node_there (Err (Wide p)) s = found_there (too_wide p) s
+  node_there (Err (TooWide p)) s = found_there (too_wide p) s
   node_there (Err (NotDefinite j)) s = found_there (not_definite j) s
   node_there (Err NoMemory) s = tt

@@ -20,5 +20,4 @@ pub mod CheckLemmas
 pub mod FindingLemmas
 pub mod StretchLemmas
 pub mod SideLemmas
-pub mod PivotPlaces
 pub mod OneFinding

@@ -3,7 +3,6 @@ use Rattle.std.proofs.Common.{◌≡◌, ℕ, ◌+◌, ◌-◌, inl, inr, List, 
 use Rattle.std.specs.Prelude.{slice_get, slice_index}
 use Rattle.mpc_exact.specs.Rational.{ℚ}
 use Rattle.mpc_space.specs.Matrix.{height, entry}
-use Rattle.mpc_definite.specs.Pivots.{IsFirstNotPositive, IsFirstWide}
 use Rattle.mpc_plant.specs.declared.plants.Plant.{Plant}
 use Rattle.mpc_rows.specs.declared.programs.Qp.{Qp}
 use Rattle.mpc_rows.specs.declared.laws.Law.{Law as LawOfSet}
@@ -12,8 +11,9 @@ use Rattle.mpc_rows.specs.declared.places.Place.{Place}
 use Rattle.mpc_rows.specs.declared.places.Place.TheVariants.{Pivot, CheckLaw, CheckLeaf}
 use Rattle.mpc_rows.specs.declared.trees.Node.{Node}
 use Rattle.mpc_rows.specs.declared.trees.Node.TheVariants.{Split, Law, NoMove}
-use Rattle.mpc_condense.specs.ProgramLaws.{NoWidePlace, OneWidePlace}
 use Rattle.mpc_condense.specs.BestReplies.{OneProgram}
+use Rattle.mpc_convex.specs.Convex.{IsConvexProgram}
+use Rattle.mpc_convex.specs.Outcomes.{not_definite as indefinite, too_wide as wide, convex, OneProgramOutcome}
 use Rattle.mpc_controller.specs.Parts.{Parts}
 use Rattle.mpc_check.specs.declared.answers.Spot.TheVariants.{Stationary, Active, LeafRow, Leaf}
 use Rattle.mpc_systems.specs.Systems.{joint_system}
@@ -21,10 +21,9 @@ use Rattle.mpc_check.specs.Certs.{CertFits, CertRefutes}
 use Rattle.mpc_check.specs.Findings.{Finding, refused, too_wide, not_definite}
 use Rattle.mpc_check.specs.LawConditions.{GradientFits, IsStationaryAt, StationaryMet, StationaryFinds, LineMet, LineFinds, LinesMet, LinesFind, ActiveFits, IsActiveAt, ActiveMet, ActiveFinds, RowMet, RowFinds, MemberMet, MemberFinds, MembersMet, MembersFind, LawMet, LawFinds, LawAtMet, LawAtFinds, LawsMet, LawsFind}
 use Rattle.mpc_check.specs.LeafConditions.{RowFits, RowHolds, LeafRowMet, LeafRowFinds, LawLeafMet, LawLeafFinds, NodeMet, NodeFinds, NodeAtMet, NodeAtFinds, TreeMet, TreeFinds}
-use Rattle.mpc_check.specs.Acceptance.{IsProgramOf, IsConvex, IsWidePivot, IsBadPivot, ProgramFinds, BehindMet, BehindFinds, NothingFound, OneFinding, NoProgramFinding}
+use Rattle.mpc_check.specs.Acceptance.{ProgramFinds, BehindMet, BehindFinds, NothingFound, OneFinding, NoProgramFinding}
 use Rattle.mpc_check.proofs.FindingLemmas.{IsSingle, single_condition, single_list, single_pair}
 use Rattle.mpc_paths.specs.Paths.{OnePath}
-use Rattle.mpc_check.proofs.PivotPlaces.{passes_not_positive, passes_wide, one_not_positive, one_pivot_wide, not_both}
 
 -- ---- laws
 module _ (qp : Qp) (number : ℕ) (law : LawOfSet) where
@@ -99,67 +98,38 @@ module _ (one_path : OnePath) where
       (single_laws qp parts.laws) (single_tree qp parts.laws parts.tree) (BehindMet qp parts) (λ m. m.laws) (λ m. m.leaves)
 
   -- ---- the program
-  module _ (one_program : OneProgram) (not_wide : NoWidePlace) (one_wide_place : OneWidePlace) (plant : Plant) where
-    same_qp : (one two : Qp) → IsProgramOf one plant → IsProgramOf two plant → one ≡ two
-    same_qp one two a b = one_program plant one two a.condensed b.condensed
-
-    program_met : (f : Finding) → ProgramFinds plant f → (qp : Qp) → IsProgramOf qp plant → IsConvex qp → ⊥
-    program_met (refused spot) a qp p c = a
-    program_met (too_wide place) (inl w) qp p c = not_wide plant place p.fits w
-    program_met (too_wide place) (inr w) qp p c = passes_wide (entry w.qp.h) (height w.qp.h) (subst IsConvex (same_qp qp w.qp p w.program) c).passes w.wide.step w.wide.first
-    program_met (not_definite step) a qp p c = passes_not_positive (entry a.qp.h) (height a.qp.h) (subst IsConvex (same_qp qp a.qp p a.program) c).passes step a.bad.first
-
-    -- the steps of one program
-    wide_steps : (p q : Place) → IsWidePivot plant p → IsWidePivot plant q → p ≡ q
-    wide_steps p q a b =
-        let same : a.qp ≡ b.qp = same_qp a.qp b.qp a.program b.program in
-        let step : a.wide.step ≡ b.wide.step = one_pivot_wide (entry b.qp.h) (height b.qp.h) a.wide.step b.wide.step (subst (λ (qp : Qp). IsFirstWide (entry qp.h) (height qp.h) a.wide.step) same a.wide.first) b.wide.first in
-        a.wide.place_is ∙ ap Pivot step ∙ sym b.wide.place_is
-
-    bad_steps : (j k : ℕ) → IsBadPivot plant j → IsBadPivot plant k → j ≡ k
-    bad_steps j k a b =
-        let same : a.qp ≡ b.qp = same_qp a.qp b.qp a.program b.program in
-        one_not_positive (entry b.qp.h) (height b.qp.h) j k (subst (λ (qp : Qp). IsFirstNotPositive (entry qp.h) (height qp.h) j) same a.bad.first) b.bad.first
-
-    bad_and_wide : (j : ℕ) (p : Place) → IsBadPivot plant j → IsWidePivot plant p → ⊥
-    bad_and_wide j p a b =
-        let same : a.qp ≡ b.qp = same_qp a.qp b.qp a.program b.program in
-        not_both (entry b.qp.h) (height b.qp.h) j b.wide.step (subst (λ (qp : Qp). IsFirstNotPositive (entry qp.h) (height qp.h) j) same a.bad.first) b.wide.first
+  module _ (one_outcome : OneProgramOutcome) (plant : Plant) where
+    program_met : (f : Finding) → ProgramFinds plant f → (qp : Qp) → IsConvexProgram plant qp → ⊥
+    program_met (refused spot) a qp c = a
+    program_met (too_wide place) a qp c = (let e = one_outcome plant (wide place) convex a (qp, c) in absurd (cc))
+    program_met (not_definite step) a qp c = (let e = one_outcome plant (indefinite step) convex a (qp, c) in absurd (cc))
 
     one_program_finding : (f g : Finding) → ProgramFinds plant f → ProgramFinds plant g → f ≡ g
     one_program_finding (refused spot) g a b = absurd a
     one_program_finding (too_wide p) (refused spot) a b = absurd b
-    one_program_finding (too_wide p) (too_wide q) (inl a) (inl b) = ap too_wide (one_wide_place plant p q a b)
-    one_program_finding (too_wide p) (too_wide q) (inl a) (inr b) = absurd (not_wide plant p b.program.fits a)
-    one_program_finding (too_wide p) (too_wide q) (inr a) (inl b) = absurd (not_wide plant q a.program.fits b)
-    one_program_finding (too_wide p) (too_wide q) (inr a) (inr b) = ap too_wide (wide_steps p q a b)
-    one_program_finding (too_wide p) (not_definite k) (inl a) b = absurd (not_wide plant p b.program.fits a)
-    one_program_finding (too_wide p) (not_definite k) (inr a) b = absurd (bad_and_wide k p b a)
+    one_program_finding (too_wide p) (too_wide q) a b = (let e = one_outcome plant (wide p) (wide q) a b in cc)
+    one_program_finding (too_wide p) (not_definite k) a b = (let e = one_outcome plant (wide p) (indefinite k) a b in absurd (cc))
     one_program_finding (not_definite j) (refused spot) a b = absurd b
-    one_program_finding (not_definite j) (too_wide q) a (inl b) = absurd (not_wide plant q a.program.fits b)
-    one_program_finding (not_definite j) (too_wide q) a (inr b) = absurd (bad_and_wide j q a b)
-    one_program_finding (not_definite j) (not_definite k) a b = ap not_definite (bad_steps j k a b)
+    one_program_finding (not_definite j) (too_wide q) a b = (let e = one_outcome plant (indefinite j) (wide q) a b in absurd (cc))
+    one_program_finding (not_definite j) (not_definite k) a b = (let e = one_outcome plant (indefinite j) (indefinite k) a b in cc)
 
   -- ---- the controller
   behind_there : (parts : Parts) (f : Finding) (one two : Qp) → one ≡ two → BehindFinds one parts f → BehindFinds two parts f
   behind_there parts f one two e b = subst (λ qp. BehindFinds qp parts f) e b
 
-  module _ (one_program : OneProgram) (not_wide : NoWidePlace) (one_wide_place : OneWidePlace) where
-    same : (plant : Plant) (one two : Qp) → IsProgramOf one plant → IsProgramOf two plant → one ≡ two
-    same = same_qp one_program not_wide one_wide_place
-
-    met : (plant : Plant) (f : Finding) → ProgramFinds plant f → (qp : Qp) → IsProgramOf qp plant → IsConvex qp → ⊥
-    met = program_met one_program not_wide one_wide_place
+  module _ (one_program : OneProgram) (one_outcome : OneProgramOutcome) where
+    same : (plant : Plant) (one two : Qp) → IsConvexProgram plant one → IsConvexProgram plant two → one ≡ two
+    same plant one two a b = one_program plant one two a.has_program.condensed b.has_program.condensed
 
     pub no_program_finding : NoProgramFinding
-    no_program_finding plant qp f p c a = met plant f a qp p c
+    no_program_finding plant qp f c a = program_met one_outcome plant f a qp c
 
     pub nothing_found : NothingFound
-    nothing_found parts f a (inl p) = met parts.plant f p a.qp a.program a.convex
+    nothing_found parts f a (inl p) = program_met one_outcome parts.plant f p a.qp a.program
     nothing_found parts f a (inr b) = (single_behind a.qp parts).not_met f (behind_there parts f b.qp a.qp (same parts.plant b.qp a.qp b.program a.program) b.first) a.behind
 
     pub one_finding : OneFinding
-    one_finding parts f g (inl a) (inl b) = one_program_finding one_program not_wide one_wide_place parts.plant f g a b
-    one_finding parts f g (inl a) (inr b) = absurd (met parts.plant f a b.qp b.program b.convex)
-    one_finding parts f g (inr a) (inl b) = absurd (met parts.plant g b a.qp a.program a.convex)
+    one_finding parts f g (inl a) (inl b) = one_program_finding one_outcome parts.plant f g a b
+    one_finding parts f g (inl a) (inr b) = absurd (program_met one_outcome parts.plant f a b.qp b.program)
+    one_finding parts f g (inr a) (inl b) = absurd (program_met one_outcome parts.plant g b a.qp a.program)
     one_finding parts f g (inr a) (inr b) = (single_behind b.qp parts).one f g (behind_there parts f a.qp b.qp (same parts.plant a.qp b.qp a.program b.program) a.first) b.first

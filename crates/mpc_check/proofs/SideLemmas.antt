@@ -8,7 +8,7 @@ use Rattle.mpc_rows.specs.declared.programs.Qp.{Qp}
 use Rattle.mpc_rows.specs.declared.laws.Law.{Law}
 use Rattle.mpc_rows.specs.declared.trees.Node.{Node}
 use Rattle.mpc_check.specs.declared.answers.Spot.{Spot}
-use Rattle.mpc_check.specs.declared.answers.CheckError.{CheckError}
+use Rattle.mpc_convex.specs.declared.ProgramError.{ProgramError}
 use Rattle.mpc_check.specs.declared.stretches.Stretch.{Stretch}
 use Rattle.mpc_check.specs.Findings.{IsSearched}
 use Rattle.mpc_check.specs.LeafConditions.{NodeAtMet, NodeAtFinds, StretchMet, StretchFinds}
@@ -41,38 +41,38 @@ some_left from nodes parts low = let part = div-le_self (nodes - from) parts in 
 
 -- ---- what is found
 -- the first answer that isn't that all is met
-abbrev pub first_of : List (Result (Option Spot) CheckError) → Result (Option Spot) CheckError
+abbrev pub first_of : List (Result (Option Spot) ProgramError) → Result (Option Spot) ProgramError
 first_of [] = Ok None
 first_of (Ok None ∷ answers) = first_of answers
 first_of (Ok (Some spot) ∷ answers) = Ok (Some spot)
 first_of (Err e ∷ answers) = Err e
 
 -- an answer that all is met is passed over, and every other one is the first
-at_place : (answers : List (Result (Option Spot) CheckError)) (i : ℕ) (x : Result (Option Spot) CheckError) → i < length answers → x ≡ get_or answers i x → drop i answers ≡ x ∷ drop (i + 1) answers
+at_place : (answers : List (Result (Option Spot) ProgramError)) (i : ℕ) (x : Result (Option Spot) ProgramError) → i < length answers → x ≡ get_or answers i x → drop i answers ≡ x ∷ drop (i + 1) answers
 at_place answers i x inside is =
     let next : suc i ≡ i + 1 = omega arith in
     drop-cons answers i x inside ∙ (λ j. sym is j ∷ drop (next j) answers)
 
-pub passed_over : (answers : List (Result (Option Spot) CheckError)) (i : ℕ) (x : Result (Option Spot) CheckError) → i < length answers → x ≡ get_or answers i x → x ≡ Ok None → first_of answers ≡ first_of (drop i answers) → first_of answers ≡ first_of (drop (i + 1) answers)
+pub passed_over : (answers : List (Result (Option Spot) ProgramError)) (i : ℕ) (x : Result (Option Spot) ProgramError) → i < length answers → x ≡ get_or answers i x → x ≡ Ok None → first_of answers ≡ first_of (drop i answers) → first_of answers ≡ first_of (drop (i + 1) answers)
 passed_over answers i x inside is none h = h ∙ ap first_of (at_place answers i x inside is) ∙ (λ j. first_of (none j ∷ drop (i + 1) answers))
 
-first_by : (x : Result (Option Spot) CheckError) (answers : List (Result (Option Spot) CheckError)) → ¬ (x ≡ Ok None) → first_of (x ∷ answers) ≡ x
+first_by : (x : Result (Option Spot) ProgramError) (answers : List (Result (Option Spot) ProgramError)) → ¬ (x ≡ Ok None) → first_of (x ∷ answers) ≡ x
 first_by (Ok None) answers other = absurd (other refl)
 first_by (Ok (Some spot)) answers other = refl
 first_by (Err e) answers other = refl
 
-pub first_at : (answers : List (Result (Option Spot) CheckError)) (i : ℕ) (x : Result (Option Spot) CheckError) → i < length answers → x ≡ get_or answers i x → ¬ (x ≡ Ok None) → first_of answers ≡ first_of (drop i answers) → first_of answers ≡ x
+pub first_at : (answers : List (Result (Option Spot) ProgramError)) (i : ℕ) (x : Result (Option Spot) ProgramError) → i < length answers → x ≡ get_or answers i x → ¬ (x ≡ Ok None) → first_of answers ≡ first_of (drop i answers) → first_of answers ≡ x
 first_at answers i x inside is other h = h ∙ ap first_of (at_place answers i x inside is) ∙ first_by x (drop (i + 1) answers) other
 
-pub none_of : (answers : List (Result (Option Spot) CheckError)) (i : ℕ) → length answers ≤ i → first_of answers ≡ first_of (drop i answers) → first_of answers ≡ Ok None
+pub none_of : (answers : List (Result (Option Spot) ProgramError)) (i : ℕ) → length answers ≤ i → first_of answers ≡ first_of (drop i answers) → first_of answers ≡ Ok None
 none_of answers i all h = h ∙ ap first_of (drop_all i answers all)
 
 module _ (qp : Qp) (laws : List Law) (nodes : List Node) where
-  abbrev Searched : ℕ → ℕ → Result (Option Spot) CheckError → Type 0
+  abbrev Searched : ℕ → ℕ → Result (Option Spot) ProgramError → Type 0
   Searched from to = IsSearched (StretchMet qp laws nodes from to) (StretchFinds qp laws nodes from to)
 
-  pub each_searched : (stretches : List Stretch) (answers : List (Result (Option Spot) CheckError)) → length answers ≡ length stretches
-      → ((i : ℕ) (s : Stretch) (answer : Result (Option Spot) CheckError) → i < length stretches → IsSearched (StretchMet qp laws nodes (slice_index_or stretches i s).from (slice_index_or stretches i s).to) (StretchFinds qp laws nodes (slice_index_or stretches i s).from (slice_index_or stretches i s).to) (slice_index_or answers i answer))
+  pub each_searched : (stretches : List Stretch) (answers : List (Result (Option Spot) ProgramError)) → length answers ≡ length stretches
+      → ((i : ℕ) (s : Stretch) (answer : Result (Option Spot) ProgramError) → i < length stretches → IsSearched (StretchMet qp laws nodes (slice_index_or stretches i s).from (slice_index_or stretches i s).to) (StretchFinds qp laws nodes (slice_index_or stretches i s).from (slice_index_or stretches i s).to) (slice_index_or answers i answer))
       → AreSearched qp laws nodes stretches answers
   each_searched [] [] same each = tt
   each_searched [] (answer ∷ answers) same each = absurd (omega (arith, same))
@@ -81,7 +81,7 @@ module _ (qp : Qp) (laws : List Law) (nodes : List Node) where
       (each 0 s answer (omega arith), each_searched stretches answers (omega (arith, same)) (λ i t a inside. each (suc i) t a (omega (arith, inside))))
 
   -- it answers for all as one
-  pub as_one : (from to : ℕ) (stretches : List Stretch) (answers : List (Result (Option Spot) CheckError)) → AreNeighbours from to stretches → AreSearched qp laws nodes stretches answers → Searched from to (first_of answers)
+  pub as_one : (from to : ℕ) (stretches : List Stretch) (answers : List (Result (Option Spot) ProgramError)) → AreNeighbours from to stretches → AreSearched qp laws nodes stretches answers → Searched from to (first_of answers)
   as_one from to [] [] h s = subst (λ e. StretchMet qp laws nodes from e) h (none_yet (NodeAtMet qp laws nodes) (NodeAtFinds qp laws nodes) from)
   as_one from to [] (answer ∷ answers) h s = absurd s
   as_one from to (first ∷ stretches) [] h s = absurd s
@@ -93,6 +93,6 @@ module _ (qp : Qp) (laws : List Law) (nodes : List Node) where
   as_one from to (first ∷ stretches) (Err e ∷ answers) h s =
       subst (λ f. Searched f to (Err e)) h.0 (further_error (NodeAtMet qp laws nodes) (NodeAtFinds qp laws nodes) first.from first.to to h.1 (neighbours_rise first.to to stretches h.2) e s.0)
 
-pub answers_as_one : (answers : List (Result (Option Spot) CheckError)) (answer : Result (Option Spot) CheckError) → first_of answers ≡ answer → AnswersAsOne answers answer
+pub answers_as_one : (answers : List (Result (Option Spot) ProgramError)) (answer : Result (Option Spot) ProgramError) → first_of answers ≡ answer → AnswersAsOne answers answer
 answers_as_one answers answer is qp laws nodes from to stretches neighbours searched =
     subst (λ r. IsSearched (StretchMet qp laws nodes from to) (StretchFinds qp laws nodes from to) r) is (as_one qp laws nodes from to stretches answers neighbours searched)

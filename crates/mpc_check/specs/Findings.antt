@@ -2,8 +2,8 @@
 use Rattle.std.specs.Prelude.{◌≡◌, ℕ, ◌<◌, ◌≤◌, ◌⊎◌, Option, Some, None, Result, Ok, Err, Bool, true, false}
 use Rattle.mpc_rows.specs.declared.places.Place.{Place}
 use Rattle.mpc_check.specs.declared.answers.Spot.{Spot}
-use Rattle.mpc_check.specs.declared.answers.CheckError.{CheckError}
-use Rattle.mpc_check.specs.declared.answers.CheckError.TheVariants.{Wide, NotDefinite, NoMemory}
+use Rattle.mpc_convex.specs.declared.ProgramError.{ProgramError}
+use Rattle.mpc_convex.specs.declared.ProgramError.TheVariants.{TooWide, NotDefinite, NoMemory}
 
 -- what is found: that a condition fails at a spot, that one of its numbers is too wide at a place, or that a pivot isn't positive
 pub data Finding : Type 0 where
@@ -51,17 +51,17 @@ IsFirstOfTwo met finds later finding = finds finding ⊎ (met × later finding)
 
 -- ---- what a search answers
 -- no spot where all is met; else what is found, unless there is no memory
-abbrev pub IsSearched : Type 0 → (Finding → Type 0) → Result (Option Spot) CheckError → Type 0
+abbrev pub IsSearched : Type 0 → (Finding → Type 0) → Result (Option Spot) ProgramError → Type 0
 IsSearched met finds (Ok None) = met
 IsSearched met finds (Ok (Some spot)) = finds (refused spot)
-IsSearched met finds (Err (Wide place)) = finds (too_wide place)
+IsSearched met finds (Err (TooWide place)) = finds (too_wide place)
 IsSearched met finds (Err (NotDefinite j)) = finds (not_definite j)
 IsSearched met finds (Err NoMemory) = Unit {0}
 
 -- whether one condition holds, unless its numbers are too wide, at this place, or there is no memory
-abbrev pub IsDecided : Type 0 → Type 0 → Place → Result Bool CheckError → Type 0
+abbrev pub IsDecided : Type 0 → Type 0 → Place → Result Bool ProgramError → Type 0
 IsDecided fits holds place (Ok true) = IsMet fits holds
 IsDecided fits holds place (Ok false) = fits × ¬ holds
-IsDecided fits holds place (Err (Wide p)) = (p ≡ place) × ¬ fits
+IsDecided fits holds place (Err (TooWide p)) = (p ≡ place) × ¬ fits
 IsDecided fits holds place (Err (NotDefinite j)) = ⊥
 IsDecided fits holds place (Err NoMemory) = Unit {0}

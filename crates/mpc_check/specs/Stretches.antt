@@ -6,7 +6,7 @@ use Rattle.mpc_rows.specs.declared.trees.Node.{Node}
 use Rattle.mpc_rows.specs.Laws.{HasLawShape}
 use Rattle.mpc_controller.specs.Preorder.{IsTree}
 use Rattle.mpc_check.specs.declared.answers.Spot.{Spot}
-use Rattle.mpc_check.specs.declared.answers.CheckError.{CheckError}
+use Rattle.mpc_convex.specs.declared.ProgramError.{ProgramError}
 use Rattle.mpc_check.specs.declared.stretches.Stretch.{Stretch}
 use Rattle.mpc_check.specs.Findings.{IsSearched}
 use Rattle.mpc_check.specs.LeafConditions.{StretchMet, StretchFinds}
@@ -33,7 +33,7 @@ AreNeighbours from to (s ∷ stretches) = (s.from ≡ from) × (s.from ≤ s.to)
 
 -- ---- what is found of them
 -- these are the answers of a search of each
-abbrev pub AreSearched : Qp → List Law → List Node → List Stretch → List (Result (Option Spot) CheckError) → Type 0
+abbrev pub AreSearched : Qp → List Law → List Node → List Stretch → List (Result (Option Spot) ProgramError) → Type 0
 AreSearched qp laws nodes [] [] = Unit {0}
 AreSearched qp laws nodes [] (answer ∷ answers) = ⊥
 AreSearched qp laws nodes (s ∷ stretches) [] = ⊥
@@ -41,7 +41,7 @@ AreSearched qp laws nodes (s ∷ stretches) (answer ∷ answers) =
     IsSearched (StretchMet qp laws nodes s.from s.to) (StretchFinds qp laws nodes s.from s.to) answer × AreSearched qp laws nodes stretches answers
 
 -- whichever neighbouring stretches were searched with these answers, this is the answer of a search of them as one
-abbrev pub AnswersAsOne : List (Result (Option Spot) CheckError) → Result (Option Spot) CheckError → Type 0
+abbrev pub AnswersAsOne : List (Result (Option Spot) ProgramError) → Result (Option Spot) ProgramError → Type 0
 AnswersAsOne answers answer =
     (qp : Qp) (laws : List Law) (nodes : List Node) (from to : ℕ) (stretches : List Stretch) → AreNeighbours from to stretches → AreSearched qp laws nodes stretches answers
     → IsSearched (StretchMet qp laws nodes from to) (StretchFinds qp laws nodes from to) answer

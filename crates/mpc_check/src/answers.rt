@@ -1,11 +1,7 @@
 //! What a check answers.
 
-ghost use Rattle.std.specs.Prelude.{◌≡◌};
-ghost use Rattle.mpc_check.specs.declared.answers.CheckError.TheVariants.{NoMemory as NoMoreMemory};
-
-use mpc_frac::NoMemory;
-use mpc_rows::Place;
-use thiserror::Error;
+/// Why nothing is found of a controller. `TooWide` names the place of the first condition that isn't met.
+pub use mpc_convex::ProgramError as CheckError;
 
 /// Where a controller fails. Laws, lines, rows and nodes are counted from 1.
 #[derive(Clone, Copy, Debug, PartialEq, Eq, Drop)]
@@ -27,26 +23,4 @@ pub enum Answer {
     Accepted,
     /// The first condition that isn't met fails here.
     Refused(Spot),
-}
-
-/// Why nothing is found of a controller.
-#[derive(Clone, Copy, Debug, Drop, Error)]
-pub enum CheckError {
-    /// The first condition that isn't met needs more than 128 bits, at this place.
-    #[error("a number of the check needs more than 128 bits")]
-    Wide(Place),
-    /// The cost isn't positive definite: this pivot is the first that isn't positive.
-    #[error("the cost isn't positive definite: pivot {0} isn't positive")]
-    NotDefinite(u32),
-    /// There is no more memory.
-    #[error("out of memory")]
-    NoMemory,
-}
-
-impl From<NoMemory> for CheckError {
-    ghost from_gives = { λ _ e. e ≡ NoMoreMemory };
-
-    fn from(_error: NoMemory) -> CheckError {
-        CheckError::NoMemory
-    }
 }

@@ -89,7 +89,7 @@ fn is_refutation(
 {
     match refutes(system, multipliers) {
         Ok(yes) => Ok(yes),
-        Err(_) => Err(CheckError::Wide(place)),
+        Err(_) => Err(CheckError::TooWide(place)),
     }
 }
 

@@ -1,66 +1,22 @@
 //! The check of a controller.
 
-ghost use Rattle.std.specs.Prelude.{IfOk, IfErr, OnOk};
-ghost use Rattle.mpc_space.specs.Vector.{IsSymmetric};
-ghost use Rattle.mpc_check.specs.Acceptance.{IsProgramOf, IsConvex, IsProgramCause, IsConvexCause, IsProgramRefusal, BehindMet, BehindFinds, IsAnswer, IsCause};
+ghost use Rattle.std.specs.Prelude.{IfOk, IfErr};
+ghost use Rattle.mpc_convex.specs.Convex.{HasProgram};
+ghost use Rattle.mpc_check.specs.Acceptance.{BehindMet, BehindFinds, IsAnswer, IsCause};
 ghost use Rattle.mpc_check.specs.Findings.{IsSearched};
 
 use crate::answers::{Answer, CheckError, Spot};
 use crate::gradients::search_laws;
 use crate::stretches::{search_tree, search_tree_in_threads};
-use mpc_condense::{CondenseError, condense};
 use mpc_controller::Controller;
-use mpc_definite::{DefiniteError, pivots};
-use mpc_plant::Plant;
-use mpc_rows::{Place, Qp};
+use mpc_convex::convex_program;
+use mpc_rows::Qp;
 use std::alloc::Global;
 use std::thread::Threads;
 
-/// The program of the plant.
-fn program(alloc: Global, plant: &Plant) -> Result<Qp, CheckError>
-    ensures ok { IfOk result (λ qp. IsProgramOf qp plant.now) }
-    ensures err { IfErr result (IsProgramCause plant.now) }
-{
-    match condense(alloc, plant) {
-        Ok(qp) => Ok(qp),
-        Err(CondenseError::Wide(place)) => Err(CheckError::Wide(place)),
-        Err(CondenseError::NoMemory) => Err(CheckError::NoMemory),
-    }
-}
-
-/// Tests that the cost is positive definite.
-fn test_convex(alloc: Global, qp: &Qp) -> Result<(), CheckError>
-    requires { IsSymmetric qp.now.h.rows }
-    ensures ok { OnOk result (IsConvex qp.now) }
-    ensures err { IfErr result (IsConvexCause qp.now) }
-{
-    match pivots(alloc, &qp.h) {
-        Ok(_) => Ok(()),
-        Err(DefiniteError::NotDefinite(step)) => Err(CheckError::NotDefinite(step)),
-        Err(DefiniteError::Wide(step)) => Err(CheckError::Wide(Place::Pivot(step))),
-        Err(DefiniteError::NoMemory) => Err(CheckError::NoMemory),
-    }
-}
-
-/// The program of the plant, whose cost is positive definite.
-fn convex_program(alloc: Global, plant: &Plant) -> Result<Qp, CheckError>
-    ensures program { IfOk result (λ qp. IsProgramOf qp plant.now) }
-    ensures convex { IfOk result IsConvex }
-    ensures refused { IfErr result (IsProgramRefusal plant.now) }
-{
-    let qp = match program(alloc, plant) {
-        Ok(qp) => qp,
-        Err(error) => return Err(error),
-    };
-    match test_convex(alloc, &qp) {
-        Ok(()) => Ok(qp),
-        Err(error) => Err(error),
-    }
-}
-
 /// What is found of the laws and of the leaves.
 fn search(alloc: Global, qp: &Qp, controller: &Controller) -> Result<Option<Spot>, CheckError>
-    requires { IsProgramOf qp.now controller.now.plant }
+    requires { HasProgram controller.now.plant qp.now }
     ensures { IsSearched (BehindMet qp.now controller.now) (BehindFinds qp.now controller.now) result }
 {
     match search_laws(qp, controller.laws()) {
@@ -77,7 +33,7 @@ fn search_in_threads<T: Threads + Sync>(
     qp: &Qp,
     parts: &Controller,
 ) -> Result<Option<Spot>, CheckError>
-    requires { IsProgramOf qp.now parts.now.plant }
+    requires { HasProgram parts.now.plant qp.now }
     ensures { IsSearched (BehindMet qp.now parts.now) (BehindFinds qp.now parts.now) result }
 {
     match search_laws(qp, parts.laws()) {

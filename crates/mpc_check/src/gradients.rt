@@ -83,7 +83,7 @@ fn search_coefficient(
     ensures { IsSearched (StationaryMet qp.now law.now r c) (StationaryFinds qp.now number law.now r c) result }
 {
     let Ok(sum) = gradient(qp, law, r, c) else {
-        return Err(CheckError::Wide(Place::CheckLaw(number)));
+        return Err(CheckError::TooWide(Place::CheckLaw(number)));
     };
     if sum.is_zero() {
         return Ok(None);
@@ -145,7 +145,7 @@ fn search_equality(
     ensures { IsSearched (ActiveMet qp.now law.now i c) (ActiveFinds qp.now number law.now i c) result }
 {
     let Ok(value) = add_moves(&Frac::whole(0), &qp.g, i - 1, &law.moves, c) else {
-        return Err(CheckError::Wide(Place::CheckLaw(number)));
+        return Err(CheckError::TooWide(Place::CheckLaw(number)));
     };
     if are_equal(&value, &qp.w.get(i - 1, c)) {
         return Ok(None);

@@ -4,7 +4,8 @@ ghost use Rattle.mpc_check.specs.Acceptance.{AcceptedIsRight, NothingFound, NoPr
 ghost use Rattle.mpc_check.specs.LawConditions.{LawIsStationary, LawIsActive, MeetingIsLaw};
 ghost use Rattle.mpc_check.specs.LeafConditions.{StretchesAreMet, StretchesFind};
 
-use mpc_condense::{best_replies, one_program, place_laws};
+use mpc_condense::{best_replies, one_program};
+use mpc_convex::one_program_outcome;
 use mpc_paths::one_path;
 use mpc_rows::{law_laws, region_laws, system_laws};
 use mpc_systems::cell_laws;
@@ -32,7 +33,7 @@ pub fn one_finding()
 {
     one_path();
     one_program();
-    place_laws();
+    one_program_outcome();
 }
 
 /// A law is that of its set exactly where it meets the conditions coefficient by coefficient. The call does nothing: its clauses are the

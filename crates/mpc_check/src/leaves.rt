@@ -46,7 +46,7 @@ fn is_row_refuted(
     let place = Place::CheckLeaf(number, i + 1);
     let row = match formed {
         Formed::Row(row) => row,
-        Formed::Wide => return Err(CheckError::Wide(place)),
+        Formed::Wide => return Err(CheckError::TooWide(place)),
     };
     if i as usize >= certs.len() {
         return Ok(false);

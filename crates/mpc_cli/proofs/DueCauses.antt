@@ -11,7 +11,7 @@ use Rattle.mpc_theorem.specs.SafeFiles.{IsSafetyDue}
 use Rattle.mpc_replies.specs.Cut.{head_of}
 use Rattle.mpc_sections.specs.Sections.{sections_of}
 use Rattle.mpc_drill.specs.Drills.{IsDrillOutcome}
-use Rattle.mpc_states.specs.Convex.{not_definite as not_definite_program, too_wide as too_wide_program, convex}
+use Rattle.mpc_convex.specs.Outcomes.{not_definite as not_definite_program, too_wide as too_wide_program, convex}
 use Rattle.mpc_states.specs.Outcomes.{SolveOutcome, bad_plant as bad_solve_plant, of_program, IsSolveOutcome, RobustOutcome, bad_robust_plant, bad_noise, of_robust_program, wide_row, robust_replies, IsRobustOutcome}
 use Rattle.mpc_states.specs.NoisePart.{plant_part}
 use Rattle.mpc_synthesis.specs.Refusals.{controller}

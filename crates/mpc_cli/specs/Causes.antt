@@ -17,7 +17,7 @@ use Rattle.mpc_recur.specs.Findings.{too_wide as too_wide_step}
 use Rattle.mpc_recur.specs.Targets.{IsFound as IsStepFound}
 use Rattle.mpc_replies.specs.Cut.{head_of}
 use Rattle.mpc_tight.specs.Tightening.{RowsFit}
-use Rattle.mpc_states.specs.Convex.{IsConvexProgram}
+use Rattle.mpc_convex.specs.Convex.{IsConvexProgram}
 use Rattle.mpc_states.specs.NoisePart.{plant_part, noise_in}
 use Rattle.mpc_sections.specs.Sections.{sections_of}
 use Rattle.mpc_drill.specs.DrillPlant.{IsDrillPlant}

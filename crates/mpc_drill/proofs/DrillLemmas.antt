@@ -12,8 +12,8 @@ use Rattle.mpc_synthesis.specs.Controllers.{IsController}
 use Rattle.mpc_synthesis.specs.Outcomes.{Outcome, IsOutcome, OneOutcome}
 use Rattle.mpc_synthesis.specs.Programs.{IsDecidedBy}
 use Rattle.mpc_synthesis.specs.Refusals.{controller, ExplainsSynthesisError}
-use Rattle.mpc_synthesis.specs.declared.errors.SynthesisError.{SynthesisError}
-use Rattle.mpc_synthesis.specs.declared.errors.SynthesisError.TheVariants.{NotDefinite, TooWide, NoMemory}
+use Rattle.mpc_convex.specs.declared.ProgramError.{ProgramError as SynthesisError}
+use Rattle.mpc_convex.specs.declared.ProgramError.TheVariants.{NotDefinite, TooWide, NoMemory}
 use Rattle.mpc_trace.specs.Histories.{ClaimsEachOnce, IsEachCandidate}
 use Rattle.mpc_drill.specs.declared.drills.Drilled.{Drilled}
 use Rattle.mpc_drill.specs.DrillPlant.{IsDrillPlant}

@@ -6,8 +6,8 @@ use Rattle.mpc_controller.specs.Parts.{Parts}
 use Rattle.mpc_synthesis.specs.Controllers.{IsController}
 use Rattle.mpc_synthesis.specs.Outcomes.{Outcome, not_definite, too_wide, IsOutcome}
 use Rattle.mpc_synthesis.specs.Refusals.{controller}
-use Rattle.mpc_synthesis.specs.declared.errors.SynthesisError.{SynthesisError}
-use Rattle.mpc_synthesis.specs.declared.errors.SynthesisError.TheVariants.{NotDefinite, TooWide, NoMemory}
+use Rattle.mpc_convex.specs.declared.ProgramError.{ProgramError as SynthesisError}
+use Rattle.mpc_convex.specs.declared.ProgramError.TheVariants.{NotDefinite, TooWide, NoMemory}
 use Rattle.mpc_trace.specs.Histories.{IsEachCandidate}
 use Rattle.mpc_drill.specs.declared.drills.Drilled.{Drilled}
 use Rattle.mpc_drill.specs.DrillPlant.{IsDrillPlant}

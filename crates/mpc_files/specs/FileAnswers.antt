@@ -13,8 +13,8 @@ use Rattle.mpc_file.specs.FileGrammar.{Spells, IsSpelled}
 use Rattle.mpc_replies.specs.ReplyLines.{AreRepliesOf}
 use Rattle.mpc_check.specs.declared.answers.Answer.{Answer}
 use Rattle.mpc_check.specs.declared.answers.Answer.TheVariants.{Accepted, Refused}
-use Rattle.mpc_check.specs.declared.answers.CheckError.{CheckError}
-use Rattle.mpc_check.specs.declared.answers.CheckError.TheVariants.{Wide, NotDefinite as NotDefiniteCost, NoMemory as NoCheckMemory}
+use Rattle.mpc_convex.specs.declared.ProgramError.{ProgramError as CheckError}
+use Rattle.mpc_convex.specs.declared.ProgramError.TheVariants.{TooWide as Wide, NotDefinite as NotDefiniteCost, NoMemory as NoCheckMemory}
 use Rattle.mpc_check.specs.Findings.{refused, too_wide, not_definite}
 use Rattle.mpc_files.specs.declared.errors.CheckFileError.{CheckFileError}
 use Rattle.mpc_files.specs.declared.errors.CheckFileError.TheVariants.{BadFile, NotDefinite, TooWide, NoMemory}

@@ -41,7 +41,7 @@ impl From<CheckError> for CheckFileError {
 
     fn from(error: CheckError) -> CheckFileError {
         match error {
-            CheckError::Wide(place) => CheckFileError::TooWide(place),
+            CheckError::TooWide(place) => CheckFileError::TooWide(place),
             CheckError::NotDefinite(pivot) => CheckFileError::NotDefinite(pivot),
             CheckError::NoMemory => CheckFileError::NoMemory,
         }

@@ -42,7 +42,7 @@ fn test_controller<T: Threads + Sync>(
         Ok(Answer::Accepted) => test_steps(alloc, controller),
         Ok(Answer::Refused(spot)) => Ok(Safety::Refused(spot)),
         Err(CheckError::NotDefinite(pivot)) => Err(SafetyError::NotDefinite(pivot)),
-        Err(CheckError::Wide(place)) => Err(SafetyError::TooWide(place)),
+        Err(CheckError::TooWide(place)) => Err(SafetyError::TooWide(place)),
         Err(CheckError::NoMemory) => Err(SafetyError::NoMemory),
     }
 }

@@ -31,7 +31,8 @@ use Rattle.mpc_sections.specs.declared.beginnings.Begun.{Begun}
 use Rattle.mpc_sections.specs.declared.beginnings.Begun.TheVariants.{Refused, Convex}
 use Rattle.mpc_sections.specs.Sections.{sections_of}
 use Rattle.mpc_sections.specs.Alone.{IsAlone, IsPlantAnswer, no_plant, of_plant, heading, AreAnswered, none, one_more}
-use Rattle.mpc_sections.specs.Steps.{IsConvex, IsExamined, AreBegun, no_more, refused, convex, BeginsAs, IsFaultOf, HasRegistry, IsAnswered}
+use Rattle.mpc_convex.specs.Convex.{IsConvexProgram}
+use Rattle.mpc_sections.specs.Steps.{IsExamined, AreBegun, no_more, refused, convex, BeginsAs, IsFaultOf, HasRegistry, IsAnswered}
 
 -- ---- the registry of a plant's program at its end
 not_wide_by : (v : Verdict) (tag : Tag) → tag_of v ≡ tag → tag ≢ WideTag → is_wide v ≡ false
@@ -103,17 +104,17 @@ module _ {X : Type 0} (Holds : Plant → X → Type 0) where
   as_many _ _ _ (refused s t sections begun xs a more) = ap (λ (n : ℕ). suc n) (as_many sections begun xs more)
   as_many _ _ _ (convex s p y sections begun xs q k more) = ap (λ (n : ℕ). suc n) (as_many sections begun xs more)
 
-pub begun_more : (section : List ℕ) (b : Begun) (before after : List Qp) (sections : List (List ℕ)) (begun : List Begun) → BeginsAs section b before after → AreBegun Qp IsConvex sections begun before → AreBegun Qp IsConvex (sections ++ section ∷ []) (begun ++ b ∷ []) after
-begun_more section (Refused status) before after sections begun h a = subst (AreBegun Qp IsConvex (sections ++ section ∷ []) (begun ++ Refused status ∷ [])) (sym h.1) (refused_more IsConvex section status sections begun before h.0 a)
-begun_more section (Convex plant) before after sections begun h a = subst (AreBegun Qp IsConvex (sections ++ section ∷ []) (begun ++ Convex plant ∷ [])) (sym h.3) (convex_more IsConvex section plant h.0 sections begun before h.1 h.2 a)
+pub begun_more : (section : List ℕ) (b : Begun) (before after : List Qp) (sections : List (List ℕ)) (begun : List Begun) → BeginsAs section b before after → AreBegun Qp IsConvexProgram sections begun before → AreBegun Qp IsConvexProgram (sections ++ section ∷ []) (begun ++ b ∷ []) after
+begun_more section (Refused status) before after sections begun h a = subst (AreBegun Qp IsConvexProgram (sections ++ section ∷ []) (begun ++ Refused status ∷ [])) (sym h.1) (refused_more IsConvexProgram section status sections begun before h.0 a)
+begun_more section (Convex plant) before after sections begun h a = subst (AreBegun Qp IsConvexProgram (sections ++ section ∷ []) (begun ++ Convex plant ∷ [])) (sym h.3) (convex_more IsConvexProgram section plant h.0 sections begun before h.1 h.2 a)
 
 -- ---- the programs of all are examined
-pub definite_all : (sections : List (List ℕ)) (begun : List Begun) (programs : List Qp) → AreBegun Qp IsConvex sections begun programs → All (λ (qp : Qp). IsDefinite qp.h.rows) programs
+pub definite_all : (sections : List (List ℕ)) (begun : List Begun) (programs : List Qp) → AreBegun Qp IsConvexProgram sections begun programs → All (λ (qp : Qp). IsDefinite qp.h.rows) programs
 definite_all _ _ _ no_more = All-nil (λ (qp : Qp). IsDefinite qp.h.rows)
 definite_all _ _ _ (refused s t sections begun xs a more) = definite_all sections begun xs more
 definite_all _ _ _ (convex s p y sections begun xs q k more) = All-cons (λ (qp : Qp). IsDefinite qp.h.rows) y xs k.definite (definite_all sections begun xs more)
 
-pub examined_all : (workers : ℕ) (sections : List (List ℕ)) (begun : List Begun) (programs : List Qp) (registries : List Board) → AreBegun Qp IsConvex sections begun programs → AllZip (λ (qp : Qp) (r : Board). IsDone qp workers r) programs registries
+pub examined_all : (workers : ℕ) (sections : List (List ℕ)) (begun : List Begun) (programs : List Qp) (registries : List Board) → AreBegun Qp IsConvexProgram sections begun programs → AllZip (λ (qp : Qp) (r : Board). IsDone qp workers r) programs registries
     → AreBegun Board IsExamined sections begun registries
 examined_all workers _ _ _ [] no_more z = no_more
 examined_all workers _ _ _ (r ∷ rs) no_more z = absurd z
@@ -141,7 +142,7 @@ answered_more number _ _ section status own (one_more n s t u sections texts h m
 pub record HasBegun (input rest : List ℕ) (begun : List Begun) (programs : List Qp) : Type 0 where
   pub passed : List (List ℕ)
   pub joined : sections_of input ≡ passed ++ sections_of rest
-  pub begins : AreBegun Qp IsConvex passed begun programs
+  pub begins : AreBegun Qp IsConvexProgram passed begun programs
 
 pub begun_none : (input : List ℕ) (begun : List Begun) (programs : List Qp) → begun ≡ [] → programs ≡ [] → HasBegun input input begun programs
 begun_none input begun programs e f = subst (λ (bs : List Begun). HasBegun input input bs programs) (sym e) (subst (HasBegun input input []) (sym f) (record { passed = []; joined = refl; begins = no_more }))
@@ -150,13 +151,13 @@ pub begun_next : (input rest section after : List ℕ) (begun new : List Begun) 
 begun_next input rest section after begun new b programs more h cut begins is = record {
   passed = h.passed ++ section ∷ [];
   joined = h.joined ∙ ap (λ (t : List (List ℕ)). h.passed ++ t) cut ∙ sym (append_assoc h.passed (section ∷ []) (sections_of after));
-  begins = subst (λ (bs : List Begun). AreBegun Qp IsConvex (h.passed ++ section ∷ []) bs more) (sym is) (begun_more section b programs more h.passed begun begins h.begins);
+  begins = subst (λ (bs : List Begun). AreBegun Qp IsConvexProgram (h.passed ++ section ∷ []) bs more) (sym is) (begun_more section b programs more h.passed begun begins h.begins);
 }
 
-pub begun_last : (input rest section : List ℕ) (begun new : List Begun) (b : Begun) (programs more : List Qp) → HasBegun input rest begun programs → sections_of rest ≡ section ∷ [] → BeginsAs section b programs more → new ≡ begun ++ b ∷ [] → AreBegun Qp IsConvex (sections_of input) new more
+pub begun_last : (input rest section : List ℕ) (begun new : List Begun) (b : Begun) (programs more : List Qp) → HasBegun input rest begun programs → sections_of rest ≡ section ∷ [] → BeginsAs section b programs more → new ≡ begun ++ b ∷ [] → AreBegun Qp IsConvexProgram (sections_of input) new more
 begun_last input rest section begun new b programs more h cut begins is =
-    subst (λ (ss : List (List ℕ)). AreBegun Qp IsConvex ss new more) (sym (h.joined ∙ ap (λ (t : List (List ℕ)). h.passed ++ t) cut))
-    (subst (λ (bs : List Begun). AreBegun Qp IsConvex (h.passed ++ section ∷ []) bs more) (sym is) (begun_more section b programs more h.passed begun begins h.begins))
+    subst (λ (ss : List (List ℕ)). AreBegun Qp IsConvexProgram ss new more) (sym (h.joined ∙ ap (λ (t : List (List ℕ)). h.passed ++ t) cut))
+    (subst (λ (bs : List Begun). AreBegun Qp IsConvexProgram (h.passed ++ section ∷ []) bs more) (sym is) (begun_more section b programs more h.passed begun begins h.begins))
 
 -- ---- the first of them is answered
 pub taken_first : {X : Type 0} (xs rest : List X) (x : X) → x ≡ get_or xs 0 x → rest ≡ remove xs 0 → 0 < length xs → xs ≡ x ∷ rest

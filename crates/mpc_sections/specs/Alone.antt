@@ -9,7 +9,8 @@ use Rattle.mpc_controller.specs.Parts.{Parts}
 use Rattle.mpc_file.specs.declared.versions.Version.TheVariants.{Three}
 use Rattle.mpc_file.specs.FileGrammar.{Spells}
 use Rattle.mpc_synthesis.specs.Controllers.{IsController}
-use Rattle.mpc_synthesis.specs.Refusals.{controller, IsNotDefiniteAt, FirstWide}
+use Rattle.mpc_convex.specs.Refusals.{IsNotDefiniteAt}
+use Rattle.mpc_synthesis.specs.Refusals.{controller, FirstWide}
 use Rattle.mpc_status.specs.declared.status.Status.{Status}
 use Rattle.mpc_status.specs.declared.status.Status.TheVariants.{Done, BadPlant, NotDefinite, TooWide}
 use Rattle.mpc_status.specs.StatusText.{line_of, code_of}

@@ -1,6 +1,5 @@
 -- Sections on their way to their answers.
 use Rattle.std.specs.Prelude.{◌≡◌, ℕ, List, [], ◌∷◌, ◌++◌}
-use Rattle.mpc_space.specs.Definite.{IsDefinite}
 use Rattle.mpc_plant.specs.declared.plants.Plant.{Plant}
 use Rattle.mpc_plant.specs.declared.faults.PlantError.{PlantError}
 use Rattle.mpc_plant.specs.declared.faults.PlantError.TheVariants.{Bad, NoMemory}
@@ -8,7 +7,7 @@ use Rattle.mpc_plant.specs.WholePlant.{ReadsAsPlant}
 use Rattle.mpc_rows.specs.declared.programs.Qp.{Qp}
 use Rattle.mpc_claim.specs.Board.{Board}
 use Rattle.mpc_workers.specs.Seats.{IsDone}
-use Rattle.mpc_synthesis.specs.Programs.{HasProgram, PivotsPass}
+use Rattle.mpc_convex.specs.Convex.{IsConvexProgram}
 use Rattle.mpc_status.specs.declared.status.Status.{Status}
 use Rattle.mpc_status.specs.declared.status.Status.TheVariants.{BadPlant}
 use Rattle.mpc_status.specs.StatusText.{line_of}
@@ -16,16 +15,10 @@ use Rattle.mpc_sections.specs.declared.beginnings.Begun.{Begun}
 use Rattle.mpc_sections.specs.declared.beginnings.Begun.TheVariants.{Refused, Convex}
 use Rattle.mpc_sections.specs.Alone.{IsAlone, IsPlantAnswer}
 
--- the plant's program, which is convex
-pub record IsConvex (plant : Plant) (qp : Qp) : Type 0 where
-  pub has_program : HasProgram plant qp
-  pub pivots : PivotsPass qp
-  pub definite : IsDefinite qp.h.rows
-
 -- the registry of the plant's program, which workers have brought to its end
 pub record IsExamined (plant : Plant) (board : Board) : Type 0 where
   pub qp : Qp
-  pub convex : IsConvex plant qp
+  pub convex : IsConvexProgram plant qp
   pub workers : ℕ
   pub done : IsDone qp workers board
 
@@ -45,7 +38,7 @@ IsFaultOf NoMemory begun = ⊥
 -- a section is refused, or has a plant whose program stands behind the others
 abbrev pub BeginsAs : List ℕ → Begun → List Qp → List Qp → Type 0
 BeginsAs section (Refused status) before after = IsAlone section status (line_of status) × (after ≡ before)
-BeginsAs section (Convex plant) before after = (qp : Qp) × ReadsAsPlant section plant × IsConvex plant qp × (after ≡ before ++ qp ∷ [])
+BeginsAs section (Convex plant) before after = (qp : Qp) × ReadsAsPlant section plant × IsConvexProgram plant qp × (after ≡ before ++ qp ∷ [])
 
 -- the registry of the section's plant, where it has one, is the first
 abbrev pub HasRegistry : Begun → List Board → Type 0

@@ -3,15 +3,16 @@
 ghost use Rattle.std.specs.Prelude.{◌≡◌, ◌++◌, ◌∷◌, [], ℕ, IfOk, List};
 ghost use Rattle.mpc_plant.specs.WholePlant.{ReadsAsPlant};
 ghost use Rattle.mpc_rows.specs.declared.programs.Qp.{Qp as Program};
+ghost use Rattle.mpc_convex.specs.Convex.{IsConvexProgram};
 ghost use Rattle.mpc_sections.specs.Sections.{sections_of};
-ghost use Rattle.mpc_sections.specs.Steps.{IsConvex, AreBegun, BeginsAs, IsFaultOf};
+ghost use Rattle.mpc_sections.specs.Steps.{AreBegun, BeginsAs, IsFaultOf};
 
 use crate::sections::split_section;
+use mpc_convex::{ProgramError, convex_program};
 use mpc_frac::NoMemory;
 use mpc_plant::{Plant, PlantError, read_plant};
 use mpc_rows::Qp;
 use mpc_status::Status;
-use mpc_synthesis::{SynthesisError, convex_program};
 use std::alloc::Global;
 
 /// What comes of a section before the candidates of any program are examined.
@@ -55,15 +56,15 @@ fn begin(alloc: Global, section: &[u8], programs: &mut Vec<Qp>) -> Result<Begun,
             };
             Ok(Begun::Convex(plant))
         }
-        Err(SynthesisError::NotDefinite(pivot)) => Ok(Begun::Refused(Status::NotDefinite(pivot))),
-        Err(SynthesisError::TooWide(place)) => Ok(Begun::Refused(Status::TooWide(place))),
-        Err(SynthesisError::NoMemory) => Err(NoMemory),
+        Err(ProgramError::NotDefinite(pivot)) => Ok(Begun::Refused(Status::NotDefinite(pivot))),
+        Err(ProgramError::TooWide(place)) => Ok(Begun::Refused(Status::TooWide(place))),
+        Err(ProgramError::NoMemory) => Err(NoMemory),
     }
 }
 
 /// Reads all sections of an input.
 pub(crate) fn begin_all(alloc: Global, input: &[u8]) -> Result<Beginnings, NoMemory>
-    ensures { IfOk result (λ b. AreBegun Program IsConvex (sections_of input.now) b.begun.items b.programs.items) }
+    ensures { IfOk result (λ b. AreBegun Program IsConvexProgram (sections_of input.now) b.begun.items b.programs.items) }
 {
     let mut begun = Vec::new(alloc);
     let mut programs = Vec::new(alloc);

@@ -5,13 +5,13 @@ use Rattle.mpc_plant.specs.Readings.{OneReading}
 use Rattle.mpc_replies.specs.Cut.{head_of}
 use Rattle.mpc_tight.specs.Tightening.{IsWideRow}
 use Rattle.mpc_states.specs.NoisePart.{plant_part, noise_part, noise_from}
-use Rattle.mpc_states.specs.Convex.{ProgramOutcome, not_definite, too_wide, convex, IsProgramOutcome}
+use Rattle.mpc_convex.specs.Outcomes.{ProgramOutcome, not_definite, too_wide, convex, IsProgramOutcome}
 use Rattle.mpc_states.specs.Outcomes.{bad_plant, of_program, bad_robust_plant, bad_noise, of_robust_program, wide_row, robust_replies, WithNoise, WithProgram}
 use Rattle.mpc_states.specs.StateLaws.{NothingRefused, SolveIsComplete, RobustIsComplete}
 use Rattle.mpc_states.proofs.OneOutcomes.{same_plant, no_file}
 
 program_convex : (text : List ℕ) (plant : Plant) (o : ProgramOutcome) → NothingRefused text plant → IsProgramOutcome plant o → o ≡ convex
-program_convex text plant (not_definite pivot) n h = absurd (h.not_definite_h (n.definite h.qp h.has_program.condensed))
+program_convex text plant (not_definite pivot) n h = absurd (h.not_definite (n.definite h.qp h.has_program.condensed))
 program_convex text plant (too_wide place) n h = absurd (n.fits place h)
 program_convex text plant convex n h = refl
 

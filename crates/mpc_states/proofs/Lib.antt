@@ -4,7 +4,6 @@ pub mod RightPrograms
 pub mod MoveTexts
 pub mod LineLemmas
 pub mod Carried
-pub mod FirstPivots
 pub mod OneOutcomes
 pub mod Complete
 pub mod Solved

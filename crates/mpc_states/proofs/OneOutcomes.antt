@@ -1,24 +1,19 @@
 -- One outcome is that of an input.
 use Rattle.std.proofs.Common.{◌≡◌, ◌≢◌, ℕ, List, inl, inr, refl, sym, ◌∙◌, ap, subst, None}
 use Rattle.mpc_exact.specs.Rational.{ℚ}
-use Rattle.mpc_space.specs.Matrix.{height, entry}
 use Rattle.mpc_plant.specs.declared.faults.PlantKind.{PlantKind}
 use Rattle.mpc_plant.specs.declared.plants.Plant.{Plant}
 use Rattle.mpc_plant.specs.WholePlant.{ReadsAsPlant, IsFirstFault}
 use Rattle.mpc_plant.specs.Readings.{stated, faulty, OneReading}
 use Rattle.mpc_rows.specs.declared.programs.Qp.{Qp}
-use Rattle.mpc_rows.specs.declared.places.Place.{Place}
-use Rattle.mpc_rows.specs.declared.places.Place.TheVariants.{Pivot}
-use Rattle.mpc_definite.specs.Pivots.{IsFirstNotPositive, IsFirstWide}
-use Rattle.mpc_condense.specs.ProgramLaws.{NoWidePlace, OneWidePlace}
 use Rattle.mpc_condense.specs.BestReplies.{OneProgram}
 use Rattle.mpc_tight.specs.Tightening.{IsWideRow}
 use Rattle.mpc_tight.specs.TightLaws.{OneWideRow, NoWideRow}
 use Rattle.mpc_replies.specs.Cut.{head_of}
 use Rattle.mpc_states.specs.NoisePart.{plant_part, noise_part, noise_from}
-use Rattle.mpc_states.specs.Convex.{HasProgram, IsConvexProgram, ProgramOutcome, not_definite, too_wide, convex, wide_program, wide_pivot, IsProgramOutcome}
+use Rattle.mpc_convex.specs.Convex.{IsConvexProgram}
+use Rattle.mpc_convex.specs.Outcomes.{ProgramOutcome, convex, IsProgramOutcome, OneProgramOutcome}
 use Rattle.mpc_states.specs.Outcomes.{SolveOutcome, bad_plant, of_program, OneSolveOutcome, RobustOutcome, bad_robust_plant, bad_noise, of_robust_program, wide_row, robust_replies, WithNoise, IsOutcomeOf, IsRobustOutcome, OneRobustOutcome}
-use Rattle.mpc_states.proofs.FirstPivots.{passes_not_positive, passes_wide, one_not_positive, one_pivot_wide, not_both}
 
 -- ---- of a file
 pub same_plant : OneReading → (bytes : List ℕ) (x y : Plant) → ReadsAsPlant bytes x → ReadsAsPlant bytes y → x ≡ y
@@ -33,45 +28,14 @@ one_fault one say bytes kind other path long h k =
     let pair : ◌≡◌ {A = PlantKind × List ℕ} (kind, path) (other, long) = cc in
     λ i. say (pair i).0 (pair i).1
 
--- ---- of a program
-module _ (one_place : OneWidePlace) (no_place : NoWidePlace) (one_program : OneProgram) (plant : Plant) where
-  same_qp : (a b : Qp) → HasProgram plant a → HasProgram plant b → a ≡ b
-  same_qp a b p q = one_program plant a b p.condensed q.condensed
-
-  pub one_program_outcome : (a b : ProgramOutcome) → IsProgramOutcome plant a → IsProgramOutcome plant b → a ≡ b
-  one_program_outcome (not_definite j) (not_definite k) p q =
-      ap not_definite (one_not_positive (entry q.qp.h) (height q.qp.h) j k (subst (λ z. IsFirstNotPositive (entry z.h) (height z.h) j) (same_qp p.qp q.qp p.has_program q.has_program) p.first) q.first)
-  one_program_outcome (not_definite j) (too_wide _) p (wide_program place w) = absurd (no_place plant place p.has_program.fits w)
-  one_program_outcome (not_definite j) (too_wide _) p (wide_pivot qp k has w) =
-      absurd (not_both (entry qp.h) (height qp.h) j k (subst (λ z. IsFirstNotPositive (entry z.h) (height z.h) j) (same_qp p.qp qp p.has_program has) p.first) w)
-  one_program_outcome (not_definite j) convex p (qp, q) =
-      absurd (passes_not_positive (entry qp.h) (height qp.h) q.pivots j (subst (λ z. IsFirstNotPositive (entry z.h) (height z.h) j) (same_qp p.qp qp p.has_program q.has_program) p.first))
-  one_program_outcome (too_wide _) (not_definite j) (wide_program place w) p = absurd (no_place plant place p.has_program.fits w)
-  one_program_outcome (too_wide _) (not_definite j) (wide_pivot qp k has w) p =
-      absurd (not_both (entry qp.h) (height qp.h) j k (subst (λ z. IsFirstNotPositive (entry z.h) (height z.h) j) (same_qp p.qp qp p.has_program has) p.first) w)
-  one_program_outcome (too_wide _) (too_wide _) (wide_program a w) (wide_program b v) = ap too_wide (one_place plant a b w v)
-  one_program_outcome (too_wide _) (too_wide _) (wide_program a w) (wide_pivot qp k has v) = absurd (no_place plant a has.fits w)
-  one_program_outcome (too_wide _) (too_wide _) (wide_pivot qp k has v) (wide_program b w) = absurd (no_place plant b has.fits w)
-  one_program_outcome (too_wide _) (too_wide _) (wide_pivot qp k has v) (wide_pivot other m its w) =
-      ap (λ j. too_wide (Pivot j)) (one_pivot_wide (entry other.h) (height other.h) k m (subst (λ z. IsFirstWide (entry z.h) (height z.h) k) (same_qp qp other has its) v) w)
-  one_program_outcome (too_wide _) convex (wide_program place w) (qp, q) = absurd (no_place plant place q.has_program.fits w)
-  one_program_outcome (too_wide _) convex (wide_pivot other k has w) (qp, q) =
-      absurd (passes_wide (entry qp.h) (height qp.h) q.pivots k (subst (λ z. IsFirstWide (entry z.h) (height z.h) k) (same_qp other qp has q.has_program) w))
-  one_program_outcome convex (not_definite j) (qp, q) p =
-      absurd (passes_not_positive (entry qp.h) (height qp.h) q.pivots j (subst (λ z. IsFirstNotPositive (entry z.h) (height z.h) j) (same_qp p.qp qp p.has_program q.has_program) p.first))
-  one_program_outcome convex (too_wide _) (qp, q) (wide_program place w) = absurd (no_place plant place q.has_program.fits w)
-  one_program_outcome convex (too_wide _) (qp, q) (wide_pivot other k has w) =
-      absurd (passes_wide (entry qp.h) (height qp.h) q.pivots k (subst (λ z. IsFirstWide (entry z.h) (height z.h) k) (same_qp other qp has q.has_program) w))
-  one_program_outcome convex convex p q = refl
-
 -- ---- of an input of `solve`
-module _ (one_reading : OneReading) (one_place : OneWidePlace) (no_place : NoWidePlace) (one_program : OneProgram) where
+module _ (one_reading : OneReading) (one_program : OneProgram) (one_program_outcome : OneProgramOutcome) where
   pub one_solve_outcome : OneSolveOutcome
   one_solve_outcome input (bad_plant kind path) (bad_plant other long) h k = one_fault one_reading bad_plant (head_of input) kind other path long h k
   one_solve_outcome input (bad_plant kind path) (of_program o) h k = absurd (no_file one_reading (head_of input) k.plant kind path k.read h)
   one_solve_outcome input (of_program o) (bad_plant kind path) k h = absurd (no_file one_reading (head_of input) k.plant kind path k.read h)
   one_solve_outcome input (of_program a) (of_program b) h k =
-      ap of_program (one_program_outcome one_place no_place one_program k.plant a b (subst (λ z. IsProgramOutcome z a) (same_plant one_reading (head_of input) h.plant k.plant h.read k.read) h.so) k.so)
+      ap of_program (one_program_outcome k.plant a b (subst (λ z. IsProgramOutcome z a) (same_plant one_reading (head_of input) h.plant k.plant h.read k.read) h.so) k.so)
 
   -- ---- of an input of `robust`
   module _ (one_row : OneWideRow) (no_row : NoWideRow) (input : List ℕ) where
@@ -86,7 +50,7 @@ module _ (one_reading : OneReading) (one_place : OneWidePlace) (no_place : NoWid
       no_noise e a = let f = a.noise_is in absurd (cc)
 
       other_end : (o : ProgramOutcome) (qp : Qp) → (o ≢ convex) × IsProgramOutcome plant o → IsConvexProgram plant qp → ⊥
-      other_end o qp h is = h.0 (one_program_outcome one_place no_place one_program plant o convex h.1 (qp, is))
+      other_end o qp h is = h.0 (one_program_outcome plant o convex h.1 (qp, is))
 
       row_as : (a b : List ℚ) (one other : Qp) (row : ℕ) → a ≡ b → one ≡ other → IsWideRow plant a one.w row → IsWideRow plant b other.w row
       row_as a b one other row e f h = subst (λ z. IsWideRow plant z other.w row) e (subst (λ z. IsWideRow plant a z.w row) f h)
@@ -103,7 +67,7 @@ module _ (one_reading : OneReading) (one_place : OneWidePlace) (no_place : NoWid
       one_of_plant bad_noise robust_replies h k = absurd (no_noise h k)
       one_of_plant (of_robust_program o) (bad_robust_plant kind path) h k = absurd k
       one_of_plant (of_robust_program o) bad_noise h k = absurd (no_noise k h)
-      one_of_plant (of_robust_program a) (of_robust_program b) h k = ap of_robust_program (one_program_outcome one_place no_place one_program plant a b h.so.1 k.so.1)
+      one_of_plant (of_robust_program a) (of_robust_program b) h k = ap of_robust_program (one_program_outcome plant a b h.so.1 k.so.1)
       one_of_plant (of_robust_program o) (wide_row row) h k = absurd (other_end o k.so.qp h.so k.so.is_convex)
       one_of_plant (of_robust_program o) robust_replies h k = absurd (other_end o k.so.qp h.so k.so.is_convex)
       one_of_plant (wide_row row) (bad_robust_plant kind path) h k = absurd k

@@ -11,15 +11,14 @@ use Rattle.mpc_tight.specs.Tightened.{IsTightened}
 use Rattle.mpc_replies.specs.Cut.{head_of, tail_of}
 use Rattle.mpc_states.specs.NoisePart.{plant_part, noise_part, noise_from}
 use Rattle.mpc_states.specs.StateLines.{AreStateLines}
-use Rattle.mpc_states.specs.Convex.{ProgramOutcome, not_definite, too_wide, convex, IsConvexProgram}
+use Rattle.mpc_convex.specs.Convex.{IsConvexProgram}
+use Rattle.mpc_convex.specs.Outcomes.{ProgramOutcome, not_definite, too_wide, convex}
 use Rattle.mpc_states.specs.Outcomes.{bad_plant, of_program, IsSolveOutcome, bad_robust_plant, bad_noise, of_robust_program, wide_row, IsOutcomeOf, IsRobustOutcome}
-use Rattle.mpc_states.specs.declared.errors.ProgramError.{ProgramError}
-use Rattle.mpc_states.specs.declared.errors.ProgramError.TheVariants.{NotDefinite as NotDefiniteProgram, TooWide as TooWideProgram, NoMemory as NoProgramMemory}
 use Rattle.mpc_states.specs.declared.errors.SolveError.{SolveError}
 use Rattle.mpc_states.specs.declared.errors.SolveError.TheVariants.{BadPlant, NotDefinite, TooWide, NoMemory}
 use Rattle.mpc_states.specs.declared.errors.RobustError.{RobustError}
 use Rattle.mpc_states.specs.declared.errors.RobustError.TheVariants.{BadPlant as BadRobustPlant, BadNoise, NotDefinite as NotRobustlyDefinite, TooWide as TooWideRobust, WideRow, NoMemory as NoRobustMemory}
-use Rattle.mpc_states.specs.Convex.{IsNotDefiniteAt, IsFirstWidePlace}
+use Rattle.mpc_convex.specs.Refusals.{IsNotDefiniteAt, IsFirstWidePlace}
 
 -- to each line of counts there is one line: at each grid state the reply that is right for the plant, or `too wide` exactly where a number of
 -- the online run of its program is too wide
@@ -51,11 +50,6 @@ pub record IsRobustlySolved (input text : List ℕ) : Type 0 where
   pub solved : IsRobustlySolvedFor (noise_part (head_of input)) plant (tail_of input) text
 
 -- ---- why nothing is answered; nothing is said of want of memory
-abbrev pub IsProgramCause : Plant → ProgramError → Type 0
-IsProgramCause plant (NotDefiniteProgram pivot) = IsNotDefiniteAt plant pivot
-IsProgramCause plant (TooWideProgram place) = IsFirstWidePlace plant place
-IsProgramCause plant NoProgramMemory = Unit {0}
-
 -- for a plant that is read
 abbrev pub IsSolveCauseFor : Plant → SolveError → Type 0
 IsSolveCauseFor plant (BadPlant kind path) = ⊥

@@ -15,7 +15,8 @@ use Rattle.mpc_tight.specs.Tightening.{IsWideRow}
 use Rattle.mpc_replies.specs.Cut.{head_of}
 use Rattle.mpc_states.specs.NoisePart.{plant_part, noise_in}
 use Rattle.mpc_states.specs.StateLines.{IsOf}
-use Rattle.mpc_states.specs.Convex.{convex, IsFirstWidePlace}
+use Rattle.mpc_convex.specs.Refusals.{IsFirstWidePlace}
+use Rattle.mpc_convex.specs.Outcomes.{convex}
 use Rattle.mpc_states.specs.Outcomes.{SolveOutcome, of_program, IsSolveOutcome, RobustOutcome, robust_replies, IsRobustOutcome}
 
 -- ---- replies

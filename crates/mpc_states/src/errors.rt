@@ -8,17 +8,6 @@ use mpc_frac::NoMemory;
 use mpc_plant::{Path, PlantKind};
 use mpc_rows::Place;
 
-/// Why a plant has no convex program.
-#[derive(Clone, Copy, Debug, Drop)]
-pub enum ProgramError {
-    /// The Hessian of the plant's program isn't positive definite: this pivot, from 1, is the first that isn't positive.
-    NotDefinite(u32),
-    /// This place is the first whose numbers need more than 128 bits.
-    TooWide(Place),
-    /// There is no more memory.
-    NoMemory,
-}
-
 /// Why an input of `solve` has no replies.
 #[derive(Drop)]
 pub enum SolveError {

@@ -3,7 +3,8 @@
 ghost use Rattle.mpc_states.specs.Outcomes.{OneSolveOutcome, OneRobustOutcome};
 ghost use Rattle.mpc_states.specs.StateLaws.{ProgramIsRight, RobustProgramIsRight, SolveIsComplete, RobustIsComplete};
 
-use mpc_condense::{one_program, place_laws, program_laws};
+use mpc_condense::{one_program, program_laws};
+use mpc_convex::one_program_outcome;
 use mpc_plant::one_reading;
 use mpc_tight::tight_laws;
 
@@ -23,8 +24,8 @@ pub fn one_outcome()
     ensures robust { OneRobustOutcome }
 {
     one_reading();
-    place_laws();
     one_program();
+    one_program_outcome();
     tight_laws();
 }
 

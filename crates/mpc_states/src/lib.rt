@@ -6,7 +6,6 @@ mod errors;
 mod inputs;
 mod laws;
 mod lines;
-mod programs;
 
 pub use errors::{RobustError, SolveError};
 pub use inputs::{robust_input, solve_input};

@@ -18,16 +18,17 @@ use Rattle.mpc_tree.specs.Certified.{IsCertified}
 use Rattle.mpc_controller.specs.Parts.{Parts, HaveShapes}
 use Rattle.mpc_controller.specs.Bounds.{KeepBounds}
 use Rattle.mpc_answers.specs.Replies.{PartsHaveShapes}
-use Rattle.mpc_check.specs.Acceptance.{Accepts, IsProgramOf}
+use Rattle.mpc_check.specs.Acceptance.{Accepts}
 use Rattle.mpc_answers.specs.Compiled.{IsCompiled}
 use Rattle.mpc_claim.specs.Board.{Board}
-use Rattle.mpc_synthesis.specs.Programs.{HasProgram, HasVerdicts, IsDecidedBy}
+use Rattle.mpc_convex.specs.Convex.{HasProgram}
+use Rattle.mpc_synthesis.specs.Programs.{HasVerdicts, IsDecidedBy}
 use Rattle.mpc_synthesis.specs.declared.parts.Tabled.{Tabled}
 use Rattle.mpc_synthesis.specs.Tables.{IsTabledBy, HasTable}
 use Rattle.mpc_synthesis.specs.Controllers.{HasTree, IsSealed, IsController}
 use Rattle.mpc_synthesis.specs.Refusals.{controller, ExplainsSynthesisError, ExplainsCheckError, refusal_of, wide_tree, wide_check}
-use Rattle.mpc_synthesis.specs.declared.errors.SynthesisError.{SynthesisError}
-use Rattle.mpc_synthesis.specs.declared.errors.SynthesisError.TheVariants.{NotDefinite, TooWide, NoMemory}
+use Rattle.mpc_convex.specs.declared.ProgramError.{ProgramError}
+use Rattle.mpc_convex.specs.declared.ProgramError.TheVariants.{NotDefinite, TooWide, NoMemory}
 
 -- ---- the table of a decided program
 pub has_table : (plant : Plant) (board : Board) (table : Tabled) → ((workers : ℕ) × IsDecidedBy workers plant board) → IsTabledBy board table → HasTable plant table
@@ -52,17 +53,16 @@ wide_tree_of plant qp laws NoTreeMemory v table w = tt
 -- ---- the check
 pub compiled_of : (plant : Plant) (qp : Qp) (parts : Parts) → IsSealed plant qp parts → IsCompiled qp parts
 compiled_of plant qp parts is =
-    let program : IsProgramOf qp parts.plant = subst (IsProgramOf qp) (sym is.plant_is) (record { condensed = is.has_tree.verdicts.has_program.condensed; fits = is.has_tree.verdicts.has_program.fits }) in
-    record { program = program; pivots = is.has_tree.verdicts.pivots; table = is.has_tree.table; tree = is.has_tree.certified }
+    record { program = subst (λ p. HasProgram p qp) (sym is.plant_is) is.has_tree.verdicts.has_program; pivots = is.has_tree.verdicts.pivots; table = is.has_tree.table; tree = is.has_tree.certified }
 
 pub compiled_sealed : (plant : Plant) (parts : Parts) → ((qp : Qp) × IsSealed plant qp parts) → (qp : Qp) × IsCompiled qp parts
 compiled_sealed plant parts is = (is.0, compiled_of plant is.0 parts is.1)
 
-pub controlled : (plant : Plant) (parts : Parts) (r : Result Parts SynthesisError) → ((qp : Qp) × IsSealed plant qp parts) → IfOk r (λ p. p ≡ parts) → OnOk r (Accepts parts) → IfOk r (λ p. (qp : Qp) × IsController plant qp p)
+pub controlled : (plant : Plant) (parts : Parts) (r : Result Parts ProgramError) → ((qp : Qp) × IsSealed plant qp parts) → IfOk r (λ p. p ≡ parts) → OnOk r (Accepts parts) → IfOk r (λ p. (qp : Qp) × IsController plant qp p)
 controlled plant parts (Ok p) is same accepted = subst (λ q. (qp : Qp) × IsController plant qp q) (sym same) (is.0, record { is_sealed = is.1; accepted = accepted })
 controlled plant parts (Err e) is same accepted = tt
 
-pub wide_checked : (plant : Plant) (parts : Parts) (r : Result Parts SynthesisError) → ((qp : Qp) × IsSealed plant qp parts) → IfErr r (ExplainsCheckError parts) → IfErr r (ExplainsSynthesisError controller plant)
+pub wide_checked : (plant : Plant) (parts : Parts) (r : Result Parts ProgramError) → ((qp : Qp) × IsSealed plant qp parts) → IfErr r (ExplainsCheckError parts) → IfErr r (ExplainsSynthesisError controller plant)
 wide_checked plant parts (Ok p) is h = tt
 wide_checked plant parts (Err (NotDefinite pivot)) is h = absurd h
 wide_checked plant parts (Err (TooWide place)) is h = wide_check controller is.0 parts place tt is.1 h

@@ -14,11 +14,13 @@ use Rattle.mpc_claim.specs.Board.{Board, event, tag_of, is_wide}
 use Rattle.mpc_claim.specs.History.{IsLegal, IsFinished, EndsWide}
 use Rattle.mpc_claim.specs.HistoryLaws.{LegalLaws}
 use Rattle.mpc_claim.specs.declared.events.Phase.TheVariants.{Finished, Stopped}
-use Rattle.mpc_synthesis.specs.declared.errors.SynthesisError.{SynthesisError}
-use Rattle.mpc_synthesis.specs.declared.errors.SynthesisError.TheVariants.{NotDefinite, TooWide, NoMemory}
+use Rattle.mpc_convex.specs.declared.ProgramError.{ProgramError}
+use Rattle.mpc_convex.specs.declared.ProgramError.TheVariants.{NotDefinite, TooWide, NoMemory}
 use Rattle.mpc_synthesis.specs.Crews.{HasEnded}
-use Rattle.mpc_synthesis.specs.Programs.{HasProgram, PivotsPass, IsDecided, HasVerdicts, IsDecidedBy}
-use Rattle.mpc_synthesis.specs.Refusals.{Extent, ExplainsSynthesisError, ExplainsSetError, wide_set}
+use Rattle.mpc_convex.specs.Convex.{IsConvexProgram}
+use Rattle.mpc_convex.specs.Refusals.{IsProgramCause}
+use Rattle.mpc_synthesis.specs.Programs.{IsDecided, HasVerdicts, IsDecidedBy}
+use Rattle.mpc_synthesis.specs.Refusals.{Extent, ExplainsSynthesisError, ExplainsSetError, wide_program, wide_set}
 
 not_wide_by : (v : Verdict) (tag : Tag) → tag_of v ≡ tag → tag ≢ WideTag → is_wide v ≡ false
 not_wide_by Dependent tag e n = refl
@@ -46,17 +48,22 @@ finished_by workers qp board done phase = by done.ended
     by (inl h) = h.1
     by (inr h) = absurd (stopped_not_finished board h.0 phase)
 
-pub verdicts_of : LegalLaws → (workers : ℕ) (plant : Plant) (qp : Qp) (board : Board) → HasProgram plant qp → PivotsPass qp → HasEnded workers qp board → board.phase ≡ Finished → HasVerdicts plant qp
-verdicts_of laws workers plant qp board program pivots done phase = record {
-  has_program = program;
-  pivots = pivots;
+pub verdicts_of : LegalLaws → (workers : ℕ) (plant : Plant) (qp : Qp) (board : Board) → IsConvexProgram plant qp → HasEnded workers qp board → board.phase ≡ Finished → HasVerdicts plant qp
+verdicts_of laws workers plant qp board program done phase = record {
+  has_program = program.has_program;
+  pivots = program.pivots;
   decided = decided_of laws qp board.history done.legal (finished_by workers qp board done phase);
 }
 
-pub wide_set_of : (extent : Extent) (plant : Plant) (qp : Qp) (e : SynthesisError) → HasProgram plant qp → PivotsPass qp → ExplainsSetError qp e → ExplainsSynthesisError extent plant e
-wide_set_of extent plant qp (NotDefinite pivot) program pivots h = absurd h
-wide_set_of extent plant qp (TooWide place) program pivots h = wide_set extent qp place program pivots h
-wide_set_of extent plant qp NoMemory program pivots h = tt
+pub program_refused : (extent : Extent) (plant : Plant) (e : ProgramError) → IsProgramCause plant e → ExplainsSynthesisError extent plant e
+program_refused extent plant (NotDefinite pivot) h = h
+program_refused extent plant (TooWide place) h = wide_program extent place h
+program_refused extent plant NoMemory h = tt
 
-pub decided_by : LegalLaws → (workers : ℕ) (plant : Plant) (qp : Qp) (board : Board) → HasProgram plant qp → PivotsPass qp → HasEnded workers qp board → board.phase ≡ Finished → IsDecidedBy workers plant board
-decided_by laws workers plant qp board program pivots done phase = record { qp = qp; verdicts = verdicts_of laws workers plant qp board program pivots done phase; done = done; phase = phase; finished = finished_by workers qp board done phase }
+pub wide_set_of : (extent : Extent) (plant : Plant) (qp : Qp) (e : ProgramError) → IsConvexProgram plant qp → ExplainsSetError qp e → ExplainsSynthesisError extent plant e
+wide_set_of extent plant qp (NotDefinite pivot) program h = absurd h
+wide_set_of extent plant qp (TooWide place) program h = wide_set extent qp place program.has_program program.pivots h
+wide_set_of extent plant qp NoMemory program h = tt
+
+pub decided_by : LegalLaws → (workers : ℕ) (plant : Plant) (qp : Qp) (board : Board) → IsConvexProgram plant qp → HasEnded workers qp board → board.phase ≡ Finished → IsDecidedBy workers plant board
+decided_by laws workers plant qp board program done phase = record { qp = qp; verdicts = verdicts_of laws workers plant qp board program done phase; done = done; phase = phase; finished = finished_by workers qp board done phase }

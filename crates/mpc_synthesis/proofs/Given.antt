@@ -2,7 +2,7 @@
 use Rattle.mpc_cover.specs.CoverLaws.{OneRightVerdict}
 use Rattle.mpc_sets.specs.SetLaws.{OrderLaws}
 use Rattle.mpc_definite.specs.PivotLaws.{DefiniteByPivots}
-use Rattle.mpc_condense.specs.ProgramLaws.{NoWidePlace, OneWidePlace}
+use Rattle.mpc_convex.specs.Outcomes.{OneProgramOutcome}
 use Rattle.mpc_controller.specs.OneBound.{OneFirstBroken, KeptNotBroken}
 use Rattle.mpc_condense.specs.BestReplies.{OneProgram}
 use Rattle.mpc_tree.specs.Certified.{OneTree, OneFirstWide, FitsNotWide, CertifiedFits}
@@ -14,8 +14,7 @@ pub record Given : Type 0 where
   pub one_verdict : OneRightVerdict
   pub order_of_sets : OrderLaws
   pub definite_by_pivots : DefiniteByPivots
-  pub no_wide_place : NoWidePlace
-  pub one_wide_place : OneWidePlace
+  pub one_program_outcome : OneProgramOutcome
   pub one_tree : OneTree
   pub one_first_wide : OneFirstWide
   pub fits_not_wide : FitsNotWide

@@ -1,5 +1,4 @@
 pub mod Firsts
-pub mod FirstPivots
 pub mod DecidedLemmas
 pub mod CrewLemmas
 pub mod Given

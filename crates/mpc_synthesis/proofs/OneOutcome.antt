@@ -1,7 +1,6 @@
 -- What is asked of a plant, one thing after the other, and with which outcome it fails: of all outcomes one is that of the plant.
 use Rattle.std.proofs.Common.{◌≡◌, ℕ, zero, suc, ◌<◌, ◌⊎◌, inl, inr, List, refl, sym, ◌∙◌, ap, subst, arith, ⊎_elim}
 use Rattle.std.proofs.lemmas.Bool.{cases_lt, false≢true}
-use Rattle.mpc_space.specs.Matrix.{height, entry}
 use Rattle.mpc_space.specs.Definite.{IsDefinite}
 use Rattle.mpc_sets.specs.SetOrder.{IsBefore}
 use Rattle.mpc_plant.specs.declared.plants.Plant.{Plant}
@@ -11,14 +10,11 @@ use Rattle.mpc_rows.specs.declared.trees.Node.{Node}
 use Rattle.mpc_rows.specs.declared.verdicts.Verdict.{Verdict}
 use Rattle.mpc_rows.specs.declared.verdicts.Verdict.TheVariants.{Wide}
 use Rattle.mpc_rows.specs.declared.places.Place.{Place}
-use Rattle.mpc_rows.specs.declared.places.Place.TheVariants.{Pivot}
 use Rattle.mpc_rows.specs.Verdicts.{IsRight}
 use Rattle.mpc_rows.specs.Candidates.{IsTable}
 use Rattle.mpc_claim.specs.Board.{is_wide}
 use Rattle.mpc_claim.specs.Answers.{IsFirstBad}
-use Rattle.mpc_definite.specs.Pivots.{IsFirstNotPositive, IsFirstWide}
 use Rattle.mpc_condense.specs.Condensed.{IsCondensed}
-use Rattle.mpc_condense.specs.Causes.{AllFit, IsWidePlace}
 use Rattle.mpc_tree.specs.Trees.{whole_box}
 use Rattle.mpc_tree.specs.Certified.{IsCertified, AreLaws}
 use Rattle.mpc_tree.specs.WideRuns.{IsFirstWide as IsFirstWideRun}
@@ -26,13 +22,15 @@ use Rattle.mpc_controller.specs.Parts.{Parts}
 use Rattle.mpc_controller.specs.Bounds.{KeepBounds, IsFirstBroken}
 use Rattle.mpc_check.specs.Findings.{Finding, refused, too_wide as found_wide, not_definite as found_not_definite}
 use Rattle.mpc_check.specs.Acceptance.{Accepts, IsFound}
-use Rattle.mpc_synthesis.specs.Programs.{HasProgram, PivotsPass, IsDecided, HasVerdicts}
+use Rattle.mpc_convex.specs.Convex.{HasProgram, PivotsPass, IsConvexProgram}
+use Rattle.mpc_synthesis.specs.Programs.{IsDecided, HasVerdicts}
 use Rattle.mpc_synthesis.specs.Controllers.{IsSealed, IsController, OneController}
-use Rattle.mpc_synthesis.specs.Refusals.{Extent, verdicts, controller, BuildsController, IsNotDefiniteAt, FirstWide, wide_program, wide_pivot, wide_set, wide_tree, wide_bound, wide_check}
+use Rattle.mpc_convex.specs.Refusals.{IsNotDefiniteAt, IsFirstWidePlace}
+use Rattle.mpc_convex.specs.Outcomes.{not_definite as of_pivot, too_wide as of_place, convex}
+use Rattle.mpc_synthesis.specs.Refusals.{Extent, verdicts, controller, BuildsController, FirstWide, wide_program, wide_set, wide_tree, wide_bound, wide_check}
 use Rattle.mpc_synthesis.specs.Outcomes.{Outcome, not_definite, too_wide, complete, IsComplete, IsOutcome, OneOutcome}
 use Rattle.mpc_synthesis.proofs.Given.{Given}
 use Rattle.mpc_synthesis.proofs.Firsts.{FailsFirst, one_first}
-use Rattle.mpc_synthesis.proofs.FirstPivots.{passes_not_positive, passes_wide, one_not_positive, one_pivot_wide, not_both}
 
 -- the laws of a table
 laws_of_table : (qp : Qp) (laws : List Law) → IsTable qp laws → AreLaws qp laws
@@ -77,16 +75,15 @@ abbrev pub Checks : Extent → Plant → Qp → Type 0
 Checks extent plant qp = BuildsController extent → (parts : Parts) → IsSealed plant qp parts → Accepts parts
 
 abbrev pub Stage : Extent → Plant → ℕ → Type 0
-Stage extent plant zero = AllFit plant
-Stage extent plant (suc zero) = EachProgram plant PivotsPass
-Stage extent plant (suc (suc zero)) = EachProgram plant Decides
-Stage extent plant (suc (suc (suc zero))) = EachProgram plant (Trees extent)
-Stage extent plant (suc (suc (suc (suc zero)))) = EachProgram plant (Bounds extent plant)
-Stage extent plant (suc (suc (suc (suc (suc zero))))) = EachProgram plant (Checks extent plant)
-Stage extent plant (suc (suc (suc (suc (suc (suc n)))))) = ⊥
+Stage extent plant zero = (qp : Qp) × IsConvexProgram plant qp
+Stage extent plant (suc zero) = EachProgram plant Decides
+Stage extent plant (suc (suc zero)) = EachProgram plant (Trees extent)
+Stage extent plant (suc (suc (suc zero))) = EachProgram plant (Bounds extent plant)
+Stage extent plant (suc (suc (suc (suc zero)))) = EachProgram plant (Checks extent plant)
+Stage extent plant (suc (suc (suc (suc (suc n))))) = ⊥
 
-abbrev pub PivotFails : Outcome → Qp → Type 0
-PivotFails s qp = ((j : ℕ) × IsFirstNotPositive (entry qp.h) (height qp.h) j × (s ≡ not_definite j)) ⊎ ((j : ℕ) × IsFirstWide (entry qp.h) (height qp.h) j × (s ≡ too_wide (Pivot j)))
+abbrev pub ProgramFails : Plant → Outcome → Type 0
+ProgramFails plant s = ((j : ℕ) × IsNotDefiniteAt plant j × (s ≡ not_definite j)) ⊎ ((place : Place) × IsFirstWidePlace plant place × (s ≡ too_wide place))
 
 abbrev pub SetFails : Outcome → Qp → Type 0
 SetFails s qp = IsDefinite qp.h.rows × ((place : Place) × IsFirstBad qp (Wide place) × (s ≡ too_wide place))
@@ -107,14 +104,13 @@ pub record CheckFails (extent : Extent) (plant : Plant) (s : Outcome) (qp : Qp) 
   pub is : s ≡ too_wide place
 
 abbrev pub Fails : Extent → Plant → Outcome → ℕ → Type 0
-Fails extent plant s zero = (place : Place) × IsWidePlace plant place × (s ≡ too_wide place)
-Fails extent plant s (suc zero) = OfProgram plant (PivotFails s)
-Fails extent plant s (suc (suc zero)) = OfProgram plant (SetFails s)
-Fails extent plant s (suc (suc (suc zero))) = OfProgram plant (TreeFails extent s)
-Fails extent plant s (suc (suc (suc (suc zero)))) = OfProgram plant (BoundFails extent plant s)
-Fails extent plant s (suc (suc (suc (suc (suc zero))))) = OfProgram plant (CheckFails extent plant s)
-Fails extent plant s (suc (suc (suc (suc (suc (suc zero)))))) = s ≡ complete
-Fails extent plant s (suc (suc (suc (suc (suc (suc (suc n))))))) = ⊥
+Fails extent plant s zero = ProgramFails plant s
+Fails extent plant s (suc zero) = OfProgram plant (SetFails s)
+Fails extent plant s (suc (suc zero)) = OfProgram plant (TreeFails extent s)
+Fails extent plant s (suc (suc (suc zero))) = OfProgram plant (BoundFails extent plant s)
+Fails extent plant s (suc (suc (suc (suc zero)))) = OfProgram plant (CheckFails extent plant s)
+Fails extent plant s (suc (suc (suc (suc (suc zero))))) = s ≡ complete
+Fails extent plant s (suc (suc (suc (suc (suc (suc n)))))) = ⊥
 
 abbrev First : Extent → Plant → Outcome → Type 0
 First extent plant s = FailsFirst (Stage extent plant) (Fails extent plant) s
@@ -157,9 +153,9 @@ module _ (given : Given) where
   one_controller plant p q one other a b = one_sealed plant p q one other a.is_sealed b.is_sealed
 
   -- ---- a test that is passed doesn't fail
-  pivot_passes : (s : Outcome) (qp : Qp) → PivotsPass qp → PivotFails s qp → ⊥
-  pivot_passes s qp p (inl v) = passes_not_positive (entry qp.h) (height qp.h) p v.0 v.1
-  pivot_passes s qp p (inr v) = passes_wide (entry qp.h) (height qp.h) p v.0 v.1
+  program_passes : (plant : Plant) (s : Outcome) (qp : Qp) → IsConvexProgram plant qp → ProgramFails plant s → ⊥
+  program_passes plant s qp p (inl f) = (let e = given.one_program_outcome plant convex (of_pivot f.0) (qp, p) f.1 in absurd (cc))
+  program_passes plant s qp p (inr f) = (let e = given.one_program_outcome plant convex (of_place f.0) (qp, p) f.1 in absurd (cc))
 
   tree_passes : (extent : Extent) (s : Outcome) (qp : Qp) → Trees extent qp → TreeFails extent s qp → ⊥
   tree_passes extent s qp p f =
@@ -167,23 +163,22 @@ module _ (given : Given) where
       given.fits_not_wide qp f.1 (laws_of_table qp f.1 f.3) whole_box t.0 1 f.2 (given.fitting qp f.1 whole_box t.0 t.1) f.4
 
   clash : (extent : Extent) (plant : Plant) (s : Outcome) (n : ℕ) → Stage extent plant n → Fails extent plant s n → ⊥
-  clash extent plant s zero p f = given.no_wide_place plant f.0 p f.1
-  clash extent plant s (suc zero) p f = pivot_passes s f.qp (p f.qp f.condensed) f.holds
-  clash extent plant s (suc (suc zero)) p f = (let q = p f.qp f.condensed in no_bad f.qp q.0 q.1 (Wide f.holds.1.0) f.holds.1.1)
-  clash extent plant s (suc (suc (suc zero))) p f = tree_passes extent s f.qp (p f.qp f.condensed) f.holds
-  clash extent plant s (suc (suc (suc (suc zero)))) p f = (let h = f.holds in given.none_broken plant h.1 h.2 h.3 (p f.qp f.condensed h.0 h.1 h.2 h.4 h.5) h.6)
-  clash extent plant s (suc (suc (suc (suc (suc zero))))) p f = (let h = f.holds in given.nothing_found h.parts (found_wide h.place) (p f.qp f.condensed h.builds h.parts h.is_sealed) h.found)
-  clash extent plant s (suc (suc (suc (suc (suc (suc n)))))) p f = p
+  clash extent plant s zero p f = program_passes plant s p.0 p.1 f
+  clash extent plant s (suc zero) p f = (let q = p f.qp f.condensed in no_bad f.qp q.0 q.1 (Wide f.holds.1.0) f.holds.1.1)
+  clash extent plant s (suc (suc zero)) p f = tree_passes extent s f.qp (p f.qp f.condensed) f.holds
+  clash extent plant s (suc (suc (suc zero))) p f = (let h = f.holds in given.none_broken plant h.1 h.2 h.3 (p f.qp f.condensed h.0 h.1 h.2 h.4 h.5) h.6)
+  clash extent plant s (suc (suc (suc (suc zero)))) p f = (let h = f.holds in given.nothing_found h.parts (found_wide h.place) (p f.qp f.condensed h.builds h.parts h.is_sealed) h.found)
+  clash extent plant s (suc (suc (suc (suc (suc n))))) p f = p
 
   -- ---- and one that fails does so with one outcome
   at_one : (plant : Plant) (P Q : Qp → Type 0) (A : Type 0) → ((qp : Qp) → P qp → Q qp → A) → OfProgram plant P → OfProgram plant Q → A
   at_one plant P Q A f v w = f w.qp (subst P (one_program plant v.qp w.qp v.condensed w.condensed) v.holds) w.holds
 
-  one_pivot : (s t : Outcome) (qp : Qp) → PivotFails s qp → PivotFails t qp → s ≡ t
-  one_pivot s t qp (inl v) (inl w) = v.2 ∙ ap not_definite (one_not_positive (entry qp.h) (height qp.h) v.0 w.0 v.1 w.1) ∙ sym w.2
-  one_pivot s t qp (inl v) (inr w) = absurd (not_both (entry qp.h) (height qp.h) v.0 w.0 v.1 w.1)
-  one_pivot s t qp (inr v) (inl w) = absurd (not_both (entry qp.h) (height qp.h) w.0 v.0 w.1 v.1)
-  one_pivot s t qp (inr v) (inr w) = v.2 ∙ ap (λ j. too_wide (Pivot j)) (one_pivot_wide (entry qp.h) (height qp.h) v.0 w.0 v.1 w.1) ∙ sym w.2
+  one_refusal : (plant : Plant) (s t : Outcome) → ProgramFails plant s → ProgramFails plant t → s ≡ t
+  one_refusal plant s t (inl v) (inl w) = (let e = given.one_program_outcome plant (of_pivot v.0) (of_pivot w.0) v.1 w.1 in let same : v.0 ≡ w.0 = cc in v.2 ∙ ap not_definite same ∙ sym w.2)
+  one_refusal plant s t (inl v) (inr w) = (let e = given.one_program_outcome plant (of_pivot v.0) (of_place w.0) v.1 w.1 in absurd (cc))
+  one_refusal plant s t (inr v) (inl w) = (let e = given.one_program_outcome plant (of_place v.0) (of_pivot w.0) v.1 w.1 in absurd (cc))
+  one_refusal plant s t (inr v) (inr w) = (let e = given.one_program_outcome plant (of_place v.0) (of_place w.0) v.1 w.1 in let same : v.0 ≡ w.0 = cc in v.2 ∙ ap too_wide same ∙ sym w.2)
 
   one_set : (s t : Outcome) (qp : Qp) → SetFails s qp → SetFails t qp → s ≡ t
   one_set s t qp v w = v.1.2 ∙ ap too_wide (same_place v.1.0 w.1.0 (one_bad qp v.0 (Wide v.1.0) (Wide w.1.0) v.1.1 w.1.1)) ∙ sym w.1.2
@@ -207,14 +202,13 @@ module _ (given : Given) where
       v.is ∙ ap too_wide (same_found v.place w.place (given.one_finding w.parts (found_wide v.place) (found_wide w.place) mine w.found)) ∙ sym w.is
 
   one_failure : (extent : Extent) (plant : Plant) (s t : Outcome) (n : ℕ) → Fails extent plant s n → Fails extent plant t n → s ≡ t
-  one_failure extent plant s t zero f g = f.2 ∙ ap too_wide (given.one_wide_place plant f.0 g.0 f.1 g.1) ∙ sym g.2
-  one_failure extent plant s t (suc zero) f g = at_one plant (PivotFails s) (PivotFails t) (s ≡ t) (λ qp v w. one_pivot s t qp v w) f g
-  one_failure extent plant s t (suc (suc zero)) f g = at_one plant (SetFails s) (SetFails t) (s ≡ t) (λ qp v w. one_set s t qp v w) f g
-  one_failure extent plant s t (suc (suc (suc zero))) f g = at_one plant (TreeFails extent s) (TreeFails extent t) (s ≡ t) (λ qp v w. one_tree_place extent s t qp v w) f g
-  one_failure extent plant s t (suc (suc (suc (suc zero)))) f g = at_one plant (BoundFails extent plant s) (BoundFails extent plant t) (s ≡ t) (λ qp v w. one_bound extent plant s t qp v w) f g
-  one_failure extent plant s t (suc (suc (suc (suc (suc zero))))) f g = at_one plant (CheckFails extent plant s) (CheckFails extent plant t) (s ≡ t) (λ qp v w. one_check extent plant s t qp v w) f g
-  one_failure extent plant s t (suc (suc (suc (suc (suc (suc zero)))))) f g = f ∙ sym g
-  one_failure extent plant s t (suc (suc (suc (suc (suc (suc (suc n))))))) f g = absurd f
+  one_failure extent plant s t zero f g = one_refusal plant s t f g
+  one_failure extent plant s t (suc zero) f g = at_one plant (SetFails s) (SetFails t) (s ≡ t) (λ qp v w. one_set s t qp v w) f g
+  one_failure extent plant s t (suc (suc zero)) f g = at_one plant (TreeFails extent s) (TreeFails extent t) (s ≡ t) (λ qp v w. one_tree_place extent s t qp v w) f g
+  one_failure extent plant s t (suc (suc (suc zero))) f g = at_one plant (BoundFails extent plant s) (BoundFails extent plant t) (s ≡ t) (λ qp v w. one_bound extent plant s t qp v w) f g
+  one_failure extent plant s t (suc (suc (suc (suc zero)))) f g = at_one plant (CheckFails extent plant s) (CheckFails extent plant t) (s ≡ t) (λ qp v w. one_check extent plant s t qp v w) f g
+  one_failure extent plant s t (suc (suc (suc (suc (suc zero))))) f g = f ∙ sym g
+  one_failure extent plant s t (suc (suc (suc (suc (suc (suc n)))))) f g = absurd f
 
   -- ---- each cause is the first test that fails
   each : (plant : Plant) (P : Qp → Type 0) (qp : Qp) → IsCondensed qp plant → P qp → EachProgram plant P
@@ -230,30 +224,20 @@ module _ (given : Given) where
   more_passed extent plant k before here j l = ⊎_elim (λ less. before j less) (λ least. let e : k ≡ j = omega (arith, l, least) in subst (Stage extent plant) e here) (cases_lt j k)
 
   module _ (extent : Extent) (plant : Plant) where
-    one_passed : AllFit plant → (j : ℕ) → j < 1 → Stage extent plant j
-    one_passed fit = more_passed extent plant 0 (λ j l. absurd (omega (arith, l))) fit
+    one_passed : (qp : Qp) → HasProgram plant qp → PivotsPass qp → (j : ℕ) → j < 1 → Stage extent plant j
+    one_passed qp h p = more_passed extent plant 0 (λ j l. absurd (omega (arith, l))) (qp, record { has_program = h; pivots = p; definite = definite_by plant qp h p })
 
-    two_passed : (qp : Qp) → HasProgram plant qp → PivotsPass qp → (j : ℕ) → j < 2 → Stage extent plant j
-    two_passed qp h p = more_passed extent plant 1 (one_passed h.fits) (each plant PivotsPass qp h.condensed p)
+    two_passed : (qp : Qp) → HasVerdicts plant qp → (j : ℕ) → j < 2 → Stage extent plant j
+    two_passed qp v = more_passed extent plant 1 (one_passed qp v.has_program v.pivots) (each plant Decides qp v.has_program.condensed (decides plant qp v))
 
-    three_passed : (qp : Qp) → HasVerdicts plant qp → (j : ℕ) → j < 3 → Stage extent plant j
-    three_passed qp v = more_passed extent plant 2 (two_passed qp v.has_program v.pivots) (each plant Decides qp v.has_program.condensed (decides plant qp v))
+    three_passed : (qp : Qp) → HasVerdicts plant qp → Trees extent qp → (j : ℕ) → j < 3 → Stage extent plant j
+    three_passed qp v t = more_passed extent plant 2 (two_passed qp v) (each plant (Trees extent) qp v.has_program.condensed t)
 
-    four_passed : (qp : Qp) → HasVerdicts plant qp → Trees extent qp → (j : ℕ) → j < 4 → Stage extent plant j
-    four_passed qp v t = more_passed extent plant 3 (three_passed qp v) (each plant (Trees extent) qp v.has_program.condensed t)
+    four_passed : (qp : Qp) → HasVerdicts plant qp → Trees extent qp → Bounds extent plant qp → (j : ℕ) → j < 4 → Stage extent plant j
+    four_passed qp v t b = more_passed extent plant 3 (three_passed qp v t) (each plant (Bounds extent plant) qp v.has_program.condensed b)
 
-    five_passed : (qp : Qp) → HasVerdicts plant qp → Trees extent qp → Bounds extent plant qp → (j : ℕ) → j < 5 → Stage extent plant j
-    five_passed qp v t b = more_passed extent plant 4 (four_passed qp v t) (each plant (Bounds extent plant) qp v.has_program.condensed b)
-
-    six_passed : (qp : Qp) → HasVerdicts plant qp → Trees extent qp → Bounds extent plant qp → Checks extent plant qp → (j : ℕ) → j < 6 → Stage extent plant j
-    six_passed qp v t b k = more_passed extent plant 5 (five_passed qp v t b) (each plant (Checks extent plant) qp v.has_program.condensed k)
-
-    not_definite_first : (pivot : ℕ) → IsNotDefiniteAt plant pivot → First extent plant (not_definite pivot)
-    not_definite_first pivot n = record {
-      place = 1;
-      passed = one_passed n.has_program.fits;
-      fails = record { qp = n.qp; condensed = n.has_program.condensed; holds = inl (pivot, n.first, refl) };
-    }
+    five_passed : (qp : Qp) → HasVerdicts plant qp → Trees extent qp → Bounds extent plant qp → Checks extent plant qp → (j : ℕ) → j < 5 → Stage extent plant j
+    five_passed qp v t b k = more_passed extent plant 4 (four_passed qp v t b) (each plant (Checks extent plant) qp v.has_program.condensed k)
 
   -- ---- the table and its tree
   module _ (qp : Qp) (laws : List Law) (nodes : List Node) (table : IsTable qp laws) (certified : IsCertified qp laws whole_box nodes) where
@@ -267,25 +251,24 @@ module _ (given : Given) where
         let trees : tree ≡ nodes = one_nodes qp laws tree nodes table mine certified in
         subst (λ n. KeepBounds plant other n) (sym trees) (subst (λ l. KeepBounds plant l nodes) (sym same) kept)
 
-  sealed_passed : (extent : Extent) (plant : Plant) (qp : Qp) (parts : Parts) → IsSealed plant qp parts → (j : ℕ) → j < 5 → Stage extent plant j
+  sealed_passed : (extent : Extent) (plant : Plant) (qp : Qp) (parts : Parts) → IsSealed plant qp parts → (j : ℕ) → j < 4 → Stage extent plant j
   sealed_passed extent plant qp parts is =
-      five_passed extent plant qp is.has_tree.verdicts (has_trees qp parts.laws parts.tree is.has_tree.table is.has_tree.certified extent)
+      four_passed extent plant qp is.has_tree.verdicts (has_trees qp parts.laws parts.tree is.has_tree.table is.has_tree.certified extent)
       (keeps_bounds qp parts.laws parts.tree is.has_tree.table is.has_tree.certified extent plant is.fits.bounds)
 
   wide_first : (extent : Extent) (plant : Plant) (place : Place) → FirstWide plant extent place → First extent plant (too_wide place)
-  wide_first _ plant _ (wide_program extent place w) = record { place = 0; passed = λ j l. absurd (omega (arith, l)); fails = (place, w, refl) }
-  wide_first _ plant _ (wide_pivot extent qp j h w) = record { place = 1; passed = one_passed extent plant h.fits; fails = record { qp = qp; condensed = h.condensed; holds = inr (j, w, refl) } }
+  wide_first _ plant _ (wide_program extent place w) = record { place = 0; passed = λ j l. absurd (omega (arith, l)); fails = inr (place, w, refl) }
   wide_first _ plant _ (wide_set extent qp place h p bad) =
-      record { place = 2; passed = two_passed extent plant qp h p; fails = record { qp = qp; condensed = h.condensed; holds = (definite_by plant qp h p, (place, bad, refl)) } }
+      record { place = 1; passed = one_passed extent plant qp h p; fails = record { qp = qp; condensed = h.condensed; holds = (definite_by plant qp h p, (place, bad, refl)) } }
   wide_first _ plant _ (wide_tree extent qp laws place builds v table w) =
-      record { place = 3; passed = three_passed extent plant qp v; fails = record { qp = qp; condensed = v.has_program.condensed; holds = (builds, laws, place, table, w, refl) } }
+      record { place = 2; passed = two_passed extent plant qp v; fails = record { qp = qp; condensed = v.has_program.condensed; holds = (builds, laws, place, table, w, refl) } }
   wide_first _ plant _ (wide_bound extent qp laws nodes place builds h w) = record {
-    place = 4;
-    passed = four_passed extent plant qp h.verdicts (has_trees qp laws nodes h.table h.certified extent);
+    place = 3;
+    passed = three_passed extent plant qp h.verdicts (has_trees qp laws nodes h.table h.certified extent);
     fails = record { qp = qp; condensed = h.verdicts.has_program.condensed; holds = (builds, laws, nodes, place, h.table, h.certified, w, refl) };
   }
   wide_first _ plant _ (wide_check extent qp parts place builds is w) = record {
-    place = 5;
+    place = 4;
     passed = sealed_passed extent plant qp parts is;
     fails = record { qp = qp; condensed = is.has_tree.verdicts.has_program.condensed; holds = record { builds = builds; parts = parts; place = place; is_sealed = is; found = w; is = refl } };
   }
@@ -295,17 +278,17 @@ module _ (given : Given) where
 
   built_first : (extent : Extent) (plant : Plant) (qp : Qp) (parts : Parts) → IsController plant qp parts → First extent plant complete
   built_first extent plant qp parts is = record {
-    place = 6;
-    passed = more_passed extent plant 5 (sealed_passed extent plant qp parts is.is_sealed) (each plant (Checks extent plant) qp is.is_sealed.has_tree.verdicts.has_program.condensed (accepts_all extent plant qp parts is));
+    place = 5;
+    passed = more_passed extent plant 4 (sealed_passed extent plant qp parts is.is_sealed) (each plant (Checks extent plant) qp is.is_sealed.has_tree.verdicts.has_program.condensed (accepts_all extent plant qp parts is));
     fails = refl;
   }
 
   complete_first : (extent : Extent) (plant : Plant) → IsComplete extent plant → First extent plant complete
-  complete_first verdicts plant a = record { place = 6; passed = six_passed verdicts plant a.0 a.1 (λ builds. absurd builds) (λ builds. absurd builds) (λ builds. absurd builds); fails = refl }
+  complete_first verdicts plant a = record { place = 5; passed = five_passed verdicts plant a.0 a.1 (λ builds. absurd builds) (λ builds. absurd builds) (λ builds. absurd builds); fails = refl }
   complete_first controller plant a = built_first controller plant a.0 a.1.0 a.1.1
 
   outcome_first : (extent : Extent) (plant : Plant) (s : Outcome) → IsOutcome extent plant s → First extent plant s
-  outcome_first extent plant (not_definite pivot) h = not_definite_first extent plant pivot h
+  outcome_first extent plant (not_definite pivot) h = record { place = 0; passed = λ j l. absurd (omega (arith, l)); fails = inl (pivot, h, refl) }
   outcome_first extent plant (too_wide place) h = wide_first extent plant place h
   outcome_first extent plant complete h = complete_first extent plant h
 

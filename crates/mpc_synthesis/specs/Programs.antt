@@ -1,6 +1,5 @@
 -- The convex program of a plant, with all candidates decided.
 use Rattle.std.specs.Prelude.{◌≡◌, ℕ, false, List}
-use Rattle.mpc_space.specs.Matrix.{height, entry}
 use Rattle.mpc_plant.specs.declared.plants.Plant.{Plant}
 use Rattle.mpc_rows.specs.declared.programs.Qp.{Qp}
 use Rattle.mpc_rows.specs.declared.verdicts.Verdict.{Verdict}
@@ -9,19 +8,8 @@ use Rattle.mpc_rows.specs.Verdicts.{IsRight}
 use Rattle.mpc_claim.specs.declared.events.Phase.TheVariants.{Finished}
 use Rattle.mpc_claim.specs.Board.{Board, is_wide}
 use Rattle.mpc_claim.specs.History.{IsFinished}
-use Rattle.mpc_definite.specs.Pivots.{PassesBelow}
-use Rattle.mpc_condense.specs.Condensed.{IsCondensed}
-use Rattle.mpc_condense.specs.Causes.{AllFit}
+use Rattle.mpc_convex.specs.Convex.{HasProgram, PivotsPass}
 use Rattle.mpc_synthesis.specs.Crews.{HasEnded}
-
--- the plant's program, and no number of condensing is too wide
-pub record HasProgram (plant : Plant) (qp : Qp) : Type 0 where
-  pub fits : AllFit plant
-  pub condensed : IsCondensed qp plant
-
--- all pivots of h are positive, and no number of their steps is too wide
-abbrev pub PivotsPass : Qp → Type 0
-PivotsPass qp = PassesBelow (entry qp.h) (height qp.h) (height qp.h)
 
 -- each candidate has a right verdict, and none meets a number that is too wide
 abbrev pub IsDecided : Qp → Type 0

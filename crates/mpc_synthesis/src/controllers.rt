@@ -6,7 +6,7 @@ ghost use Rattle.mpc_synthesis.specs.Programs.{IsDecidedBy};
 ghost use Rattle.mpc_synthesis.specs.Controllers.{IsController};
 ghost use Rattle.mpc_synthesis.specs.Refusals.{controller, ExplainsSynthesisError};
 
-use crate::errors::SynthesisError;
+use crate::SynthesisError;
 use crate::parts::{accepted, sealed, table_of};
 use crate::verdicts::{decided, decided_in_threads};
 use mpc_check::{check, check_alone};

@@ -5,8 +5,9 @@ ghost use Rattle.mpc_synthesis.specs.Outcomes.{OneOutcome};
 
 use mpc_answers::one_table;
 use mpc_check::{accepted_replies, one_finding};
-use mpc_condense::{one_program, place_laws};
+use mpc_condense::one_program;
 use mpc_controller::{bound_laws, replies_everywhere};
+use mpc_convex::one_program_outcome;
 use mpc_cover::one_verdict;
 use mpc_definite::pivot_laws;
 use mpc_sets::order_laws;
@@ -29,8 +30,8 @@ pub fn one_controller()
 {
     order_laws();
     pivot_laws();
-    place_laws();
     one_program();
+    one_program_outcome();
     one_verdict();
     one_tree();
     one_table();
@@ -45,8 +46,8 @@ pub fn one_outcome()
 {
     order_laws();
     pivot_laws();
-    place_laws();
     one_program();
+    one_program_outcome();
     one_verdict();
     one_tree();
     one_table();

@@ -14,7 +14,7 @@ ghost use Rattle.mpc_synthesis.specs.Tables.{IsTabledBy, HasTable};
 ghost use Rattle.mpc_synthesis.specs.Controllers.{IsSealed};
 ghost use Rattle.mpc_synthesis.specs.Refusals.{controller, ExplainsSynthesisError, ExplainsCheckError, refusal_of};
 
-use crate::errors::SynthesisError;
+use crate::SynthesisError;
 use mpc_answers::{compiled_accepted, tree_shapes};
 use mpc_check::{Answer, CheckError};
 use mpc_claim::Registry;
@@ -94,7 +94,7 @@ pub(crate) fn accepted(
     match found {
         Ok(Answer::Accepted) => Ok(parts),
         Ok(Answer::Refused(_)) => unreachable!(),
-        Err(CheckError::Wide(place)) => Err(SynthesisError::TooWide(place)),
+        Err(CheckError::TooWide(place)) => Err(SynthesisError::TooWide(place)),
         Err(CheckError::NotDefinite(_)) => unreachable!(),
         Err(CheckError::NoMemory) => Err(SynthesisError::NoMemory),
     }

@@ -11,9 +11,9 @@ ghost use Rattle.mpc_synthesis.specs.Crews.{HasEnded};
 ghost use Rattle.mpc_synthesis.specs.Programs.{IsDecidedBy};
 ghost use Rattle.mpc_synthesis.specs.Refusals.{Extent, ExplainsSetError, ExplainsSynthesisError};
 
-use crate::errors::SynthesisError;
-use crate::programs::convex_program;
+use crate::SynthesisError;
 use mpc_claim::{Phase, Registry, legal_laws};
+use mpc_convex::convex_program;
 use mpc_plant::Plant;
 use mpc_rows::{Place, Qp, Verdict};
 use mpc_workers::{Gate, WorkError, enumerate, enumerate_alone};

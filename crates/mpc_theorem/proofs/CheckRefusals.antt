@@ -1,7 +1,6 @@
 -- What the checker finds of a plant's program, and why that is refused.
 use Rattle.std.proofs.Common.{ℕ, ◌+◌, ◌⊎◌, inl, inr, List, length, slice_index, sym, subst}
 use Rattle.mpc_space.specs.Matrix.{height}
-use Rattle.mpc_plant.specs.declared.plants.Plant.{Plant}
 use Rattle.mpc_rows.specs.declared.places.Place.{Place}
 use Rattle.mpc_rows.specs.declared.programs.Qp.{Qp}
 use Rattle.mpc_rows.specs.declared.laws.Law.{Law}
@@ -13,21 +12,10 @@ use Rattle.mpc_controller.specs.Parts.{Parts}
 use Rattle.mpc_check.specs.Findings.{Finding, too_wide, not_definite as found_not_definite, IsFirstOf, IsFirstOfTwo}
 use Rattle.mpc_check.specs.LawConditions.{StationaryMet, StationaryFinds, LineMet, LineFinds, ActiveMet, ActiveFinds, RowFinds, MemberMet, MemberFinds, LawFinds, LawAtMet, LawAtFinds, LawsMet, LawsFind}
 use Rattle.mpc_check.specs.LeafConditions.{LeafRowMet, LeafRowFinds, NodeFinds, NodeAtMet, NodeAtFinds, TreeFinds}
-use Rattle.mpc_check.specs.Acceptance.{IsBadPivot, IsWidePivot as IsFoundPivot, FindsBehind, IsFound}
-use Rattle.mpc_theorem.specs.Programs.{IsNotDefinite, IsWidePivot, IsWideProgram}
+use Rattle.mpc_check.specs.Acceptance.{FindsBehind, IsFound}
+use Rattle.mpc_theorem.specs.Programs.{IsNotDefinite, IsWideProgram}
 use Rattle.mpc_theorem.specs.CheckLaws.{FindsNotDefinite, FindsTooWide}
-use Rattle.mpc_theorem.proofs.ProgramPlaces.{to_wide_place}
-use Rattle.mpc_theorem.proofs.ProgramRefusals.{not_definite, first_not_positive, program_fits, wide_pivot, wide_place, first_wide}
-
-of_bad_pivot : (plant : Plant) (j : ℕ) → IsBadPivot plant j → IsNotDefinite plant j
-of_bad_pivot plant j h = not_definite plant h.qp j h.program.fits h.program.condensed h.bad.first h.bad.not_convex
-
-to_bad_pivot : (plant : Plant) (j : ℕ) → IsNotDefinite plant j → IsBadPivot plant j
-to_bad_pivot plant j h = record {
-  qp = h.qp;
-  program = record { condensed = h.stops.program.condensed; fits = program_fits plant h.qp h.stops.program };
-  bad = record { first = first_not_positive plant j h; not_convex = h.not_definite };
-}
+use Rattle.mpc_theorem.proofs.StateRefusals.{solves_not_definite, solves_too_wide}
 
 -- ---- nothing behind the program finds a pivot
 first_of : (met : ℕ → Type 0) (finds : ℕ → Finding → Type 0) (count : ℕ) (finding : Finding) → ((k : ℕ) → finds k finding → ⊥) → IsFirstOf met finds count finding → ⊥
@@ -64,33 +52,19 @@ no_pivot_behind parts j h = by h.first
     by (inr k) = no_tree h.qp j parts.laws parts.tree k.1
 
 pub finds_not_definite : FindsNotDefinite
-finds_not_definite parts j = (to, λ h. inl (to_bad_pivot parts.plant j h))
+finds_not_definite parts j = (to, λ h. inl ((solves_not_definite parts.plant j).1 h))
   where
     to : IsFound parts (found_not_definite j) → IsNotDefinite parts.plant j
-    to (inl h) = of_bad_pivot parts.plant j h
+    to (inl h) = (solves_not_definite parts.plant j).0 h
     to (inr h) = absurd (no_pivot_behind parts j h)
-
--- ---- a place that is too wide
-module _ (within : RowsWithin) (plant : Plant) (place : Place) where
-  of_found_pivot : IsFoundPivot plant place → IsWideProgram plant place
-  of_found_pivot h = subst (IsWideProgram plant) (sym h.wide.place_is) (wide_pivot plant h.qp h.wide.step h.program.fits h.program.condensed h.wide.first)
-
-  to_found_pivot : IsWidePivot plant place → IsFoundPivot plant place
-  to_found_pivot h = record {
-    qp = h.qp;
-    program = record { condensed = h.stops.program.condensed; fits = program_fits plant h.qp h.stops.program };
-    wide = record { step = h.j; place_is = h.place_is; first = first_wide plant place h };
-  }
 
 pub finds_too_wide : RowsWithin → FindsTooWide
 finds_too_wide within parts place = (to, of)
   where
     to : IsFound parts (too_wide place) → IsWideProgram parts.plant place ⊎ FindsBehind parts (too_wide place)
-    to (inl (inl h)) = inl (wide_place parts.plant within place h)
-    to (inl (inr h)) = inl (of_found_pivot within parts.plant place h)
+    to (inl h) = inl ((solves_too_wide within parts.plant place).0 h)
     to (inr h) = inr h
 
     of : IsWideProgram parts.plant place ⊎ FindsBehind parts (too_wide place) → IsFound parts (too_wide place)
-    of (inl (inl h)) = inl (inl (to_wide_place parts.plant place h))
-    of (inl (inr h)) = inl (inr (to_found_pivot within parts.plant place h))
+    of (inl h) = inl ((solves_too_wide within parts.plant place).1 h)
     of (inr h) = inr h

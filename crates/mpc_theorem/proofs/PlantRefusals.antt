@@ -9,51 +9,36 @@ use Rattle.mpc_condense.specs.BestReplies.{OneProgram}
 use Rattle.mpc_condense.specs.ProgramLaws.{NoWidePlace, RowsWithin}
 use Rattle.mpc_controller.specs.Parts.{Parts}
 use Rattle.mpc_check.specs.Findings.{too_wide}
-use Rattle.mpc_check.specs.Acceptance.{ProgramFinds, FindsBehind, IsFound}
+use Rattle.mpc_check.specs.Acceptance.{FindsBehind, IsFound}
 use Rattle.mpc_synthesis.specs.Programs.{HasVerdicts}
 use Rattle.mpc_synthesis.specs.Controllers.{IsSealed}
-use Rattle.mpc_synthesis.specs.Refusals.{Extent, verdicts, controller, IsNotDefiniteAt, FirstWide, wide_program, wide_pivot as of_pivot, wide_set, wide_tree, wide_bound, wide_check}
-use Rattle.mpc_theorem.specs.Programs.{IsNotDefinite, IsWideProgram}
+use Rattle.mpc_convex.specs.Refusals.{IsFirstWidePlace, wide_program as of_condensing, wide_pivot as of_pivot}
+use Rattle.mpc_synthesis.specs.Refusals.{Extent, verdicts, controller, FirstWide, wide_program, wide_set, wide_tree, wide_bound, wide_check}
+use Rattle.mpc_theorem.specs.Programs.{IsWideProgram}
 use Rattle.mpc_theorem.specs.Stages.{IsWideSet, IsWideStage, PlantNotDefinite, PlantTooWide}
 use Rattle.mpc_theorem.proofs.BoundPlaces.{to_first_broken, of_first_broken}
-use Rattle.mpc_theorem.proofs.ProgramPlaces.{to_wide_place}
-use Rattle.mpc_theorem.proofs.ProgramRefusals.{not_definite, first_not_positive, program_fits, wide_pivot, wide_place, first_wide}
+use Rattle.mpc_theorem.proofs.StateRefusals.{solves_not_definite, solves_too_wide}
 
 pub plant_not_definite : PlantNotDefinite
-plant_not_definite plant j = (λ h. not_definite plant h.qp j h.has_program.fits h.has_program.condensed h.first h.not_definite, of)
-  where
-    of : IsNotDefinite plant j → IsNotDefiniteAt plant j
-    of h = record {
-      qp = h.qp;
-      has_program = record { fits = program_fits plant h.qp h.stops.program; condensed = h.stops.program.condensed };
-      first = first_not_positive plant j h;
-      not_definite = h.not_definite;
-    }
+plant_not_definite = solves_not_definite
 
 -- ---- the checker finds nothing of a program with verdicts
-module _ (none : NoWidePlace) (one : OneProgram) (place : Place) where
-  program_passes : (plant : Plant) (qp : Qp) → HasVerdicts plant qp → ProgramFinds plant (too_wide place) → ⊥
-  program_passes plant qp has (inl h) = none plant place has.has_program.fits h
-  program_passes plant qp has (inr h) =
-      let same : h.qp ≡ qp = one plant h.qp qp h.program.condensed has.has_program.condensed in
-      let first = subst (λ (q : Qp). IsFirstWide (entry q.h) (height q.h) h.wide.step) same h.wide.first in
-      first.here (has.pivots.fits (h.wide.step - 1) (let some = first.some in let within = first.within in omega (arith, some, within)))
+module _ (none : NoWidePlace) (one : OneProgram) where
+  program_passes : (plant : Plant) (qp : Qp) (place : Place) → HasVerdicts plant qp → IsFirstWidePlace plant place → ⊥
+  program_passes plant qp _ has (of_condensing place h) = none plant place has.has_program.fits h
+  program_passes plant qp _ has (of_pivot other j program h) =
+      let first = subst (λ (q : Qp). IsFirstWide (entry q.h) (height q.h) j) (one plant other qp program.condensed has.has_program.condensed) h in
+      first.here (has.pivots.fits (j - 1) (let some = first.some in let within = first.within in omega (arith, some, within)))
 
-  found_behind : (plant : Plant) (qp : Qp) (parts : Parts) → IsSealed plant qp parts → IsFound parts (too_wide place) → FindsBehind parts (too_wide place)
-  found_behind plant qp parts is (inl h) = absurd (program_passes parts.plant qp (subst (λ (p : Plant). HasVerdicts p qp) (sym is.plant_is) is.has_tree.verdicts) h)
-  found_behind plant qp parts is (inr h) = h
+  found_behind : (place : Place) (plant : Plant) (qp : Qp) (parts : Parts) → IsSealed plant qp parts → IsFound parts (too_wide place) → FindsBehind parts (too_wide place)
+  found_behind place plant qp parts is (inl h) = absurd (program_passes parts.plant qp place (subst (λ (p : Plant). HasVerdicts p qp) (sym is.plant_is) is.has_tree.verdicts) h)
+  found_behind place plant qp parts is (inr h) = h
 
 -- ---- the stages
 module _ (plant : Plant) where
   of_set : (extent : Extent) (place : Place) → IsWideSet plant place → IsWideStage extent plant place
   of_set verdicts place h = h
   of_set controller place h = inl h
-
-  of_program : (extent : Extent) (place : Place) → IsWideProgram plant place → FirstWide plant extent place
-  of_program extent place (inl h) = wide_program extent place (to_wide_place plant place h)
-  of_program extent place (inr h) =
-      subst (FirstWide plant extent) (sym h.place_is)
-      (of_pivot extent h.qp h.j (record { fits = program_fits plant h.qp h.stops.program; condensed = h.stops.program.condensed }) (first_wide plant place h))
 
   to_set : (extent : Extent) (place : Place) → IsWideSet plant place → FirstWide plant extent place
   to_set extent place h = wide_set extent h.qp place h.has_program h.pivots h.first
@@ -65,14 +50,13 @@ module _ (plant : Plant) where
   of_stage controller place (inr (inr (inl h))) = wide_bound controller h.qp h.laws h.nodes place tt h.has_tree (to_first_broken plant h.laws h.nodes place h.first)
   of_stage controller place (inr (inr (inr h))) = wide_check controller h.qp h.parts place tt h.is_sealed (inr h.found)
 
-  of_either : (extent : Extent) (place : Place) → IsWideProgram plant place ⊎ IsWideStage extent plant place → FirstWide plant extent place
-  of_either extent place (inl h) = of_program extent place h
-  of_either extent place (inr h) = of_stage extent place h
+  of_either : RowsWithin → (extent : Extent) (place : Place) → IsWideProgram plant place ⊎ IsWideStage extent plant place → FirstWide plant extent place
+  of_either within extent place (inl h) = wide_program extent place ((solves_too_wide within plant place).1 h)
+  of_either within extent place (inr h) = of_stage extent place h
 
   module _ (none : NoWidePlace) (within : RowsWithin) (one : OneProgram) where
     to_either : (extent : Extent) (place : Place) → FirstWide plant extent place → IsWideProgram plant place ⊎ IsWideStage extent plant place
-    to_either extent place (wide_program e p h) = inl (wide_place plant within p h)
-    to_either extent place (of_pivot e qp j program h) = inl (wide_pivot plant qp j program.fits program.condensed h)
+    to_either extent place (wide_program e p h) = inl ((solves_too_wide within plant p).0 h)
     to_either extent place (wide_set e qp p program pivots h) = inr (of_set e p (record { qp = qp; has_program = program; pivots = pivots; first = h }))
     to_either controller place (wide_tree e qp laws p builds has table h) = inr (inr (inl (record { qp = qp; laws = laws; verdicts_of = has; table = table; first = h })))
     to_either controller place (wide_bound e qp laws nodes p builds has h) = inr (inr (inr (inl (record { qp = qp; laws = laws; nodes = nodes; has_tree = has; first = of_first_broken plant laws nodes p h }))))
@@ -82,4 +66,4 @@ module _ (plant : Plant) where
     to_either verdicts place (wide_check e qp parts p builds is h) = absurd builds
 
 pub plant_too_wide : NoWidePlace → RowsWithin → OneProgram → PlantTooWide
-plant_too_wide none within one extent plant place = (to_either plant none within one extent place, of_either plant extent place)
+plant_too_wide none within one extent plant place = (to_either plant none within one extent place, of_either plant within extent place)

@@ -10,7 +10,7 @@ use Rattle.mpc_condense.specs.Stages.{IsRow}
 use Rattle.mpc_condense.specs.Causes.{row_count}
 use Rattle.mpc_condense.specs.ProgramLaws.{RowsWithin}
 use Rattle.mpc_tight.specs.Tightening.{RowFits, IsWideRow}
-use Rattle.mpc_states.specs.Convex.{IsNotDefiniteAt, IsFirstWidePlace, wide_program, wide_pivot as of_pivot}
+use Rattle.mpc_convex.specs.Refusals.{IsNotDefiniteAt, IsFirstWidePlace, wide_program, wide_pivot as of_pivot}
 use Rattle.mpc_theorem.specs.Firsts.{IsFirstOf, numbered}
 use Rattle.mpc_theorem.specs.Programs.{IsNotDefinite, IsWideProgram}
 use Rattle.mpc_theorem.specs.StateLaws.{TightRowFits, SolvesNotDefinite, SolvesTooWide, TightensWideRow}
@@ -20,14 +20,14 @@ use Rattle.mpc_theorem.proofs.ProgramRefusals.{not_definite, first_not_positive,
 use Rattle.mpc_theorem.proofs.RowPlaces.{row_exists, one_row}
 
 pub solves_not_definite : SolvesNotDefinite
-solves_not_definite plant j = (λ h. not_definite plant h.qp j h.has_program.fits h.has_program.condensed h.first h.not_definite_h, of)
+solves_not_definite plant j = (λ h. not_definite plant h.qp j h.has_program.fits h.has_program.condensed h.first h.not_definite, of)
   where
     of : IsNotDefinite plant j → IsNotDefiniteAt plant j
     of h = record {
       qp = h.qp;
       has_program = record { condensed = h.stops.program.condensed; fits = program_fits plant h.qp h.stops.program };
       first = first_not_positive plant j h;
-      not_definite_h = h.not_definite;
+      not_definite = h.not_definite;
     }
 
 pub solves_too_wide : RowsWithin → SolvesTooWide

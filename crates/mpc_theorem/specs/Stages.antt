@@ -13,9 +13,11 @@ use Rattle.mpc_tree.specs.WideRuns.{IsFirstWide as IsFirstWideRun}
 use Rattle.mpc_controller.specs.Parts.{Parts}
 use Rattle.mpc_check.specs.Findings.{too_wide}
 use Rattle.mpc_check.specs.Acceptance.{FindsBehind}
-use Rattle.mpc_synthesis.specs.Programs.{HasProgram, PivotsPass, HasVerdicts}
+use Rattle.mpc_convex.specs.Convex.{HasProgram, PivotsPass}
+use Rattle.mpc_synthesis.specs.Programs.{HasVerdicts}
 use Rattle.mpc_synthesis.specs.Controllers.{HasTree, IsSealed}
-use Rattle.mpc_synthesis.specs.Refusals.{Extent, verdicts, controller, IsNotDefiniteAt, FirstWide}
+use Rattle.mpc_convex.specs.Refusals.{IsNotDefiniteAt}
+use Rattle.mpc_synthesis.specs.Refusals.{Extent, verdicts, controller, FirstWide}
 use Rattle.mpc_theorem.specs.Firsts.{IsFirstOf}
 use Rattle.mpc_theorem.specs.Programs.{IsNotDefinite, IsWideProgram}
 use Rattle.mpc_theorem.specs.Bounds.{BoundFits, bound_places}

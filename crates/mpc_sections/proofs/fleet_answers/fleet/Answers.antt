@@ -5,14 +5,14 @@ use Rattle.mpc_rows.specs.declared.programs.Qp.{Qp}
 use Rattle.mpc_claim.specs.Board.{Board}
 use Rattle.mpc_workers.specs.Seats.{IsDone}
 use Rattle.mpc_sections.specs.Sections.{sections_of}
-use Rattle.mpc_sections.specs.Steps.{IsConvex}
+use Rattle.mpc_convex.specs.Convex.{IsConvexProgram}
 use Rattle.mpc_sections.proofs.StepLemmas.{no_more_than, definite_all, examined_all}
 use Rattle.mpc_sections.proofs.fleet_answers.fleet.Goals as goal
 
 pub enumerate_fleet-requires-clause-few : goal.enumerate_fleet-requires-clause-few
 enumerate_fleet-requires-clause-few g c =
     let few = rw c.if-not-are_few.false at c.are_few.ensures in
-    let fewer = no_more_than IsConvex (sections_of c.args.input.now) c.in_ok-begun.field-0.begun.items c.in_ok-begun.field-0.programs.items c.in_ok-begun.ensures in
+    let fewer = no_more_than IsConvexProgram (sections_of c.args.input.now) c.in_ok-begun.field-0.begun.items c.in_ok-begun.field-0.programs.items c.in_ok-begun.ensures in
     let same : length c.deref.result.now ≡ length c.in_ok-begun.field-0.programs.items = ap length c.deref.ensures.value in
     λ κs lives. omega (arith, few, fewer, same)
 

@@ -1,5 +1,5 @@
-use Rattle.mpc_states.specs.Convex.{wide_program, wide_pivot}
-use Rattle.mpc_states.proofs.programs.convex_program.Goals as goal
+use Rattle.mpc_convex.specs.Refusals.{wide_program, wide_pivot}
+use Rattle.mpc_convex.proofs.convex_program.Goals as goal
 
 pub returns-in-Err-Wide-clause-cause : goal.returns-in-Err-Wide-clause-cause
 returns-in-Err-Wide-clause-cause c = rw c.in-Err-Wide.place-is (wide_program c.in-Err-Wide.place (rw c.in-Err-Wide.field-0-is at c.in-Err-Wide.ensures.cause))
@@ -9,7 +9,7 @@ returns-in-Err-NotDefinite-clause-cause c = rw c.in-Err-NotDefinite.j-is (record
   qp = c.in-Ok.program;
   has_program = record { fits = c.in-Ok.ensures.fits; condensed = c.in-Ok.ensures.condensed };
   first = rw c.in-Err-NotDefinite.field-0-is at c.in-Err-NotDefinite.ensures.cause;
-  not_definite_h = rw c.in-Err-NotDefinite.field-0-is at c.in-Err-NotDefinite.ensures.not_definite;
+  not_definite = rw c.in-Err-NotDefinite.field-0-is at c.in-Err-NotDefinite.ensures.not_definite;
 })
 
 pub returns-in-Err-Wide-pivots-clause-cause : goal.returns-in-Err-Wide-pivots-clause-cause

@@ -1,0 +1,2 @@
+mod FirstPivots
+mod OneOutcome

@@ -1,0 +1,5 @@
+use Rattle.mpc_convex.proofs.OneOutcome.{one_outcome}
+use Rattle.mpc_convex.proofs.one_program_outcome.Goals as goal
+
+pub returns : goal.returns
+returns c = one_outcome c.place_laws.ensures.one c.place_laws.ensures.none c.one_program.ensures
