@@ -15,12 +15,11 @@ ghost use Rattle.mpc_check.specs.LeafSystems.{system_at};
 ghost use Rattle.mpc_check.specs.Widths.{IsOfWidth};
 
 use crate::answers::CheckError;
-use crate::rows::system_row;
+use crate::rows::{Cell, system_row};
 use crate::whole_sums::is_refuted_in_wholes;
 use mpc_frac::{NoMemory, fit_laws};
 use mpc_linear::{RowInt, zero_laws};
-use mpc_paths::Turn;
-use mpc_rows::{Cert, Multipliers, Place, Qp, Row, Rows, System, Tree, refutes};
+use mpc_rows::{Cert, Multipliers, Place, Qp, Row, Rows, System, refutes};
 use mpc_systems::broken_row;
 use std::alloc::Global;
 
@@ -54,24 +53,23 @@ fn named_multipliers(alloc: Global, cert: &Cert) -> Result<Multipliers, NoMemory
 fn named_system(
     alloc: Global,
     qp: &Qp,
-    tree: &Tree,
-    way: &[Turn],
+    cell: &Cell,
     more: u32,
     last: &[Row],
     cert: &Cert,
 ) -> Result<System, NoMemory>
-    requires way { All (IsTurn tree.now) way.now }
-    requires splits { All (HasSplitRow (length qp.now.counts)) tree.now }
+    requires way { All (IsTurn cell.now.tree.now) cell.now.way.now }
+    requires splits { All (HasSplitRow (length qp.now.counts)) cell.now.tree.now }
     requires last { All (IsOfWidth (length qp.now.counts + more)) last.now }
     requires unknowns { more ≤ 6 }
-    requires positions { HasPositionsIn (height (system_at qp.now tree.now way.now more last.now)) cert.now }
-    ensures { IfOk result (λ s. s ≡ picked_system (system_at qp.now tree.now way.now more last.now) cert.now) }
+    requires positions { HasPositionsIn (height (system_at qp.now cell.now.tree.now cell.now.way.now more last.now)) cert.now }
+    ensures { IfOk result (λ s. s ≡ picked_system (system_at qp.now cell.now.tree.now cell.now.way.now more last.now) cert.now) }
 {
     let mut system = System::new(alloc, qp.counts.len() as u32 + more);
     let entries = cert.as_slice();
     for i in 0..entries.len() {
         let place = entries[i].0 as usize - 1;
-        let row = system_row(alloc, qp, tree, way, more, last, place)?;
+        let row = system_row(alloc, qp, cell, more, last, place)?;
         system.push(row)?;
     }
     Ok(system)
@@ -98,27 +96,26 @@ fn is_refutation(
 pub fn is_refuted(
     alloc: Global,
     qp: &Qp,
-    tree: &Tree,
-    way: &[Turn],
+    cell: &Cell,
     more: u32,
     last: &[Row],
     cert: &Cert,
     place: Place,
 ) -> Result<bool, CheckError>
-    requires way { All (IsTurn tree.now) way.now }
-    requires splits { All (HasSplitRow (length qp.now.counts)) tree.now }
+    requires way { All (IsTurn cell.now.tree.now) cell.now.way.now }
+    requires splits { All (HasSplitRow (length qp.now.counts)) cell.now.tree.now }
     requires last { All (IsOfWidth (length qp.now.counts + more)) last.now }
     requires unknowns { more ≤ 6 }
-    ensures { IsDecided (CertFits (system_at qp.now tree.now way.now more last.now) cert.now)
-        (CertRefutes (system_at qp.now tree.now way.now more last.now) cert.now) place result }
+    ensures { IsDecided (CertFits (system_at qp.now cell.now.tree.now cell.now.way.now more last.now) cert.now)
+        (CertRefutes (system_at qp.now cell.now.tree.now cell.now.way.now more last.now) cert.now) place result }
 {
     zero_laws();
     fit_laws();
-    let rows = 2 * qp.counts.len() as u128 + way.len() as u128 + last.len() as u128;
+    let rows = 2 * qp.counts.len() as u128 + cell.way.len() as u128 + last.len() as u128;
     if !has_positions_in(cert, rows) {
         return Ok(false);
     }
-    let system = named_system(alloc, qp, tree, way, more, last, cert)?;
+    let system = named_system(alloc, qp, cell, more, last, cert)?;
     let multipliers = named_multipliers(alloc, cert)?;
     is_refutation(&system, &multipliers, place)
 }
@@ -128,28 +125,27 @@ pub fn is_refuted(
 pub fn is_broken_refuted(
     alloc: Global,
     qp: &Qp,
-    tree: &Tree,
-    way: &[Turn],
+    cell: &Cell,
     row: &RowInt,
     cert: &Cert,
     place: Place,
 ) -> Result<bool, CheckError>
-    requires way { All (IsTurn tree.now) way.now }
-    requires splits { All (HasSplitRow (length qp.now.counts)) tree.now }
+    requires way { All (IsTurn cell.now.tree.now) cell.now.way.now }
+    requires splits { All (HasSplitRow (length qp.now.counts)) cell.now.tree.now }
     requires size { IsOfSize (length qp.now.counts) row.now }
-    ensures { IsDecided (CertFits (hold_system qp.now (way_rows tree.now way.now) row.now) cert.now)
-        (CertRefutes (hold_system qp.now (way_rows tree.now way.now) row.now) cert.now) place result }
+    ensures { IsDecided (CertFits (hold_system qp.now (way_rows cell.now.tree.now cell.now.way.now) row.now) cert.now)
+        (CertRefutes (hold_system qp.now (way_rows cell.now.tree.now cell.now.way.now) row.now) cert.now) place result }
 {
     zero_laws();
     fit_laws();
-    let rows = 2 * qp.counts.len() as u128 + way.len() as u128 + 1;
+    let rows = 2 * qp.counts.len() as u128 + cell.way.len() as u128 + 1;
     if !has_positions_in(cert, rows) {
         return Ok(false);
     }
-    if let Some(yes) = is_refuted_in_wholes(qp, tree, way, row, cert) {
+    if let Some(yes) = is_refuted_in_wholes(qp, cell.tree, cell.way, row, cert) {
         return Ok(yes);
     }
     let mut last = Rows::new(alloc);
     last.push(broken_row(alloc, row)?)?;
-    is_refuted(alloc, qp, tree, way, 0, last.as_slice(), cert, place)
+    is_refuted(alloc, qp, cell, 0, last.as_slice(), cert, place)
 }

@@ -52,7 +52,7 @@ fn search_in_threads<T: Threads + Sync>(
 /// that its system doesn't have, refutes nothing.
 ///
 /// The conditions come in the order of condensing, the pivots, the laws with their lines and members, and the leaves in preorder with
-/// their rows. The first that isn't met answers: as `Refused` with its spot, as `Wide` with its place where one of its numbers needs
+/// their rows. The first that isn't met answers: as `Refused` with its spot, as `TooWide` with its place where one of its numbers needs
 /// more than 128 bits, or as `NotDefinite` with the first pivot that isn't positive.
 ///
 /// The leaves are checked side by side, in as many as 16 stretches of neighbours, each in a thread of its own where one can be started. It

@@ -18,8 +18,8 @@ ghost use Rattle.mpc_check.specs.LeafSystems.{NamesLaw};
 use crate::answers::{CheckError, Spot};
 use crate::borders::{Formed, form_rows};
 use crate::certs::{is_broken_refuted, is_refuted};
-use mpc_paths::Turn;
-use mpc_rows::{Cert, Certs, LawTable, Node, Place, Qp, Tree, law_laws};
+use crate::rows::Cell;
+use mpc_rows::{Cert, Certs, LawTable, Node, Place, Qp, law_laws};
 use mpc_systems::{cell_laws, joint_rows};
 use std::alloc::Global;
 
@@ -27,8 +27,7 @@ use std::alloc::Global;
 fn is_row_refuted(
     alloc: Global,
     qp: &Qp,
-    tree: &Tree,
-    way: &[Turn],
+    cell: &Cell,
     formed: &Formed,
     certs: &Certs,
     number: u64,
@@ -36,11 +35,11 @@ fn is_row_refuted(
 ) -> Result<bool, CheckError>
     requires row { i < height qp.now.g }
     requires size { IsFormedOfSize (length qp.now.counts) formed.now }
-    requires way { All (IsTurn tree.now) way.now }
-    requires splits { All (HasSplitRow (length qp.now.counts)) tree.now }
+    requires way { All (IsTurn cell.now.tree.now) cell.now.way.now }
+    requires splits { All (HasSplitRow (length qp.now.counts)) cell.now.tree.now }
     ensures { (law : Law) → IsFormed qp.now law i formed.now
-        → IsDecided (RowFits qp.now (way_rows tree.now way.now) law certs.now i)
-        (RowHolds qp.now (way_rows tree.now way.now) law certs.now i) (CheckLeaf number (i + 1)) result }
+        → IsDecided (RowFits qp.now (way_rows cell.now.tree.now cell.now.way.now) law certs.now i)
+        (RowHolds qp.now (way_rows cell.now.tree.now cell.now.way.now) law certs.now i) (CheckLeaf number (i + 1)) result }
 {
     law_laws();
     let place = Place::CheckLeaf(number, i + 1);
@@ -51,29 +50,28 @@ fn is_row_refuted(
     if i as usize >= certs.len() {
         return Ok(false);
     }
-    is_broken_refuted(alloc, qp, tree, way, row, certs.at(i as usize), place)
+    is_broken_refuted(alloc, qp, cell, row, certs.at(i as usize), place)
 }
 
 /// What is found of a leaf with the law of these rows, row by row.
 fn search_law_leaf(
     alloc: Global,
     qp: &Qp,
-    tree: &Tree,
-    way: &[Turn],
+    cell: &Cell,
     rows: &[Formed],
     certs: &Certs,
     number: u64,
 ) -> Result<Option<Spot>, CheckError>
     requires one_each { height qp.now.g ≤ length rows.now }
     requires sizes { All (IsFormedOfSize (length qp.now.counts)) rows.now }
-    requires way { All (IsTurn tree.now) way.now }
-    requires splits { All (HasSplitRow (length qp.now.counts)) tree.now }
+    requires way { All (IsTurn cell.now.tree.now) cell.now.way.now }
+    requires splits { All (HasSplitRow (length qp.now.counts)) cell.now.tree.now }
     ensures { (law : Law) → AreFormed qp.now law rows.now
-        → IsSearched (LawLeafMet qp.now (way_rows tree.now way.now) law certs.now)
-        (LawLeafFinds qp.now (way_rows tree.now way.now) number law certs.now) result }
+        → IsSearched (LawLeafMet qp.now (way_rows cell.now.tree.now cell.now.way.now) law certs.now)
+        (LawLeafFinds qp.now (way_rows cell.now.tree.now cell.now.way.now) number law certs.now) result }
 {
     for i in 0..qp.g.rows() {
-        match is_row_refuted(alloc, qp, tree, way, &rows[i as usize], certs, number, i) {
+        match is_row_refuted(alloc, qp, cell, &rows[i as usize], certs, number, i) {
             Ok(true) => {}
             Ok(false) => {
                 return Ok(Some(Spot::LeafRow {
@@ -91,38 +89,36 @@ fn search_law_leaf(
 fn is_cell_refuted(
     alloc: Global,
     qp: &Qp,
-    tree: &Tree,
-    way: &[Turn],
+    cell: &Cell,
     cert: &Cert,
     number: u64,
 ) -> Result<bool, CheckError>
-    requires way { All (IsTurn tree.now) way.now }
-    requires splits { All (HasSplitRow (length qp.now.counts)) tree.now }
-    ensures { IsDecided (CertFits (joint_system qp.now (way_rows tree.now way.now)) cert.now)
-        (CertRefutes (joint_system qp.now (way_rows tree.now way.now)) cert.now) (CheckLeaf number 0) result }
+    requires way { All (IsTurn cell.now.tree.now) cell.now.way.now }
+    requires splits { All (HasSplitRow (length qp.now.counts)) cell.now.tree.now }
+    ensures { IsDecided (CertFits (joint_system qp.now (way_rows cell.now.tree.now cell.now.way.now)) cert.now)
+        (CertRefutes (joint_system qp.now (way_rows cell.now.tree.now cell.now.way.now)) cert.now) (CheckLeaf number 0) result }
 {
     cell_laws();
     let last = joint_rows(alloc, qp)?;
     let unknowns = qp.h.rows();
     let place = Place::CheckLeaf(number, 0);
-    is_refuted(alloc, qp, tree, way, unknowns, last.as_slice(), cert, place)
+    is_refuted(alloc, qp, cell, unknowns, last.as_slice(), cert, place)
 }
 
 /// What is found of a leaf without a law.
 fn search_empty_leaf(
     alloc: Global,
     qp: &Qp,
-    tree: &Tree,
-    way: &[Turn],
+    cell: &Cell,
     cert: &Cert,
     number: u64,
 ) -> Result<Option<Spot>, CheckError>
-    requires way { All (IsTurn tree.now) way.now }
-    requires splits { All (HasSplitRow (length qp.now.counts)) tree.now }
-    ensures { IsSearched (EmptyLeafMet qp.now (way_rows tree.now way.now) cert.now)
-        (EmptyLeafFinds qp.now (way_rows tree.now way.now) number cert.now) result }
+    requires way { All (IsTurn cell.now.tree.now) cell.now.way.now }
+    requires splits { All (HasSplitRow (length qp.now.counts)) cell.now.tree.now }
+    ensures { IsSearched (EmptyLeafMet qp.now (way_rows cell.now.tree.now cell.now.way.now) cert.now)
+        (EmptyLeafFinds qp.now (way_rows cell.now.tree.now cell.now.way.now) number cert.now) result }
 {
-    match is_cell_refuted(alloc, qp, tree, way, cert, number) {
+    match is_cell_refuted(alloc, qp, cell, cert, number) {
         Ok(true) => Ok(None),
         Ok(false) => Ok(Some(Spot::Leaf { node: number })),
         Err(error) => Err(error),
@@ -147,31 +143,30 @@ pub(crate) fn search_node(
     qp: &Qp,
     laws: &LawTable,
     borders: &[Vec<Formed>],
-    tree: &Tree,
-    way: &[Turn],
+    cell: &Cell,
     node: &Node,
     number: u64,
 ) -> Result<Option<Spot>, CheckError>
     requires shapes { All (HasLawShape qp.now) laws.now }
     requires borders { AreBorders qp.now laws.now borders.now }
     requires named { NamesLaw (length laws.now) node.now }
-    requires way { All (IsTurn tree.now) way.now }
-    requires splits { All (HasSplitRow (length qp.now.counts)) tree.now }
-    ensures { IsSearched (NodeMet qp.now laws.now (way_rows tree.now way.now) node.now)
-        (NodeFinds qp.now laws.now (way_rows tree.now way.now) number node.now) result }
+    requires way { All (IsTurn cell.now.tree.now) cell.now.way.now }
+    requires splits { All (HasSplitRow (length qp.now.counts)) cell.now.tree.now }
+    ensures { IsSearched (NodeMet qp.now laws.now (way_rows cell.now.tree.now cell.now.way.now) node.now)
+        (NodeFinds qp.now laws.now (way_rows cell.now.tree.now cell.now.way.now) number node.now) result }
 {
     match node {
         Node::Split(_) => Ok(None),
         Node::Law { law, certs } => {
             let of_leaf = laws.at(*law as usize - 1);
             match rows_at(borders, *law as usize - 1, qp.g.rows() as usize) {
-                Some(rows) => search_law_leaf(alloc, qp, tree, way, rows, certs, number),
+                Some(rows) => search_law_leaf(alloc, qp, cell, rows, certs, number),
                 None => {
                     let rows = form_rows(alloc, qp, of_leaf)?;
-                    search_law_leaf(alloc, qp, tree, way, rows.as_slice(), certs, number)
+                    search_law_leaf(alloc, qp, cell, rows.as_slice(), certs, number)
                 }
             }
         }
-        Node::NoMove { cert } => search_empty_leaf(alloc, qp, tree, way, cert, number),
+        Node::NoMove { cert } => search_empty_leaf(alloc, qp, cell, cert, number),
     }
 }

@@ -12,6 +12,13 @@ use mpc_rows::{Node, Qp, Row, Tree};
 use mpc_systems::{box_row, widened_broken_row, widened_whole_row};
 use std::alloc::Global;
 
+/// The cell of a node: the way through the tree that leads there.
+#[derive(Clone, Copy, Drop)]
+pub(crate) struct Cell<'a> {
+    pub tree: &'a Tree,
+    pub way: &'a [Turn],
+}
+
 /// The row that holds behind a turn, with as many more coefficients, which are 0.
 fn turn_row(
     alloc: Global,
@@ -38,25 +45,25 @@ fn turn_row(
 pub fn system_row(
     alloc: Global,
     qp: &Qp,
-    tree: &Tree,
-    way: &[Turn],
+    cell: &Cell,
     more: u32,
     last: &[Row],
     place: usize,
 ) -> Result<Row, NoMemory>
-    requires way { All (IsTurn tree.now) way.now }
-    requires splits { All (HasSplitRow (length qp.now.counts)) tree.now }
-    requires place { place < 2 * length qp.now.counts + length way.now + length last.now }
+    requires way { All (IsTurn cell.now.tree.now) cell.now.way.now }
+    requires splits { All (HasSplitRow (length qp.now.counts)) cell.now.tree.now }
+    requires place { place < 2 * length qp.now.counts + length cell.now.way.now + length last.now }
     requires unknowns { more ≤ 6 }
-    ensures { IfOk result (λ r. r ≡ slice_index_or (system_at qp.now tree.now way.now more last.now).rows place no_row) }
+    ensures { IfOk result (λ r. r ≡ slice_index_or (system_at qp.now cell.now.tree.now cell.now.way.now more last.now).rows place no_row) }
 {
     let states = qp.counts.len();
     if place < 2 * states {
         return box_row(alloc, states + more as usize, &qp.counts, place);
     }
+    let way = cell.way;
     let behind = place - 2 * states;
     if behind < way.len() {
-        return turn_row(alloc, tree, way[behind], states, more);
+        return turn_row(alloc, cell.tree, way[behind], states, more);
     }
     last[behind - way.len()].copy(alloc)
 }

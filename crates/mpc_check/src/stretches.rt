@@ -10,6 +10,7 @@ ghost use Rattle.mpc_paths.specs.Ways.{IsWay};
 use crate::answers::{CheckError, Spot};
 use crate::borders::{Formed, form_borders};
 use crate::leaves::search_node;
+use crate::rows::Cell;
 use mpc_frac::NoMemory;
 use mpc_paths::{Turn, go_on, one_path, way_laws, way_to};
 use mpc_rows::{LawTable, Qp, Tree};
@@ -50,7 +51,8 @@ fn search_place(
     way_laws();
     prove!(place < tree.len());
     let number = place as u64 + 1;
-    search_node(alloc, qp, laws, borders, tree, way, tree.at(place), number)
+    let cell = Cell { tree, way };
+    search_node(alloc, qp, laws, borders, &cell, tree.at(place), number)
 }
 
 /// What is found of a stretch of the tree, node by node in preorder. It begins with its own copy of the way from the root to its first node.

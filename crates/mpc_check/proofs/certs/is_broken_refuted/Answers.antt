@@ -15,8 +15,8 @@ use Rattle.mpc_check.proofs.certs.is_broken_refuted.Goals as goal
 
 pub returns-then-not-has_positions_in : goal.returns-then-not-has_positions_in
 returns-then-not-has_positions_in c =
-    let s = hold_system c.args.qp.now (way_rows c.args.tree.now c.args.way.now) c.args.row.now in
-    let count = held_count c.args.qp.now c.args.tree.now c.args.way.now c.args.row.now 0 in
+    let s = hold_system c.args.qp.now (way_rows c.args.cell.now.tree.now c.args.cell.now.way.now) c.args.row.now in
+    let count = held_count c.args.qp.now c.args.cell.now.tree.now c.args.cell.now.way.now c.args.row.now 0 in
     let out : ¬ HasPositionsIn (height s) c.args.cert.now = λ w. different (sym c.if-not-has_positions_in.true ∙ c.has_positions_in.ensures.within.1 (subst (λ n. HasPositionsIn n c.args.cert.now) (omega (arith, count, c.len.ensures)) w)) in
     (outside_fits s c.args.cert.now out, outside_fails s c.args.cert.now out)
   where
@@ -25,13 +25,13 @@ returns-then-not-has_positions_in c =
 
 pub is_refuted_in_wholes-requires-clause-positions : goal.is_refuted_in_wholes-requires-clause-positions
 is_refuted_in_wholes-requires-clause-positions c =
-    let count = held_count c.args.qp.now c.args.tree.now c.args.way.now c.args.row.now 0 in
+    let count = held_count c.args.qp.now c.args.cell.now.tree.now c.args.cell.now.way.now c.args.row.now 0 in
     subst (λ n. HasPositionsIn n c.args.cert.now) (omega (arith, count, c.len.ensures)) (c.has_positions_in.ensures.within.0 c.if-not-has_positions_in.false)
 
 pub returns-in-Some : goal.returns-in-Some
 returns-in-Some c =
-    let s = hold_system c.args.qp.now (way_rows c.args.tree.now c.args.way.now) c.args.row.now in
-    let count = held_count c.args.qp.now c.args.tree.now c.args.way.now c.args.row.now 0 in
+    let s = hold_system c.args.qp.now (way_rows c.args.cell.now.tree.now c.args.cell.now.way.now) c.args.row.now in
+    let count = held_count c.args.qp.now c.args.cell.now.tree.now c.args.cell.now.way.now c.args.row.now 0 in
     let within : HasPositionsIn (height s) c.args.cert.now = subst (λ n. HasPositionsIn n c.args.cert.now) (omega (arith, count, c.len.ensures)) (c.has_positions_in.ensures.within.0 c.if-not-has_positions_in.false) in
     decided_whole c.zero_laws.ensures c.fit_laws.ensures s c.args.cert.now c.has_positions_in.ensures.rises within c.args.place (Ok c.in-Some.yes)
     (decided_sums (picked_system s c.args.cert.now) (weights c.args.cert.now) c.args.place c.in-Some.yes c.in-Some.ensures.answer (λ wide. wide.1 c.in-Some.ensures.fits))
@@ -46,5 +46,5 @@ is_refuted-requires-clause-last c =
 pub returns : goal.returns
 returns c =
     let last : c.as_slice.result.now ≡ broken_row c.args.row.now ∷ [] = c.as_slice.ensures ∙ c.in_ok-push.ensures.ok ∙ (λ t. c.new-last.ensures t ++ c.in_ok-broken_row.ensures t ∷ []) in
-    let path = way_rows c.args.tree.now c.args.way.now in
-    decided_there (system_at c.args.qp.now c.args.tree.now c.args.way.now 0 c.as_slice.result.now) (hold_system c.args.qp.now path c.args.row.now) (plain_system c.args.qp.now c.args.tree.now c.args.way.now c.args.row.now c.as_slice.result.now last) c.args.cert.now _ c.is_refuted.result c.is_refuted.ensures
+    let path = way_rows c.args.cell.now.tree.now c.args.cell.now.way.now in
+    decided_there (system_at c.args.qp.now c.args.cell.now.tree.now c.args.cell.now.way.now 0 c.as_slice.result.now) (hold_system c.args.qp.now path c.args.row.now) (plain_system c.args.qp.now c.args.cell.now.tree.now c.args.cell.now.way.now c.args.row.now c.as_slice.result.now last) c.args.cert.now _ c.is_refuted.result c.is_refuted.ensures

@@ -6,5 +6,5 @@ use Rattle.mpc_check.proofs.certs.named_system.Given as goal
 abbrev pub invariant-loop-i : goal.invariant-loop-i
 invariant-loop-i l = record {
   width : l.system.width ≡ length l.qp.counts + l.more;
-  rows : l.system.rows ≡ picked_rows (system_at l.qp l.tree l.way l.more l.last).rows (take l.i l.entries);
+  rows : l.system.rows ≡ picked_rows (system_at l.qp l.cell.tree.now l.cell.way.now l.more l.last).rows (take l.i l.entries);
 }

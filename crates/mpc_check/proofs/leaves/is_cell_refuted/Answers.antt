@@ -18,5 +18,5 @@ is_refuted-requires-clause-last c =
 pub returns : goal.returns
 returns c =
     let last : c.as_slice.result.now ≡ joint_rows c.args.qp.now = c.as_slice.ensures ∙ c.in_ok-last.ensures in
-    decided_there (system_at c.args.qp.now c.args.tree.now c.args.way.now c.rows-unknowns.result c.as_slice.result.now) (joint_system c.args.qp.now (way_rows c.args.tree.now c.args.way.now))
-    (whole_system c.args.qp.now c.args.tree.now c.args.way.now c.rows-unknowns.result c.as_slice.result.now c.rows-unknowns.ensures.value last) c.args.cert.now _ c.is_refuted.result c.is_refuted.ensures
+    decided_there (system_at c.args.qp.now c.args.cell.now.tree.now c.args.cell.now.way.now c.rows-unknowns.result c.as_slice.result.now) (joint_system c.args.qp.now (way_rows c.args.cell.now.tree.now c.args.cell.now.way.now))
+    (whole_system c.args.qp.now c.args.cell.now.tree.now c.args.cell.now.way.now c.rows-unknowns.result c.as_slice.result.now c.rows-unknowns.ensures.value last) c.args.cert.now _ c.is_refuted.result c.is_refuted.ensures

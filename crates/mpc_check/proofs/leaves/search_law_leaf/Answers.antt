@@ -16,7 +16,7 @@ bounds-rows-i c = omega (arith, c.requires.one_each, c.rows-i-end.ensures.value,
 pub returns-in-Ok-false : goal.returns-in-Ok-false
 returns-in-Ok-false c law formed =
     let qp = c.args.qp.now in
-    let path = way_rows c.args.tree.now c.args.way.now in
+    let path = way_rows c.args.cell.now.tree.now c.args.cell.now.way.now in
     let i = c.loop-i.i in
     let here : IsFormed qp law i c.index-rows-i.result = formed i c.index-rows-i.result (slice_get_read c.args.rows.now _ i c.index-rows-i.result refl (omega (arith, c.requires.one_each, c.rows-i-end.ensures.value, c.loop-i-test.true)) c.index-rows-i.is) in
     let decided = subst (λ found. IsDecided (RowFits qp path law c.args.certs.now i) (RowHolds qp path law c.args.certs.now i) (CheckLeaf c.args.number (i + 1)) (Ok found)) c.in-Ok-false.field-0-test (c.in-Ok-false.ensures law here) in
@@ -26,7 +26,7 @@ returns-in-Ok-false c law formed =
 pub returns-in-Err : goal.returns-in-Err
 returns-in-Err c law formed =
     let qp = c.args.qp.now in
-    let path = way_rows c.args.tree.now c.args.way.now in
+    let path = way_rows c.args.cell.now.tree.now c.args.cell.now.way.now in
     let i = c.loop-i.i in
     let here : IsFormed qp law i c.index-rows-i.result = formed i c.index-rows-i.result (slice_get_read c.args.rows.now _ i c.index-rows-i.result refl (omega (arith, c.requires.one_each, c.rows-i-end.ensures.value, c.loop-i-test.true)) c.index-rows-i.is) in
     first_error (LeafRowMet qp path law c.args.certs.now) (LeafRowFinds qp path c.args.number law c.args.certs.now) (height qp.g) i (omega (arith, c.rows-i-end.ensures.value, c.loop-i-test.true)) (c.loop-i.invariant law formed) c.in-Err.error
@@ -35,7 +35,7 @@ returns-in-Err c law formed =
 pub loop-i-preserved : goal.loop-i-preserved
 loop-i-preserved c law formed =
     let qp = c.args.qp.now in
-    let path = way_rows c.args.tree.now c.args.way.now in
+    let path = way_rows c.args.cell.now.tree.now c.args.cell.now.way.now in
     let i = c.loop-i.i in
     let here : IsFormed qp law i c.index-rows-i.result = formed i c.index-rows-i.result (slice_get_read c.args.rows.now _ i c.index-rows-i.result refl (omega (arith, c.requires.one_each, c.rows-i-end.ensures.value, c.loop-i-test.true)) c.index-rows-i.is) in
     each_more (LeafRowMet qp path law c.args.certs.now) i (c.loop-i.invariant law formed)
@@ -44,5 +44,5 @@ loop-i-preserved c law formed =
 pub returns : goal.returns
 returns c law formed =
     let qp = c.args.qp.now in
-    let path = way_rows c.args.tree.now c.args.way.now in
+    let path = way_rows c.args.cell.now.tree.now c.args.cell.now.way.now in
     each_done (LeafRowMet qp path law c.args.certs.now) c.loop-i.i (height qp.g) (omega (arith, c.rows-i-end.ensures.value, c.loop-i-test.false)) (c.loop-i.invariant law formed)

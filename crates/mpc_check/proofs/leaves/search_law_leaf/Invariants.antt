@@ -6,4 +6,4 @@ use Rattle.mpc_rows.specs.declared.laws.Law.{Law}
 use Rattle.mpc_check.proofs.leaves.search_law_leaf.Given as goal
 
 abbrev pub invariant-loop-i : goal.invariant-loop-i
-invariant-loop-i l = (law : Law) → AreFormed l.qp law l.rows → Each (LeafRowMet l.qp (way_rows l.tree l.way) law l.certs) l.i
+invariant-loop-i l = (law : Law) → AreFormed l.qp law l.rows → Each (LeafRowMet l.qp (way_rows l.cell.tree.now l.cell.way.now) law l.certs) l.i
