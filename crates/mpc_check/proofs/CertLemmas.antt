@@ -1,7 +1,7 @@
 -- Certificates, entry by entry, and what the test of their own rows decides.
-use Rattle.std.proofs.Common.{◌≡◌, ℕ, zero, suc, ◌+◌, ◌-◌, ◌*◌, ◌<◌, ◌≤◌, ◌⊎◌, inl, inr, ◌↔◌, Bool, true, false, IsTrue, List, [], ◌∷◌, ◌++◌, length, get_or, map, take, Ok, Err, Result, refl, ◌∙◌, ap, arith}
+use Rattle.std.proofs.Common.{◌≡◌, ℕ, zero, suc, ◌+◌, ◌*◌, ◌<◌, ◌≤◌, ◌⊎◌, inl, inr, ◌↔◌, Bool, true, false, IsTrue, List, [], ◌∷◌, ◌++◌, length, get_or, map, take, Ok, Err, Result, refl, ◌∙◌, arith}
 use Rattle.std.proofs.lemmas.Bool.{cases_lt}
-use Rattle.std.proofs.lemmas.List.{length-append, take_more}
+use Rattle.std.proofs.lemmas.List.{length-append}
 use Rattle.std.proofs.lemmas.List.Elements.{All-more}
 use Rattle.mpc_exact.specs.Rational.{ℚ, ◌+ℚ◌, ◌*ℚ◌}
 use Rattle.mpc_frac.specs.Fits.{FitsFrac, FitsSum}
@@ -13,7 +13,7 @@ use Rattle.mpc_rows.specs.declared.places.Place.{Place}
 use Rattle.mpc_rows.specs.declared.programs.Qp.{Qp}
 use Rattle.mpc_rows.specs.declared.systems.Row.{Row}
 use Rattle.mpc_rows.specs.declared.trees.Node.{Node}
-use Rattle.mpc_rows.specs.LinearSystem.{LinearSystem, height, no_row}
+use Rattle.mpc_rows.specs.LinearSystem.{LinearSystem, height}
 use Rattle.mpc_rows.specs.Certificates.{RisesFrom, IsCert}
 use Rattle.mpc_rows.specs.Refutation.{Refutes, SumsFit}
 use Rattle.mpc_rows.specs.SetRuns.{box_rows}
@@ -22,7 +22,7 @@ use Rattle.mpc_convex.specs.declared.ProgramError.TheVariants.{TooWide, NotDefin
 use Rattle.mpc_paths.specs.declared.ways.Turn.{Turn}
 use Rattle.mpc_check.specs.Certs.{IsPositionIn, HasPositionsIn, CertRefutes, CertFits}
 use Rattle.mpc_check.specs.Findings.{IsDecided}
-use Rattle.mpc_check.specs.Picks.{picked_rows, weights, picked_system}
+use Rattle.mpc_check.specs.Picks.{weights, picked_system}
 use Rattle.mpc_systems.specs.Writing.{widened}
 use Rattle.mpc_paths.specs.Ways.{way_rows}
 use Rattle.mpc_check.specs.LeafSystems.{system_at}

@@ -1,6 +1,6 @@
 -- When a controller is accepted, and what is found of one that isn't: at the first condition that isn't met, in the order of condensing, the
 -- pivots, the laws, and the leaves in preorder.
-use Rattle.std.specs.Prelude.{◌≡◌, ℕ, ◌⊎◌, List}
+use Rattle.std.specs.Prelude.{◌≡◌, ◌⊎◌, List}
 use Rattle.mpc_exact.specs.Rational.{ℚ}
 use Rattle.mpc_plant.specs.declared.plants.Plant.{Plant}
 use Rattle.mpc_plant.specs.Trajectory.{IsInBox}
