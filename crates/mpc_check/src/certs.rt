@@ -91,7 +91,7 @@ fn is_refutation(
     }
 }
 
-/// Whether the certificate refutes the system of a leaf, in which the last rows follow those of the box and the way. `Wide` at this place
+/// Whether the certificate refutes the system of a leaf, in which the last rows follow those of the box and the way. `TooWide` at this place
 /// where a number of the sums doesn't fit.
 pub fn is_refuted(
     alloc: Global,
@@ -121,7 +121,7 @@ pub fn is_refuted(
 }
 
 /// Whether the certificate refutes the system of a leaf, in which a row of its law, broken, follows those of the box and the way. It is tested
-/// in whole numbers where their size allows. `Wide` at this place where a number of the sums doesn't fit.
+/// in whole numbers where their size allows. `TooWide` at this place where a number of the sums doesn't fit.
 pub fn is_broken_refuted(
     alloc: Global,
     qp: &Qp,

@@ -1,5 +1,5 @@
 -- The parts of a drill's plant make a plant, and a drill's number has one plant.
-use Rattle.std.proofs.Common.{◌≡◌, ℕ, zero, suc, List, [], ◌∷◌, ℤ, pos, negsuc, refl, sym, ◌∙◌, ap, subst, arith, lit≤, lit<, length, ◌*◌, ◌+◌, ◌≤◌}
+use Rattle.std.proofs.Common.{◌≡◌, ℕ, zero, suc, List, [], ◌∷◌, ℤ, pos, refl, sym, ◌∙◌, ap, subst, lit≤, lit<, length, ◌*◌, ◌+◌, ◌≤◌}
 use Rattle.std.specs.Prelude.{All}
 use Rattle.std.proofs.lemmas.List.Elements.{All-cons, All-nil}
 use mathlib.Core.HLevel.{is_prop→PathP}
@@ -13,7 +13,7 @@ use Rattle.mpc_plant.specs.declared.lists.PlantRow.{PlantRow}
 use Rattle.mpc_plant.specs.declared.lists.Coordinate.{Coordinate}
 use Rattle.mpc_plant.specs.declared.plants.Plant.{Plant}
 use Rattle.mpc_plant.specs.Limits.{IsPlant, IsWeight, FitsRow, IsCoordinate, row_limit}
-use Rattle.mpc_drill.specs.DrillPlant.{vector, matrix, row_of, stage_rows, end_rows, axis, IsDrillPlant}
+use Rattle.mpc_drill.specs.DrillPlant.{vector, matrix, stage_rows, end_rows, axis, IsDrillPlant}
 
 -- ---- each element of a list that is written out
 abbrev Each : {X : Type 0} → (X → Type 0) → List X → Type 0

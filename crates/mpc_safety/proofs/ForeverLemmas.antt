@@ -1,7 +1,7 @@
 -- An accepted and safe controller replies rightly forever.
-use Rattle.std.proofs.Common.{◌≡◌, ℕ, List, refl, sym, subst}
+use Rattle.std.proofs.Common.{List, refl, sym, subst}
 use Rattle.mpc_exact.specs.Rational.{ℚ}
-use Rattle.mpc_plant.specs.Trajectory.{IsInBox, IsBest, move_at}
+use Rattle.mpc_plant.specs.Trajectory.{move_at}
 use Rattle.mpc_plant.specs.Reply.{Reply, move, infeasible, IsRight, OneRightReply}
 use Rattle.mpc_controller.specs.Parts.{Parts}
 use Rattle.mpc_controller.specs.Bounds.{IsController}
@@ -9,8 +9,8 @@ use Rattle.mpc_controller.specs.Replies.{RepliesAt}
 use Rattle.mpc_controller.specs.ReplyLaws.{RepliesEverywhere}
 use Rattle.mpc_check.specs.Acceptance.{Accepts, AcceptedIsRight}
 use Rattle.mpc_recur.specs.Successors.{HasMove, IsSafe}
-use Rattle.mpc_recur.specs.ClosedLoop.{ComesTo, GoesOn, GoesOnForever, SafeGoesOn}
-use Rattle.mpc_safety.specs.RightForever.{HasAdmissible, RepliesBest, IsRightForever, StaysRight, SafeStaysRight}
+use Rattle.mpc_recur.specs.ClosedLoop.{GoesOn, GoesOnForever, SafeGoesOn}
+use Rattle.mpc_safety.specs.RightForever.{HasAdmissible, RepliesBest, IsRightForever, StaysRight}
 
 module _ (everywhere : RepliesEverywhere) (right : AcceptedIsRight) (one_right : OneRightReply) (goes_on : SafeGoesOn) (parts : Parts) (is : IsController parts.plant parts.laws parts.tree) (accepts : Accepts parts) (safe : IsSafe parts) where
   move_by : (t : List ℚ) → HasAdmissible parts t → (reply : Reply) → RepliesAt parts t reply → IsRight parts.plant t reply → HasMove parts t

@@ -4,15 +4,12 @@ use Rattle.mpc_controller.specs.Parts.{Parts}
 use Rattle.mpc_file.specs.declared.errors.FileKind.{FileKind}
 use Rattle.mpc_file.specs.FileGrammar.{FailsAt, IsSpelled}
 use Rattle.mpc_file.specs.TextLaws.{OneController, SpelledNeverFails, OneLine, OneReason}
-use Rattle.mpc_check.specs.Findings.{Finding}
 use Rattle.mpc_check.specs.Acceptance.{Accepts, IsFound, NothingFound, OneFinding}
 use Rattle.mpc_recur.specs.Findings.{Finding as Step}
 use Rattle.mpc_recur.specs.Targets.{AllRuledOut, IsFound as IsStepFound}
-use Rattle.mpc_recur.specs.Outcomes.{Outcome, is_safe, finds as finds_step}
+use Rattle.mpc_recur.specs.Outcomes.{is_safe, finds as finds_step}
 use Rattle.mpc_recur.specs.SafetyLaws.{OneOutcome}
-use Rattle.mpc_safety.specs.declared.answers.Safety.{Safety}
 use Rattle.mpc_safety.specs.declared.answers.Safety.TheVariants.{Safe, Refused, Unsafe}
-use Rattle.mpc_safety.specs.declared.answers.SafetyError.{SafetyError}
 use Rattle.mpc_safety.specs.declared.answers.SafetyError.TheVariants.{BadFile, NotDefinite, TooWide, WideLater, NoMemory}
 use Rattle.mpc_safety.specs.SafetyOutcomes.{bad_file, finds, steps, safe, OneSafetyOutcome, AnswerIsOutcome, CauseIsOutcome}
 

@@ -2,7 +2,7 @@
 use Rattle.std.proofs.Common.{◌≡◌, List, sym, ◌∙◌, length, ◌↔◌}
 use Rattle.mpc_exact.specs.Rational.{ℚ}
 use Rattle.mpc_plant.specs.Trajectory.{IsSequence, IsAdmissible, cost}
-use Rattle.mpc_plant.specs.Reply.{move, infeasible, IsRight}
+use Rattle.mpc_plant.specs.Reply.{move, infeasible}
 use Rattle.mpc_rows.specs.ActiveSets.{extended, MeetsRows}
 use Rattle.mpc_condense.specs.Condensed.{stacked, program_cost}
 use Rattle.mpc_condense.specs.ProgramLaws.{SameSequences}

@@ -19,7 +19,7 @@ use Rattle.mpc_states.specs.StateLines.{IsOf, AreStateLines}
 use Rattle.mpc_states.specs.StateLaws.{ProgramIsRight, RobustProgramIsRight}
 use Rattle.mpc_convex.specs.Convex.{IsConvexProgram}
 use Rattle.mpc_convex.specs.Refusals.{IsNotDefiniteAt, IsFirstWidePlace}
-use Rattle.mpc_convex.specs.Outcomes.{ProgramOutcome, not_definite, too_wide, convex, IsProgramOutcome}
+use Rattle.mpc_convex.specs.Outcomes.{not_definite, too_wide, convex, IsProgramOutcome}
 use Rattle.mpc_states.specs.Outcomes.{OfPlant, bad_noise, of_robust_program, wide_row, robust_replies, IsOutcomeOf}
 use Rattle.mpc_states.specs.Inputs.{IsSolvedFor, IsRobustlySolvedFor, IsSolved, IsRobustlySolved, IsSolveCauseFor, IsRobustCauseFor, IsSolveCause, IsRobustCause}
 use Rattle.mpc_states.specs.declared.errors.SolveError.{SolveError}

@@ -12,7 +12,7 @@ use Rattle.mpc_replies.specs.Cut.{head_of, tail_of}
 use Rattle.mpc_states.specs.NoisePart.{plant_part, noise_part, noise_from}
 use Rattle.mpc_states.specs.StateLines.{AreStateLines}
 use Rattle.mpc_convex.specs.Convex.{IsConvexProgram}
-use Rattle.mpc_convex.specs.Outcomes.{ProgramOutcome, not_definite, too_wide, convex}
+use Rattle.mpc_convex.specs.Outcomes.{not_definite, too_wide}
 use Rattle.mpc_states.specs.Outcomes.{bad_plant, of_program, IsSolveOutcome, bad_robust_plant, bad_noise, of_robust_program, wide_row, IsOutcomeOf, IsRobustOutcome}
 use Rattle.mpc_states.specs.declared.errors.SolveError.{SolveError}
 use Rattle.mpc_states.specs.declared.errors.SolveError.TheVariants.{BadPlant, NotDefinite, TooWide, NoMemory}

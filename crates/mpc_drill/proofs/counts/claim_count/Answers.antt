@@ -1,4 +1,4 @@
-use Rattle.std.proofs.Common.{◌≡◌, ◌∙◌, ℕ, sym, arith}
+use Rattle.std.proofs.Common.{◌∙◌, sym, arith}
 use Rattle.mpc_drill.proofs.ClaimLemmas.{claim_more, other_more}
 use Rattle.mpc_drill.proofs.counts.claim_count.Goals as goal
 use Rattle.mpc_drill.proofs.counts.claim_count.Goals.{then-is_claim, else-is_claim}

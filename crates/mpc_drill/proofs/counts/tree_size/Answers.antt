@@ -1,9 +1,9 @@
-use Rattle.std.proofs.Common.{◌≡◌, ◌++◌, [], ◌∷◌, false, true, ℕ, ◌+◌, ◌<◌, ◌≤◌, ◌∙◌, List, length, drop, sym, ap, subst, arith, Vec, Global, max}
+use Rattle.std.proofs.Common.{◌≡◌, ◌++◌, [], ◌∷◌, false, true, ℕ, ◌+◌, ◌≤◌, ◌∙◌, List, drop, sym, ap, subst, arith, Vec, Global, max}
 use Rattle.std.proofs.lemmas.List.{drop_all}
 use Rattle.mpc_rows.specs.declared.trees.Node.{Node}
 use Rattle.mpc_controller.specs.Preorder.{IsTree}
-use Rattle.mpc_drill.specs.SearchTree.{SearchTree, preorder, IsTreeOf}
-use Rattle.mpc_drill.proofs.TreeLemmas.{IsOwed, IsStep, tree_of, owed_first, owed_last, walked, some_owed, above_at_most, step_taken, next_split, next_leaf, moved}
+use Rattle.mpc_drill.specs.SearchTree.{IsTreeOf}
+use Rattle.mpc_drill.proofs.TreeLemmas.{IsOwed, tree_of, owed_first, owed_last, walked, some_owed, above_at_most, step_taken, next_split, next_leaf, moved}
 use Rattle.mpc_drill.proofs.counts.tree_size.Goals as goal
 use Rattle.mpc_drill.proofs.counts.tree_size.Goals.{in-Split+in_ok-push-2+in_ok-push-3, in_default-node}
 

@@ -1,4 +1,3 @@
-use Rattle.std.proofs.Common.{ℕ, List, ◌++◌}
 use Rattle.std.specs.Prelude.{codes}
 use Rattle.mpc_drill.specs.Drills.{counted_text}
 use Rattle.mpc_drill.proofs.TextLemmas.{five}
