@@ -1,5 +1,5 @@
 -- What refuses a plant on the way to its verdicts or its controller.
-use Rattle.std.proofs.Common.{◌≡◌, ◌-◌, ◌⊎◌, inl, inr, sym, subst, arith}
+use Rattle.std.proofs.Common.{◌-◌, ◌⊎◌, inl, inr, sym, subst, arith}
 use Rattle.mpc_space.specs.Matrix.{height, entry}
 use Rattle.mpc_plant.specs.declared.plants.Plant.{Plant}
 use Rattle.mpc_rows.specs.declared.programs.Qp.{Qp}
