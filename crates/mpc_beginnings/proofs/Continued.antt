@@ -1,8 +1,10 @@
 -- Where a run stands, if the sizes that are kept are within the limit of its system: at its opening, and where the run of its first rows ended.
-use Rattle.std.proofs.Common.{◌≡◌, ℕ, ◌+◌, ◌-◌, ◌<◌, ◌≤◌, ◌^◌, List, length, ℤ, pos, unsigned_abs, refl, sym, subst, subst₂, arith, zero-le, length-append}
+use Rattle.std.proofs.Common.{◌≡◌, ℕ, ◌+◌, ◌-◌, ◌*◌, ◌<◌, ◌≤◌, ◌^◌, List, length, ℤ, pos, unsigned_abs, refl, sym, subst, subst₂, arith, zero-le, length-append}
 use Rattle.mpc_rows.specs.declared.systems.Row.{Row}
 use Rattle.mpc_rows.specs.LinearSystem.{LinearSystem, height}
+use Rattle.std.proofs.lemmas.Nat.{mul-le}
 use Rattle.mpc_rows.specs.Run.{has_point, count, turn, position, steps, last_position}
+use Rattle.mpc_rows.specs.RunWidth.{PositionFits}
 use Rattle.mpc_whole.specs.declared.whole.Ending.{Ending}
 use Rattle.mpc_whole.specs.declared.whole.Place.{Place}
 use Rattle.mpc_whole.specs.declared.whole_systems.WholeNumbers.{WholeNumbers}
@@ -12,14 +14,17 @@ use Rattle.mpc_whole.proofs.Seats.{opening_seated}
 use Rattle.mpc_whole.proofs.WholeRows.{form_first, weaker}
 use Rattle.mpc_whole.proofs.WholeSizes.{opening_underway}
 use Rattle.mpc_whole.proofs.WholeTurns.{unknowns_stay}
-use Rattle.mpc_beginnings.specs.declared.lists.RunLists.{RunLists}
+use Rattle.mpc_whole.specs.declared.lists.RunLists.{RunLists}
 use Rattle.mpc_beginnings.specs.Beginnings.{lengthened}
 use Rattle.mpc_beginnings.specs.LongerSeats.{AreLongerSeats}
 use Rattle.mpc_beginnings.specs.RunLists.{AreOpening, AreLonger}
-use Rattle.mpc_beginnings.specs.Kept.{AreNumbers, AreListsOf, IsKept, IsFirstLater, IsUnderwayWithin}
+use Rattle.mpc_whole.specs.Lists.{AreListsOf}
+use Rattle.mpc_whole.specs.Judged.{AreMildBefore, IsMildlyUnderway}
+use Rattle.mpc_beginnings.specs.Kept.{AreNumbers, HasRoomBefore, IsKept, IsFirstLater, IsUnderwayWithin, IsUnderwayWithRoom}
 use Rattle.mpc_beginnings.proofs.Columns.{opening_columns, longer_columns}
-use Rattle.mpc_beginnings.proofs.WholeShared.{longer_underway}
-use Rattle.mpc_beginnings.proofs.SharedRun.{stay_before}
+use Rattle.mpc_beginnings.proofs.WholeShared.{mild_form_longer, longer_underway, longer_mildly_underway, fits_before}
+use Rattle.mpc_beginnings.proofs.MildShared.{times_some, mild_fits}
+use Rattle.mpc_beginnings.proofs.SharedRun.{steps_longer, stay_before}
 
 -- ---- at the opening
 none_small : (m : ℕ) (v : List ℤ) → ((j : ℕ) → whole_at v j ≡ pos 0) → IsSmall m v
@@ -39,11 +44,22 @@ opening_lists s l o = record {
 }
 
 pub opening_within : (s : LinearSystem) (m : WholeNumbers) → AreNumbers s m → (l : RunLists) → AreOpening s l → (first : ℕ) → first ≡ s.width
-    → IsUnderwayWithin s m l (record { den = 1; own = 1; greatest = 0; greatest_den = 0; first = first })
+    → IsUnderwayWithin s m l (record { den = 1; own = 1; greatest = 0; greatest_den = 0; product = 0; first = first })
 opening_within s m a l o first e =
-    subst (λ f. IsUnderwayWithin s m l (record { den = 1; own = 1; greatest = 0; greatest_den = 0; first = f })) (sym e) (record {
+    subst (λ f. IsUnderwayWithin s m l (record { den = 1; own = 1; greatest = 0; greatest_den = 0; product = 0; first = f })) (sym e) (record {
       within = λ most g h r.
           opening_underway s m.scales.now (count s) l.seats.items l.v.items (form_first s (count s) refl l.seats.items o.seats m.scales.now a.whole.scales l.v.items o.unit) l.firsts.items l.seconds.items o.firsts o.seconds;
+    })
+
+pub opening_with_room : (s : LinearSystem) (m : WholeNumbers) → AreNumbers s m → (l : RunLists) → AreOpening s l → (first : ℕ) → first ≡ s.width
+    → IsUnderwayWithRoom s m l (record { den = 1; own = 1; greatest = 0; greatest_den = 0; product = 0; first = first })
+unfolding opening_underway
+opening_with_room s m a l o first e =
+    subst (λ f. IsUnderwayWithRoom s m l (record { den = 1; own = 1; greatest = 0; greatest_den = 0; product = 0; first = f })) (sym e) (record {
+      within = λ r. record {
+        underway = opening_underway s m.scales.now (count s) l.seats.items l.v.items (form_first s (count s) refl l.seats.items o.seats m.scales.now a.whole.scales l.v.items o.unit) l.firsts.items l.seconds.items o.firsts o.seconds;
+        before = record { each = λ q h. absurd (omega arith) };
+      };
     })
 
 -- ---- where the run of the first rows ended
@@ -77,9 +93,33 @@ module _ (s : LinearSystem) (more : List Row) (k : List ℕ) (old : RunLists) (p
     pub within_longer : IsUnderwayWithin (lengthened s more) m now (record p { first = first })
     within_longer = record {
       within = λ most b c r.
-          rw (g.v, g.firsts, g.seconds) (longer_underway s more k m.scales.now same_scales m.a.now m.b.now a.whole most b p.greatest p.greatest_den m.most_scale a.scales c r z.ended.before
-          (count s) refl old.seats.items now.seats.items grown p.den old.v.items z.ended.form (count (lengthened s more)) old.firsts.items old.seconds.items z.ended.values first f.side (f.stay more));
+          rw (g.v, g.firsts, g.seconds) (longer_underway s more k m.scales.now same_scales (fits_before s more k m.scales.now same_scales m.a.now m.b.now a.whole most b p.greatest p.greatest_den m.most_scale a.scales c r z.ended.before)
+          (count s) refl old.seats.items now.seats.items grown p.den old.v.items z.ended.form (count (lengthened s more)) p.greatest p.greatest_den z.ended.before old.firsts.items old.seconds.items z.ended.values first f.side (f.stay more));
     }
+
+    module _ (r : HasRoomBefore (lengthened s more) m (record p { first = first })) where
+      product_small : p.product < 2 ^ 127
+      product_small =
+          let e : 1 * 1 ≤ r.norm * m.most_scale = mul-le 1 1 r.norm m.most_scale r.some a.some_scale in
+          let h : p.product ≤ (r.norm * m.most_scale) * p.product = times_some (r.norm * m.most_scale) p.product (omega arith) in
+          let t : (r.norm * m.most_scale) * p.product ≤ 2 ^ 125 = r.pivots in
+          omega arith
+
+      mild : AreMildBefore s k (steps s) p.greatest p.greatest_den p.product
+      mild = z.before product_small
+
+      fits_with_room : (q : ℕ) → q < steps s → PositionFits (lengthened s more) (position (lengthened s more) q)
+      fits_with_room q l =
+          mild_fits (lengthened s more) m a (record p { first = first }) r q (let h : steps s ≤ steps (lengthened s more) = steps_longer s more in omega arith)
+          (mild_form_longer s more k m.scales.now same_scales q l p.greatest p.greatest_den p.product (mild.each q l))
+
+      with_room : IsMildlyUnderway (lengthened s more) (count (lengthened s more)) now.seats.items m.scales.now p.den now.v.items now.firsts.items now.seconds.items p.greatest p.greatest_den p.product first
+      with_room =
+          rw (g.v, g.firsts, g.seconds) (longer_mildly_underway s more k m.scales.now same_scales fits_with_room
+          (count s) refl old.seats.items now.seats.items grown p.den old.v.items z.ended.form (count (lengthened s more)) p.greatest p.greatest_den p.product z.ended.before mild old.firsts.items old.seconds.items z.ended.values first f.side (f.stay more))
+
+    pub room_longer : IsUnderwayWithRoom (lengthened s more) m now (record p { first = first })
+    room_longer = record { within = with_room }
 
 -- where the kept run ends with a point, only the sides of further rows may leave there
 pub later_at_point : (s : LinearSystem) → turn s (last_position s) ≡ has_point → (first : ℕ) → first ≡ count s → IsFirstLater s first

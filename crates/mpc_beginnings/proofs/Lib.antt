@@ -8,5 +8,6 @@ pub mod TurnedRows
 pub mod LongerSeats
 pub mod Columns
 pub mod WholeShared
+pub mod MildShared
 pub mod Continued
 pub mod Seated

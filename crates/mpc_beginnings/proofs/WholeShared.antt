@@ -1,26 +1,29 @@
 -- The numbers of a run that is kept where it ends stand for a position of the longer system's run too, and their sizes show that all
 -- which the further rows form before it fits.
-use Rattle.std.proofs.Common.{◌≡◌, ℕ, ◌-◌, ◌*◌, ◌^◌, ◌<◌, ◌≤◌, List, ◌++◌, length, replicate, ℤ, pos, ◌*ℤ◌, refl, sym, ◌∙◌, ap, subst, arith, ◌⊎◌, inl, inr, le_trans, mul-le-mul_right, mul-le-mul_left, length-append}
+use Rattle.std.proofs.Common.{◌≡◌, ℕ, ◌-◌, ◌*◌, ◌^◌, ◌<◌, ◌≤◌, true, List, ◌++◌, length, replicate, ℤ, pos, ◌*ℤ◌, refl, sym, ◌∙◌, ap, subst, subst₂, arith, ◌⊎◌, inl, inr, le_trans, mul-le-mul_right, mul-le-mul_left, length-append}
 use Rattle.std.proofs.lemmas.Bool.{cases_lt, both_ways}
 use Rattle.std.proofs.lemmas.List.{get_or_append_left, get_or-append_right, get_or-replicate, get_or_past, length-replicate}
-use Rattle.mpc_exact.specs.Rational.{frac}
+use Rattle.mpc_exact.specs.Rational.{frac, int}
 use Rattle.mpc_rows.specs.declared.systems.Row.{Row as LinearRow}
 use Rattle.mpc_rows.specs.LinearSystem.{LinearSystem}
-use Rattle.mpc_rows.specs.Run.{count, rest, position, steps, last_position}
+use Rattle.mpc_rows.specs.Run.{goes_on, count, turn, position, steps, last_position}
 use Rattle.mpc_rows.specs.RunWidth.{PositionFits}
 use Rattle.mpc_whole.specs.declared.variables.Seat.{Seat}
 use Rattle.mpc_whole.specs.declared.variables.Seat.TheVariants.{Row, Column}
 use Rattle.mpc_whole.specs.Table.{seat_at, in_row}
-use Rattle.mpc_whole.specs.Whole.{whole_cell, scale_at, IsSmall, IsWholeSystem, HasBounds, IsNarrow, IsForm, AreValues, Stands}
+use Rattle.mpc_whole.specs.Norms.{Over}
+use Rattle.mpc_whole.specs.Whole.{whole_cell, scale_at, IsSmall, IsWholeSystem, HasBounds, IsNarrow, IsForm, AreValues}
 use Rattle.mpc_whole.specs.Underway.{StayBefore, IsUnderway}
+use Rattle.mpc_whole.specs.Judged.{IsMildForm, AreMildBefore, IsMildlyUnderway}
+use Rattle.mpc_whole.proofs.Turn.{Goes, turn-at}
+use Rattle.mpc_whole.proofs.Positions.{tableau}
 use Rattle.mpc_whole.proofs.Outside.{within}
 use Rattle.mpc_whole.proofs.Ends.{Reached}
-use Rattle.mpc_whole.proofs.WholeNorms.{norms_fit}
-use Rattle.mpc_whole.proofs.WholeForm.{row_den, den_some, den_small, entries_over, products_over, rests_over, narrow_by_norms}
+use Rattle.mpc_whole.proofs.WholeForm.{narrow_fits, narrow_by_norms}
 use Rattle.mpc_whole.specs.SharedSizes.{IsSmallForm, AreSmallBefore}
 use Rattle.mpc_beginnings.specs.Beginnings.{lengthened, Agrees}
 use Rattle.mpc_beginnings.specs.LongerSeats.{AreLongerSeats}
-use Rattle.mpc_beginnings.proofs.SharedRun.{positions_agree, values_agree, steps_longer}
+use Rattle.mpc_beginnings.proofs.SharedRun.{positions_agree, turns_agree, values_agree, steps_longer}
 
 -- ---- kept sizes within the limit of a system: all fits at the position
 module _ (s : LinearSystem) (k : List ℕ) (a b : List ℤ) (w : IsWholeSystem s k a b) (most : ℕ) (g : HasBounds s k a b most) (hist hist_den scale : ℕ) (scales : (x : ℕ) → scale_at k x ≤ scale) (small : hist ≤ most) (room : hist_den * scale ≤ 2 ^ 62) where
@@ -38,14 +41,7 @@ module _ (s : LinearSystem) (k : List ℕ) (a b : List ℤ) (w : IsWholeSystem s
     narrow = narrow_by_norms s k a b z.numbers g.most_entry g.most_side g.most_scale most g.bounds within_limit (count s) z.seats z.den (λ x l. dens x)
 
     pub small_fits : PositionFits s (position s q)
-    small_fits =
-        norms_fit s (position s q) (row_den s (position s q) reached k a b w (count s) refl z.seats z.den z.numbers z.form)
-        (den_some s (position s q) reached k a b w (count s) refl z.seats z.den z.numbers z.form)
-        (den_small s (position s q) reached k a b w (count s) refl z.seats z.den z.numbers z.form narrow)
-        (entries_over s (position s q) reached k a b w (count s) refl z.seats z.den z.numbers z.form narrow)
-        g.most_side g.bounds.sides.side_room
-        (products_over s (position s q) reached k a b w (count s) refl z.seats z.den z.numbers z.form narrow g.most_side (λ y. (rest s y).first) (λ y l. (rests_over s k a b w g.most_side g.bounds.sides y l).0))
-        (products_over s (position s q) reached k a b w (count s) refl z.seats z.den z.numbers z.form narrow g.most_side (λ y. (rest s y).second) (λ y l. (rests_over s k a b w g.most_side g.bounds.sides y l).1))
+    small_fits = narrow_fits s (position s q) reached k a b w (count s) refl z.seats z.den z.numbers z.form narrow g.most_side g.bounds.sides
 
 -- ---- the same numbers at the longer system, where the scales of its first variables are the same
 module _ (s : LinearSystem) (more : List LinearRow) (k further : List ℕ) (same : (x : ℕ) → x < count s → scale_at further x ≡ scale_at k x) where
@@ -104,45 +100,73 @@ module _ (s : LinearSystem) (more : List LinearRow) (k further : List ℕ) (same
   pub small_longer : (most most_den : ℕ) → AreSmallBefore s k (steps s) most most_den → AreSmallBefore (lengthened s more) further (steps s) most most_den
   small_longer most most_den z = record { each = λ q l. small_form_longer q (omega arith) most most_den (z.each q l) }
 
+  -- its rows that leave have no greater numbers
+  module _ (q : ℕ) (h : q < steps s) (l e : ℕ) (t : turn (lengthened s more) (position (lengthened s more) q) ≡ goes_on l e) where
+    same_turn : turn s (position s q) ≡ goes_on l e
+    same_turn = sym (turns_agree s more q h) ∙ t
+
+    leaver : Goes s (position s q) l e
+    leaver = turn-at s (position s q) (goes_on l e) same_turn
+
+    same_den : (den : ℕ) → den * scale_at k l ≡ den * scale_at further l
+    same_den den = ap (λ m. den * m) (sym (same l leaver.leaves.below))
+
+    no_entry : (y : ℕ) → (position s q).is_basic y ≡ true → (position s q).coefficient l y ≡ int (pos 0)
+    no_entry y b = (tableau s q).empty l y b
+
+    -- a further side is basic, as the variable that leaves is
+    row_entry : (y : ℕ) → (y < count s) ⊎ (count s ≤ y) → (x : ℕ) × (x < count s) × ((position s q).coefficient l x ≡ (position (lengthened s more) q).coefficient l y)
+    row_entry y (inl b) = (y, b, sym ((positions_agree s more q (omega arith)).rows l y leaver.leaves.below))
+    row_entry y (inr b) =
+        (l, leaver.leaves.below, no_entry l leaver.leaves.violated.basic ∙ sym (no_entry y ((within s q).basic y b)) ∙ sym ((positions_agree s more q (omega arith)).rows l y leaver.leaves.below))
+
+    row_longer : (den top : ℕ) → ((y : ℕ) → y < count s → Over (den * scale_at k l) top ((position s q).coefficient l y)) → (y : ℕ) → Over (den * scale_at further l) top ((position (lengthened s more) q).coefficient l y)
+    row_longer den top row y = let u = row_entry y (cases_lt y (count s)) in subst₂ (λ d c. Over d top c) (same_den den) u.2 (row u.0 u.1)
+
+  pub mild_form_longer : (q : ℕ) → q < steps s → (most most_den product : ℕ) → IsMildForm s k (position s q) most most_den product → IsMildForm (lengthened s more) further (position (lengthened s more) q) most most_den product
+  unfolding small_form_longer
+  mild_form_longer q h most most_den product z = record {
+    form = small_form_longer q (omega arith) most most_den z.form;
+    own = z.own;
+    small = z.small;
+    den_small = z.den_small;
+    top = z.top;
+    row = λ l e t y b. row_longer q h l e t z.form.den z.top (z.row l e (same_turn q h l e t)) y;
+    row_den = λ l e t. subst (λ d. d ≤ z.top) (same_den q h l e t z.form.den) (z.row_den l e (same_turn q h l e t));
+    room = z.room;
+  }
+
   -- ---- where all that is formed before fits, the longer run goes on from the numbers at the shorter one's end
   module _ (fits : (q : ℕ) → q < steps s → PositionFits (lengthened s more) (position (lengthened s more) q)) (n : ℕ) (whole : n ≡ count s) (seats longer : List Seat) (grown : AreLongerSeats (count s) seats longer) (den : ℕ) (v : List ℤ) (f : IsForm s n seats k den v (last_position s)) (m : ℕ) where
     pub last_form : IsForm (lengthened s more) m longer further den v (position (lengthened s more) (steps s))
     unfolding last_position
     last_form = form_longer (steps s) (omega arith) n whole seats longer grown den v f m
 
-    unfoldable pub stands_from : Stands (lengthened s more) m longer further den v
-    stands_from = record { at = steps s; order = steps_longer s more; before = fits; form = last_form }
+    -- with the same values of the unknowns
+    unfoldable pub longer_underway : (most most_den : ℕ) → AreSmallBefore s k (steps s) most most_den → (c_1 c_2 : List ℤ) → AreValues s (last_position s) den c_1 c_2
+        → (first : ℕ) → s.width ≤ first → StayBefore (lengthened s more) (position (lengthened s more) (steps s)) first
+        → IsUnderway (lengthened s more) m longer further den v c_1 c_2 most most_den first
+    longer_underway most most_den z c_1 c_2 h first from stay = record {
+      stands = record { at = steps s; order = steps_longer s more; before = fits; form = last_form };
+      values = values_agree s more den c_1 c_2 h;
+      before = small_longer most most_den z;
+      side = from;
+      stay = stay;
+    }
 
-    pub before_from : (most most_den : ℕ) → AreSmallBefore s k (steps s) most most_den → AreSmallBefore (lengthened s more) further stands_from.at most most_den
-    unfolding stands_from
-    before_from = small_longer
+    pub longer_mildly_underway : (most most_den product : ℕ) → AreSmallBefore s k (steps s) most most_den → AreMildBefore s k (steps s) most most_den product → (c_1 c_2 : List ℤ) → AreValues s (last_position s) den c_1 c_2
+        → (first : ℕ) → s.width ≤ first → StayBefore (lengthened s more) (position (lengthened s more) (steps s)) first
+        → IsMildlyUnderway (lengthened s more) m longer further den v c_1 c_2 most most_den product first
+    unfolding longer_underway
+    longer_mildly_underway most most_den product z mild c_1 c_2 h first from stay = record {
+      underway = longer_underway most most_den z c_1 c_2 h first from stay;
+      before = record { each = λ q l. mild_form_longer q l most most_den product (mild.each q l) };
+    }
 
   -- ---- kept sizes within the limit of the longer system
   module _ (a b : List ℤ) (w : IsWholeSystem (lengthened s more) further a b) (most : ℕ) (g : HasBounds (lengthened s more) further a b most) (hist hist_den scale : ℕ) (scales : (x : ℕ) → scale_at further x ≤ scale) (small : hist ≤ most) (room : hist_den * scale ≤ 2 ^ 62) where
     fits_at : (q : ℕ) → q ≤ steps s → IsSmallForm s k (position s q) hist hist_den → PositionFits (lengthened s more) (position (lengthened s more) q)
     fits_at q h z = small_fits (lengthened s more) further a b w most g hist hist_den scale scales small room q (le_trans h (steps_longer s more)) (small_form_longer q h hist hist_den z)
 
-    module _ (z : AreSmallBefore s k (steps s) hist hist_den) where
-      pub fits_before : (q : ℕ) → q < steps s → PositionFits (lengthened s more) (position (lengthened s more) q)
-      fits_before q l = fits_at q (omega arith) (z.each q l)
-
-      module _ (n : ℕ) (whole : n ≡ count s) (seats longer : List Seat) (grown : AreLongerSeats (count s) seats longer) (den : ℕ) (v : List ℤ) (f : IsForm s n seats k den v (last_position s)) (m : ℕ) where
-        unfoldable stands_longer : Stands (lengthened s more) m longer further den v
-        stands_longer = stands_from fits_before n whole seats longer grown den v f m
-
-        -- with the same values of the unknowns
-        values_longer : (c_1 c_2 : List ℤ) → AreValues s (last_position s) den c_1 c_2 → AreValues (lengthened s more) (position (lengthened s more) stands_longer.at) den c_1 c_2
-        unfolding stands_longer stands_from
-        values_longer c_1 c_2 h = values_agree s more den c_1 c_2 h
-
-        before_longer : AreSmallBefore (lengthened s more) further stands_longer.at hist hist_den
-        unfolding stands_longer
-        before_longer = before_from fits_before n whole seats longer grown den v f m hist hist_den z
-
-        stay_longer : (first : ℕ) → StayBefore (lengthened s more) (position (lengthened s more) (steps s)) first → StayBefore (lengthened s more) (position (lengthened s more) stands_longer.at) first
-        unfolding stands_longer stands_from
-        stay_longer first h = h
-
-        pub longer_underway : (c_1 c_2 : List ℤ) → AreValues s (last_position s) den c_1 c_2 → (first : ℕ) → s.width ≤ first → StayBefore (lengthened s more) (position (lengthened s more) (steps s)) first
-            → IsUnderway (lengthened s more) m longer further den v c_1 c_2 hist hist_den first
-        longer_underway c_1 c_2 h first from stay = record { stands = stands_longer; values = values_longer c_1 c_2 h; before = before_longer; side = from; stay = stay_longer first stay }
+    pub fits_before : AreSmallBefore s k (steps s) hist hist_den → (q : ℕ) → q < steps s → PositionFits (lengthened s more) (position (lengthened s more) q)
+    fits_before z q l = fits_at q (omega arith) (z.each q l)

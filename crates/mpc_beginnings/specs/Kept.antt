@@ -1,16 +1,17 @@
 -- A run in whole numbers that is kept where it ends.
-use Rattle.std.specs.Prelude.{◌≡◌, ℕ, ◌*◌, ◌≤◌, ◌^◌, Bool, false, IsTrue, List, length}
+use Rattle.std.specs.Prelude.{◌≡◌, ℕ, ◌*◌, ◌<◌, ◌≤◌, ◌^◌, Bool, false, IsTrue, List, length}
 use Rattle.mpc_rows.specs.declared.systems.Row.{Row}
-use Rattle.mpc_rows.specs.LinearSystem.{LinearSystem, height}
+use Rattle.mpc_rows.specs.LinearSystem.{LinearSystem}
 use Rattle.mpc_rows.specs.Run.{count, has_point, is_refuted, turn, position, steps, last_position}
 use Rattle.mpc_rows.specs.RunWidth.{RunFits}
+use Rattle.mpc_whole.specs.declared.lists.RunLists.{RunLists}
 use Rattle.mpc_whole.specs.declared.whole.Ending.{Ending}
 use Rattle.mpc_whole.specs.declared.whole.Place.{Place}
 use Rattle.mpc_whole.specs.declared.whole_systems.WholeNumbers.{WholeNumbers}
-use Rattle.mpc_whole.specs.Table.{IsSeated, AreNonbasic}
-use Rattle.mpc_whole.specs.Whole.{scale_at, IsSmall, IsNarrow, IsWholeSystem, HasBounds, HasRoom}
+use Rattle.mpc_whole.specs.Whole.{scale_at, IsSmall, IsWholeSystem, HasBounds}
 use Rattle.mpc_whole.specs.Underway.{StayBefore, IsUnderway, HasEnded}
-use Rattle.mpc_beginnings.specs.declared.lists.RunLists.{RunLists}
+use Rattle.mpc_whole.specs.Lists.{AreListsOf}
+use Rattle.mpc_whole.specs.Judged.{AreMildBefore, IsMildlyUnderway}
 use Rattle.mpc_beginnings.specs.Beginnings.{lengthened}
 
 -- the numbers of a system, with bounds of their sizes
@@ -22,35 +23,45 @@ pub record AreNumbers (s : LinearSystem) (m : WholeNumbers) : Type 0 where
   pub scales : (x : ℕ) → scale_at m.scales.now x ≤ m.most_scale
   pub some_scale : 1 ≤ m.most_scale
 
--- lists of a run of the system, whose numbers are at most 2^62 in size, and those of the position at most this
-pub record AreListsOf (s : LinearSystem) (most : ℕ) (l : RunLists) : Type 0 where
-  pub seated : IsSeated (height s) s.width (count s) l.seats.items
-  pub columns : AreNonbasic s.width l.seats.items l.nonbasic.items
-  pub square : length l.v.items ≡ s.width * s.width
-  pub small : IsSmall (2 ^ 62) l.v.items
-  pub own : IsSmall most l.v.items
-  pub first_size : length l.firsts.items ≡ s.width
-  pub second_size : length l.seconds.items ≡ s.width
-  pub first_small : IsSmall (2 ^ 62) l.firsts.items
-  pub second_small : IsSmall (2 ^ 62) l.seconds.items
+-- at least as much as a number or a denominator of these sizes times one of a row of the system that has them
+pub record IsNormProduct (width : ℕ) (m : WholeNumbers) (p : Place) (product : ℕ) : Type 0 where
+  pub norm : ℕ
+  pub rows : width * m.most_entry ≤ norm
+  pub most : ℕ
+  pub number : p.greatest ≤ most
+  pub den : p.greatest_den ≤ most
+  pub top : ℕ
+  pub row : norm * p.greatest ≤ top
+  pub row_den : p.greatest_den ≤ top
+  pub room : (top * m.most_scale) * most ≤ product
 
--- the lists of the last position, by the scales of the system
+-- the lists of the last position, by the scales of the system, and what is kept of the positions before
 pub record IsKept (s : LinearSystem) (k : List ℕ) (l : RunLists) (p : Place) (end : Ending) : Type 0 where
   pub scales : length k ≡ count s
   pub lists : AreListsOf s p.own l
   pub den_small : p.den ≤ 2 ^ 62
   pub ended : HasEnded s (count s) l.seats.items k p.den l.v.items l.firsts.items l.seconds.items p.greatest p.greatest_den end
-
--- the run came to its last position by these numbers of the system, and no operation there is wide
-pub record IsReached (s : LinearSystem) (m : WholeNumbers) (l : RunLists) (p : Place) (end : Ending) : Type 0 where
-  pub kept : IsKept s m.scales.now l p end
-  pub room : HasRoom s.width (2 ^ 62) m.a.now
-  pub narrow : IsNarrow s (count s) l.seats.items m.scales.now m.a.now p.den l.v.items
+  pub before : p.product < 2 ^ 127 → AreMildBefore s k (steps s) p.greatest p.greatest_den p.product
 
 -- the run stands here, if the sizes that are kept are within what the numbers of a position may have
 pub record IsUnderwayWithin (s : LinearSystem) (m : WholeNumbers) (l : RunLists) (p : Place) : Type 0 where
   pub within : (most : ℕ) → HasBounds s m.scales.now m.a.now m.b.now most → p.greatest ≤ most → p.greatest_den * m.most_scale ≤ 2 ^ 62
       → IsUnderway s (count s) l.seats.items m.scales.now p.den l.v.items l.firsts.items l.seconds.items p.greatest p.greatest_den p.first
+
+-- the rows of the system have room with the sizes that are kept of positions
+pub record HasRoomBefore (s : LinearSystem) (m : WholeNumbers) (p : Place) : Type 0 where
+  pub norm : ℕ
+  pub some : 1 ≤ norm
+  pub rows : s.width * m.most_entry ≤ norm
+  pub den : p.greatest_den ≤ 2 ^ 62
+  pub pivots : (norm * m.most_scale) * p.product ≤ 2 ^ 125
+  pub first : count s * ((norm * p.greatest) * m.most_side) ≤ 2 ^ 125
+  pub second : count s * ((norm * p.greatest) * m.most_scale) ≤ 2 ^ 125
+
+-- the run stands here, if its rows have room with the sizes that are kept
+pub record IsUnderwayWithRoom (s : LinearSystem) (m : WholeNumbers) (l : RunLists) (p : Place) : Type 0 where
+  pub within : HasRoomBefore s m p
+      → IsMildlyUnderway s (count s) l.seats.items m.scales.now p.den l.v.items l.firsts.items l.seconds.items p.greatest p.greatest_den p.product p.first
 
 -- the second system has further rows behind those of the first
 abbrev pub IsLonger : LinearSystem → LinearSystem → Type 0

@@ -4,7 +4,7 @@ use Rattle.mpc_rows.specs.LinearSystem.{LinearSystem}
 use Rattle.mpc_rows.specs.Run.{count}
 use Rattle.mpc_whole.specs.Table.{variable_at, IsSeated, IsOpeningSeats}
 use Rattle.mpc_whole.specs.Whole.{whole_at, IsSmall, IsUnit}
-use Rattle.mpc_beginnings.specs.declared.lists.RunLists.{RunLists}
+use Rattle.mpc_whole.specs.declared.lists.RunLists.{RunLists}
 use Rattle.mpc_beginnings.specs.LongerSeats.{AreLongerSeats}
 
 -- at the opening the unknowns stand in the columns, with the unit matrix, and no value is but 0

@@ -7,19 +7,23 @@ ghost use Rattle.mpc_rows.specs.RunWidth.{RunFits};
 ghost use Rattle.mpc_rows.specs.LawRows.{broken_row};
 ghost use Rattle.mpc_rows.specs.SetRuns.{turned};
 ghost use Rattle.mpc_whole.specs.declared.variables.Seat.{Seat};
+ghost use Rattle.mpc_whole.specs.Lists.{AreListsOf};
 ghost use Rattle.mpc_whole.specs.RunEnd.{IsEnd, IsValues, EndsRefuted};
 ghost use Rattle.mpc_whole.specs.Whole.{IsSmall, IsNarrow, HasBounds, HasRoom};
-ghost use Rattle.mpc_whole.specs.Underway.{turn_of};
+ghost use Rattle.mpc_whole.specs.Underway.{turn_of, HasEnded};
 ghost use Rattle.mpc_beginnings.specs.Beginnings.{lengthened};
 ghost use Rattle.mpc_beginnings.specs.Broken.{IsBroken, IsBrokenEnd};
-ghost use Rattle.mpc_beginnings.specs.Kept.{AreNumbers, AreListsOf, IsKept, IsReached, IsFirstLater, IsLonger, IsUnderwayWithin, IsRefuted, IsMet};
+ghost use Rattle.mpc_beginnings.specs.Kept.{AreNumbers, IsNormProduct, HasRoomBefore, IsKept, IsFirstLater, IsLonger, IsUnderwayWithin, IsUnderwayWithRoom, IsRefuted, IsMet};
 
-use crate::lists::{RunLists, begins_with, lengthen, push_turned, sizes, with_row, with_turned};
+use crate::lists::{
+    begins_with, copied_lists, first_lists, lengthen, lists_with_room, no_lists, push_turned,
+    set_lists, sizes, with_row, with_turned,
+};
 use mpc_linear::RowInt;
 use mpc_rows::{Multipliers, PairPoint, Row, System};
 use mpc_whole::{
-    End, Ending, Place, WholeNumbers, WholeSystem, last_multipliers, last_values, limit, whole_run,
-    zero_pairs, zeros,
+    End, Ending, Place, RunLists, WholeNumbers, WholeSystem, judged_run, last_multipliers,
+    last_values, limit, whole_run, zero_pairs, zeros,
 };
 use std::alloc::{AllocError, Global};
 use std::marker::Model;
@@ -33,20 +37,21 @@ fn numbers_of(system: &WholeSystem) -> WholeNumbers
 
 /// What the numbers of a position may have, if the sizes that are kept of those that stand and of those
 /// before are within that.
-fn limit_of(system: &WholeSystem, numbers: &WholeNumbers, n: usize, from: Place) -> Option<u64>
-    requires count { n ≡ count system.now }
+fn limit_of(system: &WholeSystem, numbers: &WholeNumbers, from: Place) -> Option<u64>
     requires numbers { AreNumbers system.now numbers.now }
     ensures bounds { IfSome result (λ m. HasBounds system.now numbers.now.scales.now numbers.now.a.now numbers.now.b.now m) }
     ensures room { IfSome result (λ _. HasRoom system.now.width (2 ^ 62) numbers.now.a.now) }
     ensures top { IfSome result (λ m. m ≤ 2 ^ 62) }
     ensures own_small { IfSome result (λ m. from.own ≤ m) }
     ensures den_small { IfSome result (λ _. from.den ≤ 2 ^ 62) }
-    ensures narrow { IfSome result (λ _. (seats : List Seat) (v : List ℤ) → IsSmall from.own v → IsNarrow system.now n seats numbers.now.scales.now numbers.now.a.now from.den v) }
+    ensures narrow { IfSome result (λ _. (seats : List Seat) (v : List ℤ) → IsSmall from.own v → IsNarrow system.now (count system.now) seats numbers.now.scales.now numbers.now.a.now from.den v) }
     ensures kept_small { IfSome result (λ m. from.greatest ≤ m) }
     ensures kept_den_small { IfSome result (λ _. from.greatest_den * numbers.now.most_scale ≤ 2 ^ 62) }
 {
+    let width = system.unknowns();
+    let n = width.checked_add(system.height())?;
     let most = limit(
-        system.unknowns(),
+        width,
         n,
         numbers.most_entry,
         numbers.most_side,
@@ -62,8 +67,49 @@ fn limit_of(system: &WholeSystem, numbers: &WholeNumbers, n: usize, from: Place)
     Some(most)
 }
 
-/// The run from a position to its end, where whole numbers serve for it.
-fn run_on(
+/// By how many times more a row may have than a number of a position: at least 1.
+fn row_norm(width: usize, numbers: &WholeNumbers) -> Option<u64>
+    requires entries { IsSmall numbers.now.most_entry numbers.now.a.now }
+    ensures some { IfSome result (λ t. 1 ≤ t) }
+    ensures norm { IfSome result (λ t. width * numbers.now.most_entry ≤ t) }
+    ensures small { IfSome result (λ t. t ≤ 2 ^ 62) }
+    ensures room { IfSome result (λ _. HasRoom width (2 ^ 62) numbers.now.a.now) }
+{
+    let norm = width as u128 * numbers.most_entry as u128;
+    if norm > 1 << 62 {
+        return None;
+    }
+    Some(norm.max(1) as u64)
+}
+
+/// At most this is the product of a number or a denominator of a position with one of a row there, where
+/// the numbers and denominators of positions have these sizes.
+fn norm_product(width: usize, numbers: &WholeNumbers, place: Place) -> Option<u128>
+    requires entries { IsSmall numbers.now.most_entry numbers.now.a.now }
+    ensures { IfSome result (IsNormProduct width numbers.now place) }
+{
+    let norm = row_norm(width, numbers)? as u128;
+    let most = place.greatest.max(place.greatest_den) as u128;
+    let size = norm * place.greatest as u128;
+    let top = size.max(place.greatest_den as u128);
+    let scaled = top.checked_mul(numbers.most_scale as u128)?;
+    let product = scaled.checked_mul(most)?;
+    Some(product)
+}
+
+/// The product that is kept of positions with these sizes: the greatest of its type where it isn't known.
+fn product_of(width: usize, numbers: &WholeNumbers, place: Place) -> u128
+    requires entries { IsSmall numbers.now.most_entry numbers.now.a.now }
+    ensures { result < 2 ^ 127 → IsNormProduct width numbers.now place result }
+{
+    match norm_product(width, numbers, place) {
+        Some(product) => product,
+        None => u128::MAX,
+    }
+}
+
+/// The run from a position to its end, where one limit serves for all rows.
+fn limited_run(
     lists: &mut RunLists,
     work: &mut Vec<i64>,
     system: &WholeSystem,
@@ -73,12 +119,14 @@ fn run_on(
     requires numbers { AreNumbers system.now numbers.now }
     requires lists { AreListsOf system.now from.own lists.old }
     requires start { IsUnderwayWithin system.now numbers.now lists.old from }
-    ensures { IfOk result (λ o. IfSome o (λ t. IsReached system.now numbers.now lists.new t.0 t.1)) }
+    ensures lists { IfOk result (λ o. IfSome o (λ t. AreListsOf system.now t.0.own lists.new)) }
+    ensures den_small { IfOk result (λ o. IfSome o (λ t. t.0.den ≤ 2 ^ 62)) }
+    ensures end { IfOk result (λ o. IfSome o (λ t. HasEnded system.now (count system.now) lists.new.seats.items numbers.now.scales.now t.0.den lists.new.v.items lists.new.firsts.items lists.new.seconds.items t.0.greatest t.0.greatest_den t.1)) }
 {
     let width = system.unknowns();
     lengthen(work, width)?;
     let n = lists.seats.len();
-    let Some(most) = limit_of(system, numbers, n, from) else {
+    let Some(most) = limit_of(system, numbers, from) else {
         return Ok(None);
     };
     let (x, _) = work.split_at_mut(width);
@@ -103,6 +151,88 @@ fn run_on(
     }
 }
 
+/// The run from a position to its end, where one limit serves for all rows, with what is kept of it.
+fn run_on(
+    lists: &mut RunLists,
+    work: &mut Vec<i64>,
+    system: &WholeSystem,
+    numbers: &WholeNumbers,
+    from: Place,
+) -> Result<Option<(Place, Ending)>, AllocError>
+    requires numbers { AreNumbers system.now numbers.now }
+    requires lists { AreListsOf system.now from.own lists.old }
+    requires start { IsUnderwayWithin system.now numbers.now lists.old from }
+    ensures { IfOk result (λ o. IfSome o (λ t. IsKept system.now numbers.now.scales.now lists.new t.0 t.1)) }
+{
+    match limited_run(lists, work, system, numbers, from)? {
+        Some((place, end)) => {
+            let product = product_of(system.unknowns(), numbers, place);
+            Ok(Some((Place { product, ..place }, end)))
+        }
+        None => Ok(None),
+    }
+}
+
+/// The product, if it is at most 2^125.
+fn small_product(x: u128, y: u128) -> Option<u128>
+    ensures value { IfSome result (λ z. z ≡ x * y) }
+    ensures small { IfSome result (λ z. z ≤ 2 ^ 125) }
+{
+    let z = x.checked_mul(y)?;
+    if z > 1 << 125 {
+        return None;
+    }
+    Some(z)
+}
+
+/// Whether the sizes that are kept of the positions before show that no row of the system forms a wide number
+/// there.
+fn room_before(system: &WholeSystem, numbers: &WholeNumbers, from: Place) -> Option<()>
+    requires entries { IsSmall numbers.now.most_entry numbers.now.a.now }
+    ensures room { IfSome result (λ _. HasRoom system.now.width (2 ^ 62) numbers.now.a.now) }
+    ensures before { IfSome result (λ _. HasRoomBefore system.now numbers.now from) }
+{
+    if from.greatest_den > 1 << 62 {
+        return None;
+    }
+    let width = system.unknowns();
+    let n = width.checked_add(system.height())?;
+    let norm = row_norm(width, numbers)? as u128;
+    let scaled = norm * numbers.most_scale as u128;
+    let _ = small_product(scaled, from.product)?;
+    let size = norm * from.greatest as u128;
+    let rest = numbers.most_side.max(numbers.most_scale);
+    let term = small_product(size, rest as u128)?;
+    let _ = small_product(n as u128, term)?;
+    Some(())
+}
+
+/// The run from a position to its end, where each row is judged by its own numbers.
+fn judge_on(
+    lists: &mut RunLists,
+    work: &mut Vec<i64>,
+    system: &WholeSystem,
+    numbers: &WholeNumbers,
+    from: Place,
+) -> Result<Option<(Place, Ending)>, AllocError>
+    requires numbers { AreNumbers system.now numbers.now }
+    requires lists { AreListsOf system.now from.own lists.old }
+    requires den_small { from.den ≤ 2 ^ 62 }
+    requires start { IsUnderwayWithRoom system.now numbers.now lists.old from }
+    ensures { IfOk result (λ o. IfSome o (λ t. IsKept system.now numbers.now.scales.now lists.new t.0 t.1)) }
+{
+    let width = system.unknowns();
+    lengthen(work, width)?;
+    let Some(()) = room_before(system, numbers, from) else {
+        return Ok(None);
+    };
+    let (x, _) = work.split_at_mut(width);
+    match judged_run(lists, x, system, numbers, from) {
+        Some(found) => Ok(Some(found)),
+        None => Ok(None),
+    }
+}
+
 /// The multipliers at the last position, where the row of the side l refutes.
 fn multipliers_of(
     alloc: Global,
@@ -114,10 +244,13 @@ fn multipliers_of(
     l: usize,
 ) -> Result<Option<Multipliers>, AllocError>
     requires numbers { AreNumbers system.now numbers.now }
-    requires reached { IsReached system.now numbers.now lists.now place (Ending.Refuted l) }
+    requires kept { IsKept system.now numbers.now.scales.now lists.now place (Ending.Refuted l) }
     ensures { IfOk result (λ o. IfSome o (EndsRefuted system.now)) }
 {
     let width = system.unknowns();
+    let Some(_) = row_norm(width, numbers) else {
+        return Ok(None);
+    };
     lengthen(work, width)?;
     let mut list = zeros(alloc, system.height())?;
     let (x, _) = work.split_at_mut(width);
@@ -167,7 +300,7 @@ impl Workspace {
         Workspace {
             numbers: Vec::new(alloc),
             system: None,
-            lists: RunLists::new(alloc),
+            lists: no_lists(alloc),
         }
     }
 }
@@ -202,7 +335,38 @@ impl Model for KeptRun {
     ghost invariant = { λ r. IsKept r.system r.last.scales.items r.last.lists r.last.place r.last.end };
 }
 
-/// The run of the system from its opening to its end, where whole numbers serve for it.
+/// The run of a system from its opening to its end, where whole numbers serve for it.
+fn first_run(
+    alloc: Global,
+    lists: &mut RunLists,
+    work: &mut Vec<i64>,
+    system: &WholeSystem,
+    numbers: &WholeNumbers,
+) -> Result<Option<(Place, Ending)>, AllocError>
+    requires numbers { AreNumbers system.now numbers.now }
+    ensures { IfOk result (λ o. IfSome o (λ t. IsKept system.now numbers.now.scales.now lists.new t.0 t.1)) }
+{
+    let width = system.unknowns();
+    let Some((n, square)) = sizes(system.height(), width) else {
+        return Ok(None);
+    };
+    let from = Place {
+        den: 1,
+        own: 1,
+        greatest: 0,
+        greatest_den: 0,
+        product: 0,
+        first: width,
+    };
+    *lists = first_lists(alloc, system, n, square)?;
+    if let Some(found) = run_on(lists, work, system, numbers, from)? {
+        return Ok(Some(found));
+    }
+    *lists = first_lists(alloc, system, n, square)?;
+    judge_on(lists, work, system, numbers, from)
+}
+
+/// The end of the run of a system from its opening, where whole numbers serve for it.
 fn first_end(
     alloc: Global,
     work: &mut Vec<i64>,
@@ -210,21 +374,10 @@ fn first_end(
 ) -> Result<Option<Ended>, AllocError>
     ensures { IfOk result (λ o. IfSome o (λ e. IsKept system.now e.scales.items e.lists e.place e.end)) }
 {
-    let width = system.unknowns();
-    let Some((n, square)) = sizes(system.height(), width) else {
-        return Ok(None);
-    };
-    let mut lists = RunLists::first(alloc, system, n, square)?;
+    let mut lists = no_lists(alloc);
     let numbers = numbers_of(system);
     let scales = numbers.scales.to_vec(alloc)?;
-    let from = Place {
-        den: 1,
-        own: 1,
-        greatest: 0,
-        greatest_den: 0,
-        first: width,
-    };
-    match run_on(&mut lists, work, system, &numbers, from)? {
+    match first_run(alloc, &mut lists, work, system, &numbers)? {
         Some((place, end)) => Ok(Some(Ended {
             scales,
             lists,
@@ -249,7 +402,7 @@ fn kept_copy(
 {
     let own = system.copy_with_room(alloc, 0)?;
     let scales = scales.to_vec(alloc)?;
-    let lists = lists.copy(alloc)?;
+    let lists = copied_lists(alloc, lists)?;
     Ok(KeptRun {
         system: own,
         last: Ended {
@@ -345,7 +498,7 @@ impl KeptRun {
         requires { IsLonger self.now longer.now }
         ensures { IfOk result (λ o. IfSome o (λ e. IsKept longer.now e.scales.items e.lists e.place e.end)) }
     {
-        let mut lists = RunLists::with_room(alloc, longer.height(), longer.unknowns())?;
+        let mut lists = lists_with_room(alloc, longer.height(), longer.unknowns())?;
         let numbers = numbers_of(longer);
         let scales = numbers.scales.to_vec(alloc)?;
         match self.go_on(&mut lists, work, longer, &numbers)? {
@@ -389,9 +542,14 @@ impl KeptRun {
     ) -> Result<Option<(Place, Ending)>, AllocError>
         requires longer { IsLonger self.now longer.now }
         requires numbers { AreNumbers longer.now numbers.now }
-        ensures { IfOk result (λ o. IfSome o (λ t. IsReached longer.now numbers.now lists.new t.0 t.1)) }
+        ensures { IfOk result (λ o. IfSome o (λ t. IsKept longer.now numbers.now.scales.now lists.new t.0 t.1)) }
     {
-        lists.set_to(&self.last.lists, self.system.height(), longer.height())?;
+        set_lists(
+            lists,
+            &self.last.lists,
+            self.system.height(),
+            longer.height(),
+        )?;
         if !begins_with(numbers.scales, &self.last.scales) {
             return Ok(None);
         }
@@ -399,7 +557,16 @@ impl KeptRun {
             first: self.first_later(),
             ..self.last.place
         };
-        run_on(lists, work, longer, numbers, from)
+        if let Some(found) = run_on(lists, work, longer, numbers, from)? {
+            return Ok(Some(found));
+        }
+        set_lists(
+            lists,
+            &self.last.lists,
+            self.system.height(),
+            longer.height(),
+        )?;
+        judge_on(lists, work, longer, numbers, from)
     }
 
     /// Whether the run of a system with further rows behind this one's ends with a point.
@@ -622,9 +789,6 @@ impl KeptRun {
         if numbers.scales != scales.as_slice() {
             return Ok(None);
         }
-        let Some(_) = limit_of(&self.system, &numbers, lists.seats.len(), *place) else {
-            return Ok(None);
-        };
         multipliers_of(alloc, work, &self.system, &numbers, lists, *place, l)
     }
 

@@ -11,7 +11,7 @@ ghost use Rattle.mpc_beginnings.specs.LongerSeats.{AreLongerSeats};
 ghost use Rattle.mpc_beginnings.specs.RunLists.{AreCopies, AreLonger, AreOpening};
 
 use mpc_rows::Row;
-use mpc_whole::{Seat, WholeSystem, clear, put_units};
+use mpc_whole::{RunLists, Seat, WholeSystem, clear, put_units};
 use std::alloc::{AllocError, Global};
 
 /// Makes the list at least so long.
@@ -131,98 +131,83 @@ fn put_variables(list: &mut Vec<usize>, nonbasic: &[usize]) -> Result<(), AllocE
     Ok(())
 }
 
-/// The lists of a run at a position.
-#[derive(Drop)]
-pub(crate) struct RunLists {
-    /// Where the variables stand, and which of them stand in the columns.
-    pub(crate) seats: Vec<Seat>,
-    pub(crate) nonbasic: Vec<usize>,
-    /// The numbers of the position.
-    pub(crate) v: Vec<i64>,
-    /// The values of the unknowns there, in their first parts and in their second ones.
-    pub(crate) firsts: Vec<i64>,
-    pub(crate) seconds: Vec<i64>,
+/// Lists that take no memory.
+pub(crate) fn no_lists(alloc: Global) -> RunLists {
+    RunLists {
+        seats: Vec::new(alloc),
+        nonbasic: Vec::new(alloc),
+        v: Vec::new(alloc),
+        firsts: Vec::new(alloc),
+        seconds: Vec::new(alloc),
+    }
 }
 
-impl RunLists {
-    /// Lists that take no memory.
-    pub(crate) fn new(alloc: Global) -> RunLists {
-        RunLists {
-            seats: Vec::new(alloc),
-            nonbasic: Vec::new(alloc),
-            v: Vec::new(alloc),
-            firsts: Vec::new(alloc),
-            seconds: Vec::new(alloc),
-        }
-    }
+/// Empty lists with room for the run of so many rows of so many unknowns.
+pub(crate) fn lists_with_room(
+    alloc: Global,
+    height: usize,
+    width: usize,
+) -> Result<RunLists, AllocError> {
+    Ok(RunLists {
+        seats: Vec::with_capacity(alloc, width.saturating_add(height))?,
+        nonbasic: Vec::with_capacity(alloc, width)?,
+        v: Vec::with_capacity(alloc, width.saturating_mul(width))?,
+        firsts: Vec::with_capacity(alloc, width)?,
+        seconds: Vec::with_capacity(alloc, width)?,
+    })
+}
 
-    /// Empty lists with room for the run of so many rows of so many unknowns.
-    pub(crate) fn with_room(
-        alloc: Global,
-        height: usize,
-        width: usize,
-    ) -> Result<RunLists, AllocError> {
-        Ok(RunLists {
-            seats: Vec::with_capacity(alloc, width.saturating_add(height))?,
-            nonbasic: Vec::with_capacity(alloc, width)?,
-            v: Vec::with_capacity(alloc, width.saturating_mul(width))?,
-            firsts: Vec::with_capacity(alloc, width)?,
-            seconds: Vec::with_capacity(alloc, width)?,
-        })
-    }
+/// The lists of the first position.
+pub(crate) fn first_lists(
+    alloc: Global,
+    system: &WholeSystem,
+    n: usize,
+    square: usize,
+) -> Result<RunLists, AllocError>
+    requires count { n ≡ count system.now }
+    requires square { square ≡ system.now.width * system.now.width }
+    ensures { IfOk result (AreOpening system.now) }
+{
+    let width = system.unknowns();
+    Ok(RunLists {
+        seats: first_seats(alloc, system, n)?,
+        nonbasic: first_nonbasic(alloc, width)?,
+        v: first_numbers(alloc, width, square)?,
+        firsts: first_values(alloc, width)?,
+        seconds: first_values(alloc, width)?,
+    })
+}
 
-    /// The lists of the first position.
-    pub(crate) fn first(
-        alloc: Global,
-        system: &WholeSystem,
-        n: usize,
-        square: usize,
-    ) -> Result<RunLists, AllocError>
-        requires count { n ≡ count system.now }
-        requires square { square ≡ system.now.width * system.now.width }
-        ensures { IfOk result (AreOpening system.now) }
-    {
-        let width = system.unknowns();
-        Ok(RunLists {
-            seats: first_seats(alloc, system, n)?,
-            nonbasic: first_nonbasic(alloc, width)?,
-            v: first_numbers(alloc, width, square)?,
-            firsts: first_values(alloc, width)?,
-            seconds: first_values(alloc, width)?,
-        })
-    }
+/// The same lists in memory of their own.
+pub(crate) fn copied_lists(alloc: Global, lists: &RunLists) -> Result<RunLists, AllocError>
+    ensures { IfOk result (AreCopies lists.now) }
+{
+    Ok(RunLists {
+        seats: lists.seats.to_vec(alloc)?,
+        nonbasic: lists.nonbasic.to_vec(alloc)?,
+        v: lists.v.to_vec(alloc)?,
+        firsts: lists.firsts.to_vec(alloc)?,
+        seconds: lists.seconds.to_vec(alloc)?,
+    })
+}
 
-    /// The same lists in memory of their own.
-    pub(crate) fn copy(&self, alloc: Global) -> Result<RunLists, AllocError>
-        ensures { IfOk result (AreCopies self.now) }
-    {
-        Ok(RunLists {
-            seats: self.seats.to_vec(alloc)?,
-            nonbasic: self.nonbasic.to_vec(alloc)?,
-            v: self.v.to_vec(alloc)?,
-            firsts: self.firsts.to_vec(alloc)?,
-            seconds: self.seconds.to_vec(alloc)?,
-        })
-    }
-
-    /// Writes other lists in place of these, and the seats of further sides behind theirs, in the rows from
-    /// the height of the system on.
-    pub(crate) fn set_to(
-        &mut self,
-        other: &RunLists,
-        height: usize,
-        longer: usize,
-    ) -> Result<(), AllocError>
-        requires { height ≤ longer }
-        ensures { OnOk result (AreLonger height longer other.now self.new) }
-    {
-        put_seats(&mut self.seats, &other.seats, height, longer)?;
-        put_variables(&mut self.nonbasic, &other.nonbasic)?;
-        put_numbers(&mut self.v, &other.v)?;
-        put_numbers(&mut self.firsts, &other.firsts)?;
-        put_numbers(&mut self.seconds, &other.seconds)?;
-        Ok(())
-    }
+/// Writes other lists in place of these, and the seats of further sides behind theirs, in the rows from
+/// the height of the system on.
+pub(crate) fn set_lists(
+    lists: &mut RunLists,
+    other: &RunLists,
+    height: usize,
+    longer: usize,
+) -> Result<(), AllocError>
+    requires { height ≤ longer }
+    ensures { OnOk result (AreLonger height longer other.now lists.new) }
+{
+    put_seats(&mut lists.seats, &other.seats, height, longer)?;
+    put_variables(&mut lists.nonbasic, &other.nonbasic)?;
+    put_numbers(&mut lists.v, &other.v)?;
+    put_numbers(&mut lists.firsts, &other.firsts)?;
+    put_numbers(&mut lists.seconds, &other.seconds)?;
+    Ok(())
 }
 
 /// Whether the first scales are these.

@@ -36,7 +36,11 @@ pub mod WholeEnds
 pub mod WholeSizes
 pub mod ValuesAfter
 pub mod WholeMoves
+pub mod Standing
 pub mod WholeRun
+pub mod JudgedRun
+pub mod Judges
+pub mod JudgedTurns
 pub mod WholeRows
 pub mod WholeSystems
 pub mod WholeAppended

@@ -82,10 +82,30 @@ signs : (q k x : ℤ) → k *ℤ turned q (neg_ℤ x) ≡ neg_ℤ (turned q k *�
 signs (pos n) k x = signs_pos k x
 signs (negsuc n) k x = signs_neg k x
 
+-- ---- a factor taken out of what is over the product of a denominator and the size of a pivot
+module _ (q : ℤ) (d factor size : ℕ) (some : 0 < d) (q_some : q ≢ pos 0) (more : 0 < factor) (over : factor * size ≡ d * unsigned_abs q) where
+  both_some : 0 < d * unsigned_abs q
+  both_some = mul-pos some (abs_some q q_some)
+
+  pub size_some : 0 < size
+  size_some = by size over
+    where
+      by : (m : ℕ) → factor * m ≡ d * unsigned_abs q → 0 < m
+      by zero e = let h : 0 < d * unsigned_abs q = both_some in absurd (omega arith)
+      by (suc m) e = omega arith
+
+  taken_out : (z : ℤ) → frac (z *ℤ pos factor) (d * unsigned_abs q) ≡ frac z size
+  taken_out z = ap (frac (z *ℤ pos factor)) (sym over) ∙ same_frac (z *ℤ pos factor) (factor * size) z size (mul-pos more size_some) size_some (narrowed z (pos size) (pos factor))
+
+  pub turned_over : (k z : ℤ) → z *ℤ pos factor ≡ turned q k *ℤ pos d → frac (turned q k) (unsigned_abs q) ≡ frac z size
+  turned_over k z e =
+      same_frac (turned q k) (unsigned_abs q) (turned q k *ℤ pos d) (d * unsigned_abs q) (abs_some q q_some) both_some (sym (narrowed (turned q k) (pos (unsigned_abs q)) (pos d)))
+      ∙ ap (λ n. frac n (d * unsigned_abs q)) (sym e) ∙ taken_out z
+
 -- the new number of a column that stays
-pub changed_over : (v k x q z : ℤ) (d : ℕ) → 0 < d → q ≢ pos 0 → z *ℤ pos d ≡ (v *ℤ pos (unsigned_abs q)) +ℤ neg_ℤ (turned q k *ℤ x) →
-    frac v d +ℚ frac k d *ℚ (neg_ℚ (frac x d) *ℚ inv_ℚ (frac q d)) ≡ frac z (unsigned_abs q)
-changed_over v k x q z d some q_some e =
+changed_over : (v k x q z : ℤ) (d factor size : ℕ) → 0 < d → q ≢ pos 0 → 0 < factor → factor * size ≡ d * unsigned_abs q → z *ℤ pos factor ≡ (v *ℤ pos (unsigned_abs q)) +ℤ neg_ℤ (turned q k *ℤ x) →
+    frac v d +ℚ frac k d *ℚ (neg_ℚ (frac x d) *ℚ inv_ℚ (frac q d)) ≡ frac z size
+changed_over v k x q z d factor size some q_some more over e =
     let m = unsigned_abs q in
     let m_some : 0 < m = abs_some q q_some in
     let both : 0 < d * m = mul-pos some m_some in
@@ -93,7 +113,7 @@ changed_over v k x q z d some q_some e =
     +ℚ (ap (λ u. frac k d *ℚ u) (ap (λ u. u *ℚ inv_ℚ (frac q d)) (frac-neg x d some) ∙ ratio_is (neg_ℤ x) q d some q_some) ∙ frac-mul k d (turned q (neg_ℤ x)) m some m_some) i)
     ∙ frac_sum (v *ℤ pos m) (k *ℤ turned q (neg_ℤ x)) (d * m) both
     ∙ ap (λ n. frac n (d * m)) (ap (λ n. (v *ℤ pos m) +ℤ n) (signs q k x) ∙ sym e)
-    ∙ same_frac (z *ℤ pos d) (d * m) z m both m_some (narrowed z (pos m) (pos d))
+    ∙ taken_out q d factor size some q_some more over z
 
 -- ---- a pivot with scales
 inverse_apart : (Q E L : ℚ) → Q ≢ int (pos 0) → E ≢ int (pos 0) → L ≢ int (pos 0) → inv_ℚ ((Q *ℚ E) *ℚ inv_ℚ L) ≡ (inv_ℚ Q *ℚ inv_ℚ E) *ℚ L
@@ -118,9 +138,10 @@ pub scaled_leave : (K Q E L : ℚ) → Q ≢ int (pos 0) → E ≢ int (pos 0) �
 scaled_leave K Q E L q e l = ap (λ u. (K *ℚ E) *ℚ u) (inverse_apart Q E L q e l) ∙ leave_ring K E L (inv_ℚ Q) (inv_ℚ E) (*ℚ_inv E e)
 
 -- the new number of a column that stays: V[j][c] k_y / den, with the same whole quotient z as without scales
-pub scaled_changed_over : (v k x q z : ℤ) (d y : ℕ) (Q E L : ℚ) → 0 < d → q ≢ pos 0 → Q ≡ frac q d → Q ≢ int (pos 0) → E ≢ int (pos 0) → L ≢ int (pos 0) → z *ℤ pos d ≡ (v *ℤ pos (unsigned_abs q)) +ℤ neg_ℤ (turned q k *ℤ x) →
-    frac v d *ℚ int (pos y) +ℚ (frac k d *ℚ E) *ℚ (neg_ℚ ((frac x d *ℚ int (pos y)) *ℚ inv_ℚ L) *ℚ inv_ℚ ((Q *ℚ E) *ℚ inv_ℚ L)) ≡ frac (z *ℤ pos y) (unsigned_abs q)
-scaled_changed_over v k x q z d y Q E L some q_some is qn en ln e =
+pub scaled_changed_over : (v k x q z : ℤ) (d factor size y : ℕ) (Q E L : ℚ) → 0 < d → q ≢ pos 0 → 0 < factor → factor * size ≡ d * unsigned_abs q → Q ≡ frac q d → Q ≢ int (pos 0) → E ≢ int (pos 0) → L ≢ int (pos 0)
+    → z *ℤ pos factor ≡ (v *ℤ pos (unsigned_abs q)) +ℤ neg_ℤ (turned q k *ℤ x)
+    → frac v d *ℚ int (pos y) +ℚ (frac k d *ℚ E) *ℚ (neg_ℚ ((frac x d *ℚ int (pos y)) *ℚ inv_ℚ L) *ℚ inv_ℚ ((Q *ℚ E) *ℚ inv_ℚ L)) ≡ frac (z *ℤ pos y) size
+scaled_changed_over v k x q z d factor size y Q E L some q_some more over is qn en ln e =
     scaled_change (frac v d) (frac k d) (frac x d) Q (int (pos y)) E L qn en ln
-    ∙ ap (λ u. u *ℚ int (pos y)) (ap (λ u. frac v d +ℚ frac k d *ℚ (neg_ℚ (frac x d) *ℚ inv_ℚ u)) is ∙ changed_over v k x q z d some q_some e)
-    ∙ times_int z (pos y) (unsigned_abs q) (abs_some q q_some)
+    ∙ ap (λ u. u *ℚ int (pos y)) (ap (λ u. frac v d +ℚ frac k d *ℚ (neg_ℚ (frac x d) *ℚ inv_ℚ u)) is ∙ changed_over v k x q z d factor size some q_some more over e)
+    ∙ times_int z (pos y) size (size_some q d factor size some q_some more over)

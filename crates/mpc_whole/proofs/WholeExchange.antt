@@ -1,18 +1,21 @@
 -- The numbers of a pivot, as the code writes them one by one.
-use Rattle.std.proofs.Common.{◌≡◌, ℕ, suc, ◌+◌, ◌*◌, ◌<◌, ◌≤◌, List, length, set, ℤ, pos, ◌+ℤ◌, ◌*ℤ◌, neg_ℤ, unsigned_abs, sym, ◌∙◌, ap, subst, arith, refl, ◌⊎◌, inl, inr, mul-le-mul_right}
+use Rattle.std.proofs.Common.{◌≡◌, ℕ, suc, ◌+◌, ◌*◌, ◌<◌, ◌≤◌, List, length, set, ℤ, pos, ◌+ℤ◌, ◌*ℤ◌, neg_ℤ, unsigned_abs, sym, ◌∙◌, ap, subst, arith, refl, ◌⊎◌, inl, inr, mul-le-mul_right, mul_comm}
 use Rattle.std.proofs.lemmas.Bool.{cases_eq}
+use Rattle.std.proofs.lemmas.Int.{unsigned_abs-mul}
+use Rattle.mpc_exact.proofs.IntRing.{int_mul_cancel}
+use Rattle.mpc_whole.specs.Judged.{IsReducedPivot}
 use Rattle.mpc_whole.specs.Whole.{whole_at, whole_cell, IsChanged, IsWholePivot, turned}
 use Rattle.mpc_whole.proofs.WholeSteps.{set_same, set_other}
 
 -- one number of row j more
-module _ (width den : ℕ) (old now x : List ℤ) (j e c : ℕ) (z : ℤ) (b : j * width + c < length now) where
-  pub row_done : ((k : ℕ) → k < c → IsChanged width den old x j e k (whole_cell width now j k)) → IsChanged width den old x j e c z →
-      (k : ℕ) → k < c + 1 → IsChanged width den old x j e k (whole_cell width (set now (j * width + c) z) j k)
+module _ (width factor den : ℕ) (old now x : List ℤ) (j e c : ℕ) (z : ℤ) (b : j * width + c < length now) where
+  pub row_done : ((k : ℕ) → k < c → IsChanged width factor den old x j e k (whole_cell width now j k)) → IsChanged width factor den old x j e c z →
+      (k : ℕ) → k < c + 1 → IsChanged width factor den old x j e k (whole_cell width (set now (j * width + c) z) j k)
   row_done h n k l = by (cases_eq k c)
     where
-      by : (k ≡ c) ⊎ (k ≡ c → ⊥) → IsChanged width den old x j e k (whole_cell width (set now (j * width + c) z) j k)
-      by (inl q) = subst (λ m. IsChanged width den old x j e m (whole_cell width (set now (j * width + c) z) j m)) (sym q) (subst (IsChanged width den old x j e c) (sym (set_same now (j * width + c) z b)) n)
-      by (inr q) = subst (IsChanged width den old x j e k) (sym (set_other now (j * width + c) z b (j * width + k) (λ m. q (omega arith)))) (h k (omega arith))
+      by : (k ≡ c) ⊎ (k ≡ c → ⊥) → IsChanged width factor den old x j e k (whole_cell width (set now (j * width + c) z) j k)
+      by (inl q) = subst (λ m. IsChanged width factor den old x j e m (whole_cell width (set now (j * width + c) z) j m)) (sym q) (subst (IsChanged width factor den old x j e c) (sym (set_same now (j * width + c) z b)) n)
+      by (inr q) = subst (IsChanged width factor den old x j e k) (sym (set_other now (j * width + c) z b (j * width + k) (λ m. q (omega arith)))) (h k (omega arith))
 
   pub row_kept : ((k : ℕ) → (k < j * width) ⊎ (j * width + c ≤ k) → whole_at now k ≡ whole_at old k) →
       (k : ℕ) → (k < j * width) ⊎ (j * width + (c + 1) ≤ k) → whole_at (set now (j * width + c) z) k ≡ whole_at old k
@@ -20,17 +23,17 @@ module _ (width den : ℕ) (old now x : List ℤ) (j e c : ℕ) (z : ℤ) (b : j
   row_kept h k (inr l) = set_other now (j * width + c) z b k (λ m. omega arith) ∙ h k (inr (omega arith))
 
 -- what one number is, from what the code computes
-pub number_changed : (width den : ℕ) (old x : List ℤ) (j e c : ℕ) (z o f : ℤ) (y : ℤ) (q : ℕ) → o ≡ whole_cell width old j c → f ≡ turned (whole_at x e) (whole_cell width old j e) → y ≡ whole_at x c → q ≡ unsigned_abs (whole_at x e) →
-    (c ≡ e → z ≡ f) → ((c ≡ e → ⊥) → z *ℤ pos den ≡ (o *ℤ pos q) +ℤ neg_ℤ (f *ℤ y)) → IsChanged width den old x j e c z
-number_changed width den old x j e c z o f y q eo ef ey eq enters other = record {
-  entering = λ h. enters h ∙ ef;
+pub number_changed : (width factor den : ℕ) (old x : List ℤ) (j e c : ℕ) (z o f : ℤ) (y : ℤ) (q : ℕ) → o ≡ whole_cell width old j c → f ≡ turned (whole_at x e) (whole_cell width old j e) → y ≡ whole_at x c → q ≡ unsigned_abs (whole_at x e) →
+    (c ≡ e → z *ℤ pos factor ≡ f *ℤ pos den) → ((c ≡ e → ⊥) → z *ℤ pos factor ≡ (o *ℤ pos q) +ℤ neg_ℤ (f *ℤ y)) → IsChanged width factor den old x j e c z
+number_changed width factor den old x j e c z o f y q eo ef ey eq enters other = record {
+  entering = λ h. enters h ∙ ap (λ u. u *ℤ pos den) ef;
   other = λ h. other h ∙ (λ i. (eo i *ℤ pos (eq i)) +ℤ neg_ℤ (ef i *ℤ ey i));
 }
 
 -- a changed number through what the row was before
-pub changed_through : (width den : ℕ) (old now x : List ℤ) (j e c : ℕ) (z : ℤ) → whole_cell width now j c ≡ whole_cell width old j c → whole_cell width now j e ≡ whole_cell width old j e → IsChanged width den now x j e c z → IsChanged width den old x j e c z
-changed_through width den old now x j e c z p q h = record {
-  entering = λ k. h.entering k ∙ ap (turned (whole_at x e)) q;
+pub changed_through : (width factor den : ℕ) (old now x : List ℤ) (j e c : ℕ) (z : ℤ) → whole_cell width now j c ≡ whole_cell width old j c → whole_cell width now j e ≡ whole_cell width old j e → IsChanged width factor den now x j e c z → IsChanged width factor den old x j e c z
+changed_through width factor den old now x j e c z p q h = record {
+  entering = λ k. h.entering k ∙ ap (λ u. turned (whole_at x e) u *ℤ pos den) q;
   other = λ k. h.other k ∙ (λ i. (p i *ℤ pos (unsigned_abs (whole_at x e))) +ℤ neg_ℤ (turned (whole_at x e) (q i) *ℤ whole_at x c));
 }
 
@@ -45,23 +48,37 @@ row_inside w j c m e h l = let r = row_below w j w c h l in omega arith
 pub rows_in : (w j k m : ℕ) → j < k → m ≡ k * w → j * w + w ≤ m
 rows_in w j k m h e = let r : suc j * w ≤ k * w = mul-le-mul_right w h in omega arith
 
-module _ (width den : ℕ) (old now new x : List ℤ) (j e : ℕ) (e_in : e < width)
-    (done : (r c : ℕ) → r < j → c < width → IsChanged width den old x r e c (whole_cell width now r c))
+module _ (width factor den : ℕ) (old now new x : List ℤ) (j e : ℕ) (e_in : e < width)
+    (done : (r c : ℕ) → r < j → c < width → IsChanged width factor den old x r e c (whole_cell width now r c))
     (kept : (k : ℕ) → j * width ≤ k → whole_at now k ≡ whole_at old k)
-    (cells : (c : ℕ) → c < width → IsChanged width den now x j e c (whole_cell width new j c))
+    (cells : (c : ℕ) → c < width → IsChanged width factor den now x j e c (whole_cell width new j c))
     (others : (k : ℕ) → (k < j * width) ⊎ (j * width + width ≤ k) → whole_at new k ≡ whole_at now k) where
-  pub rows_done : (r c : ℕ) → r < j + 1 → c < width → IsChanged width den old x r e c (whole_cell width new r c)
+  pub rows_done : (r c : ℕ) → r < j + 1 → c < width → IsChanged width factor den old x r e c (whole_cell width new r c)
   rows_done r c h l = by (cases_eq r j)
     where
-      by : (r ≡ j) ⊎ (r ≡ j → ⊥) → IsChanged width den old x r e c (whole_cell width new r c)
-      by (inl q) = subst (λ m. IsChanged width den old x m e c (whole_cell width new m c)) (sym q) (changed_through width den old now x j e c (whole_cell width new j c) (kept (j * width + c) (omega arith)) (kept (j * width + e) (omega arith)) (cells c l))
-      by (inr q) = subst (IsChanged width den old x r e c) (sym (others (r * width + c) (inl (row_below width r j c (omega arith) l)))) (done r c (omega arith) l)
+      by : (r ≡ j) ⊎ (r ≡ j → ⊥) → IsChanged width factor den old x r e c (whole_cell width new r c)
+      by (inl q) = subst (λ m. IsChanged width factor den old x m e c (whole_cell width new m c)) (sym q) (changed_through width factor den old now x j e c (whole_cell width new j c) (kept (j * width + c) (omega arith)) (kept (j * width + e) (omega arith)) (cells c l))
+      by (inr q) = subst (IsChanged width factor den old x r e c) (sym (others (r * width + c) (inl (row_below width r j c (omega arith) l)))) (done r c (omega arith) l)
 
   pub rows_kept : (k : ℕ) → (j + 1) * width ≤ k → whole_at new k ≡ whole_at old k
   rows_kept k h = others k (inr (omega arith)) ∙ kept k (omega arith)
 
-pub pivot_whole : (width den : ℕ) (old new x : List ℤ) (e : ℕ) → e < width → ((j c : ℕ) → j < width → c < width → IsChanged width den old x j e c (whole_cell width new j c)) → IsWholePivot width den old new x e
-pivot_whole width den old new x e b h = record {
+pub pivot_whole : (width den : ℕ) (old new x : List ℤ) (e : ℕ) → 0 < den → e < width → ((j c : ℕ) → j < width → c < width → IsChanged width den den old x j e c (whole_cell width new j c)) → IsWholePivot width den old new x e
+pivot_whole width den old new x e some b h = record {
+  column = λ j l. int_mul_cancel den some ((h j e l b).entering refl);
+  others = λ j c l k m. (h j c l k).other m;
+}
+
+pub pivot_reduced : (width factor den size : ℕ) (old new x : List ℤ) (e : ℕ) (z : ℤ) → 0 < factor → e < width → z *ℤ pos factor ≡ pos (unsigned_abs (whole_at x e)) *ℤ pos den → size ≡ unsigned_abs z
+    → ((j c : ℕ) → j < width → c < width → IsChanged width factor den old x j e c (whole_cell width new j c)) → IsReducedPivot width den old new x e size
+pivot_reduced width factor den size old new x e z some b over is h = record {
+  factor = factor;
+  some = some;
+  over =
+      let s : unsigned_abs z * factor ≡ unsigned_abs (whole_at x e) * den = sym (unsigned_abs-mul z (pos factor)) ∙ ap unsigned_abs over ∙ unsigned_abs-mul (pos (unsigned_abs (whole_at x e))) (pos den) in
+      let t : factor * size ≡ size * factor = mul_comm factor size in
+      let u : unsigned_abs (whole_at x e) * den ≡ den * unsigned_abs (whole_at x e) = mul_comm (unsigned_abs (whole_at x e)) den in
+      t ∙ ap (λ m. m * factor) is ∙ s ∙ u;
   column = λ j l. (h j e l b).entering refl;
   others = λ j c l k m. (h j c l k).other m;
 }

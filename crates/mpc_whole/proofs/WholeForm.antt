@@ -1,31 +1,61 @@
 -- The rows of the sides at a position of the run, from those of the unknowns, and the sizes of all numbers there.
-use Rattle.std.proofs.Common.{◌≡◌, ℕ, ◌+◌, ◌-◌, ◌*◌, ◌^◌, ◌<◌, ◌≤◌, true, false, List, ℤ, pos, negsuc, ◌*ℤ◌, unsigned_abs, cond, Bool, refl, sym, ◌∙◌, ap, subst, arith, ◌⊎◌, inl, inr, le_trans, lt-ltb, mul-pos, mul-le-mul_right, mul-le-mul_left}
+use Rattle.std.proofs.Common.{◌≡◌, ℕ, ◌+◌, ◌-◌, ◌*◌, ◌/◌, ◌^◌, ◌<◌, ◌≤◌, true, false, List, ℤ, pos, negsuc, ◌*ℤ◌, unsigned_abs, cond, Bool, sym, ◌∙◌, ap, subst, arith, ◌⊎◌, inl, inr, le_trans, lt-ltb, mul-pos, mul-le-mul_right, mul-le-mul_left}
 use Rattle.std.proofs.lemmas.Bool.{both_ways, cases_Bool, cases_lt}
+use Rattle.std.proofs.lemmas.Nat.{mul-le, le-div}
 use Rattle.mpc_exact.specs.Rational.{ℚ, frac, int, ◌*ℚ◌}
 use Rattle.mpc_exact.proofs.Rational.{*ℚ_comm}
 use Rattle.mpc_space.specs.Total.{total, unit}
 use Rattle.mpc_space.proofs.Total.{total-same, total-unit, unit-same, unit-other}
 use Rattle.mpc_rows.specs.LinearSystem.{LinearSystem, row_at, height, entry}
-use Rattle.mpc_rows.specs.Run.{Position, IsTableau, count, is_unknown, rest, bound, value, opening}
+use Rattle.mpc_rows.specs.Run.{Position, IsTableau, goes_on, count, is_unknown, rest, bound, turn, value, opening}
+use Rattle.mpc_rows.specs.RunWidth.{PositionFits}
 use Rattle.mpc_rows.specs.NumberedSystems.{left_side}
 use Rattle.mpc_whole.specs.declared.variables.Seat.{Seat}
 use Rattle.mpc_whole.specs.declared.variables.Seat.TheVariants.{Column}
 use Rattle.mpc_whole.specs.Table.{seat_at}
 use Rattle.mpc_whole.specs.Norms.{Over}
 use Rattle.mpc_whole.proofs.WholeChanges.{times_scaled, total_scaled}
-use Rattle.mpc_whole.proofs.WholeScales.{Scaled, Rests, at_scale, at_whole, scaled_over, rests_times, nought_times}
+use Rattle.mpc_whole.proofs.WholeNorms.{HasPivotRoom, judged_fit, norms_fit}
+use Rattle.mpc_whole.proofs.WholeScales.{Scaled, scaled_over, at_nought, at_side, at_minus_one, nought_over, nought_times, less_with_scale}
+use Rattle.mpc_whole.specs.Judged.{HasRoomAt, IsJudged}
 use Rattle.mpc_whole.specs.Whole.{whole_total, whole_at, whole_cell, scale_at, IsSmall, IsWholeSystem, AreBounds, HasSideBound, IsNarrow, IsSideRow, IsForm, side_cell}
+use Rattle.mpc_whole.proofs.Turn.{turn-at}
 use Rattle.mpc_whole.proofs.TableauRows.{Meets, row_value, values_meet}
 use Rattle.mpc_whole.proofs.Positions.{tableau, rows_across, firsts_meet, seconds_meet, firsts, seconds}
 use Rattle.mpc_whole.proofs.Ends.{Reached, position-zero}
 use Rattle.mpc_whole.proofs.LeftSides.{side_value, bound-first, bound-second}
 use Rattle.mpc_whole.proofs.Seats.{column_seat}
 use Rattle.mpc_whole.proofs.Read.{rest_unknown, rest_bound}
-use Rattle.mpc_whole.proofs.WholeSums.{total_over, total_at_most, product_at_most, zero_over}
+use Rattle.mpc_whole.proofs.WholeSums.{total_over, total_at_most, product_at_most}
 
 unit_turned : (y z : ℕ) → (y ≡ z) ⊎ (y ≡ z → ⊥) → unit y z ≡ unit z y
 unit_turned y z (inl e) = unit-same y z e ∙ sym (unit-same z y (sym e))
 unit_turned y z (inr h) = unit-other y z h ∙ sym (unit-other z y (λ e. h (sym e)))
+
+-- ---- where the nonbasic variables stand
+strict_rest : (s : LinearSystem) (y : ℕ) (t : Bool) → (rest s y).second ≡ cond t (int (negsuc 0)) (int (pos 0)) → ((rest s y).second ≡ int (pos 0)) ⊎ ((rest s y).second ≡ int (negsuc 0))
+strict_rest s y true e = inr e
+strict_rest s y false e = inl e
+
+second_rest : (s : LinearSystem) (y : ℕ) → y < count s → (is_unknown s y ≡ true) ⊎ (is_unknown s y ≡ false) → (y < s.width) ⊎ (s.width ≤ y) → ((rest s y).second ≡ int (pos 0)) ⊎ ((rest s y).second ≡ int (negsuc 0))
+second_rest s y h (inl u) l = inl (ap (λ z. z.second) (rest_unknown s y u))
+second_rest s y h (inr u) (inl l) = absurd (both_ways (is_unknown s y) u (lt-ltb y s.width l))
+second_rest s y h (inr u) (inr l) =
+    let q : s.width + (y - s.width) ≡ y = omega arith in
+    strict_rest s y (row_at s (y - s.width)).strict (ap (λ z. z.second) (rest_bound s y u) ∙ ap (λ z. (bound s z).second) (sym q) ∙ bound-second s (y - s.width))
+
+first_rest : (s : LinearSystem) (k : List ℕ) (a b : List ℤ) → IsWholeSystem s k a b → (y : ℕ) → y < count s → (is_unknown s y ≡ true) ⊎ (is_unknown s y ≡ false) → (y < s.width) ⊎ (s.width ≤ y)
+    → ((rest s y).first ≡ int (pos 0)) ⊎ ((s.width ≤ y) × ((rest s y).first ≡ frac (whole_at b (y - s.width)) (scale_at k y)))
+first_rest s k a b w y h (inl u) l = inl (ap (λ z. z.first) (rest_unknown s y u))
+first_rest s k a b w y h (inr u) (inl l) = absurd (both_ways (is_unknown s y) u (lt-ltb y s.width l))
+first_rest s k a b w y h (inr u) (inr l) =
+    let q : s.width + (y - s.width) ≡ y = omega arith in
+    inr (l, ap (λ z. z.first) (rest_bound s y u) ∙ ap (λ z. (bound s z).first) (sym q) ∙ bound-first s (y - s.width) ∙ w.sides.sides (y - s.width) (omega arith) ∙ ap (λ z. frac (whole_at b (y - s.width)) (scale_at k z)) q)
+
+-- so much holds of each number of a row, in the column of y
+pub record HoldAll (s : LinearSystem) (n : ℕ) (seats : List Seat) (a v : List ℤ) (P : ℕ → ℤ → Type 0) : Type 0 where
+  pub numbers : (j y c : ℕ) → j < s.width → y < n → seat_at seats y ≡ Column c → P y (whole_cell s.width v j c)
+  pub rows : (i y c : ℕ) → i < height s → y < n → seat_at seats y ≡ Column c → P y (side_cell s a v i c)
 
 -- ---- a position of the run
 module _ (s : LinearSystem) (p : Position) (r : Reached s p) where
@@ -91,90 +121,148 @@ module _ (s : LinearSystem) (p : Position) (r : Reached s p) where
       unfolding row_den
       own_den x h = ap (λ u. d * u) (w.scales.own x h) ∙ (let r : d * 1 ≡ d = omega arith in r)
 
+      by_seat : (y m d : ℕ) (u : ℚ) → 0 < d → y < n → (p.is_basic y ≡ true → u ≡ int (pos 0)) → ((c : ℕ) → seat_at seats y ≡ Column c → Over d m u) → (p.is_basic y ≡ true) ⊎ (p.is_basic y ≡ false) → Over d m u
+      by_seat y m d u some h zero there (inl e) = nought_over d m u some (zero e)
+      by_seat y m d u some h zero there (inr e) = let q = column_seat (seat_at seats y) (sym (f.basic y h) ∙ e) in there q.0 q.1
+
+      side_is : (i y c : ℕ) → i < height s → y < n → seat_at seats y ≡ Column c → p.coefficient (s.width + i) y ≡ frac (side_cell s a v i c *ℤ pos (scale_at k y)) (row_den (s.width + i))
+      unfolding row_den
+      side_is i y c b h e = side_entry i y c b h e
+
+      -- the coefficients of the row of a side
+      pub side_over : (i m : ℕ) → i < height s → ((y c : ℕ) → y < n → seat_at seats y ≡ Column c → unsigned_abs (side_cell s a v i c) * scale_at k y ≤ m) → (y : ℕ) → y < count s → Over (d * scale_at k (s.width + i)) m (p.coefficient (s.width + i) y)
+      unfolding row_den
+      side_over i m b h y l =
+          let y_in : y < n = subst (λ q. y < q) whole l in
+          let some : 0 < row_den (s.width + i) = den_some (s.width + i) (omega arith) in
+          by_seat y m (row_den (s.width + i)) (p.coefficient (s.width + i) y) some y_in (reached_tableau.empty (s.width + i) y)
+          (λ c e. scaled_over (row_den (s.width + i)) (scale_at k y) m (λ z. unsigned_abs z * scale_at k y ≤ m) some (λ z o. o) (p.coefficient (s.width + i) y) (record { at = side_cell s a v i c; is = side_is i y c b y_in e; holds = h y c y_in e }))
+          (cases_Bool (p.is_basic y))
+
       -- all numbers of the position, over the denominators of the rows
-      module _ (g : IsNarrow s n seats k a d v) where
-        pub den_small : (x : ℕ) → x < count s → row_den x ≤ 2 ^ 62
-        unfolding row_den
-        den_small x h = g.dens x (subst (λ m. x < m) whole h)
-
-        side_is : (i y c : ℕ) → i < height s → y < n → seat_at seats y ≡ Column c → p.coefficient (s.width + i) y ≡ frac (side_cell s a v i c *ℤ pos (scale_at k y)) (row_den (s.width + i))
-        unfolding row_den
-        side_is i y c b h e = side_entry i y c b h e
-
-        number_at : (x y c : ℕ) → x < count s → y < n → seat_at seats y ≡ Column c → (x < s.width) ⊎ (s.width ≤ x) → Scaled (row_den x) (scale_at k y) (p.coefficient x y)
-        number_at x y c l h e (inl b) = record { at = whole_cell s.width v x c; is = f.entries x y c b h e ∙ ap (frac (whole_cell s.width v x c *ℤ pos (scale_at k y))) (sym (own_den x b)); size = g.numbers x y c b h e }
+      module _ (P : ℕ → ℤ → Type 0) (g : HoldAll s n seats a v P) where
+        number_at : (x y c : ℕ) → x < count s → y < n → seat_at seats y ≡ Column c → (x < s.width) ⊎ (s.width ≤ x) → Scaled (row_den x) (scale_at k y) (P y) (p.coefficient x y)
+        number_at x y c l h e (inl b) = record { at = whole_cell s.width v x c; is = f.entries x y c b h e ∙ ap (frac (whole_cell s.width v x c *ℤ pos (scale_at k y))) (sym (own_den x b)); holds = g.numbers x y c b h e }
         number_at x y c l h e (inr b) =
             let i = x - s.width in
             let i_in : i < height s = omega arith in
             let q : s.width + i ≡ x = omega arith in
-            record { at = side_cell s a v i c; is = subst (λ z. p.coefficient z y ≡ frac (side_cell s a v i c *ℤ pos (scale_at k y)) (row_den z)) q (side_is i y c i_in h e); size = g.rows i y c i_in h e }
+            record { at = side_cell s a v i c; is = subst (λ z. p.coefficient z y ≡ frac (side_cell s a v i c *ℤ pos (scale_at k y)) (row_den z)) q (side_is i y c i_in h e); holds = g.rows i y c i_in h e }
 
-        nought_over : (x y m : ℕ) → x < count s → p.is_basic y ≡ true → (r : ℚ) → Over (row_den x) m (p.coefficient x y *ℚ r)
-        nought_over x y m h b r = record { at = pos 0; is = ap (λ u. u *ℚ r) (reached_tableau.empty x y b) ∙ nought_times r ∙ sym (zero_over (row_den x) (den_some x h)); size = omega arith }
-
-        by_seat : (x y : ℕ) → x < count s → y < n → (p.is_basic y ≡ true) ⊎ (p.is_basic y ≡ false) → Over (row_den x) (2 ^ 62) (p.coefficient x y)
-        by_seat x y l h (inl b) = record { at = pos 0; is = reached_tableau.empty x y b ∙ sym (zero_over (row_den x) (den_some x l)); size = lit_zero }
-          where
-            lit_zero : unsigned_abs (pos 0) ≤ 2 ^ 62
-            lit_zero = omega arith
-        by_seat x y l h (inr b) = let u = column_seat (seat_at seats y) (sym (f.basic y h) ∙ b) in scaled_over (number_at x y u.0 l h u.1 (cases_lt x s.width))
-
-        pub entries_over : (x y : ℕ) → x < count s → y < count s → Over (row_den x) (2 ^ 62) (p.coefficient x y)
-        entries_over x y h l = by_seat x y h (subst (λ m. y < m) whole l) (cases_Bool (p.is_basic y))
+        entries_over : (m : ℕ) → ((y : ℕ) (z : ℤ) → P y z → unsigned_abs z * scale_at k y ≤ m) → (x y : ℕ) → x < count s → y < count s → Over (row_den x) m (p.coefficient x y)
+        entries_over m sizes x y h l =
+            let y_in : y < n = subst (λ q. y < q) whole l in
+            by_seat y m (row_den x) (p.coefficient x y) (den_some x h) y_in (reached_tableau.empty x y)
+            (λ c e. scaled_over (row_den x) (scale_at k y) m (P y) (den_some x h) (sizes y) (p.coefficient x y) (number_at x y c h y_in e (cases_lt x s.width)))
+            (cases_Bool (p.is_basic y))
 
         -- with where the nonbasic variables stand
-        module _ (m : ℕ) (stood : ℕ → ℚ) (rests : (y : ℕ) → y < count s → Rests (scale_at k y) m (stood y)) where
-          product_by : (x y : ℕ) → x < count s → y < n → (p.is_basic y ≡ true) ⊎ (p.is_basic y ≡ false) → Over (row_den x) (2 ^ 62 * m) (p.coefficient x y *ℚ stood y)
-          product_by x y l h (inl b) = nought_over x y (2 ^ 62 * m) l b (stood y)
-          product_by x y l h (inr b) =
-              let u = column_seat (seat_at seats y) (sym (f.basic y h) ∙ b) in
-              let y_in : y < count s = subst (λ q. y < q) (sym whole) h in
-              rests_times (row_den x) (scale_at k y) m (den_some x l) (w.scales.some y y_in) (number_at x y u.0 l h u.1 (cases_lt x s.width)) (rests y y_in)
+        module _ (m : ℕ) (firsts : (y : ℕ) (z : ℤ) → y < count s → s.width ≤ y → P y z → unsigned_abs z * unsigned_abs (whole_at b (y - s.width)) ≤ m) (seconds : (y : ℕ) (z : ℤ) → y < count s → P y z → unsigned_abs z * scale_at k y ≤ m) where
+          product_by : (x y : ℕ) (r : ℚ) → x < count s → y < count s → ((c : ℕ) → seat_at seats y ≡ Column c → Over (row_den x) m (p.coefficient x y *ℚ r)) → Over (row_den x) m (p.coefficient x y *ℚ r)
+          product_by x y r h l there =
+              by_seat y m (row_den x) (p.coefficient x y *ℚ r) (den_some x h) (subst (λ q. y < q) whole l) (λ e. ap (λ u. u *ℚ r) (reached_tableau.empty x y e) ∙ nought_times r) there (cases_Bool (p.is_basic y))
 
-          pub products_over : (x y : ℕ) → x < count s → y < count s → Over (row_den x) (2 ^ 62 * m) (p.coefficient x y *ℚ stood y)
-          products_over x y h l = product_by x y h (subst (λ q. y < q) whole l) (cases_Bool (p.is_basic y))
+          first_by : (x y c : ℕ) (h : x < count s) (l : y < count s) → seat_at seats y ≡ Column c → ((rest s y).first ≡ int (pos 0)) ⊎ ((s.width ≤ y) × ((rest s y).first ≡ frac (whole_at b (y - s.width)) (scale_at k y))) → Over (row_den x) m (p.coefficient x y *ℚ (rest s y).first)
+          first_by x y c h l e (inl o) = at_nought (row_den x) (scale_at k y) m (P y) (den_some x h) (p.coefficient x y) (rest s y).first o
+          first_by x y c h l e (inr o) =
+              at_side (row_den x) (scale_at k y) m (P y) (den_some x h) (w.scales.some y l) (p.coefficient x y) (rest s y).first (whole_at b (y - s.width)) (λ z t. firsts y z l o.0 t)
+              (number_at x y c h (subst (λ q. y < q) whole l) e (cases_lt x s.width)) o.1
 
--- ---- where the nonbasic variables stand
-module _ (s : LinearSystem) (k : List ℕ) (a b : List ℤ) (w : IsWholeSystem s k a b) (most_side : ℕ) (g : HasSideBound s b most_side) where
-  first_side : (i : ℕ) → i < height s → Rests (scale_at k (s.width + i)) most_side (bound s (s.width + i)).first
-  first_side i h = at_scale (whole_at b i) (bound-first s i ∙ w.sides.sides i h) (g.sides.each i)
+          second_by : (x y c : ℕ) (h : x < count s) (l : y < count s) → seat_at seats y ≡ Column c → ((rest s y).second ≡ int (pos 0)) ⊎ ((rest s y).second ≡ int (negsuc 0)) → Over (row_den x) m (p.coefficient x y *ℚ (rest s y).second)
+          second_by x y c h l e (inl o) = at_nought (row_den x) (scale_at k y) m (P y) (den_some x h) (p.coefficient x y) (rest s y).second o
+          second_by x y c h l e (inr o) = at_minus_one (row_den x) (scale_at k y) m (P y) (den_some x h) (λ z t. seconds y z l t) (p.coefficient x y) (rest s y).second (number_at x y c h (subst (λ q. y < q) whole l) e (cases_lt x s.width)) o
 
-  strict_rests : (q : ℕ) (t : Bool) → Rests q most_side (cond t (int (negsuc 0)) (int (pos 0)))
-  strict_rests q true = at_whole (negsuc 0) refl (let l : 1 ≤ most_side = g.some_side in omega arith)
-  strict_rests q false = at_whole (pos 0) refl (omega arith)
+          first_products : (x y : ℕ) → x < count s → y < count s → Over (row_den x) m (p.coefficient x y *ℚ (rest s y).first)
+          first_products x y h l = product_by x y (rest s y).first h l (λ c e. first_by x y c h l e (first_rest s k a b w y l (cases_Bool (is_unknown s y)) (cases_lt y s.width)))
 
-  second_side : (i : ℕ) → i < height s → Rests (scale_at k (s.width + i)) most_side (bound s (s.width + i)).second
-  second_side i h = subst (Rests (scale_at k (s.width + i)) most_side) (sym (bound-second s i)) (strict_rests (scale_at k (s.width + i)) (row_at s i).strict)
+          second_products : (x y : ℕ) → x < count s → y < count s → Over (row_den x) m (p.coefficient x y *ℚ (rest s y).second)
+          second_products x y h l = product_by x y (rest s y).second h l (λ c e. second_by x y c h l e (second_rest s y l (cases_Bool (is_unknown s y)) (cases_lt y s.width)))
 
-  nought : (q : ℕ) → Rests q most_side (int (pos 0))
-  nought q = at_whole (pos 0) refl (omega arith)
+      -- ---- nothing formed there is wide, where one limit holds for all numbers
+      module _ (g : IsNarrow s n seats k a d v) (most_side : ℕ) (o : HasSideBound s b most_side) where
+        abbrev IsNarrowAt : ℕ → ℤ → Type 0
+        IsNarrowAt y z = unsigned_abs z * scale_at k y ≤ 2 ^ 62
 
-  by_kind : (y : ℕ) → y < count s → (is_unknown s y ≡ true) ⊎ (is_unknown s y ≡ false) → (y < s.width) ⊎ (s.width ≤ y) → Rests (scale_at k y) most_side (rest s y).first × Rests (scale_at k y) most_side (rest s y).second
-  by_kind y h (inl u) l = (subst (λ z. Rests (scale_at k y) most_side z.first) (sym (rest_unknown s y u)) (nought (scale_at k y)), subst (λ z. Rests (scale_at k y) most_side z.second) (sym (rest_unknown s y u)) (nought (scale_at k y)))
-  by_kind y h (inr u) (inl l) = absurd (both_ways (is_unknown s y) u (known y l))
-    where
-      known : (y : ℕ) → y < s.width → is_unknown s y ≡ true
-      known y l = lt-ltb y s.width l
-  by_kind y h (inr u) (inr l) =
-      let i = y - s.width in
-      let i_in : i < height s = omega arith in
-      let q : s.width + i ≡ y = omega arith in (
-        subst (λ z. Rests (scale_at k y) most_side z.first) (sym (rest_bound s y u)) (subst (λ z. Rests (scale_at k z) most_side (bound s z).first) q (first_side i i_in)),
-        subst (λ z. Rests (scale_at k y) most_side z.second) (sym (rest_bound s y u)) (subst (λ z. Rests (scale_at k z) most_side (bound s z).second) q (second_side i i_in)),
-      )
+        narrow_all : HoldAll s n seats a v IsNarrowAt
+        narrow_all = record { numbers = g.numbers; rows = g.rows }
 
-  pub rests_over : (y : ℕ) → y < count s → Rests (scale_at k y) most_side (rest s y).first × Rests (scale_at k y) most_side (rest s y).second
-  rests_over y h = by_kind y h (cases_Bool (is_unknown s y)) (cases_lt y s.width)
+        den_small : (x : ℕ) → x < count s → row_den x ≤ 2 ^ 62
+        unfolding row_den
+        den_small x h = g.dens x (subst (λ m. x < m) whole h)
+
+        narrow_firsts : (y : ℕ) (z : ℤ) → y < count s → s.width ≤ y → IsNarrowAt y z → unsigned_abs z * unsigned_abs (whole_at b (y - s.width)) ≤ 2 ^ 62 * most_side
+        narrow_firsts y z l h t = mul-le (unsigned_abs z) (unsigned_abs (whole_at b (y - s.width))) (2 ^ 62) most_side (less_with_scale (unsigned_abs z) (scale_at k y) (w.scales.some y l) t) (o.sides.each (y - s.width))
+
+        narrow_seconds : (y : ℕ) (z : ℤ) → y < count s → IsNarrowAt y z → unsigned_abs z * scale_at k y ≤ 2 ^ 62 * most_side
+        narrow_seconds y z l t = let h = o.some_side in omega arith
+
+        pub narrow_fits : PositionFits s p
+        narrow_fits =
+            norms_fit s p row_den den_some (λ x h. let t = den_small x h in omega arith) den_small (entries_over IsNarrowAt narrow_all (2 ^ 62) (λ y z t. t))
+            (2 ^ 62 * most_side) (let h = o.side_room in omega arith)
+            (first_products IsNarrowAt narrow_all (2 ^ 62 * most_side) narrow_firsts narrow_seconds)
+            (second_products IsNarrowAt narrow_all (2 ^ 62 * most_side) narrow_firsts narrow_seconds)
+
+      -- or where the numbers are judged row by row
+      module _ (top : ℕ) (small : d ≤ 2 ^ 62) (g : IsJudged s n seats k a b d v top) where
+        judged_all : HoldAll s n seats a v (HasRoomAt s k b top)
+        judged_all = record { numbers = g.unknowns; rows = g.sides }
+
+        den_below : (x : ℕ) → x < count s → row_den x < 2 ^ 127
+        unfolding row_den
+        den_below x h = let t : d * scale_at k x ≤ 2 ^ 62 * 2 ^ 40 = mul-le d (scale_at k x) (2 ^ 62) (2 ^ 40) small (w.scales.small x) in omega arith
+
+        some_variable : (y : ℕ) → y < count s → 0 < count s
+        some_variable y h = omega arith
+
+        judged_firsts : (y : ℕ) (z : ℤ) → y < count s → s.width ≤ y → HasRoomAt s k b top y z → unsigned_abs z * unsigned_abs (whole_at b (y - s.width)) ≤ 2 ^ 125 / count s
+        judged_firsts y z l h t = le-div (unsigned_abs z * unsigned_abs (whole_at b (y - s.width))) (2 ^ 125) (count s) (some_variable y l) (let q = t.first h in omega arith)
+
+        judged_seconds : (y : ℕ) (z : ℤ) → y < count s → HasRoomAt s k b top y z → unsigned_abs z * scale_at k y ≤ 2 ^ 125 / count s
+        judged_seconds y z l t = le-div (unsigned_abs z * scale_at k y) (2 ^ 125) (count s) (some_variable y l) (let q = t.second in omega arith)
+
+        all_room : (m : ℕ) → m * (2 ^ 125 / m) ≤ 2 ^ 126
+        all_room m = by (cases_lt 0 m)
+          where
+            by : (0 < m) ⊎ (m ≤ 0) → m * (2 ^ 125 / m) ≤ 2 ^ 126
+            by (inl h) = omega arith
+            by (inr h) = let e : m ≡ 0 = omega arith in subst (λ q. q * (2 ^ 125 / m) ≤ 2 ^ 126) (sym e) (omega arith)
+
+        top_some : (l : ℕ) → l < count s → d * scale_at k l ≤ top → 0 < top
+        top_some l h o = let t : 0 < d * scale_at k l = mul-pos f.some (w.scales.some l h) in omega arith
+
+        shared : (l : ℕ) → 0 < l → (2 ^ 125 / l) * l ≤ 2 ^ 125
+        shared l h = omega arith
+
+        pivot_room : (l : ℕ) → l < count s → ((y : ℕ) → y < count s → Over (d * scale_at k l) top (p.coefficient l y)) → d * scale_at k l ≤ top → HasPivotRoom s p row_den l
+        unfolding row_den
+        pivot_room l below row o = record {
+          top = top;
+          row = row;
+          row_den = o;
+          most = 2 ^ 125 / top;
+          entries = entries_over (HasRoomAt s k b top) judged_all (2 ^ 125 / top) (λ y z t. le-div (unsigned_abs z * scale_at k y) (2 ^ 125) top (top_some l below o) t.pivot);
+          room = shared top (top_some l below o);
+          dens = λ y h. g.dens y (subst (λ m. y < m) whole h);
+        }
+
+        pub judged_over : ((l e : ℕ) → turn s p ≡ goes_on l e → (y : ℕ) → y < count s → Over (d * scale_at k l) top (p.coefficient l y)) → ((l e : ℕ) → turn s p ≡ goes_on l e → d * scale_at k l ≤ top) → PositionFits s p
+        judged_over rows dens =
+            judged_fit s p row_den den_some den_below (2 ^ 125 / count s) (all_room (count s))
+            (first_products (HasRoomAt s k b top) judged_all (2 ^ 125 / count s) judged_firsts judged_seconds)
+            (second_products (HasRoomAt s k b top) judged_all (2 ^ 125 / count s) judged_firsts judged_seconds)
+            (λ l e t. pivot_room l (turn-at s p (goes_on l e) t).leaves.below (rows l e t) (dens l e t))
+
+-- ---- the row of a side, by the greatest numbers
+pub side_norm : (s : LinearSystem) (a v : List ℤ) (most_entry most : ℕ) → IsSmall most_entry a → IsSmall most v → (i c : ℕ) → unsigned_abs (side_cell s a v i c) ≤ s.width * (most_entry * most)
+side_norm s a v most_entry most entries small i c =
+    total_at_most s.width (most_entry * most) (λ j. whole_cell s.width a i j *ℤ whole_cell s.width v j c)
+    (λ j q. product_at_most (whole_cell s.width a i j) (whole_cell s.width v j c) most_entry most (entries.each (i * s.width + j)) (small.each (j * s.width + c)))
 
 -- ---- narrow by the norms
 module _ (s : LinearSystem) (k : List ℕ) (a b v : List ℤ) (most_entry most_side most_scale most : ℕ) (g : AreBounds s k a b most_entry most_side most_scale most) (small : IsSmall most v) where
-  side_norm : (i c : ℕ) → unsigned_abs (side_cell s a v i c) ≤ s.width * (most_entry * most)
-  side_norm i c =
-      total_at_most s.width (most_entry * most) (λ j. whole_cell s.width a i j *ℤ whole_cell s.width v j c)
-      (λ j q. product_at_most (whole_cell s.width a i j) (whole_cell s.width v j c) most_entry most (g.entries.each (i * s.width + j)) (small.each (j * s.width + c)))
-
   side_narrow : (i c y : ℕ) → unsigned_abs (side_cell s a v i c) * scale_at k y ≤ 2 ^ 62
-  side_narrow i c y = le_trans (le_trans (mul-le-mul_right (scale_at k y) (side_norm i c)) (mul-le-mul_left (s.width * (most_entry * most)) (g.scales y))) g.room
+  side_narrow i c y = le_trans (le_trans (mul-le-mul_right (scale_at k y) (side_norm s a v most_entry most g.entries small i c)) (mul-le-mul_left (s.width * (most_entry * most)) (g.scales y))) g.room
 
   pub narrow_by_norms : (n : ℕ) (seats : List Seat) (d : ℕ) → ((x : ℕ) → x < n → d * scale_at k x ≤ 2 ^ 62) → IsNarrow s n seats k a d v
   narrow_by_norms n seats d dens = record {

@@ -47,7 +47,7 @@ moved_over : (c f g t q z : ℤ) (d k : ℕ) (E L V C B T P : ℚ) → 0 < d →
     → V +ℚ C *ℚ ((B -ℚ T) *ℚ inv_ℚ P) ≡ frac z (unsigned_abs q)
 moved_over c f g t q z d k E L V C B T P some scale q_some qn en ln el ev ec eb et ep moved =
     (λ i. (ev ∙ times_one (frac c d)) i +ℚ ec i *ℚ (((λ j. eb j -ℚ et j) ∙ below_by g t d k some scale ∙ ap (λ u. neg_ℚ ((frac (t +ℤ neg_ℤ (g *ℤ pos d)) d *ℚ int (pos 1)) *ℚ inv_ℚ u)) (sym el)) i *ℚ inv_ℚ (ep i)))
-    ∙ scaled_changed_over c f (t +ℤ neg_ℤ (g *ℤ pos d)) q z d 1 (frac q d) E L some q_some refl qn en ln moved
+    ∙ scaled_changed_over c f (t +ℤ neg_ℤ (g *ℤ pos d)) q z d d (unsigned_abs q) 1 (frac q d) E L some q_some some refl refl qn en ln moved
     ∙ ap (λ u. frac u (unsigned_abs q)) (one_last z)
 
 module _ (s : LinearSystem) (p : Position) (r : Reached s p) (k : List ℕ) (a b : List ℤ) (w : IsWholeSystem s k a b) (n : ℕ) (whole : count s ≡ n) (seats : List Seat) (seated : IsSeated (height s) s.width n seats)

@@ -1,5 +1,5 @@
 -- Where the numbers of each row of a position lie over one denominator of that row and are small enough, no operation at that position is wide.
-use Rattle.std.proofs.Common.{◌≡◌, ◌≢◌, ℕ, zero, suc, ◌+◌, ◌*◌, ◌^◌, ◌<◌, ◌≤◌, false, ℤ, pos, negsuc, ◌+ℤ◌, ◌*ℤ◌, neg_ℤ, unsigned_abs, [], ◌∷◌, refl, sym, ◌∙◌, ap, subst, subst₂, arith, mul-pos, mul-le-mul_right, mul-le-mul_left, le_trans, lit<, zero-lt-suc}
+use Rattle.std.proofs.Common.{◌≡◌, ◌≢◌, ℕ, zero, suc, ◌+◌, ◌*◌, ◌^◌, ◌<◌, ◌≤◌, false, ℤ, pos, negsuc, ◌+ℤ◌, ◌*ℤ◌, neg_ℤ, unsigned_abs, [], ◌∷◌, refl, sym, ◌∙◌, ap, subst, subst₂, arith, mul-pos, mul-le-mul_right, mul-le-mul_left, le_trans, zero-lt-suc}
 use Rattle.std.proofs.lemmas.Bool.{both_ways}
 use Rattle.mpc_exact.specs.Rational.{ℚ, frac, int, ◌+ℚ◌, ◌*ℚ◌, neg_ℚ, inv_ℚ, upside_down}
 use Rattle.mpc_exact.proofs.Rational.{same_frac, frac-mul, frac-neg}
@@ -9,7 +9,7 @@ use Rattle.mpc_frac.specs.Fits.{FitsFrac, FitsSum}
 use Rattle.mpc_space.specs.Total.{total}
 use Rattle.mpc_space.proofs.Total.{total-zero, total-suc}
 use Rattle.mpc_rows.specs.LinearSystem.{LinearSystem}
-use Rattle.mpc_rows.specs.Run.{Position, goes_on, count, rest, entering_row}
+use Rattle.mpc_rows.specs.Run.{Position, goes_on, count, rest, turn, entering_row}
 use Rattle.mpc_rows.specs.RunWidth.{ValuesFit, EnteringFits, EntryFits, RowsFit, PositionFits}
 use Rattle.mpc_whole.specs.Norms.{Over}
 use Rattle.mpc_whole.specs.Whole.{turned}
@@ -64,30 +64,37 @@ over_fits {d} {m} some top o k = subst (λ z. FitsFrac z) (sym o.is) (fits_over 
 over_sum_fits : {d m k : ℕ} {x y : ℚ} → 0 < d → d < 2 ^ 127 → Over d m x → Over d k y → m + k < 2 ^ 127 → FitsSum x y
 over_sum_fits {d} {m} {k} some top o q h = subst₂ (λ u v. FitsSum u v) (sym o.is) (sym q.is) (fits_sum_over o.at q.at d some (let s = o.size in let t = q.size in omega arith) top)
 
-product_room : (n y b : ℕ) → n * b ≤ 2 ^ 62 → y < n → y * (2 ^ 62 * b) + 2 ^ 62 * b < 2 ^ 127
-product_room n y b h k = let e : suc y * b ≤ n * b = mul-le-mul_right b k in omega arith
+product_room : (n y r : ℕ) → n * r ≤ 2 ^ 126 → y < n → y * r + r < 2 ^ 127
+product_room n y r h k = let e : suc y * r ≤ n * r = mul-le-mul_right r k in omega arith
 
-one_room : (n y b : ℕ) → n * b ≤ 2 ^ 62 → y < n → 2 ^ 62 * b < 2 ^ 127
-one_room n y b h k = let e : suc y * b ≤ n * b = mul-le-mul_right b k in omega arith
+one_room : (n y r : ℕ) → n * r ≤ 2 ^ 126 → y < n → r < 2 ^ 127
+one_room n y r h k = let e : suc y * r ≤ n * r = mul-le-mul_right r k in omega arith
+
+top_room : (d top : ℕ) → 0 < d → d * top ≤ 2 ^ 125 → top < 2 ^ 127
+top_room d top some h = let e : 1 * top ≤ d * top = mul-le-mul_right top some in omega arith
 
 expanded : (z m d : ℤ) → z *ℤ (d *ℤ m) ≡ (z *ℤ m) *ℤ d
 expanded z m d = by_ring_ℤ (z ∷ m ∷ d ∷ []) (search int_reads depth 30) (search int_reads depth 30) tt
 
-module _ (s : LinearSystem) (p : Position) (d : ℕ → ℕ) (some : (x : ℕ) → x < count s → 0 < d x) (small : (x : ℕ) → x < count s → d x ≤ 2 ^ 62)
-    (entries : (x y : ℕ) → x < count s → y < count s → Over (d x) (2 ^ 62) (p.coefficient x y)) where
-  d_top : (x : ℕ) → x < count s → d x < 2 ^ 127
-  d_top x k = let h = small x k in omega arith
+-- the row of l and its denominator are at most a number, of whose products with what all rows have and with their denominators two have a sum
+-- that fits
+pub record HasPivotRoom (s : LinearSystem) (p : Position) (d : ℕ → ℕ) (l : ℕ) : Type 0 where
+  pub top : ℕ
+  pub row : (y : ℕ) → y < count s → Over (d l) top (p.coefficient l y)
+  pub row_den : d l ≤ top
+  pub most : ℕ
+  pub entries : (x y : ℕ) → x < count s → y < count s → Over (d x) most (p.coefficient x y)
+  pub room : most * top ≤ 2 ^ 125
+  pub dens : (x : ℕ) → x < count s → d x * top ≤ 2 ^ 125
 
+module _ (s : LinearSystem) (p : Position) (d : ℕ → ℕ) (some : (x : ℕ) → x < count s → 0 < d x) (d_top : (x : ℕ) → x < count s → d x < 2 ^ 127) where
   -- ---- values, where r says where the nonbasic variables stand
-  module _ (b : ℕ) (room : count s * b ≤ 2 ^ 62) (r : ℕ → ℚ) (products : (x y : ℕ) → x < count s → y < count s → Over (d x) (2 ^ 62 * b) (p.coefficient x y *ℚ r y)) (x : ℕ) (x_in : x < count s) where
-    product_over : (y : ℕ) → y < count s → Over (d x) (2 ^ 62 * b) (p.coefficient x y *ℚ r y)
-    product_over y h = products x y x_in h
-
-    sum_over : (y : ℕ) → y ≤ count s → Over (d x) (y * (2 ^ 62 * b)) (total y (λ z. p.coefficient x z *ℚ r z))
+  module _ (m : ℕ) (room : count s * m ≤ 2 ^ 126) (r : ℕ → ℚ) (products : (x y : ℕ) → x < count s → y < count s → Over (d x) m (p.coefficient x y *ℚ r y)) (x : ℕ) (x_in : x < count s) where
+    sum_over : (y : ℕ) → y ≤ count s → Over (d x) (y * m) (total y (λ z. p.coefficient x z *ℚ r z))
     sum_over zero h = record { at = pos 0; is = total-zero (λ z. p.coefficient x z *ℚ r z) ∙ sym (zero_over (d x) (some x x_in)); size = omega arith }
     sum_over (suc y) h =
         let o = sum_over y (omega arith) in
-        let q = product_over y h in
+        let q = products x y x_in h in
         record {
           at = o.at +ℤ q.at;
           is = total-suc y (λ z. p.coefficient x z *ℚ r z) ∙ (λ i. o.is i +ℚ q.is i) ∙ frac_sum o.at q.at (d x) (some x x_in);
@@ -95,35 +102,32 @@ module _ (s : LinearSystem) (p : Position) (d : ℕ → ℕ) (some : (x : ℕ) �
         }
 
     product_fits : (y : ℕ) → y < count s → FitsFrac (p.coefficient x y *ℚ r y)
-    product_fits y h = over_fits (some x x_in) (d_top x x_in) (product_over y h) (one_room (count s) y b room h)
+    product_fits y h = over_fits (some x x_in) (d_top x x_in) (products x y x_in h) (one_room (count s) y m room h)
 
     sum_fits : (y : ℕ) → y < count s → FitsSum (total y (λ z. p.coefficient x z *ℚ r z)) (p.coefficient x y *ℚ r y)
-    sum_fits y h = over_sum_fits (some x x_in) (d_top x x_in) (sum_over y (omega arith)) (product_over y h) (product_room (count s) y b room h)
+    sum_fits y h = over_sum_fits (some x x_in) (d_top x x_in) (sum_over y (omega arith)) (products x y x_in h) (product_room (count s) y m room h)
 
-  module _ (b : ℕ) (room : count s * b ≤ 2 ^ 62) (firsts : (x y : ℕ) → x < count s → y < count s → Over (d x) (2 ^ 62 * b) (p.coefficient x y *ℚ (rest s y).first)) (seconds : (x y : ℕ) → x < count s → y < count s → Over (d x) (2 ^ 62 * b) (p.coefficient x y *ℚ (rest s y).second)) where
-    pub norm_values : ValuesFit s (count s) p
-    norm_values = record {
+  module _ (m : ℕ) (room : count s * m ≤ 2 ^ 126) (firsts : (x y : ℕ) → x < count s → y < count s → Over (d x) m (p.coefficient x y *ℚ (rest s y).first)) (seconds : (x y : ℕ) → x < count s → y < count s → Over (d x) m (p.coefficient x y *ℚ (rest s y).second)) where
+    pub judged_values : ValuesFit s (count s) p
+    judged_values = record {
       values = λ x h basic. record {
         terms = λ y k free. record {
-          first_product = product_fits b room (λ z. (rest s z).first) firsts x h y k;
-          first_sum = sum_fits b room (λ z. (rest s z).first) firsts x h y k;
-          second_product = product_fits b room (λ z. (rest s z).second) seconds x h y k;
-          second_sum = sum_fits b room (λ z. (rest s z).second) seconds x h y k;
+          first_product = product_fits m room (λ z. (rest s z).first) firsts x h y k;
+          first_sum = sum_fits m room (λ z. (rest s z).first) firsts x h y k;
+          second_product = product_fits m room (λ z. (rest s z).second) seconds x h y k;
+          second_sum = sum_fits m room (λ z. (rest s z).second) seconds x h y k;
         };
       };
     }
 
   -- ---- a pivot
-  module _ (l e : ℕ) (g : Goes s p l e) where
-    at_l : (y : ℕ) → y < count s → Over (d l) (2 ^ 62) (p.coefficient l y)
-    at_l y h = entries l y g.leaves.below h
-
+  module _ (l e : ℕ) (g : Goes s p l e) (o : HasPivotRoom s p d l) where
     q : ℤ
-    q = (at_l e g.below).at
+    q = (o.row e g.below).at
 
     q_some : q ≢ pos 0
     unfolding q
-    q_some = over_not_zero (some l g.leaves.below) (at_l e g.below) g.eligible.some
+    q_some = over_not_zero (some l g.leaves.below) (o.row e g.below) g.eligible.some
 
     size : ℕ
     size = unsigned_abs q
@@ -132,29 +136,32 @@ module _ (s : LinearSystem) (p : Position) (d : ℕ → ℕ) (some : (x : ℕ) �
     unfolding size
     size_some = abs_some q q_some
 
-    size_small : size ≤ 2 ^ 62
+    size_small : size ≤ o.top
     unfolding size q
-    size_small = (at_l e g.below).size
+    size_small = (o.row e g.below).size
 
-    times_size : (x : ℚ) (o : Over (d l) (2 ^ 62) x) → x *ℚ inv_ℚ (p.coefficient l e) ≡ frac (turned q o.at) size
+    top_small : o.top < 2 ^ 127
+    top_small = top_room (d l) o.top (some l g.leaves.below) (o.dens l g.leaves.below)
+
+    times_size : (x : ℚ) (m : Over (d l) o.top x) → x *ℚ inv_ℚ (p.coefficient l e) ≡ frac (turned q m.at) size
     unfolding size q
-    times_size x o = (λ i. o.is i *ℚ inv_ℚ ((at_l e g.below).is i)) ∙ ratio_is o.at q (d l) (some l g.leaves.below) q_some
+    times_size x m = (λ i. m.is i *ℚ inv_ℚ ((o.row e g.below).is i)) ∙ ratio_is m.at q (d l) (some l g.leaves.below) q_some
 
     -- the new row of the entering variable
-    own : (y : ℕ) → y < count s → Over size (2 ^ 62) (neg_ℚ (p.coefficient l y) *ℚ inv_ℚ (p.coefficient l e))
+    own : (y : ℕ) → y < count s → Over size o.top (neg_ℚ (p.coefficient l y) *ℚ inv_ℚ (p.coefficient l e))
     own y h =
-        let o = at_l y h in
-        let m : Over (d l) (2 ^ 62) (neg_ℚ (p.coefficient l y)) = record { at = neg_ℤ o.at; is = ap neg_ℚ o.is ∙ frac-neg o.at (d l) (some l g.leaves.below); size = subst (λ n. n ≤ 2 ^ 62) (sym (abs-negated o.at)) o.size } in
-        record { at = turned q m.at; is = times_size (neg_ℚ (p.coefficient l y)) m; size = subst (λ n. n ≤ 2 ^ 62) (sym (abs_turned q m.at)) m.size }
+        let z = o.row y h in
+        let m : Over (d l) o.top (neg_ℚ (p.coefficient l y)) = record { at = neg_ℤ z.at; is = ap neg_ℚ z.is ∙ frac-neg z.at (d l) (some l g.leaves.below); size = subst (λ n. n ≤ o.top) (sym (abs-negated z.at)) z.size } in
+        record { at = turned q m.at; is = times_size (neg_ℚ (p.coefficient l y)) m; size = subst (λ n. n ≤ o.top) (sym (abs_turned q m.at)) m.size }
 
-    pub norm_entering : EnteringFits (count s) p l e
-    norm_entering = record { quotients = λ y h free apart. over_fits size_some (let k : size ≤ 2 ^ 62 = size_small in omega arith) (own y h) (lit< tt) }
+    pub judged_entering : EnteringFits (count s) p l e
+    judged_entering = record { quotients = λ y h free apart. over_fits size_some (let k : size ≤ o.top = size_small in let t : o.top < 2 ^ 127 = top_small in omega arith) (own y h) top_small }
 
     not_leaving : (y : ℕ) → p.is_basic y ≡ false → y ≡ l → ⊥
     not_leaving y free h = both_ways (p.is_basic l) (subst (λ z. p.is_basic z ≡ false) h free) g.leaves.violated.basic
 
-    own_entry : (y : ℕ) → y < count s → p.is_basic y ≡ false → (y ≡ e → ⊥) → Over size (2 ^ 62) (entering_row p l e y)
-    own_entry y h free apart = subst (Over size (2 ^ 62)) (sym (entering-other p l e y (not_leaving y free) apart)) (own y h)
+    own_entry : (y : ℕ) → y < count s → p.is_basic y ≡ false → (y ≡ e → ⊥) → Over size o.top (entering_row p l e y)
+    own_entry y h free apart = subst (Over size o.top) (sym (entering-other p l e y (not_leaving y free) apart)) (own y h)
 
     over_both : ℕ → ℕ
     over_both x = d x * size
@@ -165,62 +172,82 @@ module _ (s : LinearSystem) (p : Position) (d : ℕ → ℕ) (some : (x : ℕ) �
 
     both_top : (x : ℕ) → x < count s → over_both x < 2 ^ 127
     unfolding over_both
-    both_top x h =
-        let k : size ≤ 2 ^ 62 = size_small in
-        let m : d x * size ≤ 2 ^ 62 * 2 ^ 62 = le_trans (mul-le-mul_right size (small x h)) (mul-le-mul_left (2 ^ 62) k) in
-        omega arith
+    both_top x h = let m : d x * size ≤ 2 ^ 125 = le_trans (mul-le-mul_left (d x) size_small) (o.dens x h) in omega arith
+
+    change_room : o.most * o.top < 2 ^ 127
+    change_room = let h = o.room in omega arith
 
     module _ (x : ℕ) (x_in : x < count s) where
-      k_over : Over (d x) (2 ^ 62) (p.coefficient x e)
-      k_over = entries x e x_in g.below
+      k_over : Over (d x) o.most (p.coefficient x e)
+      k_over = o.entries x e x_in g.below
 
       -- c_xe / c_le, where l has a denominator of its own: (n_xe d_l) / (d_x |n_le|)
       inverse_over : inv_ℚ (p.coefficient l e) ≡ frac (turned q (pos (d l))) size
       unfolding size q
-      inverse_over = ap inv_ℚ (at_l e g.below).is ∙ inverse_is q (d l) (some l g.leaves.below) q_some
+      inverse_over = ap inv_ℚ (o.row e g.below).is ∙ inverse_is q (d l) (some l g.leaves.below) q_some
 
       pub leaving_fits : FitsFrac (p.coefficient x e *ℚ entering_row p l e l)
       unfolding over_both
       leaving_fits =
-          let o : Over (over_both x) (2 ^ 62 * 2 ^ 62) (p.coefficient x e *ℚ entering_row p l e l) =
+          let c : Over (over_both x) (o.most * o.top) (p.coefficient x e *ℚ entering_row p l e l) =
           record {
             at = k_over.at *ℤ turned q (pos (d l));
             is = ap (λ u. p.coefficient x e *ℚ u) (entering-at_leaving p l e) ∙ (λ i. k_over.is i *ℚ inverse_over i) ∙ frac-mul k_over.at (d x) (turned q (pos (d l))) size (some x x_in) size_some;
-            size = product_at_most k_over.at (turned q (pos (d l))) (2 ^ 62) (2 ^ 62) k_over.size (subst (λ n. n ≤ 2 ^ 62) (sym (abs_turned q (pos (d l)))) (small l g.leaves.below));
+            size = product_at_most k_over.at (turned q (pos (d l))) o.most o.top k_over.size (subst (λ n. n ≤ o.top) (sym (abs_turned q (pos (d l)))) o.row_den);
           }
           in
-          over_fits (both_some x x_in) (both_top x x_in) o (lit< tt)
+          over_fits (both_some x x_in) (both_top x x_in) c change_room
 
       module _ (y : ℕ) (y_in : y < count s) (free : p.is_basic y ≡ false) (apart : y ≡ e → ⊥) where
-        change : Over (over_both x) (2 ^ 62 * 2 ^ 62) (p.coefficient x e *ℚ entering_row p l e y)
+        change : Over (over_both x) (o.most * o.top) (p.coefficient x e *ℚ entering_row p l e y)
         unfolding over_both
         change =
-            let o = own_entry y y_in free apart in
+            let m = own_entry y y_in free apart in
             record {
-              at = k_over.at *ℤ o.at;
-              is = (λ i. k_over.is i *ℚ o.is i) ∙ frac-mul k_over.at (d x) o.at size (some x x_in) size_some;
-              size = product_at_most k_over.at o.at (2 ^ 62) (2 ^ 62) k_over.size o.size;
+              at = k_over.at *ℤ m.at;
+              is = (λ i. k_over.is i *ℚ m.is i) ∙ frac-mul k_over.at (d x) m.at size (some x x_in) size_some;
+              size = product_at_most k_over.at m.at o.most o.top k_over.size m.size;
             }
 
-        old : Over (over_both x) (2 ^ 62 * 2 ^ 62) (p.coefficient x y)
+        old : Over (over_both x) (o.most * o.top) (p.coefficient x y)
         unfolding over_both
         old =
-            let o = entries x y x_in y_in in
+            let m = o.entries x y x_in y_in in
             record {
-              at = o.at *ℤ pos size;
-              is = o.is ∙ same_frac o.at (d x) (o.at *ℤ pos size) (d x * size) (some x x_in) (mul-pos (some x x_in) size_some) (expanded o.at (pos size) (pos (d x)));
-              size = product_at_most o.at (pos size) (2 ^ 62) (2 ^ 62) o.size size_small;
+              at = m.at *ℤ pos size;
+              is = m.is ∙ same_frac m.at (d x) (m.at *ℤ pos size) (d x * size) (some x x_in) (mul-pos (some x x_in) size_some) (expanded m.at (pos size) (pos (d x)));
+              size = product_at_most m.at (pos size) o.most o.top m.size size_small;
             }
 
         pub entry_fits : EntryFits p l e x y
-        entry_fits = record { product = over_fits (both_some x x_in) (both_top x x_in) change (lit< tt); sum = over_sum_fits (both_some x x_in) (both_top x x_in) old change (lit< tt) }
+        entry_fits = record {
+          product = over_fits (both_some x x_in) (both_top x x_in) change change_room;
+          sum = over_sum_fits (both_some x x_in) (both_top x x_in) old change (let h = o.room in omega arith);
+        }
 
-    pub norm_rows : RowsFit (count s) p l e
-    norm_rows = record { rows = λ x h basic apart other. record { leaving = leaving_fits x h; entries = λ y k free m. entry_fits x h y k free m } }
+    pub judged_rows : RowsFit (count s) p l e
+    judged_rows = record { rows = λ x h basic apart other. record { leaving = leaving_fits x h; entries = λ y k free m. entry_fits x h y k free m } }
 
-  pub norms_fit : (b : ℕ) → count s * b ≤ 2 ^ 62 → ((x y : ℕ) → x < count s → y < count s → Over (d x) (2 ^ 62 * b) (p.coefficient x y *ℚ (rest s y).first)) → ((x y : ℕ) → x < count s → y < count s → Over (d x) (2 ^ 62 * b) (p.coefficient x y *ℚ (rest s y).second)) → PositionFits s p
-  norms_fit b room firsts seconds = record {
-    values = norm_values b room firsts seconds;
-    entering = λ l e h. norm_entering l e (turn-at s p (goes_on l e) h);
-    rows = λ l e h. norm_rows l e (turn-at s p (goes_on l e) h);
+  pub judged_fit : (m : ℕ) → count s * m ≤ 2 ^ 126 → ((x y : ℕ) → x < count s → y < count s → Over (d x) m (p.coefficient x y *ℚ (rest s y).first)) → ((x y : ℕ) → x < count s → y < count s → Over (d x) m (p.coefficient x y *ℚ (rest s y).second))
+      → ((l e : ℕ) → turn s p ≡ goes_on l e → HasPivotRoom s p d l) → PositionFits s p
+  judged_fit m room firsts seconds pivots = record {
+    values = judged_values m room firsts seconds;
+    entering = λ l e h. judged_entering l e (turn-at s p (goes_on l e) h) (pivots l e h);
+    rows = λ l e h. judged_rows l e (turn-at s p (goes_on l e) h) (pivots l e h);
   }
+
+  -- all numbers and denominators at most 2^62
+  pub norms_fit : ((x : ℕ) → x < count s → d x ≤ 2 ^ 62) → ((x y : ℕ) → x < count s → y < count s → Over (d x) (2 ^ 62) (p.coefficient x y))
+      → (m : ℕ) → count s * m ≤ 2 ^ 126 → ((x y : ℕ) → x < count s → y < count s → Over (d x) m (p.coefficient x y *ℚ (rest s y).first)) → ((x y : ℕ) → x < count s → y < count s → Over (d x) m (p.coefficient x y *ℚ (rest s y).second)) → PositionFits s p
+  norms_fit small entries m room firsts seconds = judged_fit m room firsts seconds (λ l e h. by l (turn-at s p (goes_on l e) h).leaves.below)
+    where
+      by : (l : ℕ) → l < count s → HasPivotRoom s p d l
+      by l below = record {
+        top = 2 ^ 62;
+        row = λ y k. entries l y below k;
+        row_den = small l below;
+        most = 2 ^ 62;
+        entries = entries;
+        room = omega arith;
+        dens = λ x k. let t = small x k in omega arith;
+      }

@@ -10,16 +10,21 @@ use Rattle.mpc_rows.specs.Run.{Position, IsTableau, count, pivot}
 use Rattle.mpc_whole.specs.declared.variables.Seat.{Seat}
 use Rattle.mpc_whole.specs.declared.variables.Seat.TheVariants.{Row, Column}
 use Rattle.mpc_whole.specs.Table.{seat_at, in_row, IsSeated}
-use Rattle.mpc_whole.specs.Whole.{whole_at, whole_cell, scale_at, IsWholeSystem, IsForm, turned, IsSideRow, IsWholePivot}
+use Rattle.mpc_whole.specs.Judged.{IsReducedPivot}
+use Rattle.mpc_whole.specs.Whole.{whole_at, whole_cell, scale_at, IsWholeSystem, IsForm, IsSideRow, IsWholePivot}
 use Rattle.mpc_whole.proofs.Ends.{Reached}
 use Rattle.mpc_whole.proofs.Seats.{seats_apart, column_same}
 use Rattle.mpc_whole.proofs.Exchanged.{at_e, at_l, at_other, other_column_of}
 use Rattle.mpc_whole.proofs.Pivot.{update, basic-at_leaving, basic-at_entering, basic-other}
 use Rattle.mpc_whole.proofs.Turn.{Goes}
 use Rattle.mpc_whole.proofs.WholeSums.{times_int, zero_over}
-use Rattle.mpc_whole.proofs.WholeNorms.{ratio_is, abs_some}
-use Rattle.mpc_whole.proofs.WholeChanges.{at_leaving, at_another, over_scale, scale_not_zero, scaled_leave, scaled_changed_over}
+use Rattle.mpc_whole.proofs.WholeNorms.{ratio_is}
+use Rattle.mpc_whole.proofs.WholeChanges.{at_leaving, at_another, over_scale, scale_not_zero, scaled_leave, turned_over, scaled_changed_over, size_some as some_over}
 use Rattle.mpc_whole.proofs.WholeForm.{reached_tableau, side_entry}
+
+-- a pivot by which nothing is taken out
+pub whole_reduced : (width d : ℕ) (old new x : List ℤ) (e : ℕ) → 0 < d → IsWholePivot width d old new x e → IsReducedPivot width d old new x e (unsigned_abs (whole_at x e))
+whole_reduced width d old new x e some h = record { factor = d; some = some; over = refl; column = λ j l. ap (λ z. z *ℤ pos d) (h.column j l); others = h.others }
 
 nought_there : (E L : ℚ) → (int (pos 0) *ℚ E) *ℚ L ≡ int (pos 0)
 nought_there E L = by_ring (E ∷ L ∷ []) (search reads depth 30) (search reads depth 30) tt
@@ -82,31 +87,35 @@ module _ (s : LinearSystem) (p : Position) (r : Reached s p) (k : List ℕ) (a b
   e_not_l : e ≡ s.width + i → ⊥
   e_not_l h = both_ways (p.is_basic e) g.eligible.free (subst (λ z. p.is_basic z ≡ true) (sym h) g.leaves.violated.basic)
 
-  module _ (new : List ℤ) (piv : IsWholePivot s.width d v new x c₀) where
+  module _ (new : List ℤ) (size : ℕ) (piv : IsReducedPivot s.width d v new x c₀ size) where
+    pub size_some : 0 < size
+    size_some = some_over (whole_at x c₀) d piv.factor size f.some pivot_number_some piv.some piv.over
+
     at_new : (j y c : ℕ) → j < s.width → y < n → (y ≡ e) ⊎ (y ≡ e → ⊥) → (y ≡ s.width + i) ⊎ (y ≡ s.width + i → ⊥) → seat_at (set (set seats (s.width + i) (Column c₀)) e (Row r₀)) y ≡ Column c →
-        (pivot p (s.width + i) e).coefficient j y ≡ frac (whole_cell s.width new j c *ℤ pos (scale_at k y)) (unsigned_abs (whole_at x c₀))
+        (pivot p (s.width + i) e).coefficient j y ≡ frac (whole_cell s.width new j c *ℤ pos (scale_at k y)) size
     at_new j y c h l (inl q) m o = absurd (seats_apart r₀ c (sym (at_e (height s) s.width n seats [] seated (s.width + i) e r₀ c₀ l_in e_in sl se) ∙ ap (seat_at (set (set seats (s.width + i) (Column c₀)) e (Row r₀))) (sym q) ∙ o))
     at_new j y c h l (inr q) (inl m) o =
         let cc : c₀ ≡ c = column_same c₀ c (sym (at_l (height s) s.width n seats [] seated (s.width + i) e r₀ c₀ l_in e_in sl se) ∙ ap (seat_at (set (set seats (s.width + i) (Column c₀)) e (Row r₀))) (sym m) ∙ o) in
-        let there : (pivot p (s.width + i) e).coefficient j (s.width + i) ≡ frac (whole_cell s.width new j c₀ *ℤ pos (scale_at k (s.width + i))) (unsigned_abs (whole_at x c₀)) =
+        let there : (pivot p (s.width + i) e).coefficient j (s.width + i) ≡ frac (whole_cell s.width new j c₀ *ℤ pos (scale_at k (s.width + i))) size =
         up j (s.width + i)
         ∙ at_leaving (p.coefficient j (s.width + i)) (p.coefficient j e) (unit (s.width + i) (s.width + i)) (p.coefficient (s.width + i) (s.width + i)) (inv_ℚ (p.coefficient (s.width + i) e))
         (t.empty j (s.width + i) g.leaves.violated.basic) (unit-same (s.width + i) (s.width + i) refl) (t.empty (s.width + i) (s.width + i) g.leaves.violated.basic)
         ∙ (λ z. entering_is j h z *ℚ inv_ℚ (pivot_is z))
         ∙ scaled_leave (frac (whole_cell s.width v j c₀) d) (frac (whole_at x c₀) d) E L pivot_some E_some L_some
-        ∙ ap (λ u. u *ℚ int (pos (scale_at k (s.width + i)))) (ratio_is (whole_cell s.width v j c₀) (whole_at x c₀) d f.some pivot_number_some)
-        ∙ times_int (turned (whole_at x c₀) (whole_cell s.width v j c₀)) (pos (scale_at k (s.width + i))) (unsigned_abs (whole_at x c₀)) (abs_some (whole_at x c₀) pivot_number_some)
-        ∙ ap (λ z. frac (z *ℤ pos (scale_at k (s.width + i))) (unsigned_abs (whole_at x c₀))) (sym (piv.column j h))
+        ∙ ap (λ u. u *ℚ int (pos (scale_at k (s.width + i))))
+        (ratio_is (whole_cell s.width v j c₀) (whole_at x c₀) d f.some pivot_number_some
+        ∙ turned_over (whole_at x c₀) d piv.factor size f.some pivot_number_some piv.some piv.over (whole_cell s.width v j c₀) (whole_cell s.width new j c₀) (piv.column j h))
+        ∙ times_int (whole_cell s.width new j c₀) (pos (scale_at k (s.width + i))) size size_some
         in
         ap ((pivot p (s.width + i) e).coefficient j) m ∙ there
-        ∙ (λ z. frac (whole_cell s.width new j (cc z) *ℤ pos (scale_at k (sym m z))) (unsigned_abs (whole_at x c₀)))
+        ∙ (λ z. frac (whole_cell s.width new j (cc z) *ℤ pos (scale_at k (sym m z))) size)
     at_new j y c h l (inr q) (inr m) o =
         let old : seat_at seats y ≡ Column c = sym (at_other (height s) s.width n seats [] seated (s.width + i) e r₀ c₀ l_in e_in sl se y q m) ∙ o in
         let apart : c ≡ c₀ → ⊥ = other_column_of (height s) s.width n seats [] seated (s.width + i) e r₀ c₀ l_in e_in sl se y c l old q in
         up j y
         ∙ at_another (p.coefficient j y) (p.coefficient j e) (unit (s.width + i) y) (p.coefficient (s.width + i) y) (inv_ℚ (p.coefficient (s.width + i) e)) (unit-other (s.width + i) y (λ z. m (sym z)))
         ∙ (λ z. cell_is j y c h l old z +ℚ entering_is j h z *ℚ (neg_ℚ (row_at_column y c l old z) *ℚ inv_ℚ (pivot_is z)))
-        ∙ scaled_changed_over (whole_cell s.width v j c) (whole_cell s.width v j c₀) (whole_at x c) (whole_at x c₀) (whole_cell s.width new j c) d (scale_at k y) (frac (whole_at x c₀) d) E L f.some pivot_number_some refl pivot_some E_some L_some
+        ∙ scaled_changed_over (whole_cell s.width v j c) (whole_cell s.width v j c₀) (whole_at x c) (whole_at x c₀) (whole_cell s.width new j c) d piv.factor size (scale_at k y) (frac (whole_at x c₀) d) E L f.some pivot_number_some piv.some piv.over refl pivot_some E_some L_some
         (piv.others j c h (seated.columns y c l old).0 apart)
 
     basic_new : (y : ℕ) → y < n → (y ≡ e) ⊎ (y ≡ e → ⊥) → (y ≡ s.width + i) ⊎ (y ≡ s.width + i → ⊥) → (pivot p (s.width + i) e).is_basic y ≡ in_row (seat_at (set (set seats (s.width + i) (Column c₀)) e (Row r₀)) y)
@@ -120,9 +129,9 @@ module _ (s : LinearSystem) (p : Position) (r : Reached s p) (k : List ℕ) (a b
         basic-other p (s.width + i) e y m q ∙ f.basic y h
         ∙ sym (ap in_row (at_other (height s) s.width n seats [] seated (s.width + i) e r₀ c₀ l_in e_in sl se y q m))
 
-    pub pivot_form : IsForm s n (set (set seats (s.width + i) (Column c₀)) e (Row r₀)) k (unsigned_abs (whole_at x c₀)) new (pivot p (s.width + i) e)
+    pub pivot_form : IsForm s n (set (set seats (s.width + i) (Column c₀)) e (Row r₀)) k size new (pivot p (s.width + i) e)
     pivot_form = record {
-      some = abs_some (whole_at x c₀) pivot_number_some;
+      some = size_some;
       basic = λ y h. basic_new y h (cases_eq y e) (cases_eq y (s.width + i));
       entries = λ j y c h l o. at_new j y c h l (cases_eq y e) (cases_eq y (s.width + i)) o;
     }

@@ -80,10 +80,10 @@ difference_small v k x q hv hk hx hq =
 products_turned : (t g d : ℤ) → t +ℤ (g *ℤ neg_ℤ d) ≡ t +ℤ neg_ℤ (g *ℤ d)
 products_turned t g d = by_ring_ℤ (t ∷ g ∷ d ∷ []) (search int_reads depth 30) (search int_reads depth 30) tt
 
-pub excess_is : (g : ℤ) (den : ℕ) (whole qs n p t r m : ℤ) → FitsSigned w64 g → FitsSigned w64 qs → FitsSigned w64 n → mag p < 2 ^ 127 → mag t < 2 ^ 127 → mag r < 2 ^ 127 → mag m < 2 ^ 63 →
-    qs ≡ pos den → n ≡ neg_ℤ (to_z w64 (of_z w64 qs)) → p ≡ to_z w64 (of_z w64 g) *ℤ to_z w64 (of_z w64 n) → t ≡ whole → r ≡ to_z w128 (of_z w128 t) +ℤ to_z w128 (of_z w128 p) → m ≡ to_z w128 (of_z w128 r) →
-    to_z w64 (of_z w64 m) ≡ whole +ℤ neg_ℤ (g *ℤ pos den)
-excess_is g den whole qs n p t r m fg fq fn mp mt mr mm e h a b s w =
+pub excess_is : (g : ℤ) (den : ℕ) (whole qs n p t r : ℤ) → FitsSigned w64 g → FitsSigned w64 qs → FitsSigned w64 n → mag p < 2 ^ 127 → mag t < 2 ^ 127 → mag r < 2 ^ 127 →
+    qs ≡ pos den → n ≡ neg_ℤ (to_z w64 (of_z w64 qs)) → p ≡ to_z w64 (of_z w64 g) *ℤ to_z w64 (of_z w64 n) → t ≡ whole → r ≡ to_z w128 (of_z w128 t) +ℤ to_z w128 (of_z w128 p) →
+    to_z w128 (of_z w128 r) ≡ whole +ℤ neg_ℤ (g *ℤ pos den)
+excess_is g den whole qs n p t r fg fq fn mp mt mr e h a b s =
     let turned : n ≡ neg_ℤ (pos den) = h ∙ ap neg_ℤ (to_z-of_z w64 qs fq ∙ e) in
     let second : p ≡ g *ℤ neg_ℤ (pos den) = both_back p g n fg fn a ∙ ap (λ z. g *ℤ z) turned in
-    back64 m mm ∙ w ∙ back128 r mr ∙ s ∙ (λ i. (back128 t mt ∙ b) i +ℤ (back128 p mp ∙ second) i) ∙ products_turned whole g (pos den)
+    back128 r mr ∙ s ∙ (λ i. (back128 t mt ∙ b) i +ℤ (back128 p mp ∙ second) i) ∙ products_turned whole g (pos den)

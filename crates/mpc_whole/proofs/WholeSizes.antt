@@ -36,11 +36,11 @@ opening_values s c_1 c_2 h_1 h_2 = record {
 }
 
 module _ (s : LinearSystem) (k : List ℕ) where
-  pub wider_form : (p : Position) (m d most most_den : ℕ) → m ≤ most → d ≤ most_den → IsSmallForm s k p m d → IsSmallForm s k p most most_den
+  abbrev pub wider_form : (p : Position) (m d most most_den : ℕ) → m ≤ most → d ≤ most_den → IsSmallForm s k p m d → IsSmallForm s k p most most_den
   wider_form p m d most most_den h l z = record { seats = z.seats; den = z.den; numbers = z.numbers; each = z.each; form = z.form; small = record { each = λ i. le_trans (z.small.each i) h }; den_small = le_trans z.den_small l }
 
   -- seated numbers that stand for a position
-  pub small_form : (n : ℕ) (seats : List Seat) → IsSeated (height s) s.width n seats → (den : ℕ) (v : List ℤ) (p : Position) → IsForm s n seats k den v p → (most most_den : ℕ) → IsSmall most v → den ≤ most_den → IsSmallForm s k p most most_den
+  abbrev pub small_form : (n : ℕ) (seats : List Seat) → IsSeated (height s) s.width n seats → (den : ℕ) (v : List ℤ) (p : Position) → IsForm s n seats k den v p → (most most_den : ℕ) → IsSmall most v → den ≤ most_den → IsSmallForm s k p most most_den
   small_form n seats seated den v p f most most_den h l =
       let all : n ≡ count s = seated.count in
       record { seats = seats; den = den; numbers = v; each = seated.each ∙ all; form = subst (λ m. IsForm s m seats k den v p) all f; small = h; den_small = l }
@@ -49,7 +49,7 @@ module _ (s : LinearSystem) (k : List ℕ) where
   pub small_after : (q m d most most_den : ℕ) → m ≤ most → d ≤ most_den → AreSmallBefore s k q m d → IsSmallForm s k (position s q) most most_den → AreSmallBefore s k (suc q) most most_den
   small_after q m d most most_den h l b z = record { each = λ i below. ⊎_elim (λ e. subst (λ j. IsSmallForm s k (position s j) most most_den) (sym e) z) (λ e. wider_form (position s i) m d most most_den h l (b.each i (omega arith))) (cases_eq i q) }
 
-  pub opening_underway : (n : ℕ) (seats : List Seat) (v : List ℤ) → IsForm s n seats k 1 v (opening s) → (c_1 c_2 : List ℤ) → ((j : ℕ) → whole_at c_1 j ≡ pos 0) → ((j : ℕ) → whole_at c_2 j ≡ pos 0) → IsUnderway s n seats k 1 v c_1 c_2 0 0 s.width
+  unfoldable pub opening_underway : (n : ℕ) (seats : List Seat) (v : List ℤ) → IsForm s n seats k 1 v (opening s) → (c_1 c_2 : List ℤ) → ((j : ℕ) → whole_at c_1 j ≡ pos 0) → ((j : ℕ) → whole_at c_2 j ≡ pos 0) → IsUnderway s n seats k 1 v c_1 c_2 0 0 s.width
   opening_underway n seats v f c_1 c_2 h_1 h_2 = record {
     stands = record { at = 0; order = omega arith; before = λ q h. absurd (omega arith); form = subst (IsForm s n seats k 1 v) (sym (position-zero s)) f };
     values = opening_values s c_1 c_2 h_1 h_2;

@@ -11,3 +11,5 @@ pub mod Running
 pub mod Found
 pub mod RunEnd
 pub mod OverLaws
+pub mod Judged
+pub mod Lists

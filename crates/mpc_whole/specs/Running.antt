@@ -5,12 +5,16 @@ use Rattle.mpc_whole.specs.declared.variables.Seat.{Seat}
 use Rattle.mpc_whole.specs.Table.{IsSeated, AreNonbasic}
 use Rattle.mpc_whole.specs.Whole.{whole_total, whole_at, whole_cell, AreScales, IsSmall, HasRoom, HasBounds, IsWholeSystem, IsNarrow}
 
--- the numbers of a system of so many variables, with bounds of them and of what a position may have
-pub record IsFrame (s : LinearSystem) (n : ℕ) (k : List ℕ) (a b : List ℤ) (most : ℕ) : Type 0 where
+-- the numbers of a system of so many variables, with room for sums of their products
+pub record HasNumbers (s : LinearSystem) (n : ℕ) (k : List ℕ) (a b : List ℤ) : Type 0 where
   pub count : n ≡ s.width + height s
   pub whole : IsWholeSystem s k a b
-  pub bounds : HasBounds s k a b most
   pub room : HasRoom s.width (2 ^ 62) a
+
+-- with bounds of them and of what a position may have too
+pub record IsFrame (s : LinearSystem) (n : ℕ) (k : List ℕ) (a b : List ℤ) (most : ℕ) : Type 0 where
+  pub numbers : HasNumbers s n k a b
+  pub bounds : HasBounds s k a b most
   pub most_small : most ≤ 2 ^ 62
 
 -- both parts of the values of the unknowns, in small numbers

@@ -121,10 +121,10 @@ pub record IsRowOf (n : ℕ) (seats : List Seat) (k : List ℕ) (p : Position) (
   pub some : (y : ℕ) → y < n → 0 < scale_at k y
   pub coefficients : (y c : ℕ) → y < n → seat_at seats y ≡ Column c → p.coefficient l y ≡ frac (whole_at x c *ℤ pos (scale_at k y)) (den * scale_at k l)
 
--- z is the number of row j and column c after a pivot
-pub record IsChanged (width den : ℕ) (old x : List ℤ) (j e c : ℕ) (z : ℤ) : Type 0 where
-  pub entering : c ≡ e → z ≡ turned (whole_at x e) (whole_cell width old j e)
-  pub other : (c ≡ e → ⊥) → z *ℤ pos den ≡ (whole_cell width old j c *ℤ pos (unsigned_abs (whole_at x e))) +ℤ neg_ℤ (turned (whole_at x e) (whole_cell width old j e) *ℤ whole_at x c)
+-- z times a factor is the number of row j and column c after a pivot, over the product of the denominator before it and the size of the pivot
+pub record IsChanged (width factor den : ℕ) (old x : List ℤ) (j e c : ℕ) (z : ℤ) : Type 0 where
+  pub entering : c ≡ e → z *ℤ pos factor ≡ turned (whole_at x e) (whole_cell width old j e) *ℤ pos den
+  pub other : (c ≡ e → ⊥) → z *ℤ pos factor ≡ (whole_cell width old j c *ℤ pos (unsigned_abs (whole_at x e))) +ℤ neg_ℤ (turned (whole_at x e) (whole_cell width old j e) *ℤ whole_at x c)
 
 -- bounds of the numbers of a system, and of what a position may have
 pub record HasBounds (s : LinearSystem) (k : List ℕ) (a b : List ℤ) (most : ℕ) : Type 0 where

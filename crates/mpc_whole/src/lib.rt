@@ -3,8 +3,12 @@
 
 mod divisors;
 mod frames;
+mod judge;
+mod judged;
 mod laws;
+mod lists;
 mod numbers;
+mod reduced;
 mod variables;
 mod whole;
 mod whole_ends;
@@ -16,7 +20,9 @@ mod whole_turn;
 mod whole_values;
 
 pub use divisors::Divisor;
+pub use judged::judged_run;
 pub use laws::over_laws;
+pub use lists::RunLists;
 use mpc_rows::{Multipliers, PairPoint};
 pub use numbers::{Standing, zero, zero_pairs, zeros};
 pub use variables::{Seat, column_of, is_basic, is_unknown, opening_seats, row_of};

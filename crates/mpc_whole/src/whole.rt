@@ -9,7 +9,7 @@ ghost use Rattle.mpc_whole.specs.declared.variables.Seat.TheVariants.{Column};
 ghost use Rattle.mpc_whole.specs.Table.{seat_at, in_row, IsSeated, AreNonbasic};
 ghost use Rattle.mpc_whole.specs.Found.{IfEnded, IfNext};
 ghost use Rattle.mpc_whole.specs.Underway.{IsUnderway, HasEnded};
-ghost use Rattle.mpc_whole.specs.Running.{IsFrame, IsHeld};
+ghost use Rattle.mpc_whole.specs.Running.{HasNumbers, IsFrame, IsHeld};
 ghost use Rattle.mpc_whole.specs.Whole.{IsNarrow, IsSmall, IsWholeSystem, HasBounds, HasRoom, HasBasis, IsRowOf, side_cell, IsSideRow, IsSwapped};
 
 use crate::divisors::Divisor;
@@ -21,7 +21,7 @@ use crate::whole_turn::{entering, leaving, leaving_row};
 use crate::whole_values::{Pivot, follow};
 
 /// Exchanges the seats of l and e, so that l is the variable of e's column.
-fn swap(seats: &mut [Seat], nonbasic: &mut [usize], l: usize, e: usize, c: usize)
+pub(crate) fn swap(seats: &mut [Seat], nonbasic: &mut [usize], l: usize, e: usize, c: usize)
     requires leaves_below { l < length seats.old }
     requires enters_below { e < length seats.old }
     requires column_below { c < length nonbasic.old }
@@ -45,7 +45,7 @@ fn pick(
     v: &[i64],
     l: usize,
 ) -> Option<usize>
-    requires frame { IsFrame system.now frame.now.n frame.now.scales.now frame.now.a.now frame.now.b.now frame.now.most }
+    requires numbers { HasNumbers system.now frame.now.n frame.now.scales.now frame.now.a.now frame.now.b.now }
     requires columns { length nonbasic.now ≡ system.now.width }
     requires square { length v.now ≡ system.now.width * system.now.width }
     requires row_size { length x.old ≡ system.now.width }
@@ -71,25 +71,27 @@ pub enum Ending {
 }
 
 /// Where a run stands: its denominator, the greatest size of a number there, the greatest number and the
-/// greatest denominator of the positions before, and the first variable that may leave.
+/// greatest denominator of the positions before, the greatest product of a number there or a denominator with one
+/// of the row that left, as far as that is kept, and the first variable that may leave.
 #[derive(Clone, Copy, Drop)]
 pub struct Place {
     pub den: u64,
     pub own: u64,
     pub greatest: u64,
     pub greatest_den: u64,
+    pub product: u128,
     pub first: usize,
 }
 
 /// What one turn of the run finds.
-enum Found {
+pub(crate) enum Found {
     Ended(Ending),
     /// A pivot, and where the run stands after it.
     Next(Place),
 }
 
 /// The greater of two numbers.
-fn greater(a: u64, b: u64) -> u64
+pub(crate) fn greater(a: u64, b: u64) -> u64
     ensures first { a ≤ result }
     ensures second { b ≤ result }
 {
@@ -141,12 +143,13 @@ fn step(
         own,
         greatest: greater(place.greatest, place.own),
         greatest_den: greater(place.greatest_den, place.den),
+        product: place.product,
         first: width,
     }))
 }
 
 /// The most steps that are made on whole numbers.
-const STEPS: u32 = 1_000_000;
+pub(crate) const STEPS: u32 = 1_000_000;
 
 /// The run from a position to its end: where it stands there, and what it ends with. The lists have the
 /// values of the unknowns at the position, and at the end those there.

@@ -8,13 +8,13 @@ ghost use Rattle.mpc_rows.specs.Run.{Position, multiplier, turn, is_refuted, las
 ghost use Rattle.mpc_whole.specs.Table.{seat_at, in_row, IsSeated};
 ghost use Rattle.mpc_whole.specs.RunEnd.{IsValues, IsMultipliers};
 ghost use Rattle.mpc_whole.specs.Running.{IsRefuting};
-ghost use Rattle.mpc_whole.specs.Whole.{IsWholeSystem, IsNarrow, IsForm, IsSmall, HasRoom, HasBasis, IsRowOf, AreValues, ArePairs};
+ghost use Rattle.mpc_whole.specs.Whole.{IsWholeSystem, IsForm, IsSmall, HasRoom, HasBasis, IsRowOf, AreValues, ArePairs};
 
 use crate::numbers::{Standing, zero};
 use crate::variables::{Seat, column_of, is_basic};
 use crate::whole_numbers::{negative, product, signed, widened};
 use crate::whole_systems::WholeSystem;
-use crate::whole_turn::leaving_row;
+use crate::whole_turn::small_side_row;
 use mpc_frac::Frac;
 
 /// The fraction `z / den`, if it has 128 bits.
@@ -151,11 +151,10 @@ pub fn last_multipliers(
     requires square { length v.now ≡ system.now.width * system.now.width }
     requires small { IsSmall (2 ^ 62) v.now }
     requires den_small { den ≤ 2 ^ 62 }
-    requires narrow { IsNarrow system.now n seats.now scales.now a.now den v.now }
     requires form { IsForm system.now n seats.now scales.now den v.now (last_position system.now) }
     requires refuted { turn system.now (last_position system.now) ≡ is_refuted l }
     ensures { IfSome result (λ _. IsMultipliers system.now (last_position system.now) l list.new) }
 {
-    leaving_row(x, system, a, v, l);
+    small_side_row(x, system, a, v, l - system.unknowns())?;
     multipliers(list, system, scales, seats, x, den, l)
 }

@@ -23,6 +23,19 @@ pub(crate) fn narrow(z: i128) -> i64
     z as i64
 }
 
+/// The number, if it is small.
+#[inline]
+pub(crate) fn small(z: i128) -> Option<i64>
+    ensures value { IfSome result (λ y. y ≡ z) }
+    ensures small { IfSome result (λ y. unsigned_abs y ≤ 2 ^ 62) }
+{
+    if z.unsigned_abs() <= 1 << 62 {
+        Some(narrow(z))
+    } else {
+        None
+    }
+}
+
 #[inline]
 pub(crate) fn widened(z: i64) -> i128
     ensures { result ≡ z }
@@ -48,11 +61,7 @@ pub(crate) fn added(old: i64, x: i64, y: i64) -> Option<i64>
     ensures small { IfSome result (λ z. unsigned_abs z ≤ 2 ^ 62) }
 {
     let total = sum(widened(old), product(x, y));
-    if total.unsigned_abs() <= 1 << 62 {
-        Some(narrow(total))
-    } else {
-        None
-    }
+    small(total)
 }
 
 #[inline]
@@ -96,7 +105,7 @@ pub(crate) fn signed(n: u64) -> i64
 
 /// The quotient, if it is whole and small.
 #[inline]
-fn small_quotient(z: i128, by: Divisor, most: u64) -> Option<i64>
+pub(crate) fn small_quotient(z: i128, by: Divisor, most: u64) -> Option<i64>
     requires by_small { by.den ≤ 2 ^ 62 }
     requires most_small { most ≤ 2 ^ 62 }
     ensures value { IfSome result (λ q. q *ℤ pos by.den ≡ z) }
@@ -112,7 +121,7 @@ fn small_quotient(z: i128, by: Divisor, most: u64) -> Option<i64>
 
 /// `v q - k x`.
 #[inline]
-fn difference(v: i64, k: i64, x: i64, q: u64) -> i128
+pub(crate) fn difference(v: i64, k: i64, x: i64, q: u64) -> i128
     requires v_small { unsigned_abs v ≤ 2 ^ 62 }
     requires k_small { unsigned_abs k ≤ 2 ^ 62 }
     requires x_small { unsigned_abs x ≤ 2 ^ 62 }
@@ -224,6 +233,25 @@ pub(crate) fn row_times(a: &[i64], i: usize, c: &[i64], sums: Sums) -> i128
         Sums::Short => widened(short_row_times(a, i, c)),
         Sums::Four => widened(four_row_times(a, i, c)),
     }
+}
+
+/// The row i of a times the column c of v, which need not fit 64 bits.
+#[inline]
+pub(crate) fn wide_row_times_column(a: &[i64], i: usize, v: &[i64], width: usize, c: usize) -> i128
+    requires inside { i * width + width ≤ length a.now }
+    requires square { length v.now ≡ width * width }
+    requires column { c < width }
+    requires room { HasRoom width (2 ^ 62) a.now }
+    requires small { IsSmall (2 ^ 62) v.now }
+    ensures value { result ≡ whole_total width (λ j. whole_cell width a.now i j *ℤ whole_cell width v.now j c) }
+    ensures small { unsigned_abs result ≤ 2 ^ 124 }
+{
+    let from = i * width;
+    let mut total = 0;
+    for j in 0..width {
+        total = sum(total, product(a[from + j], v[j * width + c]));
+    }
+    total
 }
 
 /// The row i of a times the column c of v, which fits 64 bits. The sums on the way may wrap.

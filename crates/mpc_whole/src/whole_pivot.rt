@@ -55,7 +55,7 @@ fn change_row(
     requires small { IsSmall most v.old }
     requires row_small { IsSmall (2 ^ 62) x.now }
     requires before { (k : ℕ) → k < j * length x.now → unsigned_abs (whole_at v.old k) ≤ before }
-    ensures cells { IfSome result (λ _. (c : ℕ) → c < length x.now → IsChanged (length x.now) by.den v.old x.now j e c (whole_cell (length x.now) v.new j c)) }
+    ensures cells { IfSome result (λ _. (c : ℕ) → c < length x.now → IsChanged (length x.now) by.den by.den v.old x.now j e c (whole_cell (length x.now) v.new j c)) }
     ensures others { IfSome result (λ _. (k : ℕ) → (k < j * length x.now) ⊎ (j * length x.now + length x.now ≤ k) → whole_at v.new k ≡ whole_at v.old k) }
     ensures small { IfSome result (λ _. IsSmall most v.new) }
     ensures own { IfSome result (λ own. (k : ℕ) → k < j * length x.now + length x.now → unsigned_abs (whole_at v.new k) ≤ own) }

@@ -1,6 +1,6 @@
 //! Who leaves and who enters, in whole numbers.
 
-ghost use Rattle.std.specs.Prelude.{◌≡◌, ℕ, ℤ, List, pos, ◌+◌, ◌-◌, ◌*◌, ◌<◌, ◌≤◌, ◌^◌, ◌*ℤ◌, IsTrue, unsigned_abs, length, true, false};
+ghost use Rattle.std.specs.Prelude.{◌≡◌, ℕ, ℤ, List, pos, ◌+◌, ◌-◌, ◌*◌, ◌<◌, ◌≤◌, ◌^◌, ◌*ℤ◌, IsTrue, IfSome, unsigned_abs, length, true, false};
 ghost use Rattle.mpc_rows.specs.LinearSystem.{height};
 ghost use Rattle.mpc_rows.specs.Least.{least};
 ghost use Rattle.mpc_rows.specs.Run.{Position, bound, value, may_leave, may_enter};
@@ -10,13 +10,15 @@ ghost use Rattle.mpc_whole.specs.declared.variables.Seat.TheVariants.{Column};
 ghost use Rattle.mpc_whole.specs.Table.{seat_at, in_row, IsSeated, AreNonbasic};
 ghost use Rattle.mpc_whole.specs.Sums.{are_short, are_of_four};
 ghost use Rattle.mpc_whole.specs.Underway.{StayBefore};
-ghost use Rattle.mpc_whole.specs.Whole.{whole_at, whole_cell, whole_total, IsSmall, HasSides, HasSideValues, HasBasis, IsRowOf, IsSideRow, side_cell};
-ghost use Rattle.mpc_whole.specs.Running.{IsFrame, AreParts, AreShort};
+ghost use Rattle.mpc_whole.specs.Whole.{whole_at, whole_cell, whole_total, IsSmall, HasRoom, HasSides, HasSideValues, HasBasis, IsRowOf, IsSideRow, side_cell};
+ghost use Rattle.mpc_whole.specs.Running.{HasNumbers, IsFrame, AreParts, AreShort};
 
 use crate::frames::Frame;
 use crate::variables::{Seat, is_basic};
 use crate::whole::Place;
-use crate::whole_numbers::{Sums, product, row_times, row_times_column, signed};
+use crate::whole_numbers::{
+    Sums, product, row_times, row_times_column, signed, small, wide_row_times_column,
+};
 use crate::whole_systems::WholeSystem;
 use crate::whole_values::step_of;
 
@@ -32,7 +34,7 @@ fn is_out(
     i: usize,
 ) -> bool
     requires side { i < height system.now }
-    requires frame { IsFrame system.now frame.now.n frame.now.scales.now frame.now.a.now frame.now.b.now frame.now.most }
+    requires numbers { HasNumbers system.now frame.now.n frame.now.scales.now frame.now.a.now frame.now.b.now }
     requires parts { AreParts system.now.width c_1.now c_2.now }
     requires short { are_short sums ≡ true → AreShort system.now.width frame.now.a.now c_1.now c_2.now }
     requires four { are_of_four sums ≡ true → system.now.width ≡ 4 }
@@ -79,7 +81,7 @@ fn are_small(c_1: &[i64], c_2: &[i64], most: u64) -> bool
 
 /// The variable that leaves, from the first on that may, where the values of the sides are summed up so.
 #[inline(always)]
-fn first_out(
+pub(crate) fn first_out(
     system: &WholeSystem,
     frame: &Frame,
     seats: &[Seat],
@@ -89,7 +91,7 @@ fn first_out(
     sums: Sums,
 ) -> Option<usize>
     requires side { system.now.width ≤ place.first }
-    requires frame { IsFrame system.now frame.now.n frame.now.scales.now frame.now.a.now frame.now.b.now frame.now.most }
+    requires numbers { HasNumbers system.now frame.now.n frame.now.scales.now frame.now.a.now frame.now.b.now }
     requires seated { IsSeated (height system.now) system.now.width frame.now.n seats.now }
     requires parts { AreParts system.now.width c_1.now c_2.now }
     requires short { are_short sums ≡ true → AreShort system.now.width frame.now.a.now c_1.now c_2.now }
@@ -165,6 +167,31 @@ pub(crate) fn leaving_row(x: &mut [i64], system: &WholeSystem, a: &[i64], v: &[i
     ensures small { IsSmall (2 ^ 62) x.new }
 {
     side_row(x, system, a, v, l - system.unknowns());
+}
+
+/// The row of side i, where its numbers are small.
+pub(crate) fn small_side_row(
+    x: &mut [i64],
+    system: &WholeSystem,
+    a: &[i64],
+    v: &[i64],
+    i: usize,
+) -> Option<()>
+    requires side { i < height system.now }
+    requires entries { length a.now ≡ height system.now * system.now.width }
+    requires room { HasRoom system.now.width (2 ^ 62) a.now }
+    requires square { length v.now ≡ system.now.width * system.now.width }
+    requires numbers_small { IsSmall (2 ^ 62) v.now }
+    requires row_size { length x.old ≡ system.now.width }
+    ensures row { IfSome result (λ _. IsSideRow system.now a.now v.now i x.new) }
+    ensures small { IfSome result (λ _. IsSmall (2 ^ 62) x.new) }
+{
+    let width = system.unknowns();
+    for c in 0..width {
+        let z = small(wide_row_times_column(a, i, v, width, c))?;
+        x[c] = z;
+    }
+    Some(())
 }
 
 /// Whether the variable y of column c may enter, by the row x of the variable that leaves: an unknown if its

@@ -7,13 +7,13 @@ ghost use Rattle.mpc_rows.specs.Run.{Position, IsTableau, bound};
 ghost use Rattle.mpc_whole.specs.Table.{IsSeated};
 ghost use Rattle.mpc_whole.specs.Whole.{whole_at, whole_cell, scale_at, AreScales, IsSmall, HasRoom, HasSides, IsForm, AreValues};
 ghost use Rattle.mpc_whole.specs.Moved.{excess, IsMoved, AreMoved, AreFollowed};
-ghost use Rattle.mpc_whole.specs.Running.{IsFrame, AreParts, IsPivot};
+ghost use Rattle.mpc_whole.specs.Running.{HasNumbers, AreParts, IsPivot};
 
 use crate::divisors::Divisor;
 use crate::frames::Frame;
 use crate::variables::{Seat, column_of, is_basic};
 use crate::whole_numbers::{
-    added, changed, minus, narrow, negative, product, signed, sum, wide_row_times,
+    added, changed, minus, negative, product, signed, small, sum, wide_row_times,
 };
 use crate::whole_systems::WholeSystem;
 
@@ -84,7 +84,7 @@ pub(crate) struct Pivot {
 }
 
 /// The values of the unknowns, where they stay small.
-fn stand(
+pub(crate) fn stand(
     c_1: &mut [i64],
     c_2: &mut [i64],
     system: &WholeSystem,
@@ -92,7 +92,7 @@ fn stand(
     seats: &[Seat],
     v: &[i64],
 ) -> Option<()>
-    requires frame { IsFrame system.now frame.now.n frame.now.scales.now frame.now.a.now frame.now.b.now frame.now.most }
+    requires numbers { HasNumbers system.now frame.now.n frame.now.scales.now frame.now.a.now frame.now.b.now }
     requires seated { IsSeated (height system.now) system.now.width frame.now.n seats.now }
     requires square { length v.now ≡ system.now.width * system.now.width }
     requires first_room { length c_1.old ≡ system.now.width }
@@ -129,11 +129,7 @@ fn excess(a: &[i64], i: usize, c: &[i64], limit: i64, den: u64) -> Option<i64>
 {
     let at_bound = product(limit, negative(signed(den)));
     let over = sum(wide_row_times(a, i, c), at_bound);
-    if over.unsigned_abs() <= 1 << 62 {
-        Some(narrow(over))
-    } else {
-        None
-    }
+    small(over)
 }
 
 /// Moves one part of the values with a pivot, with the bound of the side that is given in that part, if all numbers
@@ -189,7 +185,7 @@ pub(crate) fn follow(
     v: &[i64],
     pivot: Pivot,
 ) -> Option<()>
-    requires frame { IsFrame system.now frame.now.n frame.now.scales.now frame.now.a.now frame.now.b.now frame.now.most }
+    requires numbers { HasNumbers system.now frame.now.n frame.now.scales.now frame.now.a.now frame.now.b.now }
     requires seated { IsSeated (height system.now) system.now.width frame.now.n seats.now }
     requires side { pivot.i < height system.now }
     requires pivot { IsPivot system.now.width frame.now.a.now v.now pivot.i pivot.e pivot.by.den pivot.size }

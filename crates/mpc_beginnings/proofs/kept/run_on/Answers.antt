@@ -1,43 +1,27 @@
-use Rattle.std.proofs.Common.{◌≡◌, arith}
+use Rattle.std.proofs.Common.{rules, Option, subst}
+use Rattle.std.specs.Prelude.{IfSome}
 use Rattle.mpc_rows.specs.Run.{count}
-use Rattle.mpc_whole.proofs.WholeRows.{weaker}
+use Rattle.mpc_whole.specs.declared.whole.Ending.{Ending}
+use Rattle.mpc_whole.specs.declared.whole.Place.{Place}
+use Rattle.mpc_whole.specs.Underway.{HasEnded}
+use Rattle.mpc_beginnings.specs.Kept.{IsNormProduct}
+use Rattle.mpc_beginnings.proofs.MildShared.{mild_by_norms}
 use Rattle.mpc_beginnings.proofs.kept.run_on.Goals as goal
-use Rattle.mpc_beginnings.proofs.kept.run_on.Goals.{After-len-n}
 
-counted : (c : After-len-n) → c.len-n.result ≡ count c.args.system.now
-counted c = let o = c.args.lists.now.seats.ok in let e = c.len-n.ensures in let z = c.requires.lists.seated.each in omega (arith, o, e, z)
-
-pub whole_run-found-requires-clause-seated : goal.whole_run-found-requires-clause-seated
-whole_run-found-requires-clause-seated c = rw (counted (goal.at.whole_run-found-requires-clause-seated c).After-len-n, c.deref_mut-2.ensures.value) c.requires.lists.seated
-
-pub whole_run-found-requires-clause-columns : goal.whole_run-found-requires-clause-columns
-whole_run-found-requires-clause-columns c = rw (c.deref_mut-2.ensures.value, c.deref_mut-3.ensures.value) c.requires.lists.columns
-
-pub whole_run-found-requires-clause-square : goal.whole_run-found-requires-clause-square
-whole_run-found-requires-clause-square c = rw c.deref_mut-4.ensures.value c.requires.lists.square
-
-pub whole_run-found-requires-clause-first_size : goal.whole_run-found-requires-clause-first_size
-whole_run-found-requires-clause-first_size c = rw c.deref_mut-5.ensures.value c.requires.lists.first_size
-
-pub whole_run-found-requires-clause-second_size : goal.whole_run-found-requires-clause-second_size
-whole_run-found-requires-clause-second_size c = rw c.deref_mut-6.ensures.value c.requires.lists.second_size
-
-pub whole_run-found-requires-clause-first_small : goal.whole_run-found-requires-clause-first_small
-whole_run-found-requires-clause-first_small c = rw c.deref_mut-5.ensures.value c.requires.lists.first_small
-
-pub whole_run-found-requires-clause-second_small : goal.whole_run-found-requires-clause-second_small
-whole_run-found-requires-clause-second_small c = rw c.deref_mut-6.ensures.value c.requires.lists.second_small
-
-pub whole_run-found-requires-clause-small : goal.whole_run-found-requires-clause-small
-whole_run-found-requires-clause-small c = rw c.deref_mut-4.ensures.value (weaker c.args.from.own c.in-Some.most c.args.lists.now.v.items c.requires.lists.own c.in-Some.ensures.own_small)
-
-pub whole_run-found-requires-clause-own : goal.whole_run-found-requires-clause-own
-whole_run-found-requires-clause-own c = rw c.deref_mut-4.ensures.value c.requires.lists.own
-
-pub whole_run-found-requires-clause-narrow : goal.whole_run-found-requires-clause-narrow
-whole_run-found-requires-clause-narrow c = c.in-Some.ensures.narrow c.deref_mut-2.result.now c.deref_mut-4.result.now (rw c.deref_mut-4.ensures.value c.requires.lists.own)
-
-pub whole_run-found-requires-clause-underway : goal.whole_run-found-requires-clause-underway
-whole_run-found-requires-clause-underway c =
-    rw (counted (goal.at.whole_run-found-requires-clause-underway c).After-len-n, c.deref_mut-2.ensures.value, c.deref_mut-4.ensures.value, c.deref_mut-5.ensures.value, c.deref_mut-6.ensures.value)
-    (c.requires.start.within c.in-Some.most c.in-Some.ensures.bounds c.in-Some.ensures.kept_small c.in-Some.ensures.kept_den_small)
+pub returns-in-Some : goal.returns-in-Some
+returns-in-Some c =
+    let s = c.args.system.now in
+    let m = c.args.numbers.now in
+    let p = c.in-Some.place in
+    let l = c.limited_run.new.lists in
+    let product = c.product_of-product.result in
+    let ended : HasEnded s (count s) l.seats.items m.scales.now p.den l.v.items l.firsts.items l.seconds.items p.greatest p.greatest_den c.in-Some.end =
+    subst (λ (o : Option (Place × Ending)). IfSome o (λ t. HasEnded s (count s) l.seats.items m.scales.now t.0.den l.v.items l.firsts.items l.seconds.items t.0.greatest t.0.greatest_den t.1)) c.in-Some.is c.in_ok-place.ensures.end
+    in
+    record {
+      scales = c.requires.numbers.whole.scales.size;
+      lists = search rules;
+      den_small = search rules;
+      ended = ended;
+      before = λ h. mild_by_norms s m c.requires.numbers p product (subst (λ w. IsNormProduct w m p product) c.unknowns.ensures (c.product_of-product.ensures h)) ended.before;
+    }

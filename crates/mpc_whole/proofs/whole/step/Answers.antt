@@ -13,7 +13,8 @@ use Rattle.mpc_whole.proofs.WholeExchange.{rows_in}
 use Rattle.mpc_whole.proofs.WholeForm.{narrow_by_norms, pivot_narrow}
 use Rattle.mpc_whole.proofs.WholeRows.{weaker}
 use Rattle.mpc_whole.proofs.WholeSteps.{read_small}
-use Rattle.mpc_whole.proofs.WholeRun.{side_values_at, basis_is, side_in, side_cells_small, point_kept, leaves_here, leaving_in, leaving_seat, row_of_leaving, refuted_kept, entering_in, entering_seat, next_seated, next_underway}
+use Rattle.mpc_whole.proofs.Standing.{leaves_here, side_in, leaving_in, leaving_seat, row_of_leaving, entering_in, entering_seat, next_seated}
+use Rattle.mpc_whole.proofs.WholeRun.{side_values_at, side_cells_small, point_kept, refuted_kept, next_underway}
 use Rattle.mpc_whole.proofs.whole.step.Goals as goal
 use Rattle.mpc_whole.proofs.whole.step.Goals.{After-leaving, In-Some, In-Some-pick, After-column_of-c, After-swap, After-unsigned_abs-size}
 
@@ -21,8 +22,8 @@ found : (c : After-leaving) → c.leaving.result ≡ least (may_leave c.args.sys
 found c =
     let z = c.requires.underway.stands in
     c.leaving.ensures (position c.args.system.now z.at) z.form.some (record { basic = z.form.basic })
-    (side_values_at c.args.system.now c.args.frame.now.scales.now c.args.frame.now.a.now c.args.frame.now.b.now c.requires.frame.whole z.at z.order c.args.frame.now.n c.args.seats.now c.args.place.den c.args.v.now z.form c.args.c_1.now c.args.c_2.now c.requires.underway.values)
-    c.requires.frame.whole.sides c.requires.underway.stay
+    (side_values_at c.args.system.now c.args.frame.now.scales.now c.args.frame.now.a.now c.args.frame.now.b.now c.requires.frame.numbers.whole z.at z.order c.args.frame.now.n c.args.seats.now c.args.place.den c.args.v.now z.form c.args.c_1.now c.args.c_2.now c.requires.underway.values)
+    c.requires.frame.numbers.whole.sides c.requires.underway.stay
 
 pub leaving-requires-clause-side : goal.leaving-requires-clause-side
 leaving-requires-clause-side c = c.requires.underway.side
@@ -32,44 +33,44 @@ returns-in_default-clause-end c =
     let at = goal.at.returns-in_default-clause-end c in
     let a : c.leaving.result ≡ None = c.in_default.is in
     let e : None ≡ least (may_leave c.args.system.now (position c.args.system.now c.requires.underway.stands.at)) c.args.frame.now.n = sym a ∙ found at.After-leaving in
-    point_kept c.args.system.now c.args.frame.now.n c.args.seats.now c.requires.held.seated c.args.frame.now.scales.now c.args.place.den c.args.v.now c.args.frame.now.a.now c.args.frame.now.b.now c.requires.frame.bounds.most_side c.requires.frame.whole c.requires.frame.bounds.bounds.sides c.requires.held.narrow c.requires.underway.stands e c.args.c_1.now c.args.c_2.now c.requires.underway.values c.args.place.greatest c.args.place.greatest_den c.requires.underway.before
+    point_kept c.args.system.now c.args.frame.now.n c.args.seats.now c.requires.held.seated c.args.frame.now.scales.now c.args.place.den c.args.v.now c.args.frame.now.a.now c.args.frame.now.b.now c.requires.frame.bounds.most_side c.requires.frame.numbers.whole c.requires.frame.bounds.bounds.sides c.requires.held.narrow c.requires.underway.stands e c.args.c_1.now c.args.c_2.now c.requires.underway.values c.args.place.greatest c.args.place.greatest_den c.requires.underway.before
 
 leaver_is : (c : In-Some) → c.leaving.result ≡ least (may_leave c.args.system.now (position c.args.system.now c.requires.underway.stands.at)) c.args.frame.now.n → Some c.in-Some.l ≡ least (may_leave c.args.system.now (position c.args.system.now c.requires.underway.stands.at)) c.args.frame.now.n
 leaver_is c f = let a : c.leaving.result ≡ Some c.in-Some.l = c.in-Some.is in sym a ∙ f
 
 pub pick-requires-clause-from : goal.pick-requires-clause-from
-pick-requires-clause-from c = let at = goal.at.pick-requires-clause-from c in (leaves_here c.args.system.now c.args.frame.now.n c.args.seats.now c.requires.held.seated c.args.frame.now.scales.now c.args.place.den c.args.v.now c.args.frame.now.a.now c.args.frame.now.b.now c.requires.frame.bounds.most_side c.requires.frame.whole c.requires.frame.bounds.bounds.sides c.requires.held.narrow c.requires.underway.stands c.in-Some.l (leaver_is at.In-Some (found at.After-leaving))).violated.side
+pick-requires-clause-from c = let at = goal.at.pick-requires-clause-from c in (leaves_here c.args.system.now c.args.frame.now.n c.args.seats.now c.requires.held.seated c.args.frame.now.scales.now c.args.place.den c.args.v.now c.args.frame.now.a.now c.args.frame.now.b.now c.requires.frame.numbers.whole c.requires.underway.stands c.in-Some.l (leaver_is at.In-Some (found at.After-leaving))).violated.side
 
 pub pick-requires-clause-below : goal.pick-requires-clause-below
-pick-requires-clause-below c = let at = goal.at.pick-requires-clause-below c in leaving_in c.args.system.now c.args.frame.now.n c.args.seats.now c.requires.held.seated c.args.frame.now.scales.now c.args.place.den c.args.v.now c.args.frame.now.a.now c.args.frame.now.b.now c.requires.frame.bounds.most_side c.requires.frame.whole c.requires.frame.bounds.bounds.sides c.requires.held.narrow c.requires.underway.stands c.in-Some.l (leaver_is at.In-Some (found at.After-leaving))
+pick-requires-clause-below c = let at = goal.at.pick-requires-clause-below c in leaving_in c.args.system.now c.args.frame.now.n c.args.seats.now c.requires.held.seated c.args.frame.now.scales.now c.args.place.den c.args.v.now c.args.frame.now.a.now c.args.frame.now.b.now c.requires.frame.numbers.whole c.requires.underway.stands c.in-Some.l (leaver_is at.In-Some (found at.After-leaving))
 
 pub pick-requires-clause-row_small : goal.pick-requires-clause-row_small
-pick-requires-clause-row_small c = let at = goal.at.pick-requires-clause-row_small c in λ k h. side_cells_small c.args.system.now c.args.frame.now.n c.args.seats.now c.requires.held.seated c.args.frame.now.scales.now c.args.place.den c.args.v.now c.args.frame.now.a.now c.args.frame.now.b.now c.requires.frame.bounds.most_side c.requires.frame.whole c.requires.frame.bounds.bounds.sides c.requires.held.narrow c.requires.underway.stands (c.in-Some.l - c.args.system.now.width) k (side_in c.args.system.now c.args.frame.now.n c.args.seats.now c.requires.held.seated c.args.frame.now.scales.now c.args.place.den c.args.v.now c.args.frame.now.a.now c.args.frame.now.b.now c.requires.frame.bounds.most_side c.requires.frame.whole c.requires.frame.bounds.bounds.sides c.requires.held.narrow c.requires.underway.stands c.in-Some.l (leaver_is at.In-Some (found at.After-leaving))) h
+pick-requires-clause-row_small c = let at = goal.at.pick-requires-clause-row_small c in λ k h. side_cells_small c.args.system.now c.args.frame.now.n c.args.seats.now c.requires.held.seated c.args.frame.now.scales.now c.args.place.den c.args.v.now c.args.frame.now.a.now c.args.frame.now.b.now c.requires.frame.bounds.most_side c.requires.frame.numbers.whole c.requires.frame.bounds.bounds.sides c.requires.held.narrow c.requires.underway.stands (c.in-Some.l - c.args.system.now.width) k (side_in c.args.system.now c.args.frame.now.n c.args.seats.now c.requires.held.seated c.args.frame.now.scales.now c.args.place.den c.args.v.now c.args.frame.now.a.now c.args.frame.now.b.now c.requires.frame.numbers.whole c.requires.underway.stands c.in-Some.l (leaver_is at.In-Some (found at.After-leaving))) h
 
 pub returns-in_default-pick-clause-end : goal.returns-in_default-pick-clause-end
 returns-in_default-pick-clause-end c =
     let at = goal.at.returns-in_default-pick-clause-end c in
     let e = leaver_is at.In-Some (found at.After-leaving) in
-    let r = row_of_leaving c.args.system.now c.args.frame.now.n c.args.seats.now c.requires.held.seated c.args.frame.now.scales.now c.args.place.den c.args.v.now c.args.frame.now.a.now c.args.frame.now.b.now c.requires.frame.bounds.most_side c.requires.frame.whole c.requires.frame.bounds.bounds.sides c.requires.held.narrow c.requires.underway.stands c.in-Some.l e c.pick.new.x c.in_default-pick.ensures.row in
+    let r = row_of_leaving c.args.system.now c.args.frame.now.n c.args.seats.now c.requires.held.seated c.args.frame.now.scales.now c.args.place.den c.args.v.now c.args.frame.now.a.now c.args.frame.now.b.now c.requires.frame.numbers.whole c.requires.underway.stands c.in-Some.l e c.pick.new.x c.in_default-pick.ensures.row in
     let b : c.pick.result ≡ None = c.in_default-pick.is in
     let o : None ≡ least (may_enter c.args.system.now (position c.args.system.now c.requires.underway.stands.at) c.in-Some.l) c.args.frame.now.n =
-    sym b ∙ c.pick.ensures.least c.args.seats.now (position c.args.system.now c.requires.underway.stands.at) c.args.frame.now.scales.now c.args.place.den c.requires.held.seated c.requires.held.columns c.requires.underway.stands.form.some (basis_is c.args.system.now c.args.frame.now.n c.args.seats.now c.requires.held.seated c.args.frame.now.scales.now c.args.place.den c.args.v.now c.args.frame.now.a.now c.args.frame.now.b.now c.requires.frame.bounds.most_side c.requires.frame.whole c.requires.frame.bounds.bounds.sides c.requires.held.narrow c.requires.underway.stands) r
+    sym b ∙ c.pick.ensures.least c.args.seats.now (position c.args.system.now c.requires.underway.stands.at) c.args.frame.now.scales.now c.args.place.den c.requires.held.seated c.requires.held.columns c.requires.underway.stands.form.some (record { basic = c.requires.underway.stands.form.basic }) r
     in
-    refuted_kept c.args.system.now c.args.frame.now.n c.args.seats.now c.requires.held.seated c.args.frame.now.scales.now c.args.place.den c.args.v.now c.args.frame.now.a.now c.args.frame.now.b.now c.requires.frame.bounds.most_side c.requires.frame.whole c.requires.frame.bounds.bounds.sides c.requires.held.narrow c.requires.underway.stands c.in-Some.l e c.pick.new.x c.in_default-pick.ensures.row o c.args.c_1.now c.args.c_2.now c.requires.underway.values c.args.place.greatest c.args.place.greatest_den c.requires.underway.before
+    refuted_kept c.args.system.now c.args.frame.now.n c.args.seats.now c.requires.held.seated c.args.frame.now.scales.now c.args.place.den c.args.v.now c.args.frame.now.a.now c.args.frame.now.b.now c.requires.frame.bounds.most_side c.requires.frame.numbers.whole c.requires.frame.bounds.bounds.sides c.requires.held.narrow c.requires.underway.stands c.in-Some.l e c.pick.new.x c.in_default-pick.ensures.row o c.args.c_1.now c.args.c_2.now c.requires.underway.values c.args.place.greatest c.args.place.greatest_den c.requires.underway.before
 
 enters_is : (c : In-Some-pick) → Some c.in-Some.l ≡ least (may_leave c.args.system.now (position c.args.system.now c.requires.underway.stands.at)) c.args.frame.now.n → Some c.in-Some-pick.e ≡ least (may_enter c.args.system.now (position c.args.system.now c.requires.underway.stands.at) c.in-Some.l) c.args.frame.now.n
 enters_is c e =
     let b : c.pick.result ≡ Some c.in-Some-pick.e = c.in-Some-pick.is in
-    sym b ∙ c.pick.ensures.least c.args.seats.now (position c.args.system.now c.requires.underway.stands.at) c.args.frame.now.scales.now c.args.place.den c.requires.held.seated c.requires.held.columns c.requires.underway.stands.form.some (basis_is c.args.system.now c.args.frame.now.n c.args.seats.now c.requires.held.seated c.args.frame.now.scales.now c.args.place.den c.args.v.now c.args.frame.now.a.now c.args.frame.now.b.now c.requires.frame.bounds.most_side c.requires.frame.whole c.requires.frame.bounds.bounds.sides c.requires.held.narrow c.requires.underway.stands) (row_of_leaving c.args.system.now c.args.frame.now.n c.args.seats.now c.requires.held.seated c.args.frame.now.scales.now c.args.place.den c.args.v.now c.args.frame.now.a.now c.args.frame.now.b.now c.requires.frame.bounds.most_side c.requires.frame.whole c.requires.frame.bounds.bounds.sides c.requires.held.narrow c.requires.underway.stands c.in-Some.l e c.pick.new.x c.pick.ensures.row)
+    sym b ∙ c.pick.ensures.least c.args.seats.now (position c.args.system.now c.requires.underway.stands.at) c.args.frame.now.scales.now c.args.place.den c.requires.held.seated c.requires.held.columns c.requires.underway.stands.form.some (record { basic = c.requires.underway.stands.form.basic }) (row_of_leaving c.args.system.now c.args.frame.now.n c.args.seats.now c.requires.held.seated c.args.frame.now.scales.now c.args.place.den c.args.v.now c.args.frame.now.a.now c.args.frame.now.b.now c.requires.frame.numbers.whole c.requires.underway.stands c.in-Some.l e c.pick.new.x c.pick.ensures.row)
 
 below_of : (c : In-Some) → Some c.in-Some.l ≡ least (may_leave c.args.system.now (position c.args.system.now c.requires.underway.stands.at)) c.args.frame.now.n → c.in-Some.l < length c.args.seats.now
-below_of c e = subst (λ m. c.in-Some.l < m) (sym c.requires.held.seated.each) (leaving_in c.args.system.now c.args.frame.now.n c.args.seats.now c.requires.held.seated c.args.frame.now.scales.now c.args.place.den c.args.v.now c.args.frame.now.a.now c.args.frame.now.b.now c.requires.frame.bounds.most_side c.requires.frame.whole c.requires.frame.bounds.bounds.sides c.requires.held.narrow c.requires.underway.stands c.in-Some.l e)
+below_of c e = subst (λ m. c.in-Some.l < m) (sym c.requires.held.seated.each) (leaving_in c.args.system.now c.args.frame.now.n c.args.seats.now c.requires.held.seated c.args.frame.now.scales.now c.args.place.den c.args.v.now c.args.frame.now.a.now c.args.frame.now.b.now c.requires.frame.numbers.whole c.requires.underway.stands c.in-Some.l e)
 
 leaver_seat : (c : In-Some) → Some c.in-Some.l ≡ least (may_leave c.args.system.now (position c.args.system.now c.requires.underway.stands.at)) c.args.frame.now.n → in_row (seat_at c.args.seats.now c.in-Some.l) ≡ true
-leaver_seat c e = leaving_seat c.args.system.now c.args.frame.now.n c.args.seats.now c.requires.held.seated c.args.frame.now.scales.now c.args.place.den c.args.v.now c.args.frame.now.a.now c.args.frame.now.b.now c.requires.frame.bounds.most_side c.requires.frame.whole c.requires.frame.bounds.bounds.sides c.requires.held.narrow c.requires.underway.stands c.in-Some.l e
+leaver_seat c e = leaving_seat c.args.system.now c.args.frame.now.n c.args.seats.now c.requires.held.seated c.args.frame.now.scales.now c.args.place.den c.args.v.now c.args.frame.now.a.now c.args.frame.now.b.now c.requires.frame.numbers.whole c.requires.underway.stands c.in-Some.l e
 
 enterer_below : (c : In-Some-pick) → Some c.in-Some.l ≡ least (may_leave c.args.system.now (position c.args.system.now c.requires.underway.stands.at)) c.args.frame.now.n → Some c.in-Some-pick.e ≡ least (may_enter c.args.system.now (position c.args.system.now c.requires.underway.stands.at) c.in-Some.l) c.args.frame.now.n → c.in-Some-pick.e < c.args.frame.now.n
-enterer_below c e o = entering_in c.args.system.now c.args.frame.now.n c.args.seats.now c.requires.held.seated c.args.frame.now.scales.now c.args.place.den c.args.v.now c.args.frame.now.a.now c.args.frame.now.b.now c.requires.frame.bounds.most_side c.requires.frame.whole c.requires.frame.bounds.bounds.sides c.requires.held.narrow c.requires.underway.stands c.in-Some.l e c.pick.new.x c.pick.ensures.row c.in-Some-pick.e o
+enterer_below c e o = entering_in c.args.system.now c.args.frame.now.n c.args.seats.now c.requires.held.seated c.args.frame.now.scales.now c.args.place.den c.args.v.now c.args.frame.now.a.now c.args.frame.now.b.now c.requires.frame.numbers.whole c.requires.underway.stands c.in-Some.l e c.in-Some-pick.e o
 
 enterer_in : (c : In-Some-pick) → Some c.in-Some.l ≡ least (may_leave c.args.system.now (position c.args.system.now c.requires.underway.stands.at)) c.args.frame.now.n → Some c.in-Some-pick.e ≡ least (may_enter c.args.system.now (position c.args.system.now c.requires.underway.stands.at) c.in-Some.l) c.args.frame.now.n → c.in-Some-pick.e < length c.args.seats.now
 enterer_in c e o = subst (λ m. c.in-Some-pick.e < m) (sym c.requires.held.seated.each) (enterer_below c e o)
@@ -84,10 +85,10 @@ pub column_of-c-requires-clause-free : goal.column_of-c-requires-clause-free
 column_of-c-requires-clause-free c =
     let at = goal.at.column_of-c-requires-clause-free c in
     let e = leaver_is at.In-Some (found at.After-leaving) in
-    entering_seat c.args.system.now c.args.frame.now.n c.args.seats.now c.requires.held.seated c.args.frame.now.scales.now c.args.place.den c.args.v.now c.args.frame.now.a.now c.args.frame.now.b.now c.requires.frame.bounds.most_side c.requires.frame.whole c.requires.frame.bounds.bounds.sides c.requires.held.narrow c.requires.underway.stands c.in-Some.l e c.pick.new.x c.pick.ensures.row c.in-Some-pick.e (enters_is at.In-Some-pick e)
+    entering_seat c.args.system.now c.args.frame.now.n c.args.seats.now c.requires.held.seated c.args.frame.now.scales.now c.args.place.den c.args.v.now c.args.frame.now.a.now c.args.frame.now.b.now c.requires.frame.numbers.whole c.requires.underway.stands c.in-Some.l e c.in-Some-pick.e (enters_is at.In-Some-pick e)
 
 column_below : (c : After-column_of-c) → Some c.in-Some.l ≡ least (may_leave c.args.system.now (position c.args.system.now c.requires.underway.stands.at)) c.args.frame.now.n → Some c.in-Some-pick.e ≡ least (may_enter c.args.system.now (position c.args.system.now c.requires.underway.stands.at) c.in-Some.l) c.args.frame.now.n → c.column_of-c.result < c.args.system.now.width
-column_below c e o = (c.requires.held.seated.columns c.in-Some-pick.e c.column_of-c.result (entering_in c.args.system.now c.args.frame.now.n c.args.seats.now c.requires.held.seated c.args.frame.now.scales.now c.args.place.den c.args.v.now c.args.frame.now.a.now c.args.frame.now.b.now c.requires.frame.bounds.most_side c.requires.frame.whole c.requires.frame.bounds.bounds.sides c.requires.held.narrow c.requires.underway.stands c.in-Some.l e c.pick.new.x c.pick.ensures.row c.in-Some-pick.e o) c.column_of-c.ensures).0
+column_below c e o = (c.requires.held.seated.columns c.in-Some-pick.e c.column_of-c.result (entering_in c.args.system.now c.args.frame.now.n c.args.seats.now c.requires.held.seated c.args.frame.now.scales.now c.args.place.den c.args.v.now c.args.frame.now.a.now c.args.frame.now.b.now c.requires.frame.numbers.whole c.requires.underway.stands c.in-Some.l e c.in-Some-pick.e o) c.column_of-c.ensures).0
 
 pub exchange-requires-clause-square : goal.exchange-requires-clause-square
 exchange-requires-clause-square c = subst (λ w. length c.args.v.now ≡ w * w) (sym c.pick.ensures.row.size) c.requires.held.square
@@ -131,9 +132,9 @@ swap-requires-clause-enters c = c.column_of-c.ensures
 -- where the variables stand after the pivot
 seats_are : (c : After-swap) → Some c.in-Some.l ≡ least (may_leave c.args.system.now (position c.args.system.now c.requires.underway.stands.at)) c.args.frame.now.n → Some c.in-Some-pick.e ≡ least (may_enter c.args.system.now (position c.args.system.now c.requires.underway.stands.at) c.in-Some.l) c.args.frame.now.n → IsSeated (length c.args.system.now.rows) c.args.system.now.width c.args.frame.now.n c.swap.new.seats
 seats_are c e o =
-    let rs = row_seat (seat_at c.args.seats.now c.in-Some.l) (leaving_seat c.args.system.now c.args.frame.now.n c.args.seats.now c.requires.held.seated c.args.frame.now.scales.now c.args.place.den c.args.v.now c.args.frame.now.a.now c.args.frame.now.b.now c.requires.frame.bounds.most_side c.requires.frame.whole c.requires.frame.bounds.bounds.sides c.requires.held.narrow c.requires.underway.stands c.in-Some.l e) in
+    let rs = row_seat (seat_at c.args.seats.now c.in-Some.l) (leaving_seat c.args.system.now c.args.frame.now.n c.args.seats.now c.requires.held.seated c.args.frame.now.scales.now c.args.place.den c.args.v.now c.args.frame.now.a.now c.args.frame.now.b.now c.requires.frame.numbers.whole c.requires.underway.stands c.in-Some.l e) in
     subst (λ (t : List Seat). IsSeated (length c.args.system.now.rows) c.args.system.now.width c.args.frame.now.n t) (sym (c.swap.ensures.seats.seats rs.0 c.column_of-c.result rs.1 c.column_of-c.ensures))
-    (next_seated c.args.system.now c.args.frame.now.n c.args.seats.now c.requires.held.seated c.args.frame.now.scales.now c.args.place.den c.args.v.now c.args.frame.now.a.now c.args.frame.now.b.now c.requires.frame.bounds.most_side c.requires.frame.whole c.requires.frame.bounds.bounds.sides c.requires.held.narrow c.requires.underway.stands c.in-Some.l e c.pick.new.x c.pick.ensures.row c.in-Some-pick.e o rs.0 c.column_of-c.result rs.1 c.column_of-c.ensures)
+    (next_seated c.args.system.now c.args.frame.now.n c.args.seats.now c.requires.held.seated c.args.frame.now.scales.now c.args.place.den c.args.v.now c.args.frame.now.a.now c.args.frame.now.b.now c.requires.frame.numbers.whole c.requires.underway.stands c.in-Some.l e c.in-Some-pick.e o rs.0 c.column_of-c.result rs.1 c.column_of-c.ensures)
 
 pub slice_copy_out-unsigned_abs : goal.slice_copy_out-unsigned_abs
 slice_copy_out-unsigned_abs c =
@@ -154,7 +155,7 @@ size_is c = c.unsigned_abs-size.ensures.value ∙ ap unsigned_abs (read_small (w
 pub overflow_sub-pivot : goal.overflow_sub-pivot
 overflow_sub-pivot c =
     let at = goal.at.overflow_sub-pivot c in
-    subst (λ w. w ≤ c.in-Some.l) (sym c.unknowns-width.ensures) (leaves_here c.args.system.now c.args.frame.now.n c.args.seats.now c.requires.held.seated c.args.frame.now.scales.now c.args.place.den c.args.v.now c.args.frame.now.a.now c.args.frame.now.b.now c.requires.frame.bounds.most_side c.requires.frame.whole c.requires.frame.bounds.bounds.sides c.requires.held.narrow c.requires.underway.stands c.in-Some.l (leaver_is at.In-Some (found at.After-leaving))).violated.side
+    subst (λ w. w ≤ c.in-Some.l) (sym c.unknowns-width.ensures) (leaves_here c.args.system.now c.args.frame.now.n c.args.seats.now c.requires.held.seated c.args.frame.now.scales.now c.args.place.den c.args.v.now c.args.frame.now.a.now c.args.frame.now.b.now c.requires.frame.numbers.whole c.requires.underway.stands c.in-Some.l (leaver_is at.In-Some (found at.After-leaving))).violated.side
 
 pub follow-requires-clause-seated : goal.follow-requires-clause-seated
 follow-requires-clause-seated c =
@@ -165,7 +166,7 @@ follow-requires-clause-seated c =
 pub follow-requires-clause-side : goal.follow-requires-clause-side
 follow-requires-clause-side c =
     let at = goal.at.follow-requires-clause-side c in
-    subst (λ w. c.in-Some.l - w < height c.args.system.now) (sym c.unknowns-width.ensures) (side_in c.args.system.now c.args.frame.now.n c.args.seats.now c.requires.held.seated c.args.frame.now.scales.now c.args.place.den c.args.v.now c.args.frame.now.a.now c.args.frame.now.b.now c.requires.frame.bounds.most_side c.requires.frame.whole c.requires.frame.bounds.bounds.sides c.requires.held.narrow c.requires.underway.stands c.in-Some.l (leaver_is at.In-Some (found at.After-leaving)))
+    subst (λ w. c.in-Some.l - w < height c.args.system.now) (sym c.unknowns-width.ensures) (side_in c.args.system.now c.args.frame.now.n c.args.seats.now c.requires.held.seated c.args.frame.now.scales.now c.args.place.den c.args.v.now c.args.frame.now.a.now c.args.frame.now.b.now c.requires.frame.numbers.whole c.requires.underway.stands c.in-Some.l (leaver_is at.In-Some (found at.After-leaving)))
 
 size_small : (c : After-unsigned_abs-size) → c.unsigned_abs-size.result ≤ 2 ^ 62
 size_small c = subst (λ m. m ≤ 2 ^ 62) (sym (size_is c)) (c.pick.ensures.small.each c.column_of-c.result)
@@ -180,8 +181,8 @@ follow-requires-clause-pivot c =
     let w = c.args.system.now.width in
     record {
       inside = subst (λ m. (c.in-Some.l - m) * w + w ≤ length c.args.frame.now.a.now) (sym c.unknowns-width.ensures)
-          (rows_in w (c.in-Some.l - w) (height c.args.system.now) (length c.args.frame.now.a.now) (side_in c.args.system.now c.args.frame.now.n c.args.seats.now c.requires.held.seated c.args.frame.now.scales.now c.args.place.den c.args.v.now c.args.frame.now.a.now c.args.frame.now.b.now c.requires.frame.bounds.most_side c.requires.frame.whole c.requires.frame.bounds.bounds.sides c.requires.held.narrow c.requires.underway.stands c.in-Some.l e) c.requires.frame.whole.entries_size);
-      room = c.requires.frame.room;
+          (rows_in w (c.in-Some.l - w) (height c.args.system.now) (length c.args.frame.now.a.now) (side_in c.args.system.now c.args.frame.now.n c.args.seats.now c.requires.held.seated c.args.frame.now.scales.now c.args.place.den c.args.v.now c.args.frame.now.a.now c.args.frame.now.b.now c.requires.frame.numbers.whole c.requires.underway.stands c.in-Some.l e) c.requires.frame.numbers.whole.entries_size);
+      room = c.requires.frame.numbers.room;
       square = numbers_square at.After-unsigned_abs-size;
       column = column_below at.After-column_of-c e (enters_is at.In-Some-pick e);
       den_some = subst (λ d. 0 < d) (sym c.of-by.ensures) c.requires.underway.stands.form.some;
@@ -198,7 +199,7 @@ returns-clause-underway c =
     let at = goal.at.returns-clause-underway c in
     let e = leaver_is at.In-Some (found at.After-leaving) in
     let o = enters_is at.In-Some-pick e in
-    let rs = row_seat (seat_at c.args.seats.now c.in-Some.l) (leaving_seat c.args.system.now c.args.frame.now.n c.args.seats.now c.requires.held.seated c.args.frame.now.scales.now c.args.place.den c.args.v.now c.args.frame.now.a.now c.args.frame.now.b.now c.requires.frame.bounds.most_side c.requires.frame.whole c.requires.frame.bounds.bounds.sides c.requires.held.narrow c.requires.underway.stands c.in-Some.l e) in
+    let rs = row_seat (seat_at c.args.seats.now c.in-Some.l) (leaving_seat c.args.system.now c.args.frame.now.n c.args.seats.now c.requires.held.seated c.args.frame.now.scales.now c.args.place.den c.args.v.now c.args.frame.now.a.now c.args.frame.now.b.now c.requires.frame.numbers.whole c.requires.underway.stands c.in-Some.l e) in
     let piv : IsWholePivot c.args.system.now.width c.args.place.den c.args.v.now c.exchange.new.v c.pick.new.x c.column_of-c.result = subst₂ (λ w d. IsWholePivot w d c.args.v.now c.exchange.new.v c.pick.new.x c.column_of-c.result) c.pick.ensures.row.size c.of-by.ensures c.in_ok-own.ensures.pivot in
     let stand = c.swap.ensures.seats.seats rs.0 c.column_of-c.result rs.1 c.column_of-c.ensures in
     let size = size_is at.After-unsigned_abs-size in
@@ -208,7 +209,7 @@ returns-clause-underway c =
     in
     subst (IsUnderway c.args.system.now c.args.frame.now.n c.swap.new.seats c.args.frame.now.scales.now c.unsigned_abs-size.result c.exchange.new.v c.follow.new.c_1 c.follow.new.c_2 c.greater.result c.greater-2.result) (sym c.unknowns-width.ensures)
     (subst₂ (λ (t : List Seat) d. IsUnderway c.args.system.now c.args.frame.now.n t c.args.frame.now.scales.now d c.exchange.new.v c.follow.new.c_1 c.follow.new.c_2 c.greater.result c.greater-2.result c.args.system.now.width) (sym stand) (sym size)
-    (next_underway c.args.system.now c.args.frame.now.n c.args.seats.now c.requires.held.seated c.args.frame.now.scales.now c.args.place.den c.args.v.now c.args.frame.now.a.now c.args.frame.now.b.now c.requires.frame.bounds.most_side c.requires.frame.whole c.requires.frame.bounds.bounds.sides c.requires.held.narrow c.requires.underway.stands c.in-Some.l e c.pick.new.x c.pick.ensures.row c.in-Some-pick.e o rs.0 c.column_of-c.result rs.1 c.column_of-c.ensures c.exchange.new.v piv c.args.c_1.now c.args.c_2.now c.follow.new.c_1 c.follow.new.c_2 c.requires.underway.values followed c.args.place.greatest c.args.place.greatest_den c.greater.result c.greater-2.result c.greater.ensures.first c.greater-2.ensures.first
+    (next_underway c.args.system.now c.args.frame.now.n c.args.seats.now c.requires.held.seated c.args.frame.now.scales.now c.args.place.den c.args.v.now c.args.frame.now.a.now c.args.frame.now.b.now c.requires.frame.bounds.most_side c.requires.frame.numbers.whole c.requires.frame.bounds.bounds.sides c.requires.held.narrow c.requires.underway.stands c.in-Some.l e c.pick.new.x c.pick.ensures.row c.in-Some-pick.e o rs.0 c.column_of-c.result rs.1 c.column_of-c.ensures c.exchange.new.v piv c.args.c_1.now c.args.c_2.now c.follow.new.c_1 c.follow.new.c_2 c.requires.underway.values followed c.args.place.greatest c.args.place.greatest_den c.greater.result c.greater-2.result c.greater.ensures.first c.greater-2.ensures.first
     (weaker c.args.place.own c.greater.result c.args.v.now c.requires.held.own c.greater.ensures.second) c.greater-2.ensures.second c.requires.underway.before))
 
 pub returns-clause-held : goal.returns-clause-held
@@ -252,8 +253,8 @@ returns-in_default-clause-underway c = tt
 pub returns-in_default-clause-held : goal.returns-in_default-clause-held
 returns-in_default-clause-held c = tt
 
-pub pick-requires-clause-frame : goal.pick-requires-clause-frame
-pick-requires-clause-frame c = c.requires.frame
+pub pick-requires-clause-numbers : goal.pick-requires-clause-numbers
+pick-requires-clause-numbers c = c.requires.frame.numbers
 
 pub pick-requires-clause-columns : goal.pick-requires-clause-columns
 pick-requires-clause-columns c = c.requires.held.columns.each
@@ -282,8 +283,8 @@ exchange-requires-clause-small c = c.requires.held.small
 pub exchange-requires-clause-row_small : goal.exchange-requires-clause-row_small
 exchange-requires-clause-row_small c = c.pick.ensures.small
 
-pub follow-requires-clause-frame : goal.follow-requires-clause-frame
-follow-requires-clause-frame c = c.requires.frame
+pub follow-requires-clause-numbers : goal.follow-requires-clause-numbers
+follow-requires-clause-numbers c = c.requires.frame.numbers
 
 pub follow-requires-clause-parts : goal.follow-requires-clause-parts
 follow-requires-clause-parts c = c.requires.held.parts

@@ -16,7 +16,7 @@ steps-init c = record {
 }
 
 pub step-requires-clause-frame : goal.step-requires-clause-frame
-step-requires-clause-frame c = record { count = c.requires.seated.count; whole = c.requires.whole; bounds = c.requires.bounds; room = c.requires.room; most_small = c.requires.most_small }
+step-requires-clause-frame c = record { numbers = record { count = c.requires.seated.count; whole = c.requires.whole; room = c.requires.room }; bounds = c.requires.bounds; most_small = c.requires.most_small }
 
 pub step-requires-clause-held : goal.step-requires-clause-held
 step-requires-clause-held c = c.steps.invariant.held

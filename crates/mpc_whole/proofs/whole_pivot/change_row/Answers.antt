@@ -1,4 +1,4 @@
-use Rattle.std.proofs.Common.{sym, ◌∙◌, ap, ◌≡◌, ◌≤◌, ◌<◌, ◌+◌, ◌*◌, ◌^◌, pos, get_or, length, arith, to_z, of_z, subst, unsigned_abs, ◌⊎◌, inr, le_trans, le_refl}
+use Rattle.std.proofs.Common.{sym, ◌∙◌, ap, ◌≡◌, ◌≤◌, ◌<◌, ◌+◌, ◌*◌, ◌*ℤ◌, ◌^◌, pos, get_or, length, arith, to_z, of_z, subst, unsigned_abs, ◌⊎◌, inr, le_trans, le_refl}
 use Rattle.std.specs.Int.{w64}
 use Rattle.mpc_whole.specs.Whole.{whole_at, whole_cell, IsChanged, turned}
 use Rattle.mpc_whole.proofs.WholeSteps.{read_small, read_bound, set_small, set_bound}
@@ -24,12 +24,12 @@ loop-c-preserved c =
     let y : to_z w64 (of_z w64 (get_or c.args.x.now c.loop-c.c (pos 0))) ≡ whole_at c.args.x.now c.loop-c.c = read_small _ (c.requires.row_small.each c.loop-c.c) in
     let size : c.unsigned_abs-size.result ≡ unsigned_abs (whole_at c.args.x.now c.args.e) = c.unsigned_abs-size.ensures.value ∙ ap unsigned_abs xe in
     let back : to_z w64 (of_z w64 c.in_ok-new.new) ≡ c.in_ok-new.new = read_small _ (le_trans c.in_ok-new.ensures.small c.requires.most_small) in
-    let changes : IsChanged w c.args.by.den c.args.v.now c.args.x.now c.args.j c.args.e c.loop-c.c c.in_ok-new.new =
-    number_changed w c.args.by.den c.args.v.now c.args.x.now c.args.j c.args.e c.loop-c.c c.in_ok-new.new _ _ _ _ old factor y size c.in_ok-new.ensures.entering c.in_ok-new.ensures.other
+    let changes : IsChanged w c.args.by.den c.args.by.den c.args.v.now c.args.x.now c.args.j c.args.e c.loop-c.c c.in_ok-new.new =
+    number_changed w c.args.by.den c.args.by.den c.args.v.now c.args.x.now c.args.j c.args.e c.loop-c.c c.in_ok-new.new _ _ _ _ old factor y size (λ h. ap (λ u. u *ℤ pos c.args.by.den) (c.in_ok-new.ensures.entering h)) c.in_ok-new.ensures.other
     in
     record {
-      done = row_done w c.args.by.den c.args.v.now c.loop-c.v c.args.x.now c.args.j c.args.e c.loop-c.c (to_z w64 (of_z w64 c.in_ok-new.new)) b c.loop-c.invariant.done (subst (IsChanged w c.args.by.den c.args.v.now c.args.x.now c.args.j c.args.e c.loop-c.c) (sym back) changes);
-      kept = row_kept w c.args.by.den c.args.v.now c.loop-c.v c.args.x.now c.args.j c.args.e c.loop-c.c (to_z w64 (of_z w64 c.in_ok-new.new)) b c.loop-c.invariant.kept;
+      done = row_done w c.args.by.den c.args.by.den c.args.v.now c.loop-c.v c.args.x.now c.args.j c.args.e c.loop-c.c (to_z w64 (of_z w64 c.in_ok-new.new)) b c.loop-c.invariant.done (subst (IsChanged w c.args.by.den c.args.by.den c.args.v.now c.args.x.now c.args.j c.args.e c.loop-c.c) (sym back) changes);
+      kept = row_kept w c.args.by.den c.args.by.den c.args.v.now c.loop-c.v c.args.x.now c.args.j c.args.e c.loop-c.c (to_z w64 (of_z w64 c.in_ok-new.new)) b c.loop-c.invariant.kept;
       small = set_small c.loop-c.v k (to_z w64 (of_z w64 c.in_ok-new.new)) b c.args.most c.loop-c.invariant.small (subst (λ z. unsigned_abs z ≤ c.args.most) (sym back) c.in_ok-new.ensures.small);
       own = λ q h. set_bound c.loop-c.v k (to_z w64 (of_z w64 c.in_ok-new.new)) b c.loop-c.own c.max-own.result c.loop-c.invariant.own (let e = c.max-own.ensures in omega arith) (let e = c.max-own.ensures in let f = c.unsigned_abs.ensures.value in omega arith) q (omega arith);
     }

@@ -12,10 +12,10 @@ loop-j-preserved c =
     let v = c.loop-j.v in
     let new = c.change_row.new.v in
     let j = c.loop-j.j in
-    let cells : (k : ℕ) → k < w → IsChanged w c.args.by.den v c.args.x.now j c.args.e k (whole_cell w new j k) = c.in_ok-own.ensures.cells in
+    let cells : (k : ℕ) → k < w → IsChanged w c.args.by.den c.args.by.den v c.args.x.now j c.args.e k (whole_cell w new j k) = c.in_ok-own.ensures.cells in
     record {
-      done = rows_done w c.args.by.den c.args.v.now v new c.args.x.now j c.args.e c.requires.column c.loop-j.invariant.done c.loop-j.invariant.kept cells c.in_ok-own.ensures.others;
-      kept = rows_kept w c.args.by.den c.args.v.now v new c.args.x.now j c.args.e c.requires.column c.loop-j.invariant.done c.loop-j.invariant.kept cells c.in_ok-own.ensures.others;
+      done = rows_done w c.args.by.den c.args.by.den c.args.v.now v new c.args.x.now j c.args.e c.requires.column c.loop-j.invariant.done c.loop-j.invariant.kept cells c.in_ok-own.ensures.others;
+      kept = rows_kept w c.args.by.den c.args.by.den c.args.v.now v new c.args.x.now j c.args.e c.requires.column c.loop-j.invariant.done c.loop-j.invariant.kept cells c.in_ok-own.ensures.others;
       small = c.in_ok-own.ensures.small;
       own = λ k h. c.in_ok-own.ensures.own k (omega arith);
     }
@@ -45,5 +45,5 @@ returns-in_err-own c = rw c.from_residual.ensures (record { pivot = tt; small = 
 
 pub returns-clause-pivot : goal.returns-clause-pivot
 returns-clause-pivot c =
-    pivot_whole (length c.args.x.now) c.args.by.den c.args.v.now c.loop-j.v c.args.x.now c.args.e c.requires.column
+    pivot_whole (length c.args.x.now) c.args.by.den c.args.v.now c.loop-j.v c.args.x.now c.args.e c.requires.den_some c.requires.column
     (λ j k h l. c.loop-j.invariant.done j k (let t = c.loop-j-test.false in omega arith) l)

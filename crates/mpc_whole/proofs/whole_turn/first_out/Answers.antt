@@ -33,8 +33,8 @@ loop-x-preserved c = λ p some h v w t.
 pub returns : goal.returns
 returns c = λ p some h v w t. sym (none_up_to (may_leave c.args.system.now p) c.args.frame.now.n c.loop-x.x (let b = c.loop-x-test.false in omega arith) (c.loop-x.invariant p some h v w t))
 
-pub is_out-requires-clause-frame : goal.is_out-requires-clause-frame
-is_out-requires-clause-frame c = c.requires.frame
+pub is_out-requires-clause-numbers : goal.is_out-requires-clause-numbers
+is_out-requires-clause-numbers c = c.requires.numbers
 
 pub is_out-requires-clause-parts : goal.is_out-requires-clause-parts
 is_out-requires-clause-parts c = c.requires.parts

@@ -32,7 +32,7 @@ bound_is : (c : After-product-limit) → HasSides c.args.system.now c.args.frame
 bound_is c w = bound-first c.args.system.now c.args.i ∙ w.sides c.args.i c.requires.side
 
 scale : (c : After-product-limit) → 0 < scale_at c.args.frame.now.scales.now (c.args.system.now.width + c.args.i)
-scale c = c.requires.frame.whole.scales.some (c.args.system.now.width + c.args.i) (let h = c.requires.side in omega arith)
+scale c = c.requires.numbers.whole.scales.some (c.args.system.now.width + c.args.i) (let h = c.requires.side in omega arith)
 
 pub returns-then-limit-first : goal.returns-then-limit-first
 returns-then-limit-first c = λ p some v w.
@@ -76,10 +76,10 @@ returns c = λ p some v w.
 pub row_times-first-requires-clause-inside : goal.row_times-first-requires-clause-inside
 row_times-first-requires-clause-inside c =
     subst (λ w. c.args.i * w + w ≤ length c.args.frame.now.a.now) (sym c.requires.parts.first_size)
-    (rows_in c.args.system.now.width c.args.i (height c.args.system.now) (length c.args.frame.now.a.now) c.requires.side c.requires.frame.whole.entries_size)
+    (rows_in c.args.system.now.width c.args.i (height c.args.system.now) (length c.args.frame.now.a.now) c.requires.side c.requires.numbers.whole.entries_size)
 
 pub row_times-first-requires-clause-room : goal.row_times-first-requires-clause-room
-row_times-first-requires-clause-room c = subst (λ w. HasRoom w (2 ^ 62) c.args.frame.now.a.now) (sym c.requires.parts.first_size) c.requires.frame.room
+row_times-first-requires-clause-room c = subst (λ w. HasRoom w (2 ^ 62) c.args.frame.now.a.now) (sym c.requires.parts.first_size) c.requires.numbers.room
 
 pub row_times-first-requires-clause-four : goal.row_times-first-requires-clause-four
 row_times-first-requires-clause-four c = λ t. c.requires.parts.first_size ∙ c.requires.four t
@@ -87,10 +87,10 @@ row_times-first-requires-clause-four c = λ t. c.requires.parts.first_size ∙ c
 pub row_times-second-requires-clause-inside : goal.row_times-second-requires-clause-inside
 row_times-second-requires-clause-inside c =
     subst (λ w. c.args.i * w + w ≤ length c.args.frame.now.a.now) (sym c.requires.parts.second_size)
-    (rows_in c.args.system.now.width c.args.i (height c.args.system.now) (length c.args.frame.now.a.now) c.requires.side c.requires.frame.whole.entries_size)
+    (rows_in c.args.system.now.width c.args.i (height c.args.system.now) (length c.args.frame.now.a.now) c.requires.side c.requires.numbers.whole.entries_size)
 
 pub row_times-second-requires-clause-room : goal.row_times-second-requires-clause-room
-row_times-second-requires-clause-room c = subst (λ w. HasRoom w (2 ^ 62) c.args.frame.now.a.now) (sym c.requires.parts.second_size) c.requires.frame.room
+row_times-second-requires-clause-room c = subst (λ w. HasRoom w (2 ^ 62) c.args.frame.now.a.now) (sym c.requires.parts.second_size) c.requires.numbers.room
 
 pub row_times-second-requires-clause-four : goal.row_times-second-requires-clause-four
 row_times-second-requires-clause-four c = λ t. c.requires.parts.second_size ∙ c.requires.four t

@@ -4,16 +4,16 @@ use Rattle.mpc_whole.proofs.WholeWraps.{values_short}
 use Rattle.mpc_whole.proofs.whole_turn.leaving.Goals as goal
 
 pub first_out-requires-then-unknowns-eq4-clause-short : goal.first_out-requires-then-unknowns-eq4-clause-short
-first_out-requires-then-unknowns-eq4-clause-short c = λ t. values_short c.args.system.now c.args.frame.now.scales.now c.args.frame.now.a.now c.args.frame.now.b.now c.args.c_1.now c.args.c_2.now c.args.frame.now.most c.requires.frame.bounds c.requires.frame.whole.scales (c.are_small.ensures.first c.if-not-are_small.false) (c.are_small.ensures.second c.if-not-are_small.false)
+first_out-requires-then-unknowns-eq4-clause-short c = λ t. values_short c.args.system.now c.args.frame.now.scales.now c.args.frame.now.a.now c.args.frame.now.b.now c.args.c_1.now c.args.c_2.now c.args.frame.now.most c.requires.frame.bounds c.requires.frame.numbers.whole.scales (c.are_small.ensures.first c.if-not-are_small.false) (c.are_small.ensures.second c.if-not-are_small.false)
 
 pub first_out-requires-2-clause-short : goal.first_out-requires-2-clause-short
-first_out-requires-2-clause-short c = λ t. values_short c.args.system.now c.args.frame.now.scales.now c.args.frame.now.a.now c.args.frame.now.b.now c.args.c_1.now c.args.c_2.now c.args.frame.now.most c.requires.frame.bounds c.requires.frame.whole.scales (c.are_small.ensures.first c.if-not-are_small.false) (c.are_small.ensures.second c.if-not-are_small.false)
+first_out-requires-2-clause-short c = λ t. values_short c.args.system.now c.args.frame.now.scales.now c.args.frame.now.a.now c.args.frame.now.b.now c.args.c_1.now c.args.c_2.now c.args.frame.now.most c.requires.frame.bounds c.requires.frame.numbers.whole.scales (c.are_small.ensures.first c.if-not-are_small.false) (c.are_small.ensures.second c.if-not-are_small.false)
 
 pub first_out-requires-clause-side : goal.first_out-requires-clause-side
 first_out-requires-clause-side c = c.requires.side
 
-pub first_out-requires-clause-frame : goal.first_out-requires-clause-frame
-first_out-requires-clause-frame c = c.requires.frame
+pub first_out-requires-clause-numbers : goal.first_out-requires-clause-numbers
+first_out-requires-clause-numbers c = c.requires.frame.numbers
 
 pub first_out-requires-clause-seated : goal.first_out-requires-clause-seated
 first_out-requires-clause-seated c = c.requires.seated
@@ -27,8 +27,8 @@ first_out-requires-clause-den_small c = c.requires.den_small
 pub first_out-requires-then-unknowns-eq4-clause-side : goal.first_out-requires-then-unknowns-eq4-clause-side
 first_out-requires-then-unknowns-eq4-clause-side c = c.requires.side
 
-pub first_out-requires-then-unknowns-eq4-clause-frame : goal.first_out-requires-then-unknowns-eq4-clause-frame
-first_out-requires-then-unknowns-eq4-clause-frame c = c.requires.frame
+pub first_out-requires-then-unknowns-eq4-clause-numbers : goal.first_out-requires-then-unknowns-eq4-clause-numbers
+first_out-requires-then-unknowns-eq4-clause-numbers c = c.requires.frame.numbers
 
 pub first_out-requires-then-unknowns-eq4-clause-seated : goal.first_out-requires-then-unknowns-eq4-clause-seated
 first_out-requires-then-unknowns-eq4-clause-seated c = c.requires.seated
@@ -42,8 +42,8 @@ first_out-requires-then-unknowns-eq4-clause-den_small c = c.requires.den_small
 pub first_out-requires-2-clause-side : goal.first_out-requires-2-clause-side
 first_out-requires-2-clause-side c = c.requires.side
 
-pub first_out-requires-2-clause-frame : goal.first_out-requires-2-clause-frame
-first_out-requires-2-clause-frame c = c.requires.frame
+pub first_out-requires-2-clause-numbers : goal.first_out-requires-2-clause-numbers
+first_out-requires-2-clause-numbers c = c.requires.frame.numbers
 
 pub first_out-requires-2-clause-seated : goal.first_out-requires-2-clause-seated
 first_out-requires-2-clause-seated c = c.requires.seated

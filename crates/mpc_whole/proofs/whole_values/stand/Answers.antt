@@ -54,7 +54,7 @@ loop-y-preserved c =
     let first_b : whole_at c.args.frame.now.b.now (c.loop-y.y - s.width) ≡ to_z w64 (of_z w64 (get_or c.args.frame.now.b.now (c.loop-y.y - c.unknowns-width.result) (pos 0))) =
     ap (λ w. whole_at c.args.frame.now.b.now (c.loop-y.y - w)) (sym e) ∙ sym (to_z-of_z w64 _ g)
     in
-    let scale : 0 < scale_at c.args.frame.now.scales.now c.loop-y.y = c.requires.frame.whole.scales.some c.loop-y.y (let k = c.loop-y-test.true in let q = c.requires.seated.count in omega arith) in
+    let scale : 0 < scale_at c.args.frame.now.scales.now c.loop-y.y = c.requires.numbers.whole.scales.some c.loop-y.y (let k = c.loop-y-test.true in let q = c.requires.seated.count in omega arith) in
     let there : s.width + (c.loop-y.y - c.unknowns-width.result) ≡ c.loop-y.y = omega arith in
     let second_b : (rest s c.loop-y.y).second ≡ frac (to_z w64 (of_z w64 c.step_of-step.result)) (scale_at c.args.frame.now.scales.now c.loop-y.y) =
     rest_second s c.loop-y.y low ∙ ap (λ w. (bound s (s.width + (c.loop-y.y - w))).second) (sym e) ∙ c.step_of-step.ensures.value
@@ -89,7 +89,7 @@ pub returns-in_err-add_column-2 : goal.returns-in_err-add_column-2
 returns-in_err-add_column-2 c = rw c.from_residual-in_err-add_column-2.ensures (record { values = tt; parts = tt })
 
 pub step_of-step-requires-clause-scales : goal.step_of-step-requires-clause-scales
-step_of-step-requires-clause-scales c = c.requires.frame.whole.scales
+step_of-step-requires-clause-scales c = c.requires.numbers.whole.scales
 
 pub column_of-c-requires-clause-free : goal.column_of-c-requires-clause-free
 column_of-c-requires-clause-free c = sym c.is_basic.ensures ∙ c.if-is_basic.false

@@ -3,8 +3,9 @@ use Rattle.mpc_rows.specs.declared.systems.Row.{Row}
 use Rattle.mpc_rows.specs.LinearSystem.{LinearSystem, height}
 use Rattle.mpc_whole.specs.Whole.{scale_at}
 use Rattle.mpc_beginnings.specs.Beginnings.{lengthened}
-use Rattle.mpc_beginnings.specs.Kept.{AreNumbers, AreListsOf, IsFirstLater, IsUnderwayWithin}
-use Rattle.mpc_beginnings.proofs.Continued.{lists_longer, within_longer}
+use Rattle.mpc_whole.specs.Lists.{AreListsOf}
+use Rattle.mpc_beginnings.specs.Kept.{AreNumbers, IsFirstLater, IsUnderwayWithin, IsUnderwayWithRoom}
+use Rattle.mpc_beginnings.proofs.Continued.{lists_longer, within_longer, room_longer}
 use Rattle.mpc_beginnings.proofs.kept.KeptRun.go_on.Goals as goal
 
 pub run_on-requires-clause-lists : goal.run_on-requires-clause-lists
@@ -12,8 +13,8 @@ run_on-requires-clause-lists c =
     let r = c.self.inside in
     let more : List Row = c.requires.longer.0 in
     let e : c.args.longer.now ≡ lengthened r.system more = c.requires.longer.1 ∙ ap (λ (t : LinearSystem). lengthened t more) (sym c.self.view_is) in
-    subst (λ (t : LinearSystem). AreListsOf t r.last.place.own c.set_to.new.self) (sym e)
-    (lists_longer r.system more r.last.scales.items r.last.lists r.last.place r.last.end c.self.invariant c.height.result c.height-2.result c.height.ensures (c.height-2.ensures ∙ ap height e) c.set_to.new.self c.in_ok-set_to.ensures)
+    subst (λ (t : LinearSystem). AreListsOf t r.last.place.own c.set_lists.new.lists) (sym e)
+    (lists_longer r.system more r.last.scales.items r.last.lists r.last.place r.last.end c.self.invariant c.height.result c.height-2.result c.height.ensures (c.height-2.ensures ∙ ap height e) c.set_lists.new.lists c.in_ok-set_lists.ensures)
 
 pub run_on-requires-clause-start : goal.run_on-requires-clause-start
 run_on-requires-clause-start c =
@@ -25,6 +26,28 @@ run_on-requires-clause-start c =
     subst (λ (t : List ℕ). (x : ℕ) → x < length t → scale_at k.scales.now x ≡ scale_at t x) c.deref.ensures.value (c.begins_with.ensures c.if-not-begins_with.false)
     in
     let first : IsFirstLater r.system c.first_later.result = subst (λ (t : LinearSystem). IsFirstLater t c.first_later.result) (sym c.self.view_is) c.first_later.ensures in
-    subst (λ (t : LinearSystem). IsUnderwayWithin t k c.set_to.new.self (record r.last.place { first = c.first_later.result })) (sym e)
-    (within_longer r.system more r.last.scales.items r.last.lists r.last.place r.last.end c.self.invariant c.height.result c.height-2.result c.height.ensures (c.height-2.ensures ∙ ap height e) c.set_to.new.self c.in_ok-set_to.ensures
+    subst (λ (t : LinearSystem). IsUnderwayWithin t k c.set_lists.new.lists (record r.last.place { first = c.first_later.result })) (sym e)
+    (within_longer r.system more r.last.scales.items r.last.lists r.last.place r.last.end c.self.invariant c.height.result c.height-2.result c.height.ensures (c.height-2.ensures ∙ ap height e) c.set_lists.new.lists c.in_ok-set_lists.ensures
+    c.first_later.result first k (subst (λ (t : LinearSystem). AreNumbers t k) e c.requires.numbers) same)
+
+pub judge_on-requires-clause-lists : goal.judge_on-requires-clause-lists
+judge_on-requires-clause-lists c =
+    let r = c.self.inside in
+    let more : List Row = c.requires.longer.0 in
+    let e : c.args.longer.now ≡ lengthened r.system more = c.requires.longer.1 ∙ ap (λ (t : LinearSystem). lengthened t more) (sym c.self.view_is) in
+    subst (λ (t : LinearSystem). AreListsOf t r.last.place.own c.set_lists-2.new.lists) (sym e)
+    (lists_longer r.system more r.last.scales.items r.last.lists r.last.place r.last.end c.self.invariant c.height-3.result c.height-4.result c.height-3.ensures (c.height-4.ensures ∙ ap height e) c.set_lists-2.new.lists c.in_ok-set_lists-2.ensures)
+
+pub judge_on-requires-clause-start : goal.judge_on-requires-clause-start
+judge_on-requires-clause-start c =
+    let r = c.self.inside in
+    let more : List Row = c.requires.longer.0 in
+    let e : c.args.longer.now ≡ lengthened r.system more = c.requires.longer.1 ∙ ap (λ (t : LinearSystem). lengthened t more) (sym c.self.view_is) in
+    let k = c.args.numbers.now in
+    let same : (x : ℕ) → x < length r.last.scales.items → scale_at k.scales.now x ≡ scale_at r.last.scales.items x =
+    subst (λ (t : List ℕ). (x : ℕ) → x < length t → scale_at k.scales.now x ≡ scale_at t x) c.deref.ensures.value (c.begins_with.ensures c.if-not-begins_with.false)
+    in
+    let first : IsFirstLater r.system c.first_later.result = subst (λ (t : LinearSystem). IsFirstLater t c.first_later.result) (sym c.self.view_is) c.first_later.ensures in
+    subst (λ (t : LinearSystem). IsUnderwayWithRoom t k c.set_lists-2.new.lists (record r.last.place { first = c.first_later.result })) (sym e)
+    (room_longer r.system more r.last.scales.items r.last.lists r.last.place r.last.end c.self.invariant c.height-3.result c.height-4.result c.height-3.ensures (c.height-4.ensures ∙ ap height e) c.set_lists-2.new.lists c.in_ok-set_lists-2.ensures
     c.first_later.result first k (subst (λ (t : LinearSystem). AreNumbers t k) e c.requires.numbers) same)

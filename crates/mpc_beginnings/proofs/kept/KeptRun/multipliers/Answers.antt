@@ -1,11 +1,10 @@
-use Rattle.std.proofs.Common.{rules, ◌≡◌, ℕ, List, sym, subst, arith}
+use Rattle.std.proofs.Common.{rules, ◌≡◌, ℕ, List, sym, subst}
 use Rattle.mpc_rows.specs.LinearSystem.{LinearSystem}
-use Rattle.mpc_rows.specs.Run.{count, is_refuted, turn, last_position}
+use Rattle.mpc_rows.specs.Run.{is_refuted, turn, last_position}
 use Rattle.mpc_whole.specs.declared.whole.Ending.{Ending}
 use Rattle.mpc_whole.specs.declared.whole.Ending.TheVariants.{Refuted}
 use Rattle.mpc_whole.specs.declared.whole.Place.{Place}
-use Rattle.mpc_whole.specs.Whole.{IsNarrow}
-use Rattle.mpc_beginnings.specs.declared.lists.RunLists.{RunLists}
+use Rattle.mpc_whole.specs.declared.lists.RunLists.{RunLists}
 use Rattle.mpc_beginnings.specs.Kept.{IsKept}
 use Rattle.mpc_beginnings.proofs.kept.KeptRun.multipliers.Goals as goal
 
@@ -16,17 +15,13 @@ kept_refuted s k l p end z scales e x t =
       lists = z.lists;
       den_small = z.den_small;
       ended = record { form = z.ended.form; values = z.ended.values; before = z.ended.before; turns = t; fits = z.ended.fits };
+      before = z.before;
     })
 
-pub multipliers_of-requires-clause-reached : goal.multipliers_of-requires-clause-reached
-multipliers_of-requires-clause-reached c =
+pub multipliers_of-requires-clause-kept : goal.multipliers_of-requires-clause-kept
+multipliers_of-requires-clause-kept c =
     let r = c.self.inside in
     let m = c.numbers_of-numbers.result in
     let same : m.scales.now ≡ r.last.scales.items = search rules in
     let ends : turn r.system (last_position r.system) ≡ is_refuted c.args.l = subst (λ (t : LinearSystem). turn t (last_position t) ≡ is_refuted c.args.l) (sym c.self.view_is) c.requires in
-    let counted : c.len.result ≡ count r.system = (let o = r.last.lists.seats.ok in let e = c.len.ensures in let z = c.self.invariant.lists.seated.each in omega (arith, o, e, z)) in
-    record {
-      kept = kept_refuted r.system r.last.scales.items r.last.lists r.last.place r.last.end c.self.invariant m.scales.now same c.args.l ends;
-      room = c.in-Some.ensures.room;
-      narrow = subst (λ n. IsNarrow r.system n r.last.lists.seats.items m.scales.now m.a.now r.last.place.den r.last.lists.v.items) counted (c.in-Some.ensures.narrow r.last.lists.seats.items r.last.lists.v.items c.self.invariant.lists.own);
-    }
+    kept_refuted r.system r.last.scales.items r.last.lists r.last.place r.last.end c.self.invariant m.scales.now same c.args.l ends

@@ -2,7 +2,7 @@ use Rattle.std.proofs.Common.{ℕ, ◌+◌, ◌-◌, ◌∙◌, List, subst}
 use Rattle.mpc_whole.specs.declared.variables.Seat.{Seat}
 use Rattle.mpc_whole.specs.Table.{IsSeated}
 use Rattle.mpc_beginnings.specs.LongerSeats.{AreLongerSeats}
-use Rattle.mpc_beginnings.proofs.lists.RunLists.set_to.Goals as goal
+use Rattle.mpc_beginnings.proofs.lists.set_lists.Goals as goal
 
 pub returns : goal.returns
 returns c = record {

@@ -1,0 +1,16 @@
+use Rattle.mpc_beginnings.proofs.Continued.{opening_lists, opening_within, opening_with_room}
+use Rattle.mpc_beginnings.proofs.kept.first_run.Goals as goal
+
+pub run_on-requires-clause-lists : goal.run_on-requires-clause-lists
+run_on-requires-clause-lists c = opening_lists c.args.system.now c.in_ok-lists.field-0 c.in_ok-lists.ensures
+
+pub run_on-requires-clause-start : goal.run_on-requires-clause-start
+run_on-requires-clause-start c =
+    opening_within c.args.system.now c.args.numbers.now c.requires.numbers c.in_ok-lists.field-0 c.in_ok-lists.ensures c.unknowns-width.result c.unknowns-width.ensures
+
+pub judge_on-requires-clause-lists : goal.judge_on-requires-clause-lists
+judge_on-requires-clause-lists c = opening_lists c.args.system.now c.in_ok-lists-2.field-0 c.in_ok-lists-2.ensures
+
+pub judge_on-requires-clause-start : goal.judge_on-requires-clause-start
+judge_on-requires-clause-start c =
+    opening_with_room c.args.system.now c.args.numbers.now c.requires.numbers c.in_ok-lists-2.field-0 c.in_ok-lists-2.ensures c.unknowns-width.result c.unknowns-width.ensures

@@ -1,0 +1,129 @@
+-- One turn of a run whose positions are judged row by row.
+use Rattle.std.proofs.Common.{◌≡◌, ℕ, ◌+◌, ◌-◌, ◌*◌, ◌^◌, ◌<◌, ◌≤◌, false, List, set, ℤ, unsigned_abs, Some, None, suc, refl, sym, ◌∙◌, ap, subst, arith, ⊎_elim, le_trans}
+use Rattle.std.proofs.lemmas.Bool.{both_ways, cases_eq}
+use Rattle.mpc_rows.specs.Least.{least}
+use Rattle.mpc_rows.specs.LinearSystem.{LinearSystem, height}
+use Rattle.mpc_rows.specs.Run.{Position, goes_on, leaving, count, may_leave, may_enter, turn, is_pivot, position, steps}
+use Rattle.mpc_rows.specs.RunWidth.{PositionFits}
+use Rattle.mpc_whole.specs.declared.variables.Seat.{Seat}
+use Rattle.mpc_whole.specs.declared.variables.Seat.TheVariants.{Row, Column}
+use Rattle.mpc_whole.specs.declared.whole.Ending.{Ending}
+use Rattle.mpc_whole.specs.declared.whole.Ending.TheVariants.{Point, Refuted}
+use Rattle.mpc_whole.specs.Table.{seat_at, IsSeated}
+use Rattle.mpc_whole.specs.Norms.{Over}
+use Rattle.mpc_whole.specs.Moved.{AreFormed}
+use Rattle.mpc_whole.specs.Underway.{turn_of, HasEnded}
+use Rattle.mpc_whole.specs.Judged.{IsJudged, IsRowWithin, IsReducedPivot, IsMildForm, AreMildBefore, IsMildlyUnderway}
+use Rattle.mpc_whole.specs.Whole.{scale_at, IsSmall, IsWholeSystem, IsSideRow}
+use Rattle.mpc_whole.proofs.Positions.{tableau}
+use Rattle.mpc_whole.proofs.Turn.{Leaves}
+use Rattle.mpc_whole.proofs.WholeForm.{side_over, judged_over}
+use Rattle.mpc_whole.proofs.WholeSizes.{wider_form, small_form}
+use Rattle.mpc_whole.proofs.Standing.{reached_of, point_here, is_at_end, has_ended, leaves_here, refuted_here, goes_here, next_form, next_underway}
+
+module _ (s : LinearSystem) (k : List ℕ) where
+  -- greater sizes
+  wider_mild : (p : Position) (m e f most most_den product : ℕ) → m ≤ most → e ≤ most_den → f ≤ product → IsMildForm s k p m e f → IsMildForm s k p most most_den product
+  wider_mild p m e f most most_den product h l q z = record {
+    form = wider_form s k p m e most most_den h l z.form;
+    own = z.own;
+    small = z.small;
+    den_small = z.den_small;
+    top = z.top;
+    row = z.row;
+    row_den = z.row_den;
+    room = le_trans z.room q;
+  }
+
+  -- one position more
+  mild_after : (q m m_den f most most_den product : ℕ) → m ≤ most → m_den ≤ most_den → f ≤ product → AreMildBefore s k q m m_den f → IsMildForm s k (position s q) most most_den product → AreMildBefore s k (suc q) most most_den product
+  mild_after q m m_den f most most_den product h l o b z = record {
+    each = λ i below. ⊎_elim (λ e. subst (λ j. IsMildForm s k (position s j) most most_den product) (sym e) z) (λ e. wider_mild (position s i) m m_den f most most_den product h l o (b.each i (omega arith))) (cases_eq i q);
+  }
+
+module _ (s : LinearSystem) (n : ℕ) (seats : List Seat) (seated : IsSeated (height s) s.width n seats) (k : List ℕ) (d : ℕ) (v a b : List ℤ) (w : IsWholeSystem s k a b) (c_1 c_2 : List ℤ) (most most_den product first : ℕ)
+    (u : IsMildlyUnderway s n seats k d v c_1 c_2 most most_den product first) (small : d ≤ 2 ^ 62) (top : ℕ) (g : IsJudged s n seats k a b d v top) where
+  abbrev here : Position
+  here = position s u.underway.stands.at
+
+  -- ---- an end
+  module _ (end : Ending) (t : turn s here ≡ turn_of end) (stops : is_pivot (turn_of end) ≡ false) where
+    end_fits : PositionFits s here
+    end_fits =
+        judged_over s here (reached_of s n seats k d v u.underway.stands) k a b w n (sym seated.count) seats d v u.underway.stands.form top small g
+        (λ l e q. absurd (both_ways (is_pivot (turn s here)) (ap is_pivot t ∙ stops) (ap is_pivot q))) (λ l e q. absurd (both_ways (is_pivot (turn s here)) (ap is_pivot t ∙ stops) (ap is_pivot q)))
+
+    kept_end : HasEnded s n seats k d v c_1 c_2 most most_den end
+    kept_end = has_ended s n seats seated k d v a b w u.underway.stands end_fits end t stops c_1 c_2 u.underway.values most most_den u.underway.before
+
+    mild_end : AreMildBefore s k (steps s) most most_den product
+    mild_end = subst (λ q. AreMildBefore s k q most most_den product) (is_at_end s n seats seated k d v a b w u.underway.stands end_fits end t stops) u.before
+
+  module _ (e : None ≡ least (may_leave s here) n) where
+    pub judged_point : HasEnded s n seats k d v c_1 c_2 most most_den Point
+    judged_point = kept_end Point (point_here s n seats seated k d v a b w u.underway.stands e) refl
+
+    pub mild_point : AreMildBefore s k (steps s) most most_den product
+    mild_point = mild_end Point (point_here s n seats seated k d v a b w u.underway.stands e) refl
+
+  module _ (l : ℕ) (e : Some l ≡ least (may_leave s here) n) where
+    module _ (o : None ≡ least (may_enter s here l) n) where
+      pub judged_refuted : HasEnded s n seats k d v c_1 c_2 most most_den (Refuted l)
+      judged_refuted = kept_end (Refuted l) (refuted_here s n seats seated k d v a b w u.underway.stands l e o) refl
+
+      pub mild_refuted : AreMildBefore s k (steps s) most most_den product
+      mild_refuted = mild_end (Refuted l) (refuted_here s n seats seated k d v a b w u.underway.stands l e o) refl
+
+    -- ---- a pivot, where f enters
+    module _ (f : ℕ) (o : Some f ≡ least (may_enter s here l) n) (x : List ℤ) (row : IsSideRow s a v (l - s.width) x) (h : IsRowWithin n seats k d l x top) where
+      goes : turn s here ≡ goes_on l f
+      goes = goes_here s n seats seated k d v a b w u.underway.stands l e f o
+
+      leaves : Leaves s here l
+      leaves = leaves_here s n seats seated k d v a b w u.underway.stands l e
+
+      row_there : (y : ℕ) → y < count s → Over (d * scale_at k l) top (here.coefficient l y)
+      row_there y below =
+          let h₁ : l < count s = leaves.below in
+          let h₂ : s.width ≤ l = leaves.violated.side in
+          let back : s.width + (l - s.width) ≡ l = omega arith in
+          subst (λ m. Over (d * scale_at k m) top (here.coefficient m y)) back
+          (side_over s here (reached_of s n seats k d v u.underway.stands) k a b w n (sym seated.count) seats d v u.underway.stands.form (l - s.width) top (omega arith)
+          (λ z c q e. subst (λ m. unsigned_abs m * scale_at k z ≤ top) (row.cells c (seated.columns z c q e).0) (h.entries z c q e)) y below)
+
+      -- no other turn is made there
+      same_side : (m i : ℕ) → turn s here ≡ goes_on m i → l ≡ m
+      same_side m i q = ap leaving (sym goes ∙ q)
+
+      rows_there : (m i : ℕ) → turn s here ≡ goes_on m i → (y : ℕ) → y < count s → Over (d * scale_at k m) top (here.coefficient m y)
+      rows_there m i q y below = subst (λ j. Over (d * scale_at k j) top (here.coefficient j y)) (same_side m i q) (row_there y below)
+
+      dens_there : (m i : ℕ) → turn s here ≡ goes_on m i → d * scale_at k m ≤ top
+      dens_there m i q = subst (λ j. d * scale_at k j ≤ top) (same_side m i q) h.den_within
+
+      fits_here : PositionFits s here
+      fits_here = judged_over s here (reached_of s n seats k d v u.underway.stands) k a b w n (sym seated.count) seats d v u.underway.stands.form top small g rows_there dens_there
+
+      mild_here : (more more_den more_product own : ℕ) → IsSmall more v → d ≤ more_den → IsSmall own v → d ≤ own → own * top ≤ more_product → IsMildForm s k here more more_den more_product
+      mild_here more more_den more_product own small_v den_small own_v own_den room = record {
+        form = small_form s k n seats seated d v here u.underway.stands.form more more_den small_v den_small;
+        own = own;
+        small = own_v;
+        den_small = own_den;
+        top = top;
+        row = rows_there;
+        row_den = dens_there;
+        room = room;
+      }
+
+      pub next_mildly : (r₀ c₀ : ℕ) → seat_at seats l ≡ Row r₀ → seat_at seats f ≡ Column c₀ → (new : List ℤ) (size : ℕ) → IsReducedPivot s.width d v new x c₀ size
+          → (n_1 n_2 : List ℤ) → AreFormed s n (set (set seats l (Column c₀)) f (Row r₀)) k b new n_1 n_2
+          → (own more more_den more_product : ℕ) → most ≤ more → most_den ≤ more_den → product ≤ more_product → IsSmall more v → d ≤ more_den → IsSmall own v → d ≤ own → own * top ≤ more_product
+          → IsMildlyUnderway s n (set (set seats l (Column c₀)) f (Row r₀)) k size new n_1 n_2 more more_den more_product s.width
+      next_mildly r₀ c₀ sl sf new size piv n_1 n_2 formed own more more_den more_product wide wide_den wide_product small_v den_small own_v own_den room =
+          let z = u.underway.stands in
+          let values = formed.each (position s (suc z.at)) size (tableau s (suc z.at)) (next_form s n seats seated k d v a b w z l e f o r₀ c₀ sl sf x row new size piv) w.sides in
+          record {
+            underway = next_underway s n seats seated k d v a b w z l e f o r₀ c₀ sl sf x row new size piv fits_here n_1 n_2 values most most_den more more_den wide wide_den small_v den_small u.underway.before;
+            before = mild_after s k z.at most most_den product more more_den more_product wide wide_den wide_product u.before (mild_here more more_den more_product own small_v den_small own_v own_den room);
+          }

@@ -1,0 +1,141 @@
+use Rattle.std.proofs.Common.{ℕ, ℤ, ◌≡◌, ◌∙◌, ◌<◌, ◌*◌, ◌^◌, List, length, sym, ap, subst, subst₂, arith, mul-pos, le_trans}
+use Rattle.std.specs.Vec.{with_items}
+use Rattle.std.proofs.lemmas.List.{with_items_is}
+use Rattle.mpc_rows.specs.LinearSystem.{height}
+use Rattle.mpc_rows.specs.Run.{count}
+use Rattle.mpc_whole.specs.declared.variables.Seat.{Seat}
+use Rattle.mpc_whole.specs.declared.variables.Seat.TheVariants.{Column}
+use Rattle.mpc_whole.specs.Table.{seat_at, IsSeated, AreNonbasic}
+use Rattle.mpc_whole.specs.Whole.{scale_at, IsSmall, IsSwapped}
+use Rattle.mpc_whole.specs.Judged.{IsJudged, IsRowWithin, IsReducedPivot, IsMildlyUnderway}
+use Rattle.mpc_whole.specs.Moved.{AreFormed}
+use Rattle.mpc_whole.proofs.JudgedTurns.{leaver_in, leaver_seat, enterer_in, enterer_seat, seated_after, mildly_after}
+use Rattle.mpc_whole.proofs.WholeRows.{weaker}
+use Rattle.mpc_whole.proofs.judged.advance.Goals as goal
+use Rattle.mpc_whole.proofs.judged.advance.Goals.{After-column_of-c, After-swap, After-stand}
+
+pub row_top-top-requires-clause-leaves : goal.row_top-top-requires-clause-leaves
+row_top-top-requires-clause-leaves c = subst (λ m. c.args.l < m) (sym c.requires.numbers.whole.scales.size) (leaver_in c.requires.numbers.whole c.requires.lists c.requires.goes)
+
+pub row_top-top-requires-clause-columns : goal.row_top-top-requires-clause-columns
+row_top-top-requires-clause-columns c = rw c.deref.ensures.value (λ y k h e. subst (λ m. k < m) (sym c.requires.row.size) (c.requires.lists.seated.columns y k (subst (λ m. y < m) c.requires.lists.seated.each h) e).0)
+
+pub judge-requires-clause-some : goal.judge-requires-clause-some
+judge-requires-clause-some c =
+    let d : 0 < c.args.place.den = c.requires.goes.underway.underway.stands.form.some in
+    let k : 0 < scale_at c.args.frame.now.scales.now c.args.l = c.requires.numbers.whole.scales.some c.args.l (leaver_in c.requires.numbers.whole c.requires.lists c.requires.goes) in
+    let p : 0 < c.args.place.den * scale_at c.args.frame.now.scales.now c.args.l = mul-pos d k in
+    le_trans p c.row_top-top.ensures.den_within
+
+pub column_of-c-requires-clause-below : goal.column_of-c-requires-clause-below
+column_of-c-requires-clause-below c = rw c.deref-4.ensures.value (subst (λ m. c.args.e < m) (sym c.requires.lists.seated.each) (enterer_in c.requires.numbers.whole c.requires.lists c.requires.goes))
+
+pub column_of-c-requires-clause-free : goal.column_of-c-requires-clause-free
+column_of-c-requires-clause-free c = rw c.deref-4.ensures.value (enterer_seat c.requires.numbers.whole c.requires.lists c.requires.goes)
+
+entered : (c : After-column_of-c) → seat_at c.args.lists.now.seats.items c.args.e ≡ Column c.column_of-c.result
+entered c = ap (λ (t : List Seat). seat_at t c.args.e) (sym c.deref-4.ensures.value) ∙ c.column_of-c.ensures
+
+column_in : (c : After-column_of-c) → c.column_of-c.result < c.args.system.now.width
+column_in c = (c.requires.lists.seated.columns c.args.e c.column_of-c.result (enterer_in c.requires.numbers.whole c.requires.lists c.requires.goes) (entered c)).0
+
+pub reduce-requires-clause-column : goal.reduce-requires-clause-column
+reduce-requires-clause-column c = let at = goal.at.reduce-requires-clause-column c in subst (λ m. c.column_of-c.result < m) (sym c.requires.row.size) (column_in at.After-column_of-c)
+
+pub swap-requires-clause-leaves_below : goal.swap-requires-clause-leaves_below
+swap-requires-clause-leaves_below c = rw c.deref_mut-2.ensures.value (subst (λ m. c.args.l < m) (sym c.requires.lists.seated.each) (leaver_in c.requires.numbers.whole c.requires.lists c.requires.goes))
+
+pub swap-requires-clause-column_below : goal.swap-requires-clause-column_below
+swap-requires-clause-column_below c =
+    let at = goal.at.swap-requires-clause-column_below c in
+    rw c.deref_mut-3.ensures.value (subst (λ m. c.column_of-c.result < m) (sym c.requires.lists.columns.each) (column_in at.After-column_of-c))
+
+pub swap-requires-clause-leaves : goal.swap-requires-clause-leaves
+swap-requires-clause-leaves c = rw c.deref_mut-2.ensures.value (leaver_seat c.requires.numbers.whole c.requires.lists c.requires.goes)
+
+seats_back : (c : After-swap) → (with_items c.args.lists.now.seats c.swap.new.seats).items ≡ c.swap.new.seats
+seats_back c = with_items_is c.args.lists.now.seats c.swap.new.seats (let q = c.swap.auto.seats in let o = c.args.lists.now.seats.ok in let v = c.deref_mut-2.ensures.len in omega arith)
+
+swapped : (c : After-swap) → IsSwapped c.args.lists.now.seats.items c.swap.new.seats c.args.l c.args.e
+swapped c = rw c.deref_mut-2.ensures.value at c.swap.ensures.seats
+
+entered_then : (c : After-swap) → seat_at c.args.lists.now.seats.items c.args.e ≡ Column c.column_of-c.result
+entered_then c = ap (λ (t : List Seat). seat_at t c.args.e) (sym c.deref-4.ensures.value) ∙ c.column_of-c.ensures
+
+seated : (c : After-swap) → IsSeated (height c.args.system.now) c.args.system.now.width (count c.args.system.now) c.swap.new.seats
+seated c = seated_after c.requires.numbers.whole c.requires.lists c.requires.goes c.swap.new.seats (swapped c) c.column_of-c.result (entered_then c)
+
+pub stand-requires-clause-seated : goal.stand-requires-clause-seated
+stand-requires-clause-seated c =
+    let at = (goal.at.stand-requires-clause-seated c).After-swap in
+    subst₂ (λ m (t : List Seat). IsSeated (height c.args.system.now) c.args.system.now.width m t) (sym c.requires.numbers.count) (sym (c.deref-5.ensures.value ∙ seats_back at)) (seated at)
+
+nonbasic_back : (c : After-swap) → (with_items c.args.lists.now.nonbasic c.swap.new.nonbasic).items ≡ c.swap.new.nonbasic
+nonbasic_back c = with_items_is c.args.lists.now.nonbasic c.swap.new.nonbasic (let q = c.swap.auto.nonbasic in let o = c.args.lists.now.nonbasic.ok in let v = c.deref_mut-3.ensures.len in omega arith)
+
+numbers_back : (c : After-swap) → (with_items c.args.lists.now.v c.reduce.new.v).items ≡ c.reduce.new.v
+numbers_back c = with_items_is c.args.lists.now.v c.reduce.new.v (let q = c.reduce.auto.v in let o = c.args.lists.now.v.ok in let v = c.deref_mut.ensures.len in omega arith)
+
+firsts_back : (c : After-stand) → (with_items c.args.lists.now.firsts c.stand.new.c_1).items ≡ c.stand.new.c_1
+firsts_back c = with_items_is c.args.lists.now.firsts c.stand.new.c_1 (let q = c.stand.auto.c_1 in let o = c.args.lists.now.firsts.ok in let v = c.deref_mut-4.ensures.len in omega arith)
+
+seconds_back : (c : After-stand) → (with_items c.args.lists.now.seconds c.stand.new.c_2).items ≡ c.stand.new.c_2
+seconds_back c = with_items_is c.args.lists.now.seconds c.stand.new.c_2 (let q = c.stand.auto.c_2 in let o = c.args.lists.now.seconds.ok in let v = c.deref_mut-5.ensures.len in omega arith)
+
+pub returns-clause-lists : goal.returns-clause-lists
+returns-clause-lists c =
+    let at = goal.at.returns-clause-lists c in
+    let s = c.args.system.now in
+    let then = at.After-swap in
+    let parts = c.in_ok-stand.ensures.parts in
+    let numbers = numbers_back then in
+    let size : length c.reduce.new.v ≡ s.width * s.width = (let q : length c.reduce.new.v ≡ length c.deref_mut.result.now = c.reduce.auto.v in q) ∙ ap length c.deref_mut.ensures.value ∙ c.requires.lists.square in
+    record {
+      seated = subst (λ (t : List Seat). IsSeated (height s) s.width (count s) t) (sym (seats_back then)) (seated then);
+      columns = subst₂ (λ (t : List Seat) (u : List ℕ). AreNonbasic s.width t u) (sym (seats_back then)) (sym (nonbasic_back then))
+          (c.swap.ensures.columns s.width (rw (c.deref_mut-2.ensures.value, c.deref_mut-3.ensures.value) c.requires.lists.columns));
+      square = ap length numbers ∙ size;
+      small = subst (IsSmall (2 ^ 62)) (sym numbers) c.in_ok-after.ensures.small;
+      own = subst (IsSmall c.in_ok-after.after.own) (sym numbers) c.in_ok-after.ensures.own;
+      first_size = ap length (firsts_back at.After-stand) ∙ parts.first_size;
+      second_size = ap length (seconds_back at.After-stand) ∙ parts.second_size;
+      first_small = subst (IsSmall (2 ^ 62)) (sym (firsts_back at.After-stand)) parts.first_small;
+      second_small = subst (IsSmall (2 ^ 62)) (sym (seconds_back at.After-stand)) parts.second_small;
+    }
+
+pub returns-clause-underway : goal.returns-clause-underway
+returns-clause-underway c =
+    let at = goal.at.returns-clause-underway c in
+    let s = c.args.system.now in
+    let k = c.args.frame.now.scales.now in
+    let a = c.args.frame.now.a.now in
+    let b = c.args.frame.now.b.now in
+    let r = c.args.lists.now in
+    let den = c.args.place.den in
+    let top = c.row_top-top.result in
+    let then = at.After-swap in
+    let judged : IsJudged s (count s) r.seats.items k a b den r.v.items top =
+    subst (λ m. IsJudged s m r.seats.items k a b den r.v.items top) c.requires.numbers.count
+    (subst₂ (λ (t : List Seat) (u : List ℤ). IsJudged s c.args.frame.now.n t k a b den u top) c.deref-2.ensures.value c.deref-3.ensures.value c.in_ok-judge.ensures)
+    in
+    let within : IsRowWithin (count s) r.seats.items k den c.args.l c.args.x.now top =
+    subst (λ m. IsRowWithin m r.seats.items k den c.args.l c.args.x.now top) c.requires.lists.seated.each
+    (subst (λ (t : List Seat). IsRowWithin (length t) t k den c.args.l c.args.x.now top) c.deref.ensures.value c.row_top-top.ensures)
+    in
+    let piv : IsReducedPivot s.width den r.v.items c.reduce.new.v c.args.x.now c.column_of-c.result c.in_ok-after.after.den =
+    subst₂ (λ w (u : List ℤ). IsReducedPivot w den u c.reduce.new.v c.args.x.now c.column_of-c.result c.in_ok-after.after.den) c.requires.row.size c.deref_mut.ensures.value c.in_ok-after.ensures.pivot
+    in
+    let stood : AreFormed s c.args.frame.now.n c.deref-5.result.now k b c.deref-6.result.now c.stand.new.c_1 c.stand.new.c_2 = record { each = c.in_ok-stand.ensures.values } in
+    let formed : AreFormed s (count s) c.swap.new.seats k b c.reduce.new.v c.stand.new.c_1 c.stand.new.c_2 =
+    subst (λ m. AreFormed s m c.swap.new.seats k b c.reduce.new.v c.stand.new.c_1 c.stand.new.c_2) c.requires.numbers.count
+    (subst₂ (λ (t : List Seat) (u : List ℤ). AreFormed s c.args.frame.now.n t k b u c.stand.new.c_1 c.stand.new.c_2) (c.deref-5.ensures.value ∙ seats_back then) (c.deref-6.ensures.value ∙ numbers_back then) stood)
+    in
+    let next =
+    mildly_after c.requires.numbers.whole c.requires.lists c.requires.goes c.swap.new.seats (swapped then) c.column_of-c.result (entered_then then) top c.requires.den_small judged c.args.x.now c.requires.row within
+    c.reduce.new.v c.in_ok-after.after.den piv c.stand.new.c_1 c.stand.new.c_2 formed c.greater-own.result c.greater.result c.greater-2.result c.in_ok-product.product
+    c.greater.ensures.first c.greater-2.ensures.first c.in_ok-product.ensures.first (weaker c.args.place.own c.greater.result r.v.items c.requires.lists.own c.greater.ensures.second) c.greater-2.ensures.second
+    (weaker c.args.place.own c.greater-own.result r.v.items c.requires.lists.own c.greater-own.ensures.first) c.greater-own.ensures.second c.in_ok-product.ensures.second
+    in
+    subst (IsMildlyUnderway s (count s) _ k c.in_ok-after.after.den _ _ _ c.greater.result c.greater-2.result c.in_ok-product.product) (sym c.unknowns.ensures)
+    (subst₂ (λ (f g : List ℤ). IsMildlyUnderway s (count s) (with_items r.seats c.swap.new.seats).items k c.in_ok-after.after.den (with_items r.v c.reduce.new.v).items f g c.greater.result c.greater-2.result c.in_ok-product.product s.width) (sym (firsts_back at.After-stand)) (sym (seconds_back at.After-stand))
+    (subst₂ (λ (t : List Seat) (u : List ℤ). IsMildlyUnderway s (count s) t k c.in_ok-after.after.den u c.stand.new.c_1 c.stand.new.c_2 c.greater.result c.greater-2.result c.in_ok-product.product s.width) (sym (seats_back then)) (sym (numbers_back then)) next))

@@ -1,0 +1,47 @@
+use Rattle.std.proofs.Common.{ℕ, ◌≡◌, ◌*◌, ◌<◌, ◌≤◌, ◌⊎◌, inl, inr, length, pos, unsigned_abs, arith, subst, sym, ◌∙◌, le_trans, mul-le-mul_right}
+use Rattle.std.proofs.lemmas.Bool.{cases_lt}
+use Rattle.std.proofs.lemmas.List.{get_or_past}
+use Rattle.mpc_whole.specs.Whole.{whole_at, whole_cell, IsChanged}
+use Rattle.mpc_whole.proofs.WholeExchange.{rows_done, rows_kept}
+use Rattle.mpc_whole.proofs.reduced.reduce_rows.Goals as goal
+use Rattle.mpc_whole.proofs.reduced.reduce_rows.Goals.{After-loop-j}
+
+pub loop-j-preserved : goal.loop-j-preserved
+loop-j-preserved c =
+    let w = length c.args.x.now in
+    let v = c.loop-j.v in
+    let new = c.reduce_row.new.v in
+    let j = c.loop-j.j in
+    let cells : (k : ℕ) → k < w → IsChanged w c.args.by.den c.args.den v c.args.x.now j c.args.e k (whole_cell w new j k) = c.in_ok-own.ensures.cells in
+    record {
+      done = rows_done w c.args.by.den c.args.den c.args.v.now v new c.args.x.now j c.args.e c.requires.column c.loop-j.invariant.done c.loop-j.invariant.kept cells c.in_ok-own.ensures.others;
+      kept = rows_kept w c.args.by.den c.args.den c.args.v.now v new c.args.x.now j c.args.e c.requires.column c.loop-j.invariant.done c.loop-j.invariant.kept cells c.in_ok-own.ensures.others;
+      small = c.in_ok-own.ensures.small;
+      own = λ k h. c.in_ok-own.ensures.own k (omega arith);
+    }
+
+all_of : (c : After-loop-j) → length c.loop-j.v ≤ c.loop-j.j * length c.args.x.now
+all_of c =
+    let e : length c.loop-j.v ≡ length c.args.v.now = c.loop-j.auto.v in
+    let s = c.requires.square in
+    let m : length c.args.x.now * length c.args.x.now ≤ c.loop-j.j * length c.args.x.now = mul-le-mul_right (length c.args.x.now) c.loop-j-test.false in
+    omega arith
+
+pub returns-clause-own : goal.returns-clause-own
+returns-clause-own c = record { each = λ k. by k (cases_lt k (c.loop-j.j * length c.args.x.now)) }
+  where
+    by : (k : ℕ) → (k < c.loop-j.j * length c.args.x.now) ⊎ (c.loop-j.j * length c.args.x.now ≤ k) → unsigned_abs (whole_at c.loop-j.v k) ≤ c.loop-j.own
+    by k (inl h) = c.loop-j.invariant.own k h
+    by k (inr h) = subst (λ z. unsigned_abs z ≤ c.loop-j.own) (sym (get_or_past c.loop-j.v k (pos 0) (le_trans (all_of c) h))) (omega arith)
+
+pub reduce_row-requires-clause-square : goal.reduce_row-requires-clause-square
+reduce_row-requires-clause-square c = (let q : length c.loop-j.v ≡ length c.args.v.now = c.loop-j.auto.v in q) ∙ c.requires.square
+
+pub reduce_row-requires-clause-before : goal.reduce_row-requires-clause-before
+reduce_row-requires-clause-before c = c.loop-j.invariant.own
+
+pub returns-in_err-own : goal.returns-in_err-own
+returns-in_err-own c = rw c.from_residual.ensures (record { cells = tt; small = tt; own = tt })
+
+pub returns-clause-cells : goal.returns-clause-cells
+returns-clause-cells c = λ j k h l. c.loop-j.invariant.done j k (let t = c.loop-j-test.false in omega arith) l

@@ -1,0 +1,61 @@
+use Rattle.std.proofs.Common.{◌≡◌, ◌∙◌, ap, sym, subst, ◌<◌, ◌≤◌, ◌+◌, ◌*◌, ◌^◌, ◌*ℤ◌, ◌⊎◌, inl, inr, ℕ, pos, length, arith, to_z, of_z, unsigned_abs, le_refl}
+use Rattle.std.specs.Int.{w64}
+use Rattle.std.proofs.lemmas.Bool.{cases_lt}
+use Rattle.std.proofs.lemmas.List.{get_or_past}
+use Rattle.mpc_rows.specs.LinearSystem.{height}
+use Rattle.mpc_whole.specs.Whole.{whole_at, whole_cell, whole_total, HasRoom}
+use Rattle.mpc_whole.proofs.WholeExchange.{rows_in}
+use Rattle.mpc_whole.proofs.WholeRooms.{back128}
+use Rattle.mpc_whole.proofs.WholeSteps.{read_small, set_below, set_bound}
+use Rattle.mpc_whole.proofs.whole_turn.small_side_row.Goals as goal
+use Rattle.mpc_whole.proofs.whole_turn.small_side_row.Goals.{After-loop-c}
+
+pub wide_row_times_column-requires-clause-inside : goal.wide_row_times_column-requires-clause-inside
+wide_row_times_column-requires-clause-inside c =
+    subst (λ w. c.args.i * w + w ≤ length c.args.a.now) (sym c.unknowns-width.ensures)
+    (rows_in c.args.system.now.width c.args.i (height c.args.system.now) (length c.args.a.now) c.requires.side c.requires.entries)
+
+pub wide_row_times_column-requires-clause-square : goal.wide_row_times_column-requires-clause-square
+wide_row_times_column-requires-clause-square c = subst (λ w. length c.args.v.now ≡ w * w) (sym c.unknowns-width.ensures) c.requires.square
+
+pub wide_row_times_column-requires-clause-room : goal.wide_row_times_column-requires-clause-room
+wide_row_times_column-requires-clause-room c = subst (λ w. HasRoom w (2 ^ 62) c.args.a.now) (sym c.unknowns-width.ensures) c.requires.room
+
+pub wide_row_times_column-requires-clause-small : goal.wide_row_times_column-requires-clause-small
+wide_row_times_column-requires-clause-small c = c.requires.numbers_small
+
+pub loop-c-preserved : goal.loop-c-preserved
+loop-c-preserved c =
+    let b : c.loop-c.c < length c.loop-c.x = (let q : length c.loop-c.x ≡ length c.args.x.now = c.loop-c.auto.x in let r = c.requires.row_size in let t = c.loop-c-test.true in let e = c.unknowns-width.ensures in omega arith) in
+    let z = to_z w64 (of_z w64 c.in_ok-z.z) in
+    let cell = λ (w k : ℕ). whole_total w (λ j. whole_cell w c.args.a.now c.args.i j *ℤ whole_cell w c.args.v.now j k) in
+    let back : z ≡ c.in_ok-z.z = read_small _ c.in_ok-z.ensures.small in
+    record {
+      done = set_below c.loop-c.x c.loop-c.c z b (cell c.args.system.now.width) c.loop-c.invariant.done
+          (back ∙ c.in_ok-z.ensures.value ∙ back128 _ c.wide_row_times_column.type_inv ∙ c.wide_row_times_column.ensures.value ∙ ap (λ w. cell w c.loop-c.c) c.unknowns-width.ensures);
+      small = set_bound c.loop-c.x c.loop-c.c z b (2 ^ 62) (2 ^ 62) c.loop-c.invariant.small (le_refl (2 ^ 62)) (subst (λ u. unsigned_abs u ≤ 2 ^ 62) (sym back) c.in_ok-z.ensures.small);
+    }
+
+all_of : (c : After-loop-c) → c.args.system.now.width ≤ c.loop-c.c
+all_of c = let e = c.unknowns-width.ensures in let t = c.loop-c-test.false in omega arith
+
+long : (c : After-loop-c) → length c.loop-c.x ≡ c.args.system.now.width
+long c = (let q : length c.loop-c.x ≡ length c.args.x.now = c.loop-c.auto.x in q) ∙ c.requires.row_size
+
+pub returns-clause-row : goal.returns-clause-row
+returns-clause-row c =
+    let at = (goal.at.returns-clause-row c).After-loop-c in
+    record { size = long at; cells = λ k h. c.loop-c.invariant.done k (let t = all_of at in omega arith) }
+
+pub returns-clause-small : goal.returns-clause-small
+returns-clause-small c = record { each = λ k. by k (cases_lt k c.loop-c.c) }
+  where
+    at : After-loop-c
+    at = (goal.at.returns-clause-small c).After-loop-c
+
+    by : (k : ℕ) → (k < c.loop-c.c) ⊎ (c.loop-c.c ≤ k) → unsigned_abs (whole_at c.loop-c.x k) ≤ 2 ^ 62
+    by k (inl h) = c.loop-c.invariant.small k h
+    by k (inr h) = subst (λ z. unsigned_abs z ≤ 2 ^ 62) (sym (get_or_past c.loop-c.x k (pos 0) (let t = all_of at in let q = long at in omega arith))) (omega arith)
+
+pub returns-in_err-z : goal.returns-in_err-z
+returns-in_err-z c = rw c.from_residual.ensures (record { row = tt; small = tt })

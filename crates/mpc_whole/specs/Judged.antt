@@ -1,0 +1,66 @@
+-- A run in whole numbers out of which common divisors are taken, where the sizes of each row's own numbers show that no operation is wide.
+use Rattle.std.specs.Prelude.{◌≡◌, ℕ, ◌-◌, ◌*◌, ◌<◌, ◌≤◌, ◌^◌, List, ℤ, pos, ◌+ℤ◌, ◌*ℤ◌, neg_ℤ, unsigned_abs, Some}
+use Rattle.mpc_rows.specs.Least.{least}
+use Rattle.mpc_rows.specs.LinearSystem.{LinearSystem, height}
+use Rattle.mpc_rows.specs.Run.{Position, goes_on, count, may_leave, may_enter, turn, position}
+use Rattle.mpc_whole.specs.declared.variables.Seat.{Seat}
+use Rattle.mpc_whole.specs.declared.variables.Seat.TheVariants.{Column}
+use Rattle.mpc_whole.specs.Table.{seat_at}
+use Rattle.mpc_whole.specs.Norms.{Over}
+use Rattle.mpc_whole.specs.Whole.{whole_at, whole_cell, scale_at, side_cell, turned, IsSmall}
+use Rattle.mpc_whole.specs.Underway.{IsUnderway}
+use Rattle.mpc_whole.specs.SharedSizes.{IsSmallForm}
+
+-- a number of a row in the column of y, by which no term of the row's value is wide, nor a product with numbers of at most such a size
+pub record HasRoomAt (s : LinearSystem) (k : List ℕ) (b : List ℤ) (top y : ℕ) (z : ℤ) : Type 0 where
+  pub pivot : (unsigned_abs z * scale_at k y) * top ≤ 2 ^ 125
+  pub first : s.width ≤ y → count s * (unsigned_abs z * unsigned_abs (whole_at b (y - s.width))) ≤ 2 ^ 125
+  pub second : count s * (unsigned_abs z * scale_at k y) ≤ 2 ^ 125
+
+-- so are the numbers of all rows at a position
+pub record IsJudged (s : LinearSystem) (n : ℕ) (seats : List Seat) (k : List ℕ) (a b : List ℤ) (den : ℕ) (v : List ℤ) (top : ℕ) : Type 0 where
+  pub dens : (x : ℕ) → x < n → (den * scale_at k x) * top ≤ 2 ^ 125
+  pub unknowns : (j y c : ℕ) → j < s.width → y < n → seat_at seats y ≡ Column c → HasRoomAt s k b top y (whole_cell s.width v j c)
+  pub sides : (i y c : ℕ) → i < height s → y < n → seat_at seats y ≡ Column c → HasRoomAt s k b top y (side_cell s a v i c)
+
+-- the numbers of the row x of the variable l are no greater with their scales, nor is its denominator
+pub record IsRowWithin (n : ℕ) (seats : List Seat) (k : List ℕ) (den l : ℕ) (x : List ℤ) (top : ℕ) : Type 0 where
+  pub den_within : den * scale_at k l ≤ top
+  pub entries : (y c : ℕ) → y < n → seat_at seats y ≡ Column c → unsigned_abs (whole_at x c) * scale_at k y ≤ top
+
+-- the numbers after a pivot where the row x leaves and the column e enters, over the denominator size: a factor is taken out of those over
+-- the product of the denominator before it and the number of x in that column
+pub record IsReducedPivot (width den : ℕ) (old new x : List ℤ) (e size : ℕ) : Type 0 where
+  pub factor : ℕ
+  pub some : 0 < factor
+  pub over : factor * size ≡ den * unsigned_abs (whole_at x e)
+  pub column : (j : ℕ) → j < width → whole_cell width new j e *ℤ pos factor ≡ turned (whole_at x e) (whole_cell width old j e) *ℤ pos den
+  pub others : (j c : ℕ) → j < width → c < width → (c ≡ e → ⊥)
+      → whole_cell width new j c *ℤ pos factor ≡ (whole_cell width old j c *ℤ pos (unsigned_abs (whole_at x e))) +ℤ neg_ℤ (turned (whole_at x e) (whole_cell width old j e) *ℤ whole_at x c)
+
+-- ---- what is kept of the positions before, so that further rows can be judged there
+-- small numbers stand for the position; theirs and the denominator's sizes times those of the row that leaves there are at most a product
+pub record IsMildForm (s : LinearSystem) (k : List ℕ) (p : Position) (most most_den product : ℕ) : Type 0 where
+  pub form : IsSmallForm s k p most most_den
+  pub own : ℕ
+  pub small : IsSmall own form.numbers
+  pub den_small : form.den ≤ own
+  pub top : ℕ
+  pub row : (l e : ℕ) → turn s p ≡ goes_on l e → (y : ℕ) → y < count s → Over (form.den * scale_at k l) top (p.coefficient l y)
+  pub row_den : (l e : ℕ) → turn s p ≡ goes_on l e → form.den * scale_at k l ≤ top
+  pub room : own * top ≤ product
+
+-- so at all positions before this one
+pub record AreMildBefore (s : LinearSystem) (k : List ℕ) (after most most_den product : ℕ) : Type 0 where
+  pub each : (q : ℕ) → q < after → IsMildForm s k (position s q) most most_den product
+
+-- the run stands at this position, and the ones before are such
+pub record IsMildlyUnderway (s : LinearSystem) (n : ℕ) (seats : List Seat) (k : List ℕ) (den : ℕ) (v c_1 c_2 : List ℤ) (most most_den product first : ℕ) : Type 0 where
+  pub underway : IsUnderway s n seats k den v c_1 c_2 most most_den first
+  pub before : AreMildBefore s k underway.stands.at most most_den product
+
+-- and l leaves there and e enters
+pub record IsGoingOn (s : LinearSystem) (n : ℕ) (seats : List Seat) (k : List ℕ) (den : ℕ) (v c_1 c_2 : List ℤ) (most most_den product first l e : ℕ) : Type 0 where
+  pub underway : IsMildlyUnderway s n seats k den v c_1 c_2 most most_den product first
+  pub leaves : Some l ≡ least (may_leave s (position s underway.underway.stands.at)) n
+  pub enters : Some e ≡ least (may_enter s (position s underway.underway.stands.at) l) n
