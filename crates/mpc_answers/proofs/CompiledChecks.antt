@@ -11,11 +11,11 @@ use Rattle.mpc_rows.specs.declared.trees.Node.TheVariants.{Split, Law, NoMove}
 use Rattle.mpc_rows.specs.declared.places.Place.{Place}
 use Rattle.mpc_rows.specs.declared.places.Place.TheVariants.{CheckLaw, CheckLeaf}
 use Rattle.mpc_rows.specs.Laws.{IsLaw}
-use Rattle.mpc_definite.specs.PivotLaws.{DefiniteByPivots}
+use Rattle.mpc_definite.specs.PivotTheorems.{DefiniteByPivots}
 use Rattle.mpc_condense.specs.BestReplies.{OneProgram}
 use Rattle.mpc_controller.specs.Parts.{Parts, row_count}
 use Rattle.mpc_controller.specs.Walk.{IsLeaf}
-use Rattle.mpc_controller.specs.PreorderLaws.{JoinedSpell}
+use Rattle.mpc_controller.specs.PreorderTheorems.{JoinedSpell}
 use Rattle.mpc_check.specs.declared.answers.Answer.TheVariants.{Accepted, Refused}
 use Rattle.mpc_convex.specs.declared.ProgramError.TheVariants.{TooWide, NotDefinite, NoMemory}
 use Rattle.mpc_convex.specs.Convex.{IsConvexProgram}

@@ -9,7 +9,7 @@ use Rattle.mpc_linear.specs.declared.integers.RowInt.{RowInt}
 use Rattle.mpc_rows.specs.declared.trees.Node.{Node}
 use Rattle.mpc_rows.specs.declared.trees.Node.TheVariants.{Split, Law, NoMove}
 use Rattle.mpc_controller.specs.Preorder.{IsTree, IsNoSide}
-use Rattle.mpc_controller.specs.PreorderLaws.{JoinedSpell}
+use Rattle.mpc_controller.specs.PreorderTheorems.{JoinedSpell}
 use Rattle.mpc_controller.specs.Walk.{IsLeaf}
 use Rattle.mpc_tree.specs.Trees.{Cell, whole_box, yes_side, no_side, IsTreeWhere, leaf, split}
 use Rattle.mpc_paths.specs.Paths.{PathTo, root}

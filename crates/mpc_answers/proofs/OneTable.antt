@@ -2,7 +2,7 @@
 use Rattle.std.proofs.Common.{◌≡◌, ℕ, zero, suc, ◌⊎◌, List, [], ◌∷◌, get_or, map, AllPairs, Contains, sym, subst, inl, inr, arith}
 use Rattle.std.proofs.lemmas.List.{get_or-map, length-map}
 use Rattle.mpc_sets.specs.SetOrder.{IsBefore}
-use Rattle.mpc_sets.specs.SetLaws.{OrderLaws}
+use Rattle.mpc_sets.specs.SetTheorems.{OrderTheorems}
 use Rattle.mpc_rows.specs.declared.laws.Law.{Law}
 use Rattle.mpc_answers.specs.Replies.{OneTable}
 
@@ -63,7 +63,7 @@ in_order_of_sets laws h i j d p q =
     let at_j : get_or sets j [] ≡ (get_or laws j d).set = get_or-map (λ law. law.set) laws j d [] q in
     subst (λ s. IsBefore s (get_or laws j d).set) at_i (subst (IsBefore (get_or sets i [])) at_j (h i j [] p (omega (arith, length-map laws (λ law. law.set)))))
 
-pub one_table : OrderLaws → OneTable
+pub one_table : OrderTheorems → OneTable
 unfolding IsLawBefore
 one_table order qp a b s t =
     one_order IsLawBefore (λ x. order.irreflexive x.set) (λ x y z. order.transitive x.set y.set z.set) a b (in_order_of_sets a s.in_order) (in_order_of_sets b t.in_order)

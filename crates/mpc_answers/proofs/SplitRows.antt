@@ -18,8 +18,8 @@ use Rattle.mpc_rows.specs.LinearSystem.{MeetsRow}
 use Rattle.mpc_rows.specs.Laws.{IsLaw, IsInRegion}
 use Rattle.mpc_rows.specs.LawRows.{IsLawRow, AreLawRows, law_sides, law_bound, whole_row}
 use Rattle.mpc_rows.specs.SetRuns.{box_rows, region_system, LawRowsFit}
-use Rattle.mpc_rows.specs.LawLaws.{LawRowSize}
-use Rattle.mpc_rows.specs.RegionLaws.{RegionPoints}
+use Rattle.mpc_rows.specs.LawTheorems.{LawRowSize}
+use Rattle.mpc_rows.specs.RegionTheorems.{RegionPoints}
 use Rattle.mpc_controller.specs.Parts.{IsSplitRow}
 use Rattle.mpc_tree.specs.Cells.{RegionMeets, IsFirstToFail}
 use Rattle.mpc_answers.proofs.ElementLemmas.{All-split}

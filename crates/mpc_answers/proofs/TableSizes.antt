@@ -7,7 +7,7 @@ use Rattle.std.proofs.lemmas.Bool.{cases_Bool, cond-false, leb-true}
 use Rattle.mpc_space.specs.Matrix.{height}
 use Rattle.mpc_sets.specs.RowSet.{RisesWithin, IsSetOfRows}
 use Rattle.mpc_sets.specs.SetOrder.{IsBefore, IsInOrder}
-use Rattle.mpc_sets.specs.SetLaws.{CountLaws, OrderLaws}
+use Rattle.mpc_sets.specs.SetTheorems.{CountTheorems, OrderTheorems}
 use Rattle.mpc_rows.specs.declared.programs.Qp.{Qp}
 use Rattle.mpc_rows.specs.declared.laws.Law.{Law}
 use Rattle.mpc_rows.specs.Laws.{HasLawShape}
@@ -24,7 +24,7 @@ rises_higher : (low high top : ℕ) (s : List ℕ) → high ≤ top → RisesWit
 rises_higher low high top [] h r = tt
 rises_higher low high top (i ∷ s) h r = (r.0, omega (arith, r.1), rises_higher i high top s h r.2)
 
-module _ (counts : CountLaws) (order : OrderLaws) where
+module _ (counts : CountTheorems) (order : OrderTheorems) where
   different_in_order : (sets : List (List ℕ)) → IsInOrder sets → AllPairs (λ s t. s ≢ t) sets
   different_in_order sets h i j d p q e = order.irreflexive (get_or sets j d) (subst (λ s. IsBefore s (get_or sets j d)) e (h i j d p q))
 

@@ -17,10 +17,10 @@ use Rattle.mpc_linear.specs.Shape.{HasShape}
 use Rattle.mpc_rows.specs.Laws.{HasLawShape}
 use Rattle.mpc_rows.specs.Candidates.{IsTable}
 use Rattle.mpc_rows.specs.SetRuns.{LawRowsFit}
-use Rattle.mpc_rows.specs.LawLaws.{LawRowSize}
-use Rattle.mpc_rows.specs.RegionLaws.{RegionPoints}
+use Rattle.mpc_rows.specs.LawTheorems.{LawRowSize}
+use Rattle.mpc_rows.specs.RegionTheorems.{RegionPoints}
 use Rattle.mpc_condense.specs.Condensed.{IsCondensed}
-use Rattle.mpc_controller.specs.PreorderLaws.{JoinedSpell}
+use Rattle.mpc_controller.specs.PreorderTheorems.{JoinedSpell}
 use Rattle.mpc_controller.specs.Parts.{row_count, IsLawFor, IsSplitRow, IsNodeFor}
 use Rattle.mpc_tree.specs.Trees.{Cell, whole_box, yes_side, no_side, leaf, split, Divides, IsLeafOf, IsTreeOf}
 use Rattle.mpc_tree.specs.Certified.{CertifiedIsTree, MultipliersAreCert}

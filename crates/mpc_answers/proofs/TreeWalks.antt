@@ -24,10 +24,10 @@ use Rattle.mpc_rows.specs.Candidates.{IsTable}
 use Rattle.mpc_rows.specs.LawRows.{whole_row, broken_row}
 use Rattle.mpc_condense.specs.Condensed.{IsCondensed}
 use Rattle.mpc_condense.specs.BestReplies.{LawIsRight, InfeasibleIsRight}
-use Rattle.mpc_cover.specs.CoverLaws.{TablesCover}
+use Rattle.mpc_cover.specs.CoverTheorems.{TablesCover}
 use Rattle.mpc_controller.specs.Parts.{Parts}
 use Rattle.mpc_controller.specs.Preorder.{Spells, IsNoSide}
-use Rattle.mpc_controller.specs.PreorderLaws.{JoinedSpell}
+use Rattle.mpc_controller.specs.PreorderTheorems.{JoinedSpell}
 use Rattle.mpc_controller.specs.Walk.{Satisfies, Reaches, root, yes_side as to_yes, no_side as to_no, IsLeaf, EndsAt}
 use Rattle.mpc_controller.specs.Replies.{first_move, IsLawNumbered, RepliesAt, by_law, by_no_law}
 use Rattle.mpc_answers.specs.Replies.{RightReplies}

@@ -8,13 +8,13 @@ ghost use Rattle.mpc_answers.specs.Replies.{RightReplies, PartsHaveShapes, Table
 
 use mpc_check::{law_conditions, one_finding};
 use mpc_condense::{best_replies, one_program};
-use mpc_controller::preorder_laws;
-use mpc_cover::cover_laws;
-use mpc_definite::pivot_laws;
-use mpc_linear::primitive_laws;
+use mpc_controller::preorder_theorems;
+use mpc_cover::cover_theorems;
+use mpc_definite::pivot_theorems;
+use mpc_linear::primitive_theorems;
 use mpc_paths::one_path;
-use mpc_rows::{law_laws, region_laws};
-use mpc_sets::{count_laws, order_laws};
+use mpc_rows::{law_theorems, region_theorems};
+use mpc_sets::{count_theorems, order_theorems};
 use mpc_tree::{multipliers_are_cert, one_tree};
 
 /// At each state of the box, also between the grid states, the walk through the tree of a plant's table ends at the first move of the
@@ -23,8 +23,8 @@ pub fn right_replies()
     ensures { RightReplies }
 {
     best_replies();
-    cover_laws();
-    preorder_laws();
+    cover_theorems();
+    preorder_theorems();
 }
 
 /// The plant, its table and the table's certified tree are a controller's parts: the nodes spell one tree, each law and each row of a
@@ -34,10 +34,10 @@ pub fn tree_shapes()
     ensures { PartsHaveShapes }
 {
     table_sizes();
-    law_laws();
-    region_laws();
-    primitive_laws();
-    preorder_laws();
+    law_theorems();
+    region_theorems();
+    primitive_theorems();
+    preorder_theorems();
     one_tree();
     multipliers_are_cert();
 }
@@ -49,15 +49,15 @@ pub fn table_sizes()
     ensures of_four_unknowns { TableOfFourIsSmall }
     ensures of_plant { PlantTableIsSmall }
 {
-    count_laws();
-    order_laws();
+    count_theorems();
+    order_theorems();
 }
 
 /// A program has one table.
 pub fn one_table()
     ensures { OneTable }
 {
-    order_laws();
+    order_theorems();
 }
 
 /// Counts of which none is above its limit are a state of the box.
@@ -76,10 +76,10 @@ pub fn compiled_accepted()
     ensures error { OnlyWidthErrs }
     ensures fitting { FittingIsAccepted }
 {
-    pivot_laws();
+    pivot_theorems();
     one_program();
     one_finding();
     law_conditions();
     one_path();
-    preorder_laws();
+    preorder_theorems();
 }

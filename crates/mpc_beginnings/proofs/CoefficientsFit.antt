@@ -4,7 +4,7 @@ use Rattle.std.proofs.lemmas.Bool.{cases_eq, cases_lt, cases_Bool, both_ways}
 use Rattle.mpc_exact.specs.Rational.{ℚ, int, ◌+ℚ◌, ◌*ℚ◌, neg_ℚ, inv_ℚ}
 use Rattle.mpc_exact.proofs.RationalRing.{reads, by_ring}
 use Rattle.mpc_frac.specs.Fits.{FitsFrac}
-use Rattle.mpc_frac.specs.FitLaws.{FitLaws}
+use Rattle.mpc_frac.specs.FitTheorems.{FitTheorems}
 use Rattle.mpc_space.specs.Total.{unit}
 use Rattle.mpc_space.proofs.Total.{unit-same, unit-other}
 use Rattle.mpc_rows.specs.LinearSystem.{LinearSystem}
@@ -34,7 +34,7 @@ none_times c x e = by_ring (x ∷ []) (search reads depth 30) (search reads dept
 none_added : (a c x : ℚ) → c ≡ int (pos 0) → a ≡ a +ℚ c *ℚ x
 none_added a c x e = by_ring (a ∷ x ∷ []) (search reads depth 30) (search reads depth 30) tt ∙ ap (λ u. a +ℚ u *ℚ x) (sym e)
 
-module _ (laws : FitLaws) where
+module _ (laws : FitTheorems) where
   pub fits_zero : FitsFrac (int (pos 0))
   fits_zero = laws.whole (pos 0) (lit< tt)
 

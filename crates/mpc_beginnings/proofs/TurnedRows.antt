@@ -6,7 +6,7 @@ use Rattle.mpc_exact.specs.Pair.{Pair}
 use Rattle.mpc_exact.proofs.Rational.{*ℚ_inv}
 use Rattle.mpc_exact.proofs.RationalRing.{reads, by_ring, by_equation}
 use Rattle.mpc_frac.specs.Fits.{FitsFrac, FitsSum}
-use Rattle.mpc_frac.specs.FitLaws.{FitLaws}
+use Rattle.mpc_frac.specs.FitTheorems.{FitTheorems}
 use Rattle.mpc_space.specs.Total.{total, unit}
 use Rattle.mpc_space.specs.Vector.{coordinate, vec_scale}
 use Rattle.mpc_space.proofs.Entries.{coordinate-scale}
@@ -40,7 +40,7 @@ neg_total n c f =
     sym (scale_neg (total n (λ z. c z *ℚ f z))) ∙ sym (total-scale n (int (negsuc 0)) (λ z. c z *ℚ f z))
     ∙ total-same n (λ z. int (negsuc 0) *ℚ (c z *ℚ f z)) (λ z. neg_ℚ (c z) *ℚ f z) (λ z h. by_ring (c z ∷ f z ∷ []) (search reads depth 30) (search reads depth 30) tt)
 
-module _ (laws : FitLaws) where
+module _ (laws : FitTheorems) where
   fits_zero_add : (x y : ℚ) → x ≡ int (pos 0) → FitsFrac y → FitsSum x y
   fits_zero_add x y e h = fits_sum_as (int (pos 0)) y x y (sym e) refl (laws.behind_zero y h)
 

@@ -2,8 +2,8 @@
 #![tactic(auto)]
 
 mod kept;
-mod laws;
 mod lists;
+mod theorems;
 
 pub use kept::{Broken, KeptRun, Workspace, whole_end};
-pub use laws::shared_beginning;
+pub use theorems::shared_beginning;

@@ -7,7 +7,7 @@ use lib.Signed.{lt_z, mag}
 use Rattle.mpc_exact.specs.Rational.{ℚ, frac_self, denom_positive, quotient}
 use Rattle.mpc_exact.proofs.School.{quotient_positive}
 use Rattle.mpc_frac.specs.Fits.{FitsFrac}
-use Rattle.mpc_frac.specs.FitLaws.{FitLaws}
+use Rattle.mpc_frac.specs.FitTheorems.{FitTheorems}
 
 not_negative : (n : ℕ) → lt_z (pos n) (pos 0) ≡ false
 not_negative n = grind (arith, nat_tests)
@@ -37,7 +37,7 @@ abs_same true zero = refl
 abs_same true (suc n) = refl
 abs_same false n = refl
 
-pub readable_fits : FitLaws → (b : Bool) (s d : ℕ) → s < 2 ^ 127 → d < 2 ^ 127 → 0 < d → FitsFrac (quotient (if b then neg_ℤ (pos s) else pos s) (pos d))
+pub readable_fits : FitTheorems → (b : Bool) (s d : ℕ) → s < 2 ^ 127 → d < 2 ^ 127 → 0 < d → FitsFrac (quotient (if b then neg_ℤ (pos s) else pos s) (pos d))
 readable_fits laws b s d h k p = laws.quotient (if b then neg_ℤ (pos s) else pos s) (pos d) (not_zero d p) (subst (λ n. n < 2 ^ 127) (sym (abs_same b s)) h) k
 
 pub positive_not_zero : (d : ℕ) → 0 < d → pos d ≡ pos 0 → ⊥

@@ -20,7 +20,7 @@ use Rattle.mpc_controller.specs.Bounds.{first_move_form}
 use Rattle.mpc_controller.specs.Replies.{first_outside, IsLawNumbered, RepliesAt, by_law, by_no_law}
 use Rattle.mpc_table.specs.Lookup.{Lookup, IsTableOf}
 use Rattle.mpc_table.specs.TableReplies.{IsMoveReply, IsInfeasibleReply, CanMove}
-use Rattle.mpc_table.specs.TableLaws.{OneListEach, MovesEachInput}
+use Rattle.mpc_table.specs.TableTheorems.{OneListEach, MovesEachInput}
 use Rattle.mpc_answers.specs.Replies.{GridIsInBox}
 use Rattle.mpc_synthesis.specs.Controllers.{IsController, ControllerIsRight}
 use Rattle.mpc_bench.specs.declared.controllers.Sizes.{Sizes}

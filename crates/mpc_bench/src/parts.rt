@@ -3,7 +3,7 @@
 ghost use Rattle.std.specs.Prelude.{◌≡◌, ◌+◌, ◌*◌, ◌^◌, ◌<◌, IsSome, IfSome, OnSome, pos, neg_ℤ, ◌≤ℤ◌, if◌then◌else◌};
 ghost use Rattle.mpc_bench.specs.Parts.{value_of, IsReadable, ArePartsOf};
 
-use mpc_frac::{Frac, FracError, fit_laws};
+use mpc_frac::{Frac, FracError, fit_theorems};
 
 /// The weight of the high half of a number.
 const HIGH: u128 = 1 << 64;
@@ -47,7 +47,7 @@ pub fn read(parts: &Parts) -> Option<Frac>
     ensures readable { IsReadable parts.now → IsSome result }
     ensures only_readable { OnSome result (IsReadable parts.now) }
 {
-    fit_laws();
+    fit_theorems();
     let size = joined(parts.num_high, parts.num_low)?;
     let den = joined(parts.den_high, parts.den_low)?;
     match Frac::new(signed(parts.negative, size), den) {

@@ -7,7 +7,7 @@ ghost use Rattle.mpc_table.specs.TableReplies.{CanMove};
 ghost use Rattle.mpc_bench.specs.Answers.{IsMoveOf, HoldsFor, RepliesBy};
 
 use crate::parts::{Parts, parts_of};
-use mpc_table::{Reply, Table, table_laws};
+use mpc_table::{Reply, Table, table_theorems};
 
 /// What is replied to counts.
 #[derive(Clone, Copy, Drop)]
@@ -28,7 +28,7 @@ fn put_moves(table: &Table, law: u32, counts: &[u64], moves: &mut [Parts])
     ensures { (parts : ControllerParts) → HoldsFor parts table.now
         → IsMoveOf parts counts.now law (map value_of moves.new) }
 {
-    table_laws();
+    table_theorems();
     for i in 0..moves.len() {
         moves[i] = parts_of(&table.move_at(law, counts, i as u32 + 1));
     }

@@ -15,7 +15,7 @@ use Rattle.mpc_rows.specs.declared.trees.Node.{Node}
 use Rattle.mpc_rows.specs.declared.trees.Node.TheVariants.{Split, Law, NoMove}
 use Rattle.mpc_controller.specs.Parts.{Parts, limits_of, IsNodeFor, IsLawFor}
 use Rattle.mpc_controller.specs.Replies.{first_outside, first_move, IsLawNumbered, RepliesAt, by_law, by_no_law}
-use Rattle.mpc_table.specs.TableLaws.{MovesEachInput}
+use Rattle.mpc_table.specs.TableTheorems.{MovesEachInput}
 use Rattle.mpc_table.specs.TableReplies.{IsMoveReply, IsInfeasibleReply}
 use Rattle.mpc_block.specs.declared.replies.Move.{Move}
 use Rattle.mpc_block.specs.Walks.{Serves, FindsLeaf}

@@ -13,7 +13,7 @@ ghost use Rattle.mpc_block.specs.BlockReplies.{IsMoveOf, BeginWith, IsBlockReply
 use crate::lines::{LAYOUT, LINE, Width, line_size, number, part, wide_sum};
 use crate::walks::leaf_start;
 use crate::words::words_of;
-use mpc_table::{find_outside, table_laws};
+use mpc_table::{find_outside, table_theorems};
 
 /// A move of one input, as a fraction by the words of its numerator and its denominator, each in two's
 /// complement with the low word first. The two may have common divisors.
@@ -162,7 +162,7 @@ fn reply_of(words: &[u64], counts: &[u64], moves: &mut [Move], width: Width) -> 
         → IsBlockReply parts counts.now moves.new result }
     ensures kept { KeepsMoves moves.old moves.new result }
 {
-    table_laws();
+    table_theorems();
     if let Some(coordinate) = find_outside(&words[4..4 + counts.len()], counts) {
         return BlockReply::Outside { coordinate };
     }

@@ -73,7 +73,7 @@ front-units t (suc c) h i k l = reduced-units (front t c) c (h c (omega arith)) 
 
 -- ---- a table whose first columns are those of the unit matrix stays as it is
 zero_not_one : int (pos 1) ≡ int (pos 0) → ⊥
-zero_not_one e = Rattle.mpc_exact.proofs.OrderLaws.one-not_zero e
+zero_not_one e = Rattle.mpc_exact.proofs.OrderTheorems.one-not_zero e
 
 pub by_one : (x y : ℚ) → y ≡ int (pos 1) → x *ℚ inv_ℚ y ≡ x
 by_one x y e =

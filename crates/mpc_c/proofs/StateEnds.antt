@@ -12,7 +12,7 @@ use Rattle.mpc_condense.specs.Condensed.{IsCondensed}
 use Rattle.mpc_controller.specs.Parts.{limits_of}
 use Rattle.mpc_controller.specs.Replies.{first_outside}
 use Rattle.mpc_states.specs.StateLines.{IsTooWide}
-use Rattle.mpc_states.specs.StateLaws.{ProgramIsRight}
+use Rattle.mpc_states.specs.StateTheorems.{ProgramIsRight}
 use Rattle.mpc_cli.specs.Statuses.{ReadsWith}
 use Rattle.mpc_c.specs.Fractions.{ratio_of, lowest}
 use Rattle.mpc_block.specs.declared.replies.Move.{Move}

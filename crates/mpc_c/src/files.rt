@@ -23,7 +23,7 @@ use mpc_safety::safe_stays_right;
 use mpc_status::{LatePlace, Status};
 use mpc_synthesis::{SynthesisError, controller, one_controller, right_controller};
 use mpc_text::add_text;
-use mpc_theorem::{file_output_laws, plant_texts, safe_file_laws};
+use mpc_theorem::{file_output_theorems, plant_texts, safe_file_theorems};
 use mpc_workers::OpenGate;
 use std::alloc::Global;
 
@@ -79,7 +79,7 @@ pub(crate) fn compiled(alloc: Global, file: &[u8]) -> Result<Vec<u8>, Status>
         return Err(Status::TooLong);
     }
     plant_texts();
-    file_output_laws();
+    file_output_theorems();
     due_statuses();
     match read_plant(alloc, file) {
         Ok(plant) => compiled_plant(alloc, plant),
@@ -148,7 +148,7 @@ pub(crate) fn checked(alloc: Global, file: &[u8]) -> Result<Vec<u8>, Status>
 {
     replies_everywhere();
     accepted_replies();
-    file_output_laws();
+    file_output_theorems();
     due_statuses();
     if file.len() > INPUT_LIMIT {
         return Err(Status::TooLong);
@@ -165,7 +165,7 @@ pub(crate) fn stayed(alloc: Global, file: &[u8]) -> Result<Vec<u8>, Status>
     ensures { OutcomeOf (IsAnswerFor (OfFile Safe) file.now) result }
 {
     safe_stays_right();
-    safe_file_laws();
+    safe_file_theorems();
     due_statuses();
     if file.len() > INPUT_LIMIT {
         return Err(Status::TooLong);

@@ -23,9 +23,9 @@ use Rattle.mpc_rows.specs.LinearSystem.{height as row_count_of}
 use Rattle.mpc_rows.specs.ActiveSets.{IsInBox, IsFeasible}
 use Rattle.mpc_rows.specs.Laws.{HasLawShape, IsLaw, IsInRegion}
 use Rattle.mpc_rows.specs.LawRows.{IsLawRow, whole_row, broken_row}
-use Rattle.mpc_rows.specs.LawLaws.{LawRowSize}
-use Rattle.mpc_rows.specs.RegionLaws.{BoxSize}
-use Rattle.mpc_rows.specs.SystemLaws.{RefutedHasNoPoint}
+use Rattle.mpc_rows.specs.LawTheorems.{LawRowSize}
+use Rattle.mpc_rows.specs.RegionTheorems.{BoxSize}
+use Rattle.mpc_rows.specs.SystemTheorems.{RefutedHasNoPoint}
 use Rattle.mpc_condense.specs.Condensed.{IsCondensed, counts_of}
 use Rattle.mpc_condense.specs.BestReplies.{LawIsRight, InfeasibleIsRight}
 use Rattle.mpc_controller.specs.Parts.{Parts, IsLawFor, IsNodeFor}
@@ -35,7 +35,7 @@ use Rattle.mpc_controller.specs.Replies.{RepliesAt, by_law, by_no_law, first_mov
 use Rattle.mpc_check.specs.Certs.{multipliers_of, named_at, CertRefutes}
 use Rattle.mpc_paths.specs.Paths.{PathTo, root, yes_side, no_side}
 use Rattle.mpc_systems.specs.Systems.{hold_system, joint_system}
-use Rattle.mpc_systems.specs.CellLaws.{CellLaws}
+use Rattle.mpc_systems.specs.CellTheorems.{CellTheorems}
 use Rattle.mpc_check.specs.Widths.{IsOfWidth}
 use Rattle.mpc_check.specs.LeafConditions.{LawLeafMet, EmptyLeafMet}
 use Rattle.mpc_check.specs.Acceptance.{Accepts, AcceptedIsRight}
@@ -53,7 +53,7 @@ record MeetsPath (nodes : List Node) (t : List ℚ) (place : ℕ) : Type 0 where
 one_more : (t : List ℚ) (path : List Row) (r : Row) → All (MeetsRow t) path → MeetsRow t r → All (MeetsRow t) (path ++ r ∷ [])
 one_more t path r before here = All-append (MeetsRow t) path (r ∷ []) before (All-cons (MeetsRow t) r [] here (All-nil (MeetsRow t)))
 
-meets_path : CellLaws → (nodes : List Node) (t : List ℚ) (place : ℕ) → Reaches nodes t place → MeetsPath nodes t place
+meets_path : CellTheorems → (nodes : List Node) (t : List ℚ) (place : ℕ) → Reaches nodes t place → MeetsPath nodes t place
 meets_path cells nodes t _ at_root = record { path = []; leads = root; meets = All-nil (MeetsRow t) }
 meets_path cells nodes t _ (to_yes place row r at h) =
     let p = meets_path cells nodes t place r in
@@ -111,7 +111,7 @@ collected P d (suc n) f =
 -- what is known of systems, of laws and of the best replies
 record Laws : Type 0 where
   refuted_has_none : RefutedHasNoPoint
-  cells : CellLaws
+  cells : CellTheorems
   size_in_box : BoxSize
   law_row_size : LawRowSize
   law_is_right : LawIsRight
@@ -200,7 +200,7 @@ module _ (laws : Laws) (parts : Parts) (t : List ℚ) (controller : IsController
   reply_right _ (by_law place number certs law e named) = law_reply place number certs law e named
   reply_right _ (by_no_law place cert e) = empty_reply place cert e
 
-pub accepted_is_right : RefutedHasNoPoint → CellLaws → BoxSize → LawRowSize → LawIsRight → InfeasibleIsRight → AcceptedIsRight
+pub accepted_is_right : RefutedHasNoPoint → CellTheorems → BoxSize → LawRowSize → LawIsRight → InfeasibleIsRight → AcceptedIsRight
 accepted_is_right none cells in_box size of_law of_none parts t reply controller accepted in_plant_box r =
     let laws : Laws = record { refuted_has_none = none; cells = cells; size_in_box = in_box; law_row_size = size; law_is_right = of_law; infeasible_is_right = of_none } in
     reply_right laws parts t controller accepted in_plant_box reply r

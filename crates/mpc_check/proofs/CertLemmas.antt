@@ -5,10 +5,10 @@ use Rattle.std.proofs.lemmas.List.{length-append}
 use Rattle.std.proofs.lemmas.List.Elements.{All-more}
 use Rattle.mpc_exact.specs.Rational.{ℚ, ◌+ℚ◌, ◌*ℚ◌}
 use Rattle.mpc_frac.specs.Fits.{FitsFrac, FitsSum}
-use Rattle.mpc_frac.specs.FitLaws.{FitLaws}
+use Rattle.mpc_frac.specs.FitTheorems.{FitTheorems}
 use Rattle.mpc_space.specs.Vector.{AllNonneg}
 use Rattle.mpc_linear.specs.Dot.{SumFits}
-use Rattle.mpc_linear.specs.ZeroLaws.{ZeroLaws}
+use Rattle.mpc_linear.specs.ZeroTheorems.{ZeroTheorems}
 use Rattle.mpc_rows.specs.declared.places.Place.{Place}
 use Rattle.mpc_rows.specs.declared.programs.Qp.{Qp}
 use Rattle.mpc_rows.specs.declared.systems.Row.{Row}
@@ -84,7 +84,7 @@ decided_sums s m place false r f = (λ n. stable_fits s m (λ k. f (n, k)), λ c
     different : false ≡ true → ⊥
     different e = cc
 
-module _ (noughts : ZeroLaws) (fit : FitLaws) (s : LinearSystem) (cert : List (ℕ × ℚ)) (rises : IsCert cert) (within : HasPositionsIn (height s) cert) where
+module _ (noughts : ZeroTheorems) (fit : FitTheorems) (s : LinearSystem) (cert : List (ℕ × ℚ)) (rises : IsCert cert) (within : HasPositionsIn (height s) cert) where
   abbrev Fits : Type 0
   Fits = SumsFitWhere (picked_system s cert) (weights cert)
 

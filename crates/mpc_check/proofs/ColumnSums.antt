@@ -8,13 +8,13 @@ use Rattle.std.proofs.lemmas.List.Elements.{All-more}
 use Rattle.std.proofs.lemmas.Nat.Gcd.{dvd_trans}
 use Rattle.std.proofs.lemmas.Option.{slice_get-get_or, slice_get_within, get_or_from_slice_get}
 use Rattle.mpc_exact.specs.Rational.{ℚ, frac, int, ◌*ℚ◌, ◌<ℚ◌, IsNonneg, IsPositive}
-use Rattle.mpc_exact.proofs.OrderLaws.{*ℚ-<ℚ, *ℚ-<ℚ_cancel, negative-not_zero}
+use Rattle.mpc_exact.proofs.OrderTheorems.{*ℚ-<ℚ, *ℚ-<ℚ_cancel, negative-not_zero}
 use Rattle.mpc_exact.proofs.RationalRing.{reads, by_ring}
 use Rattle.mpc_exact.proofs.School.{frac_times, int_lt, natural_lt}
 use Rattle.mpc_space.specs.Vector.{coordinate, dot, AllNonneg}
 use Rattle.mpc_space.proofs.Entries.{nonneg_by_entries}
 use Rattle.mpc_linear.specs.Dot.{DotFits}
-use Rattle.mpc_linear.specs.SumLaws.{SumLaws, IsSumSoFar, StandAt}
+use Rattle.mpc_linear.specs.SumTheorems.{SumTheorems, IsSumSoFar, StandAt}
 use Rattle.mpc_rows.specs.declared.systems.Row.{Row}
 use Rattle.mpc_rows.specs.LinearSystem.{LinearSystem, no_row}
 use Rattle.mpc_rows.specs.Refutation.{coefficients_on, right_sides, ColumnsFit, CombinesToZero, WeighsStrict, Refutes}
@@ -34,7 +34,7 @@ pub record SumSo (column : Column) (s : LinearSystem) (cert : List (ℕ × ℚ))
   pub small : unsigned_abs total ≤ 2 ^ 126
   pub nonneg : (k : ℕ) → k < i → IsNonneg (coordinate (weights cert) k)
 
-pub none_added : SumLaws → (column : Column) (s : LinearSystem) (cert : List (ℕ × ℚ)) (all : ℕ) → 0 < all → SumSo column s cert all 0 (pos 0)
+pub none_added : SumTheorems → (column : Column) (s : LinearSystem) (cert : List (ℕ × ℚ)) (all : ℕ) → 0 < all → SumSo column s cert all 0 (pos 0)
 none_added laws column s cert all some = record {
   so_far = subst (λ x. IsSumSoFar (int (pos 0)) (weights cert) (picked_column column s cert) 0 x) (sym (zero_over all some)) (laws.none (int (pos 0)) (weights cert) (picked_column column s cert));
   small = omega arith;
@@ -67,7 +67,7 @@ module _ (s : LinearSystem) (cert entries : List (ℕ × ℚ)) (same : entries �
   pub picked_at : slice_get (picked_rows s.rows cert) i ≡ Some named
   picked_at = slice_get-get_or (picked_rows s.rows cert) i no_row in_picked ∙ ap Some (sym named_is)
 
-  module _ (laws : SumLaws) (column : Column) (all : ℕ) (some : 0 < all) (few : all ≤ 2 ^ 62) (total weight number : ℤ) (g : SumSo column s cert all i total) (e : ℕ × ℚ) (w : (get_or entries i e).1 ≡ frac weight all) (nonneg : IsNonneg (get_or entries i e).1) (w_small : unsigned_abs weight ≤ 2 ^ 62) (n : int number ≡ number_in column named) (n_small : unsigned_abs number ≤ 2 ^ 62) where
+  module _ (laws : SumTheorems) (column : Column) (all : ℕ) (some : 0 < all) (few : all ≤ 2 ^ 62) (total weight number : ℤ) (g : SumSo column s cert all i total) (e : ℕ × ℚ) (w : (get_or entries i e).1 ≡ frac weight all) (nonneg : IsNonneg (get_or entries i e).1) (w_small : unsigned_abs weight ≤ 2 ^ 62) (n : int number ≡ number_in column named) (n_small : unsigned_abs number ≤ 2 ^ 62) where
     in_column : i < length (picked_column column s cert)
     in_column = subst (λ k. i < k) (sym (length-map (picked_rows s.rows cert) (number_in column))) in_picked
 
@@ -87,7 +87,7 @@ module _ (s : LinearSystem) (cert entries : List (ℕ × ℚ)) (same : entries �
       nonneg = below_more (λ k. IsNonneg (coordinate (weights cert) k)) i g.nonneg (subst (λ x. IsNonneg x) there nonneg);
     }
 
-module _ (laws : SumLaws) (column : Column) (s : LinearSystem) (cert : List (ℕ × ℚ)) (all i : ℕ) (total : ℤ) (g : SumSo column s cert all i total) (h : length cert ≤ i) where
+module _ (laws : SumTheorems) (column : Column) (s : LinearSystem) (cert : List (ℕ × ℚ)) (all i : ℕ) (total : ℤ) (g : SumSo column s cert all i total) (h : length cert ≤ i) where
   over : length (weights cert) ≤ i
   over = subst (λ n. n ≤ i) (sym (length-map cert (λ (e : ℕ × ℚ). e.1))) h
 

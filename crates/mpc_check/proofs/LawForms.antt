@@ -10,7 +10,7 @@ use Rattle.mpc_rows.specs.declared.programs.Qp.{Qp}
 use Rattle.mpc_rows.specs.declared.laws.Law.{Law}
 use Rattle.mpc_rows.specs.ActiveSets.{extended, row_of, rows_of}
 use Rattle.mpc_rows.specs.Laws.{IsLaw, moves_at}
-use Rattle.mpc_rows.specs.LawLaws.{SameCoefficients}
+use Rattle.mpc_rows.specs.LawTheorems.{SameCoefficients}
 use Rattle.mpc_check.specs.LawConditions.{IsStationaryAt, IsActiveAt}
 use Rattle.mpc_check.proofs.GradientForms.{against, form, form_entry, gradient, gradient_entry}
 

@@ -14,7 +14,7 @@ use Rattle.mpc_rows.specs.LinearSystem.{LinearSystem}
 use Rattle.mpc_rows.specs.SetRuns.{joint_rows}
 use Rattle.mpc_space.specs.Matrix.{height}
 use Rattle.mpc_rows.specs.LawRows.{IsLawRow, LawRowFits, broken_row}
-use Rattle.mpc_rows.specs.LawLaws.{OneLawRow}
+use Rattle.mpc_rows.specs.LawTheorems.{OneLawRow}
 use Rattle.mpc_controller.specs.Replies.{IsLawNumbered}
 use Rattle.mpc_check.specs.declared.answers.Spot.{Spot}
 use Rattle.mpc_convex.specs.declared.ProgramError.{ProgramError}

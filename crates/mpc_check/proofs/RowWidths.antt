@@ -15,7 +15,7 @@ use Rattle.mpc_rows.specs.LawRows.{broken_row}
 use Rattle.mpc_rows.specs.SetRuns.{box_from, box_rows, joint_rows}
 use Rattle.mpc_systems.specs.Writing.{widened}
 use Rattle.mpc_systems.specs.Systems.{cell_system, joint_system}
-use Rattle.mpc_systems.specs.CellLaws.{JointWidth}
+use Rattle.mpc_systems.specs.CellTheorems.{JointWidth}
 use Rattle.mpc_check.specs.Widths.{IsOfWidth}
 use Rattle.mpc_check.proofs.ElementLemmas.{All-split}
 

@@ -8,7 +8,7 @@ use Rattle.mpc_space.specs.Vector.{coordinate, column, dot}
 use Rattle.mpc_space.specs.Matrix.{RationalMatrix, height, IsRectangular, entry}
 use Rattle.mpc_space.proofs.Matrix.{length-column, coordinate-column}
 use Rattle.mpc_linear.specs.Dot.{TermFits, SumFits}
-use Rattle.mpc_linear.specs.SumLaws.{SumLaws, IsSumSoFar}
+use Rattle.mpc_linear.specs.SumTheorems.{SumTheorems, IsSumSoFar}
 use Rattle.mpc_rows.specs.declared.programs.Qp.{Qp}
 use Rattle.mpc_rows.specs.declared.laws.Law.{Law}
 use Rattle.mpc_rows.specs.ActiveSets.{row_of, rows_of}
@@ -18,7 +18,7 @@ use Rattle.mpc_rows.specs.Laws.{HasLawShape}
 abbrev pub Moved : RationalMatrix → RationalMatrix → ℕ → ℕ → ℚ → ℕ → ℚ → Type 0
 Moved m moves r c start k sum = IsSumSoFar start (get_or m.rows r []) (column moves.rows c) k sum
 
-module _ (sums : SumLaws) (m moves : RationalMatrix) (r c : ℕ) (start : ℚ) (row : r < height m) (rectangular : IsRectangular m) (size : m.columns ≡ height moves) (k : ℕ) (sum : ℚ) (g : Moved m moves r c start k sum) where
+module _ (sums : SumTheorems) (m moves : RationalMatrix) (r c : ℕ) (start : ℚ) (row : r < height m) (rectangular : IsRectangular m) (size : m.columns ≡ height moves) (k : ℕ) (sum : ℚ) (g : Moved m moves r c start k sum) where
   row_size : length (get_or m.rows r []) ≡ m.columns
   row_size = rectangular r [] row
 
@@ -55,7 +55,7 @@ module _ (sums : SumLaws) (m moves : RationalMatrix) (r c : ℕ) (start : ℚ) (
 abbrev pub Weighed : Qp → Law → ℕ → ℕ → ℚ → ℕ → ℚ → Type 0
 Weighed qp law r c start k sum = IsSumSoFar start (column (rows_of qp.g.rows law.set) r) (column law.mults.rows c) k sum
 
-module _ (sums : SumLaws) (qp : Qp) (law : Law) (r c : ℕ) (start : ℚ) (shape : HasLawShape qp law) (k : ℕ) (sum : ℚ) (g : Weighed qp law r c start k sum) where
+module _ (sums : SumTheorems) (qp : Qp) (law : Law) (r c : ℕ) (start : ℚ) (shape : HasLawShape qp law) (k : ℕ) (sum : ℚ) (g : Weighed qp law r c start k sum) where
   abbrev xs : List ℚ
   xs = column (rows_of qp.g.rows law.set) r
 

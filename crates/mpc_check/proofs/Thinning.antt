@@ -8,12 +8,12 @@ use Rattle.std.proofs.lemmas.List.Elements.{recursion_from_All}
 use Rattle.mpc_exact.specs.Rational.{ℚ, int, ◌+ℚ◌, ◌*ℚ◌, ◌<ℚ◌}
 use Rattle.mpc_exact.proofs.RationalRing.{reads, by_ring}
 use Rattle.mpc_exact.proofs.RationalOrder.{<ℚ_irrefl}
-use Rattle.mpc_exact.proofs.OrderLaws.{≤ℚ_of_≡}
+use Rattle.mpc_exact.proofs.OrderTheorems.{≤ℚ_of_≡}
 use Rattle.mpc_frac.specs.Fits.{FitsFrac}
-use Rattle.mpc_frac.specs.FitLaws.{FitLaws}
+use Rattle.mpc_frac.specs.FitTheorems.{FitTheorems}
 use Rattle.mpc_space.specs.Vector.{coordinate, dot, AllNonneg}
 use Rattle.mpc_linear.specs.Dot.{SumFits}
-use Rattle.mpc_linear.specs.ZeroLaws.{ZeroLaws}
+use Rattle.mpc_linear.specs.ZeroTheorems.{ZeroTheorems}
 use Rattle.mpc_rows.specs.declared.systems.Row.{Row}
 use Rattle.mpc_rows.specs.LinearSystem.{LinearSystem, height, no_row}
 use Rattle.mpc_rows.specs.Certificates.{RisesFrom, IsCert}
@@ -51,7 +51,7 @@ thin_fits f s _ _ _ _ (skip r ms rows ws picked h) k =
     thin_fits f s ms rows ws picked h (subst (λ x. SumFits x ms (map f rows)) (sym (same_added s (f r))) k.1)
 thin_fits f s _ _ _ _ (keep m r ms rows ws picked h) k = (k.0, thin_fits f (s +ℚ m *ℚ f r) ms rows ws picked h k.1)
 
-whole_fits : ZeroLaws → FitLaws → (f : Row → ℚ) (s : ℚ) → FitsFrac s → (ms : List ℚ) (rows : List Row) (ws : List ℚ) (picked : List Row) → Thins ms rows ws picked → SumFits s ws (map f picked) → SumFits s ms (map f rows)
+whole_fits : ZeroTheorems → FitTheorems → (f : Row → ℚ) (s : ℚ) → FitsFrac s → (ms : List ℚ) (rows : List Row) (ws : List ℚ) (picked : List Row) → Thins ms rows ws picked → SumFits s ws (map f picked) → SumFits s ms (map f rows)
 whole_fits noughts fit f s e _ _ _ _ none k = tt
 whole_fits noughts fit f s e _ _ _ _ (skip r ms rows ws picked h) k =
     (noughts.no_product_fits s nought (f r) e (no_product (f r)), subst (λ x. SumFits x ms (map f rows)) (same_added s (f r)) (whole_fits noughts fit f s e ms rows ws picked h k))
@@ -169,7 +169,7 @@ thinned p (r ∷ rows) [] h b = skip r _ rows [] [] (thinned (p + 1) rows [] tt 
 thinned p (r ∷ rows) (e ∷ cert) h b = thinned_first p r rows e cert h b (λ entries g c. thinned (p + 1) rows entries g c)
 
 -- ---- the tests of a certificate
-module _ (noughts : ZeroLaws) (fit : FitLaws) (s : LinearSystem) (cert : List (ℕ × ℚ)) (rises : IsCert cert) (within : HasPositionsIn (height s) cert) where
+module _ (noughts : ZeroTheorems) (fit : FitTheorems) (s : LinearSystem) (cert : List (ℕ × ℚ)) (rises : IsCert cert) (within : HasPositionsIn (height s) cert) where
   abbrev ms : List ℚ
   ms = multipliers_of (height s) cert
 

@@ -17,8 +17,8 @@ ghost use Rattle.mpc_check.specs.Widths.{IsOfWidth};
 use crate::answers::CheckError;
 use crate::rows::{Cell, system_row};
 use crate::whole_sums::is_refuted_in_wholes;
-use mpc_frac::{NoMemory, fit_laws};
-use mpc_linear::{RowInt, zero_laws};
+use mpc_frac::{NoMemory, fit_theorems};
+use mpc_linear::{RowInt, zero_theorems};
 use mpc_rows::{Cert, Multipliers, Place, Qp, Row, Rows, System, refutes};
 use mpc_systems::broken_row;
 use std::alloc::Global;
@@ -109,8 +109,8 @@ pub fn is_refuted(
     ensures { IsDecided (CertFits (system_at qp.now cell.now.tree.now cell.now.way.now more last.now) cert.now)
         (CertRefutes (system_at qp.now cell.now.tree.now cell.now.way.now more last.now) cert.now) place result }
 {
-    zero_laws();
-    fit_laws();
+    zero_theorems();
+    fit_theorems();
     let rows = 2 * qp.counts.len() as u128 + cell.way.len() as u128 + last.len() as u128;
     if !has_positions_in(cert, rows) {
         return Ok(false);
@@ -136,8 +136,8 @@ pub fn is_broken_refuted(
     ensures { IsDecided (CertFits (hold_system qp.now (way_rows cell.now.tree.now cell.now.way.now) row.now) cert.now)
         (CertRefutes (hold_system qp.now (way_rows cell.now.tree.now cell.now.way.now) row.now) cert.now) place result }
 {
-    zero_laws();
-    fit_laws();
+    zero_theorems();
+    fit_theorems();
     let rows = 2 * qp.counts.len() as u128 + cell.way.len() as u128 + 1;
     if !has_positions_in(cert, rows) {
         return Ok(false);

@@ -12,8 +12,8 @@ ghost use Rattle.mpc_check.specs.LawConditions.{gradient_at, GradientFits, Stati
 
 use crate::answers::{CheckError, Spot};
 use mpc_frac::{Frac, Wide};
-use mpc_linear::{Matrix, add_product, sum_laws};
-use mpc_rows::{Law, LawTable, Place, Qp, law_laws};
+use mpc_linear::{Matrix, add_product, sum_theorems};
+use mpc_rows::{Law, LawTable, Place, Qp, law_theorems};
 
 /// `start` plus the products of row r of m with column c of the moves.
 fn add_moves(start: &Frac, m: &Matrix, r: u32, moves: &Matrix, c: u32) -> Result<Frac, Wide>
@@ -24,7 +24,7 @@ fn add_moves(start: &Frac, m: &Matrix, r: u32, moves: &Matrix, c: u32) -> Result
     ensures wide { MatchResult result (λ _. SumFits start.now (slice_index_or m.now.rows r []) (column moves.now.rows c))
         (λ _. ¬ SumFits start.now (slice_index_or m.now.rows r []) (column moves.now.rows c)) }
 {
-    sum_laws();
+    sum_theorems();
     let mut sum = *start;
     for k in 0..m.cols() {
         match add_product(&sum, &m.get(r, k), &moves.get(k, c)) {
@@ -44,8 +44,8 @@ fn add_mults(start: &Frac, qp: &Qp, law: &Law, r: u32, c: u32) -> Result<Frac, W
     ensures wide { MatchResult result (λ _. SumFits start.now (column (rows_of qp.now.g.rows law.now.set) r) (column law.now.mults.rows c))
         (λ _. ¬ SumFits start.now (column (rows_of qp.now.g.rows law.now.set) r) (column law.now.mults.rows c)) }
 {
-    sum_laws();
-    law_laws();
+    sum_theorems();
+    law_theorems();
     let mut sum = *start;
     for k in 0..law.set.size() {
         let row = law.set.member(k + 1) - 1;

@@ -19,8 +19,8 @@ use crate::answers::{CheckError, Spot};
 use crate::borders::{Formed, form_rows};
 use crate::certs::{is_broken_refuted, is_refuted};
 use crate::rows::Cell;
-use mpc_rows::{Cert, Certs, LawTable, Node, Place, Qp, law_laws};
-use mpc_systems::{cell_laws, joint_rows};
+use mpc_rows::{Cert, Certs, LawTable, Node, Place, Qp, law_theorems};
+use mpc_systems::{cell_theorems, joint_rows};
 use std::alloc::Global;
 
 /// Whether row i of the leaf's law, counted from 0, has a certificate that it holds on the leaf's cell.
@@ -41,7 +41,7 @@ fn is_row_refuted(
         → IsDecided (RowFits qp.now (way_rows cell.now.tree.now cell.now.way.now) law certs.now i)
         (RowHolds qp.now (way_rows cell.now.tree.now cell.now.way.now) law certs.now i) (CheckLeaf number (i + 1)) result }
 {
-    law_laws();
+    law_theorems();
     let place = Place::CheckLeaf(number, i + 1);
     let row = match formed {
         Formed::Row(row) => row,
@@ -98,7 +98,7 @@ fn is_cell_refuted(
     ensures { IsDecided (CertFits (joint_system qp.now (way_rows cell.now.tree.now cell.now.way.now)) cert.now)
         (CertRefutes (joint_system qp.now (way_rows cell.now.tree.now cell.now.way.now)) cert.now) (CheckLeaf number 0) result }
 {
-    cell_laws();
+    cell_theorems();
     let last = joint_rows(alloc, qp)?;
     let unknowns = qp.h.rows();
     let place = Place::CheckLeaf(number, 0);

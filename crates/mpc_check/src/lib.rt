@@ -7,12 +7,12 @@ mod borders;
 mod certs;
 mod checks;
 mod gradients;
-mod laws;
 mod leaves;
 mod rows;
 mod stretches;
+mod theorems;
 mod whole_sums;
 
 pub use answers::{Answer, CheckError, Spot};
 pub use checks::{check, check_alone};
-pub use laws::{accepted_replies, law_conditions, one_finding, stretch_laws};
+pub use theorems::{accepted_replies, law_conditions, one_finding, stretch_theorems};

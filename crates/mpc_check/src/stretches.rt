@@ -12,7 +12,7 @@ use crate::borders::{Formed, form_borders};
 use crate::leaves::search_node;
 use crate::rows::Cell;
 use mpc_frac::NoMemory;
-use mpc_paths::{Turn, go_on, one_path, way_laws, way_to};
+use mpc_paths::{Turn, go_on, one_path, way_theorems, way_to};
 use mpc_rows::{LawTable, Qp, Tree};
 use std::alloc::Global;
 use std::thread;
@@ -48,7 +48,7 @@ fn search_place(
     ensures { IsSearched (NodeAtMet qp.now laws.now tree.now place) (NodeAtFinds qp.now laws.now tree.now place) result }
 {
     one_path();
-    way_laws();
+    way_theorems();
     prove!(place < tree.len());
     let number = place as u64 + 1;
     let cell = Cell { tree, way };

@@ -20,7 +20,7 @@ ghost use Rattle.mpc_check.specs.Picks.{picked_rows, picked_system, weights};
 ghost use Rattle.mpc_paths.specs.Ways.{HasSplitRow, IsTurn, side_row, turn_row, way_rows};
 
 use mpc_frac::{Frac, greatest_common_divisor};
-use mpc_linear::{RowInt, sum_laws};
+use mpc_linear::{RowInt, sum_theorems};
 use mpc_paths::Turn;
 use mpc_rows::{Cert, Counts, Node, Qp, Tree};
 
@@ -343,7 +343,7 @@ fn column_sum(
     ensures size { IfSome result (λ sum. unsigned_abs sum ≤ 2 ^ 126) }
     ensures nonneg { IfSome result (λ _. AllNonneg (weights cert.now)) }
 {
-    sum_laws();
+    sum_theorems();
     let mut total: i128 = 0;
     let entries = cert.as_slice();
     for i in 0..entries.len() {

@@ -2,7 +2,7 @@
 use Rattle.std.proofs.Common.{◌≤◌, List, length, get_or, arith}
 use Rattle.std.proofs.lemmas.List.Elements.{Contains-get_or}
 use Rattle.mpc_space.specs.Matrix.{height}
-use Rattle.mpc_sets.specs.SetLaws.{AreAtMost}
+use Rattle.mpc_sets.specs.SetTheorems.{AreAtMost}
 use Rattle.mpc_rows.specs.declared.programs.Qp.{Qp}
 use Rattle.mpc_claim.specs.declared.events.Event.{Event}
 use Rattle.mpc_claim.specs.History.{claimed_sets, IsLegal}

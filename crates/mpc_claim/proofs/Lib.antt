@@ -15,6 +15,6 @@ pub mod Counts
 pub mod Opens
 pub mod Held
 pub mod Emptied
-pub mod HistoryLaws
+pub mod HistoryTheorems
 pub mod OpenClaims
-pub mod AnswerLaws
+pub mod AnswerTheorems

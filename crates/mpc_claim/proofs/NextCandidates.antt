@@ -4,7 +4,7 @@ use Rattle.mpc_space.specs.Matrix.{height}
 use Rattle.mpc_sets.specs.RowSet.{IsSetOfRows, without_row}
 use Rattle.mpc_sets.specs.SetOrder.{IsInOrder}
 use Rattle.mpc_sets.specs.NextLevel.{IsNextOf}
-use Rattle.mpc_sets.specs.SetLaws.{MemberLaws, GivenWithoutOne}
+use Rattle.mpc_sets.specs.SetTheorems.{MemberTheorems, GivenWithoutOne}
 use Rattle.mpc_rows.specs.declared.programs.Qp.{Qp}
 use Rattle.mpc_rows.specs.Candidates.{IsCandidateOf, IsCandidate}
 use Rattle.mpc_claim.specs.Levels.{HoldsGrown, HoldsCandidates}
@@ -28,7 +28,7 @@ pub candidate_few : (qp : Qp) (s : List ℕ) → IsCandidate qp s → length s �
 candidate_few qp [] h = omega arith
 candidate_few qp (i ∷ s) h = h.2
 
-pub next_is_candidate : MemberLaws → GivenWithoutOne → (qp : Qp) (k : ℕ) (grown : List (List ℕ)) (s : List ℕ) → HoldsGrown qp k grown → k + 1 ≤ height qp.h → IsNextOf grown (height qp.g) s → IsCandidateOf (suc k) qp s
+pub next_is_candidate : MemberTheorems → GivenWithoutOne → (qp : Qp) (k : ℕ) (grown : List (List ℕ)) (s : List ℕ) → HoldsGrown qp k grown → k + 1 ≤ height qp.h → IsNextOf grown (height qp.g) s → IsCandidateOf (suc k) qp s
 next_is_candidate members level qp k grown [] h few n = absurd (omega (arith, n.has_member))
 next_is_candidate members level qp k grown (i ∷ s) h few n =
     let smaller = h.are (without_row i (i ∷ s)) (level grown (height qp.g) i (i ∷ s) n (inl refl)) in
@@ -44,13 +44,13 @@ candidate_is_next qp k grown s h c = record {
 }
 
 -- where no set of size k + 1 is a candidate, none of a greater size is
-smaller_candidate : MemberLaws → (qp : Qp) (k : ℕ) (s : List ℕ) → IsCandidateOf (suc (suc k)) qp s → (t : List ℕ) × IsCandidateOf (suc k) qp t
+smaller_candidate : MemberTheorems → (qp : Qp) (k : ℕ) (s : List ℕ) → IsCandidateOf (suc (suc k)) qp s → (t : List ℕ) × IsCandidateOf (suc k) qp t
 smaller_candidate members qp k [] c = absurd (let e = c.1 in omega (arith, e))
 smaller_candidate members qp k (i ∷ s) c =
     let l = members.lacks_one (height qp.g) i (i ∷ s) c.0 (inl refl) in
     (without_row i (i ∷ s), (c.3 (without_row i (i ∷ s)) l.0 l.1).0)
 
-pub none_greater : MemberLaws → (qp : Qp) (k : ℕ) → ((s : List ℕ) → IsCandidateOf (suc k) qp s → ⊥) → (s : List ℕ) (d : ℕ) → IsCandidateOf (suc (d + k)) qp s → ⊥
+pub none_greater : MemberTheorems → (qp : Qp) (k : ℕ) → ((s : List ℕ) → IsCandidateOf (suc k) qp s → ⊥) → (s : List ℕ) (d : ℕ) → IsCandidateOf (suc (d + k)) qp s → ⊥
 none_greater members qp k none s zero h = let e : 0 + k ≡ k = omega arith in none s (subst (λ n. IsCandidateOf (suc n) qp s) e h)
 none_greater members qp k none s (suc d) h =
     let e : suc d + k ≡ suc (d + k) = omega arith in
@@ -58,7 +58,7 @@ none_greater members qp k none s (suc d) h =
     none_greater members qp k none t.0 d t.1
 
 -- what `next_level` answers are the candidates of the next size
-pub next_are_candidates : MemberLaws → GivenWithoutOne → (qp : Qp) (k : ℕ) (grown sets : List (List ℕ)) → HoldsGrown qp k grown → k + 1 ≤ height qp.h → IsInOrder sets → ((s : List ℕ) → Contains sets s ↔ IsNextOf grown (height qp.g) s) → HoldsCandidates qp (suc k) sets
+pub next_are_candidates : MemberTheorems → GivenWithoutOne → (qp : Qp) (k : ℕ) (grown sets : List (List ℕ)) → HoldsGrown qp k grown → k + 1 ≤ height qp.h → IsInOrder sets → ((s : List ℕ) → Contains sets s ↔ IsNextOf grown (height qp.g) s) → HoldsCandidates qp (suc k) sets
 next_are_candidates members level qp k grown sets h few order f = record {
   in_order = order;
   are = λ s c. next_is_candidate members level qp k grown s h few ((f s).0 c);

@@ -7,7 +7,7 @@ use Rattle.std.proofs.lemmas.Bool.{cases_lt}
 use Rattle.std.proofs.lemmas.List.{length-append, length-drop, get_or_append_left, get_or-drop, get_or_default, map-append, take-append-le}
 use Rattle.std.proofs.lemmas.List.Elements.{Contains-get_or, Contains-append_left, Contains-append_right, Contains-append_cases}
 use Rattle.std.proofs.lemmas.List.Sums.{sum_by-append}
-use Rattle.mpc_sets.specs.SetLaws.{MemberLaws}
+use Rattle.mpc_sets.specs.SetTheorems.{MemberTheorems}
 use Rattle.mpc_sets.specs.SetOrder.{IsBefore, IsInOrder}
 use Rattle.mpc_sets.specs.NextLevel.{IsLevel}
 use Rattle.mpc_rows.specs.declared.programs.Qp.{Qp}
@@ -117,7 +117,7 @@ module _ (qp : Qp) (cs : List Candidate) (settled n pending size : ℕ) (h : Lis
   }
 
   -- where no candidate has a greater size, all have their places
-  pub complete_at_end : MemberLaws → IsLineup qp (sets_of cs) settled size → HoldsCandidates qp (suc size) [] → (s : List ℕ) → IsCandidate qp s → Contains (sets_of cs) s
+  pub complete_at_end : MemberTheorems → IsLineup qp (sets_of cs) settled size → HoldsCandidates qp (suc size) [] → (s : List ℕ) → IsCandidate qp s → Contains (sets_of cs) s
   complete_at_end members lineup none s c = elim (cases_lt size (length s)) [
     | inr l ↦ lineup.complete s c l
     | inl l ↦
@@ -212,7 +212,7 @@ kept_level qp cs sets settled n pending size h capacity k all quiet next some = 
   room = k.room;
 }
 
-pub kept_finished : MemberLaws → (qp : Qp) (cs : List Candidate) (settled n pending size : ℕ) (h : List Event) (capacity : ℕ) → IsKept qp cs settled n pending size Working h capacity → ((i : ℕ) → i < length cs → IsQuiet (at cs i).slot) → HoldsCandidates qp (suc size) [] → IsKept qp cs settled n pending size Finished h capacity
+pub kept_finished : MemberTheorems → (qp : Qp) (cs : List Candidate) (settled n pending size : ℕ) (h : List Event) (capacity : ℕ) → IsKept qp cs settled n pending size Working h capacity → ((i : ℕ) → i < length cs → IsQuiet (at cs i).slot) → HoldsCandidates qp (suc size) [] → IsKept qp cs settled n pending size Finished h capacity
 kept_finished members qp cs settled n pending size h capacity k quiet none = record {
   definite = k.definite;
   legal = k.legal;

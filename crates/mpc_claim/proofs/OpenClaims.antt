@@ -10,7 +10,7 @@ use Rattle.mpc_claim.specs.declared.events.EventKind.TheVariants.{Claim, Done, D
 use Rattle.mpc_claim.specs.Board.{event}
 use Rattle.mpc_claim.specs.History.{is_claim, claimed_sets, ended_sets, MayEnd, MayFollow, IsLegalAfter, IsLegal}
 use Rattle.mpc_claim.specs.OpenClaims.{Held, same_set, same, has, without, opened, open_after, open_of}
-use Rattle.mpc_claim.specs.HistoryLaws.{OpenListLaws}
+use Rattle.mpc_claim.specs.HistoryTheorems.{OpenListTheorems}
 use Rattle.mpc_claim.proofs.Histories.{claimed-claim, claimed-end, ended-claim, ended-end, IsLegal-push, legal_nothing, ended_was_claimed}
 
 -- ---- equal pairs
@@ -291,7 +291,7 @@ agrees qp past l = agrees_after qp [] past (record {
   claimed = λ s p. absurd (omega arith);
 }) l
 
-pub open_list : OpenListLaws
+pub open_list : OpenListTheorems
 open_list = record {
   more = more;
   has_open = has_open;

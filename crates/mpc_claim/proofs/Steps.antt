@@ -4,7 +4,7 @@ use Rattle.std.proofs.lemmas.List.{length-append}
 use Rattle.std.proofs.lemmas.List.Elements.{Contains-push, Contains-get_or}
 use Rattle.mpc_space.specs.Matrix.{height}
 use Rattle.mpc_sets.specs.RowSet.{RisesWithin}
-use Rattle.mpc_sets.specs.SetLaws.{AreAtMost}
+use Rattle.mpc_sets.specs.SetTheorems.{AreAtMost}
 use Rattle.mpc_sets.specs.SetOrder.{IsBefore, IsInOrder}
 use Rattle.mpc_rows.specs.declared.programs.Qp.{Qp}
 use Rattle.mpc_rows.specs.declared.verdicts.Verdict.{Verdict}

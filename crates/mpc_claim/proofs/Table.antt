@@ -13,7 +13,7 @@ use Rattle.mpc_rows.specs.Laws.{HasRegion}
 use Rattle.mpc_rows.specs.Candidates.{IsCandidate, IsVerdict, IsTable}
 use Rattle.mpc_rows.specs.SetRuns.{LawRowsFit}
 use Rattle.mpc_rows.specs.Verdicts.{IsRight}
-use Rattle.mpc_rows.specs.LawLaws.{OneLaw}
+use Rattle.mpc_rows.specs.LawTheorems.{OneLaw}
 use Rattle.mpc_claim.specs.declared.events.Event.{Event}
 use Rattle.mpc_claim.specs.declared.candidates.Candidate.{Candidate}
 use Rattle.mpc_claim.specs.declared.candidates.Slot.{Slot}

@@ -7,4 +7,4 @@ pub mod Books
 pub mod Levels
 pub mod Moves
 pub mod Hands
-pub mod HistoryLaws
+pub mod HistoryTheorems

@@ -13,7 +13,7 @@ ghost use Rattle.mpc_claim.specs.Levels.{HoldsCandidates, HoldsGrown, IsFirstBad
 use crate::{Entry, Event, EventKind, Mark, Tag, Ticket};
 use mpc_frac::NoMemory;
 use mpc_rows::{Law, LawTable, Qp, Verdict};
-use mpc_sets::{ActiveSet, level_law, member_laws, next_level};
+use mpc_sets::{ActiveSet, level_theorem, member_theorems, next_level};
 use std::alloc::Global;
 use std::mem;
 
@@ -153,8 +153,8 @@ pub(crate) fn next_candidates(
     requires grown { HoldsGrown qp.now size (grown_of (seen verdicts.now level.now)) }
     ensures { IfOk result (λ sets. HoldsCandidates qp.now (suc size) sets.items) }
 {
-    member_laws();
-    level_law();
+    member_theorems();
+    level_theorem();
     if size >= qp.h.rows() {
         return Ok(Vec::new(alloc));
     }

@@ -4,18 +4,18 @@
 mod candidates;
 mod entries;
 mod events;
-mod laws;
 mod levels;
 mod moves;
 mod registry;
+mod theorems;
 mod tickets;
 mod worlds;
 
 pub use candidates::{Candidate, Slot};
 use entries::{Entry, Mark};
 pub use events::{Event, EventKind, Phase, Tag};
-pub use laws::{claim_laws, history_laws, legal_laws};
 pub use moves::{Action, Played};
 pub use registry::Registry;
+pub use theorems::{claim_theorems, history_theorems, legal_theorems};
 pub use tickets::{Ahead, Claimed, Delivery, Ticket};
 pub use worlds::World;

@@ -19,8 +19,8 @@ use crate::levels::{
 };
 use crate::{Ahead, Claimed, Delivery, Entry, Event, EventKind, Mark, Phase, Ticket};
 use mpc_frac::NoMemory;
-use mpc_rows::{Judged, LawTable, Qp, Verdict, law_laws};
-use mpc_sets::{ActiveSet, count_laws, member_laws};
+use mpc_rows::{Judged, LawTable, Qp, Verdict, law_theorems};
+use mpc_sets::{ActiveSet, count_theorems, member_theorems};
 use std::alloc::Global;
 use std::marker::Model;
 
@@ -109,7 +109,7 @@ impl Registry {
         requires waiting { Any (λ c. c.slot ≡ Waiting) self.old.candidates }
         ensures { Claims self.old worker result self.new }
     {
-        count_laws();
+        count_theorems();
         reserve_claims(&mut self.history, &mut self.verdicts, self.pending, 1)?;
         let place = self.claims;
         let ticket = note_claim(&mut self.entries, &mut self.history, place, worker);
@@ -124,8 +124,8 @@ impl Registry {
         requires quiet { (i : ℕ) → i < length self.old.candidates → IsQuiet (at self.old.candidates i).slot }
         ensures { Claims self.old worker result self.new }
     {
-        member_laws();
-        count_laws();
+        member_theorems();
+        count_theorems();
         let level = &self.entries[self.settled..];
         let sets = next_candidates(self.alloc, &self.program, level, &self.verdicts, self.size)?;
         if sets.is_empty() {
@@ -221,7 +221,7 @@ impl Registry {
             worker,
             set,
         } = ticket;
-        count_laws();
+        count_theorems();
         let verdict = judged.into_verdict();
         let kind = EventKind::Done(tag(&verdict));
         let mark = keep(&mut self.verdicts, verdict);
@@ -277,7 +277,7 @@ impl Registry {
         ensures table { IfOk result (λ laws. IsTable self.program laws) }
         ensures rows_fit { IfOk result (λ laws. All (λ law. LawRowsFit self.program law (height self.program.g)) laws) }
     {
-        law_laws();
+        law_theorems();
         let verdicts = self.verdicts;
         let laws = collect_laws(alloc, &self.entries, verdicts)?;
         Ok(laws)

@@ -6,7 +6,7 @@ use Rattle.mpc_rows.specs.declared.programs.Qp.{Qp}
 use Rattle.mpc_controller.specs.Parts.{Parts}
 use Rattle.mpc_file.specs.declared.versions.Version.TheVariants.{Three}
 use Rattle.mpc_file.specs.FileGrammar.{Spells}
-use Rattle.mpc_file.specs.TextLaws.{OneText}
+use Rattle.mpc_file.specs.TextTheorems.{OneText}
 use Rattle.mpc_replies.specs.ReplyLines.{AreRepliesOf, ReplyRightly, RepliesAreRight}
 use Rattle.mpc_synthesis.specs.Controllers.{IsController, ControllerIsRight, ControllerReplies, OneController}
 use Rattle.mpc_synthesis.specs.Outcomes.{complete}

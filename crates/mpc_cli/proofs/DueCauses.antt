@@ -23,8 +23,8 @@ use Rattle.mpc_theorem.specs.PlantFile.{PlantTextsAreRead}
 use Rattle.mpc_theorem.specs.PlantFaults.{FaultsAreFirst}
 use Rattle.mpc_theorem.specs.Programs.{IsNotDefinite, IsWideProgram}
 use Rattle.mpc_theorem.specs.Stages.{IsWideStage, PlantNotDefinite, PlantTooWide}
-use Rattle.mpc_theorem.specs.CheckLaws.{FindsNotDefinite, FindsTooWide}
-use Rattle.mpc_theorem.specs.StateLaws.{SolvesNotDefinite, SolvesTooWide, TightensWideRow}
+use Rattle.mpc_theorem.specs.CheckTheorems.{FindsNotDefinite, FindsTooWide}
+use Rattle.mpc_theorem.specs.StateTheorems.{SolvesNotDefinite, SolvesTooWide, TightensWideRow}
 use Rattle.mpc_cli.specs.declared.commands.Command.{Command}
 use Rattle.mpc_cli.specs.declared.commands.Command.TheVariants.{OfPlant, OfFile, OfStates, Drill, Fleet}
 use Rattle.mpc_cli.specs.declared.commands.StateCommand.TheVariants.{Solve, Robust}

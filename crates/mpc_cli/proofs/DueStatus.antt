@@ -20,7 +20,7 @@ use Rattle.mpc_cli.proofs.EndLemmas.{one_of, rank}
 use Rattle.mpc_cli.proofs.PlantEnds.{one_end, end_done}
 use Rattle.mpc_cli.proofs.FileEnds.{LinesBefore, one_file, passing_comes}
 use Rattle.mpc_states.specs.Outcomes.{OneSolveOutcome, OneRobustOutcome}
-use Rattle.mpc_states.specs.StateLaws.{SolveIsComplete, RobustIsComplete}
+use Rattle.mpc_states.specs.StateTheorems.{SolveIsComplete, RobustIsComplete}
 use Rattle.mpc_cli.proofs.StateEnds.{one_state, states_done}
 use Rattle.mpc_cli.proofs.DrillEnds.{drill_done}
 

@@ -8,7 +8,7 @@ use Rattle.mpc_status.specs.StatusText.{line_of}
 use Rattle.mpc_cli.specs.declared.commands.Command.TheVariants.{Fleet}
 use Rattle.mpc_theorem.specs.PlantFile.{PlantTextsAreRead}
 use Rattle.mpc_theorem.specs.FileOutputs.{IsCompiled, CompiledIsOutput}
-use Rattle.mpc_file.specs.TextLaws.{OneText}
+use Rattle.mpc_file.specs.TextTheorems.{OneText}
 use Rattle.mpc_synthesis.specs.Controllers.{ControllerIsRight, ControllerReplies, OneController}
 use Rattle.mpc_cli.specs.StatedOutputs.{IsTheFile, IsStatedOutput}
 use Rattle.mpc_cli.specs.Statuses.{DueIsWhatComes}

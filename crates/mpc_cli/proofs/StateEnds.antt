@@ -3,7 +3,7 @@ use Rattle.std.proofs.Common.{◌≡◌, ◌≢◌, ℕ, List, ◌∙◌, ap}
 use Rattle.mpc_convex.specs.Outcomes.{convex}
 use Rattle.mpc_states.specs.Inputs.{IsSolved as IsSolvedByRun, IsRobustlySolved as IsRobustlySolvedByRun}
 use Rattle.mpc_states.specs.Outcomes.{SolveOutcome, of_program, IsSolveOutcome, OneSolveOutcome, RobustOutcome, robust_replies, IsRobustOutcome, OneRobustOutcome}
-use Rattle.mpc_states.specs.StateLaws.{SolveIsComplete, RobustIsComplete}
+use Rattle.mpc_states.specs.StateTheorems.{SolveIsComplete, RobustIsComplete}
 use Rattle.mpc_status.specs.declared.status.Status.{Status}
 use Rattle.mpc_status.specs.declared.status.Status.TheVariants.{Done}
 use Rattle.mpc_status.specs.StatusText.{line_of}

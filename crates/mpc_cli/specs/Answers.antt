@@ -29,7 +29,7 @@ use Rattle.mpc_cli.specs.Outputs.{IsOutput}
 use Rattle.mpc_cli.specs.Statuses.{ReadsWith}
 use Rattle.mpc_sections.specs.Sections.{sections_of}
 use Rattle.mpc_exact.specs.Rational.{ℚ}
-use Rattle.mpc_states.specs.StateLaws.{NothingRefused as SolveRefusesNothing, NothingRobustRefused as RobustRefusesNothing}
+use Rattle.mpc_states.specs.StateTheorems.{NothingRefused as SolveRefusesNothing, NothingRobustRefused as RobustRefusesNothing}
 use Rattle.mpc_theorem.specs.SafeFiles.{IsSafeFile}
 
 -- the most bytes that an input has

@@ -28,7 +28,7 @@ use Rattle.mpc_theorem.specs.PlantFaults.{IsFaultyText}
 use Rattle.mpc_theorem.specs.Programs.{IsNotDefinite, IsWideProgram}
 use Rattle.mpc_theorem.specs.SafeFiles.{IsSafeFile, IsUnsafeFile}
 use Rattle.mpc_theorem.specs.Stages.{IsWideStage}
-use Rattle.mpc_theorem.specs.StateLaws.{IsWideTightRow}
+use Rattle.mpc_theorem.specs.StateTheorems.{IsWideTightRow}
 use Rattle.mpc_status.specs.declared.late.LatePlace.{LatePlace}
 use Rattle.mpc_status.specs.declared.late.LatePlace.TheVariants.{Next as NextPlace, Tight}
 use Rattle.mpc_status.specs.declared.status.Status.{Status}

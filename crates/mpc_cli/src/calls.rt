@@ -10,8 +10,8 @@ ghost use Rattle.mpc_cli.specs.Outcomes.{Closes, ExplainsRunHalt, Finishes, IsSo
 use crate::answer::Answer;
 use crate::commands::{Command, named_command};
 use crate::inputs::Halt;
-use crate::laws::one_status;
 use crate::respond::{answer_alone, answer_in_threads, refused};
+use crate::theorems::one_status;
 use mpc_port::{Sink, SinkError, Source, write_all};
 use mpc_status::Status;
 use mpc_workers::Gate;

@@ -10,7 +10,7 @@ use mpc_drill::drill;
 use mpc_frac::NoMemory;
 use mpc_status::Status;
 use mpc_synthesis::SynthesisError;
-use mpc_theorem::drill_line_laws;
+use mpc_theorem::drill_line_theorems;
 use mpc_workers::Gate;
 use std::alloc::Global;
 use std::sync::Wait;
@@ -38,7 +38,7 @@ pub fn drill_answer<T: Threads + Wait + Sync, G: Gate + Sync>(
     ensures { IfOk result (λ answer. (input : List ℕ)
         → IsAnswerTo (Drill number) input answer.status answer.text.items) }
 {
-    drill_line_laws();
+    drill_line_theorems();
     match drill(rt, alloc, number, gate) {
         Ok(drilled) => {
             let line = drilled.line(alloc)?;

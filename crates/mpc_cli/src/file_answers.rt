@@ -17,7 +17,7 @@ use mpc_replies::cut;
 use mpc_safety::{Safety, SafetyError, one_safety_answer, safe_file};
 use mpc_status::{LatePlace, Status};
 use mpc_text::add_text;
-use mpc_theorem::{file_output_laws, safe_file_laws};
+use mpc_theorem::{file_output_theorems, safe_file_theorems};
 use std::alloc::Global;
 use std::thread::Threads;
 
@@ -45,7 +45,7 @@ fn few_bytes(bytes: &[u8])
 fn reply_answer(alloc: Global, input: &[u8]) -> Result<Answer, NoMemory>
     ensures { IfOk result (λ answer. IsAnswerTo (OfFile Reply) input.now answer.status answer.text.items) }
 {
-    file_output_laws();
+    file_output_theorems();
     let sections = cut(input);
     few_bytes(sections.head);
     match reply_to(alloc, sections.head, sections.counts) {
@@ -58,7 +58,7 @@ fn reply_answer(alloc: Global, input: &[u8]) -> Result<Answer, NoMemory>
 fn convert_answer(alloc: Global, input: &[u8]) -> Result<Answer, NoMemory>
     ensures { IfOk result (λ answer. IsAnswerTo (OfFile Convert) input.now answer.status answer.text.items) }
 {
-    file_output_laws();
+    file_output_theorems();
     few_bytes(input);
     match convert(alloc, input) {
         Ok(text) => Ok(output(text)),
@@ -93,7 +93,7 @@ fn check_refusal(alloc: Global, error: CheckFileError) -> Result<Answer, NoMemor
 fn check_answer<T: Threads + Sync>(rt: &T, alloc: Global, input: &[u8]) -> Result<Answer, NoMemory>
     ensures { IfOk result (λ answer. IsAnswerTo (OfFile Check) input.now answer.status answer.text.items) }
 {
-    file_output_laws();
+    file_output_theorems();
     few_bytes(input);
     match check_file(rt, alloc, input) {
         Ok(Checked::Accepted) => accepted(alloc),
@@ -131,7 +131,7 @@ fn safe_answer<T: Threads + Sync>(rt: &T, alloc: Global, input: &[u8]) -> Result
     ensures { IfOk result (λ answer. IsAnswerTo (OfFile Safe) input.now answer.status answer.text.items) }
 {
     one_safety_answer();
-    safe_file_laws();
+    safe_file_theorems();
     match safe_file(rt, alloc, input) {
         Ok(Safety::Safe) => safe(alloc),
         Ok(Safety::Refused(spot)) => refusal(alloc, Status::Refused(spot)),

@@ -6,13 +6,13 @@ ghost use Rattle.mpc_cli.specs.Commands.{IsWorkerCount};
 ghost use Rattle.mpc_cli.specs.Outcomes.{IsAnswerTo};
 
 use crate::answer::{Answer, output, refusal};
-use crate::laws::due_statuses;
+use crate::theorems::due_statuses;
 use mpc_file::one_text;
 use mpc_frac::NoMemory;
 use mpc_sections::{SectionsError, fleet};
 use mpc_status::Status;
 use mpc_synthesis::{one_controller, right_controller};
-use mpc_theorem::{file_output_laws, plant_texts};
+use mpc_theorem::{file_output_theorems, plant_texts};
 use mpc_workers::Gate;
 use std::alloc::Global;
 use std::sync::Wait;
@@ -31,7 +31,7 @@ pub fn fleet_answer<T: Threads + Wait + Sync, G: Gate + Sync>(
 {
     due_statuses();
     plant_texts();
-    file_output_laws();
+    file_output_theorems();
     right_controller();
     one_controller();
     one_text();

@@ -8,10 +8,10 @@ mod drill_answers;
 mod file_answers;
 mod fleet_answers;
 mod inputs;
-mod laws;
 mod plant_answers;
 mod respond;
 mod state_answers;
+mod theorems;
 
 pub use calls::{run, run_alone, waits};
-pub use laws::{due_statuses, one_status};
+pub use theorems::{due_statuses, one_status};

@@ -25,7 +25,7 @@ use mpc_synthesis::{
     SynthesisError, controller_of_in_threads, decided, decided_in_threads, one_controller,
     right_controller,
 };
-use mpc_theorem::{file_output_laws, output_lines, plant_texts, trace_laws};
+use mpc_theorem::{file_output_theorems, output_lines, plant_texts, trace_theorems};
 use mpc_trace::trace;
 use mpc_workers::Gate;
 use std::alloc::Global;
@@ -171,8 +171,8 @@ pub fn plant_answer_alone<T: Threads + Sync, G: Gate>(
 {
     plant_texts();
     output_lines();
-    file_output_laws();
-    trace_laws();
+    file_output_theorems();
+    trace_theorems();
     let read = read_plant(alloc, plant_bytes(command, input));
     match read {
         Ok(plant) => {
@@ -196,8 +196,8 @@ pub fn plant_answer_in_threads<T: Threads + Wait + Sync, G: Gate + Sync>(
 {
     plant_texts();
     output_lines();
-    file_output_laws();
-    trace_laws();
+    file_output_theorems();
+    trace_theorems();
     let read = read_plant(alloc, plant_bytes(command, input));
     match read {
         Ok(plant) => {

@@ -15,7 +15,7 @@ use Rattle.mpc_plant.specs.Trajectory.{IsSequence, IsAdmissible, state_at, move_
 use Rattle.mpc_rows.specs.declared.programs.Qp.{Qp}
 use Rattle.mpc_condense.specs.Condensed.{stacked, stage_row, terminal_row, HasRoom, IsCondensed}
 use Rattle.mpc_rows.specs.ActiveSets.{extended, MeetsRows}
-use Rattle.mpc_condense.specs.ProgramLaws.{SameSequences, SameCosts}
+use Rattle.mpc_condense.specs.ProgramTheorems.{SameSequences, SameCosts}
 use Rattle.mpc_condense.proofs.RowLemmas.{stage_within, terminal_within}
 
 -- the rows of the program hold, one by one

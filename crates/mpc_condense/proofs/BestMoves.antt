@@ -22,7 +22,7 @@ use Rattle.mpc_rows.specs.declared.laws.Law.{Law}
 use Rattle.mpc_rows.specs.ActiveSets.{extended, rows_of, IsInBox, MeetsRows, IsFeasible}
 use Rattle.mpc_rows.specs.Laws.{IsLaw, IsInRegion, moves_at, mults_at}
 use Rattle.mpc_condense.specs.Condensed.{stacked, program_cost, IsCondensed}
-use Rattle.mpc_condense.specs.ProgramLaws.{SameSequences}
+use Rattle.mpc_condense.specs.ProgramTheorems.{SameSequences}
 use Rattle.mpc_condense.proofs.Stacks.{cut_stacked, cut_wide, cut_length, stacked_length, stacked_apart, AllWide}
 
 dearer : (a b k : ℚ) → a <ℚ b → (a +ℚ k) <ℚ (b +ℚ k)

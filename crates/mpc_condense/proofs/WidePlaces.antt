@@ -8,7 +8,7 @@ use Rattle.mpc_rows.specs.declared.places.Place.TheVariants.{State, Cost, Row}
 use Rattle.mpc_condense.specs.Motion.{StateFits, CostFits, RowFits}
 use Rattle.mpc_condense.specs.Stages.{IsRow}
 use Rattle.mpc_condense.specs.Causes.{row_count, StatesFit, CostsFit, RowsFit, AllFit, IsWideState, IsWideCost, IsWideRow, IsWidePlace}
-use Rattle.mpc_condense.specs.ProgramLaws.{NoWidePlace, OneWidePlace, RowsWithin}
+use Rattle.mpc_condense.specs.ProgramTheorems.{NoWidePlace, OneWidePlace, RowsWithin}
 use Rattle.mpc_condense.proofs.RowLemmas.{stage_within, terminal_within, wide_row}
 
 pub rows_within : RowsWithin

@@ -5,5 +5,5 @@ pub mod Stages
 pub mod Causes
 pub mod MotionList
 pub mod Rows
-pub mod ProgramLaws
+pub mod ProgramTheorems
 pub mod BestReplies

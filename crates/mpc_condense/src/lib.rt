@@ -4,11 +4,11 @@
 mod blocks;
 mod costs;
 mod errors;
-mod laws;
 mod limits;
 mod motions;
 mod programs;
+mod theorems;
 
 pub use errors::CondenseError;
-pub use laws::{best_replies, one_program, place_laws, program_laws};
 pub use programs::condense;
+pub use theorems::{best_replies, one_program, place_theorems, program_theorems};

@@ -4,7 +4,7 @@ use Rattle.std.specs.Prelude.{slice_get}
 use Rattle.std.proofs.lemmas.List.{length-drop, drop-drop}
 use Rattle.mpc_exact.specs.Rational.{ℚ, int, ◌≤ℚ◌, ◌<ℚ◌}
 use Rattle.mpc_exact.proofs.RationalOrder.{le_or_lt}
-use Rattle.mpc_exact.proofs.OrderLaws.{≤ℚ-not-<}
+use Rattle.mpc_exact.proofs.OrderTheorems.{≤ℚ-not-<}
 use Rattle.mpc_space.specs.Vector.{dot}
 use Rattle.mpc_linear.specs.declared.integers.RowInt.{RowInt}
 use Rattle.mpc_rows.specs.declared.trees.Node.{Node}

@@ -4,7 +4,7 @@ use Rattle.mpc_linear.specs.declared.integers.RowInt.{RowInt}
 use Rattle.mpc_rows.specs.declared.trees.Node.{Node}
 use Rattle.mpc_rows.specs.declared.trees.Node.TheVariants.{Split, Law, NoMove}
 use Rattle.mpc_controller.specs.Preorder.{Spells}
-use Rattle.mpc_controller.specs.PreorderLaws.{SplitSpells, LeafSpells, JoinedSpell}
+use Rattle.mpc_controller.specs.PreorderTheorems.{SplitSpells, LeafSpells, JoinedSpell}
 use Rattle.mpc_controller.specs.Walk.{IsLeaf}
 
 -- ---- one node behind nodes that spell trees

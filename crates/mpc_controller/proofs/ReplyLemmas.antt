@@ -10,7 +10,7 @@ use Rattle.mpc_controller.specs.Parts.{Parts, IsNodeFor}
 use Rattle.mpc_controller.specs.Walk.{EndsAt}
 use Rattle.mpc_controller.specs.OneLeaf.{EndsOnce}
 use Rattle.mpc_controller.specs.Replies.{RepliesAt, by_law, by_no_law, first_move}
-use Rattle.mpc_controller.specs.ReplyLaws.{RepliesEverywhere}
+use Rattle.mpc_controller.specs.ReplyTheorems.{RepliesEverywhere}
 use Rattle.mpc_controller.proofs.OneLeafLemmas.{ends_at_one_leaf}
 
 module _ (parts : Parts) (t : List ℚ) (place : ℕ) where

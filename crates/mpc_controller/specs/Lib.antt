@@ -4,7 +4,7 @@ pub mod Parts
 pub mod Bounds
 pub mod OneBound
 pub mod Walk
-pub mod PreorderLaws
+pub mod PreorderTheorems
 pub mod Replies
-pub mod ReplyLaws
+pub mod ReplyTheorems
 pub mod OneLeaf

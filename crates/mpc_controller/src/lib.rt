@@ -4,9 +4,9 @@
 mod bounds;
 mod controllers;
 mod errors;
-mod laws;
+mod theorems;
 
 pub use bounds::{form_fits, limits, split_fits};
 pub use controllers::Controller;
 pub use errors::SealError;
-pub use laws::{bound_laws, one_leaf, preorder_laws, replies_everywhere};
+pub use theorems::{bound_theorems, one_leaf, preorder_theorems, replies_everywhere};

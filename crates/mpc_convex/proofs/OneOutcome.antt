@@ -6,7 +6,7 @@ use Rattle.mpc_rows.specs.declared.programs.Qp.{Qp}
 use Rattle.mpc_rows.specs.declared.places.Place.{Place}
 use Rattle.mpc_rows.specs.declared.places.Place.TheVariants.{Pivot}
 use Rattle.mpc_definite.specs.Pivots.{IsFirstNotPositive, IsFirstWide}
-use Rattle.mpc_condense.specs.ProgramLaws.{NoWidePlace, OneWidePlace}
+use Rattle.mpc_condense.specs.ProgramTheorems.{NoWidePlace, OneWidePlace}
 use Rattle.mpc_condense.specs.BestReplies.{OneProgram}
 use Rattle.mpc_convex.specs.Convex.{HasProgram, IsConvexProgram}
 use Rattle.mpc_convex.specs.Refusals.{IsNotDefiniteAt, IsFirstWidePlace, wide_program, wide_pivot}

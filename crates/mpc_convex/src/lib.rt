@@ -7,7 +7,7 @@ ghost use Rattle.mpc_convex.specs.Refusals.{IsProgramCause};
 ghost use Rattle.mpc_convex.specs.Outcomes.{OneProgramOutcome};
 ghost use Rattle.mpc_convex.specs.declared.ProgramError.TheVariants.{NoMemory as OutOfMemory};
 
-use mpc_condense::{CondenseError, condense, one_program, place_laws};
+use mpc_condense::{CondenseError, condense, one_program, place_theorems};
 use mpc_definite::{DefiniteError, pivots};
 use mpc_frac::NoMemory;
 use mpc_plant::Plant;
@@ -64,5 +64,5 @@ pub fn one_program_outcome()
     ensures { OneProgramOutcome }
 {
     one_program();
-    place_laws();
+    place_theorems();
 }

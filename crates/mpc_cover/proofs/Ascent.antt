@@ -7,7 +7,7 @@ use Rattle.mpc_exact.specs.Rational.{ℚ, int, ◌+ℚ◌, ◌-ℚ◌, ◌*ℚ�
 use Rattle.mpc_exact.proofs.Rational.{*ℚ_comm}
 use Rattle.mpc_exact.proofs.RationalRing.{reads, by_ring, by_equation, by_equations}
 use Rattle.mpc_exact.proofs.RationalOrder.{gap, nonneg_int, nonneg-add, nonneg-mul, nonneg_cancel, le_or_lt, ≤ℚ_of_<, ≤ℚ_refl, inv_positive, by_le}
-use Rattle.mpc_exact.proofs.OrderLaws.{positive-not_zero, *ℚ-/ℚ}
+use Rattle.mpc_exact.proofs.OrderTheorems.{positive-not_zero, *ℚ-/ℚ}
 use Rattle.mpc_exact.proofs.Linear.{linear_le, linear_lt, linear_false, claims, none, le, lt, eq}
 use Rattle.mpc_space.specs.Vector.{dot, vec_add, vec_scale, vec_sub, vec_mat, IsZero, IsIndependent}
 use Rattle.mpc_space.proofs.Entries.{length-add, length-scale, dot_nil, dot-zero, zero_or_not}

@@ -5,7 +5,7 @@ use Rattle.std.proofs.lemmas.List.{length-map, length-append, map-append, append
 use Rattle.mpc_exact.specs.Rational.{ℚ, int, ◌+ℚ◌, ◌-ℚ◌, ◌*ℚ◌, ◌≤ℚ◌, ◌<ℚ◌, IsNonneg, IsPositive}
 use Rattle.mpc_exact.proofs.RationalRing.{reads, by_ring, by_equations}
 use Rattle.mpc_exact.proofs.RationalOrder.{nonneg_cancel, le_or_lt, ≤ℚ_of_<, ≤ℚ_refl}
-use Rattle.mpc_exact.proofs.OrderLaws.{positive-not_zero}
+use Rattle.mpc_exact.proofs.OrderTheorems.{positive-not_zero}
 use Rattle.mpc_exact.proofs.Rational.{*ℚ_comm}
 use Rattle.mpc_exact.proofs.RationalField.{product_zero}
 use Rattle.std.proofs.lemmas.Bool.{cases_eq}

@@ -5,7 +5,7 @@ use Rattle.std.proofs.lemmas.List.{length-map, length-replicate}
 use Rattle.mpc_exact.specs.Rational.{ℚ, int, ◌+ℚ◌, ◌*ℚ◌, ◌/ℚ◌, neg_ℚ, inv_ℚ}
 use Rattle.mpc_exact.proofs.RationalRing.{reads, by_ring, by_equation, by_equations}
 use Rattle.mpc_exact.proofs.RationalField.{ℚ_discrete}
-use Rattle.mpc_exact.proofs.OrderLaws.{one-not_zero, *ℚ-/ℚ}
+use Rattle.mpc_exact.proofs.OrderTheorems.{one-not_zero, *ℚ-/ℚ}
 use Rattle.mpc_space.specs.Vector.{coordinate, zeros, column, dot, vec_add, vec_scale, mat_vec, vec_mat, later_entries, IsZero, IsIndependent}
 use Rattle.mpc_space.proofs.Entries.{coordinate-add, coordinate-scale, length-add_within, length-scale, zeros_zero, zero_entries, zero_by_entries, zero_by_dots, dot-zero, dot_nil}
 use Rattle.mpc_space.proofs.Matrix.{dot-vec_mat, coordinate-vec_mat}

@@ -4,7 +4,7 @@ use Rattle.std.specs.List.{AllByRecursion}
 use Rattle.std.proofs.lemmas.List.Elements.{All-get_or, All-from_get_or, recursion_from_All}
 use Rattle.mpc_exact.specs.Rational.{ℚ, ◌+ℚ◌, ◌≤ℚ◌, ◌<ℚ◌}
 use Rattle.mpc_exact.proofs.RationalOrder.{≤ℚ_of_<, ≤ℚ_trans}
-use Rattle.mpc_exact.proofs.OrderLaws.{≤ℚ-not-<}
+use Rattle.mpc_exact.proofs.OrderTheorems.{≤ℚ-not-<}
 use Rattle.mpc_exact.proofs.Rational.{+ℚ_zero}
 use Rattle.mpc_space.specs.Vector.{coordinate, listed, dot, vec_mat, mat_vec, IsIndependent}
 use Rattle.mpc_space.specs.Total.{unit}

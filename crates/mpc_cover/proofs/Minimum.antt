@@ -2,7 +2,7 @@
 use Rattle.std.proofs.Common.{◌≡◌, ◌≢◌, ℕ, suc, ◌-◌, ◌≤◌, List, [], ◌∷◌, length, map, get_or, pos, negsuc, refl, sym, ◌∙◌, ap, subst, arith, append-nil, inl, inr, ⊎_elim}
 use Rattle.std.proofs.Common.{subst₂}
 use Rattle.mpc_exact.specs.Rational.{ℚ, int, ◌+ℚ◌, ◌-ℚ◌, ◌≤ℚ◌}
-use Rattle.mpc_exact.proofs.OrderLaws.{<ℚ_asymm}
+use Rattle.mpc_exact.proofs.OrderTheorems.{<ℚ_asymm}
 use Rattle.mpc_exact.proofs.RationalRing.{reads, by_ring, by_equations}
 use Rattle.mpc_space.specs.Vector.{coordinate, dot, vec_add, vec_sub, mat_vec, vec_mat, IsZero, IsSymmetric, IsIndependent, AllAtMost, AllNonneg}
 use Rattle.mpc_space.specs.Matrix.{height}

@@ -14,9 +14,9 @@ use Rattle.mpc_rows.specs.ActiveSets.{IsIndependentSet, IsReachable}
 use Rattle.mpc_rows.specs.Laws.{IsLaw, HasRegion, HasLawWith}
 use Rattle.mpc_rows.specs.SetRuns.{LawFits, reach_system, LawRowsFit, RegionFits}
 use Rattle.mpc_rows.specs.Verdicts.{AllFit, IsFirstWideRow, IsWideRegion, IsWideLaw, IsWideReach, IsWideBorder, IsWideInRegion, IsFirstWide, IsRight}
-use Rattle.mpc_rows.specs.LawLaws.{LawLaws}
+use Rattle.mpc_rows.specs.LawTheorems.{LawTheorems}
 
-module _ (laws : LawLaws) (qp : Qp) (definite : IsDefinite qp.h.rows) (s : List ℕ) where
+module _ (laws : LawTheorems) (qp : Qp) (definite : IsDefinite qp.h.rows) (s : List ℕ) where
   -- so of every law of the set
   abbrev EachLaw : (Law → Type 0) → Type 0
   EachLaw P = (law : Law) → law.set ≡ s → IsLaw qp law → P law

@@ -4,7 +4,7 @@ use Rattle.std.specs.List.{AllByRecursion}
 use Rattle.mpc_exact.specs.Rational.{ℚ, int, ◌+ℚ◌, ◌-ℚ◌, ◌*ℚ◌, ◌/ℚ◌, ◌≤ℚ◌, ◌<ℚ◌, IsNonneg, IsPositive}
 use Rattle.mpc_exact.proofs.RationalRing.{reads, by_ring, by_equations}
 use Rattle.mpc_exact.proofs.RationalOrder.{gap, nonneg_int, nonneg-add, by_le, nonneg-mul, ≤ℚ_of_<, ≤ℚ_refl, inv_positive}
-use Rattle.mpc_exact.proofs.OrderLaws.{positive-not_zero, /ℚ-≤ℚ, product_nonpositive}
+use Rattle.mpc_exact.proofs.OrderTheorems.{positive-not_zero, /ℚ-≤ℚ, product_nonpositive}
 use Rattle.mpc_exact.proofs.Rational.{+ℚ_assoc, *ℚ_one}
 use Rattle.mpc_exact.proofs.Linear.{linear_le, linear_lt, claims, none, le, lt}
 use Rattle.mpc_space.specs.Vector.{coordinate, later_entries, dot, vec_add, vec_scale, vec_sub, mat_vec, vec_mat, IsZero, AllNonneg, AllAtMost, IsIndependent}

@@ -5,7 +5,7 @@ use Rattle.std.specs.List.{AllByRecursion}
 use Rattle.std.proofs.lemmas.List.{length-replicate}
 use Rattle.mpc_exact.specs.Rational.{ℚ, int, ◌+ℚ◌, ◌-ℚ◌, ◌*ℚ◌, ◌/ℚ◌, neg_ℚ, inv_ℚ, IsPositive}
 use Rattle.mpc_exact.proofs.RationalRing.{reads, by_ring, by_equation, by_equations}
-use Rattle.mpc_exact.proofs.OrderLaws.{positive-not_zero, one-not_zero, *ℚ-/ℚ}
+use Rattle.mpc_exact.proofs.OrderTheorems.{positive-not_zero, one-not_zero, *ℚ-/ℚ}
 use Rattle.mpc_space.specs.Vector.{coordinate, listed, zeros, dot, vec_add, vec_scale, mat_vec, vec_mat, IsZero, IsIndependent}
 use Rattle.mpc_space.specs.Definite.{IsDefinite}
 use Rattle.mpc_space.proofs.Entries.{coordinate-add, coordinate-scale, coordinate-listed, coordinate-zeros, length-listed, length-add, length-scale, length-add_within, same_entries, zero_by_entries, zeros_zero, dot_nil, dot-zero, zero_by_dots, zero_or_not}

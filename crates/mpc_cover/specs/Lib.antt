@@ -1,3 +1,3 @@
 pub mod Cheapest
 pub mod Implied
-pub mod CoverLaws
+pub mod CoverTheorems

@@ -18,18 +18,18 @@ ghost use Rattle.mpc_rows.specs.Laws.{IsLaw, IsInRegion, moves_at, mults_at};
 ghost use Rattle.mpc_rows.specs.LinearSystem.{LinearSystem, IsPoint};
 ghost use Rattle.mpc_cover.specs.Cheapest.{IsCheapest, HasMultipliers};
 ghost use Rattle.mpc_cover.specs.Implied.{IsClosedSystem, Implies, IsCarried};
-ghost use Rattle.mpc_cover.specs.CoverLaws.{RegionsCover, TablesCover, OneRightVerdict};
+ghost use Rattle.mpc_cover.specs.CoverTheorems.{RegionsCover, TablesCover, OneRightVerdict};
 
 /// Each point of the box with an admissible choice lies in the region of a law of the table (active sets: Bemporad, Morari, Dua and
 /// Pistikopoulos, 2002; their pruning: Gupta, Bhartiya and Nataraj, 2011).
-pub fn cover_laws()
+pub fn cover_theorems()
     ensures covered { RegionsCover }
     ensures of_every_table { TablesCover }
 {}
 
 /// The cheapest admissible choice (Karush, 1939; Kuhn and Tucker, 1951): it exists wherever there is an admissible one, with multipliers on
 /// independent rows. It is the only choice with multipliers, and what a law gives in its region; so laws agree where their regions meet.
-pub fn cheapest_laws()
+pub fn cheapest_theorems()
     ensures exists { (qp : Qp) → IsSymmetric qp.h.rows → IsDefinite qp.h.rows → (t y : List ℚ) → IsFeasible qp t y → (z : List ℚ) × IsCheapest qp t z × HasMultipliers qp t z }
     ensures single { (qp : Qp) (t x z : List ℚ) → IsCheapest qp t x → IsCheapest qp t z → x ≡ z }
     ensures by_multipliers { (qp : Qp) → IsSymmetric qp.h.rows → IsDefinite qp.h.rows → (t z : List ℚ) → IsFeasible qp t z → HasMultipliers qp t z → IsCheapest qp t z }
@@ -39,7 +39,7 @@ pub fn cheapest_laws()
 
 /// Where h is positive definite, an independent set has a law, and laws of one set agree at every point. It has no more members than there are
 /// unknowns.
-pub fn set_laws()
+pub fn set_theorems()
     ensures few { (qp : Qp) (s : List ℕ) → IsIndependentSet qp s → length s ≤ height qp.h }
     ensures has_law { (qp : Qp) (s : List ℕ) → IsDefinite qp.h.rows → IsSetOfRows (height qp.g) s → IsIndependentSet qp s → (law : Law) × (law.set ≡ s) × IsLaw qp law }
     ensures same_moves { (qp : Qp) (law other : Law) → IsDefinite qp.h.rows → IsLaw qp law → IsLaw qp other → law.set ≡ other.set → (t : List ℚ) → length t ≡ length qp.counts → moves_at law t ≡ moves_at other t }
@@ -48,7 +48,7 @@ pub fn set_laws()
 
 /// Farkas' lemma (1902) with an independent carrier (Carathéodory, 1911): a system without strict rows that has a point implies exactly the
 /// rows that are carried by independent rows of it.
-pub fn farkas_laws()
+pub fn farkas_theorems()
     ensures carried { (s : LinearSystem) (r : Row) → IsClosedSystem s → length r.a ≡ s.width → (v : List ℚ) → IsPoint s v → Implies s r → IsCarried s r }
     ensures implied { (s : LinearSystem) (r : Row) → IsClosedSystem s → r.strict ≡ false → IsCarried s r → Implies s r }
 {}
@@ -57,5 +57,5 @@ pub fn farkas_laws()
 pub fn one_verdict()
     ensures { OneRightVerdict }
 {
-    mpc_rows::law_laws();
+    mpc_rows::law_theorems();
 }

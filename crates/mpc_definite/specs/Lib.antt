@@ -1,4 +1,4 @@
 pub mod Pivots
 pub mod Steps
 pub mod Causes
-pub mod PivotLaws
+pub mod PivotTheorems

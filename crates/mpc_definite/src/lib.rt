@@ -11,12 +11,12 @@ ghost use Rattle.mpc_definite.specs.Steps.{IsSquare, IsLowerOf, CopiesRow, Elimi
 ghost use Rattle.mpc_definite.specs.Causes.{IsCause, Disproves};
 ghost use Rattle.mpc_definite.specs.declared.DefiniteError.TheVariants.{NoMemory as OutOfMemory};
 
-mod laws;
+mod theorems;
 
-pub use laws::pivot_laws;
 use mpc_frac::{Frac, NoMemory, Wide};
 use mpc_linear::{Matrix, Vector, sub_product};
 use std::alloc::Global;
+pub use theorems::pivot_theorems;
 use thiserror::Error;
 
 /// A symmetric matrix as `l d l'`.

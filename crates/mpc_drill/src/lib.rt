@@ -4,10 +4,10 @@
 mod counts;
 mod drills;
 mod entries;
-mod laws;
 mod limits;
 mod plants;
+mod theorems;
 
 pub use drills::{Drilled, drill};
-pub use laws::one_drill;
 pub use plants::drill_plant;
+pub use theorems::one_drill;

@@ -8,7 +8,7 @@ use Rattle.mpc_exact.proofs.RationalOrder.{nonneg_int, nonneg-add, nonneg-mul, �
 use Rattle.mpc_exact.proofs.RationalField.{abs_cases}
 use Rattle.mpc_exact.proofs.Linear.{linear_le, claims, none, le, eq}
 use Rattle.mpc_exact.proofs.School.{int_le, int-neg}
-use Rattle.mpc_exact.proofs.OrderLaws.{le_ℚ-true, le_ℚ-false, neg_nonneg}
+use Rattle.mpc_exact.proofs.OrderTheorems.{le_ℚ-true, le_ℚ-false, neg_nonneg}
 
 -- ---- the absolute value
 abs_choice : (P : ℚ → ℚ → Type 0) → ((x : ℚ) → IsNonneg x → P x x) → ((x : ℚ) → IsNonneg (neg_ℚ x) → P x (neg_ℚ x)) → (x : ℚ) → P x (abs_ℚ x)

@@ -5,7 +5,7 @@ pub mod RationalRing
 pub mod RationalOrder
 pub mod RationalField
 pub mod Linear
-pub mod OrderLaws
+pub mod OrderTheorems
 pub mod School
 pub mod Pair
 pub mod Absolute

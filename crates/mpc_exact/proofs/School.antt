@@ -7,7 +7,7 @@ use Rattle.mpc_exact.proofs.IntRing.{int_reads, by_ring_ℤ}
 use Rattle.mpc_exact.proofs.Rational.{frac-add, frac-mul, frac-neg, same_frac, frac_same, numer_zero}
 use Rattle.mpc_exact.proofs.RationalOrder.{le_frac, frac_le, lt_frac, frac_lt, one_last}
 use Rattle.mpc_exact.proofs.RationalRing.{reads, by_ring}
-use Rattle.mpc_exact.proofs.OrderLaws.{inv_unique, *ℚ-/ℚ}
+use Rattle.mpc_exact.proofs.OrderTheorems.{inv_unique, *ℚ-/ℚ}
 
 minus_cross : (a b c d : ℤ) → a *ℤ d +ℤ neg_ℤ c *ℤ b ≡ a *ℤ d +ℤ neg_ℤ (c *ℤ b)
 minus_cross a b c d = by_ring_ℤ (a ∷ b ∷ c ∷ d ∷ []) (search int_reads depth 30) (search int_reads depth 30) tt

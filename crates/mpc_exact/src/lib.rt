@@ -12,7 +12,7 @@ ghost use Rattle.mpc_exact.specs.Pair.{Pair, IsBelow, IsAtMost, pair_add, pair_s
 ghost use Rattle.mpc_exact.specs.Denominator.{common_denom, IsCommonDenom};
 
 /// The greatest common divisor and the least common multiple of natural numbers (Euclid, Elements VII).
-pub fn divisor_laws()
+pub fn divisor_theorems()
     ensures gcd_divides_left { (a b : ℕ) → gcd a b ∣ a }
     ensures gcd_divides_right { (a b : ℕ) → gcd a b ∣ b }
     ensures gcd_is_greatest { (a b d : ℕ) → d ∣ a → d ∣ b → d ∣ gcd a b }
@@ -37,7 +37,7 @@ pub fn school_rules()
 {}
 
 /// The rational numbers are a field.
-pub fn field_laws()
+pub fn field_theorems()
     ensures add_commutes { (x y : ℚ) → x +ℚ y ≡ y +ℚ x }
     ensures add_associates { (x y z : ℚ) → (x +ℚ y) +ℚ z ≡ x +ℚ (y +ℚ z) }
     ensures zero_added { (x : ℚ) → x +ℚ int (pos 0) ≡ x }
@@ -51,7 +51,7 @@ pub fn field_laws()
 {}
 
 /// The order is total, and goes along with sums and products; the tests `le_ℚ` and `lt_ℚ` decide it.
-pub fn order_laws()
+pub fn order_theorems()
     ensures reflexive { (x : ℚ) → x ≤ℚ x }
     ensures transitive { (x y z : ℚ) → x ≤ℚ y → y ≤ℚ z → x ≤ℚ z }
     ensures antisymmetric { (x y : ℚ) → x ≤ℚ y → y ≤ℚ x → x ≡ y }
@@ -65,7 +65,7 @@ pub fn order_laws()
 {}
 
 /// Integers as fractions keep their sums, products and order; `quotient m n` is m divided by n.
-pub fn integer_laws()
+pub fn integer_theorems()
     ensures equal { (m n : ℤ) → int m ≡ int n → m ≡ n }
     ensures at_most { (m n : ℤ) → (int m ≤ℚ int n) ↔ (m ≤ℤ n) }
     ensures below { (m n : ℤ) → (int m <ℚ int n) ↔ (m <ℤ n) }
@@ -77,7 +77,7 @@ pub fn integer_laws()
 {}
 
 /// Absolute values, and the lesser and the greater of two numbers.
-pub fn absolute_laws()
+pub fn absolute_theorems()
     ensures of_nonnegative { (x : ℚ) → IsNonneg x → abs_ℚ x ≡ x }
     ensures of_others { (x : ℚ) → x ≤ℚ int (pos 0) → abs_ℚ x ≡ neg_ℚ x }
     ensures triangle { (x y : ℚ) → abs_ℚ (x +ℚ y) ≤ℚ (abs_ℚ x +ℚ abs_ℚ y) }
@@ -88,7 +88,7 @@ pub fn absolute_laws()
 
 /// Common denominators: l times x is an integer exactly where the denominator of x divides l, and `common_denom` is the positive one that
 /// serves a whole list and divides each other that does.
-pub fn denominator_laws()
+pub fn denominator_theorems()
     ensures over_a_multiple { (x : ℚ) (l : ℕ) → 0 < l → x.denom ∣ l → frac (x.numer *ℤ pos (l / x.denom)) l ≡ x }
     ensures at_a_multiple { (x : ℚ) (l : ℕ) → 0 < l → x.denom ∣ l → int (pos l) *ℚ x ≡ int (x.numer *ℤ pos (l / x.denom)) }
     ensures only_at_a_multiple { (x : ℚ) (l : ℕ) (z : ℤ) → int (pos l) *ℚ x ≡ int z → x.denom ∣ l }
@@ -98,7 +98,7 @@ pub fn denominator_laws()
 {}
 
 /// Pairs of numbers, the first of more weight: a total order that goes along with sums, and with products by a number that is not negative.
-pub fn pair_laws()
+pub fn pair_theorems()
     ensures reflexive { (p : Pair) → IsAtMost p p }
     ensures transitive { (p q r : Pair) → IsAtMost p q → IsAtMost q r → IsAtMost p r }
     ensures antisymmetric { (p q : Pair) → IsAtMost p q → IsAtMost q p → p ≡ q }

@@ -15,7 +15,7 @@ use Rattle.mpc_file.proofs.NumberLines.{whole_numer, fractions_of_pairs, same_na
 use Rattle.mpc_file.specs.Lines.{fractions_line}
 use Rattle.mpc_file.specs.PlantGrammar.{AllFit}
 use Rattle.mpc_file.specs.Spelling.{AreFractions}
-use Rattle.mpc_file.specs.LineLaws.{OneFractions}
+use Rattle.mpc_file.specs.LineTheorems.{OneFractions}
 use Rattle.mpc_file.specs.TreeGrammar.{IsCertLine}
 
 -- ---- a position

@@ -12,12 +12,12 @@ use Rattle.mpc_file.specs.Lines.{count_line}
 use Rattle.mpc_file.specs.PlantGrammar.{plant}
 use Rattle.mpc_file.specs.LawGrammar.{law_named}
 use Rattle.mpc_file.specs.FileGrammar.{parts_with, parts_named, named, behind_plant, Spells}
-use Rattle.mpc_file.specs.LineLaws.{WordLaws, OneFractions, OneIntegers}
+use Rattle.mpc_file.specs.LineTheorems.{WordTheorems, OneFractions, OneIntegers}
 use Rattle.mpc_file.specs.Writing.{Prints, ended}
 use Rattle.mpc_file.specs.FormNames.{forms_text, laws_text, IsTableWritten}
 use Rattle.mpc_file.specs.PlaneNames.{planes_text, tree_text, IsTreeWritten}
 use Rattle.mpc_file.specs.Statable.{CanState}
-use Rattle.mpc_file.specs.TextLaws.{EachText}
+use Rattle.mpc_file.specs.TextTheorems.{EachText}
 use Rattle.mpc_file.proofs.PrintLemmas.{prints_both}
 use Rattle.mpc_file.proofs.PlantPrints.{plant_text, plant_prints}
 use Rattle.mpc_file.proofs.LawPrints.{laws_same}
@@ -60,7 +60,7 @@ tree v nodes old s few =
       text = refl;
     }
 
-module _ (words : WordLaws) (fractions : OneFractions) (integers : OneIntegers) where
+module _ (words : WordTheorems) (fractions : OneFractions) (integers : OneIntegers) where
   -- the plant and what stands behind it
   with_plant : (version : Version) (x : Parts) → CanState version x → (behind : List ℕ) → Prints (behind_plant version x.plant) x behind → SomeText version x
   with_plant version x can behind prints =

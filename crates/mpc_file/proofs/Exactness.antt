@@ -16,7 +16,7 @@ pub record IsExactAt {X : Type 0} (g : Grammar X) (here : Cursor) : Type 0 where
 
 -- ---- one line
 -- a text is cut at its first line feed in one way
-pub record CutLaws : Type 0 where
+pub record CutTheorems : Type 0 where
   pub one_before : (byte : ℕ) (text before front behind back : List ℕ) → IsCutAt byte text before behind → IsCutAt byte text front back → before ≡ front
   pub one_behind : (byte : ℕ) (text before front behind back : List ℕ) → IsCutAt byte text before behind → IsCutAt byte text front back → behind ≡ back
   pub no_cut : (byte : ℕ) (text before behind : List ℕ) → IsWithout byte text → ¬ IsCutAt byte text before behind
@@ -26,7 +26,7 @@ pub record IsExactRule {X : Type 0} (rule : LineRule X) : Type 0 where
   pub one : (line : List ℕ) (x y : X) → rule.States line x → rule.States line y → x ≡ y
   pub no_bad_node : (line : List ℕ) (x : X) → rule.States line x → ¬ rule.IsNoNode line
 
-module _ (cuts : CutLaws) where
+module _ (cuts : CutTheorems) where
   one_taken : (here : Cursor) (line other : List ℕ) (behind beyond : Cursor) → TakesLine here line behind → TakesLine here other beyond → line ≡ other
   one_taken here line other behind beyond a b = cuts.one_before 10 here.rest line other behind.rest beyond.rest a.cut b.cut
 
@@ -63,7 +63,7 @@ module _ {X : Type 0} (rule : LineRule X) (exact : IsExactRule rule) where
   one_refusal line Truncated other h k = absurd h
   one_refusal line TailAfterEnd other h k = absurd h
 
-module _ (cuts : CutLaws) {X : Type 0} (rule : LineRule X) (exact : IsExactRule rule) (here : Cursor) where
+module _ (cuts : CutTheorems) {X : Type 0} (rule : LineRule X) (exact : IsExactRule rule) (here : Cursor) where
   value_of_line : (x y : X) (behind other : Cursor) → ReadsLine rule here x behind → ReadsLine rule here y other → x ≡ y
   value_of_line x y behind other (line, (taken, good)) (again, (taken_too, good_too)) =
       let e : line ≡ again = one_taken cuts here line again behind other taken taken_too in

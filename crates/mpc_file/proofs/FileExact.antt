@@ -10,9 +10,9 @@ use Rattle.mpc_file.specs.PlantGrammar.{plain_rule, plant}
 use Rattle.mpc_file.specs.LawGrammar.{used_by}
 use Rattle.mpc_file.specs.TreeGrammar.{planes_used}
 use Rattle.mpc_file.specs.FileGrammar.{IsVersion, parts_with, written, IsEnd, parts_named, named, behind_plant, in_version, start, Spells, whole_file}
-use Rattle.mpc_file.specs.TextLaws.{OneVersion, OneController, SpelledNeverFails, OneLine, OneReason, NoPrefix}
-use Rattle.mpc_file.proofs.Exactness.{IsExactAt, CutLaws, exact_give, exact_both}
-use Rattle.mpc_file.specs.LineLaws.{WordLaws}
+use Rattle.mpc_file.specs.TextTheorems.{OneVersion, OneController, SpelledNeverFails, OneLine, OneReason, NoPrefix}
+use Rattle.mpc_file.proofs.Exactness.{IsExactAt, CutTheorems, exact_give, exact_both}
+use Rattle.mpc_file.specs.LineTheorems.{WordTheorems}
 use Rattle.mpc_file.proofs.LineNumbers.{without, one_count}
 use Rattle.mpc_file.proofs.Runs.{reach, run_line}
 use Rattle.mpc_file.proofs.PlantExact.{exact_plain, exact_plant}
@@ -36,7 +36,7 @@ one_version_number Three One e = absurd (omega (arith, e))
 one_version_number Three Two e = absurd (omega (arith, e))
 one_version_number Three Three e = refl
 
-module _ (cuts : CutLaws) (laws : WordLaws) where
+module _ (cuts : CutTheorems) (laws : WordTheorems) where
   exact_written : (plant : Plant) (here : Cursor) → reach here ≤ 2 ^ 65 → IsExactAt (written plant) here
   exact_written plant here near =
       exact_both _ _ here (exact_written_laws cuts laws plant here)

@@ -14,7 +14,7 @@ use Rattle.mpc_file.specs.PlantGrammar.{plain_rule, plant}
 use Rattle.mpc_file.specs.LawGrammar.{forms, used_by, named_laws, law_named}
 use Rattle.mpc_file.specs.TreeGrammar.{planes, planes_used, named_tree}
 use Rattle.mpc_file.specs.FileGrammar.{IsVersion, IsEnd, parts_with, parts_named, named, behind_plant, in_version, Spells}
-use Rattle.mpc_file.specs.LineLaws.{WordLaws}
+use Rattle.mpc_file.specs.LineTheorems.{WordTheorems}
 use Rattle.mpc_file.specs.Writing.{Prints, ended, text_of_lines, plant_lines}
 use Rattle.mpc_file.specs.FormNames.{IsLawNamed, rows_in, forms_text, laws_text, IsTableWritten}
 use Rattle.mpc_file.specs.PlaneNames.{IsGoodNode, planes_text, tree_text, IsTreeWritten}
@@ -47,7 +47,7 @@ short_number Three = omega arith
 regroup : (m p f l q r e : List ℕ) → ((((m ++ p) ++ (f ++ l)) ++ (q ++ r)) ++ e) ≡ m ++ ((p ++ (f ++ (l ++ (q ++ (r ++ e))))) ++ [])
 regroup m p f l q r e = simp (append_assoc, append-nil)
 
-module _ (words : WordLaws) where
+module _ (words : WordTheorems) where
   -- the lines behind the plant
   pub named_prints : (v : Plant) (laws : List Law) (tree : List Node) (t2 t3 t4 : List ℕ) → IsController v laws tree → (w : IsTableWritten laws t2 t3) → (t : IsTreeWritten v tree t3 t4)
       → Prints (named v) (parts_named v w.forms w.named t.planes t.named) (forms_text w.forms ++ (laws_text w.named ++ (planes_text t.planes ++ (tree_text t.named ++ ended (codes "end")))))

@@ -9,7 +9,7 @@ use Rattle.mpc_plant.specs.declared.plants.Plant.{Plant}
 use Rattle.mpc_rows.specs.declared.laws.Law.{Law}
 use Rattle.mpc_rows.specs.declared.trees.Node.{Node}
 use Rattle.mpc_controller.specs.Parts.{Parts, limits_of, IsSplitRow}
-use Rattle.mpc_controller.specs.PreorderLaws.{SplitSpells, LeafSpells}
+use Rattle.mpc_controller.specs.PreorderTheorems.{SplitSpells, LeafSpells}
 use Rattle.mpc_controller.specs.Bounds.{SplitFits, IsController}
 use Rattle.mpc_file.specs.declared.versions.Version.{Version}
 use Rattle.mpc_file.specs.declared.versions.Version.TheVariants.{One, Two, Three}

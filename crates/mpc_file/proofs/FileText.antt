@@ -7,7 +7,7 @@ use Rattle.mpc_file.specs.declared.versions.Version.TheVariants.{One, Two, Three
 use Rattle.mpc_file.specs.Reading.{Cursor}
 use Rattle.mpc_file.specs.PlantGrammar.{plant}
 use Rattle.mpc_file.specs.FileGrammar.{IsVersion, parts_with, written, behind_plant, in_version, start}
-use Rattle.mpc_file.specs.TextLaws.{OneText}
+use Rattle.mpc_file.specs.TextTheorems.{OneText}
 use Rattle.mpc_file.proofs.OneText.{HasOneText, text_plain, text_give, text_with}
 use Rattle.mpc_file.proofs.PartText.{text_plant, text_written_laws, text_written_tree, text_word}
 use Rattle.mpc_file.proofs.NamedText.{text_named}

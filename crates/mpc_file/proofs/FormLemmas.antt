@@ -11,7 +11,7 @@ use Rattle.mpc_linear.specs.Whole.{AreSmall}
 use Rattle.mpc_exact.specs.Rational.{ℚ, int}
 use Rattle.mpc_space.specs.Matrix.{RationalMatrix}
 use Rattle.mpc_linear.specs.Entries.{with_entry, zero_matrix}
-use Rattle.mpc_sets.specs.SetLaws.{MemberLaws}
+use Rattle.mpc_sets.specs.SetTheorems.{MemberTheorems}
 use Rattle.mpc_sets.specs.RowSet.{RisesWithin, Among, IsSetOfRows, with_row}
 use Rattle.mpc_plant.specs.declared.plants.Plant.{Plant}
 use Rattle.mpc_words.specs.Words.{line}
@@ -25,7 +25,7 @@ use Rattle.mpc_file.proofs.OutcomeLemmas.{none_read, more_read, asks_for_more, i
 use Rattle.mpc_file.specs.Lines.{integers_line}
 use Rattle.mpc_file.specs.PlantGrammar.{plain_rule}
 use Rattle.mpc_file.specs.Spelling.{AreFractions, AreIntegers}
-use Rattle.mpc_file.specs.LineLaws.{OneFractions, OneIntegers}
+use Rattle.mpc_file.specs.LineTheorems.{OneFractions, OneIntegers}
 use Rattle.mpc_file.specs.LawGrammar.{unknowns, IsLawLine, IsForm, move_rule, moves, mults, written_law, NameForms, used_behind, AreFormNumbers}
 use Rattle.mpc_file.specs.FormLists.{matrix_with, with_filled_row, NamesAll}
 
@@ -159,7 +159,7 @@ pub record IsSetSoFar (rows : ℕ) (numbers : List ℤ) (count : ℕ) (members :
 pub no_members : (rows : ℕ) (numbers : List ℤ) → IsSetSoFar rows numbers 0 [] 0
 no_members rows numbers = record { rises = tt; same = refl; last_is = refl; within = omega arith }
 
-pub one_member_more : MemberLaws → (rows : ℕ) (numbers : List ℤ) (count : ℕ) (members new : List ℕ) (last k : ℕ) → IsSetSoFar rows numbers count members last → count < length numbers → get_or numbers count (pos 0) ≡ pos k → last < k → k ≤ rows → new ≡ with_row k members
+pub one_member_more : MemberTheorems → (rows : ℕ) (numbers : List ℤ) (count : ℕ) (members new : List ℕ) (last k : ℕ) → IsSetSoFar rows numbers count members last → count < length numbers → get_or numbers count (pos 0) ≡ pos k → last < k → k ≤ rows → new ≡ with_row k members
     → IsSetSoFar rows numbers (count + 1) new k
 one_member_more laws rows numbers count members new last k before inside is above within added =
     let pushed : new ≡ members ++ k ∷ [] = added ∙ laws.greatest_last members k (λ i a. omega (arith, below_last 0 rows i members before.rises a, before.last_is)) in

@@ -11,7 +11,7 @@ use Rattle.mpc_words.specs.Words.{line, behind_blanks}
 use Rattle.mpc_file.specs.PlantGrammar.{AllFit}
 use Rattle.mpc_file.specs.LawGrammar.{NameForms, used_behind, form_named, NamedLaw}
 use Rattle.mpc_file.specs.Lines.{count_line}
-use Rattle.mpc_file.specs.LineLaws.{OneFractions}
+use Rattle.mpc_file.specs.LineTheorems.{OneFractions}
 use Rattle.mpc_file.specs.Writing.{ended, text_of_lines}
 use Rattle.mpc_file.specs.Names.{AreNames, IsNamed}
 use Rattle.mpc_file.specs.FormNames.{form_line, HasWidth, LawHasWidth, AreForms, AreNumbered, mults_text, law_text, IsLawNamed, InOrder, IsLawNumbered, rows_in, AreLawsNumbered, IsTableWritten}

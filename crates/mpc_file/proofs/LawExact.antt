@@ -11,8 +11,8 @@ use Rattle.mpc_file.specs.declared.versions.Version.TheVariants.{Three}
 use Rattle.mpc_file.specs.Reading.{Cursor, Grammar, one_line, ReadsItems, no_item, one_more}
 use Rattle.mpc_file.specs.PlantGrammar.{plain_rule}
 use Rattle.mpc_file.specs.LawGrammar.{unknowns, IsLawLine, IsForm, move_rule, moves, mults, law_with, written_law, IsLawCount, law_count, written_laws, IsShortCount, IsNewForm, forms, NameForms, used_behind, AreFormNumbers, named_moves_rule, named_mults, NamedLaw, used_by, named_law, named_laws}
-use Rattle.mpc_file.proofs.Exactness.{IsExactAt, CutLaws, exact_line, exact_give, exact_both, exact_many}
-use Rattle.mpc_file.specs.LineLaws.{WordLaws}
+use Rattle.mpc_file.proofs.Exactness.{IsExactAt, CutTheorems, exact_line, exact_give, exact_both, exact_many}
+use Rattle.mpc_file.specs.LineTheorems.{WordTheorems}
 use Rattle.mpc_file.proofs.LineNumbers.{IsShortNumber, without, one_naturals, one_count, one_fractions}
 use Rattle.mpc_file.proofs.PlantExact.{few_rows, exact_plain, exact_so_many}
 
@@ -38,7 +38,7 @@ so_few item count here items behind no_item = omega arith
 so_few item count here items behind (one_more before between x end reads more one) =
     omega (arith, length-append before (x ∷ []), ltb-true (length before) count more)
 
-module _ (cuts : CutLaws) (laws : WordLaws) where
+module _ (cuts : CutTheorems) (laws : WordTheorems) where
   -- ---- written laws
   one_set : (plant : Plant) (line : List ℕ) (x y : List ℕ) → IsLawLine plant line x → IsLawLine plant line y → x ≡ y
   one_set plant line x y h k =

@@ -18,7 +18,7 @@ use Rattle.mpc_file.specs.Reading.{one_line, give, ◌>>=◌}
 use Rattle.mpc_file.specs.Lines.{count_line}
 use Rattle.mpc_file.specs.PlantGrammar.{AllFit, plain_rule}
 use Rattle.mpc_file.specs.LawGrammar.{unknowns, IsLawLine, IsLawCount, law_count, IsShortCount, IsNewForm, forms, NameForms, used_behind, form_named, AreFormNumbers, named_moves_rule, named_mults, NamedLaw, used_by, named_law, named_laws, law_named}
-use Rattle.mpc_file.specs.LineLaws.{WordLaws}
+use Rattle.mpc_file.specs.LineTheorems.{WordTheorems}
 use Rattle.mpc_file.specs.Writing.{Prints, ended, text_of_lines}
 use Rattle.mpc_file.specs.Names.{AreDifferent}
 use Rattle.mpc_file.specs.FormNames.{form_line, HasWidth, LawHasWidth, mults_text, law_text, IsLawNamed, InOrder, rows_in, forms_text, laws_text}
@@ -120,7 +120,7 @@ law_width plant law is =
 pub law_widths : (plant : Plant) (laws : List Law) → All (IsLawFor plant) laws → All (LawHasWidth (plant.n + 1)) laws
 law_widths plant laws for = All-weaker (IsLawFor plant) (LawHasWidth (plant.n + 1)) (law_width plant) laws for
 
-module _ (words : WordLaws) where
+module _ (words : WordTheorems) where
   -- ---- numbers in lines
   pub numbers_without : (ks : List ℕ) → All (λ k. k < 2 ^ 64) ks → All (IsWithout 10) (map decimal ks)
   numbers_without ks small = All-map (IsWithout 10) decimal ks (All-weaker (λ k. k < 2 ^ 64) (λ k. IsWithout 10 (decimal k)) (count_without words) ks small)

@@ -21,7 +21,7 @@ use Rattle.mpc_plant.specs.declared.lists.Coordinate.{Coordinate}
 use Rattle.mpc_file.specs.declared.plant_parts.Sizes.{Sizes}
 use Rattle.mpc_file.specs.Lines.{fractions_line, grid_line}
 use Rattle.mpc_file.specs.Spelling.{AreFractions}
-use Rattle.mpc_file.specs.LineLaws.{OneFractions}
+use Rattle.mpc_file.specs.LineTheorems.{OneFractions}
 use Rattle.mpc_plant.specs.Limits.{greatest_count}
 use Rattle.mpc_file.specs.LimitNumbers.{StatesRow, StatesAxis, IsStepCount}
 

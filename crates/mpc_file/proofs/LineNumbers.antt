@@ -11,7 +11,7 @@ use Rattle.mpc_linear.specs.Whole.{AreSmall}
 use Rattle.mpc_words.specs.Words.{IsWithout, IsWord, line}
 use Rattle.mpc_file.specs.Lines.{integers_line, fractions_line, pair_words, cert_line}
 use Rattle.mpc_file.specs.PlantGrammar.{AllFit}
-use Rattle.mpc_file.specs.LineLaws.{WordLaws}
+use Rattle.mpc_file.specs.LineTheorems.{WordTheorems}
 
 -- ---- names
 -- the test of whether a text is without a byte
@@ -78,7 +78,7 @@ module _ {A : Type 0} (spell : A → List ℕ) (Fits : A → Type 0) where
 abbrev pub IsShortNumber : ℕ → Type 0
 IsShortNumber n = n < 10 ^ 64
 
-module _ (laws : WordLaws) where
+module _ (laws : WordTheorems) where
   pub one_words : (first : List ℕ) (words others : List (List ℕ)) → IsWithout 32 first → All (IsWithout 32) words → All (IsWithout 32) others → line first words ≡ line first others → words ≡ others
   one_words first words others h k l e =
       laws.one_list (line first words) first first words others (record { joined = refl; first_whole = h; words_whole = k }) (record { joined = e; first_whole = h; words_whole = l })

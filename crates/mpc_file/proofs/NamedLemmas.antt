@@ -20,7 +20,7 @@ use Rattle.mpc_file.specs.declared.errors.FileError.TheVariants.{Bad, NoMemory}
 use Rattle.mpc_file.proofs.SpellingLemmas.{at_some}
 use Rattle.mpc_file.proofs.OutcomeLemmas.{asks_no_more}
 use Rattle.mpc_file.proofs.ManyLemmas.{all_items}
-use Rattle.mpc_file.specs.LineLaws.{OneFractions}
+use Rattle.mpc_file.specs.LineTheorems.{OneFractions}
 use Rattle.mpc_file.proofs.FormLemmas.{at_none, named_all, no_items, further, further_error, one_longer}
 
 -- ---- forms of which no two are equal

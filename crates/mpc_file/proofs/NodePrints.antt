@@ -20,7 +20,7 @@ use Rattle.mpc_file.specs.TreeGrammar.{IsCertLine, certs, node_rule, NodeOver, n
 use Rattle.mpc_file.specs.TreeGrammar.NodeLine.{split_at, leaf_of, no_move}
 use Rattle.mpc_file.specs.TreeGrammar.StatesNode.{names_law, has_none}
 use Rattle.mpc_file.specs.TreeGrammar.NodeOver.{split_node, law_node, no_move_node}
-use Rattle.mpc_file.specs.LineLaws.{WordLaws}
+use Rattle.mpc_file.specs.LineTheorems.{WordTheorems}
 use Rattle.mpc_file.specs.Writing.{Prints, ended}
 use Rattle.mpc_file.specs.PlaneNames.{IsPairFit, CertFits, certs_text, leaf_text, bare_leaf_text}
 use Rattle.mpc_file.specs.Statable.{NodeNumbersFit}
@@ -30,7 +30,7 @@ use Rattle.mpc_file.proofs.PlantPrints.{all_both}
 use Rattle.mpc_file.proofs.TreeShapes.{node_of}
 
 -- ---- certificates
-module _ (words : WordLaws) where
+module _ (words : WordTheorems) where
   pairs_without : (cert : List (ℕ × ℚ)) → CertFits cert → All (IsWithout 10) (flat_map pair_words cert)
   pairs_without [] fits = All-nil (IsWithout 10)
   pairs_without (pair ∷ cert) fits =
@@ -88,7 +88,7 @@ record IsReady {Row : Type 0} (line_of : Row → List ℕ) (plant : Plant) (laws
   pub owed_one : IsTrue (is_owed depths)
   pub prints : Prints (node_at plant laws rule (next_depth depths)) x (text_over line_of x)
 
-module _ (words : WordLaws) {Row : Type 0} (row_of : Row → RowInt) (line_of : Row → List ℕ) (plant : Plant) (laws : ℕ) where
+module _ (words : WordTheorems) {Row : Type 0} (row_of : Row → RowInt) (line_of : Row → List ℕ) (plant : Plant) (laws : ℕ) where
   -- a split's line is read as the split
   abbrev pub SplitPrints : LineRule Row → Row → Type 0
   SplitPrints rule row = Prints (one_line (node_rule laws rule)) (split_at row) (ended (line_of row))

@@ -17,7 +17,7 @@ use Rattle.mpc_file.specs.Lines.{count_line}
 use Rattle.mpc_file.specs.PlantGrammar.{AllFit}
 use Rattle.mpc_file.specs.TreeGrammar.{NodeOver, used_with}
 use Rattle.mpc_file.specs.TreeGrammar.NodeOver.{split_node, law_node, no_move_node}
-use Rattle.mpc_file.specs.LineLaws.{OneFractions, OneIntegers}
+use Rattle.mpc_file.specs.LineTheorems.{OneFractions, OneIntegers}
 use Rattle.mpc_file.specs.Writing.{ended}
 use Rattle.mpc_file.specs.Names.{IsNew, AreDifferent, IsNamed}
 use Rattle.mpc_file.specs.FormNames.{form_line, AreForms, AreNumbered, IsLawNumbered, AreLawsNumbered}

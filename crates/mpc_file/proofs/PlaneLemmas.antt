@@ -12,7 +12,7 @@ use Rattle.mpc_plant.specs.declared.plants.Plant.{Plant}
 use Rattle.mpc_rows.specs.declared.trees.Node.{Node}
 use Rattle.mpc_rows.specs.declared.trees.Node.TheVariants.{Split, Law as LawLeaf, NoMove}
 use Rattle.mpc_file.specs.Lines.{count_line}
-use Rattle.mpc_file.specs.LineLaws.{WordLaws, OneIntegers}
+use Rattle.mpc_file.specs.LineTheorems.{WordTheorems, OneIntegers}
 use Rattle.mpc_file.specs.TreeGrammar.{NodeOver, used_with, named_node, no_plane, plane_named}
 use Rattle.mpc_file.specs.TreeGrammar.NodeOver.{split_node, law_node, no_move_node}
 use Rattle.mpc_file.specs.Writing.{ended, text_of_lines}
@@ -152,7 +152,7 @@ text_two t0 t1 t2 t3 t4 a b c d h1 h2 h3 h4 = h4 ∙ ap (λ t. t ++ d) (h3 ∙ a
     regroup : (t0 a b c d : List ℕ) → (((t0 ++ a) ++ b) ++ c) ++ d ≡ t0 ++ ((a ++ b) ++ (c ++ d))
     regroup t0 a b c d = simp append_assoc
 
-pub tree_written : WordLaws → (plant : Plant) (nodes : List Node) (t0 t1 t2 t3 t4 text names_text : List ℕ) (count : ℕ) (names : Names) → AreNodesNumbered plant nodes [] text (AreNames names) → ((lines : List (List ℕ)) → AreNames names lines → count ≡ length lines) → names_text ≡ names.text.items → length names_text < 2 ^ 63
+pub tree_written : WordTheorems → (plant : Plant) (nodes : List Node) (t0 t1 t2 t3 t4 text names_text : List ℕ) (count : ℕ) (names : Names) → AreNodesNumbered plant nodes [] text (AreNames names) → ((lines : List (List ℕ)) → AreNames names lines → count ≡ length lines) → names_text ≡ names.text.items → length names_text < 2 ^ 63
     → t1 ≡ t0 ++ ended (count_line (codes "planes") count) → t2 ≡ t1 ++ names_text → t3 ≡ t2 ++ ended (codes "tree") → t4 ≡ t3 ++ text → IsTreeWritten plant nodes t0 t4
 tree_written words plant nodes t0 t1 t2 t3 t4 text names_text count names a counted names_are short h1 h2 h3 h4 =
     let are : AreNames names (map plane_line a.planes) = a.planes_are.names_are in

@@ -12,7 +12,7 @@ use Rattle.mpc_file.proofs.OutcomeLemmas.{item_error, asks_for_more}
 use Rattle.mpc_file.specs.Lines.{count_line}
 use Rattle.mpc_file.specs.TreeGrammar.{IsPlane, IsRowOf, IsPlaneLine, IsNoPlane, IsNewPlane, plane_rule}
 use Rattle.mpc_file.specs.PlaneReading.{plane_text, AreLinesOf}
-use Rattle.mpc_file.specs.LineLaws.{OneIntegers}
+use Rattle.mpc_file.specs.LineTheorems.{OneIntegers}
 
 -- a row's entries and its bound
 same_ends : (a c : List ℤ) (b d : ℤ) → a ++ b ∷ [] ≡ c ++ d ∷ [] → (a ≡ c) × (b ≡ d)

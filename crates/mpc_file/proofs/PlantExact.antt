@@ -23,8 +23,8 @@ use Rattle.mpc_file.specs.declared.plant_parts.Targets.{Targets}
 use Rattle.mpc_file.specs.declared.plant_parts.Offsets.{Offsets}
 use Rattle.mpc_file.specs.declared.plant_parts.Limits.{Limits}
 use Rattle.mpc_file.specs.PlantGrammar.{AllFit, AreSizes, plain_rule, sizes, IsMatrix, IsWeightLine, matrix, weight, dynamics, weights, IsDrift, AreTargets, AreTargetsOf, no_offsets, offsets_with, offset_lines, offsets, IsRowCount, IsRow, IsLast, so_many, row_list, last_list, IsAxis, grid, limits, IsPlantWith, plant}
-use Rattle.mpc_file.proofs.Exactness.{IsExactAt, IsExactRule, CutLaws, exact_line, exact_give, exact_that, exact_both, exact_many}
-use Rattle.mpc_file.specs.LineLaws.{WordLaws}
+use Rattle.mpc_file.proofs.Exactness.{IsExactAt, IsExactRule, CutTheorems, exact_line, exact_give, exact_that, exact_both, exact_many}
+use Rattle.mpc_file.specs.LineTheorems.{WordTheorems}
 use Rattle.mpc_file.proofs.LineNumbers.{IsShortNumber, without, same_front, same_back, same_rows, all_in_rows, one_words, one_decimal, decimal_word, one_naturals, one_count, one_fractions}
 
 -- ---- the plant of given parts
@@ -86,7 +86,7 @@ both_empty [] [] h k = refl
 both_empty [] (y ∷ ys) h k = absurd (omega arith)
 both_empty (x ∷ xs) ys h k = absurd (omega arith)
 
-module _ (cuts : CutLaws) (laws : WordLaws) where
+module _ (cuts : CutTheorems) (laws : WordTheorems) where
   pub exact_plain : {X : Type 0} (states : List ℕ → X → Type 0) → ((line : List ℕ) (x y : X) → states line x → states line y → x ≡ y) → (here : Cursor) → IsExactAt (one_line (plain_rule states)) here
   exact_plain states one here = exact_line cuts (plain_rule states) (record { one = one; no_bad_node = λ line x h k. k }) here
 

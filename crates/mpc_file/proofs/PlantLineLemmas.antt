@@ -10,7 +10,7 @@ use Rattle.mpc_space.specs.Matrix.{RationalMatrix, height}
 use Rattle.mpc_linear.specs.Grid.{rows_of, grid}
 use Rattle.mpc_linear.specs.Entries.{with_entry, zero_matrix}
 use Rattle.mpc_linear.specs.Shape.{HasShape}
-use Rattle.mpc_linear.specs.GridLaws.{GridLaws}
+use Rattle.mpc_linear.specs.GridTheorems.{GridTheorems}
 use Rattle.mpc_file.specs.PlantGrammar.{AllFit}
 use Rattle.mpc_file.specs.PlantNumbers.{filled}
 
@@ -78,7 +78,7 @@ module _ (m : RationalMatrix) (rows columns : ℕ) (shape : HasShape m rows colu
   }
 
 -- ---- what the laws of stored matrices say of a list's matrix
-module _ (grids : GridLaws) where
+module _ (grids : GridTheorems) where
   pub filled_none : (rows columns : ℕ) (xs : List ℚ) → zero_matrix rows columns ≡ filled rows columns 0 xs
   filled_none rows columns xs = sym (grids.zeros rows columns)
 

@@ -21,7 +21,7 @@ use Rattle.mpc_file.specs.Lines.{count_line, matrix_line, row_line, last_line, g
 use Rattle.mpc_file.specs.PlantGrammar.{AllFit, AreSizes, plain_rule, sizes, IsMatrix, IsWeightLine, matrix, weight, dynamics, weights, IsDrift, AreTargetsOf, AreZero, AreAllZero, MayHave, no_offsets, offsets_with, offset_lines, offsets, IsRowCount, IsRow, IsLast, so_many, row_list, last_list, IsAxis, grid, limits, IsPlantWith, plant}
 use Rattle.mpc_file.specs.Versions.{greatest_rows}
 use Rattle.mpc_file.specs.LawGrammar.{unknowns}
-use Rattle.mpc_file.specs.LineLaws.{WordLaws}
+use Rattle.mpc_file.specs.LineTheorems.{WordTheorems}
 use Rattle.mpc_file.specs.Writing.{Prints, ended, text_of_lines, size_line, drift_line, goal_line, row_lines, last_lines, plant_lines}
 use Rattle.mpc_file.specs.Statable.{offsets_of, CanStatePlant}
 use Rattle.mpc_file.specs.WrittenFits.{RowFits, LastFits, AxisFits, MatricesFit, GoalFits, PlantFits}
@@ -118,7 +118,7 @@ plant_text version v =
 plant_with : (v : Plant) → IsPlantWith (sizes_of v) (dynamics_of v) (weights_of v) (offsets_of v) (limits_in v) v
 plant_with v = record { n = refl; p = refl; horizon = refl; a = refl; b = refl; q = refl; r = refl; last = refl; drift = refl; xgoal = refl; ugoal = refl; rows = refl; terminal = refl; grid = refl }
 
-module _ (words : WordLaws) where
+module _ (words : WordTheorems) where
   size_without : (v : Plant) → IsPlantOf v → IsWithout 10 (size_line v)
   size_without v is =
       line_without (codes "size") (decimal v.n ∷ decimal v.p ∷ decimal v.horizon ∷ []) refl

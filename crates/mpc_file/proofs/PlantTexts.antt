@@ -7,10 +7,10 @@ use Rattle.mpc_frac.specs.Fits.{FitsFrac}
 use Rattle.mpc_space.specs.Vector.{IsSymmetric}
 use Rattle.mpc_space.specs.Matrix.{RationalMatrix}
 use Rattle.mpc_linear.specs.Grid.{grid}
-use Rattle.mpc_linear.specs.GridLaws.{GridLaws}
+use Rattle.mpc_linear.specs.GridTheorems.{GridTheorems}
 use Rattle.mpc_file.specs.Lines.{fractions_line, integers_line}
 use Rattle.mpc_file.specs.Spelling.{AreFractions, AreIntegers}
-use Rattle.mpc_file.specs.LineLaws.{OneFractions, OneIntegers}
+use Rattle.mpc_file.specs.LineTheorems.{OneFractions, OneIntegers}
 use Rattle.mpc_file.specs.PlantGrammar.{AllFit, AreSizes, IsMatrix, IsWeightLine, IsDrift, AreTargets, AreTargetsOf, MayHave, offsets_with, offset_lines, offsets, weight, weights}
 use Rattle.mpc_file.specs.PlantNumbers.{AreSizeNumbers}
 use Rattle.mpc_file.specs.Reading.{Cursor, Outcome}
@@ -79,7 +79,7 @@ module _ (name text : List ℕ) (rows columns : ℕ) where
   pub no_matrix : ((xs : List ℚ) → ¬ AreFractions name text xs) → (m : RationalMatrix) → ¬ IsMatrix name rows columns text m
   no_matrix none m h = none (joined m.rows) (matrix_numbers m h)
 
-  pub matrix_is : GridLaws → (xs : List ℚ) (m : RationalMatrix) → AreFractions name text xs → length xs ≡ rows * columns → m ≡ grid rows columns xs → IsMatrix name rows columns text m
+  pub matrix_is : GridTheorems → (xs : List ℚ) (m : RationalMatrix) → AreFractions name text xs → length xs ≡ rows * columns → m ≡ grid rows columns xs → IsMatrix name rows columns text m
   matrix_is grids xs m h size e = subst (IsMatrix name rows columns text) (sym e) (record {
     spelled = h.spelled ∙ ap (λ ys. fractions_line name ys) (sym (joined-grid rows columns xs size));
     shape = grid-shape grids rows columns xs size;

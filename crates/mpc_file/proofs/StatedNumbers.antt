@@ -14,7 +14,7 @@ use Rattle.mpc_rows.specs.declared.laws.Law.{Law}
 use Rattle.mpc_rows.specs.declared.trees.Node.{Node}
 use Rattle.mpc_controller.specs.Parts.{Parts, row_count}
 use Rattle.mpc_controller.specs.Certificates.{cell_rows}
-use Rattle.mpc_controller.specs.PreorderLaws.{SplitSpells, LeafSpells}
+use Rattle.mpc_controller.specs.PreorderTheorems.{SplitSpells, LeafSpells}
 use Rattle.mpc_file.specs.declared.versions.Version.{Version}
 use Rattle.mpc_file.specs.declared.versions.Version.TheVariants.{One, Two, Three}
 use Rattle.mpc_file.specs.declared.plant_parts.Sizes.{Sizes}
@@ -32,7 +32,7 @@ use Rattle.mpc_file.specs.FileGrammar.{IsVersion, written, named, behind_plant, 
 use Rattle.mpc_file.specs.WrittenFits.{RowFits, LastFits, AxisFits}
 use Rattle.mpc_file.specs.PlaneNames.{IsPairFit, CertFits}
 use Rattle.mpc_file.specs.Statable.{offsets_of, CanStatePlant, LawNumbersFit, NodeNumbersFit}
-use Rattle.mpc_file.specs.TextLaws.{StatedCanBe}
+use Rattle.mpc_file.specs.TextTheorems.{StatedCanBe}
 use Rattle.mpc_file.proofs.ManyLemmas.{all_items, just_so_many}
 use Rattle.mpc_file.proofs.NumberLines.{natural_fits}
 use Rattle.mpc_file.proofs.Runs.{reach, run_line, items_shorter, items_few}

@@ -14,8 +14,8 @@ use Rattle.mpc_file.specs.Reading.{Cursor, LineRule, Grammar, one_line}
 use Rattle.mpc_file.specs.Lines.{count_line}
 use Rattle.mpc_file.specs.PlantGrammar.{AllFit, plain_rule}
 use Rattle.mpc_file.specs.TreeGrammar.{IsRowOf, IsPlane, IsPlaneLine, IsNoPlane, IsCertLine, certs, NodeLine, split_at, leaf_of, no_move, StatesNode, splits, names_law, has_none, node_rule, NodeOver, split_node, law_node, no_move_node, node_behind, node_at, owed_behind, owed, is_owed, next_depth, nodes, written_split, written_node, IsWord, written_tree, plane_rule, IsPlaneCount, planes, planes_used, named_split, named_tree}
-use Rattle.mpc_file.proofs.Exactness.{IsExactAt, IsExactRule, CutLaws, exact_line, exact_give, exact_both, exact_many}
-use Rattle.mpc_file.specs.LineLaws.{WordLaws}
+use Rattle.mpc_file.proofs.Exactness.{IsExactAt, IsExactRule, CutTheorems, exact_line, exact_give, exact_both, exact_many}
+use Rattle.mpc_file.specs.LineTheorems.{WordTheorems}
 use Rattle.mpc_file.proofs.LineNumbers.{IsShortNumber, IsShortPair, without, same_front, same_back, one_words, decimal_word, one_count, one_integers, one_cert}
 use Rattle.mpc_file.proofs.Runs.{IsRun, reach, run_line, run_give, run_both, run_many, items_shorter, items_few}
 use Rattle.mpc_file.proofs.PlantExact.{exact_plain, exact_so_many}
@@ -89,7 +89,7 @@ node_takes plant laws split depth here x behind (node, (between, ((text, (taken,
 pub run_nodes : {Row : Type 0} (plant : Plant) (laws : ℕ) (split : List (NodeOver Row) → LineRule Row) → IsRun (nodes plant laws split)
 run_nodes plant laws split = run_many _ _ (λ before. run_node plant laws (split before) (next_depth (owed before)))
 
-module _ (cuts : CutLaws) (laws : WordLaws) where
+module _ (cuts : CutTheorems) (laws : WordTheorems) where
   -- ---- certificates
   short_pairs : (rows : ℕ) (cert : List (ℕ × ℚ)) → rows < 10 ^ 64 → All (λ (entry : ℕ × ℚ). entry.0 ≤ rows) cert → AllFit (map (λ entry. entry.1) cert) → All (IsShortPair laws) cert
   short_pairs rows [] few h k = All-nil (IsShortPair laws)

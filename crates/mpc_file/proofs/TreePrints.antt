@@ -19,7 +19,7 @@ use Rattle.mpc_file.specs.TreeGrammar.{plane_rule, IsPlaneCount, planes, node_ru
 use Rattle.mpc_file.specs.TreeGrammar.NodeLine.{split_at}
 use Rattle.mpc_file.specs.TreeGrammar.StatesNode.{splits}
 use Rattle.mpc_file.specs.TreeGrammar.NodeOver.{split_node, law_node, no_move_node}
-use Rattle.mpc_file.specs.LineLaws.{WordLaws}
+use Rattle.mpc_file.specs.LineTheorems.{WordTheorems}
 use Rattle.mpc_file.specs.Writing.{Prints, ended, text_of_lines}
 use Rattle.mpc_file.specs.Names.{AreDifferent}
 use Rattle.mpc_file.specs.Statable.{NodeNumbersFit}
@@ -46,7 +46,7 @@ same_text (split_node k) = refl
 same_text (law_node j cs) = refl
 same_text (no_move_node c) = refl
 
-module _ (words : WordLaws) where
+module _ (words : WordTheorems) where
   -- ---- planes
   pub integers_without : (zs : List ℤ) → AreSmall zs → All (IsWithout 10) (map signed_decimal zs)
   integers_without zs small = All-map (IsWithout 10) signed_decimal zs (All-weaker (λ z. unsigned_abs z < 2 ^ 127) (λ z. IsWithout 10 (signed_decimal z)) (λ z h. (words.integer_word z (omega arith)).no_line_feed) zs small)

@@ -12,7 +12,7 @@ use Rattle.mpc_rows.specs.declared.trees.Node.{Node}
 use Rattle.mpc_rows.specs.declared.trees.Node.TheVariants.{Split, Law, NoMove}
 use Rattle.mpc_controller.specs.Parts.{limits_of, row_count, IsSplitRow, IsNodeFor}
 use Rattle.mpc_controller.specs.Preorder.{Spells, IsTree}
-use Rattle.mpc_controller.specs.PreorderLaws.{SplitSpells, LeafSpells}
+use Rattle.mpc_controller.specs.PreorderTheorems.{SplitSpells, LeafSpells}
 use Rattle.mpc_controller.specs.Certificates.{IsCertOver, cell_rows, AreLawCerts, HaveCerts}
 use Rattle.mpc_controller.specs.Bounds.{SplitFits, NodeFits}
 use Rattle.mpc_file.specs.Reading.{Cursor, LineRule, Grammar, one_line, ReadsItems, no_item, one_more}

@@ -9,7 +9,7 @@ use Rattle.mpc_frac.specs.Text.{text_of as fraction_text}
 use Rattle.mpc_words.specs.Words.{IsWithout, line, behind_blanks}
 use Rattle.mpc_file.specs.Lines.{count_line, fractions_line, matrix_line}
 use Rattle.mpc_file.specs.PlantGrammar.{AllFit}
-use Rattle.mpc_file.specs.LineLaws.{WordLaws}
+use Rattle.mpc_file.specs.LineTheorems.{WordTheorems}
 use Rattle.mpc_space.specs.Matrix.{RationalMatrix}
 
 abbrev pub is_plain : List ℕ → Bool
@@ -36,7 +36,7 @@ pub entries_fit : (rows : List (List ℚ)) → All AllFit rows → AllFit (flat_
 entries_fit [] all = All-nil FitsFrac
 entries_fit (row ∷ rows) all = All-append FitsFrac row (flat_map (λ r. r) rows) (All-head AllFit row rows all) (entries_fit rows (All-tail AllFit row rows all))
 
-module _ (words : WordLaws) where
+module _ (words : WordTheorems) where
   pub number_without : (n : ℕ) → n < 10 ^ 64 → IsWithout 10 (decimal n)
   number_without n small = subst (IsWithout 10) (words.printed n small) (words.natural_word n).no_line_feed
 

@@ -23,7 +23,7 @@ use Rattle.mpc_file.specs.TreeGrammar.NodeLine.{split_at}
 use Rattle.mpc_file.specs.TreeGrammar.StatesNode.{splits}
 use Rattle.mpc_file.specs.TreeGrammar.NodeOver.{split_node, law_node, no_move_node}
 use Rattle.mpc_file.specs.FileGrammar.{parts_with, written}
-use Rattle.mpc_file.specs.LineLaws.{WordLaws}
+use Rattle.mpc_file.specs.LineTheorems.{WordTheorems}
 use Rattle.mpc_file.specs.Writing.{Prints, ended}
 use Rattle.mpc_file.specs.FormNames.{HasWidth}
 use Rattle.mpc_file.specs.PlaneNames.{IsGoodPlane, IsGoodNode}
@@ -83,7 +83,7 @@ same_law : (v : Plant) (law : Law) → IsLawFor v law → law_with v law.set law
 same_law v law is = λ i. record { set = law.set; moves = record { rows = law.moves.rows; columns = sym is.moves_shape.columns_are i }; mults = record { rows = law.mults.rows; columns = sym is.mults_shape.columns_are i } }
 
 -- ---- laws
-module _ (words : WordLaws) where
+module _ (words : WordTheorems) where
   form_states : (name : List ℕ) (n : ℕ) (form : List ℚ) → HasWidth (n + 1) form → AllFit form → IsForm name n (fractions_line name form) form
   form_states name n form size fits = record { spelled = refl; size = size; fits = fits }
 

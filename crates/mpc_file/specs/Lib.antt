@@ -6,13 +6,13 @@ pub mod LawGrammar
 pub mod TreeGrammar
 pub mod FileGrammar
 pub mod Spelling
-pub mod LineLaws
+pub mod LineTheorems
 pub mod PlantNumbers
 pub mod LimitNumbers
 pub mod TreeReading
 pub mod PlaneReading
 pub mod FormLists
-pub mod TextLaws
+pub mod TextTheorems
 pub mod Writing
 pub mod WrittenFits
 pub mod Names

@@ -13,7 +13,7 @@ ghost use Rattle.mpc_file.specs.LawGrammar.{unknowns, IsLawLine, IsForm, move_ru
 
 use crate::errors::{FileError, FileKind};
 use crate::forms::{Forms, matrix_of};
-use crate::line_laws::{one_fractions, one_integers, one_number};
+use crate::line_theorems::{one_fractions, one_integers, one_number};
 use crate::lines::{Lines, stated};
 use crate::spelling::{fractions_of, integers_of, number_of};
 use mpc_controller::{form_fits, limits};
@@ -21,7 +21,7 @@ use mpc_frac::NoMemory;
 use mpc_linear::Vector;
 use mpc_plant::Plant;
 use mpc_rows::{Law, LawTable};
-use mpc_sets::{ActiveSet, member_laws};
+use mpc_sets::{ActiveSet, member_theorems};
 use mpc_words::Natural;
 use std::alloc::Global;
 
@@ -60,7 +60,7 @@ fn set_of(numbers: &[i128], rows: u32) -> Option<ActiveSet>
         ((set : List ℕ) → IsSetOfRows rows set → map pos set ≢ numbers.now)
         (λ set. IsSetOfRows rows set × (map pos set ≡ numbers.now)) }
 {
-    member_laws();
+    member_theorems();
     let mut set = ActiveSet::empty();
     let mut last = 0;
     for number in numbers {

@@ -10,7 +10,7 @@ ghost use Rattle.mpc_file.specs.PlantGrammar.{plain_rule, so_many, IsRowCount, I
 ghost use Rattle.mpc_file.specs.LimitNumbers.{StatesRow, StatesAxis, IsStepCount};
 
 use crate::errors::{FileError, FileKind};
-use crate::line_laws::{one_fractions, one_number};
+use crate::line_theorems::{one_fractions, one_number};
 use crate::lines::{Lines, stated};
 use crate::plant_lines::vector_of;
 use crate::plant_parts::{Limits, Sizes};

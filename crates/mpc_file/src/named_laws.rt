@@ -13,8 +13,8 @@ ghost use Rattle.mpc_file.specs.FormLists.{matrix_with, NamesAll, HasLinesOf, Re
 use crate::errors::{FileError, FileKind};
 use crate::forms::{Forms, fill_row};
 use crate::law_lines::{form_in, natural_in, read_law_count, read_set};
-use crate::line_laws::{one_fractions, one_integers, one_number};
 use crate::line_sets::LineSet;
+use crate::line_theorems::{one_fractions, one_integers, one_number};
 use crate::lines::Lines;
 use crate::spelling::{integers_of, number_of};
 use mpc_controller::{form_fits, limits};

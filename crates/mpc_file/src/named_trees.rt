@@ -11,8 +11,8 @@ ghost use Rattle.mpc_file.specs.TreeReading.{plane_rows, named_node_at, named_no
 ghost use Rattle.mpc_file.specs.PlaneReading.{ReadsNamedSplit, AreLinesOf};
 
 use crate::errors::{FileError, FileKind};
-use crate::line_laws::{one_integers, one_number};
 use crate::line_sets::LineSet;
+use crate::line_theorems::{one_integers, one_number};
 use crate::lines::Lines;
 use crate::spelling::number_of;
 use crate::tree_depths::Depths;

@@ -13,13 +13,13 @@ ghost use Rattle.mpc_file.specs.declared.plant_parts.Sizes.{Sizes as SizesStated
 ghost use Rattle.mpc_file.specs.declared.plant_parts.Targets.{Targets as TargetsStated};
 
 use crate::errors::FileError;
-use crate::line_laws::{one_fractions, one_integers};
+use crate::line_theorems::{one_fractions, one_integers};
 use crate::lines::{Lines, stated};
 use crate::plant_parts::{Dynamics, Offsets, Sizes, Targets, Weights};
 use crate::spelling::{fractions_of, integers_of};
 use crate::versions::Version;
 use mpc_frac::{Frac, NoMemory};
-use mpc_linear::{Matrix, Vector, grid_laws};
+use mpc_linear::{Matrix, Vector, grid_theorems};
 use std::alloc::Global;
 use std::cmp::Ordering;
 
@@ -84,7 +84,7 @@ fn write_row(matrix: &mut Matrix, i: u32, entries: &Vector)
     requires before { matrix.old ≡ filled (height matrix.old) matrix.old.columns (i * matrix.old.columns) entries.now }
     ensures { matrix.new ≡ filled (height matrix.old) matrix.old.columns ((i + 1) * matrix.old.columns) entries.now }
 {
-    grid_laws();
+    grid_theorems();
     let columns = matrix.cols();
     for j in 0..columns {
         let place = i as usize * columns as usize + j as usize;
@@ -97,7 +97,7 @@ fn matrix_with(alloc: Global, entries: &Vector, rows: u32, columns: u32) -> Resu
     requires { length entries.now ≡ rows * columns }
     ensures { IfOk result (λ m. m ≡ grid rows columns entries.now) }
 {
-    grid_laws();
+    grid_theorems();
     let mut matrix = Matrix::zero(alloc, rows, columns)?;
     for i in 0..rows {
         write_row(&mut matrix, i, entries);
@@ -118,7 +118,7 @@ fn matrix_in(
         (λ m. IsMatrix name.now rows columns text.now m)) }
 {
     one_fractions();
-    grid_laws();
+    grid_theorems();
     let Some(entries) = fractions_of(alloc, text, name)? else {
         return Ok(None);
     };

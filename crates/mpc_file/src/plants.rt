@@ -9,7 +9,7 @@ ghost use Rattle.mpc_file.specs.FileGrammar.{IsVersion};
 
 use crate::errors::{FileError, FileKind};
 use crate::limit_lines::read_limits;
-use crate::line_laws::one_number;
+use crate::line_theorems::one_number;
 use crate::lines::Lines;
 use crate::plant_lines::{read_dynamics, read_offsets, read_sizes, read_weights};
 use crate::spelling::number_of;

@@ -15,7 +15,7 @@ use crate::named_trees::{read_named_tree, read_planes};
 use crate::plants::{read_plant_lines, read_version};
 use crate::tree_lines::{read_word, read_written_tree};
 use crate::versions::Version;
-use mpc_controller::{Controller, SealError, bound_laws, preorder_laws};
+use mpc_controller::{Controller, SealError, bound_theorems, preorder_theorems};
 use mpc_frac::NoMemory;
 use mpc_plant::Plant;
 use mpc_rows::{LawTable, Tree};
@@ -39,7 +39,7 @@ fn sealed(alloc: Global, plant: Plant, laws: LawTable, tree: Tree) -> Result<Con
     requires { IsController plant laws tree }
     ensures { IfOk result (λ c. c ≡ record { plant = plant; laws = laws; tree = tree }) }
 {
-    bound_laws();
+    bound_theorems();
     match Controller::seal(alloc, plant, laws, tree) {
         Ok(controller) => Ok(controller),
         Err(SealError::NoMemory) => Err(NoMemory),
@@ -55,7 +55,7 @@ fn read_written(
 ) -> Result<(LawTable, Tree), FileError>
     ensures { Outcome (unsealed plant.now (written plant.now)) lines.old lines.new result }
 {
-    preorder_laws();
+    preorder_theorems();
     let laws = read_written_laws(alloc, lines, plant)?;
     let tree = read_written_tree(alloc, lines, plant, laws.len() as u64)?;
     read_word(lines, b"end")?;
@@ -70,7 +70,7 @@ fn read_named(
 ) -> Result<(LawTable, Tree), FileError>
     ensures { Outcome (unsealed plant.now (named plant.now)) lines.old lines.new result }
 {
-    preorder_laws();
+    preorder_theorems();
     let forms = read_forms(alloc, lines, plant)?;
     let (laws, used) = read_named_laws(alloc, lines, plant, &forms)?;
     let planes = read_planes(alloc, lines, plant, forms.len() as u64, used)?;

@@ -8,8 +8,8 @@ ghost use Rattle.mpc_file.specs.Spelling.{AreFractions, AreIntegers, IsOneNumber
 use mpc_frac::NoMemory;
 use mpc_linear::{Ints, Vector};
 use mpc_words::{
-    Natural, fraction_laws, integer_laws, line_laws, read_fraction, read_integer, read_natural,
-    split_word,
+    Natural, fraction_theorems, integer_theorems, line_theorems, read_fraction, read_integer,
+    read_natural, split_word,
 };
 use std::alloc::Global;
 
@@ -40,8 +40,8 @@ pub fn fractions_of(alloc: Global, text: &[u8], name: &[u8]) -> Result<Option<Ve
         ((xs : List ℚ) → ¬ AreFractions name.now text.now xs)
         (λ xs. AreFractions name.now text.now xs)) }
 {
-    line_laws();
-    fraction_laws();
+    line_theorems();
+    fraction_theorems();
     let Some(mut rest) = words_behind(text, name) else {
         return Ok(None);
     };
@@ -64,8 +64,8 @@ pub fn integers_of(alloc: Global, text: &[u8], name: &[u8]) -> Result<Option<Int
         ((zs : List ℤ) → ¬ AreIntegers name.now text.now zs)
         (λ zs. AreIntegers name.now text.now zs)) }
 {
-    line_laws();
-    integer_laws();
+    line_theorems();
+    integer_theorems();
     let Some(mut rest) = words_behind(text, name) else {
         return Ok(None);
     };

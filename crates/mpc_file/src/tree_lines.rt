@@ -12,7 +12,7 @@ ghost use Rattle.mpc_file.specs.TreeGrammar.{IsPlane, IsCertLine, certs, IsWord,
 ghost use Rattle.mpc_file.specs.TreeReading.{pair_fractions, ReadsPlane, ReadsLeaf, LeafOutcome, written_node_at, written_nodes, IsPlaneOf};
 
 use crate::errors::{FileError, FileKind};
-use crate::line_laws::{one_fractions, one_integers};
+use crate::line_theorems::{one_fractions, one_integers};
 use crate::lines::{Lines, stated};
 use crate::spelling::{fractions_of, integers_of, number_of};
 use crate::tree_depths::Depths;

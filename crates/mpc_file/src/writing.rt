@@ -11,7 +11,7 @@ mod plant_lines;
 mod tree_lines;
 mod words;
 
-use crate::line_laws::word_laws;
+use crate::line_theorems::word_theorems;
 use law_lines::write_table;
 use mpc_controller::Controller;
 use mpc_frac::NoMemory;
@@ -34,7 +34,7 @@ fn write_parts(
         → Spells out.new.items Three (parts_with plant.now laws.now tree.now)) }
     ensures kept { take (length out.old.items) out.new.items ≡ out.old.items }
 {
-    word_laws();
+    word_theorems();
     write_count_line(b"mpc", 3, out)?;
     write_plant(plant, out)?;
     write_table(alloc, laws, out)?;

@@ -2,7 +2,7 @@
 use Rattle.std.proofs.Common.{◌≡◌, ℕ, List, Result, Ok, Err, IfErr, IsErrAnd, sym, subst}
 use Rattle.mpc_controller.specs.Parts.{Parts}
 use Rattle.mpc_controller.specs.Bounds.{IsController}
-use Rattle.mpc_controller.specs.ReplyLaws.{RepliesEverywhere}
+use Rattle.mpc_controller.specs.ReplyTheorems.{RepliesEverywhere}
 use Rattle.mpc_file.specs.FileGrammar.{IsSpelled}
 use Rattle.mpc_check.specs.declared.answers.Answer.{Answer}
 use Rattle.mpc_check.specs.declared.answers.Answer.TheVariants.{Accepted, Refused}

@@ -3,12 +3,12 @@ use Rattle.std.proofs.Common.{◌≡◌, ℕ, ◌^◌, ◌<◌, List, length, re
 use Rattle.mpc_controller.specs.Parts.{Parts}
 use Rattle.mpc_file.specs.declared.errors.FileKind.{FileKind}
 use Rattle.mpc_file.specs.FileGrammar.{FailsAt, IsSpelled}
-use Rattle.mpc_file.specs.TextLaws.{OneController, SpelledNeverFails, OneLine, OneReason}
+use Rattle.mpc_file.specs.TextTheorems.{OneController, SpelledNeverFails, OneLine, OneReason}
 use Rattle.mpc_check.specs.Acceptance.{Accepts, IsFound, NothingFound, OneFinding}
 use Rattle.mpc_files.specs.FileOutcomes.{fails, spells, bad_file, finds, accepted, OneFileReading, OneFileOutcome}
 
 -- the laws of texts
-pub record ReadingLaws : Type 0 where
+pub record ReadingTheorems : Type 0 where
   pub one_controller : OneController
   pub never_fails : SpelledNeverFails
   pub one_line : OneLine
@@ -17,7 +17,7 @@ pub record ReadingLaws : Type 0 where
 pub same_parts : OneController → (bytes : List ℕ) (x y : Parts) → length bytes < 2 ^ 64 → IsSpelled bytes x → IsSpelled bytes y → x ≡ y
 same_parts one bytes x y short s t = one bytes s.0 t.0 x y short s.1 t.1
 
-module _ (laws : ReadingLaws) where
+module _ (laws : ReadingTheorems) where
   clash : (bytes : List ℕ) (parts : Parts) (kind : FileKind) (number : ℕ) → length bytes < 2 ^ 64 → IsSpelled bytes parts → FailsAt bytes kind number → ⊥
   clash bytes parts kind number short s f = laws.never_fails bytes s.0 parts kind number short s.1 f
 

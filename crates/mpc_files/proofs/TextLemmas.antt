@@ -2,9 +2,9 @@
 use Rattle.std.proofs.Common.{◌≡◌, subst}
 use Rattle.mpc_file.specs.declared.versions.Version.TheVariants.{Three}
 use Rattle.mpc_file.specs.FileGrammar.{Spells}
-use Rattle.mpc_file.specs.TextLaws.{OneController, OneText as OneFileText}
+use Rattle.mpc_file.specs.TextTheorems.{OneController, OneText as OneFileText}
 use Rattle.mpc_replies.specs.ReplyLines.{AreRepliesOf, OneText}
-use Rattle.mpc_files.specs.FileLaws.{OneReplyText, OneConversion, ThreeIsKept}
+use Rattle.mpc_files.specs.FileTheorems.{OneReplyText, OneConversion, ThreeIsKept}
 use Rattle.mpc_files.proofs.OutcomeLemmas.{same_parts}
 
 pub one_reply_text : OneController → OneText → OneReplyText

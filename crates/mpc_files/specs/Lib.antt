@@ -1,3 +1,3 @@
 pub mod FileOutcomes
 pub mod FileAnswers
-pub mod FileLaws
+pub mod FileTheorems

@@ -3,12 +3,12 @@
 
 mod checks;
 mod errors;
-mod laws;
 mod texts;
+mod theorems;
 
 pub use checks::check_file;
 pub use errors::CheckFileError;
-pub use laws::{one_file_answer, one_file_text};
 pub use mpc_check::{Answer as Checked, Spot};
 pub use mpc_file::{FileError, FileKind};
 pub use texts::{convert, reply_to};
+pub use theorems::{one_file_answer, one_file_text};

@@ -2,4 +2,4 @@ pub mod FracModel
 pub mod Fits
 pub mod Sign
 pub mod Text
-pub mod FitLaws
+pub mod FitTheorems

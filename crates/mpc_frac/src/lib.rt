@@ -10,17 +10,17 @@ ghost use Rattle.mpc_frac.specs.Sign.{signed_like};
 ghost use Rattle.mpc_frac.specs.Text.{text_of};
 
 mod divisor;
-mod laws;
 mod short;
+mod theorems;
 
 use divisor::SHORT;
 pub use divisor::greatest_common_divisor;
 use itoa::Buffer;
-pub use laws::fit_laws;
 use short::Short;
 use std::alloc::{AllocError, AllocFailed};
 use std::cmp::Ordering;
 use std::marker::Model;
+pub use theorems::fit_theorems;
 use thiserror::Error;
 
 /// The exact result needs more than 128 bits.

@@ -5,7 +5,7 @@ use Rattle.mpc_exact.specs.Rational.{ℚ, ◌+ℚ◌, ◌*ℚ◌}
 use Rattle.mpc_exact.proofs.RationalRing.{reads, by_ring}
 use Rattle.mpc_space.specs.Vector.{dot}
 use Rattle.mpc_linear.specs.Dot.{TermFits, SumFits}
-use Rattle.mpc_linear.specs.SumLaws.{IsSumSoFar}
+use Rattle.mpc_linear.specs.SumTheorems.{IsSumSoFar}
 
 pub goes_none : (start : ℚ) (xs ys : List ℚ) → IsSumSoFar start xs ys 0 start
 goes_none start xs ys = record { value = refl; ahead = λ h. h; back = λ h. h }

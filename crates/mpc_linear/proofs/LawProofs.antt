@@ -2,15 +2,15 @@
 use Rattle.std.proofs.Common.{pos, refl, sym, ◌∙◌}
 use Rattle.std.proofs.lemmas.List.{get_or_default}
 use Rattle.mpc_exact.specs.Rational.{int}
-use Rattle.mpc_linear.specs.GridLaws.{GridLaws}
-use Rattle.mpc_linear.specs.SumLaws.{SumLaws}
-use Rattle.mpc_linear.specs.ZeroLaws.{ZeroLaws}
+use Rattle.mpc_linear.specs.GridTheorems.{GridTheorems}
+use Rattle.mpc_linear.specs.SumTheorems.{SumTheorems}
+use Rattle.mpc_linear.specs.ZeroTheorems.{ZeroTheorems}
 use Rattle.mpc_linear.proofs.GridLemmas.{height-grid, columns-grid, grid-rectangular, grid-set, grid-zeros, place-below}
 use Rattle.mpc_linear.proofs.DotLemmas.{goes_none, goes_more, goes_wide, goes_value, goes_fits}
 use Rattle.mpc_linear.proofs.ZeroFits.{fits_zero, fits_add_zero, from_zero, taken_from_zero, nothing_added, nothing_taken}
 
-pub grid_laws : GridLaws
-grid_laws = record {
+pub grid_theorems : GridTheorems
+grid_theorems = record {
   rows = height-grid;
   columns = columns-grid;
   rectangular = grid-rectangular;
@@ -19,8 +19,8 @@ grid_laws = record {
   zeros = grid-zeros;
 }
 
-pub sum_laws : SumLaws
-sum_laws = record {
+pub sum_theorems : SumTheorems
+sum_theorems = record {
   none = goes_none;
   more = λ start xs ys k sum x y next at so e t.
       goes_more start xs ys k sum x y at.within_left at.within_right
@@ -32,8 +32,8 @@ sum_laws = record {
   fits = λ start xs ys k sum end so. goes_fits start xs ys k sum end so;
 }
 
-pub zero_laws : ZeroLaws
-zero_laws = record {
+pub zero_theorems : ZeroTheorems
+zero_theorems = record {
   zero_fits = fits_zero;
   zero_added_fits = fits_add_zero;
   to_zero_fits = λ x y h. from_zero (int (pos 0)) x y refl h;

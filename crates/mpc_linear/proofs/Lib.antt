@@ -17,4 +17,4 @@ pub mod Answered
 pub mod PrimitiveLemmas
 pub mod PrimitiveRows
 pub mod LawProofs
-pub mod EndLaws
+pub mod EndTheorems

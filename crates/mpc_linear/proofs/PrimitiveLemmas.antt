@@ -14,7 +14,7 @@ use Rattle.mpc_exact.specs.Denominator.{common_denom, IsCommonDenom}
 use Rattle.mpc_exact.proofs.Rational.{int_div_exact, int-mul, *ℚ_inv}
 use Rattle.mpc_exact.proofs.RationalRing.{reads, by_ring}
 use Rattle.mpc_exact.proofs.RationalOrder.{positive_int, positive-mul, inv_positive, ≤ℚ_of_<, *ℚ-≤ℚ}
-use Rattle.mpc_exact.proofs.OrderLaws.{*ℚ-≤ℚ_cancel, positive-not_zero}
+use Rattle.mpc_exact.proofs.OrderTheorems.{*ℚ-≤ℚ_cancel, positive-not_zero}
 use Rattle.mpc_exact.proofs.Denominator.{common_denom_is, common_denom_least, common_denom-positive, common_denom-last, whole_at_multiple}
 use Rattle.mpc_space.specs.Vector.{dot, vec_scale}
 use Rattle.mpc_space.proofs.Vector.{dot-scale, vec_scale-scale}

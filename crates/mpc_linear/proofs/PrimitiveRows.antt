@@ -12,7 +12,7 @@ use Rattle.mpc_exact.specs.Rational.{ℚ, int, ◌*ℚ◌, neg_ℚ, inv_ℚ, IsP
 use Rattle.mpc_exact.proofs.Rational.{int-mul, *ℚ_comm, *ℚ_inv}
 use Rattle.mpc_exact.proofs.RationalRing.{reads, by_ring, by_equation, by_equations}
 use Rattle.mpc_exact.proofs.RationalOrder.{positive-mul, inv_positive}
-use Rattle.mpc_exact.proofs.OrderLaws.{positive-not_zero}
+use Rattle.mpc_exact.proofs.OrderTheorems.{positive-not_zero}
 use Rattle.mpc_exact.proofs.School.{int-neg, int_same, int_lt}
 use Rattle.mpc_exact.proofs.Denominator.{multiple_of_whole, whole_of_denom}
 use Rattle.mpc_space.specs.Vector.{vec_scale}

@@ -3,7 +3,7 @@ use Rattle.std.proofs.Common.{◌≡◌, ℕ, suc, ◌+◌, ◌-◌, ◌<◌, Li
 use Rattle.std.proofs.lemmas.Bool.{cases_lt}
 use Rattle.std.proofs.lemmas.List.{ext_get_or, length-map}
 use Rattle.mpc_exact.specs.Rational.{ℚ, int, ◌+ℚ◌, ◌-ℚ◌, ◌*ℚ◌}
-use Rattle.mpc_exact.proofs.OrderLaws.{one-not_zero}
+use Rattle.mpc_exact.proofs.OrderTheorems.{one-not_zero}
 use Rattle.mpc_exact.proofs.RationalRing.{reads, by_ring}
 use Rattle.mpc_space.specs.Vector.{dot, listed, coordinate, column, mat_vec}
 use Rattle.mpc_space.specs.Matrix.{RationalMatrix, height, IsRectangular, entry, mat_mul, tabled}

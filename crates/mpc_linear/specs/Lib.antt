@@ -8,8 +8,8 @@ pub mod Product
 pub mod Solution
 pub mod Stored
 pub mod Shape
-pub mod GridLaws
-pub mod SumLaws
-pub mod ZeroLaws
+pub mod GridTheorems
+pub mod SumTheorems
+pub mod ZeroTheorems
 pub mod PrimitiveRows
-pub mod EliminationLaws
+pub mod EliminationTheorems

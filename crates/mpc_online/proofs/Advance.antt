@@ -1,7 +1,7 @@
 -- One step of the code, put together from its parts: its numbers fit, it is a step of the run, and its error comes from a number that is too wide.
 use Rattle.std.proofs.Common.{◌≡◌, ◌≢◌, ℕ, ◌+◌, List, [], length, pos, sym, ◌∙◌, ap, subst, zero-add, Option, Result, Ok, Err, MatchResult, IsErrAnd}
 use Rattle.mpc_exact.specs.Rational.{ℚ, int}
-use Rattle.mpc_exact.proofs.OrderLaws.{negative-not_zero}
+use Rattle.mpc_exact.proofs.OrderTheorems.{negative-not_zero}
 use Rattle.mpc_space.specs.Vector.{dot, listed, vec_mat, quadratic, IsZero}
 use Rattle.mpc_space.specs.Matrix.{RationalMatrix, height, entry}
 use Rattle.mpc_space.specs.Definite.{IsDefinite}

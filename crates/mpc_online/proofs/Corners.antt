@@ -2,7 +2,7 @@
 use Rattle.std.proofs.Common.{◌≡◌, ℕ, suc, ◌-◌, ◌<◌, List, [], ◌∷◌, length, get_or, pos, negsuc, refl, sym, ◌∙◌, ap, subst, arith, inl, inr, ⊎_elim, None}
 use Rattle.mpc_exact.specs.Rational.{ℚ, int, ◌+ℚ◌, ◌-ℚ◌, ◌≤ℚ◌}
 use Rattle.mpc_exact.proofs.RationalRing.{reads, by_ring, by_equations}
-use Rattle.mpc_exact.proofs.OrderLaws.{≤ℚ_of_not-<, positive-not_zero}
+use Rattle.mpc_exact.proofs.OrderTheorems.{≤ℚ_of_not-<, positive-not_zero}
 use Rattle.mpc_space.specs.Vector.{coordinate, dot, vec_add, vec_scale, vec_sub, mat_vec, vec_mat, quadratic, IsZero, IsIndependent}
 use Rattle.mpc_space.specs.Matrix.{RationalMatrix, height}
 use Rattle.mpc_space.specs.Definite.{IsDefinite}

@@ -10,7 +10,7 @@ use Rattle.mpc_space.proofs.Matrix.{coordinate-mat_vec}
 use Rattle.mpc_rows.specs.declared.programs.Qp.{Qp}
 use Rattle.mpc_rows.specs.declared.systems.Row.{Row}
 use Rattle.mpc_rows.specs.LinearSystem.{HasWidth, MeetsRow, IsPoint}
-use Rattle.mpc_rows.specs.SystemLaws.{SystemLaws}
+use Rattle.mpc_rows.specs.SystemTheorems.{SystemTheorems}
 use Rattle.mpc_rows.specs.Refutation.{Refutes}
 use Rattle.mpc_rows.specs.ActiveSets.{extended, row_of, IsInBox, IsFeasible}
 use Rattle.mpc_cover.specs.Cheapest.{IsCheapest, HasMultipliers}
@@ -58,7 +58,7 @@ module _ (qp : Qp) (t : List ℚ) where
   feasible_point : (z : List ℚ) → IsFeasible qp t z → IsPoint (state_system qp t) z
   feasible_point z f = record { size = f.size; meets = λ i d h. let l : i < rows = omega (arith, system_size) in subst (MeetsRow z) (sym (row_at_is i d l)) (meets_row z f i l) }
 
-  module _ (laws : SystemLaws) where
+  module _ (laws : SystemTheorems) where
     pub refuted_found : (o : Online) → IsAnswer qp t o → IfRefuted o (Refutes (state_system qp t))
     refuted_found (Best z) a = tt
     refuted_found (Refuted m) a = laws.refutes_from (state_system qp t) m (coordinate m) (a.0 ∙ sym system_size) (λ i h. refl) a.1

@@ -12,7 +12,7 @@ use Rattle.mpc_linear.specs.declared.errors.LinearError.TheVariants.{Wide}
 use Rattle.mpc_rows.specs.declared.programs.Qp.{Qp}
 use Rattle.mpc_rows.specs.ActiveSets.{IsIndependentSet}
 use Rattle.mpc_rows.specs.SetRuns.{law_matrix}
-use Rattle.mpc_rows.specs.LawLaws.{LawLaws}
+use Rattle.mpc_rows.specs.LawTheorems.{LawTheorems}
 use Rattle.mpc_bordered.specs.declared.kept.Kept.{Kept}
 use Rattle.mpc_bordered.specs.Parts.{ArePlaces, IsPart, ForPart, IfSolved}
 use Rattle.mpc_online.specs.Positions.{right_matrix, step_side}
@@ -23,7 +23,7 @@ use Rattle.mpc_online.proofs.Solved.{dependent_rows}
 use Rattle.mpc_online.proofs.SharedParts.{are_places, is_part}
 
 -- the names that the code has for the table and the places
-module _ (laws : LawLaws) (qp : Qp) (s : List ℕ) (set : IsSetOfRows (height qp.g) s) (row : ℕ) (from_one : 1 ≤ row) (to_last : row ≤ height qp.g) (k : Kept) (kept : IsKeptOf qp k)
+module _ (laws : LawTheorems) (qp : Qp) (s : List ℕ) (set : IsSetOfRows (height qp.g) s) (row : ℕ) (from_one : 1 ≤ row) (to_last : row ≤ height qp.g) (k : Kept) (kept : IsKeptOf qp k)
     (n g : ℕ) (n_is : n ≡ height qp.h) (g_is : g ≡ height qp.g) (ps rows : List ℕ) (at : AreMemberPlaces n s ps) (rows_are : rows ≡ ps) where
   abbrev rights : List ℕ
   rights = (n + g + (row - 1)) ∷ []

@@ -4,10 +4,10 @@ use Rattle.std.proofs.lemmas.List.{get_or-map, length-map}
 use Rattle.mpc_exact.specs.Rational.{ℚ}
 use Rattle.mpc_space.specs.Vector.{cell, coordinate}
 use Rattle.mpc_sets.specs.RowSet.{IsSetOfRows}
-use Rattle.mpc_rows.specs.LawLaws.{LawLaws}
+use Rattle.mpc_rows.specs.LawTheorems.{LawTheorems}
 use Rattle.mpc_rows.specs.ActiveSets.{row_of, rows_of}
 
-pub member_within : LawLaws → (rows : ℕ) (s : List ℕ) (k i : ℕ) → IsSetOfRows rows s → k < length s → i ≡ get_or s k 0 → (1 ≤ i) × (i ≤ rows)
+pub member_within : LawTheorems → (rows : ℕ) (s : List ℕ) (k i : ℕ) → IsSetOfRows rows s → k < length s → i ≡ get_or s k 0 → (1 ≤ i) × (i ≤ rows)
 member_within laws rows s k i h l e =
     let w : (1 ≤ get_or s k 0) × (get_or s k 0 ≤ rows) = laws.member_bounds rows s k h.rises l in
     (omega (arith, w.0), omega (arith, w.1))

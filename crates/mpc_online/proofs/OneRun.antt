@@ -2,7 +2,7 @@
 use Rattle.std.proofs.Common.{◌≡◌, ℕ, zero, suc, List, refl, sym, ◌∙◌, ap, subst, arith, inl, inr, ⊎_elim, Option, Some, None}
 use Rattle.std.proofs.lemmas.Bool.{cases_lt}
 use Rattle.mpc_exact.specs.Rational.{ℚ, ◌<ℚ◌}
-use Rattle.mpc_exact.proofs.OrderLaws.{≤ℚ-not-<}
+use Rattle.mpc_exact.proofs.OrderTheorems.{≤ℚ-not-<}
 use Rattle.mpc_space.specs.Matrix.{RationalMatrix}
 use Rattle.mpc_linear.specs.Solution.{IsOnlySolution}
 use Rattle.mpc_rows.specs.declared.programs.Qp.{Qp}

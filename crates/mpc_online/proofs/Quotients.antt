@@ -2,7 +2,7 @@
 use Rattle.std.proofs.Common.{◌≡◌, ◌≢◌, ℤ, pos, ◌↔◌, Result, Ok, Err, IsOk, refl, ◌∙◌, ap}
 use Rattle.mpc_exact.specs.Rational.{ℚ, int, quotient, ◌*ℚ◌}
 use Rattle.mpc_exact.proofs.Rational.{*ℚ_one}
-use Rattle.mpc_exact.proofs.OrderLaws.{inv_one}
+use Rattle.mpc_exact.proofs.OrderTheorems.{inv_one}
 use Rattle.mpc_frac.specs.Fits.{FitsFrac}
 use Rattle.mpc_frac.specs.declared.FracError.{FracError}
 use Rattle.mpc_frac.specs.declared.FracError.TheVariants.{ZeroDenominator, Wide}

@@ -8,7 +8,7 @@ use Rattle.mpc_space.proofs.Matrix.{entry-tabled, height-tabled, rectangular-tab
 use Rattle.mpc_sets.specs.RowSet.{IsSetOfRows}
 use Rattle.mpc_rows.specs.declared.programs.Qp.{Qp}
 use Rattle.mpc_rows.specs.SetRuns.{law_entry, law_matrix}
-use Rattle.mpc_rows.specs.LawLaws.{LawLaws}
+use Rattle.mpc_rows.specs.LawTheorems.{LawTheorems}
 use Rattle.mpc_bordered.specs.Parts.{place, part, ArePlaces, IsPart}
 use Rattle.mpc_online.specs.Positions.{right_matrix, step_side}
 use Rattle.mpc_online.specs.Shared.{shared_entry, shared_table, AreMemberPlaces}
@@ -35,7 +35,7 @@ pub shared_columns : (qp : Qp) → (shared_table qp).columns ≡ height qp.h + h
 unfolding shared_table
 shared_columns qp = refl
 
-module _ (laws : LawLaws) (qp : Qp) (s places : List ℕ) (set : IsSetOfRows (height qp.g) s) (at : AreMemberPlaces (height qp.h) s places) (row : ℕ) (from_one : 1 ≤ row) (to_last : row ≤ height qp.g) where
+module _ (laws : LawTheorems) (qp : Qp) (s places : List ℕ) (set : IsSetOfRows (height qp.g) s) (at : AreMemberPlaces (height qp.h) s places) (row : ℕ) (from_one : 1 ≤ row) (to_last : row ≤ height qp.g) where
   abbrev n : ℕ
   n = height qp.h
 

@@ -3,7 +3,7 @@ use Rattle.std.proofs.Common.{◌≡◌, ℕ, ◌+◌, ◌<◌, cond, true, fals
 use Rattle.std.proofs.lemmas.Bool.{cases_eq}
 use Rattle.mpc_exact.specs.Rational.{ℚ, lt_ℚ, ◌≤ℚ◌, ◌<ℚ◌}
 use Rattle.mpc_exact.proofs.RationalOrder.{≤ℚ_refl, ≤ℚ_of_<, <ℚ-≤ℚ_trans}
-use Rattle.mpc_exact.proofs.OrderLaws.{lt_ℚ-true, lt_ℚ-false}
+use Rattle.mpc_exact.proofs.OrderTheorems.{lt_ℚ-true, lt_ℚ-false}
 use Rattle.mpc_online.specs.Turns.{quotient_at, IsFalling, IsShortestWith, shorter_of}
 use Rattle.mpc_online.specs.declared.turns.Partial.{Partial}
 

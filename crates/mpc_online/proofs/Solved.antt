@@ -5,7 +5,7 @@ use Rattle.std.proofs.lemmas.Bool.{cases_lt, cond_below, cond_above}
 use Rattle.std.proofs.lemmas.List.{length-append, length-take-le, length-drop, take-append-drop, get_or_append_left}
 use Rattle.mpc_exact.specs.Rational.{ℚ, int, ◌+ℚ◌, neg_ℚ}
 use Rattle.mpc_exact.proofs.RationalRing.{reads, by_ring, by_equation}
-use Rattle.mpc_exact.proofs.OrderLaws.{one-not_zero}
+use Rattle.mpc_exact.proofs.OrderTheorems.{one-not_zero}
 use Rattle.mpc_space.specs.Vector.{coordinate, cell, column, dot, vec_add, vec_scale, mat_vec, vec_mat, IsZero}
 use Rattle.mpc_space.specs.Matrix.{RationalMatrix, height, IsRectangular, entry}
 use Rattle.mpc_space.specs.Definite.{IsDefinite}

@@ -3,7 +3,7 @@ use Rattle.std.proofs.Common.{◌≡◌, [], ◌∷◌, pos, negsuc, sym, ◌∙
 use Rattle.mpc_exact.specs.Rational.{ℚ, int, ◌+ℚ◌, ◌-ℚ◌, ◌*ℚ◌, ◌/ℚ◌, neg_ℚ, inv_ℚ, ◌≤ℚ◌, ◌<ℚ◌, IsNonneg, IsPositive}
 use Rattle.mpc_exact.proofs.RationalRing.{reads, by_ring, by_equation, by_equations}
 use Rattle.mpc_exact.proofs.RationalOrder.{gap, strict_gap, nonneg-add, nonneg-mul, positive-mul, inv_positive, le_or_lt, ≤ℚ_of_<, from_strict_gap}
-use Rattle.mpc_exact.proofs.OrderLaws.{neg_positive, positive-not_zero, *ℚ-/ℚ, ≤ℚ-/ℚ, <ℚ-/ℚ}
+use Rattle.mpc_exact.proofs.OrderTheorems.{neg_positive, positive-not_zero, *ℚ-/ℚ, ≤ℚ-/ℚ, <ℚ-/ℚ}
 use Rattle.mpc_exact.proofs.Linear.{linear_le, linear_lt, claims, none, le, lt, eq}
 
 -- a quotient by a number below 0, turned

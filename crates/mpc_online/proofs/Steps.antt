@@ -7,7 +7,7 @@ use Rattle.mpc_exact.specs.Rational.{ℚ, int, ◌+ℚ◌, ◌-ℚ◌, ◌*ℚ�
 use Rattle.mpc_exact.proofs.RationalRing.{reads, by_ring, by_equation, by_equations}
 use Rattle.mpc_exact.proofs.RationalOrder.{strict_gap, nonneg-add, nonneg-mul, positive-mul, positive-add, nonneg_int, ≤ℚ_of_<, <ℚ_irrefl}
 use Rattle.mpc_exact.proofs.RationalField.{product_zero}
-use Rattle.mpc_exact.proofs.OrderLaws.{negative-not_zero}
+use Rattle.mpc_exact.proofs.OrderTheorems.{negative-not_zero}
 use Rattle.mpc_space.specs.Vector.{coordinate, dot, mat_vec, vec_mat, IsSymmetric, IsIndependent}
 use Rattle.mpc_space.specs.Matrix.{height}
 use Rattle.mpc_space.specs.Definite.{IsDefinite}

@@ -6,12 +6,12 @@ use Rattle.std.proofs.lemmas.List.Elements.{All-from_recursion}
 use Rattle.std.proofs.lemmas.List.Kept.{AllPairs-cons}
 use Rattle.mpc_exact.specs.Rational.{ℚ, int, ◌+ℚ◌, ◌*ℚ◌, ◌≤ℚ◌, ◌<ℚ◌}
 use Rattle.mpc_exact.proofs.RationalOrder.{≤ℚ_refl, ≤ℚ_trans, ≤ℚ_of_<, <ℚ_irrefl}
-use Rattle.mpc_exact.proofs.OrderLaws.{≤ℚ-<ℚ_trans}
+use Rattle.mpc_exact.proofs.OrderTheorems.{≤ℚ-<ℚ_trans}
 use Rattle.mpc_space.specs.Vector.{IsSymmetric}
 use Rattle.mpc_space.specs.Matrix.{height}
 use Rattle.mpc_space.specs.Definite.{IsDefinite}
 use Rattle.mpc_sets.specs.RowSet.{IsSetOfRows}
-use Rattle.mpc_sets.specs.SetLaws.{CountLaws}
+use Rattle.mpc_sets.specs.SetTheorems.{CountTheorems}
 use Rattle.mpc_rows.specs.declared.programs.Qp.{Qp}
 use Rattle.mpc_rows.specs.ActiveSets.{extended, IsIndependentSet}
 use Rattle.mpc_online.specs.StateRows.{sides_at, IsFirstViolated, IsFirstOutside}
@@ -161,7 +161,7 @@ module _ (qp : Qp) (t : List ℚ) (definite : IsDefinite qp.h.rows) (symmetric :
     firsts P Q [] h = (tt, tt)
     firsts P Q (v ∷ visited) h = let rest = firsts P Q visited h.1 in ((h.0.0, rest.0), (h.0.1, rest.1))
 
-    pub few_steps : FewMembers → CountLaws → k < 2 ^ 27
+    pub few_steps : FewMembers → CountTheorems → k < 2 ^ 27
     few_steps few counts =
         let both = firsts (IsSetOfRows 60) (λ s. length s ≤ 6) so_far.visited (rows_of_seen few so_far.value so_far.visited so_far.seen) in
         let most : length so_far.visited ≤ 56049058 = counts.six_of_sixty so_far.visited so_far.apart (All-from_recursion (IsSetOfRows 60) so_far.visited both.0) (All-from_recursion (λ s. length s ≤ 6) so_far.visited both.1) in

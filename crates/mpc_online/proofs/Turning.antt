@@ -2,7 +2,7 @@
 use Rattle.std.proofs.Common.{◌≡◌, List, subst, Some, None, true, false}
 use Rattle.mpc_exact.specs.Rational.{ℚ, lt_ℚ, ◌≤ℚ◌, ◌<ℚ◌}
 use Rattle.mpc_exact.proofs.RationalOrder.{≤ℚ_trans}
-use Rattle.mpc_exact.proofs.OrderLaws.{lt_ℚ-true, lt_ℚ-false}
+use Rattle.mpc_exact.proofs.OrderTheorems.{lt_ℚ-true, lt_ℚ-false}
 use Rattle.mpc_space.specs.Vector.{IsZero}
 use Rattle.mpc_rows.specs.declared.programs.Qp.{Qp}
 use Rattle.mpc_online.specs.Positions.{Position}

@@ -6,14 +6,14 @@ ghost use Rattle.mpc_rows.specs.ActiveSets.{extended};
 ghost use Rattle.mpc_online.specs.StateRows.{point_of};
 
 use crate::solutions::Stop;
-use mpc_frac::{Frac, fit_laws};
+use mpc_frac::{Frac, fit_theorems};
 use std::alloc::{AllocError, Global};
 
 /// The count as a fraction.
 fn whole(count: u64) -> Frac
     ensures { result ≡ int (pos count) }
 {
-    fit_laws();
+    fit_theorems();
     Frac::new(count as i128, 1).unwrap()
 }
 

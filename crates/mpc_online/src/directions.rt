@@ -19,7 +19,7 @@ use crate::solutions::{Stop, solution};
 use mpc_bordered::{Kept, keep, solve_part};
 use mpc_frac::NoMemory;
 use mpc_linear::{LinearError, Matrix, Solved};
-use mpc_rows::{Qp, law_laws};
+use mpc_rows::{Qp, law_theorems};
 use mpc_sets::ActiveSet;
 use std::alloc::{AllocError, Global};
 
@@ -64,7 +64,7 @@ fn kept_solution(
     ensures wide { MatchResult result (λ o. IfSome o (λ _. EliminationFits (law_matrix qp.now set) (right_matrix qp.now set (step_side qp.now row))))
         (λ e. IfStopWide e (¬ EliminationFits (law_matrix qp.now set) (right_matrix qp.now set (step_side qp.now row)))) }
 {
-    law_laws();
+    law_theorems();
     let _size = set.size();
     let unknowns = qp.h.rows();
     let places = member_places(alloc, unknowns, set)?;

@@ -16,7 +16,6 @@ ghost use Rattle.mpc_online.specs.Answers.{IfBest, IfRefuted, IfWide};
 
 mod counts;
 mod directions;
-mod laws;
 mod matrices;
 mod moves;
 mod numbers;
@@ -26,16 +25,17 @@ mod run;
 mod shared;
 mod solutions;
 mod tests_of_rows;
+mod theorems;
 mod turns;
 
 pub use directions::prepare;
-pub use laws::run_laws;
-use mpc_cover::cheapest_laws;
+use mpc_cover::cheapest_theorems;
 use mpc_linear::Vector;
-use mpc_rows::{Multipliers, Qp, system_laws};
+use mpc_rows::{Multipliers, Qp, system_theorems};
 pub use prepared::Prepared;
 use run::answer;
 use std::alloc::Global;
+pub use theorems::run_theorems;
 use thiserror::Error;
 
 /// What is found at a state.
@@ -82,8 +82,8 @@ pub fn solve_prepared(
     ensures end { IfOk result (λ o. IsRunEnd qp.now (point_of counts.now) (answered o)) }
     ensures wide { MatchResult result (λ _. ⊤) (λ e. IfWide e (λ step. IsRunEnd qp.now (point_of counts.now) (wide_in step))) }
 {
-    cheapest_laws();
-    system_laws();
+    cheapest_theorems();
+    system_theorems();
     answer(alloc, qp, prepared, counts)
 }
 

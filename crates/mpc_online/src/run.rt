@@ -24,11 +24,11 @@ use crate::solutions::{Stop, part, products, solution};
 use crate::tests_of_rows::first_violated;
 use crate::turns::{Turn, turn_of};
 use crate::{Online, OnlineError};
-use mpc_cover::set_laws;
+use mpc_cover::set_theorems;
 use mpc_frac::{Frac, NoMemory};
 use mpc_linear::Vector;
 use mpc_rows::Qp;
-use mpc_sets::{ActiveSet, count_laws};
+use mpc_sets::{ActiveSet, count_theorems};
 use std::alloc::Global;
 
 /// What follows a step.
@@ -162,8 +162,8 @@ pub fn answer(
     ensures end { IfOk result (λ o. IsRunEnd qp.now (point_of counts.now) (answered o)) }
     ensures wide { MatchResult result (λ _. ⊤) (λ e. IfWide e (λ step. IsRunEnd qp.now (point_of counts.now) (wide_in step))) }
 {
-    set_laws();
-    count_laws();
+    set_theorems();
+    count_theorems();
     let Ok(c) = extended(alloc, counts) else {
         return Err(OnlineError::NoMemory);
     };

@@ -11,7 +11,7 @@ use Rattle.mpc_rows.specs.declared.trees.Node.{Node}
 use Rattle.mpc_rows.specs.declared.trees.Node.TheVariants.{Split, Law, NoMove}
 use Rattle.mpc_rows.specs.LawRows.{whole_row, broken_row}
 use Rattle.mpc_controller.specs.Preorder.{Spells, IsTree, IsNoSide}
-use Rattle.mpc_controller.specs.PreorderLaws.{JoinedSpell}
+use Rattle.mpc_controller.specs.PreorderTheorems.{JoinedSpell}
 use Rattle.mpc_controller.specs.Walk.{IsLeaf}
 use Rattle.mpc_paths.specs.Paths.{PathTo, root as path_root, yes_side as path_yes, no_side as path_no}
 use Rattle.mpc_paths.specs.declared.ways.Turn.{Turn}

@@ -5,7 +5,7 @@ ghost use Rattle.mpc_controller.specs.Preorder.{IsTree};
 ghost use Rattle.mpc_controller.specs.Walk.{IsLeaf};
 ghost use Rattle.mpc_paths.specs.Ways.{IsWay, EndsTree};
 
-use mpc_controller::preorder_laws;
+use mpc_controller::preorder_theorems;
 use mpc_frac::NoMemory;
 use mpc_rows::{Node, Tree};
 use std::alloc::Global;
@@ -23,7 +23,7 @@ fn turn_over(way: &mut Vec<Turn>, tree: &Tree, end: usize) -> Result<(), NoMemor
     requires ended { EndsTree tree.now way.old.items end }
     ensures { OnOk result (end < length tree.now → IsWay tree.now end way.new.items) }
 {
-    preorder_laws();
+    preorder_theorems();
     while let Some(turn) = way.pop() {
         if turn.yes {
             let other = Turn {

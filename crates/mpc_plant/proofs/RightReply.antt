@@ -4,7 +4,7 @@ use mathlib.Core.HLevel.{Discrete}
 use Rattle.mpc_exact.specs.Rational.{ℚ}
 use Rattle.mpc_exact.proofs.RationalField.{ℚ_discrete}
 use Rattle.mpc_exact.proofs.RationalOrder.{<ℚ_irrefl}
-use Rattle.mpc_exact.proofs.OrderLaws.{<ℚ_trans}
+use Rattle.mpc_exact.proofs.OrderTheorems.{<ℚ_trans}
 use Rattle.mpc_plant.specs.declared.plants.Plant.{Plant}
 use Rattle.mpc_plant.specs.Trajectory.{IsBest, move_at}
 use Rattle.mpc_plant.specs.Reply.{move, infeasible, IsRight, OneRightReply}

@@ -8,7 +8,6 @@
 mod costs;
 mod entries;
 mod faults;
-mod laws;
 mod lists;
 mod matrices;
 mod numerals;
@@ -17,13 +16,14 @@ mod plant_file;
 mod plants;
 mod rolling;
 mod rows;
+mod theorems;
 mod values;
 mod weights;
 
 pub use costs::cost;
 pub use faults::{Path, PlantError, PlantKind};
-pub use laws::{one_reading, one_right_reply};
 pub use lists::{Coordinate, Coordinates, PlantRow, PlantRows};
 pub use plant_file::read_plant;
 pub use plants::Plant;
 pub use rolling::roll;
+pub use theorems::{one_reading, one_right_reply};

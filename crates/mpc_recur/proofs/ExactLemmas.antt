@@ -7,7 +7,7 @@ use Rattle.mpc_recur.specs.declared.answers.RecurError.{RecurError}
 use Rattle.mpc_recur.specs.declared.answers.RecurError.TheVariants.{Wide, NoMemory}
 use Rattle.mpc_recur.specs.Findings.{too_wide}
 use Rattle.mpc_recur.specs.Outcomes.{is_safe, finds}
-use Rattle.mpc_recur.specs.SafetyLaws.{OneOutcome, RuledOutWhereSafe, SafeIsAnswered, SafeIsDecided}
+use Rattle.mpc_recur.specs.SafetyTheorems.{OneOutcome, RuledOutWhereSafe, SafeIsAnswered, SafeIsDecided}
 
 pub safe_is_answered : SafeIsAnswered
 safe_is_answered parts is safe fits Safe a = refl

@@ -4,7 +4,7 @@ use Rattle.std.specs.Prelude.{slice_get}
 use Rattle.std.proofs.lemmas.Bool.{cases_order}
 use Rattle.mpc_exact.specs.Rational.{ℚ}
 use Rattle.mpc_rows.specs.LinearSystem.{LinearSystem}
-use Rattle.mpc_rows.specs.SystemLaws.{PointOfPairs}
+use Rattle.mpc_rows.specs.SystemTheorems.{PointOfPairs}
 use Rattle.mpc_rows.specs.Run.{Position}
 use Rattle.mpc_simplex.specs.Answer.{IsValues}
 use Rattle.mpc_recur.specs.declared.answers.Next.{Next}

@@ -4,7 +4,7 @@ use Rattle.std.specs.List.{AllByRecursion}
 use Rattle.std.proofs.lemmas.List.Elements.{recursion_from_All}
 use Rattle.mpc_exact.specs.Rational.{ℚ, int, ◌+ℚ◌, ◌-ℚ◌, ◌*ℚ◌, ◌/ℚ◌, ◌<ℚ◌}
 use Rattle.mpc_exact.proofs.RationalRing.{reads, by_ring}
-use Rattle.mpc_exact.proofs.OrderLaws.{*ℚ-/ℚ}
+use Rattle.mpc_exact.proofs.OrderTheorems.{*ℚ-/ℚ}
 use Rattle.mpc_exact.proofs.RationalOrder.{<ℚ_irrefl}
 use Rattle.mpc_plant.specs.declared.lists.Coordinate.{Coordinate}
 use Rattle.mpc_plant.specs.declared.plants.Plant.{Plant}

@@ -6,14 +6,14 @@ use Rattle.mpc_rows.specs.declared.laws.Law.{Law as LawOfSet}
 use Rattle.mpc_rows.specs.declared.systems.Row.{Row}
 use Rattle.mpc_rows.specs.declared.trees.Node.{Node}
 use Rattle.mpc_rows.specs.declared.trees.Node.TheVariants.{Split, Law, NoMove as NoMoveLeaf}
-use Rattle.mpc_rows.specs.SystemLaws.{PointOfPairs}
+use Rattle.mpc_rows.specs.SystemTheorems.{PointOfPairs}
 use Rattle.mpc_controller.specs.Parts.{Parts}
 use Rattle.mpc_recur.specs.declared.answers.Target.TheVariants.{Low, High, NoMove}
 use Rattle.mpc_recur.specs.Forms.{FormsFit}
 use Rattle.mpc_recur.specs.Findings.{Finding, reached, too_wide, IsFirstOfTwo}
 use Rattle.mpc_recur.specs.Targets.{low_system, high_system, met_system, HighRowFits, RowsFit, target_of, LowMet, LowFinds, HighMet, HighFinds, SideMet, SideFinds, EmptyMet, EmptyFinds, LeafFinds, FormsFind, SidesMet, SidesFind, EmptiesMet, EmptiesFind, TargetsMet, TargetsFind, NodeMet, NodeFinds, NodeAtMet, NodeAtFinds, AllRuledOut, IsFound}
 use Rattle.mpc_recur.specs.Outcomes.{is_safe, finds}
-use Rattle.mpc_recur.specs.SafetyLaws.{OneOutcome}
+use Rattle.mpc_recur.specs.SafetyTheorems.{OneOutcome}
 use Rattle.mpc_recur.proofs.FindingLemmas.{IsSingle, single_target, single_list, single_pair}
 use Rattle.mpc_paths.specs.Paths.{OnePath}
 

@@ -2,7 +2,7 @@
 use Rattle.std.proofs.Common.{◌≡◌, ℕ, ◌+◌, ◌-◌, ◌<◌, List, [], ◌∷◌, get_or, pos, Some, refl, sym, ◌∙◌, ap, subst, arith, All}
 use Rattle.std.specs.Prelude.{slice_get}
 use Rattle.mpc_exact.specs.Rational.{ℚ, int, ◌*ℚ◌, ◌/ℚ◌, ◌<ℚ◌}
-use Rattle.mpc_exact.proofs.OrderLaws.{≤ℚ-not-<, *ℚ-/ℚ}
+use Rattle.mpc_exact.proofs.OrderTheorems.{≤ℚ-not-<, *ℚ-/ℚ}
 use Rattle.mpc_exact.proofs.RationalOrder.{positive_int, <ℚ_irrefl}
 use Rattle.mpc_exact.proofs.Linear.{linear_lt, claims, none, lt, eq}
 use Rattle.mpc_space.specs.Vector.{coordinate}
@@ -14,14 +14,14 @@ use Rattle.mpc_rows.specs.declared.systems.Row.{Row}
 use Rattle.mpc_rows.specs.declared.trees.Node.{Node}
 use Rattle.mpc_rows.specs.declared.trees.Node.TheVariants.{Law, NoMove as NoMoveLeaf}
 use Rattle.mpc_rows.specs.LinearSystem.{MeetsRow, IsPoint, point_at}
-use Rattle.mpc_rows.specs.RegionLaws.{BoxPoints}
-use Rattle.mpc_systems.specs.CellLaws.{BrokenPoints}
+use Rattle.mpc_rows.specs.RegionTheorems.{BoxPoints}
+use Rattle.mpc_systems.specs.CellTheorems.{BrokenPoints}
 use Rattle.mpc_controller.specs.Parts.{Parts, IsLawFor, limits_of}
 use Rattle.mpc_controller.specs.Bounds.{IsController}
 use Rattle.mpc_controller.specs.Walk.{EndsAt}
 use Rattle.mpc_controller.specs.OneLeaf.{OneLeaf, EndsOnce}
 use Rattle.mpc_controller.specs.Replies.{RepliesAt, by_law, by_no_law, first_move, IsLawNumbered}
-use Rattle.mpc_controller.specs.ReplyLaws.{RepliesEverywhere}
+use Rattle.mpc_controller.specs.ReplyTheorems.{RepliesEverywhere}
 use Rattle.mpc_recur.specs.declared.answers.Target.{Target}
 use Rattle.mpc_recur.specs.declared.answers.Target.TheVariants.{Low, High, NoMove}
 use Rattle.mpc_recur.specs.declared.answers.Next.{Next}

@@ -5,9 +5,9 @@ use Rattle.mpc_exact.proofs.RationalRing.{reads, by_ring}
 use Rattle.std.proofs.Common.{[], ◌∷◌}
 use Rattle.mpc_space.specs.Vector.{coordinate, dot}
 use Rattle.mpc_linear.specs.Dot.{TermFits, SumFits}
-use Rattle.mpc_linear.specs.SumLaws.{SumLaws, IsSumSoFar, StandAt}
+use Rattle.mpc_linear.specs.SumTheorems.{SumTheorems, IsSumSoFar, StandAt}
 
-module _ (laws : SumLaws) (start : ℚ) (xs ys : List ℚ) (n : ℕ) (left : length xs ≡ n) (right : n ≤ length ys) where
+module _ (laws : SumTheorems) (start : ℚ) (xs ys : List ℚ) (n : ℕ) (left : length xs ≡ n) (right : n ≤ length ys) where
   pub sum_begins : (sum : ℚ) → sum ≡ start → IsSumSoFar start xs ys 0 sum
   sum_begins sum e = subst (IsSumSoFar start xs ys 0) (sym e) (laws.none start xs ys)
 

@@ -12,7 +12,7 @@ use Rattle.mpc_rows.specs.declared.systems.Row.{Row}
 use Rattle.mpc_rows.specs.LinearSystem.{MeetsRow, IsPoint}
 use Rattle.mpc_rows.specs.ActiveSets.{IsInBox as IsInCounts}
 use Rattle.mpc_rows.specs.SetRuns.{box_rows}
-use Rattle.mpc_rows.specs.RegionLaws.{BoxPoints}
+use Rattle.mpc_rows.specs.RegionTheorems.{BoxPoints}
 use Rattle.mpc_controller.specs.Parts.{limits_of}
 use Rattle.mpc_recur.specs.Targets.{leaf_system}
 use Rattle.mpc_recur.proofs.ElementLemmas.{All-split}

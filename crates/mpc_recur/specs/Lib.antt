@@ -6,5 +6,5 @@ pub mod Stages
 pub mod Findings
 pub mod Targets
 pub mod Outcomes
-pub mod SafetyLaws
+pub mod SafetyTheorems
 pub mod NextText

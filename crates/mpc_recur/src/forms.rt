@@ -10,7 +10,7 @@ ghost use Rattle.mpc_recur.specs.Stages.{IfTooWide};
 
 use crate::answers::StageError;
 use mpc_frac::{Frac, NoMemory, Wide};
-use mpc_linear::{Vector, add_product, sum_laws};
+use mpc_linear::{Vector, add_product, sum_theorems};
 use mpc_plant::Plant;
 use mpc_rows::Law;
 use std::alloc::Global;
@@ -40,7 +40,7 @@ fn from_state(plant: &Plant, i: u32, j: u32) -> Result<Frac, Wide>
         (λ _. DotFits (slice_index_or plant.now.a.rows i []) (column (state_forms plant.now) j))
         (λ _. ¬ DotFits (slice_index_or plant.now.a.rows i []) (column (state_forms plant.now) j)) }
 {
-    sum_laws();
+    sum_theorems();
     let mut sum = Frac::whole(0);
     for k in 0..plant.n {
         match add_product(&sum, &plant.a.get(i, k), &state_coefficient(plant, k, j)) {
@@ -61,7 +61,7 @@ fn with_moves(plant: &Plant, law: &Law, i: u32, j: u32, start: &Frac) -> Result<
         (λ _. SumFits start.now (slice_index_or plant.now.b.rows i []) (column law.now.moves.rows j))
         (λ _. ¬ SumFits start.now (slice_index_or plant.now.b.rows i []) (column law.now.moves.rows j)) }
 {
-    sum_laws();
+    sum_theorems();
     let mut sum = *start;
     for q in 0..plant.p {
         match add_product(&sum, &plant.b.get(i, q), &law.moves.get(q, j)) {

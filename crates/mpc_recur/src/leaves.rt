@@ -17,7 +17,7 @@ use crate::systems::leaf_system;
 use crate::targets::{rule_out_high, rule_out_leaf, rule_out_low};
 use mpc_controller::Controller;
 use mpc_linear::Vector;
-use mpc_paths::{Turn, go_on, one_path, way_laws};
+use mpc_paths::{Turn, go_on, one_path, way_theorems};
 use mpc_rows::{Counts, Law, Node, System};
 use std::alloc::Global;
 
@@ -101,7 +101,7 @@ fn rule_out_node(
         (IsStop (EmptyFinds controller.now.plant controller.now.tree law path leaf k)) }
 {
     one_path();
-    way_laws();
+    way_theorems();
     let tree = controller.tree();
     prove!(k < tree.len());
     let Node::NoMove { .. } = tree.at(k) else {

@@ -4,13 +4,13 @@
 
 mod answers;
 mod forms;
-mod laws;
 mod leaves;
 mod rows;
 mod search;
 mod systems;
 mod targets;
+mod theorems;
 
 pub use answers::{Next, Recur, RecurError, Target};
-pub use laws::{one_outcome, ruled_out_where_safe, safe_goes_on, safe_is_answered};
 pub use search::recur;
+pub use theorems::{one_outcome, ruled_out_where_safe, safe_goes_on, safe_is_answered};

@@ -9,7 +9,7 @@ ghost use Rattle.mpc_recur.specs.Stages.{IfTooWide};
 
 use crate::answers::StageError;
 use mpc_frac::{Frac, NoMemory, Wide};
-use mpc_linear::{Vector, add_product, sum_laws};
+use mpc_linear::{Vector, add_product, sum_theorems};
 use mpc_rows::Row;
 use mpc_systems::whole;
 use std::alloc::Global;
@@ -71,7 +71,7 @@ fn dot_with_forms(a: &[Frac], forms: &[Vector], j: usize) -> Result<Frac, Wide>
     ensures value { IfOk result (λ x. x ≡ dot a.now (column forms.now j)) }
     ensures wide { MatchResult result (λ _. DotFits a.now (column forms.now j)) (λ _. ¬ DotFits a.now (column forms.now j)) }
 {
-    sum_laws();
+    sum_theorems();
     let mut sum = Frac::whole(0);
     for k in 0..a.len() {
         match add_product(&sum, &a[k], forms[k].at(j)) {

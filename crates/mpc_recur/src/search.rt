@@ -9,10 +9,10 @@ ghost use Rattle.mpc_paths.specs.Ways.{IsWay};
 ghost use Rattle.mpc_recur.specs.Empties.{EmptiesBefore};
 
 use crate::answers::{Recur, RecurError, Stop};
-use crate::laws::ruled_out_where_safe;
 use crate::leaves::rule_out_targets;
+use crate::theorems::ruled_out_where_safe;
 use mpc_controller::{Controller, limits};
-use mpc_paths::{Turn, go_on, one_path, way_laws};
+use mpc_paths::{Turn, go_on, one_path, way_theorems};
 use mpc_rows::{Counts, Node, Tree};
 use std::alloc::Global;
 
@@ -47,7 +47,7 @@ fn rule_out_place(
     ensures { MatchResult result (λ _. NodeAtMet controller.now place) (IsStop (NodeAtFinds controller.now place)) }
 {
     one_path();
-    way_laws();
+    way_theorems();
     let tree = controller.tree();
     prove!(place < tree.len());
     let Node::Law { law, .. } = tree.at(place) else {

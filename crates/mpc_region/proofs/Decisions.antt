@@ -11,8 +11,8 @@ use Rattle.mpc_rows.specs.ActiveSets.{IsReachable}
 use Rattle.mpc_rows.specs.Laws.{IsLaw, HasRegion}
 use Rattle.mpc_rows.specs.LawRows.{AreLawRows}
 use Rattle.mpc_rows.specs.SetRuns.{reach_system, region_system, RegionFits}
-use Rattle.mpc_rows.specs.LawLaws.{LawLaws}
-use Rattle.mpc_rows.specs.RegionLaws.{RegionLaws}
+use Rattle.mpc_rows.specs.LawTheorems.{LawTheorems}
+use Rattle.mpc_rows.specs.RegionTheorems.{RegionTheorems}
 use Rattle.mpc_simplex.specs.Answer.{IfWide, HasPoint}
 use Rattle.mpc_simplex.specs.declared.SimplexError.{SimplexError}
 use Rattle.mpc_simplex.specs.declared.SimplexError.TheVariants.{Wide, NoMemory}
@@ -20,11 +20,11 @@ use Rattle.mpc_simplex.specs.declared.SimplexError.TheVariants.{Wide, NoMemory}
 told : (answer : Bool) (P Q : Type 0) → IsTrue answer ↔ P → P ↔ Q → IsTrue answer ↔ Q
 told answer P Q h k = (λ y. k.0 (h.0 y), λ q. h.1 (k.1 q))
 
-pub reach_answer : RegionLaws → (qp : Qp) (set : List ℕ) → IsSetOfRows (height qp.g) set → (r : Result Bool SimplexError) (s : LinearSystem) → s ≡ reach_system qp set → IfOk r (λ answer. IsTrue answer ↔ HasPoint s) → IfOk r (λ answer. IsTrue answer ↔ IsReachable qp set)
+pub reach_answer : RegionTheorems → (qp : Qp) (set : List ℕ) → IsSetOfRows (height qp.g) set → (r : Result Bool SimplexError) (s : LinearSystem) → s ≡ reach_system qp set → IfOk r (λ answer. IsTrue answer ↔ HasPoint s) → IfOk r (λ answer. IsTrue answer ↔ IsReachable qp set)
 reach_answer points qp set of_rows (Ok answer) s e h = told answer (HasPoint (reach_system qp set)) (IsReachable qp set) (subst (λ z. IsTrue answer ↔ HasPoint z) e h) (points.reachable qp set of_rows)
 reach_answer points qp set of_rows (Err x) s e h = h
 
-module _ (points : RegionLaws) (single : LawLaws) (qp : Qp) (law : Law) (is_law : IsLaw qp law) (rows : List RowInt) (are : AreLawRows qp law rows) (s : LinearSystem) (e : s ≡ region_system qp rows) where
+module _ (points : RegionTheorems) (single : LawTheorems) (qp : Qp) (law : Law) (is_law : IsLaw qp law) (rows : List RowInt) (are : AreLawRows qp law rows) (s : LinearSystem) (e : s ≡ region_system qp rows) where
   pub region_answer : (r : Result Bool SimplexError) → IfOk r (λ answer. IsTrue answer ↔ HasPoint s) → IfOk r (λ answer. IsTrue answer ↔ HasRegion qp law)
   region_answer (Ok answer) h = let k = points.has_region qp law is_law rows are in told answer (HasPoint (region_system qp rows)) (HasRegion qp law) (subst (λ z. IsTrue answer ↔ HasPoint z) e h) (k.1, k.0)
   region_answer (Err x) h = h

@@ -4,7 +4,7 @@ use Rattle.std.proofs.lemmas.Bool.{cases_lt}
 use Rattle.std.proofs.lemmas.List.{length-append, length-take-le, length-drop, take-append-drop}
 use Rattle.mpc_exact.specs.Rational.{ℚ, int, ◌+ℚ◌}
 use Rattle.mpc_exact.proofs.Rational.{+ℚ_zero}
-use Rattle.mpc_exact.proofs.OrderLaws.{one-not_zero}
+use Rattle.mpc_exact.proofs.OrderTheorems.{one-not_zero}
 use Rattle.mpc_space.specs.Vector.{coordinate, vec_add, vec_scale, mat_vec, vec_mat, zeros, IsZero}
 use Rattle.mpc_space.specs.Matrix.{RationalMatrix, height}
 use Rattle.mpc_space.specs.Definite.{IsDefinite}

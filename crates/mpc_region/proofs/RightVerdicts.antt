@@ -12,8 +12,8 @@ use Rattle.mpc_rows.specs.Laws.{IsLaw, HasRegion}
 use Rattle.mpc_rows.specs.LawRows.{AreLawRows}
 use Rattle.mpc_rows.specs.SetRuns.{region_system, LawRowsFit, RegionFits}
 use Rattle.mpc_rows.specs.Verdicts.{IsRight, ReachFits, AllFit}
-use Rattle.mpc_rows.specs.LawLaws.{LawLaws}
-use Rattle.mpc_rows.specs.RegionLaws.{RegionLaws}
+use Rattle.mpc_rows.specs.LawTheorems.{LawTheorems}
+use Rattle.mpc_rows.specs.RegionTheorems.{RegionTheorems}
 use Rattle.mpc_simplex.specs.Answer.{HasPoint}
 
 not_both : (b : Bool) → b ≡ true → b ≡ false → ⊥
@@ -33,7 +33,7 @@ module _ (qp : Qp) (law : Law) (is_law : IsLaw qp law) (grows : CanGrow qp law.s
   pub run_wide : ¬ RegionFits qp law → IsRight qp law.set (Wide (RegionRun law.set))
   run_wide unfit = inr (inr (inr (refl, reach_fits, grows, record { law = law; of_set = refl; is_law = is_law; holds = record { before = rows_fit; here = unfit } })))
 
-module _ (points : RegionLaws) (single : LawLaws) (qp : Qp) (s : List ℕ) (law : Law) (of_set : law.set ≡ s) (is_law : IsLaw qp law) (grows : CanGrow qp s) (reach_fits : ReachFits qp s) (rows : List RowInt) (are : AreLawRows qp law rows) (fit : LawRowsFit qp law (height qp.g))
+module _ (points : RegionTheorems) (single : LawTheorems) (qp : Qp) (s : List ℕ) (law : Law) (of_set : law.set ≡ s) (is_law : IsLaw qp law) (grows : CanGrow qp s) (reach_fits : ReachFits qp s) (rows : List RowInt) (are : AreLawRows qp law rows) (fit : LawRowsFit qp law (height qp.g))
     (o : Option Bool) (yes : Bool) (is : o ≡ Some yes) (met : IfSome o (λ yes. IsTrue yes ↔ HasPoint (region_system qp rows))) (met_fits : IfSome o (λ yes. RunFits (region_system qp rows))) where
   answer : IsTrue yes ↔ HasPoint (region_system qp rows)
   answer = subst (λ o. IfSome o (λ yes. IsTrue yes ↔ HasPoint (region_system qp rows))) is met

@@ -6,7 +6,7 @@ use Rattle.mpc_exact.specs.Rational.{ℚ, frac, quotient}
 use Rattle.mpc_exact.proofs.School.{quotient_positive}
 use Rattle.mpc_space.proofs.Words.{read_natural}
 use Rattle.mpc_frac.specs.Fits.{FitsFrac}
-use Rattle.mpc_frac.specs.FitLaws.{FitLaws}
+use Rattle.mpc_frac.specs.FitTheorems.{FitTheorems}
 use Rattle.mpc_frac.specs.declared.FracError.{FracError}
 use Rattle.mpc_frac.specs.declared.FracError.TheVariants.{ZeroDenominator, Wide}
 use Rattle.mpc_sweep.specs.declared.numbers.Swept.{Swept}
@@ -40,7 +40,7 @@ module _ (table : Swept) (is : IsTable table) (i j : ℕ) (h : i < table.rows) w
         positive_some : (n : ℕ) → 0 < n → pos n ≡ pos 0 → ⊥
         positive_some n h e = omega (arith, ints)
 
-    pub entry_always : FitLaws → (r : Result ℚ FracError) → ((r ≡ Err ZeroDenominator) ↔ (to_z w128 d ≡ pos 0))
+    pub entry_always : FitTheorems → (r : Result ℚ FracError) → ((r ≡ Err ZeroDenominator) ↔ (to_z w128 d ≡ pos 0))
         → ((r ≡ Err Wide) ↔ ((to_z w128 d ≢ pos 0) × (¬ FitsFrac (quotient (to_z w128 (of_z w128 (to_z w64 (of_z w64 z)))) (to_z w128 d))))) → (x : FracError) → r ≡ Err x → ⊥
     entry_always laws r zero wide ZeroDenominator k = den_not_zero (zero.0 k)
     entry_always laws r zero wide Wide k = (wide.0 k).1

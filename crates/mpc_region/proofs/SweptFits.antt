@@ -14,7 +14,7 @@ use Rattle.mpc_space.specs.Vector.{coordinate}
 use Rattle.mpc_frac.specs.Fits.{FitsFrac, FitsSum}
 use Rattle.mpc_linear.specs.Dot.{SumFits}
 use Rattle.mpc_linear.specs.Whole.{scaled, WholeFits}
-use Rattle.mpc_whole.specs.OverLaws.{OverLaws}
+use Rattle.mpc_whole.specs.OverTheorems.{OverTheorems}
 use Rattle.mpc_region.proofs.SweptDivisors.{abs_sum}
 
 -- x is a number of at most this size over m
@@ -23,7 +23,7 @@ pub record Over (m most : ℕ) (x : ℚ) : Type 0 where
   pub is : x ≡ frac at m
   pub small : unsigned_abs at ≤ most
 
-module _ (over : OverLaws) (m : ℕ) (some : 0 < m) (small : m < 2 ^ 127) (most : ℕ) where
+module _ (over : OverTheorems) (m : ℕ) (some : 0 < m) (small : m < 2 ^ 127) (most : ℕ) where
   -- a sum of products from a number on
   pub sum_fits : (xs ys : List ℚ) (z : ℤ) → unsigned_abs z + length xs * most < 2 ^ 127 → ((k : ℕ) → k < length xs → Over m most (coordinate xs k *ℚ coordinate ys k)) → SumFits (frac z m) xs ys
   sum_fits [] ys z h a = tt

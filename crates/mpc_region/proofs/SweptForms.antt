@@ -17,7 +17,7 @@ use Rattle.mpc_rows.specs.declared.laws.Law.{Law}
 use Rattle.mpc_rows.specs.ActiveSets.{row_of}
 use Rattle.mpc_rows.specs.LawRows.{is_member, place_of, excess_form, law_form}
 use Rattle.mpc_sweep.specs.Sweeps.{swept, pivot_at, AreRising, HasPivots}
-use Rattle.mpc_sweep.specs.Laws.{RowIsReduced}
+use Rattle.mpc_sweep.specs.Theorems.{RowIsReduced}
 use Rattle.mpc_region.specs.Shared.{shared_entry}
 use Rattle.mpc_region.specs.Sweeps.{sweeps_of, rights, swept_law}
 use Rattle.mpc_region.proofs.Members.{member, row_within, member_place, not_member}

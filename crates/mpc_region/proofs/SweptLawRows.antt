@@ -20,11 +20,11 @@ use Rattle.mpc_rows.specs.ActiveSets.{row_of}
 use Rattle.mpc_rows.specs.LawRows.{law_form, law_sides, law_bound, IsLawRow, AreLawRows, LawRowFits}
 use Rattle.mpc_rows.specs.SetRuns.{LawRowsFit}
 use Rattle.mpc_rows.specs.LinearSystem.{LinearSystem}
-use Rattle.mpc_whole.specs.OverLaws.{OverLaws}
+use Rattle.mpc_whole.specs.OverTheorems.{OverTheorems}
 use Rattle.mpc_sweep.specs.declared.numbers.Swept.{Swept}
 use Rattle.mpc_sweep.specs.Sweeps.{swept}
 use Rattle.mpc_sweep.specs.Numbers.{den_of, scale_of}
-use Rattle.mpc_sweep.specs.Laws.{RowIsReduced}
+use Rattle.mpc_sweep.specs.Theorems.{RowIsReduced}
 use Rattle.mpc_region.specs.Shared.{shared_entry}
 use Rattle.mpc_region.specs.Sweeps.{sweeps_of, rights, IsTableOf, swept_law}
 use Rattle.mpc_region.specs.SweptRows.{number_from, IsRowFrom, AreRowsOf}
@@ -47,7 +47,7 @@ later_size (x ∷ xs) k e = omega arith
 twice_turned : (x : ℚ) → neg_ℚ (neg_ℚ x) ≡ x
 twice_turned x = by_ring (x ∷ []) (search reads depth 30) (search reads depth 30) tt
 
-module _ (reduced : RowIsReduced) (over : OverLaws) (qp : Qp) (s : List ℕ) (table : Swept) (set : IsSetOfRows (height qp.g) s) (is : IsTableOf qp s (rights qp) table) where
+module _ (reduced : RowIsReduced) (over : OverTheorems) (qp : Qp) (s : List ℕ) (table : Swept) (set : IsSetOfRows (height qp.g) s) (is : IsTableOf qp s (rights qp) table) where
   abbrev n : ℕ
   n = height qp.h
 

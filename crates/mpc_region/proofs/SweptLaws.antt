@@ -19,7 +19,7 @@ use Rattle.mpc_rows.specs.SetRuns.{law_matrix, law_right, LawFits}
 use Rattle.mpc_sweep.specs.declared.numbers.Swept.{Swept}
 use Rattle.mpc_sweep.specs.Sweeps.{swept, pivot_at, HasPivots, SweepsFit}
 use Rattle.mpc_sweep.specs.Numbers.{number, den_of}
-use Rattle.mpc_sweep.specs.Laws.{PartIsSolved, PartIsDependent, IsSolutionOf}
+use Rattle.mpc_sweep.specs.Theorems.{PartIsSolved, PartIsDependent, IsSolutionOf}
 use Rattle.mpc_region.specs.LawEnd.{IsLawOfSet}
 use Rattle.mpc_region.specs.Shared.{shared_entry}
 use Rattle.mpc_region.specs.Sweeps.{sweeps_of, rights, IsTableOf, swept_law}

@@ -10,7 +10,7 @@ use Rattle.mpc_sets.specs.RowSet.{IsSetOfRows}
 use Rattle.mpc_rows.specs.declared.programs.Qp.{Qp}
 use Rattle.mpc_rows.specs.SetRuns.{law_entry, law_matrix, law_side, law_right}
 use Rattle.mpc_sweep.specs.Sweeps.{pivot_at, AreRising}
-use Rattle.mpc_sweep.specs.Laws.{IsPartOf, AreRowsOf}
+use Rattle.mpc_sweep.specs.Theorems.{IsPartOf, AreRowsOf}
 use Rattle.mpc_region.specs.Shared.{shared_entry}
 use Rattle.mpc_region.specs.Sweeps.{sweeps_of, rights}
 use Rattle.mpc_region.proofs.Members.{member, members_rise, member_cell}

@@ -14,7 +14,7 @@ use Rattle.mpc_exact.proofs.IntRing.{int_reads, by_ring_ℤ}
 use Rattle.mpc_exact.proofs.Rational.{int-mul, *ℚ_inv}
 use Rattle.mpc_exact.proofs.RationalRing.{reads, by_ring}
 use Rattle.mpc_exact.proofs.RationalOrder.{positive_int, positive-mul, inv_positive}
-use Rattle.mpc_exact.proofs.OrderLaws.{positive-not_zero}
+use Rattle.mpc_exact.proofs.OrderTheorems.{positive-not_zero}
 use Rattle.mpc_exact.proofs.School.{frac_times}
 use Rattle.mpc_space.specs.Vector.{coordinate, vec_scale}
 use Rattle.mpc_space.proofs.Entries.{same_entries, coordinate-scale, length-scale}

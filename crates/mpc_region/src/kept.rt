@@ -6,7 +6,7 @@ ghost use Rattle.mpc_sets.specs.RowSet.{IsSetOfRows};
 ghost use Rattle.mpc_region.specs.Kept.{AreReachRuns, IsKept, IsReachRun};
 
 use mpc_frac::NoMemory;
-use mpc_rows::{Qp, law_laws};
+use mpc_rows::{Qp, law_theorems};
 use mpc_sets::ActiveSet;
 use mpc_simplex::{Beginning, Workspace};
 use mpc_systems::{reach_system, region_system};
@@ -86,7 +86,7 @@ fn next_run(
     requires before { IsReachRun qp.now (take k set) before.now }
     ensures { IfOk result (IsReachRun qp.now (take (k + 1) set)) }
 {
-    law_laws();
+    law_theorems();
     prove!(k < set.size());
     let Some(run) = before else {
         return Ok(None);

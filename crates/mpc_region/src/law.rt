@@ -15,7 +15,7 @@ use crate::shared::{Shared, form, member_places, side_places};
 use mpc_bordered::{Kept, solve_part};
 use mpc_frac::NoMemory;
 use mpc_linear::{LinearError, Matrix, Solved, solve};
-use mpc_rows::{Law, Qp, law_laws};
+use mpc_rows::{Law, Qp, law_theorems};
 use mpc_sets::ActiveSet;
 use std::alloc::Global;
 
@@ -121,7 +121,7 @@ fn law_by_table(
     requires few { length set ≤ height qp.now.h }
     ensures { IfOk result (λ o. IfSome o (IsLawEnd qp.now set)) }
 {
-    law_laws();
+    law_theorems();
     let unknowns = qp.h.rows();
     let places = member_places(alloc, unknowns, set)?;
     let sides = side_places(alloc, unknowns + qp.g.rows(), qp.f.cols())?;

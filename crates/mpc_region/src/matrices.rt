@@ -10,7 +10,7 @@ ghost use Rattle.mpc_region.specs.Writing.{WritesRow};
 
 use mpc_frac::{Frac, NoMemory};
 use mpc_linear::Matrix;
-use mpc_rows::{Qp, law_laws};
+use mpc_rows::{Qp, law_theorems};
 use mpc_sets::ActiveSet;
 use std::alloc::Global;
 
@@ -21,7 +21,7 @@ fn member_entry(m: &Matrix, set: ActiveSet, k: u32, j: u32) -> Frac
     requires column { j < m.now.columns }
     ensures { result ≡ cell (rows_of m.now.rows set) k j }
 {
-    law_laws();
+    law_theorems();
     prove!(k < set.size());
     m.get(set.member(k + 1) - 1, j)
 }

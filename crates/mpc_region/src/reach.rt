@@ -12,7 +12,7 @@ ghost use Rattle.mpc_region.specs.Kept.{IsKept, IsReachRun};
 use crate::kept::{Kept, joint_place, turn_to};
 use crate::points::has_point;
 use mpc_frac::NoMemory;
-use mpc_rows::{Qp, law_laws, region_laws};
+use mpc_rows::{Qp, law_theorems, region_theorems};
 use mpc_sets::ActiveSet;
 use mpc_simplex::{Beginning, SimplexError, Workspace};
 use mpc_systems::reach_system;
@@ -24,7 +24,7 @@ fn is_reachable_anew(alloc: Global, qp: &Qp, set: ActiveSet) -> Result<bool, Sim
     ensures answer { IfOk result (λ yes. IsTrue yes ↔ IsReachable qp.now set) }
     ensures wide { MatchResult result (λ _. RunFits (reach_system qp.now set)) (λ e. IfWide e (¬ RunFits (reach_system qp.now set))) }
 {
-    region_laws();
+    region_theorems();
     let Ok(system) = reach_system(alloc, qp, set) else {
         return Err(SimplexError::NoMemory);
     };
@@ -44,7 +44,7 @@ fn is_reachable_by(
     ensures answer { IfOk result (λ yes. IsTrue yes ↔ IsReachable qp.now set) }
     ensures wide { MatchResult result (λ _. RunFits (reach_system qp.now set)) (λ e. IfWide e (¬ RunFits (reach_system qp.now set))) }
 {
-    region_laws();
+    region_theorems();
     match run {
         Some(run) => Ok(run.has_point()),
         None => is_reachable_anew(alloc, qp, set),
@@ -66,7 +66,7 @@ fn last_meets(
     ensures answer { IfOk result (λ o. IfSome o (λ yes. IsTrue yes ↔ HasPoint (reach_system qp.now set))) }
     ensures fits { IfOk result (λ o. IfSome o (λ _. RunFits (reach_system qp.now set))) }
 {
-    law_laws();
+    law_theorems();
     prove!(0 < set.size());
     let Some(run) = before else {
         return Ok(None);
@@ -90,7 +90,7 @@ fn is_reachable_from(
     ensures answer { IfOk result (λ yes. IsTrue yes ↔ IsReachable qp.now set) }
     ensures wide { MatchResult result (λ _. RunFits (reach_system qp.now set)) (λ e. IfWide e (¬ RunFits (reach_system qp.now set))) }
 {
-    region_laws();
+    region_theorems();
     match last_meets(alloc, qp, work, set, before) {
         Ok(Some(yes)) => Ok(yes),
         Ok(None) => is_reachable_anew(alloc, qp, set),

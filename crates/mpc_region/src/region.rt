@@ -17,7 +17,7 @@ use crate::kept::Kept;
 use crate::points::has_point;
 use mpc_frac::NoMemory;
 use mpc_linear::{LinearError, RowInt};
-use mpc_rows::{Law, Qp, law_laws, law_row, region_laws};
+use mpc_rows::{Law, Qp, law_row, law_theorems, region_theorems};
 use mpc_simplex::SimplexError;
 use mpc_systems::region_system;
 use mpc_whole::WholeSystem;
@@ -56,8 +56,8 @@ pub fn has_region_anew(
     ensures answer { IfOk result (λ yes. IsTrue yes ↔ HasRegion qp.now law.now) }
     ensures wide { MatchResult result (λ _. RegionFits qp.now law.now) (λ e. IfWide e (¬ RegionFits qp.now law.now)) }
 {
-    region_laws();
-    law_laws();
+    region_theorems();
+    law_theorems();
     let Ok(system) = region_system(alloc, qp, rows) else {
         return Err(SimplexError::NoMemory);
     };

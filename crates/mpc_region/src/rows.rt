@@ -11,12 +11,12 @@ ghost use Rattle.mpc_region.specs.Sweeps.{rights, IsTableOf, swept_law};
 ghost use Rattle.mpc_region.specs.SweptRows.{number_from, DividesEach, IsSharedBy, AreSides, IsRowFrom, AreRowsOf};
 ghost use Rattle.mpc_region.specs.Writing.{WritesRow};
 
-use mpc_frac::{Frac, NoMemory, fit_laws, greatest_common_divisor};
+use mpc_frac::{Frac, NoMemory, fit_theorems, greatest_common_divisor};
 use mpc_linear::Matrix;
-use mpc_rows::{Law, Qp, law_laws};
+use mpc_rows::{Law, Qp, law_theorems};
 use mpc_sets::ActiveSet;
-use mpc_sweep::{Swept, sweep_laws};
-use mpc_whole::{Divisor, WholeSystem, changed, over_laws};
+use mpc_sweep::{Swept, sweep_theorems};
+use mpc_whole::{Divisor, WholeSystem, changed, over_theorems};
 use std::alloc::Global;
 
 /// The greatest size of a number.
@@ -153,8 +153,8 @@ pub fn fill_rows(
     ensures rows { OnOk result (AreRowsOf qp.now (swept_law qp.now set) lines.new.rows) }
     ensures fit { LawRowsFit qp.now (swept_law qp.now set) (height qp.now.g) }
 {
-    sweep_laws();
-    over_laws();
+    sweep_theorems();
+    over_theorems();
     let _ = set;
     let unknowns = qp.h.rows() as usize;
     let count = qp.g.rows() as usize;
@@ -174,7 +174,7 @@ fn table_entry(table: &Swept, i: u32, j: u32) -> Frac
     requires column { j < table.now.columns }
     ensures { result ≡ frac (number table.now i j) (den_of table.now i) }
 {
-    fit_laws();
+    fit_theorems();
     let number = table.at(i as usize, j as usize);
     let below = table.den_at(i as usize);
     match Frac::new(number as i128, below as i128) {
@@ -220,7 +220,7 @@ fn table_mults(alloc: Global, qp: &Qp, table: &Swept, set: ActiveSet) -> Result<
     requires table { IsTableOf qp.now set (rights qp.now) table.now }
     ensures { IfOk result (λ m. m ≡ (swept_law qp.now set).mults) }
 {
-    law_laws();
+    law_theorems();
     let unknowns = qp.h.rows();
     let first = unknowns + qp.g.rows();
     let mut out = Matrix::zero(alloc, set.size(), qp.f.cols())?;

@@ -18,7 +18,7 @@ use crate::shared::shared_table;
 use mpc_frac::NoMemory;
 use mpc_rows::Qp;
 use mpc_sets::ActiveSet;
-use mpc_sweep::{Swept, sweep_laws};
+use mpc_sweep::{Swept, sweep_theorems};
 use std::alloc::Global;
 use std::mem::swap;
 
@@ -213,7 +213,7 @@ fn last_end(alloc: Global, qp: &Qp, sweeps: &mut Sweeps) -> Result<Option<SweptE
     ensures set { sweeps.new.set ≡ sweeps.old.set }
     ensures end { IfOk result (λ o. IfSome o (IsSweptEnd qp.now sweeps.old.set sweeps.new)) }
 {
-    sweep_laws();
+    sweep_theorems();
     let size = sweeps.set.size();
     let p = member_place(qp, sweeps.set, size);
     let before = &sweeps.tables[size as usize - 1];
@@ -242,7 +242,7 @@ pub fn swept_end(
     ensures sweeps { AreSweeps qp.now sweeps.new }
     ensures end { IfOk result (λ o. IfSome o (IsSweptEnd qp.now set sweeps.new)) }
 {
-    sweep_laws();
+    sweep_theorems();
     turn_to(alloc, qp, sweeps, set)?;
     let size = set.size() as usize;
     if sweeps.count == 0 || sweeps.count < size {

@@ -25,7 +25,7 @@ use crate::shared::Shared;
 use crate::sweeps::{Sweeps, SweptEnd, swept_end};
 use mpc_frac::NoMemory;
 use mpc_linear::{LinearError, RowInt};
-use mpc_rows::{Law, Place, Qp, Verdict, law_laws, region_laws};
+use mpc_rows::{Law, Place, Qp, Verdict, law_theorems, region_theorems};
 use mpc_sets::ActiveSet;
 use mpc_simplex::SimplexError;
 use mpc_sweep::Swept;
@@ -83,8 +83,8 @@ fn by_region(
     ensures kept { IsKept qp.now kept.new }
     ensures right { IfOk result (IsRight qp.now law.set) }
 {
-    region_laws();
-    law_laws();
+    region_theorems();
+    law_theorems();
     match rows_meet_box(alloc, qp, kept, rows)? {
         Some(true) => Ok(Verdict::Region(law)),
         Some(false) => Ok(Verdict::Hollow),
@@ -166,8 +166,8 @@ fn by_table(
     ensures kept { IsKept qp.now kept.new }
     ensures right { IfOk result (IsRight qp.now set) }
 {
-    region_laws();
-    law_laws();
+    region_theorems();
+    law_theorems();
     fill_rows(qp, table, set, lines)?;
     match meets_box(alloc, qp, kept, &lines.rows)? {
         Some(true) => Ok(Verdict::Region(law_of_table(alloc, qp, table, set)?)),

@@ -6,10 +6,10 @@
 
 mod counts;
 mod input;
-mod laws;
 mod reply_lines;
+mod theorems;
 
 pub use counts::read_counts;
 pub use input::{Sections, cut, first_line};
-pub use laws::{one_text, right_replies};
 pub use reply_lines::replies;
+pub use theorems::{one_text, right_replies};

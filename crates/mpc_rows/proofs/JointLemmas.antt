@@ -6,7 +6,7 @@ use Rattle.std.proofs.lemmas.List.FromFn.{get_or-map-range_with_len, length-map-
 use Rattle.std.proofs.lemmas.List.{length-append, length-take, take-append-drop}
 use Rattle.mpc_exact.specs.Rational.{ℚ, int, ◌+ℚ◌, ◌*ℚ◌, ◌≤ℚ◌, neg_ℚ}
 use Rattle.mpc_exact.proofs.RationalOrder.{≤ℚ_antisymm}
-use Rattle.mpc_exact.proofs.OrderLaws.{≤ℚ_of_≡}
+use Rattle.mpc_exact.proofs.OrderTheorems.{≤ℚ_of_≡}
 use Rattle.mpc_exact.proofs.Linear.{linear_le, claims, none, le, eq}
 use Rattle.mpc_space.specs.Vector.{coordinate, dot, vec_scale, mat_vec, later_entries}
 use Rattle.mpc_space.specs.Matrix.{height}

@@ -4,7 +4,7 @@ use Rattle.std.proofs.lemmas.Bool.{cases_Bool}
 use Rattle.std.proofs.lemmas.List.{length-map}
 use Rattle.mpc_exact.specs.Rational.{ℚ, int, ◌+ℚ◌, ◌*ℚ◌, ◌≤ℚ◌, neg_ℚ, IsNonneg, IsPositive}
 use Rattle.mpc_exact.proofs.RationalOrder.{*ℚ-≤ℚ, ≤ℚ_of_<}
-use Rattle.mpc_exact.proofs.OrderLaws.{*ℚ-≤ℚ_cancel}
+use Rattle.mpc_exact.proofs.OrderTheorems.{*ℚ-≤ℚ_cancel}
 use Rattle.mpc_exact.proofs.RationalRing.{reads, by_ring}
 use Rattle.mpc_exact.proofs.Linear.{linear_le, claims, none, le, eq}
 use Rattle.mpc_space.specs.Vector.{coordinate, column, dot, vec_add, vec_scale, vec_mat, later_entries}

@@ -11,7 +11,7 @@ use Rattle.mpc_space.specs.Matrix.{height, entry}
 use Rattle.mpc_space.proofs.Entries.{coordinate-scale, coordinate-listed, length-scale, length-listed, same_entries}
 use Rattle.mpc_space.proofs.Matrix.{length-column, coordinate-column}
 use Rattle.mpc_linear.specs.Dot.{TermFits}
-use Rattle.mpc_linear.specs.SumLaws.{SumLaws, IsSumSoFar, StandAt}
+use Rattle.mpc_linear.specs.SumTheorems.{SumTheorems, IsSumSoFar, StandAt}
 use Rattle.mpc_rows.specs.declared.programs.Qp.{Qp}
 use Rattle.mpc_rows.specs.declared.laws.Law.{Law}
 use Rattle.mpc_rows.specs.ActiveSets.{row_of}
@@ -24,7 +24,7 @@ use Rattle.mpc_rows.proofs.JointLemmas.{length-later}
 abbrev pub Excess : Qp → Law → ℕ → ℕ → ℕ → ℚ → Type 0
 Excess qp law i j k sum = IsSumSoFar (neg_ℚ (coordinate (row_of qp.w.rows i) j)) (row_of qp.g.rows i) (column law.moves.rows j) k sum
 
-module _ (laws : SumLaws) (qp : Qp) (law : Law) (i j : ℕ) (shape : HasLawShape qp law) (from_one : 1 ≤ i) (to_last : i ≤ height qp.g) where
+module _ (laws : SumTheorems) (qp : Qp) (law : Law) (i j : ℕ) (shape : HasLawShape qp law) (from_one : 1 ≤ i) (to_last : i ≤ height qp.g) where
   row_size : length (row_of qp.g.rows i) ≡ qp.g.columns
   row_size = All-get_or (λ row. length row ≡ qp.g.columns) qp.g.rows (i - 1) [] (omega arith) qp.is_program.g_shape.rectangular
 

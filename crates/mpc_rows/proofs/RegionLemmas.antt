@@ -4,7 +4,7 @@ use Rattle.std.proofs.lemmas.Bool.{cases_Bool}
 use Rattle.std.proofs.lemmas.List.{append-nil, ext_get_or, get_or-map, length-map}
 use Rattle.std.proofs.lemmas.List.Elements.{All-append, All-map, All-get_or, All-from_get_or}
 use Rattle.mpc_exact.specs.Rational.{ℚ, ◌≤ℚ◌, IsNonneg}
-use Rattle.mpc_exact.proofs.OrderLaws.{≤ℚ_of_≡}
+use Rattle.mpc_exact.proofs.OrderTheorems.{≤ℚ_of_≡}
 use Rattle.mpc_space.specs.Vector.{coordinate, dot, mat_vec, AllNonneg}
 use Rattle.mpc_space.specs.Matrix.{height}
 use Rattle.mpc_space.proofs.Entries.{nonneg_at, nonneg_by_entries}

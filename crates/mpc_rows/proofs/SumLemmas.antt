@@ -6,14 +6,14 @@ use Rattle.mpc_exact.specs.Rational.{ℚ, int, ◌+ℚ◌, ◌*ℚ◌}
 use Rattle.mpc_exact.proofs.RationalRing.{reads, by_ring}
 use Rattle.mpc_space.specs.Vector.{coordinate, dot}
 use Rattle.mpc_linear.specs.Dot.{TermFits, DotFits}
-use Rattle.mpc_linear.specs.SumLaws.{SumLaws, IsSumSoFar, StandAt}
+use Rattle.mpc_linear.specs.SumTheorems.{SumTheorems, IsSumSoFar, StandAt}
 use Rattle.mpc_rows.specs.declared.systems.Row.{Row}
 use Rattle.mpc_rows.specs.LinearSystem.{LinearSystem}
 
 abbrev pub seen : ℕ → List Row → LinearSystem
 seen width rows = record { width = width; rows = rows }
 
-module _ (laws : SumLaws) (m : List ℚ) (inside : List Row) (width : ℕ) (s : LinearSystem) (f : Row → ℚ) (i : ℕ) (sum : ℚ) (view : seen width inside ≡ s) (e : length m ≡ length s.rows) (g : IsSumSoFar (int (pos 0)) m (map f s.rows) i sum) where
+module _ (laws : SumTheorems) (m : List ℚ) (inside : List Row) (width : ℕ) (s : LinearSystem) (f : Row → ℚ) (i : ℕ) (sum : ℚ) (view : seen width inside ≡ s) (e : length m ≡ length s.rows) (g : IsSumSoFar (int (pos 0)) m (map f s.rows) i sum) where
   rows_is : inside ≡ s.rows
   rows_is = ap (λ (z : LinearSystem). z.rows) view
 

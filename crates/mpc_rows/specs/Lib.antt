@@ -14,6 +14,6 @@ pub mod Verdicts
 pub mod JudgedSet
 pub mod Certificates
 pub mod NumberedSystems
-pub mod SystemLaws
-pub mod RegionLaws
-pub mod LawLaws
+pub mod SystemTheorems
+pub mod RegionTheorems
+pub mod LawTheorems

@@ -12,7 +12,7 @@ ghost use Rattle.mpc_rows.specs.LawRows.{is_member, IsPlaceAmong, MeetsCondition
 
 use crate::{Law, Qp};
 use mpc_frac::{Frac, Wide};
-use mpc_linear::{LinearError, RowInt, Vector, add_product, primitive, sum_laws};
+use mpc_linear::{LinearError, RowInt, Vector, add_product, primitive, sum_theorems};
 use mpc_sets::ActiveSet;
 use std::alloc::Global;
 
@@ -39,7 +39,7 @@ fn excess_at(qp: &Qp, law: &Law, i: u32, j: u32) -> Result<Frac, Wide>
     ensures wide { MatchResult result (λ _. CoefficientFits qp.now law.now i j)
         (λ _. ¬ CoefficientFits qp.now law.now i j) }
 {
-    sum_laws();
+    sum_theorems();
     let mut sum = qp.w.get(i - 1, j).neg();
     for k in 0..qp.g.cols() {
         match add_product(&sum, &qp.g.get(i - 1, k), &law.moves.get(k, j)) {

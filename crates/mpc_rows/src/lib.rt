@@ -19,7 +19,7 @@ pub use laws::{Law, LawTable};
 pub use places::Place;
 pub use programs::Qp;
 pub use refuting::refutes;
-pub use rules::{law_laws, region_laws, system_laws};
+pub use rules::{law_theorems, region_theorems, system_theorems};
 pub use systems::{Multipliers, PairPoint, Row, Rows, System};
 pub use trees::{Cert, Certs, Node, Tree};
 pub use verdicts::{Judged, Verdict};

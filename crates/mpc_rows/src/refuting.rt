@@ -9,7 +9,7 @@ ghost use Rattle.mpc_rows.specs.Refutation.{coefficients_on, right_sides, Column
 
 use crate::{Multipliers, Row, System};
 use mpc_frac::{Frac, Wide};
-use mpc_linear::{add_product, sum_laws};
+use mpc_linear::{add_product, sum_theorems};
 
 /// Whether no multiplier is negative.
 fn are_nonneg(multipliers: &[Frac]) -> bool
@@ -31,7 +31,7 @@ fn column_sum(system: &System, multipliers: &Multipliers, j: usize) -> Result<Fr
     ensures wide { MatchResult result (λ _. DotFits multipliers.now (coefficients_on j system.now.rows))
         (λ _. ¬ DotFits multipliers.now (coefficients_on j system.now.rows)) }
 {
-    sum_laws();
+    sum_theorems();
     let mut sum = Frac::whole(0);
     for i in 0..system.rows.len() {
         let row = system.rows.at(i);
@@ -50,7 +50,7 @@ fn side_sum(system: &System, multipliers: &Multipliers) -> Result<Frac, Wide>
     ensures wide { MatchResult result (λ _. DotFits multipliers.now (right_sides system.now.rows))
         (λ _. ¬ DotFits multipliers.now (right_sides system.now.rows)) }
 {
-    sum_laws();
+    sum_theorems();
     let mut sum = Frac::whole(0);
     for i in 0..system.rows.len() {
         let row = system.rows.at(i);

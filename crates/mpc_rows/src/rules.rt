@@ -1,26 +1,26 @@
 //! What holds of every system, region and law, for those who prove something of them. The calls do nothing: their contracts are the laws.
 
-ghost use Rattle.mpc_rows.specs.LawLaws.{LawLaws};
-ghost use Rattle.mpc_rows.specs.RegionLaws.{RegionLaws};
-ghost use Rattle.mpc_rows.specs.SystemLaws.{SystemLaws};
+ghost use Rattle.mpc_rows.specs.LawTheorems.{LawTheorems};
+ghost use Rattle.mpc_rows.specs.RegionTheorems.{RegionTheorems};
+ghost use Rattle.mpc_rows.specs.SystemTheorems.{SystemTheorems};
 
-use mpc_linear::primitive_laws;
+use mpc_linear::primitive_theorems;
 
 /// Refuted systems have no point, and those with a pair point have one (Farkas 1902, Motzkin 1936); points and multipliers by the numbers of
 /// their unknowns and rows.
-pub fn system_laws()
-    ensures { SystemLaws }
+pub fn system_theorems()
+    ensures { SystemTheorems }
 {}
 
 /// Which points meet the rows of a box, of a program and of a law, and the systems that decide whether a set can be reached and whether its
 /// law has a region.
-pub fn region_laws()
-    ensures { RegionLaws }
+pub fn region_theorems()
+    ensures { RegionTheorems }
 {}
 
 /// An independent set has one law, and a law one list of rows.
-pub fn law_laws()
-    ensures { LawLaws }
+pub fn law_theorems()
+    ensures { LawTheorems }
 {
-    primitive_laws();
+    primitive_theorems();
 }

@@ -5,7 +5,7 @@ use Rattle.mpc_exact.specs.Rational.{ℚ, int, ◌+ℚ◌, ◌*ℚ◌, ◌<ℚ�
 use Rattle.mpc_exact.proofs.RationalOrder.{nonneg_int, positive-mul}
 use Rattle.mpc_exact.proofs.School.{natural_le}
 use Rattle.mpc_rows.specs.ActiveSets.{IsInBox}
-use Rattle.mpc_exact.proofs.OrderLaws.{positive_square}
+use Rattle.mpc_exact.proofs.OrderTheorems.{positive_square}
 use Rattle.mpc_exact.proofs.RationalRing.{reads, by_ring}
 use Rattle.mpc_space.specs.Vector.{cell, quadratic, IsSymmetric}
 use Rattle.mpc_space.specs.Matrix.{RationalMatrix, height, IsRectangular, entry}

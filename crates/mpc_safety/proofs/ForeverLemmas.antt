@@ -6,7 +6,7 @@ use Rattle.mpc_plant.specs.Reply.{Reply, move, infeasible, IsRight, OneRightRepl
 use Rattle.mpc_controller.specs.Parts.{Parts}
 use Rattle.mpc_controller.specs.Bounds.{IsController}
 use Rattle.mpc_controller.specs.Replies.{RepliesAt}
-use Rattle.mpc_controller.specs.ReplyLaws.{RepliesEverywhere}
+use Rattle.mpc_controller.specs.ReplyTheorems.{RepliesEverywhere}
 use Rattle.mpc_check.specs.Acceptance.{Accepts, AcceptedIsRight}
 use Rattle.mpc_recur.specs.Successors.{HasMove, IsSafe}
 use Rattle.mpc_recur.specs.ClosedLoop.{GoesOn, GoesOnForever, SafeGoesOn}

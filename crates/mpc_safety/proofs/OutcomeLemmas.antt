@@ -3,18 +3,18 @@ use Rattle.std.proofs.Common.{◌≡◌, ℕ, ◌^◌, ◌<◌, List, length, re
 use Rattle.mpc_controller.specs.Parts.{Parts}
 use Rattle.mpc_file.specs.declared.errors.FileKind.{FileKind}
 use Rattle.mpc_file.specs.FileGrammar.{FailsAt, IsSpelled}
-use Rattle.mpc_file.specs.TextLaws.{OneController, SpelledNeverFails, OneLine, OneReason}
+use Rattle.mpc_file.specs.TextTheorems.{OneController, SpelledNeverFails, OneLine, OneReason}
 use Rattle.mpc_check.specs.Acceptance.{Accepts, IsFound, NothingFound, OneFinding}
 use Rattle.mpc_recur.specs.Findings.{Finding as Step}
 use Rattle.mpc_recur.specs.Targets.{AllRuledOut, IsFound as IsStepFound}
 use Rattle.mpc_recur.specs.Outcomes.{is_safe, finds as finds_step}
-use Rattle.mpc_recur.specs.SafetyLaws.{OneOutcome}
+use Rattle.mpc_recur.specs.SafetyTheorems.{OneOutcome}
 use Rattle.mpc_safety.specs.declared.answers.Safety.TheVariants.{Safe, Refused, Unsafe}
 use Rattle.mpc_safety.specs.declared.answers.SafetyError.TheVariants.{BadFile, NotDefinite, TooWide, WideLater, NoMemory}
 use Rattle.mpc_safety.specs.SafetyOutcomes.{bad_file, finds, steps, safe, OneSafetyOutcome, AnswerIsOutcome, CauseIsOutcome}
 
 -- the laws of texts, of checks and of steps
-pub record OutcomeLaws : Type 0 where
+pub record OutcomeTheorems : Type 0 where
   pub one_controller : OneController
   pub never_fails : SpelledNeverFails
   pub one_line : OneLine
@@ -29,7 +29,7 @@ step_not_safe parts one step all found = let same = one parts is_safe (finds_ste
 same_step : (parts : Parts) → OneOutcome → (f g : Step) → IsStepFound parts f → IsStepFound parts g → f ≡ g
 same_step parts one f g a b = let same = one parts (finds_step f) (finds_step g) a b in cc
 
-module _ (laws : OutcomeLaws) where
+module _ (laws : OutcomeTheorems) where
   same_parts : (bytes : List ℕ) (x y : Parts) → length bytes < 2 ^ 64 → IsSpelled bytes x → IsSpelled bytes y → x ≡ y
   same_parts bytes x y short s t = laws.one_controller bytes s.0 t.0 x y short s.1 t.1
 

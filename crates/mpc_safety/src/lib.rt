@@ -2,12 +2,12 @@
 #![tactic(auto)]
 
 mod answers;
-mod laws;
 mod safety;
+mod theorems;
 
 pub use answers::{Safety, SafetyError};
-pub use laws::{one_safety_answer, safe_stays_right};
 pub use mpc_check::Spot;
 pub use mpc_file::FileKind;
 pub use mpc_recur::{Next, Target};
 pub use safety::safe_file;
+pub use theorems::{one_safety_answer, safe_stays_right};

@@ -5,7 +5,7 @@ ghost use Rattle.mpc_check.specs.Acceptance.{Accepts};
 ghost use Rattle.mpc_safety.specs.SafetyAnswers.{IsSafety, IsSafetyCause, IsAnswerToFile, IsFileCause};
 
 use crate::answers::{Safety, SafetyError};
-use crate::laws::safe_stays_right;
+use crate::theorems::safe_stays_right;
 use mpc_check::{Answer, CheckError, check};
 use mpc_controller::Controller;
 use mpc_file::read_file;

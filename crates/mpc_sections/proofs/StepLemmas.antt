@@ -21,7 +21,7 @@ use Rattle.mpc_claim.specs.declared.events.Tag.TheVariants.{Wide as WideTag}
 use Rattle.mpc_claim.specs.declared.events.Phase.TheVariants.{Finished, Stopped}
 use Rattle.mpc_claim.specs.Board.{Board, event, tag_of, is_wide}
 use Rattle.mpc_claim.specs.History.{IsLegal, IsFinished, EndsWide}
-use Rattle.mpc_claim.specs.HistoryLaws.{LegalLaws}
+use Rattle.mpc_claim.specs.HistoryTheorems.{LegalTheorems}
 use Rattle.mpc_workers.specs.Seats.{IsWorker, IsDone}
 use Rattle.mpc_synthesis.specs.Programs.{IsDecided, IsDecidedBy}
 use Rattle.mpc_status.specs.declared.status.Status.{Status}
@@ -42,7 +42,7 @@ not_wide_by Hollow tag e n = refl
 not_wide_by (Region law) tag e n = refl
 not_wide_by (Wide place) tag e n = absurd (n (sym e))
 
-decided_of : LegalLaws → (qp : Qp) (history : List Event) → IsLegal qp history → IsFinished qp history → IsDecided qp
+decided_of : LegalTheorems → (qp : Qp) (history : List Event) → IsLegal qp history → IsFinished qp history → IsDecided qp
 decided_of laws qp history legal finished s candidate =
     let settled = finished.settled s candidate in
     let d = settled.done.delivery in
@@ -62,7 +62,7 @@ finished_by workers qp board done phase = by done.ended
 
 -- A pool of so many workers is one of more, of whom some have nothing to do. Of a single worker more is known than that no other has a set, and
 -- the fleet's worker needn't deliver right after its claim.
-pub decided_by : LegalLaws → (plant : Plant) (board : Board) → IsExamined plant board → board.phase ≡ Finished → (workers : ℕ) × IsDecidedBy workers plant board
+pub decided_by : LegalTheorems → (plant : Plant) (board : Board) → IsExamined plant board → board.phase ≡ Finished → (workers : ℕ) × IsDecidedBy workers plant board
 decided_by laws plant board x phase =
     let finished = finished_by x.workers x.qp board x.done phase in (
       x.workers + 2,

@@ -13,7 +13,7 @@ ghost use Rattle.mpc_status.specs.StatusText.{line_of};
 ghost use Rattle.mpc_sections.specs.Alone.{IsPlantAnswer, heading};
 ghost use Rattle.mpc_sections.specs.Steps.{IsExamined};
 
-use mpc_claim::{Phase, Registry, legal_laws};
+use mpc_claim::{Phase, Registry, legal_theorems};
 use mpc_controller::Controller;
 use mpc_file::write_file;
 use mpc_frac::NoMemory;
@@ -78,7 +78,7 @@ fn controller_from<T: Threads + Sync>(
     ensures controller { IfOk result (λ parts. (qp : Qp) × IsController plant qp parts) }
     ensures refused { IfErr result (ExplainsSynthesisError controller plant) }
 {
-    legal_laws();
+    legal_theorems();
     match wide_place(&registry) {
         Some(place) => Err(SynthesisError::TooWide(place)),
         None => controller_of_in_threads(rt, alloc, plant, registry),

@@ -5,9 +5,9 @@ mod answers;
 mod beginnings;
 mod errors;
 mod fleet_answers;
-mod laws;
 mod sections;
+mod theorems;
 
 pub use errors::SectionsError;
 pub use fleet_answers::fleet;
-pub use laws::one_answer;
+pub use theorems::one_answer;

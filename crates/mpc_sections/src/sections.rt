@@ -3,7 +3,7 @@
 ghost use Rattle.std.specs.Prelude.{◌≡◌, ◌<◌, ◌≤◌, [], ◌∷◌, MatchOption, MatchBool, IfSome, length};
 ghost use Rattle.mpc_sections.specs.Sections.{sections_of};
 
-use mpc_words::{cut_at_line, whole_line_laws};
+use mpc_words::{cut_at_line, whole_line_theorems};
 
 /// The most plants of an input.
 pub(crate) const MOST_PLANTS: usize = 8;
@@ -14,7 +14,7 @@ pub(crate) fn split_section(text: &[u8]) -> (&[u8], Option<&[u8]>)
         (λ behind. sections_of text.now ≡ result.0.now ∷ sections_of behind.now) }
     ensures shorter { IfSome result.1 (λ behind. length behind.now < length text.now) }
 {
-    whole_line_laws();
+    whole_line_theorems();
     cut_at_line(text, b"next".as_slice())
 }
 

@@ -1,12 +1,12 @@
 -- The laws of sets of rows.
-use Rattle.mpc_sets.specs.SetLaws.{MemberLaws, OrderLaws, CountLaws, GivenWithoutOne}
+use Rattle.mpc_sets.specs.SetTheorems.{MemberTheorems, OrderTheorems, CountTheorems, GivenWithoutOne}
 use Rattle.mpc_sets.proofs.RowSets.{Contains-from_among, Among-from_contains, Among_at, Among_within, rises_last, with_row-last, length-without_row}
 use Rattle.mpc_sets.proofs.SetOrders.{IsBefore-irrefl, IsBefore-trans, IsBefore-cases, shorter_before, before_size}
 use Rattle.mpc_sets.proofs.Counting.{length-sets-of_forty, length-sets-of_four, length-sets-of_sixty}
 use Rattle.mpc_sets.proofs.Joining.{next_without, lacks_row}
 
-pub member_laws : MemberLaws
-member_laws = record {
+pub member_theorems : MemberTheorems
+member_theorems = record {
   contained = Contains-from_among;
   among = Among-from_contains;
   in_place = Among_at;
@@ -17,11 +17,11 @@ member_laws = record {
   lacks_one = λ rows row s h a. lacks_row rows s row h a;
 }
 
-pub order_laws : OrderLaws
-order_laws = record { irreflexive = IsBefore-irrefl; transitive = IsBefore-trans; total = IsBefore-cases; fewer_first = shorter_before; first_not_larger = before_size }
+pub order_theorems : OrderTheorems
+order_theorems = record { irreflexive = IsBefore-irrefl; transitive = IsBefore-trans; total = IsBefore-cases; fewer_first = shorter_before; first_not_larger = before_size }
 
-pub count_laws : CountLaws
-count_laws = record { six_of_forty = length-sets-of_forty; four_of_sixty = length-sets-of_four; six_of_sixty = length-sets-of_sixty }
+pub count_theorems : CountTheorems
+count_theorems = record { six_of_forty = length-sets-of_forty; four_of_sixty = length-sets-of_four; six_of_sixty = length-sets-of_sixty }
 
 pub given_without_one : GivenWithoutOne
 given_without_one grown rows row s n a = next_without grown rows s row n a

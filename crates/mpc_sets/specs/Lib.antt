@@ -3,4 +3,4 @@ pub mod SetOrder
 pub mod SetMask
 pub mod NextLevel
 pub mod SetText
-pub mod SetLaws
+pub mod SetTheorems

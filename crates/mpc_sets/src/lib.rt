@@ -11,13 +11,13 @@ ghost use Rattle.mpc_sets.specs.SetText.{set_text};
 ghost use Rattle.mpc_sets.specs.SetOrder.{IsInOrder};
 ghost use Rattle.mpc_sets.specs.NextLevel.{IsOfOneSize, IsLevel, IsNextOf, IsSingle, AllOneLarger, ExtendsOneOf, HoldsNext};
 
-mod laws;
+mod theorems;
 
-pub use laws::{count_laws, level_law, member_laws, order_laws};
 use mpc_frac::NoMemory;
 use std::alloc::Global;
 use std::cmp::Ordering;
 use std::marker::Model;
+pub use theorems::{count_theorems, level_theorem, member_theorems, order_theorems};
 
 /// The greatest row number that a set can hold.
 pub const LAST_ROW: u32 = 60;

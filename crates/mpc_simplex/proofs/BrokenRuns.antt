@@ -5,7 +5,7 @@ use Rattle.mpc_linear.specs.declared.integers.RowInt.{RowInt}
 use Rattle.mpc_rows.specs.LawRows.{broken_row}
 use Rattle.mpc_rows.specs.LinearSystem.{LinearSystem}
 use Rattle.mpc_rows.specs.Refutation.{Refutes}
-use Rattle.mpc_rows.specs.SystemLaws.{SystemLaws}
+use Rattle.mpc_rows.specs.SystemTheorems.{SystemTheorems}
 use Rattle.mpc_beginnings.specs.Beginnings.{lengthened}
 use Rattle.mpc_beginnings.specs.Broken.{IsBroken}
 use Rattle.mpc_beginnings.specs.declared.kept.Broken.{Broken}
@@ -15,7 +15,7 @@ use Rattle.mpc_simplex.proofs.Decided.{ended-refuted, ended-no_point}
 use Rattle.mpc_simplex.proofs.KeptWidths.{AreWide, same_widths, broken_width}
 use Rattle.mpc_simplex.proofs.LastTurn.{has_point_there}
 
-module _ (laws : SystemLaws) (s t : LinearSystem) (view : s ≡ t) (w : AreWide s) (row : RowInt) (size : length row.a ≡ t.width) (found : Option Broken) (ends : IfSome found (IsBroken (lengthened s (broken_row row ∷ [])))) where
+module _ (laws : SystemTheorems) (s t : LinearSystem) (view : s ≡ t) (w : AreWide s) (row : RowInt) (size : length row.a ≡ t.width) (found : Option Broken) (ends : IfSome found (IsBroken (lengthened s (broken_row row ∷ [])))) where
   longer : LinearSystem
   longer = lengthened s (broken_row row ∷ [])
 

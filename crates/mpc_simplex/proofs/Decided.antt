@@ -4,7 +4,7 @@ use Rattle.mpc_exact.specs.Rational.{ℚ}
 use Rattle.mpc_rows.specs.declared.systems.Row.{Row}
 use Rattle.mpc_rows.specs.LinearSystem.{LinearSystem, HasWidth, IsPairPoint}
 use Rattle.mpc_rows.specs.Refutation.{Refutes}
-use Rattle.mpc_rows.specs.SystemLaws.{SystemLaws}
+use Rattle.mpc_rows.specs.SystemTheorems.{SystemTheorems}
 use Rattle.mpc_rows.specs.Run.{value, multiplier, last_position}
 use Rattle.mpc_simplex.specs.Answer.{IfPoint, IfRefuted, HasPoint, EndsWithPoint, EndsRefuted, IsRunEnd}
 use Rattle.mpc_simplex.specs.declared.Decision.{Decision}
@@ -15,7 +15,7 @@ use Rattle.mpc_simplex.proofs.EndRight.{EndIs, end_right}
 abbrev pub seen : ℕ → List Row → LinearSystem
 seen width rows = record { width = width; rows = rows }
 
-module _ (laws : SystemLaws) (s : LinearSystem) (w : HasWidth s.width s.rows) where
+module _ (laws : SystemTheorems) (s : LinearSystem) (w : HasWidth s.width s.rows) where
   pub ended-point : (v : List (ℚ × ℚ)) → EndsWithPoint s v → IsPairPoint s v
   ended-point v h = laws.pair_point_from s w v (value s (last_position s)) h.values.size h.values.at (subst (EndIs s) h.ends (end_right s))
 
@@ -41,7 +41,7 @@ module _ (laws : SystemLaws) (s : LinearSystem) (w : HasWidth s.width s.rows) wh
   if_no_point (Point v) h = tt
   if_no_point (Refuted m) h = ended-no_point m h
 
-module _ (laws : SystemLaws) (s : LinearSystem) (width : ℕ) (inside : List Row) (view : seen width inside ≡ s) (w : HasWidth width inside) where
+module _ (laws : SystemTheorems) (s : LinearSystem) (width : ℕ) (inside : List Row) (view : seen width inside ≡ s) (w : HasWidth width inside) where
   has_width : HasWidth s.width s.rows
   has_width = subst (λ (z : LinearSystem). HasWidth z.width z.rows) view w
 

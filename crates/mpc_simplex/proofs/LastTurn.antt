@@ -7,7 +7,7 @@ use Rattle.mpc_exact.specs.Rational.{ℚ}
 use Rattle.mpc_space.specs.Vector.{listed}
 use Rattle.mpc_space.proofs.Entries.{coordinate-listed, length-listed}
 use Rattle.mpc_rows.specs.LinearSystem.{LinearSystem, HasWidth, height}
-use Rattle.mpc_rows.specs.SystemLaws.{SystemLaws}
+use Rattle.mpc_rows.specs.SystemTheorems.{SystemTheorems}
 use Rattle.mpc_rows.specs.Run.{has_point, value, multiplier, turn, last_position}
 use Rattle.mpc_beginnings.specs.Kept.{IsRefuted}
 use Rattle.mpc_simplex.specs.Answer.{HasPoint, IsValues, IsMultipliers}
@@ -34,7 +34,7 @@ module _ (s : LinearSystem) where
   are_multipliers : (row : ℕ) → IsMultipliers s (last_position s) row (listed (height s) (multiplier s (last_position s) row))
   are_multipliers row = record { size = length-listed (height s) (multiplier s (last_position s) row); at = coordinate-listed (height s) (multiplier s (last_position s) row) }
 
-  module _ (laws : SystemLaws) (w : HasWidth s.width s.rows) where
+  module _ (laws : SystemTheorems) (w : HasWidth s.width s.rows) where
     pub has_point_there : turn s (last_position s) ≡ has_point → HasPoint s
     has_point_there h = laws.point_of_pairs s pairs (ended-point laws s w pairs (record { ends = h; values = are_values }))
 

@@ -5,7 +5,7 @@ use Rattle.mpc_exact.specs.Rational.{ℚ, int, ◌+ℚ◌, ◌*ℚ◌}
 use Rattle.mpc_exact.proofs.RationalRing.{reads, by_ring}
 use Rattle.mpc_space.specs.Total.{total}
 use Rattle.mpc_space.proofs.Total.{total-split, total-zeros}
-use Rattle.mpc_linear.specs.ZeroLaws.{ZeroLaws}
+use Rattle.mpc_linear.specs.ZeroTheorems.{ZeroTheorems}
 use Rattle.mpc_rows.specs.LinearSystem.{LinearSystem}
 use Rattle.mpc_rows.specs.Run.{Position, IsTableau, rest}
 use Rattle.mpc_rows.specs.RunWidth.{TermFits}
@@ -52,7 +52,7 @@ module _ (s : LinearSystem) (n : ℕ) (seats : List Seat) (sides : List ℕ) (a 
   pub second_start : s.width ≤ n → int (pos 0) ≡ total (reached n sides 0) (second_terms s p x)
   second_start l = second_unknowns s p x s.width (omega arith) ∙ to_start (λ y. (rest s y).second) l
 
-  pub fits_start : ZeroLaws → (z : ℕ) → z < reached n sides 0 → p.is_basic z ≡ false → TermFits s p x z
+  pub fits_start : ZeroTheorems → (z : ℕ) → z < reached n sides 0 → p.is_basic z ≡ false → TermFits s p x z
   fits_start laws z b f = by (cases_lt z s.width)
     where
       by : (z < s.width) ⊎ (s.width ≤ z) → TermFits s p x z

@@ -5,12 +5,12 @@ use Rattle.mpc_exact.specs.Rational.{quotient, ℚ, int, frac_self, ◌*ℚ◌, 
 use Rattle.mpc_exact.proofs.Rational.{numer_zero, *ℚ_inv}
 use Rattle.mpc_exact.proofs.RationalRing.{reads, by_ring}
 use Rattle.mpc_exact.proofs.RationalOrder.{≤ℚ_antisymm, <ℚ_irrefl}
-use Rattle.mpc_exact.proofs.OrderLaws.{inv_unique, le_ℚ-true, le_ℚ-false}
+use Rattle.mpc_exact.proofs.OrderTheorems.{inv_unique, le_ℚ-true, le_ℚ-false}
 use Rattle.mpc_exact.proofs.School.{frac_times, int_not_zero}
 use Rattle.mpc_frac.specs.Fits.{FitsFrac}
 use Rattle.mpc_frac.specs.declared.FracError.{FracError}
 use Rattle.mpc_frac.specs.declared.FracError.TheVariants.{ZeroDenominator, Wide}
-use Rattle.mpc_frac.specs.FitLaws.{FitLaws}
+use Rattle.mpc_frac.specs.FitTheorems.{FitTheorems}
 use Rattle.mpc_rows.specs.Run.{is_zero}
 
 module _ (x : ℚ) (some : x ≢ int (pos 0)) where
@@ -28,7 +28,7 @@ module _ (x : ℚ) (some : x ≢ int (pos 0)) where
       regroup : (x d n i : ℚ) → d *ℚ x ≡ n → n *ℚ i ≡ int (pos 1) → x *ℚ (d *ℚ i) ≡ int (pos 1)
       regroup x d n i e f = by_ring (x ∷ d ∷ i ∷ []) (search reads depth 30) (search reads depth 30) tt ∙ ap (λ u. u *ℚ i) e ∙ f
 
-  pub turned_fits : FitLaws → FitsFrac x → FitsFrac (quotient (pos x.denom) x.numer)
+  pub turned_fits : FitTheorems → FitsFrac x → FitsFrac (quotient (pos x.denom) x.numer)
   turned_fits laws h = subst (λ (z : ℚ). FitsFrac z) (sym turned_is) (laws.inverse x some h)
 
   module _ (n d : ℤ) (en : n ≡ x.numer) (ed : d ≡ pos x.denom) where
@@ -36,7 +36,7 @@ module _ (x : ℚ) (some : x ≢ int (pos 0)) where
     made_is = (λ i. quotient (ed i) (en i)) ∙ turned_is
 
     -- so neither error comes
-    pub made_always : FitLaws → FitsFrac x → (r : Result ℚ FracError) → ((r ≡ Err ZeroDenominator) ↔ (n ≡ pos 0)) → ((r ≡ Err Wide) ↔ ((n ≢ pos 0) × (¬ FitsFrac (quotient d n)))) → (e : FracError) → r ≡ Err e → ⊥
+    pub made_always : FitTheorems → FitsFrac x → (r : Result ℚ FracError) → ((r ≡ Err ZeroDenominator) ↔ (n ≡ pos 0)) → ((r ≡ Err Wide) ↔ ((n ≢ pos 0) × (¬ FitsFrac (quotient d n)))) → (e : FracError) → r ≡ Err e → ⊥
     made_always laws h r zero wide ZeroDenominator e = numer_some (sym en ∙ zero.0 e)
     made_always laws h r zero wide Wide e = (wide.0 e).1 (subst (λ (z : ℚ). FitsFrac z) (sym (λ i. quotient (ed i) (en i))) (turned_fits laws h))
 

@@ -1,4 +1,4 @@
 pub mod Answer
 pub mod Nonbasic
-pub mod RunLaws
+pub mod RunTheorems
 pub mod Broken

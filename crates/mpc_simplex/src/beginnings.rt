@@ -14,7 +14,7 @@ use crate::Decision;
 use mpc_beginnings::{Broken as KeptBroken, KeptRun, Workspace};
 use mpc_frac::NoMemory;
 use mpc_linear::RowInt;
-use mpc_rows::{Multipliers, Row, System, system_laws};
+use mpc_rows::{Multipliers, Row, System, system_theorems};
 use mpc_whole::{End, WholeSystem};
 use std::alloc::Global;
 use std::marker::Model;
@@ -105,7 +105,7 @@ impl Beginning {
         ensures answer { IfOk result (λ o. IfSome o (λ yes. IsTrue yes ↔ HasPoint (lengthened self.now (turned (row_at self.now i) ∷ [])))) }
         ensures fits { IfOk result (λ o. IfSome o (λ _. RunFits (lengthened self.now (turned (row_at self.now i) ∷ [])))) }
     {
-        system_laws();
+        system_theorems();
         let answer = self.run.meets_turned(alloc, work, i)?;
         Ok(answer)
     }
@@ -115,7 +115,7 @@ impl Beginning {
         ensures answer { IsTrue result ↔ HasPoint self.now }
         ensures fits { RunFits self.now }
     {
-        system_laws();
+        system_theorems();
         self.run.has_point()
     }
 
@@ -129,7 +129,7 @@ impl Beginning {
         ensures end { IfOk result (λ o. IfSome o (IsRunEnd self.now)) }
         ensures fits { RunFits self.now }
     {
-        system_laws();
+        system_theorems();
         let _ = self.run.has_point();
         let mut work = Workspace::new(alloc);
         match self.run.end(alloc, &mut work)? {
@@ -151,7 +151,7 @@ impl Beginning {
         ensures answer { IfOk result (λ o. IfSome o (λ yes. IsTrue yes ↔ HasPoint (lengthened self.now rows.now.rows))) }
         ensures fits { IfOk result (λ o. IfSome o (λ _. RunFits (lengthened self.now rows.now.rows))) }
     {
-        system_laws();
+        system_theorems();
         rows.has_width();
         let answer = self.run.meets(alloc, work, rows)?;
         Ok(answer)
@@ -175,7 +175,7 @@ impl Beginning {
         ensures end { IfOk result (λ o. IfSome o (λ b. IfUnbroken b (EndsRefuted (lengthened self.now (broken_row row.now ∷ []))))) }
         ensures fits { IfOk result (λ o. IfSome o (λ _. RunFits (lengthened self.now (broken_row row.now ∷ [])))) }
     {
-        system_laws();
+        system_theorems();
         match self.run.breaks(alloc, work, row)? {
             Some(KeptBroken::Point(run)) => Ok(Some(Broken::Point(Beginning { run }))),
             Some(KeptBroken::Refuted(multipliers)) => Ok(Some(Broken::Refuted(multipliers))),

@@ -8,19 +8,19 @@ ghost use Rattle.mpc_rows.specs.RunWidth.{RunFits};
 ghost use Rattle.mpc_simplex.specs.Answer.{IfPoint, IfRefuted, IfWide, HasPoint, IsRunEnd};
 
 mod beginnings;
-mod laws;
 mod nonbasic;
 mod numbers;
 mod run;
 mod sides;
 mod tableau;
+mod theorems;
 
 pub use beginnings::{Beginning, Broken};
-pub use laws::{run_laws, zero_test};
 pub use mpc_beginnings::Workspace;
-use mpc_rows::{Multipliers, PairPoint, System, system_laws};
+use mpc_rows::{Multipliers, PairPoint, System, system_theorems};
 use run::run_end;
 use std::alloc::Global;
+pub use theorems::{run_theorems, zero_test};
 use thiserror::Error;
 
 /// What a system is found to have.
@@ -60,6 +60,6 @@ pub fn decide(alloc: Global, system: &System) -> Result<Decision, SimplexError>
     ensures wide { MatchResult result (λ _. RunFits system.now) (λ e. IfWide e (¬ RunFits system.now)) }
 {
     let _ = &system.rows;
-    system_laws();
+    system_theorems();
     run_end(alloc, system)
 }

@@ -5,7 +5,7 @@ ghost use Rattle.mpc_exact.specs.Rational.{int, inv_ℚ, lt_ℚ, le_ℚ};
 ghost use Rattle.mpc_exact.specs.Pair.{is_below};
 ghost use Rattle.mpc_rows.specs.Run.{is_zero};
 
-use mpc_frac::{Frac, fit_laws};
+use mpc_frac::{Frac, fit_theorems};
 use mpc_whole::{Standing, zero};
 
 fn is_less(x: &Frac, y: &Frac) -> bool
@@ -37,7 +37,7 @@ pub(crate) fn inverse(x: &Frac) -> Frac
     requires { x.now ≢ int (pos 0) }
     ensures { result ≡ inv_ℚ x.now }
 {
-    fit_laws();
+    fit_theorems();
     match Frac::new(x.den(), x.num()) {
         Ok(v) => v,
         Err(_) => unreachable!(),

@@ -17,7 +17,7 @@ use crate::tableau::{cell, exchange};
 use crate::{Decision, SimplexError};
 use mpc_beginnings::whole_end;
 use mpc_frac::{Frac, Wide};
-use mpc_linear::{add_product, zero_laws};
+use mpc_linear::{add_product, zero_theorems};
 use mpc_rows::{Multipliers, PairPoint, System};
 use mpc_whole::{
     End, Seat, Standing, column_of, is_basic, is_unknown, opening_seats, row_of, zero, zero_pairs,
@@ -65,7 +65,7 @@ fn value(
     ensures wide { MatchResult result (λ _. ValueFits system.now n (position_of system.now.width seats.now entries.now) x)
         (λ _. ¬ ValueFits system.now n (position_of system.now.width seats.now entries.now) x) }
 {
-    zero_laws();
+    zero_theorems();
     let mut first = zero();
     let mut second = zero();
     for side in sides {

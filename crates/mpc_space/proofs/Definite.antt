@@ -7,7 +7,7 @@ use Rattle.mpc_exact.specs.Rational.{ℚ, int, ◌<ℚ◌, ◌+ℚ◌, ◌-ℚ�
 use Rattle.mpc_exact.proofs.Rational.{*ℚ_inv}
 use Rattle.mpc_exact.proofs.RationalRing.{reads, by_ring, by_equation}
 use Rattle.mpc_exact.proofs.RationalOrder.{nonneg-mul, nonneg_square, positive-mul, ≤ℚ_of_<}
-use Rattle.mpc_exact.proofs.OrderLaws.{positive_square, positive-add_right, positive-not_zero, one-not_zero}
+use Rattle.mpc_exact.proofs.OrderTheorems.{positive_square, positive-add_right, positive-not_zero, one-not_zero}
 use Rattle.mpc_space.specs.Vector.{coordinate, cell, zeros, dot, vec_scale, mat_vec, first_column, IsSymmetric, IsZero, quadratic, mat_add, outer, bordered, later_entries}
 use Rattle.mpc_space.specs.Definite.{IsDefinite, schur}
 use Rattle.mpc_space.proofs.Entries.{dot-zero, zeros_zero, zero_or_not, coordinate-add, coordinate-scale}

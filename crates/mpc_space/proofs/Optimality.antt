@@ -4,7 +4,7 @@ use Rattle.std.proofs.Common.{◌≡◌, ◌≢◌, List, [], ◌∷◌, length,
 use Rattle.mpc_exact.specs.Rational.{ℚ, int, ◌+ℚ◌, ◌-ℚ◌, ◌*ℚ◌, ◌≤ℚ◌, ◌<ℚ◌, IsNonneg}
 use Rattle.mpc_exact.proofs.Rational.{+ℚ_comm}
 use Rattle.mpc_exact.proofs.RationalRing.{reads, by_ring, by_equations}
-use Rattle.mpc_exact.proofs.OrderLaws.{positive-not_zero}
+use Rattle.mpc_exact.proofs.OrderTheorems.{positive-not_zero}
 use Rattle.mpc_exact.proofs.Linear.{linear_le, linear_lt, claims, none, le, lt, eq}
 use Rattle.mpc_space.specs.Vector.{dot, vec_add, vec_sub, mat_vec, vec_mat, IsSymmetric, AllAtMost, IsZero, IsIndependent, quadratic}
 use Rattle.mpc_space.specs.Definite.{IsDefinite}

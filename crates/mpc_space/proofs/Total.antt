@@ -4,7 +4,7 @@ use Rattle.std.proofs.lemmas.Bool.{cond-true, cond-false, cases_eq}
 use Rattle.mpc_exact.specs.Rational.{ℚ, int, ◌+ℚ◌, ◌-ℚ◌, ◌*ℚ◌, ◌≤ℚ◌, IsNonneg, IsPositive}
 use Rattle.mpc_exact.proofs.RationalRing.{reads, by_ring}
 use Rattle.mpc_exact.proofs.RationalOrder.{nonneg_int, nonneg-add, positive-add, +ℚ-≤ℚ, ≤ℚ_refl}
-use Rattle.mpc_exact.proofs.OrderLaws.{positive-add_right}
+use Rattle.mpc_exact.proofs.OrderTheorems.{positive-add_right}
 use Rattle.mpc_exact.proofs.Pair.{IsPairPositive, IsPairNonneg, pair_nonneg_of_zero, pair_nonneg_add, pair_positive_add, pair_positive_last}
 use Rattle.mpc_space.specs.Total.{total, unit}
 

@@ -4,7 +4,7 @@ use Rattle.mpc_exact.specs.Rational.{ℚ, int, ◌+ℚ◌, ◌-ℚ◌, ◌*ℚ�
 use Rattle.mpc_exact.proofs.Rational.{*ℚ_comm, +ℚ_comm, +ℚ_assoc, +ℚ_zero, *ℚ_assoc, *ℚ-+ℚ}
 use Rattle.mpc_exact.proofs.RationalRing.{reads, by_ring}
 use Rattle.mpc_exact.proofs.RationalOrder.{nonneg_int, nonneg-add, nonneg-mul, nonneg_square, positive-add, gap, by_le}
-use Rattle.mpc_exact.proofs.OrderLaws.{positive_square, positive-add_right}
+use Rattle.mpc_exact.proofs.OrderTheorems.{positive_square, positive-add_right}
 use Rattle.mpc_exact.proofs.RationalField.{ℚ_discrete}
 use Rattle.mpc_space.specs.Vector.{zeros, dot, vec_add, vec_scale, vec_sub, IsZero, AllNonneg, AllAtMost}
 

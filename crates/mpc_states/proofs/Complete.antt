@@ -7,7 +7,7 @@ use Rattle.mpc_tight.specs.Tightening.{IsWideRow}
 use Rattle.mpc_states.specs.NoisePart.{plant_part, noise_part, noise_from}
 use Rattle.mpc_convex.specs.Outcomes.{ProgramOutcome, not_definite, too_wide, convex, IsProgramOutcome}
 use Rattle.mpc_states.specs.Outcomes.{bad_plant, of_program, bad_robust_plant, bad_noise, of_robust_program, wide_row, robust_replies, WithNoise, WithProgram}
-use Rattle.mpc_states.specs.StateLaws.{NothingRefused, SolveIsComplete, RobustIsComplete}
+use Rattle.mpc_states.specs.StateTheorems.{NothingRefused, SolveIsComplete, RobustIsComplete}
 use Rattle.mpc_states.proofs.OneOutcomes.{same_plant, no_file}
 
 program_convex : (text : List ℕ) (plant : Plant) (o : ProgramOutcome) → NothingRefused text plant → IsProgramOutcome plant o → o ≡ convex

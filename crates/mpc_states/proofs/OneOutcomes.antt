@@ -8,7 +8,7 @@ use Rattle.mpc_plant.specs.Readings.{stated, faulty, OneReading}
 use Rattle.mpc_rows.specs.declared.programs.Qp.{Qp}
 use Rattle.mpc_condense.specs.BestReplies.{OneProgram}
 use Rattle.mpc_tight.specs.Tightening.{IsWideRow}
-use Rattle.mpc_tight.specs.TightLaws.{OneWideRow, NoWideRow}
+use Rattle.mpc_tight.specs.TightTheorems.{OneWideRow, NoWideRow}
 use Rattle.mpc_replies.specs.Cut.{head_of}
 use Rattle.mpc_states.specs.NoisePart.{plant_part, noise_part, noise_from}
 use Rattle.mpc_convex.specs.Convex.{IsConvexProgram}

@@ -5,9 +5,9 @@ use Rattle.mpc_plant.specs.Trajectory.{IsSequence, IsAdmissible, cost}
 use Rattle.mpc_plant.specs.Reply.{move, infeasible}
 use Rattle.mpc_rows.specs.ActiveSets.{extended, MeetsRows}
 use Rattle.mpc_condense.specs.Condensed.{stacked, program_cost}
-use Rattle.mpc_condense.specs.ProgramLaws.{SameSequences}
+use Rattle.mpc_condense.specs.ProgramTheorems.{SameSequences}
 use Rattle.mpc_tight.specs.Disturbed.{IsRobustlyAdmissible}
-use Rattle.mpc_states.specs.StateLaws.{ProgramIsRight, RobustProgramIsRight}
+use Rattle.mpc_states.specs.StateTheorems.{ProgramIsRight, RobustProgramIsRight}
 use Rattle.mpc_states.proofs.Replies.{point_length, no_sequence, sequence, is_sequence, is_admissible, dearer_sequence, first_move}
 
 module _ (laws : SameSequences) where

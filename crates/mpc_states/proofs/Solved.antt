@@ -16,7 +16,7 @@ use Rattle.mpc_tight.specs.Tightened.{IsTightened, IsRobustProgram}
 use Rattle.mpc_replies.specs.Cut.{head_of, tail_of}
 use Rattle.mpc_states.specs.NoisePart.{plant_part, noise_part, noise_from}
 use Rattle.mpc_states.specs.StateLines.{IsOf, AreStateLines}
-use Rattle.mpc_states.specs.StateLaws.{ProgramIsRight, RobustProgramIsRight}
+use Rattle.mpc_states.specs.StateTheorems.{ProgramIsRight, RobustProgramIsRight}
 use Rattle.mpc_convex.specs.Convex.{IsConvexProgram}
 use Rattle.mpc_convex.specs.Refusals.{IsNotDefiniteAt, IsFirstWidePlace}
 use Rattle.mpc_convex.specs.Outcomes.{not_definite, too_wide, convex, IsProgramOutcome}

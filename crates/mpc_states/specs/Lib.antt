@@ -2,4 +2,4 @@ pub mod NoisePart
 pub mod StateLines
 pub mod Outcomes
 pub mod Inputs
-pub mod StateLaws
+pub mod StateTheorems

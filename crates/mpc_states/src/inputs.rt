@@ -8,8 +8,8 @@ ghost use Rattle.mpc_states.specs.Outcomes.{of_program, IsSolveOutcome, robust_r
 ghost use Rattle.mpc_states.specs.Inputs.{IsSolvedFor, IsSolved, IsSolveCauseFor, IsSolveCause, IsRobustlySolvedFor, IsRobustlySolved, IsRobustCauseFor, IsRobustCause};
 
 use crate::errors::{RobustError, SolveError};
-use crate::laws::right_programs;
 use crate::lines::state_lines;
+use crate::theorems::right_programs;
 use mpc_convex::{ProgramError, convex_program};
 use mpc_linear::Vector;
 use mpc_plant::{Plant, PlantError, read_plant};

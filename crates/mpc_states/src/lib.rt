@@ -4,9 +4,9 @@
 
 mod errors;
 mod inputs;
-mod laws;
 mod lines;
+mod theorems;
 
 pub use errors::{RobustError, SolveError};
 pub use inputs::{robust_input, solve_input};
-pub use laws::{complete_inputs, one_outcome, right_programs};
+pub use theorems::{complete_inputs, one_outcome, right_programs};

@@ -15,7 +15,7 @@ ghost use Rattle.mpc_states.specs.StateLines.{IsOf, AreStateLines, AddsLine, Add
 
 use itoa::Buffer;
 use mpc_frac::{Frac, NoMemory};
-use mpc_online::{Online, OnlineError, Prepared, prepare, run_laws, solve_prepared};
+use mpc_online::{Online, OnlineError, Prepared, prepare, run_theorems, solve_prepared};
 use mpc_replies::{first_line, read_counts};
 use mpc_rows::Qp;
 use std::alloc::Global;
@@ -90,7 +90,7 @@ fn add_state_line(
     requires in_box { IsInBox program.now.counts (point_of counts.now) }
     ensures { OnOk result (AddsStateLine (IsOf program.now inputs) program.now (point_of counts.now) text.old.items text.new.items) }
 {
-    run_laws();
+    run_theorems();
     match solve_prepared(alloc, program, prepared, counts) {
         Ok(Online::Best(moves)) => {
             let all = moves.as_slice();

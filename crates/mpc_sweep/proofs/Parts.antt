@@ -6,12 +6,12 @@ use Rattle.std.proofs.lemmas.List.{length-take-le}
 use Rattle.mpc_exact.specs.Rational.{int}
 use Rattle.mpc_space.specs.Matrix.{RationalMatrix, entry}
 use Rattle.mpc_linear.specs.Elimination.{Table, augmented, EndsDependent}
-use Rattle.mpc_linear.specs.EliminationLaws.{IsSquareSystem, IsReadOff, EliminationAnswers}
+use Rattle.mpc_linear.specs.EliminationTheorems.{IsSquareSystem, IsReadOff, EliminationAnswers}
 use Rattle.mpc_linear.specs.Solution.{IsAnswer, FitsTo, width}
 use Rattle.mpc_linear.specs.declared.elimination.Solved.TheVariants.{Unique, Dependent}
 use Rattle.mpc_bordered.specs.Fronts.{EntryFits}
 use Rattle.mpc_sweep.specs.Sweeps.{swept, pivot_at, before, HasPivots, AreRising, SweepsFit}
-use Rattle.mpc_sweep.specs.Laws.{IsPartOf, IsSolutionOf, AreRowsOf, PartIsSolved, PartIsDependent}
+use Rattle.mpc_sweep.specs.Theorems.{IsPartOf, IsSolutionOf, AreRowsOf, PartIsSolved, PartIsDependent}
 use Rattle.mpc_sweep.proofs.Sequence.{IsPartOfSweeps, agrees, columns_done, ends_dependent}
 use Rattle.mpc_sweep.proofs.Befores.{before-zero, before-suc, before-all, before_taken, pivot_taken}
 

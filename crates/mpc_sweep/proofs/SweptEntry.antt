@@ -8,7 +8,7 @@ use Rattle.mpc_frac.specs.Fits.{FitsFrac, FitsSum}
 use Rattle.mpc_linear.specs.Elimination.{Table, reduced}
 use Rattle.mpc_bordered.specs.Fronts.{EntryFits}
 use Rattle.mpc_whole.specs.Whole.{turned}
-use Rattle.mpc_whole.specs.OverLaws.{OverLaws}
+use Rattle.mpc_whole.specs.OverTheorems.{OverTheorems}
 use Rattle.mpc_sweep.proofs.Steps.{reduced-pivot, reduced-other}
 
 -- ---- sizes
@@ -55,7 +55,7 @@ over_some q m some h e = h (sym (one_last q) ∙ frac_same q m (pos 0) 1 some (l
 
 -- ---- the entries of a sweep
 -- row p has the numbers q and x over m, and row i the numbers k and v over n
-module _ (laws : OverLaws) (s : Table) (p i j : ℕ) (q x k v : ℤ) (m n : ℕ) (m_some : 0 < m) (n_some : 0 < n) (n_small : n ≤ 2 ^ 62) (q_some : q ≢ pos 0)
+module _ (laws : OverTheorems) (s : Table) (p i j : ℕ) (q x k v : ℤ) (m n : ℕ) (m_some : 0 < m) (n_some : 0 < n) (n_small : n ≤ 2 ^ 62) (q_some : q ≢ pos 0)
     (q_small : unsigned_abs q ≤ 2 ^ 62) (x_small : unsigned_abs x ≤ 2 ^ 62) (k_small : unsigned_abs k ≤ 2 ^ 62) (v_small : unsigned_abs v ≤ 2 ^ 62)
     (pp : s p p ≡ frac q m) (pj : s p j ≡ frac x m) (ip : s i p ≡ frac k n) (ij : s i j ≡ frac v n) where
   abbrev size : ℕ

@@ -7,7 +7,7 @@ use Rattle.mpc_exact.specs.Rational.{frac, int}
 use Rattle.mpc_linear.specs.Elimination.{Table, reduced}
 use Rattle.mpc_bordered.specs.Fronts.{EntryFits}
 use Rattle.mpc_whole.specs.Whole.{whole_at, whole_cell}
-use Rattle.mpc_whole.specs.OverLaws.{OverLaws}
+use Rattle.mpc_whole.specs.OverTheorems.{OverTheorems}
 use Rattle.mpc_sweep.specs.declared.numbers.Swept.{Swept}
 use Rattle.mpc_sweep.specs.Sweeps.{swept, pivot_at, before, HasPivots, AreRising, SweepsFit}
 use Rattle.mpc_sweep.specs.Numbers.{scale_of, den_of, told_columns, number, IsTable, IsWholeTable, IsSwept}
@@ -48,7 +48,7 @@ pub record IsOnce (from out : Swept) (p first : ℕ) : Type 0 where
   pub within : first ≤ from.columns
   pub room : unsigned_abs (number from p p) * from.most_scale ≤ 2 ^ 62
 
-module _ (laws : OverLaws) (from out : Swept) (p first : ℕ) (o : IsTable from) (r : p < from.rows) (c : p < from.columns) (pivot : number from p p ≢ pos 0) (w : IsOnce from out p first) where
+module _ (laws : OverTheorems) (from out : Swept) (p first : ℕ) (o : IsTable from) (r : p < from.rows) (c : p < from.columns) (pivot : number from p p ≢ pos 0) (w : IsOnce from out p first) where
   abbrev size : ℕ
   size = unsigned_abs (number from p p)
 

@@ -6,7 +6,7 @@ use Rattle.mpc_space.specs.Total.{total}
 use Rattle.mpc_space.proofs.Total.{total-zero, total-suc, total-same, total-add, total-scale}
 use Rattle.mpc_linear.specs.Elimination.{Table, reduced}
 use Rattle.mpc_sweep.specs.Sweeps.{swept, pivot_at, before}
-use Rattle.mpc_sweep.specs.Laws.{RowIsReduced}
+use Rattle.mpc_sweep.specs.Theorems.{RowIsReduced}
 use Rattle.mpc_sweep.proofs.Steps.{reduced-pivot, reduced-other}
 use Rattle.mpc_sweep.proofs.Sequence.{AreSweeps}
 use Rattle.mpc_sweep.proofs.Befores.{before-suc, before-all}

@@ -2,4 +2,4 @@ pub mod Sweeps
 pub mod Numbers
 pub mod Steps
 pub mod Systems
-pub mod Laws
+pub mod Theorems

@@ -2,12 +2,12 @@
 //! sweep leaves serves every system that has its rows and more.
 #![tactic(auto)]
 
-mod laws;
 mod numbers;
 mod reading;
 mod rows;
 #[cfg(test)]
 mod tests;
+mod theorems;
 
-pub use laws::sweep_laws;
 pub use numbers::Swept;
+pub use theorems::sweep_theorems;

@@ -8,7 +8,7 @@ ghost use Rattle.mpc_sweep.specs.Steps.{IsNumber, IsChanged, AreWritten, AreRows
 
 use crate::Swept;
 use mpc_frac::NoMemory;
-use mpc_whole::{Divisor, changed, over_laws, turned};
+use mpc_whole::{Divisor, changed, over_theorems, turned};
 use std::alloc::AllocError;
 
 /// The greatest size of a number.
@@ -147,7 +147,7 @@ pub fn sweep_rows(from: &Swept, out: &mut Swept, p: usize, first: usize) -> Resu
     ensures { IfOk result (λ done. IsTrue done → (t : Table) (ps : List ℕ) (rows columns before : ℕ) → IsSwept t ps rows columns before from.now
         → before ≤ p → p < first → ((k : ℕ) → k < length ps → get_or ps k 0 < p) → IsSwept t (ps ++ p ∷ []) rows columns first out.new) }
 {
-    over_laws();
+    over_theorems();
     if p < from.first || first < from.first {
         return Ok(false);
     }

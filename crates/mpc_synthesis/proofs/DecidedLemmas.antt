@@ -12,7 +12,7 @@ use Rattle.mpc_claim.specs.declared.events.Tag.{Tag}
 use Rattle.mpc_claim.specs.declared.events.Tag.TheVariants.{Wide as WideTag}
 use Rattle.mpc_claim.specs.Board.{Board, event, tag_of, is_wide}
 use Rattle.mpc_claim.specs.History.{IsLegal, IsFinished, EndsWide}
-use Rattle.mpc_claim.specs.HistoryLaws.{LegalLaws}
+use Rattle.mpc_claim.specs.HistoryTheorems.{LegalTheorems}
 use Rattle.mpc_claim.specs.declared.events.Phase.TheVariants.{Finished, Stopped}
 use Rattle.mpc_convex.specs.declared.ProgramError.{ProgramError}
 use Rattle.mpc_convex.specs.declared.ProgramError.TheVariants.{NotDefinite, TooWide, NoMemory}
@@ -29,7 +29,7 @@ not_wide_by Hollow tag e n = refl
 not_wide_by (Region law) tag e n = refl
 not_wide_by (Wide place) tag e n = absurd (n (sym e))
 
-pub decided_of : LegalLaws → (qp : Qp) (history : List Event) → IsLegal qp history → IsFinished qp history → IsDecided qp
+pub decided_of : LegalTheorems → (qp : Qp) (history : List Event) → IsLegal qp history → IsFinished qp history → IsDecided qp
 decided_of laws qp history legal finished s candidate =
     let settled = finished.settled s candidate in
     let d = settled.done.delivery in
@@ -48,7 +48,7 @@ finished_by workers qp board done phase = by done.ended
     by (inl h) = h.1
     by (inr h) = absurd (stopped_not_finished board h.0 phase)
 
-pub verdicts_of : LegalLaws → (workers : ℕ) (plant : Plant) (qp : Qp) (board : Board) → IsConvexProgram plant qp → HasEnded workers qp board → board.phase ≡ Finished → HasVerdicts plant qp
+pub verdicts_of : LegalTheorems → (workers : ℕ) (plant : Plant) (qp : Qp) (board : Board) → IsConvexProgram plant qp → HasEnded workers qp board → board.phase ≡ Finished → HasVerdicts plant qp
 verdicts_of laws workers plant qp board program done phase = record {
   has_program = program.has_program;
   pivots = program.pivots;
@@ -65,5 +65,5 @@ wide_set_of extent plant qp (NotDefinite pivot) program h = absurd h
 wide_set_of extent plant qp (TooWide place) program h = wide_set extent qp place program.has_program program.pivots h
 wide_set_of extent plant qp NoMemory program h = tt
 
-pub decided_by : LegalLaws → (workers : ℕ) (plant : Plant) (qp : Qp) (board : Board) → IsConvexProgram plant qp → HasEnded workers qp board → board.phase ≡ Finished → IsDecidedBy workers plant board
+pub decided_by : LegalTheorems → (workers : ℕ) (plant : Plant) (qp : Qp) (board : Board) → IsConvexProgram plant qp → HasEnded workers qp board → board.phase ≡ Finished → IsDecidedBy workers plant board
 decided_by laws workers plant qp board program done phase = record { qp = qp; verdicts = verdicts_of laws workers plant qp board program done phase; done = done; phase = phase; finished = finished_by workers qp board done phase }

@@ -1,7 +1,7 @@
 -- The laws of the crates below on which the uniqueness of a plant's outcome and controller stands.
-use Rattle.mpc_cover.specs.CoverLaws.{OneRightVerdict}
-use Rattle.mpc_sets.specs.SetLaws.{OrderLaws}
-use Rattle.mpc_definite.specs.PivotLaws.{DefiniteByPivots}
+use Rattle.mpc_cover.specs.CoverTheorems.{OneRightVerdict}
+use Rattle.mpc_sets.specs.SetTheorems.{OrderTheorems}
+use Rattle.mpc_definite.specs.PivotTheorems.{DefiniteByPivots}
 use Rattle.mpc_convex.specs.Outcomes.{OneProgramOutcome}
 use Rattle.mpc_controller.specs.OneBound.{OneFirstBroken, KeptNotBroken}
 use Rattle.mpc_condense.specs.BestReplies.{OneProgram}
@@ -12,7 +12,7 @@ use Rattle.mpc_check.specs.Acceptance.{NothingFound, OneFinding}
 pub record Given : Type 0 where
   pub one_program : OneProgram
   pub one_verdict : OneRightVerdict
-  pub order_of_sets : OrderLaws
+  pub order_of_sets : OrderTheorems
   pub definite_by_pivots : DefiniteByPivots
   pub one_program_outcome : OneProgramOutcome
   pub one_tree : OneTree

@@ -3,7 +3,7 @@ use Rattle.std.proofs.Common.{sym, subst}
 use Rattle.mpc_plant.specs.Reply.{IsRight}
 use Rattle.mpc_plant.specs.Trajectory.{IsInBox}
 use Rattle.mpc_controller.specs.Bounds.{IsController as IsControllerOf}
-use Rattle.mpc_controller.specs.ReplyLaws.{RepliesEverywhere}
+use Rattle.mpc_controller.specs.ReplyTheorems.{RepliesEverywhere}
 use Rattle.mpc_check.specs.Acceptance.{AcceptedIsRight}
 use Rattle.mpc_synthesis.specs.Controllers.{ControllerIsRight, ControllerReplies}
 

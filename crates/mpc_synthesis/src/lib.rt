@@ -3,12 +3,12 @@
 #![tactic(auto)]
 
 mod controllers;
-mod laws;
 mod parts;
+mod theorems;
 mod verdicts;
 
 pub use controllers::{controller, controller_in_threads, controller_of, controller_of_in_threads};
-pub use laws::{one_controller, one_outcome, right_controller};
+pub use theorems::{one_controller, one_outcome, right_controller};
 /// Why a plant is refused. `TooWide` names the first place of all that the plant goes through.
 pub use mpc_convex::ProgramError as SynthesisError;
 pub use verdicts::{decided, decided_in_threads};

@@ -12,7 +12,7 @@ ghost use Rattle.mpc_synthesis.specs.Programs.{IsDecidedBy};
 ghost use Rattle.mpc_synthesis.specs.Refusals.{Extent, ExplainsSetError, ExplainsSynthesisError};
 
 use crate::SynthesisError;
-use mpc_claim::{Phase, Registry, legal_laws};
+use mpc_claim::{Phase, Registry, legal_theorems};
 use mpc_convex::convex_program;
 use mpc_plant::Plant;
 use mpc_rows::{Place, Qp, Verdict};
@@ -107,7 +107,7 @@ pub fn decided<G: Gate>(alloc: Global, plant: &Plant, gate: &G) -> Result<Regist
         Ok(program) => program,
         Err(error) => return Err(error),
     };
-    legal_laws();
+    legal_theorems();
     let registry = match decide_alone(alloc, &program, gate) {
         Ok(registry) => registry,
         Err(error) => return Err(error),
@@ -135,7 +135,7 @@ pub fn decided_in_threads<T: Threads + Wait + Sync, G: Gate + Sync>(
         Ok(program) => program,
         Err(error) => return Err(error),
     };
-    legal_laws();
+    legal_theorems();
     let registry = match decide_together(rt, alloc, &program, workers, gate) {
         Ok(registry) => registry,
         Err(error) => return Err(error),

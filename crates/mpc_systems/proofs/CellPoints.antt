@@ -5,7 +5,7 @@ use Rattle.std.proofs.lemmas.List.Elements.{All-append, All-map, All-from_get_or
 use Rattle.std.proofs.lemmas.List.{append-nil, length-append, length-replicate, length-take, take-append-drop}
 use Rattle.std.proofs.lemmas.List.FromFn.{get_or-map-range_with_len, length-map-range_with_len}
 use Rattle.mpc_exact.specs.Rational.{ℚ, int, ◌*ℚ◌, ◌≤ℚ◌, ◌<ℚ◌, neg_ℚ}
-use Rattle.mpc_exact.proofs.OrderLaws.{≤ℚ-not-<, <ℚ_of_not-≤, ≤ℚ_of_not-<}
+use Rattle.mpc_exact.proofs.OrderTheorems.{≤ℚ-not-<, <ℚ_of_not-≤, ≤ℚ_of_not-<}
 use Rattle.mpc_exact.proofs.RationalRing.{reads, by_ring}
 use Rattle.mpc_exact.proofs.Linear.{linear_lt, claims, none, lt}
 use Rattle.mpc_space.specs.Vector.{dot, zeros, vec_scale, later_entries}
@@ -21,7 +21,7 @@ use Rattle.mpc_rows.specs.ActiveSets.{row_of, IsInBox, IsFeasible}
 use Rattle.mpc_rows.specs.Laws.{IsLaw, IsInRegion}
 use Rattle.mpc_rows.specs.LawRows.{AreLawRows, whole_row, broken_row}
 use Rattle.mpc_rows.specs.SetRuns.{box_from, box_rows, joint_row, joint_rows, region_system}
-use Rattle.mpc_rows.specs.RegionLaws.{RegionLaws}
+use Rattle.mpc_rows.specs.RegionTheorems.{RegionTheorems}
 use Rattle.mpc_systems.specs.Writing.{HasBoxWidth, widened}
 use Rattle.mpc_systems.specs.Systems.{cell_system, meet_system, hold_system, joint_system}
 
@@ -79,7 +79,7 @@ padded_all more (r ∷ rows) t z e =
     (λ h. (here.0 h.0, rest.0 h.1), λ h. (here.1 h.0, rest.1 h.1))
 
 -- ---- points
-module _ (laws : RegionLaws) where
+module _ (laws : RegionTheorems) where
   pub box_points : (qp : Qp) (t : List ℚ) → length t ≡ length qp.counts → IsInBox qp.counts t ↔ All (MeetsRow t) (box_rows (length qp.counts) qp.counts)
   box_points qp t size =
       let width : length qp.counts + 0 ≡ length qp.counts = omega arith in

@@ -1,3 +1,3 @@
 pub mod Writing
 pub mod Systems
-pub mod CellLaws
+pub mod CellTheorems

@@ -2,13 +2,12 @@
 #![tactic(auto)]
 
 mod entries;
-mod laws;
 mod numbers;
 mod pushing;
 mod single_rows;
 mod systems;
+mod theorems;
 
-pub use laws::cell_laws;
 pub use numbers::whole;
 pub use pushing::{joint_rows, push_box, push_cell, push_joint_rows, push_members, push_rows};
 pub use single_rows::{
@@ -16,3 +15,4 @@ pub use single_rows::{
     widened_whole_row,
 };
 pub use systems::{hold_system, joint_system, meet_system, reach_system, region_system};
+pub use theorems::cell_theorems;

@@ -11,7 +11,7 @@ use crate::numbers::whole;
 use crate::single_rows::{axis_row, joint_row, turned, whole_row, widened};
 use mpc_frac::{Frac, NoMemory};
 use mpc_linear::RowInt;
-use mpc_rows::{Counts, Qp, Row, Rows, System, law_laws};
+use mpc_rows::{Counts, Qp, Row, Rows, System, law_theorems};
 use mpc_sets::ActiveSet;
 use std::alloc::Global;
 
@@ -83,7 +83,7 @@ fn add_members(alloc: Global, system: &mut System, qp: &Qp, set: ActiveSet) -> R
     ensures rows { OnOk result (system.new.rows ≡ system.old.rows ++ map (λ i. turned (joint_row qp.now i)) set) }
     ensures kept { take (length system.old.rows) system.new.rows ≡ system.old.rows }
 {
-    law_laws();
+    law_theorems();
     for k in 1..set.size() + 1 {
         let row = joint_row(alloc, qp, set.member(k))?;
         system.push(turned(alloc, &row)?)?;

@@ -9,7 +9,7 @@ use Rattle.mpc_rows.specs.declared.trees.Node.{Node}
 use Rattle.mpc_rows.specs.declared.trees.Node.TheVariants.{Split, Law, NoMove}
 use Rattle.mpc_controller.specs.Preorder.{Spells, IsTree, IsNoSide}
 use Rattle.mpc_controller.specs.Walk.{IsLeaf}
-use Rattle.mpc_controller.specs.PreorderLaws.{LeafSpells}
+use Rattle.mpc_controller.specs.PreorderTheorems.{LeafSpells}
 use Rattle.mpc_table.specs.Steps.{AreNoSides}
 use Rattle.mpc_table.specs.OpenSplits.{IsOpen, AreSidesTo}
 use Rattle.mpc_table.proofs.SideLemmas.{range_more, drop_next, nothing_left, left_leaf, none_left, ended_whole, contained_cases, same_place}

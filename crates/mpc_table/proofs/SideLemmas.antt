@@ -9,7 +9,7 @@ use Rattle.mpc_rows.specs.declared.trees.Node.{Node}
 use Rattle.mpc_rows.specs.declared.trees.Node.TheVariants.{Split, Law, NoMove}
 use Rattle.mpc_controller.specs.Preorder.{Spells, IsNoSide}
 use Rattle.mpc_controller.specs.Walk.{IsLeaf}
-use Rattle.mpc_controller.specs.PreorderLaws.{SplitSpells}
+use Rattle.mpc_controller.specs.PreorderTheorems.{SplitSpells}
 use Rattle.mpc_table.specs.OpenSplits.{IsOpen, AreSidesTo}
 
 -- ---- the nodes from a place on

@@ -6,5 +6,5 @@ pub mod OpenSplits
 pub mod Lookup
 pub mod SharedForms
 pub mod SharedLookup
-pub mod TableLaws
+pub mod TableTheorems
 pub mod TableReplies

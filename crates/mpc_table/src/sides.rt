@@ -6,7 +6,7 @@ ghost use Rattle.mpc_controller.specs.Walk.{IsLeaf};
 ghost use Rattle.mpc_table.specs.Steps.{AreNoSides};
 ghost use Rattle.mpc_table.specs.OpenSplits.{AreSidesTo};
 
-use mpc_controller::preorder_laws;
+use mpc_controller::preorder_theorems;
 use mpc_frac::NoMemory;
 use mpc_rows::{Node, Tree};
 use std::alloc::Global;
@@ -36,7 +36,7 @@ fn add_side(
     ensures kept { OnErr result (take (length sides.old.items) sides.new.items ≡ sides.old.items) }
     ensures err { OnErr result (pending.new.items ≡ pending.old.items) }
 {
-    preorder_laws();
+    preorder_theorems();
     sides.push(0).map_err(|_| NoMemory)?;
     if !is_leaf(tree.at(k)) {
         pending.push(k).map_err(|_| NoMemory)?;

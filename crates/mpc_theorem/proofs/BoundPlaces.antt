@@ -125,8 +125,8 @@ module _ (plant : Plant) (laws : List Law) (nodes : List Node) where
   laws_fit : All Fits law_places → All (LawFits plant) laws
   laws_fit h = all_at (LawFits plant) laws (λ k law e. law_fits k law e (each_block Fits inputs 1 (length laws) (suc k) h (omega arith) (let l = slice_get_within laws k law e in omega (arith, l))))
 
-  fit_laws : All (LawFits plant) laws → All Fits law_places
-  fit_laws h = block_each Fits inputs 1 (length laws) (λ k low high. fit_law k (λ law e. at_all (LawFits plant) laws (k - 1) law h e))
+  fit_theorems : All (LawFits plant) laws → All Fits law_places
+  fit_theorems h = block_each Fits inputs 1 (length laws) (λ k low high. fit_law k (λ law e. at_all (LawFits plant) laws (k - 1) law h e))
 
   -- a law's input
   wide_form : (number input : ℕ) (law : Law) → slice_get laws (number - 1) ≡ Some law → (place : Place) (f : IsFirstNumber Fits (LawBound number) 1 plant.p place) → IsFirstWideForm (limits_of plant) law plant.p f.number
@@ -209,7 +209,7 @@ module _ (plant : Plant) (laws : List Law) (nodes : List Node) where
       let first = w.first in
       let n = first.number_is in
       let within = slice_get_within nodes first.place first.node first.node_at in
-      first_right Fits law_places node_places place (fit_laws w.laws_fit) (of_number Fits NodeBound 1 (length nodes) place (record {
+      first_right Fits law_places node_places place (fit_theorems w.laws_fit) (of_number Fits NodeBound 1 (length nodes) place (record {
         number = number;
         low = omega (arith, n);
         high = omega (arith, n, within);

@@ -6,14 +6,14 @@ use Rattle.mpc_rows.specs.declared.laws.Law.{Law}
 use Rattle.mpc_rows.specs.declared.systems.Row.{Row}
 use Rattle.mpc_rows.specs.declared.trees.Node.{Node}
 use Rattle.mpc_rows.specs.declared.trees.Node.TheVariants.{Split, Law as LawLeaf, NoMove}
-use Rattle.mpc_condense.specs.ProgramLaws.{RowsWithin}
+use Rattle.mpc_condense.specs.ProgramTheorems.{RowsWithin}
 use Rattle.mpc_controller.specs.Parts.{Parts}
 use Rattle.mpc_check.specs.Findings.{Finding, too_wide, not_definite as found_not_definite, IsFirstOf, IsFirstOfTwo}
 use Rattle.mpc_check.specs.LawConditions.{StationaryMet, StationaryFinds, LineMet, LineFinds, ActiveMet, ActiveFinds, RowFinds, MemberMet, MemberFinds, LawFinds, LawAtMet, LawAtFinds, LawsMet, LawsFind}
 use Rattle.mpc_check.specs.LeafConditions.{LeafRowMet, LeafRowFinds, NodeFinds, NodeAtMet, NodeAtFinds, TreeFinds}
 use Rattle.mpc_check.specs.Acceptance.{FindsBehind, IsFound}
 use Rattle.mpc_theorem.specs.Programs.{IsNotDefinite, IsWideProgram}
-use Rattle.mpc_theorem.specs.CheckLaws.{FindsNotDefinite, FindsTooWide}
+use Rattle.mpc_theorem.specs.CheckTheorems.{FindsNotDefinite, FindsTooWide}
 use Rattle.mpc_theorem.proofs.StateRefusals.{solves_not_definite, solves_too_wide}
 
 -- ---- nothing behind the program finds a pivot

@@ -12,10 +12,10 @@ use Rattle.mpc_file.specs.TreeGrammar.{IsWord, planes_used, named_node}
 use Rattle.mpc_file.specs.FormNames.{form_line}
 use Rattle.mpc_file.specs.PlaneNames.{plane_line}
 use Rattle.mpc_file.specs.FileGrammar.{IsVersion, IsEnd, named, start, Spells, written, behind_plant}
-use Rattle.mpc_file.specs.LineLaws.{OneFractions, OneIntegers}
-use Rattle.mpc_file.specs.TextLaws.{EachText, StatedCanBe}
+use Rattle.mpc_file.specs.LineTheorems.{OneFractions, OneIntegers}
+use Rattle.mpc_file.specs.TextTheorems.{EachText, StatedCanBe}
 use Rattle.mpc_theorem.specs.ControllerFile.{counted, plant_lines, law_lines, named_law_lines, laws_lines, split_line, named_split_line, tree_lines, written_lines, named_lines, lines_behind, file_text}
-use Rattle.mpc_theorem.specs.FileLaws.{SpelledIsFile, FileIsSpelled}
+use Rattle.mpc_theorem.specs.FileTheorems.{SpelledIsFile, FileIsSpelled}
 use Rattle.mpc_theorem.proofs.Walks.{HasLines, lines_plain, lines_then, lines_are}
 use Rattle.mpc_theorem.proofs.PlantLines.{lines_plant, lines_given}
 use Rattle.mpc_theorem.proofs.LawLines.{lines_written_laws, lines_forms, lines_laws}

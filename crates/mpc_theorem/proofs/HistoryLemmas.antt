@@ -14,7 +14,7 @@ use Rattle.mpc_claim.specs.declared.events.Tag.{Tag}
 use Rattle.mpc_claim.specs.declared.events.Tag.TheVariants.{Wide as WideTag}
 use Rattle.mpc_claim.specs.Board.{event, tag_of}
 use Rattle.mpc_claim.specs.History.{is_claim, ended_sets, has_drop, MayEnd, MayClaim as MayClaimThere, MayFollow as MayFollowThere, IsLegal, IsFinished}
-use Rattle.mpc_claim.specs.HistoryLaws.{LegalLaws, ClaimLaws, AppendLaws, LegalBeginnings}
+use Rattle.mpc_claim.specs.HistoryTheorems.{LegalTheorems, ClaimTheorems, AppendTheorems, LegalBeginnings}
 use Rattle.mpc_theorem.specs.Traces.{IsTagOf, IsClaimed, IsDelivered, Holds, MayClaim, MayFollow, IsHistory}
 
 -- ---- lists
@@ -63,7 +63,7 @@ tag_found qp s (Region law) tag r e other = subst (IsTagOf qp s) e (r.0.0, recor
 tag_found qp s (Wide place) tag r e other = absurd (other (sym e))
 
 -- ---- the history of a registry
-module _ (legal : LegalLaws) (claims : ClaimLaws) (appended : AppendLaws) (beginnings : LegalBeginnings) (qp : Qp) (history : List Event) (is : IsLegal qp history) (finished : IsFinished qp history) where
+module _ (legal : LegalTheorems) (claims : ClaimTheorems) (appended : AppendTheorems) (beginnings : LegalBeginnings) (qp : Qp) (history : List Event) (is : IsLegal qp history) (finished : IsFinished qp history) where
   followed : (past more : List Event) (e : Event) → history ≡ past ++ e ∷ more → MayFollowThere qp past e.worker e.set e.kind
   followed past more e cut = legal.last qp past e (beginnings qp (past ++ e ∷ []) more (subst (IsLegal qp) (cut ∙ sym (append_assoc past (e ∷ []) more)) is))
 

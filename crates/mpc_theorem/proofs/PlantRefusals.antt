@@ -6,7 +6,7 @@ use Rattle.mpc_rows.specs.declared.programs.Qp.{Qp}
 use Rattle.mpc_rows.specs.declared.places.Place.{Place}
 use Rattle.mpc_definite.specs.Pivots.{IsFirstWide}
 use Rattle.mpc_condense.specs.BestReplies.{OneProgram}
-use Rattle.mpc_condense.specs.ProgramLaws.{NoWidePlace, RowsWithin}
+use Rattle.mpc_condense.specs.ProgramTheorems.{NoWidePlace, RowsWithin}
 use Rattle.mpc_controller.specs.Parts.{Parts}
 use Rattle.mpc_check.specs.Findings.{too_wide}
 use Rattle.mpc_check.specs.Acceptance.{FindsBehind, IsFound}

@@ -14,7 +14,7 @@ use Rattle.mpc_definite.specs.Pivots.{pivot, left_of, StepFits, PassesBelow, IsF
 use Rattle.mpc_condense.specs.Motion.{StateFits, RowFits}
 use Rattle.mpc_condense.specs.Stages.{IsRow}
 use Rattle.mpc_condense.specs.Causes.{row_count, StatesFit, CostsFit, RowsFit, AllFit, IsWidePlace}
-use Rattle.mpc_condense.specs.ProgramLaws.{RowsWithin}
+use Rattle.mpc_condense.specs.ProgramTheorems.{RowsWithin}
 use Rattle.mpc_theorem.specs.Firsts.{IsFirstOf, numbered}
 use Rattle.mpc_theorem.specs.Programs.{condensing_places, CondensingFits, pivot_places, PivotPasses}
 use Rattle.mpc_theorem.proofs.FirstLemmas.{first_left, first_right, first_parts, all_left, all_right, each_numbered, numbered_each, IsFirstNumber, to_number, of_number}

@@ -7,13 +7,13 @@ use Rattle.mpc_controller.specs.Parts.{Parts}
 use Rattle.mpc_controller.specs.Bounds.{IsController}
 use Rattle.mpc_controller.specs.Replies.{RepliesAt, by_law, first_move}
 use Rattle.mpc_file.specs.FileGrammar.{IsSpelled}
-use Rattle.mpc_file.specs.TextLaws.{StatedCanBe}
+use Rattle.mpc_file.specs.TextTheorems.{StatedCanBe}
 use Rattle.mpc_check.specs.Acceptance.{Accepts, AcceptedIsRight}
 use Rattle.mpc_recur.specs.declared.answers.Next.{Next}
 use Rattle.mpc_recur.specs.Successors.{IsSafe, LeadsToTarget, LeadsAway}
 use Rattle.mpc_recur.specs.Findings.{reached, too_wide}
 use Rattle.mpc_recur.specs.Targets.{IsFound}
-use Rattle.mpc_recur.specs.SafetyLaws.{RuledOutWhereSafe, FoundLeadsAway, LeadsAwayNotSafe}
+use Rattle.mpc_recur.specs.SafetyTheorems.{RuledOutWhereSafe, FoundLeadsAway, LeadsAwayNotSafe}
 use Rattle.mpc_safety.specs.declared.answers.Safety.TheVariants.{Safe, Refused, Unsafe}
 use Rattle.mpc_safety.specs.SafetyOutcomes.{SafetyOutcome, bad_file, finds, steps, safe, IsSafetyOutcome, OneSafetyOutcome}
 use Rattle.mpc_theorem.specs.SafeFiles.{LeavesFrom, IsUnsafeFile, IsSafetyDue, DueIsFound, OneSafetyDue, AnswerIsDue, SafeIsForever}

@@ -8,12 +8,12 @@ use Rattle.mpc_rows.specs.declared.places.Place.{Place}
 use Rattle.mpc_rows.specs.declared.programs.Qp.{Qp}
 use Rattle.mpc_condense.specs.Stages.{IsRow}
 use Rattle.mpc_condense.specs.Causes.{row_count}
-use Rattle.mpc_condense.specs.ProgramLaws.{RowsWithin}
+use Rattle.mpc_condense.specs.ProgramTheorems.{RowsWithin}
 use Rattle.mpc_tight.specs.Tightening.{RowFits, IsWideRow}
 use Rattle.mpc_convex.specs.Refusals.{IsNotDefiniteAt, IsFirstWidePlace, wide_program, wide_pivot as of_pivot}
 use Rattle.mpc_theorem.specs.Firsts.{IsFirstOf, numbered}
 use Rattle.mpc_theorem.specs.Programs.{IsNotDefinite, IsWideProgram}
-use Rattle.mpc_theorem.specs.StateLaws.{TightRowFits, SolvesNotDefinite, SolvesTooWide, TightensWideRow}
+use Rattle.mpc_theorem.specs.StateTheorems.{TightRowFits, SolvesNotDefinite, SolvesTooWide, TightensWideRow}
 use Rattle.mpc_theorem.proofs.FirstLemmas.{IsFirstNumber, to_number, of_number}
 use Rattle.mpc_theorem.proofs.ProgramPlaces.{to_wide_place}
 use Rattle.mpc_theorem.proofs.ProgramRefusals.{not_definite, first_not_positive, program_fits, wide_pivot, wide_place, first_wide}

@@ -7,7 +7,7 @@ use Rattle.mpc_rows.specs.declared.verdicts.Verdict.{Verdict}
 use Rattle.mpc_rows.specs.declared.verdicts.Verdict.TheVariants.{Dependent, Unreachable, Hollow, Region, Wide}
 use Rattle.mpc_rows.specs.Laws.{HasRegion, HasLawWith}
 use Rattle.mpc_rows.specs.Candidates.{CanGrow}
-use Rattle.mpc_rows.specs.LawLaws.{OneLaw}
+use Rattle.mpc_rows.specs.LawTheorems.{OneLaw}
 use Rattle.mpc_rows.specs.Verdicts.{IsRight}
 use Rattle.mpc_claim.specs.declared.events.Tag.{Tag}
 use Rattle.mpc_claim.specs.declared.events.Tag.TheVariants.{Dependent as DependentTag, Unreachable as UnreachableTag, Hollow as HollowTag, Region as RegionTag, Wide as WideTag}

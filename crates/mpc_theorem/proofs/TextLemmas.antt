@@ -2,13 +2,13 @@
 use Rattle.std.proofs.Common.{ℕ, List, subst}
 use Rattle.mpc_plant.specs.declared.plants.Plant.{Plant}
 use Rattle.mpc_space.specs.Definite.{IsDefinite}
-use Rattle.mpc_definite.specs.PivotLaws.{DefiniteByPivots}
-use Rattle.mpc_rows.specs.LawLaws.{OneLaw}
+use Rattle.mpc_definite.specs.PivotTheorems.{DefiniteByPivots}
+use Rattle.mpc_rows.specs.LawTheorems.{OneLaw}
 use Rattle.mpc_rows.specs.Candidates.{IsCandidate}
 use Rattle.mpc_condense.specs.BestReplies.{OneProgram}
 use Rattle.mpc_claim.specs.declared.events.Tag.{Tag}
 use Rattle.mpc_claim.specs.History.{IsRightTag}
-use Rattle.mpc_claim.specs.HistoryLaws.{LegalLaws, ClaimLaws, AppendLaws, LegalBeginnings}
+use Rattle.mpc_claim.specs.HistoryTheorems.{LegalTheorems, ClaimTheorems, AppendTheorems, LegalBeginnings}
 use Rattle.mpc_synthesis.specs.Programs.{HasVerdicts}
 use Rattle.mpc_trace.specs.Histories.{ClaimsEachOnce, IsTraceOf}
 use Rattle.mpc_theorem.specs.Traces.{IsTagOf, IsTraceText, TraceIsText, TextIsTrace}
@@ -17,7 +17,7 @@ use Rattle.mpc_theorem.proofs.TraceLemmas.{is_legal, is_finished, by_workers, ho
 use Rattle.mpc_theorem.proofs.TagLemmas.{right_tag}
 use Rattle.mpc_theorem.proofs.TurnLemmas.{turns}
 
-module _ (legal : LegalLaws) (claims : ClaimLaws) (appended : AppendLaws) where
+module _ (legal : LegalTheorems) (claims : ClaimTheorems) (appended : AppendTheorems) where
   pub trace_text : LegalBeginnings → TraceIsText
   trace_text beginnings workers plant text t = record {
     qp = t.qp;

@@ -11,7 +11,7 @@ use Rattle.mpc_claim.specs.declared.events.EventKind.TheVariants.{Claim, Done, D
 use Rattle.mpc_claim.specs.declared.events.Tag.{Tag}
 use Rattle.mpc_claim.specs.Board.{event}
 use Rattle.mpc_claim.specs.History.{has_drop, IsSettled, IsRightTag, MayFollow as MayFollowThere, IsLegal, IsFinished}
-use Rattle.mpc_claim.specs.HistoryLaws.{LegalLaws, ClaimLaws, AppendLaws}
+use Rattle.mpc_claim.specs.HistoryTheorems.{LegalTheorems, ClaimTheorems, AppendTheorems}
 use Rattle.mpc_theorem.specs.Traces.{IsTagOf, IsClaimed, IsDelivered, Holds, MayFollow, IsHistory}
 use Rattle.mpc_theorem.proofs.HistoryLemmas.{split_at, ended_delivered}
 
@@ -89,7 +89,7 @@ module _ (qp : Qp) (workers : ℕ) (history : List Event) (h : IsHistory qp work
   alone one past more e cut = let b = h.by_workers past more e cut in let low = b.0 in let high = b.1 in omega (arith, one, low, high)
 
   -- ---- event by event
-  module _ (legal : LegalLaws) (claims : ClaimLaws) (appended : AppendLaws) (tags : (s : List ℕ) (tag : Tag) → IsCandidate qp s → IsTagOf qp s tag → IsRightTag qp s tag) where
+  module _ (legal : LegalTheorems) (claims : ClaimTheorems) (appended : AppendTheorems) (tags : (s : List ℕ) (tag : Tag) → IsCandidate qp s → IsTagOf qp s tag → IsRightTag qp s tag) where
     allowed : (past more : List Event) (w : ℕ) (s : List ℕ) (kind : EventKind) → history ≡ past ++ event w s kind ∷ more → has_drop past ≡ false → MayFollow qp past w s kind → MayFollowThere qp past w s kind
     allowed past more w s Claim cut none may = record {
       no_drop = none;

@@ -19,7 +19,7 @@ use Rattle.mpc_file.specs.TreeGrammar.NodeLine.{split_at, leaf_of, no_move}
 use Rattle.mpc_file.specs.TreeGrammar.NodeOver.{split_node, law_node, no_move_node}
 use Rattle.mpc_file.specs.TreeGrammar.StatesNode.{splits, names_law, has_none}
 use Rattle.mpc_file.specs.PlaneNames.{plane_line}
-use Rattle.mpc_file.specs.LineLaws.{OneIntegers}
+use Rattle.mpc_file.specs.LineTheorems.{OneIntegers}
 use Rattle.mpc_theorem.specs.ControllerFile.{with_line, different, number_in, counted, split_lines, planes_of, node_lines, tree_lines, split_line, named_split_line}
 use Rattle.mpc_theorem.proofs.Numbered.{line_at, AreDifferent, one_named, used_few, number_named}
 use Rattle.mpc_theorem.proofs.Walks.{HasLines, lines_one, lines_plain, lines_then, lines_are, lines_items, lines_named, different_items, lines_so_many, so_many_items}

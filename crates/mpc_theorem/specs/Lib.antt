@@ -1,10 +1,10 @@
 pub mod ControllerFile
-pub mod FileLaws
+pub mod FileTheorems
 pub mod Firsts
 pub mod Programs
 pub mod Bounds
-pub mod CheckLaws
-pub mod StateLaws
+pub mod CheckTheorems
+pub mod StateTheorems
 pub mod Stages
 pub mod PlantNumbers
 pub mod PlantFile

@@ -7,7 +7,7 @@ use mpc_synthesis::right_controller;
 
 /// What the libraries say of the files that they write and accept is what these outputs mean. The call does nothing: its clauses are the
 /// law.
-pub fn file_output_laws()
+pub fn file_output_theorems()
     ensures compiled { CompiledIsOutput }
     ensures accepted { AcceptedIsRightFile }
     ensures replied { RepliedIsOutput }

@@ -11,10 +11,10 @@ mod safe_files;
 mod traces;
 
 pub use controller_files::controller_file;
-pub use drill_lines::drill_line_laws;
-pub use file_outputs::file_output_laws;
+pub use drill_lines::drill_line_theorems;
+pub use file_outputs::file_output_theorems;
 pub use plant_files::plant_texts;
 pub use plant_outputs::output_lines;
 pub use refusals::{check_refusals, plant_refusals, state_refusals};
-pub use safe_files::safe_file_laws;
-pub use traces::trace_laws;
+pub use safe_files::safe_file_theorems;
+pub use traces::trace_theorems;

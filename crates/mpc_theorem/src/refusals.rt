@@ -1,10 +1,10 @@
 //! Why plants and controllers are refused.
 
-ghost use Rattle.mpc_theorem.specs.CheckLaws.{FindsNotDefinite, FindsTooWide};
+ghost use Rattle.mpc_theorem.specs.CheckTheorems.{FindsNotDefinite, FindsTooWide};
 ghost use Rattle.mpc_theorem.specs.Stages.{PlantNotDefinite, PlantTooWide};
-ghost use Rattle.mpc_theorem.specs.StateLaws.{SolvesNotDefinite, SolvesTooWide, TightensWideRow};
+ghost use Rattle.mpc_theorem.specs.StateTheorems.{SolvesNotDefinite, SolvesTooWide, TightensWideRow};
 
-use mpc_condense::{one_program, place_laws};
+use mpc_condense::{one_program, place_theorems};
 
 /// A plant on the way to its verdicts or its controller is refused for one of these causes: a pivot of its program, or a place that is too
 /// wide of its program or of a stage behind it. The call does nothing: its clauses are the law.
@@ -13,7 +13,7 @@ pub fn plant_refusals()
     ensures too_wide { PlantTooWide }
 {
     one_program();
-    place_laws();
+    place_theorems();
 }
 
 /// What the checker finds of a controller's plant is why its program is refused. The call does nothing: its clauses are the law.
@@ -21,7 +21,7 @@ pub fn check_refusals()
     ensures not_definite { FindsNotDefinite }
     ensures too_wide { FindsTooWide }
 {
-    place_laws();
+    place_theorems();
 }
 
 /// Where the program of recorded states is refused, or a row that is tightened, it is for one of these causes. The call does nothing: its
@@ -31,5 +31,5 @@ pub fn state_refusals()
     ensures too_wide { SolvesTooWide }
     ensures row { TightensWideRow }
 {
-    place_laws();
+    place_theorems();
 }

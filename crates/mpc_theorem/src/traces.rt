@@ -2,23 +2,23 @@
 
 ghost use Rattle.mpc_theorem.specs.Traces.{TraceIsText, TextIsTrace};
 
-use mpc_claim::{history_laws, legal_laws};
+use mpc_claim::{history_theorems, legal_theorems};
 use mpc_condense::one_program;
-use mpc_definite::pivot_laws;
-use mpc_rows::law_laws;
+use mpc_definite::pivot_theorems;
+use mpc_rows::law_theorems;
 use mpc_trace::finished_histories;
 
 /// The text of a registry's finished history is that of workers who claim and deliver the candidates. Where no number of the plant is too wide,
 /// each such text is that of a registry's: each tag is that of the verdict to which the stated runs come. The call does nothing: its clauses are
 /// the law.
-pub fn trace_laws()
+pub fn trace_theorems()
     ensures text { TraceIsText }
     ensures trace { TextIsTrace }
 {
-    legal_laws();
-    history_laws();
+    legal_theorems();
+    history_theorems();
     finished_histories();
     one_program();
-    pivot_laws();
-    law_laws();
+    pivot_theorems();
+    law_theorems();
 }

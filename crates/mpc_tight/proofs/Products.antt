@@ -8,7 +8,7 @@ use Rattle.mpc_space.specs.Vector.{coordinate, column, dot, listed}
 use Rattle.mpc_space.specs.Matrix.{RationalMatrix, height, entry}
 use Rattle.mpc_space.proofs.Entries.{length-listed}
 use Rattle.mpc_space.proofs.Matrix.{length-column, coordinate-column}
-use Rattle.mpc_linear.specs.SumLaws.{StandAt}
+use Rattle.mpc_linear.specs.SumTheorems.{StandAt}
 use Rattle.mpc_plant.specs.declared.plants.Plant.{Plant}
 use Rattle.mpc_tight.specs.declared.errors.StepError.{StepError}
 use Rattle.mpc_tight.specs.declared.errors.StepError.TheVariants.{TooWide, OutOfMemory}

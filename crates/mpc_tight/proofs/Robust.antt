@@ -22,7 +22,7 @@ use Rattle.mpc_tight.specs.Noise.{IsNoise}
 use Rattle.mpc_tight.specs.Disturbed.{sizes, disturbance_at, disturbed_at, IsDisturbance, KeepsRows, IsRobustlyAdmissible}
 use Rattle.mpc_tight.specs.Tightening.{tightening}
 use Rattle.mpc_tight.specs.Tightened.{IsTightened, IsRobustProgram}
-use Rattle.mpc_tight.specs.TightLaws.{TightenedIsRobust}
+use Rattle.mpc_tight.specs.TightTheorems.{TightenedIsRobust}
 use Rattle.mpc_tight.proofs.Spread.{spread, added, AllShort, disturbed_is, added_is, added_at_most}
 use Rattle.mpc_tight.proofs.Worst.{worst_steps, is_disturbance, added_worst}
 use Rattle.mpc_tight.proofs.RowPlaces.{row_within, row_exists}

@@ -11,7 +11,7 @@ use Rattle.mpc_rows.specs.Program.{IsProgram}
 use Rattle.mpc_condense.specs.Condensed.{IsCondensed}
 use Rattle.mpc_condense.specs.Causes.{row_count}
 use Rattle.mpc_tight.specs.Tightened.{RowsTightened, IsTightened}
-use Rattle.mpc_tight.specs.TightLaws.{OneTightened}
+use Rattle.mpc_tight.specs.TightTheorems.{OneTightened}
 use Rattle.mpc_tight.proofs.RowPlaces.{row_exists}
 
 is_program-prop : (h f y g w : RationalMatrix) (counts : List ℕ) → IsProp (IsProgram h f y g w counts)

@@ -5,7 +5,7 @@ use Rattle.std.proofs.lemmas.List.Elements.{All-from_recursion}
 use Rattle.mpc_exact.specs.Rational.{ℚ, int, abs_ℚ, neg_ℚ, le_ℚ, ◌+ℚ◌, ◌*ℚ◌, ◌≤ℚ◌, IsNonneg}
 use Rattle.mpc_exact.proofs.RationalRing.{reads, by_ring}
 use Rattle.mpc_exact.proofs.RationalOrder.{≤ℚ_of_<}
-use Rattle.mpc_exact.proofs.OrderLaws.{le_ℚ-true, le_ℚ-false, ≤ℚ_of_≡}
+use Rattle.mpc_exact.proofs.OrderTheorems.{le_ℚ-true, le_ℚ-false, ≤ℚ_of_≡}
 use Rattle.mpc_exact.proofs.Absolute.{abs-same, abs-negated, abs_neg}
 use Rattle.mpc_space.specs.Vector.{dot, AllNonneg, AllAtMost}
 use Rattle.mpc_plant.specs.declared.plants.Plant.{Plant}

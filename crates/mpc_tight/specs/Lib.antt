@@ -2,4 +2,4 @@ pub mod Noise
 pub mod Disturbed
 pub mod Tightening
 pub mod Tightened
-pub mod TightLaws
+pub mod TightTheorems

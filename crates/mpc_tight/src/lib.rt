@@ -3,14 +3,14 @@
 #![tactic(auto)]
 
 mod errors;
-mod laws;
 mod noise;
 mod numbers;
 mod programs;
+mod theorems;
 mod tightening;
 mod vectors;
 
 pub use errors::{NoiseError, TightError};
-pub use laws::tight_laws;
 pub use noise::read_noise;
 pub use programs::tighten;
+pub use theorems::tight_theorems;

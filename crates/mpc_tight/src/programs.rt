@@ -7,7 +7,7 @@ ghost use Rattle.mpc_tight.specs.Tightening.{IsCause};
 ghost use Rattle.mpc_tight.specs.Tightened.{IsTightened, IsRobustProgram};
 
 use crate::errors::TightError;
-use crate::laws::tight_laws;
+use crate::theorems::tight_theorems;
 use crate::tightening::tightened;
 use mpc_linear::Vector;
 use mpc_plant::Plant;
@@ -28,7 +28,7 @@ pub fn tighten(alloc: Global, plant: &Plant, noise: &Vector, qp: Qp) -> Result<Q
     ensures robust { IfOk result (λ tight. IsRobustProgram tight plant.now noise.now) }
     ensures cause { IfErr result (IsCause plant.now noise.now qp.w) }
 {
-    tight_laws();
+    tight_theorems();
     let Qp {
         h,
         f,

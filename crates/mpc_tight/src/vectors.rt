@@ -11,7 +11,7 @@ ghost use Rattle.mpc_tight.specs.Tightening.{IfTooWide};
 
 use crate::errors::StepError;
 use mpc_frac::{Frac, NoMemory, Wide};
-use mpc_linear::{Matrix, Vector, add_product, sum_laws};
+use mpc_linear::{Matrix, Vector, add_product, sum_theorems};
 use std::alloc::Global;
 
 /// The same row once more.
@@ -33,7 +33,7 @@ fn dot_with_column(row: &Vector, m: &Matrix, j: u32) -> Result<Frac, Wide>
     ensures wide { MatchResult result (λ _. DotFits row.now (column m.now.rows j))
         (λ _. ¬ DotFits row.now (column m.now.rows j)) }
 {
-    sum_laws();
+    sum_theorems();
     let mut sum = Frac::whole(0);
     for k in 0..m.rows() {
         let factor = row.at(k as usize);
@@ -82,7 +82,7 @@ pub(crate) fn most_added(row: &Vector, noise: &Vector) -> Result<Frac, Wide>
     ensures wide { MatchResult result (λ _. DotFits (sizes row.now) noise.now)
         (λ _. ¬ DotFits (sizes row.now) noise.now) }
 {
-    sum_laws();
+    sum_theorems();
     let mut sum = Frac::whole(0);
     for k in 0..row.len() {
         let size = size_of(row.at(k));

@@ -12,7 +12,7 @@ use Rattle.mpc_claim.specs.declared.events.EventKind.TheVariants.{Claim, Done, D
 use Rattle.mpc_claim.specs.declared.events.Tag.{Tag}
 use Rattle.mpc_claim.specs.Board.{event}
 use Rattle.mpc_claim.specs.History.{is_claim, claimed_sets, ended_sets, MayFollow, IsLegal, IsFinished}
-use Rattle.mpc_claim.specs.HistoryLaws.{LegalLaws, ClaimLaws, AppendLaws, LegalBeginnings}
+use Rattle.mpc_claim.specs.HistoryTheorems.{LegalTheorems, ClaimTheorems, AppendTheorems, LegalBeginnings}
 use Rattle.mpc_trace.specs.Histories.{IsEachCandidate}
 
 abbrev Differ : List (List ℕ) → Type 0
@@ -27,7 +27,7 @@ differ_more qp past worker s Claim d m = subst Differ (sym (append-nil (ended_se
 differ_more qp past worker s (Done tag) d m = differ_push (ended_sets past) s d m.0.open_still
 differ_more qp past worker s Drop d m = differ_push (ended_sets past) s d m.open_still
 
-module _ (legal : LegalLaws) (appended : AppendLaws) (beginnings : LegalBeginnings) (qp : Qp) where
+module _ (legal : LegalTheorems) (appended : AppendTheorems) (beginnings : LegalBeginnings) (qp : Qp) where
   ends_differ : (past rest : List Event) → IsLegal qp (past ++ rest) → Differ (ended_sets past) → Differ (ended_sets (past ++ rest))
   ends_differ past [] h d = subst (λ p. Differ (ended_sets p)) (sym (append-nil past)) d
   ends_differ past (e ∷ es) h d =
@@ -54,7 +54,7 @@ contains_ended (x ∷ es) w s tag (suc i) p q = go (is_claim x.kind) (contains_e
     go false (j, l, f) = (suc j, omega arith, f)
 
 -- ---- each candidate once
-module _ (legal : LegalLaws) (claims : ClaimLaws) (appended : AppendLaws) (beginnings : LegalBeginnings) (qp : Qp) (history : List Event) (is : IsLegal qp history) (finished : IsFinished qp history) where
+module _ (legal : LegalTheorems) (claims : ClaimTheorems) (appended : AppendTheorems) (beginnings : LegalBeginnings) (qp : Qp) (history : List Event) (is : IsLegal qp history) (finished : IsFinished qp history) where
   pub each_claimed : IsEachCandidate qp (claimed_sets history)
   each_claimed = record {
     once = claims.once qp history is;

@@ -4,12 +4,12 @@ use Rattle.std.proofs.lemmas.List.{append-nil, take_more}
 use Rattle.mpc_plant.specs.declared.plants.Plant.{Plant}
 use Rattle.mpc_claim.specs.declared.events.Event.{Event}
 use Rattle.mpc_claim.specs.Board.{Board}
-use Rattle.mpc_claim.specs.HistoryLaws.{LegalLaws, ClaimLaws, AppendLaws, LegalBeginnings}
+use Rattle.mpc_claim.specs.HistoryTheorems.{LegalTheorems, ClaimTheorems, AppendTheorems, LegalBeginnings}
 use Rattle.mpc_synthesis.specs.Programs.{IsDecidedBy}
 use Rattle.mpc_trace.specs.Histories.{event_text, history_text, IsTraceOf}
 use Rattle.mpc_trace.proofs.HistoryLemmas.{each_claimed, each_delivered}
 
-module _ (legal : LegalLaws) (claims : ClaimLaws) (appended : AppendLaws) (beginnings : LegalBeginnings) where
+module _ (legal : LegalTheorems) (claims : ClaimTheorems) (appended : AppendTheorems) (beginnings : LegalBeginnings) where
   pub traced : (board : Board) (history : List Event) (text : List ℕ) → history ≡ board.history → text ≡ history_text history → (workers : ℕ) (plant : Plant) → IsDecidedBy workers plant board → IsTraceOf workers plant text
   traced board history text is written workers plant by = record {
     qp = by.qp;

@@ -2,8 +2,8 @@
 #![tactic(auto)]
 
 mod histories;
-mod laws;
+mod theorems;
 mod tracing;
 
-pub use laws::finished_histories;
+pub use theorems::finished_histories;
 pub use tracing::trace;

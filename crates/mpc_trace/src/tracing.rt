@@ -6,7 +6,7 @@ ghost use Rattle.mpc_synthesis.specs.Programs.{IsDecidedBy};
 ghost use Rattle.mpc_trace.specs.Histories.{IsTraceOf, history_text};
 
 use crate::histories::history_lines;
-use mpc_claim::{Registry, history_laws, legal_laws};
+use mpc_claim::{Registry, history_theorems, legal_theorems};
 use mpc_frac::NoMemory;
 use std::alloc::Global;
 
@@ -16,8 +16,8 @@ pub fn trace(alloc: Global, registry: &Registry) -> Result<Vec<u8>, NoMemory>
     ensures trace { IfOk result (λ text. (workers : ℕ) (plant : Plant) → IsDecidedBy workers plant registry.now
         → IsTraceOf workers plant text.items) }
 {
-    legal_laws();
-    history_laws();
+    legal_theorems();
+    history_theorems();
     let text = history_lines(alloc, registry.history())?;
     Ok(text)
 }

@@ -10,7 +10,7 @@ use Rattle.mpc_rows.specs.declared.trees.Node.{Node}
 use Rattle.mpc_rows.specs.declared.trees.Node.TheVariants.{Split, Law as LawLeaf, NoMove}
 use Rattle.mpc_rows.specs.Candidates.{IsTable}
 use Rattle.mpc_rows.specs.Laws.{IsLaw}
-use Rattle.mpc_cover.specs.CoverLaws.{TablesCover}
+use Rattle.mpc_cover.specs.CoverTheorems.{TablesCover}
 use Rattle.mpc_tree.specs.declared.errors.TreeError.{TreeError}
 use Rattle.mpc_tree.specs.Causes.{IfWide}
 use Rattle.mpc_tree.specs.Certified.{IsCertified}

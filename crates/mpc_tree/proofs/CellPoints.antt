@@ -13,7 +13,7 @@ use Rattle.mpc_rows.specs.ActiveSets.{IsFeasible}
 use Rattle.mpc_rows.specs.Laws.{IsLaw, IsInRegion}
 use Rattle.mpc_rows.specs.LawRows.{AreLawRows, whole_row, broken_row}
 use Rattle.mpc_simplex.specs.Answer.{HasPoint}
-use Rattle.mpc_systems.specs.CellLaws.{CellLaws}
+use Rattle.mpc_systems.specs.CellTheorems.{CellTheorems}
 use Rattle.mpc_systems.specs.Systems.{meet_system, hold_system, joint_system}
 use Rattle.mpc_systems.specs.Writing.{HasBoxWidth}
 use Rattle.mpc_tree.specs.Cells.{IsInCell, RegionMeets, FailsOn}
@@ -27,7 +27,7 @@ All-split P xs ys h = let parts = split P xs ys (recursion_from_All P (xs ++ ys)
     split P (x ∷ xs) ys h = let rest = split P xs ys h.1 in ((h.0, rest.0), rest.1)
 
 -- ---- a region and a cell
-module _ (points : CellLaws) (qp : Qp) (law : Law) (is : IsLaw qp law) (rows : List RowInt) (are : AreLawRows qp law rows) (cell : List Row) where
+module _ (points : CellTheorems) (qp : Qp) (law : Law) (is : IsLaw qp law) (rows : List RowInt) (are : AreLawRows qp law rows) (cell : List Row) where
   pub region_by_rows : (t : List ℚ) → IsInCell qp cell t → All (λ row. MeetsRow t (whole_row row)) rows → IsInRegion qp law t
   region_by_rows t c h = (points.region_rows qp law is rows are t).1 (c.in_box, h)
 
@@ -41,20 +41,20 @@ module _ (points : CellLaws) (qp : Qp) (law : Law) (is : IsLaw qp law) (rows : L
   )
 
 -- a row of a law holds in its region
-pub region_row : (points : CellLaws) (qp : Qp) (law : Law) → IsLaw qp law → (rows : List RowInt) → AreLawRows qp law rows → (t : List ℚ) → IsInRegion qp law t → (i : ℕ) (row : RowInt) → slice_get rows i ≡ Some row → MeetsRow t (whole_row row)
+pub region_row : (points : CellTheorems) (qp : Qp) (law : Law) → IsLaw qp law → (rows : List RowInt) → AreLawRows qp law rows → (t : List ℚ) → IsInRegion qp law t → (i : ℕ) (row : RowInt) → slice_get rows i ≡ Some row → MeetsRow t (whole_row row)
 region_row points qp law is rows are t r i row k =
     let all = ((points.region_rows qp law is rows are t).0 r).1 in
     subst (λ row. MeetsRow t (whole_row row)) (get_or_from_slice_get rows i row row k) (All-get_or (λ row. MeetsRow t (whole_row row)) rows i row (slice_get_within rows i row k) all)
 
 -- ---- a row and a cell
-module _ (points : CellLaws) (row : RowInt) (t : List ℚ) where
+module _ (points : CellTheorems) (row : RowInt) (t : List ℚ) where
   pub broken_fails : MeetsRow t (broken_row row) → ¬ MeetsRow t (whole_row row)
   broken_fails h = (points.broken_points row t).0 h
 
   pub holds_unless : (¬ ¬ MeetsRow t (whole_row row)) → MeetsRow t (whole_row row)
   holds_unless h = points.holds_unless row t h
 
-module _ (points : CellLaws) (qp : Qp) (cell : List Row) (row : RowInt) where
+module _ (points : CellTheorems) (qp : Qp) (cell : List Row) (row : RowInt) where
   pub fails_where : FailsOn qp cell row ↔ HasPoint (hold_system qp cell row)
   fails_where = (
     λ f. (f.state, (points.hold_points qp cell row f.state).0 (f.in_cell.in_box, f.in_cell.meets, f.fails)),
@@ -62,7 +62,7 @@ module _ (points : CellLaws) (qp : Qp) (cell : List Row) (row : RowInt) where
   )
 
 -- ---- admissible unknowns and a cell
-module _ (points : CellLaws) (qp : Qp) (cell : List Row) (wide : HasBoxWidth qp cell) where
+module _ (points : CellTheorems) (qp : Qp) (cell : List Row) (wide : HasBoxWidth qp cell) where
   -- a state of the cell with admissible unknowns, from a point of the system
   pub admitted : HasPoint (joint_system qp cell) → (t : List ℚ) × (z : List ℚ) × IsInCell qp cell t × IsFeasible qp t z
   admitted p = let h = points.joint_has_point qp cell wide p.0 p.1 in (h.0, h.1, record { in_box = h.3.in_box; meets = h.2 }, h.3)

@@ -6,7 +6,7 @@ use Rattle.mpc_exact.specs.Rational.{ℚ, int}
 use Rattle.mpc_rows.specs.Certificates.{RisesFrom, IsCert}
 use Rattle.mpc_rows.specs.Run.{is_zero}
 use Rattle.mpc_exact.specs.Rational.{le_ℚ}
-use Rattle.mpc_exact.proofs.OrderLaws.{le_ℚ-true, le_ℚ-false}
+use Rattle.mpc_exact.proofs.OrderTheorems.{le_ℚ-true, le_ℚ-false}
 use Rattle.mpc_exact.proofs.RationalOrder.{≤ℚ_antisymm, <ℚ_irrefl}
 use Rattle.mpc_tree.specs.LeafCerts.{nonzero_from}
 

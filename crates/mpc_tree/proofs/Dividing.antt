@@ -17,7 +17,7 @@ use Rattle.mpc_rows.specs.declared.trees.Node.{Node}
 use Rattle.mpc_rows.specs.declared.trees.Node.TheVariants.{Split}
 use Rattle.mpc_rows.specs.LinearSystem.{LinearSystem, MeetsRow}
 use Rattle.mpc_rows.specs.LawRows.{whole_row, broken_row}
-use Rattle.mpc_systems.specs.CellLaws.{CellLaws}
+use Rattle.mpc_systems.specs.CellTheorems.{CellTheorems}
 use Rattle.mpc_systems.specs.Writing.{HasBoxWidth, IsOfSize}
 use Rattle.mpc_tree.specs.declared.growth.OpenSide.{OpenSide}
 use Rattle.mpc_tree.specs.Borders.{IsBorder, AreBorders}
@@ -60,12 +60,12 @@ module _ (qp : Qp) (laws : List Law) (borders : List (List RowInt)) (are : AreBo
     within = let inside : place < length laws = place_within in omega arith;
   }
 
-  not_here : CellLaws → (other : Law) → slice_get laws place ≡ Some other → (m : RegionMeets qp (cell.rows ++ broken_row s.row ∷ []) other) → ⊥
+  not_here : CellTheorems → (other : Law) → slice_get laws place ≡ Some other → (m : RegionMeets qp (cell.rows ++ broken_row s.row ∷ []) other) → ⊥
   not_here points other is m =
       let own = border_of qp laws borders are cell.rows place s.rows s.is_border other is in
       broken_fails points s.row m.state (meets_last qp cell.rows (broken_row s.row) m.state m.in_cell) (region_row points qp other own.is_law s.rows own.of_law m.state m.in_region i s.row s.is_row)
 
-  pub no_ready : CellLaws → HasBoxWidth qp cell.rows → IsReady qp laws (no_side cell place s.row)
+  pub no_ready : CellTheorems → HasBoxWidth qp cell.rows → IsReady qp laws (no_side cell place s.row)
   no_ready points w = record {
     width = wider (broken_row s.row) w (length-scale _ (map int s.row.a) ∙ length-map s.row.a int ∙ row_plain.size);
     none = λ k other h is m. ⊎_elim
@@ -99,7 +99,7 @@ module _ (qp : Qp) (laws : List Law) (borders : List (List RowInt)) (are : AreBo
     abbrev longer : List Row
     longer = cell.rows ++ whole_row s.row ∷ []
 
-    sides : CellLaws → AreReady qp laws longer (side run ∷ reverse stack)
+    sides : CellTheorems → AreReady qp laws longer (side run ∷ reverse stack)
     sides points = (
       omega (arith, length-append cell.rows (whole_row s.row ∷ [])),
       subst (λ p. IsReady qp laws (record { rows = p ++ broken_row s.row ∷ []; next = place + 1 })) (sym seam) (no_ready points g.ready.width),
@@ -134,7 +134,7 @@ module _ (qp : Qp) (laws : List Law) (borders : List (List RowInt)) (are : AreBo
         let rest : IsWideAmong qp laws cell.rows (reverse stack) (length (nodes ++ Split s.row ∷ []) + 1 + length first + length w.0) at = subst (λ p. IsWideAmong qp laws p (reverse stack) (length (nodes ++ Split s.row ∷ []) + 1 + length first + length w.0) at) seam w.2 in
         g.wide_later at (Split s.row ∷ (first ++ w.0)) (both first w.0 b w.1) (subst (λ n. IsWideAmong qp laws cell.rows (reverse stack) n at) number rest)
 
-    pub grown_split : CellLaws → IsGrown qp laws root borders (nodes ++ Split s.row ∷ []) (yes_side cell place s.row) (stack ++ side run ∷ []) (i + 1)
+    pub grown_split : CellTheorems → IsGrown qp laws root borders (nodes ++ Split s.row ∷ []) (yes_side cell place s.row) (stack ++ side run ∷ []) (i + 1)
     grown_split points = record {
       ready = yes_ready g.ready.width;
       held_within = let inside : i < height qp.g = row_within in omega arith;
@@ -161,7 +161,7 @@ module _ (qp : Qp) (laws : List Law) (borders : List (List RowInt)) (are : AreBo
   pub sides_read : (stack : List OpenSide) (run : Option LinearSystem) (row : RowInt) → row ≡ s.row → (sides : List OpenSide) → sides ≡ stack ++ record { shared = length cell.rows; row = broken_row row; run = run; next = place + 1 } ∷ [] → sides ≡ stack ++ record { shared = length cell.rows; row = broken_row s.row; run = run; next = place + 1 } ∷ []
   sides_read stack run row e sides o = o ∙ ap (λ r. stack ++ record { shared = length cell.rows; row = broken_row r; run = run; next = place + 1 } ∷ []) e
 
-  pub grown_at : CellLaws → (root : Cell) (nodes : List Node) (stack : List OpenSide) (held : ℕ) → IsGrown qp laws root borders nodes cell stack held → (run : Option LinearSystem) → IsRunOf qp (cell.rows ++ broken_row s.row ∷ []) run → (row : RowInt) → row ≡ s.row → (tree : List Node) (path : List Row) (sides : List OpenSide) → tree ≡ nodes ++ Split row ∷ [] → path ≡ cell.rows ++ whole_row row ∷ [] → sides ≡ stack ++ record { shared = length cell.rows; row = broken_row row; run = run; next = place + 1 } ∷ [] → IsGrown qp laws root borders tree (record { rows = path; next = place }) sides (i + 1)
+  pub grown_at : CellTheorems → (root : Cell) (nodes : List Node) (stack : List OpenSide) (held : ℕ) → IsGrown qp laws root borders nodes cell stack held → (run : Option LinearSystem) → IsRunOf qp (cell.rows ++ broken_row s.row ∷ []) run → (row : RowInt) → row ≡ s.row → (tree : List Node) (path : List Row) (sides : List OpenSide) → tree ≡ nodes ++ Split row ∷ [] → path ≡ cell.rows ++ whole_row row ∷ [] → sides ≡ stack ++ record { shared = length cell.rows; row = broken_row row; run = run; next = place + 1 } ∷ [] → IsGrown qp laws root borders tree (record { rows = path; next = place }) sides (i + 1)
   grown_at points root nodes stack held g run kept row e tree path sides t p o =
       subst (λ x. IsGrown qp laws root borders x (record { rows = path; next = place }) sides (i + 1)) (sym (t ∙ ap (λ r. nodes ++ Split r ∷ []) e))
       (subst (λ x. IsGrown qp laws root borders (nodes ++ Split s.row ∷ []) (record { rows = x; next = place }) sides (i + 1)) (sym (p ∙ ap (λ r. cell.rows ++ whole_row r ∷ []) e))

@@ -21,7 +21,7 @@ use Rattle.mpc_tree.specs.Borders.{IsBorder, AreBorders}
 use Rattle.mpc_tree.specs.Cells.{IsInCell, RegionMeets, LiesInRegion, FailsOn, NoneMeetsBefore, IsFirstToMeet, NoneFailsBefore}
 use Rattle.mpc_tree.specs.LeafCerts.{IsCertOf, AreCertsOf}
 use Rattle.mpc_tree.specs.NodeRuns.{MeetsFit, HoldsFit}
-use Rattle.mpc_systems.specs.CellLaws.{CellLaws}
+use Rattle.mpc_systems.specs.CellTheorems.{CellTheorems}
 use Rattle.mpc_systems.specs.Systems.{meet_system, hold_system, joint_system}
 use Rattle.mpc_tree.specs.WideRuns.{IsWideMeet, IsWideHold}
 use Rattle.mpc_tree.proofs.CellPoints.{region_by_rows, region_meets, holds_unless, admitted}
@@ -50,10 +50,10 @@ module _ (qp : Qp) (laws : List Law) (borders : List (List RowInt)) (are : AreBo
   pub border_of : (law : Law) → slice_get laws place ≡ Some law → IsBorder qp law rows
   border_of law h = are.each place law rows h is
 
-  none_meets : CellLaws → (¬ HasPoint (meet_system qp cell rows)) → (law : Law) → slice_get laws place ≡ Some law → ¬ RegionMeets qp cell law
+  none_meets : CellTheorems → (¬ HasPoint (meet_system qp cell rows)) → (law : Law) → slice_get laws place ≡ Some law → ¬ RegionMeets qp cell law
   none_meets points h law k m = let border = border_of law k in h ((region_meets points qp law border.is_law rows border.of_law cell).0 m)
 
-  pub meets_none : CellLaws → NoneMeetsBefore qp laws cell place → (¬ HasPoint (meet_system qp cell rows)) → NoneMeetsBefore qp laws cell (place + 1)
+  pub meets_none : CellTheorems → NoneMeetsBefore qp laws cell place → (¬ HasPoint (meet_system qp cell rows)) → NoneMeetsBefore qp laws cell (place + 1)
   meets_none points before h i law l k = ⊎_elim
       (λ p. none_meets points h law (ap (slice_get laws) (sym p) ∙ k))
       (λ p. before i law (omega arith) k)
@@ -67,7 +67,7 @@ module _ (qp : Qp) (laws : List Law) (borders : List (List RowInt)) (are : AreBo
       (λ p. before i law low (omega arith) k)
       (cases_eq i place)
 
-  pub meets_first : CellLaws → NoneMeetsBefore qp laws cell place → HasPoint (meet_system qp cell rows) → (law : Law) × IsFirstToMeet qp laws cell place law
+  pub meets_first : CellTheorems → NoneMeetsBefore qp laws cell place → HasPoint (meet_system qp cell rows) → (law : Law) × IsFirstToMeet qp laws cell place law
   meets_first points before h =
       let border = border_of law_of.0 law_of.1 in
       (law_of.0, record { is = law_of.1; meets = (region_meets points qp law_of.0 border.is_law rows border.of_law cell).1 h; before = before })
@@ -132,7 +132,7 @@ module _ (qp : Qp) (cell : List Row) (rows : List RowInt) (place : ℕ) (row : R
   holds_wide none fit h = record { place = place; number_is = refl; row = row; is_row = is; none_before = none; before = fit; wide = h }
 
 -- where no row of a law fails on the cell, it lies in the region
-pub lies_in : (points : CellLaws) (qp : Qp) (law : Law) (rows : List RowInt) (cell : List Row) → IsBorder qp law rows → NoneFailsBefore qp rows cell (length rows) → LiesInRegion qp cell law
+pub lies_in : (points : CellTheorems) (qp : Qp) (law : Law) (rows : List RowInt) (cell : List Row) → IsBorder qp law rows → NoneFailsBefore qp rows cell (length rows) → LiesInRegion qp cell law
 lies_in points qp law rows cell border none = record {
   each = λ t c. region_by_rows points qp law border.is_law rows border.of_law cell t c (All-from_get_or (λ row. MeetsRow t (whole_row row)) rows (record { a = []; b = pos 0 }) (λ k l. holds t c k l));
 }
@@ -149,5 +149,5 @@ module _ (qp : Qp) (laws : List Law) (cell : List Row) (none : NoneMeetsBefore q
       let found = covers t z f in
       none found.1.0 found.0 found.1.1 (slice_get-get_or laws found.1.0 found.0 found.1.1 ∙ ap Some found.1.2) (record { state = t; in_cell = c; in_region = found.2 })
 
-  pub no_joint : CellLaws → ((t z : List ℚ) → IsFeasible qp t z → (law : Law) × Contains laws law × IsInRegion qp law t) → HasBoxWidth qp cell → ¬ HasPoint (joint_system qp cell)
+  pub no_joint : CellTheorems → ((t z : List ℚ) → IsFeasible qp t z → (law : Law) × Contains laws law × IsInRegion qp law t) → HasBoxWidth qp cell → ¬ HasPoint (joint_system qp cell)
   no_joint points covers wide p = let found = admitted points qp cell wide p in no_admissible covers found.0 found.1 found.2 found.3

@@ -10,8 +10,8 @@ use Rattle.mpc_rows.specs.declared.trees.Node.{Node}
 use Rattle.mpc_rows.specs.declared.trees.Node.TheVariants.{Split, Law as LawLeaf, NoMove}
 use Rattle.mpc_rows.specs.Laws.{IsLaw}
 use Rattle.mpc_rows.specs.Candidates.{IsTable}
-use Rattle.mpc_rows.specs.LawLaws.{LawLaws}
-use Rattle.mpc_systems.specs.CellLaws.{CellLaws}
+use Rattle.mpc_rows.specs.LawTheorems.{LawTheorems}
+use Rattle.mpc_systems.specs.CellTheorems.{CellTheorems}
 use Rattle.mpc_tree.specs.Cells.{LiesInRegion, NoneMeetsBefore, IsFirstToMeet, IsFirstToFail}
 use Rattle.mpc_tree.specs.Trees.{Cell, Divides, IsOfLaw, IsLeafOf}
 use Rattle.mpc_tree.specs.Certified.{AreLaws}
@@ -43,7 +43,7 @@ module _ (qp : Qp) (laws : List Law) (cell : List Row) where
   none_not_first p a f h = h p a (slice_get_within laws p a f.is) f.is f.meets
 
 -- ---- the first row that fails on the cell
-pub one_failing_row : (single : LawLaws) (qp : Qp) (law : Law) (cell : List Row) (r s : RowInt) → IsFirstToFail qp law cell r → IsFirstToFail qp law cell s → r ≡ s
+pub one_failing_row : (single : LawTheorems) (qp : Qp) (law : Law) (cell : List Row) (r s : RowInt) → IsFirstToFail qp law cell r → IsFirstToFail qp law cell s → r ≡ s
 one_failing_row single qp law cell r s f g =
     let rows : f.rows ≡ g.rows = single.law_rows_unique qp law f.rows g.rows f.of_law g.of_law in
     let is : slice_get f.rows g.place ≡ Some s = ap (λ xs. slice_get xs g.place) rows ∙ g.is in
@@ -52,24 +52,24 @@ one_failing_row single qp law cell r s f g =
     same_item f.rows f.place g.place r s place f.is is
 
 -- ---- no row of a law fails on a cell that lies in its region
-pub fails_not_inside : (points : CellLaws) (qp : Qp) (law : Law) → IsLaw qp law → (cell : List Row) (row : RowInt) → IsFirstToFail qp law cell row → ¬ LiesInRegion qp cell law
+pub fails_not_inside : (points : CellTheorems) (qp : Qp) (law : Law) → IsLaw qp law → (cell : List Row) (row : RowInt) → IsFirstToFail qp law cell row → ¬ LiesInRegion qp cell law
 fails_not_inside points qp law is cell row f lies = f.fails.fails (region_row points qp law is f.rows f.of_law f.fails.state (lies.each f.fails.state f.fails.in_cell) f.place row f.is)
 
 -- ---- a cell is divided once, or has a leaf of one law, or a leaf without a law
 module _ (qp : Qp) (laws : List Law) (cell : Cell) where
-  pub divides_once : LawLaws → (p q : ℕ) (r s : RowInt) → Divides qp laws cell p r → Divides qp laws cell q s → (p ≡ q) × (r ≡ s)
+  pub divides_once : LawTheorems → (p q : ℕ) (r s : RowInt) → Divides qp laws cell p r → Divides qp laws cell q s → (p ≡ q) × (r ≡ s)
   divides_once single p q r s d e =
       let law : e.law ≡ d.law = one_first_law qp laws cell.rows q p e.law d.law e.first d.first in (
         one_first_place qp laws cell.rows p q d.law e.law d.first e.first,
         one_failing_row single qp d.law cell.rows r s d.fails (subst (λ l. IsFirstToFail qp l cell.rows s) law e.fails),
       )
 
-  pub divides_of_no_law : CellLaws → AreLaws qp laws → (p number : ℕ) (r : RowInt) → Divides qp laws cell p r → ¬ IsOfLaw qp laws cell number
+  pub divides_of_no_law : CellTheorems → AreLaws qp laws → (p number : ℕ) (r : RowInt) → Divides qp laws cell p r → ¬ IsOfLaw qp laws cell number
   divides_of_no_law points are p number r d l =
       let law : l.law ≡ d.law = one_first_law qp laws cell.rows l.place p l.law d.law l.first d.first in
       fails_not_inside points qp d.law (are d.law (is_member laws p d.law d.first.is)) cell.rows r d.fails (subst (LiesInRegion qp cell.rows) law l.lies_in)
 
-  pub divides_not_leaf : CellLaws → AreLaws qp laws → (p : ℕ) (r : RowInt) (node : Node) → Divides qp laws cell p r → ¬ IsLeafOf qp laws cell node
+  pub divides_not_leaf : CellTheorems → AreLaws qp laws → (p : ℕ) (r : RowInt) (node : Node) → Divides qp laws cell p r → ¬ IsLeafOf qp laws cell node
   divides_not_leaf points are p r (Split row) d h = h
   divides_not_leaf points are p r (LawLeaf number certs) d h = divides_of_no_law points are p number r d h
   divides_not_leaf points are p r (NoMove cert) d h = none_not_first qp laws cell.rows p d.law d.first h

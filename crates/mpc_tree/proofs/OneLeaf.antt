@@ -13,7 +13,7 @@ use Rattle.mpc_rows.specs.declared.trees.Node.TheVariants.{Split, Law as LawLeaf
 use Rattle.mpc_rows.specs.LinearSystem.{LinearSystem, height}
 use Rattle.mpc_rows.specs.Run.{is_refuted, last_position}
 use Rattle.mpc_rows.specs.LawRows.{AreLawRows}
-use Rattle.mpc_rows.specs.LawLaws.{LawLaws}
+use Rattle.mpc_rows.specs.LawTheorems.{LawTheorems}
 use Rattle.mpc_simplex.specs.Answer.{IsMultipliers, EndsRefuted}
 use Rattle.mpc_systems.specs.Systems.{hold_system, joint_system}
 use Rattle.mpc_tree.specs.Trees.{Cell, IsLeafOf}
@@ -57,14 +57,14 @@ module _ (qp : Qp) (cell : List Row) (rows : List RowInt) (c d : List (List (ℕ
       one_cert (hold_system qp cell row) (get_or c i blank) (get_or d i blank) (cert_at c h i row inside is) (cert_at d k i row inside is))
 
 module _ (qp : Qp) (laws : List Law) (cell : Cell) where
-  one_law_certs : LawLaws → (number : ℕ) (c d : List (List (ℕ × ℚ))) → AreLawCerts qp laws cell number c → AreLawCerts qp laws cell number d → c ≡ d
+  one_law_certs : LawTheorems → (number : ℕ) (c d : List (List (ℕ × ℚ))) → AreLawCerts qp laws cell number c → AreLawCerts qp laws cell number d → c ≡ d
   one_law_certs single number c d h k =
       let place : k.place ≡ h.place = omega (arith, h.number_is, k.number_is) in
       let law : k.law ≡ h.law = same_item laws k.place h.place k.law h.law place k.is h.is in
       let rows : k.rows ≡ h.rows = single.law_rows_unique qp h.law k.rows h.rows (subst (λ l. AreLawRows qp l k.rows) law k.of_law) h.of_law in
       one_cert_list qp cell.rows h.rows c d h.certs_are (subst (λ xs. AreCertsOf qp cell.rows xs (length xs) d) rows k.certs_are)
 
-  pub one_leaf : LawLaws → (x y : Node) → IsLeafOf qp laws cell x → IsLeafOf qp laws cell y → HasItsCerts qp laws cell x → HasItsCerts qp laws cell y → x ≡ y
+  pub one_leaf : LawTheorems → (x y : Node) → IsLeafOf qp laws cell x → IsLeafOf qp laws cell y → HasItsCerts qp laws cell x → HasItsCerts qp laws cell y → x ≡ y
   one_leaf single (Split r) y h k c d = absurd h
   one_leaf single (LawLeaf m b) (Split s) h k c d = absurd k
   one_leaf single (LawLeaf m b) (LawLeaf n e) h k c d =

@@ -7,8 +7,8 @@ use Rattle.mpc_rows.specs.declared.laws.Law.{Law}
 use Rattle.mpc_rows.specs.declared.trees.Node.{Node}
 use Rattle.mpc_rows.specs.declared.trees.Node.TheVariants.{Split}
 use Rattle.mpc_rows.specs.declared.places.Place.{Place}
-use Rattle.mpc_rows.specs.LawLaws.{LawLaws}
-use Rattle.mpc_systems.specs.CellLaws.{CellLaws}
+use Rattle.mpc_rows.specs.LawTheorems.{LawTheorems}
+use Rattle.mpc_systems.specs.CellTheorems.{CellTheorems}
 use Rattle.mpc_tree.specs.Trees.{Cell, yes_side, no_side, leaf, split, IsTreeOf, Divides, IsLeafOf}
 use Rattle.mpc_tree.specs.LeafCerts.{HasItsCerts}
 use Rattle.mpc_tree.specs.NodeRuns.{DividesAndFits, EndsAndFits, IsFittingTree}
@@ -36,7 +36,7 @@ module _ (P : Cell → Type 0) (cell : Cell) (p q : ℕ) (r s : RowInt) (same : 
   on_no : P (no_side cell p r) → P (no_side cell q s)
   on_no h = subst (λ n. P (no_side cell n s)) same.0 (subst (λ k. P (no_side cell p k)) same.1 h)
 
-module _ (single : LawLaws) (points : CellLaws) (qp : Qp) (laws : List Law) (are : AreLaws qp laws) where
+module _ (single : LawTheorems) (points : CellTheorems) (qp : Qp) (laws : List Law) (are : AreLaws qp laws) where
   same_sides : (cell : Cell) (p q : ℕ) (r s : RowInt) → DividesAndFits qp laws cell p r → DividesAndFits qp laws cell q s → (p ≡ q) × (r ≡ s)
   same_sides cell p q r s d e = divides_once qp laws cell single p q r s d.divides e.divides
 

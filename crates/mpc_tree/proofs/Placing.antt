@@ -16,7 +16,7 @@ use Rattle.mpc_tree.specs.Causes.{IfWide}
 use Rattle.mpc_tree.specs.CellRuns.{IsRunOf}
 use Rattle.mpc_tree.specs.Growth.{IsMeeting, IsNoMeeting, IsFailing, AllHold, NamesWideRow, IsSplitAt, IsLeafAt}
 use Rattle.mpc_tree.specs.LeafCerts.{IsCertOf}
-use Rattle.mpc_systems.specs.CellLaws.{CellLaws}
+use Rattle.mpc_systems.specs.CellTheorems.{CellTheorems}
 use Rattle.mpc_systems.specs.Systems.{joint_system}
 use Rattle.mpc_tree.specs.Trees.{Cell}
 use Rattle.mpc_tree.specs.WideRuns.{IsWideAt}
@@ -47,7 +47,7 @@ module _ (qp : Qp) (laws : List Law) (borders : List (List RowInt)) (are : AreBo
   unfolding split_at
   split_placed i run h = (split_at i h.0, h.1)
 
-  pub law_placed : CellLaws → (certs : List (List (ℕ × ℚ))) → AllHold qp cell.rows rows certs → IsLeafAt qp laws cell (LawLeaf (place + 1) certs)
+  pub law_placed : CellTheorems → (certs : List (List (ℕ × ℚ))) → AllHold qp cell.rows rows certs → IsLeafAt qp laws cell (LawLeaf (place + 1) certs)
   law_placed points certs h = record {
     ends = record {
       ends = record { place = place; number_is = refl; law = m.law; first = m.first; lies_in = lies_in points qp m.law rows cell.rows met_border h.none };

@@ -9,7 +9,7 @@ use Rattle.mpc_rows.specs.declared.systems.Row.{Row}
 use Rattle.mpc_rows.specs.declared.trees.Node.TheVariants.{Split}
 use Rattle.mpc_rows.specs.LinearSystem.{LinearSystem}
 use Rattle.mpc_rows.specs.LawRows.{whole_row, broken_row}
-use Rattle.mpc_systems.specs.CellLaws.{CellLaws}
+use Rattle.mpc_systems.specs.CellTheorems.{CellTheorems}
 use Rattle.mpc_systems.specs.Writing.{HasBoxWidth}
 use Rattle.mpc_tree.specs.declared.frontier.Piece.{Piece}
 use Rattle.mpc_tree.specs.declared.frontier.Piece.TheVariants.{Closed, Open}
@@ -35,7 +35,7 @@ module _ (qp : Qp) (laws : List Law) (borders : List (List RowInt)) (are : AreBo
   pub ready_yes : (rows : List Row) → rows ≡ cell.rows ++ whole_row row ∷ [] → HasBoxWidth qp cell.rows → IsReady qp laws (record { rows = rows; next = place })
   ready_yes rows e w = on_yes (IsReady qp laws) rows e (yes_ready qp laws borders are cell place i s w)
 
-  pub ready_no : (rows : List Row) → rows ≡ cell.rows ++ broken_row row ∷ [] → CellLaws → HasBoxWidth qp cell.rows → IsReady qp laws (record { rows = rows; next = place + 1 })
+  pub ready_no : (rows : List Row) → rows ≡ cell.rows ++ broken_row row ∷ [] → CellTheorems → HasBoxWidth qp cell.rows → IsReady qp laws (record { rows = rows; next = place + 1 })
   ready_no rows e points w = on_no (IsReady qp laws) rows e (no_ready qp laws borders are cell place i s points w)
 
   -- the no side has the run of where the row fails
@@ -44,7 +44,7 @@ module _ (qp : Qp) (laws : List Law) (borders : List (List RowInt)) (are : AreBo
 
 -- ---- the pieces
 module _ (qp : Qp) (laws : List Law) (borders : List (List RowInt)) (are : AreBorders qp laws borders) (kept : KeptCell) (next place i : ℕ) (s : IsSplitAt qp laws borders (cell_at kept next) place i) (row : RowInt) (same : row ≡ s.row) (broken : Option LinearSystem) (pieces : List Piece) (p : AreSides kept row broken place pieces) where
-  pub split_open : CellLaws → IsReady qp laws (cell_at kept next) → IsRunOf qp kept.rows.items kept.run → IsRunOf qp (kept.rows.items ++ broken_row s.row ∷ []) broken → All (IsOpen qp laws) pieces
+  pub split_open : CellTheorems → IsReady qp laws (cell_at kept next) → IsRunOf qp kept.rows.items kept.run → IsRunOf qp (kept.rows.items ++ broken_row s.row ∷ []) broken → All (IsOpen qp laws) pieces
   split_open points ready run fails =
       let yes : IsOpen qp laws (Open p.yes place) = (
         ready_yes qp laws borders are (cell_at kept next) place i s row same p.yes.rows.items p.yes_rows ready.width,

@@ -8,7 +8,7 @@ use Rattle.std.proofs.lemmas.List.Elements.{All-weaker, All-contains_itself, All
 use Rattle.mpc_space.specs.Matrix.{height}
 use Rattle.mpc_sets.specs.RowSet.{RisesWithin, IsSetOfRows}
 use Rattle.mpc_sets.specs.SetOrder.{set_cmp, set_cmp-total, IsBefore, IsInOrder}
-use Rattle.mpc_sets.specs.SetLaws.{CountLaws}
+use Rattle.mpc_sets.specs.SetTheorems.{CountTheorems}
 use Rattle.mpc_rows.specs.declared.programs.Qp.{Qp}
 use Rattle.mpc_rows.specs.declared.laws.Law.{Law}
 use Rattle.mpc_rows.specs.Laws.{HasLawShape}
@@ -35,7 +35,7 @@ table_shape qp laws t law c = (t.are_laws law c).verdict.2.shape
 pub all_laws : (laws : List Law) (P : Law → Type 0) → ((law : Law) → Contains laws law → P law) → All P laws
 all_laws laws P h = All-weaker (Contains laws) P h laws (All-contains_itself laws)
 
-module _ (counts : CountLaws) (qp : Qp) (laws : List Law) (table : IsTable qp laws) where
+module _ (counts : CountTheorems) (qp : Qp) (laws : List Law) (table : IsTable qp laws) where
   sets : List (List ℕ)
   sets = map (λ law. law.set) laws
 

@@ -11,7 +11,7 @@ use Rattle.mpc_rows.specs.declared.places.Place.{Place}
 use Rattle.mpc_rows.specs.declared.places.Place.TheVariants.{Meet, Holds}
 use Rattle.mpc_rows.specs.RunWidth.{RunFits}
 use Rattle.mpc_rows.specs.LawRows.{AreLawRows}
-use Rattle.mpc_rows.specs.LawLaws.{LawLaws}
+use Rattle.mpc_rows.specs.LawTheorems.{LawTheorems}
 use Rattle.mpc_tree.specs.Cells.{FailsOn, NoneMeetsBefore, IsFirstToMeet}
 use Rattle.mpc_systems.specs.Systems.{meet_system}
 use Rattle.mpc_tree.specs.Trees.{Cell, IsOfLaw, IsLeafOf}
@@ -20,7 +20,7 @@ use Rattle.mpc_tree.specs.WideRuns.{IsWideMeet, IsWideHold, IsWideRow, IsWideJoi
 use Rattle.mpc_tree.proofs.OneCell.{same_place, same_item, one_first_place, one_first_law, none_not_first}
 
 -- ---- the searches for a state of the cell in a region
-module _ (single : LawLaws) (qp : Qp) (laws : List Law) (cell : Cell) where
+module _ (single : LawTheorems) (qp : Qp) (laws : List Law) (cell : Cell) where
   -- none that fits is too wide
   pub meet_not_wide : (upto number : ℕ) → MeetsFit qp laws cell upto → (w : IsWideMeet qp laws cell number) → ¬ (w.place < upto)
   meet_not_wide upto number fit w below =
@@ -60,7 +60,7 @@ module _ (qp : Qp) (cell : List Row) (rows : List RowInt) where
       w.none_before place row behind is fails
 
 -- ---- a node
-module _ (single : LawLaws) (qp : Qp) (laws : List Law) (cell : Cell) where
+module _ (single : LawTheorems) (qp : Qp) (laws : List Law) (cell : Cell) where
   pub row_not_wide : (number i p : ℕ) (law : Law) → IsFirstToMeet qp laws cell.rows p law → (rows : List RowInt) → AreLawRows qp law rows → (w : IsWideRow qp laws cell number i) → IsWideHold qp cell.rows rows i
   row_not_wide number i p law first rows are w =
       let laws_same : w.law ≡ law = one_first_law qp laws cell.rows w.place p w.law law w.first first in

@@ -16,7 +16,7 @@ use mpc_frac::NoMemory;
 use mpc_linear::RowInt;
 use mpc_rows::{LawTable, Node, Place, Qp, Tree};
 use mpc_simplex::{Beginning, Workspace};
-use mpc_systems::{broken_row, cell_laws, whole_row};
+use mpc_systems::{broken_row, cell_theorems, whole_row};
 use std::alloc::Global;
 
 /// How many open cells are enough: where the dearest of them takes a seventh of the whole, as in usual
@@ -110,7 +110,7 @@ fn divided_cell(
     ensures open { IfOk result (λ pieces. All (IsOpen qp.now laws.now) pieces.items) }
     ensures finer { IfOk result (λ pieces. IsFiner qp.now laws.now (Piece.Open cell next ∷ []) pieces.items) }
 {
-    cell_laws();
+    cell_theorems();
     let at = Visit { next, node: 1 };
     match place_node(alloc, work, qp, laws, borders, &cell, at) {
         Ok(Placed::Split { place, row, run }) => {

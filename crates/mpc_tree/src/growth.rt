@@ -18,7 +18,7 @@ use mpc_frac::NoMemory;
 use mpc_linear::{Ints, RowInt};
 use mpc_rows::{LawTable, Node, Qp, Row, Tree};
 use mpc_simplex::{Beginning, Workspace};
-use mpc_systems::{broken_row, cell_laws, whole_row};
+use mpc_systems::{broken_row, cell_theorems, whole_row};
 use std::alloc::Global;
 
 /// The no side of a split whose yes side comes first: how many rows its cell shares with the split's,
@@ -122,7 +122,7 @@ pub fn grown(
     ensures wide { IfErr result (λ e. IfRefused e (IsFirstWide qp.now laws.now (record { rows = cell.rows.items; next = next }) 1)) }
     ensures given_up { IfErr result (λ e. IfGivenUp e (IsSome watch.entry)) }
 {
-    cell_laws();
+    cell_theorems();
     let mut tree = Tree::new(alloc);
     let mut sides = Vec::new(alloc);
     let mut work = Workspace::new(alloc);

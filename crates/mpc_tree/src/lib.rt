@@ -18,22 +18,22 @@ mod certs;
 mod errors;
 mod frontier;
 mod growth;
-mod laws;
 mod nodes;
 mod refusals;
 mod runs;
+mod theorems;
 mod threads;
 
 use borders::all_borders;
 pub use errors::TreeError;
 use growth::grown_alone;
-pub use laws::{multipliers_are_cert, one_tree, table_laws};
-use mpc_cover::cover_laws;
+use mpc_cover::cover_theorems;
 use mpc_rows::{LawTable, Qp, Tree};
-use mpc_sets::count_laws;
+use mpc_sets::count_theorems;
 use runs::KeptCell;
 use std::alloc::Global;
 use std::thread::Threads;
+pub use theorems::{multipliers_are_cert, one_tree, table_theorems};
 use threads::grown_in_threads;
 
 /// The search tree of a table of laws over the box (Tøndel, Johansen and Bemporad, 2003): at each
@@ -68,8 +68,8 @@ pub fn build<T: Threads + Sync>(
     ensures wide { MatchResult result (λ nodes. IsFittingTree qp.now laws.now whole_box nodes)
         (λ e. IfWide e (IsFirstWide qp.now laws.now whole_box 1)) }
 {
-    cover_laws();
-    count_laws();
+    cover_theorems();
+    count_theorems();
     let borders = all_borders(alloc, qp, laws)?;
     let cell = KeptCell::of(alloc, qp, Vec::new(alloc))?;
     grown_in_threads(rt, alloc, qp, laws, &borders, cell, 0)
@@ -89,8 +89,8 @@ pub fn build_alone(alloc: Global, qp: &Qp, laws: &LawTable) -> Result<Tree, Tree
     ensures wide { MatchResult result (λ nodes. IsFittingTree qp.now laws.now whole_box nodes)
         (λ e. IfWide e (IsFirstWide qp.now laws.now whole_box 1)) }
 {
-    cover_laws();
-    count_laws();
+    cover_theorems();
+    count_theorems();
     let borders = all_borders(alloc, qp, laws)?;
     let cell = KeptCell::of(alloc, qp, Vec::new(alloc))?;
     grown_alone(alloc, qp, laws, &borders, cell, 0)

@@ -25,7 +25,7 @@ use mpc_linear::RowInt;
 use mpc_region::has_point;
 use mpc_rows::{Cert, Certs, LawTable, Node, Place, Qp, Row};
 use mpc_simplex::{Beginning, SimplexError, Workspace};
-use mpc_systems::{cell_laws, hold_system, joint_system, meet_system};
+use mpc_systems::{cell_theorems, hold_system, joint_system, meet_system};
 use std::alloc::Global;
 
 /// A visit to a node: the place of the law, from 0, with which its search goes on, and the node's number.
@@ -157,7 +157,7 @@ fn first_meeting(
     ensures below { IfOk result (λ o. MatchOption o (at.next ≡ at.next) (λ place. (at.next ≤ place) × (place < length laws.now))) }
     ensures wide { IfErr result (λ e. IfWide e (IsWideAt qp.now laws.now (record { rows = cell.now.rows.items; next = at.next }) at.node)) }
 {
-    cell_laws();
+    cell_theorems();
     for place in at.next..laws.len() {
         match region_meets(alloc, work, qp, cell, &borders[place]) {
             Ok(true) => return Ok(Some(place)),
@@ -189,7 +189,7 @@ fn first_failing(
     ensures held { IfOk result (λ h. IsHeld qp.now cell.now.rows.items rows.now h) }
     ensures wide { IfErr result (λ e. IfWide e (NamesWideRow qp.now cell.now.rows.items rows.now node law)) }
 {
-    cell_laws();
+    cell_theorems();
     let mut certs = Certs::new(alloc);
     for place in 0..rows.len() {
         match hold_end(alloc, work, qp, cell, &rows[place]) {
@@ -241,7 +241,7 @@ pub fn place_node(
     ensures placed { IfOk result (λ p. IsPlaced qp.now laws.now borders.now (record { rows = cell.now.rows.items; next = at.next }) p) }
     ensures wide { IfErr result (λ e. IfWide e (IsWideAt qp.now laws.now (record { rows = cell.now.rows.items; next = at.next }) at.node)) }
 {
-    cell_laws();
+    cell_theorems();
     match first_meeting(alloc, work, qp, laws, borders, cell, at)? {
         None => {
             let cert = joint_cert(alloc, qp, &cell.rows, at.node)?;

@@ -25,7 +25,7 @@ use Rattle.mpc_claim.specs.declared.events.EventKind.{EventKind}
 use Rattle.mpc_claim.specs.declared.candidates.Slot.TheVariants.{Claimed as ClaimedSlot}
 use Rattle.mpc_claim.specs.History.{is_claim, claimed_sets, has_drop, MayClaim, IsLegal, IsOpen, IsFinished, IsIdle, EndsWide, WantsMemory}
 use Rattle.mpc_claim.specs.OpenClaims.{Held, held_by, same_set, same, open_of, opened, open_after, has, without}
-use Rattle.mpc_claim.specs.HistoryLaws.{AppendLaws, OpenListLaws, ClaimLaws}
+use Rattle.mpc_claim.specs.HistoryTheorems.{AppendTheorems, OpenListTheorems, ClaimTheorems}
 use Rattle.mpc_claim.specs.Answers.{Claims}
 use Rattle.mpc_claim.specs.Books.{IsSlotOf, IsSound}
 use Rattle.mpc_turn.specs.declared.view.View.{View}
@@ -443,20 +443,20 @@ module _ (id id' : TableId) (w : ℕ) (m m1 m2 m3 : Sat) (k : Known) (is : known
         )
 
 -- the ticket of a hand is open in what the turn finds
-pub open_ticket : OpenListLaws → AppendLaws → (qp : Qp) (seen log : List Event) (calls : List Call) (t : Ticket) → IsLegal qp log → AreOpen calls log → Starts log seen → has (held_by t) (hand_of calls) ≡ true → 1 ≤ t.number → slice_get (claimed_sets seen) (t.number - 1) ≡ Some t.set → IsOpen log t
+pub open_ticket : OpenListTheorems → AppendTheorems → (qp : Qp) (seen log : List Event) (calls : List Call) (t : Ticket) → IsLegal qp log → AreOpen calls log → Starts log seen → has (held_by t) (hand_of calls) ≡ true → 1 ≤ t.number → slice_get (claimed_sets seen) (t.number - 1) ≡ Some t.set → IsOpen log t
 open_ticket open_list appended qp seen log calls t legal are_open on held from_one numbered = record {
   from_one = from_one;
   numbered = ap (λ l. slice_get (claimed_sets l) (t.number - 1)) on.1 ∙ (ap (λ l. slice_get l (t.number - 1)) (appended.claimed seen on.0) ∙ get_early (claimed_sets seen) (claimed_sets on.0) (t.number - 1) t.set numbered);
   may_end = open_list.is_open qp log t.worker t.set legal (are_open (held_by t) held);
 }
 
-pub turn_opens : OpenListLaws → AppendLaws → (id : TableId) (w : ℕ) (v : View) (m : Sat) (t : Ticket) (k : Known) → known id w v ≡ k → InHand t k → HasTurn v m → Holds m.1 (λ r. IsOpen r.history t × (r.program ≡ k.program))
+pub turn_opens : OpenListTheorems → AppendTheorems → (id : TableId) (w : ℕ) (v : View) (m : Sat) (t : Ticket) (k : Known) → known id w v ≡ k → InHand t k → HasTurn v m → Holds m.1 (λ r. IsOpen r.history t × (r.program ≡ k.program))
 turn_opens open_list appended id w v m t k is hand turn =
     let h : InHand t (known id w v) = subst (InHand t) (sym is) hand in
     let program : v.program ≡ k.program = ap (λ (k : Known). k.program) is in
     (turn.1, ap (λ (x : Sat). x.1) turn.2, (open_ticket open_list appended turn.1.program v.seen turn.1.history v.calls t turn.5 turn.6 turn.4 h.held h.from_one h.numbered, turn.3 ∙ program))
 
-pub turn_delivers : OpenListLaws → AppendLaws → (id : TableId) (w : ℕ) (v : View) (m : Sat) (t : Ticket) (k : Known) (verdict : Verdict) → known id w v ≡ k → InHand t k → HasTurn v m → IsRight k.program t.set verdict → Holds m.1 (MayDeliver t verdict)
+pub turn_delivers : OpenListTheorems → AppendTheorems → (id : TableId) (w : ℕ) (v : View) (m : Sat) (t : Ticket) (k : Known) (verdict : Verdict) → known id w v ≡ k → InHand t k → HasTurn v m → IsRight k.program t.set verdict → Holds m.1 (MayDeliver t verdict)
 turn_delivers open_list appended id w v m t k verdict is hand turn right =
     let o = turn_opens open_list appended id w v m t k is hand turn in
     (o.0, o.1, (o.2.0, subst (λ (j : Qp). IsRight j t.set verdict) (sym o.2.1) right))
@@ -471,7 +471,7 @@ all_empty [] a = refl
 all_empty (c ∷ cs) a = let h : weigh (λ _. 1) (hand_of c) ≡ 0 = ap (weigh (λ _. 1)) (All-head (λ x. hand_of x ≡ []) c cs a) in let r = all_empty cs (All-tail (λ x. hand_of x ≡ []) c cs a) in omega (arith, h, r)
 
 -- where nothing is open, no slot is claimed
-none_claimed : OpenListLaws → ClaimLaws → (r : Board) → IsSound r → open_of r.history ≡ [] → NoneClaimed r
+none_claimed : OpenListTheorems → ClaimTheorems → (r : Board) → IsSound r → open_of r.history ≡ [] → NoneClaimed r
 none_claimed open_list claims r sound none i number within slot = claimed (subst (IsSlotOf r.program r.history i (at r.candidates i).set) slot (sound.slots i within))
   where
     claimed : IsSlotOf r.program r.history i (at r.candidates i).set (ClaimedSlot number) → ⊥
@@ -480,7 +480,7 @@ none_claimed open_list claims r sound none i number within slot = claimed (subst
         let there = open_list.has_open r.history by.0 (at r.candidates i).set (record { claimed = by.1; open_still = begun.1 }) in
         true≢false (sym there ∙ ap (has (by.0, (at r.candidates i).set)) none)
 
-pub closed_of : OpenListLaws → ClaimLaws → (id : TableId) (w : ℕ) (v : View) (r : Board) → IsSound r → Ends v r → Closed (known id w v) r
+pub closed_of : OpenListTheorems → ClaimTheorems → (id : TableId) (w : ℕ) (v : View) (r : Board) → IsSound r → Ends v r → Closed (known id w v) r
 closed_of open_list claims id w v r sound e = record {
   program = e.program;
   legal = e.legal;

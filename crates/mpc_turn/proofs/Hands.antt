@@ -8,7 +8,7 @@ use Rattle.mpc_claim.specs.declared.tickets.Claimed.TheVariants.{Job}
 use Rattle.mpc_claim.specs.Board.{event}
 use Rattle.mpc_claim.specs.History.{is_claim, claimed_sets}
 use Rattle.mpc_claim.specs.OpenClaims.{Held, held_by, same, without}
-use Rattle.mpc_claim.specs.HistoryLaws.{AppendLaws}
+use Rattle.mpc_claim.specs.HistoryTheorems.{AppendTheorems}
 use Rattle.mpc_turn.specs.Views.{hand_of}
 use Rattle.mpc_turn.specs.Known.{Known, ClaimedAs, EndedAs, InHand}
 use Rattle.mpc_turn.proofs.Sums.{hand_of-append, same_set-refl}
@@ -27,7 +27,7 @@ module _ (a b : Known) (t : Ticket) where
       ∙ (hand_of-append a.calls (length c.0) (event a.worker t.set Claim ∷ [])
       ∙ (ap (λ (l : List Held). l ++ (a.worker, t.set) ∷ []) none ∙ ap (λ (w : ℕ). (w, t.set) ∷ []) (sym (ap (λ (x : Ticket). x.worker) c.3))))
 
-  pub in_hand : AppendLaws → hand_of a.calls ≡ [] → ClaimedAs a (Ok (Job t)) b → InHand t b
+  pub in_hand : AppendTheorems → hand_of a.calls ≡ [] → ClaimedAs a (Ok (Job t)) b → InHand t b
   in_hand appended none c =
       let number : t.number ≡ length (claimed_sets c.0) + 1 = ap (λ (x : Ticket). x.number) c.3 in
       let place : t.number - 1 ≡ length (claimed_sets c.0) = omega (arith, number) in

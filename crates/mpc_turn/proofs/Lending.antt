@@ -14,7 +14,7 @@ use Rattle.mpc_rows.specs.declared.programs.Qp.{Qp}
 use Rattle.mpc_claim.specs.declared.events.Event.{Event}
 use Rattle.mpc_claim.specs.Board.{Board}
 use Rattle.mpc_claim.specs.History.{IsLegal}
-use Rattle.mpc_claim.specs.HistoryLaws.{LegalBeginnings}
+use Rattle.mpc_claim.specs.HistoryTheorems.{LegalBeginnings}
 use Rattle.mpc_claim.specs.OpenClaims.{Held, open_of}
 use Rattle.mpc_turn.specs.declared.view.View.{View}
 use Rattle.mpc_turn.specs.Views.{Call, weigh, weigh_all, placed, hand_of, hands_of, Starts, nobody, first_view, parts_of, firsts_of, one_if, waits, calls_weight, hands_weight, left_of, right_of, both_of, longer, settled}

@@ -18,7 +18,7 @@ use Rattle.mpc_claim.specs.Board.{Board, at, event}
 use Rattle.mpc_claim.specs.declared.candidates.Slot.TheVariants.{Claimed as ClaimedSlot}
 use Rattle.mpc_claim.specs.History.{claimed_sets, has_drop, MayClaim, IsLegal, IsOpen, IsFinished, IsIdle, EndsWide, WantsMemory}
 use Rattle.mpc_claim.specs.OpenClaims.{held_by, open_of, has}
-use Rattle.mpc_claim.specs.HistoryLaws.{next_ticket}
+use Rattle.mpc_claim.specs.HistoryTheorems.{next_ticket}
 use Rattle.mpc_claim.specs.Answers.{Claims}
 use Rattle.mpc_turn.specs.declared.view.View.{View}
 use Rattle.mpc_turn.specs.Views.{Call, weigh, weigh_all, placed, hand_of, Starts, numbered, turned, Follows, AreOpen}

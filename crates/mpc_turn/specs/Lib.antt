@@ -2,4 +2,4 @@ pub mod Blank
 pub mod Views
 pub mod Lock
 pub mod Known
-pub mod HandLaws
+pub mod HandTheorems

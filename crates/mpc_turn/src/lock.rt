@@ -13,7 +13,7 @@ ghost use Rattle.mpc_turn.specs.Known.{Known, first_pass, ClaimedAs, EndedAs, En
 use crate::passes::{Pass, Seat};
 use crate::view::{Compare, Draw, Law, Lend, Look, Serve, View};
 use atomic_table::Table;
-use mpc_claim::{Ahead, Claimed, Delivery, Registry, Ticket, history_laws, legal_laws};
+use mpc_claim::{Ahead, Claimed, Delivery, Registry, Ticket, history_theorems, legal_theorems};
 use mpc_frac::NoMemory;
 use mpc_rows::Judged;
 use std::alloc::Global;
@@ -306,7 +306,7 @@ impl Turn {
         requires right { IsRight pass.old.program ticket.set judged.verdict }
         ensures { EndedAs pass.old ticket (Done (tag_of judged.verdict)) pass.new }
     {
-        legal_laws();
+        legal_theorems();
         self.take(rt, &mut pass.seat);
         let answer = self.deliver_in(&mut pass.seat, ticket, judged);
         self.serve(&mut pass.seat);
@@ -328,7 +328,7 @@ impl Turn {
         requires right { IsRight pass.old.program ticket.set judged.verdict }
         ensures { EndedThenClaimed pass.old ticket (Done (tag_of judged.verdict)) result pass.new }
     {
-        legal_laws();
+        legal_theorems();
         self.take(rt, &mut pass.seat);
         let _ = self.deliver_in(&mut pass.seat, ticket, judged);
         let claimed = self.claim_in(&mut pass.seat, pass.worker);
@@ -342,7 +342,7 @@ impl Turn {
         requires hand { InHand ticket pass.old }
         ensures { EndedAs pass.old ticket Drop pass.new }
     {
-        legal_laws();
+        legal_theorems();
         self.take(rt, &mut pass.seat);
         let answer = self.abandon_in(&mut pass.seat, ticket);
         self.serve(&mut pass.seat);
@@ -371,7 +371,7 @@ impl Turn {
         ensures lent { 0 < first.old.lent }
         ensures seen { Starts first.new.seen first.old.seen × Starts first.new.seen other.seen }
     {
-        history_laws();
+        history_theorems();
         let Pass { seat, worker: _ } = other;
         self.table.shared.join_seat::<Lend>(&mut first.seat, seat);
         self.table.shared.load::<Compare>(&mut first.seat, TICKET);
@@ -384,7 +384,7 @@ impl Turn {
         requires none_lent { first.lent ≡ 0 }
         ensures { Closed first result }
     {
-        legal_laws();
+        legal_theorems();
         let Turn {
             table,
             sleepers: _,

@@ -4,7 +4,7 @@ use Rattle.std.proofs.lemmas.Bool.{cases_eq}
 use Rattle.mpc_exact.specs.Rational.{ℚ, int, ◌+ℚ◌, ◌*ℚ◌}
 use Rattle.mpc_frac.specs.Fits.{FitsFrac, FitsSum}
 use Rattle.mpc_linear.specs.Dot.{TermFits as Part}
-use Rattle.mpc_linear.specs.ZeroLaws.{ZeroLaws}
+use Rattle.mpc_linear.specs.ZeroTheorems.{ZeroTheorems}
 use Rattle.mpc_exact.specs.Pair.{Pair}
 use Rattle.mpc_whole.proofs.Read.{rest_unknown}
 use Rattle.mpc_exact.proofs.RationalRing.{reads, by_ring}
@@ -74,10 +74,10 @@ module _ (s : LinearSystem) (p : Position) (x : ℕ) where
   pub second_unknowns : (y : ℕ) → y ≤ s.width → int (pos 0) ≡ total y (second_terms s p x)
   second_unknowns y h = sym (total-zeros y (second_terms s p x) (λ z k. second_nought z (omega arith)))
 
-  none : ZeroLaws → FitsSum (int (pos 0)) (int (pos 0))
+  none : ZeroTheorems → FitsSum (int (pos 0)) (int (pos 0))
   none laws = laws.zero_added_fits (int (pos 0)) laws.zero_fits
 
-  pub unknown_fits : ZeroLaws → (y : ℕ) → y < s.width → TermFits s p x y
+  pub unknown_fits : ZeroTheorems → (y : ℕ) → y < s.width → TermFits s p x y
   unknown_fits laws y h = record {
     first_product = subst (λ z. FitsFrac z) (sym (first_nought y h)) laws.zero_fits;
     first_sum = subst₂ (λ u v. FitsSum u v) (first_unknowns y (omega arith)) (sym (first_nought y h)) (none laws);

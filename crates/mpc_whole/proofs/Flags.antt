@@ -1,7 +1,7 @@
 -- Tests as they come out.
 use Rattle.std.proofs.Common.{◌≡◌, Bool, true, false, T, refl, sym, subst}
 use Rattle.mpc_exact.specs.Rational.{ℚ, ◌≤ℚ◌, lt_ℚ}
-use Rattle.mpc_exact.proofs.OrderLaws.{lt_ℚ-false}
+use Rattle.mpc_exact.proofs.OrderTheorems.{lt_ℚ-false}
 
 pub test_true : (b : Bool) → T b → b ≡ true
 test_true true t = refl

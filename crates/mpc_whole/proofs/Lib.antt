@@ -44,5 +44,5 @@ pub mod JudgedTurns
 pub mod WholeRows
 pub mod WholeSystems
 pub mod WholeAppended
-pub mod OverLaws
+pub mod OverTheorems
 pub mod TurnedWhole

@@ -6,7 +6,7 @@ use Rattle.mpc_exact.specs.Rational.{ℚ, frac, int, ◌+ℚ◌, ◌-ℚ◌, ◌
 use Rattle.mpc_exact.proofs.Rational.{same_frac, frac-mul, frac-neg, *ℚ_inv}
 use Rattle.mpc_exact.proofs.RationalRing.{reads, by_ring, by_equation, by_equations}
 use Rattle.mpc_exact.proofs.IntRing.{int_reads, by_ring_ℤ}
-use Rattle.mpc_exact.proofs.OrderLaws.{inv-mul, inv_inv, inv_not_zero, product_not_zero}
+use Rattle.mpc_exact.proofs.OrderTheorems.{inv-mul, inv_inv, inv_not_zero, product_not_zero}
 use Rattle.mpc_exact.proofs.School.{frac_inv, int_lt}
 use Rattle.mpc_exact.proofs.RationalOrder.{one_last, <ℚ_irrefl}
 use Rattle.mpc_whole.specs.Whole.{turned, whole_total}

@@ -9,7 +9,7 @@ use Rattle.mpc_exact.proofs.Pair.{is_below-true, is_below-false, at_most-not-bel
 use Rattle.mpc_exact.proofs.Rational.{same_frac}
 use Rattle.mpc_exact.proofs.IntRing.{int_reads, by_ring_ℤ, int_mul-lt, int_mul-le}
 use Rattle.mpc_exact.proofs.RationalOrder.{lt_frac, le_frac, one_last, <ℚ_irrefl}
-use Rattle.mpc_exact.proofs.OrderLaws.{<ℚ_trans}
+use Rattle.mpc_exact.proofs.OrderTheorems.{<ℚ_trans}
 use Rattle.mpc_exact.proofs.RationalField.{lt_ℚ_is}
 use Rattle.mpc_rows.specs.Least.{least, or_at}
 use Rattle.mpc_rows.specs.LinearSystem.{LinearSystem}

@@ -10,6 +10,6 @@ pub mod Norms
 pub mod Running
 pub mod Found
 pub mod RunEnd
-pub mod OverLaws
+pub mod OverTheorems
 pub mod Judged
 pub mod Lists

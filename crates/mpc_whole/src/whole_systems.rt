@@ -644,7 +644,7 @@ impl WholeSystem {
         }
     }
 
-    /// Each row has one coefficient for each unknown. The call does nothing: its contract is the law.
+    /// Each row has one coefficient for each unknown. The call does nothing: its contract is the theorem.
     pub fn has_width(&self)
         ensures { HasWidth self.now.width self.now.rows }
     {

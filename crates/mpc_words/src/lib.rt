@@ -5,14 +5,17 @@
 
 mod fractions;
 mod integers;
-mod laws;
 mod lines;
 mod naturals;
+mod theorems;
 mod whole_lines;
 
 pub use fractions::read_fraction;
 pub use integers::read_integer;
-pub use laws::{cut_laws, fraction_laws, integer_laws, line_laws, natural_laws, whole_line_laws};
 pub use lines::{next_line, split_word};
 pub use naturals::{Natural, read_natural};
+pub use theorems::{
+    cut_theorems, fraction_theorems, integer_theorems, line_theorems, natural_theorems,
+    whole_line_theorems,
+};
 pub use whole_lines::cut_at_line;

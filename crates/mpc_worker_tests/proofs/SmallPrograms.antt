@@ -3,7 +3,7 @@ use Rattle.std.proofs.Common.{◌≡◌, List, [], ◌∷◌, length, get_or, Al
 use Rattle.std.proofs.lemmas.List.Elements.{All-from_recursion}
 use Rattle.mpc_exact.specs.Rational.{ℚ, int, ◌+ℚ◌, ◌*ℚ◌, ◌<ℚ◌, IsPositive}
 use Rattle.mpc_exact.proofs.RationalOrder.{positive-mul}
-use Rattle.mpc_exact.proofs.OrderLaws.{positive_square}
+use Rattle.mpc_exact.proofs.OrderTheorems.{positive_square}
 use Rattle.mpc_exact.proofs.RationalRing.{reads, by_ring}
 use Rattle.mpc_space.specs.Vector.{cell, quadratic}
 use Rattle.mpc_space.specs.Matrix.{RationalMatrix, height, IsRectangular, entry}

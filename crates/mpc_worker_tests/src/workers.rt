@@ -10,7 +10,7 @@ use mpc_claim::{Action, Claimed, EventKind, Phase, Played, Registry, World};
 use mpc_region::examine;
 use mpc_rows::Qp;
 use mpc_sets::ActiveSet;
-use mpc_turn::{Pass, Turn, hand_laws};
+use mpc_turn::{Pass, Turn, hand_theorems};
 use mpc_workers::{Gate, OpenGate, WorkError, enumerate, enumerate_alone};
 use std::alloc::Global;
 use std::process::Abort;
@@ -138,7 +138,7 @@ fn finds_idle<T: Wait>(rt: &T, turn: &Turn, pass: &mut Pass) -> bool
     requires turn { pass.old.turn ≡ turn.now }
     requires empty { hand_of pass.old.calls ≡ [] }
 {
-    hand_laws();
+    hand_theorems();
     match turn.claim_as(rt, pass) {
         Ok(Claimed::Job(ticket)) => {
             let _ = turn.abandon_as(rt, pass, ticket);
@@ -157,7 +157,7 @@ fn held_alone<T: Wait>(rt: &T, turn: &Turn, first: &mut Pass, other: &mut Pass) 
     requires turn { (first.old.turn ≡ turn.now) × (other.old.turn ≡ turn.now) }
     requires empty { (hand_of first.old.calls ≡ []) × (hand_of other.old.calls ≡ []) }
 {
-    hand_laws();
+    hand_theorems();
     match turn.claim_as(rt, first) {
         Ok(Claimed::Job(ticket)) => {
             let mask = ticket.set().mask();

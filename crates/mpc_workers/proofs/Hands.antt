@@ -13,10 +13,10 @@ use Rattle.mpc_claim.specs.declared.tickets.Claimed.{Claimed}
 use Rattle.mpc_claim.specs.declared.tickets.Claimed.TheVariants.{Job, Idle, Finished, Stopped}
 use Rattle.mpc_claim.specs.Board.{event}
 use Rattle.mpc_claim.specs.History.{is_claim, is_drop}
-use Rattle.mpc_claim.specs.HistoryLaws.{CandidateLaws}
+use Rattle.mpc_claim.specs.HistoryTheorems.{CandidateTheorems}
 use Rattle.mpc_turn.specs.Views.{Call}
 use Rattle.mpc_turn.specs.Known.{Known, TurnId, ClaimedAs, EndedAs, InHand, called}
-use Rattle.mpc_turn.specs.HandLaws.{ClaimFills, ClaimIsInHand, EndEmpties}
+use Rattle.mpc_turn.specs.HandTheorems.{ClaimFills, ClaimIsInHand, EndEmpties}
 use Rattle.mpc_workers.specs.declared.seats.Post.{Post}
 use Rattle.mpc_workers.specs.Calls.{GivesNoneUp, TakesTurns}
 use Rattle.mpc_workers.specs.Posts.{GivesNoJob, IsPassOf, IsPost, IsAnswered, IsBusy, opening, post_with}
@@ -33,10 +33,10 @@ module _ (worker : ℕ) (turn : TurnId) (qp : Qp) (t : Ticket) (post : Post) (b 
   pub its_turn : post.pass.turn ≡ turn
   its_turn = ap (λ (k : Known). k.turn) b.answered.claimed.2 ∙ b.answered.pass.turn_is
 
-  pub its_rows : CandidateLaws → IsSetOfRows (height qp.g) t.set
+  pub its_rows : CandidateTheorems → IsSetOfRows (height qp.g) t.set
   its_rows laws = subst (λ (q : Qp). IsSetOfRows (height q.g) t.set) b.answered.pass.program (laws.rows before.program t.set b.answered.claimed.4.candidate)
 
-  pub its_few : CandidateLaws → length t.set ≤ height qp.h
+  pub its_few : CandidateTheorems → length t.set ≤ height qp.h
   its_few laws = subst (λ (q : Qp). length t.set ≤ height q.h) b.answered.pass.program (laws.few before.program t.set b.answered.claimed.4.candidate)
 
   pub its_hand : ClaimIsInHand → InHand t post.pass

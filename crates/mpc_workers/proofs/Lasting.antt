@@ -14,7 +14,7 @@ use Rattle.mpc_claim.specs.History.{is_drop, has_drop, MayClaim, IsLegal, IsFini
 use Rattle.mpc_claim.specs.OpenClaims.{open_of}
 use Rattle.mpc_claim.specs.Books.{IsSlotOf, IsSound}
 use Rattle.mpc_claim.specs.Answers.{GivesJob, FindsIdle}
-use Rattle.mpc_claim.specs.HistoryLaws.{AnswerLaws, AppendLaws, EndedIsWhole}
+use Rattle.mpc_claim.specs.HistoryTheorems.{AnswerTheorems, AppendTheorems, EndedIsWhole}
 use Rattle.mpc_turn.specs.Views.{Call, Starts, weigh, weigh_all, placed, hand_of}
 use Rattle.mpc_turn.specs.Known.{Known, TurnId, Closed, NoneClaimed, at_place}
 use Rattle.mpc_workers.specs.Holding.{HoldOneSet}
@@ -67,7 +67,7 @@ no_drops k (e ∷ es) z = go (is_drop e.kind) refl (no_drops (k + 1) es)
     go false q r = rw q (r (omega arith))
 
 -- ---- the closed turn
-module _ (whole : EndedIsWhole) (appended : AppendLaws) (turn : TurnId) (qp : Qp) (most : ℕ) (k : Known) (r : Board) (j : Joins turn qp most 0 k) (kept : All GivesNoneUp k.ended) (d : SeesEnd qp k) (c : Closed k r) where
+module _ (whole : EndedIsWhole) (appended : AppendTheorems) (turn : TurnId) (qp : Qp) (most : ℕ) (k : Known) (r : Board) (j : Joins turn qp most 0 k) (kept : All GivesNoneUp k.ended) (d : SeesEnd qp k) (c : Closed k r) where
   same_program : r.program ≡ qp
   same_program = c.program ∙ j.program
 
@@ -125,7 +125,7 @@ module _ (whole : EndedIsWhole) (appended : AppendLaws) (turn : TurnId) (qp : Qp
       }
 
 -- ---- the last claim
-module _ (answers : AnswerLaws) (qp : Qp) (most : ℕ) (r : Board) (l : IsLeft qp most r) where
+module _ (answers : AnswerTheorems) (qp : Qp) (most : ℕ) (r : Board) (l : IsLeft qp most r) where
   pub no_job : (worker : ℕ) (ticket : Ticket) (new : Board) → GivesJob r worker ticket new → ⊥
   no_job worker ticket new j = go l.ended
     where

@@ -13,7 +13,7 @@ use Rattle.mpc_claim.specs.declared.tickets.Ticket.{Ticket}
 use Rattle.mpc_claim.specs.Board.{Board, event, tag_of}
 use Rattle.mpc_claim.specs.History.{claimed_sets, ended_sets, has_drop, IsLegal, IsFinished, EndsWide}
 use Rattle.mpc_claim.specs.Answers.{GivesJob, FindsIdle}
-use Rattle.mpc_claim.specs.HistoryLaws.{AppendLaws, CandidateLaws, ClaimLaws, LegalLaws}
+use Rattle.mpc_claim.specs.HistoryTheorems.{AppendTheorems, CandidateTheorems, ClaimTheorems, LegalTheorems}
 use Rattle.mpc_workers.specs.Alone.{IsTurn, AreTurns, Delivers, IsDoneAlone}
 use Rattle.mpc_workers.proofs.Holding.{turns_hold_one}
 
@@ -47,7 +47,7 @@ turns_no_drop (x ∷ y ∷ rest) t =
     ap (λ (v : Event). has_drop (v ∷ y ∷ rest)) t.0.claim_is ∙ ap (λ (v : Event). has_drop (event 1 t.0.set Claim ∷ v ∷ rest)) t.0.done_is ∙ turns_no_drop rest t.1
 
 -- between turns nobody waits for another
-pub never_idle : ClaimLaws → (board : Board) → AreTurns board.history → FindsIdle board → ⊥
+pub never_idle : ClaimTheorems → (board : Board) → AreTurns board.history → FindsIdle board → ⊥
 never_idle claims board t i =
     i.idle.open_still.open_still (turns_ended board.history i.idle.set t (claims.claims board.history i.idle.worker i.idle.set i.idle.open_still.claimed))
 
@@ -57,7 +57,7 @@ pub record IsBetweenTurns (qp : Qp) (board : Board) : Type 0 where
   pub legal : IsLegal qp board.history
   pub turns : AreTurns board.history
 
-module _ (legal : LegalLaws) (claims : ClaimLaws) (appended : AppendLaws) (candidates : CandidateLaws) (qp : Qp) (old middle new : Board) (ticket : Ticket) (b : IsBetweenTurns qp old) (j : GivesJob old 1 ticket middle) where
+module _ (legal : LegalTheorems) (claims : ClaimTheorems) (appended : AppendTheorems) (candidates : CandidateTheorems) (qp : Qp) (old middle new : Board) (ticket : Ticket) (b : IsBetweenTurns qp old) (j : GivesJob old 1 ticket middle) where
   pub middle_program : middle.program ≡ qp
   middle_program = j.program ∙ b.program
 

@@ -9,7 +9,7 @@ ghost use Rattle.mpc_rows.specs.Candidates.{IsCandidate};
 ghost use Rattle.mpc_rows.specs.Verdicts.{IsRight};
 ghost use Rattle.mpc_workers.specs.Ahead.{AreKnown};
 
-use mpc_claim::{Ahead, claim_laws};
+use mpc_claim::{Ahead, claim_theorems};
 use mpc_frac::NoMemory;
 use mpc_region::Examiner;
 use mpc_rows::{Judged, Qp};
@@ -182,7 +182,7 @@ impl<'a> Outlook<'a> {
         requires definite { IsDefinite self.old.h.rows }
         ensures program { self.new ≡ self.old }
     {
-        claim_laws();
+        claim_theorems();
         if self.done >= self.ahead.sets.len() {
             return Ok(false);
         }

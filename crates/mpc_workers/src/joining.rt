@@ -8,7 +8,7 @@ ghost use Rattle.mpc_workers.specs.Joined.{IsJoining, IsLeft};
 ghost use Rattle.mpc_workers.specs.Seats.{AreNumbered, IsDone, IsSeat, IsWorker};
 
 use crate::seats::{Post, Seat};
-use mpc_claim::{Claimed, Registry, claim_laws, history_laws, legal_laws};
+use mpc_claim::{Claimed, Registry, claim_theorems, history_theorems, legal_theorems};
 use mpc_frac::NoMemory;
 use mpc_rows::Qp;
 use mpc_turn::Turn;
@@ -76,7 +76,7 @@ fn settle(registry: &mut Registry, _qp: &Qp, _workers: u32) -> Result<(), NoMemo
     requires { IsLeft _qp.now _workers registry.old }
     ensures { OnOk result (IsDone _qp.now _workers registry.new) }
 {
-    claim_laws();
+    claim_theorems();
     match registry.claim(1)? {
         Claimed::Job(ticket) => {
             let _ = registry.abandon(ticket);
@@ -100,8 +100,8 @@ fn close_one(turn: Turn, first: Post, qp: &Qp, workers: u32) -> Result<Registry,
     requires { IsJoining workers 0 turn qp.now first }
     ensures { IfOk result (IsDone qp.now workers) }
 {
-    history_laws();
-    legal_laws();
+    history_theorems();
+    legal_theorems();
     let Post {
         pass,
         gave_up,

@@ -20,7 +20,7 @@ mod waiting;
 mod working;
 
 pub use delivery::{Gate, OpenGate};
-use mpc_claim::{Claimed, Registry, Ticket, claim_laws, legal_laws};
+use mpc_claim::{Claimed, Registry, Ticket, claim_theorems, legal_theorems};
 use mpc_frac::NoMemory;
 use mpc_region::Examiner;
 use mpc_rows::Qp;
@@ -74,8 +74,8 @@ fn take_turns<G: Gate>(
     requires examiner { examiner.old ≡ _qp.now }
     ensures { OnOk result (IsDoneAlone _qp.now registry.new) }
 {
-    legal_laws();
-    claim_laws();
+    legal_theorems();
+    claim_theorems();
     'turns: loop {
         match registry.claim(1)? {
             Claimed::Job(ticket) => take_turn(alloc, registry, examiner, ticket, gate)?,

@@ -14,10 +14,10 @@ use crate::ahead::{NOWHERE, Outlook, discard};
 use crate::delivery::Gate;
 use crate::seats::{Post, Seat};
 use crate::waiting::{News, seats_at_once};
-use mpc_claim::{Ahead, Claimed, Ticket, claim_laws};
+use mpc_claim::{Ahead, Claimed, Ticket, claim_theorems};
 use mpc_frac::NoMemory;
 use mpc_rows::{Judged, Qp};
-use mpc_turn::{Turn, hand_laws};
+use mpc_turn::{Turn, hand_theorems};
 use std::alloc::Global;
 use std::sync::Wait;
 use std::thread::Threads;
@@ -290,7 +290,7 @@ fn deliver<T: Wait>(
     ensures post { IsPost number turn.now _qp.now post.new }
     ensures working { post.new.saw_end ≡ false }
 {
-    hand_laws();
+    hand_theorems();
     let _ = turn.deliver_as(rt, &mut post.pass, ticket, judged);
 }
 
@@ -411,8 +411,8 @@ fn finish_set<'a, T: Wait, G: Gate>(
     ensures none { result ≡ Ok None → IsPost number turn.now qp.now post.new }
     ensures err { OnErr result (IsPost number turn.now qp.now post.new) }
 {
-    hand_laws();
-    claim_laws();
+    hand_theorems();
+    claim_theorems();
     worker.report(ticket.set().size(), pool.news);
     let next = ticket.number() as usize;
     let judged = match worker.examine(pool.alloc, qp, &ticket) {

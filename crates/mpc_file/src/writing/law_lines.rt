@@ -10,7 +10,7 @@ ghost use Rattle.mpc_file.specs.FormNames.{form_line, AreForms, AreNumbered, IsL
 
 use super::names::Names;
 use super::words::{end_line, write_count, write_count_line, write_fractions, write_piece};
-use crate::line_laws::one_fractions;
+use crate::line_theorems::one_fractions;
 use mpc_frac::{Frac, NoMemory};
 use mpc_linear::Matrix;
 use mpc_rows::{Law, LawTable};

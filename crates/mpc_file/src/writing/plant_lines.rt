@@ -14,7 +14,7 @@ use super::words::{
     end_line, write_count, write_count_line, write_fraction, write_fractions, write_fractions_line,
     write_piece,
 };
-use crate::line_laws::word_laws;
+use crate::line_theorems::word_theorems;
 use mpc_frac::NoMemory;
 use mpc_linear::Matrix;
 use mpc_plant::{Coordinate, Coordinates, Plant, PlantRow, PlantRows};
@@ -183,7 +183,7 @@ pub fn write_plant(plant: &Plant, out: &mut Vec<u8>) -> Result<(), NoMemory>
     ensures prints { OnOk result (Prints (plant_of Three) plant.now (text_of_lines (plant_lines plant.now))) }
     ensures kept { take (length out.old.items) out.new.items ≡ out.old.items }
 {
-    word_laws();
+    word_theorems();
     write_size(plant, out)?;
     write_matrices(plant, out)?;
     write_drift(plant, out)?;

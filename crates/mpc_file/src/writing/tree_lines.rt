@@ -16,7 +16,7 @@ use super::names::Names;
 use super::words::{
     end_line, write_count, write_count_line, write_fraction, write_integer, write_piece,
 };
-use crate::line_laws::{one_integers, word_laws};
+use crate::line_theorems::{one_integers, word_theorems};
 use mpc_frac::{Frac, NoMemory};
 use mpc_linear::RowInt;
 use mpc_rows::{Cert, Certs, Node, Tree};
@@ -163,7 +163,7 @@ pub fn write_tree(alloc: Global, tree: &Tree, out: &mut Vec<u8>) -> Result<(), N
     ensures written { OnOk result ((plant : Plant) → All (IsGoodNode plant) tree.now → IsTreeWritten plant tree.now out.old.items out.new.items) }
     ensures kept { take (length out.old.items) out.new.items ≡ out.old.items }
 {
-    word_laws();
+    word_theorems();
     let mut names = Names::new(alloc);
     let mut text = Vec::new(alloc);
     write_nodes(alloc, tree, &mut names, &mut text)?;

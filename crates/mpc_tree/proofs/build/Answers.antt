@@ -7,10 +7,10 @@ pub all_borders-requires-clause-are_laws : goal.all_borders-requires-clause-are_
 all_borders-requires-clause-are_laws g c = laws_of_table c.args.qp.now c.args.laws.now c.requires.table
 
 pub grown_in_threads-requires-clause-few : goal.grown_in_threads-requires-clause-few
-grown_in_threads-requires-clause-few g c κs within = laws_numbered c.count_laws.ensures c.args.qp.now c.args.laws.now c.requires.table
+grown_in_threads-requires-clause-few g c κs within = laws_numbered c.count_theorems.ensures c.args.qp.now c.args.laws.now c.requires.table
 
 pub grown_in_threads-requires-clause-cover : goal.grown_in_threads-requires-clause-cover
-grown_in_threads-requires-clause-cover g c κs within = table_covers c.cover_laws.ensures.of_every_table c.args.qp.now c.args.laws.now c.requires.definite c.requires.table
+grown_in_threads-requires-clause-cover g c κs within = table_covers c.cover_theorems.ensures.of_every_table c.args.qp.now c.args.laws.now c.requires.definite c.requires.table
 
 pub grown_in_threads-requires-clause-ready : goal.grown_in_threads-requires-clause-ready
 grown_in_threads-requires-clause-ready g c κs within = box_ready c.args.qp.now c.args.laws.now c.in_ok-cell.cell.rows.items (c.in_ok-cell.ensures.rows ∙ c.new.ensures.items)
@@ -25,7 +25,7 @@ pub returns-clause-certified : goal.returns-clause-certified
 returns-clause-certified g c = built_certified c.args.qp.now c.args.laws.now c.in_ok-cell.cell.rows.items (c.in_ok-cell.ensures.rows ∙ c.new.ensures.items) c.grown_in_threads.result c.grown_in_threads.ensures.built
 
 pub returns-clause-no_move : goal.returns-clause-no_move
-returns-clause-no_move g c = built_empty c.args.qp.now c.args.laws.now c.in_ok-cell.cell.rows.items (c.in_ok-cell.ensures.rows ∙ c.new.ensures.items) c.grown_in_threads.result c.grown_in_threads.ensures.built (table_covers c.cover_laws.ensures.of_every_table c.args.qp.now c.args.laws.now c.requires.definite c.requires.table)
+returns-clause-no_move g c = built_empty c.args.qp.now c.args.laws.now c.in_ok-cell.cell.rows.items (c.in_ok-cell.ensures.rows ∙ c.new.ensures.items) c.grown_in_threads.result c.grown_in_threads.ensures.built (table_covers c.cover_theorems.ensures.of_every_table c.args.qp.now c.args.laws.now c.requires.definite c.requires.table)
 
 pub returns-clause-wide : goal.returns-clause-wide
 returns-clause-wide g c = built_wide c.args.qp.now c.args.laws.now c.in_ok-cell.cell.rows.items (c.in_ok-cell.ensures.rows ∙ c.new.ensures.items) c.grown_in_threads.result c.grown_in_threads.ensures.built c.grown_in_threads.ensures.wide

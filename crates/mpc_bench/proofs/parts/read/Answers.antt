@@ -26,4 +26,4 @@ pub returns-in-Err-Wide-clause-readable : goal.returns-in-Err-Wide-clause-readab
 returns-in-Err-Wide-clause-readable c readable =
     let d = (goal.at.returns-in-Err-Wide-clause-readable c).After-new in
     absurd ((c.in-Err-Wide.ensures.wide.0 (ap Err c.in-Err-Wide.field-0-is)).1 (subst FitsFrac (sym (λ i. quotient (top d i) (bottom d i)))
-    (readable_fits c.fit_laws.ensures c.args.parts.now.negative (size_of c.args.parts.now) (below_of c.args.parts.now) readable.size_small readable.below_small readable.below_positive)))
+    (readable_fits c.fit_theorems.ensures c.args.parts.now.negative (size_of c.args.parts.now) (below_of c.args.parts.now) readable.size_small readable.below_small readable.below_positive)))

@@ -20,5 +20,5 @@ all c = let a = c.loop-i.auto.i-end in let k = c.loop-i-test.false in omega arit
 
 pub returns : goal.returns
 returns c =
-    is_move c.table_laws.ensures.one_list_each c.table_laws.ensures.moves_each_input c.args.table.now c.args.counts.now c.args.law c.loop-i.moves c.requires.can_move (c.loop-i.auto.moves ∙ c.requires.room)
+    is_move c.table_theorems.ensures.one_list_each c.table_theorems.ensures.moves_each_input c.args.table.now c.args.counts.now c.args.law c.loop-i.moves c.requires.can_move (c.loop-i.auto.moves ∙ c.requires.room)
     (λ k h. c.loop-i.invariant k (subst (λ n. k < n) (c.loop-i.auto.moves ∙ sym (all c)) h))

@@ -17,7 +17,7 @@ returns-in-Some-2-clause-reply c = λ parts suits width_is.
     let s = serves _ _ _ parts suits none in
     let finds = c.in-Some-find_leaf.ensures parts s width_is in
     let leads = law_begins c.args.words.now c.args.counts.now _ parts suits none leaf.node leaf.law leaf.start finds c.if-leaf-eq0.false in
-    moves_reply c.args.words.now c.args.counts.now _ parts suits none leaf.node leaf.law leaf.start finds c.if-leaf-eq0.false c.write_moves.new.moves (c.write_moves.auto.moves ∙ suits.room_each) c.table_laws.ensures.moves_each_input
+    moves_reply c.args.words.now c.args.counts.now _ parts suits none leaf.node leaf.law leaf.start finds c.if-leaf-eq0.false c.write_moves.new.moves (c.write_moves.auto.moves ∙ suits.room_each) c.table_theorems.ensures.moves_each_input
     (λ of_set numbered. (c.if-write_moves.ensures.written parts of_set leaf.law s suits.room_each leads.0 numbered leads.1).1)
 
 pub returns-in_default-find_leaf-clause-reply : goal.returns-in_default-find_leaf-clause-reply

@@ -11,4 +11,4 @@ returns-in-Err c = refused_file c.due_statuses.ensures Check c.args.file.now c.i
 pub returns : goal.returns
 returns c =
     told_text (IsAnswerFor (OfFile Check) c.args.file.now) (codes "accepted\n") c.text_of.result c.text_of.ensures.text c.text_of.ensures.memory
-    (accepted_file c.args.file.now c.in-Ok.controller c.in-Ok.ensures.given c.due_statuses.ensures c.if-file-gt-INPUT_LIMIT.false c.in-Ok.ensures.accepted c.replies_everywhere.ensures c.accepted_replies.ensures c.file_output_laws.ensures.accepted)
+    (accepted_file c.args.file.now c.in-Ok.controller c.in-Ok.ensures.given c.due_statuses.ensures c.if-file-gt-INPUT_LIMIT.false c.in-Ok.ensures.accepted c.replies_everywhere.ensures c.accepted_replies.ensures c.file_output_theorems.ensures.accepted)

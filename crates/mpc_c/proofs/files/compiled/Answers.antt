@@ -3,7 +3,7 @@ use Rattle.mpc_c.proofs.FileEnds.{plant_file, bad_plant_of}
 use Rattle.mpc_c.proofs.files.compiled.Goals as goal
 
 pub returns-in-Ok : goal.returns-in-Ok
-returns-in-Ok c = λ workers. plant_file c.due_statuses.ensures workers c.args.file.now c.if-file-gt-INPUT_LIMIT.false c.plant_texts.ensures.read c.file_output_laws.ensures.compiled c.in-Ok.plant c.in-Ok.ensures.ok c.compiled_plant.result (c.compiled_plant.ensures workers [])
+returns-in-Ok c = λ workers. plant_file c.due_statuses.ensures workers c.args.file.now c.if-file-gt-INPUT_LIMIT.false c.plant_texts.ensures.read c.file_output_theorems.ensures.compiled c.in-Ok.plant c.in-Ok.ensures.ok c.compiled_plant.result (c.compiled_plant.ensures workers [])
 
 pub returns-in-Err : goal.returns-in-Err
 returns-in-Err c = λ workers.

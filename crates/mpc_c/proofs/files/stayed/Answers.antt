@@ -11,7 +11,7 @@ returns-in-Err c = refused_file c.due_statuses.ensures Safe c.args.file.now c.in
 pub returns-in-Err-stay : goal.returns-in-Err-stay
 returns-in-Err-stay c =
     refused_file c.due_statuses.ensures Safe c.args.file.now c.in-Err-stay.status c.if-file-gt-INPUT_LIMIT.false
-    (step_found c.args.file.now c.in-Ok.controller c.in-Ok.ensures.given c.due_statuses.ensures c.if-file-gt-INPUT_LIMIT.false c.in-Ok.ensures.accepted c.safe_file_laws.ensures.due c.in-Err-stay.status c.in-Err-stay.ensures.refused)
+    (step_found c.args.file.now c.in-Ok.controller c.in-Ok.ensures.given c.due_statuses.ensures c.if-file-gt-INPUT_LIMIT.false c.in-Ok.ensures.accepted c.safe_file_theorems.ensures.due c.in-Err-stay.status c.in-Err-stay.ensures.refused)
 
 pub returns : goal.returns
 returns c =

@@ -33,7 +33,7 @@ returns-in-Some c =
     let s = hold_system c.args.qp.now (way_rows c.args.cell.now.tree.now c.args.cell.now.way.now) c.args.row.now in
     let count = held_count c.args.qp.now c.args.cell.now.tree.now c.args.cell.now.way.now c.args.row.now 0 in
     let within : HasPositionsIn (height s) c.args.cert.now = subst (λ n. HasPositionsIn n c.args.cert.now) (omega (arith, count, c.len.ensures)) (c.has_positions_in.ensures.within.0 c.if-not-has_positions_in.false) in
-    decided_whole c.zero_laws.ensures c.fit_laws.ensures s c.args.cert.now c.has_positions_in.ensures.rises within c.args.place (Ok c.in-Some.yes)
+    decided_whole c.zero_theorems.ensures c.fit_theorems.ensures s c.args.cert.now c.has_positions_in.ensures.rises within c.args.place (Ok c.in-Some.yes)
     (decided_sums (picked_system s c.args.cert.now) (weights c.args.cert.now) c.args.place c.in-Some.yes c.in-Some.ensures.answer (λ wide. wide.1 c.in-Some.ensures.fits))
 
 pub is_refuted-requires-clause-last : goal.is_refuted-requires-clause-last

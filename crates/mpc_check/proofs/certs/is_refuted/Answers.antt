@@ -28,6 +28,6 @@ returns c =
     let s = system_at c.args.qp.now c.args.cell.now.tree.now c.args.cell.now.way.now c.args.more c.args.last.now in
     let count = system_count c.args.qp.now c.args.cell.now.tree.now c.args.cell.now.way.now c.args.more c.args.last.now in
     let within : HasPositionsIn (height s) c.args.cert.now = subst (λ n. HasPositionsIn n c.args.cert.now) (omega (arith, count, c.len.ensures)) (c.has_positions_in.ensures.within.0 c.if-not-has_positions_in.false) in
-    decided_whole c.zero_laws.ensures c.fit_laws.ensures s c.args.cert.now c.has_positions_in.ensures.rises within c.args.place c.is_refutation.result
+    decided_whole c.zero_theorems.ensures c.fit_theorems.ensures s c.args.cert.now c.has_positions_in.ensures.rises within c.args.place c.is_refutation.result
     (subst (λ t. IsDecided (SumsFitWhere t (weights c.args.cert.now)) (Refutes t (weights c.args.cert.now)) c.args.place c.is_refutation.result) c.in_ok-system.ensures
     (subst (λ m. IsDecided (SumsFitWhere c.in_ok-system.system m) (Refutes c.in_ok-system.system m) c.args.place c.is_refutation.result) c.in_ok-multipliers.ensures c.is_refutation.ensures))

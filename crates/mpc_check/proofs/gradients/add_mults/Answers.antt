@@ -10,32 +10,32 @@ get-requires-clause-row c =
     let within : c.loop-k.k < length c.args.law.now.set = subst (λ n. c.loop-k.k < n) c.size-k-end.ensures.value c.loop-k-test.true in
     let here : c.loop-k.k + 1 - 1 ≡ c.loop-k.k = omega arith in
     let member : c.member-row.result ≡ get_or c.args.law.now.set c.loop-k.k 0 = c.member-row.ensures.value ∙ ap (λ j. get_or c.args.law.now.set j 0) here in
-    let bounds = c.law_laws.ensures.member_bounds (height c.args.qp.now.g) c.args.law.now.set c.loop-k.k c.requires.shape.set_of_rows.rises within in
+    let bounds = c.law_theorems.ensures.member_bounds (height c.args.qp.now.g) c.args.law.now.set c.loop-k.k c.requires.shape.set_of_rows.rises within in
     let low = bounds.0 in
     let high = bounds.1 in
     omega (arith, member, low, high)
 
 pub loop-k-init : goal.loop-k-init
-loop-k-init c = c.sum_laws.ensures.none c.args.start.now (column (rows_of c.args.qp.now.g.rows c.args.law.now.set) c.args.r) (column c.args.law.now.mults.rows c.args.c)
+loop-k-init c = c.sum_theorems.ensures.none c.args.start.now (column (rows_of c.args.qp.now.g.rows c.args.law.now.set) c.args.r) (column c.args.law.now.mults.rows c.args.c)
 
 pub loop-k-preserved : goal.loop-k-preserved
 loop-k-preserved c =
     let within : c.loop-k.k < length c.args.law.now.set = subst (λ n. c.loop-k.k < n) c.size-k-end.ensures.value c.loop-k-test.true in
     let here : c.loop-k.k + 1 - 1 ≡ c.loop-k.k = omega arith in
-    weighed_more c.sum_laws.ensures c.args.qp.now c.args.law.now c.args.r c.args.c c.args.start.now c.requires.shape c.loop-k.k c.loop-k.sum c.loop-k.invariant _ _ within c.member-row.result (c.member-row.ensures.value ∙ ap (λ j. get_or c.args.law.now.set j 0) here) c.get.ensures c.get-in-loop-k.ensures
+    weighed_more c.sum_theorems.ensures c.args.qp.now c.args.law.now c.args.r c.args.c c.args.start.now c.requires.shape c.loop-k.k c.loop-k.sum c.loop-k.invariant _ _ within c.member-row.result (c.member-row.ensures.value ∙ ap (λ j. get_or c.args.law.now.set j 0) here) c.get.ensures c.get-in-loop-k.ensures
     _ c.in-Ok.ensures.value c.in-Ok.ensures.wide
 
 pub returns-in-Err-clause-wide : goal.returns-in-Err-clause-wide
 returns-in-Err-clause-wide c =
     let within : c.loop-k.k < length c.args.law.now.set = subst (λ n. c.loop-k.k < n) c.size-k-end.ensures.value c.loop-k-test.true in
     let here : c.loop-k.k + 1 - 1 ≡ c.loop-k.k = omega arith in
-    weighed_wide c.sum_laws.ensures c.args.qp.now c.args.law.now c.args.r c.args.c c.args.start.now c.requires.shape c.loop-k.k c.loop-k.sum c.loop-k.invariant _ _ within c.member-row.result (c.member-row.ensures.value ∙ ap (λ j. get_or c.args.law.now.set j 0) here) c.get.ensures c.get-in-loop-k.ensures
+    weighed_wide c.sum_theorems.ensures c.args.qp.now c.args.law.now c.args.r c.args.c c.args.start.now c.requires.shape c.loop-k.k c.loop-k.sum c.loop-k.invariant _ _ within c.member-row.result (c.member-row.ensures.value ∙ ap (λ j. get_or c.args.law.now.set j 0) here) c.get.ensures c.get-in-loop-k.ensures
     c.in-Err.ensures.wide
 
 pub returns-clause-value : goal.returns-clause-value
 returns-clause-value c =
-    weighed_value c.sum_laws.ensures c.args.qp.now c.args.law.now c.args.r c.args.c c.args.start.now c.requires.shape c.loop-k.k c.loop-k.sum c.loop-k.invariant (subst (λ n. n ≤ c.loop-k.k) c.size-k-end.ensures.value c.loop-k-test.false)
+    weighed_value c.sum_theorems.ensures c.args.qp.now c.args.law.now c.args.r c.args.c c.args.start.now c.requires.shape c.loop-k.k c.loop-k.sum c.loop-k.invariant (subst (λ n. n ≤ c.loop-k.k) c.size-k-end.ensures.value c.loop-k-test.false)
 
 pub returns-clause-wide : goal.returns-clause-wide
 returns-clause-wide c =
-    weighed_fits c.sum_laws.ensures c.args.qp.now c.args.law.now c.args.r c.args.c c.args.start.now c.requires.shape c.loop-k.k c.loop-k.sum c.loop-k.invariant (subst (λ n. n ≤ c.loop-k.k) c.size-k-end.ensures.value c.loop-k-test.false)
+    weighed_fits c.sum_theorems.ensures c.args.qp.now c.args.law.now c.args.r c.args.c c.args.start.now c.requires.shape c.loop-k.k c.loop-k.sum c.loop-k.invariant (subst (λ n. n ≤ c.loop-k.k) c.size-k-end.ensures.value c.loop-k-test.false)

@@ -13,7 +13,7 @@ pub is_refuted-requires-clause-last : goal.is_refuted-requires-clause-last
 is_refuted-requires-clause-last c =
     let last : c.as_slice.result.now ≡ joint_rows c.args.qp.now = c.as_slice.ensures ∙ c.in_ok-last.ensures in
     subst (λ u. All (IsOfWidth (length c.args.qp.now.counts + u)) c.as_slice.result.now) (sym c.rows-unknowns.ensures.value)
-    (subst (λ rows. All (IsOfWidth (length c.args.qp.now.counts + height c.args.qp.now.h)) rows) (sym last) (joint_rows_wide c.cell_laws.ensures.joint_width c.args.qp.now))
+    (subst (λ rows. All (IsOfWidth (length c.args.qp.now.counts + height c.args.qp.now.h)) rows) (sym last) (joint_rows_wide c.cell_theorems.ensures.joint_width c.args.qp.now))
 
 pub returns : goal.returns
 returns c =

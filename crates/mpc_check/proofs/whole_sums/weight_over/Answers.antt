@@ -1,7 +1,7 @@
 use Rattle.std.proofs.Common.{◌≡◌, ℤ, true, false, to_z, of_z}
 use Rattle.std.specs.Int.{w128}
 use Rattle.mpc_exact.specs.Rational.{frac, IsNonneg}
-use Rattle.mpc_exact.proofs.OrderLaws.{≤ℚ_of_not-<}
+use Rattle.mpc_exact.proofs.OrderTheorems.{≤ℚ_of_not-<}
 use Rattle.mpc_check.proofs.WholeRows.{some_follows}
 use Rattle.mpc_check.proofs.WholeSums.{weight_read}
 use Rattle.mpc_check.proofs.whole_sums.weight_over.Goals as goal

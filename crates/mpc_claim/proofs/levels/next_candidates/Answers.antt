@@ -23,6 +23,6 @@ returns c =
     let rows : c.rows-2.result ≡ height c.args.qp.now.g = c.rows-2.ensures.value in
     let tall : c.rows.result ≡ height c.args.qp.now.h = c.rows.ensures.value in
     let less = c.if-size-rows.false in
-    next_are_candidates c.member_laws.ensures c.level_law.ensures c.args.qp.now c.args.size (grown_of (seen c.args.verdicts.now c.args.level.now)) c.in_ok-sets.sets.items c.requires.grown (omega arith) c.in_ok-sets.ensures.in_order
+    next_are_candidates c.member_theorems.ensures c.level_theorem.ensures c.args.qp.now c.args.size (grown_of (seen c.args.verdicts.now c.args.level.now)) c.in_ok-sets.sets.items c.requires.grown (omega arith) c.in_ok-sets.ensures.in_order
     (subst (λ r. (s : List ℕ) → Contains c.in_ok-sets.sets.items s ↔ IsNextOf (grown_of (seen c.args.verdicts.now c.args.level.now)) r s) rows
     (subst (λ g. (s : List ℕ) → Contains c.in_ok-sets.sets.items s ↔ IsNextOf g c.rows-2.result s) (sym e) c.in_ok-sets.ensures.members))

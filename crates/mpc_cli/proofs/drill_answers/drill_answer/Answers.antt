@@ -8,7 +8,7 @@ use Rattle.mpc_cli.proofs.drill_answers.drill_answer.Goals as goal
 
 pub returns-in_ok-line-in-Ok : goal.returns-in_ok-line-in-Ok
 returns-in_ok-line-in-Ok g c =
-    drilled_answer c.drill_line_laws.ensures c.args.number c.in-Ok.drilled c.output.result.status c.output.result.text.items c.in_ok-line-in-Ok.line.items c.output.ensures.status c.output.ensures.text c.in_ok-line-in-Ok.ensures c.in-Ok.ensures.drilled
+    drilled_answer c.drill_line_theorems.ensures c.args.number c.in-Ok.drilled c.output.result.status c.output.result.text.items c.in_ok-line-in-Ok.line.items c.output.ensures.status c.output.ensures.text c.in_ok-line-in-Ok.ensures c.in-Ok.ensures.drilled
 
 pub returns-in-Err : goal.returns-in-Err
 returns-in-Err g c =

@@ -14,7 +14,7 @@ use Rattle.mpc_cli.proofs.file_answers.check_answer.Goals as goal
 pub returns-in-Ok-Accepted : goal.returns-in-Ok-Accepted
 returns-in-Ok-Accepted g c =
     of_status c.accepted.result Done (codes "accepted\n") (λ a. IsAnswerTo (OfFile Check) c.args.input.now a.status a.text.items)
-    c.accepted.ensures.status c.accepted.ensures.text (λ a e f. accepted_answer c.file_output_laws.ensures.accepted c.args.input.now a.status a.text.items e f c.few_bytes.ensures (rw c.in-Ok-Accepted.field-0-is at c.in-Ok-Accepted.ensures.answer))
+    c.accepted.ensures.status c.accepted.ensures.text (λ a e f. accepted_answer c.file_output_theorems.ensures.accepted c.args.input.now a.status a.text.items e f c.few_bytes.ensures (rw c.in-Ok-Accepted.field-0-is at c.in-Ok-Accepted.ensures.answer))
 
 pub returns-in-Ok-Refused : goal.returns-in-Ok-Refused
 returns-in-Ok-Refused g c =

@@ -9,7 +9,7 @@ use Rattle.mpc_cli.proofs.FileEnds.{convert_answers}
 use Rattle.mpc_cli.proofs.file_answers.convert_answer.Goals as goal
 
 pub returns-in-Ok : goal.returns-in-Ok
-returns-in-Ok c = convert_answers c.file_output_laws.ensures.converted c.args.input.now c.output.result.status c.output.result.text.items c.in-Ok.text.items c.output.ensures.status c.output.ensures.text c.few_bytes.ensures (few_bytes c.in-Ok.text) c.in-Ok.ensures.ok
+returns-in-Ok c = convert_answers c.file_output_theorems.ensures.converted c.args.input.now c.output.result.status c.output.result.text.items c.in-Ok.text.items c.output.ensures.status c.output.ensures.text c.few_bytes.ensures (few_bytes c.in-Ok.text) c.in-Ok.ensures.ok
 
 pub returns-in-Err : goal.returns-in-Err
 returns-in-Err c =

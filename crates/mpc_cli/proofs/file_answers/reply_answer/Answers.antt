@@ -12,7 +12,7 @@ use Rattle.mpc_cli.proofs.file_answers.reply_answer.Goals as goal
 
 pub returns-in-Ok : goal.returns-in-Ok
 returns-in-Ok c =
-    reply_answers c.file_output_laws.ensures.replied c.args.input.now c.output.result.status c.output.result.text.items c.in-Ok.text.items c.output.ensures.status c.output.ensures.text (subst (λ (head : List ℕ). length head < 2 ^ 64) c.cut-sections.ensures.head c.few_bytes.ensures)
+    reply_answers c.file_output_theorems.ensures.replied c.args.input.now c.output.result.status c.output.result.text.items c.in-Ok.text.items c.output.ensures.status c.output.ensures.text (subst (λ (head : List ℕ). length head < 2 ^ 64) c.cut-sections.ensures.head c.few_bytes.ensures)
     (subst₂ (λ (head counts : List ℕ). FileReplies head (lines counts) c.in-Ok.text.items) c.cut-sections.ensures.head c.cut-sections.ensures.counts c.in-Ok.ensures.ok)
 
 pub returns-in-Err : goal.returns-in-Err

@@ -16,21 +16,21 @@ pub returns-in-Ok-Safe : goal.returns-in-Ok-Safe
 returns-in-Ok-Safe g c =
     of_status c.safe.result Done (codes "safe\n") (λ a. IsAnswerTo (OfFile Safe) c.args.input.now a.status a.text.items)
     c.safe.ensures.status c.safe.ensures.text
-    (λ a e f. safe_answers c.safe_file_laws.ensures.answered c.safe_file_laws.ensures.forever c.args.input.now a.status a.text.items e f (rw c.in-Ok-Safe.field-0-is at c.in-Ok-Safe.ensures.answer))
+    (λ a e f. safe_answers c.safe_file_theorems.ensures.answered c.safe_file_theorems.ensures.forever c.args.input.now a.status a.text.items e f (rw c.in-Ok-Safe.field-0-is at c.in-Ok-Safe.ensures.answer))
 
 pub returns-in-Ok-Refused : goal.returns-in-Ok-Refused
 returns-in-Ok-Refused g c =
     let o = finds (refused c.in-Ok-Refused.spot) in
     of_refusal c.refusal.result (Refused c.in-Ok-Refused.spot) (λ a. IsAnswerTo (OfFile Safe) c.args.input.now a.status a.text.items)
     c.refusal.ensures.status c.refusal.ensures.text
-    (λ a e f. safety_found o a.status a.text.items (λ d. absurd cc) e f c.args.input.now (c.safe_file_laws.ensures.answered c.args.input.now (RefusedAnswer c.in-Ok-Refused.spot) (rw c.in-Ok-Refused.field-0-is at c.in-Ok-Refused.ensures.answer)))
+    (λ a e f. safety_found o a.status a.text.items (λ d. absurd cc) e f c.args.input.now (c.safe_file_theorems.ensures.answered c.args.input.now (RefusedAnswer c.in-Ok-Refused.spot) (rw c.in-Ok-Refused.field-0-is at c.in-Ok-Refused.ensures.answer)))
 
 pub returns-in-Ok-Unsafe : goal.returns-in-Ok-Unsafe
 returns-in-Ok-Unsafe g c =
     let o = steps (reached c.in-Ok-Unsafe.next c.in-Ok-Unsafe.point) in
     of_refusal c.refusal-in-Ok-Unsafe.result (Unsafe c.in-Ok-Unsafe.next c.in-Ok-Unsafe.point) (λ a. IsAnswerTo (OfFile Safe) c.args.input.now a.status a.text.items)
     c.refusal-in-Ok-Unsafe.ensures.status c.refusal-in-Ok-Unsafe.ensures.text
-    (λ a e f. safety_found o a.status a.text.items (λ d. absurd cc) e f c.args.input.now (c.safe_file_laws.ensures.answered c.args.input.now (UnsafeAnswer c.in-Ok-Unsafe.next c.in-Ok-Unsafe.point) (rw c.in-Ok-Unsafe.field-0-is at c.in-Ok-Unsafe.ensures.answer)))
+    (λ a e f. safety_found o a.status a.text.items (λ d. absurd cc) e f c.args.input.now (c.safe_file_theorems.ensures.answered c.args.input.now (UnsafeAnswer c.in-Ok-Unsafe.next c.in-Ok-Unsafe.point) (rw c.in-Ok-Unsafe.field-0-is at c.in-Ok-Unsafe.ensures.answer)))
 
 pub returns-in-Err : goal.returns-in-Err
 returns-in-Err g c =

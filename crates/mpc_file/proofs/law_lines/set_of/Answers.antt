@@ -11,5 +11,5 @@ returns-in_default c = no_set c.args.rows c.args.numbers.now c.loop-number.numbe
 
 pub loop-number-preserved : goal.loop-number-preserved
 loop-number-preserved c =
-    one_member_more c.member_laws.ensures c.args.rows c.args.numbers.now c.loop-number.number-index c.loop-number.set c.with-set.result c.loop-number.last c.in-Some.row c.loop-number.invariant c.loop-number-test.true
+    one_member_more c.member_theorems.ensures c.args.rows c.args.numbers.now c.loop-number.number-index c.loop-number.set c.with-set.result c.loop-number.last c.in-Some.row c.loop-number.invariant c.loop-number-test.true
     (sym (plain c.args.numbers.now c.loop-number.number-index c.requires.small c.loop-number-test.true) ∙ c.in-Some.ensures.1) (omega (arith, c.in-Some.ensures.0.from_low)) (omega (arith, c.in-Some.ensures.0.to_high, c.from.ensures)) c.with-set.ensures.value

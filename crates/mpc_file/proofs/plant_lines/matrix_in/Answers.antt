@@ -13,5 +13,5 @@ returns-then-len-rows c =
 
 pub returns : goal.returns
 returns c =
-    matrix_is c.args.name.now c.args.text.now c.args.rows c.args.columns c.grid_laws.ensures c.in-Some.entries c.in_ok-matrix.matrix (some_fractions c.args.name.now c.args.text.now c.in_ok-entries.field-0 c.in-Some.entries c.in-Some.is c.in_ok-entries.ensures)
+    matrix_is c.args.name.now c.args.text.now c.args.rows c.args.columns c.grid_theorems.ensures c.in-Some.entries c.in_ok-matrix.matrix (some_fractions c.args.name.now c.args.text.now c.in_ok-entries.field-0 c.in-Some.entries c.in-Some.is c.in_ok-entries.ensures)
     (sym c.len.ensures ∙ c.if-len-rows.false) c.in_ok-matrix.ensures

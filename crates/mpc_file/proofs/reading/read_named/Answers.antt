@@ -94,7 +94,7 @@ returns c =
           ),
         ),
       ),
-      let good = named_parts c.preorder_laws.ensures.split c.preorder_laws.ensures.leaf c.args.plant.now c.args.lines.now c.read_forms.new.lines c.read_named_laws.new.lines c.read_planes.new.lines c.read_named_tree.new.lines c.in_ok-forms.forms ls.named c.in_ok-planes.planes t.ns c.in_ok-forms.ensures.outcome ls.reads
+      let good = named_parts c.preorder_theorems.ensures.split c.preorder_theorems.ensures.leaf c.args.plant.now c.args.lines.now c.read_forms.new.lines c.read_named_laws.new.lines c.read_planes.new.lines c.read_named_tree.new.lines c.in_ok-forms.forms ls.named c.in_ok-planes.planes t.ns c.in_ok-forms.ensures.outcome ls.reads
           (planes_read c.args.plant.now c.args.lines.now c.read_forms.new.lines c.in_ok-forms.forms c.in_ok-forms.ensures.outcome c.read_named_laws.new.lines ls.named ls.reads c.len.result c.in_ok-laws.used c.len.ensures ls.used_is c.read_planes.new.lines c.in_ok-planes.planes c.in_ok-planes.ensures c.len-2.result
           (c.len-2.ensures ∙ ap length ls.laws_are ∙ length-map ls.named (law_named c.args.plant.now c.in_ok-forms.forms)))
           (nodes_read c.args.plant.now c.args.lines.now c.read_forms.new.lines c.in_ok-forms.forms c.in_ok-forms.ensures.outcome c.read_named_laws.new.lines ls.named ls.reads c.len.result c.in_ok-laws.used c.len.ensures ls.used_is c.read_planes.new.lines c.in_ok-planes.planes c.in_ok-planes.ensures c.len-2.result

@@ -43,6 +43,6 @@ returns c = (
       ),
     ),
   ),
-  written_parts c.preorder_laws.ensures.split c.preorder_laws.ensures.leaf c.args.plant.now c.args.lines.now c.read_written_laws.new.lines c.read_written_tree.new.lines c.in_ok-laws.laws c.in_ok-tree.tree c.in_ok-laws.ensures
+  written_parts c.preorder_theorems.ensures.split c.preorder_theorems.ensures.leaf c.args.plant.now c.args.lines.now c.read_written_laws.new.lines c.read_written_tree.new.lines c.in_ok-laws.laws c.in_ok-tree.tree c.in_ok-laws.ensures
       (tree_read c.args.plant.now c.args.lines.now c.read_written_laws.new.lines c.in_ok-laws.laws c.in_ok-laws.ensures c.len.result c.len.ensures c.read_written_tree.new.lines c.in_ok-tree.tree c.in_ok-tree.ensures),
 )

@@ -12,7 +12,7 @@ loop-rest-init c =
 -- the word is none of these
 pub returns-in_default-read_fraction : goal.returns-in_default-read_fraction
 returns-in_default-read_fraction c = λ xs are.
-    refused fraction_text FitsFrac c.fraction_laws.ensures.word c.line_laws.ensures.parts c.line_laws.ensures.some_words c.args.name.now c.args.text.now c.loop-rest.rest c.loop-rest.fractions c.loop-rest.invariant c.in-Some-rest.words c.split_word.result.0.now c.split_word.result.1 c.in-Some-rest.is c.split_word.ensures.words
+    refused fraction_text FitsFrac c.fraction_theorems.ensures.word c.line_theorems.ensures.parts c.line_theorems.ensures.some_words c.args.name.now c.args.text.now c.loop-rest.rest c.loop-rest.fractions c.loop-rest.invariant c.in-Some-rest.words c.split_word.result.0.now c.split_word.result.1 c.in-Some-rest.is c.split_word.ensures.words
     (λ x fits spelled. c.in_default-read_fraction.ensures x (record { spelled = spelled; fits = fits })) xs are.fits are.spelled
 
 pub loop-rest-smaller : goal.loop-rest-smaller

@@ -11,7 +11,7 @@ loop-rest-init c =
 -- the word is none of these
 pub returns-in_default-read_integer : goal.returns-in_default-read_integer
 returns-in_default-read_integer c = λ xs are.
-    refused signed_decimal IsSmall (small_word c.integer_laws.ensures.word) c.line_laws.ensures.parts c.line_laws.ensures.some_words c.args.name.now c.args.text.now c.loop-rest.rest c.loop-rest.integers c.loop-rest.invariant c.in-Some-rest.words c.split_word.result.0.now c.split_word.result.1 c.in-Some-rest.is c.split_word.ensures.words
+    refused signed_decimal IsSmall (small_word c.integer_theorems.ensures.word) c.line_theorems.ensures.parts c.line_theorems.ensures.some_words c.args.name.now c.args.text.now c.loop-rest.rest c.loop-rest.integers c.loop-rest.invariant c.in-Some-rest.words c.split_word.result.0.now c.split_word.result.1 c.in-Some-rest.is c.split_word.ensures.words
     (λ x fits spelled. c.in_default-read_integer.ensures x (record { spelled = spelled; fits = fits })) xs are.small are.spelled
 
 pub loop-rest-smaller : goal.loop-rest-smaller

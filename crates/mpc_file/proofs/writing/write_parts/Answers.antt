@@ -7,7 +7,7 @@ use Rattle.mpc_file.proofs.writing.write_parts.Goals as goal
 pub returns-clause-spells : goal.returns-clause-spells
 returns-clause-spells c =
     on_ok_weaker c.write_piece.result
-    (λ added. λ is empty. written c.word_laws.ensures (parts_with c.args.plant.now c.args.laws.now c.args.tree.now) c.args.out.now.items c.write_count_line.new.out.items c.write_plant.new.out.items c.write_table.new.out.items c.write_tree.new.out.items c.write_piece.new.out.items
+    (λ added. λ is empty. written c.word_theorems.ensures (parts_with c.args.plant.now c.args.laws.now c.args.tree.now) c.args.out.now.items c.write_count_line.new.out.items c.write_plant.new.out.items c.write_table.new.out.items c.write_tree.new.out.items c.write_piece.new.out.items
     is empty c.in_ok-write_count_line.ensures.text c.in_ok-write_plant.ensures.text c.in_ok-write_plant.ensures.prints c.in_ok-write_table.ensures.written c.in_ok-write_tree.ensures.written added)
     c.write_piece.ensures.text
 

@@ -5,7 +5,7 @@ use Rattle.mpc_exact.proofs.RationalRing.{reads, by_ring}
 use Rattle.mpc_space.specs.Vector.{dot, column}
 use Rattle.mpc_linear.specs.Grid.{grid}
 use Rattle.mpc_linear.proofs.GridLemmas.{place-below}
-use Rattle.mpc_linear.specs.SumLaws.{IsSumSoFar}
+use Rattle.mpc_linear.specs.SumTheorems.{IsSumSoFar}
 use Rattle.mpc_linear.proofs.DotLemmas.{goes_none, goes_more, goes_wide, goes_value, goes_fits}
 use Rattle.mpc_linear.proofs.ProductLemmas.{column_entry, column_length}
 use Rattle.mpc_linear.proofs.matrices.dot_with_column.Goals as goal

@@ -2,7 +2,7 @@ use Rattle.std.proofs.Common.{length, pos}
 use Rattle.mpc_exact.specs.Rational.{int}
 use Rattle.mpc_space.specs.Vector.{column}
 use Rattle.mpc_linear.specs.Grid.{grid}
-use Rattle.mpc_linear.specs.SumLaws.{IsSumSoFar}
+use Rattle.mpc_linear.specs.SumTheorems.{IsSumSoFar}
 use Rattle.mpc_linear.proofs.matrices.dot_with_column.Given as goal
 
 abbrev pub invariant-loop-k : goal.invariant-loop-k

@@ -1,4 +1,4 @@
-use Rattle.mpc_linear.specs.SumLaws.{IsSumSoFar}
+use Rattle.mpc_linear.specs.SumTheorems.{IsSumSoFar}
 use Rattle.mpc_linear.proofs.products.dot_from.Given as goal
 
 abbrev pub invariant-loop-k : goal.invariant-loop-k

@@ -11,7 +11,7 @@ unwrap-requires c =
     let some : pos 1 ≢ pos 0 = λ e. cc in
     let h : c.args.count < 2 ^ 127 = omega (arith, c.ranges.count.fits) in
     made c.new.result (to_z w128 c.args.count) (pos 1) c.new.ensures.zero c.new.ensures.wide some
-    (c.fit_laws.ensures.quotient (to_z w128 c.args.count) (pos 1) some (subst (λ (n : ℤ). unsigned_abs n < 2 ^ 127) (sym (read_natural c.args.count h)) h) (lit< tt))
+    (c.fit_theorems.ensures.quotient (to_z w128 c.args.count) (pos 1) some (subst (λ (n : ℤ). unsigned_abs n < 2 ^ 127) (sym (read_natural c.args.count h)) h) (lit< tt))
 
 pub returns : goal.returns
 returns c =

@@ -6,7 +6,7 @@ use Rattle.mpc_online.proofs.matrices.member_entry.Goals as goal
 pub get-requires-clause-row : goal.get-requires-clause-row
 get-requires-clause-row c =
     let place : c.args.k + 1 - 1 ≡ c.args.k = omega arith in
-    let w : (1 ≤ c.member.result) × (c.member.result ≤ height c.args.m.now) = member_within c.law_laws.ensures (height c.args.m.now) c.args.set c.args.k c.member.result c.requires.set_of_rows c.requires.member (c.member.ensures.value ∙ ap (λ k. get_or c.args.set k 0) place) in
+    let w : (1 ≤ c.member.result) × (c.member.result ≤ height c.args.m.now) = member_within c.law_theorems.ensures (height c.args.m.now) c.args.set c.args.k c.member.result c.requires.set_of_rows c.requires.member (c.member.ensures.value ∙ ap (λ k. get_or c.args.set k 0) place) in
     omega (arith, w.0, w.1)
 
 pub returns : goal.returns

@@ -33,7 +33,7 @@ sides_there c = c.deref-in-steps.ensures.value ∙ c.in-Ok-products.ensures.valu
 few : (c : After-deref-in-steps) → c.steps.step < 2 ^ 27
 few c =
     few_steps c.args.qp.now (point_of c.args.counts.now) c.requires.definite c.requires.symmetric (position_of c.steps.it) c.steps.step c.steps.invariant.travelled
-    c.set_laws.ensures.few c.count_laws.ensures
+    c.set_theorems.ensures.few c.count_theorems.ensures
 
 -- ---- the opening
 pub products-requires : goal.products-requires

@@ -1,6 +1,6 @@
 use Rattle.std.proofs.Common.{◌+◌, sym, ◌∙◌, arith}
 use Rattle.std.proofs.lemmas.Result.{MatchResult-from_err}
-use Rattle.mpc_exact.proofs.OrderLaws.{lt_ℚ-true, lt_ℚ-false, ≤ℚ-not-<}
+use Rattle.mpc_exact.proofs.OrderTheorems.{lt_ℚ-true, lt_ℚ-false, ≤ℚ-not-<}
 use Rattle.mpc_online.proofs.RowTests.{met_none, met_more, found_first, found_fits, met_all, all_fit, found_wide}
 use Rattle.mpc_online.proofs.tests_of_rows.first_violated.Goals as goal
 

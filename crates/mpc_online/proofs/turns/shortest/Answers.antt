@@ -1,7 +1,7 @@
 use Rattle.std.proofs.Common.{◌≡◌, ◌≢◌, ◌+◌, ◌<◌, length, pos, sym, ◌∙◌, ap, subst, arith, refl}
 use Rattle.std.proofs.lemmas.Result.{MatchResult-from_err}
 use Rattle.mpc_exact.specs.Rational.{int, neg_ℚ, inv_ℚ, ◌*ℚ◌, ◌<ℚ◌}
-use Rattle.mpc_exact.proofs.OrderLaws.{lt_ℚ-true, neg_positive, positive-not_zero}
+use Rattle.mpc_exact.proofs.OrderTheorems.{lt_ℚ-true, neg_positive, positive-not_zero}
 use Rattle.mpc_space.specs.Vector.{coordinate}
 use Rattle.mpc_space.proofs.Outcomes.{below_next}
 use Rattle.mpc_frac.specs.Fits.{FitsFrac}

@@ -6,7 +6,7 @@ use Rattle.mpc_paths.proofs.ways.turn_over.Goals as goal
 pub loop-turn-preserved : goal.loop-turn-preserved
 loop-turn-preserved c =
     let popped : c.loop-turn.way.items ≡ c.pop.new.self.items ++ c.in-Some.turn ∷ [] = search rules in
-    ends_split c.args.tree.now c.pop.new.self.items c.in-Some.turn c.loop-turn.way.items c.args.end popped c.loop-turn.invariant c.preorder_laws.ensures.joined c.if-turn.false
+    ends_split c.args.tree.now c.pop.new.self.items c.in-Some.turn c.loop-turn.way.items c.args.end popped c.loop-turn.invariant c.preorder_theorems.ensures.joined c.if-turn.false
 
 pub returns-then-turn : goal.returns-then-turn
 returns-then-turn c =

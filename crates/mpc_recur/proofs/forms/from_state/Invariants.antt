@@ -1,7 +1,7 @@
 use Rattle.std.proofs.Common.{[], get_or, pos}
 use Rattle.mpc_exact.specs.Rational.{int}
 use Rattle.mpc_space.specs.Vector.{column}
-use Rattle.mpc_linear.specs.SumLaws.{IsSumSoFar}
+use Rattle.mpc_linear.specs.SumTheorems.{IsSumSoFar}
 use Rattle.mpc_recur.specs.Forms.{state_forms}
 use Rattle.mpc_recur.proofs.forms.from_state.Given as goal
 

@@ -1,6 +1,6 @@
 use Rattle.std.proofs.Common.{[], get_or}
 use Rattle.mpc_space.specs.Vector.{column}
-use Rattle.mpc_linear.specs.SumLaws.{IsSumSoFar}
+use Rattle.mpc_linear.specs.SumTheorems.{IsSumSoFar}
 use Rattle.mpc_recur.proofs.forms.with_moves.Given as goal
 
 abbrev pub invariant-loop-q : goal.invariant-loop-q

@@ -10,14 +10,14 @@ use Rattle.mpc_recur.proofs.LeafLemmas.{empty_found, node_there}
 use Rattle.mpc_recur.proofs.leaves.rule_out_node.Goals as goal
 
 pub rule_out_leaf-requires-clause-way : goal.rule_out_leaf-requires-clause-way
-rule_out_leaf-requires-clause-way c = subst (λ (t : List Node). All (IsTurn t) c.args.way.now) (sym c.tree-tree.ensures.value) (c.way_laws.ensures.turns c.args.controller.now.tree c.args.k c.args.way.now c.requires.way)
+rule_out_leaf-requires-clause-way c = subst (λ (t : List Node). All (IsTurn t) c.args.way.now) (sym c.tree-tree.ensures.value) (c.way_theorems.ensures.turns c.args.controller.now.tree c.args.k c.args.way.now c.requires.way)
 
 pub returns-clause-found : goal.returns-clause-found
 returns-clause-found c = λ law path base ef.
     let tree = c.args.controller.now.tree in
     let n = length c.args.forms.now in
     let there = node_there c.tree-tree.result.now tree c.args.k c.at.result.now c.in-NoMove.cert c.tree-tree.ensures.value c.at.ensures c.in-NoMove.is in
-    empty_found c.args.controller.now.plant law path c.args.leaf c.args.system.now base c.one_path.ensures tree c.args.k (way_rows tree c.args.way.now) c.in-NoMove.cert (c.way_laws.ensures.path tree c.args.k c.args.way.now c.requires.way) there n c.args.forms.now c.requires.sizes ef
+    empty_found c.args.controller.now.plant law path c.args.leaf c.args.system.now base c.one_path.ensures tree c.args.k (way_rows tree c.args.way.now) c.in-NoMove.cert (c.way_theorems.ensures.path tree c.args.k c.args.way.now c.requires.way) there n c.args.forms.now c.requires.sizes ef
     c.rule_out_leaf.result
     (subst (λ (t : List Node). MatchResult c.rule_out_leaf.result (λ _. IsRuledOut (All (SubstitutedFits n c.args.forms.now) (way_rows t c.args.way.now)) (with_rows c.args.system.now (map (substituted n c.args.forms.now) (way_rows t c.args.way.now))))
     (IsStop (TargetFinds (All (SubstitutedFits n c.args.forms.now) (way_rows t c.args.way.now)) (with_rows c.args.system.now (map (substituted n c.args.forms.now) (way_rows t c.args.way.now))) (target_of c.args.leaf (NoMove (c.args.k + 1))))))

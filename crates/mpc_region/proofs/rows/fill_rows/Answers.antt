@@ -12,13 +12,13 @@ use Rattle.mpc_region.proofs.rows.fill_rows.Goals as goal
 use Rattle.mpc_region.proofs.rows.fill_rows.Goals.{After-deref}
 
 pub returns-in_err-restart-clause-fit : goal.returns-in_err-restart-clause-fit
-returns-in_err-restart-clause-fit c = law_fits c.sweep_laws.ensures.reduced c.over_laws.ensures c.args.qp.now c.args.set c.args.table.now c.requires.set_of_rows c.requires.table
+returns-in_err-restart-clause-fit c = law_fits c.sweep_theorems.ensures.reduced c.over_theorems.ensures c.args.qp.now c.args.set c.args.table.now c.requires.set_of_rows c.requires.table
 
 pub returns-in_err-make_sides-clause-fit : goal.returns-in_err-make_sides-clause-fit
-returns-in_err-make_sides-clause-fit c = law_fits c.sweep_laws.ensures.reduced c.over_laws.ensures c.args.qp.now c.args.set c.args.table.now c.requires.set_of_rows c.requires.table
+returns-in_err-make_sides-clause-fit c = law_fits c.sweep_theorems.ensures.reduced c.over_theorems.ensures c.args.qp.now c.args.set c.args.table.now c.requires.set_of_rows c.requires.table
 
 pub returns-in_err-push_small-clause-fit : goal.returns-in_err-push_small-clause-fit
-returns-in_err-push_small-clause-fit c = law_fits c.sweep_laws.ensures.reduced c.over_laws.ensures c.args.qp.now c.args.set c.args.table.now c.requires.set_of_rows c.requires.table
+returns-in_err-push_small-clause-fit c = law_fits c.sweep_theorems.ensures.reduced c.over_theorems.ensures c.args.qp.now c.args.set c.args.table.now c.requires.set_of_rows c.requires.table
 
 -- the row that is put behind the others
 abbrev row_of : (c : After-deref) → RowInt
@@ -62,7 +62,7 @@ loop-i-preserved c =
     }
 
 pub returns-clause-rows : goal.returns-clause-rows
-returns-clause-rows c = law_system c.sweep_laws.ensures.reduced c.over_laws.ensures c.args.qp.now c.args.set c.args.table.now c.requires.set_of_rows c.requires.table c.loop-i.i c.loop-i.lines.rows (let e = c.rows-count.ensures.value in omega arith) c.loop-i.invariant.filled
+returns-clause-rows c = law_system c.sweep_theorems.ensures.reduced c.over_theorems.ensures c.args.qp.now c.args.set c.args.table.now c.requires.set_of_rows c.requires.table c.loop-i.i c.loop-i.lines.rows (let e = c.rows-count.ensures.value in omega arith) c.loop-i.invariant.filled
 
 pub returns-clause-fit : goal.returns-clause-fit
-returns-clause-fit c = law_fits c.sweep_laws.ensures.reduced c.over_laws.ensures c.args.qp.now c.args.set c.args.table.now c.requires.set_of_rows c.requires.table
+returns-clause-fit c = law_fits c.sweep_theorems.ensures.reduced c.over_theorems.ensures c.args.qp.now c.args.set c.args.table.now c.requires.set_of_rows c.requires.table

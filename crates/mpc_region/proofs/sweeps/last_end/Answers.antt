@@ -43,7 +43,7 @@ sweep-requires-clause-first c =
 pub returns-then-at-eq0-clause-end : goal.returns-then-at-eq0-clause-end
 returns-then-at-eq0-clause-end c =
     let zero : c.at.result ≡ pos 0 = search rules in
-    dependent_shown c.args.qp.now c.args.sweeps.now.set c.requires.set_of_rows c.sweep_laws.ensures.dependent (c.size-size.result - 1) (omega arith) c.member_place-p.result c.member_place-p.ensures c.index-before.result.now
+    dependent_shown c.args.qp.now c.args.sweeps.now.set c.requires.set_of_rows c.sweep_theorems.ensures.dependent (c.size-size.result - 1) (omega arith) c.member_place-p.result c.member_place-p.ensures c.index-before.result.now
     (before c.args.qp.now c.args.sweeps.now.set c.args.sweeps.now.count c.args.sweeps.now.tables.items c.requires.sweeps
     c.requires.set_of_rows (c.size-size.result - 1) (omega arith) (omega arith) c.member_place-p.result c.member_place-p.ensures c.index-before.result.now c.index-before.result.now c.index-before.ensures)
     c.requires.definite (sym c.at.ensures ∙ zero)
@@ -57,4 +57,4 @@ returns-then-branch-clause-end c =
     subst (λ first. IsTableOf c.args.qp.now c.args.sweeps.now.set first c.sweep.new.out) first (after_last c.args.qp.now c.args.sweeps.now.set c.args.sweeps.now.count c.args.sweeps.now.tables.items c.requires.sweeps
     c.requires.set_of_rows (c.size-size.result - 1) (omega arith) (omega arith) c.member_place-p.result c.member_place-p.ensures c.index-before.result.now c.index-before.result.now c.index-before.ensures
     (c.rows.result + c.rows-2.result) (omega arith) c.sweep.new.out (c.in_ok-sweep.ensures c.if-branch.true) (omega arith)) in
-    (record { first = λ l. absurd (omega arith); last = λ l. shown }, law_shown c.args.qp.now c.args.sweeps.now.set c.requires.set_of_rows c.sweep_laws.ensures.solved c.sweep.new.out shown c.requires.few)
+    (record { first = λ l. absurd (omega arith); last = λ l. shown }, law_shown c.args.qp.now c.args.sweeps.now.set c.requires.set_of_rows c.sweep_theorems.ensures.solved c.sweep.new.out shown c.requires.few)

@@ -9,7 +9,7 @@ pub returns-then-size-eq0-clause-end : goal.returns-then-size-eq0-clause-end
 returns-then-size-eq0-clause-end c =
     let some : 0 < c.turn_to.new.sweeps.count = omega arith in (
       record { first = λ l. some; last = λ l. absurd (omega arith) },
-      law_shown c.args.qp.now c.args.set c.requires.set_of_rows c.sweep_laws.ensures.solved (get_or c.turn_to.new.sweeps.tables.items 0 c.turn_to.new.sweeps.last)
+      law_shown c.args.qp.now c.args.set c.requires.set_of_rows c.sweep_theorems.ensures.solved (get_or c.turn_to.new.sweeps.tables.items 0 c.turn_to.new.sweeps.last)
           (shows_none c.args.qp.now c.turn_to.new.sweeps.set c.turn_to.new.sweeps.count c.turn_to.new.sweeps.tables.items c.turn_to.ensures.sweeps c.args.set some (omega arith) c.turn_to.new.sweeps.last) c.requires.few,
     )
 

@@ -34,7 +34,7 @@ by_rows-requires-clause-reach_fits c =
 pub returns-in_ok-law_of_table-in-Some-true-clause-right : goal.returns-in_ok-law_of_table-in-Some-true-clause-right
 returns-in_ok-law_of_table-in-Some-true-clause-right c =
     subst (λ law. IsRight c.args.qp.now c.args.set (Region law)) (sym c.in_ok-law_of_table-in-Some-true.ensures)
-    (right_region c.region_laws.ensures c.law_laws.ensures c.args.qp.now c.args.set (swept_law c.args.qp.now c.args.set) (swept_set c.args.qp.now c.args.set) c.requires.law c.requires.grows c.requires.reach_fits
+    (right_region c.region_theorems.ensures c.law_theorems.ensures c.args.qp.now c.args.set (swept_law c.args.qp.now c.args.set) (swept_set c.args.qp.now c.args.set) c.requires.law c.requires.grows c.requires.reach_fits
     c.in_ok-fill_rows.ensures.rows.list c.in_ok-fill_rows.ensures.rows.of_law c.fill_rows.ensures.fit
     c.in_ok-meets_box.field-0 c.in-Some-true.field-0 c.in-Some-true.is
     (region_answer c.args.qp.now c.in_ok-fill_rows.ensures.rows.list c.fill_rows.new.lines.rows c.in_ok-fill_rows.ensures.rows.rows c.in_ok-meets_box.field-0 c.in_ok-meets_box.ensures.answer)
@@ -42,7 +42,7 @@ returns-in_ok-law_of_table-in-Some-true-clause-right c =
 
 pub returns-in-Some-false-clause-right : goal.returns-in-Some-false-clause-right
 returns-in-Some-false-clause-right c =
-    right_hollow c.region_laws.ensures c.law_laws.ensures c.args.qp.now c.args.set (swept_law c.args.qp.now c.args.set) (swept_set c.args.qp.now c.args.set) c.requires.law c.requires.grows c.requires.reach_fits
+    right_hollow c.region_theorems.ensures c.law_theorems.ensures c.args.qp.now c.args.set (swept_law c.args.qp.now c.args.set) (swept_set c.args.qp.now c.args.set) c.requires.law c.requires.grows c.requires.reach_fits
     c.in_ok-fill_rows.ensures.rows.list c.in_ok-fill_rows.ensures.rows.of_law c.fill_rows.ensures.fit
     c.in_ok-meets_box.field-0 c.in-Some-false.field-0 c.in-Some-false.is
     (region_answer c.args.qp.now c.in_ok-fill_rows.ensures.rows.list c.fill_rows.new.lines.rows c.in_ok-fill_rows.ensures.rows.rows c.in_ok-meets_box.field-0 c.in_ok-meets_box.ensures.answer)

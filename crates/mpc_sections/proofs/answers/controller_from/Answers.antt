@@ -17,5 +17,5 @@ returns-in-Some-clause-refused g c =
 
 pub controller_of_in_threads-requires : goal.controller_of_in_threads-requires
 controller_of_in_threads-requires g c =
-    let decided : (workers : ℕ) × IsDecidedBy workers c.args.plant c.args.registry = decided_by c.legal_laws.ensures.legal c.args.plant c.args.registry c.requires c.in-None.ensures in
+    let decided : (workers : ℕ) × IsDecidedBy workers c.args.plant c.args.registry = decided_by c.legal_theorems.ensures.legal c.args.plant c.args.registry c.requires c.in-None.ensures in
     search rules

@@ -14,7 +14,7 @@ denom c = ap (λ z. to_z w128 (of_z w128 z)) c.den.ensures.value ∙ read_wide (
 pub unreachable-requires : goal.unreachable-requires
 unreachable-requires c =
     let d = (goal.at.unreachable-requires c).After-new in
-    made_always c.args.x.now c.requires _ _ (numer d) (denom d) c.fit_laws.ensures c.num.ensures.fits c.new.result c.new.ensures.zero c.new.ensures.wide c.in-Err.field-0 c.in-Err.is
+    made_always c.args.x.now c.requires _ _ (numer d) (denom d) c.fit_theorems.ensures c.num.ensures.fits c.new.result c.new.ensures.zero c.new.ensures.wide c.in-Err.field-0 c.in-Err.is
 
 pub returns : goal.returns
 returns c = let d = (goal.at.returns c).After-new in c.in-Ok.ensures.value ∙ made_is c.args.x.now c.requires _ _ (numer d) (denom d)

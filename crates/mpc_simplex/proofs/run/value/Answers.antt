@@ -22,7 +22,7 @@ loop-side-init c =
     record {
       first = c.zero-first.ensures ∙ first_start s c.args.n c.args.seats.now c.args.sides.now c.requires.sides p tab same c.args.x h;
       second = c.zero-second.ensures ∙ second_start s c.args.n c.args.seats.now c.args.sides.now c.requires.sides p tab same c.args.x h;
-      fits = fits_start s c.args.n c.args.seats.now c.args.sides.now c.requires.sides p tab same c.args.x c.zero_laws.ensures;
+      fits = fits_start s c.args.n c.args.seats.now c.args.sides.now c.requires.sides p tab same c.args.x c.zero_theorems.ensures;
     }
 
 -- the sums up to the side of the turn

@@ -9,7 +9,7 @@ returns-in-Ok-Best c =
     let t = point_of c.args.counts.now in
     on_ok_weaker c.add_moves.result
     (λ e. adds_moves c.args.program.now c.args.inputs t c.args.text.now.items c.add_moves.new.text.items c.in-Ok-Best.moves (take c.args.inputs c.as_slice-all.result.now)
-    (narrow c.run_laws.ensures c.args.program.now t c.in-Ok-Best.field-0 c.in-Ok-Best.ensures.end)
+    (narrow c.run_theorems.ensures c.args.program.now t c.in-Ok-Best.field-0 c.in-Ok-Best.ensures.end)
     (rw c.in-Ok-Best.moves-is (rw c.in-Ok-Best.field-0-is at c.in-Ok-Best.ensures.best)) (ap (take c.args.inputs) c.as_slice-all.ensures) e)
     c.add_moves.ensures
 
@@ -17,7 +17,7 @@ pub returns-in-Ok-Refuted : goal.returns-in-Ok-Refuted
 returns-in-Ok-Refuted c =
     let t = point_of c.args.counts.now in
     on_ok_weaker c.add_text.result
-    (λ e. adds_none c.args.program.now c.args.inputs t c.args.text.now.items c.add_text.new.text.items (narrow c.run_laws.ensures c.args.program.now t c.in-Ok-Refuted.field-0 c.in-Ok-Refuted.ensures.end)
+    (λ e. adds_none c.args.program.now c.args.inputs t c.args.text.now.items c.add_text.new.text.items (narrow c.run_theorems.ensures c.args.program.now t c.in-Ok-Refuted.field-0 c.in-Ok-Refuted.ensures.end)
     (rw c.in-Ok-Refuted.field-0-is at c.in-Ok-Refuted.ensures.infeasible) e)
     c.add_text.ensures
 

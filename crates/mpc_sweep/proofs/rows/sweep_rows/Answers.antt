@@ -31,4 +31,4 @@ returns c = λ done t ps rows columns before h at behind above.
       room = subst (λ u. u * s.most_scale ≤ 2 ^ 62) size room;
     }
     in
-    swept_once c.over_laws.ensures s out p c.args.first c.requires.table c.requires.row c.requires.column c.requires.pivot once t ps rows columns before h at behind above
+    swept_once c.over_theorems.ensures s out p c.args.first c.requires.table c.requires.row c.requires.column c.requires.pivot once t ps rows columns before h at behind above

@@ -5,4 +5,4 @@ pub returns-clause-not_definite : goal.returns-clause-not_definite
 returns-clause-not_definite c = finds_not_definite
 
 pub returns-clause-too_wide : goal.returns-clause-too_wide
-returns-clause-too_wide c = finds_too_wide c.place_laws.ensures.rows
+returns-clause-too_wide c = finds_too_wide c.place_theorems.ensures.rows

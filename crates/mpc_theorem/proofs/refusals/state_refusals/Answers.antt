@@ -5,7 +5,7 @@ pub returns-clause-not_definite : goal.returns-clause-not_definite
 returns-clause-not_definite c = solves_not_definite
 
 pub returns-clause-too_wide : goal.returns-clause-too_wide
-returns-clause-too_wide c = solves_too_wide c.place_laws.ensures.rows
+returns-clause-too_wide c = solves_too_wide c.place_theorems.ensures.rows
 
 pub returns-clause-row : goal.returns-clause-row
-returns-clause-row c = tightens_wide_row c.place_laws.ensures.rows
+returns-clause-row c = tightens_wide_row c.place_theorems.ensures.rows

@@ -5,4 +5,4 @@ pub returns-clause-tightened : goal.returns-clause-tightened
 returns-clause-tightened c = record { same_h = refl; same_f = refl; same_y = refl; same_g = refl; same_counts = refl; rows = c.in_ok-w.ensures.done; fits = c.in_ok-w.ensures.fits }
 
 pub returns-clause-robust : goal.returns-clause-robust
-returns-clause-robust c = c.tight_laws.ensures.robust c.args.plant.now c.args.noise.now c.args.qp _ c.requires.condensed c.requires.noise (returns-clause-tightened c)
+returns-clause-robust c = c.tight_theorems.ensures.robust c.args.plant.now c.args.noise.now c.args.qp _ c.requires.condensed c.requires.noise (returns-clause-tightened c)

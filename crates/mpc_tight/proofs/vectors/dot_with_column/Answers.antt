@@ -6,17 +6,17 @@ use Rattle.mpc_tight.proofs.vectors.dot_with_column.Goals as goal
 
 pub returns-in-Err-clause-wide : goal.returns-in-Err-clause-wide
 returns-in-Err-clause-wide c =
-    c.sum_laws.ensures.wide (int (pos 0)) c.args.row.now (column c.args.m.now.rows c.args.j) c.loop-k.k c.loop-k.sum c.at-factor.result.now c.get-entry.result
+    c.sum_theorems.ensures.wide (int (pos 0)) c.args.row.now (column c.args.m.now.rows c.args.j) c.loop-k.k c.loop-k.sum c.at-factor.result.now c.get-entry.result
     (stand_in_column c.args.row.now c.args.m.now c.args.j c.loop-k.k c.at-factor.result.now c.get-entry.result c.requires.size (omega (arith, c.rows-k-end.ensures.value)) c.at-factor.ensures c.get-entry.ensures)
     c.loop-k.invariant c.in-Err.ensures.wide
 
 pub loop-k-preserved : goal.loop-k-preserved
 loop-k-preserved c =
-    c.sum_laws.ensures.more (int (pos 0)) c.args.row.now (column c.args.m.now.rows c.args.j) c.loop-k.k c.loop-k.sum c.at-factor.result.now c.get-entry.result c.in-Ok.next
+    c.sum_theorems.ensures.more (int (pos 0)) c.args.row.now (column c.args.m.now.rows c.args.j) c.loop-k.k c.loop-k.sum c.at-factor.result.now c.get-entry.result c.in-Ok.next
     (stand_in_column c.args.row.now c.args.m.now c.args.j c.loop-k.k c.at-factor.result.now c.get-entry.result c.requires.size (omega (arith, c.rows-k-end.ensures.value)) c.at-factor.ensures c.get-entry.ensures)
     c.loop-k.invariant c.in-Ok.ensures.value c.in-Ok.ensures.wide
 
 pub returns-clause-value : goal.returns-clause-value
 returns-clause-value c =
-    c.sum_laws.ensures.value (int (pos 0)) c.args.row.now (column c.args.m.now.rows c.args.j) c.loop-k.k c.loop-k.sum (omega (arith, c.rows-k-end.ensures.value, c.requires.size)) c.loop-k.invariant
+    c.sum_theorems.ensures.value (int (pos 0)) c.args.row.now (column c.args.m.now.rows c.args.j) c.loop-k.k c.loop-k.sum (omega (arith, c.rows-k-end.ensures.value, c.requires.size)) c.loop-k.invariant
     ∙ zero_plus (dot c.args.row.now (column c.args.m.now.rows c.args.j))

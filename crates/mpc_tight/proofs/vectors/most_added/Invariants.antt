@@ -1,6 +1,6 @@
 use Rattle.std.proofs.Common.{pos}
 use Rattle.mpc_exact.specs.Rational.{int}
-use Rattle.mpc_linear.specs.SumLaws.{IsSumSoFar}
+use Rattle.mpc_linear.specs.SumTheorems.{IsSumSoFar}
 use Rattle.mpc_tight.specs.Disturbed.{sizes}
 use Rattle.mpc_tight.proofs.vectors.most_added.Given as goal
 

@@ -1,7 +1,7 @@
 use Rattle.std.proofs.Common.{◌∙◌, sym, refl}
 use Rattle.std.proofs.lemmas.Bool.{false≢true}
 use Rattle.mpc_exact.proofs.RationalOrder.{≤ℚ_of_<}
-use Rattle.mpc_exact.proofs.OrderLaws.{≤ℚ_of_not-<}
+use Rattle.mpc_exact.proofs.OrderTheorems.{≤ℚ_of_not-<}
 use Rattle.mpc_exact.proofs.Absolute.{abs-same, abs-negated}
 use Rattle.mpc_tight.proofs.vectors.size_of.Goals as goal
 

@@ -26,7 +26,7 @@ returns-in-Ok-Split-clause-open c =
     let s : IsSplitAt c.args.qp.now c.args.laws.now c.args.borders.now (cell_at c.args.cell c.args.next) c.in-Ok-Split.place c.in-Ok-Split.row = (rw c.in-Ok-Split.field-0-is at c.in-Ok-Split.ensures.placed).0 in
     let row = same_row c.args.qp.now c.args.laws.now c.args.borders.now c.requires.borders (cell_at c.args.cell c.args.next) c.in-Ok-Split.place c.in-Ok-Split.row s c.index-borders-place.result c.as_slice.result.now c.index-as_slice-row.result c.index-borders-place.is c.as_slice.ensures c.index-as_slice-row.is in
     IfOk-weaker c.split.result (λ v. AreSides c.args.cell c.index-as_slice-row.result c.in-Ok-Split.run' c.in-Ok-Split.place v.items) (λ v. All (IsOpen c.args.qp.now c.args.laws.now) v.items)
-    (λ v p. split_open c.args.qp.now c.args.laws.now c.args.borders.now c.requires.borders c.args.cell c.args.next c.in-Ok-Split.place c.in-Ok-Split.row s c.index-as_slice-row.result row c.in-Ok-Split.run' v.items p c.cell_laws.ensures c.requires.ready c.requires.run (rw c.in-Ok-Split.field-0-is at c.in-Ok-Split.ensures.placed).1) c.split.ensures
+    (λ v p. split_open c.args.qp.now c.args.laws.now c.args.borders.now c.requires.borders c.args.cell c.args.next c.in-Ok-Split.place c.in-Ok-Split.row s c.index-as_slice-row.result row c.in-Ok-Split.run' v.items p c.cell_theorems.ensures c.requires.ready c.requires.run (rw c.in-Ok-Split.field-0-is at c.in-Ok-Split.ensures.placed).1) c.split.ensures
 
 pub returns-in-Ok-Split-clause-finer : goal.returns-in-Ok-Split-clause-finer
 returns-in-Ok-Split-clause-finer c =

@@ -73,7 +73,7 @@ nodes-preserved-in-Ok-Split c =
     let s : IsSplitAt c.args.qp.now c.args.laws.now c.args.borders.now (record { rows = c.nodes.cell.rows.items; next = c.nodes.next }) c.in-Ok-Split.place c.in-Ok-Split.row = (rw c.in-Ok-Split.field-0-is at c.in-Ok-Split.ensures.placed).0 in
     let row : c.index-rows-row.result ≡ s.row = row_read c.args.qp.now c.args.laws.now c.args.borders.now c.requires.borders (record { rows = c.nodes.cell.rows.items; next = c.nodes.next }) c.in-Ok-Split.place c.in-Ok-Split.row s c.as_slice-rows.result.now c.index-rows-row.result (rows_read c.args.qp.now c.args.laws.now c.args.borders.now c.requires.borders (record { rows = c.nodes.cell.rows.items; next = c.nodes.next }) c.in-Ok-Split.place c.in-Ok-Split.row s c.index-borders-place.result c.as_slice-rows.result.now c.index-borders-place.is c.as_slice-rows.ensures) c.index-rows-row.is in
     record {
-      grown = grown_at c.args.qp.now c.args.laws.now c.args.borders.now c.requires.borders (record { rows = c.nodes.cell.rows.items; next = c.nodes.next }) c.in-Ok-Split.place c.in-Ok-Split.row s c.cell_laws.ensures (record { rows = c.args.cell.rows.items; next = c.args.next }) c.nodes.tree c.nodes.sides.items c.nodes.held c.nodes.invariant.grown c.in-Ok-Split.run' (rw c.in-Ok-Split.field-0-is at c.in-Ok-Split.ensures.placed).1 c.index-rows-row.result row c.open_split.new.tree c.open_split.new.cell.rows.items c.open_split.new.sides.items c.in_ok-open_split-in-Ok-Split.ensures.tree c.in_ok-open_split-in-Ok-Split.ensures.cell c.in_ok-open_split-in-Ok-Split.ensures.sides;
+      grown = grown_at c.args.qp.now c.args.laws.now c.args.borders.now c.requires.borders (record { rows = c.nodes.cell.rows.items; next = c.nodes.next }) c.in-Ok-Split.place c.in-Ok-Split.row s c.cell_theorems.ensures (record { rows = c.args.cell.rows.items; next = c.args.next }) c.nodes.tree c.nodes.sides.items c.nodes.held c.nodes.invariant.grown c.in-Ok-Split.run' (rw c.in-Ok-Split.field-0-is at c.in-Ok-Split.ensures.placed).1 c.index-rows-row.result row c.open_split.new.tree c.open_split.new.cell.rows.items c.open_split.new.sides.items c.in_ok-open_split-in-Ok-Split.ensures.tree c.in_ok-open_split-in-Ok-Split.ensures.cell c.in_ok-open_split-in-Ok-Split.ensures.sides;
       run = subst (λ rows. IsRunOf c.args.qp.now rows c.open_split.new.cell.run) (sym c.in_ok-open_split-in-Ok-Split.ensures.cell) (narrowed c.args.qp.now c.nodes.cell.rows.items c.nodes.cell.run c.nodes.invariant.run (whole_row c.index-rows-row.result) c.open_split.new.cell.run c.in_ok-open_split-in-Ok-Split.ensures.run);
     }
 

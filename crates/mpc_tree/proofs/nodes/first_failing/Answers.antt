@@ -15,7 +15,7 @@ returns-in-Ok-Point-clause-held c =
       record {
         row = c.index-rows-place.result;
         is = is;
-        fails = (fails_where c.cell_laws.ensures c.args.qp.now c.args.cell.now.rows.items c.index-rows-place.result).1 end.0;
+        fails = (fails_where c.cell_theorems.ensures c.args.qp.now c.args.cell.now.rows.items c.index-rows-place.result).1 end.0;
         before = c.loop-place.invariant.none;
         fits = holds_fit c.args.qp.now c.args.cell.now.rows.items c.args.rows.now c.loop-place.place c.index-rows-place.result is c.loop-place.invariant.fits c.in-Ok-Point.ensures.wide;
       },
@@ -32,7 +32,7 @@ loop-place-preserved c =
     let is : slice_get c.args.rows.now c.loop-place.place ≡ Some c.index-rows-place.result = slice_get_read c.args.rows.now (length c.args.rows.now) c.loop-place.place c.index-rows-place.result refl c.loop-place-test.true c.index-rows-place.is in
     let end = rw c.in-Ok-Refuted.field-0-is at c.in-Ok-Refuted.ensures.end in
     record {
-      none = fails_none c.args.qp.now c.args.cell.now.rows.items c.args.rows.now c.loop-place.place c.index-rows-place.result is c.loop-place.invariant.none (λ f. end.0 ((fails_where c.cell_laws.ensures c.args.qp.now c.args.cell.now.rows.items c.index-rows-place.result).0 f));
+      none = fails_none c.args.qp.now c.args.cell.now.rows.items c.args.rows.now c.loop-place.place c.index-rows-place.result is c.loop-place.invariant.none (λ f. end.0 ((fails_where c.cell_theorems.ensures c.args.qp.now c.args.cell.now.rows.items c.index-rows-place.result).0 f));
       certs_are = certs_more c.args.qp.now c.args.cell.now.rows.items c.args.rows.now c.loop-place.place c.index-rows-place.result is c.loop-place.certs c.push.new.self c.in-Ok-Refuted.cert c.loop-place.invariant.certs_are end.1 c.in_ok-push-in-Ok-Refuted.ensures.ok;
       fits = holds_fit c.args.qp.now c.args.cell.now.rows.items c.args.rows.now c.loop-place.place c.index-rows-place.result is c.loop-place.invariant.fits c.in-Ok-Refuted.ensures.wide;
     }

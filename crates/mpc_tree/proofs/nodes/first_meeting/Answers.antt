@@ -19,7 +19,7 @@ region_meets-requires-clause-plain c =
 pub returns-in-Ok-true-clause-first : goal.returns-in-Ok-true-clause-first
 returns-in-Ok-true-clause-first c =
     let is = is_border (goal.at.returns-in-Ok-true-clause-first c).After-index-borders-place in
-    let first = meets_first c.args.qp.now c.args.laws.now c.args.borders.now c.requires.borders c.args.cell.now.rows.items c.loop-place.place c.index-borders-place.result is c.cell_laws.ensures c.loop-place.invariant.none (c.in-Ok-true.ensures.answer.0 c.in-Ok-true.field-0-test) in
+    let first = meets_first c.args.qp.now c.args.laws.now c.args.borders.now c.requires.borders c.args.cell.now.rows.items c.loop-place.place c.index-borders-place.result is c.cell_theorems.ensures c.loop-place.invariant.none (c.in-Ok-true.ensures.answer.0 c.in-Ok-true.field-0-test) in
     record { law = first.0; first = first.1; fits = meets_fit c.args.qp.now c.args.laws.now c.args.borders.now c.requires.borders c.args.cell.now.rows.items c.loop-place.place c.index-borders-place.result is c.args.at.next c.loop-place.invariant.fits c.in-Ok-true.ensures.wide }
 
 pub returns-in-Err-Wide-clause-wide : goal.returns-in-Err-Wide-clause-wide
@@ -31,6 +31,6 @@ pub loop-place-preserved : goal.loop-place-preserved
 loop-place-preserved c =
     let is = is_border (goal.at.loop-place-preserved c).After-index-borders-place in
     record {
-      none = meets_none c.args.qp.now c.args.laws.now c.args.borders.now c.requires.borders c.args.cell.now.rows.items c.loop-place.place c.index-borders-place.result is c.cell_laws.ensures c.loop-place.invariant.none (λ p. false_true (sym c.in-Ok-false.field-0-test ∙ c.in-Ok-false.ensures.answer.1 p));
+      none = meets_none c.args.qp.now c.args.laws.now c.args.borders.now c.requires.borders c.args.cell.now.rows.items c.loop-place.place c.index-borders-place.result is c.cell_theorems.ensures c.loop-place.invariant.none (λ p. false_true (sym c.in-Ok-false.field-0-test ∙ c.in-Ok-false.ensures.answer.1 p));
       fits = meets_fit c.args.qp.now c.args.laws.now c.args.borders.now c.requires.borders c.args.cell.now.rows.items c.loop-place.place c.index-borders-place.result is c.args.at.next c.loop-place.invariant.fits c.in-Ok-false.ensures.wide;
     }

@@ -20,7 +20,7 @@ is_border c =
 pub joint_cert-requires-clause-no_point : goal.joint_cert-requires-clause-no_point
 joint_cert-requires-clause-no_point c =
     let none : IsNoMeeting c.args.qp.now c.args.laws.now (record { rows = c.args.cell.now.rows.items; next = c.args.at.next }) = subst (IsFirstMeeting c.args.qp.now c.args.laws.now (record { rows = c.args.cell.now.rows.items; next = c.args.at.next })) c.in-None.is c.in_ok-first_meeting.ensures.first in
-    subst (λ rows. ¬ HasPoint (joint_system c.args.qp.now rows)) (sym c.deref.ensures.value) (no_joint c.args.qp.now c.args.laws.now c.args.cell.now.rows.items none.none c.cell_laws.ensures c.requires.cover.covers c.requires.cell)
+    subst (λ rows. ¬ HasPoint (joint_system c.args.qp.now rows)) (sym c.deref.ensures.value) (no_joint c.args.qp.now c.args.laws.now c.args.cell.now.rows.items none.none c.cell_theorems.ensures c.requires.cover.covers c.requires.cell)
 
 pub first_failing-requires-clause-few : goal.first_failing-requires-clause-few
 first_failing-requires-clause-few c =
@@ -40,7 +40,7 @@ returns-in-Ok-Fails-clause-placed c =
 pub returns-in-Ok-Holds-clause-placed : goal.returns-in-Ok-Holds-clause-placed
 returns-in-Ok-Holds-clause-placed c =
     let d = (goal.at.returns-in-Ok-Holds-clause-placed c).After-as_slice in
-    law_placed c.args.qp.now c.args.laws.now c.args.borders.now c.requires.borders (record { rows = c.args.cell.now.rows.items; next = c.args.at.next }) c.in-Some.place (meeting d) c.as_slice.result.now (is_border d) c.cell_laws.ensures c.in-Ok-Holds.certs (rw c.in-Ok-Holds.field-0-is at c.in-Ok-Holds.ensures.held)
+    law_placed c.args.qp.now c.args.laws.now c.args.borders.now c.requires.borders (record { rows = c.args.cell.now.rows.items; next = c.args.at.next }) c.in-Some.place (meeting d) c.as_slice.result.now (is_border d) c.cell_theorems.ensures c.in-Ok-Holds.certs (rw c.in-Ok-Holds.field-0-is at c.in-Ok-Holds.ensures.held)
 
 pub returns-in-Err-clause-wide : goal.returns-in-Err-clause-wide
 returns-in-Err-clause-wide c =

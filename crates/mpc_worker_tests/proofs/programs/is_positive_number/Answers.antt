@@ -1,6 +1,6 @@
 use Rattle.std.proofs.Common.{◌∙◌, sym, subst, pos, arith}
 use Rattle.mpc_exact.specs.Rational.{int, ◌<ℚ◌}
-use Rattle.mpc_exact.proofs.OrderLaws.{lt_ℚ-true}
+use Rattle.mpc_exact.proofs.OrderTheorems.{lt_ℚ-true}
 use Rattle.mpc_worker_tests.proofs.SmallPrograms.{one_definite}
 use Rattle.mpc_worker_tests.proofs.programs.is_positive_number.Goals as goal
 

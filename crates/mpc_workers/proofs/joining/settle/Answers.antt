@@ -6,13 +6,13 @@ use Rattle.mpc_workers.proofs.joining.settle.Goals as goal
 
 pub unreachable-requires : goal.unreachable-requires
 unreachable-requires c =
-    no_job c.claim_laws.ensures.answers c.args._qp.now c.args._workers c.args.registry.now c.requires 1 c.in-Job.ticket c.claim.new.self
+    no_job c.claim_theorems.ensures.answers c.args._qp.now c.args._workers c.args.registry.now c.requires 1 c.in-Job.ticket c.claim.new.self
     (subst (λ (a : Claimed). Claims c.args.registry.now 1 (Ok a) c.claim.new.self) c.in-Job.is c.in_ok-ticket.ensures)
 
 pub unreachable-requires-in-Idle : goal.unreachable-requires-in-Idle
 unreachable-requires-in-Idle c =
     let k = subst (λ (a : Claimed). Claims c.args.registry.now 1 (Ok a) c.claim.new.self) c.in-Idle.is c.in_ok-ticket.ensures in
-    not_idle c.claim_laws.ensures.answers c.args._qp.now c.args._workers c.args.registry.now c.requires k.1
+    not_idle c.claim_theorems.ensures.answers c.args._qp.now c.args._workers c.args.registry.now c.requires k.1
 
 pub returns-in-Finished : goal.returns-in-Finished
 returns-in-Finished c =

@@ -10,7 +10,7 @@ pub deliver_as-requires-clause-turn : goal.deliver_as-requires-clause-turn
 deliver_as-requires-clause-turn g c = its_turn c.args.number c.args.turn.now c.args._qp.now c.args.ticket c.args.post.now c.requires.post
 
 pub deliver_as-requires-clause-hand : goal.deliver_as-requires-clause-hand
-deliver_as-requires-clause-hand g c = its_hand c.args.number c.args.turn.now c.args._qp.now c.args.ticket c.args.post.now c.requires.post c.hand_laws.ensures.in_hand
+deliver_as-requires-clause-hand g c = its_hand c.args.number c.args.turn.now c.args._qp.now c.args.ticket c.args.post.now c.requires.post c.hand_theorems.ensures.in_hand
 
 pub deliver_as-requires-clause-right : goal.deliver_as-requires-clause-right
 deliver_as-requires-clause-right g c =
@@ -20,7 +20,7 @@ pub returns-clause-post : goal.returns-clause-post
 returns-clause-post g c =
     let kind = Done (tag_of c.args.judged.verdict) in
     record {
-      pass = ended_pass c.args.number c.args.turn.now c.args._qp.now c.args.ticket c.args.post.now c.requires.post c.hand_laws.ensures.claimed c.hand_laws.ensures.ended kind refl c.deliver_as.new.pass c.deliver_as.ensures;
-      kept = ended_kept c.args.number c.args.turn.now c.args._qp.now c.args.ticket c.args.post.now c.requires.post c.hand_laws.ensures.claimed c.hand_laws.ensures.ended kind refl c.deliver_as.new.pass c.deliver_as.ensures refl;
+      pass = ended_pass c.args.number c.args.turn.now c.args._qp.now c.args.ticket c.args.post.now c.requires.post c.hand_theorems.ensures.claimed c.hand_theorems.ensures.ended kind refl c.deliver_as.new.pass c.deliver_as.ensures;
+      kept = ended_kept c.args.number c.args.turn.now c.args._qp.now c.args.ticket c.args.post.now c.requires.post c.hand_theorems.ensures.claimed c.hand_theorems.ensures.ended kind refl c.deliver_as.new.pass c.deliver_as.ensures refl;
       ended = λ e. absurd (true≢false (sym e ∙ c.requires.post.working));
     }

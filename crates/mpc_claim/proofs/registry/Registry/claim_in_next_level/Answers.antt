@@ -38,7 +38,7 @@ invariant_of-self c =
     let quiet = subst (λ (b : Board). (i : ℕ) → i < length b.candidates → IsQuiet (at b.candidates i).slot) (sym c.self.view_is) c.requires.quiet in
     let empty : vec_len c.in_ok-sets.sets ≡ 0 = eqb-true (vec_len c.in_ok-sets.sets) 0 (sym c.is_empty.ensures ∙ c.if-is_empty.true) in
     let none : c.in_ok-sets.sets.items ≡ [] = nil_of c.in_ok-sets.sets.items (let counted = c.in_ok-sets.sets.ok in omega arith) in (
-      kept_finished c.member_laws.ensures r.program (seen r.verdicts.items r.entries.items) r.settled r.claims r.pending r.size r.history.items (vec_capacity r.history)
+      kept_finished c.member_theorems.ensures r.program (seen r.verdicts.items r.entries.items) r.settled r.claims r.pending r.size r.history.items (vec_capacity r.history)
           (subst (λ (f : Phase). IsKept r.program (seen r.verdicts.items r.entries.items) r.settled r.claims r.pending r.size f r.history.items (vec_capacity r.history)) working c.self.invariant.0) quiet
           (subst (HoldsCandidates r.program (suc r.size)) none c.in_ok-sets.ensures),
       c.self.invariant.1,
@@ -53,7 +53,7 @@ returns-then-is_empty c =
 pub note_claim-ticket-requires-clause-number : goal.note_claim-ticket-requires-clause-number
 note_claim-ticket-requires-clause-number c =
     let r = c.self.inside in
-    let few = few_candidates c.count_laws.ensures.six_of_sixty r.program (sets_of (seen r.verdicts.items r.entries.items)) c.self.invariant.0.lineup.in_order c.self.invariant.0.lineup.candidates in
+    let few = few_candidates c.count_theorems.ensures.six_of_sixty r.program (sets_of (seen r.verdicts.items r.entries.items)) c.self.invariant.0.lineup.in_order c.self.invariant.0.lineup.candidates in
     let many = length-sets_of (seen r.verdicts.items r.entries.items) in
     let counted = r.entries.ok in let seen_many = length-seen r.verdicts.items r.entries.items in
     let place = c.len-place.ensures in

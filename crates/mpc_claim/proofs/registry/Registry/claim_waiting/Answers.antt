@@ -45,7 +45,7 @@ note_claim-ticket-requires-clause-number c =
     let r = c.self.inside in
     let working : r.phase ≡ Working = ap (λ (b : Board). b.phase) c.self.view_is ∙ c.requires.working in
     let p : r.claims < length (seen r.verdicts.items r.entries.items) = some_waiting _ _ _ _ _ _ c.self.invariant.0.slots (subst (λ (b : Board). Any (λ (d : Candidate). d.slot ≡ Waiting) b.candidates) (sym c.self.view_is) c.requires.waiting) in
-    let few = few_candidates c.count_laws.ensures.six_of_sixty r.program (sets_of (seen r.verdicts.items r.entries.items)) c.self.invariant.0.lineup.in_order c.self.invariant.0.lineup.candidates in
+    let few = few_candidates c.count_theorems.ensures.six_of_sixty r.program (sets_of (seen r.verdicts.items r.entries.items)) c.self.invariant.0.lineup.in_order c.self.invariant.0.lineup.candidates in
     let many = length-sets_of (seen r.verdicts.items r.entries.items) in
     omega (arith, few, many)
 

@@ -21,7 +21,7 @@ pub keep-mark-requires-clause-number : goal.keep-mark-requires-clause-number
 keep-mark-requires-clause-number c =
     let r = c.self.inside in
     let lineup = c.self.invariant.0.lineup in
-    let most = few_candidates c.count_laws.ensures.six_of_sixty r.program (sets_of (seen r.verdicts.items r.entries.items)) lineup.in_order lineup.candidates in
+    let most = few_candidates c.count_theorems.ensures.six_of_sixty r.program (sets_of (seen r.verdicts.items r.entries.items)) lineup.in_order lineup.candidates in
     let many = length-sets_of (seen r.verdicts.items r.entries.items) in
     let within = c.self.invariant.0.slots.within in
     let few = c.self.invariant.1.few in

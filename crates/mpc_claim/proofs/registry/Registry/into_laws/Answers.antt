@@ -29,7 +29,7 @@ returns-clause-table c =
     let finished : r.phase ≡ Finished = ap (λ (b : Board). b.phase) c.self.view_is ∙ c.requires in
     subst (λ (b : Board). IsTable b.program c.in_ok-laws.laws) c.self.view_is
     (subst (IsTable r.program) (sym (c.in_ok-laws.ensures ∙ ap (λ u. laws_of (seen r.verdicts.items u)) c.deref.ensures.value))
-    (is_table c.law_laws.ensures.law_unique r.program (seen r.verdicts.items r.entries.items) r.settled r.claims r.pending r.size r.history.items k.definite k.lineup k.slots (subst (HasPhase r.program (seen r.verdicts.items r.entries.items) r.history.items) finished k.phase_fits)))
+    (is_table c.law_theorems.ensures.law_unique r.program (seen r.verdicts.items r.entries.items) r.settled r.claims r.pending r.size r.history.items k.definite k.lineup k.slots (subst (HasPhase r.program (seen r.verdicts.items r.entries.items) r.history.items) finished k.phase_fits)))
 
 pub returns-clause-rows_fit : goal.returns-clause-rows_fit
 returns-clause-rows_fit c =

@@ -27,7 +27,7 @@ returns-clause-text c =
 pub returns-clause-prints : goal.returns-clause-prints
 returns-clause-prints c =
     on_ok_weaker c.write_grid.result
-    (λ fits. lines_print c.word_laws.ensures c.args.plant.now
+    (λ fits. lines_print c.word_theorems.ensures c.args.plant.now
     (record {
       matrices = c.in_ok-write_matrices.ensures.fits;
       drift = c.in_ok-write_drift.ensures.fits;

@@ -9,7 +9,7 @@ use Rattle.mpc_file.proofs.writing.tree_lines.write_tree.Goals as goal
 pub returns-clause-written : goal.returns-clause-written
 returns-clause-written c =
     on_ok_weaker c.write_piece-3.result
-    (λ added. λ plant good. tree_written c.word_laws.ensures plant c.args.tree.now c.args.out.now.items c.write_count_line.new.out.items c.write_piece.new.out.items c.write_piece-2.new.out.items c.write_piece-3.new.out.items
+    (λ added. λ plant good. tree_written c.word_theorems.ensures plant c.args.tree.now c.args.out.now.items c.write_count_line.new.out.items c.write_piece.new.out.items c.write_piece-2.new.out.items c.write_piece-3.new.out.items
     c.write_nodes.new.out.items c.text.result.now c.len.result c.write_nodes.new.names
     (subst (λ t. AreNodesNumbered plant c.args.tree.now t c.write_nodes.new.out.items (AreNames c.write_nodes.new.names)) c.new-text.ensures.items (c.in_ok-write_nodes.ensures.numbered plant good (no_planes plant (AreNames c.new-names.result) c.new-names.ensures)))
     c.len.ensures c.text.ensures (subst (λ t. length t < 2 ^ 63) (sym c.text.ensures) (few_bytes c.write_nodes.new.names.text))

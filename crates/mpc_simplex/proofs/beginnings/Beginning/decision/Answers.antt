@@ -21,20 +21,20 @@ refuted_ends c =
 pub returns-in-Some-Point-clause-point : goal.returns-in-Some-Point-clause-point
 returns-in-Some-Point-clause-point c =
     let at = goal.at.returns-in-Some-Point-clause-point c in
-    subst (λ (t : LinearSystem). IsPairPoint t c.in-Some-Point.point) c.self.view_is (ended-point c.system_laws.ensures c.self.inside.run c.self.invariant c.in-Some-Point.point (point_ends at.In-Some-Point))
+    subst (λ (t : LinearSystem). IsPairPoint t c.in-Some-Point.point) c.self.view_is (ended-point c.system_theorems.ensures c.self.inside.run c.self.invariant c.in-Some-Point.point (point_ends at.In-Some-Point))
 
 pub returns-in-Some-Point-clause-has_point : goal.returns-in-Some-Point-clause-has_point
 returns-in-Some-Point-clause-has_point c =
     let at = goal.at.returns-in-Some-Point-clause-has_point c in
     subst HasPoint c.self.view_is
-    (c.system_laws.ensures.point_of_pairs c.self.inside.run c.in-Some-Point.point (ended-point c.system_laws.ensures c.self.inside.run c.self.invariant c.in-Some-Point.point (point_ends at.In-Some-Point)))
+    (c.system_theorems.ensures.point_of_pairs c.self.inside.run c.in-Some-Point.point (ended-point c.system_theorems.ensures c.self.inside.run c.self.invariant c.in-Some-Point.point (point_ends at.In-Some-Point)))
 
 pub returns-in-Some-Refuted-clause-refuted : goal.returns-in-Some-Refuted-clause-refuted
 returns-in-Some-Refuted-clause-refuted c =
     let at = goal.at.returns-in-Some-Refuted-clause-refuted c in
-    subst (λ (t : LinearSystem). Refutes t c.in-Some-Refuted.multipliers) c.self.view_is (ended-refuted c.system_laws.ensures c.self.inside.run c.self.invariant c.in-Some-Refuted.multipliers (refuted_ends at.In-Some-Refuted))
+    subst (λ (t : LinearSystem). Refutes t c.in-Some-Refuted.multipliers) c.self.view_is (ended-refuted c.system_theorems.ensures c.self.inside.run c.self.invariant c.in-Some-Refuted.multipliers (refuted_ends at.In-Some-Refuted))
 
 pub returns-in-Some-Refuted-clause-no_point : goal.returns-in-Some-Refuted-clause-no_point
 returns-in-Some-Refuted-clause-no_point c =
     let at = goal.at.returns-in-Some-Refuted-clause-no_point c in
-    subst (λ (t : LinearSystem). ¬ HasPoint t) c.self.view_is (ended-no_point c.system_laws.ensures c.self.inside.run c.self.invariant c.in-Some-Refuted.multipliers (refuted_ends at.In-Some-Refuted))
+    subst (λ (t : LinearSystem). ¬ HasPoint t) c.self.view_is (ended-no_point c.system_theorems.ensures c.self.inside.run c.self.invariant c.in-Some-Refuted.multipliers (refuted_ends at.In-Some-Refuted))

@@ -5,7 +5,7 @@ use Rattle.mpc_turn.proofs.lock.Turn.abandon_as.Goals as goal
 
 pub abandon_in-answer-requires-clause-taken : goal.abandon_in-answer-requires-clause-taken
 abandon_in-answer-requires-clause-taken g c =
-    let o = turn_opens c.legal_laws.ensures.open_list c.legal_laws.ensures.appended c.pass.inside.seat.table_id c.pass.inside.worker c.pass.inside.seat.me.0 _ _ _ c.pass.view_is c.requires.hand c.take.ensures.taken in
+    let o = turn_opens c.legal_theorems.ensures.open_list c.legal_theorems.ensures.appended c.pass.inside.seat.table_id c.pass.inside.worker c.pass.inside.seat.me.0 _ _ _ c.pass.view_is c.requires.hand c.take.ensures.taken in
     (o.0, o.1, o.2.0)
 
 pub serve-requires-clause-taken : goal.serve-requires-clause-taken

@@ -6,7 +6,7 @@ use Rattle.mpc_turn.proofs.lock.Turn.deliver_as.Goals as goal
 
 pub deliver_in-answer-requires-clause-taken : goal.deliver_in-answer-requires-clause-taken
 deliver_in-answer-requires-clause-taken g c =
-    turn_delivers c.legal_laws.ensures.open_list c.legal_laws.ensures.appended c.pass.inside.seat.table_id c.pass.inside.worker c.pass.inside.seat.me.0 _ _ _ _ c.pass.view_is c.requires.hand c.take.ensures.taken c.requires.right
+    turn_delivers c.legal_theorems.ensures.open_list c.legal_theorems.ensures.appended c.pass.inside.seat.table_id c.pass.inside.worker c.pass.inside.seat.me.0 _ _ _ _ c.pass.view_is c.requires.hand c.take.ensures.taken c.requires.right
 
 pub serve-requires-clause-taken : goal.serve-requires-clause-taken
 serve-requires-clause-taken g c =

@@ -6,7 +6,7 @@ use Rattle.mpc_turn.proofs.lock.Turn.deliver_then_claim_as.Goals as goal
 
 pub deliver_in-requires-clause-taken : goal.deliver_in-requires-clause-taken
 deliver_in-requires-clause-taken g c =
-    turn_delivers c.legal_laws.ensures.open_list c.legal_laws.ensures.appended c.pass.inside.seat.table_id c.pass.inside.worker c.pass.inside.seat.me.0 _ _ _ _ c.pass.view_is c.requires.hand c.take.ensures.taken c.requires.right
+    turn_delivers c.legal_theorems.ensures.open_list c.legal_theorems.ensures.appended c.pass.inside.seat.table_id c.pass.inside.worker c.pass.inside.seat.me.0 _ _ _ _ c.pass.view_is c.requires.hand c.take.ensures.taken c.requires.right
 
 pub claim_in-claimed-requires-clause-taken : goal.claim_in-claimed-requires-clause-taken
 claim_in-claimed-requires-clause-taken g c = let d = c.deliver_in.ensures.ended.2 in (d.0, d.1, refl)

@@ -17,7 +17,7 @@ load-requires c =
     let j = c.join_seat.ensures in
     let parts = ap (λ (m : Sat). m.0.parts) j.2 in
     let alive = i.living in
-    (j.0 ∙ (ap (λ (k : Known). k.turn) c.first.view_is ∙ (c.requires.turn.0 ∙ sym c.self.view_is)), search rules, compares_as c.history_laws.ensures.legal_beginnings _ _ _ (ap (λ (m : Sat). m.0.number) j.2 ∙ i.idle.0, ap (λ (m : Sat). m.0.turn) j.2 ∙ i.idle.1) (omega (arith, parts, alive)))
+    (j.0 ∙ (ap (λ (k : Known). k.turn) c.first.view_is ∙ (c.requires.turn.0 ∙ sym c.self.view_is)), search rules, compares_as c.history_theorems.ensures.legal_beginnings _ _ _ (ap (λ (m : Sat). m.0.number) j.2 ∙ i.idle.0, ap (λ (m : Sat). m.0.turn) j.2 ∙ i.idle.1) (omega (arith, parts, alive)))
 
 pub invariant_of-first : goal.invariant_of-first
 invariant_of-first c =

@@ -1,5 +1,0 @@
-use Rattle.mpc_controller.proofs.OneBoundLemmas.{one_first_broken, kept_not_broken}
-use Rattle.mpc_controller.proofs.laws.bound_laws.Goals as goal
-
-pub returns : goal.returns
-returns c = record { one_first_broken = one_first_broken; kept_not_broken = kept_not_broken }

@@ -1,5 +1,0 @@
-use Rattle.mpc_controller.proofs.OneLeafLemmas.{ends_at_one_leaf}
-use Rattle.mpc_controller.proofs.laws.one_leaf.Goals as goal
-
-pub returns : goal.returns
-returns c = ends_at_one_leaf

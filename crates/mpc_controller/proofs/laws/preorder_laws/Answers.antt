@@ -1,5 +1,0 @@
-use Rattle.mpc_controller.proofs.PreorderLemmas.{spells_split, spells_leaf, spells_joined}
-use Rattle.mpc_controller.proofs.laws.preorder_laws.Goals as goal
-
-pub returns : goal.returns
-returns c = record { split = spells_split; leaf = spells_leaf; joined = spells_joined }

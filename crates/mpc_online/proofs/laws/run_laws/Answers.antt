@@ -1,5 +1,0 @@
-use Rattle.mpc_online.proofs.OneRun.{one_run_end}
-use Rattle.mpc_online.proofs.laws.run_laws.Goals as goal
-
-pub returns : goal.returns
-returns c = one_run_end

@@ -1,5 +1,0 @@
-use Rattle.mpc_plant.proofs.OneReading.{one_reading}
-use Rattle.mpc_plant.proofs.laws.one_reading.Goals as goal
-
-pub returns : goal.returns
-returns c = one_reading

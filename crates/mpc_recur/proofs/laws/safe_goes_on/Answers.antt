@@ -1,5 +1,0 @@
-use Rattle.mpc_recur.proofs.LoopLemmas.{safe_goes_on}
-use Rattle.mpc_recur.proofs.laws.safe_goes_on.Goals as goal
-
-pub returns : goal.returns
-returns c = safe_goes_on

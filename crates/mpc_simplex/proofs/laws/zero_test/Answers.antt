@@ -1,5 +1,0 @@
-use Rattle.mpc_whole.proofs.Turn.{zero_passes}
-use Rattle.mpc_simplex.proofs.laws.zero_test.Goals as goal
-
-pub returns : goal.returns
-returns c = zero_passes

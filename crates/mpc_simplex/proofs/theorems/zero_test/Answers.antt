@@ -1,0 +1,5 @@
+use Rattle.mpc_whole.proofs.Turn.{zero_passes}
+use Rattle.mpc_simplex.proofs.theorems.zero_test.Goals as goal
+
+pub returns : goal.returns
+returns c = zero_passes

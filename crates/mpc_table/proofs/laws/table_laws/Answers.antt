@@ -1,5 +1,0 @@
-use Rattle.mpc_table.proofs.TableLemmas.{law_inputs, law_forms_length}
-use Rattle.mpc_table.proofs.laws.table_laws.Goals as goal
-
-pub returns : goal.returns
-returns c = record { one_list_each = law_forms_length; moves_each_input = law_inputs }

@@ -1,0 +1,31 @@
+use Rattle.std.proofs.Common.{sym, subst}
+use Rattle.mpc_theorem.specs.PlantFile.{IsPlantText}
+use Rattle.mpc_theorem.proofs.RightControllers.{controller_rightly}
+use Rattle.mpc_theorem.proofs.file_outputs.file_output_theorems.Goals as goal
+use Rattle.mpc_file.specs.declared.versions.Version.TheVariants.{Three}
+
+pub returns-clause-compiled : goal.returns-clause-compiled
+returns-clause-compiled c = λ input output plant qp parts short read is spelled.
+    record {
+      parts = parts;
+      read = subst (IsPlantText input) (sym is.is_sealed.plant_is) read;
+      file = c.controller_file.ensures.file output Three parts short spelled;
+      rightly = controller_rightly c.right_controller.ensures.right c.right_controller.ensures.replies plant qp parts is;
+    }
+
+pub returns-clause-accepted : goal.returns-clause-accepted
+returns-clause-accepted c = λ input short h.
+    record { version = h.file.spelled.0; parts = h.file.parts; file = c.controller_file.ensures.file input h.file.spelled.0 h.file.parts short h.file.spelled.1; rightly = h.rightly }
+
+pub returns-clause-replied : goal.returns-clause-replied
+returns-clause-replied c = λ input output lines short h.
+    record { version = h.given.spelled.0; parts = h.parts; file = c.controller_file.ensures.file input h.given.spelled.0 h.parts short h.given.spelled.1; replies = h.replies }
+
+pub returns-clause-converted : goal.returns-clause-converted
+returns-clause-converted c = λ input output short little h.
+    record {
+      version = h.spelled.0;
+      parts = h.parts;
+      file = c.controller_file.ensures.file input h.spelled.0 h.parts short h.spelled.1;
+      converted = c.controller_file.ensures.file output Three h.parts little h.written;
+    }

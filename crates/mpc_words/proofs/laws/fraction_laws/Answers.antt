@@ -1,8 +1,0 @@
-use Rattle.mpc_words.proofs.FractionLemmas.{one_fraction, fraction_word}
-use Rattle.mpc_words.proofs.laws.fraction_laws.Goals as goal
-
-pub returns-clause-one_number : goal.returns-clause-one_number
-returns-clause-one_number c = one_fraction
-
-pub returns-clause-word : goal.returns-clause-word
-returns-clause-word c = fraction_word
