@@ -24,7 +24,7 @@ use Rattle.mpc_theorem.specs.PlantFaults.{FaultsAreFirst}
 use Rattle.mpc_theorem.specs.Programs.{IsNotDefinite, IsWideProgram}
 use Rattle.mpc_theorem.specs.Stages.{IsWideStage, PlantNotDefinite, PlantTooWide}
 use Rattle.mpc_theorem.specs.CheckTheorems.{FindsNotDefinite, FindsTooWide}
-use Rattle.mpc_theorem.specs.StateTheorems.{SolvesNotDefinite, SolvesTooWide, TightensWideRow}
+use Rattle.mpc_theorem.specs.StateTheorems.{SolvesTooWide, TightensWideRow}
 use Rattle.mpc_cli.specs.declared.commands.Command.{Command}
 use Rattle.mpc_cli.specs.declared.commands.Command.TheVariants.{OfPlant, OfFile, OfStates, Drill, Fleet}
 use Rattle.mpc_cli.specs.declared.commands.StateCommand.TheVariants.{Solve, Robust}
@@ -178,7 +178,7 @@ convert_comes input (WideLater (Tight row)) h = absurd h
 convert_comes input other h = absurd h
 
 -- ---- of recorded states
-module _ (texts : PlantTextsAreRead) (faults : FaultsAreFirst) (definite : SolvesNotDefinite) (wide : SolvesTooWide) (tight : TightensWideRow) where
+module _ (texts : PlantTextsAreRead) (faults : FaultsAreFirst) (definite : PlantNotDefinite) (wide : SolvesTooWide) (tight : TightensWideRow) where
   solve_due : (input : List ℕ) (o : SolveOutcome) → IsSolveOutcome input o → IsDueTo (OfStates Solve) input (solve_status o)
   solve_due input (bad_solve_plant kind path) h = (faults (head_of input) kind path).0 h
   solve_due input (of_program (not_definite_program pivot)) h = record { plant = h.plant; text = (texts (head_of input) h.plant).0 h.read; so = (definite h.plant pivot).0 h.so }
@@ -241,7 +241,7 @@ pub fleet_done : (workers : ℕ) (input : List ℕ) (s : Status) → length (sec
 fleet_done workers input s few h = one_fleet workers input s Done h few
 
 -- ---- of every command
-module _ (texts : PlantTextsAreRead) (faults : FaultsAreFirst) (plant_not : PlantNotDefinite) (plant_wide_is : PlantTooWide) (check_not : FindsNotDefinite) (check_wide : FindsTooWide) (state_not : SolvesNotDefinite) (state_wide : SolvesTooWide) (tight : TightensWideRow) where
+module _ (texts : PlantTextsAreRead) (faults : FaultsAreFirst) (plant_not : PlantNotDefinite) (plant_wide_is : PlantTooWide) (check_not : FindsNotDefinite) (check_wide : FindsTooWide) (state_wide : SolvesTooWide) (tight : TightensWideRow) where
   -- an outcome's status is due
   of_outcome : {O : Type 0} (P : O → Type 0) (status_of : O → Status) (c : Command) (input : List ℕ) (s : Status) → ((o : O) → P o → IsDueTo c input (status_of o)) → ComesOf P status_of s → IsDueTo c input s
   of_outcome P status_of c input s each h = subst (IsDueTo c input) (sym h.status_is) (each h.outcome h.came)
@@ -261,16 +261,16 @@ module _ (texts : PlantTextsAreRead) (faults : FaultsAreFirst) (plant_not : Plan
   to_due : (c : Command) (input : List ℕ) (s : Status) → ComesTo c input s → IsDueTo c input s
   to_due (OfPlant c) input s h = of_outcome (IsPlantEnd (extent_of c) (plant_text c input)) plant_status (OfPlant c) input s (plant_due texts faults plant_not plant_wide_is c input) h
   to_due (OfFile c) input s h = file_to_due c input s h
-  to_due (OfStates Solve) input s h = of_outcome (IsSolveOutcome input) solve_status (OfStates Solve) input s (solve_due texts faults state_not state_wide tight input) h
-  to_due (OfStates Robust) input s h = of_outcome (IsRobustOutcome input) robust_status (OfStates Robust) input s (robust_due texts faults state_not state_wide tight input) h
+  to_due (OfStates Solve) input s h = of_outcome (IsSolveOutcome input) solve_status (OfStates Solve) input s (solve_due texts faults plant_not state_wide tight input) h
+  to_due (OfStates Robust) input s h = of_outcome (IsRobustOutcome input) robust_status (OfStates Robust) input s (robust_due texts faults plant_not state_wide tight input) h
   to_due (Drill number) input s h = of_outcome (IsDrillOutcome number) outcome_status (Drill number) input s (drill_due texts faults plant_not plant_wide_is number input) h
   to_due (Fleet workers) input s h = h
 
   of_due : (c : Command) (input : List ℕ) (s : Status) → IsDueTo c input s → ComesTo c input s
   of_due (OfPlant c) input s h = plant_comes texts faults plant_not plant_wide_is c input s h
   of_due (OfFile c) input s h = file_of_due c input s h
-  of_due (OfStates Solve) input s h = solve_comes texts faults state_not state_wide tight input s h
-  of_due (OfStates Robust) input s h = robust_comes texts faults state_not state_wide tight input s h
+  of_due (OfStates Solve) input s h = solve_comes texts faults plant_not state_wide tight input s h
+  of_due (OfStates Robust) input s h = robust_comes texts faults plant_not state_wide tight input s h
   of_due (Drill number) input s h = drill_comes texts faults plant_not plant_wide_is number input s h
   of_due (Fleet workers) input s h = h
 

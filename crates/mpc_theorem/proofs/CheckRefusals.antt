@@ -14,7 +14,7 @@ use Rattle.mpc_check.specs.LeafConditions.{LeafRowMet, LeafRowFinds, NodeFinds, 
 use Rattle.mpc_check.specs.Acceptance.{FindsBehind, IsFound}
 use Rattle.mpc_theorem.specs.Programs.{IsNotDefinite, IsWideProgram}
 use Rattle.mpc_theorem.specs.CheckTheorems.{FindsNotDefinite, FindsTooWide}
-use Rattle.mpc_theorem.proofs.StateRefusals.{solves_not_definite, solves_too_wide}
+use Rattle.mpc_theorem.proofs.StateRefusals.{plant_not_definite, solves_too_wide}
 
 -- ---- nothing behind the program finds a pivot
 first_of : (met : ℕ → Type 0) (finds : ℕ → Finding → Type 0) (count : ℕ) (finding : Finding) → ((k : ℕ) → finds k finding → ⊥) → IsFirstOf met finds count finding → ⊥
@@ -51,10 +51,10 @@ no_pivot_behind parts j h = by h.first
     by (inr k) = no_tree h.qp j parts.laws parts.tree k.1
 
 pub finds_not_definite : FindsNotDefinite
-finds_not_definite parts j = (to, λ h. inl ((solves_not_definite parts.plant j).1 h))
+finds_not_definite parts j = (to, λ h. inl ((plant_not_definite parts.plant j).1 h))
   where
     to : IsFound parts (found_not_definite j) → IsNotDefinite parts.plant j
-    to (inl h) = (solves_not_definite parts.plant j).0 h
+    to (inl h) = (plant_not_definite parts.plant j).0 h
     to (inr h) = absurd (no_pivot_behind parts j h)
 
 pub finds_too_wide : RowsWithin → FindsTooWide

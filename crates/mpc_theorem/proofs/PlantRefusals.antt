@@ -15,12 +15,9 @@ use Rattle.mpc_synthesis.specs.Controllers.{IsSealed}
 use Rattle.mpc_convex.specs.Refusals.{IsFirstWidePlace, wide_program as of_condensing, wide_pivot as of_pivot}
 use Rattle.mpc_synthesis.specs.Refusals.{Extent, verdicts, controller, FirstWide, wide_program, wide_set, wide_tree, wide_bound, wide_check}
 use Rattle.mpc_theorem.specs.Programs.{IsWideProgram}
-use Rattle.mpc_theorem.specs.Stages.{IsWideSet, IsWideStage, PlantNotDefinite, PlantTooWide}
+use Rattle.mpc_theorem.specs.Stages.{IsWideSet, IsWideStage, PlantTooWide}
 use Rattle.mpc_theorem.proofs.BoundPlaces.{to_first_broken, of_first_broken}
-use Rattle.mpc_theorem.proofs.StateRefusals.{solves_not_definite, solves_too_wide}
-
-pub plant_not_definite : PlantNotDefinite
-plant_not_definite = solves_not_definite
+use Rattle.mpc_theorem.proofs.StateRefusals.{solves_too_wide}
 
 -- ---- the checker finds nothing of a program with verdicts
 module _ (none : NoWidePlace) (one : OneProgram) where

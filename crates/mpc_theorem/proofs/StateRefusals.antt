@@ -13,14 +13,15 @@ use Rattle.mpc_tight.specs.Tightening.{RowFits, IsWideRow}
 use Rattle.mpc_convex.specs.Refusals.{IsNotDefiniteAt, IsFirstWidePlace, wide_program, wide_pivot as of_pivot}
 use Rattle.mpc_theorem.specs.Firsts.{IsFirstOf, numbered}
 use Rattle.mpc_theorem.specs.Programs.{IsNotDefinite, IsWideProgram}
-use Rattle.mpc_theorem.specs.StateTheorems.{TightRowFits, SolvesNotDefinite, SolvesTooWide, TightensWideRow}
+use Rattle.mpc_theorem.specs.Stages.{PlantNotDefinite}
+use Rattle.mpc_theorem.specs.StateTheorems.{TightRowFits, SolvesTooWide, TightensWideRow}
 use Rattle.mpc_theorem.proofs.FirstLemmas.{IsFirstNumber, to_number, of_number}
 use Rattle.mpc_theorem.proofs.ProgramPlaces.{to_wide_place}
 use Rattle.mpc_theorem.proofs.ProgramRefusals.{not_definite, first_not_positive, program_fits, wide_pivot, wide_place, first_wide}
 use Rattle.mpc_theorem.proofs.RowPlaces.{row_exists, one_row}
 
-pub solves_not_definite : SolvesNotDefinite
-solves_not_definite plant j = (λ h. not_definite plant h.qp j h.has_program.fits h.has_program.condensed h.first h.not_definite, of)
+pub plant_not_definite : PlantNotDefinite
+plant_not_definite plant j = (λ h. not_definite plant h.qp j h.has_program.fits h.has_program.condensed h.first h.not_definite, of)
   where
     of : IsNotDefinite plant j → IsNotDefiniteAt plant j
     of h = record {

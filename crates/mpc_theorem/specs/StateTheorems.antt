@@ -10,10 +10,10 @@ use Rattle.mpc_condense.specs.Stages.{IsRow}
 use Rattle.mpc_condense.specs.Causes.{row_count}
 use Rattle.mpc_tight.specs.Tightening.{RowFits, IsWideRow}
 use Rattle.mpc_convex.specs.Convex.{IsConvexProgram}
-use Rattle.mpc_convex.specs.Refusals.{IsNotDefiniteAt, IsFirstWidePlace}
+use Rattle.mpc_convex.specs.Refusals.{IsFirstWidePlace}
 use Rattle.mpc_states.specs.Outcomes.{WithProgram}
 use Rattle.mpc_theorem.specs.Firsts.{IsFirstOf, numbered}
-use Rattle.mpc_theorem.specs.Programs.{IsNotDefinite, IsWideProgram}
+use Rattle.mpc_theorem.specs.Programs.{IsWideProgram}
 
 -- no number on the way to this row of the program, from 1, is too wide as it is tightened
 abbrev pub TightRowFits : Plant → List ℚ → Qp → ℕ → Type 0
@@ -26,9 +26,6 @@ pub record IsWideTightRow (plant : Plant) (noise : List ℚ) (row : ℕ) : Type 
   pub first : IsFirstOf (TightRowFits plant noise qp) (numbered (λ i. i) 1 (row_count plant)) row
 
 -- ---- laws
-abbrev pub SolvesNotDefinite : Type 0
-SolvesNotDefinite = (plant : Plant) (j : ℕ) → IsNotDefiniteAt plant j ↔ IsNotDefinite plant j
-
 abbrev pub SolvesTooWide : Type 0
 SolvesTooWide = (plant : Plant) (place : Place) → IsFirstWidePlace plant place ↔ IsWideProgram plant place
 

@@ -2,12 +2,12 @@
 
 ghost use Rattle.mpc_theorem.specs.CheckTheorems.{FindsNotDefinite, FindsTooWide};
 ghost use Rattle.mpc_theorem.specs.Stages.{PlantNotDefinite, PlantTooWide};
-ghost use Rattle.mpc_theorem.specs.StateTheorems.{SolvesNotDefinite, SolvesTooWide, TightensWideRow};
+ghost use Rattle.mpc_theorem.specs.StateTheorems.{SolvesTooWide, TightensWideRow};
 
 use mpc_condense::{one_program, place_theorems};
 
 /// A plant on the way to its verdicts or its controller is refused for one of these causes: a pivot of its program, or a place that is too
-/// wide of its program or of a stage behind it. The call does nothing: its clauses are the law.
+/// wide of its program or of a stage behind it. The call does nothing: its clauses are the theorem.
 pub fn plant_refusals()
     ensures not_definite { PlantNotDefinite }
     ensures too_wide { PlantTooWide }
@@ -16,7 +16,7 @@ pub fn plant_refusals()
     place_theorems();
 }
 
-/// What the checker finds of a controller's plant is why its program is refused. The call does nothing: its clauses are the law.
+/// What the checker finds of a controller's plant is why its program is refused. The call does nothing: its clauses are the theorem.
 pub fn check_refusals()
     ensures not_definite { FindsNotDefinite }
     ensures too_wide { FindsTooWide }
@@ -25,9 +25,8 @@ pub fn check_refusals()
 }
 
 /// Where the program of recorded states is refused, or a row that is tightened, it is for one of these causes. The call does nothing: its
-/// clauses are the law.
+/// clauses are the theorem.
 pub fn state_refusals()
-    ensures not_definite { SolvesNotDefinite }
     ensures too_wide { SolvesTooWide }
     ensures row { TightensWideRow }
 {

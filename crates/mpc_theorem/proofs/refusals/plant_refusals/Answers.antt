@@ -1,4 +1,5 @@
-use Rattle.mpc_theorem.proofs.PlantRefusals.{plant_not_definite, plant_too_wide}
+use Rattle.mpc_theorem.proofs.PlantRefusals.{plant_too_wide}
+use Rattle.mpc_theorem.proofs.StateRefusals.{plant_not_definite}
 use Rattle.mpc_theorem.proofs.refusals.plant_refusals.Goals as goal
 
 pub returns-clause-not_definite : goal.returns-clause-not_definite

@@ -1,8 +1,5 @@
-use Rattle.mpc_theorem.proofs.StateRefusals.{solves_not_definite, solves_too_wide, tightens_wide_row}
+use Rattle.mpc_theorem.proofs.StateRefusals.{solves_too_wide, tightens_wide_row}
 use Rattle.mpc_theorem.proofs.refusals.state_refusals.Goals as goal
-
-pub returns-clause-not_definite : goal.returns-clause-not_definite
-returns-clause-not_definite c = solves_not_definite
 
 pub returns-clause-too_wide : goal.returns-clause-too_wide
 returns-clause-too_wide c = solves_too_wide c.place_theorems.ensures.rows
