@@ -5,7 +5,7 @@ use Rattle.std.proofs.lemmas.Bool.{cases_lt}
 use Rattle.mpc_words.specs.Words.{IsWithout, IsCutAt}
 use Rattle.mpc_file.specs.declared.errors.FileKind.{FileKind}
 use Rattle.mpc_file.specs.declared.errors.FileKind.TheVariants.{BadLine, Truncated, TailAfterEnd, BadNode, OverBound}
-use Rattle.mpc_file.specs.Reading.{Cursor, TakesLine, LineRule, IsGood, IsRefused, Grammar, ReadsLine, FailsLine, one_line, give, ◌>>=◌, that_which, ReadsItems, no_item, one_more, ReadsAll, FailsItem, many}
+use Rattle.mpc_file.specs.Reading.{Cursor, TakesLine, LineRule, IsGood, IsRefused, Grammar, FailsLine, one_line, give, ◌>>=◌, that_which, ReadsItems, no_item, one_more, FailsItem, many}
 
 pub record IsExactAt {X : Type 0} (g : Grammar X) (here : Cursor) : Type 0 where
   pub one_value : (x y : X) (behind other : Cursor) → g.Reads here x behind → g.Reads here y other → x ≡ y
@@ -64,15 +64,15 @@ module _ {X : Type 0} (rule : LineRule X) (exact : IsExactRule rule) where
   one_refusal line TailAfterEnd other h k = absurd h
 
 module _ (cuts : CutTheorems) {X : Type 0} (rule : LineRule X) (exact : IsExactRule rule) (here : Cursor) where
-  value_of_line : (x y : X) (behind other : Cursor) → ReadsLine rule here x behind → ReadsLine rule here y other → x ≡ y
+  value_of_line : (x y : X) (behind other : Cursor) → (one_line rule).Reads here x behind → (one_line rule).Reads here y other → x ≡ y
   value_of_line x y behind other (line, (taken, good)) (again, (taken_too, good_too)) =
       let e : line ≡ again = one_taken cuts here line again behind other taken taken_too in
       exact.one again x y (subst (λ l. rule.States l x) e good.0) good_too.0
 
-  place_of_line : (x y : X) (behind other : Cursor) → ReadsLine rule here x behind → ReadsLine rule here y other → behind ≡ other
+  place_of_line : (x y : X) (behind other : Cursor) → (one_line rule).Reads here x behind → (one_line rule).Reads here y other → behind ≡ other
   place_of_line x y behind other (line, (taken, good)) (again, (taken_too, good_too)) = one_behind_line cuts here line again behind other taken taken_too
 
-  line_fails_not : (x : X) (behind : Cursor) (kind : FileKind) (number : ℕ) → ReadsLine rule here x behind → ¬ FailsLine rule here kind number
+  line_fails_not : (x : X) (behind : Cursor) (kind : FileKind) (number : ℕ) → (one_line rule).Reads here x behind → ¬ FailsLine rule here kind number
   line_fails_not x behind kind number (line, (taken, good)) (e, inl (f, without)) = cuts.no_cut 10 here.rest line behind.rest without taken.cut
   line_fails_not x behind kind number (line, (taken, good)) (e, inr (again, (other, (taken_too, refused)))) =
       let f : again ≡ line = one_taken cuts here again line other behind taken_too taken in
@@ -192,7 +192,7 @@ module _ {X : Type 0} (item : List X → Grammar X) (asks_more : List X → Bool
       let value : x ≡ y = (each before between reads more).one_value x y behind beyond one too in
       ((λ i. same.0 i ++ value i ∷ []), (each before between reads more).one_place x y behind beyond one too)
 
-  not_longer : (items others : List X) (end stop : Cursor) → ReadsAll item asks_more here items end → ReadsItems X item asks_more here others stop → length others ≤ length items
+  not_longer : (items others : List X) (end stop : Cursor) → (many item asks_more).Reads here items end → ReadsItems X item asks_more here others stop → length others ≤ length items
   not_longer items others end stop (reads, none) takes = ⊎_elim
       (λ l. let s : IsStage item asks_more here (length items) = stage item asks_more here others stop takes (length items) l in
       let same : (s.front ≡ items) × (s.place ≡ end) = same_items s.front items s.place end s.reads reads s.size in
@@ -200,7 +200,7 @@ module _ {X : Type 0} (item : List X → Grammar X) (asks_more : List X → Bool
       (λ l. l)
       (cases_lt (length items) (length others))
 
-  same_all : (items others : List X) (end stop : Cursor) → ReadsAll item asks_more here items end → ReadsAll item asks_more here others stop → (items ≡ others) × (end ≡ stop)
+  same_all : (items others : List X) (end stop : Cursor) → (many item asks_more).Reads here items end → (many item asks_more).Reads here others stop → (items ≡ others) × (end ≡ stop)
   same_all items others end stop h k =
       let le : length others ≤ length items = not_longer items others end stop h k.0 in
       let ge : length items ≤ length others = not_longer others items stop end k h.0 in
@@ -214,7 +214,7 @@ module _ {X : Type 0} (item : List X → Grammar X) (asks_more : List X → Bool
       let too : (item s.front).Fails s.place kind number = subst (λ c. (item s.front).Fails c kind number) (sym same.1) (subst (λ xs. (item xs).Fails stop kind number) (sym same.0) fails) in
       (each s.front s.place s.reads s.more).no_failure s.x s.after kind number s.one too
 
-  all_fail_not : (items : List X) (end : Cursor) (kind : FileKind) (number : ℕ) → ReadsAll item asks_more here items end → ¬ FailsItem item asks_more here kind number
+  all_fail_not : (items : List X) (end : Cursor) (kind : FileKind) (number : ℕ) → (many item asks_more).Reads here items end → ¬ FailsItem item asks_more here kind number
   all_fail_not items end kind number h (others, (stop, (takes, asks, fails))) = ⊎_elim
       (λ l. no_shorter items others end stop kind number h.0 takes fails l)
       (λ l. let le : length others ≤ length items = not_longer items others end stop h takes in

@@ -5,11 +5,11 @@ use Rattle.mpc_controller.specs.Parts.{Parts}
 use Rattle.mpc_file.specs.declared.versions.Version.{Version}
 use Rattle.mpc_file.specs.declared.versions.Version.TheVariants.{One, Two, Three}
 use Rattle.mpc_file.specs.Versions.{number_of}
-use Rattle.mpc_file.specs.Reading.{Cursor, one_line}
-use Rattle.mpc_file.specs.PlantGrammar.{plain_rule, plant}
+use Rattle.mpc_file.specs.Reading.{Cursor, one_line, ◌>>=◌}
+use Rattle.mpc_file.specs.PlantGrammar.{plain_rule, plant, UsesAll}
 use Rattle.mpc_file.specs.LawGrammar.{used_by}
-use Rattle.mpc_file.specs.TreeGrammar.{planes_used}
-use Rattle.mpc_file.specs.FileGrammar.{IsVersion, parts_with, written, IsEnd, parts_named, named, behind_plant, in_version, start, Spells, whole_file}
+use Rattle.mpc_file.specs.TreeGrammar.{planes_used, IsWord}
+use Rattle.mpc_file.specs.FileGrammar.{IsVersion, parts_with, written, parts_named, named, behind_plant, start, Spells, whole_file}
 use Rattle.mpc_file.specs.TextTheorems.{OneVersion, OneController, SpelledNeverFails, OneLine, OneReason, NoPrefix}
 use Rattle.mpc_file.proofs.Exactness.{IsExactAt, CutTheorems, exact_give, exact_both}
 use Rattle.mpc_file.specs.LineTheorems.{WordTheorems}
@@ -59,7 +59,7 @@ module _ (cuts : CutTheorems) (laws : WordTheorems) where
       exact_both _ _ behind_planes
       (exact_named_tree cuts laws plant (length ls) (named_laws_few plant fs behind_forms behind_laws ls k) ps (planes_few plant (length fs) (used_by ls) behind_laws behind_planes ps l) behind_planes (omega arith))
       (λ ns behind_tree m.
-      exact_both _ _ behind_tree (exact_plain cuts laws (IsEnd (length ps) (planes_used ns)) (λ text x y p q. refl) behind_tree)
+      exact_both _ _ behind_tree (exact_plain cuts laws (UsesAll (length ps) (planes_used ns) (IsWord (codes "end"))) (λ text x y p q. refl) behind_tree)
       (λ u end q. exact_give (parts_named plant fs ls ps ns) end)))))
 
   exact_behind_plant : (version : Version) (plant : Plant) (here : Cursor) → reach here ≤ 2 ^ 65 → IsExactAt (behind_plant version plant) here
@@ -67,7 +67,7 @@ module _ (cuts : CutTheorems) (laws : WordTheorems) where
   exact_behind_plant Two plant here near = exact_written plant here near
   exact_behind_plant Three plant here near = exact_named plant here near
 
-  exact_in_version : (version : Version) (here : Cursor) → reach here ≤ 2 ^ 65 → IsExactAt (in_version version) here
+  exact_in_version : (version : Version) (here : Cursor) → reach here ≤ 2 ^ 65 → IsExactAt (plant version >>= behind_plant version) here
   exact_in_version version here near =
       exact_both _ _ here (exact_plant cuts laws version here)
       (λ p at h. let short : reach at ≤ reach here = (run_plant version).shorter here p at h in exact_behind_plant version p at (omega arith))

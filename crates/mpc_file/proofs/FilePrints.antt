@@ -10,10 +10,10 @@ use Rattle.mpc_controller.specs.Parts.{Parts, limits_of, row_count, IsLawFor, Is
 use Rattle.mpc_controller.specs.Bounds.{NodeFits, IsController}
 use Rattle.mpc_file.specs.Reading.{one_line, give, ◌>>=◌}
 use Rattle.mpc_file.specs.Lines.{count_line}
-use Rattle.mpc_file.specs.PlantGrammar.{plain_rule, plant}
+use Rattle.mpc_file.specs.PlantGrammar.{plain_rule, plant, UsesAll}
 use Rattle.mpc_file.specs.LawGrammar.{forms, used_by, named_laws, law_named}
-use Rattle.mpc_file.specs.TreeGrammar.{planes, planes_used, named_tree}
-use Rattle.mpc_file.specs.FileGrammar.{IsVersion, IsEnd, parts_with, parts_named, named, behind_plant, in_version, Spells}
+use Rattle.mpc_file.specs.TreeGrammar.{planes, planes_used, named_tree, IsWord}
+use Rattle.mpc_file.specs.FileGrammar.{IsVersion, parts_with, parts_named, named, behind_plant, Spells}
 use Rattle.mpc_file.specs.LineTheorems.{WordTheorems}
 use Rattle.mpc_file.specs.Writing.{Prints, ended, text_of_lines, plant_lines}
 use Rattle.mpc_file.specs.FormNames.{IsLawNamed, rows_in, forms_text, laws_text, IsTableWritten}
@@ -60,21 +60,21 @@ module _ (words : WordTheorems) where
       let few : length w.forms < 10 ^ 18 = omega arith in
       let planes_are_few : length t.planes < 10 ^ 18 = t.few in
       let result = parts_named v w.forms w.named t.planes t.named in
-      prints_both (forms v) (λ fs. named_laws v fs >>= λ ls. planes v (length fs) (used_by ls) >>= λ ps. named_tree v (length ls) ps >>= λ ns. one_line (plain_rule (IsEnd (length ps) (planes_used ns))) >>= λ u. give (parts_named v fs ls ps ns)) w.forms result
+      prints_both (forms v) (λ fs. named_laws v fs >>= λ ls. planes v (length fs) (used_by ls) >>= λ ps. named_tree v (length ls) ps >>= λ ns. one_line (plain_rule (UsesAll (length ps) (planes_used ns) (IsWord (codes "end")))) >>= λ u. give (parts_named v fs ls ps ns)) w.forms result
       (forms_text w.forms) _ (forms_print words v w.forms w.different w.fit (w.widths (v.n + 1) (law_widths v laws for)) few)
-      (prints_both (named_laws v w.forms) (λ ls. planes v (length w.forms) (used_by ls) >>= λ ps. named_tree v (length ls) ps >>= λ ns. one_line (plain_rule (IsEnd (length ps) (planes_used ns))) >>= λ u. give (parts_named v w.forms ls ps ns)) w.named result
+      (prints_both (named_laws v w.forms) (λ ls. planes v (length w.forms) (used_by ls) >>= λ ps. named_tree v (length ls) ps >>= λ ns. one_line (plain_rule (UsesAll (length ps) (planes_used ns) (IsWord (codes "end")))) >>= λ u. give (parts_named v w.forms ls ps ns)) w.named result
       (laws_text w.named) _ (laws_print words v w.forms w.named (rows_small v) few (omega arith) (all_good v w.forms w.named laws w.laws_are for is.bounds.laws_fit) w.in_order)
-      (prints_both (planes v (length w.forms) (used_by w.named)) (λ ps. named_tree v (length w.named) ps >>= λ ns. one_line (plain_rule (IsEnd (length ps) (planes_used ns))) >>= λ u. give (parts_named v w.forms w.named ps ns)) t.planes result
+      (prints_both (planes v (length w.forms) (used_by w.named)) (λ ps. named_tree v (length w.named) ps >>= λ ns. one_line (plain_rule (UsesAll (length ps) (planes_used ns) (IsWord (codes "end")))) >>= λ u. give (parts_named v w.forms w.named ps ns)) t.planes result
       (planes_text t.planes) _ (planes_print words v (length w.forms) (used_by w.named) t.planes w.used t.different t.good planes_are_few)
-      (prints_both (named_tree v (length w.named) t.planes) (λ ns. one_line (plain_rule (IsEnd (length t.planes) (planes_used ns))) >>= λ u. give (parts_named v w.forms w.named t.planes ns)) t.named result
+      (prints_both (named_tree v (length w.named) t.planes) (λ ns. one_line (plain_rule (UsesAll (length t.planes) (planes_used ns) (IsWord (codes "end")))) >>= λ u. give (parts_named v w.forms w.named t.planes ns)) t.named result
       (tree_text t.named) (ended (codes "end"))
       (tree_prints words v (length w.named) t.planes t.named tree t.nodes_are (omega arith) (omega arith) t.in_order t.certs (subst (λ n. All (IsNodeFor v.n n) tree) (sym count) is.shapes.nodes_fit) is.shapes.complete is.shapes.certs_fit)
-      (prints_end (one_line (plain_rule (IsEnd (length t.planes) (planes_used t.named)))) (λ u. give result) tt result (ended (codes "end"))
-      (prints_plain (IsEnd (length t.planes) (planes_used t.named)) tt (codes "end") (plain_without (codes "end") refl) (record { spelled = refl; all_used = t.used }))
+      (prints_end (one_line (plain_rule (UsesAll (length t.planes) (planes_used t.named) (IsWord (codes "end"))))) (λ u. give result) tt result (ended (codes "end"))
+      (prints_plain (UsesAll (length t.planes) (planes_used t.named) (IsWord (codes "end"))) tt (codes "end") (plain_without (codes "end") refl) (record { stated = refl; all_used = t.used }))
       (prints_give result)))))
 
   -- a line of the version, and the lines of the parts behind it
-  pub spells : (version : Version) (parts : Parts) (bytes rest : List ℕ) → bytes ≡ ended (count_line (codes "mpc") (number_of version)) ++ (rest ++ []) → Prints (in_version version) parts rest → Spells bytes version parts
+  pub spells : (version : Version) (parts : Parts) (bytes rest : List ℕ) → bytes ≡ ended (count_line (codes "mpc") (number_of version)) ++ (rest ++ []) → Prints (plant version >>= behind_plant version) parts rest → Spells bytes version parts
   spells version parts bytes rest whole prints =
       let first : Prints (one_line (plain_rule IsVersion)) version (ended (count_line (codes "mpc") (number_of version))) =
       prints_plain IsVersion version (count_line (codes "mpc") (number_of version)) (count_line_without words (codes "mpc") (number_of version) refl (short_number version)) refl in

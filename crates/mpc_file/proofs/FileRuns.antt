@@ -1,5 +1,6 @@
 -- What is read of a controller's file goes on, and is read the same where more bytes stand behind it.
-use Rattle.std.proofs.Common.{ℕ, ◌*◌, List, [], ◌∷◌, length, codes}
+use Rattle.std.proofs.Common.{◌+◌, ◌<◌, ◌^◌, ◌≤◌, ℕ, ◌*◌, List, [], ◌∷◌, length, codes}
+use Rattle.mpc_space.specs.Vector.{zeros}
 use Rattle.mpc_exact.specs.Rational.{ℚ}
 use Rattle.mpc_linear.specs.declared.integers.RowInt.{RowInt}
 use Rattle.mpc_plant.specs.declared.plants.Plant.{Plant}
@@ -9,10 +10,10 @@ use Rattle.mpc_file.specs.declared.versions.Version.{Version}
 use Rattle.mpc_file.specs.declared.versions.Version.TheVariants.{One, Two, Three}
 use Rattle.mpc_file.specs.declared.plant_parts.Sizes.{Sizes}
 use Rattle.mpc_file.specs.Reading.{LineRule}
-use Rattle.mpc_file.specs.PlantGrammar.{AreSizes, plain_rule, IsMatrix, IsWeightLine, dynamics, weights, IsDrift, AreTargetsOf, no_offsets, offsets_with, offset_lines, offsets, IsRowCount, IsRow, IsLast, so_many, row_list, last_list, IsAxis, limits, IsPlantWith, plant}
-use Rattle.mpc_file.specs.LawGrammar.{IsLawLine, IsForm, move_rule, moves, law_with, written_law, IsLawCount, written_laws, IsShortCount, IsNewForm, forms, used_behind, AreFormNumbers, named_moves_rule, named_mults, used_by, named_law, named_laws}
-use Rattle.mpc_file.specs.TreeGrammar.{written_split, IsWord, written_tree, IsPlaneCount, plane_rule, planes, planes_used, named_split, named_tree}
-use Rattle.mpc_file.specs.FileGrammar.{IsVersion, parts_with, written, IsEnd, parts_named, named, behind_plant, whole_file}
+use Rattle.mpc_file.specs.PlantGrammar.{AreSizes, plain_rule, IsMatrix, IsWeightLine, dynamics, weights, IsGoal, offsets_with, offset_lines, offsets, IsRow, so_many, row_list, last_list, IsAxis, limits, IsPlantWith, plant, AreNumbers, IsNumber, UsesAll, StatesNew}
+use Rattle.mpc_file.specs.LawGrammar.{IsLawLine, move_rule, moves, law_with, written_law, written_laws, forms, used_behind, AreFormNumbers, named_moves_rule, named_mults, used_by, named_law, named_laws}
+use Rattle.mpc_file.specs.TreeGrammar.{written_split, IsWord, written_tree, plane_rule, planes, planes_used, named_split, named_tree}
+use Rattle.mpc_file.specs.FileGrammar.{IsVersion, parts_with, written, parts_named, named, behind_plant, whole_file}
 use Rattle.mpc_file.proofs.Runs.{IsRun, run_line, run_give, run_that, run_both, run_many}
 use Rattle.mpc_file.proofs.TreeExact.{run_nodes}
 
@@ -33,21 +34,21 @@ run_weights s =
 
 run_offset_lines : (version : Version) (s : Sizes) → IsRun (offset_lines version s)
 run_offset_lines version s =
-    run_both _ _ (run_line (plain_rule (IsDrift s.states)))
-    (λ drift. run_both _ _ (run_line (plain_rule (AreTargetsOf version s drift))) (λ targets. run_give (offsets_with drift targets)))
+    run_both _ _ (run_line (plain_rule (AreNumbers (codes "drift") s.states)))
+    (λ drift. run_both _ _ (run_line (plain_rule (IsGoal version s drift))) (λ goal. run_give (offsets_with s drift goal)))
 
 run_offsets : (version : Version) (s : Sizes) → IsRun (offsets version s)
-run_offsets One s = run_give (no_offsets s)
+run_offsets One s = run_give (record { drift = zeros s.states; xgoal = zeros s.states; ugoal = zeros s.inputs })
 run_offsets Two s = run_offset_lines Two s
 run_offsets Three s = run_offset_lines Three s
 
 run_row_list : (version : Version) (s : Sizes) → IsRun (row_list version s)
 run_row_list version s =
-    run_both _ _ (run_line (plain_rule (IsRowCount (codes "rows") s.steps 0 (greatest_rows version (s.inputs * s.steps))))) (λ count. run_so_many count (plain_rule (IsRow s)))
+    run_both _ _ (run_line (plain_rule (IsNumber (codes "rows") (λ number. s.steps * number + 0 ≤ (greatest_rows version (s.inputs * s.steps)))))) (λ count. run_so_many count (plain_rule (IsRow (codes "row") s.states s.inputs)))
 
 run_last_list : (version : Version) (s : Sizes) (rows : List PlantRow) → IsRun (last_list version s rows)
 run_last_list version s rows =
-    run_both _ _ (run_line (plain_rule (IsRowCount (codes "terminal") 1 (s.steps * length rows) (greatest_rows version (s.inputs * s.steps))))) (λ count. run_so_many count (plain_rule (IsLast s)))
+    run_both _ _ (run_line (plain_rule (IsNumber (codes "terminal") (λ number. 1 * number + (s.steps * length rows) ≤ (greatest_rows version (s.inputs * s.steps)))))) (λ count. run_so_many count (plain_rule (IsRow (codes "last") s.states 0)))
 
 run_limits : (version : Version) (s : Sizes) → IsRun (limits version s)
 run_limits version s =
@@ -70,13 +71,13 @@ run_moves plant = run_many _ _ (λ before. run_line (move_rule plant (length bef
 run_written_law : (plant : Plant) → IsRun (written_law plant)
 run_written_law plant =
     run_both _ _ (run_line (plain_rule (IsLawLine plant)))
-    (λ set. run_both _ _ (run_moves plant) (λ zs. run_both _ _ (run_so_many (length set) (plain_rule (IsForm (codes "mult") plant.n))) (λ ls. run_give (law_with plant set zs ls))))
+    (λ set. run_both _ _ (run_moves plant) (λ zs. run_both _ _ (run_so_many (length set) (plain_rule (AreNumbers (codes "mult") (plant.n + 1)))) (λ ls. run_give (law_with plant set zs ls))))
 
 pub run_written_laws : (plant : Plant) → IsRun (written_laws plant)
-run_written_laws plant = run_both _ _ (run_line (plain_rule IsLawCount)) (λ count. run_many _ _ (λ before. run_written_law plant))
+run_written_laws plant = run_both _ _ (run_line (plain_rule (IsNumber (codes "laws") (λ number. number ≤ 4598479)))) (λ count. run_many _ _ (λ before. run_written_law plant))
 
 pub run_forms : (plant : Plant) → IsRun (forms plant)
-run_forms plant = run_both _ _ (run_line (plain_rule (IsShortCount (codes "forms")))) (λ count. run_many _ _ (λ before. run_line (plain_rule (IsNewForm plant.n before))))
+run_forms plant = run_both _ _ (run_line (plain_rule (IsNumber (codes "forms") (λ number. number < 10 ^ 18)))) (λ count. run_many _ _ (λ before. run_line (plain_rule (StatesNew before (AreNumbers (codes "form") (plant.n + 1))))))
 
 run_named_mults : (fs : List (List ℚ)) (used : ℕ) (set : List ℕ) → IsRun (named_mults fs used set)
 run_named_mults fs used [] = run_give []
@@ -89,7 +90,7 @@ run_named_law plant fs used =
     (λ zs. run_both _ _ (run_named_mults fs (used_behind used zs) set) (λ ls. run_give (record { set = set; moves = zs; mults = ls }))))
 
 pub run_named_laws : (plant : Plant) (fs : List (List ℚ)) → IsRun (named_laws plant fs)
-run_named_laws plant fs = run_both _ _ (run_line (plain_rule IsLawCount)) (λ count. run_many _ _ (λ before. run_named_law plant fs (used_by before)))
+run_named_laws plant fs = run_both _ _ (run_line (plain_rule (IsNumber (codes "laws") (λ number. number ≤ 4598479)))) (λ count. run_many _ _ (λ before. run_named_law plant fs (used_by before)))
 
 -- ---- the tree
 pub run_written_tree : (plant : Plant) (laws : ℕ) → IsRun (written_tree plant laws)
@@ -97,7 +98,7 @@ run_written_tree plant laws =
     run_both _ _ (run_line (plain_rule (IsWord (codes "tree")))) (λ u. run_both _ _ (run_nodes plant laws (λ before. written_split plant)) (λ ns. run_give _))
 
 pub run_planes : (plant : Plant) (all used : ℕ) → IsRun (planes plant all used)
-run_planes plant all used = run_both _ _ (run_line (plain_rule (IsPlaneCount all used))) (λ count. run_many _ _ (λ before. run_line (plane_rule plant before)))
+run_planes plant all used = run_both _ _ (run_line (plain_rule (UsesAll all used (IsNumber (codes "planes") (λ number. number < 10 ^ 18))))) (λ count. run_many _ _ (λ before. run_line (plane_rule plant before)))
 
 pub run_named_tree : (plant : Plant) (laws : ℕ) (ps : List RowInt) → IsRun (named_tree plant laws ps)
 run_named_tree plant laws ps =
@@ -115,7 +116,7 @@ run_named plant =
     (λ fs. run_both _ _ (run_named_laws plant fs)
     (λ laws. run_both _ _ (run_planes plant (length fs) (used_by laws))
     (λ ps. run_both _ _ (run_named_tree plant (length laws) ps)
-    (λ ns. run_both _ _ (run_line (plain_rule (IsEnd (length ps) (planes_used ns)))) (λ u. run_give (parts_named plant fs laws ps ns))))))
+    (λ ns. run_both _ _ (run_line (plain_rule (UsesAll (length ps) (planes_used ns) (IsWord (codes "end"))))) (λ u. run_give (parts_named plant fs laws ps ns))))))
 
 run_behind_plant : (version : Version) (plant : Plant) → IsRun (behind_plant version plant)
 run_behind_plant One plant = run_written plant

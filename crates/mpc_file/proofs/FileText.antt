@@ -4,9 +4,9 @@ use Rattle.mpc_plant.specs.declared.plants.Plant.{Plant}
 use Rattle.mpc_controller.specs.Parts.{Parts}
 use Rattle.mpc_file.specs.declared.versions.Version.{Version}
 use Rattle.mpc_file.specs.declared.versions.Version.TheVariants.{One, Two, Three}
-use Rattle.mpc_file.specs.Reading.{Cursor}
+use Rattle.mpc_file.specs.Reading.{Cursor, ◌>>=◌}
 use Rattle.mpc_file.specs.PlantGrammar.{plant}
-use Rattle.mpc_file.specs.FileGrammar.{IsVersion, parts_with, written, behind_plant, in_version, start}
+use Rattle.mpc_file.specs.FileGrammar.{IsVersion, parts_with, written, behind_plant, start}
 use Rattle.mpc_file.specs.TextTheorems.{OneText}
 use Rattle.mpc_file.proofs.OneText.{HasOneText, text_plain, text_give, text_with}
 use Rattle.mpc_file.proofs.PartText.{text_plant, text_written_laws, text_written_tree, text_word}
@@ -30,7 +30,7 @@ its_plant One here plant y behind h = ap (λ (p : Parts). p.plant) h.1.1.1.1.1.1
 its_plant Two here plant y behind h = ap (λ (p : Parts). p.plant) h.1.1.1.1.1.1.1.1.1.0
 its_plant Three here plant y behind h = ap (λ (p : Parts). p.plant) h.1.1.1.1.1.1.1.1.1.1.1.1.1.1.1.0
 
-text_in_version : (version : Version) → HasOneText (in_version version)
+text_in_version : (version : Version) → HasOneText (plant version >>= behind_plant version)
 text_in_version version =
     text_with (plant version) (behind_plant version) (λ (y : Parts). y.plant) (text_plant version) (λ p. text_behind_plant version p) (λ here p y behind h. its_plant version here p y behind h)
 

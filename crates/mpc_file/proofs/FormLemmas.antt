@@ -23,10 +23,10 @@ use Rattle.mpc_file.specs.Reading.{Cursor, Grammar, one_line, ReadsItems, many, 
 use Rattle.mpc_file.proofs.ManyLemmas.{just_so_many}
 use Rattle.mpc_file.proofs.OutcomeLemmas.{none_read, more_read, asks_for_more, item_error}
 use Rattle.mpc_file.specs.Lines.{integers_line}
-use Rattle.mpc_file.specs.PlantGrammar.{plain_rule}
+use Rattle.mpc_file.specs.PlantGrammar.{plain_rule, AreNumbers}
 use Rattle.mpc_file.specs.Spelling.{AreFractions, AreIntegers}
 use Rattle.mpc_file.specs.LineTheorems.{OneFractions, OneIntegers}
-use Rattle.mpc_file.specs.LawGrammar.{unknowns, IsLawLine, IsForm, move_rule, moves, mults, written_law, NameForms, used_behind, AreFormNumbers}
+use Rattle.mpc_file.specs.LawGrammar.{unknowns, IsLawLine, move_rule, moves, mults, written_law, NameForms, used_behind, AreFormNumbers}
 use Rattle.mpc_file.specs.FormLists.{matrix_with, with_filled_row, NamesAll}
 
 -- ---- entries and rows written one after another
@@ -216,7 +216,7 @@ none_named all used integers count numbers last before inside none others name o
 
 -- ---- lines of numbers
 -- the fractions of a line have another number
-pub no_form : OneFractions → (name text : List ℕ) (n : ℕ) (xs : List ℚ) → AreFractions name text xs → length xs ≢ n + 1 → (form : List ℚ) → ¬ IsForm name n text form
+pub no_form : OneFractions → (name text : List ℕ) (n : ℕ) (xs : List ℚ) → AreFractions name text xs → length xs ≢ n + 1 → (form : List ℚ) → ¬ AreNumbers name (n + 1) text form
 no_form one name text n xs are size form is = size (ap length (one name xs form are.fits is.fits (sym are.spelled ∙ is.spelled)) ∙ is.size)
 
 printed_numbers : (numbers : List ℕ) → map decimal numbers ≡ map signed_decimal (map pos numbers)
@@ -348,7 +348,7 @@ module _ (plant : Plant) where
 
   pub mults_few : (members : ℕ) (here behind : Cursor) (ls : List (List ℚ)) → members ≤ 60 → (mults plant members).Reads here ls behind → length ls < 2 ^ 32
   mults_few members here behind ls few h =
-      let e : length ls ≡ members = just_so_many (List ℚ) (λ before. one_line (plain_rule (IsForm (codes "mult") plant.n))) members here ls behind h in
+      let e : length ls ≡ members = just_so_many (List ℚ) (λ before. one_line (plain_rule (AreNumbers (codes "mult") (plant.n + 1)))) members here ls behind h in
       omega (arith, e, few)
 
   pub mults_error : (here between beyond behind end : Cursor) (members : List ℕ) (zs : List (List ℚ)) (error : FileError) → (one_line (plain_rule (IsLawLine plant))).Reads here members between → (moves plant).Reads between zs beyond → Outcome (mults plant (length members)) beyond behind (Err error)

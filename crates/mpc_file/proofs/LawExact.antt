@@ -1,5 +1,5 @@
 -- The lines of laws are read in one way.
-use Rattle.std.proofs.Common.{◌≡◌, ℕ, ◌*◌, ◌^◌, ◌<◌, ◌≤◌, nat_lt, cond, List, [], ◌∷◌, length, codes, refl, sym, ◌∙◌, arith, All, length-append, ltb-true}
+use Rattle.std.proofs.Common.{◌+◌, ◌≡◌, ℕ, ◌*◌, ◌^◌, ◌<◌, ◌≤◌, nat_lt, cond, List, [], ◌∷◌, length, codes, refl, sym, ◌∙◌, arith, All, length-append, ltb-true}
 use Rattle.std.proofs.lemmas.List.Elements.{All-nil, All-cons}
 use Rattle.mpc_exact.specs.Rational.{ℚ}
 use Rattle.mpc_sets.specs.RowSet.{RisesWithin}
@@ -9,8 +9,8 @@ use Rattle.mpc_controller.specs.Parts.{row_count}
 use Rattle.mpc_words.specs.Words.{IsWithout}
 use Rattle.mpc_file.specs.declared.versions.Version.TheVariants.{Three}
 use Rattle.mpc_file.specs.Reading.{Cursor, Grammar, one_line, ReadsItems, no_item, one_more}
-use Rattle.mpc_file.specs.PlantGrammar.{plain_rule}
-use Rattle.mpc_file.specs.LawGrammar.{unknowns, IsLawLine, IsForm, move_rule, moves, mults, law_with, written_law, IsLawCount, law_count, written_laws, IsShortCount, IsNewForm, forms, NameForms, used_behind, AreFormNumbers, named_moves_rule, named_mults, NamedLaw, used_by, named_law, named_laws}
+use Rattle.mpc_file.specs.PlantGrammar.{plain_rule, AreNumbers, IsNumber, StatesNew}
+use Rattle.mpc_file.specs.LawGrammar.{unknowns, IsLawLine, move_rule, moves, mults, law_with, written_law, law_count, written_laws, forms, NameForms, used_behind, AreFormNumbers, named_moves_rule, named_mults, NamedLaw, used_by, named_law, named_laws}
 use Rattle.mpc_file.proofs.Exactness.{IsExactAt, CutTheorems, exact_line, exact_give, exact_both, exact_many}
 use Rattle.mpc_file.specs.LineTheorems.{WordTheorems}
 use Rattle.mpc_file.proofs.LineNumbers.{IsShortNumber, without, one_naturals, one_count, one_fractions}
@@ -45,7 +45,7 @@ module _ (cuts : CutTheorems) (laws : WordTheorems) where
       one_naturals laws (codes "law") x y (without 32 (codes "law") refl) (rises_short 0 (row_count plant) x (row_count_few plant) h.set_of_rows.rises)
       (rises_short 0 (row_count plant) y (row_count_few plant) k.set_of_rows.rises) (sym h.spelled ∙ k.spelled)
 
-  one_form : (name : List ℕ) → IsWithout 32 name → (n : ℕ) (line : List ℕ) (x y : List ℚ) → IsForm name n line x → IsForm name n line y → x ≡ y
+  one_form : (name : List ℕ) → IsWithout 32 name → (n : ℕ) (line : List ℕ) (x y : List ℚ) → AreNumbers name (n + 1) line x → AreNumbers name (n + 1) line y → x ≡ y
   one_form name plain n line x y h k = one_fractions laws name x y plain h.fits k.fits (sym h.spelled ∙ k.spelled)
 
   exact_moves : (plant : Plant) (here : Cursor) → IsExactAt (moves plant) here
@@ -55,7 +55,7 @@ module _ (cuts : CutTheorems) (laws : WordTheorems) where
 
   exact_mults : (plant : Plant) (members : ℕ) (here : Cursor) → IsExactAt (mults plant members) here
   exact_mults plant members here =
-      exact_so_many cuts laws members (plain_rule (IsForm (codes "mult") plant.n)) (record { one = one_form (codes "mult") (without 32 (codes "mult") refl) plant.n; no_bad_node = λ line x h k. k }) here
+      exact_so_many cuts laws members (plain_rule (AreNumbers (codes "mult") (plant.n + 1))) (record { one = one_form (codes "mult") (without 32 (codes "mult") refl) plant.n; no_bad_node = λ line x h k. k }) here
 
   exact_set : (plant : Plant) (here : Cursor) → IsExactAt (one_line (plain_rule (IsLawLine plant))) here
   exact_set plant here = exact_plain cuts laws (IsLawLine plant) (one_set plant) here
@@ -67,14 +67,14 @@ module _ (cuts : CutTheorems) (laws : WordTheorems) where
       (λ zs to k. exact_both _ _ to (exact_mults plant (length set) to)
       (λ ls end l. exact_give (law_with plant set zs ls) end)))
 
-  one_law_count : (line : List ℕ) (m n : ℕ) → IsLawCount line m → IsLawCount line n → m ≡ n
+  one_law_count : (line : List ℕ) (m n : ℕ) → IsNumber (codes "laws") (λ number. number ≤ 4598479) line m → IsNumber (codes "laws") (λ number. number ≤ 4598479) line n → m ≡ n
   one_law_count line m n h k =
-      let low : m ≤ 4598479 = h.few in
-      let high : n ≤ 4598479 = k.few in
+      let low : m ≤ 4598479 = h.allowed in
+      let high : n ≤ 4598479 = k.allowed in
       one_count laws (codes "laws") m n (without 32 (codes "laws") refl) (omega arith) (omega arith) (sym h.spelled ∙ k.spelled)
 
   exact_law_count : (here : Cursor) → IsExactAt law_count here
-  exact_law_count here = exact_plain cuts laws IsLawCount one_law_count here
+  exact_law_count here = exact_plain cuts laws (IsNumber (codes "laws") (λ number. number ≤ 4598479)) one_law_count here
 
   pub exact_written_laws : (plant : Plant) (here : Cursor) → IsExactAt (written_laws plant) here
   exact_written_laws plant here =
@@ -82,17 +82,17 @@ module _ (cuts : CutTheorems) (laws : WordTheorems) where
       (λ count at h. exact_many (λ before. written_law plant) (λ (before : List Law). nat_lt (length before) count) at (λ before to reads more. exact_written_law plant to))
 
   -- ---- named laws
-  pub one_short_count : (name : List ℕ) → IsWithout 32 name → (line : List ℕ) (m n : ℕ) → IsShortCount name line m → IsShortCount name line n → m ≡ n
+  pub one_short_count : (name : List ℕ) → IsWithout 32 name → (line : List ℕ) (m n : ℕ) → IsNumber name (λ number. number < 10 ^ 18) line m → IsNumber name (λ number. number < 10 ^ 18) line n → m ≡ n
   one_short_count name plain line m n h k =
-      let low : m < 10 ^ 18 = h.short in
-      let high : n < 10 ^ 18 = k.short in
+      let low : m < 10 ^ 18 = h.allowed in
+      let high : n < 10 ^ 18 = k.allowed in
       one_count laws name m n plain (omega arith) (omega arith) (sym h.spelled ∙ k.spelled)
 
   pub exact_forms : (plant : Plant) (here : Cursor) → IsExactAt (forms plant) here
   exact_forms plant here =
-      exact_both _ _ here (exact_plain cuts laws (IsShortCount (codes "forms")) (one_short_count (codes "forms") (without 32 (codes "forms") refl)) here)
-      (λ count at h. exact_many (λ before. one_line (plain_rule (IsNewForm plant.n before))) (λ (before : List (List ℚ)). nat_lt (length before) count) at
-      (λ before to reads more. exact_plain cuts laws (IsNewForm plant.n before) (λ line x y k l. one_form (codes "form") (without 32 (codes "form") refl) plant.n line x y k.form_is l.form_is) to))
+      exact_both _ _ here (exact_plain cuts laws (IsNumber (codes "forms") (λ number. number < 10 ^ 18)) (one_short_count (codes "forms") (without 32 (codes "forms") refl)) here)
+      (λ count at h. exact_many (λ before. one_line (plain_rule (StatesNew before (AreNumbers (codes "form") (plant.n + 1))))) (λ (before : List (List ℚ)). nat_lt (length before) count) at
+      (λ before to reads more. exact_plain cuts laws (StatesNew before (AreNumbers (codes "form") (plant.n + 1))) (λ line x y k l. one_form (codes "form") (without 32 (codes "form") refl) plant.n line x y k.stated l.stated) to))
 
   one_list_of_numbers : (name : List ℕ) → IsWithout 32 name → (all used count : ℕ) → all < 10 ^ 18 → (line : List ℕ) (x y : List ℕ) → AreFormNumbers name all used count line x → AreFormNumbers name all used count line y → x ≡ y
   one_list_of_numbers name plain all used count few line x y h k =
@@ -125,12 +125,12 @@ module _ (cuts : CutTheorems) (laws : WordTheorems) where
 -- ---- how many are read
 pub written_laws_few : (plant : Plant) (here behind : Cursor) (ls : List Law) → (written_laws plant).Reads here ls behind → length ls ≤ 4598479
 written_laws_few plant here behind ls (count, (between, ((line, (taken, (states, over))), (reads, none)))) =
-    omega (arith, so_few (λ before. written_law plant) count between ls behind reads, states.few)
+    omega (arith, so_few (λ before. written_law plant) count between ls behind reads, states.allowed)
 
 pub named_laws_few : (plant : Plant) (fs : List (List ℚ)) (here behind : Cursor) (ls : List NamedLaw) → (named_laws plant fs).Reads here ls behind → length ls ≤ 4598479
 named_laws_few plant fs here behind ls (count, (between, ((line, (taken, (states, over))), (reads, none)))) =
-    omega (arith, so_few (λ (before : List NamedLaw). named_law plant fs (used_by before)) count between ls behind reads, states.few)
+    omega (arith, so_few (λ (before : List NamedLaw). named_law plant fs (used_by before)) count between ls behind reads, states.allowed)
 
 pub forms_few : (plant : Plant) (here behind : Cursor) (fs : List (List ℚ)) → (forms plant).Reads here fs behind → length fs < 10 ^ 18
 forms_few plant here behind fs (count, (between, ((line, (taken, (states, over))), (reads, none)))) =
-    omega (arith, so_few (λ before. one_line (plain_rule (IsNewForm plant.n before))) count between fs behind reads, states.short)
+    omega (arith, so_few (λ before. one_line (plain_rule (StatesNew before (AreNumbers (codes "form") (plant.n + 1))))) count between fs behind reads, states.allowed)

@@ -16,8 +16,8 @@ use Rattle.mpc_controller.specs.Bounds.{FormFits, LawFits}
 use Rattle.mpc_words.specs.Words.{IsWithout, line}
 use Rattle.mpc_file.specs.Reading.{one_line, give, ◌>>=◌}
 use Rattle.mpc_file.specs.Lines.{count_line}
-use Rattle.mpc_file.specs.PlantGrammar.{AllFit, plain_rule}
-use Rattle.mpc_file.specs.LawGrammar.{unknowns, IsLawLine, IsLawCount, law_count, IsShortCount, IsNewForm, forms, NameForms, used_behind, form_named, AreFormNumbers, named_moves_rule, named_mults, NamedLaw, used_by, named_law, named_laws, law_named}
+use Rattle.mpc_file.specs.PlantGrammar.{AllFit, plain_rule, IsNumber, AreNumbers, StatesNew}
+use Rattle.mpc_file.specs.LawGrammar.{unknowns, IsLawLine, law_count, forms, NameForms, used_behind, form_named, AreFormNumbers, named_moves_rule, named_mults, NamedLaw, used_by, named_law, named_laws, law_named}
 use Rattle.mpc_file.specs.LineTheorems.{WordTheorems}
 use Rattle.mpc_file.specs.Writing.{Prints, ended, text_of_lines}
 use Rattle.mpc_file.specs.Names.{AreDifferent}
@@ -125,15 +125,15 @@ module _ (words : WordTheorems) where
   pub numbers_without : (ks : List ℕ) → All (λ k. k < 2 ^ 64) ks → All (IsWithout 10) (map decimal ks)
   numbers_without ks small = All-map (IsWithout 10) decimal ks (All-weaker (λ k. k < 2 ^ 64) (λ k. IsWithout 10 (decimal k)) (count_without words) ks small)
 
-  form_prints : (n : ℕ) (before : List (List ℚ)) (form : List ℚ) → ¬ Contains before form → AllFit form → length form ≡ n + 1 → Prints (one_line (plain_rule (IsNewForm n before))) form (ended (form_line form))
-  form_prints n before form new fits size = prints_plain (IsNewForm n before) form (form_line form) (fractions_line_without words (codes "form") form refl fits) (record { form_is = record { spelled = refl; size = size; fits = fits }; new_one = new })
+  form_prints : (n : ℕ) (before : List (List ℚ)) (form : List ℚ) → ¬ Contains before form → AllFit form → length form ≡ n + 1 → Prints (one_line (plain_rule (StatesNew before (AreNumbers (codes "form") (n + 1))))) form (ended (form_line form))
+  form_prints n before form new fits size = prints_plain (StatesNew before (AreNumbers (codes "form") (n + 1))) form (form_line form) (fractions_line_without words (codes "form") form refl fits) (record { stated = record { spelled = refl; size = size; fits = fits }; new_one = new })
 
   pub forms_print : (plant : Plant) (fs : List (List ℚ)) → AreDifferent (map form_line fs) → All AllFit fs → All (HasWidth (plant.n + 1)) fs → length fs < 10 ^ 18 → Prints (forms plant) fs (forms_text fs)
   forms_print plant fs different fits widths few =
-      prints_both (one_line (plain_rule (IsShortCount (codes "forms")))) _ (length fs) fs (ended (count_line (codes "forms") (length fs))) (text_of_lines (map form_line fs))
-      (prints_plain (IsShortCount (codes "forms")) (length fs) (count_line (codes "forms") (length fs)) (count_line_without words (codes "forms") (length fs) refl (omega arith)) (record { spelled = refl; short = few }))
+      prints_both (one_line (plain_rule (IsNumber (codes "forms") (λ number. number < 10 ^ 18)))) _ (length fs) fs (ended (count_line (codes "forms") (length fs))) (text_of_lines (map form_line fs))
+      (prints_plain (IsNumber (codes "forms") (λ number. number < 10 ^ 18)) (length fs) (count_line (codes "forms") (length fs)) (count_line_without words (codes "forms") (length fs) refl (omega arith)) (record { spelled = refl; allowed = few }))
       (prints_as _ fs (flat_map (λ form. ended (form_line form)) fs) (text_of_lines (map form_line fs)) (each_ended form_line fs)
-      (prints_counted (λ before. one_line (plain_rule (IsNewForm plant.n before))) (length fs) (λ form. ended (form_line form)) fs refl
+      (prints_counted (λ before. one_line (plain_rule (StatesNew before (AreNumbers (codes "form") (plant.n + 1))))) (length fs) (λ form. ended (form_line form)) fs refl
       (λ before form after whole. form_prints plant.n before form (different_items form_line fs different before form after whole)
       (in_list AllFit before form after (subst (All AllFit) whole fits)) (in_list (HasWidth (plant.n + 1)) before form after (subst (All (HasWidth (plant.n + 1))) whole widths)))))
 
@@ -162,7 +162,7 @@ module _ (words : WordTheorems) where
   pub laws_print : (plant : Plant) (fs : List (List ℚ)) (named : List NamedLaw) → row_count plant < 2 ^ 64 → length fs < 10 ^ 18 → length named ≤ 4598479 → All (IsGoodNamed plant fs) named → InOrder (length fs) 0 named → Prints (named_laws plant fs) named (laws_text named)
   laws_print plant fs named rows few count good order =
       prints_both law_count _ (length named) named (ended (count_line (codes "laws") (length named))) (flat_map law_text named)
-      (prints_plain IsLawCount (length named) (count_line (codes "laws") (length named)) (count_line_without words (codes "laws") (length named) refl (omega arith)) (record { spelled = refl; few = count }))
+      (prints_plain (IsNumber (codes "laws") (λ number. number ≤ 4598479)) (length named) (count_line (codes "laws") (length named)) (count_line_without words (codes "laws") (length named) refl (omega arith)) (record { spelled = refl; allowed = count }))
       (prints_counted (λ (before : List NamedLaw). named_law plant fs (used_by before)) (length named) law_text named refl
       (λ before n after whole.
       let at = in_order_at (length fs) 0 before n after (subst (InOrder (length fs) 0) whole order) in

@@ -1,5 +1,5 @@
 -- The laws that lines state have the shapes of a controller's laws and keep its bounds.
-use Rattle.std.proofs.Common.{◌≡◌, ℕ, ◌+◌, ◌-◌, ◌*◌, cond, take, ◌<◌, ◌≤◌, List, [], ◌∷◌, ◌++◌, length, map, get_or, ◌⊎◌, inl, inr, refl, sym, ◌∙◌, ap, subst, arith, nat_lt}
+use Rattle.std.proofs.Common.{codes, ◌≡◌, ℕ, ◌+◌, ◌-◌, ◌*◌, cond, take, ◌<◌, ◌≤◌, List, [], ◌∷◌, ◌++◌, length, map, get_or, ◌⊎◌, inl, inr, refl, sym, ◌∙◌, ap, subst, arith, nat_lt}
 use Rattle.std.specs.Prelude.{All, slice_index_or, slice_get, Some}
 use Rattle.std.proofs.lemmas.List.{length-append, length-map, length-take, get_or-take, get_or-map, get_or_append_left}
 use Rattle.std.proofs.Math.Seq.{get_or-append_seam}
@@ -12,8 +12,8 @@ use Rattle.mpc_rows.specs.declared.laws.Law.{Law}
 use Rattle.mpc_controller.specs.Parts.{limits_of, IsLawFor}
 use Rattle.mpc_controller.specs.Bounds.{FormFits, LawFits}
 use Rattle.mpc_file.specs.Reading.{Cursor, one_line, ReadsItems, no_item, one_more}
-use Rattle.mpc_file.specs.PlantGrammar.{plain_rule}
-use Rattle.mpc_file.specs.LawGrammar.{unknowns, IsForm, move_rule, moves, mults, matrix_of, written_law, written_laws, forms, IsNewForm, NameForms, used_behind, form_named, named_mults, NamedLaw, used_by, named_law, named_laws, law_named}
+use Rattle.mpc_file.specs.PlantGrammar.{plain_rule, AreNumbers, StatesNew}
+use Rattle.mpc_file.specs.LawGrammar.{unknowns, move_rule, moves, mults, matrix_of, written_law, written_laws, forms, NameForms, used_behind, form_named, named_mults, NamedLaw, used_by, named_law, named_laws, law_named}
 use Rattle.mpc_file.proofs.Stability.{form_stable, all_stable}
 use Rattle.mpc_file.proofs.ManyLemmas.{all_items, just_so_many}
 
@@ -27,7 +27,7 @@ move_sizes plant here zs behind h =
 
 pub mult_sizes : (plant : Plant) (members : ℕ) (here : Cursor) (ls : List (List ℚ)) (behind : Cursor) → (mults plant members).Reads here ls behind → All (HasSize plant.n) ls
 mult_sizes plant members here ls behind h =
-    all_items (List ℚ) (λ before. one_line (plain_rule (IsForm (Rattle.std.specs.Prelude.codes "mult") plant.n))) (λ before. nat_lt (length before) members) (HasSize plant.n) (λ before b x c more reads. reads.1.1.0.size) here ls behind h.0
+    all_items (List ℚ) (λ before. one_line (plain_rule (AreNumbers (Rattle.std.specs.Prelude.codes "mult") (plant.n + 1)))) (λ before. nat_lt (length before) members) (HasSize plant.n) (λ before b x c more reads. reads.1.1.0.size) here ls behind h.0
 
 shape_of : (plant : Plant) (rows : List (List ℚ)) (count : ℕ) → length rows ≡ count → All (HasSize plant.n) rows → HasShape (matrix_of plant rows) count (plant.n + 1)
 shape_of plant rows count size each = record { rows_are = size; columns_are = refl; rectangular = each }
@@ -83,7 +83,7 @@ pub record GoodLaws (plant : Plant) (laws : List Law) : Type 0 where
 pub written_good : (plant : Plant) (here : Cursor) (laws : List Law) (behind : Cursor) → (written_laws plant).Reads here laws behind → GoodLaws plant laws
 written_good plant here laws behind (count, (b, (s, h))) =
     record {
-      few = omega (arith, just_so_many Law (λ before. written_law plant) count b laws behind h, s.1.1.0.few);
+      few = omega (arith, just_so_many Law (λ before. written_law plant) count b laws behind h, s.1.1.0.allowed);
       shapes = all_items Law (λ before. written_law plant) (λ before. nat_lt (length before) count) (IsLawFor plant) (λ before b x c more reads. written_shape plant b x c reads) b laws behind h.0;
       bounds = all_items Law (λ before. written_law plant) (λ before. nat_lt (length before) count) (LawFits plant) (λ before b x c more reads. written_bounds plant b x c reads) b laws behind h.0;
     }
@@ -91,7 +91,7 @@ written_good plant here laws behind (count, (b, (s, h))) =
 -- ---- laws whose forms are named
 form_sizes : (plant : Plant) (here : Cursor) (fs : List (List ℚ)) (behind : Cursor) → (forms plant).Reads here fs behind → All (HasSize plant.n) fs
 form_sizes plant here fs behind (count, (b, (s, h))) =
-    all_items (List ℚ) (λ before. one_line (plain_rule (IsNewForm plant.n before))) (λ before. nat_lt (length before) count) (HasSize plant.n) (λ before b x c more reads. reads.1.1.0.form_is.size) b fs behind h.0
+    all_items (List ℚ) (λ before. one_line (plain_rule (StatesNew before (AreNumbers (codes "form") (plant.n + 1))))) (λ before. nat_lt (length before) count) (HasSize plant.n) (λ before b x c more reads. reads.1.1.0.stated.size) b fs behind h.0
 
 -- a name's form has the size of all
 named_size : (n : ℕ) (fs : List (List ℚ)) (ks : List ℕ) (used : ℕ) → All (HasSize n) fs → NameForms (length fs) used ks → All (HasSize n) (map (form_named fs) ks)
@@ -128,7 +128,7 @@ pub named_good : (plant : Plant) (here between : Cursor) (fs : List (List ℚ)) 
 named_good plant here between fs laws behind f (count, (b, (s, h))) =
     let sizes = form_sizes plant here fs between f in
     record {
-      few = omega (arith, length-map laws (law_named plant fs), just_so_many NamedLaw (λ before. named_law plant fs (used_by before)) count b laws behind h, s.1.1.0.few);
+      few = omega (arith, length-map laws (law_named plant fs), just_so_many NamedLaw (λ before. named_law plant fs (used_by before)) count b laws behind h, s.1.1.0.allowed);
       shapes = All-map (IsLawFor plant) (law_named plant fs) laws (all_items NamedLaw (λ before. named_law plant fs (used_by before)) (λ before. nat_lt (length before) count) (λ w. IsLawFor plant (law_named plant fs w)) (λ before b x c more reads. named_shape plant fs sizes (used_by before) b x c reads) b laws behind h.0);
       bounds = All-map (LawFits plant) (law_named plant fs) laws (all_items NamedLaw (λ before. named_law plant fs (used_by before)) (λ before. nat_lt (length before) count) (λ w. LawFits plant (law_named plant fs w)) (λ before b x c more reads. named_bounds plant fs sizes (used_by before) b x c reads) b laws behind h.0);
     }

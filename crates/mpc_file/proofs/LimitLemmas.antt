@@ -1,5 +1,5 @@
 -- The lines of a plant's rows and of its grid.
-use Rattle.std.proofs.Common.{◌≡◌, ◌≢◌, ℕ, ◌+◌, ◌*◌, ◌^◌, ◌<◌, ◌≤◌, true, ltb, List, [], ◌∷◌, ◌++◌, ℤ, pos, negsuc, length, get_or, codes, Option, Some, None, MatchOption, Err, inl, inr, unsigned_abs, to_z, of_z, decimal, refl, sym, ap, ◌∙◌, subst, arith, append-nil, length-append}
+use Rattle.std.proofs.Common.{◌≡◌, ◌≢◌, ℕ, ◌+◌, ◌*◌, ◌^◌, ◌<◌, ◌≤◌, true, ltb, List, [], ◌∷◌, ◌++◌, ℤ, pos, negsuc, length, get_or, codes, Option, Some, None, MatchOption, Err, inl, inr, unsigned_abs, to_z, of_z, decimal, sym, ap, ◌∙◌, subst, arith, length-append}
 use Rattle.std.specs.Int.{w128}
 use Rattle.std.specs.Int.Signed.{le_z}
 use Rattle.std.proofs.lemmas.Bool.{leb-true, le-leb}
@@ -8,7 +8,7 @@ use Rattle.mpc_file.specs.Reading.{Cursor, LineRule, one_line, ReadsItems, Outco
 use Rattle.mpc_file.specs.declared.errors.FileError.{FileError}
 use Rattle.mpc_file.specs.declared.errors.FileError.TheVariants.{Bad, NoMemory}
 use Rattle.mpc_file.specs.declared.versions.Version.{Version}
-use Rattle.mpc_file.specs.PlantGrammar.{AllFit, IsRowCount, IsRow, IsLast, IsAxis, row_list, last_list, grid, limits}
+use Rattle.mpc_file.specs.PlantGrammar.{AllFit, IsRow, IsAxis, row_list, last_list, limits, IsNumber, so_many, plain_rule}
 use Rattle.mpc_file.proofs.NumberLines.{whole_numer, whole_denom, natural_text, natural_fits}
 use Rattle.mpc_file.proofs.OutcomeLemmas.{none_read, more_read, asks_for_more}
 use Rattle.std.proofs.lemmas.List.Elements.{All-nil, All-cons, All-head, All-tail}
@@ -30,8 +30,8 @@ use Rattle.mpc_file.specs.LimitNumbers.{StatesRow, StatesAxis, IsStepCount}
 few_each : (each count : ℕ) → 0 < each → count ≤ each * count
 few_each each count h = grind arith
 
-pub small_count : (name text : List ℕ) (each others most count : ℕ) → 0 < each → most < 2 ^ 64 → IsRowCount name each others most text count → count < 2 ^ 64
-small_count name text each others most count some limit is = omega (arith, is.few, few_each each count some)
+pub small_count : (name text : List ℕ) (each others most count : ℕ) → 0 < each → most < 2 ^ 64 → IsNumber name (λ number. each * number + others ≤ most) text count → count < 2 ^ 64
+small_count name text each others most count some limit is = omega (arith, is.allowed, few_each each count some)
 
 -- ---- a number of steps
 read_back : (z : ℤ) → unsigned_abs z < 2 ^ 127 → to_z w128 (of_z w128 z) ≡ z
@@ -99,46 +99,21 @@ some_fractions name text found xs ys h e f = subst (λ zs. AreFractions name tex
 pub no_fractions : (name text : List ℕ) (found : Option (List ℚ)) → IsReadAs name text found → found ≡ None → (xs : List ℚ) → ¬ AreFractions name text xs
 no_fractions name text found h e = subst (IsReadAs name text) e h
 
--- a row that weighs no inputs
-empty_list : {A : Type 0} (xs : List A) → length xs ≡ 0 → xs ≡ []
-empty_list [] e = refl
-empty_list (x ∷ xs) e = absurd (omega arith)
+pub row_spelled : (name : List ℕ) (states inputs : ℕ) (text : List ℕ) (row : PlantRow) → IsRow name states inputs text row → AreFractions name text (row.x ++ row.u ++ row.max ∷ [])
+row_spelled name states inputs text row is = record { spelled = is.spelled; fits = is.fits }
 
-bare : (row : PlantRow) → length row.u ≡ 0 → row.x ++ row.u ++ row.max ∷ [] ≡ row.x ++ row.max ∷ []
-bare row e = ap (λ xs. xs ++ row.max ∷ []) (ap (λ u. row.x ++ u) (empty_list row.u e) ∙ append-nil row.x)
+module _ (one : OneFractions) (name : List ℕ) (states inputs : ℕ) (text : List ℕ) (numbers : List ℚ) where
+  is_row : AreFractions name text numbers → (row : PlantRow) → StatesRow states inputs numbers row → IsRow name states inputs text row
+  is_row are row stated = record { spelled = are.spelled ∙ ap (fractions_line name) stated.numbers_are; sizes = stated.sizes; fits = subst AllFit stated.numbers_are are.fits }
 
-pub row_spelled : (s : Sizes) (text : List ℕ) (row : PlantRow) → IsRow s text row → AreFractions (codes "row") text (row.x ++ row.u ++ row.max ∷ [])
-row_spelled s text row is = record { spelled = is.spelled; fits = is.fits }
-
-pub last_spelled : (s : Sizes) (text : List ℕ) (row : PlantRow) → IsLast s text row → AreFractions (codes "last") text (row.x ++ row.max ∷ [])
-last_spelled s text row is = record { spelled = is.spelled; fits = is.fits }
-
-module _ (one : OneFractions) (s : Sizes) (text : List ℕ) (numbers : List ℚ) where
-  is_row : AreFractions (codes "row") text numbers → (row : PlantRow) → StatesRow s.states s.inputs numbers row → IsRow s text row
-  is_row are row states = record { spelled = are.spelled ∙ ap (fractions_line (codes "row")) states.numbers_are; sizes = states.sizes; fits = subst AllFit states.numbers_are are.fits }
-
-  no_row : AreFractions (codes "row") text numbers → length numbers ≢ s.states + s.inputs + 1 → (row : PlantRow) → ¬ IsRow s text row
+  no_row : AreFractions name text numbers → length numbers ≢ states + inputs + 1 → (row : PlantRow) → ¬ IsRow name states inputs text row
   no_row are other row is =
-      let e : numbers ≡ row.x ++ row.u ++ row.max ∷ [] = one (codes "row") numbers (row.x ++ row.u ++ row.max ∷ []) are.fits is.fits (sym are.spelled ∙ is.spelled) in
+      let e : numbers ≡ row.x ++ row.u ++ row.max ∷ [] = one name numbers (row.x ++ row.u ++ row.max ∷ []) are.fits is.fits (sym are.spelled ∙ is.spelled) in
       other (ap length e ∙ length-append (row.x ++ row.u) (row.max ∷ []) ∙ ap (λ n. n + 1) (length-append row.x row.u) ∙ (λ i. is.sizes.x_size i + is.sizes.u_size i + 1))
 
-  pub row_found : AreFractions (codes "row") text numbers → (found : Option PlantRow) → MatchOption found (length numbers ≢ s.states + s.inputs + 1) (λ row. StatesRow s.states s.inputs numbers row) → MatchOption found ((row : PlantRow) → ¬ IsRow s text row) (λ row. IsRow s text row)
+  pub row_found : AreFractions name text numbers → (found : Option PlantRow) → MatchOption found (length numbers ≢ states + inputs + 1) (λ row. StatesRow states inputs numbers row) → MatchOption found ((row : PlantRow) → ¬ IsRow name states inputs text row) (λ row. IsRow name states inputs text row)
   row_found are None h = no_row are h
   row_found are (Some row) h = is_row are row h
-
-  is_last : AreFractions (codes "last") text numbers → (row : PlantRow) → StatesRow s.states 0 numbers row → IsLast s text row
-  is_last are row states =
-      let e : numbers ≡ row.x ++ row.max ∷ [] = states.numbers_are ∙ bare row states.sizes.u_size in
-      record { spelled = are.spelled ∙ ap (fractions_line (codes "last")) e; sizes = states.sizes; fits = subst AllFit e are.fits }
-
-  no_last : AreFractions (codes "last") text numbers → length numbers ≢ s.states + 0 + 1 → (row : PlantRow) → ¬ IsLast s text row
-  no_last are other row is =
-      let e : numbers ≡ row.x ++ row.max ∷ [] = one (codes "last") numbers (row.x ++ row.max ∷ []) are.fits is.fits (sym are.spelled ∙ is.spelled) in
-      other (ap length e ∙ length-append row.x (row.max ∷ []) ∙ omega (arith, is.sizes.x_size))
-
-  pub last_found : AreFractions (codes "last") text numbers → (found : Option PlantRow) → MatchOption found (length numbers ≢ s.states + 0 + 1) (λ row. StatesRow s.states 0 numbers row) → MatchOption found ((row : PlantRow) → ¬ IsLast s text row) (λ row. IsLast s text row)
-  last_found are None h = no_last are h
-  last_found are (Some row) h = is_last are row h
 
 -- ---- a coordinate's line
 module _ (x : ℚ) (count : ℕ) (is : IsStepCount x count) where
@@ -186,6 +161,6 @@ module _ (one : OneFractions) (text : List ℕ) (numbers : List ℚ) (are : AreF
 
 -- ---- the rows, those of the end, and the grid
 pub grid_fails : (version : Version) (s : Sizes) (here between beyond behind end : Cursor) (rows terminal : List PlantRow) (error : FileError) → (row_list version s).Reads here rows between → (last_list version s rows).Reads between terminal beyond
-    → Outcome (grid s) beyond behind (Err error) → Outcome (limits version s) here end (Err error)
+    → Outcome (so_many s.states (plain_rule IsAxis)) beyond behind (Err error) → Outcome (limits version s) here end (Err error)
 grid_fails version s here between beyond behind end rows terminal (Bad kind number) first second h = inr (rows, (between, (first, inr (terminal, (beyond, (second, inl h))))))
 grid_fails version s here between beyond behind end rows terminal NoMemory first second h = tt

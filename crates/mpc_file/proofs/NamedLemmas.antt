@@ -11,9 +11,9 @@ use Rattle.mpc_plant.specs.declared.plants.Plant.{Plant}
 use Rattle.mpc_rows.specs.declared.laws.Law.{Law}
 use Rattle.mpc_controller.specs.Parts.{limits_of}
 use Rattle.mpc_file.specs.Reading.{Cursor, ReadsItems, one_line, Outcome}
-use Rattle.mpc_file.specs.PlantGrammar.{AllFit, plain_rule}
+use Rattle.mpc_file.specs.PlantGrammar.{AllFit, plain_rule, AreNumbers, StatesNew}
 use Rattle.mpc_file.specs.Lines.{fractions_line}
-use Rattle.mpc_file.specs.LawGrammar.{unknowns, IsLawLine, NameForms, AreFormNumbers, named_moves_rule, named_mults, IsForm, IsNewForm, form_named, NamedLaw, used_by, used_behind, named_law, law_named, law_count}
+use Rattle.mpc_file.specs.LawGrammar.{unknowns, IsLawLine, NameForms, AreFormNumbers, named_moves_rule, named_mults, form_named, NamedLaw, used_by, used_behind, named_law, law_named, law_count}
 use Rattle.mpc_file.specs.FormLists.{matrix_with, NamesAll, HasLinesOf, IsReadLaw, ReadsLaw, AreReadLaws, ReadsLaws}
 use Rattle.mpc_file.specs.declared.errors.FileError.{FileError}
 use Rattle.mpc_file.specs.declared.errors.FileError.TheVariants.{Bad, NoMemory}
@@ -25,16 +25,16 @@ use Rattle.mpc_file.proofs.FormLemmas.{at_none, named_all, no_items, further, fu
 
 -- ---- forms of which no two are equal
 module _ (n : ℕ) (known : List (List ℕ)) (before : List (List ℚ)) (has : HasLinesOf known before) (text : List ℕ) where
-  pub is_new : (form : List ℚ) → IsForm (codes "form") n text form → ¬ Contains known text → IsNewForm n before text form
-  is_new form is new = record { form_is = is; new_one = λ c. new (subst (Contains known) (sym is.spelled) ((has form is.fits).1 c)) }
+  pub is_new : (form : List ℚ) → AreNumbers (codes "form") (n + 1) text form → ¬ Contains known text → StatesNew before (AreNumbers (codes "form") (n + 1)) text form
+  is_new form is new = record { stated = is; new_one = λ c. new (subst (Contains known) (sym is.spelled) ((has form is.fits).1 c)) }
 
-  pub is_old : Contains known text → (form : List ℚ) → ¬ IsNewForm n before text form
-  is_old c form new = new.new_one ((has form new.form_is.fits).0 (subst (Contains known) new.form_is.spelled c))
+  pub is_old : Contains known text → (form : List ℚ) → ¬ StatesNew before (AreNumbers (codes "form") (n + 1)) text form
+  is_old c form new = new.new_one ((has form new.stated.fits).0 (subst (Contains known) new.stated.spelled c))
 
-  pub is_none : ((form : List ℚ) → ¬ IsForm (codes "form") n text form) → (form : List ℚ) → ¬ IsNewForm n before text form
-  is_none none form new = none form new.form_is
+  pub is_none : ((form : List ℚ) → ¬ AreNumbers (codes "form") (n + 1) text form) → (form : List ℚ) → ¬ StatesNew before (AreNumbers (codes "form") (n + 1)) text form
+  is_none none form new = none form new.stated
 
-  module _ (one : OneFractions) (more : List (List ℕ)) (added : (other : List ℕ) → Contains more other ↔ (Contains known other ⊎ (other ≡ text))) (form : List ℚ) (is : IsForm (codes "form") n text form) where
+  module _ (one : OneFractions) (more : List (List ℕ)) (added : (other : List ℕ) → Contains more other ↔ (Contains known other ⊎ (other ≡ text))) (form : List ℚ) (is : AreNumbers (codes "form") (n + 1) text form) where
     to_forms : (other : List ℚ) → AllFit other → Contains known (fractions_line (codes "form") other) ⊎ (fractions_line (codes "form") other ≡ text) → Contains (before ++ form ∷ []) other
     to_forms other fits (inl c) = Contains-append_left before (form ∷ []) other ((has other fits).0 c)
     to_forms other fits (inr e) = subst (Contains (before ++ form ∷ [])) (one (codes "form") form other is.fits fits (sym (e ∙ is.spelled))) (Contains-push before form)
@@ -52,10 +52,10 @@ none_known form = ((λ c. absurd (omega (arith, c.1))), (λ c. absurd (omega (ar
 pub known_start : (known : List (List ℕ)) (fs : List (List ℚ)) → known ≡ [] → fs ≡ [] → HasLinesOf known fs
 known_start known fs e f form fits = subst (λ ls. Contains ls (fractions_line (codes "form") form) ↔ Contains fs form) (sym e) (subst (λ xs. Contains [] (fractions_line (codes "form") form) ↔ Contains xs form) (sym f) (none_known form))
 
-pub forms_sizes : (plant : Plant) (count : ℕ) (here behind : Cursor) (fs : List (List ℚ)) → ReadsItems (List ℚ) (λ (before : List (List ℚ)). one_line (plain_rule (IsNewForm plant.n before))) (λ (before : List (List ℚ)). ltb (length before) count) here fs behind
+pub forms_sizes : (plant : Plant) (count : ℕ) (here behind : Cursor) (fs : List (List ℚ)) → ReadsItems (List ℚ) (λ (before : List (List ℚ)). one_line (plain_rule (StatesNew before (AreNumbers (codes "form") (plant.n + 1))))) (λ (before : List (List ℚ)). ltb (length before) count) here fs behind
     → All (λ form. length form ≡ plant.n + 1) fs
 forms_sizes plant count here behind fs h =
-    all_items (List ℚ) (λ (before : List (List ℚ)). one_line (plain_rule (IsNewForm plant.n before))) (λ (before : List (List ℚ)). ltb (length before) count) (λ form. length form ≡ plant.n + 1) (λ before b x c more reads. reads.1.1.0.form_is.size) here fs behind h
+    all_items (List ℚ) (λ (before : List (List ℚ)). one_line (plain_rule (StatesNew before (AreNumbers (codes "form") (plant.n + 1))))) (λ (before : List (List ℚ)). ltb (length before) count) (λ form. length form ≡ plant.n + 1) (λ before b x c more reads. reads.1.1.0.stated.size) here fs behind h
 
 -- ---- laws that name forms
 pub record IsReadSoFar (plant : Plant) (fs : List (List ℚ)) (count : ℕ) (here between : Cursor) (laws : List Law) (used counter : ℕ) : Type 0 where

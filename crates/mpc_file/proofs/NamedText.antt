@@ -1,5 +1,6 @@
 -- Laws and trees whose forms and planes are named determine the bytes that they are read from, since these are named in the order of first use.
-use Rattle.std.proofs.Common.{◌≡◌, ℕ, ◌+◌, Bool, nat_lt, cond, List, [], ◌∷◌, ◌++◌, map, fold, flat_map, length, refl, sym, ap, subst, ◌∙◌, length-append, append-nil}
+use Rattle.std.specs.Prelude.{is_some, slice_get, slice_index_or}
+use Rattle.std.proofs.Common.{pos, codes, ◌≡◌, ℕ, ◌+◌, Bool, nat_lt, cond, List, [], ◌∷◌, ◌++◌, map, fold, flat_map, length, refl, sym, ap, subst, ◌∙◌, length-append, append-nil}
 use Rattle.std.proofs.lemmas.List.{map-append, length-map}
 use Rattle.std.proofs.lemmas.Grind.{flat_map-append}
 use Rattle.mpc_exact.specs.Rational.{ℚ}
@@ -10,10 +11,10 @@ use Rattle.mpc_rows.specs.declared.trees.Node.{Node}
 use Rattle.mpc_rows.specs.declared.trees.Node.TheVariants.{Split, Law as LawLeaf, NoMove}
 use Rattle.mpc_controller.specs.Parts.{Parts}
 use Rattle.mpc_file.specs.Reading.{Cursor, Grammar, one_line, give, ◌>>=◌, ReadsItems, no_item, one_more}
-use Rattle.mpc_file.specs.PlantGrammar.{plain_rule}
-use Rattle.mpc_file.specs.LawGrammar.{IsNewForm, forms, NameForms, used_behind, form_named, named_mults, NamedLaw, used_by, named_law, named_laws, law_named}
-use Rattle.mpc_file.specs.TreeGrammar.{NodeLine, StatesNode, splits, names_law, has_none, NodeOver, split_node, law_node, no_move_node, node_behind, node_at, owed, is_owed, next_depth, plane_rule, planes, planes_used, used_with, NamesPlane, named_split, no_plane, plane_named, named_node, named_tree}
-use Rattle.mpc_file.specs.FileGrammar.{IsEnd, parts_named, named}
+use Rattle.mpc_file.specs.PlantGrammar.{plain_rule, AreNumbers, UsesAll, StatesNew, IsNumber}
+use Rattle.mpc_file.specs.LawGrammar.{forms, NameForms, used_behind, form_named, named_mults, NamedLaw, used_by, named_law, named_laws, law_named}
+use Rattle.mpc_file.specs.TreeGrammar.{NodeLine, StatesNode, splits, names_law, has_none, NodeOver, split_node, law_node, no_move_node, node_behind, node_at, owed, plane_rule, planes, planes_used, used_with, named_split, plane_named, named_tree, IsWord, node_of, IsNext}
+use Rattle.mpc_file.specs.FileGrammar.{parts_named, named}
 use Rattle.mpc_file.proofs.LineNumbers.{same_front, same_back}
 use Rattle.mpc_file.proofs.OneText.{HasOneText, Settles, text_plain, text_give, text_both, text_with}
 use Rattle.mpc_file.proofs.PartText.{text_forms, text_named_laws, text_planes, text_named_tree}
@@ -91,13 +92,13 @@ planes_used_numbers used (law_node j cs ∷ ns) = planes_used_numbers used ns
 planes_used_numbers used (no_move_node c ∷ ns) = planes_used_numbers used ns
 
 module _ (plant : Plant) (laws all : ℕ) where
-  node_names : (used depth : ℕ) (text : List ℕ) (node : NodeLine ℕ) (here : Cursor) (x : NodeOver ℕ) (behind : Cursor) → StatesNode laws (NamesPlane all used) text node → (node_behind plant depth node).Reads here x behind → NameForms all used (number_of_node x)
-  node_names used depth text node here x behind (splits k h) r = subst (λ n. NameForms all used (number_of_node n)) (sym r.0) (h.from_one, h.is_plane, h.in_order, tt)
+  node_names : (used depth : ℕ) (text : List ℕ) (node : NodeLine ℕ) (here : Cursor) (x : NodeOver ℕ) (behind : Cursor) → StatesNode laws (IsNumber (codes "split") (IsNext all used)) text node → (node_behind plant depth node).Reads here x behind → NameForms all used (number_of_node x)
+  node_names used depth text node here x behind (splits k h) r = subst (λ n. NameForms all used (number_of_node n)) (sym r.0) (h.allowed.0, h.allowed.1, h.allowed.2, tt)
   node_names used depth text node here x behind (names_law j e f) r = subst (λ n. NameForms all used (number_of_node n)) (sym r.1.1.1.0) tt
   node_names used depth text node here x behind (has_none e) r = subst (λ n. NameForms all used (number_of_node n)) (sym r.1.1.1.0) tt
 
   nodes_names : (here : Cursor) (ns : List (NodeOver ℕ)) (behind : Cursor)
-      → ReadsItems (NodeOver ℕ) (λ before. node_at plant laws (named_split all (planes_used before)) (next_depth (owed before))) (λ (before : List (NodeOver ℕ)). is_owed (owed before)) here ns behind
+      → ReadsItems (NodeOver ℕ) (λ before. node_at plant laws (named_split all (planes_used before)) (slice_index_or (owed before) 0 0)) (λ (before : List (NodeOver ℕ)). is_some (slice_get (owed before) 0)) here ns behind
       → NameForms all 0 (node_numbers ns)
   nodes_names here ns behind no_item = tt
   nodes_names here ns behind (one_more before between x end reads more (node, (at, ((text, (taken, (states, over))), rest)))) =
@@ -105,7 +106,7 @@ module _ (plant : Plant) (laws all : ℕ) where
       flat_map-append number_of_node before (x ∷ []) ∙ ap (λ ks. node_numbers before ++ ks) (append-nil (number_of_node x)) in
       subst (NameForms all 0) (sym numbers)
       (names_append all 0 (node_numbers before) (number_of_node x) (nodes_names here before between reads)
-      (subst (λ u. NameForms all u (number_of_node x)) (planes_used_numbers 0 before) (node_names (planes_used before) (next_depth (owed before)) text node at x end states rest)))
+      (subst (λ u. NameForms all u (number_of_node x)) (planes_used_numbers 0 before) (node_names (planes_used before) (slice_index_or (owed before) 0 0) text node at x end states rest)))
 
 -- the rows of a tree's splits
 abbrev row_of_node : Node → List RowInt
@@ -116,18 +117,18 @@ row_of_node (NoMove c) = []
 abbrev split_rows : List Node → List RowInt
 split_rows ns = flat_map row_of_node ns
 
-splits_named : (ps : List RowInt) (ns : List (NodeOver ℕ)) → split_rows (map (named_node ps) ns) ≡ map (plane_named ps) (node_numbers ns)
+splits_named : (ps : List RowInt) (ns : List (NodeOver ℕ)) → split_rows (map (node_of (plane_named ps)) ns) ≡ map (plane_named ps) (node_numbers ns)
 splits_named ps [] = refl
 splits_named ps (split_node k ∷ ns) = ap (λ rows. plane_named ps k ∷ rows) (splits_named ps ns)
 splits_named ps (law_node j cs ∷ ns) = splits_named ps ns
 splits_named ps (no_move_node c ∷ ns) = splits_named ps ns
 
-same_nodes : (ps qs : List RowInt) (ns os : List (NodeOver ℕ)) → map (named_node ps) ns ≡ map (named_node qs) os → node_numbers ns ≡ node_numbers os → ns ≡ os
+same_nodes : (ps qs : List RowInt) (ns os : List (NodeOver ℕ)) → map (node_of (plane_named ps)) ns ≡ map (node_of (plane_named qs)) os → node_numbers ns ≡ node_numbers os → ns ≡ os
 same_nodes ps qs [] [] e f = refl
 same_nodes ps qs [] (o ∷ os) e f = absurd (cc)
 same_nodes ps qs (n ∷ ns) [] e f = absurd (cc)
 same_nodes ps qs (split_node k ∷ ns) (split_node j ∷ os) e f =
-    let tail : map (named_node ps) ns ≡ map (named_node qs) os = cc in
+    let tail : map (node_of (plane_named ps)) ns ≡ map (node_of (plane_named qs)) os = cc in
     let number : k ≡ j = cc in
     let others : node_numbers ns ≡ node_numbers os = cc in
     let rest : ns ≡ os = same_nodes ps qs ns os tail others in
@@ -136,7 +137,7 @@ same_nodes ps qs (split_node k ∷ ns) (law_node j cs ∷ os) e f = absurd (cc)
 same_nodes ps qs (split_node k ∷ ns) (no_move_node c ∷ os) e f = absurd (cc)
 same_nodes ps qs (law_node j cs ∷ ns) (split_node k ∷ os) e f = absurd (cc)
 same_nodes ps qs (law_node j cs ∷ ns) (law_node k ds ∷ os) e f =
-    let tail : map (named_node ps) ns ≡ map (named_node qs) os = cc in
+    let tail : map (node_of (plane_named ps)) ns ≡ map (node_of (plane_named qs)) os = cc in
     let law : j ≡ k = cc in
     let certs : cs ≡ ds = cc in
     let rest : ns ≡ os = same_nodes ps qs ns os tail f in
@@ -145,14 +146,14 @@ same_nodes ps qs (law_node j cs ∷ ns) (no_move_node c ∷ os) e f = absurd (cc
 same_nodes ps qs (no_move_node c ∷ ns) (split_node k ∷ os) e f = absurd (cc)
 same_nodes ps qs (no_move_node c ∷ ns) (law_node j cs ∷ os) e f = absurd (cc)
 same_nodes ps qs (no_move_node c ∷ ns) (no_move_node d ∷ os) e f =
-    let tail : map (named_node ps) ns ≡ map (named_node qs) os = cc in
+    let tail : map (node_of (plane_named ps)) ns ≡ map (node_of (plane_named qs)) os = cc in
     let cert : c ≡ d = cc in
     let rest : ns ≡ os = same_nodes ps qs ns os tail f in
     λ i. no_move_node (cert i) ∷ rest i
 
 -- ---- the lines behind the forms, the laws, the planes and the tree
 abbrev behind_tree : Plant → List (List ℚ) → List NamedLaw → List RowInt → List (NodeOver ℕ) → Grammar Parts
-behind_tree plant fs laws ps ns = one_line (plain_rule (IsEnd (length ps) (planes_used ns))) >>= λ u. give (parts_named plant fs laws ps ns)
+behind_tree plant fs laws ps ns = one_line (plain_rule (UsesAll (length ps) (planes_used ns) (IsWord (codes "end")))) >>= λ u. give (parts_named plant fs laws ps ns)
 
 abbrev behind_planes : Plant → List (List ℚ) → List NamedLaw → List RowInt → Grammar Parts
 behind_planes plant fs laws ps = named_tree plant (length laws) ps >>= behind_tree plant fs laws ps
@@ -166,7 +167,7 @@ behind_forms plant fs = named_laws plant fs >>= behind_laws plant fs
 -- ---- what is so of forms and laws that are read
 forms_differ : (plant : Plant) (here : Cursor) (fs : List (List ℚ)) (behind : Cursor) → (forms plant).Reads here fs behind → AreDifferent [] fs
 forms_differ plant here fs behind (count, (between, (count_line, (reads, none)))) =
-    different_items [] (λ before. one_line (plain_rule (IsNewForm plant.n before))) (λ (before : List (List ℚ)). nat_lt (length before) count)
+    different_items [] (λ before. one_line (plain_rule (StatesNew before (AreNumbers (codes "form") (plant.n + 1))))) (λ (before : List (List ℚ)). nat_lt (length before) count)
     (λ before at x end h. h.1.1.0.new_one) between fs behind reads
 
 record AreLaws (plant : Plant) (fs : List (List ℚ)) (laws : List NamedLaw) (y : Parts) : Type 0 where
@@ -191,6 +192,9 @@ one_naming plant fs gs laws others y h k =
     let one : (fs ≡ gs) × (law_numbers laws ≡ law_numbers others) = named_once [] fs gs (law_numbers laws) (law_numbers others) h.names k.names rows in
     (one.0, same_laws plant fs gs laws others maps one.1)
 
+abbrev no_plane : RowInt
+no_plane = record { a = []; b = pos 0 }
+
 -- ---- what is so of planes and nodes that are read
 planes_differ : (plant : Plant) (all used : ℕ) (here : Cursor) (ps : List RowInt) (behind : Cursor) → (planes plant all used).Reads here ps behind → AreDifferent no_plane ps
 planes_differ plant all used here ps behind (count, (between, (count_line, (reads, none)))) =
@@ -198,7 +202,7 @@ planes_differ plant all used here ps behind (count, (between, (count_line, (read
 
 record AreNodes (ps : List RowInt) (ns : List (NodeOver ℕ)) (y : Parts) : Type 0 where
   names : NamesAll no_plane ps (node_numbers ns)
-  nodes_are : y.tree ≡ map (named_node ps) ns
+  nodes_are : y.tree ≡ map (node_of (plane_named ps)) ns
 
 nodes_told : (plant : Plant) (fs : List (List ℚ)) (laws : List NamedLaw) (ps : List RowInt) → AreDifferent no_plane ps → (here between behind : Cursor) (ns : List (NodeOver ℕ)) (y : Parts) → (named_tree plant (length laws) ps).Reads here ns between → (behind_tree plant fs laws ps ns).Reads between y behind → AreNodes ps ns y
 nodes_told plant fs laws ps differ here between behind ns y (u, (a, (tree_line, (ms, (b, ((reads, none), (same, at))))))) (v, (c, ((text, (taken, (states, over))), (is, to)))) =
@@ -213,7 +217,7 @@ nodes_told plant fs laws ps differ here between behind ns y (u, (a, (tree_line, 
 
 one_tree : (ps qs : List RowInt) (ns os : List (NodeOver ℕ)) (y : Parts) → AreNodes ps ns y → AreNodes qs os y → (ps ≡ qs) × (ns ≡ os)
 one_tree ps qs ns os y h k =
-    let maps : map (named_node ps) ns ≡ map (named_node qs) os = sym h.nodes_are ∙ k.nodes_are in
+    let maps : map (node_of (plane_named ps)) ns ≡ map (node_of (plane_named qs)) os = sym h.nodes_are ∙ k.nodes_are in
     let rows : map (plane_named ps) (node_numbers ns) ≡ map (plane_named qs) (node_numbers os) = sym (splits_named ps ns) ∙ ap split_rows maps ∙ splits_named qs os in
     let one : (ps ≡ qs) × (node_numbers ns ≡ node_numbers os) = named_once no_plane ps qs (node_numbers ns) (node_numbers os) h.names k.names rows in
     (one.0, same_nodes ps qs ns os maps one.1)
@@ -221,7 +225,7 @@ one_tree ps qs ns os y h k =
 -- ---- the text
 text_behind_tree : (plant : Plant) (fs : List (List ℚ)) (laws : List NamedLaw) (ps : List RowInt) (ns : List (NodeOver ℕ)) → HasOneText (behind_tree plant fs laws ps ns)
 text_behind_tree plant fs laws ps ns =
-    text_with _ _ (λ y. tt) (text_plain (IsEnd (length ps) (planes_used ns)) (λ line other x h k. h.spelled ∙ sym k.spelled)) (λ u. text_give (parts_named plant fs laws ps ns)) (λ here u y behind h. refl)
+    text_with _ _ (λ y. tt) (text_plain (UsesAll (length ps) (planes_used ns) (IsWord (codes "end"))) (λ line other x h k. h.stated ∙ sym k.stated)) (λ u. text_give (parts_named plant fs laws ps ns)) (λ here u y behind h. refl)
 
 tree_settles : (plant : Plant) (fs : List (List ℚ)) (laws : List NamedLaw) (ps : List RowInt) → AreDifferent no_plane ps → Settles (named_tree plant (length laws) ps) (behind_tree plant fs laws ps)
 tree_settles plant fs laws ps differ here there between at behind beyond ns os y h k l m =

@@ -1,6 +1,6 @@
 -- The lines of a tree's nodes are read as the nodes, whether their splits' rows are written out or named.
 use Rattle.std.proofs.Common.{◌≡◌, ℕ, ◌+◌, ◌^◌, ◌<◌, false, List, [], ◌∷◌, ◌++◌, length, map, refl, sym, ◌∙◌, ap, subst, arith}
-use Rattle.std.specs.Prelude.{All, IsTrue, fold, codes, decimal}
+use Rattle.std.specs.Prelude.{is_some, slice_get, slice_index_or, All, IsTrue, fold, codes, decimal}
 use Rattle.std.specs.List.{flat_map}
 use Rattle.std.proofs.lemmas.List.Elements.{All-nil, All-cons, All-head, All-tail, All-map, All-weaker}
 use Rattle.mpc_exact.specs.Rational.{ℚ}
@@ -16,7 +16,7 @@ use Rattle.mpc_words.specs.Words.{IsWithout}
 use Rattle.mpc_file.specs.Reading.{LineRule, one_line, give}
 use Rattle.mpc_file.specs.Lines.{count_line, pair_words, cert_line}
 use Rattle.mpc_file.specs.PlantGrammar.{plain_rule}
-use Rattle.mpc_file.specs.TreeGrammar.{IsCertLine, certs, node_rule, NodeOver, node_behind, node_at, owed_behind, owed, is_owed, next_depth, nodes}
+use Rattle.mpc_file.specs.TreeGrammar.{IsCertLine, certs, node_rule, NodeOver, node_behind, node_at, owed_behind, owed, nodes, node_of}
 use Rattle.mpc_file.specs.TreeGrammar.NodeLine.{split_at, leaf_of, no_move}
 use Rattle.mpc_file.specs.TreeGrammar.StatesNode.{names_law, has_none}
 use Rattle.mpc_file.specs.TreeGrammar.NodeOver.{split_node, law_node, no_move_node}
@@ -27,7 +27,6 @@ use Rattle.mpc_file.specs.Statable.{NodeNumbersFit}
 use Rattle.mpc_file.proofs.PrintLemmas.{prints_line, prints_plain, prints_give, prints_both, prints_end, prints_many, prints_so_many, in_list}
 use Rattle.mpc_file.proofs.WithoutLemmas.{line_without, plain_without, number_without, count_line_without, fraction_without}
 use Rattle.mpc_file.proofs.PlantPrints.{all_both}
-use Rattle.mpc_file.proofs.TreeShapes.{node_of}
 
 -- ---- certificates
 module _ (words : WordTheorems) where
@@ -52,7 +51,7 @@ module _ (words : WordTheorems) where
 abbrev owed_step : {Row : Type 0} → List ℕ → NodeOver Row → List ℕ
 owed_step depths node = owed_behind node depths
 
-nothing_owed : (depths : List ℕ) → length depths ≡ 0 → is_owed depths ≡ false
+nothing_owed : (depths : List ℕ) → length depths ≡ 0 → is_some (slice_get depths 0) ≡ false
 nothing_owed [] e = refl
 nothing_owed (d ∷ depths) e = absurd (omega arith)
 
@@ -85,8 +84,8 @@ text_over line_of (no_move_node c) = bare_leaf_text c
 
 -- what a node needs that is read where nodes at these depths are owed
 record IsReady {Row : Type 0} (line_of : Row → List ℕ) (plant : Plant) (laws : ℕ) (rule : LineRule Row) (depths : List ℕ) (x : NodeOver Row) : Type 0 where
-  pub owed_one : IsTrue (is_owed depths)
-  pub prints : Prints (node_at plant laws rule (next_depth depths)) x (text_over line_of x)
+  pub owed_one : IsTrue (is_some (slice_get depths 0))
+  pub prints : Prints (node_at plant laws rule (slice_index_or depths 0 0)) x (text_over line_of x)
 
 module _ (words : WordTheorems) {Row : Type 0} (row_of : Row → RowInt) (line_of : Row → List ℕ) (plant : Plant) (laws : ℕ) where
   -- a split's line is read as the split
@@ -120,7 +119,7 @@ module _ (words : WordTheorems) {Row : Type 0} (row_of : Row → RowInt) (line_o
   nodes_print rule ns tree same few splits fit are is have =
       let fits = all_of row_of NodeNumbersFit ns (subst (All NodeNumbersFit) (sym same) fit) in
       let nodes_are = all_of row_of (IsNodeFor plant.n laws) ns (subst (All (IsNodeFor plant.n laws)) (sym same) are) in
-      prints_many (λ before. node_at plant laws (rule before) (next_depth (owed before))) (λ (before : List (NodeOver Row)). is_owed (owed before)) (text_over line_of) ns
+      prints_many (λ before. node_at plant laws (rule before) (slice_index_or (owed before) 0 0)) (λ (before : List (NodeOver Row)). is_some (slice_get (owed before) 0)) (text_over line_of) ns
       (λ before x after whole.
       let ready : IsReady line_of plant laws (rule before) (owed before) x =
       node_ready (rule before) (owed before) x (map (node_of row_of) after) few

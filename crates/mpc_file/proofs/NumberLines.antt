@@ -2,19 +2,18 @@
 use Rattle.std.proofs.Common.{◌≡◌, ℕ, ◌^◌, ◌<◌, eqb, List, [], ◌∷◌, ◌++◌, map, flat_map, All, codes, ℤ, pos, unsigned_abs, decimal, refl, sym, ap, ◌∙◌, subst, lit<, append-nil}
 use Rattle.std.specs.Fmt.{signed_decimal}
 use Rattle.std.proofs.lemmas.Bool.{eq-eqb, cond-true}
-use Rattle.std.proofs.lemmas.List.Elements.{All-nil, All-cons, All-head, All-tail, All-map}
+use Rattle.std.proofs.lemmas.List.Elements.{All-nil, All-cons, All-head, All-tail}
 use native.Mathlib.Nat.{eq-one_of_dvd-one}
 use Rattle.mpc_exact.specs.Gcd.{gcd, gcd-divides_right}
 use Rattle.mpc_exact.specs.Rational.{ℚ, int, frac_parts}
 use Rattle.mpc_frac.specs.Fits.{FitsFrac}
 use Rattle.mpc_frac.specs.Text.{text_of as fraction_text}
-use Rattle.mpc_linear.specs.Whole.{AreSmall}
 use Rattle.mpc_words.specs.Numerals.{numeral}
 use Rattle.mpc_words.specs.Words.{line}
-use Rattle.mpc_file.specs.Lines.{count_line, integers_line, fractions_line, pair_words, cert_line}
+use Rattle.mpc_file.specs.Lines.{count_line, fractions_line, pair_words, cert_line}
 use Rattle.mpc_file.specs.PlantGrammar.{AllFit}
 use Rattle.mpc_file.specs.Spelling.{numeral_line}
-use Rattle.mpc_file.proofs.SpellingLemmas.{IsSmall, behind_name}
+use Rattle.mpc_file.proofs.SpellingLemmas.{behind_name}
 
 -- ---- whole numbers are fractions
 coprime_to_one : (n : ℕ) → gcd n 1 ≡ 1

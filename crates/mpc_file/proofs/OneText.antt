@@ -1,7 +1,7 @@
 -- What is read determines the bytes that it is read from. This holds of the ways in which grammars are joined where it holds of their parts and
 -- what both parts state determines what the first does.
 use Rattle.std.proofs.Common.{◌≡◌, ℕ, ◌≤◌, Bool, nat_lt, List, [], ◌∷◌, ◌++◌, length, refl, sym, ap, subst, ◌∙◌, arith, length-append, ltb-false}
-use Rattle.mpc_file.specs.Reading.{Cursor, LineRule, Grammar, one_line, give, ◌>>=◌, that_which, ReadsItems, no_item, one_more, ReadsAll, many}
+use Rattle.mpc_file.specs.Reading.{Cursor, LineRule, Grammar, one_line, give, ◌>>=◌, that_which, ReadsItems, no_item, one_more, many}
 use Rattle.mpc_file.specs.PlantGrammar.{plain_rule, so_many}
 use Rattle.mpc_file.proofs.LineNumbers.{same_front, same_back}
 use Rattle.mpc_file.proofs.LawExact.{so_few}
@@ -71,7 +71,7 @@ pub text_so_many : {X : Type 0} (count : ℕ) (rule : LineRule X) → ((line oth
 text_so_many {X} count rule one = text_many (λ items. one_line rule) (λ (items : List X). nat_lt (length items) count) (λ items. text_line rule one)
 
 -- so many items are read as are asked for
-pub so_many_read : {X : Type 0} (item : List X → Grammar X) (count : ℕ) (here : Cursor) (items : List X) (behind : Cursor) → ReadsAll item (λ items. nat_lt (length items) count) here items behind → length items ≡ count
+pub so_many_read : {X : Type 0} (item : List X → Grammar X) (count : ℕ) (here : Cursor) (items : List X) (behind : Cursor) → (many item (λ items. nat_lt (length items) count)).Reads here items behind → length items ≡ count
 so_many_read item count here items behind h =
     let low : length items ≤ count = so_few item count here items behind h.0 in
     omega (arith, ltb-false (length items) count h.1)

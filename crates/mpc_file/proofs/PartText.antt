@@ -1,5 +1,7 @@
 -- The parts of a controller's file determine the bytes that they are read from.
-use Rattle.std.proofs.Common.{◌≡◌, ℕ, ◌+◌, ◌*◌, List, [], ◌∷◌, map, length, codes, refl, sym, ap, ◌∙◌}
+use Rattle.std.specs.Prelude.{slice_index_or}
+use Rattle.std.proofs.Common.{◌<◌, ◌^◌, ◌≤◌, ◌≡◌, ℕ, ◌+◌, ◌*◌, List, [], ◌∷◌, ◌++◌, map, length, codes, refl, sym, ap, ◌∙◌, take-append-drop}
+use Rattle.mpc_space.specs.Vector.{zeros}
 use Rattle.mpc_exact.specs.Rational.{ℚ}
 use Rattle.mpc_linear.specs.declared.integers.RowInt.{RowInt}
 use Rattle.mpc_plant.specs.declared.plants.Plant.{Plant}
@@ -15,13 +17,12 @@ use Rattle.mpc_file.specs.declared.versions.Version.TheVariants.{One, Two, Three
 use Rattle.mpc_file.specs.declared.plant_parts.Sizes.{Sizes}
 use Rattle.mpc_file.specs.declared.plant_parts.Dynamics.{Dynamics}
 use Rattle.mpc_file.specs.declared.plant_parts.Weights.{Weights}
-use Rattle.mpc_file.specs.declared.plant_parts.Targets.{Targets}
 use Rattle.mpc_file.specs.declared.plant_parts.Offsets.{Offsets}
 use Rattle.mpc_file.specs.declared.plant_parts.Limits.{Limits}
 use Rattle.mpc_file.specs.Reading.{Cursor, LineRule, one_line}
-use Rattle.mpc_file.specs.PlantGrammar.{AreSizes, plain_rule, IsMatrix, IsWeightLine, dynamics, weights, IsDrift, AreTargetsOf, no_offsets, offsets_with, offset_lines, offsets, IsRowCount, IsRow, IsLast, row_list, last_list, IsAxis, limits, IsPlantWith, plant}
-use Rattle.mpc_file.specs.LawGrammar.{IsLawLine, IsForm, move_rule, moves, law_with, written_law, IsLawCount, law_count, written_laws, IsShortCount, IsNewForm, forms, used_behind, AreFormNumbers, named_moves_rule, named_mults, NamedLaw, used_by, named_law, named_laws}
-use Rattle.mpc_file.specs.TreeGrammar.{IsCertLine, certs, NodeLine, split_at, leaf_of, no_move, StatesNode, splits, names_law, has_none, node_rule, NodeOver, split_node, law_node, no_move_node, node_behind, node_at, owed, next_depth, nodes, written_split, written_node, IsWord, written_tree, IsPlaneCount, plane_rule, planes, planes_used, named_split, named_tree}
+use Rattle.mpc_file.specs.PlantGrammar.{AreSizes, plain_rule, IsMatrix, IsWeightLine, dynamics, weights, IsGoal, offsets_with, offset_lines, offsets, IsRow, row_list, last_list, IsAxis, limits, IsPlantWith, plant, AreNumbers, IsNumber, UsesAll, StatesNew}
+use Rattle.mpc_file.specs.LawGrammar.{IsLawLine, move_rule, moves, law_with, written_law, law_count, written_laws, forms, used_behind, AreFormNumbers, named_moves_rule, named_mults, NamedLaw, used_by, named_law, named_laws}
+use Rattle.mpc_file.specs.TreeGrammar.{IsCertLine, certs, NodeLine, split_at, leaf_of, no_move, StatesNode, splits, names_law, has_none, node_rule, NodeOver, split_node, law_node, no_move_node, node_behind, node_at, owed, nodes, written_split, IsWord, written_tree, plane_rule, planes, planes_used, named_split, named_tree, node_of}
 use Rattle.mpc_file.proofs.OneText.{HasOneText, text_line, text_plain, text_give, text_that, text_with, text_many, text_so_many, so_many_read}
 
 -- ---- the plant
@@ -34,39 +35,39 @@ text_dynamics s =
 
 text_weights : (s : Sizes) → HasOneText (weights s)
 text_weights s =
-    text_with _ _ (λ (w : Weights). w.q) (text_plain (IsWeightLine (codes "Q") s.states) (λ line other x h k. h.spelled ∙ sym k.spelled))
-    (λ q. text_with _ _ (λ (w : Weights). w.r) (text_plain (IsWeightLine (codes "R") s.inputs) (λ line other x h k. h.spelled ∙ sym k.spelled))
-    (λ r. text_with _ _ (λ (w : Weights). w.last) (text_plain (IsWeightLine (codes "P") s.states) (λ line other x h k. h.spelled ∙ sym k.spelled))
+    text_with _ _ (λ (w : Weights). w.q) (text_plain (IsWeightLine (codes "Q") s.states) (λ line other x h k. h.matrix_is.spelled ∙ sym k.matrix_is.spelled))
+    (λ q. text_with _ _ (λ (w : Weights). w.r) (text_plain (IsWeightLine (codes "R") s.inputs) (λ line other x h k. h.matrix_is.spelled ∙ sym k.matrix_is.spelled))
+    (λ r. text_with _ _ (λ (w : Weights). w.last) (text_plain (IsWeightLine (codes "P") s.states) (λ line other x h k. h.matrix_is.spelled ∙ sym k.matrix_is.spelled))
     (λ last. text_give (record { q = q; r = r; last = last })) (λ here last y behind h. ap (λ (w : Weights). w.last) h.0))
     (λ here r y behind h. ap (λ (w : Weights). w.r) h.1.1.1.0))
     (λ here q y behind h. ap (λ (w : Weights). w.q) h.1.1.1.1.1.1.0)
 
-abbrev targets_in : Offsets → Targets
-targets_in o = record { xgoal = o.xgoal; ugoal = o.ugoal }
+abbrev goal_in : Offsets → List ℚ
+goal_in o = o.xgoal ++ o.ugoal
 
 text_offset_lines : (version : Version) (s : Sizes) → HasOneText (offset_lines version s)
 text_offset_lines version s =
-    text_with _ _ (λ (o : Offsets). o.drift) (text_plain (IsDrift s.states) (λ line other x h k. h.spelled ∙ sym k.spelled))
-    (λ drift. text_with _ _ targets_in (text_plain (AreTargetsOf version s drift) (λ line other x h k. h.targets_are.spelled ∙ sym k.targets_are.spelled))
-    (λ targets. text_give (offsets_with drift targets)) (λ here targets y behind h. ap targets_in h.0))
+    text_with _ _ (λ (o : Offsets). o.drift) (text_plain (AreNumbers (codes "drift") s.states) (λ line other x h k. h.spelled ∙ sym k.spelled))
+    (λ drift. text_with _ _ goal_in (text_plain (IsGoal version s drift) (λ line other x h k. h.numbers_are.spelled ∙ sym k.numbers_are.spelled))
+    (λ goal. text_give (offsets_with s drift goal)) (λ here goal y behind h. ap goal_in h.0 ∙ take-append-drop s.states goal))
     (λ here drift y behind h. ap (λ (o : Offsets). o.drift) h.1.1.1.0)
 
 text_offsets : (version : Version) (s : Sizes) → HasOneText (offsets version s)
-text_offsets One s = text_give (no_offsets s)
+text_offsets One s = text_give (record { drift = zeros s.states; xgoal = zeros s.states; ugoal = zeros s.inputs })
 text_offsets Two s = text_offset_lines Two s
 text_offsets Three s = text_offset_lines Three s
 
 text_row_list : (version : Version) (s : Sizes) → HasOneText (row_list version s)
 text_row_list version s =
-    text_with _ _ length (text_plain (IsRowCount (codes "rows") s.steps 0 (greatest_rows version (s.inputs * s.steps))) (λ line other x h k. h.spelled ∙ sym k.spelled))
-    (λ count. text_so_many count (plain_rule (IsRow s)) (λ line other x h k. h.spelled ∙ sym k.spelled))
-    (λ here count y behind h. so_many_read (λ items. one_line (plain_rule (IsRow s))) count here y behind h)
+    text_with _ _ length (text_plain (IsNumber (codes "rows") (λ number. s.steps * number + 0 ≤ (greatest_rows version (s.inputs * s.steps)))) (λ line other x h k. h.spelled ∙ sym k.spelled))
+    (λ count. text_so_many count (plain_rule (IsRow (codes "row") s.states s.inputs)) (λ line other x h k. h.spelled ∙ sym k.spelled))
+    (λ here count y behind h. so_many_read (λ items. one_line (plain_rule (IsRow (codes "row") s.states s.inputs))) count here y behind h)
 
 text_last_list : (version : Version) (s : Sizes) (rows : List PlantRow) → HasOneText (last_list version s rows)
 text_last_list version s rows =
-    text_with _ _ length (text_plain (IsRowCount (codes "terminal") 1 (s.steps * length rows) (greatest_rows version (s.inputs * s.steps))) (λ line other x h k. h.spelled ∙ sym k.spelled))
-    (λ count. text_so_many count (plain_rule (IsLast s)) (λ line other x h k. h.spelled ∙ sym k.spelled))
-    (λ here count y behind h. so_many_read (λ items. one_line (plain_rule (IsLast s))) count here y behind h)
+    text_with _ _ length (text_plain (IsNumber (codes "terminal") (λ number. 1 * number + (s.steps * length rows) ≤ (greatest_rows version (s.inputs * s.steps)))) (λ line other x h k. h.spelled ∙ sym k.spelled))
+    (λ count. text_so_many count (plain_rule (IsRow (codes "last") s.states 0)) (λ line other x h k. h.spelled ∙ sym k.spelled))
+    (λ here count y behind h. so_many_read (λ items. one_line (plain_rule (IsRow (codes "last") s.states 0))) count here y behind h)
 
 text_limits : (version : Version) (s : Sizes) → HasOneText (limits version s)
 text_limits version s =
@@ -128,13 +129,13 @@ text_written_law : (plant : Plant) → HasOneText (written_law plant)
 text_written_law plant =
     text_with _ _ (λ (law : Law). law.set) (text_plain (IsLawLine plant) (λ line other x h k. h.spelled ∙ sym k.spelled))
     (λ set. text_with _ _ (λ (law : Law). law.moves.rows) (text_moves plant)
-    (λ zs. text_with _ _ (λ (law : Law). law.mults.rows) (text_so_many (length set) (plain_rule (IsForm (codes "mult") plant.n)) (λ line other x h k. h.spelled ∙ sym k.spelled))
+    (λ zs. text_with _ _ (λ (law : Law). law.mults.rows) (text_so_many (length set) (plain_rule (AreNumbers (codes "mult") (plant.n + 1))) (λ line other x h k. h.spelled ∙ sym k.spelled))
     (λ ls. text_give (law_with plant set zs ls)) (λ here ls y behind h. ap (λ (law : Law). law.mults.rows) h.0))
     (λ here zs y behind h. ap (λ (law : Law). law.moves.rows) h.1.1.1.0))
     (λ here set y behind h. ap (λ (law : Law). law.set) h.1.1.1.1.1.1.0)
 
 text_law_count : HasOneText law_count
-text_law_count = text_plain IsLawCount (λ line other x h k. h.spelled ∙ sym k.spelled)
+text_law_count = text_plain (IsNumber (codes "laws") (λ number. number ≤ 4598479)) (λ line other x h k. h.spelled ∙ sym k.spelled)
 
 pub text_written_laws : (plant : Plant) → HasOneText (written_laws plant)
 text_written_laws plant =
@@ -142,9 +143,9 @@ text_written_laws plant =
 
 pub text_forms : (plant : Plant) → HasOneText (forms plant)
 text_forms plant =
-    text_with _ _ length (text_plain (IsShortCount (codes "forms")) (λ line other x h k. h.spelled ∙ sym k.spelled))
-    (λ count. text_many _ _ (λ before. text_plain (IsNewForm plant.n before) (λ line other x h k. h.form_is.spelled ∙ sym k.form_is.spelled)))
-    (λ here count y behind h. so_many_read (λ before. one_line (plain_rule (IsNewForm plant.n before))) count here y behind h)
+    text_with _ _ length (text_plain (IsNumber (codes "forms") (λ number. number < 10 ^ 18)) (λ line other x h k. h.spelled ∙ sym k.spelled))
+    (λ count. text_many _ _ (λ before. text_plain (StatesNew before (AreNumbers (codes "form") (plant.n + 1))) (λ line other x h k. h.stated.spelled ∙ sym k.stated.spelled)))
+    (λ here count y behind h. so_many_read (λ before. one_line (plain_rule (StatesNew before (AreNumbers (codes "form") (plant.n + 1))))) count here y behind h)
 
 text_named_mults : (fs : List (List ℚ)) (used : ℕ) (set : List ℕ) → HasOneText (named_mults fs used set)
 text_named_mults fs used [] = text_give []
@@ -206,7 +207,7 @@ text_node plant laws split one depth =
     text_with _ _ line_in (text_line (node_rule laws split) (one_node_line laws split one)) (λ node. text_node_behind plant depth node) (λ here node y behind h. its_line plant depth here node y behind h)
 
 text_nodes : {Row : Type 0} (plant : Plant) (laws : ℕ) (split : List (NodeOver Row) → LineRule Row) → ((before : List (NodeOver Row)) (line other : List ℕ) (x : Row) → (split before).States line x → (split before).States other x → line ≡ other) → HasOneText (nodes plant laws split)
-text_nodes plant laws split one = text_many _ _ (λ before. text_node plant laws (split before) (one before) (next_depth (owed before)))
+text_nodes plant laws split one = text_many _ _ (λ before. text_node plant laws (split before) (one before) (slice_index_or (owed before) 0 0))
 
 pub text_word : (word : List ℕ) → HasOneText (one_line (plain_rule (IsWord word)))
 text_word word = text_plain (IsWord word) (λ line other x h k. h ∙ sym k)
@@ -216,12 +217,12 @@ node_in (Split row) = split_node row
 node_in (LawLeaf j cs) = law_node j cs
 node_in (NoMove c) = no_move_node c
 
-its_node : (node : NodeOver RowInt) → node_in (written_node node) ≡ node
+its_node : (node : NodeOver RowInt) → node_in ((node_of (λ row. row)) node) ≡ node
 its_node (split_node row) = refl
 its_node (law_node j cs) = refl
 its_node (no_move_node c) = refl
 
-its_nodes : (ns : List (NodeOver RowInt)) → map node_in (map written_node ns) ≡ ns
+its_nodes : (ns : List (NodeOver RowInt)) → map node_in (map (node_of (λ row. row)) ns) ≡ ns
 its_nodes [] = refl
 its_nodes (n ∷ ns) = λ i. its_node n i ∷ its_nodes ns i
 
@@ -229,13 +230,13 @@ pub text_written_tree : (plant : Plant) (laws : ℕ) → HasOneText (written_tre
 text_written_tree plant laws =
     text_with _ _ (λ tree. tt) (text_word (codes "tree"))
     (λ u. text_with _ _ (map node_in) (text_nodes plant laws (λ before. written_split plant) (λ before line other x h k. h.row_is.spelled ∙ sym k.row_is.spelled))
-    (λ ns. text_give (map written_node ns)) (λ here ns y behind h. ap (map node_in) h.0 ∙ its_nodes ns))
+    (λ ns. text_give (map (node_of (λ row. row)) ns)) (λ here ns y behind h. ap (map node_in) h.0 ∙ its_nodes ns))
     (λ here u y behind h. refl)
 
 pub text_planes : (plant : Plant) (all used : ℕ) → HasOneText (planes plant all used)
 text_planes plant all used =
-    text_with _ _ length (text_plain (IsPlaneCount all used) (λ line other x h k. h.count_is.spelled ∙ sym k.count_is.spelled))
-    (λ count. text_many _ _ (λ before. text_line (plane_rule plant before) (λ line other x h k. h.plane_is.row_is.spelled ∙ sym k.plane_is.row_is.spelled)))
+    text_with _ _ length (text_plain (UsesAll all used (IsNumber (codes "planes") (λ number. number < 10 ^ 18))) (λ line other x h k. h.stated.spelled ∙ sym k.stated.spelled))
+    (λ count. text_many _ _ (λ before. text_line (plane_rule plant before) (λ line other x h k. h.stated.row_is.spelled ∙ sym k.stated.row_is.spelled)))
     (λ here count y behind h. so_many_read (λ before. one_line (plane_rule plant before)) count here y behind h)
 
 pub text_named_tree : (plant : Plant) (laws : ℕ) (ps : List RowInt) → HasOneText (named_tree plant laws ps)

@@ -1,5 +1,5 @@
 -- Planes that are named by their numbers: one node more.
-use Rattle.std.proofs.Common.{◌≡◌, ℕ, ◌+◌, ◌-◌, ◌^◌, ◌<◌, ◌≤◌, List, [], ◌∷◌, ◌++◌, length, map, refl, sym, ◌∙◌, ap, subst, append_assoc, arith, length-append}
+use Rattle.std.proofs.Common.{◌≡◌, pos, ℕ, ◌+◌, ◌-◌, ◌^◌, ◌<◌, ◌≤◌, List, [], ◌∷◌, ◌++◌, length, map, refl, sym, ◌∙◌, ap, subst, append_assoc, arith, length-append}
 use Rattle.std.specs.Prelude.{All, fold, slice_index_or, codes, Result, Ok, Err, OnOk}
 use Rattle.std.specs.List.{flat_map}
 use Rattle.std.specs.Global.{Vec}
@@ -13,7 +13,7 @@ use Rattle.mpc_rows.specs.declared.trees.Node.{Node}
 use Rattle.mpc_rows.specs.declared.trees.Node.TheVariants.{Split, Law as LawLeaf, NoMove}
 use Rattle.mpc_file.specs.Lines.{count_line}
 use Rattle.mpc_file.specs.LineTheorems.{WordTheorems, OneIntegers}
-use Rattle.mpc_file.specs.TreeGrammar.{NodeOver, used_with, named_node, no_plane, plane_named}
+use Rattle.mpc_file.specs.TreeGrammar.{NodeOver, used_with, plane_named, node_of}
 use Rattle.mpc_file.specs.TreeGrammar.NodeOver.{split_node, law_node, no_move_node}
 use Rattle.mpc_file.specs.Writing.{ended, text_of_lines}
 use Rattle.mpc_file.specs.Names.{AreNames, IsNamed}
@@ -37,7 +37,7 @@ one_plane one plant x y good other e =
 pub split_numbered : OneIntegers → (plant : Plant) (planes : List RowInt) (row : RowInt) (k : ℕ) (old new : List ℕ) (names next : List (List ℕ) → Type 0) → IsGoodPlane plant row → ArePlanes plant names planes → IsNamed (map plane_line planes) (plane_line row) k next
     → new ≡ old ++ ended (count_line (codes "split") k) → IsNodeNumbered plant planes (Split row) old new next
 split_numbered one plant planes row k old new names next good are named text =
-    let step : IsItemStep plane_line (IsGoodPlane plant) no_plane planes row k next = item_step plane_line (IsGoodPlane plant) no_plane (one_plane one plant) planes row k next are.good good named in
+    let step : IsItemStep plane_line (IsGoodPlane plant) (record { a = []; b = pos 0 }) planes row k next = item_step plane_line (IsGoodPlane plant) (record { a = []; b = pos 0 }) (one_plane one plant) planes row k next are.good good named in
     record {
       behind = step.more;
       all = planes ++ step.more;
@@ -85,14 +85,14 @@ bare_numbered plant planes cert old new names are text fits =
 
 -- ---- all nodes
 plane_front : (ps more : List RowInt) (k : ℕ) → 1 ≤ k → k ≤ length ps → plane_named (ps ++ more) k ≡ plane_named ps k
-plane_front ps more k one most = get_or-append ps more no_plane (k - 1) (omega arith)
+plane_front ps more k one most = get_or-append ps more (record { a = []; b = pos 0 }) (k - 1) (omega arith)
 
-node_front : (ps more : List RowInt) (used : ℕ) (node : NodeOver ℕ) → NamesInOrder (length ps) used node → named_node (ps ++ more) node ≡ named_node ps node
+node_front : (ps more : List RowInt) (used : ℕ) (node : NodeOver ℕ) → NamesInOrder (length ps) used node → node_of (plane_named (ps ++ more)) node ≡ node_of (plane_named ps) node
 node_front ps more used (split_node k) h = ap Split (plane_front ps more k h.0 h.1)
 node_front ps more used (law_node j cs) h = refl
 node_front ps more used (no_move_node c) h = refl
 
-nodes_front : (ps more : List RowInt) (used : ℕ) (nodes : List (NodeOver ℕ)) → PlanesInOrder (length ps) used nodes → map (named_node (ps ++ more)) nodes ≡ map (named_node ps) nodes
+nodes_front : (ps more : List RowInt) (used : ℕ) (nodes : List (NodeOver ℕ)) → PlanesInOrder (length ps) used nodes → map (node_of (plane_named (ps ++ more))) nodes ≡ map (node_of (plane_named ps)) nodes
 nodes_front ps more used [] h = refl
 nodes_front ps more used (node ∷ nodes) h = λ i. node_front ps more used node h.0 i ∷ nodes_front ps more (used_with used node) nodes h.1 i
 
@@ -123,7 +123,7 @@ nodes_more plant nodes node old mid new names next a l =
       planes = l.all;
       named = a.named ++ l.named ∷ [];
       planes_are = l.planes_are;
-      nodes_are = map-append (named_node l.all) a.named (l.named ∷ []) ∙ ap (λ t. t ++ named_node l.all l.named ∷ []) (ap (λ ps. map (named_node ps) a.named) l.all_are ∙ nodes_front a.planes l.behind 0 a.named a.in_order ∙ a.nodes_are) ∙ ap (λ n. nodes ++ n ∷ []) l.node_is;
+      nodes_are = map-append (node_of (plane_named l.all)) a.named (l.named ∷ []) ∙ ap (λ t. t ++ node_of (plane_named l.all) l.named ∷ []) (ap (λ ps. map (node_of (plane_named ps)) a.named) l.all_are ∙ nodes_front a.planes l.behind 0 a.named a.in_order ∙ a.nodes_are) ∙ ap (λ n. nodes ++ n ∷ []) l.node_is;
       text = l.text ∙ ap (λ t. t ++ node_text l.named) a.text ∙ append_assoc old (flat_map node_text a.named) (node_text l.named) ∙ ap (λ t. old ++ t) (sym (pieces-push node_text a.named l.named));
       in_order = order_more (length l.all) 0 a.named l.named (nodes_wider (length a.planes) (length l.all) 0 a.named (omega arith) a.in_order) (subst (λ u. NamesInOrder (length l.all) u l.named) (sym a.used) l.in_order);
       used = fold_last 0 a.named l.named ∙ ap (λ u. used_with u l.named) a.used ∙ l.used;

@@ -10,8 +10,9 @@ use Rattle.mpc_file.specs.declared.errors.FileError.{FileError}
 use Rattle.mpc_file.specs.TreeReading.{plane_rows}
 use Rattle.mpc_file.proofs.OutcomeLemmas.{item_error, asks_for_more}
 use Rattle.mpc_file.specs.Lines.{count_line}
-use Rattle.mpc_file.specs.TreeGrammar.{IsPlane, IsRowOf, IsPlaneLine, IsNoPlane, IsNewPlane, plane_rule}
+use Rattle.mpc_file.specs.TreeGrammar.{IsPlane, IsRowOf, IsPlaneLine, IsNoPlane, plane_rule}
 use Rattle.mpc_file.specs.PlaneReading.{plane_text, AreLinesOf}
+use Rattle.mpc_file.specs.PlantGrammar.{StatesNew}
 use Rattle.mpc_file.specs.LineTheorems.{OneIntegers}
 
 -- a row's entries and its bound
@@ -39,17 +40,17 @@ module _ (one : OneIntegers) (lines : List (List ℕ)) (rows : List RowInt) (are
       let same : x ≡ r.0 = same_row x r.0 (one (codes "plane") (x.a ++ x.b ∷ []) (r.0.a ++ r.0.b ∷ []) is.small p.1 (sym is.spelled ∙ r.1.1)) in
       subst (Contains rows) (sym same) r.1.0
 
-  pub not_new : ¬ (¬ Contains lines text) → (x : RowInt) → ¬ IsNewPlane n rows text x
-  not_new h x is = h (λ c. is.new_one (found c x is.plane_is.row_is))
+  pub not_new : ¬ (¬ Contains lines text) → (x : RowInt) → ¬ StatesNew rows (IsPlaneLine (codes "plane") n) text x
+  not_new h x is = h (λ c. is.new_one (found c x is.stated.row_is))
 
   pub no_other : ¬ (¬ Contains lines text) → ¬ IsNoPlane (codes "plane") n text
   no_other h (row, (is, none)) = h (λ c. none (All-contains (λ r. IsPlane r × AreSmall (r.a ++ r.b ∷ [])) rows row are.each_plane (found c row is)).0)
 
   -- a plane whose line doesn't
-  pub is_new : ¬ Contains lines text → (x : RowInt) → IsPlaneLine (codes "plane") n text x → IsNewPlane n rows text x
+  pub is_new : ¬ Contains lines text → (x : RowInt) → IsPlaneLine (codes "plane") n text x → StatesNew rows (IsPlaneLine (codes "plane") n) text x
   is_new h x is =
       record {
-        plane_is = is;
+        stated = is;
         new_one = λ c. h (subst (Contains lines) (sym is.row_is.spelled) (All-contains (λ row. Contains lines (plane_text row)) rows x are.each_line c));
       }
 

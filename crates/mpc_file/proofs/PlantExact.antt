@@ -2,10 +2,10 @@
 use Rattle.std.proofs.Common.{◌≡◌, ℕ, zero, suc, ◌+◌, ◌*◌, ◌≤◌, Bool, true, false, nat_lt, cond, List, [], ◌∷◌, ◌++◌, length, codes, decimal, refl, sym, subst, ◌∙◌, arith, All, suc-mul, flat_map, length-append}
 use mathlib.Core.HLevel.{is_prop→PathP}
 use Rattle.std.proofs.Props.{props}
-use Rattle.std.proofs.lemmas.List.Elements.{All-append, All-from_recursion}
+use Rattle.std.proofs.lemmas.List.Elements.{All-from_recursion}
 use Rattle.mpc_exact.specs.Rational.{ℚ}
+use Rattle.mpc_space.specs.Vector.{zeros}
 use Rattle.mpc_space.specs.Matrix.{RationalMatrix}
-use Rattle.mpc_frac.specs.Fits.{FitsFrac}
 use Rattle.mpc_frac.specs.Text.{text_of}
 use Rattle.mpc_plant.specs.Limits.{IsPlant}
 use Rattle.mpc_plant.specs.declared.plants.Plant.{Plant}
@@ -19,10 +19,9 @@ use Rattle.mpc_file.specs.declared.versions.Version.TheVariants.{One, Two, Three
 use Rattle.mpc_file.specs.declared.plant_parts.Sizes.{Sizes}
 use Rattle.mpc_file.specs.declared.plant_parts.Dynamics.{Dynamics}
 use Rattle.mpc_file.specs.declared.plant_parts.Weights.{Weights}
-use Rattle.mpc_file.specs.declared.plant_parts.Targets.{Targets}
 use Rattle.mpc_file.specs.declared.plant_parts.Offsets.{Offsets}
 use Rattle.mpc_file.specs.declared.plant_parts.Limits.{Limits}
-use Rattle.mpc_file.specs.PlantGrammar.{AllFit, AreSizes, plain_rule, sizes, IsMatrix, IsWeightLine, matrix, weight, dynamics, weights, IsDrift, AreTargets, AreTargetsOf, no_offsets, offsets_with, offset_lines, offsets, IsRowCount, IsRow, IsLast, so_many, row_list, last_list, IsAxis, grid, limits, IsPlantWith, plant}
+use Rattle.mpc_file.specs.PlantGrammar.{AllFit, AreSizes, plain_rule, IsMatrix, IsWeightLine, matrix, weight, dynamics, weights, IsGoal, offsets_with, offset_lines, offsets, IsRow, so_many, row_list, last_list, IsAxis, limits, IsPlantWith, plant, AreNumbers, IsNumber}
 use Rattle.mpc_file.proofs.Exactness.{IsExactAt, IsExactRule, CutTheorems, exact_line, exact_give, exact_that, exact_both, exact_many}
 use Rattle.mpc_file.specs.LineTheorems.{WordTheorems}
 use Rattle.mpc_file.proofs.LineNumbers.{IsShortNumber, without, same_front, same_back, same_rows, all_in_rows, one_words, one_decimal, decimal_word, one_naturals, one_count, one_fractions}
@@ -81,11 +80,6 @@ few_rows One unknowns = omega arith
 few_rows Two unknowns = omega arith
 few_rows Three unknowns = either_limit _
 
-both_empty : {A : Type 0} (xs ys : List A) → length xs ≡ 0 → length ys ≡ 0 → xs ≡ ys
-both_empty [] [] h k = refl
-both_empty [] (y ∷ ys) h k = absurd (omega arith)
-both_empty (x ∷ xs) ys h k = absurd (omega arith)
-
 module _ (cuts : CutTheorems) (laws : WordTheorems) where
   pub exact_plain : {X : Type 0} (states : List ℕ → X → Type 0) → ((line : List ℕ) (x y : X) → states line x → states line y → x ≡ y) → (here : Cursor) → IsExactAt (one_line (plain_rule states)) here
   exact_plain states one here = exact_line cuts (plain_rule states) (record { one = one; no_bad_node = λ line x h k. k }) here
@@ -108,7 +102,7 @@ module _ (cuts : CutTheorems) (laws : WordTheorems) where
       let c : s.steps ≡ t.steps = cc in
       λ i. record { states = a i; inputs = b i; steps = c i }
 
-  exact_sizes : (here : Cursor) → IsExactAt sizes here
+  exact_sizes : (here : Cursor) → IsExactAt (one_line (plain_rule AreSizes)) here
   exact_sizes here = exact_plain AreSizes one_sizes here
 
   -- ---- the matrices
@@ -123,7 +117,7 @@ module _ (cuts : CutTheorems) (laws : WordTheorems) where
 
   same_weight : (name : List ℕ) → IsWithout 32 name → (size : ℕ) (line : List ℕ) (m w : RationalMatrix) → IsWeightLine name size line m → IsWeightLine name size line w → m ≡ w
   same_weight name plain size line m w h k =
-      same_matrix name plain size size line m w (record { spelled = h.spelled; shape = h.weight.shape; fits = h.fits }) (record { spelled = k.spelled; shape = k.weight.shape; fits = k.fits })
+      same_matrix name plain size size line m w h.matrix_is k.matrix_is
 
   exact_matrix : (name : List ℕ) → IsWithout 32 name → (rows columns : ℕ) (here : Cursor) → IsExactAt (matrix name rows columns) here
   exact_matrix name plain rows columns here = exact_plain (IsMatrix name rows columns) (same_matrix name plain rows columns) here
@@ -145,41 +139,35 @@ module _ (cuts : CutTheorems) (laws : WordTheorems) where
       (λ last end l. exact_give (record { q = q; r = r; last = last }) end)))
 
   -- ---- the offsets
-  one_drift : (n : ℕ) (line : List ℕ) (x y : List ℚ) → IsDrift n line x → IsDrift n line y → x ≡ y
+  one_drift : (n : ℕ) (line : List ℕ) (x y : List ℚ) → AreNumbers (codes "drift") n line x → AreNumbers (codes "drift") n line y → x ≡ y
   one_drift n line x y h k = one_fractions laws (codes "drift") x y (without 32 (codes "drift") refl) h.fits k.fits (sym h.spelled ∙ k.spelled)
 
-  same_targets : (s : Sizes) (line : List ℕ) (x y : Targets) → AreTargets s line x → AreTargets s line y → x ≡ y
-  same_targets s line x y h k =
-      let all : x.xgoal ++ x.ugoal ≡ y.xgoal ++ y.ugoal =
-      one_fractions laws (codes "goal") (x.xgoal ++ x.ugoal) (y.xgoal ++ y.ugoal) (without 32 (codes "goal") refl)
-      (All-append FitsFrac x.xgoal x.ugoal h.fits_states h.fits_inputs) (All-append FitsFrac y.xgoal y.ugoal k.fits_states k.fits_inputs) (sym h.spelled ∙ k.spelled) in
-      let size : length x.xgoal ≡ length y.xgoal = h.states ∙ sym k.states in
-      let states : x.xgoal ≡ y.xgoal = same_front x.xgoal x.ugoal y.xgoal y.ugoal size all in
-      let inputs : x.ugoal ≡ y.ugoal = same_back x.xgoal x.ugoal y.xgoal y.ugoal size all in
-      λ i. record { xgoal = states i; ugoal = inputs i }
+  one_goal : (version : Version) (s : Sizes) (drift : List ℚ) (line : List ℕ) (x y : List ℚ) → IsGoal version s drift line x → IsGoal version s drift line y → x ≡ y
+  one_goal version s drift line x y h k =
+      one_fractions laws (codes "goal") x y (without 32 (codes "goal") refl) h.numbers_are.fits k.numbers_are.fits (sym h.numbers_are.spelled ∙ k.numbers_are.spelled)
 
   exact_offset_lines : (version : Version) (s : Sizes) (here : Cursor) → IsExactAt (offset_lines version s) here
   exact_offset_lines version s here =
-      exact_both _ _ here (exact_plain (IsDrift s.states) (one_drift s.states) here)
-      (λ drift at h. exact_both _ _ at (exact_plain (AreTargetsOf version s drift) (λ line x y k l. same_targets s line x y k.targets_are l.targets_are) at)
-      (λ targets to k. exact_give (offsets_with drift targets) to))
+      exact_both _ _ here (exact_plain (AreNumbers (codes "drift") s.states) (one_drift s.states) here)
+      (λ drift at h. exact_both _ _ at (exact_plain (IsGoal version s drift) (one_goal version s drift) at)
+      (λ goal to k. exact_give (offsets_with s drift goal) to))
 
   exact_offsets : (version : Version) (s : Sizes) (here : Cursor) → IsExactAt (offsets version s) here
-  exact_offsets One s here = exact_give (no_offsets s) here
+  exact_offsets One s here = exact_give (record { drift = zeros s.states; xgoal = zeros s.states; ugoal = zeros s.inputs }) here
   exact_offsets Two s here = exact_offset_lines Two s here
   exact_offsets Three s here = exact_offset_lines Three s here
 
   -- ---- the rows
-  one_row_count : (name : List ℕ) → IsWithout 32 name → (each others most : ℕ) → 1 ≤ each → most ≤ 60 → (line : List ℕ) (m n : ℕ) → IsRowCount name each others most line m → IsRowCount name each others most line n → m ≡ n
+  one_row_count : (name : List ℕ) → IsWithout 32 name → (each others most : ℕ) → 1 ≤ each → most ≤ 60 → (line : List ℕ) (m n : ℕ) → IsNumber name (λ number. each * number + others ≤ most) line m → IsNumber name (λ number. each * number + others ≤ most) line n → m ≡ n
   one_row_count name plain each others most some few line m n h k =
-      let low : m ≤ most = few_items each m others most some h.few in
-      let high : n ≤ most = few_items each n others most some k.few in
+      let low : m ≤ most = few_items each m others most some h.allowed in
+      let high : n ≤ most = few_items each n others most some k.allowed in
       one_count laws name m n plain (omega arith) (omega arith) (sym h.spelled ∙ k.spelled)
 
-  one_row : (s : Sizes) (line : List ℕ) (x y : PlantRow) → IsRow s line x → IsRow s line y → x ≡ y
-  one_row s line x y h k =
+  one_row : (name : List ℕ) → IsWithout 32 name → (states inputs : ℕ) (line : List ℕ) (x y : PlantRow) → IsRow name states inputs line x → IsRow name states inputs line y → x ≡ y
+  one_row name plain states inputs line x y h k =
       let all : x.x ++ x.u ++ x.max ∷ [] ≡ y.x ++ y.u ++ y.max ∷ [] =
-      one_fractions laws (codes "row") (x.x ++ x.u ++ x.max ∷ []) (y.x ++ y.u ++ y.max ∷ []) (without 32 (codes "row") refl) h.fits k.fits (sym h.spelled ∙ k.spelled) in
+      one_fractions laws name (x.x ++ x.u ++ x.max ∷ []) (y.x ++ y.u ++ y.max ∷ []) plain h.fits k.fits (sym h.spelled ∙ k.spelled) in
       let x_size : length x.x ≡ length y.x = h.sizes.x_size ∙ sym k.sizes.x_size in
       let u_size : length x.u ≡ length y.u = h.sizes.u_size ∙ sym k.sizes.u_size in
       let both_size : length (x.x ++ x.u) ≡ length (y.x ++ y.u) = length-append x.x x.u ∙ (λ i. x_size i + u_size i) ∙ sym (length-append y.x y.u) in
@@ -190,31 +178,20 @@ module _ (cuts : CutTheorems) (laws : WordTheorems) where
       let c : x.max ≡ y.max = cc in
       λ i. record { x = a i; u = b i; max = c i }
 
-  one_last : (s : Sizes) (line : List ℕ) (x y : PlantRow) → IsLast s line x → IsLast s line y → x ≡ y
-  one_last s line x y h k =
-      let all : x.x ++ x.max ∷ [] ≡ y.x ++ y.max ∷ [] =
-      one_fractions laws (codes "last") (x.x ++ x.max ∷ []) (y.x ++ y.max ∷ []) (without 32 (codes "last") refl) h.fits k.fits (sym h.spelled ∙ k.spelled) in
-      let x_size : length x.x ≡ length y.x = h.sizes.x_size ∙ sym k.sizes.x_size in
-      let a : x.x ≡ y.x = same_front x.x (x.max ∷ []) y.x (y.max ∷ []) x_size all in
-      let b : x.u ≡ y.u = both_empty x.u y.u h.sizes.u_size k.sizes.u_size in
-      let last : ◌≡◌ {A = List ℚ} (x.max ∷ []) (y.max ∷ []) = same_back x.x (x.max ∷ []) y.x (y.max ∷ []) x_size all in
-      let c : x.max ≡ y.max = cc in
-      λ i. record { x = a i; u = b i; max = c i }
-
   exact_row_list : (version : Version) (s : Sizes) → 1 ≤ s.steps → (here : Cursor) → IsExactAt (row_list version s) here
   exact_row_list version s some here =
       let most : ℕ = greatest_rows version (s.inputs * s.steps) in
       exact_both _ _ here
-      (exact_plain (IsRowCount (codes "rows") s.steps 0 most) (one_row_count (codes "rows") (without 32 (codes "rows") refl) s.steps 0 most some (few_rows version (s.inputs * s.steps))) here)
-      (λ count at h. exact_so_many count (plain_rule (IsRow s)) (record { one = one_row s; no_bad_node = λ line x k l. l }) at)
+      (exact_plain (IsNumber (codes "rows") (λ number. s.steps * number + 0 ≤ most)) (one_row_count (codes "rows") (without 32 (codes "rows") refl) s.steps 0 most some (few_rows version (s.inputs * s.steps))) here)
+      (λ count at h. exact_so_many count (plain_rule (IsRow (codes "row") s.states s.inputs)) (record { one = one_row (codes "row") (without 32 (codes "row") refl) s.states s.inputs; no_bad_node = λ line x k l. l }) at)
 
   exact_last_list : (version : Version) (s : Sizes) (rows : List PlantRow) (here : Cursor) → IsExactAt (last_list version s rows) here
   exact_last_list version s rows here =
       let most : ℕ = greatest_rows version (s.inputs * s.steps) in
       exact_both _ _ here
-      (exact_plain (IsRowCount (codes "terminal") 1 (s.steps * length rows) most)
+      (exact_plain (IsNumber (codes "terminal") (λ number. 1 * number + (s.steps * length rows) ≤ most))
       (one_row_count (codes "terminal") (without 32 (codes "terminal") refl) 1 (s.steps * length rows) most (omega arith) (few_rows version (s.inputs * s.steps))) here)
-      (λ count at h. exact_so_many count (plain_rule (IsLast s)) (record { one = one_last s; no_bad_node = λ line x k l. l }) at)
+      (λ count at h. exact_so_many count (plain_rule (IsRow (codes "last") s.states 0)) (record { one = one_row (codes "last") (without 32 (codes "last") refl) s.states 0; no_bad_node = λ line x k l. l }) at)
 
   -- ---- the grid
   axis_words : (x : Coordinate) → AllFit (x.low ∷ x.step ∷ []) → IsShortNumber x.count → All (IsWithout 32) (text_of x.low ∷ text_of x.step ∷ decimal x.count ∷ [])
@@ -237,7 +214,7 @@ module _ (cuts : CutTheorems) (laws : WordTheorems) where
       let c : x.count ≡ y.count = one_decimal laws x.count y.count short small count_text in
       λ i. record { low = a i; step = b i; count = c i }
 
-  exact_grid : (s : Sizes) (here : Cursor) → IsExactAt (grid s) here
+  exact_grid : (s : Sizes) (here : Cursor) → IsExactAt (so_many s.states (plain_rule IsAxis)) here
   exact_grid s here = exact_so_many s.states (plain_rule IsAxis) (record { one = one_axis; no_bad_node = λ line x h k. k }) here
 
   -- ---- the plant

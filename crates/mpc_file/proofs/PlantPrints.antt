@@ -1,9 +1,10 @@
 -- A plant's lines are read as the plant.
-use Rattle.std.proofs.Common.{◌≡◌, ℕ, zero, suc, pos, ◌+◌, ◌*◌, ◌<◌, ◌≤◌, ◌^◌, List, [], ◌∷◌, ◌++◌, length, map, refl, sym, ◌∙◌, ap, subst, append_assoc, arith}
+use Rattle.std.proofs.Common.{◌≡◌, ℕ, zero, suc, true, pos, ◌+◌, ◌*◌, ◌<◌, ◌≤◌, ◌^◌, List, [], ◌∷◌, ◌++◌, length, take, drop, map, refl, sym, ◌∙◌, ap, subst, append_assoc, length-append, arith}
 use Rattle.std.specs.Prelude.{All, codes, decimal}
 use Rattle.std.specs.List.{flat_map}
 use Rattle.std.proofs.lemmas.List.Concat.{flat_map-append}
-use Rattle.std.proofs.lemmas.List.Elements.{All-nil, All-cons, All-head, All-tail, All-append}
+use Rattle.std.proofs.lemmas.List.Elements.{All-nil, All-cons, All-head, All-tail, All-append, All-take, All-drop}
+use Rattle.std.proofs.Math.Seq.{take-append_seam, drop-append_seam}
 use Rattle.mpc_exact.specs.Rational.{ℚ, int}
 use Rattle.mpc_space.specs.Vector.{zeros}
 use Rattle.mpc_space.specs.Matrix.{RationalMatrix}
@@ -17,23 +18,23 @@ use Rattle.mpc_plant.specs.declared.lists.Coordinate.{Coordinate}
 use Rattle.mpc_controller.specs.Parts.{row_count}
 use Rattle.mpc_words.specs.Words.{IsWithout}
 use Rattle.mpc_file.specs.Reading.{one_line, give, that_which, ◌>>=◌}
-use Rattle.mpc_file.specs.Lines.{count_line, matrix_line, row_line, last_line, grid_line}
-use Rattle.mpc_file.specs.PlantGrammar.{AllFit, AreSizes, plain_rule, sizes, IsMatrix, IsWeightLine, matrix, weight, dynamics, weights, IsDrift, AreTargetsOf, AreZero, AreAllZero, MayHave, no_offsets, offsets_with, offset_lines, offsets, IsRowCount, IsRow, IsLast, so_many, row_list, last_list, IsAxis, grid, limits, IsPlantWith, plant}
+use Rattle.mpc_file.specs.Lines.{count_line, matrix_line, row_line, grid_line}
+use Rattle.mpc_file.specs.PlantGrammar.{AllFit, AreSizes, plain_rule, IsMatrix, IsWeightLine, matrix, weight, dynamics, weights, IsGoal, AreZero, MayHave, offsets_with, offset_lines, offsets, IsRow, so_many, row_list, last_list, IsAxis, limits, IsPlantWith, plant, AreNumbers, IsNumber}
 use Rattle.mpc_file.specs.Versions.{greatest_rows}
 use Rattle.mpc_file.specs.LawGrammar.{unknowns}
 use Rattle.mpc_file.specs.LineTheorems.{WordTheorems}
 use Rattle.mpc_file.specs.Writing.{Prints, ended, text_of_lines, size_line, drift_line, goal_line, row_lines, last_lines, plant_lines}
-use Rattle.mpc_file.specs.Statable.{offsets_of, CanStatePlant}
-use Rattle.mpc_file.specs.WrittenFits.{RowFits, LastFits, AxisFits, MatricesFit, GoalFits, PlantFits}
+use Rattle.mpc_file.specs.Statable.{CanStatePlant}
+use Rattle.mpc_file.specs.WrittenFits.{RowFits, AxisFits, MatricesFit, GoalFits, PlantFits}
 use Rattle.mpc_file.specs.declared.versions.Version.{Version}
 use Rattle.mpc_file.specs.declared.versions.Version.TheVariants.{One, Two, Three}
 use Rattle.mpc_file.specs.declared.plant_parts.Sizes.{Sizes}
 use Rattle.mpc_file.specs.declared.plant_parts.Dynamics.{Dynamics}
+use Rattle.mpc_file.specs.declared.plant_parts.Offsets.{Offsets}
 use Rattle.mpc_file.specs.declared.plant_parts.Weights.{Weights}
-use Rattle.mpc_file.specs.declared.plant_parts.Targets.{Targets}
 use Rattle.mpc_file.specs.declared.plant_parts.Limits.{Limits}
 use Rattle.mpc_file.proofs.PrintLemmas.{prints_plain, prints_give, prints_that, prints_both, prints_end, prints_as, prints_so_many}
-use Rattle.mpc_file.proofs.WithoutLemmas.{line_without, count_without, count_line_without, fraction_without, fractions_line_without, matrix_line_without}
+use Rattle.mpc_file.proofs.WithoutLemmas.{is_plain, line_without, count_without, count_line_without, fraction_without, fractions_line_without, matrix_line_without}
 
 abbrev pub IsPlantOf : Plant → Type 0
 IsPlantOf v = IsPlant v.n v.p v.horizon v.a v.b v.q v.r v.last v.drift v.xgoal v.ugoal v.rows v.terminal v.grid
@@ -47,8 +48,8 @@ dynamics_of v = record { a = v.a; b = v.b }
 abbrev weights_of : Plant → Weights
 weights_of v = record { q = v.q; r = v.r; last = v.last }
 
-abbrev targets_of : Plant → Targets
-targets_of v = record { xgoal = v.xgoal; ugoal = v.ugoal }
+abbrev offsets_of : Plant → Offsets
+offsets_of v = record { drift = v.drift; xgoal = v.xgoal; ugoal = v.ugoal }
 
 -- the lines of the offsets, which version 1 hasn't
 abbrev pub offset_text : Version → Plant → List ℕ
@@ -67,8 +68,8 @@ zeros_only zero (x ∷ xs) size all = absurd (omega arith)
 zeros_only (suc n) [] size all = absurd (omega arith)
 zeros_only (suc n) (x ∷ xs) size all = λ i. All-head (λ y. y ≡ int (pos 0)) x xs all i ∷ zeros_only n xs (omega arith) (All-tail (λ y. y ≡ int (pos 0)) x xs all) i
 
-zero_offsets : (v : Plant) → IsPlantOf v → AreAllZero (offsets_of v) → offsets_of v ≡ no_offsets (sizes_of v)
-zero_offsets v is none = λ i. record { drift = zeros_only v.n v.drift is.drift_size none.drift i; xgoal = zeros_only v.n v.xgoal is.xgoal_size none.xgoal i; ugoal = zeros_only v.p v.ugoal is.ugoal_size none.ugoal i }
+zero_offsets : (v : Plant) → IsPlantOf v → AreZero v.drift × AreZero (v.xgoal ++ v.ugoal) → offsets_of v ≡ (record { drift = zeros v.n; xgoal = zeros v.n; ugoal = zeros v.p })
+zero_offsets v is none = λ i. record { drift = zeros_only v.n v.drift is.drift_size none.0 i; xgoal = zeros_only v.n v.xgoal is.xgoal_size (subst AreZero (take-append_seam v.xgoal v.ugoal) (All-take (λ x. x ≡ int (pos 0)) (length v.xgoal) (v.xgoal ++ v.ugoal) none.1)) i; ugoal = zeros_only v.p v.ugoal is.ugoal_size (subst AreZero (drop-append_seam v.xgoal v.ugoal) (All-drop (λ x. x ≡ int (pos 0)) (length v.xgoal) (v.xgoal ++ v.ugoal) none.1)) i }
 
 below_64 : (low high n : ℕ) → IsFromTo low high n → high ≤ 6 → n < 2 ^ 64
 below_64 low high n from small = let to = from.to_high in omega arith
@@ -78,7 +79,7 @@ matrix_prints : (name : List ℕ) (rows columns : ℕ) (m : RationalMatrix) → 
 matrix_prints name rows columns m without shape fits = prints_plain (IsMatrix name rows columns) m (matrix_line name m) without (record { spelled = refl; shape = shape; fits = fits })
 
 weight_prints : (name : List ℕ) (size : ℕ) (m : RationalMatrix) → IsWithout 10 (matrix_line name m) → IsWeight m size → All AllFit m.rows → Prints (weight name size) m (ended (matrix_line name m))
-weight_prints name size m without is fits = prints_plain (IsWeightLine name size) m (matrix_line name m) without (record { spelled = refl; weight = is; fits = fits })
+weight_prints name size m without is fits = prints_plain (IsWeightLine name size) m (matrix_line name m) without (record { matrix_is = record { spelled = refl; shape = is.shape; fits = fits }; symmetric = is.symmetric })
 
 -- ---- rows
 pub all_both : {X : Type 0} (P Q R : X → Type 0) → ((x : X) → P x → Q x → R x) → (xs : List X) → All P xs → All Q xs → All R xs
@@ -126,7 +127,7 @@ module _ (words : WordTheorems) where
       (All-cons (IsWithout 10) (decimal v.p) (decimal v.horizon ∷ []) (count_without words v.p (below_64 1 3 v.p is.inputs (omega arith)))
       (All-cons (IsWithout 10) (decimal v.horizon) [] (count_without words v.horizon (below_64 1 6 v.horizon is.steps (omega arith))) (All-nil (IsWithout 10)))))
 
-  size_prints : (v : Plant) → IsPlantOf v → Prints sizes (sizes_of v) (ended (size_line v))
+  size_prints : (v : Plant) → IsPlantOf v → Prints (one_line (plain_rule AreSizes)) (sizes_of v) (ended (size_line v))
   size_prints v is = prints_plain AreSizes (sizes_of v) (size_line v) (size_without v is) (record { spelled = refl; states = is.states; inputs = is.inputs; steps = is.steps; moves_few = is.moves_few })
 
   dynamics_prints : (v : Plant) → IsPlantOf v → MatricesFit v → Prints (dynamics (sizes_of v)) (dynamics_of v) (ended (matrix_line (codes "A") v.a) ++ ended (matrix_line (codes "B") v.b))
@@ -150,30 +151,36 @@ module _ (words : WordTheorems) where
       (prints_give (weights_of v))))
 
   -- ---- drift and targets
-  drift_prints : (v : Plant) → IsPlantOf v → AllFit v.drift → Prints (one_line (plain_rule (IsDrift v.n))) v.drift (ended (drift_line v))
-  drift_prints v is fits = prints_plain (IsDrift v.n) v.drift (drift_line v) (fractions_line_without words (codes "drift") v.drift refl fits) (record { spelled = refl; size = is.drift_size; fits = fits })
+  drift_prints : (v : Plant) → IsPlantOf v → AllFit v.drift → Prints (one_line (plain_rule (AreNumbers (codes "drift") v.n))) v.drift (ended (drift_line v))
+  drift_prints v is fits = prints_plain (AreNumbers (codes "drift") v.n) v.drift (drift_line v) (fractions_line_without words (codes "drift") v.drift refl fits) (record { spelled = refl; size = is.drift_size; fits = fits })
 
-  goal_prints : (version : Version) (v : Plant) → IsPlantOf v → GoalFits v → MayHave version (offsets_of v) → Prints (one_line (plain_rule (AreTargetsOf version (sizes_of v) v.drift))) (targets_of v) (ended (goal_line v))
+  goal_prints : (version : Version) (v : Plant) → IsPlantOf v → GoalFits v → MayHave version v.drift (v.xgoal ++ v.ugoal) → Prints (one_line (plain_rule (IsGoal version (sizes_of v) v.drift))) (v.xgoal ++ v.ugoal) (ended (goal_line v))
   goal_prints version v is fits allowed =
-      prints_plain (AreTargetsOf version (sizes_of v) v.drift) (targets_of v) (goal_line v) (fractions_line_without words (codes "goal") (v.xgoal ++ v.ugoal) refl (All-append FitsFrac v.xgoal v.ugoal fits.xgoal fits.ugoal))
-      (record { targets_are = record { spelled = refl; states = is.xgoal_size; inputs = is.ugoal_size; fits_states = fits.xgoal; fits_inputs = fits.ugoal }; allowed = allowed })
+      let both : AllFit (v.xgoal ++ v.ugoal) = All-append FitsFrac v.xgoal v.ugoal fits.xgoal fits.ugoal in
+      prints_plain (IsGoal version (sizes_of v) v.drift) (v.xgoal ++ v.ugoal) (goal_line v) (fractions_line_without words (codes "goal") (v.xgoal ++ v.ugoal) refl both)
+      (record { numbers_are = record { spelled = refl; size = length-append v.xgoal v.ugoal ∙ (λ i. is.xgoal_size i + is.ugoal_size i); fits = both }; allowed = allowed })
 
-  offset_lines_print : (version : Version) (v : Plant) → IsPlantOf v → AllFit v.drift → GoalFits v → MayHave version (offsets_of v) → Prints (offset_lines version (sizes_of v)) (offsets_of v) (ended (drift_line v) ++ ended (goal_line v))
+  its_offsets : (v : Plant) → IsPlantOf v → offsets_with (sizes_of v) v.drift (v.xgoal ++ v.ugoal) ≡ offsets_of v
+  its_offsets v is =
+      let front : take v.n (v.xgoal ++ v.ugoal) ≡ v.xgoal = (λ i. take (sym is.xgoal_size i) (v.xgoal ++ v.ugoal)) ∙ take-append_seam v.xgoal v.ugoal in
+      let back : drop v.n (v.xgoal ++ v.ugoal) ≡ v.ugoal = (λ i. drop (sym is.xgoal_size i) (v.xgoal ++ v.ugoal)) ∙ drop-append_seam v.xgoal v.ugoal in
+      λ i. record { drift = v.drift; xgoal = front i; ugoal = back i }
+
+  offset_lines_print : (version : Version) (v : Plant) → IsPlantOf v → AllFit v.drift → GoalFits v → MayHave version v.drift (v.xgoal ++ v.ugoal) → Prints (offset_lines version (sizes_of v)) (offsets_of v) (ended (drift_line v) ++ ended (goal_line v))
   offset_lines_print version v is drift goal allowed =
-      prints_both (one_line (plain_rule (IsDrift v.n))) (λ d. one_line (plain_rule (AreTargetsOf version (sizes_of v) d)) >>= λ targets. give (offsets_with d targets)) v.drift (offsets_of v)
+      prints_both (one_line (plain_rule (AreNumbers (codes "drift") v.n))) (λ d. one_line (plain_rule (IsGoal version (sizes_of v) d)) >>= λ goal. give (offsets_with (sizes_of v) d goal)) v.drift (offsets_of v)
       (ended (drift_line v)) (ended (goal_line v)) (drift_prints v is drift)
-      (prints_end (one_line (plain_rule (AreTargetsOf version (sizes_of v) v.drift))) (λ targets. give (offsets_with v.drift targets)) (targets_of v) (offsets_of v) (ended (goal_line v)) (goal_prints version v is goal allowed) (prints_give (offsets_of v)))
+      (prints_end (one_line (plain_rule (IsGoal version (sizes_of v) v.drift))) (λ goal. give (offsets_with (sizes_of v) v.drift goal)) (v.xgoal ++ v.ugoal) (offsets_of v) (ended (goal_line v)) (goal_prints version v is goal allowed)
+      (subst (λ o. Prints (give o) (offsets_of v) []) (sym (its_offsets v is)) (prints_give (offsets_of v))))
 
-  offsets_print : (version : Version) (v : Plant) → IsPlantOf v → AllFit v.drift → GoalFits v → MayHave version (offsets_of v) → Prints (offsets version (sizes_of v)) (offsets_of v) (offset_text version v)
-  offsets_print One v is drift goal none = subst (λ o. Prints (give (no_offsets (sizes_of v))) o []) (sym (zero_offsets v is none)) (prints_give (no_offsets (sizes_of v)))
+  offsets_print : (version : Version) (v : Plant) → IsPlantOf v → AllFit v.drift → GoalFits v → MayHave version v.drift (v.xgoal ++ v.ugoal) → Prints (offsets version (sizes_of v)) (offsets_of v) (offset_text version v)
+  offsets_print One v is drift goal none = subst (λ o. Prints (give (record { drift = zeros v.n; xgoal = zeros v.n; ugoal = zeros v.p })) o []) (sym (zero_offsets v is none)) (prints_give (record { drift = zeros v.n; xgoal = zeros v.n; ugoal = zeros v.p }))
   offsets_print Two v is drift goal allowed = offset_lines_print Two v is drift goal allowed
   offsets_print Three v is drift goal allowed = offset_lines_print Three v is drift goal allowed
 
-  row_prints : (s : Sizes) (row : PlantRow) → FitsRow s.states s.inputs row → RowFits row → Prints (one_line (plain_rule (IsRow s))) row (ended (row_line row))
-  row_prints s row sizes fits = prints_plain (IsRow s) row (row_line row) (fractions_line_without words (codes "row") (row.x ++ row.u ++ row.max ∷ []) refl fits) (record { spelled = refl; sizes = sizes; fits = fits })
-
-  last_prints : (s : Sizes) (row : PlantRow) → FitsRow s.states 0 row → LastFits row → Prints (one_line (plain_rule (IsLast s))) row (ended (last_line row))
-  last_prints s row sizes fits = prints_plain (IsLast s) row (last_line row) (fractions_line_without words (codes "last") (row.x ++ row.max ∷ []) refl fits) (record { spelled = refl; sizes = sizes; fits = fits })
+  row_prints : (name : List ℕ) → is_plain name ≡ true → (states inputs : ℕ) (row : PlantRow) → FitsRow states inputs row → RowFits row → Prints (one_line (plain_rule (IsRow name states inputs))) row (ended (row_line name row))
+  row_prints name without states inputs row sizes fits =
+      prints_plain (IsRow name states inputs) row (row_line name row) (fractions_line_without words name (row.x ++ row.u ++ row.max ∷ []) without fits) (record { spelled = refl; sizes = sizes; fits = fits })
 
   axis_without : (axis : Coordinate) → IsCoordinate axis → AxisFits axis → IsWithout 10 (grid_line axis)
   axis_without axis is fits =
@@ -187,13 +194,13 @@ module _ (words : WordTheorems) where
 
   rows_print : (version : Version) (v : Plant) → IsPlantOf v → row_count v ≤ greatest_rows version (unknowns v) → All RowFits v.rows → Prints (row_list version (sizes_of v)) v.rows (text_of_lines (row_lines v.rows))
   rows_print version v is few fits =
-      prints_both (one_line (plain_rule (IsRowCount (codes "rows") v.horizon 0 (greatest_rows version (v.p * v.horizon))))) (λ count. so_many count (plain_rule (IsRow (sizes_of v)))) (length v.rows) v.rows
-      (ended (count_line (codes "rows") (length v.rows))) (text_of_lines (map row_line v.rows))
-      (prints_plain (IsRowCount (codes "rows") v.horizon 0 (greatest_rows version (v.p * v.horizon))) (length v.rows) (count_line (codes "rows") (length v.rows)) (count_line_without words (codes "rows") (length v.rows) refl (rows_small v is))
-      (record { spelled = refl; few = omega arith }))
-      (prints_as (so_many (length v.rows) (plain_rule (IsRow (sizes_of v)))) v.rows (flat_map (λ row. ended (row_line row)) v.rows) (text_of_lines (map row_line v.rows)) (each_ended row_line v.rows)
-      (prints_so_many (plain_rule (IsRow (sizes_of v))) (length v.rows) (λ row. ended (row_line row)) v.rows refl
-      (all_both (FitsRow v.n v.p) RowFits (λ row. Prints (one_line (plain_rule (IsRow (sizes_of v)))) row (ended (row_line row))) (row_prints (sizes_of v)) v.rows is.rows_fit fits)))
+      prints_both (one_line (plain_rule (IsNumber (codes "rows") (λ number. v.horizon * number + 0 ≤ (greatest_rows version (v.p * v.horizon)))))) (λ count. so_many count (plain_rule (IsRow (codes "row") v.n v.p))) (length v.rows) v.rows
+      (ended (count_line (codes "rows") (length v.rows))) (text_of_lines (map (row_line (codes "row")) v.rows))
+      (prints_plain (IsNumber (codes "rows") (λ number. v.horizon * number + 0 ≤ (greatest_rows version (v.p * v.horizon)))) (length v.rows) (count_line (codes "rows") (length v.rows)) (count_line_without words (codes "rows") (length v.rows) refl (rows_small v is))
+      (record { spelled = refl; allowed = omega arith }))
+      (prints_as (so_many (length v.rows) (plain_rule (IsRow (codes "row") v.n v.p))) v.rows (flat_map (λ row. ended (row_line (codes "row") row)) v.rows) (text_of_lines (map (row_line (codes "row")) v.rows)) (each_ended (row_line (codes "row")) v.rows)
+      (prints_so_many (plain_rule (IsRow (codes "row") v.n v.p)) (length v.rows) (λ row. ended (row_line (codes "row") row)) v.rows refl
+      (all_both (FitsRow v.n v.p) RowFits (λ row. Prints (one_line (plain_rule (IsRow (codes "row") v.n v.p))) row (ended (row_line (codes "row") row))) (row_prints (codes "row") refl v.n v.p) v.rows is.rows_fit fits)))
     where
       rows_small : (v : Plant) → IsPlantOf v → length v.rows < 2 ^ 64
       rows_small v is = small (length v.rows) v.horizon (length v.terminal) (row_limit (v.p * v.horizon)) is.steps is.rows_few (limit_small (v.p * v.horizon))
@@ -204,35 +211,35 @@ module _ (words : WordTheorems) where
               one_each : (rows steps : ℕ) → 1 ≤ steps → rows ≤ steps * rows
               one_each rows steps low = grind arith
 
-  terminal_prints : (version : Version) (v : Plant) → IsPlantOf v → row_count v ≤ greatest_rows version (unknowns v) → All LastFits v.terminal → Prints (last_list version (sizes_of v) v.rows) v.terminal (text_of_lines (last_lines v.terminal))
+  terminal_prints : (version : Version) (v : Plant) → IsPlantOf v → row_count v ≤ greatest_rows version (unknowns v) → All RowFits v.terminal → Prints (last_list version (sizes_of v) v.rows) v.terminal (text_of_lines (last_lines v.terminal))
   terminal_prints version v is few fits =
-      prints_both (one_line (plain_rule (IsRowCount (codes "terminal") 1 (v.horizon * length v.rows) (greatest_rows version (v.p * v.horizon))))) (λ count. so_many count (plain_rule (IsLast (sizes_of v)))) (length v.terminal) v.terminal
-      (ended (count_line (codes "terminal") (length v.terminal))) (text_of_lines (map last_line v.terminal))
-      (prints_plain (IsRowCount (codes "terminal") 1 (v.horizon * length v.rows) (greatest_rows version (v.p * v.horizon))) (length v.terminal) (count_line (codes "terminal") (length v.terminal))
+      prints_both (one_line (plain_rule (IsNumber (codes "terminal") (λ number. 1 * number + (v.horizon * length v.rows) ≤ (greatest_rows version (v.p * v.horizon)))))) (λ count. so_many count (plain_rule (IsRow (codes "last") v.n 0))) (length v.terminal) v.terminal
+      (ended (count_line (codes "terminal") (length v.terminal))) (text_of_lines (map (row_line (codes "last")) v.terminal))
+      (prints_plain (IsNumber (codes "terminal") (λ number. 1 * number + (v.horizon * length v.rows) ≤ (greatest_rows version (v.p * v.horizon)))) (length v.terminal) (count_line (codes "terminal") (length v.terminal))
       (count_line_without words (codes "terminal") (length v.terminal) refl (let most = is.rows_few in let limit = limit_small (v.p * v.horizon) in omega arith))
-      (record { spelled = refl; few = omega arith }))
-      (prints_as (so_many (length v.terminal) (plain_rule (IsLast (sizes_of v)))) v.terminal (flat_map (λ row. ended (last_line row)) v.terminal) (text_of_lines (map last_line v.terminal)) (each_ended last_line v.terminal)
-      (prints_so_many (plain_rule (IsLast (sizes_of v))) (length v.terminal) (λ row. ended (last_line row)) v.terminal refl
-      (all_both (FitsRow v.n 0) LastFits (λ row. Prints (one_line (plain_rule (IsLast (sizes_of v)))) row (ended (last_line row))) (last_prints (sizes_of v)) v.terminal is.terminal_fits fits)))
+      (record { spelled = refl; allowed = omega arith }))
+      (prints_as (so_many (length v.terminal) (plain_rule (IsRow (codes "last") v.n 0))) v.terminal (flat_map (λ row. ended (row_line (codes "last") row)) v.terminal) (text_of_lines (map (row_line (codes "last")) v.terminal)) (each_ended (row_line (codes "last")) v.terminal)
+      (prints_so_many (plain_rule (IsRow (codes "last") v.n 0)) (length v.terminal) (λ row. ended (row_line (codes "last") row)) v.terminal refl
+      (all_both (FitsRow v.n 0) RowFits (λ row. Prints (one_line (plain_rule (IsRow (codes "last") v.n 0))) row (ended (row_line (codes "last") row))) (row_prints (codes "last") refl v.n 0) v.terminal is.terminal_fits fits)))
 
-  grid_prints : (v : Plant) → IsPlantOf v → All AxisFits v.grid → Prints (grid (sizes_of v)) v.grid (text_of_lines (map grid_line v.grid))
+  grid_prints : (v : Plant) → IsPlantOf v → All AxisFits v.grid → Prints (so_many v.n (plain_rule IsAxis)) v.grid (text_of_lines (map grid_line v.grid))
   grid_prints v is fits =
-      prints_as (grid (sizes_of v)) v.grid (flat_map (λ axis. ended (grid_line axis)) v.grid) (text_of_lines (map grid_line v.grid)) (each_ended grid_line v.grid)
+      prints_as (so_many v.n (plain_rule IsAxis)) v.grid (flat_map (λ axis. ended (grid_line axis)) v.grid) (text_of_lines (map grid_line v.grid)) (each_ended grid_line v.grid)
       (prints_so_many (plain_rule IsAxis) v.n (λ axis. ended (grid_line axis)) v.grid (sym is.grid_size)
       (all_both IsCoordinate AxisFits (λ axis. Prints (one_line (plain_rule IsAxis)) axis (ended (grid_line axis))) axis_prints v.grid is.grid_ok fits))
 
   limits_print : (version : Version) (v : Plant) → IsPlantOf v → CanStatePlant version v → Prints (limits version (sizes_of v)) (limits_in v) (text_of_lines (row_lines v.rows) ++ (text_of_lines (last_lines v.terminal) ++ text_of_lines (map grid_line v.grid)))
   limits_print version v is can =
-      prints_both (row_list version (sizes_of v)) (λ rows. last_list version (sizes_of v) rows >>= λ terminal. grid (sizes_of v) >>= λ axes. give (record { rows = rows; terminal = terminal; axes = axes })) v.rows (limits_in v)
+      prints_both (row_list version (sizes_of v)) (λ rows. last_list version (sizes_of v) rows >>= λ terminal. so_many v.n (plain_rule IsAxis) >>= λ axes. give (record { rows = rows; terminal = terminal; axes = axes })) v.rows (limits_in v)
       (text_of_lines (row_lines v.rows)) (text_of_lines (last_lines v.terminal) ++ text_of_lines (map grid_line v.grid)) (rows_print version v is can.rows_few can.fits.rows)
-      (prints_both (last_list version (sizes_of v) v.rows) (λ terminal. grid (sizes_of v) >>= λ axes. give (record { rows = v.rows; terminal = terminal; axes = axes })) v.terminal (limits_in v)
+      (prints_both (last_list version (sizes_of v) v.rows) (λ terminal. so_many v.n (plain_rule IsAxis) >>= λ axes. give (record { rows = v.rows; terminal = terminal; axes = axes })) v.terminal (limits_in v)
       (text_of_lines (last_lines v.terminal)) (text_of_lines (map grid_line v.grid)) (terminal_prints version v is can.rows_few can.fits.terminal)
-      (prints_end (grid (sizes_of v)) (λ axes. give (record { rows = v.rows; terminal = v.terminal; axes = axes })) v.grid (limits_in v) (text_of_lines (map grid_line v.grid)) (grid_prints v is can.fits.grid) (prints_give (limits_in v))))
+      (prints_end (so_many v.n (plain_rule IsAxis)) (λ axes. give (record { rows = v.rows; terminal = v.terminal; axes = axes })) v.grid (limits_in v) (text_of_lines (map grid_line v.grid)) (grid_prints v is can.fits.grid) (prints_give (limits_in v))))
 
   pub plant_prints : (version : Version) (v : Plant) → CanStatePlant version v → Prints (plant version) v (plant_text version v)
   plant_prints version v can =
       let is : IsPlantOf v = v.is_plant in
-      prints_both sizes (λ s. dynamics s >>= λ d. weights s >>= λ w. offsets version s >>= λ o. limits version s >>= λ l. that_which (IsPlantWith s d w o l)) (sizes_of v) v (ended (size_line v)) _ (size_prints v is)
+      prints_both (one_line (plain_rule AreSizes)) (λ s. dynamics s >>= λ d. weights s >>= λ w. offsets version s >>= λ o. limits version s >>= λ l. that_which (IsPlantWith s d w o l)) (sizes_of v) v (ended (size_line v)) _ (size_prints v is)
       (prints_both (dynamics (sizes_of v)) (λ d. weights (sizes_of v) >>= λ w. offsets version (sizes_of v) >>= λ o. limits version (sizes_of v) >>= λ l. that_which (IsPlantWith (sizes_of v) d w o l)) (dynamics_of v) v _ _ (dynamics_prints v is can.fits.matrices)
       (prints_both (weights (sizes_of v)) (λ w. offsets version (sizes_of v) >>= λ o. limits version (sizes_of v) >>= λ l. that_which (IsPlantWith (sizes_of v) (dynamics_of v) w o l)) (weights_of v) v _ _ (weights_prints v is can.fits.matrices)
       (prints_both (offsets version (sizes_of v)) (λ o. limits version (sizes_of v) >>= λ l. that_which (IsPlantWith (sizes_of v) (dynamics_of v) (weights_of v) o l)) (offsets_of v) v _ _ (offsets_print version v is can.fits.drift can.fits.goal can.offsets)

@@ -1,8 +1,9 @@
 -- What the lines of a plant state are the parts of a plant.
 use Rattle.std.proofs.Common.{◌≡◌, ◌≢◌, ℕ, ◌+◌, ◌*◌, ◌^◌, ◌<◌, ◌≤◌, Bool, true, false, cond, nat_le, nat_lt, List, length, codes, pos, Option, Some, None, MatchOption, Err, inl, inr, refl, sym, ap, ◌∙◌, subst, arith, lit<, lit≤}
 use Rattle.std.specs.Prelude.{All}
-use Rattle.std.proofs.lemmas.List.{length-replicate}
+use Rattle.std.proofs.lemmas.List.{length-replicate, length-take-le, length-drop}
 use Rattle.mpc_exact.specs.Rational.{int}
+use Rattle.mpc_space.specs.Matrix.{RationalMatrix}
 use Rattle.mpc_linear.specs.Shape.{HasShape}
 use Rattle.mpc_plant.specs.Limits.{IsWeight, FitsRow, IsCoordinate, IsPlant, row_limit}
 use Rattle.mpc_plant.specs.declared.lists.PlantRow.{PlantRow}
@@ -20,7 +21,7 @@ use Rattle.mpc_file.specs.Reading.{Cursor, one_line, Outcome}
 use Rattle.mpc_file.specs.declared.errors.FileError.{FileError}
 use Rattle.mpc_file.specs.declared.errors.FileError.TheVariants.{Bad, NoMemory}
 use Rattle.mpc_plant.specs.declared.plants.Plant.{Plant}
-use Rattle.mpc_file.specs.PlantGrammar.{plain_rule, so_many, IsRow, IsLast, IsAxis, sizes, dynamics, weights, offset_lines, offsets, grid, limits, IsPlantWith, plant}
+use Rattle.mpc_file.specs.PlantGrammar.{plain_rule, IsWeightLine, so_many, IsRow, IsAxis, dynamics, weights, offset_lines, offsets, limits, IsPlantWith, plant, AreSizes}
 use Rattle.mpc_file.specs.FileGrammar.{IsVersion}
 use Rattle.mpc_file.proofs.ManyLemmas.{all_items, just_so_many}
 
@@ -53,9 +54,12 @@ pub dynamics_shape : (s : Sizes) (here behind : Cursor) (d : Dynamics) → (dyna
 dynamics_shape s here behind d (a, (between, (first, (b, (beyond, (second, (e, at))))))) =
     (subst (λ (x : Dynamics). HasShape x.a s.states s.states) (sym e) first.1.1.0.shape, subst (λ (x : Dynamics). HasShape x.b s.states s.inputs) (sym e) second.1.1.0.shape)
 
+weight_of : (name : List ℕ) (size : ℕ) (text : List ℕ) (m : RationalMatrix) → IsWeightLine name size text m → IsWeight m size
+weight_of name size text m h = record { shape = h.matrix_is.shape; symmetric = h.symmetric }
+
 pub weights_shape : (s : Sizes) (here behind : Cursor) (w : Weights) → (weights s).Reads here w behind → IsWeight w.q s.states × IsWeight w.r s.inputs × IsWeight w.last s.states
 weights_shape s here behind w (q, (between, (first, (r, (beyond, (second, (last, (end, (third, (e, at)))))))))) =
-    (subst (λ (x : Weights). IsWeight x.q s.states) (sym e) first.1.1.0.weight, subst (λ (x : Weights). IsWeight x.r s.inputs) (sym e) second.1.1.0.weight, subst (λ (x : Weights). IsWeight x.last s.states) (sym e) third.1.1.0.weight)
+    (subst (λ (x : Weights). IsWeight x.q s.states) (sym e) (weight_of _ _ _ _ first.1.1.0), subst (λ (x : Weights). IsWeight x.r s.inputs) (sym e) (weight_of _ _ _ _ second.1.1.0), subst (λ (x : Weights). IsWeight x.last s.states) (sym e) (weight_of _ _ _ _ third.1.1.0))
 
 -- ---- the drift and the targets
 pub record HaveSizes (s : Sizes) (o : Offsets) : Type 0 where
@@ -64,8 +68,9 @@ pub record HaveSizes (s : Sizes) (o : Offsets) : Type 0 where
   pub ugoal : length o.ugoal ≡ s.inputs
 
 lines_shape : (version : Version) (s : Sizes) (here behind : Cursor) (o : Offsets) → (offset_lines version s).Reads here o behind → HaveSizes s o
-lines_shape version s here behind o (drift, (between, (first, (targets, (beyond, (second, (e, at))))))) =
-    subst (HaveSizes s) (sym e) (record { drift = first.1.1.0.size; xgoal = second.1.1.0.targets_are.states; ugoal = second.1.1.0.targets_are.inputs })
+lines_shape version s here behind o (drift, (between, (first, (goal, (beyond, (second, (e, at))))))) =
+    let size : length goal ≡ s.states + s.inputs = second.1.1.0.numbers_are.size in
+    subst (HaveSizes s) (sym e) (record { drift = first.1.1.0.size; xgoal = length-take-le s.states goal (omega arith); ugoal = length-drop s.states goal ∙ omega arith })
 
 pub offsets_shape : (version : Version) (s : Sizes) (here behind : Cursor) (o : Offsets) → (offsets version s).Reads here o behind → HaveSizes s o
 offsets_shape One s here behind o (e, at) =
@@ -82,23 +87,23 @@ module _ (version : Version) (s : Sizes) where
     pub grid_size : length l.axes ≡ s.states
     pub grid_ok : All IsCoordinate l.axes
 
-  rows_all : (count : ℕ) (here behind : Cursor) (rows : List PlantRow) → (so_many count (plain_rule (IsRow s))).Reads here rows behind → All (FitsRow s.states s.inputs) rows
+  rows_all : (count : ℕ) (here behind : Cursor) (rows : List PlantRow) → (so_many count (plain_rule (IsRow (codes "row") s.states s.inputs))).Reads here rows behind → All (FitsRow s.states s.inputs) rows
   rows_all count here behind rows reads =
-      all_items PlantRow (λ before. one_line (plain_rule (IsRow s))) (λ (before : List PlantRow). nat_lt (length before) count) (FitsRow s.states s.inputs) (λ before b x c more line. line.1.1.0.sizes) here rows behind reads.0
+      all_items PlantRow (λ before. one_line (plain_rule (IsRow (codes "row") s.states s.inputs))) (λ (before : List PlantRow). nat_lt (length before) count) (FitsRow s.states s.inputs) (λ before b x c more line. line.1.1.0.sizes) here rows behind reads.0
 
-  last_all : (count : ℕ) (here behind : Cursor) (rows : List PlantRow) → (so_many count (plain_rule (IsLast s))).Reads here rows behind → All (FitsRow s.states 0) rows
+  last_all : (count : ℕ) (here behind : Cursor) (rows : List PlantRow) → (so_many count (plain_rule (IsRow (codes "last") s.states 0))).Reads here rows behind → All (FitsRow s.states 0) rows
   last_all count here behind rows reads =
-      all_items PlantRow (λ before. one_line (plain_rule (IsLast s))) (λ (before : List PlantRow). nat_lt (length before) count) (FitsRow s.states 0) (λ before b x c more line. line.1.1.0.sizes) here rows behind reads.0
+      all_items PlantRow (λ before. one_line (plain_rule (IsRow (codes "last") s.states 0))) (λ (before : List PlantRow). nat_lt (length before) count) (FitsRow s.states 0) (λ before b x c more line. line.1.1.0.sizes) here rows behind reads.0
 
-  grid_all : (here behind : Cursor) (axes : List Coordinate) → (grid s).Reads here axes behind → All IsCoordinate axes
+  grid_all : (here behind : Cursor) (axes : List Coordinate) → (so_many s.states (plain_rule IsAxis)).Reads here axes behind → All IsCoordinate axes
   grid_all here behind axes reads =
       all_items Coordinate (λ before. one_line (plain_rule IsAxis)) (λ (before : List Coordinate). nat_lt (length before) s.states) IsCoordinate (λ before b x c more line. line.1.1.0.allowed) here axes behind reads.0
 
   pub limits_shape : (here behind : Cursor) (l : Limits) → (limits version s).Reads here l behind → AreLimits l
   limits_shape here behind l (rows, (c1, ((k, (c2, (k_line, rows_read))), (terminal, (c3, ((m, (c4, (m_line, terminal_read))), (axes, (c5, (grid_read, (e, at)))))))))) =
-      let so_many_rows : length rows ≡ k = just_so_many PlantRow (λ before. one_line (plain_rule (IsRow s))) k c2 rows c1 rows_read in
-      let so_many_last : length terminal ≡ m = just_so_many PlantRow (λ before. one_line (plain_rule (IsLast s))) m c4 terminal c3 terminal_read in
-      let in_version : 1 * m + s.steps * length rows ≤ greatest_rows version (s.inputs * s.steps) = m_line.1.1.0.few in
+      let so_many_rows : length rows ≡ k = just_so_many PlantRow (λ before. one_line (plain_rule (IsRow (codes "row") s.states s.inputs))) k c2 rows c1 rows_read in
+      let so_many_last : length terminal ≡ m = just_so_many PlantRow (λ before. one_line (plain_rule (IsRow (codes "last") s.states 0))) m c4 terminal c3 terminal_read in
+      let in_version : 1 * m + s.steps * length rows ≤ greatest_rows version (s.inputs * s.steps) = m_line.1.1.0.allowed in
       subst AreLimits (sym e) (record {
         rows_few = omega (arith, few_rows version (s.inputs * s.steps));
         rows_fit = rows_all k c2 c1 rows rows_read;
@@ -109,7 +114,7 @@ module _ (version : Version) (s : Sizes) where
 
 -- ---- the whole
 module _ (version : Version) (s : Sizes) (d : Dynamics) (w : Weights) (o : Offsets) (l : Limits) (c0 c1 c2 c3 c4 c5 : Cursor) where
-  pub plant_is : sizes.Reads c0 s c1 → (dynamics s).Reads c1 d c2 → (weights s).Reads c2 w c3 → (offsets version s).Reads c3 o c4 → (limits version s).Reads c4 l c5
+  pub plant_is : (one_line (plain_rule AreSizes)).Reads c0 s c1 → (dynamics s).Reads c1 d c2 → (weights s).Reads c2 w c3 → (offsets version s).Reads c3 o c4 → (limits version s).Reads c4 l c5
       → IsPlant s.states s.inputs s.steps d.a d.b w.q w.r w.last o.drift o.xgoal o.ugoal l.rows l.terminal l.axes
   plant_is sizes_read dynamics_read weights_read offsets_read limits_read =
       let size = sizes_read.1.1.0 in
@@ -138,7 +143,7 @@ module _ (version : Version) (s : Sizes) (d : Dynamics) (w : Weights) (o : Offse
       }
 
 -- ---- where a part fails
-module _ (version : Version) (s : Sizes) (here c1 c2 : Cursor) (d : Dynamics) (first : sizes.Reads here s c1) (second : (dynamics s).Reads c1 d c2) where
+module _ (version : Version) (s : Sizes) (here c1 c2 : Cursor) (d : Dynamics) (first : (one_line (plain_rule AreSizes)).Reads here s c1) (second : (dynamics s).Reads c1 d c2) where
   pub weights_fail : (behind end : Cursor) (error : FileError) → Outcome (weights s) c2 behind (Err error) → Outcome (plant version) here end (Err error)
   weights_fail behind end (Bad kind number) h = inr (s, (c1, (first, inr (d, (c2, (second, inl h))))))
   weights_fail behind end NoMemory h = tt

@@ -1,9 +1,7 @@
 -- What the numbers of a plant's line state, and that they state nothing else.
-use Rattle.std.proofs.Common.{◌≡◌, ◌≢◌, ℕ, ◌+◌, ◌*◌, ◌<◌, ◌^◌, List, [], ◌∷◌, ◌++◌, length, take, drop, ℤ, pos, unsigned_abs, codes, Option, Some, None, MatchOption, Result, Ok, Err, IsErrAnd, ◌⊎◌, inl, inr, refl, sym, ◌∙◌, ap, subst, arith}
-use Rattle.std.proofs.lemmas.List.{take-append-drop, length-append, length-take-le, length-drop}
-use Rattle.std.proofs.lemmas.List.Elements.{All-nil, All-cons, All-append, All-take, All-drop}
+use Rattle.std.proofs.Common.{◌≡◌, ◌≢◌, ℕ, ◌+◌, ◌*◌, ◌<◌, ◌^◌, List, [], ◌∷◌, length, ℤ, pos, unsigned_abs, codes, Option, Some, None, MatchOption, Result, Ok, Err, IsErrAnd, ◌⊎◌, inl, inr, refl, sym, ◌∙◌, ap, subst, arith}
+use Rattle.std.proofs.lemmas.List.Elements.{All-nil, All-cons}
 use Rattle.mpc_exact.specs.Rational.{ℚ}
-use Rattle.mpc_frac.specs.Fits.{FitsFrac}
 use Rattle.mpc_space.specs.Vector.{IsSymmetric}
 use Rattle.mpc_space.specs.Matrix.{RationalMatrix}
 use Rattle.mpc_linear.specs.Grid.{grid}
@@ -11,18 +9,17 @@ use Rattle.mpc_linear.specs.GridTheorems.{GridTheorems}
 use Rattle.mpc_file.specs.Lines.{fractions_line, integers_line}
 use Rattle.mpc_file.specs.Spelling.{AreFractions, AreIntegers}
 use Rattle.mpc_file.specs.LineTheorems.{OneFractions, OneIntegers}
-use Rattle.mpc_file.specs.PlantGrammar.{AllFit, AreSizes, IsMatrix, IsWeightLine, IsDrift, AreTargets, AreTargetsOf, MayHave, offsets_with, offset_lines, offsets, weight, weights}
+use Rattle.mpc_file.specs.PlantGrammar.{AreSizes, IsMatrix, IsWeightLine, IsGoal, MayHave, offset_lines, offsets, weight, weights, AreNumbers}
 use Rattle.mpc_file.specs.PlantNumbers.{AreSizeNumbers}
 use Rattle.mpc_file.specs.Reading.{Cursor, Outcome}
 use Rattle.mpc_file.specs.declared.errors.FileError.{FileError}
 use Rattle.mpc_file.specs.declared.versions.Version.{Version}
 use Rattle.mpc_file.specs.declared.versions.Version.TheVariants.{One, Two, Three}
 use Rattle.mpc_file.specs.declared.plant_parts.Sizes.{Sizes}
-use Rattle.mpc_file.specs.declared.plant_parts.Targets.{Targets}
 use Rattle.mpc_file.specs.declared.plant_parts.Offsets.{Offsets}
 use Rattle.mpc_file.specs.declared.plant_parts.Weights.{Weights}
 use Rattle.mpc_file.proofs.OutcomeLemmas.{error_from}
-use Rattle.mpc_file.proofs.LineNumbers.{same_front, same_back, all_in_rows}
+use Rattle.mpc_file.proofs.LineNumbers.{all_in_rows}
 use Rattle.mpc_file.proofs.PlantLineLemmas.{joined, joined-grid, grid-fits, grid-shape, entries_many, grid-joined}
 
 -- ---- a line states its numbers alone
@@ -93,56 +90,29 @@ module _ (name text : List ℕ) (rows columns : ℕ) where
   one_matrix one m other h k =
       sym (grid-joined m rows columns h.shape) ∙ ap (grid rows columns) (same_fractions one name text (joined m.rows) (joined other.rows) (matrix_numbers m h) (matrix_numbers other k)) ∙ grid-joined other rows columns k.shape
 
--- a weight is a square matrix that is symmetric
-plain_matrix : (name text : List ℕ) (size : ℕ) (m : RationalMatrix) → IsWeightLine name size text m → IsMatrix name size size text m
-plain_matrix name text size m h = record { spelled = h.spelled; shape = h.weight.shape; fits = h.fits }
-
 module _ (name text : List ℕ) (size : ℕ) where
   pub no_weight : ((m : RationalMatrix) → ¬ IsMatrix name size size text m) → (m : RationalMatrix) → ¬ IsWeightLine name size text m
-  no_weight none m h = none m (plain_matrix name text size m h)
+  no_weight none m h = none m h.matrix_is
 
   pub not_symmetric : OneFractions → (m : RationalMatrix) → IsMatrix name size size text m → ¬ IsSymmetric m.rows → (other : RationalMatrix) → ¬ IsWeightLine name size text other
   not_symmetric one m h differs other k =
-      differs (subst (λ (w : RationalMatrix). IsSymmetric w.rows) (one_matrix name text size size one other m (plain_matrix name text size other k) h) k.weight.symmetric)
+      differs (subst (λ (w : RationalMatrix). IsSymmetric w.rows) (one_matrix name text size size one other m k.matrix_is h) k.symmetric)
 
   pub weight_line : (m : RationalMatrix) → IsMatrix name size size text m → IsSymmetric m.rows → IsWeightLine name size text m
-  weight_line m h s = record { spelled = h.spelled; weight = record { shape = h.shape; symmetric = s }; fits = h.fits }
+  weight_line m h s = record { matrix_is = h; symmetric = s }
 
--- ---- the drift
-pub wrong_drift : OneFractions → (text : List ℕ) (states : ℕ) (xs : List ℚ) → AreFractions (codes "drift") text xs → length xs ≢ states → (drift : List ℚ) → ¬ IsDrift states text drift
-wrong_drift one text states xs h ne drift is =
-    ne (ap length (same_fractions one (codes "drift") text xs drift h (record { spelled = is.spelled; fits = is.fits })) ∙ is.size)
+-- ---- the drift and the targets
+module _ (one : OneFractions) (name text : List ℕ) (count : ℕ) where
+  numbers_found : (numbers : List ℚ) → AreNumbers name count text numbers → AreFractions name text numbers
+  numbers_found numbers is = record { spelled = is.spelled; fits = is.fits }
 
--- ---- the targets
-module _ (text : List ℕ) (s : Sizes) where
-  target_numbers : (t : Targets) → AreTargets s text t → AreFractions (codes "goal") text (t.xgoal ++ t.ugoal)
-  target_numbers t h = record { spelled = h.spelled; fits = All-append FitsFrac t.xgoal t.ugoal h.fits_states h.fits_inputs }
+  pub other_size : (xs : List ℚ) → AreFractions name text xs → length xs ≢ count → (numbers : List ℚ) → ¬ AreNumbers name count text numbers
+  other_size xs h ne numbers is = ne (ap length (same_fractions one name text xs numbers h (numbers_found numbers is)) ∙ is.size)
 
-  pub no_targets : ((xs : List ℚ) → ¬ AreFractions (codes "goal") text xs) → (t : Targets) → ¬ AreTargets s text t
-  no_targets none t h = none (t.xgoal ++ t.ugoal) (target_numbers t h)
-
-  module _ (xs : List ℚ) (numbers : AreFractions (codes "goal") text xs) where
-    pub wrong_targets : OneFractions → length xs ≢ s.states + s.inputs → (t : Targets) → ¬ AreTargets s text t
-    wrong_targets one ne t h =
-        ne (ap length (same_fractions one (codes "goal") text xs (t.xgoal ++ t.ugoal) numbers (target_numbers t h)) ∙ length-append t.xgoal t.ugoal ∙ (λ i. h.states i + h.inputs i))
-
-    pub targets_are : (x u : List ℚ) → length xs ≡ s.states + s.inputs → x ≡ take s.states xs → u ≡ drop s.states xs → AreTargets s text (record { xgoal = x; ugoal = u })
-    targets_are x u size front back = record {
-      spelled = numbers.spelled ∙ ap (λ ys. fractions_line (codes "goal") ys) (sym ((λ i. front i ++ back i) ∙ take-append-drop s.states xs));
-      states = ap length front ∙ length-take-le s.states xs (omega arith);
-      inputs = ap length back ∙ length-drop s.states xs ∙ omega arith;
-      fits_states = subst AllFit (sym front) (All-take FitsFrac s.states xs numbers.fits);
-      fits_inputs = subst AllFit (sym back) (All-drop FitsFrac s.states xs numbers.fits);
-    }
-
-  one_targets : OneFractions → (t other : Targets) → AreTargets s text t → AreTargets s text other → t ≡ other
-  one_targets one t other h k =
-      let same : t.xgoal ++ t.ugoal ≡ other.xgoal ++ other.ugoal = same_fractions one (codes "goal") text (t.xgoal ++ t.ugoal) (other.xgoal ++ other.ugoal) (target_numbers t h) (target_numbers other k) in
-      let sized : length t.xgoal ≡ length other.xgoal = h.states ∙ sym k.states in
-      λ i. record { xgoal = same_front t.xgoal t.ugoal other.xgoal other.ugoal sized same i; ugoal = same_back t.xgoal t.ugoal other.xgoal other.ugoal sized same i }
-
-  pub not_allowed : OneFractions → (version : Version) (drift : List ℚ) (t : Targets) → AreTargets s text t → ¬ MayHave version (offsets_with drift t) → (other : Targets) → ¬ AreTargetsOf version s drift text other
-  not_allowed one version drift t h refused other k = refused (subst (λ w. MayHave version (offsets_with drift w)) (one_targets one other t k.targets_are h) k.allowed)
+pub not_allowed : OneFractions → (version : Version) (s : Sizes) (drift : List ℚ) (text : List ℕ) (goal : List ℚ) → AreNumbers (codes "goal") (s.states + s.inputs) text goal → ¬ MayHave version drift goal → (other : List ℚ) → ¬ IsGoal version s drift text other
+not_allowed one version s drift text goal h refused other k =
+    let found : (xs : List ℚ) → AreNumbers (codes "goal") (s.states + s.inputs) text xs → AreFractions (codes "goal") text xs = numbers_found one (codes "goal") text (s.states + s.inputs) in
+    refused (subst (MayHave version drift) (same_fractions one (codes "goal") text other goal (found other k.numbers_are) (found goal h)) k.allowed)
 
 -- ---- what was found
 pub some_fractions : (name text : List ℕ) (r : Option (List ℚ)) (xs : List ℚ) → r ≡ Some xs → MatchOption r ((ys : List ℚ) → ¬ AreFractions name text ys) (λ ys. AreFractions name text ys) → AreFractions name text xs

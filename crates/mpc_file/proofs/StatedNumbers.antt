@@ -1,7 +1,7 @@
 -- What a text states, its version can state: the numbers of its lines fit.
-use Rattle.std.proofs.Common.{◌≡◌, ℕ, zero, suc, ◌+◌, ◌-◌, ◌*◌, ◌^◌, ◌<◌, ◌≤◌, cond, nat_lt, pos, List, [], ◌∷◌, length, map, refl, sym, ◌∙◌, ap, subst, arith}
-use Rattle.std.specs.Prelude.{All, codes}
-use Rattle.std.proofs.lemmas.List.Elements.{All-nil, All-cons, All-head, All-tail, All-append, All-map, All-get_or}
+use Rattle.std.proofs.Common.{◌≡◌, ℕ, zero, suc, ◌+◌, ◌-◌, ◌*◌, ◌^◌, ◌<◌, ◌≤◌, cond, nat_lt, pos, List, [], ◌∷◌, ◌++◌, length, map, refl, sym, ap, subst, subst₂, take-append-drop, arith}
+use Rattle.std.specs.Prelude.{is_some, slice_get, slice_index_or, All, codes}
+use Rattle.std.proofs.lemmas.List.Elements.{All-nil, All-cons, All-head, All-tail, All-append, All-take, All-drop, All-map, All-get_or}
 use Rattle.mpc_exact.specs.Rational.{ℚ, int}
 use Rattle.mpc_space.specs.Vector.{zeros}
 use Rattle.mpc_space.specs.Matrix.{RationalMatrix}
@@ -24,20 +24,19 @@ use Rattle.mpc_file.specs.declared.plant_parts.Offsets.{Offsets}
 use Rattle.mpc_file.specs.declared.plant_parts.Limits.{Limits}
 use Rattle.mpc_file.specs.Versions.{greatest_rows}
 use Rattle.mpc_file.specs.Reading.{Cursor, LineRule, one_line, ReadsItems, no_item, one_more}
-use Rattle.mpc_file.specs.PlantGrammar.{AllFit, AreZero, MayHave, plain_rule, dynamics, weights, offsets, offset_lines, IsRow, IsLast, IsAxis, limits, plant}
-use Rattle.mpc_file.specs.LawGrammar.{unknowns, IsForm, move_rule, written_law, written_laws, IsNewForm, forms, NameForms, form_named, NamedLaw, used_by, used_behind, named_mults, named_law, named_laws, law_named}
-use Rattle.mpc_file.specs.TreeGrammar.{IsCertLine, certs, NodeLine, NodeOver, node_behind, node_at, owed, is_owed, next_depth, IsWord, written_split, written_tree, planes_used, named_split, plane_named, named_node, named_tree}
+use Rattle.mpc_file.specs.PlantGrammar.{AllFit, AreZero, MayHave, plain_rule, dynamics, weights, offsets, offset_lines, IsRow, IsAxis, limits, plant, AreNumbers, StatesNew}
+use Rattle.mpc_file.specs.LawGrammar.{unknowns, move_rule, written_law, written_laws, forms, NameForms, form_named, NamedLaw, used_by, used_behind, named_mults, named_law, named_laws, law_named}
+use Rattle.mpc_file.specs.TreeGrammar.{IsCertLine, certs, NodeLine, NodeOver, node_behind, node_at, owed, IsWord, written_split, written_tree, planes_used, named_split, plane_named, named_tree, node_of}
 use Rattle.mpc_file.specs.TreeGrammar.NodeLine.{split_at, leaf_of, no_move}
 use Rattle.mpc_file.specs.FileGrammar.{IsVersion, written, named, behind_plant, start}
-use Rattle.mpc_file.specs.WrittenFits.{RowFits, LastFits, AxisFits}
+use Rattle.mpc_file.specs.WrittenFits.{RowFits, AxisFits}
 use Rattle.mpc_file.specs.PlaneNames.{IsPairFit, CertFits}
-use Rattle.mpc_file.specs.Statable.{offsets_of, CanStatePlant, LawNumbersFit, NodeNumbersFit}
+use Rattle.mpc_file.specs.Statable.{CanStatePlant, LawNumbersFit, NodeNumbersFit}
 use Rattle.mpc_file.specs.TextTheorems.{StatedCanBe}
 use Rattle.mpc_file.proofs.ManyLemmas.{all_items, just_so_many}
 use Rattle.mpc_file.proofs.NumberLines.{natural_fits}
 use Rattle.mpc_file.proofs.Runs.{reach, run_line, items_shorter, items_few}
 use Rattle.mpc_file.proofs.LawExact.{row_count_few}
-use Rattle.mpc_file.proofs.TreeShapes.{node_of, written_nodes, named_nodes}
 use Rattle.mpc_file.proofs.TreeExact.{depth_few, run_node, node_takes}
 use Rattle.mpc_file.proofs.FileRuns.{run_plant, run_written_laws, run_forms, run_named_laws, run_planes}
 use Rattle.mpc_file.proofs.FileShapes.{stated_is}
@@ -65,17 +64,22 @@ record WeightsFit (w : Weights) : Type 0 where
 
 weights_fit : (s : Sizes) (here behind : Cursor) (w : Weights) → (weights s).Reads here w behind → WeightsFit w
 weights_fit s here behind w (q, (between, (first, (r, (beyond, (second, (last, (end, (third, (e, at)))))))))) =
-    subst WeightsFit (sym e) (record { q = first.1.1.0.fits; r = second.1.1.0.fits; last = third.1.1.0.fits })
+    subst WeightsFit (sym e) (record { q = first.1.1.0.matrix_is.fits; r = second.1.1.0.matrix_is.fits; last = third.1.1.0.matrix_is.fits })
 
 record OffsetsFit (version : Version) (o : Offsets) : Type 0 where
   drift : AllFit o.drift
   xgoal : AllFit o.xgoal
   ugoal : AllFit o.ugoal
-  allowed : MayHave version o
+  allowed : MayHave version o.drift (o.xgoal ++ o.ugoal)
 
 lines_fit : (version : Version) (s : Sizes) (here behind : Cursor) (o : Offsets) → (offset_lines version s).Reads here o behind → OffsetsFit version o
-lines_fit version s here behind o (drift, (between, (first, (targets, (beyond, (second, (e, at))))))) =
-    subst (OffsetsFit version) (sym e) (record { drift = first.1.1.0.fits; xgoal = second.1.1.0.targets_are.fits_states; ugoal = second.1.1.0.targets_are.fits_inputs; allowed = second.1.1.0.allowed })
+lines_fit version s here behind o (drift, (between, (first, (goal, (beyond, (second, (e, at))))))) =
+    subst (OffsetsFit version) (sym e) (record {
+      drift = first.1.1.0.fits;
+      xgoal = All-take FitsFrac s.states goal second.1.1.0.numbers_are.fits;
+      ugoal = All-drop FitsFrac s.states goal second.1.1.0.numbers_are.fits;
+      allowed = subst (MayHave version drift) (sym (take-append-drop s.states goal)) second.1.1.0.allowed;
+    })
 
 offsets_fit : (version : Version) (s : Sizes) (here behind : Cursor) (o : Offsets) → (offsets version s).Reads here o behind → OffsetsFit version o
 offsets_fit One s here behind o (e, at) =
@@ -83,24 +87,24 @@ offsets_fit One s here behind o (e, at) =
       drift = zeros_fit s.states;
       xgoal = zeros_fit s.states;
       ugoal = zeros_fit s.inputs;
-      allowed = record { drift = zeros_zero s.states; xgoal = zeros_zero s.states; ugoal = zeros_zero s.inputs };
+      allowed = (zeros_zero s.states, All-append (λ x. x ≡ int (pos 0)) (zeros s.states) (zeros s.inputs) (zeros_zero s.states) (zeros_zero s.inputs));
     })
 offsets_fit Two s here behind o reads = lines_fit Two s here behind o reads
 offsets_fit Three s here behind o reads = lines_fit Three s here behind o reads
 
 record LimitsFit (version : Version) (s : Sizes) (l : Limits) : Type 0 where
   rows : All RowFits l.rows
-  terminal : All LastFits l.terminal
+  terminal : All RowFits l.terminal
   axes : All AxisFits l.axes
   few : s.steps * length l.rows + length l.terminal ≤ greatest_rows version (s.inputs * s.steps)
 
 limits_fit : (version : Version) (s : Sizes) (here behind : Cursor) (l : Limits) → (limits version s).Reads here l behind → LimitsFit version s l
 limits_fit version s here behind l (rows, (c1, ((k, (c2, (k_line, rows_read))), (terminal, (c3, ((m, (c4, (m_line, terminal_read))), (axes, (c5, (grid_read, (e, at)))))))))) =
-    let so_many_last : length terminal ≡ m = just_so_many PlantRow (λ before. one_line (plain_rule (IsLast s))) m c4 terminal c3 terminal_read in
-    let in_version : 1 * m + s.steps * length rows ≤ greatest_rows version (s.inputs * s.steps) = m_line.1.1.0.few in
+    let so_many_last : length terminal ≡ m = just_so_many PlantRow (λ before. one_line (plain_rule (IsRow (codes "last") s.states 0))) m c4 terminal c3 terminal_read in
+    let in_version : 1 * m + s.steps * length rows ≤ greatest_rows version (s.inputs * s.steps) = m_line.1.1.0.allowed in
     subst (LimitsFit version s) (sym e) (record {
-      rows = all_items PlantRow (λ before. one_line (plain_rule (IsRow s))) (λ (before : List PlantRow). nat_lt (length before) k) RowFits (λ before b x c more line. line.1.1.0.fits) c2 rows c1 rows_read.0;
-      terminal = all_items PlantRow (λ before. one_line (plain_rule (IsLast s))) (λ (before : List PlantRow). nat_lt (length before) m) LastFits (λ before b x c more line. line.1.1.0.fits) c4 terminal c3 terminal_read.0;
+      rows = all_items PlantRow (λ before. one_line (plain_rule (IsRow (codes "row") s.states s.inputs))) (λ (before : List PlantRow). nat_lt (length before) k) RowFits (λ before b x c more line. line.1.1.0.fits) c2 rows c1 rows_read.0;
+      terminal = all_items PlantRow (λ before. one_line (plain_rule (IsRow (codes "last") s.states 0))) (λ (before : List PlantRow). nat_lt (length before) m) RowFits (λ before b x c more line. line.1.1.0.fits) c4 terminal c3 terminal_read.0;
       axes = all_items Coordinate (λ before. one_line (plain_rule IsAxis)) (λ (before : List Coordinate). nat_lt (length before) s.states) AxisFits (λ before b x c more line. line.1.1.0.fits) c3 axes c5 grid_read.0;
       few = omega arith;
     })
@@ -111,7 +115,6 @@ stated_plant version here v behind (s, (c1, (first, (d, (c2, (second, (w, (c3, (
     let costs = weights_fit s c2 c3 w third in
     let offset = offsets_fit version s c3 c4 o fourth in
     let limit = limits_fit version s c4 c5 l fifth in
-    let same : offsets_of v ≡ o = λ i. record { drift = is.drift i; xgoal = is.xgoal i; ugoal = is.ugoal i } in
     let few : (steps inputs : ℕ) (rows terminal : List PlantRow) → steps ≡ s.steps → inputs ≡ s.inputs → rows ≡ l.rows → terminal ≡ l.terminal → steps * length rows + length terminal ≤ greatest_rows version (inputs * steps) =
     λ steps inputs rows terminal a b c e. subst (λ n. n * length rows + length terminal ≤ greatest_rows version (inputs * n)) (sym a) (subst (λ n. s.steps * length rows + length terminal ≤ greatest_rows version (n * s.steps)) (sym b)
     (subst (λ rs. s.steps * length rs + length terminal ≤ greatest_rows version (s.inputs * s.steps)) (sym c) (subst (λ rs. s.steps * length l.rows + length rs ≤ greatest_rows version (s.inputs * s.steps)) (sym e) limit.few))) in
@@ -127,11 +130,11 @@ stated_plant version here v behind (s, (c1, (first, (d, (c2, (second, (w, (c3, (
         drift = subst AllFit (sym is.drift) offset.drift;
         goal = record { xgoal = subst AllFit (sym is.xgoal) offset.xgoal; ugoal = subst AllFit (sym is.ugoal) offset.ugoal };
         rows = subst (All RowFits) (sym is.rows) limit.rows;
-        terminal = subst (All LastFits) (sym is.terminal) limit.terminal;
+        terminal = subst (All RowFits) (sym is.terminal) limit.terminal;
         grid = subst (All AxisFits) (sym is.grid) limit.axes;
       };
       rows_few = few v.horizon v.p v.rows v.terminal is.horizon is.p is.rows is.terminal;
-      offsets = subst (MayHave version) (sym same) offset.allowed;
+      offsets = subst₂ (MayHave version) (sym is.drift) (sym (λ i. is.xgoal i ++ is.ugoal i)) offset.allowed;
     }
 
 -- ---- laws that are written out
@@ -139,7 +142,7 @@ written_law_fits : (v : Plant) (here : Cursor) (law : Law) (behind : Cursor) →
 written_law_fits v here law behind (set, (b, (s, (zs, (c, (m, (ls, (d, (l, e))))))))) =
     subst LawNumbersFit (sym e.0) (record {
       moves = all_items (List ℚ) (λ before. one_line (move_rule v (length before))) (λ before. nat_lt (length before) (unknowns v)) AllFit (λ before b x c more reads. reads.1.1.0.fits) b zs c m.0;
-      mults = all_items (List ℚ) (λ before. one_line (plain_rule (IsForm (codes "mult") v.n))) (λ before. nat_lt (length before) (length set)) AllFit (λ before b x c more reads. reads.1.1.0.fits) c ls d l.0;
+      mults = all_items (List ℚ) (λ before. one_line (plain_rule (AreNumbers (codes "mult") (v.n + 1)))) (λ before. nat_lt (length before) (length set)) AllFit (λ before b x c more reads. reads.1.1.0.fits) c ls d l.0;
     })
 
 written_laws_fit : (v : Plant) (here : Cursor) (laws : List Law) (behind : Cursor) → (written_laws v).Reads here laws behind → All LawNumbersFit laws
@@ -163,7 +166,7 @@ module _ (v : Plant) (fs : List (List ℚ)) (each : All AllFit fs) where
 
 named_laws_fit : (v : Plant) (here between : Cursor) (fs : List (List ℚ)) (laws : List NamedLaw) (behind : Cursor) → (forms v).Reads here fs between → (named_laws v fs).Reads between laws behind → All LawNumbersFit (map (law_named v fs) laws)
 named_laws_fit v here between fs laws behind (most, (a, (f, g))) (count, (b, (s, h))) =
-    let each : All AllFit fs = all_items (List ℚ) (λ before. one_line (plain_rule (IsNewForm v.n before))) (λ before. nat_lt (length before) most) AllFit (λ before b x c more reads. reads.1.1.0.form_is.fits) a fs between g.0 in
+    let each : All AllFit fs = all_items (List ℚ) (λ before. one_line (plain_rule (StatesNew before (AreNumbers (codes "form") (v.n + 1))))) (λ before. nat_lt (length before) most) AllFit (λ before b x c more reads. reads.1.1.0.stated.fits) a fs between g.0 in
     All-map LawNumbersFit (law_named v fs) laws (all_items NamedLaw (λ before. named_law v fs (used_by before)) (λ before. nat_lt (length before) count) (λ w. LawNumbersFit (law_named v fs w)) (λ before b x c more reads. named_law_fits v fs each (used_by before) b x c reads) b laws behind h.0)
 
 -- ---- certificates
@@ -195,30 +198,30 @@ module _ {Row : Type 0} (row_of : Row → RowInt) (v : Plant) where
 
   -- each node lies as many lines behind the first as there are nodes before it, and no node is deeper than that
   nodes_fit : (laws : ℕ) (rule : List (NodeOver Row) → LineRule Row) (here : Cursor) (read : List (NodeOver Row)) (behind : Cursor) → reach here ≤ 2 ^ 65
-      → ReadsItems (NodeOver Row) (λ before. node_at v laws (rule before) (next_depth (owed before))) (λ before. is_owed (owed before)) here read behind → All NodeNumbersFit (map (node_of row_of) read)
+      → ReadsItems (NodeOver Row) (λ before. node_at v laws (rule before) (slice_index_or (owed before) 0 0)) (λ before. is_some (slice_get (owed before) 0)) here read behind → All NodeNumbersFit (map (node_of row_of) read)
   nodes_fit laws rule here read behind near h = All-map NodeNumbersFit (node_of row_of) read (each here read behind near h)
     where
       each : (here : Cursor) (read : List (NodeOver Row)) (behind : Cursor) → reach here ≤ 2 ^ 65
-          → ReadsItems (NodeOver Row) (λ before. node_at v laws (rule before) (next_depth (owed before))) (λ before. is_owed (owed before)) here read behind → All (λ x. NodeNumbersFit (node_of row_of x)) read
+          → ReadsItems (NodeOver Row) (λ before. node_at v laws (rule before) (slice_index_or (owed before) 0 0)) (λ before. is_some (slice_get (owed before) 0)) here read behind → All (λ x. NodeNumbersFit (node_of row_of x)) read
       each here [] behind near no_item = All-nil (λ x. NodeNumbersFit (node_of row_of x))
       each here _ behind near (one_more before at x _ reads more one) =
-          let item = λ (before : List (NodeOver Row)). node_at v laws (rule before) (next_depth (owed before)) in
-          let asks = λ (before : List (NodeOver Row)). is_owed (owed before) in
-          let lines : here.number + length before ≤ at.number = items_few item asks (λ items from x to k. node_takes v laws (rule items) (next_depth (owed items)) from x to k) here before at reads in
-          let short : reach at ≤ reach here = items_shorter item asks (λ items. run_node v laws (rule items) (next_depth (owed items))) here before at reads in
-          let low : next_depth (owed before) ≤ length before = depth_few before in
+          let item = λ (before : List (NodeOver Row)). node_at v laws (rule before) (slice_index_or (owed before) 0 0) in
+          let asks = λ (before : List (NodeOver Row)). is_some (slice_get (owed before) 0) in
+          let lines : here.number + length before ≤ at.number = items_few item asks (λ items from x to k. node_takes v laws (rule items) (slice_index_or (owed items) 0 0) from x to k) here before at reads in
+          let short : reach at ≤ reach here = items_shorter item asks (λ items. run_node v laws (rule items) (slice_index_or (owed items) 0 0)) here before at reads in
+          let low : slice_index_or (owed before) 0 0 ≤ length before = depth_few before in
           All-append (λ y. NodeNumbersFit (node_of row_of y)) before (x ∷ []) (each here before at near reads)
-          (All-cons (λ y. NodeNumbersFit (node_of row_of y)) x [] (behind_fits (next_depth (owed before)) (omega arith) one.0 one.1.0 x behind one.1.1.1) (All-nil (λ y. NodeNumbersFit (node_of row_of y))))
+          (All-cons (λ y. NodeNumbersFit (node_of row_of y)) x [] (behind_fits (slice_index_or (owed before) 0 0) (omega arith) one.0 one.1.0 x behind one.1.1.1) (All-nil (λ y. NodeNumbersFit (node_of row_of y))))
 
 written_tree_fits : (v : Plant) (laws : ℕ) (here : Cursor) (tree : List Node) (behind : Cursor) → reach here ≤ 2 ^ 65 → (written_tree v laws).Reads here tree behind → All NodeNumbersFit tree
 written_tree_fits v laws here tree behind near (u, (d, (t, (ns, (e, (n, is)))))) =
     let short : reach d ≤ reach here = (run_line (plain_rule (IsWord (codes "tree")))).shorter here u d t in
-    subst (All NodeNumbersFit) (sym (is.0 ∙ (λ i. map (λ x. written_nodes x i) ns))) (nodes_fit (λ row. row) v laws (λ before. written_split v) d ns e (omega arith) n.0)
+    subst (All NodeNumbersFit) (sym is.0) (nodes_fit (λ row. row) v laws (λ before. written_split v) d ns e (omega arith) n.0)
 
-named_tree_fits : (v : Plant) (laws : ℕ) (ps : List RowInt) (here : Cursor) (ns : List (NodeOver ℕ)) (behind : Cursor) → reach here ≤ 2 ^ 65 → (named_tree v laws ps).Reads here ns behind → All NodeNumbersFit (map (named_node ps) ns)
+named_tree_fits : (v : Plant) (laws : ℕ) (ps : List RowInt) (here : Cursor) (ns : List (NodeOver ℕ)) (behind : Cursor) → reach here ≤ 2 ^ 65 → (named_tree v laws ps).Reads here ns behind → All NodeNumbersFit (map (node_of (plane_named ps)) ns)
 named_tree_fits v laws ps here ns behind near (u, (d, (t, (read, (e, (n, is)))))) =
     let short : reach d ≤ reach here = (run_line (plain_rule (IsWord (codes "tree")))).shorter here u d t in
-    subst (All NodeNumbersFit) (sym (ap (map (named_node ps)) is.0 ∙ (λ i. map (λ x. named_nodes ps x i) read)))
+    subst (All NodeNumbersFit) (sym (ap (map (node_of (plane_named ps))) is.0))
     (nodes_fit (plane_named ps) v laws (λ before. named_split (length ps) (planes_used before)) d read e (omega arith) n.0)
 
 -- ---- the whole

@@ -1,4 +1,5 @@
 -- The lines of a search tree are read in one way: those of its nodes, of their certificates, and of its planes.
+use Rattle.std.specs.Prelude.{is_some, slice_get, slice_index_or}
 use Rattle.std.proofs.Common.{◌≡◌, ℕ, ◌+◌, ◌^◌, ◌<◌, ◌≤◌, inl, inr, Bool, nat_lt, ℤ, List, [], ◌∷◌, ◌++◌, map, fold, length, codes, decimal, refl, sym, ap, subst, ◌∙◌, arith, All, get_or}
 use Rattle.std.proofs.lemmas.List.Elements.{All-nil, All-cons, All-head, All-tail}
 use Rattle.mpc_exact.specs.Rational.{ℚ}
@@ -12,8 +13,8 @@ use Rattle.mpc_words.specs.Numerals.{numeral}
 use Rattle.mpc_words.specs.Words.{IsWithout, line}
 use Rattle.mpc_file.specs.Reading.{Cursor, LineRule, Grammar, one_line}
 use Rattle.mpc_file.specs.Lines.{count_line}
-use Rattle.mpc_file.specs.PlantGrammar.{AllFit, plain_rule}
-use Rattle.mpc_file.specs.TreeGrammar.{IsRowOf, IsPlane, IsPlaneLine, IsNoPlane, IsCertLine, certs, NodeLine, split_at, leaf_of, no_move, StatesNode, splits, names_law, has_none, node_rule, NodeOver, split_node, law_node, no_move_node, node_behind, node_at, owed_behind, owed, is_owed, next_depth, nodes, written_split, written_node, IsWord, written_tree, plane_rule, IsPlaneCount, planes, planes_used, named_split, named_tree}
+use Rattle.mpc_file.specs.PlantGrammar.{AllFit, plain_rule, UsesAll, IsNumber}
+use Rattle.mpc_file.specs.TreeGrammar.{IsRowOf, IsPlane, IsPlaneLine, IsNoPlane, IsCertLine, certs, NodeLine, split_at, leaf_of, no_move, StatesNode, splits, names_law, has_none, node_rule, NodeOver, split_node, law_node, no_move_node, node_behind, node_at, owed_behind, owed, nodes, written_split, IsWord, written_tree, plane_rule, planes, planes_used, named_split, named_tree, node_of}
 use Rattle.mpc_file.proofs.Exactness.{IsExactAt, IsExactRule, CutTheorems, exact_line, exact_give, exact_both, exact_many}
 use Rattle.mpc_file.specs.LineTheorems.{WordTheorems}
 use Rattle.mpc_file.proofs.LineNumbers.{IsShortNumber, IsShortPair, without, same_front, same_back, one_words, decimal_word, one_count, one_integers, one_cert}
@@ -63,11 +64,11 @@ all_owed (node ∷ nodes) m ds h =
     deeper (m + 1 + length nodes) (m + length (node ∷ nodes)) (fold (λ depths node. owed_behind node depths) (owed_behind node ds) nodes) (omega arith)
     (all_owed nodes (m + 1) (owed_behind node ds) (owed_deeper m node ds h))
 
-first_within : (m : ℕ) (ds : List ℕ) → WithinDepth m ds → next_depth ds ≤ m
+first_within : (m : ℕ) (ds : List ℕ) → WithinDepth m ds → slice_index_or ds 0 0 ≤ m
 first_within m [] h = omega arith
 first_within m (d ∷ ds) h = h.0
 
-pub depth_few : {Row : Type 0} (nodes : List (NodeOver Row)) → next_depth (owed nodes) ≤ length nodes
+pub depth_few : {Row : Type 0} (nodes : List (NodeOver Row)) → slice_index_or (owed nodes) 0 0 ≤ length nodes
 depth_few nodes = omega (arith, first_within (0 + length nodes) (owed nodes) (all_owed nodes 0 (0 ∷ []) (omega arith, tt)))
 
 -- ---- what is read goes on
@@ -87,7 +88,7 @@ node_takes plant laws split depth here x behind (node, (between, ((text, (taken,
     omega (arith, taken.next, (run_node_behind plant depth node).onward between x behind rest)
 
 pub run_nodes : {Row : Type 0} (plant : Plant) (laws : ℕ) (split : List (NodeOver Row) → LineRule Row) → IsRun (nodes plant laws split)
-run_nodes plant laws split = run_many _ _ (λ before. run_node plant laws (split before) (next_depth (owed before)))
+run_nodes plant laws split = run_many _ _ (λ before. run_node plant laws (split before) (slice_index_or (owed before) 0 0))
 
 module _ (cuts : CutTheorems) (laws : WordTheorems) where
   -- ---- certificates
@@ -169,14 +170,14 @@ module _ (cuts : CutTheorems) (laws : WordTheorems) where
 
   exact_nodes : {Row : Type 0} (plant : Plant) (count : ℕ) → count ≤ 4598479 → (split : List (NodeOver Row) → LineRule Row) → ((before : List (NodeOver Row)) → IsSplitRule (split before)) → (here : Cursor) → reach here ≤ 2 ^ 65 → IsExactAt (nodes plant count split) here
   exact_nodes {Row} plant count few split is here near =
-      let item : List (NodeOver Row) → Grammar (NodeOver Row) = λ before. node_at plant count (split before) (next_depth (owed before)) in
-      let asks : List (NodeOver Row) → Bool = λ before. is_owed (owed before) in
+      let item : List (NodeOver Row) → Grammar (NodeOver Row) = λ before. node_at plant count (split before) (slice_index_or (owed before) 0 0) in
+      let asks : List (NodeOver Row) → Bool = λ before. is_some (slice_get (owed before) 0) in
       exact_many item asks here
       (λ before at reads more.
-      let lines : here.number + length before ≤ at.number = items_few item asks (λ items from x to h. node_takes plant count (split items) (next_depth (owed items)) from x to h) here before at reads in
-      let short : reach at ≤ reach here = items_shorter item asks (λ items. run_node plant count (split items) (next_depth (owed items))) here before at reads in
-      let low : next_depth (owed before) ≤ length before = depth_few before in
-      exact_node plant (next_depth (owed before)) (omega arith) count few (split before) (is before) at)
+      let lines : here.number + length before ≤ at.number = items_few item asks (λ items from x to h. node_takes plant count (split items) (slice_index_or (owed items) 0 0) from x to h) here before at reads in
+      let short : reach at ≤ reach here = items_shorter item asks (λ items. run_node plant count (split items) (slice_index_or (owed items) 0 0)) here before at reads in
+      let low : slice_index_or (owed before) 0 0 ≤ length before = depth_few before in
+      exact_node plant (slice_index_or (owed before) 0 0) (omega arith) count few (split before) (is before) at)
 
   -- ---- rows
   one_row_of : (name : List ℕ) → IsWithout 32 name → (n : ℕ) (text : List ℕ) (x y : RowInt) → IsRowOf name n text x → IsRowOf name n text y → x ≡ y
@@ -210,27 +211,27 @@ module _ (cuts : CutTheorems) (laws : WordTheorems) where
       exact_both _ _ here (exact_word (codes "tree") here)
       (λ u at h.
       let short : reach at ≤ reach here = (run_line (plain_rule (IsWord (codes "tree")))).shorter here u at h in
-      exact_both _ _ at (exact_nodes plant count few (λ before. written_split plant) (λ before. written_rule plant) at (omega arith)) (λ ns to k. exact_give (map written_node ns) to))
+      exact_both _ _ at (exact_nodes plant count few (λ before. written_split plant) (λ before. written_rule plant) at (omega arith)) (λ ns to k. exact_give (map (node_of (λ row. row)) ns) to))
 
   -- ---- planes
   pub exact_planes : (plant : Plant) (all used : ℕ) (here : Cursor) → IsExactAt (planes plant all used) here
   exact_planes plant all used here =
       exact_both _ _ here
-      (exact_plain cuts laws (IsPlaneCount all used) (λ text x y h k. one_short_count cuts laws (codes "planes") (without 32 (codes "planes") refl) text x y h.count_is k.count_is) here)
+      (exact_plain cuts laws (UsesAll all used (IsNumber (codes "planes") (λ number. number < 10 ^ 18))) (λ text x y h k. one_short_count cuts laws (codes "planes") (without 32 (codes "planes") refl) text x y h.stated k.stated) here)
       (λ count at h. exact_many (λ before. one_line (plane_rule plant before)) (λ (before : List RowInt). nat_lt (length before) count) at
       (λ before to reads more. exact_line cuts (plane_rule plant before)
       (record {
-        one = λ text x y k l. one_row_of (codes "plane") (without 32 (codes "plane") refl) plant.n text x y k.plane_is.row_is l.plane_is.row_is;
-        no_bad_node = λ text x k l. no_other_plane (codes "plane") (without 32 (codes "plane") refl) plant.n text x k.plane_is l;
+        one = λ text x y k l. one_row_of (codes "plane") (without 32 (codes "plane") refl) plant.n text x y k.stated.row_is l.stated.row_is;
+        no_bad_node = λ text x k l. no_other_plane (codes "plane") (without 32 (codes "plane") refl) plant.n text x k.stated l;
       }) to))
 
   named_rule : (all used : ℕ) → all < 10 ^ 18 → IsSplitRule (named_split all used)
   named_rule all used few = record {
     exact = record {
-      one = λ text j k h l. one_count laws (codes "split") j k (without 32 (codes "split") refl) (omega (arith, h.is_plane)) (omega (arith, l.is_plane)) (sym h.spelled ∙ l.spelled);
+      one = λ text j k h l. one_count laws (codes "split") j k (without 32 (codes "split") refl) (omega (arith, h.allowed.1)) (omega (arith, l.allowed.1)) (sym h.spelled ∙ l.spelled);
       no_bad_node = λ text j h (k, (e, not)).
-          let same : j ≡ k = same_number (codes "split") (without 32 (codes "split") refl) j k (omega (arith, h.is_plane)) (sym h.spelled ∙ e) in
-          not (omega (arith, h.from_one), omega (arith, h.is_plane), omega (arith, h.in_order));
+          let same : j ≡ k = same_number (codes "split") (without 32 (codes "split") refl) j k (omega (arith, h.allowed.1)) (sym h.spelled ∙ e) in
+          not (omega (arith, h.allowed.0), omega (arith, h.allowed.1), omega (arith, h.allowed.2));
     };
     begins = λ text k h. split_begins text (decimal k ∷ []) h.spelled;
     none_begins_so = λ text h. split_begins text (numeral h.0 ∷ []) h.1.0;
@@ -247,4 +248,4 @@ module _ (cuts : CutTheorems) (laws : WordTheorems) where
 
 pub planes_few : (plant : Plant) (all used : ℕ) (here behind : Cursor) (ps : List RowInt) → (planes plant all used).Reads here ps behind → length ps < 10 ^ 18
 planes_few plant all used here behind ps (count, (between, ((text, (taken, (states, over))), (reads, none)))) =
-    omega (arith, so_few (λ before. one_line (plane_rule plant before)) count between ps behind reads, states.count_is.short)
+    omega (arith, so_few (λ before. one_line (plane_rule plant before)) count between ps behind reads, states.stated.allowed)

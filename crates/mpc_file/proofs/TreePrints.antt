@@ -1,5 +1,5 @@
 -- The lines of planes and of nodes that name them are read as the tree.
-use Rattle.std.proofs.Common.{◌≡◌, ℕ, ℤ, ◌*◌, ◌^◌, ◌<◌, ◌≤◌, List, [], ◌∷◌, ◌++◌, length, map, refl, sym, ◌∙◌, subst, arith, length-append}
+use Rattle.std.proofs.Common.{◌≡◌, ℕ, ℤ, ◌*◌, ◌^◌, ◌<◌, ◌≤◌, List, [], ◌∷◌, ◌++◌, length, map, refl, subst, arith, length-append}
 use Rattle.std.specs.Prelude.{All, Contains, fold, codes, unsigned_abs}
 use Rattle.std.specs.Fmt.{signed_decimal}
 use Rattle.std.specs.List.{flat_map}
@@ -14,8 +14,8 @@ use Rattle.mpc_controller.specs.Preorder.{IsTree}
 use Rattle.mpc_words.specs.Words.{IsWithout, behind_blanks}
 use Rattle.mpc_file.specs.Reading.{one_line, give, ◌>>=◌}
 use Rattle.mpc_file.specs.Lines.{count_line}
-use Rattle.mpc_file.specs.PlantGrammar.{plain_rule}
-use Rattle.mpc_file.specs.TreeGrammar.{plane_rule, IsPlaneCount, planes, node_rule, NodeOver, nodes, IsWord, used_with, planes_used, plane_named, named_split, named_node, named_tree}
+use Rattle.mpc_file.specs.PlantGrammar.{plain_rule, UsesAll, IsNumber}
+use Rattle.mpc_file.specs.TreeGrammar.{plane_rule, planes, node_rule, NodeOver, nodes, IsWord, used_with, planes_used, plane_named, named_split, named_tree, node_of}
 use Rattle.mpc_file.specs.TreeGrammar.NodeLine.{split_at}
 use Rattle.mpc_file.specs.TreeGrammar.StatesNode.{splits}
 use Rattle.mpc_file.specs.TreeGrammar.NodeOver.{split_node, law_node, no_move_node}
@@ -28,7 +28,6 @@ use Rattle.mpc_file.proofs.PrintLemmas.{prints_line, prints_plain, prints_give, 
 use Rattle.mpc_file.proofs.WithoutLemmas.{line_without, plain_without, count_line_without}
 use Rattle.mpc_file.proofs.PlantPrints.{each_ended}
 use Rattle.mpc_file.proofs.LawPrints.{different_items}
-use Rattle.mpc_file.proofs.TreeShapes.{node_of, named_nodes}
 use Rattle.mpc_file.proofs.NodePrints.{text_over, nodes_print}
 
 -- ---- nodes whose splits are named
@@ -36,7 +35,7 @@ order_at : (all used : ℕ) (before : List (NodeOver ℕ)) (x : NodeOver ℕ) (a
 order_at all used [] x after h = h.0
 order_at all used (b ∷ before) x after h = order_at all (used_with used b) before x after h.1
 
-numbers_fit : (ps : List RowInt) (x : NodeOver ℕ) → CertsFit x → NodeNumbersFit (named_node ps x)
+numbers_fit : (ps : List RowInt) (x : NodeOver ℕ) → CertsFit x → NodeNumbersFit (node_of (plane_named ps) x)
 numbers_fit ps (split_node k) fit = tt
 numbers_fit ps (law_node j cs) fit = fit
 numbers_fit ps (no_move_node c) fit = fit
@@ -54,13 +53,13 @@ module _ (words : WordTheorems) where
   plane_prints : (plant : Plant) (before : List RowInt) (row : RowInt) → ¬ Contains before row → IsGoodPlane plant row → Prints (one_line (plane_rule plant before)) row (ended (plane_line row))
   plane_prints plant before row new good =
       prints_line (plane_rule plant before) row (plane_line row) (line_without (codes "plane") (map signed_decimal (row.a ++ row.b ∷ [])) refl (integers_without (row.a ++ row.b ∷ []) good.is_row.small))
-      (record { plane_is = record { row_is = record { spelled = refl; size = good.is_row.size; small = good.is_row.small }; plane = record { some = good.is_row.some; no_divisor = good.is_row.no_divisor } }; new_one = new })
+      (record { stated = record { row_is = record { spelled = refl; size = good.is_row.size; small = good.is_row.small }; plane = record { some = good.is_row.some; no_divisor = good.is_row.no_divisor } }; new_one = new })
       (λ over. over good.fits)
 
   pub planes_print : (plant : Plant) (all used : ℕ) (ps : List RowInt) → used ≡ all → AreDifferent (map plane_line ps) → All (IsGoodPlane plant) ps → length ps < 10 ^ 18 → Prints (planes plant all used) ps (planes_text ps)
   planes_print plant all used ps same different good few =
-      prints_both (one_line (plain_rule (IsPlaneCount all used))) _ (length ps) ps (ended (count_line (codes "planes") (length ps))) (text_of_lines (map plane_line ps))
-      (prints_plain (IsPlaneCount all used) (length ps) (count_line (codes "planes") (length ps)) (count_line_without words (codes "planes") (length ps) refl (omega arith)) (record { count_is = record { spelled = refl; short = few }; all_used = same }))
+      prints_both (one_line (plain_rule (UsesAll all used (IsNumber (codes "planes") (λ number. number < 10 ^ 18))))) _ (length ps) ps (ended (count_line (codes "planes") (length ps))) (text_of_lines (map plane_line ps))
+      (prints_plain (UsesAll all used (IsNumber (codes "planes") (λ number. number < 10 ^ 18))) (length ps) (count_line (codes "planes") (length ps)) (count_line_without words (codes "planes") (length ps) refl (omega arith)) (record { stated = record { spelled = refl; allowed = few }; all_used = same }))
       (prints_as _ ps (flat_map (λ row. ended (plane_line row)) ps) (text_of_lines (map plane_line ps)) (each_ended plane_line ps)
       (prints_counted (λ before. one_line (plane_rule plant before)) (length ps) (λ row. ended (plane_line row)) ps refl
       (λ before row after whole. plane_prints plant before row (different_items plane_line ps different before row after whole) (in_list (IsGoodPlane plant) before row after (subst (All (IsGoodPlane plant)) whole good)))))
@@ -106,13 +105,13 @@ module _ (words : WordTheorems) where
   named_split_prints : (laws all used k : ℕ) → all < 2 ^ 64 → NamesInOrder all used (split_node k) → Prints (one_line (node_rule laws (named_split all used))) (split_at k) (ended (count_line (codes "split") k))
   named_split_prints laws all used k short order =
       let within = order.1 in
-      prints_line (node_rule laws (named_split all used)) (split_at k) (count_line (codes "split") k) (count_line_without words (codes "split") k refl (omega arith)) (splits k (record { spelled = refl; from_one = order.0; is_plane = order.1; in_order = order.2 })) (λ over. over)
+      prints_line (node_rule laws (named_split all used)) (split_at k) (count_line (codes "split") k) (count_line_without words (codes "split") k refl (omega arith)) (splits k (record { spelled = refl; allowed = order })) (λ over. over)
 
-  pub tree_prints : (plant : Plant) (laws : ℕ) (ps : List RowInt) (named : List (NodeOver ℕ)) (tree : List Node) → map (named_node ps) named ≡ tree → laws < 2 ^ 64 → length ps < 2 ^ 64 → PlanesInOrder (length ps) 0 named → All CertsFit named
+  pub tree_prints : (plant : Plant) (laws : ℕ) (ps : List RowInt) (named : List (NodeOver ℕ)) (tree : List Node) → map (node_of (plane_named ps)) named ≡ tree → laws < 2 ^ 64 → length ps < 2 ^ 64 → PlanesInOrder (length ps) 0 named → All CertsFit named
       → All (IsNodeFor plant.n laws) tree → IsTree tree → HaveCerts plant.n (row_count plant) (0 ∷ []) tree → Prints (named_tree plant laws ps) named (tree_text named)
   tree_prints plant laws ps named tree same few short order fit are is have =
-      let nodes_same : map (node_of (plane_named ps)) named ≡ tree = (λ i. map (λ x. sym (named_nodes ps x) i) named) ∙ same in
-      let numbers : All NodeNumbersFit tree = subst (All NodeNumbersFit) same (All-map NodeNumbersFit (named_node ps) named (All-weaker CertsFit (λ x. NodeNumbersFit (named_node ps x)) (numbers_fit ps) named fit)) in
+      let nodes_same : map (node_of (plane_named ps)) named ≡ tree = same in
+      let numbers : All NodeNumbersFit tree = subst (All NodeNumbersFit) same (All-map NodeNumbersFit (node_of (plane_named ps)) named (All-weaker CertsFit (λ x. NodeNumbersFit (node_of (plane_named ps) x)) (numbers_fit ps) named fit)) in
       prints_both (one_line (plain_rule (IsWord (codes "tree")))) (λ u. nodes plant laws (λ before. named_split (length ps) (planes_used before)) >>= λ ns. give ns) tt named (ended (codes "tree")) (flat_map node_text named)
       (prints_plain (IsWord (codes "tree")) tt (codes "tree") (plain_without (codes "tree") refl) refl)
       (prints_end (nodes plant laws (λ before. named_split (length ps) (planes_used before))) (λ ns. give ns) named named (flat_map node_text named)

@@ -1,4 +1,5 @@
 -- The lines of a tree are read one after another.
+use Rattle.std.specs.Prelude.{is_some, slice_get, slice_index_or}
 use Rattle.std.specs.Int.{◌∣◌}
 use Rattle.std.proofs.Common.{◌≡◌, ℕ, ◌+◌, ◌*◌, ◌^◌, ◌<◌, ◌≤◌, Bool, nat_eq, nat_lt, IsTrue, ◌↔◌, List, [], ◌∷◌, ◌++◌, length, map, All, ℤ, pos, codes, Result, Ok, Err, IsErrAnd, inl, inr, refl, sym, ap, ◌∙◌, subst, arith}
 use Rattle.std.proofs.lemmas.Bool.Decides.{nat_tests}
@@ -20,7 +21,7 @@ use Rattle.mpc_file.specs.declared.errors.FileError.TheVariants.{Bad, NoMemory}
 use Rattle.mpc_file.specs.declared.tree_lines.PlaneLine.{PlaneLine}
 use Rattle.mpc_file.specs.Reading.{Cursor, TakesLine, LineRule, Grammar, one_line, give, ◌>>=◌, ReadsItems, no_item, one_more, Outcome}
 use Rattle.mpc_file.specs.PlantGrammar.{plain_rule}
-use Rattle.mpc_file.specs.TreeGrammar.{IsPlane, IsCertLine, NodeLine, split_at, leaf_of, no_move, StatesNode, splits, names_law, has_none, NodeOver, split_node, law_node, no_move_node, node_behind, node_at, owed_behind, owed, is_owed, next_depth, nodes, certs, IsRowOf, IsPlaneLine, written_split, written_node}
+use Rattle.mpc_file.specs.TreeGrammar.{IsPlane, IsCertLine, NodeLine, split_at, leaf_of, no_move, StatesNode, splits, names_law, has_none, NodeOver, split_node, law_node, no_move_node, node_behind, node_at, owed_behind, owed, nodes, certs, IsRowOf, IsPlaneLine, written_split, node_of}
 use Rattle.mpc_file.specs.TreeReading.{ReadsPlane, owed_under, NamesLaw, IsNoLeaf, ReadsLeafNode, FailsLeafNode, names_none, is_other, certs_fail, cert_fails, LeafOutcome, written_node_at}
 
 -- ---- planes
@@ -107,17 +108,17 @@ module _ {Row : Type 0} (plant : Plant) (laws : ℕ) where
 
   module _ (split : List (NodeOver Row) → LineRule Row) where
     abbrev pub item : List (NodeOver Row) → Grammar (NodeOver Row)
-    item before = node_at plant laws (split before) (next_depth (owed before))
+    item before = node_at plant laws (split before) (slice_index_or (owed before) 0 0)
 
     abbrev pub asks : List (NodeOver Row) → Bool
-    asks before = is_owed (owed before)
+    asks before = is_some (slice_get (owed before) 0)
 
     -- each node takes two bytes at least, and owes nodes no deeper than there are nodes
     pub nodes_shrink : ((before : List (NodeOver Row)) → HasText (split before)) → (here : Cursor) (ns : List (NodeOver Row)) (behind : Cursor) → ReadsItems (NodeOver Row) item asks here ns behind → length behind.rest + 2 * length ns ≤ length here.rest
     nodes_shrink some here [] behind no_item = omega arith
     nodes_shrink some here _ behind (one_more items between x _ before more reads) =
         let front = nodes_shrink some here items between before in
-        let back = node_shrinks (split items) (some items) (next_depth (owed items)) between x behind reads in
+        let back = node_shrinks (split items) (some items) (slice_index_or (owed items) 0 0) between x behind reads in
         let l = more_items items x in
         omega arith
 
@@ -141,11 +142,11 @@ module _ {Row : Type 0} (plant : Plant) (laws : ℕ) where
       pub owed_is : owed r.ns ≡ depth ∷ depths
       owed_is = sym r.owing_is ∙ at
 
-      pub depth_is : next_depth (owed r.ns) ≡ depth
-      depth_is = ap next_depth owed_is
+      pub depth_is : slice_index_or (owed r.ns) 0 0 ≡ depth
+      depth_is = ap (λ (ds : List ℕ). slice_index_or ds 0 0) owed_is
 
       pub asked : IsTrue (asks r.ns)
-      asked = ap is_owed owed_is
+      asked = ap (λ (ds : List ℕ). is_some (slice_get ds 0)) owed_is
 
       -- the next node is no deeper than half of the bytes
       pub depth_small : ((before : List (NodeOver Row)) → HasText (split before)) → length here.rest < 2 ^ 64 → depth < 2 ^ 63
@@ -171,7 +172,7 @@ module _ {Row : Type 0} (plant : Plant) (laws : ℕ) where
 
     -- none is owed
     pub nodes_read : (form : NodeOver Row → Node) (here behind : Cursor) (tree : List Node) (owing : List ℕ) (r : NodesRead form here behind tree owing) → owing ≡ [] → (nodes plant laws split).Reads here r.ns behind
-    nodes_read form here behind tree owing r e = (r.reads, ap is_owed (sym r.owing_is ∙ e))
+    nodes_read form here behind tree owing r e = (r.reads, ap (λ (ds : List ℕ). is_some (slice_get ds 0)) (sym r.owing_is ∙ e))
 
 -- ---- one node, whose line is taken
 module _ {X : Type 0} (grammar : Grammar X) (plant : Plant) (laws depth : ℕ) (text : List ℕ) (number : ℕ) (here between behind : Cursor) where
@@ -235,7 +236,7 @@ module _ {Row Y : Type 0} (plant : Plant) (laws depth : ℕ) (split : LineRule R
     leaf_fails _ _ (certs_fail j kind place names h) = inl (inr (leaf_of j, (between, ((text, (taken, (names_law j names.spelled names.is_law, λ over. over))), inl h))))
     leaf_fails _ _ (cert_fails kind place none h) = inl (inr (no_move, (between, ((text, (taken, (has_none none, λ over. over))), inl h))))
 
-written_leaf_is : (node : Node) (x : NodeOver RowInt) → IsLeafOf node x → node ≡ written_node x
+written_leaf_is : (node : Node) (x : NodeOver RowInt) → IsLeafOf node x → node ≡ (node_of (λ row. row)) x
 written_leaf_is node (split_node row) e = absurd e
 written_leaf_is node (law_node j cs) e = e
 written_leaf_is node (no_move_node c) e = e
@@ -244,13 +245,13 @@ written_leaf_is node (no_move_node c) e = e
 pub written_leaf : (plant : Plant) (laws depth : ℕ) (here between behind : Cursor) (text : List ℕ) (number : ℕ) → number ≡ here.number → TakesLine here text between → ((row : RowInt) → ¬ IsRowOf (codes "split") plant.n text row)
     → (answer : Result Node FileError) → LeafOutcome plant laws depth text number between behind answer → Outcome (written_node_at plant laws depth) here behind answer
 written_leaf plant laws depth here between behind text number e taken none (Ok node) h =
-    leaf_reads plant laws depth (written_split plant) written_node here between text number e taken (λ row states. none row states.row_is) (λ no. none no.0 no.1.0) behind node node h (written_leaf_is node)
+    leaf_reads plant laws depth (written_split plant) (node_of (λ row. row)) here between text number e taken (λ row states. none row states.row_is) (λ no. none no.0 no.1.0) behind node node h (written_leaf_is node)
 written_leaf plant laws depth here between behind text number e taken none (Err (Bad kind place)) h =
-    leaf_fails plant laws depth (written_split plant) written_node here between text number e taken (λ row states. none row states.row_is) (λ no. none no.0 no.1.0) behind kind place h
+    leaf_fails plant laws depth (written_split plant) (node_of (λ row. row)) here between text number e taken (λ row states. none row states.row_is) (λ no. none no.0 no.1.0) behind kind place h
 written_leaf plant laws depth here between behind text number e taken none (Err NoMemory) h = tt
 
 -- a written node owes what its form does
-pub written_owes : (x : NodeOver RowInt) (d : ℕ) (ds : List ℕ) → owed_behind x (d ∷ ds) ≡ owed_under (written_node x) d ds
+pub written_owes : (x : NodeOver RowInt) (d : ℕ) (ds : List ℕ) → owed_behind x (d ∷ ds) ≡ owed_under ((node_of (λ row. row)) x) d ds
 written_owes (split_node row) d ds = refl
 written_owes (law_node j cs) d ds = refl
 written_owes (no_move_node c) d ds = refl

@@ -1,6 +1,6 @@
 -- The nodes that lines state are a tree, whose leaves have their certificates.
 use Rattle.std.proofs.Common.{◌≡◌, ℕ, ◌+◌, false, IsTrue, List, [], ◌∷◌, ◌++◌, length, map, nat_lt, refl, sym, subst, append_assoc}
-use Rattle.std.specs.Prelude.{All}
+use Rattle.std.specs.Prelude.{is_some, slice_get, slice_index_or, All}
 use Rattle.std.proofs.lemmas.List.{map-append, append-nil}
 use Rattle.std.proofs.lemmas.List.Sums.{fold-append}
 use Rattle.std.proofs.lemmas.List.Elements.{All-map}
@@ -17,7 +17,7 @@ use Rattle.mpc_controller.specs.Certificates.{IsCertOver, cell_rows, AreLawCerts
 use Rattle.mpc_controller.specs.Bounds.{SplitFits, NodeFits}
 use Rattle.mpc_file.specs.Reading.{Cursor, LineRule, Grammar, one_line, ReadsItems, no_item, one_more}
 use Rattle.mpc_file.specs.PlantGrammar.{plain_rule}
-use Rattle.mpc_file.specs.TreeGrammar.{NodeLine, split_at, leaf_of, no_move, splits, names_law, has_none, NodeOver, split_node, law_node, no_move_node, node_rule, node_behind, node_at, owed_behind, owed, is_owed, next_depth, nodes, certs, IsCertLine, written_node, plane_named, named_node}
+use Rattle.mpc_file.specs.TreeGrammar.{NodeLine, split_at, leaf_of, no_move, splits, names_law, has_none, NodeOver, split_node, law_node, no_move_node, node_rule, node_behind, node_at, owed_behind, owed, nodes, certs, IsCertLine, node_of}
 use Rattle.mpc_file.proofs.ManyLemmas.{all_items, just_so_many}
 
 -- ---- what is owed behind one node more
@@ -42,23 +42,6 @@ law_certs n m depth here cs behind h =
       one_each = just_so_many (List (ℕ × ℚ)) (λ before. one_line (plain_rule (IsCertLine (cell_rows n depth + 1)))) m here cs behind h;
       each = all_items (List (ℕ × ℚ)) (λ before. one_line (plain_rule (IsCertLine (cell_rows n depth + 1)))) (λ before. nat_lt (length before) m) (IsCertOver (cell_rows n depth + 1)) (λ before b x c more reads. reads.1.1.0.cert_is) here cs behind h.0;
     }
-
--- the nodes of a tree whose splits have these rows
-abbrev pub node_of : {Row : Type 0} → (Row → RowInt) → NodeOver Row → Node
-node_of row_of (split_node row) = Split (row_of row)
-node_of row_of (law_node j cs) = Law j cs
-node_of row_of (no_move_node c) = NoMove c
-
--- those whose rows are written out, and those that name planes
-pub written_nodes : (x : NodeOver RowInt) → written_node x ≡ node_of (λ row. row) x
-written_nodes (split_node row) = refl
-written_nodes (law_node j cs) = refl
-written_nodes (no_move_node c) = refl
-
-pub named_nodes : (ps : List RowInt) (x : NodeOver ℕ) → named_node ps x ≡ node_of (plane_named ps) x
-named_nodes ps (split_node k) = refl
-named_nodes ps (law_node j cs) = refl
-named_nodes ps (no_move_node c) = refl
 
 module _ {Row : Type 0} (plant : Plant) (laws : ℕ) (row_of : Row → RowInt) where
   -- what a split's line gives
@@ -103,18 +86,18 @@ module _ (spells_split : SplitSpells) (spells_leaf : LeafSpells) {Row : Type 0} 
         certified = λ tail h. subst (HaveCerts n m (0 ∷ [])) (sym (append_assoc read (NoMove c ∷ []) tail)) (before.certified (NoMove c ∷ tail) (cert, h));
       }
 
-  step_at : (read : List Node) (x : NodeOver Row) (depths : List ℕ) → IsTrue (is_owed depths) → SoFar n m read depths → CertsOf n m (next_depth depths) (node_of row_of x) → SoFar n m (read ++ node_of row_of x ∷ []) (owed_behind x depths)
+  step_at : (read : List Node) (x : NodeOver Row) (depths : List ℕ) → IsTrue (is_some (slice_get depths 0)) → SoFar n m read depths → CertsOf n m (slice_index_or depths 0 0) (node_of row_of x) → SoFar n m (read ++ node_of row_of x ∷ []) (owed_behind x depths)
   step_at read x [] more before cert = absurd (false≢true more)
   step_at read x (depth ∷ depths) more before cert = step read x depth depths before cert
 
-  one_more_read : (before : List (NodeOver Row)) (x : NodeOver Row) → IsTrue (is_owed (owed before)) → SoFar n m (map (node_of row_of) before) (owed before) → CertsOf n m (next_depth (owed before)) (node_of row_of x)
+  one_more_read : (before : List (NodeOver Row)) (x : NodeOver Row) → IsTrue (is_some (slice_get (owed before) 0)) → SoFar n m (map (node_of row_of) before) (owed before) → CertsOf n m (slice_index_or (owed before) 0 0) (node_of row_of x)
       → SoFar n m (map (node_of row_of) (before ++ x ∷ [])) (owed (before ++ x ∷ []))
   one_more_read before x more h cert =
       subst (λ ds. SoFar n m (map (node_of row_of) (before ++ x ∷ [])) ds) (sym (owed_more before x))
       (subst (λ ns. SoFar n m ns (owed_behind x (owed before))) (sym (map-append (node_of row_of) before (x ∷ []))) (step_at (map (node_of row_of) before) x (owed before) more h cert))
 
   -- none is owed
-  whole : (read : List Node) (depths : List ℕ) → is_owed depths ≡ false → SoFar n m read depths → IsTree read × HaveCerts n m (0 ∷ []) read
+  whole : (read : List Node) (depths : List ℕ) → is_some (slice_get depths 0) ≡ false → SoFar n m read depths → IsTree read × HaveCerts n m (0 ∷ []) read
   whole read [] none h = (h.spelled, subst (HaveCerts n m (0 ∷ [])) (append-nil read) (h.certified [] tt))
   whole read (depth ∷ depths) none h = absurd (false≢true (sym none))
 
@@ -127,20 +110,20 @@ pub record GoodTree (plant : Plant) (laws : ℕ) (read : List Node) : Type 0 whe
 
 module _ (spells_split : SplitSpells) (spells_leaf : LeafSpells) {Row : Type 0} (plant : Plant) (laws : ℕ) (row_of : Row → RowInt) (split : List (NodeOver Row) → LineRule Row) (well : (before : List (NodeOver Row)) → SplitsWell plant laws row_of (split before)) where
   item : List (NodeOver Row) → Grammar (NodeOver Row)
-  item before = node_at plant laws (split before) (next_depth (owed before))
+  item before = node_at plant laws (split before) (slice_index_or (owed before) 0 0)
 
-  so_far : (here : Cursor) (read : List (NodeOver Row)) (behind : Cursor) → ReadsItems (NodeOver Row) (λ before. node_at plant laws (split before) (next_depth (owed before))) (λ before. is_owed (owed before)) here read behind
+  so_far : (here : Cursor) (read : List (NodeOver Row)) (behind : Cursor) → ReadsItems (NodeOver Row) (λ before. node_at plant laws (split before) (slice_index_or (owed before) 0 0)) (λ before. is_some (slice_get (owed before) 0)) here read behind
       → SoFar plant.n (row_count plant) (map (node_of row_of) read) (owed read)
   so_far here [] behind no_item = record { spelled = refl; certified = λ tail h. h }
   so_far here _ behind (one_more items between x _ before more reads) =
-      one_more_read spells_split spells_leaf row_of plant.n (row_count plant) items x more (so_far here items between before) (good_node plant laws row_of (split items) (well items) (next_depth (owed items)) between x behind reads).certs_are
+      one_more_read spells_split spells_leaf row_of plant.n (row_count plant) items x more (so_far here items between before) (good_node plant laws row_of (split items) (well items) (slice_index_or (owed items) 0 0) between x behind reads).certs_are
 
   pub good_tree : (here : Cursor) (read : List (NodeOver Row)) (behind : Cursor) → (nodes plant laws split).Reads here read behind → GoodTree plant laws (map (node_of row_of) read)
   good_tree here read behind h =
       let all = whole spells_split spells_leaf row_of plant.n (row_count plant) (map (node_of row_of) read) (owed read) h.1 (so_far here read behind h.0) in
       record {
-        nodes_fit = All-map (IsNodeFor plant.n laws) (node_of row_of) read (all_items (NodeOver Row) (λ before. node_at plant laws (split before) (next_depth (owed before))) (λ before. is_owed (owed before)) (λ x. IsNodeFor plant.n laws (node_of row_of x)) (λ before b x c more reads. (good_node plant laws row_of (split before) (well before) (next_depth (owed before)) b x c reads).fits) here read behind h.0);
-        bounds = All-map (NodeFits (limits_of plant)) (node_of row_of) read (all_items (NodeOver Row) (λ before. node_at plant laws (split before) (next_depth (owed before))) (λ before. is_owed (owed before)) (λ x. NodeFits (limits_of plant) (node_of row_of x)) (λ before b x c more reads. (good_node plant laws row_of (split before) (well before) (next_depth (owed before)) b x c reads).bound) here read behind h.0);
+        nodes_fit = All-map (IsNodeFor plant.n laws) (node_of row_of) read (all_items (NodeOver Row) (λ before. node_at plant laws (split before) (slice_index_or (owed before) 0 0)) (λ before. is_some (slice_get (owed before) 0)) (λ x. IsNodeFor plant.n laws (node_of row_of x)) (λ before b x c more reads. (good_node plant laws row_of (split before) (well before) (slice_index_or (owed before) 0 0) b x c reads).fits) here read behind h.0);
+        bounds = All-map (NodeFits (limits_of plant)) (node_of row_of) read (all_items (NodeOver Row) (λ before. node_at plant laws (split before) (slice_index_or (owed before) 0 0)) (λ before. is_some (slice_get (owed before) 0)) (λ x. NodeFits (limits_of plant) (node_of row_of x)) (λ before b x c more reads. (good_node plant laws row_of (split before) (well before) (slice_index_or (owed before) 0 0) b x c reads).bound) here read behind h.0);
         complete = all.0;
         certs_fit = all.1;
       }

@@ -9,11 +9,11 @@ use Rattle.mpc_rows.specs.declared.trees.Node.{Node}
 use Rattle.mpc_file.specs.declared.errors.FileKind.{FileKind}
 use Rattle.mpc_file.specs.declared.errors.FileError.{FileError}
 use Rattle.mpc_file.specs.Reading.{Cursor, Grammar, Outcome, one_line}
-use Rattle.mpc_file.specs.PlantGrammar.{plain_rule}
+use Rattle.mpc_file.specs.PlantGrammar.{plain_rule, UsesAll}
 use Rattle.mpc_file.specs.LawGrammar.{written_laws, forms, NamedLaw, named_laws, used_by}
-use Rattle.mpc_file.specs.TreeGrammar.{IsWord, NodeOver, written_tree, planes, planes_used, named_tree, named_node}
+use Rattle.mpc_file.specs.TreeGrammar.{IsWord, NodeOver, written_tree, planes, planes_used, named_tree, node_of, plane_named}
 use Rattle.mpc_file.specs.TreeReading.{named_tree_nodes}
-use Rattle.mpc_file.specs.FileGrammar.{written, named, IsEnd}
+use Rattle.mpc_file.specs.FileGrammar.{written, named}
 use Rattle.mpc_file.proofs.OutcomeLemmas.{error_from}
 
 -- an error is passed on
@@ -56,18 +56,18 @@ module _ (plant : Plant) (here b : Cursor) (fs : List (List ℚ)) (read_forms : 
         end_is : (P : ℕ → ℕ → Type 0) → P most splits → P (length ps) (planes_used ns)
         end_is P h = subst (λ n. P n (planes_used ns)) most_is (subst (P most) splits_is h)
 
-        pub last_fails : (kind : FileKind) (number : ℕ) → (one_line (plain_rule (IsEnd most splits))).Fails e kind number → (named plant).Fails here kind number
+        pub last_fails : (kind : FileKind) (number : ℕ) → (one_line (plain_rule (UsesAll most splits (IsWord (codes "end"))))).Fails e kind number → (named plant).Fails here kind number
         last_fails kind number f =
-            inr (fs, (b, (read_forms, inr (ls, (c, (read_laws, inr (ps, (d, (planes_read, inr (ns, (e, (nodes_read, inl (end_is (λ m n. (one_line (plain_rule (IsEnd m n))).Fails e kind number) f)))))))))))))
+            inr (fs, (b, (read_forms, inr (ls, (c, (read_laws, inr (ps, (d, (planes_read, inr (ns, (e, (nodes_read, inl (end_is (λ m n. (one_line (plain_rule (UsesAll m n (IsWord (codes "end"))))).Fails e kind number) f)))))))))))))
 
-        pub last_read : (u : Unit {0}) (end : Cursor) → (one_line (plain_rule (IsEnd most splits))).Reads e u end → (one_line (plain_rule (IsEnd (length ps) (planes_used ns)))).Reads e u end
-        last_read u end f = end_is (λ m n. (one_line (plain_rule (IsEnd m n))).Reads e u end) f
+        pub last_read : (u : Unit {0}) (end : Cursor) → (one_line (plain_rule (UsesAll most splits (IsWord (codes "end"))))).Reads e u end → (one_line (plain_rule (UsesAll (length ps) (planes_used ns) (IsWord (codes "end"))))).Reads e u end
+        last_read u end f = end_is (λ m n. (one_line (plain_rule (UsesAll m n (IsWord (codes "end"))))).Reads e u end) f
 
 -- ---- the nodes with the rows of their splits
 pub record NodesRead (plant : Plant) (count : ℕ) (ps : List RowInt) (d e : Cursor) (tree : List Node) (splits : ℕ) : Type 0 where
   pub ns : List (NodeOver ℕ)
   pub reads : (named_tree plant count ps).Reads d ns e
-  pub tree_is : tree ≡ map (named_node ps) ns
+  pub tree_is : tree ≡ map (node_of (plane_named ps)) ns
   pub splits_is : splits ≡ planes_used ns
 
 pub nodes_of : (plant : Plant) (count : ℕ) (ps : List RowInt) (d e : Cursor) (tree : List Node) (splits : ℕ) → (named_tree_nodes plant count ps).Reads d (tree, splits) e → NodesRead plant count ps d e tree splits

@@ -1,5 +1,5 @@
 -- The lines of laws and of a tree whose forms and rows are written out are read as these.
-use Rattle.std.proofs.Common.{◌≡◌, ℕ, ◌+◌, List, [], ◌∷◌, ◌++◌, length, map, refl, sym, ◌∙◌, ap, subst, arith, get_or, nat_lt}
+use Rattle.std.proofs.Common.{◌≤◌, ◌≡◌, ℕ, ◌+◌, List, [], ◌∷◌, ◌++◌, length, map, refl, sym, ◌∙◌, ap, subst, arith, get_or, nat_lt}
 use Rattle.std.specs.Prelude.{All, codes, decimal}
 use Rattle.std.specs.Fmt.{signed_decimal}
 use Rattle.std.specs.List.{flat_map}
@@ -16,9 +16,9 @@ use Rattle.mpc_controller.specs.Bounds.{FormFits, LawFits, IsController}
 use Rattle.mpc_words.specs.Words.{line}
 use Rattle.mpc_file.specs.Reading.{one_line, give, ◌>>=◌, many}
 use Rattle.mpc_file.specs.Lines.{count_line, integers_line, fractions_line}
-use Rattle.mpc_file.specs.PlantGrammar.{AllFit, plain_rule}
-use Rattle.mpc_file.specs.LawGrammar.{unknowns, IsLawLine, IsForm, move_rule, moves, mults, law_with, written_law, IsLawCount, law_count, written_laws}
-use Rattle.mpc_file.specs.TreeGrammar.{IsWord, NodeOver, written_split, written_node, written_tree, node_rule, nodes}
+use Rattle.mpc_file.specs.PlantGrammar.{AllFit, plain_rule, AreNumbers, IsNumber}
+use Rattle.mpc_file.specs.LawGrammar.{unknowns, IsLawLine, move_rule, moves, mults, law_with, written_law, law_count, written_laws}
+use Rattle.mpc_file.specs.TreeGrammar.{IsWord, NodeOver, written_split, written_tree, node_rule, nodes, node_of}
 use Rattle.mpc_file.specs.TreeGrammar.NodeLine.{split_at}
 use Rattle.mpc_file.specs.TreeGrammar.StatesNode.{splits}
 use Rattle.mpc_file.specs.TreeGrammar.NodeOver.{split_node, law_node, no_move_node}
@@ -33,7 +33,6 @@ use Rattle.mpc_file.proofs.WithoutLemmas.{line_without, plain_without, count_lin
 use Rattle.mpc_file.proofs.PlantPrints.{all_both}
 use Rattle.mpc_file.proofs.LawPrints.{numbers_without, rises_small, law_width}
 use Rattle.mpc_file.proofs.TreePrints.{integers_without}
-use Rattle.mpc_file.proofs.TreeShapes.{node_of, written_nodes}
 use Rattle.mpc_file.proofs.NodePrints.{text_over, nodes_print}
 use Rattle.mpc_file.proofs.FilePrints.{nodes_good, rows_small}
 
@@ -63,20 +62,20 @@ abbrev pub written_text : List Law → List Node → List ℕ
 written_text laws tree = laws_text laws ++ (tree_text tree ++ ended (codes "end"))
 
 -- ---- nodes that are stated
-written_stated : (node : Node) → written_node (stated node) ≡ node
+written_stated : (node : Node) → (node_of (λ row. row)) (stated node) ≡ node
 written_stated (Split row) = refl
 written_stated (LawLeaf law certs) = refl
 written_stated (NoMove cert) = refl
 
-all_stated : (tree : List Node) → map written_node (map stated tree) ≡ tree
+all_stated : (tree : List Node) → map (node_of (λ row. row)) (map stated tree) ≡ tree
 all_stated [] = refl
 all_stated (node ∷ tree) = λ i. written_stated node i ∷ all_stated tree i
 
 -- a split that is stated is one of the tree
 split_in : (P : Node → Type 0) (tree : List Node) (before : List (NodeOver RowInt)) (row : RowInt) (after : List (NodeOver RowInt)) → map stated tree ≡ before ++ split_node row ∷ after → All P tree → P (Split row)
 split_in P tree before row after whole all =
-    in_list (λ x. P (written_node x)) before (split_node row) after
-    (subst (All (λ x. P (written_node x))) whole (All-map (λ x. P (written_node x)) stated tree (All-weaker P (λ node. P (written_node (stated node))) (λ node h. subst P (sym (written_stated node)) h) tree all)))
+    in_list (λ x. P ((node_of (λ row. row)) x)) before (split_node row) after
+    (subst (All (λ x. P ((node_of (λ row. row)) x))) whole (All-map (λ x. P ((node_of (λ row. row)) x)) stated tree (All-weaker P (λ node. P ((node_of (λ row. row)) (stated node))) (λ node h. subst P (sym (written_stated node)) h) tree all)))
 
 -- the law that its lines make
 same_law : (v : Plant) (law : Law) → IsLawFor v law → law_with v law.set law.moves.rows law.mults.rows ≡ law
@@ -84,16 +83,16 @@ same_law v law is = λ i. record { set = law.set; moves = record { rows = law.mo
 
 -- ---- laws
 module _ (words : WordTheorems) where
-  form_states : (name : List ℕ) (n : ℕ) (form : List ℚ) → HasWidth (n + 1) form → AllFit form → IsForm name n (fractions_line name form) form
+  form_states : (name : List ℕ) (n : ℕ) (form : List ℚ) → HasWidth (n + 1) form → AllFit form → AreNumbers name (n + 1) (fractions_line name form) form
   form_states name n form size fits = record { spelled = refl; size = size; fits = fits }
 
-  mult_prints : (v : Plant) (form : List ℚ) → HasWidth (v.n + 1) form → AllFit form → Prints (one_line (plain_rule (IsForm (codes "mult") v.n))) form (ended (fractions_line (codes "mult") form))
-  mult_prints v form size fits = prints_plain (IsForm (codes "mult") v.n) form (fractions_line (codes "mult") form) (fractions_line_without words (codes "mult") form refl fits) (form_states (codes "mult") v.n form size fits)
+  mult_prints : (v : Plant) (form : List ℚ) → HasWidth (v.n + 1) form → AllFit form → Prints (one_line (plain_rule (AreNumbers (codes "mult") (v.n + 1)))) form (ended (fractions_line (codes "mult") form))
+  mult_prints v form size fits = prints_plain (AreNumbers (codes "mult") (v.n + 1)) form (fractions_line (codes "mult") form) (fractions_line_without words (codes "mult") form refl fits) (form_states (codes "mult") v.n form size fits)
 
   mults_print : (v : Plant) (law : Law) → IsLawFor v law → LawNumbersFit law → Prints (mults v (length law.set)) law.mults.rows (forms_text (codes "mult") law.mults.rows)
   mults_print v law is fit =
-      prints_so_many (plain_rule (IsForm (codes "mult") v.n)) (length law.set) (λ form. ended (fractions_line (codes "mult") form)) law.mults.rows (sym is.mults_shape.rows_are)
-      (all_both (HasWidth (v.n + 1)) AllFit (λ form. Prints (one_line (plain_rule (IsForm (codes "mult") v.n))) form (ended (fractions_line (codes "mult") form))) (mult_prints v) law.mults.rows (law_width v law is).1 fit.mults)
+      prints_so_many (plain_rule (AreNumbers (codes "mult") (v.n + 1))) (length law.set) (λ form. ended (fractions_line (codes "mult") form)) law.mults.rows (sym is.mults_shape.rows_are)
+      (all_both (HasWidth (v.n + 1)) AllFit (λ form. Prints (one_line (plain_rule (AreNumbers (codes "mult") (v.n + 1)))) form (ended (fractions_line (codes "mult") form))) (mult_prints v) law.mults.rows (law_width v law is).1 fit.mults)
 
   moves_print : (v : Plant) (law : Law) → IsLawFor v law → LawFits v law → LawNumbersFit law → Prints (moves v) law.moves.rows (forms_text (codes "move") law.moves.rows)
   moves_print v law is bounds fit =
@@ -120,7 +119,7 @@ module _ (words : WordTheorems) where
   laws_print v laws tree is fit =
       let few = is.shapes.laws_few in
       prints_both law_count (λ count. many (λ before. written_law v) (λ (before : List Law). nat_lt (length before) count)) (length laws) laws (ended (count_line (codes "laws") (length laws))) (flat_map law_text laws)
-      (prints_plain IsLawCount (length laws) (count_line (codes "laws") (length laws)) (count_line_without words (codes "laws") (length laws) refl (omega arith)) (record { spelled = refl; few = few }))
+      (prints_plain (IsNumber (codes "laws") (λ number. number ≤ 4598479)) (length laws) (count_line (codes "laws") (length laws)) (count_line_without words (codes "laws") (length laws) refl (omega arith)) (record { spelled = refl; allowed = few }))
       (prints_counted (λ (before : List Law). written_law v) (length laws) law_text laws refl
       (λ before law after whole.
       law_prints v law (in_list (IsLawFor v) before law after (subst (All (IsLawFor v)) whole is.shapes.laws_fit)) (in_list (LawFits v) before law after (subst (All (LawFits v)) whole is.bounds.laws_fit))
@@ -136,10 +135,10 @@ module _ (words : WordTheorems) where
   tree_prints : (v : Plant) (laws : List Law) (tree : List Node) → IsController v laws tree → All NodeNumbersFit tree → Prints (written_tree v (length laws)) tree (tree_text tree)
   tree_prints v laws tree is fit =
       let few = is.shapes.laws_few in
-      let same : map (node_of (λ row. row)) (map stated tree) ≡ tree = (λ i. map (λ x. sym (written_nodes x) i) (map stated tree)) ∙ all_stated tree in
-      prints_both (one_line (plain_rule (IsWord (codes "tree")))) (λ u. nodes v (length laws) (λ before. written_split v) >>= λ ns. give (map written_node ns)) tt tree (ended (codes "tree")) (flat_map (text_over split_line) (map stated tree))
+      let same : map (node_of (λ row. row)) (map stated tree) ≡ tree = all_stated tree in
+      prints_both (one_line (plain_rule (IsWord (codes "tree")))) (λ u. nodes v (length laws) (λ before. written_split v) >>= λ ns. give (map (node_of (λ row. row)) ns)) tt tree (ended (codes "tree")) (flat_map (text_over split_line) (map stated tree))
       (prints_plain (IsWord (codes "tree")) tt (codes "tree") (plain_without (codes "tree") refl) refl)
-      (prints_end (nodes v (length laws) (λ before. written_split v)) (λ ns. give (map written_node ns)) (map stated tree) tree (flat_map (text_over split_line) (map stated tree))
+      (prints_end (nodes v (length laws) (λ before. written_split v)) (λ ns. give (map (node_of (λ row. row)) ns)) (map stated tree) tree (flat_map (text_over split_line) (map stated tree))
       (nodes_print words (λ row. row) split_line v (length laws) (λ before. written_split v) (map stated tree) tree same (omega arith)
       (λ before row after whole. split_prints v (length laws) row (split_in (IsGoodNode v) tree before row after whole (nodes_good v laws tree is)))
       fit is.shapes.nodes_fit is.shapes.complete is.shapes.certs_fit)

@@ -11,13 +11,13 @@ use Rattle.mpc_file.specs.declared.errors.FileKind.TheVariants.{TailAfterEnd}
 use Rattle.mpc_file.specs.declared.errors.FileError.{FileError}
 use Rattle.mpc_file.specs.declared.errors.FileError.TheVariants.{Bad, NoMemory}
 use Rattle.mpc_file.specs.declared.versions.Version.{Version}
-use Rattle.mpc_file.specs.declared.versions.Version.TheVariants.{One, Two, Three}
+use Rattle.mpc_file.specs.declared.versions.Version.TheVariants.{Three}
 use Rattle.mpc_file.specs.Versions.{number_of}
 use Rattle.mpc_file.specs.Reading.{Cursor, Grammar, one_line, give, ◌>>=◌}
 use Rattle.mpc_file.specs.Lines.{count_line}
-use Rattle.mpc_file.specs.PlantGrammar.{plain_rule, plant}
+use Rattle.mpc_file.specs.PlantGrammar.{plain_rule, plant, UsesAll}
 use Rattle.mpc_file.specs.LawGrammar.{written_laws, forms, NamedLaw, named_laws, used_by, law_named}
-use Rattle.mpc_file.specs.TreeGrammar.{IsWord, NodeOver, written_tree, planes, planes_used, named_node, named_tree}
+use Rattle.mpc_file.specs.TreeGrammar.{IsWord, NodeOver, written_tree, planes, planes_used, named_tree, node_of, plane_named}
 
 abbrev pub IsVersion : List ℕ → Version → Type 0
 IsVersion text version = text ≡ count_line (codes "mpc") (number_of version)
@@ -30,29 +30,19 @@ abbrev pub written : Plant → Grammar Parts
 written plant =
     written_laws plant >>= λ laws. written_tree plant (length laws) >>= λ tree. one_line (plain_rule (IsWord (codes "end"))) >>= λ u. give (parts_with plant laws tree)
 
--- the last line stands behind a tree that uses all planes
-pub record IsEnd (all used : ℕ) (text : List ℕ) (u : Unit {0}) : Type 0 where
-  pub spelled : text ≡ codes "end"
-  pub all_used : used ≡ all
-
 abbrev pub parts_named : Plant → List (List ℚ) → List NamedLaw → List RowInt → List (NodeOver ℕ) → Parts
-parts_named plant fs laws ps nodes = parts_with plant (map (law_named plant fs) laws) (map (named_node ps) nodes)
+parts_named plant fs laws ps nodes = parts_with plant (map (law_named plant fs) laws) (map (node_of (plane_named ps)) nodes)
 
--- the laws and the tree, with their forms and planes named
+-- the laws and the tree, with their forms and planes named; the last line stands behind a tree that uses all planes
 abbrev pub named : Plant → Grammar Parts
 named plant =
     forms plant >>= λ fs. named_laws plant fs >>= λ laws. planes plant (length fs) (used_by laws) >>= λ ps. named_tree plant (length laws) ps >>= λ ns.
-    one_line (plain_rule (IsEnd (length ps) (planes_used ns))) >>= λ u. give (parts_named plant fs laws ps ns)
+    one_line (plain_rule (UsesAll (length ps) (planes_used ns) (IsWord (codes "end")))) >>= λ u. give (parts_named plant fs laws ps ns)
 
 -- what stands behind the plant
 abbrev pub behind_plant : Version → Plant → Grammar Parts
-behind_plant One plant = written plant
-behind_plant Two plant = written plant
 behind_plant Three plant = named plant
-
--- the lines of a version behind the first line
-abbrev pub in_version : Version → Grammar Parts
-in_version version = plant version >>= behind_plant version
+behind_plant other plant = written plant
 
 abbrev pub start : List ℕ → Cursor
 start bytes = record { rest = bytes; number = 1 }
@@ -62,10 +52,10 @@ pub record Spells (bytes : List ℕ) (version : Version) (parts : Parts) : Type 
   pub behind_first : Cursor
   pub first : (one_line (plain_rule IsVersion)).Reads (start bytes) version behind_first
   pub number : ℕ
-  pub lines : (in_version version).Reads behind_first parts (record { rest = []; number = number })
+  pub lines : (plant version >>= behind_plant version).Reads behind_first parts (record { rest = []; number = number })
 
 abbrev pub whole_file : Grammar Parts
-whole_file = one_line (plain_rule IsVersion) >>= in_version
+whole_file = one_line (plain_rule IsVersion) >>= λ version. plant version >>= behind_plant version
 
 -- the lines are those of a controller, and a byte follows the last one
 abbrev pub HasTail : List ℕ → ℕ → Type 0

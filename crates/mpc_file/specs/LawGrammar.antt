@@ -1,6 +1,6 @@
 -- The lines of a controller's laws. In versions 1 and 2 a law's forms stand behind its set. In version 3 the different forms stand before
 -- all laws, numbered from 1 in the order in which the laws use them first, and the laws name them.
-use Rattle.std.specs.Prelude.{◌≡◌, ℕ, ◌+◌, ◌-◌, ◌*◌, ◌^◌, ◌<◌, ◌≤◌, nat_lt, cond, List, [], ◌∷◌, length, map, fold, All, Contains, codes, decimal, slice_index_or, take}
+use Rattle.std.specs.Prelude.{◌≡◌, ℕ, ◌+◌, ◌-◌, ◌*◌, ◌^◌, ◌<◌, ◌≤◌, nat_lt, cond, List, [], ◌∷◌, length, map, fold, All, codes, decimal, slice_index_or, take}
 use Rattle.mpc_exact.specs.Rational.{ℚ}
 use Rattle.mpc_space.specs.Matrix.{RationalMatrix}
 use Rattle.mpc_sets.specs.RowSet.{IsSetOfRows}
@@ -10,8 +10,7 @@ use Rattle.mpc_controller.specs.Parts.{limits_of, row_count}
 use Rattle.mpc_controller.specs.Bounds.{FormFits}
 use Rattle.mpc_file.specs.Reading.{LineRule, Grammar, one_line, give, ◌>>=◌, many}
 use Rattle.mpc_words.specs.Words.{line}
-use Rattle.mpc_file.specs.Lines.{count_line, fractions_line}
-use Rattle.mpc_file.specs.PlantGrammar.{AllFit, plain_rule, so_many}
+use Rattle.mpc_file.specs.PlantGrammar.{bounded_rule, plain_rule, AreNumbers, IsNumber, so_many, StatesNew}
 
 -- the number of unknowns of the plant's program
 abbrev pub unknowns : Plant → ℕ
@@ -24,26 +23,15 @@ pub record IsLawLine (plant : Plant) (text : List ℕ) (set : List ℕ) : Type 0
   pub few : length set ≤ unknowns plant
 
 -- ---- forms that are written out
--- the coefficients of an affine form of n states, the constant first
-pub record IsForm (name : List ℕ) (n : ℕ) (text : List ℕ) (form : List ℚ) : Type 0 where
-  pub spelled : text ≡ fractions_line name form
-  pub size : length form ≡ n + 1
-  pub fits : AllFit form
-
--- those of the first step's moves are bounded
+-- each has the coefficients of an affine form of the states, the constant first; those of the first step's moves are bounded
 abbrev pub move_rule : Plant → ℕ → LineRule (List ℚ)
-move_rule plant index =
-    record {
-      States = IsForm (codes "move") plant.n;
-      IsNoNode = λ text. ⊥;
-      IsOver = λ form. (index < plant.p) × (¬ FormFits (limits_of plant) form);
-    }
+move_rule plant index = bounded_rule (AreNumbers (codes "move") (plant.n + 1)) (λ form. (index < plant.p) × (¬ FormFits (limits_of plant) form))
 
 abbrev pub moves : Plant → Grammar (List (List ℚ))
 moves plant = many (λ (before : List (List ℚ)). one_line (move_rule plant (length before))) (λ (before : List (List ℚ)). nat_lt (length before) (unknowns plant))
 
 abbrev pub mults : Plant → ℕ → Grammar (List (List ℚ))
-mults plant members = so_many members (plain_rule (IsForm (codes "mult") plant.n))
+mults plant members = so_many members (plain_rule (AreNumbers (codes "mult") (plant.n + 1)))
 
 abbrev pub matrix_of : Plant → List (List ℚ) → RationalMatrix
 matrix_of plant rows = record { rows = rows; columns = plant.n + 1 }
@@ -56,30 +44,17 @@ written_law plant =
     one_line (plain_rule (IsLawLine plant)) >>= λ set. moves plant >>= λ zs. mults plant (length set) >>= λ ls. give (law_with plant set zs ls)
 
 -- ---- the number of laws
-pub record IsLawCount (text : List ℕ) (count : ℕ) : Type 0 where
-  pub spelled : text ≡ count_line (codes "laws") count
-  pub few : count ≤ 4598479
-
 abbrev pub law_count : Grammar ℕ
-law_count = one_line (plain_rule IsLawCount)
+law_count = one_line (plain_rule (IsNumber (codes "laws") (λ number. number ≤ 4598479)))
 
 abbrev pub written_laws : Plant → Grammar (List Law)
 written_laws plant = law_count >>= λ count. many (λ before. written_law plant) (λ (before : List Law). nat_lt (length before) count)
 
 -- ---- forms that are named
--- a number of at most 18 digits
-pub record IsShortCount (name : List ℕ) (text : List ℕ) (count : ℕ) : Type 0 where
-  pub spelled : text ≡ count_line name count
-  pub short : count < 10 ^ 18
-
--- no two forms are equal
-pub record IsNewForm (n : ℕ) (before : List (List ℚ)) (text : List ℕ) (form : List ℚ) : Type 0 where
-  pub form_is : IsForm (codes "form") n text form
-  pub new_one : ¬ Contains before form
-
+-- their number has at most 18 digits, and no two are equal
 abbrev pub forms : Plant → Grammar (List (List ℚ))
 forms plant =
-    one_line (plain_rule (IsShortCount (codes "forms"))) >>= λ count. many (λ before. one_line (plain_rule (IsNewForm plant.n before))) (λ (before : List (List ℚ)). nat_lt (length before) count)
+    one_line (plain_rule (IsNumber (codes "forms") (λ number. number < 10 ^ 18))) >>= λ count. many (λ before. one_line (plain_rule (StatesNew before (AreNumbers (codes "form") (plant.n + 1))))) (λ (before : List (List ℚ)). nat_lt (length before) count)
 
 -- the numbers name forms, of which so many are used before: each is from 1 to the number of forms, and at most the next one that isn't used
 abbrev pub NameForms : ℕ → ℕ → List ℕ → Type 0
@@ -103,11 +78,7 @@ pub record AreFormNumbers (name : List ℕ) (all used count : ℕ) (text : List 
 -- the first step's forms fit
 abbrev pub named_moves_rule : Plant → List (List ℚ) → ℕ → LineRule (List ℕ)
 named_moves_rule plant fs used =
-    record {
-      States = AreFormNumbers (codes "move") (length fs) used (unknowns plant);
-      IsNoNode = λ text. ⊥;
-      IsOver = λ numbers. ¬ All (λ k. FormFits (limits_of plant) (form_named fs k)) (take plant.p numbers);
-    }
+    bounded_rule (AreFormNumbers (codes "move") (length fs) used (unknowns plant)) (λ numbers. ¬ All (λ k. FormFits (limits_of plant) (form_named fs k)) (take plant.p numbers))
 
 -- a law of the empty set has no line of multipliers
 abbrev pub named_mults : List (List ℚ) → ℕ → List ℕ → Grammar (List ℕ)

@@ -26,12 +26,8 @@ fractions_line first fractions = line first (map fraction_text fractions)
 abbrev pub matrix_line : List ℕ → RationalMatrix → List ℕ
 matrix_line first m = fractions_line first (flat_map (λ row. row) m.rows)
 
-abbrev pub row_line : PlantRow → List ℕ
-row_line row = fractions_line (codes "row") (row.x ++ row.u ++ row.max ∷ [])
-
--- a row of the end weighs no inputs
-abbrev pub last_line : PlantRow → List ℕ
-last_line row = fractions_line (codes "last") (row.x ++ row.max ∷ [])
+abbrev pub row_line : List ℕ → PlantRow → List ℕ
+row_line first row = fractions_line first (row.x ++ row.u ++ row.max ∷ [])
 
 abbrev pub grid_line : Coordinate → List ℕ
 grid_line axis = line (codes "grid") (fraction_text axis.low ∷ fraction_text axis.step ∷ decimal axis.count ∷ [])

@@ -10,7 +10,7 @@ use Rattle.mpc_rows.specs.declared.trees.Node.TheVariants.{Split, Law as LawLeaf
 use Rattle.mpc_controller.specs.Parts.{limits_of, IsSplitRow}
 use Rattle.mpc_controller.specs.Bounds.{SplitFits}
 use Rattle.mpc_file.specs.Lines.{count_line, integers_line, cert_line}
-use Rattle.mpc_file.specs.TreeGrammar.{NodeOver, used_with, planes_used, named_node}
+use Rattle.mpc_file.specs.TreeGrammar.{NodeOver, used_with, planes_used, node_of, plane_named}
 use Rattle.mpc_file.specs.TreeGrammar.NodeOver.{split_node, law_node, no_move_node}
 use Rattle.mpc_file.specs.Writing.{ended, text_of_lines}
 use Rattle.mpc_file.specs.Names.{AreDifferent}
@@ -76,7 +76,7 @@ pub record IsNodeNumbered (plant : Plant) (planes : List RowInt) (node : Node) (
   pub all_are : all ≡ planes ++ behind
   pub named : NodeOver ℕ
   pub planes_are : ArePlanes plant AreNamed all
-  pub node_is : named_node all named ≡ node
+  pub node_is : node_of (plane_named all) named ≡ node
   pub text : new ≡ old ++ node_text named
   pub in_order : NamesInOrder (length all) (length planes) named
   pub used : used_with (length planes) named ≡ length all
@@ -86,7 +86,7 @@ pub record AreNodesNumbered (plant : Plant) (nodes : List Node) (old new : List 
   pub planes : List RowInt
   pub named : List (NodeOver ℕ)
   pub planes_are : ArePlanes plant AreNamed planes
-  pub nodes_are : map (named_node planes) named ≡ nodes
+  pub nodes_are : map (node_of (plane_named planes)) named ≡ nodes
   pub text : new ≡ old ++ flat_map node_text named
   pub in_order : PlanesInOrder (length planes) 0 named
   pub used : planes_used named ≡ length planes
@@ -106,7 +106,7 @@ pub record IsTreeWritten (plant : Plant) (nodes : List Node) (old new : List ℕ
   pub good : All (IsGoodPlane plant) planes
   pub different : AreDifferent (map plane_line planes)
   pub few : length planes < 10 ^ 18
-  pub nodes_are : map (named_node planes) named ≡ nodes
+  pub nodes_are : map (node_of (plane_named planes)) named ≡ nodes
   pub in_order : PlanesInOrder (length planes) 0 named
   pub used : planes_used named ≡ length planes
   pub certs : All CertsFit named

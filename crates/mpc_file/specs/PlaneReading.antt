@@ -5,17 +5,18 @@ use Rattle.mpc_file.specs.declared.named_trees.SplitLine.{SplitLine}
 use Rattle.mpc_file.specs.declared.named_trees.SplitLine.TheVariants.{Plane, NoPlane, NoSplit}
 use Rattle.mpc_linear.specs.Whole.{AreSmall}
 use Rattle.mpc_file.specs.Lines.{integers_line}
-use Rattle.mpc_file.specs.TreeGrammar.{IsPlane, NamesPlane, NamesNoPlane}
+use Rattle.mpc_file.specs.PlantGrammar.{IsNumber}
+use Rattle.mpc_file.specs.TreeGrammar.{IsPlane, IsNext, NamesNone}
 
 -- the line is no split's
 pub record IsNoSplit (all used : ℕ) (text : List ℕ) : Type 0 where
-  pub no_plane : (k : ℕ) → ¬ NamesPlane all used text k
-  pub no_number : ¬ NamesNoPlane all used text
+  pub no_plane : (k : ℕ) → ¬ IsNumber (codes "split") (IsNext all used) text k
+  pub no_number : ¬ NamesNone (codes "split") (IsNext all used) text
 
 -- which plane a line names
 abbrev pub ReadsNamedSplit : ℕ → ℕ → List ℕ → SplitLine → Type 0
-ReadsNamedSplit all used text (Plane k) = NamesPlane all used text k
-ReadsNamedSplit all used text NoPlane = NamesNoPlane all used text
+ReadsNamedSplit all used text (Plane k) = IsNumber (codes "split") (IsNext all used) text k
+ReadsNamedSplit all used text NoPlane = NamesNone (codes "split") (IsNext all used) text
 ReadsNamedSplit all used text NoSplit = IsNoSplit all used text
 
 -- the line of a plane

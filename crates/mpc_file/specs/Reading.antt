@@ -3,7 +3,7 @@
 use Rattle.std.specs.Prelude.{◌≡◌, ℕ, ◌+◌, ◌⊎◌, Bool, IsTrue, false, List, [], ◌∷◌, ◌++◌, Result, Ok, Err}
 use Rattle.mpc_words.specs.Words.{IsWithout, IsCutAt}
 use Rattle.mpc_file.specs.declared.errors.FileKind.{FileKind}
-use Rattle.mpc_file.specs.declared.errors.FileKind.TheVariants.{BadLine, Truncated, TailAfterEnd, BadNode, OverBound}
+use Rattle.mpc_file.specs.declared.errors.FileKind.TheVariants.{BadLine, Truncated, BadNode, OverBound}
 use Rattle.mpc_file.specs.declared.errors.FileError.{FileError}
 use Rattle.mpc_file.specs.declared.errors.FileError.TheVariants.{Bad, NoMemory}
 
@@ -32,8 +32,7 @@ abbrev pub IsRefused : {X : Type 0} → LineRule X → List ℕ → FileKind →
 IsRefused {X} rule line BadLine = ((x : X) → ¬ rule.States line x) × (¬ rule.IsNoNode line)
 IsRefused {X} rule line BadNode = rule.IsNoNode line
 IsRefused {X} rule line OverBound = (x : X) × (rule.States line x × rule.IsOver x)
-IsRefused {X} rule line Truncated = ⊥
-IsRefused {X} rule line TailAfterEnd = ⊥
+IsRefused {X} rule line other = ⊥
 
 -- Reads: the lines from one place to another state this. Fails: the lines from a place on fail, why, and at the line of which number.
 pub record Grammar (X : Type 0) : Type 1 where
@@ -41,16 +40,13 @@ pub record Grammar (X : Type 0) : Type 1 where
   pub Fails : Cursor → FileKind → ℕ → Type 0
 
 -- ---- one line
-abbrev pub ReadsLine : {X : Type 0} → LineRule X → Cursor → X → Cursor → Type 0
-ReadsLine rule here x behind = (line : List ℕ) × (TakesLine here line behind × IsGood rule line x)
-
 -- no line feed follows, or the line is refused
 abbrev pub FailsLine : {X : Type 0} → LineRule X → Cursor → FileKind → ℕ → Type 0
 FailsLine rule here kind number =
     (number ≡ here.number) × (((kind ≡ Truncated) × IsWithout 10 here.rest) ⊎ ((line : List ℕ) × ((behind : Cursor) × (TakesLine here line behind × IsRefused rule line kind))))
 
 abbrev pub one_line : {X : Type 0} → LineRule X → Grammar X
-one_line rule = record { Reads = ReadsLine rule; Fails = FailsLine rule }
+one_line rule = record { Reads = λ here x behind. (line : List ℕ) × (TakesLine here line behind × IsGood rule line x); Fails = FailsLine rule }
 
 -- ---- no line
 abbrev pub give : {X : Type 0} → X → Grammar X
@@ -74,17 +70,14 @@ pub data ReadsItems (X : Type 0) (item : List X → Grammar X) (asks_more : List
   no_item : ReadsItems X item asks_more here [] here
   one_more : (items : List X) (between : Cursor) (x : X) (behind : Cursor) → ReadsItems X item asks_more here items between → IsTrue (asks_more items) → (item items).Reads between x behind → ReadsItems X item asks_more here (items ++ x ∷ []) behind
 
--- all of them
-abbrev pub ReadsAll : {X : Type 0} → (List X → Grammar X) → (List X → Bool) → Cursor → List X → Cursor → Type 0
-ReadsAll {X} item asks_more here items behind = ReadsItems X item asks_more here items behind × (asks_more items ≡ false)
-
 -- one fails behind those that are read
 abbrev pub FailsItem : {X : Type 0} → (List X → Grammar X) → (List X → Bool) → Cursor → FileKind → ℕ → Type 0
 FailsItem {X} item asks_more here kind number =
     (items : List X) × ((between : Cursor) × (ReadsItems X item asks_more here items between × IsTrue (asks_more items) × (item items).Fails between kind number))
 
 abbrev pub many : {X : Type 0} → (List X → Grammar X) → (List X → Bool) → Grammar (List X)
-many item asks_more = record { Reads = ReadsAll item asks_more; Fails = FailsItem item asks_more }
+many {X} item asks_more =
+    record { Reads = λ here items behind. ReadsItems X item asks_more here items behind × (asks_more items ≡ false); Fails = FailsItem item asks_more }
 
 -- ---- what a reader answers
 -- what was read from one place to another, or why and where the lines fail; nothing is said of want of memory

@@ -1,6 +1,6 @@
 -- Which controllers a version of the text can state: those whose numbers fit, whose rows are few enough, and whose drift and targets the
 -- version tells of.
-use Rattle.std.specs.Prelude.{◌≤◌, All}
+use Rattle.std.specs.Prelude.{◌≤◌, ◌++◌, All}
 use Rattle.mpc_plant.specs.declared.plants.Plant.{Plant}
 use Rattle.mpc_rows.specs.declared.laws.Law.{Law}
 use Rattle.mpc_rows.specs.declared.trees.Node.{Node}
@@ -13,16 +13,12 @@ use Rattle.mpc_file.specs.LawGrammar.{unknowns}
 use Rattle.mpc_file.specs.WrittenFits.{PlantFits}
 use Rattle.mpc_file.specs.PlaneNames.{CertFits}
 use Rattle.mpc_file.specs.declared.versions.Version.{Version}
-use Rattle.mpc_file.specs.declared.plant_parts.Offsets.{Offsets}
-
-abbrev pub offsets_of : Plant → Offsets
-offsets_of plant = record { drift = plant.drift; xgoal = plant.xgoal; ugoal = plant.ugoal }
 
 -- the plant's numbers fit, and the version tells of its rows and of its drift and targets
 pub record CanStatePlant (version : Version) (plant : Plant) : Type 0 where
   pub fits : PlantFits plant
   pub rows_few : row_count plant ≤ greatest_rows version (unknowns plant)
-  pub offsets : MayHave version (offsets_of plant)
+  pub offsets : MayHave version plant.drift (plant.xgoal ++ plant.ugoal)
 
 pub record LawNumbersFit (law : Law) : Type 0 where
   pub moves : All AllFit law.moves.rows

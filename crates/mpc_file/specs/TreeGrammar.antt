@@ -1,6 +1,6 @@
 -- The lines of a search tree: its nodes in preorder, each with the certificates of its leaf. In versions 1 and 2 a split's row stands in its
 -- line. In version 3 the different rows stand before the tree as planes, numbered from 1 in the order in which the splits use them first.
-use Rattle.std.specs.Prelude.{◌≡◌, ℕ, ◌+◌, ◌-◌, ◌≤◌, ◌⊎◌, Bool, true, false, nat_lt, cond, pos, List, [], ◌∷◌, ◌++◌, length, map, fold, All, Contains, codes, slice_index_or}
+use Rattle.std.specs.Prelude.{is_some, slice_get, ◌<◌, ◌^◌, ◌≡◌, ℕ, ◌+◌, ◌-◌, ◌≤◌, ◌⊎◌, nat_lt, cond, pos, List, [], ◌∷◌, ◌++◌, length, map, fold, All, codes, slice_index_or}
 use Rattle.mpc_exact.specs.Rational.{ℚ}
 use Rattle.mpc_linear.specs.declared.integers.RowInt.{RowInt}
 use Rattle.mpc_linear.specs.Whole.{DividesAll, AreSmall}
@@ -15,8 +15,7 @@ use Rattle.mpc_controller.specs.Bounds.{SplitFits}
 use Rattle.mpc_file.specs.Reading.{LineRule, Grammar, one_line, give, ◌>>=◌, many}
 use Rattle.mpc_words.specs.Words.{line}
 use Rattle.mpc_file.specs.Lines.{count_line, integers_line, cert_line}
-use Rattle.mpc_file.specs.PlantGrammar.{AllFit, plain_rule, so_many}
-use Rattle.mpc_file.specs.LawGrammar.{IsShortCount}
+use Rattle.mpc_file.specs.PlantGrammar.{AllFit, plain_rule, so_many, IsNumber, UsesAll, StatesNew}
 
 -- ---- rows
 -- a row on states of n entries, in whole numbers
@@ -38,9 +37,9 @@ pub record IsPlaneLine (name : List ℕ) (n : ℕ) (text : List ℕ) (row : RowI
 abbrev pub IsNoPlane : List ℕ → ℕ → List ℕ → Type 0
 IsNoPlane name n text = (row : RowInt) × (IsRowOf name n text row × (¬ IsPlane row))
 
--- a well spelled line of one number that isn't from 1 to so many
-abbrev pub NamesNone : List ℕ → ℕ → List ℕ → Type 0
-NamesNone name most text = (k : ℕ) × ((text ≡ line name (numeral k ∷ [])) × (¬ IsFromTo 1 most k))
+-- a well spelled line of one number that names nothing
+abbrev pub NamesNone : List ℕ → (ℕ → Type 0) → List ℕ → Type 0
+NamesNone name IsNamed text = (k : ℕ) × ((text ≡ line name (numeral k ∷ [])) × (¬ IsNamed k))
 
 -- ---- certificates
 pub record IsCertLine (rows : ℕ) (text : List ℕ) (cert : List (ℕ × ℚ)) : Type 0 where
@@ -66,14 +65,13 @@ pub data StatesNode {Row : Type 0} (laws : ℕ) (StatesSplit : List ℕ → Row 
 
 abbrev pub IsOverSplit : {Row : Type 0} → (Row → Type 0) → NodeLine Row → Type 0
 IsOverSplit over (split_at row) = over row
-IsOverSplit over (leaf_of j) = ⊥
-IsOverSplit over no_move = ⊥
+IsOverSplit over leaf = ⊥
 
 abbrev pub node_rule : {Row : Type 0} → ℕ → LineRule Row → LineRule (NodeLine Row)
 node_rule laws split =
     record {
       States = StatesNode laws split.States;
-      IsNoNode = λ text. split.IsNoNode text ⊎ NamesNone (codes "leaf") laws text;
+      IsNoNode = λ text. split.IsNoNode text ⊎ NamesNone (codes "leaf") (IsFromTo 1 laws) text;
       IsOver = IsOverSplit split.IsOver;
     }
 
@@ -82,6 +80,12 @@ pub data NodeOver (Row : Type 0) : Type 0 where
   split_node : Row → NodeOver Row
   law_node : ℕ → List (List (ℕ × ℚ)) → NodeOver Row
   no_move_node : List (ℕ × ℚ) → NodeOver Row
+
+-- the node, with the row of a split
+abbrev pub node_of : {Row : Type 0} → (Row → RowInt) → NodeOver Row → Node
+node_of row_of (split_node row) = Split (row_of row)
+node_of row_of (law_node j cs) = LawLeaf j cs
+node_of row_of (no_move_node c) = NoMove c
 
 -- the certificates behind the line of a node at a depth: under so many splits
 abbrev pub node_behind : {Row : Type 0} → Plant → ℕ → NodeLine Row → Grammar (NodeOver Row)
@@ -96,88 +100,51 @@ node_at plant laws split depth = one_line (node_rule laws split) >>= node_behind
 abbrev pub owed_behind : {Row : Type 0} → NodeOver Row → List ℕ → List ℕ
 owed_behind node [] = []
 owed_behind (split_node row) (depth ∷ depths) = (depth + 1) ∷ (depth + 1) ∷ depths
-owed_behind (law_node j cs) (depth ∷ depths) = depths
-owed_behind (no_move_node c) (depth ∷ depths) = depths
+owed_behind leaf (depth ∷ depths) = depths
 
 abbrev pub owed : {Row : Type 0} → List (NodeOver Row) → List ℕ
 owed nodes = fold (λ depths node. owed_behind node depths) (0 ∷ []) nodes
 
-abbrev pub is_owed : List ℕ → Bool
-is_owed [] = false
-is_owed (depth ∷ depths) = true
-
-abbrev pub next_depth : List ℕ → ℕ
-next_depth [] = 0
-next_depth (depth ∷ depths) = depth
-
 -- the nodes until none is owed; the rule of a split may depend on the nodes before it
 abbrev pub nodes : {Row : Type 0} → Plant → ℕ → (List (NodeOver Row) → LineRule Row) → Grammar (List (NodeOver Row))
-nodes {Row} plant laws split = many (λ before. node_at plant laws (split before) (next_depth (owed before))) (λ (before : List (NodeOver Row)). is_owed (owed before))
+nodes {Row} plant laws split = many (λ before. node_at plant laws (split before) (slice_index_or (owed before) 0 0)) (λ (before : List (NodeOver Row)). is_some (slice_get (owed before) 0))
 
 -- ---- splits whose rows are written out
 abbrev pub written_split : Plant → LineRule RowInt
 written_split plant = record { States = IsPlaneLine (codes "split") plant.n; IsNoNode = IsNoPlane (codes "split") plant.n; IsOver = λ row. ¬ SplitFits (limits_of plant) row }
 
-abbrev pub written_node : NodeOver RowInt → Node
-written_node (split_node row) = Split row
-written_node (law_node j cs) = LawLeaf j cs
-written_node (no_move_node c) = NoMove c
-
 abbrev pub IsWord : List ℕ → List ℕ → Unit {0} → Type 0
 IsWord word text u = text ≡ word
 
 abbrev pub written_tree : Plant → ℕ → Grammar (List Node)
-written_tree plant laws = one_line (plain_rule (IsWord (codes "tree"))) >>= λ u. nodes plant laws (λ before. written_split plant) >>= λ ns. give (map written_node ns)
+written_tree plant laws = one_line (plain_rule (IsWord (codes "tree"))) >>= λ u. nodes plant laws (λ before. written_split plant) >>= λ ns. give (map (node_of (λ row. row)) ns)
 
 -- ---- planes that are named
-pub record IsNewPlane (n : ℕ) (before : List RowInt) (text : List ℕ) (row : RowInt) : Type 0 where
-  pub plane_is : IsPlaneLine (codes "plane") n text row
-  pub new_one : ¬ Contains before row
-
 abbrev pub plane_rule : Plant → List RowInt → LineRule RowInt
-plane_rule plant before = record { States = IsNewPlane plant.n before; IsNoNode = IsNoPlane (codes "plane") plant.n; IsOver = λ row. ¬ SplitFits (limits_of plant) row }
+plane_rule plant before = record { States = StatesNew before (IsPlaneLine (codes "plane") plant.n); IsNoNode = IsNoPlane (codes "plane") plant.n; IsOver = λ row. ¬ SplitFits (limits_of plant) row }
 
--- the number of planes, behind laws that use all forms
-pub record IsPlaneCount (all used : ℕ) (text : List ℕ) (count : ℕ) : Type 0 where
-  pub count_is : IsShortCount (codes "planes") text count
-  pub all_used : used ≡ all
-
+-- their number stands behind laws that use all forms
 abbrev pub planes : Plant → ℕ → ℕ → Grammar (List RowInt)
 planes plant all used =
-    one_line (plain_rule (IsPlaneCount all used)) >>= λ count. many (λ before. one_line (plane_rule plant before)) (λ (before : List RowInt). nat_lt (length before) count)
+    one_line (plain_rule (UsesAll all used (IsNumber (codes "planes") (λ number. number < 10 ^ 18)))) >>= λ count. many (λ before. one_line (plane_rule plant before)) (λ (before : List RowInt). nat_lt (length before) count)
 
 -- how many planes the splits use
 abbrev pub used_with : ℕ → NodeOver ℕ → ℕ
 used_with used (split_node k) = cond (nat_lt used k) k used
-used_with used (law_node j cs) = used
-used_with used (no_move_node c) = used
+used_with used leaf = used
 
 abbrev pub planes_used : List (NodeOver ℕ) → ℕ
 planes_used nodes = fold used_with 0 nodes
 
--- a plane is from 1 to their number, and at most the next one that isn't used
-pub record NamesPlane (all used : ℕ) (text : List ℕ) (k : ℕ) : Type 0 where
-  pub spelled : text ≡ count_line (codes "split") k
-  pub from_one : 1 ≤ k
-  pub is_plane : k ≤ all
-  pub in_order : k ≤ used + 1
-
-abbrev pub NamesNoPlane : ℕ → ℕ → List ℕ → Type 0
-NamesNoPlane all used text = (k : ℕ) × ((text ≡ line (codes "split") (numeral k ∷ [])) × (¬ ((1 ≤ k) × (k ≤ all) × (k ≤ used + 1))))
+-- a number from 1 to that of all planes, and at most the next one that isn't used
+abbrev pub IsNext : ℕ → ℕ → ℕ → Type 0
+IsNext all used k = (1 ≤ k) × (k ≤ all) × (k ≤ used + 1)
 
 abbrev pub named_split : ℕ → ℕ → LineRule ℕ
-named_split all used = record { States = NamesPlane all used; IsNoNode = NamesNoPlane all used; IsOver = λ k. ⊥ }
-
-abbrev pub no_plane : RowInt
-no_plane = record { a = []; b = pos 0 }
+named_split all used = record { States = IsNumber (codes "split") (IsNext all used); IsNoNode = NamesNone (codes "split") (IsNext all used); IsOver = λ k. ⊥ }
 
 abbrev pub plane_named : List RowInt → ℕ → RowInt
-plane_named ps k = slice_index_or ps (k - 1) no_plane
-
-abbrev pub named_node : List RowInt → NodeOver ℕ → Node
-named_node ps (split_node k) = Split (plane_named ps k)
-named_node ps (law_node j cs) = LawLeaf j cs
-named_node ps (no_move_node c) = NoMove c
+plane_named ps k = slice_index_or ps (k - 1) (record { a = []; b = pos 0 })
 
 abbrev pub named_tree : Plant → ℕ → List RowInt → Grammar (List (NodeOver ℕ))
 named_tree plant laws ps =

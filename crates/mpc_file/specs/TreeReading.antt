@@ -20,7 +20,7 @@ use Rattle.mpc_file.specs.declared.tree_lines.LeafLine.TheVariants.{Law, Nothing
 use Rattle.mpc_file.specs.Reading.{Cursor, Grammar, one_line, give, ◌>>=◌, many}
 use Rattle.mpc_file.specs.Lines.{count_line}
 use Rattle.mpc_file.specs.PlantGrammar.{plain_rule}
-use Rattle.mpc_file.specs.TreeGrammar.{IsRowOf, IsPlane, IsPlaneLine, plane_rule, IsNoPlane, IsCertLine, NamesNone, certs, nodes, node_at, written_split, written_node, named_split, named_node, planes_used, used_with, named_tree}
+use Rattle.mpc_file.specs.TreeGrammar.{IsRowOf, IsPlane, IsPlaneLine, plane_rule, IsNoPlane, IsCertLine, NamesNone, certs, nodes, node_at, written_split, named_split, planes_used, used_with, named_tree, node_of, plane_named}
 
 -- ---- certificates
 -- the position of a row, as a fraction, and its multiplier
@@ -51,13 +51,13 @@ pub record NamesLaw (laws : ℕ) (text : List ℕ) (j : ℕ) : Type 0 where
 pub record IsNoLeaf (laws : ℕ) (text : List ℕ) : Type 0 where
   pub no_law : (j : ℕ) → ¬ NamesLaw laws text j
   pub not_none : text ≢ codes "none"
-  pub no_number : ¬ NamesNone (codes "leaf") laws text
+  pub no_number : ¬ NamesNone (codes "leaf") (IsFromTo 1 laws) text
 
 -- what a line is as that of a leaf
 abbrev pub ReadsLeaf : ℕ → List ℕ → LeafLine → Type 0
 ReadsLeaf laws text (Law j) = NamesLaw laws text j
 ReadsLeaf laws text Nothing = text ≡ codes "none"
-ReadsLeaf laws text NoLaw = NamesNone (codes "leaf") laws text
+ReadsLeaf laws text NoLaw = NamesNone (codes "leaf") (IsFromTo 1 laws) text
 ReadsLeaf laws text NoLeaf = IsNoLeaf laws text
 
 -- ---- leaves
@@ -75,7 +75,7 @@ ReadsLeafNode plant laws depth text here behind (NoMove c) = (text ≡ codes "no
 
 -- the line, of this number, is no leaf's, or the certificates behind it fail
 pub data FailsLeafNode (plant : Plant) (laws depth : ℕ) (text : List ℕ) (number : ℕ) (here : Cursor) : FileKind → ℕ → Type 0 where
-  names_none : NamesNone (codes "leaf") laws text → FailsLeafNode plant laws depth text number here BadNode number
+  names_none : NamesNone (codes "leaf") (IsFromTo 1 laws) text → FailsLeafNode plant laws depth text number here BadNode number
   is_other : IsNoLeaf laws text → FailsLeafNode plant laws depth text number here BadLine number
   certs_fail : (j : ℕ) (kind : FileKind) (place : ℕ) → NamesLaw laws text j → (law_certs plant depth).Fails here kind place → FailsLeafNode plant laws depth text number here kind place
   cert_fails : (kind : FileKind) (place : ℕ) → text ≡ codes "none" → (no_move_cert plant depth).Fails here kind place → FailsLeafNode plant laws depth text number here kind place
@@ -95,23 +95,23 @@ owed_under (NoMove c) depth depths = depths
 
 -- one node whose split is written out
 abbrev pub written_node_at : Plant → ℕ → ℕ → Grammar Node
-written_node_at plant laws depth = node_at plant laws (written_split plant) depth >>= λ n. give (written_node n)
+written_node_at plant laws depth = node_at plant laws (written_split plant) depth >>= λ n. give ((node_of (λ row. row)) n)
 
 -- all of them
 abbrev pub written_nodes : Plant → ℕ → Grammar (List Node)
-written_nodes plant laws = nodes plant laws (λ before. written_split plant) >>= λ ns. give (map written_node ns)
+written_nodes plant laws = nodes plant laws (λ before. written_split plant) >>= λ ns. give (map (node_of (λ row. row)) ns)
 
 -- one node whose split is named, behind so many planes that are used, and how many are used then
 abbrev pub named_node_at : Plant → ℕ → List RowInt → ℕ → ℕ → Grammar (Node × ℕ)
-named_node_at plant laws ps used depth = node_at plant laws (named_split (length ps) used) depth >>= λ n. give (named_node ps n, used_with used n)
+named_node_at plant laws ps used depth = node_at plant laws (named_split (length ps) used) depth >>= λ n. give (node_of (plane_named ps) n, used_with used n)
 
 -- all of them, and how many planes they use
 abbrev pub named_nodes : Plant → ℕ → List RowInt → Grammar (List Node × ℕ)
-named_nodes plant laws ps = nodes plant laws (λ before. named_split (length ps) (planes_used before)) >>= λ ns. give (map (named_node ps) ns, planes_used ns)
+named_nodes plant laws ps = nodes plant laws (λ before. named_split (length ps) (planes_used before)) >>= λ ns. give (map (node_of (plane_named ps)) ns, planes_used ns)
 
 -- the tree with the words above it
 abbrev pub named_tree_nodes : Plant → ℕ → List RowInt → Grammar (List Node × ℕ)
-named_tree_nodes plant laws ps = named_tree plant laws ps >>= λ ns. give (map (named_node ps) ns, planes_used ns)
+named_tree_nodes plant laws ps = named_tree plant laws ps >>= λ ns. give (map (node_of (plane_named ps)) ns, planes_used ns)
 
 -- so many planes
 abbrev pub plane_rows : Plant → ℕ → Grammar (List RowInt)

@@ -5,8 +5,10 @@ use Rattle.mpc_rows.specs.declared.laws.Law.{Law}
 use Rattle.mpc_rows.specs.declared.trees.Node.{Node}
 use Rattle.mpc_controller.specs.Parts.{Parts}
 use Rattle.mpc_controller.specs.Bounds.{IsController}
-use Rattle.mpc_file.specs.Reading.{Grammar}
-use Rattle.mpc_file.specs.FileGrammar.{parts_with}
+use Rattle.mpc_file.specs.declared.versions.Version.{Version}
+use Rattle.mpc_file.specs.Reading.{Grammar, ◌>>=◌}
+use Rattle.mpc_file.specs.PlantGrammar.{plant}
+use Rattle.mpc_file.specs.FileGrammar.{parts_with, behind_plant}
 
 -- the same lines, which state the laws and the tree beside this plant; the three are a controller
 abbrev pub unsealed : Plant → Grammar Parts → Grammar (List Law × List Node)
@@ -15,3 +17,7 @@ unsealed plant whole =
       Reads = λ here parts behind. whole.Reads here (parts_with plant parts.0 parts.1) behind × IsController plant parts.0 parts.1;
       Fails = whole.Fails;
     }
+
+-- the lines of a version behind the first line
+abbrev pub in_version : Version → Grammar Parts
+in_version version = plant version >>= behind_plant version

@@ -12,6 +12,5 @@ number_of Three = 3
 
 -- the most rows of a program of so many unknowns
 abbrev pub greatest_rows : Version → ℕ → ℕ
-greatest_rows One unknowns = 40
-greatest_rows Two unknowns = 40
 greatest_rows Three unknowns = row_limit unknowns
+greatest_rows other unknowns = 40

@@ -5,7 +5,7 @@ use Rattle.mpc_plant.specs.declared.plants.Plant.{Plant}
 use Rattle.mpc_plant.specs.declared.lists.PlantRow.{PlantRow}
 use Rattle.mpc_words.specs.Words.{line}
 use Rattle.mpc_file.specs.Reading.{Grammar}
-use Rattle.mpc_file.specs.Lines.{count_line, fractions_line, matrix_line, row_line, last_line, grid_line}
+use Rattle.mpc_file.specs.Lines.{count_line, fractions_line, matrix_line, row_line, grid_line}
 
 -- in front of any other text and at any number, the grammar reads this from the text
 pub record Prints {X : Type 0} (grammar : Grammar X) (x : X) (text : List ℕ) : Type 0 where
@@ -35,10 +35,10 @@ abbrev pub goal_line : Plant → List ℕ
 goal_line plant = fractions_line (codes "goal") (plant.xgoal ++ plant.ugoal)
 
 abbrev pub row_lines : List PlantRow → List (List ℕ)
-row_lines rows = count_line (codes "rows") (length rows) ∷ map row_line rows
+row_lines rows = count_line (codes "rows") (length rows) ∷ map (row_line (codes "row")) rows
 
 abbrev pub last_lines : List PlantRow → List (List ℕ)
-last_lines rows = count_line (codes "terminal") (length rows) ∷ map last_line rows
+last_lines rows = count_line (codes "terminal") (length rows) ∷ map (row_line (codes "last")) rows
 
 -- the lines of the plant in version 3
 abbrev pub plant_lines : Plant → List (List ℕ)

@@ -8,9 +8,6 @@ use Rattle.mpc_file.specs.PlantGrammar.{AllFit}
 abbrev pub RowFits : PlantRow → Type 0
 RowFits row = AllFit (row.x ++ row.u ++ row.max ∷ [])
 
-abbrev pub LastFits : PlantRow → Type 0
-LastFits row = AllFit (row.x ++ row.max ∷ [])
-
 abbrev pub AxisFits : Coordinate → Type 0
 AxisFits axis = AllFit (axis.low ∷ axis.step ∷ [])
 
@@ -30,5 +27,5 @@ pub record PlantFits (plant : Plant) : Type 0 where
   pub drift : AllFit plant.drift
   pub goal : GoalFits plant
   pub rows : All RowFits plant.rows
-  pub terminal : All LastFits plant.terminal
+  pub terminal : All RowFits plant.terminal
   pub grid : All AxisFits plant.grid

@@ -8,8 +8,8 @@ ghost use Rattle.mpc_sets.specs.RowSet.{IsSetOfRows};
 ghost use Rattle.mpc_controller.specs.Parts.{limits_of, row_count};
 ghost use Rattle.mpc_controller.specs.Bounds.{FormFits};
 ghost use Rattle.mpc_file.specs.Reading.{Outcome, one_line};
-ghost use Rattle.mpc_file.specs.PlantGrammar.{plain_rule};
-ghost use Rattle.mpc_file.specs.LawGrammar.{unknowns, IsLawLine, IsForm, move_rule, moves, mults, written_law, IsLawCount, law_count, written_laws};
+ghost use Rattle.mpc_file.specs.PlantGrammar.{plain_rule, AreNumbers, IsNumber};
+ghost use Rattle.mpc_file.specs.LawGrammar.{unknowns, IsLawLine, move_rule, moves, mults, written_law, law_count, written_laws};
 
 use crate::errors::{FileError, FileKind};
 use crate::forms::{Forms, matrix_of};
@@ -102,8 +102,8 @@ pub fn read_set(alloc: Global, lines: &mut Lines, plant: &Plant) -> Result<Activ
 /// The affine form of `n` states that a line states behind its first word.
 pub fn form_in(alloc: Global, text: &[u8], name: &[u8], n: u32) -> Result<Option<Vector>, NoMemory>
     ensures { IfOk result (λ found. MatchOption found
-        ((form : List ℚ) → ¬ IsForm name.now n text.now form)
-        (λ form. IsForm name.now n text.now form)) }
+        ((form : List ℚ) → ¬ AreNumbers name.now (n + 1) text.now form)
+        (λ form. AreNumbers name.now (n + 1) text.now form)) }
 {
     one_fractions();
     let Some(form) = fractions_of(alloc, text, name)? else {
@@ -175,7 +175,7 @@ fn read_moves(
 
 /// Reads the line of a multiplier's form.
 fn read_mult(alloc: Global, lines: &mut Lines, plant: &Plant) -> Result<Vector, FileError>
-    ensures { Outcome (one_line (plain_rule (IsForm (codes "mult") plant.now.n))) lines.old lines.new result }
+    ensures { Outcome (one_line (plain_rule (AreNumbers (codes "mult") (plant.now.n + 1)))) lines.old lines.new result }
 {
     let number = lines.number();
     let text = lines.take()?;
@@ -219,7 +219,7 @@ fn read_written_law(
 
 /// The number of laws that a line states.
 fn law_count_in(text: &[u8]) -> Option<u64>
-    ensures { MatchOption result ((count : ℕ) → ¬ IsLawCount text.now count) (IsLawCount text.now) }
+    ensures { MatchOption result ((count : ℕ) → ¬ IsNumber (codes "laws") (λ number. number ≤ 4598479) text.now count) (IsNumber (codes "laws") (λ number. number ≤ 4598479) text.now) }
 {
     one_number();
     match number_of(text, b"laws") {

@@ -1,12 +1,12 @@
 //! The lines of a plant's rows and of its grid.
 
-ghost use Rattle.std.specs.Prelude.{◌≡◌, ◌≢◌, ◌+◌, ◌^◌, ◌<◌, ℕ, length, MatchOption, MatchBool, IfOk};
+ghost use Rattle.std.specs.Prelude.{◌*◌, ◌≤◌, ◌≡◌, ◌≢◌, ◌+◌, ◌^◌, ◌<◌, ℕ, length, MatchOption, MatchBool, IfOk};
 ghost use Rattle.mpc_exact.specs.Rational.{IsPositive};
 ghost use Rattle.mpc_plant.specs.declared.lists.PlantRow.{PlantRow as Row};
 ghost use Rattle.mpc_plant.specs.declared.lists.Coordinate.{Coordinate as Axis};
 ghost use Rattle.mpc_file.specs.Reading.{Outcome, one_line};
 ghost use Rattle.mpc_file.specs.Versions.{greatest_rows as most_rows};
-ghost use Rattle.mpc_file.specs.PlantGrammar.{plain_rule, so_many, IsRowCount, IsRow, IsLast, IsAxis, row_list, last_list, grid, limits};
+ghost use Rattle.mpc_file.specs.PlantGrammar.{plain_rule, so_many, IsRow, IsAxis, row_list, last_list, limits, IsNumber};
 ghost use Rattle.mpc_file.specs.LimitNumbers.{StatesRow, StatesAxis, IsStepCount};
 
 use crate::errors::{FileError, FileKind};
@@ -40,8 +40,8 @@ fn count_in(text: &[u8], name: &[u8], each: u32, others: u128, most: u64) -> Opt
     requires some { 0 < each }
     requires others { others < 2 ^ 96 }
     ensures { MatchOption result
-        ((count : ℕ) → ¬ IsRowCount name.now each others most text.now count)
-        (λ count. IsRowCount name.now each others most text.now count) }
+        ((count : ℕ) → ¬ IsNumber name.now (λ number. each * number + others ≤ most) text.now count)
+        (λ count. IsNumber name.now (λ number. each * number + others ≤ most) text.now count) }
 {
     one_number();
     match number_of(text, name) {
@@ -65,7 +65,7 @@ fn read_count(
 ) -> Result<u64, FileError>
     requires some { 0 < each }
     requires others { others < 2 ^ 96 }
-    ensures { Outcome (one_line (plain_rule (IsRowCount name.now each others most))) lines.old lines.new result }
+    ensures { Outcome (one_line (plain_rule (IsNumber name.now (λ number. each * number + others ≤ most)))) lines.old lines.new result }
 {
     let number = lines.number();
     let line = lines.take()?;
@@ -99,28 +99,21 @@ fn row_of(
     }))
 }
 
-/// The row that a line states, for each step before the end.
-fn row_in(alloc: Global, text: &[u8], sizes: &Sizes) -> Result<Option<PlantRow>, NoMemory>
+/// The row that a line states behind its name.
+fn row_in(
+    alloc: Global,
+    text: &[u8],
+    name: &[u8],
+    states: u32,
+    inputs: u32,
+) -> Result<Option<PlantRow>, NoMemory>
     ensures { IfOk result (λ found. MatchOption found
-        ((row : Row) → ¬ IsRow sizes.now text.now row)
-        (λ row. IsRow sizes.now text.now row)) }
+        ((row : Row) → ¬ IsRow name.now states inputs text.now row)
+        (λ row. IsRow name.now states inputs text.now row)) }
 {
     one_fractions();
-    match fractions_of(alloc, text, b"row")? {
-        Some(numbers) => row_of(alloc, numbers.as_slice(), sizes.states, sizes.inputs),
-        None => Ok(None),
-    }
-}
-
-/// The row that a line states, for the end.
-fn last_in(alloc: Global, text: &[u8], sizes: &Sizes) -> Result<Option<PlantRow>, NoMemory>
-    ensures { IfOk result (λ found. MatchOption found
-        ((row : Row) → ¬ IsLast sizes.now text.now row)
-        (λ row. IsLast sizes.now text.now row)) }
-{
-    one_fractions();
-    match fractions_of(alloc, text, b"last")? {
-        Some(numbers) => row_of(alloc, numbers.as_slice(), sizes.states, 0),
+    match fractions_of(alloc, text, name)? {
+        Some(numbers) => row_of(alloc, numbers.as_slice(), states, inputs),
         None => Ok(None),
     }
 }
@@ -181,21 +174,18 @@ fn axis_in(alloc: Global, text: &[u8]) -> Result<Option<Coordinate>, NoMemory>
 }
 
 /// Reads the line of a row.
-fn read_row(alloc: Global, lines: &mut Lines, sizes: &Sizes) -> Result<PlantRow, FileError>
-    ensures { Outcome (one_line (plain_rule (IsRow sizes.now))) lines.old lines.new result }
+fn read_row(
+    alloc: Global,
+    lines: &mut Lines,
+    name: &[u8],
+    states: u32,
+    inputs: u32,
+) -> Result<PlantRow, FileError>
+    ensures { Outcome (one_line (plain_rule (IsRow name.now states inputs))) lines.old lines.new result }
 {
     let number = lines.number();
     let line = lines.take()?;
-    stated(row_in(alloc, line, sizes), number)
-}
-
-/// Reads the line of a row of the end.
-fn read_last(alloc: Global, lines: &mut Lines, sizes: &Sizes) -> Result<PlantRow, FileError>
-    ensures { Outcome (one_line (plain_rule (IsLast sizes.now))) lines.old lines.new result }
-{
-    let number = lines.number();
-    let line = lines.take()?;
-    stated(last_in(alloc, line, sizes), number)
+    stated(row_in(alloc, line, name, states, inputs), number)
 }
 
 /// Reads the line of a coordinate.
@@ -211,31 +201,16 @@ fn read_axis(alloc: Global, lines: &mut Lines) -> Result<Coordinate, FileError>
 fn read_row_lines(
     alloc: Global,
     lines: &mut Lines,
-    sizes: &Sizes,
+    name: &[u8],
+    states: u32,
+    inputs: u32,
     count: u64,
 ) -> Result<PlantRows, FileError>
-    ensures { Outcome (so_many count (plain_rule (IsRow sizes.now))) lines.old lines.new result }
+    ensures { Outcome (so_many count (plain_rule (IsRow name.now states inputs))) lines.old lines.new result }
 {
     let mut rows = PlantRows::new(alloc);
     for _ in 0..count {
-        let row = read_row(alloc, lines, sizes)?;
-        rows.push(row)?;
-    }
-    Ok(rows)
-}
-
-/// Reads the lines of so many rows of the end.
-fn read_last_lines(
-    alloc: Global,
-    lines: &mut Lines,
-    sizes: &Sizes,
-    count: u64,
-) -> Result<PlantRows, FileError>
-    ensures { Outcome (so_many count (plain_rule (IsLast sizes.now))) lines.old lines.new result }
-{
-    let mut rows = PlantRows::new(alloc);
-    for _ in 0..count {
-        let row = read_last(alloc, lines, sizes)?;
+        let row = read_row(alloc, lines, name, states, inputs)?;
         rows.push(row)?;
     }
     Ok(rows)
@@ -253,7 +228,7 @@ pub(crate) fn read_rows(
 {
     let most = greatest_rows(version, sizes.inputs as u64 * sizes.steps as u64);
     let count = read_count(lines, b"rows", sizes.steps, 0, most)?;
-    read_row_lines(alloc, lines, sizes, count)
+    read_row_lines(alloc, lines, b"row", sizes.states, sizes.inputs, count)
 }
 
 /// Reads the rows of the end, behind those of the steps.
@@ -269,7 +244,7 @@ pub(crate) fn read_terminal(
     let most = greatest_rows(version, sizes.inputs as u64 * sizes.steps as u64);
     let others = sizes.steps as u128 * rows.len() as u128;
     let count = read_count(lines, b"terminal", 1, others, most)?;
-    read_last_lines(alloc, lines, sizes, count)
+    read_row_lines(alloc, lines, b"last", sizes.states, 0, count)
 }
 
 /// Reads the coordinates of the grid.
@@ -278,7 +253,7 @@ pub(crate) fn read_grid(
     lines: &mut Lines,
     sizes: &Sizes,
 ) -> Result<Coordinates, FileError>
-    ensures { Outcome (grid sizes.now) lines.old lines.new result }
+    ensures { Outcome (so_many sizes.now.states (plain_rule IsAxis)) lines.old lines.new result }
 {
     let mut axes = Coordinates::new(alloc);
     for _ in 0..sizes.states {

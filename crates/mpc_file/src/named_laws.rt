@@ -6,8 +6,8 @@ ghost use Rattle.mpc_linear.specs.Whole.{AreSmall};
 ghost use Rattle.mpc_controller.specs.Parts.{limits_of};
 ghost use Rattle.mpc_controller.specs.Bounds.{FormFits};
 ghost use Rattle.mpc_file.specs.Reading.{Outcome, one_line};
-ghost use Rattle.mpc_file.specs.PlantGrammar.{plain_rule};
-ghost use Rattle.mpc_file.specs.LawGrammar.{unknowns, IsShortCount, IsNewForm, forms, NameForms, used_behind, form_named, AreFormNumbers, named_moves_rule, named_mults};
+ghost use Rattle.mpc_file.specs.PlantGrammar.{plain_rule, IsNumber, AreNumbers, StatesNew};
+ghost use Rattle.mpc_file.specs.LawGrammar.{unknowns, forms, NameForms, used_behind, form_named, AreFormNumbers, named_moves_rule, named_mults};
 ghost use Rattle.mpc_file.specs.FormLists.{matrix_with, NamesAll, HasLinesOf, ReadsLaw, ReadsLaws};
 
 use crate::errors::{FileError, FileKind};
@@ -31,8 +31,8 @@ const SHORT: u64 = 1_000_000_000_000_000_000;
 
 /// The number of at most 18 digits that a line states behind its first word.
 pub fn short_count_in(text: &[u8], name: &[u8]) -> Option<u64>
-    ensures { MatchOption result ((count : ℕ) → ¬ IsShortCount name.now text.now count)
-        (IsShortCount name.now text.now) }
+    ensures { MatchOption result ((count : ℕ) → ¬ IsNumber name.now (λ number. number < 10 ^ 18) text.now count)
+        (IsNumber name.now (λ number. number < 10 ^ 18) text.now) }
 {
     one_number();
     match number_of(text, name) {
@@ -43,7 +43,7 @@ pub fn short_count_in(text: &[u8], name: &[u8]) -> Option<u64>
 
 /// Reads the line of the number of forms.
 fn read_form_count(lines: &mut Lines) -> Result<u64, FileError>
-    ensures { Outcome (one_line (plain_rule (IsShortCount (codes "forms")))) lines.old lines.new result }
+    ensures { Outcome (one_line (plain_rule (IsNumber (codes "forms") (λ number. number < 10 ^ 18)))) lines.old lines.new result }
 {
     let number = lines.number();
     let text = lines.take()?;
@@ -63,7 +63,7 @@ fn read_new_form<'a>(
     before: &Forms,
 ) -> Result<Vector, FileError>
     requires { HasLinesOf known.old before.now }
-    ensures outcome { Outcome (one_line (plain_rule (IsNewForm plant.now.n before.now))) lines.old lines.new result }
+    ensures outcome { Outcome (one_line (plain_rule (StatesNew before.now (AreNumbers (codes "form") (plant.now.n + 1))))) lines.old lines.new result }
     ensures known { IfOk result (λ form. HasLinesOf known.new (before.now ++ form ∷ [])) }
     ensures kept { (line : List ℕ) → Contains known.old line → Contains known.new line }
 {

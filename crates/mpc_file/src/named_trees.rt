@@ -1,12 +1,12 @@
 //! Search trees whose splits name planes, and the planes that stand before them.
 
-ghost use Rattle.std.specs.Prelude.{◌≡◌, ℕ, ◌+◌, ◌-◌, ◌^◌, ◌<◌, ◌≤◌, List, [], ◌∷◌, ◌++◌, length, slice_get, Some, Contains, IfOk, OnOk, OnErr, MatchOption};
+ghost use Rattle.std.specs.Prelude.{codes, ◌≡◌, ℕ, ◌+◌, ◌-◌, ◌^◌, ◌<◌, ◌≤◌, List, [], ◌∷◌, ◌++◌, length, slice_get, Some, Contains, IfOk, OnOk, OnErr, MatchOption};
 ghost use Rattle.mpc_linear.specs.declared.integers.RowInt.{RowInt as Row};
 ghost use Rattle.mpc_plant.specs.declared.plants.Plant.{Plant as ThePlant};
 ghost use Rattle.mpc_controller.specs.Parts.{limits_of};
 ghost use Rattle.mpc_file.specs.Reading.{one_line, many, Outcome};
-ghost use Rattle.mpc_file.specs.PlantGrammar.{plain_rule};
-ghost use Rattle.mpc_file.specs.TreeGrammar.{IsPlaneCount, plane_rule, planes, plane_named};
+ghost use Rattle.mpc_file.specs.PlantGrammar.{plain_rule, UsesAll, IsNumber};
+ghost use Rattle.mpc_file.specs.TreeGrammar.{plane_rule, planes, plane_named};
 ghost use Rattle.mpc_file.specs.TreeReading.{plane_rows, named_node_at, named_nodes, named_tree_nodes};
 ghost use Rattle.mpc_file.specs.PlaneReading.{ReadsNamedSplit, AreLinesOf};
 
@@ -91,8 +91,8 @@ pub(crate) enum SplitLine {
 
 /// How many planes a line announces, behind laws that use so many of all forms.
 fn plane_count_in(text: &[u8], all: u64, used: u64) -> Option<u64>
-    ensures { MatchOption result ((count : ℕ) → ¬ IsPlaneCount all used text.now count)
-        (λ count. IsPlaneCount all used text.now count) }
+    ensures { MatchOption result ((count : ℕ) → ¬ UsesAll all used (IsNumber (codes "planes") (λ number. number < 10 ^ 18)) text.now count)
+        (λ count. UsesAll all used (IsNumber (codes "planes") (λ number. number < 10 ^ 18)) text.now count) }
 {
     one_number();
     match number_of(text, b"planes") {
@@ -107,7 +107,7 @@ fn plane_count_in(text: &[u8], all: u64, used: u64) -> Option<u64>
 
 /// Reads the line of the number of planes.
 fn read_plane_count(lines: &mut Lines, all: u64, used: u64) -> Result<u64, FileError>
-    ensures { Outcome (one_line (plain_rule (IsPlaneCount all used))) lines.old lines.new result }
+    ensures { Outcome (one_line (plain_rule (UsesAll all used (IsNumber (codes "planes") (λ number. number < 10 ^ 18))))) lines.old lines.new result }
 {
     let number = lines.number();
     let line = lines.take()?;

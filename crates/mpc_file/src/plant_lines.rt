@@ -1,21 +1,20 @@
 //! The lines of a plant before its rows: its sizes, its matrices, its drift and its targets.
 
-ghost use Rattle.std.specs.Prelude.{◌≡◌, ◌≢◌, ◌+◌, ◌*◌, ◌<◌, ℕ, List, IfOk, MatchOption, MatchBool, IsTrue, ◌↔◌, length};
+ghost use Rattle.std.specs.Prelude.{◌≡◌, ◌≢◌, ◌+◌, ◌*◌, ◌<◌, ℕ, List, IfOk, MatchOption, MatchBool, IsTrue, ◌↔◌, length, codes};
 ghost use Rattle.mpc_exact.specs.Rational.{ℚ};
 ghost use Rattle.mpc_space.specs.Vector.{IsSymmetric, zeros};
 ghost use Rattle.mpc_space.specs.Matrix.{RationalMatrix, height};
 ghost use Rattle.mpc_linear.specs.Grid.{grid};
 ghost use Rattle.mpc_linear.specs.Shape.{HasShape};
 ghost use Rattle.mpc_file.specs.Reading.{Outcome, one_line};
-ghost use Rattle.mpc_file.specs.PlantGrammar.{AreSizes, IsMatrix, IsWeightLine, IsDrift, AreTargets, AreTargetsOf, AreZero, MayHave, plain_rule, offsets_with, no_offsets, sizes as sizes_grammar, matrix as matrix_grammar, weight as weight_grammar, dynamics as dynamics_grammar, weights as weights_grammar, offsets as offsets_grammar, offset_lines};
+ghost use Rattle.mpc_file.specs.PlantGrammar.{AreSizes, IsMatrix, IsWeightLine, IsGoal, AreZero, MayHave, plain_rule, offsets_with, matrix as matrix_grammar, weight as weight_grammar, dynamics as dynamics_grammar, weights as weights_grammar, offsets as offsets_grammar, offset_lines, AreNumbers};
 ghost use Rattle.mpc_file.specs.PlantNumbers.{IsBetween, AreSizeNumbers, filled, IsMirroredRow};
 ghost use Rattle.mpc_file.specs.declared.plant_parts.Sizes.{Sizes as SizesStated};
-ghost use Rattle.mpc_file.specs.declared.plant_parts.Targets.{Targets as TargetsStated};
 
 use crate::errors::FileError;
 use crate::line_theorems::{one_fractions, one_integers};
 use crate::lines::{Lines, stated};
-use crate::plant_parts::{Dynamics, Offsets, Sizes, Targets, Weights};
+use crate::plant_parts::{Dynamics, Offsets, Sizes, Weights};
 use crate::spelling::{fractions_of, integers_of};
 use crate::versions::Version;
 use mpc_frac::{Frac, NoMemory};
@@ -70,7 +69,7 @@ fn sizes_in(alloc: Global, text: &[u8]) -> Result<Option<Sizes>, NoMemory>
 
 /// Reads the line of the sizes.
 pub(crate) fn read_sizes(alloc: Global, lines: &mut Lines) -> Result<Sizes, FileError>
-    ensures { Outcome sizes_grammar lines.old lines.new result }
+    ensures { Outcome (one_line (plain_rule AreSizes)) lines.old lines.new result }
 {
     let number = lines.number();
     let line = lines.take()?;
@@ -238,29 +237,34 @@ pub(crate) fn read_weights(
     Ok(Weights { q, r, last })
 }
 
-/// The drift of so many entries that a line states.
-fn drift_in(alloc: Global, text: &[u8], states: u32) -> Result<Option<Vector>, NoMemory>
+/// The so many fractions that a line states behind its name.
+fn numbers_in(
+    alloc: Global,
+    text: &[u8],
+    name: &[u8],
+    count: usize,
+) -> Result<Option<Vector>, NoMemory>
     ensures { IfOk result (λ found. MatchOption found
-        ((xs : List ℚ) → ¬ IsDrift states text.now xs)
-        (λ xs. IsDrift states text.now xs)) }
+        ((xs : List ℚ) → ¬ AreNumbers name.now count text.now xs)
+        (λ xs. AreNumbers name.now count text.now xs)) }
 {
     one_fractions();
-    let Some(drift) = fractions_of(alloc, text, b"drift")? else {
+    let Some(numbers) = fractions_of(alloc, text, name)? else {
         return Ok(None);
     };
-    if drift.len() != states as usize {
+    if numbers.len() != count {
         return Ok(None);
     }
-    Ok(Some(drift))
+    Ok(Some(numbers))
 }
 
 /// Reads the line of the drift.
 fn read_drift(alloc: Global, lines: &mut Lines, states: u32) -> Result<Vector, FileError>
-    ensures { Outcome (one_line (plain_rule (IsDrift states))) lines.old lines.new result }
+    ensures { Outcome (one_line (plain_rule (AreNumbers (codes "drift") states))) lines.old lines.new result }
 {
     let number = lines.number();
     let line = lines.take()?;
-    stated(drift_in(alloc, line, states), number)
+    stated(numbers_in(alloc, line, b"drift", states as usize), number)
 }
 
 /// The vector of these entries.
@@ -274,25 +278,6 @@ pub(crate) fn vector_of(alloc: Global, entries: &[Frac]) -> Result<Vector, NoMem
     Ok(copy)
 }
 
-/// The targets that a line states.
-fn targets_in(alloc: Global, text: &[u8], sizes: &Sizes) -> Result<Option<Targets>, NoMemory>
-    ensures { IfOk result (λ found. MatchOption found
-        ((t : TargetsStated) → ¬ AreTargets sizes.now text.now t)
-        (λ t. AreTargets sizes.now text.now t)) }
-{
-    one_fractions();
-    let Some(goals) = fractions_of(alloc, text, b"goal")? else {
-        return Ok(None);
-    };
-    let states = sizes.states as usize;
-    if goals.len() != states + sizes.inputs as usize {
-        return Ok(None);
-    }
-    let xgoal = vector_of(alloc, &goals.as_slice()[..states])?;
-    let ugoal = vector_of(alloc, &goals.as_slice()[states..])?;
-    Ok(Some(Targets { xgoal, ugoal }))
-}
-
 /// Whether each entry is 0.
 fn are_zero(entries: &Vector) -> bool
     ensures { IsTrue result ↔ AreZero entries.now }
@@ -301,11 +286,11 @@ fn are_zero(entries: &Vector) -> bool
 }
 
 /// Whether a text of this version may state this drift and these targets.
-fn are_allowed(version: Version, drift: &Vector, targets: &Targets) -> bool
-    ensures { MatchBool result (MayHave version (offsets_with drift.now targets.now))
-        (¬ MayHave version (offsets_with drift.now targets.now)) }
+fn are_allowed(version: Version, drift: &Vector, goal: &Vector) -> bool
+    ensures { MatchBool result (MayHave version drift.now goal.now)
+        (¬ MayHave version drift.now goal.now) }
 {
-    let no_offset = are_zero(drift) && are_zero(&targets.xgoal) && are_zero(&targets.ugoal);
+    let no_offset = are_zero(drift) && are_zero(goal);
     match version {
         Version::One => no_offset,
         Version::Two => !no_offset,
@@ -314,43 +299,61 @@ fn are_allowed(version: Version, drift: &Vector, targets: &Targets) -> bool
 }
 
 /// The targets that a line states, where a text of this version may state them beside this drift.
-fn allowed_targets_in(
+fn goal_in(
     alloc: Global,
     text: &[u8],
     version: Version,
     sizes: &Sizes,
     drift: &Vector,
-) -> Result<Option<Targets>, NoMemory>
+) -> Result<Option<Vector>, NoMemory>
     ensures { IfOk result (λ found. MatchOption found
-        ((t : TargetsStated) → ¬ AreTargetsOf version sizes.now drift.now text.now t)
-        (λ t. AreTargetsOf version sizes.now drift.now text.now t)) }
+        ((goal : List ℚ) → ¬ IsGoal version sizes.now drift.now text.now goal)
+        (λ goal. IsGoal version sizes.now drift.now text.now goal)) }
 {
     one_fractions();
-    let Some(targets) = targets_in(alloc, text, sizes)? else {
+    let count = sizes.states as usize + sizes.inputs as usize;
+    let Some(goal) = numbers_in(alloc, text, b"goal", count)? else {
         return Ok(None);
     };
-    if !are_allowed(version, drift, &targets) {
+    if !are_allowed(version, drift, &goal) {
         return Ok(None);
     }
-    Ok(Some(targets))
+    Ok(Some(goal))
 }
 
 /// Reads the line of the targets.
-fn read_targets(
+fn read_goal(
     alloc: Global,
     lines: &mut Lines,
     version: Version,
     sizes: &Sizes,
     drift: &Vector,
-) -> Result<Targets, FileError>
-    ensures { Outcome (one_line (plain_rule (AreTargetsOf version sizes.now drift.now))) lines.old lines.new result }
+) -> Result<Vector, FileError>
+    ensures { Outcome (one_line (plain_rule (IsGoal version sizes.now drift.now))) lines.old lines.new result }
 {
     let number = lines.number();
     let line = lines.take()?;
-    stated(
-        allowed_targets_in(alloc, line, version, sizes, drift),
-        number,
-    )
+    stated(goal_in(alloc, line, version, sizes, drift), number)
+}
+
+/// The offsets of this drift and these targets.
+fn offsets_of(
+    alloc: Global,
+    sizes: &Sizes,
+    drift: Vector,
+    goal: &Vector,
+) -> Result<Offsets, NoMemory>
+    requires { length goal.now ≡ sizes.now.states + sizes.now.inputs }
+    ensures { IfOk result (λ o. o ≡ offsets_with sizes.now drift goal.now) }
+{
+    let states = sizes.states as usize;
+    let xgoal = vector_of(alloc, &goal.as_slice()[..states])?;
+    let ugoal = vector_of(alloc, &goal.as_slice()[states..])?;
+    Ok(Offsets {
+        drift,
+        xgoal,
+        ugoal,
+    })
 }
 
 /// So many zeros.
@@ -366,7 +369,7 @@ fn zero_vector(alloc: Global, count: u32) -> Result<Vector, NoMemory>
 
 /// The offsets that a text of version 1 has: none.
 fn zero_offsets(alloc: Global, sizes: &Sizes) -> Result<Offsets, NoMemory>
-    ensures { IfOk result (λ o. o ≡ no_offsets sizes.now) }
+    ensures { IfOk result (λ o. o ≡ (record { drift = zeros sizes.now.states; xgoal = zeros sizes.now.states; ugoal = zeros sizes.now.inputs })) }
 {
     Ok(Offsets {
         drift: zero_vector(alloc, sizes.states)?,
@@ -385,12 +388,9 @@ fn read_offset_lines(
     ensures { Outcome (offset_lines version sizes.now) lines.old lines.new result }
 {
     let drift = read_drift(alloc, lines, sizes.states)?;
-    let targets = read_targets(alloc, lines, version, sizes, &drift)?;
-    Ok(Offsets {
-        drift,
-        xgoal: targets.xgoal,
-        ugoal: targets.ugoal,
-    })
+    let goal = read_goal(alloc, lines, version, sizes, &drift)?;
+    let offsets = offsets_of(alloc, sizes, drift, &goal)?;
+    Ok(offsets)
 }
 
 /// Reads the drift and the targets as a text of this version states them.

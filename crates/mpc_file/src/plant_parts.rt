@@ -26,13 +26,6 @@ pub struct Weights {
     pub last: Matrix,
 }
 
-/// Where the state and the input are to be.
-#[derive(Drop)]
-pub struct Targets {
-    pub xgoal: Vector,
-    pub ugoal: Vector,
-}
-
 /// The drift, and where the state and the input are to be.
 #[derive(Drop)]
 pub struct Offsets {

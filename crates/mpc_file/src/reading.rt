@@ -1,11 +1,12 @@
 //! The file of a controller, read.
 
-ghost use Rattle.std.specs.Prelude.{◌≡◌, IfOk, IfErr};
+ghost use Rattle.std.specs.Prelude.{codes, ◌≡◌, IfOk, IfErr};
 ghost use Rattle.mpc_controller.specs.Bounds.{IsController};
 ghost use Rattle.mpc_file.specs.Reading.{Outcome, one_line};
-ghost use Rattle.mpc_file.specs.PlantGrammar.{plain_rule};
-ghost use Rattle.mpc_file.specs.Unsealed.{unsealed};
-ghost use Rattle.mpc_file.specs.FileGrammar.{IsEnd, written, named, behind_plant, in_version, IsSpelled, ExplainsFileError};
+ghost use Rattle.mpc_file.specs.PlantGrammar.{plain_rule, UsesAll};
+ghost use Rattle.mpc_file.specs.Unsealed.{unsealed, in_version};
+ghost use Rattle.mpc_file.specs.FileGrammar.{written, named, behind_plant, IsSpelled, ExplainsFileError};
+ghost use Rattle.mpc_file.specs.TreeGrammar.{IsWord};
 
 use crate::errors::{FileError, FileKind};
 use crate::law_lines::read_written_laws;
@@ -23,7 +24,7 @@ use std::alloc::Global;
 
 /// Reads the last line, behind a tree that uses so many of all planes.
 fn read_end(lines: &mut Lines, all: u64, used: u64) -> Result<(), FileError>
-    ensures { Outcome (one_line (plain_rule (IsEnd all used))) lines.old lines.new result }
+    ensures { Outcome (one_line (plain_rule (UsesAll all used (IsWord (codes "end"))))) lines.old lines.new result }
 {
     let number = lines.number();
     let line = lines.take()?;

@@ -8,10 +8,10 @@ use Rattle.mpc_file.specs.Versions.{number_of}
 use Rattle.mpc_file.specs.Reading.{Cursor}
 use Rattle.mpc_file.specs.Lines.{count_line}
 use Rattle.mpc_file.specs.LawGrammar.{used_by, law_named}
-use Rattle.mpc_file.specs.TreeGrammar.{IsWord, planes_used, named_node}
+use Rattle.mpc_file.specs.TreeGrammar.{IsWord, planes_used, node_of, plane_named}
 use Rattle.mpc_file.specs.FormNames.{form_line}
 use Rattle.mpc_file.specs.PlaneNames.{plane_line}
-use Rattle.mpc_file.specs.FileGrammar.{IsVersion, IsEnd, named, start, Spells, written, behind_plant}
+use Rattle.mpc_file.specs.FileGrammar.{IsVersion, named, start, Spells, written, behind_plant}
 use Rattle.mpc_file.specs.LineTheorems.{OneFractions, OneIntegers}
 use Rattle.mpc_file.specs.TextTheorems.{EachText, StatedCanBe}
 use Rattle.mpc_theorem.specs.ControllerFile.{counted, plant_lines, law_lines, named_law_lines, laws_lines, split_line, named_split_line, tree_lines, written_lines, named_lines, lines_behind, file_text}
@@ -19,6 +19,7 @@ use Rattle.mpc_theorem.specs.FileTheorems.{SpelledIsFile, FileIsSpelled}
 use Rattle.mpc_theorem.proofs.Walks.{HasLines, lines_plain, lines_then, lines_are}
 use Rattle.mpc_theorem.proofs.PlantLines.{lines_plant, lines_given}
 use Rattle.mpc_theorem.proofs.LawLines.{lines_written_laws, lines_forms, lines_laws}
+use Rattle.mpc_file.specs.PlantGrammar.{UsesAll}
 use Rattle.mpc_theorem.proofs.TreeLines.{lines_planes, lines_written_tree, lines_tree}
 
 -- the last line
@@ -37,7 +38,7 @@ module _ (fractions : OneFractions) (integers : OneIntegers) where
   lines_named : (v : Plant) (here : Cursor) (x : Parts) (behind : Cursor) → (named v).Reads here x behind → HasLines here (named_lines x.laws x.tree ++ end_line) behind
   lines_named v here x behind (fs, (b, (f, (ns, (c, (l, (ps, (d, (p, (nodes, (e, (t, (u, (j, (w, g))))))))))))))) =
       let laws = map (law_named v fs) ns in
-      let tree = map (named_node ps) nodes in
+      let tree = map (node_of (plane_named ps)) nodes in
       let forms = lines_forms fractions v here fs b f in
       let planes = lines_planes integers v (length fs) (used_by ns) c ps d p in
       let of_laws = lines_laws v fs forms.1 b ns c l p.1.1.0.1.1.0.all_used in
@@ -50,7 +51,7 @@ module _ (fractions : OneFractions) (integers : OneIntegers) where
       (lines_are here e (parts_lines (map form_line fs) (map plane_line ps)) (named_lines laws tree) (λ i. parts_lines (sym of_laws.0 i) (sym of_tree.0 i))
       (lines_then here (counted (codes "forms") (map form_line fs) ++ laws_lines (named_law_lines (map form_line fs)) laws) c _ e
       (lines_then here (counted (codes "forms") (map form_line fs)) b _ c forms.0 of_laws.1) (lines_then c (counted (codes "planes") (map plane_line ps)) d _ e planes.0 of_tree.1)))
-      (lines_plain (IsEnd (length ps) (planes_used nodes)) (λ y. codes "end") (λ text y h. h.spelled) e u j w)) g.1)
+      (lines_plain (UsesAll (length ps) (planes_used nodes) (IsWord (codes "end"))) (λ y. codes "end") (λ text y h. h.stated) e u j w)) g.1)
 
   lines_all : (version : Version) (v : Plant) (here : Cursor) (x : Parts) (behind : Cursor) → (behind_plant version v).Reads here x behind → HasLines here (lines_behind version x.laws x.tree ++ end_line) behind
   lines_all One v here x behind h = lines_written v here x behind h

@@ -1,5 +1,5 @@
 -- The lines of forms and of the laws that name them, which tell the forms that the laws use.
-use Rattle.std.proofs.Common.{◌≡◌, ℕ, ◌-◌, ◌≤◌, nat_lt, cond, List, [], ◌∷◌, ◌++◌, map, fold, length, take, refl, sym, ap, subst, ◌∙◌, arith, codes, decimal}
+use Rattle.std.proofs.Common.{◌+◌, ◌<◌, ◌^◌, ◌≡◌, ℕ, ◌-◌, ◌≤◌, nat_lt, cond, List, [], ◌∷◌, ◌++◌, map, fold, length, take, refl, sym, ap, subst, ◌∙◌, arith, codes, decimal}
 use Rattle.std.specs.List.{flat_map}
 use Rattle.std.proofs.lemmas.List.{map-append, length-map, get_or-map, take_all}
 use Rattle.std.proofs.lemmas.List.Concat.{flat_map_single}
@@ -10,8 +10,8 @@ use Rattle.mpc_rows.specs.declared.laws.Law.{Law}
 use Rattle.mpc_words.specs.Words.{line}
 use Rattle.mpc_file.specs.Reading.{Cursor, one_line}
 use Rattle.mpc_file.specs.Lines.{count_line, fractions_line}
-use Rattle.mpc_file.specs.PlantGrammar.{AllFit, plain_rule}
-use Rattle.mpc_file.specs.LawGrammar.{unknowns, IsLawLine, IsForm, move_rule, written_law, written_laws, IsLawCount, IsShortCount, IsNewForm, forms, NameForms, used_behind, form_named, AreFormNumbers, named_moves_rule, named_mults, NamedLaw, used_by, named_law, named_laws, law_named}
+use Rattle.mpc_file.specs.PlantGrammar.{AllFit, plain_rule, AreNumbers, IsNumber, StatesNew}
+use Rattle.mpc_file.specs.LawGrammar.{unknowns, IsLawLine, move_rule, written_law, written_laws, forms, NameForms, used_behind, form_named, AreFormNumbers, named_moves_rule, named_mults, NamedLaw, used_by, named_law, named_laws, law_named}
 use Rattle.mpc_file.specs.FormNames.{form_line}
 use Rattle.mpc_file.specs.LineTheorems.{OneFractions}
 use Rattle.mpc_theorem.specs.ControllerFile.{with_line, different, number_in, counted, law_lines, forms_of, names_line, mult_lines, named_law_lines, laws_lines}
@@ -26,15 +26,15 @@ flat_map-map f g (x ∷ xs) = ap (λ l. f (g x) ++ l) (flat_map-map f g xs)
 -- ---- the forms
 pub lines_forms : OneFractions → (v : Plant) (here : Cursor) (fs : List (List ℚ)) (behind : Cursor) → (forms v).Reads here fs behind → HasLines here (counted (codes "forms") (map form_line fs)) behind × AreDifferent (map form_line fs)
 lines_forms one v here fs behind (count, (b, (first, reads))) =
-    let item = λ (before : List (List ℚ)). one_line (plain_rule (IsNewForm v.n before)) in
+    let item = λ (before : List (List ℚ)). one_line (plain_rule (StatesNew before (AreNumbers (codes "form") (v.n + 1)))) in
     let asks = λ (before : List (List ℚ)). nat_lt (length before) count in
     let size : count ≡ length (map form_line fs) = sym (so_many_items item count b fs behind reads) ∙ sym (length-map fs form_line) in
     let text : HasLines b (flat_map (λ form. form_line form ∷ []) fs) behind =
-    lines_items item asks (λ form. form_line form ∷ []) (λ before c x d h. lines_plain (IsNewForm v.n before) form_line (λ l y k. k.form_is.spelled) c x d h) b fs behind reads.0 in (
+    lines_items item asks (λ form. form_line form ∷ []) (λ before c x d h. lines_plain (StatesNew before (AreNumbers (codes "form") (v.n + 1))) form_line (λ l y k. k.stated.spelled) c x d h) b fs behind reads.0 in (
       lines_are here behind (count_line (codes "forms") count ∷ flat_map (λ form. form_line form ∷ []) fs) (counted (codes "forms") (map form_line fs))
           (λ i. count_line (codes "forms") (size i) ∷ flat_map_single form_line fs i)
-          (lines_then here (count_line (codes "forms") count ∷ []) b _ behind (lines_plain (IsShortCount (codes "forms")) (count_line (codes "forms")) (λ l x h. h.spelled) here count b first) text),
-      (different_items item asks form_line AllFit (λ x y f g e. one (codes "form") x y f g e) (λ before c x d h. (h.1.1.0.form_is.fits, h.1.1.0.new_one)) b fs behind reads.0).1,
+          (lines_then here (count_line (codes "forms") count ∷ []) b _ behind (lines_plain (IsNumber (codes "forms") (λ number. number < 10 ^ 18)) (count_line (codes "forms")) (λ l x h. h.spelled) here count b first) text),
+      (different_items item asks form_line AllFit (λ x y f g e. one (codes "form") x y f g e) (λ before c x d h. (h.1.1.0.stated.fits, h.1.1.0.new_one)) b fs behind reads.0).1,
     )
 
 -- ---- laws whose forms are written out
@@ -47,14 +47,14 @@ lines_written_law v here law behind (set, (b, (s, (zs, (c, (m, (ls, (d, (l, (e, 
     (lines_are b c (flat_map (λ form. fractions_line (codes "move") form ∷ []) zs) (map (fractions_line (codes "move")) zs) (flat_map_single (fractions_line (codes "move")) zs)
     (lines_items (λ (before : List (List ℚ)). one_line (move_rule v (length before))) (λ (before : List (List ℚ)). nat_lt (length before) (unknowns v)) (λ form. fractions_line (codes "move") form ∷ [])
     (λ before f x g h. lines_one (move_rule v (length before)) (fractions_line (codes "move")) (λ t y k. k.spelled) f x g h) b zs c m.0))
-    (lines_so_many (length set) (plain_rule (IsForm (codes "mult") v.n)) (fractions_line (codes "mult")) (λ t y k. k.spelled) c ls d l))) at)
+    (lines_so_many (length set) (plain_rule (AreNumbers (codes "mult") (v.n + 1))) (fractions_line (codes "mult")) (λ t y k. k.spelled) c ls d l))) at)
 
 pub lines_written_laws : (v : Plant) (here : Cursor) (laws : List Law) (behind : Cursor) → (written_laws v).Reads here laws behind → HasLines here (laws_lines law_lines laws) behind
 lines_written_laws v here laws behind (count, (b, (s, reads))) =
     let item = λ (before : List Law). written_law v in
     let size : count ≡ length laws = sym (so_many_items item count b laws behind reads) in
     lines_are here behind (count_line (codes "laws") count ∷ flat_map law_lines laws) (laws_lines law_lines laws) (λ i. count_line (codes "laws") (size i) ∷ flat_map law_lines laws)
-    (lines_then here (count_line (codes "laws") count ∷ []) b _ behind (lines_plain IsLawCount (count_line (codes "laws")) (λ t x h. h.spelled) here count b s)
+    (lines_then here (count_line (codes "laws") count ∷ []) b _ behind (lines_plain (IsNumber (codes "laws") (λ number. number ≤ 4598479)) (count_line (codes "laws")) (λ t x h. h.spelled) here count b s)
     (lines_items item (λ (before : List Law). nat_lt (length before) count) law_lines (λ before c x d h. lines_written_law v c x d h) b laws behind reads.0))
 
 -- ---- laws whose forms are named
@@ -133,6 +133,6 @@ module _ (v : Plant) (fs : List (List ℚ)) (differ : AreDifferent (map form_lin
         ap different (flat_map-map (λ (law : Law). map form_line (law.moves.rows ++ law.mults.rows)) (law_named v fs) ns) ∙ told.0 ∙ take_all (used_by ns) all (omega (arith, used, all_size)),
         lines_are here behind (count_line (codes "laws") count ∷ flat_map (λ n. named_law_lines all (law_named v fs n)) ns) _
             (λ i. count_line (codes "laws") (size i) ∷ sym (flat_map-map (named_law_lines all) (law_named v fs) ns) i)
-            (lines_then here (count_line (codes "laws") count ∷ []) b _ behind (lines_plain IsLawCount (count_line (codes "laws")) (λ t x h. h.spelled) here count b s)
+            (lines_then here (count_line (codes "laws") count ∷ []) b _ behind (lines_plain (IsNumber (codes "laws") (λ number. number ≤ 4598479)) (count_line (codes "laws")) (λ t x h. h.spelled) here count b s)
             (lines_items item asks (λ n. named_law_lines all (law_named v fs n)) (λ before c n d h. lines_law (used_by before) c n d h) b ns behind reads.0)),
       )

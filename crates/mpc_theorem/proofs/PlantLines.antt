@@ -1,5 +1,5 @@
 -- The lines of a plant.
-use Rattle.std.proofs.Common.{◌≡◌, ℕ, ◌*◌, List, [], ◌∷◌, ◌++◌, map, length, sym, subst, codes, decimal, refl, ◌∙◌}
+use Rattle.std.proofs.Common.{◌+◌, ◌≤◌, ◌≡◌, ℕ, ◌*◌, List, [], ◌∷◌, ◌++◌, map, length, take, drop, take-append-drop, sym, ap, subst, codes, decimal, refl, ◌∙◌}
 use Rattle.mpc_exact.specs.Rational.{ℚ}
 use Rattle.mpc_space.specs.Matrix.{RationalMatrix}
 use Rattle.mpc_plant.specs.declared.plants.Plant.{Plant}
@@ -15,8 +15,8 @@ use Rattle.mpc_file.specs.declared.plant_parts.Offsets.{Offsets}
 use Rattle.mpc_file.specs.declared.plant_parts.Limits.{Limits}
 use Rattle.mpc_file.specs.Reading.{Cursor, one_line}
 use Rattle.mpc_file.specs.Versions.{greatest_rows}
-use Rattle.mpc_file.specs.Lines.{count_line, fractions_line, matrix_line, row_line, last_line, grid_line}
-use Rattle.mpc_file.specs.PlantGrammar.{plain_rule, AreSizes, IsMatrix, IsWeightLine, dynamics, weights, IsDrift, AreTargetsOf, offset_lines, offsets, IsRowCount, IsRow, IsLast, IsAxis, row_list, last_list, limits, plant}
+use Rattle.mpc_file.specs.Lines.{count_line, fractions_line, matrix_line, row_line, grid_line}
+use Rattle.mpc_file.specs.PlantGrammar.{plain_rule, AreSizes, IsMatrix, IsWeightLine, dynamics, weights, IsGoal, offset_lines, offsets, IsRow, IsAxis, row_list, last_list, limits, plant, AreNumbers, IsNumber}
 use Rattle.mpc_file.specs.Writing.{row_lines, last_lines}
 use Rattle.mpc_theorem.specs.ControllerFile.{plant_lines}
 use Rattle.mpc_theorem.proofs.Walks.{HasLines, lines_none, lines_plain, lines_then, lines_are, lines_so_many, so_many_items}
@@ -55,19 +55,20 @@ lines_weights s here w behind (q, (b, (first, (r, (c, (second, (last, (d, (third
     subst (λ (x : Weights). HasLines here (weight_lines x.q x.r x.last) behind) (sym e)
     (lines_given here d behind _
     (lines_then here (matrix_line (codes "Q") q ∷ []) b (matrix_line (codes "R") r ∷ matrix_line (codes "P") last ∷ []) d
-    (lines_plain (IsWeightLine (codes "Q") s.states) (matrix_line (codes "Q")) (λ line x h. h.spelled) here q b first)
+    (lines_plain (IsWeightLine (codes "Q") s.states) (matrix_line (codes "Q")) (λ line x h. h.matrix_is.spelled) here q b first)
     (lines_then b (matrix_line (codes "R") r ∷ []) c (matrix_line (codes "P") last ∷ []) d
-    (lines_plain (IsWeightLine (codes "R") s.inputs) (matrix_line (codes "R")) (λ line x h. h.spelled) b r c second)
-    (lines_plain (IsWeightLine (codes "P") s.states) (matrix_line (codes "P")) (λ line x h. h.spelled) c last d third))) at)
+    (lines_plain (IsWeightLine (codes "R") s.inputs) (matrix_line (codes "R")) (λ line x h. h.matrix_is.spelled) b r c second)
+    (lines_plain (IsWeightLine (codes "P") s.states) (matrix_line (codes "P")) (λ line x h. h.matrix_is.spelled) c last d third))) at)
 
 lines_told : (version : Version) (s : Sizes) (here : Cursor) (o : Offsets) (behind : Cursor) → (offset_lines version s).Reads here o behind → HasLines here (goal_lines o.drift o.xgoal o.ugoal) behind
 unfolding goal_lines
 lines_told version s here o behind (drift, (b, (first, (t, (c, (second, (e, at))))))) =
     subst (λ (x : Offsets). HasLines here (goal_lines x.drift x.xgoal x.ugoal) behind) (sym e)
     (lines_given here c behind _
-    (lines_then here (fractions_line (codes "drift") drift ∷ []) b (fractions_line (codes "goal") (t.xgoal ++ t.ugoal) ∷ []) c
-    (lines_plain (IsDrift s.states) (fractions_line (codes "drift")) (λ line x h. h.spelled) here drift b first)
-    (lines_plain (AreTargetsOf version s drift) (λ x. fractions_line (codes "goal") (x.xgoal ++ x.ugoal)) (λ line x h. h.targets_are.spelled) b t c second)) at)
+    (lines_then here (fractions_line (codes "drift") drift ∷ []) b (fractions_line (codes "goal") (take s.states t ++ drop s.states t) ∷ []) c
+    (lines_plain (AreNumbers (codes "drift") s.states) (fractions_line (codes "drift")) (λ line x h. h.spelled) here drift b first)
+    (lines_plain (IsGoal version s drift) (λ x. fractions_line (codes "goal") (take s.states x ++ drop s.states x))
+    (λ line x h. h.numbers_are.spelled ∙ ap (fractions_line (codes "goal")) (sym (take-append-drop s.states x))) b t c second)) at)
 
 offset_words : Version → List ℚ → List ℚ → List ℚ → List (List ℕ)
 offset_words One drift xgoal ugoal = []
@@ -82,19 +83,19 @@ lines_offsets Three s here o behind h = lines_told Three s here o behind h
 
 lines_rows : (version : Version) (s : Sizes) (here : Cursor) (rows : List PlantRow) (behind : Cursor) → (row_list version s).Reads here rows behind → HasLines here (row_lines rows) behind
 lines_rows version s here rows behind (count, (b, (first, reads))) =
-    lines_are here behind (count_line (codes "rows") count ∷ map row_line rows) (row_lines rows)
-    (λ i. count_line (codes "rows") (sym (so_many_items (λ items. one_line (plain_rule (IsRow s))) count b rows behind reads) i) ∷ map row_line rows)
-    (lines_then here (count_line (codes "rows") count ∷ []) b (map row_line rows) behind
-    (lines_plain (IsRowCount (codes "rows") s.steps 0 (greatest_rows version (s.inputs * s.steps))) (count_line (codes "rows")) (λ line x h. h.spelled) here count b first)
-    (lines_so_many count (plain_rule (IsRow s)) row_line (λ line x h. h.spelled) b rows behind reads))
+    lines_are here behind (count_line (codes "rows") count ∷ map (row_line (codes "row")) rows) (row_lines rows)
+    (λ i. count_line (codes "rows") (sym (so_many_items (λ items. one_line (plain_rule (IsRow (codes "row") s.states s.inputs))) count b rows behind reads) i) ∷ map (row_line (codes "row")) rows)
+    (lines_then here (count_line (codes "rows") count ∷ []) b (map (row_line (codes "row")) rows) behind
+    (lines_plain (IsNumber (codes "rows") (λ number. s.steps * number + 0 ≤ (greatest_rows version (s.inputs * s.steps)))) (count_line (codes "rows")) (λ line x h. h.spelled) here count b first)
+    (lines_so_many count (plain_rule (IsRow (codes "row") s.states s.inputs)) (row_line (codes "row")) (λ line x h. h.spelled) b rows behind reads))
 
 lines_ends : (version : Version) (s : Sizes) (before : List PlantRow) (here : Cursor) (rows : List PlantRow) (behind : Cursor) → (last_list version s before).Reads here rows behind → HasLines here (last_lines rows) behind
 lines_ends version s before here rows behind (count, (b, (first, reads))) =
-    lines_are here behind (count_line (codes "terminal") count ∷ map last_line rows) (last_lines rows)
-    (λ i. count_line (codes "terminal") (sym (so_many_items (λ items. one_line (plain_rule (IsLast s))) count b rows behind reads) i) ∷ map last_line rows)
-    (lines_then here (count_line (codes "terminal") count ∷ []) b (map last_line rows) behind
-    (lines_plain (IsRowCount (codes "terminal") 1 (s.steps * length before) (greatest_rows version (s.inputs * s.steps))) (count_line (codes "terminal")) (λ line x h. h.spelled) here count b first)
-    (lines_so_many count (plain_rule (IsLast s)) last_line (λ line x h. h.spelled) b rows behind reads))
+    lines_are here behind (count_line (codes "terminal") count ∷ map (row_line (codes "last")) rows) (last_lines rows)
+    (λ i. count_line (codes "terminal") (sym (so_many_items (λ items. one_line (plain_rule (IsRow (codes "last") s.states 0))) count b rows behind reads) i) ∷ map (row_line (codes "last")) rows)
+    (lines_then here (count_line (codes "terminal") count ∷ []) b (map (row_line (codes "last")) rows) behind
+    (lines_plain (IsNumber (codes "terminal") (λ number. 1 * number + (s.steps * length before) ≤ (greatest_rows version (s.inputs * s.steps)))) (count_line (codes "terminal")) (λ line x h. h.spelled) here count b first)
+    (lines_so_many count (plain_rule (IsRow (codes "last") s.states 0)) (row_line (codes "last")) (λ line x h. h.spelled) b rows behind reads))
 
 lines_limits : (version : Version) (s : Sizes) (here : Cursor) (l : Limits) (behind : Cursor) → (limits version s).Reads here l behind → HasLines here (limit_lines l.rows l.terminal l.axes) behind
 unfolding limit_lines

@@ -1,6 +1,7 @@
 -- The lines of planes and of the nodes that name them, which tell the planes that the splits use.
+use Rattle.std.specs.Prelude.{is_some, slice_get, slice_index_or}
 use Rattle.mpc_rows.specs.declared.trees.Node.{Node}
-use Rattle.std.proofs.Common.{◌≡◌, ℕ, ◌+◌, ◌-◌, ◌≤◌, nat_lt, ℤ, List, [], ◌∷◌, ◌++◌, map, fold, length, take, drop, refl, sym, ap, subst, ◌∙◌, arith, codes}
+use Rattle.std.proofs.Common.{◌<◌, ◌^◌, ◌≡◌, ℕ, ◌+◌, ◌-◌, ◌≤◌, nat_lt, ℤ, List, [], ◌∷◌, ◌++◌, map, fold, length, take, drop, refl, sym, ap, subst, ◌∙◌, arith, codes}
 use Rattle.std.specs.List.{flat_map}
 use Rattle.std.proofs.lemmas.List.{length-map, get_or-map, take_all}
 use Rattle.std.proofs.lemmas.List.Concat.{flat_map_single}
@@ -13,8 +14,8 @@ use Rattle.mpc_controller.specs.Parts.{row_count}
 use Rattle.mpc_controller.specs.Certificates.{cell_rows}
 use Rattle.mpc_file.specs.Reading.{Cursor, one_line, ReadsItems, LineRule}
 use Rattle.mpc_file.specs.Lines.{count_line, cert_line}
-use Rattle.mpc_file.specs.PlantGrammar.{plain_rule}
-use Rattle.mpc_file.specs.TreeGrammar.{IsCertLine, NodeLine, StatesNode, node_rule, NodeOver, node_behind, node_at, owed, is_owed, next_depth, written_split, written_node, written_tree, IsWord, plane_rule, IsPlaneCount, planes, used_with, planes_used, NamesPlane, named_split, plane_named, named_node, named_tree, no_plane}
+use Rattle.mpc_file.specs.PlantGrammar.{plain_rule, UsesAll, IsNumber}
+use Rattle.mpc_file.specs.TreeGrammar.{IsCertLine, NodeLine, StatesNode, node_rule, NodeOver, node_behind, node_at, owed, written_split, written_tree, IsWord, plane_rule, planes, used_with, planes_used, named_split, plane_named, named_tree, node_of, IsNext}
 use Rattle.mpc_file.specs.TreeGrammar.NodeLine.{split_at, leaf_of, no_move}
 use Rattle.mpc_file.specs.TreeGrammar.NodeOver.{split_node, law_node, no_move_node}
 use Rattle.mpc_file.specs.TreeGrammar.StatesNode.{splits, names_law, has_none}
@@ -46,12 +47,12 @@ lines_planes one v all used here ps behind (count, (b, (first, reads))) =
     let asks = λ (before : List RowInt). nat_lt (length before) count in
     let size : count ≡ length (map plane_line ps) = sym (so_many_items item count b ps behind reads) ∙ sym (length-map ps plane_line) in
     let text : HasLines b (flat_map (λ row. plane_line row ∷ []) ps) behind =
-    lines_items item asks (λ row. plane_line row ∷ []) (λ before c x d h. lines_one (plane_rule v before) plane_line (λ l y k. k.plane_is.row_is.spelled) c x d h) b ps behind reads.0 in (
+    lines_items item asks (λ row. plane_line row ∷ []) (λ before c x d h. lines_one (plane_rule v before) plane_line (λ l y k. k.stated.row_is.spelled) c x d h) b ps behind reads.0 in (
       lines_are here behind (count_line (codes "planes") count ∷ flat_map (λ row. plane_line row ∷ []) ps) (counted (codes "planes") (map plane_line ps))
           (λ i. count_line (codes "planes") (size i) ∷ flat_map_single plane_line ps i)
-          (lines_then here (count_line (codes "planes") count ∷ []) b _ behind (lines_plain (IsPlaneCount all used) (count_line (codes "planes")) (λ l x h. h.count_is.spelled) here count b first) text),
+          (lines_then here (count_line (codes "planes") count ∷ []) b _ behind (lines_plain (UsesAll all used (IsNumber (codes "planes") (λ number. number < 10 ^ 18))) (count_line (codes "planes")) (λ l x h. h.stated.spelled) here count b first) text),
       (different_items item asks plane_line (IsPlaneOf v.n) (same_plane one v.n)
-          (λ before c x d h. (record { size = h.1.1.0.plane_is.row_is.size; small = h.1.1.0.plane_is.row_is.small }, h.1.1.0.new_one)) b ps behind reads.0).1,
+          (λ before c x d h. (record { size = h.1.1.0.stated.row_is.size; small = h.1.1.0.stated.row_is.small }, h.1.1.0.new_one)) b ps behind reads.0).1,
     )
 
 -- ---- the nodes
@@ -108,7 +109,7 @@ module _ {Row : Type 0} where
         behind_line depth line text here b x behind good.0 (lines_one (node_rule laws split) (line_words word) states_words here line b (text, (taken, good))) rest
 
 -- ---- splits whose rows are written out
-written_same : (x : NodeOver RowInt) → over_lines split_line x ≡ node_lines split_line (written_node x)
+written_same : (x : NodeOver RowInt) → over_lines split_line x ≡ node_lines split_line ((node_of (λ row. row)) x)
 unfolding over_lines
 written_same (split_node row) = refl
 written_same (law_node j cs) = refl
@@ -116,15 +117,15 @@ written_same (no_move_node c) = refl
 
 pub lines_written_tree : (v : Plant) (laws : ℕ) (here : Cursor) (tree : List Node) (behind : Cursor) → (written_tree v laws).Reads here tree behind → HasLines here (tree_lines split_line tree) behind
 lines_written_tree v laws here tree behind (u, (b, (t, (read, (c, (n, (e, at))))))) =
-    let item = λ (before : List (NodeOver RowInt)). node_at v laws (written_split v) (next_depth (owed before)) in
-    let asks = λ (before : List (NodeOver RowInt)). is_owed (owed before) in
+    let item = λ (before : List (NodeOver RowInt)). node_at v laws (written_split v) (slice_index_or (owed before) 0 0) in
+    let asks = λ (before : List (NodeOver RowInt)). is_some (slice_get (owed before) 0) in
     subst (λ xs. HasLines here (tree_lines split_line xs) behind) (sym e)
     (lines_given here c behind _
-    (lines_are here c (codes "tree" ∷ flat_map (λ x. node_lines split_line (written_node x)) read) _ (ap (λ l. codes "tree" ∷ l) (sym (flat_map-map (node_lines split_line) written_node read)))
+    (lines_are here c (codes "tree" ∷ flat_map (λ x. node_lines split_line ((node_of (λ row. row)) x)) read) _ (ap (λ l. codes "tree" ∷ l) (sym (flat_map-map (node_lines split_line) (node_of (λ row. row)) read)))
     (lines_then here (codes "tree" ∷ []) b _ c (lines_plain (IsWord (codes "tree")) (λ x. codes "tree") (λ l x h. h) here u b t)
-    (lines_items item asks (λ x. node_lines split_line (written_node x))
-    (λ before f x g h. lines_are f g (over_lines split_line x) (node_lines split_line (written_node x)) (written_same x)
-    (node_read v laws (written_split v) split_line (λ text row k. k.row_is.spelled) (next_depth (owed before)) f x g h).text) b read c n.0))) at)
+    (lines_items item asks (λ x. node_lines split_line ((node_of (λ row. row)) x))
+    (λ before f x g h. lines_are f g (over_lines split_line x) (node_lines split_line ((node_of (λ row. row)) x)) (written_same x)
+    (node_read v laws (written_split v) split_line (λ text row k. k.row_is.spelled) (slice_index_or (owed before) 0 0) f x g h).text) b read c n.0))) at)
 
 -- ---- splits whose planes are named
 module _ (v : Plant) (laws : ℕ) (ps : List RowInt) (differ : AreDifferent (map plane_line ps)) where
@@ -135,25 +136,25 @@ module _ (v : Plant) (laws : ℕ) (ps : List RowInt) (differ : AreDifferent (map
   all_size = length-map ps plane_line
 
   named_line : (k : ℕ) → 1 ≤ k → k ≤ length ps → plane_line (plane_named ps k) ≡ line_at all (k - 1)
-  named_line k from within = sym (get_or-map plane_line ps (k - 1) no_plane [] (omega (arith, from, within)))
+  named_line k from within = sym (get_or-map plane_line ps (k - 1) (record { a = []; b = pos 0 }) [] (omega (arith, from, within)))
 
   number : (k : ℕ) → 1 ≤ k → k ≤ length ps → k ≡ number_in all (plane_line (plane_named ps k))
   number k from within = sym (ap (number_in all) (named_line k from within) ∙ number_named all differ k from (subst (λ n. k ≤ n) (sym all_size) within))
 
   abbrev Names : ℕ → ℕ → Type 0
-  Names used k = (text : List ℕ) × NamesPlane (length ps) used text k
+  Names used k = (text : List ℕ) × IsNumber (codes "split") (IsNext (length ps) used) text k
 
-  named_same : (used : ℕ) (x : NodeOver ℕ) → SplitIs (Names used) x → over_lines (count_line (codes "split")) x ≡ node_lines (named_split_line all) (named_node ps x)
+  named_same : (used : ℕ) (x : NodeOver ℕ) → SplitIs (Names used) x → over_lines (count_line (codes "split")) x ≡ node_lines (named_split_line all) (node_of (plane_named ps) x)
   unfolding over_lines SplitIs
-  named_same used (split_node k) h = λ i. count_line (codes "split") (number k h.1.from_one h.1.is_plane i) ∷ []
+  named_same used (split_node k) h = λ i. count_line (codes "split") (number k h.1.allowed.0 h.1.allowed.1 i) ∷ []
   named_same used (law_node j cs) h = refl
   named_same used (no_move_node c) h = refl
 
-  node_named : (used : ℕ) (x : NodeOver ℕ) → used ≤ length all → SplitIs (Names used) x → (fold with_line (take used all) (split_lines (named_node ps x)) ≡ take (used_with used x) all) × (used_with used x ≤ length all)
+  node_named : (used : ℕ) (x : NodeOver ℕ) → used ≤ length all → SplitIs (Names used) x → (fold with_line (take used all) (split_lines (node_of (plane_named ps) x)) ≡ take (used_with used x) all) × (used_with used x ≤ length all)
   unfolding SplitIs
   node_named used (split_node k) few h =
-      let within : k ≤ length all = subst (λ n. k ≤ n) (sym all_size) h.1.is_plane in
-      (ap (with_line (take used all)) (named_line k h.1.from_one h.1.is_plane) ∙ one_named all differ used k few h.1.from_one within h.1.in_order, used_few all differ used k few within)
+      let within : k ≤ length all = subst (λ n. k ≤ n) (sym all_size) h.1.allowed.1 in
+      (ap (with_line (take used all)) (named_line k h.1.allowed.0 h.1.allowed.1) ∙ one_named all differ used k few h.1.allowed.0 within h.1.allowed.2, used_few all differ used k few within)
   node_named used (law_node j cs) few h = (refl, few)
   node_named used (no_move_node c) few h = (refl, few)
 
@@ -165,19 +166,19 @@ module _ (v : Plant) (laws : ℕ) (ps : List RowInt) (differ : AreDifferent (map
 
   -- where all planes are used
   pub lines_tree : (here : Cursor) (ns : List (NodeOver ℕ)) (behind : Cursor) → (named_tree v laws ps).Reads here ns behind → planes_used ns ≡ length ps
-      → (planes_of (map (named_node ps) ns) ≡ all) × HasLines here (tree_lines (named_split_line all) (map (named_node ps) ns)) behind
+      → (planes_of (map (node_of (plane_named ps)) ns) ≡ all) × HasLines here (tree_lines (named_split_line all) (map (node_of (plane_named ps)) ns)) behind
   lines_tree here ns behind (u, (b, (t, (read, (c, (n, (e, at))))))) used =
-      let item = λ (before : List (NodeOver ℕ)). node_at v laws (named_split (length ps) (planes_used before)) (next_depth (owed before)) in
-      let asks = λ (before : List (NodeOver ℕ)). is_owed (owed before) in
+      let item = λ (before : List (NodeOver ℕ)). node_at v laws (named_split (length ps) (planes_used before)) (slice_index_or (owed before) 0 0) in
+      let asks = λ (before : List (NodeOver ℕ)). is_some (slice_get (owed before) 0) in
       let reads : ReadsItems (NodeOver ℕ) item asks b ns c = subst (λ xs. ReadsItems (NodeOver ℕ) item asks b xs c) (sym e) n.0 in
-      let told = lines_named item asks all planes_used (λ x. split_lines (named_node ps x)) refl
-      (λ before f x g few h. let this = node_named (planes_used before) x few (read_at (planes_used before) (next_depth (owed before)) f x g h).stated in
+      let told = lines_named item asks all planes_used (λ x. split_lines (node_of (plane_named ps) x)) refl
+      (λ before f x g few h. let this = node_named (planes_used before) x few (read_at (planes_used before) (slice_index_or (owed before) 0 0) f x g h).stated in
       (this.0 ∙ ap (λ k. take k all) (sym (used_push before x)), subst (λ k. k ≤ length all) (sym (used_push before x)) this.1)) b ns c reads in (
-        ap different (flat_map-map split_lines (named_node ps) ns) ∙ told.0 ∙ take_all (planes_used ns) all (omega (arith, used, all_size)),
+        ap different (flat_map-map split_lines (node_of (plane_named ps)) ns) ∙ told.0 ∙ take_all (planes_used ns) all (omega (arith, used, all_size)),
         lines_given here c behind _
-            (lines_are here c (codes "tree" ∷ flat_map (λ x. node_lines (named_split_line all) (named_node ps x)) ns) _ (ap (λ l. codes "tree" ∷ l) (sym (flat_map-map (node_lines (named_split_line all)) (named_node ps) ns)))
+            (lines_are here c (codes "tree" ∷ flat_map (λ x. node_lines (named_split_line all) (node_of (plane_named ps) x)) ns) _ (ap (λ l. codes "tree" ∷ l) (sym (flat_map-map (node_lines (named_split_line all)) (node_of (plane_named ps)) ns)))
             (lines_then here (codes "tree" ∷ []) b _ c (lines_plain (IsWord (codes "tree")) (λ x. codes "tree") (λ l x h. h) here u b t)
-            (lines_items item asks (λ x. node_lines (named_split_line all) (named_node ps x))
-            (λ before f x g h. let read_node = read_at (planes_used before) (next_depth (owed before)) f x g h in
+            (lines_items item asks (λ x. node_lines (named_split_line all) (node_of (plane_named ps) x))
+            (λ before f x g h. let read_node = read_at (planes_used before) (slice_index_or (owed before) 0 0) f x g h in
             lines_are f g (over_lines (count_line (codes "split")) x) _ (named_same (planes_used before) x read_node.stated) read_node.text) b ns c reads))) at,
       )

@@ -9,7 +9,7 @@ use Rattle.std.proofs.lemmas.List.Elements.{All-nil, All-push, All-contains, Con
 use Rattle.std.proofs.Math.Seq.{get_or-append_seam}
 use Rattle.std.proofs.Math.ListN.{get_or-append}
 use Rattle.std.specs.List.{flat_map}
-use Rattle.mpc_file.specs.Reading.{Cursor, LineRule, Grammar, one_line, ReadsItems, no_item, one_more, ReadsAll}
+use Rattle.mpc_file.specs.Reading.{Cursor, LineRule, Grammar, one_line, ReadsItems, no_item, one_more, many}
 use Rattle.mpc_file.specs.PlantGrammar.{plain_rule, so_many}
 use Rattle.mpc_file.specs.Writing.{ended, text_of_lines}
 use Rattle.mpc_theorem.specs.ControllerFile.{with_line}
@@ -91,7 +91,7 @@ few_items : {X : Type 0} (item : List X → Grammar X) (count : ℕ) (here : Cur
 few_items item count here items behind no_item = omega arith
 few_items item count here items behind (one_more before between x end reads more one) = omega (arith, length-append before (x ∷ []), ltb-true (length before) count more)
 
-pub so_many_items : {X : Type 0} (item : List X → Grammar X) (count : ℕ) (here : Cursor) (items : List X) (behind : Cursor) → ReadsAll item (λ items. nat_lt (length items) count) here items behind → length items ≡ count
+pub so_many_items : {X : Type 0} (item : List X → Grammar X) (count : ℕ) (here : Cursor) (items : List X) (behind : Cursor) → (many item (λ items. nat_lt (length items) count)).Reads here items behind → length items ≡ count
 so_many_items item count here items behind h =
     let low : length items ≤ count = few_items item count here items behind h.0 in
     omega (arith, low, ltb-false (length items) count h.1)

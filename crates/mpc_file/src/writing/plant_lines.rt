@@ -4,10 +4,10 @@ ghost use Rattle.std.specs.Prelude.{◌≡◌, [], ◌∷◌, ◌++◌, map, All
 ghost use Rattle.std.specs.List.{flat_map};
 ghost use Rattle.mpc_frac.specs.Text.{text_of as fraction_text};
 ghost use Rattle.mpc_words.specs.Words.{behind_blanks};
-ghost use Rattle.mpc_file.specs.Lines.{matrix_line, row_line, last_line, grid_line};
+ghost use Rattle.mpc_file.specs.Lines.{matrix_line, row_line, grid_line};
 ghost use Rattle.mpc_file.specs.PlantGrammar.{AllFit, plant as plant_of};
 ghost use Rattle.mpc_file.specs.Writing.{Prints, ended, text_of_lines, size_line, matrix_lines, drift_line, goal_line, row_lines, last_lines, plant_lines};
-ghost use Rattle.mpc_file.specs.WrittenFits.{RowFits, LastFits, AxisFits, MatricesFit, GoalFits};
+ghost use Rattle.mpc_file.specs.WrittenFits.{RowFits, AxisFits, MatricesFit, GoalFits};
 ghost use Rattle.mpc_file.specs.declared.versions.Version.TheVariants.{Three};
 
 use super::words::{
@@ -103,13 +103,13 @@ fn write_sides(row: &PlantRow, out: &mut Vec<u8>) -> Result<(), NoMemory>
     write_fraction(&row.max, out)
 }
 
-/// Appends the line of a row on states and inputs. Without memory some of it stands there.
-fn write_row(row: &PlantRow, out: &mut Vec<u8>) -> Result<(), NoMemory>
-    ensures text { OnOk result (out.new.items ≡ out.old.items ++ ended (row_line row.now)) }
+/// Appends the line of a row behind its name. Without memory some of it stands there.
+fn write_row(name: &[u8], row: &PlantRow, out: &mut Vec<u8>) -> Result<(), NoMemory>
+    ensures text { OnOk result (out.new.items ≡ out.old.items ++ ended (row_line name.now row.now)) }
     ensures fits { OnOk result (RowFits row.now) }
     ensures kept { take (length out.old.items) out.new.items ≡ out.old.items }
 {
-    write_piece(b"row", out)?;
+    write_piece(name, out)?;
     write_sides(row, out)?;
     end_line(out)
 }
@@ -122,32 +122,20 @@ fn write_rows(rows: &PlantRows, out: &mut Vec<u8>) -> Result<(), NoMemory>
 {
     write_count_line(b"rows", rows.len() as u64, out)?;
     for i in 0..rows.len() {
-        write_row(rows.at(i), out)?;
+        write_row(b"row", rows.at(i), out)?;
     }
     Ok(())
-}
-
-/// Appends the line of a row on states alone. Without memory some of it stands there.
-fn write_last(row: &PlantRow, out: &mut Vec<u8>) -> Result<(), NoMemory>
-    ensures text { OnOk result (out.new.items ≡ out.old.items ++ ended (last_line row.now)) }
-    ensures fits { OnOk result (LastFits row.now) }
-    ensures kept { take (length out.old.items) out.new.items ≡ out.old.items }
-{
-    write_piece(b"last", out)?;
-    write_fractions(row.x.as_slice(), out)?;
-    write_fraction(&row.max, out)?;
-    end_line(out)
 }
 
 /// Appends the lines of the rows that hold at the end. Without memory some of them stand there.
 fn write_terminal(rows: &PlantRows, out: &mut Vec<u8>) -> Result<(), NoMemory>
     ensures text { OnOk result (out.new.items ≡ out.old.items ++ text_of_lines (last_lines rows.now)) }
-    ensures fits { OnOk result (All LastFits rows.now) }
+    ensures fits { OnOk result (All RowFits rows.now) }
     ensures kept { take (length out.old.items) out.new.items ≡ out.old.items }
 {
     write_count_line(b"terminal", rows.len() as u64, out)?;
     for i in 0..rows.len() {
-        write_last(rows.at(i), out)?;
+        write_row(b"last", rows.at(i), out)?;
     }
     Ok(())
 }

@@ -1,20 +1,20 @@
-use Rattle.std.proofs.Common.{List, length, ap, codes}
+use Rattle.std.proofs.Common.{◌+◌, List, length, ap, codes}
 use Rattle.mpc_exact.specs.Rational.{ℚ}
 use Rattle.mpc_file.specs.Reading.{one_line}
-use Rattle.mpc_file.specs.PlantGrammar.{plain_rule}
-use Rattle.mpc_file.specs.LawGrammar.{IsForm, mults}
+use Rattle.mpc_file.specs.PlantGrammar.{plain_rule, AreNumbers}
+use Rattle.mpc_file.specs.LawGrammar.{mults}
 use Rattle.mpc_file.proofs.FormLemmas.{no_items, further, further_error, one_longer, passed_on}
 use Rattle.mpc_file.proofs.law_lines.read_mults.Goals as goal
 
 pub loop-init : goal.loop-init
 loop-init c = record {
-  so_far = no_items (λ (before : List (List ℚ)). one_line (plain_rule (IsForm (codes "mult") c.args.plant.now.n))) c.args.members c.args.lines.now c.new-forms.result c.new-forms.ensures;
+  so_far = no_items (λ (before : List (List ℚ)). one_line (plain_rule (AreNumbers (codes "mult") (c.args.plant.now.n + 1)))) c.args.members c.args.lines.now c.new-forms.result c.new-forms.ensures;
   so_many = ap length c.new-forms.ensures;
 }
 
 pub loop-preserved : goal.loop-preserved
 loop-preserved c = record {
-  so_far = further (λ (before : List (List ℚ)). one_line (plain_rule (IsForm (codes "mult") c.args.plant.now.n))) c.args.members c.args.lines.now c.loop.lines c.read_mult.new.lines c.loop.forms c.push.new.self c.in_ok-form.form c.loop.counter
+  so_far = further (λ (before : List (List ℚ)). one_line (plain_rule (AreNumbers (codes "mult") (c.args.plant.now.n + 1)))) c.args.members c.args.lines.now c.loop.lines c.read_mult.new.lines c.loop.forms c.push.new.self c.in_ok-form.form c.loop.counter
       c.loop.invariant.so_far c.loop.invariant.so_many c.loop-test.true c.in_ok-form.ensures c.in_ok-push.ensures.ok;
   so_many = one_longer c.loop.forms c.push.new.self c.in_ok-form.form c.loop.counter c.in_ok-push.ensures.ok c.loop.invariant.so_many;
 }
@@ -22,5 +22,5 @@ loop-preserved c = record {
 pub returns-in_err-form : goal.returns-in_err-form
 returns-in_err-form c =
     passed_on (mults c.args.plant.now c.args.members) c.args.lines.now c.read_mult.new.lines c.from_residual.result c.in_err-form.field-0.0 c.from_residual.ensures.1
-    (further_error (λ (before : List (List ℚ)). one_line (plain_rule (IsForm (codes "mult") c.args.plant.now.n))) c.args.members c.args.lines.now c.loop.lines c.read_mult.new.lines c.read_mult.new.lines c.loop.forms c.loop.counter c.in_err-form.field-0.0
+    (further_error (λ (before : List (List ℚ)). one_line (plain_rule (AreNumbers (codes "mult") (c.args.plant.now.n + 1)))) c.args.members c.args.lines.now c.loop.lines c.read_mult.new.lines c.read_mult.new.lines c.loop.forms c.loop.counter c.in_err-form.field-0.0
     c.loop.invariant.so_far c.loop.invariant.so_many c.loop-test.true c.in_err-form.ensures)

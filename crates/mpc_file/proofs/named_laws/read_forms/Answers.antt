@@ -1,8 +1,7 @@
-use Rattle.std.proofs.Common.{List, length, ap, sym, subst}
+use Rattle.std.proofs.Common.{◌+◌, codes, List, length, ap, sym, subst}
 use Rattle.mpc_exact.specs.Rational.{ℚ}
 use Rattle.mpc_file.specs.Reading.{one_line}
-use Rattle.mpc_file.specs.PlantGrammar.{plain_rule}
-use Rattle.mpc_file.specs.LawGrammar.{IsNewForm}
+use Rattle.mpc_file.specs.PlantGrammar.{plain_rule, AreNumbers, StatesNew}
 use Rattle.mpc_file.specs.FormLists.{HasLinesOf}
 use Rattle.mpc_file.proofs.FormLemmas.{no_items, further, one_longer}
 use Rattle.mpc_file.proofs.NamedLemmas.{known_start, forms_sizes}
@@ -10,14 +9,14 @@ use Rattle.mpc_file.proofs.named_laws.read_forms.Goals as goal
 
 pub loop-init : goal.loop-init
 loop-init c = record {
-  so_far = no_items (λ (before : List (List ℚ)). one_line (plain_rule (IsNewForm c.args.plant.now.n before))) c.in_ok-count.count c.read_form_count.new.lines c.new-forms.result c.new-forms.ensures;
+  so_far = no_items (λ (before : List (List ℚ)). one_line (plain_rule (StatesNew before (AreNumbers (codes "form") (c.args.plant.now.n + 1))))) c.in_ok-count.count c.read_form_count.new.lines c.new-forms.result c.new-forms.ensures;
   so_many = ap length c.new-forms.ensures;
   known = known_start c.new-known.result c.new-forms.result c.new-known.ensures c.new-forms.ensures;
 }
 
 pub loop-preserved : goal.loop-preserved
 loop-preserved c = record {
-  so_far = further (λ (before : List (List ℚ)). one_line (plain_rule (IsNewForm c.args.plant.now.n before))) c.in_ok-count.count c.read_form_count.new.lines c.loop.lines c.read_new_form.new.lines c.loop.forms c.push.new.self c.in_ok-form.form c.loop.counter
+  so_far = further (λ (before : List (List ℚ)). one_line (plain_rule (StatesNew before (AreNumbers (codes "form") (c.args.plant.now.n + 1))))) c.in_ok-count.count c.read_form_count.new.lines c.loop.lines c.read_new_form.new.lines c.loop.forms c.push.new.self c.in_ok-form.form c.loop.counter
       c.loop.invariant.so_far c.loop.invariant.so_many c.loop-test.true c.in_ok-form.ensures.outcome c.in_ok-push.ensures.ok;
   so_many = one_longer c.loop.forms c.push.new.self c.in_ok-form.form c.loop.counter c.in_ok-push.ensures.ok c.loop.invariant.so_many;
   known = subst (HasLinesOf c.read_new_form.new.known) (sym c.in_ok-push.ensures.ok) c.in_ok-form.ensures.known;

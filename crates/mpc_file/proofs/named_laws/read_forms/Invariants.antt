@@ -1,14 +1,13 @@
-use Rattle.std.proofs.Common.{◌≡◌, ltb, List, length}
+use Rattle.std.proofs.Common.{◌+◌, codes, ◌≡◌, ltb, List, length}
 use Rattle.mpc_exact.specs.Rational.{ℚ}
 use Rattle.mpc_file.specs.Reading.{ReadsItems, one_line}
-use Rattle.mpc_file.specs.PlantGrammar.{plain_rule}
-use Rattle.mpc_file.specs.LawGrammar.{IsNewForm}
+use Rattle.mpc_file.specs.PlantGrammar.{plain_rule, AreNumbers, StatesNew}
 use Rattle.mpc_file.specs.FormLists.{HasLinesOf}
 use Rattle.mpc_file.proofs.named_laws.read_forms.Given as goal
 
 abbrev pub invariant-loop : goal.invariant-loop
 invariant-loop l = record {
-  so_far : ReadsItems (List ℚ) (λ (before : List (List ℚ)). one_line (plain_rule (IsNewForm l.plant.n before))) (λ (before : List (List ℚ)). ltb (length before) l.count) l.initial.lines l.forms l.lines;
+  so_far : ReadsItems (List ℚ) (λ (before : List (List ℚ)). one_line (plain_rule (StatesNew before (AreNumbers (codes "form") (l.plant.n + 1))))) (λ (before : List (List ℚ)). ltb (length before) l.count) l.initial.lines l.forms l.lines;
   so_many : length l.forms ≡ l.counter;
   known : HasLinesOf l.known l.forms;
 }

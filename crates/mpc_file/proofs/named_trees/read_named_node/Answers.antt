@@ -1,5 +1,7 @@
+use Rattle.std.specs.Prelude.{codes}
 use Rattle.std.proofs.Common.{◌≡◌, nat_lt, cond, subst}
-use Rattle.mpc_file.specs.TreeGrammar.{NamesPlane}
+use Rattle.mpc_file.specs.PlantGrammar.{IsNumber}
+use Rattle.mpc_file.specs.TreeGrammar.{IsNext}
 use Rattle.mpc_file.specs.PlaneReading.{IsNoSplit}
 use Rattle.mpc_file.proofs.NamedReading.{named_split_reads, named_leaf_reads, named_leaf_error, next_used, same_used}
 use Rattle.mpc_file.proofs.named_trees.read_named_node.Goals.{then-used-k, else-used-k}
@@ -18,7 +20,7 @@ returns-after-used-k c =
       | else-used-k w ↦ same_used c.args.used c.in-Plane.k c.if-used-k.used_then w.if-used-k.false w.used_then-is
     ] in
     named_split_reads c.args.plant.now c.args.laws c.args.planes.now c.args.used c.args.depth c.args.lines.now c.take.new.self c.in_ok-line.line.now c.number-number.result c.number-number.ensures c.in_ok-line.ensures.taken
-    c.in-Plane.k c.in_ok-row-in-Plane.row c.if-used-k.used_then (subst (λ n. NamesPlane n c.args.used c.in_ok-line.line.now c.in-Plane.k) c.len.ensures c.in-Plane.ensures) c.in_ok-row-in-Plane.ensures most
+    c.in-Plane.k c.in_ok-row-in-Plane.row c.if-used-k.used_then (subst (λ n. IsNumber (codes "split") (IsNext n c.args.used) c.in_ok-line.line.now c.in-Plane.k) c.len.ensures c.in-Plane.ensures) c.in_ok-row-in-Plane.ensures most
 
 pub returns-in_ok-node-in-NoSplit : goal.returns-in_ok-node-in-NoSplit
 returns-in_ok-node-in-NoSplit c =

@@ -73,4 +73,4 @@ returns-in-NoPlane-clause-read c = λ plant rows e are.
 pub returns-in-NoRow-clause-read : goal.returns-in-NoRow-clause-read
 returns-in-NoRow-clause-read c = λ plant rows e are.
     let p = plane_reads (codes "plane") plant c.args.counts.now e c.in_ok-line.line.now c.in_ok-row.field-0 NoRow c.in-NoRow.is c.in_ok-row.ensures in
-    (c.number-number.ensures, inr (c.in_ok-line.line.now, (c.take.new.self, (c.in_ok-line.ensures.taken, ((λ row is. p row is.plane_is.row_is), (λ no. p no.0 no.1.0))))))
+    (c.number-number.ensures, inr (c.in_ok-line.line.now, (c.take.new.self, (c.in_ok-line.ensures.taken, ((λ row is. p row is.stated.row_is), (λ no. p no.0 no.1.0))))))

@@ -1,8 +1,8 @@
 use Rattle.std.proofs.Common.{refl, sym, ◌∙◌, subst, inr}
 use Rattle.std.proofs.lemmas.Bool.{false≢true}
-use Rattle.mpc_file.specs.Reading.{Cursor, one_line}
-use Rattle.mpc_file.specs.PlantGrammar.{plain_rule}
-use Rattle.mpc_file.specs.FileGrammar.{IsVersion, in_version}
+use Rattle.mpc_file.specs.Reading.{Cursor, one_line, ◌>>=◌}
+use Rattle.mpc_file.specs.PlantGrammar.{plain_rule, plant}
+use Rattle.mpc_file.specs.FileGrammar.{IsVersion, behind_plant}
 use Rattle.mpc_file.proofs.reading.read_file.Goals as goal
 
 pub returns-then-is_at_end-clause-ok : goal.returns-then-is_at_end-clause-ok
@@ -13,7 +13,7 @@ returns-then-is_at_end-clause-ok c =
         behind_first = c.read_version.new.lines;
         first = subst (λ (here : Cursor). (one_line (plain_rule IsVersion)).Reads here c.in_ok-version.version c.read_version.new.lines) c.of-lines.ensures c.in_ok-version.ensures;
         number = c.read_in_version.new.lines.number;
-        lines = subst (λ (end : Cursor). (in_version c.in_ok-version.version).Reads c.read_version.new.lines c.in_ok-controller.controller end) (λ i. record { rest = none i; number = c.read_in_version.new.lines.number }) c.in_ok-controller.ensures;
+        lines = subst (λ (end : Cursor). (plant c.in_ok-version.version >>= behind_plant c.in_ok-version.version).Reads c.read_version.new.lines c.in_ok-controller.controller end) (λ i. record { rest = none i; number = c.read_in_version.new.lines.number }) c.in_ok-controller.ensures;
       },
     )
 

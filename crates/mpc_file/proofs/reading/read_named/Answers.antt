@@ -1,13 +1,13 @@
-use Rattle.std.proofs.Common.{refl, sym, ◌∙◌, ap, subst, arith, length, map}
+use Rattle.std.proofs.Common.{codes, refl, sym, ◌∙◌, ap, subst, arith, length, map}
 use Rattle.std.proofs.lemmas.List.{length-map}
 use Rattle.mpc_controller.specs.Bounds.{IsController}
 use Rattle.mpc_file.specs.Reading.{one_line}
-use Rattle.mpc_file.specs.PlantGrammar.{plain_rule}
+use Rattle.mpc_file.specs.PlantGrammar.{plain_rule, UsesAll}
 use Rattle.mpc_file.specs.LawGrammar.{law_named}
-use Rattle.mpc_file.specs.TreeGrammar.{planes}
+use Rattle.mpc_file.specs.TreeGrammar.{planes, IsWord}
 use Rattle.mpc_file.specs.TreeReading.{named_tree_nodes}
 use Rattle.mpc_file.specs.Unsealed.{unsealed}
-use Rattle.mpc_file.specs.FileGrammar.{named, IsEnd, parts_with}
+use Rattle.mpc_file.specs.FileGrammar.{named, parts_with}
 use Rattle.mpc_file.proofs.LawShapes.{named_good}
 use Rattle.mpc_file.proofs.FileShapes.{named_parts}
 use Rattle.mpc_file.proofs.WholeReading.{passed_on, planes_fail, planes_read, nodes_fail, nodes_read, last_fails, last_read, nodes_of, none_behind}
@@ -36,7 +36,7 @@ pub returns-in_err-read_end : goal.returns-in_err-read_end
 returns-in_err-read_end c =
     let ls = c.in_ok-laws.ensures in
     let t = nodes_of c.args.plant.now c.len-2.result c.in_ok-planes.planes c.read_planes.new.lines c.read_named_tree.new.lines c.in_ok-tree.tree c.in_ok-tree.splits c.in_ok-tree.ensures in
-    passed_on (one_line (plain_rule (IsEnd c.len-3.result c.in_ok-tree.splits))) (unsealed c.args.plant.now (named c.args.plant.now)) c.read_named_tree.new.lines c.read_end.new.lines c.args.lines.now c.read_end.new.lines c.from_residual-in_err-read_end.result c.in_err-read_end.field-0.0
+    passed_on (one_line (plain_rule (UsesAll c.len-3.result c.in_ok-tree.splits (IsWord (codes "end"))))) (unsealed c.args.plant.now (named c.args.plant.now)) c.read_named_tree.new.lines c.read_end.new.lines c.args.lines.now c.read_end.new.lines c.from_residual-in_err-read_end.result c.in_err-read_end.field-0.0
     (last_fails c.args.plant.now c.args.lines.now c.read_forms.new.lines c.in_ok-forms.forms c.in_ok-forms.ensures.outcome c.read_named_laws.new.lines ls.named ls.reads c.len.result c.in_ok-laws.used c.len.ensures ls.used_is c.read_planes.new.lines c.in_ok-planes.planes c.in_ok-planes.ensures c.len-2.result
     (c.len-2.ensures ∙ ap length ls.laws_are ∙ length-map ls.named (law_named c.args.plant.now c.in_ok-forms.forms)) c.read_named_tree.new.lines t.ns t.reads c.len-3.result c.in_ok-tree.splits c.len-3.ensures t.splits_is)
     c.in_err-read_end.ensures c.from_residual-in_err-read_end.ensures.1

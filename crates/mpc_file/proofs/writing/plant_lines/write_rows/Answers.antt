@@ -3,14 +3,14 @@ use Rattle.mpc_file.specs.Writing.{ended}
 use Rattle.mpc_file.specs.WrittenFits.{RowFits}
 use Rattle.mpc_file.proofs.GrownTexts.{mapped_at, all_at}
 use Rattle.mpc_file.proofs.KeptTexts.{kept_then}
-use Rattle.std.proofs.Common.{arith}
+use Rattle.std.proofs.Common.{codes, arith}
 use Rattle.mpc_file.proofs.WholeTexts.{whole_list}
 use Rattle.mpc_file.proofs.writing.plant_lines.write_rows.Goals as goal
 
 pub loop-i-preserved : goal.loop-i-preserved
 loop-i-preserved c =
     record {
-      text = mapped_at ended row_line c.args.rows.now c.loop-i.i c.at.result.now c.write_count_line.new.out.items c.loop-i.out.items c.write_row.new.out.items c.at.ensures c.loop-i.invariant.text c.in_ok-write_row.ensures.text;
+      text = mapped_at ended (row_line (codes "row")) c.args.rows.now c.loop-i.i c.at.result.now c.write_count_line.new.out.items c.loop-i.out.items c.write_row.new.out.items c.at.ensures c.loop-i.invariant.text c.in_ok-write_row.ensures.text;
       fits = all_at RowFits c.args.rows.now c.loop-i.i c.at.result.now c.at.ensures c.loop-i.invariant.fits c.in_ok-write_row.ensures.fits;
       kept = kept_then _ _ _ c.loop-i.invariant.kept c.write_row.ensures.kept;
     }
