@@ -105,7 +105,7 @@ fn short_divisor(a: u64, b: u64) -> u64 {
     odd(a >> i, b >> j) << i.min(j)
 }
 
-fn divisor(a: u128, b: u128) -> u128 {
+pub fn divisor(a: u128, b: u128) -> u128 {
     const SHORT: u128 = u64::MAX as u128;
     if a <= SHORT && b <= SHORT {
         return short_divisor(a as u64, b as u64) as u128;

@@ -8,7 +8,7 @@ import sys
 import tempfile
 from pathlib import Path
 
-SPENT = 60.0  # seconds of one program on one plant, after which it isn't run again
+SPENT = 30.0  # seconds of one program on one plant, after which it isn't run again
 TIME = "/usr/bin/time"  # which starts a program from a small one: a child of this one would begin with its peak of memory
 
 

@@ -1,15 +1,28 @@
-// The proved run in whole numbers, with its tests and its limit, in plain Rust. Where it gives up, the run over fractions follows.
-use crate::fractions::{Fast, Frac, Rules};
-use crate::plain::{Answer, ONE, System, ZERO};
+// The proved runs in whole numbers, with their tests in plain Rust: one within a limit for all rows, and where there is none or it is passed,
+// one from the same start that is judged row by row. Where that gives up, the run over fractions follows.
+use crate::fractions::{Fast, Frac, Rules, divisor};
+use crate::plain::{self, Answer, ONE, System, ZERO};
 
-/// What no number of a position may exceed in size, with its scale.
+/// What no number may exceed in size.
 const TOP: u128 = 1 << 62;
+
+/// What no product may exceed that is formed at a position, where it is judged row by row.
+const ROOM: u128 = 1 << 125;
 
 /// The greatest scale of a row.
 const MOST_SCALE: u64 = 1 << 40;
 
 /// The most steps that are made on whole numbers.
 const STEPS: u32 = 1_000_000;
+
+/// Which run comes to its end.
+#[derive(Clone, Copy)]
+pub enum Way {
+    /// The one within a limit for all rows.
+    Limited,
+    /// The one that is judged row by row.
+    Judged,
+}
 
 /// The rows of a system in whole numbers, and what a run on them needs to know beforehand.
 pub struct Rows {
@@ -21,8 +34,8 @@ pub struct Rows {
     b: Vec<i64>,
     /// The second part of each bound.
     steps: Vec<i64>,
-    /// What no coefficient of an unknown may exceed in size.
-    most: i64,
+    /// What no coefficient of an unknown may exceed in size, where there is a limit for all rows.
+    most: Option<i64>,
 }
 
 /// A run: the coefficients of the unknowns over one denominator, a column for each nonbasic variable.
@@ -50,6 +63,10 @@ fn small(z: i128) -> Option<i64> {
     (z.unsigned_abs() <= TOP).then_some(z as i64)
 }
 
+fn size(z: i64) -> u128 {
+    z.unsigned_abs() as u128
+}
+
 fn product(x: i64, y: i64) -> i128 {
     x as i128 * y as i128
 }
@@ -59,14 +76,7 @@ fn dot(x: &[i64], y: &[i64]) -> i128 {
 }
 
 fn greatest(list: &[i64]) -> u128 {
-    list.iter().map(|z| z.unsigned_abs()).max().unwrap_or(0) as u128
-}
-
-fn divisor(mut a: u64, mut b: u64) -> u64 {
-    while b != 0 {
-        (a, b) = (b, a % b);
-    }
-    a
+    list.iter().map(|z| size(*z)).max().unwrap_or(0)
 }
 
 /// The least number that makes the row whole, if it is small.
@@ -75,7 +85,7 @@ fn scale<'a>(numbers: impl Iterator<Item = &'a Frac>) -> Option<i64> {
     for x in numbers.filter(|x| x.den != 1) {
         let den = u64::try_from(x.den).ok().filter(|den| *den <= MOST_SCALE)?;
         if scale % den != 0 {
-            let more = den / divisor(den, scale);
+            let more = den / divisor(den as u128, scale as u128) as u64;
             scale = scale.checked_mul(more).filter(|scale| *scale <= MOST_SCALE)?;
         }
     }
@@ -89,22 +99,34 @@ fn scaled(x: &Frac, scale: i64) -> Option<i64> {
 
 /// What the numbers of v may have, if there is room for any.
 fn limit(width: usize, n: usize, entry: u128, side: u128, scale: u128) -> Option<i64> {
-    let entries = width as u128 * entry;
-    if n as u128 * side > TOP || entries > TOP {
+    if n as u128 * side > TOP {
         return None;
     }
-    let most = TOP / (entries.max(1) * scale);
+    let most = TOP / ((width as u128 * entry).max(1) * scale);
     (most > 0).then_some(most as i64)
 }
 
 /// The quotient, if it is whole and no greater in size than that.
-fn quotient(z: i128, by: i64, most: i64) -> Option<i64> {
+fn quotient(z: i128, by: i64, most: u128) -> Option<i64> {
     // a division of 64 bits takes a fraction of the time
     let quotient = match i64::try_from(z) {
         Ok(z) => (z / by) as i128,
         Err(_) => z / by as i128,
     };
-    (quotient.unsigned_abs() <= most.unsigned_abs() as u128 && quotient * by as i128 == z).then_some(quotient as i64)
+    (quotient.unsigned_abs() <= most && quotient * by as i128 == z).then_some(quotient as i64)
+}
+
+/// Moves one part of the values with a pivot, where the side with this line and bound leaves, if all numbers are whole and small. The column
+/// is that of the numbers after the pivot.
+fn follow(part: &mut [i64], line: &[i64], bound: i64, column: impl Iterator<Item = i64>, den: i64, size: i64) -> Option<()> {
+    if bound == 0 && part.iter().all(|z| *z == 0) {
+        return Some(());
+    }
+    let excess = small(dot(line, part) - product(bound, den))?;
+    for (value, factor) in part.iter_mut().zip(column) {
+        *value = quotient(product(*value, size) - product(factor, excess), den, TOP)?;
+    }
+    Some(())
 }
 
 impl Rows {
@@ -120,7 +142,10 @@ impl Rows {
             b.push(scaled(&row.b, scale)?);
             scales.push(scale);
         }
-        let most = limit(width, width + height, greatest(&a), greatest(&b).max(1), greatest(&scales).max(1))?;
+        if width as u128 * greatest(&a) > TOP {
+            return None;
+        }
+        let most = limit(width, width + height, greatest(&a), greatest(&b).max(1), greatest(&scales).max(1));
         let steps = system.rows.iter().zip(&scales).map(|(row, scale)| if row.strict { -scale } else { 0 }).collect();
         Some(Rows { width, scales, a, b, steps, most })
     }
@@ -131,6 +156,18 @@ impl Rows {
 
     fn line(&self, i: usize) -> &[i64] {
         &self.a[i * self.width..(i + 1) * self.width]
+    }
+
+    /// What the variable y was multiplied by.
+    fn scale(&self, y: usize) -> u128 {
+        if y < self.width { 1 } else { size(self.scales[y - self.width]) }
+    }
+
+    /// What a number in the column of y may have, so that it leaves room for products with numbers of such a size.
+    fn room(&self, top: u128, y: usize) -> u128 {
+        let n = (self.width + self.height()) as u128;
+        let scaled = ROOM / top.max(n) / self.scale(y);
+        if y < self.width { scaled } else { scaled.min(ROOM / n / size(self.b[y - self.width]).max(1)) }
     }
 }
 
@@ -155,6 +192,8 @@ impl<'a> Run<'a> {
         self.v.iter_mut().step_by(width + 1).for_each(|entry| *entry = 1);
         self.den = 1;
         self.columns.iter_mut().enumerate().for_each(|(y, column)| *column = (y < width).then_some(y));
+        self.first.fill(0);
+        self.second.fill(0);
     }
 
     /// Forms the values of the unknowns, if they stay small.
@@ -187,24 +226,35 @@ impl<'a> Run<'a> {
         (0..self.rows.height()).find(|i| self.columns[width + i].is_none() && self.is_out(*i))
     }
 
-    fn form_row(&mut self, i: usize) {
-        let (line, width) = (self.rows.line(i), self.rows.width);
-        for (c, x) in self.row.iter_mut().enumerate() {
-            let column = self.v.chunks_exact(width).map(|unknown| unknown[c]);
-            *x = line.iter().zip(column).map(|(a, v)| product(*a, v)).sum::<i128>() as i64;
-        }
+    /// The numbers of the unknowns in a column.
+    fn column(&self, c: usize) -> impl Iterator<Item = i64> {
+        self.v.chunks_exact(self.rows.width).map(move |line| line[c])
     }
 
-    fn entering(&self) -> Option<usize> {
+    /// The number of side i in a column.
+    fn entry(&self, i: usize, c: usize) -> i128 {
+        self.rows.line(i).iter().zip(self.column(c)).map(|(a, v)| product(*a, v)).sum()
+    }
+
+    /// Forms the row of side i, if its numbers are small.
+    fn form_row(&mut self, i: usize) -> Option<()> {
+        for c in 0..self.row.len() {
+            self.row[c] = small(self.entry(i, c))?;
+        }
+        Some(())
+    }
+
+    /// The variable that enters, and its column.
+    fn entering(&self) -> Option<(usize, usize)> {
         let width = self.rows.width;
         let may_enter = |y: usize, c: usize| self.row[c] > 0 || self.row[c] < 0 && y < width;
-        self.columns.iter().enumerate().position(|(y, column)| column.is_some_and(|c| may_enter(y, c)))
+        self.columns.iter().enumerate().find_map(|(y, column)| column.filter(|c| may_enter(y, *c)).map(|c| (y, c)))
     }
 
-    /// The pivot on the row and the column, if all numbers stay whole and small.
-    fn pivot(&mut self, e: usize) -> Option<()> {
+    /// The pivot on the row and the column, if all numbers stay whole and within the limit.
+    fn pivot(&mut self, e: usize, most: i64) -> Option<()> {
         let row = &self.row;
-        let size = row[e].abs();
+        let pivot = row[e].abs();
         for line in self.v.chunks_exact_mut(row.len()) {
             let factor = if row[e] < 0 { -line[e] } else { line[e] };
             for (c, (entry, x)) in line.iter_mut().zip(row).enumerate() {
@@ -212,26 +262,102 @@ impl<'a> Run<'a> {
                     *entry = factor;
                     continue;
                 }
-                *entry = quotient(product(*entry, size) - product(factor, *x), self.den, self.rows.most)?;
+                *entry = quotient(product(*entry, pivot) - product(factor, *x), self.den, size(most))?;
             }
         }
-        self.den = size;
+        self.den = pivot;
         Some(())
     }
 
-    fn step(&mut self) -> Option<Found> {
-        self.stand()?;
+    /// Moves the values of the unknowns with the pivot by which side i has left, or forms them anew where a number isn't whole and small.
+    fn move_values(&mut self, i: usize, e: usize, den: i64) -> Option<()> {
+        let Run { rows, v, first, second, .. } = self;
+        let column = || v.chunks_exact(rows.width).map(|line| line[e]);
+        let moved = follow(first, rows.line(i), rows.b[i], column(), den, self.den)
+            .and_then(|()| follow(second, rows.line(i), rows.steps[i], column(), den, self.den));
+        moved.or_else(|| self.stand())
+    }
+
+    /// The greatest size of a number of the row of side i with its scale, or of its denominator.
+    fn row_top(&self, i: usize) -> u128 {
+        let columns = self.columns.iter().enumerate();
+        let sizes = columns.filter_map(|(y, column)| column.map(|c| size(self.row[c]) * self.rows.scale(y)));
+        sizes.fold(size(self.den) * self.rows.scale(self.rows.width + i), u128::max)
+    }
+
+    /// If the numbers of all rows, and the denominator, leave room for products with numbers of such a size.
+    fn judge(&self, top: u128) -> Option<()> {
+        let rows = self.rows;
+        let is_within = |c: usize, most: u128| {
+            self.column(c).all(|z| size(z) <= most) && (0..rows.height()).all(|i| self.entry(i, c).unsigned_abs() <= most)
+        };
+        let leaves_room = |(y, column): (usize, &Option<usize>)| {
+            size(self.den) * rows.scale(y) <= ROOM / top && column.is_none_or(|c| is_within(c, rows.room(top, y)))
+        };
+        self.columns.iter().enumerate().all(leaves_room).then_some(())
+    }
+
+    /// The pivot on the row and the column in lowest terms, if all numbers are small then.
+    fn reduce(&mut self, e: usize) -> Option<()> {
+        let (row, den, pivot) = (&self.row, self.den, self.row[e].abs());
+        let factor = |line: &[i64]| if row[e] < 0 { -line[e] } else { line[e] };
+        let numerator = |old: i64, factor: i64, c: usize| {
+            if c == e { product(factor, den) } else { product(old, pivot) - product(factor, row[c]) }
+        };
+        let over = product(pivot, den);
+        let mut shared = over.unsigned_abs();
+        for line in self.v.chunks_exact(row.len()) {
+            for (c, old) in line.iter().enumerate() {
+                let z = numerator(*old, factor(line), c).unsigned_abs();
+                if z % shared != 0 {
+                    shared = divisor(z, shared);
+                }
+            }
+        }
+        let by = small(shared as i128)?;
+        self.den = quotient(over, by, TOP)?;
+        for line in self.v.chunks_exact_mut(row.len()) {
+            let factor = factor(line);
+            for (c, entry) in line.iter_mut().enumerate() {
+                *entry = quotient(numerator(*entry, factor, c), by, TOP)?;
+            }
+        }
+        Some(())
+    }
+
+    /// Where side i leaves and the variable y enters.
+    fn exchange(&mut self, i: usize, y: usize, c: usize) {
+        self.columns[self.rows.width + i] = Some(c);
+        self.columns[y] = None;
+    }
+
+    fn limited_step(&mut self, most: i64) -> Option<Found> {
         let Some(i) = self.leaving() else {
             return Some(Found::Point);
         };
-        self.form_row(i);
-        let Some(y) = self.entering() else {
+        self.form_row(i)?;
+        let Some((y, c)) = self.entering() else {
             return Some(Found::Refuted(i));
         };
-        let c = self.columns[y]?;
-        self.pivot(c)?;
-        self.columns[self.rows.width + i] = Some(c);
-        self.columns[y] = None;
+        let den = self.den;
+        self.pivot(c, most)?;
+        self.exchange(i, y, c);
+        self.move_values(i, c, den)?;
+        Some(Found::Next)
+    }
+
+    fn judged_step(&mut self) -> Option<Found> {
+        let Some(i) = self.leaving() else {
+            return self.judge(1).map(|()| Found::Point);
+        };
+        self.form_row(i)?;
+        let Some((y, c)) = self.entering() else {
+            return self.judge(1).map(|()| Found::Refuted(i));
+        };
+        self.judge(self.row_top(i))?;
+        self.reduce(c)?;
+        self.exchange(i, y, c);
+        self.stand()?;
         Some(Found::Next)
     }
 
@@ -250,39 +376,47 @@ impl<'a> Run<'a> {
         Answer::Refuted((0..self.rows.height()).map(multiplier).collect())
     }
 
-    /// What the system is found to have, if the run comes to its end. It can be called again.
-    pub fn end(&mut self) -> Option<Answer> {
-        self.open();
-        for _ in 0..STEPS {
-            match self.step()? {
-                Found::Point => return Some(self.point()),
-                Found::Refuted(l) => return Some(self.multipliers(l)),
-                Found::Next => {}
-            }
-        }
-        None
-    }
-
-    /// How many pivots the run takes, if it comes to its end.
-    fn pivots(&mut self) -> Option<u64> {
+    /// What the run from the opening ends with, and after how many pivots.
+    fn run(&mut self, step: impl Fn(&mut Self) -> Option<Found>) -> Option<(Found, u32)> {
         self.open();
         for count in 0..STEPS {
-            match self.step()? {
-                Found::Point | Found::Refuted(_) => return Some(count as u64),
+            match step(self)? {
                 Found::Next => {}
+                found => return Some((found, count)),
             }
         }
         None
     }
+
+    /// What the first run that comes to its end ends with, after how many pivots, and which one it is.
+    fn first_end(&mut self) -> Option<(Found, u32, Way)> {
+        let limited = self.rows.most.and_then(|most| self.run(|run| run.limited_step(most)));
+        let (way, (found, count)) = match limited {
+            Some(end) => (Way::Limited, end),
+            None => (Way::Judged, self.run(Run::judged_step)?),
+        };
+        Some((found, count, way))
+    }
+
+    /// What the system is found to have, and by which run, if one comes to its end. It can be called again.
+    pub fn end(&mut self) -> Option<(Answer, Way)> {
+        let (found, _, way) = self.first_end()?;
+        let answer = match found {
+            Found::Refuted(l) => self.multipliers(l),
+            _ => self.point(),
+        };
+        Some((answer, way))
+    }
 }
 
-/// How many pivots the run in whole numbers takes on the first so many rows of the system, if it comes to its end.
-pub fn pivots(system: &System, count: usize) -> Option<u64> {
+/// How many pivots a run takes on the first so many rows of the system: in whole numbers, and by fractions where both runs give up.
+pub fn pivots(system: &System, count: usize) -> u64 {
     let first = System { width: system.width, rows: system.rows[..count].to_vec() };
-    Run::new(&Rows::read(&first)?).pivots()
+    let whole = Rows::read(&first).and_then(|rows| Run::new(&rows).first_end());
+    whole.map_or_else(|| plain::decide(&first).1, |(_, count, _)| count as u64)
 }
 
-/// What the system is found to have, if the run in whole numbers comes to its end.
-pub fn decide(system: &System) -> Option<Answer> {
+/// What the system is found to have, and by which run in whole numbers, if one comes to its end.
+pub fn decide(system: &System) -> Option<(Answer, Way)> {
     Run::new(&Rows::read(system)?).end()
 }

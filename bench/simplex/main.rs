@@ -1,7 +1,8 @@
-// Compares the proved decisions of systems of rows with two plain Rust ones, a run in whole numbers like the proved one and the run over
-// fractions, and with stated results: equal answers first, then how many systems fall back from whole numbers to fractions, then pivots a
-// second, the proved run over fractions beside, and at last how many systems go on from a run that is kept, by the proved call. The words name
-// files: systems with their results (.tsv), or plants, whose systems are those that are decided on the way to their controllers.
+// Compares the proved decisions of systems of rows with two plain Rust ones, runs in whole numbers like the proved ones and the run over
+// fractions, and with stated results: equal answers first, then of how many systems the run in whole numbers stays within one limit for all
+// rows, how many are judged row by row and how many fall back to fractions, then pivots a second, the proved run over fractions beside, and at
+// last how many systems go on from a run that is kept, by the proved call. The words name files: systems with their results (.tsv), or plants,
+// whose systems are those that are decided on the way to their controllers.
 #[path = "../common/fractions.rs"]
 #[allow(dead_code)]
 mod fractions;
@@ -15,7 +16,7 @@ mod search;
 mod timing;
 
 use fractions::{Frac, euclid};
-use kernel::{Rows, Run};
+use kernel::{Rows, Run, Way};
 use parts::{Parts, frac, parts};
 use plain::{Answer, Row, System, ZERO};
 use plants::Plant;
@@ -147,9 +148,13 @@ fn by_fractions(system: &System) -> Answer {
     plain::decide(system).0
 }
 
-/// The answer of the run in whole numbers, and by fractions where it gives up.
+/// The answer that a run in whole numbers found, or that by fractions where both gave up.
+fn answer_of(found: Option<(Answer, Way)>, system: &System) -> Answer {
+    found.map_or_else(|| by_fractions(system), |(answer, _)| answer)
+}
+
 fn by_kernel(system: &System) -> Answer {
-    kernel::decide(system).unwrap_or_else(|| by_fractions(system))
+    answer_of(kernel::decide(system), system)
 }
 
 // ---- the file: a line of names, then for each system its width, its rows and its result, with tabs between
@@ -272,10 +277,10 @@ impl Measured {
         Measured { sent: Sent::new(&system), rows: Rows::read(&system), system, hindered_sent: Sent::new(&hindered), hindered }
     }
 
-    /// The plain run in whole numbers again and again, on rows that were read and lists that were taken before.
+    /// The plain runs in whole numbers again and again, on rows that were read and lists that were taken before.
     fn repeat_ready(&self, rounds: u32) -> u64 {
         let mut run = self.rows.as_ref().map(Run::new);
-        repeat(rounds, || run.as_mut().and_then(Run::end).unwrap_or_else(|| by_fractions(&self.system)))
+        repeat(rounds, || answer_of(run.as_mut().and_then(Run::end), &self.system))
     }
 }
 
@@ -306,7 +311,7 @@ impl Tally {
     /// Counts a system; whether the run that goes on finds what is so.
     fn count(&mut self, asked: &Asked, has_point: bool) -> bool {
         let system = &asked.system;
-        let pivots = |rows| kernel::pivots(system, rows).unwrap_or(0);
+        let pivots = |rows| kernel::pivots(system, rows);
         let all = pivots(system.rows.len());
         self.found += 1;
         self.pivots += all;
@@ -334,37 +339,47 @@ impl Tally {
 #[derive(Default)]
 struct Group {
     found: usize,
-    /// How many of those that were found have rows with fractions, and how many fall back.
+    /// How many of those that were found have rows with fractions, and how many each class has.
     broken: usize,
-    fallen: usize,
+    counts: [usize; 4],
     /// Whether more systems would have been found.
     ended: bool,
     different: usize,
-    /// Those in whole numbers with whole rows, those with fractions in their rows, and those that fall back.
-    classes: [Class; 3],
+    /// Those within one limit with whole rows, those within it with fractions in their rows, those that are judged, and those that fall back.
+    classes: [Class; 4],
     /// Those that were found, kind by kind.
     kinds: [Tally; 5],
 }
 
-const NAMES: [&str; 3] = ["whole", "with fractions", "fall back"];
+const NAMES: [&str; 4] = ["whole", "with fractions", "judged", "fall back"];
+
+/// The place of a system's class.
+fn class_of(system: &System, found: &Option<(Answer, Way)>) -> usize {
+    match found {
+        Some((_, Way::Limited)) => usize::from(!is_whole(system)),
+        Some((_, Way::Judged)) => 2,
+        None => 3,
+    }
+}
 
 impl Group {
     /// Counts a system that was found, and answers it.
     fn count(&mut self, system: &System) -> Answer {
-        let answer = kernel::decide(system);
+        let found = kernel::decide(system);
         self.found += 1;
         self.broken += usize::from(!is_whole(system));
-        self.fallen += usize::from(answer.is_none());
-        answer.unwrap_or_else(|| by_fractions(system))
+        self.counts[class_of(system, &found)] += 1;
+        answer_of(found, system)
     }
 
     /// Compares the answers on a system that is to be measured.
     fn add(&mut self, system: System, stated: Option<Answer>) {
         let (found, pivots) = plain::decide(&system);
         let whole = kernel::decide(&system);
-        let class = if whole.is_none() { 2 } else { usize::from(!is_whole(&system)) };
+        let class = class_of(&system, &whole);
         let measured = Measured::new(system);
         let agree = |other: Option<Answer>| other.is_none_or(|other| other == found);
+        let whole = whole.map(|(answer, _)| answer);
         self.different += usize::from(measured.sent.decide().as_ref() != Some(&found) || !agree(stated) || !agree(whole));
         self.classes[class].pivots += pivots;
         self.classes[class].systems.push(measured);
@@ -373,11 +388,9 @@ impl Group {
     fn print(&mut self, name: &str) {
         let share = |part: usize| 100.0 * part as f64 / self.found.max(1) as f64;
         let first = if self.ended { "the first " } else { "" };
-        let (broken, fallen) = (share(self.broken), share(self.fallen));
-        println!(
-            "{name}: {first}{} systems, {broken:.1} % with fractions, {fallen:.1} % fall back, {} different",
-            self.found, self.different
-        );
+        let (broken, [limited, limited_broken, judged, fallen]) = (share(self.broken), self.counts.map(share));
+        println!("{name}: {first}{} systems, {broken:.1} % with fractions, {} different", self.found, self.different);
+        println!("  {:.1} % within one limit, {judged:.1} % judged row by row, {fallen:.1} % fall back", limited + limited_broken);
         let (mut count, mut pivots, mut seconds) = (0, 0, Seconds::default());
         for (class, name) in self.classes.iter_mut().zip(NAMES).filter(|(class, _)| !class.systems.is_empty()) {
             class.measure(name);

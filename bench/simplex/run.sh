@@ -1,6 +1,6 @@
 #!/bin/sh
-# Builds the proved library and the comparison, and runs it on the systems beside it and on those of the plants of bench/compile. The words
-# name further plants, or folders of them; a file of systems (.tsv) that is named takes the place of those beside it.
+# Builds the proved library and the comparison, and runs it on the systems beside it and on those of the plants of bench/compile/plants. The
+# words name further plants, or folders of them; a file of systems (.tsv) that is named takes the place of those beside it.
 set -e
 here=$(cd "$(dirname "$0")" && pwd)
 systems="$here/systems.tsv"
