@@ -372,15 +372,16 @@ impl Group {
         answer_of(found, system)
     }
 
-    /// Compares the answers on a system that is to be measured.
+    /// Compares the answers on a system that is to be measured, and whether runs in whole numbers serve for it.
     fn add(&mut self, system: System, stated: Option<Answer>) {
         let (found, pivots) = plain::decide(&system);
         let whole = kernel::decide(&system);
         let class = class_of(&system, &whole);
         let measured = Measured::new(system);
         let agree = |other: Option<Answer>| other.is_none_or(|other| other == found);
-        let whole = whole.map(|(answer, _)| answer);
-        self.different += usize::from(measured.sent.decide().as_ref() != Some(&found) || !agree(stated) || !agree(whole));
+        let serve = measured.sent.go_on(measured.system.rows.len()).is_some() == whole.is_some();
+        let own = measured.sent.decide().as_ref() == Some(&found);
+        self.different += usize::from(!own || !serve || !agree(stated) || !agree(whole.map(|(answer, _)| answer)));
         self.classes[class].pivots += pivots;
         self.classes[class].systems.push(measured);
     }
