@@ -7,6 +7,7 @@ use Rattle.mpc_plant.specs.Reply.{Reply, IsRight}
 use Rattle.mpc_controller.specs.Parts.{limits_of}
 use Rattle.mpc_controller.specs.Replies.{at_state, outside, first_outside}
 use Rattle.mpc_table.specs.TableReplies.{answer_text}
+use Rattle.mpc_convex.specs.Convex.{IsConvexProgram}
 use Rattle.mpc_replies.specs.CountLine.{counts_of}
 use Rattle.mpc_replies.specs.Cut.{head_of, count_lines}
 use Rattle.mpc_replies.specs.ReplyLines.{AreReplies}
@@ -14,7 +15,6 @@ use Rattle.mpc_rows.specs.declared.programs.Qp.{Qp}
 use Rattle.mpc_tight.specs.Disturbed.{IsRobustlyRight}
 use Rattle.mpc_tight.specs.Tightened.{IsTightened}
 use Rattle.mpc_states.specs.NoisePart.{plant_part, noise_in}
-use Rattle.mpc_states.specs.Convex.{IsConvexProgram}
 use Rattle.mpc_states.specs.StateLines.{IsStateLine}
 use Rattle.mpc_states.specs.Inputs.{IsSolved as IsSolvedByRun, IsRobustlySolved as IsRobustlySolvedByRun}
 use Rattle.mpc_theorem.specs.PlantFile.{IsPlantText}
