@@ -95,7 +95,7 @@ static uint64_t *load(const struct text *file, uint64_t *words) {
     hold(size == *words && is_filled((const uint8_t *)block, 8 * *words), "its size, and nothing written");
     hold(mpc_table_load(file->bytes, file->size, 1, block, *words, &size) == MPC_DONE && size == *words, "table_load");
     hold(block[0] == mpc_layout_version() && block[1] == *words && block[2] == 2 && block[3] == 1, "the head's sizes");
-    hold(block[4] == POSITIONS - 1 && block[5] == SPEEDS - 1 && *words == 12 + 6 * block[11] * block[8] + 12 * block[9], "the head's counts");
+    hold(block[4] == POSITIONS - 1 && block[5] == SPEEDS - 1 && *words == 12 + 6 * block[11] * (block[8] + block[9]), "the head's counts");
     return block;
 }
 

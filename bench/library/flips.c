@@ -101,23 +101,21 @@ static void spread(struct table *table) {
 }
 
 // ---- a plain walk of any words
-static wide number_at(const uint64_t *line, size_t i) {
-    return (wide)line[2 * i + 1] << 64 | line[2 * i];
+// A line's number i, of two words or of one.
+static __int128 number_at(const uint64_t *line, bool is_wide, size_t i) {
+    return is_wide ? (__int128)((wide)line[2 * i + 1] << 64 | line[2 * i]) : (int64_t)line[i];
 }
 
-// `k·t`, modulo 2^128.
-static wide weighed(const uint64_t *line, size_t first, const uint64_t *counts, size_t n) {
-    wide sum = 0;
-    for (size_t i = 0; i < n; i++) sum += number_at(line, first + i) * counts[i];
-    return sum;
+// `start + k·t` by the numbers k of a line from 2 on, in two words or in one.
+static __int128 sum_of(const uint64_t *line, bool is_wide, __int128 start, const uint64_t *counts, size_t n) {
+    wide sum = (wide)start;
+    for (size_t i = 0; i < n; i++) sum += (wide)number_at(line, is_wide, 2 + i) * counts[i];
+    return is_wide ? (__int128)sum : (int64_t)(uint64_t)sum;
 }
 
-// Whether the row of a split's line holds, in 64 bits or in 128.
+// Whether the row of a split's line holds.
 static bool holds(const uint64_t *line, bool is_wide, const uint64_t *counts, size_t n) {
-    if (is_wide) return (__int128)weighed(line, 2, counts, n) <= (__int128)number_at(line, 1);
-    uint64_t sum = 0;
-    for (size_t i = 0; i < n; i++) sum += line[2 + i] * counts[i];
-    return (int64_t)sum <= (int64_t)line[1];
+    return sum_of(line, is_wide, 0, counts, n) <= number_at(line, is_wide, 1);
 }
 
 static bool are_there(size_t count, uint64_t start, size_t size) {
@@ -140,11 +138,11 @@ static struct reply walked(const uint64_t *words, size_t count, const uint64_t *
     if (!are_there(count, start, size)) return reply;
     if (words[start + 1] == 0) return (struct reply){.answer = MPC_INFEASIBLE};
     start = words[start + 2];
-    if (!are_there(count, start, LINE * p)) return reply;
+    if (!are_there(count, start, size * p)) return reply;
     for (size_t i = 0; i < p; i++) {
-        const uint64_t *form = words + start + LINE * i;
-        wide num = number_at(form, 1) + weighed(form, 2, counts, n);
-        reply.moves[i] = (mpc_fraction){(uint64_t)num, (uint64_t)(num >> 64), form[0], form[1]};
+        const uint64_t *form = words + start + size * i;
+        wide num = (wide)sum_of(form, is_wide, number_at(form, is_wide, 1), counts, n), den = (wide)number_at(form, is_wide, 0);
+        reply.moves[i] = (mpc_fraction){(uint64_t)num, (uint64_t)(num >> 64), (uint64_t)den, (uint64_t)(den >> 64)};
     }
     reply.answer = MPC_DONE;
     return reply;

@@ -148,13 +148,13 @@ uint32_t mpc_safe(const uint8_t *file, size_t file_len, uint8_t *text, size_t te
  *
  * Of use to a caller: block[0] is mpc_layout_version(), block[1] the words of the block, block[2] the coordinates of a state, n (at most 4),
  * block[3] the inputs, p (at most 3), block[4] .. block[4 + n - 1] the greatest counts, block[8] the nodes of the tree, block[9] the laws,
- * block[10] the height of the tree, and block[11] how many words a number of its rows has: 1 where all of them fit, 2 otherwise. */
+ * block[10] the height of the tree, and block[11] how many words a number of its rows and forms has: 1 where all of them fit, 2 otherwise. */
 
 /* Writes to *words how many words the block of a controller has.
  *
  * Answers MPC_DONE, MPC_BAD_FILE or MPC_NO_MEMORY; *words is 0 where it isn't MPC_DONE.
  *
- * Proved: 12 words, 6 block[11] for each node of the tree, and 12 for each input of each law. */
+ * Proved: 12 words, and 6 block[11] for each node of the tree and for each input of each law. */
 uint32_t mpc_table_size(const uint8_t *file, size_t file_len, uint64_t *words);
 
 /* Reads the file of a controller, checks it as mpc_check does if check isn't 0, and lays it out in block. Writes to *words how many words

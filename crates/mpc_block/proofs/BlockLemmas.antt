@@ -18,7 +18,7 @@ use Rattle.mpc_block.specs.declared.lines.Width.{Width}
 use Rattle.mpc_block.specs.declared.lines.Width.TheVariants.{Short, Wide}
 use Rattle.mpc_block.specs.Words.{words_from, number_at, entries}
 use Rattle.mpc_block.specs.Sums.{greatest, KeepsWithin}
-use Rattle.mpc_block.specs.Block.{spans_of, fits_word, width_of, line_size, node_start, node_line, IsSplitLine}
+use Rattle.mpc_block.specs.Block.{spans_of, row_fits_word, law_fits_word, width_of, line_size, line_start, line_at, IsSplitLine}
 use Rattle.mpc_block.specs.Walks.{Serves, StandsAt, GoesTo, HasCome}
 use Rattle.mpc_block.proofs.SumLemmas.{reach_mono, up_to_length, satisfied, at_most, first_of_taken}
 
@@ -30,7 +30,7 @@ node_at (node ∷ nodes) (suc place) h = node_at nodes place (omega arith)
 pub all_at : {X : Type 0} (P : X → Type 0) (xs : List X) (i : ℕ) (x : X) → slice_get xs i ≡ Some x → All P xs → P x
 all_at P xs i x at h = subst P (get_or_from_slice_get xs i x x at) (h i x (slice_get_within xs i x at))
 
-both : (a b : Bool) → (a && b) ≡ true → (a ≡ true) × (b ≡ true)
+pub both : (a b : Bool) → (a && b) ≡ true → (a ≡ true) × (b ≡ true)
 both true b h = (refl, h)
 both false b h = absurd cc
 
@@ -56,7 +56,7 @@ weighed_taken (k ∷ ks) zero (t ∷ ts) h = absurd (omega arith)
 weighed_taken (k ∷ ks) (suc n) [] h = refl
 weighed_taken (k ∷ ks) (suc n) (t ∷ ts) h = ap (λ w. k *ℤ pos t +ℤ w) (weighed_taken ks n ts (omega arith))
 
-up_to_spans : (ts : List ℕ) (grid : List Coordinate) → AreUpTo ts (map (λ axis. axis.count) grid) → AreUpTo ts (map (λ axis. max axis.count 1) grid)
+pub up_to_spans : (ts : List ℕ) (grid : List Coordinate) → AreUpTo ts (map (λ axis. axis.count) grid) → AreUpTo ts (map (λ axis. max axis.count 1) grid)
 up_to_spans [] [] h = tt
 up_to_spans [] (axis ∷ grid) h = absurd h
 up_to_spans (t ∷ ts) [] h = absurd h
@@ -68,7 +68,7 @@ up_to_spans (t ∷ ts) (axis ∷ grid) h = (less, up_to_spans ts grid h.1)
 pub record SplitThere (words : List ℕ) (parts : Parts) (sides : List ℕ) (place : ℕ) : Type 0 where
   pub row : RowInt
   pub at : slice_get parts.tree place ≡ Some (Split row)
-  pub line : IsSplitLine (width_of parts) (node_start (width_of parts) (slice_index sides place)) row (node_line words (width_of parts) place)
+  pub line : IsSplitLine (width_of parts) (line_start (width_of parts) (slice_index sides place)) row (line_at words (width_of parts) place)
 
 pub some_node : (nodes : List Node) → IsTree nodes → 0 < length nodes
 some_node [] h = absurd (omega arith)
@@ -91,7 +91,7 @@ module _ (words counts : List ℕ) (parts : Parts) (s : Serves words counts part
     width = width_of parts
 
     abbrev line : List ℕ
-    line = node_line words width place
+    line = line_at words width place
 
     split_there : ¬ slice_index line 0 ≡ 0 → SplitThere words parts s.block.sides place
     split_there leads = by found.0 found.1
@@ -135,9 +135,9 @@ module _ (words counts : List ℕ) (parts : Parts) (s : Serves words counts part
       reach_is : reach (entries width line) counts ≡ reach row.a counts
       reach_is = sym (reach_taken (entries width line) (length row.a) counts one_each) ∙ ap (λ k. reach k counts) slopes_are
 
-      row_keeps : (short : Bool) → list_all (fits_word (spans_of parts.plant)) parts.tree ≡ short → unsigned_abs row.b + reach row.a counts < greatest (if short then Short else Wide)
+      row_keeps : (short : Bool) → (list_all (row_fits_word (spans_of parts.plant)) parts.tree && list_all (law_fits_word parts.plant) parts.laws) ≡ short → unsigned_abs row.b + reach row.a counts < greatest (if short then Short else Wide)
       row_keeps true e =
-          let tested : nat_lt (unsigned_abs row.b + reach row.a (spans_of parts.plant)) (2 ^ 63) ≡ true = tested_at (fits_word (spans_of parts.plant)) parts.tree place (Split row) there.at e in
+          let tested : nat_lt (unsigned_abs row.b + reach row.a (spans_of parts.plant)) (2 ^ 63) ≡ true = tested_at (row_fits_word (spans_of parts.plant)) parts.tree place (Split row) there.at (both _ _ e).0 in
           let small : unsigned_abs row.b + reach row.a (spans_of parts.plant) < 2 ^ 63 = grind (arith, nat_tests) in
           let less : reach row.a counts ≤ reach row.a (spans_of parts.plant) = reach_mono row.a counts (spans_of parts.plant) (up_to_spans counts parts.plant.grid s.up_to) in
           omega arith
@@ -148,7 +148,7 @@ module _ (words counts : List ℕ) (parts : Parts) (s : Serves words counts part
 
       keeps : KeepsWithin width line counts
       keeps = subst (λ b. unsigned_abs b + reach (entries width line) counts < greatest width) (sym bound_is)
-          (subst (λ r. unsigned_abs row.b + r < greatest width) (sym reach_is) (row_keeps (list_all (fits_word (spans_of parts.plant)) parts.tree) refl))
+          (subst (λ r. unsigned_abs row.b + r < greatest width) (sym reach_is) (row_keeps _ refl))
 
       module _ (holds : Bool) (says : KeepsWithin width line counts → IsTrue holds ↔ (weighed (entries width line) counts ≤ℤ number_at width line 1)) where
         yes : holds ≡ true → weighed row.a counts ≤ℤ row.b
@@ -160,7 +160,7 @@ module _ (words counts : List ℕ) (parts : Parts) (s : Serves words counts part
             let not : holds ≡ false = h in
             cc
 
-        pub goes_yes : holds ≡ true → (start : ℕ) → start ≡ node_start width (place + 1) → GoesTo words counts parts s.block place start
+        pub goes_yes : holds ≡ true → (start : ℕ) → start ≡ line_start width (place + 1) → GoesTo words counts parts s.block place start
         goes_yes h start is = record {
           next = place + 1;
           stands = record { inside = (let side = s.block.are_sides.each place row there.at in let after = side.after in let end = side.before_end in omega arith); start_is = is };
@@ -182,13 +182,13 @@ module _ (words counts : List ℕ) (parts : Parts) (s : Serves words counts part
   size_here : size ≡ line_size (width_of parts)
   size_here = size_is ∙ ap line_size width_is
 
-  line_is : node ≡ node_line words (width_of parts) place
+  line_is : node ≡ line_at words (width_of parts) place
   line_is = node_is ∙ (λ i. words_from words (stands.start_is i) (size_here i))
 
-  leads_here : ¬ slice_index (node_line words (width_of parts) place) 0 ≡ 0
+  leads_here : ¬ slice_index (line_at words (width_of parts) place) 0 ≡ 0
   leads_here e = leads (ap (λ l. slice_index l 0) line_is ∙ e)
 
-  says_here : KeepsWithin (width_of parts) (node_line words (width_of parts) place) counts → IsTrue holds ↔ (weighed (entries (width_of parts) (node_line words (width_of parts) place)) counts ≤ℤ number_at (width_of parts) (node_line words (width_of parts) place) 1)
+  says_here : KeepsWithin (width_of parts) (line_at words (width_of parts) place) counts → IsTrue holds ↔ (weighed (entries (width_of parts) (line_at words (width_of parts) place)) counts ≤ℤ number_at (width_of parts) (line_at words (width_of parts) place) 1)
   says_here = subst (λ l. KeepsWithin (width_of parts) l counts → IsTrue holds ↔ (weighed (entries (width_of parts) l) counts ≤ℤ number_at (width_of parts) l 1)) line_is
       (subst (λ w. KeepsWithin w node counts → IsTrue holds ↔ (weighed (entries w node) counts ≤ℤ number_at w node 1)) width_is says)
 

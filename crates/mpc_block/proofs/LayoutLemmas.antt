@@ -1,25 +1,20 @@
 -- The lines of a layout, one after another.
-use Rattle.std.proofs.Common.{◌≡◌, ℕ, ◌+◌, ◌-◌, ◌*◌, ◌<◌, ◌≤◌, ◌⊎◌, inl, inr, ℤ, pos, List, [], ◌∷◌, length, get_or, take, drop, Some, sym, ◌∙◌, ap, subst, arith, lit<}
-use Rattle.std.specs.Prelude.{slice_get, slice_index, slice_index_or, slice_range, OnOk, Result, Ok, Err}
+use Rattle.std.proofs.Common.{◌≡◌, ℕ, ◌+◌, ◌-◌, ◌*◌, ◌<◌, ◌≤◌, ◌⊎◌, inl, inr, List, length, take, drop, Some, sym, ◌∙◌, ap, subst, arith, lit<}
+use Rattle.std.specs.Prelude.{slice_get, slice_index, slice_range}
 use Rattle.std.proofs.lemmas.Bool.{cases_lt}
-use Rattle.std.proofs.lemmas.List.{drop-take, get_or-take, length-map, take-take, take_all}
+use Rattle.std.proofs.lemmas.List.{drop-take, get_or-take, take-take}
 use Rattle.std.proofs.lemmas.Option.{slice_get_within}
 use Rattle.std.proofs.Math.Nat.{mul-le-mul_right, mul-le-mul_left}
-use Rattle.mpc_exact.specs.Rational.{ℚ}
-use Rattle.mpc_linear.specs.declared.integers.IntAffine.{IntAffine}
-use Rattle.mpc_plant.specs.declared.lists.Coordinate.{Coordinate}
 use Rattle.mpc_plant.specs.declared.plants.Plant.{Plant}
 use Rattle.mpc_rows.specs.declared.laws.Law.{Law as LawOfSet}
 use Rattle.mpc_rows.specs.declared.trees.Node.{Node}
 use Rattle.mpc_controller.specs.Parts.{Parts, limits_of}
 use Rattle.mpc_controller.specs.Bounds.{IsController, first_move_form}
 use Rattle.mpc_table.specs.Steps.{AreNoSides}
-use Rattle.mpc_table.specs.Forms.{IsFormOf, IsBounded}
 use Rattle.mpc_block.specs.declared.lines.Width.{Width}
-use Rattle.mpc_block.specs.declared.lines.Width.TheVariants.{Wide}
-use Rattle.mpc_block.specs.Words.{signed_number, words_from, numbers_in}
+use Rattle.mpc_block.specs.Words.{words_from}
 use Rattle.mpc_block.specs.Heights.{AreHeightsFrom}
-use Rattle.mpc_block.specs.Block.{width_of, words_each, line_size, node_start, law_start, input_line, word_after, block_size, form_in, HasLine, IsNodeLine, IsFormLine, IsBlockOf}
+use Rattle.mpc_block.specs.Block.{width_of, words_each, line_size, line_start, line_at, law_place, input_line, word_after, block_size, whole, form_in, HasLine, IsNodeLine, IsFormLine, IsBlockOf}
 use Rattle.mpc_block.specs.Layouts.{IsHeadLine, AreNodesTo, AreInputsTo, AreFormsTo, KeepsBefore}
 
 -- ---- words that are kept
@@ -32,37 +27,27 @@ words_kept old new end start size kept h =
 pub kept_twice : (old mid new : List ℕ) (a b : ℕ) → a ≤ b → KeepsBefore a old mid → KeepsBefore b mid new → KeepsBefore a old new
 kept_twice old mid new a b h first second = sym (take-take a b new h) ∙ ap (take a) second ∙ take-take a b mid h ∙ first
 
--- ---- a form
-pub form_of_line : (form : IntAffine) (k : List ℤ) (line : List ℕ) (n : ℕ) → k ≡ form.k → 1 ≤ length form.k → signed_number (slice_index line 0) (slice_index line 1) ≡ form.den → take (length (slice_range k 1 (length k)) + 1) (numbers_in Wide line) ≡ get_or k 0 (pos 0) ∷ slice_range k 1 (length k) → length form.k ≡ n + 1 → form_in n line ≡ form
-form_of_line form [] line n is some den numbers size = absurd (omega (arith, ap length is))
-form_of_line form (z ∷ zs) line n is some den numbers size =
-    let rest = slice_range (z ∷ zs) 1 (length (z ∷ zs)) in
-    let whole : rest ≡ zs = take_all (length (z ∷ zs) - 1) zs (omega arith) in
-    let same : length rest + 1 ≡ n + 1 = omega (arith, ap length whole, ap length is, size) in
-    let k_is : take (n + 1) (numbers_in Wide line) ≡ form.k = ap (λ m. take m (numbers_in Wide line)) (sym same) ∙ numbers ∙ ap (λ r. z ∷ r) whole ∙ is in
-    λ i. record { den = den i; k = k_is i }
-
 -- ---- one node more
-node_ends : (width : Width) (place k : ℕ) → place < k → node_start width place + line_size width ≤ node_start width k
-node_ends width place k lt =
+pub line_ends : (width : Width) (place k : ℕ) → place < k → line_start width place + line_size width ≤ line_start width k
+line_ends width place k lt =
     let next : place + 1 ≤ k = omega arith in
     let less : line_size width * (place + 1) ≤ line_size width * k = mul-le-mul_left (line_size width) next in
     let one : line_size width * (place + 1) ≡ line_size width * place + line_size width = omega arith in
     omega arith
 
-pub node_more : (parts : Parts) (sides old new : List ℕ) (k start word : ℕ) (width : Width) (node : Node) → slice_get parts.tree k ≡ Some node → width ≡ width_of parts → start ≡ node_start width k → word ≡ word_after parts (slice_index sides k) node
+pub node_more : (parts : Parts) (sides old new : List ℕ) (k start word : ℕ) (width : Width) (node : Node) → slice_get parts.tree k ≡ Some node → width ≡ width_of parts → start ≡ line_start width k → word ≡ word_after parts (slice_index sides k) node
     → IsNodeLine width word node (words_from new start (line_size width)) → KeepsBefore start old new → AreNodesTo parts sides k old → AreNodesTo parts sides (k + 1) new
 node_more parts sides old new k start word width node at width_is start_is word_is written kept before place other lt at_place = by (cases_lt place k)
   where
     here : HasLine new parts (slice_index sides k) k node
-    here = subst (λ w. IsNodeLine w (word_after parts (slice_index sides k) node) node (words_from new (node_start w k) (line_size w))) width_is
+    here = subst (λ w. IsNodeLine w (word_after parts (slice_index sides k) node) node (words_from new (line_start w k) (line_size w))) width_is
         (subst (λ s. IsNodeLine width (word_after parts (slice_index sides k) node) node (words_from new s (line_size width))) start_is (subst (λ w. IsNodeLine width w node (words_from new start (line_size width))) word_is written))
 
-    ends : place < k → node_start (width_of parts) place + line_size (width_of parts) ≤ start
-    ends less = subst (λ s. node_start (width_of parts) place + line_size (width_of parts) ≤ s) (sym (start_is ∙ ap (λ w. node_start w k) width_is)) (node_ends (width_of parts) place k less)
+    ends : place < k → line_start (width_of parts) place + line_size (width_of parts) ≤ start
+    ends less = subst (λ s. line_start (width_of parts) place + line_size (width_of parts) ≤ s) (sym (start_is ∙ ap (λ w. line_start w k) width_is)) (line_ends (width_of parts) place k less)
 
     by : (place < k) ⊎ (k ≤ place) → HasLine new parts (slice_index sides place) place other
-    by (inl less) = subst (IsNodeLine (width_of parts) (word_after parts (slice_index sides place) other) other) (sym (words_kept old new start (node_start (width_of parts) place) (line_size (width_of parts)) kept (ends less))) (before place other less at_place)
+    by (inl less) = subst (IsNodeLine (width_of parts) (word_after parts (slice_index sides place) other) other) (sym (words_kept old new start (line_start (width_of parts) place) (line_size (width_of parts)) kept (ends less))) (before place other less at_place)
     by (inr ge) =
         let same : k ≡ place = omega arith in
         let found : slice_get parts.tree place ≡ Some node = subst (λ p. slice_get parts.tree p ≡ Some node) same at in
@@ -70,56 +55,56 @@ node_more parts sides old new k start word width node at width_is start_is word_
         let node_is : node ≡ other = cc in
         subst (λ n. HasLine new parts (slice_index sides place) place n) node_is (subst (λ p. HasLine new parts (slice_index sides p) p node) same here)
 
-pub nodes_kept : (parts : Parts) (sides old new : List ℕ) (first : ℕ) → first ≡ node_start (width_of parts) (length parts.tree) → KeepsBefore first old new → AreNodesTo parts sides (length parts.tree) old → AreNodesTo parts sides (length parts.tree) new
-nodes_kept parts sides old new first first_is kept nodes place node lt at =
+pub nodes_kept : (parts : Parts) (sides old new : List ℕ) → KeepsBefore (line_start (width_of parts) (length parts.tree)) old new → AreNodesTo parts sides (length parts.tree) old → AreNodesTo parts sides (length parts.tree) new
+nodes_kept parts sides old new kept nodes place node lt at =
     subst (IsNodeLine (width_of parts) (word_after parts (slice_index sides place) node) node)
-    (sym (words_kept old new first (node_start (width_of parts) place) (line_size (width_of parts)) kept (subst (λ f. node_start (width_of parts) place + line_size (width_of parts) ≤ f) (sym first_is) (node_ends (width_of parts) place (length parts.tree) lt)))) (nodes place node lt at)
+    (sym (words_kept old new (line_start (width_of parts) (length parts.tree)) (line_start (width_of parts) place) (line_size (width_of parts)) kept (line_ends (width_of parts) place (length parts.tree) lt))) (nodes place node lt at)
 
--- ---- one form more
-pub input_more : (plant : Plant) (law : LawOfSet) (start i : ℕ) (old new line : List ℕ) → IsFormLine plant law i line → words_from new (start + 12 * i) 12 ≡ line → KeepsBefore (start + 12 * i) old new → AreInputsTo plant law start i old → AreInputsTo plant law start (i + 1) new
-input_more plant law start i old new line is written kept before input lt = by (cases_lt input i)
-  where
-    by : (input < i) ⊎ (i ≤ input) → IsFormLine plant law input (words_from new (start + 12 * input) 12)
-    by (inl less) = subst (IsFormLine plant law input) (sym (words_kept old new (start + 12 * i) (start + 12 * input) 12 kept (omega arith))) (before input less)
-    by (inr ge) = let same : i ≡ input = omega arith in subst (λ q. IsFormLine plant law q (words_from new (start + 12 * q) 12)) same (subst (IsFormLine plant law i) (sym written) is)
+pub starts_mono : (width : Width) (place k : ℕ) → place ≤ k → line_start width place ≤ line_start width k
+starts_mono width place k le = let less : line_size width * place ≤ line_size width * k = mul-le-mul_left (line_size width) le in omega arith
 
+-- ---- where the lines of laws stand
 before_law : (j k input inputs : ℕ) → j < k → input < inputs → j * inputs + input + 1 ≤ k * inputs
 before_law j k input inputs lt below =
     let next : j + 1 ≤ k = omega arith in
     let more : (j + 1) * inputs ≤ k * inputs = mul-le-mul_right inputs next in
     omega arith
 
-law_at : (parts : Parts) (j : ℕ) → law_start parts (j + 1) ≡ node_start (width_of parts) (length parts.tree) + 12 * (j * parts.plant.p)
-law_at parts j = let e : j + 1 - 1 ≡ j = omega arith in ap (λ n. node_start (width_of parts) (length parts.tree) + 12 * (n * parts.plant.p)) e
+law_at : (parts : Parts) (j : ℕ) → law_place parts (j + 1) ≡ length parts.tree + j * parts.plant.p
+law_at parts j = let e : j + 1 - 1 ≡ j = omega arith in ap (λ n. length parts.tree + n * parts.plant.p) e
 
--- ---- one law more
-pub law_more : (parts : Parts) (law : LawOfSet) (first start k : ℕ) (old new : List ℕ) → slice_get parts.laws k ≡ Some law → first ≡ node_start (width_of parts) (length parts.tree) → start ≡ first + 12 * (k * parts.plant.p) → AreInputsTo parts.plant law start parts.plant.p new → KeepsBefore start old new
-    → AreFormsTo parts k old → AreFormsTo parts (k + 1) new
-law_more parts law first start k old new at first_is start_is forms kept before j other input lt at_j below = by (cases_lt j k)
-  where
-    by : (j < k) ⊎ (k ≤ j) → IsFormLine parts.plant other input (input_line new parts (j + 1) input)
-    by (inl less) =
-        let earlier : law_start parts (j + 1) + 12 * input + 12 ≤ start = omega (arith, before_law j k input parts.plant.p less below, law_at parts j, first_is, start_is) in
-        subst (IsFormLine parts.plant other input) (sym (words_kept old new start (law_start parts (j + 1) + 12 * input) 12 kept earlier)) (before j other input less at_j below)
-    by (inr ge) =
-        let same : k ≡ j = omega arith in
-        let found : slice_get parts.laws j ≡ Some law = subst (λ q. slice_get parts.laws q ≡ Some law) same at in
-        let also : slice_get parts.laws j ≡ Some other = at_j in
-        let law_is : law ≡ other = cc in
-        let start_here : start ≡ law_start parts (k + 1) = start_is ∙ ap (λ f. f + 12 * (k * parts.plant.p)) first_is ∙ sym (law_at parts k) in
-        subst (λ q. IsFormLine parts.plant other input (input_line new parts (q + 1) input)) same
-        (subst (λ r. IsFormLine parts.plant other input (words_from new (r + 12 * input) 12)) start_here (subst (λ l. IsFormLine parts.plant l input (words_from new (start + 12 * input) 12)) law_is (forms input below)))
+pub line_inside : (parts : Parts) (width : Width) (j input : ℕ) → width ≡ width_of parts → j < length parts.laws → input < parts.plant.p → line_start width (law_place parts (j + 1) + input) + line_size width ≤ block_size parts
+line_inside parts width j input is lt below =
+    let inside : law_place parts (j + 1) + input < length parts.tree + length parts.laws * parts.plant.p = omega (arith, before_law j (length parts.laws) input parts.plant.p lt below, law_at parts j) in
+    subst (λ w. line_start width (law_place parts (j + 1) + input) + line_size width ≤ line_start w (length parts.tree + length parts.laws * parts.plant.p)) is (line_ends width _ _ inside)
 
--- ---- the line of a form that was written
-pub form_written : (plant : Plant) (law : LawOfSet) (input : ℕ) (limits : List ℕ) (row : List ℚ) (form : IntAffine) (line : List ℕ) → limits ≡ limits_of plant → row ≡ slice_index_or law.moves.rows input [] → IsFormOf row form → IsBounded limits form
-    → ((n : ℕ) → length form.k ≡ n + 1 → form_in n line ≡ form) → IsFormLine plant law input line
-form_written plant law input limits row form line limits_are row_is value bounded reads =
-    let size : length limits ≡ plant.n = ap length limits_are ∙ length-map plant.grid (λ (axis : Coordinate). axis.count) ∙ plant.is_plant.grid_size in
-    let same : form_in plant.n line ≡ form = reads plant.n (bounded.size ∙ ap (λ n. n + 1) size) in
-    record {
-      form_is = subst (IsFormOf (first_move_form law input)) (sym same) (subst (λ r. IsFormOf r form) row_is value);
-      bounded = subst (IsBounded (limits_of plant)) (sym same) (subst (λ l. IsBounded l form) limits_are bounded);
-    }
+-- ---- one form more
+module _ (parts : Parts) (width : Width) (is : width ≡ width_of parts) (old new : List ℕ) where
+  kept_line : (end place : ℕ) → place < end → KeepsBefore (line_start width end) old new → line_at new (width_of parts) place ≡ line_at old (width_of parts) place
+  kept_line end place lt kept =
+      subst (λ w. line_at new w place ≡ line_at old w place) is (words_kept old new (line_start width end) (line_start width place) (line_size width) kept (line_ends width place end lt))
+
+  pub input_more : (law : LawOfSet) (place i : ℕ) → form_in width parts.plant.n (line_at new width (place + i)) ≡ whole (first_move_form law i) → KeepsBefore (line_start width (place + i)) old new → AreInputsTo parts law place i old → AreInputsTo parts law place (i + 1) new
+  input_more law place i written kept before input lt = by (cases_lt input i)
+    where
+      here : IsFormLine parts law i (line_at new (width_of parts) (place + i))
+      here = subst (λ w. form_in w parts.plant.n (line_at new w (place + i)) ≡ whole (first_move_form law i)) is written
+
+      by : (input < i) ⊎ (i ≤ input) → IsFormLine parts law input (line_at new (width_of parts) (place + input))
+      by (inl less) = subst (IsFormLine parts law input) (sym (kept_line (place + i) (place + input) (omega arith) kept)) (before input less)
+      by (inr ge) = let same : i ≡ input = omega arith in subst (λ q. IsFormLine parts law q (line_at new (width_of parts) (place + q))) same here
+
+  -- ---- one law more
+  pub law_more : (k : ℕ) → ((law : LawOfSet) → slice_get parts.laws k ≡ Some law → AreInputsTo parts law (law_place parts (k + 1)) parts.plant.p new) → KeepsBefore (line_start width (law_place parts (k + 1))) old new → AreFormsTo parts k old → AreFormsTo parts (k + 1) new
+  law_more k forms kept before j law input lt at below = by (cases_lt j k)
+    where
+      by : (j < k) ⊎ (k ≤ j) → IsFormLine parts law input (input_line new parts (j + 1) input)
+      by (inl less) =
+          let earlier : law_place parts (j + 1) + input < law_place parts (k + 1) = omega (arith, before_law j k input parts.plant.p less below, law_at parts j, law_at parts k) in
+          subst (IsFormLine parts law input) (sym (kept_line (law_place parts (k + 1)) (law_place parts (j + 1) + input) earlier kept)) (before j law input less at below)
+      by (inr ge) =
+          let same : k ≡ j = omega arith in
+          subst (λ q. IsFormLine parts law input (input_line new parts (q + 1) input)) same (forms law (subst (λ q. slice_get parts.laws q ≡ Some law) (sym same) at) input below)
 
 -- ---- the head that was written
 pub head_of : (parts : Parts) (plant : Plant) (size nodes laws height each top : ℕ) (line first : List ℕ) → plant ≡ parts.plant → size ≡ block_size parts → nodes ≡ length parts.tree → laws ≡ length parts.laws → height ≡ top → each ≡ words_each (width_of parts) → first ≡ line
@@ -157,10 +142,10 @@ module _ (parts : Parts) (ok : IsController parts.plant parts.laws parts.tree) (
       let short : 4 + n - 4 ≤ 8 = omega arith in
       sym (ap (take (4 + n - 4)) (drop-take 4 8 words) ∙ take-take (4 + n - 4) 8 (drop 4 words) short) ∙ laid.head.limits
 
-  named : (law : ℕ) (of_set : LawOfSet) (input : ℕ) → slice_get parts.laws (law - 1) ≡ Some of_set → input < parts.plant.p → IsFormLine parts.plant of_set input (input_line words parts law input)
+  named : (law : ℕ) (of_set : LawOfSet) (input : ℕ) → slice_get parts.laws (law - 1) ≡ Some of_set → input < parts.plant.p → IsFormLine parts of_set input (input_line words parts law input)
   named law of_set input at lt =
       let e : law - 1 + 1 - 1 ≡ law - 1 = omega arith in
-      subst (λ n. IsFormLine parts.plant of_set input (words_from words (node_start (width_of parts) (length parts.tree) + 12 * (n * parts.plant.p) + 12 * input) 12)) e
+      subst (λ n. IsFormLine parts of_set input (line_at words (width_of parts) (length parts.tree + n * parts.plant.p + input))) e
       (laid.forms (law - 1) of_set input (slice_get_within parts.laws (law - 1) of_set at) at lt)
 
   pub block_of : IsBlockOf words parts
@@ -183,7 +168,3 @@ module _ (parts : Parts) (ok : IsController parts.plant parts.laws parts.tree) (
     tree = λ place node at. laid.nodes place node (slice_get_within parts.tree place node at) at;
     forms = named;
   }
-
-pub on_ok : {T E A B : Type 0} (r : Result T E) → (A → B) → OnOk r A → OnOk r B
-on_ok (Ok x) f a = f a
-on_ok (Err e) f a = a

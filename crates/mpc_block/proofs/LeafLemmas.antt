@@ -6,14 +6,14 @@ use Rattle.mpc_controller.specs.Parts.{Parts}
 use Rattle.mpc_block.specs.declared.lines.Width.{Width}
 use Rattle.mpc_block.specs.declared.lines.Width.TheVariants.{Short, Wide}
 use Rattle.mpc_block.specs.Words.{words_from}
-use Rattle.mpc_block.specs.Block.{width_of, words_each, line_size, node_start, node_line, IsBlockOf}
+use Rattle.mpc_block.specs.Block.{width_of, words_each, line_size, line_start, line_at, IsBlockOf}
 use Rattle.mpc_block.specs.Walks.{EndsIn, FindsLeaf}
 
 place_of : (width : Width) (place : ℕ) → (12 + line_size width * place - 12) / line_size width ≡ place
 place_of Short place = omega arith
 place_of Wide place = omega arith
 
-pub line_ends : (words : List ℕ) (parts : Parts) → IsBlockOf words parts → (place : ℕ) → place < length parts.tree → node_start (width_of parts) place + line_size (width_of parts) ≤ length words
+pub line_ends : (words : List ℕ) (parts : Parts) → IsBlockOf words parts → (place : ℕ) → place < length parts.tree → line_start (width_of parts) place + line_size (width_of parts) ≤ length words
 line_ends words parts block place inside =
     let more : place + 1 ≤ length parts.tree = omega arith in
     let less : line_size (width_of parts) * (place + 1) ≤ line_size (width_of parts) * length parts.tree = mul-le-mul_left (line_size (width_of parts)) more in
@@ -28,7 +28,7 @@ module _ (words counts : List ℕ) (parts : Parts) (block : IsBlockOf words part
   ends_inside = omega (arith, line_ends words parts block ends.place ends.stands.inside, ends.stands.start_is, size_here)
 
   module _ (node : List ℕ) (node_is : node ≡ words_from words start size) where
-    line_is : node ≡ node_line words (width_of parts) ends.place
+    line_is : node ≡ line_at words (width_of parts) ends.place
     line_is = node_is ∙ (λ i. words_from words (ends.stands.start_is i) (size_here i))
 
     pub finds_leaf : FindsLeaf words counts parts ((start - 12) / size + 1) (slice_index node 1) (slice_index node 2)
@@ -50,7 +50,7 @@ pub wide_by_word : (width : Width) → ¬ words_each width ≡ 1 → Wide ≡ wi
 wide_by_word Short e = absurd (e refl)
 wide_by_word Wide e = refl
 
-node_count : (width : Width) (n : ℕ) → n ≤ node_start width n
+pub node_count : (width : Width) (n : ℕ) → n ≤ line_start width n
 node_count Short n = omega arith
 node_count Wide n = omega arith
 

@@ -4,6 +4,7 @@ pub mod WrapLemmas
 pub mod LineLemmas
 pub mod BlockLemmas
 pub mod LeafLemmas
+pub mod FormLemmas
 pub mod WidthLemmas
 pub mod LayoutLemmas
 pub mod MoveLemmas

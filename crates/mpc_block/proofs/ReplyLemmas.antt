@@ -18,11 +18,13 @@ use Rattle.mpc_controller.specs.Replies.{first_outside, first_move, IsLawNumbere
 use Rattle.mpc_table.specs.TableTheorems.{MovesEachInput}
 use Rattle.mpc_table.specs.TableReplies.{IsMoveReply, IsInfeasibleReply}
 use Rattle.mpc_block.specs.declared.replies.Move.{Move}
+use Rattle.mpc_block.specs.declared.lines.Width.TheVariants.{Short}
 use Rattle.mpc_block.specs.Walks.{Serves, FindsLeaf}
 use Rattle.mpc_block.specs.BlockReplies.{value_of, BeginWith, IsMovesReply, IsNoMoveReply, IsBlockReply, Suits}
 use Rattle.mpc_block.specs.declared.replies.BlockReply.{BlockReply}
-use Rattle.mpc_block.specs.Block.{width_of, node_start, law_start, node_line}
+use Rattle.mpc_block.specs.Block.{width_of, line_start, law_start, line_at}
 use Rattle.mpc_block.proofs.SumLemmas.{none_outside}
+use Rattle.mpc_block.proofs.LeafLemmas.{short_by_word}
 use Rattle.mpc_block.proofs.BlockLemmas.{node_at, all_at}
 
 law_at : (laws : List LawOfSet) (j : ℕ) → j < length laws → (law : LawOfSet) × (slice_get laws j ≡ Some law)
@@ -58,8 +60,8 @@ module _ (words counts : List ℕ) (room : ℕ) (parts : Parts) (suits : Suits w
     no_split : (row : RowInt) → slice_get parts.tree finds.place ≡ Some (Split row) → ⊥
     no_split row at =
         let line = suits.block.tree finds.place (Split row) at in
-        let zero : slice_index (node_line words (width_of parts) finds.place) 0 ≡ 0 = finds.zero_is in
-        let leads : slice_index (node_line words (width_of parts) finds.place) 0 ≡ node_start (width_of parts) (slice_index suits.block.sides finds.place) = line.side_is in
+        let zero : slice_index (line_at words (width_of parts) finds.place) 0 ≡ 0 = finds.zero_is in
+        let leads : slice_index (line_at words (width_of parts) finds.place) 0 ≡ line_start (width_of parts) (slice_index suits.block.sides finds.place) = line.side_is in
         omega arith
 
     infeasible_reply : law ≡ 0 → IsInfeasibleReply parts counts node
@@ -138,8 +140,8 @@ module _ (words counts : List ℕ) (room : ℕ) (parts : Parts) (suits : Suits w
         }
 
 -- all counts, as many as they are
-pub by_all : (words counts : List ℕ) (room k : ℕ) (moves : List Move) (reply : BlockReply) → length counts ≡ k → ((parts : Parts) → Suits words (take k counts) room parts → IsBlockReply parts (take k counts) moves reply)
+pub by_all : (words counts : List ℕ) (room k : ℕ) (moves : List Move) (reply : BlockReply) → length counts ≡ k → slice_index words 11 ≡ 1 → ((parts : Parts) → Suits words (take k counts) room parts → Short ≡ width_of parts → IsBlockReply parts (take k counts) moves reply)
     → (parts : Parts) → Suits words counts room parts → IsBlockReply parts counts moves reply
-by_all words counts room k moves reply size replies parts suits =
+by_all words counts room k moves reply size one replies parts suits =
     let all : take k counts ≡ counts = take_all k counts (omega arith) in
-    subst (λ t. IsBlockReply parts t moves reply) all (replies parts (subst (λ t. Suits words t room parts) (sym all) suits))
+    subst (λ t. IsBlockReply parts t moves reply) all (replies parts (subst (λ t. Suits words t room parts) (sym all) suits) (short_by_word (width_of parts) (sym suits.block.width ∙ one)))

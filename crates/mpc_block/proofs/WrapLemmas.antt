@@ -101,10 +101,10 @@ compared bits sum bound w b f g sum_is bound_is =
 within : (line counts : List ℕ) (width : Width) → KeepsWithin width line counts → unsigned_abs (weighed (entries width line) counts) < greatest width
 within line counts width h = omega (arith, h, abs_weighed (entries width line) counts)
 
-pub short_holds : (width : Width) (line counts : List ℕ) (sum bound : ℤ) → width ≡ Short → FitsSigned w64 sum → FitsSigned w64 bound → sum ≡ int_wrap w64 (weighed (entries Short line) counts) → bound ≡ number_at Short line 1
+pub short_holds : (width : Width) (line counts : List ℕ) (sum bound : ℤ) → width ≡ Short → FitsSigned w64 sum → FitsSigned w64 bound → sum ≡ int_wrap w64 (pos 0 +ℤ weighed (entries Short line) counts) → bound ≡ number_at Short line 1
     → KeepsWithin width line counts → IsTrue (le_z (to_z w64 (of_z w64 sum)) (to_z w64 (of_z w64 bound))) ↔ (weighed (entries width line) counts ≤ℤ number_at width line 1)
 short_holds Short line counts sum bound e f g sum_is bound_is keeps =
-    compared w64 sum bound _ _ f g (sum_is ∙ int_wrap_fits w64 (weighed (entries Short line) counts) (fits_signed_from_abs w64 _ (within line counts Short keeps))) bound_is
+    compared w64 sum bound _ _ f g (sum_is ∙ wrap_start w64 (entries Short line) counts ∙ int_wrap_fits w64 (weighed (entries Short line) counts) (fits_signed_from_abs w64 _ (within line counts Short keeps))) bound_is
 short_holds Wide line counts sum bound e f g sum_is bound_is keeps = absurd cc
 
 pub wide_holds : (width : Width) (line counts : List ℕ) (sum bound : ℤ) → width ≡ Wide → FitsSigned w128 sum → FitsSigned w128 bound → sum ≡ int_wrap w128 (pos 0 +ℤ weighed (entries Wide line) counts) → bound ≡ number_at Wide line 1

@@ -1,5 +1,8 @@
 -- How a block is laid out: the lines written so far.
-use Rattle.std.specs.Prelude.{◌≡◌, ℕ, ◌+◌, ◌*◌, ◌^◌, ◌<◌, ◌≤◌, unsigned_abs, All, List, length, take, slice_get, slice_index, slice_range, Some}
+use Rattle.std.specs.Prelude.{◌≡◌, ℕ, ◌+◌, ◌^◌, ◌<◌, ◌≤◌, unsigned_abs, All, List, length, take, slice_get, slice_index, slice_range, Some}
+use Rattle.mpc_exact.specs.Rational.{ℚ}
+use Rattle.mpc_exact.specs.Denominator.{common_denom}
+use Rattle.mpc_linear.specs.Whole.{WholeFits}
 use Rattle.mpc_plant.specs.declared.plants.Plant.{Plant}
 use Rattle.mpc_rows.specs.declared.laws.Law.{Law as LawOfSet}
 use Rattle.mpc_rows.specs.declared.trees.Node.{Node}
@@ -9,8 +12,8 @@ use Rattle.mpc_block.specs.declared.lines.Width.{Width}
 use Rattle.mpc_block.specs.declared.lines.Width.TheVariants.{Short, Wide}
 use Rattle.mpc_controller.specs.Parts.{Parts, limits_of}
 use Rattle.mpc_block.specs.declared.lines.TheConstants.{LAYOUT}
-use Rattle.mpc_block.specs.Words.{words_from}
-use Rattle.mpc_block.specs.Block.{input_line, HasLine, IsFormLine}
+use Rattle.mpc_block.specs.Sums.{greatest}
+use Rattle.mpc_block.specs.Block.{width_of, line_at, whole, input_line, HasLine, IsFormLine}
 
 -- all words before this one are kept
 abbrev pub KeepsBefore : ℕ → List ℕ → List ℕ → Type 0
@@ -20,13 +23,13 @@ KeepsBefore start old new = take start new ≡ take start old
 abbrev pub AreNodesTo : Parts → List ℕ → ℕ → List ℕ → Type 0
 AreNodesTo parts sides k words = (place : ℕ) (node : Node) → place < k → slice_get parts.tree place ≡ Some node → HasLine words parts (slice_index sides place) place node
 
--- the lines of the first inputs of a law, from this word on
-abbrev pub AreInputsTo : Plant → LawOfSet → ℕ → ℕ → List ℕ → Type 0
-AreInputsTo plant law start inputs words = (input : ℕ) → input < inputs → IsFormLine plant law input (words_from words (start + 12 * input) 12)
+-- the lines of the first inputs of a law, from this place on
+abbrev pub AreInputsTo : Parts → LawOfSet → ℕ → ℕ → List ℕ → Type 0
+AreInputsTo parts law place inputs words = (input : ℕ) → input < inputs → IsFormLine parts law input (line_at words (width_of parts) (place + input))
 
 -- the lines of the first k laws
 abbrev pub AreFormsTo : Parts → ℕ → List ℕ → Type 0
-AreFormsTo parts k words = (j : ℕ) (law : LawOfSet) (input : ℕ) → j < k → slice_get parts.laws j ≡ Some law → input < parts.plant.p → IsFormLine parts.plant law input (input_line words parts (j + 1) input)
+AreFormsTo parts k words = (j : ℕ) (law : LawOfSet) (input : ℕ) → j < k → slice_get parts.laws j ≡ Some law → input < parts.plant.p → IsFormLine parts law input (input_line words parts (j + 1) input)
 
 -- the head of a block
 pub record IsHeadLine (plant : Plant) (size nodes laws height each : ℕ) (line : List ℕ) : Type 0 where
@@ -49,3 +52,9 @@ abbrev pub CanHaveLine : Width → Node → Type 0
 CanHaveLine width (Split row) = IsRowFor width row
 CanHaveLine width (LawLeaf law certs) = Unit {0}
 CanHaveLine width (NoMove cert) = Unit {0}
+
+-- the affine form with these coefficients and its numbers fit over its least common denominator, also at this width
+pub record CanHaveForm (width : Width) (form : List ℚ) : Type 0 where
+  pub fits : WholeFits form
+  pub den_small : common_denom form < greatest width
+  pub numbers_small : All (λ z. unsigned_abs z < greatest width) (whole form).k

@@ -6,7 +6,7 @@ use Rattle.mpc_controller.specs.Walk.{Reaches}
 use Rattle.mpc_table.specs.Forms.{AreUpTo}
 use Rattle.mpc_block.specs.declared.walks.Turn.{Turn}
 use Rattle.mpc_block.specs.declared.walks.Turn.TheVariants.{To, End, Bad}
-use Rattle.mpc_block.specs.Block.{width_of, node_start, node_line, IsBlockOf}
+use Rattle.mpc_block.specs.Block.{width_of, line_start, line_at, IsBlockOf}
 
 -- the block is this controller's, and no count is above its limit
 pub record Serves (words counts : List ℕ) (parts : Parts) : Type 0 where
@@ -16,7 +16,7 @@ pub record Serves (words counts : List ℕ) (parts : Parts) : Type 0 where
 -- the node at a place, whose line begins at this word
 pub record StandsAt (parts : Parts) (place start : ℕ) : Type 0 where
   pub inside : place < length parts.tree
-  pub start_is : start ≡ node_start (width_of parts) place
+  pub start_is : start ≡ line_start (width_of parts) place
 
 -- the walk goes on from a place to a node whose line begins at this word, under which the tree is less high
 pub record GoesTo (words counts : List ℕ) (parts : Parts) (block : IsBlockOf words parts) (place start : ℕ) : Type 0 where
@@ -28,7 +28,7 @@ pub record GoesTo (words counts : List ℕ) (parts : Parts) (block : IsBlockOf w
 -- what the walk does at a place
 abbrev pub IsTurn : (words counts : List ℕ) (parts : Parts) → IsBlockOf words parts → ℕ → Turn → Type 0
 IsTurn words counts parts block place (To start) = GoesTo words counts parts block place start
-IsTurn words counts parts block place End = slice_index (node_line words (width_of parts) place) 0 ≡ 0
+IsTurn words counts parts block place End = slice_index (line_at words (width_of parts) place) 0 ≡ 0
 IsTurn words counts parts block place Bad = ⊥
 
 -- after so many turns the walk has come to a node whose line begins at this word
@@ -42,7 +42,7 @@ pub record HasCome (words counts : List ℕ) (parts : Parts) (block : IsBlockOf 
 pub record EndsIn (words counts : List ℕ) (parts : Parts) (start : ℕ) : Type 0 where
   pub place : ℕ
   pub stands : StandsAt parts place start
-  pub zero_is : slice_index (node_line words (width_of parts) place) 0 ≡ 0
+  pub zero_is : slice_index (line_at words (width_of parts) place) 0 ≡ 0
   pub reached : Reaches parts.tree (point_of counts) place
 
 -- the walk ends at this node, counted from 1, which has this law, or none where it is 0; the law's first line begins at this word
@@ -50,7 +50,7 @@ pub record FindsLeaf (words counts : List ℕ) (parts : Parts) (node law start :
   pub place : ℕ
   pub node_is : node ≡ place + 1
   pub inside : place < length parts.tree
-  pub zero_is : slice_index (node_line words (width_of parts) place) 0 ≡ 0
+  pub zero_is : slice_index (line_at words (width_of parts) place) 0 ≡ 0
   pub reached : Reaches parts.tree (point_of counts) place
-  pub law_is : law ≡ slice_index (node_line words (width_of parts) place) 1
-  pub start_is : start ≡ slice_index (node_line words (width_of parts) place) 2
+  pub law_is : law ≡ slice_index (line_at words (width_of parts) place) 1
+  pub start_is : start ≡ slice_index (line_at words (width_of parts) place) 2

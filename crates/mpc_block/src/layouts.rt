@@ -1,25 +1,26 @@
 //! Controllers laid out in words.
 
-ghost use Rattle.std.specs.Prelude.{◌≡◌, ℕ, ◌+◌, ◌-◌, ◌*◌, ◌^◌, ◌<◌, ◌≤◌, ◌↔◌, Err, nat_lt, unsigned_abs, length, take, All, OnOk, MatchOption};
+ghost use Rattle.std.specs.Prelude.{◌≡◌, ℕ, ◌+◌, ◌*◌, ◌^◌, ◌<◌, ◌≤◌, ◌↔◌, Err, Some, length, slice_get, OnOk};
 ghost use Rattle.mpc_linear.specs.declared.integers.RowInt.{RowInt};
+ghost use Rattle.mpc_rows.specs.declared.laws.Law.{Law as LawOfSet};
 ghost use Rattle.mpc_rows.specs.declared.trees.Node.TheVariants.{Split};
-ghost use Rattle.mpc_controller.specs.Bounds.{LawFits, HasSize, reach};
-ghost use Rattle.mpc_controller.specs.Parts.{limits_of, IsLawFor, IsNodeFor};
+ghost use Rattle.mpc_controller.specs.Parts.{limits_of, IsNodeFor};
 ghost use Rattle.mpc_table.specs.Steps.{AreNoSides};
 ghost use Rattle.mpc_block.specs.declared.lines.Width.TheVariants.{Short, Wide};
 ghost use Rattle.mpc_block.specs.Words.{words_from};
-ghost use Rattle.mpc_block.specs.Block.{spans_of, fits_word, width_of, words_each, line_size, node_start, word_after, form_in, block_size, IsNodeLine, IsBlockOf};
-ghost use Rattle.mpc_block.specs.Layouts.{KeepsBefore, IsHeadLine, AreNodesTo, AreInputsTo, AreFormsTo, CanHaveLine};
+ghost use Rattle.mpc_block.specs.Block.{width_of, words_each, line_size, line_start, law_place, word_after, whole, form_in, block_size, IsNodeLine, IsBlockOf};
+ghost use Rattle.mpc_block.specs.Layouts.{KeepsBefore, IsHeadLine, AreNodesTo, AreInputsTo, AreFormsTo, CanHaveLine, CanHaveForm};
 
+use crate::forms::{denominator, numerators};
 use crate::heights::heights;
 use crate::lines::{LAYOUT, LINE, Width, line_size, put_line, short_line, wide_line};
+use crate::widths::width;
 use crate::words::words_of;
 use mpc_controller::{Controller, limits};
-use mpc_frac::NoMemory;
-use mpc_linear::IntAffine;
+use mpc_frac::{Frac, NoMemory};
 use mpc_plant::Plant;
-use mpc_rows::{Law, Node};
-use mpc_table::{no_sides, whole_form};
+use mpc_rows::Node;
+use mpc_table::no_sides;
 use std::alloc::Global;
 
 /// Why a controller isn't laid out.
@@ -28,69 +29,6 @@ pub enum LayoutError {
     /// It needs so many words, which is more than there are.
     NoRoom(u128),
     NoMemory,
-}
-
-/// The greatest counts of a plant's grid, and 1 where that is 0.
-fn spans(plant: &Plant) -> [u64; 4]
-    ensures { take plant.now.n result ≡ spans_of plant.now }
-{
-    let mut spans = [0; 4];
-    for i in 0..plant.grid.len() {
-        spans[i] = plant.grid.at(i).count.max(1);
-    }
-    spans
-}
-
-/// `far + |slope| count`, if it lies below 2^128.
-fn farther(far: u128, slope: i128, count: u64) -> Option<u128>
-    ensures { MatchOption result (2 ^ 127 ≤ far + unsigned_abs slope * count)
-        (λ sum. sum ≡ far + unsigned_abs slope * count) }
-{
-    match slope.unsigned_abs().checked_mul(count as u128) {
-        Some(step) => far.checked_add(step),
-        None => None,
-    }
-}
-
-/// Whether `start + k_1 t_1 + .. + k_n t_n` is formed within 63 bits, whatever the signs.
-fn is_within_word(start: i128, slopes: &[i128], counts: &[u64]) -> bool
-    requires sizes { length slopes.now ≡ length counts.now }
-    ensures { result ≡ nat_lt (unsigned_abs start + reach slopes.now counts.now) (2 ^ 63) }
-{
-    let mut far = start.unsigned_abs();
-    for i in 0..slopes.len() {
-        match farther(far, slopes[i], counts[i]) {
-            Some(sum) => far = sum,
-            None => return false,
-        }
-    }
-    far < 0x8000_0000_0000_0000
-}
-
-/// Whether the row of a node, if it is a split, keeps within 63 bits at such counts.
-fn fits_word(node: &Node, spans: &[u64]) -> bool
-    requires { HasSize (length spans.now) node.now }
-    ensures { result ≡ fits_word spans.now node.now }
-{
-    match node {
-        Node::Split(row) => is_within_word(row.b, row.a.as_slice(), spans),
-        Node::Law { .. } | Node::NoMove { .. } => true,
-    }
-}
-
-/// How many words a number of a controller's rows has.
-fn width(controller: &Controller) -> Width
-    ensures { result ≡ width_of controller.now }
-{
-    let plant = controller.plant();
-    let tree = controller.tree();
-    let spans = spans(plant);
-    for k in 0..tree.len() {
-        if !fits_word(tree.at(k), &spans[..plant.n as usize]) {
-            return Width::Wide;
-        }
-    }
-    Width::Short
 }
 
 /// The line of a node that leads to this word, whose numbers have one word each.
@@ -130,21 +68,22 @@ fn put_node(words: &mut [u64], start: usize, node: &Node, word: u64, width: Widt
     }
 }
 
-/// The word at which the line of a node begins.
-fn node_start(width: Width, place: usize) -> usize
+/// The word at which the line at a place begins.
+fn line_start(width: Width, place: usize) -> usize
     requires { line_size width * place < 2 ^ 63 }
-    ensures { result ≡ node_start width place }
+    ensures { result ≡ line_start width place }
 {
     LINE + line_size(width) * place
 }
 
-/// The word at which the first line of a law begins, if those of the first law begin at `first`.
-fn law_start(first: usize, law: u32, inputs: u32) -> usize
+/// The place of the line of a law's first input.
+fn law_place(controller: &Controller, law: u32) -> usize
     requires from_first { 1 ≤ law }
-    requires small { first + 12 * ((law - 1) * inputs) < 2 ^ 63 }
-    ensures { result ≡ first + 12 * ((law - 1) * inputs) }
+    requires to_last { law ≤ length controller.now.laws }
+    requires small { block_size controller.now < 2 ^ 63 }
+    ensures { result ≡ law_place controller.now law }
 {
-    first + LINE * ((law as usize - 1) * inputs as usize)
+    controller.tree().len() + (law as usize - 1) * controller.plant().p as usize
 }
 
 /// The word to which the line of a node leads.
@@ -156,11 +95,8 @@ fn word_after(controller: &Controller, node: &Node, side: usize, width: Width) -
     ensures { result ≡ word_after controller.now side node.now }
 {
     match node {
-        Node::Split(_) => node_start(width, side) as u64,
-        Node::Law { law, .. } => {
-            let first = node_start(width, controller.tree().len());
-            law_start(first, *law, controller.plant().p) as u64
-        }
+        Node::Split(_) => line_start(width, side) as u64,
+        Node::Law { law, .. } => line_start(width, law_place(controller, *law)) as u64,
         Node::NoMove { .. } => 0,
     }
 }
@@ -177,70 +113,66 @@ fn write_nodes(controller: &Controller, sides: &[usize], width: Width, words: &m
     for k in 0..tree.len() {
         let node = tree.at(k);
         let word = word_after(controller, node, sides[k], width);
-        put_node(words, node_start(width, k), node, word, width);
+        put_node(words, line_start(width, k), node, word, width);
     }
 }
 
-/// The line of a form.
-fn form_line(form: &IntAffine) -> [u64; 12]
-    requires some { 1 ≤ length form.now.k }
-    requires few { length form.now.k ≤ 5 }
-    ensures { (n : ℕ) → length form.now.k ≡ n + 1 → form_in n result ≡ form.now }
-{
-    let k = form.k.as_slice();
-    let (low, high) = words_of(&form.den);
-    wide_line(low, high, &k[0], &k[1..])
-}
-
-/// Writes the lines of a law's inputs, from this word on.
-fn write_forms(
-    alloc: Global,
-    plant: &Plant,
-    law: &Law,
-    limits: &[u64],
-    start: usize,
-    words: &mut [u64],
-) -> Result<(), NoMemory>
-    requires limits { limits.now ≡ limits_of plant.now }
-    requires shape { IsLawFor plant.now law.now }
-    requires fits { LawFits plant.now law.now }
-    requires room { start + 12 * plant.now.p ≤ length words.old }
-    ensures forms { OnOk result (AreInputsTo plant.now law.now start plant.now.p words.new) }
+/// Writes the line of the affine form with these coefficients.
+fn put_form(words: &mut [u64], start: usize, form: &[Frac], width: Width)
+    requires some { 1 ≤ length form.now }
+    requires few { length form.now ≤ 5 }
+    requires fits { CanHaveForm width form.now }
+    requires room { start + line_size width ≤ length words.old }
+    ensures written { (n : ℕ) → length form.now ≡ n + 1
+        → form_in width n (words_from words.new start (line_size width)) ≡ whole form.now }
     ensures kept { KeepsBefore start words.old words.new }
 {
-    prove!(law.moves.cols() as usize == limits.len() + 1);
-    for i in 0..plant.p {
-        let form = whole_form(alloc, law.moves.row(i), limits)?;
-        put_line(words, start + LINE * i as usize, &form_line(&form));
+    let den = denominator(form);
+    let k = numerators(form, den);
+    let others = &k[1..form.len()];
+    match width {
+        Width::Short => put_line(words, start, &short_line(den as u64, &k[0], others)),
+        Width::Wide => {
+            let (low, high) = words_of(&(den as i128));
+            put_line(words, start, &wide_line(low, high, &k[0], others))
+        }
     }
-    Ok(())
 }
 
-/// Writes the lines of all laws' inputs, from the word behind those of the nodes on.
-fn write_laws(
-    alloc: Global,
-    controller: &Controller,
-    limits: &[u64],
-    first: usize,
-    words: &mut [u64],
-) -> Result<(), NoMemory>
-    requires limits { limits.now ≡ limits_of controller.now.plant }
-    requires first { first ≡ node_start (width_of controller.now) (length controller.now.tree) }
+/// Writes the lines of the inputs of law j, from 0.
+fn write_law(controller: &Controller, j: usize, width: Width, words: &mut [u64])
+    requires width { width ≡ width_of controller.now }
+    requires law { j < length controller.now.laws }
     requires room { block_size controller.now ≤ length words.old }
-    ensures forms { OnOk result (AreFormsTo controller.now (length controller.now.laws) words.new) }
-    ensures kept { KeepsBefore first words.old words.new }
+    ensures forms { (law : LawOfSet) → slice_get controller.now.laws j ≡ Some law
+        → AreInputsTo controller.now law (law_place controller.now (j + 1)) controller.now.plant.p words.new }
+    ensures kept { KeepsBefore (line_start width (law_place controller.now (j + 1))) words.old words.new }
 {
-    let plant = controller.plant();
-    let laws = controller.laws();
-    let mut start = first;
-    for j in 0..laws.len() {
-        write_forms(alloc, plant, laws.at(j), limits, start, words)?;
-        start += LINE * plant.p as usize;
+    let law = controller.laws().at(j);
+    let place = law_place(controller, j as u32 + 1);
+    for i in 0..controller.plant().p {
+        put_form(
+            words,
+            line_start(width, place + i as usize),
+            law.moves.row(i),
+            width,
+        );
     }
-    Ok(())
 }
 
-/// How many words a number of a row has.
+/// Writes the lines of all laws' inputs, behind those of the nodes.
+fn write_laws(controller: &Controller, width: Width, words: &mut [u64])
+    requires width { width ≡ width_of controller.now }
+    requires room { block_size controller.now ≤ length words.old }
+    ensures forms { AreFormsTo controller.now (length controller.now.laws) words.new }
+    ensures kept { KeepsBefore (line_start width (length controller.now.tree)) words.old words.new }
+{
+    for j in 0..controller.laws().len() {
+        write_law(controller, j, width, words);
+    }
+}
+
+/// How many words a number has.
 fn words_each(width: Width) -> u64
     ensures { result ≡ words_each width }
 {
@@ -286,7 +218,7 @@ pub fn block_size(controller: &Controller) -> u128
     ensures { result ≡ block_size controller.now }
 {
     let forms = controller.laws().len() as u128 * controller.plant().p as u128;
-    12 + line_size(width(controller)) as u128 * controller.tree().len() as u128 + 12 * forms
+    12 + line_size(width(controller)) as u128 * (controller.tree().len() as u128 + forms)
 }
 
 /// Writes the block of a controller, of so many words. Without memory some of it is written.
@@ -316,8 +248,8 @@ fn write_block(
     );
     put_line(words, 0, &head);
     write_nodes(controller, sides.as_slice(), width, words);
-    let first = node_start(width, tree.len());
-    write_laws(alloc, controller, limits.as_slice(), first, words)
+    write_laws(controller, width, words);
+    Ok(())
 }
 
 /// Lays a controller out in words, for `reply_in`.

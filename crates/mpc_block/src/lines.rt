@@ -11,20 +11,20 @@ ghost use Rattle.mpc_block.specs.Sums.{KeepsWithin};
 
 use crate::words::{number_of, words_of};
 
-/// The layout's name and version, the first word of each block: `mpcblk` and 2.
-pub const LAYOUT: u64 = 0x6d70_6362_6c6b_0002;
+/// The layout's name and version, the first word of each block: `mpcblk` and 3.
+pub const LAYOUT: u64 = 0x6d70_6362_6c6b_0003;
 
-/// How many words the head has, and a line of an input.
+/// How many words the head has, and a line of wide numbers.
 pub const LINE: usize = 12;
 
-/// How many words a number of a row has: one or two.
+/// How many words a number has: one or two.
 #[derive(Clone, Copy, Debug, PartialEq, Eq)]
 pub enum Width {
     Short,
     Wide,
 }
 
-/// How many words the line of a node has.
+/// How many words a line behind the head has.
 #[inline(always)]
 pub fn line_size(width: Width) -> usize
     ensures { result ≡ line_size width }
@@ -48,6 +48,17 @@ pub fn part(words: &[u64], start: u64, size: usize) -> Option<&[u64]>
     Some(&words[start..start + size])
 }
 
+/// The line i of these.
+#[inline(always)]
+pub fn line_of(lines: &[u64], i: usize, width: Width) -> &[u64]
+    requires { line_size width * (i + 1) ≤ length lines.now }
+    ensures line { result.now ≡ words_from lines.now (line_size width * i) (line_size width) }
+    ensures size { length result.now ≡ line_size width }
+{
+    let size = line_size(width);
+    &lines[size * i..size * i + size]
+}
+
 /// The number i, of two words, of a line.
 #[inline(always)]
 pub fn number(line: &[u64], i: usize) -> i128
@@ -65,14 +76,14 @@ fn short_step(sum: i64, entry: u64, count: u64) -> i64
     sum.wrapping_add(entry.cast_signed().wrapping_mul(count.cast_signed()))
 }
 
-/// The row's sum at the counts, modulo 2^64.
+/// `start` and the sum at the counts, modulo 2^64.
 #[inline(always)]
-fn short_sum(line: &[u64], counts: &[u64]) -> i64
+pub fn short_sum(start: i64, line: &[u64], counts: &[u64]) -> i64
     requires size { length line.now ≡ 6 }
     requires few { length counts.now ≤ 4 }
-    ensures { result ≡ int_wrap w64 (weighed (entries Short line.now) counts.now) }
+    ensures { result ≡ int_wrap w64 (start +ℤ weighed (entries Short line.now) counts.now) }
 {
-    let mut sum = 0;
+    let mut sum = start;
     for i in 0..counts.len() {
         sum = short_step(sum, line[2 + i], counts[i]);
     }
@@ -87,7 +98,7 @@ fn wide_step(sum: i128, entry: i128, count: u64) -> i128
     sum.wrapping_add(entry.wrapping_mul(i128::from(count)))
 }
 
-/// `start` and the row's sum at the counts, modulo 2^128.
+/// `start` and the sum at the counts, modulo 2^128.
 #[inline(always)]
 pub fn wide_sum(start: i128, line: &[u64], counts: &[u64]) -> i128
     requires size { length line.now ≡ 12 }
@@ -110,7 +121,7 @@ pub fn holds(line: &[u64], counts: &[u64], width: Width) -> bool
         → IsTrue result ↔ (weighed (entries width line.now) counts.now ≤ℤ number_at width line.now 1) }
 {
     match width {
-        Width::Short => short_sum(line, counts) <= line[1].cast_signed(),
+        Width::Short => short_sum(0, line, counts) <= line[1].cast_signed(),
         Width::Wide => wide_sum(0, line, counts) <= number(line, 1),
     }
 }
@@ -123,17 +134,17 @@ fn word_of(number: &i128) -> u64
     (*number as i64).cast_unsigned()
 }
 
-/// The line of a split with this first word, the bound of its row and its entries, of one word each.
-pub fn short_line(first: u64, bound: &i128, entries: &[i128]) -> [u64; 6]
-    requires few { length entries.now ≤ 4 }
-    requires bound { unsigned_abs bound.now < 2 ^ 63 }
-    requires small { All (λ z. unsigned_abs z < 2 ^ 63) entries.now }
+/// The line that begins with a word, and then has the numbers, of one word each.
+pub fn short_line(first: u64, lead: &i128, others: &[i128]) -> [u64; 6]
+    requires few { length others.now ≤ 4 }
+    requires lead { unsigned_abs lead.now < 2 ^ 63 }
+    requires small { All (λ z. unsigned_abs z < 2 ^ 63) others.now }
     ensures first { slice_index result 0 ≡ first }
-    ensures numbers { take (length entries.now + 1) (numbers_in Short result) ≡ bound.now ∷ entries.now }
+    ensures numbers { take (length others.now + 1) (numbers_in Short result) ≡ lead.now ∷ others.now }
 {
-    let mut line = [first, word_of(bound), 0, 0, 0, 0];
-    for i in 0..entries.len() {
-        line[2 + i] = word_of(&entries[i]);
+    let mut line = [first, word_of(lead), 0, 0, 0, 0];
+    for i in 0..others.len() {
+        line[2 + i] = word_of(&others[i]);
     }
     line
 }

@@ -90,8 +90,8 @@ fn replies_from_a_block(rt: HostRuntime) -> Result<(), Fail> {
     let Ok(controller) = read_file(rt.alloc(), TANK) else {
         return Err("file")?;
     };
-    assert_eq!(rt; block_size(&controller), 102);
-    let mut words = [0; 102];
+    assert_eq!(rt; block_size(&controller), 72);
+    let mut words = [0; 72];
     assert!(rt; lay_out(rt.alloc(), &controller, &mut words).is_ok());
     for count in 0..10 {
         assert!(rt; is_right(&words, count), "at {count}");
@@ -104,7 +104,7 @@ fn replies_from_a_block(rt: HostRuntime) -> Result<(), Fail> {
         );
         assert_eq!(rt;
             lay_out(rt.alloc(), &controller, &mut words[..end]),
-            Err(LayoutError::NoRoom(102))
+            Err(LayoutError::NoRoom(72))
         );
     }
     Ok(())

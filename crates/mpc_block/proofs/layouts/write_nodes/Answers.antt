@@ -14,6 +14,6 @@ loop-k-preserved c =
     let node = c.at-node.result.now in
     let at : slice_get c.args.controller.now.tree c.loop-k.k ≡ Some node = subst (λ t. slice_get t c.loop-k.k ≡ Some node) c.tree-tree.ensures.value c.at-node.ensures in
     record {
-      nodes = node_more c.args.controller.now c.args.sides.now c.loop-k.words c.put_node.new.words c.loop-k.k c.node_start.result c.word_after-word.result c.args.width node at c.requires.width c.node_start.ensures c.word_after-word.ensures c.put_node.ensures.written c.put_node.ensures.kept c.loop-k.invariant.nodes;
-      kept = kept_twice c.args.words.now c.loop-k.words c.put_node.new.words 12 c.node_start.result (omega (arith, c.node_start.ensures)) c.loop-k.invariant.kept c.put_node.ensures.kept;
+      nodes = node_more c.args.controller.now c.args.sides.now c.loop-k.words c.put_node.new.words c.loop-k.k c.line_start.result c.word_after-word.result c.args.width node at c.requires.width c.line_start.ensures c.word_after-word.ensures c.put_node.ensures.written c.put_node.ensures.kept c.loop-k.invariant.nodes;
+      kept = kept_twice c.args.words.now c.loop-k.words c.put_node.new.words 12 c.line_start.result (omega (arith, c.line_start.ensures)) c.loop-k.invariant.kept c.put_node.ensures.kept;
     }

@@ -4,4 +4,4 @@ use Rattle.mpc_block.proofs.LineLemmas.{numbers_of}
 use Rattle.mpc_block.proofs.lines.short_line.Goals as goal
 
 pub returns-clause-numbers : goal.returns-clause-numbers
-returns-clause-numbers c = numbers_of Short c.loop-i.line c.args.bound.now c.args.entries.now c.requires.few c.loop-i.invariant.lead (λ k lt. c.loop-i.invariant.others k (omega (arith, lt, c.loop-i-test.false)))
+returns-clause-numbers c = numbers_of Short c.loop-i.line c.args.lead.now c.args.others.now c.requires.few c.loop-i.invariant.lead (λ k lt. c.loop-i.invariant.others k (omega (arith, lt, c.loop-i-test.false)))

@@ -8,6 +8,6 @@ abbrev pub invariant-loop-i : goal.invariant-loop-i
 invariant-loop-i l = record {
   size : length l.line ≡ 6;
   first : slice_index l.line 0 ≡ l.first;
-  lead : number_at Short l.line 1 ≡ l.bound;
-  others : (k : ℕ) → k < l.i → number_at Short l.line (2 + k) ≡ get_or l.entries k (pos 0);
+  lead : number_at Short l.line 1 ≡ l.lead;
+  others : (k : ℕ) → k < l.i → number_at Short l.line (2 + k) ≡ get_or l.others k (pos 0);
 }

@@ -1,13 +1,14 @@
-use Rattle.std.proofs.Common.{rules, ◌<◌, pos, ◌+ℤ◌, ◌*ℤ◌, FitsSigned, to_z, get_or, sym, ◌∙◌, ap, arith}
+use Rattle.std.proofs.Common.{rules, ◌<◌, pos, ◌+ℤ◌, ◌*ℤ◌, FitsSigned, to_z, get_or, refl, sym, ◌∙◌, ap, arith}
 use Rattle.std.specs.Int.{int_wrap, w64}
+use Rattle.mpc_table.specs.Forms.{weighed}
 use Rattle.mpc_block.specs.declared.lines.Width.TheVariants.{Short}
 use Rattle.mpc_block.specs.Words.{entries}
 use Rattle.std.proofs.lemmas.Int.{to_z-of_z}
-use Rattle.mpc_block.proofs.WrapLemmas.{wrap_start, wrap_step, wrap_end, entry_is}
+use Rattle.mpc_block.proofs.WrapLemmas.{wrap_step, wrap_end, entry_is}
 use Rattle.mpc_block.proofs.lines.short_sum.Goals as goal
 
 pub loop-i-init : goal.loop-i-init
-loop-i-init c = wrap_start w64 (entries Short c.args.line.now) c.args.counts.now
+loop-i-init c = refl
 
 pub loop-i-preserved : goal.loop-i-preserved
 loop-i-preserved c =
@@ -23,3 +24,4 @@ pub returns : goal.returns
 returns c =
     let f : FitsSigned w64 (to_z w64 c.loop-i.sum-bits) = search rules in
     wrap_end w64 (entries Short c.args.line.now) c.args.counts.now c.loop-i.i (to_z w64 c.loop-i.sum-bits) _ c.loop-i-test.false f c.loop-i.invariant
+    ∙ ap (λ s. int_wrap w64 (s +ℤ weighed (entries Short c.args.line.now) c.args.counts.now)) (to_z-of_z w64 c.args.start c.ranges.start)

@@ -18,7 +18,7 @@ returns-in-Some-2-clause-reply c = λ parts suits width_is.
     let finds = c.in-Some-find_leaf.ensures parts s width_is in
     let leads = law_begins c.args.words.now c.args.counts.now _ parts suits none leaf.node leaf.law leaf.start finds c.if-leaf-eq0.false in
     moves_reply c.args.words.now c.args.counts.now _ parts suits none leaf.node leaf.law leaf.start finds c.if-leaf-eq0.false c.write_moves.new.moves (c.write_moves.auto.moves ∙ suits.room_each) c.table_theorems.ensures.moves_each_input
-    (λ of_set numbered. (c.if-write_moves.ensures.written parts of_set leaf.law s suits.room_each leads.0 numbered leads.1).1)
+    (λ of_set numbered. (c.if-write_moves.ensures.written parts of_set leaf.law s width_is suits.room_each leads.0 numbered leads.1).1)
 
 pub returns-in_default-find_leaf-clause-reply : goal.returns-in_default-find_leaf-clause-reply
 returns-in_default-find_leaf-clause-reply c = λ parts suits width_is.
@@ -28,7 +28,7 @@ returns-in_default-find_leaf-clause-reply c = λ parts suits width_is.
     let finds = c.in-Some-find_leaf.ensures parts s width_is in
     let leads = law_begins c.args.words.now c.args.counts.now _ parts suits none leaf.node leaf.law leaf.start finds c.if-leaf-eq0.false in
     let named = named_law c.args.words.now c.args.counts.now _ parts suits none leaf.node leaf.law leaf.start finds c.if-leaf-eq0.false in
-    let no = (c.if-write_moves.ensures.written parts named.0 leaf.law s suits.room_each leads.0 named.1 leads.1).0 in
+    let no = (c.if-write_moves.ensures.written parts named.0 leaf.law s width_is suits.room_each leads.0 named.1 leads.1).0 in
     cc
 
 pub returns-in_default-find_leaf-2-clause-reply : goal.returns-in_default-find_leaf-2-clause-reply

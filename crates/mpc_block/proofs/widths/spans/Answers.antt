@@ -2,7 +2,7 @@ use Rattle.std.proofs.Common.{◌∙◌, arith}
 use Rattle.std.proofs.lemmas.List.{length-set, length-map}
 use Rattle.mpc_plant.specs.declared.lists.Coordinate.{Coordinate}
 use Rattle.mpc_block.proofs.WidthLemmas.{span_more, same_list}
-use Rattle.mpc_block.proofs.layouts.spans.Goals as goal
+use Rattle.mpc_block.proofs.widths.spans.Goals as goal
 
 pub loop-i-preserved : goal.loop-i-preserved
 loop-i-preserved c =

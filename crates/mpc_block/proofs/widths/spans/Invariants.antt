@@ -1,6 +1,6 @@
 use Rattle.std.proofs.Common.{◌≡◌, ℕ, ◌<◌, get_or, length}
 use Rattle.mpc_block.specs.Block.{spans_of}
-use Rattle.mpc_block.proofs.layouts.spans.Given as goal
+use Rattle.mpc_block.proofs.widths.spans.Given as goal
 
 abbrev pub invariant-loop-i : goal.invariant-loop-i
 invariant-loop-i l = record {

@@ -1,0 +1,9 @@
+use Rattle.std.proofs.Common.{arith}
+use Rattle.mpc_linear.proofs.WholeLemmas.{lcm_from}
+use Rattle.mpc_block.proofs.forms.least_multiple.Goals as goal
+
+pub overflow_mul-result : goal.overflow_mul-result
+overflow_mul-result c = omega (arith, lcm_from c.args.a c.args.b c.greatest_common_divisor.result c.greatest_common_divisor.ensures.value, c.requires.small)
+
+pub returns : goal.returns
+returns c = lcm_from c.args.a c.args.b c.greatest_common_divisor.result c.greatest_common_divisor.ensures.value

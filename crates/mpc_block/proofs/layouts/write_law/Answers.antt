@@ -1,0 +1,46 @@
+use Rattle.std.proofs.Common.{◌≡◌, ℕ, ◌+◌, ◌<◌, List, length, Some, sym, ◌∙◌, ap, subst, arith}
+use Rattle.std.specs.Prelude.{slice_get}
+use Rattle.mpc_rows.specs.declared.laws.Law.{Law as LawOfSet}
+use Rattle.mpc_controller.specs.Parts.{Parts}
+use Rattle.mpc_controller.specs.Bounds.{IsController}
+use Rattle.mpc_block.specs.declared.lines.Width.{Width}
+use Rattle.mpc_plant.specs.declared.plants.Plant.{Plant}
+use Rattle.mpc_controller.specs.Bounds.{first_move_form}
+use Rattle.mpc_block.specs.Words.{words_from}
+use Rattle.mpc_block.specs.Block.{width_of, line_size, line_start, law_place, whole, form_in}
+use Rattle.mpc_block.specs.Layouts.{KeepsBefore, CanHaveForm}
+use Rattle.mpc_block.proofs.WidthLemmas.{KeepsForm, keeps_form}
+use Rattle.mpc_block.proofs.LayoutLemmas.{input_more, line_inside, starts_mono, kept_twice}
+use Rattle.mpc_block.proofs.layouts.write_law.Goals as goal
+
+keeps : (parts : Parts) → IsController parts.plant parts.laws parts.tree → (width : Width) → width ≡ width_of parts → (plant : Plant) → plant ≡ parts.plant → (laws : List LawOfSet) → laws ≡ parts.laws → (j : ℕ) (law : LawOfSet) → slice_get laws j ≡ Some law → (input : ℕ) → input < plant.p
+    → KeepsForm width parts.plant (first_move_form law input)
+keeps parts ok width is plant plant_is laws laws_are j law at input below = keeps_form parts ok width is j law (subst (λ l. slice_get l j ≡ Some law) laws_are at) input (subst (λ (p : Plant). input < p.p) plant_is below)
+
+pub put_form-requires-clause-fits : goal.put_form-requires-clause-fits
+put_form-requires-clause-fits c = subst (CanHaveForm c.args.width) (sym c.row.ensures)
+    (keeps c.args.controller.now c.laws.ensures.controller c.args.width c.requires.width c.plant.result.now c.plant.ensures.value c.laws.result.now c.laws.ensures.value c.args.j c.at-law.result.now c.at-law.ensures c.loop-i.i c.loop-i-test.true).can_have
+
+pub put_form-requires-clause-room : goal.put_form-requires-clause-room
+put_form-requires-clause-room c =
+    let width = c.args.width in
+    let below : c.loop-i.i < c.args.controller.now.plant.p = subst (λ (p : Plant). c.loop-i.i < p.p) c.plant.ensures.value c.loop-i-test.true in
+    let start_is : c.line_start.result ≡ line_start width (law_place c.args.controller.now (c.args.j + 1) + c.loop-i.i) = c.line_start.ensures ∙ ap (λ place. line_start width (place + c.loop-i.i)) c.law_place-place.ensures in
+    omega (arith, start_is, line_inside c.args.controller.now width c.args.j c.loop-i.i c.requires.width c.requires.law below, c.requires.room, c.loop-i.auto.words)
+
+pub loop-i-preserved : goal.loop-i-preserved
+loop-i-preserved c =
+    let parts = c.args.controller.now in
+    let width = c.args.width in
+    let law = c.at-law.result.now in
+    let i = c.loop-i.i in
+    let place = law_place parts (c.args.j + 1) in
+    let new = c.put_form.new.words in
+    let start_is : c.line_start.result ≡ line_start width (place + i) = c.line_start.ensures ∙ ap (λ place. line_start width (place + i)) c.law_place-place.ensures in
+    let size = (keeps parts c.laws.ensures.controller width c.requires.width c.plant.result.now c.plant.ensures.value c.laws.result.now c.laws.ensures.value c.args.j law c.at-law.ensures i c.loop-i-test.true).size in
+    let written : form_in width parts.plant.n (words_from new c.line_start.result (line_size width)) ≡ whole (first_move_form law i) = c.put_form.ensures.written parts.plant.n (ap length c.row.ensures ∙ size) ∙ ap whole c.row.ensures in
+    let kept : KeepsBefore (line_start width (place + i)) c.loop-i.words new = subst (λ start. KeepsBefore start c.loop-i.words new) start_is c.put_form.ensures.kept in
+    record {
+      forms = input_more parts width c.requires.width c.loop-i.words new law place i (subst (λ start. form_in width parts.plant.n (words_from new start (line_size width)) ≡ whole (first_move_form law i)) start_is written) kept c.loop-i.invariant.forms;
+      kept = kept_twice c.args.words.now c.loop-i.words new (line_start width place) (line_start width (place + i)) (starts_mono width place (place + i) (omega arith)) c.loop-i.invariant.kept kept;
+    }
