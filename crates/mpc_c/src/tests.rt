@@ -159,7 +159,7 @@ fn lays_out(rt: HostRuntime) -> Result<(), Fail> {
     let mut words = 0;
     let moving = file(alloc, "1", "-1 1", "1")?;
     assert_eq!(rt; mpc_table_size(alloc, moving.as_bytes(), &mut words), 0);
-    assert_eq!(rt; words, 30);
+    assert_eq!(rt; words, 24);
     assert_eq!(rt; mpc_table_size(alloc, b"mpc 4\n", &mut words), 6);
     assert_eq!(rt; words, 0);
     assert_eq!(rt;
@@ -172,16 +172,16 @@ fn lays_out(rt: HostRuntime) -> Result<(), Fail> {
     );
     assert_eq!(rt; words, 0);
     assert_eq!(rt;
-        mpc_table_load(alloc, moving.as_bytes(), 0, &mut block[..29], &mut words),
+        mpc_table_load(alloc, moving.as_bytes(), 0, &mut block[..23], &mut words),
         32
     );
-    assert_eq!(rt; words, 30);
+    assert_eq!(rt; words, 24);
     assert_eq!(rt; block, [0; 50]);
     assert_eq!(rt;
         mpc_table_load(alloc, moving.as_bytes(), 0, &mut block, &mut words),
         0
     );
-    assert_eq!(rt; words, 30);
+    assert_eq!(rt; words, 24);
     assert_eq!(rt; block[0], mpc_layout_version());
     let mut moves = [NONE];
     assert_eq!(rt; mpc_reply(&block, &[1], &mut moves), 0);
