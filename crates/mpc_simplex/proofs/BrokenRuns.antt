@@ -15,7 +15,7 @@ use Rattle.mpc_simplex.proofs.Decided.{ended-refuted, ended-no_point}
 use Rattle.mpc_simplex.proofs.KeptWidths.{AreWide, same_widths, broken_width}
 use Rattle.mpc_simplex.proofs.LastTurn.{has_point_there}
 
-module _ (laws : SystemTheorems) (s t : LinearSystem) (view : s ≡ t) (w : AreWide s) (row : RowInt) (size : length row.a ≡ t.width) (found : Option Broken) (ends : IfSome found (IsBroken (lengthened s (broken_row row ∷ [])))) where
+module _ (theorems : SystemTheorems) (s t : LinearSystem) (view : s ≡ t) (w : AreWide s) (row : RowInt) (size : length row.a ≡ t.width) (found : Option Broken) (ends : IfSome found (IsBroken (lengthened s (broken_row row ∷ [])))) where
   longer : LinearSystem
   longer = lengthened s (broken_row row ∷ [])
 
@@ -36,7 +36,7 @@ module _ (laws : SystemTheorems) (s t : LinearSystem) (view : s ≡ t) (w : AreW
     run_wide = same_widths longer wide run (sym point.0)
 
     pub broken_point : (run ≡ lengthened t (broken_row row ∷ [])) × HasPoint (lengthened t (broken_row row ∷ []))
-    broken_point = (point.0 ∙ same, subst HasPoint same (has_point_there longer laws wide point.1))
+    broken_point = (point.0 ∙ same, subst HasPoint same (has_point_there longer theorems wide point.1))
 
   module _ (m : List ℚ) (is : found ≡ Some (Refuted m)) where
     refuted : EndsRefuted longer m
@@ -44,7 +44,7 @@ module _ (laws : SystemTheorems) (s t : LinearSystem) (view : s ≡ t) (w : AreW
     refuted = subst (λ o. IfSome o (IsBroken (lengthened s (broken_row row ∷ [])))) is ends
 
     pub unbroken_refuted : Refutes (lengthened t (broken_row row ∷ [])) m
-    unbroken_refuted = subst (λ z. Refutes z m) same (ended-refuted laws longer wide m refuted)
+    unbroken_refuted = subst (λ z. Refutes z m) same (ended-refuted theorems longer wide m refuted)
 
     pub unbroken_no_point : ¬ HasPoint (lengthened t (broken_row row ∷ []))
-    unbroken_no_point = subst (λ z. ¬ HasPoint z) same (ended-no_point laws longer wide m refuted)
+    unbroken_no_point = subst (λ z. ¬ HasPoint z) same (ended-no_point theorems longer wide m refuted)

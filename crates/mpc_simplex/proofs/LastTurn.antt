@@ -34,12 +34,12 @@ module _ (s : LinearSystem) where
   are_multipliers : (row : ℕ) → IsMultipliers s (last_position s) row (listed (height s) (multiplier s (last_position s) row))
   are_multipliers row = record { size = length-listed (height s) (multiplier s (last_position s) row); at = coordinate-listed (height s) (multiplier s (last_position s) row) }
 
-  module _ (laws : SystemTheorems) (w : HasWidth s.width s.rows) where
+  module _ (theorems : SystemTheorems) (w : HasWidth s.width s.rows) where
     pub has_point_there : turn s (last_position s) ≡ has_point → HasPoint s
-    has_point_there h = laws.point_of_pairs s pairs (ended-point laws s w pairs (record { ends = h; values = are_values }))
+    has_point_there h = theorems.point_of_pairs s pairs (ended-point theorems s w pairs (record { ends = h; values = are_values }))
 
     no_point_there : IsRefuted s → ¬ HasPoint s
-    no_point_there r = ended-no_point laws s w (listed (height s) (multiplier s (last_position s) r.row)) (record { row = r.row; ends = r.ends; multipliers = are_multipliers r.row })
+    no_point_there r = ended-no_point theorems s w (listed (height s) (multiplier s (last_position s) r.row)) (record { row = r.row; ends = r.ends; multipliers = are_multipliers r.row })
 
     pub decides : (b : Bool) → (IsTrue b → turn s (last_position s) ≡ has_point) → (b ≡ false → IsRefuted s) → IsTrue b ↔ HasPoint s
     decides true point refuted = (λ t. has_point_there (point t), λ h. refl)

@@ -53,10 +53,10 @@ module _ (s : LinearSystem) (n : ℕ) (seats : List Seat) (sides : List ℕ) (a 
   second_start l = second_unknowns s p x s.width (omega arith) ∙ to_start (λ y. (rest s y).second) l
 
   pub fits_start : ZeroTheorems → (z : ℕ) → z < reached n sides 0 → p.is_basic z ≡ false → TermFits s p x z
-  fits_start laws z b f = by (cases_lt z s.width)
+  fits_start theorems z b f = by (cases_lt z s.width)
     where
       by : (z < s.width) ⊎ (s.width ≤ z) → TermFits s p x z
-      by (inl h) = unknown_fits s p x laws z h
+      by (inl h) = unknown_fits s p x theorems z h
       by (inr h) = absurd (both_ways (p.is_basic z) f (same z ∙ gap_first s.width n seats sides a z h b))
 
   -- ---- one side on

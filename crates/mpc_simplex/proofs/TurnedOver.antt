@@ -29,7 +29,7 @@ module _ (x : ℚ) (some : x ≢ int (pos 0)) where
       regroup x d n i e f = by_ring (x ∷ d ∷ i ∷ []) (search reads depth 30) (search reads depth 30) tt ∙ ap (λ u. u *ℚ i) e ∙ f
 
   pub turned_fits : FitTheorems → FitsFrac x → FitsFrac (quotient (pos x.denom) x.numer)
-  turned_fits laws h = subst (λ (z : ℚ). FitsFrac z) (sym turned_is) (laws.inverse x some h)
+  turned_fits theorems h = subst (λ (z : ℚ). FitsFrac z) (sym turned_is) (theorems.inverse x some h)
 
   module _ (n d : ℤ) (en : n ≡ x.numer) (ed : d ≡ pos x.denom) where
     pub made_is : quotient d n ≡ inv_ℚ x
@@ -37,8 +37,8 @@ module _ (x : ℚ) (some : x ≢ int (pos 0)) where
 
     -- so neither error comes
     pub made_always : FitTheorems → FitsFrac x → (r : Result ℚ FracError) → ((r ≡ Err ZeroDenominator) ↔ (n ≡ pos 0)) → ((r ≡ Err Wide) ↔ ((n ≢ pos 0) × (¬ FitsFrac (quotient d n)))) → (e : FracError) → r ≡ Err e → ⊥
-    made_always laws h r zero wide ZeroDenominator e = numer_some (sym en ∙ zero.0 e)
-    made_always laws h r zero wide Wide e = (wide.0 e).1 (subst (λ (z : ℚ). FitsFrac z) (sym (λ i. quotient (ed i) (en i))) (turned_fits laws h))
+    made_always theorems h r zero wide ZeroDenominator e = numer_some (sym en ∙ zero.0 e)
+    made_always theorems h r zero wide Wide e = (wide.0 e).1 (subst (λ (z : ℚ). FitsFrac z) (sym (λ i. quotient (ed i) (en i))) (turned_fits theorems h))
 
 -- whether a number is 0
 both_zero : (x : ℚ) → x ≡ int (pos 0) → is_zero x ≡ true

@@ -1,4 +1,5 @@
 pub mod Answer
 pub mod Nonbasic
+pub mod Room
 pub mod RunTheorems
 pub mod Broken

@@ -8,6 +8,7 @@ ghost use Rattle.mpc_rows.specs.Run.{value, multiplier, may_leave, may_enter, op
 ghost use Rattle.mpc_rows.specs.RunWidth.{ValueFits, ValuesFit, RunFits};
 ghost use Rattle.mpc_whole.specs.Table.{seat_at, in_row, IsSeated, HasShape, IsTable, position_of, opening_seat, IsOpeningSeats, IsOpeningEntries};
 ghost use Rattle.mpc_simplex.specs.Nonbasic.{AreNonbasicSides};
+ghost use Rattle.mpc_simplex.specs.Room.{HasRoom};
 ghost use Rattle.mpc_simplex.specs.Answer.{IsValues, IsMultipliers, IsRunEnd, IfWide};
 
 use crate::nonbasic::nonbasic_sides;
@@ -242,26 +243,50 @@ fn multipliers(
     }
 }
 
+/// Room for a row of coefficients, the nonbasic sides, the values of the unknowns and the multipliers
+/// of the rows.
+#[derive(Drop)]
+struct Room {
+    row: Vec<Frac>,
+    sides: Vec<usize>,
+    values: Vec<Standing>,
+    multipliers: Vec<Frac>,
+}
+
+impl Room {
+    /// Room for the run of a system.
+    fn new(alloc: Global, system: &System) -> Result<Self, AllocError>
+        ensures { IfOk result (HasRoom system.now) }
+    {
+        Ok(Self {
+            row: zeros(alloc, system.unknowns())?,
+            sides: vec![in alloc; 0; system.unknowns()]?,
+            values: zero_pairs(alloc, system.unknowns())?,
+            multipliers: zeros(alloc, system.height())?,
+        })
+    }
+}
+
 /// The run from the opening to its end, which takes no memory.
 fn run(
     system: &System,
     mut seats: Vec<Seat>,
     mut entries: Vec<Frac>,
-    mut row: Vec<Frac>,
-    mut sides: Vec<usize>,
-    mut values: Vec<Standing>,
-    mut list: Vec<Frac>,
+    room: Room,
     n: usize,
 ) -> Result<Decision, Wide>
     requires table { IsTable system.now n seats.items entries.items }
-    requires row_size { length row.items ≡ system.now.width }
-    requires sides_size { length sides.items ≡ system.now.width }
-    requires values_size { length values.items ≡ system.now.width }
-    requires list_size { length list.items ≡ height system.now }
+    requires room { HasRoom system.now room }
     requires opens { position_of system.now.width seats.items entries.items ≡ opening system.now }
     ensures end { IfOk result (λ d. IsRunEnd system.now d) }
     ensures wide { MatchResult result (λ _. RunFits system.now) (λ _. ¬ RunFits system.now) }
 {
+    let Room {
+        mut row,
+        mut sides,
+        mut values,
+        multipliers: mut list,
+    } = room;
     let height = system.height();
     let width = system.unknowns();
     'steps: loop {
@@ -293,13 +318,6 @@ fn opening_entries(alloc: Global, system: &System) -> Result<Vec<Frac>, AllocErr
     Ok(entries)
 }
 
-/// Room for so many places of variables.
-fn places(alloc: Global, n: usize) -> Result<Vec<usize>, AllocError>
-    ensures { IfOk result (λ t. length t.items ≡ n) }
-{
-    vec![in alloc; 0; n]
-}
-
 /// The run's end: in whole numbers where they serve for it, else in fractions. Each takes its memory
 /// before its first step.
 ///
@@ -326,19 +344,10 @@ pub(crate) fn run_end(alloc: Global, system: &System) -> Result<Decision, Simple
     let Ok(entries) = opening_entries(alloc, system) else {
         return Err(SimplexError::NoMemory);
     };
-    let Ok(row) = zeros(alloc, system.unknowns()) else {
+    let Ok(room) = Room::new(alloc, system) else {
         return Err(SimplexError::NoMemory);
     };
-    let Ok(sides) = places(alloc, system.unknowns()) else {
-        return Err(SimplexError::NoMemory);
-    };
-    let Ok(values) = zero_pairs(alloc, system.unknowns()) else {
-        return Err(SimplexError::NoMemory);
-    };
-    let Ok(list) = zeros(alloc, system.height()) else {
-        return Err(SimplexError::NoMemory);
-    };
-    match run(system, seats, entries, row, sides, values, list, n) {
+    match run(system, seats, entries, room, n) {
         Ok(decision) => Ok(decision),
         Err(_) => Err(SimplexError::Wide),
     }

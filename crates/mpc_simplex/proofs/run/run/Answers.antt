@@ -21,10 +21,10 @@ pub steps-init : goal.steps-init
 steps-init c = record {
   going = going_opening c.args.system.now (position_of c.args.system.now.width c.args.seats.items c.args.entries.items) c.requires.opens;
   table = c.requires.table;
-  row = c.requires.row_size;
-  sides = c.requires.sides_size;
-  values = c.requires.values_size;
-  list = c.requires.list_size;
+  row = c.requires.room.row;
+  sides = c.requires.room.sides;
+  values = c.requires.room.values;
+  list = c.requires.room.multipliers;
 }
 
 whole : (c : After-deref-in-steps) → count c.args.system.now ≡ c.args.n
