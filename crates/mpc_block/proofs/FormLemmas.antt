@@ -1,15 +1,39 @@
 -- Affine forms over their least common denominators.
-use Rattle.std.proofs.Common.{◌≡◌, ℕ, suc, ◌+◌, ◌-◌, ◌<◌, ◌≤◌, ℤ, pos, unsigned_abs, List, [], ◌∷◌, length, get_or, take, sym, ◌∙◌, ap, subst, arith}
+use Rattle.std.proofs.Common.{◌≡◌, ℕ, zero, suc, ◌+◌, ◌-◌, ◌*◌, ◌/◌, ◌<◌, ◌≤◌, ℤ, pos, unsigned_abs, List, [], ◌∷◌, ◌++◌, length, get_or, map, take, sym, ◌∙◌, ap, subst, arith}
 use Rattle.std.specs.Prelude.{All, slice_range}
-use Rattle.std.proofs.lemmas.List.{length-map}
+use Rattle.std.proofs.lemmas.List.{length-map, map_more, take_more}
+use native.Mathlib.Nat.{le_of_dvd}
+use Rattle.mpc_exact.specs.Gcd.{gcd, lcm}
 use Rattle.mpc_exact.specs.Rational.{ℚ}
-use Rattle.mpc_exact.specs.Denominator.{common_denom}
+use Rattle.mpc_exact.specs.Denominator.{common_denom, IsCommonDenom}
+use Rattle.mpc_exact.proofs.Denominator.{common_denom_is, common_denom_least, common_denom-positive, common_denom-last}
 use Rattle.mpc_linear.specs.Whole.{scaled}
 use Rattle.mpc_controller.specs.Bounds.{reach}
 use Rattle.mpc_block.specs.declared.lines.Width.{Width}
 use Rattle.mpc_block.specs.Words.{number_at, numbers_in}
 use Rattle.mpc_block.specs.Block.{whole, form_in}
 use Rattle.mpc_block.proofs.SumLemmas.{first_of_taken}
+
+-- ---- the least multiple, from the divisor that was found
+pub lcm_from : (a b g : ℕ) → g ≡ gcd a b → a / g * b ≡ lcm a b
+unfolding lcm
+lcm_from a b g e = ap (λ d. a / d * b) e
+
+-- ---- a least common denominator and the numerators, fraction by fraction
+common_prefix : (n k : ℕ) (form : List ℚ) → IsCommonDenom n form → IsCommonDenom n (take k form)
+common_prefix n zero form h = tt
+common_prefix n (suc k) [] h = tt
+common_prefix n (suc k) (x ∷ xs) h = (h.0, common_prefix n k xs h.1)
+
+pub prefix_below : (form : List ℚ) (k : ℕ) → common_denom (take k form) ≤ common_denom form
+prefix_below form k = le_of_dvd (common_denom-positive form) (common_denom_least (common_denom form) (take k form) (common_prefix (common_denom form) k form (common_denom_is form)))
+
+pub next_denom : (form : List ℚ) (k all den : ℕ) (x : ℚ) → k < length form → all ≡ common_denom (take k form) → x ≡ get_or form k x → den ≡ x.denom → lcm all den ≡ common_denom (take (k + 1) form)
+next_denom form k all den x lt all_is x_is den_is =
+    (λ i. lcm (all_is i) (den_is i)) ∙ sym (common_denom-last (take k form) x) ∙ ap (λ y. common_denom (take k form ++ y ∷ [])) x_is ∙ ap common_denom (sym (take_more form k x lt))
+
+pub next_number : (all : ℕ) (form : List ℚ) (k : ℕ) (x : ℚ) (zs : List ℤ) (z : ℤ) → k < length form → x ≡ get_or form k x → zs ≡ map (scaled all) (take k form) → z ≡ scaled all x → zs ++ z ∷ [] ≡ map (scaled all) (take (k + 1) form)
+next_number all form k x zs z lt x_is zs_are z_is = (λ i. zs_are i ++ (z_is ∙ ap (scaled all) x_is) i ∷ []) ∙ sym (map_more (scaled all) form k x lt)
 
 -- ---- the numerators in an array: the first, and those behind it
 pub parts_are : (form : List ℚ) (k : List ℤ) → length k ≡ 5 → 1 ≤ length form → take (length form) k ≡ (whole form).k → get_or k 0 (pos 0) ∷ slice_range k 1 (length form) ≡ (whole form).k

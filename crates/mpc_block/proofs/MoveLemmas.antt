@@ -1,5 +1,5 @@
 -- The moves by the forms of a block.
-use Rattle.std.proofs.Common.{◌≡◌, ◌≢◌, ℕ, zero, suc, ◌+◌, ◌-◌, ◌*◌, ◌^◌, ◌<◌, ◌≤◌, ℤ, pos, ◌+ℤ◌, ◌*ℤ◌, ◌<ℤ◌, unsigned_abs, List, ◌∷◌, length, get_or, set, take, drop, ◌⊎◌, inl, inr, refl, sym, ◌∙◌, ap, subst, arith}
+use Rattle.std.proofs.Common.{◌≡◌, ◌≢◌, ℕ, zero, suc, ◌+◌, ◌-◌, ◌*◌, ◌^◌, ◌<◌, ◌≤◌, ℤ, pos, ◌+ℤ◌, ◌*ℤ◌, ◌<ℤ◌, unsigned_abs, List, ◌∷◌, length, get_or, set, take, drop, ◌⊎◌, inl, inr, sym, ◌∙◌, ap, subst, arith}
 use Rattle.std.specs.Int.{int_wrap}
 use Rattle.std.proofs.lemmas.Bool.{cases_lt}
 use Rattle.std.proofs.lemmas.Int.{ints, int_wrap_fits, fits_signed_from_abs}
@@ -12,13 +12,12 @@ use Rattle.mpc_exact.specs.Rational.{ℚ, quotient}
 use Rattle.mpc_exact.specs.Denominator.{common_denom}
 use Rattle.mpc_exact.proofs.Denominator.{common_denom-positive}
 use Rattle.mpc_linear.specs.declared.integers.IntAffine.{IntAffine}
-use Rattle.mpc_linear.proofs.WholeLemmas.{form_is}
 use Rattle.mpc_rows.specs.declared.laws.Law.{Law}
 use Rattle.mpc_controller.specs.Parts.{Parts}
 use Rattle.mpc_controller.specs.Bounds.{first_move_form}
 use Rattle.mpc_controller.specs.Replies.{IsLawNumbered}
 use Rattle.mpc_table.specs.Forms.{weighed}
-use Rattle.mpc_table.proofs.AffineLemmas.{form_values}
+use Rattle.mpc_table.specs.TableTheorems.{MovesEachInput, LeastForms}
 use Rattle.mpc_block.specs.declared.replies.Move.{Move}
 use Rattle.mpc_block.specs.declared.lines.Width.{Width}
 use Rattle.mpc_block.specs.Words.{words_from, number_at, entries}
@@ -55,8 +54,8 @@ module _ (words counts : List ℕ) (parts : Parts) (s : Serves words counts part
   here : form_in width n line ≡ whole form
   here = subst (λ w. form_in w n line ≡ whole form) (sym is) there
 
-  keeps : KeepsForm width parts.plant form
-  keeps = keeps_form parts s.block.controller width is (law - 1) of_set numbered input below
+  keeps : MovesEachInput → KeepsForm width parts.plant form
+  keeps inputs = keeps_form inputs parts s.block.controller width is (law - 1) of_set numbered input below
 
   pub den_is : number_at width line 0 ≡ pos (common_denom form)
   den_is = ap (λ (f : IntAffine). f.den) here
@@ -73,21 +72,19 @@ module _ (words counts : List ℕ) (parts : Parts) (s : Serves words counts part
   total_is : first +ℤ weighed others counts ≡ weighed (whole form).k (1 ∷ counts)
   total_is = ap (λ w. first +ℤ w) (sym (weighed_taken others n counts all_counts)) ∙ sym (one_times first (weighed (take n others) counts)) ∙ ap (λ k. weighed k (1 ∷ counts)) k_is
 
-  small : unsigned_abs (weighed (whole form).k (1 ∷ counts)) < greatest width
-  small = omega (arith, abs_weighed (whole form).k (1 ∷ counts), keeps.values_small counts s.up_to)
+  small : MovesEachInput → unsigned_abs (weighed (whole form).k (1 ∷ counts)) < greatest width
+  small inputs = omega (arith, abs_weighed (whole form).k (1 ∷ counts), (keeps inputs).values_small counts s.up_to)
 
   -- a sum that may wrap on the way
-  pub exact : (bits : Bits) → greatest width ≡ 2 ^ hbits bits → (start sum : ℤ) → start ≡ first → sum ≡ int_wrap bits (start +ℤ weighed others counts) → sum ≡ weighed (whole form).k (1 ∷ counts)
-  exact bits room start sum start_is sum_is =
-      sum_is ∙ ap (λ z. int_wrap bits (z +ℤ weighed others counts)) start_is ∙ ap (int_wrap bits) total_is ∙ int_wrap_fits bits _ (fits_signed_from_abs bits _ (subst (λ m. unsigned_abs (weighed (whole form).k (1 ∷ counts)) < m) room small))
+  pub exact : MovesEachInput → (bits : Bits) → greatest width ≡ 2 ^ hbits bits → (start sum : ℤ) → start ≡ first → sum ≡ int_wrap bits (start +ℤ weighed others counts) → sum ≡ weighed (whole form).k (1 ∷ counts)
+  exact inputs bits room start sum start_is sum_is =
+      sum_is ∙ ap (λ z. int_wrap bits (z +ℤ weighed others counts)) start_is ∙ ap (int_wrap bits) total_is ∙ int_wrap_fits bits _ (fits_signed_from_abs bits _ (subst (λ m. unsigned_abs (weighed (whole form).k (1 ∷ counts)) < m) room (small inputs)))
 
-  pub is_move : (step : Move) → num_of step ≡ weighed (whole form).k (1 ∷ counts) → den_of step ≡ number_at width line 0 → IsMoveOf of_set counts input step
-  is_move step num den =
-      let least = form_is form (whole form).den (whole form).k refl refl in
-      record {
-        positive = subst (λ z. pos 0 <ℤ z) (sym den) is_over;
-        value = (λ i. quotient (num i) ((den ∙ den_is) i)) ∙ (form_values form (whole form) least.positive least.same).value counts;
-      }
+  pub is_move : LeastForms → (step : Move) → num_of step ≡ weighed (whole form).k (1 ∷ counts) → den_of step ≡ number_at width line 0 → IsMoveOf of_set counts input step
+  is_move values step num den = record {
+    positive = subst (λ z. pos 0 <ℤ z) (sym den) is_over;
+    value = (λ i. quotient (num i) ((den ∙ den_is) i)) ∙ (values form).value counts;
+  }
 
 -- ---- where the form of an input stands
 pub inner_part : (words : List ℕ) (start size a b : ℕ) → a + b ≤ size → words_from (words_from words start size) a b ≡ words_from words (start + a) b

@@ -17,7 +17,7 @@ use Rattle.mpc_rows.specs.declared.trees.Node.TheVariants.{Split, Law, NoMove}
 use Rattle.mpc_controller.specs.Parts.{Parts, limits_of, IsLawFor, IsNodeFor, IsSplitRow}
 use Rattle.mpc_controller.specs.Bounds.{reach, FormFits, LawFits, IsController, first_move_form}
 use Rattle.mpc_table.specs.Forms.{AreUpTo}
-use Rattle.mpc_table.proofs.TableLemmas.{law_inputs}
+use Rattle.mpc_table.specs.TableTheorems.{MovesEachInput}
 use Rattle.mpc_block.specs.declared.lines.Width.{Width}
 use Rattle.mpc_block.specs.declared.lines.Width.TheVariants.{Short, Wide}
 use Rattle.mpc_block.specs.Sums.{greatest}
@@ -116,7 +116,7 @@ pub record KeepsForm (width : Width) (plant : Plant) (form : List ℚ) : Type 0 
   pub can_have : CanHaveForm width form
   pub values_small : (ts : List ℕ) → AreUpTo ts (limits_of plant) → reach (whole form).k (1 ∷ ts) < greatest width
 
-module _ (parts : Parts) (ok : IsController parts.plant parts.laws parts.tree) (width : Width) (is : width ≡ width_of parts) (j : ℕ) (law : LawOfSet) (at : slice_get parts.laws j ≡ Some law) (input : ℕ) (below : input < parts.plant.p) where
+module _ (inputs : MovesEachInput) (parts : Parts) (ok : IsController parts.plant parts.laws parts.tree) (width : Width) (is : width ≡ width_of parts) (j : ℕ) (law : LawOfSet) (at : slice_get parts.laws j ≡ Some law) (input : ℕ) (below : input < parts.plant.p) where
   abbrev form : List ℚ
   form = first_move_form law input
 
@@ -127,7 +127,7 @@ module _ (parts : Parts) (ok : IsController parts.plant parts.laws parts.tree) (
   fits = all_at (LawFits parts.plant) parts.laws j law at ok.bounds.laws_fit input below
 
   rows : parts.plant.p ≤ length law.moves.rows
-  rows = law_inputs parts.plant law shape
+  rows = inputs parts.plant law shape
 
   size : length form ≡ parts.plant.n + 1
   size = shape.moves_shape.rectangular input [] (omega (arith, rows, below)) ∙ shape.moves_shape.columns_are

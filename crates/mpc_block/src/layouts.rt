@@ -20,7 +20,7 @@ use mpc_controller::{Controller, limits};
 use mpc_frac::{Frac, NoMemory};
 use mpc_plant::Plant;
 use mpc_rows::Node;
-use mpc_table::no_sides;
+use mpc_table::{no_sides, table_theorems};
 use std::alloc::Global;
 
 /// Why a controller isn't laid out.
@@ -148,6 +148,7 @@ fn write_law(controller: &Controller, j: usize, width: Width, words: &mut [u64])
         → AreInputsTo controller.now law (law_place controller.now (j + 1)) controller.now.plant.p words.new }
     ensures kept { KeepsBefore (line_start width (law_place controller.now (j + 1))) words.old words.new }
 {
+    table_theorems();
     let law = controller.laws().at(j);
     let place = law_place(controller, j as u32 + 1);
     for i in 0..controller.plant().p {

@@ -120,6 +120,7 @@ fn fraction_by(line: &[u64], counts: &[u64], width: Width) -> (i128, i128)
         → IsLawNumbered parts.laws law of_set → input < parts.plant.p → IsFormLine parts of_set input line.now
         → (step : Move) → num_of step ≡ result.0 → den_of step ≡ result.1 → IsMoveOf of_set counts.now input step }
 {
+    table_theorems();
     match width {
         Width::Short => {
             let num = short_sum(line[1].cast_signed(), line, counts);

@@ -3,15 +3,18 @@ use Rattle.std.proofs.Common.{◌≡◌, ◌≢◌, ℕ, suc, ◌+◌, ◌*◌, 
 use Rattle.std.proofs.lemmas.Int.{ints, unsigned_abs-mul}
 use Rattle.std.proofs.Math.Nat.{mul-le-mul_left}
 use Rattle.mpc_exact.specs.Rational.{ℚ, int, ◌+ℚ◌, ◌*ℚ◌, quotient}
+use Rattle.mpc_exact.specs.Denominator.{common_denom, IsCommonDenom}
+use Rattle.mpc_exact.proofs.Denominator.{common_denom_is, common_denom-positive, over_multiple}
 use Rattle.mpc_exact.proofs.Rational.{int-add, int-mul}
 use Rattle.mpc_exact.proofs.RationalRing.{by_ring, reads}
 use Rattle.mpc_exact.proofs.RationalField.{*ℚ_cancel}
-use Rattle.mpc_exact.proofs.School.{quotient_is, int_not_zero}
+use Rattle.mpc_exact.proofs.School.{quotient_is, quotient_positive, int_not_zero}
 use Rattle.mpc_space.specs.Vector.{dot}
 use Rattle.mpc_plant.specs.Trajectory.{point_of}
 use Rattle.mpc_controller.specs.Bounds.{reach}
 use Rattle.mpc_table.specs.Forms.{weighed, AreUpTo, IsBounded, IsFormOf}
 use Rattle.mpc_linear.specs.declared.integers.IntAffine.{IntAffine}
+use Rattle.mpc_linear.specs.Whole.{scaled}
 
 -- ---- one more term
 next_drop : {A : Type 0} (xs : List A) (i : ℕ) (d : A) → i < length xs → drop i xs ≡ get_or xs i d ∷ drop (i + 1) xs
@@ -93,3 +96,13 @@ form_values row form p is =
       value = λ ts. *ℚ_cancel (int_not_zero form.den apart)
           (quotient_is (weighed form.k (1 ∷ ts)) form.den apart ∙ sym (scaled_dot form.den form.k (1 ∷ ts) apart) ∙ ap (λ r. int form.den *ℚ dot r (point_of (1 ∷ ts))) is);
     }
+
+over_each : (all : ℕ) (row : List ℚ) → 0 < all → IsCommonDenom all row → map (λ z. quotient z (pos all)) (map (scaled all) row) ≡ row
+over_each all [] some h = refl
+over_each all (x ∷ xs) some h = λ i. (quotient_positive (scaled all x) all some ∙ over_multiple x all some h.0) i ∷ over_each all xs some h.1 i
+
+pub least_form : (row : List ℚ) → IsFormOf row (record { den = pos (common_denom row); k = map (scaled (common_denom row)) row })
+least_form row = let some = common_denom-positive row in form_values row _ (positive (common_denom row) some) (over_each (common_denom row) row some (common_denom_is row))
+  where
+    positive : (n : ℕ) → 0 < n → pos 0 <ℤ pos n
+    positive n h = omega (arith, ints)

@@ -1,5 +1,5 @@
 use Rattle.std.proofs.Common.{arith}
-use Rattle.mpc_linear.proofs.WholeLemmas.{lcm_from}
+use Rattle.mpc_block.proofs.FormLemmas.{lcm_from}
 use Rattle.mpc_block.proofs.forms.least_multiple.Goals as goal
 
 pub overflow_mul-result : goal.overflow_mul-result

@@ -3,7 +3,7 @@ use Rattle.std.specs.Int.{w128}
 use Rattle.std.proofs.lemmas.Int.{to_z-of_z}
 use Rattle.std.proofs.lemmas.List.{length-set, take_all, take_more_set}
 use Rattle.mpc_linear.specs.Whole.{scaled}
-use Rattle.mpc_linear.proofs.WholeLemmas.{numerators_more}
+use Rattle.mpc_block.proofs.FormLemmas.{next_number}
 use Rattle.mpc_block.proofs.forms.numerators.Goals as goal
 
 pub loop-i-init : goal.loop-i-init
@@ -17,8 +17,8 @@ loop-i-preserved c =
     let f : FitsSigned w128 c.numerator.result = search rules in
     record {
       size = length-set old i new ∙ c.loop-i.invariant.size;
-      value = numerators_more c.args.den c.args.form.now i c.index-form-i.result c.loop-i-test.true c.index-form-i.is (take i old) _ new c.loop-i.invariant.value (take_more_set old i new (omega (arith, c.loop-i.invariant.size, c.loop-i-test.true, c.requires.few)))
-          (to_z-of_z w128 c.numerator.result f ∙ c.numerator.ensures);
+      value = take_more_set old i new (omega (arith, c.loop-i.invariant.size, c.loop-i-test.true, c.requires.few))
+          ∙ next_number c.args.den c.args.form.now i c.index-form-i.result (take i old) new c.loop-i-test.true c.index-form-i.is c.loop-i.invariant.value (to_z-of_z w128 c.numerator.result f ∙ c.numerator.ensures);
     }
 
 pub returns : goal.returns

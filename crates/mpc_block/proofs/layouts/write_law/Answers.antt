@@ -3,6 +3,7 @@ use Rattle.std.specs.Prelude.{slice_get}
 use Rattle.mpc_rows.specs.declared.laws.Law.{Law as LawOfSet}
 use Rattle.mpc_controller.specs.Parts.{Parts}
 use Rattle.mpc_controller.specs.Bounds.{IsController}
+use Rattle.mpc_table.specs.TableTheorems.{MovesEachInput}
 use Rattle.mpc_block.specs.declared.lines.Width.{Width}
 use Rattle.mpc_plant.specs.declared.plants.Plant.{Plant}
 use Rattle.mpc_controller.specs.Bounds.{first_move_form}
@@ -13,13 +14,13 @@ use Rattle.mpc_block.proofs.WidthLemmas.{KeepsForm, keeps_form}
 use Rattle.mpc_block.proofs.LayoutLemmas.{input_more, line_inside, starts_mono, kept_twice}
 use Rattle.mpc_block.proofs.layouts.write_law.Goals as goal
 
-keeps : (parts : Parts) → IsController parts.plant parts.laws parts.tree → (width : Width) → width ≡ width_of parts → (plant : Plant) → plant ≡ parts.plant → (laws : List LawOfSet) → laws ≡ parts.laws → (j : ℕ) (law : LawOfSet) → slice_get laws j ≡ Some law → (input : ℕ) → input < plant.p
+keeps : MovesEachInput → (parts : Parts) → IsController parts.plant parts.laws parts.tree → (width : Width) → width ≡ width_of parts → (plant : Plant) → plant ≡ parts.plant → (laws : List LawOfSet) → laws ≡ parts.laws → (j : ℕ) (law : LawOfSet) → slice_get laws j ≡ Some law → (input : ℕ) → input < plant.p
     → KeepsForm width parts.plant (first_move_form law input)
-keeps parts ok width is plant plant_is laws laws_are j law at input below = keeps_form parts ok width is j law (subst (λ l. slice_get l j ≡ Some law) laws_are at) input (subst (λ (p : Plant). input < p.p) plant_is below)
+keeps inputs parts ok width is plant plant_is laws laws_are j law at input below = keeps_form inputs parts ok width is j law (subst (λ l. slice_get l j ≡ Some law) laws_are at) input (subst (λ (p : Plant). input < p.p) plant_is below)
 
 pub put_form-requires-clause-fits : goal.put_form-requires-clause-fits
 put_form-requires-clause-fits c = subst (CanHaveForm c.args.width) (sym c.row.ensures)
-    (keeps c.args.controller.now c.laws.ensures.controller c.args.width c.requires.width c.plant.result.now c.plant.ensures.value c.laws.result.now c.laws.ensures.value c.args.j c.at-law.result.now c.at-law.ensures c.loop-i.i c.loop-i-test.true).can_have
+    (keeps c.table_theorems.ensures.moves_each_input c.args.controller.now c.laws.ensures.controller c.args.width c.requires.width c.plant.result.now c.plant.ensures.value c.laws.result.now c.laws.ensures.value c.args.j c.at-law.result.now c.at-law.ensures c.loop-i.i c.loop-i-test.true).can_have
 
 pub put_form-requires-clause-room : goal.put_form-requires-clause-room
 put_form-requires-clause-room c =
@@ -37,7 +38,7 @@ loop-i-preserved c =
     let place = law_place parts (c.args.j + 1) in
     let new = c.put_form.new.words in
     let start_is : c.line_start.result ≡ line_start width (place + i) = c.line_start.ensures ∙ ap (λ place. line_start width (place + i)) c.law_place-place.ensures in
-    let size = (keeps parts c.laws.ensures.controller width c.requires.width c.plant.result.now c.plant.ensures.value c.laws.result.now c.laws.ensures.value c.args.j law c.at-law.ensures i c.loop-i-test.true).size in
+    let size = (keeps c.table_theorems.ensures.moves_each_input parts c.laws.ensures.controller width c.requires.width c.plant.result.now c.plant.ensures.value c.laws.result.now c.laws.ensures.value c.args.j law c.at-law.ensures i c.loop-i-test.true).size in
     let written : form_in width parts.plant.n (words_from new c.line_start.result (line_size width)) ≡ whole (first_move_form law i) = c.put_form.ensures.written parts.plant.n (ap length c.row.ensures ∙ size) ∙ ap whole c.row.ensures in
     let kept : KeepsBefore (line_start width (place + i)) c.loop-i.words new = subst (λ start. KeepsBefore start c.loop-i.words new) start_is c.put_form.ensures.kept in
     record {
