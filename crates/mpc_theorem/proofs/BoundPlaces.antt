@@ -2,8 +2,8 @@
 use Rattle.std.proofs.Common.{◌≡◌, ℕ, zero, suc, ◌+◌, ◌-◌, ◌<◌, ◌≤◌, ◌⊎◌, inl, inr, List, [], ◌∷◌, length, take, slice_get, Some, refl, sym, ◌∙◌, subst, arith}
 use Rattle.std.specs.Prelude.{All, flat_map}
 use Rattle.std.proofs.lemmas.Bool.{cases_order}
-use Rattle.std.proofs.lemmas.Option.{slice_get_within, get_or_from_slice_get}
-use Rattle.std.proofs.lemmas.List.Elements.{All-get_or, All-nil, All-cons, All-head, All-tail, All-append}
+use Rattle.std.proofs.lemmas.Option.{slice_get_within}
+use Rattle.std.proofs.lemmas.List.Elements.{All-nil, All-cons, All-head, All-tail, All-append}
 use Rattle.mpc_plant.specs.declared.plants.Plant.{Plant}
 use Rattle.mpc_rows.specs.declared.laws.Law.{Law}
 use Rattle.mpc_rows.specs.declared.trees.Node.{Node}
@@ -13,7 +13,7 @@ use Rattle.mpc_controller.specs.Parts.{limits_of}
 use Rattle.mpc_controller.specs.Bounds.{FormFits, first_move_form, LawFits, NodeFits, IsFirstWideForm, IsWideInput, IsBrokenLaw, IsBrokenNode, IsFirstBroken}
 use Rattle.mpc_theorem.specs.Firsts.{IsFirstOf, numbered}
 use Rattle.mpc_theorem.specs.Bounds.{bound_places, BoundFits}
-use Rattle.mpc_theorem.proofs.FirstLemmas.{first_left, first_right, first_parts, all_left, all_right, each_numbered, numbered_each, IsFirstNumber, to_number, of_number}
+use Rattle.mpc_theorem.proofs.FirstLemmas.{first_left, first_right, first_parts, all_left, all_right, each_numbered, numbered_each, IsFirstNumber, to_number, of_number, all_at, at_all}
 use Rattle.mpc_theorem.proofs.RowPlaces.{some_at, same_some}
 
 -- ---- stretches of places, one for each number
@@ -81,13 +81,6 @@ module _ {X : Type 0} (P : X → Type 0) where
   take_before [] (suc n) k x h l e = absurd cc
   take_before (y ∷ xs) (suc n) zero x h l e = subst P (same_some e) (All-head P y (take n xs) h)
   take_before (y ∷ xs) (suc n) (suc k) x h l e = take_before xs n k x (All-tail P y (take n xs) h) (omega (arith, l)) e
-
-  all_at : (xs : List X) → ((k : ℕ) (x : X) → slice_get xs k ≡ Some x → P x) → All P xs
-  all_at [] h = All-nil P
-  all_at (x ∷ xs) h = All-cons P x xs (h 0 x refl) (all_at xs (λ k y e. h (suc k) y e))
-
-  at_all : (xs : List X) (k : ℕ) (x : X) → All P xs → slice_get xs k ≡ Some x → P x
-  at_all xs k x h e = subst P (get_or_from_slice_get xs k x x e) (All-get_or P xs k x (slice_get_within xs k x e) h)
 
 -- ---- the bounds
 back : (m : ℕ) → suc m - 1 ≡ m

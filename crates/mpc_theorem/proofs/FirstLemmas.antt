@@ -1,8 +1,9 @@
 -- The first place of a list that doesn't pass, in stretches and by its number.
-use Rattle.std.proofs.Common.{◌≡◌, ℕ, zero, suc, ◌+◌, ◌<◌, ◌≤◌, ◌⊎◌, inl, inr, List, [], ◌∷◌, ◌++◌, subst, sym, arith}
+use Rattle.std.proofs.Common.{◌≡◌, ℕ, zero, suc, ◌+◌, ◌<◌, ◌≤◌, ◌⊎◌, inl, inr, List, [], ◌∷◌, ◌++◌, Some, slice_get, refl, subst, sym, arith}
 use Rattle.std.specs.Prelude.{All}
 use Rattle.std.proofs.lemmas.Bool.{cases_order}
-use Rattle.std.proofs.lemmas.List.Elements.{All-nil, All-cons, All-head, All-tail}
+use Rattle.std.proofs.lemmas.Option.{slice_get_within, get_or_from_slice_get}
+use Rattle.std.proofs.lemmas.List.Elements.{All-nil, All-cons, All-head, All-tail, All-get_or}
 use Rattle.mpc_theorem.specs.Firsts.{IsFirstOf, numbered}
 
 module _ {A : Type 0} (passes : A → Type 0) where
@@ -32,6 +33,14 @@ module _ {A : Type 0} (passes : A → Type 0) where
   pub all_right : (xs ys : List A) → All passes (xs ++ ys) → All passes ys
   all_right [] ys h = h
   all_right (x ∷ xs) ys h = all_right xs ys (All-tail passes x (xs ++ ys) h)
+
+  -- ---- by the places of a list, from 0
+  pub all_at : (xs : List A) → ((k : ℕ) (x : A) → slice_get xs k ≡ Some x → passes x) → All passes xs
+  all_at [] h = All-nil passes
+  all_at (x ∷ xs) h = All-cons passes x xs (h 0 x refl) (all_at xs (λ k y e. h (suc k) y e))
+
+  pub at_all : (xs : List A) (k : ℕ) (x : A) → All passes xs → slice_get xs k ≡ Some x → passes x
+  at_all xs k x h e = subst passes (get_or_from_slice_get xs k x x e) (All-get_or passes xs k x (slice_get_within xs k x e) h)
 
   -- ---- numbered places
   module _ (place : ℕ → A) where

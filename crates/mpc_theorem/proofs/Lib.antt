@@ -12,6 +12,8 @@ mod BoundPlaces
 mod ProgramRefusals
 mod CheckRefusals
 mod StateRefusals
+mod DecisionPlaces
+mod SearchPlaces
 mod PlantRefusals
 mod PlantNumbers
 mod PlantChecks

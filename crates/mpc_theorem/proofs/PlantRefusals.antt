@@ -1,9 +1,16 @@
 -- What refuses a plant on the way to its verdicts or its controller.
-use Rattle.std.proofs.Common.{◌-◌, ◌⊎◌, inl, inr, sym, subst, arith}
+use Rattle.std.proofs.Common.{◌-◌, ◌⊎◌, inl, inr, List, refl, sym, subst, arith}
 use Rattle.mpc_space.specs.Matrix.{height, entry}
 use Rattle.mpc_plant.specs.declared.plants.Plant.{Plant}
 use Rattle.mpc_rows.specs.declared.programs.Qp.{Qp}
+use Rattle.mpc_rows.specs.declared.laws.Law.{Law}
 use Rattle.mpc_rows.specs.declared.places.Place.{Place}
+use Rattle.mpc_rows.specs.declared.verdicts.Verdict.TheVariants.{Wide}
+use Rattle.mpc_rows.specs.Candidates.{IsTable}
+use Rattle.mpc_rows.specs.LawTheorems.{LawTheorems}
+use Rattle.mpc_claim.specs.Answers.{IsFirstBad}
+use Rattle.mpc_tree.specs.Trees.{whole_box}
+use Rattle.mpc_tree.specs.WideRuns.{IsFirstWide as IsFirstWideRun}
 use Rattle.mpc_definite.specs.Pivots.{IsFirstWide}
 use Rattle.mpc_condense.specs.BestReplies.{OneProgram}
 use Rattle.mpc_condense.specs.ProgramTheorems.{NoWidePlace, RowsWithin}
@@ -12,11 +19,16 @@ use Rattle.mpc_check.specs.Findings.{too_wide}
 use Rattle.mpc_check.specs.Acceptance.{FindsBehind, IsFound}
 use Rattle.mpc_synthesis.specs.Programs.{HasVerdicts}
 use Rattle.mpc_synthesis.specs.Controllers.{IsSealed}
+use Rattle.mpc_convex.specs.Convex.{HasProgram as HasItsProgram, PivotsPass}
 use Rattle.mpc_convex.specs.Refusals.{IsFirstWidePlace, wide_program as of_condensing, wide_pivot as of_pivot}
 use Rattle.mpc_synthesis.specs.Refusals.{Extent, verdicts, controller, FirstWide, wide_program, wide_set, wide_tree, wide_bound, wide_check}
 use Rattle.mpc_theorem.specs.Programs.{IsWideProgram}
-use Rattle.mpc_theorem.specs.Stages.{IsWideSet, IsWideStage, PlantTooWide}
+use Rattle.mpc_theorem.specs.Stages.{IsWideSet, IsWideTree, IsWideStage, PlantTooWide}
 use Rattle.mpc_theorem.proofs.BoundPlaces.{to_first_broken, of_first_broken}
+use Rattle.mpc_theorem.proofs.DecisionPlaces.{to_set_fits, of_set_fits, to_wide_run, of_wide_run}
+use Rattle.mpc_theorem.proofs.ProgramPlaces.{to_all_pass, of_all_pass}
+use Rattle.mpc_theorem.proofs.ProgramRefusals.{to_program, of_program}
+use Rattle.mpc_theorem.proofs.SearchPlaces.{to_first_wide, of_first_wide}
 use Rattle.mpc_theorem.proofs.StateRefusals.{solves_too_wide}
 
 -- ---- the checker finds nothing of a program with verdicts
@@ -38,12 +50,47 @@ module _ (plant : Plant) where
   of_set controller place h = inl h
 
   to_set : (extent : Extent) (place : Place) → IsWideSet plant place → FirstWide plant extent place
-  to_set extent place h = wide_set extent h.qp place h.has_program h.pivots h.first
+  to_set extent place h =
+      wide_set extent h.qp place (to_program plant h.qp h.program) (to_all_pass h.qp h.pivots) (record {
+        set = h.set;
+        candidate = h.candidate;
+        right = of_wide_run h.qp h.set place h.first;
+        wide = refl;
+        before = λ s is earlier. of_set_fits h.qp s (h.before s is earlier);
+      })
+
+  from_set : (qp : Qp) (place : Place) → HasItsProgram plant qp → PivotsPass qp → IsFirstBad qp (Wide place) → IsWideSet plant place
+  from_set qp place program pivots h = record {
+    qp = qp;
+    program = of_program plant qp program;
+    pivots = of_all_pass qp pivots;
+    set = h.set;
+    candidate = h.candidate;
+    before = λ s is earlier. let other = h.before s is earlier in to_set_fits qp s other.0 other.1 other.2;
+    first = to_wide_run qp h.set place h.right;
+  }
+
+  to_tree : (place : Place) → IsWideTree plant place → FirstWide plant controller place
+  to_tree place h = wide_tree controller h.qp h.laws place tt has h.table (to_first_wide h.qp h.laws whole_box 1 place h.first)
+    where
+      has : HasVerdicts plant h.qp
+      has = record { has_program = to_program plant h.qp h.program; pivots = to_all_pass h.qp h.pivots; decided = λ s is. of_set_fits h.qp s (h.decided s is) }
+
+  from_tree : LawTheorems → (qp : Qp) (laws : List Law) (place : Place) → HasVerdicts plant qp → IsTable qp laws → IsFirstWideRun qp laws whole_box 1 place → IsWideTree plant place
+  from_tree single qp laws place has table h = record {
+    qp = qp;
+    laws = laws;
+    program = of_program plant qp has.has_program;
+    pivots = of_all_pass qp has.pivots;
+    decided = λ s is. let verdict = has.decided s is in to_set_fits qp s verdict.0 verdict.1 verdict.2;
+    table = table;
+    first = of_first_wide single qp laws whole_box 1 place h;
+  }
 
   of_stage : (extent : Extent) (place : Place) → IsWideStage extent plant place → FirstWide plant extent place
   of_stage verdicts place h = to_set verdicts place h
   of_stage controller place (inl h) = to_set controller place h
-  of_stage controller place (inr (inl h)) = wide_tree controller h.qp h.laws place tt h.verdicts_of h.table h.first
+  of_stage controller place (inr (inl h)) = to_tree place h
   of_stage controller place (inr (inr (inl h))) = wide_bound controller h.qp h.laws h.nodes place tt h.has_tree (to_first_broken plant h.laws h.nodes place h.first)
   of_stage controller place (inr (inr (inr h))) = wide_check controller h.qp h.parts place tt h.is_sealed (inr h.found)
 
@@ -51,16 +98,16 @@ module _ (plant : Plant) where
   of_either within extent place (inl h) = wide_program extent place ((solves_too_wide within plant place).1 h)
   of_either within extent place (inr h) = of_stage extent place h
 
-  module _ (none : NoWidePlace) (within : RowsWithin) (one : OneProgram) where
+  module _ (none : NoWidePlace) (within : RowsWithin) (one : OneProgram) (single : LawTheorems) where
     to_either : (extent : Extent) (place : Place) → FirstWide plant extent place → IsWideProgram plant place ⊎ IsWideStage extent plant place
     to_either extent place (wide_program e p h) = inl ((solves_too_wide within plant p).0 h)
-    to_either extent place (wide_set e qp p program pivots h) = inr (of_set e p (record { qp = qp; has_program = program; pivots = pivots; first = h }))
-    to_either controller place (wide_tree e qp laws p builds has table h) = inr (inr (inl (record { qp = qp; laws = laws; verdicts_of = has; table = table; first = h })))
+    to_either extent place (wide_set e qp p program pivots h) = inr (of_set e p (from_set qp p program pivots h))
+    to_either controller place (wide_tree e qp laws p builds has table h) = inr (inr (inl (from_tree single qp laws p has table h)))
     to_either controller place (wide_bound e qp laws nodes p builds has h) = inr (inr (inr (inl (record { qp = qp; laws = laws; nodes = nodes; has_tree = has; first = of_first_broken plant laws nodes p h }))))
     to_either controller place (wide_check e qp parts p builds is h) = inr (inr (inr (inr (record { qp = qp; parts = parts; is_sealed = is; found = found_behind none one p plant qp parts is h }))))
     to_either verdicts place (wide_tree e qp laws p builds has table h) = absurd builds
     to_either verdicts place (wide_bound e qp laws nodes p builds has h) = absurd builds
     to_either verdicts place (wide_check e qp parts p builds is h) = absurd builds
 
-pub plant_too_wide : NoWidePlace → RowsWithin → OneProgram → PlantTooWide
-plant_too_wide none within one extent plant place = (to_either plant none within one extent place, of_either plant within extent place)
+pub plant_too_wide : NoWidePlace → RowsWithin → OneProgram → LawTheorems → PlantTooWide
+plant_too_wide none within one single extent plant place = (to_either plant none within one single extent place, of_either plant within extent place)

@@ -8,7 +8,7 @@ use Rattle.mpc_space.specs.Matrix.{height, entry}
 use Rattle.mpc_plant.specs.declared.lists.PlantRow.{PlantRow}
 use Rattle.mpc_plant.specs.declared.plants.Plant.{Plant}
 use Rattle.mpc_rows.specs.declared.places.Place.{Place}
-use Rattle.mpc_rows.specs.declared.places.Place.TheVariants.{State, Cost, Row, Pivot}
+use Rattle.mpc_rows.specs.declared.places.Place.TheVariants.{State, Cost, Row}
 use Rattle.mpc_rows.specs.declared.programs.Qp.{Qp}
 use Rattle.mpc_definite.specs.Pivots.{pivot, left_of, StepFits, PassesBelow, IsFirstNotPositive, IsFirstWide}
 use Rattle.mpc_condense.specs.Motion.{StateFits, RowFits}
@@ -16,7 +16,7 @@ use Rattle.mpc_condense.specs.Stages.{IsRow}
 use Rattle.mpc_condense.specs.Causes.{row_count, StatesFit, CostsFit, RowsFit, AllFit, IsWidePlace}
 use Rattle.mpc_condense.specs.ProgramTheorems.{RowsWithin}
 use Rattle.mpc_theorem.specs.Firsts.{IsFirstOf, numbered}
-use Rattle.mpc_theorem.specs.Programs.{condensing_places, CondensingFits, pivot_places, PivotPasses}
+use Rattle.mpc_theorem.specs.Programs.{condensing_places, CondensingFits, PivotPasses}
 use Rattle.mpc_theorem.proofs.FirstLemmas.{first_left, first_right, first_parts, all_left, all_right, each_numbered, numbered_each, IsFirstNumber, to_number, of_number}
 use Rattle.mpc_theorem.proofs.RowPlaces.{row_exists, one_row}
 
@@ -139,16 +139,19 @@ module _ (qp : Qp) where
   abbrev n : ℕ
   n = height qp.h
 
-  abbrev Passes : Place → Type 0
+  abbrev Passes : ℕ → Type 0
   Passes = PivotPasses qp
 
-  passes_below : (j : ℕ) → ((i : ℕ) → 1 ≤ i → i < suc j → Passes (Pivot i)) → PassesBelow (entry qp.h) n j
+  abbrev pivots : List ℕ
+  pivots = numbered (λ i. i) 1 n
+
+  passes_below : (j : ℕ) → ((i : ℕ) → 1 ≤ i → i < suc j → Passes i) → PassesBelow (entry qp.h) n j
   passes_below j h = record {
     positive = λ m l. subst (λ i. int (pos 0) <ℚ pivot (entry qp.h) i) (back m) (h (suc m) (omega arith) (omega (arith, l))).0;
     fits = λ m l. subst (λ i. StepFits (left_of (entry qp.h) i) n i) (back m) (h (suc m) (omega arith) (omega (arith, l))).1;
   }
 
-  below_passes : (j : ℕ) → PassesBelow (entry qp.h) n j → (i : ℕ) → 1 ≤ i → i < suc j → Passes (Pivot i)
+  below_passes : (j : ℕ) → PassesBelow (entry qp.h) n j → (i : ℕ) → 1 ≤ i → i < suc j → Passes i
   below_passes j h i low high = (h.positive (i - 1) (omega (arith, low, high)), h.fits (i - 1) (omega (arith, low, high)))
 
   -- this pivot is the first that doesn't pass
@@ -156,31 +159,37 @@ module _ (qp : Qp) where
     some : 0 < j
     within : j ≤ n
     before : PassesBelow (entry qp.h) n (j - 1)
-    here : ¬ Passes (Pivot j)
+    here : ¬ Passes j
 
-  at_number : (j : ℕ) → IsFirstNumber Passes Pivot 1 n (Pivot j) → IsFirst j
+  at_number : (j : ℕ) → IsFirstNumber Passes (λ i. i) 1 n j → IsFirst j
   at_number j f =
-      let same : f.number ≡ j = let e = f.is in cc in
-      subst IsFirst same (record { some = f.low; within = omega (arith, f.high); before = passes_below (f.number - 1) (λ i low high. f.before i low (let some = f.low in omega (arith, high, some))); here = f.here })
+      subst IsFirst (sym f.is) (record { some = f.low; within = omega (arith, f.high); before = passes_below (f.number - 1) (λ i low high. f.before i low (let some = f.low in omega (arith, high, some))); here = f.here })
 
-  to_first : (j : ℕ) → IsFirstOf Passes (pivot_places qp) (Pivot j) → IsFirst j
-  to_first j h = at_number j (to_number Passes Pivot 1 n (Pivot j) h)
+  to_first : (j : ℕ) → IsFirstOf Passes pivots j → IsFirst j
+  to_first j h = at_number j (to_number Passes (λ i. i) 1 n j h)
 
-  of_first : (j : ℕ) → 0 < j → j ≤ n → PassesBelow (entry qp.h) n (j - 1) → (¬ Passes (Pivot j)) → IsFirstOf Passes (pivot_places qp) (Pivot j)
+  of_first : (j : ℕ) → 0 < j → j ≤ n → PassesBelow (entry qp.h) n (j - 1) → (¬ Passes j) → IsFirstOf Passes pivots j
   of_first j some within before here =
-      of_number Passes Pivot 1 n (Pivot j) (record { number = j; low = some; high = omega (arith, within); is = refl; before = λ i low high. below_passes (j - 1) before i low (omega (arith, high)); here = here })
+      of_number Passes (λ i. i) 1 n j (record { number = j; low = some; high = omega (arith, within); is = refl; before = λ i low high. below_passes (j - 1) before i low (omega (arith, high)); here = here })
+
+  -- all of them pass
+  pub to_all_pass : All (PivotPasses qp) (numbered (λ i. i) 1 (height qp.h)) → PassesBelow (entry qp.h) (height qp.h) (height qp.h)
+  to_all_pass h = passes_below n (λ i low high. each_numbered Passes (λ i. i) 1 n i h low (omega (arith, high)))
+
+  pub of_all_pass : PassesBelow (entry qp.h) (height qp.h) (height qp.h) → All (PivotPasses qp) (numbered (λ i. i) 1 (height qp.h))
+  of_all_pass h = numbered_each Passes (λ i. i) 1 n (λ i low high. below_passes n h i low (omega (arith, high)))
 
   apart : {x : ℚ} → x ≤ℚ int (pos 0) → int (pos 0) <ℚ x → ⊥
   apart low high = <ℚ_irrefl (<ℚ-≤ℚ_trans high low)
 
-  pub to_not_positive : (j : ℕ) → IsFirstOf (PivotPasses qp) (pivot_places qp) (Pivot j) → pivot (entry qp.h) (j - 1) ≤ℚ int (pos 0) → IsFirstNotPositive (entry qp.h) (height qp.h) j
+  pub to_not_positive : (j : ℕ) → IsFirstOf (PivotPasses qp) (numbered (λ i. i) 1 (height qp.h)) j → pivot (entry qp.h) (j - 1) ≤ℚ int (pos 0) → IsFirstNotPositive (entry qp.h) (height qp.h) j
   to_not_positive j h sign = let f = to_first j h in record { some = f.some; within = f.within; before = f.before; here = sign }
 
-  pub of_not_positive : (j : ℕ) → IsFirstNotPositive (entry qp.h) (height qp.h) j → IsFirstOf (PivotPasses qp) (pivot_places qp) (Pivot j)
+  pub of_not_positive : (j : ℕ) → IsFirstNotPositive (entry qp.h) (height qp.h) j → IsFirstOf (PivotPasses qp) (numbered (λ i. i) 1 (height qp.h)) j
   of_not_positive j f = of_first j f.some f.within f.before (λ passes. apart f.here passes.0)
 
-  pub to_wide_pivot : (j : ℕ) → IsFirstOf (PivotPasses qp) (pivot_places qp) (Pivot j) → int (pos 0) <ℚ pivot (entry qp.h) (j - 1) → IsFirstWide (entry qp.h) (height qp.h) j
+  pub to_wide_pivot : (j : ℕ) → IsFirstOf (PivotPasses qp) (numbered (λ i. i) 1 (height qp.h)) j → int (pos 0) <ℚ pivot (entry qp.h) (j - 1) → IsFirstWide (entry qp.h) (height qp.h) j
   to_wide_pivot j h sign = let f = to_first j h in record { some = f.some; within = f.within; before = f.before; positive = sign; here = λ fits. f.here (sign, fits) }
 
-  pub of_wide_pivot : (j : ℕ) → IsFirstWide (entry qp.h) (height qp.h) j → IsFirstOf (PivotPasses qp) (pivot_places qp) (Pivot j)
+  pub of_wide_pivot : (j : ℕ) → IsFirstWide (entry qp.h) (height qp.h) j → IsFirstOf (PivotPasses qp) (numbered (λ i. i) 1 (height qp.h)) j
   of_wide_pivot j f = of_first j f.some f.within f.before (λ passes. f.here passes.1)

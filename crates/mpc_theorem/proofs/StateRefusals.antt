@@ -17,16 +17,16 @@ use Rattle.mpc_theorem.specs.Stages.{PlantNotDefinite}
 use Rattle.mpc_theorem.specs.StateTheorems.{TightRowFits, SolvesTooWide, TightensWideRow}
 use Rattle.mpc_theorem.proofs.FirstLemmas.{IsFirstNumber, to_number, of_number}
 use Rattle.mpc_theorem.proofs.ProgramPlaces.{to_wide_place}
-use Rattle.mpc_theorem.proofs.ProgramRefusals.{not_definite, first_not_positive, program_fits, wide_pivot, wide_place, first_wide}
+use Rattle.mpc_theorem.proofs.ProgramRefusals.{to_program, not_definite, first_not_positive, wide_pivot, wide_place, first_wide}
 use Rattle.mpc_theorem.proofs.RowPlaces.{row_exists, one_row}
 
 pub plant_not_definite : PlantNotDefinite
-plant_not_definite plant j = (λ h. not_definite plant h.qp j h.has_program.fits h.has_program.condensed h.first h.not_definite, of)
+plant_not_definite plant j = (λ h. not_definite plant h.qp j h.has_program h.first h.not_definite, of)
   where
     of : IsNotDefinite plant j → IsNotDefiniteAt plant j
     of h = record {
       qp = h.qp;
-      has_program = record { condensed = h.stops.program.condensed; fits = program_fits plant h.qp h.stops.program };
+      has_program = to_program plant h.qp h.stops.program;
       first = first_not_positive plant j h;
       not_definite = h.not_definite;
     }
@@ -36,13 +36,11 @@ solves_too_wide within plant place = (to place, of)
   where
     to : (p : Place) → IsFirstWidePlace plant p → IsWideProgram plant p
     to p (wide_program q h) = wide_place plant within q h
-    to p (of_pivot qp j program h) = wide_pivot plant qp j program.fits program.condensed h
+    to p (of_pivot qp j program h) = wide_pivot plant qp j program h
 
     of : IsWideProgram plant place → IsFirstWidePlace plant place
     of (inl h) = wide_program place (to_wide_place plant place h)
-    of (inr h) =
-        subst (IsFirstWidePlace plant) (sym h.place_is)
-        (of_pivot h.qp h.j (record { condensed = h.stops.program.condensed; fits = program_fits plant h.qp h.stops.program }) (first_wide plant place h))
+    of (inr h) = subst (IsFirstWidePlace plant) (sym h.place_is) (of_pivot h.qp h.j (to_program plant h.qp h.stops.program) (first_wide plant place h))
 
 -- ---- a row that is tightened
 module _ (within : RowsWithin) (plant : Plant) (noise : List ℚ) (qp : Qp) (i : ℕ) where

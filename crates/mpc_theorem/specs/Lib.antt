@@ -5,6 +5,8 @@ pub mod Programs
 pub mod Bounds
 pub mod CheckTheorems
 pub mod StateTheorems
+pub mod DecisionRuns
+pub mod SearchRuns
 pub mod Stages
 pub mod PlantNumbers
 pub mod PlantFile

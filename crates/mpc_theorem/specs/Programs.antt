@@ -32,19 +32,15 @@ pub record HasProgram (plant : Plant) (qp : Qp) : Type 0 where
   pub condensed : IsCondensed qp plant
   pub fits : All (CondensingFits plant) (condensing_places plant)
 
--- ---- the pivots of the cost's matrix h
-abbrev pub pivot_places : Qp → List Place
-pivot_places qp = numbered Pivot 1 (height qp.h)
-
--- a pivot is positive, and no number of its step is too wide
-abbrev pub PivotPasses : Qp → Place → Type 0
-PivotPasses qp (Pivot j) = (int (pos 0) <ℚ pivot (entry qp.h) (j - 1)) × StepFits (left_of (entry qp.h) (j - 1)) (height qp.h) (j - 1)
-PivotPasses qp other = Unit {0}
+-- ---- the pivots of the cost's matrix h, by their numbers from 1
+-- the pivot is positive, and no number of its step is too wide
+abbrev pub PivotPasses : Qp → ℕ → Type 0
+PivotPasses qp j = (int (pos 0) <ℚ pivot (entry qp.h) (j - 1)) × StepFits (left_of (entry qp.h) (j - 1)) (height qp.h) (j - 1)
 
 -- this pivot is the first that doesn't pass
 pub record StopsAtPivot (plant : Plant) (qp : Qp) (j : ℕ) : Type 0 where
   pub program : HasProgram plant qp
-  pub first : IsFirstOf (PivotPasses qp) (pivot_places qp) (Pivot j)
+  pub first : IsFirstOf (PivotPasses qp) (numbered (λ i. i) 1 (height qp.h)) j
 
 -- ---- the refusals
 -- NotDefinite: the first pivot that doesn't pass isn't positive; so the cost's matrix isn't positive definite

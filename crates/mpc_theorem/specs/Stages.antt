@@ -1,41 +1,45 @@
 -- Where a plant is too wide behind its program, stage by stage: the active sets, the search tree, the bounds and the checker's conditions.
-use Rattle.std.specs.Prelude.{ℕ, ◌⊎◌, ◌↔◌, List}
+use Rattle.std.specs.Prelude.{ℕ, ◌⊎◌, ◌↔◌, List, All}
+use Rattle.mpc_space.specs.Matrix.{height}
+use Rattle.mpc_sets.specs.SetOrder.{IsBefore}
 use Rattle.mpc_plant.specs.declared.plants.Plant.{Plant}
 use Rattle.mpc_rows.specs.declared.programs.Qp.{Qp}
 use Rattle.mpc_rows.specs.declared.laws.Law.{Law}
 use Rattle.mpc_rows.specs.declared.trees.Node.{Node}
-use Rattle.mpc_rows.specs.declared.verdicts.Verdict.TheVariants.{Wide}
 use Rattle.mpc_rows.specs.declared.places.Place.{Place}
-use Rattle.mpc_rows.specs.Candidates.{IsTable}
-use Rattle.mpc_claim.specs.Answers.{IsFirstBad}
+use Rattle.mpc_rows.specs.Candidates.{IsCandidate, IsTable}
 use Rattle.mpc_tree.specs.Trees.{whole_box}
-use Rattle.mpc_tree.specs.WideRuns.{IsFirstWide as IsFirstWideRun}
 use Rattle.mpc_controller.specs.Parts.{Parts}
 use Rattle.mpc_check.specs.Findings.{too_wide}
 use Rattle.mpc_check.specs.Acceptance.{FindsBehind}
-use Rattle.mpc_convex.specs.Convex.{HasProgram, PivotsPass}
-use Rattle.mpc_synthesis.specs.Programs.{HasVerdicts}
 use Rattle.mpc_synthesis.specs.Controllers.{HasTree, IsSealed}
 use Rattle.mpc_convex.specs.Refusals.{IsNotDefiniteAt}
 use Rattle.mpc_synthesis.specs.Refusals.{Extent, verdicts, controller, FirstWide}
-use Rattle.mpc_theorem.specs.Firsts.{IsFirstOf}
-use Rattle.mpc_theorem.specs.Programs.{IsNotDefinite, IsWideProgram}
+use Rattle.mpc_theorem.specs.Firsts.{IsFirstOf, numbered}
+use Rattle.mpc_theorem.specs.Programs.{HasProgram, PivotPasses, IsNotDefinite, IsWideProgram}
+use Rattle.mpc_theorem.specs.DecisionRuns.{SetFits, IsWideRun}
+use Rattle.mpc_theorem.specs.SearchRuns.{IsWideBelow}
 use Rattle.mpc_theorem.specs.Bounds.{BoundFits, bound_places}
 
 -- the candidates: the least one whose decision meets a number that is too wide
 pub record IsWideSet (plant : Plant) (place : Place) : Type 0 where
   pub qp : Qp
-  pub has_program : HasProgram plant qp
-  pub pivots : PivotsPass qp
-  pub first : IsFirstBad qp (Wide place)
+  pub program : HasProgram plant qp
+  pub pivots : All (PivotPasses qp) (numbered (λ i. i) 1 (height qp.h))
+  pub set : List ℕ
+  pub candidate : IsCandidate qp set
+  pub before : (s : List ℕ) → IsCandidate qp s → IsBefore s set → SetFits qp s
+  pub first : IsWideRun qp set place
 
 -- the search tree of the table: the first run in preorder
 pub record IsWideTree (plant : Plant) (place : Place) : Type 0 where
   pub qp : Qp
   pub laws : List Law
-  pub verdicts_of : HasVerdicts plant qp
+  pub program : HasProgram plant qp
+  pub pivots : All (PivotPasses qp) (numbered (λ i. i) 1 (height qp.h))
+  pub decided : (s : List ℕ) → IsCandidate qp s → SetFits qp s
   pub table : IsTable qp laws
-  pub first : IsFirstWideRun qp laws whole_box 1 place
+  pub first : IsWideBelow qp laws whole_box 1 place
 
 -- the bounds on the numbers of a reply: law by law, and then node by node
 pub record IsWideBound (plant : Plant) (place : Place) : Type 0 where

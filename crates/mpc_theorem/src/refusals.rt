@@ -5,6 +5,7 @@ ghost use Rattle.mpc_theorem.specs.Stages.{PlantNotDefinite, PlantTooWide};
 ghost use Rattle.mpc_theorem.specs.StateTheorems.{SolvesTooWide, TightensWideRow};
 
 use mpc_condense::{one_program, place_theorems};
+use mpc_rows::law_theorems;
 
 /// A plant on the way to its verdicts or its controller is refused for one of these causes: a pivot of its program, or a place that is too
 /// wide of its program or of a stage behind it. The call does nothing: its clauses are the theorem.
@@ -14,6 +15,7 @@ pub fn plant_refusals()
 {
     one_program();
     place_theorems();
+    law_theorems();
 }
 
 /// What the checker finds of a controller's plant is why its program is refused. The call does nothing: its clauses are the theorem.
