@@ -28,7 +28,7 @@ use Rattle.mpc_theorem.specs.SafeFiles.{DueIsFound}
 use Rattle.mpc_status.specs.declared.status.Status.{Status}
 use Rattle.mpc_status.specs.declared.status.Status.TheVariants.{Done, BadPlant, TooLong, NoMemory}
 use Rattle.mpc_status.specs.StatusText.{line_of}
-use Rattle.mpc_theorem.specs.PlantFile.{IsPlantText, PlantTextsAreRead}
+use Rattle.mpc_theorem.specs.PlantFile.{PlantTextsAreRead}
 use Rattle.mpc_theorem.specs.FileOutputs.{CompiledIsOutput, AcceptedIsRightFile}
 use Rattle.mpc_cli.specs.declared.commands.Command.{Command}
 use Rattle.mpc_cli.specs.declared.commands.Command.TheVariants.{OfPlant, OfFile}
@@ -96,9 +96,8 @@ module _ (same : DueIsWhatComes) (workers : ℕ) (file : List ℕ) (short : leng
     due = in_limit (λ reads. short) ((same (OfPlant (Compile workers)) file s).0 (record { outcome = ends a.due.outcome; came = record { plant = plant; read = read; so = a.due.came }; status_is = a.due.status_is }));
     text_is = record {
       output = λ done.
-          let is : IsPlantText file plant = (texts file plant).0 read in
           let its = a.text_is.output done in
-          (outputs file text plant its.qp its.parts (small done) is its.controller its.written, record { plant = plant; read = is; file = its });
+          outputs file text plant its.qp its.parts (small done) ((texts file plant).0 read) its.controller its.written;
       line = a.text_is.line;
     };
   }

@@ -7,12 +7,9 @@ use Rattle.mpc_status.specs.declared.status.Status.TheVariants.{Done, TooManyPla
 use Rattle.mpc_status.specs.StatusText.{line_of}
 use Rattle.mpc_cli.specs.declared.commands.Command.TheVariants.{Fleet}
 use Rattle.mpc_theorem.specs.PlantFile.{PlantTextsAreRead}
-use Rattle.mpc_theorem.specs.FileOutputs.{IsCompiled, CompiledIsOutput}
-use Rattle.mpc_file.specs.TextTheorems.{OneText}
-use Rattle.mpc_synthesis.specs.Controllers.{ControllerIsRight, ControllerReplies, OneController}
-use Rattle.mpc_cli.specs.StatedOutputs.{IsTheFile, IsStatedOutput}
+use Rattle.mpc_theorem.specs.FileOutputs.{IsCompiled, IsTheFile, CompiledIsOutput}
+use Rattle.mpc_cli.specs.StatedOutputs.{IsStatedOutput}
 use Rattle.mpc_cli.specs.Statuses.{DueIsWhatComes}
-use Rattle.mpc_cli.proofs.CompileLemmas.{file_of}
 use Rattle.mpc_cli.proofs.OutputEnds.{sections_answered}
 use Rattle.mpc_cli.specs.Causes.{IsDueTo}
 use Rattle.mpc_cli.specs.Outcomes.{IsAnswerTo}
@@ -24,12 +21,12 @@ too_many_answer workers input status text many e f = record {
   text_is = line_text (IsStatedOutput (Fleet workers) input) TooManyPlants status text (λ d. absurd cc) e f;
 }
 
-pub fleet_answers : DueIsWhatComes → PlantTextsAreRead → CompiledIsOutput → ControllerIsRight → ControllerReplies → OneController → OneText → (workers : ℕ) (input : List ℕ) (status : Status) (text out : List ℕ) → status ≡ Done → text ≡ out → length out < 2 ^ 64
+pub fleet_answers : DueIsWhatComes → PlantTextsAreRead → CompiledIsOutput → (workers : ℕ) (input : List ℕ) (status : Status) (text out : List ℕ) → status ≡ Done → text ≡ out → length out < 2 ^ 64
     → length (sections_of input) ≤ 8 → AreAnswered 1 (sections_of input) out → IsAnswerTo (Fleet workers) input status text
-fleet_answers same texts outputs right replies one unique workers input status text out e f short few h = record {
+fleet_answers same texts outputs workers input status text out e f short few h = record {
   due = subst (IsDueTo (Fleet workers) input) (sym e) few;
   text_is = done_text (IsStatedOutput (Fleet workers) input) status text out e f (
-    sections_answered same IsCompiled (λ section file plant small read is. outputs section file plant is.qp is.parts small ((texts section plant).0 read) is.controller is.written) 1 (sections_of input) out short h,
-    sections_answered same IsTheFile (λ section file plant small read is. record { plant = plant; read = (texts section plant).0 read; file = file_of right replies one unique plant is.qp is.parts is.controller file is.written }) 1 (sections_of input) out short h,
+    sections_answered same IsCompiled (λ section file plant small read is. (outputs section file plant is.qp is.parts small ((texts section plant).0 read) is.controller is.written).0) 1 (sections_of input) out short h,
+    sections_answered same IsTheFile (λ section file plant small read is. (outputs section file plant is.qp is.parts small ((texts section plant).0 read) is.controller is.written).1) 1 (sections_of input) out short h,
   );
 }

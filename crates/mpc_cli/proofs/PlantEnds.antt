@@ -90,9 +90,7 @@ refused_by (Err error) e c plant counts cause h = tt
 output_of : PlantTextsAreRead → RepliesAreLines → CompiledIsOutput → TraceIsText → (c : PlantCommand) (input : List ℕ) (plant : Plant) → ReadsAsPlant (plant_text c input) plant → (text : List ℕ) → length text < 2 ^ 64 → IsOutputFor c plant (tail_of input) text
     → IsStatedOutput (OfPlant c) input text
 output_of texts replies outputs traces Run input plant read text short h = record { plant = plant; read = (texts (head_of input) plant).0 read; lines = (replies plant (count_lines input) text).0 h }
-output_of texts replies outputs traces (Compile workers) input plant read text short h =
-    let is : IsPlantText input plant = (texts input plant).0 read in
-    (outputs input text plant h.qp h.parts short is h.controller h.written, record { plant = plant; read = is; file = h })
+output_of texts replies outputs traces (Compile workers) input plant read text short h = outputs input text plant h.qp h.parts short ((texts input plant).0 read) h.controller h.written
 output_of texts replies outputs traces (Trace workers) input plant read text short h =
     let is : IsPlantText input plant = (texts input plant).0 read in
     (record { plant = plant; read = is; traced = traces workers plant text h }, record { plant = plant; read = is; traced = h })

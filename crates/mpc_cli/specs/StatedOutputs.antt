@@ -11,21 +11,15 @@ use Rattle.mpc_sections.specs.Sections.{sections_of}
 use Rattle.mpc_status.specs.declared.status.Status.{Status}
 use Rattle.mpc_status.specs.declared.status.Status.TheVariants.{Done}
 use Rattle.mpc_theorem.specs.PlantFile.{IsPlantText}
+use Rattle.mpc_theorem.specs.FileOutputs.{IsTheFile}
 use Rattle.mpc_theorem.specs.Fleets.{AreAnswered}
 use Rattle.mpc_cli.specs.declared.commands.Command.{Command}
 use Rattle.mpc_cli.specs.declared.commands.Command.TheVariants.{OfPlant, OfFile, OfStates, Drill, Fleet}
 use Rattle.mpc_cli.specs.declared.commands.PlantCommand.TheVariants.{Run, Compile, Trace}
 use Rattle.mpc_cli.specs.declared.commands.FileCommand.TheVariants.{Safe}
 use Rattle.mpc_cli.specs.Commands.{Names}
-use Rattle.mpc_cli.specs.ControllerFiles.{IsFileOf}
 use Rattle.mpc_cli.specs.Outputs.{IsPlantOutput, IsSectionAnswer, IsOutput}
 use Rattle.mpc_cli.specs.Answers.{IsWhole}
-
--- the input is the file of a plant, and the text is the one file of its controller
-pub record IsTheFile (input output : List ℕ) : Type 0 where
-  pub plant : Plant
-  pub read : IsPlantText input plant
-  pub file : IsFileOf plant output
 
 -- the input is the file of a plant, and the text is that of the legal, finished history of a registry of its program's candidates
 pub record IsTheTrace (workers : ℕ) (input output : List ℕ) : Type 0 where

@@ -7,11 +7,9 @@ ghost use Rattle.mpc_cli.specs.Outcomes.{IsAnswerTo};
 
 use crate::answer::{Answer, output, refusal};
 use crate::theorems::due_statuses;
-use mpc_file::one_text;
 use mpc_frac::NoMemory;
 use mpc_sections::{SectionsError, fleet};
 use mpc_status::Status;
-use mpc_synthesis::{one_controller, right_controller};
 use mpc_theorem::{file_output_theorems, plant_texts};
 use mpc_workers::Gate;
 use std::alloc::Global;
@@ -32,9 +30,6 @@ pub fn fleet_answer<T: Threads + Wait + Sync, G: Gate + Sync>(
     due_statuses();
     plant_texts();
     file_output_theorems();
-    right_controller();
-    one_controller();
-    one_text();
     match fleet(rt, alloc, input, workers, gate) {
         Ok(text) => Ok(output(text)),
         Err(SectionsError::TooManyPlants) => refusal(alloc, Status::TooManyPlants),

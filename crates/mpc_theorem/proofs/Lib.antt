@@ -27,6 +27,7 @@ mod FaultRows
 mod PlantFaults
 mod OutputLines
 pub mod RightControllers
+mod TheFiles
 pub mod HistoryLemmas
 pub mod TraceLemmas
 pub mod TagLemmas

@@ -1,7 +1,11 @@
 -- What is written of a plant's controller, and of a controller's file.
-use Rattle.std.specs.Prelude.{ℕ, ◌^◌, ◌<◌, List, length}
+use Rattle.std.specs.Prelude.{◌≡◌, ℕ, ◌^◌, ◌<◌, List, length}
 use Rattle.mpc_plant.specs.declared.plants.Plant.{Plant}
 use Rattle.mpc_rows.specs.declared.programs.Qp.{Qp}
+use Rattle.mpc_rows.specs.Candidates.{IsTable}
+use Rattle.mpc_condense.specs.Condensed.{IsCondensed}
+use Rattle.mpc_tree.specs.Trees.{whole_box}
+use Rattle.mpc_tree.specs.Certified.{IsOwnTree}
 use Rattle.mpc_controller.specs.Parts.{Parts}
 use Rattle.mpc_file.specs.declared.versions.Version.{Version}
 use Rattle.mpc_file.specs.declared.versions.Version.TheVariants.{Three}
@@ -19,6 +23,16 @@ pub record IsCompiled (input output : List ℕ) : Type 0 where
   pub read : IsPlantText input parts.plant
   pub file : IsControllerFile Three parts output
   pub rightly : RepliesRightly parts
+
+-- Which file it is: that of the plant itself, the table of its program's laws, and the table's own search tree.
+pub record IsTheFile (input output : List ℕ) : Type 0 where
+  pub qp : Qp
+  pub parts : Parts
+  pub read : IsPlantText input parts.plant
+  pub condensed : IsCondensed qp parts.plant
+  pub table : IsTable qp parts.laws
+  pub tree : IsOwnTree qp parts.laws whole_box parts.tree
+  pub file : IsControllerFile Three parts output
 
 -- What is accepted by `check`: the controller in the file, of any version, replies at every point of its plant's box, whole or not, and rightly,
 -- whoever wrote the file.
@@ -44,7 +58,11 @@ pub record IsConverted (input output : List ℕ) : Type 0 where
 
 -- ---- what is written by the library is this, for files of fewer than 2^64 bytes, as each in a memory
 abbrev pub CompiledIsOutput : Type 0
-CompiledIsOutput = (input output : List ℕ) (plant : Plant) (qp : Qp) (parts : Parts) → length output < 2 ^ 64 → IsPlantText input plant → IsController plant qp parts → Spells output Three parts → IsCompiled input output
+CompiledIsOutput = (input output : List ℕ) (plant : Plant) (qp : Qp) (parts : Parts) → length output < 2 ^ 64 → IsPlantText input plant → IsController plant qp parts → Spells output Three parts → IsCompiled input output × IsTheFile input output
+
+-- there is one
+abbrev pub OneFile : Type 0
+OneFile = (input one other : List ℕ) → IsTheFile input one → IsTheFile input other → one ≡ other
 
 abbrev pub AcceptedIsRightFile : Type 0
 AcceptedIsRightFile = (input : List ℕ) → length input < 2 ^ 64 → IsAccepted input → IsRightFile input

@@ -13,7 +13,7 @@ use Rattle.mpc_tree.specs.Trees.{Cell, yes_side, no_side, leaf, split, IsTreeOf,
 use Rattle.mpc_tree.specs.LeafCerts.{HasItsCerts}
 use Rattle.mpc_tree.specs.NodeRuns.{DividesAndFits, EndsAndFits, IsFittingTree}
 use Rattle.mpc_tree.specs.WideRuns.{IsFirstWide, here, in_yes, in_no}
-use Rattle.mpc_tree.specs.Certified.{AreLaws, IsCertified}
+use Rattle.mpc_tree.specs.Certified.{AreLaws, IsCertified, IsOwnTree}
 use Rattle.mpc_tree.proofs.OneCell.{divides_once, divides_not_leaf}
 use Rattle.mpc_tree.proofs.WideCells.{split_not_wide, leaf_not_wide, one_wide_at}
 use Rattle.mpc_tree.proofs.OneLeaf.{one_leaf}
@@ -27,6 +27,10 @@ tree_of_fitting qp laws = weakened (DividesAndFits qp laws) (Divides qp laws) (E
 
 pub tree_of_certified : (qp : Qp) (laws : List Law) (cell : Cell) (nodes : List Node) → IsCertified qp laws cell nodes → IsTreeOf qp laws cell nodes
 tree_of_certified qp laws cell nodes t = tree_of_fitting qp laws cell nodes (fitting_of_certified qp laws cell nodes t)
+
+pub own_of_certified : (qp : Qp) (laws : List Law) (cell : Cell) (nodes : List Node) → IsCertified qp laws cell nodes → IsOwnTree qp laws cell nodes
+own_of_certified qp laws =
+    weakened (DividesAndFits qp laws) (Divides qp laws) (λ cell node. EndsAndFits qp laws cell node × HasItsCerts qp laws cell node) (λ cell node. IsLeafOf qp laws cell node × HasItsCerts qp laws cell node) (λ cell place row d. d.divides) (λ cell node e. (e.0.ends, e.1))
 
 -- ---- trees of one cell
 module _ (P : Cell → Type 0) (cell : Cell) (p q : ℕ) (r s : RowInt) (same : (p ≡ q) × (r ≡ s)) where
@@ -43,15 +47,18 @@ module _ (single : LawTheorems) (points : CellTheorems) (qp : Qp) (laws : List L
   no_leaf : (cell : Cell) (p : ℕ) (r : RowInt) (node : Node) → DividesAndFits qp laws cell p r → ¬ EndsAndFits qp laws cell node
   no_leaf cell p r node d e = divides_not_leaf qp laws cell points are p r node d.divides e.ends
 
-  pub one_tree : (cell : Cell) (x y : List Node) → IsCertified qp laws cell x → IsCertified qp laws cell y → x ≡ y
-  one_tree cell x y (leaf c a e) (leaf _ b f) = ap (λ n. n ∷ []) (one_leaf qp laws c single a b e.0.ends f.0.ends e.1 f.1)
-  one_tree cell x y (leaf c a e) (split _ p r inside outside d s t) = absurd (no_leaf c p r a d e.0)
-  one_tree cell x y (split c p r inside outside d s t) (leaf _ b f) = absurd (no_leaf c p r b d f.0)
-  one_tree cell x y (split c p r inside outside d s t) (split _ q w left right e u v) =
-      let same = same_sides c q p w r e d in
-      let first : inside ≡ left = one_tree (yes_side c p r) inside left s (on_yes (λ k. IsCertified qp laws k left) c q p w r same u) in
-      let second : outside ≡ right = one_tree (no_side c p r) outside right t (on_no (λ k. IsCertified qp laws k right) c q p w r same v) in
+  pub one_own_tree : (cell : Cell) (x y : List Node) → IsOwnTree qp laws cell x → IsOwnTree qp laws cell y → x ≡ y
+  one_own_tree cell x y (leaf c a e) (leaf _ b f) = ap (λ n. n ∷ []) (one_leaf qp laws c single a b e.0 f.0 e.1 f.1)
+  one_own_tree cell x y (leaf c a e) (split _ p r inside outside d s t) = absurd (divides_not_leaf qp laws c points are p r a d e.0)
+  one_own_tree cell x y (split c p r inside outside d s t) (leaf _ b f) = absurd (divides_not_leaf qp laws c points are p r b d f.0)
+  one_own_tree cell x y (split c p r inside outside d s t) (split _ q w left right e u v) =
+      let same = divides_once qp laws c single q p w r e d in
+      let first : inside ≡ left = one_own_tree (yes_side c p r) inside left s (on_yes (λ k. IsOwnTree qp laws k left) c q p w r same u) in
+      let second : outside ≡ right = one_own_tree (no_side c p r) outside right t (on_no (λ k. IsOwnTree qp laws k right) c q p w r same v) in
       λ i. Split (sym same.1 i) ∷ (first i ++ second i)
+
+  pub one_tree : (cell : Cell) (x y : List Node) → IsCertified qp laws cell x → IsCertified qp laws cell y → x ≡ y
+  one_tree cell x y s t = one_own_tree cell x y (own_of_certified qp laws cell x s) (own_of_certified qp laws cell y t)
 
   one_length : (cell : Cell) (x y : List Node) → IsFittingTree qp laws cell x → IsFittingTree qp laws cell y → length x ≡ length y
   one_length cell x y (leaf c a e) (leaf _ b f) = refl

@@ -9,7 +9,7 @@ use Rattle.mpc_rows.specs.declared.places.Place.{Place}
 use Rattle.mpc_rows.specs.Laws.{IsLaw, HasLawShape}
 use Rattle.mpc_rows.specs.Candidates.{IsTable}
 use Rattle.mpc_rows.specs.Certificates.{IsCert}
-use Rattle.mpc_tree.specs.Trees.{Cell, IsTreeWhere, IsTreeOf}
+use Rattle.mpc_tree.specs.Trees.{Cell, IsTreeWhere, Divides, IsLeafOf, IsTreeOf}
 use Rattle.mpc_tree.specs.LeafCerts.{nonzero_from, HasItsCerts}
 use Rattle.mpc_tree.specs.NodeRuns.{DividesAndFits, EndsAndFits, IsFittingTree}
 use Rattle.mpc_tree.specs.WideRuns.{IsFirstWide}
@@ -22,7 +22,18 @@ AreLaws qp laws = (law : Law) → Contains laws law → IsLaw qp law
 abbrev pub IsCertified : Qp → List Law → Cell → List Node → Type 0
 IsCertified qp laws cell nodes = IsTreeWhere (DividesAndFits qp laws) (λ c node. EndsAndFits qp laws c node × HasItsCerts qp laws c node) cell nodes
 
+-- its splits and leaves with their certificates, whatever numbers its runs meet
+abbrev pub IsOwnTree : Qp → List Law → Cell → List Node → Type 0
+IsOwnTree qp laws cell nodes = IsTreeWhere (Divides qp laws) (λ c node. IsLeafOf qp laws c node × HasItsCerts qp laws c node) cell nodes
+
+abbrev pub CertifiedIsOwn : Type 0
+CertifiedIsOwn = (qp : Qp) (laws : List Law) (cell : Cell) (nodes : List Node) → IsCertified qp laws cell nodes → IsOwnTree qp laws cell nodes
+
 -- a cell has at most one such tree
+abbrev pub OneOwnTree : Type 0
+OneOwnTree = (qp : Qp) (laws : List Law) → AreLaws qp laws → (cell : Cell) (one two : List Node) → IsOwnTree qp laws cell one → IsOwnTree qp laws cell two → one ≡ two
+
+-- so at most one whose runs fit
 abbrev pub OneTree : Type 0
 OneTree = (qp : Qp) (laws : List Law) → AreLaws qp laws → (cell : Cell) (one two : List Node) → IsCertified qp laws cell one → IsCertified qp laws cell two → one ≡ two
 

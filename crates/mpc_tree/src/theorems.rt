@@ -1,6 +1,6 @@
 //! What holds of the tree of each cell, and of each table of laws.
 
-ghost use Rattle.mpc_tree.specs.Certified.{OneTree, OneFirstWide, FitsNotWide, CertifiedIsTree, CertifiedFits, TableHasLaws, TableHasShapes, TableIsSmall, MultipliersAreCert};
+ghost use Rattle.mpc_tree.specs.Certified.{OneTree, OneOwnTree, CertifiedIsOwn, OneFirstWide, FitsNotWide, CertifiedIsTree, CertifiedFits, TableHasLaws, TableHasShapes, TableIsSmall, MultipliersAreCert};
 
 use mpc_rows::law_theorems;
 use mpc_sets::count_theorems;
@@ -10,6 +10,8 @@ use mpc_systems::cell_theorems;
 /// wide. The call does nothing: its contract is the theorem.
 pub fn one_tree()
     ensures one_tree { OneTree }
+    ensures one_own_tree { OneOwnTree }
+    ensures is_own { CertifiedIsOwn }
     ensures one_first_wide { OneFirstWide }
     ensures fits_not_wide { FitsNotWide }
     ensures is_tree { CertifiedIsTree }

@@ -8,7 +8,7 @@ use Rattle.mpc_cli.proofs.fleet_answers.fleet_answer.Goals as goal
 
 pub returns-in-Ok : goal.returns-in-Ok
 returns-in-Ok g c =
-    fleet_answers c.due_statuses.ensures c.plant_texts.ensures.read c.file_output_theorems.ensures.compiled c.right_controller.ensures.right c.right_controller.ensures.replies c.one_controller.ensures c.one_text.ensures c.args.workers c.args.input.now c.output.result.status c.output.result.text.items c.in-Ok.text.items c.output.ensures.status c.output.ensures.text (few_bytes c.in-Ok.text) c.in-Ok.ensures.few c.in-Ok.ensures.answered
+    fleet_answers c.due_statuses.ensures c.plant_texts.ensures.read c.file_output_theorems.ensures.compiled c.args.workers c.args.input.now c.output.result.status c.output.result.text.items c.in-Ok.text.items c.output.ensures.status c.output.ensures.text (few_bytes c.in-Ok.text) c.in-Ok.ensures.few c.in-Ok.ensures.answered
 
 pub returns-in-Err-TooManyPlants : goal.returns-in-Err-TooManyPlants
 returns-in-Err-TooManyPlants g c =

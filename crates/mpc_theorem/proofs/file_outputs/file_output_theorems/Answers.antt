@@ -1,17 +1,20 @@
 use Rattle.std.proofs.Common.{sym, subst}
 use Rattle.mpc_theorem.specs.PlantFile.{IsPlantText}
 use Rattle.mpc_theorem.proofs.RightControllers.{controller_rightly}
+use Rattle.mpc_theorem.proofs.TheFiles.{the_file, one_file}
 use Rattle.mpc_theorem.proofs.file_outputs.file_output_theorems.Goals as goal
 use Rattle.mpc_file.specs.declared.versions.Version.TheVariants.{Three}
 
 pub returns-clause-compiled : goal.returns-clause-compiled
-returns-clause-compiled c = λ input output plant qp parts short read is spelled.
-    record {
-      parts = parts;
-      read = subst (IsPlantText input) (sym is.is_sealed.plant_is) read;
-      file = c.controller_file.ensures.file output Three parts short spelled;
-      rightly = controller_rightly c.right_controller.ensures.right c.right_controller.ensures.replies plant qp parts is;
-    }
+returns-clause-compiled c = λ input output plant qp parts short text is spelled.
+    let read = subst (IsPlantText input) (sym is.is_sealed.plant_is) text in
+    let file = c.controller_file.ensures.file output Three parts short spelled in (
+      record { parts = parts; read = read; file = file; rightly = controller_rightly c.right_controller.ensures.right c.right_controller.ensures.replies plant qp parts is },
+      the_file c.one_tree.ensures.is_own input output plant qp parts read is file,
+    )
+
+pub returns-clause-one_file : goal.returns-clause-one_file
+returns-clause-one_file c = one_file c.plant_texts.ensures.one c.one_program.ensures c.one_table.ensures c.table_theorems.ensures.are_laws c.one_tree.ensures.one_own_tree
 
 pub returns-clause-accepted : goal.returns-clause-accepted
 returns-clause-accepted c = λ input short h.
