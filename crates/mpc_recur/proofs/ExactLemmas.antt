@@ -1,9 +1,6 @@
 -- A safe controller of which nothing is too wide is answered as safe.
-use Rattle.std.proofs.Common.{◌≡◌, List, refl}
-use Rattle.mpc_controller.specs.Parts.{Parts}
-use Rattle.mpc_recur.specs.declared.answers.Recur.{Recur}
+use Rattle.std.proofs.Common.{refl}
 use Rattle.mpc_recur.specs.declared.answers.Recur.TheVariants.{Safe, Unsafe}
-use Rattle.mpc_recur.specs.declared.answers.RecurError.{RecurError}
 use Rattle.mpc_recur.specs.declared.answers.RecurError.TheVariants.{Wide, NoMemory}
 use Rattle.mpc_recur.specs.Findings.{too_wide}
 use Rattle.mpc_recur.specs.Outcomes.{is_safe, finds}

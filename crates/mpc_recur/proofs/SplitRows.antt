@@ -2,8 +2,6 @@
 use Rattle.std.proofs.Common.{◌≡◌, ℕ, ◌+◌, ◌^◌, ◌<◌, Bool, true, false, List, [], ◌∷◌, ◌++◌, length, get_or, map, unsigned_abs, pos, negsuc, Some, All, sym, ◌∙◌, ap, subst, lit<, Result, IfOk, take}
 use Rattle.std.specs.Prelude.{slice_get}
 use Rattle.std.proofs.Common.{Ok, Err}
-use Rattle.std.specs.List.{AllByRecursion}
-use Rattle.std.proofs.lemmas.List.Elements.{All-from_recursion, recursion_from_All}
 use Rattle.std.proofs.lemmas.List.{length-map, map-append, take_more, append_assoc, get_or-map}
 use Rattle.std.proofs.lemmas.Option.{get_or_from_slice_get}
 use Rattle.mpc_exact.specs.Rational.{int}
@@ -13,8 +11,8 @@ use Rattle.mpc_linear.specs.Whole.{AreSmall}
 use Rattle.mpc_rows.specs.LawRows.{broken_row}
 use Rattle.mpc_rows.specs.declared.systems.Row.{Row}
 use Rattle.mpc_rows.specs.declared.trees.Node.{Node}
-use Rattle.mpc_rows.specs.declared.trees.Node.TheVariants.{Split, Law, NoMove}
-use Rattle.mpc_controller.specs.Parts.{IsSplitRow, IsNodeFor}
+use Rattle.mpc_rows.specs.declared.trees.Node.TheVariants.{Split, NoMove}
+use Rattle.mpc_controller.specs.Parts.{IsSplitRow}
 use Rattle.mpc_paths.specs.declared.ways.Turn.{Turn}
 use Rattle.mpc_paths.specs.Ways.{HasSplitRow, side_row, split_row, turn_row, way_rows}
 use Rattle.mpc_recur.proofs.ElementLemmas.{all_at, All-split, all_with}

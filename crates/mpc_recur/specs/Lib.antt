@@ -3,6 +3,7 @@ pub mod Successors
 pub mod ClosedLoop
 pub mod Forms
 pub mod Stages
+pub mod Met
 pub mod Findings
 pub mod Targets
 pub mod Outcomes

@@ -7,34 +7,37 @@ ghost use Rattle.mpc_rows.specs.declared.systems.Row.{Row};
 ghost use Rattle.mpc_controller.specs.Parts.{limits_of, IsLawFor};
 ghost use Rattle.mpc_recur.specs.Forms.{next_form, next_forms};
 ghost use Rattle.mpc_recur.specs.Findings.{IsStop};
+ghost use Rattle.mpc_recur.specs.Met.{AreMet};
 ghost use Rattle.mpc_recur.specs.Targets.{count_at, IsBaseOf, SideMet, SideFinds, SidesMet, SidesFind, EmptyMet, EmptyFinds, EmptiesMet, EmptiesFind, TargetsMet, TargetsFind};
 ghost use Rattle.mpc_paths.specs.Ways.{IsTurn, IsWay, way_rows};
 ghost use Rattle.mpc_recur.specs.Empties.{EmptiesBefore};
 
 use crate::answers::{Next, StageError, Stop, Target};
+use crate::bases::Base;
 use crate::forms::next_forms;
+use crate::met::Met;
 use crate::systems::leaf_system;
 use crate::targets::{rule_out_high, rule_out_leaf, rule_out_low};
 use mpc_controller::Controller;
 use mpc_linear::Vector;
 use mpc_paths::{Turn, go_on, one_path, way_theorems};
-use mpc_rows::{Counts, Law, Node, System};
+use mpc_rows::{Counts, Law, Node};
+use mpc_simplex::Workspace;
 use std::alloc::Global;
 
 /// Goes on where no step leads below or above coordinate i of the box, counted from 0.
 fn rule_out_sides_of(
     alloc: Global,
-    system: &mut System,
+    work: &mut Workspace,
+    base: &Base,
     form: &Vector,
     count: u64,
     leaf: u64,
     i: u32,
 ) -> Result<(), Stop>
-    requires size { length form.now ≡ system.old.width + 1 }
+    requires size { length form.now ≡ base.now.width + 1 }
     requires coordinate { i < 4 }
-    ensures width { system.new.width ≡ system.old.width }
-    ensures kept { OnOk result (system.new.rows ≡ system.old.rows) }
-    ensures found { (plant : Plant) (law : Law) (path : List Row) → IsBaseOf plant path system.old
+    ensures { (plant : Plant) (law : Law) (path : List Row) → IsBaseOf plant path base.now
         → form.now ≡ next_form plant law i → count ≡ count_at plant i
         → MatchResult result (λ _. SideMet plant law path i) (IsStop (SideFinds plant law path leaf i)) }
 {
@@ -46,8 +49,8 @@ fn rule_out_sides_of(
         leaf,
         target: Target::High(i + 1),
     };
-    match rule_out_low(alloc, system, form, low) {
-        Ok(()) => rule_out_high(alloc, system, form, count, high),
+    match rule_out_low(alloc, work, base, form, low) {
+        Ok(()) => rule_out_high(alloc, work, base, form, count, high),
         Err(stop) => Err(stop),
     }
 }
@@ -55,22 +58,21 @@ fn rule_out_sides_of(
 /// Goes on where no step leads below or above a coordinate of the box.
 fn rule_out_sides(
     alloc: Global,
-    system: &mut System,
+    work: &mut Workspace,
+    base: &Base,
     limits: &Counts,
     forms: &[Vector],
     leaf: u64,
 ) -> Result<(), Stop>
     requires few { length limits.now ≤ 4 }
     requires sizes { length forms.now ≡ length limits.now }
-    requires affine { All (λ form. length form ≡ system.old.width + 1) forms.now }
-    ensures width { system.new.width ≡ system.old.width }
-    ensures kept { OnOk result (system.new.rows ≡ system.old.rows) }
-    ensures found { (plant : Plant) (law : Law) (path : List Row) → IsBaseOf plant path system.old
+    requires affine { All (λ form. length form ≡ base.now.width + 1) forms.now }
+    ensures { (plant : Plant) (law : Law) (path : List Row) → IsBaseOf plant path base.now
         → forms.now ≡ next_forms plant law → limits.now ≡ limits_of plant
         → MatchResult result (λ _. SidesMet plant law path) (IsStop (SidesFind plant law path leaf)) }
 {
     for i in 0..limits.len() {
-        match rule_out_sides_of(alloc, system, &forms[i], *limits.at(i), leaf, i as u32) {
+        match rule_out_sides_of(alloc, work, base, &forms[i], *limits.at(i), leaf, i as u32) {
             Ok(()) => {}
             Err(stop) => return Err(stop),
         }
@@ -82,21 +84,22 @@ fn rule_out_sides(
 fn rule_out_node(
     alloc: Global,
     controller: &Controller,
-    system: &mut System,
+    base: &Base,
+    met: &mut Met,
     way: &[Turn],
-    forms: &[Vector],
     leaf: u64,
     k: usize,
 ) -> Result<(), Stop>
     requires inside { k < length controller.now.tree }
     requires way { IsWay controller.now.tree k way.now }
-    requires sizes { length forms.now ≡ controller.now.plant.n }
-    requires width { system.old.width ≡ controller.now.plant.n }
-    requires affine { All (λ form. length form ≡ length forms.now + 1) forms.now }
-    ensures width { system.new.width ≡ system.old.width }
-    ensures kept { OnOk result (system.new.rows ≡ system.old.rows) }
-    ensures found { (law : Law) (path : List Row) → IsBaseOf controller.now.plant path system.old
-        → forms.now ≡ next_forms controller.now.plant law
+    requires sizes { length met.old.forms.items ≡ controller.now.plant.n }
+    requires width { base.now.width ≡ controller.now.plant.n }
+    requires affine { All (λ form. length form ≡ length met.old.forms.items + 1) met.old.forms.items }
+    requires met { AreMet controller.now.tree met.old.forms.items met.old.turns.items met.old.rows }
+    ensures forms { OnOk result (met.new.forms.items ≡ met.old.forms.items) }
+    ensures met { OnOk result (AreMet controller.now.tree met.old.forms.items met.new.turns.items met.new.rows) }
+    ensures found { (law : Law) (path : List Row) → IsBaseOf controller.now.plant path base.now
+        → met.old.forms.items ≡ next_forms controller.now.plant law
         → MatchResult result (λ _. EmptyMet controller.now.plant controller.now.tree law path k)
         (IsStop (EmptyFinds controller.now.plant controller.now.tree law path leaf k)) }
 {
@@ -111,32 +114,32 @@ fn rule_out_node(
         leaf,
         target: Target::NoMove(k as u64 + 1),
     };
-    rule_out_leaf(alloc, system, tree, way, forms, one)
+    rule_out_leaf(alloc, base, met, tree, way, one)
 }
 
 /// Goes on where no step leads to a leaf without a law. Each of these stands before the place `end`.
 fn rule_out_empties(
     alloc: Global,
     controller: &Controller,
-    system: &mut System,
-    forms: &[Vector],
+    base: &Base,
+    mut met: Met,
     leaf: u64,
     end: usize,
 ) -> Result<(), Stop>
     requires end { end ≤ length controller.now.tree }
     requires empties { EmptiesBefore controller.now.tree end }
-    requires sizes { length forms.now ≡ controller.now.plant.n }
-    requires width { system.old.width ≡ controller.now.plant.n }
-    requires affine { All (λ form. length form ≡ length forms.now + 1) forms.now }
-    ensures width { system.new.width ≡ system.old.width }
-    ensures found { (law : Law) (path : List Row) → IsBaseOf controller.now.plant path system.old
-        → forms.now ≡ next_forms controller.now.plant law
+    requires sizes { length met.forms.items ≡ controller.now.plant.n }
+    requires width { base.now.width ≡ controller.now.plant.n }
+    requires affine { All (λ form. length form ≡ length met.forms.items + 1) met.forms.items }
+    requires met { AreMet controller.now.tree met.forms.items met.turns.items met.rows }
+    ensures { (law : Law) (path : List Row) → IsBaseOf controller.now.plant path base.now
+        → met.forms.items ≡ next_forms controller.now.plant law
         → MatchResult result (λ _. EmptiesMet controller.now.plant controller.now.tree law path)
         (IsStop (EmptiesFind controller.now.plant controller.now.tree law path leaf)) }
 {
     let mut way = Vec::new(alloc);
     for k in 0..end {
-        match rule_out_node(alloc, controller, system, way.as_slice(), forms, leaf, k) {
+        match rule_out_node(alloc, controller, base, &mut met, way.as_slice(), leaf, k) {
             Ok(()) => {}
             Err(stop) => return Err(stop),
         }
@@ -174,9 +177,14 @@ pub fn rule_out_targets(
         }
         Err(StageError::OutOfMemory) => return Err(Stop::NoMemory),
     };
-    let mut system = leaf_system(alloc, limits, controller.tree(), way)?;
-    match rule_out_sides(alloc, &mut system, limits, forms.as_slice(), leaf) {
-        Ok(()) => rule_out_empties(alloc, controller, &mut system, forms.as_slice(), leaf, end),
+    let system = leaf_system(alloc, limits, controller.tree(), way)?;
+    let base = Base::of(alloc, system)?;
+    let mut work = Workspace::new(alloc);
+    match rule_out_sides(alloc, &mut work, &base, limits, forms.as_slice(), leaf) {
+        Ok(()) => {
+            let met = Met::new(alloc, forms, work)?;
+            rule_out_empties(alloc, controller, &base, met, leaf, end)
+        }
         Err(stop) => Err(stop),
     }
 }

@@ -3,8 +3,10 @@
 #![tactic(auto)]
 
 mod answers;
+mod bases;
 mod forms;
 mod leaves;
+mod met;
 mod rows;
 mod search;
 mod systems;

@@ -1,22 +1,17 @@
-//! The systems of a leaf: the rows of the box and of the path to the leaf, and behind them those of one target.
+//! The systems of a leaf: the rows of the box and of the path to the leaf.
 
-ghost use Rattle.std.specs.Prelude.{◌≡◌, ◌+◌, ◌++◌, ◌≤◌, All, IfOk, OnOk, MatchResult, length, map, take};
+ghost use Rattle.std.specs.Prelude.{◌≡◌, ◌++◌, ◌≤◌, All, IfOk, length};
 ghost use Rattle.mpc_rows.specs.SetRuns.{box_rows};
-ghost use Rattle.mpc_recur.specs.Forms.{substituted, SubstitutedFits};
-ghost use Rattle.mpc_recur.specs.Stages.{IfTooWide};
 ghost use Rattle.mpc_paths.specs.Ways.{HasSplitRow, IsTurn, turn_row, way_rows};
 
-use crate::answers::StageError;
-use crate::rows::substituted;
 use mpc_frac::NoMemory;
-use mpc_linear::Vector;
 use mpc_paths::Turn;
 use mpc_rows::{Counts, Node, Row, System, Tree};
 use mpc_systems::{broken_row, push_box, whole_row};
 use std::alloc::Global;
 
 /// The row that holds behind a turn.
-fn turn_row(alloc: Global, tree: &Tree, turn: Turn, states: usize) -> Result<Row, NoMemory>
+pub fn turn_row(alloc: Global, tree: &Tree, turn: Turn, states: usize) -> Result<Row, NoMemory>
     requires turn { IsTurn tree.now turn }
     requires splits { All (HasSplitRow states) tree.now }
     ensures row { IfOk result (λ r. r ≡ turn_row tree.now turn) }
@@ -51,35 +46,4 @@ pub fn leaf_system(
         system.push(turn_row(alloc, tree, *turn, limits.len())?)?;
     }
     Ok(system)
-}
-
-/// Puts the rows of the way behind the others, with the forms in place of the coordinates. With an error some of them stand there.
-pub fn push_met(
-    alloc: Global,
-    system: &mut System,
-    tree: &Tree,
-    way: &[Turn],
-    forms: &[Vector],
-) -> Result<(), StageError>
-    requires few { length forms.now ≤ 4 }
-    requires width { system.old.width ≡ length forms.now }
-    requires affine { All (λ form. length form ≡ length forms.now + 1) forms.now }
-    requires way { All (IsTurn tree.now) way.now }
-    requires splits { All (HasSplitRow (length forms.now)) tree.now }
-    ensures width { system.new.width ≡ system.old.width }
-    ensures rows { OnOk result
-        (system.new.rows ≡ system.old.rows ++ map (substituted (length forms.now) forms.now) (way_rows tree.now way.now)) }
-    ensures kept { take (length system.old.rows) system.new.rows ≡ system.old.rows }
-    ensures wide { MatchResult result
-        (λ _. All (SubstitutedFits (length forms.now) forms.now) (way_rows tree.now way.now))
-        (IfTooWide (¬ All (SubstitutedFits (length forms.now) forms.now) (way_rows tree.now way.now))) }
-{
-    for turn in way {
-        let row = turn_row(alloc, tree, *turn, forms.len())?;
-        match substituted(alloc, &row, forms) {
-            Ok(met) => system.push(met)?,
-            Err(error) => return Err(error),
-        }
-    }
-    Ok(())
 }

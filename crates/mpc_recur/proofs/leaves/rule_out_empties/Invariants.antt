@@ -3,6 +3,7 @@ use Rattle.mpc_rows.specs.declared.laws.Law.{Law}
 use Rattle.mpc_rows.specs.declared.systems.Row.{Row}
 use Rattle.mpc_recur.specs.Forms.{next_forms}
 use Rattle.mpc_recur.specs.Findings.{Each}
+use Rattle.mpc_recur.specs.Met.{AreMet}
 use Rattle.mpc_recur.specs.Targets.{IsBaseOf, EmptyMet}
 use Rattle.mpc_paths.specs.Ways.{IsWay}
 use Rattle.mpc_recur.proofs.leaves.rule_out_empties.Given as goal
@@ -10,7 +11,7 @@ use Rattle.mpc_recur.proofs.leaves.rule_out_empties.Given as goal
 abbrev pub invariant-loop-k : goal.invariant-loop-k
 invariant-loop-k l = record {
   way : l.k < length l.controller.tree → IsWay l.controller.tree l.k l.way.items;
-  width : l.system.width ≡ l.fn.system.width;
-  kept : l.system.rows ≡ l.fn.system.rows;
-  met : (law : Law) (path : List Row) → IsBaseOf l.controller.plant path l.fn.system → l.forms ≡ next_forms l.controller.plant law → Each (EmptyMet l.controller.plant l.controller.tree law path) l.k;
+  forms : l.met.forms.items ≡ l.fn.met.forms.items;
+  kept : AreMet l.controller.tree l.fn.met.forms.items l.met.turns.items l.met.rows;
+  met : (law : Law) (path : List Row) → IsBaseOf l.controller.plant path l.base → l.fn.met.forms.items ≡ next_forms l.controller.plant law → Each (EmptyMet l.controller.plant l.controller.tree law path) l.k;
 }

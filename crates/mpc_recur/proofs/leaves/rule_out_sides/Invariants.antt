@@ -9,8 +9,4 @@ use Rattle.mpc_recur.specs.Targets.{IsBaseOf, SideMet}
 use Rattle.mpc_recur.proofs.leaves.rule_out_sides.Given as goal
 
 abbrev pub invariant-loop-i : goal.invariant-loop-i
-invariant-loop-i l = record {
-  width : l.system.width ≡ l.fn.system.width;
-  kept : l.system.rows ≡ l.fn.system.rows;
-  met : (plant : Plant) (law : Law) (path : List Row) → IsBaseOf plant path l.fn.system → l.forms ≡ next_forms plant law → l.limits ≡ limits_of plant → Each (SideMet plant law path) l.i;
-}
+invariant-loop-i l = (plant : Plant) (law : Law) (path : List Row) → IsBaseOf plant path l.base → l.forms ≡ next_forms plant law → l.limits ≡ limits_of plant → Each (SideMet plant law path) l.i
