@@ -1,8 +1,8 @@
 -- Whether bytes are the file of a controller, and its text in version 3.
 use Rattle.std.specs.Prelude.{◌≡◌, ℕ, List, length}
 use Rattle.mpc_controller.specs.Parts.{Parts}
-use Rattle.mpc_file.specs.declared.versions.Version.TheVariants.{Three}
-use Rattle.mpc_file.specs.FileGrammar.{Spells, IsSpelled}
+use Rattle.mpc_grammar.specs.declared.versions.Version.TheVariants.{Three}
+use Rattle.mpc_grammar.specs.FileGrammar.{Spells, IsSpelled}
 
 -- the bytes spell a controller in one of the three versions
 abbrev pub IsFile : List ℕ → Type 0

@@ -1,8 +1,8 @@
 //! The codes of what is answered.
 
 ghost use Rattle.std.specs.Prelude.{◌≡◌, ◌≤◌};
-ghost use Rattle.mpc_file.specs.declared.errors.FileError.TheVariants.{Bad, NoMemory};
-ghost use Rattle.mpc_file.specs.declared.errors.FileKind.TheVariants.{BadLine, Truncated, TailAfterEnd, BadNode, OverBound};
+ghost use Rattle.mpc_grammar.specs.declared.errors.FileError.TheVariants.{Bad, NoMemory};
+ghost use Rattle.mpc_grammar.specs.declared.errors.FileKind.TheVariants.{BadLine, Truncated, TailAfterEnd, BadNode, OverBound};
 
 use mpc_file::{FileError, FileKind};
 

@@ -1,8 +1,8 @@
 //! The file of a controller for C callers: it is read, or written again in version 3.
 
 ghost use Rattle.std.specs.Prelude.{◌≡◌, ◌≤◌, ◌<◌, length, take};
-ghost use Rattle.mpc_file.specs.declared.errors.FileKind.TheVariants.{BadLine, Truncated, TailAfterEnd, BadNode, OverBound};
-ghost use Rattle.mpc_file.specs.FileGrammar.{FailsAt};
+ghost use Rattle.mpc_grammar.specs.declared.errors.FileKind.TheVariants.{BadLine, Truncated, TailAfterEnd, BadNode, OverBound};
+ghost use Rattle.mpc_grammar.specs.FileGrammar.{FailsAt};
 ghost use Rattle.mpc_bench.specs.Texts.{IsFile, IsConverted, IsTextOfSize};
 
 use crate::codes::{READ, TOO_SHORT, code_of};

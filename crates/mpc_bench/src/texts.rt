@@ -2,7 +2,7 @@
 
 ghost use Rattle.std.specs.Prelude.{◌≡◌, ◌≤◌, ◌<◌, length, take, IfOk, IfErr, MatchBool};
 ghost use Rattle.std.specs.Bool.{OnFalse};
-ghost use Rattle.mpc_file.specs.FileGrammar.{ExplainsFileError};
+ghost use Rattle.mpc_grammar.specs.FileGrammar.{ExplainsFileError};
 ghost use Rattle.mpc_bench.specs.Texts.{IsConverted};
 
 use mpc_file::{FileError, read_file, write_file};

@@ -4,9 +4,9 @@ use Rattle.std.specs.Str.Lines.{lines}
 use Rattle.mpc_plant.specs.declared.plants.Plant.{Plant}
 use Rattle.mpc_rows.specs.declared.programs.Qp.{Qp}
 use Rattle.mpc_controller.specs.Parts.{Parts}
-use Rattle.mpc_file.specs.declared.versions.Version.TheVariants.{Three}
-use Rattle.mpc_file.specs.FileGrammar.{Spells}
-use Rattle.mpc_file.specs.TextTheorems.{OneText}
+use Rattle.mpc_grammar.specs.declared.versions.Version.TheVariants.{Three}
+use Rattle.mpc_grammar.specs.FileGrammar.{Spells}
+use Rattle.mpc_grammar.specs.TextTheorems.{OneText}
 use Rattle.mpc_replies.specs.ReplyLines.{AreRepliesOf, ReplyRightly, RepliesAreRight}
 use Rattle.mpc_synthesis.specs.Controllers.{IsController, ControllerIsRight, ControllerReplies, OneController}
 use Rattle.mpc_synthesis.specs.Outcomes.{complete}

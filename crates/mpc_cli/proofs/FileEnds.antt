@@ -1,8 +1,8 @@
 -- What comes of the file of a controller, and the answers to it.
 use Rattle.std.proofs.Common.{◌≡◌, ◌≢◌, ℕ, ◌^◌, ◌<◌, ◌≤◌, List, length, refl, sym, subst, arith, lit<}
 use Rattle.std.specs.Prelude.{codes}
-use Rattle.mpc_file.specs.declared.errors.FileKind.{FileKind}
-use Rattle.mpc_file.specs.FileGrammar.{FailsAt}
+use Rattle.mpc_grammar.specs.declared.errors.FileKind.{FileKind}
+use Rattle.mpc_grammar.specs.FileGrammar.{FailsAt}
 use Rattle.mpc_files.specs.FileOutcomes.{fails, spells, IsFileReading, FileOutcome, accepted, IsFileOutcome, OneFileReading, OneFileOutcome}
 use Rattle.mpc_files.specs.FileAnswers.{FileReplies, Converts, IsAccepted}
 use Rattle.mpc_theorem.specs.FileOutputs.{AcceptedIsRightFile, RepliedIsOutput, ConvertedIsOutput}

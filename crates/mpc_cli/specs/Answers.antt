@@ -8,7 +8,7 @@ use Rattle.mpc_rows.specs.declared.places.Place.{Place}
 use Rattle.mpc_space.specs.Definite.{IsDefinite}
 use Rattle.mpc_condense.specs.Condensed.{IsCondensed}
 use Rattle.mpc_controller.specs.Parts.{Parts}
-use Rattle.mpc_file.specs.FileGrammar.{IsSpelled}
+use Rattle.mpc_grammar.specs.FileGrammar.{IsSpelled}
 use Rattle.mpc_files.specs.FileOutcomes.{AcceptsFile}
 use Rattle.mpc_synthesis.specs.Refusals.{Extent, controller, FirstWide}
 use Rattle.mpc_drill.specs.DrillPlant.{IsDrillPlant}

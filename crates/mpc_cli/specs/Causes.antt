@@ -7,8 +7,8 @@ use Rattle.mpc_rows.specs.declared.places.Place.{Place}
 use Rattle.mpc_rows.specs.declared.programs.Qp.{Qp}
 use Rattle.mpc_condense.specs.Causes.{row_count}
 use Rattle.mpc_controller.specs.Parts.{Parts}
-use Rattle.mpc_file.specs.declared.errors.FileKind.{FileKind}
-use Rattle.mpc_file.specs.FileGrammar.{FailsAt, IsSpelled}
+use Rattle.mpc_grammar.specs.declared.errors.FileKind.{FileKind}
+use Rattle.mpc_grammar.specs.FileGrammar.{FailsAt, IsSpelled}
 use Rattle.mpc_check.specs.declared.answers.Spot.{Spot}
 use Rattle.mpc_check.specs.Findings.{refused, too_wide}
 use Rattle.mpc_check.specs.Acceptance.{Accepts, FindsBehind}

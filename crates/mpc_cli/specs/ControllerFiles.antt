@@ -7,8 +7,8 @@ use Rattle.mpc_plant.specs.Trajectory.{IsInBox}
 use Rattle.mpc_rows.specs.declared.programs.Qp.{Qp}
 use Rattle.mpc_controller.specs.Parts.{Parts}
 use Rattle.mpc_controller.specs.Replies.{RepliesAt}
-use Rattle.mpc_file.specs.declared.versions.Version.TheVariants.{Three}
-use Rattle.mpc_file.specs.FileGrammar.{Spells}
+use Rattle.mpc_grammar.specs.declared.versions.Version.TheVariants.{Three}
+use Rattle.mpc_grammar.specs.FileGrammar.{Spells}
 use Rattle.mpc_synthesis.specs.Controllers.{IsController}
 
 -- The text of the plant's controller, in version 3: of its table of laws and the table's certified tree, which the independent checker accepts, and which

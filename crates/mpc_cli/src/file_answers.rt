@@ -1,7 +1,7 @@
 //! The answers of the commands on a controller's file.
 
 ghost use Rattle.std.specs.Prelude.{◌≡◌, ◌^◌, ◌<◌, IfOk, List, ℕ, codes, length};
-ghost use Rattle.mpc_file.specs.FileGrammar.{ExplainsFileError};
+ghost use Rattle.mpc_grammar.specs.FileGrammar.{ExplainsFileError};
 ghost use Rattle.mpc_files.specs.FileAnswers.{IsFileCause};
 ghost use Rattle.mpc_safety.specs.SafetyOutcomes.{IsCausedBy};
 ghost use Rattle.mpc_replies.specs.Cut.{head_of};

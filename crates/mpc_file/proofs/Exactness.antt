@@ -3,9 +3,9 @@
 use Rattle.std.proofs.Common.{◌≡◌, ℕ, ◌<◌, ◌≤◌, inl, inr, ⊎_elim, Bool, true≢false, IsTrue, List, [], ◌∷◌, ◌++◌, length, refl, sym, ap, subst, ◌∙◌, arith, length-append}
 use Rattle.std.proofs.lemmas.Bool.{cases_lt}
 use Rattle.mpc_words.specs.Words.{IsWithout, IsCutAt}
-use Rattle.mpc_file.specs.declared.errors.FileKind.{FileKind}
-use Rattle.mpc_file.specs.declared.errors.FileKind.TheVariants.{BadLine, Truncated, TailAfterEnd, BadNode, OverBound}
-use Rattle.mpc_file.specs.Reading.{Cursor, TakesLine, LineRule, IsGood, IsRefused, Grammar, FailsLine, one_line, give, ◌>>=◌, that_which, ReadsItems, no_item, one_more, FailsItem, many}
+use Rattle.mpc_grammar.specs.declared.errors.FileKind.{FileKind}
+use Rattle.mpc_grammar.specs.declared.errors.FileKind.TheVariants.{BadLine, Truncated, TailAfterEnd, BadNode, OverBound}
+use Rattle.mpc_grammar.specs.Reading.{Cursor, TakesLine, LineRule, IsGood, IsRefused, Grammar, FailsLine, one_line, give, ◌>>=◌, that_which, ReadsItems, no_item, one_more, FailsItem, many}
 
 pub record IsExactAt {X : Type 0} (g : Grammar X) (here : Cursor) : Type 0 where
   pub one_value : (x y : X) (behind other : Cursor) → g.Reads here x behind → g.Reads here y other → x ≡ y

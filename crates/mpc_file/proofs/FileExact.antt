@@ -2,17 +2,17 @@
 use Rattle.std.proofs.Common.{◌≡◌, ℕ, ◌^◌, ◌<◌, ◌≤◌, inl, inr, List, [], ◌++◌, length, codes, refl, sym, ap, ◌∙◌, arith}
 use Rattle.mpc_plant.specs.declared.plants.Plant.{Plant}
 use Rattle.mpc_controller.specs.Parts.{Parts}
-use Rattle.mpc_file.specs.declared.versions.Version.{Version}
-use Rattle.mpc_file.specs.declared.versions.Version.TheVariants.{One, Two, Three}
-use Rattle.mpc_file.specs.Versions.{number_of}
-use Rattle.mpc_file.specs.Reading.{Cursor, one_line, ◌>>=◌}
-use Rattle.mpc_file.specs.PlantGrammar.{plain_rule, plant, UsesAll}
-use Rattle.mpc_file.specs.LawGrammar.{used_by}
-use Rattle.mpc_file.specs.TreeGrammar.{planes_used, IsWord}
-use Rattle.mpc_file.specs.FileGrammar.{IsVersion, parts_with, written, parts_named, named, behind_plant, start, Spells, whole_file}
-use Rattle.mpc_file.specs.TextTheorems.{OneVersion, OneController, SpelledNeverFails, OneLine, OneReason, NoPrefix}
+use Rattle.mpc_grammar.specs.declared.versions.Version.{Version}
+use Rattle.mpc_grammar.specs.declared.versions.Version.TheVariants.{One, Two, Three}
+use Rattle.mpc_grammar.specs.Versions.{number_of}
+use Rattle.mpc_grammar.specs.Reading.{Cursor, one_line, ◌>>=◌}
+use Rattle.mpc_grammar.specs.PlantGrammar.{plain_rule, plant, UsesAll}
+use Rattle.mpc_grammar.specs.LawGrammar.{used_by}
+use Rattle.mpc_grammar.specs.TreeGrammar.{planes_used, IsWord}
+use Rattle.mpc_grammar.specs.FileGrammar.{IsVersion, parts_with, written, parts_named, named, behind_plant, start, Spells, whole_file}
+use Rattle.mpc_grammar.specs.TextTheorems.{OneVersion, OneController, SpelledNeverFails, OneLine, OneReason, NoPrefix}
 use Rattle.mpc_file.proofs.Exactness.{IsExactAt, CutTheorems, exact_give, exact_both}
-use Rattle.mpc_file.specs.LineTheorems.{WordTheorems}
+use Rattle.mpc_grammar.specs.LineTheorems.{WordTheorems}
 use Rattle.mpc_file.proofs.LineNumbers.{without, one_count}
 use Rattle.mpc_file.proofs.Runs.{reach, run_line}
 use Rattle.mpc_file.proofs.PlantExact.{exact_plain, exact_plant}

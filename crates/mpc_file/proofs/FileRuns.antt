@@ -5,15 +5,15 @@ use Rattle.mpc_exact.specs.Rational.{ℚ}
 use Rattle.mpc_linear.specs.declared.integers.RowInt.{RowInt}
 use Rattle.mpc_plant.specs.declared.plants.Plant.{Plant}
 use Rattle.mpc_plant.specs.declared.lists.PlantRow.{PlantRow}
-use Rattle.mpc_file.specs.Versions.{greatest_rows}
-use Rattle.mpc_file.specs.declared.versions.Version.{Version}
-use Rattle.mpc_file.specs.declared.versions.Version.TheVariants.{One, Two, Three}
-use Rattle.mpc_file.specs.declared.plant_parts.Sizes.{Sizes}
-use Rattle.mpc_file.specs.Reading.{LineRule}
-use Rattle.mpc_file.specs.PlantGrammar.{AreSizes, plain_rule, IsMatrix, IsWeightLine, dynamics, weights, IsGoal, offsets_with, offset_lines, offsets, IsRow, so_many, row_list, last_list, IsAxis, limits, IsPlantWith, plant, AreNumbers, IsNumber, UsesAll, StatesNew}
-use Rattle.mpc_file.specs.LawGrammar.{IsLawLine, move_rule, moves, law_with, written_law, written_laws, forms, used_behind, AreFormNumbers, named_moves_rule, named_mults, used_by, named_law, named_laws}
-use Rattle.mpc_file.specs.TreeGrammar.{written_split, IsWord, written_tree, plane_rule, planes, planes_used, named_split, named_tree}
-use Rattle.mpc_file.specs.FileGrammar.{IsVersion, parts_with, written, parts_named, named, behind_plant, whole_file}
+use Rattle.mpc_grammar.specs.Versions.{greatest_rows}
+use Rattle.mpc_grammar.specs.declared.versions.Version.{Version}
+use Rattle.mpc_grammar.specs.declared.versions.Version.TheVariants.{One, Two, Three}
+use Rattle.mpc_grammar.specs.declared.plant_parts.Sizes.{Sizes}
+use Rattle.mpc_grammar.specs.Reading.{LineRule}
+use Rattle.mpc_grammar.specs.PlantGrammar.{AreSizes, plain_rule, IsMatrix, IsWeightLine, dynamics, weights, IsGoal, offsets_with, offset_lines, offsets, IsRow, so_many, row_list, last_list, IsAxis, limits, IsPlantWith, plant, AreNumbers, IsNumber, UsesAll, StatesNew}
+use Rattle.mpc_grammar.specs.LawGrammar.{IsLawLine, move_rule, moves, law_with, written_law, written_laws, forms, used_behind, AreFormNumbers, named_moves_rule, named_mults, used_by, named_law, named_laws}
+use Rattle.mpc_grammar.specs.TreeGrammar.{written_split, IsWord, written_tree, plane_rule, planes, planes_used, named_split, named_tree}
+use Rattle.mpc_grammar.specs.FileGrammar.{IsVersion, parts_with, written, parts_named, named, behind_plant, whole_file}
 use Rattle.mpc_file.proofs.Runs.{IsRun, run_line, run_give, run_that, run_both, run_many}
 use Rattle.mpc_file.proofs.TreeExact.{run_nodes}
 

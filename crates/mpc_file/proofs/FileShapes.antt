@@ -11,14 +11,14 @@ use Rattle.mpc_rows.specs.declared.trees.Node.{Node}
 use Rattle.mpc_controller.specs.Parts.{Parts, limits_of, IsSplitRow}
 use Rattle.mpc_controller.specs.PreorderTheorems.{SplitSpells, LeafSpells}
 use Rattle.mpc_controller.specs.Bounds.{SplitFits, IsController}
-use Rattle.mpc_file.specs.declared.versions.Version.{Version}
-use Rattle.mpc_file.specs.declared.versions.Version.TheVariants.{One, Two, Three}
-use Rattle.mpc_file.specs.Reading.{Cursor, one_line, ◌>>=◌}
-use Rattle.mpc_file.specs.PlantGrammar.{plant as plant_grammar}
-use Rattle.mpc_file.specs.LawGrammar.{NamedLaw, law_named, used_by, written_laws, forms, named_laws}
-use Rattle.mpc_file.specs.TreeGrammar.{IsPlaneLine, NodeOver, written_split, plane_rule, planes, planes_used, named_split, plane_named, written_tree, named_tree, node_of}
-use Rattle.mpc_file.specs.FileGrammar.{written, named, behind_plant}
-use Rattle.mpc_file.proofs.ManyLemmas.{all_items}
+use Rattle.mpc_grammar.specs.declared.versions.Version.{Version}
+use Rattle.mpc_grammar.specs.declared.versions.Version.TheVariants.{One, Two, Three}
+use Rattle.mpc_grammar.specs.Reading.{Cursor, one_line, ◌>>=◌}
+use Rattle.mpc_grammar.specs.PlantGrammar.{plant as plant_grammar}
+use Rattle.mpc_grammar.specs.LawGrammar.{NamedLaw, law_named, used_by, written_laws, forms, named_laws}
+use Rattle.mpc_grammar.specs.TreeGrammar.{IsPlaneLine, NodeOver, written_split, plane_rule, planes, planes_used, named_split, plane_named, written_tree, named_tree, node_of}
+use Rattle.mpc_grammar.specs.FileGrammar.{written, named, behind_plant}
+use Rattle.mpc_grammar.specs.Outcomes.{all_items}
 use Rattle.mpc_file.proofs.Stability.{split_stable}
 use Rattle.mpc_file.proofs.LawShapes.{GoodLaws, written_good, named_good}
 use Rattle.mpc_file.proofs.TreeShapes.{SplitsWell, GoodTree, good_tree}

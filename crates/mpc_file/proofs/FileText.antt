@@ -2,12 +2,12 @@
 use Rattle.std.proofs.Common.{◌≡◌, [], length, codes, refl, sym, ap, ◌∙◌}
 use Rattle.mpc_plant.specs.declared.plants.Plant.{Plant}
 use Rattle.mpc_controller.specs.Parts.{Parts}
-use Rattle.mpc_file.specs.declared.versions.Version.{Version}
-use Rattle.mpc_file.specs.declared.versions.Version.TheVariants.{One, Two, Three}
-use Rattle.mpc_file.specs.Reading.{Cursor, ◌>>=◌}
-use Rattle.mpc_file.specs.PlantGrammar.{plant}
-use Rattle.mpc_file.specs.FileGrammar.{IsVersion, parts_with, written, behind_plant, start}
-use Rattle.mpc_file.specs.TextTheorems.{OneText}
+use Rattle.mpc_grammar.specs.declared.versions.Version.{Version}
+use Rattle.mpc_grammar.specs.declared.versions.Version.TheVariants.{One, Two, Three}
+use Rattle.mpc_grammar.specs.Reading.{Cursor, ◌>>=◌}
+use Rattle.mpc_grammar.specs.PlantGrammar.{plant}
+use Rattle.mpc_grammar.specs.FileGrammar.{IsVersion, parts_with, written, behind_plant, start}
+use Rattle.mpc_grammar.specs.TextTheorems.{OneText}
 use Rattle.mpc_file.proofs.OneText.{HasOneText, text_plain, text_give, text_with}
 use Rattle.mpc_file.proofs.PartText.{text_plant, text_written_laws, text_written_tree, text_word}
 use Rattle.mpc_file.proofs.NamedText.{text_named}

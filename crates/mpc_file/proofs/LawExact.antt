@@ -7,12 +7,12 @@ use Rattle.mpc_plant.specs.declared.plants.Plant.{Plant}
 use Rattle.mpc_rows.specs.declared.laws.Law.{Law}
 use Rattle.mpc_controller.specs.Parts.{row_count}
 use Rattle.mpc_words.specs.Words.{IsWithout}
-use Rattle.mpc_file.specs.declared.versions.Version.TheVariants.{Three}
-use Rattle.mpc_file.specs.Reading.{Cursor, Grammar, one_line, ReadsItems, no_item, one_more}
-use Rattle.mpc_file.specs.PlantGrammar.{plain_rule, AreNumbers, IsNumber, StatesNew}
-use Rattle.mpc_file.specs.LawGrammar.{unknowns, IsLawLine, move_rule, moves, mults, law_with, written_law, law_count, written_laws, forms, NameForms, used_behind, AreFormNumbers, named_moves_rule, named_mults, NamedLaw, used_by, named_law, named_laws}
+use Rattle.mpc_grammar.specs.declared.versions.Version.TheVariants.{Three}
+use Rattle.mpc_grammar.specs.Reading.{Cursor, Grammar, one_line, ReadsItems, no_item, one_more}
+use Rattle.mpc_grammar.specs.PlantGrammar.{plain_rule, AreNumbers, IsNumber, StatesNew}
+use Rattle.mpc_grammar.specs.LawGrammar.{unknowns, IsLawLine, move_rule, moves, mults, law_with, written_law, law_count, written_laws, forms, NameForms, used_behind, AreFormNumbers, named_moves_rule, named_mults, NamedLaw, used_by, named_law, named_laws}
 use Rattle.mpc_file.proofs.Exactness.{IsExactAt, CutTheorems, exact_line, exact_give, exact_both, exact_many}
-use Rattle.mpc_file.specs.LineTheorems.{WordTheorems}
+use Rattle.mpc_grammar.specs.LineTheorems.{WordTheorems}
 use Rattle.mpc_file.proofs.LineNumbers.{IsShortNumber, without, one_naturals, one_count, one_fractions}
 use Rattle.mpc_file.proofs.PlantExact.{few_rows, exact_plain, exact_so_many}
 

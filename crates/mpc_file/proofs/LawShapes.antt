@@ -11,11 +11,11 @@ use Rattle.mpc_plant.specs.declared.plants.Plant.{Plant}
 use Rattle.mpc_rows.specs.declared.laws.Law.{Law}
 use Rattle.mpc_controller.specs.Parts.{limits_of, IsLawFor}
 use Rattle.mpc_controller.specs.Bounds.{FormFits, LawFits}
-use Rattle.mpc_file.specs.Reading.{Cursor, one_line, ReadsItems, no_item, one_more}
-use Rattle.mpc_file.specs.PlantGrammar.{plain_rule, AreNumbers, StatesNew}
-use Rattle.mpc_file.specs.LawGrammar.{unknowns, move_rule, moves, mults, matrix_of, written_law, written_laws, forms, NameForms, used_behind, form_named, named_mults, NamedLaw, used_by, named_law, named_laws, law_named}
+use Rattle.mpc_grammar.specs.Reading.{Cursor, one_line, ReadsItems, no_item, one_more}
+use Rattle.mpc_grammar.specs.PlantGrammar.{plain_rule, AreNumbers, StatesNew}
+use Rattle.mpc_grammar.specs.LawGrammar.{unknowns, move_rule, moves, mults, matrix_of, written_law, written_laws, forms, NameForms, used_behind, form_named, named_mults, NamedLaw, used_by, named_law, named_laws, law_named}
 use Rattle.mpc_file.proofs.Stability.{form_stable, all_stable}
-use Rattle.mpc_file.proofs.ManyLemmas.{all_items, just_so_many}
+use Rattle.mpc_grammar.specs.Outcomes.{all_items, just_so_many}
 
 -- ---- forms
 abbrev HasSize : ℕ → List ℚ → Type 0

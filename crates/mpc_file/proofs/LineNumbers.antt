@@ -9,9 +9,9 @@ use Rattle.mpc_frac.specs.Fits.{FitsFrac}
 use Rattle.mpc_frac.specs.Text.{text_of}
 use Rattle.mpc_linear.specs.Whole.{AreSmall}
 use Rattle.mpc_words.specs.Words.{IsWithout, IsWord, line}
-use Rattle.mpc_file.specs.Lines.{integers_line, fractions_line, pair_words, cert_line}
-use Rattle.mpc_file.specs.PlantGrammar.{AllFit}
-use Rattle.mpc_file.specs.LineTheorems.{WordTheorems}
+use Rattle.mpc_grammar.specs.Lines.{integers_line, fractions_line, pair_words, cert_line}
+use Rattle.mpc_grammar.specs.PlantGrammar.{AllFit}
+use Rattle.mpc_grammar.specs.LineTheorems.{WordTheorems}
 
 -- ---- names
 -- the test of whether a text is without a byte
@@ -47,14 +47,6 @@ same_rows {A} width (x ∷ xs) (y ∷ ys) n h k e =
     let back : xs ≡ ys = same_rows width xs ys (omega arith) (All-tail (λ (row : List A). length row ≡ width) x xs h) (All-tail (λ (row : List A). length row ≡ width) y ys k)
     (same_back x (flat_map (λ row. row) xs) y (flat_map (λ row. row) ys) len e) in
     λ i. front i ∷ back i
-
-pub all_in_rows : (rows : List (List ℚ)) → All AllFit rows → AllFit (flat_map (λ row. row) rows)
-all_in_rows [] h = All-nil FitsFrac
-all_in_rows (row ∷ rows) h = all_append row (flat_map (λ row. row) rows) (All-head AllFit row rows h) (all_in_rows rows (All-tail AllFit row rows h))
-  where
-    all_append : (xs ys : List ℚ) → AllFit xs → AllFit ys → AllFit (xs ++ ys)
-    all_append [] ys h k = k
-    all_append (x ∷ xs) ys h k = All-cons FitsFrac x (xs ++ ys) (All-head FitsFrac x xs h) (all_append xs ys (All-tail FitsFrac x xs h) k)
 
 -- ---- numbers that are spelled in one way
 module _ {A : Type 0} (spell : A → List ℕ) (Fits : A → Type 0) where

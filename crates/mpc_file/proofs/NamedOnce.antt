@@ -5,8 +5,8 @@ use Rattle.std.proofs.lemmas.Bool.{cases_lt}
 use Rattle.std.proofs.lemmas.List.Elements.{Contains-get_or}
 use Rattle.std.proofs.Math.ListN.{get_or-append}
 use Rattle.std.proofs.Math.Seq.{get_or-append_seam}
-use Rattle.mpc_file.specs.Reading.{Cursor, Grammar, ReadsItems, no_item, one_more}
-use Rattle.mpc_file.specs.LawGrammar.{NameForms, used_behind}
+use Rattle.mpc_grammar.specs.Reading.{Cursor, Grammar, ReadsItems, no_item, one_more}
+use Rattle.mpc_grammar.specs.LawGrammar.{NameForms, used_behind}
 
 -- ---- numbers in the order of first use
 pub names_append : (all used : ℕ) (ks js : List ℕ) → NameForms all used ks → NameForms all (used_behind used ks) js → NameForms all used (ks ++ js)

@@ -10,11 +10,11 @@ use Rattle.mpc_rows.specs.declared.laws.Law.{Law}
 use Rattle.mpc_rows.specs.declared.trees.Node.{Node}
 use Rattle.mpc_rows.specs.declared.trees.Node.TheVariants.{Split, Law as LawLeaf, NoMove}
 use Rattle.mpc_controller.specs.Parts.{Parts}
-use Rattle.mpc_file.specs.Reading.{Cursor, Grammar, one_line, give, ◌>>=◌, ReadsItems, no_item, one_more}
-use Rattle.mpc_file.specs.PlantGrammar.{plain_rule, AreNumbers, UsesAll, StatesNew, IsNumber}
-use Rattle.mpc_file.specs.LawGrammar.{forms, NameForms, used_behind, form_named, named_mults, NamedLaw, used_by, named_law, named_laws, law_named}
-use Rattle.mpc_file.specs.TreeGrammar.{NodeLine, StatesNode, splits, names_law, has_none, NodeOver, split_node, law_node, no_move_node, node_behind, node_at, owed, plane_rule, planes, planes_used, used_with, named_split, plane_named, named_tree, IsWord, node_of, IsNext}
-use Rattle.mpc_file.specs.FileGrammar.{parts_named, named}
+use Rattle.mpc_grammar.specs.Reading.{Cursor, Grammar, one_line, give, ◌>>=◌, ReadsItems, no_item, one_more}
+use Rattle.mpc_grammar.specs.PlantGrammar.{plain_rule, AreNumbers, UsesAll, StatesNew, IsNumber}
+use Rattle.mpc_grammar.specs.LawGrammar.{forms, NameForms, used_behind, form_named, named_mults, NamedLaw, used_by, named_law, named_laws, law_named}
+use Rattle.mpc_grammar.specs.TreeGrammar.{NodeLine, StatesNode, splits, names_law, has_none, NodeOver, split_node, law_node, no_move_node, node_behind, node_at, owed, plane_rule, planes, planes_used, used_with, named_split, plane_named, named_tree, IsWord, node_of, IsNext}
+use Rattle.mpc_grammar.specs.FileGrammar.{parts_named, named}
 use Rattle.mpc_file.proofs.LineNumbers.{same_front, same_back}
 use Rattle.mpc_file.proofs.OneText.{HasOneText, Settles, text_plain, text_give, text_both, text_with}
 use Rattle.mpc_file.proofs.PartText.{text_forms, text_named_laws, text_planes, text_named_tree}

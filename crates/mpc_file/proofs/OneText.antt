@@ -1,8 +1,8 @@
 -- What is read determines the bytes that it is read from. This holds of the ways in which grammars are joined where it holds of their parts and
 -- what both parts state determines what the first does.
 use Rattle.std.proofs.Common.{◌≡◌, ℕ, ◌≤◌, Bool, nat_lt, List, [], ◌∷◌, ◌++◌, length, refl, sym, ap, subst, ◌∙◌, arith, length-append, ltb-false}
-use Rattle.mpc_file.specs.Reading.{Cursor, LineRule, Grammar, one_line, give, ◌>>=◌, that_which, ReadsItems, no_item, one_more, many}
-use Rattle.mpc_file.specs.PlantGrammar.{plain_rule, so_many}
+use Rattle.mpc_grammar.specs.Reading.{Cursor, LineRule, Grammar, one_line, give, ◌>>=◌, that_which, ReadsItems, no_item, one_more, many}
+use Rattle.mpc_grammar.specs.PlantGrammar.{plain_rule, so_many}
 use Rattle.mpc_file.proofs.LineNumbers.{same_front, same_back}
 use Rattle.mpc_file.proofs.LawExact.{so_few}
 

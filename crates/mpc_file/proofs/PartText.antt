@@ -11,18 +11,18 @@ use Rattle.mpc_rows.specs.declared.trees.Node.{Node}
 use Rattle.mpc_rows.specs.declared.trees.Node.TheVariants.{Split, Law as LawLeaf, NoMove}
 use Rattle.mpc_controller.specs.Parts.{row_count}
 use Rattle.mpc_controller.specs.Certificates.{cell_rows}
-use Rattle.mpc_file.specs.Versions.{greatest_rows}
-use Rattle.mpc_file.specs.declared.versions.Version.{Version}
-use Rattle.mpc_file.specs.declared.versions.Version.TheVariants.{One, Two, Three}
-use Rattle.mpc_file.specs.declared.plant_parts.Sizes.{Sizes}
-use Rattle.mpc_file.specs.declared.plant_parts.Dynamics.{Dynamics}
-use Rattle.mpc_file.specs.declared.plant_parts.Weights.{Weights}
-use Rattle.mpc_file.specs.declared.plant_parts.Offsets.{Offsets}
-use Rattle.mpc_file.specs.declared.plant_parts.Limits.{Limits}
-use Rattle.mpc_file.specs.Reading.{Cursor, LineRule, one_line}
-use Rattle.mpc_file.specs.PlantGrammar.{AreSizes, plain_rule, IsMatrix, IsWeightLine, dynamics, weights, IsGoal, offsets_with, offset_lines, offsets, IsRow, row_list, last_list, IsAxis, limits, IsPlantWith, plant, AreNumbers, IsNumber, UsesAll, StatesNew}
-use Rattle.mpc_file.specs.LawGrammar.{IsLawLine, move_rule, moves, law_with, written_law, law_count, written_laws, forms, used_behind, AreFormNumbers, named_moves_rule, named_mults, NamedLaw, used_by, named_law, named_laws}
-use Rattle.mpc_file.specs.TreeGrammar.{IsCertLine, certs, NodeLine, split_at, leaf_of, no_move, StatesNode, splits, names_law, has_none, node_rule, NodeOver, split_node, law_node, no_move_node, node_behind, node_at, owed, nodes, written_split, IsWord, written_tree, plane_rule, planes, planes_used, named_split, named_tree, node_of}
+use Rattle.mpc_grammar.specs.Versions.{greatest_rows}
+use Rattle.mpc_grammar.specs.declared.versions.Version.{Version}
+use Rattle.mpc_grammar.specs.declared.versions.Version.TheVariants.{One, Two, Three}
+use Rattle.mpc_grammar.specs.declared.plant_parts.Sizes.{Sizes}
+use Rattle.mpc_grammar.specs.declared.plant_parts.Dynamics.{Dynamics}
+use Rattle.mpc_grammar.specs.declared.plant_parts.Weights.{Weights}
+use Rattle.mpc_grammar.specs.declared.plant_parts.Offsets.{Offsets}
+use Rattle.mpc_grammar.specs.declared.plant_parts.Limits.{Limits}
+use Rattle.mpc_grammar.specs.Reading.{Cursor, LineRule, one_line}
+use Rattle.mpc_grammar.specs.PlantGrammar.{AreSizes, plain_rule, IsMatrix, IsWeightLine, dynamics, weights, IsGoal, offsets_with, offset_lines, offsets, IsRow, row_list, last_list, IsAxis, limits, IsPlantWith, plant, AreNumbers, IsNumber, UsesAll, StatesNew}
+use Rattle.mpc_grammar.specs.LawGrammar.{IsLawLine, move_rule, moves, law_with, written_law, law_count, written_laws, forms, used_behind, AreFormNumbers, named_moves_rule, named_mults, NamedLaw, used_by, named_law, named_laws}
+use Rattle.mpc_grammar.specs.TreeGrammar.{IsCertLine, certs, NodeLine, split_at, leaf_of, no_move, StatesNode, splits, names_law, has_none, node_rule, NodeOver, split_node, law_node, no_move_node, node_behind, node_at, owed, nodes, written_split, IsWord, written_tree, plane_rule, planes, planes_used, named_split, named_tree, node_of}
 use Rattle.mpc_file.proofs.OneText.{HasOneText, text_line, text_plain, text_give, text_that, text_with, text_many, text_so_many, so_many_read}
 
 -- ---- the plant

@@ -12,19 +12,20 @@ use Rattle.mpc_plant.specs.declared.plants.Plant.{Plant}
 use Rattle.mpc_plant.specs.declared.lists.PlantRow.{PlantRow}
 use Rattle.mpc_plant.specs.declared.lists.Coordinate.{Coordinate}
 use Rattle.mpc_words.specs.Words.{IsWithout}
-use Rattle.mpc_file.specs.Reading.{Cursor, LineRule, one_line}
-use Rattle.mpc_file.specs.Versions.{greatest_rows}
-use Rattle.mpc_file.specs.declared.versions.Version.{Version}
-use Rattle.mpc_file.specs.declared.versions.Version.TheVariants.{One, Two, Three}
-use Rattle.mpc_file.specs.declared.plant_parts.Sizes.{Sizes}
-use Rattle.mpc_file.specs.declared.plant_parts.Dynamics.{Dynamics}
-use Rattle.mpc_file.specs.declared.plant_parts.Weights.{Weights}
-use Rattle.mpc_file.specs.declared.plant_parts.Offsets.{Offsets}
-use Rattle.mpc_file.specs.declared.plant_parts.Limits.{Limits}
-use Rattle.mpc_file.specs.PlantGrammar.{AllFit, AreSizes, plain_rule, IsMatrix, IsWeightLine, matrix, weight, dynamics, weights, IsGoal, offsets_with, offset_lines, offsets, IsRow, so_many, row_list, last_list, IsAxis, limits, IsPlantWith, plant, AreNumbers, IsNumber}
+use Rattle.mpc_grammar.specs.Reading.{Cursor, LineRule, one_line}
+use Rattle.mpc_grammar.specs.Versions.{greatest_rows}
+use Rattle.mpc_grammar.specs.declared.versions.Version.{Version}
+use Rattle.mpc_grammar.specs.declared.versions.Version.TheVariants.{One, Two, Three}
+use Rattle.mpc_grammar.specs.declared.plant_parts.Sizes.{Sizes}
+use Rattle.mpc_grammar.specs.declared.plant_parts.Dynamics.{Dynamics}
+use Rattle.mpc_grammar.specs.declared.plant_parts.Weights.{Weights}
+use Rattle.mpc_grammar.specs.declared.plant_parts.Offsets.{Offsets}
+use Rattle.mpc_grammar.specs.declared.plant_parts.Limits.{Limits}
+use Rattle.mpc_grammar.specs.PlantGrammar.{AllFit, AreSizes, plain_rule, IsMatrix, IsWeightLine, matrix, weight, dynamics, weights, IsGoal, offsets_with, offset_lines, offsets, IsRow, so_many, row_list, last_list, IsAxis, limits, IsPlantWith, plant, AreNumbers, IsNumber}
 use Rattle.mpc_file.proofs.Exactness.{IsExactAt, IsExactRule, CutTheorems, exact_line, exact_give, exact_that, exact_both, exact_many}
-use Rattle.mpc_file.specs.LineTheorems.{WordTheorems}
-use Rattle.mpc_file.proofs.LineNumbers.{IsShortNumber, without, same_front, same_back, same_rows, all_in_rows, one_words, one_decimal, decimal_word, one_naturals, one_count, one_fractions}
+use Rattle.mpc_grammar.specs.LineTheorems.{WordTheorems}
+use Rattle.mpc_grammar.specs.Fractions.{entries_fit}
+use Rattle.mpc_file.proofs.LineNumbers.{IsShortNumber, without, same_front, same_back, same_rows, one_words, one_decimal, decimal_word, one_naturals, one_count, one_fractions}
 
 -- ---- the plant of given parts
 is_plant-prop : (n p horizon : ℕ) (a b q r last : RationalMatrix) (drift xgoal ugoal : List ℚ) (rows terminal : List PlantRow) (grid : List Coordinate) → IsProp (IsPlant n p horizon a b q r last drift xgoal ugoal rows terminal grid)
@@ -109,7 +110,7 @@ module _ (cuts : CutTheorems) (laws : WordTheorems) where
   same_matrix : (name : List ℕ) → IsWithout 32 name → (rows columns : ℕ) (line : List ℕ) (m w : RationalMatrix) → IsMatrix name rows columns line m → IsMatrix name rows columns line w → m ≡ w
   same_matrix name plain rows columns line m w h k =
       let flat : flat_map (λ (row : List ℚ). row) m.rows ≡ flat_map (λ row. row) w.rows =
-      one_fractions laws name (flat_map (λ row. row) m.rows) (flat_map (λ row. row) w.rows) plain (all_in_rows m.rows h.fits) (all_in_rows w.rows k.fits) (sym h.spelled ∙ k.spelled) in
+      one_fractions laws name (flat_map (λ row. row) m.rows) (flat_map (λ row. row) w.rows) plain (entries_fit m.rows h.fits) (entries_fit w.rows k.fits) (sym h.spelled ∙ k.spelled) in
       let width : m.columns ≡ w.columns = h.shape.columns_are ∙ sym k.shape.columns_are in
       let same : m.rows ≡ w.rows =
       same_rows m.columns m.rows w.rows (h.shape.rows_are ∙ sym k.shape.rows_are) h.shape.rectangular (subst (λ c. All (λ (row : List ℚ). length row ≡ c) w.rows) (sym width) k.shape.rectangular) flat in

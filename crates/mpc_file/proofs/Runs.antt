@@ -1,7 +1,7 @@
 -- What is read from a place goes on from it, and is read the same where more bytes stand behind. This holds of the ways in which grammars are
 -- joined where it holds of their parts.
 use Rattle.std.proofs.Common.{◌≡◌, ℕ, ◌+◌, ◌<◌, ◌≤◌, Bool, List, [], ◌∷◌, ◌++◌, length, ap, ◌∙◌, arith, length-append, append_assoc}
-use Rattle.mpc_file.specs.Reading.{Cursor, TakesLine, LineRule, Grammar, one_line, give, ◌>>=◌, that_which, ReadsItems, no_item, one_more, many}
+use Rattle.mpc_grammar.specs.Reading.{Cursor, TakesLine, LineRule, Grammar, one_line, give, ◌>>=◌, that_which, ReadsItems, no_item, one_more, many}
 
 -- a place with more bytes behind it
 abbrev pub with_more : List ℕ → Cursor → Cursor

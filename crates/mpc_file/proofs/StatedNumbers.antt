@@ -15,26 +15,25 @@ use Rattle.mpc_rows.specs.declared.trees.Node.{Node}
 use Rattle.mpc_controller.specs.Parts.{Parts, row_count}
 use Rattle.mpc_controller.specs.Certificates.{cell_rows}
 use Rattle.mpc_controller.specs.PreorderTheorems.{SplitSpells, LeafSpells}
-use Rattle.mpc_file.specs.declared.versions.Version.{Version}
-use Rattle.mpc_file.specs.declared.versions.Version.TheVariants.{One, Two, Three}
-use Rattle.mpc_file.specs.declared.plant_parts.Sizes.{Sizes}
-use Rattle.mpc_file.specs.declared.plant_parts.Dynamics.{Dynamics}
-use Rattle.mpc_file.specs.declared.plant_parts.Weights.{Weights}
-use Rattle.mpc_file.specs.declared.plant_parts.Offsets.{Offsets}
-use Rattle.mpc_file.specs.declared.plant_parts.Limits.{Limits}
-use Rattle.mpc_file.specs.Versions.{greatest_rows}
-use Rattle.mpc_file.specs.Reading.{Cursor, LineRule, one_line, ReadsItems, no_item, one_more}
-use Rattle.mpc_file.specs.PlantGrammar.{AllFit, AreZero, MayHave, plain_rule, dynamics, weights, offsets, offset_lines, IsRow, IsAxis, limits, plant, AreNumbers, StatesNew}
-use Rattle.mpc_file.specs.LawGrammar.{unknowns, move_rule, written_law, written_laws, forms, NameForms, form_named, NamedLaw, used_by, used_behind, named_mults, named_law, named_laws, law_named}
-use Rattle.mpc_file.specs.TreeGrammar.{IsCertLine, certs, NodeLine, NodeOver, node_behind, node_at, owed, IsWord, written_split, written_tree, planes_used, named_split, plane_named, named_tree, node_of}
-use Rattle.mpc_file.specs.TreeGrammar.NodeLine.{split_at, leaf_of, no_move}
-use Rattle.mpc_file.specs.FileGrammar.{IsVersion, written, named, behind_plant, start}
-use Rattle.mpc_file.specs.WrittenFits.{RowFits, AxisFits}
-use Rattle.mpc_file.specs.PlaneNames.{IsPairFit, CertFits}
-use Rattle.mpc_file.specs.Statable.{CanStatePlant, LawNumbersFit, NodeNumbersFit}
-use Rattle.mpc_file.specs.TextTheorems.{StatedCanBe}
-use Rattle.mpc_file.proofs.ManyLemmas.{all_items, just_so_many}
-use Rattle.mpc_file.proofs.NumberLines.{natural_fits}
+use Rattle.mpc_grammar.specs.declared.versions.Version.{Version}
+use Rattle.mpc_grammar.specs.declared.versions.Version.TheVariants.{One, Two, Three}
+use Rattle.mpc_grammar.specs.declared.plant_parts.Sizes.{Sizes}
+use Rattle.mpc_grammar.specs.declared.plant_parts.Dynamics.{Dynamics}
+use Rattle.mpc_grammar.specs.declared.plant_parts.Weights.{Weights}
+use Rattle.mpc_grammar.specs.declared.plant_parts.Offsets.{Offsets}
+use Rattle.mpc_grammar.specs.declared.plant_parts.Limits.{Limits}
+use Rattle.mpc_grammar.specs.Versions.{greatest_rows}
+use Rattle.mpc_grammar.specs.Reading.{Cursor, LineRule, one_line, ReadsItems, no_item, one_more}
+use Rattle.mpc_grammar.specs.PlantGrammar.{AllFit, AreZero, MayHave, plain_rule, dynamics, weights, offsets, offset_lines, IsRow, IsAxis, limits, plant, AreNumbers, StatesNew}
+use Rattle.mpc_grammar.specs.LawGrammar.{unknowns, move_rule, written_law, written_laws, forms, NameForms, form_named, NamedLaw, used_by, used_behind, named_mults, named_law, named_laws, law_named}
+use Rattle.mpc_grammar.specs.TreeGrammar.{IsCertLine, certs, NodeLine, NodeOver, node_behind, node_at, owed, IsWord, written_split, written_tree, planes_used, named_split, plane_named, named_tree, node_of}
+use Rattle.mpc_grammar.specs.TreeGrammar.NodeLine.{split_at, leaf_of, no_move}
+use Rattle.mpc_grammar.specs.FileGrammar.{IsVersion, written, named, behind_plant, start}
+use Rattle.mpc_grammar.specs.WrittenFits.{IsPairFit, RowFits, AxisFits, CertFits}
+use Rattle.mpc_grammar.specs.Statable.{CanStatePlant, LawNumbersFit, NodeNumbersFit}
+use Rattle.mpc_grammar.specs.TextTheorems.{StatedCanBe}
+use Rattle.mpc_grammar.specs.Outcomes.{all_items, just_so_many}
+use Rattle.mpc_grammar.specs.Fractions.{natural_fits}
 use Rattle.mpc_file.proofs.Runs.{reach, run_line, items_shorter, items_few}
 use Rattle.mpc_file.proofs.LawExact.{row_count_few}
 use Rattle.mpc_file.proofs.TreeExact.{depth_few, run_node, node_takes}

@@ -11,12 +11,12 @@ use Rattle.mpc_controller.specs.Parts.{row_count}
 use Rattle.mpc_controller.specs.Certificates.{cell_rows}
 use Rattle.mpc_words.specs.Numerals.{numeral}
 use Rattle.mpc_words.specs.Words.{IsWithout, line}
-use Rattle.mpc_file.specs.Reading.{Cursor, LineRule, Grammar, one_line}
-use Rattle.mpc_file.specs.Lines.{count_line}
-use Rattle.mpc_file.specs.PlantGrammar.{AllFit, plain_rule, UsesAll, IsNumber}
-use Rattle.mpc_file.specs.TreeGrammar.{IsRowOf, IsPlane, IsPlaneLine, IsNoPlane, IsCertLine, certs, NodeLine, split_at, leaf_of, no_move, StatesNode, splits, names_law, has_none, node_rule, NodeOver, split_node, law_node, no_move_node, node_behind, node_at, owed_behind, owed, nodes, written_split, IsWord, written_tree, plane_rule, planes, planes_used, named_split, named_tree, node_of}
+use Rattle.mpc_grammar.specs.Reading.{Cursor, LineRule, Grammar, one_line}
+use Rattle.mpc_grammar.specs.Lines.{count_line}
+use Rattle.mpc_grammar.specs.PlantGrammar.{AllFit, plain_rule, UsesAll, IsNumber}
+use Rattle.mpc_grammar.specs.TreeGrammar.{IsRowOf, IsPlane, IsPlaneLine, IsNoPlane, IsCertLine, certs, NodeLine, split_at, leaf_of, no_move, StatesNode, splits, names_law, has_none, node_rule, NodeOver, split_node, law_node, no_move_node, node_behind, node_at, owed_behind, owed, nodes, written_split, IsWord, written_tree, plane_rule, planes, planes_used, named_split, named_tree, node_of}
 use Rattle.mpc_file.proofs.Exactness.{IsExactAt, IsExactRule, CutTheorems, exact_line, exact_give, exact_both, exact_many}
-use Rattle.mpc_file.specs.LineTheorems.{WordTheorems}
+use Rattle.mpc_grammar.specs.LineTheorems.{WordTheorems}
 use Rattle.mpc_file.proofs.LineNumbers.{IsShortNumber, IsShortPair, without, same_front, same_back, one_words, decimal_word, one_count, one_integers, one_cert}
 use Rattle.mpc_file.proofs.Runs.{IsRun, reach, run_line, run_give, run_both, run_many, items_shorter, items_few}
 use Rattle.mpc_file.proofs.PlantExact.{exact_plain, exact_so_many}

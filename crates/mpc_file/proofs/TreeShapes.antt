@@ -15,10 +15,10 @@ use Rattle.mpc_controller.specs.Preorder.{Spells, IsTree}
 use Rattle.mpc_controller.specs.PreorderTheorems.{SplitSpells, LeafSpells}
 use Rattle.mpc_controller.specs.Certificates.{IsCertOver, cell_rows, AreLawCerts, HaveCerts}
 use Rattle.mpc_controller.specs.Bounds.{SplitFits, NodeFits}
-use Rattle.mpc_file.specs.Reading.{Cursor, LineRule, Grammar, one_line, ReadsItems, no_item, one_more}
-use Rattle.mpc_file.specs.PlantGrammar.{plain_rule}
-use Rattle.mpc_file.specs.TreeGrammar.{NodeLine, split_at, leaf_of, no_move, splits, names_law, has_none, NodeOver, split_node, law_node, no_move_node, node_rule, node_behind, node_at, owed_behind, owed, nodes, certs, IsCertLine, node_of}
-use Rattle.mpc_file.proofs.ManyLemmas.{all_items, just_so_many}
+use Rattle.mpc_grammar.specs.Reading.{Cursor, LineRule, Grammar, one_line, ReadsItems, no_item, one_more}
+use Rattle.mpc_grammar.specs.PlantGrammar.{plain_rule}
+use Rattle.mpc_grammar.specs.TreeGrammar.{NodeLine, split_at, leaf_of, no_move, splits, names_law, has_none, NodeOver, split_node, law_node, no_move_node, node_rule, node_behind, node_at, owed_behind, owed, nodes, certs, IsCertLine, node_of}
+use Rattle.mpc_grammar.specs.Outcomes.{all_items, just_so_many}
 
 -- ---- what is owed behind one node more
 owed_more : {Row : Type 0} (before : List (NodeOver Row)) (x : NodeOver Row) → owed (before ++ x ∷ []) ≡ owed_behind x (owed before)

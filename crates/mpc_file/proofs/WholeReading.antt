@@ -6,15 +6,15 @@ use Rattle.mpc_linear.specs.declared.integers.RowInt.{RowInt}
 use Rattle.mpc_plant.specs.declared.plants.Plant.{Plant}
 use Rattle.mpc_rows.specs.declared.laws.Law.{Law}
 use Rattle.mpc_rows.specs.declared.trees.Node.{Node}
-use Rattle.mpc_file.specs.declared.errors.FileKind.{FileKind}
-use Rattle.mpc_file.specs.declared.errors.FileError.{FileError}
-use Rattle.mpc_file.specs.Reading.{Cursor, Grammar, Outcome, one_line}
-use Rattle.mpc_file.specs.PlantGrammar.{plain_rule, UsesAll}
-use Rattle.mpc_file.specs.LawGrammar.{written_laws, forms, NamedLaw, named_laws, used_by}
-use Rattle.mpc_file.specs.TreeGrammar.{IsWord, NodeOver, written_tree, planes, planes_used, named_tree, node_of, plane_named}
-use Rattle.mpc_file.specs.TreeReading.{named_tree_nodes}
-use Rattle.mpc_file.specs.FileGrammar.{written, named}
-use Rattle.mpc_file.proofs.OutcomeLemmas.{error_from}
+use Rattle.mpc_grammar.specs.declared.errors.FileKind.{FileKind}
+use Rattle.mpc_grammar.specs.declared.errors.FileError.{FileError}
+use Rattle.mpc_grammar.specs.Reading.{Cursor, Grammar, Outcome, one_line}
+use Rattle.mpc_grammar.specs.PlantGrammar.{plain_rule, UsesAll}
+use Rattle.mpc_grammar.specs.LawGrammar.{written_laws, forms, NamedLaw, named_laws, used_by}
+use Rattle.mpc_grammar.specs.TreeGrammar.{IsWord, NodeOver, written_tree, planes, planes_used, named_tree, node_of, plane_named}
+use Rattle.mpc_law_lines.specs.TreeReading.{named_tree_nodes}
+use Rattle.mpc_grammar.specs.FileGrammar.{written, named}
+use Rattle.mpc_grammar.specs.Outcomes.{error_from}
 
 -- an error is passed on
 pub passed_on : {X Y : Type 0} (first : Grammar X) (second : Grammar Y) (between behind start end : Cursor) (answer : Result Y FileError) (error : FileError)

@@ -5,10 +5,10 @@ use Rattle.mpc_rows.specs.declared.laws.Law.{Law}
 use Rattle.mpc_rows.specs.declared.trees.Node.{Node}
 use Rattle.mpc_controller.specs.Parts.{Parts}
 use Rattle.mpc_controller.specs.Bounds.{IsController}
-use Rattle.mpc_file.specs.declared.versions.Version.{Version}
-use Rattle.mpc_file.specs.Reading.{Grammar, ◌>>=◌}
-use Rattle.mpc_file.specs.PlantGrammar.{plant}
-use Rattle.mpc_file.specs.FileGrammar.{parts_with, behind_plant}
+use Rattle.mpc_grammar.specs.declared.versions.Version.{Version}
+use Rattle.mpc_grammar.specs.Reading.{Grammar, ◌>>=◌}
+use Rattle.mpc_grammar.specs.PlantGrammar.{plant}
+use Rattle.mpc_grammar.specs.FileGrammar.{parts_with, behind_plant}
 
 -- the same lines, which state the laws and the tree beside this plant; the three are a controller
 abbrev pub unsealed : Plant → Grammar Parts → Grammar (List Law × List Node)

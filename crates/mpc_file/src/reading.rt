@@ -2,23 +2,21 @@
 
 ghost use Rattle.std.specs.Prelude.{codes, ◌≡◌, IfOk, IfErr};
 ghost use Rattle.mpc_controller.specs.Bounds.{IsController};
-ghost use Rattle.mpc_file.specs.Reading.{Outcome, one_line};
-ghost use Rattle.mpc_file.specs.PlantGrammar.{plain_rule, UsesAll};
+ghost use Rattle.mpc_grammar.specs.Reading.{Outcome, one_line};
+ghost use Rattle.mpc_grammar.specs.PlantGrammar.{plain_rule, UsesAll};
 ghost use Rattle.mpc_file.specs.Unsealed.{unsealed, in_version};
-ghost use Rattle.mpc_file.specs.FileGrammar.{written, named, behind_plant, IsSpelled, ExplainsFileError};
-ghost use Rattle.mpc_file.specs.TreeGrammar.{IsWord};
+ghost use Rattle.mpc_grammar.specs.FileGrammar.{written, named, behind_plant, IsSpelled, ExplainsFileError};
+ghost use Rattle.mpc_grammar.specs.TreeGrammar.{IsWord};
 
-use crate::errors::{FileError, FileKind};
-use crate::law_lines::read_written_laws;
-use crate::lines::Lines;
-use crate::named_laws::{read_forms, read_named_laws};
-use crate::named_trees::{read_named_tree, read_planes};
-use crate::plants::{read_plant_lines, read_version};
-use crate::tree_lines::{read_word, read_written_tree};
-use crate::versions::Version;
 use mpc_controller::{Controller, SealError, bound_theorems, preorder_theorems};
 use mpc_frac::NoMemory;
+use mpc_grammar::{FileError, FileKind, Lines, Version};
+use mpc_law_lines::{
+    read_forms, read_named_laws, read_named_tree, read_planes, read_word, read_written_laws,
+    read_written_tree,
+};
 use mpc_plant::Plant;
+use mpc_plant_lines::{read_plant_lines, read_version};
 use mpc_rows::{LawTable, Tree};
 use std::alloc::Global;
 

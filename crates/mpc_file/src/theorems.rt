@@ -1,10 +1,11 @@
 //! What holds of every text. The calls do nothing: their contracts are the theorems.
 
-ghost use Rattle.mpc_file.specs.TextTheorems.{OneVersion, OneController, SpelledNeverFails, OneLine, OneReason, NoPrefix, EachText, StatedCanBe, OneText};
+ghost use Rattle.mpc_grammar.specs.TextTheorems.{OneVersion, OneController, SpelledNeverFails, OneLine, OneReason, NoPrefix, EachText, StatedCanBe, OneText};
 
-use crate::line_theorems::{one_fractions, one_integers, word_theorems};
 use mpc_controller::preorder_theorems;
+use mpc_grammar::word_theorems;
 use mpc_words::cut_theorems;
+use mpc_writing::written_texts;
 
 /// A text spells one controller in one version at most. It fails at one line at most, for one reason,
 /// and at none where it spells a controller.
@@ -34,9 +35,7 @@ pub fn each_text()
     ensures each { EachText }
     ensures no_other { StatedCanBe }
 {
-    word_theorems();
-    one_fractions();
-    one_integers();
+    written_texts();
     preorder_theorems();
 }
 

@@ -3,7 +3,7 @@ use Rattle.std.proofs.Common.{◌≡◌, ℕ, List, Result, Ok, Err, IfErr, IsEr
 use Rattle.mpc_controller.specs.Parts.{Parts}
 use Rattle.mpc_controller.specs.Bounds.{IsController}
 use Rattle.mpc_controller.specs.ReplyTheorems.{RepliesEverywhere}
-use Rattle.mpc_file.specs.FileGrammar.{IsSpelled}
+use Rattle.mpc_grammar.specs.FileGrammar.{IsSpelled}
 use Rattle.mpc_check.specs.declared.answers.Answer.{Answer}
 use Rattle.mpc_check.specs.declared.answers.Answer.TheVariants.{Accepted, Refused}
 use Rattle.mpc_convex.specs.declared.ProgramError.{ProgramError as CheckError}

@@ -6,10 +6,10 @@ use Rattle.mpc_plant.specs.Trajectory.{IsInBox}
 use Rattle.mpc_controller.specs.Parts.{Parts}
 use Rattle.mpc_controller.specs.Bounds.{IsController}
 use Rattle.mpc_controller.specs.Replies.{RepliesAt}
-use Rattle.mpc_file.specs.declared.errors.FileError.{FileError}
-use Rattle.mpc_file.specs.declared.errors.FileError.TheVariants.{Bad, NoMemory as NoFileMemory}
-use Rattle.mpc_file.specs.declared.versions.Version.TheVariants.{Three}
-use Rattle.mpc_file.specs.FileGrammar.{Spells, IsSpelled}
+use Rattle.mpc_grammar.specs.declared.errors.FileError.{FileError}
+use Rattle.mpc_grammar.specs.declared.errors.FileError.TheVariants.{Bad, NoMemory as NoFileMemory}
+use Rattle.mpc_grammar.specs.declared.versions.Version.TheVariants.{Three}
+use Rattle.mpc_grammar.specs.FileGrammar.{Spells, IsSpelled}
 use Rattle.mpc_replies.specs.ReplyLines.{AreRepliesOf}
 use Rattle.mpc_check.specs.declared.answers.Answer.{Answer}
 use Rattle.mpc_check.specs.declared.answers.Answer.TheVariants.{Accepted, Refused}

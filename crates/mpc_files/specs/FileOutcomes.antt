@@ -2,8 +2,8 @@
 -- where it is checked, or which is accepted.
 use Rattle.std.specs.Prelude.{◌≡◌, ℕ, ◌^◌, ◌<◌, List, length}
 use Rattle.mpc_controller.specs.Parts.{Parts}
-use Rattle.mpc_file.specs.declared.errors.FileKind.{FileKind}
-use Rattle.mpc_file.specs.FileGrammar.{FailsAt, IsSpelled}
+use Rattle.mpc_grammar.specs.declared.errors.FileKind.{FileKind}
+use Rattle.mpc_grammar.specs.FileGrammar.{FailsAt, IsSpelled}
 use Rattle.mpc_check.specs.Findings.{Finding}
 use Rattle.mpc_check.specs.Acceptance.{Accepts, IsFound}
 

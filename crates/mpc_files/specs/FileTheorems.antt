@@ -1,8 +1,8 @@
 -- What holds of the texts that come of bytes of fewer than 2^64, as slices are.
 use Rattle.std.specs.Prelude.{◌≡◌, ℕ, ◌^◌, ◌<◌, List, length}
 use Rattle.mpc_controller.specs.Parts.{Parts}
-use Rattle.mpc_file.specs.declared.versions.Version.TheVariants.{Three}
-use Rattle.mpc_file.specs.FileGrammar.{Spells}
+use Rattle.mpc_grammar.specs.declared.versions.Version.TheVariants.{Three}
+use Rattle.mpc_grammar.specs.FileGrammar.{Spells}
 use Rattle.mpc_files.specs.FileAnswers.{FileReplies, Converts}
 
 -- a file has one text of replies to given lines

@@ -2,7 +2,7 @@
 
 ghost use Rattle.std.specs.Prelude.{IfOk, IfErr};
 ghost use Rattle.std.specs.Str.Lines.{lines};
-ghost use Rattle.mpc_file.specs.FileGrammar.{ExplainsFileError};
+ghost use Rattle.mpc_grammar.specs.FileGrammar.{ExplainsFileError};
 ghost use Rattle.mpc_files.specs.FileAnswers.{Converts, FileReplies};
 
 use mpc_file::{FileError, read_file, write_file};

@@ -2,7 +2,7 @@
 use Rattle.std.proofs.Common.{ℕ, List, Result, Ok, Err, IfOk, IfErr}
 use Rattle.mpc_controller.specs.Parts.{Parts}
 use Rattle.mpc_controller.specs.Bounds.{IsController}
-use Rattle.mpc_file.specs.FileGrammar.{IsSpelled}
+use Rattle.mpc_grammar.specs.FileGrammar.{IsSpelled}
 use Rattle.mpc_safety.specs.declared.answers.Safety.{Safety}
 use Rattle.mpc_safety.specs.declared.answers.SafetyError.{SafetyError}
 use Rattle.mpc_safety.specs.declared.answers.SafetyError.TheVariants.{BadFile, NotDefinite, TooWide, WideLater, NoMemory}

@@ -1,9 +1,9 @@
 -- For given bytes at most one outcome comes.
 use Rattle.std.proofs.Common.{◌≡◌, ℕ, ◌^◌, ◌<◌, List, length, refl, ap, subst}
 use Rattle.mpc_controller.specs.Parts.{Parts}
-use Rattle.mpc_file.specs.declared.errors.FileKind.{FileKind}
-use Rattle.mpc_file.specs.FileGrammar.{FailsAt, IsSpelled}
-use Rattle.mpc_file.specs.TextTheorems.{OneController, SpelledNeverFails, OneLine, OneReason}
+use Rattle.mpc_grammar.specs.declared.errors.FileKind.{FileKind}
+use Rattle.mpc_grammar.specs.FileGrammar.{FailsAt, IsSpelled}
+use Rattle.mpc_grammar.specs.TextTheorems.{OneController, SpelledNeverFails, OneLine, OneReason}
 use Rattle.mpc_check.specs.Acceptance.{Accepts, IsFound, NothingFound, OneFinding}
 use Rattle.mpc_recur.specs.Findings.{Finding as Step}
 use Rattle.mpc_recur.specs.Targets.{AllRuledOut, IsFound as IsStepFound}

@@ -3,9 +3,9 @@ use Rattle.std.specs.Prelude.{ℕ, List}
 use Rattle.mpc_exact.specs.Rational.{ℚ}
 use Rattle.mpc_controller.specs.Parts.{Parts}
 use Rattle.mpc_controller.specs.Bounds.{IsController}
-use Rattle.mpc_file.specs.declared.errors.FileError.{FileError}
-use Rattle.mpc_file.specs.declared.errors.FileError.TheVariants.{Bad, NoMemory as NoFileMemory}
-use Rattle.mpc_file.specs.FileGrammar.{IsSpelled, FailsAt}
+use Rattle.mpc_grammar.specs.declared.errors.FileError.{FileError}
+use Rattle.mpc_grammar.specs.declared.errors.FileError.TheVariants.{Bad, NoMemory as NoFileMemory}
+use Rattle.mpc_grammar.specs.FileGrammar.{IsSpelled, FailsAt}
 use Rattle.mpc_check.specs.Findings.{refused, too_wide, not_definite}
 use Rattle.mpc_check.specs.Acceptance.{Accepts, IsFound}
 use Rattle.mpc_recur.specs.declared.answers.Next.{Next}

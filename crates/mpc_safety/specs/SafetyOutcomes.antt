@@ -2,8 +2,8 @@
 -- something, or of which a step is found, or which is safe.
 use Rattle.std.specs.Prelude.{◌≡◌, ℕ, ◌^◌, ◌<◌, List, length}
 use Rattle.mpc_controller.specs.Parts.{Parts}
-use Rattle.mpc_file.specs.declared.errors.FileKind.{FileKind}
-use Rattle.mpc_file.specs.FileGrammar.{FailsAt, IsSpelled}
+use Rattle.mpc_grammar.specs.declared.errors.FileKind.{FileKind}
+use Rattle.mpc_grammar.specs.FileGrammar.{FailsAt, IsSpelled}
 use Rattle.mpc_check.specs.Findings.{Finding, refused, too_wide, not_definite}
 use Rattle.mpc_check.specs.Acceptance.{Accepts, IsFound}
 use Rattle.mpc_recur.specs.Findings.{Finding as Step, reached, too_wide as too_wide_step}

@@ -5,9 +5,9 @@ use Rattle.mpc_plant.specs.declared.plants.Plant.{Plant}
 use Rattle.mpc_plant.specs.WholePlant.{ReadsAsPlant, IsFirstFault}
 use Rattle.mpc_plant.specs.Readings.{stated, faulty, OneReading}
 use Rattle.mpc_rows.specs.declared.places.Place.{Place}
-use Rattle.mpc_file.specs.declared.versions.Version.TheVariants.{Three}
-use Rattle.mpc_file.specs.FileGrammar.{Spells}
-use Rattle.mpc_file.specs.TextTheorems.{OneText as OneFileText}
+use Rattle.mpc_grammar.specs.declared.versions.Version.TheVariants.{Three}
+use Rattle.mpc_grammar.specs.FileGrammar.{Spells}
+use Rattle.mpc_grammar.specs.TextTheorems.{OneText as OneFileText}
 use Rattle.mpc_synthesis.specs.Controllers.{OneController}
 use Rattle.mpc_synthesis.specs.Refusals.{controller}
 use Rattle.mpc_synthesis.specs.Outcomes.{not_definite as stops_at, too_wide as wide_at, complete, IsOutcome, OneOutcome}

@@ -6,8 +6,8 @@ use Rattle.mpc_plant.specs.WholePlant.{ReadsAsPlant, IsFirstFault}
 use Rattle.mpc_rows.specs.declared.programs.Qp.{Qp}
 use Rattle.mpc_rows.specs.declared.places.Place.{Place}
 use Rattle.mpc_controller.specs.Parts.{Parts}
-use Rattle.mpc_file.specs.declared.versions.Version.TheVariants.{Three}
-use Rattle.mpc_file.specs.FileGrammar.{Spells}
+use Rattle.mpc_grammar.specs.declared.versions.Version.TheVariants.{Three}
+use Rattle.mpc_grammar.specs.FileGrammar.{Spells}
 use Rattle.mpc_synthesis.specs.Controllers.{IsController}
 use Rattle.mpc_convex.specs.Refusals.{IsNotDefiniteAt}
 use Rattle.mpc_synthesis.specs.Refusals.{controller, FirstWide}

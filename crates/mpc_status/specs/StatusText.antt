@@ -5,8 +5,8 @@ use Rattle.mpc_status.specs.declared.status.Status.TheVariants.{Done, Usage, Bad
 use Rattle.mpc_plant.specs.declared.faults.PlantKind.{PlantKind}
 use Rattle.mpc_plant.specs.declared.faults.PlantKind.TheVariants.{NotJson, NotObject, UnknownKey, MissingKey, WrongKind, BadNumber, WrongShape, OverLimit, NotSymmetric, StepNotPositive, BadVersion}
 use Rattle.mpc_rows.specs.PlaceText.{place_text}
-use Rattle.mpc_file.specs.declared.errors.FileKind.{FileKind}
-use Rattle.mpc_file.specs.declared.errors.FileKind.TheVariants.{BadLine, Truncated, TailAfterEnd, BadNode, OverBound}
+use Rattle.mpc_grammar.specs.declared.errors.FileKind.{FileKind}
+use Rattle.mpc_grammar.specs.declared.errors.FileKind.TheVariants.{BadLine, Truncated, TailAfterEnd, BadNode, OverBound}
 use Rattle.mpc_status.specs.SpotText.{spot_text}
 use Rattle.mpc_status.specs.LateText.{late_text}
 use Rattle.mpc_recur.specs.NextText.{next_text}

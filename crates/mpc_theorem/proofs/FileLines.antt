@@ -2,24 +2,24 @@
 use Rattle.std.proofs.Common.{◌≡◌, ℕ, List, [], ◌∷◌, ◌++◌, length, map, sym, ap, subst, ◌∙◌, codes, append-nil}
 use Rattle.mpc_plant.specs.declared.plants.Plant.{Plant}
 use Rattle.mpc_controller.specs.Parts.{Parts}
-use Rattle.mpc_file.specs.declared.versions.Version.{Version}
-use Rattle.mpc_file.specs.declared.versions.Version.TheVariants.{One, Two, Three}
-use Rattle.mpc_file.specs.Versions.{number_of}
-use Rattle.mpc_file.specs.Reading.{Cursor}
-use Rattle.mpc_file.specs.Lines.{count_line}
-use Rattle.mpc_file.specs.LawGrammar.{used_by, law_named}
-use Rattle.mpc_file.specs.TreeGrammar.{IsWord, planes_used, node_of, plane_named}
-use Rattle.mpc_file.specs.FormNames.{form_line}
-use Rattle.mpc_file.specs.PlaneNames.{plane_line}
-use Rattle.mpc_file.specs.FileGrammar.{IsVersion, named, start, Spells, written, behind_plant}
-use Rattle.mpc_file.specs.LineTheorems.{OneFractions, OneIntegers}
-use Rattle.mpc_file.specs.TextTheorems.{EachText, StatedCanBe}
+use Rattle.mpc_grammar.specs.declared.versions.Version.{Version}
+use Rattle.mpc_grammar.specs.declared.versions.Version.TheVariants.{One, Two, Three}
+use Rattle.mpc_grammar.specs.Versions.{number_of}
+use Rattle.mpc_grammar.specs.Reading.{Cursor}
+use Rattle.mpc_grammar.specs.Lines.{count_line}
+use Rattle.mpc_grammar.specs.LawGrammar.{used_by, law_named}
+use Rattle.mpc_grammar.specs.TreeGrammar.{IsWord, planes_used, node_of, plane_named}
+use Rattle.mpc_writing.specs.FormNames.{form_line}
+use Rattle.mpc_writing.specs.PlaneNames.{plane_line}
+use Rattle.mpc_grammar.specs.FileGrammar.{IsVersion, named, start, Spells, written, behind_plant}
+use Rattle.mpc_grammar.specs.LineTheorems.{OneFractions, OneIntegers}
+use Rattle.mpc_grammar.specs.TextTheorems.{EachText, StatedCanBe}
 use Rattle.mpc_theorem.specs.ControllerFile.{counted, plant_lines, law_lines, named_law_lines, laws_lines, split_line, named_split_line, tree_lines, written_lines, named_lines, lines_behind, file_text}
 use Rattle.mpc_theorem.specs.FileTheorems.{SpelledIsFile, FileIsSpelled}
 use Rattle.mpc_theorem.proofs.Walks.{HasLines, lines_plain, lines_then, lines_are}
 use Rattle.mpc_theorem.proofs.PlantLines.{lines_plant, lines_given}
 use Rattle.mpc_theorem.proofs.LawLines.{lines_written_laws, lines_forms, lines_laws}
-use Rattle.mpc_file.specs.PlantGrammar.{UsesAll}
+use Rattle.mpc_grammar.specs.PlantGrammar.{UsesAll}
 use Rattle.mpc_theorem.proofs.TreeLines.{lines_planes, lines_written_tree, lines_tree}
 
 -- the last line

@@ -8,12 +8,12 @@ use Rattle.mpc_exact.specs.Rational.{ℚ}
 use Rattle.mpc_plant.specs.declared.plants.Plant.{Plant}
 use Rattle.mpc_rows.specs.declared.laws.Law.{Law}
 use Rattle.mpc_words.specs.Words.{line}
-use Rattle.mpc_file.specs.Reading.{Cursor, one_line}
-use Rattle.mpc_file.specs.Lines.{count_line, fractions_line}
-use Rattle.mpc_file.specs.PlantGrammar.{AllFit, plain_rule, AreNumbers, IsNumber, StatesNew}
-use Rattle.mpc_file.specs.LawGrammar.{unknowns, IsLawLine, move_rule, written_law, written_laws, forms, NameForms, used_behind, form_named, AreFormNumbers, named_moves_rule, named_mults, NamedLaw, used_by, named_law, named_laws, law_named}
-use Rattle.mpc_file.specs.FormNames.{form_line}
-use Rattle.mpc_file.specs.LineTheorems.{OneFractions}
+use Rattle.mpc_grammar.specs.Reading.{Cursor, one_line}
+use Rattle.mpc_grammar.specs.Lines.{count_line, fractions_line}
+use Rattle.mpc_grammar.specs.PlantGrammar.{AllFit, plain_rule, AreNumbers, IsNumber, StatesNew}
+use Rattle.mpc_grammar.specs.LawGrammar.{unknowns, IsLawLine, move_rule, written_law, written_laws, forms, NameForms, used_behind, form_named, AreFormNumbers, named_moves_rule, named_mults, NamedLaw, used_by, named_law, named_laws, law_named}
+use Rattle.mpc_writing.specs.FormNames.{form_line}
+use Rattle.mpc_grammar.specs.LineTheorems.{OneFractions}
 use Rattle.mpc_theorem.specs.ControllerFile.{with_line, different, number_in, counted, law_lines, forms_of, names_line, mult_lines, named_law_lines, laws_lines}
 use Rattle.mpc_theorem.proofs.Numbered.{line_at, AreDifferent, all_named, behind_few, number_named}
 use Rattle.mpc_theorem.proofs.Walks.{HasLines, lines_none, lines_one, lines_plain, lines_then, lines_are, lines_items, lines_named, different_items, so_many_items, lines_so_many}

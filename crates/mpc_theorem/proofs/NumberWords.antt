@@ -8,7 +8,7 @@ use Rattle.mpc_exact.specs.Rational.{ℚ}
 use Rattle.mpc_frac.specs.Fits.{FitsFrac}
 use Rattle.mpc_frac.specs.Text.{text_of as fraction_text}
 use Rattle.mpc_words.specs.Words.{IsWithout, IsLineOf, IsWord, line, behind_blanks}
-use Rattle.mpc_file.specs.LineTheorems.{OneFractions, OneIntegers}
+use Rattle.mpc_grammar.specs.LineTheorems.{OneFractions, OneIntegers}
 
 abbrev pub OneListOfWords : Type 0
 OneListOfWords = (text first other : List ℕ) (words others : List (List ℕ)) → IsLineOf text first words → IsLineOf text other others → words ≡ others

@@ -5,7 +5,7 @@ use Rattle.std.specs.List.{list_any}
 use Rattle.std.proofs.lemmas.Bool.{cases_lt, cond-true, cond-false, or_left, or_right, false_from_ne_true}
 use Rattle.std.proofs.lemmas.List.{take_more, length-take-le}
 use Rattle.std.proofs.lemmas.Slice.Eq.{bytes_eq-Decides}
-use Rattle.mpc_file.specs.LawGrammar.{NameForms, used_behind}
+use Rattle.mpc_grammar.specs.LawGrammar.{NameForms, used_behind}
 use Rattle.mpc_theorem.specs.ControllerFile.{with_line, number_in}
 
 abbrev pub line_at : List (List ℕ) → ℕ → List ℕ

@@ -6,18 +6,18 @@ use Rattle.mpc_plant.specs.declared.plants.Plant.{Plant}
 use Rattle.mpc_plant.specs.declared.lists.PlantRow.{PlantRow}
 use Rattle.mpc_plant.specs.declared.lists.Coordinate.{Coordinate}
 use Rattle.mpc_words.specs.Words.{line}
-use Rattle.mpc_file.specs.declared.versions.Version.{Version}
-use Rattle.mpc_file.specs.declared.versions.Version.TheVariants.{One, Two, Three}
-use Rattle.mpc_file.specs.declared.plant_parts.Sizes.{Sizes}
-use Rattle.mpc_file.specs.declared.plant_parts.Dynamics.{Dynamics}
-use Rattle.mpc_file.specs.declared.plant_parts.Weights.{Weights}
-use Rattle.mpc_file.specs.declared.plant_parts.Offsets.{Offsets}
-use Rattle.mpc_file.specs.declared.plant_parts.Limits.{Limits}
-use Rattle.mpc_file.specs.Reading.{Cursor, one_line}
-use Rattle.mpc_file.specs.Versions.{greatest_rows}
-use Rattle.mpc_file.specs.Lines.{count_line, fractions_line, matrix_line, row_line, grid_line}
-use Rattle.mpc_file.specs.PlantGrammar.{plain_rule, AreSizes, IsMatrix, IsWeightLine, dynamics, weights, IsGoal, offset_lines, offsets, IsRow, IsAxis, row_list, last_list, limits, plant, AreNumbers, IsNumber}
-use Rattle.mpc_file.specs.Writing.{row_lines, last_lines}
+use Rattle.mpc_grammar.specs.declared.versions.Version.{Version}
+use Rattle.mpc_grammar.specs.declared.versions.Version.TheVariants.{One, Two, Three}
+use Rattle.mpc_grammar.specs.declared.plant_parts.Sizes.{Sizes}
+use Rattle.mpc_grammar.specs.declared.plant_parts.Dynamics.{Dynamics}
+use Rattle.mpc_grammar.specs.declared.plant_parts.Weights.{Weights}
+use Rattle.mpc_grammar.specs.declared.plant_parts.Offsets.{Offsets}
+use Rattle.mpc_grammar.specs.declared.plant_parts.Limits.{Limits}
+use Rattle.mpc_grammar.specs.Reading.{Cursor, one_line}
+use Rattle.mpc_grammar.specs.Versions.{greatest_rows}
+use Rattle.mpc_grammar.specs.Lines.{count_line, fractions_line, matrix_line, row_line, grid_line}
+use Rattle.mpc_grammar.specs.PlantGrammar.{plain_rule, AreSizes, IsMatrix, IsWeightLine, dynamics, weights, IsGoal, offset_lines, offsets, IsRow, IsAxis, row_list, last_list, limits, plant, AreNumbers, IsNumber}
+use Rattle.mpc_writing.specs.Writing.{row_lines, last_lines}
 use Rattle.mpc_theorem.specs.ControllerFile.{plant_lines}
 use Rattle.mpc_theorem.proofs.Walks.{HasLines, lines_none, lines_plain, lines_then, lines_are, lines_so_many, so_many_items}
 

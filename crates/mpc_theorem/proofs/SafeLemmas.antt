@@ -6,8 +6,8 @@ use Rattle.mpc_rows.specs.declared.trees.Node.TheVariants.{Law}
 use Rattle.mpc_controller.specs.Parts.{Parts}
 use Rattle.mpc_controller.specs.Bounds.{IsController}
 use Rattle.mpc_controller.specs.Replies.{RepliesAt, by_law, first_move}
-use Rattle.mpc_file.specs.FileGrammar.{IsSpelled}
-use Rattle.mpc_file.specs.TextTheorems.{StatedCanBe}
+use Rattle.mpc_grammar.specs.FileGrammar.{IsSpelled}
+use Rattle.mpc_grammar.specs.TextTheorems.{StatedCanBe}
 use Rattle.mpc_check.specs.Acceptance.{Accepts, AcceptedIsRight}
 use Rattle.mpc_recur.specs.declared.answers.Next.{Next}
 use Rattle.mpc_recur.specs.Successors.{IsSafe, LeadsToTarget, LeadsAway}

@@ -9,7 +9,7 @@ use Rattle.mpc_tree.specs.Trees.{whole_box}
 use Rattle.mpc_tree.specs.Certified.{IsOwnTree, CertifiedIsOwn, OneOwnTree, TableHasLaws}
 use Rattle.mpc_answers.specs.Replies.{OneTable}
 use Rattle.mpc_controller.specs.Parts.{Parts}
-use Rattle.mpc_file.specs.declared.versions.Version.TheVariants.{Three}
+use Rattle.mpc_grammar.specs.declared.versions.Version.TheVariants.{Three}
 use Rattle.mpc_synthesis.specs.Controllers.{IsController}
 use Rattle.mpc_theorem.specs.PlantFile.{IsPlantText, OnePlantText}
 use Rattle.mpc_theorem.specs.ControllerFile.{IsControllerFile, file_text}

@@ -12,15 +12,15 @@ use Rattle.mpc_linear.specs.declared.integers.RowInt.{RowInt}
 use Rattle.mpc_plant.specs.declared.plants.Plant.{Plant}
 use Rattle.mpc_controller.specs.Parts.{row_count}
 use Rattle.mpc_controller.specs.Certificates.{cell_rows}
-use Rattle.mpc_file.specs.Reading.{Cursor, one_line, ReadsItems, LineRule}
-use Rattle.mpc_file.specs.Lines.{count_line, cert_line}
-use Rattle.mpc_file.specs.PlantGrammar.{plain_rule, UsesAll, IsNumber}
-use Rattle.mpc_file.specs.TreeGrammar.{IsCertLine, NodeLine, StatesNode, node_rule, NodeOver, node_behind, node_at, owed, written_split, written_tree, IsWord, plane_rule, planes, used_with, planes_used, named_split, plane_named, named_tree, node_of, IsNext}
-use Rattle.mpc_file.specs.TreeGrammar.NodeLine.{split_at, leaf_of, no_move}
-use Rattle.mpc_file.specs.TreeGrammar.NodeOver.{split_node, law_node, no_move_node}
-use Rattle.mpc_file.specs.TreeGrammar.StatesNode.{splits, names_law, has_none}
-use Rattle.mpc_file.specs.PlaneNames.{plane_line}
-use Rattle.mpc_file.specs.LineTheorems.{OneIntegers}
+use Rattle.mpc_grammar.specs.Reading.{Cursor, one_line, ReadsItems, LineRule}
+use Rattle.mpc_grammar.specs.Lines.{count_line, cert_line}
+use Rattle.mpc_grammar.specs.PlantGrammar.{plain_rule, UsesAll, IsNumber}
+use Rattle.mpc_grammar.specs.TreeGrammar.{IsCertLine, NodeLine, StatesNode, node_rule, NodeOver, node_behind, node_at, owed, written_split, written_tree, IsWord, plane_rule, planes, used_with, planes_used, named_split, plane_named, named_tree, node_of, IsNext}
+use Rattle.mpc_grammar.specs.TreeGrammar.NodeLine.{split_at, leaf_of, no_move}
+use Rattle.mpc_grammar.specs.TreeGrammar.NodeOver.{split_node, law_node, no_move_node}
+use Rattle.mpc_grammar.specs.TreeGrammar.StatesNode.{splits, names_law, has_none}
+use Rattle.mpc_writing.specs.PlaneNames.{plane_line}
+use Rattle.mpc_grammar.specs.LineTheorems.{OneIntegers}
 use Rattle.mpc_theorem.specs.ControllerFile.{with_line, different, number_in, counted, split_lines, planes_of, node_lines, tree_lines, split_line, named_split_line}
 use Rattle.mpc_theorem.proofs.Numbered.{line_at, AreDifferent, one_named, used_few, number_named}
 use Rattle.mpc_theorem.proofs.Walks.{HasLines, lines_one, lines_plain, lines_then, lines_are, lines_items, lines_named, different_items, lines_so_many, so_many_items}

@@ -9,9 +9,9 @@ use Rattle.std.proofs.lemmas.List.Elements.{All-nil, All-push, All-contains, Con
 use Rattle.std.proofs.Math.Seq.{get_or-append_seam}
 use Rattle.std.proofs.Math.ListN.{get_or-append}
 use Rattle.std.specs.List.{flat_map}
-use Rattle.mpc_file.specs.Reading.{Cursor, LineRule, Grammar, one_line, ReadsItems, no_item, one_more, many}
-use Rattle.mpc_file.specs.PlantGrammar.{plain_rule, so_many}
-use Rattle.mpc_file.specs.Writing.{ended, text_of_lines}
+use Rattle.mpc_grammar.specs.Reading.{Cursor, LineRule, Grammar, one_line, ReadsItems, no_item, one_more, many}
+use Rattle.mpc_grammar.specs.PlantGrammar.{plain_rule, so_many}
+use Rattle.mpc_writing.specs.Writing.{ended, text_of_lines}
 use Rattle.mpc_theorem.specs.ControllerFile.{with_line}
 use Rattle.mpc_theorem.proofs.Numbered.{line_at, AreDifferent}
 

@@ -9,14 +9,14 @@ use Rattle.mpc_rows.specs.declared.trees.Node.{Node}
 use Rattle.mpc_rows.specs.declared.trees.Node.TheVariants.{Split, Law as LawLeaf, NoMove}
 use Rattle.mpc_words.specs.Words.{line}
 use Rattle.mpc_controller.specs.Parts.{Parts}
-use Rattle.mpc_file.specs.declared.versions.Version.{Version}
-use Rattle.mpc_file.specs.declared.versions.Version.TheVariants.{One, Two, Three}
-use Rattle.mpc_file.specs.Versions.{number_of}
-use Rattle.mpc_file.specs.Lines.{count_line, integers_line, fractions_line, grid_line, cert_line}
-use Rattle.mpc_file.specs.FormNames.{form_line}
-use Rattle.mpc_file.specs.PlaneNames.{plane_line}
-use Rattle.mpc_file.specs.Writing.{text_of_lines, size_line, matrix_lines, drift_line, goal_line, row_lines, last_lines}
-use Rattle.mpc_file.specs.Statable.{CanState}
+use Rattle.mpc_grammar.specs.declared.versions.Version.{Version}
+use Rattle.mpc_grammar.specs.declared.versions.Version.TheVariants.{One, Two, Three}
+use Rattle.mpc_grammar.specs.Versions.{number_of}
+use Rattle.mpc_grammar.specs.Lines.{count_line, integers_line, fractions_line, grid_line, cert_line}
+use Rattle.mpc_writing.specs.FormNames.{form_line}
+use Rattle.mpc_writing.specs.PlaneNames.{plane_line}
+use Rattle.mpc_writing.specs.Writing.{text_of_lines, size_line, matrix_lines, drift_line, goal_line, row_lines, last_lines}
+use Rattle.mpc_grammar.specs.Statable.{CanState}
 
 -- ---- lines that are written once, and named by their numbers from 1
 abbrev pub with_line : List (List ℕ) → List ℕ → List (List ℕ)

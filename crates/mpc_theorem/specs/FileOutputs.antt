@@ -7,9 +7,9 @@ use Rattle.mpc_condense.specs.Condensed.{IsCondensed}
 use Rattle.mpc_tree.specs.Trees.{whole_box}
 use Rattle.mpc_tree.specs.Certified.{IsOwnTree}
 use Rattle.mpc_controller.specs.Parts.{Parts}
-use Rattle.mpc_file.specs.declared.versions.Version.{Version}
-use Rattle.mpc_file.specs.declared.versions.Version.TheVariants.{Three}
-use Rattle.mpc_file.specs.FileGrammar.{Spells}
+use Rattle.mpc_grammar.specs.declared.versions.Version.{Version}
+use Rattle.mpc_grammar.specs.declared.versions.Version.TheVariants.{Three}
+use Rattle.mpc_grammar.specs.FileGrammar.{Spells}
 use Rattle.mpc_files.specs.FileAnswers.{RepliesRightly, FileReplies, Converts, IsAccepted}
 use Rattle.mpc_synthesis.specs.Controllers.{IsController}
 use Rattle.mpc_replies.specs.ReplyLines.{AreRepliesOf}

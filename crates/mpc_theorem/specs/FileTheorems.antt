@@ -1,8 +1,8 @@
 -- What holds of every text of a controller.
 use Rattle.std.specs.Prelude.{ℕ, ◌^◌, ◌<◌, List, length}
 use Rattle.mpc_controller.specs.Parts.{Parts}
-use Rattle.mpc_file.specs.declared.versions.Version.{Version}
-use Rattle.mpc_file.specs.FileGrammar.{Spells}
+use Rattle.mpc_grammar.specs.declared.versions.Version.{Version}
+use Rattle.mpc_grammar.specs.FileGrammar.{Spells}
 use Rattle.mpc_theorem.specs.ControllerFile.{IsControllerFile}
 
 -- a text of fewer than 2^64 bytes, as each in a memory, that spells a controller in a version is the file of that controller

@@ -7,7 +7,7 @@ use Rattle.mpc_rows.specs.LinearSystem.{point_at}
 use Rattle.mpc_controller.specs.Parts.{Parts}
 use Rattle.mpc_controller.specs.Walk.{EndsAt}
 use Rattle.mpc_controller.specs.Replies.{RepliesAt}
-use Rattle.mpc_file.specs.FileGrammar.{IsSpelled}
+use Rattle.mpc_grammar.specs.FileGrammar.{IsSpelled}
 use Rattle.mpc_check.specs.Acceptance.{Accepts}
 use Rattle.mpc_recur.specs.declared.answers.Next.{Next}
 use Rattle.mpc_recur.specs.Successors.{next, IsSafe, IsAtTarget}

@@ -1,5 +1,5 @@
 use Rattle.std.proofs.Common.{List, ℕ}
-use Rattle.mpc_file.specs.FileGrammar.{ExplainsFileError}
+use Rattle.mpc_grammar.specs.FileGrammar.{ExplainsFileError}
 use Rattle.mpc_cli.specs.declared.commands.Command.TheVariants.{OfFile}
 use Rattle.mpc_cli.specs.declared.commands.FileCommand.TheVariants.{Convert}
 use Rattle.mpc_cli.specs.Outcomes.{IsAnswerTo}

@@ -1,6 +1,6 @@
 use Rattle.std.proofs.Common.{List, ℕ, subst, subst₂, ◌^◌, ◌<◌, length}
 use Rattle.std.specs.Str.Lines.{lines}
-use Rattle.mpc_file.specs.FileGrammar.{ExplainsFileError}
+use Rattle.mpc_grammar.specs.FileGrammar.{ExplainsFileError}
 use Rattle.mpc_files.specs.FileAnswers.{FileReplies}
 use Rattle.mpc_replies.specs.Cut.{head_of}
 use Rattle.mpc_cli.specs.declared.commands.Command.TheVariants.{OfFile}

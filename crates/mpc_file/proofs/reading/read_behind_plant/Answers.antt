@@ -1,6 +1,6 @@
 use Rattle.std.proofs.Common.{sym, subst}
 use Rattle.mpc_file.specs.Unsealed.{unsealed}
-use Rattle.mpc_file.specs.FileGrammar.{behind_plant}
+use Rattle.mpc_grammar.specs.FileGrammar.{behind_plant}
 use Rattle.mpc_file.proofs.WholeReading.{passed_on}
 use Rattle.mpc_file.proofs.reading.read_behind_plant.Goals as goal
 

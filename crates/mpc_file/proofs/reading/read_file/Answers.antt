@@ -1,8 +1,8 @@
 use Rattle.std.proofs.Common.{refl, sym, ◌∙◌, subst, inr}
 use Rattle.std.proofs.lemmas.Bool.{false≢true}
-use Rattle.mpc_file.specs.Reading.{Cursor, one_line, ◌>>=◌}
-use Rattle.mpc_file.specs.PlantGrammar.{plain_rule, plant}
-use Rattle.mpc_file.specs.FileGrammar.{IsVersion, behind_plant}
+use Rattle.mpc_grammar.specs.Reading.{Cursor, one_line, ◌>>=◌}
+use Rattle.mpc_grammar.specs.PlantGrammar.{plain_rule, plant}
+use Rattle.mpc_grammar.specs.FileGrammar.{IsVersion, behind_plant}
 use Rattle.mpc_file.proofs.reading.read_file.Goals as goal
 
 pub returns-then-is_at_end-clause-ok : goal.returns-then-is_at_end-clause-ok

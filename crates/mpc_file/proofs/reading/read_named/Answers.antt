@@ -1,13 +1,13 @@
 use Rattle.std.proofs.Common.{codes, refl, sym, ◌∙◌, ap, subst, arith, length, map}
 use Rattle.std.proofs.lemmas.List.{length-map}
 use Rattle.mpc_controller.specs.Bounds.{IsController}
-use Rattle.mpc_file.specs.Reading.{one_line}
-use Rattle.mpc_file.specs.PlantGrammar.{plain_rule, UsesAll}
-use Rattle.mpc_file.specs.LawGrammar.{law_named}
-use Rattle.mpc_file.specs.TreeGrammar.{planes, IsWord}
-use Rattle.mpc_file.specs.TreeReading.{named_tree_nodes}
+use Rattle.mpc_grammar.specs.Reading.{one_line}
+use Rattle.mpc_grammar.specs.PlantGrammar.{plain_rule, UsesAll}
+use Rattle.mpc_grammar.specs.LawGrammar.{law_named}
+use Rattle.mpc_grammar.specs.TreeGrammar.{planes, IsWord}
+use Rattle.mpc_law_lines.specs.TreeReading.{named_tree_nodes}
 use Rattle.mpc_file.specs.Unsealed.{unsealed}
-use Rattle.mpc_file.specs.FileGrammar.{named, parts_with}
+use Rattle.mpc_grammar.specs.FileGrammar.{named, parts_with}
 use Rattle.mpc_file.proofs.LawShapes.{named_good}
 use Rattle.mpc_file.proofs.FileShapes.{named_parts}
 use Rattle.mpc_file.proofs.WholeReading.{passed_on, planes_fail, planes_read, nodes_fail, nodes_read, last_fails, last_read, nodes_of, none_behind}

@@ -1,9 +1,9 @@
 use Rattle.std.proofs.Common.{refl, arith}
-use Rattle.mpc_file.specs.Reading.{one_line}
-use Rattle.mpc_file.specs.PlantGrammar.{plain_rule}
-use Rattle.mpc_file.specs.TreeGrammar.{IsWord, written_tree}
+use Rattle.mpc_grammar.specs.Reading.{one_line}
+use Rattle.mpc_grammar.specs.PlantGrammar.{plain_rule}
+use Rattle.mpc_grammar.specs.TreeGrammar.{IsWord, written_tree}
 use Rattle.mpc_file.specs.Unsealed.{unsealed}
-use Rattle.mpc_file.specs.FileGrammar.{written}
+use Rattle.mpc_grammar.specs.FileGrammar.{written}
 use Rattle.mpc_file.proofs.LawShapes.{written_good}
 use Rattle.mpc_file.proofs.FileShapes.{written_parts}
 use Rattle.mpc_file.proofs.WholeReading.{passed_on, tree_fails, tree_read, end_fails}

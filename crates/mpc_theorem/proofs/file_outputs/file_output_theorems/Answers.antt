@@ -3,7 +3,7 @@ use Rattle.mpc_theorem.specs.PlantFile.{IsPlantText}
 use Rattle.mpc_theorem.proofs.RightControllers.{controller_rightly}
 use Rattle.mpc_theorem.proofs.TheFiles.{the_file, one_file}
 use Rattle.mpc_theorem.proofs.file_outputs.file_output_theorems.Goals as goal
-use Rattle.mpc_file.specs.declared.versions.Version.TheVariants.{Three}
+use Rattle.mpc_grammar.specs.declared.versions.Version.TheVariants.{Three}
 
 pub returns-clause-compiled : goal.returns-clause-compiled
 returns-clause-compiled c = λ input output plant qp parts short text is spelled.

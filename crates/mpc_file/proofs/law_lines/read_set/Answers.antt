@@ -1,6 +1,0 @@
-use Rattle.mpc_file.specs.LawGrammar.{IsLawLine}
-use Rattle.mpc_file.proofs.StatedLines.{line_stated}
-use Rattle.mpc_file.proofs.law_lines.read_set.Goals as goal
-
-pub returns : goal.returns
-returns c = line_stated (IsLawLine c.args.plant.now) c.set_in.result c.stated.result c.number-number.result c.in_ok-text.ensures.taken c.number-number.ensures c.set_in.ensures c.stated.ensures

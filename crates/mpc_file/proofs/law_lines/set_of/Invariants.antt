@@ -1,5 +1,0 @@
-use Rattle.mpc_file.proofs.FormLemmas.{IsSetSoFar}
-use Rattle.mpc_file.proofs.law_lines.set_of.Given as goal
-
-abbrev pub invariant-loop-number : goal.invariant-loop-number
-invariant-loop-number l = IsSetSoFar l.rows l.numbers l.number-index l.set l.last

@@ -1,5 +1,0 @@
-use Rattle.mpc_file.proofs.FormLemmas.{NameSoFar}
-use Rattle.mpc_file.proofs.named_laws.named_by.Given as goal
-
-abbrev pub invariant-loop-integer : goal.invariant-loop-integer
-invariant-loop-integer l = NameSoFar l.all l.used l.integers l.integer-index l.numbers l.last

@@ -1,5 +1,0 @@
-use Rattle.mpc_file.proofs.NamedLemmas.{IsReadSoFar}
-use Rattle.mpc_file.proofs.named_laws.read_named_laws.Given as goal
-
-abbrev pub invariant-loop : goal.invariant-loop
-invariant-loop l = IsReadSoFar l.plant l.forms l.count l.initial.lines l.lines l.laws l.used l.counter

@@ -1,6 +1,0 @@
-use Rattle.std.proofs.Common.{◌≡◌, take}
-use Rattle.mpc_file.specs.LawGrammar.{used_behind}
-use Rattle.mpc_file.proofs.named_laws.used_with.Given as goal
-
-abbrev pub invariant-loop-number : goal.invariant-loop-number
-invariant-loop-number l = l.last ≡ used_behind l.used (take l.number-index l.numbers)

@@ -1,6 +1,0 @@
-use Rattle.std.proofs.Common.{arith}
-use Rattle.mpc_file.proofs.MirrorLemmas.{symmetric_is}
-use Rattle.mpc_file.proofs.plant_lines.is_symmetric.Goals as goal
-
-pub returns : goal.returns
-returns c = symmetric_is c.args.matrix.now c.args.size c.requires (λ i h. c.loop-i.invariant i (omega arith))

@@ -1,6 +1,0 @@
-use Rattle.std.proofs.Common.{◌≡◌, ◌*◌}
-use Rattle.mpc_file.specs.PlantNumbers.{filled}
-use Rattle.mpc_file.proofs.plant_lines.matrix_with.Given as goal
-
-abbrev pub invariant-loop-i : goal.invariant-loop-i
-invariant-loop-i l = l.matrix ≡ filled l.rows l.columns (l.i * l.columns) l.entries

@@ -1,7 +1,0 @@
-use Rattle.std.specs.Prelude.{codes}
-use Rattle.mpc_file.specs.PlantGrammar.{AreNumbers}
-use Rattle.mpc_file.proofs.StatedLines.{line_stated}
-use Rattle.mpc_file.proofs.plant_lines.read_drift.Goals as goal
-
-pub returns : goal.returns
-returns c = line_stated (AreNumbers (codes "drift") c.args.states) c.numbers_in.result c.stated.result c.number-number.result c.in_ok-line.ensures.taken c.number-number.ensures c.numbers_in.ensures c.stated.ensures

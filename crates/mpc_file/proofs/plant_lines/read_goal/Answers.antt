@@ -1,6 +1,0 @@
-use Rattle.mpc_file.specs.PlantGrammar.{IsGoal}
-use Rattle.mpc_file.proofs.StatedLines.{line_stated}
-use Rattle.mpc_file.proofs.plant_lines.read_goal.Goals as goal
-
-pub returns : goal.returns
-returns c = line_stated (IsGoal c.args.version c.args.sizes.now c.args.drift.now) c.goal_in.result c.stated.result c.number-number.result c.in_ok-line.ensures.taken c.number-number.ensures c.goal_in.ensures c.stated.ensures

@@ -1,6 +1,0 @@
-use Rattle.mpc_file.specs.PlantGrammar.{IsMatrix}
-use Rattle.mpc_file.proofs.StatedLines.{line_stated}
-use Rattle.mpc_file.proofs.plant_lines.read_matrix.Goals as goal
-
-pub returns : goal.returns
-returns c = line_stated (IsMatrix c.args.name.now c.args.rows c.args.columns) c.matrix_in.result c.stated.result c.number-number.result c.in_ok-line.ensures.taken c.number-number.ensures c.matrix_in.ensures c.stated.ensures

@@ -1,6 +1,0 @@
-use Rattle.mpc_file.specs.PlantGrammar.{IsWeightLine}
-use Rattle.mpc_file.proofs.StatedLines.{line_stated}
-use Rattle.mpc_file.proofs.plant_lines.read_weight.Goals as goal
-
-pub returns : goal.returns
-returns c = line_stated (IsWeightLine c.args.name.now c.args.size) c.weight_in.result c.stated.result c.number-number.result c.in_ok-line.ensures.taken c.number-number.ensures c.weight_in.ensures c.stated.ensures

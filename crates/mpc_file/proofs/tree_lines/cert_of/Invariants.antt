@@ -1,9 +1,0 @@
-use Rattle.std.proofs.Common.{length}
-use Rattle.mpc_file.proofs.CertReading.{PairsSoFar}
-use Rattle.mpc_file.proofs.tree_lines.cert_of.Given as goal
-
-abbrev pub invariant-loop-left : goal.invariant-loop-left
-invariant-loop-left l = PairsSoFar l.rows l.parts l.left l.cert l.last
-
-abbrev pub decreases-loop-left : goal.decreases-loop-left
-decreases-loop-left l = length l.left

@@ -1,5 +1,0 @@
-use Rattle.std.proofs.Common.{◌≡◌, take}
-use Rattle.mpc_file.proofs.tree_lines.ints_of.Given as goal
-
-abbrev pub invariant-loop-integer : goal.invariant-loop-integer
-invariant-loop-integer l = l.list ≡ take l.integer-index l.integers

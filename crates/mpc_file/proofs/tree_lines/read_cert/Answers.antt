@@ -1,6 +1,0 @@
-use Rattle.mpc_file.specs.TreeGrammar.{IsCertLine}
-use Rattle.mpc_file.proofs.StatedLines.{line_stated}
-use Rattle.mpc_file.proofs.tree_lines.read_cert.Goals as goal
-
-pub returns : goal.returns
-returns c = line_stated (IsCertLine c.args.rows) c.cert_in.result c.stated.result c.number-number.result c.in_ok-line.ensures.taken c.number-number.ensures c.cert_in.ensures c.stated.ensures

@@ -1,8 +1,0 @@
-use Rattle.mpc_file.proofs.KeptTexts.{kept_then}
-use Rattle.mpc_file.proofs.writing.law_lines.write_set.Goals as goal
-
-pub returns-in_err-write_members-clause-kept : goal.returns-in_err-write_members-clause-kept
-returns-in_err-write_members-clause-kept c = kept_then _ _ _ c.write_piece.ensures.kept c.write_members.ensures.kept
-
-pub returns-clause-kept : goal.returns-clause-kept
-returns-clause-kept c = kept_then _ _ _ (kept_then _ _ _ c.write_piece.ensures.kept c.write_members.ensures.kept) c.end_line.ensures.kept

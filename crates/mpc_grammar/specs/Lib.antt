@@ -1,0 +1,14 @@
+pub mod Versions
+pub mod Reading
+pub mod Lines
+pub mod PlantGrammar
+pub mod LawGrammar
+pub mod TreeGrammar
+pub mod FileGrammar
+pub mod Spelling
+pub mod LineTheorems
+pub mod Fractions
+pub mod Outcomes
+pub mod WrittenFits
+pub mod Statable
+pub mod TextTheorems

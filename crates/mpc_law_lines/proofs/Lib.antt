@@ -1,0 +1,9 @@
+pub mod CertLines
+pub mod FormLemmas
+pub mod CertReading
+pub mod TreeReading
+pub mod NamedReading
+pub mod PlaneLists
+pub mod LineSetLemmas
+pub mod NamedLemmas
+pub mod FoundPlanes

@@ -1,0 +1,2 @@
+pub mod PlantNumbers
+pub mod LimitNumbers

@@ -1,0 +1,17 @@
+pub mod GrownTexts
+pub mod PrintLemmas
+pub mod WithoutLemmas
+pub mod PlantPrints
+pub mod NameLemmas
+pub mod StepLemmas
+pub mod FormNameLemmas
+pub mod LawPrints
+pub mod PlaneLemmas
+pub mod NodePrints
+pub mod TreePrints
+pub mod FilePrints
+pub mod WrittenPrints
+pub mod Numbering
+pub mod EachText
+pub mod KeptTexts
+pub mod WholeTexts

@@ -1,0 +1,11 @@
+use Rattle.mpc_writing.proofs.KeptTexts.{kept_then}
+use Rattle.mpc_writing.proofs.plant_lines.write_goal.Goals as goal
+
+pub returns-in_err-write_fractions-clause-kept : goal.returns-in_err-write_fractions-clause-kept
+returns-in_err-write_fractions-clause-kept c = kept_then _ _ _ c.write_piece.ensures.kept c.write_fractions.ensures.kept
+
+pub returns-in_err-write_fractions-2-clause-kept : goal.returns-in_err-write_fractions-2-clause-kept
+returns-in_err-write_fractions-2-clause-kept c = kept_then _ _ _ (kept_then _ _ _ c.write_piece.ensures.kept c.write_fractions.ensures.kept) c.write_fractions-2.ensures.kept
+
+pub returns-clause-kept : goal.returns-clause-kept
+returns-clause-kept c = kept_then _ _ _ (kept_then _ _ _ (kept_then _ _ _ c.write_piece.ensures.kept c.write_fractions.ensures.kept) c.write_fractions-2.ensures.kept) c.end_line.ensures.kept

@@ -1,0 +1,4 @@
+pub mod Writing
+pub mod Names
+pub mod FormNames
+pub mod PlaneNames
