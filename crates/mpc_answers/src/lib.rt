@@ -69,7 +69,7 @@ pub fn grid_points()
 /// refute the systems of its leaves (Farkas 1902, Motzkin 1936). So a check of what is compiled refuses nothing, and finds no pivot that
 /// isn't positive and no number of condensing or of the pivots that is too wide. It accepts, unless a number of a sum that it forms over a
 /// law or at a leaf needs more than 128 bits, or there is no memory. Where all numbers of these sums fit, the controller is one that is
-/// accepted. The call does nothing: its clauses are the law.
+/// accepted. The call does nothing: its clauses are the theorem.
 pub fn compiled_accepted()
     ensures found { OnlyWidthFound }
     ensures answer { NoRefusal }

@@ -72,7 +72,7 @@ pub record NumbersFit (s : LinearSystem) : Type 0 where
 pub record AreTurned (s : LinearSystem) (more : List Row) : Type 0 where
   pub each : (i : ℕ) → i < length more → (j : ℕ) × (j < height s) × (get_or more i no_row ≡ turned (row_at s j))
 
--- ---- the laws of shared beginnings
+-- ---- theorems of shared beginnings
 -- up to the shorter run's last position the longer one stands alike, and takes the same steps
 abbrev pub StandAlike : Type 0
 StandAlike = (s : LinearSystem) (more : List Row) (k : ℕ) → k ≤ steps s → Agrees (count s) (position s k) (position (lengthened s more) k)

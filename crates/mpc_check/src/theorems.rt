@@ -25,7 +25,7 @@ pub fn accepted_replies()
 
 /// An accepted controller has no finding, nor has a program whose numbers fit and whose pivots are positive, and of any controller at most
 /// one thing is found, so that each answer of a check but want of memory comes exactly where its cause holds. The call does nothing: its
-/// clauses are the law.
+/// clauses are the theorem.
 pub fn one_finding()
     ensures accepted { NothingFound }
     ensures program { NoProgramFinding }
@@ -37,7 +37,7 @@ pub fn one_finding()
 }
 
 /// A law is that of its set exactly where it meets the conditions coefficient by coefficient. The call does nothing: its clauses are the
-/// law.
+/// theorems.
 pub fn law_conditions()
     ensures stationary { LawIsStationary }
     ensures active { LawIsActive }
@@ -47,7 +47,7 @@ pub fn law_conditions()
 }
 
 /// Two neighbouring stretches of a search tree are one: what is found of it is what is found of the first stretch, or else of the second. The
-/// call does nothing: its clauses are the law.
+/// call does nothing: its clauses are the theorem.
 pub fn stretch_theorems()
     ensures met { StretchesAreMet }
     ensures finds { StretchesFind }

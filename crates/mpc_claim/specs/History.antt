@@ -78,7 +78,7 @@ abbrev pub IsLegalAfter : Qp → List Event → List Event → Type 0
 IsLegalAfter qp past [] = Unit {0}
 IsLegalAfter qp past (e ∷ es) = MayFollow qp past e.worker e.set e.kind × IsLegalAfter qp (past ++ e ∷ []) es
 
--- each event may follow those before it; the laws of histories say all that is needed of it
+-- each event may follow those before it; the theorems of histories say all that is needed of it
 unfoldable pub IsLegal : Qp → List Event → Type 0
 IsLegal qp history = IsLegalAfter qp [] history
 

@@ -1,4 +1,4 @@
--- Laws of histories, for those who keep one in pieces.
+-- Theorems of histories, for those who keep one in pieces.
 use Rattle.std.specs.Prelude.{◌≡◌, ◌≢◌, ◌↔◌, ℕ, ◌+◌, ◌-◌, ◌≤◌, ◌⊎◌, List, [], ◌∷◌, ◌++◌, length, take, true, ◌||◌, Contains, Some, slice_get, AllPairs}
 use Rattle.mpc_space.specs.Matrix.{height}
 use Rattle.mpc_sets.specs.RowSet.{IsSetOfRows}

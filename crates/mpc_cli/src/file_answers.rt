@@ -34,7 +34,7 @@ fn file_refusal(alloc: Global, error: FileError) -> Result<Answer, NoMemory>
     }
 }
 
-/// A slice has fewer than 2^64 bytes. The call does nothing: its clause is the law.
+/// A slice has fewer than 2^64 bytes. The call does nothing: its clause is the theorem.
 fn few_bytes(bytes: &[u8])
     ensures { length bytes.now < 2 ^ 64 }
 {

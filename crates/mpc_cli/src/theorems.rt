@@ -13,7 +13,7 @@ use mpc_theorem::{
 };
 use mpc_words::whole_line_theorems;
 
-/// A status is due to a command just where an outcome of its library has that status. The call does nothing: its clause is the law.
+/// A status is due to a command just where an outcome of its library has that status. The call does nothing: its clause is the theorem.
 pub fn due_statuses()
     ensures { DueIsWhatComes }
 {
@@ -25,7 +25,7 @@ pub fn due_statuses()
 
 /// For words and an input at most one status is due, by devices that don't fail, and `Done` where no refusal is. None is where the plant's
 /// program has a positive definite Hessian and nothing is too wide, or where the controller's file passes. The call does nothing: its
-/// clauses are the law.
+/// clauses are the theorem.
 pub fn one_status()
     ensures one { OneStatus }
     ensures passing { PassingIsDone }

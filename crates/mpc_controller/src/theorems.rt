@@ -6,7 +6,7 @@ ghost use Rattle.mpc_controller.specs.ReplyTheorems.{RepliesEverywhere};
 ghost use Rattle.mpc_controller.specs.PreorderTheorems.{SplitSpells, LeafSpells, JoinedSpell};
 
 /// At each point the walk through a tree ends, and at one leaf only. The call does nothing: its
-/// contract is the law.
+/// contract is the theorem.
 pub fn one_leaf()
     ensures { OneLeaf }
 {}
@@ -25,7 +25,7 @@ pub fn preorder_theorems()
 {}
 
 /// One bound is the first that is broken, and none is where all are kept. The call does nothing: its
-/// contract is the laws.
+/// contract is the theorems.
 pub fn bound_theorems()
     ensures one_first_broken { OneFirstBroken }
     ensures kept_not_broken { KeptNotBroken }

@@ -59,7 +59,7 @@ pub fn convex_program(alloc: Global, plant: &Plant) -> Result<Qp, ProgramError>
 }
 
 /// At most one outcome is that of a plant: one pivot that isn't positive, one first place with a number that is too wide, or its convex
-/// program. The call does nothing: its clause is the law.
+/// program. The call does nothing: its clause is the theorem.
 pub fn one_program_outcome()
     ensures { OneProgramOutcome }
 {

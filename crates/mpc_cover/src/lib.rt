@@ -1,7 +1,7 @@
 //! The regions of a program's laws cover its feasible points: where h is positive definite, each point of the box at which some choice of the
 //! unknowns satisfies all rows lies in the region of a law of the table.
 //!
-//! The crate has no code that computes. Each function below does nothing, and its clauses are the laws that it is named after.
+//! The crate has no code that computes. Each function below does nothing, and its clauses are the theorems that it is named after.
 #![tactic(auto)]
 
 ghost use Rattle.std.specs.Prelude.{◌≡◌, ℕ, ◌≤◌, false, List, length};

@@ -1,7 +1,7 @@
 //! Rational numbers without a bound, for contracts and proofs: greatest common divisors, fractions with their field and order, pairs of
 //! fractions in lexicographic order, and solvers for identities and for linear inequalities.
 //!
-//! The crate has no code that computes. Each function below has an empty body, and its clauses are the laws that it is named after.
+//! The crate has no code that computes. Each function below has an empty body, and its clauses are the theorems that it is named after.
 #![tactic(auto)]
 
 ghost use Rattle.std.specs.Prelude.{◌≡◌, ◌≢◌, ◌⊎◌, ◌↔◌, ℕ, suc, ◌<◌, ◌≤◌, ◌*◌, ◌/◌, ℤ, pos, negsuc, ◌+ℤ◌, ◌-ℤ◌, ◌*ℤ◌, neg_ℤ, ◌≤ℤ◌, ◌<ℤ◌, unsigned_abs, T, List};

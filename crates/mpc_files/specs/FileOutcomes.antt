@@ -40,7 +40,7 @@ IsFileOutcome bytes (bad_file kind number) = FailsAt bytes kind number
 IsFileOutcome bytes (finds finding) = FindsInFile bytes finding
 IsFileOutcome bytes accepted = AcceptsFile bytes
 
--- ---- laws on bytes of fewer than 2^64, as slices are
+-- ---- theorems on bytes of fewer than 2^64, as slices are
 -- they fail at one line for one reason, or spell one controller
 abbrev pub OneFileReading : Type 0
 OneFileReading = (bytes : List ℕ) (one other : FileReading) → length bytes < 2 ^ 64 → IsFileReading bytes one → IsFileReading bytes other → one ≡ other

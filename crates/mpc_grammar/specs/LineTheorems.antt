@@ -1,4 +1,4 @@
--- Laws of the words that numbers are spelled by, and of the lines that state them.
+-- Theorems of the words that numbers are spelled by, and of the lines that state them.
 use Rattle.std.specs.Prelude.{◌≡◌, ℕ, ◌^◌, ◌<◌, List, ℤ, unsigned_abs, decimal}
 use Rattle.std.specs.Fmt.{signed_decimal}
 use Rattle.mpc_exact.specs.Rational.{ℚ}

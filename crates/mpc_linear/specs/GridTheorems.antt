@@ -1,4 +1,4 @@
--- Laws of matrices that are stored row by row in one list.
+-- Theorems of matrices that are stored row by row in one list.
 use Rattle.std.specs.Prelude.{◌≡◌, ℕ, ◌+◌, ◌*◌, ◌<◌, List, pos, length, slice_set, replicate}
 use Rattle.mpc_exact.specs.Rational.{ℚ, int}
 use Rattle.mpc_space.specs.Matrix.{height, IsRectangular}

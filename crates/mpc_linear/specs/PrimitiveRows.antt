@@ -1,4 +1,4 @@
--- Laws of rows in whole numbers without a common divisor.
+-- Theorems of rows in whole numbers without a common divisor.
 use Rattle.std.specs.Prelude.{◌≡◌, List, [], ◌∷◌, ◌++◌}
 use Rattle.mpc_exact.specs.Rational.{ℚ}
 use Rattle.mpc_linear.specs.declared.integers.RowInt.{RowInt}

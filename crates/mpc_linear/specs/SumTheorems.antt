@@ -1,4 +1,4 @@
--- Laws of sums of products that are formed from left to right.
+-- Theorems of sums of products that are formed from left to right.
 use Rattle.std.specs.Prelude.{◌≡◌, ℕ, ◌+◌, ◌<◌, ◌≤◌, List, length, drop}
 use Rattle.mpc_exact.specs.Rational.{ℚ, ◌+ℚ◌, ◌*ℚ◌}
 use Rattle.mpc_space.specs.Vector.{dot, coordinate}

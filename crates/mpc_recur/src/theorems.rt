@@ -18,7 +18,7 @@ pub fn one_outcome()
 }
 
 /// Each target is ruled out exactly where the controller is safe and no target's forming or run is too wide. Where one is found to be reached,
-/// the controller leads there from a state of the box, and then it isn't safe. The call does nothing: its clauses are the law.
+/// the controller leads there from a state of the box, and then it isn't safe. The call does nothing: its clauses are the theorem.
 pub fn ruled_out_where_safe()
     ensures ruled_out { RuledOutWhereSafe }
     ensures leads { FoundLeadsAway }
@@ -31,7 +31,7 @@ pub fn ruled_out_where_safe()
 }
 
 /// A safe controller, of which no target's forming or run is too wide, is answered as safe, and nothing but want of memory hinders that. The
-/// call does nothing: its clauses are the law.
+/// call does nothing: its clauses are the theorem.
 pub fn safe_is_answered()
     ensures answered { SafeIsAnswered }
     ensures decided { SafeIsDecided }
@@ -41,7 +41,7 @@ pub fn safe_is_answered()
 }
 
 /// Where a safe controller has a move, it has one after any number of steps: the closed loop stays in the box. The call does nothing: its
-/// contract is the law.
+/// contract is the theorem.
 pub fn safe_goes_on()
     ensures { SafeGoesOn }
 {}

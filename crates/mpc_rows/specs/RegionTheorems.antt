@@ -1,4 +1,4 @@
--- Laws of the stated systems: which points the rows of a box, of a program and of a law have.
+-- Theorems of the stated systems: which points the rows of a box, of a program and of a law have.
 use Rattle.std.specs.Prelude.{◌≡◌, ◌↔◌, ℕ, ◌+◌, List, ◌++◌, length, All}
 use Rattle.mpc_exact.specs.Rational.{ℚ}
 use Rattle.mpc_space.specs.Matrix.{height}

@@ -1,4 +1,4 @@
--- Laws of systems of rows, for those who decide them: what a refutation and a pair point show, and points and multipliers by their numbers.
+-- Theorems of systems of rows, for those who decide them: what a refutation and a pair point show, and points and multipliers by their numbers.
 use Rattle.std.specs.Prelude.{◌≡◌, ℕ, ◌<◌, List, Some, length, slice_get}
 use Rattle.mpc_exact.specs.Rational.{ℚ}
 use Rattle.mpc_exact.specs.Pair.{Pair}

@@ -1,4 +1,4 @@
-//! What holds of every system, region and law, for those who prove something of them. The calls do nothing: their contracts are the laws.
+//! What holds of every system, region and law, for those who prove something of them. The calls do nothing: their contracts are the theorems.
 
 ghost use Rattle.mpc_rows.specs.LawTheorems.{LawTheorems};
 ghost use Rattle.mpc_rows.specs.RegionTheorems.{RegionTheorems};

@@ -22,7 +22,7 @@ pub fn safe_stays_right()
 }
 
 /// Of bytes at most one outcome is due: they fail at a line, or one thing is found of the controller or of its steps, or it is safe. Each answer,
-/// and each error but want of memory, states an outcome that is due. The call does nothing: its clauses are the law.
+/// and each error but want of memory, states an outcome that is due. The call does nothing: its clauses are the theorem.
 pub fn one_safety_answer()
     ensures one { OneSafetyOutcome }
     ensures answered { AnswerIsOutcome }

@@ -1,4 +1,4 @@
--- Laws of lists of sets in order.
+-- Theorems of lists of sets in order.
 use Rattle.std.proofs.Common.{Bool, true, false, cond, filter, ◌≡◌, ℕ, suc, zero, ◌+◌, ◌-◌, ◌<◌, ◌≤◌, ◌⊎◌, ◌↔◌, List, [], ◌∷◌, length, get_or, Contains, refl, sym, ap, ◌∙◌, subst, inl, inr, arith}
 use Rattle.std.proofs.lemmas.Bool.{cases_eq}
 use Rattle.std.proofs.lemmas.List.{get_or_default}

@@ -19,7 +19,7 @@ IsBefore s t = set_cmp s t ≡ Less
 abbrev pub IsInOrder : List (List ℕ) → Type 0
 IsInOrder sets = AllPairs IsBefore sets
 
--- ---- the laws of the order
+-- ---- theorems of the order
 pub set_cmp-total : IsTotalOrder set_cmp
 set_cmp-total = then_total (on_total length nat_cmp_total) nat_list_cmp_total
 

@@ -1,4 +1,4 @@
--- Laws of sets of rows: their members, their order, how many there are, and the sets of the next level.
+-- Theorems of sets of rows: their members, their order, how many there are, and the sets of the next level.
 use Rattle.std.specs.Prelude.{◌≡◌, ◌≢◌, ℕ, ◌+◌, ◌<◌, ◌≤◌, ◌⊎◌, List, [], ◌∷◌, ◌++◌, length, slice_index_or, All, AllPairs, Contains}
 use Rattle.mpc_sets.specs.RowSet.{RisesWithin, Among, IsSetOfRows, with_row, without_row, LacksOne}
 use Rattle.mpc_sets.specs.SetOrder.{IsBefore}

@@ -1,7 +1,7 @@
 //! Vectors and matrices of rational numbers, positive definite matrices and convex quadratic programs, for contracts and proofs.
 //!
 //! A vector is a list, and stands for one with no end whose entries past the list are 0; a matrix is the list of its rows. So most laws
-//! have no condition on lengths. The crate has no code that computes. Each function below has an empty body, and its clauses are the laws
+//! have no condition on lengths. The crate has no code that computes. Each function below has an empty body, and its clauses are the theorems
 //! that it is named after.
 #![tactic(auto)]
 

@@ -15,7 +15,7 @@ use mpc_tree::one_tree;
 
 /// At every state of the plant's box, also between those of the grid, its controller replies, and what it replies is right: the first
 /// move of the unique cheapest admissible sequence, and `infeasible` only where no sequence is admissible. The call does nothing: its
-/// clauses are the law.
+/// clauses are the theorem.
 pub fn right_controller()
     ensures right { ControllerIsRight }
     ensures replies { ControllerReplies }
@@ -24,7 +24,7 @@ pub fn right_controller()
     replies_everywhere();
 }
 
-/// A plant has one controller. The call does nothing: its clause is the law.
+/// A plant has one controller. The call does nothing: its clause is the theorem.
 pub fn one_controller()
     ensures { OneController }
 {
@@ -40,7 +40,7 @@ pub fn one_controller()
 }
 
 /// At most one outcome is that of a plant: one pivot that isn't positive, one first place with a number that is too wide, or what was
-/// asked for. The call does nothing: its clause is the law.
+/// asked for. The call does nothing: its clause is the theorem.
 pub fn one_outcome()
     ensures { OneOutcome }
 {

@@ -1,4 +1,4 @@
--- Laws of the systems of a cell: which points they have, and how many coefficients their rows.
+-- Theorems of the systems of a cell: which points they have, and how many coefficients their rows.
 use Rattle.std.specs.Prelude.{◌≡◌, ◌↔◌, ◌+◌, List, ◌++◌, length, All}
 use Rattle.mpc_exact.specs.Rational.{ℚ}
 use Rattle.mpc_space.specs.Matrix.{height}

@@ -10,7 +10,7 @@ use mpc_synthesis::right_controller;
 use mpc_tree::{one_tree, table_theorems};
 
 /// What the libraries say of the files that they write and accept is what these outputs mean. The call does nothing: its clauses are the
-/// law.
+/// theorems.
 pub fn file_output_theorems()
     ensures compiled { CompiledIsOutput }
     ensures one_file { OneFile }

@@ -7,7 +7,7 @@ use mpc_plant::one_right_reply;
 
 /// The replies of a plant are a line for each line of counts, with the reply at each state that is right, and an input has one such output.
 /// What is solved state by state is such lines too, of which some may say that a number of the state's run is too wide. The call does
-/// nothing: its clauses are the law.
+/// nothing: its clauses are the theorem.
 pub fn output_lines()
     ensures replies { RepliesAreLines }
     ensures one { OneReplies }

@@ -9,7 +9,7 @@ use mpc_safety::one_safety_answer;
 
 /// What is due to such a file is what the tests of the targets find: where the closed loop leaves, the checker accepts the controller, and the
 /// loop comes from a state with an admissible sequence to one outside the box or without a move; and a file is safe exactly where each target
-/// is ruled out. At most one thing is due. What is answered is due, and what is answered as safe is right forever. The call does nothing: its clauses are the law.
+/// is ruled out. At most one thing is due. What is answered is due, and what is answered as safe is right forever. The call does nothing: its clauses are the theorem.
 pub fn safe_file_theorems()
     ensures due { DueIsFound }
     ensures one { OneSafetyDue }

@@ -10,7 +10,7 @@ use mpc_trace::finished_histories;
 
 /// The text of a registry's finished history is that of workers who claim and deliver the candidates. Where no number of the plant is too wide,
 /// each such text is that of a registry's: each tag is that of the verdict to which the stated runs come. The call does nothing: its clauses are
-/// the law.
+/// the theorem.
 pub fn trace_theorems()
     ensures text { TraceIsText }
     ensures trace { TextIsTrace }

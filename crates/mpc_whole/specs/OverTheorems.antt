@@ -1,4 +1,4 @@
--- Laws of whole numbers over one denominator.
+-- Theorems of whole numbers over one denominator.
 use Rattle.std.specs.Prelude.{◌≡◌, ◌≢◌, ℕ, ◌+◌, ◌<◌, ◌^◌, ℤ, pos, ◌+ℤ◌, unsigned_abs}
 use Rattle.mpc_exact.specs.Rational.{frac, ◌+ℚ◌, ◌*ℚ◌, inv_ℚ}
 use Rattle.mpc_frac.specs.Fits.{FitsFrac, FitsSum}
