@@ -52,6 +52,14 @@ pub struct Run<'a> {
     row: Vec<i64>,
 }
 
+/// What the numbers of a position are multiplied by, at most: those in one column by a top, all others and the denominator by a size.
+#[derive(Clone, Copy, Default)]
+struct Factors {
+    column: usize,
+    top: u128,
+    size: u128,
+}
+
 /// What one turn finds.
 enum Found {
     Point,
@@ -164,9 +172,9 @@ impl Rows {
     }
 
     /// What a number in the column of y may have, so that it leaves room for products with numbers of such a size.
-    fn room(&self, top: u128, y: usize) -> u128 {
+    fn room(&self, factor: u128, y: usize) -> u128 {
         let n = (self.width + self.height()) as u128;
-        let scaled = ROOM / top.max(n) / self.scale(y);
+        let scaled = ROOM / factor.max(n) / self.scale(y);
         if y < self.width { scaled } else { scaled.min(ROOM / n / size(self.b[y - self.width]).max(1)) }
     }
 }
@@ -278,21 +286,28 @@ impl<'a> Run<'a> {
         moved.or_else(|| self.stand())
     }
 
-    /// The greatest size of a number of the row of side i with its scale, or of its denominator.
-    fn row_top(&self, i: usize) -> u128 {
-        let columns = self.columns.iter().enumerate();
-        let sizes = columns.filter_map(|(y, column)| column.map(|c| size(self.row[c]) * self.rows.scale(y)));
-        sizes.fold(size(self.den) * self.rows.scale(self.rows.width + i), u128::max)
+    /// What the numbers of the position are multiplied by where side i leaves and the column e is entered.
+    fn factors(&self, i: usize, e: usize) -> Factors {
+        let mut by = Factors { column: e, top: self.rows.scale(self.rows.width + i), size: 0 };
+        for (y, column) in self.columns.iter().enumerate() {
+            let Some(c) = *column else { continue };
+            let product = size(self.row[c]) * self.rows.scale(y);
+            if c == e { by.size = product } else { by.top = by.top.max(product) }
+        }
+        by
     }
 
-    /// If the numbers of all rows, and the denominator, leave room for products with numbers of such a size.
-    fn judge(&self, top: u128) -> Option<()> {
+    /// If the numbers of all rows, and the denominator, leave room for products with numbers of such sizes.
+    fn judge(&self, by: Factors) -> Option<()> {
         let rows = self.rows;
+        let norm = (rows.width as u128 * greatest(&rows.a)).max(1);
         let is_within = |c: usize, most: u128| {
-            self.column(c).all(|z| size(z) <= most) && (0..rows.height()).all(|i| self.entry(i, c).unsigned_abs() <= most)
+            let top = self.column(c).map(size).max().unwrap_or(0);
+            top <= most && (top <= most / norm || (0..rows.height()).all(|i| self.entry(i, c).unsigned_abs() <= most))
         };
         let leaves_room = |(y, column): (usize, &Option<usize>)| {
-            size(self.den) * rows.scale(y) <= ROOM / top && column.is_none_or(|c| is_within(c, rows.room(top, y)))
+            let within = |c: usize| is_within(c, rows.room(if c == by.column { by.top } else { by.size }, y));
+            size(self.den) * rows.scale(y) <= ROOM / by.size.max(1) && column.is_none_or(within)
         };
         self.columns.iter().enumerate().all(leaves_room).then_some(())
     }
@@ -348,13 +363,13 @@ impl<'a> Run<'a> {
 
     fn judged_step(&mut self) -> Option<Found> {
         let Some(i) = self.leaving() else {
-            return self.judge(1).map(|()| Found::Point);
+            return self.judge(Factors::default()).map(|()| Found::Point);
         };
         self.form_row(i)?;
         let Some((y, c)) = self.entering() else {
-            return self.judge(1).map(|()| Found::Refuted(i));
+            return self.judge(Factors::default()).map(|()| Found::Refuted(i));
         };
-        self.judge(self.row_top(i))?;
+        self.judge(self.factors(i, c))?;
         self.reduce(c)?;
         self.exchange(i, y, c);
         self.stand()?;

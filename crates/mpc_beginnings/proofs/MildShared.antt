@@ -1,9 +1,9 @@
 -- Where the rows of a system have room with the sizes that are kept of positions, all fits there; and what is kept of positions whose numbers are
 -- within one limit.
-use Rattle.std.proofs.Common.{◌≡◌, ℕ, ◌+◌, ◌-◌, ◌*◌, ◌^◌, ◌<◌, ◌≤◌, List, ℤ, unsigned_abs, refl, subst, arith, le_trans, mul-le-mul_right, mul-le-mul_left}
+use Rattle.std.proofs.Common.{◌≡◌, ℕ, ◌+◌, ◌-◌, ◌*◌, ◌^◌, ◌<◌, ◌≤◌, List, ℤ, unsigned_abs, refl, sym, ap, subst, arith, le_trans, mul-le-mul_right, mul-le-mul_left}
 use Rattle.std.proofs.lemmas.Nat.{mul-le}
 use Rattle.mpc_rows.specs.LinearSystem.{LinearSystem}
-use Rattle.mpc_rows.specs.Run.{goes_on, count, position, steps}
+use Rattle.mpc_rows.specs.Run.{goes_on, entering, count, turn, position, steps}
 use Rattle.mpc_rows.specs.RunWidth.{PositionFits}
 use Rattle.mpc_whole.specs.declared.whole.Place.{Place}
 use Rattle.mpc_whole.specs.declared.whole_systems.WholeNumbers.{WholeNumbers}
@@ -13,7 +13,7 @@ use Rattle.mpc_whole.specs.Judged.{HasRoomAt, IsJudged, IsMildForm, AreMildBefor
 use Rattle.mpc_whole.specs.Whole.{scale_at, IsSmall, side_cell}
 use Rattle.mpc_whole.proofs.Turn.{Goes, turn-at}
 use Rattle.mpc_whole.proofs.Ends.{Reached}
-use Rattle.mpc_whole.proofs.WholeForm.{side_norm, side_over, judged_over}
+use Rattle.mpc_whole.proofs.WholeForm.{IsLeavingRow, side_norm, side_over, judged_over}
 use Rattle.mpc_beginnings.specs.Kept.{AreNumbers, IsNormProduct, HasRoomBefore}
 
 -- a number is no greater with a factor of at least 1
@@ -40,24 +40,38 @@ module _ (s : LinearSystem) (m : WholeNumbers) (g : AreNumbers s m) where
         let room : (r.norm * m.most_scale) * p.product ≤ 2 ^ 125 = r.pivots in
         omega arith
 
-    room_at : (y : ℕ) (x : ℤ) → unsigned_abs x ≤ r.norm * z.own → unsigned_abs x ≤ r.norm * p.greatest → HasRoomAt s m.scales.now m.b.now z.top y x
+    -- who enters there, if anybody does
+    enters : ℕ
+    enters = entering (turn s (position s q))
+
+    room_at : (y : ℕ) (x : ℤ) → unsigned_abs x ≤ r.norm * z.own → unsigned_abs x ≤ r.norm * p.greatest → HasRoomAt s m.scales.now m.b.now enters z.top z.top y x
     room_at y x own all = record {
-      pivot = pivot_room y (unsigned_abs x) own;
+      entering = λ e. pivot_room y (unsigned_abs x) own;
+      other = λ e. pivot_room y (unsigned_abs x) own;
       first = λ side. le_trans (mul-le-mul_left (count s) (mul-le (unsigned_abs x) _ (r.norm * p.greatest) m.most_side all (g.sides.each (y - s.width)))) r.first;
       second = le_trans (mul-le-mul_left (count s) (mul-le (unsigned_abs x) (scale_at m.scales.now y) (r.norm * p.greatest) m.most_scale all (g.scales y))) r.second;
     }
 
-    judged : IsJudged s (count s) z.form.seats m.scales.now m.a.now m.b.now z.form.den z.form.numbers z.top
+    judged : IsJudged s (count s) z.form.seats m.scales.now m.a.now m.b.now z.form.den z.form.numbers enters z.top z.top
     judged = record {
       dens = λ x l. pivot_room x z.form.den (le_trans z.den_small (times_some r.norm z.own r.some));
       unknowns = λ j y c h l e. room_at y _ (le_trans (z.small.each (j * s.width + c)) (times_some r.norm z.own r.some)) (le_trans (z.form.small.each (j * s.width + c)) (times_some r.norm p.greatest r.some));
       sides = λ i y c h l e. room_at y _ (row_norm r.norm z.own r.rows z.form.numbers z.small i c) (row_norm r.norm p.greatest r.rows z.form.numbers z.form.small i c);
     }
 
+    leaving_row : (l e : ℕ) → turn s (position s q) ≡ goes_on l e → IsLeavingRow s (position s q) m.scales.now z.form.den enters z.top z.top l e
+    unfolding enters
+    leaving_row l e t = record {
+      entering = sym (ap entering t);
+      pivot = z.row l e t e (turn-at s (position s q) (goes_on l e) t).below;
+      others = λ y below apart. z.row l e t y below;
+      own = le_trans (times_some z.form.den (scale_at m.scales.now l) z.form.form.some) (z.row_den l e t);
+    }
+
     pub mild_fits : PositionFits s (position s q)
     mild_fits =
         judged_over s (position s q) reached m.scales.now m.a.now m.b.now g.whole (count s) refl z.form.seats z.form.den z.form.numbers z.form.form
-        z.top (le_trans z.form.den_small r.den) judged z.row z.row_den
+        enters z.top z.top (le_trans z.form.den_small r.den) judged leaving_row
 
   -- ---- within one limit
   module _ (p : Place) (product : ℕ) (r : IsNormProduct s.width m p product) (q : ℕ) (order : q < steps s) (z : IsSmallForm s m.scales.now (position s q) p.greatest p.greatest_den) where
@@ -71,8 +85,8 @@ module _ (s : LinearSystem) (m : WholeNumbers) (g : AreNumbers s m) where
     row_over l below side y h =
         let back : s.width + (l - s.width) ≡ l = omega arith in
         subst (λ x. Over (z.den * scale_at m.scales.now x) (r.top * m.most_scale) ((position s q).coefficient x y)) back
-        (side_over s (position s q) (record { after = q; order = omega arith; is = refl }) m.scales.now m.a.now m.b.now g.whole (count s) refl z.seats z.den z.numbers z.form (l - s.width) (r.top * m.most_scale) (omega arith)
-        (λ x c b e. within_top x (unsigned_abs (side_cell s m.a.now z.numbers (l - s.width) c)) (le_trans (row_norm r.norm p.greatest r.rows z.numbers z.small (l - s.width) c) r.row)) y h)
+        (side_over s (position s q) (record { after = q; order = omega arith; is = refl }) m.scales.now m.a.now m.b.now g.whole (count s) refl z.seats z.den z.numbers z.form (l - s.width) (r.top * m.most_scale) y (omega arith)
+        (λ c b e. within_top y (unsigned_abs (side_cell s m.a.now z.numbers (l - s.width) c)) (le_trans (row_norm r.norm p.greatest r.rows z.numbers z.small (l - s.width) c) r.row)) h)
 
     mild_form : IsMildForm s m.scales.now (position s q) p.greatest p.greatest_den product
     mild_form = record {

@@ -1,9 +1,9 @@
 -- One turn of a run whose positions are judged row by row.
-use Rattle.std.proofs.Common.{◌≡◌, ℕ, ◌+◌, ◌-◌, ◌*◌, ◌^◌, ◌<◌, ◌≤◌, false, List, set, ℤ, unsigned_abs, Some, None, suc, refl, sym, ◌∙◌, ap, subst, arith, ⊎_elim, le_trans}
+use Rattle.std.proofs.Common.{◌≡◌, ℕ, ◌+◌, ◌-◌, ◌*◌, ◌^◌, ◌<◌, ◌≤◌, false, List, set, ℤ, unsigned_abs, Some, None, suc, refl, sym, ◌∙◌, ap, subst, subst₂, arith, ◌⊎◌, inl, inr, ⊎_elim, le_trans}
 use Rattle.std.proofs.lemmas.Bool.{both_ways, cases_eq}
 use Rattle.mpc_rows.specs.Least.{least}
 use Rattle.mpc_rows.specs.LinearSystem.{LinearSystem, height}
-use Rattle.mpc_rows.specs.Run.{Position, goes_on, leaving, count, may_leave, may_enter, turn, is_pivot, position, steps}
+use Rattle.mpc_rows.specs.Run.{Position, goes_on, leaving, entering, count, may_leave, may_enter, turn, is_pivot, position, steps}
 use Rattle.mpc_rows.specs.RunWidth.{PositionFits}
 use Rattle.mpc_whole.specs.declared.variables.Seat.{Seat}
 use Rattle.mpc_whole.specs.declared.variables.Seat.TheVariants.{Row, Column}
@@ -14,10 +14,10 @@ use Rattle.mpc_whole.specs.Norms.{Over}
 use Rattle.mpc_whole.specs.Moved.{AreFormed}
 use Rattle.mpc_whole.specs.Underway.{turn_of, HasEnded}
 use Rattle.mpc_whole.specs.Judged.{IsJudged, IsRowWithin, IsReducedPivot, IsMildForm, AreMildBefore, IsMildlyUnderway}
-use Rattle.mpc_whole.specs.Whole.{scale_at, IsSmall, IsWholeSystem, IsSideRow}
+use Rattle.mpc_whole.specs.Whole.{whole_at, scale_at, IsSmall, IsWholeSystem, IsSideRow}
 use Rattle.mpc_whole.proofs.Positions.{tableau}
-use Rattle.mpc_whole.proofs.Turn.{Leaves}
-use Rattle.mpc_whole.proofs.WholeForm.{side_over, judged_over}
+use Rattle.mpc_whole.proofs.Turn.{Leaves, turn-at}
+use Rattle.mpc_whole.proofs.WholeForm.{IsLeavingRow, side_over, judged_over}
 use Rattle.mpc_whole.proofs.WholeSizes.{wider_form, small_form}
 use Rattle.mpc_whole.proofs.Standing.{reached_of, point_here, is_at_end, has_ended, leaves_here, refuted_here, goes_here, next_form, next_underway}
 
@@ -42,7 +42,7 @@ module _ (s : LinearSystem) (k : List ℕ) where
   }
 
 module _ (s : LinearSystem) (n : ℕ) (seats : List Seat) (seated : IsSeated (height s) s.width n seats) (k : List ℕ) (d : ℕ) (v a b : List ℤ) (w : IsWholeSystem s k a b) (c_1 c_2 : List ℤ) (most most_den product first : ℕ)
-    (u : IsMildlyUnderway s n seats k d v c_1 c_2 most most_den product first) (small : d ≤ 2 ^ 62) (top : ℕ) (g : IsJudged s n seats k a b d v top) where
+    (u : IsMildlyUnderway s n seats k d v c_1 c_2 most most_den product first) (small : d ≤ 2 ^ 62) (f₀ top size : ℕ) (g : IsJudged s n seats k a b d v f₀ top size) where
   abbrev here : Position
   here = position s u.underway.stands.at
 
@@ -50,8 +50,8 @@ module _ (s : LinearSystem) (n : ℕ) (seats : List Seat) (seated : IsSeated (he
   module _ (end : Ending) (t : turn s here ≡ turn_of end) (stops : is_pivot (turn_of end) ≡ false) where
     end_fits : PositionFits s here
     end_fits =
-        judged_over s here (reached_of s n seats k d v u.underway.stands) k a b w n (sym seated.count) seats d v u.underway.stands.form top small g
-        (λ l e q. absurd (both_ways (is_pivot (turn s here)) (ap is_pivot t ∙ stops) (ap is_pivot q))) (λ l e q. absurd (both_ways (is_pivot (turn s here)) (ap is_pivot t ∙ stops) (ap is_pivot q)))
+        judged_over s here (reached_of s n seats k d v u.underway.stands) k a b w n (sym seated.count) seats d v u.underway.stands.form f₀ top size small g
+        (λ l e q. absurd (both_ways (is_pivot (turn s here)) (ap is_pivot t ∙ stops) (ap is_pivot q)))
 
     kept_end : HasEnded s n seats k d v c_1 c_2 most most_den end
     kept_end = has_ended s n seats seated k d v a b w u.underway.stands end_fits end t stops c_1 c_2 u.underway.values most most_den u.underway.before
@@ -75,42 +75,60 @@ module _ (s : LinearSystem) (n : ℕ) (seats : List Seat) (seated : IsSeated (he
       mild_refuted = mild_end (Refuted l) (refuted_here s n seats seated k d v a b w u.underway.stands l e o) refl
 
     -- ---- a pivot, where f enters
-    module _ (f : ℕ) (o : Some f ≡ least (may_enter s here l) n) (x : List ℤ) (row : IsSideRow s a v (l - s.width) x) (h : IsRowWithin n seats k d l x top) where
+    module _ (f : ℕ) (o : Some f ≡ least (may_enter s here l) n) (x : List ℤ) (row : IsSideRow s a v (l - s.width) x) (same : f ≡ f₀) (h : IsRowWithin n seats k l f x top size) (most_top : ℕ) (top_within : top ≤ most_top) (size_within : size ≤ most_top) (den_within : d * scale_at k l ≤ most_top) where
       goes : turn s here ≡ goes_on l f
       goes = goes_here s n seats seated k d v a b w u.underway.stands l e f o
 
       leaves : Leaves s here l
       leaves = leaves_here s n seats seated k d v a b w u.underway.stands l e
 
-      row_there : (y : ℕ) → y < count s → Over (d * scale_at k l) top (here.coefficient l y)
-      row_there y below =
+      row_there : (m y : ℕ) → ((c : ℕ) → y < n → seat_at seats y ≡ Column c → unsigned_abs (whole_at x c) * scale_at k y ≤ m) → y < count s → Over (d * scale_at k l) m (here.coefficient l y)
+      row_there m y within below =
           let h₁ : l < count s = leaves.below in
           let h₂ : s.width ≤ l = leaves.violated.side in
           let back : s.width + (l - s.width) ≡ l = omega arith in
-          subst (λ m. Over (d * scale_at k m) top (here.coefficient m y)) back
-          (side_over s here (reached_of s n seats k d v u.underway.stands) k a b w n (sym seated.count) seats d v u.underway.stands.form (l - s.width) top (omega arith)
-          (λ z c q e. subst (λ m. unsigned_abs m * scale_at k z ≤ top) (row.cells c (seated.columns z c q e).0) (h.entries z c q e)) y below)
+          subst (λ i. Over (d * scale_at k i) m (here.coefficient i y)) back
+          (side_over s here (reached_of s n seats k d v u.underway.stands) k a b w n (sym seated.count) seats d v u.underway.stands.form (l - s.width) m y (omega arith)
+          (λ c q e. subst (λ z. unsigned_abs z * scale_at k y ≤ m) (row.cells c (seated.columns y c q e).0) (within c q e)) below)
+
+      -- each number of the row is below the greater of the two
+      any_within : (y c : ℕ) → y < n → seat_at seats y ≡ Column c → (y ≡ f) ⊎ (y ≡ f → ⊥) → unsigned_abs (whole_at x c) * scale_at k y ≤ most_top
+      any_within y c q e (inl o) = le_trans (h.entering y c q e o) size_within
+      any_within y c q e (inr o) = le_trans (h.others y c q e o) top_within
+
+      leaving_row : IsLeavingRow s here k d f₀ top size l f
+      leaving_row = record {
+        entering = same;
+        pivot = row_there size f (λ c q e. h.entering f c q e refl) (turn-at s here (goes_on l f) goes).below;
+        others = λ y below apart. row_there top y (λ c q e. h.others y c q e apart) below;
+        own = h.own;
+      }
 
       -- no other turn is made there
       same_side : (m i : ℕ) → turn s here ≡ goes_on m i → l ≡ m
       same_side m i q = ap leaving (sym goes ∙ q)
 
-      rows_there : (m i : ℕ) → turn s here ≡ goes_on m i → (y : ℕ) → y < count s → Over (d * scale_at k m) top (here.coefficient m y)
-      rows_there m i q y below = subst (λ j. Over (d * scale_at k j) top (here.coefficient j y)) (same_side m i q) (row_there y below)
+      same_entering : (m i : ℕ) → turn s here ≡ goes_on m i → f ≡ i
+      same_entering m i q = ap entering (sym goes ∙ q)
 
-      dens_there : (m i : ℕ) → turn s here ≡ goes_on m i → d * scale_at k m ≤ top
-      dens_there m i q = subst (λ j. d * scale_at k j ≤ top) (same_side m i q) h.den_within
+      rows_there : (m i : ℕ) → turn s here ≡ goes_on m i → (y : ℕ) → y < count s → Over (d * scale_at k m) most_top (here.coefficient m y)
+      rows_there m i q y below = subst (λ j. Over (d * scale_at k j) most_top (here.coefficient j y)) (same_side m i q) (row_there most_top y (λ c o e. any_within y c o e (cases_eq y f)) below)
+
+      dens_there : (m i : ℕ) → turn s here ≡ goes_on m i → d * scale_at k m ≤ most_top
+      dens_there m i q = subst (λ j. d * scale_at k j ≤ most_top) (same_side m i q) den_within
 
       fits_here : PositionFits s here
-      fits_here = judged_over s here (reached_of s n seats k d v u.underway.stands) k a b w n (sym seated.count) seats d v u.underway.stands.form top small g rows_there dens_there
+      fits_here =
+          judged_over s here (reached_of s n seats k d v u.underway.stands) k a b w n (sym seated.count) seats d v u.underway.stands.form f₀ top size small g
+          (λ m i q. subst₂ (λ y z. IsLeavingRow s here k d f₀ top size y z) (same_side m i q) (same_entering m i q) leaving_row)
 
-      mild_here : (more more_den more_product own : ℕ) → IsSmall more v → d ≤ more_den → IsSmall own v → d ≤ own → own * top ≤ more_product → IsMildForm s k here more more_den more_product
+      mild_here : (more more_den more_product own : ℕ) → IsSmall more v → d ≤ more_den → IsSmall own v → d ≤ own → own * most_top ≤ more_product → IsMildForm s k here more more_den more_product
       mild_here more more_den more_product own small_v den_small own_v own_den room = record {
         form = small_form s k n seats seated d v here u.underway.stands.form more more_den small_v den_small;
         own = own;
         small = own_v;
         den_small = own_den;
-        top = top;
+        top = most_top;
         row = rows_there;
         row_den = dens_there;
         room = room;
@@ -118,7 +136,7 @@ module _ (s : LinearSystem) (n : ℕ) (seats : List Seat) (seated : IsSeated (he
 
       pub next_mildly : (r₀ c₀ : ℕ) → seat_at seats l ≡ Row r₀ → seat_at seats f ≡ Column c₀ → (new : List ℤ) (size : ℕ) → IsReducedPivot s.width d v new x c₀ size
           → (n_1 n_2 : List ℤ) → AreFormed s n (set (set seats l (Column c₀)) f (Row r₀)) k b new n_1 n_2
-          → (own more more_den more_product : ℕ) → most ≤ more → most_den ≤ more_den → product ≤ more_product → IsSmall more v → d ≤ more_den → IsSmall own v → d ≤ own → own * top ≤ more_product
+          → (own more more_den more_product : ℕ) → most ≤ more → most_den ≤ more_den → product ≤ more_product → IsSmall more v → d ≤ more_den → IsSmall own v → d ≤ own → own * most_top ≤ more_product
           → IsMildlyUnderway s n (set (set seats l (Column c₀)) f (Row r₀)) k size new n_1 n_2 more more_den more_product s.width
       next_mildly r₀ c₀ sl sf new size piv n_1 n_2 formed own more more_den more_product wide wide_den wide_product small_v den_small own_v own_den room =
           let z = u.underway.stands in

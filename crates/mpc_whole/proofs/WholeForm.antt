@@ -1,5 +1,5 @@
 -- The rows of the sides at a position of the run, from those of the unknowns, and the sizes of all numbers there.
-use Rattle.std.proofs.Common.{◌≡◌, ℕ, ◌+◌, ◌-◌, ◌*◌, ◌/◌, ◌^◌, ◌<◌, ◌≤◌, true, false, List, ℤ, pos, negsuc, ◌*ℤ◌, unsigned_abs, cond, Bool, sym, ◌∙◌, ap, subst, arith, ◌⊎◌, inl, inr, le_trans, lt-ltb, mul-pos, mul-le-mul_right, mul-le-mul_left}
+use Rattle.std.proofs.Common.{◌≡◌, ℕ, ◌+◌, ◌-◌, ◌*◌, ◌/◌, ◌^◌, ◌<◌, ◌≤◌, true, false, List, ℤ, pos, negsuc, ◌*ℤ◌, unsigned_abs, cond, Bool, refl, sym, ◌∙◌, ap, subst, arith, ◌⊎◌, inl, inr, le_trans, lt-ltb, mul-pos, mul-le-mul_right, mul-le-mul_left}
 use Rattle.std.proofs.lemmas.Bool.{both_ways, cases_Bool, cases_lt}
 use Rattle.std.proofs.lemmas.Nat.{mul-le, le-div}
 use Rattle.mpc_exact.specs.Rational.{ℚ, frac, int, ◌*ℚ◌}
@@ -15,11 +15,11 @@ use Rattle.mpc_whole.specs.declared.variables.Seat.TheVariants.{Column}
 use Rattle.mpc_whole.specs.Table.{seat_at}
 use Rattle.mpc_whole.specs.Norms.{Over}
 use Rattle.mpc_whole.proofs.WholeChanges.{times_scaled, total_scaled}
-use Rattle.mpc_whole.proofs.WholeNorms.{HasPivotRoom, judged_fit, norms_fit}
+use Rattle.mpc_whole.proofs.WholeNorms.{abs_some, over_not_zero, HasPivotRoom, judged_fit, norms_fit}
 use Rattle.mpc_whole.proofs.WholeScales.{Scaled, scaled_over, at_nought, at_side, at_minus_one, nought_over, nought_times, less_with_scale}
-use Rattle.mpc_whole.specs.Judged.{HasRoomAt, IsJudged}
+use Rattle.mpc_whole.specs.Judged.{HasRoomAt, IsJudged, IsNorm}
 use Rattle.mpc_whole.specs.Whole.{whole_total, whole_at, whole_cell, scale_at, IsSmall, IsWholeSystem, AreBounds, HasSideBound, IsNarrow, IsSideRow, IsForm, side_cell}
-use Rattle.mpc_whole.proofs.Turn.{turn-at}
+use Rattle.mpc_whole.proofs.Turn.{Goes, turn-at}
 use Rattle.mpc_whole.proofs.TableauRows.{Meets, row_value, values_meet}
 use Rattle.mpc_whole.proofs.Positions.{tableau, rows_across, firsts_meet, seconds_meet, firsts, seconds}
 use Rattle.mpc_whole.proofs.Ends.{Reached, position-zero}
@@ -56,6 +56,14 @@ first_rest s k a b w y h (inr u) (inr l) =
 pub record HoldAll (s : LinearSystem) (n : ℕ) (seats : List Seat) (a v : List ℤ) (P : ℕ → ℤ → Type 0) : Type 0 where
   pub numbers : (j y c : ℕ) → j < s.width → y < n → seat_at seats y ≡ Column c → P y (whole_cell s.width v j c)
   pub rows : (i y c : ℕ) → i < height s → y < n → seat_at seats y ≡ Column c → P y (side_cell s a v i c)
+
+-- the row of l, which leaves: its number in the column of the variable that enters, over its denominator, is at most a size, and no other one is
+-- above a top, nor is its scale
+pub record IsLeavingRow (s : LinearSystem) (p : Position) (k : List ℕ) (d f top size l e : ℕ) : Type 0 where
+  pub entering : e ≡ f
+  pub pivot : Over (d * scale_at k l) size (p.coefficient l e)
+  pub others : (y : ℕ) → y < count s → (y ≡ e → ⊥) → Over (d * scale_at k l) top (p.coefficient l y)
+  pub own : scale_at k l ≤ top
 
 -- ---- a position of the run
 module _ (s : LinearSystem) (p : Position) (r : Reached s p) where
@@ -130,13 +138,13 @@ module _ (s : LinearSystem) (p : Position) (r : Reached s p) where
       side_is i y c b h e = side_entry i y c b h e
 
       -- the coefficients of the row of a side
-      pub side_over : (i m : ℕ) → i < height s → ((y c : ℕ) → y < n → seat_at seats y ≡ Column c → unsigned_abs (side_cell s a v i c) * scale_at k y ≤ m) → (y : ℕ) → y < count s → Over (d * scale_at k (s.width + i)) m (p.coefficient (s.width + i) y)
+      pub side_over : (i m y : ℕ) → i < height s → ((c : ℕ) → y < n → seat_at seats y ≡ Column c → unsigned_abs (side_cell s a v i c) * scale_at k y ≤ m) → y < count s → Over (d * scale_at k (s.width + i)) m (p.coefficient (s.width + i) y)
       unfolding row_den
-      side_over i m b h y l =
+      side_over i m y b h l =
           let y_in : y < n = subst (λ q. y < q) whole l in
           let some : 0 < row_den (s.width + i) = den_some (s.width + i) (omega arith) in
           by_seat y m (row_den (s.width + i)) (p.coefficient (s.width + i) y) some y_in (reached_tableau.empty (s.width + i) y)
-          (λ c e. scaled_over (row_den (s.width + i)) (scale_at k y) m (λ z. unsigned_abs z * scale_at k y ≤ m) some (λ z o. o) (p.coefficient (s.width + i) y) (record { at = side_cell s a v i c; is = side_is i y c b y_in e; holds = h y c y_in e }))
+          (λ c e. scaled_over (row_den (s.width + i)) (scale_at k y) m (λ z. unsigned_abs z * scale_at k y ≤ m) some (λ z o. o) (p.coefficient (s.width + i) y) (record { at = side_cell s a v i c; is = side_is i y c b y_in e; holds = h c y_in e }))
           (cases_Bool (p.is_basic y))
 
       -- all numbers of the position, over the denominators of the rows
@@ -149,11 +157,11 @@ module _ (s : LinearSystem) (p : Position) (r : Reached s p) where
             let q : s.width + i ≡ x = omega arith in
             record { at = side_cell s a v i c; is = subst (λ z. p.coefficient z y ≡ frac (side_cell s a v i c *ℤ pos (scale_at k y)) (row_den z)) q (side_is i y c i_in h e); holds = g.rows i y c i_in h e }
 
-        entries_over : (m : ℕ) → ((y : ℕ) (z : ℤ) → P y z → unsigned_abs z * scale_at k y ≤ m) → (x y : ℕ) → x < count s → y < count s → Over (row_den x) m (p.coefficient x y)
-        entries_over m sizes x y h l =
+        entry_over : (m x y : ℕ) → ((z : ℤ) → P y z → unsigned_abs z * scale_at k y ≤ m) → x < count s → y < count s → Over (row_den x) m (p.coefficient x y)
+        entry_over m x y sizes h l =
             let y_in : y < n = subst (λ q. y < q) whole l in
             by_seat y m (row_den x) (p.coefficient x y) (den_some x h) y_in (reached_tableau.empty x y)
-            (λ c e. scaled_over (row_den x) (scale_at k y) m (P y) (den_some x h) (sizes y) (p.coefficient x y) (number_at x y c h y_in e (cases_lt x s.width)))
+            (λ c e. scaled_over (row_den x) (scale_at k y) m (P y) (den_some x h) sizes (p.coefficient x y) (number_at x y c h y_in e (cases_lt x s.width)))
             (cases_Bool (p.is_basic y))
 
         -- with where the nonbasic variables stand
@@ -198,14 +206,14 @@ module _ (s : LinearSystem) (p : Position) (r : Reached s p) where
 
         pub narrow_fits : PositionFits s p
         narrow_fits =
-            norms_fit s p row_den den_some (λ x h. let t = den_small x h in omega arith) den_small (entries_over IsNarrowAt narrow_all (2 ^ 62) (λ y z t. t))
+            norms_fit s p row_den den_some (λ x h. let t = den_small x h in omega arith) den_small (λ x y. entry_over IsNarrowAt narrow_all (2 ^ 62) x y (λ z t. t))
             (2 ^ 62 * most_side) (let h = o.side_room in omega arith)
             (first_products IsNarrowAt narrow_all (2 ^ 62 * most_side) narrow_firsts narrow_seconds)
             (second_products IsNarrowAt narrow_all (2 ^ 62 * most_side) narrow_firsts narrow_seconds)
 
       -- or where the numbers are judged row by row
-      module _ (top : ℕ) (small : d ≤ 2 ^ 62) (g : IsJudged s n seats k a b d v top) where
-        judged_all : HoldAll s n seats a v (HasRoomAt s k b top)
+      module _ (f₀ top size : ℕ) (small : d ≤ 2 ^ 62) (g : IsJudged s n seats k a b d v f₀ top size) where
+        judged_all : HoldAll s n seats a v (HasRoomAt s k b f₀ top size)
         judged_all = record { numbers = g.unknowns; rows = g.sides }
 
         den_below : (x : ℕ) → x < count s → row_den x < 2 ^ 127
@@ -215,10 +223,10 @@ module _ (s : LinearSystem) (p : Position) (r : Reached s p) where
         some_variable : (y : ℕ) → y < count s → 0 < count s
         some_variable y h = omega arith
 
-        judged_firsts : (y : ℕ) (z : ℤ) → y < count s → s.width ≤ y → HasRoomAt s k b top y z → unsigned_abs z * unsigned_abs (whole_at b (y - s.width)) ≤ 2 ^ 125 / count s
+        judged_firsts : (y : ℕ) (z : ℤ) → y < count s → s.width ≤ y → HasRoomAt s k b f₀ top size y z → unsigned_abs z * unsigned_abs (whole_at b (y - s.width)) ≤ 2 ^ 125 / count s
         judged_firsts y z l h t = le-div (unsigned_abs z * unsigned_abs (whole_at b (y - s.width))) (2 ^ 125) (count s) (some_variable y l) (let q = t.first h in omega arith)
 
-        judged_seconds : (y : ℕ) (z : ℤ) → y < count s → HasRoomAt s k b top y z → unsigned_abs z * scale_at k y ≤ 2 ^ 125 / count s
+        judged_seconds : (y : ℕ) (z : ℤ) → y < count s → HasRoomAt s k b f₀ top size y z → unsigned_abs z * scale_at k y ≤ 2 ^ 125 / count s
         judged_seconds y z l t = le-div (unsigned_abs z * scale_at k y) (2 ^ 125) (count s) (some_variable y l) (let q = t.second in omega arith)
 
         all_room : (m : ℕ) → m * (2 ^ 125 / m) ≤ 2 ^ 126
@@ -228,32 +236,53 @@ module _ (s : LinearSystem) (p : Position) (r : Reached s p) where
             by (inl h) = omega arith
             by (inr h) = let e : m ≡ 0 = omega arith in subst (λ q. q * (2 ^ 125 / m) ≤ 2 ^ 126) (sym e) (omega arith)
 
-        top_some : (l : ℕ) → l < count s → d * scale_at k l ≤ top → 0 < top
-        top_some l h o = let t : 0 < d * scale_at k l = mul-pos f.some (w.scales.some l h) in omega arith
-
         shared : (l : ℕ) → 0 < l → (2 ^ 125 / l) * l ≤ 2 ^ 125
         shared l h = omega arith
 
-        pivot_room : (l : ℕ) → l < count s → ((y : ℕ) → y < count s → Over (d * scale_at k l) top (p.coefficient l y)) → d * scale_at k l ≤ top → HasPivotRoom s p row_den l
-        unfolding row_den
-        pivot_room l below row o = record {
-          top = top;
-          row = row;
-          row_den = o;
-          most = 2 ^ 125 / top;
-          entries = entries_over (HasRoomAt s k b top) judged_all (2 ^ 125 / top) (λ y z t. le-div (unsigned_abs z * scale_at k y) (2 ^ 125) top (top_some l below o) t.pivot);
-          room = shared top (top_some l below o);
-          dens = λ y h. g.dens y (subst (λ m. y < m) whole h);
-        }
+        module _ (l e : ℕ) (goes : Goes s p l e) (row : IsLeavingRow s p k d f₀ top size l e) where
+          top_some : 0 < top
+          top_some = let t : 0 < scale_at k l = w.scales.some l goes.leaves.below in let o = row.own in omega arith
 
-        pub judged_over : ((l e : ℕ) → turn s p ≡ goes_on l e → (y : ℕ) → y < count s → Over (d * scale_at k l) top (p.coefficient l y)) → ((l e : ℕ) → turn s p ≡ goes_on l e → d * scale_at k l ≤ top) → PositionFits s p
-        judged_over rows dens =
+          size_some : 0 < size
+          size_some = let t : 0 < d * scale_at k l = mul-pos f.some (w.scales.some l goes.leaves.below) in le_trans (abs_some row.pivot.at (over_not_zero t row.pivot goes.eligible.some)) row.pivot.size
+
+          pivot_room : HasPivotRoom s p row_den l e
+          unfolding row_den
+          pivot_room = record {
+            size = size;
+            pivot = row.pivot;
+            top = top;
+            row = row.others;
+            shared = d;
+            part = scale_at k;
+            parts = λ x. refl;
+            own = row.own;
+            factor = 2 ^ 125 / top;
+            factors = λ x h. entry_over (HasRoomAt s k b f₀ top size) judged_all (2 ^ 125 / top) x e (λ z t. le-div (unsigned_abs z * scale_at k e) (2 ^ 125) top top_some (t.entering row.entering)) h goes.below;
+            factor_room = shared top top_some;
+            most = 2 ^ 125 / size;
+            entries = λ x y h o apart. entry_over (HasRoomAt s k b f₀ top size) judged_all (2 ^ 125 / size) x y (λ z t. le-div (unsigned_abs z * scale_at k y) (2 ^ 125) size size_some (t.other (λ q. apart (q ∙ sym row.entering)))) h o;
+            room = shared size size_some;
+            dens = λ y h. g.dens y (subst (λ m. y < m) whole h);
+          }
+
+        pub judged_over : ((l e : ℕ) → turn s p ≡ goes_on l e → IsLeavingRow s p k d f₀ top size l e) → PositionFits s p
+        judged_over rows =
             judged_fit s p row_den den_some den_below (2 ^ 125 / count s) (all_room (count s))
-            (first_products (HasRoomAt s k b top) judged_all (2 ^ 125 / count s) judged_firsts judged_seconds)
-            (second_products (HasRoomAt s k b top) judged_all (2 ^ 125 / count s) judged_firsts judged_seconds)
-            (λ l e t. pivot_room l (turn-at s p (goes_on l e) t).leaves.below (rows l e t) (dens l e t))
+            (first_products (HasRoomAt s k b f₀ top size) judged_all (2 ^ 125 / count s) judged_firsts judged_seconds)
+            (second_products (HasRoomAt s k b f₀ top size) judged_all (2 ^ 125 / count s) judged_firsts judged_seconds)
+            (λ l e t. pivot_room l e (turn-at s p (goes_on l e) t) (rows l e t))
 
 -- ---- the row of a side, by the greatest numbers
+pub column_norm : (s : LinearSystem) (a v : List ℤ) (norm most : ℕ) → IsNorm s.width a norm → (c : ℕ) → ((j : ℕ) → j < s.width → unsigned_abs (whole_cell s.width v j c) ≤ most) → (i : ℕ) → unsigned_abs (side_cell s a v i c) ≤ norm * most
+column_norm s a v norm most z c h i =
+    let t : unsigned_abs (side_cell s a v i c) ≤ s.width * (z.most * most) =
+    total_at_most s.width (z.most * most) (λ j. whole_cell s.width a i j *ℤ whole_cell s.width v j c)
+    (λ j q. product_at_most (whole_cell s.width a i j) (whole_cell s.width v j c) z.most most (z.each.each (i * s.width + j)) (h j q))
+    in
+    let e : (s.width * z.most) * most ≤ norm * most = mul-le-mul_right most z.rows in
+    omega arith
+
 pub side_norm : (s : LinearSystem) (a v : List ℤ) (most_entry most : ℕ) → IsSmall most_entry a → IsSmall most v → (i c : ℕ) → unsigned_abs (side_cell s a v i c) ≤ s.width * (most_entry * most)
 side_norm s a v most_entry most entries small i c =
     total_at_most s.width (most_entry * most) (λ j. whole_cell s.width a i j *ℤ whole_cell s.width v j c)

@@ -73,19 +73,48 @@ one_room n y r h k = let e : suc y * r ≤ n * r = mul-le-mul_right r k in omega
 top_room : (d top : ℕ) → 0 < d → d * top ≤ 2 ^ 125 → top < 2 ^ 127
 top_room d top some h = let e : 1 * top ≤ d * top = mul-le-mul_right top some in omega arith
 
+-- what divides a number with a quotient is no more than it
+part_within : (g k : ℕ) → 0 < g * k → k ≤ g * k
+part_within zero k h = absurd (omega arith)
+part_within (suc g) k h = let e : 1 * k ≤ suc g * k = mul-le-mul_right k (omega arith) in omega arith
+
+right_some : (g k : ℕ) → 0 < g * k → 0 < k
+right_some g zero h = absurd (omega arith)
+right_some g (suc k) h = omega arith
+
 expanded : (z m d : ℤ) → z *ℤ (d *ℤ m) ≡ (z *ℤ m) *ℤ d
 expanded z m d = by_ring_ℤ (z ∷ m ∷ d ∷ []) (search int_reads depth 30) (search int_reads depth 30) tt
 
--- the row of l and its denominator are at most a number, of whose products with what all rows have and with their denominators two have a sum
--- that fits
-pub record HasPivotRoom (s : LinearSystem) (p : Position) (d : ℕ → ℕ) (l : ℕ) : Type 0 where
+-- the scales are apart: what two rows' denominators share goes out of their quotient
+shared_out : (k g u w z : ℤ) → (k *ℤ (g *ℤ u)) *ℤ (w *ℤ z) ≡ (k *ℤ u) *ℤ ((g *ℤ w) *ℤ z)
+shared_out k g u w z = by_ring_ℤ (k ∷ g ∷ u ∷ w ∷ z ∷ []) (search int_reads depth 30) (search int_reads depth 30) tt
+
+shared_out_negative : (k g u w z : ℤ) → (k *ℤ neg_ℤ (g *ℤ u)) *ℤ (w *ℤ z) ≡ (k *ℤ neg_ℤ u) *ℤ ((g *ℤ w) *ℤ z)
+shared_out_negative k g u w z = by_ring_ℤ (k ∷ g ∷ u ∷ w ∷ z ∷ []) (search int_reads depth 30) (search int_reads depth 30) tt
+
+turned_out : (q k : ℤ) (g u w z : ℕ) → (k *ℤ turned q (pos (g * u))) *ℤ pos (w * z) ≡ (k *ℤ turned q (pos u)) *ℤ pos ((g * w) * z)
+turned_out (pos n) k g u w z = shared_out k (pos g) (pos u) (pos w) (pos z)
+turned_out (negsuc n) k g u w z = shared_out_negative k (pos g) (pos u) (pos w) (pos z)
+
+-- where l leaves and e enters: the number of row l in the column of e is at most a size, and no other one is above a top, nor is the row's own
+-- part of its denominator. Of the products of the top with the numbers of the column of e, and of the size with all others, two have a sum that
+-- fits.
+pub record HasPivotRoom (s : LinearSystem) (p : Position) (d : ℕ → ℕ) (l e : ℕ) : Type 0 where
+  pub size : ℕ
+  pub pivot : Over (d l) size (p.coefficient l e)
   pub top : ℕ
-  pub row : (y : ℕ) → y < count s → Over (d l) top (p.coefficient l y)
-  pub row_den : d l ≤ top
+  pub row : (y : ℕ) → y < count s → (y ≡ e → ⊥) → Over (d l) top (p.coefficient l y)
+  pub shared : ℕ
+  pub part : ℕ → ℕ
+  pub parts : (x : ℕ) → d x ≡ shared * part x
+  pub own : part l ≤ top
+  pub factor : ℕ
+  pub factors : (x : ℕ) → x < count s → Over (d x) factor (p.coefficient x e)
+  pub factor_room : factor * top ≤ 2 ^ 125
   pub most : ℕ
-  pub entries : (x y : ℕ) → x < count s → y < count s → Over (d x) most (p.coefficient x y)
-  pub room : most * top ≤ 2 ^ 125
-  pub dens : (x : ℕ) → x < count s → d x * top ≤ 2 ^ 125
+  pub entries : (x y : ℕ) → x < count s → y < count s → (y ≡ e → ⊥) → Over (d x) most (p.coefficient x y)
+  pub room : most * size ≤ 2 ^ 125
+  pub dens : (x : ℕ) → x < count s → d x * size ≤ 2 ^ 125
 
 module _ (s : LinearSystem) (p : Position) (d : ℕ → ℕ) (some : (x : ℕ) → x < count s → 0 < d x) (d_top : (x : ℕ) → x < count s → d x < 2 ^ 127) where
   -- ---- values, where r says where the nonbasic variables stand
@@ -121,13 +150,13 @@ module _ (s : LinearSystem) (p : Position) (d : ℕ → ℕ) (some : (x : ℕ) �
     }
 
   -- ---- a pivot
-  module _ (l e : ℕ) (g : Goes s p l e) (o : HasPivotRoom s p d l) where
+  module _ (l e : ℕ) (g : Goes s p l e) (o : HasPivotRoom s p d l e) where
     q : ℤ
-    q = (o.row e g.below).at
+    q = o.pivot.at
 
     q_some : q ≢ pos 0
     unfolding q
-    q_some = over_not_zero (some l g.leaves.below) (o.row e g.below) g.eligible.some
+    q_some = over_not_zero (some l g.leaves.below) o.pivot g.eligible.some
 
     size : ℕ
     size = unsigned_abs q
@@ -136,32 +165,39 @@ module _ (s : LinearSystem) (p : Position) (d : ℕ → ℕ) (some : (x : ℕ) �
     unfolding size
     size_some = abs_some q q_some
 
-    size_small : size ≤ o.top
+    size_small : size ≤ o.size
     unfolding size q
-    size_small = (o.row e g.below).size
+    size_small = o.pivot.size
+
+    size_top : size < 2 ^ 127
+    size_top = let h : o.size < 2 ^ 127 = top_room (d l) o.size (some l g.leaves.below) (o.dens l g.leaves.below) in (let k = size_small in omega arith)
+
+    -- the row of l has a number in that column too
+    factor_some : 0 < o.factor
+    factor_some = let z = o.factors l g.leaves.below in le_trans (abs_some z.at (over_not_zero (some l g.leaves.below) z g.eligible.some)) z.size
 
     top_small : o.top < 2 ^ 127
-    top_small = top_room (d l) o.top (some l g.leaves.below) (o.dens l g.leaves.below)
+    top_small = top_room o.factor o.top factor_some o.factor_room
 
     times_size : (x : ℚ) (m : Over (d l) o.top x) → x *ℚ inv_ℚ (p.coefficient l e) ≡ frac (turned q m.at) size
     unfolding size q
-    times_size x m = (λ i. m.is i *ℚ inv_ℚ ((o.row e g.below).is i)) ∙ ratio_is m.at q (d l) (some l g.leaves.below) q_some
+    times_size x m = (λ i. m.is i *ℚ inv_ℚ (o.pivot.is i)) ∙ ratio_is m.at q (d l) (some l g.leaves.below) q_some
 
     -- the new row of the entering variable
-    own : (y : ℕ) → y < count s → Over size o.top (neg_ℚ (p.coefficient l y) *ℚ inv_ℚ (p.coefficient l e))
-    own y h =
-        let z = o.row y h in
+    own : (y : ℕ) → y < count s → (y ≡ e → ⊥) → Over size o.top (neg_ℚ (p.coefficient l y) *ℚ inv_ℚ (p.coefficient l e))
+    own y h apart =
+        let z = o.row y h apart in
         let m : Over (d l) o.top (neg_ℚ (p.coefficient l y)) = record { at = neg_ℤ z.at; is = ap neg_ℚ z.is ∙ frac-neg z.at (d l) (some l g.leaves.below); size = subst (λ n. n ≤ o.top) (sym (abs-negated z.at)) z.size } in
         record { at = turned q m.at; is = times_size (neg_ℚ (p.coefficient l y)) m; size = subst (λ n. n ≤ o.top) (sym (abs_turned q m.at)) m.size }
 
     pub judged_entering : EnteringFits (count s) p l e
-    judged_entering = record { quotients = λ y h free apart. over_fits size_some (let k : size ≤ o.top = size_small in let t : o.top < 2 ^ 127 = top_small in omega arith) (own y h) top_small }
+    judged_entering = record { quotients = λ y h free apart. over_fits size_some size_top (own y h apart) top_small }
 
     not_leaving : (y : ℕ) → p.is_basic y ≡ false → y ≡ l → ⊥
     not_leaving y free h = both_ways (p.is_basic l) (subst (λ z. p.is_basic z ≡ false) h free) g.leaves.violated.basic
 
     own_entry : (y : ℕ) → y < count s → p.is_basic y ≡ false → (y ≡ e → ⊥) → Over size o.top (entering_row p l e y)
-    own_entry y h free apart = subst (Over size o.top) (sym (entering-other p l e y (not_leaving y free) apart)) (own y h)
+    own_entry y h free apart = subst (Over size o.top) (sym (entering-other p l e y (not_leaving y free) apart)) (own y h apart)
 
     over_both : ℕ → ℕ
     over_both x = d x * size
@@ -174,62 +210,76 @@ module _ (s : LinearSystem) (p : Position) (d : ℕ → ℕ) (some : (x : ℕ) �
     unfolding over_both
     both_top x h = let m : d x * size ≤ 2 ^ 125 = le_trans (mul-le-mul_left (d x) size_small) (o.dens x h) in omega arith
 
-    change_room : o.most * o.top < 2 ^ 127
-    change_room = let h = o.room in omega arith
+    change_room : o.factor * o.top < 2 ^ 127
+    change_room = let h = o.factor_room in omega arith
 
     module _ (x : ℕ) (x_in : x < count s) where
-      k_over : Over (d x) o.most (p.coefficient x e)
-      k_over = o.entries x e x_in g.below
+      k_over : Over (d x) o.factor (p.coefficient x e)
+      k_over = o.factors x x_in
 
-      -- c_xe / c_le, where l has a denominator of its own: (n_xe d_l) / (d_x |n_le|)
+      -- c_xe / c_le = (n_xe d_l) / (d_x |n_le|), out of which goes what d_l and d_x share
       inverse_over : inv_ℚ (p.coefficient l e) ≡ frac (turned q (pos (d l))) size
       unfolding size q
-      inverse_over = ap inv_ℚ (o.row e g.below).is ∙ inverse_is q (d l) (some l g.leaves.below) q_some
+      inverse_over = ap inv_ℚ o.pivot.is ∙ inverse_is q (d l) (some l g.leaves.below) q_some
+
+      parts_some : 0 < o.shared * o.part x
+      parts_some = subst (λ n. 0 < n) (o.parts x) (some x x_in)
+
+      part_some : 0 < o.part x
+      part_some = right_some o.shared (o.part x) parts_some
+
+      part_below : o.part x * size ≤ d x * size
+      part_below = mul-le-mul_right size (subst (λ n. o.part x ≤ n) (sym (o.parts x)) (part_within o.shared (o.part x) parts_some))
+
+      without_shared : frac (k_over.at *ℤ turned q (pos (d l))) (d x * size) ≡ frac (k_over.at *ℤ turned q (pos (o.part l))) (o.part x * size)
+      without_shared =
+          same_frac (k_over.at *ℤ turned q (pos (d l))) (d x * size) (k_over.at *ℤ turned q (pos (o.part l))) (o.part x * size) (mul-pos (some x x_in) size_some) (mul-pos part_some size_some)
+          (subst₂ (λ u w. (k_over.at *ℤ turned q (pos u)) *ℤ pos (o.part x * size) ≡ (k_over.at *ℤ turned q (pos (o.part l))) *ℤ pos (w * size)) (sym (o.parts l)) (sym (o.parts x)) (turned_out q k_over.at o.shared (o.part l) (o.part x) size))
 
       pub leaving_fits : FitsFrac (p.coefficient x e *ℚ entering_row p l e l)
       unfolding over_both
       leaving_fits =
-          let c : Over (over_both x) (o.most * o.top) (p.coefficient x e *ℚ entering_row p l e l) =
+          let c : Over (o.part x * size) (o.factor * o.top) (p.coefficient x e *ℚ entering_row p l e l) =
           record {
-            at = k_over.at *ℤ turned q (pos (d l));
-            is = ap (λ u. p.coefficient x e *ℚ u) (entering-at_leaving p l e) ∙ (λ i. k_over.is i *ℚ inverse_over i) ∙ frac-mul k_over.at (d x) (turned q (pos (d l))) size (some x x_in) size_some;
-            size = product_at_most k_over.at (turned q (pos (d l))) o.most o.top k_over.size (subst (λ n. n ≤ o.top) (sym (abs_turned q (pos (d l)))) o.row_den);
+            at = k_over.at *ℤ turned q (pos (o.part l));
+            is = ap (λ u. p.coefficient x e *ℚ u) (entering-at_leaving p l e) ∙ (λ i. k_over.is i *ℚ inverse_over i) ∙ frac-mul k_over.at (d x) (turned q (pos (d l))) size (some x x_in) size_some ∙ without_shared;
+            size = product_at_most k_over.at (turned q (pos (o.part l))) o.factor o.top k_over.size (subst (λ n. n ≤ o.top) (sym (abs_turned q (pos (o.part l)))) o.own);
           }
           in
-          over_fits (both_some x x_in) (both_top x x_in) c change_room
+          over_fits (mul-pos part_some size_some) (let h = both_top x x_in in let b = part_below in omega arith) c change_room
 
       module _ (y : ℕ) (y_in : y < count s) (free : p.is_basic y ≡ false) (apart : y ≡ e → ⊥) where
-        change : Over (over_both x) (o.most * o.top) (p.coefficient x e *ℚ entering_row p l e y)
+        change : Over (over_both x) (o.factor * o.top) (p.coefficient x e *ℚ entering_row p l e y)
         unfolding over_both
         change =
             let m = own_entry y y_in free apart in
             record {
               at = k_over.at *ℤ m.at;
               is = (λ i. k_over.is i *ℚ m.is i) ∙ frac-mul k_over.at (d x) m.at size (some x x_in) size_some;
-              size = product_at_most k_over.at m.at o.most o.top k_over.size m.size;
+              size = product_at_most k_over.at m.at o.factor o.top k_over.size m.size;
             }
 
-        old : Over (over_both x) (o.most * o.top) (p.coefficient x y)
+        old : Over (over_both x) (o.most * o.size) (p.coefficient x y)
         unfolding over_both
         old =
-            let m = o.entries x y x_in y_in in
+            let m = o.entries x y x_in y_in apart in
             record {
               at = m.at *ℤ pos size;
               is = m.is ∙ same_frac m.at (d x) (m.at *ℤ pos size) (d x * size) (some x x_in) (mul-pos (some x x_in) size_some) (expanded m.at (pos size) (pos (d x)));
-              size = product_at_most m.at (pos size) o.most o.top m.size size_small;
+              size = product_at_most m.at (pos size) o.most o.size m.size size_small;
             }
 
         pub entry_fits : EntryFits p l e x y
         entry_fits = record {
           product = over_fits (both_some x x_in) (both_top x x_in) change change_room;
-          sum = over_sum_fits (both_some x x_in) (both_top x x_in) old change (let h = o.room in omega arith);
+          sum = over_sum_fits (both_some x x_in) (both_top x x_in) old change (let h = o.room in let c = o.factor_room in omega arith);
         }
 
     pub judged_rows : RowsFit (count s) p l e
     judged_rows = record { rows = λ x h basic apart other. record { leaving = leaving_fits x h; entries = λ y k free m. entry_fits x h y k free m } }
 
   pub judged_fit : (m : ℕ) → count s * m ≤ 2 ^ 126 → ((x y : ℕ) → x < count s → y < count s → Over (d x) m (p.coefficient x y *ℚ (rest s y).first)) → ((x y : ℕ) → x < count s → y < count s → Over (d x) m (p.coefficient x y *ℚ (rest s y).second))
-      → ((l e : ℕ) → turn s p ≡ goes_on l e → HasPivotRoom s p d l) → PositionFits s p
+      → ((l e : ℕ) → turn s p ≡ goes_on l e → HasPivotRoom s p d l e) → PositionFits s p
   judged_fit m room firsts seconds pivots = record {
     values = judged_values m room firsts seconds;
     entering = λ l e h. judged_entering l e (turn-at s p (goes_on l e) h) (pivots l e h);
@@ -239,15 +289,23 @@ module _ (s : LinearSystem) (p : Position) (d : ℕ → ℕ) (some : (x : ℕ) �
   -- all numbers and denominators at most 2^62
   pub norms_fit : ((x : ℕ) → x < count s → d x ≤ 2 ^ 62) → ((x y : ℕ) → x < count s → y < count s → Over (d x) (2 ^ 62) (p.coefficient x y))
       → (m : ℕ) → count s * m ≤ 2 ^ 126 → ((x y : ℕ) → x < count s → y < count s → Over (d x) m (p.coefficient x y *ℚ (rest s y).first)) → ((x y : ℕ) → x < count s → y < count s → Over (d x) m (p.coefficient x y *ℚ (rest s y).second)) → PositionFits s p
-  norms_fit small entries m room firsts seconds = judged_fit m room firsts seconds (λ l e h. by l (turn-at s p (goes_on l e) h).leaves.below)
+  norms_fit small entries m room firsts seconds = judged_fit m room firsts seconds (λ l e h. let g = turn-at s p (goes_on l e) h in by l e g.leaves.below g.below)
     where
-      by : (l : ℕ) → l < count s → HasPivotRoom s p d l
-      by l below = record {
+      by : (l e : ℕ) → l < count s → e < count s → HasPivotRoom s p d l e
+      by l e below entered = record {
+        size = 2 ^ 62;
+        pivot = entries l e below entered;
         top = 2 ^ 62;
-        row = λ y k. entries l y below k;
-        row_den = small l below;
+        row = λ y k apart. entries l y below k;
+        shared = 1;
+        part = d;
+        parts = λ x. omega arith;
+        own = small l below;
+        factor = 2 ^ 62;
+        factors = λ x k. entries x e k entered;
+        factor_room = omega arith;
         most = 2 ^ 62;
-        entries = entries;
+        entries = λ x y h k apart. entries x y h k;
         room = omega arith;
         dens = λ x k. let t = small x k in omega arith;
       }

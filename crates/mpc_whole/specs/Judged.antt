@@ -11,22 +11,33 @@ use Rattle.mpc_whole.specs.Whole.{whole_at, whole_cell, scale_at, side_cell, tur
 use Rattle.mpc_whole.specs.Underway.{IsUnderway}
 use Rattle.mpc_whole.specs.SharedSizes.{IsSmallForm}
 
--- a number of a row in the column of y, by which no term of the row's value is wide, nor a product with numbers of at most such a size
-pub record HasRoomAt (s : LinearSystem) (k : List ℕ) (b : List ℤ) (top y : ℕ) (z : ℤ) : Type 0 where
-  pub pivot : (unsigned_abs z * scale_at k y) * top ≤ 2 ^ 125
+-- a number of a row in the column of y, by which no term of the row's value is wide, nor a product with a number of at most such a size: one is
+-- for the column of e, the other for all other columns
+pub record HasRoomAt (s : LinearSystem) (k : List ℕ) (b : List ℤ) (e top size y : ℕ) (z : ℤ) : Type 0 where
+  pub entering : y ≡ e → (unsigned_abs z * scale_at k y) * top ≤ 2 ^ 125
+  pub other : (y ≡ e → ⊥) → (unsigned_abs z * scale_at k y) * size ≤ 2 ^ 125
   pub first : s.width ≤ y → count s * (unsigned_abs z * unsigned_abs (whole_at b (y - s.width))) ≤ 2 ^ 125
   pub second : count s * (unsigned_abs z * scale_at k y) ≤ 2 ^ 125
 
 -- so are the numbers of all rows at a position
-pub record IsJudged (s : LinearSystem) (n : ℕ) (seats : List Seat) (k : List ℕ) (a b : List ℤ) (den : ℕ) (v : List ℤ) (top : ℕ) : Type 0 where
-  pub dens : (x : ℕ) → x < n → (den * scale_at k x) * top ≤ 2 ^ 125
-  pub unknowns : (j y c : ℕ) → j < s.width → y < n → seat_at seats y ≡ Column c → HasRoomAt s k b top y (whole_cell s.width v j c)
-  pub sides : (i y c : ℕ) → i < height s → y < n → seat_at seats y ≡ Column c → HasRoomAt s k b top y (side_cell s a v i c)
+pub record IsJudged (s : LinearSystem) (n : ℕ) (seats : List Seat) (k : List ℕ) (a b : List ℤ) (den : ℕ) (v : List ℤ) (e top size : ℕ) : Type 0 where
+  pub dens : (x : ℕ) → x < n → (den * scale_at k x) * size ≤ 2 ^ 125
+  pub unknowns : (j y c : ℕ) → j < s.width → y < n → seat_at seats y ≡ Column c → HasRoomAt s k b e top size y (whole_cell s.width v j c)
+  pub sides : (i y c : ℕ) → i < height s → y < n → seat_at seats y ≡ Column c → HasRoomAt s k b e top size y (side_cell s a v i c)
 
--- the numbers of the row x of the variable l are no greater with their scales, nor is its denominator
-pub record IsRowWithin (n : ℕ) (seats : List Seat) (k : List ℕ) (den l : ℕ) (x : List ℤ) (top : ℕ) : Type 0 where
-  pub den_within : den * scale_at k l ≤ top
-  pub entries : (y c : ℕ) → y < n → seat_at seats y ≡ Column c → unsigned_abs (whole_at x c) * scale_at k y ≤ top
+-- the number of the row x of the variable l in the column of e is at most a size, with its scale, and no other one is above a top, nor is the
+-- row's own scale
+pub record IsRowWithin (n : ℕ) (seats : List Seat) (k : List ℕ) (l e : ℕ) (x : List ℤ) (top size : ℕ) : Type 0 where
+  pub own : scale_at k l ≤ top
+  pub entering : (y c : ℕ) → y < n → seat_at seats y ≡ Column c → y ≡ e → unsigned_abs (whole_at x c) * scale_at k y ≤ size
+  pub others : (y c : ℕ) → y < n → seat_at seats y ≡ Column c → (y ≡ e → ⊥) → unsigned_abs (whole_at x c) * scale_at k y ≤ top
+
+-- a sum of so many products of these numbers with others is at most so many times the greatest of those
+pub record IsNorm (width : ℕ) (a : List ℤ) (norm : ℕ) : Type 0 where
+  pub most : ℕ
+  pub each : IsSmall most a
+  pub some : 1 ≤ norm
+  pub rows : width * most ≤ norm
 
 -- the numbers after a pivot where the row x leaves and the column e enters, over the denominator size: a factor is taken out of those over
 -- the product of the denominator before it and the number of x in that column

@@ -6,33 +6,52 @@ ghost use Rattle.mpc_whole.specs.declared.variables.Seat.TheVariants.{Column};
 ghost use Rattle.mpc_whole.specs.Table.{seat_at, IsSeated};
 ghost use Rattle.mpc_whole.specs.Whole.{whole_cell, scale_at, side_cell, IsSmall, AreScales, HasRoom};
 ghost use Rattle.mpc_whole.specs.Running.{HasNumbers};
-ghost use Rattle.mpc_whole.specs.Judged.{HasRoomAt, IsJudged, IsRowWithin};
+ghost use Rattle.mpc_whole.specs.Judged.{HasRoomAt, IsJudged, IsNorm, IsRowWithin};
 
 use crate::frames::Frame;
 use crate::variables::{Seat, column_of, is_basic};
 use crate::whole_numbers::wide_row_times_column;
+use crate::whole_rows::greatest;
 use crate::whole_systems::WholeSystem;
 
 /// What the products that are formed at a position may have.
 const ROOM: u128 = 1 << 125;
 
+/// What the numbers of a position are multiplied by, at most: those in the column of the variable that enters by a
+/// top, all others and the denominator by a size.
+#[derive(Clone, Copy, Drop)]
+pub(crate) struct Factors {
+    pub enters: usize,
+    pub top: u128,
+    pub size: u128,
+}
+
 /// The product of two sizes.
 #[inline]
-fn times(x: u64, y: u64) -> u128
+pub(crate) fn times(x: u64, y: u64) -> u128
     ensures { result ≡ x * y }
 {
     x as u128 * y as u128
 }
 
+/// What a number in the column of y is multiplied by, at most.
+#[inline]
+fn factor_at(by: Factors, y: usize) -> u128
+    ensures entering { y ≡ by.enters → result ≡ by.top }
+    ensures other { (y ≡ by.enters → ⊥) → result ≡ by.size }
+{
+    if y == by.enters { by.top } else { by.size }
+}
+
 /// What a number in the column of y may have.
-fn entry_limit(system: &WholeSystem, frame: &Frame, top: u128, y: usize) -> u128
+fn entry_limit(system: &WholeSystem, frame: &Frame, by: Factors, y: usize) -> u128
     requires numbers { HasNumbers system.now frame.now.n frame.now.scales.now frame.now.a.now frame.now.b.now }
     requires below { y < frame.now.n }
-    requires some { 1 ≤ top }
-    ensures { (z : ℤ) → unsigned_abs z ≤ result → HasRoomAt system.now frame.now.scales.now frame.now.b.now top y z }
+    ensures { (z : ℤ) → unsigned_abs z ≤ result → HasRoomAt system.now frame.now.scales.now frame.now.b.now by.enters by.top by.size y z }
 {
     let n = frame.n as u128;
-    let scaled = ROOM / top.max(n) / frame.scales[y] as u128;
+    let factor = factor_at(by, y);
+    let scaled = ROOM / factor.max(n) / frame.scales[y] as u128;
     let width = system.unknowns();
     if y < width {
         return scaled;
@@ -41,18 +60,20 @@ fn entry_limit(system: &WholeSystem, frame: &Frame, top: u128, y: usize) -> u128
     scaled.min(ROOM / n / side.max(1) as u128)
 }
 
-/// Whether no number of an unknown's row in the column c is above a limit in size.
-fn are_unknowns_within(v: &[i64], width: usize, c: usize, limit: u128) -> bool
+/// The greatest size of a number of an unknown's row in the column c.
+fn column_top(v: &[i64], width: usize, c: usize) -> u64
     requires square { length v.now ≡ width * width }
     requires column { c < width }
-    ensures { IsTrue result → (j : ℕ) → j < width → unsigned_abs (whole_cell width v.now j c) ≤ limit }
+    ensures { (j : ℕ) → j < width → unsigned_abs (whole_cell width v.now j c) ≤ result }
 {
+    let mut top = 0;
     for j in 0..width {
-        if v[j * width + c].unsigned_abs() as u128 > limit {
-            return false;
+        let size = v[j * width + c].unsigned_abs();
+        if top < size {
+            top = size;
         }
     }
-    true
+    top
 }
 
 /// Whether no number of a side's row in the column c is above a limit in size.
@@ -73,25 +94,61 @@ fn are_sides_within(system: &WholeSystem, a: &[i64], v: &[i64], c: usize, limit:
     true
 }
 
-/// If the numbers of all rows at a position, and its denominator, leave room for products with numbers of at
-/// most such a size.
+/// By how many times more a number of a side's row may have than those of its column, at least 1.
+fn norm_of(a: &[i64], width: usize) -> u128
+    ensures { IsNorm width a.now result }
+{
+    let norm = width as u128 * greatest(a) as u128;
+    norm.max(1)
+}
+
+/// Whether no number of any row in the column c is above a limit in size. The rows of the sides are formed only
+/// where their norm doesn't show it.
+fn is_column_within(
+    system: &WholeSystem,
+    a: &[i64],
+    v: &[i64],
+    c: usize,
+    limit: u128,
+    norm: u128,
+) -> bool
+    requires entries { length a.now ≡ height system.now * system.now.width }
+    requires room { HasRoom system.now.width (2 ^ 62) a.now }
+    requires square { length v.now ≡ system.now.width * system.now.width }
+    requires small { IsSmall (2 ^ 62) v.now }
+    requires column { c < system.now.width }
+    requires norm { IsNorm system.now.width a.now norm }
+    ensures unknowns { IsTrue result → (j : ℕ) → j < system.now.width → unsigned_abs (whole_cell system.now.width v.now j c) ≤ limit }
+    ensures sides { IsTrue result → (i : ℕ) → i < height system.now → unsigned_abs (side_cell system.now a.now v.now i c) ≤ limit }
+{
+    let top = column_top(v, system.unknowns(), c) as u128;
+    if top > limit {
+        return false;
+    }
+    if top <= limit / norm {
+        return true;
+    }
+    are_sides_within(system, a, v, c, limit)
+}
+
+/// If the numbers of all rows at a position, and its denominator, leave room for products with numbers of such
+/// sizes.
 pub(crate) fn judge(
     seats: &[Seat],
     v: &[i64],
     system: &WholeSystem,
     frame: &Frame,
     den: u64,
-    top: u128,
+    by: Factors,
 ) -> Option<()>
     requires numbers { HasNumbers system.now frame.now.n frame.now.scales.now frame.now.a.now frame.now.b.now }
     requires seated { IsSeated (height system.now) system.now.width frame.now.n seats.now }
     requires square { length v.now ≡ system.now.width * system.now.width }
     requires small { IsSmall (2 ^ 62) v.now }
-    requires some { 1 ≤ top }
-    ensures { IfSome result (λ _. IsJudged system.now frame.now.n seats.now frame.now.scales.now frame.now.a.now frame.now.b.now den v.now top) }
+    ensures { IfSome result (λ _. IsJudged system.now frame.now.n seats.now frame.now.scales.now frame.now.a.now frame.now.b.now den v.now by.enters by.top by.size) }
 {
-    let room = ROOM / top;
-    let width = system.unknowns();
+    let room = ROOM / by.size.max(1);
+    let norm = norm_of(frame.a, system.unknowns());
     for y in 0..frame.n {
         if times(den, frame.scales[y]) > room {
             return None;
@@ -100,31 +157,61 @@ pub(crate) fn judge(
             continue;
         }
         let c = column_of(seats, y);
-        let limit = entry_limit(system, frame, top, y);
-        if !are_unknowns_within(v, width, c, limit) {
-            return None;
-        }
-        if !are_sides_within(system, frame.a, v, c, limit) {
+        let limit = entry_limit(system, frame, by, y);
+        if !is_column_within(system, frame.a, v, c, limit, norm) {
             return None;
         }
     }
     Some(())
 }
 
-/// The greatest size of a number of the row x of the variable l with its scale, or of its denominator.
-pub(crate) fn row_top(seats: &[Seat], x: &[i64], scales: &[u64], den: u64, l: usize) -> u128
+/// If the numbers of a position where no pivot is made, and its denominator, leave room for its values.
+pub(crate) fn judge_end(
+    seats: &[Seat],
+    v: &[i64],
+    system: &WholeSystem,
+    frame: &Frame,
+    den: u64,
+) -> Option<()>
+    requires numbers { HasNumbers system.now frame.now.n frame.now.scales.now frame.now.a.now frame.now.b.now }
+    requires seated { IsSeated (height system.now) system.now.width frame.now.n seats.now }
+    requires square { length v.now ≡ system.now.width * system.now.width }
+    requires small { IsSmall (2 ^ 62) v.now }
+    ensures { IfSome result (λ _. IsJudged system.now frame.now.n seats.now frame.now.scales.now frame.now.a.now frame.now.b.now den v.now 0 0 0) }
+{
+    let none = Factors {
+        enters: 0,
+        top: 0,
+        size: 0,
+    };
+    judge(seats, v, system, frame, den, none)
+}
+
+/// What the numbers of a position are multiplied by where the row x of the variable l leaves and e enters.
+pub(crate) fn factors_of(seats: &[Seat], x: &[i64], scales: &[u64], l: usize, e: usize) -> Factors
     requires leaves { l < length scales.now }
     requires scales { length scales.now ≡ length seats.now }
     requires columns { (y c : ℕ) → y < length seats.now → seat_at seats.now y ≡ Column c → c < length x.now }
-    ensures { IsRowWithin (length seats.now) seats.now scales.now den l x.now result }
+    ensures enters { result.enters ≡ e }
+    ensures row { IsRowWithin (length seats.now) seats.now scales.now l e x.now result.top result.size }
 {
-    let mut top = times(den, scales[l]);
+    let mut top = scales[l] as u128;
+    let mut size = 0;
     for y in 0..seats.len() {
         if is_basic(seats, y) {
             continue;
         }
         let c = column_of(seats, y);
-        top = top.max(times(x[c].unsigned_abs(), scales[y]));
+        let product = times(x[c].unsigned_abs(), scales[y]);
+        if y == e {
+            size = size.max(product);
+        } else {
+            top = top.max(product);
+        }
     }
-    top
+    Factors {
+        enters: e,
+        top,
+        size,
+    }
 }

@@ -10,7 +10,7 @@ ghost use Rattle.mpc_whole.specs.Running.{HasNumbers};
 ghost use Rattle.mpc_whole.specs.Whole.{IsSmall, IsSideRow, IsWholeSystem, HasRoom};
 
 use crate::frames::Frame;
-use crate::judge::{judge, row_top};
+use crate::judge::{factors_of, judge, judge_end, times};
 use crate::lists::RunLists;
 use crate::reduced::reduce;
 use crate::variables::column_of;
@@ -49,9 +49,10 @@ fn advance(
     ensures den_small { IfSome result (λ p. p.den ≤ 2 ^ 62) }
     ensures underway { IfSome result (λ p. IsMildlyUnderway system.now (count system.now) lists.new.seats.items frame.now.scales.now p.den lists.new.v.items lists.new.firsts.items lists.new.seconds.items p.greatest p.greatest_den p.product p.first) }
 {
-    let top = row_top(&lists.seats, x, frame.scales, place.den, l);
-    judge(&lists.seats, &lists.v, system, frame, place.den, top)?;
+    let by = factors_of(&lists.seats, x, frame.scales, l, e);
+    judge(&lists.seats, &lists.v, system, frame, place.den, by)?;
     let own = greater(place.own, place.den);
+    let top = times(place.den, frame.scales[l]).max(by.top).max(by.size);
     let product = greater_product(place.product, own, top)?;
     let c = column_of(&lists.seats, e);
     let after = reduce(&mut lists.v, x, c, place.den)?;
@@ -103,12 +104,12 @@ fn judged_step(
         place,
         Sums::Wide,
     ) else {
-        judge(&lists.seats, &lists.v, system, frame, place.den, 1)?;
+        judge_end(&lists.seats, &lists.v, system, frame, place.den)?;
         return Some(Found::Ended(Ending::Point));
     };
     small_side_row(x, system, frame.a, &lists.v, l - system.unknowns())?;
     let Some(e) = entering(system, &lists.nonbasic, x, frame.n) else {
-        judge(&lists.seats, &lists.v, system, frame, place.den, 1)?;
+        judge_end(&lists.seats, &lists.v, system, frame, place.den)?;
         return Some(Found::Ended(Ending::Refuted(l)));
     };
     let next = advance(lists, x, system, frame, place, l, e)?;

@@ -1,4 +1,4 @@
-use Rattle.std.proofs.Common.{ℕ, ℤ, ◌≡◌, ◌∙◌, ◌<◌, ◌*◌, ◌^◌, List, length, sym, ap, subst, subst₂, arith, mul-pos, le_trans}
+use Rattle.std.proofs.Common.{ℕ, ℤ, ◌≡◌, ◌∙◌, ◌<◌, ◌≤◌, ◌*◌, ◌^◌, List, length, rules, sym, ap, subst, subst₂, arith}
 use Rattle.std.specs.Vec.{with_items}
 use Rattle.std.proofs.lemmas.List.{with_items_is}
 use Rattle.mpc_rows.specs.LinearSystem.{height}
@@ -14,18 +14,19 @@ use Rattle.mpc_whole.proofs.WholeRows.{weaker}
 use Rattle.mpc_whole.proofs.judged.advance.Goals as goal
 use Rattle.mpc_whole.proofs.judged.advance.Goals.{After-column_of-c, After-swap, After-stand}
 
-pub row_top-top-requires-clause-leaves : goal.row_top-top-requires-clause-leaves
-row_top-top-requires-clause-leaves c = subst (λ m. c.args.l < m) (sym c.requires.numbers.whole.scales.size) (leaver_in c.requires.numbers.whole c.requires.lists c.requires.goes)
+pub factors_of-by-requires-clause-leaves : goal.factors_of-by-requires-clause-leaves
+factors_of-by-requires-clause-leaves c = subst (λ m. c.args.l < m) (sym c.requires.numbers.whole.scales.size) (leaver_in c.requires.numbers.whole c.requires.lists c.requires.goes)
 
-pub row_top-top-requires-clause-columns : goal.row_top-top-requires-clause-columns
-row_top-top-requires-clause-columns c = rw c.deref.ensures.value (λ y k h e. subst (λ m. k < m) (sym c.requires.row.size) (c.requires.lists.seated.columns y k (subst (λ m. y < m) c.requires.lists.seated.each h) e).0)
+pub factors_of-by-requires-clause-columns : goal.factors_of-by-requires-clause-columns
+factors_of-by-requires-clause-columns c = rw c.deref.ensures.value (λ y k h e. subst (λ m. k < m) (sym c.requires.row.size) (c.requires.lists.seated.columns y k (subst (λ m. y < m) c.requires.lists.seated.each h) e).0)
 
-pub judge-requires-clause-some : goal.judge-requires-clause-some
-judge-requires-clause-some c =
-    let d : 0 < c.args.place.den = c.requires.goes.underway.underway.stands.form.some in
-    let k : 0 < scale_at c.args.frame.now.scales.now c.args.l = c.requires.numbers.whole.scales.some c.args.l (leaver_in c.requires.numbers.whole c.requires.lists c.requires.goes) in
-    let p : 0 < c.args.place.den * scale_at c.args.frame.now.scales.now c.args.l = mul-pos d k in
-    le_trans p c.row_top-top.ensures.den_within
+pub bounds-frame-l : goal.bounds-frame-l
+bounds-frame-l c = subst (λ m. c.args.l < m) (sym c.requires.numbers.whole.scales.size) (leaver_in c.requires.numbers.whole c.requires.lists c.requires.goes)
+
+pub offset_bounds-frame-l : goal.offset_bounds-frame-l
+offset_bounds-frame-l c =
+    let h : c.args.l < length c.args.frame.now.scales.now = subst (λ m. c.args.l < m) (sym c.requires.numbers.whole.scales.size) (leaver_in c.requires.numbers.whole c.requires.lists c.requires.goes) in
+    search rules
 
 pub column_of-c-requires-clause-below : goal.column_of-c-requires-clause-below
 column_of-c-requires-clause-below c = rw c.deref-4.ensures.value (subst (λ m. c.args.e < m) (sym c.requires.lists.seated.each) (enterer_in c.requires.numbers.whole c.requires.lists c.requires.goes))
@@ -112,15 +113,15 @@ returns-clause-underway c =
     let b = c.args.frame.now.b.now in
     let r = c.args.lists.now in
     let den = c.args.place.den in
-    let top = c.row_top-top.result in
+    let by = c.factors_of-by.result in
     let then = at.After-swap in
-    let judged : IsJudged s (count s) r.seats.items k a b den r.v.items top =
-    subst (λ m. IsJudged s m r.seats.items k a b den r.v.items top) c.requires.numbers.count
-    (subst₂ (λ (t : List Seat) (u : List ℤ). IsJudged s c.args.frame.now.n t k a b den u top) c.deref-2.ensures.value c.deref-3.ensures.value c.in_ok-judge.ensures)
+    let judged : IsJudged s (count s) r.seats.items k a b den r.v.items c.args.e by.top by.size =
+    subst (λ m. IsJudged s m r.seats.items k a b den r.v.items c.args.e by.top by.size) c.requires.numbers.count
+    (subst₂ (λ (t : List Seat) (u : List ℤ). IsJudged s c.args.frame.now.n t k a b den u c.args.e by.top by.size) c.deref-2.ensures.value c.deref-3.ensures.value (subst (λ f. IsJudged s c.args.frame.now.n c.deref-2.result.now k a b den c.deref-3.result.now f by.top by.size) c.factors_of-by.ensures.enters c.in_ok-judge.ensures))
     in
-    let within : IsRowWithin (count s) r.seats.items k den c.args.l c.args.x.now top =
-    subst (λ m. IsRowWithin m r.seats.items k den c.args.l c.args.x.now top) c.requires.lists.seated.each
-    (subst (λ (t : List Seat). IsRowWithin (length t) t k den c.args.l c.args.x.now top) c.deref.ensures.value c.row_top-top.ensures)
+    let within : IsRowWithin (count s) r.seats.items k c.args.l c.args.e c.args.x.now by.top by.size =
+    subst (λ m. IsRowWithin m r.seats.items k c.args.l c.args.e c.args.x.now by.top by.size) c.requires.lists.seated.each
+    (subst (λ (t : List Seat). IsRowWithin (length t) t k c.args.l c.args.e c.args.x.now by.top by.size) c.deref.ensures.value c.factors_of-by.ensures.row)
     in
     let piv : IsReducedPivot s.width den r.v.items c.reduce.new.v c.args.x.now c.column_of-c.result c.in_ok-after.after.den =
     subst₂ (λ w (u : List ℤ). IsReducedPivot w den u c.reduce.new.v c.args.x.now c.column_of-c.result c.in_ok-after.after.den) c.requires.row.size c.deref_mut.ensures.value c.in_ok-after.ensures.pivot
@@ -131,7 +132,8 @@ returns-clause-underway c =
     (subst₂ (λ (t : List Seat) (u : List ℤ). AreFormed s c.args.frame.now.n t k b u c.stand.new.c_1 c.stand.new.c_2) (c.deref-5.ensures.value ∙ seats_back then) (c.deref-6.ensures.value ∙ numbers_back then) stood)
     in
     let next =
-    mildly_after c.requires.numbers.whole c.requires.lists c.requires.goes c.swap.new.seats (swapped then) c.column_of-c.result (entered_then then) top c.requires.den_small judged c.args.x.now c.requires.row within
+    mildly_after c.requires.numbers.whole c.requires.lists c.requires.goes c.swap.new.seats (swapped then) c.column_of-c.result (entered_then then) by.top by.size c.requires.den_small judged c.args.x.now c.requires.row within c.max-top.result
+    (let a = c.max.ensures in let b = c.max-top.ensures in omega arith) (let b = c.max-top.ensures in omega arith) (let d : den * scale_at k c.args.l ≤ c.times.result = (let q = c.times.ensures in omega arith) in let a = c.max.ensures in let b = c.max-top.ensures in omega arith)
     c.reduce.new.v c.in_ok-after.after.den piv c.stand.new.c_1 c.stand.new.c_2 formed c.greater-own.result c.greater.result c.greater-2.result c.in_ok-product.product
     c.greater.ensures.first c.greater-2.ensures.first c.in_ok-product.ensures.first (weaker c.args.place.own c.greater.result r.v.items c.requires.lists.own c.greater.ensures.second) c.greater-2.ensures.second
     (weaker c.args.place.own c.greater-own.result r.v.items c.requires.lists.own c.greater-own.ensures.first) c.greater-own.ensures.second c.in_ok-product.ensures.second

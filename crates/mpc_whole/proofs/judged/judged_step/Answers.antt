@@ -10,7 +10,7 @@ use Rattle.mpc_whole.proofs.Standing.{leaves_here, side_in, row_of_leaving}
 use Rattle.mpc_whole.proofs.WholeRun.{side_values_at}
 use Rattle.mpc_whole.proofs.JudgedRun.{judged_point, mild_point, judged_refuted, mild_refuted}
 use Rattle.mpc_whole.proofs.judged.judged_step.Goals as goal
-use Rattle.mpc_whole.proofs.judged.judged_step.Goals.{After-first_out, In-Some, After-small_side_row, After-entering, In_ok-judge, In_ok-judge-2}
+use Rattle.mpc_whole.proofs.judged.judged_step.Goals.{After-first_out, In-Some, After-small_side_row, After-entering, In_ok-judge_end, In_ok-judge_end-2}
 
 found : (c : After-first_out) → c.first_out.result ≡ least (may_leave c.args.system.now (position c.args.system.now c.requires.underway.underway.stands.at)) (count c.args.system.now)
 found c =
@@ -21,23 +21,23 @@ found c =
     in
     subst (λ m. c.first_out.result ≡ least (may_leave c.args.system.now (position c.args.system.now c.requires.underway.underway.stands.at)) m) c.requires.numbers.count (c.first_out.ensures (position c.args.system.now c.requires.underway.underway.stands.at) z.form.some basis values c.requires.numbers.whole.sides c.requires.underway.underway.stay)
 
-judged_there : (c : In_ok-judge) → IsJudged c.args.system.now (count c.args.system.now) c.args.lists.now.seats.items c.args.frame.now.scales.now c.args.frame.now.a.now c.args.frame.now.b.now c.args.place.den c.args.lists.now.v.items 1
+judged_there : (c : In_ok-judge_end) → IsJudged c.args.system.now (count c.args.system.now) c.args.lists.now.seats.items c.args.frame.now.scales.now c.args.frame.now.a.now c.args.frame.now.b.now c.args.place.den c.args.lists.now.v.items 0 0 0
 judged_there c =
-    subst (λ m. IsJudged c.args.system.now m c.args.lists.now.seats.items c.args.frame.now.scales.now c.args.frame.now.a.now c.args.frame.now.b.now c.args.place.den c.args.lists.now.v.items 1) c.requires.numbers.count
-    (subst₂ (λ (t : List Seat) (u : List ℤ). IsJudged c.args.system.now c.args.frame.now.n t c.args.frame.now.scales.now c.args.frame.now.a.now c.args.frame.now.b.now c.args.place.den u 1) c.deref-in_default.ensures.value c.deref-in_default-2.ensures.value c.in_ok-judge.ensures)
+    subst (λ m. IsJudged c.args.system.now m c.args.lists.now.seats.items c.args.frame.now.scales.now c.args.frame.now.a.now c.args.frame.now.b.now c.args.place.den c.args.lists.now.v.items 0 0 0) c.requires.numbers.count
+    (subst₂ (λ (t : List Seat) (u : List ℤ). IsJudged c.args.system.now c.args.frame.now.n t c.args.frame.now.scales.now c.args.frame.now.a.now c.args.frame.now.b.now c.args.place.den u 0 0 0) c.deref-in_default.ensures.value c.deref-in_default-2.ensures.value c.in_ok-judge_end.ensures)
 
-nobody : (c : In_ok-judge) → c.first_out.result ≡ least (may_leave c.args.system.now (position c.args.system.now c.requires.underway.underway.stands.at)) (count c.args.system.now) → None ≡ least (may_leave c.args.system.now (position c.args.system.now c.requires.underway.underway.stands.at)) (count c.args.system.now)
+nobody : (c : In_ok-judge_end) → c.first_out.result ≡ least (may_leave c.args.system.now (position c.args.system.now c.requires.underway.underway.stands.at)) (count c.args.system.now) → None ≡ least (may_leave c.args.system.now (position c.args.system.now c.requires.underway.underway.stands.at)) (count c.args.system.now)
 nobody c f = let q : c.first_out.result ≡ None = c.in_default.is in sym q ∙ f
 
 pub returns-in_default-clause-end : goal.returns-in_default-clause-end
 returns-in_default-clause-end c =
     let at = goal.at.returns-in_default-clause-end c in
-    judged_point c.args.system.now (count c.args.system.now) c.args.lists.now.seats.items c.requires.lists.seated c.args.frame.now.scales.now c.args.place.den c.args.lists.now.v.items c.args.frame.now.a.now c.args.frame.now.b.now c.requires.numbers.whole c.args.lists.now.firsts.items c.args.lists.now.seconds.items c.args.place.greatest c.args.place.greatest_den c.args.place.product c.args.place.first c.requires.underway c.requires.den_small 1 (judged_there at.In_ok-judge) (nobody at.In_ok-judge (found at.After-first_out))
+    judged_point c.args.system.now (count c.args.system.now) c.args.lists.now.seats.items c.requires.lists.seated c.args.frame.now.scales.now c.args.place.den c.args.lists.now.v.items c.args.frame.now.a.now c.args.frame.now.b.now c.requires.numbers.whole c.args.lists.now.firsts.items c.args.lists.now.seconds.items c.args.place.greatest c.args.place.greatest_den c.args.place.product c.args.place.first c.requires.underway c.requires.den_small 0 0 0 (judged_there at.In_ok-judge_end) (nobody at.In_ok-judge_end (found at.After-first_out))
 
 pub returns-in_default-clause-before : goal.returns-in_default-clause-before
 returns-in_default-clause-before c =
     let at = goal.at.returns-in_default-clause-before c in
-    mild_point c.args.system.now (count c.args.system.now) c.args.lists.now.seats.items c.requires.lists.seated c.args.frame.now.scales.now c.args.place.den c.args.lists.now.v.items c.args.frame.now.a.now c.args.frame.now.b.now c.requires.numbers.whole c.args.lists.now.firsts.items c.args.lists.now.seconds.items c.args.place.greatest c.args.place.greatest_den c.args.place.product c.args.place.first c.requires.underway c.requires.den_small 1 (judged_there at.In_ok-judge) (nobody at.In_ok-judge (found at.After-first_out))
+    mild_point c.args.system.now (count c.args.system.now) c.args.lists.now.seats.items c.requires.lists.seated c.args.frame.now.scales.now c.args.place.den c.args.lists.now.v.items c.args.frame.now.a.now c.args.frame.now.b.now c.requires.numbers.whole c.args.lists.now.firsts.items c.args.lists.now.seconds.items c.args.place.greatest c.args.place.greatest_den c.args.place.product c.args.place.first c.requires.underway c.requires.den_small 0 0 0 (judged_there at.In_ok-judge_end) (nobody at.In_ok-judge_end (found at.After-first_out))
 
 leaver_is : (c : In-Some) → c.first_out.result ≡ least (may_leave c.args.system.now (position c.args.system.now c.requires.underway.underway.stands.at)) (count c.args.system.now) → Some c.in-Some.l ≡ least (may_leave c.args.system.now (position c.args.system.now c.requires.underway.underway.stands.at)) (count c.args.system.now)
 leaver_is c f = let q : c.first_out.result ≡ Some c.in-Some.l = c.in-Some.is in sym q ∙ f
@@ -68,25 +68,25 @@ entered c e =
     subst (λ m. c.entering.result ≡ least (may_enter c.args.system.now (position c.args.system.now c.requires.underway.underway.stands.at) c.in-Some.l) m) c.requires.numbers.count
     (c.entering.ensures c.args.lists.now.seats.items (position c.args.system.now c.requires.underway.underway.stands.at) c.args.frame.now.scales.now c.in-Some.l c.args.place.den seated columns z.form.some basis row)
 
-judged_then : (c : In_ok-judge-2) → IsJudged c.args.system.now (count c.args.system.now) c.args.lists.now.seats.items c.args.frame.now.scales.now c.args.frame.now.a.now c.args.frame.now.b.now c.args.place.den c.args.lists.now.v.items 1
+judged_then : (c : In_ok-judge_end-2) → IsJudged c.args.system.now (count c.args.system.now) c.args.lists.now.seats.items c.args.frame.now.scales.now c.args.frame.now.a.now c.args.frame.now.b.now c.args.place.den c.args.lists.now.v.items 0 0 0
 judged_then c =
-    subst (λ m. IsJudged c.args.system.now m c.args.lists.now.seats.items c.args.frame.now.scales.now c.args.frame.now.a.now c.args.frame.now.b.now c.args.place.den c.args.lists.now.v.items 1) c.requires.numbers.count
-    (subst₂ (λ (t : List Seat) (u : List ℤ). IsJudged c.args.system.now c.args.frame.now.n t c.args.frame.now.scales.now c.args.frame.now.a.now c.args.frame.now.b.now c.args.place.den u 1) c.deref-in_default-entering.ensures.value c.deref-in_default-entering-2.ensures.value c.in_ok-judge-2.ensures)
+    subst (λ m. IsJudged c.args.system.now m c.args.lists.now.seats.items c.args.frame.now.scales.now c.args.frame.now.a.now c.args.frame.now.b.now c.args.place.den c.args.lists.now.v.items 0 0 0) c.requires.numbers.count
+    (subst₂ (λ (t : List Seat) (u : List ℤ). IsJudged c.args.system.now c.args.frame.now.n t c.args.frame.now.scales.now c.args.frame.now.a.now c.args.frame.now.b.now c.args.place.den u 0 0 0) c.deref-in_default-entering.ensures.value c.deref-in_default-entering-2.ensures.value c.in_ok-judge_end-2.ensures)
 
-nobody_enters : (c : In_ok-judge-2) → c.entering.result ≡ least (may_enter c.args.system.now (position c.args.system.now c.requires.underway.underway.stands.at) c.in-Some.l) (count c.args.system.now) → None ≡ least (may_enter c.args.system.now (position c.args.system.now c.requires.underway.underway.stands.at) c.in-Some.l) (count c.args.system.now)
+nobody_enters : (c : In_ok-judge_end-2) → c.entering.result ≡ least (may_enter c.args.system.now (position c.args.system.now c.requires.underway.underway.stands.at) c.in-Some.l) (count c.args.system.now) → None ≡ least (may_enter c.args.system.now (position c.args.system.now c.requires.underway.underway.stands.at) c.in-Some.l) (count c.args.system.now)
 nobody_enters c f = let q : c.entering.result ≡ None = c.in_default-entering.is in sym q ∙ f
 
 pub returns-in_default-entering-clause-end : goal.returns-in_default-entering-clause-end
 returns-in_default-entering-clause-end c =
     let at = goal.at.returns-in_default-entering-clause-end c in
     let e = leaver_is at.In-Some (found at.After-first_out) in
-    judged_refuted c.args.system.now (count c.args.system.now) c.args.lists.now.seats.items c.requires.lists.seated c.args.frame.now.scales.now c.args.place.den c.args.lists.now.v.items c.args.frame.now.a.now c.args.frame.now.b.now c.requires.numbers.whole c.args.lists.now.firsts.items c.args.lists.now.seconds.items c.args.place.greatest c.args.place.greatest_den c.args.place.product c.args.place.first c.requires.underway c.requires.den_small 1 (judged_then at.In_ok-judge-2) c.in-Some.l e (nobody_enters at.In_ok-judge-2 (entered at.After-entering e))
+    judged_refuted c.args.system.now (count c.args.system.now) c.args.lists.now.seats.items c.requires.lists.seated c.args.frame.now.scales.now c.args.place.den c.args.lists.now.v.items c.args.frame.now.a.now c.args.frame.now.b.now c.requires.numbers.whole c.args.lists.now.firsts.items c.args.lists.now.seconds.items c.args.place.greatest c.args.place.greatest_den c.args.place.product c.args.place.first c.requires.underway c.requires.den_small 0 0 0 (judged_then at.In_ok-judge_end-2) c.in-Some.l e (nobody_enters at.In_ok-judge_end-2 (entered at.After-entering e))
 
 pub returns-in_default-entering-clause-before : goal.returns-in_default-entering-clause-before
 returns-in_default-entering-clause-before c =
     let at = goal.at.returns-in_default-entering-clause-before c in
     let e = leaver_is at.In-Some (found at.After-first_out) in
-    mild_refuted c.args.system.now (count c.args.system.now) c.args.lists.now.seats.items c.requires.lists.seated c.args.frame.now.scales.now c.args.place.den c.args.lists.now.v.items c.args.frame.now.a.now c.args.frame.now.b.now c.requires.numbers.whole c.args.lists.now.firsts.items c.args.lists.now.seconds.items c.args.place.greatest c.args.place.greatest_den c.args.place.product c.args.place.first c.requires.underway c.requires.den_small 1 (judged_then at.In_ok-judge-2) c.in-Some.l e (nobody_enters at.In_ok-judge-2 (entered at.After-entering e))
+    mild_refuted c.args.system.now (count c.args.system.now) c.args.lists.now.seats.items c.requires.lists.seated c.args.frame.now.scales.now c.args.place.den c.args.lists.now.v.items c.args.frame.now.a.now c.args.frame.now.b.now c.requires.numbers.whole c.args.lists.now.firsts.items c.args.lists.now.seconds.items c.args.place.greatest c.args.place.greatest_den c.args.place.product c.args.place.first c.requires.underway c.requires.den_small 0 0 0 (judged_then at.In_ok-judge_end-2) c.in-Some.l e (nobody_enters at.In_ok-judge_end-2 (entered at.After-entering e))
 
 pub advance-requires-clause-goes : goal.advance-requires-clause-goes
 advance-requires-clause-goes c =

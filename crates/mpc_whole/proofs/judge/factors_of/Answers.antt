@@ -1,5 +1,5 @@
 use Rattle.std.proofs.Common.{length, ◌<◌, rules}
-use Rattle.mpc_whole.proofs.judge.row_top.Goals as goal
+use Rattle.mpc_whole.proofs.judge.factors_of.Goals as goal
 
 pub bounds-x-c : goal.bounds-x-c
 bounds-x-c c = c.requires.columns c.loop-y.y c.column_of-c.result c.loop-y-test.true c.column_of-c.ensures
