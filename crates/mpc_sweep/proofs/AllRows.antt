@@ -38,15 +38,15 @@ module _ (xs ys : List ℤ) (a k : ℕ) (inside : a ≤ length xs) where
 
 -- ---- the rows
 -- no row yet: small numbers before them
-pub no_rows : (width den : ℕ) (v : List ℤ) (p first told : ℕ) (new : List ℤ) → ((k : ℕ) → k < first → unsigned_abs (whole_at new k) ≤ 2 ^ 62) → AreRows width den v p first told 0 new
-no_rows width den v p first told new h = record {
+pub no_rows : (width den taken : ℕ) (v : List ℤ) (p first told : ℕ) (new : List ℤ) → ((k : ℕ) → k < first → unsigned_abs (whole_at new k) ≤ 2 ^ 62) → AreRows width den taken v p first told 0 new
+no_rows width den taken v p first told new h = record {
   numbers = λ i j l m n. absurd (omega arith);
   small = λ k l. h k (omega arith);
 }
 
 -- one row more
-module _ (width den : ℕ) (v : List ℤ) (p first told columns i k : ℕ) (now ys : List ℤ) (h : AreRows width den v p first told i now) (size : length ys ≡ columns) (sum : first + told ≡ columns) (inside : i * told + columns ≤ length now)
-    (w : AreWritten first columns (IsNumber width den v p i) (between (i * told) (i * told + columns) now) ys) where
+module _ (width den taken : ℕ) (v : List ℤ) (p first told columns i k : ℕ) (now ys : List ℤ) (h : AreRows width den taken v p first told i now) (size : length ys ≡ columns) (sum : first + told ≡ columns) (inside : i * told + columns ≤ length now)
+    (w : AreWritten first columns (IsNumber width den taken v p i) (between (i * told) (i * told + columns) now) ys) where
   abbrev new : List ℤ
   new = put_mid (i * told) k now ys
 
@@ -68,19 +68,19 @@ module _ (width den : ℕ) (v : List ℤ) (p first told columns i k : ℕ) (now 
       let e : i * told + j - i * told ≡ j = omega arith in
       put_there now ys (i * told) k start_in (i * told + j) (omega arith) (omega arith) ∙ ap (whole_at ys) e
 
-  pub row_more : AreRows width den v p first told (i + 1) new
+  pub row_more : AreRows width den taken v p first told (i + 1) new
   row_more = record {
     numbers = λ r j l m n. number r j l m n (cases_eq r i);
     small = λ n l. small n l (cases_lt n (i * told + first));
   }
     where
-      number : (r j : ℕ) → r < i + 1 → first ≤ j → j < first + told → (r ≡ i) ⊎ (r ≡ i → ⊥) → IsNumber width den v p r j (whole_cell told new r j)
+      number : (r j : ℕ) → r < i + 1 → first ≤ j → j < first + told → (r ≡ i) ⊎ (r ≡ i → ⊥) → IsNumber width den taken v p r j (whole_cell told new r j)
       number r j l m n (inl e) =
-          subst (λ u. IsNumber width den v p u j (whole_cell told new u j)) (sym e) (subst (IsNumber width den v p i j) (sym (there j (omega arith))) (w.numbers j m (omega arith)))
+          subst (λ u. IsNumber width den taken v p u j (whole_cell told new u j)) (sym e) (subst (IsNumber width den taken v p i j) (sym (there j (omega arith))) (w.numbers j m (omega arith)))
       number r j l m n (inr e) =
           let b : r < i = omega arith in
           let q : r * told + j < i * told + first = row_below told r i first j b n in
-          subst (IsNumber width den v p r j) (sym (kept (r * told + j) q)) (h.numbers r j b m n)
+          subst (IsNumber width den taken v p r j) (sym (kept (r * told + j) q)) (h.numbers r j b m n)
 
       small : (n : ℕ) → n < first + (i + 1) * told → (n < i * told + first) ⊎ (i * told + first ≤ n) → unsigned_abs (whole_at new n) ≤ 2 ^ 62
       small n l (inl m) = subst (λ z. unsigned_abs z ≤ 2 ^ 62) (sym (kept n m)) (h.small n (omega arith))

@@ -8,3 +8,4 @@ pub mod AllRows
 pub mod SweptEntry
 pub mod SweptOnce
 pub mod FirstTable
+pub mod Denominators

@@ -8,7 +8,7 @@ use Rattle.std.proofs.lemmas.List.{get_or_past}
 use Rattle.std.proofs.lemmas.List.Edits.{get_or-between, length-between}
 use Rattle.mpc_exact.proofs.IntRing.{int_reads, by_ring_ℤ}
 use Rattle.mpc_whole.specs.Whole.{whole_at, whole_cell, IsSmall, turned}
-use Rattle.mpc_sweep.specs.Steps.{IsNumber, IsChanged, AreWritten}
+use Rattle.mpc_sweep.specs.Steps.{IsNumber, IsOwn, IsChanged, AreWritten}
 
 pub read_small : (z : ℤ) → unsigned_abs z ≤ 2 ^ 62 → to_z w64 (of_z w64 z) ≡ z
 read_small z h = to_z-of_z w64 z (fits_signed_from_abs w64 z (omega arith))
@@ -71,7 +71,11 @@ turned_zero : (q : ℤ) → turned q (pos 0) ≡ pos 0
 turned_zero (pos n) = refl
 turned_zero (negsuc n) = refl
 
-module _ (width den : ℕ) (v : List ℤ) (p columns : ℕ) (column : p < columns) where
+-- nothing is taken away
+pub no_factor : (x d : ℤ) → (x *ℤ d) +ℤ neg_ℤ (pos 0 *ℤ pos 0) ≡ x *ℤ d
+no_factor x d = no_product x d (pos 0) (pos 0) refl
+
+module _ (width den by : ℕ) (v : List ℤ) (p columns : ℕ) (column : p < columns) where
   abbrev top : List ℤ
   top = between (p * width) (p * width + columns) v
 
@@ -79,9 +83,9 @@ module _ (width den : ℕ) (v : List ℤ) (p columns : ℕ) (column : p < column
   pivot_of_row = cell_of_row v (p * width) columns p column
 
   -- the row of the sweep
-  pub own_number : (i j : ℕ) (q z : ℤ) → i ≡ p → j < columns → q ≡ whole_at top p → z ≡ turned q (whole_at top j) → IsNumber width den v p i j z
-  own_number i j q z e m eq ez = record {
-    own = λ _. ez ∙ (λ t. turned ((eq ∙ pivot_of_row) t) (cell_of_row v (p * width) columns j m t));
+  pub own_number : (i j : ℕ) (z : ℤ) → i ≡ p → j < columns → IsOwn den by top p j z → IsNumber width den by v p i j z
+  own_number i j z e m w = record {
+    own = λ _. w ∙ (λ t. turned (pivot_of_row t) (cell_of_row v (p * width) columns j m t) *ℤ pos den);
     other = λ n. absurd (n e);
   }
 
@@ -90,7 +94,7 @@ module _ (width den : ℕ) (v : List ℤ) (p columns : ℕ) (column : p < column
     abbrev row : List ℤ
     row = between (i * width) (i * width + columns) v
 
-    pub other_number : (j : ℕ) (z : ℤ) → j < columns → IsChanged den row top p j z → IsNumber width den v p i j z
+    pub other_number : (j : ℕ) (z : ℤ) → j < columns → IsChanged by row top p j z → IsNumber width den by v p i j z
     other_number j z m w = record {
       own = λ e. absurd (n e);
       other = λ _. w ∙ (λ t. (at j m t *ℤ pos (unsigned_abs (pivot_of_row t))) +ℤ neg_ℤ (turned (pivot_of_row t) (at p column t) *ℤ cell_of_row v (p * width) columns j m t));
@@ -99,8 +103,8 @@ module _ (width den : ℕ) (v : List ℤ) (p columns : ℕ) (column : p < column
         at : (k : ℕ) → k < columns → whole_at row k ≡ whole_cell width v i k
         at k l = cell_of_row v (i * width) columns k l
 
-    -- which stays where it has nothing in the column of the sweep, and the denominator stays
-    pub same_number : (j : ℕ) (z : ℤ) → j < columns → whole_at row p ≡ pos 0 → unsigned_abs (whole_at top p) ≡ den → z ≡ whole_at row j → IsNumber width den v p i j z
+    -- which stays where it has nothing in the column of the sweep, and the pivot is what is taken out
+    pub same_number : (j : ℕ) (z : ℤ) → j < columns → whole_at row p ≡ pos 0 → unsigned_abs (whole_at top p) ≡ by → z ≡ whole_at row j → IsNumber width den by v p i j z
     same_number j z m none same e = other_number j z m
         ((λ t. e t *ℤ pos (sym same t))
         ∙ sym (no_product (whole_at row j) (pos (unsigned_abs (whole_at top p))) (turned (whole_at top p) (whole_at row p)) (whole_at top j) (ap (turned (whole_at top p)) none ∙ turned_zero (whole_at top p))))

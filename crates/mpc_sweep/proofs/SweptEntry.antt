@@ -1,5 +1,5 @@
 -- One entry of a sweep in fractions, where the entries of each row are whole numbers over one denominator.
-use Rattle.std.proofs.Common.{◌≡◌, ◌≢◌, ℕ, zero, suc, ◌*◌, ◌^◌, ◌<◌, ◌≤◌, ℤ, pos, negsuc, ◌+ℤ◌, ◌*ℤ◌, neg_ℤ, unsigned_abs, [], ◌∷◌, refl, sym, ◌∙◌, ap, subst, subst₂, arith, mul-pos, mul-le-mul_right, mul-le-mul_left, le_trans, lit<}
+use Rattle.std.proofs.Common.{◌≡◌, ◌≢◌, ℕ, zero, suc, ◌*◌, ◌^◌, ◌<◌, ◌≤◌, ℤ, pos, negsuc, ◌+ℤ◌, ◌*ℤ◌, neg_ℤ, unsigned_abs, [], ◌∷◌, refl, sym, ◌∙◌, ap, subst, subst₂, arith, mul_comm, mul-pos, mul-le-mul_right, mul-le-mul_left, le_trans, lit<}
 use Rattle.std.proofs.lemmas.Int.{unsigned_abs-mul}
 use Rattle.mpc_exact.specs.Rational.{frac, int, ◌+ℚ◌, ◌*ℚ◌, ◌/ℚ◌, neg_ℚ, inv_ℚ}
 use Rattle.mpc_exact.proofs.Rational.{same_frac, frac_same, frac-mul, frac-neg}
@@ -40,8 +40,11 @@ turned_left (negsuc n) k x = by_ring_ℤ (k ∷ x ∷ []) (search int_reads dept
 expanded : (v m d : ℤ) → v *ℤ (d *ℤ m) ≡ (v *ℤ m) *ℤ d
 expanded v m d = by_ring_ℤ (v ∷ m ∷ d ∷ []) (search int_reads depth 30) (search int_reads depth 30) tt
 
-shared : (z d r m : ℤ) → (z *ℤ d) *ℤ (m *ℤ r) ≡ z *ℤ ((d *ℤ r) *ℤ m)
-shared z d r m = by_ring_ℤ (z ∷ d ∷ r ∷ m ∷ []) (search int_reads depth 30) (search int_reads depth 30) tt
+moved : (z b e r : ℤ) → (z *ℤ b) *ℤ (e *ℤ r) ≡ (z *ℤ r) *ℤ (e *ℤ b)
+moved z b e r = by_ring_ℤ (z ∷ b ∷ e ∷ r ∷ []) (search int_reads depth 30) (search int_reads depth 30) tt
+
+joined : (z r d m : ℤ) → (z *ℤ r) *ℤ (d *ℤ m) ≡ z *ℤ ((d *ℤ r) *ℤ m)
+joined z r d m = by_ring_ℤ (z ∷ r ∷ d ∷ m ∷ []) (search int_reads depth 30) (search int_reads depth 30) tt
 
 one_last : (q : ℤ) → q *ℤ pos 1 ≡ q
 one_last q = by_ring_ℤ (q ∷ []) (search int_reads depth 30) (search int_reads depth 30) tt
@@ -102,11 +105,18 @@ module _ (laws : OverTheorems) (s : Table) (p i j : ℕ) (q x k v : ℤ) (m n : 
       product_small : unsigned_abs (k *ℤ turned q x) ≤ 2 ^ 62 * 2 ^ 62
       product_small = product_at_most k (turned q x) (2 ^ 62) (2 ^ 62) k_small x_turned
 
-  pub own_entry : i ≡ p → reduced p s i j ≡ frac (turned q x) size
-  own_entry e = reduced-pivot p s i j e ∙ quotient_is
+  -- what stands there over the denominator e, where by is taken out of d times the pivot
+  module _ (z : ℤ) (d by e : ℕ) (by_some : 0 < by) (e_some : 0 < e) (over : e * by ≡ d * unsigned_abs q) where
+    pub own_entry : i ≡ p → z *ℤ pos by ≡ turned q x *ℤ pos d → reduced p s i j ≡ frac z e
+    own_entry h w =
+        reduced-pivot p s i j h ∙ quotient_is
+        ∙ same_frac (turned q x) size (z *ℤ pos by) (e * by) size_some (mul-pos e_some by_some)
+        (ap (λ u. turned q x *ℤ pos u) (over ∙ mul_comm d size) ∙ expanded (turned q x) (pos d) (pos size) ∙ ap (λ u. u *ℤ pos size) (sym w))
+        ∙ same_frac (z *ℤ pos by) (e * by) z e (mul-pos e_some by_some) e_some (sym (expanded z (pos by) (pos e)))
 
-  pub other_entry : (z : ℤ) (d r : ℕ) → n ≡ d * r → 0 < r → i ≢ p → z *ℤ pos d ≡ (v *ℤ pos size) +ℤ neg_ℤ (turned q k *ℤ x) → reduced p s i j ≡ frac z (size * r)
-  other_entry z d r e r_some h w =
-      reduced-other p s i j h ∙ (λ t. entry_is t +ℚ negative_is t) ∙ laws.sum (v *ℤ pos size) (neg_ℤ (k *ℤ turned q x)) both both_some
-      ∙ ap (λ u. frac u both) (ap (λ u. (v *ℤ pos size) +ℤ neg_ℤ u) (turned_left q k x) ∙ sym w)
-      ∙ same_frac (z *ℤ pos d) both z (size * r) both_some (mul-pos size_some r_some) (shared z (pos d) (pos r) (pos size) ∙ ap (λ u. z *ℤ (pos u *ℤ pos size)) (sym e))
+    pub other_entry : (r : ℕ) → n ≡ d * r → 0 < r → i ≢ p → z *ℤ pos by ≡ (v *ℤ pos size) +ℤ neg_ℤ (turned q k *ℤ x) → reduced p s i j ≡ frac z (e * r)
+    other_entry r scaled r_some h w =
+        reduced-other p s i j h ∙ (λ t. entry_is t +ℚ negative_is t) ∙ laws.sum (v *ℤ pos size) (neg_ℤ (k *ℤ turned q x)) both both_some
+        ∙ ap (λ u. frac u both) (ap (λ u. (v *ℤ pos size) +ℤ neg_ℤ u) (turned_left q k x) ∙ sym w)
+        ∙ same_frac (z *ℤ pos by) both z (e * r) both_some (mul-pos e_some r_some)
+        (moved z (pos by) (pos e) (pos r) ∙ ap (λ u. (z *ℤ pos r) *ℤ pos u) over ∙ joined z (pos r) (pos d) (pos size) ∙ ap (λ u. z *ℤ (pos u *ℤ pos size)) (sym scaled))

@@ -11,9 +11,9 @@ use Rattle.mpc_whole.specs.OverTheorems.{OverTheorems}
 use Rattle.mpc_sweep.specs.declared.numbers.Swept.{Swept}
 use Rattle.mpc_sweep.specs.Sweeps.{swept, pivot_at, before, HasPivots, AreRising, SweepsFit}
 use Rattle.mpc_sweep.specs.Numbers.{scale_of, den_of, told_columns, number, IsTable, IsWholeTable, IsSwept}
-use Rattle.mpc_sweep.specs.Steps.{IsNumber, AreRows}
+use Rattle.mpc_sweep.specs.Steps.{IsNumber, AreSweptRows}
 use Rattle.mpc_sweep.proofs.Befores.{swept-more}
-use Rattle.mpc_sweep.proofs.SweptEntry.{abs_some, over_some, entry_fits, own_entry, other_entry}
+use Rattle.mpc_sweep.proofs.SweptEntry.{over_some, entry_fits, own_entry, other_entry}
 
 swept-none : (t : Table) → swept t [] ≡ t
 unfolding swept
@@ -40,21 +40,13 @@ pub record IsOnce (from out : Swept) (p first : ℕ) : Type 0 where
   pub rows : out.rows ≡ from.rows
   pub columns : out.columns ≡ from.columns
   pub first_told : out.first ≡ first
-  pub den : out.den ≡ unsigned_abs (number from p p)
   pub most_scale : out.most_scale ≡ from.most_scale
   pub scales : out.scales.items ≡ set from.scales.items p 1
   pub size : length out.numbers.items ≡ first + from.rows * (from.columns - first)
-  pub numbers : AreRows (told_columns from) from.den from.numbers.items p first (from.columns - first) from.rows out.numbers.items
+  pub swept : AreSweptRows from p first out.den out.numbers.items
   pub within : first ≤ from.columns
-  pub room : unsigned_abs (number from p p) * from.most_scale ≤ 2 ^ 62
 
 module _ (laws : OverTheorems) (from out : Swept) (p first : ℕ) (o : IsTable from) (r : p < from.rows) (c : p < from.columns) (pivot : number from p p ≢ pos 0) (w : IsOnce from out p first) where
-  abbrev size : ℕ
-  size = unsigned_abs (number from p p)
-
-  size_some : 0 < unsigned_abs (number from p p)
-  size_some = abs_some (number from p p) pivot
-
   scale_there : scale_of out p ≡ 1
   scale_there = ap (λ xs. get_or xs p 0) w.scales ∙ get_or-set_same from.scales.items p 1 0 (let e = o.scales_size in omega arith)
 
@@ -75,7 +67,7 @@ module _ (laws : OverTheorems) (from out : Swept) (p first : ℕ) (o : IsTable f
   told_there = (λ k. w.columns k - w.first_told k)
 
   small_there : (k : ℕ) → (k < length out.numbers.items) ⊎ (length out.numbers.items ≤ k) → unsigned_abs (whole_at out.numbers.items k) ≤ 2 ^ 62
-  small_there k (inl l) = w.numbers.small k (subst (λ n. k < n) w.size l)
+  small_there k (inl l) = w.swept.rows.small k (subst (λ n. k < n) w.size l)
   small_there k (inr l) = subst (λ z. unsigned_abs z ≤ 2 ^ 62) (sym (get_or_past out.numbers.items k (pos 0) l)) (omega arith)
 
   table_there : IsTable out
@@ -83,10 +75,10 @@ module _ (laws : OverTheorems) (from out : Swept) (p first : ℕ) (o : IsTable f
     told = subst₂ (λ a b. a ≤ b) (sym w.first_told) (sym w.columns) w.within;
     size = w.size ∙ (λ k. sym w.first_told k + sym w.rows k * sym told_there k);
     scales_size = ap (λ (xs : List ℕ). length xs) w.scales ∙ length-set from.scales.items p 1 ∙ o.scales_size ∙ sym w.rows;
-    some_den = subst (λ u. 0 < u) (sym w.den) size_some;
+    some_den = w.swept.den_some;
     some = λ i h. some_there i h (cases_eq i p);
     scales = λ i h. most_there i h (cases_eq i p);
-    dens = subst (λ u. u ≤ 2 ^ 62) (λ k. sym w.den k * sym w.most_scale k) w.room;
+    dens = subst (λ u. out.den * u ≤ 2 ^ 62) (sym w.most_scale) w.swept.room;
     some_scale = subst (λ u. 1 ≤ u) (sym w.most_scale) o.some_scale;
     small = record { each = λ k. small_there k (cases_lt k (length out.numbers.items)) };
   }
@@ -96,9 +88,6 @@ module _ (laws : OverTheorems) (from out : Swept) (p first : ℕ) (o : IsTable f
 
   den_some : (i : ℕ) → i < from.rows → 0 < den_of from i
   den_some i h = mul-pos o.some_den (o.some i h)
-
-  size_small : unsigned_abs (number from p p) ≤ 2 ^ 62
-  size_small = o.small.each (p * told_columns from + p)
 
   module _ (t : Table) (ps : List ℕ) (rows columns from_column : ℕ) (h : IsSwept t ps rows columns from_column from) (at : from_column ≤ p) (behind : p < first) (above : (k : ℕ) → k < length ps → get_or ps k 0 < p) where
     row_in : (i : ℕ) → i < rows → i < from.rows
@@ -127,29 +116,28 @@ module _ (laws : OverTheorems) (from out : Swept) (p first : ℕ) (o : IsTable f
       abbrev z : ℤ
       z = whole_cell (from.columns - first) out.numbers.items i j
 
-      new_entry : IsNumber (told_columns from) from.den from.numbers.items p i j z → (i ≡ p) ⊎ (i ≡ p → ⊥) → reduced p (swept t ps) i j ≡ frac z (size * scale_of out i)
+      new_entry : IsNumber (told_columns from) from.den w.swept.by from.numbers.items p i j z → (i ≡ p) ⊎ (i ≡ p → ⊥) → reduced p (swept t ps) i j ≡ frac z (out.den * scale_of out i)
       new_entry n (inl e) =
           own_entry laws (swept t ps) p i j (number from p p) (number from p j) (number from i p) (number from i j) (den_of from p) (den_of from i)
           (den_some p r) (den_some i (row_in i i_row)) (dens_small i (row_in i i_row)) pivot
           (o.small.each (p * told_columns from + p)) (o.small.each (p * told_columns from + j)) (o.small.each (i * told_columns from + p)) (o.small.each (i * told_columns from + j))
-          (h.entries p p p_row at p_column) (h.entries p j p_row in_front j_column) (h.entries i p i_row at p_column) (h.entries i j i_row in_front j_column) e
-          ∙ (λ k. frac (sym (n.own e) k) (sized k))
-        where
-          sized : size ≡ size * scale_of out i
-          sized = (let q : size ≡ size * 1 = omega arith in q) ∙ ap (λ u. size * u) (sym (ap (scale_of out) e ∙ scale_there))
+          (h.entries p p p_row at p_column) (h.entries p j p_row in_front j_column) (h.entries i p i_row at p_column) (h.entries i j i_row in_front j_column)
+          z from.den w.swept.by out.den w.swept.some w.swept.den_some w.swept.den_is e (n.own e)
+          ∙ ap (frac z) ((let q : out.den ≡ out.den * 1 = omega arith in q) ∙ ap (λ u. out.den * u) (sym (ap (scale_of out) e ∙ scale_there)))
       new_entry n (inr e) =
           other_entry laws (swept t ps) p i j (number from p p) (number from p j) (number from i p) (number from i j) (den_of from p) (den_of from i)
           (den_some p r) (den_some i (row_in i i_row)) (dens_small i (row_in i i_row)) pivot
           (o.small.each (p * told_columns from + p)) (o.small.each (p * told_columns from + j)) (o.small.each (i * told_columns from + p)) (o.small.each (i * told_columns from + j))
           (h.entries p p p_row at p_column) (h.entries p j p_row in_front j_column) (h.entries i p i_row at p_column) (h.entries i j i_row in_front j_column)
-          z from.den (scale_of from i) refl (o.some i (row_in i i_row)) e (n.other e)
-          ∙ ap (λ u. frac z (size * u)) (sym (scale_kept i e))
+          z from.den w.swept.by out.den w.swept.some w.swept.den_some w.swept.den_is
+          (scale_of from i) refl (o.some i (row_in i i_row)) e (n.other e)
+          ∙ ap (λ u. frac z (out.den * u)) (sym (scale_kept i e))
 
     entries_there : (i j : ℕ) → i < rows → first ≤ j → j < columns → swept t (ps ++ p ∷ []) i j ≡ frac (number out i j) (den_of out i)
     entries_there i j i_row l m =
         ap (λ (u : Table). u i j) (swept-more t ps p)
-        ∙ new_entry i j i_row (omega arith) m (w.numbers.numbers i j (row_in i i_row) l (let q = column_in j m in omega arith)) (cases_eq i p)
-        ∙ (λ k. frac (whole_cell (sym told_there k) out.numbers.items i j) (sym w.den k * scale_of out i))
+        ∙ new_entry i j i_row (omega arith) m (w.swept.rows.numbers i j (row_in i i_row) l (let q = column_in j m in omega arith)) (cases_eq i p)
+        ∙ (λ k. frac (whole_cell (sym told_there k) out.numbers.items i j) (out.den * scale_of out i))
 
     -- the last sweep, and those before it
     split : (k : ℕ) → k < length (ps ++ p ∷ []) → (k < length ps) ⊎ (k ≡ length ps)

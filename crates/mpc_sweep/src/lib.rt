@@ -2,6 +2,7 @@
 //! sweep leaves serves every system that has its rows and more.
 #![tactic(auto)]
 
+mod divisor;
 mod numbers;
 mod reading;
 mod rows;

@@ -73,7 +73,7 @@ impl Swept {
     }
 
     /// Sweeps the table at one more row, p, which lies behind those before, into the room of another one, in
-    /// the columns from `first` on. It is `false` where a number of it isn't small, or where p or `first` is a
+    /// the columns from `first` on. It is `false` where a number of it isn't small in lowest terms either, or where p or `first` is a
     /// column that isn't told; the room holds no table then, as where memory is refused.
     pub fn sweep(&self, out: &mut Swept, p: usize, first: usize) -> Result<bool, NoMemory>
         requires table { IsTable self.now }

@@ -1,12 +1,13 @@
 //! One sweep, row by row.
 
-ghost use Rattle.std.specs.Prelude.{◌≡◌, ◌≢◌, ℕ, ◌+◌, ◌-◌, ◌*◌, ◌<◌, ◌≤◌, ◌^◌, ◌++◌, ◌∷◌, [], List, ℤ, IfOk, OnOk, IsTrue, length, get_or, set, pos, ◌+ℤ◌, ◌*ℤ◌, neg_ℤ, unsigned_abs};
+ghost use Rattle.std.specs.Prelude.{◌≡◌, ◌≢◌, ℕ, ◌+◌, ◌-◌, ◌*◌, ◌<◌, ◌≤◌, ◌^◌, ◌++◌, ◌∷◌, [], List, ℤ, IfOk, IfSome, OnOk, IsTrue, length, get_or, set, pos, ◌+ℤ◌, ◌*ℤ◌, neg_ℤ, unsigned_abs};
 ghost use Rattle.mpc_linear.specs.Elimination.{Table};
 ghost use Rattle.mpc_whole.specs.Whole.{whole_at, IsSmall, turned};
 ghost use Rattle.mpc_sweep.specs.Numbers.{IsSwept, IsTable, number, told_columns};
-ghost use Rattle.mpc_sweep.specs.Steps.{IsNumber, IsChanged, AreWritten, AreRows};
+ghost use Rattle.mpc_sweep.specs.Steps.{IsNumber, IsOwn, IsChanged, AreWritten, AreRows, AreSweptRows};
 
 use crate::Swept;
+use crate::divisor::shared_divisor;
 use mpc_frac::NoMemory;
 use mpc_whole::{Divisor, changed, over_theorems, turned};
 use std::alloc::AllocError;
@@ -14,16 +15,50 @@ use std::alloc::AllocError;
 /// The greatest size of a number.
 const MOST: u64 = 1 << 62;
 
-/// Writes the numbers of the row of the sweep, from the column `first` on: they lie over the size of the
-/// pivot, with its sign.
-fn write_pivot_row(out: &mut [i64], top: &[i64], pivot: i64, first: usize)
-    requires size { length out.old ≡ length top.now }
-    requires small { IsSmall (2 ^ 62) top.now }
-    ensures { AreWritten first (length top.now) (λ j z. z ≡ turned pivot (whole_at top.now j)) out.old out.new }
+/// One sweep: its row, the denominator before it, and what is taken out of the numbers after it.
+#[derive(Clone, Copy, Drop)]
+struct Step {
+    p: usize,
+    den: u64,
+    by: Divisor,
+}
+
+/// The number of the row of the sweep by that of before, with the pivot's sign: it lies over the size of the
+/// pivot. It is taken to the new denominator, if it is whole and small there.
+#[inline]
+fn pivot_number(x: i64, den: u64, by: Divisor) -> Option<i64>
+    requires x_small { unsigned_abs x ≤ 2 ^ 62 }
+    requires den_small { den ≤ 2 ^ 62 }
+    requires by_some { 0 < by.den }
+    requires by_small { by.den ≤ 2 ^ 62 }
+    ensures value { IfSome result (λ z. z *ℤ pos by.den ≡ x *ℤ pos den) }
+    ensures small { IfSome result (λ z. unsigned_abs z ≤ 2 ^ 62) }
 {
-    for j in first..top.len() {
-        out[j] = turned(pivot, top[j]);
+    if by.den == den {
+        return Some(x);
     }
+    changed(x, 0, 0, den, by, MOST)
+}
+
+/// Writes the numbers of the row of the sweep, from the column `first` on, or some of them where one isn't small.
+fn write_pivot_row(out: &mut [i64], top: &[i64], step: Step, first: usize) -> bool
+    requires size { length out.old ≡ length top.now }
+    requires column { step.p < length top.now }
+    requires small { IsSmall (2 ^ 62) top.now }
+    requires den_small { step.den ≤ 2 ^ 62 }
+    requires by_some { 0 < step.by.den }
+    requires by_small { step.by.den ≤ 2 ^ 62 }
+    ensures { IsTrue result → AreWritten first (length top.now) (IsOwn step.den step.by.den top.now step.p) out.old out.new }
+{
+    let pivot = top[step.p];
+    for j in first..top.len() {
+        let x = turned(pivot, top[j]);
+        let Some(z) = pivot_number(x, step.den, step.by) else {
+            return false;
+        };
+        out[j] = z;
+    }
+    true
 }
 
 /// Writes the numbers of a row that stays as it is, from the column `first` on.
@@ -51,8 +86,8 @@ fn write_changed_row(
     requires column { p < length row.now }
     requires small { IsSmall (2 ^ 62) row.now }
     requires top_small { IsSmall (2 ^ 62) top.now }
-    requires den_some { 0 < by.den }
-    requires den_small { by.den ≤ 2 ^ 62 }
+    requires by_some { 0 < by.den }
+    requires by_small { by.den ≤ 2 ^ 62 }
     ensures { IsTrue result → AreWritten first (length row.now) (IsChanged by.den row.now top.now p) out.old out.new }
 {
     let pivot = top[p];
@@ -68,49 +103,56 @@ fn write_changed_row(
 }
 
 /// Writes row i, from the column `first` on, or some of its numbers where one isn't small. Where it has
-/// nothing in the column of the sweep, and the denominator stays, so does the row.
+/// nothing in the column of the sweep, and the pivot is what is taken out, it stays as it is.
 fn write_row(
     out: &mut [i64],
     table: &[i64],
     width: usize,
-    by: Divisor,
-    p: usize,
+    step: Step,
     first: usize,
     i: usize,
 ) -> bool
     requires inside { i * width + length out.old ≤ length table.now }
-    requires pivot_inside { p * width + length out.old ≤ length table.now }
-    requires column { p < length out.old }
+    requires pivot_inside { step.p * width + length out.old ≤ length table.now }
+    requires column { step.p < length out.old }
     requires small { IsSmall (2 ^ 62) table.now }
-    requires den_some { 0 < by.den }
-    requires den_small { by.den ≤ 2 ^ 62 }
-    ensures { IsTrue result → AreWritten first (length out.old) (IsNumber width by.den table.now p i) out.old out.new }
+    requires den_small { step.den ≤ 2 ^ 62 }
+    requires by_some { 0 < step.by.den }
+    requires by_small { step.by.den ≤ 2 ^ 62 }
+    ensures { IsTrue result → AreWritten first (length out.old) (IsNumber width step.den step.by.den table.now step.p i) out.old out.new }
 {
     let columns = out.len();
+    let p = step.p;
     let top = &table[p * width..p * width + columns];
     if i == p {
-        write_pivot_row(out, top, top[p], first);
-        return true;
+        return write_pivot_row(out, top, step, first);
     }
     let row = &table[i * width..i * width + columns];
-    if row[p] == 0 && top[p].unsigned_abs() == by.den {
+    if row[p] == 0 && top[p].unsigned_abs() == step.by.den {
         write_same_row(out, row, first);
         return true;
     }
-    write_changed_row(out, row, top, by, p, first)
+    write_changed_row(out, row, top, step.by, p, first)
 }
 
 /// Writes all rows, in the columns from `first` on, behind a zero for each column before; or some of them
-/// where a number isn't small.
-fn write_rows(numbers: &mut [i64], from: &Swept, p: usize, first: usize) -> bool
+/// where a number isn't small once so much is taken out.
+fn write_rows(numbers: &mut [i64], from: &Swept, p: usize, first: usize, taken: u64) -> bool
     requires table { IsTable from.now }
     requires row { p < from.now.rows }
     requires column { p < from.now.columns }
     requires first { first ≤ from.now.columns }
     requires size { length numbers.old ≡ first + from.now.rows * (from.now.columns - first) }
-    ensures { IsTrue result → AreRows (told_columns from.now) from.now.den from.now.numbers.items p first (from.now.columns - first) from.now.rows numbers.new }
+    requires taken_some { 0 < taken }
+    requires taken_small { taken ≤ 2 ^ 62 }
+    ensures { IsTrue result → AreRows (told_columns from.now) from.now.den taken from.now.numbers.items p first (from.now.columns - first) from.now.rows numbers.new }
 {
-    let by = Divisor::of(from.den);
+    let by = Divisor::of(taken);
+    let step = Step {
+        p,
+        den: from.den,
+        by,
+    };
     let table = from.numbers.as_slice();
     let columns = from.columns;
     let width = columns - from.first;
@@ -118,11 +160,82 @@ fn write_rows(numbers: &mut [i64], from: &Swept, p: usize, first: usize) -> bool
     numbers[..first].fill(0);
     for i in 0..from.rows {
         let out = &mut numbers[i * told..i * told + columns];
-        if !write_row(out, table, width, by, p, first, i) {
+        if !write_row(out, table, width, step, first, i) {
             return false;
         }
     }
     true
+}
+
+/// The quotient, if it is whole and small.
+fn whole_quotient(over: u128, by: u64) -> Option<u64>
+    requires { 0 < by }
+    ensures { IfSome result (λ q. q * by ≡ over) }
+{
+    let quotient = over / by as u128;
+    if quotient > 1 << 62 {
+        return None;
+    }
+    let q = quotient as u64;
+    if q as u128 * by as u128 == over {
+        Some(q)
+    } else {
+        None
+    }
+}
+
+/// Writes all rows in lowest terms, and tells their denominator; or some of them where a number isn't small.
+fn write_reduced_rows(numbers: &mut [i64], from: &Swept, p: usize, first: usize) -> Option<u64>
+    requires table { IsTable from.now }
+    requires row { p < from.now.rows }
+    requires column { p < from.now.columns }
+    requires pivot { number from.now p p ≢ pos 0 }
+    requires told { from.now.first ≤ p }
+    requires first_told { from.now.first ≤ first }
+    requires first { first ≤ from.now.columns }
+    requires size { length numbers.old ≡ first + from.now.rows * (from.now.columns - first) }
+    ensures { IfSome result (λ den. AreSweptRows from.now p first den numbers.new) }
+{
+    let size = from.at(p, p).unsigned_abs();
+    let over = from.den as u128 * size as u128;
+    let shared = shared_divisor(from, p, first, over);
+    if shared == 0 || shared > 1 << 62 {
+        return None;
+    }
+    let taken = shared as u64;
+    let Some(den) = whole_quotient(over, taken) else {
+        return None;
+    };
+    if den as u128 * from.most_scale as u128 > 1 << 62 {
+        return None;
+    }
+    if !write_rows(numbers, from, p, first, taken) {
+        return None;
+    }
+    Some(den)
+}
+
+/// Writes all rows, and tells their denominator: the size of the pivot where the numbers over it are small,
+/// and else the least one.
+fn write_swept_rows(numbers: &mut [i64], from: &Swept, p: usize, first: usize) -> Option<u64>
+    requires table { IsTable from.now }
+    requires row { p < from.now.rows }
+    requires column { p < from.now.columns }
+    requires pivot { number from.now p p ≢ pos 0 }
+    requires told { from.now.first ≤ p }
+    requires first_told { from.now.first ≤ first }
+    requires first { first ≤ from.now.columns }
+    requires size { length numbers.old ≡ first + from.now.rows * (from.now.columns - first) }
+    ensures { IfSome result (λ den. AreSweptRows from.now p first den numbers.new) }
+{
+    let size = from.at(p, p).unsigned_abs();
+    if size as u128 * from.most_scale as u128 > 1 << 62 {
+        return write_reduced_rows(numbers, from, p, first);
+    }
+    if !write_rows(numbers, from, p, first, from.den) {
+        return write_reduced_rows(numbers, from, p, first);
+    }
+    Some(size)
 }
 
 /// Puts the scales of the rows into the list; that of the row of the sweep is 1 now.
@@ -151,18 +264,16 @@ pub fn sweep_rows(from: &Swept, out: &mut Swept, p: usize, first: usize) -> Resu
     if p < from.first || first < from.first {
         return Ok(false);
     }
-    let size = from.at(p, p).unsigned_abs();
-    if size as u128 * from.most_scale as u128 > 1 << 62 {
-        return Ok(false);
-    }
     put_scales(&mut out.scales, &from.scales, p)?;
     let count = first + from.rows * (from.columns - first);
     out.numbers.resize(count, 0)?;
-    let done = write_rows(out.numbers.as_mut_slice(), from, p, first);
+    let Some(den) = write_swept_rows(out.numbers.as_mut_slice(), from, p, first) else {
+        return Ok(false);
+    };
     out.rows = from.rows;
     out.columns = from.columns;
     out.first = first;
-    out.den = size;
+    out.den = den;
     out.most_scale = from.most_scale;
-    Ok(done)
+    Ok(true)
 }

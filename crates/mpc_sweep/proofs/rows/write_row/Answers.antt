@@ -1,7 +1,7 @@
 use Rattle.std.proofs.Common.{ℕ, ◌+◌, ◌*◌, ◌≤◌, List, ℤ, length, unsigned_abs, to_z, sym, ◌∙◌, ap, arith}
 use Rattle.std.specs.Int.{w64}
 use Rattle.std.specs.List.{between}
-use Rattle.mpc_sweep.specs.Steps.{IsNumber, IsChanged}
+use Rattle.mpc_sweep.specs.Steps.{IsNumber, IsOwn, IsChanged}
 use Rattle.mpc_sweep.proofs.OneNumber.{written_as, row_size, row_small, read_at, own_number, same_number, other_number}
 use Rattle.mpc_sweep.proofs.rows.write_row.Goals as goal
 
@@ -14,40 +14,44 @@ write_same_row-requires-clause-small c = row_small c.args.table.now (c.args.i * 
 pub write_changed_row-requires-clause-small : goal.write_changed_row-requires-clause-small
 write_changed_row-requires-clause-small c = row_small c.args.table.now (c.args.i * c.args.width) (length c.args.out.now) c.requires.inside c.requires.small
 
+pub write_pivot_row-requires-clause-small : goal.write_pivot_row-requires-clause-small
+write_pivot_row-requires-clause-small c = row_small c.args.table.now (c.args.step.p * c.args.width) (length c.args.out.now) c.requires.pivot_inside c.requires.small
+
 pub write_changed_row-requires-clause-top_small : goal.write_changed_row-requires-clause-top_small
-write_changed_row-requires-clause-top_small c = row_small c.args.table.now (c.args.p * c.args.width) (length c.args.out.now) c.requires.pivot_inside c.requires.small
+write_changed_row-requires-clause-top_small c = row_small c.args.table.now (c.args.step.p * c.args.width) (length c.args.out.now) c.requires.pivot_inside c.requires.small
 
 pub returns-then-i-p : goal.returns-then-i-p
-returns-then-i-p c = λ _.
+returns-then-i-p c = λ t.
     let v = c.args.table.now in
     let w = c.args.width in
-    let p = c.args.p in
+    let p = c.args.step.p in
     let n = length c.args.out.now in
-    written_as c.args.first n (length (between (p * w) (p * w + n) v)) _ (IsNumber w c.args.by.den v p c.args.i) c.args.out.now c.write_pivot_row.new.out (long v (p * w) n c.requires.pivot_inside)
-    (λ j z m e. own_number w c.args.by.den v p n c.requires.column c.args.i j _ z c.if-i-p.true m (read_at (between (p * w) (p * w + n) v) (row_small v (p * w) n c.requires.pivot_inside c.requires.small) p) e)
-    c.write_pivot_row.ensures
+    written_as c.args.first n (length (between (p * w) (p * w + n) v)) (IsOwn c.args.step.den c.args.step.by.den (between (p * w) (p * w + n) v) p) (IsNumber w c.args.step.den c.args.step.by.den v p c.args.i)
+    c.args.out.now c.write_pivot_row.new.out (long v (p * w) n c.requires.pivot_inside)
+    (λ j z m e. own_number w c.args.step.den c.args.step.by.den v p n c.requires.column c.args.i j z c.if-i-p.true m e)
+    (c.write_pivot_row.ensures t)
 
-pub returns-then-unsigned_abs-by : goal.returns-then-unsigned_abs-by
-returns-then-unsigned_abs-by c = λ _.
+pub returns-then-unsigned_abs-step : goal.returns-then-unsigned_abs-step
+returns-then-unsigned_abs-step c = λ _.
     let v = c.args.table.now in
     let w = c.args.width in
-    let p = c.args.p in
+    let p = c.args.step.p in
     let i = c.args.i in
     let n = length c.args.out.now in
-    written_as c.args.first n (length (between (i * w) (i * w + n) v)) _ (IsNumber w c.args.by.den v p i) c.args.out.now c.write_same_row.new.out (long v (i * w) n c.requires.inside)
-    (λ j z m e. same_number w c.args.by.den v p n c.requires.column i c.if-i-p.false j z m
+    written_as c.args.first n (length (between (i * w) (i * w + n) v)) _ (IsNumber w c.args.step.den c.args.step.by.den v p i) c.args.out.now c.write_same_row.new.out (long v (i * w) n c.requires.inside)
+    (λ j z m e. same_number w c.args.step.den c.args.step.by.den v p n c.requires.column i c.if-i-p.false j z m
     (sym (read_at (between (i * w) (i * w + n) v) (row_small v (i * w) n c.requires.inside c.requires.small) p) ∙ ap (to_z w64) c.if-row-p-eq0.true)
-    (ap unsigned_abs (sym (read_at (between (p * w) (p * w + n) v) (row_small v (p * w) n c.requires.pivot_inside c.requires.small) p)) ∙ sym c.unsigned_abs.ensures.value ∙ c.if-unsigned_abs-by.true) e)
+    (ap unsigned_abs (sym (read_at (between (p * w) (p * w + n) v) (row_small v (p * w) n c.requires.pivot_inside c.requires.small) p)) ∙ sym c.unsigned_abs.ensures.value ∙ c.if-unsigned_abs-step.true) e)
     c.write_same_row.ensures
 
 pub returns : goal.returns
 returns c = λ t.
     let v = c.args.table.now in
     let w = c.args.width in
-    let p = c.args.p in
+    let p = c.args.step.p in
     let i = c.args.i in
     let n = length c.args.out.now in
-    written_as c.args.first n (length (between (i * w) (i * w + n) v)) (IsChanged c.args.by.den (between (i * w) (i * w + n) v) (between (p * w) (p * w + n) v) p) (IsNumber w c.args.by.den v p i)
+    written_as c.args.first n (length (between (i * w) (i * w + n) v)) (IsChanged c.args.step.by.den (between (i * w) (i * w + n) v) (between (p * w) (p * w + n) v) p) (IsNumber w c.args.step.den c.args.step.by.den v p i)
     c.args.out.now c.write_changed_row.new.out (long v (i * w) n c.requires.inside)
-    (λ j z m e. other_number w c.args.by.den v p n c.requires.column i c.if-i-p.false j z m e)
+    (λ j z m e. other_number w c.args.step.den c.args.step.by.den v p n c.requires.column i c.if-i-p.false j z m e)
     (c.write_changed_row.ensures t)

@@ -1,0 +1,16 @@
+use Rattle.std.proofs.Common.{◌≡◌, ◌≤◌, ◌<◌, ◌*◌, ◌^◌, ◌+◌, unsigned_abs, sym, ◌∙◌, ap, subst, arith}
+use Rattle.mpc_sweep.specs.Numbers.{number, told_columns}
+use Rattle.mpc_sweep.proofs.OneNumber.{read_small}
+use Rattle.mpc_sweep.proofs.SweptEntry.{abs_some}
+use Rattle.mpc_sweep.proofs.Denominators.{rows_over_pivot}
+use Rattle.mpc_sweep.proofs.rows.write_swept_rows.Goals as goal
+
+pub returns : goal.returns
+returns c =
+    let s = c.args.from.now in
+    let p = c.args.p in
+    let small : unsigned_abs c.at.result ≤ 2 ^ 62 = subst (λ z. unsigned_abs z ≤ 2 ^ 62) (sym c.at.ensures) (c.requires.table.small.each (p * told_columns s + p)) in
+    let size : c.unsigned_abs-size.result ≡ unsigned_abs (number s p p) = c.unsigned_abs-size.ensures.value ∙ ap unsigned_abs (read_small c.at.result small ∙ c.at.ensures) in
+    let some : 0 < c.unsigned_abs-size.result = subst (λ u. 0 < u) (sym size) (abs_some (number s p p) c.requires.pivot) in
+    rows_over_pivot s p c.args.first c.unsigned_abs-size.result c.write_rows.new.numbers size some c.requires.table.some_den
+    (let h = c.if-size-from.false in omega arith) (c.write_rows.ensures c.if-not-write_rows.false)
