@@ -142,9 +142,3 @@ err_memory (Err s) P Q h = stop_memory s Q h
 pub err_same : {T : Type 0} (r : Result T Stop) (e : Stop) (P Q : Type 0) → IsErrAnd r (λ s. s ≡ e) → IfStopWide e Q → MatchResult r (λ _. P) (λ s. IfStopWide s Q)
 err_same (Ok v) e P Q h q = absurd h
 err_same (Err s) e P Q h q = subst (λ z. IfStopWide z Q) (sym h) q
-
-pub turn_as : (qp : Qp) (b : List ℚ) (p : Position) (d x e y : List ℚ) (turn : Turn) → d ≡ x → e ≡ y → IsTurn qp b p d e turn → IsTurn qp b p x y turn
-turn_as qp b p d x e y turn f g h = subst (λ u. IsTurn qp b p u y turn) f (subst (λ v. IsTurn qp b p d v turn) g h)
-
-pub lengths_as : (qp : Qp) (b : List ℚ) (p : Position) (d x e y : List ℚ) → d ≡ x → e ≡ y → LengthsFit qp b p d e → LengthsFit qp b p x y
-lengths_as qp b p d x e y f g h = subst (λ u. LengthsFit qp b p u y) f (subst (λ v. LengthsFit qp b p d v) g h)

@@ -28,3 +28,4 @@ pub mod RunEnds
 pub mod Found
 pub mod MultiplierLists
 pub mod Turned
+pub mod Keeping

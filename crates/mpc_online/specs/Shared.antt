@@ -1,9 +1,15 @@
 -- What the equations of all active sets of a program have in common.
-use Rattle.std.specs.Prelude.{◌≡◌, ℕ, ◌+◌, ◌-◌, ◌<◌, nat_lt, cond, List, length, get_or, pos, IfSome}
+use Rattle.std.specs.Prelude.{◌≡◌, ℕ, ◌+◌, ◌-◌, ◌<◌, nat_lt, cond, List, length, get_or, slice_get, pos, All, Some, IfSome, MatchOption}
 use Rattle.mpc_exact.specs.Rational.{ℚ, int, neg_ℚ}
 use Rattle.mpc_space.specs.Matrix.{RationalMatrix, height, tabled, entry}
 use Rattle.mpc_rows.specs.declared.programs.Qp.{Qp}
 use Rattle.mpc_bordered.specs.declared.kept.Kept.{Kept}
+use Rattle.mpc_linear.specs.Solution.{IsOnlySolution}
+use Rattle.mpc_rows.specs.SetRuns.{law_matrix}
+use Rattle.mpc_online.specs.Positions.{right_matrix, step_side, upper_part, lower_part}
+use Rattle.mpc_online.specs.Widths.{EliminationFits}
+use Rattle.mpc_online.specs.declared.prepared.Direction.{Direction}
+use Rattle.mpc_online.specs.declared.prepared.KeptDirection.{KeptDirection}
 use Rattle.mpc_online.specs.declared.prepared.Prepared.{Prepared}
 
 -- the rows [h, g', -g']
@@ -30,5 +36,25 @@ pub record IsKeptOf (qp : Qp) (k : Kept) : Type 0 where
   pub table : k.table ≡ shared_table qp
   pub front : k.front ≡ height qp.h
 
-abbrev pub IsPreparedFor : Qp → Prepared → Type 0
-IsPreparedFor qp p = IfSome p.kept (IsKeptOf qp)
+-- the direction with the members s towards row r: the parts of the one solution of its equations
+pub record IsDirectionOf (qp : Qp) (s : List ℕ) (r : ℕ) (d : Direction) : Type 0 where
+  pub solution : RationalMatrix
+  pub solves : IsOnlySolution (law_matrix qp s) (right_matrix qp s (step_side qp r)) solution
+  pub fits : EliminationFits (law_matrix qp s) (right_matrix qp s (step_side qp r))
+  pub point_is : d.point.items ≡ upper_part qp solution
+  pub multipliers_are : d.multipliers.items ≡ lower_part qp s solution
+
+-- a direction that is kept is that of its members and its row, and nothing is kept where a number on the way to it doesn't fit
+abbrev pub IsKeptDirection : Qp → KeptDirection → Type 0
+IsKeptDirection qp k = MatchOption k.direction (¬ EliminationFits (law_matrix qp k.set) (right_matrix qp k.set (step_side qp k.row))) (IsDirectionOf qp k.set k.row)
+
+-- what is kept in place k is for the members s and row r
+pub record IsKeptAt (s : List ℕ) (r : ℕ) (kept : List KeptDirection) (k : ℕ) : Type 0 where
+  pub there : KeptDirection
+  pub stands : slice_get kept k ≡ Some there
+  pub set_is : there.set ≡ s
+  pub row_is : there.row ≡ r
+
+pub record IsPreparedFor (qp : Qp) (p : Prepared) : Type 0 where
+  pub kept : IfSome p.kept (IsKeptOf qp)
+  pub directions : All (IsKeptDirection qp) p.directions.items

@@ -1,27 +1,32 @@
 //! The solution of the equations of a step.
 
-ghost use Rattle.std.specs.Prelude.{◌≡◌, ◌+◌, ◌≤◌, IfOk, IfSome, MatchResult, length};
+ghost use Rattle.std.specs.Prelude.{◌≡◌, ◌+◌, ◌≤◌, IfOk, All, IfErr, IfSome, IsTrue, MatchResult, length};
 ghost use Rattle.mpc_space.specs.Matrix.{height};
 ghost use Rattle.mpc_space.specs.Definite.{IsDefinite};
 ghost use Rattle.mpc_sets.specs.RowSet.{IsSetOfRows};
 ghost use Rattle.mpc_linear.specs.Solution.{IsOnlySolution};
 ghost use Rattle.mpc_rows.specs.ActiveSets.{IsIndependentSet};
 ghost use Rattle.mpc_rows.specs.SetRuns.{law_matrix};
+ghost use Rattle.mpc_rows.specs.declared.programs.Qp.{Qp};
 ghost use Rattle.mpc_online.specs.Positions.{right_matrix, step_side};
 ghost use Rattle.mpc_online.specs.Widths.{EliminationFits};
 ghost use Rattle.mpc_online.specs.Answers.{IfStopWide};
-ghost use Rattle.mpc_online.specs.Shared.{AreMemberPlaces, IsKeptOf, IsPreparedFor};
+ghost use Rattle.mpc_online.specs.declared.solutions.Stop.TheVariants.{NoMemory as no_memory};
+ghost use Rattle.mpc_online.specs.Shared.{AreMemberPlaces, IsKeptOf, IsKeptDirection, IsKeptAt, IsPreparedFor};
 
 use crate::matrices::step_right;
-use crate::prepared::Prepared;
+use crate::prepared::{Direction, KeptDirection, Prepared};
 use crate::shared::shared_table;
-use crate::solutions::{Stop, solution};
+use crate::solutions::{Stop, part, solution};
 use mpc_bordered::{Kept, keep, solve_part};
 use mpc_frac::NoMemory;
 use mpc_linear::{LinearError, Matrix, Solved};
 use mpc_rows::{Qp, law_theorems};
 use mpc_sets::ActiveSet;
-use std::alloc::{AllocError, Global};
+use std::alloc::{AllocError, AllocFailed, Global};
+
+/// So many directions are kept at most.
+const MOST_DIRECTIONS: usize = 1024;
 
 /// What all states of the program share.
 pub fn prepare(alloc: Global, qp: &Qp) -> Result<Prepared, NoMemory>
@@ -31,7 +36,10 @@ pub fn prepare(alloc: Global, qp: &Qp) -> Result<Prepared, NoMemory>
     let Ok(kept) = keep(alloc, table, qp.h.rows()) else {
         return Err(NoMemory);
     };
-    Ok(Prepared { kept })
+    Ok(Prepared {
+        kept,
+        directions: Vec::new(alloc),
+    })
 }
 
 /// Where the members stand among the rows and the columns of the shared table, for so many unknowns.
@@ -79,15 +87,15 @@ fn kept_solution(
 }
 
 /// The one solution of the equations of a step towards the row: by what is kept, and where that isn't enough by an elimination of its own.
-pub fn step_solution(
+fn step_solution(
     alloc: Global,
     qp: &Qp,
-    prepared: &Prepared,
+    shared: &Option<Kept>,
     set: ActiveSet,
     row: u32,
 ) -> Result<Matrix, Stop>
     requires definite { IsDefinite qp.now.h.rows }
-    requires prepared { IsPreparedFor qp.now prepared.now }
+    requires kept { IfSome shared.now (IsKeptOf qp.now) }
     requires set_of_rows { IsSetOfRows (height qp.now.g) set }
     requires independent { IsIndependentSet qp.now set }
     requires from_one { 1 ≤ row }
@@ -96,11 +104,125 @@ pub fn step_solution(
     ensures wide { MatchResult result (λ _. EliminationFits (law_matrix qp.now set) (right_matrix qp.now set (step_side qp.now row)))
         (λ e. IfStopWide e (¬ EliminationFits (law_matrix qp.now set) (right_matrix qp.now set (step_side qp.now row)))) }
 {
-    if let Some(kept) = &prepared.kept {
+    if let Some(kept) = shared {
         if let Some(x) = kept_solution(alloc, qp, kept, set, row)? {
             return Ok(x);
         }
     }
     let right = step_right(alloc, qp, set, row)?;
     solution(alloc, qp, set, &right)
+}
+
+/// The direction of a step towards the row.
+fn found_direction(
+    alloc: Global,
+    qp: &Qp,
+    shared: &Option<Kept>,
+    set: ActiveSet,
+    row: u32,
+) -> Result<KeptDirection, Stop>
+    requires definite { IsDefinite qp.now.h.rows }
+    requires kept { IfSome shared.now (IsKeptOf qp.now) }
+    requires set_of_rows { IsSetOfRows (height qp.now.g) set }
+    requires independent { IsIndependentSet qp.now set }
+    requires from_one { 1 ≤ row }
+    requires to_last { row ≤ height qp.now.g }
+    ensures direction { IfOk result (IsKeptDirection qp.now) }
+    ensures set { IfOk result (λ k. k.set ≡ set) }
+    ensures row { IfOk result (λ k. k.row ≡ row) }
+    ensures memory { IfErr result (λ e. e ≡ no_memory) }
+{
+    let x = match step_solution(alloc, qp, shared, set, row) {
+        Ok(x) => x,
+        Err(Stop::Wide) => {
+            return Ok(KeptDirection {
+                set,
+                row,
+                direction: None,
+            });
+        }
+        Err(Stop::NoMemory) => return Err(Stop::NoMemory),
+    };
+    let point = part(alloc, &x, 0, qp.h.rows())?;
+    let multipliers = part(alloc, &x, qp.h.rows(), set.size())?;
+    Ok(KeptDirection {
+        set,
+        row,
+        direction: Some(Direction { point, multipliers }),
+    })
+}
+
+/// Where a direction of this set and this row stands, or would stand, among those in their order.
+fn place_among(directions: &[KeptDirection], mask: u64, row: u32) -> usize
+    ensures { result ≤ length directions.now }
+{
+    let mut from = 0;
+    let mut to = directions.len();
+    while from < to {
+        let middle = from + (to - from) / 2;
+        let other = &directions[middle];
+        if other.row < row || other.row == row && other.set.mask() < mask {
+            from = middle + 1;
+        } else {
+            to = middle;
+        }
+    }
+    from
+}
+
+/// Whether the direction of this set and this row stands in this place.
+fn stands_at(directions: &[KeptDirection], place: usize, set: ActiveSet, row: u32) -> bool
+    ensures { IsTrue result → IsKeptAt set row directions.now place }
+{
+    let Some(there) = directions.get(place) else {
+        return false;
+    };
+    there.set == set && there.row == row
+}
+
+/// Keeps a direction in this place, or alone where there are too many; where it stands then.
+fn keep_direction(
+    directions: &mut Vec<KeptDirection>,
+    place: usize,
+    found: KeptDirection,
+) -> Result<usize, AllocFailed<KeptDirection>>
+    requires { place ≤ length directions.old.items }
+    ensures kept { (qp : Qp) → All (IsKeptDirection qp) directions.old.items → IsKeptDirection qp found → All (IsKeptDirection qp) directions.new.items }
+    ensures place { IfOk result (IsKeptAt found.set found.row directions.new.items) }
+{
+    if directions.len() < MOST_DIRECTIONS {
+        directions.insert(place, found)?;
+        return Ok(place);
+    }
+    directions.clear();
+    directions.insert(0, found)?;
+    Ok(0)
+}
+
+/// The place in which the direction of a step towards the row is kept: where it wasn't yet, it is found first. Beyond a number of
+/// directions those of before are given up.
+pub fn direction_place(
+    alloc: Global,
+    qp: &Qp,
+    prepared: &mut Prepared,
+    set: ActiveSet,
+    row: u32,
+) -> Result<usize, Stop>
+    requires definite { IsDefinite qp.now.h.rows }
+    requires prepared { IsPreparedFor qp.now prepared.old }
+    requires set_of_rows { IsSetOfRows (height qp.now.g) set }
+    requires independent { IsIndependentSet qp.now set }
+    requires from_one { 1 ≤ row }
+    requires to_last { row ≤ height qp.now.g }
+    ensures prepared { IsPreparedFor qp.now prepared.new }
+    ensures place { IfOk result (IsKeptAt set row prepared.new.directions.items) }
+    ensures memory { IfErr result (λ e. e ≡ no_memory) }
+{
+    let place = place_among(&prepared.directions, set.mask(), row);
+    if stands_at(&prepared.directions, place, set, row) {
+        return Ok(place);
+    }
+    let found = found_direction(alloc, qp, &prepared.kept, set, row)?;
+    let there = keep_direction(&mut prepared.directions, place, found)?;
+    Ok(there)
 }

@@ -62,13 +62,16 @@ pub enum OnlineError {
 pub fn solve_prepared(
     alloc: Global,
     qp: &Qp,
-    prepared: &Prepared,
+    prepared: &mut Prepared,
     counts: &[u64],
 ) -> Result<Online, OnlineError>
     requires definite { IsDefinite qp.now.h.rows }
     requires symmetric { IsSymmetric qp.now.h.rows }
-    requires prepared { IsPreparedFor qp.now prepared.now }
+    requires prepared { IsPreparedFor qp.now prepared.old }
     requires in_box { IsInBox qp.now.counts (point_of counts.now) }
+
+    // What is shared stays that of the program, whatever is found.
+    ensures prepared { IsPreparedFor qp.now prepared.new }
 
     // The choice is admissible, and every other admissible choice costs more.
     ensures best { IfOk result (λ o. IfBest o (IsCheapest qp.now (point_of counts.now))) }
@@ -110,6 +113,9 @@ pub fn solve_at(alloc: Global, qp: &Qp, counts: &[u64]) -> Result<Online, Online
     ensures end { IfOk result (λ o. IsRunEnd qp.now (point_of counts.now) (answered o)) }
     ensures wide { MatchResult result (λ _. ⊤) (λ e. IfWide e (λ step. IsRunEnd qp.now (point_of counts.now) (wide_in step))) }
 {
-    let nothing = Prepared { kept: None };
-    solve_prepared(alloc, qp, &nothing, counts)
+    let mut nothing = Prepared {
+        kept: None,
+        directions: Vec::new(alloc),
+    };
+    solve_prepared(alloc, qp, &mut nothing, counts)
 }

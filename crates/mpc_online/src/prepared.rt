@@ -1,9 +1,29 @@
 //! What all states of a program share.
 
 use mpc_bordered::Kept;
+use mpc_frac::Frac;
+use mpc_sets::ActiveSet;
 
-/// What the runs at all states of a program share: the elimination of its Hessian in the equations of all steps, where it is kept.
+/// The direction of a step: how the point moves, and how the multipliers of the members do.
+#[derive(Drop)]
+pub struct Direction {
+    pub point: Vec<Frac>,
+    pub multipliers: Vec<Frac>,
+}
+
+/// The direction with these members towards this row, which depends on no state; `None` where a number on the way to it needs more than
+/// 128 bits.
+#[derive(Drop)]
+pub struct KeptDirection {
+    pub set: ActiveSet,
+    pub row: u32,
+    pub direction: Option<Direction>,
+}
+
+/// What the runs at all states of a program share: the elimination of its Hessian in the equations of all steps, where it is kept, and the
+/// directions that were found, by rising rows and masks.
 #[derive(Drop)]
 pub struct Prepared {
     pub kept: Option<Kept>,
+    pub directions: Vec<KeptDirection>,
 }

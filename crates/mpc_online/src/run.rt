@@ -15,7 +15,7 @@ ghost use Rattle.mpc_online.specs.Answers.{IfWide, IfStopWide, position_of, step
 ghost use Rattle.mpc_rows.specs.ActiveSets.{IsInBox};
 
 use crate::counts::extended;
-use crate::directions::step_solution;
+use crate::directions::direction_place;
 use crate::matrices::opening_right;
 use crate::moves::{Iterate, dropped, moved, row_joined};
 use crate::prepared::Prepared;
@@ -128,36 +128,41 @@ fn take_turn(
 fn advance(
     alloc: Global,
     qp: &Qp,
-    prepared: &Prepared,
+    prepared: &mut Prepared,
     sides: &[Frac],
     it: Iterate,
 ) -> Result<Next, Stop>
     requires definite { IsDefinite qp.now.h.rows }
-    requires prepared { IsPreparedFor qp.now prepared.now }
+    requires prepared { IsPreparedFor qp.now prepared.old }
     requires position { IsPosition qp.now (position_of it) }
     requires sides { length sides.now ≡ height qp.now.g }
+    ensures prepared { IsPreparedFor qp.now prepared.new }
     ensures steps { IfOk result (λ next. IsStep qp.now sides.now (position_of it) (step_of next)) }
     ensures wide { MatchResult result (λ _. StepFits qp.now sides.now (position_of it))
         (λ stop. IfStopWide stop (¬ StepFits qp.now sides.now (position_of it))) }
 {
-    let x = step_solution(alloc, qp, prepared, it.set, it.row)?;
-    let d = part(alloc, &x, 0, qp.h.rows())?;
-    let e = part(alloc, &x, qp.h.rows(), it.set.size())?;
-    let turn = turn_of(qp, sides, &it, &d, &e)?;
-    take_turn(alloc, qp, sides, it, &d, &e, turn)
+    let place = direction_place(alloc, qp, prepared, it.set, it.row)?;
+    let Some(direction) = &prepared.directions[place].direction else {
+        return Err(Stop::Wide);
+    };
+    let d = direction.point.as_slice();
+    let e = direction.multipliers.as_slice();
+    let turn = turn_of(qp, sides, &it, d, e)?;
+    take_turn(alloc, qp, sides, it, d, e, turn)
 }
 
 /// The run from step 0 to its end.
 pub fn answer(
     alloc: Global,
     qp: &Qp,
-    prepared: &Prepared,
+    prepared: &mut Prepared,
     counts: &[u64],
 ) -> Result<Online, OnlineError>
     requires definite { IsDefinite qp.now.h.rows }
     requires symmetric { IsSymmetric qp.now.h.rows }
-    requires prepared { IsPreparedFor qp.now prepared.now }
+    requires prepared { IsPreparedFor qp.now prepared.old }
     requires in_box { IsInBox qp.now.counts (point_of counts.now) }
+    ensures prepared { IsPreparedFor qp.now prepared.new }
     ensures answer { IfOk result (λ o. IsAnswer qp.now (point_of counts.now) o) }
     ensures end { IfOk result (λ o. IsRunEnd qp.now (point_of counts.now) (answered o)) }
     ensures wide { MatchResult result (λ _. ⊤) (λ e. IfWide e (λ step. IsRunEnd qp.now (point_of counts.now) (wide_in step))) }

@@ -78,17 +78,18 @@ fn find_outside(limits: &[u64], counts: &[u64]) -> Option<u32>
 fn add_state_line(
     alloc: Global,
     program: &Qp,
-    prepared: &Prepared,
+    prepared: &mut Prepared,
     inputs: usize,
     counts: &[u64],
     text: &mut Vec<u8>,
 ) -> Result<(), NoMemory>
     requires definite { IsDefinite program.now.h.rows }
     requires symmetric { IsSymmetric program.now.h.rows }
-    requires prepared { IsPreparedFor program.now prepared.now }
+    requires prepared { IsPreparedFor program.now prepared.old }
     requires inputs { inputs ≤ height program.now.h }
     requires in_box { IsInBox program.now.counts (point_of counts.now) }
-    ensures { OnOk result (AddsStateLine (IsOf program.now inputs) program.now (point_of counts.now) text.old.items text.new.items) }
+    ensures prepared { IsPreparedFor program.now prepared.new }
+    ensures line { OnOk result (AddsStateLine (IsOf program.now inputs) program.now (point_of counts.now) text.old.items text.new.items) }
 {
     run_theorems();
     match solve_prepared(alloc, program, prepared, counts) {
@@ -106,7 +107,7 @@ fn add_state_line(
 fn add_line(
     alloc: Global,
     program: &Qp,
-    prepared: &Prepared,
+    prepared: &mut Prepared,
     inputs: usize,
     line: &[u8],
     counts: &mut Vec<u64>,
@@ -114,9 +115,10 @@ fn add_line(
 ) -> Result<(), NoMemory>
     requires definite { IsDefinite program.now.h.rows }
     requires symmetric { IsSymmetric program.now.h.rows }
-    requires prepared { IsPreparedFor program.now prepared.now }
+    requires prepared { IsPreparedFor program.now prepared.old }
     requires inputs { inputs ≤ height program.now.h }
-    ensures { OnOk result (AddsLine (IsOf program.now inputs) program.now (length program.now.counts) line.now text.old.items text.new.items) }
+    ensures prepared { IsPreparedFor program.now prepared.new }
+    ensures line { OnOk result (AddsLine (IsOf program.now inputs) program.now (length program.now.counts) line.now text.old.items text.new.items) }
 {
     if !read_counts(line, program.counts.len(), counts)? {
         return add_text(text, b"bad line\n");
@@ -141,7 +143,7 @@ pub(crate) fn state_lines(
     requires inputs { inputs ≤ height program.now.h }
     ensures { IfOk result (λ text. AreStateLines (IsOf program.now inputs) program.now (length program.now.counts) (lines input.now) text.items) }
 {
-    let prepared = prepare(alloc, program)?;
+    let mut prepared = prepare(alloc, program)?;
     let mut text = Vec::new(alloc);
     let mut counts = Vec::new(alloc);
     let mut rest = input;
@@ -149,7 +151,7 @@ pub(crate) fn state_lines(
         add_line(
             alloc,
             program,
-            &prepared,
+            &mut prepared,
             inputs,
             line,
             &mut counts,

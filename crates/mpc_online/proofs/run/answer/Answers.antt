@@ -82,6 +82,7 @@ steps-init c =
     record {
       travelled = open_travels c.args.qp.now (point_of c.args.counts.now) c.deref-2.result.now c.deref-3.result.now (c_is at) (sides_is at) c.requires.definite c.requires.symmetric (position_of c.in-Ok-Goes.it) opens;
       ahead = open_ahead c.args.qp.now (point_of c.args.counts.now) c.deref-2.result.now c.deref-3.result.now (c_is at) (sides_is at) (sides_fit at) c.in-Ok-Goes.ensures.wide (position_of c.in-Ok-Goes.it) opens;
+      prepared = c.requires.prepared;
     }
 
 -- ---- the steps
@@ -125,4 +126,5 @@ steps-preserved c =
     record {
       travelled = steps_travel c.args.qp.now (point_of c.args.counts.now) c.deref.result.now c.deref-in-steps.result.now (c_there at) (sides_there at) c.requires.definite c.requires.symmetric (position_of c.steps.it) c.steps.step c.steps.invariant.travelled (position_of c.in-Ok-Goes-advance.next) step;
       ahead = steps_ahead c.args.qp.now (point_of c.args.counts.now) c.deref.result.now c.deref-in-steps.result.now (c_there at) (sides_there at) c.steps.step (position_of c.steps.it) c.steps.invariant.ahead c.in-Ok-Goes-advance.ensures.wide (position_of c.in-Ok-Goes-advance.next) step;
+      prepared = c.in-Ok-Goes-advance.ensures.prepared;
     }

@@ -7,13 +7,18 @@ use Rattle.mpc_states.proofs.LineLemmas.{lines_more}
 use Rattle.mpc_states.proofs.lines.state_lines.Goals as goal
 
 pub loop-line-init : goal.loop-line-init
-loop-line-init c = λ more h. subst (λ t. AreStateLines (IsOf c.args.program.now c.args.inputs) c.args.program.now (length c.args.program.now.counts) (lines c.args.input.now) (t ++ more)) (sym c.new-text.ensures.items) h
+loop-line-init c = record {
+  text = λ more h. subst (λ t. AreStateLines (IsOf c.args.program.now c.args.inputs) c.args.program.now (length c.args.program.now.counts) (lines c.args.input.now) (t ++ more)) (sym c.new-text.ensures.items) h;
+  prepared = c.in_ok-prepared.ensures;
+}
 
 pub loop-line-preserved : goal.loop-line-preserved
-loop-line-preserved c =
-    lines_more (IsOf c.args.program.now c.args.inputs) c.args.program.now (length c.args.program.now.counts) (lines c.loop-line.rest.now) c.in-Some.line.now (lines c.in-Some.after.now) c.loop-line.text.items c.add_line.new.text.items (lines c.args.input.now) c.in-Some.ensures.lines
-    c.in_ok-add_line.ensures c.loop-line.invariant
+loop-line-preserved c = record {
+  text = lines_more (IsOf c.args.program.now c.args.inputs) c.args.program.now (length c.args.program.now.counts) (lines c.loop-line.rest.now) c.in-Some.line.now (lines c.in-Some.after.now) c.loop-line.text.items c.add_line.new.text.items (lines c.args.input.now) c.in-Some.ensures.lines
+    c.in_ok-add_line.ensures.line c.loop-line.invariant.text;
+  prepared = c.in_ok-add_line.ensures.prepared;
+}
 
 pub returns : goal.returns
 returns c = subst (AreStateLines (IsOf c.args.program.now c.args.inputs) c.args.program.now (length c.args.program.now.counts) (lines c.args.input.now)) (append-nil c.loop-line.text.items)
-    (c.loop-line.invariant [] (subst (λ ls. AreStateLines (IsOf c.args.program.now c.args.inputs) c.args.program.now (length c.args.program.now.counts) ls []) (sym c.in_default.ensures.lines) no_lines))
+    (c.loop-line.invariant.text [] (subst (λ ls. AreStateLines (IsOf c.args.program.now c.args.inputs) c.args.program.now (length c.args.program.now.counts) ls []) (sym c.in_default.ensures.lines) no_lines))

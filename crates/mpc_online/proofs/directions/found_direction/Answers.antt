@@ -1,0 +1,24 @@
+use Rattle.std.proofs.Common.{◌≡◌, ◌+◌, length, ◌∙◌, arith}
+use Rattle.mpc_space.specs.Matrix.{height}
+use Rattle.mpc_online.proofs.Solved.{matrix_columns}
+use Rattle.mpc_online.proofs.Advance.{upper_is, lower_is}
+use Rattle.mpc_online.proofs.directions.found_direction.Goals as goal
+
+pub part-requires-clause-rows : goal.part-requires-clause-rows
+part-requires-clause-rows c =
+    let h : height c.in-Ok.x ≡ height c.args.qp.now.h + length c.args.set = c.in-Ok.ensures.only.shape.rows_are ∙ matrix_columns c.args.qp.now c.args.set in
+    omega (arith, h, c.rows.ensures.value)
+
+pub part-requires-2-clause-rows : goal.part-requires-2-clause-rows
+part-requires-2-clause-rows c =
+    let h : height c.in-Ok.x ≡ height c.args.qp.now.h + length c.args.set = c.in-Ok.ensures.only.shape.rows_are ∙ matrix_columns c.args.qp.now c.args.set in
+    omega (arith, h, c.rows-2.ensures.value, c.size.ensures.value)
+
+pub returns-clause-direction : goal.returns-clause-direction
+returns-clause-direction c = record {
+  solution = c.in-Ok.x;
+  solves = c.in-Ok.ensures.only;
+  fits = c.in-Ok.ensures.wide;
+  point_is = upper_is c.args.qp.now c.in-Ok.x c.rows.result c.in_ok-point.point.items c.rows.ensures.value c.in_ok-point.ensures;
+  multipliers_are = lower_is c.args.qp.now c.args.set c.in-Ok.x c.rows-2.result c.size.result c.in_ok-multipliers.multipliers.items c.rows-2.ensures.value c.size.ensures.value c.in_ok-multipliers.ensures;
+}
