@@ -122,8 +122,12 @@ impl<'a> Outlook<'a> {
         })
     }
 
-    /// The place of the first set whose verdict is known, if there is one, and else none that a set has.
-    pub fn first_known(&self) -> usize {
+    /// The place of the first set, from this one on, whose verdict is known, if there is one, and else none that a
+    /// set has. Verdicts before it are let go: others have claimed their sets.
+    pub fn first_known(&mut self, from: usize) -> usize
+        ensures { self.new ≡ self.old }
+    {
+        forget_before(&mut self.known, from);
         first_place(&self.known)
     }
 

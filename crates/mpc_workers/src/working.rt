@@ -171,10 +171,15 @@ impl<'a> Worker<'a> {
         }
     }
 
-    /// The place of the first set whose verdict is known, if there is one, and else none that a set has.
-    fn first_known(&self) -> usize {
-        match &self.examiner {
-            Some(examiner) => examiner.first_known(),
+    /// The place of the first set, from this one on, whose verdict is known, if there is one, and else none that a
+    /// set has.
+    fn first_known(&mut self, _qp: &Qp, from: usize) -> usize
+        requires { IfSome self.old.examiner (λ q. q ≡ _qp.now) }
+        ensures program { self.new.program ≡ self.old.program }
+        ensures examiner { IfSome self.new.examiner (λ q. q ≡ _qp.now) }
+    {
+        match &mut self.examiner {
+            Some(examiner) => examiner.first_known(from),
             None => NOWHERE,
         }
     }
@@ -202,8 +207,12 @@ impl<'a> Worker<'a> {
     }
 
     /// Whether the set at this place is one to be claimed at once.
-    fn has_next(&self, next: usize) -> bool {
-        next < self.plain_until || self.first_known() == next
+    fn has_next(&mut self, qp: &Qp, next: usize) -> bool
+        requires { IfSome self.old.examiner (λ q. q ≡ qp.now) }
+        ensures program { self.new.program ≡ self.old.program }
+        ensures examiner { IfSome self.new.examiner (λ q. q ≡ qp.now) }
+    {
+        next < self.plain_until || self.first_known(qp, next) == next
     }
 
     /// Lets a moment pass, unless that was done too often since the worker came to a stretch of its own.
@@ -315,7 +324,7 @@ fn look_further<'a, T: Wait, G: Gate>(
     ensures working { post.new.saw_end ≡ false }
 {
     let parts = (pool.workers as usize).saturating_mul(PARTS);
-    let known = worker.first_known();
+    let known = worker.first_known(qp, turn.next_place() as usize);
     let most = worker.most_ahead();
     let ahead = turn.look_ahead_as(pool.rt, &mut post.pass, known, parts, most)?;
     if ahead.next == known || worker.claims_plainly(&ahead) {
@@ -348,7 +357,7 @@ fn step_ahead<'a, T: Wait, G: Gate>(
     ensures working { post.new.saw_end ≡ false }
 {
     let next = turn.next_place() as usize;
-    if worker.first_known() == next {
+    if worker.first_known(qp, next) == next {
         worker.patience = PATIENCE;
         return Ok(false);
     }
@@ -424,7 +433,7 @@ fn finish_set<'a, T: Wait, G: Gate>(
         }
     };
     pool.gate.between(ticket.worker(), ticket.set().mask());
-    if worker.has_next(next) && !pool.news.is_called_off() {
+    if worker.has_next(qp, next) && !pool.news.is_called_off() {
         let answer = turn.deliver_then_claim_as(pool.rt, &mut post.pass, ticket, judged);
         return taken(turn, qp, number, post, answer);
     }
