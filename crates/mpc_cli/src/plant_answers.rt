@@ -19,7 +19,7 @@ use mpc_claim::Registry;
 use mpc_file::{one_text, write_file};
 use mpc_frac::NoMemory;
 use mpc_plant::{Plant, PlantError, read_plant};
-use mpc_replies::{cut, replies, right_replies};
+use mpc_replies::{Sections, cut, replies, right_replies};
 use mpc_status::Status;
 use mpc_synthesis::{
     SynthesisError, controller_of_in_threads, decided, decided_in_threads, one_controller,
@@ -32,13 +32,18 @@ use std::alloc::Global;
 use std::sync::Wait;
 use std::thread::Threads;
 
-/// The file of the plant in the input of a command.
-fn plant_bytes(command: PlantCommand, input: &[u8]) -> &[u8]
-    ensures { result.now ≡ plant_text command input.now }
+/// The file of the plant in the input of a command, and the lines of counts behind it.
+fn plant_sections(command: PlantCommand, input: &[u8]) -> Sections<'_>
+    ensures head { result.head.now ≡ plant_text command input.now }
+    ensures counts { result.counts.now ≡ tail_of input.now }
 {
+    let sections = cut(input);
     match command {
-        PlantCommand::Run => cut(input).head,
-        PlantCommand::Compile(_) | PlantCommand::Trace(_) => input,
+        PlantCommand::Run => sections,
+        PlantCommand::Compile(_) | PlantCommand::Trace(_) => Sections {
+            head: input,
+            counts: sections.counts,
+        },
     }
 }
 
@@ -173,11 +178,11 @@ pub fn plant_answer_alone<T: Threads + Sync, G: Gate>(
     output_lines();
     file_output_theorems();
     trace_theorems();
-    let read = read_plant(alloc, plant_bytes(command, input));
-    match read {
+    let sections = plant_sections(command, input);
+    match read_plant(alloc, sections.head) {
         Ok(plant) => {
             let outcome = decided(alloc, &plant, gate);
-            outcome_answer(rt, alloc, command, cut(input).counts, plant, outcome)
+            outcome_answer(rt, alloc, command, sections.counts, plant, outcome)
         }
         Err(error) => plant_error_refusal(alloc, error),
     }
@@ -198,11 +203,11 @@ pub fn plant_answer_in_threads<T: Threads + Wait + Sync, G: Gate + Sync>(
     output_lines();
     file_output_theorems();
     trace_theorems();
-    let read = read_plant(alloc, plant_bytes(command, input));
-    match read {
+    let sections = plant_sections(command, input);
+    match read_plant(alloc, sections.head) {
         Ok(plant) => {
             let outcome = decided_in_threads(rt, alloc, &plant, command.workers(), gate);
-            outcome_answer(rt, alloc, command, cut(input).counts, plant, outcome)
+            outcome_answer(rt, alloc, command, sections.counts, plant, outcome)
         }
         Err(error) => plant_error_refusal(alloc, error),
     }
