@@ -15,7 +15,7 @@ loop-line-init c = record {
 pub loop-line-preserved : goal.loop-line-preserved
 loop-line-preserved c = record {
   text = lines_more (IsOf c.args.program.now c.args.inputs) c.args.program.now (length c.args.program.now.counts) (lines c.loop-line.rest.now) c.in-Some.line.now (lines c.in-Some.after.now) c.loop-line.text.items c.add_line.new.text.items (lines c.args.input.now) c.in-Some.ensures.lines
-    c.in_ok-add_line.ensures.line c.loop-line.invariant.text;
+      c.in_ok-add_line.ensures.line c.loop-line.invariant.text;
   prepared = c.in_ok-add_line.ensures.prepared;
 }
 

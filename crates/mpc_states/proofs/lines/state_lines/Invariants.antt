@@ -7,7 +7,7 @@ use Rattle.mpc_states.proofs.lines.state_lines.Given as goal
 abbrev pub invariant-loop-line : goal.invariant-loop-line
 invariant-loop-line l = record {
   text : (more : List ℕ) → AreStateLines (IsOf l.program l.inputs) l.program (length l.program.counts) (lines l.rest) more
-    → AreStateLines (IsOf l.program l.inputs) l.program (length l.program.counts) (lines l.input) (l.text.items ++ more);
+      → AreStateLines (IsOf l.program l.inputs) l.program (length l.program.counts) (lines l.input) (l.text.items ++ more);
   prepared : IsPreparedFor l.program l.prepared;
 }
 
