@@ -19,16 +19,16 @@ use mpc_simplex::{Beginning, Workspace};
 use mpc_systems::{broken_row, cell_theorems, whole_row};
 use std::alloc::Global;
 
-/// How many open cells are enough: where the dearest of them takes a seventh of the whole, as in usual
-/// large trees, up to four threads have about as much to do as each other.
-const ENOUGH: usize = 64;
+/// How many open cells are enough: of fewer, one may take most of the time on four threads, and more would leave
+/// more of the tree to the caller.
+const ENOUGH: usize = 40;
 
 /// So many nodes are grown first, one after another in preorder: where one of them is refused, no cell
 /// behind it was opened in vain.
-const FIRST_NODES: usize = 64;
+const FIRST_NODES: usize = 20;
 
 /// After so many rounds the cells stay open, however few they are.
-const MOST_ROUNDS: usize = 96;
+const MOST_ROUNDS: usize = 52;
 
 /// A piece of a tree in preorder.
 #[derive(Drop)]
