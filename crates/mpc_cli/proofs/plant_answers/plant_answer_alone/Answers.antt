@@ -9,8 +9,8 @@ outcome_answer-requires-clause-decided g c = λ lifetimes outlives. subst (λ (n
 
 pub returns-in-Ok : goal.returns-in-Ok
 returns-in-Ok g c =
-    answers_commands c.plant_texts.ensures.read c.output_lines.ensures.replies c.file_output_theorems.ensures.compiled c.trace_theorems.ensures.text c.outcome_answer.result c.args.command c.args.input.now c.plant_sections.result.head.now c.plant_sections.result.counts.now c.in-Ok.plant c.in-Ok.ensures.ok c.plant_sections.ensures.head c.plant_sections.ensures.counts c.outcome_answer.ensures
+    answers_commands c.plant_texts.ensures.read c.output_lines.ensures.replies c.file_output_theorems.ensures.compiled c.trace_theorems.ensures.text c.outcome_answer.result c.args.command c.args.input.now c.plant_sections-sections.result.head.now c.plant_sections-sections.result.counts.now c.in-Ok.plant c.in-Ok.ensures.ok c.plant_sections-sections.ensures.head c.plant_sections-sections.ensures.counts c.outcome_answer.ensures
 
 pub returns-in-Err : goal.returns-in-Err
 returns-in-Err g c =
-    bad_answers c.plant_error_refusal.result c.args.command c.args.input.now c.plant_sections.result.head.now c.in-Err.error (λ kind path e. c.read_plant-read.ensures.bad kind path (c.in-Err.is ∙ ap Err e)) c.plant_sections.ensures.head c.plant_error_refusal.ensures
+    bad_answers c.plant_error_refusal.result c.args.command c.args.input.now c.plant_sections-sections.result.head.now c.in-Err.error (λ kind path e. c.read_plant.ensures.bad kind path (c.in-Err.is ∙ ap Err e)) c.plant_sections-sections.ensures.head c.plant_error_refusal.ensures
