@@ -6,6 +6,7 @@ mod fractions;
 
 use fractions::{Fast, Frac, Plain, Rules, Wide};
 use std::cmp::Ordering;
+use std::collections::HashMap;
 use std::fmt::Write;
 use std::io::Write as _;
 
@@ -186,6 +187,26 @@ fn eliminate<R: Rules>(table: &mut Table, first: usize) -> Result<Vec<Frac>, Wid
     Ok((0..rows).map(|i| entries[i * width + rows]).collect())
 }
 
+/// What the states of a program share: the elimination of h, and the direction of each row and set that was found, by the set's bits; nothing
+/// where it is too wide.
+struct Shared {
+    kept: Option<Kept>,
+    directions: HashMap<(usize, u64), Option<Vec<Frac>>>,
+}
+
+impl Shared {
+    fn of<R: Rules>(program: &Program) -> Self {
+        Shared { kept: Kept::of::<R>(program), directions: HashMap::new() }
+    }
+
+    fn direction<R: Rules>(&mut self, program: &Program, position: &Position) -> Result<&[Frac], Wide> {
+        let set = position.set.iter().fold(0, |bits, member| bits | 1 << member);
+        let kept = self.kept.as_ref();
+        let found = self.directions.entry((position.row, set)).or_insert_with(|| step_solution::<R>(program, kept, position).ok());
+        found.as_deref().ok_or(Wide)
+    }
+}
+
 /// The direction of a step: what is kept, where that is enough, is eliminated from its members' columns on.
 fn step_solution<R: Rules>(program: &Program, kept: Option<&Kept>, position: &Position) -> Result<Vec<Frac>, Wide> {
     let unknowns = program.h.width;
@@ -283,10 +304,8 @@ fn row_multipliers(rows: usize, position: &Position, e: &[Frac]) -> Vec<Frac> {
     all
 }
 
-fn advance<R: Rules>(program: &Program, kept: Option<&Kept>, sides: &[Frac], mut position: Position) -> Result<Next, Wide> {
-    let unknowns = program.h.width;
-    let solution = step_solution::<R>(program, kept, &position)?;
-    let (d, e) = solution.split_at(unknowns);
+fn advance<R: Rules>(program: &Program, shared: &mut Shared, sides: &[Frac], mut position: Position) -> Result<Next, Wide> {
+    let (d, e) = shared.direction::<R>(program, &position)?.split_at(program.h.width);
     match turn_of::<R>(program, sides, &position, d, e)? {
         Turn::Refuted => Ok(Next::Ends(End::Refuted(row_multipliers(sides.len(), &position, e)))),
         Turn::Drops(place, length) => {
@@ -306,8 +325,8 @@ fn advance<R: Rules>(program: &Program, kept: Option<&Kept>, sides: &[Frac], mut
     }
 }
 
-/// The answer at the counts, by what is kept of the program. The steps are added to `steps`.
-fn solve_at<R: Rules>(program: &Program, kept: Option<&Kept>, counts: &[u64], steps: &mut u64) -> Result<End, Wide> {
+/// The answer at the counts, by what the states share. The steps are added to `steps`.
+fn solve_at<R: Rules>(program: &Program, shared: &mut Shared, counts: &[u64], steps: &mut u64) -> Result<End, Wide> {
     let c: Vec<Frac> = std::iter::once(ONE).chain(counts.iter().map(|count| Frac { num: *count as i128, den: 1 })).collect();
     let sides = program.w.products::<R>(&c)?;
     let mut next = open::<R>(program, &c, &sides)?;
@@ -316,7 +335,7 @@ fn solve_at<R: Rules>(program: &Program, kept: Option<&Kept>, counts: &[u64], st
             Next::Ends(end) => return Ok(end),
             Next::Goes(position) => {
                 *steps += 1;
-                next = advance::<R>(program, kept, &sides, position)?;
+                next = advance::<R>(program, shared, &sides, position)?;
             }
         }
     }
@@ -360,10 +379,10 @@ fn write_reply(reply: &mut String, moves: &[Frac]) {
 /// The reply lines, and the steps of all runs.
 fn replies<'a, R: Rules>(program: &Program, lines: impl Iterator<Item = &'a str>) -> (String, u64) {
     let (mut text, mut steps) = (String::new(), 0);
-    let kept = Kept::of::<R>(program);
+    let mut shared = Shared::of::<R>(program);
     for line in lines {
         let counts: Vec<u64> = line.split(' ').map(|count| count.parse().expect("a count")).collect();
-        match solve_at::<R>(program, kept.as_ref(), &counts, &mut steps) {
+        match solve_at::<R>(program, &mut shared, &counts, &mut steps) {
             Ok(End::Best(point)) => write_reply(&mut text, &point[..program.moves]),
             Ok(End::Refuted(multipliers)) => {
                 assert_eq!(multipliers.len(), program.g.entries.len() / program.g.width);
