@@ -4,6 +4,7 @@ use Rattle.std.specs.Prelude.{◌≡◌, ℕ, ◌^◌, ◌<◌, List, [], ◌++�
 use Rattle.mpc_controller.specs.Parts.{Parts}
 use Rattle.mpc_grammar.specs.declared.errors.FileKind.{FileKind}
 use Rattle.mpc_grammar.specs.declared.versions.Version.{Version}
+use Rattle.mpc_grammar.specs.declared.versions.Version.TheVariants.{Three}
 use Rattle.mpc_grammar.specs.FileGrammar.{Spells, FailsAt}
 use Rattle.mpc_grammar.specs.Statable.{CanState}
 
@@ -31,9 +32,10 @@ OneReason = (bytes : List ℕ) (kind other : FileKind) (number place : ℕ) → 
 abbrev pub NoPrefix : Type 0
 NoPrefix = (bytes more : List ℕ) (version other : Version) (x y : Parts) → length (bytes ++ more) < 2 ^ 64 → Spells bytes version x → Spells (bytes ++ more) other y → more ≡ []
 
--- a version has a text for each controller that it can state, whose nodes are fewer than 10^18, as those in a memory are
+-- a version has a text for each controller that it can state: in version 3, whose line of planes has a number of 18 digits, where its nodes are
+-- fewer than 10^18, as those in a memory are
 abbrev pub EachText : Type 0
-EachText = (version : Version) (x : Parts) → length x.tree < 10 ^ 18 → CanState version x → (bytes : List ℕ) × Spells bytes version x
+EachText = (version : Version) (x : Parts) → (version ≡ Three → length x.tree < 10 ^ 18) → CanState version x → (bytes : List ℕ) × Spells bytes version x
 
 -- and for no other
 abbrev pub StatedCanBe : Type 0

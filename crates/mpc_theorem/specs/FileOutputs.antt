@@ -64,6 +64,10 @@ CompiledIsOutput = (input output : List ℕ) (plant : Plant) (qp : Qp) (parts : 
 abbrev pub OneFile : Type 0
 OneFile = (input one other : List ℕ) → IsTheFile input one → IsTheFile input other → one ≡ other
 
+-- where the plant has a controller, which fits and the checker accepts, it is the file of that one, and spells it (of fewer than 10^18 nodes)
+abbrev pub OfItsController : Type 0
+OfItsController = (input output : List ℕ) (plant : Plant) (qp : Qp) (parts : Parts) → IsTheFile input output → IsPlantText input plant → IsController plant qp parts → IsControllerFile Three parts output × (length parts.tree < 10 ^ 18 → Spells output Three parts)
+
 abbrev pub AcceptedIsRightFile : Type 0
 AcceptedIsRightFile = (input : List ℕ) → length input < 2 ^ 64 → IsAccepted input → IsRightFile input
 

@@ -1,6 +1,6 @@
 //! What is written of a plant's controller, and of a controller's file.
 
-ghost use Rattle.mpc_theorem.specs.FileOutputs.{CompiledIsOutput, OneFile, AcceptedIsRightFile, RepliedIsOutput, ConvertedIsOutput};
+ghost use Rattle.mpc_theorem.specs.FileOutputs.{CompiledIsOutput, OneFile, OfItsController, AcceptedIsRightFile, RepliedIsOutput, ConvertedIsOutput};
 
 use crate::controller_files::controller_file;
 use crate::plant_files::plant_texts;
@@ -14,6 +14,7 @@ use mpc_tree::{one_tree, table_theorems};
 pub fn file_output_theorems()
     ensures compiled { CompiledIsOutput }
     ensures one_file { OneFile }
+    ensures of_its_controller { OfItsController }
     ensures accepted { AcceptedIsRightFile }
     ensures replied { RepliedIsOutput }
     ensures converted { ConvertedIsOutput }

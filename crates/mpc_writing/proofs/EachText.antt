@@ -85,4 +85,4 @@ module _ (words : WordTheorems) (fractions : OneFractions) (integers : OneIntege
   pub each_text : EachText
   each_text One x few can = with_plant One x can (written_text x.laws x.tree) (written_prints words x.plant x.laws x.tree can.controller can.laws can.tree)
   each_text Two x few can = with_plant Two x can (written_text x.laws x.tree) (written_prints words x.plant x.laws x.tree can.controller can.laws can.tree)
-  each_text Three x few can = named_text x few can
+  each_text Three x few can = named_text x (few refl) can

@@ -1,7 +1,7 @@
 use Rattle.std.proofs.Common.{sym, subst}
 use Rattle.mpc_theorem.specs.PlantFile.{IsPlantText}
 use Rattle.mpc_theorem.proofs.RightControllers.{controller_rightly}
-use Rattle.mpc_theorem.proofs.TheFiles.{the_file, one_file}
+use Rattle.mpc_theorem.proofs.TheFiles.{the_file, one_file, its_file}
 use Rattle.mpc_theorem.proofs.file_outputs.file_output_theorems.Goals as goal
 use Rattle.mpc_grammar.specs.declared.versions.Version.TheVariants.{Three}
 
@@ -15,6 +15,11 @@ returns-clause-compiled c = λ input output plant qp parts short text is spelled
 
 pub returns-clause-one_file : goal.returns-clause-one_file
 returns-clause-one_file c = one_file c.plant_texts.ensures.one c.one_program.ensures c.one_table.ensures c.table_theorems.ensures.are_laws c.one_tree.ensures.one_own_tree
+
+pub returns-clause-of_its_controller : goal.returns-clause-of_its_controller
+returns-clause-of_its_controller c = λ input output plant qp parts f text is.
+    let file = its_file c.plant_texts.ensures.one c.one_program.ensures c.one_table.ensures c.table_theorems.ensures.are_laws c.one_tree.ensures.one_own_tree c.one_tree.ensures.is_own input output plant qp parts f text is in
+    (file, λ few. c.controller_file.ensures.spelled output Three parts (λ three. few) file)
 
 pub returns-clause-accepted : goal.returns-clause-accepted
 returns-clause-accepted c = λ input short h.
