@@ -1,3 +1,4 @@
 pub mod TreeReading
 pub mod PlaneReading
 pub mod FormLists
+pub mod Digests

@@ -1,24 +1,39 @@
 //! Sets of lines of a text.
 
 ghost use Rattle.std.specs.Prelude.{◌≡◌, ℕ, List, [], not, IfOk, OnOk, OnErr, ◌↔◌, ◌⊎◌, Contains, IsTrue};
+ghost use Rattle.mpc_law_lines.specs.Digests.{digest};
 
 use mpc_frac::NoMemory;
 use std::alloc::Global;
 use std::collections::BTreeSet;
+use std::hash::{FoldHasher, Hasher};
 use std::marker::Model;
 
-/// A set of lines, in order.
+/// A set of lines, each behind its digest, by which they are in order: two lines are compared byte by byte only
+/// where their digests are equal, so lines that are chosen to have one digest cost no more than without it.
 #[derive(Drop)]
 pub struct LineSet<'a> {
-    lines: BTreeSet<&'a [u8]>,
+    lines: BTreeSet<(u64, &'a [u8])>,
 }
 
 impl<'a> Model for LineSet<'a> {
-    ghost use Rattle.std.specs.Prelude.{ℕ, List, map};
+    ghost use Rattle.std.specs.Prelude.{◌≡◌, ℕ, List, map, All};
+    ghost use Rattle.mpc_law_lines.specs.Digests.{digest};
 
     ghost Value = { List (List ℕ) };
 
-    ghost view = { λ s. map (λ line. line.now) s.lines.keys };
+    ghost view = { λ s. map (λ key. key.1.now) s.lines.keys };
+
+    ghost invariant = { λ s. All (λ key. key.0 ≡ digest key.1.now) s.lines.keys };
+}
+
+/// A number that tells most lines from one another.
+fn digest(line: &[u8]) -> u64
+    ensures { result ≡ digest line.now }
+{
+    let mut hasher = FoldHasher::default();
+    hasher.write(line);
+    hasher.finish()
 }
 
 impl<'a> LineSet<'a> {
@@ -38,7 +53,7 @@ impl<'a> LineSet<'a> {
         ensures err { OnErr result (self.new ≡ self.old) }
         ensures kept { (other : List ℕ) → Contains self.old other → Contains self.new other }
     {
-        let Ok(added) = self.lines.insert(line) else {
+        let Ok(added) = self.lines.insert((digest(line), line)) else {
             return Err(NoMemory);
         };
         Ok(added)
