@@ -2,7 +2,9 @@
 use Rattle.std.specs.Prelude.{◌≡◌, ◌≢◌, ℕ, ◌+◌, ◌-◌, ◌<◌, ◌≤◌, ◌⊎◌, cond, nat_lt, List, [], ◌∷◌, ◌++◌, length, slice_index_or, MatchOption}
 use Rattle.std.specs.BTreeMap.{get, btree_map_len}
 use Rattle.std.specs.Cmp.Lexicographic.{slice_cmp}
-use Rattle.std.specs.Ordering.{nat_cmp}
+use Rattle.std.specs.declared.cmp.Ordering.{Ordering}
+use Rattle.std.specs.Ordering.{nat_cmp, ordering_then}
+use Rattle.std.specs.Hash.FoldHasher.{initial, write, finish}
 use Rattle.std.specs.Global.{Vec}
 use Rattle.mpc_writing.specs.Writing.{text_of_lines}
 use Rattle.mpc_writing.specs.declared.names.Names.{Names}
@@ -21,9 +23,21 @@ pub record IsNumberOf (lines : List (List ℕ)) (text : List ℕ) (k : ℕ) : Ty
   pub is_line : k ≤ length lines
   pub line_is : slice_index_or lines (k - 1) [] ≡ text
 
+-- a number by which lines are told from one another: two that have different ones are different
+abbrev pub digest : List ℕ → ℕ
+digest line = finish (write initial line)
+
+-- a digest and a line
+abbrev pub Key : Type 0
+Key = ℕ × Vec ℕ
+
+-- the digests decide, and the lines only where these are equal
+abbrev pub key_cmp : Key → Key → Ordering
+key_cmp x y = ordering_then (nat_cmp x.0 y.0) (slice_cmp nat_cmp x.1.items y.1.items)
+
 -- these are the lines that are named
 pub record AreNames (names : Names) (lines : List (List ℕ)) : Type 0 where
-  pub found : (key : Vec ℕ) → MatchOption (get (λ x y. slice_cmp nat_cmp x.items y.items) names.numbers key) (IsNew lines key.items) (λ k. IsNumberOf lines key.items k)
+  pub found : (key : Key) → key.0 ≡ digest key.1.items → MatchOption (get key_cmp names.numbers key) (IsNew lines key.1.items) (λ k. IsNumberOf lines key.1.items k)
   pub count : btree_map_len names.numbers ≡ length lines
   pub text : names.text.items ≡ text_of_lines lines
   pub different : AreDifferent lines

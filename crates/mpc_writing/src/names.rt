@@ -1,19 +1,30 @@
 //! Lines that are written once and named by their numbers.
 
 ghost use Rattle.std.specs.Prelude.{◌≡◌, List, ℕ, [], IfOk, OnErr, length, take};
-ghost use Rattle.mpc_writing.specs.Names.{AreNames, IsNamed};
+ghost use Rattle.mpc_writing.specs.Names.{digest, AreNames, IsNamed};
 
 use crate::words::{end_line, write_piece};
 use mpc_frac::NoMemory;
 use std::alloc::Global;
 use std::collections::BTreeMap;
+use std::hash::{FoldHasher, Hasher};
 
 /// The different lines that came, one below the other in the order in which they came first, and their
-/// numbers, from 1.
+/// numbers, from 1. A line is sought behind its digest: two lines are compared byte by byte only where their
+/// digests are equal.
 #[derive(Drop)]
 pub struct Names {
-    numbers: BTreeMap<Vec<u8>, u64>,
+    numbers: BTreeMap<(u64, Vec<u8>), u64>,
     text: Vec<u8>,
+}
+
+/// A number that tells most lines from one another.
+fn digest(line: &[u8]) -> u64
+    ensures { result ≡ digest line.now }
+{
+    let mut hasher = FoldHasher::default();
+    hasher.write(line);
+    hasher.finish()
 }
 
 impl Names {
@@ -48,13 +59,14 @@ impl Names {
         ensures kept { take (length self.old.text.items) self.new.text.items ≡ self.old.text.items }
         ensures err { OnErr result (self.new.numbers.entries ≡ self.old.numbers.entries) }
     {
-        if let Some(number) = self.numbers.get(&line) {
+        let key = (digest(line.as_slice()), line);
+        if let Some(number) = self.numbers.get(&key) {
             return Ok(*number);
         }
         let number = self.numbers.len() as u64 + 1;
-        write_piece(line.as_slice(), &mut self.text)?;
+        write_piece(key.1.as_slice(), &mut self.text)?;
         end_line(&mut self.text)?;
-        self.numbers.insert(line, number)?;
+        self.numbers.insert(key, number)?;
         Ok(number)
     }
 }
