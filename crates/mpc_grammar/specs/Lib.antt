@@ -1,6 +1,7 @@
 pub mod Versions
 pub mod Reading
 pub mod Lines
+pub mod Digests
 pub mod PlantGrammar
 pub mod LawGrammar
 pub mod TreeGrammar

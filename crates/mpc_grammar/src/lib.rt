@@ -1,6 +1,7 @@
 //! The grammar of a controller's text: its lines, what they may state, and how one follows another.
 #![tactic(auto)]
 
+mod digests;
 mod errors;
 mod line_theorems;
 mod lines;
@@ -8,6 +9,7 @@ mod plant_parts;
 mod spelling;
 mod versions;
 
+pub use digests::digest;
 pub use errors::{FileError, FileKind};
 pub use line_theorems::{one_fractions, one_integers, one_number, word_theorems};
 pub use lines::{Lines, stated};

@@ -1,4 +1,3 @@
 pub mod TreeReading
 pub mod PlaneReading
 pub mod FormLists
-pub mod Digests

@@ -1,12 +1,11 @@
 //! Sets of lines of a text.
 
 ghost use Rattle.std.specs.Prelude.{◌≡◌, ℕ, List, [], not, IfOk, OnOk, OnErr, ◌↔◌, ◌⊎◌, Contains, IsTrue};
-ghost use Rattle.mpc_law_lines.specs.Digests.{digest};
 
 use mpc_frac::NoMemory;
+use mpc_grammar::digest;
 use std::alloc::Global;
 use std::collections::BTreeSet;
-use std::hash::{FoldHasher, Hasher};
 use std::marker::Model;
 
 /// A set of lines, each behind its digest, by which they are in order: two lines are compared byte by byte only
@@ -18,22 +17,13 @@ pub struct LineSet<'a> {
 
 impl<'a> Model for LineSet<'a> {
     ghost use Rattle.std.specs.Prelude.{◌≡◌, ℕ, List, map, All};
-    ghost use Rattle.mpc_law_lines.specs.Digests.{digest};
+    ghost use Rattle.mpc_grammar.specs.Digests.{digest};
 
     ghost Value = { List (List ℕ) };
 
     ghost view = { λ s. map (λ key. key.1.now) s.lines.keys };
 
     ghost invariant = { λ s. All (λ key. key.0 ≡ digest key.1.now) s.lines.keys };
-}
-
-/// A number that tells most lines from one another.
-fn digest(line: &[u8]) -> u64
-    ensures { result ≡ digest line.now }
-{
-    let mut hasher = FoldHasher::default();
-    hasher.write(line);
-    hasher.finish()
 }
 
 impl<'a> LineSet<'a> {

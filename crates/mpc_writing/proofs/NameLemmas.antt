@@ -14,7 +14,8 @@ use Rattle.std.specs.BTreeMap.{get, btree_map_len}
 use Rattle.std.proofs.lemmas.List.{append-nil}
 use Rattle.std.proofs.lemmas.List.Concat.{flat_map-append}
 use Rattle.mpc_writing.specs.Writing.{ended, text_of_lines}
-use Rattle.mpc_writing.specs.Names.{digest, Key, key_cmp, IsNew, AreDifferent, IsNumberOf, AreNames, IsNamed}
+use Rattle.mpc_grammar.specs.Digests.{digest}
+use Rattle.mpc_writing.specs.Names.{Key, key_cmp, IsNew, AreDifferent, IsNumberOf, AreNames, IsNamed}
 use Rattle.mpc_writing.specs.declared.names.Names.{Names}
 
 below_or_at : (j n : ℕ) (b : Bool) → nat_lt j n ≡ b → j < n + 1 → (j < n) ⊎ (j ≡ n)

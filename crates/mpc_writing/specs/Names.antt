@@ -4,8 +4,8 @@ use Rattle.std.specs.BTreeMap.{get, btree_map_len}
 use Rattle.std.specs.Cmp.Lexicographic.{slice_cmp}
 use Rattle.std.specs.declared.cmp.Ordering.{Ordering}
 use Rattle.std.specs.Ordering.{nat_cmp, ordering_then}
-use Rattle.std.specs.Hash.FoldHasher.{initial, write, finish}
 use Rattle.std.specs.Global.{Vec}
+use Rattle.mpc_grammar.specs.Digests.{digest}
 use Rattle.mpc_writing.specs.Writing.{text_of_lines}
 use Rattle.mpc_writing.specs.declared.names.Names.{Names}
 
@@ -22,10 +22,6 @@ pub record IsNumberOf (lines : List (List ℕ)) (text : List ℕ) (k : ℕ) : Ty
   pub from_one : 1 ≤ k
   pub is_line : k ≤ length lines
   pub line_is : slice_index_or lines (k - 1) [] ≡ text
-
--- a number by which lines are told from one another: two that have different ones are different
-abbrev pub digest : List ℕ → ℕ
-digest line = finish (write initial line)
 
 -- a digest and a line
 abbrev pub Key : Type 0

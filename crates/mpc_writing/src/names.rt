@@ -1,13 +1,13 @@
 //! Lines that are written once and named by their numbers.
 
 ghost use Rattle.std.specs.Prelude.{◌≡◌, List, ℕ, [], IfOk, OnErr, length, take};
-ghost use Rattle.mpc_writing.specs.Names.{digest, AreNames, IsNamed};
+ghost use Rattle.mpc_writing.specs.Names.{AreNames, IsNamed};
 
 use crate::words::{end_line, write_piece};
 use mpc_frac::NoMemory;
+use mpc_grammar::digest;
 use std::alloc::Global;
 use std::collections::BTreeMap;
-use std::hash::{FoldHasher, Hasher};
 
 /// The different lines that came, one below the other in the order in which they came first, and their
 /// numbers, from 1. A line is sought behind its digest: two lines are compared byte by byte only where their
@@ -16,15 +16,6 @@ use std::hash::{FoldHasher, Hasher};
 pub struct Names {
     numbers: BTreeMap<(u64, Vec<u8>), u64>,
     text: Vec<u8>,
-}
-
-/// A number that tells most lines from one another.
-fn digest(line: &[u8]) -> u64
-    ensures { result ≡ digest line.now }
-{
-    let mut hasher = FoldHasher::default();
-    hasher.write(line);
-    hasher.finish()
 }
 
 impl Names {

@@ -4,7 +4,8 @@ use Rattle.std.specs.Option.{is_some}
 use Rattle.std.specs.BTreeMap.{get, btree_map_len}
 use Rattle.std.specs.Ordering.{is_eq}
 use Rattle.mpc_writing.specs.Writing.{ended}
-use Rattle.mpc_writing.specs.Names.{digest, key_cmp, AreNames, IsNamed}
+use Rattle.mpc_grammar.specs.Digests.{digest}
+use Rattle.mpc_writing.specs.Names.{key_cmp, AreNames, IsNamed}
 use Rattle.mpc_writing.proofs.KeptTexts.{kept_then}
 use Rattle.mpc_writing.proofs.NameLemmas.{is_found, named_before, named_behind}
 use Rattle.mpc_writing.proofs.names.Names.number.Goals as goal
