@@ -1,5 +1,5 @@
 -- Where a plant is too wide behind its program, stage by stage: the active sets, the search tree, the bounds and the checker's conditions.
-use Rattle.std.specs.Prelude.{ℕ, ◌⊎◌, ◌↔◌, List, All}
+use Rattle.std.specs.Prelude.{ℕ, ◌⊎◌, ◌↔◌, List, [], ◌∷◌, All}
 use Rattle.mpc_space.specs.Matrix.{height}
 use Rattle.mpc_sets.specs.SetOrder.{IsBefore}
 use Rattle.mpc_plant.specs.declared.plants.Plant.{Plant}
@@ -18,7 +18,7 @@ use Rattle.mpc_synthesis.specs.Refusals.{Extent, verdicts, controller, FirstWide
 use Rattle.mpc_theorem.specs.Firsts.{IsFirstOf, numbered}
 use Rattle.mpc_theorem.specs.Programs.{HasProgram, PivotPasses, IsNotDefinite, IsWideProgram}
 use Rattle.mpc_theorem.specs.DecisionRuns.{SetFits, IsWideRun}
-use Rattle.mpc_theorem.specs.SearchRuns.{IsWideBelow}
+use Rattle.mpc_theorem.specs.SearchRuns.{SearchNode, AreInPreorder, NodeFits, IsWideNode}
 use Rattle.mpc_theorem.specs.Bounds.{BoundFits, bound_places}
 
 -- the candidates: the least one whose decision meets a number that is too wide
@@ -31,7 +31,7 @@ pub record IsWideSet (plant : Plant) (place : Place) : Type 0 where
   pub before : (s : List ℕ) → IsCandidate qp s → IsBefore s set → SetFits qp s
   pub first : IsWideRun qp set place
 
--- the search tree of the table: the first run in preorder
+-- the search tree of the table: of the nodes in preorder the first whose runs don't all fit, and of its runs the first that doesn't
 pub record IsWideTree (plant : Plant) (place : Place) : Type 0 where
   pub qp : Qp
   pub laws : List Law
@@ -39,7 +39,11 @@ pub record IsWideTree (plant : Plant) (place : Place) : Type 0 where
   pub pivots : All (PivotPasses qp) (numbered (λ i. i) 1 (height qp.h))
   pub decided : (s : List ℕ) → IsCandidate qp s → SetFits qp s
   pub table : IsTable qp laws
-  pub first : IsWideBelow qp laws whole_box 1 place
+  pub nodes : List SearchNode
+  pub preorder : AreInPreorder 1 (whole_box ∷ []) nodes
+  pub node : SearchNode
+  pub first : IsFirstOf (NodeFits qp laws) nodes node
+  pub wide : IsWideNode qp laws node.number node.cell place
 
 -- the bounds on the numbers of a reply: law by law, and then node by node
 pub record IsWideBound (plant : Plant) (place : Place) : Type 0 where

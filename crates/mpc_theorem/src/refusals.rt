@@ -6,6 +6,8 @@ ghost use Rattle.mpc_theorem.specs.StateTheorems.{SolvesTooWide, TightensWideRow
 
 use mpc_condense::{one_program, place_theorems};
 use mpc_rows::law_theorems;
+use mpc_systems::cell_theorems;
+use mpc_tree::{one_tree, table_theorems};
 
 /// A plant on the way to its verdicts or its controller is refused for one of these causes: a pivot of its program, or a place that is too
 /// wide of its program or of a stage behind it. The call does nothing: its clauses are the theorem.
@@ -16,6 +18,9 @@ pub fn plant_refusals()
     one_program();
     place_theorems();
     law_theorems();
+    cell_theorems();
+    table_theorems();
+    one_tree();
 }
 
 /// What the checker finds of a controller's plant is why its program is refused. The call does nothing: its clauses are the theorem.
