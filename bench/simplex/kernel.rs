@@ -49,6 +49,7 @@ pub struct Run<'a> {
     /// The values of the unknowns times the denominator, in both parts.
     first: Vec<i64>,
     second: Vec<i64>,
+    sums: Vec<(i128, i128)>,
     row: Vec<i64>,
 }
 
@@ -189,6 +190,7 @@ impl<'a> Run<'a> {
             columns: vec![None; width + rows.height()],
             first: vec![0; width],
             second: vec![0; width],
+            sums: vec![(0, 0); width],
             row: vec![0; width],
         }
     }
@@ -204,20 +206,20 @@ impl<'a> Run<'a> {
         self.second.fill(0);
     }
 
-    /// Forms the values of the unknowns, if they stay small.
+    /// Forms the values of the unknowns, if they are small. The sums on the way need not be.
     fn stand(&mut self) -> Option<()> {
         let (rows, width) = (self.rows, self.rows.width);
-        self.first.fill(0);
-        self.second.fill(0);
+        self.sums.fill((0, 0));
         for (i, column) in self.columns[width..].iter().enumerate() {
             let Some(c) = *column else { continue };
-            let (bound, step) = (rows.b[i], rows.steps[i]);
-            for (j, line) in self.v.chunks_exact(width).enumerate() {
-                self.first[j] = small(self.first[j] as i128 + product(line[c], bound))?;
-                if step != 0 {
-                    self.second[j] = small(self.second[j] as i128 + product(line[c], step))?;
-                }
+            for (sum, line) in self.sums.iter_mut().zip(self.v.chunks_exact(width)) {
+                sum.0 = sum.0.checked_add(product(line[c], rows.b[i]))?;
+                sum.1 = sum.1.checked_add(product(line[c], rows.steps[i]))?;
             }
+        }
+        for (j, (first, second)) in self.sums.iter().enumerate() {
+            self.first[j] = small(*first)?;
+            self.second[j] = small(*second)?;
         }
         Some(())
     }

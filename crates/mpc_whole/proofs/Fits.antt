@@ -62,10 +62,10 @@ module _ (s : LinearSystem) (p : Position) (x : ℕ) where
   times_nought : (c r : ℚ) → r ≡ int (pos 0) → c *ℚ r ≡ int (pos 0)
   times_nought c r e = ap (λ u. c *ℚ u) e ∙ by_ring (c ∷ []) (search reads depth 30) (search reads depth 30) tt
 
-  first_nought : (y : ℕ) → y < s.width → first_terms s p x y ≡ int (pos 0)
+  pub first_nought : (y : ℕ) → y < s.width → first_terms s p x y ≡ int (pos 0)
   first_nought y h = times_nought (p.coefficient x y) (rest s y).first (ap (λ (z : Pair). z.first) (rests y h))
 
-  second_nought : (y : ℕ) → y < s.width → second_terms s p x y ≡ int (pos 0)
+  pub second_nought : (y : ℕ) → y < s.width → second_terms s p x y ≡ int (pos 0)
   second_nought y h = times_nought (p.coefficient x y) (rest s y).second (ap (λ (z : Pair). z.second) (rests y h))
 
   pub first_unknowns : (y : ℕ) → y ≤ s.width → int (pos 0) ≡ total y (first_terms s p x)

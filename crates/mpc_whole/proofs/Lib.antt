@@ -31,6 +31,7 @@ pub mod WholeWraps
 pub mod WholeSteps
 pub mod WholeTurns
 pub mod Nonbasic
+pub mod ColumnSums
 pub mod WholeExchange
 pub mod WholeEnds
 pub mod WholeSizes

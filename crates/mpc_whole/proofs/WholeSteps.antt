@@ -1,21 +1,15 @@
--- Lists of whole numbers that the code changes, and the sums of values.
-use Rattle.std.proofs.Common.{◌≡◌, ℕ, ◌+◌, ◌-◌, ◌^◌, ◌<◌, ◌≤◌, false, List, length, set, ℤ, pos, ◌+ℤ◌, ◌*ℤ◌, unsigned_abs, sym, ◌∙◌, ap, subst, arith, ◌⊎◌, inl, inr, to_z, of_z, get_or-set_same, get_or-set_other, le-ltb, le_trans}
+-- Lists of whole numbers that the code changes, and where a side rests.
+use Rattle.std.proofs.Common.{◌≡◌, ℕ, ◌+◌, ◌-◌, ◌^◌, ◌<◌, ◌≤◌, false, List, length, set, ℤ, pos, unsigned_abs, sym, ◌∙◌, ap, subst, subst₂, arith, ◌⊎◌, inl, inr, to_z, of_z, get_or-set_same, get_or-set_other, le-ltb, le_trans}
 use Rattle.std.specs.Int.{w64}
-use Rattle.std.proofs.lemmas.Bool.{cases_eq}
+use Rattle.std.proofs.lemmas.Bool.{cases_eq, cases_lt}
+use Rattle.std.proofs.lemmas.List.{get_or_past}
 use Rattle.std.proofs.lemmas.Int.{ints, fits_signed_from_abs, to_z-of_z}
-use Rattle.mpc_exact.specs.Rational.{ℚ, frac, ◌*ℚ◌}
-use Rattle.mpc_space.specs.Total.{total}
+use Rattle.mpc_exact.specs.Rational.{frac}
 use Rattle.mpc_rows.specs.LinearSystem.{LinearSystem, height}
-use Rattle.mpc_rows.specs.Run.{Position, IsTableau, count, rest, bound, is_unknown}
-use Rattle.mpc_whole.specs.declared.variables.Seat.{Seat}
-use Rattle.mpc_whole.specs.declared.variables.Seat.TheVariants.{Column}
-use Rattle.mpc_whole.specs.Table.{seat_at}
-use Rattle.mpc_whole.specs.Whole.{whole_at, whole_cell, scale_at, IsSmall, IsForm, HasSides, AreValues}
+use Rattle.mpc_rows.specs.Run.{rest, bound, is_unknown}
+use Rattle.mpc_whole.specs.Whole.{whole_at, scale_at, IsSmall, HasSides}
 use Rattle.mpc_whole.proofs.LeftSides.{bound-first}
 use Rattle.mpc_whole.proofs.Read.{rest_bound}
-use Rattle.mpc_whole.proofs.Table.{total_more, first_terms, second_terms, value_first, value_second}
-use Rattle.mpc_whole.proofs.WholeSums.{frac_sum}
-use Rattle.mpc_whole.proofs.WholeChanges.{scale_cancels}
 
 -- ---- one number set
 pub read_small : (z : ℤ) → unsigned_abs z ≤ 2 ^ 62 → to_z w64 (of_z w64 z) ≡ z
@@ -60,14 +54,23 @@ module _ (xs : List ℤ) (j : ℕ) (z : ℤ) (b : j < length xs) where
   pub set_above : (old : List ℤ) → ((k : ℕ) → j ≤ k → whole_at xs k ≡ whole_at old k) → (k : ℕ) → j + 1 ≤ k → whole_at (set xs j z) k ≡ whole_at old k
   set_above old h k l = set_other k (λ e. omega arith) ∙ h k (omega arith)
 
--- ---- a sum of values, one variable on
-module _ (s : LinearSystem) (p : Position) (t : IsTableau p) (n : ℕ) (seats : List Seat) (k : List ℕ) (d : ℕ) (v : List ℤ) (f : IsForm s n seats k d v p) where
-  pub value_more : (r : ℕ → ℚ) (y c j : ℕ) (z z' b : ℤ) → 0 < scale_at k y → y < n → seat_at seats y ≡ Column c → j < s.width → r y ≡ frac b (scale_at k y) → total y (λ x. p.coefficient j x *ℚ r x) ≡ frac z d → z' ≡ z +ℤ (whole_cell s.width v j c *ℤ b) → total (y + 1) (λ x. p.coefficient j x *ℚ r x) ≡ frac z' d
-  value_more r y c j z z' b scale h e l q sum next =
-      sym (total_more y (λ x. p.coefficient j x *ℚ r x) (frac z d) (frac (whole_cell s.width v j c *ℤ b) d) (frac z' d) (sym sum)
-      (sym ((λ i. f.entries j y c l h e i *ℚ q i) ∙ scale_cancels (whole_cell s.width v j c) b (scale_at k y) d scale f.some))
-      (ap (λ u. frac u d) next ∙ sym (frac_sum z (whole_cell s.width v j c *ℤ b) d f.some)))
+-- what is past the end of a list is 0
+pub small_within : (xs : List ℤ) (m n : ℕ) → length xs ≤ n → ((k : ℕ) → k < n → unsigned_abs (whole_at xs k) ≤ m) → IsSmall m xs
+small_within xs m n h each = record { each = λ k. by k (cases_lt k n) }
+  where
+    by : (k : ℕ) → (k < n) ⊎ (n ≤ k) → unsigned_abs (whole_at xs k) ≤ m
+    by k (inl b) = each k b
+    by k (inr b) = subst (λ z. unsigned_abs z ≤ m) (sym (get_or_past xs k (pos 0) (omega arith))) (omega arith)
 
+-- what is to hold of the numbers of two lists below j, and now also of those at j
+pub both_set : (P : ℕ → ℤ → ℤ → Type 0) (xs ys : List ℤ) (j : ℕ) (x y : ℤ) → j < length xs → j < length ys → ((k : ℕ) → k < j → P k (whole_at xs k) (whole_at ys k)) → P j x y → (k : ℕ) → k < j + 1 → P k (whole_at (set xs j x) k) (whole_at (set ys j y) k)
+both_set P xs ys j x y a b h p k l = by (cases_eq k j)
+  where
+    by : (k ≡ j) ⊎ (k ≡ j → ⊥) → P k (whole_at (set xs j x) k) (whole_at (set ys j y) k)
+    by (inl q) = subst (λ m. P m (whole_at (set xs j x) m) (whole_at (set ys j y) m)) (sym q) (subst₂ (P j) (sym (set_same xs j x a)) (sym (set_same ys j y b)) p)
+    by (inr q) = subst₂ (P k) (sym (set_other xs j x a k q)) (sym (set_other ys j y b k q)) (h k (omega arith))
+
+-- ---- where a side rests
 module _ (s : LinearSystem) (y : ℕ) (h : s.width ≤ y) where
   unknown_not : is_unknown s y ≡ false
   unknown_not = le-ltb y s.width h
@@ -82,10 +85,3 @@ module _ (s : LinearSystem) (y : ℕ) (h : s.width ≤ y) where
 
   pub rest_second : (rest s y).second ≡ (bound s (s.width + (y - s.width))).second
   rest_second = ap (λ z. z.second) (rest_bound s y unknown_not) ∙ ap (λ z. (bound s z).second) (sym side_is)
-
-pub values_at : (s : LinearSystem) (p : Position) (n y d : ℕ) (c_1 c_2 : List ℤ) → count s ≡ n → y ≡ n →
-    ((j : ℕ) → j < s.width → total y (first_terms s p j) ≡ frac (whole_at c_1 j) d) → ((j : ℕ) → j < s.width → total y (second_terms s p j) ≡ frac (whole_at c_2 j) d) → AreValues s p d c_1 c_2
-values_at s p n y d c_1 c_2 whole all f g = record {
-  first = λ j h. sym (value_first s p j n whole) ∙ ap (λ m. total m (first_terms s p j)) (sym all) ∙ f j h;
-  second = λ j h. sym (value_second s p j n whole) ∙ ap (λ m. total m (second_terms s p j)) (sym all) ∙ g j h;
-}

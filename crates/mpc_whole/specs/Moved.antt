@@ -1,9 +1,10 @@
 -- How the numbers of the values of the unknowns move with a pivot, in each of the two parts of the values.
 use Rattle.std.specs.Prelude.{◌≡◌, ℕ, ◌+◌, ◌<◌, ◌⊎◌, List, ℤ, pos, ◌+ℤ◌, ◌*ℤ◌, neg_ℤ}
 use Rattle.mpc_exact.specs.Rational.{frac}
-use Rattle.mpc_rows.specs.LinearSystem.{LinearSystem}
-use Rattle.mpc_rows.specs.Run.{Position, IsTableau, bound}
+use Rattle.mpc_rows.specs.LinearSystem.{LinearSystem, height}
+use Rattle.mpc_rows.specs.Run.{Position, IsTableau, bound, value}
 use Rattle.mpc_whole.specs.declared.variables.Seat.{Seat}
+use Rattle.mpc_whole.specs.Table.{IsSeated, AreNonbasic}
 use Rattle.mpc_whole.specs.Whole.{whole_total, whole_at, whole_cell, scale_at, IsForm, HasSides, AreValues}
 
 -- by how much the value of side i, from the numbers c of the unknowns, is above its bound g
@@ -23,6 +24,11 @@ pub record AreMoved (width : ℕ) (a : List ℤ) (i : ℕ) (g h : ℤ) (v : List
 -- the values at each position that the numbers stand for
 pub record AreFormed (s : LinearSystem) (n : ℕ) (seats : List Seat) (k : List ℕ) (b : List ℤ) (v c_1 c_2 : List ℤ) : Type 0 where
   pub each : (p : Position) (d : ℕ) → IsTableau p → IsForm s n seats k d v p → HasSides s k b → AreValues s p d c_1 c_2
+
+-- the value of the unknown j at each position that the numbers v stand for, where these variables stand in the columns
+pub record IsValueAt (s : LinearSystem) (n : ℕ) (k : List ℕ) (b : List ℤ) (nonbasic : List ℕ) (v : List ℤ) (j : ℕ) (z_1 z_2 : ℤ) : Type 0 where
+  pub first : (seats : List Seat) → IsSeated (height s) s.width n seats → AreNonbasic s.width seats nonbasic → (p : Position) (d : ℕ) → IsTableau p → IsForm s n seats k d v p → HasSides s k b → (value s p j).first ≡ frac z_1 d
+  pub second : (seats : List Seat) → IsSeated (height s) s.width n seats → AreNonbasic s.width seats nonbasic → (p : Position) (d : ℕ) → IsTableau p → IsForm s n seats k d v p → HasSides s k b → (value s p j).second ≡ frac z_2 d
 
 -- after the pivot the values are moved, by both parts of the bound of side i, or formed anew
 abbrev pub AreFollowed : LinearSystem → ℕ → List Seat → List ℕ → List ℤ → List ℤ → List ℤ → ℕ → ℕ → ℕ → ℕ → List ℤ → List ℤ → List ℤ → List ℤ → Type 0

@@ -62,7 +62,7 @@ fn advance(
         &mut lists.seconds,
         system,
         frame,
-        &lists.seats,
+        &lists.nonbasic,
         &lists.v,
     )?;
     Some(Place {

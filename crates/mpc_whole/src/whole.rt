@@ -137,7 +137,7 @@ fn step(
         by,
         size,
     };
-    follow(c_1, c_2, system, frame, seats, v, pivot)?;
+    follow(c_1, c_2, system, frame, nonbasic, v, pivot)?;
     Some(Found::Next(Place {
         den: size,
         own,

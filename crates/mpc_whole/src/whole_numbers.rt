@@ -53,17 +53,6 @@ pub(crate) fn sum(x: i128, y: i128) -> i128
     x + y
 }
 
-/// One more product, where the sum stays small.
-#[inline]
-pub(crate) fn added(old: i64, x: i64, y: i64) -> Option<i64>
-    requires { unsigned_abs old ≤ 2 ^ 62 }
-    ensures value { IfSome result (λ z. z ≡ old +ℤ (x *ℤ y)) }
-    ensures small { IfSome result (λ z. unsigned_abs z ≤ 2 ^ 62) }
-{
-    let total = sum(widened(old), product(x, y));
-    small(total)
-}
-
 #[inline]
 pub(crate) fn negative(z: i64) -> i64
     requires { unsigned_abs z ≤ 2 ^ 62 }

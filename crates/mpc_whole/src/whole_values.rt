@@ -1,20 +1,18 @@
 //! The values at a position in whole numbers.
 
-ghost use Rattle.std.specs.Prelude.{◌≡◌, ℕ, ℤ, pos, ◌+◌, ◌*◌, ◌<◌, ◌≤◌, ◌^◌, ◌+ℤ◌, ◌*ℤ◌, unsigned_abs, IfSome, IsTrue, length, true};
+ghost use Rattle.std.specs.Prelude.{◌≡◌, ℕ, List, pos, ◌+◌, ◌*◌, ◌<◌, ◌≤◌, ◌^◌, unsigned_abs, IfSome, IsTrue, length, true};
 ghost use Rattle.mpc_exact.specs.Rational.{frac};
 ghost use Rattle.mpc_rows.specs.LinearSystem.{height};
-ghost use Rattle.mpc_rows.specs.Run.{Position, IsTableau, bound};
-ghost use Rattle.mpc_whole.specs.Table.{IsSeated};
-ghost use Rattle.mpc_whole.specs.Whole.{whole_at, whole_cell, scale_at, AreScales, IsSmall, HasRoom, HasSides, IsForm, AreValues};
-ghost use Rattle.mpc_whole.specs.Moved.{excess, IsMoved, AreMoved, AreFollowed};
+ghost use Rattle.mpc_rows.specs.Run.{bound};
+ghost use Rattle.mpc_whole.specs.declared.variables.Seat.{Seat};
+ghost use Rattle.mpc_whole.specs.Table.{variable_at, IsSeated, AreNonbasic};
+ghost use Rattle.mpc_whole.specs.Whole.{whole_at, scale_at, AreScales, IsSmall, HasRoom};
+ghost use Rattle.mpc_whole.specs.Moved.{excess, IsMoved, AreMoved, IsValueAt, AreFormed, AreFollowed};
 ghost use Rattle.mpc_whole.specs.Running.{HasNumbers, AreParts, IsPivot};
 
 use crate::divisors::Divisor;
 use crate::frames::Frame;
-use crate::variables::{Seat, column_of, is_basic};
-use crate::whole_numbers::{
-    added, changed, minus, negative, product, signed, small, sum, wide_row_times,
-};
+use crate::whole_numbers::{changed, minus, negative, product, signed, small, sum, wide_row_times};
 use crate::whole_systems::WholeSystem;
 
 /// Writes 0 into each number.
@@ -36,28 +34,6 @@ fn are_zero(list: &[i64]) -> bool
         }
     }
     true
-}
-
-/// Adds the column c of v, times b.
-fn add_column(list: &mut [i64], v: &[i64], width: usize, c: usize, b: i64) -> Option<()>
-    requires room { length list.old ≡ width }
-    requires square { length v.now ≡ width * width }
-    requires column { c < width }
-    requires small { IsSmall (2 ^ 62) list.old }
-    ensures sums { IfSome result (λ _. (j : ℕ) → j < width
-        → whole_at list.new j ≡ whole_at list.old j +ℤ (whole_cell width v.now j c *ℤ b)) }
-    ensures small { IfSome result (λ _. IsSmall (2 ^ 62) list.new) }
-{
-    if b == 0 {
-        return Some(());
-    }
-    for j in 0..width {
-        let Some(sum) = added(list[j], v[j * width + c], b) else {
-            return None;
-        };
-        list[j] = sum;
-    }
-    Some(())
 }
 
 /// The second part of the bound of side i, times the scale of its row: minus the scale where the row is strict.
@@ -83,36 +59,64 @@ pub(crate) struct Pivot {
     pub size: u64,
 }
 
-/// The values of the unknowns, where they stay small.
+/// Both parts of the value of the unknown j, where they are small. The sums on the way need not be.
+fn value_of(
+    system: &WholeSystem,
+    frame: &Frame,
+    nonbasic: &[usize],
+    v: &[i64],
+    j: usize,
+) -> Option<(i64, i64)>
+    requires numbers { HasNumbers system.now frame.now.n frame.now.scales.now frame.now.a.now frame.now.b.now }
+    requires columns { length nonbasic.now ≡ system.now.width }
+    requires below { (c : ℕ) → c < system.now.width → variable_at nonbasic.now c < frame.now.n }
+    requires square { length v.now ≡ system.now.width * system.now.width }
+    requires unknown { j < system.now.width }
+    ensures value { IfSome result (λ z. IsValueAt system.now frame.now.n frame.now.scales.now frame.now.b.now nonbasic.now v.now j z.0 z.1) }
+    ensures first_small { IfSome result (λ z. unsigned_abs z.0 ≤ 2 ^ 62) }
+    ensures second_small { IfSome result (λ z. unsigned_abs z.1 ≤ 2 ^ 62) }
+{
+    let width = system.unknowns();
+    let from = j * width;
+    let mut first: i128 = 0;
+    let mut second: i128 = 0;
+    for c in 0..width {
+        let y = nonbasic[c];
+        if y < width {
+            continue;
+        }
+        let i = y - width;
+        let factor = v[from + c];
+        let step = step_of(system, frame.scales, i);
+        first = first.checked_add(product(factor, frame.b[i]))?;
+        second = second.checked_add(product(factor, step))?;
+    }
+    Some((small(first)?, small(second)?))
+}
+
+/// The values of the unknowns, where they are small.
 pub(crate) fn stand(
     c_1: &mut [i64],
     c_2: &mut [i64],
     system: &WholeSystem,
     frame: &Frame,
-    seats: &[Seat],
+    nonbasic: &[usize],
     v: &[i64],
 ) -> Option<()>
     requires numbers { HasNumbers system.now frame.now.n frame.now.scales.now frame.now.a.now frame.now.b.now }
-    requires seated { IsSeated (height system.now) system.now.width frame.now.n seats.now }
+    requires columns { length nonbasic.now ≡ system.now.width }
+    requires below { (c : ℕ) → c < system.now.width → variable_at nonbasic.now c < frame.now.n }
     requires square { length v.now ≡ system.now.width * system.now.width }
     requires first_room { length c_1.old ≡ system.now.width }
     requires second_room { length c_2.old ≡ system.now.width }
-    ensures values { IfSome result (λ _. (p : Position) (d : ℕ) → IsTableau p → IsForm system.now frame.now.n seats.now frame.now.scales.now d v.now p → HasSides system.now frame.now.scales.now frame.now.b.now
-        → AreValues system.now p d c_1.new c_2.new) }
+    ensures values { IfSome result (λ _. (seats : List Seat) → IsSeated (height system.now) system.now.width frame.now.n seats → AreNonbasic system.now.width seats nonbasic.now
+        → AreFormed system.now frame.now.n seats frame.now.scales.now frame.now.b.now v.now c_1.new c_2.new) }
     ensures parts { IfSome result (λ _. AreParts system.now.width c_1.new c_2.new) }
 {
-    let width = system.unknowns();
-    clear(c_1);
-    clear(c_2);
-    for y in width..frame.n {
-        if is_basic(seats, y) {
-            continue;
-        }
-        let c = column_of(seats, y);
-        let i = y - width;
-        let step = step_of(system, frame.scales, i);
-        add_column(c_1, v, width, c, frame.b[i])?;
-        add_column(c_2, v, width, c, step)?;
+    for j in 0..system.unknowns() {
+        let (first, second) = value_of(system, frame, nonbasic, v, j)?;
+        c_1[j] = first;
+        c_2[j] = second;
     }
     Some(())
 }
@@ -181,16 +185,18 @@ pub(crate) fn follow(
     c_2: &mut [i64],
     system: &WholeSystem,
     frame: &Frame,
-    seats: &[Seat],
+    nonbasic: &[usize],
     v: &[i64],
     pivot: Pivot,
 ) -> Option<()>
     requires numbers { HasNumbers system.now frame.now.n frame.now.scales.now frame.now.a.now frame.now.b.now }
-    requires seated { IsSeated (height system.now) system.now.width frame.now.n seats.now }
+    requires columns { length nonbasic.now ≡ system.now.width }
+    requires below { (c : ℕ) → c < system.now.width → variable_at nonbasic.now c < frame.now.n }
     requires side { pivot.i < height system.now }
     requires pivot { IsPivot system.now.width frame.now.a.now v.now pivot.i pivot.e pivot.by.den pivot.size }
     requires parts { AreParts system.now.width c_1.old c_2.old }
-    ensures values { IfSome result (λ _. AreFollowed system.now frame.now.n seats.now frame.now.scales.now frame.now.a.now frame.now.b.now v.now pivot.i pivot.e pivot.by.den pivot.size c_1.old c_2.old c_1.new c_2.new) }
+    ensures values { IfSome result (λ _. (seats : List Seat) → IsSeated (height system.now) system.now.width frame.now.n seats → AreNonbasic system.now.width seats nonbasic.now
+        → AreFollowed system.now frame.now.n seats frame.now.scales.now frame.now.a.now frame.now.b.now v.now pivot.i pivot.e pivot.by.den pivot.size c_1.old c_2.old c_1.new c_2.new) }
     ensures parts { IfSome result (λ _. AreParts system.now.width c_1.new c_2.new) }
 {
     let step = step_of(system, frame.scales, pivot.i);
@@ -198,5 +204,5 @@ pub(crate) fn follow(
     if let Some(()) = move_values(c_1, c_2, frame.a, limit, step, v, pivot) {
         return Some(());
     }
-    stand(c_1, c_2, system, frame, seats, v)
+    stand(c_1, c_2, system, frame, nonbasic, v)
 }

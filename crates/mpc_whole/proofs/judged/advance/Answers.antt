@@ -5,10 +5,11 @@ use Rattle.mpc_rows.specs.LinearSystem.{height}
 use Rattle.mpc_rows.specs.Run.{count}
 use Rattle.mpc_whole.specs.declared.variables.Seat.{Seat}
 use Rattle.mpc_whole.specs.declared.variables.Seat.TheVariants.{Column}
-use Rattle.mpc_whole.specs.Table.{seat_at, IsSeated, AreNonbasic}
+use Rattle.mpc_whole.specs.Table.{seat_at, variable_at, IsSeated, AreNonbasic}
 use Rattle.mpc_whole.specs.Whole.{scale_at, IsSmall, IsSwapped}
 use Rattle.mpc_whole.specs.Judged.{IsJudged, IsRowWithin, IsReducedPivot, IsMildlyUnderway}
 use Rattle.mpc_whole.specs.Moved.{AreFormed}
+use Rattle.mpc_whole.proofs.ColumnSums.{in_column}
 use Rattle.mpc_whole.proofs.JudgedTurns.{leaver_in, leaver_seat, enterer_in, enterer_seat, seated_after, mildly_after}
 use Rattle.mpc_whole.proofs.WholeRows.{weaker}
 use Rattle.mpc_whole.proofs.judged.advance.Goals as goal
@@ -66,13 +67,22 @@ entered_then c = ap (λ (t : List Seat). seat_at t c.args.e) (sym c.deref-4.ensu
 seated : (c : After-swap) → IsSeated (height c.args.system.now) c.args.system.now.width (count c.args.system.now) c.swap.new.seats
 seated c = seated_after c.requires.numbers.whole c.requires.lists c.requires.goes c.swap.new.seats (swapped c) c.column_of-c.result (entered_then c)
 
-pub stand-requires-clause-seated : goal.stand-requires-clause-seated
-stand-requires-clause-seated c =
-    let at = (goal.at.stand-requires-clause-seated c).After-swap in
-    subst₂ (λ m (t : List Seat). IsSeated (height c.args.system.now) c.args.system.now.width m t) (sym c.requires.numbers.count) (sym (c.deref-5.ensures.value ∙ seats_back at)) (seated at)
-
 nonbasic_back : (c : After-swap) → (with_items c.args.lists.now.nonbasic c.swap.new.nonbasic).items ≡ c.swap.new.nonbasic
 nonbasic_back c = with_items_is c.args.lists.now.nonbasic c.swap.new.nonbasic (let q = c.swap.auto.nonbasic in let o = c.args.lists.now.nonbasic.ok in let v = c.deref_mut-3.ensures.len in omega arith)
+
+columns : (c : After-swap) → AreNonbasic c.args.system.now.width c.swap.new.seats c.swap.new.nonbasic
+columns c = c.swap.ensures.columns c.args.system.now.width (rw (c.deref_mut-2.ensures.value, c.deref_mut-3.ensures.value) c.requires.lists.columns)
+
+pub stand-requires-clause-columns : goal.stand-requires-clause-columns
+stand-requires-clause-columns c =
+    let at = (goal.at.stand-requires-clause-columns c).After-swap in
+    ap length (c.deref-5.ensures.value ∙ nonbasic_back at) ∙ (columns at).each
+
+pub stand-requires-clause-below : goal.stand-requires-clause-below
+stand-requires-clause-below c =
+    let at = (goal.at.stand-requires-clause-below c).After-swap in
+    let s = c.args.system.now in
+    subst₂ (λ m (t : List ℕ). (k : ℕ) → k < s.width → variable_at t k < m) (sym c.requires.numbers.count) (sym (c.deref-5.ensures.value ∙ nonbasic_back at)) (in_column s (count s) c.swap.new.seats c.swap.new.nonbasic (seated at) (columns at))
 
 numbers_back : (c : After-swap) → (with_items c.args.lists.now.v c.reduce.new.v).items ≡ c.reduce.new.v
 numbers_back c = with_items_is c.args.lists.now.v c.reduce.new.v (let q = c.reduce.auto.v in let o = c.args.lists.now.v.ok in let v = c.deref_mut.ensures.len in omega arith)
@@ -94,7 +104,7 @@ returns-clause-lists c =
     record {
       seated = subst (λ (t : List Seat). IsSeated (height s) s.width (count s) t) (sym (seats_back then)) (seated then);
       columns = subst₂ (λ (t : List Seat) (u : List ℕ). AreNonbasic s.width t u) (sym (seats_back then)) (sym (nonbasic_back then))
-          (c.swap.ensures.columns s.width (rw (c.deref_mut-2.ensures.value, c.deref_mut-3.ensures.value) c.requires.lists.columns));
+          (columns then);
       square = ap length numbers ∙ size;
       small = subst (IsSmall (2 ^ 62)) (sym numbers) c.in_ok-after.ensures.small;
       own = subst (IsSmall c.in_ok-after.after.own) (sym numbers) c.in_ok-after.ensures.own;
@@ -126,10 +136,12 @@ returns-clause-underway c =
     let piv : IsReducedPivot s.width den r.v.items c.reduce.new.v c.args.x.now c.column_of-c.result c.in_ok-after.after.den =
     subst₂ (λ w (u : List ℤ). IsReducedPivot w den u c.reduce.new.v c.args.x.now c.column_of-c.result c.in_ok-after.after.den) c.requires.row.size c.deref_mut.ensures.value c.in_ok-after.ensures.pivot
     in
-    let stood : AreFormed s c.args.frame.now.n c.deref-5.result.now k b c.deref-6.result.now c.stand.new.c_1 c.stand.new.c_2 = record { each = c.in_ok-stand.ensures.values } in
+    let stood : AreFormed s c.args.frame.now.n c.swap.new.seats k b c.deref-6.result.now c.stand.new.c_1 c.stand.new.c_2 =
+    c.in_ok-stand.ensures.values c.swap.new.seats (subst (λ m. IsSeated (height s) s.width m c.swap.new.seats) (sym c.requires.numbers.count) (seated then)) (subst (λ (t : List ℕ). AreNonbasic s.width c.swap.new.seats t) (sym (c.deref-5.ensures.value ∙ nonbasic_back then)) (columns then))
+    in
     let formed : AreFormed s (count s) c.swap.new.seats k b c.reduce.new.v c.stand.new.c_1 c.stand.new.c_2 =
     subst (λ m. AreFormed s m c.swap.new.seats k b c.reduce.new.v c.stand.new.c_1 c.stand.new.c_2) c.requires.numbers.count
-    (subst₂ (λ (t : List Seat) (u : List ℤ). AreFormed s c.args.frame.now.n t k b u c.stand.new.c_1 c.stand.new.c_2) (c.deref-5.ensures.value ∙ seats_back then) (c.deref-6.ensures.value ∙ numbers_back then) stood)
+    (subst (λ (u : List ℤ). AreFormed s c.args.frame.now.n c.swap.new.seats k b u c.stand.new.c_1 c.stand.new.c_2) (c.deref-6.ensures.value ∙ numbers_back then) stood)
     in
     let next =
     mildly_after c.requires.numbers.whole c.requires.lists c.requires.goes c.swap.new.seats (swapped then) c.column_of-c.result (entered_then then) by.top by.size c.requires.den_small judged c.args.x.now c.requires.row within c.max-top.result

@@ -9,6 +9,7 @@ use Rattle.mpc_whole.specs.Whole.{whole_at, scale_at, IsWholePivot}
 use Rattle.mpc_whole.specs.Moved.{AreFollowed}
 use Rattle.mpc_whole.specs.Underway.{IsUnderway}
 use Rattle.mpc_whole.proofs.Seats.{row_seat}
+use Rattle.mpc_whole.proofs.ColumnSums.{in_column}
 use Rattle.mpc_whole.proofs.WholeExchange.{rows_in}
 use Rattle.mpc_whole.proofs.WholeForm.{narrow_by_norms, pivot_narrow}
 use Rattle.mpc_whole.proofs.WholeRows.{weaker}
@@ -157,11 +158,14 @@ overflow_sub-pivot c =
     let at = goal.at.overflow_sub-pivot c in
     subst (λ w. w ≤ c.in-Some.l) (sym c.unknowns-width.ensures) (leaves_here c.args.system.now c.args.frame.now.n c.args.seats.now c.requires.held.seated c.args.frame.now.scales.now c.args.place.den c.args.v.now c.args.frame.now.a.now c.args.frame.now.b.now c.requires.frame.numbers.whole c.requires.underway.stands c.in-Some.l (leaver_is at.In-Some (found at.After-leaving))).violated.side
 
-pub follow-requires-clause-seated : goal.follow-requires-clause-seated
-follow-requires-clause-seated c =
-    let at = goal.at.follow-requires-clause-seated c in
+pub follow-requires-clause-columns : goal.follow-requires-clause-columns
+follow-requires-clause-columns c = (c.swap.ensures.columns c.args.system.now.width c.requires.held.columns).each
+
+pub follow-requires-clause-below : goal.follow-requires-clause-below
+follow-requires-clause-below c =
+    let at = goal.at.follow-requires-clause-below c in
     let e = leaver_is at.In-Some (found at.After-leaving) in
-    seats_are at.After-swap e (enters_is at.In-Some-pick e)
+    in_column c.args.system.now c.args.frame.now.n c.swap.new.seats c.swap.new.nonbasic (seats_are at.After-swap e (enters_is at.In-Some-pick e)) (c.swap.ensures.columns c.args.system.now.width c.requires.held.columns)
 
 pub follow-requires-clause-side : goal.follow-requires-clause-side
 follow-requires-clause-side c =
@@ -205,7 +209,8 @@ returns-clause-underway c =
     let size = size_is at.After-unsigned_abs-size in
     let followed : AreFollowed c.args.system.now c.args.frame.now.n (set (set c.args.seats.now c.in-Some.l (Column c.column_of-c.result)) c.in-Some-pick.e (Row rs.0)) c.args.frame.now.scales.now c.args.frame.now.a.now c.args.frame.now.b.now c.exchange.new.v (c.in-Some.l - c.args.system.now.width) c.column_of-c.result c.args.place.den (unsigned_abs (whole_at c.pick.new.x c.column_of-c.result)) c.args.c_1.now c.args.c_2.now c.follow.new.c_1 c.follow.new.c_2 =
     subst₂ (λ (t : List Seat) d. AreFollowed c.args.system.now c.args.frame.now.n t c.args.frame.now.scales.now c.args.frame.now.a.now c.args.frame.now.b.now c.exchange.new.v (c.in-Some.l - c.args.system.now.width) c.column_of-c.result c.args.place.den d c.args.c_1.now c.args.c_2.now c.follow.new.c_1 c.follow.new.c_2) stand size
-    (subst₂ (λ w d. AreFollowed c.args.system.now c.args.frame.now.n c.swap.new.seats c.args.frame.now.scales.now c.args.frame.now.a.now c.args.frame.now.b.now c.exchange.new.v (c.in-Some.l - w) c.column_of-c.result d c.unsigned_abs-size.result c.args.c_1.now c.args.c_2.now c.follow.new.c_1 c.follow.new.c_2) c.unknowns-width.ensures c.of-by.ensures c.in_ok-follow.ensures.values)
+    (subst₂ (λ w d. AreFollowed c.args.system.now c.args.frame.now.n c.swap.new.seats c.args.frame.now.scales.now c.args.frame.now.a.now c.args.frame.now.b.now c.exchange.new.v (c.in-Some.l - w) c.column_of-c.result d c.unsigned_abs-size.result c.args.c_1.now c.args.c_2.now c.follow.new.c_1 c.follow.new.c_2) c.unknowns-width.ensures c.of-by.ensures
+    (c.in_ok-follow.ensures.values c.swap.new.seats (seats_are at.After-swap e o) (c.swap.ensures.columns c.args.system.now.width c.requires.held.columns)))
     in
     subst (IsUnderway c.args.system.now c.args.frame.now.n c.swap.new.seats c.args.frame.now.scales.now c.unsigned_abs-size.result c.exchange.new.v c.follow.new.c_1 c.follow.new.c_2 c.greater.result c.greater-2.result) (sym c.unknowns-width.ensures)
     (subst₂ (λ (t : List Seat) d. IsUnderway c.args.system.now c.args.frame.now.n t c.args.frame.now.scales.now d c.exchange.new.v c.follow.new.c_1 c.follow.new.c_2 c.greater.result c.greater-2.result c.args.system.now.width) (sym stand) (sym size)

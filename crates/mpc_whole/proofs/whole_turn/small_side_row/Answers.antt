@@ -1,12 +1,10 @@
-use Rattle.std.proofs.Common.{◌≡◌, ◌∙◌, ap, sym, subst, ◌<◌, ◌≤◌, ◌+◌, ◌*◌, ◌^◌, ◌*ℤ◌, ◌⊎◌, inl, inr, ℕ, pos, length, arith, to_z, of_z, unsigned_abs, le_refl}
+use Rattle.std.proofs.Common.{◌≡◌, ◌∙◌, ap, sym, subst, ◌<◌, ◌≤◌, ◌+◌, ◌*◌, ◌^◌, ◌*ℤ◌, ℕ, length, arith, to_z, of_z, unsigned_abs, le_refl}
 use Rattle.std.specs.Int.{w64}
-use Rattle.std.proofs.lemmas.Bool.{cases_lt}
-use Rattle.std.proofs.lemmas.List.{get_or_past}
 use Rattle.mpc_rows.specs.LinearSystem.{height}
-use Rattle.mpc_whole.specs.Whole.{whole_at, whole_cell, whole_total, HasRoom}
+use Rattle.mpc_whole.specs.Whole.{whole_cell, whole_total, HasRoom}
 use Rattle.mpc_whole.proofs.WholeExchange.{rows_in}
 use Rattle.mpc_whole.proofs.WholeRooms.{back128}
-use Rattle.mpc_whole.proofs.WholeSteps.{read_small, set_below, set_bound}
+use Rattle.mpc_whole.proofs.WholeSteps.{read_small, set_below, set_bound, small_within}
 use Rattle.mpc_whole.proofs.whole_turn.small_side_row.Goals as goal
 use Rattle.mpc_whole.proofs.whole_turn.small_side_row.Goals.{After-loop-c}
 
@@ -48,14 +46,9 @@ returns-clause-row c =
     record { size = long at; cells = λ k h. c.loop-c.invariant.done k (let t = all_of at in omega arith) }
 
 pub returns-clause-small : goal.returns-clause-small
-returns-clause-small c = record { each = λ k. by k (cases_lt k c.loop-c.c) }
-  where
-    at : After-loop-c
-    at = (goal.at.returns-clause-small c).After-loop-c
-
-    by : (k : ℕ) → (k < c.loop-c.c) ⊎ (c.loop-c.c ≤ k) → unsigned_abs (whole_at c.loop-c.x k) ≤ 2 ^ 62
-    by k (inl h) = c.loop-c.invariant.small k h
-    by k (inr h) = subst (λ z. unsigned_abs z ≤ 2 ^ 62) (sym (get_or_past c.loop-c.x k (pos 0) (let t = all_of at in let q = long at in omega arith))) (omega arith)
+returns-clause-small c =
+    let at = (goal.at.returns-clause-small c).After-loop-c in
+    small_within c.loop-c.x (2 ^ 62) c.loop-c.c (let t = all_of at in let q = long at in omega arith) c.loop-c.invariant.small
 
 pub returns-in_err-z : goal.returns-in_err-z
 returns-in_err-z c = rw c.from_residual.ensures (record { row = tt; small = tt })

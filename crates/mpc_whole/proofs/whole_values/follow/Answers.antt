@@ -17,7 +17,7 @@ pub returns-in-Some-clause-values : goal.returns-in-Some-clause-values
 returns-in-Some-clause-values c =
     let f : FitsSigned w64 (get_or c.args.frame.now.b.now c.args.pivot.i (pos 0)) = search rules in
     let step : to_z w64 (of_z w64 c.step_of-step.result) ≡ c.step_of-step.result = read_small _ (let h = c.step_of-step.ensures.small in omega arith) in
-    inl (
+    λ seats seated columns. inl (
       c.step_of-step.result,
       c.step_of-step.ensures.value,
       subst₂ (λ w h. AreMoved w c.args.frame.now.a.now c.args.pivot.i (get_or c.args.frame.now.b.now c.args.pivot.i (pos 0)) h c.args.v.now c.args.pivot.e c.args.pivot.by.den c.args.pivot.size c.args.c_1.now c.args.c_2.now c.move_values.new.c_1 c.move_values.new.c_2) c.requires.parts.first_size step
@@ -28,7 +28,7 @@ pub returns-in-Some-clause-parts : goal.returns-in-Some-clause-parts
 returns-in-Some-clause-parts c = subst (λ w. AreParts w c.move_values.new.c_1 c.move_values.new.c_2) c.requires.parts.first_size c.in-Some.ensures.parts
 
 pub returns-clause-values : goal.returns-clause-values
-returns-clause-values c = IfSome_then c.stand.result c.stand.ensures.values (λ u formed. inr (record { each = formed }))
+returns-clause-values c = IfSome_then c.stand.result c.stand.ensures.values (λ u formed. λ seats seated columns. inr (formed seats seated columns))
 
 pub returns-clause-parts : goal.returns-clause-parts
 returns-clause-parts c = c.stand.ensures.parts
