@@ -50,7 +50,9 @@ pub struct Run<'a> {
     first: Vec<i64>,
     second: Vec<i64>,
     sums: Vec<(i128, i128)>,
+    /// The row that leaves, over a divisor of it and the denominator.
     row: Vec<i64>,
+    divisor: i64,
 }
 
 /// What the numbers of a position are multiplied by, at most: those in one column by a top, all others and the denominator by a size.
@@ -192,6 +194,7 @@ impl<'a> Run<'a> {
             second: vec![0; width],
             sums: vec![(0, 0); width],
             row: vec![0; width],
+            divisor: 1,
         }
     }
 
@@ -201,6 +204,7 @@ impl<'a> Run<'a> {
         self.v.fill(0);
         self.v.iter_mut().step_by(width + 1).for_each(|entry| *entry = 1);
         self.den = 1;
+        self.divisor = 1;
         self.columns.iter_mut().enumerate().for_each(|(y, column)| *column = (y < width).then_some(y));
         self.first.fill(0);
         self.second.fill(0);
@@ -254,6 +258,20 @@ impl<'a> Run<'a> {
         Some(())
     }
 
+    /// Forms the row of side i, over what divides it and the denominator where its numbers aren't small.
+    fn form_divided_row(&mut self, i: usize) -> Option<()> {
+        self.divisor = 1;
+        if self.form_row(i).is_some() {
+            return Some(());
+        }
+        let shared = (0..self.row.len()).fold(size(self.den), |shared, c| divisor(self.entry(i, c).unsigned_abs(), shared));
+        self.divisor = small(shared as i128)?;
+        for c in 0..self.row.len() {
+            self.row[c] = small(self.entry(i, c) / shared as i128)?;
+        }
+        Some(())
+    }
+
     /// The variable that enters, and its column.
     fn entering(&self) -> Option<(usize, usize)> {
         let width = self.rows.width;
@@ -289,14 +307,15 @@ impl<'a> Run<'a> {
     }
 
     /// What the numbers of the position are multiplied by where side i leaves and the column e is entered.
-    fn factors(&self, i: usize, e: usize) -> Factors {
+    fn factors(&self, i: usize, e: usize) -> Option<Factors> {
         let mut by = Factors { column: e, top: self.rows.scale(self.rows.width + i), size: 0 };
         for (y, column) in self.columns.iter().enumerate() {
             let Some(c) = *column else { continue };
             let product = size(self.row[c]) * self.rows.scale(y);
             if c == e { by.size = product } else { by.top = by.top.max(product) }
         }
-        by
+        let times = |x: u128| x.checked_mul(size(self.divisor));
+        Some(Factors { top: times(by.top)?, size: times(by.size)?, ..by })
     }
 
     /// If the numbers of all rows, and the denominator, leave room for products with numbers of such sizes.
@@ -316,12 +335,12 @@ impl<'a> Run<'a> {
 
     /// The pivot on the row and the column in lowest terms, if all numbers are small then.
     fn reduce(&mut self, e: usize) -> Option<()> {
-        let (row, den, pivot) = (&self.row, self.den, self.row[e].abs());
+        let (row, rest, pivot) = (&self.row, self.den / self.divisor, self.row[e].abs());
         let factor = |line: &[i64]| if row[e] < 0 { -line[e] } else { line[e] };
         let numerator = |old: i64, factor: i64, c: usize| {
-            if c == e { product(factor, den) } else { product(old, pivot) - product(factor, row[c]) }
+            if c == e { product(factor, rest) } else { product(old, pivot) - product(factor, row[c]) }
         };
-        let over = product(pivot, den);
+        let over = product(pivot, self.den);
         let mut shared = over.unsigned_abs();
         for line in self.v.chunks_exact(row.len()) {
             for (c, old) in line.iter().enumerate() {
@@ -367,11 +386,11 @@ impl<'a> Run<'a> {
         let Some(i) = self.leaving() else {
             return self.judge(Factors::default()).map(|()| Found::Point);
         };
-        self.form_row(i)?;
+        self.form_divided_row(i)?;
         let Some((y, c)) = self.entering() else {
             return self.judge(Factors::default()).map(|()| Found::Refuted(i));
         };
-        self.judge(self.factors(i, c))?;
+        self.judge(self.factors(i, c)?)?;
         self.reduce(c)?;
         self.exchange(i, y, c);
         self.stand()?;
@@ -384,7 +403,7 @@ impl<'a> Run<'a> {
     }
 
     fn multipliers(&self, l: usize) -> Answer {
-        let den = product(self.den, self.rows.scales[l]);
+        let den = product(self.den / self.divisor, self.rows.scales[l]);
         let multiplier = |i: usize| match self.columns[self.rows.width + i] {
             None if i == l => ONE,
             None => ZERO,

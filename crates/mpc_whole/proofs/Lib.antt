@@ -37,6 +37,7 @@ pub mod WholeEnds
 pub mod WholeSizes
 pub mod ValuesAfter
 pub mod WholeMoves
+pub mod DividedRows
 pub mod Standing
 pub mod WholeRun
 pub mod JudgedRun

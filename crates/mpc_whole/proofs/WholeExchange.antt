@@ -1,9 +1,7 @@
 -- The numbers of a pivot, as the code writes them one by one.
-use Rattle.std.proofs.Common.{◌≡◌, ℕ, suc, ◌+◌, ◌*◌, ◌<◌, ◌≤◌, List, length, set, ℤ, pos, ◌+ℤ◌, ◌*ℤ◌, neg_ℤ, unsigned_abs, sym, ◌∙◌, ap, subst, arith, refl, ◌⊎◌, inl, inr, mul-le-mul_right, mul_comm}
+use Rattle.std.proofs.Common.{◌≡◌, ℕ, suc, ◌+◌, ◌*◌, ◌<◌, ◌≤◌, List, length, set, ℤ, pos, ◌+ℤ◌, ◌*ℤ◌, neg_ℤ, unsigned_abs, sym, ◌∙◌, ap, subst, arith, refl, ◌⊎◌, inl, inr, mul-le-mul_right}
 use Rattle.std.proofs.lemmas.Bool.{cases_eq}
-use Rattle.std.proofs.lemmas.Int.{unsigned_abs-mul}
 use Rattle.mpc_exact.proofs.IntRing.{int_mul_cancel}
-use Rattle.mpc_whole.specs.Judged.{IsReducedPivot}
 use Rattle.mpc_whole.specs.Whole.{whole_at, whole_cell, IsChanged, IsWholePivot, turned}
 use Rattle.mpc_whole.proofs.WholeSteps.{set_same, set_other}
 
@@ -66,19 +64,5 @@ module _ (width factor den : ℕ) (old now new x : List ℤ) (j e : ℕ) (e_in :
 pub pivot_whole : (width den : ℕ) (old new x : List ℤ) (e : ℕ) → 0 < den → e < width → ((j c : ℕ) → j < width → c < width → IsChanged width den den old x j e c (whole_cell width new j c)) → IsWholePivot width den old new x e
 pivot_whole width den old new x e some b h = record {
   column = λ j l. int_mul_cancel den some ((h j e l b).entering refl);
-  others = λ j c l k m. (h j c l k).other m;
-}
-
-pub pivot_reduced : (width factor den size : ℕ) (old new x : List ℤ) (e : ℕ) (z : ℤ) → 0 < factor → e < width → z *ℤ pos factor ≡ pos (unsigned_abs (whole_at x e)) *ℤ pos den → size ≡ unsigned_abs z
-    → ((j c : ℕ) → j < width → c < width → IsChanged width factor den old x j e c (whole_cell width new j c)) → IsReducedPivot width den old new x e size
-pivot_reduced width factor den size old new x e z some b over is h = record {
-  factor = factor;
-  some = some;
-  over =
-      let s : unsigned_abs z * factor ≡ unsigned_abs (whole_at x e) * den = sym (unsigned_abs-mul z (pos factor)) ∙ ap unsigned_abs over ∙ unsigned_abs-mul (pos (unsigned_abs (whole_at x e))) (pos den) in
-      let t : factor * size ≡ size * factor = mul_comm factor size in
-      let u : unsigned_abs (whole_at x e) * den ≡ den * unsigned_abs (whole_at x e) = mul_comm (unsigned_abs (whole_at x e)) den in
-      t ∙ ap (λ m. m * factor) is ∙ s ∙ u;
-  column = λ j l. (h j e l b).entering refl;
   others = λ j c l k m. (h j c l k).other m;
 }

@@ -1,5 +1,5 @@
 -- Lists of whole numbers that the code changes, and where a side rests.
-use Rattle.std.proofs.Common.{◌≡◌, ℕ, ◌+◌, ◌-◌, ◌^◌, ◌<◌, ◌≤◌, false, List, length, set, ℤ, pos, unsigned_abs, sym, ◌∙◌, ap, subst, subst₂, arith, ◌⊎◌, inl, inr, to_z, of_z, get_or-set_same, get_or-set_other, le-ltb, le_trans}
+use Rattle.std.proofs.Common.{◌≡◌, ℕ, ◌+◌, ◌-◌, ◌^◌, ◌<◌, ◌≤◌, false, List, length, set, ℤ, pos, ◌*ℤ◌, unsigned_abs, sym, ◌∙◌, ap, subst, subst₂, arith, ◌⊎◌, inl, inr, to_z, of_z, get_or-set_same, get_or-set_other, le-ltb, le_trans}
 use Rattle.std.specs.Int.{w64}
 use Rattle.std.proofs.lemmas.Bool.{cases_eq, cases_lt}
 use Rattle.std.proofs.lemmas.List.{get_or_past}
@@ -69,6 +69,14 @@ both_set P xs ys j x y a b h p k l = by (cases_eq k j)
     by : (k ≡ j) ⊎ (k ≡ j → ⊥) → P k (whole_at (set xs j x) k) (whole_at (set ys j y) k)
     by (inl q) = subst (λ m. P m (whole_at (set xs j x) m) (whole_at (set ys j y) m)) (sym q) (subst₂ (P j) (sym (set_same xs j x a)) (sym (set_same ys j y b)) p)
     by (inr q) = subst₂ (P k) (sym (set_other xs j x a k q)) (sym (set_other ys j y b k q)) (h k (omega arith))
+
+-- what the products with d are to be below j, and now also at j
+pub set_product : (xs : List ℤ) (j : ℕ) (z : ℤ) → j < length xs → (d : ℤ) (f : ℕ → ℤ) → ((k : ℕ) → k < j → whole_at xs k *ℤ d ≡ f k) → z *ℤ d ≡ f j → (k : ℕ) → k < j + 1 → whole_at (set xs j z) k *ℤ d ≡ f k
+set_product xs j z b d f h e k l = by (cases_eq k j)
+  where
+    by : (k ≡ j) ⊎ (k ≡ j → ⊥) → whole_at (set xs j z) k *ℤ d ≡ f k
+    by (inl q) = ap (λ u. u *ℤ d) (ap (whole_at (set xs j z)) q ∙ set_same xs j z b) ∙ e ∙ ap f (sym q)
+    by (inr q) = ap (λ u. u *ℤ d) (set_other xs j z b k q) ∙ h k (omega arith)
 
 -- ---- where a side rests
 module _ (s : LinearSystem) (y : ℕ) (h : s.width ≤ y) where

@@ -1,5 +1,5 @@
 -- A run in whole numbers out of which common divisors are taken, where the sizes of each row's own numbers show that no operation is wide.
-use Rattle.std.specs.Prelude.{◌≡◌, ℕ, ◌-◌, ◌*◌, ◌<◌, ◌≤◌, ◌^◌, List, ℤ, pos, ◌+ℤ◌, ◌*ℤ◌, neg_ℤ, unsigned_abs, Some}
+use Rattle.std.specs.Prelude.{◌≡◌, ℕ, ◌-◌, ◌*◌, ◌<◌, ◌≤◌, ◌^◌, List, length, ℤ, pos, ◌+ℤ◌, ◌*ℤ◌, neg_ℤ, unsigned_abs, Some}
 use Rattle.mpc_rows.specs.Least.{least}
 use Rattle.mpc_rows.specs.LinearSystem.{LinearSystem, height}
 use Rattle.mpc_rows.specs.Run.{Position, goes_on, count, may_leave, may_enter, turn, position}
@@ -38,6 +38,18 @@ pub record IsNorm (width : ℕ) (a : List ℤ) (norm : ℕ) : Type 0 where
   pub each : IsSmall most a
   pub some : 1 ≤ norm
   pub rows : width * most ≤ norm
+
+-- a row is this one times a divisor
+pub record IsTimes (divisor : ℕ) (x row : List ℤ) : Type 0 where
+  pub size : length row ≡ length x
+  pub each : (c : ℕ) → c < length x → whole_at row c ≡ whole_at x c *ℤ pos divisor
+
+-- the row x is that of side i over a divisor of it and of the denominator, of which so much is left
+pub record IsDividedRow (s : LinearSystem) (a v : List ℤ) (i den divisor rest : ℕ) (x : List ℤ) : Type 0 where
+  pub size : length x ≡ s.width
+  pub cells : (c : ℕ) → c < s.width → whole_at x c *ℤ pos divisor ≡ side_cell s a v i c
+  pub some : 0 < divisor
+  pub split : divisor * rest ≡ den
 
 -- the numbers after a pivot where the row x leaves and the column e enters, over the denominator size: a factor is taken out of those over
 -- the product of the denominator before it and the number of x in that column

@@ -4,20 +4,20 @@ ghost use Rattle.std.specs.Prelude.{◌≡◌, ℕ, ◌*◌, ◌-◌, ◌≤◌,
 ghost use Rattle.mpc_rows.specs.Run.{count, steps};
 ghost use Rattle.mpc_whole.specs.Lists.{AreListsOf};
 ghost use Rattle.mpc_whole.specs.Underway.{HasEnded};
-ghost use Rattle.mpc_whole.specs.Judged.{AreMildBefore, IsMildlyUnderway, IsGoingOn};
+ghost use Rattle.mpc_whole.specs.Judged.{IsDividedRow, AreMildBefore, IsMildlyUnderway, IsGoingOn};
 ghost use Rattle.mpc_whole.specs.Found.{IfEnded, IfNext};
 ghost use Rattle.mpc_whole.specs.Running.{HasNumbers};
-ghost use Rattle.mpc_whole.specs.Whole.{IsSmall, IsSideRow, IsWholeSystem, HasRoom};
+ghost use Rattle.mpc_whole.specs.Whole.{IsSmall, IsWholeSystem, HasRoom};
 
 use crate::frames::Frame;
-use crate::judge::{factors_of, judge, judge_end, times};
+use crate::judge::{factors_of, judge, judge_end, times, times_divisor};
 use crate::lists::RunLists;
 use crate::reduced::reduce;
 use crate::variables::column_of;
 use crate::whole::{Ending, Found, Place, STEPS, greater, swap};
 use crate::whole_numbers::Sums;
 use crate::whole_systems::{WholeNumbers, WholeSystem};
-use crate::whole_turn::{entering, first_out, small_side_row};
+use crate::whole_turn::{DividedRow, divided_side_row, entering, first_out};
 use crate::whole_values::stand;
 
 /// The greater of a product that is kept and one more.
@@ -29,10 +29,10 @@ fn greater_product(product: u128, own: u64, top: u128) -> Option<u128>
     Some(next.max(product))
 }
 
-/// The pivot where the row x of the side l leaves and e enters, with the values of the unknowns after it.
+/// The pivot where the row of the side l leaves and e enters, with the values of the unknowns after it.
 fn advance(
     lists: &mut RunLists,
-    x: &[i64],
+    row: DividedRow,
     system: &WholeSystem,
     frame: &Frame,
     place: Place,
@@ -42,20 +42,22 @@ fn advance(
     requires numbers { HasNumbers system.now frame.now.n frame.now.scales.now frame.now.a.now frame.now.b.now }
     requires lists { AreListsOf system.now place.own lists.old }
     requires den_small { place.den ≤ 2 ^ 62 }
-    requires row { IsSideRow system.now frame.now.a.now lists.old.v.items (l - system.now.width) x.now }
-    requires row_small { IsSmall (2 ^ 62) x.now }
+    requires row { IsDividedRow system.now frame.now.a.now lists.old.v.items (l - system.now.width) place.den row.divisor row.rest row.x.now }
+    requires row_small { IsSmall (2 ^ 62) row.x.now }
+    requires rest_small { row.rest ≤ 2 ^ 62 }
     requires goes { IsGoingOn system.now (count system.now) lists.old.seats.items frame.now.scales.now place.den lists.old.v.items lists.old.firsts.items lists.old.seconds.items place.greatest place.greatest_den place.product place.first l e }
     ensures lists { IfSome result (λ p. AreListsOf system.now p.own lists.new) }
     ensures den_small { IfSome result (λ p. p.den ≤ 2 ^ 62) }
     ensures underway { IfSome result (λ p. IsMildlyUnderway system.now (count system.now) lists.new.seats.items frame.now.scales.now p.den lists.new.v.items lists.new.firsts.items lists.new.seconds.items p.greatest p.greatest_den p.product p.first) }
 {
-    let by = factors_of(&lists.seats, x, frame.scales, l, e);
+    let own_factors = factors_of(&lists.seats, row.x, frame.scales, l, e);
+    let by = times_divisor(own_factors, row.divisor)?;
     judge(&lists.seats, &lists.v, system, frame, place.den, by)?;
     let own = greater(place.own, place.den);
     let top = times(place.den, frame.scales[l]).max(by.top).max(by.size);
     let product = greater_product(place.product, own, top)?;
     let c = column_of(&lists.seats, e);
-    let after = reduce(&mut lists.v, x, c, place.den)?;
+    let after = reduce(&mut lists.v, row.x, c, place.den, row.rest)?;
     swap(&mut lists.seats, &mut lists.nonbasic, l, e, c);
     stand(
         &mut lists.firsts,
@@ -107,12 +109,14 @@ fn judged_step(
         judge_end(&lists.seats, &lists.v, system, frame, place.den)?;
         return Some(Found::Ended(Ending::Point));
     };
-    small_side_row(x, system, frame.a, &lists.v, l - system.unknowns())?;
+    let side = l - system.unknowns();
+    let (divisor, rest) = divided_side_row(x, system, frame.a, &lists.v, side, place.den)?;
     let Some(e) = entering(system, &lists.nonbasic, x, frame.n) else {
         judge_end(&lists.seats, &lists.v, system, frame, place.den)?;
         return Some(Found::Ended(Ending::Refuted(l)));
     };
-    let next = advance(lists, x, system, frame, place, l, e)?;
+    let row = DividedRow { x, divisor, rest };
+    let next = advance(lists, row, system, frame, place, l, e)?;
     Some(Found::Next(next))
 }
 

@@ -1,8 +1,8 @@
 //! A pivot in whole numbers out of which a common divisor is taken.
 
-ghost use Rattle.std.specs.Prelude.{◌≡◌, ℕ, pos, ◌+◌, ◌*◌, ◌<◌, ◌≤◌, ◌^◌, ◌⊎◌, ◌+ℤ◌, ◌*ℤ◌, neg_ℤ, unsigned_abs, IfSome, length};
+ghost use Rattle.std.specs.Prelude.{◌≡◌, ℕ, ℤ, List, pos, ◌+◌, ◌*◌, ◌<◌, ◌≤◌, ◌^◌, ◌⊎◌, ◌+ℤ◌, ◌*ℤ◌, neg_ℤ, unsigned_abs, IfSome, length};
 ghost use Rattle.mpc_whole.specs.Whole.{whole_at, whole_cell, IsSmall, IsChanged};
-ghost use Rattle.mpc_whole.specs.Judged.{IsReducedPivot};
+ghost use Rattle.mpc_whole.specs.Judged.{IsTimes, IsReducedPivot};
 
 use crate::divisors::Divisor;
 use crate::whole_numbers::{difference, product, signed, small_quotient, turned};
@@ -28,7 +28,7 @@ fn numerator(old: i64, factor: i64, x: i64, size: u64, e: usize, c: usize, den: 
 
 /// What divides both.
 #[inline]
-fn shared_with(shared: u128, z: u128) -> u128
+pub(crate) fn shared_with(shared: u128, z: u128) -> u128
     requires { 0 < shared }
     ensures { 0 < result }
 {
@@ -144,14 +144,16 @@ pub(crate) struct Reduced {
     pub own: u64,
 }
 
-/// The pivot where the row x leaves and the column e enters, in lowest terms, if all numbers are small then.
-pub(crate) fn reduce(v: &mut [i64], x: &[i64], e: usize, den: u64) -> Option<Reduced>
+/// The pivot where a row leaves and the column e enters, in lowest terms, if all numbers are small then. The row is
+/// given as x, over a divisor of the denominator, of which the rest is left.
+pub(crate) fn reduce(v: &mut [i64], x: &[i64], e: usize, den: u64, rest: u64) -> Option<Reduced>
     requires square { length v.old ≡ length x.now * length x.now }
     requires column { e < length x.now }
     requires den_small { den ≤ 2 ^ 62 }
+    requires rest_small { rest ≤ 2 ^ 62 }
     requires small { IsSmall (2 ^ 62) v.old }
     requires row_small { IsSmall (2 ^ 62) x.now }
-    ensures pivot { IfSome result (λ r. IsReducedPivot (length x.now) den v.old v.new x.now e r.den) }
+    ensures pivot { IfSome result (λ r. (row : List ℤ) (divisor : ℕ) → 0 < divisor → divisor * rest ≡ den → IsTimes divisor x.now row → IsReducedPivot (length x.now) den v.old v.new row e r.den) }
     ensures small { IfSome result (λ _. IsSmall (2 ^ 62) v.new) }
     ensures own { IfSome result (λ r. IsSmall r.own v.new) }
     ensures den_small { IfSome result (λ r. r.den ≤ 2 ^ 62) }
@@ -160,13 +162,13 @@ pub(crate) fn reduce(v: &mut [i64], x: &[i64], e: usize, den: u64) -> Option<Red
     if over <= 0 {
         return None;
     }
-    let divisor = shared_divisor(v, x, e, den, over.unsigned_abs());
+    let divisor = shared_divisor(v, x, e, rest, over.unsigned_abs());
     if divisor > 1 << 62 {
         return None;
     }
     let by = Divisor::of(divisor as u64);
     let size = small_quotient(over, by, 1 << 62)?;
-    let own = reduce_rows(v, x, e, den, by)?;
+    let own = reduce_rows(v, x, e, rest, by)?;
     Some(Reduced {
         den: size.unsigned_abs(),
         own,

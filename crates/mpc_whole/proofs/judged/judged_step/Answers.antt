@@ -4,13 +4,14 @@ use Rattle.mpc_rows.specs.LinearSystem.{height}
 use Rattle.mpc_rows.specs.Run.{count, may_leave, may_enter, position}
 use Rattle.mpc_whole.specs.declared.variables.Seat.{Seat}
 use Rattle.mpc_whole.specs.Table.{IsSeated, AreNonbasic}
-use Rattle.mpc_whole.specs.Whole.{HasBasis, HasSideValues, IsRowOf, IsSideRow}
-use Rattle.mpc_whole.specs.Judged.{IsJudged}
+use Rattle.mpc_whole.specs.Whole.{HasBasis, HasSideValues, IsRowOf}
+use Rattle.mpc_whole.specs.Judged.{IsJudged, IsDividedRow}
+use Rattle.mpc_whole.proofs.DividedRows.{times_row, times_is, side_of_divided, rest_some, row_of_divided}
 use Rattle.mpc_whole.proofs.Standing.{leaves_here, side_in, row_of_leaving}
 use Rattle.mpc_whole.proofs.WholeRun.{side_values_at}
 use Rattle.mpc_whole.proofs.JudgedRun.{judged_point, mild_point, judged_refuted, mild_refuted}
 use Rattle.mpc_whole.proofs.judged.judged_step.Goals as goal
-use Rattle.mpc_whole.proofs.judged.judged_step.Goals.{After-first_out, In-Some, After-small_side_row, After-entering, In_ok-judge_end, In_ok-judge_end-2}
+use Rattle.mpc_whole.proofs.judged.judged_step.Goals.{After-first_out, In-Some, After-divided_side_row, After-entering, In_ok-judge_end, In_ok-judge_end-2}
 
 found : (c : After-first_out) → c.first_out.result ≡ least (may_leave c.args.system.now (position c.args.system.now c.requires.underway.underway.stands.at)) (count c.args.system.now)
 found c =
@@ -42,14 +43,14 @@ returns-in_default-clause-before c =
 leaver_is : (c : In-Some) → c.first_out.result ≡ least (may_leave c.args.system.now (position c.args.system.now c.requires.underway.underway.stands.at)) (count c.args.system.now) → Some c.in-Some.l ≡ least (may_leave c.args.system.now (position c.args.system.now c.requires.underway.underway.stands.at)) (count c.args.system.now)
 leaver_is c f = let q : c.first_out.result ≡ Some c.in-Some.l = c.in-Some.is in sym q ∙ f
 
-pub overflow_sub-l : goal.overflow_sub-l
-overflow_sub-l c =
-    let at = goal.at.overflow_sub-l c in
+pub overflow_sub-side : goal.overflow_sub-side
+overflow_sub-side c =
+    let at = goal.at.overflow_sub-side c in
     subst (λ w. w ≤ c.in-Some.l) (sym c.unknowns.ensures) (leaves_here c.args.system.now (count c.args.system.now) c.args.lists.now.seats.items c.requires.lists.seated c.args.frame.now.scales.now c.args.place.den c.args.lists.now.v.items c.args.frame.now.a.now c.args.frame.now.b.now c.requires.numbers.whole c.requires.underway.underway.stands c.in-Some.l (leaver_is at.In-Some (found at.After-first_out))).violated.side
 
-pub small_side_row-requires-clause-side : goal.small_side_row-requires-clause-side
-small_side_row-requires-clause-side c =
-    let at = goal.at.small_side_row-requires-clause-side c in
+pub divided_side_row-requires-clause-side : goal.divided_side_row-requires-clause-side
+divided_side_row-requires-clause-side c =
+    let at = goal.at.divided_side_row-requires-clause-side c in
     subst (λ w. c.in-Some.l - w < height c.args.system.now) (sym c.unknowns.ensures) (side_in c.args.system.now (count c.args.system.now) c.args.lists.now.seats.items c.requires.lists.seated c.args.frame.now.scales.now c.args.place.den c.args.lists.now.v.items c.args.frame.now.a.now c.args.frame.now.b.now c.requires.numbers.whole c.requires.underway.underway.stands c.in-Some.l (leaver_is at.In-Some (found at.After-first_out)))
 
 entered : (c : After-entering) → Some c.in-Some.l ≡ least (may_leave c.args.system.now (position c.args.system.now c.requires.underway.underway.stands.at)) (count c.args.system.now) → c.entering.result ≡ least (may_enter c.args.system.now (position c.args.system.now c.requires.underway.underway.stands.at) c.in-Some.l) (count c.args.system.now)
@@ -59,14 +60,23 @@ entered c e =
     let seated = subst (λ m. IsSeated (height c.args.system.now) c.args.system.now.width m c.args.lists.now.seats.items) back c.requires.lists.seated in
     let columns : AreNonbasic c.args.system.now.width c.args.lists.now.seats.items c.deref-5.result.now = rw c.deref-5.ensures.value c.requires.lists.columns in
     let basis : HasBasis c.args.frame.now.n c.args.lists.now.seats.items (position c.args.system.now c.requires.underway.underway.stands.at) = subst (λ m. HasBasis m c.args.lists.now.seats.items (position c.args.system.now c.requires.underway.underway.stands.at)) back (record { basic = z.form.basic }) in
-    let side : IsSideRow c.args.system.now c.args.frame.now.a.now c.args.lists.now.v.items (c.in-Some.l - c.args.system.now.width) c.small_side_row.new.x =
-    subst₂ (λ w (u : List ℤ). IsSideRow c.args.system.now c.args.frame.now.a.now u (c.in-Some.l - w) c.small_side_row.new.x) c.unknowns.ensures c.deref-4.ensures.value c.in_ok-small_side_row.ensures.row
+    let s = c.args.system.now in
+    let k = c.args.frame.now.scales.now in
+    let a = c.args.frame.now.a.now in
+    let r = c.args.lists.now in
+    let den = c.args.place.den in
+    let g = c.in_ok-divisor.divisor in
+    let rest = c.in_ok-divisor.rest in
+    let x = c.divided_side_row.new.x in
+    let divided : IsDividedRow s a r.v.items (c.in-Some.l - s.width) den g rest x =
+    subst₂ (λ w (u : List ℤ). IsDividedRow s a u (c.in-Some.l - w) den g rest x) c.unknowns.ensures c.deref-4.ensures.value c.in_ok-divisor.ensures.row
     in
-    let row = subst (λ m. IsRowOf m c.args.lists.now.seats.items c.args.frame.now.scales.now (position c.args.system.now c.requires.underway.underway.stands.at) c.args.place.den c.in-Some.l c.small_side_row.new.x) back
-    (row_of_leaving c.args.system.now (count c.args.system.now) c.args.lists.now.seats.items c.requires.lists.seated c.args.frame.now.scales.now c.args.place.den c.args.lists.now.v.items c.args.frame.now.a.now c.args.frame.now.b.now c.requires.numbers.whole z c.in-Some.l e c.small_side_row.new.x side)
+    let real = row_of_leaving s (count s) r.seats.items c.requires.lists.seated k den r.v.items a c.args.frame.now.b.now c.requires.numbers.whole z c.in-Some.l e (times_row g x) (side_of_divided s a r.v.items (c.in-Some.l - s.width) den g rest x divided) in
+    let row = subst (λ m. IsRowOf m r.seats.items k (position s z.at) rest c.in-Some.l x) back
+    (row_of_divided (count s) r.seats.items k (position s z.at) den c.in-Some.l g rest x (times_row g x) z.form.some divided.split (times_is g x) (λ y m h q. subst (λ w. m < w) (sym divided.size) (c.requires.lists.seated.columns y m h q).0) real)
     in
     subst (λ m. c.entering.result ≡ least (may_enter c.args.system.now (position c.args.system.now c.requires.underway.underway.stands.at) c.in-Some.l) m) c.requires.numbers.count
-    (c.entering.ensures c.args.lists.now.seats.items (position c.args.system.now c.requires.underway.underway.stands.at) c.args.frame.now.scales.now c.in-Some.l c.args.place.den seated columns z.form.some basis row)
+    (c.entering.ensures c.args.lists.now.seats.items (position c.args.system.now c.requires.underway.underway.stands.at) c.args.frame.now.scales.now c.in-Some.l rest seated columns (rest_some g rest den divided.split z.form.some) basis row)
 
 judged_then : (c : In_ok-judge_end-2) → IsJudged c.args.system.now (count c.args.system.now) c.args.lists.now.seats.items c.args.frame.now.scales.now c.args.frame.now.a.now c.args.frame.now.b.now c.args.place.den c.args.lists.now.v.items 0 0 0
 judged_then c =
@@ -94,3 +104,6 @@ advance-requires-clause-goes c =
     let e = leaver_is at.In-Some (found at.After-first_out) in
     let q : c.entering.result ≡ Some c.in-Some-entering.e = c.in-Some-entering.is in
     record { underway = c.requires.underway; leaves = e; enters = sym q ∙ entered at.After-entering e }
+
+pub divided_side_row-requires-clause-den_some : goal.divided_side_row-requires-clause-den_some
+divided_side_row-requires-clause-den_some c = c.requires.underway.underway.stands.form.some

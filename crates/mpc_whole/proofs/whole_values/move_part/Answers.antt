@@ -1,21 +1,13 @@
-use Rattle.std.proofs.Common.{◌≡◌, ℕ, ◌+◌, ◌*◌, ◌<◌, ◌≤◌, ◌^◌, ◌+ℤ◌, ◌*ℤ◌, neg_ℤ, ℤ, List, pos, get_or, set, length, sym, ◌∙◌, ap, subst, arith, to_z, of_z, unsigned_abs, ◌⊎◌, inl, inr, le_refl, [], ◌∷◌}
+use Rattle.std.proofs.Common.{◌≡◌, ℕ, ◌+◌, ◌*◌, ◌<◌, ◌≤◌, ◌^◌, ◌+ℤ◌, ◌*ℤ◌, neg_ℤ, ℤ, List, pos, get_or, length, sym, ◌∙◌, ap, subst, arith, to_z, of_z, unsigned_abs, le_refl, [], ◌∷◌}
 use Rattle.std.specs.Int.{w64}
-use Rattle.std.proofs.lemmas.Bool.{cases_eq}
 use Rattle.std.proofs.lemmas.Int.{to_z-of_z}
 use Rattle.mpc_whole.specs.Whole.{whole_at, whole_cell}
 use Rattle.mpc_exact.proofs.IntRing.{int_reads, by_ring_ℤ}
 use Rattle.mpc_whole.specs.Moved.{excess, IsMoved}
 use Rattle.mpc_whole.proofs.WholeSums.{whole_total-zeros}
-use Rattle.mpc_whole.proofs.WholeSteps.{read_small, read_bound, set_same, set_other, set_small, set_above}
+use Rattle.mpc_whole.proofs.WholeSteps.{read_small, read_bound, set_small, set_above, set_product}
 use Rattle.mpc_whole.proofs.WholeExchange.{row_inside}
 use Rattle.mpc_whole.proofs.whole_values.move_part.Goals as goal
-
-one_more : (xs : List ℤ) (j : ℕ) (z : ℤ) → j < length xs → (d : ℤ) (f : ℕ → ℤ) → ((k : ℕ) → k < j → whole_at xs k *ℤ d ≡ f k) → z *ℤ d ≡ f j → (k : ℕ) → k < j + 1 → whole_at (set xs j z) k *ℤ d ≡ f k
-one_more xs j z b d f h e k l = by (cases_eq k j)
-  where
-    by : (k ≡ j) ⊎ (k ≡ j → ⊥) → whole_at (set xs j z) k *ℤ d ≡ f k
-    by (inl q) = ap (λ u. u *ℤ d) (ap (whole_at (set xs j z)) q ∙ set_same xs j z b) ∙ e ∙ ap f (sym q)
-    by (inr q) = ap (λ u. u *ℤ d) (set_other xs j z b k q) ∙ h k (omega arith)
 
 times_zero : (x : ℤ) → x *ℤ pos 0 ≡ pos 0
 times_zero x = by_ring_ℤ (x ∷ []) (search int_reads depth 30) (search int_reads depth 30) tt
@@ -43,7 +35,7 @@ loop-j-preserved c =
     ap (λ u. u *ℤ pos c.args.pivot.by.den) back ∙ c.in_ok-new.ensures.value ∙ (λ t. (old t *ℤ pos c.args.pivot.size) +ℤ neg_ℤ (factor t *ℤ over t))
     in
     record {
-      done = one_more c.loop-j.c c.loop-j.j z b (pos c.args.pivot.by.den) (λ k. (whole_at c.args.c.now k *ℤ pos c.args.pivot.size) +ℤ neg_ℤ (whole_cell w c.args.v.now k c.args.pivot.e *ℤ excess w c.args.a.now c.args.pivot.i (to_z w64 (of_z w64 c.args.limit)) c.args.pivot.by.den c.args.c.now)) c.loop-j.invariant.done e;
+      done = set_product c.loop-j.c c.loop-j.j z b (pos c.args.pivot.by.den) (λ k. (whole_at c.args.c.now k *ℤ pos c.args.pivot.size) +ℤ neg_ℤ (whole_cell w c.args.v.now k c.args.pivot.e *ℤ excess w c.args.a.now c.args.pivot.i (to_z w64 (of_z w64 c.args.limit)) c.args.pivot.by.den c.args.c.now)) c.loop-j.invariant.done e;
       kept = set_above c.loop-j.c c.loop-j.j z b c.args.c.now c.loop-j.invariant.kept;
       small = set_small c.loop-j.c c.loop-j.j z b (2 ^ 62) c.loop-j.invariant.small (subst (λ u. unsigned_abs u ≤ 2 ^ 62) (sym back) c.in_ok-new.ensures.small);
     }
