@@ -14,7 +14,7 @@ use crate::numbers::{Standing, zero};
 use crate::variables::{Seat, column_of, is_basic};
 use crate::whole_numbers::{negative, product, signed, widened};
 use crate::whole_systems::WholeSystem;
-use crate::whole_turn::small_side_row;
+use crate::whole_turn::divided_side_row;
 use mpc_frac::Frac;
 
 /// The fraction `z / den`, if it has 128 bits.
@@ -155,6 +155,6 @@ pub fn last_multipliers(
     requires refuted { turn system.now (last_position system.now) ≡ is_refuted l }
     ensures { IfSome result (λ _. IsMultipliers system.now (last_position system.now) l list.new) }
 {
-    small_side_row(x, system, a, v, l - system.unknowns())?;
-    multipliers(list, system, scales, seats, x, den, l)
+    let divided = divided_side_row(x, system, a, v, l - system.unknowns(), den)?;
+    multipliers(list, system, scales, seats, x, divided.1, l)
 }
