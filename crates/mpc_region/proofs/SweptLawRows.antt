@@ -1,9 +1,8 @@
 -- The rows of a swept table are the rows of the law that it shows, and all numbers of theirs fit.
-use Rattle.std.proofs.Common.{◌≡◌, ℕ, suc, ◌+◌, ◌-◌, ◌*◌, ◌^◌, ◌<◌, ◌≤◌, List, [], ◌∷◌, ◌++◌, length, get_or, ℤ, pos, ◌*ℤ◌, neg_ℤ, unsigned_abs, refl, sym, ◌∙◌, ap, subst, arith, ⊎_elim, mul-pos, mul-le-mul_left, mul-one, le_trans}
+use Rattle.std.proofs.Common.{◌≡◌, ℕ, suc, ◌+◌, ◌-◌, ◌*◌, ◌^◌, ◌<◌, ◌≤◌, List, [], ◌∷◌, ◌++◌, length, get_or, ℤ, pos, ◌*ℤ◌, neg_ℤ, unsigned_abs, refl, sym, ◌∙◌, ap, subst, arith, ⊎_elim, mul-pos, mul-le-mul_left, mul-le-mul_right, le_trans}
 use Rattle.std.proofs.lemmas.Bool.{cases_lt}
 use Rattle.std.proofs.lemmas.List.{length-append, get_or_append_left}
 use Rattle.std.proofs.Math.Seq.{get_or-append_seam}
-use native.Mathlib.Nat.{mul_comm}
 use Rattle.mpc_exact.specs.Rational.{ℚ, int, frac, neg_ℚ, ◌*ℚ◌}
 use Rattle.mpc_exact.proofs.Rational.{frac-mul, frac-neg}
 use Rattle.mpc_exact.proofs.RationalRing.{reads, by_ring}
@@ -23,7 +22,6 @@ use Rattle.mpc_rows.specs.LinearSystem.{LinearSystem}
 use Rattle.mpc_whole.specs.OverTheorems.{OverTheorems}
 use Rattle.mpc_sweep.specs.declared.numbers.Swept.{Swept}
 use Rattle.mpc_sweep.specs.Sweeps.{swept}
-use Rattle.mpc_sweep.specs.Numbers.{den_of, scale_of}
 use Rattle.mpc_sweep.specs.Theorems.{RowIsReduced}
 use Rattle.mpc_region.specs.Shared.{shared_entry}
 use Rattle.mpc_region.specs.Sweeps.{sweeps_of, rights, IsTableOf, swept_law}
@@ -33,7 +31,6 @@ use Rattle.mpc_region.proofs.SweptDivisors.{abs_negated, abs_product}
 use Rattle.mpc_region.proofs.SweptRows.{AreFilled, HasFilled, row_primitive, row_scaled}
 use Rattle.mpc_region.proofs.SweptFits.{Over, sum_fits, whole_fits}
 use Rattle.mpc_region.proofs.SharedEntries.{member_line, right_line}
-use Rattle.mpc_region.proofs.SweptParts.{sweeps_size, first_sweep}
 use Rattle.mpc_region.proofs.SweptForms.{shown_law, swept_law_is, move_entry, row_length, form_at, form_size}
 
 later_at : (xs : List ℚ) (j : ℕ) → coordinate (later_entries xs) j ≡ coordinate xs (suc j)
@@ -64,26 +61,21 @@ module _ (reduced : RowIsReduced) (over : OverTheorems) (qp : Qp) (s : List ℕ)
   small : (r j : ℕ) → unsigned_abs (number_from table r (rights qp) j) ≤ 2 ^ 62
   small r j = is.table.small.each _
 
-  row_in : (r : ℕ) → r < n + m → r < table.rows
-  row_in r h = let e = is.rows_are in omega arith
+  den_some : 0 < table.den
+  den_some = is.table.some_den
 
-  scale_some : (r : ℕ) → r < n + m → 0 < scale_of table r
-  scale_some r h = is.table.some r (row_in r h)
-
-  den_some : (r : ℕ) → r < n + m → 0 < den_of table r
-  den_some r h = mul-pos is.table.some_den (scale_some r h)
-
-  den_small : (k : ℕ) → k ≤ table.most_scale → table.den * k ≤ 2 ^ 62
-  den_small k h = le_trans (mul-le-mul_left table.den h) is.table.dens
-
-  entry_at : (r j : ℕ) → r < n + m → j < width + 1 → swept (shared_entry qp) (sweeps_of qp s) r (rights qp + j) ≡ frac (number_from table r (rights qp) j) (den_of table r)
+  entry_at : (r j : ℕ) → r < n + m → j < width + 1 → swept (shared_entry qp) (sweeps_of qp s) r (rights qp + j) ≡ frac (number_from table r (rights qp) j) table.den
   entry_at r j h l = is.entries r (rights qp + j) h (omega arith) (omega arith)
 
-  den_front : (k : ℕ) → k < n → den_of table k ≡ table.den
-  den_front k h =
-      let p = first_sweep qp s k h in
-      let e : scale_of table k ≡ 1 = ap (scale_of table) (sym p) ∙ is.swept_scales k (omega (arith, sweeps_size qp s)) in
-      ap (λ c. table.den * c) e ∙ mul-one table.den
+  -- over the scale before the first sweep, and the denominator
+  abbrev scale : ℕ
+  scale = is.whole.scale
+
+  both_some : 0 < scale * table.den
+  both_some = mul-pos is.whole.some_scale den_some
+
+  both_small : scale * table.den ≤ 2 ^ 62 * 2 ^ 62
+  both_small = le_trans (mul-le-mul_left scale is.table.small_den) (mul-le-mul_right (2 ^ 62) is.whole.small_scale)
 
   -- ---- row i of the law
   module _ (i : ℕ) (from_one : 1 ≤ i) (to_last : i ≤ m) where
@@ -96,31 +88,28 @@ module _ (reduced : RowIsReduced) (over : OverTheorems) (qp : Qp) (s : List ℕ)
     abbrev f : ℕ → ℤ
     f = number_from table r (rights qp)
 
-    abbrev den : ℕ
-    den = den_of table r
-
-    form_is : (j : ℕ) → j < width + 1 → coordinate (law_form qp law i) j ≡ frac (neg_ℤ (f j)) den
-    form_is j h = form_at reduced qp s set is.rising is.pivots i from_one to_last j h ∙ ap neg_ℚ (entry_at r j r_in h) ∙ frac-neg (f j) den (den_some r r_in)
+    form_is : (j : ℕ) → j < width + 1 → coordinate (law_form qp law i) j ≡ frac (neg_ℤ (f j)) table.den
+    form_is j h = form_at reduced qp s set is.rising is.pivots i from_one to_last j h ∙ ap neg_ℚ (entry_at r j r_in h) ∙ frac-neg (f j) table.den den_some
 
     sides_size : length (law_sides qp law i) ≡ width
     sides_size = later_size (law_form qp law i) width (form_size reduced qp s set is.rising is.pivots i from_one to_last)
 
-    side_is : (j : ℕ) → j < width → coordinate (law_sides qp law i) j ≡ frac (neg_ℤ (f (suc j))) den
+    side_is : (j : ℕ) → j < width → coordinate (law_sides qp law i) j ≡ frac (neg_ℤ (f (suc j))) table.den
     side_is j h = later_at (law_form qp law i) j ∙ form_is (suc j) (omega arith)
 
-    bound_is : law_bound qp law i ≡ frac (f 0) den
+    bound_is : law_bound qp law i ≡ frac (f 0) table.den
     bound_is =
         ap neg_ℚ (form_at reduced qp s set is.rising is.pivots i from_one to_last 0 (omega arith)) ∙ twice_turned (swept (shared_entry qp) (sweeps_of qp s) r (rights qp + 0))
         ∙ entry_at r 0 r_in (omega arith)
 
     law_row : (row : RowInt) → IsRowFrom f width row → IsLawRow qp law i row
     law_row row h = record {
-      multiple = row_scaled f width row h (law_sides qp law i) (law_bound qp law i) den (den_some r r_in) sides_size side_is bound_is;
+      multiple = row_scaled f width row h (law_sides qp law i) (law_bound qp law i) table.den den_some sides_size side_is bound_is;
       primitive = row_primitive f width row h;
     }
 
     -- ---- its numbers fit
-    whole_at : (k : ℕ) → k < length (law_sides qp law i ++ law_bound qp law i ∷ []) → Over den (2 ^ 62) (coordinate (law_sides qp law i ++ law_bound qp law i ∷ []) k)
+    whole_at : (k : ℕ) → k < length (law_sides qp law i ++ law_bound qp law i ∷ []) → Over table.den (2 ^ 62) (coordinate (law_sides qp law i ++ law_bound qp law i ∷ []) k)
     whole_at k h = ⊎_elim
         (λ l. record {
           at = neg_ℤ (f (suc k));
@@ -136,42 +125,26 @@ module _ (reduced : RowIsReduced) (over : OverTheorems) (qp : Qp) (s : List ℕ)
         })
         (cases_lt k width)
 
-    scale_in : scale_of table r ≤ table.most_scale
-    scale_in = is.table.scales r (row_in r r_in)
-
     whole : WholeFits (law_sides qp law i ++ law_bound qp law i ∷ [])
-    whole = whole_fits den (den_some r r_in) (2 ^ 62) (let b = den_small (scale_of table r) scale_in in omega arith) (omega arith) (law_sides qp law i ++ law_bound qp law i ∷ []) whole_at
-
-    -- over the row's scale before the first sweep, and the denominator
-    abbrev scale : ℕ
-    scale = is.whole.scale r
-
-    scale_positive : 0 < scale
-    scale_positive = is.whole.some r r_in
-
-    both_small : scale * table.den ≤ 2 ^ 62
-    both_small = subst (λ y. y ≤ 2 ^ 62) (mul_comm table.den scale) (den_small scale (is.whole.scales r r_in))
-
-    den_itself : table.den ≤ 2 ^ 62
-    den_itself = subst (λ y. y ≤ 2 ^ 62) (mul-one table.den) (den_small 1 is.table.some_scale)
+    whole = whole_fits table.den den_some (2 ^ 62) (let b = is.table.small_den in omega arith) (omega arith) (law_sides qp law i ++ law_bound qp law i ∷ []) whole_at
 
     start_is : (j : ℕ) → j < width + 1 → neg_ℚ (coordinate (row_of qp.w.rows i) j) ≡ frac (neg_ℤ (is.whole.numbers r (rights qp + j)) *ℤ pos table.den) (scale * table.den)
     start_is j h =
         ap neg_ℚ (sym (right_line qp i j) ∙ is.whole.entries r (rights qp + j) r_in (omega arith))
-        ∙ frac-neg (is.whole.numbers r (rights qp + j)) scale scale_positive
-        ∙ sym (frac_expand (neg_ℤ (is.whole.numbers r (rights qp + j))) scale table.den scale_positive is.table.some_den)
+        ∙ frac-neg (is.whole.numbers r (rights qp + j)) scale is.whole.some_scale
+        ∙ sym (frac_expand (neg_ℤ (is.whole.numbers r (rights qp + j))) scale table.den is.whole.some_scale den_some)
 
     start_small : (j : ℕ) → j < width + 1 → unsigned_abs (neg_ℤ (is.whole.numbers r (rights qp + j)) *ℤ pos table.den) ≤ 2 ^ 58 * 2 ^ 62
     start_small j h =
         abs_product (neg_ℤ (is.whole.numbers r (rights qp + j))) (pos table.den) (2 ^ 58) (2 ^ 62)
-        (subst (λ y. y ≤ 2 ^ 58) (sym (abs_negated (is.whole.numbers r (rights qp + j)))) (is.whole.small r (rights qp + j) r_in (omega arith))) den_itself
+        (subst (λ y. y ≤ 2 ^ 58) (sym (abs_negated (is.whole.numbers r (rights qp + j)))) (is.whole.small r (rights qp + j) r_in (omega arith))) is.table.small_den
 
     product_is : (j k : ℕ) → j < width + 1 → k < n → Over (scale * table.den) (2 ^ 58 * 2 ^ 62) (coordinate (row_of qp.g.rows i) k *ℚ coordinate (column law.moves.rows j) k)
     product_is j k h l = record {
       at = is.whole.numbers r k *ℤ number_from table k (rights qp) j;
       is = (λ u. (sym (member_line qp i k l) ∙ is.whole.entries r k r_in (omega arith)) u
-          *ℚ (move_entry qp s k j l h ∙ entry_at k j (omega arith) h ∙ ap (frac (number_from table k (rights qp) j)) (den_front k l)) u)
-          ∙ frac-mul (is.whole.numbers r k) scale (number_from table k (rights qp) j) table.den scale_positive is.table.some_den;
+          *ℚ (move_entry qp s k j l h ∙ entry_at k j (omega arith) h) u)
+          ∙ frac-mul (is.whole.numbers r k) scale (number_from table k (rights qp) j) table.den is.whole.some_scale den_some;
       small = abs_product (is.whole.numbers r k) (number_from table k (rights qp) j) (2 ^ 58) (2 ^ 62) (is.whole.small r k r_in (omega arith)) (small k j);
     }
 
@@ -179,7 +152,7 @@ module _ (reduced : RowIsReduced) (over : OverTheorems) (qp : Qp) (s : List ℕ)
     coefficient_fits j h =
         let z = neg_ℤ (is.whole.numbers r (rights qp + j)) *ℤ pos table.den in
         subst (λ x. SumFits x (row_of qp.g.rows i) (column law.moves.rows j)) (sym (start_is j h))
-        (sum_fits over (scale * table.den) (mul-pos scale_positive is.table.some_den) (let b = both_small in omega arith) (2 ^ 58 * 2 ^ 62) (row_of qp.g.rows i) (column law.moves.rows j) z
+        (sum_fits over (scale * table.den) both_some (let b = both_small in omega arith) (2 ^ 58 * 2 ^ 62) (row_of qp.g.rows i) (column law.moves.rows j) z
         (let a : unsigned_abs z ≤ 2 ^ 58 * 2 ^ 62 = start_small j h in let b = row_length qp i in let c = qp.is_program.few_unknowns in room (unsigned_abs z) (length (row_of qp.g.rows i)) a (omega arith))
         (λ k l. let b = row_length qp i in product_is j k h (omega arith)))
       where

@@ -1,5 +1,5 @@
 -- What the swept table of a set says of its law.
-use Rattle.std.proofs.Common.{◌≡◌, ℕ, suc, ◌+◌, ◌-◌, ◌<◌, ◌≤◌, ◌++◌, ◌∷◌, [], List, length, map, get_or, take, drop, pos, ℤ, ◌*ℤ◌, refl, sym, ◌∙◌, ap, subst, arith, mul-pos, lit<}
+use Rattle.std.proofs.Common.{◌≡◌, ℕ, suc, ◌+◌, ◌-◌, ◌<◌, ◌≤◌, ◌++◌, ◌∷◌, [], List, length, map, get_or, take, drop, pos, ℤ, ◌*ℤ◌, refl, sym, ◌∙◌, ap, subst, arith, lit<}
 use Rattle.std.proofs.Math.Seq.{take-append_seam}
 use Rattle.std.proofs.lemmas.List.{append_assoc, length-take-le, map-append, take-append-drop}
 use Rattle.std.specs.List.{range_with_len}
@@ -18,7 +18,7 @@ use Rattle.mpc_rows.specs.Laws.{IsLaw}
 use Rattle.mpc_rows.specs.SetRuns.{law_matrix, law_right, LawFits}
 use Rattle.mpc_sweep.specs.declared.numbers.Swept.{Swept}
 use Rattle.mpc_sweep.specs.Sweeps.{swept, pivot_at, HasPivots, SweepsFit}
-use Rattle.mpc_sweep.specs.Numbers.{number, den_of}
+use Rattle.mpc_sweep.specs.Numbers.{number}
 use Rattle.mpc_sweep.specs.Theorems.{PartIsSolved, PartIsDependent, IsSolutionOf}
 use Rattle.mpc_region.specs.LawEnd.{IsLawOfSet}
 use Rattle.mpc_region.specs.Shared.{shared_entry}
@@ -111,9 +111,7 @@ module _ (qp : Qp) (s : List ℕ) (set : IsSetOfRows (height qp.g) s) where
 
     no_pivot : number table p p ≡ pos 0 → swept (shared_entry qp) (sweeps_of qp (take k s)) p p ≡ int (pos 0)
     no_pivot zero =
-        let t = is.table in
-        let row : p < table.rows = let a = p_within in omega (arith, is.rows_are) in
-        is.entries p p p_within (omega arith) (let a = p_within in omega arith) ∙ ap (λ x. frac x (den_of table p)) zero ∙ zero_frac (den_of table p) (mul-pos t.some_den (t.some p row))
+        is.entries p p p_within (omega arith) (let a = p_within in omega arith) ∙ ap (λ x. frac x table.den) zero ∙ zero_frac table.den is.table.some_den
 
     pub dependent_shown : IsDefinite qp.h.rows → number table p p ≡ pos 0 → (¬ IsIndependentSet qp s) × LawFits qp s
     dependent_shown definite zero =

@@ -32,7 +32,6 @@ told_later t ps rows columns a b s h is = record {
   columns_within = is.columns_within;
   pivots = is.pivots;
   fits = λ k i j a b c d e f. is.fits k i j a b c d (λ p. let q = e p in omega arith) f;
-  swept_scales = is.swept_scales;
 }
 
 -- ---- the rows of h, one after another
@@ -67,8 +66,8 @@ module _ (qp : Qp) where
     whole = record {
       scale = is.whole.scale;
       numbers = is.whole.numbers;
-      some = is.whole.some;
-      scales = is.whole.scales;
+      some_scale = is.whole.some_scale;
+      small_scale = is.whole.small_scale;
       small = is.whole.small;
       entries = λ i j l k. sym (shared_at qp i j l k) ∙ is.whole.entries i j l k;
     };
@@ -78,7 +77,6 @@ module _ (qp : Qp) where
     columns_within = is.columns_within;
     pivots = λ k l. absurd (omega arith);
     fits = λ k i j l. absurd (omega arith);
-    swept_scales = is.swept_scales;
   }
 
   pub read_table : (m : RationalMatrix) (s : Swept) → m ≡ shared_table qp → IsSwept (entry m) [] (height m) m.columns 0 s → IsSwept (shared_entry qp) [] (rights qp) (all_columns qp) 0 s

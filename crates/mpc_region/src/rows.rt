@@ -6,7 +6,7 @@ ghost use Rattle.mpc_exact.specs.Rational.{frac};
 ghost use Rattle.mpc_space.specs.Matrix.{height};
 ghost use Rattle.mpc_sets.specs.RowSet.{IsSetOfRows};
 ghost use Rattle.mpc_rows.specs.SetRuns.{LawRowsFit};
-ghost use Rattle.mpc_sweep.specs.Numbers.{IsTable, number, den_of};
+ghost use Rattle.mpc_sweep.specs.Numbers.{IsTable, number};
 ghost use Rattle.mpc_region.specs.Sweeps.{rights, IsTableOf, swept_law};
 ghost use Rattle.mpc_region.specs.SweptRows.{number_from, DividesEach, IsSharedBy, AreSides, IsRowFrom, AreRowsOf};
 ghost use Rattle.mpc_region.specs.Writing.{WritesRow};
@@ -172,11 +172,11 @@ fn table_entry(table: &Swept, i: u32, j: u32) -> Frac
     requires table { IsTable table.now }
     requires row { i < table.now.rows }
     requires column { j < table.now.columns }
-    ensures { result ≡ frac (number table.now i j) (den_of table.now i) }
+    ensures { result ≡ frac (number table.now i j) table.now.den }
 {
     fit_theorems();
     let number = table.at(i as usize, j as usize);
-    let below = table.den_at(i as usize);
+    let below = table.den();
     match Frac::new(number as i128, below as i128) {
         Ok(x) => x,
         Err(_) => unreachable!(),
@@ -190,7 +190,7 @@ fn write_entries(out: &mut Matrix, i: u32, table: &Swept, source: u32, first: u3
     requires source { source < table.now.rows }
     requires columns { first + out.old.columns ≤ table.now.columns }
     requires last { first + out.old.columns < 2 ^ 32 }
-    ensures { WritesRow out.old out.new i (λ j. frac (number table.now source (first + j)) (den_of table.now source)) }
+    ensures { WritesRow out.old out.new i (λ j. frac (number table.now source (first + j)) table.now.den) }
 {
     let _rows = out.rows();
     for j in 0..out.cols() {

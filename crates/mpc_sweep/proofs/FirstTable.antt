@@ -1,16 +1,20 @@
--- A table before its first sweep, from the whole numbers of a system.
-use Rattle.std.proofs.Common.{◌≡◌, ℕ, ◌+◌, ◌-◌, ◌*◌, ◌^◌, ◌<◌, ◌≤◌, List, [], length, get_or, ℤ, unsigned_abs, Option, Some, None, IfSome, refl, sym, ◌∙◌, ap, subst, arith, le_trans, length-drop}
-use Rattle.std.proofs.lemmas.List.{get_or-drop}
-use Rattle.mpc_exact.specs.Rational.{frac}
+-- A table before its first sweep, as it is read.
+use Rattle.std.proofs.Common.{◌≡◌, ℕ, suc, ◌+◌, ◌-◌, ◌*◌, ◌^◌, ◌<◌, ◌≤◌, List, [], ◌∷◌, ◌++◌, length, ℤ, pos, ◌+ℤ◌, ◌*ℤ◌, unsigned_abs, Option, Some, None, IfSome, refl, sym, ◌∙◌, ap, subst, arith, ⊎_elim, length-append, le_trans}
+use Rattle.std.proofs.lemmas.Bool.{cases_lt, cases_eq}
+use Rattle.std.proofs.lemmas.List.{get_or_append_left, get_or_past}
+use Rattle.std.proofs.Math.Seq.{get_or-append_seam}
+use Rattle.std.proofs.Math.Nat.{suc-mul}
+use Rattle.mpc_exact.specs.Rational.{ℚ, frac, denom_positive, frac_self}
+use Rattle.mpc_exact.proofs.Rational.{same_frac}
+use Rattle.mpc_exact.proofs.IntRing.{int_reads, by_ring_ℤ}
 use Rattle.mpc_space.specs.Matrix.{RationalMatrix, height, entry}
-use Rattle.mpc_space.specs.Vector.{coordinate}
 use Rattle.mpc_linear.specs.Elimination.{Table}
-use Rattle.mpc_rows.specs.LinearSystem.{LinearSystem, row_at, entry as system_entry}
-use Rattle.mpc_whole.specs.Whole.{whole_cell, scale_at, IsSmall, IsWholeSystem}
+use Rattle.mpc_whole.specs.Whole.{whole_at, whole_cell}
 use Rattle.mpc_sweep.specs.declared.numbers.Swept.{Swept}
 use Rattle.mpc_sweep.specs.Sweeps.{swept}
-use Rattle.mpc_sweep.specs.Numbers.{scale_of, told_columns, number, IsTable, IsWholeTable, IsSwept}
-use Rattle.mpc_sweep.specs.Systems.{HasRowsOf, IsFirst}
+use Rattle.mpc_sweep.specs.Numbers.{told_columns, number, IsTable, IsSwept}
+use Rattle.mpc_sweep.specs.Reading.{AreBehind, HasNumbers}
+use Rattle.mpc_sweep.proofs.AllRows.{row_below}
 
 pub if_some : {A : Type 0} (o : Option A) (P Q : A → Type 0) → IfSome o P → ((a : A) → P a → Q a) → IfSome o Q
 if_some (Some a) P Q h f = f a h
@@ -23,75 +27,100 @@ swept-none : (t : Table) → swept t [] ≡ t
 unfolding swept
 swept-none t = refl
 
-system_entry-is : (l : LinearSystem) (i j : ℕ) → system_entry l i j ≡ coordinate (row_at l i).a j
-unfolding system_entry
-system_entry-is l i j = refl
+-- a fraction times a scale
+plus_none : (z : ℤ) → z +ℤ pos 0 ≡ z
+plus_none z = by_ring_ℤ (z ∷ []) (search int_reads depth 30) (search int_reads depth 30) tt
 
-module _ (m : RationalMatrix) (l : LinearSystem) (h : HasRowsOf m (height m) l) (k : List ℕ) (a b : List ℤ) (w : IsWholeSystem l k a b) (small : IsSmall (2 ^ 62) a) (most_entry most_scale : ℕ) (entries : IsSmall most_entry a)
-    (bound : (x : ℕ) → scale_at k x ≤ most_scale) (some_scale : 1 ≤ most_scale) (s : Swept) (rows columns : ℕ) (height_is : rows ≡ height m) (width_is : columns ≡ m.columns) (f : IsFirst k a most_entry most_scale rows columns s) where
-  s_rows : s.rows ≡ height m
-  s_rows = f.rows_are ∙ height_is
+pub over_scale : (x : ℚ) (scale : ℕ) (z : ℤ) → 0 < scale → z *ℤ pos x.denom ≡ (x.numer *ℤ pos scale) +ℤ pos 0 → x ≡ frac z scale
+over_scale x scale z some e = sym (frac_self x) ∙ same_frac x.numer x.denom z scale (denom_positive x) some (sym (plus_none (x.numer *ℤ pos scale)) ∙ sym e)
 
-  s_columns : s.columns ≡ m.columns
-  s_columns = f.columns_are ∙ width_is
+-- ---- one more number behind a list
+module _ (old now : List ℤ) (f : ℕ → ℚ) (n scale : ℕ) (h : AreBehind old now f n scale) (z : ℤ) (value : f n ≡ frac z scale) (z_small : unsigned_abs z ≤ 2 ^ 58) where
+  abbrev more : List ℤ
+  more = now ++ z ∷ []
 
-  scale_is : (i : ℕ) → scale_of s i ≡ scale_at k (l.width + i)
-  scale_is i = ap (λ xs. get_or xs i 0) f.row_scales ∙ get_or-drop columns k i 0 ∙ ap (λ u. scale_at k (u + i)) (width_is ∙ sym h.width)
+  last_is : (j : ℕ) → j ≡ n → whole_at more (length old + j) ≡ z
+  last_is j e = let q : length old + j ≡ length now = omega (arith, h.size) in ap (whole_at more) q ∙ get_or-append_seam now z [] (pos 0)
 
-  some_there : (i : ℕ) → i < height m → 0 < scale_of s i
-  some_there i r = subst (λ u. 0 < u) (sym (scale_is i)) (w.scales.some (l.width + i) (let e = h.rows in omega arith))
+  before_is : (k : ℕ) → k < length now → whole_at more k ≡ whole_at now k
+  before_is k l = get_or_append_left now (z ∷ []) (pos 0) k l
 
-  most_there : (i : ℕ) → scale_of s i ≤ s.most_scale
-  most_there i = subst (λ u. scale_of s i ≤ u) (sym f.bound) (subst (λ u. u ≤ most_scale) (sym (scale_is i)) (bound (l.width + i)))
+  pub one_behind : AreBehind old more f (n + 1) scale
+  one_behind = record {
+    size = omega (arith, h.size, length-append now (z ∷ []));
+    kept = λ k l. before_is k (omega (arith, h.size)) ∙ h.kept k l;
+    numbers = λ j l. ⊎_elim
+        (λ e. ap f e ∙ value ∙ ap (λ u. frac u scale) (sym (last_is j e)))
+        (λ e. h.numbers j (omega arith) ∙ ap (λ u. frac u scale) (sym (before_is (length old + j) (omega (arith, h.size)))))
+        (cases_eq j n);
+    small = λ j l. ⊎_elim
+        (λ e. subst (λ u. unsigned_abs u ≤ 2 ^ 58) (sym (last_is j e)) z_small)
+        (λ e. subst (λ u. unsigned_abs u ≤ 2 ^ 58) (sym (before_is (length old + j) (omega (arith, h.size)))) (h.small j (omega arith)))
+        (cases_eq j n);
+  }
 
-  told_is : told_columns s ≡ l.width
-  told_is = (λ t. s_columns t - f.first t) ∙ (let e : m.columns - 0 ≡ m.columns = omega arith in e) ∙ sym h.width
+-- ---- one more row
+module _ (m : RationalMatrix) (i scale : ℕ) (old new : List ℤ) (h : HasNumbers m i scale old) (b : AreBehind old new (entry m i) m.columns scale) where
+  pub row_read : HasNumbers m (i + 1) scale new
+  row_read = record {
+    size = let e : i + 1 ≡ suc i = omega arith in b.size ∙ ap (λ u. u + m.columns) h.size ∙ sym (ap (λ u. u * m.columns) e ∙ suc-mul i m.columns);
+    numbers = λ r j l c. ⊎_elim
+        (λ e. ap (λ u. entry m u j) e ∙ b.numbers j c ∙ ap (λ u. frac u scale) (ap (λ u. whole_at new (u + j)) (h.size ∙ ap (λ u. u * m.columns) (sym e))))
+        (λ e.
+        let d : r < i = omega arith in
+        let f : r * m.columns + j < i * m.columns + 0 = row_below m.columns r i 0 j d (omega arith) in
+        h.numbers r j d c ∙ ap (λ u. frac u scale) (sym (b.kept (r * m.columns + j) (omega (arith, h.size)))))
+        (cases_eq r i);
+    small = λ k l. ⊎_elim
+        (λ d. subst (λ u. unsigned_abs u ≤ 2 ^ 58) (sym (b.kept k d)) (h.small k d))
+        (λ d.
+        let e : length old + (k - length old) ≡ k = omega arith in
+        subst (λ u. unsigned_abs (whole_at new u) ≤ 2 ^ 58) e (b.small (k - length old) (omega (arith, b.size))))
+        (cases_lt k (length old));
+  }
 
-  number_is : (i j : ℕ) → number s i j ≡ whole_cell l.width a i j
-  number_is i j = (λ t. whole_cell (told_is t) (f.numbers t) i j)
+-- ---- the table
+module _ (m : RationalMatrix) (scale : ℕ) (some : 0 < scale) (scale_small : scale ≤ 2 ^ 62) (s : Swept) (rows_are : s.rows ≡ height m) (columns_are : s.columns ≡ m.columns) (first : s.first ≡ 0) (den : s.den ≡ scale)
+    (h : HasNumbers m (height m) scale s.numbers.items) where
+  told_is : told_columns s ≡ m.columns
+  told_is = (λ t. columns_are t - first t) ∙ (let e : m.columns - 0 ≡ m.columns = omega arith in e)
 
-  entry_is : (i j : ℕ) → i < height m → j < m.columns → entry m i j ≡ frac (number s i j) (scale_of s i)
-  entry_is i j r c =
-      sym (h.entries i j r) ∙ sym (system_entry-is l i j) ∙ w.entries i j (subst (λ u. i < u) (sym h.rows) r) (subst (λ u. j < u) (sym h.width) c)
-      ∙ (λ t. frac (sym (number_is i j) t) (sym (scale_is i) t))
+  number_is : (i j : ℕ) → number s i j ≡ whole_cell m.columns s.numbers.items i j
+  number_is i j = λ t. whole_cell (told_is t) s.numbers.items i j
+
+  small_at : (k : ℕ) → unsigned_abs (whole_at s.numbers.items k) ≤ 2 ^ 58
+  small_at k = ⊎_elim (h.small k) (λ l. subst (λ u. unsigned_abs u ≤ 2 ^ 58) (sym (get_or_past s.numbers.items k (pos 0) l)) (omega arith)) (cases_lt k (length s.numbers.items))
+
+  entry_is : (i j : ℕ) → i < height m → j < m.columns → entry m i j ≡ frac (number s i j) scale
+  entry_is i j r c = h.numbers i j r c ∙ ap (λ u. frac u scale) (sym (number_is i j))
 
   first_table : IsTable s
   first_table = record {
-    told = subst (λ u. u ≤ s.columns) (sym f.first) (omega arith);
-    size = ap (λ (xs : List ℤ). length xs) f.numbers ∙ w.entries_size ∙ (λ t. (h.rows ∙ sym s_rows) t * sym told_is t) ∙ (let e : s.rows * told_columns s ≡ 0 + s.rows * told_columns s = omega arith in e) ∙ ap (λ u. u + s.rows * told_columns s) (sym f.first);
-    scales_size = ap (λ (xs : List ℕ). length xs) f.row_scales ∙ (let e = length-drop columns k in let q = w.scales.size in let r = h.rows in let x = h.width in let y = s_rows in omega arith);
-    some_den = subst (λ u. 0 < u) (sym f.den) (omega arith);
-    some = λ i r. some_there i (subst (λ u. i < u) s_rows r);
-    scales = λ i r. most_there i;
-    dens = subst (λ u. u ≤ 2 ^ 62) (λ t. sym f.den t * sym f.bound t) (let e = f.small_scales in omega arith);
-    some_scale = subst (λ u. 1 ≤ u) (sym f.bound) some_scale;
-    small = subst (IsSmall (2 ^ 62)) (sym f.numbers) small;
-  }
-
-  whole_there : IsWholeTable (entry m) (height m) m.columns s.most_scale
-  whole_there = record {
-    scale = scale_of s;
-    numbers = number s;
-    some = some_there;
-    scales = λ i r. most_there i;
-    small = λ i j r c. le_trans (subst (λ u. unsigned_abs u ≤ most_entry) (sym (number_is i j)) (entries.each (i * l.width + j))) f.small_entries;
-    entries = entry_is;
+    told = subst (λ u. u ≤ s.columns) (sym first) (omega arith);
+    size = h.size ∙ (λ t. sym rows_are t * sym told_is t) ∙ (let e : s.rows * told_columns s ≡ 0 + s.rows * told_columns s = omega arith in e) ∙ ap (λ u. u + s.rows * told_columns s) (sym first);
+    some_den = subst (λ u. 0 < u) (sym den) some;
+    small_den = subst (λ u. u ≤ 2 ^ 62) (sym den) scale_small;
+    small = record { each = λ k. le_trans (small_at k) (omega arith) };
   }
 
   pub first_swept : IsSwept (entry m) [] (height m) m.columns 0 s
   first_swept = record {
-    rows_are = s_rows;
-    columns_are = s_columns;
-    told = subst (λ u. u ≤ 0) (sym f.first) (omega arith);
+    rows_are = rows_are;
+    columns_are = columns_are;
+    told = subst (λ u. u ≤ 0) (sym first) (omega arith);
     table = first_table;
-    whole = whole_there;
-    entries = λ i j r front c.
-        ap (λ (t : Table). t i j) (swept-none (entry m)) ∙ entry_is i j r c
-        ∙ ap (frac (number s i j)) ((let e : scale_of s i ≡ 1 * scale_of s i = omega arith in e) ∙ ap (λ u. u * scale_of s i) (sym f.den));
+    whole = record {
+      scale = scale;
+      numbers = number s;
+      some_scale = some;
+      small_scale = scale_small;
+      small = λ i j r c. small_at (i * told_columns s + j);
+      entries = entry_is;
+    };
+    entries = λ i j r front c. ap (λ (t : Table). t i j) (swept-none (entry m)) ∙ entry_is i j r c ∙ ap (frac (number s i j)) (sym den);
     rising = λ k l n o. absurd (omega arith);
     within = λ k n. absurd (omega arith);
     columns_within = λ k n. absurd (omega arith);
     pivots = λ k n. absurd (omega arith);
     fits = λ k i j n. absurd (omega arith);
-    swept_scales = λ k n. absurd (omega arith);
   }

@@ -40,12 +40,6 @@ turned_left (negsuc n) k x = by_ring_ℤ (k ∷ x ∷ []) (search int_reads dept
 expanded : (v m d : ℤ) → v *ℤ (d *ℤ m) ≡ (v *ℤ m) *ℤ d
 expanded v m d = by_ring_ℤ (v ∷ m ∷ d ∷ []) (search int_reads depth 30) (search int_reads depth 30) tt
 
-moved : (z b e r : ℤ) → (z *ℤ b) *ℤ (e *ℤ r) ≡ (z *ℤ r) *ℤ (e *ℤ b)
-moved z b e r = by_ring_ℤ (z ∷ b ∷ e ∷ r ∷ []) (search int_reads depth 30) (search int_reads depth 30) tt
-
-joined : (z r d m : ℤ) → (z *ℤ r) *ℤ (d *ℤ m) ≡ z *ℤ ((d *ℤ r) *ℤ m)
-joined z r d m = by_ring_ℤ (z ∷ r ∷ d ∷ m ∷ []) (search int_reads depth 30) (search int_reads depth 30) tt
-
 one_last : (q : ℤ) → q *ℤ pos 1 ≡ q
 one_last q = by_ring_ℤ (q ∷ []) (search int_reads depth 30) (search int_reads depth 30) tt
 
@@ -57,36 +51,36 @@ pub over_some : (q : ℤ) (m : ℕ) → 0 < m → q ≢ pos 0 → frac q m ≢ i
 over_some q m some h e = h (sym (one_last q) ∙ frac_same q m (pos 0) 1 some (lit< tt) e ∙ zero_left (pos m))
 
 -- ---- the entries of a sweep
--- row p has the numbers q and x over m, and row i the numbers k and v over n
-module _ (laws : OverTheorems) (s : Table) (p i j : ℕ) (q x k v : ℤ) (m n : ℕ) (m_some : 0 < m) (n_some : 0 < n) (n_small : n ≤ 2 ^ 62) (q_some : q ≢ pos 0)
+-- row p has the numbers q and x over d, and row i the numbers k and v
+module _ (laws : OverTheorems) (s : Table) (p i j : ℕ) (q x k v : ℤ) (d : ℕ) (d_some : 0 < d) (d_small : d ≤ 2 ^ 62) (q_some : q ≢ pos 0)
     (q_small : unsigned_abs q ≤ 2 ^ 62) (x_small : unsigned_abs x ≤ 2 ^ 62) (k_small : unsigned_abs k ≤ 2 ^ 62) (v_small : unsigned_abs v ≤ 2 ^ 62)
-    (pp : s p p ≡ frac q m) (pj : s p j ≡ frac x m) (ip : s i p ≡ frac k n) (ij : s i j ≡ frac v n) where
+    (pp : s p p ≡ frac q d) (pj : s p j ≡ frac x d) (ip : s i p ≡ frac k d) (ij : s i j ≡ frac v d) where
   abbrev size : ℕ
   size = unsigned_abs q
 
   abbrev both : ℕ
-  both = n * unsigned_abs q
+  both = d * unsigned_abs q
 
   size_some : 0 < unsigned_abs q
   size_some = abs_some q q_some
 
   both_some : 0 < both
-  both_some = mul-pos n_some size_some
+  both_some = mul-pos d_some size_some
 
   both_small : both ≤ 2 ^ 62 * 2 ^ 62
-  both_small = both_at_most n size (2 ^ 62) (2 ^ 62) n_small q_small
+  both_small = both_at_most d size (2 ^ 62) (2 ^ 62) d_small q_small
 
   x_turned : unsigned_abs (turned q x) ≤ 2 ^ 62
   x_turned = subst (λ u. u ≤ 2 ^ 62) (sym (abs_turned q x)) x_small
 
   quotient_is : s p j /ℚ s p p ≡ frac (turned q x) size
-  quotient_is = (λ t. pj t *ℚ inv_ℚ (pp t)) ∙ laws.quotient x q m m_some q_some
+  quotient_is = (λ t. pj t *ℚ inv_ℚ (pp t)) ∙ laws.quotient x q d d_some q_some
 
   product_is : s i p *ℚ (s p j /ℚ s p p) ≡ frac (k *ℤ turned q x) both
-  product_is = (λ t. ip t *ℚ quotient_is t) ∙ frac-mul k n (turned q x) size n_some size_some
+  product_is = (λ t. ip t *ℚ quotient_is t) ∙ frac-mul k d (turned q x) size d_some size_some
 
   entry_is : s i j ≡ frac (v *ℤ pos size) both
-  entry_is = ij ∙ same_frac v n (v *ℤ pos size) both n_some both_some (expanded v (pos size) (pos n))
+  entry_is = ij ∙ same_frac v d (v *ℤ pos size) both d_some both_some (expanded v (pos size) (pos d))
 
   negative_is : neg_ℚ (s i p *ℚ (s p j /ℚ s p p)) ≡ frac (neg_ℤ (k *ℤ turned q x)) both
   negative_is = ap neg_ℚ product_is ∙ frac-neg (k *ℤ turned q x) both both_some
@@ -106,17 +100,19 @@ module _ (laws : OverTheorems) (s : Table) (p i j : ℕ) (q x k v : ℤ) (m n : 
       product_small = product_at_most k (turned q x) (2 ^ 62) (2 ^ 62) k_small x_turned
 
   -- what stands there over the denominator e, where by is taken out of d times the pivot
-  module _ (z : ℤ) (d by e : ℕ) (by_some : 0 < by) (e_some : 0 < e) (over : e * by ≡ d * unsigned_abs q) where
+  module _ (z : ℤ) (by e : ℕ) (by_some : 0 < by) (e_some : 0 < e) (over : e * by ≡ both) where
+    over_less : frac (z *ℤ pos by) both ≡ frac z e
+    over_less = ap (frac (z *ℤ pos by)) (sym over) ∙ same_frac (z *ℤ pos by) (e * by) z e (mul-pos e_some by_some) e_some (sym (expanded z (pos by) (pos e)))
+
     pub own_entry : i ≡ p → z *ℤ pos by ≡ turned q x *ℤ pos d → reduced p s i j ≡ frac z e
     own_entry h w =
         reduced-pivot p s i j h ∙ quotient_is
-        ∙ same_frac (turned q x) size (z *ℤ pos by) (e * by) size_some (mul-pos e_some by_some)
-        (ap (λ u. turned q x *ℤ pos u) (over ∙ mul_comm d size) ∙ expanded (turned q x) (pos d) (pos size) ∙ ap (λ u. u *ℤ pos size) (sym w))
-        ∙ same_frac (z *ℤ pos by) (e * by) z e (mul-pos e_some by_some) e_some (sym (expanded z (pos by) (pos e)))
+        ∙ same_frac (turned q x) size (z *ℤ pos by) both size_some both_some
+        (ap (λ u. turned q x *ℤ pos u) (mul_comm d size) ∙ expanded (turned q x) (pos d) (pos size) ∙ ap (λ u. u *ℤ pos size) (sym w))
+        ∙ over_less
 
-    pub other_entry : (r : ℕ) → n ≡ d * r → 0 < r → i ≢ p → z *ℤ pos by ≡ (v *ℤ pos size) +ℤ neg_ℤ (turned q k *ℤ x) → reduced p s i j ≡ frac z (e * r)
-    other_entry r scaled r_some h w =
+    pub other_entry : i ≢ p → z *ℤ pos by ≡ (v *ℤ pos size) +ℤ neg_ℤ (turned q k *ℤ x) → reduced p s i j ≡ frac z e
+    other_entry h w =
         reduced-other p s i j h ∙ (λ t. entry_is t +ℚ negative_is t) ∙ laws.sum (v *ℤ pos size) (neg_ℤ (k *ℤ turned q x)) both both_some
         ∙ ap (λ u. frac u both) (ap (λ u. (v *ℤ pos size) +ℤ neg_ℤ u) (turned_left q k x) ∙ sym w)
-        ∙ same_frac (z *ℤ pos by) both z (e * r) both_some (mul-pos e_some r_some)
-        (moved z (pos by) (pos e) (pos r) ∙ ap (λ u. (z *ℤ pos r) *ℤ pos u) over ∙ joined z (pos r) (pos d) (pos size) ∙ ap (λ u. z *ℤ (pos u *ℤ pos size)) (sym scaled))
+        ∙ over_less

@@ -1,5 +1,5 @@
 -- A table that is swept at one more row.
-use Rattle.std.proofs.Common.{◌≡◌, ◌≢◌, ℕ, suc, ◌+◌, ◌-◌, ◌*◌, ◌^◌, ◌<◌, ◌≤◌, List, [], ◌∷◌, ◌++◌, length, get_or, set, ℤ, pos, unsigned_abs, refl, sym, ◌∙◌, ap, subst, subst₂, arith, ◌⊎◌, inl, inr, mul-pos, mul-le-mul_left, le_trans, length-append, length-set, get_or-set_same, get_or-set_other}
+use Rattle.std.proofs.Common.{◌≡◌, ◌≢◌, ℕ, suc, ◌+◌, ◌-◌, ◌*◌, ◌^◌, ◌<◌, ◌≤◌, List, [], ◌∷◌, ◌++◌, length, get_or, ℤ, pos, unsigned_abs, refl, sym, ◌∙◌, ap, subst, subst₂, arith, ◌⊎◌, inl, inr, le_trans, length-append}
 use Rattle.std.proofs.lemmas.Bool.{cases_eq, cases_lt}
 use Rattle.std.proofs.lemmas.List.{get_or_append_left, get_or_past, take-append-le, take_at}
 use Rattle.std.proofs.Math.Seq.{get_or-append_seam}
@@ -10,7 +10,7 @@ use Rattle.mpc_whole.specs.Whole.{whole_at, whole_cell}
 use Rattle.mpc_whole.specs.OverTheorems.{OverTheorems}
 use Rattle.mpc_sweep.specs.declared.numbers.Swept.{Swept}
 use Rattle.mpc_sweep.specs.Sweeps.{swept, pivot_at, before, HasPivots, AreRising, SweepsFit}
-use Rattle.mpc_sweep.specs.Numbers.{scale_of, den_of, told_columns, number, IsTable, IsWholeTable, IsSwept}
+use Rattle.mpc_sweep.specs.Numbers.{told_columns, number, IsTable, IsSwept}
 use Rattle.mpc_sweep.specs.Steps.{IsNumber, AreSweptRows}
 use Rattle.mpc_sweep.proofs.Befores.{swept-more}
 use Rattle.mpc_sweep.proofs.SweptEntry.{over_some, entry_fits, own_entry, other_entry}
@@ -40,29 +40,11 @@ pub record IsOnce (from out : Swept) (p first : ℕ) : Type 0 where
   pub rows : out.rows ≡ from.rows
   pub columns : out.columns ≡ from.columns
   pub first_told : out.first ≡ first
-  pub most_scale : out.most_scale ≡ from.most_scale
-  pub scales : out.scales.items ≡ set from.scales.items p 1
   pub size : length out.numbers.items ≡ first + from.rows * (from.columns - first)
   pub swept : AreSweptRows from p first out.den out.numbers.items
   pub within : first ≤ from.columns
 
 module _ (laws : OverTheorems) (from out : Swept) (p first : ℕ) (o : IsTable from) (r : p < from.rows) (c : p < from.columns) (pivot : number from p p ≢ pos 0) (w : IsOnce from out p first) where
-  scale_there : scale_of out p ≡ 1
-  scale_there = ap (λ xs. get_or xs p 0) w.scales ∙ get_or-set_same from.scales.items p 1 0 (let e = o.scales_size in omega arith)
-
-  scale_kept : (i : ℕ) → i ≢ p → scale_of out i ≡ scale_of from i
-  scale_kept i h = ap (λ xs. get_or xs i 0) w.scales ∙ get_or-set_other from.scales.items p i 1 0 h
-
-  some_there : (i : ℕ) → i < out.rows → (i ≡ p) ⊎ (i ≡ p → ⊥) → 0 < scale_of out i
-  some_there i h (inl e) = subst (λ u. 0 < u) (sym (ap (scale_of out) e ∙ scale_there)) (omega arith)
-  some_there i h (inr e) = subst (λ u. 0 < u) (sym (scale_kept i e)) (o.some i (subst (λ u. i < u) w.rows h))
-
-  most_there : (i : ℕ) → i < out.rows → (i ≡ p) ⊎ (i ≡ p → ⊥) → scale_of out i ≤ out.most_scale
-  most_there i h (inl e) =
-      subst (λ u. scale_of out i ≤ u) (sym w.most_scale) (subst (λ u. u ≤ from.most_scale) (sym (ap (scale_of out) e ∙ scale_there)) o.some_scale)
-  most_there i h (inr e) =
-      subst (λ u. scale_of out i ≤ u) (sym w.most_scale) (subst (λ u. u ≤ from.most_scale) (sym (scale_kept i e)) (o.scales i (subst (λ u. i < u) w.rows h)))
-
   told_there : told_columns out ≡ from.columns - first
   told_there = (λ k. w.columns k - w.first_told k)
 
@@ -74,20 +56,10 @@ module _ (laws : OverTheorems) (from out : Swept) (p first : ℕ) (o : IsTable f
   table_there = record {
     told = subst₂ (λ a b. a ≤ b) (sym w.first_told) (sym w.columns) w.within;
     size = w.size ∙ (λ k. sym w.first_told k + sym w.rows k * sym told_there k);
-    scales_size = ap (λ (xs : List ℕ). length xs) w.scales ∙ length-set from.scales.items p 1 ∙ o.scales_size ∙ sym w.rows;
     some_den = w.swept.den_some;
-    some = λ i h. some_there i h (cases_eq i p);
-    scales = λ i h. most_there i h (cases_eq i p);
-    dens = subst (λ u. out.den * u ≤ 2 ^ 62) (sym w.most_scale) w.swept.room;
-    some_scale = subst (λ u. 1 ≤ u) (sym w.most_scale) o.some_scale;
+    small_den = w.swept.den_small;
     small = record { each = λ k. small_there k (cases_lt k (length out.numbers.items)) };
   }
-
-  dens_small : (i : ℕ) → i < from.rows → den_of from i ≤ 2 ^ 62
-  dens_small i h = le_trans (mul-le-mul_left from.den (o.scales i h)) o.dens
-
-  den_some : (i : ℕ) → i < from.rows → 0 < den_of from i
-  den_some i h = mul-pos o.some_den (o.some i h)
 
   module _ (t : Table) (ps : List ℕ) (rows columns from_column : ℕ) (h : IsSwept t ps rows columns from_column from) (at : from_column ≤ p) (behind : p < first) (above : (k : ℕ) → k < length ps → get_or ps k 0 < p) where
     row_in : (i : ℕ) → i < rows → i < from.rows
@@ -102,42 +74,36 @@ module _ (laws : OverTheorems) (from out : Swept) (p first : ℕ) (o : IsTable f
     p_column : p < columns
     p_column = subst (λ u. p < u) h.columns_are c
 
-    entry_there : (i j : ℕ) → i < rows → from_column ≤ j → j < columns → swept t ps i j ≡ frac (number from i j) (den_of from i)
+    entry_there : (i j : ℕ) → i < rows → from_column ≤ j → j < columns → swept t ps i j ≡ frac (number from i j) from.den
     entry_there = h.entries
 
     module _ (i j : ℕ) (i_row : i < rows) (in_front : from_column ≤ j) (j_column : j < columns) where
       fits_there : EntryFits p (swept t ps) i j
       fits_there =
-          entry_fits laws (swept t ps) p i j (number from p p) (number from p j) (number from i p) (number from i j) (den_of from p) (den_of from i)
-          (den_some p r) (den_some i (row_in i i_row)) (dens_small i (row_in i i_row)) pivot
+          entry_fits laws (swept t ps) p i j (number from p p) (number from p j) (number from i p) (number from i j) from.den o.some_den o.small_den pivot
           (o.small.each (p * told_columns from + p)) (o.small.each (p * told_columns from + j)) (o.small.each (i * told_columns from + p)) (o.small.each (i * told_columns from + j))
           (h.entries p p p_row at p_column) (h.entries p j p_row in_front j_column) (h.entries i p i_row at p_column) (h.entries i j i_row in_front j_column)
 
       abbrev z : ℤ
       z = whole_cell (from.columns - first) out.numbers.items i j
 
-      new_entry : IsNumber (told_columns from) from.den w.swept.by from.numbers.items p i j z → (i ≡ p) ⊎ (i ≡ p → ⊥) → reduced p (swept t ps) i j ≡ frac z (out.den * scale_of out i)
+      new_entry : IsNumber (told_columns from) from.den w.swept.by from.numbers.items p i j z → (i ≡ p) ⊎ (i ≡ p → ⊥) → reduced p (swept t ps) i j ≡ frac z out.den
       new_entry n (inl e) =
-          own_entry laws (swept t ps) p i j (number from p p) (number from p j) (number from i p) (number from i j) (den_of from p) (den_of from i)
-          (den_some p r) (den_some i (row_in i i_row)) (dens_small i (row_in i i_row)) pivot
+          own_entry laws (swept t ps) p i j (number from p p) (number from p j) (number from i p) (number from i j) from.den o.some_den o.small_den pivot
           (o.small.each (p * told_columns from + p)) (o.small.each (p * told_columns from + j)) (o.small.each (i * told_columns from + p)) (o.small.each (i * told_columns from + j))
           (h.entries p p p_row at p_column) (h.entries p j p_row in_front j_column) (h.entries i p i_row at p_column) (h.entries i j i_row in_front j_column)
-          z from.den w.swept.by out.den w.swept.some w.swept.den_some w.swept.den_is e (n.own e)
-          ∙ ap (frac z) ((let q : out.den ≡ out.den * 1 = omega arith in q) ∙ ap (λ u. out.den * u) (sym (ap (scale_of out) e ∙ scale_there)))
+          z w.swept.by out.den w.swept.some w.swept.den_some w.swept.den_is e (n.own e)
       new_entry n (inr e) =
-          other_entry laws (swept t ps) p i j (number from p p) (number from p j) (number from i p) (number from i j) (den_of from p) (den_of from i)
-          (den_some p r) (den_some i (row_in i i_row)) (dens_small i (row_in i i_row)) pivot
+          other_entry laws (swept t ps) p i j (number from p p) (number from p j) (number from i p) (number from i j) from.den o.some_den o.small_den pivot
           (o.small.each (p * told_columns from + p)) (o.small.each (p * told_columns from + j)) (o.small.each (i * told_columns from + p)) (o.small.each (i * told_columns from + j))
           (h.entries p p p_row at p_column) (h.entries p j p_row in_front j_column) (h.entries i p i_row at p_column) (h.entries i j i_row in_front j_column)
-          z from.den w.swept.by out.den w.swept.some w.swept.den_some w.swept.den_is
-          (scale_of from i) refl (o.some i (row_in i i_row)) e (n.other e)
-          ∙ ap (λ u. frac z (out.den * u)) (sym (scale_kept i e))
+          z w.swept.by out.den w.swept.some w.swept.den_some w.swept.den_is e (n.other e)
 
-    entries_there : (i j : ℕ) → i < rows → first ≤ j → j < columns → swept t (ps ++ p ∷ []) i j ≡ frac (number out i j) (den_of out i)
+    entries_there : (i j : ℕ) → i < rows → first ≤ j → j < columns → swept t (ps ++ p ∷ []) i j ≡ frac (number out i j) out.den
     entries_there i j i_row l m =
         ap (λ (u : Table). u i j) (swept-more t ps p)
         ∙ new_entry i j i_row (omega arith) m (w.swept.rows.numbers i j (row_in i i_row) l (let q = column_in j m in omega arith)) (cases_eq i p)
-        ∙ (λ k. frac (whole_cell (sym told_there k) out.numbers.items i j) (out.den * scale_of out i))
+        ∙ (λ k. frac (whole_cell (sym told_there k) out.numbers.items i j) out.den)
 
     -- the last sweep, and those before it
     split : (k : ℕ) → k < length (ps ++ p ∷ []) → (k < length ps) ⊎ (k ≡ length ps)
@@ -162,7 +128,7 @@ module _ (laws : OverTheorems) (from out : Swept) (p first : ℕ) (o : IsTable f
         by (inr e) = subst (λ u. u < pivot_at (ps ++ p ∷ []) l) (sym (pivot_kept ps p k (omega arith))) (subst (λ u. pivot_at ps k < u) (sym (pivot_last ps p l e)) (above k (omega arith)))
 
     pivot_there : swept t ps p p ≢ int (pos 0)
-    pivot_there e = over_some (number from p p) (den_of from p) (den_some p r) pivot (sym (h.entries p p p_row at p_column) ∙ e)
+    pivot_there e = over_some (number from p p) from.den o.some_den pivot (sym (h.entries p p p_row at p_column) ∙ e)
 
     pivots_there : HasPivots t (ps ++ p ∷ [])
     pivots_there k l = by (split k l)
@@ -193,12 +159,11 @@ module _ (laws : OverTheorems) (from out : Swept) (p first : ℕ) (o : IsTable f
       columns_are = w.columns ∙ h.columns_are;
       told = subst (λ u. u ≤ first) (sym w.first_told) (omega arith);
       table = table_there;
-      whole = subst (IsWholeTable t rows columns) (sym w.most_scale) h.whole;
+      whole = h.whole;
       entries = entries_there;
       rising = rising_there;
       within = row_of (λ u. u < rows) p_row h.within;
       columns_within = row_of (λ u. u < columns) p_column h.columns_within;
       pivots = pivots_there;
       fits = all_fit;
-      swept_scales = row_of (λ u. scale_of out u ≡ 1) scale_there (λ k m. scale_kept (get_or ps k 0) (λ e. let b = above k m in omega arith) ∙ h.swept_scales k m);
     }

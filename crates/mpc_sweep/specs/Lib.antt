@@ -1,5 +1,5 @@
 pub mod Sweeps
 pub mod Numbers
 pub mod Steps
-pub mod Systems
+pub mod Reading
 pub mod Theorems

@@ -1,18 +1,10 @@
--- A swept table in whole numbers: over one denominator, and a scale for each row that isn't swept.
+-- A swept table in whole numbers over one denominator.
 use Rattle.std.specs.Prelude.{◌≡◌, ℕ, ◌+◌, ◌-◌, ◌*◌, ◌<◌, ◌≤◌, ◌^◌, List, length, get_or, ℤ, unsigned_abs}
 use Rattle.mpc_exact.specs.Rational.{frac}
 use Rattle.mpc_linear.specs.Elimination.{Table}
 use Rattle.mpc_whole.specs.Whole.{whole_cell, IsSmall}
 use Rattle.mpc_sweep.specs.declared.numbers.Swept.{Swept}
 use Rattle.mpc_sweep.specs.Sweeps.{swept, HasPivots, AreRising, SweepsFit}
-
--- the scale of a row
-abbrev pub scale_of : Swept → ℕ → ℕ
-scale_of s i = get_or s.scales.items i 0
-
--- what the entries of a row lie over
-abbrev pub den_of : Swept → ℕ → ℕ
-den_of s i = s.den * scale_of s i
 
 -- how many columns are told
 abbrev pub told_columns : Swept → ℕ
@@ -22,26 +14,22 @@ told_columns s = s.columns - s.first
 abbrev pub number : Swept → ℕ → ℕ → ℤ
 number s i j = whole_cell (told_columns s) s.numbers.items i j
 
--- the shape of the lists, and sizes that leave room for sums of two products
+-- the shape of the list, and sizes that leave room for sums of two products
 pub record IsTable (s : Swept) : Type 0 where
   pub told : s.first ≤ s.columns
   pub size : length s.numbers.items ≡ s.first + s.rows * told_columns s
-  pub scales_size : length s.scales.items ≡ s.rows
   pub some_den : 0 < s.den
-  pub some : (i : ℕ) → i < s.rows → 0 < scale_of s i
-  pub scales : (i : ℕ) → i < s.rows → scale_of s i ≤ s.most_scale
-  pub dens : s.den * s.most_scale ≤ 2 ^ 62
-  pub some_scale : 1 ≤ s.most_scale
+  pub small_den : s.den ≤ 2 ^ 62
   pub small : IsSmall (2 ^ 62) s.numbers.items
 
--- before the first sweep the entries of each row are small whole numbers over a scale of at most so much
-pub record IsWholeTable (t : Table) (rows columns most : ℕ) : Type 0 where
-  pub scale : ℕ → ℕ
+-- before the first sweep the entries are small whole numbers over one scale
+pub record IsWholeTable (t : Table) (rows columns : ℕ) : Type 0 where
+  pub scale : ℕ
   pub numbers : ℕ → ℕ → ℤ
-  pub some : (i : ℕ) → i < rows → 0 < scale i
-  pub scales : (i : ℕ) → i < rows → scale i ≤ most
+  pub some_scale : 0 < scale
+  pub small_scale : scale ≤ 2 ^ 62
   pub small : (i j : ℕ) → i < rows → j < columns → unsigned_abs (numbers i j) ≤ 2 ^ 58
-  pub entries : (i j : ℕ) → i < rows → j < columns → t i j ≡ frac (numbers i j) (scale i)
+  pub entries : (i j : ℕ) → i < rows → j < columns → t i j ≡ frac (numbers i j) scale
 
 -- The numbers stand for the table that is swept at these rows, in the columns from this one on, which are told; all numbers of the
 -- sweeps fit.
@@ -50,11 +38,10 @@ pub record IsSwept (t : Table) (ps : List ℕ) (rows columns first : ℕ) (s : S
   pub columns_are : s.columns ≡ columns
   pub told : s.first ≤ first
   pub table : IsTable s
-  pub whole : IsWholeTable t rows columns s.most_scale
-  pub entries : (i j : ℕ) → i < rows → first ≤ j → j < columns → swept t ps i j ≡ frac (number s i j) (den_of s i)
+  pub whole : IsWholeTable t rows columns
+  pub entries : (i j : ℕ) → i < rows → first ≤ j → j < columns → swept t ps i j ≡ frac (number s i j) s.den
   pub rising : AreRising ps
   pub within : (k : ℕ) → k < length ps → get_or ps k 0 < rows
   pub columns_within : (k : ℕ) → k < length ps → get_or ps k 0 < columns
   pub pivots : HasPivots t ps
   pub fits : SweepsFit t ps rows columns first
-  pub swept_scales : (k : ℕ) → k < length ps → scale_of s (get_or ps k 0) ≡ 1

@@ -35,5 +35,5 @@ pub record AreSweptRows (from : Swept) (p first den : ℕ) (new : List ℤ) : Ty
   pub some : 0 < by
   pub den_some : 0 < den
   pub den_is : den * by ≡ from.den * unsigned_abs (number from p p)
-  pub room : den * from.most_scale ≤ 2 ^ 62
+  pub den_small : den ≤ 2 ^ 62
   pub rows : AreRows (told_columns from) from.den by from.numbers.items p first (from.columns - first) from.rows new

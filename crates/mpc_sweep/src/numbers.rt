@@ -3,7 +3,7 @@
 ghost use Rattle.std.specs.Prelude.{◌≡◌, ◌≢◌, ℕ, ◌+◌, ◌<◌, ◌≤◌, ◌^◌, ◌++◌, ◌∷◌, [], List, IfOk, IfSome, IsTrue, length, get_or, pos};
 ghost use Rattle.mpc_space.specs.Matrix.{height, entry};
 ghost use Rattle.mpc_linear.specs.Elimination.{Table};
-ghost use Rattle.mpc_sweep.specs.Numbers.{IsSwept, IsTable, number, den_of};
+ghost use Rattle.mpc_sweep.specs.Numbers.{IsSwept, IsTable, number};
 
 use crate::reading::whole_table;
 use crate::rows::sweep_rows;
@@ -11,9 +11,8 @@ use mpc_frac::NoMemory;
 use mpc_linear::Matrix;
 use std::alloc::Global;
 
-/// A table that is swept at some of its rows, in whole numbers: the entries of a row lie over the
-/// denominator, times the scale of the row where it isn't swept. Only some of its last columns may be told,
-/// and the others take no room in the rows.
+/// A table that is swept at some of its rows, in whole numbers over one denominator. Only some of its last
+/// columns may be told, and the others take no room in the rows.
 #[derive(Drop)]
 pub struct Swept {
     pub(crate) rows: usize,
@@ -21,9 +20,6 @@ pub struct Swept {
     /// The first column that is told.
     pub(crate) first: usize,
     pub(crate) den: u64,
-    /// A bound of the scales, at least 1.
-    pub(crate) most_scale: u64,
-    pub(crate) scales: Vec<u64>,
     /// The numbers of the columns that are told, row by row, behind one place for each column that isn't: so
     /// the number in row i and column j stands at i times the columns that are told, and j.
     pub(crate) numbers: Vec<i64>,
@@ -37,14 +33,12 @@ impl Swept {
             columns: 0,
             first: 0,
             den: 1,
-            most_scale: 1,
-            scales: Vec::new(alloc),
             numbers: Vec::new(alloc),
         }
     }
 
-    /// The table before its first sweep, if each row is whole times a scale of at most 2^40, with numbers of
-    /// at most 2^58 in size.
+    /// The table before its first sweep, if it is whole times a scale of at most 2^62, with numbers of at most
+    /// 2^58 in size.
     pub fn read(alloc: Global, table: &Matrix) -> Result<Option<Swept>, NoMemory>
         ensures { IfOk result (λ o. IfSome o (IsSwept (entry table.now) [] (height table.now) table.now.columns 0)) }
     {
@@ -62,14 +56,12 @@ impl Swept {
         self.numbers[i * (self.columns - self.first) + j]
     }
 
-    /// What the numbers of row i lie over.
+    /// What the numbers lie over.
     #[inline]
-    pub fn den_at(&self, i: usize) -> u64
-        requires table { IsTable self.now }
-        requires row { i < self.now.rows }
-        ensures { result ≡ den_of self.now i }
+    pub fn den(&self) -> u64
+        ensures { result ≡ self.now.den }
     {
-        self.den * self.scales[i]
+        self.den
     }
 
     /// Sweeps the table at one more row, p, which lies behind those before, into the room of another one, in

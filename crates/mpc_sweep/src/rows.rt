@@ -1,6 +1,6 @@
 //! One sweep, row by row.
 
-ghost use Rattle.std.specs.Prelude.{◌≡◌, ◌≢◌, ℕ, ◌+◌, ◌-◌, ◌*◌, ◌<◌, ◌≤◌, ◌^◌, ◌++◌, ◌∷◌, [], List, ℤ, IfOk, IfSome, OnOk, IsTrue, length, get_or, set, pos, ◌+ℤ◌, ◌*ℤ◌, neg_ℤ, unsigned_abs};
+ghost use Rattle.std.specs.Prelude.{◌≡◌, ◌≢◌, ℕ, ◌+◌, ◌-◌, ◌*◌, ◌<◌, ◌≤◌, ◌^◌, ◌++◌, ◌∷◌, [], List, ℤ, IfOk, IfSome, IsTrue, length, get_or, pos, ◌+ℤ◌, ◌*ℤ◌, neg_ℤ, unsigned_abs};
 ghost use Rattle.mpc_linear.specs.Elimination.{Table};
 ghost use Rattle.mpc_whole.specs.Whole.{whole_at, IsSmall, turned};
 ghost use Rattle.mpc_sweep.specs.Numbers.{IsSwept, IsTable, number, told_columns};
@@ -10,7 +10,6 @@ use crate::Swept;
 use crate::divisor::shared_divisor;
 use mpc_frac::NoMemory;
 use mpc_whole::{Divisor, changed, over_theorems, turned};
-use std::alloc::AllocError;
 
 /// The greatest size of a number.
 const MOST: u64 = 1 << 62;
@@ -170,7 +169,8 @@ fn write_rows(numbers: &mut [i64], from: &Swept, p: usize, first: usize, taken: 
 /// The quotient, if it is whole and small.
 fn whole_quotient(over: u128, by: u64) -> Option<u64>
     requires { 0 < by }
-    ensures { IfSome result (λ q. q * by ≡ over) }
+    ensures value { IfSome result (λ q. q * by ≡ over) }
+    ensures small { IfSome result (λ q. q ≤ 2 ^ 62) }
 {
     let quotient = over / by as u128;
     if quotient > 1 << 62 {
@@ -206,9 +206,6 @@ fn write_reduced_rows(numbers: &mut [i64], from: &Swept, p: usize, first: usize)
     let Some(den) = whole_quotient(over, taken) else {
         return None;
     };
-    if den as u128 * from.most_scale as u128 > 1 << 62 {
-        return None;
-    }
     if !write_rows(numbers, from, p, first, taken) {
         return None;
     }
@@ -229,24 +226,10 @@ fn write_swept_rows(numbers: &mut [i64], from: &Swept, p: usize, first: usize) -
     ensures { IfSome result (λ den. AreSweptRows from.now p first den numbers.new) }
 {
     let size = from.at(p, p).unsigned_abs();
-    if size as u128 * from.most_scale as u128 > 1 << 62 {
-        return write_reduced_rows(numbers, from, p, first);
-    }
     if !write_rows(numbers, from, p, first, from.den) {
         return write_reduced_rows(numbers, from, p, first);
     }
     Some(size)
-}
-
-/// Puts the scales of the rows into the list; that of the row of the sweep is 1 now.
-fn put_scales(scales: &mut Vec<u64>, old: &[u64], p: usize) -> Result<(), AllocError>
-    requires { p < length old.now }
-    ensures { OnOk result (scales.new.items ≡ set old.now p 1) }
-{
-    scales.clear();
-    scales.extend_from_slice(old)?;
-    scales[p] = 1;
-    Ok(())
 }
 
 /// Sweeps the table at the row p into another one, in the columns from `first` on. It is `false` where a
@@ -264,7 +247,6 @@ pub fn sweep_rows(from: &Swept, out: &mut Swept, p: usize, first: usize) -> Resu
     if p < from.first || first < from.first {
         return Ok(false);
     }
-    put_scales(&mut out.scales, &from.scales, p)?;
     let count = first + from.rows * (from.columns - first);
     out.numbers.resize(count, 0)?;
     let Some(den) = write_swept_rows(out.numbers.as_mut_slice(), from, p, first) else {
@@ -274,6 +256,5 @@ pub fn sweep_rows(from: &Swept, out: &mut Swept, p: usize, first: usize) -> Resu
     out.columns = from.columns;
     out.first = first;
     out.den = den;
-    out.most_scale = from.most_scale;
     Ok(true)
 }

@@ -40,7 +40,7 @@ fn entry(table: &Swept, i: usize, j: usize) -> Option<(i64, u64)>
     if table.rows <= i || table.columns <= j {
         return None;
     }
-    Some((table.at(i, j), table.den_at(i)))
+    Some((table.at(i, j), table.den()))
 }
 
 /// -3/2, 3/2, 1 and 2/3, 1, -1/3.
@@ -72,8 +72,8 @@ fn sweeps_at_a_negative_pivot(rt: HostRuntime) -> Result<(), Fail> {
     let Some(swept) = swept_at(rt.alloc(), &table, 0, 1)? else {
         panic!(rt; "the numbers are small");
     };
-    assert!(rt; entry(&swept, 0, 1) == Some((-3, 3)));
-    assert!(rt; entry(&swept, 0, 2) == Some((-2, 3)));
+    assert!(rt; entry(&swept, 0, 1) == Some((-9, 9)));
+    assert!(rt; entry(&swept, 0, 2) == Some((-6, 9)));
     assert!(rt; entry(&swept, 1, 1) == Some((15, 9)));
     assert!(rt; entry(&swept, 1, 2) == Some((1, 9)));
     Ok(())

@@ -1,7 +1,7 @@
 use Rattle.std.proofs.Common.{◌≡◌, ◌+◌, ◌-◌, ◌<◌, length, get_or, sym, ◌∙◌, ap, arith}
 use Rattle.mpc_exact.specs.Rational.{frac}
 use Rattle.mpc_space.specs.Matrix.{height}
-use Rattle.mpc_sweep.specs.Numbers.{number, den_of}
+use Rattle.mpc_sweep.specs.Numbers.{number}
 use Rattle.mpc_region.proofs.Members.{member}
 use Rattle.mpc_region.specs.Sweeps.{rights, swept_law}
 use Rattle.mpc_region.proofs.RowWriting.{table_more, table_all}
@@ -20,7 +20,7 @@ loop-k-preserved c =
     let first : c.rows-unknowns.result + c.rows.result ≡ rights qp = omega (arith, c.rows-unknowns.ensures.value, c.rows.ensures.value) in
     let source : c.rows-unknowns.result + (c.member-member.result - 1) ≡ height qp.h + (get_or s c.loop-k.k 0 - 1) = λ u. c.rows-unknowns.ensures.value u + ((c.member-member.ensures.value ∙ ap (λ i. get_or s i 0) place) u - 1) in
     table_more c.loop-k.out c.write_entries.new.out _ _ c.loop-k.k _ _
-    (λ j l. (λ u. frac (number t (source u) (first u + j)) (den_of t (source u))) ∙ sym (c.requires.table.entries (height qp.h + (get_or s c.loop-k.k 0 - 1)) (rights qp + j) (omega arith) (omega arith) (omega arith))) c.write_entries.ensures c.loop-k.invariant
+    (λ j l. (λ u. frac (number t (source u) (first u + j)) t.den) ∙ sym (c.requires.table.entries (height qp.h + (get_or s c.loop-k.k 0 - 1)) (rights qp + j) (omega arith) (omega arith) (omega arith))) c.write_entries.ensures c.loop-k.invariant
 
 pub returns : goal.returns
 unfolding swept_law

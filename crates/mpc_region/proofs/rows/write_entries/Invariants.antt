@@ -1,8 +1,8 @@
 use Rattle.std.proofs.Common.{◌+◌}
 use Rattle.mpc_exact.specs.Rational.{frac}
-use Rattle.mpc_sweep.specs.Numbers.{number, den_of}
+use Rattle.mpc_sweep.specs.Numbers.{number}
 use Rattle.mpc_region.proofs.RowWriting.{WritingRow}
 use Rattle.mpc_region.proofs.rows.write_entries.Given as goal
 
 abbrev pub invariant-loop-j : goal.invariant-loop-j
-invariant-loop-j l = WritingRow l.fn.out l.out l.i l.j (λ j. frac (number l.table l.source (l.first + j)) (den_of l.table l.source))
+invariant-loop-j l = WritingRow l.fn.out l.out l.i l.j (λ j. frac (number l.table l.source (l.first + j)) l.table.den)

@@ -1,4 +1,4 @@
-use Rattle.std.proofs.Common.{◌≡◌, ◌-◌, ◌++◌, List, ℕ, ℤ, length, take, drop, set, refl, sym, ◌∙◌, ap, subst}
+use Rattle.std.proofs.Common.{◌≡◌, ◌++◌, List, ℤ, length, take, drop, refl, sym, ◌∙◌, ap, subst}
 use Rattle.std.proofs.lemmas.List.{take_at}
 use Rattle.mpc_sweep.specs.declared.numbers.Swept.{Swept}
 use Rattle.mpc_sweep.specs.Steps.{AreSweptRows}
@@ -12,13 +12,11 @@ returns c = λ done t ps rows columns before h at behind above.
     let new = c.write_swept_rows.new.numbers in
     let long : length new ≡ c.resize.new.self.len = c.write_swept_rows.auto.numbers ∙ c.as_mut_slice.ensures.len in
     let items : take c.resize.new.self.len (new ++ drop (length new) c.resize.new.self.items) ≡ new = take_at new (drop (length new) c.resize.new.self.items) c.resize.new.self.len long in
-    let out : Swept = record { rows = s.rows; columns = s.columns; first = c.args.first; den = c.in-Some.den; most_scale = s.most_scale; scales = c.put_scales.new.scales; numbers = _ } in
+    let out : Swept = record { rows = s.rows; columns = s.columns; first = c.args.first; den = c.in-Some.den; numbers = _ } in
     let once : IsOnce s out p c.args.first = record {
       rows = refl;
       columns = refl;
       first_told = refl;
-      most_scale = refl;
-      scales = c.in_ok-put_scales.ensures ∙ ap (λ (xs : List ℕ). set xs p 1) c.deref.ensures.value;
       size = ap (λ (xs : List ℤ). length xs) items ∙ long ∙ c.in_ok-resize.ensures.len;
       swept = subst (AreSweptRows s p c.args.first c.in-Some.den) (sym items) c.in-Some.ensures;
       within = c.requires.first;

@@ -1,4 +1,4 @@
-use Rattle.std.proofs.Common.{◌≡◌, ◌≤◌, ◌<◌, ◌*◌, ◌^◌, ◌+◌, unsigned_abs, sym, ◌∙◌, ap, subst, arith}
+use Rattle.std.proofs.Common.{◌≡◌, ◌≤◌, ◌<◌, ◌*◌, ◌^◌, ◌+◌, unsigned_abs, sym, ◌∙◌, ap, subst}
 use Rattle.mpc_sweep.specs.Numbers.{number, told_columns}
 use Rattle.mpc_sweep.proofs.OneNumber.{read_small}
 use Rattle.mpc_sweep.proofs.SweptEntry.{abs_some}
@@ -13,4 +13,4 @@ returns c =
     let size : c.unsigned_abs-size.result ≡ unsigned_abs (number s p p) = c.unsigned_abs-size.ensures.value ∙ ap unsigned_abs (read_small c.at.result small ∙ c.at.ensures) in
     let some : 0 < c.unsigned_abs-size.result = subst (λ u. 0 < u) (sym size) (abs_some (number s p p) c.requires.pivot) in
     rows_over_pivot s p c.args.first c.unsigned_abs-size.result c.write_rows.new.numbers size some c.requires.table.some_den
-    (let h = c.if-size-from.false in omega arith) (c.write_rows.ensures c.if-not-write_rows.false)
+    (subst (λ u. u ≤ 2 ^ 62) (sym size) (c.requires.table.small.each (p * told_columns s + p))) (c.write_rows.ensures c.if-not-write_rows.false)
