@@ -29,3 +29,5 @@ pub mod Found
 pub mod MultiplierLists
 pub mod Turned
 pub mod Keeping
+pub mod WholeFits
+pub mod WholeDots

@@ -1,5 +1,5 @@
 -- The tests of rows one after another, until one isn't met.
-use Rattle.std.proofs.Common.{◌≡◌, ℕ, ◌+◌, ◌<◌, ◌≤◌, List, [], ◌∷◌, pos, Result, MatchResult, sym, ◌∙◌, ap, subst, arith, ⊎_elim, None}
+use Rattle.std.proofs.Common.{◌≡◌, ℕ, ◌+◌, ◌<◌, ◌≤◌, List, [], ◌∷◌, pos, Result, MatchResult, sym, subst, arith, ⊎_elim, None}
 use Rattle.std.proofs.lemmas.Bool.{cases_eq, cases_lt}
 use Rattle.mpc_exact.specs.Rational.{ℚ, int, ◌+ℚ◌, ◌-ℚ◌, neg_ℚ, IsPositive}
 use Rattle.mpc_exact.proofs.RationalRing.{reads, by_ring}
@@ -26,20 +26,23 @@ module _ (qp : Qp) (b z : List ℚ) where
   pub met_none : AreMet 1
   met_none = record { met = λ j h l. absurd (omega arith); fit = λ j h l. absurd (omega arith) }
 
-  is_violated : (i : ℕ) (a : ℚ) → a ≡ level qp z i -ℚ side b i → IsPositive a → IsViolated qp b z i
+  pub is_violated : (i : ℕ) (a : ℚ) → a ≡ level qp z i -ℚ side b i → IsPositive a → IsViolated qp b z i
   is_violated i a e h = record { above = from_strict_gap (subst IsPositive e h) }
 
-  pub met_more : (i : ℕ) (a : ℚ) → a ≡ level qp z i -ℚ side b i → (IsPositive a → ⊥) → TestFits qp b z i → AreMet i → AreMet (i + 1)
-  met_more i a e h f m = record {
-    met = λ j from to. ⊎_elim (λ q v. h (subst IsPositive (ap (λ k. level qp z k -ℚ side b k) q ∙ sym e) (strict_gap v.above))) (λ q. m.met j from (omega arith)) (cases_eq j i);
+  pub is_positive : (i : ℕ) (a : ℚ) → a ≡ level qp z i -ℚ side b i → IsViolated qp b z i → IsPositive a
+  is_positive i a e v = subst IsPositive (sym e) (strict_gap v.above)
+
+  pub met_more : (i : ℕ) → ¬ IsViolated qp b z i → TestFits qp b z i → AreMet i → AreMet (i + 1)
+  met_more i h f m = record {
+    met = λ j from to. ⊎_elim (λ q v. h (subst (IsViolated qp b z) q v)) (λ q. m.met j from (omega arith)) (cases_eq j i);
     fit = λ j from to. ⊎_elim (λ q. subst (TestFits qp b z) (sym q) f) (λ q. m.fit j from (omega arith)) (cases_eq j i);
   }
 
-  pub found_first : (i : ℕ) (a : ℚ) → a ≡ level qp z i -ℚ side b i → IsPositive a → 1 ≤ i → i ≤ height qp.g → AreMet i → IsFirstOutside qp b z i
-  found_first i a e h from to m = record { from_one = from; to_last = to; violated = is_violated i a e h; before = m.met }
+  pub found_first : (i : ℕ) → IsViolated qp b z i → 1 ≤ i → i ≤ height qp.g → AreMet i → IsFirstOutside qp b z i
+  found_first i v from to m = record { from_one = from; to_last = to; violated = v; before = m.met }
 
-  pub found_fits : (i : ℕ) (a : ℚ) → a ≡ level qp z i -ℚ side b i → IsPositive a → 1 ≤ i → TestFits qp b z i → AreMet i → TestsFit qp b z
-  found_fits i a e h from f m j one last none_before = ⊎_elim (λ l. m.fit j one l) (λ l. ⊎_elim (λ q. subst (TestFits qp b z) (sym q) f) (λ q. absurd (none_before i from (omega arith) (is_violated i a e h))) (cases_eq j i)) (cases_lt j i)
+  pub found_fits : (i : ℕ) → IsViolated qp b z i → 1 ≤ i → TestFits qp b z i → AreMet i → TestsFit qp b z
+  found_fits i v from f m j one last none_before = ⊎_elim (λ l. m.fit j one l) (λ l. ⊎_elim (λ q. subst (TestFits qp b z) (sym q) f) (λ q. absurd (none_before i from (omega arith) v)) (cases_eq j i)) (cases_lt j i)
 
   pub met_all : (i : ℕ) → height qp.g < i → AreMet i → IsFirstViolated qp b z None
   met_all i l m j from to = m.met j from (omega arith)

@@ -8,6 +8,7 @@ use Rattle.mpc_linear.specs.Solution.{IsOnlySolution}
 use Rattle.mpc_rows.specs.SetRuns.{law_matrix}
 use Rattle.mpc_online.specs.Positions.{right_matrix, step_side, upper_part, lower_part}
 use Rattle.mpc_online.specs.Widths.{EliminationFits}
+use Rattle.mpc_online.specs.Wholes.{AreRowsOver}
 use Rattle.mpc_online.specs.declared.prepared.Direction.{Direction}
 use Rattle.mpc_online.specs.declared.prepared.KeptDirection.{KeptDirection}
 use Rattle.mpc_online.specs.declared.prepared.Prepared.{Prepared}
@@ -56,5 +57,6 @@ pub record IsKeptAt (s : List ℕ) (r : ℕ) (kept : List KeptDirection) (k : �
   pub row_is : there.row ≡ r
 
 pub record IsPreparedFor (qp : Qp) (p : Prepared) : Type 0 where
+  pub rows : AreRowsOver qp.g p.rows.items
   pub kept : IfSome p.kept (IsKeptOf qp)
   pub directions : All (IsKeptDirection qp) p.directions.items

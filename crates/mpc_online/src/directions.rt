@@ -18,6 +18,7 @@ use crate::matrices::step_right;
 use crate::prepared::{Direction, KeptDirection, Prepared};
 use crate::shared::shared_table;
 use crate::solutions::{Stop, part, solution};
+use crate::wholes::whole_rows;
 use mpc_bordered::{Kept, keep, solve_part};
 use mpc_frac::NoMemory;
 use mpc_linear::{LinearError, Matrix, Solved};
@@ -32,11 +33,13 @@ const MOST_DIRECTIONS: usize = 1024;
 pub fn prepare(alloc: Global, qp: &Qp) -> Result<Prepared, NoMemory>
     ensures { IfOk result (IsPreparedFor qp.now) }
 {
+    let rows = whole_rows(alloc, &qp.g)?;
     let table = shared_table(alloc, qp)?;
     let Ok(kept) = keep(alloc, table, qp.h.rows()) else {
         return Err(NoMemory);
     };
     Ok(Prepared {
+        rows,
         kept,
         directions: Vec::new(alloc),
     })

@@ -27,6 +27,7 @@ mod solutions;
 mod tests_of_rows;
 mod theorems;
 mod turns;
+mod wholes;
 
 pub use directions::prepare;
 use mpc_cover::cheapest_theorems;
@@ -37,6 +38,7 @@ use run::answer;
 use std::alloc::Global;
 pub use theorems::run_theorems;
 use thiserror::Error;
+use wholes::whole_rows;
 
 /// What is found at a state.
 #[derive(Drop)]
@@ -113,9 +115,13 @@ pub fn solve_at(alloc: Global, qp: &Qp, counts: &[u64]) -> Result<Online, Online
     ensures end { IfOk result (λ o. IsRunEnd qp.now (point_of counts.now) (answered o)) }
     ensures wide { MatchResult result (λ _. ⊤) (λ e. IfWide e (λ step. IsRunEnd qp.now (point_of counts.now) (wide_in step))) }
 {
-    let mut nothing = Prepared {
+    let Ok(rows) = whole_rows(alloc, &qp.g) else {
+        return Err(OnlineError::NoMemory);
+    };
+    let mut alone = Prepared {
+        rows,
         kept: None,
         directions: Vec::new(alloc),
     };
-    solve_prepared(alloc, qp, &mut nothing, counts)
+    solve_prepared(alloc, qp, &mut alone, counts)
 }

@@ -9,6 +9,7 @@ ghost use Rattle.mpc_online.specs.Positions.{along, without_place, joined, place
 ghost use Rattle.mpc_online.specs.Widths.{GrowsFit, MoveFits};
 ghost use Rattle.mpc_online.specs.Answers.{position_of};
 
+use crate::prepared::Direction;
 use mpc_frac::{Frac, Wide};
 use mpc_linear::add_product;
 use mpc_sets::ActiveSet;
@@ -42,15 +43,15 @@ fn grow(xs: &mut [Frac], s: &Frac, d: &[Frac]) -> Result<(), Wide>
 }
 
 /// s times the direction further.
-pub fn moved(mut it: Iterate, d: &[Frac], e: &[Frac], s: &Frac) -> Result<Iterate, Wide>
-    requires direction { length d.now ≡ length it.point.items }
-    requires multipliers { length e.now ≡ length it.multipliers.items }
-    ensures value { IfOk result (λ next. position_of next ≡ along (position_of it) d.now e.now s.now) }
-    ensures wide { MatchResult result (λ _. MoveFits (position_of it) d.now e.now s.now)
-        (λ _. ¬ MoveFits (position_of it) d.now e.now s.now) }
+pub fn moved(mut it: Iterate, direction: &Direction, s: &Frac) -> Result<Iterate, Wide>
+    requires direction { length direction.now.point.items ≡ length it.point.items }
+    requires multipliers { length direction.now.multipliers.items ≡ length it.multipliers.items }
+    ensures value { IfOk result (λ next. position_of next ≡ along (position_of it) direction.now.point.items direction.now.multipliers.items s.now) }
+    ensures wide { MatchResult result (λ _. MoveFits (position_of it) direction.now.point.items direction.now.multipliers.items s.now)
+        (λ _. ¬ MoveFits (position_of it) direction.now.point.items direction.now.multipliers.items s.now) }
 {
-    grow(&mut it.point, s, d)?;
-    grow(&mut it.multipliers, s, e)?;
+    grow(&mut it.point, s, &direction.point)?;
+    grow(&mut it.multipliers, s, &direction.multipliers)?;
     it.weight = it.weight.add(s)?;
     Ok(it)
 }

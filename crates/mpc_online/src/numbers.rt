@@ -1,7 +1,7 @@
 //! Comparisons of numbers.
 
-ghost use Rattle.std.specs.Prelude.{◌≡◌, pos};
-ghost use Rattle.mpc_exact.specs.Rational.{int, lt_ℚ};
+ghost use Rattle.std.specs.Prelude.{◌≡◌, ◌↔◌, IsTrue, pos};
+ghost use Rattle.mpc_exact.specs.Rational.{int, lt_ℚ, ◌<ℚ◌};
 
 use mpc_frac::Frac;
 
@@ -14,9 +14,9 @@ pub fn is_less(x: &Frac, y: &Frac) -> bool
 
 /// Whether x is above 0.
 pub fn is_positive(x: &Frac) -> bool
-    ensures { result ≡ lt_ℚ (int (pos 0)) x.now }
+    ensures { IsTrue result ↔ (int (pos 0) <ℚ x.now) }
 {
-    is_less(&Frac::whole(0), x)
+    x.sign() > 0
 }
 
 /// Whether x is below 0.

@@ -1,5 +1,7 @@
 //! What all states of a program share.
 
+ghost use Rattle.mpc_online.specs.Sizes.{AreAtMost};
+
 use mpc_bordered::Kept;
 use mpc_frac::Frac;
 use mpc_sets::ActiveSet;
@@ -20,10 +22,20 @@ pub struct KeptDirection {
     pub direction: Option<Direction>,
 }
 
-/// What the runs at all states of a program share: the elimination of its Hessian in the equations of all steps, where it is kept, and the
-/// directions that were found, by rising rows and masks.
+/// Up to six fractions over one denominator. No numerator and not the denominator is above `most` in size.
+#[derive(Drop)]
+pub struct Wholes {
+    pub numerators: [i128; 6],
+    pub den: u128,
+    pub most: u128,
+    pub ghost at_most: { AreAtMost numerators den most },
+}
+
+/// What the runs at all states of a program share: its rows in whole numbers, where these are small; the elimination of its Hessian in the
+/// equations of all steps, where it is kept; and the directions that were found, by rising rows and masks.
 #[derive(Drop)]
 pub struct Prepared {
+    pub rows: Vec<Option<Wholes>>,
     pub kept: Option<Kept>,
     pub directions: Vec<KeptDirection>,
 }

@@ -11,6 +11,7 @@ ghost use Rattle.mpc_online.specs.Widths.{StepFits, FirstFits, TurnFits};
 ghost use Rattle.mpc_online.specs.OnlineRun.{IsStep, IsOpening, IsRunEnd, LeadsTo, answered, wide_in};
 ghost use Rattle.mpc_online.specs.Standing.{IsPosition, IsAnswer};
 ghost use Rattle.mpc_online.specs.Shared.{IsPreparedFor};
+ghost use Rattle.mpc_online.specs.Wholes.{AreRowsOver};
 ghost use Rattle.mpc_online.specs.Answers.{IfWide, IfStopWide, position_of, step_of};
 ghost use Rattle.mpc_rows.specs.ActiveSets.{IsInBox};
 
@@ -18,7 +19,7 @@ use crate::counts::extended;
 use crate::directions::direction_place;
 use crate::matrices::opening_right;
 use crate::moves::{Iterate, dropped, moved, row_joined};
-use crate::prepared::Prepared;
+use crate::prepared::{Direction, Prepared, Wholes};
 use crate::refuting::row_multipliers;
 use crate::solutions::{Stop, part, products, solution};
 use crate::tests_of_rows::first_violated;
@@ -64,8 +65,15 @@ fn continued(alloc: Global, mut it: Iterate, first: Option<u32>) -> Result<Next,
 }
 
 /// Step 0: the first point, and the first row that it doesn't meet.
-fn open(alloc: Global, qp: &Qp, c: &[Frac], sides: &[Frac]) -> Result<Next, Stop>
+fn open(
+    alloc: Global,
+    qp: &Qp,
+    c: &[Frac],
+    sides: &[Frac],
+    rows: &[Option<Wholes>],
+) -> Result<Next, Stop>
     requires definite { IsDefinite qp.now.h.rows }
+    requires rows { AreRowsOver qp.now.g rows.now }
     requires extended { qp.now.f.columns ≡ length c.now }
     requires sides { length sides.now ≡ height qp.now.g }
     ensures opens { IfOk result (λ next. IsOpening qp.now sides.now c.now (step_of next)) }
@@ -76,7 +84,7 @@ fn open(alloc: Global, qp: &Qp, c: &[Frac], sides: &[Frac]) -> Result<Next, Stop
     let right = opening_right(alloc, qp, &costs)?;
     let x = solution(alloc, qp, ActiveSet::empty(), &right)?;
     let point = part(alloc, &x, 0, qp.h.rows())?;
-    let first = first_violated(qp, sides, &point)?;
+    let first = first_violated(qp, rows, sides, &point)?;
     let it = Iterate {
         point,
         set: ActiveSet::empty(),
@@ -91,33 +99,34 @@ fn open(alloc: Global, qp: &Qp, c: &[Frac], sides: &[Frac]) -> Result<Next, Stop
 fn take_turn(
     alloc: Global,
     qp: &Qp,
+    rows: &[Option<Wholes>],
     sides: &[Frac],
     it: Iterate,
-    d: &[Frac],
-    e: &[Frac],
+    direction: &Direction,
     turn: Turn,
 ) -> Result<Next, Stop>
+    requires rows { AreRowsOver qp.now.g rows.now }
     requires position { IsPosition qp.now (position_of it) }
     requires sides { length sides.now ≡ height qp.now.g }
-    requires direction { length d.now ≡ height qp.now.h }
-    requires multipliers { length e.now ≡ length it.set }
-    requires turn { IsTurn qp.now sides.now (position_of it) d.now e.now turn }
-    ensures leads { IfOk result (λ next. LeadsTo qp.now sides.now (position_of it) d.now e.now turn (step_of next)) }
-    ensures wide { MatchResult result (λ _. TurnFits qp.now sides.now (position_of it) d.now e.now turn)
-        (λ stop. IfStopWide stop (¬ TurnFits qp.now sides.now (position_of it) d.now e.now turn)) }
+    requires direction { length direction.now.point.items ≡ height qp.now.h }
+    requires multipliers { length direction.now.multipliers.items ≡ length it.set }
+    requires turn { IsTurn qp.now sides.now (position_of it) direction.now.point.items direction.now.multipliers.items turn }
+    ensures leads { IfOk result (λ next. LeadsTo qp.now sides.now (position_of it) direction.now.point.items direction.now.multipliers.items turn (step_of next)) }
+    ensures wide { MatchResult result (λ _. TurnFits qp.now sides.now (position_of it) direction.now.point.items direction.now.multipliers.items turn)
+        (λ stop. IfStopWide stop (¬ TurnFits qp.now sides.now (position_of it) direction.now.point.items direction.now.multipliers.items turn)) }
 {
     match turn {
         Turn::Refuted => {
-            let multipliers = row_multipliers(alloc, qp, &it, e)?;
+            let multipliers = row_multipliers(alloc, qp, &it, &direction.multipliers)?;
             Ok(Next::Ends(Online::Refuted(multipliers)))
         }
         Turn::Drops(place, length) => {
-            let after = moved(it, d, e, &length)?;
+            let after = moved(it, direction, &length)?;
             Ok(Next::Goes(dropped(after, place)))
         }
         Turn::Joins(length) => {
-            let after = moved(it, d, e, &length)?;
-            let first = first_violated(qp, sides, &after.point)?;
+            let after = moved(it, direction, &length)?;
+            let first = first_violated(qp, rows, sides, &after.point)?;
             let together = row_joined(after)?;
             Ok(continued(alloc, together, first)?)
         }
@@ -148,7 +157,7 @@ fn advance(
     let d = direction.point.as_slice();
     let e = direction.multipliers.as_slice();
     let turn = turn_of(qp, sides, &it, d, e)?;
-    take_turn(alloc, qp, sides, it, d, e, turn)
+    take_turn(alloc, qp, &prepared.rows, sides, it, direction, turn)
 }
 
 /// The run from step 0 to its end.
@@ -177,7 +186,7 @@ pub fn answer(
         Err(Stop::Wide) => return Err(OnlineError::Wide(0)),
         Err(Stop::NoMemory) => return Err(OnlineError::NoMemory),
     };
-    let mut it = match open(alloc, qp, &c, &sides) {
+    let mut it = match open(alloc, qp, &c, &sides, &prepared.rows) {
         Ok(Next::Goes(it)) => it,
         Ok(Next::Ends(online)) => return Ok(online),
         Err(Stop::Wide) => return Err(OnlineError::Wide(0)),

@@ -1,13 +1,16 @@
 //! The first row that a point doesn't meet.
 
-ghost use Rattle.std.specs.Prelude.{◌≡◌, ◌-◌, ◌≤◌, IfOk, MatchResult, length, pos};
+ghost use Rattle.std.specs.Prelude.{◌≡◌, ◌-◌, ◌≤◌, ◌↔◌, IfOk, IfSome, IsTrue, MatchResult, length, pos};
 ghost use Rattle.mpc_exact.specs.Rational.{int, ◌-ℚ◌};
 ghost use Rattle.mpc_space.specs.Matrix.{height};
-ghost use Rattle.mpc_online.specs.StateRows.{level, side, IsFirstViolated};
+ghost use Rattle.mpc_online.specs.StateRows.{level, side, IsViolated, IsFirstViolated};
 ghost use Rattle.mpc_online.specs.Widths.{TestFits, TestsFit};
+ghost use Rattle.mpc_online.specs.Wholes.{IsOver, AreRowsOver};
 
 use crate::numbers::is_positive;
+use crate::prepared::Wholes;
 use crate::solutions::dot_of;
+use crate::wholes::{is_above, over_one_denominator};
 use mpc_frac::{Frac, Wide};
 use mpc_rows::Qp;
 
@@ -26,17 +29,55 @@ pub fn excess(qp: &Qp, sides: &[Frac], point: &[Frac], i: u32) -> Result<Frac, W
     level.sub(&sides[i as usize - 1])
 }
 
+/// Whether the point is above row i: in whole numbers, where these are small, and else in fractions.
+fn is_violated(
+    qp: &Qp,
+    rows: &[Option<Wholes>],
+    sides: &[Frac],
+    point: &[Frac],
+    whole: &Option<Wholes>,
+    i: u32,
+) -> Result<bool, Wide>
+    requires rows { AreRowsOver qp.now.g rows.now }
+    requires sides { length sides.now ≡ height qp.now.g }
+    requires point { length point.now ≡ height qp.now.h }
+    requires whole { IfSome whole.now (IsOver point.now) }
+    requires from_one { 1 ≤ i }
+    requires to_last { i ≤ height qp.now.g }
+    ensures value { IfOk result (λ yes. IsTrue yes ↔ IsViolated qp.now sides.now point.now i) }
+    ensures wide { MatchResult result (λ _. TestFits qp.now sides.now point.now i)
+        (λ _. ¬ TestFits qp.now sides.now point.now i) }
+{
+    let place = i as usize - 1;
+    if let Some(row) = &rows[place] {
+        if let Some(numbers) = whole {
+            if let Some(yes) = is_above(row, numbers, point.len(), &sides[place]) {
+                return Ok(yes);
+            }
+        }
+    }
+    let above = excess(qp, sides, point, i)?;
+    Ok(is_positive(&above))
+}
+
 /// The first row that the point doesn't meet, if there is one.
-pub fn first_violated(qp: &Qp, sides: &[Frac], point: &[Frac]) -> Result<Option<u32>, Wide>
+pub fn first_violated(
+    qp: &Qp,
+    rows: &[Option<Wholes>],
+    sides: &[Frac],
+    point: &[Frac],
+) -> Result<Option<u32>, Wide>
+    requires rows { AreRowsOver qp.now.g rows.now }
     requires sides { length sides.now ≡ height qp.now.g }
     requires point { length point.now ≡ height qp.now.h }
     ensures value { IfOk result (λ o. IsFirstViolated qp.now sides.now point.now o) }
     ensures wide { MatchResult result (λ _. TestsFit qp.now sides.now point.now)
         (λ _. ¬ TestsFit qp.now sides.now point.now) }
 {
+    let whole = over_one_denominator(point);
     for i in 0..qp.g.rows() {
-        let above = excess(qp, sides, point, i + 1)?;
-        if is_positive(&above) {
+        let above = is_violated(qp, rows, sides, point, &whole, i + 1)?;
+        if above {
             return Ok(Some(i + 1));
         }
     }

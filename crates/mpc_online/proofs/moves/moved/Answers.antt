@@ -1,6 +1,9 @@
-use Rattle.std.proofs.Common.{◌≡◌, length, ◌∙◌, refl}
+use Rattle.std.proofs.Common.{◌≡◌, List, length, ◌∙◌, ap, refl, subst}
 use Rattle.std.proofs.lemmas.List.{with_items_is}
+use Rattle.mpc_exact.specs.Rational.{ℚ}
+use Rattle.mpc_space.specs.Vector.{vec_add, vec_scale}
 use Rattle.mpc_online.specs.Positions.{along}
+use Rattle.mpc_online.specs.Widths.{GrowsFit}
 use Rattle.mpc_online.specs.Answers.{position_of}
 use Rattle.mpc_online.proofs.Moved.{same_position, grows_as, grown_as, move_fits}
 use Rattle.mpc_online.proofs.moves.moved.Goals as goal
@@ -12,10 +15,10 @@ returns c =
     let x = with_items_is c.args.it.point c.grow.new.xs (q ∙ c.deref_mut.ensures.len) in
     let y = with_items_is c.args.it.multipliers c.grow-2.new.xs (r ∙ c.deref_mut-2.ensures.len) in
     record {
-      value = same_position _ (along (position_of c.args.it) c.args.d.now c.args.e.now c.args.s.now)
-          (x ∙ grown_as c.deref_mut.result.now c.args.it.point.items c.grow.new.xs c.args.s.now c.args.d.now c.deref_mut.ensures.value c.in_ok-grow.ensures.ok) refl
-          (y ∙ grown_as c.deref_mut-2.result.now c.args.it.multipliers.items c.grow-2.new.xs c.args.s.now c.args.e.now c.deref_mut-2.ensures.value c.in_ok-grow-2.ensures.ok) refl c.in_ok-it.ensures.value;
-      wide = move_fits (position_of c.args.it) c.args.d.now c.args.e.now c.args.s.now
-          (grows_as c.deref_mut.result.now c.args.it.point.items c.args.s.now c.args.d.now c.deref_mut.ensures.value c.in_ok-grow.ensures.wide)
-          (grows_as c.deref_mut-2.result.now c.args.it.multipliers.items c.args.s.now c.args.e.now c.deref_mut-2.ensures.value c.in_ok-grow-2.ensures.wide) c.in_ok-it.ensures.wide;
+      value = same_position _ (along (position_of c.args.it) c.args.direction.now.point.items c.args.direction.now.multipliers.items c.args.s.now)
+          (x ∙ grown_as c.deref_mut.result.now c.args.it.point.items c.grow.new.xs c.args.s.now c.deref.result.now c.deref_mut.ensures.value c.in_ok-grow.ensures.ok ∙ ap (λ (d : List ℚ). vec_add c.args.it.point.items (vec_scale c.args.s.now d)) c.deref.ensures.value) refl
+          (y ∙ grown_as c.deref_mut-2.result.now c.args.it.multipliers.items c.grow-2.new.xs c.args.s.now c.deref-2.result.now c.deref_mut-2.ensures.value c.in_ok-grow-2.ensures.ok ∙ ap (λ (d : List ℚ). vec_add c.args.it.multipliers.items (vec_scale c.args.s.now d)) c.deref-2.ensures.value) refl c.in_ok-it.ensures.value;
+      wide = move_fits (position_of c.args.it) c.args.direction.now.point.items c.args.direction.now.multipliers.items c.args.s.now
+          (subst (λ (d : List ℚ). GrowsFit c.args.it.point.items c.args.s.now d) c.deref.ensures.value (grows_as c.deref_mut.result.now c.args.it.point.items c.args.s.now c.deref.result.now c.deref_mut.ensures.value c.in_ok-grow.ensures.wide))
+          (subst (λ (d : List ℚ). GrowsFit c.args.it.multipliers.items c.args.s.now d) c.deref-2.ensures.value (grows_as c.deref_mut-2.result.now c.args.it.multipliers.items c.args.s.now c.deref-2.result.now c.deref_mut-2.ensures.value c.in_ok-grow-2.ensures.wide)) c.in_ok-it.ensures.wide;
     }

@@ -1,8 +1,9 @@
-use Rattle.std.proofs.Common.{◌≡◌, List, refl, ◌∙◌, arith}
+use Rattle.std.proofs.Common.{◌≡◌, List, refl, ◌∙◌, subst₂, arith}
 use Rattle.std.proofs.lemmas.Result.{IfOk-weaker}
 use Rattle.mpc_exact.specs.Rational.{ℚ}
 use Rattle.mpc_online.specs.Positions.{right_matrix, step_side}
-use Rattle.mpc_online.specs.Widths.{TurnFits, StepFits}
+use Rattle.mpc_online.specs.Turns.{IsTurn}
+use Rattle.mpc_online.specs.Widths.{LengthsFit, TurnFits, StepFits}
 use Rattle.mpc_online.specs.OnlineRun.{IsStep, LeadsTo}
 use Rattle.mpc_online.specs.Shared.{IsDirectionOf}
 use Rattle.mpc_online.specs.Answers.{position_of, step_of}
@@ -10,7 +11,7 @@ use Rattle.mpc_online.proofs.Solved.{IsDirection}
 use Rattle.mpc_online.proofs.Advance.{slope_not_zero, is_direction, wide_elimination, wide_lengths, wide_turn, step_fits, step_is, stop_as, err_wide}
 use Rattle.mpc_online.proofs.Keeping.{kept_within, found_there, wide_there}
 use Rattle.mpc_online.proofs.run.advance.Goals as goal
-use Rattle.mpc_online.proofs.run.advance.Goals.{In-Some}
+use Rattle.mpc_online.proofs.run.advance.Goals.{In-Some, In_ok-turn}
 
 -- ---- the direction that is kept
 found : (c : In-Some) → IsDirectionOf c.args.qp.now c.args.it.set c.args.it.row c.in-Some.direction
@@ -50,30 +51,41 @@ returns-in_err-turn-clause-wide c =
     (c.as_slice-d.ensures.value ∙ f.point_is) (c.as_slice-e.ensures.value ∙ f.multipliers_are) c.in_err-turn.ensures.wide)
 
 -- ---- what it leads to
+is_turn : (c : In_ok-turn) → IsTurn c.args.qp.now c.args.sides.now (position_of c.args.it) c.in-Some.direction.point.items c.in-Some.direction.multipliers.items c.in_ok-turn.turn
+is_turn c = subst₂ (λ (d e : List ℚ). IsTurn c.args.qp.now c.args.sides.now (position_of c.args.it) d e c.in_ok-turn.turn) c.as_slice-d.ensures.value c.as_slice-e.ensures.value c.in_ok-turn.ensures.value
+
+lengths_fit : (c : In_ok-turn) → LengthsFit c.args.qp.now c.args.sides.now (position_of c.args.it) c.in-Some.direction.point.items c.in-Some.direction.multipliers.items
+lengths_fit c = subst₂ (λ (d e : List ℚ). LengthsFit c.args.qp.now c.args.sides.now (position_of c.args.it) d e) c.as_slice-d.ensures.value c.as_slice-e.ensures.value c.in_ok-turn.ensures.wide
+
+pub take_turn-requires-clause-turn : goal.take_turn-requires-clause-turn
+take_turn-requires-clause-turn c = is_turn (goal.at.take_turn-requires-clause-turn c).In_ok-turn
+
 pub take_turn-requires-clause-direction : goal.take_turn-requires-clause-direction
-take_turn-requires-clause-direction c = (dir (goal.at.take_turn-requires-clause-direction c).In-Some c.as_slice-d.result.now c.as_slice-e.result.now c.as_slice-d.ensures.value c.as_slice-e.ensures.value).size
+take_turn-requires-clause-direction c = (dir (goal.at.take_turn-requires-clause-direction c).In-Some c.in-Some.direction.point.items c.in-Some.direction.multipliers.items refl refl).size
 
 pub take_turn-requires-clause-multipliers : goal.take_turn-requires-clause-multipliers
-take_turn-requires-clause-multipliers c = (dir (goal.at.take_turn-requires-clause-multipliers c).In-Some c.as_slice-d.result.now c.as_slice-e.result.now c.as_slice-d.ensures.value c.as_slice-e.ensures.value).one_each
+take_turn-requires-clause-multipliers c = (dir (goal.at.take_turn-requires-clause-multipliers c).In-Some c.in-Some.direction.point.items c.in-Some.direction.multipliers.items refl refl).one_each
 
 pub returns-clause-steps : goal.returns-clause-steps
 returns-clause-steps c =
+    let at = (goal.at.returns-clause-steps c).In_ok-turn in
     let f = found (goal.at.returns-clause-steps c).In-Some in
     IfOk-weaker c.take_turn.result
-    (λ n. LeadsTo c.args.qp.now c.args.sides.now (position_of c.args.it) c.as_slice-d.result.now c.as_slice-e.result.now c.in_ok-turn.turn (step_of n))
+    (λ n. LeadsTo c.args.qp.now c.args.sides.now (position_of c.args.it) c.in-Some.direction.point.items c.in-Some.direction.multipliers.items c.in_ok-turn.turn (step_of n))
     (λ n. IsStep c.args.qp.now c.args.sides.now (position_of c.args.it) (step_of n))
-    (λ n h. step_is c.args.qp.now c.args.sides.now (position_of c.args.it) (right_matrix c.args.qp.now c.args.it.set (step_side c.args.qp.now c.args.it.row)) refl f.solution f.solves c.as_slice-d.result.now c.as_slice-e.result.now
-    (c.as_slice-d.ensures.value ∙ f.point_is) (c.as_slice-e.ensures.value ∙ f.multipliers_are) c.in_ok-turn.turn c.in_ok-turn.ensures.value (step_of n) h)
+    (λ n h. step_is c.args.qp.now c.args.sides.now (position_of c.args.it) (right_matrix c.args.qp.now c.args.it.set (step_side c.args.qp.now c.args.it.row)) refl f.solution f.solves c.in-Some.direction.point.items c.in-Some.direction.multipliers.items
+    f.point_is f.multipliers_are c.in_ok-turn.turn (is_turn at) (step_of n) h)
     c.take_turn.ensures.leads
 
 pub returns-clause-wide : goal.returns-clause-wide
 returns-clause-wide c =
+    let at = (goal.at.returns-clause-wide c).In_ok-turn in
     let f = found (goal.at.returns-clause-wide c).In-Some in
     stop_as c.take_turn.result
-    (TurnFits c.args.qp.now c.args.sides.now (position_of c.args.it) c.as_slice-d.result.now c.as_slice-e.result.now c.in_ok-turn.turn)
+    (TurnFits c.args.qp.now c.args.sides.now (position_of c.args.it) c.in-Some.direction.point.items c.in-Some.direction.multipliers.items c.in_ok-turn.turn)
     (StepFits c.args.qp.now c.args.sides.now (position_of c.args.it))
-    (step_fits c.args.qp.now c.args.sides.now (position_of c.args.it) (right_matrix c.args.qp.now c.args.it.set (step_side c.args.qp.now c.args.it.row)) refl f.solution f.solves c.as_slice-d.result.now c.as_slice-e.result.now
-    (c.as_slice-d.ensures.value ∙ f.point_is) (c.as_slice-e.ensures.value ∙ f.multipliers_are) f.fits c.in_ok-turn.ensures.wide c.in_ok-turn.turn c.in_ok-turn.ensures.value)
-    (wide_turn c.args.qp.now c.args.sides.now (position_of c.args.it) (right_matrix c.args.qp.now c.args.it.set (step_side c.args.qp.now c.args.it.row)) refl f.solution f.solves c.as_slice-d.result.now c.as_slice-e.result.now
-    (c.as_slice-d.ensures.value ∙ f.point_is) (c.as_slice-e.ensures.value ∙ f.multipliers_are) c.in_ok-turn.turn c.in_ok-turn.ensures.value)
+    (step_fits c.args.qp.now c.args.sides.now (position_of c.args.it) (right_matrix c.args.qp.now c.args.it.set (step_side c.args.qp.now c.args.it.row)) refl f.solution f.solves c.in-Some.direction.point.items c.in-Some.direction.multipliers.items
+    f.point_is f.multipliers_are f.fits (lengths_fit at) c.in_ok-turn.turn (is_turn at))
+    (wide_turn c.args.qp.now c.args.sides.now (position_of c.args.it) (right_matrix c.args.qp.now c.args.it.set (step_side c.args.qp.now c.args.it.row)) refl f.solution f.solves c.in-Some.direction.point.items c.in-Some.direction.multipliers.items
+    f.point_is f.multipliers_are c.in_ok-turn.turn (is_turn at))
     c.take_turn.ensures.wide

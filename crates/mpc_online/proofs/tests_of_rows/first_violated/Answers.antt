@@ -1,16 +1,20 @@
-use Rattle.std.proofs.Common.{◌+◌, sym, ◌∙◌, arith}
+use Rattle.std.proofs.Common.{◌≡◌, ◌+◌, true, false, arith}
 use Rattle.std.proofs.lemmas.Result.{MatchResult-from_err}
-use Rattle.mpc_exact.proofs.OrderTheorems.{lt_ℚ-true, lt_ℚ-false, ≤ℚ-not-<}
 use Rattle.mpc_online.proofs.RowTests.{met_none, met_more, found_first, found_fits, met_all, all_fit, found_wide}
 use Rattle.mpc_online.proofs.tests_of_rows.first_violated.Goals as goal
+
+different : {b : _} → b ≡ true → b ≡ false → ⊥
+different e f = cc
+
+pub over_one_denominator-whole-requires : goal.over_one_denominator-whole-requires
+over_one_denominator-whole-requires c = let few = c.args.qp.now.is_program.few_unknowns in omega (arith, few, c.requires.point)
 
 pub loop-i-init : goal.loop-i-init
 loop-i-init c = met_none c.args.qp.now c.args.sides.now c.args.point.now
 
 pub loop-i-preserved : goal.loop-i-preserved
 loop-i-preserved c =
-    met_more c.args.qp.now c.args.sides.now c.args.point.now (c.loop-i.i + 1) c.in_ok-above.above c.in_ok-above.ensures.value
-    (λ h. ≤ℚ-not-< (lt_ℚ-false (sym c.is_positive.ensures ∙ c.if-is_positive.false)) h) c.in_ok-above.ensures.wide c.loop-i.invariant
+    met_more c.args.qp.now c.args.sides.now c.args.point.now (c.loop-i.i + 1) (λ v. different (c.in_ok-above.ensures.value.1 v) c.if-above.false) c.in_ok-above.ensures.wide c.loop-i.invariant
 
 pub returns-clause-value : goal.returns-clause-value
 returns-clause-value c = met_all c.args.qp.now c.args.sides.now c.args.point.now (c.loop-i.i + 1) (omega (arith, c.loop-i-test.false, c.rows-i-end.ensures.value)) c.loop-i.invariant
@@ -18,15 +22,15 @@ returns-clause-value c = met_all c.args.qp.now c.args.sides.now c.args.point.now
 pub returns-clause-wide : goal.returns-clause-wide
 returns-clause-wide c = all_fit c.args.qp.now c.args.sides.now c.args.point.now (c.loop-i.i + 1) (omega (arith, c.loop-i-test.false, c.rows-i-end.ensures.value)) c.loop-i.invariant
 
-pub returns-then-is_positive-clause-value : goal.returns-then-is_positive-clause-value
-returns-then-is_positive-clause-value c =
-    found_first c.args.qp.now c.args.sides.now c.args.point.now (c.loop-i.i + 1) c.in_ok-above.above c.in_ok-above.ensures.value
-    (lt_ℚ-true (sym c.is_positive.ensures ∙ c.if-is_positive.true)) (omega arith) (omega (arith, c.loop-i-test.true, c.rows-i-end.ensures.value)) c.loop-i.invariant
+pub returns-then-above-clause-value : goal.returns-then-above-clause-value
+returns-then-above-clause-value c =
+    found_first c.args.qp.now c.args.sides.now c.args.point.now (c.loop-i.i + 1) (c.in_ok-above.ensures.value.0 c.if-above.true)
+    (omega arith) (omega (arith, c.loop-i-test.true, c.rows-i-end.ensures.value)) c.loop-i.invariant
 
-pub returns-then-is_positive-clause-wide : goal.returns-then-is_positive-clause-wide
-returns-then-is_positive-clause-wide c =
-    found_fits c.args.qp.now c.args.sides.now c.args.point.now (c.loop-i.i + 1) c.in_ok-above.above c.in_ok-above.ensures.value
-    (lt_ℚ-true (sym c.is_positive.ensures ∙ c.if-is_positive.true)) (omega arith) c.in_ok-above.ensures.wide c.loop-i.invariant
+pub returns-then-above-clause-wide : goal.returns-then-above-clause-wide
+returns-then-above-clause-wide c =
+    found_fits c.args.qp.now c.args.sides.now c.args.point.now (c.loop-i.i + 1) (c.in_ok-above.ensures.value.0 c.if-above.true)
+    (omega arith) c.in_ok-above.ensures.wide c.loop-i.invariant
 
 pub returns-in_err-above-clause-wide : goal.returns-in_err-above-clause-wide
 returns-in_err-above-clause-wide c =

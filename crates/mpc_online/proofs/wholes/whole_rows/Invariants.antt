@@ -1,0 +1,9 @@
+use Rattle.std.proofs.Common.{◌≡◌, ℕ, ◌<◌, [], length, get_or, None, IfSome}
+use Rattle.mpc_online.specs.Wholes.{IsOver}
+use Rattle.mpc_online.proofs.wholes.whole_rows.Given as goal
+
+abbrev pub invariant-loop-i : goal.invariant-loop-i
+invariant-loop-i l = record {
+  size : length l.rows.items ≡ l.i;
+  at : (j : ℕ) → j < l.i → IfSome (get_or l.rows.items j None) (IsOver (get_or l.m.rows j []));
+}

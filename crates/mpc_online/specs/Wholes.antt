@@ -1,0 +1,21 @@
+-- Fractions over one denominator.
+use Rattle.std.specs.Prelude.{◌≡◌, ℕ, ◌<◌, ◌≤◌, pos, List, [], length, get_or, All, Option, None, IfSome}
+use Rattle.std.specs.Int.{◌∣◌}
+use Rattle.mpc_exact.specs.Rational.{ℚ, frac}
+use Rattle.mpc_space.specs.Vector.{coordinate}
+use Rattle.mpc_space.specs.Matrix.{RationalMatrix, height}
+use Rattle.mpc_online.specs.declared.prepared.Wholes.{Wholes}
+
+-- each denominator divides n
+abbrev pub AreDenomsIn : ℕ → List ℚ → Type 0
+AreDenomsIn n xs = All (λ (x : ℚ). x.denom ∣ n) xs
+
+-- the fractions are the first numerators over the denominator
+pub record IsOver (xs : List ℚ) (w : Wholes) : Type 0 where
+  pub few : length xs ≤ length w.numerators
+  pub entries : (k : ℕ) → k < length xs → coordinate xs k ≡ frac (get_or w.numerators k (pos 0)) w.den
+
+-- each row of a matrix over one denominator, or nothing
+pub record AreRowsOver (m : RationalMatrix) (rows : List (Option Wholes)) : Type 0 where
+  pub size : length rows ≡ height m
+  pub at : (i : ℕ) → i < height m → IfSome (get_or rows i None) (IsOver (get_or m.rows i []))

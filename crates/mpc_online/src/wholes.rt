@@ -1,0 +1,180 @@
+//! Fractions over one denominator, and their sums of products in whole numbers, where these are small.
+
+ghost use Rattle.std.specs.Prelude.{◌≡◌, ℕ, List, ◌+◌, ◌*◌, ◌/◌, ◌^◌, ◌<◌, ◌≤◌, ◌↔◌, All, IfOk, IfSome, IsTrue, length, pos, unsigned_abs, ◌*ℤ◌, ◌<ℤ◌};
+ghost use Rattle.std.specs.Int.{◌∣◌};
+ghost use Rattle.mpc_exact.specs.Rational.{ℚ, frac, ◌<ℚ◌, neg_ℚ};
+ghost use Rattle.mpc_space.specs.Vector.{dot};
+ghost use Rattle.mpc_linear.specs.Dot.{DotFits};
+ghost use Rattle.mpc_frac.specs.Fits.{FitsSum};
+ghost use Rattle.mpc_online.specs.Wholes.{AreDenomsIn, IsOver, AreRowsOver};
+
+use crate::prepared::Wholes;
+use mpc_frac::{Frac, greatest_common_divisor};
+use mpc_linear::{Matrix, sum_theorems};
+use std::alloc::{AllocError, Global};
+
+/// The greatest size of the numbers here and of a product of three of them, 2^124: seven such products are below 2^127.
+const MOST: u128 = 0x1000_0000_0000_0000_0000_0000_0000_0000;
+
+/// The denominator.
+fn denominator(x: &Frac) -> u128
+    ensures value { result ≡ x.now.denom }
+    ensures positive { 0 < result }
+{
+    x.den() as u128
+}
+
+/// A common multiple, where it is at most 2^124: the first number where it is one.
+fn common_multiple(a: u128, b: u128) -> Option<u128>
+    requires a_positive { 0 < a }
+    requires a_small { a ≤ 2 ^ 124 }
+    requires b_positive { 0 < b }
+    ensures of_a { IfSome result (λ m. a ∣ m) }
+    ensures of_b { IfSome result (λ m. b ∣ m) }
+    ensures positive { IfSome result (λ m. 0 < m) }
+    ensures small { IfSome result (λ m. m ≤ 2 ^ 124) }
+{
+    if a % b == 0 {
+        return Some(a);
+    }
+    let part = a / greatest_common_divisor(a, b);
+    let multiple = part.checked_mul(b)?;
+    if multiple > MOST {
+        return None;
+    }
+    Some(multiple)
+}
+
+/// A common denominator, where it is at most 2^124.
+fn common_denominator(xs: &[Frac]) -> Option<u128>
+    ensures common { IfSome result (λ m. AreDenomsIn m xs.now) }
+    ensures positive { IfSome result (λ m. 0 < m) }
+    ensures small { IfSome result (λ m. m ≤ 2 ^ 124) }
+{
+    let mut all = 1;
+    for x in xs {
+        all = common_multiple(all, denominator(x))?;
+    }
+    Some(all)
+}
+
+/// The numerator of a fraction over a multiple of its denominator, where it is at most 2^124 in size.
+fn numerator_over(x: &Frac, all: u128) -> Option<i128>
+    requires multiple { x.now.denom ∣ all }
+    requires positive { 0 < all }
+    requires small { all ≤ 2 ^ 124 }
+    ensures { IfSome result (λ z. x.now ≡ frac z all) }
+{
+    let times = all / denominator(x);
+    let numerator = x.num().checked_mul(times as i128)?;
+    if numerator.unsigned_abs() > MOST {
+        return None;
+    }
+    Some(numerator)
+}
+
+/// The fractions over one denominator, where it and the numerators are small enough.
+pub fn over_one_denominator(xs: &[Frac]) -> Option<Wholes>
+    requires { length xs.now ≤ 6 }
+    ensures { IfSome result (IsOver xs.now) }
+{
+    let den = common_denominator(xs)?;
+    let mut numerators = [0; 6];
+    let mut most = den;
+    for k in 0..xs.len() {
+        let numerator = numerator_over(&xs[k], den)?;
+        numerators[k] = numerator;
+        most = most.max(numerator.unsigned_abs());
+    }
+    Some(Wholes {
+        numerators,
+        den,
+        most,
+    })
+}
+
+/// Whether the product is at most 2^124.
+fn is_small(x: u128, y: u128, z: u128) -> bool
+    ensures { IsTrue result → x * y * z ≤ 2 ^ 124 }
+{
+    let Some(two) = x.checked_mul(y) else {
+        return false;
+    };
+    match two.checked_mul(z) {
+        Some(three) => three <= MOST,
+        None => false,
+    }
+}
+
+/// The dot of the first numerators.
+fn dot_of_numerators(x: &Wholes, y: &Wholes, count: usize) -> i128
+    requires few { count ≤ 6 }
+    requires small { x.now.most * y.now.most ≤ 2 ^ 124 }
+    ensures size { unsigned_abs result ≤ 6 * (x.now.most * y.now.most) }
+    ensures value { (xs ys : List ℚ) → IsOver xs x.now → IsOver ys y.now → length xs ≡ count → length ys ≡ count
+        → dot xs ys ≡ frac result (x.now.den * y.now.den) }
+    ensures fits { (xs ys : List ℚ) → IsOver xs x.now → IsOver ys y.now → length xs ≡ count → length ys ≡ count
+        → DotFits xs ys }
+{
+    sum_theorems();
+    let mut total = 0;
+    for k in 0..count {
+        total += x.numerators[k] * y.numerators[k];
+    }
+    total
+}
+
+/// The product, which fits.
+fn product(x: i128, y: i128) -> i128
+    requires { unsigned_abs (x *ℤ y) < 2 ^ 127 }
+    ensures { result ≡ x *ℤ y }
+{
+    x * y
+}
+
+/// Whether x is above y.
+fn is_above_whole(x: i128, y: i128) -> bool
+    ensures { IsTrue result ↔ (y <ℤ x) }
+{
+    x > y
+}
+
+/// The greater one of the size of the numerator and the denominator.
+fn size_of(x: &Frac) -> u128
+    ensures numerator { unsigned_abs x.now.numer ≤ result }
+    ensures denominator { x.now.denom ≤ result }
+{
+    x.num().unsigned_abs().max(denominator(x))
+}
+
+/// Whether the dot is above the side. `None` where the numbers aren't small enough to show that each operation on fractions on the way to
+/// their difference fits.
+pub fn is_above(x: &Wholes, y: &Wholes, count: usize, side: &Frac) -> Option<bool>
+    requires { count ≤ 6 }
+    ensures value { IfSome result
+        (λ yes. (xs ys : List ℚ) → IsOver xs x.now → IsOver ys y.now → length xs ≡ count → length ys ≡ count
+        → IsTrue yes ↔ (side.now <ℚ dot xs ys)) }
+    ensures fits { IfSome result
+        (λ _. (xs ys : List ℚ) → IsOver xs x.now → IsOver ys y.now → length xs ≡ count → length ys ≡ count
+        → DotFits xs ys × FitsSum (dot xs ys) (neg_ℚ side.now)) }
+{
+    if !is_small(x.most, y.most, size_of(side)) {
+        return None;
+    }
+    let level = dot_of_numerators(x, y, count);
+    let left = product(level, side.den());
+    let right = product(side.num(), (x.den * y.den) as i128);
+    Some(is_above_whole(left, right))
+}
+
+/// The rows of a matrix, each over one denominator where it is small.
+pub fn whole_rows(alloc: Global, m: &Matrix) -> Result<Vec<Option<Wholes>>, AllocError>
+    requires { m.now.columns ≤ 6 }
+    ensures { IfOk result (λ rows. AreRowsOver m.now rows.items) }
+{
+    let mut rows = Vec::with_capacity(alloc, m.rows() as usize)?;
+    for i in 0..m.rows() {
+        rows.push(over_one_denominator(m.row(i)))?;
+    }
+    Ok(rows)
+}
