@@ -10,12 +10,12 @@ use Rattle.std.specs.Int.{w128}
 use Rattle.std.proofs.lemmas.Int.{ints, unsigned_abs-mul, fits_signed_from_abs, to_z-of_z, to_z_pos}
 use Rattle.std.proofs.lemmas.Bool.{cases_lt}
 use Rattle.std.proofs.lemmas.List.{get_or_past}
-use Rattle.mpc_exact.specs.Rational.{ℚ, frac, int, ◌+ℚ◌, ◌*ℚ◌, ◌<ℚ◌, neg_ℚ, frac_self, denom_positive, IsPositive}
+use Rattle.mpc_exact.specs.Rational.{ℚ, frac, int, ◌+ℚ◌, ◌*ℚ◌, ◌<ℚ◌, neg_ℚ, frac_self, denom_positive, IsPositive, quotient}
 use Rattle.mpc_exact.proofs.Denominator.{over_multiple}
 use Rattle.mpc_exact.proofs.IntRing.{int_reads, by_ring_ℤ}
 use Rattle.mpc_exact.proofs.OrderTheorems.{*ℚ-<ℚ, *ℚ-<ℚ_cancel}
 use Rattle.mpc_exact.proofs.Rational.{same_frac, frac-add, frac-mul, frac-neg}
-use Rattle.mpc_exact.proofs.School.{frac_expand, frac_times, int_lt, natural_lt}
+use Rattle.mpc_exact.proofs.School.{frac_expand, frac_times, int_lt, natural_lt, quotient_positive}
 use Rattle.mpc_frac.specs.Fits.{FitsFrac, FitsSum}
 use Rattle.mpc_space.specs.Vector.{dot}
 use Rattle.mpc_linear.specs.Dot.{TermFits, DotFits}
@@ -254,3 +254,8 @@ numerator_is x all d num numerator some few h q m e f is =
     sym (over_multiple x all some h)
     ∙ ap (λ z. frac z all) (sym (ap (λ z. to_z w128 (of_z w128 z)) is ∙ to_z-of_z w128 (to_z w128 (of_z w128 num) *ℤ to_z w128 (all / d)) f
     ∙ (λ i. (read_mag num m ∙ e) i *ℤ (to_z_pos w128 (all / d) (omega (arith, l, few)) ∙ ap (λ n. pos (all / n)) q) i)))
+
+pub quotient_over : (x y : Wholes) → x.most * y.most ≤ 2 ^ 124 → (t : ℤ) → mag t < 2 ^ 127 → quotient (to_z w128 (of_z w128 t)) (to_z w128 (x.den * y.den)) ≡ frac t (x.den * y.den)
+quotient_over x y small t m =
+    let d = den_at_most x y small in
+    (λ i. quotient (read_mag t m i) (to_z_pos w128 (x.den * y.den) (omega (arith, d, small)) i)) ∙ quotient_positive t (x.den * y.den) (den_some x y small)

@@ -58,5 +58,7 @@ pub record IsKeptAt (s : List ℕ) (r : ℕ) (kept : List KeptDirection) (k : �
 
 pub record IsPreparedFor (qp : Qp) (p : Prepared) : Type 0 where
   pub rows : AreRowsOver qp.g p.rows.items
+  pub sides : AreRowsOver qp.w p.sides.items
+  pub costs : AreRowsOver qp.f p.costs.items
   pub kept : IfSome p.kept (IsKeptOf qp)
   pub directions : All (IsKeptDirection qp) p.directions.items

@@ -29,20 +29,32 @@ use std::alloc::{AllocError, AllocFailed, Global};
 /// So many directions are kept at most.
 const MOST_DIRECTIONS: usize = 1024;
 
+/// What all states of the program share, with what is kept of the elimination of its Hessian, and no direction yet.
+pub fn prepared_with(alloc: Global, qp: &Qp, kept: Option<Kept>) -> Result<Prepared, NoMemory>
+    requires { IfSome kept (IsKeptOf qp.now) }
+    ensures { IfOk result (IsPreparedFor qp.now) }
+{
+    let rows = whole_rows(alloc, &qp.g)?;
+    let sides = whole_rows(alloc, &qp.w)?;
+    let costs = whole_rows(alloc, &qp.f)?;
+    Ok(Prepared {
+        rows,
+        sides,
+        costs,
+        kept,
+        directions: Vec::new(alloc),
+    })
+}
+
 /// What all states of the program share.
 pub fn prepare(alloc: Global, qp: &Qp) -> Result<Prepared, NoMemory>
     ensures { IfOk result (IsPreparedFor qp.now) }
 {
-    let rows = whole_rows(alloc, &qp.g)?;
     let table = shared_table(alloc, qp)?;
     let Ok(kept) = keep(alloc, table, qp.h.rows()) else {
         return Err(NoMemory);
     };
-    Ok(Prepared {
-        rows,
-        kept,
-        directions: Vec::new(alloc),
-    })
+    prepared_with(alloc, qp, kept)
 }
 
 /// Where the members stand among the rows and the columns of the shared table, for so many unknowns.

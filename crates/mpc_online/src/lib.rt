@@ -30,6 +30,7 @@ mod turns;
 mod wholes;
 
 pub use directions::prepare;
+use directions::prepared_with;
 use mpc_cover::cheapest_theorems;
 use mpc_linear::Vector;
 use mpc_rows::{Multipliers, Qp, system_theorems};
@@ -38,7 +39,6 @@ use run::answer;
 use std::alloc::Global;
 pub use theorems::run_theorems;
 use thiserror::Error;
-use wholes::whole_rows;
 
 /// What is found at a state.
 #[derive(Drop)]
@@ -115,13 +115,8 @@ pub fn solve_at(alloc: Global, qp: &Qp, counts: &[u64]) -> Result<Online, Online
     ensures end { IfOk result (λ o. IsRunEnd qp.now (point_of counts.now) (answered o)) }
     ensures wide { MatchResult result (λ _. ⊤) (λ e. IfWide e (λ step. IsRunEnd qp.now (point_of counts.now) (wide_in step))) }
 {
-    let Ok(rows) = whole_rows(alloc, &qp.g) else {
+    let Ok(mut alone) = prepared_with(alloc, qp, None) else {
         return Err(OnlineError::NoMemory);
-    };
-    let mut alone = Prepared {
-        rows,
-        kept: None,
-        directions: Vec::new(alloc),
     };
     solve_prepared(alloc, qp, &mut alone, counts)
 }

@@ -31,11 +31,13 @@ pub struct Wholes {
     pub ghost at_most: { AreAtMost numerators den most },
 }
 
-/// What the runs at all states of a program share: its rows in whole numbers, where these are small; the elimination of its Hessian in the
-/// equations of all steps, where it is kept; and the directions that were found, by rising rows and masks.
+/// What the runs at all states of a program share: the rows of its g, w and f in whole numbers, where these are small; the elimination of
+/// its Hessian in the equations of all steps, where it is kept; and the directions that were found, by rising rows and masks.
 #[derive(Drop)]
 pub struct Prepared {
     pub rows: Vec<Option<Wholes>>,
+    pub sides: Vec<Option<Wholes>>,
+    pub costs: Vec<Option<Wholes>>,
     pub kept: Option<Kept>,
     pub directions: Vec<KeptDirection>,
 }

@@ -71,17 +71,19 @@ fn open(
     c: &[Frac],
     sides: &[Frac],
     rows: &[Option<Wholes>],
+    costs: &[Option<Wholes>],
 ) -> Result<Next, Stop>
     requires definite { IsDefinite qp.now.h.rows }
     requires rows { AreRowsOver qp.now.g rows.now }
+    requires costs { AreRowsOver qp.now.f costs.now }
     requires extended { qp.now.f.columns ≡ length c.now }
     requires sides { length sides.now ≡ height qp.now.g }
     ensures opens { IfOk result (λ next. IsOpening qp.now sides.now c.now (step_of next)) }
     ensures wide { MatchResult result (λ _. FirstFits qp.now sides.now c.now)
         (λ stop. IfStopWide stop (¬ FirstFits qp.now sides.now c.now)) }
 {
-    let costs = products(alloc, &qp.f, c)?;
-    let right = opening_right(alloc, qp, &costs)?;
+    let slopes = products(alloc, &qp.f, c, costs)?;
+    let right = opening_right(alloc, qp, &slopes)?;
     let x = solution(alloc, qp, ActiveSet::empty(), &right)?;
     let point = part(alloc, &x, 0, qp.h.rows())?;
     let first = first_violated(qp, rows, sides, &point)?;
@@ -181,12 +183,12 @@ pub fn answer(
     let Ok(c) = extended(alloc, counts) else {
         return Err(OnlineError::NoMemory);
     };
-    let sides = match products(alloc, &qp.w, &c) {
+    let sides = match products(alloc, &qp.w, &c, &prepared.sides) {
         Ok(sides) => sides,
         Err(Stop::Wide) => return Err(OnlineError::Wide(0)),
         Err(Stop::NoMemory) => return Err(OnlineError::NoMemory),
     };
-    let mut it = match open(alloc, qp, &c, &sides, &prepared.rows) {
+    let mut it = match open(alloc, qp, &c, &sides, &prepared.rows, &prepared.costs) {
         Ok(Next::Goes(it)) => it,
         Ok(Next::Ends(online)) => return Ok(online),
         Err(Stop::Wide) => return Err(OnlineError::Wide(0)),

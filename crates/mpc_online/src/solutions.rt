@@ -1,6 +1,6 @@
 //! Solutions of the equations, and products with the extended counts.
 
-ghost use Rattle.std.specs.Prelude.{◌≡◌, ◌+◌, ◌<◌, ◌≤◌, length, IfOk, MatchResult};
+ghost use Rattle.std.specs.Prelude.{◌≡◌, ◌+◌, ◌<◌, ◌≤◌, length, IfOk, IfSome, MatchResult};
 ghost use Rattle.mpc_space.specs.Vector.{dot, listed, mat_vec};
 ghost use Rattle.mpc_space.specs.Matrix.{height, entry};
 ghost use Rattle.mpc_space.specs.Definite.{IsDefinite};
@@ -10,10 +10,13 @@ ghost use Rattle.mpc_linear.specs.Solution.{IsOnlySolution};
 ghost use Rattle.mpc_rows.specs.ActiveSets.{IsIndependentSet};
 ghost use Rattle.mpc_rows.specs.SetRuns.{law_matrix};
 ghost use Rattle.mpc_online.specs.Widths.{ProductsFit, EliminationFits};
+ghost use Rattle.mpc_online.specs.Wholes.{IsOver, AreRowsOver};
 ghost use Rattle.mpc_online.specs.Answers.{IfStopWide};
 ghost use Rattle.mpc_online.specs.declared.solutions.Stop.TheVariants.{Wide as wide_stop, NoMemory as no_memory};
 
 use crate::matrices::law_matrix;
+use crate::prepared::Wholes;
+use crate::wholes::{dot_in_wholes, over_one_denominator};
 use mpc_frac::{Frac, NoMemory, Wide};
 use mpc_linear::{LinearError, Matrix, Solved, dot_from, solve};
 use mpc_rows::Qp;
@@ -70,16 +73,48 @@ pub fn dot_of(x: &[Frac], y: &[Frac]) -> Result<Frac, Wide>
     dot_from(&Frac::whole(0), x, y)
 }
 
+/// The dot of a row and a list: in whole numbers, where these are small, and else in fractions.
+fn row_dot(
+    row: &[Frac],
+    row_whole: &Option<Wholes>,
+    c: &[Frac],
+    c_whole: &Option<Wholes>,
+) -> Result<Frac, Wide>
+    requires few { length c.now ≤ 6 }
+    requires size { length row.now ≡ length c.now }
+    requires row_whole { IfSome row_whole.now (IsOver row.now) }
+    requires c_whole { IfSome c_whole.now (IsOver c.now) }
+    ensures value { IfOk result (λ v. v ≡ dot row.now c.now) }
+    ensures wide { MatchResult result (λ _. DotFits row.now c.now) (λ _. ¬ DotFits row.now c.now) }
+{
+    if let Some(x) = row_whole {
+        if let Some(y) = c_whole {
+            if let Some(value) = dot_in_wholes(x, y, c.len()) {
+                return Ok(value);
+            }
+        }
+    }
+    dot_of(row, c)
+}
+
 /// The dots of the rows of m with c.
-pub fn products(alloc: Global, m: &Matrix, c: &[Frac]) -> Result<Vec<Frac>, Stop>
-    requires { m.now.columns ≡ length c.now }
+pub fn products(
+    alloc: Global,
+    m: &Matrix,
+    c: &[Frac],
+    rows: &[Option<Wholes>],
+) -> Result<Vec<Frac>, Stop>
+    requires size { m.now.columns ≡ length c.now }
+    requires few { length c.now ≤ 6 }
+    requires rows { AreRowsOver m.now rows.now }
     ensures value { IfOk result (λ v. v.items ≡ mat_vec m.now.rows c.now) }
     ensures wide { MatchResult result (λ _. ProductsFit m.now c.now) (λ e. IfStopWide e (¬ ProductsFit m.now c.now)) }
 {
     let _columns = m.cols();
+    let whole = over_one_denominator(c);
     let mut out = Vec::with_capacity(alloc, m.rows() as usize)?;
     for i in 0..m.rows() {
-        match dot_of(m.row(i), c) {
+        match row_dot(m.row(i), &rows[i as usize], c, &whole) {
             Ok(value) => out.push(value)?,
             Err(_) => return Err(Stop::Wide),
         }

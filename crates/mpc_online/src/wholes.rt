@@ -167,6 +167,26 @@ pub fn is_above(x: &Wholes, y: &Wholes, count: usize, side: &Frac) -> Option<boo
     Some(is_above_whole(left, right))
 }
 
+/// The dot, where the numbers are small enough to show that each operation on fractions on the way to it fits.
+pub fn dot_in_wholes(x: &Wholes, y: &Wholes, count: usize) -> Option<Frac>
+    requires { count ≤ 6 }
+    ensures value { IfSome result
+        (λ v. (xs ys : List ℚ) → IsOver xs x.now → IsOver ys y.now → length xs ≡ count → length ys ≡ count
+        → v ≡ dot xs ys) }
+    ensures fits { IfSome result
+        (λ _. (xs ys : List ℚ) → IsOver xs x.now → IsOver ys y.now → length xs ≡ count → length ys ≡ count
+        → DotFits xs ys) }
+{
+    if !is_small(x.most, y.most, 1) {
+        return None;
+    }
+    let total = dot_of_numerators(x, y, count);
+    let Ok(value) = Frac::new(total, (x.den * y.den) as i128) else {
+        return None;
+    };
+    Some(value)
+}
+
 /// The rows of a matrix, each over one denominator where it is small.
 pub fn whole_rows(alloc: Global, m: &Matrix) -> Result<Vec<Option<Wholes>>, AllocError>
     requires { m.now.columns ≤ 6 }

@@ -12,17 +12,17 @@ use Rattle.mpc_online.specs.declared.solutions.Stop.{Stop}
 use Rattle.mpc_online.proofs.Travel.{few_steps}
 use Rattle.mpc_online.proofs.RunEnds.{length-extended, length-sides, wide_sides, wide_open, open_ends, open_ahead, open_answers, open_travels, steps_wide, steps_end, steps_ahead, steps_answer, steps_travel}
 use Rattle.mpc_online.proofs.run.answer.Goals as goal
-use Rattle.mpc_online.proofs.run.answer.Goals.{After-deref-3, After-deref-in-steps}
+use Rattle.mpc_online.proofs.run.answer.Goals.{After-deref-4, After-deref-in-steps}
 
 -- ---- what the code hands on
-c_is : (c : After-deref-3) → c.deref-2.result.now ≡ extended (point_of c.args.counts.now)
-c_is c = c.deref-2.ensures.value ∙ c.in-Ok.ensures
+c_is : (c : After-deref-4) → c.deref-3.result.now ≡ extended (point_of c.args.counts.now)
+c_is c = c.deref-3.ensures.value ∙ c.in-Ok.ensures
 
-sides_is : (c : After-deref-3) → c.deref-3.result.now ≡ mat_vec c.args.qp.now.w.rows c.deref-2.result.now
-sides_is c = c.deref-3.ensures.value ∙ c.in-Ok-products.ensures.value ∙ ap (mat_vec c.args.qp.now.w.rows) (c.deref.ensures.value ∙ sym c.deref-2.ensures.value)
+sides_is : (c : After-deref-4) → c.deref-4.result.now ≡ mat_vec c.args.qp.now.w.rows c.deref-3.result.now
+sides_is c = c.deref-4.ensures.value ∙ c.in-Ok-products.ensures.value ∙ ap (mat_vec c.args.qp.now.w.rows) (c.deref.ensures.value ∙ sym c.deref-3.ensures.value)
 
-sides_fit : (c : After-deref-3) → ProductsFit c.args.qp.now.w c.deref-2.result.now
-sides_fit c = subst (λ (x : List ℚ). ProductsFit c.args.qp.now.w x) (c.deref.ensures.value ∙ sym c.deref-2.ensures.value) c.in-Ok-products.ensures.wide
+sides_fit : (c : After-deref-4) → ProductsFit c.args.qp.now.w c.deref-3.result.now
+sides_fit c = subst (λ (x : List ℚ). ProductsFit c.args.qp.now.w x) (c.deref.ensures.value ∙ sym c.deref-3.ensures.value) c.in-Ok-products.ensures.wide
 
 c_there : (c : After-deref-in-steps) → c.deref.result.now ≡ extended (point_of c.args.counts.now)
 c_there c = c.deref.ensures.value ∙ c.in-Ok.ensures
@@ -36,20 +36,25 @@ few c =
     c.set_theorems.ensures.few c.count_theorems.ensures
 
 -- ---- the opening
-pub products-requires : goal.products-requires
-products-requires c =
+pub products-requires-clause-size : goal.products-requires-clause-size
+products-requires-clause-size c =
     c.args.qp.now.is_program.w_shape.columns_are
     ∙ sym (length-extended c.args.qp.now c.args.counts.now c.deref.result.now c.requires.in_box (c.deref.ensures.value ∙ c.in-Ok.ensures))
+
+pub products-requires-clause-few : goal.products-requires-clause-few
+products-requires-clause-few c =
+    let few = c.args.qp.now.is_program.few_parameters in
+    omega (arith, few, length-extended c.args.qp.now c.args.counts.now c.deref.result.now c.requires.in_box (c.deref.ensures.value ∙ c.in-Ok.ensures))
 
 pub open-requires-clause-extended : goal.open-requires-clause-extended
 open-requires-clause-extended c =
     c.args.qp.now.is_program.f_shape.columns_are
-    ∙ sym (length-extended c.args.qp.now c.args.counts.now c.deref-2.result.now c.requires.in_box (c.deref-2.ensures.value ∙ c.in-Ok.ensures))
+    ∙ sym (length-extended c.args.qp.now c.args.counts.now c.deref-3.result.now c.requires.in_box (c.deref-3.ensures.value ∙ c.in-Ok.ensures))
 
 pub open-requires-clause-sides : goal.open-requires-clause-sides
 open-requires-clause-sides c =
-    let at = (goal.at.open-requires-clause-sides c).After-deref-3 in
-    length-sides c.args.qp.now (point_of c.args.counts.now) c.deref-2.result.now c.deref-3.result.now (c_is at) (sides_is at)
+    let at = (goal.at.open-requires-clause-sides c).After-deref-4 in
+    length-sides c.args.qp.now (point_of c.args.counts.now) c.deref-3.result.now c.deref-4.result.now (c_is at) (sides_is at)
 
 pub returns-in-Err-Wide-clause-wide : goal.returns-in-Err-Wide-clause-wide
 returns-in-Err-Wide-clause-wide c =
@@ -58,30 +63,30 @@ returns-in-Err-Wide-clause-wide c =
 
 pub returns-in-Err-Wide-open-clause-wide : goal.returns-in-Err-Wide-open-clause-wide
 returns-in-Err-Wide-open-clause-wide c =
-    let at = (goal.at.returns-in-Err-Wide-open-clause-wide c).After-deref-3 in
-    wide_open c.args.qp.now (point_of c.args.counts.now) c.deref-2.result.now c.deref-3.result.now (c_is at) (sides_is at)
-    (subst (λ (s : Stop). IfStopWide s (¬ FirstFits c.args.qp.now c.deref-3.result.now c.deref-2.result.now)) c.in-Err-Wide-open.field-0-is c.in-Err-Wide-open.ensures.wide)
+    let at = (goal.at.returns-in-Err-Wide-open-clause-wide c).After-deref-4 in
+    wide_open c.args.qp.now (point_of c.args.counts.now) c.deref-3.result.now c.deref-4.result.now (c_is at) (sides_is at)
+    (subst (λ (s : Stop). IfStopWide s (¬ FirstFits c.args.qp.now c.deref-4.result.now c.deref-3.result.now)) c.in-Err-Wide-open.field-0-is c.in-Err-Wide-open.ensures.wide)
 
 pub returns-in-Ok-Ends-clause-answer : goal.returns-in-Ok-Ends-clause-answer
 returns-in-Ok-Ends-clause-answer c =
-    let at = (goal.at.returns-in-Ok-Ends-clause-answer c).After-deref-3 in
-    open_answers c.args.qp.now (point_of c.args.counts.now) c.deref-2.result.now c.deref-3.result.now (c_is at) (sides_is at) c.requires.definite c.requires.symmetric c.in-Ok-Ends.online
-    (subst (λ (n : Next). IsOpening c.args.qp.now c.deref-3.result.now c.deref-2.result.now (step_of n)) c.in-Ok-Ends.field-0-is c.in-Ok-Ends.ensures.opens)
+    let at = (goal.at.returns-in-Ok-Ends-clause-answer c).After-deref-4 in
+    open_answers c.args.qp.now (point_of c.args.counts.now) c.deref-3.result.now c.deref-4.result.now (c_is at) (sides_is at) c.requires.definite c.requires.symmetric c.in-Ok-Ends.online
+    (subst (λ (n : Next). IsOpening c.args.qp.now c.deref-4.result.now c.deref-3.result.now (step_of n)) c.in-Ok-Ends.field-0-is c.in-Ok-Ends.ensures.opens)
 
 pub returns-in-Ok-Ends-clause-end : goal.returns-in-Ok-Ends-clause-end
 returns-in-Ok-Ends-clause-end c =
-    let at = (goal.at.returns-in-Ok-Ends-clause-end c).After-deref-3 in
-    open_ends c.args.qp.now (point_of c.args.counts.now) c.deref-2.result.now c.deref-3.result.now (c_is at) (sides_is at) (sides_fit at) c.in-Ok-Ends.ensures.wide c.in-Ok-Ends.online
-    (subst (λ (n : Next). IsOpening c.args.qp.now c.deref-3.result.now c.deref-2.result.now (step_of n)) c.in-Ok-Ends.field-0-is c.in-Ok-Ends.ensures.opens)
+    let at = (goal.at.returns-in-Ok-Ends-clause-end c).After-deref-4 in
+    open_ends c.args.qp.now (point_of c.args.counts.now) c.deref-3.result.now c.deref-4.result.now (c_is at) (sides_is at) (sides_fit at) c.in-Ok-Ends.ensures.wide c.in-Ok-Ends.online
+    (subst (λ (n : Next). IsOpening c.args.qp.now c.deref-4.result.now c.deref-3.result.now (step_of n)) c.in-Ok-Ends.field-0-is c.in-Ok-Ends.ensures.opens)
 
 pub steps-init : goal.steps-init
 steps-init c =
-    let at = (goal.at.steps-init c).After-deref-3 in
-    let opens : IsOpening c.args.qp.now c.deref-3.result.now c.deref-2.result.now (goes_to (position_of c.in-Ok-Goes.it)) =
-    subst (λ (n : Next). IsOpening c.args.qp.now c.deref-3.result.now c.deref-2.result.now (step_of n)) c.in-Ok-Goes.field-0-is c.in-Ok-Goes.ensures.opens in
+    let at = (goal.at.steps-init c).After-deref-4 in
+    let opens : IsOpening c.args.qp.now c.deref-4.result.now c.deref-3.result.now (goes_to (position_of c.in-Ok-Goes.it)) =
+    subst (λ (n : Next). IsOpening c.args.qp.now c.deref-4.result.now c.deref-3.result.now (step_of n)) c.in-Ok-Goes.field-0-is c.in-Ok-Goes.ensures.opens in
     record {
-      travelled = open_travels c.args.qp.now (point_of c.args.counts.now) c.deref-2.result.now c.deref-3.result.now (c_is at) (sides_is at) c.requires.definite c.requires.symmetric (position_of c.in-Ok-Goes.it) opens;
-      ahead = open_ahead c.args.qp.now (point_of c.args.counts.now) c.deref-2.result.now c.deref-3.result.now (c_is at) (sides_is at) (sides_fit at) c.in-Ok-Goes.ensures.wide (position_of c.in-Ok-Goes.it) opens;
+      travelled = open_travels c.args.qp.now (point_of c.args.counts.now) c.deref-3.result.now c.deref-4.result.now (c_is at) (sides_is at) c.requires.definite c.requires.symmetric (position_of c.in-Ok-Goes.it) opens;
+      ahead = open_ahead c.args.qp.now (point_of c.args.counts.now) c.deref-3.result.now c.deref-4.result.now (c_is at) (sides_is at) (sides_fit at) c.in-Ok-Goes.ensures.wide (position_of c.in-Ok-Goes.it) opens;
       prepared = c.requires.prepared;
     }
 

@@ -19,7 +19,7 @@ use Rattle.mpc_online.proofs.run.open.Goals as goal
 use Rattle.mpc_online.proofs.run.open.Goals.{In_ok-right, In_ok-x, In_ok-point}
 
 right_is : (c : In_ok-right) → c.in_ok-right.right ≡ right_matrix c.args.qp.now [] (opening_side c.args.qp.now c.args.c.now)
-right_is c = c.in_ok-right.ensures ∙ ap (λ (xs : List ℚ). right_matrix c.args.qp.now [] (λ i. neg_ℚ (coordinate xs i))) (c.deref.ensures.value ∙ c.in_ok-costs.ensures.value)
+right_is c = c.in_ok-right.ensures ∙ ap (λ (xs : List ℚ). right_matrix c.args.qp.now [] (λ i. neg_ℚ (coordinate xs i))) (c.deref.ensures.value ∙ c.in_ok-slopes.ensures.value)
 
 solves : (c : In_ok-x) → IsOnlySolution (law_matrix c.args.qp.now []) c.in_ok-right.right c.in_ok-x.x
 solves c = subst (λ (s : List ℕ). IsOnlySolution (law_matrix c.args.qp.now s) c.in_ok-right.right c.in_ok-x.x) c.empty.ensures c.in_ok-x.ensures.only
@@ -30,12 +30,15 @@ fits c = subst (λ (s : List ℕ). EliminationFits (law_matrix c.args.qp.now s) 
 point_at : (c : In_ok-point) → c.in_ok-point.point.items ≡ upper_part c.args.qp.now c.in_ok-x.x
 point_at c = upper_is c.args.qp.now c.in_ok-x.x c.rows.result c.in_ok-point.point.items c.rows.ensures.value c.in_ok-point.ensures
 
-pub products-requires : goal.products-requires
-products-requires c = c.requires.extended
+pub products-requires-clause-size : goal.products-requires-clause-size
+products-requires-clause-size c = c.requires.extended
+
+pub products-requires-clause-few : goal.products-requires-clause-few
+products-requires-clause-few c = let wide = c.args.qp.now.is_program.f_shape.columns_are in let few = c.args.qp.now.is_program.few_parameters in omega (arith, wide, few, c.requires.extended)
 
 pub opening_right-requires : goal.opening_right-requires
 opening_right-requires c =
-    ap (λ (t : List ℚ). length t) (c.deref.ensures.value ∙ c.in_ok-costs.ensures.value) ∙ length-mat_vec c.args.qp.now.f.rows c.args.c.now ∙ c.args.qp.now.is_program.f_shape.rows_are
+    ap (λ (t : List ℚ). length t) (c.deref.ensures.value ∙ c.in_ok-slopes.ensures.value) ∙ length-mat_vec c.args.qp.now.f.rows c.args.c.now ∙ c.args.qp.now.is_program.f_shape.rows_are
 
 pub solution-requires-clause-set_of_rows : goal.solution-requires-clause-set_of_rows
 solution-requires-clause-set_of_rows c = subst (IsSetOfRows (height c.args.qp.now.g)) (sym c.empty.ensures) (record { rises = tt })
@@ -62,10 +65,10 @@ pub first_violated-requires-clause-point : goal.first_violated-requires-clause-p
 first_violated-requires-clause-point c =
     ap (λ (t : List ℚ). length t) (c.deref-2.ensures.value ∙ point_at (goal.at.first_violated-requires-clause-point c).In_ok-point) ∙ length-listed (height c.args.qp.now.h) _
 
-pub returns-in_err-costs-clause-wide : goal.returns-in_err-costs-clause-wide
-returns-in_err-costs-clause-wide c =
-    err_same c.from_residual.result c.in_err-costs.field-0.0 _ _ c.from_residual.ensures.1
-    (stop_for c.in_err-costs.field-0.0 (¬ ProductsFit c.args.qp.now.f c.args.c.now) (¬ FirstFits c.args.qp.now c.args.sides.now c.args.c.now) (λ h f. h f.costs) c.in_err-costs.ensures.wide)
+pub returns-in_err-slopes-clause-wide : goal.returns-in_err-slopes-clause-wide
+returns-in_err-slopes-clause-wide c =
+    err_same c.from_residual.result c.in_err-slopes.field-0.0 _ _ c.from_residual.ensures.1
+    (stop_for c.in_err-slopes.field-0.0 (¬ ProductsFit c.args.qp.now.f c.args.c.now) (¬ FirstFits c.args.qp.now c.args.sides.now c.args.c.now) (λ h f. h f.costs) c.in_err-slopes.ensures.wide)
 
 pub returns-in_err-right-clause-wide : goal.returns-in_err-right-clause-wide
 returns-in_err-right-clause-wide c = err_memory c.from_residual-in_err-right.result _ _ c.from_residual-in_err-right.ensures.1
@@ -102,4 +105,4 @@ pub returns-clause-wide : goal.returns-clause-wide
 returns-clause-wide c =
     let at = goal.at.returns-clause-wide c in
     first_fits c.args.qp.now c.args.sides.now c.args.c.now c.in_ok-right.right (right_is at.In_ok-right) c.in_ok-x.x (solves at.In_ok-x) c.deref-2.result.now (c.deref-2.ensures.value ∙ point_at at.In_ok-point)
-    c.in_ok-costs.ensures.wide (fits at.In_ok-x) c.in_ok-first.ensures.wide
+    c.in_ok-slopes.ensures.wide (fits at.In_ok-x) c.in_ok-first.ensures.wide
