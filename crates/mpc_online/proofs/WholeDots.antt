@@ -1,5 +1,5 @@
 -- Dots of fractions that stand over one denominator each, in whole numbers.
-use Rattle.std.proofs.Common.{◌≡◌, ℕ, ◌+◌, ◌*◌, ◌^◌, ◌<◌, ◌≤◌, ◌↔◌, List, [], ◌∷◌, length, get_or, All, ℤ, pos, ◌+ℤ◌, ◌*ℤ◌, ◌<ℤ◌, neg_ℤ, unsigned_abs, FitsSigned, to_z, of_z, sym, ◌∙◌, ap, subst, subst₂, arith, mul-pos, mul_comm, mul-le-mul_right, le_trans, ⊎_elim, lit<, take, ◌/◌, div-le_self}
+use Rattle.std.proofs.Common.{◌≡◌, ℕ, ◌+◌, ◌*◌, ◌^◌, ◌<◌, ◌≤◌, ◌↔◌, List, [], ◌∷◌, length, get_or, All, ℤ, pos, ◌+ℤ◌, ◌-ℤ◌, ◌*ℤ◌, ◌<ℤ◌, neg_ℤ, unsigned_abs, FitsSigned, to_z, of_z, sym, ◌∙◌, ap, subst, subst₂, arith, mul-pos, mul_comm, mul-le-mul_right, le_trans, ⊎_elim, lit<, take, ◌/◌, div-le_self}
 use Rattle.std.proofs.Math.Nat.{mul-le-mul_left}
 use Rattle.std.specs.Int.{◌∣◌}
 use lib.Signed.{mag}
@@ -10,7 +10,7 @@ use Rattle.std.specs.Int.{w128}
 use Rattle.std.proofs.lemmas.Int.{ints, unsigned_abs-mul, fits_signed_from_abs, to_z-of_z, to_z_pos}
 use Rattle.std.proofs.lemmas.Bool.{cases_lt}
 use Rattle.std.proofs.lemmas.List.{get_or_past}
-use Rattle.mpc_exact.specs.Rational.{ℚ, frac, int, ◌+ℚ◌, ◌*ℚ◌, ◌<ℚ◌, neg_ℚ, frac_self, denom_positive, IsPositive, quotient}
+use Rattle.mpc_exact.specs.Rational.{ℚ, frac, int, ◌+ℚ◌, ◌-ℚ◌, ◌*ℚ◌, ◌<ℚ◌, neg_ℚ, frac_self, denom_positive, IsPositive, quotient}
 use Rattle.mpc_exact.proofs.Denominator.{over_multiple}
 use Rattle.mpc_exact.proofs.IntRing.{int_reads, by_ring_ℤ}
 use Rattle.mpc_exact.proofs.OrderTheorems.{*ℚ-<ℚ, *ℚ-<ℚ_cancel}
@@ -215,6 +215,22 @@ module _ (x y : Wholes) (s : ℕ) (small : x.most * y.most * s ≤ 2 ^ 124) (sid
         let e = abs_neg (side.numer *ℤ pos (x.den * y.den)) in
         subst₂ (λ u v. FitsSum u v) (sym level_over) (sym negative_over)
         (fits_sum_over (l *ℤ pos side.denom) (neg_ℤ (side.numer *ℤ pos (x.den * y.den))) all all_some (omega (arith, a, b, e, small)) all_small)
+
+    pub all_at_most : unsigned_abs (pos (x.den * y.den) *ℤ pos side.denom) < 2 ^ 127
+    all_at_most = subst (λ n. n < 2 ^ 127) (sym (unsigned_abs-mul (pos (x.den * y.den)) (pos side.denom))) all_small
+
+    pub less_small : unsigned_abs (l *ℤ pos side.denom -ℤ side.numer *ℤ pos (x.den * y.den)) < 2 ^ 127
+    less_small =
+        let a = left_at_most in
+        let b = right_at_most in
+        let e = abs_neg (side.numer *ℤ pos (x.den * y.den)) in
+        omega (arith, a, b, e, abs-add (l *ℤ pos side.denom) (neg_ℤ (side.numer *ℤ pos (x.den * y.den))), small)
+
+    pub difference_is : quotient (l *ℤ pos side.denom -ℤ side.numer *ℤ pos (x.den * y.den)) (pos (x.den * y.den) *ℤ pos side.denom) ≡ frac l (x.den * y.den) -ℚ side
+    difference_is =
+        quotient_positive (l *ℤ pos side.denom -ℤ side.numer *ℤ pos (x.den * y.den)) all all_some
+        ∙ sym (sum_over (l *ℤ pos side.denom) (neg_ℤ (side.numer *ℤ pos (x.den * y.den))) all all_some)
+        ∙ sym (λ i. level_over i +ℚ negative_over i)
 
     positive_all : IsPositive (int (pos all))
     positive_all = (natural_lt 0 all).1 all_some

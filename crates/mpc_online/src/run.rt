@@ -158,7 +158,7 @@ fn advance(
     };
     let d = direction.point.as_slice();
     let e = direction.multipliers.as_slice();
-    let turn = turn_of(qp, sides, &it, d, e)?;
+    let turn = turn_of(qp, &prepared.rows, sides, &it, d, e)?;
     take_turn(alloc, qp, &prepared.rows, sides, it, direction, turn)
 }
 

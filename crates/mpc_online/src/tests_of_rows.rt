@@ -10,12 +10,12 @@ ghost use Rattle.mpc_online.specs.Wholes.{IsOver, AreRowsOver};
 use crate::numbers::is_positive;
 use crate::prepared::Wholes;
 use crate::solutions::dot_of;
-use crate::wholes::{is_above, over_one_denominator};
+use crate::wholes::{difference_in_wholes, is_above, over_one_denominator};
 use mpc_frac::{Frac, Wide};
 use mpc_rows::Qp;
 
 /// By how much the point is above row i: `g_i z - b_i`.
-pub fn excess(qp: &Qp, sides: &[Frac], point: &[Frac], i: u32) -> Result<Frac, Wide>
+fn excess(qp: &Qp, sides: &[Frac], point: &[Frac], i: u32) -> Result<Frac, Wide>
     requires sides { length sides.now ≡ height qp.now.g }
     requires point { length point.now ≡ height qp.now.h }
     requires from_one { 1 ≤ i }
@@ -27,6 +27,34 @@ pub fn excess(qp: &Qp, sides: &[Frac], point: &[Frac], i: u32) -> Result<Frac, W
     let _rows = qp.g.rows();
     let level = dot_of(qp.g.row(i - 1), point)?;
     level.sub(&sides[i as usize - 1])
+}
+
+/// The same, in whole numbers where these are small.
+pub fn excess_at(
+    qp: &Qp,
+    rows: &[Option<Wholes>],
+    sides: &[Frac],
+    point: &[Frac],
+    i: u32,
+) -> Result<Frac, Wide>
+    requires rows { AreRowsOver qp.now.g rows.now }
+    requires sides { length sides.now ≡ height qp.now.g }
+    requires point { length point.now ≡ height qp.now.h }
+    requires from_one { 1 ≤ i }
+    requires to_last { i ≤ height qp.now.g }
+    ensures value { IfOk result (λ v. v ≡ level qp.now point.now i -ℚ side sides.now i) }
+    ensures wide { MatchResult result (λ _. TestFits qp.now sides.now point.now i)
+        (λ _. ¬ TestFits qp.now sides.now point.now i) }
+{
+    let place = i as usize - 1;
+    if let Some(row) = &rows[place] {
+        if let Some(numbers) = &over_one_denominator(point) {
+            if let Some(above) = difference_in_wholes(row, numbers, point.len(), &sides[place]) {
+                return Ok(above);
+            }
+        }
+    }
+    excess(qp, sides, point, i)
 }
 
 /// Whether the point is above row i: in whole numbers, where these are small, and else in fractions.

@@ -9,11 +9,13 @@ ghost use Rattle.mpc_online.specs.Turns.{shorter_of, NoneFalls, IsShortest, IsSh
 ghost use Rattle.mpc_online.specs.Widths.{QuotientsFit, FullFits, LengthsFit};
 ghost use Rattle.mpc_online.specs.Standing.{IsPosition};
 ghost use Rattle.mpc_online.specs.Answers.{position_of};
+ghost use Rattle.mpc_online.specs.Wholes.{AreRowsOver};
 
 use crate::moves::Iterate;
 use crate::numbers::{is_less, is_negative};
+use crate::prepared::Wholes;
 use crate::solutions::dot_of;
-use crate::tests_of_rows::excess;
+use crate::tests_of_rows::excess_at;
 use mpc_frac::{Frac, Wide};
 use mpc_rows::Qp;
 
@@ -74,7 +76,14 @@ fn is_zero(d: &[Frac]) -> bool
 }
 
 /// The length at which the row on its way holds with equality.
-fn full_length(qp: &Qp, sides: &[Frac], it: &Iterate, d: &[Frac]) -> Result<Frac, Wide>
+fn full_length(
+    qp: &Qp,
+    rows: &[Option<Wholes>],
+    sides: &[Frac],
+    it: &Iterate,
+    d: &[Frac],
+) -> Result<Frac, Wide>
+    requires rows { AreRowsOver qp.now.g rows.now }
     requires position { IsPosition qp.now (position_of it.now) }
     requires sides { length sides.now ≡ height qp.now.g }
     requires direction { length d.now ≡ height qp.now.h }
@@ -84,13 +93,21 @@ fn full_length(qp: &Qp, sides: &[Frac], it: &Iterate, d: &[Frac]) -> Result<Frac
         (λ _. ¬ FullFits qp.now sides.now (position_of it.now) d.now) }
 {
     let _rows = qp.g.rows();
-    let above = excess(qp, sides, &it.point, it.row)?;
+    let above = excess_at(qp, rows, sides, &it.point, it.row)?;
     let slope = dot_of(qp.g.row(it.row - 1), d)?;
     above.div(&slope.neg())
 }
 
 /// What ends the step in this direction.
-pub fn turn_of(qp: &Qp, sides: &[Frac], it: &Iterate, d: &[Frac], e: &[Frac]) -> Result<Turn, Wide>
+pub fn turn_of(
+    qp: &Qp,
+    rows: &[Option<Wholes>],
+    sides: &[Frac],
+    it: &Iterate,
+    d: &[Frac],
+    e: &[Frac],
+) -> Result<Turn, Wide>
+    requires rows { AreRowsOver qp.now.g rows.now }
     requires position { IsPosition qp.now (position_of it.now) }
     requires sides { length sides.now ≡ height qp.now.g }
     requires direction { length d.now ≡ height qp.now.h }
@@ -107,7 +124,7 @@ pub fn turn_of(qp: &Qp, sides: &[Frac], it: &Iterate, d: &[Frac], e: &[Frac]) ->
         };
         return Ok(Turn::Drops(drop.place, drop.length));
     }
-    let full = full_length(qp, sides, it, d)?;
+    let full = full_length(qp, rows, sides, it, d)?;
     let Some(drop) = partial else {
         return Ok(Turn::Joins(full));
     };

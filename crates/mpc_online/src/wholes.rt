@@ -1,8 +1,8 @@
 //! Fractions over one denominator, and their sums of products in whole numbers, where these are small.
 
-ghost use Rattle.std.specs.Prelude.{◌≡◌, ℕ, List, ◌+◌, ◌*◌, ◌/◌, ◌^◌, ◌<◌, ◌≤◌, ◌↔◌, All, IfOk, IfSome, IsTrue, length, pos, unsigned_abs, ◌*ℤ◌, ◌<ℤ◌};
+ghost use Rattle.std.specs.Prelude.{◌≡◌, ℕ, List, ◌+◌, ◌*◌, ◌/◌, ◌^◌, ◌<◌, ◌≤◌, ◌↔◌, All, IfOk, IfSome, IsTrue, length, pos, unsigned_abs, ◌-ℤ◌, ◌*ℤ◌, ◌<ℤ◌};
 ghost use Rattle.std.specs.Int.{◌∣◌};
-ghost use Rattle.mpc_exact.specs.Rational.{ℚ, frac, ◌<ℚ◌, neg_ℚ};
+ghost use Rattle.mpc_exact.specs.Rational.{ℚ, frac, ◌-ℚ◌, ◌<ℚ◌, neg_ℚ};
 ghost use Rattle.mpc_space.specs.Vector.{dot};
 ghost use Rattle.mpc_linear.specs.Dot.{DotFits};
 ghost use Rattle.mpc_frac.specs.Fits.{FitsSum};
@@ -132,6 +132,14 @@ fn product(x: i128, y: i128) -> i128
     x * y
 }
 
+/// The difference, which fits.
+fn difference(x: i128, y: i128) -> i128
+    requires { unsigned_abs (x -ℤ y) < 2 ^ 127 }
+    ensures { result ≡ x -ℤ y }
+{
+    x - y
+}
+
 /// Whether x is above y.
 fn is_above_whole(x: i128, y: i128) -> bool
     ensures { IsTrue result ↔ (y <ℤ x) }
@@ -165,6 +173,30 @@ pub fn is_above(x: &Wholes, y: &Wholes, count: usize, side: &Frac) -> Option<boo
     let left = product(level, side.den());
     let right = product(side.num(), (x.den * y.den) as i128);
     Some(is_above_whole(left, right))
+}
+
+/// By how much the dot is above the side. `None` where `is_above` is.
+pub fn difference_in_wholes(x: &Wholes, y: &Wholes, count: usize, side: &Frac) -> Option<Frac>
+    requires { count ≤ 6 }
+    ensures value { IfSome result
+        (λ v. (xs ys : List ℚ) → IsOver xs x.now → IsOver ys y.now → length xs ≡ count → length ys ≡ count
+        → v ≡ dot xs ys -ℚ side.now) }
+    ensures fits { IfSome result
+        (λ _. (xs ys : List ℚ) → IsOver xs x.now → IsOver ys y.now → length xs ≡ count → length ys ≡ count
+        → DotFits xs ys × FitsSum (dot xs ys) (neg_ℚ side.now)) }
+{
+    if !is_small(x.most, y.most, size_of(side)) {
+        return None;
+    }
+    let level = dot_of_numerators(x, y, count);
+    let left = product(level, side.den());
+    let right = product(side.num(), (x.den * y.den) as i128);
+    let above = difference(left, right);
+    let below = product((x.den * y.den) as i128, side.den());
+    let Ok(value) = Frac::new(above, below) else {
+        return None;
+    };
+    Some(value)
 }
 
 /// The dot, where the numbers are small enough to show that each operation on fractions on the way to it fits.

@@ -9,8 +9,8 @@ use Rattle.mpc_online.proofs.Lengths.{negative_not_zero, full_value, full_fits, 
 use Rattle.mpc_online.proofs.turns.full_length.Goals as goal
 use Rattle.mpc_online.proofs.turns.full_length.Goals.{In_ok-slope}
 
-pub excess-requires-clause-point : goal.excess-requires-clause-point
-excess-requires-clause-point c = ap (λ (t : List ℚ). length t) c.deref.ensures.value ∙ c.requires.position.size
+pub excess_at-requires-clause-point : goal.excess_at-requires-clause-point
+excess_at-requires-clause-point c = ap (λ (t : List ℚ). length t) c.deref.ensures.value ∙ c.requires.position.size
 
 slope_is : (c : In_ok-slope) → c.in_ok-slope.slope ≡ level c.args.qp.now c.args.d.now c.args.it.now.row
 slope_is c = c.in_ok-slope.ensures.value ∙ ap (λ (r : List ℚ). dot r c.args.d.now) c.row.ensures
