@@ -1,5 +1,5 @@
 -- Where a run stands, if the sizes that are kept are within the limit of its system: at its opening, and where the run of its first rows ended.
-use Rattle.std.proofs.Common.{◌≡◌, ℕ, ◌+◌, ◌-◌, ◌*◌, ◌<◌, ◌≤◌, ◌^◌, List, length, ℤ, pos, unsigned_abs, refl, sym, subst, subst₂, arith, zero-le, length-append}
+use Rattle.std.proofs.Common.{◌≡◌, ℕ, ◌+◌, ◌-◌, ◌*◌, ◌<◌, ◌≤◌, ◌^◌, List, length, ℤ, pos, unsigned_abs, refl, sym, ap, subst, subst₂, arith, zero-le, length-append}
 use Rattle.mpc_rows.specs.declared.systems.Row.{Row}
 use Rattle.mpc_rows.specs.LinearSystem.{LinearSystem, height}
 use Rattle.std.proofs.lemmas.Nat.{mul-le}
@@ -63,6 +63,12 @@ opening_with_room s m a l o first e =
     })
 
 -- ---- where the run of the first rows ended
+pub higher : (s : LinearSystem) (more : List Row) (longer : LinearSystem) → longer ≡ lengthened s more → (from to : ℕ) → from ≡ height s → to ≡ height longer → from ≤ to
+higher s more longer e from to h t = let g : height longer ≡ height (lengthened s more) = ap height e in omega (arith, h, t, g, length-append s.rows more)
+
+pub more_scales : (s : LinearSystem) (more : List Row) (longer : LinearSystem) → longer ≡ lengthened s more → (old new : List ℕ) → length old ≡ count s → length new ≡ count longer → length old ≤ length new
+more_scales s more longer e old new h t = let g : count longer ≡ count (lengthened s more) = ap count e in omega (arith, h, t, g, length-append s.rows more)
+
 module _ (s : LinearSystem) (more : List Row) (k : List ℕ) (old : RunLists) (p : Place) (end : Ending) (z : IsKept s k old p end)
     (from to : ℕ) (h : from ≡ height s) (t : to ≡ height (lengthened s more)) (now : RunLists) (g : AreLonger from to old now) where
   seated : IsSeated from s.width (count s) old.seats.items

@@ -11,3 +11,4 @@ pub mod WholeShared
 pub mod MildShared
 pub mod Continued
 pub mod Seated
+pub mod Pushed

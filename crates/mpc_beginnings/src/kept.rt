@@ -1,7 +1,7 @@
 //! Runs in whole numbers that are kept where they end.
 
 ghost use Rattle.std.specs.Prelude.{◌≡◌, ℕ, ℤ, ◌*◌, ◌<◌, ◌≤◌, ◌^◌, [], ◌∷◌, IsTrue, IfSome, IfOk, List, length, true, false};
-ghost use Rattle.mpc_rows.specs.LinearSystem.{height, row_at};
+ghost use Rattle.mpc_rows.specs.LinearSystem.{LinearSystem, height, row_at};
 ghost use Rattle.mpc_rows.specs.Run.{count, has_point, is_refuted, turn, last_position};
 ghost use Rattle.mpc_rows.specs.RunWidth.{RunFits};
 ghost use Rattle.mpc_rows.specs.LawRows.{broken_row};
@@ -16,8 +16,8 @@ ghost use Rattle.mpc_beginnings.specs.Broken.{IsBroken, IsBrokenEnd};
 ghost use Rattle.mpc_beginnings.specs.Kept.{AreNumbers, IsNormProduct, HasRoomBefore, IsKept, IsFirstLater, IsLonger, IsUnderwayWithin, IsUnderwayWithRoom, IsRefuted, IsMet};
 
 use crate::lists::{
-    begins_with, copied_lists, first_lists, lengthen, lists_with_room, no_lists, push_turned,
-    set_lists, sizes, with_row, with_turned,
+    begins_with, copied_lists, lengthen, lists_with_room, no_lists, push_turned, set_lists,
+    set_opening, sizes, with_row, with_turned,
 };
 use mpc_linear::RowInt;
 use mpc_rows::{Multipliers, PairPoint, Row, System};
@@ -111,25 +111,21 @@ fn product_of(width: usize, numbers: &WholeNumbers, place: Place) -> u128
 /// The run from a position to its end, where one limit serves for all rows.
 fn limited_run(
     lists: &mut RunLists,
-    work: &mut Vec<i64>,
+    x: &mut [i64],
     system: &WholeSystem,
     numbers: &WholeNumbers,
     from: Place,
-) -> Result<Option<(Place, Ending)>, AllocError>
+) -> Option<(Place, Ending)>
     requires numbers { AreNumbers system.now numbers.now }
     requires lists { AreListsOf system.now from.own lists.old }
+    requires row_size { length x.old ≡ system.now.width }
     requires start { IsUnderwayWithin system.now numbers.now lists.old from }
-    ensures lists { IfOk result (λ o. IfSome o (λ t. AreListsOf system.now t.0.own lists.new)) }
-    ensures den_small { IfOk result (λ o. IfSome o (λ t. t.0.den ≤ 2 ^ 62)) }
-    ensures end { IfOk result (λ o. IfSome o (λ t. HasEnded system.now (count system.now) lists.new.seats.items numbers.now.scales.now t.0.den lists.new.v.items lists.new.firsts.items lists.new.seconds.items t.0.greatest t.0.greatest_den t.1)) }
+    ensures lists { IfSome result (λ t. AreListsOf system.now t.0.own lists.new) }
+    ensures den_small { IfSome result (λ t. t.0.den ≤ 2 ^ 62) }
+    ensures end { IfSome result (λ t. HasEnded system.now (count system.now) lists.new.seats.items numbers.now.scales.now t.0.den lists.new.v.items lists.new.firsts.items lists.new.seconds.items t.0.greatest t.0.greatest_den t.1) }
 {
-    let width = system.unknowns();
-    lengthen(work, width)?;
+    let most = limit_of(system, numbers, from)?;
     let n = lists.seats.len();
-    let Some(most) = limit_of(system, numbers, from) else {
-        return Ok(None);
-    };
-    let (x, _) = work.split_at_mut(width);
     let found = whole_run(
         &mut lists.seats,
         &mut lists.nonbasic,
@@ -144,11 +140,8 @@ fn limited_run(
         n,
         from,
         most,
-    );
-    match found {
-        Some(found) => Ok(Some(found)),
-        None => Ok(None),
-    }
+    )?;
+    Some(found)
 }
 
 /// The run from a position to its end, where one limit serves for all rows, with what is kept of it.
@@ -164,9 +157,12 @@ fn run_on(
     requires start { IsUnderwayWithin system.now numbers.now lists.old from }
     ensures { IfOk result (λ o. IfSome o (λ t. IsKept system.now numbers.now.scales.now lists.new t.0 t.1)) }
 {
-    match limited_run(lists, work, system, numbers, from)? {
+    let width = system.unknowns();
+    lengthen(work, width)?;
+    let (x, _) = work.split_at_mut(width);
+    match limited_run(lists, x, system, numbers, from) {
         Some((place, end)) => {
-            let product = product_of(system.unknowns(), numbers, place);
+            let product = product_of(width, numbers, place);
             Ok(Some((Place { product, ..place }, end)))
         }
         None => Ok(None),
@@ -316,6 +312,25 @@ struct Ended {
     end: Ending,
 }
 
+/// The end of a run that stands in these lists, with a copy of the scales.
+fn kept_end(
+    alloc: Global,
+    scales: &[u64],
+    lists: RunLists,
+    place: Place,
+    end: Ending,
+) -> Result<Ended, AllocError>
+    ensures { IfOk result (λ e. (s : LinearSystem) → IsKept s scales.now lists place end → IsKept s e.scales.items e.lists e.place e.end) }
+{
+    let scales = scales.to_vec(alloc)?;
+    Ok(Ended {
+        scales,
+        lists,
+        place,
+        end,
+    })
+}
+
 /// A system whose run in whole numbers is kept where it ends.
 #[derive(Drop)]
 pub struct KeptRun {
@@ -337,7 +352,6 @@ impl Model for KeptRun {
 
 /// The run of a system from its opening to its end, where whole numbers serve for it.
 fn first_run(
-    alloc: Global,
     lists: &mut RunLists,
     work: &mut Vec<i64>,
     system: &WholeSystem,
@@ -358,11 +372,11 @@ fn first_run(
         product: 0,
         first: width,
     };
-    *lists = first_lists(alloc, system, n, square)?;
+    set_opening(lists, system, n, square)?;
     if let Some(found) = run_on(lists, work, system, numbers, from)? {
         return Ok(Some(found));
     }
-    *lists = first_lists(alloc, system, n, square)?;
+    set_opening(lists, system, n, square)?;
     judge_on(lists, work, system, numbers, from)
 }
 
@@ -376,14 +390,11 @@ fn first_end(
 {
     let mut lists = no_lists(alloc);
     let numbers = numbers_of(system);
-    let scales = numbers.scales.to_vec(alloc)?;
-    match first_run(alloc, &mut lists, work, system, &numbers)? {
-        Some((place, end)) => Ok(Some(Ended {
-            scales,
-            lists,
-            place,
-            end,
-        })),
+    match first_run(&mut lists, work, system, &numbers)? {
+        Some((place, end)) => {
+            let last = kept_end(alloc, numbers.scales, lists, place, end)?;
+            Ok(Some(last))
+        }
         None => Ok(None),
     }
 }
@@ -401,17 +412,9 @@ fn kept_copy(
     ensures { IfOk result (λ r. r ≡ system.now) }
 {
     let own = system.copy_with_room(alloc, 0)?;
-    let scales = scales.to_vec(alloc)?;
     let lists = copied_lists(alloc, lists)?;
-    Ok(KeptRun {
-        system: own,
-        last: Ended {
-            scales,
-            lists,
-            place,
-            end,
-        },
-    })
+    let last = kept_end(alloc, scales, lists, place, end)?;
+    Ok(KeptRun { system: own, last })
 }
 
 /// What the run of a system with a row behind that is met where another fails ends with.
@@ -500,14 +503,11 @@ impl KeptRun {
     {
         let mut lists = lists_with_room(alloc, longer.height(), longer.unknowns())?;
         let numbers = numbers_of(longer);
-        let scales = numbers.scales.to_vec(alloc)?;
         match self.go_on(&mut lists, work, longer, &numbers)? {
-            Some((place, end)) => Ok(Some(Ended {
-                scales,
-                lists,
-                place,
-                end,
-            })),
+            Some((place, end)) => {
+                let last = kept_end(alloc, numbers.scales, lists, place, end)?;
+                Ok(Some(last))
+            }
             None => Ok(None),
         }
     }

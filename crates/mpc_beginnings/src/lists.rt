@@ -46,70 +46,73 @@ fn first_seat(width: usize, x: usize) -> Seat
     }
 }
 
-/// Where each variable stands at first.
-fn first_seats(alloc: Global, system: &WholeSystem, n: usize) -> Result<Vec<Seat>, AllocError>
-    ensures { IfOk result (λ t. IsOpeningSeats system.now n t.items) }
+/// Writes where each variable stands at first.
+fn put_first_seats(seats: &mut Vec<Seat>, system: &WholeSystem, n: usize) -> Result<(), AllocError>
+    ensures { OnOk result (IsOpeningSeats system.now n seats.new.items) }
 {
-    let mut seats = Vec::with_capacity(alloc, n)?;
+    seats.clear();
+    seats.reserve(n)?;
     for x in 0..n {
         let seat = first_seat(system.unknowns(), x);
         seats.push(seat)?;
     }
-    Ok(seats)
+    Ok(())
 }
 
-/// The variables of the columns at first: the unknowns.
-fn first_nonbasic(alloc: Global, width: usize) -> Result<Vec<usize>, AllocError>
-    ensures size { IfOk result (λ t. length t.items ≡ width) }
-    ensures own { IfOk result (λ t. (c : ℕ) → c < width → variable_at t.items c ≡ c) }
+/// Writes the variables of the columns at first: the unknowns.
+fn put_unknowns(nonbasic: &mut Vec<usize>, width: usize) -> Result<(), AllocError>
+    ensures size { OnOk result (length nonbasic.new.items ≡ width) }
+    ensures own { OnOk result ((c : ℕ) → c < width → variable_at nonbasic.new.items c ≡ c) }
 {
-    let mut nonbasic = Vec::with_capacity(alloc, width)?;
+    nonbasic.clear();
+    nonbasic.reserve(width)?;
     for x in 0..width {
         nonbasic.push(x)?;
     }
-    Ok(nonbasic)
+    Ok(())
 }
 
-/// The numbers of the unknowns at first.
-fn first_numbers(alloc: Global, width: usize, square: usize) -> Result<Vec<i64>, AllocError>
+/// Writes so many zeros in place of other numbers.
+fn put_zeros(list: &mut Vec<i64>, n: usize) -> Result<(), AllocError>
+    ensures size { OnOk result (length list.new.items ≡ n) }
+    ensures zero { OnOk result ((k : ℕ) → whole_at list.new.items k ≡ pos 0) }
+{
+    list.resize(n, 0)?;
+    clear(list);
+    Ok(())
+}
+
+/// Writes the numbers of the unknowns at first.
+fn put_first_numbers(v: &mut Vec<i64>, width: usize, square: usize) -> Result<(), AllocError>
     requires { square ≡ width * width }
-    ensures size { IfOk result (λ t. length t.items ≡ width * width) }
-    ensures unit { IfOk result (λ t. IsUnit width t.items) }
-    ensures small { IfOk result (λ t. IsSmall 1 t.items) }
+    ensures size { OnOk result (length v.new.items ≡ width * width) }
+    ensures unit { OnOk result (IsUnit width v.new.items) }
+    ensures small { OnOk result (IsSmall 1 v.new.items) }
 {
-    let mut v = vec![in alloc; 0; square]?;
-    clear(&mut v);
-    put_units(&mut v, width);
-    Ok(v)
+    put_zeros(v, square)?;
+    put_units(v, width);
+    Ok(())
 }
 
-/// One part of the values of the unknowns at first: 0, since no side is nonbasic.
-fn first_values(alloc: Global, width: usize) -> Result<Vec<i64>, AllocError>
-    ensures size { IfOk result (λ t. length t.items ≡ width) }
-    ensures zero { IfOk result (λ t. (k : ℕ) → whole_at t.items k ≡ pos 0) }
-{
-    let mut values = vec![in alloc; 0; width]?;
-    clear(&mut values);
-    Ok(values)
-}
-
-/// Writes the seats of the variables of a system, and those of further sides behind them, in the
-/// rows from the height of the system on.
-fn put_seats(
-    seats: &mut Vec<Seat>,
-    first: &[Seat],
-    height: usize,
-    longer: usize,
-) -> Result<(), AllocError>
+/// Writes the seats of the sides of further rows behind others, in the rows from the height of the
+/// system on.
+fn push_sides(seats: &mut Vec<Seat>, height: usize, longer: usize) -> Result<(), AllocError>
     requires { height ≤ longer }
-    ensures seated { OnOk result ((w n : ℕ) → IsSeated height w n first.now → IsSeated longer w (n + (longer - height)) seats.new.items) }
-    ensures grown { OnOk result ((w n : ℕ) → IsSeated height w n first.now → AreLongerSeats n first.now seats.new.items) }
+    ensures seated { OnOk result ((w n : ℕ) → IsSeated height w n seats.old.items → IsSeated longer w (n + (longer - height)) seats.new.items) }
+    ensures grown { OnOk result ((w n : ℕ) → IsSeated height w n seats.old.items → AreLongerSeats n seats.old.items seats.new.items) }
 {
-    seats.clear();
-    seats.extend_from_slice(first)?;
     for r in height..longer {
         seats.push(Seat::Row(r))?;
     }
+    Ok(())
+}
+
+/// Writes seats in place of others.
+fn put_seats(list: &mut Vec<Seat>, seats: &[Seat]) -> Result<(), AllocError>
+    ensures { OnOk result (list.new.items ≡ seats.now) }
+{
+    list.clear();
+    list.extend_from_slice(seats)?;
     Ok(())
 }
 
@@ -142,53 +145,57 @@ pub(crate) fn no_lists(alloc: Global) -> RunLists {
     }
 }
 
-/// Empty lists with room for the run of so many rows of so many unknowns.
+/// Empty lists with room for the seats of the variables of so many rows and unknowns.
 pub(crate) fn lists_with_room(
     alloc: Global,
     height: usize,
     width: usize,
 ) -> Result<RunLists, AllocError> {
-    Ok(RunLists {
-        seats: Vec::with_capacity(alloc, width.saturating_add(height))?,
-        nonbasic: Vec::with_capacity(alloc, width)?,
-        v: Vec::with_capacity(alloc, width.saturating_mul(width))?,
-        firsts: Vec::with_capacity(alloc, width)?,
-        seconds: Vec::with_capacity(alloc, width)?,
-    })
+    let mut lists = no_lists(alloc);
+    lists.seats.reserve(width.saturating_add(height))?;
+    Ok(lists)
 }
 
-/// The lists of the first position.
-pub(crate) fn first_lists(
-    alloc: Global,
+/// Writes the lists of the first position. The values of the unknowns are 0 there, since no side is
+/// nonbasic.
+pub(crate) fn set_opening(
+    lists: &mut RunLists,
     system: &WholeSystem,
     n: usize,
     square: usize,
-) -> Result<RunLists, AllocError>
+) -> Result<(), AllocError>
     requires count { n ≡ count system.now }
     requires square { square ≡ system.now.width * system.now.width }
-    ensures { IfOk result (AreOpening system.now) }
+    ensures { OnOk result (AreOpening system.now lists.new) }
 {
     let width = system.unknowns();
-    Ok(RunLists {
-        seats: first_seats(alloc, system, n)?,
-        nonbasic: first_nonbasic(alloc, width)?,
-        v: first_numbers(alloc, width, square)?,
-        firsts: first_values(alloc, width)?,
-        seconds: first_values(alloc, width)?,
-    })
+    put_first_seats(&mut lists.seats, system, n)?;
+    put_unknowns(&mut lists.nonbasic, width)?;
+    put_first_numbers(&mut lists.v, width, square)?;
+    put_zeros(&mut lists.firsts, width)?;
+    put_zeros(&mut lists.seconds, width)?;
+    Ok(())
+}
+
+/// Writes other lists in place of these.
+fn put_copies(lists: &mut RunLists, other: &RunLists) -> Result<(), AllocError>
+    ensures { OnOk result (AreCopies other.now lists.new) }
+{
+    put_seats(&mut lists.seats, &other.seats)?;
+    put_variables(&mut lists.nonbasic, &other.nonbasic)?;
+    put_numbers(&mut lists.v, &other.v)?;
+    put_numbers(&mut lists.firsts, &other.firsts)?;
+    put_numbers(&mut lists.seconds, &other.seconds)?;
+    Ok(())
 }
 
 /// The same lists in memory of their own.
 pub(crate) fn copied_lists(alloc: Global, lists: &RunLists) -> Result<RunLists, AllocError>
     ensures { IfOk result (AreCopies lists.now) }
 {
-    Ok(RunLists {
-        seats: lists.seats.to_vec(alloc)?,
-        nonbasic: lists.nonbasic.to_vec(alloc)?,
-        v: lists.v.to_vec(alloc)?,
-        firsts: lists.firsts.to_vec(alloc)?,
-        seconds: lists.seconds.to_vec(alloc)?,
-    })
+    let mut own = no_lists(alloc);
+    put_copies(&mut own, lists)?;
+    Ok(own)
 }
 
 /// Writes other lists in place of these, and the seats of further sides behind theirs, in the rows from
@@ -202,11 +209,8 @@ pub(crate) fn set_lists(
     requires { height ≤ longer }
     ensures { OnOk result (AreLonger height longer other.now lists.new) }
 {
-    put_seats(&mut lists.seats, &other.seats, height, longer)?;
-    put_variables(&mut lists.nonbasic, &other.nonbasic)?;
-    put_numbers(&mut lists.v, &other.v)?;
-    put_numbers(&mut lists.firsts, &other.firsts)?;
-    put_numbers(&mut lists.seconds, &other.seconds)?;
+    put_copies(lists, other)?;
+    push_sides(&mut lists.seats, height, longer)?;
     Ok(())
 }
 

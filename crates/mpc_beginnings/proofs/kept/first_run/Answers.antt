@@ -2,15 +2,15 @@ use Rattle.mpc_beginnings.proofs.Continued.{opening_lists, opening_within, openi
 use Rattle.mpc_beginnings.proofs.kept.first_run.Goals as goal
 
 pub run_on-requires-clause-lists : goal.run_on-requires-clause-lists
-run_on-requires-clause-lists c = opening_lists c.args.system.now c.in_ok-lists.field-0 c.in_ok-lists.ensures
+run_on-requires-clause-lists c = opening_lists c.args.system.now c.set_opening.new.lists c.in_ok-set_opening.ensures
 
 pub run_on-requires-clause-start : goal.run_on-requires-clause-start
 run_on-requires-clause-start c =
-    opening_within c.args.system.now c.args.numbers.now c.requires.numbers c.in_ok-lists.field-0 c.in_ok-lists.ensures c.unknowns-width.result c.unknowns-width.ensures
+    opening_within c.args.system.now c.args.numbers.now c.requires.numbers c.set_opening.new.lists c.in_ok-set_opening.ensures c.unknowns-width.result c.unknowns-width.ensures
 
 pub judge_on-requires-clause-lists : goal.judge_on-requires-clause-lists
-judge_on-requires-clause-lists c = opening_lists c.args.system.now c.in_ok-lists-2.field-0 c.in_ok-lists-2.ensures
+judge_on-requires-clause-lists c = opening_lists c.args.system.now c.set_opening-2.new.lists c.in_ok-set_opening-2.ensures
 
 pub judge_on-requires-clause-start : goal.judge_on-requires-clause-start
 judge_on-requires-clause-start c =
-    opening_with_room c.args.system.now c.args.numbers.now c.requires.numbers c.in_ok-lists-2.field-0 c.in_ok-lists-2.ensures c.unknowns-width.result c.unknowns-width.ensures
+    opening_with_room c.args.system.now c.args.numbers.now c.requires.numbers c.set_opening-2.new.lists c.in_ok-set_opening-2.ensures c.unknowns-width.result c.unknowns-width.ensures

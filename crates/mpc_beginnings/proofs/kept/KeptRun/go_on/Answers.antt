@@ -5,8 +5,29 @@ use Rattle.mpc_whole.specs.Whole.{scale_at}
 use Rattle.mpc_beginnings.specs.Beginnings.{lengthened}
 use Rattle.mpc_whole.specs.Lists.{AreListsOf}
 use Rattle.mpc_beginnings.specs.Kept.{AreNumbers, IsFirstLater, IsUnderwayWithin, IsUnderwayWithRoom}
-use Rattle.mpc_beginnings.proofs.Continued.{lists_longer, within_longer, room_longer}
+use Rattle.mpc_beginnings.proofs.Continued.{higher, more_scales, lists_longer, within_longer, room_longer}
 use Rattle.mpc_beginnings.proofs.kept.KeptRun.go_on.Goals as goal
+
+pub set_lists-requires : goal.set_lists-requires
+set_lists-requires c =
+    let r = c.self.inside in
+    let more : List Row = c.requires.longer.0 in
+    let e : c.args.longer.now ≡ lengthened r.system more = c.requires.longer.1 ∙ ap (λ (t : LinearSystem). lengthened t more) (sym c.self.view_is) in
+    higher r.system more c.args.longer.now e c.height.result c.height-2.result c.height.ensures c.height-2.ensures
+
+pub set_lists-requires-2 : goal.set_lists-requires-2
+set_lists-requires-2 c =
+    let r = c.self.inside in
+    let more : List Row = c.requires.longer.0 in
+    let e : c.args.longer.now ≡ lengthened r.system more = c.requires.longer.1 ∙ ap (λ (t : LinearSystem). lengthened t more) (sym c.self.view_is) in
+    higher r.system more c.args.longer.now e c.height-3.result c.height-4.result c.height-3.ensures c.height-4.ensures
+
+pub begins_with-requires : goal.begins_with-requires
+begins_with-requires c =
+    let r = c.self.inside in
+    let more : List Row = c.requires.longer.0 in
+    let e : c.args.longer.now ≡ lengthened r.system more = c.requires.longer.1 ∙ ap (λ (t : LinearSystem). lengthened t more) (sym c.self.view_is) in
+    rw c.deref.ensures.value (more_scales r.system more c.args.longer.now e r.last.scales.items c.args.numbers.now.scales.now c.self.invariant.scales c.requires.numbers.whole.scales.size)
 
 pub run_on-requires-clause-lists : goal.run_on-requires-clause-lists
 run_on-requires-clause-lists c =

@@ -1,9 +1,9 @@
 use Rattle.std.proofs.Common.{◌≤◌}
 use Rattle.mpc_beginnings.proofs.Seated.{AreSeatedTo}
-use Rattle.mpc_beginnings.proofs.lists.put_seats.Given as goal
+use Rattle.mpc_beginnings.proofs.lists.push_sides.Given as goal
 
 abbrev pub invariant-loop-r : goal.invariant-loop-r
 invariant-loop-r l = record {
   from : l.height ≤ l.r;
-  seated : AreSeatedTo l.height l.r l.first l.seats.items;
+  seated : AreSeatedTo l.height l.r l.fn.seats.items l.seats.items;
 }
