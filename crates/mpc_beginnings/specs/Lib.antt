@@ -3,3 +3,4 @@ pub mod LongerSeats
 pub mod RunLists
 pub mod Kept
 pub mod Broken
+pub mod Limit

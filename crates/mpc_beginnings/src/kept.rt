@@ -9,10 +9,11 @@ ghost use Rattle.mpc_rows.specs.SetRuns.{turned};
 ghost use Rattle.mpc_whole.specs.declared.variables.Seat.{Seat};
 ghost use Rattle.mpc_whole.specs.Lists.{AreListsOf};
 ghost use Rattle.mpc_whole.specs.RunEnd.{IsEnd, IsValues, EndsRefuted};
-ghost use Rattle.mpc_whole.specs.Whole.{IsSmall, IsNarrow, HasBounds, HasRoom};
+ghost use Rattle.mpc_whole.specs.Whole.{IsSmall, HasRoom};
 ghost use Rattle.mpc_whole.specs.Underway.{turn_of, HasEnded};
 ghost use Rattle.mpc_beginnings.specs.Beginnings.{lengthened};
 ghost use Rattle.mpc_beginnings.specs.Broken.{IsBroken, IsBrokenEnd};
+ghost use Rattle.mpc_beginnings.specs.Limit.{IsLimit};
 ghost use Rattle.mpc_beginnings.specs.Kept.{AreNumbers, IsNormProduct, HasRoomBefore, IsKept, IsFirstLater, IsLonger, IsUnderwayWithin, IsUnderwayWithRoom, IsRefuted, IsMet};
 
 use crate::lists::{
@@ -39,14 +40,7 @@ fn numbers_of(system: &WholeSystem) -> WholeNumbers
 /// before are within that.
 fn limit_of(system: &WholeSystem, numbers: &WholeNumbers, from: Place) -> Option<u64>
     requires numbers { AreNumbers system.now numbers.now }
-    ensures bounds { IfSome result (λ m. HasBounds system.now numbers.now.scales.now numbers.now.a.now numbers.now.b.now m) }
-    ensures room { IfSome result (λ _. HasRoom system.now.width (2 ^ 62) numbers.now.a.now) }
-    ensures top { IfSome result (λ m. m ≤ 2 ^ 62) }
-    ensures own_small { IfSome result (λ m. from.own ≤ m) }
-    ensures den_small { IfSome result (λ _. from.den ≤ 2 ^ 62) }
-    ensures narrow { IfSome result (λ _. (seats : List Seat) (v : List ℤ) → IsSmall from.own v → IsNarrow system.now (count system.now) seats numbers.now.scales.now numbers.now.a.now from.den v) }
-    ensures kept_small { IfSome result (λ m. from.greatest ≤ m) }
-    ensures kept_den_small { IfSome result (λ _. from.greatest_den * numbers.now.most_scale ≤ 2 ^ 62) }
+    ensures { IfSome result (IsLimit system.now numbers.now from) }
 {
     let width = system.unknowns();
     let n = width.checked_add(system.height())?;
