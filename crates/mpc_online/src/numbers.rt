@@ -23,5 +23,5 @@ pub fn is_positive(x: &Frac) -> bool
 pub fn is_negative(x: &Frac) -> bool
     ensures { result ≡ lt_ℚ x.now (int (pos 0)) }
 {
-    is_less(x, &Frac::whole(0))
+    x.sign() < 0
 }
