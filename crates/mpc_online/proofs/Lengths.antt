@@ -1,5 +1,5 @@
 -- The full length of a step, from its excess and its slope.
-use Rattle.std.proofs.Common.{◌≡◌, ◌≢◌, List, [], ◌∷◌, pos, sym, ◌∙◌, ap, subst, Result, IfOk, MatchResult}
+use Rattle.std.proofs.Common.{◌≡◌, ◌≢◌, ℕ, List, [], ◌∷◌, pos, sym, ◌∙◌, ap, subst, Option, Some, None, Result, IfOk, MatchResult}
 use Rattle.mpc_exact.specs.Rational.{ℚ, int, ◌-ℚ◌, ◌*ℚ◌, neg_ℚ, inv_ℚ}
 use Rattle.mpc_exact.proofs.RationalRing.{reads, by_ring, by_equation}
 use Rattle.mpc_frac.specs.Fits.{FitsFrac}
@@ -12,6 +12,7 @@ use Rattle.mpc_online.specs.StateRows.{level, side}
 use Rattle.mpc_online.specs.Positions.{Position}
 use Rattle.mpc_online.specs.Turns.{full_length}
 use Rattle.mpc_online.specs.Widths.{TestFits, FullFits}
+use Rattle.mpc_online.specs.Shared.{IsSlopeOf}
 
 pub negative_not_zero : (x y : ℚ) → x ≡ neg_ℚ y → y ≢ int (pos 0) → x ≢ int (pos 0)
 negative_not_zero x y is h e = h (by_equation (neg_ℚ (int (pos 1))) (sym is ∙ e) (by_ring (x ∷ y ∷ []) (search reads depth 30) (search reads depth 30) tt))
@@ -34,5 +35,9 @@ module _ (qp : Qp) (b : List ℚ) (p : Position) (d point : List ℚ) (point_is 
 pub wide_excess : (qp : Qp) (b : List ℚ) (p : Position) (d point : List ℚ) → point ≡ p.point → ¬ TestFits qp b point p.row → ¬ FullFits qp b p d
 wide_excess qp b p d point is h f = h (subst (λ z. TestFits qp b z p.row) (sym is) f.test)
 
-pub wide_slope : (qp : Qp) (b : List ℚ) (p : Position) (d row : List ℚ) → row ≡ row_of qp.g.rows p.row → ¬ DotFits row d → ¬ FullFits qp b p d
-wide_slope qp b p d row is h f = h (subst (λ r. DotFits r d) (sym is) f.slope)
+-- ---- the slope that is kept
+pub slope_there : (qp : Qp) (r : ℕ) (d : List ℚ) (o : Option ℚ) (s : ℚ) → o ≡ Some s → IsSlopeOf qp r d o → DotFits (row_of qp.g.rows r) d × (s ≡ level qp d r)
+slope_there qp r d o s is h = subst (IsSlopeOf qp r d) is h
+
+pub wide_slope : (qp : Qp) (b : List ℚ) (p : Position) (d : List ℚ) (o : Option ℚ) → o ≡ None → IsSlopeOf qp p.row d o → ¬ FullFits qp b p d
+wide_slope qp b p d o is h f = (subst (IsSlopeOf qp p.row d) is h) f.slope

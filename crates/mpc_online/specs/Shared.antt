@@ -1,11 +1,14 @@
 -- What the equations of all active sets of a program have in common.
-use Rattle.std.specs.Prelude.{◌≡◌, ℕ, ◌+◌, ◌-◌, ◌<◌, nat_lt, cond, List, length, get_or, slice_get, pos, All, Some, IfSome, MatchOption}
+use Rattle.std.specs.Prelude.{◌≡◌, ℕ, ◌+◌, ◌-◌, ◌<◌, nat_lt, cond, List, length, get_or, slice_get, pos, All, Option, Some, IfSome, MatchOption}
 use Rattle.mpc_exact.specs.Rational.{ℚ, int, neg_ℚ}
 use Rattle.mpc_space.specs.Matrix.{RationalMatrix, height, tabled, entry}
+use Rattle.mpc_linear.specs.Dot.{DotFits}
 use Rattle.mpc_rows.specs.declared.programs.Qp.{Qp}
 use Rattle.mpc_bordered.specs.declared.kept.Kept.{Kept}
 use Rattle.mpc_linear.specs.Solution.{IsOnlySolution}
+use Rattle.mpc_rows.specs.ActiveSets.{row_of}
 use Rattle.mpc_rows.specs.SetRuns.{law_matrix}
+use Rattle.mpc_online.specs.StateRows.{level}
 use Rattle.mpc_online.specs.Positions.{right_matrix, step_side, upper_part, lower_part}
 use Rattle.mpc_online.specs.Widths.{EliminationFits}
 use Rattle.mpc_online.specs.Wholes.{AreRowsOver}
@@ -37,6 +40,10 @@ pub record IsKeptOf (qp : Qp) (k : Kept) : Type 0 where
   pub table : k.table ≡ shared_table qp
   pub front : k.front ≡ height qp.h
 
+-- how row r grows along d, and nothing where a number on the way to this doesn't fit
+abbrev pub IsSlopeOf : Qp → ℕ → List ℚ → Option ℚ → Type 0
+IsSlopeOf qp r d slope = MatchOption slope (¬ DotFits (row_of qp.g.rows r) d) (λ v. DotFits (row_of qp.g.rows r) d × (v ≡ level qp d r))
+
 -- the direction with the members s towards row r: the parts of the one solution of its equations
 pub record IsDirectionOf (qp : Qp) (s : List ℕ) (r : ℕ) (d : Direction) : Type 0 where
   pub solution : RationalMatrix
@@ -44,6 +51,7 @@ pub record IsDirectionOf (qp : Qp) (s : List ℕ) (r : ℕ) (d : Direction) : Ty
   pub fits : EliminationFits (law_matrix qp s) (right_matrix qp s (step_side qp r))
   pub point_is : d.point.items ≡ upper_part qp solution
   pub multipliers_are : d.multipliers.items ≡ lower_part qp s solution
+  pub slope_is : IsSlopeOf qp r d.point.items d.slope
 
 -- a direction that is kept is that of its members and its row, and nothing is kept where a number on the way to it doesn't fit
 abbrev pub IsKeptDirection : Qp → KeptDirection → Type 0

@@ -12,15 +12,15 @@ ghost use Rattle.mpc_online.specs.Positions.{right_matrix, step_side};
 ghost use Rattle.mpc_online.specs.Widths.{EliminationFits};
 ghost use Rattle.mpc_online.specs.Answers.{IfStopWide};
 ghost use Rattle.mpc_online.specs.declared.solutions.Stop.TheVariants.{NoMemory as no_memory};
-ghost use Rattle.mpc_online.specs.Shared.{AreMemberPlaces, IsKeptOf, IsKeptDirection, IsKeptAt, IsPreparedFor};
+ghost use Rattle.mpc_online.specs.Shared.{AreMemberPlaces, IsKeptOf, IsSlopeOf, IsKeptDirection, IsKeptAt, IsPreparedFor};
 
 use crate::matrices::step_right;
 use crate::prepared::{Direction, KeptDirection, Prepared};
 use crate::shared::shared_table;
-use crate::solutions::{Stop, part, solution};
+use crate::solutions::{Stop, dot_of, part, solution};
 use crate::wholes::whole_rows;
 use mpc_bordered::{Kept, keep, solve_part};
-use mpc_frac::NoMemory;
+use mpc_frac::{Frac, NoMemory};
 use mpc_linear::{LinearError, Matrix, Solved};
 use mpc_rows::{Qp, law_theorems};
 use mpc_sets::ActiveSet;
@@ -128,6 +128,20 @@ fn step_solution(
     solution(alloc, qp, set, &right)
 }
 
+/// How the row grows along the direction of the point. `None` where a number on the way to this needs more than 128 bits.
+fn slope_of(qp: &Qp, point: &[Frac], row: u32) -> Option<Frac>
+    requires point { length point.now ≡ height qp.now.h }
+    requires from_one { 1 ≤ row }
+    requires to_last { row ≤ height qp.now.g }
+    ensures { IsSlopeOf qp.now row point.now result }
+{
+    let _rows = qp.g.rows();
+    match dot_of(qp.g.row(row - 1), point) {
+        Ok(slope) => Some(slope),
+        Err(_) => None,
+    }
+}
+
 /// The direction of a step towards the row.
 fn found_direction(
     alloc: Global,
@@ -160,10 +174,15 @@ fn found_direction(
     };
     let point = part(alloc, &x, 0, qp.h.rows())?;
     let multipliers = part(alloc, &x, qp.h.rows(), set.size())?;
+    let slope = slope_of(qp, &point, row);
     Ok(KeptDirection {
         set,
         row,
-        direction: Some(Direction { point, multipliers }),
+        direction: Some(Direction {
+            point,
+            multipliers,
+            slope,
+        }),
     })
 }
 

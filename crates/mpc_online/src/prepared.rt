@@ -6,11 +6,13 @@ use mpc_bordered::Kept;
 use mpc_frac::Frac;
 use mpc_sets::ActiveSet;
 
-/// The direction of a step: how the point moves, and how the multipliers of the members do.
+/// The direction of a step: how the point moves, and how the multipliers of the members do; and how the row on its way grows, `None` where
+/// a number on the way to this needs more than 128 bits.
 #[derive(Drop)]
 pub struct Direction {
     pub point: Vec<Frac>,
     pub multipliers: Vec<Frac>,
+    pub slope: Option<Frac>,
 }
 
 /// The direction with these members towards this row, which depends on no state; `None` where a number on the way to it needs more than

@@ -156,9 +156,7 @@ fn advance(
     let Some(direction) = &prepared.directions[place].direction else {
         return Err(Stop::Wide);
     };
-    let d = direction.point.as_slice();
-    let e = direction.multipliers.as_slice();
-    let turn = turn_of(qp, &prepared.rows, sides, &it, d, e)?;
+    let turn = turn_of(qp, &prepared.rows, sides, &it, direction)?;
     take_turn(alloc, qp, &prepared.rows, sides, it, direction, turn)
 }
 

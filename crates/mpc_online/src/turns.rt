@@ -9,12 +9,12 @@ ghost use Rattle.mpc_online.specs.Turns.{shorter_of, NoneFalls, IsShortest, IsSh
 ghost use Rattle.mpc_online.specs.Widths.{QuotientsFit, FullFits, LengthsFit};
 ghost use Rattle.mpc_online.specs.Standing.{IsPosition};
 ghost use Rattle.mpc_online.specs.Answers.{position_of};
+ghost use Rattle.mpc_online.specs.Shared.{IsSlopeOf};
 ghost use Rattle.mpc_online.specs.Wholes.{AreRowsOver};
 
 use crate::moves::Iterate;
 use crate::numbers::{is_less, is_negative};
-use crate::prepared::Wholes;
-use crate::solutions::dot_of;
+use crate::prepared::{Direction, Wholes};
 use crate::tests_of_rows::excess_at;
 use mpc_frac::{Frac, Wide};
 use mpc_rows::Qp;
@@ -81,20 +81,22 @@ fn full_length(
     rows: &[Option<Wholes>],
     sides: &[Frac],
     it: &Iterate,
-    d: &[Frac],
+    direction: &Direction,
 ) -> Result<Frac, Wide>
     requires rows { AreRowsOver qp.now.g rows.now }
     requires position { IsPosition qp.now (position_of it.now) }
     requires sides { length sides.now ≡ height qp.now.g }
-    requires direction { length d.now ≡ height qp.now.h }
-    requires slope { level qp.now d.now it.now.row ≢ int (pos 0) }
-    ensures value { IfOk result (λ v. v ≡ full_length qp.now sides.now (position_of it.now) d.now) }
-    ensures wide { MatchResult result (λ _. FullFits qp.now sides.now (position_of it.now) d.now)
-        (λ _. ¬ FullFits qp.now sides.now (position_of it.now) d.now) }
+    requires direction { length direction.now.point.items ≡ height qp.now.h }
+    requires slope_is { IsSlopeOf qp.now it.now.row direction.now.point.items direction.now.slope }
+    requires slope { level qp.now direction.now.point.items it.now.row ≢ int (pos 0) }
+    ensures value { IfOk result (λ v. v ≡ full_length qp.now sides.now (position_of it.now) direction.now.point.items) }
+    ensures wide { MatchResult result (λ _. FullFits qp.now sides.now (position_of it.now) direction.now.point.items)
+        (λ _. ¬ FullFits qp.now sides.now (position_of it.now) direction.now.point.items) }
 {
-    let _rows = qp.g.rows();
     let above = excess_at(qp, rows, sides, &it.point, it.row)?;
-    let slope = dot_of(qp.g.row(it.row - 1), d)?;
+    let Some(slope) = &direction.slope else {
+        return Err(Wide);
+    };
     above.div(&slope.neg())
 }
 
@@ -104,27 +106,27 @@ pub fn turn_of(
     rows: &[Option<Wholes>],
     sides: &[Frac],
     it: &Iterate,
-    d: &[Frac],
-    e: &[Frac],
+    direction: &Direction,
 ) -> Result<Turn, Wide>
     requires rows { AreRowsOver qp.now.g rows.now }
     requires position { IsPosition qp.now (position_of it.now) }
     requires sides { length sides.now ≡ height qp.now.g }
-    requires direction { length d.now ≡ height qp.now.h }
-    requires multipliers { length e.now ≡ length it.now.set }
-    requires slope { ¬ IsZero d.now → level qp.now d.now it.now.row ≢ int (pos 0) }
-    ensures value { IfOk result (λ turn. IsTurn qp.now sides.now (position_of it.now) d.now e.now turn) }
-    ensures wide { MatchResult result (λ _. LengthsFit qp.now sides.now (position_of it.now) d.now e.now)
-        (λ _. ¬ LengthsFit qp.now sides.now (position_of it.now) d.now e.now) }
+    requires direction { length direction.now.point.items ≡ height qp.now.h }
+    requires slope_is { IsSlopeOf qp.now it.now.row direction.now.point.items direction.now.slope }
+    requires multipliers { length direction.now.multipliers.items ≡ length it.now.set }
+    requires slope { ¬ IsZero direction.now.point.items → level qp.now direction.now.point.items it.now.row ≢ int (pos 0) }
+    ensures value { IfOk result (λ turn. IsTurn qp.now sides.now (position_of it.now) direction.now.point.items direction.now.multipliers.items turn) }
+    ensures wide { MatchResult result (λ _. LengthsFit qp.now sides.now (position_of it.now) direction.now.point.items direction.now.multipliers.items)
+        (λ _. ¬ LengthsFit qp.now sides.now (position_of it.now) direction.now.point.items direction.now.multipliers.items) }
 {
-    let partial = shortest(&it.multipliers, e)?;
-    if is_zero(d) {
+    let partial = shortest(&it.multipliers, &direction.multipliers)?;
+    if is_zero(&direction.point) {
         let Some(drop) = partial else {
             return Ok(Turn::Refuted);
         };
         return Ok(Turn::Drops(drop.place, drop.length));
     }
-    let full = full_length(qp, rows, sides, it, d)?;
+    let full = full_length(qp, rows, sides, it, direction)?;
     let Some(drop) = partial else {
         return Ok(Turn::Joins(full));
     };

@@ -1,5 +1,8 @@
-use Rattle.std.proofs.Common.{◌≡◌, ◌+◌, length, ◌∙◌, arith}
+use Rattle.std.proofs.Common.{◌≡◌, ◌+◌, List, length, ◌∙◌, ap, subst, arith}
+use Rattle.mpc_exact.specs.Rational.{ℚ}
 use Rattle.mpc_space.specs.Matrix.{height}
+use Rattle.mpc_space.proofs.Entries.{length-listed}
+use Rattle.mpc_online.specs.Shared.{IsSlopeOf}
 use Rattle.mpc_online.proofs.Solved.{matrix_columns}
 use Rattle.mpc_online.proofs.Advance.{upper_is, lower_is}
 use Rattle.mpc_online.proofs.directions.found_direction.Goals as goal
@@ -14,6 +17,9 @@ part-requires-2-clause-rows c =
     let h : height c.in-Ok.x ≡ height c.args.qp.now.h + length c.args.set = c.in-Ok.ensures.only.shape.rows_are ∙ matrix_columns c.args.qp.now c.args.set in
     omega (arith, h, c.rows-2.ensures.value, c.size.ensures.value)
 
+pub slope_of-slope-requires-clause-point : goal.slope_of-slope-requires-clause-point
+slope_of-slope-requires-clause-point c = ap (λ (d : List ℚ). length d) (c.deref.ensures.value ∙ c.in_ok-point.ensures) ∙ length-listed _ _ ∙ c.rows.ensures.value
+
 pub returns-clause-direction : goal.returns-clause-direction
 returns-clause-direction c = record {
   solution = c.in-Ok.x;
@@ -21,4 +27,5 @@ returns-clause-direction c = record {
   fits = c.in-Ok.ensures.wide;
   point_is = upper_is c.args.qp.now c.in-Ok.x c.rows.result c.in_ok-point.point.items c.rows.ensures.value c.in_ok-point.ensures;
   multipliers_are = lower_is c.args.qp.now c.args.set c.in-Ok.x c.rows-2.result c.size.result c.in_ok-multipliers.multipliers.items c.rows-2.ensures.value c.size.ensures.value c.in_ok-multipliers.ensures;
+  slope_is = subst (λ (d : List ℚ). IsSlopeOf c.args.qp.now c.args.row d c.slope_of-slope.result) c.deref.ensures.value c.slope_of-slope.ensures;
 }

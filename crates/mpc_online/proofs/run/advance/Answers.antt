@@ -1,9 +1,7 @@
-use Rattle.std.proofs.Common.{◌≡◌, List, refl, ◌∙◌, subst₂, arith}
+use Rattle.std.proofs.Common.{refl, arith}
 use Rattle.std.proofs.lemmas.Result.{IfOk-weaker}
-use Rattle.mpc_exact.specs.Rational.{ℚ}
 use Rattle.mpc_online.specs.Positions.{right_matrix, step_side}
-use Rattle.mpc_online.specs.Turns.{IsTurn}
-use Rattle.mpc_online.specs.Widths.{LengthsFit, TurnFits, StepFits}
+use Rattle.mpc_online.specs.Widths.{TurnFits, StepFits}
 use Rattle.mpc_online.specs.OnlineRun.{IsStep, LeadsTo}
 use Rattle.mpc_online.specs.Shared.{IsDirectionOf}
 use Rattle.mpc_online.specs.Answers.{position_of, step_of}
@@ -11,14 +9,14 @@ use Rattle.mpc_online.proofs.Solved.{IsDirection}
 use Rattle.mpc_online.proofs.Advance.{slope_not_zero, is_direction, wide_elimination, wide_lengths, wide_turn, step_fits, step_is, stop_as, err_wide}
 use Rattle.mpc_online.proofs.Keeping.{kept_within, found_there, wide_there}
 use Rattle.mpc_online.proofs.run.advance.Goals as goal
-use Rattle.mpc_online.proofs.run.advance.Goals.{In-Some, In_ok-turn}
+use Rattle.mpc_online.proofs.run.advance.Goals.{In-Some}
 
 -- ---- the direction that is kept
 found : (c : In-Some) → IsDirectionOf c.args.qp.now c.args.it.set c.args.it.row c.in-Some.direction
 found c = found_there c.args.qp.now c.direction_place.new.prepared.directions.items c.args.it.set c.args.it.row c.in_ok-place.place c.index.result.now c.in-Some.direction c.in_ok-place.ensures.prepared.directions c.in_ok-place.ensures.place c.index.ensures c.in-Some.is
 
-dir : (c : In-Some) (d e : List ℚ) → d ≡ c.in-Some.direction.point.items → e ≡ c.in-Some.direction.multipliers.items → IsDirection c.args.qp.now c.args.it.set c.args.it.row d e
-dir c d e f g = is_direction c.args.qp.now c.args.sides.now (position_of c.args.it) (right_matrix c.args.qp.now c.args.it.set (step_side c.args.qp.now c.args.it.row)) refl (found c).solution (found c).solves d e (f ∙ (found c).point_is) (g ∙ (found c).multipliers_are)
+dir : (c : In-Some) → IsDirection c.args.qp.now c.args.it.set c.args.it.row c.in-Some.direction.point.items c.in-Some.direction.multipliers.items
+dir c = is_direction c.args.qp.now c.args.sides.now (position_of c.args.it) (right_matrix c.args.qp.now c.args.it.set (step_side c.args.qp.now c.args.it.row)) refl (found c).solution (found c).solves c.in-Some.direction.point.items c.in-Some.direction.multipliers.items (found c).point_is (found c).multipliers_are
 
 pub index-requires : goal.index-requires
 index-requires c =
@@ -33,59 +31,51 @@ returns-in_default-clause-wide c =
 
 -- ---- the turn
 pub turn_of-requires-clause-direction : goal.turn_of-requires-clause-direction
-turn_of-requires-clause-direction c = (dir (goal.at.turn_of-requires-clause-direction c).In-Some c.as_slice-d.result.now c.as_slice-e.result.now c.as_slice-d.ensures.value c.as_slice-e.ensures.value).size
+turn_of-requires-clause-direction c = (dir (goal.at.turn_of-requires-clause-direction c).In-Some).size
+
+pub turn_of-requires-clause-slope_is : goal.turn_of-requires-clause-slope_is
+turn_of-requires-clause-slope_is c = (found (goal.at.turn_of-requires-clause-slope_is c).In-Some).slope_is
 
 pub turn_of-requires-clause-multipliers : goal.turn_of-requires-clause-multipliers
-turn_of-requires-clause-multipliers c = (dir (goal.at.turn_of-requires-clause-multipliers c).In-Some c.as_slice-d.result.now c.as_slice-e.result.now c.as_slice-d.ensures.value c.as_slice-e.ensures.value).one_each
+turn_of-requires-clause-multipliers c = (dir (goal.at.turn_of-requires-clause-multipliers c).In-Some).one_each
 
 pub turn_of-requires-clause-slope : goal.turn_of-requires-clause-slope
 turn_of-requires-clause-slope c =
-    slope_not_zero c.args.qp.now c.requires.definite c.args.it.set c.args.it.row c.as_slice-d.result.now c.as_slice-e.result.now
-    (dir (goal.at.turn_of-requires-clause-slope c).In-Some c.as_slice-d.result.now c.as_slice-e.result.now c.as_slice-d.ensures.value c.as_slice-e.ensures.value)
+    slope_not_zero c.args.qp.now c.requires.definite c.args.it.set c.args.it.row c.in-Some.direction.point.items c.in-Some.direction.multipliers.items
+    (dir (goal.at.turn_of-requires-clause-slope c).In-Some)
 
 pub returns-in_err-turn-clause-wide : goal.returns-in_err-turn-clause-wide
 returns-in_err-turn-clause-wide c =
     let f = found (goal.at.returns-in_err-turn-clause-wide c).In-Some in
     err_wide c.from_residual-in_err-turn.result _ _ c.from_residual-in_err-turn.ensures.1
-    (wide_lengths c.args.qp.now c.args.sides.now (position_of c.args.it) (right_matrix c.args.qp.now c.args.it.set (step_side c.args.qp.now c.args.it.row)) refl f.solution f.solves c.as_slice-d.result.now c.as_slice-e.result.now
-    (c.as_slice-d.ensures.value ∙ f.point_is) (c.as_slice-e.ensures.value ∙ f.multipliers_are) c.in_err-turn.ensures.wide)
+    (wide_lengths c.args.qp.now c.args.sides.now (position_of c.args.it) (right_matrix c.args.qp.now c.args.it.set (step_side c.args.qp.now c.args.it.row)) refl f.solution f.solves c.in-Some.direction.point.items c.in-Some.direction.multipliers.items
+    f.point_is f.multipliers_are c.in_err-turn.ensures.wide)
 
 -- ---- what it leads to
-is_turn : (c : In_ok-turn) → IsTurn c.args.qp.now c.args.sides.now (position_of c.args.it) c.in-Some.direction.point.items c.in-Some.direction.multipliers.items c.in_ok-turn.turn
-is_turn c = subst₂ (λ (d e : List ℚ). IsTurn c.args.qp.now c.args.sides.now (position_of c.args.it) d e c.in_ok-turn.turn) c.as_slice-d.ensures.value c.as_slice-e.ensures.value c.in_ok-turn.ensures.value
-
-lengths_fit : (c : In_ok-turn) → LengthsFit c.args.qp.now c.args.sides.now (position_of c.args.it) c.in-Some.direction.point.items c.in-Some.direction.multipliers.items
-lengths_fit c = subst₂ (λ (d e : List ℚ). LengthsFit c.args.qp.now c.args.sides.now (position_of c.args.it) d e) c.as_slice-d.ensures.value c.as_slice-e.ensures.value c.in_ok-turn.ensures.wide
-
-pub take_turn-requires-clause-turn : goal.take_turn-requires-clause-turn
-take_turn-requires-clause-turn c = is_turn (goal.at.take_turn-requires-clause-turn c).In_ok-turn
-
 pub take_turn-requires-clause-direction : goal.take_turn-requires-clause-direction
-take_turn-requires-clause-direction c = (dir (goal.at.take_turn-requires-clause-direction c).In-Some c.in-Some.direction.point.items c.in-Some.direction.multipliers.items refl refl).size
+take_turn-requires-clause-direction c = (dir (goal.at.take_turn-requires-clause-direction c).In-Some).size
 
 pub take_turn-requires-clause-multipliers : goal.take_turn-requires-clause-multipliers
-take_turn-requires-clause-multipliers c = (dir (goal.at.take_turn-requires-clause-multipliers c).In-Some c.in-Some.direction.point.items c.in-Some.direction.multipliers.items refl refl).one_each
+take_turn-requires-clause-multipliers c = (dir (goal.at.take_turn-requires-clause-multipliers c).In-Some).one_each
 
 pub returns-clause-steps : goal.returns-clause-steps
 returns-clause-steps c =
-    let at = (goal.at.returns-clause-steps c).In_ok-turn in
     let f = found (goal.at.returns-clause-steps c).In-Some in
     IfOk-weaker c.take_turn.result
     (λ n. LeadsTo c.args.qp.now c.args.sides.now (position_of c.args.it) c.in-Some.direction.point.items c.in-Some.direction.multipliers.items c.in_ok-turn.turn (step_of n))
     (λ n. IsStep c.args.qp.now c.args.sides.now (position_of c.args.it) (step_of n))
     (λ n h. step_is c.args.qp.now c.args.sides.now (position_of c.args.it) (right_matrix c.args.qp.now c.args.it.set (step_side c.args.qp.now c.args.it.row)) refl f.solution f.solves c.in-Some.direction.point.items c.in-Some.direction.multipliers.items
-    f.point_is f.multipliers_are c.in_ok-turn.turn (is_turn at) (step_of n) h)
+    f.point_is f.multipliers_are c.in_ok-turn.turn c.in_ok-turn.ensures.value (step_of n) h)
     c.take_turn.ensures.leads
 
 pub returns-clause-wide : goal.returns-clause-wide
 returns-clause-wide c =
-    let at = (goal.at.returns-clause-wide c).In_ok-turn in
     let f = found (goal.at.returns-clause-wide c).In-Some in
     stop_as c.take_turn.result
     (TurnFits c.args.qp.now c.args.sides.now (position_of c.args.it) c.in-Some.direction.point.items c.in-Some.direction.multipliers.items c.in_ok-turn.turn)
     (StepFits c.args.qp.now c.args.sides.now (position_of c.args.it))
     (step_fits c.args.qp.now c.args.sides.now (position_of c.args.it) (right_matrix c.args.qp.now c.args.it.set (step_side c.args.qp.now c.args.it.row)) refl f.solution f.solves c.in-Some.direction.point.items c.in-Some.direction.multipliers.items
-    f.point_is f.multipliers_are f.fits (lengths_fit at) c.in_ok-turn.turn (is_turn at))
+    f.point_is f.multipliers_are f.fits c.in_ok-turn.ensures.wide c.in_ok-turn.turn c.in_ok-turn.ensures.value)
     (wide_turn c.args.qp.now c.args.sides.now (position_of c.args.it) (right_matrix c.args.qp.now c.args.it.set (step_side c.args.qp.now c.args.it.row)) refl f.solution f.solves c.in-Some.direction.point.items c.in-Some.direction.multipliers.items
-    f.point_is f.multipliers_are c.in_ok-turn.turn (is_turn at))
+    f.point_is f.multipliers_are c.in_ok-turn.turn c.in_ok-turn.ensures.value)
     c.take_turn.ensures.wide
