@@ -9,7 +9,7 @@ use Rattle.std.proofs.lemmas.Int.Digits.{digits_of_step, digits_value_push, digi
 use Rattle.std.proofs.lemmas.List.{map-append}
 use Rattle.std.proofs.lemmas.Fmt.{decimal_by_steps_wide}
 use Rattle.std.proofs.lemmas.Str.{digit_value_digit}
-use Rattle.std.proofs.lemmas.Str.Parse.{digit_from_value, digit_at, digits_value-take-le, IsDigitsTest, IsNumeralModel, numerals_by_value}
+use Rattle.std.proofs.lemmas.Str.Parse.{digit_from_value, digit_at, digits_value-take-le, digits_value_short, IsDigitsTest, IsNumeralModel, numerals_by_value}
 use Rattle.std.proofs.lemmas.Bool.{cases_lt, lt-ltb, eqb-true, eqb-false, ne_eqb, false≢true, and_from, and_parts, cond-false}
 use Rattle.std.proofs.lemmas.List.Elements.{All-nil, All-cons}
 use Rattle.mpc_words.specs.Numerals.{numeral, is_numeral}
@@ -202,6 +202,13 @@ module _ (ds : List ℕ) (i : ℕ) (here : i < length ds) (h : AllDigits 10 ds) 
       let at : digit_value (get_or ds i 0) + 48 ≡ get_or ds i 0 = digit_value_digit (get_or ds i 0) (digit_at ds i h here) in
       let same : digit ≡ digit_value (get_or ds i 0) = omega (arith, at) in
       (λ j. e j * 10 + same j) ∙ sym (digits_value_more 10 ds i here)
+
+  pub next_short : (value digit : ℕ) → value ≡ digits_value 10 (take i ds) → digit ≡ get_or ds i 0 - 48 → length ds ≤ 19 → value * 10 + digit < 2 ^ 64
+  next_short value digit e d few =
+      let up : digits_value 10 (take (i + 1) ds) ≤ digits_value 10 ds = digits_value-take-le 10 ds (i + 1) (lit≤ tt) in
+      let low : digits_value 10 ds < 10 ^ 19 = digits_value_short digits_by_test ds 19 (digits_by_test.from ds h) few in
+      let at = next_value value digit e d in
+      omega arith
 
   pub too_large : (value : ℕ) → value ≡ digits_value 10 (take i ds) → 170141183460469231731687303715884105727 / 10 < value → digits_value 10 ds < 2 ^ 127 → ⊥
   too_large value e large small =

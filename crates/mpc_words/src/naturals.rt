@@ -1,6 +1,6 @@
 //! Natural numbers.
 
-ghost use Rattle.std.specs.Prelude.{◌≡◌, ℕ, ◌^◌, ◌<◌, ◌≤◌, MatchOption};
+ghost use Rattle.std.specs.Prelude.{◌≡◌, ℕ, ◌^◌, ◌<◌, ◌≤◌, length, MatchOption};
 ghost use Rattle.std.specs.Option.{SomeIff};
 ghost use Rattle.std.specs.List.{list_all};
 ghost use Rattle.std.specs.Char.{is_ascii_digit};
@@ -22,6 +22,9 @@ pub enum Natural {
 /// The largest number of a part of a fraction.
 const LARGEST: u128 = i128::MAX as u128;
 
+/// Whatever so many digits are, 64 bits hold their number.
+const SHORT: usize = 19;
+
 /// Is each byte a digit?
 fn are_digits(text: &[u8]) -> bool
     ensures { result ≡ list_all is_ascii_digit text.now }
@@ -42,17 +45,31 @@ fn is_numeral(word: &[u8]) -> bool
     are_digits(word)
 }
 
+/// The number that so few digits stand for, which 64 bits hold whatever they are.
+fn short_value(digits: &[u8]) -> u64
+    requires digits { AllDigits 10 digits.now }
+    requires few { length digits.now ≤ 19 }
+    ensures { result ≡ digits_value 10 digits.now }
+{
+    let mut value: u64 = 0;
+    for digit in digits {
+        value = value * 10 + u64::from(*digit - b'0');
+    }
+    value
+}
+
 /// The number that digits stand for, if it is below 2^127.
 fn small_value(digits: &[u8]) -> Option<u128>
     requires { AllDigits 10 digits.now }
     ensures { SomeIff result (digits_value 10 digits.now < 2 ^ 127) (digits_value 10 digits.now) }
 {
-    let mut value: u128 = 0;
-    for digit in digits {
+    let short = digits.len().min(SHORT);
+    let mut value = u128::from(short_value(&digits[..short]));
+    for place in short..digits.len() {
         if value > LARGEST / 10 {
             return None;
         }
-        let next = value * 10 + u128::from(*digit - b'0');
+        let next = value * 10 + u128::from(digits[place] - b'0');
         if next > LARGEST {
             return None;
         }
