@@ -14,5 +14,5 @@ pub use errors::{FileError, FileKind};
 pub use line_theorems::{one_fractions, one_integers, one_number, word_theorems};
 pub use lines::{Lines, stated};
 pub use plant_parts::{Dynamics, Limits, Offsets, Sizes, Weights};
-pub use spelling::{fractions_of, integers_of, number_of};
+pub use spelling::{fractions_into, fractions_of, integers_of, number_of};
 pub use versions::Version;

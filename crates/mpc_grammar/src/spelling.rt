@@ -1,6 +1,6 @@
 //! The numbers that the words of a line spell behind its first word.
 
-ghost use Rattle.std.specs.Prelude.{◌≡◌, ◌≢◌, List, ℕ, ℤ, ◌∷◌, ◌++◌, MatchOption, IfOk};
+ghost use Rattle.std.specs.Prelude.{◌≡◌, ◌≢◌, List, ℕ, ℤ, [], ◌∷◌, ◌++◌, MatchOption, IfOk};
 ghost use Rattle.mpc_exact.specs.Rational.{ℚ};
 ghost use Rattle.mpc_words.specs.Words.{line};
 ghost use Rattle.mpc_grammar.specs.Spelling.{AreFractions, AreIntegers, IsOneNumber, IsOneCount};
@@ -33,9 +33,14 @@ fn words_behind<'a>(text: &'a [u8], name: &[u8]) -> Option<Option<&'a [u8]>>
     }
 }
 
-/// The fractions behind the word `name`, if the line is this word and fractions in lowest terms, each
-/// behind one blank.
-pub fn fractions_of(alloc: Global, text: &[u8], name: &[u8]) -> Result<Option<Vector>, NoMemory>
+/// The fractions behind the word `name`, put into a list without entries, if the line is this word and
+/// fractions in lowest terms, each behind one blank.
+pub fn fractions_into(
+    mut fractions: Vector,
+    text: &[u8],
+    name: &[u8],
+) -> Result<Option<Vector>, NoMemory>
+    requires { fractions ≡ [] }
     ensures { IfOk result (λ found. MatchOption found
         ((xs : List ℚ) → ¬ AreFractions name.now text.now xs)
         (λ xs. AreFractions name.now text.now xs)) }
@@ -45,7 +50,6 @@ pub fn fractions_of(alloc: Global, text: &[u8], name: &[u8]) -> Result<Option<Ve
     let Some(mut rest) = words_behind(text, name) else {
         return Ok(None);
     };
-    let mut fractions = Vector::new(alloc);
     while let Some(words) = rest {
         let (word, behind) = split_word(words);
         let Some(fraction) = read_fraction(word) else {
@@ -55,6 +59,16 @@ pub fn fractions_of(alloc: Global, text: &[u8], name: &[u8]) -> Result<Option<Ve
         rest = behind;
     }
     Ok(Some(fractions))
+}
+
+/// The fractions behind the word `name`, if the line is this word and fractions in lowest terms, each
+/// behind one blank.
+pub fn fractions_of(alloc: Global, text: &[u8], name: &[u8]) -> Result<Option<Vector>, NoMemory>
+    ensures { IfOk result (λ found. MatchOption found
+        ((xs : List ℚ) → ¬ AreFractions name.now text.now xs)
+        (λ xs. AreFractions name.now text.now xs)) }
+{
+    fractions_into(Vector::new(alloc), text, name)
 }
 
 /// The whole numbers behind the word `name`, if the line is this word and whole numbers, each behind one

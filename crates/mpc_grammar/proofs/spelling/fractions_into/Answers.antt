@@ -2,12 +2,12 @@ use Rattle.std.proofs.Common.{sym, subst}
 use Rattle.mpc_frac.specs.Fits.{FitsFrac}
 use Rattle.mpc_frac.specs.Text.{text_of as fraction_text}
 use Rattle.mpc_grammar.proofs.SpellingLemmas.{IsReadTo, start_read, refused, less_left, more_words, all_words}
-use Rattle.mpc_grammar.proofs.spelling.fractions_of.Goals as goal
+use Rattle.mpc_grammar.proofs.spelling.fractions_into.Goals as goal
 
 pub loop-rest-init : goal.loop-rest-init
 loop-rest-init c =
     let start = start_read fraction_text FitsFrac c.args.name.now c.args.text.now c.in-Some.rest c.in-Some.ensures in
-    subst (IsReadTo fraction_text FitsFrac c.args.name.now c.args.text.now c.in-Some.rest) (sym c.new-fractions.ensures) start
+    subst (IsReadTo fraction_text FitsFrac c.args.name.now c.args.text.now c.in-Some.rest) (sym c.requires) start
 
 -- the word is none of these
 pub returns-in_default-read_fraction : goal.returns-in_default-read_fraction
