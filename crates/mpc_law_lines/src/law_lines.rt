@@ -15,8 +15,8 @@ use crate::forms::{Forms, matrix_of};
 use mpc_controller::{form_fits, limits};
 use mpc_frac::NoMemory;
 use mpc_grammar::{
-    FileError, FileKind, Lines, fractions_of, integers_of, number_of, one_fractions, one_integers,
-    one_number, stated,
+    FileError, FileKind, Lines, fractions_into, integers_of, number_of, one_fractions,
+    one_integers, one_number, stated,
 };
 use mpc_linear::Vector;
 use mpc_plant::Plant;
@@ -106,10 +106,12 @@ pub fn form_in(alloc: Global, text: &[u8], name: &[u8], n: u32) -> Result<Option
         (λ form. AreNumbers name.now (n + 1) text.now form)) }
 {
     one_fractions();
-    let Some(form) = fractions_of(alloc, text, name)? else {
+    let size = n as usize + 1;
+    let room = Vector::with_capacity(alloc, size)?;
+    let Some(form) = fractions_into(room, text, name)? else {
         return Ok(None);
     };
-    if form.len() != n as usize + 1 {
+    if form.len() != size {
         return Ok(None);
     }
     Ok(Some(form))

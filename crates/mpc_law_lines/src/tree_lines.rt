@@ -15,14 +15,17 @@ use crate::tree_depths::Depths;
 use mpc_controller::{limits, split_fits};
 use mpc_frac::{Frac, NoMemory};
 use mpc_grammar::{
-    FileError, FileKind, Lines, fractions_of, integers_of, number_of, one_fractions, one_integers,
-    stated,
+    FileError, FileKind, Lines, fractions_into, integers_of, number_of, one_fractions,
+    one_integers, stated,
 };
-use mpc_linear::{Ints, RowInt, shared_divisor};
+use mpc_linear::{Ints, RowInt, Vector, shared_divisor};
 use mpc_plant::Plant;
 use mpc_rows::{Cert, Certs, Node, Tree};
 use mpc_words::Natural;
 use std::alloc::Global;
+
+/// The parts of most certificates fit into room for so many, so that it needn't grow.
+const ROOM: usize = 16;
 
 /// What a line is as that of a plane.
 #[derive(Drop)]
@@ -73,7 +76,7 @@ fn cert_of(alloc: Global, parts: &[Frac], rows: u64) -> Result<Option<Cert>, NoM
     ensures parts { IfOk result (λ found. MatchOption found (Unit {0})
         (λ c. parts.now ≡ flat_map pair_fractions c)) }
 {
-    let mut cert = Cert::new(alloc);
+    let mut cert = Cert::with_capacity(alloc, parts.len() / 2)?;
     let mut last = 0;
     let mut left = parts;
     while let [position, multiplier, rest @ ..] = left {
@@ -101,7 +104,8 @@ fn cert_in(alloc: Global, text: &[u8], rows: u64) -> Result<Option<Cert>, NoMemo
         (λ c. IsCertLine rows text.now c)) }
 {
     one_fractions();
-    match fractions_of(alloc, text, b"cert")? {
+    let room = Vector::with_capacity(alloc, ROOM)?;
+    match fractions_into(room, text, b"cert")? {
         Some(parts) => cert_of(alloc, parts.as_slice(), rows),
         None => Ok(None),
     }
@@ -120,7 +124,7 @@ fn read_cert(alloc: Global, lines: &mut Lines, rows: u64) -> Result<Cert, FileEr
 fn read_certs(alloc: Global, lines: &mut Lines, rows: u64, count: u64) -> Result<Certs, FileError>
     ensures { Outcome (certs rows count) lines.old lines.new result }
 {
-    let mut read = Certs::new(alloc);
+    let mut read = Certs::with_capacity(alloc, count as usize)?;
     for _i in 0..count {
         let cert = read_cert(alloc, lines, rows)?;
         read.push(cert)?;
@@ -132,7 +136,7 @@ fn read_certs(alloc: Global, lines: &mut Lines, rows: u64, count: u64) -> Result
 pub(crate) fn ints_of(alloc: Global, integers: &[i128]) -> Result<Ints, NoMemory>
     ensures { IfOk result (λ list. list ≡ integers.now) }
 {
-    let mut list = Ints::new(alloc);
+    let mut list = Ints::with_capacity(alloc, integers.len())?;
     for integer in integers {
         list.push(*integer)?;
     }

@@ -5,7 +5,7 @@ use Rattle.mpc_law_lines.proofs.tree_lines.cert_of.Goals.{In_ok-push}
 use Rattle.mpc_law_lines.proofs.tree_lines.cert_of.Goals as goal
 
 pub loop-left-init : goal.loop-left-init
-loop-left-init c = no_pair c.args.rows c.args.parts.now c.new-cert.result c.new-cert.ensures
+loop-left-init c = no_pair c.args.rows c.args.parts.now c.in_ok-cert.cert c.in_ok-cert.ensures.empty
 
 pub returns-in_default-position_of-clause-is_cert : goal.returns-in_default-position_of-clause-is_cert
 returns-in_default-position_of-clause-is_cert c =

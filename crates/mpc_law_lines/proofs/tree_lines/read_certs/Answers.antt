@@ -10,8 +10,8 @@ use Rattle.mpc_law_lines.proofs.tree_lines.read_certs.Goals as goal
 pub loop-i-init : goal.loop-i-init
 loop-i-init c =
     record {
-      so_many = ap length c.new-read.ensures;
-      reads = subst (λ items. ReadsItems (List (ℕ × ℚ)) (λ before. one_line (plain_rule (IsCertLine c.args.rows))) (λ before. nat_lt (length before) c.args.count) c.args.lines.now items c.args.lines.now) (sym c.new-read.ensures) no_item;
+      so_many = ap length c.in_ok-read.ensures.empty;
+      reads = subst (λ items. ReadsItems (List (ℕ × ℚ)) (λ before. one_line (plain_rule (IsCertLine c.args.rows))) (λ before. nat_lt (length before) c.args.count) c.args.lines.now items c.args.lines.now) (sym c.in_ok-read.ensures.empty) no_item;
     }
 
 pub loop-i-preserved : goal.loop-i-preserved
