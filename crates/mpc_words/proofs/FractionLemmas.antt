@@ -3,7 +3,9 @@ use Rattle.std.proofs.Common.{◌≡◌, ◌≢◌, ℕ, zero, suc, ◌^◌, ◌
 use Rattle.std.specs.Fmt.{signed_decimal}
 use Rattle.std.proofs.lemmas.Bool.{eq-eqb, ne_eqb, cond-true, cond-false, cases_eq}
 use Rattle.std.proofs.lemmas.List.Elements.{All-append, All-cons}
-use Rattle.mpc_exact.specs.Rational.{ℚ, quotient, frac_self, denom_positive, same_parts}
+use native.Mathlib.Nat.{eq-one_of_dvd-one}
+use Rattle.mpc_exact.specs.Gcd.{gcd-divides_right}
+use Rattle.mpc_exact.specs.Rational.{ℚ, int, quotient, frac_parts, frac_self, denom_positive, same_parts}
 use Rattle.mpc_exact.proofs.School.{quotient_positive}
 use Rattle.mpc_frac.specs.Fits.{FitsFrac}
 use Rattle.mpc_frac.specs.Text.{text_of}
@@ -36,6 +38,11 @@ parts_as x num den num' den' e k h = record { numer_is = h.numer_is ∙ sym e; d
 
 pub other_parts : (x y : ℚ) (num den : ℤ) → y ≡ quotient num den → ¬ HasParts y num den → ¬ HasParts x num den
 other_parts x y num den e apart h = apart (subst (λ z. HasParts z num den) (sym (e ∙ quotient_at x num den h)) h)
+
+pub parts_of_whole : (z : ℤ) (x : ℚ) → x ≡ int z → HasParts x z (pos 1)
+parts_of_whole z x e =
+    let parts = frac_parts z 1 (lit< tt) (eq-one_of_dvd-one (gcd-divides_right (unsigned_abs z) 1)) in
+    subst (λ y. HasParts y z (pos 1)) (sym e) (record { numer_is = parts.0; denom_is = ap pos parts.1 })
 
 -- ---- the two forms of a text
 text_whole : (x : ℚ) → x.denom ≡ 1 → text_of x ≡ signed_decimal x.numer

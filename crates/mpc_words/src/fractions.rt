@@ -1,6 +1,6 @@
 //! Fractions.
 
-ghost use Rattle.std.specs.Prelude.{MatchOption, MatchBool};
+ghost use Rattle.std.specs.Prelude.{pos, MatchOption, MatchBool};
 ghost use Rattle.mpc_exact.specs.Rational.{ℚ};
 ghost use Rattle.mpc_frac.specs.Fits.{FitsFrac};
 ghost use Rattle.mpc_words.specs.Spelled.{SpellsFraction, SpellsRatio, SpellsWhole, HasParts};
@@ -32,13 +32,23 @@ fn lowest(num: i128, den: i128) -> Option<Frac>
     }
 }
 
+/// The whole number, if it fits: in 64 bits it does, and is in lowest terms.
+fn whole(num: i128) -> Option<Frac>
+    ensures { MatchOption result ((x : ℚ) → FitsFrac x → ¬ HasParts x num (pos 1)) (λ x. HasParts x num (pos 1)) }
+{
+    match i64::try_from(num) {
+        Ok(short) => Some(Frac::whole(short)),
+        Err(_) => lowest(num, 1),
+    }
+}
+
 /// The whole number that a word is.
 fn read_whole(word: &[u8]) -> Option<Frac>
     ensures { MatchOption result ((x : ℚ) → ¬ SpellsWhole word.now x)
         (λ x. SpellsWhole word.now x) }
 {
     let num = read_integer(word)?;
-    lowest(num, 1)
+    whole(num)
 }
 
 /// The fraction with a denominator above 1 whose parts two words are.
