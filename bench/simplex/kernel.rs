@@ -307,15 +307,21 @@ impl<'a> Run<'a> {
     }
 
     /// What the numbers of the position are multiplied by where side i leaves and the column e is entered.
-    fn factors(&self, i: usize, e: usize) -> Option<Factors> {
+    fn factors(&self, i: usize, e: usize) -> Factors {
         let mut by = Factors { column: e, top: self.rows.scale(self.rows.width + i), size: 0 };
         for (y, column) in self.columns.iter().enumerate() {
             let Some(c) = *column else { continue };
             let product = size(self.row[c]) * self.rows.scale(y);
             if c == e { by.size = product } else { by.top = by.top.max(product) }
         }
-        let times = |x: u128| x.checked_mul(size(self.divisor));
-        Some(Factors { top: times(by.top)?, size: times(by.size)?, ..by })
+        by
+    }
+
+    /// The product that is kept of a position where side i leaves: of its greatest number or denominator and the greatest of the whole row.
+    fn kept_product(&self, i: usize, by: Factors) -> Option<u128> {
+        let den = size(self.den) * self.rows.scale(self.rows.width + i);
+        let most = by.top.max(by.size).checked_mul(size(self.divisor))?;
+        greatest(&self.v).max(size(self.den)).checked_mul(most.max(den))
     }
 
     /// If the numbers of all rows, and the denominator, leave room for products with numbers of such sizes.
@@ -390,7 +396,9 @@ impl<'a> Run<'a> {
         let Some((y, c)) = self.entering() else {
             return self.judge(Factors::default()).map(|()| Found::Refuted(i));
         };
-        self.judge(self.factors(i, c)?)?;
+        let by = self.factors(i, c);
+        self.judge(by)?;
+        self.kept_product(i, by)?;
         self.reduce(c)?;
         self.exchange(i, y, c);
         self.stand()?;

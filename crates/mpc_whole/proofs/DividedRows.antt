@@ -97,7 +97,7 @@ within_divided n seats k l e g x row top size more t columns w = record {
     abs c h = ap unsigned_abs (t.each c h) ∙ unsigned_abs-mul (whole_at x c) (pos g)
 
 -- ---- its coefficients
-crossed : (x g y r l : ℤ) → ((x *ℤ g) *ℤ y) *ℤ (r *ℤ l) ≡ (x *ℤ y) *ℤ ((g *ℤ r) *ℤ l)
+pub crossed : (x g y r l : ℤ) → ((x *ℤ g) *ℤ y) *ℤ (r *ℤ l) ≡ (x *ℤ y) *ℤ ((g *ℤ r) *ℤ l)
 crossed x g y r l = by_ring_ℤ (x ∷ g ∷ y ∷ r ∷ l ∷ []) (search int_reads depth 30) (search int_reads depth 30) tt
 
 pub rest_some : (g rest den : ℕ) → g * rest ≡ den → 0 < den → 0 < rest

@@ -13,11 +13,12 @@ use Rattle.mpc_whole.specs.Table.{seat_at, IsSeated}
 use Rattle.mpc_whole.specs.Norms.{Over}
 use Rattle.mpc_whole.specs.Moved.{AreFormed}
 use Rattle.mpc_whole.specs.Underway.{turn_of, HasEnded}
-use Rattle.mpc_whole.specs.Judged.{IsJudged, IsRowWithin, IsReducedPivot, IsMildForm, AreMildBefore, IsMildlyUnderway}
+use Rattle.mpc_whole.specs.Judged.{IsJudged, IsRowWithin, IsDividedRow, IsReducedPivot, IsMildForm, AreMildBefore, IsMildlyUnderway}
 use Rattle.mpc_whole.specs.Whole.{whole_at, scale_at, IsSmall, IsWholeSystem, IsSideRow}
 use Rattle.mpc_whole.proofs.Positions.{tableau}
 use Rattle.mpc_whole.proofs.Turn.{Leaves, turn-at}
-use Rattle.mpc_whole.proofs.WholeForm.{IsLeavingRow, side_over, judged_over}
+use Rattle.mpc_whole.proofs.DividedRows.{times_row, times_is, side_of_divided, within_divided}
+use Rattle.mpc_whole.proofs.WholeForm.{IsLeavingRow, side_over, divided_over, judged_over, judged_divided}
 use Rattle.mpc_whole.proofs.WholeSizes.{wider_form, small_form}
 use Rattle.mpc_whole.proofs.Standing.{reached_of, point_here, is_at_end, has_ended, leaves_here, refuted_here, goes_here, next_form, next_underway}
 
@@ -74,8 +75,18 @@ module _ (s : LinearSystem) (n : ℕ) (seats : List Seat) (seated : IsSeated (he
       pub mild_refuted : AreMildBefore s k (steps s) most most_den product
       mild_refuted = mild_end (Refuted l) (refuted_here s n seats seated k d v a b w u.underway.stands l e o) refl
 
-    -- ---- a pivot, where f enters
-    module _ (f : ℕ) (o : Some f ≡ least (may_enter s here l) n) (x : List ℤ) (row : IsSideRow s a v (l - s.width) x) (same : f ≡ f₀) (h : IsRowWithin n seats k l f x top size) (most_top : ℕ) (top_within : top ≤ most_top) (size_within : size ≤ most_top) (den_within : d * scale_at k l ≤ most_top) where
+    -- ---- a pivot, where f enters and the row that leaves is over a divisor
+    module _ (f : ℕ) (o : Some f ≡ least (may_enter s here l) n) (divisor left : ℕ) (part : List ℤ) (parted : IsDividedRow s a v (l - s.width) d divisor left part) (same : f ≡ f₀) (h : IsRowWithin n seats k l f part top size)
+        (most_top : ℕ) (top_within : top * divisor ≤ most_top) (size_within : size * divisor ≤ most_top) (den_within : d * scale_at k l ≤ most_top) where
+      abbrev x : List ℤ
+      x = times_row divisor part
+
+      row : IsSideRow s a v (l - s.width) x
+      row = side_of_divided s a v (l - s.width) d divisor left part parted
+
+      row_within : IsRowWithin n seats k l f x (top * divisor) (size * divisor)
+      row_within = within_divided n seats k l f divisor part x top size parted.some (times_is divisor part) (λ y c q e. subst (λ m. c < m) (sym parted.size) (seated.columns y c q e).0) h
+
       goes : turn s here ≡ goes_on l f
       goes = goes_here s n seats seated k d v a b w u.underway.stands l e f o
 
@@ -91,16 +102,25 @@ module _ (s : LinearSystem) (n : ℕ) (seats : List Seat) (seated : IsSeated (he
           (side_over s here (reached_of s n seats k d v u.underway.stands) k a b w n (sym seated.count) seats d v u.underway.stands.form (l - s.width) m y (omega arith)
           (λ c q e. subst (λ z. unsigned_abs z * scale_at k y ≤ m) (row.cells c (seated.columns y c q e).0) (within c q e)) below)
 
+      part_there : (m y : ℕ) → ((c : ℕ) → y < n → seat_at seats y ≡ Column c → unsigned_abs (whole_at part c) * scale_at k y ≤ m) → y < count s → Over (left * scale_at k l) m (here.coefficient l y)
+      part_there m y within below =
+          let h₁ : l < count s = leaves.below in
+          let h₂ : s.width ≤ l = leaves.violated.side in
+          let back : s.width + (l - s.width) ≡ l = omega arith in
+          subst (λ i. Over (left * scale_at k i) m (here.coefficient i y)) back
+          (divided_over s here (reached_of s n seats k d v u.underway.stands) k a b w n (sym seated.count) seats d v u.underway.stands.form (l - s.width) divisor left part parted m y (omega arith)
+          (λ c q e. ((seated.columns y c q e).0, within c q e)) below)
+
       -- each number of the row is below the greater of the two
       any_within : (y c : ℕ) → y < n → seat_at seats y ≡ Column c → (y ≡ f) ⊎ (y ≡ f → ⊥) → unsigned_abs (whole_at x c) * scale_at k y ≤ most_top
-      any_within y c q e (inl o) = le_trans (h.entering y c q e o) size_within
-      any_within y c q e (inr o) = le_trans (h.others y c q e o) top_within
+      any_within y c q e (inl o) = le_trans (row_within.entering y c q e o) size_within
+      any_within y c q e (inr o) = le_trans (row_within.others y c q e o) top_within
 
-      leaving_row : IsLeavingRow s here k d f₀ top size l f
+      leaving_row : IsLeavingRow s here k left f₀ top size l f
       leaving_row = record {
         entering = same;
-        pivot = row_there size f (λ c q e. h.entering f c q e refl) (turn-at s here (goes_on l f) goes).below;
-        others = λ y below apart. row_there top y (λ c q e. h.others y c q e apart) below;
+        pivot = part_there size f (λ c q e. h.entering f c q e refl) (turn-at s here (goes_on l f) goes).below;
+        others = λ y below apart. part_there top y (λ c q e. h.others y c q e apart) below;
         own = h.own;
       }
 
@@ -119,8 +139,8 @@ module _ (s : LinearSystem) (n : ℕ) (seats : List Seat) (seated : IsSeated (he
 
       fits_here : PositionFits s here
       fits_here =
-          judged_over s here (reached_of s n seats k d v u.underway.stands) k a b w n (sym seated.count) seats d v u.underway.stands.form f₀ top size small g
-          (λ m i q. subst₂ (λ y z. IsLeavingRow s here k d f₀ top size y z) (same_side m i q) (same_entering m i q) leaving_row)
+          judged_divided s here (reached_of s n seats k d v u.underway.stands) k a b w n (sym seated.count) seats d v u.underway.stands.form f₀ top size small g divisor left parted.split
+          (λ m i q. subst₂ (λ y z. IsLeavingRow s here k left f₀ top size y z) (same_side m i q) (same_entering m i q) leaving_row)
 
       mild_here : (more more_den more_product own : ℕ) → IsSmall more v → d ≤ more_den → IsSmall own v → d ≤ own → own * most_top ≤ more_product → IsMildForm s k here more more_den more_product
       mild_here more more_den more_product own small_v den_small own_v own_den room = record {

@@ -8,8 +8,9 @@ use Rattle.mpc_whole.specs.declared.variables.Seat.TheVariants.{Column}
 use Rattle.mpc_whole.specs.Table.{seat_at, in_row, IsSeated}
 use Rattle.mpc_whole.specs.Lists.{AreListsOf}
 use Rattle.mpc_whole.specs.Moved.{AreFormed}
-use Rattle.mpc_whole.specs.Judged.{IsJudged, IsRowWithin, IsReducedPivot, IsMildlyUnderway, IsGoingOn}
-use Rattle.mpc_whole.specs.Whole.{scale_at, IsSmall, IsWholeSystem, IsSideRow, IsSwapped}
+use Rattle.mpc_whole.specs.Judged.{IsJudged, IsRowWithin, IsDividedRow, IsReducedPivot, IsMildlyUnderway, IsGoingOn}
+use Rattle.mpc_whole.specs.Whole.{scale_at, IsSmall, IsWholeSystem, IsSwapped}
+use Rattle.mpc_whole.proofs.DividedRows.{times_row}
 use Rattle.mpc_whole.proofs.Seats.{row_seat}
 use Rattle.mpc_whole.proofs.Standing.{leaves_here, leaving_in, leaving_seat, entering_in, entering_seat, next_seated}
 use Rattle.mpc_whole.proofs.JudgedRun.{next_mildly}
@@ -38,13 +39,13 @@ module _ {s : LinearSystem} {k : List ℕ} {a b : List ℤ} {own : ℕ} {r : Run
         subst (λ (t : List Seat). IsSeated (height s) s.width (count s) t) (sym (swapped.seats rs.0 c₀ rs.1 sf))
         (next_seated s (count s) r.seats.items lists.seated k d r.v.items a b w g.underway.underway.stands l g.leaves e g.enters rs.0 c₀ rs.1 sf)
 
-    pub mildly_after : (top size : ℕ) → d ≤ 2 ^ 62 → IsJudged s (count s) r.seats.items k a b d r.v.items e top size → (x : List ℤ) → IsSideRow s a r.v.items (l - s.width) x → IsRowWithin (count s) r.seats.items k l e x top size → (most_top : ℕ) → top ≤ most_top → size ≤ most_top → d * scale_at k l ≤ most_top
-        → (new : List ℤ) (size : ℕ) → IsReducedPivot s.width d r.v.items new x c₀ size → (n_1 n_2 : List ℤ) → AreFormed s (count s) seats k b new n_1 n_2
+    pub mildly_after : (top size : ℕ) → d ≤ 2 ^ 62 → IsJudged s (count s) r.seats.items k a b d r.v.items e top size → (divisor left : ℕ) (x : List ℤ) → IsDividedRow s a r.v.items (l - s.width) d divisor left x → IsRowWithin (count s) r.seats.items k l e x top size
+        → (most_top : ℕ) → top * divisor ≤ most_top → size * divisor ≤ most_top → d * scale_at k l ≤ most_top → (new : List ℤ) (size : ℕ) → IsReducedPivot s.width d r.v.items new (times_row divisor x) c₀ size → (n_1 n_2 : List ℤ) → AreFormed s (count s) seats k b new n_1 n_2
         → (least more more_den more_product : ℕ) → most ≤ more → most_den ≤ more_den → product ≤ more_product → IsSmall more r.v.items → d ≤ more_den → IsSmall least r.v.items → d ≤ least → least * most_top ≤ more_product
         → IsMildlyUnderway s (count s) seats k size new n_1 n_2 more more_den more_product s.width
-    mildly_after top over small judged x row within most_top top_within size_within den_within new size piv n_1 n_2 formed least more more_den more_product wide wide_den wide_product small_v den_small own_v own_den room =
+    mildly_after top over small judged divisor left x row within most_top top_within size_within den_within new size piv n_1 n_2 formed least more more_den more_product wide wide_den wide_product small_v den_small own_v own_den room =
         let rs = row_seat (seat_at r.seats.items l) leaver_seat in
         let stand = swapped.seats rs.0 c₀ rs.1 sf in
         subst (λ (t : List Seat). IsMildlyUnderway s (count s) t k size new n_1 n_2 more more_den more_product s.width) (sym stand)
-        (next_mildly s (count s) r.seats.items lists.seated k d r.v.items a b w r.firsts.items r.seconds.items most most_den product first g.underway small e top over judged l g.leaves e g.enters x row refl within most_top top_within size_within den_within rs.0 c₀ rs.1 sf new size piv n_1 n_2
+        (next_mildly s (count s) r.seats.items lists.seated k d r.v.items a b w r.firsts.items r.seconds.items most most_den product first g.underway small e top over judged l g.leaves e g.enters divisor left x row refl within most_top top_within size_within den_within rs.0 c₀ rs.1 sf new size piv n_1 n_2
         (subst (λ (t : List Seat). AreFormed s (count s) t k b new n_1 n_2) stand formed) least more more_den more_product wide wide_den wide_product small_v den_small own_v own_den room)

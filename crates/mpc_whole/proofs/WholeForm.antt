@@ -1,9 +1,10 @@
 -- The rows of the sides at a position of the run, from those of the unknowns, and the sizes of all numbers there.
 use Rattle.std.proofs.Common.{◌≡◌, ℕ, ◌+◌, ◌-◌, ◌*◌, ◌/◌, ◌^◌, ◌<◌, ◌≤◌, true, false, List, ℤ, pos, negsuc, ◌*ℤ◌, unsigned_abs, cond, Bool, refl, sym, ◌∙◌, ap, subst, arith, ◌⊎◌, inl, inr, le_trans, lt-ltb, mul-pos, mul-le-mul_right, mul-le-mul_left}
 use Rattle.std.proofs.lemmas.Bool.{both_ways, cases_Bool, cases_lt}
+use Rattle.std.proofs.lemmas.Int.{unsigned_abs-mul}
 use Rattle.std.proofs.lemmas.Nat.{mul-le, le-div}
 use Rattle.mpc_exact.specs.Rational.{ℚ, frac, int, ◌*ℚ◌}
-use Rattle.mpc_exact.proofs.Rational.{*ℚ_comm}
+use Rattle.mpc_exact.proofs.Rational.{same_frac, *ℚ_comm}
 use Rattle.mpc_space.specs.Total.{total, unit}
 use Rattle.mpc_space.proofs.Total.{total-same, total-unit, unit-same, unit-other}
 use Rattle.mpc_rows.specs.LinearSystem.{LinearSystem, row_at, height, entry}
@@ -15,9 +16,10 @@ use Rattle.mpc_whole.specs.declared.variables.Seat.TheVariants.{Column}
 use Rattle.mpc_whole.specs.Table.{seat_at}
 use Rattle.mpc_whole.specs.Norms.{Over}
 use Rattle.mpc_whole.proofs.WholeChanges.{times_scaled, total_scaled}
+use Rattle.mpc_whole.proofs.DividedRows.{crossed, rest_some}
 use Rattle.mpc_whole.proofs.WholeNorms.{abs_some, over_not_zero, HasPivotRoom, judged_fit, norms_fit}
 use Rattle.mpc_whole.proofs.WholeScales.{Scaled, scaled_over, at_nought, at_side, at_minus_one, nought_over, nought_times, less_with_scale}
-use Rattle.mpc_whole.specs.Judged.{HasRoomAt, IsJudged, IsNorm}
+use Rattle.mpc_whole.specs.Judged.{HasRoomAt, IsJudged, IsNorm, IsDividedRow}
 use Rattle.mpc_whole.specs.Whole.{whole_total, whole_at, whole_cell, scale_at, IsSmall, IsWholeSystem, AreBounds, HasSideBound, IsNarrow, IsSideRow, IsForm, side_cell}
 use Rattle.mpc_whole.proofs.Turn.{Goes, turn-at}
 use Rattle.mpc_whole.proofs.TableauRows.{Meets, row_value, values_meet}
@@ -147,6 +149,24 @@ module _ (s : LinearSystem) (p : Position) (r : Reached s p) where
           (λ c e. scaled_over (row_den (s.width + i)) (scale_at k y) m (λ z. unsigned_abs z * scale_at k y ≤ m) some (λ z o. o) (p.coefficient (s.width + i) y) (record { at = side_cell s a v i c; is = side_is i y c b y_in e; holds = h c y_in e }))
           (cases_Bool (p.is_basic y))
 
+      -- so those over a divisor of them and of the denominator
+      pub divided_over : (i g rest : ℕ) (x : List ℤ) → IsDividedRow s a v i d g rest x → (m y : ℕ) → i < height s → ((c : ℕ) → y < n → seat_at seats y ≡ Column c → (c < s.width) × (unsigned_abs (whole_at x c) * scale_at k y ≤ m)) → y < count s
+          → Over (rest * scale_at k (s.width + i)) m (p.coefficient (s.width + i) y)
+      divided_over i g rest x row m y b h l =
+          let y_in : y < n = subst (λ q. y < q) whole l in
+          let own : 0 < scale_at k (s.width + i) = side_scale i b in
+          let some : 0 < rest * scale_at k (s.width + i) = mul-pos (rest_some g rest d row.split f.some) own in
+          by_seat y m (rest * scale_at k (s.width + i)) (p.coefficient (s.width + i) y) some y_in (reached_tableau.empty (s.width + i) y)
+          (λ c e. record {
+            at = whole_at x c *ℤ pos (scale_at k y);
+            is = side_entry i y c b y_in e
+                ∙ same_frac (side_cell s a v i c *ℤ pos (scale_at k y)) (d * scale_at k (s.width + i)) (whole_at x c *ℤ pos (scale_at k y)) (rest * scale_at k (s.width + i)) (mul-pos f.some own) some
+                (ap (λ u. (u *ℤ pos (scale_at k y)) *ℤ pos (rest * scale_at k (s.width + i))) (sym (row.cells c (h c y_in e).0)) ∙ crossed (whole_at x c) (pos g) (pos (scale_at k y)) (pos rest) (pos (scale_at k (s.width + i)))
+                ∙ ap (λ q. (whole_at x c *ℤ pos (scale_at k y)) *ℤ pos (q * scale_at k (s.width + i))) row.split);
+            size = subst (λ q. q ≤ m) (sym (unsigned_abs-mul (whole_at x c) (pos (scale_at k y)))) (h c y_in e).1;
+          })
+          (cases_Bool (p.is_basic y))
+
       -- all numbers of the position, over the denominators of the rows
       module _ (P : ℕ → ℤ → Type 0) (g : HoldAll s n seats a v P) where
         number_at : (x y c : ℕ) → x < count s → y < n → seat_at seats y ≡ Column c → (x < s.width) ⊎ (s.width ≤ x) → Scaled (row_den x) (scale_at k y) (P y) (p.coefficient x y)
@@ -239,23 +259,35 @@ module _ (s : LinearSystem) (p : Position) (r : Reached s p) where
         shared : (l : ℕ) → 0 < l → (2 ^ 125 / l) * l ≤ 2 ^ 125
         shared l h = omega arith
 
-        module _ (l e : ℕ) (goes : Goes s p l e) (row : IsLeavingRow s p k d f₀ top size l e) where
+        -- where the row that leaves is over a divisor of it and of the denominator
+        module _ (g₀ left : ℕ) (split : g₀ * left ≡ d) (l e : ℕ) (goes : Goes s p l e) (row : IsLeavingRow s p k left f₀ top size l e) where
+          left_some : 0 < left * scale_at k l
+          left_some = mul-pos (rest_some g₀ left d split f.some) (w.scales.some l goes.leaves.below)
+
           top_some : 0 < top
           top_some = let t : 0 < scale_at k l = w.scales.some l goes.leaves.below in let o = row.own in omega arith
 
           size_some : 0 < size
-          size_some = let t : 0 < d * scale_at k l = mul-pos f.some (w.scales.some l goes.leaves.below) in le_trans (abs_some row.pivot.at (over_not_zero t row.pivot goes.eligible.some)) row.pivot.size
+          size_some = le_trans (abs_some row.pivot.at (over_not_zero left_some row.pivot goes.eligible.some)) row.pivot.size
+
+          apart_from : (x : ℕ) → row_den x ≡ left * (g₀ * scale_at k x)
+          unfolding row_den
+          apart_from x = ap (λ m. m * scale_at k x) (sym split) ∙ (let q : (g₀ * left) * scale_at k x ≡ left * (g₀ * scale_at k x) = omega arith in q)
 
           pivot_room : HasPivotRoom s p row_den l e
           unfolding row_den
           pivot_room = record {
             size = size;
+            den = left * scale_at k l;
+            den_some = left_some;
             pivot = row.pivot;
             top = top;
             row = row.others;
-            shared = d;
-            part = scale_at k;
-            parts = λ x. refl;
+            shared = left;
+            part = λ x. g₀ * scale_at k x;
+            parts = apart_from;
+            left = scale_at k l;
+            split = refl;
             own = row.own;
             factor = 2 ^ 125 / top;
             factors = λ x h. entry_over (HasRoomAt s k b f₀ top size) judged_all (2 ^ 125 / top) x e (λ z t. le-div (unsigned_abs z * scale_at k e) (2 ^ 125) top top_some (t.entering row.entering)) h goes.below;
@@ -266,12 +298,15 @@ module _ (s : LinearSystem) (p : Position) (r : Reached s p) where
             dens = λ y h. g.dens y (subst (λ m. y < m) whole h);
           }
 
-        pub judged_over : ((l e : ℕ) → turn s p ≡ goes_on l e → IsLeavingRow s p k d f₀ top size l e) → PositionFits s p
-        judged_over rows =
+        pub judged_divided : (g₀ left : ℕ) → g₀ * left ≡ d → ((l e : ℕ) → turn s p ≡ goes_on l e → IsLeavingRow s p k left f₀ top size l e) → PositionFits s p
+        judged_divided g₀ left split rows =
             judged_fit s p row_den den_some den_below (2 ^ 125 / count s) (all_room (count s))
             (first_products (HasRoomAt s k b f₀ top size) judged_all (2 ^ 125 / count s) judged_firsts judged_seconds)
             (second_products (HasRoomAt s k b f₀ top size) judged_all (2 ^ 125 / count s) judged_firsts judged_seconds)
-            (λ l e t. pivot_room l e (turn-at s p (goes_on l e) t) (rows l e t))
+            (λ l e t. pivot_room g₀ left split l e (turn-at s p (goes_on l e) t) (rows l e t))
+
+        pub judged_over : ((l e : ℕ) → turn s p ≡ goes_on l e → IsLeavingRow s p k d f₀ top size l e) → PositionFits s p
+        judged_over rows = judged_divided 1 d (omega arith) rows
 
 -- ---- the row of a side, by the greatest numbers
 pub column_norm : (s : LinearSystem) (a v : List ℤ) (norm most : ℕ) → IsNorm s.width a norm → (c : ℕ) → ((j : ℕ) → j < s.width → unsigned_abs (whole_cell s.width v j c) ≤ most) → (i : ℕ) → unsigned_abs (side_cell s a v i c) ≤ norm * most

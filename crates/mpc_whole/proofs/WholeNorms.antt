@@ -96,18 +96,22 @@ turned_out : (q k : ℤ) (g u w z : ℕ) → (k *ℤ turned q (pos (g * u))) *�
 turned_out (pos n) k g u w z = shared_out k (pos g) (pos u) (pos w) (pos z)
 turned_out (negsuc n) k g u w z = shared_out_negative k (pos g) (pos u) (pos w) (pos z)
 
--- where l leaves and e enters: the number of row l in the column of e is at most a size, and no other one is above a top, nor is the row's own
--- part of its denominator. Of the products of the top with the numbers of the column of e, and of the size with all others, two have a sum that
+-- where l leaves and e enters: the number of row l in the column of e, over a denominator of its own, is at most a size, and no other one is above a
+-- top, nor is the part of that denominator which it shares with no other row's. Of the products of the top with the numbers of the column of e, and of the size with all others, two have a sum that
 -- fits.
 pub record HasPivotRoom (s : LinearSystem) (p : Position) (d : ℕ → ℕ) (l e : ℕ) : Type 0 where
   pub size : ℕ
-  pub pivot : Over (d l) size (p.coefficient l e)
+  pub den : ℕ
+  pub den_some : 0 < den
+  pub pivot : Over den size (p.coefficient l e)
   pub top : ℕ
-  pub row : (y : ℕ) → y < count s → (y ≡ e → ⊥) → Over (d l) top (p.coefficient l y)
+  pub row : (y : ℕ) → y < count s → (y ≡ e → ⊥) → Over den top (p.coefficient l y)
   pub shared : ℕ
   pub part : ℕ → ℕ
   pub parts : (x : ℕ) → d x ≡ shared * part x
-  pub own : part l ≤ top
+  pub left : ℕ
+  pub split : den ≡ shared * left
+  pub own : left ≤ top
   pub factor : ℕ
   pub factors : (x : ℕ) → x < count s → Over (d x) factor (p.coefficient x e)
   pub factor_room : factor * top ≤ 2 ^ 125
@@ -156,7 +160,7 @@ module _ (s : LinearSystem) (p : Position) (d : ℕ → ℕ) (some : (x : ℕ) �
 
     q_some : q ≢ pos 0
     unfolding q
-    q_some = over_not_zero (some l g.leaves.below) o.pivot g.eligible.some
+    q_some = over_not_zero o.den_some o.pivot g.eligible.some
 
     size : ℕ
     size = unsigned_abs q
@@ -179,15 +183,15 @@ module _ (s : LinearSystem) (p : Position) (d : ℕ → ℕ) (some : (x : ℕ) �
     top_small : o.top < 2 ^ 127
     top_small = top_room o.factor o.top factor_some o.factor_room
 
-    times_size : (x : ℚ) (m : Over (d l) o.top x) → x *ℚ inv_ℚ (p.coefficient l e) ≡ frac (turned q m.at) size
+    times_size : (x : ℚ) (m : Over o.den o.top x) → x *ℚ inv_ℚ (p.coefficient l e) ≡ frac (turned q m.at) size
     unfolding size q
-    times_size x m = (λ i. m.is i *ℚ inv_ℚ (o.pivot.is i)) ∙ ratio_is m.at q (d l) (some l g.leaves.below) q_some
+    times_size x m = (λ i. m.is i *ℚ inv_ℚ (o.pivot.is i)) ∙ ratio_is m.at q o.den o.den_some q_some
 
     -- the new row of the entering variable
     own : (y : ℕ) → y < count s → (y ≡ e → ⊥) → Over size o.top (neg_ℚ (p.coefficient l y) *ℚ inv_ℚ (p.coefficient l e))
     own y h apart =
         let z = o.row y h apart in
-        let m : Over (d l) o.top (neg_ℚ (p.coefficient l y)) = record { at = neg_ℤ z.at; is = ap neg_ℚ z.is ∙ frac-neg z.at (d l) (some l g.leaves.below); size = subst (λ n. n ≤ o.top) (sym (abs-negated z.at)) z.size } in
+        let m : Over o.den o.top (neg_ℚ (p.coefficient l y)) = record { at = neg_ℤ z.at; is = ap neg_ℚ z.is ∙ frac-neg z.at o.den o.den_some; size = subst (λ n. n ≤ o.top) (sym (abs-negated z.at)) z.size } in
         record { at = turned q m.at; is = times_size (neg_ℚ (p.coefficient l y)) m; size = subst (λ n. n ≤ o.top) (sym (abs_turned q m.at)) m.size }
 
     pub judged_entering : EnteringFits (count s) p l e
@@ -217,10 +221,10 @@ module _ (s : LinearSystem) (p : Position) (d : ℕ → ℕ) (some : (x : ℕ) �
       k_over : Over (d x) o.factor (p.coefficient x e)
       k_over = o.factors x x_in
 
-      -- c_xe / c_le = (n_xe d_l) / (d_x |n_le|), out of which goes what d_l and d_x share
-      inverse_over : inv_ℚ (p.coefficient l e) ≡ frac (turned q (pos (d l))) size
+      -- c_xe / c_le = (n_xe d) / (d_x |n_le|), where d is the denominator of row l, out of which goes what d and d_x share
+      inverse_over : inv_ℚ (p.coefficient l e) ≡ frac (turned q (pos o.den)) size
       unfolding size q
-      inverse_over = ap inv_ℚ o.pivot.is ∙ inverse_is q (d l) (some l g.leaves.below) q_some
+      inverse_over = ap inv_ℚ o.pivot.is ∙ inverse_is q o.den o.den_some q_some
 
       parts_some : 0 < o.shared * o.part x
       parts_some = subst (λ n. 0 < n) (o.parts x) (some x x_in)
@@ -231,19 +235,19 @@ module _ (s : LinearSystem) (p : Position) (d : ℕ → ℕ) (some : (x : ℕ) �
       part_below : o.part x * size ≤ d x * size
       part_below = mul-le-mul_right size (subst (λ n. o.part x ≤ n) (sym (o.parts x)) (part_within o.shared (o.part x) parts_some))
 
-      without_shared : frac (k_over.at *ℤ turned q (pos (d l))) (d x * size) ≡ frac (k_over.at *ℤ turned q (pos (o.part l))) (o.part x * size)
+      without_shared : frac (k_over.at *ℤ turned q (pos o.den)) (d x * size) ≡ frac (k_over.at *ℤ turned q (pos o.left)) (o.part x * size)
       without_shared =
-          same_frac (k_over.at *ℤ turned q (pos (d l))) (d x * size) (k_over.at *ℤ turned q (pos (o.part l))) (o.part x * size) (mul-pos (some x x_in) size_some) (mul-pos part_some size_some)
-          (subst₂ (λ u w. (k_over.at *ℤ turned q (pos u)) *ℤ pos (o.part x * size) ≡ (k_over.at *ℤ turned q (pos (o.part l))) *ℤ pos (w * size)) (sym (o.parts l)) (sym (o.parts x)) (turned_out q k_over.at o.shared (o.part l) (o.part x) size))
+          same_frac (k_over.at *ℤ turned q (pos o.den)) (d x * size) (k_over.at *ℤ turned q (pos o.left)) (o.part x * size) (mul-pos (some x x_in) size_some) (mul-pos part_some size_some)
+          (subst₂ (λ u w. (k_over.at *ℤ turned q (pos u)) *ℤ pos (o.part x * size) ≡ (k_over.at *ℤ turned q (pos o.left)) *ℤ pos (w * size)) (sym o.split) (sym (o.parts x)) (turned_out q k_over.at o.shared o.left (o.part x) size))
 
       pub leaving_fits : FitsFrac (p.coefficient x e *ℚ entering_row p l e l)
       unfolding over_both
       leaving_fits =
           let c : Over (o.part x * size) (o.factor * o.top) (p.coefficient x e *ℚ entering_row p l e l) =
           record {
-            at = k_over.at *ℤ turned q (pos (o.part l));
-            is = ap (λ u. p.coefficient x e *ℚ u) (entering-at_leaving p l e) ∙ (λ i. k_over.is i *ℚ inverse_over i) ∙ frac-mul k_over.at (d x) (turned q (pos (d l))) size (some x x_in) size_some ∙ without_shared;
-            size = product_at_most k_over.at (turned q (pos (o.part l))) o.factor o.top k_over.size (subst (λ n. n ≤ o.top) (sym (abs_turned q (pos (o.part l)))) o.own);
+            at = k_over.at *ℤ turned q (pos o.left);
+            is = ap (λ u. p.coefficient x e *ℚ u) (entering-at_leaving p l e) ∙ (λ i. k_over.is i *ℚ inverse_over i) ∙ frac-mul k_over.at (d x) (turned q (pos o.den)) size (some x x_in) size_some ∙ without_shared;
+            size = product_at_most k_over.at (turned q (pos o.left)) o.factor o.top k_over.size (subst (λ n. n ≤ o.top) (sym (abs_turned q (pos o.left))) o.own);
           }
           in
           over_fits (mul-pos part_some size_some) (let h = both_top x x_in in let b = part_below in omega arith) c change_room
@@ -294,12 +298,16 @@ module _ (s : LinearSystem) (p : Position) (d : ℕ → ℕ) (some : (x : ℕ) �
       by : (l e : ℕ) → l < count s → e < count s → HasPivotRoom s p d l e
       by l e below entered = record {
         size = 2 ^ 62;
+        den = d l;
+        den_some = some l below;
         pivot = entries l e below entered;
         top = 2 ^ 62;
         row = λ y k apart. entries l y below k;
         shared = 1;
         part = d;
         parts = λ x. omega arith;
+        left = d l;
+        split = omega arith;
         own = small l below;
         factor = 2 ^ 62;
         factors = λ x k. entries x e k entered;

@@ -187,21 +187,6 @@ pub(crate) fn judge_end(
     judge(seats, v, system, frame, den, none)
 }
 
-/// These factors, for the row times a divisor.
-pub(crate) fn times_divisor(by: Factors, divisor: u64) -> Option<Factors>
-    ensures enters { IfSome result (λ f. f.enters ≡ by.enters) }
-    ensures top { IfSome result (λ f. f.top ≡ by.top * divisor) }
-    ensures size { IfSome result (λ f. f.size ≡ by.size * divisor) }
-{
-    let top = by.top.checked_mul(divisor as u128)?;
-    let size = by.size.checked_mul(divisor as u128)?;
-    Some(Factors {
-        enters: by.enters,
-        top,
-        size,
-    })
-}
-
 /// What the numbers of a position are multiplied by where the row x of the variable l leaves and e enters.
 pub(crate) fn factors_of(seats: &[Seat], x: &[i64], scales: &[u64], l: usize, e: usize) -> Factors
     requires leaves { l < length scales.now }

@@ -10,7 +10,7 @@ ghost use Rattle.mpc_whole.specs.Running.{HasNumbers};
 ghost use Rattle.mpc_whole.specs.Whole.{IsSmall, IsWholeSystem, HasRoom};
 
 use crate::frames::Frame;
-use crate::judge::{factors_of, judge, judge_end, times, times_divisor};
+use crate::judge::{factors_of, judge, judge_end, times};
 use crate::lists::RunLists;
 use crate::reduced::reduce;
 use crate::variables::column_of;
@@ -50,11 +50,12 @@ fn advance(
     ensures den_small { IfSome result (λ p. p.den ≤ 2 ^ 62) }
     ensures underway { IfSome result (λ p. IsMildlyUnderway system.now (count system.now) lists.new.seats.items frame.now.scales.now p.den lists.new.v.items lists.new.firsts.items lists.new.seconds.items p.greatest p.greatest_den p.product p.first) }
 {
-    let own_factors = factors_of(&lists.seats, row.x, frame.scales, l, e);
-    let by = times_divisor(own_factors, row.divisor)?;
+    let by = factors_of(&lists.seats, row.x, frame.scales, l, e);
     judge(&lists.seats, &lists.v, system, frame, place.den, by)?;
     let own = greater(place.own, place.den);
-    let top = times(place.den, frame.scales[l]).max(by.top).max(by.size);
+    // What is kept of a position is over its whole denominator, so there the row counts with its divisor.
+    let most = by.top.max(by.size).checked_mul(row.divisor as u128)?;
+    let top = times(place.den, frame.scales[l]).max(most);
     let product = greater_product(place.product, own, top)?;
     let c = column_of(&lists.seats, e);
     let after = reduce(&mut lists.v, row.x, c, place.den, row.rest)?;

@@ -1,4 +1,4 @@
-use Rattle.std.proofs.Common.{ℕ, ℤ, ◌≡◌, ◌∙◌, ◌<◌, ◌≤◌, ◌-◌, ◌*◌, ◌^◌, List, length, rules, sym, ap, subst, subst₂, arith}
+use Rattle.std.proofs.Common.{ℕ, ℤ, ◌≡◌, ◌∙◌, ◌<◌, ◌≤◌, ◌*◌, ◌^◌, List, length, rules, sym, ap, subst, subst₂, arith, mul-le-mul_right}
 use Rattle.std.specs.Vec.{with_items}
 use Rattle.std.proofs.lemmas.List.{with_items_is}
 use Rattle.mpc_rows.specs.LinearSystem.{height}
@@ -10,17 +10,17 @@ use Rattle.mpc_whole.specs.Whole.{scale_at, IsSmall, IsSwapped}
 use Rattle.mpc_whole.specs.Judged.{IsJudged, IsRowWithin, IsReducedPivot, IsMildlyUnderway}
 use Rattle.mpc_whole.specs.Moved.{AreFormed}
 use Rattle.mpc_whole.proofs.ColumnSums.{in_column}
-use Rattle.mpc_whole.proofs.DividedRows.{times_row, times_is, side_of_divided, within_divided}
+use Rattle.mpc_whole.proofs.DividedRows.{times_row, times_is}
 use Rattle.mpc_whole.proofs.JudgedTurns.{leaver_in, leaver_seat, enterer_in, enterer_seat, seated_after, mildly_after}
 use Rattle.mpc_whole.proofs.WholeRows.{weaker}
 use Rattle.mpc_whole.proofs.judged.advance.Goals as goal
 use Rattle.mpc_whole.proofs.judged.advance.Goals.{After-column_of-c, After-swap, After-stand}
 
-pub factors_of-own_factors-requires-clause-leaves : goal.factors_of-own_factors-requires-clause-leaves
-factors_of-own_factors-requires-clause-leaves c = subst (λ m. c.args.l < m) (sym c.requires.numbers.whole.scales.size) (leaver_in c.requires.numbers.whole c.requires.lists c.requires.goes)
+pub factors_of-by-requires-clause-leaves : goal.factors_of-by-requires-clause-leaves
+factors_of-by-requires-clause-leaves c = subst (λ m. c.args.l < m) (sym c.requires.numbers.whole.scales.size) (leaver_in c.requires.numbers.whole c.requires.lists c.requires.goes)
 
-pub factors_of-own_factors-requires-clause-columns : goal.factors_of-own_factors-requires-clause-columns
-factors_of-own_factors-requires-clause-columns c = rw c.deref.ensures.value (λ y k h e. subst (λ m. k < m) (sym c.requires.row.size) (c.requires.lists.seated.columns y k (subst (λ m. y < m) c.requires.lists.seated.each h) e).0)
+pub factors_of-by-requires-clause-columns : goal.factors_of-by-requires-clause-columns
+factors_of-by-requires-clause-columns c = rw c.deref.ensures.value (λ y k h e. subst (λ m. k < m) (sym c.requires.row.size) (c.requires.lists.seated.columns y k (subst (λ m. y < m) c.requires.lists.seated.each h) e).0)
 
 pub bounds-frame-l : goal.bounds-frame-l
 bounds-frame-l c = subst (λ m. c.args.l < m) (sym c.requires.numbers.whole.scales.size) (leaver_in c.requires.numbers.whole c.requires.lists c.requires.goes)
@@ -124,7 +124,7 @@ returns-clause-underway c =
     let b = c.args.frame.now.b.now in
     let r = c.args.lists.now in
     let den = c.args.place.den in
-    let by = c.in_ok-by.by in
+    let by = c.factors_of-by.result in
     let g = c.args.row.divisor in
     let x = c.args.row.x.now in
     let real = times_row g x in
@@ -133,16 +133,11 @@ returns-clause-underway c =
     let judged : IsJudged s (count s) r.seats.items k a b den r.v.items c.args.e by.top by.size =
     subst (λ m. IsJudged s m r.seats.items k a b den r.v.items c.args.e by.top by.size) c.requires.numbers.count
     (subst₂ (λ (t : List Seat) (u : List ℤ). IsJudged s c.args.frame.now.n t k a b den u c.args.e by.top by.size) c.deref-2.ensures.value c.deref-3.ensures.value
-    (subst (λ f. IsJudged s c.args.frame.now.n c.deref-2.result.now k a b den c.deref-3.result.now f by.top by.size) (c.in_ok-by.ensures.enters ∙ c.factors_of-own_factors.ensures.enters) c.in_ok-judge.ensures))
+    (subst (λ f. IsJudged s c.args.frame.now.n c.deref-2.result.now k a b den c.deref-3.result.now f by.top by.size) c.factors_of-by.ensures.enters c.in_ok-judge.ensures))
     in
-    let own = c.factors_of-own_factors.result in
-    let own_within : IsRowWithin (count s) r.seats.items k c.args.l c.args.e x own.top own.size =
-    subst (λ m. IsRowWithin m r.seats.items k c.args.l c.args.e x own.top own.size) c.requires.lists.seated.each
-    (subst (λ (t : List Seat). IsRowWithin (length t) t k c.args.l c.args.e x own.top own.size) c.deref.ensures.value c.factors_of-own_factors.ensures.row)
-    in
-    let within : IsRowWithin (count s) r.seats.items k c.args.l c.args.e real by.top by.size =
-    subst₂ (λ t z. IsRowWithin (count s) r.seats.items k c.args.l c.args.e real t z) (sym c.in_ok-by.ensures.top) (sym c.in_ok-by.ensures.size)
-    (within_divided (count s) r.seats.items k c.args.l c.args.e g x real own.top own.size c.requires.row.some times (λ y m h e. subst (λ w. m < w) (sym c.requires.row.size) (c.requires.lists.seated.columns y m h e).0) own_within)
+    let within : IsRowWithin (count s) r.seats.items k c.args.l c.args.e x by.top by.size =
+    subst (λ m. IsRowWithin m r.seats.items k c.args.l c.args.e x by.top by.size) c.requires.lists.seated.each
+    (subst (λ (t : List Seat). IsRowWithin (length t) t k c.args.l c.args.e x by.top by.size) c.deref.ensures.value c.factors_of-by.ensures.row)
     in
     let piv : IsReducedPivot s.width den r.v.items c.reduce.new.v real c.column_of-c.result c.in_ok-after.after.den =
     subst₂ (λ w (u : List ℤ). IsReducedPivot w den u c.reduce.new.v real c.column_of-c.result c.in_ok-after.after.den) c.requires.row.size c.deref_mut.ensures.value (c.in_ok-after.ensures.pivot real g c.requires.row.some c.requires.row.split times)
@@ -154,9 +149,10 @@ returns-clause-underway c =
     subst (λ m. AreFormed s m c.swap.new.seats k b c.reduce.new.v c.stand.new.c_1 c.stand.new.c_2) c.requires.numbers.count
     (subst (λ (u : List ℤ). AreFormed s c.args.frame.now.n c.swap.new.seats k b u c.stand.new.c_1 c.stand.new.c_2) (c.deref-6.ensures.value ∙ numbers_back then) stood)
     in
+    let product_within = λ (m : ℕ) (h : m ≤ c.max.result). (let p : m * g ≤ c.max.result * g = mul-le-mul_right g h in let e = c.in_ok-most.ensures in let b = c.max-top.ensures in let t : m * g ≤ c.max-top.result = omega arith in t) in
     let next =
-    mildly_after c.requires.numbers.whole c.requires.lists c.requires.goes c.swap.new.seats (swapped then) c.column_of-c.result (entered_then then) by.top by.size c.requires.den_small judged real (side_of_divided s a r.v.items (c.args.l - s.width) den g c.args.row.rest x c.requires.row) within c.max-top.result
-    (let a = c.max.ensures in let b = c.max-top.ensures in omega arith) (let b = c.max-top.ensures in omega arith) (let d : den * scale_at k c.args.l ≤ c.times.result = (let q = c.times.ensures in omega arith) in let a = c.max.ensures in let b = c.max-top.ensures in omega arith)
+    mildly_after c.requires.numbers.whole c.requires.lists c.requires.goes c.swap.new.seats (swapped then) c.column_of-c.result (entered_then then) by.top by.size c.requires.den_small judged g c.args.row.rest x c.requires.row within c.max-top.result
+    (product_within by.top (let a = c.max.ensures in omega arith)) (product_within by.size (let a = c.max.ensures in omega arith)) (let d : den * scale_at k c.args.l ≤ c.times.result = (let q = c.times.ensures in omega arith) in let b = c.max-top.ensures in omega arith)
     c.reduce.new.v c.in_ok-after.after.den piv c.stand.new.c_1 c.stand.new.c_2 formed c.greater-own.result c.greater.result c.greater-2.result c.in_ok-product.product
     c.greater.ensures.first c.greater-2.ensures.first c.in_ok-product.ensures.first (weaker c.args.place.own c.greater.result r.v.items c.requires.lists.own c.greater.ensures.second) c.greater-2.ensures.second
     (weaker c.args.place.own c.greater-own.result r.v.items c.requires.lists.own c.greater-own.ensures.first) c.greater-own.ensures.second c.in_ok-product.ensures.second
