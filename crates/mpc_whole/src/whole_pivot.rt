@@ -1,20 +1,19 @@
 //! A pivot in whole numbers.
 
-ghost use Rattle.std.specs.Prelude.{◌≡◌, ◌≢◌, ℕ, ℤ, pos, ◌+◌, ◌*◌, ◌<◌, ◌≤◌, ◌^◌, ◌⊎◌, ◌+ℤ◌, ◌*ℤ◌, neg_ℤ, unsigned_abs, IfSome, length};
+ghost use Rattle.std.specs.Prelude.{◌≡◌, ◌≢◌, ℕ, ℤ, pos, ◌+◌, ◌*◌, ◌<◌, ◌≤◌, ◌^◌, ◌⊎◌, ◌+ℤ◌, ◌*ℤ◌, neg_ℤ, unsigned_abs, IsTrue, IfSome, false, length};
 ghost use Rattle.mpc_whole.specs.Whole.{whole_at, whole_cell, IsSmall, IsChanged, IsWholePivot, turned};
 
 use crate::divisors::Divisor;
 use crate::whole_numbers::{changed, turned};
 
-/// The new number of column c in a row, where factor is the one of the column e that enters.
+/// The new number of a column in a row, where factor is the one of the column that enters, as this one may.
 #[inline]
 fn new_number(
     old: i64,
     factor: i64,
     x: i64,
     size: u64,
-    e: usize,
-    c: usize,
+    enters: bool,
     by: Divisor,
     most: u64,
 ) -> Option<i64>
@@ -25,11 +24,11 @@ fn new_number(
     requires factor_small { unsigned_abs factor ≤ most }
     requires x_small { unsigned_abs x ≤ 2 ^ 62 }
     requires size_small { size ≤ 2 ^ 62 }
-    ensures entering { IfSome result (λ z. c ≡ e → z ≡ factor) }
-    ensures other { IfSome result (λ z. (c ≡ e → ⊥) → z *ℤ pos by.den ≡ (old *ℤ pos size) +ℤ neg_ℤ (factor *ℤ x)) }
+    ensures entering { IfSome result (λ z. IsTrue enters → z ≡ factor) }
+    ensures other { IfSome result (λ z. enters ≡ false → z *ℤ pos by.den ≡ (old *ℤ pos size) +ℤ neg_ℤ (factor *ℤ x)) }
     ensures small { IfSome result (λ z. unsigned_abs z ≤ most) }
 {
-    if c == e {
+    if enters {
         return Some(factor);
     }
     changed(old, factor, x, size, by, most)
@@ -67,7 +66,7 @@ fn change_row(
     let mut own = before;
     for c in 0..x.len() {
         let old = v[from + c];
-        let new = new_number(old, factor, x[c], size, e, c, by, most)?;
+        let new = new_number(old, factor, x[c], size, c == e, by, most)?;
         v[from + c] = new;
         own = own.max(new.unsigned_abs());
     }

@@ -1,5 +1,6 @@
 use Rattle.std.proofs.Common.{sym, ◌∙◌, ap, ◌≡◌, ◌≤◌, ◌<◌, ◌+◌, ◌*◌, ◌*ℤ◌, ◌^◌, pos, get_or, length, arith, to_z, of_z, subst, unsigned_abs, ◌⊎◌, inr, le_trans, le_refl}
 use Rattle.std.specs.Int.{w64}
+use Rattle.std.proofs.lemmas.Bool.{eq-eqb, ne_eqb}
 use Rattle.mpc_whole.specs.Whole.{whole_at, whole_cell, IsChanged, turned}
 use Rattle.mpc_whole.proofs.WholeSteps.{read_small, read_bound, set_small, set_bound}
 use Rattle.mpc_whole.proofs.WholeExchange.{row_done, row_kept, number_changed, row_below, row_inside}
@@ -25,7 +26,7 @@ loop-c-preserved c =
     let size : c.unsigned_abs-size.result ≡ unsigned_abs (whole_at c.args.x.now c.args.e) = c.unsigned_abs-size.ensures.value ∙ ap unsigned_abs xe in
     let back : to_z w64 (of_z w64 c.in_ok-new.new) ≡ c.in_ok-new.new = read_small _ (le_trans c.in_ok-new.ensures.small c.requires.most_small) in
     let changes : IsChanged w c.args.by.den c.args.by.den c.args.v.now c.args.x.now c.args.j c.args.e c.loop-c.c c.in_ok-new.new =
-    number_changed w c.args.by.den c.args.by.den c.args.v.now c.args.x.now c.args.j c.args.e c.loop-c.c c.in_ok-new.new _ _ _ _ old factor y size (λ h. ap (λ u. u *ℤ pos c.args.by.den) (c.in_ok-new.ensures.entering h)) c.in_ok-new.ensures.other
+    number_changed w c.args.by.den c.args.by.den c.args.v.now c.args.x.now c.args.j c.args.e c.loop-c.c c.in_ok-new.new _ _ _ _ old factor y size (λ h. ap (λ u. u *ℤ pos c.args.by.den) (c.in_ok-new.ensures.entering (eq-eqb c.loop-c.c c.args.e h))) (λ h. c.in_ok-new.ensures.other (ne_eqb c.loop-c.c c.args.e h))
     in
     record {
       done = row_done w c.args.by.den c.args.by.den c.args.v.now c.loop-c.v c.args.x.now c.args.j c.args.e c.loop-c.c (to_z w64 (of_z w64 c.in_ok-new.new)) b c.loop-c.invariant.done (subst (IsChanged w c.args.by.den c.args.by.den c.args.v.now c.args.x.now c.args.j c.args.e c.loop-c.c) (sym back) changes);
