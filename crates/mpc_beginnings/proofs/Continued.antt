@@ -6,19 +6,18 @@ use Rattle.std.proofs.lemmas.Nat.{mul-le}
 use Rattle.mpc_rows.specs.Run.{has_point, count, turn, position, steps, last_position}
 use Rattle.mpc_rows.specs.RunWidth.{PositionFits}
 use Rattle.mpc_whole.specs.declared.whole.Ending.{Ending}
-use Rattle.mpc_whole.specs.declared.whole.Place.{Place}
+use Rattle.mpc_whole.specs.declared.judged.WidePlace.{WidePlace}
 use Rattle.mpc_whole.specs.declared.whole_systems.WholeNumbers.{WholeNumbers}
 use Rattle.mpc_whole.specs.Table.{IsSeated}
 use Rattle.mpc_whole.specs.Whole.{whole_at, scale_at, IsSmall}
 use Rattle.mpc_whole.proofs.Seats.{opening_seated}
-use Rattle.mpc_whole.proofs.WholeRows.{form_first, weaker}
+use Rattle.mpc_whole.proofs.WholeRows.{form_first}
 use Rattle.mpc_whole.proofs.WholeSizes.{opening_underway}
 use Rattle.mpc_whole.proofs.WholeTurns.{unknowns_stay}
-use Rattle.mpc_whole.specs.declared.lists.RunLists.{RunLists}
 use Rattle.mpc_beginnings.specs.Beginnings.{lengthened}
 use Rattle.mpc_beginnings.specs.LongerSeats.{AreLongerSeats}
 use Rattle.mpc_beginnings.specs.RunLists.{AreOpening, AreLonger}
-use Rattle.mpc_whole.specs.Lists.{AreListsOf}
+use Rattle.mpc_whole.specs.Lists.{Listed, AreListsOf}
 use Rattle.mpc_whole.specs.Judged.{AreMildBefore, IsMildlyUnderway}
 use Rattle.mpc_beginnings.specs.Kept.{AreNumbers, HasRoomBefore, IsKept, IsFirstLater, IsUnderwayWithin, IsUnderwayWithRoom}
 use Rattle.mpc_beginnings.proofs.Columns.{opening_columns, longer_columns}
@@ -27,38 +26,35 @@ use Rattle.mpc_beginnings.proofs.MildShared.{times_some, mild_fits}
 use Rattle.mpc_beginnings.proofs.SharedRun.{steps_longer, stay_before}
 
 -- ---- at the opening
-none_small : (m : ℕ) (v : List ℤ) → ((j : ℕ) → whole_at v j ≡ pos 0) → IsSmall m v
+pub none_small : (m : ℕ) (v : List ℤ) → ((j : ℕ) → whole_at v j ≡ pos 0) → IsSmall m v
 none_small m v zero = record { each = λ j. subst (λ z. unsigned_abs z ≤ m) (sym (zero j)) zero-le }
 
-pub opening_lists : (s : LinearSystem) (l : RunLists) → AreOpening s l → AreListsOf s 1 l
+pub opening_lists : (s : LinearSystem) (l : Listed) → AreOpening s l → AreListsOf s 1 l
 opening_lists s l o = record {
-  seated = opening_seated s (count s) l.seats.items refl o.seats;
-  columns = opening_columns s (count s) (omega arith) l.seats.items o.seats l.nonbasic.items o.columns o.own;
+  seated = opening_seated s (count s) l.seats refl o.seats;
+  columns = opening_columns s (count s) (omega arith) l.seats o.seats l.nonbasic o.columns o.own;
   square = o.square;
-  small = weaker 1 (2 ^ 62) l.v.items o.small (omega arith);
   own = o.small;
   first_size = o.first_size;
   second_size = o.second_size;
-  first_small = none_small (2 ^ 62) l.firsts.items o.firsts;
-  second_small = none_small (2 ^ 62) l.seconds.items o.seconds;
 }
 
-pub opening_within : (s : LinearSystem) (m : WholeNumbers) → AreNumbers s m → (l : RunLists) → AreOpening s l → (first : ℕ) → first ≡ s.width
+pub opening_within : (s : LinearSystem) (m : WholeNumbers) → AreNumbers s m → (l : Listed) → AreOpening s l → (first : ℕ) → first ≡ s.width
     → IsUnderwayWithin s m l (record { den = 1; own = 1; greatest = 0; greatest_den = 0; product = 0; first = first })
 opening_within s m a l o first e =
     subst (λ f. IsUnderwayWithin s m l (record { den = 1; own = 1; greatest = 0; greatest_den = 0; product = 0; first = f })) (sym e) (record {
       within = λ most g h r.
-          opening_underway s m.scales.now (count s) l.seats.items l.v.items (form_first s (count s) refl l.seats.items o.seats m.scales.now a.whole.scales l.v.items o.unit) l.firsts.items l.seconds.items o.firsts o.seconds;
+          opening_underway s m.scales.now (count s) l.seats l.v (form_first s (count s) refl l.seats o.seats m.scales.now a.whole.scales l.v o.unit) l.firsts l.seconds o.firsts o.seconds;
     })
 
-pub opening_with_room : (s : LinearSystem) (m : WholeNumbers) → AreNumbers s m → (l : RunLists) → AreOpening s l → (first : ℕ) → first ≡ s.width
+pub opening_with_room : (s : LinearSystem) (m : WholeNumbers) → AreNumbers s m → (l : Listed) → AreOpening s l → (first : ℕ) → first ≡ s.width
     → IsUnderwayWithRoom s m l (record { den = 1; own = 1; greatest = 0; greatest_den = 0; product = 0; first = first })
 unfolding opening_underway
 opening_with_room s m a l o first e =
     subst (λ f. IsUnderwayWithRoom s m l (record { den = 1; own = 1; greatest = 0; greatest_den = 0; product = 0; first = f })) (sym e) (record {
       within = λ r. record {
-        underway = opening_underway s m.scales.now (count s) l.seats.items l.v.items (form_first s (count s) refl l.seats.items o.seats m.scales.now a.whole.scales l.v.items o.unit) l.firsts.items l.seconds.items o.firsts o.seconds;
-        before = record { each = λ q h. absurd (omega arith) };
+        underway = opening_underway s m.scales.now (count s) l.seats l.v (form_first s (count s) refl l.seats o.seats m.scales.now a.whole.scales l.v o.unit) l.firsts l.seconds o.firsts o.seconds;
+        before = λ known. record { each = λ q h. absurd (omega arith) };
       };
     })
 
@@ -69,27 +65,24 @@ higher s more longer e from to h t = let g : height longer ≡ height (lengthene
 pub more_scales : (s : LinearSystem) (more : List Row) (longer : LinearSystem) → longer ≡ lengthened s more → (old new : List ℕ) → length old ≡ count s → length new ≡ count longer → length old ≤ length new
 more_scales s more longer e old new h t = let g : count longer ≡ count (lengthened s more) = ap count e in omega (arith, h, t, g, length-append s.rows more)
 
-module _ (s : LinearSystem) (more : List Row) (k : List ℕ) (old : RunLists) (p : Place) (end : Ending) (z : IsKept s k old p end)
-    (from to : ℕ) (h : from ≡ height s) (t : to ≡ height (lengthened s more)) (now : RunLists) (g : AreLonger from to old now) where
-  seated : IsSeated from s.width (count s) old.seats.items
-  seated = subst (λ r. IsSeated r s.width (count s) old.seats.items) (sym h) z.lists.seated
+module _ (s : LinearSystem) (more : List Row) (k : List ℕ) (old : Listed) (p : WidePlace) (end : Ending) (z : IsKept s k old p end)
+    (from to : ℕ) (h : from ≡ height s) (t : to ≡ height (lengthened s more)) (now : Listed) (g : AreLonger from to old now) where
+  seated : IsSeated from s.width (count s) old.seats
+  seated = subst (λ r. IsSeated r s.width (count s) old.seats) (sym h) z.lists.seated
 
-  grown : AreLongerSeats (count s) old.seats.items now.seats.items
+  grown : AreLongerSeats (count s) old.seats now.seats
   grown = g.grown s.width (count s) seated
 
   pub lists_longer : AreListsOf (lengthened s more) p.own now
   lists_longer = record {
     seated =
         let e : count s + (to - from) ≡ count (lengthened s more) = omega (arith, h, t, length-append s.rows more) in
-        subst₂ (λ r n. IsSeated r s.width n now.seats.items) t e (g.seated s.width (count s) seated);
-    columns = rw g.nonbasic (longer_columns (height s) s.width (count s) old.seats.items z.lists.seated now.seats.items grown old.nonbasic.items z.lists.columns);
+        subst₂ (λ r n. IsSeated r s.width n now.seats) t e (g.seated s.width (count s) seated);
+    columns = rw g.nonbasic (longer_columns (height s) s.width (count s) old.seats z.lists.seated now.seats grown old.nonbasic z.lists.columns);
     square = rw g.v z.lists.square;
-    small = rw g.v z.lists.small;
     own = rw g.v z.lists.own;
     first_size = rw g.firsts z.lists.first_size;
     second_size = rw g.seconds z.lists.second_size;
-    first_small = rw g.firsts z.lists.first_small;
-    second_small = rw g.seconds z.lists.second_small;
   }
 
   module _ (first : ℕ) (f : IsFirstLater s first) (m : WholeNumbers) (a : AreNumbers (lengthened s more) m) (same : (x : ℕ) → x < length k → scale_at m.scales.now x ≡ scale_at k x) where
@@ -100,7 +93,7 @@ module _ (s : LinearSystem) (more : List Row) (k : List ℕ) (old : RunLists) (p
     within_longer = record {
       within = λ most b c r.
           rw (g.v, g.firsts, g.seconds) (longer_underway s more k m.scales.now same_scales (fits_before s more k m.scales.now same_scales m.a.now m.b.now a.whole most b p.greatest p.greatest_den m.most_scale a.scales c r z.ended.before)
-          (count s) refl old.seats.items now.seats.items grown p.den old.v.items z.ended.form (count (lengthened s more)) p.greatest p.greatest_den z.ended.before old.firsts.items old.seconds.items z.ended.values first f.side (f.stay more));
+          (count s) refl old.seats now.seats grown p.den old.v z.ended.form (count (lengthened s more)) p.greatest p.greatest_den z.ended.before old.firsts old.seconds z.ended.values first f.side (f.stay more));
     }
 
     module _ (r : HasRoomBefore (lengthened s more) m (record p { first = first })) where
@@ -119,10 +112,10 @@ module _ (s : LinearSystem) (more : List Row) (k : List ℕ) (old : RunLists) (p
           mild_fits (lengthened s more) m a (record p { first = first }) r q (let h : steps s ≤ steps (lengthened s more) = steps_longer s more in omega arith)
           (mild_form_longer s more k m.scales.now same_scales q l p.greatest p.greatest_den p.product (mild.each q l))
 
-      with_room : IsMildlyUnderway (lengthened s more) (count (lengthened s more)) now.seats.items m.scales.now p.den now.v.items now.firsts.items now.seconds.items p.greatest p.greatest_den p.product first
+      with_room : IsMildlyUnderway (lengthened s more) (count (lengthened s more)) now.seats m.scales.now p.den now.v now.firsts now.seconds p.greatest p.greatest_den p.product first
       with_room =
           rw (g.v, g.firsts, g.seconds) (longer_mildly_underway s more k m.scales.now same_scales fits_with_room
-          (count s) refl old.seats.items now.seats.items grown p.den old.v.items z.ended.form (count (lengthened s more)) p.greatest p.greatest_den p.product z.ended.before mild old.firsts.items old.seconds.items z.ended.values first f.side (f.stay more))
+          (count s) refl old.seats now.seats grown p.den old.v z.ended.form (count (lengthened s more)) p.greatest p.greatest_den p.product z.ended.before mild old.firsts old.seconds z.ended.values first f.side (f.stay more))
 
     pub room_longer : IsUnderwayWithRoom (lengthened s more) m now (record p { first = first })
     room_longer = record { within = with_room }

@@ -7,6 +7,7 @@ pub mod CoefficientsFit
 pub mod TurnedRows
 pub mod LongerSeats
 pub mod Columns
+pub mod Listed
 pub mod WholeShared
 pub mod MildShared
 pub mod Continued

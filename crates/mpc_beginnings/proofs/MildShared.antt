@@ -5,7 +5,7 @@ use Rattle.std.proofs.lemmas.Nat.{mul-le}
 use Rattle.mpc_rows.specs.LinearSystem.{LinearSystem}
 use Rattle.mpc_rows.specs.Run.{goes_on, entering, count, turn, position, steps}
 use Rattle.mpc_rows.specs.RunWidth.{PositionFits}
-use Rattle.mpc_whole.specs.declared.whole.Place.{Place}
+use Rattle.mpc_whole.specs.declared.judged.WidePlace.{WidePlace}
 use Rattle.mpc_whole.specs.declared.whole_systems.WholeNumbers.{WholeNumbers}
 use Rattle.mpc_whole.specs.Norms.{Over}
 use Rattle.mpc_whole.specs.SharedSizes.{IsSmallForm, AreSmallBefore}
@@ -28,7 +28,7 @@ module _ (s : LinearSystem) (m : WholeNumbers) (g : AreNumbers s m) where
       le_trans (side_norm s m.a.now v m.most_entry most g.entries small i c) e
 
   -- ---- with room for the rows
-  module _ (p : Place) (r : HasRoomBefore s m p) (q : ℕ) (order : q < steps s) (z : IsMildForm s m.scales.now (position s q) p.greatest p.greatest_den p.product) where
+  module _ (p : WidePlace) (r : HasRoomBefore s m p) (q : ℕ) (order : q < steps s) (z : IsMildForm s m.scales.now (position s q) p.greatest p.greatest_den p.product) where
     reached : Reached s (position s q)
     reached = record { after = q; order = omega arith; is = refl }
 
@@ -54,6 +54,7 @@ module _ (s : LinearSystem) (m : WholeNumbers) (g : AreNumbers s m) where
 
     judged : IsJudged s (count s) z.form.seats m.scales.now m.a.now m.b.now z.form.den z.form.numbers enters z.top z.top
     judged = record {
+      whole = λ x l. le_trans (mul-le z.form.den (scale_at m.scales.now x) p.greatest_den m.most_scale z.form.den_small (g.scales x)) r.den;
       dens = λ x l. pivot_room x z.form.den (le_trans z.den_small (times_some r.norm z.own r.some));
       unknowns = λ j y c h l e. room_at y _ (le_trans (z.small.each (j * s.width + c)) (times_some r.norm z.own r.some)) (le_trans (z.form.small.each (j * s.width + c)) (times_some r.norm p.greatest r.some));
       sides = λ i y c h l e. room_at y _ (row_norm r.norm z.own r.rows z.form.numbers z.small i c) (row_norm r.norm p.greatest r.rows z.form.numbers z.form.small i c);
@@ -71,10 +72,10 @@ module _ (s : LinearSystem) (m : WholeNumbers) (g : AreNumbers s m) where
     pub mild_fits : PositionFits s (position s q)
     mild_fits =
         judged_over s (position s q) reached m.scales.now m.a.now m.b.now g.whole (count s) refl z.form.seats z.form.den z.form.numbers z.form.form
-        enters z.top z.top (le_trans z.form.den_small r.den) judged leaving_row
+        enters z.top z.top judged leaving_row
 
   -- ---- within one limit
-  module _ (p : Place) (product : ℕ) (r : IsNormProduct s.width m p product) (q : ℕ) (order : q < steps s) (z : IsSmallForm s m.scales.now (position s q) p.greatest p.greatest_den) where
+  module _ (p : WidePlace) (product : ℕ) (r : IsNormProduct s.width m p product) (q : ℕ) (order : q < steps s) (z : IsSmallForm s m.scales.now (position s q) p.greatest p.greatest_den) where
     small_most : IsSmall r.most z.numbers
     small_most = record { each = λ i. le_trans (z.small.each i) r.number }
 
@@ -100,5 +101,5 @@ module _ (s : LinearSystem) (m : WholeNumbers) (g : AreNumbers s m) where
       room = let e : (r.top * m.most_scale) * r.most ≤ product = r.room in omega arith;
     }
 
-  pub mild_by_norms : (p : Place) (product : ℕ) → IsNormProduct s.width m p product → AreSmallBefore s m.scales.now (steps s) p.greatest p.greatest_den → AreMildBefore s m.scales.now (steps s) p.greatest p.greatest_den product
+  pub mild_by_norms : (p : WidePlace) (product : ℕ) → IsNormProduct s.width m p product → AreSmallBefore s m.scales.now (steps s) p.greatest p.greatest_den → AreMildBefore s m.scales.now (steps s) p.greatest p.greatest_den product
   mild_by_norms p product r z = record { each = λ q l. mild_form p product r q l (z.each q l) }

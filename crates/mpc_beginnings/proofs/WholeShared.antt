@@ -160,7 +160,7 @@ module _ (s : LinearSystem) (more : List LinearRow) (k further : List ℕ) (same
     unfolding longer_underway
     longer_mildly_underway most most_den product z mild c_1 c_2 h first from stay = record {
       underway = longer_underway most most_den z c_1 c_2 h first from stay;
-      before = record { each = λ q l. mild_form_longer q l most most_den product (mild.each q l) };
+      before = λ known. record { each = λ q l. mild_form_longer q l most most_den product (mild.each q l) };
     }
 
   -- ---- kept sizes within the limit of the longer system

@@ -3,12 +3,12 @@ use Rattle.std.specs.Prelude.{ℕ, ℤ, ◌*◌, ◌≤◌, ◌^◌, List}
 use Rattle.mpc_rows.specs.LinearSystem.{LinearSystem}
 use Rattle.mpc_rows.specs.Run.{count}
 use Rattle.mpc_whole.specs.declared.variables.Seat.{Seat}
-use Rattle.mpc_whole.specs.declared.whole.Place.{Place}
+use Rattle.mpc_whole.specs.declared.judged.WidePlace.{WidePlace}
 use Rattle.mpc_whole.specs.declared.whole_systems.WholeNumbers.{WholeNumbers}
 use Rattle.mpc_whole.specs.Whole.{IsSmall, IsNarrow, HasBounds, HasRoom}
 
 -- numbers of a position up to most have bounds, and the sizes that are kept of those that stand and of those before are within that
-pub record IsLimit (s : LinearSystem) (m : WholeNumbers) (p : Place) (most : ℕ) : Type 0 where
+pub record IsLimit (s : LinearSystem) (m : WholeNumbers) (p : WidePlace) (most : ℕ) : Type 0 where
   pub bounds : HasBounds s m.scales.now m.a.now m.b.now most
   pub room : HasRoom s.width (2 ^ 62) m.a.now
   pub top : most ≤ 2 ^ 62

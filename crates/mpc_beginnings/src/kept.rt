@@ -6,24 +6,26 @@ ghost use Rattle.mpc_rows.specs.Run.{count, has_point, is_refuted, turn, last_po
 ghost use Rattle.mpc_rows.specs.RunWidth.{RunFits};
 ghost use Rattle.mpc_rows.specs.LawRows.{broken_row};
 ghost use Rattle.mpc_rows.specs.SetRuns.{turned};
-ghost use Rattle.mpc_whole.specs.Lists.{AreListsOf};
+ghost use Rattle.mpc_whole.specs.Lists.{AreListsOf, of_short, of_wide};
 ghost use Rattle.mpc_whole.specs.RunEnd.{IsEnd, IsValues, EndsRefuted};
 ghost use Rattle.mpc_whole.specs.Whole.{IsSmall, HasRoom};
 ghost use Rattle.mpc_whole.specs.Underway.{turn_of, HasEnded};
 ghost use Rattle.mpc_beginnings.specs.Beginnings.{lengthened};
 ghost use Rattle.mpc_beginnings.specs.Broken.{IsBroken, IsBrokenEnd};
 ghost use Rattle.mpc_beginnings.specs.Limit.{IsLimit};
-ghost use Rattle.mpc_beginnings.specs.Kept.{AreNumbers, IsNormProduct, HasRoomBefore, IsKept, IsFirstLater, IsLonger, IsUnderwayWithin, IsUnderwayWithRoom, IsRefuted, IsMet};
+ghost use Rattle.mpc_beginnings.specs.RunLists.{lists_of, HaveShortValues};
+ghost use Rattle.mpc_beginnings.specs.Kept.{AreNumbers, IsSamePlace, IsNormProduct, HasRoomBefore, IsKept, AreKept, IsFirstLater, IsLonger, IsUnderwayWithin, IsUnderwayWithRoom, IsRefuted, IsMet};
 
 use crate::lists::{
-    begins_with, copied_lists, lengthen, lists_with_room, no_lists, push_turned, set_lists,
-    set_opening, sizes, with_row, with_turned,
+    KeptLists, begins_with, copied_lists, lengthen, lengthen_wide, lists_with_room, no_lists,
+    push_turned, put_wide_copies, set_lists, set_opening, sizes, variables, widen, with_row,
+    with_turned,
 };
 use mpc_linear::RowInt;
 use mpc_rows::{Multipliers, PairPoint, Row, System};
 use mpc_whole::{
-    End, Ending, Place, RunLists, WholeNumbers, WholeSystem, judged_run, last_multipliers,
-    last_values, limit, whole_run, zero_pairs, zeros,
+    End, Ending, Place, RunLists, WholeNumbers, WholeSystem, WideLists, WidePlace, judged_run,
+    last_multipliers, last_values, limit, whole_run, zero_pairs, zeros,
 };
 use std::alloc::{AllocError, Global};
 use std::marker::Model;
@@ -37,7 +39,7 @@ fn numbers_of(system: &WholeSystem) -> WholeNumbers
 
 /// What the numbers of a position may have, if the sizes that are kept of those that stand and of those
 /// before are within that.
-fn limit_of(system: &WholeSystem, numbers: &WholeNumbers, from: Place) -> Option<u64>
+fn limit_of(system: &WholeSystem, numbers: &WholeNumbers, from: WidePlace) -> Option<u64>
     requires numbers { AreNumbers system.now numbers.now }
     ensures { IfSome result (IsLimit system.now numbers.now from) }
 {
@@ -50,10 +52,11 @@ fn limit_of(system: &WholeSystem, numbers: &WholeNumbers, from: Place) -> Option
         numbers.most_side,
         numbers.most_scale,
     )?;
-    if from.own.max(from.greatest) > most {
+    if from.own.max(from.greatest) > most as u128 {
         return None;
     }
-    let scaled = from.den.max(from.greatest_den) as u128 * numbers.most_scale as u128;
+    let dens = from.den.max(from.greatest_den);
+    let scaled = dens.checked_mul(numbers.most_scale as u128)?;
     if scaled > 1 << 62 {
         return None;
     }
@@ -77,21 +80,21 @@ fn row_norm(width: usize, numbers: &WholeNumbers) -> Option<u64>
 
 /// At most this is the product of a number or a denominator of a position with one of a row there, where
 /// the numbers and denominators of positions have these sizes.
-fn norm_product(width: usize, numbers: &WholeNumbers, place: Place) -> Option<u128>
+fn norm_product(width: usize, numbers: &WholeNumbers, place: WidePlace) -> Option<u128>
     requires entries { IsSmall numbers.now.most_entry numbers.now.a.now }
     ensures { IfSome result (IsNormProduct width numbers.now place) }
 {
     let norm = row_norm(width, numbers)? as u128;
-    let most = place.greatest.max(place.greatest_den) as u128;
-    let size = norm * place.greatest as u128;
-    let top = size.max(place.greatest_den as u128);
+    let most = place.greatest.max(place.greatest_den);
+    let size = norm.checked_mul(place.greatest)?;
+    let top = size.max(place.greatest_den);
     let scaled = top.checked_mul(numbers.most_scale as u128)?;
     let product = scaled.checked_mul(most)?;
     Some(product)
 }
 
 /// The product that is kept of positions with these sizes: the greatest of its type where it isn't known.
-fn product_of(width: usize, numbers: &WholeNumbers, place: Place) -> u128
+fn product_of(width: usize, numbers: &WholeNumbers, place: WidePlace) -> u128
     requires entries { IsSmall numbers.now.most_entry numbers.now.a.now }
     ensures { result < 2 ^ 127 → IsNormProduct width numbers.now place result }
 {
@@ -101,25 +104,66 @@ fn product_of(width: usize, numbers: &WholeNumbers, place: Place) -> u128
     }
 }
 
+/// A size, if it is small.
+fn small_size(n: u128) -> Option<u64>
+    ensures { IfSome result (λ m. m ≡ n) }
+{
+    if n > 1 << 62 {
+        return None;
+    }
+    Some(n as u64)
+}
+
+/// Where a run stands, if its sizes are small.
+fn short_place(place: WidePlace) -> Option<Place>
+    ensures { IfSome result (IsSamePlace place) }
+{
+    Some(Place {
+        den: small_size(place.den)?,
+        own: small_size(place.own)?,
+        greatest: small_size(place.greatest)?,
+        greatest_den: small_size(place.greatest_den)?,
+        product: 0,
+        first: place.first,
+    })
+}
+
+/// Where a run stands, whose product isn't known.
+fn wide_place(place: Place) -> WidePlace
+    ensures { IsSamePlace result place }
+{
+    WidePlace {
+        den: place.den as u128,
+        own: place.own as u128,
+        greatest: place.greatest as u128,
+        greatest_den: place.greatest_den as u128,
+        product: u128::MAX,
+        first: place.first,
+    }
+}
+
 /// The run from a position to its end, where one limit serves for all rows.
-fn limited_run(
+fn short_run(
     lists: &mut RunLists,
     x: &mut [i64],
     system: &WholeSystem,
     numbers: &WholeNumbers,
-    from: Place,
-) -> Option<(Place, Ending)>
+    from: WidePlace,
+) -> Option<(WidePlace, Ending)>
     requires numbers { AreNumbers system.now numbers.now }
-    requires lists { AreListsOf system.now from.own lists.old }
+    requires lists { AreListsOf system.now from.own (of_short lists.old) }
+    requires first_small { IsSmall (2 ^ 62) lists.old.firsts.items }
+    requires second_small { IsSmall (2 ^ 62) lists.old.seconds.items }
     requires row_size { length x.old ≡ system.now.width }
-    requires start { IsUnderwayWithin system.now numbers.now lists.old from }
-    ensures lists { IfSome result (λ t. AreListsOf system.now t.0.own lists.new) }
-    ensures den_small { IfSome result (λ t. t.0.den ≤ 2 ^ 62) }
+    requires start { IsUnderwayWithin system.now numbers.now (of_short lists.old) from }
+    ensures lists { IfSome result (λ t. AreListsOf system.now t.0.own (of_short lists.new)) }
+    ensures small { IfSome result (λ _. IsSmall (2 ^ 62) lists.new.firsts.items × IsSmall (2 ^ 62) lists.new.seconds.items) }
     ensures end { IfSome result (λ t. HasEnded system.now (count system.now) lists.new.seats.items numbers.now.scales.now t.0.den lists.new.v.items lists.new.firsts.items lists.new.seconds.items t.0.greatest t.0.greatest_den t.1) }
 {
     let most = limit_of(system, numbers, from)?;
+    let start = short_place(from)?;
     let n = lists.seats.len();
-    let found = whole_run(
+    let (place, end) = whole_run(
         &mut lists.seats,
         &mut lists.nonbasic,
         &mut lists.v,
@@ -131,24 +175,48 @@ fn limited_run(
         numbers.a,
         numbers.b,
         n,
-        from,
+        start,
         most,
     )?;
-    Some(found)
+    Some((wide_place(place), end))
+}
+
+/// The run from a position to its end, where its numbers have 64 bits and one limit serves for all rows.
+fn limited_run(
+    lists: &mut KeptLists,
+    x: &mut [i64],
+    system: &WholeSystem,
+    numbers: &WholeNumbers,
+    from: WidePlace,
+) -> Option<(WidePlace, Ending)>
+    requires numbers { AreNumbers system.now numbers.now }
+    requires lists { AreListsOf system.now from.own (lists_of lists.old) }
+    requires short { HaveShortValues lists.old }
+    requires row_size { length x.old ≡ system.now.width }
+    requires start { IsUnderwayWithin system.now numbers.now (lists_of lists.old) from }
+    ensures lists { IfSome result (λ t. AreListsOf system.now t.0.own (lists_of lists.new)) }
+    ensures short { IfSome result (λ _. HaveShortValues lists.new) }
+    ensures end { IfSome result (λ t. HasEnded system.now (count system.now) (lists_of lists.new).seats numbers.now.scales.now t.0.den (lists_of lists.new).v (lists_of lists.new).firsts (lists_of lists.new).seconds t.0.greatest t.0.greatest_den t.1) }
+{
+    if lists.is_wide {
+        return None;
+    }
+    short_run(&mut lists.short, x, system, numbers, from)
 }
 
 /// The run from a position to its end, where one limit serves for all rows, with what is kept of it.
 fn run_on(
-    lists: &mut RunLists,
+    lists: &mut KeptLists,
     work: &mut Vec<i64>,
     system: &WholeSystem,
     numbers: &WholeNumbers,
-    from: Place,
-) -> Result<Option<(Place, Ending)>, AllocError>
+    from: WidePlace,
+) -> Result<Option<(WidePlace, Ending)>, AllocError>
     requires numbers { AreNumbers system.now numbers.now }
-    requires lists { AreListsOf system.now from.own lists.old }
-    requires start { IsUnderwayWithin system.now numbers.now lists.old from }
-    ensures { IfOk result (λ o. IfSome o (λ t. IsKept system.now numbers.now.scales.now lists.new t.0 t.1)) }
+    requires lists { AreListsOf system.now from.own (lists_of lists.old) }
+    requires short { HaveShortValues lists.old }
+    requires start { IsUnderwayWithin system.now numbers.now (lists_of lists.old) from }
+    ensures { IfOk result (λ o. IfSome o (λ t. AreKept system.now numbers.now.scales.now lists.new t.0 t.1)) }
 {
     let width = system.unknowns();
     lengthen(work, width)?;
@@ -156,7 +224,7 @@ fn run_on(
     match limited_run(lists, x, system, numbers, from) {
         Some((place, end)) => {
             let product = product_of(width, numbers, place);
-            Ok(Some((Place { product, ..place }, end)))
+            Ok(Some((WidePlace { product, ..place }, end)))
         }
         None => Ok(None),
     }
@@ -176,20 +244,18 @@ fn small_product(x: u128, y: u128) -> Option<u128>
 
 /// Whether the sizes that are kept of the positions before show that no row of the system forms a wide number
 /// there.
-fn room_before(system: &WholeSystem, numbers: &WholeNumbers, from: Place) -> Option<()>
+fn room_before(system: &WholeSystem, numbers: &WholeNumbers, from: WidePlace) -> Option<()>
     requires entries { IsSmall numbers.now.most_entry numbers.now.a.now }
     ensures room { IfSome result (λ _. HasRoom system.now.width (2 ^ 62) numbers.now.a.now) }
     ensures before { IfSome result (λ _. HasRoomBefore system.now numbers.now from) }
 {
-    if from.greatest_den > 1 << 62 {
-        return None;
-    }
+    let _ = small_product(from.greatest_den, numbers.most_scale as u128)?;
     let width = system.unknowns();
     let n = width.checked_add(system.height())?;
     let norm = row_norm(width, numbers)? as u128;
     let scaled = norm * numbers.most_scale as u128;
     let _ = small_product(scaled, from.product)?;
-    let size = norm * from.greatest as u128;
+    let size = norm.checked_mul(from.greatest)?;
     let rest = numbers.most_side.max(numbers.most_scale);
     let term = small_product(size, rest as u128)?;
     let _ = small_product(n as u128, term)?;
@@ -198,25 +264,25 @@ fn room_before(system: &WholeSystem, numbers: &WholeNumbers, from: Place) -> Opt
 
 /// The run from a position to its end, where each row is judged by its own numbers.
 fn judge_on(
-    lists: &mut RunLists,
-    work: &mut Vec<i64>,
+    lists: &mut KeptLists,
+    work: &mut Vec<i128>,
     system: &WholeSystem,
     numbers: &WholeNumbers,
-    from: Place,
-) -> Result<Option<(Place, Ending)>, AllocError>
+    from: WidePlace,
+) -> Result<Option<(WidePlace, Ending)>, AllocError>
     requires numbers { AreNumbers system.now numbers.now }
-    requires lists { AreListsOf system.now from.own lists.old }
-    requires den_small { from.den ≤ 2 ^ 62 }
-    requires start { IsUnderwayWithRoom system.now numbers.now lists.old from }
-    ensures { IfOk result (λ o. IfSome o (λ t. IsKept system.now numbers.now.scales.now lists.new t.0 t.1)) }
+    requires lists { AreListsOf system.now from.own (lists_of lists.old) }
+    requires start { IsUnderwayWithRoom system.now numbers.now (lists_of lists.old) from }
+    ensures { IfOk result (λ o. IfSome o (λ t. AreKept system.now numbers.now.scales.now lists.new t.0 t.1)) }
 {
     let width = system.unknowns();
-    lengthen(work, width)?;
+    lengthen_wide(work, width)?;
     let Some(()) = room_before(system, numbers, from) else {
         return Ok(None);
     };
+    widen(lists)?;
     let (x, _) = work.split_at_mut(width);
-    match judged_run(lists, x, system, numbers, from) {
+    match judged_run(&mut lists.wide, x, system, numbers, from) {
         Some(found) => Ok(Some(found)),
         None => Ok(None),
     }
@@ -225,22 +291,19 @@ fn judge_on(
 /// The multipliers at the last position, where the row of the side l refutes.
 fn multipliers_of(
     alloc: Global,
-    work: &mut Vec<i64>,
+    work: &mut Vec<i128>,
     system: &WholeSystem,
     numbers: &WholeNumbers,
-    lists: &RunLists,
-    place: Place,
+    lists: &WideLists,
+    place: WidePlace,
     l: usize,
 ) -> Result<Option<Multipliers>, AllocError>
     requires numbers { AreNumbers system.now numbers.now }
-    requires kept { IsKept system.now numbers.now.scales.now lists.now place (Ending.Refuted l) }
+    requires kept { IsKept system.now numbers.now.scales.now (of_wide lists.now) place (Ending.Refuted l) }
     ensures { IfOk result (λ o. IfSome o (EndsRefuted system.now)) }
 {
     let width = system.unknowns();
-    let Some(_) = row_norm(width, numbers) else {
-        return Ok(None);
-    };
-    lengthen(work, width)?;
+    lengthen_wide(work, width)?;
     let mut list = zeros(alloc, system.height())?;
     let (x, _) = work.split_at_mut(width);
     let found = last_multipliers(
@@ -262,6 +325,24 @@ fn multipliers_of(
     }
 }
 
+/// The multipliers at the last position, where the row of the side l refutes. The lists become wide.
+fn kept_multipliers(
+    alloc: Global,
+    work: &mut Vec<i128>,
+    system: &WholeSystem,
+    numbers: &WholeNumbers,
+    lists: &mut KeptLists,
+    place: WidePlace,
+    l: usize,
+) -> Result<Option<Multipliers>, AllocError>
+    requires numbers { AreNumbers system.now numbers.now }
+    requires kept { AreKept system.now numbers.now.scales.now lists.old place (Ending.Refuted l) }
+    ensures { IfOk result (λ o. IfSome o (EndsRefuted system.now)) }
+{
+    widen(lists)?;
+    multipliers_of(alloc, work, system, numbers, &lists.wide, place, l)
+}
+
 /// Whether the run ends with a point.
 fn is_point(end: Ending) -> bool
     ensures point { IsTrue result → turn_of end ≡ has_point }
@@ -273,21 +354,30 @@ fn is_point(end: Ending) -> bool
     }
 }
 
+/// What is needed only during a run: a row, with numbers of 64 bits and with those of 128.
+#[derive(Drop)]
+struct Rows {
+    short: Vec<i64>,
+    wide: Vec<i128>,
+}
+
 /// Lists that runs use, one after the other.
 #[derive(Drop)]
 pub struct Workspace {
-    /// What is needed only during a run.
-    numbers: Vec<i64>,
+    rows: Rows,
     /// A system with further rows, and where its run stands.
     system: Option<WholeSystem>,
-    lists: RunLists,
+    lists: KeptLists,
 }
 
 impl Workspace {
     /// Lists that take no memory before the first run.
     pub fn new(alloc: Global) -> Self {
         Workspace {
-            numbers: Vec::new(alloc),
+            rows: Rows {
+                short: Vec::new(alloc),
+                wide: Vec::new(alloc),
+            },
             system: None,
             lists: no_lists(alloc),
         }
@@ -300,8 +390,8 @@ struct Ended {
     /// The scales that the numbers are by: 1 for each unknown, then one for each row.
     scales: Vec<u64>,
     /// The lists at the last position.
-    lists: RunLists,
-    place: Place,
+    lists: KeptLists,
+    place: WidePlace,
     end: Ending,
 }
 
@@ -309,11 +399,11 @@ struct Ended {
 fn kept_end(
     alloc: Global,
     scales: &[u64],
-    lists: RunLists,
-    place: Place,
+    lists: KeptLists,
+    place: WidePlace,
     end: Ending,
 ) -> Result<Ended, AllocError>
-    ensures { IfOk result (λ e. (s : LinearSystem) → IsKept s scales.now lists place end → IsKept s e.scales.items e.lists e.place e.end) }
+    ensures { IfOk result (λ e. (s : LinearSystem) → AreKept s scales.now lists place end → AreKept s e.scales.items e.lists e.place e.end) }
 {
     let scales = scales.to_vec(alloc)?;
     Ok(Ended {
@@ -336,28 +426,28 @@ impl Model for KeptRun {
 
     ghost Value = { LinearSystem };
 
-    ghost use Rattle.mpc_beginnings.specs.Kept.{IsKept};
+    ghost use Rattle.mpc_beginnings.specs.Kept.{AreKept};
 
     ghost view = { λ r. r.system };
 
-    ghost invariant = { λ r. IsKept r.system r.last.scales.items r.last.lists r.last.place r.last.end };
+    ghost invariant = { λ r. AreKept r.system r.last.scales.items r.last.lists r.last.place r.last.end };
 }
 
 /// The run of a system from its opening to its end, where whole numbers serve for it.
 fn first_run(
-    lists: &mut RunLists,
-    work: &mut Vec<i64>,
+    lists: &mut KeptLists,
+    work: &mut Rows,
     system: &WholeSystem,
     numbers: &WholeNumbers,
-) -> Result<Option<(Place, Ending)>, AllocError>
+) -> Result<Option<(WidePlace, Ending)>, AllocError>
     requires numbers { AreNumbers system.now numbers.now }
-    ensures { IfOk result (λ o. IfSome o (λ t. IsKept system.now numbers.now.scales.now lists.new t.0 t.1)) }
+    ensures { IfOk result (λ o. IfSome o (λ t. AreKept system.now numbers.now.scales.now lists.new t.0 t.1)) }
 {
     let width = system.unknowns();
     let Some((n, square)) = sizes(system.height(), width) else {
         return Ok(None);
     };
-    let from = Place {
+    let from = WidePlace {
         den: 1,
         own: 1,
         greatest: 0,
@@ -366,20 +456,20 @@ fn first_run(
         first: width,
     };
     set_opening(lists, system, n, square)?;
-    if let Some(found) = run_on(lists, work, system, numbers, from)? {
+    if let Some(found) = run_on(lists, &mut work.short, system, numbers, from)? {
         return Ok(Some(found));
     }
     set_opening(lists, system, n, square)?;
-    judge_on(lists, work, system, numbers, from)
+    judge_on(lists, &mut work.wide, system, numbers, from)
 }
 
 /// The end of the run of a system from its opening, where whole numbers serve for it.
 fn first_end(
     alloc: Global,
-    work: &mut Vec<i64>,
+    work: &mut Rows,
     system: &WholeSystem,
 ) -> Result<Option<Ended>, AllocError>
-    ensures { IfOk result (λ o. IfSome o (λ e. IsKept system.now e.scales.items e.lists e.place e.end)) }
+    ensures { IfOk result (λ o. IfSome o (λ e. AreKept system.now e.scales.items e.lists e.place e.end)) }
 {
     let mut lists = no_lists(alloc);
     let numbers = numbers_of(system);
@@ -397,11 +487,11 @@ fn kept_copy(
     alloc: Global,
     system: &WholeSystem,
     scales: &[u64],
-    lists: &RunLists,
-    place: Place,
+    lists: &KeptLists,
+    place: WidePlace,
     end: Ending,
 ) -> Result<KeptRun, AllocError>
-    requires { IsKept system.now scales.now lists.now place end }
+    requires { AreKept system.now scales.now lists.now place end }
     ensures { IfOk result (λ r. r ≡ system.now) }
 {
     let own = system.copy_with_room(alloc, 0)?;
@@ -428,7 +518,7 @@ impl KeptRun {
     ) -> Result<Option<KeptRun>, AllocError>
         ensures { IfOk result (λ o. IfSome o (λ r. r ≡ system)) }
     {
-        match first_end(alloc, &mut work.numbers, &system)? {
+        match first_end(alloc, &mut work.rows, &system)? {
             Some(last) => Ok(Some(KeptRun { system, last })),
             None => Ok(None),
         }
@@ -478,7 +568,7 @@ impl KeptRun {
         requires { IsLonger self.now system }
         ensures { IfOk result (λ o. IfSome o (λ r. r ≡ system)) }
     {
-        match self.longer_end(alloc, &mut work.numbers, &system)? {
+        match self.longer_end(alloc, &mut work.rows, &system)? {
             Some(last) => Ok(Some(KeptRun { system, last })),
             None => Ok(None),
         }
@@ -488,11 +578,11 @@ impl KeptRun {
     fn longer_end(
         &self,
         alloc: Global,
-        work: &mut Vec<i64>,
+        work: &mut Rows,
         longer: &WholeSystem,
     ) -> Result<Option<Ended>, AllocError>
         requires { IsLonger self.now longer.now }
-        ensures { IfOk result (λ o. IfSome o (λ e. IsKept longer.now e.scales.items e.lists e.place e.end)) }
+        ensures { IfOk result (λ o. IfSome o (λ e. AreKept longer.now e.scales.items e.lists e.place e.end)) }
     {
         let mut lists = lists_with_room(alloc, longer.height(), longer.unknowns())?;
         let numbers = numbers_of(longer);
@@ -520,7 +610,7 @@ impl KeptRun {
         ensures { IsFirstLater self.now result }
     {
         match self.last.end {
-            Ending::Point => self.last.lists.seats.len(),
+            Ending::Point => variables(&self.last.lists),
             Ending::Refuted(_) => self.system.unknowns(),
         }
     }
@@ -528,14 +618,14 @@ impl KeptRun {
     /// The run of a system with further rows behind this one's, from where this one ends on.
     fn go_on(
         &self,
-        lists: &mut RunLists,
-        work: &mut Vec<i64>,
+        lists: &mut KeptLists,
+        work: &mut Rows,
         longer: &WholeSystem,
         numbers: &WholeNumbers,
-    ) -> Result<Option<(Place, Ending)>, AllocError>
+    ) -> Result<Option<(WidePlace, Ending)>, AllocError>
         requires longer { IsLonger self.now longer.now }
         requires numbers { AreNumbers longer.now numbers.now }
-        ensures { IfOk result (λ o. IfSome o (λ t. IsKept longer.now numbers.now.scales.now lists.new t.0 t.1)) }
+        ensures { IfOk result (λ o. IfSome o (λ t. AreKept longer.now numbers.now.scales.now lists.new t.0 t.1)) }
     {
         set_lists(
             lists,
@@ -546,11 +636,11 @@ impl KeptRun {
         if !begins_with(numbers.scales, &self.last.scales) {
             return Ok(None);
         }
-        let from = Place {
+        let from = WidePlace {
             first: self.first_later(),
             ..self.last.place
         };
-        if let Some(found) = run_on(lists, work, longer, numbers, from)? {
+        if let Some(found) = run_on(lists, &mut work.short, longer, numbers, from)? {
             return Ok(Some(found));
         }
         set_lists(
@@ -559,7 +649,7 @@ impl KeptRun {
             self.system.height(),
             longer.height(),
         )?;
-        judge_on(lists, work, longer, numbers, from)
+        judge_on(lists, &mut work.wide, longer, numbers, from)
     }
 
     /// Whether the run of a system with further rows behind this one's ends with a point.
@@ -572,7 +662,7 @@ impl KeptRun {
         ensures { IfOk result (λ o. IfSome o (IsMet longer.now)) }
     {
         let numbers = numbers_of(longer);
-        match self.go_on(&mut work.lists, &mut work.numbers, longer, &numbers)? {
+        match self.go_on(&mut work.lists, &mut work.rows, longer, &numbers)? {
             Some((_, end)) => Ok(Some(is_point(end))),
             None => Ok(None),
         }
@@ -589,19 +679,16 @@ impl KeptRun {
         ensures { IfOk result (λ o. IfSome o (IsBrokenEnd longer.now)) }
     {
         let numbers = numbers_of(longer);
-        match self.go_on(&mut work.lists, &mut work.numbers, longer, &numbers)? {
+        match self.go_on(&mut work.lists, &mut work.rows, longer, &numbers)? {
             Some((place, Ending::Point)) => {
                 let end = Ending::Point;
                 let run = kept_copy(alloc, longer, numbers.scales, &work.lists, place, end)?;
                 Ok(Some(Broken::Point(run)))
             }
             Some((place, Ending::Refuted(l))) => {
-                let Workspace {
-                    numbers: x,
-                    lists,
-                    ..
-                } = work;
-                match multipliers_of(alloc, x, longer, &numbers, lists, place, l)? {
+                let Workspace { rows, lists, .. } = work;
+                let x = &mut rows.wide;
+                match kept_multipliers(alloc, x, longer, &numbers, lists, place, l)? {
                     Some(multipliers) => Ok(Some(Broken::Refuted(multipliers))),
                     None => Ok(None),
                 }
@@ -744,16 +831,17 @@ impl KeptRun {
     }
 
     /// The values of the unknowns at the last position.
-    fn point(&self, alloc: Global) -> Result<Option<PairPoint>, AllocError>
+    fn point(&self, alloc: Global, lists: &mut KeptLists) -> Result<Option<PairPoint>, AllocError>
         ensures { IfOk result (λ o. IfSome o (λ p. IsValues self.now (last_position self.now) p)) }
     {
-        let Ended { lists, place, .. } = &self.last;
+        let place = self.last.place;
+        put_wide_copies(lists, &self.last.lists)?;
         let mut values = zero_pairs(alloc, self.system.unknowns())?;
         let found = last_values(
             &mut values,
             &self.system,
-            &lists.firsts,
-            &lists.seconds,
+            &lists.wide.firsts,
+            &lists.wide.seconds,
             place.den,
         );
         match found {
@@ -766,7 +854,7 @@ impl KeptRun {
     fn multipliers(
         &self,
         alloc: Global,
-        work: &mut Vec<i64>,
+        work: &mut Workspace,
         l: usize,
     ) -> Result<Option<Multipliers>, AllocError>
         requires { turn self.now (last_position self.now) ≡ is_refuted l }
@@ -774,7 +862,7 @@ impl KeptRun {
     {
         let Ended {
             scales,
-            lists,
+            lists: kept,
             place,
             ..
         } = &self.last;
@@ -782,7 +870,17 @@ impl KeptRun {
         if numbers.scales != scales.as_slice() {
             return Ok(None);
         }
-        multipliers_of(alloc, work, &self.system, &numbers, lists, *place, l)
+        let Workspace { rows, lists, .. } = work;
+        put_wide_copies(lists, kept)?;
+        multipliers_of(
+            alloc,
+            &mut rows.wide,
+            &self.system,
+            &numbers,
+            &lists.wide,
+            *place,
+            l,
+        )
     }
 
     /// What the run ends with, in fractions. `None` where a fraction is too wide.
@@ -790,11 +888,11 @@ impl KeptRun {
         ensures { IfOk result (λ o. IfSome o (λ d. IsEnd self.now d)) }
     {
         match self.last.end {
-            Ending::Point => match self.point(alloc)? {
+            Ending::Point => match self.point(alloc, &mut work.lists)? {
                 Some(point) => Ok(Some(End::Point(point))),
                 None => Ok(None),
             },
-            Ending::Refuted(l) => match self.multipliers(alloc, &mut work.numbers, l)? {
+            Ending::Refuted(l) => match self.multipliers(alloc, work, l)? {
                 Some(multipliers) => Ok(Some(End::Refuted(multipliers))),
                 None => Ok(None),
             },

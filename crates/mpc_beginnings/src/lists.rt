@@ -1,6 +1,6 @@
 //! The lists of a run.
 
-ghost use Rattle.std.specs.Prelude.{◌≡◌, ℕ, pos, ◌+◌, ◌-◌, ◌*◌, ◌<◌, ◌≤◌, [], ◌∷◌, IsTrue, IfSome, IfOk, OnOk, length};
+ghost use Rattle.std.specs.Prelude.{◌≡◌, ℕ, pos, ◌+◌, ◌-◌, ◌*◌, ◌<◌, ◌≤◌, [], ◌∷◌, IsTrue, IfSome, IfOk, OnOk, length, true};
 ghost use Rattle.mpc_rows.specs.LinearSystem.{LinearSystem, height, row_at};
 ghost use Rattle.mpc_rows.specs.Run.{count};
 ghost use Rattle.mpc_rows.specs.SetRuns.{turned};
@@ -8,14 +8,36 @@ ghost use Rattle.mpc_whole.specs.Table.{IsSeated, IsOpeningSeats, opening_seat, 
 ghost use Rattle.mpc_whole.specs.Whole.{whole_at, scale_at, IsSmall, IsUnit};
 ghost use Rattle.mpc_beginnings.specs.Beginnings.{lengthened};
 ghost use Rattle.mpc_beginnings.specs.LongerSeats.{AreLongerSeats};
-ghost use Rattle.mpc_beginnings.specs.RunLists.{AreCopies, AreLonger, AreOpening};
+ghost use Rattle.mpc_whole.specs.Lists.{of_short, of_wide};
+ghost use Rattle.mpc_beginnings.specs.RunLists.{lists_of, HaveShortValues, AreLonger, AreOpening};
 
 use mpc_rows::Row;
-use mpc_whole::{RunLists, Seat, WholeSystem, clear, put_units};
+use mpc_whole::{RunLists, Seat, WholeSystem, WideLists, clear, put_units};
 use std::alloc::{AllocError, Global};
+
+/// The lists of a run that is kept: with numbers of 64 bits, or of 128.
+#[derive(Drop)]
+pub(crate) struct KeptLists {
+    pub is_wide: bool,
+    /// What they have where they aren't wide.
+    pub short: RunLists,
+    /// What they have where they are.
+    pub wide: WideLists,
+}
 
 /// Makes the list at least so long.
 pub(crate) fn lengthen(list: &mut Vec<i64>, n: usize) -> Result<(), AllocError>
+    ensures { OnOk result (n ≤ length list.new.items) }
+{
+    for k in list.len()..n {
+        let _ = k;
+        list.push(0)?;
+    }
+    Ok(())
+}
+
+/// Makes the list at least so long, where its numbers have 128 bits.
+pub(crate) fn lengthen_wide(list: &mut Vec<i128>, n: usize) -> Result<(), AllocError>
     ensures { OnOk result (n ≤ length list.new.items) }
 {
     for k in list.len()..n {
@@ -125,6 +147,34 @@ fn put_numbers(list: &mut Vec<i64>, v: &[i64]) -> Result<(), AllocError>
     Ok(())
 }
 
+/// Writes numbers of 128 bits in place of others.
+fn put_wide(list: &mut Vec<i128>, v: &[i128]) -> Result<(), AllocError>
+    ensures { OnOk result (list.new.items ≡ v.now) }
+{
+    list.clear();
+    list.extend_from_slice(v)?;
+    Ok(())
+}
+
+/// The number, in 128 bits.
+fn widened(z: i64) -> i128
+    ensures { result ≡ z }
+{
+    z as i128
+}
+
+/// Writes numbers of 64 bits in place of others of 128.
+fn put_widened(list: &mut Vec<i128>, v: &[i64]) -> Result<(), AllocError>
+    ensures { OnOk result (list.new.items ≡ v.now) }
+{
+    list.clear();
+    list.reserve(v.len())?;
+    for j in 0..v.len() {
+        list.push(widened(v[j]))?;
+    }
+    Ok(())
+}
+
 /// Writes variables in place of others.
 fn put_variables(list: &mut Vec<usize>, nonbasic: &[usize]) -> Result<(), AllocError>
     ensures { OnOk result (list.new.items ≡ nonbasic.now) }
@@ -135,13 +185,23 @@ fn put_variables(list: &mut Vec<usize>, nonbasic: &[usize]) -> Result<(), AllocE
 }
 
 /// Lists that take no memory.
-pub(crate) fn no_lists(alloc: Global) -> RunLists {
-    RunLists {
-        seats: Vec::new(alloc),
-        nonbasic: Vec::new(alloc),
-        v: Vec::new(alloc),
-        firsts: Vec::new(alloc),
-        seconds: Vec::new(alloc),
+pub(crate) fn no_lists(alloc: Global) -> KeptLists {
+    KeptLists {
+        is_wide: false,
+        short: RunLists {
+            seats: Vec::new(alloc),
+            nonbasic: Vec::new(alloc),
+            v: Vec::new(alloc),
+            firsts: Vec::new(alloc),
+            seconds: Vec::new(alloc),
+        },
+        wide: WideLists {
+            seats: Vec::new(alloc),
+            nonbasic: Vec::new(alloc),
+            v: Vec::new(alloc),
+            firsts: Vec::new(alloc),
+            seconds: Vec::new(alloc),
+        },
     }
 }
 
@@ -150,15 +210,15 @@ pub(crate) fn lists_with_room(
     alloc: Global,
     height: usize,
     width: usize,
-) -> Result<RunLists, AllocError> {
+) -> Result<KeptLists, AllocError> {
     let mut lists = no_lists(alloc);
-    lists.seats.reserve(width.saturating_add(height))?;
+    lists.short.seats.reserve(width.saturating_add(height))?;
     Ok(lists)
 }
 
 /// Writes the lists of the first position. The values of the unknowns are 0 there, since no side is
 /// nonbasic.
-pub(crate) fn set_opening(
+fn put_opening(
     lists: &mut RunLists,
     system: &WholeSystem,
     n: usize,
@@ -166,7 +226,7 @@ pub(crate) fn set_opening(
 ) -> Result<(), AllocError>
     requires count { n ≡ count system.now }
     requires square { square ≡ system.now.width * system.now.width }
-    ensures { OnOk result (AreOpening system.now lists.new) }
+    ensures { OnOk result (AreOpening system.now (of_short lists.new)) }
 {
     let width = system.unknowns();
     put_first_seats(&mut lists.seats, system, n)?;
@@ -177,9 +237,26 @@ pub(crate) fn set_opening(
     Ok(())
 }
 
+/// Writes the lists of the first position.
+pub(crate) fn set_opening(
+    lists: &mut KeptLists,
+    system: &WholeSystem,
+    n: usize,
+    square: usize,
+) -> Result<(), AllocError>
+    requires count { n ≡ count system.now }
+    requires square { square ≡ system.now.width * system.now.width }
+    ensures opening { OnOk result (AreOpening system.now (lists_of lists.new)) }
+    ensures small { OnOk result (HaveShortValues lists.new) }
+{
+    put_opening(&mut lists.short, system, n, square)?;
+    lists.is_wide = false;
+    Ok(())
+}
+
 /// Writes other lists in place of these.
-fn put_copies(lists: &mut RunLists, other: &RunLists) -> Result<(), AllocError>
-    ensures { OnOk result (AreCopies other.now lists.new) }
+fn put_short(lists: &mut RunLists, other: &RunLists) -> Result<(), AllocError>
+    ensures { OnOk result (of_short lists.new ≡ of_short other.now) }
 {
     put_seats(&mut lists.seats, &other.seats)?;
     put_variables(&mut lists.nonbasic, &other.nonbasic)?;
@@ -189,9 +266,81 @@ fn put_copies(lists: &mut RunLists, other: &RunLists) -> Result<(), AllocError>
     Ok(())
 }
 
+/// Writes other lists of 128 bits in place of these.
+fn put_wide_lists(lists: &mut WideLists, other: &WideLists) -> Result<(), AllocError>
+    ensures { OnOk result (of_wide lists.new ≡ of_wide other.now) }
+{
+    put_seats(&mut lists.seats, &other.seats)?;
+    put_variables(&mut lists.nonbasic, &other.nonbasic)?;
+    put_wide(&mut lists.v, &other.v)?;
+    put_wide(&mut lists.firsts, &other.firsts)?;
+    put_wide(&mut lists.seconds, &other.seconds)?;
+    Ok(())
+}
+
+/// Writes other lists of 64 bits in place of these.
+fn put_widened_lists(lists: &mut WideLists, other: &RunLists) -> Result<(), AllocError>
+    ensures { OnOk result (of_wide lists.new ≡ of_short other.now) }
+{
+    put_seats(&mut lists.seats, &other.seats)?;
+    put_variables(&mut lists.nonbasic, &other.nonbasic)?;
+    put_widened(&mut lists.v, &other.v)?;
+    put_widened(&mut lists.firsts, &other.firsts)?;
+    put_widened(&mut lists.seconds, &other.seconds)?;
+    Ok(())
+}
+
+/// Makes the lists wide, with the numbers that they have.
+pub(crate) fn widen(lists: &mut KeptLists) -> Result<(), AllocError>
+    ensures wide { OnOk result (lists.new.is_wide ≡ true) }
+    ensures same { OnOk result (of_wide lists.new.wide ≡ lists_of lists.old) }
+{
+    if lists.is_wide {
+        return Ok(());
+    }
+    put_widened_lists(&mut lists.wide, &lists.short)?;
+    lists.is_wide = true;
+    Ok(())
+}
+
+/// Writes other lists in place of these.
+fn put_copies(lists: &mut KeptLists, other: &KeptLists) -> Result<(), AllocError>
+    ensures same { OnOk result (lists_of lists.new ≡ lists_of other.now) }
+    ensures small { OnOk result (HaveShortValues other.now → HaveShortValues lists.new) }
+{
+    lists.is_wide = other.is_wide;
+    if other.is_wide {
+        put_wide_lists(&mut lists.wide, &other.wide)?;
+        return Ok(());
+    }
+    put_short(&mut lists.short, &other.short)?;
+    Ok(())
+}
+
+/// Writes other lists in place of these, wide.
+pub(crate) fn put_wide_copies(lists: &mut KeptLists, other: &KeptLists) -> Result<(), AllocError>
+    ensures wide { OnOk result (lists.new.is_wide ≡ true) }
+    ensures same { OnOk result (of_wide lists.new.wide ≡ lists_of other.now) }
+{
+    put_copies(lists, other)?;
+    widen(lists)?;
+    Ok(())
+}
+
+/// How many variables there are, where the lists stand.
+pub(crate) fn variables(lists: &KeptLists) -> usize
+    ensures { result ≡ length (lists_of lists.now).seats }
+{
+    if lists.is_wide {
+        return lists.wide.seats.len();
+    }
+    lists.short.seats.len()
+}
+
 /// The same lists in memory of their own.
-pub(crate) fn copied_lists(alloc: Global, lists: &RunLists) -> Result<RunLists, AllocError>
-    ensures { IfOk result (AreCopies lists.now) }
+pub(crate) fn copied_lists(alloc: Global, lists: &KeptLists) -> Result<KeptLists, AllocError>
+    ensures same { IfOk result (λ t. lists_of t ≡ lists_of lists.now) }
+    ensures small { IfOk result (λ t. HaveShortValues lists.now → HaveShortValues t) }
 {
     let mut own = no_lists(alloc);
     put_copies(&mut own, lists)?;
@@ -201,16 +350,21 @@ pub(crate) fn copied_lists(alloc: Global, lists: &RunLists) -> Result<RunLists, 
 /// Writes other lists in place of these, and the seats of further sides behind theirs, in the rows from
 /// the height of the system on.
 pub(crate) fn set_lists(
-    lists: &mut RunLists,
-    other: &RunLists,
+    lists: &mut KeptLists,
+    other: &KeptLists,
     height: usize,
     longer: usize,
 ) -> Result<(), AllocError>
     requires { height ≤ longer }
-    ensures { OnOk result (AreLonger height longer other.now lists.new) }
+    ensures longer { OnOk result (AreLonger height longer (lists_of other.now) (lists_of lists.new)) }
+    ensures small { OnOk result (HaveShortValues other.now → HaveShortValues lists.new) }
 {
     put_copies(lists, other)?;
-    push_sides(&mut lists.seats, height, longer)?;
+    if lists.is_wide {
+        push_sides(&mut lists.wide.seats, height, longer)?;
+        return Ok(());
+    }
+    push_sides(&mut lists.short.seats, height, longer)?;
     Ok(())
 }
 

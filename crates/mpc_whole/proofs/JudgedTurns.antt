@@ -1,51 +1,51 @@
 -- A turn of a run whose positions are judged row by row, on its lists.
-use Rattle.std.proofs.Common.{◌≡◌, ℕ, ◌-◌, ◌*◌, ◌^◌, ◌<◌, ◌≤◌, true, false, List, ℤ, refl, sym, subst}
+use Rattle.std.proofs.Common.{◌≡◌, ℕ, ◌-◌, ◌^◌, ◌<◌, ◌≤◌, true, false, List, ℤ, refl, sym, subst}
 use Rattle.mpc_rows.specs.LinearSystem.{LinearSystem, height}
 use Rattle.mpc_rows.specs.Run.{count}
-use Rattle.mpc_whole.specs.declared.lists.RunLists.{RunLists}
 use Rattle.mpc_whole.specs.declared.variables.Seat.{Seat}
 use Rattle.mpc_whole.specs.declared.variables.Seat.TheVariants.{Column}
 use Rattle.mpc_whole.specs.Table.{seat_at, in_row, IsSeated}
-use Rattle.mpc_whole.specs.Lists.{AreListsOf}
+use Rattle.mpc_whole.specs.Lists.{Listed, AreListsOf}
 use Rattle.mpc_whole.specs.Moved.{AreFormed}
-use Rattle.mpc_whole.specs.Judged.{IsJudged, IsRowWithin, IsDividedRow, IsReducedPivot, IsMildlyUnderway, IsGoingOn}
+use Rattle.mpc_whole.specs.Judged.{IsJudged, IsRowWithin, IsDividedRow, IsReducedPivot, IsProductOf, IsMildlyUnderway, IsGoingOn}
 use Rattle.mpc_whole.specs.Whole.{scale_at, IsSmall, IsWholeSystem, IsSwapped}
 use Rattle.mpc_whole.proofs.DividedRows.{times_row}
 use Rattle.mpc_whole.proofs.Seats.{row_seat}
 use Rattle.mpc_whole.proofs.Standing.{leaves_here, leaving_in, leaving_seat, entering_in, entering_seat, next_seated}
 use Rattle.mpc_whole.proofs.JudgedRun.{next_mildly}
 
-module _ {s : LinearSystem} {k : List ℕ} {a b : List ℤ} {own : ℕ} {r : RunLists} {d most most_den product first l e : ℕ} (w : IsWholeSystem s k a b) (lists : AreListsOf s own r)
-    (g : IsGoingOn s (count s) r.seats.items k d r.v.items r.firsts.items r.seconds.items most most_den product first l e) where
+module _ {s : LinearSystem} {k : List ℕ} {a b : List ℤ} {own : ℕ} {r : Listed} {d most most_den product first l e : ℕ} (w : IsWholeSystem s k a b) (lists : AreListsOf s own r)
+    (g : IsGoingOn s (count s) r.seats k d r.v r.firsts r.seconds most most_den product first l e) where
   pub leaver_side : s.width ≤ l
-  leaver_side = (leaves_here s (count s) r.seats.items lists.seated k d r.v.items a b w g.underway.underway.stands l g.leaves).violated.side
+  leaver_side = (leaves_here s (count s) r.seats lists.seated k d r.v a b w g.underway.underway.stands l g.leaves).violated.side
 
   pub leaver_in : l < count s
-  leaver_in = leaving_in s (count s) r.seats.items lists.seated k d r.v.items a b w g.underway.underway.stands l g.leaves
+  leaver_in = leaving_in s (count s) r.seats lists.seated k d r.v a b w g.underway.underway.stands l g.leaves
 
-  pub leaver_seat : in_row (seat_at r.seats.items l) ≡ true
-  leaver_seat = leaving_seat s (count s) r.seats.items lists.seated k d r.v.items a b w g.underway.underway.stands l g.leaves
+  pub leaver_seat : in_row (seat_at r.seats l) ≡ true
+  leaver_seat = leaving_seat s (count s) r.seats lists.seated k d r.v a b w g.underway.underway.stands l g.leaves
 
   pub enterer_in : e < count s
-  enterer_in = entering_in s (count s) r.seats.items lists.seated k d r.v.items a b w g.underway.underway.stands l g.leaves e g.enters
+  enterer_in = entering_in s (count s) r.seats lists.seated k d r.v a b w g.underway.underway.stands l g.leaves e g.enters
 
-  pub enterer_seat : in_row (seat_at r.seats.items e) ≡ false
-  enterer_seat = entering_seat s (count s) r.seats.items lists.seated k d r.v.items a b w g.underway.underway.stands l g.leaves e g.enters
+  pub enterer_seat : in_row (seat_at r.seats e) ≡ false
+  enterer_seat = entering_seat s (count s) r.seats lists.seated k d r.v a b w g.underway.underway.stands l g.leaves e g.enters
 
-  module _ (seats : List Seat) (swapped : IsSwapped r.seats.items seats l e) (c₀ : ℕ) (sf : seat_at r.seats.items e ≡ Column c₀) where
+  module _ (seats : List Seat) (swapped : IsSwapped r.seats seats l e) (c₀ : ℕ) (sf : seat_at r.seats e ≡ Column c₀) where
     pub seated_after : IsSeated (height s) s.width (count s) seats
     seated_after =
-        let rs = row_seat (seat_at r.seats.items l) leaver_seat in
+        let rs = row_seat (seat_at r.seats l) leaver_seat in
         subst (λ (t : List Seat). IsSeated (height s) s.width (count s) t) (sym (swapped.seats rs.0 c₀ rs.1 sf))
-        (next_seated s (count s) r.seats.items lists.seated k d r.v.items a b w g.underway.underway.stands l g.leaves e g.enters rs.0 c₀ rs.1 sf)
+        (next_seated s (count s) r.seats lists.seated k d r.v a b w g.underway.underway.stands l g.leaves e g.enters rs.0 c₀ rs.1 sf)
 
-    pub mildly_after : (top size : ℕ) → d ≤ 2 ^ 62 → IsJudged s (count s) r.seats.items k a b d r.v.items e top size → (divisor left : ℕ) (x : List ℤ) → IsDividedRow s a r.v.items (l - s.width) d divisor left x → IsRowWithin (count s) r.seats.items k l e x top size
-        → (most_top : ℕ) → top * divisor ≤ most_top → size * divisor ≤ most_top → d * scale_at k l ≤ most_top → (new : List ℤ) (size : ℕ) → IsReducedPivot s.width d r.v.items new (times_row divisor x) c₀ size → (n_1 n_2 : List ℤ) → AreFormed s (count s) seats k b new n_1 n_2
-        → (least more more_den more_product : ℕ) → most ≤ more → most_den ≤ more_den → product ≤ more_product → IsSmall more r.v.items → d ≤ more_den → IsSmall least r.v.items → d ≤ least → least * most_top ≤ more_product
-        → IsMildlyUnderway s (count s) seats k size new n_1 n_2 more more_den more_product s.width
-    mildly_after top over small judged divisor left x row within most_top top_within size_within den_within new size piv n_1 n_2 formed least more more_den more_product wide wide_den wide_product small_v den_small own_v own_den room =
-        let rs = row_seat (seat_at r.seats.items l) leaver_seat in
+    pub mildly_after : (top size : ℕ) → IsJudged s (count s) r.seats k a b d r.v e top size → (divisor left : ℕ) (x : List ℤ) → IsDividedRow s a r.v (l - s.width) d divisor left x → IsRowWithin (count s) r.seats k l e x top size
+        → (new : List ℤ) (after : ℕ) → IsReducedPivot s.width d r.v new (times_row divisor x) c₀ after → (n_1 n_2 : List ℤ) → AreFormed s (count s) seats k b new n_1 n_2
+        → (least more more_den more_product : ℕ) → most ≤ more → most_den ≤ more_den → product ≤ more_product → IsSmall more r.v → d ≤ more_den → IsSmall least r.v → d ≤ least
+        → (more_product < 2 ^ 127 → IsProductOf least top size divisor d (scale_at k l) more_product)
+        → IsMildlyUnderway s (count s) seats k after new n_1 n_2 more more_den more_product s.width
+    mildly_after top size judged divisor left x row within new after piv n_1 n_2 formed least more more_den more_product wide wide_den wide_product small_v den_small own_v own_den here =
+        let rs = row_seat (seat_at r.seats l) leaver_seat in
         let stand = swapped.seats rs.0 c₀ rs.1 sf in
-        subst (λ (t : List Seat). IsMildlyUnderway s (count s) t k size new n_1 n_2 more more_den more_product s.width) (sym stand)
-        (next_mildly s (count s) r.seats.items lists.seated k d r.v.items a b w r.firsts.items r.seconds.items most most_den product first g.underway small e top over judged l g.leaves e g.enters divisor left x row refl within most_top top_within size_within den_within rs.0 c₀ rs.1 sf new size piv n_1 n_2
-        (subst (λ (t : List Seat). AreFormed s (count s) t k b new n_1 n_2) stand formed) least more more_den more_product wide wide_den wide_product small_v den_small own_v own_den room)
+        subst (λ (t : List Seat). IsMildlyUnderway s (count s) t k after new n_1 n_2 more more_den more_product s.width) (sym stand)
+        (next_mildly s (count s) r.seats lists.seated k d r.v a b w r.firsts r.seconds most most_den product first g.underway e top size judged l g.leaves e g.enters divisor left x row refl within rs.0 c₀ rs.1 sf new after piv n_1 n_2
+        (subst (λ (t : List Seat). AreFormed s (count s) t k b new n_1 n_2) stand formed) least more more_den more_product wide wide_den wide_product small_v den_small own_v own_den here)

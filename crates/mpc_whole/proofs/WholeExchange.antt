@@ -1,7 +1,7 @@
 -- The numbers of a pivot, as the code writes them one by one.
-use Rattle.std.proofs.Common.{◌≡◌, ℕ, suc, ◌+◌, ◌*◌, ◌<◌, ◌≤◌, List, length, set, ℤ, pos, ◌+ℤ◌, ◌*ℤ◌, neg_ℤ, unsigned_abs, sym, ◌∙◌, ap, subst, arith, refl, ◌⊎◌, inl, inr, mul-le-mul_right}
+use Rattle.std.proofs.Common.{◌≡◌, ℕ, suc, ◌+◌, ◌*◌, ◌<◌, ◌≤◌, List, length, set, ℤ, pos, ◌+ℤ◌, ◌*ℤ◌, neg_ℤ, unsigned_abs, sym, ◌∙◌, ap, subst, arith, refl, [], ◌∷◌, ◌⊎◌, inl, inr, mul-le-mul_right}
 use Rattle.std.proofs.lemmas.Bool.{cases_eq}
-use Rattle.mpc_exact.proofs.IntRing.{int_mul_cancel}
+use Rattle.mpc_exact.proofs.IntRing.{int_mul_cancel, int_reads, by_ring_ℤ}
 use Rattle.mpc_whole.specs.Whole.{whole_at, whole_cell, IsChanged, IsWholePivot, turned}
 use Rattle.mpc_whole.proofs.WholeSteps.{set_same, set_other}
 
@@ -26,6 +26,24 @@ pub number_changed : (width factor den : ℕ) (old x : List ℤ) (j e c : ℕ) (
 number_changed width factor den old x j e c z o f y q eo ef ey eq enters other = record {
   entering = λ h. enters h ∙ ap (λ u. u *ℤ pos den) ef;
   other = λ h. other h ∙ (λ i. (eo i *ℤ pos (eq i)) +ℤ neg_ℤ (ef i *ℤ ey i));
+}
+
+times_one : (z : ℤ) → z *ℤ pos 1 ≡ z
+times_one z = by_ring_ℤ (z ∷ []) (search int_reads depth 30) (search int_reads depth 30) tt
+
+-- where no factor is taken out
+pub number_raised : (width den : ℕ) (old x : List ℤ) (j e c : ℕ) (z o f y q d : ℤ) → o ≡ whole_cell width old j c → f ≡ turned (whole_at x e) (whole_cell width old j e) → y ≡ whole_at x c → q ≡ pos (unsigned_abs (whole_at x e)) → d ≡ pos den →
+    (c ≡ e → z ≡ f *ℤ d) → ((c ≡ e → ⊥) → z ≡ (o *ℤ q) +ℤ neg_ℤ (f *ℤ y)) → IsChanged width 1 den old x j e c z
+number_raised width den old x j e c z o f y q d eo ef ey eq ed enters other = record {
+  entering = λ h. times_one z ∙ enters h ∙ (λ i. ef i *ℤ ed i);
+  other = λ h. times_one z ∙ other h ∙ (λ i. (eo i *ℤ eq i) +ℤ neg_ℤ (ef i *ℤ ey i));
+}
+
+-- and where one is taken out then
+pub changed_divided : (width factor den : ℕ) (old x : List ℤ) (j e c : ℕ) (z u : ℤ) → u *ℤ pos factor ≡ z → IsChanged width 1 den old x j e c z → IsChanged width factor den old x j e c u
+changed_divided width factor den old x j e c z u q h = record {
+  entering = λ k. q ∙ sym (times_one z) ∙ h.entering k;
+  other = λ k. q ∙ sym (times_one z) ∙ h.other k;
 }
 
 -- a changed number through what the row was before

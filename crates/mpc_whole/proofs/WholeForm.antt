@@ -232,13 +232,13 @@ module _ (s : LinearSystem) (p : Position) (r : Reached s p) where
             (second_products IsNarrowAt narrow_all (2 ^ 62 * most_side) narrow_firsts narrow_seconds)
 
       -- or where the numbers are judged row by row
-      module _ (f₀ top size : ℕ) (small : d ≤ 2 ^ 62) (g : IsJudged s n seats k a b d v f₀ top size) where
+      module _ (f₀ top size : ℕ) (g : IsJudged s n seats k a b d v f₀ top size) where
         judged_all : HoldAll s n seats a v (HasRoomAt s k b f₀ top size)
         judged_all = record { numbers = g.unknowns; rows = g.sides }
 
         den_below : (x : ℕ) → x < count s → row_den x < 2 ^ 127
         unfolding row_den
-        den_below x h = let t : d * scale_at k x ≤ 2 ^ 62 * 2 ^ 40 = mul-le d (scale_at k x) (2 ^ 62) (2 ^ 40) small (w.scales.small x) in omega arith
+        den_below x h = let t : d * scale_at k x ≤ 2 ^ 125 = g.whole x (subst (λ m. x < m) whole h) in omega arith
 
         some_variable : (y : ℕ) → y < count s → 0 < count s
         some_variable y h = omega arith

@@ -22,6 +22,7 @@ pub record HasRoomAt (s : LinearSystem) (k : List ℕ) (b : List ℤ) (e top siz
 -- so are the numbers of all rows at a position
 pub record IsJudged (s : LinearSystem) (n : ℕ) (seats : List Seat) (k : List ℕ) (a b : List ℤ) (den : ℕ) (v : List ℤ) (e top size : ℕ) : Type 0 where
   pub dens : (x : ℕ) → x < n → (den * scale_at k x) * size ≤ 2 ^ 125
+  pub whole : (x : ℕ) → x < n → den * scale_at k x ≤ 2 ^ 125
   pub unknowns : (j y c : ℕ) → j < s.width → y < n → seat_at seats y ≡ Column c → HasRoomAt s k b e top size y (whole_cell s.width v j c)
   pub sides : (i y c : ℕ) → i < height s → y < n → seat_at seats y ≡ Column c → HasRoomAt s k b e top size y (side_cell s a v i c)
 
@@ -77,10 +78,18 @@ pub record IsMildForm (s : LinearSystem) (k : List ℕ) (p : Position) (most mos
 pub record AreMildBefore (s : LinearSystem) (k : List ℕ) (after most most_den product : ℕ) : Type 0 where
   pub each : (q : ℕ) → q < after → IsMildForm s k (position s q) most most_den product
 
--- the run stands at this position, and the ones before are such
+-- at least as much as a number or the denominator of a position, none of which is above own, times a number of the row that leaves
+pub record IsProductOf (own top size divisor den scale product : ℕ) : Type 0 where
+  pub most : ℕ
+  pub numbers : top * divisor ≤ most
+  pub pivot : size * divisor ≤ most
+  pub scaled : den * scale ≤ most
+  pub room : own * most ≤ product
+
+-- the run stands at this position, and the ones before are such, if their product is known
 pub record IsMildlyUnderway (s : LinearSystem) (n : ℕ) (seats : List Seat) (k : List ℕ) (den : ℕ) (v c_1 c_2 : List ℤ) (most most_den product first : ℕ) : Type 0 where
   pub underway : IsUnderway s n seats k den v c_1 c_2 most most_den first
-  pub before : AreMildBefore s k underway.stands.at most most_den product
+  pub before : product < 2 ^ 127 → AreMildBefore s k underway.stands.at most most_den product
 
 -- and l leaves there and e enters
 pub record IsGoingOn (s : LinearSystem) (n : ℕ) (seats : List Seat) (k : List ℕ) (den : ℕ) (v c_1 c_2 : List ℤ) (most most_den product first l e : ℕ) : Type 0 where

@@ -1,19 +1,32 @@
 -- The lists of a run.
-use Rattle.std.specs.Prelude.{◌≡◌, ℕ, ◌*◌, ◌^◌, length}
+use Rattle.std.specs.Prelude.{◌≡◌, ℕ, ◌*◌, List, length, ℤ}
 use Rattle.mpc_rows.specs.LinearSystem.{LinearSystem, height}
 use Rattle.mpc_rows.specs.Run.{count}
+use Rattle.mpc_whole.specs.declared.variables.Seat.{Seat}
 use Rattle.mpc_whole.specs.declared.lists.RunLists.{RunLists}
+use Rattle.mpc_whole.specs.declared.lists.WideLists.{WideLists}
 use Rattle.mpc_whole.specs.Table.{IsSeated, AreNonbasic}
 use Rattle.mpc_whole.specs.Whole.{IsSmall}
 
--- lists of a run of the system, whose numbers are at most 2^62 in size, and those of the position at most this
-pub record AreListsOf (s : LinearSystem) (most : ℕ) (l : RunLists) : Type 0 where
-  pub seated : IsSeated (height s) s.width (count s) l.seats.items
-  pub columns : AreNonbasic s.width l.seats.items l.nonbasic.items
-  pub square : length l.v.items ≡ s.width * s.width
-  pub small : IsSmall (2 ^ 62) l.v.items
-  pub own : IsSmall most l.v.items
-  pub first_size : length l.firsts.items ≡ s.width
-  pub second_size : length l.seconds.items ≡ s.width
-  pub first_small : IsSmall (2 ^ 62) l.firsts.items
-  pub second_small : IsSmall (2 ^ 62) l.seconds.items
+-- what they have, whatever the width of the numbers
+pub record Listed : Type 0 where
+  pub seats : List Seat
+  pub nonbasic : List ℕ
+  pub v : List ℤ
+  pub firsts : List ℤ
+  pub seconds : List ℤ
+
+abbrev pub of_short : RunLists → Listed
+of_short l = record { seats = l.seats.items; nonbasic = l.nonbasic.items; v = l.v.items; firsts = l.firsts.items; seconds = l.seconds.items }
+
+abbrev pub of_wide : WideLists → Listed
+of_wide l = record { seats = l.seats.items; nonbasic = l.nonbasic.items; v = l.v.items; firsts = l.firsts.items; seconds = l.seconds.items }
+
+-- lists of a run of the system, whose numbers of the position are at most this in size
+pub record AreListsOf (s : LinearSystem) (most : ℕ) (l : Listed) : Type 0 where
+  pub seated : IsSeated (height s) s.width (count s) l.seats
+  pub columns : AreNonbasic s.width l.seats l.nonbasic
+  pub square : length l.v ≡ s.width * s.width
+  pub own : IsSmall most l.v
+  pub first_size : length l.firsts ≡ s.width
+  pub second_size : length l.seconds ≡ s.width

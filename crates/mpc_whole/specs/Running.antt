@@ -51,12 +51,10 @@ pub record IsHeld (s : LinearSystem) (n : ℕ) (k : List ℕ) (a : List ℤ) (mo
   pub narrow : IsNarrow s n seats k a den v
   pub parts : AreParts s.width c_1 c_2
 
--- the row x of the variable l, in small numbers over a denominator, where the variables stand so
+-- the row x of the variable l over a denominator, where the variables stand so
 pub record IsRefuting (s : LinearSystem) (k : List ℕ) (seats : List Seat) (x : List ℤ) (den l : ℕ) : Type 0 where
   pub scales : AreScales s k
   pub seated : IsSeated (height s) s.width (length seats) seats
   pub row_size : length x ≡ s.width
-  pub row_small : IsSmall (2 ^ 62) x
   pub some : 0 < den
-  pub den_small : den ≤ 2 ^ 62
   pub leaves : l < length seats

@@ -1,18 +1,18 @@
 //! Whether the sizes of the numbers at a position show that no operation of the stated run there is wide.
 
-ghost use Rattle.std.specs.Prelude.{◌≡◌, ℕ, ℤ, ◌+◌, ◌*◌, ◌<◌, ◌≤◌, ◌^◌, IsTrue, IfSome, unsigned_abs, length};
+ghost use Rattle.std.specs.Prelude.{◌≡◌, ℕ, ℤ, ◌+◌, ◌*◌, ◌<◌, ◌≤◌, IfSome, unsigned_abs, length};
 ghost use Rattle.mpc_rows.specs.LinearSystem.{height};
 ghost use Rattle.mpc_whole.specs.declared.variables.Seat.TheVariants.{Column};
 ghost use Rattle.mpc_whole.specs.Table.{seat_at, IsSeated};
-ghost use Rattle.mpc_whole.specs.Whole.{whole_cell, scale_at, side_cell, IsSmall, AreScales, HasRoom};
+ghost use Rattle.mpc_whole.specs.Whole.{whole_cell, scale_at, side_cell, AreScales};
 ghost use Rattle.mpc_whole.specs.Running.{HasNumbers};
 ghost use Rattle.mpc_whole.specs.Judged.{HasRoomAt, IsJudged, IsNorm, IsRowWithin};
 
 use crate::frames::Frame;
 use crate::variables::{Seat, column_of, is_basic};
-use crate::whole_numbers::wide_row_times_column;
 use crate::whole_rows::greatest;
 use crate::whole_systems::WholeSystem;
+use crate::wide_numbers::wide_side_cell;
 
 /// What the products that are formed at a position may have.
 const ROOM: u128 = 1 << 125;
@@ -24,14 +24,6 @@ pub(crate) struct Factors {
     pub enters: usize,
     pub top: u128,
     pub size: u128,
-}
-
-/// The product of two sizes.
-#[inline]
-pub(crate) fn times(x: u64, y: u64) -> u128
-    ensures { result ≡ x * y }
-{
-    x as u128 * y as u128
 }
 
 /// What a number in the column of y is multiplied by, at most.
@@ -61,7 +53,7 @@ fn entry_limit(system: &WholeSystem, frame: &Frame, by: Factors, y: usize) -> u1
 }
 
 /// The greatest size of a number of an unknown's row in the column c.
-fn column_top(v: &[i64], width: usize, c: usize) -> u64
+fn column_top(v: &[i128], width: usize, c: usize) -> u128
     requires square { length v.now ≡ width * width }
     requires column { c < width }
     ensures { (j : ℕ) → j < width → unsigned_abs (whole_cell width v.now j c) ≤ result }
@@ -76,22 +68,27 @@ fn column_top(v: &[i64], width: usize, c: usize) -> u64
     top
 }
 
-/// Whether no number of a side's row in the column c is above a limit in size.
-fn are_sides_within(system: &WholeSystem, a: &[i64], v: &[i64], c: usize, limit: u128) -> bool
+/// If no number of a side's row in the column c is above a limit in size.
+fn are_sides_within(
+    system: &WholeSystem,
+    a: &[i64],
+    v: &[i128],
+    c: usize,
+    limit: u128,
+) -> Option<()>
     requires entries { length a.now ≡ height system.now * system.now.width }
-    requires room { HasRoom system.now.width (2 ^ 62) a.now }
     requires square { length v.now ≡ system.now.width * system.now.width }
-    requires small { IsSmall (2 ^ 62) v.now }
     requires column { c < system.now.width }
-    ensures { IsTrue result → (i : ℕ) → i < height system.now → unsigned_abs (side_cell system.now a.now v.now i c) ≤ limit }
+    ensures { IfSome result (λ _. (i : ℕ) → i < height system.now → unsigned_abs (side_cell system.now a.now v.now i c) ≤ limit) }
 {
     let width = system.unknowns();
     for i in 0..system.height() {
-        if wide_row_times_column(a, i, v, width, c).unsigned_abs() > limit {
-            return false;
+        let cell = wide_side_cell(a, i, v, width, c)?;
+        if cell.unsigned_abs() > limit {
+            return None;
         }
     }
-    true
+    Some(())
 }
 
 /// By how many times more a number of a side's row may have than those of its column, at least 1.
@@ -102,31 +99,29 @@ fn norm_of(a: &[i64], width: usize) -> u128
     norm.max(1)
 }
 
-/// Whether no number of any row in the column c is above a limit in size. The rows of the sides are formed only
-/// where their norm doesn't show it.
+/// If no number of any row in the column c is above a limit in size. The rows of the sides are formed only where
+/// their norm doesn't show it.
 fn is_column_within(
     system: &WholeSystem,
     a: &[i64],
-    v: &[i64],
+    v: &[i128],
     c: usize,
     limit: u128,
     norm: u128,
-) -> bool
+) -> Option<()>
     requires entries { length a.now ≡ height system.now * system.now.width }
-    requires room { HasRoom system.now.width (2 ^ 62) a.now }
     requires square { length v.now ≡ system.now.width * system.now.width }
-    requires small { IsSmall (2 ^ 62) v.now }
     requires column { c < system.now.width }
     requires norm { IsNorm system.now.width a.now norm }
-    ensures unknowns { IsTrue result → (j : ℕ) → j < system.now.width → unsigned_abs (whole_cell system.now.width v.now j c) ≤ limit }
-    ensures sides { IsTrue result → (i : ℕ) → i < height system.now → unsigned_abs (side_cell system.now a.now v.now i c) ≤ limit }
+    ensures unknowns { IfSome result (λ _. (j : ℕ) → j < system.now.width → unsigned_abs (whole_cell system.now.width v.now j c) ≤ limit) }
+    ensures sides { IfSome result (λ _. (i : ℕ) → i < height system.now → unsigned_abs (side_cell system.now a.now v.now i c) ≤ limit) }
 {
-    let top = column_top(v, system.unknowns(), c) as u128;
+    let top = column_top(v, system.unknowns(), c);
     if top > limit {
-        return false;
+        return None;
     }
     if top <= limit / norm {
-        return true;
+        return Some(());
     }
     are_sides_within(system, a, v, c, limit)
 }
@@ -135,22 +130,22 @@ fn is_column_within(
 /// sizes.
 pub(crate) fn judge(
     seats: &[Seat],
-    v: &[i64],
+    v: &[i128],
     system: &WholeSystem,
     frame: &Frame,
-    den: u64,
+    den: u128,
     by: Factors,
 ) -> Option<()>
     requires numbers { HasNumbers system.now frame.now.n frame.now.scales.now frame.now.a.now frame.now.b.now }
     requires seated { IsSeated (height system.now) system.now.width frame.now.n seats.now }
     requires square { length v.now ≡ system.now.width * system.now.width }
-    requires small { IsSmall (2 ^ 62) v.now }
     ensures { IfSome result (λ _. IsJudged system.now frame.now.n seats.now frame.now.scales.now frame.now.a.now frame.now.b.now den v.now by.enters by.top by.size) }
 {
     let room = ROOM / by.size.max(1);
     let norm = norm_of(frame.a, system.unknowns());
     for y in 0..frame.n {
-        if times(den, frame.scales[y]) > room {
+        let scaled = den.checked_mul(frame.scales[y] as u128)?;
+        if scaled > room {
             return None;
         }
         if is_basic(seats, y) {
@@ -158,9 +153,7 @@ pub(crate) fn judge(
         }
         let c = column_of(seats, y);
         let limit = entry_limit(system, frame, by, y);
-        if !is_column_within(system, frame.a, v, c, limit, norm) {
-            return None;
-        }
+        is_column_within(system, frame.a, v, c, limit, norm)?;
     }
     Some(())
 }
@@ -168,15 +161,14 @@ pub(crate) fn judge(
 /// If the numbers of a position where no pivot is made, and its denominator, leave room for its values.
 pub(crate) fn judge_end(
     seats: &[Seat],
-    v: &[i64],
+    v: &[i128],
     system: &WholeSystem,
     frame: &Frame,
-    den: u64,
+    den: u128,
 ) -> Option<()>
     requires numbers { HasNumbers system.now frame.now.n frame.now.scales.now frame.now.a.now frame.now.b.now }
     requires seated { IsSeated (height system.now) system.now.width frame.now.n seats.now }
     requires square { length v.now ≡ system.now.width * system.now.width }
-    requires small { IsSmall (2 ^ 62) v.now }
     ensures { IfSome result (λ _. IsJudged system.now frame.now.n seats.now frame.now.scales.now frame.now.a.now frame.now.b.now den v.now 0 0 0) }
 {
     let none = Factors {
@@ -188,12 +180,18 @@ pub(crate) fn judge_end(
 }
 
 /// What the numbers of a position are multiplied by where the row x of the variable l leaves and e enters.
-pub(crate) fn factors_of(seats: &[Seat], x: &[i64], scales: &[u64], l: usize, e: usize) -> Factors
+pub(crate) fn factors_of(
+    seats: &[Seat],
+    x: &[i128],
+    scales: &[u64],
+    l: usize,
+    e: usize,
+) -> Option<Factors>
     requires leaves { l < length scales.now }
     requires scales { length scales.now ≡ length seats.now }
     requires columns { (y c : ℕ) → y < length seats.now → seat_at seats.now y ≡ Column c → c < length x.now }
-    ensures enters { result.enters ≡ e }
-    ensures row { IsRowWithin (length seats.now) seats.now scales.now l e x.now result.top result.size }
+    ensures enters { IfSome result (λ by. by.enters ≡ e) }
+    ensures row { IfSome result (λ by. IsRowWithin (length seats.now) seats.now scales.now l e x.now by.top by.size) }
 {
     let mut top = scales[l] as u128;
     let mut size = 0;
@@ -202,16 +200,16 @@ pub(crate) fn factors_of(seats: &[Seat], x: &[i64], scales: &[u64], l: usize, e:
             continue;
         }
         let c = column_of(seats, y);
-        let product = times(x[c].unsigned_abs(), scales[y]);
+        let product = x[c].unsigned_abs().checked_mul(scales[y] as u128)?;
         if y == e {
             size = size.max(product);
         } else {
             top = top.max(product);
         }
     }
-    Factors {
+    Some(Factors {
         enters: e,
         top,
         size,
-    }
+    })
 }

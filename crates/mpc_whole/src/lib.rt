@@ -18,10 +18,13 @@ mod whole_rows;
 mod whole_systems;
 mod whole_turn;
 mod whole_values;
+mod wide_numbers;
+mod wide_turn;
+mod wide_values;
 
 pub use divisors::Divisor;
-pub use judged::judged_run;
-pub use lists::RunLists;
+pub use judged::{WidePlace, judged_run};
+pub use lists::{RunLists, WideLists};
 use mpc_rows::{Multipliers, PairPoint};
 pub use numbers::{Standing, zero, zero_pairs, zeros};
 pub use theorems::over_theorems;

@@ -14,3 +14,16 @@ pub struct RunLists {
     pub firsts: Vec<i64>,
     pub seconds: Vec<i64>,
 }
+
+/// The lists of a run at a position, with numbers of 128 bits.
+#[derive(Drop)]
+pub struct WideLists {
+    /// Where the variables stand, and which of them stand in the columns.
+    pub seats: Vec<Seat>,
+    pub nonbasic: Vec<usize>,
+    /// The numbers of the position.
+    pub v: Vec<i128>,
+    /// The values of the unknowns there, in their first parts and in their second ones.
+    pub firsts: Vec<i128>,
+    pub seconds: Vec<i128>,
+}

@@ -12,9 +12,9 @@ ghost use Rattle.mpc_whole.specs.Whole.{IsWholeSystem, IsForm, IsSmall, HasRoom,
 
 use crate::numbers::{Standing, zero};
 use crate::variables::{Seat, column_of, is_basic};
-use crate::whole_numbers::{negative, product, signed, widened};
 use crate::whole_systems::WholeSystem;
-use crate::whole_turn::divided_side_row;
+use crate::wide_numbers::{positive, wide_product};
+use crate::wide_turn::divided_side_row;
 use mpc_frac::Frac;
 
 /// The fraction `z / den`, if it has 128 bits.
@@ -28,28 +28,22 @@ fn quotient(z: i128, den: i128) -> Option<Frac>
 }
 
 /// The fraction `z / den`.
-fn fraction(z: i64, den: u64) -> Option<Frac>
-    requires some { 0 < den }
-    requires den_small { den ≤ 2 ^ 62 }
+fn fraction(z: i128, den: u128) -> Option<Frac>
+    requires { 0 < den }
     ensures { IfSome result (λ x. x ≡ frac z den) }
 {
     if z == 0 {
         return Some(zero());
     }
-    match Frac::new(widened(z), widened(signed(den))) {
-        Ok(x) => Some(x),
-        Err(_) => None,
-    }
+    let over = positive(den)?;
+    quotient(z, over)
 }
 
 /// The values of the unknowns.
-fn point(values: &mut [Standing], c_1: &[i64], c_2: &[i64], den: u64) -> Option<()>
+fn point(values: &mut [Standing], c_1: &[i128], c_2: &[i128], den: u128) -> Option<()>
     requires room { length values.old ≡ length c_1.now }
     requires same { length c_2.now ≡ length c_1.now }
     requires some { 0 < den }
-    requires den_small { den ≤ 2 ^ 62 }
-    requires first_small { IsSmall (2 ^ 62) c_1.now }
-    requires second_small { IsSmall (2 ^ 62) c_2.now }
     ensures { IfSome result (λ _. ArePairs den c_1.now c_2.now values.new) }
 {
     for j in 0..c_1.len() {
@@ -65,8 +59,8 @@ fn multiplier(
     system: &WholeSystem,
     scales: &[u64],
     seats: &[Seat],
-    x: &[i64],
-    den: u64,
+    x: &[i128],
+    den: u128,
     l: usize,
     i: usize,
 ) -> Option<Frac>
@@ -82,9 +76,12 @@ fn multiplier(
         return Some(zero());
     }
     let c = column_of(seats, y);
-    let up = product(negative(x[c]), signed(scales[y]));
-    let down = product(signed(den), signed(scales[l]));
-    quotient(up, down)
+    let negative = 0_i128.checked_sub(x[c])?;
+    let scale = positive(scales[y] as u128)?;
+    let up = wide_product(negative, scale)?;
+    let down = den.checked_mul(scales[l] as u128)?;
+    let over = positive(down)?;
+    quotient(up, over)
 }
 
 /// The multipliers, where the row x of the variable l refutes.
@@ -93,8 +90,8 @@ fn multipliers(
     system: &WholeSystem,
     scales: &[u64],
     seats: &[Seat],
-    x: &[i64],
-    den: u64,
+    x: &[i128],
+    den: u128,
     l: usize,
 ) -> Option<()>
     requires room { length list.old ≡ height system.now }
@@ -112,17 +109,14 @@ fn multipliers(
 pub fn last_values(
     values: &mut [Standing],
     _system: &WholeSystem,
-    c_1: &[i64],
-    c_2: &[i64],
-    den: u64,
+    c_1: &[i128],
+    c_2: &[i128],
+    den: u128,
 ) -> Option<()>
     requires room { length values.old ≡ _system.now.width }
     requires first_size { length c_1.now ≡ _system.now.width }
     requires second_size { length c_2.now ≡ _system.now.width }
     requires some { 0 < den }
-    requires den_small { den ≤ 2 ^ 62 }
-    requires first_small { IsSmall (2 ^ 62) c_1.now }
-    requires second_small { IsSmall (2 ^ 62) c_2.now }
     requires are { AreValues _system.now (last_position _system.now) den c_1.now c_2.now }
     ensures { IfSome result (λ _. IsValues _system.now (last_position _system.now) values.new) }
 {
@@ -132,25 +126,22 @@ pub fn last_values(
 /// The multipliers at the last position of a run, where the row of the side l refutes.
 pub fn last_multipliers(
     list: &mut [Frac],
-    x: &mut [i64],
+    x: &mut [i128],
     system: &WholeSystem,
     scales: &[u64],
     seats: &[Seat],
     a: &[i64],
     b: &[i64],
-    v: &[i64],
+    v: &[i128],
     n: usize,
-    den: u64,
+    den: u128,
     l: usize,
 ) -> Option<()>
     requires list_room { length list.old ≡ height system.now }
     requires row_room { length x.old ≡ system.now.width }
     requires seated { IsSeated (height system.now) system.now.width n seats.now }
     requires whole { IsWholeSystem system.now scales.now a.now b.now }
-    requires room { HasRoom system.now.width (2 ^ 62) a.now }
     requires square { length v.now ≡ system.now.width * system.now.width }
-    requires small { IsSmall (2 ^ 62) v.now }
-    requires den_small { den ≤ 2 ^ 62 }
     requires form { IsForm system.now n seats.now scales.now den v.now (last_position system.now) }
     requires refuted { turn system.now (last_position system.now) ≡ is_refuted l }
     ensures { IfSome result (λ _. IsMultipliers system.now (last_position system.now) l list.new) }

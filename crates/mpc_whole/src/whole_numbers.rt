@@ -224,25 +224,6 @@ pub(crate) fn row_times(a: &[i64], i: usize, c: &[i64], sums: Sums) -> i128
     }
 }
 
-/// The row i of a times the column c of v, which need not fit 64 bits.
-#[inline]
-pub(crate) fn wide_row_times_column(a: &[i64], i: usize, v: &[i64], width: usize, c: usize) -> i128
-    requires inside { i * width + width ≤ length a.now }
-    requires square { length v.now ≡ width * width }
-    requires column { c < width }
-    requires room { HasRoom width (2 ^ 62) a.now }
-    requires small { IsSmall (2 ^ 62) v.now }
-    ensures value { result ≡ whole_total width (λ j. whole_cell width a.now i j *ℤ whole_cell width v.now j c) }
-    ensures small { unsigned_abs result ≤ 2 ^ 124 }
-{
-    let from = i * width;
-    let mut total = 0;
-    for j in 0..width {
-        total = sum(total, product(a[from + j], v[j * width + c]));
-    }
-    total
-}
-
 /// The row i of a times the column c of v, which fits 64 bits. The sums on the way may wrap.
 #[inline]
 pub(crate) fn row_times_column(a: &[i64], i: usize, v: &[i64], width: usize, c: usize) -> i64

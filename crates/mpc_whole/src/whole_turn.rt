@@ -9,20 +9,14 @@ ghost use Rattle.mpc_whole.specs.declared.variables.Seat.{Seat};
 ghost use Rattle.mpc_whole.specs.declared.variables.Seat.TheVariants.{Column};
 ghost use Rattle.mpc_whole.specs.Table.{seat_at, in_row, IsSeated, AreNonbasic};
 ghost use Rattle.mpc_whole.specs.Sums.{are_short, are_of_four};
-ghost use Rattle.mpc_whole.specs.Judged.{IsDividedRow};
 ghost use Rattle.mpc_whole.specs.Underway.{StayBefore};
 ghost use Rattle.mpc_whole.specs.Whole.{whole_at, whole_cell, whole_total, IsSmall, HasRoom, HasSides, HasSideValues, HasBasis, IsRowOf, IsSideRow, side_cell};
 ghost use Rattle.mpc_whole.specs.Running.{HasNumbers, IsFrame, AreParts, AreShort};
 
-use crate::divisors::Divisor;
 use crate::frames::Frame;
-use crate::reduced::shared_with;
 use crate::variables::{Seat, is_basic};
 use crate::whole::Place;
-use crate::whole_numbers::{
-    Sums, product, row_times, row_times_column, signed, small, small_quotient,
-    wide_row_times_column, widened,
-};
+use crate::whole_numbers::{Sums, product, row_times, row_times_column, signed};
 use crate::whole_systems::WholeSystem;
 use crate::whole_values::step_of;
 
@@ -171,122 +165,6 @@ pub(crate) fn leaving_row(x: &mut [i64], system: &WholeSystem, a: &[i64], v: &[i
     ensures small { IsSmall (2 ^ 62) x.new }
 {
     side_row(x, system, a, v, l - system.unknowns());
-}
-
-/// The row of side i, where its numbers are small.
-pub(crate) fn small_side_row(
-    x: &mut [i64],
-    system: &WholeSystem,
-    a: &[i64],
-    v: &[i64],
-    i: usize,
-) -> Option<()>
-    requires side { i < height system.now }
-    requires entries { length a.now ≡ height system.now * system.now.width }
-    requires room { HasRoom system.now.width (2 ^ 62) a.now }
-    requires square { length v.now ≡ system.now.width * system.now.width }
-    requires numbers_small { IsSmall (2 ^ 62) v.now }
-    requires row_size { length x.old ≡ system.now.width }
-    ensures row { IfSome result (λ _. IsSideRow system.now a.now v.now i x.new) }
-    ensures small { IfSome result (λ _. IsSmall (2 ^ 62) x.new) }
-{
-    let width = system.unknowns();
-    for c in 0..width {
-        let z = small(wide_row_times_column(a, i, v, width, c))?;
-        x[c] = z;
-    }
-    Some(())
-}
-
-/// What divides the denominator and the row of side i.
-fn row_divisor(system: &WholeSystem, a: &[i64], v: &[i64], i: usize, den: u64) -> u128
-    requires side { i < height system.now }
-    requires entries { length a.now ≡ height system.now * system.now.width }
-    requires room { HasRoom system.now.width (2 ^ 62) a.now }
-    requires square { length v.now ≡ system.now.width * system.now.width }
-    requires numbers_small { IsSmall (2 ^ 62) v.now }
-    requires den_some { 0 < den }
-    ensures { 0 < result }
-{
-    let width = system.unknowns();
-    let mut shared = den as u128;
-    for c in 0..width {
-        let z = wide_row_times_column(a, i, v, width, c);
-        shared = shared_with(shared, z.unsigned_abs());
-    }
-    shared
-}
-
-/// A row that leaves, over a divisor of its numbers and the denominator, and what is left of the denominator.
-#[derive(Clone, Copy, Drop)]
-pub(crate) struct DividedRow<'a> {
-    pub x: &'a [i64],
-    pub divisor: u64,
-    pub rest: u64,
-}
-
-/// The row of side i over such a divisor, where its numbers are small then: the divisor, and what is left of the
-/// denominator.
-fn divide_row(
-    x: &mut [i64],
-    system: &WholeSystem,
-    a: &[i64],
-    v: &[i64],
-    i: usize,
-    den: u64,
-) -> Option<(u64, u64)>
-    requires side { i < height system.now }
-    requires entries { length a.now ≡ height system.now * system.now.width }
-    requires room { HasRoom system.now.width (2 ^ 62) a.now }
-    requires square { length v.now ≡ system.now.width * system.now.width }
-    requires numbers_small { IsSmall (2 ^ 62) v.now }
-    requires row_size { length x.old ≡ system.now.width }
-    requires den_some { 0 < den }
-    requires den_small { den ≤ 2 ^ 62 }
-    ensures row { IfSome result (λ r. IsDividedRow system.now a.now v.now i den r.0 r.1 x.new) }
-    ensures small { IfSome result (λ _. IsSmall (2 ^ 62) x.new) }
-    ensures rest_small { IfSome result (λ r. r.1 ≤ 2 ^ 62) }
-{
-    let width = system.unknowns();
-    let shared = row_divisor(system, a, v, i, den);
-    if shared > 1 << 62 {
-        return None;
-    }
-    let by = Divisor::of(shared as u64);
-    let rest = small_quotient(widened(signed(den)), by, 1 << 62)?;
-    for c in 0..width {
-        let z = small_quotient(wide_row_times_column(a, i, v, width, c), by, 1 << 62)?;
-        x[c] = z;
-    }
-    Some((by.den, rest.unsigned_abs()))
-}
-
-/// The row of side i, over a divisor of it and the denominator where its numbers aren't small: the divisor, and what
-/// is left of the denominator.
-pub(crate) fn divided_side_row(
-    x: &mut [i64],
-    system: &WholeSystem,
-    a: &[i64],
-    v: &[i64],
-    i: usize,
-    den: u64,
-) -> Option<(u64, u64)>
-    requires side { i < height system.now }
-    requires entries { length a.now ≡ height system.now * system.now.width }
-    requires room { HasRoom system.now.width (2 ^ 62) a.now }
-    requires square { length v.now ≡ system.now.width * system.now.width }
-    requires numbers_small { IsSmall (2 ^ 62) v.now }
-    requires row_size { length x.old ≡ system.now.width }
-    requires den_some { 0 < den }
-    requires den_small { den ≤ 2 ^ 62 }
-    ensures row { IfSome result (λ r. IsDividedRow system.now a.now v.now i den r.0 r.1 x.new) }
-    ensures small { IfSome result (λ _. IsSmall (2 ^ 62) x.new) }
-    ensures rest_small { IfSome result (λ r. r.1 ≤ 2 ^ 62) }
-{
-    if let Some(()) = small_side_row(x, system, a, v, i) {
-        return Some((1, den));
-    }
-    divide_row(x, system, a, v, i, den)
 }
 
 /// Whether the variable y of column c may enter, by the row x of the variable that leaves: an unknown if its

@@ -18,9 +18,9 @@ returns c =
     has_bounds s k c.in_ok-n.n c.unknowns-width.result m.most_entry m.most_side m.most_scale most m.a.now m.b.now counted c.unknowns-width.ensures c.requires.numbers.entries c.requires.numbers.sides c.requires.numbers.scales c.requires.numbers.some_side c.in_ok-most.ensures.room c.in_ok-most.ensures.top c.in_ok-most.ensures.side_room
     in
     let own : from.own ≤ most = (let e = c.max.ensures in let l = c.if-max-most.false in omega arith) in
-    let den : from.den ≤ c.max-2.result = (let e = c.max-2.ensures in omega arith) in
-    let kept_den : from.greatest_den ≤ c.max-2.result = (let e = c.max-2.ensures in omega arith) in
-    let top : c.max-2.result * m.most_scale ≤ 2 ^ 62 = c.if-scaled.false in
+    let den : from.den ≤ c.max-dens.result = (let e = c.max-dens.ensures in omega arith) in
+    let kept_den : from.greatest_den ≤ c.max-dens.result = (let e = c.max-dens.ensures in omega arith) in
+    let top : c.max-dens.result * m.most_scale ≤ 2 ^ 62 = (let e = c.in_ok-scaled.ensures.1 in let h = c.if-scaled.false in omega arith) in
     record {
       bounds = g;
       room =
@@ -28,9 +28,9 @@ returns c =
           c.in_ok-most.ensures.some c.requires.numbers.some_scale;
       top = let e = c.in_ok-most.ensures.top in let h : most ≤ m.most_scale * most = times_some m.most_scale most c.requires.numbers.some_scale in omega (arith, e, h);
       own_small = own;
-      den_small = let h : c.max-2.result ≤ m.most_scale * c.max-2.result = times_some m.most_scale c.max-2.result c.requires.numbers.some_scale in omega (arith, den, top, h);
+      den_small = let h : c.max-dens.result ≤ m.most_scale * c.max-dens.result = times_some m.most_scale c.max-dens.result c.requires.numbers.some_scale in omega (arith, den, top, h);
       narrow = λ seats v small. narrow_by_norms s k m.a.now m.b.now v g.most_entry g.most_side g.most_scale most g.bounds (weaker from.own most v small own) (count s) seats from.den
-          (λ x h. le_trans (le_trans (mul-le-mul_right (scale_at k x) den) (mul-le-mul_left c.max-2.result (c.requires.numbers.scales x))) top);
+          (λ x h. le_trans (le_trans (mul-le-mul_right (scale_at k x) den) (mul-le-mul_left c.max-dens.result (c.requires.numbers.scales x))) top);
       kept_small = let e = c.max.ensures in let l = c.if-max-most.false in omega arith;
       kept_den_small = le_trans (mul-le-mul_right m.most_scale kept_den) top;
     }

@@ -1,44 +1,35 @@
-use Rattle.std.proofs.Common.{◌≡◌, arith}
+use Rattle.std.proofs.Common.{sym, subst, cond}
+use Rattle.std.specs.Prelude.{IfSome}
+use Rattle.std.proofs.lemmas.Option.{IfSome_then}
 use Rattle.mpc_rows.specs.Run.{count}
-use Rattle.mpc_whole.proofs.WholeRows.{weaker}
+use Rattle.mpc_whole.specs.Underway.{HasEnded}
+use Rattle.mpc_whole.specs.Lists.{Listed, AreListsOf, of_short, of_wide}
+use Rattle.mpc_beginnings.proofs.Listed.{short_of}
+use Rattle.mpc_beginnings.specs.Kept.{IsUnderwayWithin}
 use Rattle.mpc_beginnings.proofs.kept.limited_run.Goals as goal
-use Rattle.mpc_beginnings.proofs.kept.limited_run.Goals.{After-len-n}
 
-counted : (c : After-len-n) → c.len-n.result ≡ count c.args.system.now
-counted c = let o = c.args.lists.now.seats.ok in let e = c.len-n.ensures in let z = c.requires.lists.seated.each in omega (arith, o, e, z)
+pub short_run-requires-clause-lists : goal.short_run-requires-clause-lists
+short_run-requires-clause-lists c = subst (λ (t : Listed). AreListsOf c.args.system.now c.args.from.own t) (short_of c.args.lists.now c.if-lists.false) c.requires.lists
 
-pub whole_run-requires-clause-seated : goal.whole_run-requires-clause-seated
-whole_run-requires-clause-seated c = rw (counted (goal.at.whole_run-requires-clause-seated c).After-len-n, c.deref_mut.ensures.value) c.requires.lists.seated
+pub short_run-requires-clause-start : goal.short_run-requires-clause-start
+short_run-requires-clause-start c = subst (λ (t : Listed). IsUnderwayWithin c.args.system.now c.args.numbers.now t c.args.from) (short_of c.args.lists.now c.if-lists.false) c.requires.start
 
-pub whole_run-requires-clause-columns : goal.whole_run-requires-clause-columns
-whole_run-requires-clause-columns c = rw (c.deref_mut.ensures.value, c.deref_mut-2.ensures.value) c.requires.lists.columns
+pub short_run-requires-clause-first_small : goal.short_run-requires-clause-first_small
+short_run-requires-clause-first_small c = c.requires.short.first c.if-lists.false
 
-pub whole_run-requires-clause-square : goal.whole_run-requires-clause-square
-whole_run-requires-clause-square c = rw c.deref_mut-3.ensures.value c.requires.lists.square
+pub short_run-requires-clause-second_small : goal.short_run-requires-clause-second_small
+short_run-requires-clause-second_small c = c.requires.short.second c.if-lists.false
 
-pub whole_run-requires-clause-first_size : goal.whole_run-requires-clause-first_size
-whole_run-requires-clause-first_size c = rw c.deref_mut-4.ensures.value c.requires.lists.first_size
+pub returns-clause-lists : goal.returns-clause-lists
+returns-clause-lists c =
+    subst (λ b. IfSome c.short_run.result (λ t. AreListsOf c.args.system.now t.0.own (cond b (of_wide c.args.lists.now.wide) (of_short c.short_run.new.lists)))) (sym c.if-lists.false) c.short_run.ensures.lists
 
-pub whole_run-requires-clause-second_size : goal.whole_run-requires-clause-second_size
-whole_run-requires-clause-second_size c = rw c.deref_mut-5.ensures.value c.requires.lists.second_size
+pub returns-clause-short : goal.returns-clause-short
+returns-clause-short c = IfSome_then c.short_run.result c.short_run.ensures.small (λ t h. record { first = λ e. h.0; second = λ e. h.1 })
 
-pub whole_run-requires-clause-first_small : goal.whole_run-requires-clause-first_small
-whole_run-requires-clause-first_small c = rw c.deref_mut-4.ensures.value c.requires.lists.first_small
-
-pub whole_run-requires-clause-second_small : goal.whole_run-requires-clause-second_small
-whole_run-requires-clause-second_small c = rw c.deref_mut-5.ensures.value c.requires.lists.second_small
-
-pub whole_run-requires-clause-small : goal.whole_run-requires-clause-small
-whole_run-requires-clause-small c = rw c.deref_mut-3.ensures.value (weaker c.args.from.own c.in_ok-most.most c.args.lists.now.v.items c.requires.lists.own c.in_ok-most.ensures.own_small)
-
-pub whole_run-requires-clause-own : goal.whole_run-requires-clause-own
-whole_run-requires-clause-own c = rw c.deref_mut-3.ensures.value c.requires.lists.own
-
-pub whole_run-requires-clause-narrow : goal.whole_run-requires-clause-narrow
-whole_run-requires-clause-narrow c =
-    rw (counted (goal.at.whole_run-requires-clause-narrow c).After-len-n) (c.in_ok-most.ensures.narrow c.deref_mut.result.now c.deref_mut-3.result.now (rw c.deref_mut-3.ensures.value c.requires.lists.own))
-
-pub whole_run-requires-clause-underway : goal.whole_run-requires-clause-underway
-whole_run-requires-clause-underway c =
-    rw (counted (goal.at.whole_run-requires-clause-underway c).After-len-n, c.deref_mut.ensures.value, c.deref_mut-3.ensures.value, c.deref_mut-4.ensures.value, c.deref_mut-5.ensures.value)
-    (c.requires.start.within c.in_ok-most.most c.in_ok-most.ensures.bounds c.in_ok-most.ensures.kept_small c.in_ok-most.ensures.kept_den_small)
+pub returns-clause-end : goal.returns-clause-end
+returns-clause-end c =
+    let s = c.args.system.now in
+    let k = c.args.numbers.now.scales.now in
+    let ended = λ (l : Listed). IfSome c.short_run.result (λ t. HasEnded s (count s) l.seats k t.0.den l.v l.firsts l.seconds t.0.greatest t.0.greatest_den t.1) in
+    subst (λ b. ended (cond b (of_wide c.args.lists.now.wide) (of_short c.short_run.new.lists))) (sym c.if-lists.false) c.short_run.ensures.end

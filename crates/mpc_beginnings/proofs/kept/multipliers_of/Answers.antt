@@ -12,9 +12,6 @@ last_multipliers-found-requires-clause-seated c = rw (counted (goal.at.last_mult
 pub last_multipliers-found-requires-clause-square : goal.last_multipliers-found-requires-clause-square
 last_multipliers-found-requires-clause-square c = rw c.deref-2.ensures.value c.requires.kept.lists.square
 
-pub last_multipliers-found-requires-clause-small : goal.last_multipliers-found-requires-clause-small
-last_multipliers-found-requires-clause-small c = rw c.deref-2.ensures.value c.requires.kept.lists.small
-
 pub last_multipliers-found-requires-clause-form : goal.last_multipliers-found-requires-clause-form
 last_multipliers-found-requires-clause-form c =
     rw (counted (goal.at.last_multipliers-found-requires-clause-form c).After-len, c.deref.ensures.value, c.deref-2.ensures.value) c.requires.kept.ended.form

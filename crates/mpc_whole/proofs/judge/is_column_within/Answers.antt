@@ -5,7 +5,7 @@ use Rattle.mpc_whole.proofs.WholeForm.{column_norm}
 use Rattle.mpc_whole.proofs.judge.is_column_within.Goals as goal
 
 pub returns-then-top-limit-2-clause-sides : goal.returns-then-top-limit-2-clause-sides
-returns-then-top-limit-2-clause-sides c = λ yes i h.
+returns-then-top-limit-2-clause-sides c = λ i h.
     let s = c.args.system.now in
     let top = c.column_top-top.result in
     let below : (j : ℕ) → j < s.width → unsigned_abs (whole_cell s.width c.args.v.now j c.args.c) ≤ top = subst (λ w. (j : ℕ) → j < w → unsigned_abs (whole_cell w c.args.v.now j c.args.c) ≤ top) c.unknowns.ensures c.column_top-top.ensures in

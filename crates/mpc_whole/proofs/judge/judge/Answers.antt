@@ -8,20 +8,29 @@ use Rattle.mpc_whole.specs.Judged.{HasRoomAt, IsNorm}
 use Rattle.mpc_whole.proofs.Seats.{column_same}
 use Rattle.mpc_whole.proofs.Judges.{within_share}
 use Rattle.mpc_whole.proofs.judge.judge.Goals as goal
-use Rattle.mpc_whole.proofs.judge.judge.Goals.{After-times, After-column_of-c}
+use Rattle.mpc_whole.proofs.judge.judge.Goals.{In_ok-scaled, After-column_of-c}
 
-dens_here : (c : After-times) → c.times.result ≤ (2 ^ 125) / c.max-room.result → (c.args.den * scale_at c.args.frame.now.scales.now c.loop-y.y) * c.args.by.size ≤ 2 ^ 125
-dens_here c h =
+all_here : (c : In_ok-scaled) → c.in_ok-scaled.scaled ≤ (2 ^ 125) / c.max-room.result → (c.args.den * scale_at c.args.frame.now.scales.now c.loop-y.y) * c.max-room.result ≤ 2 ^ 125
+all_here c h =
+    within_share (2 ^ 125) c.max-room.result (c.args.den * scale_at c.args.frame.now.scales.now c.loop-y.y) (let q = c.max-room.ensures in omega arith) (subst (λ m. m ≤ (2 ^ 125) / c.max-room.result) c.in_ok-scaled.ensures.1 h)
+
+dens_here : (c : In_ok-scaled) → c.in_ok-scaled.scaled ≤ (2 ^ 125) / c.max-room.result → (c.args.den * scale_at c.args.frame.now.scales.now c.loop-y.y) * c.args.by.size ≤ 2 ^ 125
+dens_here c h = le_trans (mul-le-mul_left (c.args.den * scale_at c.args.frame.now.scales.now c.loop-y.y) (let q = c.max-room.ensures in omega arith)) (all_here c h)
+
+whole_here : (c : In_ok-scaled) → c.in_ok-scaled.scaled ≤ (2 ^ 125) / c.max-room.result → c.args.den * scale_at c.args.frame.now.scales.now c.loop-y.y ≤ 2 ^ 125
+whole_here c h =
     let d = c.args.den * scale_at c.args.frame.now.scales.now c.loop-y.y in
-    let all : d * c.max-room.result ≤ 2 ^ 125 = within_share (2 ^ 125) c.max-room.result d (let q = c.max-room.ensures in omega arith) (subst (λ m. m ≤ (2 ^ 125) / c.max-room.result) c.times.ensures h) in
-    le_trans (mul-le-mul_left d (let q = c.max-room.ensures in omega arith)) all
+    let one : d * 1 ≤ d * c.max-room.result = mul-le-mul_left d (let q = c.max-room.ensures in omega arith) in
+    let all : d * c.max-room.result ≤ 2 ^ 125 = all_here c h in
+    omega arith
 
 pub loop-y-preserved-then-is_basic : goal.loop-y-preserved-then-is_basic
 loop-y-preserved-then-is_basic c =
     let at = goal.at.loop-y-preserved-then-is_basic c in
     let basic : in_row (seat_at c.args.seats.now c.loop-y.y) ≡ true = sym c.is_basic.ensures ∙ c.if-is_basic.true in
     record {
-      dens = below_more (λ x. (c.args.den * scale_at c.args.frame.now.scales.now x) * c.args.by.size ≤ 2 ^ 125) c.loop-y.y c.loop-y.invariant.dens (dens_here at.After-times c.if-times-room.false);
+      dens = below_more (λ x. (c.args.den * scale_at c.args.frame.now.scales.now x) * c.args.by.size ≤ 2 ^ 125) c.loop-y.y c.loop-y.invariant.dens (dens_here at.In_ok-scaled c.if-scaled-room.false);
+      whole = below_more (λ x. c.args.den * scale_at c.args.frame.now.scales.now x ≤ 2 ^ 125) c.loop-y.y c.loop-y.invariant.whole (whole_here at.In_ok-scaled c.if-scaled-room.false);
       unknowns = λ j y k h l e. below_more (λ y. seat_at c.args.seats.now y ≡ Column k → HasRoomAt c.args.system.now c.args.frame.now.scales.now c.args.frame.now.b.now c.args.by.enters c.args.by.top c.args.by.size y (whole_cell c.args.system.now.width c.args.v.now j k)) c.loop-y.y (λ y l e. c.loop-y.invariant.unknowns j y k h l e)
           (λ e. absurd (both_ways (in_row (seat_at c.args.seats.now c.loop-y.y)) (ap in_row e) basic)) y l e;
       sides = λ i y k h l e. below_more (λ y. seat_at c.args.seats.now y ≡ Column k → HasRoomAt c.args.system.now c.args.frame.now.scales.now c.args.frame.now.b.now c.args.by.enters c.args.by.top c.args.by.size y (side_cell c.args.system.now c.args.frame.now.a.now c.args.v.now i k)) c.loop-y.y (λ y l e. c.loop-y.invariant.sides i y k h l e)
@@ -41,10 +50,11 @@ pub loop-y-preserved : goal.loop-y-preserved
 loop-y-preserved c =
     let at = goal.at.loop-y-preserved c in
     let q = λ (k : ℕ) (e : seat_at c.args.seats.now c.loop-y.y ≡ Column k). column_same c.column_of-c.result k (sym c.column_of-c.ensures ∙ e) in
-    let unknowns = c.is_column_within.ensures.unknowns c.if-not-is_column_within.false in
-    let sides = c.is_column_within.ensures.sides c.if-not-is_column_within.false in
+    let unknowns = c.in_ok-is_column_within.ensures.unknowns in
+    let sides = c.in_ok-is_column_within.ensures.sides in
     record {
-      dens = below_more (λ x. (c.args.den * scale_at c.args.frame.now.scales.now x) * c.args.by.size ≤ 2 ^ 125) c.loop-y.y c.loop-y.invariant.dens (dens_here at.After-times c.if-times-room.false);
+      dens = below_more (λ x. (c.args.den * scale_at c.args.frame.now.scales.now x) * c.args.by.size ≤ 2 ^ 125) c.loop-y.y c.loop-y.invariant.dens (dens_here at.In_ok-scaled c.if-scaled-room.false);
+      whole = below_more (λ x. c.args.den * scale_at c.args.frame.now.scales.now x ≤ 2 ^ 125) c.loop-y.y c.loop-y.invariant.whole (whole_here at.In_ok-scaled c.if-scaled-room.false);
       unknowns = λ j y k h l e. below_more (λ y. seat_at c.args.seats.now y ≡ Column k → HasRoomAt c.args.system.now c.args.frame.now.scales.now c.args.frame.now.b.now c.args.by.enters c.args.by.top c.args.by.size y (whole_cell c.args.system.now.width c.args.v.now j k)) c.loop-y.y (λ y l e. c.loop-y.invariant.unknowns j y k h l e)
           (λ e. subst (λ m. HasRoomAt c.args.system.now c.args.frame.now.scales.now c.args.frame.now.b.now c.args.by.enters c.args.by.top c.args.by.size c.loop-y.y (whole_cell c.args.system.now.width c.args.v.now j m)) (q k e) (c.entry_limit-limit.ensures _ (unknowns j h))) y l e;
       sides = λ i y k h l e. below_more (λ y. seat_at c.args.seats.now y ≡ Column k → HasRoomAt c.args.system.now c.args.frame.now.scales.now c.args.frame.now.b.now c.args.by.enters c.args.by.top c.args.by.size y (side_cell c.args.system.now c.args.frame.now.a.now c.args.v.now i k)) c.loop-y.y (λ y l e. c.loop-y.invariant.sides i y k h l e)

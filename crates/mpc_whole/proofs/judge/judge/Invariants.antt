@@ -9,6 +9,7 @@ use Rattle.mpc_whole.proofs.judge.judge.Given as goal
 abbrev pub invariant-loop-y : goal.invariant-loop-y
 invariant-loop-y l = record {
   dens : (x : ℕ) → x < l.y → (l.den * scale_at l.frame.scales.now x) * l.by.size ≤ 2 ^ 125;
+  whole : (x : ℕ) → x < l.y → l.den * scale_at l.frame.scales.now x ≤ 2 ^ 125;
   unknowns : (j y c : ℕ) → j < l.system.width → y < l.y → seat_at l.seats y ≡ Column c → HasRoomAt l.system l.frame.scales.now l.frame.b.now l.by.enters l.by.top l.by.size y (whole_cell l.system.width l.v j c);
   sides : (i y c : ℕ) → i < height l.system → y < l.y → seat_at l.seats y ≡ Column c → HasRoomAt l.system l.frame.scales.now l.frame.b.now l.by.enters l.by.top l.by.size y (side_cell l.system l.frame.a.now l.v i c);
 }

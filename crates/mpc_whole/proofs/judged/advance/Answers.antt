@@ -1,4 +1,4 @@
-use Rattle.std.proofs.Common.{ℕ, ℤ, ◌≡◌, ◌∙◌, ◌<◌, ◌≤◌, ◌*◌, ◌^◌, List, length, rules, sym, ap, subst, subst₂, arith, mul-le-mul_right}
+use Rattle.std.proofs.Common.{ℕ, ℤ, ◌≡◌, ◌∙◌, ◌<◌, ◌*◌, List, length, rules, sym, ap, subst, subst₂, arith}
 use Rattle.std.specs.Vec.{with_items}
 use Rattle.std.proofs.lemmas.List.{with_items_is}
 use Rattle.mpc_rows.specs.LinearSystem.{height}
@@ -6,7 +6,7 @@ use Rattle.mpc_rows.specs.Run.{count}
 use Rattle.mpc_whole.specs.declared.variables.Seat.{Seat}
 use Rattle.mpc_whole.specs.declared.variables.Seat.TheVariants.{Column}
 use Rattle.mpc_whole.specs.Table.{seat_at, variable_at, IsSeated, AreNonbasic}
-use Rattle.mpc_whole.specs.Whole.{scale_at, IsSmall, IsSwapped}
+use Rattle.mpc_whole.specs.Whole.{IsSmall, IsSwapped}
 use Rattle.mpc_whole.specs.Judged.{IsJudged, IsRowWithin, IsReducedPivot, IsMildlyUnderway}
 use Rattle.mpc_whole.specs.Moved.{AreFormed}
 use Rattle.mpc_whole.proofs.ColumnSums.{in_column}
@@ -14,13 +14,13 @@ use Rattle.mpc_whole.proofs.DividedRows.{times_row, times_is}
 use Rattle.mpc_whole.proofs.JudgedTurns.{leaver_in, leaver_seat, enterer_in, enterer_seat, seated_after, mildly_after}
 use Rattle.mpc_whole.proofs.WholeRows.{weaker}
 use Rattle.mpc_whole.proofs.judged.advance.Goals as goal
-use Rattle.mpc_whole.proofs.judged.advance.Goals.{After-column_of-c, After-swap, After-stand}
+use Rattle.mpc_whole.proofs.judged.advance.Goals.{After-column_of-c, After-swap, After-wide_stand}
 
-pub factors_of-by-requires-clause-leaves : goal.factors_of-by-requires-clause-leaves
-factors_of-by-requires-clause-leaves c = subst (λ m. c.args.l < m) (sym c.requires.numbers.whole.scales.size) (leaver_in c.requires.numbers.whole c.requires.lists c.requires.goes)
+pub factors_of-requires-clause-leaves : goal.factors_of-requires-clause-leaves
+factors_of-requires-clause-leaves c = subst (λ m. c.args.l < m) (sym c.requires.numbers.whole.scales.size) (leaver_in c.requires.numbers.whole c.requires.lists c.requires.goes)
 
-pub factors_of-by-requires-clause-columns : goal.factors_of-by-requires-clause-columns
-factors_of-by-requires-clause-columns c = rw c.deref.ensures.value (λ y k h e. subst (λ m. k < m) (sym c.requires.row.size) (c.requires.lists.seated.columns y k (subst (λ m. y < m) c.requires.lists.seated.each h) e).0)
+pub factors_of-requires-clause-columns : goal.factors_of-requires-clause-columns
+factors_of-requires-clause-columns c = rw c.deref.ensures.value (λ y k h e. subst (λ m. k < m) (sym c.requires.row.size) (c.requires.lists.seated.columns y k (subst (λ m. y < m) c.requires.lists.seated.each h) e).0)
 
 pub bounds-frame-l : goal.bounds-frame-l
 bounds-frame-l c = subst (λ m. c.args.l < m) (sym c.requires.numbers.whole.scales.size) (leaver_in c.requires.numbers.whole c.requires.lists c.requires.goes)
@@ -74,32 +74,31 @@ nonbasic_back c = with_items_is c.args.lists.now.nonbasic c.swap.new.nonbasic (l
 columns : (c : After-swap) → AreNonbasic c.args.system.now.width c.swap.new.seats c.swap.new.nonbasic
 columns c = c.swap.ensures.columns c.args.system.now.width (rw (c.deref_mut-2.ensures.value, c.deref_mut-3.ensures.value) c.requires.lists.columns)
 
-pub stand-requires-clause-columns : goal.stand-requires-clause-columns
-stand-requires-clause-columns c =
-    let at = (goal.at.stand-requires-clause-columns c).After-swap in
+pub wide_stand-requires-clause-columns : goal.wide_stand-requires-clause-columns
+wide_stand-requires-clause-columns c =
+    let at = (goal.at.wide_stand-requires-clause-columns c).After-swap in
     ap length (c.deref-5.ensures.value ∙ nonbasic_back at) ∙ (columns at).each
 
-pub stand-requires-clause-below : goal.stand-requires-clause-below
-stand-requires-clause-below c =
-    let at = (goal.at.stand-requires-clause-below c).After-swap in
+pub wide_stand-requires-clause-below : goal.wide_stand-requires-clause-below
+wide_stand-requires-clause-below c =
+    let at = (goal.at.wide_stand-requires-clause-below c).After-swap in
     let s = c.args.system.now in
     subst₂ (λ m (t : List ℕ). (k : ℕ) → k < s.width → variable_at t k < m) (sym c.requires.numbers.count) (sym (c.deref-5.ensures.value ∙ nonbasic_back at)) (in_column s (count s) c.swap.new.seats c.swap.new.nonbasic (seated at) (columns at))
 
 numbers_back : (c : After-swap) → (with_items c.args.lists.now.v c.reduce.new.v).items ≡ c.reduce.new.v
 numbers_back c = with_items_is c.args.lists.now.v c.reduce.new.v (let q = c.reduce.auto.v in let o = c.args.lists.now.v.ok in let v = c.deref_mut.ensures.len in omega arith)
 
-firsts_back : (c : After-stand) → (with_items c.args.lists.now.firsts c.stand.new.c_1).items ≡ c.stand.new.c_1
-firsts_back c = with_items_is c.args.lists.now.firsts c.stand.new.c_1 (let q = c.stand.auto.c_1 in let o = c.args.lists.now.firsts.ok in let v = c.deref_mut-4.ensures.len in omega arith)
+firsts_back : (c : After-wide_stand) → (with_items c.args.lists.now.firsts c.wide_stand.new.c_1).items ≡ c.wide_stand.new.c_1
+firsts_back c = with_items_is c.args.lists.now.firsts c.wide_stand.new.c_1 (let q = c.wide_stand.auto.c_1 in let o = c.args.lists.now.firsts.ok in let v = c.deref_mut-4.ensures.len in omega arith)
 
-seconds_back : (c : After-stand) → (with_items c.args.lists.now.seconds c.stand.new.c_2).items ≡ c.stand.new.c_2
-seconds_back c = with_items_is c.args.lists.now.seconds c.stand.new.c_2 (let q = c.stand.auto.c_2 in let o = c.args.lists.now.seconds.ok in let v = c.deref_mut-5.ensures.len in omega arith)
+seconds_back : (c : After-wide_stand) → (with_items c.args.lists.now.seconds c.wide_stand.new.c_2).items ≡ c.wide_stand.new.c_2
+seconds_back c = with_items_is c.args.lists.now.seconds c.wide_stand.new.c_2 (let q = c.wide_stand.auto.c_2 in let o = c.args.lists.now.seconds.ok in let v = c.deref_mut-5.ensures.len in omega arith)
 
 pub returns-clause-lists : goal.returns-clause-lists
 returns-clause-lists c =
     let at = goal.at.returns-clause-lists c in
     let s = c.args.system.now in
     let then = at.After-swap in
-    let parts = c.in_ok-stand.ensures.parts in
     let numbers = numbers_back then in
     let size : length c.reduce.new.v ≡ s.width * s.width = (let q : length c.reduce.new.v ≡ length c.deref_mut.result.now = c.reduce.auto.v in q) ∙ ap length c.deref_mut.ensures.value ∙ c.requires.lists.square in
     record {
@@ -107,12 +106,9 @@ returns-clause-lists c =
       columns = subst₂ (λ (t : List Seat) (u : List ℕ). AreNonbasic s.width t u) (sym (seats_back then)) (sym (nonbasic_back then))
           (columns then);
       square = ap length numbers ∙ size;
-      small = subst (IsSmall (2 ^ 62)) (sym numbers) c.in_ok-after.ensures.small;
       own = subst (IsSmall c.in_ok-after.after.own) (sym numbers) c.in_ok-after.ensures.own;
-      first_size = ap length (firsts_back at.After-stand) ∙ parts.first_size;
-      second_size = ap length (seconds_back at.After-stand) ∙ parts.second_size;
-      first_small = subst (IsSmall (2 ^ 62)) (sym (firsts_back at.After-stand)) parts.first_small;
-      second_small = subst (IsSmall (2 ^ 62)) (sym (seconds_back at.After-stand)) parts.second_small;
+      first_size = ap length (firsts_back at.After-wide_stand) ∙ (let q : length c.wide_stand.new.c_1 ≡ length c.deref_mut-4.result.now = c.wide_stand.auto.c_1 in q) ∙ ap length c.deref_mut-4.ensures.value ∙ c.requires.lists.first_size;
+      second_size = ap length (seconds_back at.After-wide_stand) ∙ (let q : length c.wide_stand.new.c_2 ≡ length c.deref_mut-5.result.now = c.wide_stand.auto.c_2 in q) ∙ ap length c.deref_mut-5.ensures.value ∙ c.requires.lists.second_size;
     }
 
 pub returns-clause-underway : goal.returns-clause-underway
@@ -124,7 +120,7 @@ returns-clause-underway c =
     let b = c.args.frame.now.b.now in
     let r = c.args.lists.now in
     let den = c.args.place.den in
-    let by = c.factors_of-by.result in
+    let by = c.in_ok-by.by in
     let g = c.args.row.divisor in
     let x = c.args.row.x.now in
     let real = times_row g x in
@@ -133,30 +129,28 @@ returns-clause-underway c =
     let judged : IsJudged s (count s) r.seats.items k a b den r.v.items c.args.e by.top by.size =
     subst (λ m. IsJudged s m r.seats.items k a b den r.v.items c.args.e by.top by.size) c.requires.numbers.count
     (subst₂ (λ (t : List Seat) (u : List ℤ). IsJudged s c.args.frame.now.n t k a b den u c.args.e by.top by.size) c.deref-2.ensures.value c.deref-3.ensures.value
-    (subst (λ f. IsJudged s c.args.frame.now.n c.deref-2.result.now k a b den c.deref-3.result.now f by.top by.size) c.factors_of-by.ensures.enters c.in_ok-judge.ensures))
+    (subst (λ f. IsJudged s c.args.frame.now.n c.deref-2.result.now k a b den c.deref-3.result.now f by.top by.size) c.in_ok-by.ensures.enters c.in_ok-judge.ensures))
     in
     let within : IsRowWithin (count s) r.seats.items k c.args.l c.args.e x by.top by.size =
     subst (λ m. IsRowWithin m r.seats.items k c.args.l c.args.e x by.top by.size) c.requires.lists.seated.each
-    (subst (λ (t : List Seat). IsRowWithin (length t) t k c.args.l c.args.e x by.top by.size) c.deref.ensures.value c.factors_of-by.ensures.row)
+    (subst (λ (t : List Seat). IsRowWithin (length t) t k c.args.l c.args.e x by.top by.size) c.deref.ensures.value c.in_ok-by.ensures.row)
     in
     let piv : IsReducedPivot s.width den r.v.items c.reduce.new.v real c.column_of-c.result c.in_ok-after.after.den =
     subst₂ (λ w (u : List ℤ). IsReducedPivot w den u c.reduce.new.v real c.column_of-c.result c.in_ok-after.after.den) c.requires.row.size c.deref_mut.ensures.value (c.in_ok-after.ensures.pivot real g c.requires.row.some c.requires.row.split times)
     in
-    let stood : AreFormed s c.args.frame.now.n c.swap.new.seats k b c.deref-6.result.now c.stand.new.c_1 c.stand.new.c_2 =
-    c.in_ok-stand.ensures.values c.swap.new.seats (subst (λ m. IsSeated (height s) s.width m c.swap.new.seats) (sym c.requires.numbers.count) (seated then)) (subst (λ (t : List ℕ). AreNonbasic s.width c.swap.new.seats t) (sym (c.deref-5.ensures.value ∙ nonbasic_back then)) (columns then))
+    let stood : AreFormed s c.args.frame.now.n c.swap.new.seats k b c.deref-6.result.now c.wide_stand.new.c_1 c.wide_stand.new.c_2 =
+    c.in_ok-wide_stand.ensures c.swap.new.seats (subst (λ m. IsSeated (height s) s.width m c.swap.new.seats) (sym c.requires.numbers.count) (seated then)) (subst (λ (t : List ℕ). AreNonbasic s.width c.swap.new.seats t) (sym (c.deref-5.ensures.value ∙ nonbasic_back then)) (columns then))
     in
-    let formed : AreFormed s (count s) c.swap.new.seats k b c.reduce.new.v c.stand.new.c_1 c.stand.new.c_2 =
-    subst (λ m. AreFormed s m c.swap.new.seats k b c.reduce.new.v c.stand.new.c_1 c.stand.new.c_2) c.requires.numbers.count
-    (subst (λ (u : List ℤ). AreFormed s c.args.frame.now.n c.swap.new.seats k b u c.stand.new.c_1 c.stand.new.c_2) (c.deref-6.ensures.value ∙ numbers_back then) stood)
+    let formed : AreFormed s (count s) c.swap.new.seats k b c.reduce.new.v c.wide_stand.new.c_1 c.wide_stand.new.c_2 =
+    subst (λ m. AreFormed s m c.swap.new.seats k b c.reduce.new.v c.wide_stand.new.c_1 c.wide_stand.new.c_2) c.requires.numbers.count
+    (subst (λ (u : List ℤ). AreFormed s c.args.frame.now.n c.swap.new.seats k b u c.wide_stand.new.c_1 c.wide_stand.new.c_2) (c.deref-6.ensures.value ∙ numbers_back then) stood)
     in
-    let product_within = λ (m : ℕ) (h : m ≤ c.max.result). (let p : m * g ≤ c.max.result * g = mul-le-mul_right g h in let e = c.in_ok-most.ensures in let b = c.max-top.ensures in let t : m * g ≤ c.max-top.result = omega arith in t) in
     let next =
-    mildly_after c.requires.numbers.whole c.requires.lists c.requires.goes c.swap.new.seats (swapped then) c.column_of-c.result (entered_then then) by.top by.size c.requires.den_small judged g c.args.row.rest x c.requires.row within c.max-top.result
-    (product_within by.top (let a = c.max.ensures in omega arith)) (product_within by.size (let a = c.max.ensures in omega arith)) (let d : den * scale_at k c.args.l ≤ c.times.result = (let q = c.times.ensures in omega arith) in let b = c.max-top.ensures in omega arith)
-    c.reduce.new.v c.in_ok-after.after.den piv c.stand.new.c_1 c.stand.new.c_2 formed c.greater-own.result c.greater.result c.greater-2.result c.in_ok-product.product
-    c.greater.ensures.first c.greater-2.ensures.first c.in_ok-product.ensures.first (weaker c.args.place.own c.greater.result r.v.items c.requires.lists.own c.greater.ensures.second) c.greater-2.ensures.second
-    (weaker c.args.place.own c.greater-own.result r.v.items c.requires.lists.own c.greater-own.ensures.first) c.greater-own.ensures.second c.in_ok-product.ensures.second
+    mildly_after c.requires.numbers.whole c.requires.lists c.requires.goes c.swap.new.seats (swapped then) c.column_of-c.result (entered_then then) by.top by.size judged g c.args.row.rest x c.requires.row within
+    c.reduce.new.v c.in_ok-after.after.den piv c.wide_stand.new.c_1 c.wide_stand.new.c_2 formed c.max-own.result c.max.result c.max-2.result c.kept_product-product.result
+    (let m = c.max.ensures in omega arith) (let m = c.max-2.ensures in omega arith) c.kept_product-product.ensures.before (weaker c.args.place.own c.max.result r.v.items c.requires.lists.own (let m = c.max.ensures in omega arith)) (let m = c.max-2.ensures in omega arith)
+    (weaker c.args.place.own c.max-own.result r.v.items c.requires.lists.own (let m = c.max-own.ensures in omega arith)) (let m = c.max-own.ensures in omega arith) c.kept_product-product.ensures.here
     in
-    subst (IsMildlyUnderway s (count s) _ k c.in_ok-after.after.den _ _ _ c.greater.result c.greater-2.result c.in_ok-product.product) (sym c.unknowns.ensures)
-    (subst₂ (λ (f g : List ℤ). IsMildlyUnderway s (count s) (with_items r.seats c.swap.new.seats).items k c.in_ok-after.after.den (with_items r.v c.reduce.new.v).items f g c.greater.result c.greater-2.result c.in_ok-product.product s.width) (sym (firsts_back at.After-stand)) (sym (seconds_back at.After-stand))
-    (subst₂ (λ (t : List Seat) (u : List ℤ). IsMildlyUnderway s (count s) t k c.in_ok-after.after.den u c.stand.new.c_1 c.stand.new.c_2 c.greater.result c.greater-2.result c.in_ok-product.product s.width) (sym (seats_back then)) (sym (numbers_back then)) next))
+    subst (IsMildlyUnderway s (count s) _ k c.in_ok-after.after.den _ _ _ c.max.result c.max-2.result c.kept_product-product.result) (sym c.unknowns.ensures)
+    (subst₂ (λ (f g : List ℤ). IsMildlyUnderway s (count s) (with_items r.seats c.swap.new.seats).items k c.in_ok-after.after.den (with_items r.v c.reduce.new.v).items f g c.max.result c.max-2.result c.kept_product-product.result s.width) (sym (firsts_back at.After-wide_stand)) (sym (seconds_back at.After-wide_stand))
+    (subst₂ (λ (t : List Seat) (u : List ℤ). IsMildlyUnderway s (count s) t k c.in_ok-after.after.den u c.wide_stand.new.c_1 c.wide_stand.new.c_2 c.max.result c.max-2.result c.kept_product-product.result s.width) (sym (seats_back then)) (sym (numbers_back then)) next))

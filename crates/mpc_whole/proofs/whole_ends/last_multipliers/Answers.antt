@@ -20,10 +20,8 @@ pub multipliers-requires-clause-row : goal.multipliers-requires-clause-row
 multipliers-requires-clause-row c = record {
   scales = c.requires.whole.scales;
   seated = subst (λ m. IsSeated (height c.args.system.now) c.args.system.now.width m c.args.seats.now) (sym c.requires.seated.each) c.requires.seated;
-  row_size = c.in_ok-divided.ensures.row.size;
-  row_small = c.in_ok-divided.ensures.small;
-  some = rest_some c.in_ok-divided.divided.0 c.in_ok-divided.divided.1 c.args.den c.in_ok-divided.ensures.row.split c.requires.form.some;
-  den_small = c.in_ok-divided.ensures.rest_small;
+  row_size = c.in_ok-divided.ensures.size;
+  some = rest_some c.in_ok-divided.divided.0 c.in_ok-divided.divided.1 c.args.den c.in_ok-divided.ensures.split c.requires.form.some;
   leaves = subst (λ m. c.args.l < m) (sym c.requires.seated.each) (last_below c.args.system.now c.args.n c.args.seats.now c.args.scales.now c.args.den c.args.v.now c.requires.form c.requires.seated c.args.a.now c.args.b.now c.requires.whole c.args.l c.requires.refuted);
 }
 
@@ -36,7 +34,7 @@ returns c =
     let g = c.in_ok-divided.divided.0 in
     let rest = c.in_ok-divided.divided.1 in
     let x = c.divided_side_row.new.x in
-    let divided : IsDividedRow s c.args.a.now c.args.v.now (c.args.l - s.width) c.args.den g rest x = subst (λ w. IsDividedRow s c.args.a.now c.args.v.now (c.args.l - w) c.args.den g rest x) c.unknowns.ensures c.in_ok-divided.ensures.row in
+    let divided : IsDividedRow s c.args.a.now c.args.v.now (c.args.l - s.width) c.args.den g rest x = subst (λ w. IsDividedRow s c.args.a.now c.args.v.now (c.args.l - w) c.args.den g rest x) c.unknowns.ensures c.in_ok-divided.ensures in
     let row = row_of_divided c.args.n c.args.seats.now c.args.scales.now (last_position s) c.args.den c.args.l g rest x (times_row g x) c.requires.form.some divided.split (times_is g x) (λ y m h q. subst (λ w. m < w) (sym divided.size) (c.requires.seated.columns y m h q).0)
     (last_row s c.args.n c.args.seats.now c.args.scales.now c.args.den c.args.v.now c.requires.form c.requires.seated c.args.a.now c.args.b.now c.requires.whole c.args.l c.requires.refuted (times_row g x) (side_of_divided s c.args.a.now c.args.v.now (c.args.l - s.width) c.args.den g rest x divided))
     in

@@ -1,15 +1,18 @@
-use Rattle.std.proofs.Common.{◌≡◌, ◌∙◌, ◌<◌, ◌+◌, ◌*◌, ◌*ℤ◌, refl, sym, ap, arith, length, rules, to_z, of_z, neg_ℤ, pos, mul-pos, FitsSigned}
-use Rattle.std.specs.Int.{w64, w128}
+use Rattle.std.proofs.Common.{◌≡◌, ◌∙◌, ◌<◌, ◌+◌, ◌*◌, ◌*ℤ◌, ◌+ℤ◌, ℤ, refl, sym, ap, arith, get_or, length, rules, to_z, of_z, neg_ℤ, pos, mul-pos, FitsSigned, [], ◌∷◌}
+use Rattle.std.specs.Int.{w128}
+use Rattle.std.proofs.lemmas.Int.{to_z-of_z}
+use Rattle.mpc_exact.proofs.IntRing.{int_reads, by_ring_ℤ}
 use Rattle.std.proofs.lemmas.Option.{IfSome_then}
 use Rattle.mpc_exact.specs.Rational.{quotient}
 use Rattle.mpc_whole.specs.Whole.{whole_at, scale_at}
 use Rattle.mpc_whole.proofs.Answered.{multiplier_own, multiplier_basic, multiplier_free}
-use Rattle.mpc_whole.proofs.WholeSteps.{read_small}
 use Rattle.mpc_whole.proofs.WholeEnds.{negative_over, quotient_over}
 use Rattle.mpc_whole.proofs.WholeChanges.{negative_scaled}
-use Rattle.mpc_whole.proofs.WholeRooms.{back128, both_back}
 use Rattle.mpc_whole.proofs.whole_ends.multiplier.Goals as goal
 use Rattle.mpc_whole.proofs.whole_ends.multiplier.Goals.{After-unknowns, After-column_of-c}
+
+taken_from_zero : (z : ℤ) → pos 0 +ℤ neg_ℤ z ≡ neg_ℤ z
+taken_from_zero z = by_ring_ℤ (z ∷ []) (search int_reads depth 30) (search int_reads depth 30) tt
 
 place : (c : After-unknowns) → c.unknowns.result + c.args.i ≡ c.args.system.now.width + c.args.i
 place c = ap (λ w. w + c.args.i) c.unknowns.ensures
@@ -37,18 +40,17 @@ pub returns : goal.returns
 returns c =
     let at = goal.at.returns c in
     let y = c.unknowns.result + c.args.i in
-    let f : FitsSigned w64 c.negative.result = search rules in
-    let g : FitsSigned w64 c.signed.result = search rules in
-    let u : FitsSigned w64 c.signed-2.result = search rules in
-    let v : FitsSigned w64 c.signed-3.result = search rules in
-    let m : c.negative.result ≡ neg_ℤ (whole_at c.args.x.now c.column_of-c.result) = c.negative.ensures.value ∙ ap neg_ℤ (read_small _ (c.requires.row.row_small.each c.column_of-c.result)) in
-    let up : to_z w128 (of_z w128 c.product-up.result) ≡ neg_ℤ (whole_at c.args.x.now c.column_of-c.result *ℤ pos (scale_at c.args.scales.now y)) =
-    back128 _ c.product-up.type_inv ∙ both_back _ _ _ f g c.product-up.ensures ∙ ap (λ z. c.negative.result *ℤ z) c.signed.ensures.value
-    ∙ negative_scaled c.negative.result (whole_at c.args.x.now c.column_of-c.result) (pos (scale_at c.args.scales.now y)) m
+    let f : FitsSigned w128 c.in_ok-negative.negative = search rules in
+    let g : FitsSigned w128 c.in_ok-scale.scale = search rules in
+    let h : FitsSigned w128 c.in_ok-up.up = search rules in
+    let o : FitsSigned w128 c.in_ok-over.over = search rules in
+    let q : FitsSigned w128 (get_or c.args.x.now c.column_of-c.result (pos 0)) = search rules in
+    let m : to_z w128 (of_z w128 c.in_ok-negative.negative) ≡ neg_ℤ (whole_at c.args.x.now c.column_of-c.result) = to_z-of_z w128 _ f ∙ c.in_ok-negative.ensures.1 ∙ taken_from_zero _ ∙ ap neg_ℤ (to_z-of_z w128 _ q) in
+    let up : to_z w128 (of_z w128 c.in_ok-up.up) ≡ neg_ℤ (whole_at c.args.x.now c.column_of-c.result *ℤ pos (scale_at c.args.scales.now y)) =
+    to_z-of_z w128 _ h ∙ c.in_ok-up.ensures ∙ (λ i. m i *ℤ (to_z-of_z w128 _ g ∙ c.in_ok-scale.ensures) i)
+    ∙ negative_scaled _ (whole_at c.args.x.now c.column_of-c.result) (pos (scale_at c.args.scales.now y)) refl
     in
-    let down : to_z w128 (of_z w128 c.product-down.result) ≡ pos (c.args.den * scale_at c.args.scales.now c.args.l) =
-    back128 _ c.product-down.type_inv ∙ both_back _ _ _ u v c.product-down.ensures ∙ (λ z. c.signed-2.ensures.value z *ℤ c.signed-3.ensures.value z)
-    in
+    let down : to_z w128 (of_z w128 c.in_ok-over.over) ≡ pos (c.args.den * scale_at c.args.scales.now c.args.l) = to_z-of_z w128 _ o ∙ c.in_ok-over.ensures ∙ ap pos c.in_ok-down.ensures.1 in
     IfSome_then c.quotient.result c.quotient.ensures
     (λ m is p h r.
     let some : 0 < c.args.den * scale_at c.args.scales.now c.args.l = mul-pos c.requires.row.some r.own in

@@ -4,6 +4,7 @@ use Rattle.mpc_rows.specs.LinearSystem.{LinearSystem, height}
 use Rattle.mpc_whole.specs.Whole.{scale_at}
 use Rattle.mpc_beginnings.specs.Beginnings.{lengthened}
 use Rattle.mpc_whole.specs.Lists.{AreListsOf}
+use Rattle.mpc_beginnings.specs.RunLists.{lists_of}
 use Rattle.mpc_beginnings.specs.Kept.{AreNumbers, IsFirstLater, IsUnderwayWithin, IsUnderwayWithRoom}
 use Rattle.mpc_beginnings.proofs.Continued.{higher, more_scales, lists_longer, within_longer, room_longer}
 use Rattle.mpc_beginnings.proofs.kept.KeptRun.go_on.Goals as goal
@@ -27,15 +28,15 @@ begins_with-requires c =
     let r = c.self.inside in
     let more : List Row = c.requires.longer.0 in
     let e : c.args.longer.now ≡ lengthened r.system more = c.requires.longer.1 ∙ ap (λ (t : LinearSystem). lengthened t more) (sym c.self.view_is) in
-    rw c.deref.ensures.value (more_scales r.system more c.args.longer.now e r.last.scales.items c.args.numbers.now.scales.now c.self.invariant.scales c.requires.numbers.whole.scales.size)
+    rw c.deref.ensures.value (more_scales r.system more c.args.longer.now e r.last.scales.items c.args.numbers.now.scales.now c.self.invariant.kept.scales c.requires.numbers.whole.scales.size)
 
 pub run_on-requires-clause-lists : goal.run_on-requires-clause-lists
 run_on-requires-clause-lists c =
     let r = c.self.inside in
     let more : List Row = c.requires.longer.0 in
     let e : c.args.longer.now ≡ lengthened r.system more = c.requires.longer.1 ∙ ap (λ (t : LinearSystem). lengthened t more) (sym c.self.view_is) in
-    subst (λ (t : LinearSystem). AreListsOf t r.last.place.own c.set_lists.new.lists) (sym e)
-    (lists_longer r.system more r.last.scales.items r.last.lists r.last.place r.last.end c.self.invariant c.height.result c.height-2.result c.height.ensures (c.height-2.ensures ∙ ap height e) c.set_lists.new.lists c.in_ok-set_lists.ensures)
+    subst (λ (t : LinearSystem). AreListsOf t r.last.place.own (lists_of c.set_lists.new.lists)) (sym e)
+    (lists_longer r.system more r.last.scales.items (lists_of r.last.lists) r.last.place r.last.end c.self.invariant.kept c.height.result c.height-2.result c.height.ensures (c.height-2.ensures ∙ ap height e) (lists_of c.set_lists.new.lists) c.in_ok-set_lists.ensures.longer)
 
 pub run_on-requires-clause-start : goal.run_on-requires-clause-start
 run_on-requires-clause-start c =
@@ -47,8 +48,8 @@ run_on-requires-clause-start c =
     subst (λ (t : List ℕ). (x : ℕ) → x < length t → scale_at k.scales.now x ≡ scale_at t x) c.deref.ensures.value (c.begins_with.ensures c.if-not-begins_with.false)
     in
     let first : IsFirstLater r.system c.first_later.result = subst (λ (t : LinearSystem). IsFirstLater t c.first_later.result) (sym c.self.view_is) c.first_later.ensures in
-    subst (λ (t : LinearSystem). IsUnderwayWithin t k c.set_lists.new.lists (record r.last.place { first = c.first_later.result })) (sym e)
-    (within_longer r.system more r.last.scales.items r.last.lists r.last.place r.last.end c.self.invariant c.height.result c.height-2.result c.height.ensures (c.height-2.ensures ∙ ap height e) c.set_lists.new.lists c.in_ok-set_lists.ensures
+    subst (λ (t : LinearSystem). IsUnderwayWithin t k (lists_of c.set_lists.new.lists) (record r.last.place { first = c.first_later.result })) (sym e)
+    (within_longer r.system more r.last.scales.items (lists_of r.last.lists) r.last.place r.last.end c.self.invariant.kept c.height.result c.height-2.result c.height.ensures (c.height-2.ensures ∙ ap height e) (lists_of c.set_lists.new.lists) c.in_ok-set_lists.ensures.longer
     c.first_later.result first k (subst (λ (t : LinearSystem). AreNumbers t k) e c.requires.numbers) same)
 
 pub judge_on-requires-clause-lists : goal.judge_on-requires-clause-lists
@@ -56,8 +57,8 @@ judge_on-requires-clause-lists c =
     let r = c.self.inside in
     let more : List Row = c.requires.longer.0 in
     let e : c.args.longer.now ≡ lengthened r.system more = c.requires.longer.1 ∙ ap (λ (t : LinearSystem). lengthened t more) (sym c.self.view_is) in
-    subst (λ (t : LinearSystem). AreListsOf t r.last.place.own c.set_lists-2.new.lists) (sym e)
-    (lists_longer r.system more r.last.scales.items r.last.lists r.last.place r.last.end c.self.invariant c.height-3.result c.height-4.result c.height-3.ensures (c.height-4.ensures ∙ ap height e) c.set_lists-2.new.lists c.in_ok-set_lists-2.ensures)
+    subst (λ (t : LinearSystem). AreListsOf t r.last.place.own (lists_of c.set_lists-2.new.lists)) (sym e)
+    (lists_longer r.system more r.last.scales.items (lists_of r.last.lists) r.last.place r.last.end c.self.invariant.kept c.height-3.result c.height-4.result c.height-3.ensures (c.height-4.ensures ∙ ap height e) (lists_of c.set_lists-2.new.lists) c.in_ok-set_lists-2.ensures.longer)
 
 pub judge_on-requires-clause-start : goal.judge_on-requires-clause-start
 judge_on-requires-clause-start c =
@@ -69,6 +70,9 @@ judge_on-requires-clause-start c =
     subst (λ (t : List ℕ). (x : ℕ) → x < length t → scale_at k.scales.now x ≡ scale_at t x) c.deref.ensures.value (c.begins_with.ensures c.if-not-begins_with.false)
     in
     let first : IsFirstLater r.system c.first_later.result = subst (λ (t : LinearSystem). IsFirstLater t c.first_later.result) (sym c.self.view_is) c.first_later.ensures in
-    subst (λ (t : LinearSystem). IsUnderwayWithRoom t k c.set_lists-2.new.lists (record r.last.place { first = c.first_later.result })) (sym e)
-    (room_longer r.system more r.last.scales.items r.last.lists r.last.place r.last.end c.self.invariant c.height-3.result c.height-4.result c.height-3.ensures (c.height-4.ensures ∙ ap height e) c.set_lists-2.new.lists c.in_ok-set_lists-2.ensures
+    subst (λ (t : LinearSystem). IsUnderwayWithRoom t k (lists_of c.set_lists-2.new.lists) (record r.last.place { first = c.first_later.result })) (sym e)
+    (room_longer r.system more r.last.scales.items (lists_of r.last.lists) r.last.place r.last.end c.self.invariant.kept c.height-3.result c.height-4.result c.height-3.ensures (c.height-4.ensures ∙ ap height e) (lists_of c.set_lists-2.new.lists) c.in_ok-set_lists-2.ensures.longer
     c.first_later.result first k (subst (λ (t : LinearSystem). AreNumbers t k) e c.requires.numbers) same)
+
+pub run_on-requires-clause-short : goal.run_on-requires-clause-short
+run_on-requires-clause-short c = c.in_ok-set_lists.ensures.small c.self.invariant.short

@@ -6,4 +6,4 @@ use Rattle.mpc_beginnings.proofs.kept.KeptRun.has_point.Goals as goal
 pub returns-clause-refuted : goal.returns-clause-refuted
 returns-clause-refuted c = λ h.
     let l = c.is_point.ensures.refuted h in
-    subst (λ (t : LinearSystem). IsRefuted t) c.self.view_is (record { row = l.0; ends = c.self.invariant.ended.turns ∙ l.1 })
+    subst (λ (t : LinearSystem). IsRefuted t) c.self.view_is (record { row = l.0; ends = c.self.invariant.kept.ended.turns ∙ l.1 })

@@ -3,17 +3,17 @@ use Rattle.mpc_rows.specs.LinearSystem.{LinearSystem}
 use Rattle.mpc_rows.specs.Run.{is_refuted, turn, last_position}
 use Rattle.mpc_whole.specs.declared.whole.Ending.{Ending}
 use Rattle.mpc_whole.specs.declared.whole.Ending.TheVariants.{Refuted}
-use Rattle.mpc_whole.specs.declared.whole.Place.{Place}
-use Rattle.mpc_whole.specs.declared.lists.RunLists.{RunLists}
+use Rattle.mpc_whole.specs.declared.judged.WidePlace.{WidePlace}
+use Rattle.mpc_whole.specs.Lists.{Listed}
+use Rattle.mpc_beginnings.specs.RunLists.{lists_of}
 use Rattle.mpc_beginnings.specs.Kept.{IsKept}
 use Rattle.mpc_beginnings.proofs.kept.KeptRun.multipliers.Goals as goal
 
-kept_refuted : (s : LinearSystem) (k : List ℕ) (l : RunLists) (p : Place) (end : Ending) → IsKept s k l p end → (scales : List ℕ) → scales ≡ k → (x : ℕ) → turn s (last_position s) ≡ is_refuted x → IsKept s scales l p (Refuted x)
+kept_refuted : (s : LinearSystem) (k : List ℕ) (l : Listed) (p : WidePlace) (end : Ending) → IsKept s k l p end → (scales : List ℕ) → scales ≡ k → (x : ℕ) → turn s (last_position s) ≡ is_refuted x → IsKept s scales l p (Refuted x)
 kept_refuted s k l p end z scales e x t =
     subst (λ (h : List ℕ). IsKept s h l p (Refuted x)) (sym e) (record {
       scales = z.scales;
       lists = z.lists;
-      den_small = z.den_small;
       ended = record { form = z.ended.form; values = z.ended.values; before = z.ended.before; turns = t; fits = z.ended.fits };
       before = z.before;
     })
@@ -24,4 +24,5 @@ multipliers_of-requires-clause-kept c =
     let m = c.numbers_of-numbers.result in
     let same : m.scales.now ≡ r.last.scales.items = search rules in
     let ends : turn r.system (last_position r.system) ≡ is_refuted c.args.l = subst (λ (t : LinearSystem). turn t (last_position t) ≡ is_refuted c.args.l) (sym c.self.view_is) c.requires in
-    kept_refuted r.system r.last.scales.items r.last.lists r.last.place r.last.end c.self.invariant m.scales.now same c.args.l ends
+    subst (λ (t : Listed). IsKept r.system m.scales.now t r.last.place (Refuted c.args.l)) (sym c.in_ok-put_wide_copies.ensures.same)
+    (kept_refuted r.system r.last.scales.items (lists_of r.last.lists) r.last.place r.last.end c.self.invariant.kept m.scales.now same c.args.l ends)

@@ -1,0 +1,7 @@
+use Rattle.std.proofs.Common.{ℕ, ◌<◌}
+use Rattle.mpc_whole.specs.Moved.{IsValueAt}
+use Rattle.mpc_whole.specs.Whole.{whole_at}
+use Rattle.mpc_whole.proofs.wide_values.wide_stand.Given as goal
+
+abbrev pub invariant-loop-j : goal.invariant-loop-j
+invariant-loop-j l = (k : ℕ) → k < l.j → IsValueAt l.system l.frame.n l.frame.scales.now l.frame.b.now l.nonbasic l.v k (whole_at l.c_1 k) (whole_at l.c_2 k)

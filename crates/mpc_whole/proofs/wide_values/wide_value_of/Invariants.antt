@@ -1,0 +1,16 @@
+use Rattle.std.proofs.Common.{◌≡◌, ℕ, List}
+use Rattle.mpc_exact.specs.Rational.{frac}
+use Rattle.mpc_space.specs.Total.{total}
+use Rattle.mpc_rows.specs.LinearSystem.{height}
+use Rattle.mpc_rows.specs.Run.{Position, IsTableau}
+use Rattle.mpc_whole.specs.declared.variables.Seat.{Seat}
+use Rattle.mpc_whole.specs.Table.{variable_at, IsSeated, AreNonbasic}
+use Rattle.mpc_whole.specs.Whole.{IsForm, HasSides}
+use Rattle.mpc_whole.proofs.Table.{first_terms, second_terms}
+use Rattle.mpc_whole.proofs.wide_values.wide_value_of.Given as goal
+
+abbrev pub invariant-loop-c : goal.invariant-loop-c
+invariant-loop-c l = record {
+  firsts : (seats : List Seat) → IsSeated (height l.system) l.system.width l.frame.n seats → AreNonbasic l.system.width seats l.nonbasic → (p : Position) (d : ℕ) → IsTableau p → IsForm l.system l.frame.n seats l.frame.scales.now d l.v p → HasSides l.system l.frame.scales.now l.frame.b.now → total l.c (λ m. first_terms l.system p l.j (variable_at l.nonbasic m)) ≡ frac l.first d;
+  seconds : (seats : List Seat) → IsSeated (height l.system) l.system.width l.frame.n seats → AreNonbasic l.system.width seats l.nonbasic → (p : Position) (d : ℕ) → IsTableau p → IsForm l.system l.frame.n seats l.frame.scales.now d l.v p → HasSides l.system l.frame.scales.now l.frame.b.now → total l.c (λ m. second_terms l.system p l.j (variable_at l.nonbasic m)) ≡ frac l.second d;
+}

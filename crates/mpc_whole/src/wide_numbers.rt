@@ -1,0 +1,166 @@
+//! Sums, products and quotients of numbers of 128 bits, where they fit.
+
+ghost use Rattle.std.specs.Prelude.{◌≡◌, ℕ, ℤ, pos, ◌+◌, ◌*◌, ◌<◌, ◌≤◌, ◌^◌, ◌+ℤ◌, ◌*ℤ◌, neg_ℤ, unsigned_abs, IfSome, length};
+ghost use Rattle.mpc_whole.specs.Whole.{whole_total, whole_at, whole_cell, turned};
+
+use crate::divisors::Divisor;
+use crate::whole_numbers::{narrow, product, small_quotient, widened};
+
+/// A number that is not negative, as a signed one.
+#[inline]
+pub(crate) fn positive(n: u128) -> Option<i128>
+    ensures { IfSome result (λ z. z ≡ pos n) }
+{
+    if n < 1 << 127 {
+        Some(n.cast_signed())
+    } else {
+        None
+    }
+}
+
+/// The product. Where both numbers have 64 bits it is one multiplication.
+#[inline]
+pub(crate) fn wide_product(x: i128, y: i128) -> Option<i128>
+    ensures { IfSome result (λ z. z ≡ x *ℤ y) }
+{
+    if x.unsigned_abs() <= 1 << 62 && y.unsigned_abs() <= 1 << 62 {
+        return Some(product(narrow(x), narrow(y)));
+    }
+    x.checked_mul(y)
+}
+
+/// `v q - k x`.
+#[inline]
+pub(crate) fn wide_difference(v: i128, q: i128, k: i128, x: i128) -> Option<i128>
+    ensures { IfSome result (λ z. z ≡ (v *ℤ q) +ℤ neg_ℤ (k *ℤ x)) }
+{
+    let first = wide_product(v, q)?;
+    let second = wide_product(k, x)?;
+    first.checked_sub(second)
+}
+
+/// z, with its sign changed where q is negative.
+#[inline]
+pub(crate) fn wide_turned(q: i128, z: i128) -> Option<i128>
+    ensures { IfSome result (λ y. y ≡ turned q z) }
+{
+    if q < 0 {
+        0_i128.checked_sub(z)
+    } else {
+        Some(z)
+    }
+}
+
+/// The row i of a times the numbers of a list.
+#[inline]
+pub(crate) fn wide_row_value(a: &[i64], i: usize, c: &[i128]) -> Option<i128>
+    requires inside { i * length c.now + length c.now ≤ length a.now }
+    ensures { IfSome result (λ z. z ≡ whole_total (length c.now) (λ j. whole_cell (length c.now) a.now i j *ℤ whole_at c.now j)) }
+{
+    let from = i * c.len();
+    let mut total: i128 = 0;
+    for j in 0..c.len() {
+        let term = wide_product(widened(a[from + j]), c[j])?;
+        total = total.checked_add(term)?;
+    }
+    Some(total)
+}
+
+/// The row i of a times the column c of v.
+#[inline]
+pub(crate) fn wide_side_cell(
+    a: &[i64],
+    i: usize,
+    v: &[i128],
+    width: usize,
+    c: usize,
+) -> Option<i128>
+    requires inside { i * width + width ≤ length a.now }
+    requires square { length v.now ≡ width * width }
+    requires column { c < width }
+    ensures { IfSome result (λ z. z ≡ whole_total width (λ j. whole_cell width a.now i j *ℤ whole_cell width v.now j c)) }
+{
+    let from = i * width;
+    let mut total: i128 = 0;
+    for j in 0..width {
+        let term = wide_product(widened(a[from + j]), v[j * width + c])?;
+        total = total.checked_add(term)?;
+    }
+    Some(total)
+}
+
+/// A divisor of numbers of 128 bits, with what makes a division by it one multiplication where it has 62 bits.
+#[derive(Clone, Copy, Drop)]
+pub(crate) struct WideDivisor {
+    pub den: u128,
+    short: Divisor,
+}
+
+impl WideDivisor {
+    pub(crate) fn of(den: u128) -> Self
+        ensures { result.den ≡ den }
+    {
+        let short = if den <= 1 << 62 { den as u64 } else { 0 };
+        WideDivisor {
+            den,
+            short: Divisor::of(short),
+        }
+    }
+}
+
+/// The quotient, if it is whole.
+#[inline]
+pub(crate) fn wide_quotient(z: i128, by: WideDivisor) -> Option<i128>
+    ensures { IfSome result (λ q. q *ℤ pos by.den ≡ z) }
+{
+    if let Some(q) = short_quotient(z, by) {
+        return Some(widened(q));
+    }
+    long_quotient(z, by.den)
+}
+
+/// The quotient, if it is whole and it and the divisor have 62 bits.
+#[inline]
+fn short_quotient(z: i128, by: WideDivisor) -> Option<i64>
+    ensures { IfSome result (λ q. q *ℤ pos by.den ≡ z) }
+{
+    if by.short.den as u128 != by.den || by.den > 1 << 62 {
+        return None;
+    }
+    small_quotient(z, by.short, 1 << 62)
+}
+
+/// The quotient, if it is whole, by a long division.
+#[inline(never)]
+fn long_quotient(z: i128, den: u128) -> Option<i128>
+    ensures { IfSome result (λ q. q *ℤ pos den ≡ z) }
+{
+    let divisor = positive(den)?;
+    let q = z.checked_div(divisor)?;
+    let back = q.checked_mul(divisor)?;
+    if back == z { Some(q) } else { None }
+}
+
+/// Divides each number of a list, if all quotients are whole. It gives the greatest size of one.
+pub(crate) fn divide_all(list: &mut [i128], by: WideDivisor) -> Option<u128>
+    ensures each { IfSome result (λ _. (k : ℕ) → whole_at list.new k *ℤ pos by.den ≡ whole_at list.old k) }
+    ensures own { IfSome result (λ own. (k : ℕ) → unsigned_abs (whole_at list.new k) ≤ own) }
+{
+    let mut own: u128 = 0;
+    for j in 0..list.len() {
+        let q = wide_quotient(list[j], by)?;
+        list[j] = q;
+        own = own.max(q.unsigned_abs());
+    }
+    Some(own)
+}
+
+/// Whether all numbers are at most so great in size.
+pub(crate) fn are_within(list: &[i128], most: u128) -> bool {
+    for j in 0..list.len() {
+        if list[j].unsigned_abs() > most {
+            return false;
+        }
+    }
+    true
+}
