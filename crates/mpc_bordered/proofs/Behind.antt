@@ -8,6 +8,20 @@ use Rattle.mpc_bordered.specs.Fronts.{front, HasFront, EntryFits}
 use Rattle.mpc_bordered.proofs.Agree.{Agree, agree_back, fits_agree, exchanged_agree, exchanged-itself, pivot_same, pivot_within, from_agree}
 use Rattle.mpc_bordered.proofs.FrontLemmas.{front-units, eliminated_front, pivot_of, StartsWithUnits, by_one, front_stays, units_front}
 
+-- ---- the first u columns, whose numbers fit
+module _ (n w u : ℕ) (t : Table) (within : u ≤ n) (pivots : HasFront t u) (fits : (c i j : ℕ) → c < u → i < n → c < j → j < w → EntryFits c (front t c) i j) where
+  front_fits : (c : ℕ) → c < u → ColumnFits n w c (exchanged c c (eliminated n t c))
+  front_fits c l =
+      let e : exchanged c c (eliminated n t c) ≡ front t c = exchanged-itself c (eliminated n t c) ∙ eliminated_front n c t (omega arith) (λ k m. pivots k (omega arith)) in
+      subst (ColumnFits n w c) (sym e) (record {
+        quotients = λ j a b. (fits c c j l (omega arith) a b).quotient refl;
+        products = λ i j hi q some a b. (fits c i j l hi a b).product q some;
+        differences = λ i j hi q some a b. (fits c i j l hi a b).difference q some;
+      })
+
+  pub front_done : (c : ℕ) → c < u → ColumnDone n w t c c
+  front_done c l = record { pivot = pivot_of n u t within pivots c l; fits = front_fits c l }
+
 -- s agrees with what the first u columns of t leave, and the numbers up to there fit
 module _ (n w u : ℕ) (t s : Table) (within : u ≤ n) (square : n ≤ w) (pivots : HasFront t u)
     (fits : (c i j : ℕ) → c < u → i < n → c < j → j < w → EntryFits c (front t c) i j)
@@ -35,18 +49,6 @@ module _ (n w u : ℕ) (t s : Table) (within : u ≤ n) (square : n ≤ w) (pivo
   exchange_is : (c p : ℕ) → u ≤ c → c < n → p < n → Agree n w (exchanged c p (eliminated n t c)) (exchanged c p (eliminated n s c))
   exchange_is c p l m h = exchanged_agree n w c p (eliminated n t c) (eliminated n s c) m h (agree_from c l (omega arith))
 
-  front_fits : (c : ℕ) → c < u → ColumnFits n w c (exchanged c c (eliminated n t c))
-  front_fits c l =
-      let e : exchanged c c (eliminated n t c) ≡ front t c = exchanged-itself c (eliminated n t c) ∙ eliminated_front n c t (omega arith) (λ k m. pivots k (omega arith)) in
-      subst (ColumnFits n w c) (sym e) (record {
-        quotients = λ j a b. (fits c c j l (omega arith) a b).quotient refl;
-        products = λ i j hi q some a b. (fits c i j l hi a b).product q some;
-        differences = λ i j hi q some a b. (fits c i j l hi a b).difference q some;
-      })
-
-  front_done : (c : ℕ) → c < u → ColumnDone n w t c c
-  front_done c l = record { pivot = pivot_of n u t within pivots c l; fits = front_fits c l }
-
   later_done : (c p : ℕ) → u ≤ c → c < n → ColumnDone n w s c p → ColumnDone n w t c p
   later_done c p l m d =
       let hp = pivot_within n c p (eliminated n s c) (omega arith) d.pivot in
@@ -57,7 +59,7 @@ module _ (n w u : ℕ) (t s : Table) (within : u ≤ n) (square : n ≤ w) (pivo
 
   pub all_done : (c : ℕ) → c ≤ n → ColumnsDone n w s c → ColumnsDone n w t c
   all_done c l d k m = ⊎_elim
-      (λ a. (k, front_done k a))
+      (λ a. (k, front_done n w u t within pivots fits k a))
       (λ a. let p = d k m in (p.0, later_done k p.0 a (omega arith) p.1))
       (cases_lt k u)
 

@@ -119,13 +119,13 @@ module _ (n width c : ℕ) (t : Table) (z : ℕ → ℚ) where
   abbrev q : ℚ
   q = t c c
 
-  pivot_dot : row_dot width (reduced c t) z c ≡ inv_ℚ q *ℚ row_dot width t z c
+  pub pivot_dot : row_dot width (reduced c t) z c ≡ inv_ℚ q *ℚ row_dot width t z c
   pivot_dot =
       total-same width (λ k. reduced c t c k *ℚ z k) (λ k. inv_ℚ q *ℚ (t c k *ℚ z k))
       (λ k h. ap (λ u. u *ℚ z k) (reduced-pivot c t c k refl) ∙ by_ring (t c k ∷ inv_ℚ q ∷ z k ∷ []) (search reads depth 30) (search reads depth 30) tt)
       ∙ total-scale width (inv_ℚ q) (λ k. t c k *ℚ z k)
 
-  other_dot : (i : ℕ) → i ≢ c → row_dot width (reduced c t) z i ≡ row_dot width t z i +ℚ neg_ℚ (t i c *ℚ inv_ℚ q) *ℚ row_dot width t z c
+  pub other_dot : (i : ℕ) → i ≢ c → row_dot width (reduced c t) z i ≡ row_dot width t z i +ℚ neg_ℚ (t i c *ℚ inv_ℚ q) *ℚ row_dot width t z c
   other_dot i e =
       total-same width (λ k. reduced c t i k *ℚ z k) (λ k. t i k *ℚ z k +ℚ neg_ℚ (t i c *ℚ inv_ℚ q) *ℚ (t c k *ℚ z k))
       (λ k h. ap (λ u. u *ℚ z k) (reduced-other c t i k e) ∙ by_ring (t i k ∷ t i c ∷ t c k ∷ inv_ℚ q ∷ z k ∷ []) (search reads depth 30) (search reads depth 30) tt)

@@ -9,3 +9,4 @@ pub mod Picking
 pub mod RowWriting
 pub mod Solving
 pub mod Outcomes
+pub mod Combined

@@ -22,7 +22,7 @@ front_agree n w t s q h (suc c) l = λ i j hi hj.
     ap (λ a. a i j) (front-suc t c) ∙ reduced_agree n w c (front t c) (front s c) (omega arith) (omega arith) (front_agree n w t s q h c (omega arith)) i j hi hj
     ∙ ap (λ a. a i j) (sym (front-suc s c))
 
-entry_agree : (n w c : ℕ) (t s : Table) → c < n → c < w → Agree n w t s → (i j : ℕ) → i < n → j < w → EntryFits c s i j → EntryFits c t i j
+pub entry_agree : (n w c : ℕ) (t s : Table) → c < n → c < w → Agree n w t s → (i j : ℕ) → i < n → j < w → EntryFits c s i j → EntryFits c t i j
 entry_agree n w c t s hc hw h i j hi hj f = record {
   quotient = λ e. subst FitsFrac (λ m. sym (h c j hc hj) m /ℚ sym (h c c hc hw) m) (f.quotient e);
   product = λ e some. subst FitsFrac (λ m. sym (h i c hi hw) m *ℚ (sym (h c j hc hj) m /ℚ sym (h c c hc hw) m)) (f.product e (λ z. some (h i c hi hw ∙ z)));

@@ -1,3 +1,5 @@
 pub mod Fronts
 pub mod Kept
+pub mod Filling
 pub mod Parts
+pub mod Stages

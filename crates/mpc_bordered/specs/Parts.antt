@@ -1,12 +1,13 @@
 -- Parts of a table: its first rows and columns, and some of those behind them.
-use Rattle.std.specs.Prelude.{◌≡◌, ◌≢◌, ℕ, ◌+◌, ◌-◌, ◌<◌, ◌≤◌, cond, nat_lt, List, ◌++◌, length, get_or, Option, IfSome}
+use Rattle.std.specs.Prelude.{◌≡◌, ℕ, ◌+◌, ◌-◌, ◌<◌, ◌≤◌, cond, nat_lt, List, ◌++◌, length, get_or, Option, IfSome}
 use Rattle.mpc_exact.specs.Rational.{ℚ}
 use Rattle.mpc_frac.specs.Fits.{FitsFrac}
-use Rattle.mpc_space.specs.Matrix.{RationalMatrix, height, IsRectangular, entry}
+use Rattle.mpc_space.specs.Matrix.{RationalMatrix, height, entry}
 use Rattle.mpc_linear.specs.Elimination.{Table}
 use Rattle.mpc_linear.specs.Shape.{HasShape}
 use Rattle.mpc_linear.specs.declared.elimination.Solved.{Solved}
 use Rattle.mpc_bordered.specs.Fronts.{front, EntryFits}
+use Rattle.mpc_bordered.specs.Filling.{FillsRow, FillsTable}
 
 -- which row or column of the table stands in place i: one of the first u, and behind them those of the list
 abbrev pub place : ℕ → List ℕ → ℕ → ℕ
@@ -47,14 +48,9 @@ pub record IsPicked (p : Table) (u i j : ℕ) (v : ℚ) : Type 0 where
   pub before : (c : ℕ) → c < u → c < j → EntryFits c (front p c) i j
 
 -- row i has the numbers of the part from its column first on, and the other rows are as they were
-pub record PicksRow (p : Table) (u first : ℕ) (old new : RationalMatrix) (i : ℕ) : Type 0 where
-  pub height_is : height new ≡ height old
-  pub columns_is : new.columns ≡ old.columns
-  pub rectangular : IsRectangular new
-  pub row : (j : ℕ) → j < old.columns → IsPicked p u i (first + j) (entry new i j)
-  pub others : (r j : ℕ) → r ≢ i → entry new r j ≡ entry old r j
+abbrev pub PicksRow : Table → ℕ → ℕ → RationalMatrix → RationalMatrix → ℕ → Type 0
+PicksRow p u first old new i = FillsRow (λ j. IsPicked p u i (first + j)) old new i
 
 -- so for so many rows and columns
-pub record PicksTable (p : Table) (u first rows columns : ℕ) (m : RationalMatrix) : Type 0 where
-  pub shape : HasShape m rows columns
-  pub entries : (i j : ℕ) → i < rows → j < columns → IsPicked p u i (first + j) (entry m i j)
+abbrev pub PicksTable : Table → ℕ → ℕ → ℕ → ℕ → RationalMatrix → Type 0
+PicksTable p u first rows columns m = FillsTable (λ i j. IsPicked p u i (first + j)) rows columns m

@@ -6,6 +6,8 @@ mod entries;
 mod kept;
 mod parts;
 mod solutions;
+mod stages;
 
 pub use kept::{Kept, keep};
 pub use solutions::solve_part;
+pub use stages::{combined_theorems, first_stage, next_stage};

@@ -1,0 +1,15 @@
+use Rattle.std.proofs.Common.{◌<◌, ℕ, sym, subst, arith, ⊎_elim}
+use Rattle.std.proofs.lemmas.Bool.{cases_eq}
+use Rattle.mpc_space.specs.Matrix.{entry}
+use Rattle.mpc_bordered.specs.Fronts.{front, EntryFits}
+use Rattle.mpc_bordered.proofs.Combined.{column_forms}
+use Rattle.mpc_bordered.proofs.stages.is_kept.Goals as goal
+
+pub loop-i-preserved : goal.loop-i-preserved
+loop-i-preserved c k i l m = ⊎_elim
+    (λ e. subst (λ i. EntryFits k (front (entry c.args.kept.now.table) k) i c.args.c) (sym e) (column_forms (entry c.args.kept.now.table) c.args.kept.now.front c.args.c c.loop-i.i c.in-Some._number c.requires c.in-Some.ensures k l))
+    (λ e. c.loop-i.invariant k i l (omega arith))
+    (cases_eq i c.loop-i.i)
+
+pub returns : goal.returns
+returns c t k i l m = c.loop-i.invariant k i l (omega (arith, m, c.loop-i-test.false))

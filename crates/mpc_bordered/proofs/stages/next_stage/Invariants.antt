@@ -1,0 +1,7 @@
+use Rattle.mpc_space.specs.Matrix.{entry}
+use Rattle.mpc_bordered.specs.Stages.{IsNextNumber}
+use Rattle.mpc_bordered.proofs.RowWriting.{FillingTable}
+use Rattle.mpc_bordered.proofs.stages.next_stage.Given as goal
+
+abbrev pub invariant-loop-i : goal.invariant-loop-i
+invariant-loop-i l = FillingTable (λ i j. IsNextNumber (entry l.kept.table) l.kept.front l.stage l.c i j) l.out l.kept.front l.stage.columns l.i
