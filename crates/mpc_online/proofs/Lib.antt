@@ -31,3 +31,5 @@ pub mod Turned
 pub mod Keeping
 pub mod WholeFits
 pub mod WholeDots
+pub mod SmallSums
+pub mod Openings

@@ -21,7 +21,7 @@ place_later : (u : ℕ) (rows : List ℕ) (i : ℕ) → u ≤ i → place u rows
 place_later u rows i l = sym (cond_above i u i (get_or rows (i - u) 0) (get_or rows (i - u) 0) l refl)
 
 -- a condition on numbers, by its case
-below : {A : Type 0} (x y : ℕ) (a b : A) → x < y → cond (nat_lt x y) a b ≡ a
+pub below : {A : Type 0} (x y : ℕ) (a b : A) → x < y → cond (nat_lt x y) a b ≡ a
 below x y a b l = sym (cond_below x y a b l)
 
 above : {A : Type 0} (x y : ℕ) (a b : A) → y ≤ x → cond (nat_lt x y) a b ≡ b

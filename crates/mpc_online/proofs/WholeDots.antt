@@ -48,7 +48,7 @@ at_most_below m n k h l = omega (arith, h, l)
 same_sum : (a c d : ℤ) → (a *ℤ d +ℤ c *ℤ d) *ℤ d ≡ (a +ℤ c) *ℤ (d *ℤ d)
 same_sum a c d = by_ring_ℤ (a ∷ c ∷ d ∷ []) (search int_reads depth 30) (search int_reads depth 30) tt
 
-sum_over : (a c : ℤ) (m : ℕ) → 0 < m → frac a m +ℚ frac c m ≡ frac (a +ℤ c) m
+pub sum_over : (a c : ℤ) (m : ℕ) → 0 < m → frac a m +ℚ frac c m ≡ frac (a +ℤ c) m
 sum_over a c m h = frac-add a m c m h h ∙ same_frac (a *ℤ pos m +ℤ c *ℤ pos m) (m * m) (a +ℤ c) m (mul-pos h h) h (same_sum a c (pos m))
 
 pub zero_over : (m : ℕ) → 0 < m → frac (pos 0) m ≡ int (pos 0)

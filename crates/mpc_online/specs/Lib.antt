@@ -8,4 +8,5 @@ pub mod Standing
 pub mod Answers
 pub mod Sizes
 pub mod Wholes
+pub mod Openings
 pub mod Shared

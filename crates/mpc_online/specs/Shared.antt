@@ -12,6 +12,7 @@ use Rattle.mpc_online.specs.StateRows.{level}
 use Rattle.mpc_online.specs.Positions.{right_matrix, step_side, upper_part, lower_part}
 use Rattle.mpc_online.specs.Widths.{EliminationFits}
 use Rattle.mpc_online.specs.Wholes.{AreRowsOver}
+use Rattle.mpc_online.specs.Openings.{IsOpeningOf}
 use Rattle.mpc_online.specs.declared.prepared.Direction.{Direction}
 use Rattle.mpc_online.specs.declared.prepared.KeptDirection.{KeptDirection}
 use Rattle.mpc_online.specs.declared.prepared.Prepared.{Prepared}
@@ -69,4 +70,5 @@ pub record IsPreparedFor (qp : Qp) (p : Prepared) : Type 0 where
   pub sides : AreRowsOver qp.w p.sides.items
   pub costs : AreRowsOver qp.f p.costs.items
   pub kept : IfSome p.kept (IsKeptOf qp)
+  pub opening : IfSome p.opening (IsOpeningOf qp)
   pub directions : All (IsKeptDirection qp) p.directions.items

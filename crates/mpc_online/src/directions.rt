@@ -15,6 +15,7 @@ ghost use Rattle.mpc_online.specs.declared.solutions.Stop.TheVariants.{NoMemory 
 ghost use Rattle.mpc_online.specs.Shared.{AreMemberPlaces, IsKeptOf, IsSlopeOf, IsKeptDirection, IsKeptAt, IsPreparedFor};
 
 use crate::matrices::step_right;
+use crate::opening::opening_of;
 use crate::prepared::{Direction, KeptDirection, Prepared};
 use crate::shared::shared_table;
 use crate::solutions::{Stop, dot_of, part, solution};
@@ -37,11 +38,13 @@ pub fn prepared_with(alloc: Global, qp: &Qp, kept: Option<Kept>) -> Result<Prepa
     let rows = whole_rows(alloc, &qp.g)?;
     let sides = whole_rows(alloc, &qp.w)?;
     let costs = whole_rows(alloc, &qp.f)?;
+    let opening = opening_of(alloc, qp, &kept)?;
     Ok(Prepared {
         rows,
         sides,
         costs,
         kept,
+        opening,
         directions: Vec::new(alloc),
     })
 }

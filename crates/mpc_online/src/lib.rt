@@ -19,6 +19,7 @@ mod directions;
 mod matrices;
 mod moves;
 mod numbers;
+mod opening;
 mod prepared;
 mod refuting;
 mod run;

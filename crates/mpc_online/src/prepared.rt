@@ -4,6 +4,7 @@ ghost use Rattle.mpc_online.specs.Sizes.{AreAtMost};
 
 use mpc_bordered::Kept;
 use mpc_frac::Frac;
+use mpc_linear::Matrix;
 use mpc_sets::ActiveSet;
 
 /// The direction of a step: how the point moves, and how the multipliers of the members do; and how the row on its way grows, `None` where
@@ -33,13 +34,23 @@ pub struct Wholes {
     pub ghost at_most: { AreAtMost numerators den most },
 }
 
+/// The first point as forms in the extended counts, whose values it has at all states of the grid, and the forms in whole numbers, where
+/// these are small.
+#[derive(Drop)]
+pub struct Opening {
+    pub forms: Matrix,
+    pub rows: Vec<Option<Wholes>>,
+}
+
 /// What the runs at all states of a program share: the rows of its g, w and f in whole numbers, where these are small; the elimination of
-/// its Hessian in the equations of all steps, where it is kept; and the directions that were found, by rising rows and masks.
+/// its Hessian in the equations of all steps, where it is kept; the first point as forms, where its numbers are small; and the directions
+/// that were found, by rising rows and masks.
 #[derive(Drop)]
 pub struct Prepared {
     pub rows: Vec<Option<Wholes>>,
     pub sides: Vec<Option<Wholes>>,
     pub costs: Vec<Option<Wholes>>,
     pub kept: Option<Kept>,
+    pub opening: Option<Opening>,
     pub directions: Vec<KeptDirection>,
 }

@@ -1,6 +1,6 @@
 //! The run of the method, step by step.
 
-ghost use Rattle.std.specs.Prelude.{◌≡◌, ℕ, [], List, IfOk, MatchResult, length, ⊤};
+ghost use Rattle.std.specs.Prelude.{◌≡◌, ℕ, [], List, IfOk, IfSome, MatchResult, length, ⊤};
 ghost use Rattle.mpc_space.specs.Vector.{IsSymmetric};
 ghost use Rattle.mpc_space.specs.Matrix.{height};
 ghost use Rattle.mpc_space.specs.Definite.{IsDefinite};
@@ -12,16 +12,17 @@ ghost use Rattle.mpc_online.specs.OnlineRun.{IsStep, IsOpening, IsRunEnd, LeadsT
 ghost use Rattle.mpc_online.specs.Standing.{IsPosition, IsAnswer};
 ghost use Rattle.mpc_online.specs.Shared.{IsPreparedFor};
 ghost use Rattle.mpc_online.specs.Wholes.{AreRowsOver};
+ghost use Rattle.mpc_online.specs.Openings.{AreExtendedCounts, IsOpeningOf};
 ghost use Rattle.mpc_online.specs.Answers.{IfWide, IfStopWide, position_of, step_of};
 ghost use Rattle.mpc_rows.specs.ActiveSets.{IsInBox};
 
 use crate::counts::extended;
 use crate::directions::direction_place;
-use crate::matrices::opening_right;
 use crate::moves::{Iterate, dropped, moved, row_joined};
-use crate::prepared::{Direction, Prepared, Wholes};
+use crate::opening::first_point;
+use crate::prepared::{Direction, Opening, Prepared, Wholes};
 use crate::refuting::row_multipliers;
-use crate::solutions::{Stop, part, products, solution};
+use crate::solutions::{Stop, products};
 use crate::tests_of_rows::first_violated;
 use crate::turns::{Turn, turn_of};
 use crate::{Online, OnlineError};
@@ -72,20 +73,19 @@ fn open(
     sides: &[Frac],
     rows: &[Option<Wholes>],
     costs: &[Option<Wholes>],
+    opening: &Option<Opening>,
 ) -> Result<Next, Stop>
     requires definite { IsDefinite qp.now.h.rows }
     requires rows { AreRowsOver qp.now.g rows.now }
     requires costs { AreRowsOver qp.now.f costs.now }
-    requires extended { qp.now.f.columns ≡ length c.now }
+    requires opening { IfSome opening.now (IsOpeningOf qp.now) }
+    requires extended { AreExtendedCounts qp.now c.now }
     requires sides { length sides.now ≡ height qp.now.g }
     ensures opens { IfOk result (λ next. IsOpening qp.now sides.now c.now (step_of next)) }
     ensures wide { MatchResult result (λ _. FirstFits qp.now sides.now c.now)
         (λ stop. IfStopWide stop (¬ FirstFits qp.now sides.now c.now)) }
 {
-    let slopes = products(alloc, &qp.f, c, costs)?;
-    let right = opening_right(alloc, qp, &slopes)?;
-    let x = solution(alloc, qp, ActiveSet::empty(), &right)?;
-    let point = part(alloc, &x, 0, qp.h.rows())?;
+    let point = first_point(alloc, qp, c, costs, opening)?;
     let first = first_violated(qp, rows, sides, &point)?;
     let it = Iterate {
         point,
@@ -186,7 +186,15 @@ pub fn answer(
         Err(Stop::Wide) => return Err(OnlineError::Wide(0)),
         Err(Stop::NoMemory) => return Err(OnlineError::NoMemory),
     };
-    let mut it = match open(alloc, qp, &c, &sides, &prepared.rows, &prepared.costs) {
+    let mut it = match open(
+        alloc,
+        qp,
+        &c,
+        &sides,
+        &prepared.rows,
+        &prepared.costs,
+        &prepared.opening,
+    ) {
         Ok(Next::Goes(it)) => it,
         Ok(Next::Ends(online)) => return Ok(online),
         Err(Stop::Wide) => return Err(OnlineError::Wide(0)),

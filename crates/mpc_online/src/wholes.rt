@@ -25,7 +25,7 @@ fn denominator(x: &Frac) -> u128
 }
 
 /// A common multiple, where it is at most 2^124: the first number where it is one.
-fn common_multiple(a: u128, b: u128) -> Option<u128>
+pub fn common_multiple(a: u128, b: u128) -> Option<u128>
     requires a_positive { 0 < a }
     requires a_small { a ≤ 2 ^ 124 }
     requires b_positive { 0 < b }
@@ -46,7 +46,7 @@ fn common_multiple(a: u128, b: u128) -> Option<u128>
 }
 
 /// A common denominator, where it is at most 2^124.
-fn common_denominator(xs: &[Frac]) -> Option<u128>
+pub fn common_denominator(xs: &[Frac]) -> Option<u128>
     ensures common { IfSome result (λ m. AreDenomsIn m xs.now) }
     ensures positive { IfSome result (λ m. 0 < m) }
     ensures small { IfSome result (λ m. m ≤ 2 ^ 124) }
@@ -59,11 +59,12 @@ fn common_denominator(xs: &[Frac]) -> Option<u128>
 }
 
 /// The numerator of a fraction over a multiple of its denominator, where it is at most 2^124 in size.
-fn numerator_over(x: &Frac, all: u128) -> Option<i128>
+pub fn numerator_over(x: &Frac, all: u128) -> Option<i128>
     requires multiple { x.now.denom ∣ all }
     requires positive { 0 < all }
     requires small { all ≤ 2 ^ 124 }
-    ensures { IfSome result (λ z. x.now ≡ frac z all) }
+    ensures value { IfSome result (λ z. x.now ≡ frac z all) }
+    ensures small { IfSome result (λ z. unsigned_abs z ≤ 2 ^ 124) }
 {
     let times = all / denominator(x);
     let numerator = x.num().checked_mul(times as i128)?;
@@ -104,6 +105,19 @@ fn is_small(x: u128, y: u128, z: u128) -> bool
         Some(three) => three <= MOST,
         None => false,
     }
+}
+
+/// The size of a sum with one product more, where it is at most 2^124.
+pub fn grown_size(total: u128, numerator: i128, count: u64) -> Option<u128>
+    ensures value { IfSome result (λ t. t ≡ total + unsigned_abs numerator * count) }
+    ensures small { IfSome result (λ t. t ≤ 2 ^ 124) }
+{
+    let more = numerator.unsigned_abs().checked_mul(count as u128)?;
+    let sum = total.checked_add(more)?;
+    if sum > MOST {
+        return None;
+    }
+    Some(sum)
 }
 
 /// The dot of the first numerators.

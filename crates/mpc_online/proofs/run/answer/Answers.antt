@@ -47,9 +47,7 @@ products-requires-clause-few c =
     omega (arith, few, length-extended c.args.qp.now c.args.counts.now c.deref.result.now c.requires.in_box (c.deref.ensures.value ∙ c.in-Ok.ensures))
 
 pub open-requires-clause-extended : goal.open-requires-clause-extended
-open-requires-clause-extended c =
-    c.args.qp.now.is_program.f_shape.columns_are
-    ∙ sym (length-extended c.args.qp.now c.args.counts.now c.deref-3.result.now c.requires.in_box (c.deref-3.ensures.value ∙ c.in-Ok.ensures))
+open-requires-clause-extended c = record { counts = c.args.counts.now; in_box = c.requires.in_box; is = c.deref-3.ensures.value ∙ c.in-Ok.ensures }
 
 pub open-requires-clause-sides : goal.open-requires-clause-sides
 open-requires-clause-sides c =

@@ -1,0 +1,25 @@
+use Rattle.std.proofs.Common.{◌≡◌, length, suc, ◌∙◌, ap, refl, arith}
+use Rattle.mpc_online.proofs.Openings.{counts_to, forms_are}
+use Rattle.mpc_online.proofs.opening.opening_of.Goals as goal
+
+pub sums_fit-requires : goal.sums_fit-requires
+sums_fit-requires c =
+    let a : length c.deref.result.now ≡ suc (length c.args.qp.now.counts) = ap length (c.deref.ensures.value ∙ c.in_ok-most.ensures) in
+    let b = c.args.qp.now.is_program.f_shape.columns_are in
+    omega (arith, a, b)
+
+pub opening_forms-requires-clause-most : goal.opening_forms-requires-clause-most
+opening_forms-requires-clause-most c = c.deref-2.ensures.value ∙ c.in_ok-most.ensures
+
+pub whole_rows-requires : goal.whole_rows-requires
+whole_rows-requires c =
+    let few = c.args.qp.now.is_program.few_parameters in
+    let b = c.args.qp.now.is_program.f_shape.columns_are in
+    omega (arith, few, b, (forms_are c.args.qp.now _ c.in-Some-2.forms c.in-Some-2.is c.in_ok-forms.ensures).shape.columns_are)
+
+pub returns : goal.returns
+returns c = record {
+  forms = forms_are c.args.qp.now _ c.in-Some-2.forms c.in-Some-2.is c.in_ok-forms.ensures;
+  rows = c.in_ok-rows.ensures;
+  costs = λ x a. c.if-not-sums_fit.ensures refl x (counts_to c.args.qp.now c.deref.result.now x (c.deref.ensures.value ∙ c.in_ok-most.ensures) a);
+}

@@ -1,0 +1,218 @@
+//! The first point, which is a form in the extended counts.
+
+ghost use Rattle.std.specs.Prelude.{◌≡◌, ℕ, List, [], ◌∷◌, ◌^◌, ◌<◌, ◌≤◌, IfOk, IfSome, IsTrue, MatchResult, length, get_or};
+ghost use Rattle.mpc_exact.specs.Rational.{ℚ};
+ghost use Rattle.mpc_space.specs.Vector.{dot};
+ghost use Rattle.mpc_space.specs.Definite.{IsDefinite};
+ghost use Rattle.mpc_space.specs.Matrix.{height};
+ghost use Rattle.mpc_linear.specs.Dot.{DotFits};
+ghost use Rattle.mpc_bordered.specs.Stages.{ChangeFits};
+ghost use Rattle.mpc_online.specs.Widths.{ProductsFit};
+ghost use Rattle.mpc_online.specs.Wholes.{AreDenomsIn, AreRowsOver};
+ghost use Rattle.mpc_online.specs.Shared.{IsKeptOf};
+ghost use Rattle.mpc_online.specs.Openings.{AreCountsTo, IsSmallSum, AreExtendedCounts, IsFirstPoint, PointFits, AreOpeningForms, IsOpeningOf};
+ghost use Rattle.mpc_online.specs.Answers.{IfStopWide};
+
+use crate::matrices::opening_right;
+use crate::prepared::{Opening, Wholes};
+use crate::solutions::{Stop, part, products, solution};
+use crate::wholes::{common_denominator, common_multiple, grown_size, numerator_over, whole_rows};
+use mpc_bordered::{Kept, combined_theorems, first_stage, next_stage};
+use mpc_frac::{Frac, NoMemory};
+use mpc_linear::{Matrix, sum_theorems};
+use mpc_rows::{Counts, Qp};
+use mpc_sets::ActiveSet;
+use std::alloc::{AllocError, Global};
+
+/// Whether the sum of the products with counts up to these is small over the denominator, and so each sum on the way to it.
+fn is_small_sum(xs: &[Frac], all: u128, most: &[u64]) -> bool
+    requires sizes { length xs.now ≡ length most.now }
+    requires common { AreDenomsIn all xs.now }
+    requires positive { 0 < all }
+    requires small { all ≤ 2 ^ 124 }
+    ensures { IsTrue result → (c : List ℚ) → AreCountsTo most.now c → IsSmallSum all xs.now c }
+{
+    sum_theorems();
+    let mut total = 0;
+    for k in 0..xs.len() {
+        let Some(numerator) = numerator_over(&xs[k], all) else {
+            return false;
+        };
+        let Some(next) = grown_size(total, numerator, most[k]) else {
+            return false;
+        };
+        total = next;
+    }
+    true
+}
+
+/// Whether the products with counts up to these fit.
+fn sum_fits(xs: &[Frac], most: &[u64]) -> bool
+    requires { length xs.now ≡ length most.now }
+    ensures { IsTrue result → (c : List ℚ) → AreCountsTo most.now c → DotFits xs.now c }
+{
+    let Some(all) = common_denominator(xs) else {
+        return false;
+    };
+    is_small_sum(xs, all, most)
+}
+
+/// Whether the products of all rows with counts up to these fit.
+fn sums_fit(m: &Matrix, most: &[u64]) -> bool
+    requires { m.now.columns ≡ length most.now }
+    ensures { IsTrue result → (c : List ℚ) → AreCountsTo most.now c → ProductsFit m.now c }
+{
+    let _columns = m.cols();
+    for i in 0..m.rows() {
+        if !sum_fits(m.row(i), most) {
+            return false;
+        }
+    }
+    true
+}
+
+/// A common denominator of both lists, where it is at most 2^124.
+fn common_to(xs: &[Frac], ys: &[Frac]) -> Option<u128>
+    ensures left { IfSome result (λ m. AreDenomsIn m xs.now) }
+    ensures right { IfSome result (λ m. AreDenomsIn m ys.now) }
+    ensures positive { IfSome result (λ m. 0 < m) }
+    ensures small { IfSome result (λ m. m ≤ 2 ^ 124) }
+{
+    let left = common_denominator(xs)?;
+    let right = common_denominator(ys)?;
+    common_multiple(left, right)
+}
+
+/// Whether the operations fit that make the value of the new form of that of the old one, at all counts up to these.
+fn change_fits(old: &[Frac], new: &[Frac], most: &[u64]) -> bool
+    requires old { length old.now ≡ length most.now }
+    requires new { length new.now ≡ length most.now }
+    ensures { IsTrue result → (c : List ℚ) → AreCountsTo most.now c → ChangeFits (dot old.now c) (dot new.now c) }
+{
+    let Some(all) = common_to(old, new) else {
+        return false;
+    };
+    if !is_small_sum(old, all, most) {
+        return false;
+    }
+    is_small_sum(new, all, most)
+}
+
+/// Whether so do those of all forms.
+fn changes_fit(old: &Matrix, new: &Matrix, most: &[u64]) -> bool
+    requires rows { height new.now ≡ height old.now }
+    requires old { old.now.columns ≡ length most.now }
+    requires new { new.now.columns ≡ length most.now }
+    ensures { IsTrue result → (c : List ℚ) → AreCountsTo most.now c → (i : ℕ) → i < height old.now → ChangeFits (dot (get_or old.now.rows i []) c) (dot (get_or new.now.rows i []) c) }
+{
+    let _columns = (old.cols(), new.cols(), new.rows());
+    for i in 0..old.rows() {
+        if !change_fits(old.row(i), new.row(i), most) {
+            return false;
+        }
+    }
+    true
+}
+
+/// The greatest extended counts of the grid.
+fn greatest(alloc: Global, counts: &Counts) -> Result<Vec<u64>, AllocError>
+    ensures { IfOk result (λ most. most.items ≡ 1 ∷ counts.now) }
+{
+    let mut most = Vec::with_capacity(alloc, counts.len().saturating_add(1))?;
+    most.push(1)?;
+    most.extend_from_slice(counts.as_slice())?;
+    Ok(most)
+}
+
+/// The first point as forms, where bounds on their values show that each operation on the way to it fits at all states of the grid.
+fn opening_forms(
+    alloc: Global,
+    qp: &Qp,
+    kept: &Kept,
+    most: &[u64],
+) -> Result<Option<Matrix>, NoMemory>
+    requires kept { IsKeptOf qp.now kept.now }
+    requires most { most.now ≡ 1 ∷ qp.now.counts }
+    ensures { IfOk result (λ o. IfSome o (AreOpeningForms qp.now)) }
+{
+    combined_theorems();
+    let mut stage = first_stage(alloc, &qp.f)?;
+    for c in 0..qp.h.rows() {
+        let Some(next) = next_stage(alloc, kept, &stage, c)? else {
+            return Ok(None);
+        };
+        if !changes_fit(&stage, &next, most) {
+            return Ok(None);
+        }
+        stage = next;
+    }
+    Ok(Some(stage))
+}
+
+/// The first point as forms, where each operation on the way to it is shown to fit at all states of the grid.
+pub fn opening_of(
+    alloc: Global,
+    qp: &Qp,
+    shared: &Option<Kept>,
+) -> Result<Option<Opening>, NoMemory>
+    requires { IfSome shared.now (IsKeptOf qp.now) }
+    ensures { IfOk result (λ o. IfSome o (IsOpeningOf qp.now)) }
+{
+    let Some(kept) = shared else {
+        return Ok(None);
+    };
+    let most = greatest(alloc, &qp.counts)?;
+    if !sums_fit(&qp.f, &most) {
+        return Ok(None);
+    }
+    let Some(forms) = opening_forms(alloc, qp, kept, &most)? else {
+        return Ok(None);
+    };
+    let rows = whole_rows(alloc, &forms)?;
+    Ok(Some(Opening { forms, rows }))
+}
+
+/// The first point by an elimination of its own.
+fn eliminated_point(
+    alloc: Global,
+    qp: &Qp,
+    c: &[Frac],
+    costs: &[Option<Wholes>],
+) -> Result<Vec<Frac>, Stop>
+    requires definite { IsDefinite qp.now.h.rows }
+    requires costs { AreRowsOver qp.now.f costs.now }
+    requires extended { qp.now.f.columns ≡ length c.now }
+    ensures point { IfOk result (λ z. IsFirstPoint qp.now c.now z.items) }
+    ensures wide { MatchResult result (λ _. PointFits qp.now c.now) (λ stop. IfStopWide stop (¬ PointFits qp.now c.now)) }
+{
+    let slopes = products(alloc, &qp.f, c, costs)?;
+    let right = opening_right(alloc, qp, &slopes)?;
+    let x = solution(alloc, qp, ActiveSet::empty(), &right)?;
+    let point = part(alloc, &x, 0, qp.h.rows())?;
+    Ok(point)
+}
+
+/// The first point: the values of its forms, where these are kept and fit.
+pub fn first_point(
+    alloc: Global,
+    qp: &Qp,
+    c: &[Frac],
+    costs: &[Option<Wholes>],
+    opening: &Option<Opening>,
+) -> Result<Vec<Frac>, Stop>
+    requires definite { IsDefinite qp.now.h.rows }
+    requires costs { AreRowsOver qp.now.f costs.now }
+    requires extended { AreExtendedCounts qp.now c.now }
+    requires opening { IfSome opening.now (IsOpeningOf qp.now) }
+    ensures point { IfOk result (λ z. IsFirstPoint qp.now c.now z.items) }
+    ensures wide { MatchResult result (λ _. PointFits qp.now c.now) (λ stop. IfStopWide stop (¬ PointFits qp.now c.now)) }
+{
+    if let Some(known) = opening {
+        match products(alloc, &known.forms, c, &known.rows) {
+            Ok(point) => return Ok(point),
+            Err(Stop::NoMemory) => return Err(Stop::NoMemory),
+            Err(Stop::Wide) => {}
+        }
+    }
+    eliminated_point(alloc, qp, c, costs)
+}
