@@ -60,13 +60,14 @@ module _ (plant : Plant) (law : LawOfSet) (path : List Row) (leaf : ℕ) (s : Li
           (λ e stop. later_stop (LowMet plant law path i) (LowFinds plant law path leaf i) (HighFinds plant law path leaf i) e low (high_there (λ f x. IsStop (TargetFinds f x (target_of leaf (High (i + 1)))) e) stop))
 
   -- ---- a leaf without a law
-  module _ (one_path : OnePath) (nodes : List Node) (k : ℕ) (other : List Row) (cert : List (ℕ × ℚ)) (leads : PathTo nodes k other) (is : slice_get nodes k ≡ Some (NoMoveLeaf cert)) (n : ℕ) (forms : List (List ℚ)) (en : n ≡ plant.n) (ef : forms ≡ next_forms plant law) where
-    met_there : (P : Type 0 → LinearSystem → Type 0) → P (All (SubstitutedFits n forms) other) (with_rows s (map (substituted n forms) other)) → P (RowsFit plant law other) (met_system plant law path other)
+  module _ (n : ℕ) (forms : List (List ℚ)) (en : n ≡ plant.n) (ef : forms ≡ next_forms plant law) (other : List Row) where
+    pub met_there : (P : Type 0 → LinearSystem → Type 0) → P (All (SubstitutedFits n forms) other) (with_rows s (map (substituted n forms) other)) → P (RowsFit plant law other) (met_system plant law path other)
     met_there P h =
         let on : P (All (SubstitutedFits n forms) other) (leaf_system plant path (map (substituted n forms) other)) = subst (P (All (SubstitutedFits n forms) other)) (on_base plant path (map (substituted n forms) other) s base) h in
         subst (λ m. P (All (SubstitutedFits m (next_forms plant law)) other) (leaf_system plant path (map (substituted m (next_forms plant law)) other))) en
         (subst (λ f. P (All (SubstitutedFits n f) other) (leaf_system plant path (map (substituted n f) other))) ef on)
 
+  module _ (one_path : OnePath) (nodes : List Node) (k : ℕ) (other : List Row) (cert : List (ℕ × ℚ)) (leads : PathTo nodes k other) (is : slice_get nodes k ≡ Some (NoMoveLeaf cert)) (n : ℕ) (forms : List (List ℚ)) (en : n ≡ plant.n) (ef : forms ≡ next_forms plant law) where
     empty_met : LeafMet plant law path other → EmptyMet plant nodes law path k
     empty_met h mine mine_cert mine_leads mine_is = subst (LeafMet plant law path) (one_path nodes k other leads mine mine_leads) h
 
@@ -77,7 +78,7 @@ module _ (plant : Plant) (law : LawOfSet) (path : List Row) (leaf : ℕ) (s : Li
 
     pub empty_found : (r : Result Done Stop) → MatchResult r (λ _. IsRuledOut (All (SubstitutedFits n forms) other) (with_rows s (map (substituted n forms) other))) (IsStop (TargetFinds (All (SubstitutedFits n forms) other) (with_rows s (map (substituted n forms) other)) (target_of leaf (NoMove (k + 1)))))
         → MatchResult r (λ _. EmptyMet plant nodes law path k) (IsStop (EmptyFinds plant nodes law path leaf k))
-    empty_found r h = MatchResult-weaker r h (λ u met. empty_met (met_there IsRuledOut met)) (λ e stop. empty_stop e (met_there (λ f x. IsStop (TargetFinds f x (target_of leaf (NoMove (k + 1)))) e) stop))
+    empty_found r h = MatchResult-weaker r h (λ u met. empty_met (met_there n forms en ef other IsRuledOut met)) (λ e stop. empty_stop e (met_there n forms en ef other (λ f x. IsStop (TargetFinds f x (target_of leaf (NoMove (k + 1)))) e) stop))
 
 pub behind_empties : (plant : Plant) (nodes : List Node) (law : LawOfSet) (path : List Row) (end : ℕ) → EmptiesBefore nodes end → (k : ℕ) → end ≤ k → EmptyMet plant nodes law path k
 behind_empties plant nodes law path end before k h other cert leads is = absurd (let below = before k cert is in omega arith)

@@ -12,4 +12,5 @@ pub mod LoopLemmas
 pub mod TargetLemmas
 pub mod LeafLemmas
 pub mod SplitRows
+pub mod AskedLemmas
 pub mod ExactLemmas

@@ -4,6 +4,7 @@ pub mod ClosedLoop
 pub mod Forms
 pub mod Stages
 pub mod Met
+pub mod Asked
 pub mod Findings
 pub mod Targets
 pub mod Outcomes

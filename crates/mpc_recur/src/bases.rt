@@ -1,13 +1,16 @@
 //! The system of a leaf, with the run of its own rows, and the rows of a target behind them.
 
-ghost use Rattle.std.specs.Prelude.{◌≡◌, ◌++◌, ◌∷◌, [], IsTrue, IfOk, IfSome, OnOk, Some, length, take};
+ghost use Rattle.std.specs.Prelude.{◌≡◌, ◌++◌, ◌∷◌, [], List, IsTrue, IfOk, IfSome, OnOk, Some, length, take};
 ghost use Rattle.mpc_rows.specs.LinearSystem.{LinearSystem};
+ghost use Rattle.mpc_rows.specs.declared.systems.Row.{Row};
+ghost use Rattle.mpc_recur.specs.Asked.{AreAmong};
 ghost use Rattle.mpc_recur.specs.Findings.{IsRuledOut};
 ghost use Rattle.mpc_recur.specs.Targets.{with_rows};
 
+use mpc_beginnings::shared_beginning;
 use mpc_frac::NoMemory;
 use mpc_rows::{Row, System};
-use mpc_simplex::{Beginning, Workspace};
+use mpc_simplex::{Beginning, Decision, Workspace};
 use mpc_whole::WholeSystem;
 use std::alloc::Global;
 use std::marker::Model;
@@ -137,6 +140,32 @@ impl Base {
             Some(met) => Ok(!met),
             None => Ok(false),
         }
+    }
+
+    /// Whether the run shows that no point meets the leaf's own rows. Nothing is said where whole numbers don't serve.
+    pub fn is_empty(&self) -> bool {
+        match &self.run {
+            Some(run) => !run.has_point(),
+            None => false,
+        }
+    }
+
+    /// Whether the run shows that no point meets the leaf's own rows, and that no number is too wide with whichever of these rows behind.
+    /// Nothing is said where whole numbers don't serve.
+    pub fn rules_out_all(&self, alloc: Global, rows: &WholeSystem) -> Result<bool, NoMemory>
+        requires { rows.now.width ≡ self.now.width }
+        ensures { IfOk result (λ yes. IsTrue yes → (more : List Row) → AreAmong rows.now more → IsRuledOut (Unit {0}) (with_rows self.now more)) }
+    {
+        shared_beginning();
+        let Some(run) = &self.run else {
+            return Ok(false);
+        };
+        let Some(Decision::Refuted(_)) = run.decision(alloc)? else {
+            return Ok(false);
+        };
+        let mut work = Workspace::new(alloc);
+        let met = run.meets(alloc, &mut work, rows)?;
+        Ok(met.is_some())
     }
 
     /// The leaf's rows, and behind them the target's.

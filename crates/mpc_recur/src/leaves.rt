@@ -1,27 +1,30 @@
 //! The targets of one leaf with a law, one after another.
 
-ghost use Rattle.std.specs.Prelude.{◌≡◌, ◌+◌, ◌<◌, ◌≤◌, List, All, OnOk, MatchResult, length, slice_get, Some};
+ghost use Rattle.std.specs.Prelude.{◌≡◌, ℕ, ◌+◌, ◌<◌, ◌≤◌, List, All, IsTrue, IfOk, OnOk, MatchResult, length, map, slice_get, Some};
 ghost use Rattle.mpc_plant.specs.declared.plants.Plant.{Plant};
 ghost use Rattle.mpc_rows.specs.declared.laws.Law.{Law};
 ghost use Rattle.mpc_rows.specs.declared.systems.Row.{Row};
 ghost use Rattle.mpc_controller.specs.Parts.{limits_of, IsLawFor};
-ghost use Rattle.mpc_recur.specs.Forms.{next_form, next_forms};
-ghost use Rattle.mpc_recur.specs.Findings.{IsStop};
+ghost use Rattle.mpc_recur.specs.Forms.{next_form, next_forms, substituted, SubstitutedFits};
+ghost use Rattle.mpc_recur.specs.Findings.{IsRuledOut, IsStop};
 ghost use Rattle.mpc_recur.specs.Met.{AreMet};
-ghost use Rattle.mpc_recur.specs.Targets.{count_at, IsBaseOf, SideMet, SideFinds, SidesMet, SidesFind, EmptyMet, EmptyFinds, EmptiesMet, EmptiesFind, TargetsMet, TargetsFind};
-ghost use Rattle.mpc_paths.specs.Ways.{IsTurn, IsWay, way_rows};
+ghost use Rattle.mpc_recur.specs.Targets.{count_at, with_rows, IsBaseOf, SideMet, SideFinds, SidesMet, SidesFind, EmptyMet, EmptyFinds, EmptiesMet, EmptiesFind, TargetsMet, TargetsFind};
+ghost use Rattle.mpc_paths.specs.Paths.{PathTo};
+ghost use Rattle.mpc_paths.specs.Ways.{HasSplitRow, IsTurn, IsWay, way_rows};
 ghost use Rattle.mpc_recur.specs.Empties.{EmptiesBefore};
 
 use crate::answers::{Next, StageError, Stop, Target};
+use crate::asked::asked_rows;
 use crate::bases::Base;
 use crate::forms::next_forms;
 use crate::met::Met;
 use crate::systems::leaf_system;
 use crate::targets::{rule_out_high, rule_out_leaf, rule_out_low};
 use mpc_controller::Controller;
+use mpc_frac::NoMemory;
 use mpc_linear::Vector;
 use mpc_paths::{Turn, go_on, one_path, way_theorems};
-use mpc_rows::{Counts, Law, Node};
+use mpc_rows::{Counts, Law, Node, Tree};
 use mpc_simplex::Workspace;
 use std::alloc::Global;
 
@@ -117,6 +120,24 @@ fn rule_out_node(
     rule_out_leaf(alloc, base, met, tree, way, one)
 }
 
+/// Whether no point is in the leaf, and nothing is too wide of any target that is a leaf without a law.
+fn is_empty(alloc: Global, tree: &Tree, base: &Base, forms: &[Vector]) -> Result<bool, NoMemory>
+    requires few { length forms.now ≤ 4 }
+    requires width { base.now.width ≡ length forms.now }
+    requires affine { All (λ form. length form ≡ length forms.now + 1) forms.now }
+    requires splits { All (HasSplitRow (length forms.now)) tree.now }
+    ensures { IfOk result (λ yes. IsTrue yes → (k : ℕ) (other : List Row) → PathTo tree.now k other
+        → IsRuledOut (All (SubstitutedFits (length forms.now) forms.now) other) (with_rows base.now (map (substituted (length forms.now) forms.now) other))) }
+{
+    if !base.is_empty() {
+        return Ok(false);
+    }
+    match asked_rows(alloc, tree, forms)? {
+        Some(rows) => base.rules_out_all(alloc, &rows),
+        None => Ok(false),
+    }
+}
+
 /// Goes on where no step leads to a leaf without a law. Each of these stands before the place `end`.
 fn rule_out_empties(
     alloc: Global,
@@ -137,6 +158,9 @@ fn rule_out_empties(
         → MatchResult result (λ _. EmptiesMet controller.now.plant controller.now.tree law path)
         (IsStop (EmptiesFind controller.now.plant controller.now.tree law path leaf)) }
 {
+    if is_empty(alloc, controller.tree(), base, &met.forms)? {
+        return Ok(());
+    }
     let mut way = Vec::new(alloc);
     for k in 0..end {
         match rule_out_node(alloc, controller, base, &mut met, way.as_slice(), leaf, k) {

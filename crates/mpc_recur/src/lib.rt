@@ -3,6 +3,7 @@
 #![tactic(auto)]
 
 mod answers;
+mod asked;
 mod bases;
 mod forms;
 mod leaves;

@@ -1,12 +1,15 @@
-use Rattle.std.proofs.Common.{◌≡◌, ◌+◌, ◌<◌, List, length, sym, ◌∙◌, subst, arith, ap, All}
+use Rattle.std.proofs.Common.{◌≡◌, ◌+◌, ◌<◌, List, length, map, sym, ◌∙◌, subst, arith, ap, All}
 use Rattle.mpc_exact.specs.Rational.{ℚ}
 use Rattle.mpc_rows.specs.declared.trees.Node.{Node}
 use Rattle.mpc_recur.specs.Met.{AreMet}
-use Rattle.mpc_recur.specs.Targets.{EmptyMet, EmptyFinds}
+use Rattle.mpc_recur.specs.Forms.{substituted, SubstitutedFits}
+use Rattle.mpc_recur.specs.Findings.{IsRuledOut}
+use Rattle.mpc_recur.specs.Targets.{with_rows, EmptyMet, EmptyFinds}
+use Rattle.mpc_paths.specs.Paths.{PathTo}
 use Rattle.mpc_paths.specs.Ways.{IsWay, root}
 use Rattle.mpc_recur.proofs.FindingLemmas.{each_more}
 use Rattle.mpc_recur.proofs.TargetLemmas.{first_stop}
-use Rattle.mpc_recur.proofs.LeafLemmas.{all_empties}
+use Rattle.mpc_recur.proofs.LeafLemmas.{all_empties, met_there}
 use Rattle.mpc_recur.proofs.leaves.rule_out_empties.Goals as goal
 
 pub loop-k-init : goal.loop-k-init
@@ -34,7 +37,7 @@ rule_out_node-requires-clause-met c = subst (λ (forms : List (List ℚ)). AreMe
 
 pub loop-k-preserved : goal.loop-k-preserved
 loop-k-preserved c = record {
-  way = λ h. subst (λ (tree : List Node). IsWay tree (c.loop-k.k + 1) c.go_on.new.way.items) c.tree.ensures.value (c.in_ok-go_on.ensures (subst (λ (tree : List Node). c.loop-k.k + 1 < length tree) (sym c.tree.ensures.value) h));
+  way = λ h. subst (λ (tree : List Node). IsWay tree (c.loop-k.k + 1) c.go_on.new.way.items) c.tree-in-loop-k.ensures.value (c.in_ok-go_on.ensures (subst (λ (tree : List Node). c.loop-k.k + 1 < length tree) (sym c.tree-in-loop-k.ensures.value) h));
   forms = c.in-Ok.ensures.forms ∙ c.loop-k.invariant.forms;
   kept = subst (λ (forms : List (List ℚ)). AreMet c.args.controller.now.tree forms c.rule_out_node.new.met.turns.items c.rule_out_node.new.met.rows) c.loop-k.invariant.forms c.in-Ok.ensures.met;
   met = λ law path base ef.
@@ -51,3 +54,9 @@ returns-in-Err c = λ law path base ef.
 pub returns : goal.returns
 returns c = λ law path base ef.
     all_empties c.args.controller.now.plant c.args.controller.now.tree law path c.args.end c.requires.empties (λ k h. c.loop-k.invariant.met law path base ef k (omega (arith, h, c.loop-k-test.false)))
+
+pub returns-then-branch : goal.returns-then-branch
+returns-then-branch c = λ law path base ef k h other cert leads is.
+    let out = c.in_ok-is_empty.ensures c.if-branch.true k other (subst (λ (tree : List Node). PathTo tree k other) (sym c.tree.ensures.value) leads) in
+    met_there c.args.controller.now.plant law path c.args.leaf c.args.base.now base (length c.args.met.forms.items) c.args.met.forms.items c.requires.sizes ef other IsRuledOut
+    (subst (λ (forms : List (List ℚ)). IsRuledOut (All (SubstitutedFits (length forms) forms) other) (with_rows c.args.base.now (map (substituted (length forms) forms) other))) c.deref.ensures.value out)
