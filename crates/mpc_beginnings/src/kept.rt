@@ -524,7 +524,7 @@ impl KeptRun {
         }
     }
 
-    /// The run of the system with one more row, from where this one ends on. `None` where whole
+    /// The run of the system with one more row, from where this one ends on or anew. `None` where whole
     /// numbers don't serve for it.
     pub fn extend(
         &self,
@@ -542,7 +542,7 @@ impl KeptRun {
     }
 
     /// The run of the system with its row i, from 0, the other way round behind its own, from where
-    /// this one ends on. `None` where whole numbers don't serve for it.
+    /// this one ends on or anew. `None` where whole numbers don't serve for it.
     pub fn extend_turned(
         &self,
         alloc: Global,
@@ -558,7 +558,8 @@ impl KeptRun {
         }
     }
 
-    /// The run of a system with further rows behind this one's, in lists of its own.
+    /// The run of a system with further rows behind this one's, in lists of its own: from where this one
+    /// ends on, or else anew, since the rows are judged more closely at positions that are formed again.
     fn kept_longer(
         &self,
         alloc: Global,
@@ -570,7 +571,7 @@ impl KeptRun {
     {
         match self.longer_end(alloc, &mut work.rows, &system)? {
             Some(last) => Ok(Some(KeptRun { system, last })),
-            None => Ok(None),
+            None => KeptRun::begin(alloc, work, system),
         }
     }
 
