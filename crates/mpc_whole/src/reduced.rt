@@ -69,7 +69,7 @@ fn shared_with(shared: u128, z: u128) -> u128
     requires { 0 < shared }
     ensures { 0 < result }
 {
-    if z % shared == 0 {
+    if shared == 1 || z % shared == 0 {
         shared
     } else {
         greatest_common_divisor(z, shared)

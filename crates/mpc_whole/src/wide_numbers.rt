@@ -154,13 +154,3 @@ pub(crate) fn divide_all(list: &mut [i128], by: WideDivisor) -> Option<u128>
     }
     Some(own)
 }
-
-/// Whether all numbers are at most so great in size.
-pub(crate) fn are_within(list: &[i128], most: u128) -> bool {
-    for j in 0..list.len() {
-        if list[j].unsigned_abs() > most {
-            return false;
-        }
-    }
-    true
-}

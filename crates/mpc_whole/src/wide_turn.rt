@@ -20,7 +20,7 @@ use crate::whole_numbers::widened;
 use crate::whole_systems::WholeSystem;
 use crate::whole_values::step_of;
 use crate::wide_numbers::{
-    WideDivisor, are_within, divide_all, positive, wide_product, wide_row_value, wide_side_cell,
+    WideDivisor, divide_all, positive, wide_product, wide_row_value, wide_side_cell,
 };
 
 /// Whether the value of side i is above its bound.
@@ -127,13 +127,15 @@ fn divide_row(x: &mut [i128], den: u128) -> Option<(u128, u128)>
     ensures cells { IfSome result (λ r. (c : ℕ) → whole_at x.new c *ℤ pos r.0 ≡ whole_at x.old c) }
 {
     let divisor = shared_with_all(x, den);
+    if divisor == 1 {
+        return Some((1, den));
+    }
     let rest = whole_share(den, divisor)?;
     divide_all(x, WideDivisor::of(divisor))?;
     Some((divisor, rest))
 }
 
-/// The row of side i, over a divisor of it and the denominator where one of its numbers is above 2^62: the divisor,
-/// and what is left of the denominator.
+/// The row of side i, over what divides it and the denominator: the divisor, and what is left of the denominator.
 pub(crate) fn divided_side_row(
     x: &mut [i128],
     system: &WholeSystem,
@@ -150,9 +152,6 @@ pub(crate) fn divided_side_row(
     ensures { IfSome result (λ r. IsDividedRow system.now a.now v.now i den r.0 r.1 x.new) }
 {
     wide_side_row(x, system, a, v, i)?;
-    if are_within(x, 1 << 62) {
-        return Some((1, den));
-    }
     divide_row(x, den)
 }
 
