@@ -1,19 +1,17 @@
-// The proved runs in whole numbers, with their tests in plain Rust: one within a limit for all rows, and where there is none or it is passed,
-// one from the same start that is judged row by row. Where that gives up, the run over fractions follows.
+// The proved runs in whole numbers, with their tests in plain Rust: one within a limit for all rows, in 64 bits, and where there is none or it is
+// passed, one from the same start that is judged row by row, in 128 bits. Where that gives up, the run over fractions follows.
 use crate::fractions::{Fast, Frac, Rules, divisor};
+use crate::judged::Judged;
 use crate::plain::{self, Answer, ONE, System, ZERO};
 
 /// What no number may exceed in size.
 const TOP: u128 = 1 << 62;
 
-/// What no product may exceed that is formed at a position, where it is judged row by row.
-const ROOM: u128 = 1 << 125;
-
 /// The greatest scale of a row.
 const MOST_SCALE: u64 = 1 << 40;
 
 /// The most steps that are made on whole numbers.
-const STEPS: u32 = 1_000_000;
+pub const STEPS: u32 = 1_000_000;
 
 /// Which run comes to its end.
 #[derive(Clone, Copy)]
@@ -26,14 +24,14 @@ pub enum Way {
 
 /// The rows of a system in whole numbers, and what a run on them needs to know beforehand.
 pub struct Rows {
-    width: usize,
+    pub width: usize,
     /// What each row was multiplied by.
-    scales: Vec<i64>,
+    pub scales: Vec<i64>,
     /// Row by row, a number for each unknown.
-    a: Vec<i64>,
-    b: Vec<i64>,
+    pub a: Vec<i64>,
+    pub b: Vec<i64>,
     /// The second part of each bound.
-    steps: Vec<i64>,
+    pub steps: Vec<i64>,
     /// What no coefficient of an unknown may exceed in size, where there is a limit for all rows.
     most: Option<i64>,
 }
@@ -50,21 +48,14 @@ pub struct Run<'a> {
     first: Vec<i64>,
     second: Vec<i64>,
     sums: Vec<(i128, i128)>,
-    /// The row that leaves, over a divisor of it and the denominator.
+    /// The row that leaves.
     row: Vec<i64>,
-    divisor: i64,
-}
-
-/// What the numbers of a position are multiplied by, at most: those in one column by a top, all others and the denominator by a size.
-#[derive(Clone, Copy, Default)]
-struct Factors {
-    column: usize,
-    top: u128,
-    size: u128,
+    /// The run that is made where this one gives up.
+    judged: Judged<'a>,
 }
 
 /// What one turn finds.
-enum Found {
+pub enum Found {
     Point,
     Refuted(usize),
     Next,
@@ -161,24 +152,17 @@ impl Rows {
         Some(Rows { width, scales, a, b, steps, most })
     }
 
-    fn height(&self) -> usize {
+    pub fn height(&self) -> usize {
         self.b.len()
     }
 
-    fn line(&self, i: usize) -> &[i64] {
+    pub fn line(&self, i: usize) -> &[i64] {
         &self.a[i * self.width..(i + 1) * self.width]
     }
 
     /// What the variable y was multiplied by.
-    fn scale(&self, y: usize) -> u128 {
+    pub fn scale(&self, y: usize) -> u128 {
         if y < self.width { 1 } else { size(self.scales[y - self.width]) }
-    }
-
-    /// What a number in the column of y may have, so that it leaves room for products with numbers of such a size.
-    fn room(&self, factor: u128, y: usize) -> u128 {
-        let n = (self.width + self.height()) as u128;
-        let scaled = ROOM / factor.max(n) / self.scale(y);
-        if y < self.width { scaled } else { scaled.min(ROOM / n / size(self.b[y - self.width]).max(1)) }
     }
 }
 
@@ -194,7 +178,7 @@ impl<'a> Run<'a> {
             second: vec![0; width],
             sums: vec![(0, 0); width],
             row: vec![0; width],
-            divisor: 1,
+            judged: Judged::new(rows),
         }
     }
 
@@ -204,7 +188,6 @@ impl<'a> Run<'a> {
         self.v.fill(0);
         self.v.iter_mut().step_by(width + 1).for_each(|entry| *entry = 1);
         self.den = 1;
-        self.divisor = 1;
         self.columns.iter_mut().enumerate().for_each(|(y, column)| *column = (y < width).then_some(y));
         self.first.fill(0);
         self.second.fill(0);
@@ -258,20 +241,6 @@ impl<'a> Run<'a> {
         Some(())
     }
 
-    /// Forms the row of side i, over what divides it and the denominator where its numbers aren't small.
-    fn form_divided_row(&mut self, i: usize) -> Option<()> {
-        self.divisor = 1;
-        if self.form_row(i).is_some() {
-            return Some(());
-        }
-        let shared = (0..self.row.len()).fold(size(self.den), |shared, c| divisor(self.entry(i, c).unsigned_abs(), shared));
-        self.divisor = small(shared as i128)?;
-        for c in 0..self.row.len() {
-            self.row[c] = small(self.entry(i, c) / shared as i128)?;
-        }
-        Some(())
-    }
-
     /// The variable that enters, and its column.
     fn entering(&self) -> Option<(usize, usize)> {
         let width = self.rows.width;
@@ -306,67 +275,6 @@ impl<'a> Run<'a> {
         moved.or_else(|| self.stand())
     }
 
-    /// What the numbers of the position are multiplied by where side i leaves and the column e is entered.
-    fn factors(&self, i: usize, e: usize) -> Factors {
-        let mut by = Factors { column: e, top: self.rows.scale(self.rows.width + i), size: 0 };
-        for (y, column) in self.columns.iter().enumerate() {
-            let Some(c) = *column else { continue };
-            let product = size(self.row[c]) * self.rows.scale(y);
-            if c == e { by.size = product } else { by.top = by.top.max(product) }
-        }
-        by
-    }
-
-    /// The product that is kept of a position where side i leaves: of its greatest number or denominator and the greatest of the whole row.
-    fn kept_product(&self, i: usize, by: Factors) -> Option<u128> {
-        let den = size(self.den) * self.rows.scale(self.rows.width + i);
-        let most = by.top.max(by.size).checked_mul(size(self.divisor))?;
-        greatest(&self.v).max(size(self.den)).checked_mul(most.max(den))
-    }
-
-    /// If the numbers of all rows, and the denominator, leave room for products with numbers of such sizes.
-    fn judge(&self, by: Factors) -> Option<()> {
-        let rows = self.rows;
-        let norm = (rows.width as u128 * greatest(&rows.a)).max(1);
-        let is_within = |c: usize, most: u128| {
-            let top = self.column(c).map(size).max().unwrap_or(0);
-            top <= most && (top <= most / norm || (0..rows.height()).all(|i| self.entry(i, c).unsigned_abs() <= most))
-        };
-        let leaves_room = |(y, column): (usize, &Option<usize>)| {
-            let within = |c: usize| is_within(c, rows.room(if c == by.column { by.top } else { by.size }, y));
-            size(self.den) * rows.scale(y) <= ROOM / by.size.max(1) && column.is_none_or(within)
-        };
-        self.columns.iter().enumerate().all(leaves_room).then_some(())
-    }
-
-    /// The pivot on the row and the column in lowest terms, if all numbers are small then.
-    fn reduce(&mut self, e: usize) -> Option<()> {
-        let (row, rest, pivot) = (&self.row, self.den / self.divisor, self.row[e].abs());
-        let factor = |line: &[i64]| if row[e] < 0 { -line[e] } else { line[e] };
-        let numerator = |old: i64, factor: i64, c: usize| {
-            if c == e { product(factor, rest) } else { product(old, pivot) - product(factor, row[c]) }
-        };
-        let over = product(pivot, self.den);
-        let mut shared = over.unsigned_abs();
-        for line in self.v.chunks_exact(row.len()) {
-            for (c, old) in line.iter().enumerate() {
-                let z = numerator(*old, factor(line), c).unsigned_abs();
-                if z % shared != 0 {
-                    shared = divisor(z, shared);
-                }
-            }
-        }
-        let by = small(shared as i128)?;
-        self.den = quotient(over, by, TOP)?;
-        for line in self.v.chunks_exact_mut(row.len()) {
-            let factor = factor(line);
-            for (c, entry) in line.iter_mut().enumerate() {
-                *entry = quotient(numerator(*entry, factor, c), by, TOP)?;
-            }
-        }
-        Some(())
-    }
-
     /// Where side i leaves and the variable y enters.
     fn exchange(&mut self, i: usize, y: usize, c: usize) {
         self.columns[self.rows.width + i] = Some(c);
@@ -388,30 +296,13 @@ impl<'a> Run<'a> {
         Some(Found::Next)
     }
 
-    fn judged_step(&mut self) -> Option<Found> {
-        let Some(i) = self.leaving() else {
-            return self.judge(Factors::default()).map(|()| Found::Point);
-        };
-        self.form_divided_row(i)?;
-        let Some((y, c)) = self.entering() else {
-            return self.judge(Factors::default()).map(|()| Found::Refuted(i));
-        };
-        let by = self.factors(i, c);
-        self.judge(by)?;
-        self.kept_product(i, by)?;
-        self.reduce(c)?;
-        self.exchange(i, y, c);
-        self.stand()?;
-        Some(Found::Next)
-    }
-
     fn point(&self) -> Answer {
         let value = |z: &i64| Fast::new(*z as i128, self.den as i128);
         Answer::Point(self.first.iter().zip(&self.second).map(|(q, r)| (value(q), value(r))).collect())
     }
 
     fn multipliers(&self, l: usize) -> Answer {
-        let den = product(self.den / self.divisor, self.rows.scales[l]);
+        let den = product(self.den, self.rows.scales[l]);
         let multiplier = |i: usize| match self.columns[self.rows.width + i] {
             None if i == l => ONE,
             None => ZERO,
@@ -421,34 +312,30 @@ impl<'a> Run<'a> {
     }
 
     /// What the run from the opening ends with, and after how many pivots.
-    fn run(&mut self, step: impl Fn(&mut Self) -> Option<Found>) -> Option<(Found, u32)> {
+    fn limited_end(&mut self, most: i64) -> Option<(Answer, u32)> {
         self.open();
         for count in 0..STEPS {
-            match step(self)? {
+            match self.limited_step(most)? {
                 Found::Next => {}
-                found => return Some((found, count)),
+                Found::Point => return Some((self.point(), count)),
+                Found::Refuted(l) => return Some((self.multipliers(l), count)),
             }
         }
         None
     }
 
     /// What the first run that comes to its end ends with, after how many pivots, and which one it is.
-    fn first_end(&mut self) -> Option<(Found, u32, Way)> {
-        let limited = self.rows.most.and_then(|most| self.run(|run| run.limited_step(most)));
-        let (way, (found, count)) = match limited {
-            Some(end) => (Way::Limited, end),
-            None => (Way::Judged, self.run(Run::judged_step)?),
-        };
-        Some((found, count, way))
+    fn first_end(&mut self) -> Option<(Answer, u32, Way)> {
+        if let Some((answer, count)) = self.rows.most.and_then(|most| self.limited_end(most)) {
+            return Some((answer, count, Way::Limited));
+        }
+        let (answer, count) = self.judged.end()?;
+        Some((answer, count, Way::Judged))
     }
 
     /// What the system is found to have, and by which run, if one comes to its end. It can be called again.
     pub fn end(&mut self) -> Option<(Answer, Way)> {
-        let (found, _, way) = self.first_end()?;
-        let answer = match found {
-            Found::Refuted(l) => self.multipliers(l),
-            _ => self.point(),
-        };
+        let (answer, _, way) = self.first_end()?;
         Some((answer, way))
     }
 }

@@ -6,6 +6,7 @@
 #[path = "../common/fractions.rs"]
 #[allow(dead_code)]
 mod fractions;
+mod judged;
 mod kernel;
 #[path = "../common/parts.rs"]
 mod parts;
