@@ -16,7 +16,7 @@ use crate::reduced::reduce;
 use crate::variables::column_of;
 use crate::whole::{Ending, STEPS, swap};
 use crate::whole_systems::{WholeNumbers, WholeSystem};
-use crate::wide_turn::{DividedRow, divided_side_row, wide_entering, wide_first_out};
+use crate::wide_turn::{DividedRow, divided_row, wide_entering, wide_first_out};
 use crate::wide_values::wide_stand;
 
 /// Where a run stands, in numbers of 128 bits: its denominator, the greatest size of a number there, the greatest
@@ -89,7 +89,7 @@ fn advance(
         frame.scales[l],
     );
     let c = column_of(&lists.seats, e);
-    let after = reduce(&mut lists.v, row.x, c, place.den, row.rest)?;
+    let after = reduce(&mut lists.v, row.x, c, place.den, row.rest, place.own)?;
     swap(&mut lists.seats, &mut lists.nonbasic, l, e, c);
     wide_stand(
         &mut lists.firsts,
@@ -98,6 +98,7 @@ fn advance(
         frame,
         &lists.nonbasic,
         &lists.v,
+        after.own,
     )?;
     Some(WidePlace {
         den: after.den,
@@ -133,15 +134,15 @@ fn judged_step(
         &lists.seats,
         &lists.firsts,
         &lists.seconds,
-        place.den,
-        place.first,
+        place,
     )?;
     let Some(l) = out else {
         judge_end(&lists.seats, &lists.v, system, frame, place.den)?;
         return Some(JudgedTurn::Ends(Ending::Point));
     };
     let side = l - system.unknowns();
-    let (divisor, rest) = divided_side_row(x, system, frame.a, &lists.v, side, place.den)?;
+    let short = place.own <= 1 << 62;
+    let (divisor, rest) = divided_row(x, system, frame.a, &lists.v, side, place.den, short)?;
     let Some(e) = wide_entering(system, &lists.nonbasic, x, frame.n) else {
         judge_end(&lists.seats, &lists.v, system, frame, place.den)?;
         return Some(JudgedTurn::Ends(Ending::Refuted(l)));

@@ -1,7 +1,7 @@
 //! Sums, products and quotients of numbers of 128 bits, where they fit.
 
-ghost use Rattle.std.specs.Prelude.{◌≡◌, ℕ, ℤ, pos, ◌+◌, ◌*◌, ◌<◌, ◌≤◌, ◌^◌, ◌+ℤ◌, ◌*ℤ◌, neg_ℤ, unsigned_abs, IfSome, length};
-ghost use Rattle.mpc_whole.specs.Whole.{whole_total, whole_at, whole_cell, turned};
+ghost use Rattle.std.specs.Prelude.{◌≡◌, ℕ, ℤ, pos, ◌+◌, ◌*◌, ◌<◌, ◌≤◌, ◌^◌, ◌+ℤ◌, ◌*ℤ◌, neg_ℤ, unsigned_abs, IfSome, IsTrue, length};
+ghost use Rattle.mpc_whole.specs.Whole.{whole_total, whole_at, whole_cell, turned, IsSmall};
 
 use crate::divisors::Divisor;
 use crate::whole_numbers::{narrow, product, small_quotient, widened};
@@ -29,20 +29,62 @@ pub(crate) fn wide_product(x: i128, y: i128) -> Option<i128>
     x.checked_mul(y)
 }
 
-/// `v q - k x`.
-#[inline]
-pub(crate) fn wide_difference(v: i128, q: i128, k: i128, x: i128) -> Option<i128>
+/// The product of a coefficient and a number, which isn't tested where it is known to be short.
+#[inline(always)]
+pub(crate) fn product_with(x: i64, y: i128, short: bool) -> Option<i128>
+    requires { IsTrue short → unsigned_abs y ≤ 2 ^ 62 }
+    ensures { IfSome result (λ z. z ≡ x *ℤ y) }
+{
+    if short {
+        return Some(product(x, narrow(y)));
+    }
+    wide_product(widened(x), y)
+}
+
+/// The product of two numbers, which aren't tested where they are known to be short.
+#[inline(always)]
+pub(crate) fn product_of(x: i128, y: i128, short: bool) -> Option<i128>
+    requires left { IsTrue short → unsigned_abs x ≤ 2 ^ 62 }
+    requires right { IsTrue short → unsigned_abs y ≤ 2 ^ 62 }
+    ensures { IfSome result (λ z. z ≡ x *ℤ y) }
+{
+    if short {
+        return Some(product(narrow(x), narrow(y)));
+    }
+    wide_product(x, y)
+}
+
+/// `v q - k x`, where the numbers aren't tested if they are known to be short.
+#[inline(always)]
+pub(crate) fn wide_difference(v: i128, q: i128, k: i128, x: i128, short: bool) -> Option<i128>
+    requires v_short { IsTrue short → unsigned_abs v ≤ 2 ^ 62 }
+    requires q_short { IsTrue short → unsigned_abs q ≤ 2 ^ 62 }
+    requires k_short { IsTrue short → unsigned_abs k ≤ 2 ^ 62 }
+    requires x_short { IsTrue short → unsigned_abs x ≤ 2 ^ 62 }
     ensures { IfSome result (λ z. z ≡ (v *ℤ q) +ℤ neg_ℤ (k *ℤ x)) }
 {
-    let first = wide_product(v, q)?;
-    let second = wide_product(k, x)?;
+    let first = product_of(v, q, short)?;
+    let second = product_of(k, x, short)?;
     first.checked_sub(second)
+}
+
+/// Whether all numbers of a list are short: at most 2^62 in size.
+pub(crate) fn are_short(list: &[i128]) -> bool
+    ensures { IsTrue result → IsSmall (2 ^ 62) list.now }
+{
+    for j in 0..list.len() {
+        if list[j].unsigned_abs() > 1 << 62 {
+            return false;
+        }
+    }
+    true
 }
 
 /// z, with its sign changed where q is negative.
 #[inline]
 pub(crate) fn wide_turned(q: i128, z: i128) -> Option<i128>
-    ensures { IfSome result (λ y. y ≡ turned q z) }
+    ensures value { IfSome result (λ y. y ≡ turned q z) }
+    ensures size { IfSome result (λ y. unsigned_abs y ≤ unsigned_abs z) }
 {
     if q < 0 {
         0_i128.checked_sub(z)
@@ -51,23 +93,23 @@ pub(crate) fn wide_turned(q: i128, z: i128) -> Option<i128>
     }
 }
 
-/// The row i of a times the numbers of a list.
-#[inline]
-pub(crate) fn wide_row_value(a: &[i64], i: usize, c: &[i128]) -> Option<i128>
+/// The row i of a times the numbers of a list, which aren't tested where they are known to be short.
+#[inline(always)]
+pub(crate) fn wide_row_value(a: &[i64], i: usize, c: &[i128], short: bool) -> Option<i128>
     requires inside { i * length c.now + length c.now ≤ length a.now }
+    requires short { IsTrue short → IsSmall (2 ^ 62) c.now }
     ensures { IfSome result (λ z. z ≡ whole_total (length c.now) (λ j. whole_cell (length c.now) a.now i j *ℤ whole_at c.now j)) }
 {
     let from = i * c.len();
     let mut total: i128 = 0;
     for j in 0..c.len() {
-        let term = wide_product(widened(a[from + j]), c[j])?;
+        let term = product_with(a[from + j], c[j], short)?;
         total = total.checked_add(term)?;
     }
     Some(total)
 }
 
 /// The row i of a times the column c of v.
-#[inline]
 pub(crate) fn wide_side_cell(
     a: &[i64],
     i: usize,
@@ -80,10 +122,29 @@ pub(crate) fn wide_side_cell(
     requires column { c < width }
     ensures { IfSome result (λ z. z ≡ whole_total width (λ j. whole_cell width a.now i j *ℤ whole_cell width v.now j c)) }
 {
+    column_value(a, i, v, width, c, false)
+}
+
+/// The row i of a times the column c of v, whose numbers aren't tested where they are known to be short.
+#[inline(always)]
+pub(crate) fn column_value(
+    a: &[i64],
+    i: usize,
+    v: &[i128],
+    width: usize,
+    c: usize,
+    short: bool,
+) -> Option<i128>
+    requires inside { i * width + width ≤ length a.now }
+    requires square { length v.now ≡ width * width }
+    requires column { c < width }
+    requires short { IsTrue short → IsSmall (2 ^ 62) v.now }
+    ensures { IfSome result (λ z. z ≡ whole_total width (λ j. whole_cell width a.now i j *ℤ whole_cell width v.now j c)) }
+{
     let from = i * width;
     let mut total: i128 = 0;
     for j in 0..width {
-        let term = wide_product(widened(a[from + j]), v[j * width + c])?;
+        let term = product_with(a[from + j], v[j * width + c], short)?;
         total = total.checked_add(term)?;
     }
     Some(total)

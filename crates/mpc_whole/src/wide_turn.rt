@@ -1,6 +1,6 @@
 //! Who leaves and who enters, in numbers of 128 bits.
 
-ghost use Rattle.std.specs.Prelude.{◌≡◌, ℕ, List, pos, ◌+◌, ◌-◌, ◌*◌, ◌<◌, ◌≤◌, ◌*ℤ◌, IfSome, length};
+ghost use Rattle.std.specs.Prelude.{◌≡◌, ℕ, List, pos, ◌+◌, ◌-◌, ◌*◌, ◌<◌, ◌≤◌, ◌*ℤ◌, ◌^◌, IfSome, IsTrue, length};
 ghost use Rattle.mpc_rows.specs.LinearSystem.{height};
 ghost use Rattle.mpc_rows.specs.Least.{least};
 ghost use Rattle.mpc_rows.specs.Run.{Position, bound, value, may_leave, may_enter};
@@ -10,78 +10,87 @@ ghost use Rattle.mpc_whole.specs.declared.variables.Seat.TheVariants.{Column};
 ghost use Rattle.mpc_whole.specs.Table.{seat_at, IsSeated, AreNonbasic};
 ghost use Rattle.mpc_whole.specs.Judged.{IsDividedRow};
 ghost use Rattle.mpc_whole.specs.Underway.{StayBefore};
-ghost use Rattle.mpc_whole.specs.Whole.{whole_at, HasSides, HasSideValues, HasBasis, IsRowOf, IsSideRow};
+ghost use Rattle.mpc_whole.specs.Whole.{whole_at, IsSmall, HasSides, HasSideValues, HasBasis, IsRowOf, IsSideRow};
 ghost use Rattle.mpc_whole.specs.Running.{HasNumbers};
 
 use crate::frames::Frame;
+use crate::judged::WidePlace;
 use crate::reduced::{shared_with_all, whole_share};
 use crate::variables::{Seat, is_basic};
-use crate::whole_numbers::widened;
 use crate::whole_systems::WholeSystem;
 use crate::whole_values::step_of;
 use crate::wide_numbers::{
-    WideDivisor, divide_all, positive, wide_product, wide_row_value, wide_side_cell,
+    WideDivisor, are_short, column_value, divide_all, positive, product_with, wide_row_value,
 };
 
-/// Whether the value of side i is above its bound.
-#[inline]
+/// Whether the value of side i is above its bound. The values of the unknowns and the denominator aren't tested where
+/// they are known to be short.
+#[inline(always)]
 fn is_out(
     system: &WholeSystem,
     frame: &Frame,
     c_1: &[i128],
     c_2: &[i128],
     den: u128,
+    short: bool,
     i: usize,
 ) -> Option<bool>
     requires side { i < height system.now }
     requires numbers { HasNumbers system.now frame.now.n frame.now.scales.now frame.now.a.now frame.now.b.now }
     requires first_size { length c_1.now ≡ system.now.width }
     requires second_size { length c_2.now ≡ system.now.width }
+    requires first_short { IsTrue short → IsSmall (2 ^ 62) c_1.now }
+    requires second_short { IsTrue short → IsSmall (2 ^ 62) c_2.now }
+    requires den_short { IsTrue short → den ≤ 2 ^ 62 }
     ensures { IfSome result (λ yes. (p : Position) → 0 < den → HasSideValues system.now frame.now.scales.now frame.now.a.now p den c_1.now c_2.now → HasSides system.now frame.now.scales.now frame.now.b.now
         → yes ≡ is_below (bound system.now (system.now.width + i)) (value system.now p (system.now.width + i))) }
 {
     let over = positive(den)?;
-    let first = wide_row_value(frame.a, i, c_1)?;
-    let limit = wide_product(widened(frame.b[i]), over)?;
+    let first = wide_row_value(frame.a, i, c_1, short)?;
+    let limit = product_with(frame.b[i], over, short)?;
     if limit < first {
         return Some(true);
     }
     if first < limit {
         return Some(false);
     }
-    let second = wide_row_value(frame.a, i, c_2)?;
+    let second = wide_row_value(frame.a, i, c_2, short)?;
     let step = step_of(system, frame.scales, i);
-    let next = wide_product(widened(step), over)?;
+    let next = product_with(step, over, short)?;
     if next < second {
         return Some(true);
     }
     Some(false)
 }
 
-/// The variable that leaves, from the first on that may.
-pub(crate) fn wide_first_out(
+/// The variable that leaves, from the first on that may, where the numbers may be known to be short.
+#[inline(always)]
+fn first_out(
     system: &WholeSystem,
     frame: &Frame,
     seats: &[Seat],
     c_1: &[i128],
     c_2: &[i128],
-    den: u128,
-    first: usize,
+    place: WidePlace,
+    short: bool,
 ) -> Option<Option<usize>>
-    requires side { system.now.width ≤ first }
+    requires side { system.now.width ≤ place.first }
     requires numbers { HasNumbers system.now frame.now.n frame.now.scales.now frame.now.a.now frame.now.b.now }
     requires seated { IsSeated (height system.now) system.now.width frame.now.n seats.now }
     requires first_size { length c_1.now ≡ system.now.width }
     requires second_size { length c_2.now ≡ system.now.width }
-    ensures { IfSome result (λ l. (p : Position) → 0 < den → HasBasis frame.now.n seats.now p → HasSideValues system.now frame.now.scales.now frame.now.a.now p den c_1.now c_2.now → HasSides system.now frame.now.scales.now frame.now.b.now
-        → StayBefore system.now p first → l ≡ least (may_leave system.now p) frame.now.n) }
+    requires first_short { IsTrue short → IsSmall (2 ^ 62) c_1.now }
+    requires second_short { IsTrue short → IsSmall (2 ^ 62) c_2.now }
+    requires den_short { IsTrue short → place.den ≤ 2 ^ 62 }
+    ensures { IfSome result (λ l. (p : Position) → 0 < place.den → HasBasis frame.now.n seats.now p → HasSideValues system.now frame.now.scales.now frame.now.a.now p place.den c_1.now c_2.now → HasSides system.now frame.now.scales.now frame.now.b.now
+        → StayBefore system.now p place.first → l ≡ least (may_leave system.now p) frame.now.n) }
 {
     let width = system.unknowns();
-    for x in first..frame.n {
+    for x in place.first..frame.n {
         if !is_basic(seats, x) {
             continue;
         }
-        let out = is_out(system, frame, c_1, c_2, den, x - width)?;
+        let out = is_out(system, frame, c_1, c_2, place.den, short, x - width)?;
         if out {
             return Some(Some(x));
         }
@@ -89,23 +98,49 @@ pub(crate) fn wide_first_out(
     Some(None)
 }
 
-/// The row of side i.
+/// The variable that leaves, from the first on that may. The loop over the sides stands there once for short numbers
+/// and once for others, so that they aren't tested again at each side.
+pub(crate) fn wide_first_out(
+    system: &WholeSystem,
+    frame: &Frame,
+    seats: &[Seat],
+    c_1: &[i128],
+    c_2: &[i128],
+    place: WidePlace,
+) -> Option<Option<usize>>
+    requires side { system.now.width ≤ place.first }
+    requires numbers { HasNumbers system.now frame.now.n frame.now.scales.now frame.now.a.now frame.now.b.now }
+    requires seated { IsSeated (height system.now) system.now.width frame.now.n seats.now }
+    requires first_size { length c_1.now ≡ system.now.width }
+    requires second_size { length c_2.now ≡ system.now.width }
+    ensures { IfSome result (λ l. (p : Position) → 0 < place.den → HasBasis frame.now.n seats.now p → HasSideValues system.now frame.now.scales.now frame.now.a.now p place.den c_1.now c_2.now → HasSides system.now frame.now.scales.now frame.now.b.now
+        → StayBefore system.now p place.first → l ≡ least (may_leave system.now p) frame.now.n) }
+{
+    if place.den <= 1 << 62 && are_short(c_1) && are_short(c_2) {
+        return first_out(system, frame, seats, c_1, c_2, place, true);
+    }
+    first_out(system, frame, seats, c_1, c_2, place, false)
+}
+
+/// The row of side i. The numbers v aren't tested where they are known to be short.
 fn wide_side_row(
     x: &mut [i128],
     system: &WholeSystem,
     a: &[i64],
     v: &[i128],
     i: usize,
+    short: bool,
 ) -> Option<()>
     requires side { i < height system.now }
     requires entries { length a.now ≡ height system.now * system.now.width }
     requires square { length v.now ≡ system.now.width * system.now.width }
     requires row_size { length x.old ≡ system.now.width }
+    requires short { IsTrue short → IsSmall (2 ^ 62) v.now }
     ensures { IfSome result (λ _. IsSideRow system.now a.now v.now i x.new) }
 {
     let width = system.unknowns();
     for c in 0..width {
-        let z = wide_side_cell(a, i, v, width, c)?;
+        let z = column_value(a, i, v, width, c, short)?;
         x[c] = z;
     }
     Some(())
@@ -135,7 +170,30 @@ fn divide_row(x: &mut [i128], den: u128) -> Option<(u128, u128)>
     Some((divisor, rest))
 }
 
-/// The row of side i, over what divides it and the denominator: the divisor, and what is left of the denominator.
+/// The row of side i, over what divides it and the denominator: the divisor, and what is left of the denominator. The
+/// numbers v aren't tested where they are known to be short.
+pub(crate) fn divided_row(
+    x: &mut [i128],
+    system: &WholeSystem,
+    a: &[i64],
+    v: &[i128],
+    i: usize,
+    den: u128,
+    short: bool,
+) -> Option<(u128, u128)>
+    requires side { i < height system.now }
+    requires entries { length a.now ≡ height system.now * system.now.width }
+    requires square { length v.now ≡ system.now.width * system.now.width }
+    requires row_size { length x.old ≡ system.now.width }
+    requires den_some { 0 < den }
+    requires short { IsTrue short → IsSmall (2 ^ 62) v.now }
+    ensures { IfSome result (λ r. IsDividedRow system.now a.now v.now i den r.0 r.1 x.new) }
+{
+    wide_side_row(x, system, a, v, i, short)?;
+    divide_row(x, den)
+}
+
+/// The same, where nothing is known of the numbers v.
 pub(crate) fn divided_side_row(
     x: &mut [i128],
     system: &WholeSystem,
@@ -151,8 +209,7 @@ pub(crate) fn divided_side_row(
     requires den_some { 0 < den }
     ensures { IfSome result (λ r. IsDividedRow system.now a.now v.now i den r.0 r.1 x.new) }
 {
-    wide_side_row(x, system, a, v, i)?;
-    divide_row(x, den)
+    divided_row(x, system, a, v, i, den, false)
 }
 
 /// Whether the variable y of column c may enter, by the row x of the variable that leaves: an unknown if its

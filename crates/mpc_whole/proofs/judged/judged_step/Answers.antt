@@ -11,7 +11,7 @@ use Rattle.mpc_whole.proofs.Standing.{leaves_here, side_in, row_of_leaving}
 use Rattle.mpc_whole.proofs.WholeRun.{side_values_at}
 use Rattle.mpc_whole.proofs.JudgedRun.{judged_point, mild_point, judged_refuted, mild_refuted}
 use Rattle.mpc_whole.proofs.judged.judged_step.Goals as goal
-use Rattle.mpc_whole.proofs.judged.judged_step.Goals.{In_ok-out, In-Some, After-divided_side_row, After-wide_entering, In_ok-judge_end, In_ok-judge_end-2}
+use Rattle.mpc_whole.proofs.judged.judged_step.Goals.{In_ok-out, In-Some, After-divided_row, After-wide_entering, In_ok-judge_end, In_ok-judge_end-2}
 
 found : (c : In_ok-out) → c.in_ok-out.out ≡ least (may_leave c.args.system.now (position c.args.system.now c.requires.underway.underway.stands.at)) (count c.args.system.now)
 found c =
@@ -48,9 +48,9 @@ overflow_sub-side c =
     let at = goal.at.overflow_sub-side c in
     subst (λ w. w ≤ c.in-Some.l) (sym c.unknowns.ensures) (leaves_here c.args.system.now (count c.args.system.now) c.args.lists.now.seats.items c.requires.lists.seated c.args.frame.now.scales.now c.args.place.den c.args.lists.now.v.items c.args.frame.now.a.now c.args.frame.now.b.now c.requires.numbers.whole c.requires.underway.underway.stands c.in-Some.l (leaver_is at.In-Some (found at.In_ok-out))).violated.side
 
-pub divided_side_row-requires-clause-side : goal.divided_side_row-requires-clause-side
-divided_side_row-requires-clause-side c =
-    let at = goal.at.divided_side_row-requires-clause-side c in
+pub divided_row-requires-clause-side : goal.divided_row-requires-clause-side
+divided_row-requires-clause-side c =
+    let at = goal.at.divided_row-requires-clause-side c in
     subst (λ w. c.in-Some.l - w < height c.args.system.now) (sym c.unknowns.ensures) (side_in c.args.system.now (count c.args.system.now) c.args.lists.now.seats.items c.requires.lists.seated c.args.frame.now.scales.now c.args.place.den c.args.lists.now.v.items c.args.frame.now.a.now c.args.frame.now.b.now c.requires.numbers.whole c.requires.underway.underway.stands c.in-Some.l (leaver_is at.In-Some (found at.In_ok-out)))
 
 entered : (c : After-wide_entering) → Some c.in-Some.l ≡ least (may_leave c.args.system.now (position c.args.system.now c.requires.underway.underway.stands.at)) (count c.args.system.now) → c.wide_entering.result ≡ least (may_enter c.args.system.now (position c.args.system.now c.requires.underway.underway.stands.at) c.in-Some.l) (count c.args.system.now)
@@ -67,7 +67,7 @@ entered c e =
     let den = c.args.place.den in
     let g = c.in_ok-divisor.divisor in
     let rest = c.in_ok-divisor.rest in
-    let x = c.divided_side_row.new.x in
+    let x = c.divided_row.new.x in
     let divided : IsDividedRow s a r.v.items (c.in-Some.l - s.width) den g rest x =
     subst₂ (λ w (u : List ℤ). IsDividedRow s a u (c.in-Some.l - w) den g rest x) c.unknowns.ensures c.deref-4.ensures.value c.in_ok-divisor.ensures
     in
@@ -105,5 +105,5 @@ advance-requires-clause-goes c =
     let q : c.wide_entering.result ≡ Some c.in-Some-wide_entering.e = c.in-Some-wide_entering.is in
     record { underway = c.requires.underway; leaves = e; enters = sym q ∙ entered at.After-wide_entering e }
 
-pub divided_side_row-requires-clause-den_some : goal.divided_side_row-requires-clause-den_some
-divided_side_row-requires-clause-den_some c = c.requires.underway.underway.stands.form.some
+pub divided_row-requires-clause-den_some : goal.divided_row-requires-clause-den_some
+divided_row-requires-clause-den_some c = c.requires.underway.underway.stands.form.some

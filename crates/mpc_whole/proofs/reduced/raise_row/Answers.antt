@@ -22,7 +22,7 @@ loop-c-preserved c =
     let xe : to_z w128 (of_z w128 (get_or c.args.x.now c.args.e (pos 0))) ≡ whole_at c.args.x.now c.args.e = to_z-of_z w128 _ fx in
     let ve : to_z w128 (of_z w128 (get_or c.args.v.now (c.args.j * w + c.args.e) (pos 0))) ≡ whole_cell w c.args.v.now c.args.j c.args.e = to_z-of_z w128 _ fv in
     let factor : to_z w128 (of_z w128 c.in_ok-factor.factor) ≡ turned (whole_at c.args.x.now c.args.e) (whole_cell w c.args.v.now c.args.j c.args.e) =
-    to_z-of_z w128 _ ff ∙ c.in_ok-factor.ensures ∙ (λ i. turned (xe i) (ve i))
+    to_z-of_z w128 _ ff ∙ c.in_ok-factor.ensures.value ∙ (λ i. turned (xe i) (ve i))
     in
     let old : to_z w128 (of_z w128 (get_or c.loop-c.v k (pos 0))) ≡ whole_cell w c.args.v.now c.args.j c.loop-c.c = to_z-of_z w128 _ fo ∙ c.loop-c.invariant.kept k (inr (le_refl k)) in
     let y : to_z w128 (of_z w128 (get_or c.args.x.now c.loop-c.c (pos 0))) ≡ whole_at c.args.x.now c.loop-c.c = to_z-of_z w128 _ fy in

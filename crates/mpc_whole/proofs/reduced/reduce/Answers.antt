@@ -19,4 +19,4 @@ returns-clause-pivot c =
     λ row d more split times.
     pivot_divided w g c.args.den c.args.rest size c.args.v.now c.divide_all.new.list x row c.args.e d (pos size) refl
     c.shared_with_all-divisor.ensures more split times c.requires.column (ap pos over) refl
-    (λ j k h l. changed_divided w g c.args.rest c.args.v.now x j c.args.e k _ _ (subst (λ m. whole_at c.divide_all.new.list (j * w + k) *ℤ pos m ≡ whole_at c.raise_rows.new.v (j * w + k)) c.of.ensures (c.in_ok-own.ensures.each (j * w + k))) (c.in_ok-raise_rows.ensures j k h l))
+    (λ j k h l. changed_divided w g c.args.rest c.args.v.now x j c.args.e k _ _ (subst (λ m. whole_at c.divide_all.new.list (j * w + k) *ℤ pos m ≡ whole_at c.raise.new.v (j * w + k)) c.of.ensures (c.in_ok-own.ensures.each (j * w + k))) (c.in_ok-raise.ensures j k h l))

@@ -18,8 +18,7 @@ limit_is : (c : In_ok-limit) → to_z w128 (of_z w128 c.in_ok-limit.limit) ≡ w
 limit_is c =
     let f : FitsSigned w64 (get_or c.args.frame.now.b.now c.args.i (pos 0)) = search rules in
     let g : FitsSigned w128 c.in_ok-limit.limit = search rules in
-    let h : FitsSigned w128 c.widened.result = search rules in
-    to_z-of_z w128 _ g ∙ c.in_ok-limit.ensures ∙ (λ i. (to_z-of_z w128 _ h ∙ c.widened.ensures ∙ to_z-of_z w64 _ f) i *ℤ over_is c i)
+    to_z-of_z w128 _ g ∙ c.in_ok-limit.ensures ∙ (λ i. to_z-of_z w64 _ f i *ℤ over_is c i)
 
 first_is : (c : In_ok-limit) → to_z w128 (of_z w128 c.in_ok-first.first) ≡ whole_total c.args.system.now.width (λ j. whole_cell c.args.system.now.width c.args.frame.now.a.now c.args.i j *ℤ whole_at c.args.c_1.now j)
 first_is c =
@@ -55,8 +54,7 @@ next_is : (c : In_ok-next) → to_z w128 (of_z w128 c.in_ok-over.over) ≡ pos c
 next_is c over =
     let f : FitsSigned w64 c.step_of-step.result = search rules in
     let g : FitsSigned w128 c.in_ok-next.next = search rules in
-    let h : FitsSigned w128 c.widened-2.result = search rules in
-    to_z-of_z w128 _ g ∙ c.in_ok-next.ensures ∙ (λ i. (to_z-of_z w128 _ h ∙ c.widened-2.ensures ∙ to_z-of_z w64 _ f) i *ℤ over i)
+    to_z-of_z w128 _ g ∙ c.in_ok-next.ensures ∙ (λ i. to_z-of_z w64 _ f i *ℤ over i)
 
 pub returns-then-next-second : goal.returns-then-next-second
 returns-then-next-second c = λ p some v w.
@@ -74,14 +72,12 @@ returns c = λ p some v w.
     (subst₂ (λ x y. x ≤ℤ y) (limit_is all.In_ok-limit) (first_is all.In_ok-limit) (not_lt_so _ _ c.if-first-limit.false))
     (subst₂ (λ x y. x ≤ℤ y) (second_is all.In_ok-next) (next_is all.In_ok-next (over_is all.In_ok-limit)) (not_lt_so _ _ c.if-next-second.false))
 
-pub wide_row_value-requires : goal.wide_row_value-requires
-wide_row_value-requires c = record {
-  inside = subst (λ w. c.args.i * w + w ≤ length c.args.frame.now.a.now) (sym c.requires.first_size)
-      (rows_in c.args.system.now.width c.args.i (height c.args.system.now) (length c.args.frame.now.a.now) c.requires.side c.requires.numbers.whole.entries_size);
-}
+pub wide_row_value-requires-clause-inside : goal.wide_row_value-requires-clause-inside
+wide_row_value-requires-clause-inside c =
+    subst (λ w. c.args.i * w + w ≤ length c.args.frame.now.a.now) (sym c.requires.first_size)
+    (rows_in c.args.system.now.width c.args.i (height c.args.system.now) (length c.args.frame.now.a.now) c.requires.side c.requires.numbers.whole.entries_size)
 
-pub wide_row_value-requires-2 : goal.wide_row_value-requires-2
-wide_row_value-requires-2 c = record {
-  inside = subst (λ w. c.args.i * w + w ≤ length c.args.frame.now.a.now) (sym c.requires.second_size)
-      (rows_in c.args.system.now.width c.args.i (height c.args.system.now) (length c.args.frame.now.a.now) c.requires.side c.requires.numbers.whole.entries_size);
-}
+pub wide_row_value-requires-2-clause-inside : goal.wide_row_value-requires-2-clause-inside
+wide_row_value-requires-2-clause-inside c =
+    subst (λ w. c.args.i * w + w ≤ length c.args.frame.now.a.now) (sym c.requires.second_size)
+    (rows_in c.args.system.now.width c.args.i (height c.args.system.now) (length c.args.frame.now.a.now) c.requires.side c.requires.numbers.whole.entries_size)

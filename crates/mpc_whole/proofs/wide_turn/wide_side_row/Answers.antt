@@ -8,13 +8,13 @@ use Rattle.mpc_whole.proofs.WholeSteps.{set_below}
 use Rattle.mpc_whole.proofs.wide_turn.wide_side_row.Goals as goal
 use Rattle.mpc_whole.proofs.wide_turn.wide_side_row.Goals.{After-loop-c}
 
-pub wide_side_cell-requires-clause-inside : goal.wide_side_cell-requires-clause-inside
-wide_side_cell-requires-clause-inside c =
+pub column_value-requires-clause-inside : goal.column_value-requires-clause-inside
+column_value-requires-clause-inside c =
     subst (λ w. c.args.i * w + w ≤ length c.args.a.now) (sym c.unknowns-width.ensures)
     (rows_in c.args.system.now.width c.args.i (height c.args.system.now) (length c.args.a.now) c.requires.side c.requires.entries)
 
-pub wide_side_cell-requires-clause-square : goal.wide_side_cell-requires-clause-square
-wide_side_cell-requires-clause-square c = subst (λ w. length c.args.v.now ≡ w * w) (sym c.unknowns-width.ensures) c.requires.square
+pub column_value-requires-clause-square : goal.column_value-requires-clause-square
+column_value-requires-clause-square c = subst (λ w. length c.args.v.now ≡ w * w) (sym c.unknowns-width.ensures) c.requires.square
 
 pub loop-c-preserved : goal.loop-c-preserved
 loop-c-preserved c =

@@ -1,7 +1,8 @@
-use Rattle.std.proofs.Common.{rules, ◌≡◌, pos, ◌+◌, ◌-◌, ◌*◌, ◌<◌, ◌≤◌, ◌+ℤ◌, ◌*ℤ◌, sym, ◌∙◌, ap, subst, arith, get_or, to_z, of_z, FitsSigned}
+use Rattle.std.proofs.Common.{rules, [], ◌∷◌, ◌≡◌, ℤ, pos, ◌+◌, ◌-◌, ◌*◌, ◌<◌, ◌≤◌, ◌+ℤ◌, ◌*ℤ◌, sym, ◌∙◌, ap, subst, arith, get_or, to_z, of_z, FitsSigned}
 use Rattle.std.specs.Int.{w64, w128}
 use Rattle.std.proofs.lemmas.Int.{to_z-of_z}
 use Rattle.mpc_exact.specs.Rational.{frac}
+use Rattle.mpc_exact.proofs.IntRing.{int_reads, by_ring_ℤ}
 use Rattle.mpc_space.specs.Total.{total}
 use Rattle.mpc_space.proofs.Total.{total-zero}
 use Rattle.mpc_rows.specs.LinearSystem.{height}
@@ -14,6 +15,9 @@ use Rattle.mpc_whole.proofs.Table.{first_terms, second_terms}
 use Rattle.mpc_whole.proofs.WholeSums.{zero_over}
 use Rattle.mpc_whole.proofs.WholeSteps.{rest_first, rest_second}
 use Rattle.mpc_whole.proofs.wide_values.wide_value_of.Goals as goal
+
+turned_round : (x y : ℤ) → x *ℤ y ≡ y *ℤ x
+turned_round x y = by_ring_ℤ (x ∷ y ∷ []) (search int_reads depth 30) (search int_reads depth 30) tt
 
 pub loop-c-init : goal.loop-c-init
 loop-c-init c = record {
@@ -55,15 +59,13 @@ loop-c-preserved c =
     let factor_fits : FitsSigned w128 (get_or v (c.args.j * c.unknowns-width.result + c.loop-c.c) (pos 0)) = search rules in
     let term_fits : FitsSigned w128 c.in_ok-term.term = search rules in
     let next_fits : FitsSigned w128 c.in_ok-next.next = search rules in
-    let wide_fits : FitsSigned w128 c.widened.result = search rules in
-    let wide_step_fits : FitsSigned w128 c.widened-in-loop-c.result = search rules in
     let bound_fits : FitsSigned w64 (get_or b (y - c.unknowns-width.result) (pos 0)) = search rules in
     let step_fits : FitsSigned w64 c.step_of-step.result = search rules in
     let product : to_z w128 (of_z w128 c.in_ok-term.term) ≡ whole_cell s.width v c.args.j c.loop-c.c *ℤ whole_at b (y - s.width) =
-    to_z-of_z w128 _ term_fits ∙ c.in_ok-term.ensures ∙ (λ i. to_z-of_z w128 _ factor_fits i *ℤ (to_z-of_z w128 _ wide_fits ∙ c.widened.ensures ∙ to_z-of_z w64 _ bound_fits) i) ∙ (λ i. whole_cell (e i) v c.args.j c.loop-c.c *ℤ whole_at b (y - e i))
+    to_z-of_z w128 _ term_fits ∙ c.in_ok-term.ensures ∙ (λ i. to_z-of_z w64 _ bound_fits i *ℤ to_z-of_z w128 _ factor_fits i) ∙ turned_round (whole_at b (y - c.unknowns-width.result)) (whole_cell c.unknowns-width.result v c.args.j c.loop-c.c) ∙ (λ i. whole_cell (e i) v c.args.j c.loop-c.c *ℤ whole_at b (y - e i))
     in
     let step_product : to_z w128 (of_z w128 c.in_ok-next.next) ≡ whole_cell s.width v c.args.j c.loop-c.c *ℤ c.step_of-step.result =
-    to_z-of_z w128 _ next_fits ∙ c.in_ok-next.ensures ∙ (λ i. to_z-of_z w128 _ factor_fits i *ℤ (to_z-of_z w128 _ wide_step_fits ∙ c.widened-in-loop-c.ensures ∙ to_z-of_z w64 _ step_fits) i) ∙ ap (λ w. whole_cell w v c.args.j c.loop-c.c *ℤ c.step_of-step.result) e
+    to_z-of_z w128 _ next_fits ∙ c.in_ok-next.ensures ∙ (λ i. to_z-of_z w64 _ step_fits i *ℤ to_z-of_z w128 _ factor_fits i) ∙ turned_round c.step_of-step.result (whole_cell c.unknowns-width.result v c.args.j c.loop-c.c) ∙ ap (λ w. whole_cell w v c.args.j c.loop-c.c *ℤ c.step_of-step.result) e
     in
     let first = to_z-of_z w128 c.in_ok-first.first (subst (FitsSigned w128) (sym c.in_ok-first.ensures.1) c.in_ok-first.ensures.0) ∙ c.in_ok-first.ensures.1 ∙ ap (λ u. to_z w128 c.loop-c.first-bits +ℤ u) product in
     let second = to_z-of_z w128 c.in_ok-second.second (subst (FitsSigned w128) (sym c.in_ok-second.ensures.1) c.in_ok-second.ensures.0) ∙ c.in_ok-second.ensures.1 ∙ ap (λ u. to_z w128 c.loop-c.second-bits +ℤ u) step_product in

@@ -4,11 +4,11 @@ use Rattle.mpc_rows.specs.Run.{Position, may_leave, bound, value}
 use Rattle.mpc_whole.specs.Whole.{HasBasis}
 use Rattle.mpc_whole.proofs.Table.{least_none, least_some, least_skip, leave_not_basic}
 use Rattle.mpc_whole.proofs.WholeTurns.{none_below, none_up_to, leaves_as}
-use Rattle.mpc_whole.proofs.wide_turn.wide_first_out.Goals as goal
-use Rattle.mpc_whole.proofs.wide_turn.wide_first_out.Goals.{In_ok-out}
+use Rattle.mpc_whole.proofs.wide_turn.first_out.Goals as goal
+use Rattle.mpc_whole.proofs.wide_turn.first_out.Goals.{In_ok-out}
 
 pub loop-x-init : goal.loop-x-init
-loop-x-init c = λ p some h v w t. none_below (may_leave c.args.system.now p) c.args.first t
+loop-x-init c = λ p some h v w t. none_below (may_leave c.args.system.now p) c.args.place.first t
 
 pub loop-x-preserved-then-not-is_basic : goal.loop-x-preserved-then-not-is_basic
 loop-x-preserved-then-not-is_basic c = λ p some h v w t.

@@ -1,9 +1,0 @@
-use Rattle.std.proofs.Common.{◌≡◌, ◌<◌, None}
-use Rattle.mpc_rows.specs.Least.{least}
-use Rattle.mpc_rows.specs.Run.{Position, may_leave}
-use Rattle.mpc_whole.specs.Whole.{HasBasis, HasSideValues, HasSides}
-use Rattle.mpc_whole.specs.Underway.{StayBefore}
-use Rattle.mpc_whole.proofs.wide_turn.wide_first_out.Given as goal
-
-abbrev pub invariant-loop-x : goal.invariant-loop-x
-invariant-loop-x l = (p : Position) → 0 < l.den → HasBasis l.frame.n l.seats p → HasSideValues l.system l.frame.scales.now l.frame.a.now p l.den l.c_1 l.c_2 → HasSides l.system l.frame.scales.now l.frame.b.now → StayBefore l.system p l.first → least (may_leave l.system p) l.x ≡ None
