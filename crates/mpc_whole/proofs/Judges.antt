@@ -1,5 +1,5 @@
 -- What a number may have, so that its products are within a room.
-use Rattle.std.proofs.Common.{ℕ, ◌*◌, ◌/◌, ◌<◌, ◌≤◌, arith, mul-le-mul_right, mul-le-mul_left}
+use Rattle.std.proofs.Common.{ℕ, ◌*◌, ◌/◌, ◌<◌, ◌≤◌, arith, mul-le-mul_right, mul-le-mul_left, le_trans}
 
 -- an equal share of the room
 pub shared_out : (r m k z t : ℕ) → 0 < m → 0 < k → t ≤ m → z ≤ (r / m) / k → (z * k) * t ≤ r
@@ -27,3 +27,7 @@ shared_side r n b q z hn hq l h =
     let d : z * b ≤ z * q = mul-le-mul_left z l in
     let e : (z * b) * n ≤ (z * q) * n = mul-le-mul_right n d in
     omega arith
+
+-- a number that isn't above one with room has room too
+pub room_below : (r m k g z t : ℕ) → (m * k) * g ≤ r → z ≤ m → t ≤ g → (z * k) * t ≤ r
+room_below r m k g z t h l e = le_trans (mul-le-mul_left (z * k) e) (le_trans (mul-le-mul_right g (mul-le-mul_right k l)) h)

@@ -1,10 +1,10 @@
 //! Whether the sizes of the numbers at a position show that no operation of the stated run there is wide.
 
-ghost use Rattle.std.specs.Prelude.{◌≡◌, ℕ, ℤ, ◌+◌, ◌*◌, ◌<◌, ◌≤◌, IfSome, unsigned_abs, length};
+ghost use Rattle.std.specs.Prelude.{◌≡◌, ℕ, ℤ, ◌+◌, ◌-◌, ◌*◌, ◌<◌, ◌≤◌, ◌^◌, IfSome, unsigned_abs, length};
 ghost use Rattle.mpc_rows.specs.LinearSystem.{height};
 ghost use Rattle.mpc_whole.specs.declared.variables.Seat.TheVariants.{Column};
 ghost use Rattle.mpc_whole.specs.Table.{seat_at, IsSeated};
-ghost use Rattle.mpc_whole.specs.Whole.{whole_cell, scale_at, side_cell, AreScales};
+ghost use Rattle.mpc_whole.specs.Whole.{whole_at, whole_cell, scale_at, side_cell, AreScales};
 ghost use Rattle.mpc_whole.specs.Running.{HasNumbers};
 ghost use Rattle.mpc_whole.specs.Judged.{HasRoomAt, IsJudged, IsNorm, IsRowWithin};
 
@@ -50,6 +50,50 @@ fn entry_limit(system: &WholeSystem, frame: &Frame, by: Factors, y: usize) -> u1
     }
     let side = frame.b[y - width].unsigned_abs();
     scaled.min(ROOM / n / side.max(1) as u128)
+}
+
+/// The size of the right side of y, or 0 for an unknown.
+#[inline]
+fn side_of(system: &WholeSystem, frame: &Frame, y: usize) -> u128
+    requires numbers { HasNumbers system.now frame.now.n frame.now.scales.now frame.now.a.now frame.now.b.now }
+    requires below { y < frame.now.n }
+    ensures { system.now.width ≤ y → result ≡ unsigned_abs (whole_at frame.now.b.now (y - system.now.width)) }
+{
+    let width = system.unknowns();
+    if y < width {
+        return 0;
+    }
+    frame.b[y - width].unsigned_abs() as u128
+}
+
+/// If a product is within the room.
+#[inline]
+fn within_room(product: u128) -> Option<()>
+    ensures { IfSome result (λ _. product ≤ 2 ^ 125) }
+{
+    if product > ROOM {
+        return None;
+    }
+    Some(())
+}
+
+/// If products show that numbers in the column of y of at most such a size have room.
+#[inline]
+fn have_room(system: &WholeSystem, frame: &Frame, by: Factors, y: usize, most: u128) -> Option<()>
+    requires numbers { HasNumbers system.now frame.now.n frame.now.scales.now frame.now.a.now frame.now.b.now }
+    requires below { y < frame.now.n }
+    ensures { IfSome result (λ _. (z : ℤ) → unsigned_abs z ≤ most → HasRoomAt system.now frame.now.scales.now frame.now.b.now by.enters by.top by.size y z) }
+{
+    let n = frame.n as u128;
+    let factor = factor_at(by, y);
+    let greater = factor.max(n);
+    let times = most.checked_mul(frame.scales[y] as u128)?;
+    let scaled = times.checked_mul(greater)?;
+    let side = side_of(system, frame, y);
+    let beside = most.checked_mul(side)?;
+    let sides = beside.checked_mul(n)?;
+    within_room(scaled)?;
+    within_room(sides)
 }
 
 /// The greatest size of a number of an unknown's row in the column c.
@@ -126,8 +170,31 @@ fn is_column_within(
     are_sides_within(system, a, v, c, limit)
 }
 
+/// If products show that the numbers of all rows in the column c, which is that of y, have room.
+fn have_clear_room(
+    system: &WholeSystem,
+    frame: &Frame,
+    v: &[i128],
+    by: Factors,
+    y: usize,
+    c: usize,
+    norm: u128,
+) -> Option<()>
+    requires numbers { HasNumbers system.now frame.now.n frame.now.scales.now frame.now.a.now frame.now.b.now }
+    requires below { y < frame.now.n }
+    requires square { length v.now ≡ system.now.width * system.now.width }
+    requires column { c < system.now.width }
+    requires norm { IsNorm system.now.width frame.now.a.now norm }
+    ensures unknowns { IfSome result (λ _. (j : ℕ) → j < system.now.width → HasRoomAt system.now frame.now.scales.now frame.now.b.now by.enters by.top by.size y (whole_cell system.now.width v.now j c)) }
+    ensures sides { IfSome result (λ _. (i : ℕ) → i < height system.now → HasRoomAt system.now frame.now.scales.now frame.now.b.now by.enters by.top by.size y (side_cell system.now frame.now.a.now v.now i c)) }
+{
+    let top = column_top(v, system.unknowns(), c);
+    let most = top.checked_mul(norm)?;
+    have_room(system, frame, by, y, most)
+}
+
 /// If the numbers of all rows at a position, and its denominator, leave room for products with numbers of such
-/// sizes.
+/// sizes. Only where products don't show it is it asked by divisions.
 pub(crate) fn judge(
     seats: &[Seat],
     v: &[i128],
@@ -152,6 +219,9 @@ pub(crate) fn judge(
             continue;
         }
         let c = column_of(seats, y);
+        if let Some(()) = have_clear_room(system, frame, v, by, y, c, norm) {
+            continue;
+        }
         let limit = entry_limit(system, frame, by, y);
         is_column_within(system, frame.a, v, c, limit, norm)?;
     }

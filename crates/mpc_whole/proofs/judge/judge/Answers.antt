@@ -1,4 +1,4 @@
-use Rattle.std.proofs.Common.{ℕ, ◌≡◌, ◌∙◌, ◌*◌, ◌/◌, ◌<◌, ◌≤◌, ◌^◌, true, arith, sym, ap, subst, le_trans, mul-le-mul_left}
+use Rattle.std.proofs.Common.{ℕ, Option, Some, IfSome, ◌≡◌, ◌∙◌, ◌*◌, ◌/◌, ◌<◌, ◌≤◌, ◌^◌, true, arith, sym, ap, subst, le_trans, mul-le-mul_left}
 use Rattle.std.proofs.lemmas.Bool.{both_ways}
 use borrow.Author.Count.{below_more}
 use Rattle.mpc_whole.specs.declared.variables.Seat.TheVariants.{Column}
@@ -45,6 +45,30 @@ is_column_within-requires-clause-column c = column_in (goal.at.is_column_within-
 
 pub is_column_within-requires-clause-norm : goal.is_column_within-requires-clause-norm
 is_column_within-requires-clause-norm c = subst (λ w. IsNorm w c.args.frame.now.a.now c.norm_of-norm.result) c.unknowns.ensures c.norm_of-norm.ensures
+
+there : {X : Type 0} {P : Type 0} (r : Option X) (x : X) → r ≡ Some x → IfSome r (λ _. P) → P
+there {X} {P} r x e h = subst (λ (o : Option X). IfSome o (λ _. P)) e h
+
+pub have_clear_room-requires-clause-column : goal.have_clear_room-requires-clause-column
+have_clear_room-requires-clause-column c = column_in (goal.at.have_clear_room-requires-clause-column c).After-column_of-c
+
+pub have_clear_room-requires-clause-norm : goal.have_clear_room-requires-clause-norm
+have_clear_room-requires-clause-norm c = subst (λ w. IsNorm w c.args.frame.now.a.now c.norm_of-norm.result) c.unknowns.ensures c.norm_of-norm.ensures
+
+pub loop-y-preserved-in-Some : goal.loop-y-preserved-in-Some
+loop-y-preserved-in-Some c =
+    let at = goal.at.loop-y-preserved-in-Some c in
+    let q = λ (k : ℕ) (e : seat_at c.args.seats.now c.loop-y.y ≡ Column k). column_same c.column_of-c.result k (sym c.column_of-c.ensures ∙ e) in
+    let unknowns = there c.have_clear_room.result _ c.in-Some.is c.have_clear_room.ensures.unknowns in
+    let sides = there c.have_clear_room.result _ c.in-Some.is c.have_clear_room.ensures.sides in
+    record {
+      dens = below_more (λ x. (c.args.den * scale_at c.args.frame.now.scales.now x) * c.args.by.size ≤ 2 ^ 125) c.loop-y.y c.loop-y.invariant.dens (dens_here at.In_ok-scaled c.if-scaled-room.false);
+      whole = below_more (λ x. c.args.den * scale_at c.args.frame.now.scales.now x ≤ 2 ^ 125) c.loop-y.y c.loop-y.invariant.whole (whole_here at.In_ok-scaled c.if-scaled-room.false);
+      unknowns = λ j y k h l e. below_more (λ y. seat_at c.args.seats.now y ≡ Column k → HasRoomAt c.args.system.now c.args.frame.now.scales.now c.args.frame.now.b.now c.args.by.enters c.args.by.top c.args.by.size y (whole_cell c.args.system.now.width c.args.v.now j k)) c.loop-y.y (λ y l e. c.loop-y.invariant.unknowns j y k h l e)
+          (λ e. subst (λ m. HasRoomAt c.args.system.now c.args.frame.now.scales.now c.args.frame.now.b.now c.args.by.enters c.args.by.top c.args.by.size c.loop-y.y (whole_cell c.args.system.now.width c.args.v.now j m)) (q k e) (unknowns j h)) y l e;
+      sides = λ i y k h l e. below_more (λ y. seat_at c.args.seats.now y ≡ Column k → HasRoomAt c.args.system.now c.args.frame.now.scales.now c.args.frame.now.b.now c.args.by.enters c.args.by.top c.args.by.size y (side_cell c.args.system.now c.args.frame.now.a.now c.args.v.now i k)) c.loop-y.y (λ y l e. c.loop-y.invariant.sides i y k h l e)
+          (λ e. subst (λ m. HasRoomAt c.args.system.now c.args.frame.now.scales.now c.args.frame.now.b.now c.args.by.enters c.args.by.top c.args.by.size c.loop-y.y (side_cell c.args.system.now c.args.frame.now.a.now c.args.v.now i m)) (q k e) (sides i h)) y l e;
+    }
 
 pub loop-y-preserved : goal.loop-y-preserved
 loop-y-preserved c =

@@ -1,0 +1,25 @@
+use Rattle.std.proofs.Common.{ℕ, ◌≡◌, ◌∙◌, ◌*◌, ◌-◌, ◌<◌, ◌≤◌, ◌^◌, arith, ap, subst, le_refl, unsigned_abs}
+use Rattle.std.proofs.lemmas.Option.{IfSome_then}
+use Rattle.mpc_rows.specs.Run.{count}
+use Rattle.mpc_whole.specs.Whole.{whole_at, scale_at}
+use Rattle.mpc_whole.proofs.Judges.{room_below, turned_round}
+use Rattle.mpc_whole.proofs.judge.have_room.Goals as goal
+
+pub returns : goal.returns
+returns c =
+    let s = c.args.system.now in
+    let k = scale_at c.args.frame.now.scales.now c.args.y in
+    let n = c.args.frame.now.n in
+    let most = c.args.most in
+    let g = c.max-greater.result in
+    let side = c.side_of-side.result in
+    let scaled : (most * k) * g ≤ 2 ^ 125 = subst (λ m. m * g ≤ 2 ^ 125) c.in_ok-times.ensures.1 (subst (λ m. m ≤ 2 ^ 125) c.in_ok-scaled.ensures.1 c.in_ok-within_room.ensures) in
+    IfSome_then c.within_room-2.result c.within_room-2.ensures (λ u w.
+    let beside : (most * side) * n ≤ 2 ^ 125 = subst (λ m. m * n ≤ 2 ^ 125) c.in_ok-beside.ensures.1 (subst (λ m. m ≤ 2 ^ 125) c.in_ok-sides.ensures.1 w) in
+    λ z h. record {
+      entering = λ e. room_below (2 ^ 125) most k g (unsigned_abs z) c.args.by.top scaled h (let a = c.max-greater.ensures in let q = c.factor_at-factor.ensures.entering e in omega arith);
+      other = λ e. room_below (2 ^ 125) most k g (unsigned_abs z) c.args.by.size scaled h (let a = c.max-greater.ensures in let q = c.factor_at-factor.ensures.other e in omega arith);
+      first = λ right. subst (λ q. count s * (unsigned_abs z * q) ≤ 2 ^ 125) (c.side_of-side.ensures right)
+          (subst (λ m. m * (unsigned_abs z * side) ≤ 2 ^ 125) c.requires.numbers.count (turned_round n _ _ (room_below (2 ^ 125) most side n (unsigned_abs z) n beside h (le_refl n))));
+      second = subst (λ m. m * (unsigned_abs z * k) ≤ 2 ^ 125) c.requires.numbers.count (turned_round n _ _ (room_below (2 ^ 125) most k g (unsigned_abs z) n scaled h (let a = c.max-greater.ensures in omega arith)));
+    })
