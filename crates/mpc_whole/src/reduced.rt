@@ -5,7 +5,8 @@ ghost use Rattle.mpc_whole.specs.Whole.{whole_at, whole_cell, IsSmall, IsChanged
 ghost use Rattle.mpc_whole.specs.Judged.{IsTimes, IsReducedPivot};
 
 use crate::wide_numbers::{
-    WideDivisor, are_short, divide_all, positive, product_of, wide_difference, wide_turned,
+    WideDivisor, are_short, divide_all, goes_into, positive, product_of, wide_difference,
+    wide_turned,
 };
 use mpc_frac::greatest_common_divisor;
 
@@ -103,7 +104,7 @@ fn shared_with(shared: u128, z: u128) -> u128
     requires { 0 < shared }
     ensures { 0 < result }
 {
-    if shared == 1 || z % shared == 0 {
+    if z % shared == 0 {
         shared
     } else {
         greatest_common_divisor(z, shared)
@@ -115,11 +116,16 @@ pub(crate) fn shared_with_all(list: &[i128], before: u128) -> u128
     requires { 0 < before }
     ensures { 0 < result }
 {
-    let mut shared = before;
+    let mut by = WideDivisor::of(before);
     for j in 0..list.len() {
-        shared = shared_with(shared, list[j].unsigned_abs());
+        if by.den == 1 {
+            return 1;
+        }
+        if !goes_into(by, list[j]) {
+            by = WideDivisor::of(shared_with(by.den, list[j].unsigned_abs()));
+        }
     }
-    shared
+    by.den
 }
 
 /// The quotient, if it is whole.

@@ -191,6 +191,12 @@ fn short_quotient(z: i128, by: WideDivisor) -> Option<i64>
     small_quotient(z, by.short, 1 << 62)
 }
 
+/// Whether a divisor goes into a number, as far as the sizes of both show it without a long division.
+#[inline]
+pub(crate) fn goes_into(by: WideDivisor, z: i128) -> bool {
+    short_quotient(z, by).is_some()
+}
+
 /// The quotient, if it is whole, by a long division.
 #[inline(never)]
 fn long_quotient(z: i128, den: u128) -> Option<i128>

@@ -2,4 +2,4 @@ use Rattle.std.proofs.Common.{◌<◌}
 use Rattle.mpc_whole.proofs.reduced.shared_with_all.Given as goal
 
 abbrev pub invariant-loop-j : goal.invariant-loop-j
-invariant-loop-j l = 0 < l.shared
+invariant-loop-j l = 0 < l.by.den
