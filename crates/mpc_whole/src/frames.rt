@@ -10,3 +10,14 @@ pub(crate) struct Frame<'a> {
     pub n: usize,
     pub most: u64,
 }
+
+/// The same for a run that is judged row by row, with the norm of the coefficients.
+#[derive(Clone, Copy, Drop)]
+pub(crate) struct JudgedFrame<'a> {
+    pub scales: &'a [u64],
+    pub a: &'a [i64],
+    pub b: &'a [i64],
+    pub n: usize,
+    /// By how many times more a number of a side's row may have than those of its column, at least 1.
+    pub norm: u128,
+}

@@ -8,7 +8,7 @@ ghost use Rattle.mpc_whole.specs.Whole.{whole_at, whole_cell, scale_at, side_cel
 ghost use Rattle.mpc_whole.specs.Running.{HasNumbers};
 ghost use Rattle.mpc_whole.specs.Judged.{HasRoomAt, IsJudged, IsNorm, IsRowWithin};
 
-use crate::frames::Frame;
+use crate::frames::JudgedFrame;
 use crate::variables::{Seat, column_of, is_basic};
 use crate::whole_rows::greatest;
 use crate::whole_systems::WholeSystem;
@@ -36,7 +36,7 @@ fn factor_at(by: Factors, y: usize) -> u128
 }
 
 /// What a number in the column of y may have.
-fn entry_limit(system: &WholeSystem, frame: &Frame, by: Factors, y: usize) -> u128
+fn entry_limit(system: &WholeSystem, frame: &JudgedFrame, by: Factors, y: usize) -> u128
     requires numbers { HasNumbers system.now frame.now.n frame.now.scales.now frame.now.a.now frame.now.b.now }
     requires below { y < frame.now.n }
     ensures { (z : ℤ) → unsigned_abs z ≤ result → HasRoomAt system.now frame.now.scales.now frame.now.b.now by.enters by.top by.size y z }
@@ -54,7 +54,7 @@ fn entry_limit(system: &WholeSystem, frame: &Frame, by: Factors, y: usize) -> u1
 
 /// The size of the right side of y, or 0 for an unknown.
 #[inline]
-fn side_of(system: &WholeSystem, frame: &Frame, y: usize) -> u128
+fn side_of(system: &WholeSystem, frame: &JudgedFrame, y: usize) -> u128
     requires numbers { HasNumbers system.now frame.now.n frame.now.scales.now frame.now.a.now frame.now.b.now }
     requires below { y < frame.now.n }
     ensures { system.now.width ≤ y → result ≡ unsigned_abs (whole_at frame.now.b.now (y - system.now.width)) }
@@ -79,7 +79,13 @@ fn within_room(product: u128) -> Option<()>
 
 /// If products show that numbers in the column of y of at most such a size have room.
 #[inline]
-fn have_room(system: &WholeSystem, frame: &Frame, by: Factors, y: usize, most: u128) -> Option<()>
+fn have_room(
+    system: &WholeSystem,
+    frame: &JudgedFrame,
+    by: Factors,
+    y: usize,
+    most: u128,
+) -> Option<()>
     requires numbers { HasNumbers system.now frame.now.n frame.now.scales.now frame.now.a.now frame.now.b.now }
     requires below { y < frame.now.n }
     ensures { IfSome result (λ _. (z : ℤ) → unsigned_abs z ≤ most → HasRoomAt system.now frame.now.scales.now frame.now.b.now by.enters by.top by.size y z) }
@@ -97,6 +103,7 @@ fn have_room(system: &WholeSystem, frame: &Frame, by: Factors, y: usize, most: u
 }
 
 /// The greatest size of a number of an unknown's row in the column c.
+#[inline]
 fn column_top(v: &[i128], width: usize, c: usize) -> u128
     requires square { length v.now ≡ width * width }
     requires column { c < width }
@@ -136,7 +143,7 @@ fn are_sides_within(
 }
 
 /// By how many times more a number of a side's row may have than those of its column, at least 1.
-fn norm_of(a: &[i64], width: usize) -> u128
+pub(crate) fn norm_of(a: &[i64], width: usize) -> u128
     ensures { IsNorm width a.now result }
 {
     let norm = width as u128 * greatest(a) as u128;
@@ -173,23 +180,22 @@ fn is_column_within(
 /// If products show that the numbers of all rows in the column c, which is that of y, have room.
 fn have_clear_room(
     system: &WholeSystem,
-    frame: &Frame,
+    frame: &JudgedFrame,
     v: &[i128],
     by: Factors,
     y: usize,
     c: usize,
-    norm: u128,
 ) -> Option<()>
     requires numbers { HasNumbers system.now frame.now.n frame.now.scales.now frame.now.a.now frame.now.b.now }
     requires below { y < frame.now.n }
     requires square { length v.now ≡ system.now.width * system.now.width }
     requires column { c < system.now.width }
-    requires norm { IsNorm system.now.width frame.now.a.now norm }
+    requires norm { IsNorm system.now.width frame.now.a.now frame.now.norm }
     ensures unknowns { IfSome result (λ _. (j : ℕ) → j < system.now.width → HasRoomAt system.now frame.now.scales.now frame.now.b.now by.enters by.top by.size y (whole_cell system.now.width v.now j c)) }
     ensures sides { IfSome result (λ _. (i : ℕ) → i < height system.now → HasRoomAt system.now frame.now.scales.now frame.now.b.now by.enters by.top by.size y (side_cell system.now frame.now.a.now v.now i c)) }
 {
     let top = column_top(v, system.unknowns(), c);
-    let most = top.checked_mul(norm)?;
+    let most = top.checked_mul(frame.norm)?;
     have_room(system, frame, by, y, most)
 }
 
@@ -199,17 +205,17 @@ pub(crate) fn judge(
     seats: &[Seat],
     v: &[i128],
     system: &WholeSystem,
-    frame: &Frame,
+    frame: &JudgedFrame,
     den: u128,
     by: Factors,
 ) -> Option<()>
     requires numbers { HasNumbers system.now frame.now.n frame.now.scales.now frame.now.a.now frame.now.b.now }
+    requires norm { IsNorm system.now.width frame.now.a.now frame.now.norm }
     requires seated { IsSeated (height system.now) system.now.width frame.now.n seats.now }
     requires square { length v.now ≡ system.now.width * system.now.width }
     ensures { IfSome result (λ _. IsJudged system.now frame.now.n seats.now frame.now.scales.now frame.now.a.now frame.now.b.now den v.now by.enters by.top by.size) }
 {
     let room = ROOM / by.size.max(1);
-    let norm = norm_of(frame.a, system.unknowns());
     for y in 0..frame.n {
         let scaled = den.checked_mul(frame.scales[y] as u128)?;
         if scaled > room {
@@ -219,11 +225,11 @@ pub(crate) fn judge(
             continue;
         }
         let c = column_of(seats, y);
-        if let Some(()) = have_clear_room(system, frame, v, by, y, c, norm) {
+        if let Some(()) = have_clear_room(system, frame, v, by, y, c) {
             continue;
         }
         let limit = entry_limit(system, frame, by, y);
-        is_column_within(system, frame.a, v, c, limit, norm)?;
+        is_column_within(system, frame.a, v, c, limit, frame.norm)?;
     }
     Some(())
 }
@@ -233,10 +239,11 @@ pub(crate) fn judge_end(
     seats: &[Seat],
     v: &[i128],
     system: &WholeSystem,
-    frame: &Frame,
+    frame: &JudgedFrame,
     den: u128,
 ) -> Option<()>
     requires numbers { HasNumbers system.now frame.now.n frame.now.scales.now frame.now.a.now frame.now.b.now }
+    requires norm { IsNorm system.now.width frame.now.a.now frame.now.norm }
     requires seated { IsSeated (height system.now) system.now.width frame.now.n seats.now }
     requires square { length v.now ≡ system.now.width * system.now.width }
     ensures { IfSome result (λ _. IsJudged system.now frame.now.n seats.now frame.now.scales.now frame.now.a.now frame.now.b.now den v.now 0 0 0) }

@@ -4,13 +4,13 @@ ghost use Rattle.std.specs.Prelude.{◌≡◌, ℕ, ◌*◌, ◌-◌, ◌<◌, �
 ghost use Rattle.mpc_rows.specs.Run.{count, steps};
 ghost use Rattle.mpc_whole.specs.Lists.{AreListsOf, of_wide};
 ghost use Rattle.mpc_whole.specs.Underway.{HasEnded};
-ghost use Rattle.mpc_whole.specs.Judged.{IsDividedRow, AreMildBefore, IsMildlyUnderway, IsGoingOn, IsProductOf};
+ghost use Rattle.mpc_whole.specs.Judged.{IsDividedRow, AreMildBefore, IsMildlyUnderway, IsGoingOn, IsNorm, IsProductOf};
 ghost use Rattle.mpc_whole.specs.Found.{IfJudgedEnd, IfJudgedNext};
 ghost use Rattle.mpc_whole.specs.Running.{HasNumbers};
 ghost use Rattle.mpc_whole.specs.Whole.{scale_at, IsWholeSystem, HasRoom};
 
-use crate::frames::Frame;
-use crate::judge::{Factors, factors_of, judge, judge_end};
+use crate::frames::JudgedFrame;
+use crate::judge::{Factors, factors_of, judge, judge_end, norm_of};
 use crate::lists::WideLists;
 use crate::reduced::reduce;
 use crate::variables::column_of;
@@ -65,12 +65,13 @@ fn advance(
     lists: &mut WideLists,
     row: DividedRow,
     system: &WholeSystem,
-    frame: &Frame,
+    frame: &JudgedFrame,
     place: WidePlace,
     l: usize,
     e: usize,
 ) -> Option<WidePlace>
     requires numbers { HasNumbers system.now frame.now.n frame.now.scales.now frame.now.a.now frame.now.b.now }
+    requires norm { IsNorm system.now.width frame.now.a.now frame.now.norm }
     requires lists { AreListsOf system.now place.own (of_wide lists.old) }
     requires row { IsDividedRow system.now frame.now.a.now lists.old.v.items (l - system.now.width) place.den row.divisor row.rest row.x.now }
     requires goes { IsGoingOn system.now (count system.now) lists.old.seats.items frame.now.scales.now place.den lists.old.v.items lists.old.firsts.items lists.old.seconds.items place.greatest place.greatest_den place.product place.first l e }
@@ -115,10 +116,11 @@ fn judged_step(
     lists: &mut WideLists,
     x: &mut [i128],
     system: &WholeSystem,
-    frame: &Frame,
+    frame: &JudgedFrame,
     place: WidePlace,
 ) -> Option<JudgedTurn>
     requires numbers { HasNumbers system.now frame.now.n frame.now.scales.now frame.now.a.now frame.now.b.now }
+    requires norm { IsNorm system.now.width frame.now.a.now frame.now.norm }
     requires lists { AreListsOf system.now place.own (of_wide lists.old) }
     requires row_size { length x.old ≡ system.now.width }
     requires underway { IsMildlyUnderway system.now (count system.now) lists.old.seats.items frame.now.scales.now place.den lists.old.v.items lists.old.firsts.items lists.old.seconds.items place.greatest place.greatest_den place.product place.first }
@@ -172,12 +174,12 @@ pub fn judged_run(
     ensures end { IfSome result (λ t. HasEnded system.now (count system.now) lists.new.seats.items numbers.now.scales.now t.0.den lists.new.v.items lists.new.firsts.items lists.new.seconds.items t.0.greatest t.0.greatest_den t.1) }
     ensures before { IfSome result (λ t. t.0.product < 2 ^ 127 → AreMildBefore system.now numbers.now.scales.now (steps system.now) t.0.greatest t.0.greatest_den t.0.product) }
 {
-    let frame = Frame {
+    let frame = JudgedFrame {
         scales: numbers.scales,
         a: numbers.a,
         b: numbers.b,
         n: lists.seats.len(),
-        most: 1 << 62,
+        norm: norm_of(numbers.a, system.unknowns()),
     };
     let mut place = from;
     'steps: for _ in 0..STEPS {

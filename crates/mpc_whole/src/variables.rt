@@ -15,6 +15,7 @@ pub enum Seat {
 }
 
 /// Whether the variable x is basic.
+#[inline]
 pub fn is_basic(seats: &[Seat], x: usize) -> bool
     requires { x < length seats.now }
     ensures { result ≡ in_row (seat_at seats.now x) }
@@ -26,6 +27,7 @@ pub fn is_basic(seats: &[Seat], x: usize) -> bool
 }
 
 /// The row of the basic variable x.
+#[inline]
 pub fn row_of(seats: &[Seat], x: usize) -> usize
     requires below { x < length seats.now }
     requires basic { in_row (seat_at seats.now x) ≡ true }
@@ -38,6 +40,7 @@ pub fn row_of(seats: &[Seat], x: usize) -> usize
 }
 
 /// The column of the nonbasic variable y.
+#[inline]
 pub fn column_of(seats: &[Seat], y: usize) -> usize
     requires below { y < length seats.now }
     requires free { in_row (seat_at seats.now y) ≡ false }

@@ -491,6 +491,7 @@ impl WholeSystem {
     }
 
     /// How many unknowns there are.
+    #[inline]
     pub fn unknowns(&self) -> usize
         ensures { result ≡ self.now.width }
     {
@@ -498,6 +499,7 @@ impl WholeSystem {
     }
 
     /// How many rows there are.
+    #[inline]
     pub fn height(&self) -> usize
         ensures { result ≡ height self.now }
     {
@@ -505,6 +507,7 @@ impl WholeSystem {
     }
 
     /// Whether row i, from 0, is strict.
+    #[inline]
     pub fn is_strict(&self, i: usize) -> bool
         requires { i < height self.now }
         ensures { result ≡ (row_at self.now i).strict }

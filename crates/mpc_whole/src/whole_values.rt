@@ -37,6 +37,7 @@ fn are_zero(list: &[i64]) -> bool
 }
 
 /// The second part of the bound of side i, times the scale of its row: minus the scale where the row is strict.
+#[inline]
 pub(crate) fn step_of(system: &WholeSystem, scales: &[u64], i: usize) -> i64
     requires side { i < height system.now }
     requires scales { AreScales system.now scales.now }

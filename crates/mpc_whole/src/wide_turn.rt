@@ -13,7 +13,7 @@ ghost use Rattle.mpc_whole.specs.Underway.{StayBefore};
 ghost use Rattle.mpc_whole.specs.Whole.{whole_at, IsSmall, HasSides, HasSideValues, HasBasis, IsRowOf, IsSideRow};
 ghost use Rattle.mpc_whole.specs.Running.{HasNumbers};
 
-use crate::frames::Frame;
+use crate::frames::JudgedFrame;
 use crate::judged::WidePlace;
 use crate::reduced::{shared_with_all, whole_share};
 use crate::variables::{Seat, is_basic};
@@ -28,7 +28,7 @@ use crate::wide_numbers::{
 #[inline(always)]
 fn is_out(
     system: &WholeSystem,
-    frame: &Frame,
+    frame: &JudgedFrame,
     c_1: &[i128],
     c_2: &[i128],
     den: u128,
@@ -67,7 +67,7 @@ fn is_out(
 #[inline(always)]
 fn first_out(
     system: &WholeSystem,
-    frame: &Frame,
+    frame: &JudgedFrame,
     seats: &[Seat],
     c_1: &[i128],
     c_2: &[i128],
@@ -102,7 +102,7 @@ fn first_out(
 /// and once for others, so that they aren't tested again at each side.
 pub(crate) fn wide_first_out(
     system: &WholeSystem,
-    frame: &Frame,
+    frame: &JudgedFrame,
     seats: &[Seat],
     c_1: &[i128],
     c_2: &[i128],

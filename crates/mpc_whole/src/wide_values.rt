@@ -8,7 +8,7 @@ ghost use Rattle.mpc_whole.specs.Moved.{IsValueAt, AreFormed};
 ghost use Rattle.mpc_whole.specs.Running.{HasNumbers};
 ghost use Rattle.mpc_whole.specs.Whole.{IsSmall};
 
-use crate::frames::Frame;
+use crate::frames::JudgedFrame;
 use crate::whole_systems::WholeSystem;
 use crate::whole_values::step_of;
 use crate::wide_numbers::product_with;
@@ -16,7 +16,7 @@ use crate::wide_numbers::product_with;
 /// Both parts of the value of the unknown j. The numbers v aren't tested where they are known to be short.
 fn wide_value_of(
     system: &WholeSystem,
-    frame: &Frame,
+    frame: &JudgedFrame,
     nonbasic: &[usize],
     v: &[i128],
     j: usize,
@@ -55,7 +55,7 @@ pub(crate) fn wide_stand(
     c_1: &mut [i128],
     c_2: &mut [i128],
     system: &WholeSystem,
-    frame: &Frame,
+    frame: &JudgedFrame,
     nonbasic: &[usize],
     v: &[i128],
     own: u128,

@@ -12,7 +12,7 @@ pub returns-clause-unknowns : goal.returns-clause-unknowns
 returns-clause-unknowns c =
     let at = (goal.at.returns-clause-unknowns c).In_ok-most in
     let top = c.column_top-top.result in
-    let one : top * 1 ≤ top * c.args.norm = mul-le-mul_left top c.requires.norm.some in
+    let one : top * 1 ≤ top * c.args.frame.now.norm = mul-le-mul_left top c.requires.norm.some in
     let e = c.in_ok-most.ensures.1 in
     IfSome_then c.have_room.result c.have_room.ensures (λ u room. λ j h. room (whole_cell c.args.system.now.width c.args.v.now j c.args.c) (le_trans (below at j h) (omega arith)))
 
@@ -22,4 +22,4 @@ returns-clause-sides c =
     let top = c.column_top-top.result in
     let e = c.in_ok-most.ensures.1 in
     IfSome_then c.have_room.result c.have_room.ensures (λ u room. λ i h. room (side_cell c.args.system.now c.args.frame.now.a.now c.args.v.now i c.args.c)
-    (le_trans (column_norm c.args.system.now c.args.frame.now.a.now c.args.v.now c.args.norm top c.requires.norm c.args.c (below at) i) (omega arith)))
+    (le_trans (column_norm c.args.system.now c.args.frame.now.a.now c.args.v.now c.args.frame.now.norm top c.requires.norm c.args.c (below at) i) (omega arith)))

@@ -4,7 +4,7 @@ use borrow.Author.Count.{below_more}
 use Rattle.mpc_whole.specs.declared.variables.Seat.TheVariants.{Column}
 use Rattle.mpc_whole.specs.Table.{seat_at, in_row}
 use Rattle.mpc_whole.specs.Whole.{whole_cell, side_cell, scale_at}
-use Rattle.mpc_whole.specs.Judged.{HasRoomAt, IsNorm}
+use Rattle.mpc_whole.specs.Judged.{HasRoomAt}
 use Rattle.mpc_whole.proofs.Seats.{column_same}
 use Rattle.mpc_whole.proofs.Judges.{within_share}
 use Rattle.mpc_whole.proofs.judge.judge.Goals as goal
@@ -44,7 +44,7 @@ pub is_column_within-requires-clause-column : goal.is_column_within-requires-cla
 is_column_within-requires-clause-column c = column_in (goal.at.is_column_within-requires-clause-column c).After-column_of-c
 
 pub is_column_within-requires-clause-norm : goal.is_column_within-requires-clause-norm
-is_column_within-requires-clause-norm c = subst (λ w. IsNorm w c.args.frame.now.a.now c.norm_of-norm.result) c.unknowns.ensures c.norm_of-norm.ensures
+is_column_within-requires-clause-norm c = c.requires.norm
 
 there : {X : Type 0} {P : Type 0} (r : Option X) (x : X) → r ≡ Some x → IfSome r (λ _. P) → P
 there {X} {P} r x e h = subst (λ (o : Option X). IfSome o (λ _. P)) e h
@@ -53,7 +53,7 @@ pub have_clear_room-requires-clause-column : goal.have_clear_room-requires-claus
 have_clear_room-requires-clause-column c = column_in (goal.at.have_clear_room-requires-clause-column c).After-column_of-c
 
 pub have_clear_room-requires-clause-norm : goal.have_clear_room-requires-clause-norm
-have_clear_room-requires-clause-norm c = subst (λ w. IsNorm w c.args.frame.now.a.now c.norm_of-norm.result) c.unknowns.ensures c.norm_of-norm.ensures
+have_clear_room-requires-clause-norm c = c.requires.norm
 
 pub loop-y-preserved-in-Some : goal.loop-y-preserved-in-Some
 loop-y-preserved-in-Some c =
