@@ -1,5 +1,5 @@
 // The run in whole numbers that is judged row by row, in 128 bits: an operation that doesn't fit ends it.
-use crate::fractions::{Fast, Rules, divisor};
+use crate::fractions::{Fast, Frac, Rules, divisor};
 use crate::kernel::{Found, Rows, STEPS};
 use crate::plain::{Answer, ONE, ZERO};
 
@@ -193,6 +193,54 @@ impl<'a> Judged<'a> {
         Some(())
     }
 
+    /// The number in the column of the row of the variable x.
+    fn cell(&self, x: usize, c: usize) -> Option<i128> {
+        let width = self.rows.width;
+        if x < width { Some(self.v[x * width + c]) } else { self.entry(x - width, c) }
+    }
+
+    /// The nonbasic variables, and the column of each.
+    fn free(&self) -> impl Iterator<Item = (usize, usize)> {
+        self.columns.iter().enumerate().filter_map(|(y, column)| column.map(|c| (y, c)))
+    }
+
+    /// The coefficient of y in the row of x that this number is, over a denominator and both scales.
+    fn coefficient(&self, z: i128, den: i128, x: usize, y: usize) -> Option<Frac> {
+        let scale = |x: usize| self.rows.scale(x) as i128;
+        Some(Fast::new(product(z, scale(y))?, product(den, scale(x))?))
+    }
+
+    /// If the sizes of the numbers in the row of x show that no operation on it is wide.
+    fn is_row_below(&self, x: usize, by: Factors) -> Option<()> {
+        let below = |size: u128, scale: u128, factor: u128| (size.checked_mul(scale)?.checked_mul(factor)? <= ROOM).then_some(());
+        below(self.den.unsigned_abs(), self.rows.scale(x), by.size)?;
+        self.free().try_for_each(|(y, c)| {
+            let factor = if c == by.column { by.top } else { by.size };
+            below(self.cell(x, c)?.unsigned_abs(), self.rows.scale(y), factor)
+        })
+    }
+
+    /// If the stated operations on the row of x fit, where the row of l leaves, over its pivot upside down, and e enters.
+    fn is_row_stated(&self, x: usize, l: usize, e: usize, inverse: &Frac, by: Factors) -> Option<()> {
+        let factor = self.coefficient(self.cell(x, by.column)?, self.den, x, e)?;
+        Fast::mul(&factor, inverse).ok()?;
+        self.free().filter(|(y, _)| *y != e).try_for_each(|(y, c)| {
+            let old = self.coefficient(self.cell(x, c)?, self.den, x, y)?;
+            let number = self.coefficient(-self.row[c], self.den / self.divisor, l, y)?;
+            let change = Fast::mul(&factor, &Fast::mul(&number, inverse).ok()?).ok()?;
+            Fast::add(&old, &change).ok().map(|_| ())
+        })
+    }
+
+    /// If each row shows by itself that no operation is wide where l leaves and e enters.
+    fn judge_rows(&self, l: usize, e: usize, by: Factors) -> Option<()> {
+        self.judge(Factors::default())?;
+        let pivot = self.coefficient(self.row[by.column], self.den / self.divisor, l, e)?;
+        let inverse = Frac { num: pivot.den * pivot.num.signum(), den: pivot.num.abs() };
+        let mut basic = self.columns.iter().enumerate().filter(|(_, column)| column.is_none());
+        basic.try_for_each(|(x, _)| self.is_row_below(x, by).or_else(|| self.is_row_stated(x, l, e, &inverse, by)))
+    }
+
     /// The pivot on the row and the column in lowest terms.
     fn reduce(&mut self, e: usize) -> Option<()> {
         let Judged { v, row, .. } = self;
@@ -222,7 +270,8 @@ impl<'a> Judged<'a> {
         let Some((y, c)) = self.entering() else {
             return self.judge(Factors::default()).map(|()| Found::Refuted(i));
         };
-        self.judge(self.factors(i, c)?)?;
+        let by = self.factors(i, c)?;
+        self.judge(by).or_else(|| self.judge_rows(self.rows.width + i, y, by))?;
         self.reduce(c)?;
         self.columns[self.rows.width + i] = Some(c);
         self.columns[y] = None;

@@ -25,6 +25,7 @@ pub mod WholeNorms
 pub mod WholeChanges
 pub mod WholeScales
 pub mod WholeForm
+pub mod StatedRows
 pub mod WholePivot
 pub mod WholeRooms
 pub mod WholeWraps

@@ -17,9 +17,9 @@ use Rattle.mpc_whole.specs.Table.{seat_at}
 use Rattle.mpc_whole.specs.Norms.{Over}
 use Rattle.mpc_whole.proofs.WholeChanges.{times_scaled, total_scaled}
 use Rattle.mpc_whole.proofs.DividedRows.{crossed, rest_some}
-use Rattle.mpc_whole.proofs.WholeNorms.{abs_some, over_not_zero, HasPivotRoom, judged_fit, norms_fit}
+use Rattle.mpc_whole.proofs.WholeNorms.{abs_some, over_not_zero, HasRowRoom, HasFittingRow, HasPivotRoom, judged_fit, norms_fit}
 use Rattle.mpc_whole.proofs.WholeScales.{Scaled, scaled_over, at_nought, at_side, at_minus_one, nought_over, nought_times, less_with_scale}
-use Rattle.mpc_whole.specs.Judged.{HasRoomAt, IsJudged, IsNorm, IsDividedRow}
+use Rattle.mpc_whole.specs.Judged.{coefficient_of, HasRoomAt, IsJudged, IsNorm, IsDividedRow}
 use Rattle.mpc_whole.specs.Whole.{whole_total, whole_at, whole_cell, scale_at, IsSmall, IsWholeSystem, AreBounds, HasSideBound, IsNarrow, IsSideRow, IsForm, side_cell}
 use Rattle.mpc_whole.proofs.Turn.{Goes, turn-at}
 use Rattle.mpc_whole.proofs.TableauRows.{Meets, row_value, values_meet}
@@ -29,6 +29,9 @@ use Rattle.mpc_whole.proofs.LeftSides.{side_value, bound-first, bound-second}
 use Rattle.mpc_whole.proofs.Seats.{column_seat}
 use Rattle.mpc_whole.proofs.Read.{rest_unknown, rest_bound}
 use Rattle.mpc_whole.proofs.WholeSums.{total_over, total_at_most, product_at_most}
+
+pub equal_share : (m : ℕ) → 0 < m → (2 ^ 125 / m) * m ≤ 2 ^ 125
+equal_share m h = omega arith
 
 unit_turned : (y z : ℕ) → (y ≡ z) ⊎ (y ≡ z → ⊥) → unit y z ≡ unit z y
 unit_turned y z (inl e) = unit-same y z e ∙ sym (unit-same z y (sym e))
@@ -120,18 +123,18 @@ module _ (s : LinearSystem) (p : Position) (r : Reached s p) where
           ∙ ap (λ z. frac z (d * scale_at k (s.width + i))) (total_scaled s.width (λ j. whole_cell s.width a i j) (λ j. whole_cell s.width v j c) (pos (scale_at k y)))
 
       -- the denominators of the rows
-      pub row_den : ℕ → ℕ
+      unfoldable pub row_den : ℕ → ℕ
       row_den x = d * scale_at k x
 
       pub den_some : (x : ℕ) → x < count s → 0 < row_den x
       unfolding row_den
       den_some x h = mul-pos f.some (w.scales.some x h)
 
-      own_den : (x : ℕ) → x < s.width → row_den x ≡ d
+      pub own_den : (x : ℕ) → x < s.width → row_den x ≡ d
       unfolding row_den
       own_den x h = ap (λ u. d * u) (w.scales.own x h) ∙ (let r : d * 1 ≡ d = omega arith in r)
 
-      by_seat : (y m d : ℕ) (u : ℚ) → 0 < d → y < n → (p.is_basic y ≡ true → u ≡ int (pos 0)) → ((c : ℕ) → seat_at seats y ≡ Column c → Over d m u) → (p.is_basic y ≡ true) ⊎ (p.is_basic y ≡ false) → Over d m u
+      pub by_seat : (y m d : ℕ) (u : ℚ) → 0 < d → y < n → (p.is_basic y ≡ true → u ≡ int (pos 0)) → ((c : ℕ) → seat_at seats y ≡ Column c → Over d m u) → (p.is_basic y ≡ true) ⊎ (p.is_basic y ≡ false) → Over d m u
       by_seat y m d u some h zero there (inl e) = nought_over d m u some (zero e)
       by_seat y m d u some h zero there (inr e) = let q = column_seat (seat_at seats y) (sym (f.basic y h) ∙ e) in there q.0 q.1
 
@@ -150,19 +153,23 @@ module _ (s : LinearSystem) (p : Position) (r : Reached s p) where
           (cases_Bool (p.is_basic y))
 
       -- so those over a divisor of them and of the denominator
+      pub divided_is : (i g rest : ℕ) (x : List ℤ) → IsDividedRow s a v i d g rest x → (y c : ℕ) → i < height s → y < n → seat_at seats y ≡ Column c → c < s.width → p.coefficient (s.width + i) y ≡ coefficient_of k rest (s.width + i) y (whole_at x c)
+      divided_is i g rest x row y c b h e inside =
+          let own : 0 < scale_at k (s.width + i) = side_scale i b in
+          side_entry i y c b h e
+          ∙ same_frac (side_cell s a v i c *ℤ pos (scale_at k y)) (d * scale_at k (s.width + i)) (whole_at x c *ℤ pos (scale_at k y)) (rest * scale_at k (s.width + i)) (mul-pos f.some own) (mul-pos (rest_some g rest d row.split f.some) own)
+          (ap (λ u. (u *ℤ pos (scale_at k y)) *ℤ pos (rest * scale_at k (s.width + i))) (sym (row.cells c inside)) ∙ crossed (whole_at x c) (pos g) (pos (scale_at k y)) (pos rest) (pos (scale_at k (s.width + i)))
+          ∙ ap (λ q. (whole_at x c *ℤ pos (scale_at k y)) *ℤ pos (q * scale_at k (s.width + i))) row.split)
+
       pub divided_over : (i g rest : ℕ) (x : List ℤ) → IsDividedRow s a v i d g rest x → (m y : ℕ) → i < height s → ((c : ℕ) → y < n → seat_at seats y ≡ Column c → (c < s.width) × (unsigned_abs (whole_at x c) * scale_at k y ≤ m)) → y < count s
           → Over (rest * scale_at k (s.width + i)) m (p.coefficient (s.width + i) y)
       divided_over i g rest x row m y b h l =
           let y_in : y < n = subst (λ q. y < q) whole l in
-          let own : 0 < scale_at k (s.width + i) = side_scale i b in
-          let some : 0 < rest * scale_at k (s.width + i) = mul-pos (rest_some g rest d row.split f.some) own in
+          let some : 0 < rest * scale_at k (s.width + i) = mul-pos (rest_some g rest d row.split f.some) (side_scale i b) in
           by_seat y m (rest * scale_at k (s.width + i)) (p.coefficient (s.width + i) y) some y_in (reached_tableau.empty (s.width + i) y)
           (λ c e. record {
             at = whole_at x c *ℤ pos (scale_at k y);
-            is = side_entry i y c b y_in e
-                ∙ same_frac (side_cell s a v i c *ℤ pos (scale_at k y)) (d * scale_at k (s.width + i)) (whole_at x c *ℤ pos (scale_at k y)) (rest * scale_at k (s.width + i)) (mul-pos f.some own) some
-                (ap (λ u. (u *ℤ pos (scale_at k y)) *ℤ pos (rest * scale_at k (s.width + i))) (sym (row.cells c (h c y_in e).0)) ∙ crossed (whole_at x c) (pos g) (pos (scale_at k y)) (pos rest) (pos (scale_at k (s.width + i)))
-                ∙ ap (λ q. (whole_at x c *ℤ pos (scale_at k y)) *ℤ pos (q * scale_at k (s.width + i))) row.split);
+            is = divided_is i g rest x row y c b y_in e (h c y_in e).0;
             size = subst (λ q. q ≤ m) (sym (unsigned_abs-mul (whole_at x c) (pos (scale_at k y)))) (h c y_in e).1;
           })
           (cases_Bool (p.is_basic y))
@@ -231,6 +238,38 @@ module _ (s : LinearSystem) (p : Position) (r : Reached s p) where
             (first_products IsNarrowAt narrow_all (2 ^ 62 * most_side) narrow_firsts narrow_seconds)
             (second_products IsNarrowAt narrow_all (2 ^ 62 * most_side) narrow_firsts narrow_seconds)
 
+      -- ---- the row that leaves is over a divisor of it and of the denominator
+      module _ (f₀ top size g₀ left : ℕ) (split : g₀ * left ≡ d) (l e : ℕ) (goes : Goes s p l e) (row : IsLeavingRow s p k left f₀ top size l e) where
+        left_some : 0 < left * scale_at k l
+        left_some = mul-pos (rest_some g₀ left d split f.some) (w.scales.some l goes.leaves.below)
+
+        pub top_some : 0 < top
+        top_some = let t : 0 < scale_at k l = w.scales.some l goes.leaves.below in let o = row.own in omega arith
+
+        pub size_some : 0 < size
+        size_some = le_trans (abs_some row.pivot.at (over_not_zero left_some row.pivot goes.eligible.some)) row.pivot.size
+
+        apart_from : (x : ℕ) → row_den x ≡ left * (g₀ * scale_at k x)
+        unfolding row_den
+        apart_from x = ap (λ m. m * scale_at k x) (sym split) ∙ (let q : (g₀ * left) * scale_at k x ≡ left * (g₀ * scale_at k x) = omega arith in q)
+
+        pub pivot_room : ((x : ℕ) → x < count s → p.is_basic x ≡ true → HasRowRoom (count s) p e top size (row_den x) x ⊎ HasFittingRow (count s) p l e x) → HasPivotRoom s p row_den l e
+        pivot_room rows = record {
+          size = size;
+          den = left * scale_at k l;
+          den_some = left_some;
+          pivot = row.pivot;
+          top = top;
+          row = row.others;
+          shared = left;
+          part = λ x. g₀ * scale_at k x;
+          parts = apart_from;
+          left = scale_at k l;
+          split = refl;
+          own = row.own;
+          rows = rows;
+        }
+
       -- or where the numbers are judged row by row
       module _ (f₀ top size : ℕ) (g : IsJudged s n seats k a b d v f₀ top size) where
         judged_all : HoldAll s n seats a v (HasRoomAt s k b f₀ top size)
@@ -256,54 +295,35 @@ module _ (s : LinearSystem) (p : Position) (r : Reached s p) where
             by (inl h) = omega arith
             by (inr h) = let e : m ≡ 0 = omega arith in subst (λ q. q * (2 ^ 125 / m) ≤ 2 ^ 126) (sym e) (omega arith)
 
-        shared : (l : ℕ) → 0 < l → (2 ^ 125 / l) * l ≤ 2 ^ 125
-        shared l h = omega arith
+        pub judged_with : ((l e : ℕ) → turn s p ≡ goes_on l e → HasPivotRoom s p row_den l e) → PositionFits s p
+        judged_with pivots =
+            judged_fit s p row_den den_some den_below (2 ^ 125 / count s) (all_room (count s))
+            (first_products (HasRoomAt s k b f₀ top size) judged_all (2 ^ 125 / count s) judged_firsts judged_seconds)
+            (second_products (HasRoomAt s k b f₀ top size) judged_all (2 ^ 125 / count s) judged_firsts judged_seconds) pivots
 
-        -- where the row that leaves is over a divisor of it and of the denominator
         module _ (g₀ left : ℕ) (split : g₀ * left ≡ d) (l e : ℕ) (goes : Goes s p l e) (row : IsLeavingRow s p k left f₀ top size l e) where
-          left_some : 0 < left * scale_at k l
-          left_some = mul-pos (rest_some g₀ left d split f.some) (w.scales.some l goes.leaves.below)
+          most_top : 0 < top
+          most_top = top_some f₀ top size g₀ left split l e goes row
 
-          top_some : 0 < top
-          top_some = let t : 0 < scale_at k l = w.scales.some l goes.leaves.below in let o = row.own in omega arith
+          most_size : 0 < size
+          most_size = size_some f₀ top size g₀ left split l e goes row
 
-          size_some : 0 < size
-          size_some = le_trans (abs_some row.pivot.at (over_not_zero left_some row.pivot goes.eligible.some)) row.pivot.size
-
-          apart_from : (x : ℕ) → row_den x ≡ left * (g₀ * scale_at k x)
+          row_room : (x : ℕ) → x < count s → HasRowRoom (count s) p e top size (row_den x) x
           unfolding row_den
-          apart_from x = ap (λ m. m * scale_at k x) (sym split) ∙ (let q : (g₀ * left) * scale_at k x ≡ left * (g₀ * scale_at k x) = omega arith in q)
-
-          pivot_room : HasPivotRoom s p row_den l e
-          unfolding row_den
-          pivot_room = record {
-            size = size;
-            den = left * scale_at k l;
-            den_some = left_some;
-            pivot = row.pivot;
-            top = top;
-            row = row.others;
-            shared = left;
-            part = λ x. g₀ * scale_at k x;
-            parts = apart_from;
-            left = scale_at k l;
-            split = refl;
-            own = row.own;
+          row_room x h = record {
             factor = 2 ^ 125 / top;
-            factors = λ x h. entry_over (HasRoomAt s k b f₀ top size) judged_all (2 ^ 125 / top) x e (λ z t. le-div (unsigned_abs z * scale_at k e) (2 ^ 125) top top_some (t.entering row.entering)) h goes.below;
-            factor_room = shared top top_some;
+            factors = entry_over (HasRoomAt s k b f₀ top size) judged_all (2 ^ 125 / top) x e (λ z t. le-div (unsigned_abs z * scale_at k e) (2 ^ 125) top most_top (t.entering row.entering)) h goes.below;
+            factor_room = equal_share top most_top;
             most = 2 ^ 125 / size;
-            entries = λ x y h o apart. entry_over (HasRoomAt s k b f₀ top size) judged_all (2 ^ 125 / size) x y (λ z t. le-div (unsigned_abs z * scale_at k y) (2 ^ 125) size size_some (t.other (λ q. apart (q ∙ sym row.entering)))) h o;
-            room = shared size size_some;
-            dens = λ y h. g.dens y (subst (λ m. y < m) whole h);
+            entries = λ y o apart. entry_over (HasRoomAt s k b f₀ top size) judged_all (2 ^ 125 / size) x y (λ z t. le-div (unsigned_abs z * scale_at k y) (2 ^ 125) size most_size (t.other (λ q. apart (q ∙ sym row.entering)))) h o;
+            room = equal_share size most_size;
+            den_room = g.dens x (subst (λ m. x < m) whole h);
           }
 
         pub judged_divided : (g₀ left : ℕ) → g₀ * left ≡ d → ((l e : ℕ) → turn s p ≡ goes_on l e → IsLeavingRow s p k left f₀ top size l e) → PositionFits s p
-        judged_divided g₀ left split rows =
-            judged_fit s p row_den den_some den_below (2 ^ 125 / count s) (all_room (count s))
-            (first_products (HasRoomAt s k b f₀ top size) judged_all (2 ^ 125 / count s) judged_firsts judged_seconds)
-            (second_products (HasRoomAt s k b f₀ top size) judged_all (2 ^ 125 / count s) judged_firsts judged_seconds)
-            (λ l e t. pivot_room g₀ left split l e (turn-at s p (goes_on l e) t) (rows l e t))
+        judged_divided g₀ left split rows = judged_with (λ l e t.
+            let goes = turn-at s p (goes_on l e) t in
+            pivot_room f₀ top size g₀ left split l e goes (rows l e t) (λ x h basic. inl (row_room g₀ left split l e goes (rows l e t) x h)))
 
         pub judged_over : ((l e : ℕ) → turn s p ≡ goes_on l e → IsLeavingRow s p k d f₀ top size l e) → PositionFits s p
         judged_over rows = judged_divided 1 d (omega arith) rows

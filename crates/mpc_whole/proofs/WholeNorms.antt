@@ -1,5 +1,5 @@
 -- Where the numbers of each row of a position lie over one denominator of that row and are small enough, no operation at that position is wide.
-use Rattle.std.proofs.Common.{◌≡◌, ◌≢◌, ℕ, zero, suc, ◌+◌, ◌*◌, ◌^◌, ◌<◌, ◌≤◌, false, ℤ, pos, negsuc, ◌+ℤ◌, ◌*ℤ◌, neg_ℤ, unsigned_abs, [], ◌∷◌, refl, sym, ◌∙◌, ap, subst, subst₂, arith, mul-pos, mul-le-mul_right, mul-le-mul_left, le_trans, zero-lt-suc}
+use Rattle.std.proofs.Common.{◌≡◌, ◌≢◌, ℕ, zero, suc, ◌+◌, ◌*◌, ◌^◌, ◌<◌, ◌≤◌, ◌⊎◌, inl, inr, true, false, ℤ, pos, negsuc, ◌+ℤ◌, ◌*ℤ◌, neg_ℤ, unsigned_abs, [], ◌∷◌, refl, sym, ◌∙◌, ap, subst, subst₂, arith, mul-pos, mul-le-mul_right, mul-le-mul_left, le_trans, zero-lt-suc}
 use Rattle.std.proofs.lemmas.Bool.{both_ways}
 use Rattle.mpc_exact.specs.Rational.{ℚ, frac, int, ◌+ℚ◌, ◌*ℚ◌, neg_ℚ, inv_ℚ, upside_down}
 use Rattle.mpc_exact.proofs.Rational.{same_frac, frac-mul, frac-neg}
@@ -10,7 +10,7 @@ use Rattle.mpc_space.specs.Total.{total}
 use Rattle.mpc_space.proofs.Total.{total-zero, total-suc}
 use Rattle.mpc_rows.specs.LinearSystem.{LinearSystem}
 use Rattle.mpc_rows.specs.Run.{Position, goes_on, count, rest, turn, entering_row}
-use Rattle.mpc_rows.specs.RunWidth.{ValuesFit, EnteringFits, EntryFits, RowsFit, PositionFits}
+use Rattle.mpc_rows.specs.RunWidth.{ValuesFit, EnteringFits, EntryFits, RowFits, RowsFit, PositionFits}
 use Rattle.mpc_whole.specs.Norms.{Over}
 use Rattle.mpc_whole.specs.Whole.{turned}
 use Rattle.mpc_whole.proofs.Pivot.{entering-at_leaving, entering-other}
@@ -96,9 +96,24 @@ turned_out : (q k : ℤ) (g u w z : ℕ) → (k *ℤ turned q (pos (g * u))) *�
 turned_out (pos n) k g u w z = shared_out k (pos g) (pos u) (pos w) (pos z)
 turned_out (negsuc n) k g u w z = shared_out_negative k (pos g) (pos u) (pos w) (pos z)
 
+-- the numbers of the row of x over a denominator: of the products of a top with the one in the column of e, and of a size with all others, two have
+-- a sum that fits
+pub record HasRowRoom (n : ℕ) (p : Position) (e top size d x : ℕ) : Type 0 where
+  pub factor : ℕ
+  pub factors : Over d factor (p.coefficient x e)
+  pub factor_room : factor * top ≤ 2 ^ 125
+  pub most : ℕ
+  pub entries : (y : ℕ) → y < n → (y ≡ e → ⊥) → Over d most (p.coefficient x y)
+  pub room : most * size ≤ 2 ^ 125
+  pub den_room : d * size ≤ 2 ^ 125
+
+-- what is formed of the row of x fits, and so does the new row of e
+pub record HasFittingRow (n : ℕ) (p : Position) (l e x : ℕ) : Type 0 where
+  pub entering : EnteringFits n p l e
+  pub row : RowFits n p l e x
+
 -- where l leaves and e enters: the number of row l in the column of e, over a denominator of its own, is at most a size, and no other one is above a
--- top, nor is the part of that denominator which it shares with no other row's. Of the products of the top with the numbers of the column of e, and of the size with all others, two have a sum that
--- fits.
+-- top, nor is the part of that denominator which it shares with no other row's. Each row has room for products with these, or fits.
 pub record HasPivotRoom (s : LinearSystem) (p : Position) (d : ℕ → ℕ) (l e : ℕ) : Type 0 where
   pub size : ℕ
   pub den : ℕ
@@ -112,13 +127,7 @@ pub record HasPivotRoom (s : LinearSystem) (p : Position) (d : ℕ → ℕ) (l e
   pub left : ℕ
   pub split : den ≡ shared * left
   pub own : left ≤ top
-  pub factor : ℕ
-  pub factors : (x : ℕ) → x < count s → Over (d x) factor (p.coefficient x e)
-  pub factor_room : factor * top ≤ 2 ^ 125
-  pub most : ℕ
-  pub entries : (x y : ℕ) → x < count s → y < count s → (y ≡ e → ⊥) → Over (d x) most (p.coefficient x y)
-  pub room : most * size ≤ 2 ^ 125
-  pub dens : (x : ℕ) → x < count s → d x * size ≤ 2 ^ 125
+  pub rows : (x : ℕ) → x < count s → p.is_basic x ≡ true → HasRowRoom (count s) p e top size (d x) x ⊎ HasFittingRow (count s) p l e x
 
 module _ (s : LinearSystem) (p : Position) (d : ℕ → ℕ) (some : (x : ℕ) → x < count s → 0 < d x) (d_top : (x : ℕ) → x < count s → d x < 2 ^ 127) where
   -- ---- values, where r says where the nonbasic variables stand
@@ -173,16 +182,6 @@ module _ (s : LinearSystem) (p : Position) (d : ℕ → ℕ) (some : (x : ℕ) �
     unfolding size q
     size_small = o.pivot.size
 
-    size_top : size < 2 ^ 127
-    size_top = let h : o.size < 2 ^ 127 = top_room (d l) o.size (some l g.leaves.below) (o.dens l g.leaves.below) in (let k = size_small in omega arith)
-
-    -- the row of l has a number in that column too
-    factor_some : 0 < o.factor
-    factor_some = let z = o.factors l g.leaves.below in le_trans (abs_some z.at (over_not_zero (some l g.leaves.below) z g.eligible.some)) z.size
-
-    top_small : o.top < 2 ^ 127
-    top_small = top_room o.factor o.top factor_some o.factor_room
-
     times_size : (x : ℚ) (m : Over o.den o.top x) → x *ℚ inv_ℚ (p.coefficient l e) ≡ frac (turned q m.at) size
     unfolding size q
     times_size x m = (λ i. m.is i *ℚ inv_ℚ (o.pivot.is i)) ∙ ratio_is m.at q o.den o.den_some q_some
@@ -194,8 +193,23 @@ module _ (s : LinearSystem) (p : Position) (d : ℕ → ℕ) (some : (x : ℕ) �
         let m : Over o.den o.top (neg_ℚ (p.coefficient l y)) = record { at = neg_ℤ z.at; is = ap neg_ℚ z.is ∙ frac-neg z.at o.den o.den_some; size = subst (λ n. n ≤ o.top) (sym (abs-negated z.at)) z.size } in
         record { at = turned q m.at; is = times_size (neg_ℚ (p.coefficient l y)) m; size = subst (λ n. n ≤ o.top) (sym (abs_turned q m.at)) m.size }
 
+    -- the row of l has a number in that column too
+    module _ (r : HasRowRoom (count s) p e o.top o.size (d l) l) where
+      size_top : size < 2 ^ 127
+      size_top = let h : o.size < 2 ^ 127 = top_room (d l) o.size (some l g.leaves.below) r.den_room in (let k = size_small in omega arith)
+
+      factor_some : 0 < r.factor
+      factor_some = le_trans (abs_some r.factors.at (over_not_zero (some l g.leaves.below) r.factors g.eligible.some)) r.factors.size
+
+      top_small : o.top < 2 ^ 127
+      top_small = top_room r.factor o.top factor_some r.factor_room
+
+    entering_by : HasRowRoom (count s) p e o.top o.size (d l) l ⊎ HasFittingRow (count s) p l e l → EnteringFits (count s) p l e
+    entering_by (inl r) = record { quotients = λ y h free apart. over_fits size_some (size_top r) (own y h apart) (top_small r) }
+    entering_by (inr f) = f.entering
+
     pub judged_entering : EnteringFits (count s) p l e
-    judged_entering = record { quotients = λ y h free apart. over_fits size_some size_top (own y h apart) top_small }
+    judged_entering = entering_by (o.rows l g.leaves.below g.leaves.violated.basic)
 
     not_leaving : (y : ℕ) → p.is_basic y ≡ false → y ≡ l → ⊥
     not_leaving y free h = both_ways (p.is_basic l) (subst (λ z. p.is_basic z ≡ false) h free) g.leaves.violated.basic
@@ -210,16 +224,16 @@ module _ (s : LinearSystem) (p : Position) (d : ℕ → ℕ) (some : (x : ℕ) �
     unfolding over_both
     both_some x h = mul-pos (some x h) size_some
 
-    both_top : (x : ℕ) → x < count s → over_both x < 2 ^ 127
-    unfolding over_both
-    both_top x h = let m : d x * size ≤ 2 ^ 125 = le_trans (mul-le-mul_left (d x) size_small) (o.dens x h) in omega arith
+    module _ (x : ℕ) (x_in : x < count s) (r : HasRowRoom (count s) p e o.top o.size (d x) x) where
+      both_top : over_both x < 2 ^ 127
+      unfolding over_both
+      both_top = let m : d x * size ≤ 2 ^ 125 = le_trans (mul-le-mul_left (d x) size_small) r.den_room in omega arith
 
-    change_room : o.factor * o.top < 2 ^ 127
-    change_room = let h = o.factor_room in omega arith
+      change_room : r.factor * o.top < 2 ^ 127
+      change_room = let h = r.factor_room in omega arith
 
-    module _ (x : ℕ) (x_in : x < count s) where
-      k_over : Over (d x) o.factor (p.coefficient x e)
-      k_over = o.factors x x_in
+      k_over : Over (d x) r.factor (p.coefficient x e)
+      k_over = r.factors
 
       -- c_xe / c_le = (n_xe d) / (d_x |n_le|), where d is the denominator of row l, out of which goes what d and d_x share
       inverse_over : inv_ℚ (p.coefficient l e) ≡ frac (turned q (pos o.den)) size
@@ -243,44 +257,48 @@ module _ (s : LinearSystem) (p : Position) (d : ℕ → ℕ) (some : (x : ℕ) �
       pub leaving_fits : FitsFrac (p.coefficient x e *ℚ entering_row p l e l)
       unfolding over_both
       leaving_fits =
-          let c : Over (o.part x * size) (o.factor * o.top) (p.coefficient x e *ℚ entering_row p l e l) =
+          let c : Over (o.part x * size) (r.factor * o.top) (p.coefficient x e *ℚ entering_row p l e l) =
           record {
             at = k_over.at *ℤ turned q (pos o.left);
             is = ap (λ u. p.coefficient x e *ℚ u) (entering-at_leaving p l e) ∙ (λ i. k_over.is i *ℚ inverse_over i) ∙ frac-mul k_over.at (d x) (turned q (pos o.den)) size (some x x_in) size_some ∙ without_shared;
-            size = product_at_most k_over.at (turned q (pos o.left)) o.factor o.top k_over.size (subst (λ n. n ≤ o.top) (sym (abs_turned q (pos o.left))) o.own);
+            size = product_at_most k_over.at (turned q (pos o.left)) r.factor o.top k_over.size (subst (λ n. n ≤ o.top) (sym (abs_turned q (pos o.left))) o.own);
           }
           in
-          over_fits (mul-pos part_some size_some) (let h = both_top x x_in in let b = part_below in omega arith) c change_room
+          over_fits (mul-pos part_some size_some) (let h = both_top in let b = part_below in omega arith) c change_room
 
       module _ (y : ℕ) (y_in : y < count s) (free : p.is_basic y ≡ false) (apart : y ≡ e → ⊥) where
-        change : Over (over_both x) (o.factor * o.top) (p.coefficient x e *ℚ entering_row p l e y)
+        change : Over (over_both x) (r.factor * o.top) (p.coefficient x e *ℚ entering_row p l e y)
         unfolding over_both
         change =
             let m = own_entry y y_in free apart in
             record {
               at = k_over.at *ℤ m.at;
               is = (λ i. k_over.is i *ℚ m.is i) ∙ frac-mul k_over.at (d x) m.at size (some x x_in) size_some;
-              size = product_at_most k_over.at m.at o.factor o.top k_over.size m.size;
+              size = product_at_most k_over.at m.at r.factor o.top k_over.size m.size;
             }
 
-        old : Over (over_both x) (o.most * o.size) (p.coefficient x y)
+        old : Over (over_both x) (r.most * o.size) (p.coefficient x y)
         unfolding over_both
         old =
-            let m = o.entries x y x_in y_in apart in
+            let m = r.entries y y_in apart in
             record {
               at = m.at *ℤ pos size;
               is = m.is ∙ same_frac m.at (d x) (m.at *ℤ pos size) (d x * size) (some x x_in) (mul-pos (some x x_in) size_some) (expanded m.at (pos size) (pos (d x)));
-              size = product_at_most m.at (pos size) o.most o.size m.size size_small;
+              size = product_at_most m.at (pos size) r.most o.size m.size size_small;
             }
 
         pub entry_fits : EntryFits p l e x y
         entry_fits = record {
-          product = over_fits (both_some x x_in) (both_top x x_in) change change_room;
-          sum = over_sum_fits (both_some x x_in) (both_top x x_in) old change (let h = o.room in let c = o.factor_room in omega arith);
+          product = over_fits (both_some x x_in) both_top change change_room;
+          sum = over_sum_fits (both_some x x_in) both_top old change (let h = r.room in let c = r.factor_room in omega arith);
         }
 
+    row_by : (x : ℕ) → x < count s → HasRowRoom (count s) p e o.top o.size (d x) x ⊎ HasFittingRow (count s) p l e x → RowFits (count s) p l e x
+    row_by x h (inl r) = record { leaving = leaving_fits x h r; entries = λ y k free m. entry_fits x h r y k free m }
+    row_by x h (inr f) = f.row
+
     pub judged_rows : RowsFit (count s) p l e
-    judged_rows = record { rows = λ x h basic apart other. record { leaving = leaving_fits x h; entries = λ y k free m. entry_fits x h y k free m } }
+    judged_rows = record { rows = λ x h basic apart other. row_by x h (o.rows x h basic) }
 
   pub judged_fit : (m : ℕ) → count s * m ≤ 2 ^ 126 → ((x y : ℕ) → x < count s → y < count s → Over (d x) m (p.coefficient x y *ℚ (rest s y).first)) → ((x y : ℕ) → x < count s → y < count s → Over (d x) m (p.coefficient x y *ℚ (rest s y).second))
       → ((l e : ℕ) → turn s p ≡ goes_on l e → HasPivotRoom s p d l e) → PositionFits s p
@@ -309,11 +327,13 @@ module _ (s : LinearSystem) (p : Position) (d : ℕ → ℕ) (some : (x : ℕ) �
         left = d l;
         split = omega arith;
         own = small l below;
-        factor = 2 ^ 62;
-        factors = λ x k. entries x e k entered;
-        factor_room = omega arith;
-        most = 2 ^ 62;
-        entries = λ x y h k apart. entries x y h k;
-        room = omega arith;
-        dens = λ x k. let t = small x k in omega arith;
+        rows = λ x k basic. inl (record {
+          factor = 2 ^ 62;
+          factors = entries x e k entered;
+          factor_room = omega arith;
+          most = 2 ^ 62;
+          entries = λ y h apart. entries x y k h;
+          room = omega arith;
+          den_room = let t = small x k in omega arith;
+        });
       }

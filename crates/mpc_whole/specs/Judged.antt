@@ -1,11 +1,13 @@
 -- A run in whole numbers out of which common divisors are taken, where the sizes of each row's own numbers show that no operation is wide.
-use Rattle.std.specs.Prelude.{◌≡◌, ℕ, ◌-◌, ◌*◌, ◌<◌, ◌≤◌, ◌^◌, List, length, ℤ, pos, ◌+ℤ◌, ◌*ℤ◌, neg_ℤ, unsigned_abs, Some}
+use Rattle.std.specs.Prelude.{◌≡◌, ℕ, ◌-◌, ◌*◌, ◌<◌, ◌≤◌, ◌^◌, ◌⊎◌, true, false, cond, ltb, List, length, ℤ, pos, ◌+ℤ◌, ◌*ℤ◌, neg_ℤ, unsigned_abs, Some}
+use Rattle.mpc_exact.specs.Rational.{ℚ, frac, ◌*ℚ◌, neg_ℚ, inv_ℚ}
+use Rattle.mpc_frac.specs.Fits.{FitsFrac, FitsSum}
 use Rattle.mpc_rows.specs.Least.{least}
 use Rattle.mpc_rows.specs.LinearSystem.{LinearSystem, height}
 use Rattle.mpc_rows.specs.Run.{Position, goes_on, count, may_leave, may_enter, turn, position}
 use Rattle.mpc_whole.specs.declared.variables.Seat.{Seat}
 use Rattle.mpc_whole.specs.declared.variables.Seat.TheVariants.{Column}
-use Rattle.mpc_whole.specs.Table.{seat_at}
+use Rattle.mpc_whole.specs.Table.{seat_at, in_row, IsSeated}
 use Rattle.mpc_whole.specs.Norms.{Over}
 use Rattle.mpc_whole.specs.Whole.{whole_at, whole_cell, scale_at, side_cell, turned, IsSmall}
 use Rattle.mpc_whole.specs.Underway.{IsUnderway}
@@ -32,6 +34,56 @@ pub record IsRowWithin (n : ℕ) (seats : List Seat) (k : List ℕ) (l e : ℕ) 
   pub own : scale_at k l ≤ top
   pub entering : (y c : ℕ) → y < n → seat_at seats y ≡ Column c → y ≡ e → unsigned_abs (whole_at x c) * scale_at k y ≤ size
   pub others : (y c : ℕ) → y < n → seat_at seats y ≡ Column c → (y ≡ e → ⊥) → unsigned_abs (whole_at x c) * scale_at k y ≤ top
+
+-- ---- a pivot that is judged row by row
+-- the number in a column of a variable's row
+abbrev pub row_cell : LinearSystem → List ℤ → List ℤ → ℕ → ℕ → ℤ
+row_cell s a v x c = cond (ltb x s.width) (whole_cell s.width v x c) (side_cell s a v (x - s.width) c)
+
+-- the coefficient of y in the row of x that is this number, over the denominator and both scales
+abbrev pub coefficient_of : List ℕ → ℕ → ℕ → ℕ → ℤ → ℚ
+coefficient_of k den x y z = frac (z *ℤ pos (scale_at k y)) (den * scale_at k x)
+
+-- the variables stand so at a position, where the unknowns have these numbers over a denominator
+pub record IsPlaced (s : LinearSystem) (n : ℕ) (seats : List Seat) (den : ℕ) (v : List ℤ) : Type 0 where
+  pub seated : IsSeated (height s) s.width n seats
+  pub square : length v ≡ s.width * s.width
+  pub some : 0 < den
+
+-- l leaves there, with a row of numbers over a rest of the denominator, and e enters
+pub record IsPivotThere (s : LinearSystem) (n : ℕ) (seats : List Seat) (l e rest : ℕ) (row : List ℤ) : Type 0 where
+  pub leaves : l < n
+  pub enters : e < n
+  pub free : in_row (seat_at seats e) ≡ false
+  pub some : 0 < rest
+  pub row_size : length row ≡ s.width
+
+-- the sizes of the numbers in the row of x show that no stated operation on it is wide where e enters
+pub record IsRowBelow (s : LinearSystem) (n : ℕ) (seats : List Seat) (k : List ℕ) (a : List ℤ) (den : ℕ) (v : List ℤ) (e top size x : ℕ) : Type 0 where
+  pub room : (den * scale_at k x) * size ≤ 2 ^ 125
+  pub entering : (y c : ℕ) → y < n → seat_at seats y ≡ Column c → y ≡ e → (unsigned_abs (row_cell s a v x c) * scale_at k y) * top ≤ 2 ^ 125
+  pub others : (y c : ℕ) → y < n → seat_at seats y ≡ Column c → (y ≡ e → ⊥) → (unsigned_abs (row_cell s a v x c) * scale_at k y) * size ≤ 2 ^ 125
+
+-- no stated operation is wide by which a row with this factor changes a coefficient, where this is the one of the row that leaves
+pub record IsTermStated (old factor number pivot : ℚ) : Type 0 where
+  pub quotient : FitsFrac (neg_ℚ number *ℚ inv_ℚ pivot)
+  pub product : FitsFrac (factor *ℚ (neg_ℚ number *ℚ inv_ℚ pivot))
+  pub sum : FitsSum old (factor *ℚ (neg_ℚ number *ℚ inv_ℚ pivot))
+
+-- no stated operation on the row of x is wide where the row of l leaves, with these numbers over a rest of the denominator, and e enters
+pub record IsRowStated (s : LinearSystem) (n : ℕ) (seats : List Seat) (k : List ℕ) (a : List ℤ) (den : ℕ) (v : List ℤ) (l e rest : ℕ) (row : List ℤ) (x : ℕ) : Type 0 where
+  pub leaving : (c : ℕ) → seat_at seats e ≡ Column c → FitsFrac (coefficient_of k den x e (row_cell s a v x c) *ℚ inv_ℚ (coefficient_of k rest l e (whole_at row c)))
+  pub terms : (y c d : ℕ) → y < n → (y ≡ e → ⊥) → seat_at seats e ≡ Column c → seat_at seats y ≡ Column d
+      → IsTermStated (coefficient_of k den x y (row_cell s a v x d)) (coefficient_of k den x e (row_cell s a v x c)) (coefficient_of k rest l y (whole_at row d)) (coefficient_of k rest l e (whole_at row c))
+
+-- the sizes of a position's numbers show that its values fit, and each row is judged in one of these ways
+pub record IsJudgedByRows (s : LinearSystem) (n : ℕ) (seats : List Seat) (k : List ℕ) (a b : List ℤ) (den : ℕ) (v : List ℤ) (l e rest : ℕ) (row : List ℤ) (top size : ℕ) : Type 0 where
+  pub values : IsJudged s n seats k a b den v 0 0 0
+  pub rows : (x : ℕ) → x < n → in_row (seat_at seats x) ≡ true → IsRowBelow s n seats k a den v e top size x ⊎ IsRowStated s n seats k a den v l e rest row x
+
+-- a pivot is judged by the sizes in each column, or row by row
+abbrev pub IsPivotJudged : LinearSystem → ℕ → List Seat → List ℕ → List ℤ → List ℤ → ℕ → List ℤ → ℕ → ℕ → ℕ → List ℤ → ℕ → ℕ → Type 0
+IsPivotJudged s n seats k a b den v l e rest row top size = IsJudged s n seats k a b den v e top size ⊎ IsJudgedByRows s n seats k a b den v l e rest row top size
 
 -- a sum of so many products of these numbers with others is at most so many times the greatest of those
 pub record IsNorm (width : ℕ) (a : List ℤ) (norm : ℕ) : Type 0 where

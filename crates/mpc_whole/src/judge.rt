@@ -15,7 +15,7 @@ use crate::whole_systems::WholeSystem;
 use crate::wide_numbers::wide_side_cell;
 
 /// What the products that are formed at a position may have.
-const ROOM: u128 = 1 << 125;
+pub(crate) const ROOM: u128 = 1 << 125;
 
 /// What the numbers of a position are multiplied by, at most: those in the column of the variable that enters by a
 /// top, all others and the denominator by a size.
@@ -28,7 +28,7 @@ pub(crate) struct Factors {
 
 /// What a number in the column of y is multiplied by, at most.
 #[inline]
-fn factor_at(by: Factors, y: usize) -> u128
+pub(crate) fn factor_at(by: Factors, y: usize) -> u128
     ensures entering { y ≡ by.enters → result ≡ by.top }
     ensures other { (y ≡ by.enters → ⊥) → result ≡ by.size }
 {

@@ -10,9 +10,10 @@ ghost use Rattle.mpc_whole.specs.Running.{HasNumbers};
 ghost use Rattle.mpc_whole.specs.Whole.{scale_at, IsWholeSystem, HasRoom};
 
 use crate::frames::JudgedFrame;
-use crate::judge::{Factors, factors_of, judge, judge_end, norm_of};
+use crate::judge::{Factors, factors_of, judge_end, norm_of};
 use crate::lists::WideLists;
 use crate::reduced::reduce;
+use crate::stated::{Here, Pivot, judge_pivot};
 use crate::variables::column_of;
 use crate::whole::{Ending, STEPS, swap};
 use crate::whole_systems::{WholeNumbers, WholeSystem};
@@ -79,7 +80,18 @@ fn advance(
     ensures underway { IfSome result (λ p. IsMildlyUnderway system.now (count system.now) lists.new.seats.items frame.now.scales.now p.den lists.new.v.items lists.new.firsts.items lists.new.seconds.items p.greatest p.greatest_den p.product p.first) }
 {
     let by = factors_of(&lists.seats, row.x, frame.scales, l, e)?;
-    judge(&lists.seats, &lists.v, system, frame, place.den, by)?;
+    let here = Here {
+        seats: &lists.seats,
+        v: &lists.v,
+        den: place.den,
+    };
+    let pivot = Pivot {
+        x: row.x,
+        rest: row.rest,
+        l,
+        e,
+    };
+    judge_pivot(&here, system, frame, by, &pivot)?;
     let own = place.own.max(place.den);
     let product = kept_product(
         place.product,

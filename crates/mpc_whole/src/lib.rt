@@ -8,6 +8,7 @@ mod judged;
 mod lists;
 mod numbers;
 mod reduced;
+mod stated;
 mod theorems;
 mod variables;
 mod whole;

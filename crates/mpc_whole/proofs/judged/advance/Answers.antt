@@ -7,10 +7,10 @@ use Rattle.mpc_whole.specs.declared.variables.Seat.{Seat}
 use Rattle.mpc_whole.specs.declared.variables.Seat.TheVariants.{Column}
 use Rattle.mpc_whole.specs.Table.{seat_at, variable_at, IsSeated, AreNonbasic}
 use Rattle.mpc_whole.specs.Whole.{IsSmall, IsSwapped}
-use Rattle.mpc_whole.specs.Judged.{IsJudged, IsRowWithin, IsReducedPivot, IsMildlyUnderway}
+use Rattle.mpc_whole.specs.Judged.{IsPivotJudged, IsRowWithin, IsReducedPivot, IsMildlyUnderway}
 use Rattle.mpc_whole.specs.Moved.{AreFormed}
 use Rattle.mpc_whole.proofs.ColumnSums.{in_column}
-use Rattle.mpc_whole.proofs.DividedRows.{times_row, times_is}
+use Rattle.mpc_whole.proofs.DividedRows.{times_row, times_is, rest_some}
 use Rattle.mpc_whole.proofs.JudgedTurns.{leaver_in, leaver_seat, enterer_in, enterer_seat, seated_after, mildly_after}
 use Rattle.mpc_whole.proofs.WholeRows.{weaker}
 use Rattle.mpc_whole.proofs.judged.advance.Goals as goal
@@ -21,6 +21,25 @@ factors_of-requires-clause-leaves c = subst (λ m. c.args.l < m) (sym c.requires
 
 pub factors_of-requires-clause-columns : goal.factors_of-requires-clause-columns
 factors_of-requires-clause-columns c = rw c.deref.ensures.value (λ y k h e. subst (λ m. k < m) (sym c.requires.row.size) (c.requires.lists.seated.columns y k (subst (λ m. y < m) c.requires.lists.seated.each h) e).0)
+
+pub judge_pivot-requires-clause-here : goal.judge_pivot-requires-clause-here
+judge_pivot-requires-clause-here c =
+    rw (c.deref-2.ensures.value, c.deref-3.ensures.value) (record {
+      seated = subst (λ m. IsSeated (height c.args.system.now) c.args.system.now.width m c.args.lists.now.seats.items) (sym c.requires.numbers.count) c.requires.lists.seated;
+      square = c.requires.lists.square;
+      some = c.requires.goes.underway.underway.stands.form.some;
+    })
+
+pub judge_pivot-requires-clause-by : goal.judge_pivot-requires-clause-by
+judge_pivot-requires-clause-by c =
+    let w = c.requires.numbers.whole in
+    rw c.deref-2.ensures.value (record {
+      leaves = subst (λ m. c.args.l < m) (sym c.requires.numbers.count) (leaver_in w c.requires.lists c.requires.goes);
+      enters = subst (λ m. c.args.e < m) (sym c.requires.numbers.count) (enterer_in w c.requires.lists c.requires.goes);
+      free = enterer_seat w c.requires.lists c.requires.goes;
+      some = rest_some c.args.row.divisor c.args.row.rest c.args.place.den c.requires.row.split c.requires.goes.underway.underway.stands.form.some;
+      row_size = c.requires.row.size;
+    })
 
 pub bounds-frame-l : goal.bounds-frame-l
 bounds-frame-l c = subst (λ m. c.args.l < m) (sym c.requires.numbers.whole.scales.size) (leaver_in c.requires.numbers.whole c.requires.lists c.requires.goes)
@@ -126,10 +145,9 @@ returns-clause-underway c =
     let real = times_row g x in
     let times = times_is g x in
     let then = at.After-swap in
-    let judged : IsJudged s (count s) r.seats.items k a b den r.v.items c.args.e by.top by.size =
-    subst (λ m. IsJudged s m r.seats.items k a b den r.v.items c.args.e by.top by.size) c.requires.numbers.count
-    (subst₂ (λ (t : List Seat) (u : List ℤ). IsJudged s c.args.frame.now.n t k a b den u c.args.e by.top by.size) c.deref-2.ensures.value c.deref-3.ensures.value
-    (subst (λ f. IsJudged s c.args.frame.now.n c.deref-2.result.now k a b den c.deref-3.result.now f by.top by.size) c.in_ok-by.ensures.enters c.in_ok-judge.ensures))
+    let judged : IsPivotJudged s (count s) r.seats.items k a b den r.v.items c.args.l c.args.e c.args.row.rest x by.top by.size =
+    subst (λ m. IsPivotJudged s m r.seats.items k a b den r.v.items c.args.l c.args.e c.args.row.rest x by.top by.size) c.requires.numbers.count
+    (subst₂ (λ (t : List Seat) (u : List ℤ). IsPivotJudged s c.args.frame.now.n t k a b den u c.args.l c.args.e c.args.row.rest x by.top by.size) c.deref-2.ensures.value c.deref-3.ensures.value c.in_ok-judge_pivot.ensures)
     in
     let within : IsRowWithin (count s) r.seats.items k c.args.l c.args.e x by.top by.size =
     subst (λ m. IsRowWithin m r.seats.items k c.args.l c.args.e x by.top by.size) c.requires.lists.seated.each
@@ -146,7 +164,7 @@ returns-clause-underway c =
     (subst (λ (u : List ℤ). AreFormed s c.args.frame.now.n c.swap.new.seats k b u c.wide_stand.new.c_1 c.wide_stand.new.c_2) (c.deref-6.ensures.value ∙ numbers_back then) stood)
     in
     let next =
-    mildly_after c.requires.numbers.whole c.requires.lists c.requires.goes c.swap.new.seats (swapped then) c.column_of-c.result (entered_then then) by.top by.size judged g c.args.row.rest x c.requires.row within
+    mildly_after c.requires.numbers.whole c.requires.lists c.requires.goes c.swap.new.seats (swapped then) c.column_of-c.result (entered_then then) g c.args.row.rest x c.requires.row by.top by.size judged within
     c.reduce.new.v c.in_ok-after.after.den piv c.wide_stand.new.c_1 c.wide_stand.new.c_2 formed c.max-own.result c.max.result c.max-2.result c.kept_product-product.result
     (let m = c.max.ensures in omega arith) (let m = c.max-2.ensures in omega arith) c.kept_product-product.ensures.before (weaker c.args.place.own c.max.result r.v.items c.requires.lists.own (let m = c.max.ensures in omega arith)) (let m = c.max-2.ensures in omega arith)
     (weaker c.args.place.own c.max-own.result r.v.items c.requires.lists.own (let m = c.max-own.ensures in omega arith)) (let m = c.max-own.ensures in omega arith) c.kept_product-product.ensures.here

@@ -1,0 +1,30 @@
+use Rattle.std.proofs.Common.{ℕ, ◌≡◌, ◌∙◌, ◌<◌, ◌*◌, ◌*ℤ◌, sym, ap, subst₂, rules, to_z, of_z, FitsSigned}
+use Rattle.std.specs.Int.{w128}
+use Rattle.std.proofs.lemmas.Int.{to_z-of_z}
+use Rattle.std.proofs.lemmas.Option.{IfSome_then}
+use Rattle.mpc_exact.specs.Rational.{ℚ, ◌*ℚ◌, inv_ℚ}
+use Rattle.mpc_frac.specs.Fits.{FitsFrac}
+use Rattle.mpc_whole.specs.declared.variables.Seat.TheVariants.{Column}
+use Rattle.mpc_whole.specs.Table.{seat_at}
+use Rattle.mpc_whole.specs.Whole.{whole_at}
+use Rattle.mpc_whole.specs.Judged.{row_cell, coefficient_of, IsTermStated}
+use Rattle.mpc_whole.proofs.Seats.{column_same}
+use Rattle.mpc_whole.proofs.stated.is_row_stated.Goals as goal
+
+pub row_cell-requires-clause-column : goal.row_cell-requires-clause-column
+row_cell-requires-clause-column c = (c.requires.here.seated.columns c.args.by.now.e c.column_of-c.result c.requires.by.enters c.column_of-c.ensures).0
+
+pub returns : goal.returns
+returns c =
+    let k = c.args.frame.now.scales.now in
+    let by = c.args.by.now in
+    let cell = λ (d : ℕ). row_cell c.args.system.now c.args.frame.now.a.now c.args.here.now.v.now c.args.x d in
+    let f : FitsSigned w128 c.in_ok-cell.cell = search rules in
+    let factor = λ (d : ℕ) (e : seat_at c.args.here.now.seats.now by.e ≡ Column d).
+    c.in_ok-factor.ensures ∙ ap (coefficient_of k c.args.here.now.den c.args.x by.e) (to_z-of_z w128 _ f ∙ c.in_ok-cell.ensures ∙ ap cell (column_same c.column_of-c.result d (sym c.column_of-c.ensures ∙ e)))
+    in
+    IfSome_then c.are_terms_stated.result c.are_terms_stated.ensures
+    (λ _ terms. record {
+      leaving = λ d e. subst₂ (λ u w. FitsFrac (u *ℚ inv_ℚ w)) (factor d e) (c.requires.pivot d e) c.in-Ok.ensures.wide;
+      terms = λ y o d l apart h e. subst₂ (λ u w. IsTermStated (coefficient_of k c.args.here.now.den c.args.x y (cell d)) u (coefficient_of k by.rest by.l y (whole_at by.x.now d)) w) (factor o h) (c.requires.pivot o h) (terms y d l apart e);
+    })

@@ -1,0 +1,26 @@
+use Rattle.std.proofs.Common.{ℕ, ◌≡◌, ◌<◌, ◌*◌, ◌⊎◌, length, sym, subst, rules}
+use Rattle.std.proofs.lemmas.Option.{IfSome_then}
+use Rattle.mpc_whole.specs.Judged.{IsRowBelow, IsRowStated}
+use Rattle.mpc_whole.proofs.stated.judge_rows.Goals as goal
+use Rattle.mpc_whole.proofs.stated.judge_rows.Goals.{After-column_of-c}
+
+in_row : (c : After-column_of-c) → c.column_of-c.result < length c.args.by.now.x.now
+in_row c = subst (λ m. c.column_of-c.result < m) (sym c.requires.by.row_size) (c.requires.here.seated.columns c.args.by.now.e c.column_of-c.result c.requires.by.enters c.column_of-c.ensures).0
+
+pub bounds-by-c : goal.bounds-by-c
+bounds-by-c c = in_row (goal.at.bounds-by-c c).After-column_of-c
+
+pub offset_bounds-by-c : goal.offset_bounds-by-c
+offset_bounds-by-c c = let h = in_row (goal.at.offset_bounds-by-c c).After-column_of-c in search rules
+
+pub returns : goal.returns
+returns c =
+    let k = c.args.frame.now.scales.now in
+    let here = c.args.here.now in
+    let by = c.args.by.now in
+    IfSome_then c.are_rows_judged.result c.are_rows_judged.ensures
+    (λ _ rows. record {
+      values = c.in_ok-judge_end.ensures;
+      rows = λ x l basic. subst (λ f. IsRowBelow c.args.system.now c.args.frame.now.n here.seats.now k c.args.frame.now.a.now here.den here.v.now f c.args.factors.top c.args.factors.size x
+          ⊎ IsRowStated c.args.system.now c.args.frame.now.n here.seats.now k c.args.frame.now.a.now here.den here.v.now by.l by.e by.rest by.x.now x) c.requires.same (rows x l basic);
+    })

@@ -1,0 +1,11 @@
+use Rattle.std.proofs.Common.{◌≡◌, ◌∙◌, ◌<◌, ◌≤◌, ◌-◌, ◌*◌, ◌*ℤ◌, sym, ap, arith, length, lt-ltb, le-ltb}
+use Rattle.std.proofs.lemmas.Option.{IfSome_then}
+use Rattle.mpc_whole.specs.Whole.{whole_total, whole_cell}
+use Rattle.mpc_whole.proofs.StatedRows.{row_cell-unknown, row_cell-side}
+use Rattle.mpc_whole.proofs.stated.row_cell.Goals as goal
+
+pub returns : goal.returns
+returns c =
+    IfSome_then c.wide_side_cell.result c.wide_side_cell.ensures
+    (λ z is. is ∙ ap (λ w. whole_total w (λ j. whole_cell w c.args.a.now (c.args.x - w) j *ℤ whole_cell w c.args.v.now j c.args.c)) c.unknowns-width.ensures
+    ∙ sym (row_cell-side c.args.system.now c.args.a.now c.args.v.now c.args.x c.args.c (let e = c.unknowns-width.ensures in let h = c.if-x-width.false in omega arith)))
