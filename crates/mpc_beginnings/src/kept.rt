@@ -6,26 +6,27 @@ ghost use Rattle.mpc_rows.specs.Run.{count, has_point, is_refuted, turn, last_po
 ghost use Rattle.mpc_rows.specs.RunWidth.{RunFits};
 ghost use Rattle.mpc_rows.specs.LawRows.{broken_row};
 ghost use Rattle.mpc_rows.specs.SetRuns.{turned};
-ghost use Rattle.mpc_whole.specs.Lists.{AreListsOf, of_short, of_wide};
-ghost use Rattle.mpc_whole.specs.RunEnd.{IsEnd, IsValues, EndsRefuted};
+ghost use Rattle.mpc_whole.specs.Lists.{AreListsOf, of_short};
+ghost use Rattle.mpc_whole.specs.RunEnd.{IsEnd, IsMultipliers, IsValues, EndsRefuted};
 ghost use Rattle.mpc_whole.specs.Whole.{IsSmall, HasRoom};
 ghost use Rattle.mpc_whole.specs.Underway.{turn_of, HasEnded};
 ghost use Rattle.mpc_beginnings.specs.Beginnings.{lengthened};
 ghost use Rattle.mpc_beginnings.specs.Broken.{IsBroken, IsBrokenEnd};
 ghost use Rattle.mpc_beginnings.specs.Limit.{IsLimit};
 ghost use Rattle.mpc_beginnings.specs.RunLists.{lists_of, HaveShortValues};
-ghost use Rattle.mpc_beginnings.specs.Kept.{AreNumbers, IsSamePlace, IsNormProduct, HasRoomBefore, IsKept, AreKept, IsFirstLater, IsLonger, IsUnderwayWithin, IsUnderwayWithRoom, IsRefuted, IsMet};
+ghost use Rattle.mpc_beginnings.specs.Kept.{AreNumbers, IsSamePlace, IsNormProduct, HasRoomBefore, AreKept, IsFirstLater, IsLonger, IsUnderwayWithin, IsUnderwayWithRoom, IsRefuted, IsMet};
 
 use crate::lists::{
     KeptLists, begins_with, copied_lists, lengthen, lengthen_wide, lists_with_room, no_lists,
-    push_turned, put_wide_copies, set_lists, set_opening, sizes, variables, widen, with_row,
-    with_turned,
+    push_turned, set_lists, set_opening, sizes, variables, widen, with_row, with_turned,
 };
+use mpc_frac::Frac;
 use mpc_linear::RowInt;
 use mpc_rows::{Multipliers, PairPoint, Row, System};
 use mpc_whole::{
-    End, Ending, Place, RunLists, WholeNumbers, WholeSystem, WideLists, WidePlace, judged_run,
-    last_multipliers, last_values, limit, whole_run, zero_pairs, zeros,
+    End, Ending, Place, RunLists, Standing, WholeNumbers, WholeSystem, WidePlace, judged_run,
+    last_multipliers, last_values, limit, whole_run, wide_last_multipliers, wide_last_values,
+    zero_pairs, zeros,
 };
 use std::alloc::{AllocError, Global};
 use std::marker::Model;
@@ -123,7 +124,6 @@ fn short_place(place: WidePlace) -> Option<Place>
         own: small_size(place.own)?,
         greatest: small_size(place.greatest)?,
         greatest_den: small_size(place.greatest_den)?,
-        product: 0,
         first: place.first,
     })
 }
@@ -162,22 +162,7 @@ fn short_run(
 {
     let most = limit_of(system, numbers, from)?;
     let start = short_place(from)?;
-    let n = lists.seats.len();
-    let (place, end) = whole_run(
-        &mut lists.seats,
-        &mut lists.nonbasic,
-        &mut lists.v,
-        x,
-        &mut lists.firsts,
-        &mut lists.seconds,
-        system,
-        numbers.scales,
-        numbers.a,
-        numbers.b,
-        n,
-        start,
-        most,
-    )?;
+    let (place, end) = whole_run(lists, x, system, numbers, start, most)?;
     Some((wide_place(place), end))
 }
 
@@ -288,59 +273,50 @@ fn judge_on(
     }
 }
 
+/// Writes the multipliers at the last position, where the row of the side l refutes.
+fn put_multipliers(
+    list: &mut [Frac],
+    x: &mut [i128],
+    system: &WholeSystem,
+    numbers: &WholeNumbers,
+    lists: &KeptLists,
+    place: WidePlace,
+    l: usize,
+) -> Option<()>
+    requires list_room { length list.old ≡ height system.now }
+    requires row_room { length x.old ≡ system.now.width }
+    requires numbers { AreNumbers system.now numbers.now }
+    requires kept { AreKept system.now numbers.now.scales.now lists.now place (Ending.Refuted l) }
+    ensures { IfSome result (λ _. IsMultipliers system.now (last_position system.now) l list.new) }
+{
+    if lists.is_wide {
+        return wide_last_multipliers(list, x, system, numbers, &lists.wide, place.den, l);
+    }
+    last_multipliers(list, x, system, numbers, &lists.short, place.den, l)
+}
+
 /// The multipliers at the last position, where the row of the side l refutes.
 fn multipliers_of(
     alloc: Global,
     work: &mut Vec<i128>,
     system: &WholeSystem,
     numbers: &WholeNumbers,
-    lists: &WideLists,
+    lists: &KeptLists,
     place: WidePlace,
     l: usize,
 ) -> Result<Option<Multipliers>, AllocError>
     requires numbers { AreNumbers system.now numbers.now }
-    requires kept { IsKept system.now numbers.now.scales.now (of_wide lists.now) place (Ending.Refuted l) }
+    requires kept { AreKept system.now numbers.now.scales.now lists.now place (Ending.Refuted l) }
     ensures { IfOk result (λ o. IfSome o (EndsRefuted system.now)) }
 {
     let width = system.unknowns();
     lengthen_wide(work, width)?;
     let mut list = zeros(alloc, system.height())?;
     let (x, _) = work.split_at_mut(width);
-    let found = last_multipliers(
-        &mut list,
-        x,
-        system,
-        numbers.scales,
-        &lists.seats,
-        numbers.a,
-        numbers.b,
-        &lists.v,
-        lists.seats.len(),
-        place.den,
-        l,
-    );
-    match found {
+    match put_multipliers(&mut list, x, system, numbers, lists, place, l) {
         Some(()) => Ok(Some(Multipliers::of(list))),
         None => Ok(None),
     }
-}
-
-/// The multipliers at the last position, where the row of the side l refutes. The lists become wide.
-fn kept_multipliers(
-    alloc: Global,
-    work: &mut Vec<i128>,
-    system: &WholeSystem,
-    numbers: &WholeNumbers,
-    lists: &mut KeptLists,
-    place: WidePlace,
-    l: usize,
-) -> Result<Option<Multipliers>, AllocError>
-    requires numbers { AreNumbers system.now numbers.now }
-    requires kept { AreKept system.now numbers.now.scales.now lists.old place (Ending.Refuted l) }
-    ensures { IfOk result (λ o. IfSome o (EndsRefuted system.now)) }
-{
-    widen(lists)?;
-    multipliers_of(alloc, work, system, numbers, &lists.wide, place, l)
 }
 
 /// Whether the run ends with a point.
@@ -393,6 +369,26 @@ struct Ended {
     lists: KeptLists,
     place: WidePlace,
     end: Ending,
+}
+
+/// Writes the values of the unknowns where a run has ended.
+fn put_values(values: &mut [Standing], system: &WholeSystem, last: &Ended) -> Option<()>
+    requires room { length values.old ≡ system.now.width }
+    requires kept { AreKept system.now last.now.scales.items last.now.lists last.now.place last.now.end }
+    ensures { IfSome result (λ _. IsValues system.now (last_position system.now) values.new) }
+{
+    let lists = &last.lists;
+    let den = last.place.den;
+    if lists.is_wide {
+        return wide_last_values(values, system, &lists.wide.firsts, &lists.wide.seconds, den);
+    }
+    last_values(
+        values,
+        system,
+        &lists.short.firsts,
+        &lists.short.seconds,
+        den,
+    )
 }
 
 /// The end of a run that stands in these lists, with a copy of the scales.
@@ -687,9 +683,8 @@ impl KeptRun {
                 Ok(Some(Broken::Point(run)))
             }
             Some((place, Ending::Refuted(l))) => {
-                let Workspace { rows, lists, .. } = work;
-                let x = &mut rows.wide;
-                match kept_multipliers(alloc, x, longer, &numbers, lists, place, l)? {
+                let x = &mut work.rows.wide;
+                match multipliers_of(alloc, x, longer, &numbers, &work.lists, place, l)? {
                     Some(multipliers) => Ok(Some(Broken::Refuted(multipliers))),
                     None => Ok(None),
                 }
@@ -832,20 +827,11 @@ impl KeptRun {
     }
 
     /// The values of the unknowns at the last position.
-    fn point(&self, alloc: Global, lists: &mut KeptLists) -> Result<Option<PairPoint>, AllocError>
+    fn point(&self, alloc: Global) -> Result<Option<PairPoint>, AllocError>
         ensures { IfOk result (λ o. IfSome o (λ p. IsValues self.now (last_position self.now) p)) }
     {
-        let place = self.last.place;
-        put_wide_copies(lists, &self.last.lists)?;
         let mut values = zero_pairs(alloc, self.system.unknowns())?;
-        let found = last_values(
-            &mut values,
-            &self.system,
-            &lists.wide.firsts,
-            &lists.wide.seconds,
-            place.den,
-        );
-        match found {
+        match put_values(&mut values, &self.system, &self.last) {
             Some(()) => Ok(Some(PairPoint::of(values))),
             None => Ok(None),
         }
@@ -855,7 +841,7 @@ impl KeptRun {
     fn multipliers(
         &self,
         alloc: Global,
-        work: &mut Workspace,
+        work: &mut Vec<i128>,
         l: usize,
     ) -> Result<Option<Multipliers>, AllocError>
         requires { turn self.now (last_position self.now) ≡ is_refuted l }
@@ -863,7 +849,7 @@ impl KeptRun {
     {
         let Ended {
             scales,
-            lists: kept,
+            lists,
             place,
             ..
         } = &self.last;
@@ -871,17 +857,7 @@ impl KeptRun {
         if numbers.scales != scales.as_slice() {
             return Ok(None);
         }
-        let Workspace { rows, lists, .. } = work;
-        put_wide_copies(lists, kept)?;
-        multipliers_of(
-            alloc,
-            &mut rows.wide,
-            &self.system,
-            &numbers,
-            &lists.wide,
-            *place,
-            l,
-        )
+        multipliers_of(alloc, work, &self.system, &numbers, lists, *place, l)
     }
 
     /// What the run ends with, in fractions. `None` where a fraction is too wide.
@@ -889,11 +865,11 @@ impl KeptRun {
         ensures { IfOk result (λ o. IfSome o (λ d. IsEnd self.now d)) }
     {
         match self.last.end {
-            Ending::Point => match self.point(alloc, &mut work.lists)? {
+            Ending::Point => match self.point(alloc)? {
                 Some(point) => Ok(Some(End::Point(point))),
                 None => Ok(None),
             },
-            Ending::Refuted(l) => match self.multipliers(alloc, work, l)? {
+            Ending::Refuted(l) => match self.multipliers(alloc, &mut work.rows.wide, l)? {
                 Some(multipliers) => Ok(Some(End::Refuted(multipliers))),
                 None => Ok(None),
             },

@@ -317,16 +317,6 @@ fn put_copies(lists: &mut KeptLists, other: &KeptLists) -> Result<(), AllocError
     Ok(())
 }
 
-/// Writes other lists in place of these, wide.
-pub(crate) fn put_wide_copies(lists: &mut KeptLists, other: &KeptLists) -> Result<(), AllocError>
-    ensures wide { OnOk result (lists.new.is_wide ≡ true) }
-    ensures same { OnOk result (of_wide lists.new.wide ≡ lists_of other.now) }
-{
-    put_copies(lists, other)?;
-    widen(lists)?;
-    Ok(())
-}
-
 /// How many variables there are, where the lists stand.
 pub(crate) fn variables(lists: &KeptLists) -> usize
     ensures { result ≡ length (lists_of lists.now).seats }

@@ -41,6 +41,7 @@ pub mod WholeMoves
 pub mod DividedRows
 pub mod Standing
 pub mod WholeRun
+pub mod ShortTurns
 pub mod JudgedRun
 pub mod Judges
 pub mod JudgedTurns

@@ -13,3 +13,4 @@ pub mod RunEnd
 pub mod OverTheorems
 pub mod Judged
 pub mod Lists
+pub mod Held

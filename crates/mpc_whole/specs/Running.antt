@@ -2,8 +2,8 @@
 use Rattle.std.specs.Prelude.{◌≡◌, ℕ, ◌+◌, ◌*◌, ◌<◌, ◌≤◌, ◌^◌, List, length, ℤ, unsigned_abs, ◌*ℤ◌}
 use Rattle.mpc_rows.specs.LinearSystem.{LinearSystem, height}
 use Rattle.mpc_whole.specs.declared.variables.Seat.{Seat}
-use Rattle.mpc_whole.specs.Table.{IsSeated, AreNonbasic}
-use Rattle.mpc_whole.specs.Whole.{whole_total, whole_at, whole_cell, AreScales, IsSmall, HasRoom, HasBounds, IsWholeSystem, IsNarrow}
+use Rattle.mpc_whole.specs.Table.{IsSeated}
+use Rattle.mpc_whole.specs.Whole.{whole_total, whole_at, whole_cell, AreScales, IsSmall, HasRoom, HasBounds, IsWholeSystem}
 
 -- the numbers of a system of so many variables, with room for sums of their products
 pub record HasNumbers (s : LinearSystem) (n : ℕ) (k : List ℕ) (a b : List ℤ) : Type 0 where
@@ -39,17 +39,6 @@ pub record IsPivot (width : ℕ) (a v : List ℤ) (i e den size : ℕ) : Type 0 
   pub den_small : den ≤ 2 ^ 62
   pub size_small : size ≤ 2 ^ 62
   pub numbers_small : IsSmall (2 ^ 62) v
-
--- the numbers v over a denominator, none above a size, where the variables stand so, with both parts of the values
-pub record IsHeld (s : LinearSystem) (n : ℕ) (k : List ℕ) (a : List ℤ) (most : ℕ) (seats : List Seat) (nonbasic : List ℕ) (v c_1 c_2 : List ℤ) (den top : ℕ) : Type 0 where
-  pub seated : IsSeated (height s) s.width n seats
-  pub columns : AreNonbasic s.width seats nonbasic
-  pub square : length v ≡ s.width * s.width
-  pub small : IsSmall most v
-  pub own : IsSmall top v
-  pub den_small : den ≤ 2 ^ 62
-  pub narrow : IsNarrow s n seats k a den v
-  pub parts : AreParts s.width c_1 c_2
 
 -- the row x of the variable l over a denominator, where the variables stand so
 pub record IsRefuting (s : LinearSystem) (k : List ℕ) (seats : List Seat) (x : List ℤ) (den l : ℕ) : Type 0 where

@@ -31,7 +31,7 @@ pub use numbers::{Standing, zero, zero_pairs, zeros};
 pub use theorems::over_theorems;
 pub use variables::{Seat, column_of, is_basic, is_unknown, opening_seats, row_of};
 pub use whole::{Ending, Place, whole_run};
-pub use whole_ends::{last_multipliers, last_values};
+pub use whole_ends::{last_multipliers, last_values, wide_last_multipliers, wide_last_values};
 pub use whole_numbers::{changed, turned};
 pub use whole_rows::{limit, put_units};
 pub use whole_systems::{WholeNumbers, WholeSystem};

@@ -1,22 +1,24 @@
 //! The run of the simplex method by least numbers, on whole numbers.
 
-ghost use Rattle.std.specs.Prelude.{◌≡◌, ℕ, ℤ, ◌+◌, ◌*◌, ◌<◌, ◌≤◌, ◌^◌, unsigned_abs, IfSome, List, length, true, false, ◌-◌};
+ghost use Rattle.std.specs.Prelude.{◌≡◌, ℕ, ◌*◌, ◌<◌, ◌≤◌, ◌^◌, unsigned_abs, IfSome, List, length, true, ◌-◌};
 ghost use Rattle.mpc_rows.specs.LinearSystem.{height};
-ghost use Rattle.mpc_rows.specs.Run.{Position, may_enter};
+ghost use Rattle.mpc_rows.specs.Run.{Position, count, may_enter};
 ghost use Rattle.mpc_rows.specs.Least.{least};
 ghost use Rattle.mpc_whole.specs.declared.variables.Seat.{Seat};
 ghost use Rattle.mpc_whole.specs.declared.variables.Seat.TheVariants.{Column};
 ghost use Rattle.mpc_whole.specs.Table.{seat_at, in_row, IsSeated, AreNonbasic};
 ghost use Rattle.mpc_whole.specs.Found.{IfEnded, IfNext};
-ghost use Rattle.mpc_whole.specs.Underway.{IsUnderway, HasEnded};
-ghost use Rattle.mpc_whole.specs.Running.{HasNumbers, IsFrame, IsHeld};
-ghost use Rattle.mpc_whole.specs.Whole.{IsNarrow, IsSmall, IsWholeSystem, HasBounds, HasRoom, HasBasis, IsRowOf, side_cell, IsSideRow, IsSwapped};
+ghost use Rattle.mpc_whole.specs.Lists.{AreListsOf, of_short};
+ghost use Rattle.mpc_whole.specs.Held.{AreHeld, AreUnderway, AreTurning, HaveEnded};
+ghost use Rattle.mpc_whole.specs.Running.{HasNumbers, IsFrame};
+ghost use Rattle.mpc_whole.specs.Whole.{IsSmall, HasBasis, IsRowOf, side_cell, IsSideRow, IsSwapped};
 
 use crate::divisors::Divisor;
 use crate::frames::Frame;
+use crate::lists::RunLists;
 use crate::variables::{Seat, column_of, row_of};
 use crate::whole_pivot::exchange;
-use crate::whole_systems::WholeSystem;
+use crate::whole_systems::{WholeNumbers, WholeSystem};
 use crate::whole_turn::{entering, leaving, leaving_row};
 use crate::whole_values::{Pivot, follow};
 
@@ -71,15 +73,13 @@ pub enum Ending {
 }
 
 /// Where a run stands: its denominator, the greatest size of a number there, the greatest number and the
-/// greatest denominator of the positions before, the greatest product of a number there or a denominator with one
-/// of the row that left, as far as that is kept, and the first variable that may leave.
+/// greatest denominator of the positions before, and the first variable that may leave.
 #[derive(Clone, Copy, Drop)]
 pub struct Place {
     pub den: u64,
     pub own: u64,
     pub greatest: u64,
     pub greatest_den: u64,
-    pub product: u128,
     pub first: usize,
 }
 
@@ -98,37 +98,30 @@ pub(crate) fn greater(a: u64, b: u64) -> u64
     if a < b { b } else { a }
 }
 
-/// One turn of the run. The values of the unknowns move with the pivot.
-fn step(
-    seats: &mut [Seat],
-    nonbasic: &mut [usize],
-    v: &mut [i64],
-    x: &mut [i64],
-    c_1: &mut [i64],
-    c_2: &mut [i64],
+/// The pivot where the row x of the side l leaves and e enters, with the values of the unknowns after it.
+fn advance(
+    lists: &mut RunLists,
+    x: &[i64],
     system: &WholeSystem,
     frame: &Frame,
     place: Place,
-) -> Option<Found>
+    l: usize,
+    e: usize,
+) -> Option<Place>
     requires frame { IsFrame system.now frame.now.n frame.now.scales.now frame.now.a.now frame.now.b.now frame.now.most }
-    requires held { IsHeld system.now frame.now.n frame.now.scales.now frame.now.a.now frame.now.most seats.old nonbasic.old v.old c_1.old c_2.old place.den place.own }
-    requires row_size { length x.old ≡ system.now.width }
-    requires underway { IsUnderway system.now frame.now.n seats.old frame.now.scales.now place.den v.old c_1.old c_2.old place.greatest place.greatest_den place.first }
-    ensures end { IfSome result (λ f. IfEnded f (λ e. HasEnded system.now frame.now.n seats.new frame.now.scales.now place.den v.new c_1.new c_2.new place.greatest place.greatest_den e)) }
-    ensures end_held { IfSome result (λ f. IfEnded f (λ _. IsHeld system.now frame.now.n frame.now.scales.now frame.now.a.now frame.now.most seats.new nonbasic.new v.new c_1.new c_2.new place.den place.own)) }
-    ensures underway { IfSome result (λ f. IfNext f (λ p. IsUnderway system.now frame.now.n seats.new frame.now.scales.now p.den v.new c_1.new c_2.new p.greatest p.greatest_den p.first)) }
-    ensures held { IfSome result (λ f. IfNext f (λ p. IsHeld system.now frame.now.n frame.now.scales.now frame.now.a.now frame.now.most seats.new nonbasic.new v.new c_1.new c_2.new p.den p.own)) }
+    requires lists { AreListsOf system.now place.own (of_short lists.old) }
+    requires held { AreHeld system.now frame.now.scales.now frame.now.a.now frame.now.most place.den (of_short lists.old) }
+    requires row { IsSideRow system.now frame.now.a.now lists.old.v.items (l - system.now.width) x.now }
+    requires row_small { IsSmall (2 ^ 62) x.now }
+    requires turns { AreTurning system.now frame.now.scales.now (of_short lists.old) place l e }
+    ensures lists { IfSome result (λ p. AreListsOf system.now p.own (of_short lists.new)) }
+    ensures held { IfSome result (λ p. AreHeld system.now frame.now.scales.now frame.now.a.now frame.now.most p.den (of_short lists.new)) }
+    ensures underway { IfSome result (λ p. AreUnderway system.now frame.now.scales.now (of_short lists.new) p) }
 {
-    let Some(l) = leaving(system, frame, seats, c_1, c_2, place) else {
-        return Some(Found::Ended(Ending::Point));
-    };
-    let Some(e) = pick(x, system, frame, nonbasic, v, l) else {
-        return Some(Found::Ended(Ending::Refuted(l)));
-    };
-    let c = column_of(seats, e);
+    let c = column_of(&lists.seats, e);
     let by = Divisor::of(place.den);
-    let own = exchange(v, x, c, by, frame.most)?;
-    swap(seats, nonbasic, l, e, c);
+    let own = exchange(&mut lists.v, x, c, by, frame.most)?;
+    swap(&mut lists.seats, &mut lists.nonbasic, l, e, c);
     let width = system.unknowns();
     let size = x[c].unsigned_abs();
     let pivot = Pivot {
@@ -137,15 +130,58 @@ fn step(
         by,
         size,
     };
-    follow(c_1, c_2, system, frame, nonbasic, v, pivot)?;
-    Some(Found::Next(Place {
+    follow(
+        &mut lists.firsts,
+        &mut lists.seconds,
+        system,
+        frame,
+        &lists.nonbasic,
+        &lists.v,
+        pivot,
+    )?;
+    Some(Place {
         den: size,
         own,
         greatest: greater(place.greatest, place.own),
         greatest_den: greater(place.greatest_den, place.den),
-        product: place.product,
         first: width,
-    }))
+    })
+}
+
+/// One turn of the run. The values of the unknowns move with the pivot.
+fn step(
+    lists: &mut RunLists,
+    x: &mut [i64],
+    system: &WholeSystem,
+    frame: &Frame,
+    place: Place,
+) -> Option<Found>
+    requires frame { IsFrame system.now frame.now.n frame.now.scales.now frame.now.a.now frame.now.b.now frame.now.most }
+    requires lists { AreListsOf system.now place.own (of_short lists.old) }
+    requires held { AreHeld system.now frame.now.scales.now frame.now.a.now frame.now.most place.den (of_short lists.old) }
+    requires row_size { length x.old ≡ system.now.width }
+    requires underway { AreUnderway system.now frame.now.scales.now (of_short lists.old) place }
+    ensures same { IfSome result (λ f. IfEnded f (λ _. lists.new ≡ lists.old)) }
+    ensures end { IfSome result (λ f. IfEnded f (λ e. HaveEnded system.now frame.now.scales.now (of_short lists.old) place e)) }
+    ensures lists { IfSome result (λ f. IfNext f (λ p. AreListsOf system.now p.own (of_short lists.new))) }
+    ensures held { IfSome result (λ f. IfNext f (λ p. AreHeld system.now frame.now.scales.now frame.now.a.now frame.now.most p.den (of_short lists.new))) }
+    ensures underway { IfSome result (λ f. IfNext f (λ p. AreUnderway system.now frame.now.scales.now (of_short lists.new) p)) }
+{
+    let Some(l) = leaving(
+        system,
+        frame,
+        &lists.seats,
+        &lists.firsts,
+        &lists.seconds,
+        place,
+    ) else {
+        return Some(Found::Ended(Ending::Point));
+    };
+    let Some(e) = pick(x, system, frame, &lists.nonbasic, &lists.v, l) else {
+        return Some(Found::Ended(Ending::Refuted(l)));
+    };
+    let next = advance(lists, x, system, frame, place, l, e)?;
+    Some(Found::Next(next))
 }
 
 /// The most steps that are made on whole numbers.
@@ -154,57 +190,32 @@ pub(crate) const STEPS: u32 = 1_000_000;
 /// The run from a position to its end: where it stands there, and what it ends with. The lists have the
 /// values of the unknowns at the position, and at the end those there.
 pub fn whole_run(
-    seats: &mut [Seat],
-    nonbasic: &mut [usize],
-    v: &mut [i64],
+    lists: &mut RunLists,
     x: &mut [i64],
-    c_1: &mut [i64],
-    c_2: &mut [i64],
     system: &WholeSystem,
-    scales: &[u64],
-    a: &[i64],
-    b: &[i64],
-    n: usize,
+    numbers: &WholeNumbers,
     from: Place,
     most: u64,
 ) -> Option<(Place, Ending)>
-    requires seated { IsSeated (height system.now) system.now.width n seats.old }
-    requires columns { AreNonbasic system.now.width seats.old nonbasic.old }
-    requires whole { IsWholeSystem system.now scales.now a.now b.now }
-    requires bounds { HasBounds system.now scales.now a.now b.now most }
-    requires room { HasRoom system.now.width (2 ^ 62) a.now }
-    requires most_small { most ≤ 2 ^ 62 }
-    requires square { length v.old ≡ system.now.width * system.now.width }
-    requires small { IsSmall most v.old }
+    requires frame { IsFrame system.now (count system.now) numbers.now.scales.now numbers.now.a.now numbers.now.b.now most }
+    requires lists { AreListsOf system.now from.own (of_short lists.old) }
+    requires held { AreHeld system.now numbers.now.scales.now numbers.now.a.now most from.den (of_short lists.old) }
     requires row_size { length x.old ≡ system.now.width }
-    requires first_size { length c_1.old ≡ system.now.width }
-    requires second_size { length c_2.old ≡ system.now.width }
-    requires first_small { IsSmall (2 ^ 62) c_1.old }
-    requires second_small { IsSmall (2 ^ 62) c_2.old }
-    requires own { IsSmall from.own v.old }
-    requires den_small { from.den ≤ 2 ^ 62 }
-    requires narrow { IsNarrow system.now n seats.old scales.now a.now from.den v.old }
-    requires underway { IsUnderway system.now n seats.old scales.now from.den v.old c_1.old c_2.old from.greatest from.greatest_den from.first }
-    ensures end { IfSome result (λ t. HasEnded system.now n seats.new scales.now t.0.den v.new c_1.new c_2.new t.0.greatest t.0.greatest_den t.1) }
-    ensures seated { IfSome result (λ _. IsSeated (height system.now) system.now.width n seats.new) }
-    ensures columns { IfSome result (λ _. AreNonbasic system.now.width seats.new nonbasic.new) }
-    ensures small { IfSome result (λ _. IsSmall most v.new) }
-    ensures own { IfSome result (λ t. IsSmall t.0.own v.new) }
-    ensures den_small { IfSome result (λ t. t.0.den ≤ 2 ^ 62) }
-    ensures narrow { IfSome result (λ t. IsNarrow system.now n seats.new scales.now a.now t.0.den v.new) }
-    ensures first_small { IfSome result (λ _. IsSmall (2 ^ 62) c_1.new) }
-    ensures second_small { IfSome result (λ _. IsSmall (2 ^ 62) c_2.new) }
+    requires underway { AreUnderway system.now numbers.now.scales.now (of_short lists.old) from }
+    ensures end { IfSome result (λ t. HaveEnded system.now numbers.now.scales.now (of_short lists.new) t.0 t.1) }
+    ensures lists { IfSome result (λ t. AreListsOf system.now t.0.own (of_short lists.new)) }
+    ensures held { IfSome result (λ t. AreHeld system.now numbers.now.scales.now numbers.now.a.now most t.0.den (of_short lists.new)) }
 {
     let frame = Frame {
-        scales,
-        a,
-        b,
-        n,
+        scales: numbers.scales,
+        a: numbers.a,
+        b: numbers.b,
+        n: lists.seats.len(),
         most,
     };
     let mut place = from;
     'steps: for _ in 0..STEPS {
-        let found = step(seats, nonbasic, v, x, c_1, c_2, system, &frame, place)?;
+        let found = step(lists, x, system, &frame, place)?;
         match found {
             Found::Ended(end) => return Some((place, end)),
             Found::Next(next) => place = next,

@@ -1,9 +1,10 @@
-use Rattle.mpc_whole.specs.Running.{IsHeld}
-use Rattle.mpc_whole.specs.Underway.{IsUnderway}
+use Rattle.mpc_whole.specs.Lists.{AreListsOf, of_short}
+use Rattle.mpc_whole.specs.Held.{AreHeld, AreUnderway}
 use Rattle.mpc_whole.proofs.whole.whole_run.Given as goal
 
 abbrev pub invariant-steps : goal.invariant-steps
 invariant-steps l = record {
-  held : IsHeld l.system l.n l.scales l.a l.most l.seats l.nonbasic l.v l.c_1 l.c_2 l.place.den l.place.own;
-  underway : IsUnderway l.system l.n l.seats l.scales l.place.den l.v l.c_1 l.c_2 l.place.greatest l.place.greatest_den l.place.first;
+  lists : AreListsOf l.system l.place.own (of_short l.lists);
+  held : AreHeld l.system l.numbers.scales.now l.numbers.a.now l.most l.place.den (of_short l.lists);
+  underway : AreUnderway l.system l.numbers.scales.now (of_short l.lists) l.place;
 }

@@ -24,5 +24,4 @@ multipliers_of-requires-clause-kept c =
     let m = c.numbers_of-numbers.result in
     let same : m.scales.now ≡ r.last.scales.items = search rules in
     let ends : turn r.system (last_position r.system) ≡ is_refuted c.args.l = subst (λ (t : LinearSystem). turn t (last_position t) ≡ is_refuted c.args.l) (sym c.self.view_is) c.requires in
-    subst (λ (t : Listed). IsKept r.system m.scales.now t r.last.place (Refuted c.args.l)) (sym c.in_ok-put_wide_copies.ensures.same)
-    (kept_refuted r.system r.last.scales.items (lists_of r.last.lists) r.last.place r.last.end c.self.invariant.kept m.scales.now same c.args.l ends)
+    record { kept = kept_refuted r.system r.last.scales.items (lists_of r.last.lists) r.last.place r.last.end c.self.invariant.kept m.scales.now same c.args.l ends; short = c.self.invariant.short }

@@ -1,0 +1,8 @@
+use Rattle.std.proofs.Common.{◌≡◌, ℕ, ◌<◌}
+use Rattle.mpc_exact.specs.Rational.{frac}
+use Rattle.mpc_whole.specs.Whole.{whole_at}
+use Rattle.mpc_whole.proofs.Answered.{pair_in}
+use Rattle.mpc_whole.proofs.whole_ends.wide_point.Given as goal
+
+abbrev pub invariant-loop-j : goal.invariant-loop-j
+invariant-loop-j l = (i : ℕ) → i < l.j → pair_in l.values i ≡ record { first = frac (whole_at l.c_1 i) l.den; second = frac (whole_at l.c_2 i) l.den }
