@@ -18,7 +18,8 @@ ghost use Rattle.mpc_beginnings.specs.Kept.{AreNumbers, IsSamePlace, IsNormProdu
 
 use crate::lists::{
     KeptLists, begins_with, copied_lists, lengthen, lengthen_wide, lists_with_room, no_lists,
-    push_turned, set_lists, set_opening, sizes, variables, widen, with_row, with_turned,
+    push_turned, set_lists, set_opening, set_wide_lists, sizes, variables, widen, with_row,
+    with_turned,
 };
 use mpc_frac::Frac;
 use mpc_linear::RowInt;
@@ -62,6 +63,22 @@ fn limit_of(system: &WholeSystem, numbers: &WholeNumbers, from: WidePlace) -> Op
         return None;
     }
     Some(most)
+}
+
+/// What the numbers of a position may have, where those of the lists have 64 bits and are within that.
+fn short_limit(
+    lists: &KeptLists,
+    system: &WholeSystem,
+    numbers: &WholeNumbers,
+    from: WidePlace,
+) -> Option<u64>
+    requires numbers { AreNumbers system.now numbers.now }
+    ensures { IfSome result (IsLimit system.now numbers.now from) }
+{
+    if lists.is_wide {
+        return None;
+    }
+    limit_of(system, numbers, from)
 }
 
 /// By how many times more a row may have than a number of a position: at least 1.
@@ -149,7 +166,9 @@ fn short_run(
     system: &WholeSystem,
     numbers: &WholeNumbers,
     from: WidePlace,
+    most: u64,
 ) -> Option<(WidePlace, Ending)>
+    requires limit { IsLimit system.now numbers.now from most }
     requires numbers { AreNumbers system.now numbers.now }
     requires lists { AreListsOf system.now from.own (of_short lists.old) }
     requires first_small { IsSmall (2 ^ 62) lists.old.firsts.items }
@@ -160,7 +179,6 @@ fn short_run(
     ensures small { IfSome result (λ _. IsSmall (2 ^ 62) lists.new.firsts.items × IsSmall (2 ^ 62) lists.new.seconds.items) }
     ensures end { IfSome result (λ t. HasEnded system.now (count system.now) lists.new.seats.items numbers.now.scales.now t.0.den lists.new.v.items lists.new.firsts.items lists.new.seconds.items t.0.greatest t.0.greatest_den t.1) }
 {
-    let most = limit_of(system, numbers, from)?;
     let start = short_place(from)?;
     let (place, end) = whole_run(lists, x, system, numbers, start, most)?;
     Some((wide_place(place), end))
@@ -173,7 +191,9 @@ fn limited_run(
     system: &WholeSystem,
     numbers: &WholeNumbers,
     from: WidePlace,
+    most: u64,
 ) -> Option<(WidePlace, Ending)>
+    requires limit { IsLimit system.now numbers.now from most }
     requires numbers { AreNumbers system.now numbers.now }
     requires lists { AreListsOf system.now from.own (lists_of lists.old) }
     requires short { HaveShortValues lists.old }
@@ -186,7 +206,7 @@ fn limited_run(
     if lists.is_wide {
         return None;
     }
-    short_run(&mut lists.short, x, system, numbers, from)
+    short_run(&mut lists.short, x, system, numbers, from, most)
 }
 
 /// The run from a position to its end, where one limit serves for all rows, with what is kept of it.
@@ -196,7 +216,9 @@ fn run_on(
     system: &WholeSystem,
     numbers: &WholeNumbers,
     from: WidePlace,
+    most: u64,
 ) -> Result<Option<(WidePlace, Ending)>, AllocError>
+    requires limit { IsLimit system.now numbers.now from most }
     requires numbers { AreNumbers system.now numbers.now }
     requires lists { AreListsOf system.now from.own (lists_of lists.old) }
     requires short { HaveShortValues lists.old }
@@ -206,7 +228,7 @@ fn run_on(
     let width = system.unknowns();
     lengthen(work, width)?;
     let (x, _) = work.split_at_mut(width);
-    match limited_run(lists, x, system, numbers, from) {
+    match limited_run(lists, x, system, numbers, from, most) {
         Some((place, end)) => {
             let product = product_of(width, numbers, place);
             Ok(Some((WidePlace { product, ..place }, end)))
@@ -451,9 +473,11 @@ fn first_run(
         product: 0,
         first: width,
     };
-    set_opening(lists, system, n, square)?;
-    if let Some(found) = run_on(lists, &mut work.short, system, numbers, from)? {
-        return Ok(Some(found));
+    if let Some(most) = limit_of(system, numbers, from) {
+        set_opening(lists, system, n, square)?;
+        if let Some(found) = run_on(lists, &mut work.short, system, numbers, from, most)? {
+            return Ok(Some(found));
+        }
     }
     set_opening(lists, system, n, square)?;
     judge_on(lists, &mut work.wide, system, numbers, from)
@@ -624,12 +648,6 @@ impl KeptRun {
         requires numbers { AreNumbers longer.now numbers.now }
         ensures { IfOk result (λ o. IfSome o (λ t. AreKept longer.now numbers.now.scales.now lists.new t.0 t.1)) }
     {
-        set_lists(
-            lists,
-            &self.last.lists,
-            self.system.height(),
-            longer.height(),
-        )?;
         if !begins_with(numbers.scales, &self.last.scales) {
             return Ok(None);
         }
@@ -637,15 +655,14 @@ impl KeptRun {
             first: self.first_later(),
             ..self.last.place
         };
-        if let Some(found) = run_on(lists, &mut work.short, longer, numbers, from)? {
-            return Ok(Some(found));
+        let height = self.system.height();
+        if let Some(most) = short_limit(&self.last.lists, longer, numbers, from) {
+            set_lists(lists, &self.last.lists, height, longer.height())?;
+            if let Some(found) = run_on(lists, &mut work.short, longer, numbers, from, most)? {
+                return Ok(Some(found));
+            }
         }
-        set_lists(
-            lists,
-            &self.last.lists,
-            self.system.height(),
-            longer.height(),
-        )?;
+        set_wide_lists(lists, &self.last.lists, height, longer.height())?;
         judge_on(lists, &mut work.wide, longer, numbers, from)
     }
 

@@ -317,6 +317,20 @@ fn put_copies(lists: &mut KeptLists, other: &KeptLists) -> Result<(), AllocError
     Ok(())
 }
 
+/// Writes other lists in place of these, wide.
+fn put_wide_copies(lists: &mut KeptLists, other: &KeptLists) -> Result<(), AllocError>
+    ensures wide { OnOk result (lists.new.is_wide ≡ true) }
+    ensures same { OnOk result (of_wide lists.new.wide ≡ lists_of other.now) }
+{
+    lists.is_wide = true;
+    if other.is_wide {
+        put_wide_lists(&mut lists.wide, &other.wide)?;
+        return Ok(());
+    }
+    put_widened_lists(&mut lists.wide, &other.short)?;
+    Ok(())
+}
+
 /// How many variables there are, where the lists stand.
 pub(crate) fn variables(lists: &KeptLists) -> usize
     ensures { result ≡ length (lists_of lists.now).seats }
@@ -355,6 +369,22 @@ pub(crate) fn set_lists(
         return Ok(());
     }
     push_sides(&mut lists.short.seats, height, longer)?;
+    Ok(())
+}
+
+/// Writes other lists in place of these, wide, and the seats of further sides behind theirs, in the rows from
+/// the height of the system on.
+pub(crate) fn set_wide_lists(
+    lists: &mut KeptLists,
+    other: &KeptLists,
+    height: usize,
+    longer: usize,
+) -> Result<(), AllocError>
+    requires { height ≤ longer }
+    ensures { OnOk result (AreLonger height longer (lists_of other.now) (lists_of lists.new)) }
+{
+    put_wide_copies(lists, other)?;
+    push_sides(&mut lists.wide.seats, height, longer)?;
     Ok(())
 }
 

@@ -5,7 +5,7 @@ use Rattle.mpc_whole.proofs.WholeRows.{weaker}
 use Rattle.mpc_beginnings.proofs.kept.short_run.Goals as goal
 
 pub whole_run-requires-clause-frame : goal.whole_run-requires-clause-frame
-whole_run-requires-clause-frame c = record { numbers = record { count = refl; whole = c.requires.numbers.whole; room = c.in_ok-most.ensures.room }; bounds = c.in_ok-most.ensures.bounds; most_small = c.in_ok-most.ensures.top }
+whole_run-requires-clause-frame c = record { numbers = record { count = refl; whole = c.requires.numbers.whole; room = c.requires.limit.room }; bounds = c.requires.limit.bounds; most_small = c.requires.limit.top }
 
 pub whole_run-requires-clause-lists : goal.whole_run-requires-clause-lists
 whole_run-requires-clause-lists c = rw c.in_ok-start.ensures.own c.requires.lists
@@ -14,9 +14,9 @@ pub whole_run-requires-clause-held : goal.whole_run-requires-clause-held
 whole_run-requires-clause-held c =
     let l = c.args.lists.now in
     let m = c.args.numbers.now in
-    let limit = c.in_ok-most.ensures in
-    subst (λ d. AreHeld c.args.system.now m.scales.now m.a.now c.in_ok-most.most d (of_short l)) (sym c.in_ok-start.ensures.den) (record {
-      small = weaker c.args.from.own c.in_ok-most.most l.v.items c.requires.lists.own limit.own_small;
+    let limit = c.requires.limit in
+    subst (λ d. AreHeld c.args.system.now m.scales.now m.a.now c.args.most d (of_short l)) (sym c.in_ok-start.ensures.den) (record {
+      small = weaker c.args.from.own c.args.most l.v.items c.requires.lists.own limit.own_small;
       first_small = c.requires.first_small;
       second_small = c.requires.second_small;
       den_small = limit.den_small;
@@ -26,4 +26,4 @@ whole_run-requires-clause-held c =
 pub whole_run-requires-clause-underway : goal.whole_run-requires-clause-underway
 whole_run-requires-clause-underway c =
     rw (c.in_ok-start.ensures.den, c.in_ok-start.ensures.greatest, c.in_ok-start.ensures.greatest_den, c.in_ok-start.ensures.first)
-    (c.requires.start.within c.in_ok-most.most c.in_ok-most.ensures.bounds c.in_ok-most.ensures.kept_small c.in_ok-most.ensures.kept_den_small)
+    (c.requires.start.within c.args.most c.requires.limit.bounds c.requires.limit.kept_small c.requires.limit.kept_den_small)

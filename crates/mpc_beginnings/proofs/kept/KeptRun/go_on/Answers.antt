@@ -14,14 +14,14 @@ set_lists-requires c =
     let r = c.self.inside in
     let more : List Row = c.requires.longer.0 in
     let e : c.args.longer.now ≡ lengthened r.system more = c.requires.longer.1 ∙ ap (λ (t : LinearSystem). lengthened t more) (sym c.self.view_is) in
-    higher r.system more c.args.longer.now e c.height.result c.height-2.result c.height.ensures c.height-2.ensures
+    higher r.system more c.args.longer.now e c.height-height.result c.height.result c.height-height.ensures c.height.ensures
 
-pub set_lists-requires-2 : goal.set_lists-requires-2
-set_lists-requires-2 c =
+pub set_wide_lists-requires : goal.set_wide_lists-requires
+set_wide_lists-requires c =
     let r = c.self.inside in
     let more : List Row = c.requires.longer.0 in
     let e : c.args.longer.now ≡ lengthened r.system more = c.requires.longer.1 ∙ ap (λ (t : LinearSystem). lengthened t more) (sym c.self.view_is) in
-    higher r.system more c.args.longer.now e c.height-3.result c.height-4.result c.height-3.ensures c.height-4.ensures
+    higher r.system more c.args.longer.now e c.height-height.result c.height-2.result c.height-height.ensures c.height-2.ensures
 
 pub begins_with-requires : goal.begins_with-requires
 begins_with-requires c =
@@ -36,7 +36,7 @@ run_on-requires-clause-lists c =
     let more : List Row = c.requires.longer.0 in
     let e : c.args.longer.now ≡ lengthened r.system more = c.requires.longer.1 ∙ ap (λ (t : LinearSystem). lengthened t more) (sym c.self.view_is) in
     subst (λ (t : LinearSystem). AreListsOf t r.last.place.own (lists_of c.set_lists.new.lists)) (sym e)
-    (lists_longer r.system more r.last.scales.items (lists_of r.last.lists) r.last.place r.last.end c.self.invariant.kept c.height.result c.height-2.result c.height.ensures (c.height-2.ensures ∙ ap height e) (lists_of c.set_lists.new.lists) c.in_ok-set_lists.ensures.longer)
+    (lists_longer r.system more r.last.scales.items (lists_of r.last.lists) r.last.place r.last.end c.self.invariant.kept c.height-height.result c.height.result c.height-height.ensures (c.height.ensures ∙ ap height e) (lists_of c.set_lists.new.lists) c.in_ok-set_lists.ensures.longer)
 
 pub run_on-requires-clause-start : goal.run_on-requires-clause-start
 run_on-requires-clause-start c =
@@ -49,7 +49,7 @@ run_on-requires-clause-start c =
     in
     let first : IsFirstLater r.system c.first_later.result = subst (λ (t : LinearSystem). IsFirstLater t c.first_later.result) (sym c.self.view_is) c.first_later.ensures in
     subst (λ (t : LinearSystem). IsUnderwayWithin t k (lists_of c.set_lists.new.lists) (record r.last.place { first = c.first_later.result })) (sym e)
-    (within_longer r.system more r.last.scales.items (lists_of r.last.lists) r.last.place r.last.end c.self.invariant.kept c.height.result c.height-2.result c.height.ensures (c.height-2.ensures ∙ ap height e) (lists_of c.set_lists.new.lists) c.in_ok-set_lists.ensures.longer
+    (within_longer r.system more r.last.scales.items (lists_of r.last.lists) r.last.place r.last.end c.self.invariant.kept c.height-height.result c.height.result c.height-height.ensures (c.height.ensures ∙ ap height e) (lists_of c.set_lists.new.lists) c.in_ok-set_lists.ensures.longer
     c.first_later.result first k (subst (λ (t : LinearSystem). AreNumbers t k) e c.requires.numbers) same)
 
 pub judge_on-requires-clause-lists : goal.judge_on-requires-clause-lists
@@ -57,8 +57,8 @@ judge_on-requires-clause-lists c =
     let r = c.self.inside in
     let more : List Row = c.requires.longer.0 in
     let e : c.args.longer.now ≡ lengthened r.system more = c.requires.longer.1 ∙ ap (λ (t : LinearSystem). lengthened t more) (sym c.self.view_is) in
-    subst (λ (t : LinearSystem). AreListsOf t r.last.place.own (lists_of c.set_lists-2.new.lists)) (sym e)
-    (lists_longer r.system more r.last.scales.items (lists_of r.last.lists) r.last.place r.last.end c.self.invariant.kept c.height-3.result c.height-4.result c.height-3.ensures (c.height-4.ensures ∙ ap height e) (lists_of c.set_lists-2.new.lists) c.in_ok-set_lists-2.ensures.longer)
+    subst (λ (t : LinearSystem). AreListsOf t r.last.place.own (lists_of c.set_wide_lists.new.lists)) (sym e)
+    (lists_longer r.system more r.last.scales.items (lists_of r.last.lists) r.last.place r.last.end c.self.invariant.kept c.height-height.result c.height-2.result c.height-height.ensures (c.height-2.ensures ∙ ap height e) (lists_of c.set_wide_lists.new.lists) c.in_ok-set_wide_lists.ensures)
 
 pub judge_on-requires-clause-start : goal.judge_on-requires-clause-start
 judge_on-requires-clause-start c =
@@ -70,8 +70,8 @@ judge_on-requires-clause-start c =
     subst (λ (t : List ℕ). (x : ℕ) → x < length t → scale_at k.scales.now x ≡ scale_at t x) c.deref.ensures.value (c.begins_with.ensures c.if-not-begins_with.false)
     in
     let first : IsFirstLater r.system c.first_later.result = subst (λ (t : LinearSystem). IsFirstLater t c.first_later.result) (sym c.self.view_is) c.first_later.ensures in
-    subst (λ (t : LinearSystem). IsUnderwayWithRoom t k (lists_of c.set_lists-2.new.lists) (record r.last.place { first = c.first_later.result })) (sym e)
-    (room_longer r.system more r.last.scales.items (lists_of r.last.lists) r.last.place r.last.end c.self.invariant.kept c.height-3.result c.height-4.result c.height-3.ensures (c.height-4.ensures ∙ ap height e) (lists_of c.set_lists-2.new.lists) c.in_ok-set_lists-2.ensures.longer
+    subst (λ (t : LinearSystem). IsUnderwayWithRoom t k (lists_of c.set_wide_lists.new.lists) (record r.last.place { first = c.first_later.result })) (sym e)
+    (room_longer r.system more r.last.scales.items (lists_of r.last.lists) r.last.place r.last.end c.self.invariant.kept c.height-height.result c.height-2.result c.height-height.ensures (c.height-2.ensures ∙ ap height e) (lists_of c.set_wide_lists.new.lists) c.in_ok-set_wide_lists.ensures
     c.first_later.result first k (subst (λ (t : LinearSystem). AreNumbers t k) e c.requires.numbers) same)
 
 pub run_on-requires-clause-short : goal.run_on-requires-clause-short
