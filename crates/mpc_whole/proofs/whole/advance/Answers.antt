@@ -1,16 +1,14 @@
-use Rattle.std.proofs.Common.{ℕ, ℤ, ◌≡◌, ◌∙◌, ◌<◌, ◌≤◌, ◌-◌, ◌+◌, ◌*◌, ◌^◌, List, length, set, rules, unsigned_abs, sym, ap, subst, subst₂, arith, Some}
+use Rattle.std.proofs.Common.{ℕ, ℤ, ◌≡◌, ◌∙◌, ◌<◌, ◌≤◌, ◌-◌, ◌+◌, ◌*◌, ◌^◌, List, length, set, rules, unsigned_abs, sym, ap, subst, subst₂, arith}
 use Rattle.std.specs.Vec.{with_items}
 use Rattle.std.proofs.lemmas.List.{with_items_is}
-use Rattle.mpc_rows.specs.Least.{least}
 use Rattle.mpc_rows.specs.LinearSystem.{height}
 use Rattle.mpc_rows.specs.Run.{count}
 use Rattle.mpc_whole.specs.declared.variables.Seat.{Seat}
 use Rattle.mpc_whole.specs.declared.variables.Seat.TheVariants.{Row, Column}
-use Rattle.mpc_whole.specs.Table.{seat_at, in_row, variable_at, IsSeated, AreNonbasic}
+use Rattle.mpc_whole.specs.Table.{seat_at, variable_at, IsSeated, AreNonbasic}
 use Rattle.mpc_whole.specs.Moved.{AreFollowed}
 use Rattle.mpc_whole.specs.Running.{AreParts, IsPivot}
 use Rattle.mpc_whole.specs.Underway.{IsUnderway}
-use Rattle.mpc_whole.specs.Held.{AreHeld}
 use Rattle.mpc_whole.specs.Whole.{whole_at, scale_at, IsNarrow, IsSmall, IsSwapped, IsWholePivot}
 use Rattle.mpc_whole.proofs.ColumnSums.{in_column}
 use Rattle.mpc_whole.proofs.Seats.{row_seat}

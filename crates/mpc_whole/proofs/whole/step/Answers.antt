@@ -1,4 +1,4 @@
-use Rattle.std.proofs.Common.{ℤ, List, Some, None, ◌≡◌, ◌∙◌, ◌<◌, ◌≤◌, ◌-◌, sym, subst, subst₂}
+use Rattle.std.proofs.Common.{ℤ, List, Some, None, ◌≡◌, ◌∙◌, ◌<◌, ◌-◌, sym, subst, subst₂}
 use Rattle.mpc_rows.specs.Least.{least}
 use Rattle.mpc_rows.specs.LinearSystem.{height}
 use Rattle.mpc_rows.specs.Run.{count, may_leave, may_enter, position}
