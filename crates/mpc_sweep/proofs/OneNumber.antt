@@ -8,7 +8,7 @@ use Rattle.std.proofs.lemmas.List.{get_or_past}
 use Rattle.std.proofs.lemmas.List.Edits.{get_or-between, length-between}
 use Rattle.mpc_exact.proofs.IntRing.{int_reads, by_ring_ℤ}
 use Rattle.mpc_whole.specs.Whole.{whole_at, whole_cell, IsSmall, turned}
-use Rattle.mpc_sweep.specs.Steps.{IsNumber, IsOwn, IsChanged, AreWritten}
+use Rattle.mpc_sweep.specs.Steps.{IsNumber, IsOwn, IsScaled, IsChanged, AreWritten}
 
 pub read_small : (z : ℤ) → unsigned_abs z ≤ 2 ^ 62 → to_z w64 (of_z w64 z) ≡ z
 read_small z h = to_z-of_z w64 z (fits_signed_from_abs w64 z (omega arith))
@@ -103,8 +103,7 @@ module _ (width den by : ℕ) (v : List ℤ) (p columns : ℕ) (column : p < col
         at : (k : ℕ) → k < columns → whole_at row k ≡ whole_cell width v i k
         at k l = cell_of_row v (i * width) columns k l
 
-    -- which stays where it has nothing in the column of the sweep, and the pivot is what is taken out
-    pub same_number : (j : ℕ) (z : ℤ) → j < columns → whole_at row p ≡ pos 0 → unsigned_abs (whole_at top p) ≡ by → z ≡ whole_at row j → IsNumber width den by v p i j z
-    same_number j z m none same e = other_number j z m
-        ((λ t. e t *ℤ pos (sym same t))
-        ∙ sym (no_product (whole_at row j) (pos (unsigned_abs (whole_at top p))) (turned (whole_at top p) (whole_at row p)) (whole_at top j) (ap (turned (whole_at top p)) none ∙ turned_zero (whole_at top p))))
+    -- which is scaled where it has nothing in the column of the sweep
+    pub scaled_number : (j : ℕ) (z : ℤ) → j < columns → whole_at row p ≡ pos 0 → IsScaled by (unsigned_abs (whole_at top p)) row j z → IsNumber width den by v p i j z
+    scaled_number j z m none e = other_number j z m
+        (e ∙ sym (no_product (whole_at row j) (pos (unsigned_abs (whole_at top p))) (turned (whole_at top p) (whole_at row p)) (whole_at top j) (ap (turned (whole_at top p)) none ∙ turned_zero (whole_at top p))))

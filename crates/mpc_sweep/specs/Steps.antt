@@ -14,6 +14,10 @@ pub record IsNumber (width den by : ℕ) (v : List ℤ) (p i j : ℕ) (z : ℤ) 
 abbrev pub IsOwn : ℕ → ℕ → List ℤ → ℕ → ℕ → ℤ → Type 0
 IsOwn den by top p j z = z *ℤ pos by ≡ turned (whole_at top p) (whole_at top j) *ℤ pos den
 
+-- z stands in column j of another row, which has nothing in the column of the sweep, by the row of before and the size of the pivot
+abbrev pub IsScaled : ℕ → ℕ → List ℤ → ℕ → ℤ → Type 0
+IsScaled by size row j z = z *ℤ pos by ≡ whole_at row j *ℤ pos size
+
 -- z stands in column j of another row, by the row of before and that of the sweep
 abbrev pub IsChanged : ℕ → List ℤ → List ℤ → ℕ → ℕ → ℤ → Type 0
 IsChanged by row top p j z = z *ℤ pos by ≡ (whole_at row j *ℤ pos (unsigned_abs (whole_at top p))) +ℤ neg_ℤ (turned (whole_at top p) (whole_at row p) *ℤ whole_at top j)

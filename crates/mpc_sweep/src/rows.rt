@@ -2,9 +2,9 @@
 
 ghost use Rattle.std.specs.Prelude.{◌≡◌, ◌≢◌, ℕ, ◌+◌, ◌-◌, ◌*◌, ◌<◌, ◌≤◌, ◌^◌, ◌++◌, ◌∷◌, [], List, ℤ, IfOk, IfSome, IsTrue, length, get_or, pos, ◌+ℤ◌, ◌*ℤ◌, neg_ℤ, unsigned_abs};
 ghost use Rattle.mpc_linear.specs.Elimination.{Table};
-ghost use Rattle.mpc_whole.specs.Whole.{whole_at, IsSmall, turned};
+ghost use Rattle.mpc_whole.specs.Whole.{IsSmall, turned};
 ghost use Rattle.mpc_sweep.specs.Numbers.{IsSwept, IsTable, number, told_columns};
-ghost use Rattle.mpc_sweep.specs.Steps.{IsNumber, IsOwn, IsChanged, AreWritten, AreRows, AreSweptRows};
+ghost use Rattle.mpc_sweep.specs.Steps.{IsNumber, IsOwn, IsScaled, IsChanged, AreWritten, AreRows, AreSweptRows};
 
 use crate::Swept;
 use crate::divisor::shared_divisor;
@@ -22,24 +22,24 @@ struct Step {
     by: Divisor,
 }
 
-/// The number of the row of the sweep by that of before, with the pivot's sign: it lies over the size of the
-/// pivot. It is taken to the new denominator, if it is whole and small there.
+/// The number times a factor over what is taken out, if it is whole and small.
 #[inline]
-fn pivot_number(x: i64, den: u64, by: Divisor) -> Option<i64>
+fn scaled(x: i64, factor: u64, by: Divisor) -> Option<i64>
     requires x_small { unsigned_abs x ≤ 2 ^ 62 }
-    requires den_small { den ≤ 2 ^ 62 }
+    requires factor_small { factor ≤ 2 ^ 62 }
     requires by_some { 0 < by.den }
     requires by_small { by.den ≤ 2 ^ 62 }
-    ensures value { IfSome result (λ z. z *ℤ pos by.den ≡ x *ℤ pos den) }
+    ensures value { IfSome result (λ z. z *ℤ pos by.den ≡ x *ℤ pos factor) }
     ensures small { IfSome result (λ z. unsigned_abs z ≤ 2 ^ 62) }
 {
-    if by.den == den {
+    if by.den == factor || x == 0 {
         return Some(x);
     }
-    changed(x, 0, 0, den, by, MOST)
+    changed(x, 0, 0, factor, by, MOST)
 }
 
-/// Writes the numbers of the row of the sweep, from the column `first` on, or some of them where one isn't small.
+/// Writes the numbers of the row of the sweep, from the column `first` on, or some of them where one isn't small. With the pivot's sign they
+/// lie over its size, and so they are taken from the denominator before to the new one.
 fn write_pivot_row(out: &mut [i64], top: &[i64], step: Step, first: usize) -> bool
     requires size { length out.old ≡ length top.now }
     requires column { step.p < length top.now }
@@ -52,7 +52,7 @@ fn write_pivot_row(out: &mut [i64], top: &[i64], step: Step, first: usize) -> bo
     let pivot = top[step.p];
     for j in first..top.len() {
         let x = turned(pivot, top[j]);
-        let Some(z) = pivot_number(x, step.den, step.by) else {
+        let Some(z) = scaled(x, step.den, step.by) else {
             return false;
         };
         out[j] = z;
@@ -60,15 +60,23 @@ fn write_pivot_row(out: &mut [i64], top: &[i64], step: Step, first: usize) -> bo
     true
 }
 
-/// Writes the numbers of a row that stays as it is, from the column `first` on.
-fn write_same_row(out: &mut [i64], row: &[i64], first: usize)
-    requires size { length out.old ≡ length row.now }
+/// Writes the numbers of a row that has nothing in the column of the sweep, from the column `first` on, or some of them where one isn't small.
+/// Many of them are 0.
+fn write_scaled_row(out: &mut [i64], row: &[i64], size: u64, by: Divisor, first: usize) -> bool
+    requires length { length out.old ≡ length row.now }
     requires small { IsSmall (2 ^ 62) row.now }
-    ensures { AreWritten first (length row.now) (λ j z. z ≡ whole_at row.now j) out.old out.new }
+    requires size_small { size ≤ 2 ^ 62 }
+    requires by_some { 0 < by.den }
+    requires by_small { by.den ≤ 2 ^ 62 }
+    ensures { IsTrue result → AreWritten first (length row.now) (IsScaled by.den size row.now) out.old out.new }
 {
     for j in first..row.len() {
-        out[j] = row[j];
+        let Some(z) = scaled(row[j], size, by) else {
+            return false;
+        };
+        out[j] = z;
     }
+    true
 }
 
 /// Writes the numbers of another row, from the column `first` on, or some of them where one isn't small.
@@ -101,8 +109,7 @@ fn write_changed_row(
     true
 }
 
-/// Writes row i, from the column `first` on, or some of its numbers where one isn't small. Where it has
-/// nothing in the column of the sweep, and the pivot is what is taken out, it stays as it is.
+/// Writes row i, from the column `first` on, or some of its numbers where one isn't small.
 fn write_row(
     out: &mut [i64],
     table: &[i64],
@@ -127,9 +134,8 @@ fn write_row(
         return write_pivot_row(out, top, step, first);
     }
     let row = &table[i * width..i * width + columns];
-    if row[p] == 0 && top[p].unsigned_abs() == step.by.den {
-        write_same_row(out, row, first);
-        return true;
+    if row[p] == 0 {
+        return write_scaled_row(out, row, top[p].unsigned_abs(), step.by, first);
     }
     write_changed_row(out, row, top, step.by, p, first)
 }

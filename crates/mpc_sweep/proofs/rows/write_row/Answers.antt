@@ -1,15 +1,16 @@
-use Rattle.std.proofs.Common.{ℕ, ◌+◌, ◌*◌, ◌≤◌, List, ℤ, length, unsigned_abs, to_z, sym, ◌∙◌, ap, arith}
+use Rattle.std.proofs.Common.{◌≡◌, ℕ, ◌+◌, ◌*◌, ◌≤◌, List, ℤ, length, pos, ◌*ℤ◌, unsigned_abs, to_z, sym, ◌∙◌, ap, arith}
 use Rattle.std.specs.Int.{w64}
 use Rattle.std.specs.List.{between}
-use Rattle.mpc_sweep.specs.Steps.{IsNumber, IsOwn, IsChanged}
-use Rattle.mpc_sweep.proofs.OneNumber.{written_as, row_size, row_small, read_at, own_number, same_number, other_number}
+use Rattle.mpc_whole.specs.Whole.{whole_at}
+use Rattle.mpc_sweep.specs.Steps.{IsNumber, IsOwn, IsScaled, IsChanged}
+use Rattle.mpc_sweep.proofs.OneNumber.{written_as, row_size, row_small, read_at, own_number, scaled_number, other_number}
 use Rattle.mpc_sweep.proofs.rows.write_row.Goals as goal
 
 long : (v : List ℤ) (start columns : ℕ) → start + columns ≤ length v → columns ≤ length (between start (start + columns) v)
 long v start columns h = let e = row_size v start columns h in omega arith
 
-pub write_same_row-requires-clause-small : goal.write_same_row-requires-clause-small
-write_same_row-requires-clause-small c = row_small c.args.table.now (c.args.i * c.args.width) (length c.args.out.now) c.requires.inside c.requires.small
+pub write_scaled_row-requires-clause-small : goal.write_scaled_row-requires-clause-small
+write_scaled_row-requires-clause-small c = row_small c.args.table.now (c.args.i * c.args.width) (length c.args.out.now) c.requires.inside c.requires.small
 
 pub write_changed_row-requires-clause-small : goal.write_changed_row-requires-clause-small
 write_changed_row-requires-clause-small c = row_small c.args.table.now (c.args.i * c.args.width) (length c.args.out.now) c.requires.inside c.requires.small
@@ -31,18 +32,21 @@ returns-then-i-p c = λ t.
     (λ j z m e. own_number w c.args.step.den c.args.step.by.den v p n c.requires.column c.args.i j z c.if-i-p.true m e)
     (c.write_pivot_row.ensures t)
 
-pub returns-then-unsigned_abs-step : goal.returns-then-unsigned_abs-step
-returns-then-unsigned_abs-step c = λ _.
+pub returns-then-row-p-eq0 : goal.returns-then-row-p-eq0
+returns-then-row-p-eq0 c = λ t.
     let v = c.args.table.now in
     let w = c.args.width in
     let p = c.args.step.p in
     let i = c.args.i in
     let n = length c.args.out.now in
-    written_as c.args.first n (length (between (i * w) (i * w + n) v)) _ (IsNumber w c.args.step.den c.args.step.by.den v p i) c.args.out.now c.write_same_row.new.out (long v (i * w) n c.requires.inside)
-    (λ j z m e. same_number w c.args.step.den c.args.step.by.den v p n c.requires.column i c.if-i-p.false j z m
+    let size : c.unsigned_abs.result ≡ unsigned_abs (whole_at (between (p * w) (p * w + n) v) p) =
+    c.unsigned_abs.ensures.value ∙ ap unsigned_abs (read_at (between (p * w) (p * w + n) v) (row_small v (p * w) n c.requires.pivot_inside c.requires.small) p) in
+    written_as c.args.first n (length (between (i * w) (i * w + n) v)) (IsScaled c.args.step.by.den c.unsigned_abs.result (between (i * w) (i * w + n) v)) (IsNumber w c.args.step.den c.args.step.by.den v p i)
+    c.args.out.now c.write_scaled_row.new.out (long v (i * w) n c.requires.inside)
+    (λ j z m e. scaled_number w c.args.step.den c.args.step.by.den v p n c.requires.column i c.if-i-p.false j z m
     (sym (read_at (between (i * w) (i * w + n) v) (row_small v (i * w) n c.requires.inside c.requires.small) p) ∙ ap (to_z w64) c.if-row-p-eq0.true)
-    (ap unsigned_abs (sym (read_at (between (p * w) (p * w + n) v) (row_small v (p * w) n c.requires.pivot_inside c.requires.small) p)) ∙ sym c.unsigned_abs.ensures.value ∙ c.if-unsigned_abs-step.true) e)
-    c.write_same_row.ensures
+    (e ∙ ap (λ u. whole_at (between (i * w) (i * w + n) v) j *ℤ pos u) size))
+    (c.write_scaled_row.ensures t)
 
 pub returns : goal.returns
 returns c = λ t.
