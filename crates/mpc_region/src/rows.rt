@@ -1,7 +1,8 @@
 //! The law of an active set and the rows of the law, read from a table that is swept for the set.
 
-ghost use Rattle.std.specs.Prelude.{◌≡◌, ℕ, ◌+◌, ◌<◌, ◌≤◌, ◌^◌, IfOk, OnOk, length, unsigned_abs, pos, ◌*ℤ◌, neg_ℤ, int_div};
+ghost use Rattle.std.specs.Prelude.{◌≡◌, ℕ, ◌+◌, ◌<◌, ◌≤◌, ◌^◌, IfOk, OnOk, length, unsigned_abs, pos, ◌*ℤ◌, neg_ℤ};
 ghost use Rattle.std.specs.Int.{◌∣◌};
+ghost use Rattle.mpc_exact.specs.Gcd.{gcd};
 ghost use Rattle.mpc_exact.specs.Rational.{frac};
 ghost use Rattle.mpc_space.specs.Matrix.{height};
 ghost use Rattle.mpc_sets.specs.RowSet.{IsSetOfRows};
@@ -16,11 +17,23 @@ use mpc_linear::Matrix;
 use mpc_rows::{Law, Qp, law_theorems};
 use mpc_sets::ActiveSet;
 use mpc_sweep::{Swept, sweep_theorems};
-use mpc_whole::{Divisor, WholeSystem, changed, over_theorems};
+use mpc_whole::{WholeSystem, over_theorems, turned};
 use std::alloc::Global;
 
-/// The greatest size of a number.
-const MOST: u64 = 1 << 62;
+/// The greatest common divisor of two numbers, of which the first is often a divisor of the second.
+#[inline]
+fn shared_with(shared: u64, size: u64) -> u64
+    ensures { result ≡ gcd shared size }
+{
+    if shared == 0 {
+        return size;
+    }
+    let rest = size % shared;
+    if rest == 0 {
+        return shared;
+    }
+    greatest_common_divisor(rest as u128, shared as u128) as u64
+}
 
 /// The greatest common divisor of so many numbers of row i, from the column `first` on; 0 where all are 0.
 fn shared_divisor(table: &Swept, i: usize, first: usize, count: usize) -> u64
@@ -32,33 +45,32 @@ fn shared_divisor(table: &Swept, i: usize, first: usize, count: usize) -> u64
 {
     let mut shared = 0;
     for j in 0..count {
-        let size = table.at(i, first + j).unsigned_abs();
-        shared = greatest_common_divisor(shared, size as u128);
+        shared = shared_with(shared, table.at(i, first + j).unsigned_abs());
         if shared == 1 {
             return 1;
         }
     }
-    shared as u64
+    shared
 }
 
-/// z divided by a number, towards 0.
-#[inline]
-fn divided(z: i64, by: u64) -> i64
-    requires small { unsigned_abs z ≤ 2 ^ 62 }
-    requires positive { 0 < by }
-    requires by_small { by ≤ 2 ^ 62 }
-    ensures value { result ≡ int_div z (pos by) }
-    ensures small { unsigned_abs result ≤ 2 ^ 62 }
+/// The greatest common divisor of the bound of a row, which stands in the column `first`, and of its sides behind that. It begins with
+/// the sides: they share more, and the bound is the largest.
+fn row_divisor(table: &Swept, i: usize, first: usize, sides: usize) -> u64
+    requires table { IsTable table.now }
+    requires row { i < table.now.rows }
+    requires columns { first + (sides + 1) ≤ table.now.columns }
+    ensures shared { IsSharedBy (number_from table.now i first) (sides + 1) result }
+    ensures small { result ≤ 2 ^ 62 }
 {
-    z / by as i64
+    let shared = shared_divisor(table, i, first + 1, sides);
+    shared_with(shared, table.at(i, first).unsigned_abs())
 }
 
-/// z divided by one of its divisors, by the inverse of that where it serves.
+/// z divided by one of its divisors. The sizes are divided: where they fit 32 bits, the processor does that in a part of the time.
 #[inline]
 fn quotient(z: i64, by: u64) -> i64
     requires small { unsigned_abs z ≤ 2 ^ 62 }
     requires positive { 0 < by }
-    requires by_small { by ≤ 2 ^ 62 }
     requires divides { by ∣ unsigned_abs z }
     ensures value { result *ℤ pos by ≡ z }
     ensures small { unsigned_abs result ≤ 2 ^ 62 }
@@ -66,10 +78,8 @@ fn quotient(z: i64, by: u64) -> i64
     if by == 1 {
         return z;
     }
-    match changed(z, 0, 0, 1, Divisor::of(by), MOST) {
-        Some(q) => q,
-        None => divided(z, by),
-    }
+    let size = z.unsigned_abs() / by;
+    turned(z, size as i64)
 }
 
 /// Minus a number.
@@ -88,7 +98,6 @@ fn write_sides(sides: &mut [i64], table: &Swept, i: usize, first: usize, by: u64
     requires row { i < table.now.rows }
     requires columns { first + (length sides.old + 1) ≤ table.now.columns }
     requires positive { 0 < by }
-    requires by_small { by ≤ 2 ^ 62 }
     requires divides { DividesEach by (number_from table.now i first) (length sides.old + 1) }
     ensures size { length sides.new ≡ length sides.old }
     ensures sides { AreSides (number_from table.now i first) by sides.new }
@@ -106,7 +115,7 @@ fn write_row(sides: &mut [i64], table: &Swept, i: usize, first: usize) -> i64
     requires columns { first + (length sides.old + 1) ≤ table.now.columns }
     ensures { IsRowFrom (number_from table.now i first) (length sides.old) (record { a = sides.new; b = result }) }
 {
-    let shared = shared_divisor(table, i, first, sides.len() + 1);
+    let shared = row_divisor(table, i, first, sides.len());
     let by = shared.max(1);
     write_sides(sides, table, i, first, by);
     quotient(table.at(i, first), by)

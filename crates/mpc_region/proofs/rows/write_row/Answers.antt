@@ -7,11 +7,11 @@ use Rattle.mpc_region.proofs.SweptRows.{by_positive, by_same, by_divides}
 use Rattle.mpc_region.proofs.rows.write_row.Goals as goal
 use Rattle.mpc_region.proofs.rows.write_row.Goals.{After-max-by, After-at}
 
-shared : (c : After-max-by) → IsSharedBy (number_from c.args.table.now c.args.i c.args.first) (length c.args.sides.now + 1) c.shared_divisor-shared.result
-shared c = c.shared_divisor-shared.ensures.shared
+shared : (c : After-max-by) → IsSharedBy (number_from c.args.table.now c.args.i c.args.first) (length c.args.sides.now + 1) c.row_divisor-shared.result
+shared c = c.row_divisor-shared.ensures.shared
 
 divides : (c : After-max-by) → DividesEach c.max-by.result (number_from c.args.table.now c.args.i c.args.first) (length c.args.sides.now + 1)
-divides c = by_divides (number_from c.args.table.now c.args.i c.args.first) (length c.args.sides.now + 1) c.shared_divisor-shared.result c.max-by.result (shared c) c.max-by.ensures
+divides c = by_divides (number_from c.args.table.now c.args.i c.args.first) (length c.args.sides.now + 1) c.row_divisor-shared.result c.max-by.result (shared c) c.max-by.ensures
 
 read : (c : After-at) → to_z w64 (of_z w64 c.at.result) ≡ number_from c.args.table.now c.args.i c.args.first 0
 read c = read_number c.at.result (number_from c.args.table.now c.args.i c.args.first 0) (c.at.ensures ∙ ap (number c.args.table.now c.args.i) (omega arith))
@@ -31,10 +31,10 @@ returns c =
     let f = number_from c.args.table.now c.args.i c.args.first in
     record {
       by = c.max-by.result;
-      shared = c.shared_divisor-shared.result;
-      positive = by_positive f (length c.args.sides.now + 1) c.shared_divisor-shared.result c.max-by.result (shared at.After-max-by) c.max-by.ensures;
-      is_shared = subst (λ n. IsSharedBy f n c.shared_divisor-shared.result) (omega arith) (shared at.After-max-by);
-      same = by_same f (length c.args.sides.now + 1) c.shared_divisor-shared.result c.max-by.result (shared at.After-max-by) c.max-by.ensures;
+      shared = c.row_divisor-shared.result;
+      positive = by_positive f (length c.args.sides.now + 1) c.row_divisor-shared.result c.max-by.result (shared at.After-max-by) c.max-by.ensures;
+      is_shared = subst (λ n. IsSharedBy f n c.row_divisor-shared.result) (omega arith) (shared at.After-max-by);
+      same = by_same f (length c.args.sides.now + 1) c.row_divisor-shared.result c.max-by.result (shared at.After-max-by) c.max-by.ensures;
       size = c.write_sides.ensures.size;
       sides = c.write_sides.ensures.sides;
       bound = ap (λ q. q *ℤ pos c.max-by.result) (read_short c.quotient.result c.quotient.ensures.small) ∙ c.quotient.ensures.value ∙ read at.After-at;
