@@ -35,6 +35,64 @@ module _ (ps : List ℕ) (p : ℕ) where
   before_last : (t : Table) (k : ℕ) → k ≡ length ps → before t (ps ++ p ∷ []) k ≡ swept t ps
   before_last t k e = ap (swept t) (take_at ps (p ∷ []) k (sym e))
 
+-- one more row, whose number on the diagonal isn't 0, whatever its sweep leaves
+module _ (from : Swept) (p first : ℕ) (pivot : number from p p ≢ pos 0) (t : Table) (ps : List ℕ) (rows columns from_column : ℕ) (h : IsSwept t ps rows columns from_column from)
+    (p_row : p < rows) (p_column : p < columns) (at : from_column ≤ p) (behind : p < first) (above : (k : ℕ) → k < length ps → get_or ps k 0 < p) where
+  -- the last sweep, and those before it
+  split : (k : ℕ) → k < length (ps ++ p ∷ []) → (k < length ps) ⊎ (k ≡ length ps)
+  split k l = by (cases_lt k (length ps))
+    where
+      by : (k < length ps) ⊎ (length ps ≤ k) → (k < length ps) ⊎ (k ≡ length ps)
+      by (inl m) = inl m
+      by (inr m) = inr (let e = length-more ps p in omega arith)
+
+  row_of : (P : ℕ → Type 0) → P p → ((k : ℕ) → k < length ps → P (get_or ps k 0)) → (k : ℕ) → k < length (ps ++ p ∷ []) → P (get_or (ps ++ p ∷ []) k 0)
+  row_of P last kept k l = by (split k l)
+    where
+      by : (k < length ps) ⊎ (k ≡ length ps) → P (get_or (ps ++ p ∷ []) k 0)
+      by (inl m) = subst P (sym (pivot_kept ps p k m)) (kept k m)
+      by (inr e) = subst P (sym (pivot_last ps p k e)) last
+
+  rising_there : AreRising (ps ++ p ∷ [])
+  rising_there k l m n = by (split l n)
+    where
+      by : (l < length ps) ⊎ (l ≡ length ps) → pivot_at (ps ++ p ∷ []) k < pivot_at (ps ++ p ∷ []) l
+      by (inl b) = subst (λ u. u < pivot_at (ps ++ p ∷ []) l) (sym (pivot_kept ps p k (omega arith))) (subst (λ u. pivot_at ps k < u) (sym (pivot_kept ps p l b)) (h.rising k l m b))
+      by (inr e) = subst (λ u. u < pivot_at (ps ++ p ∷ []) l) (sym (pivot_kept ps p k (omega arith))) (subst (λ u. pivot_at ps k < u) (sym (pivot_last ps p l e)) (above k (omega arith)))
+
+  pivot_there : swept t ps p p ≢ int (pos 0)
+  pivot_there e = over_some (number from p p) from.den h.table.some_den pivot (sym (h.entries p p p_row at p_column) ∙ e)
+
+  pub pivots_there : HasPivots t (ps ++ p ∷ [])
+  pivots_there k l = by (split k l)
+    where
+      by : (k < length ps) ⊎ (k ≡ length ps) → before t (ps ++ p ∷ []) k (pivot_at (ps ++ p ∷ []) k) (pivot_at (ps ++ p ∷ []) k) ≢ int (pos 0)
+      by (inl m) = λ q. h.pivots k m ((λ x. sym (before_kept ps p t k m) x (sym (pivot_kept ps p k m) x) (sym (pivot_kept ps p k m) x)) ∙ q)
+      by (inr e) = λ q. pivot_there ((λ x. sym (before_last ps p t k e) x (sym (pivot_last ps p k e) x) (sym (pivot_last ps p k e) x)) ∙ q)
+
+  module _ (laws : OverTheorems) where
+    fits_there : (i j : ℕ) → i < rows → from_column ≤ j → j < columns → EntryFits p (swept t ps) i j
+    fits_there i j i_row in_front j_column =
+        entry_fits laws (swept t ps) p i j (number from p p) (number from p j) (number from i p) (number from i j) from.den h.table.some_den h.table.small_den pivot
+        (h.table.small.each (p * told_columns from + p)) (h.table.small.each (p * told_columns from + j)) (h.table.small.each (i * told_columns from + p)) (h.table.small.each (i * told_columns from + j))
+        (h.entries p p p_row at p_column) (h.entries p j p_row in_front j_column) (h.entries i p i_row at p_column) (h.entries i j i_row in_front j_column)
+
+    pub all_fit : SweepsFit t (ps ++ p ∷ []) rows columns first
+    all_fit k i j l i_row m next last j_column = by (split k l)
+      where
+        by : (k < length ps) ⊎ (k ≡ length ps) → EntryFits (pivot_at (ps ++ p ∷ []) k) (before t (ps ++ p ∷ []) k) i j
+        by (inl b) =
+            let ahead : pivot_at (ps ++ p ∷ []) (suc k) ≤ j = next (let e = length-more ps p in omega arith) in
+            subst (λ u. EntryFits u (before t (ps ++ p ∷ []) k) i j) (sym (pivot_kept ps p k b))
+            (subst (λ (u : Table). EntryFits (pivot_at ps k) u i j) (sym (before_kept ps p t k b))
+            (h.fits k i j b i_row (subst (λ u. u < j) (pivot_kept ps p k b) m)
+            (λ f. subst (λ u. u ≤ j) (pivot_kept ps p (suc k) f) ahead)
+            (λ f. le_trans at (subst (λ u. u ≤ j) (pivot_last ps p (suc k) f) ahead)) j_column))
+        by (inr e) =
+            let front : first ≤ j = last (let q = length-more ps p in omega arith) in
+            subst (λ u. EntryFits u (before t (ps ++ p ∷ []) k) i j) (sym (pivot_last ps p k e))
+            (subst (λ (u : Table). EntryFits p u i j) (sym (before_last ps p t k e)) (fits_there i j i_row (omega arith) j_column))
+
 -- what one sweep leaves in the other table
 pub record IsOnce (from out : Swept) (p first : ℕ) : Type 0 where
   pub rows : out.rows ≡ from.rows
@@ -78,12 +136,6 @@ module _ (laws : OverTheorems) (from out : Swept) (p first : ℕ) (o : IsTable f
     entry_there = h.entries
 
     module _ (i j : ℕ) (i_row : i < rows) (in_front : from_column ≤ j) (j_column : j < columns) where
-      fits_there : EntryFits p (swept t ps) i j
-      fits_there =
-          entry_fits laws (swept t ps) p i j (number from p p) (number from p j) (number from i p) (number from i j) from.den o.some_den o.small_den pivot
-          (o.small.each (p * told_columns from + p)) (o.small.each (p * told_columns from + j)) (o.small.each (i * told_columns from + p)) (o.small.each (i * told_columns from + j))
-          (h.entries p p p_row at p_column) (h.entries p j p_row in_front j_column) (h.entries i p i_row at p_column) (h.entries i j i_row in_front j_column)
-
       abbrev z : ℤ
       z = whole_cell (from.columns - first) out.numbers.items i j
 
@@ -105,54 +157,6 @@ module _ (laws : OverTheorems) (from out : Swept) (p first : ℕ) (o : IsTable f
         ∙ new_entry i j i_row (omega arith) m (w.swept.rows.numbers i j (row_in i i_row) l (let q = column_in j m in omega arith)) (cases_eq i p)
         ∙ (λ k. frac (whole_cell (sym told_there k) out.numbers.items i j) out.den)
 
-    -- the last sweep, and those before it
-    split : (k : ℕ) → k < length (ps ++ p ∷ []) → (k < length ps) ⊎ (k ≡ length ps)
-    split k l = by (cases_lt k (length ps))
-      where
-        by : (k < length ps) ⊎ (length ps ≤ k) → (k < length ps) ⊎ (k ≡ length ps)
-        by (inl m) = inl m
-        by (inr m) = inr (let e = length-more ps p in omega arith)
-
-    row_of : (P : ℕ → Type 0) → P p → ((k : ℕ) → k < length ps → P (get_or ps k 0)) → (k : ℕ) → k < length (ps ++ p ∷ []) → P (get_or (ps ++ p ∷ []) k 0)
-    row_of P last kept k l = by (split k l)
-      where
-        by : (k < length ps) ⊎ (k ≡ length ps) → P (get_or (ps ++ p ∷ []) k 0)
-        by (inl m) = subst P (sym (pivot_kept ps p k m)) (kept k m)
-        by (inr e) = subst P (sym (pivot_last ps p k e)) last
-
-    rising_there : AreRising (ps ++ p ∷ [])
-    rising_there k l m n = by (split l n)
-      where
-        by : (l < length ps) ⊎ (l ≡ length ps) → pivot_at (ps ++ p ∷ []) k < pivot_at (ps ++ p ∷ []) l
-        by (inl b) = subst (λ u. u < pivot_at (ps ++ p ∷ []) l) (sym (pivot_kept ps p k (omega arith))) (subst (λ u. pivot_at ps k < u) (sym (pivot_kept ps p l b)) (h.rising k l m b))
-        by (inr e) = subst (λ u. u < pivot_at (ps ++ p ∷ []) l) (sym (pivot_kept ps p k (omega arith))) (subst (λ u. pivot_at ps k < u) (sym (pivot_last ps p l e)) (above k (omega arith)))
-
-    pivot_there : swept t ps p p ≢ int (pos 0)
-    pivot_there e = over_some (number from p p) from.den o.some_den pivot (sym (h.entries p p p_row at p_column) ∙ e)
-
-    pivots_there : HasPivots t (ps ++ p ∷ [])
-    pivots_there k l = by (split k l)
-      where
-        by : (k < length ps) ⊎ (k ≡ length ps) → before t (ps ++ p ∷ []) k (pivot_at (ps ++ p ∷ []) k) (pivot_at (ps ++ p ∷ []) k) ≢ int (pos 0)
-        by (inl m) = λ q. h.pivots k m ((λ x. sym (before_kept ps p t k m) x (sym (pivot_kept ps p k m) x) (sym (pivot_kept ps p k m) x)) ∙ q)
-        by (inr e) = λ q. pivot_there ((λ x. sym (before_last ps p t k e) x (sym (pivot_last ps p k e) x) (sym (pivot_last ps p k e) x)) ∙ q)
-
-    all_fit : SweepsFit t (ps ++ p ∷ []) rows columns first
-    all_fit k i j l i_row m next last j_column = by (split k l)
-      where
-        by : (k < length ps) ⊎ (k ≡ length ps) → EntryFits (pivot_at (ps ++ p ∷ []) k) (before t (ps ++ p ∷ []) k) i j
-        by (inl b) =
-            let ahead : pivot_at (ps ++ p ∷ []) (suc k) ≤ j = next (let e = length-more ps p in omega arith) in
-            subst (λ u. EntryFits u (before t (ps ++ p ∷ []) k) i j) (sym (pivot_kept ps p k b))
-            (subst (λ (u : Table). EntryFits (pivot_at ps k) u i j) (sym (before_kept ps p t k b))
-            (h.fits k i j b i_row (subst (λ u. u < j) (pivot_kept ps p k b) m)
-            (λ f. subst (λ u. u ≤ j) (pivot_kept ps p (suc k) f) ahead)
-            (λ f. le_trans at (subst (λ u. u ≤ j) (pivot_last ps p (suc k) f) ahead)) j_column))
-        by (inr e) =
-            let front : first ≤ j = last (let q = length-more ps p in omega arith) in
-            subst (λ u. EntryFits u (before t (ps ++ p ∷ []) k) i j) (sym (pivot_last ps p k e))
-            (subst (λ (u : Table). EntryFits p u i j) (sym (before_last ps p t k e)) (fits_there i j i_row (omega arith) j_column))
-
     pub swept_once : IsSwept t (ps ++ p ∷ []) rows columns first out
     swept_once = record {
       rows_are = w.rows ∙ h.rows_are;
@@ -161,9 +165,9 @@ module _ (laws : OverTheorems) (from out : Swept) (p first : ℕ) (o : IsTable f
       table = table_there;
       whole = h.whole;
       entries = entries_there;
-      rising = rising_there;
-      within = row_of (λ u. u < rows) p_row h.within;
-      columns_within = row_of (λ u. u < columns) p_column h.columns_within;
-      pivots = pivots_there;
-      fits = all_fit;
+      rising = rising_there from p first pivot t ps rows columns from_column h p_row p_column at behind above;
+      within = row_of from p first pivot t ps rows columns from_column h p_row p_column at behind above (λ u. u < rows) p_row h.within;
+      columns_within = row_of from p first pivot t ps rows columns from_column h p_row p_column at behind above (λ u. u < columns) p_column h.columns_within;
+      pivots = pivots_there from p first pivot t ps rows columns from_column h p_row p_column at behind above;
+      fits = all_fit from p first pivot t ps rows columns from_column h p_row p_column at behind above laws;
     }

@@ -1,5 +1,5 @@
 -- What a swept table says of the systems of its parts.
-use Rattle.std.specs.Prelude.{◌≡◌, ◌≢◌, ℕ, suc, ◌+◌, ◌<◌, List, length, take, pos}
+use Rattle.std.specs.Prelude.{◌≡◌, ◌≢◌, ℕ, suc, ◌+◌, ◌<◌, ◌≤◌, ◌++◌, ◌∷◌, [], List, length, take, pos}
 use Rattle.mpc_exact.specs.Rational.{int, ◌*ℚ◌, ◌-ℚ◌}
 use Rattle.mpc_space.specs.Matrix.{RationalMatrix, entry}
 use Rattle.mpc_space.specs.Total.{total}
@@ -7,6 +7,8 @@ use Rattle.mpc_linear.specs.Elimination.{Table}
 use Rattle.mpc_linear.specs.Shape.{HasShape}
 use Rattle.mpc_linear.specs.Solution.{IsAnswer, FitsTo}
 use Rattle.mpc_linear.specs.declared.elimination.Solved.TheVariants.{Unique, Dependent}
+use Rattle.mpc_sweep.specs.declared.numbers.Swept.{Swept}
+use Rattle.mpc_sweep.specs.Numbers.{number, IsSwept}
 use Rattle.mpc_sweep.specs.Sweeps.{swept, pivot_at, HasPivots, AreRising, SweepsFit}
 
 -- m X = rhs has the rows and the columns of the table with these numbers, and so many columns from this one on as right sides
@@ -42,3 +44,9 @@ PartIsDependent = (t : Table) (ps : List ℕ) (rows first count k : ℕ) (m rhs 
 abbrev pub RowIsReduced : Type 0
 RowIsReduced = (t : Table) (ps : List ℕ) (i j : ℕ) → AreRising ps → HasPivots t ps → ((k : ℕ) → k < length ps → i ≢ pivot_at ps k)
     → swept t ps i j ≡ t i j -ℚ total (length ps) (λ k. t i (pivot_at ps k) *ℚ swept t ps (pivot_at ps k) j)
+
+-- a row behind those that are swept, whose number on the diagonal isn't 0, can be swept next, and all numbers of its sweep fit, in the columns
+-- from any one behind it on
+abbrev pub NextSweepFits : Type 0
+NextSweepFits = (t : Table) (ps : List ℕ) (rows columns from first p : ℕ) (s : Swept) → IsSwept t ps rows columns from s → p < rows → p < columns → from ≤ p → p < first → ((k : ℕ) → k < length ps → pivot_at ps k < p) → number s p p ≢ pos 0
+    → HasPivots t (ps ++ p ∷ []) × SweepsFit t (ps ++ p ∷ []) rows columns first
