@@ -22,7 +22,7 @@ use Rattle.mpc_sweep.specs.Numbers.{number}
 use Rattle.mpc_sweep.specs.Theorems.{PartIsSolved, PartIsDependent, IsSolutionOf}
 use Rattle.mpc_region.specs.LawEnd.{IsLawOfSet}
 use Rattle.mpc_region.specs.Shared.{shared_entry}
-use Rattle.mpc_region.specs.Sweeps.{sweeps_of, rights, IsTableOf, swept_law}
+use Rattle.mpc_region.specs.Sweeps.{sweeps_of, rights, all_columns, IsTableOf, swept_law}
 use Rattle.mpc_region.proofs.LawEnds.{found, dependent}
 use Rattle.mpc_region.proofs.LawForms.{law_is}
 use Rattle.mpc_region.proofs.SweptParts.{sweeps_size, first_sweep, later_sweep, are_rows, is_part_of}
@@ -60,7 +60,7 @@ module _ (qp : Qp) (s : List ℕ) (set : IsSetOfRows (height qp.g) s) where
   solution : RationalMatrix
   solution = tabled (n + length s) w shown
 
-  module _ (solved : PartIsSolved) (table : Swept) (is : IsTableOf qp s (rights qp) table) where
+  module _ (solved : PartIsSolved) (pivots : HasPivots (shared_entry qp) ps) (fit : SweepsFit (shared_entry qp) ps (rights qp) (all_columns qp) (rights qp)) where
     is_solution : IsSolutionOf (shared_entry qp) ps (rights qp) w solution
     unfolding solution
     is_solution = record {
@@ -73,7 +73,7 @@ module _ (qp : Qp) (s : List ℕ) (set : IsSetOfRows (height qp.g) s) where
     }
 
     solves : IsAnswer (law_matrix qp s) (law_right qp s) (Unique solution) × FitsTo (law_matrix qp s) (law_right qp s) (Unique solution)
-    solves = solved (shared_entry qp) ps (rights qp) (rights qp) w (law_matrix qp s) (law_right qp s) solution (are_rows qp s set) (is_part_of qp s set) is.pivots is.fits is_solution
+    solves = solved (shared_entry qp) ps (rights qp) (rights qp) w (law_matrix qp s) (law_right qp s) solution (are_rows qp s set) (is_part_of qp s set) pivots fit is_solution
 
     moves_are : tabled n w (λ i j. swept (shared_entry qp) ps i (rights qp + j)) ≡ tabled n solution.columns (λ i j. entry solution (0 + i) j)
     unfolding solution

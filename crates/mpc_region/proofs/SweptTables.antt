@@ -1,5 +1,5 @@
 -- The swept tables of a set's beginnings: one more sweep gives the table of one more member.
-use Rattle.std.proofs.Common.{◌≡◌, ℕ, zero, suc, ◌+◌, ◌-◌, ◌<◌, ◌≤◌, List, [], ◌∷◌, ◌++◌, length, get_or, set, take, sym, ◌∙◌, ap, subst, arith, ⊎_elim}
+use Rattle.std.proofs.Common.{◌≡◌, ◌≢◌, ℕ, pos, zero, suc, ◌+◌, ◌-◌, ◌<◌, ◌≤◌, List, [], ◌∷◌, ◌++◌, length, get_or, set, take, sym, ◌∙◌, ap, subst, arith, ⊎_elim}
 use Rattle.std.proofs.lemmas.Bool.{cases_lt, cases_eq}
 use Rattle.std.proofs.lemmas.List.{append-nil, length-append, length-set, length-take-le, take-take, take_all, nil_from_length, get_or-take, get_or-set_same, get_or-set_other, get_or_append_left}
 use Rattle.std.proofs.lemmas.List.FromFn.{length-range_with_len, get_or-range_with_len}
@@ -9,8 +9,9 @@ use Rattle.mpc_sets.specs.RowSet.{IsSetOfRows}
 use Rattle.mpc_linear.specs.Elimination.{Table}
 use Rattle.mpc_rows.specs.declared.programs.Qp.{Qp}
 use Rattle.mpc_sweep.specs.declared.numbers.Swept.{Swept}
-use Rattle.mpc_sweep.specs.Sweeps.{swept}
-use Rattle.mpc_sweep.specs.Numbers.{IsSwept, IsTable}
+use Rattle.mpc_sweep.specs.Sweeps.{swept, HasPivots, SweepsFit}
+use Rattle.mpc_sweep.specs.Numbers.{number, IsSwept, IsTable}
+use Rattle.mpc_sweep.specs.Theorems.{NextSweepFits}
 use Rattle.mpc_region.specs.Shared.{shared_entry, shared_table}
 use Rattle.mpc_region.specs.Sweeps.{sweeps_of, rights, all_columns, IsTableOf}
 use Rattle.mpc_region.specs.SweptSets.{IsBehind, IsTableOfFirst, AreTables}
@@ -161,6 +162,16 @@ module _ (qp : Qp) where
           let q = (member (height qp.g) s of_rows (i - n) (omega arith)).0 in
           omega (arith, ap (λ i. get_or (sweeps_of qp (take k s)) i 0) e, later_sweep qp (take k s) (i - n) c, get_or-take k s (i - n) 0 b, at))
           (cases_lt i n)
+
+      -- where its number on the diagonal isn't 0, and it is the last one, all numbers fit, whatever the sweep leaves
+      module _ (next : NextSweepFits) (last : length s ≡ k + 1) (some : number table p p ≢ pos 0) where
+        all_sweeps : sweeps_of qp (take k s) ++ p ∷ [] ≡ sweeps_of qp s
+        all_sweeps = ap (λ p. sweeps_of qp (take k s) ++ p ∷ []) at ∙ more_sweeps qp s k in_set ∙ ap (sweeps_of qp) (take_all (k + 1) s (omega arith))
+
+        pub last_fits : HasPivots (shared_entry qp) (sweeps_of qp s) × SweepsFit (shared_entry qp) (sweeps_of qp s) (rights qp) (all_columns qp) (rights qp)
+        last_fits =
+            subst (λ ps. HasPivots (shared_entry qp) ps × SweepsFit (shared_entry qp) ps (rights qp) (all_columns qp) (rights qp)) all_sweeps
+            (next (shared_entry qp) (sweeps_of qp (take k s)) (rights qp) (all_columns qp) p (rights qp) p table before pivot_within (let a = pivot_within in omega arith) (omega arith) pivot_within rows_below some)
 
       module _ (first : ℕ) (further : p < first) (out : Swept)
           (sweeps : (t : Table) (ps : List ℕ) (rows columns from : ℕ) → IsSwept t ps rows columns from table → from ≤ p → p < first → ((i : ℕ) → i < length ps → get_or ps i 0 < p) → IsSwept t (ps ++ p ∷ []) rows columns first out) where

@@ -6,7 +6,7 @@ use Rattle.mpc_rows.specs.ActiveSets.{IsIndependentSet}
 use Rattle.mpc_rows.specs.SetRuns.{LawFits}
 use Rattle.mpc_sweep.specs.declared.numbers.Swept.{Swept}
 use Rattle.mpc_region.specs.LawEnd.{IsLawOfSet}
-use Rattle.mpc_region.specs.Sweeps.{IsTableOf, rights, swept_law}
+use Rattle.mpc_region.specs.Sweeps.{IsTableOf, swept_law}
 use Rattle.mpc_region.specs.declared.sweeps.Sweeps.{Sweeps}
 use Rattle.mpc_region.specs.declared.sweeps.SweptEnd.{SweptEnd}
 use Rattle.mpc_region.specs.declared.sweeps.SweptEnd.TheVariants.{Dependent, Law}
@@ -29,12 +29,7 @@ pub record AreTables (qp : Qp) (s : List ℕ) (count : ℕ) (tables : List Swept
 abbrev pub AreSweeps : Qp → Sweeps → Type 0
 AreSweeps qp sweeps = AreTables qp sweeps.set sweeps.count sweeps.tables.items
 
--- the table of the whole set stands in its place: the first one for the set without members
-pub record IsShown (qp : Qp) (s : List ℕ) (sweeps : Sweeps) : Type 0 where
-  pub first : length s ≤ 0 → 0 < sweeps.count
-  pub last : 0 < length s → IsTableOf qp s (rights qp) sweeps.last
-
 -- how the search for a law ends, by the tables
-abbrev pub IsSweptEnd : Qp → List ℕ → Sweeps → SweptEnd → Type 0
-IsSweptEnd qp s sweeps Dependent = (¬ IsIndependentSet qp s) × LawFits qp s
-IsSweptEnd qp s sweeps Law = IsShown qp s sweeps × IsLawOfSet qp s (swept_law qp s)
+abbrev pub IsSweptEnd : Qp → List ℕ → SweptEnd → Type 0
+IsSweptEnd qp s Dependent = (¬ IsIndependentSet qp s) × LawFits qp s
+IsSweptEnd qp s Law = IsLawOfSet qp s (swept_law qp s)

@@ -9,7 +9,7 @@ ghost use Rattle.mpc_linear.specs.Elimination.{Table};
 ghost use Rattle.mpc_rows.specs.declared.programs.Qp.{Qp};
 ghost use Rattle.mpc_sweep.specs.Numbers.{IsSwept, IsTable};
 ghost use Rattle.mpc_region.specs.Shared.{shared_entry};
-ghost use Rattle.mpc_region.specs.Sweeps.{rights, all_columns};
+ghost use Rattle.mpc_region.specs.Sweeps.{rights, all_columns, IsTableOf};
 ghost use Rattle.mpc_region.specs.SweptSets.{AreSweeps, IsSweptEnd};
 
 use crate::kept::shared_members;
@@ -32,7 +32,7 @@ pub struct Sweeps {
     pub tables: Vec<Swept>,
     /// How many tables there are: none where whole numbers don't serve.
     pub count: usize,
-    /// The table of the whole set, in the right sides.
+    /// The table of the whole set, in the right sides, once it is formed.
     pub last: Swept,
     /// The rows of the last law.
     pub lines: LawLines,
@@ -43,7 +43,7 @@ pub struct Sweeps {
 pub enum SweptEnd {
     /// The set's rows are dependent.
     Dependent,
-    /// There is a law, and the table of the whole set shows it.
+    /// There is a law. The table of the whole set would show it.
     Law,
 }
 
@@ -201,31 +201,44 @@ fn turn_to(alloc: Global, qp: &Qp, sweeps: &mut Sweeps, set: ActiveSet) -> Resul
     Ok(())
 }
 
-/// What the sweep at the set's last member tells, by the table of those before it.
-fn last_end(alloc: Global, qp: &Qp, sweeps: &mut Sweeps) -> Result<Option<SweptEnd>, NoMemory>
+/// What the number of the set's last member on the diagonal tells, in the table of those before it.
+fn last_end(qp: &Qp, sweeps: &Sweeps) -> SweptEnd
     requires definite { IsDefinite qp.now.h.rows }
-    requires sweeps { AreSweeps qp.now sweeps.old }
-    requires set_of_rows { IsSetOfRows (height qp.now.g) sweeps.old.set }
-    requires few { length sweeps.old.set ≤ height qp.now.h }
-    requires some { 0 < length sweeps.old.set }
-    requires served { length sweeps.old.set ≤ sweeps.old.count }
-    ensures sweeps { AreSweeps qp.now sweeps.new }
-    ensures set { sweeps.new.set ≡ sweeps.old.set }
-    ensures end { IfOk result (λ o. IfSome o (IsSweptEnd qp.now sweeps.old.set sweeps.new)) }
+    requires sweeps { AreSweeps qp.now sweeps.now }
+    requires set_of_rows { IsSetOfRows (height qp.now.g) sweeps.now.set }
+    requires few { length sweeps.now.set ≤ height qp.now.h }
+    requires some { 0 < length sweeps.now.set }
+    requires served { length sweeps.now.set ≤ sweeps.now.count }
+    ensures { IsSweptEnd qp.now sweeps.now.set result }
 {
     sweep_theorems();
     let size = sweeps.set.size();
     let p = member_place(qp, sweeps.set, size);
     let before = &sweeps.tables[size as usize - 1];
     if before.at(p, p) == 0 {
-        return Ok(Some(SweptEnd::Dependent));
+        return SweptEnd::Dependent;
     }
+    SweptEnd::Law
+}
+
+/// Forms the table of a whole set that has members, in the right sides. It is `false` where whole numbers don't serve.
+pub fn last_table(qp: &Qp, sweeps: &mut Sweeps) -> Result<bool, NoMemory>
+    requires sweeps { AreSweeps qp.now sweeps.old }
+    requires set_of_rows { IsSetOfRows (height qp.now.g) sweeps.old.set }
+    requires some { 0 < length sweeps.old.set }
+    requires served { length sweeps.old.set ≤ sweeps.old.count }
+    ensures sweeps { AreSweeps qp.now sweeps.new }
+    ensures table { IfOk result (λ done. IsTrue done → IsTableOf qp.now sweeps.old.set (rights qp.now) sweeps.new.last) }
+{
+    let size = sweeps.set.size();
+    let p = member_place(qp, sweeps.set, size);
     let first = (qp.h.rows() + qp.g.rows()) as usize;
-    if before.sweep(&mut sweeps.last, p, first)? {
-        Ok(Some(SweptEnd::Law))
-    } else {
-        Ok(None)
-    }
+    sweep_into(
+        &sweeps.tables[size as usize - 1],
+        &mut sweeps.last,
+        p,
+        first,
+    )
 }
 
 /// What the tables tell of the law of an active set. Nothing where whole numbers don't serve.
@@ -240,7 +253,10 @@ pub fn swept_end(
     requires set_of_rows { IsSetOfRows (height qp.now.g) set }
     requires few { length set ≤ height qp.now.h }
     ensures sweeps { AreSweeps qp.now sweeps.new }
-    ensures end { IfOk result (λ o. IfSome o (IsSweptEnd qp.now set sweeps.new)) }
+    ensures set { sweeps.new.set ≡ set }
+    ensures some { IfOk result (λ o. IfSome o (λ _. 0 < sweeps.new.count)) }
+    ensures served { IfOk result (λ o. IfSome o (λ _. length set ≤ sweeps.new.count)) }
+    ensures end { IfOk result (λ o. IfSome o (IsSweptEnd qp.now set)) }
 {
     sweep_theorems();
     turn_to(alloc, qp, sweeps, set)?;
@@ -251,5 +267,5 @@ pub fn swept_end(
     if size == 0 {
         return Ok(Some(SweptEnd::Law));
     }
-    last_end(alloc, qp, sweeps)
+    Ok(Some(last_end(qp, sweeps)))
 }

@@ -1,6 +1,6 @@
 //! The verdict on one active set.
 
-ghost use Rattle.std.specs.Prelude.{◌≡◌, ◌≤◌, IfOk, length};
+ghost use Rattle.std.specs.Prelude.{◌≡◌, ◌<◌, ◌≤◌, IfOk, length};
 ghost use Rattle.mpc_space.specs.Definite.{IsDefinite};
 ghost use Rattle.mpc_space.specs.Matrix.{height};
 ghost use Rattle.mpc_sets.specs.RowSet.{IsSetOfRows};
@@ -13,7 +13,7 @@ ghost use Rattle.mpc_region.specs.Kept.{IsKept};
 ghost use Rattle.mpc_region.specs.LawEnd.{IsLawOfSet};
 ghost use Rattle.mpc_region.specs.Shared.{IsSharedBySets};
 ghost use Rattle.mpc_region.specs.Sweeps.{IsTableOf, rights, swept_law};
-ghost use Rattle.mpc_region.specs.SweptSets.{AreSweeps, IsShown};
+ghost use Rattle.mpc_region.specs.SweptSets.{AreSweeps};
 ghost use Rattle.mpc_systems.specs.Writing.{AreOfSize};
 
 use crate::kept::Kept;
@@ -22,7 +22,7 @@ use crate::reach::is_reachable;
 use crate::region::{has_region_anew, law_rows, meets_box, rows_meet_box};
 use crate::rows::{LawLines, fill_rows, law_of_table};
 use crate::shared::Shared;
-use crate::sweeps::{Sweeps, SweptEnd, swept_end};
+use crate::sweeps::{Sweeps, SweptEnd, last_table, swept_end};
 use mpc_frac::NoMemory;
 use mpc_linear::{LinearError, RowInt};
 use mpc_rows::{Law, Place, Qp, Verdict, law_theorems, region_theorems};
@@ -176,51 +176,94 @@ fn by_table(
     }
 }
 
-/// The verdict on a set that can grow, by the table of the whole set.
-fn by_shown(
+/// The verdict on a set that can grow, by an elimination of its equations in fractions, which gives its law.
+fn by_law_anew(
     alloc: Global,
     qp: &Qp,
-    sweeps: &mut Sweeps,
+    shared: &mut Shared,
     kept: &mut Kept,
     set: ActiveSet,
 ) -> Result<Verdict, NoMemory>
-    requires sweeps { AreSweeps qp.now sweeps.old }
+    requires definite { IsDefinite qp.now.h.rows }
+    requires shared { IsSharedBySets qp.now shared.old }
     requires set_of_rows { IsSetOfRows (height qp.now.g) set }
-    requires shown { IsShown qp.now set sweeps.old }
+    requires few { length set ≤ height qp.now.h }
+    requires grows { CanGrow qp.now set }
+    requires reach_fits { ReachFits qp.now set }
+    requires kept { IsKept qp.now kept.old }
+    ensures shared { IsSharedBySets qp.now shared.new }
+    ensures kept { IsKept qp.now kept.new }
+    ensures right { IfOk result (IsRight qp.now set) }
+{
+    match law_of(alloc, qp, shared, set)? {
+        LawEnd::Found(law) => by_law(alloc, qp, kept, law),
+        LawEnd::Dependent => unreachable!(),
+        LawEnd::Wide => unreachable!(),
+    }
+}
+
+/// The verdict on a set that can grow, by the table of the whole set, and where whole numbers don't serve for that, in fractions.
+fn by_whole_table(
+    alloc: Global,
+    qp: &Qp,
+    sweeps: &mut Sweeps,
+    shared: &mut Shared,
+    kept: &mut Kept,
+    set: ActiveSet,
+) -> Result<Verdict, NoMemory>
+    requires definite { IsDefinite qp.now.h.rows }
+    requires sweeps { AreSweeps qp.now sweeps.old }
+    requires shared { IsSharedBySets qp.now shared.old }
+    requires set_of_rows { IsSetOfRows (height qp.now.g) set }
+    requires few { length set ≤ height qp.now.h }
+    requires set { sweeps.old.set ≡ set }
+    requires some { 0 < sweeps.old.count }
+    requires served { length set ≤ sweeps.old.count }
     requires law { IsLaw qp.now (swept_law qp.now set) }
     requires grows { CanGrow qp.now set }
     requires reach_fits { ReachFits qp.now set }
     requires kept { IsKept qp.now kept.old }
     ensures sweeps { AreSweeps qp.now sweeps.new }
+    ensures shared { IsSharedBySets qp.now shared.new }
     ensures kept { IsKept qp.now kept.new }
     ensures right { IfOk result (IsRight qp.now set) }
 {
     if set.size() == 0 {
-        by_table(alloc, qp, &sweeps.tables[0], &mut sweeps.lines, kept, set)
-    } else {
+        return by_table(alloc, qp, &sweeps.tables[0], &mut sweeps.lines, kept, set);
+    }
+    if last_table(qp, sweeps)? {
         by_table(alloc, qp, &sweeps.last, &mut sweeps.lines, kept, set)
+    } else {
+        by_law_anew(alloc, qp, shared, kept, set)
     }
 }
 
-/// The verdict on an independent set, by the tables that show its law.
+/// The verdict on an independent set whose law the tables show. Its own table is formed only if the set can be reached.
 fn by_tables(
     alloc: Global,
     qp: &Qp,
     sweeps: &mut Sweeps,
+    shared: &mut Shared,
     kept: &mut Kept,
     set: ActiveSet,
 ) -> Result<Verdict, NoMemory>
+    requires definite { IsDefinite qp.now.h.rows }
     requires sweeps { AreSweeps qp.now sweeps.old }
+    requires shared { IsSharedBySets qp.now shared.old }
     requires set_of_rows { IsSetOfRows (height qp.now.g) set }
-    requires shown { IsShown qp.now set sweeps.old }
+    requires few { length set ≤ height qp.now.h }
+    requires set { sweeps.old.set ≡ set }
+    requires some { 0 < sweeps.old.count }
+    requires served { length set ≤ sweeps.old.count }
     requires law { IsLawOfSet qp.now set (swept_law qp.now set) }
     requires kept { IsKept qp.now kept.old }
     ensures sweeps { AreSweeps qp.now sweeps.new }
+    ensures shared { IsSharedBySets qp.now shared.new }
     ensures kept { IsKept qp.now kept.new }
     ensures right { IfOk result (IsRight qp.now set) }
 {
     match is_reachable(alloc, qp, kept, set) {
-        Ok(true) => by_shown(alloc, qp, sweeps, kept, set),
+        Ok(true) => by_whole_table(alloc, qp, sweeps, shared, kept, set),
         Ok(false) => Ok(Verdict::Unreachable),
         Err(SimplexError::Wide) => Ok(Verdict::Wide(Place::Reach(set))),
         Err(SimplexError::NoMemory) => Err(NoMemory),
@@ -250,7 +293,7 @@ pub fn verdict_on(
 {
     match swept_end(alloc, qp, sweeps, set)? {
         Some(SweptEnd::Dependent) => Ok(Verdict::Dependent),
-        Some(SweptEnd::Law) => by_tables(alloc, qp, sweeps, kept, set),
+        Some(SweptEnd::Law) => by_tables(alloc, qp, sweeps, shared, kept, set),
         None => by_fractions(alloc, qp, shared, kept, set),
     }
 }
