@@ -11,6 +11,7 @@ pub mod Joining
 pub mod PieceLemmas
 pub mod Sides
 pub mod BorderLists
+pub mod WholeRows
 pub mod Built
 pub mod OneCell
 pub mod WideCells

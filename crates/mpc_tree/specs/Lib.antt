@@ -11,3 +11,4 @@ pub mod Joins
 pub mod Pieces
 pub mod Causes
 pub mod Certified
+pub mod WholeRows

@@ -6,10 +6,11 @@ ghost use Rattle.mpc_rows.specs.LawRows.{whole_row};
 ghost use Rattle.mpc_rows.specs.Laws.{IsLaw};
 ghost use Rattle.mpc_rows.specs.SetRuns.{LawRowsFit};
 ghost use Rattle.mpc_tree.specs.Borders.{IsBorder, AreBorders};
+ghost use Rattle.mpc_tree.specs.WholeRows.{AreRowNumbers};
 
+use crate::rows::{RowNumbers, row_numbers, rows_of};
 use mpc_frac::NoMemory;
-use mpc_linear::{LinearError, RowInt};
-use mpc_region::law_rows;
+use mpc_linear::RowInt;
 use mpc_rows::{Law, LawTable, Qp};
 use mpc_whole::WholeSystem;
 use std::alloc::Global;
@@ -69,16 +70,41 @@ impl Border {
 }
 
 /// The rows of a law of which none is too wide.
-fn border_of(alloc: Global, qp: &Qp, law: &Law) -> Result<Border, NoMemory>
+fn border_of(
+    alloc: Global,
+    qp: &Qp,
+    law: &Law,
+    numbers: &Option<RowNumbers>,
+) -> Result<Border, NoMemory>
     requires is_law { IsLaw qp.now law.now }
     requires fits { LawRowsFit qp.now law.now (height qp.now.g) }
+    requires numbers { IfSome numbers.now (AreRowNumbers qp.now) }
     ensures { IfOk result (λ rows. IsBorder qp.now law.now rows) }
 {
-    match law_rows(alloc, qp, law) {
-        Ok(rows) => Border::of(alloc, qp.counts.len() as u32, rows),
-        Err(LinearError::Wide(_)) => unreachable!(),
-        Err(LinearError::NoMemory) => Err(NoMemory),
+    let rows = rows_of(alloc, qp, law, numbers)?;
+    Border::of(alloc, qp.counts.len() as u32, rows)
+}
+
+/// The rows of all laws, from the numbers of the program's rows where they serve.
+fn borders_from(
+    alloc: Global,
+    qp: &Qp,
+    laws: &LawTable,
+    numbers: &Option<RowNumbers>,
+) -> Result<Vec<Border>, NoMemory>
+    requires are_laws { All (IsLaw qp.now) laws.now }
+    requires fits { All (λ law. LawRowsFit qp.now law (height qp.now.g)) laws.now }
+    requires numbers { IfSome numbers.now (AreRowNumbers qp.now) }
+    ensures { IfOk result (λ borders. AreBorders qp.now laws.now borders.items) }
+{
+    let mut borders = Vec::new(alloc);
+    for i in 0..laws.len() {
+        let rows = border_of(alloc, qp, laws.at(i), numbers)?;
+        let Ok(()) = borders.push(rows) else {
+            return Err(NoMemory);
+        };
     }
+    Ok(borders)
 }
 
 /// The rows of all laws.
@@ -87,12 +113,6 @@ pub fn all_borders(alloc: Global, qp: &Qp, laws: &LawTable) -> Result<Vec<Border
     requires fits { All (λ law. LawRowsFit qp.now law (height qp.now.g)) laws.now }
     ensures { IfOk result (λ borders. AreBorders qp.now laws.now borders.items) }
 {
-    let mut borders = Vec::new(alloc);
-    for i in 0..laws.len() {
-        let rows = border_of(alloc, qp, laws.at(i))?;
-        let Ok(()) = borders.push(rows) else {
-            return Err(NoMemory);
-        };
-    }
-    Ok(borders)
+    let numbers = row_numbers(alloc, qp)?;
+    borders_from(alloc, qp, laws, &numbers)
 }

@@ -20,6 +20,7 @@ mod frontier;
 mod growth;
 mod nodes;
 mod refusals;
+mod rows;
 mod runs;
 mod theorems;
 mod threads;

@@ -1,0 +1,318 @@
+//! The rows of a law, formed in whole numbers where these are small.
+
+ghost use Rattle.std.specs.Prelude.{◌≡◌, ℤ, pos, ◌+◌, ◌<◌, ◌≤◌, ◌^◌, ◌+ℤ◌, ◌*ℤ◌, neg_ℤ, unsigned_abs, IfOk, IfSome, length};
+ghost use Rattle.mpc_exact.specs.Rational.{int, ◌*ℚ◌};
+ghost use Rattle.mpc_space.specs.Matrix.{height};
+ghost use Rattle.mpc_space.specs.Total.{total};
+ghost use Rattle.mpc_rows.specs.Laws.{HasLawShape};
+ghost use Rattle.mpc_rows.specs.LawRows.{AreLawRows, LawRowFits};
+ghost use Rattle.mpc_rows.specs.SetRuns.{LawRowsFit};
+ghost use Rattle.mpc_sweep.specs.Numbers.{IsTable, number};
+ghost use Rattle.mpc_systems.specs.Writing.{AreOfSize};
+ghost use Rattle.mpc_tree.specs.WholeRows.{AreRowNumbers, AreLawNumbers, IsExcess, AreExcesses, IsPlainRow};
+
+use mpc_frac::{Frac, NoMemory};
+use mpc_linear::{LinearError, RowInt, Vector, primitive};
+use mpc_region::law_rows;
+use mpc_rows::{Law, Qp, law_row, law_theorems};
+use mpc_sweep::Swept;
+use std::alloc::Global;
+
+/// The rows `g z <= w c` of a program in whole numbers, g and w over one denominator each.
+#[derive(Drop)]
+pub struct RowNumbers {
+    g: Swept,
+    w: Swept,
+}
+
+/// The unknowns of a law in whole numbers over one denominator, and minus its product with that of g.
+#[derive(Drop)]
+pub struct LawNumbers {
+    moves: Swept,
+    against: i64,
+}
+
+/// The product of small numbers, which fits twice the width.
+#[inline]
+fn product(x: i64, y: i64) -> i128
+    requires x_small { unsigned_abs x ≤ 2 ^ 62 }
+    requires y_small { unsigned_abs y ≤ 2 ^ 62 }
+    ensures value { result ≡ x *ℤ y }
+    ensures small { unsigned_abs result ≤ 2 ^ 124 }
+{
+    x as i128 * y as i128
+}
+
+/// A number that is small, in half the width.
+#[inline]
+fn narrow(z: i128) -> i64
+    requires { unsigned_abs z ≤ 2 ^ 62 }
+    ensures { result ≡ z }
+{
+    z as i64
+}
+
+/// The sum of two numbers, where it is small.
+#[inline]
+fn small_sum(x: i64, y: i128) -> Option<i64>
+    requires y_small { unsigned_abs y ≤ 2 ^ 124 }
+    ensures value { IfSome result (λ z. z ≡ x +ℤ y) }
+    ensures small { IfSome result (λ z. unsigned_abs z ≤ 2 ^ 62) }
+{
+    let sum = x as i128 + y;
+    if sum.unsigned_abs() <= 1 << 62 {
+        Some(narrow(sum))
+    } else {
+        None
+    }
+}
+
+/// `sum + x y`, where that is small.
+#[inline]
+fn with_product(sum: i64, x: i64, y: i64) -> Option<i64>
+    requires x_small { unsigned_abs x ≤ 2 ^ 62 }
+    requires y_small { unsigned_abs y ≤ 2 ^ 62 }
+    ensures value { IfSome result (λ z. z ≡ sum +ℤ (x *ℤ y)) }
+    ensures small { IfSome result (λ z. unsigned_abs z ≤ 2 ^ 62) }
+{
+    small_sum(sum, product(x, y))
+}
+
+/// A denominator as a number with a sign.
+#[inline]
+fn signed(n: u64) -> i64
+    requires { n ≤ 2 ^ 62 }
+    ensures value { result ≡ pos n }
+    ensures small { unsigned_abs result ≤ 2 ^ 62 }
+{
+    n as i64
+}
+
+/// Minus a number.
+#[inline]
+fn negative(z: i64) -> i64
+    requires { unsigned_abs z ≤ 2 ^ 62 }
+    ensures value { result ≡ neg_ℤ z }
+    ensures small { unsigned_abs result ≤ 2 ^ 62 }
+{
+    -z
+}
+
+/// The numbers of a program's rows, where they are small.
+pub fn row_numbers(alloc: Global, qp: &Qp) -> Result<Option<RowNumbers>, NoMemory>
+    ensures { IfOk result (λ o. IfSome o (AreRowNumbers qp.now)) }
+{
+    let Some(g) = Swept::read(alloc, &qp.g)? else {
+        return Ok(None);
+    };
+    let Some(w) = Swept::read(alloc, &qp.w)? else {
+        return Ok(None);
+    };
+    Ok(Some(RowNumbers { g, w }))
+}
+
+/// The numbers of a law's unknowns, where they are small.
+fn law_numbers(
+    alloc: Global,
+    law: &Law,
+    numbers: &RowNumbers,
+) -> Result<Option<LawNumbers>, NoMemory>
+    requires { IsTable numbers.now.g }
+    ensures { IfOk result (λ o. IfSome o (AreLawNumbers law.now numbers.now)) }
+{
+    let Some(moves) = Swept::read(alloc, &law.moves)? else {
+        return Ok(None);
+    };
+    match with_product(0, signed(numbers.g.den()), negative(signed(moves.den()))) {
+        Some(against) => Ok(Some(LawNumbers { moves, against })),
+        None => Ok(None),
+    }
+}
+
+/// The sum of so many products of the numbers of row i of g and those of column j of a law's unknowns, where it is small.
+fn sum_of_products(g: &Swept, moves: &Swept, count: usize, i: usize, j: usize) -> Option<i64>
+    requires left { IsTable g.now }
+    requires right { IsTable moves.now }
+    requires row { i < g.now.rows }
+    requires column { j < moves.now.columns }
+    requires within_left { count ≤ g.now.columns }
+    requires within_right { count ≤ moves.now.rows }
+    ensures value { IfSome result (λ z. int z ≡ total count (λ k. int (number g.now i k) *ℚ int (number moves.now k j))) }
+    ensures small { IfSome result (λ z. unsigned_abs z ≤ 2 ^ 62) }
+{
+    let mut sum = 0;
+    for k in 0..count {
+        sum = with_product(sum, g.at(i, k), moves.at(k, j))?;
+    }
+    Some(sum)
+}
+
+/// The coefficient of `g_i z(t) - w_i c`, i from 1, on the extended count j, times all denominators, where it is small.
+fn excess(
+    qp: &Qp,
+    _law: &Law,
+    numbers: &RowNumbers,
+    unknowns: &LawNumbers,
+    i: u32,
+    j: u32,
+) -> Option<i64>
+    requires from_one { 1 ≤ i }
+    requires to_last { i ≤ height qp.now.g }
+    requires shape { HasLawShape qp.now _law.now }
+    requires column { j < _law.now.moves.columns }
+    requires numbers { AreRowNumbers qp.now numbers.now }
+    requires unknowns { AreLawNumbers _law.now numbers.now unknowns.now }
+    ensures value { IfSome result (IsExcess qp.now _law.now numbers.now unknowns.now i j) }
+    ensures small { IfSome result (λ z. unsigned_abs z ≤ 2 ^ 62) }
+{
+    let row = i as usize - 1;
+    let column = j as usize;
+    let count = qp.g.cols() as usize;
+    let sum = sum_of_products(&numbers.g, &unknowns.moves, count, row, column)?;
+    let left = with_product(0, sum, signed(numbers.w.den()))?;
+    with_product(left, numbers.w.at(row, column), unknowns.against)
+}
+
+/// The coefficients of `g_i z(t) - w_i c`, i from 1, on t, times all denominators, where they are small.
+fn excesses(
+    alloc: Global,
+    qp: &Qp,
+    law: &Law,
+    numbers: &RowNumbers,
+    unknowns: &LawNumbers,
+    i: u32,
+) -> Result<Option<Vector>, NoMemory>
+    requires from_one { 1 ≤ i }
+    requires to_last { i ≤ height qp.now.g }
+    requires shape { HasLawShape qp.now law.now }
+    requires numbers { AreRowNumbers qp.now numbers.now }
+    requires unknowns { AreLawNumbers law.now numbers.now unknowns.now }
+    ensures { IfOk result (λ o. IfSome o (AreExcesses qp.now law.now numbers.now unknowns.now i (length qp.now.counts))) }
+{
+    let mut sides = Vector::with_capacity(alloc, qp.counts.len())?;
+    for j in 1..law.moves.cols() {
+        let Some(z) = excess(qp, law, numbers, unknowns, i, j) else {
+            return Ok(None);
+        };
+        sides.push(Frac::whole(z))?;
+    }
+    Ok(Some(sides))
+}
+
+/// Row i of a law, counted from 1, where it is outside the law's set and whole numbers serve.
+fn outside_row(
+    alloc: Global,
+    qp: &Qp,
+    law: &Law,
+    numbers: &RowNumbers,
+    unknowns: &LawNumbers,
+    i: u32,
+) -> Result<Option<RowInt>, NoMemory>
+    requires from_one { 1 ≤ i }
+    requires to_last { i ≤ height qp.now.g }
+    requires shape { HasLawShape qp.now law.now }
+    requires numbers { AreRowNumbers qp.now numbers.now }
+    requires unknowns { AreLawNumbers law.now numbers.now unknowns.now }
+    ensures { IfOk result (λ o. IfSome o (IsPlainRow qp.now law.now i)) }
+{
+    law_theorems();
+    if law.set.has(i) {
+        return Ok(None);
+    }
+    let Some(constant) = excess(qp, law, numbers, unknowns, i, 0) else {
+        return Ok(None);
+    };
+    let Some(sides) = excesses(alloc, qp, law, numbers, unknowns, i)? else {
+        return Ok(None);
+    };
+    match primitive(alloc, &sides, &Frac::whole(negative(constant))) {
+        Ok(row) => Ok(Some(row)),
+        Err(LinearError::Wide(_)) => Ok(None),
+        Err(LinearError::NoMemory) => Err(NoMemory),
+    }
+}
+
+/// Row i of a law, counted from 1, which isn't too wide.
+fn row_of(
+    alloc: Global,
+    qp: &Qp,
+    law: &Law,
+    numbers: &RowNumbers,
+    unknowns: &LawNumbers,
+    i: u32,
+) -> Result<RowInt, NoMemory>
+    requires from_one { 1 ≤ i }
+    requires to_last { i ≤ height qp.now.g }
+    requires shape { HasLawShape qp.now law.now }
+    requires fits { LawRowFits qp.now law.now i }
+    requires numbers { AreRowNumbers qp.now numbers.now }
+    requires unknowns { AreLawNumbers law.now numbers.now unknowns.now }
+    ensures { IfOk result (IsPlainRow qp.now law.now i) }
+{
+    if let Some(row) = outside_row(alloc, qp, law, numbers, unknowns, i)? {
+        return Ok(row);
+    }
+    match law_row(alloc, qp, law, i) {
+        Ok(row) => Ok(row),
+        Err(LinearError::Wide(_)) => unreachable!(),
+        Err(LinearError::NoMemory) => Err(NoMemory),
+    }
+}
+
+/// All rows of a law, of which none is too wide, from numbers that are small.
+fn whole_rows(
+    alloc: Global,
+    qp: &Qp,
+    law: &Law,
+    numbers: &RowNumbers,
+    unknowns: &LawNumbers,
+) -> Result<Vec<RowInt>, NoMemory>
+    requires shape { HasLawShape qp.now law.now }
+    requires fits { LawRowsFit qp.now law.now (height qp.now.g) }
+    requires numbers { AreRowNumbers qp.now numbers.now }
+    requires unknowns { AreLawNumbers law.now numbers.now unknowns.now }
+    ensures rows { IfOk result (λ rows. AreLawRows qp.now law.now rows.items) }
+    ensures size { IfOk result (λ rows. AreOfSize (length qp.now.counts) rows.items) }
+{
+    let mut rows = Vec::with_capacity(alloc, qp.g.rows() as usize)?;
+    for i in 1..qp.g.rows() + 1 {
+        rows.push(row_of(alloc, qp, law, numbers, unknowns, i)?)?;
+    }
+    Ok(rows)
+}
+
+/// All rows of a law, of which none is too wide, in fractions.
+fn plain_rows(alloc: Global, qp: &Qp, law: &Law) -> Result<Vec<RowInt>, NoMemory>
+    requires shape { HasLawShape qp.now law.now }
+    requires fits { LawRowsFit qp.now law.now (height qp.now.g) }
+    ensures rows { IfOk result (λ rows. AreLawRows qp.now law.now rows.items) }
+    ensures size { IfOk result (λ rows. AreOfSize (length qp.now.counts) rows.items) }
+{
+    match law_rows(alloc, qp, law) {
+        Ok(rows) => Ok(rows),
+        Err(LinearError::Wide(_)) => unreachable!(),
+        Err(LinearError::NoMemory) => Err(NoMemory),
+    }
+}
+
+/// All rows of a law, of which none is too wide, from the numbers of the program's rows where they serve.
+pub fn rows_of(
+    alloc: Global,
+    qp: &Qp,
+    law: &Law,
+    numbers: &Option<RowNumbers>,
+) -> Result<Vec<RowInt>, NoMemory>
+    requires shape { HasLawShape qp.now law.now }
+    requires fits { LawRowsFit qp.now law.now (height qp.now.g) }
+    requires numbers { IfSome numbers.now (AreRowNumbers qp.now) }
+    ensures rows { IfOk result (λ rows. AreLawRows qp.now law.now rows.items) }
+    ensures size { IfOk result (λ rows. AreOfSize (length qp.now.counts) rows.items) }
+{
+    let Some(numbers) = numbers else {
+        return plain_rows(alloc, qp, law);
+    };
+    match law_numbers(alloc, law, numbers)? {
+        Some(unknowns) => whole_rows(alloc, qp, law, numbers, &unknowns),
+        None => plain_rows(alloc, qp, law),
+    }
+}
