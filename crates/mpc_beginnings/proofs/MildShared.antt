@@ -6,11 +6,12 @@ use Rattle.mpc_rows.specs.LinearSystem.{LinearSystem}
 use Rattle.mpc_rows.specs.Run.{goes_on, entering, count, turn, position, steps}
 use Rattle.mpc_rows.specs.RunWidth.{PositionFits}
 use Rattle.mpc_whole.specs.declared.judged.WidePlace.{WidePlace}
-use Rattle.mpc_whole.specs.declared.whole_systems.WholeNumbers.{WholeNumbers}
+use Rattle.mpc_scaled.specs.declared.systems.WholeNumbers.{WholeNumbers}
 use Rattle.mpc_whole.specs.Norms.{Over}
 use Rattle.mpc_whole.specs.SharedSizes.{IsSmallForm, AreSmallBefore}
 use Rattle.mpc_whole.specs.Judged.{HasRoomAt, IsJudged, IsMildForm, AreMildBefore}
-use Rattle.mpc_whole.specs.Whole.{scale_at, IsSmall, side_cell}
+use Rattle.mpc_whole.specs.Whole.{side_cell}
+use Rattle.mpc_scaled.specs.Scaled.{scale_at, IsSmall}
 use Rattle.mpc_whole.proofs.Turn.{Goes, turn-at}
 use Rattle.mpc_whole.proofs.Ends.{Reached}
 use Rattle.mpc_whole.proofs.WholeForm.{IsLeavingRow, side_norm, side_over, judged_over}

@@ -12,7 +12,8 @@ use Rattle.mpc_whole.specs.declared.variables.Seat.{Seat}
 use Rattle.mpc_whole.specs.declared.variables.Seat.TheVariants.{Row, Column}
 use Rattle.mpc_whole.specs.Table.{seat_at, in_row}
 use Rattle.mpc_whole.specs.Norms.{Over}
-use Rattle.mpc_whole.specs.Whole.{whole_cell, scale_at, IsSmall, IsWholeSystem, HasBounds, IsNarrow, IsForm, AreValues}
+use Rattle.mpc_whole.specs.Whole.{HasBounds, IsNarrow, IsForm, AreValues}
+use Rattle.mpc_scaled.specs.Scaled.{whole_cell, scale_at, IsSmall, IsWholeSystem}
 use Rattle.mpc_whole.specs.Underway.{StayBefore, IsUnderway}
 use Rattle.mpc_whole.specs.Judged.{IsMildForm, AreMildBefore, IsMildlyUnderway}
 use Rattle.mpc_whole.proofs.Turn.{Goes, turn-at}

@@ -7,8 +7,9 @@ use Rattle.mpc_rows.specs.RunWidth.{RunFits}
 use Rattle.mpc_whole.specs.declared.whole.Ending.{Ending}
 use Rattle.mpc_whole.specs.declared.whole.Place.{Place}
 use Rattle.mpc_whole.specs.declared.judged.WidePlace.{WidePlace}
-use Rattle.mpc_whole.specs.declared.whole_systems.WholeNumbers.{WholeNumbers}
-use Rattle.mpc_whole.specs.Whole.{scale_at, IsSmall, IsWholeSystem, HasBounds}
+use Rattle.mpc_scaled.specs.declared.systems.WholeNumbers.{WholeNumbers}
+use Rattle.mpc_whole.specs.Whole.{HasBounds}
+use Rattle.mpc_scaled.specs.Scaled.{scale_at, IsSmall, IsWholeSystem}
 use Rattle.mpc_whole.specs.Underway.{StayBefore, IsUnderway, HasEnded}
 use Rattle.mpc_whole.specs.Lists.{Listed, AreListsOf}
 use Rattle.mpc_whole.specs.Judged.{AreMildBefore, IsMildlyUnderway}

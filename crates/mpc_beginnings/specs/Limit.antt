@@ -4,8 +4,9 @@ use Rattle.mpc_rows.specs.LinearSystem.{LinearSystem}
 use Rattle.mpc_rows.specs.Run.{count}
 use Rattle.mpc_whole.specs.declared.variables.Seat.{Seat}
 use Rattle.mpc_whole.specs.declared.judged.WidePlace.{WidePlace}
-use Rattle.mpc_whole.specs.declared.whole_systems.WholeNumbers.{WholeNumbers}
-use Rattle.mpc_whole.specs.Whole.{IsSmall, IsNarrow, HasBounds, HasRoom}
+use Rattle.mpc_scaled.specs.declared.systems.WholeNumbers.{WholeNumbers}
+use Rattle.mpc_whole.specs.Whole.{IsNarrow, HasBounds, HasRoom}
+use Rattle.mpc_scaled.specs.Scaled.{IsSmall}
 
 -- numbers of a position up to most have bounds, and the sizes that are kept of those that stand and of those before are within that
 pub record IsLimit (s : LinearSystem) (m : WholeNumbers) (p : WidePlace) (most : ℕ) : Type 0 where

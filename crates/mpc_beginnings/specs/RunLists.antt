@@ -3,7 +3,8 @@ use Rattle.std.specs.Prelude.{◌≡◌, ℕ, ◌+◌, ◌-◌, ◌*◌, ◌<◌
 use Rattle.mpc_rows.specs.LinearSystem.{LinearSystem}
 use Rattle.mpc_rows.specs.Run.{count}
 use Rattle.mpc_whole.specs.Table.{variable_at, IsSeated, IsOpeningSeats}
-use Rattle.mpc_whole.specs.Whole.{whole_at, IsSmall, IsUnit}
+use Rattle.mpc_whole.specs.Whole.{IsUnit}
+use Rattle.mpc_scaled.specs.Scaled.{whole_at, IsSmall}
 use Rattle.mpc_whole.specs.Lists.{Listed, of_short, of_wide}
 use Rattle.mpc_beginnings.specs.declared.lists.KeptLists.{KeptLists}
 use Rattle.mpc_beginnings.specs.LongerSeats.{AreLongerSeats}

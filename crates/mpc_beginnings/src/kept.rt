@@ -8,7 +8,8 @@ ghost use Rattle.mpc_rows.specs.LawRows.{broken_row};
 ghost use Rattle.mpc_rows.specs.SetRuns.{turned};
 ghost use Rattle.mpc_whole.specs.Lists.{AreListsOf, of_short};
 ghost use Rattle.mpc_whole.specs.RunEnd.{IsEnd, IsMultipliers, IsValues, EndsRefuted};
-ghost use Rattle.mpc_whole.specs.Whole.{IsSmall, HasRoom};
+ghost use Rattle.mpc_whole.specs.Whole.{HasRoom};
+ghost use Rattle.mpc_scaled.specs.Scaled.{IsSmall};
 ghost use Rattle.mpc_whole.specs.Underway.{turn_of, HasEnded};
 ghost use Rattle.mpc_beginnings.specs.Beginnings.{lengthened};
 ghost use Rattle.mpc_beginnings.specs.Broken.{IsBroken, IsBrokenEnd};
@@ -24,10 +25,10 @@ use crate::lists::{
 use mpc_frac::Frac;
 use mpc_linear::RowInt;
 use mpc_rows::{Multipliers, PairPoint, Row, System};
+use mpc_scaled::{WholeNumbers, WholeSystem};
 use mpc_whole::{
-    End, Ending, Place, RunLists, Standing, WholeNumbers, WholeSystem, WidePlace, judged_run,
-    last_multipliers, last_values, limit, whole_run, wide_last_multipliers, wide_last_values,
-    zero_pairs, zeros,
+    End, Ending, Place, RunLists, Standing, WidePlace, judged_run, last_multipliers, last_values,
+    limit, whole_run, wide_last_multipliers, wide_last_values, zero_pairs, zeros,
 };
 use std::alloc::{AllocError, Global};
 use std::marker::Model;

@@ -12,7 +12,7 @@ use mpc_frac::NoMemory;
 use mpc_linear::Vector;
 use mpc_paths::Turn;
 use mpc_rows::{Node, Tree};
-use mpc_whole::WholeSystem;
+use mpc_scaled::WholeSystem;
 use std::alloc::Global;
 
 /// Puts the row that a turn asks behind the others, if none of its numbers is too wide and it is small.

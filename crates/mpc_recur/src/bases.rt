@@ -10,8 +10,8 @@ ghost use Rattle.mpc_recur.specs.Targets.{with_rows};
 use mpc_beginnings::shared_beginning;
 use mpc_frac::NoMemory;
 use mpc_rows::{Row, System};
+use mpc_scaled::WholeSystem;
 use mpc_simplex::{Beginning, Decision, Workspace};
-use mpc_whole::WholeSystem;
 use std::alloc::Global;
 use std::marker::Model;
 

@@ -22,7 +22,7 @@ use Rattle.mpc_linear.specs.declared.integers.RowInt.{RowInt}
 use Rattle.mpc_linear.specs.Whole.{IsScaledRow, DividesAll, IsPrimitive}
 use Rattle.mpc_rows.specs.LinearSystem.{LinearSystem}
 use Rattle.mpc_rows.specs.LawRows.{whole_row}
-use Rattle.mpc_whole.specs.Whole.{whole_at, IsSmall}
+use Rattle.mpc_scaled.specs.Scaled.{whole_at, IsSmall}
 use Rattle.mpc_region.specs.SweptRows.{DividesEach, IsSharedBy, AreSides, IsRowFrom}
 use Rattle.mpc_region.proofs.LawRowLists.{no_row}
 use Rattle.mpc_region.proofs.SweptDivisors.{abs_negated}

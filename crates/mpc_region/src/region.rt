@@ -18,9 +18,9 @@ use crate::points::has_point;
 use mpc_frac::NoMemory;
 use mpc_linear::{LinearError, RowInt};
 use mpc_rows::{Law, Qp, law_row, law_theorems, region_theorems};
+use mpc_scaled::WholeSystem;
 use mpc_simplex::SimplexError;
 use mpc_systems::region_system;
-use mpc_whole::WholeSystem;
 use std::alloc::Global;
 
 /// All rows of a law, in their order. `Wide` with the number, from 1, of the first row with a

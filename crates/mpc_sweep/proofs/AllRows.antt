@@ -4,7 +4,7 @@ use Rattle.std.specs.List.{between}
 use Rattle.std.proofs.lemmas.Bool.{cases_eq, cases_lt}
 use Rattle.std.proofs.lemmas.List.{get_or_append_left, get_or-append_right, get_or-take, length-take-le}
 use Rattle.std.proofs.Math.Nat.{suc-mul}
-use Rattle.mpc_whole.specs.Whole.{whole_at, whole_cell}
+use Rattle.mpc_scaled.specs.Scaled.{whole_at, whole_cell}
 use Rattle.mpc_sweep.specs.Steps.{IsNumber, AreWritten, AreRows}
 use Rattle.mpc_sweep.proofs.OneNumber.{cell_of_row}
 use borrow.Rule.Slice.PartMut.{put_mid, post_of}

@@ -7,7 +7,8 @@ use Rattle.std.proofs.lemmas.Int.{fits_signed_from_abs, to_z-of_z}
 use Rattle.std.proofs.lemmas.List.{get_or_past}
 use Rattle.std.proofs.lemmas.List.Edits.{get_or-between, length-between}
 use Rattle.mpc_exact.proofs.IntRing.{int_reads, by_ring_ℤ}
-use Rattle.mpc_whole.specs.Whole.{whole_at, whole_cell, IsSmall, turned}
+use Rattle.mpc_whole.specs.Whole.{turned}
+use Rattle.mpc_scaled.specs.Scaled.{whole_at, whole_cell, IsSmall}
 use Rattle.mpc_sweep.specs.Steps.{IsNumber, IsOwn, IsScaled, IsChanged, AreWritten}
 
 pub read_small : (z : ℤ) → unsigned_abs z ≤ 2 ^ 62 → to_z w64 (of_z w64 z) ≡ z

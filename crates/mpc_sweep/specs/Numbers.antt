@@ -2,7 +2,7 @@
 use Rattle.std.specs.Prelude.{◌≡◌, ℕ, ◌+◌, ◌-◌, ◌*◌, ◌<◌, ◌≤◌, ◌^◌, List, length, get_or, ℤ, unsigned_abs}
 use Rattle.mpc_exact.specs.Rational.{frac}
 use Rattle.mpc_linear.specs.Elimination.{Table}
-use Rattle.mpc_whole.specs.Whole.{whole_cell, IsSmall}
+use Rattle.mpc_scaled.specs.Scaled.{whole_cell, IsSmall}
 use Rattle.mpc_sweep.specs.declared.numbers.Swept.{Swept}
 use Rattle.mpc_sweep.specs.Sweeps.{swept, HasPivots, AreRising, SweepsFit}
 

@@ -2,7 +2,7 @@
 use Rattle.std.specs.Prelude.{◌≡◌, ℕ, ◌+◌, ◌*◌, ◌<◌, ◌≤◌, ◌^◌, List, length, ℤ, unsigned_abs}
 use Rattle.mpc_exact.specs.Rational.{ℚ, frac}
 use Rattle.mpc_space.specs.Matrix.{RationalMatrix, entry}
-use Rattle.mpc_whole.specs.Whole.{whole_at, whole_cell}
+use Rattle.mpc_scaled.specs.Scaled.{whole_at, whole_cell}
 
 -- so many numbers stand behind those of a list: f 0, f 1, .. times the scale
 pub record AreBehind (old new : List ℤ) (f : ℕ → ℚ) (count scale : ℕ) : Type 0 where

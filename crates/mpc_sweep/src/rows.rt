@@ -2,7 +2,8 @@
 
 ghost use Rattle.std.specs.Prelude.{◌≡◌, ◌≢◌, ℕ, ◌+◌, ◌-◌, ◌*◌, ◌<◌, ◌≤◌, ◌^◌, ◌++◌, ◌∷◌, [], List, ℤ, IfOk, IfSome, IsTrue, length, get_or, pos, ◌+ℤ◌, ◌*ℤ◌, neg_ℤ, unsigned_abs};
 ghost use Rattle.mpc_linear.specs.Elimination.{Table};
-ghost use Rattle.mpc_whole.specs.Whole.{IsSmall, turned};
+ghost use Rattle.mpc_whole.specs.Whole.{turned};
+ghost use Rattle.mpc_scaled.specs.Scaled.{IsSmall};
 ghost use Rattle.mpc_sweep.specs.Numbers.{IsSwept, IsTable, number, told_columns};
 ghost use Rattle.mpc_sweep.specs.Steps.{IsNumber, IsOwn, IsScaled, IsChanged, AreWritten, AreRows, AreSweptRows};
 

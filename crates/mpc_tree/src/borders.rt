@@ -12,7 +12,7 @@ use crate::rows::{RowNumbers, row_numbers, rows_of};
 use mpc_frac::NoMemory;
 use mpc_linear::RowInt;
 use mpc_rows::{Law, LawTable, Qp};
-use mpc_whole::WholeSystem;
+use mpc_scaled::WholeSystem;
 use std::alloc::Global;
 use std::marker::Model;
 

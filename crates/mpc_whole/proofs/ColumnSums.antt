@@ -10,7 +10,8 @@ use Rattle.mpc_rows.specs.Run.{Position, IsTableau, rest, value}
 use Rattle.mpc_whole.specs.declared.variables.Seat.{Seat}
 use Rattle.mpc_whole.specs.declared.variables.Seat.TheVariants.{Row, Column}
 use Rattle.mpc_whole.specs.Table.{seat_at, in_row, variable_at, IsSeated, AreNonbasic}
-use Rattle.mpc_whole.specs.Whole.{whole_cell, scale_at, IsForm}
+use Rattle.mpc_whole.specs.Whole.{IsForm}
+use Rattle.mpc_scaled.specs.Scaled.{whole_cell, scale_at}
 use Rattle.mpc_whole.proofs.Nonbasic.{column_below}
 use Rattle.mpc_whole.proofs.Seats.{seat_cases, column_same}
 use Rattle.mpc_whole.proofs.Table.{total_more, first_terms, second_terms, value_first, value_second}

@@ -14,7 +14,8 @@ use Rattle.mpc_whole.specs.Norms.{Over}
 use Rattle.mpc_whole.specs.Moved.{AreFormed}
 use Rattle.mpc_whole.specs.Underway.{turn_of, HasEnded}
 use Rattle.mpc_whole.specs.Judged.{coefficient_of, IsJudged, IsPivotJudged, IsRowWithin, IsDividedRow, IsReducedPivot, IsProductOf, IsMildForm, AreMildBefore, IsMildlyUnderway}
-use Rattle.mpc_whole.specs.Whole.{whole_at, scale_at, IsSmall, IsWholeSystem, IsSideRow}
+use Rattle.mpc_whole.specs.Whole.{IsSideRow}
+use Rattle.mpc_scaled.specs.Scaled.{whole_at, scale_at, IsSmall, IsWholeSystem}
 use Rattle.mpc_whole.proofs.Positions.{tableau}
 use Rattle.mpc_whole.proofs.Turn.{Leaves, turn-at}
 use Rattle.mpc_whole.proofs.DividedRows.{times_row, times_is, side_of_divided, within_divided}

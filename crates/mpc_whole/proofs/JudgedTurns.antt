@@ -8,7 +8,8 @@ use Rattle.mpc_whole.specs.Table.{seat_at, in_row, IsSeated}
 use Rattle.mpc_whole.specs.Lists.{Listed, AreListsOf}
 use Rattle.mpc_whole.specs.Moved.{AreFormed}
 use Rattle.mpc_whole.specs.Judged.{IsPivotJudged, IsRowWithin, IsDividedRow, IsReducedPivot, IsProductOf, IsMildlyUnderway, IsGoingOn}
-use Rattle.mpc_whole.specs.Whole.{scale_at, IsSmall, IsWholeSystem, IsSwapped}
+use Rattle.mpc_whole.specs.Whole.{IsSwapped}
+use Rattle.mpc_scaled.specs.Scaled.{scale_at, IsSmall, IsWholeSystem}
 use Rattle.mpc_whole.proofs.DividedRows.{times_row}
 use Rattle.mpc_whole.proofs.Seats.{row_seat}
 use Rattle.mpc_whole.proofs.Standing.{leaves_here, leaving_in, leaving_seat, entering_in, entering_seat, next_seated}

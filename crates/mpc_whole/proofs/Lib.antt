@@ -46,7 +46,4 @@ pub mod JudgedRun
 pub mod Judges
 pub mod JudgedTurns
 pub mod WholeRows
-pub mod WholeSystems
-pub mod WholeAppended
 pub mod OverTheorems
-pub mod TurnedWhole

@@ -8,7 +8,8 @@ use Rattle.mpc_whole.specs.declared.whole.Place.{Place}
 use Rattle.mpc_whole.specs.Table.{seat_at, in_row, IsSeated}
 use Rattle.mpc_whole.specs.Lists.{Listed, AreListsOf}
 use Rattle.mpc_whole.specs.Held.{AreTurning}
-use Rattle.mpc_whole.specs.Whole.{IsWholeSystem, IsSwapped}
+use Rattle.mpc_whole.specs.Whole.{IsSwapped}
+use Rattle.mpc_scaled.specs.Scaled.{IsWholeSystem}
 use Rattle.mpc_whole.proofs.Seats.{row_seat}
 use Rattle.mpc_whole.proofs.Standing.{leaves_here, side_in, leaving_in, leaving_seat, entering_in, entering_seat, next_seated}
 

@@ -13,7 +13,8 @@ use Rattle.mpc_whole.specs.Table.{seat_at, in_row, IsSeated}
 use Rattle.mpc_whole.specs.SharedSizes.{AreSmallBefore}
 use Rattle.mpc_whole.specs.Underway.{turn_of, IsUnderway, HasEnded}
 use Rattle.mpc_whole.specs.Judged.{IsReducedPivot}
-use Rattle.mpc_whole.specs.Whole.{whole_at, scale_at, IsSmall, IsWholeSystem, IsForm, AreValues, IsRowOf, IsSideRow, Stands}
+use Rattle.mpc_whole.specs.Whole.{IsForm, AreValues, IsRowOf, IsSideRow, Stands}
+use Rattle.mpc_scaled.specs.Scaled.{whole_at, scale_at, IsSmall, IsWholeSystem}
 use Rattle.mpc_whole.proofs.Turn.{Goes, Leaves, leaver, turn-at}
 use Rattle.mpc_whole.proofs.Ends.{Reached, stopped_last, before_end, position-suc}
 use Rattle.mpc_whole.proofs.Loop.{Going, end_fits}

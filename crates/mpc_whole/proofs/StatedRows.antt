@@ -1,5 +1,5 @@
 -- A pivot that is judged row by row: where the stated operations on a row were made, or the sizes of its numbers show that they fit.
-use Rattle.std.proofs.Common.{◌≡◌, ℕ, ◌+◌, ◌-◌, ◌*◌, ◌/◌, ◌^◌, ◌<◌, ◌≤◌, ◌⊎◌, inl, inr, true, false, List, ℤ, pos, ◌*ℤ◌, unsigned_abs, refl, sym, ◌∙◌, ap, subst, subst₂, arith, lt-ltb, le-ltb}
+use Rattle.std.proofs.Common.{◌≡◌, ℕ, ◌+◌, ◌-◌, ◌*◌, ◌/◌, ◌^◌, ◌<◌, ◌≤◌, ◌⊎◌, inl, inr, false, List, ℤ, pos, ◌*ℤ◌, unsigned_abs, refl, sym, ◌∙◌, ap, subst, subst₂, arith, lt-ltb, le-ltb}
 use Rattle.std.proofs.lemmas.Bool.{cond-true, cond-false, cases_Bool, cases_lt, both_ways}
 use Rattle.std.proofs.lemmas.Int.{unsigned_abs-mul}
 use Rattle.std.proofs.lemmas.Nat.{le-div}
@@ -12,7 +12,8 @@ use Rattle.mpc_whole.specs.declared.variables.Seat.{Seat}
 use Rattle.mpc_whole.specs.declared.variables.Seat.TheVariants.{Column}
 use Rattle.mpc_whole.specs.Table.{seat_at}
 use Rattle.mpc_whole.specs.Norms.{Over}
-use Rattle.mpc_whole.specs.Whole.{whole_at, whole_cell, side_cell, scale_at, IsWholeSystem, IsForm}
+use Rattle.mpc_whole.specs.Whole.{side_cell, IsForm}
+use Rattle.mpc_scaled.specs.Scaled.{whole_at, whole_cell, scale_at, IsWholeSystem}
 use Rattle.mpc_whole.specs.Judged.{row_cell, coefficient_of, IsRowBelow, IsTermStated, IsRowStated, IsJudgedByRows}
 use Rattle.mpc_whole.proofs.Ends.{Reached}
 use Rattle.mpc_whole.proofs.Pivot.{entering-at_leaving, entering-other}

@@ -2,7 +2,8 @@
 use Rattle.std.proofs.Common.{◌≡◌, ℕ, suc, ◌+◌, ◌*◌, ◌<◌, ◌≤◌, List, length, set, ℤ, pos, ◌+ℤ◌, ◌*ℤ◌, neg_ℤ, unsigned_abs, sym, ◌∙◌, ap, subst, arith, refl, [], ◌∷◌, ◌⊎◌, inl, inr, mul-le-mul_right}
 use Rattle.std.proofs.lemmas.Bool.{cases_eq}
 use Rattle.mpc_exact.proofs.IntRing.{int_mul_cancel, int_reads, by_ring_ℤ}
-use Rattle.mpc_whole.specs.Whole.{whole_at, whole_cell, IsChanged, IsWholePivot, turned}
+use Rattle.mpc_whole.specs.Whole.{IsChanged, IsWholePivot, turned}
+use Rattle.mpc_scaled.specs.Scaled.{whole_at, whole_cell}
 use Rattle.mpc_whole.proofs.WholeSteps.{set_same, set_other}
 
 -- one number of row j more

@@ -20,7 +20,8 @@ use Rattle.mpc_whole.proofs.DividedRows.{crossed, rest_some}
 use Rattle.mpc_whole.proofs.WholeNorms.{abs_some, over_not_zero, HasRowRoom, HasFittingRow, HasPivotRoom, judged_fit, norms_fit}
 use Rattle.mpc_whole.proofs.WholeScales.{Scaled, scaled_over, at_nought, at_side, at_minus_one, nought_over, nought_times, less_with_scale}
 use Rattle.mpc_whole.specs.Judged.{coefficient_of, HasRoomAt, IsJudged, IsNorm, IsDividedRow}
-use Rattle.mpc_whole.specs.Whole.{whole_total, whole_at, whole_cell, scale_at, IsSmall, IsWholeSystem, AreBounds, HasSideBound, IsNarrow, IsSideRow, IsForm, side_cell}
+use Rattle.mpc_whole.specs.Whole.{whole_total, AreBounds, HasSideBound, IsNarrow, IsSideRow, IsForm, side_cell}
+use Rattle.mpc_scaled.specs.Scaled.{whole_at, whole_cell, scale_at, IsSmall, IsWholeSystem}
 use Rattle.mpc_whole.proofs.Turn.{Goes, turn-at}
 use Rattle.mpc_whole.proofs.TableauRows.{Meets, row_value, values_meet}
 use Rattle.mpc_whole.proofs.Positions.{tableau, rows_across, firsts_meet, seconds_meet, firsts, seconds}

@@ -10,7 +10,8 @@ use Rattle.mpc_rows.specs.Run.{Position, count, bound, value, pivot}
 use Rattle.mpc_whole.specs.declared.variables.Seat.{Seat}
 use Rattle.mpc_whole.specs.declared.variables.Seat.TheVariants.{Row, Column}
 use Rattle.mpc_whole.specs.Table.{seat_at, IsSeated}
-use Rattle.mpc_whole.specs.Whole.{whole_total, whole_at, whole_cell, scale_at, IsWholeSystem, IsForm, IsSideRow, IsWholePivot, AreValues, HasSideValues, turned}
+use Rattle.mpc_whole.specs.Whole.{whole_total, IsForm, IsSideRow, IsWholePivot, AreValues, HasSideValues, turned}
+use Rattle.mpc_scaled.specs.Scaled.{whole_at, whole_cell, scale_at, IsWholeSystem}
 use Rattle.mpc_whole.specs.Moved.{excess, IsMoved, AreMoved}
 use Rattle.mpc_whole.proofs.Ends.{Reached}
 use Rattle.mpc_whole.proofs.LeftSides.{bound-first}

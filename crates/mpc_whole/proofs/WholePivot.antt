@@ -11,7 +11,8 @@ use Rattle.mpc_whole.specs.declared.variables.Seat.{Seat}
 use Rattle.mpc_whole.specs.declared.variables.Seat.TheVariants.{Row, Column}
 use Rattle.mpc_whole.specs.Table.{seat_at, in_row, IsSeated}
 use Rattle.mpc_whole.specs.Judged.{IsReducedPivot}
-use Rattle.mpc_whole.specs.Whole.{whole_at, whole_cell, scale_at, IsWholeSystem, IsForm, IsSideRow, IsWholePivot}
+use Rattle.mpc_whole.specs.Whole.{IsForm, IsSideRow, IsWholePivot}
+use Rattle.mpc_scaled.specs.Scaled.{whole_at, whole_cell, scale_at, IsWholeSystem}
 use Rattle.mpc_whole.proofs.Ends.{Reached}
 use Rattle.mpc_whole.proofs.Seats.{seats_apart, column_same}
 use Rattle.mpc_whole.proofs.Exchanged.{at_e, at_l, at_other, other_column_of}

@@ -4,7 +4,8 @@ use Rattle.std.specs.Int.{w128, w64}
 use Rattle.std.proofs.Common.{FitsSigned}
 use lib.Signed.{mag}
 use Rattle.std.proofs.lemmas.Int.{fits_signed_from_abs, to_z-of_z}
-use Rattle.mpc_whole.specs.Whole.{whole_total, whole_cell, HasRoom}
+use Rattle.mpc_whole.specs.Whole.{whole_total, HasRoom}
+use Rattle.mpc_scaled.specs.Scaled.{whole_cell}
 use Rattle.mpc_exact.proofs.IntRing.{int_reads, by_ring_ℤ}
 use Rattle.mpc_whole.proofs.WholeSums.{total_at_most, product_at_most, whole_total-next, abs-sum}
 use Rattle.mpc_whole.proofs.WholeNorms.{abs-negated}

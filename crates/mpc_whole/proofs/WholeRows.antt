@@ -1,9 +1,8 @@
 -- A system read into whole numbers, and the unit matrix.
-use Rattle.std.proofs.Common.{◌≡◌, ℕ, zero, suc, zero-lt-suc, mul_comm, ◌+◌, ◌*◌, ◌^◌, ◌<◌, ◌≤◌, List, length, set, ℤ, pos, ◌*ℤ◌, sym, ◌∙◌, ap, subst, arith, ◌⊎◌, inl, inr, mul-le-mul_left, le_trans, ◌-◌, true, false, not, lit<, lt-ltb}
+use Rattle.std.proofs.Common.{◌≡◌, ℕ, ◌+◌, ◌*◌, ◌^◌, ◌<◌, ◌≤◌, List, length, set, ℤ, pos, ◌*ℤ◌, sym, ◌∙◌, ap, subst, arith, ◌⊎◌, inl, inr, mul-le-mul_left, le_trans, ◌-◌, true, false, not, lit<, lt-ltb}
 use Rattle.std.proofs.lemmas.Bool.{cases_eq, cases_lt, cases_Bool, cond-true, cond-false}
-use Rattle.mpc_exact.specs.Rational.{ℚ, int, frac, denom_positive, frac_self}
+use Rattle.mpc_exact.specs.Rational.{ℚ, int, frac}
 use Rattle.mpc_exact.proofs.RationalOrder.{one_last}
-use Rattle.mpc_exact.proofs.School.{frac_expand}
 use Rattle.mpc_space.specs.Total.{unit}
 use Rattle.mpc_space.proofs.Total.{unit-same, unit-other}
 use Rattle.mpc_rows.specs.LinearSystem.{LinearSystem, height}
@@ -11,7 +10,8 @@ use Rattle.mpc_rows.specs.Run.{is_unknown, opening}
 use Rattle.mpc_whole.specs.declared.variables.Seat.{Seat}
 use Rattle.mpc_whole.specs.declared.variables.Seat.TheVariants.{Row, Column}
 use Rattle.mpc_whole.specs.Table.{seat_at, in_row, IsOpeningSeats}
-use Rattle.mpc_whole.specs.Whole.{whole_at, whole_cell, scale_at, AreScales, IsSmall, IsForm, IsUnit, HasRoom, HasBounds}
+use Rattle.mpc_whole.specs.Whole.{IsForm, IsUnit, HasRoom, HasBounds}
+use Rattle.mpc_scaled.specs.Scaled.{whole_at, whole_cell, scale_at, AreScales, IsSmall}
 use Rattle.mpc_whole.proofs.Seats.{column_same, seats_apart}
 use Rattle.mpc_whole.proofs.Read.{opening_unknown, unknown_below}
 use Rattle.mpc_whole.proofs.WholeSteps.{set_same, set_other}
@@ -28,12 +28,6 @@ module _ (w scale : ℕ) (old now : List ℤ) (f : ℕ → ℚ) (i j at : ℕ) (
   pub read_kept : ((k : ℕ) → (k < i * w) ⊎ (i * w + j ≤ k) → whole_at now k ≡ whole_at old k) → (k : ℕ) → (k < i * w) ⊎ (i * w + (j + 1) ≤ k) → whole_at (set now at z) k ≡ whole_at old k
   read_kept h k (inl l) = set_other now at z b k (λ m. omega arith) ∙ h k (inl l)
   read_kept h k (inr l) = set_other now at z b k (λ m. omega arith) ∙ h k (inr (omega arith))
-
--- ---- one number times a scale
-pub over_factor : (x : ℚ) (q k : ℕ) (z : ℤ) → 0 < k → q * x.denom ≡ k → z ≡ x.numer *ℤ pos q → x ≡ frac z k
-over_factor x zero k z some e f = absurd (omega arith)
-over_factor x (suc q) k z some e f =
-    sym ((λ i. frac (f i) (sym e i)) ∙ ap (frac (x.numer *ℤ pos (suc q))) (mul_comm (suc q) x.denom) ∙ frac_expand x.numer x.denom (suc q) (denom_positive x) (zero-lt-suc q) ∙ frac_self x)
 
 -- ---- the unit matrix, one row more
 apart_below : (w i j c : ℕ) → j < i → c < w → j * w + c ≡ i * w + i → ⊥

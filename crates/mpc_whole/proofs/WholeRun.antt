@@ -15,7 +15,8 @@ use Rattle.mpc_whole.specs.SharedSizes.{AreSmallBefore}
 use Rattle.mpc_whole.specs.Underway.{IsUnderway, HasEnded}
 use Rattle.mpc_whole.specs.Moved.{AreFollowed}
 use Rattle.mpc_whole.specs.RunEnd.{IsValues}
-use Rattle.mpc_whole.specs.Whole.{whole_at, scale_at, IsSmall, IsWholeSystem, HasSideBound, IsNarrow, IsForm, HasSideValues, AreValues, IsRowOf, IsSideRow, IsWholePivot, ArePairs, Stands, side_cell}
+use Rattle.mpc_whole.specs.Whole.{HasSideBound, IsNarrow, IsForm, HasSideValues, AreValues, IsRowOf, IsSideRow, IsWholePivot, ArePairs, Stands, side_cell}
+use Rattle.mpc_scaled.specs.Scaled.{whole_at, scale_at, IsSmall, IsWholeSystem}
 use Rattle.mpc_whole.proofs.Positions.{tableau}
 use Rattle.mpc_whole.proofs.Turn.{Leaves, turn-at}
 use Rattle.mpc_whole.proofs.Ends.{Reached}

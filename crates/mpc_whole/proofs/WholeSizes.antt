@@ -6,7 +6,8 @@ use Rattle.mpc_rows.specs.LinearSystem.{LinearSystem, height}
 use Rattle.mpc_rows.specs.Run.{Position, count, is_unknown, opening, value, turn, is_pivot, position, steps}
 use Rattle.mpc_whole.specs.declared.variables.Seat.{Seat}
 use Rattle.mpc_whole.specs.Table.{IsSeated}
-use Rattle.mpc_whole.specs.Whole.{whole_at, IsSmall, IsForm, AreValues}
+use Rattle.mpc_whole.specs.Whole.{IsForm, AreValues}
+use Rattle.mpc_scaled.specs.Scaled.{whole_at, IsSmall}
 use Rattle.mpc_whole.specs.SharedSizes.{IsSmallForm, AreSmallBefore}
 use Rattle.mpc_whole.specs.Underway.{IsUnderway}
 use Rattle.mpc_whole.proofs.Ends.{run_ends, position-zero}

@@ -7,7 +7,7 @@ use Rattle.std.proofs.lemmas.Int.{ints, fits_signed_from_abs, to_z-of_z}
 use Rattle.mpc_exact.specs.Rational.{frac}
 use Rattle.mpc_rows.specs.LinearSystem.{LinearSystem, height}
 use Rattle.mpc_rows.specs.Run.{rest, bound, is_unknown}
-use Rattle.mpc_whole.specs.Whole.{whole_at, scale_at, IsSmall, HasSides}
+use Rattle.mpc_scaled.specs.Scaled.{whole_at, scale_at, IsSmall, HasSides}
 use Rattle.mpc_whole.proofs.LeftSides.{bound-first}
 use Rattle.mpc_whole.proofs.Read.{rest_bound}
 

@@ -17,7 +17,8 @@ use Rattle.mpc_rows.specs.Run.{Position, has_point, count, is_unknown, is_zero, 
 use Rattle.mpc_whole.specs.declared.variables.Seat.{Seat}
 use Rattle.mpc_whole.specs.declared.variables.Seat.TheVariants.{Row, Column}
 use Rattle.mpc_whole.specs.Table.{seat_at, in_row}
-use Rattle.mpc_whole.specs.Whole.{whole_at, HasBasis, IsRowOf}
+use Rattle.mpc_whole.specs.Whole.{HasBasis, IsRowOf}
+use Rattle.mpc_scaled.specs.Scaled.{whole_at}
 use Rattle.mpc_whole.specs.Underway.{StayBefore}
 use Rattle.mpc_whole.proofs.LeastLemmas.{LeastIs, least-is}
 use Rattle.mpc_whole.proofs.Flags.{test_true, true_test}

@@ -3,7 +3,8 @@ use Rattle.std.proofs.Common.{◌≡◌, ℕ, zero, suc, ◌+◌, ◌*◌, ◌^�
 use Rattle.std.specs.Int.{w64, int_wrap}
 use Rattle.std.proofs.lemmas.Int.{fits_signed_from_abs, int_wrap_fits, int_wrap-add_left}
 use Rattle.mpc_rows.specs.LinearSystem.{LinearSystem}
-use Rattle.mpc_whole.specs.Whole.{whole_total, whole_at, whole_cell, scale_at, IsSmall, AreScales, HasBounds}
+use Rattle.mpc_whole.specs.Whole.{whole_total, HasBounds}
+use Rattle.mpc_scaled.specs.Scaled.{whole_at, whole_cell, scale_at, IsSmall, AreScales}
 use Rattle.mpc_whole.specs.Running.{AreShort}
 use Rattle.mpc_whole.proofs.WholeSums.{total_at_most, product_at_most, whole_total-zero, whole_total-next}
 

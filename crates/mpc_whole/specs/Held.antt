@@ -7,7 +7,8 @@ use Rattle.mpc_whole.specs.declared.whole.Ending.{Ending}
 use Rattle.mpc_whole.specs.declared.whole.Place.{Place}
 use Rattle.mpc_whole.specs.Lists.{Listed}
 use Rattle.mpc_whole.specs.Underway.{IsUnderway, HasEnded}
-use Rattle.mpc_whole.specs.Whole.{IsSmall, IsNarrow}
+use Rattle.mpc_whole.specs.Whole.{IsNarrow}
+use Rattle.mpc_scaled.specs.Scaled.{IsSmall}
 
 -- over this denominator the numbers are within what those of a position may have, and so narrow that no row forms a wide one
 pub record AreHeld (s : LinearSystem) (k : List ℕ) (a : List ℤ) (most den : ℕ) (l : Listed) : Type 0 where

@@ -9,7 +9,8 @@ use Rattle.mpc_whole.specs.declared.variables.Seat.{Seat}
 use Rattle.mpc_whole.specs.declared.variables.Seat.TheVariants.{Column}
 use Rattle.mpc_whole.specs.Table.{seat_at, in_row, IsSeated}
 use Rattle.mpc_whole.specs.Norms.{Over}
-use Rattle.mpc_whole.specs.Whole.{whole_at, whole_cell, scale_at, side_cell, turned, IsSmall}
+use Rattle.mpc_whole.specs.Whole.{side_cell, turned}
+use Rattle.mpc_scaled.specs.Scaled.{whole_at, whole_cell, scale_at, IsSmall}
 use Rattle.mpc_whole.specs.Underway.{IsUnderway}
 use Rattle.mpc_whole.specs.SharedSizes.{IsSmallForm}
 

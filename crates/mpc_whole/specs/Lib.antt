@@ -3,7 +3,6 @@ pub mod Exchange
 pub mod Whole
 pub mod Moved
 pub mod Sums
-pub mod WholeSystems
 pub mod SharedSizes
 pub mod Underway
 pub mod Norms

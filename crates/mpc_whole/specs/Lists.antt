@@ -6,7 +6,7 @@ use Rattle.mpc_whole.specs.declared.variables.Seat.{Seat}
 use Rattle.mpc_whole.specs.declared.lists.RunLists.{RunLists}
 use Rattle.mpc_whole.specs.declared.lists.WideLists.{WideLists}
 use Rattle.mpc_whole.specs.Table.{IsSeated, AreNonbasic}
-use Rattle.mpc_whole.specs.Whole.{IsSmall}
+use Rattle.mpc_scaled.specs.Scaled.{IsSmall}
 
 -- what they have, whatever the width of the numbers
 pub record Listed : Type 0 where

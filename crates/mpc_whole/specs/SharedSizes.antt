@@ -3,7 +3,8 @@ use Rattle.std.specs.Prelude.{◌≡◌, ℕ, ◌<◌, ◌≤◌, List, length, 
 use Rattle.mpc_rows.specs.LinearSystem.{LinearSystem}
 use Rattle.mpc_rows.specs.Run.{Position, count, position}
 use Rattle.mpc_whole.specs.declared.variables.Seat.{Seat}
-use Rattle.mpc_whole.specs.Whole.{IsSmall, IsForm}
+use Rattle.mpc_whole.specs.Whole.{IsForm}
+use Rattle.mpc_scaled.specs.Scaled.{IsSmall}
 
 -- whole numbers over one denominator stand for the position, by these scales, and none is greater; nor is the denominator
 pub record IsSmallForm (s : LinearSystem) (k : List ℕ) (p : Position) (most most_den : ℕ) : Type 0 where

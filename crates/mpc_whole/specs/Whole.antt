@@ -1,10 +1,11 @@
 -- A position of the run in whole numbers: the coefficients of the unknowns over one denominator, row by row, where a nonbasic variable has
 -- the column of its seat. Each row of the system is whole once it is multiplied by its scale.
-use Rattle.std.specs.Prelude.{◌≡◌, ℕ, zero, suc, ◌+◌, ◌*◌, ◌<◌, ◌≤◌, ◌^◌, List, length, get_or, ℤ, pos, ◌+ℤ◌, ◌*ℤ◌, neg_ℤ, negsuc, unsigned_abs, slice_get, Some, set}
+use Rattle.std.specs.Prelude.{◌≡◌, ℕ, zero, suc, ◌+◌, ◌*◌, ◌<◌, ◌≤◌, ◌^◌, List, length, ℤ, pos, ◌+ℤ◌, ◌*ℤ◌, neg_ℤ, negsuc, unsigned_abs, slice_get, Some, set}
 use Rattle.mpc_exact.specs.Rational.{ℚ, frac}
-use Rattle.mpc_rows.specs.LinearSystem.{LinearSystem, row_at, height, entry}
+use Rattle.mpc_rows.specs.LinearSystem.{LinearSystem, height}
 use Rattle.mpc_rows.specs.Run.{Position, count, value, position, steps}
 use Rattle.mpc_rows.specs.RunWidth.{PositionFits}
+use Rattle.mpc_scaled.specs.Scaled.{whole_at, whole_cell, IsSmall, scale_at}
 use Rattle.mpc_whole.specs.declared.variables.Seat.{Seat}
 use Rattle.mpc_whole.specs.declared.variables.Seat.TheVariants.{Row, Column}
 use Rattle.mpc_whole.specs.Table.{seat_at, in_row}
@@ -13,40 +14,6 @@ use Rattle.mpc_whole.specs.Table.{seat_at, in_row}
 unfoldable pub whole_total : ℕ → (ℕ → ℤ) → ℤ
 whole_total zero f = pos 0
 whole_total (suc n) f = whole_total n f +ℤ f n
-
-abbrev pub whole_at : List ℤ → ℕ → ℤ
-whole_at v k = get_or v k (pos 0)
-
--- the whole number of row r and column c
-abbrev pub whole_cell : ℕ → List ℤ → ℕ → ℕ → ℤ
-whole_cell width v r c = whole_at v (r * width + c)
-
--- no number is greater in size
-pub record IsSmall (most : ℕ) (v : List ℤ) : Type 0 where
-  pub each : (k : ℕ) → unsigned_abs (whole_at v k) ≤ most
-
--- the scale of a variable
-abbrev pub scale_at : List ℕ → ℕ → ℕ
-scale_at k x = get_or k x 0
-
--- each variable has a scale, which is 1 for an unknown
-pub record AreScales (s : LinearSystem) (k : List ℕ) : Type 0 where
-  pub size : length k ≡ count s
-  pub own : (j : ℕ) → j < s.width → scale_at k j ≡ 1
-  pub some : (x : ℕ) → x < count s → 0 < scale_at k x
-  pub small : (x : ℕ) → scale_at k x ≤ 2 ^ 40
-
--- the right sides are these whole numbers over the scales of the rows
-pub record HasSides (s : LinearSystem) (k : List ℕ) (b : List ℤ) : Type 0 where
-  pub sides : (i : ℕ) → i < height s → (row_at s i).b ≡ frac (whole_at b i) (scale_at k (s.width + i))
-
--- and so are the coefficients
-pub record IsWholeSystem (s : LinearSystem) (k : List ℕ) (a b : List ℤ) : Type 0 where
-  pub entries_size : length a ≡ height s * s.width
-  pub sides_size : length b ≡ height s
-  pub scales : AreScales s k
-  pub entries : (i j : ℕ) → i < height s → j < s.width → entry s i j ≡ frac (whole_cell s.width a i j) (scale_at k (s.width + i))
-  pub sides : HasSides s k b
 
 -- a bound of the right sides, with room for a sum of so many
 pub record HasSideBound (s : LinearSystem) (b : List ℤ) (most : ℕ) : Type 0 where

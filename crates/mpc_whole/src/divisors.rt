@@ -1,6 +1,6 @@
 //! Divisors that go into many numbers.
 
-ghost use Rattle.std.specs.Prelude.{◌≡◌, ℕ};
+ghost use Rattle.std.specs.Prelude.{◌≡◌};
 
 /// The lowest 64 bits.
 const LOW: u128 = 0xffff_ffff_ffff_ffff;

@@ -4,15 +4,15 @@ ghost use Rattle.std.specs.Prelude.{◌≡◌, ℕ, ℤ, ◌+◌, ◌-◌, ◌*�
 ghost use Rattle.mpc_rows.specs.LinearSystem.{height};
 ghost use Rattle.mpc_whole.specs.declared.variables.Seat.TheVariants.{Column};
 ghost use Rattle.mpc_whole.specs.Table.{seat_at, IsSeated};
-ghost use Rattle.mpc_whole.specs.Whole.{whole_at, whole_cell, scale_at, side_cell, AreScales};
+ghost use Rattle.mpc_whole.specs.Whole.{side_cell};
+ghost use Rattle.mpc_scaled.specs.Scaled.{whole_at, whole_cell};
 ghost use Rattle.mpc_whole.specs.Running.{HasNumbers};
 ghost use Rattle.mpc_whole.specs.Judged.{HasRoomAt, IsJudged, IsNorm, IsRowWithin};
 
 use crate::frames::JudgedFrame;
 use crate::variables::{Seat, column_of, is_basic};
-use crate::whole_rows::greatest;
-use crate::whole_systems::WholeSystem;
 use crate::wide_numbers::wide_side_cell;
+use mpc_scaled::{WholeSystem, greatest};
 
 /// What the products that are formed at a position may have.
 pub(crate) const ROOM: u128 = 1 << 125;

@@ -1,13 +1,14 @@
 //! The run of the simplex method by least numbers, on numbers of 128 bits out of which common divisors are taken.
 
-ghost use Rattle.std.specs.Prelude.{◌≡◌, ℕ, ◌*◌, ◌-◌, ◌<◌, ◌≤◌, ◌^◌, IfSome, length};
+ghost use Rattle.std.specs.Prelude.{◌≡◌, ◌-◌, ◌<◌, ◌≤◌, ◌^◌, IfSome, length};
 ghost use Rattle.mpc_rows.specs.Run.{count, steps};
 ghost use Rattle.mpc_whole.specs.Lists.{AreListsOf, of_wide};
 ghost use Rattle.mpc_whole.specs.Underway.{HasEnded};
 ghost use Rattle.mpc_whole.specs.Judged.{IsDividedRow, AreMildBefore, IsMildlyUnderway, IsGoingOn, IsNorm, IsProductOf};
 ghost use Rattle.mpc_whole.specs.Found.{IfJudgedEnd, IfJudgedNext};
 ghost use Rattle.mpc_whole.specs.Running.{HasNumbers};
-ghost use Rattle.mpc_whole.specs.Whole.{scale_at, IsWholeSystem, HasRoom};
+ghost use Rattle.mpc_whole.specs.Whole.{HasRoom};
+ghost use Rattle.mpc_scaled.specs.Scaled.{IsWholeSystem};
 
 use crate::frames::JudgedFrame;
 use crate::judge::{Factors, factors_of, judge_end, norm_of};
@@ -16,9 +17,9 @@ use crate::reduced::reduce;
 use crate::stated::{Here, Pivot, judge_pivot};
 use crate::variables::column_of;
 use crate::whole::{Ending, STEPS, swap};
-use crate::whole_systems::{WholeNumbers, WholeSystem};
 use crate::wide_turn::{DividedRow, divided_row, wide_entering, wide_first_out};
 use crate::wide_values::wide_stand;
+use mpc_scaled::{WholeNumbers, WholeSystem};
 
 /// Where a run stands, in numbers of 128 bits: its denominator, the greatest size of a number there, the greatest
 /// number and the greatest denominator of the positions before, the greatest product of a number there or a

@@ -16,7 +16,6 @@ mod whole_ends;
 mod whole_numbers;
 mod whole_pivot;
 mod whole_rows;
-mod whole_systems;
 mod whole_turn;
 mod whole_values;
 mod wide_numbers;
@@ -34,7 +33,6 @@ pub use whole::{Ending, Place, whole_run};
 pub use whole_ends::{last_multipliers, last_values, wide_last_multipliers, wide_last_values};
 pub use whole_numbers::{changed, turned};
 pub use whole_rows::{limit, put_units};
-pub use whole_systems::{WholeNumbers, WholeSystem};
 pub use whole_values::clear;
 
 /// What a run ends with.

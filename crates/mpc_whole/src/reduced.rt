@@ -1,7 +1,8 @@
 //! A pivot in whole numbers out of which a common divisor is taken.
 
-ghost use Rattle.std.specs.Prelude.{◌≡◌, ℕ, ℤ, List, pos, ◌+◌, ◌*◌, ◌<◌, ◌≤◌, ◌⊎◌, ◌+ℤ◌, ◌*ℤ◌, ◌^◌, neg_ℤ, unsigned_abs, IfSome, IsTrue, length};
-ghost use Rattle.mpc_whole.specs.Whole.{whole_at, whole_cell, IsSmall, IsChanged};
+ghost use Rattle.std.specs.Prelude.{◌≡◌, ℕ, ℤ, List, ◌+◌, ◌*◌, ◌<◌, ◌≤◌, ◌⊎◌, ◌+ℤ◌, ◌*ℤ◌, ◌^◌, neg_ℤ, unsigned_abs, IfSome, IsTrue, length};
+ghost use Rattle.mpc_whole.specs.Whole.{IsChanged};
+ghost use Rattle.mpc_scaled.specs.Scaled.{whole_at, whole_cell, IsSmall};
 ghost use Rattle.mpc_whole.specs.Judged.{IsTimes, IsReducedPivot};
 
 use crate::wide_numbers::{

@@ -5,16 +5,16 @@ ghost use Rattle.mpc_exact.specs.Rational.{frac, int};
 ghost use Rattle.mpc_rows.specs.LinearSystem.{height};
 ghost use Rattle.mpc_whole.specs.declared.variables.Seat.TheVariants.{Column};
 ghost use Rattle.mpc_whole.specs.Table.{seat_at, in_row};
-ghost use Rattle.mpc_whole.specs.Whole.{whole_at};
+ghost use Rattle.mpc_scaled.specs.Scaled.{whole_at};
 ghost use Rattle.mpc_whole.specs.Running.{HasNumbers};
 ghost use Rattle.mpc_whole.specs.Judged.{IsNorm, row_cell, coefficient_of, IsPlaced, IsPivotThere, IsRowBelow, IsTermStated, IsRowStated, IsJudgedByRows, IsPivotJudged};
 
 use crate::frames::JudgedFrame;
 use crate::judge::{Factors, ROOM, factor_at, judge, judge_end};
 use crate::variables::{Seat, column_of, is_basic};
-use crate::whole_systems::WholeSystem;
 use crate::wide_numbers::{positive, wide_product, wide_side_cell};
 use mpc_frac::Frac;
+use mpc_scaled::WholeSystem;
 
 /// A position of a run: where the variables stand, and the numbers of the unknowns over a denominator.
 #[derive(Clone, Copy, Drop)]

@@ -1,6 +1,6 @@
 //! Where the variables of a system stand at a position of a run.
 
-ghost use Rattle.std.specs.Prelude.{◌≡◌, ℕ, ◌<◌, IfOk, length, true, false};
+ghost use Rattle.std.specs.Prelude.{◌≡◌, ◌<◌, IfOk, length, true, false};
 ghost use Rattle.mpc_rows.specs.Run.{is_unknown};
 ghost use Rattle.mpc_whole.specs.Table.{seat_at, in_row, opening_seat, IsOpeningSeats};
 

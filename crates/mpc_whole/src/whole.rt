@@ -11,16 +11,17 @@ ghost use Rattle.mpc_whole.specs.Found.{IfEnded, IfNext};
 ghost use Rattle.mpc_whole.specs.Lists.{AreListsOf, of_short};
 ghost use Rattle.mpc_whole.specs.Held.{AreHeld, AreUnderway, AreTurning, HaveEnded};
 ghost use Rattle.mpc_whole.specs.Running.{HasNumbers, IsFrame};
-ghost use Rattle.mpc_whole.specs.Whole.{IsSmall, HasBasis, IsRowOf, side_cell, IsSideRow, IsSwapped};
+ghost use Rattle.mpc_whole.specs.Whole.{HasBasis, IsRowOf, side_cell, IsSideRow, IsSwapped};
+ghost use Rattle.mpc_scaled.specs.Scaled.{IsSmall};
 
 use crate::divisors::Divisor;
 use crate::frames::Frame;
 use crate::lists::RunLists;
 use crate::variables::{Seat, column_of, row_of};
 use crate::whole_pivot::exchange;
-use crate::whole_systems::{WholeNumbers, WholeSystem};
 use crate::whole_turn::{entering, leaving, leaving_row};
 use crate::whole_values::{Pivot, follow};
+use mpc_scaled::{WholeNumbers, WholeSystem};
 
 /// Exchanges the seats of l and e, so that l is the variable of e's column.
 pub(crate) fn swap(seats: &mut [Seat], nonbasic: &mut [usize], l: usize, e: usize, c: usize)

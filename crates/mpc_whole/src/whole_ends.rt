@@ -7,16 +7,17 @@ ghost use Rattle.mpc_rows.specs.Run.{Position, count, multiplier, turn, is_refut
 ghost use Rattle.mpc_whole.specs.Table.{IsSeated};
 ghost use Rattle.mpc_whole.specs.RunEnd.{IsValues, IsMultipliers};
 ghost use Rattle.mpc_whole.specs.Running.{IsRefuting};
-ghost use Rattle.mpc_whole.specs.Whole.{whole_total, whole_cell, IsWholeSystem, IsForm, HasBasis, IsRowOf, IsSideRow, AreValues, ArePairs};
+ghost use Rattle.mpc_whole.specs.Whole.{whole_total, IsForm, HasBasis, IsRowOf, IsSideRow, AreValues, ArePairs};
+ghost use Rattle.mpc_scaled.specs.Scaled.{whole_cell, IsWholeSystem};
 
 use crate::lists::{RunLists, WideLists};
 use crate::numbers::{Standing, zero};
 use crate::variables::{Seat, column_of, is_basic};
-use crate::whole_numbers::{product, widened};
-use crate::whole_systems::{WholeNumbers, WholeSystem};
+use crate::whole_numbers::widened;
 use crate::wide_numbers::{positive, wide_product};
 use crate::wide_turn::divided_side_row;
 use mpc_frac::Frac;
+use mpc_scaled::{WholeNumbers, WholeSystem, product};
 
 /// The fraction `z / den`, if it has 128 bits.
 fn quotient(z: i128, den: i128) -> Option<Frac>

@@ -1,27 +1,13 @@
 //! Sums and quotients of whole numbers.
 
-ghost use Rattle.std.specs.Prelude.{◌≡◌, ℕ, ℤ, pos, ◌+◌, ◌*◌, ◌<◌, ◌≤◌, ◌^◌, ◌+ℤ◌, ◌*ℤ◌, neg_ℤ, unsigned_abs, IfSome, true, length};
+ghost use Rattle.std.specs.Prelude.{◌≡◌, ℤ, pos, ◌+◌, ◌*◌, ◌<◌, ◌≤◌, ◌^◌, ◌+ℤ◌, ◌*ℤ◌, neg_ℤ, unsigned_abs, IfSome, true, length};
 ghost use Rattle.mpc_whole.specs.Sums.{are_short, are_of_four};
-ghost use Rattle.mpc_whole.specs.Whole.{whole_total, whole_at, whole_cell, IsSmall, HasRoom, turned};
+ghost use Rattle.mpc_whole.specs.Whole.{whole_total, HasRoom, turned};
+ghost use Rattle.mpc_scaled.specs.Scaled.{whole_at, whole_cell, IsSmall};
 ghost use Rattle.std.specs.Int.{w64, int_wrap};
 
 use crate::divisors::Divisor;
-
-/// The product of two numbers, which fits twice the width.
-#[inline]
-pub(crate) fn product(x: i64, y: i64) -> i128
-    ensures { result ≡ x *ℤ y }
-{
-    x as i128 * y as i128
-}
-
-#[inline]
-pub(crate) fn narrow(z: i128) -> i64
-    requires { unsigned_abs z ≤ 2 ^ 62 }
-    ensures { result ≡ z }
-{
-    z as i64
-}
+use mpc_scaled::{narrow, negative, product, signed};
 
 /// The number, if it is small.
 #[inline]
@@ -53,15 +39,6 @@ pub(crate) fn sum(x: i128, y: i128) -> i128
     x + y
 }
 
-#[inline]
-pub(crate) fn negative(z: i64) -> i64
-    requires { unsigned_abs z ≤ 2 ^ 62 }
-    ensures value { result ≡ neg_ℤ z }
-    ensures small { unsigned_abs result ≤ 2 ^ 62 }
-{
-    -z
-}
-
 /// Minus a number.
 #[inline]
 pub(crate) fn minus(n: u64) -> i64
@@ -80,16 +57,6 @@ pub fn turned(q: i64, z: i64) -> i64
     ensures small { unsigned_abs result ≤ unsigned_abs z }
 {
     if q < 0 { -z } else { z }
-}
-
-/// A number that is not negative, as a signed one. It is taken by its bits: were the compiler to know that it isn't
-/// negative, it would multiply it as an unsigned one by signed ones, which takes two multiplications.
-#[inline]
-pub(crate) fn signed(n: u64) -> i64
-    requires { n ≤ 2 ^ 62 }
-    ensures value { result ≡ pos n }
-{
-    n.cast_signed()
 }
 
 /// The quotient, if it is whole and small.

@@ -1,7 +1,8 @@
 //! A pivot in whole numbers.
 
-ghost use Rattle.std.specs.Prelude.{◌≡◌, ◌≢◌, ℕ, ℤ, pos, ◌+◌, ◌*◌, ◌<◌, ◌≤◌, ◌^◌, ◌⊎◌, ◌+ℤ◌, ◌*ℤ◌, neg_ℤ, unsigned_abs, IsTrue, IfSome, false, length};
-ghost use Rattle.mpc_whole.specs.Whole.{whole_at, whole_cell, IsSmall, IsChanged, IsWholePivot, turned};
+ghost use Rattle.std.specs.Prelude.{◌≡◌, ℕ, ℤ, pos, ◌+◌, ◌*◌, ◌<◌, ◌≤◌, ◌^◌, ◌⊎◌, ◌+ℤ◌, ◌*ℤ◌, neg_ℤ, unsigned_abs, IsTrue, IfSome, false, length};
+ghost use Rattle.mpc_whole.specs.Whole.{IsChanged, IsWholePivot, turned};
+ghost use Rattle.mpc_scaled.specs.Scaled.{whole_at, whole_cell, IsSmall};
 
 use crate::divisors::Divisor;
 use crate::whole_numbers::{changed, turned};

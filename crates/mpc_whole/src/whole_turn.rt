@@ -1,24 +1,25 @@
 //! Who leaves and who enters, in whole numbers.
 
-ghost use Rattle.std.specs.Prelude.{◌≡◌, ℕ, ℤ, List, pos, ◌+◌, ◌-◌, ◌*◌, ◌<◌, ◌≤◌, ◌^◌, ◌*ℤ◌, IsTrue, IfSome, unsigned_abs, length, true, false};
+ghost use Rattle.std.specs.Prelude.{◌≡◌, ℕ, ℤ, List, ◌+◌, ◌-◌, ◌*◌, ◌<◌, ◌≤◌, ◌^◌, ◌*ℤ◌, IsTrue, unsigned_abs, length, true, false};
 ghost use Rattle.mpc_rows.specs.LinearSystem.{height};
 ghost use Rattle.mpc_rows.specs.Least.{least};
 ghost use Rattle.mpc_rows.specs.Run.{Position, bound, value, may_leave, may_enter};
 ghost use Rattle.mpc_exact.specs.Pair.{is_below};
 ghost use Rattle.mpc_whole.specs.declared.variables.Seat.{Seat};
 ghost use Rattle.mpc_whole.specs.declared.variables.Seat.TheVariants.{Column};
-ghost use Rattle.mpc_whole.specs.Table.{seat_at, in_row, IsSeated, AreNonbasic};
+ghost use Rattle.mpc_whole.specs.Table.{seat_at, IsSeated, AreNonbasic};
 ghost use Rattle.mpc_whole.specs.Sums.{are_short, are_of_four};
 ghost use Rattle.mpc_whole.specs.Underway.{StayBefore};
-ghost use Rattle.mpc_whole.specs.Whole.{whole_at, whole_cell, whole_total, IsSmall, HasRoom, HasSides, HasSideValues, HasBasis, IsRowOf, IsSideRow, side_cell};
+ghost use Rattle.mpc_whole.specs.Whole.{whole_total, HasSideValues, HasBasis, IsRowOf, IsSideRow, side_cell};
+ghost use Rattle.mpc_scaled.specs.Scaled.{whole_at, whole_cell, IsSmall, HasSides};
 ghost use Rattle.mpc_whole.specs.Running.{HasNumbers, IsFrame, AreParts, AreShort};
 
 use crate::frames::Frame;
 use crate::variables::{Seat, is_basic};
 use crate::whole::Place;
-use crate::whole_numbers::{Sums, product, row_times, row_times_column, signed};
-use crate::whole_systems::WholeSystem;
+use crate::whole_numbers::{Sums, row_times, row_times_column};
 use crate::whole_values::step_of;
+use mpc_scaled::{WholeSystem, product, signed};
 
 /// Whether the value of side i is above its bound.
 #[inline(always)]

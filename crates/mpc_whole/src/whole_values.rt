@@ -6,14 +6,15 @@ ghost use Rattle.mpc_rows.specs.LinearSystem.{height};
 ghost use Rattle.mpc_rows.specs.Run.{bound};
 ghost use Rattle.mpc_whole.specs.declared.variables.Seat.{Seat};
 ghost use Rattle.mpc_whole.specs.Table.{variable_at, IsSeated, AreNonbasic};
-ghost use Rattle.mpc_whole.specs.Whole.{whole_at, scale_at, AreScales, IsSmall, HasRoom};
+ghost use Rattle.mpc_whole.specs.Whole.{HasRoom};
+ghost use Rattle.mpc_scaled.specs.Scaled.{whole_at, scale_at, AreScales, IsSmall};
 ghost use Rattle.mpc_whole.specs.Moved.{excess, IsMoved, AreMoved, IsValueAt, AreFormed, AreFollowed};
 ghost use Rattle.mpc_whole.specs.Running.{HasNumbers, AreParts, IsPivot};
 
 use crate::divisors::Divisor;
 use crate::frames::Frame;
-use crate::whole_numbers::{changed, minus, negative, product, signed, small, sum, wide_row_times};
-use crate::whole_systems::WholeSystem;
+use crate::whole_numbers::{changed, minus, small, sum, wide_row_times};
+use mpc_scaled::{WholeSystem, negative, product, signed};
 
 /// Writes 0 into each number.
 pub fn clear(list: &mut [i64])

@@ -1,10 +1,12 @@
 //! Sums, products and quotients of numbers of 128 bits, where they fit.
 
 ghost use Rattle.std.specs.Prelude.{◌≡◌, ℕ, ℤ, pos, ◌+◌, ◌*◌, ◌<◌, ◌≤◌, ◌^◌, ◌+ℤ◌, ◌*ℤ◌, neg_ℤ, unsigned_abs, IfSome, IsTrue, length};
-ghost use Rattle.mpc_whole.specs.Whole.{whole_total, whole_at, whole_cell, turned, IsSmall};
+ghost use Rattle.mpc_whole.specs.Whole.{whole_total, turned};
+ghost use Rattle.mpc_scaled.specs.Scaled.{whole_at, whole_cell, IsSmall};
 
 use crate::divisors::Divisor;
-use crate::whole_numbers::{narrow, product, small_quotient, widened};
+use crate::whole_numbers::{small_quotient, widened};
+use mpc_scaled::{narrow, product};
 
 /// A number that is not negative, as a signed one.
 #[inline]

@@ -10,18 +10,19 @@ ghost use Rattle.mpc_whole.specs.declared.variables.Seat.TheVariants.{Column};
 ghost use Rattle.mpc_whole.specs.Table.{seat_at, IsSeated, AreNonbasic};
 ghost use Rattle.mpc_whole.specs.Judged.{IsDividedRow};
 ghost use Rattle.mpc_whole.specs.Underway.{StayBefore};
-ghost use Rattle.mpc_whole.specs.Whole.{whole_at, IsSmall, HasSides, HasSideValues, HasBasis, IsRowOf, IsSideRow};
+ghost use Rattle.mpc_whole.specs.Whole.{HasSideValues, HasBasis, IsRowOf, IsSideRow};
+ghost use Rattle.mpc_scaled.specs.Scaled.{whole_at, IsSmall, HasSides};
 ghost use Rattle.mpc_whole.specs.Running.{HasNumbers};
 
 use crate::frames::JudgedFrame;
 use crate::judged::WidePlace;
 use crate::reduced::{shared_with_all, whole_share};
 use crate::variables::{Seat, is_basic};
-use crate::whole_systems::WholeSystem;
 use crate::whole_values::step_of;
 use crate::wide_numbers::{
     WideDivisor, are_short, column_value, divide_all, positive, product_with, wide_row_value,
 };
+use mpc_scaled::WholeSystem;
 
 /// Whether the value of side i is above its bound. The values of the unknowns and the denominator aren't tested where
 /// they are known to be short.

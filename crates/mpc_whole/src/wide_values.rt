@@ -6,12 +6,12 @@ ghost use Rattle.mpc_whole.specs.declared.variables.Seat.{Seat};
 ghost use Rattle.mpc_whole.specs.Table.{variable_at, IsSeated, AreNonbasic};
 ghost use Rattle.mpc_whole.specs.Moved.{IsValueAt, AreFormed};
 ghost use Rattle.mpc_whole.specs.Running.{HasNumbers};
-ghost use Rattle.mpc_whole.specs.Whole.{IsSmall};
+ghost use Rattle.mpc_scaled.specs.Scaled.{IsSmall};
 
 use crate::frames::JudgedFrame;
-use crate::whole_systems::WholeSystem;
 use crate::whole_values::step_of;
 use crate::wide_numbers::product_with;
+use mpc_scaled::WholeSystem;
 
 /// Both parts of the value of the unknown j. The numbers v aren't tested where they are known to be short.
 fn wide_value_of(

@@ -1,6 +1,7 @@
 use Rattle.std.proofs.Common.{◌≡◌, ◌*◌, ◌≤◌, ◌^◌, subst, arith, le_trans, mul-le-mul_left, mul-le-mul_right}
 use Rattle.mpc_rows.specs.Run.{count}
-use Rattle.mpc_whole.specs.Whole.{HasBounds, scale_at}
+use Rattle.mpc_whole.specs.Whole.{HasBounds}
+use Rattle.mpc_scaled.specs.Scaled.{scale_at}
 use Rattle.mpc_whole.proofs.WholeForm.{narrow_by_norms}
 use Rattle.mpc_whole.proofs.WholeRows.{has_room, has_bounds, weaker}
 use Rattle.mpc_beginnings.proofs.MildShared.{times_some}

@@ -1,5 +1,5 @@
 use Rattle.std.proofs.Common.{◌≡◌, ℕ, ◌<◌}
-use Rattle.mpc_whole.specs.Whole.{scale_at}
+use Rattle.mpc_scaled.specs.Scaled.{scale_at}
 use Rattle.mpc_beginnings.proofs.lists.begins_with.Given as goal
 
 abbrev pub invariant-loop-x : goal.invariant-loop-x

@@ -1,6 +1,6 @@
 use Rattle.std.proofs.Common.{sym, ap, subst, ◌∙◌, ◌^◌, cond, ℤ, List}
 use Rattle.std.proofs.lemmas.Bool.{both_ways}
-use Rattle.mpc_whole.specs.Whole.{IsSmall}
+use Rattle.mpc_scaled.specs.Scaled.{IsSmall}
 use Rattle.mpc_whole.specs.Lists.{of_short, of_wide}
 use Rattle.mpc_beginnings.proofs.Listed.{wide_of, short_of}
 use Rattle.mpc_beginnings.proofs.lists.put_copies.Goals as goal

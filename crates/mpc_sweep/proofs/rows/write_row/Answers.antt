@@ -1,7 +1,7 @@
 use Rattle.std.proofs.Common.{◌≡◌, ℕ, ◌+◌, ◌*◌, ◌≤◌, List, ℤ, length, pos, ◌*ℤ◌, unsigned_abs, to_z, sym, ◌∙◌, ap, arith}
 use Rattle.std.specs.Int.{w64}
 use Rattle.std.specs.List.{between}
-use Rattle.mpc_whole.specs.Whole.{whole_at}
+use Rattle.mpc_scaled.specs.Scaled.{whole_at}
 use Rattle.mpc_sweep.specs.Steps.{IsNumber, IsOwn, IsScaled, IsChanged}
 use Rattle.mpc_sweep.proofs.OneNumber.{written_as, row_size, row_small, read_at, own_number, scaled_number, other_number}
 use Rattle.mpc_sweep.proofs.rows.write_row.Goals as goal

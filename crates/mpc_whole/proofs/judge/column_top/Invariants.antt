@@ -1,5 +1,5 @@
 use Rattle.std.proofs.Common.{ℕ, ◌<◌, ◌≤◌, unsigned_abs}
-use Rattle.mpc_whole.specs.Whole.{whole_cell}
+use Rattle.mpc_scaled.specs.Scaled.{whole_cell}
 use Rattle.mpc_whole.proofs.judge.column_top.Given as goal
 
 abbrev pub invariant-loop-j : goal.invariant-loop-j

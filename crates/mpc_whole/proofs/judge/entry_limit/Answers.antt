@@ -2,7 +2,7 @@ use Rattle.std.proofs.Common.{ℕ, ◌≡◌, ◌∙◌, ◌*◌, ◌-◌, ◌/�
 use Rattle.std.specs.Int.{w64}
 use Rattle.std.proofs.lemmas.Int.{to_z-of_z}
 use Rattle.mpc_rows.specs.Run.{count}
-use Rattle.mpc_whole.specs.Whole.{whole_at, scale_at}
+use Rattle.mpc_scaled.specs.Scaled.{whole_at, scale_at}
 use Rattle.mpc_whole.proofs.Judges.{shared_out, shared_side, turned_round}
 use Rattle.mpc_whole.proofs.judge.entry_limit.Goals as goal
 use Rattle.mpc_whole.proofs.judge.entry_limit.Goals.{After-max}

@@ -1,7 +1,7 @@
 use Rattle.std.proofs.Common.{◌≡◌, ℕ, ◌*◌, ◌<◌, ◌≤◌, unsigned_abs}
 use Rattle.mpc_whole.specs.declared.variables.Seat.TheVariants.{Column}
 use Rattle.mpc_whole.specs.Table.{seat_at}
-use Rattle.mpc_whole.specs.Whole.{whole_at, scale_at}
+use Rattle.mpc_scaled.specs.Scaled.{whole_at, scale_at}
 use Rattle.mpc_whole.proofs.judge.factors_of.Given as goal
 
 abbrev pub invariant-loop-y : goal.invariant-loop-y

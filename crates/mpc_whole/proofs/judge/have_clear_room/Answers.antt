@@ -1,6 +1,7 @@
 use Rattle.std.proofs.Common.{ℕ, ◌*◌, ◌<◌, ◌≤◌, unsigned_abs, subst, arith, le_trans, mul-le-mul_left}
 use Rattle.std.proofs.lemmas.Option.{IfSome_then}
-use Rattle.mpc_whole.specs.Whole.{whole_cell, side_cell}
+use Rattle.mpc_whole.specs.Whole.{side_cell}
+use Rattle.mpc_scaled.specs.Scaled.{whole_cell}
 use Rattle.mpc_whole.proofs.WholeForm.{column_norm}
 use Rattle.mpc_whole.proofs.judge.have_clear_room.Goals as goal
 use Rattle.mpc_whole.proofs.judge.have_clear_room.Goals.{In_ok-most}

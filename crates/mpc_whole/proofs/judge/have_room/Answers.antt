@@ -1,7 +1,7 @@
 use Rattle.std.proofs.Common.{◌*◌, ◌≤◌, ◌^◌, arith, subst, le_refl, unsigned_abs}
 use Rattle.std.proofs.lemmas.Option.{IfSome_then}
 use Rattle.mpc_rows.specs.Run.{count}
-use Rattle.mpc_whole.specs.Whole.{scale_at}
+use Rattle.mpc_scaled.specs.Scaled.{scale_at}
 use Rattle.mpc_whole.proofs.Judges.{room_below, turned_round}
 use Rattle.mpc_whole.proofs.judge.have_room.Goals as goal
 

@@ -1,5 +1,5 @@
 use Rattle.std.proofs.Common.{ℕ, ◌*◌, ◌<◌, ◌≤◌, unsigned_abs, subst, arith, le_trans}
-use Rattle.mpc_whole.specs.Whole.{whole_cell}
+use Rattle.mpc_scaled.specs.Scaled.{whole_cell}
 use Rattle.mpc_whole.proofs.Judges.{within_share}
 use Rattle.mpc_whole.proofs.WholeForm.{column_norm}
 use Rattle.mpc_whole.proofs.judge.is_column_within.Goals as goal

@@ -3,7 +3,8 @@ use Rattle.std.proofs.lemmas.Bool.{both_ways}
 use borrow.Author.Count.{below_more}
 use Rattle.mpc_whole.specs.declared.variables.Seat.TheVariants.{Column}
 use Rattle.mpc_whole.specs.Table.{seat_at, in_row}
-use Rattle.mpc_whole.specs.Whole.{whole_cell, side_cell, scale_at}
+use Rattle.mpc_whole.specs.Whole.{side_cell}
+use Rattle.mpc_scaled.specs.Scaled.{whole_cell, scale_at}
 use Rattle.mpc_whole.specs.Judged.{HasRoomAt}
 use Rattle.mpc_whole.proofs.Seats.{column_same}
 use Rattle.mpc_whole.proofs.Judges.{within_share}

@@ -2,7 +2,8 @@ use Rattle.std.proofs.Common.{◌≡◌, ℕ, ◌*◌, ◌<◌, ◌≤◌, ◌^�
 use Rattle.mpc_rows.specs.LinearSystem.{height}
 use Rattle.mpc_whole.specs.declared.variables.Seat.TheVariants.{Column}
 use Rattle.mpc_whole.specs.Table.{seat_at}
-use Rattle.mpc_whole.specs.Whole.{whole_cell, scale_at, side_cell}
+use Rattle.mpc_whole.specs.Whole.{side_cell}
+use Rattle.mpc_scaled.specs.Scaled.{whole_cell, scale_at}
 use Rattle.mpc_whole.specs.Judged.{HasRoomAt}
 use Rattle.mpc_whole.proofs.judge.judge.Given as goal
 

@@ -1,7 +1,7 @@
 use Rattle.std.proofs.Common.{◌∙◌, ◌-◌, arith, ap, unsigned_abs, pos, get_or, FitsSigned, rules}
 use Rattle.std.specs.Int.{w64}
 use Rattle.std.proofs.lemmas.Int.{to_z-of_z}
-use Rattle.mpc_whole.specs.Whole.{whole_at}
+use Rattle.mpc_scaled.specs.Scaled.{whole_at}
 use Rattle.mpc_whole.proofs.judge.side_of.Goals as goal
 
 pub returns-then-y-width : goal.returns-then-y-width

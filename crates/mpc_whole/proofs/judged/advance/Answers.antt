@@ -6,7 +6,8 @@ use Rattle.mpc_rows.specs.Run.{count}
 use Rattle.mpc_whole.specs.declared.variables.Seat.{Seat}
 use Rattle.mpc_whole.specs.declared.variables.Seat.TheVariants.{Column}
 use Rattle.mpc_whole.specs.Table.{seat_at, variable_at, IsSeated, AreNonbasic}
-use Rattle.mpc_whole.specs.Whole.{IsSmall, IsSwapped}
+use Rattle.mpc_whole.specs.Whole.{IsSwapped}
+use Rattle.mpc_scaled.specs.Scaled.{IsSmall}
 use Rattle.mpc_whole.specs.Judged.{IsPivotJudged, IsRowWithin, IsReducedPivot, IsMildlyUnderway}
 use Rattle.mpc_whole.specs.Moved.{AreFormed}
 use Rattle.mpc_whole.proofs.ColumnSums.{in_column}

@@ -11,7 +11,7 @@ use Rattle.mpc_whole.proofs.Standing.{leaves_here, side_in, row_of_leaving}
 use Rattle.mpc_whole.proofs.WholeRun.{side_values_at}
 use Rattle.mpc_whole.proofs.JudgedRun.{judged_point, mild_point, judged_refuted, mild_refuted}
 use Rattle.mpc_whole.proofs.judged.judged_step.Goals as goal
-use Rattle.mpc_whole.proofs.judged.judged_step.Goals.{In_ok-out, In-Some, After-divided_row, After-wide_entering, In_ok-judge_end, In_ok-judge_end-2}
+use Rattle.mpc_whole.proofs.judged.judged_step.Goals.{In_ok-out, In-Some, After-wide_entering, In_ok-judge_end, In_ok-judge_end-2}
 
 found : (c : In_ok-out) → c.in_ok-out.out ≡ least (may_leave c.args.system.now (position c.args.system.now c.requires.underway.underway.stands.at)) (count c.args.system.now)
 found c =

@@ -1,5 +1,6 @@
 use Rattle.std.proofs.Common.{ℕ, ◌≡◌, ◌<◌, length, ◌∙◌, arith}
-use Rattle.mpc_whole.specs.Whole.{whole_cell, IsChanged}
+use Rattle.mpc_whole.specs.Whole.{IsChanged}
+use Rattle.mpc_scaled.specs.Scaled.{whole_cell}
 use Rattle.mpc_whole.proofs.WholeExchange.{rows_done, rows_kept}
 use Rattle.mpc_whole.proofs.reduced.raise_rows.Goals as goal
 

@@ -1,5 +1,6 @@
 use Rattle.std.proofs.Common.{◌≡◌, ℕ, ◌*◌, ◌<◌, ◌≤◌, length}
-use Rattle.mpc_whole.specs.Whole.{whole_at, whole_cell, IsChanged}
+use Rattle.mpc_whole.specs.Whole.{IsChanged}
+use Rattle.mpc_scaled.specs.Scaled.{whole_at, whole_cell}
 use Rattle.mpc_whole.proofs.reduced.raise_rows.Given as goal
 
 abbrev pub invariant-loop-j : goal.invariant-loop-j

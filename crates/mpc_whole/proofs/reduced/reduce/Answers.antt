@@ -1,7 +1,7 @@
 use Rattle.std.proofs.Common.{◌≡◌, ◌∙◌, ◌+◌, ◌*◌, length, refl, subst, ap, ◌*ℤ◌, pos, get_or, unsigned_abs, rules, FitsSigned}
 use Rattle.std.specs.Int.{w128}
 use Rattle.std.proofs.lemmas.Int.{to_z-of_z}
-use Rattle.mpc_whole.specs.Whole.{whole_at}
+use Rattle.mpc_scaled.specs.Scaled.{whole_at}
 use Rattle.mpc_whole.proofs.DividedRows.{pivot_divided}
 use Rattle.mpc_whole.proofs.WholeExchange.{changed_divided}
 use Rattle.mpc_whole.proofs.reduced.reduce.Goals as goal

@@ -1,10 +1,10 @@
-use Rattle.std.proofs.Common.{ℕ, ◌≡◌, ◌∙◌, ◌<◌, ◌≤◌, ◌*◌, ◌^◌, sym, ap, subst, subst₂, arith, rules, to_z, of_z, FitsSigned, unsigned_abs}
+use Rattle.std.proofs.Common.{ℕ, ◌≡◌, ◌∙◌, ◌<◌, ◌≤◌, ◌*◌, ◌^◌, sym, ap, subst, subst₂, arith, rules, to_z, FitsSigned, unsigned_abs}
 use Rattle.std.specs.Int.{w128}
 use Rattle.std.proofs.lemmas.Int.{to_z-of_z}
 use borrow.Author.Count.{below_more}
 use Rattle.mpc_whole.specs.declared.variables.Seat.TheVariants.{Column}
 use Rattle.mpc_whole.specs.Table.{seat_at}
-use Rattle.mpc_whole.specs.Whole.{scale_at}
+use Rattle.mpc_scaled.specs.Scaled.{scale_at}
 use Rattle.mpc_whole.specs.Judged.{row_cell}
 use Rattle.mpc_whole.proofs.Seats.{column_same}
 use Rattle.mpc_whole.proofs.stated.is_row_below.Goals as goal

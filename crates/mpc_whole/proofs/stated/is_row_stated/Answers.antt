@@ -1,4 +1,4 @@
-use Rattle.std.proofs.Common.{ℕ, ◌≡◌, ◌∙◌, ◌<◌, ◌*◌, ◌*ℤ◌, sym, ap, subst₂, rules, to_z, of_z, FitsSigned}
+use Rattle.std.proofs.Common.{ℕ, ◌≡◌, ◌∙◌, ◌*◌, sym, ap, subst₂, rules, to_z, FitsSigned}
 use Rattle.std.specs.Int.{w128}
 use Rattle.std.proofs.lemmas.Int.{to_z-of_z}
 use Rattle.std.proofs.lemmas.Option.{IfSome_then}
@@ -6,7 +6,7 @@ use Rattle.mpc_exact.specs.Rational.{ℚ, ◌*ℚ◌, inv_ℚ}
 use Rattle.mpc_frac.specs.Fits.{FitsFrac}
 use Rattle.mpc_whole.specs.declared.variables.Seat.TheVariants.{Column}
 use Rattle.mpc_whole.specs.Table.{seat_at}
-use Rattle.mpc_whole.specs.Whole.{whole_at}
+use Rattle.mpc_scaled.specs.Scaled.{whole_at}
 use Rattle.mpc_whole.specs.Judged.{row_cell, coefficient_of, IsTermStated}
 use Rattle.mpc_whole.proofs.Seats.{column_same}
 use Rattle.mpc_whole.proofs.stated.is_row_stated.Goals as goal

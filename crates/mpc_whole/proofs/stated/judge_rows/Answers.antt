@@ -1,4 +1,4 @@
-use Rattle.std.proofs.Common.{ℕ, ◌≡◌, ◌<◌, ◌*◌, ◌⊎◌, length, sym, subst, rules}
+use Rattle.std.proofs.Common.{◌<◌, ◌⊎◌, length, sym, subst, rules}
 use Rattle.std.proofs.lemmas.Option.{IfSome_then}
 use Rattle.mpc_whole.specs.Judged.{IsRowBelow, IsRowStated}
 use Rattle.mpc_whole.proofs.stated.judge_rows.Goals as goal

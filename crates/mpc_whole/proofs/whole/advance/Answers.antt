@@ -9,7 +9,8 @@ use Rattle.mpc_whole.specs.Table.{seat_at, variable_at, IsSeated, AreNonbasic}
 use Rattle.mpc_whole.specs.Moved.{AreFollowed}
 use Rattle.mpc_whole.specs.Running.{AreParts, IsPivot}
 use Rattle.mpc_whole.specs.Underway.{IsUnderway}
-use Rattle.mpc_whole.specs.Whole.{whole_at, scale_at, IsNarrow, IsSmall, IsSwapped, IsWholePivot}
+use Rattle.mpc_whole.specs.Whole.{IsNarrow, IsSwapped, IsWholePivot}
+use Rattle.mpc_scaled.specs.Scaled.{whole_at, scale_at, IsSmall}
 use Rattle.mpc_whole.proofs.ColumnSums.{in_column}
 use Rattle.mpc_whole.proofs.Seats.{row_seat}
 use Rattle.mpc_whole.proofs.ShortTurns.{leaver_side, side_below, leaver_in, leaver_seat, enterer_in, enterer_seat, seated_after}

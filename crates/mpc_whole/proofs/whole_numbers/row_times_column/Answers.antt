@@ -1,7 +1,7 @@
 use Rattle.std.proofs.Common.{rules, ◌∙◌, ◌≡◌, ◌+◌, ◌*◌, ◌*ℤ◌, pos, get_or, arith, FitsSigned}
 use Rattle.std.specs.Int.{w64}
 use Rattle.std.proofs.lemmas.Int.{to_z-of_z}
-use Rattle.mpc_whole.specs.Whole.{whole_cell}
+use Rattle.mpc_scaled.specs.Scaled.{whole_cell}
 use Rattle.mpc_whole.proofs.WholeRooms.{back64}
 use Rattle.mpc_whole.proofs.WholeWraps.{first_wrapped, next_wrapped, unwrapped}
 use Rattle.mpc_whole.proofs.whole_numbers.row_times_column.Goals as goal

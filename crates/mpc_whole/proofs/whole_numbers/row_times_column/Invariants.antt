@@ -1,6 +1,7 @@
 use Rattle.std.proofs.Common.{◌≡◌, ◌*ℤ◌}
 use Rattle.std.specs.Int.{w64, int_wrap}
-use Rattle.mpc_whole.specs.Whole.{whole_total, whole_cell}
+use Rattle.mpc_whole.specs.Whole.{whole_total}
+use Rattle.mpc_scaled.specs.Scaled.{whole_cell}
 use Rattle.mpc_whole.proofs.whole_numbers.row_times_column.Given as goal
 
 abbrev pub invariant-loop-j : goal.invariant-loop-j

@@ -1,6 +1,7 @@
 use Rattle.std.proofs.Common.{◌≡◌, ◌*ℤ◌, length}
 use Rattle.std.specs.Int.{w64, int_wrap}
-use Rattle.mpc_whole.specs.Whole.{whole_total, whole_cell, whole_at}
+use Rattle.mpc_whole.specs.Whole.{whole_total}
+use Rattle.mpc_scaled.specs.Scaled.{whole_cell, whole_at}
 use Rattle.mpc_whole.proofs.whole_numbers.short_row_times.Given as goal
 
 abbrev pub invariant-loop-j : goal.invariant-loop-j

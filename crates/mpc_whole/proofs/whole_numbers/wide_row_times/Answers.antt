@@ -1,10 +1,10 @@
 use Rattle.std.proofs.Common.{rules, sym, ◌∙◌, ◌≤◌, ◌+◌, ◌*◌, ◌^◌, ◌*ℤ◌, pos, get_or, length, ◌≡◌, to_z, of_z, FitsSigned, subst, unsigned_abs}
 use Rattle.std.specs.Int.{w64, w128}
-use Rattle.mpc_whole.specs.Whole.{whole_at, whole_cell}
+use Rattle.mpc_scaled.specs.Scaled.{whole_at, whole_cell}
 use Rattle.mpc_whole.proofs.WholeSums.{whole_total-zero}
 use Rattle.mpc_whole.proofs.WholeRooms.{partial_small, old_room, term_room, next_total, back128, both_back}
 use Rattle.mpc_whole.proofs.whole_numbers.wide_row_times.Goals as goal
-use Rattle.mpc_whole.proofs.whole_numbers.wide_row_times.Goals.{After-product, After-loop-j}
+use Rattle.mpc_whole.proofs.whole_numbers.wide_row_times.Goals.{After-product}
 
 pub loop-j-init : goal.loop-j-init
 loop-j-init c = sym (whole_total-zero _)

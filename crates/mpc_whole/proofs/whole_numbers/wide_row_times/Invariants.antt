@@ -1,5 +1,6 @@
 use Rattle.std.proofs.Common.{◌≡◌, ◌*ℤ◌, length}
-use Rattle.mpc_whole.specs.Whole.{whole_total, whole_cell, whole_at}
+use Rattle.mpc_whole.specs.Whole.{whole_total}
+use Rattle.mpc_scaled.specs.Scaled.{whole_cell, whole_at}
 use Rattle.mpc_whole.proofs.whole_numbers.wide_row_times.Given as goal
 
 abbrev pub invariant-loop-j : goal.invariant-loop-j

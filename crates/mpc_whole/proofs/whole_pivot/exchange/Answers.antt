@@ -1,7 +1,8 @@
 use Rattle.std.proofs.Common.{ℕ, ◌≡◌, ◌*◌, ◌<◌, ◌≤◌, ◌⊎◌, inl, inr, length, pos, unsigned_abs, arith, subst, sym, ◌∙◌, le_trans, mul-le-mul_right}
 use Rattle.std.proofs.lemmas.Bool.{cases_lt}
 use Rattle.std.proofs.lemmas.List.{get_or_past}
-use Rattle.mpc_whole.specs.Whole.{whole_at, whole_cell, IsChanged}
+use Rattle.mpc_whole.specs.Whole.{IsChanged}
+use Rattle.mpc_scaled.specs.Scaled.{whole_at, whole_cell}
 use Rattle.mpc_whole.proofs.WholeExchange.{rows_done, rows_kept, pivot_whole}
 use Rattle.mpc_whole.proofs.whole_pivot.exchange.Goals as goal
 use Rattle.mpc_whole.proofs.whole_pivot.exchange.Goals.{After-loop-j}

@@ -1,5 +1,6 @@
 use Rattle.std.proofs.Common.{◌≡◌, ℕ, ◌*◌, ◌<◌, ◌≤◌, length, unsigned_abs}
-use Rattle.mpc_whole.specs.Whole.{whole_at, whole_cell, IsSmall, IsChanged}
+use Rattle.mpc_whole.specs.Whole.{IsChanged}
+use Rattle.mpc_scaled.specs.Scaled.{whole_at, whole_cell, IsSmall}
 use Rattle.mpc_whole.proofs.whole_pivot.exchange.Given as goal
 
 abbrev pub invariant-loop-j : goal.invariant-loop-j

@@ -1,5 +1,5 @@
 use Rattle.std.proofs.Common.{◌≡◌, ◌<◌, ◌+◌, ◌*◌, length, arith, pos, le_refl, ℕ, ℤ, List, subst, sym, unsigned_abs, ◌≤◌}
-use Rattle.mpc_whole.specs.Whole.{whole_at, IsSmall}
+use Rattle.mpc_scaled.specs.Scaled.{whole_at, IsSmall}
 use Rattle.mpc_whole.proofs.WholeExchange.{row_below}
 use Rattle.mpc_whole.proofs.WholeSteps.{set_small}
 use Rattle.mpc_whole.proofs.WholeRows.{units_done, units_kept}

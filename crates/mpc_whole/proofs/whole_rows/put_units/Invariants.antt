@@ -1,5 +1,5 @@
 use Rattle.std.proofs.Common.{◌≡◌, ℕ, ◌<◌, pos}
-use Rattle.mpc_whole.specs.Whole.{whole_cell, IsSmall}
+use Rattle.mpc_scaled.specs.Scaled.{whole_cell, IsSmall}
 use Rattle.mpc_whole.proofs.whole_rows.put_units.Given as goal
 
 abbrev pub invariant-loop-i : goal.invariant-loop-i

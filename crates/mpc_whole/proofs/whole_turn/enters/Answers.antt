@@ -1,6 +1,6 @@
 use Rattle.std.proofs.Common.{◌≡◌, ◌∙◌, ◌≤ℤ◌, ◌<ℤ◌, sym, ap, subst, pos, nat_lt, to_z, of_z}
 use Rattle.std.specs.Int.{w64}
-use Rattle.mpc_whole.specs.Whole.{whole_at}
+use Rattle.mpc_scaled.specs.Scaled.{whole_at}
 use Rattle.mpc_whole.proofs.Nonbasic.{below_nought}
 use Rattle.mpc_whole.proofs.WholeSteps.{read_small}
 use Rattle.mpc_whole.proofs.WholeTurns.{side_enters, none_enters, as_unknown, lt_so, not_lt_so}

@@ -1,7 +1,8 @@
 use Rattle.std.proofs.Common.{◌≡◌, ◌<◌, None}
 use Rattle.mpc_rows.specs.Least.{least}
 use Rattle.mpc_rows.specs.Run.{Position, may_leave}
-use Rattle.mpc_whole.specs.Whole.{HasBasis, HasSideValues, HasSides}
+use Rattle.mpc_whole.specs.Whole.{HasBasis, HasSideValues}
+use Rattle.mpc_scaled.specs.Scaled.{HasSides}
 use Rattle.mpc_whole.specs.Underway.{StayBefore}
 use Rattle.mpc_whole.proofs.whole_turn.first_out.Given as goal
 

@@ -1,5 +1,5 @@
 use Rattle.std.proofs.Common.{◌≡◌, ℕ, ◌<◌, ◌≤◌, ◌^◌, ◌+ℤ◌, ◌*ℤ◌, neg_ℤ, pos, length}
-use Rattle.mpc_whole.specs.Whole.{whole_at, whole_cell, IsSmall}
+use Rattle.mpc_scaled.specs.Scaled.{whole_at, whole_cell, IsSmall}
 use Rattle.mpc_whole.specs.Moved.{excess}
 use Rattle.mpc_whole.proofs.whole_values.move_part.Given as goal
 

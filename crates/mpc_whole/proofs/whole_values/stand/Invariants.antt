@@ -1,6 +1,6 @@
 use Rattle.std.proofs.Common.{ℕ, ◌<◌, ◌≤◌, ◌^◌, unsigned_abs}
 use Rattle.mpc_whole.specs.Moved.{IsValueAt}
-use Rattle.mpc_whole.specs.Whole.{whole_at}
+use Rattle.mpc_scaled.specs.Scaled.{whole_at}
 use Rattle.mpc_whole.proofs.whole_values.stand.Given as goal
 
 abbrev pub invariant-loop-j : goal.invariant-loop-j

@@ -1,7 +1,7 @@
 use Rattle.std.proofs.Common.{rules, sym, subst, ◌∙◌, ◌+◌, ◌*◌, ◌+ℤ◌, ◌*ℤ◌, pos, get_or, ◌≡◌, to_z, of_z, FitsSigned}
 use Rattle.std.specs.Int.{w64, w128}
 use Rattle.std.proofs.lemmas.Int.{to_z-of_z}
-use Rattle.mpc_whole.specs.Whole.{whole_cell}
+use Rattle.mpc_scaled.specs.Scaled.{whole_cell}
 use Rattle.mpc_whole.proofs.WholeSums.{whole_total-zero, whole_total-next}
 use Rattle.mpc_whole.proofs.wide_numbers.column_value.Goals as goal
 

@@ -1,5 +1,6 @@
 use Rattle.std.proofs.Common.{◌≡◌, ◌*ℤ◌}
-use Rattle.mpc_whole.specs.Whole.{whole_total, whole_cell}
+use Rattle.mpc_whole.specs.Whole.{whole_total}
+use Rattle.mpc_scaled.specs.Scaled.{whole_cell}
 use Rattle.mpc_whole.proofs.wide_numbers.column_value.Given as goal
 
 abbrev pub invariant-loop-j : goal.invariant-loop-j

@@ -1,7 +1,7 @@
 use Rattle.std.proofs.Common.{◌≡◌, ◌∙◌, ◌<◌, ◌*ℤ◌, ap, arith, get_or, length, le_refl, pos, rules, to_z, of_z, FitsSigned}
 use Rattle.std.specs.Int.{w128}
 use Rattle.std.proofs.lemmas.Int.{to_z-of_z}
-use Rattle.mpc_whole.specs.Whole.{whole_at}
+use Rattle.mpc_scaled.specs.Scaled.{whole_at}
 use Rattle.mpc_whole.proofs.WholeSteps.{set_above, set_bound, set_product}
 use Rattle.mpc_whole.proofs.wide_numbers.divide_all.Goals as goal
 

@@ -1,7 +1,7 @@
 use Rattle.std.proofs.Common.{◌≡◌, ◌∙◌, ◌≤ℤ◌, ◌<ℤ◌, sym, ap, subst, pos, get_or, nat_lt, to_z, of_z, rules, FitsSigned}
 use Rattle.std.specs.Int.{w128}
 use Rattle.std.proofs.lemmas.Int.{to_z-of_z}
-use Rattle.mpc_whole.specs.Whole.{whole_at}
+use Rattle.mpc_scaled.specs.Scaled.{whole_at}
 use Rattle.mpc_whole.proofs.Nonbasic.{below_nought}
 use Rattle.mpc_whole.proofs.WholeTurns.{side_enters, none_enters, as_unknown, lt_so, not_lt_so}
 use Rattle.mpc_whole.proofs.wide_turn.enters.Goals as goal

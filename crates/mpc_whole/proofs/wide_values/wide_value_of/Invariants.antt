@@ -5,7 +5,8 @@ use Rattle.mpc_rows.specs.LinearSystem.{height}
 use Rattle.mpc_rows.specs.Run.{Position, IsTableau}
 use Rattle.mpc_whole.specs.declared.variables.Seat.{Seat}
 use Rattle.mpc_whole.specs.Table.{variable_at, IsSeated, AreNonbasic}
-use Rattle.mpc_whole.specs.Whole.{IsForm, HasSides}
+use Rattle.mpc_whole.specs.Whole.{IsForm}
+use Rattle.mpc_scaled.specs.Scaled.{HasSides}
 use Rattle.mpc_whole.proofs.Table.{first_terms, second_terms}
 use Rattle.mpc_whole.proofs.wide_values.wide_value_of.Given as goal
 

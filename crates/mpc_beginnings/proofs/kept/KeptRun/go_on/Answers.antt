@@ -1,7 +1,7 @@
 use Rattle.std.proofs.Common.{◌≡◌, ℕ, ◌<◌, List, length, sym, ◌∙◌, ap, subst}
 use Rattle.mpc_rows.specs.declared.systems.Row.{Row}
 use Rattle.mpc_rows.specs.LinearSystem.{LinearSystem, height}
-use Rattle.mpc_whole.specs.Whole.{scale_at}
+use Rattle.mpc_scaled.specs.Scaled.{scale_at}
 use Rattle.mpc_beginnings.specs.Beginnings.{lengthened}
 use Rattle.mpc_whole.specs.Lists.{AreListsOf}
 use Rattle.mpc_beginnings.specs.RunLists.{lists_of}

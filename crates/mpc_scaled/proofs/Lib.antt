@@ -1,0 +1,4 @@
+mod Small
+mod WholeSystems
+mod WholeAppended
+mod TurnedWhole

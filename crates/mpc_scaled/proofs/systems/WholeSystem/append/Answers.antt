@@ -1,0 +1,45 @@
+use Rattle.std.proofs.Common.{◌≡◌, ◌∙◌, ◌++◌, ap, sym, length, arith}
+use Rattle.mpc_rows.specs.LinearSystem.{LinearSystem}
+use Rattle.mpc_scaled.proofs.WholeAppended.{both_rows, both_lists}
+use Rattle.mpc_scaled.proofs.WholeSystems.{copied_rows, copied_lists, cut_back, rows_stand}
+use Rattle.mpc_scaled.proofs.systems.WholeSystem.append.Goals as goal
+use Rattle.mpc_scaled.proofs.systems.WholeSystem.append.Goals.{In-Ok, After-len-height, After-cut}
+use Rattle.mpc_scaled.specs.WholeSystems.{IsCopy}
+
+widths : (c : In-Ok) → c.other.inside.lists.width ≡ c.self.inside.lists.width
+widths c = ap (λ (s : LinearSystem). s.width) c.other.view_is ∙ c.requires ∙ ap (λ (s : LinearSystem). s.width) (sym c.self.view_is)
+
+pub invariant_of-self : goal.invariant_of-self
+invariant_of-self c = both_lists c.self.inside.lists c.other.inside.lists c.add_lists.new.lists c.self.invariant c.other.invariant (widths c) c.in-Ok.ensures.kept c.in-Ok.ensures.added
+
+pub returns-in-Ok-clause-ok : goal.returns-in-Ok-clause-ok
+returns-in-Ok-clause-ok c =
+    both_rows c.self.inside.lists c.other.inside.lists c.add_lists.new.lists c.self.invariant c.other.invariant (widths c) c.in-Ok.ensures.kept c.in-Ok.ensures.added
+    ∙ (λ t. (c.self.view_is t).rows ++ (c.other.view_is t).rows)
+
+-- without memory all is as it was
+height_is : (c : After-len-height) → c.len-height.result ≡ length c.self.inside.lists.b.items
+height_is c = let o = c.self.inside.lists.b.ok in let e = c.len-height.ensures in omega (arith, o, e)
+
+pub cut-requires : goal.cut-requires
+cut-requires c =
+    let at = goal.at.cut-requires c in
+    rows_stand c.self.inside.lists c.add_lists.new.lists c.len-height.result c.self.invariant c.add_lists.ensures.kept (height_is at.After-len-height)
+
+as_before : (c : After-cut) → c.len-height.result ≡ length c.self.inside.lists.b.items → IsCopy c.self.inside.lists c.cut.new.lists
+as_before c e = cut_back c.self.inside.lists c.add_lists.new.lists c.cut.new.lists c.len-height.result c.self.invariant c.add_lists.ensures.kept c.cut.ensures e
+
+pub invariant_of-self-in-Err : goal.invariant_of-self-in-Err
+invariant_of-self-in-Err c =
+    let at = goal.at.invariant_of-self-in-Err c in
+    copied_lists c.self.inside.lists c.cut.new.lists c.self.invariant (as_before at.After-cut (height_is at.After-len-height))
+
+pub returns-in-Err-clause-width : goal.returns-in-Err-clause-width
+returns-in-Err-clause-width c =
+    let at = goal.at.returns-in-Err-clause-width c in
+    (as_before at.After-cut (height_is at.After-len-height)).width ∙ ap (λ (s : LinearSystem). s.width) c.self.view_is
+
+pub returns-in-Err-clause-err : goal.returns-in-Err-clause-err
+returns-in-Err-clause-err c =
+    let at = goal.at.returns-in-Err-clause-err c in
+    copied_rows c.self.inside.lists c.cut.new.lists c.self.invariant (as_before at.After-cut (height_is at.After-len-height)) ∙ ap (λ (s : LinearSystem). s.rows) c.self.view_is
