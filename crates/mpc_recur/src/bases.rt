@@ -143,7 +143,9 @@ impl Base {
     }
 
     /// Whether the run shows that no point meets the leaf's own rows. Nothing is said where whole numbers don't serve.
-    pub fn is_empty(&self) -> bool {
+    pub fn is_empty(&self) -> bool
+        ensures { IsTrue result → IsRuledOut (Unit {0}) self.now }
+    {
         match &self.run {
             Some(run) => !run.has_point(),
             None => false,
