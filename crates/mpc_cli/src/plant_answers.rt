@@ -1,8 +1,7 @@
 //! The answers of the commands on a plant.
 
-ghost use Rattle.std.specs.Prelude.{◌≡◌, ◌≢◌, ◌≤◌, IfOk, IfErr, List, ℕ};
+ghost use Rattle.std.specs.Prelude.{◌≡◌, IfOk, IfErr, List, ℕ};
 ghost use Rattle.mpc_plant.specs.declared.plants.Plant.{Plant};
-ghost use Rattle.mpc_plant.specs.WholePlant.{ReadsAsPlant};
 ghost use Rattle.mpc_replies.specs.Cut.{tail_of};
 ghost use Rattle.mpc_synthesis.specs.Programs.{IsDecidedBy};
 ghost use Rattle.mpc_synthesis.specs.Refusals.{Extent, ExplainsSynthesisError};

@@ -1,7 +1,7 @@
 //! What a test of recursive feasibility answers.
 
-ghost use Rattle.std.specs.Prelude.{◌≡◌, ◌++◌, OnOk, OnErr, codes, decimal};
-ghost use Rattle.mpc_recur.specs.NextText.{target_text, next_text};
+ghost use Rattle.std.specs.Prelude.{◌≡◌, ◌++◌, OnOk, OnErr, decimal};
+ghost use Rattle.mpc_recur.specs.NextText.{next_text};
 ghost use Rattle.mpc_recur.specs.declared.answers.RecurError.TheVariants.{NoMemory as NoMoreMemory};
 ghost use Rattle.mpc_recur.specs.declared.answers.Stop.TheVariants.{NoMemory as NoMemoryLeft};
 ghost use Rattle.mpc_recur.specs.declared.answers.StageError.TheVariants.{TooWide, OutOfMemory};

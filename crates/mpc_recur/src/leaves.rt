@@ -1,6 +1,6 @@
 //! The targets of one leaf with a law, one after another.
 
-ghost use Rattle.std.specs.Prelude.{◌≡◌, ℕ, ◌+◌, ◌<◌, ◌≤◌, List, All, IsTrue, IfOk, OnOk, MatchResult, length, map, slice_get, Some};
+ghost use Rattle.std.specs.Prelude.{◌≡◌, ℕ, ◌+◌, ◌<◌, ◌≤◌, List, All, IsTrue, IfOk, OnOk, MatchResult, length, map, Some};
 ghost use Rattle.mpc_plant.specs.declared.plants.Plant.{Plant};
 ghost use Rattle.mpc_rows.specs.declared.laws.Law.{Law};
 ghost use Rattle.mpc_rows.specs.declared.systems.Row.{Row};

@@ -1,7 +1,6 @@
 //! The plants of sections, and their programs.
 
-ghost use Rattle.std.specs.Prelude.{◌≡◌, ◌++◌, ◌∷◌, [], ℕ, IfOk, List};
-ghost use Rattle.mpc_plant.specs.WholePlant.{ReadsAsPlant};
+ghost use Rattle.std.specs.Prelude.{IfOk};
 ghost use Rattle.mpc_rows.specs.declared.programs.Qp.{Qp as Program};
 ghost use Rattle.mpc_convex.specs.Convex.{IsConvexProgram};
 ghost use Rattle.mpc_sections.specs.Sections.{sections_of};

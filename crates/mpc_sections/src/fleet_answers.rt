@@ -1,6 +1,6 @@
 //! The answers to all sections of an input.
 
-ghost use Rattle.std.specs.Prelude.{◌≡◌, ◌<◌, ◌≤◌, IfOk, IfErr, length, vec_len};
+ghost use Rattle.std.specs.Prelude.{◌≡◌, ◌<◌, ◌≤◌, IfOk, IfErr, length};
 ghost use Rattle.mpc_claim.specs.Board.{Board};
 ghost use Rattle.mpc_sections.specs.declared.errors.SectionsError.TheVariants.{TooManyPlants};
 ghost use Rattle.mpc_sections.specs.Sections.{sections_of};

@@ -1,6 +1,6 @@
 //! The texts of spots where a controller is refused.
 
-ghost use Rattle.std.specs.Prelude.{◌≡◌, ◌++◌, OnOk, codes, decimal};
+ghost use Rattle.std.specs.Prelude.{◌≡◌, ◌++◌, OnOk, decimal};
 ghost use Rattle.mpc_status.specs.SpotText.{spot_text};
 
 use mpc_check::Spot;

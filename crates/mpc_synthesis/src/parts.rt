@@ -1,6 +1,6 @@
 //! What lies between decided candidates and a controller: the table of laws, the sealed parts, and what the checker says of them.
 
-ghost use Rattle.std.specs.Prelude.{◌≡◌, ℕ, IfOk, IfErr, OnOk, MatchResult};
+ghost use Rattle.std.specs.Prelude.{◌≡◌, IfOk, IfErr, OnOk, MatchResult};
 ghost use Rattle.mpc_rows.specs.declared.programs.Qp.{Qp};
 ghost use Rattle.mpc_claim.specs.declared.events.Phase.TheVariants.{Finished};
 ghost use Rattle.mpc_tree.specs.Causes.{IfWide};

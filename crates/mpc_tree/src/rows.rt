@@ -1,6 +1,6 @@
 //! The rows of a law, formed in whole numbers where these are small.
 
-ghost use Rattle.std.specs.Prelude.{◌≡◌, ℤ, pos, ◌+◌, ◌<◌, ◌≤◌, ◌^◌, ◌+ℤ◌, ◌*ℤ◌, neg_ℤ, unsigned_abs, IfOk, IfSome, length};
+ghost use Rattle.std.specs.Prelude.{◌≡◌, ℤ, pos, ◌+◌, ◌<◌, ◌≤◌, ◌^◌, ◌+ℤ◌, ◌*ℤ◌, unsigned_abs, IfOk, IfSome, length};
 ghost use Rattle.mpc_exact.specs.Rational.{int, ◌*ℚ◌};
 ghost use Rattle.mpc_space.specs.Matrix.{height};
 ghost use Rattle.mpc_space.specs.Total.{total};
@@ -15,6 +15,7 @@ use mpc_frac::{Frac, NoMemory};
 use mpc_linear::{LinearError, RowInt, Vector, primitive};
 use mpc_region::law_rows;
 use mpc_rows::{Law, Qp, law_row, law_theorems};
+use mpc_scaled::{narrow, negative};
 use mpc_sweep::Swept;
 use std::alloc::Global;
 
@@ -41,15 +42,6 @@ fn product(x: i64, y: i64) -> i128
     ensures small { unsigned_abs result ≤ 2 ^ 124 }
 {
     x as i128 * y as i128
-}
-
-/// A number that is small, in half the width.
-#[inline]
-fn narrow(z: i128) -> i64
-    requires { unsigned_abs z ≤ 2 ^ 62 }
-    ensures { result ≡ z }
-{
-    z as i64
 }
 
 /// The sum of two numbers, where it is small.
@@ -86,16 +78,6 @@ fn signed(n: u64) -> i64
     ensures small { unsigned_abs result ≤ 2 ^ 62 }
 {
     n as i64
-}
-
-/// Minus a number.
-#[inline]
-fn negative(z: i64) -> i64
-    requires { unsigned_abs z ≤ 2 ^ 62 }
-    ensures value { result ≡ neg_ℤ z }
-    ensures small { unsigned_abs result ≤ 2 ^ 62 }
-{
-    -z
 }
 
 /// The numbers of a program's rows, where they are small.
