@@ -21,3 +21,8 @@ keep_both xs ys new_xs new_ys a b =
           ap (λ (s : Seat). s.worker) (get_or-append_right new_xs new_ys (length xs) i d m (omega (arith, not_less)))
           ∙ (b.each (i - length xs) d (omega (arith, not_less, l, long)) ∙ sym (ap (λ (s : Seat). s.worker) (get_or-append_right xs ys (length xs) i d refl (omega (arith, not_less))))));
     }
+
+pub keep_on : (xs ys zs : List Seat) → KeepWorkers xs ys → KeepWorkers ys zs → KeepWorkers xs zs
+keep_on xs ys zs a b =
+    let m = a.len in
+    record { len = b.len ∙ m; each = λ i d l. b.each i d (omega (arith, l, m)) ∙ a.each i d l }

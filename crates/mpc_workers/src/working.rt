@@ -69,12 +69,17 @@ pub struct Worker<'a> {
     pub end: usize,
     /// How often it still lets a moment pass where another's stretch comes next.
     pub patience: u32,
+    /// With so many sets left of a level it leaves them to all workers. The most that there can be where it
+    /// doesn't work alone.
+    pub shares_from: usize,
+    /// Whether it left a level to all.
+    pub shares: bool,
     /// The examiner of that program, with the verdicts that it found ahead.
     pub examiner: Option<Outlook<'a>>,
 }
 
 impl<'a> Worker<'a> {
-    fn new() -> Worker<'a>
+    fn new(shares_from: usize) -> Worker<'a>
         ensures program { result.program ≡ 0 }
         ensures examiner { result.examiner ≡ None }
     {
@@ -84,6 +89,8 @@ impl<'a> Worker<'a> {
             plain_until: 0,
             end: 0,
             patience: PATIENCE,
+            shares_from,
+            shares: false,
             examiner: None,
         }
     }
@@ -184,17 +191,19 @@ impl<'a> Worker<'a> {
         }
     }
 
-    /// How many candidates to look at ahead at most: none once as many verdicts are known as are of use.
+    /// How many candidates to look at ahead at most: none once as many verdicts are known as are of use, or
+    /// while the worker works alone.
     fn most_ahead(&self) -> usize {
         match &self.examiner {
+            _ if self.shares_from < usize::MAX => 0,
             Some(examiner) if examiner.count_known() >= MOST_KNOWN => 0,
             _ => MOST_AHEAD,
         }
     }
 
-    /// Whether to claim without looking ahead: nothing is left of the level, or it is a narrow one, as the
-    /// worker's first look at it shows.
-    fn claims_plainly(&mut self, ahead: &Ahead) -> bool
+    /// Whether to look no further ahead: nothing is left of the level, or it is a narrow one, as the worker's
+    /// first look at it shows, or one that is left to all.
+    fn has_seen_enough(&mut self, ahead: &Ahead) -> bool
         ensures program { self.new.program ≡ self.old.program }
         ensures examiner { self.new.examiner ≡ self.old.examiner }
     {
@@ -203,7 +212,8 @@ impl<'a> Worker<'a> {
             self.plain_until = ahead.end;
         }
         self.end = ahead.end;
-        left == 0 || self.plain_until == ahead.end
+        self.shares = left >= self.shares_from;
+        self.shares || left == 0 || self.plain_until == ahead.end
     }
 
     /// Whether the set at this place is one to be claimed at once.
@@ -304,8 +314,8 @@ fn deliver<T: Wait>(
 }
 
 /// Takes a further stretch of candidates to be examined ahead, or else has some patience with others'
-/// stretches. Whether there may be more of use: not where the next set to be claimed is known, or none of the
-/// level is left.
+/// stretches. Whether there may be more of use: not where the next set to be claimed is known, none of the
+/// level is left, or all that are left are left to all workers.
 fn look_further<'a, T: Wait, G: Gate>(
     pool: &Pool<'a, T, G>,
     turn: &Turn,
@@ -327,7 +337,7 @@ fn look_further<'a, T: Wait, G: Gate>(
     let known = worker.first_known(qp, turn.next_place() as usize);
     let most = worker.most_ahead();
     let ahead = turn.look_ahead_as(pool.rt, &mut post.pass, known, parts, most)?;
-    if ahead.next == known || worker.claims_plainly(&ahead) {
+    if ahead.next == known || worker.has_seen_enough(&ahead) {
         return Ok(false);
     }
     if ahead.sets.is_empty() {
@@ -401,7 +411,7 @@ fn look_ahead<'a, T: Wait, G: Gate>(
 
 /// Examines a set in hand, passes the gate, delivers the verdict and claims the next set of the program:
 /// in one turn where that one's verdict is known, and else once it has looked ahead. Without memory for its
-/// verdict the set is given up. Once the work is called off, there is no next one.
+/// verdict the set is given up. Once the work is called off, or the level is left to all, there is no next one.
 fn finish_set<'a, T: Wait, G: Gate>(
     pool: &Pool<'a, T, G>,
     turn: &Turn,
@@ -442,10 +452,13 @@ fn finish_set<'a, T: Wait, G: Gate>(
         return Err(NoMemory);
     }
     look_ahead(pool, turn, qp, number, worker, post)?;
+    if worker.shares {
+        return Ok(None);
+    }
     claim(pool.rt, turn, qp, number, post)
 }
 
-/// Works on sets of a program from the one in hand on, until the program has none to claim.
+/// Works on sets of a program from the one in hand on, until the program has none to claim, or leaves them to all.
 fn finish_sets<'a, T: Wait, G: Gate>(
     pool: &Pool<'a, T, G>,
     turn: &Turn,
@@ -564,7 +577,7 @@ fn work_at_next<'a, T: Wait, G: Gate>(
 }
 
 /// Works at the next program that has a set to claim, or else waits for news. Whether there may be more to
-/// do: not once all programs have come to their end, or the work is called off.
+/// do: not once all programs have come to their end, or the work is called off or left to all.
 fn work_on<'a, T: Wait, G: Gate>(
     pool: &Pool<'a, T, G>,
     worker: &mut Worker<'a>,
@@ -582,7 +595,7 @@ fn work_on<'a, T: Wait, G: Gate>(
         return false;
     }
     match work_at_next(pool, worker, number, posts) {
-        Ok(true) => true,
+        Ok(true) => !worker.shares,
         Ok(false) => {
             let has_ended = posts.iter().all(|post| post.saw_end);
             if !has_ended {
@@ -597,7 +610,7 @@ fn work_on<'a, T: Wait, G: Gate>(
     }
 }
 
-/// Works until all programs have come to their end, or until the work is called off.
+/// Works until all programs have come to their end, or until the work is called off or left to all.
 ///
 /// Where no program has a set to claim, the worker waits for news. A worker that was woken has found
 /// its last program without a set before, so the next set that it claims is its first of a level, and
@@ -607,7 +620,8 @@ fn work_on<'a, T: Wait, G: Gate>(
 /// holds one of its sets, is awake, and claims there again as it delivers it; so until the end somebody
 /// is awake. Whoever ends, at the end or called off, wakes all and raises the count of the news, on
 /// which a sleep that begins later ends at once, since the count that it waits on was read before the
-/// worker looked whether the work is called off, and before its claims.
+/// worker looked whether the work is called off, and before its claims. A worker alone has delivered each set
+/// before it claims, so it finds a set or the end, and never sleeps; what it leaves to all, nobody holds.
 fn work<'a, T: Wait, G: Gate>(
     pool: &Pool<'a, T, G>,
     worker: &mut Worker<'a>,
@@ -627,14 +641,14 @@ fn work<'a, T: Wait, G: Gate>(
     unreachable!()
 }
 
-/// Works to the end, and wakes the others there, who end too.
-fn work_and_wake<'a, T: Wait, G: Gate>(pool: &Pool<'a, T, G>, seat: &mut Seat)
+/// Works to the end, or to a level with so many sets left, and wakes the others there, who end too.
+fn work_and_wake<'a, T: Wait, G: Gate>(pool: &Pool<'a, T, G>, seat: &mut Seat, shares_from: usize)
     requires definite { All (λ (qp : Program). IsDefinite qp.h.rows) pool.now.programs.now }
     requires seat { IsSeat pool.now.turns.now pool.now.programs.now pool.now.workers seat.old }
     ensures seat { IsSeat pool.now.turns.now pool.now.programs.now pool.now.workers seat.new }
     ensures same { seat.new.worker ≡ seat.old.worker }
 {
-    let mut worker = Worker::new();
+    let mut worker = Worker::new(shares_from);
     work(pool, &mut worker, seat.worker, seat.posts.as_mut_slice());
     let Worker {
         program: _,
@@ -642,17 +656,20 @@ fn work_and_wake<'a, T: Wait, G: Gate>(pool: &Pool<'a, T, G>, seat: &mut Seat)
         plain_until: _,
         end: _,
         patience: _,
+        shares_from: _,
+        shares: _,
         examiner,
     } = worker;
     discard(examiner);
     pool.news.wake_all();
 }
 
-/// The work of these seats, in so many threads.
+/// The work of these seats, in so many threads, to the end or to a level with so many sets left.
 fn walk<'a, T: Threads + Wait + Sync, G: Gate + Sync>(
     pool: &Pool<'a, T, G>,
     seats: &mut [Seat],
     threads: usize,
+    shares_from: usize,
 )
     requires definite { All (λ (qp : Program). IsDefinite qp.h.rows) pool.now.programs.now }
     requires threads { 0 < threads }
@@ -664,12 +681,46 @@ fn walk<'a, T: Threads + Wait + Sync, G: Gate + Sync>(
         pool.rt,
         seats,
         threads,
-        &|_, seat| work_and_wake(pool, seat),
+        &|_, seat| work_and_wake(pool, seat, shares_from),
     );
 }
 
-/// The work of all seats: of as many as are of use in threads beside each other, and then of the rest,
-/// who find the end.
+/// The work of the first seat alone, on the caller's thread: to the end, or to a level with so many sets left that
+/// the gate has all workers started. Several programs it would work at one after the other, so these aren't begun.
+fn work_alone<'a, T: Threads + Wait + Sync, G: Gate + Sync>(
+    pool: &Pool<'a, T, G>,
+    seats: &mut [Seat],
+)
+    requires definite { All (λ (qp : Program). IsDefinite qp.h.rows) pool.now.programs.now }
+    requires some { 0 < length seats.old }
+    requires seats { All (IsSeat pool.now.turns.now pool.now.programs.now pool.now.workers) seats.old }
+    ensures seats { All (IsSeat pool.now.turns.now pool.now.programs.now pool.now.workers) seats.new }
+    ensures workers { KeepWorkers seats.old seats.new }
+{
+    let shares_from = pool.gate.shares_from();
+    let count = if shares_from > 0 && pool.programs.len() == 1 {
+        1
+    } else {
+        0
+    };
+    let (first, _) = seats.split_at_mut(count);
+    walk(pool, first, 1, shares_from);
+}
+
+/// How many seats work in threads beside each other: one where nothing is left to be done.
+fn seats_in_threads<'a, T: Threads, G>(pool: &Pool<'a, T, G>, seats: &[Seat]) -> usize
+    requires { 0 < length seats.now }
+    ensures some { 0 < result }
+    ensures few { result ≤ length seats.now }
+{
+    if pool.news.is_called_off() || seats[0].posts.iter().all(|post| post.saw_end) {
+        return 1;
+    }
+    seats_at_once(pool.rt, seats.len(), pool.programs)
+}
+
+/// The work of all seats: of the first one alone, then of as many as are of use in threads beside each other, and
+/// then of the rest, who find the end.
 pub(crate) fn work_all<'a, T: Threads + Wait + Sync, G: Gate + Sync>(
     pool: &Pool<'a, T, G>,
     seats: &mut [Seat],
@@ -682,8 +733,9 @@ pub(crate) fn work_all<'a, T: Threads + Wait + Sync, G: Gate + Sync>(
     if seats.is_empty() {
         return;
     }
-    let at_once = seats_at_once(pool.rt, seats.len(), pool.programs);
-    let (first, rest) = seats.split_at_mut(at_once);
-    walk(pool, first, at_once);
-    walk(pool, rest, 1);
+    work_alone(pool, seats);
+    let threads = seats_in_threads(pool, seats);
+    let (first, rest) = seats.split_at_mut(threads);
+    walk(pool, first, threads, usize::MAX);
+    walk(pool, rest, 1, usize::MAX);
 }
