@@ -41,6 +41,9 @@ product_at_most u v m n h k = subst (λ z. z ≤ m * n) (sym (unsigned_abs-mul u
 pub both_at_most : (a b m n : ℕ) → a ≤ m → b ≤ n → a * b ≤ m * n
 both_at_most a b m n h k = le_trans (mul-le-mul_right b h) (mul-le-mul_left m k)
 
+pub short_room : (m n : ℕ) → m ≤ 2 ^ 41 → n ≤ 2 ^ 41 → m * n ≤ 2 ^ 124
+short_room m n h k = let p = both_at_most m n (2 ^ 41) (2 ^ 41) h k in omega (arith, p)
+
 at_most_below : (m n k : ℕ) → m ≤ n → n ≤ 2 ^ 124 → m < 2 ^ 127
 at_most_below m n k h l = omega (arith, h, l)
 
@@ -271,7 +274,8 @@ numerator_is x all d num numerator some few h q m e f is =
     ∙ ap (λ z. frac z all) (sym (ap (λ z. to_z w128 (of_z w128 z)) is ∙ to_z-of_z w128 (to_z w128 (of_z w128 num) *ℤ to_z w128 (all / d)) f
     ∙ (λ i. (read_mag num m ∙ e) i *ℤ (to_z_pos w128 (all / d) (omega (arith, l, few)) ∙ ap (λ n. pos (all / n)) q) i)))
 
-pub quotient_over : (x y : Wholes) → x.most * y.most ≤ 2 ^ 124 → (t : ℤ) → mag t < 2 ^ 127 → quotient (to_z w128 (of_z w128 t)) (to_z w128 (x.den * y.den)) ≡ frac t (x.den * y.den)
-quotient_over x y small t m =
-    let d = den_at_most x y small in
-    (λ i. quotient (read_mag t m i) (to_z_pos w128 (x.den * y.den) (omega (arith, d, small)) i)) ∙ quotient_positive t (x.den * y.den) (den_some x y small)
+pub quotient_over : (t : ℤ) (den : ℕ) → 0 < den → den ≤ 2 ^ 124 → mag t < 2 ^ 127 → quotient (to_z w128 (of_z w128 t)) (to_z w128 den) ≡ frac t den
+quotient_over t den some small m = (λ i. quotient (read_mag t m i) (to_z_pos w128 den (omega (arith, small)) i)) ∙ quotient_positive t den some
+
+pub numerator_read : (x : ℚ) (num : ℤ) → mag num < 2 ^ 127 → num ≡ x.numer → x ≡ frac (to_z w128 (of_z w128 num)) x.denom
+numerator_read x num m e = sym (frac_self x) ∙ ap (λ z. frac z x.denom) (sym (read_mag num m ∙ e))

@@ -16,6 +16,9 @@ use std::alloc::{AllocError, Global};
 /// The greatest size of the numbers here and of a product of three of them, 2^124: seven such products are below 2^127.
 const MOST: u128 = 0x1000_0000_0000_0000_0000_0000_0000_0000;
 
+/// The cube root of `MOST`, rounded down to a power of two: three numbers up to it are seen to have a small product without a multiplication.
+const SHORT: u128 = 0x200_0000_0000;
+
 /// The denominator.
 fn denominator(x: &Frac) -> u128
     ensures value { result ≡ x.now.denom }
@@ -34,7 +37,7 @@ pub fn common_multiple(a: u128, b: u128) -> Option<u128>
     ensures positive { IfSome result (λ m. 0 < m) }
     ensures small { IfSome result (λ m. m ≤ 2 ^ 124) }
 {
-    if a % b == 0 {
+    if a == b || a % b == 0 {
         return Some(a);
     }
     let part = a / greatest_common_divisor(a, b);
@@ -58,6 +61,19 @@ pub fn common_denominator(xs: &[Frac]) -> Option<u128>
     Some(all)
 }
 
+/// The numerator, where it is at most 2^124 in size.
+#[inline]
+fn small_numerator(x: &Frac) -> Option<i128>
+    ensures value { IfSome result (λ z. x.now ≡ frac z x.now.denom) }
+    ensures small { IfSome result (λ z. unsigned_abs z ≤ 2 ^ 124) }
+{
+    let numerator = x.num();
+    if numerator.unsigned_abs() > MOST {
+        return None;
+    }
+    Some(numerator)
+}
+
 /// The numerator of a fraction over a multiple of its denominator, where it is at most 2^124 in size.
 pub fn numerator_over(x: &Frac, all: u128) -> Option<i128>
     requires multiple { x.now.denom ∣ all }
@@ -66,7 +82,11 @@ pub fn numerator_over(x: &Frac, all: u128) -> Option<i128>
     ensures value { IfSome result (λ z. x.now ≡ frac z all) }
     ensures small { IfSome result (λ z. unsigned_abs z ≤ 2 ^ 124) }
 {
-    let times = all / denominator(x);
+    let below = denominator(x);
+    if below == all {
+        return small_numerator(x);
+    }
+    let times = all / below;
     let numerator = x.num().checked_mul(times as i128)?;
     if numerator.unsigned_abs() > MOST {
         return None;
@@ -98,6 +118,9 @@ pub fn over_one_denominator(xs: &[Frac]) -> Option<Wholes>
 fn is_small(x: u128, y: u128, z: u128) -> bool
     ensures { IsTrue result → x * y * z ≤ 2 ^ 124 }
 {
+    if x <= SHORT && y <= SHORT && z <= SHORT {
+        return true;
+    }
     let Some(two) = x.checked_mul(y) else {
         return false;
     };
@@ -120,6 +143,35 @@ pub fn grown_size(total: u128, numerator: i128, count: u64) -> Option<u128>
     Some(sum)
 }
 
+/// The product of numbers that fit 64 bits each.
+#[inline]
+fn short_product(x: i128, y: i128) -> i128
+    requires x_short { unsigned_abs x < 2 ^ 63 }
+    requires y_short { unsigned_abs y < 2 ^ 63 }
+    ensures { result ≡ x *ℤ y }
+{
+    (x as i64) as i128 * (y as i64) as i128
+}
+
+/// The same of short numerators.
+fn dot_of_short_numerators(x: &Wholes, y: &Wholes, count: usize) -> i128
+    requires few { count ≤ 6 }
+    requires x_short { x.now.most ≤ 2 ^ 41 }
+    requires y_short { y.now.most ≤ 2 ^ 41 }
+    ensures size { unsigned_abs result ≤ 6 * (x.now.most * y.now.most) }
+    ensures value { (xs ys : List ℚ) → IsOver xs x.now → IsOver ys y.now → length xs ≡ count → length ys ≡ count
+        → dot xs ys ≡ frac result (x.now.den * y.now.den) }
+    ensures fits { (xs ys : List ℚ) → IsOver xs x.now → IsOver ys y.now → length xs ≡ count → length ys ≡ count
+        → DotFits xs ys }
+{
+    sum_theorems();
+    let mut total = 0;
+    for k in 0..count {
+        total += short_product(x.numerators[k], y.numerators[k]);
+    }
+    total
+}
+
 /// The dot of the first numerators.
 fn dot_of_numerators(x: &Wholes, y: &Wholes, count: usize) -> i128
     requires few { count ≤ 6 }
@@ -130,6 +182,9 @@ fn dot_of_numerators(x: &Wholes, y: &Wholes, count: usize) -> i128
     ensures fits { (xs ys : List ℚ) → IsOver xs x.now → IsOver ys y.now → length xs ≡ count → length ys ≡ count
         → DotFits xs ys }
 {
+    if x.most <= SHORT && y.most <= SHORT {
+        return dot_of_short_numerators(x, y, count);
+    }
     sum_theorems();
     let mut total = 0;
     for k in 0..count {
@@ -213,6 +268,23 @@ pub fn difference_in_wholes(x: &Wholes, y: &Wholes, count: usize, side: &Frac) -
     Some(value)
 }
 
+/// The fraction of these parts, where it fits: nothing is reduced where it is whole.
+fn fraction_over(numerator: i128, den: u128) -> Option<Frac>
+    requires positive { 0 < den }
+    requires small { den ≤ 2 ^ 124 }
+    ensures { IfSome result (λ v. v ≡ frac numerator den) }
+{
+    if den == 1 {
+        if let Ok(whole) = i64::try_from(numerator) {
+            return Some(Frac::whole(whole));
+        }
+    }
+    let Ok(value) = Frac::new(numerator, den as i128) else {
+        return None;
+    };
+    Some(value)
+}
+
 /// The dot, where the numbers are small enough to show that each operation on fractions on the way to it fits.
 pub fn dot_in_wholes(x: &Wholes, y: &Wholes, count: usize) -> Option<Frac>
     requires { count ≤ 6 }
@@ -227,10 +299,7 @@ pub fn dot_in_wholes(x: &Wholes, y: &Wholes, count: usize) -> Option<Frac>
         return None;
     }
     let total = dot_of_numerators(x, y, count);
-    let Ok(value) = Frac::new(total, (x.den * y.den) as i128) else {
-        return None;
-    };
-    Some(value)
+    fraction_over(total, x.den * y.den)
 }
 
 /// The rows of a matrix, each over one denominator where it is small.
