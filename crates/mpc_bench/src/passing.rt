@@ -1,6 +1,6 @@
 //! Systems and answers as they pass to and from a C caller.
 
-ghost use Rattle.std.specs.Prelude.{◌≡◌, ℕ, ◌+◌, ◌*◌, ◌<◌, IfOk, MatchResult, All, length, map, ⊤};
+ghost use Rattle.std.specs.Prelude.{◌≡◌, ◌+◌, ◌*◌, ◌<◌, IfOk, MatchResult, All, length, map};
 ghost use Rattle.mpc_bench.specs.Parts.{value_of, IsReadable};
 ghost use Rattle.mpc_bench.specs.Sent.{row_of, sent_system, pair_of, IsReadableRow, IsReadableSystem};
 ghost use Rattle.mpc_bench.specs.Codes.{IfUnreadable, no_memory};

@@ -1,7 +1,6 @@
 //! Passes over many fractions, to measure single operations.
 
 ghost use Rattle.std.specs.Prelude.{◌≡◌, ℕ, ◌<◌, Some, slice_get};
-ghost use Rattle.mpc_exact.specs.Rational.{ℚ};
 ghost use Rattle.mpc_bench.specs.Digests.{low_of, number_of, number_at, mixed, digits_mixed, between, sum_digit, product_digit, order_digit, number_digit};
 
 use crate::fractions::order_code;

@@ -1,6 +1,6 @@
 //! A run: from a plant file to a reply.
 
-ghost use Rattle.std.specs.Prelude.{◌≡◌, ℕ, IfOk, IfErr, OnErr, length, map};
+ghost use Rattle.std.specs.Prelude.{◌≡◌, IfOk, IfErr, OnErr, length, map};
 ghost use Rattle.mpc_bench.specs.Parts.{value_of};
 ghost use Rattle.mpc_rows.specs.declared.programs.Qp.{Qp};
 ghost use Rattle.mpc_synthesis.specs.Controllers.{IsController};

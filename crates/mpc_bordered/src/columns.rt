@@ -1,9 +1,9 @@
 //! The columns of a table, each eliminated with the first ones.
 
-ghost use Rattle.std.specs.Prelude.{◌≡◌, ℕ, suc, ◌+◌, ◌*◌, ◌<◌, ◌≤◌, None, IfOk, length, get_or, min};
+ghost use Rattle.std.specs.Prelude.{◌≡◌, ℕ, suc, ◌+◌, ◌*◌, ◌<◌, ◌≤◌, IfOk, length, min};
 ghost use Rattle.mpc_space.specs.Matrix.{height, entry};
 ghost use Rattle.mpc_linear.specs.Elimination.{Table};
-ghost use Rattle.mpc_bordered.specs.Kept.{IfFormed, IsFormedColumn, AreFormed};
+ghost use Rattle.mpc_bordered.specs.Kept.{IsFormedColumn, AreFormed};
 
 use crate::entries::{divided, next_entry};
 use mpc_frac::Frac;

@@ -1,10 +1,8 @@
 //! What is kept of a table whose first columns are eliminated.
 
-ghost use Rattle.std.specs.Prelude.{◌≡◌, ◌≢◌, ℕ, ◌+◌, ◌*◌, ◌<◌, ◌≤◌, None, Some, IfOk, IfSome, IsTrue, length, get_or, min, pos};
+ghost use Rattle.std.specs.Prelude.{◌≡◌, ◌≢◌, ℕ, ◌+◌, ◌*◌, ◌<◌, ◌≤◌, None, Some, IfOk, IfSome, IsTrue, length, get_or, min};
 ghost use Rattle.std.proofs.Props.{props};
-ghost use Rattle.mpc_exact.specs.Rational.{ℚ, int};
 ghost use Rattle.mpc_space.specs.Matrix.{height, entry};
-ghost use Rattle.mpc_bordered.specs.Fronts.{HasFront};
 ghost use Rattle.mpc_bordered.specs.Kept.{HasPivot, IsKept};
 
 use crate::columns::columns;

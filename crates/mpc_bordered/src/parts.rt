@@ -1,6 +1,6 @@
 //! Parts of what is kept.
 
-ghost use Rattle.std.specs.Prelude.{◌≡◌, ℕ, ◌+◌, ◌^◌, ◌<◌, ◌≤◌, ◌++◌, IfOk, IfSome, IsTrue, length};
+ghost use Rattle.std.specs.Prelude.{◌≡◌, ◌+◌, ◌^◌, ◌<◌, ◌≤◌, ◌++◌, IfOk, IfSome, IsTrue, length};
 ghost use Rattle.mpc_space.specs.Matrix.{height, entry};
 ghost use Rattle.mpc_space.specs.Total.{unit};
 ghost use Rattle.mpc_bordered.specs.Parts.{place, part, ArePlaces, IsPicked, PicksRow, PicksTable};

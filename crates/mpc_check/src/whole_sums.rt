@@ -8,7 +8,7 @@ ghost use Rattle.mpc_space.specs.Vector.{AllNonneg, dot};
 ghost use Rattle.mpc_linear.specs.Dot.{DotFits};
 ghost use Rattle.mpc_linear.specs.declared.integers.RowInt.{RowInt};
 ghost use Rattle.mpc_rows.specs.declared.trees.Node.{Node};
-ghost use Rattle.mpc_rows.specs.LawRows.{whole_row, broken_row};
+ghost use Rattle.mpc_rows.specs.LawRows.{whole_row};
 ghost use Rattle.mpc_rows.specs.LinearSystem.{height, no_row};
 ghost use Rattle.mpc_rows.specs.Refutation.{ColumnsFit, CombinesToZero, Refutes, SumsFit, WeighsStrict};
 ghost use Rattle.mpc_rows.specs.SetRuns.{axis, box_rows};

@@ -1,6 +1,6 @@
 //! Any number of workers over one registry, without threads.
 
-ghost use Rattle.std.specs.Prelude.{◌≡◌, ◌-◌, ◌≤◌, length, slice_set, replicate, IfOk, OnErr, vec_len};
+ghost use Rattle.std.specs.Prelude.{◌≡◌, ◌-◌, ◌≤◌, length, slice_set, replicate, IfOk, OnErr};
 ghost use Rattle.mpc_space.specs.Definite.{IsDefinite};
 ghost use Rattle.mpc_claim.specs.declared.moves.Played.TheVariants.{Skipped};
 ghost use Rattle.mpc_claim.specs.Board.{opening};

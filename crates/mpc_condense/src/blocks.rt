@@ -1,7 +1,7 @@
 //! Blocks of matrices, entry by entry.
 
-ghost use Rattle.std.specs.Prelude.{◌≡◌, ◌+◌, ◌-◌, ◌<◌, ◌≤◌, length, IfOk, OnOk, MatchResult, pos};
-ghost use Rattle.mpc_exact.specs.Rational.{int, ◌+ℚ◌, ◌-ℚ◌, neg_ℚ};
+ghost use Rattle.std.specs.Prelude.{◌≡◌, ◌+◌, ◌-◌, ◌<◌, ◌≤◌, length, IfOk, OnOk, MatchResult};
+ghost use Rattle.mpc_exact.specs.Rational.{◌+ℚ◌, ◌-ℚ◌, neg_ℚ};
 ghost use Rattle.mpc_frac.specs.Fits.{FitsSum};
 ghost use Rattle.mpc_space.specs.Vector.{coordinate, dot};
 ghost use Rattle.mpc_space.specs.Matrix.{height, entry};

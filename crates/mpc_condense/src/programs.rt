@@ -1,6 +1,6 @@
 //! Condensing: the states are eliminated, and the moves alone are left.
 
-ghost use Rattle.std.specs.Prelude.{◌≡◌, IfOk, IfErr, OnOk, map};
+ghost use Rattle.std.specs.Prelude.{◌≡◌, IfOk, IfErr, OnOk};
 ghost use Rattle.mpc_condense.specs.Causes.{AllFit, IsCause};
 ghost use Rattle.mpc_condense.specs.Condensed.{IsCondensed, counts_of};
 

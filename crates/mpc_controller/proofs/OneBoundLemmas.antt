@@ -9,7 +9,7 @@ use Rattle.mpc_rows.specs.declared.trees.Node.{Node}
 use Rattle.mpc_rows.specs.declared.places.Place.{Place}
 use Rattle.mpc_rows.specs.declared.places.Place.TheVariants.{LawBound, NodeBound}
 use Rattle.mpc_controller.specs.Parts.{limits_of}
-use Rattle.mpc_controller.specs.Bounds.{InputsFit, LawFits, NodeFits, KeepBounds, IsFirstWideForm, IsWideInput, IsFirstWideNode, IsWideNode, IsFirstBroken}
+use Rattle.mpc_controller.specs.Bounds.{InputsFit, LawFits, NodeFits, KeepBounds, IsFirstWideForm, IsWideInput, IsFirstWideNode, IsFirstBroken}
 use Rattle.mpc_controller.specs.OneBound.{OneFirstBroken, KeptNotBroken}
 use Rattle.mpc_controller.proofs.BoundLemmas.{all_at}
 

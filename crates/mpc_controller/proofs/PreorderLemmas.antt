@@ -1,11 +1,9 @@
 -- Nodes in preorder.
 use Rattle.std.proofs.Common.{◌≡◌, ℕ, zero, suc, ◌+◌, List, [], ◌∷◌, ◌++◌, refl, subst, arith}
-use Rattle.mpc_linear.specs.declared.integers.RowInt.{RowInt}
 use Rattle.mpc_rows.specs.declared.trees.Node.{Node}
 use Rattle.mpc_rows.specs.declared.trees.Node.TheVariants.{Split, Law, NoMove}
 use Rattle.mpc_controller.specs.Preorder.{Spells}
 use Rattle.mpc_controller.specs.PreorderTheorems.{SplitSpells, LeafSpells, JoinedSpell}
-use Rattle.mpc_controller.specs.Walk.{IsLeaf}
 
 -- ---- one node behind nodes that spell trees
 pub spells_split : SplitSpells

@@ -1,6 +1,6 @@
 //! The bounds on a controller's numbers, tested law by law and node by node.
 
-ghost use Rattle.std.specs.Prelude.{◌≡◌, ℕ, ◌+◌, ◌*◌, ◌^◌, ◌<◌, ◌≤◌, ◌↔◌, length, All, unsigned_abs, IsTrue, IfOk, MatchOption};
+ghost use Rattle.std.specs.Prelude.{◌≡◌, ◌+◌, ◌*◌, ◌^◌, ◌<◌, ◌≤◌, ◌↔◌, length, All, unsigned_abs, IsTrue, IfOk, MatchOption};
 ghost use Rattle.mpc_space.specs.Matrix.{height};
 ghost use Rattle.mpc_controller.specs.Parts.{limits_of, IsLawFor, HaveShapes};
 ghost use Rattle.mpc_controller.specs.Bounds.{reach, FormFits, SplitFits, InputsFit, LawFits, NodeFits, HasSize, IsFirstWideForm, IsWideInput, IsFirstWideNode, IsFirstBroken, KeepBounds};

@@ -1,14 +1,14 @@
 -- What the loops keep of the matrix that they work on.
-use Rattle.std.proofs.Common.{◌≡◌, ◌≢◌, ℕ, ◌+◌, ◌<◌, ◌≤◌, pos, refl, sym, ◌∙◌, ap, subst, arith, ⊎_elim}
+use Rattle.std.proofs.Common.{◌≡◌, ◌≢◌, ℕ, ◌+◌, ◌<◌, ◌≤◌, pos, sym, ◌∙◌, subst, arith, ⊎_elim}
 use Rattle.std.proofs.lemmas.Bool.{cases_eq}
 use Rattle.mpc_exact.specs.Rational.{ℚ, int, ◌-ℚ◌, ◌*ℚ◌, ◌/ℚ◌, inv_ℚ}
 use Rattle.mpc_frac.specs.Fits.{FitsFrac}
 use Rattle.mpc_linear.specs.Dot.{TakenFits}
 use Rattle.mpc_space.specs.Matrix.{RationalMatrix, height, entry}
-use Rattle.mpc_linear.specs.Entries.{with_entry, zero_matrix}
+use Rattle.mpc_linear.specs.Entries.{with_entry}
 use Rattle.mpc_definite.specs.Pivots.{without_column, RowFits, StepFits}
-use Rattle.mpc_definite.specs.Steps.{IsSquare, IsLike, CopiesRow, IsLowerOf, EliminatesRow, EliminatesColumn}
-use Rattle.mpc_definite.proofs.Cells.{with_entry-same, with_entry-row, with_entry-others, with_entry-shape, like-trans, zero_matrix-height, zero_matrix-entry}
+use Rattle.mpc_definite.specs.Steps.{IsLike, EliminatesRow, EliminatesColumn}
+use Rattle.mpc_definite.proofs.Cells.{with_entry-same, with_entry-row, with_entry-others, with_entry-shape, like-trans}
 
 -- writing one entry of row i of a matrix like old
 like_with : (old m : RationalMatrix) (i k : ℕ) (v : ℚ) → i < height old → IsLike old m → IsLike old (with_entry m i k v)

@@ -1,13 +1,10 @@
 -- The absolute value, the lesser and the greater of two fractions, and sums of lists.
-use Rattle.std.proofs.Common.{◌≡◌, Bool, true, false, cond, List, [], ◌∷◌, ◌++◌, map, ℤ, pos, negsuc, unsigned_abs, refl, sym, ◌∙◌, ap, subst, ◌⊎◌, inl, inr, ⊎_elim}
-use Rattle.std.specs.List.{AllByRecursion}
+use Rattle.std.proofs.Common.{◌≡◌, Bool, true, false, cond, [], ◌∷◌, ◌++◌, pos, refl, sym, ◌∙◌, ap, subst, ◌⊎◌, ⊎_elim}
 use Rattle.mpc_exact.specs.Rational.{ℚ, int, ◌+ℚ◌, ◌*ℚ◌, neg_ℚ, abs_ℚ, min_ℚ, max_ℚ, ◌≤ℚ◌, ◌<ℚ◌, le_ℚ, IsNonneg}
-use Rattle.mpc_exact.proofs.Rational.{+ℚ_assoc}
 use Rattle.mpc_exact.proofs.RationalRing.{reads, by_ring}
-use Rattle.mpc_exact.proofs.RationalOrder.{nonneg_int, nonneg-add, nonneg-mul, ≤ℚ_refl, ≤ℚ_of_<, ≤ℚ_antisymm}
+use Rattle.mpc_exact.proofs.RationalOrder.{nonneg-mul, ≤ℚ_refl, ≤ℚ_of_<, ≤ℚ_antisymm}
 use Rattle.mpc_exact.proofs.RationalField.{abs_cases}
 use Rattle.mpc_exact.proofs.Linear.{linear_le, claims, none, le, eq}
-use Rattle.mpc_exact.proofs.School.{int_le, int-neg}
 use Rattle.mpc_exact.proofs.OrderTheorems.{le_ℚ-true, le_ℚ-false, neg_nonneg}
 
 -- ---- the absolute value

@@ -7,7 +7,7 @@ use Rattle.mpc_exact.specs.Rational.{ℚ, int, ◌+ℚ◌, ◌-ℚ◌, ◌*ℚ�
 use Rattle.mpc_exact.proofs.Ring.{Expr, con, ◌⊕◌, ◌⊗◌, ◌⊖◌, Poly, nil, term, order, plus, scale, norm, Read, eval, norm-poly, poly}
 use Rattle.mpc_exact.proofs.Rational.{rational_ring, +ℚ_comm, int-add}
 use Rattle.std.proofs.Math.IntN.{+ℤ_invr}
-use Rattle.mpc_exact.proofs.RationalRing.{reads, by_ring, rat_add, rat_mul, rat_neg, rat_lit, rat_var}
+use Rattle.mpc_exact.proofs.RationalRing.{reads, by_ring}
 use Rattle.mpc_exact.proofs.RationalOrder.{IsNonneg, IsPositive, gap, strict_gap, nonneg-add, nonneg-mul, nonneg_int, positive-add, positive-mul, positive_int, le_or_lt, ≤ℚ_of_<, <ℚ_irrefl, ≤ℚ_refl}
 
 -- ---- the search for multipliers

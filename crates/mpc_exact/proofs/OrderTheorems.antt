@@ -3,7 +3,7 @@ use Rattle.std.proofs.Common.{◌≡◌, ◌≢◌, [], ◌∷◌, Bool, true, f
 use Rattle.mpc_exact.specs.Rational.{ℚ, int, ◌+ℚ◌, ◌*ℚ◌, ◌/ℚ◌, neg_ℚ, inv_ℚ, ◌≤ℚ◌, ◌<ℚ◌, le_ℚ, lt_ℚ, IsNonneg, IsPositive}
 use Rattle.mpc_exact.proofs.Rational.{*ℚ_inv, *ℚ_comm}
 use Rattle.mpc_exact.proofs.RationalRing.{reads, by_ring, by_equation, by_equations}
-use Rattle.mpc_exact.proofs.RationalOrder.{gap, strict_gap, nonneg-mul, positive-mul, positive_int, by_le, by_lt, by_le_times, by_lt_times, le_or_lt, ≤ℚ_antisymm, ≤ℚ_of_<, ≤ℚ_refl, <ℚ_irrefl, *ℚ-≤ℚ, inv_positive}
+use Rattle.mpc_exact.proofs.RationalOrder.{gap, strict_gap, nonneg-mul, positive-mul, positive_int, by_le, by_lt, by_le_times, by_lt_times, le_or_lt, ≤ℚ_antisymm, ≤ℚ_of_<, ≤ℚ_refl, <ℚ_irrefl, *ℚ-≤ℚ}
 use Rattle.mpc_exact.proofs.RationalField.{le_ℚ_is, lt_ℚ_is, *ℚ_cancel, product_zero}
 use Rattle.mpc_exact.proofs.Linear.{linear_le, linear_lt, linear_false, claims, none, le, lt, eq}
 

@@ -4,9 +4,9 @@ use Rattle.std.proofs.lemmas.Bool.{or_cases, or_parts, and_parts, and_cases}
 use Rattle.mpc_exact.specs.Rational.{ℚ, int, ◌+ℚ◌, ◌-ℚ◌, ◌*ℚ◌, ◌≤ℚ◌, ◌<ℚ◌, le_ℚ, lt_ℚ, IsNonneg, IsPositive}
 use Rattle.mpc_exact.specs.Pair.{Pair, IsBelow, IsAtMost, is_below, pair_add, pair_scale}
 use Rattle.mpc_exact.proofs.RationalRing.{reads, by_ring, by_equation}
-use Rattle.mpc_exact.proofs.RationalOrder.{nonneg_int, nonneg-add, positive-add, nonneg-mul, positive-mul, gap, strict_gap, from_gap, from_strict_gap, le_or_lt, ≤ℚ_antisymm, ≤ℚ_of_<, ≤ℚ_refl, ≤ℚ_trans, <ℚ-≤ℚ_trans, <ℚ_irrefl}
+use Rattle.mpc_exact.proofs.RationalOrder.{nonneg_int, nonneg-add, positive-add, nonneg-mul, positive-mul, gap, strict_gap, from_gap, from_strict_gap, le_or_lt, ≤ℚ_antisymm, ≤ℚ_of_<, ≤ℚ_trans, <ℚ-≤ℚ_trans, <ℚ_irrefl}
 use Rattle.mpc_exact.proofs.OrderTheorems.{zero_or_positive, <ℚ_trans, <ℚ_asymm, <ℚ-not-≡, three_ways, le_ℚ-true, lt_ℚ-true, le_ℚ-false, lt_ℚ-false}
-use Rattle.mpc_exact.proofs.Linear.{linear_lt, claims, none, le, lt, eq}
+use Rattle.mpc_exact.proofs.Linear.{linear_lt, claims, none, lt, eq}
 
 -- the pair (a, b) is above (0, 0), or at least that
 pub record IsPairPositive (a b : ℚ) : Type 0 where

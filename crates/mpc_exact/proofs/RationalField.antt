@@ -2,10 +2,9 @@
 use Rattle.std.proofs.Common.{◌≡◌, ◌≢◌, ℕ, suc, ◌<◌, [], ◌∷◌, T, ℤ, pos, negsuc, unsigned_abs, ◌⊎◌, inl, inr, ⊎_elim, ◌↔◌, refl, sym, ◌∙◌, ap, subst, arith}
 use Rattle.std.proofs.Math.IntN.{ℤ_discrete}
 use Rattle.std.proofs.lemmas.Int.{ints}
-use Rattle.std.specs.Coded.{Coded-set}
 use native.Mathlib.Decide.{ℕ_discrete}
 use mathlib.Core.HLevel.{Discrete}
-use Rattle.mpc_exact.specs.Rational.{ℚ, frac, int, ◌-ℚ◌, ◌*ℚ◌, neg_ℚ, inv_ℚ, abs_ℚ, ◌≤ℚ◌, ◌<ℚ◌, le_ℚ, lt_ℚ, same_parts, coded_ℚ, denom_positive, frac_self}
+use Rattle.mpc_exact.specs.Rational.{ℚ, frac, int, ◌-ℚ◌, ◌*ℚ◌, neg_ℚ, inv_ℚ, abs_ℚ, ◌≤ℚ◌, ◌<ℚ◌, le_ℚ, lt_ℚ, same_parts, denom_positive, frac_self}
 use Rattle.mpc_exact.proofs.Rational.{*ℚ_inv, frac-neg}
 use Rattle.mpc_exact.proofs.RationalRing.{reads, by_ring, by_equations}
 use Rattle.mpc_exact.proofs.RationalOrder.{IsNonneg, nonneg_frac}

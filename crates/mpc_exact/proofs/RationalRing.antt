@@ -2,7 +2,7 @@
 -- between two polynomials in x and y, the atoms of the list: any terms of type ℚ.
 use Rattle.std.proofs.Common.{◌≡◌, List, T, ℤ}
 use Rattle.mpc_exact.specs.Rational.{ℚ, frac, ◌+ℚ◌, ◌*ℚ◌, neg_ℚ}
-use Rattle.mpc_exact.proofs.Ring.{Ring, Read, Among, first, later, read_var, read_lit, read_add, read_mul, read_neg, by_reading, agree, from_one, from_two}
+use Rattle.mpc_exact.proofs.Ring.{Read, Among, first, later, read_var, read_lit, read_add, read_mul, read_neg, by_reading, agree, from_one, from_two}
 use Rattle.mpc_exact.proofs.Rational.{rational_ring}
 
 module _ {xs : List ℚ} where

@@ -1,6 +1,6 @@
 -- The rational numbers: fractions of whole numbers without a bound, each in lowest terms over a positive denominator, so that equal
 -- numbers are equal values. The operations and the order are those of school arithmetic.
-use Rattle.std.specs.Prelude.{◌≡◌, ℕ, zero, suc, ◌*◌, ◌/◌, ◌<◌, Bool, true, false, cond, ◌&&◌, T, List, [], ◌∷◌, eqb, ltb, ℤ, pos, negsuc, ◌+ℤ◌, ◌*ℤ◌, neg_ℤ, ◌≤ℤ◌, ◌<ℤ◌, int_div, unsigned_abs, int_le, int_lt}
+use Rattle.std.specs.Prelude.{◌≡◌, ℕ, zero, suc, ◌*◌, ◌/◌, ◌<◌, Bool, true, false, cond, ◌&&◌, T, ◌∷◌, eqb, ltb, ℤ, pos, negsuc, ◌+ℤ◌, ◌*ℤ◌, neg_ℤ, ◌≤ℤ◌, ◌<ℤ◌, int_div, unsigned_abs, int_le, int_lt}
 use Rattle.std.specs.Coded.{Coded, code_by, coded×, coded_ℕ, coded_ℤ}
 use Rattle.std.proofs.Common.{refl, sym, ◌∙◌, ap, subst, zero-lt-suc, lt→ltb, ltb→lt, eqb→eq, div-one, lt_irrefl}
 use Rattle.std.proofs.Common.{Ordering, int_cmp}

@@ -1,11 +1,10 @@
 -- What the fields of a `Frac` say of its number.
-use Rattle.std.proofs.Common.{◌≡◌, ℕ, ◌^◌, ◌<◌, ℤ, pos, ◌<ℤ◌, unsigned_abs, sym, ap, ◌∙◌, to_z, of_z, arith, subst, T, Bool, true, false, ◌&&◌, ltb, eqb, ltb→lt}
+use Rattle.std.proofs.Common.{◌≡◌, ℕ, ◌^◌, ◌<◌, ℤ, pos, ◌<ℤ◌, unsigned_abs, sym, ap, ◌∙◌, to_z, of_z, arith, subst, T, Bool, true, false, ◌&&◌}
 use Rattle.std.specs.Int.{w128}
 use lib.Signed.{lt_z, mag}
 use Rattle.std.proofs.Common.{◌≢◌}
 use Rattle.std.proofs.lemmas.Int.{fits_signed_from_abs, ints, to_z_pos, to_z-of_z}
 use Rattle.mpc_exact.specs.Rational.{ℚ, frac, frac_record, is_reduced}
-use Rattle.mpc_exact.specs.Gcd.{gcd}
 use Rattle.mpc_frac.specs.declared.Frac.TheInside.{Inside}
 use Rattle.mpc_frac.specs.FracModel.{number, IsFrac}
 use Rattle.mpc_frac.specs.Fits.{FitsFrac}

@@ -1,5 +1,5 @@
 -- The product of two fractions in lowest terms, with what cancels crosswise taken out first, is in lowest terms.
-use Rattle.std.proofs.Common.{◌≡◌, ℕ, zero, suc, ◌*◌, ◌/◌, ◌<◌, ◌≤◌, [], ◌∷◌, ℤ, pos, negsuc, ◌*ℤ◌, neg_ℤ, unsigned_abs, T, refl, sym, ◌∙◌, ap, subst, subst₂, arith, mul-pos, mul_comm, mul-one, lt_irrefl}
+use Rattle.std.proofs.Common.{◌≡◌, ℕ, zero, suc, ◌*◌, ◌/◌, ◌<◌, ◌≤◌, [], ◌∷◌, ℤ, pos, negsuc, ◌*ℤ◌, neg_ℤ, unsigned_abs, T, refl, sym, ◌∙◌, ap, subst, arith, mul-pos, mul_comm, mul-one, lt_irrefl}
 use native.Mathlib.Nat.{mul-div_cancel', mul-div_cancel_left, pos_of_dvd_of_pos, dvd-mul_right, dvd-mul_left, mul-mul-mul_comm}
 use Rattle.std.specs.Int.{◌∣◌}
 use Rattle.std.proofs.lemmas.Int.{ints, unsigned_abs-mul}

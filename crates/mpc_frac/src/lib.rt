@@ -1,7 +1,7 @@
 //! Exact fractions of 128-bit parts. An operation answers the value of exact arithmetic, or says that it is too wide.
 #![tactic(auto)]
 
-ghost use Rattle.std.specs.Prelude.{◌≡◌, ◌≢◌, ◌^◌, ◌*◌, ◌<◌, ◌≤◌, ◌++◌, ◌↔◌, ◌⊎◌, ◌/◌, MatchResult, IfOk, IfSome, OnOk, OnErr, IsTrue, unsigned_abs, pos, ◌+ℤ◌, ◌*ℤ◌, ◌<ℤ◌, neg_ℤ, ⊤};
+ghost use Rattle.std.specs.Prelude.{◌≡◌, ◌≢◌, ◌^◌, ◌*◌, ◌<◌, ◌≤◌, ◌++◌, ◌↔◌, ◌⊎◌, ◌/◌, MatchResult, IfOk, IfSome, OnOk, OnErr, IsTrue, unsigned_abs, pos, ◌+ℤ◌, ◌*ℤ◌, ◌<ℤ◌, ⊤};
 ghost use Rattle.std.proofs.Common.{nat_cmp};
 ghost use Rattle.mpc_exact.specs.Gcd.{gcd};
 ghost use Rattle.mpc_exact.specs.Rational.{◌*ℚ◌, ◌+ℚ◌, ◌<ℚ◌, frac, int, neg_ℚ, inv_ℚ, cmp_ℚ, quotient};

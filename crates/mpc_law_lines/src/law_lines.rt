@@ -9,7 +9,7 @@ ghost use Rattle.mpc_controller.specs.Parts.{limits_of, row_count};
 ghost use Rattle.mpc_controller.specs.Bounds.{FormFits};
 ghost use Rattle.mpc_grammar.specs.Reading.{Outcome, one_line};
 ghost use Rattle.mpc_grammar.specs.PlantGrammar.{plain_rule, AreNumbers, IsNumber};
-ghost use Rattle.mpc_grammar.specs.LawGrammar.{unknowns, IsLawLine, move_rule, moves, mults, written_law, law_count, written_laws};
+ghost use Rattle.mpc_grammar.specs.LawGrammar.{IsLawLine, move_rule, moves, mults, written_law, law_count, written_laws};
 
 use crate::forms::{Forms, matrix_of};
 use mpc_controller::{form_fits, limits};

@@ -1,6 +1,6 @@
 //! Sets of lines of a text.
 
-ghost use Rattle.std.specs.Prelude.{◌≡◌, ℕ, List, [], not, IfOk, OnOk, OnErr, ◌↔◌, ◌⊎◌, Contains, IsTrue};
+ghost use Rattle.std.specs.Prelude.{◌≡◌, ℕ, List, [], IfOk, OnOk, OnErr, ◌↔◌, ◌⊎◌, Contains, IsTrue};
 
 use mpc_frac::NoMemory;
 use mpc_grammar::digest;

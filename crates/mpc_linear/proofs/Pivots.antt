@@ -1,7 +1,7 @@
 -- The first entry of a column that isn't 0.
 use Rattle.std.proofs.Common.{◌≡◌, ◌≢◌, ℕ, zero, suc, ◌+◌, ◌-◌, ◌<◌, ◌≤◌, Bool, true, false, cond, ℤ, pos, negsuc, unsigned_abs, Option, Some, None, refl, ◌∙◌, ap, subst, arith, ◌⊎◌, inl, inr, ⊎_elim}
 use Rattle.std.proofs.lemmas.Bool.{cases_eq, both_ways, eqb-true}
-use Rattle.mpc_exact.specs.Rational.{ℚ, int, frac_parts}
+use Rattle.mpc_exact.specs.Rational.{ℚ, int}
 use Rattle.mpc_exact.proofs.Rational.{numer_zero}
 use Rattle.mpc_linear.specs.Elimination.{Table, is_zero, first_nonzero, pivot_row}
 

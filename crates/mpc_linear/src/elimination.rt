@@ -1,8 +1,8 @@
 //! The solution of linear systems by elimination.
 
-ghost use Rattle.std.specs.Prelude.{◌≡◌, ◌≢◌, ℕ, ◌+◌, ◌*◌, ◌^◌, ◌<◌, ◌≤◌, IfOk, OnOk, MatchResult, MatchOption, length, pos, ⊤};
+ghost use Rattle.std.specs.Prelude.{◌≡◌, ◌≢◌, ◌+◌, ◌*◌, ◌^◌, ◌<◌, ◌≤◌, IfOk, OnOk, MatchResult, MatchOption, length, pos, ⊤};
 ghost use Rattle.mpc_exact.specs.Rational.{int};
-ghost use Rattle.mpc_linear.specs.Elimination.{augmented, pivot_row, exchanged, reduced, ColumnFits, eliminated};
+ghost use Rattle.mpc_linear.specs.Elimination.{augmented, pivot_row, exchanged, reduced, ColumnFits};
 ghost use Rattle.mpc_linear.specs.Stored.{stored, SameFrom, IsDivided, QuotientsFit, IsTaken, RowTakenFits, IsCleared, RowsTakenFit, EndsAt, IsWideAt, ShowsSolution};
 ghost use Rattle.mpc_linear.specs.Answers.{IfWide};
 ghost use Rattle.mpc_linear.specs.Solution.{IsAnswer, FitsTo, IsWideColumn};

@@ -1,12 +1,12 @@
 //! Rows and affine forms in whole numbers.
 
-ghost use Rattle.std.specs.Prelude.{◌≡◌, ℕ, ◌*◌, ◌/◌, ◌^◌, ◌<◌, ◌≤◌, ◌↔◌, IfOk, MatchResult, MatchOption, OnOk, length, map, unsigned_abs, pos, ◌*ℤ◌, ℤ, int_div, ◌++◌, ◌∷◌, [], All, List};
+ghost use Rattle.std.specs.Prelude.{◌≡◌, ◌*◌, ◌/◌, ◌^◌, ◌<◌, ◌≤◌, ◌↔◌, IfOk, MatchResult, MatchOption, map, unsigned_abs, pos, ◌*ℤ◌, int_div, ◌++◌, ◌∷◌, [], List};
 ghost use Rattle.std.specs.Int.{◌∣◌};
-ghost use Rattle.mpc_exact.specs.Gcd.{gcd, lcm};
+ghost use Rattle.mpc_exact.specs.Gcd.{lcm};
 ghost use Rattle.mpc_exact.specs.Rational.{ℚ, int, ◌≤ℚ◌, ◌<ℚ◌};
-ghost use Rattle.mpc_exact.specs.Denominator.{common_denom, IsCommonDenom};
+ghost use Rattle.mpc_exact.specs.Denominator.{common_denom};
 ghost use Rattle.mpc_space.specs.Vector.{dot};
-ghost use Rattle.mpc_linear.specs.Whole.{scaled, ScaledFit, WholeFits, IsLeastForm, IsScaledRow, DividesAll, IsShared, AreSmall, IsPrimitive};
+ghost use Rattle.mpc_linear.specs.Whole.{scaled, ScaledFit, WholeFits, IsLeastForm, IsScaledRow, IsShared, AreSmall, IsPrimitive};
 ghost use Rattle.mpc_linear.specs.Answers.{IfWide};
 
 use crate::{Ints, LinearError, Vector};

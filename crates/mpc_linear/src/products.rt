@@ -1,7 +1,7 @@
 //! Sums of products, exactly or not at all.
 
-ghost use Rattle.std.specs.Prelude.{◌≡◌, IfOk, MatchResult, length, pos};
-ghost use Rattle.mpc_exact.specs.Rational.{int, ◌+ℚ◌, ◌-ℚ◌, ◌*ℚ◌};
+ghost use Rattle.std.specs.Prelude.{◌≡◌, IfOk, MatchResult, length};
+ghost use Rattle.mpc_exact.specs.Rational.{◌+ℚ◌, ◌-ℚ◌, ◌*ℚ◌};
 ghost use Rattle.mpc_space.specs.Vector.{dot};
 ghost use Rattle.mpc_linear.specs.Dot.{TermFits, TakenFits, SumFits, DotFits};
 

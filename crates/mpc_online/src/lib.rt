@@ -1,7 +1,7 @@
 //! The cheapest admissible choice at one state, by a dual active-set method.
 #![tactic(auto)]
 
-ghost use Rattle.std.specs.Prelude.{◌≡◌, ℕ, List, IfOk, MatchResult, length, ⊤};
+ghost use Rattle.std.specs.Prelude.{◌≡◌, List, IfOk, MatchResult, length, ⊤};
 ghost use Rattle.mpc_exact.specs.Rational.{ℚ};
 ghost use Rattle.mpc_space.specs.Vector.{IsSymmetric};
 ghost use Rattle.mpc_space.specs.Matrix.{height};

@@ -1,7 +1,7 @@
 //! The equations of a step as matrices.
 
-ghost use Rattle.std.specs.Prelude.{◌≡◌, ◌+◌, ◌-◌, ◌<◌, ◌≤◌, [], length, IfOk, slice_index_or, pos};
-ghost use Rattle.mpc_exact.specs.Rational.{int, neg_ℚ};
+ghost use Rattle.std.specs.Prelude.{◌≡◌, ◌+◌, ◌-◌, ◌<◌, ◌≤◌, [], length, IfOk};
+ghost use Rattle.mpc_exact.specs.Rational.{neg_ℚ};
 ghost use Rattle.mpc_space.specs.Vector.{cell, coordinate};
 ghost use Rattle.mpc_space.specs.Matrix.{height};
 ghost use Rattle.mpc_sets.specs.RowSet.{IsSetOfRows};

@@ -1,10 +1,7 @@
 //! Where the method stands, and its moves.
 
-ghost use Rattle.std.specs.Prelude.{◌≡◌, ◌≤◌, ◌<◌, ℕ, IfOk, OnOk, MatchResult, length};
-ghost use Rattle.std.specs.Prelude.{slice_index};
+ghost use Rattle.std.specs.Prelude.{◌≡◌, ◌≤◌, ◌<◌, IfOk, OnOk, MatchResult, length};
 ghost use Rattle.mpc_space.specs.Vector.{vec_add, vec_scale};
-ghost use Rattle.mpc_space.specs.Matrix.{height};
-ghost use Rattle.mpc_sets.specs.RowSet.{IsSetOfRows};
 ghost use Rattle.mpc_online.specs.Positions.{along, without_place, joined, place_of};
 ghost use Rattle.mpc_online.specs.Widths.{GrowsFit, MoveFits};
 ghost use Rattle.mpc_online.specs.Answers.{position_of};
@@ -13,7 +10,7 @@ use crate::prepared::Direction;
 use mpc_frac::{Frac, Wide};
 use mpc_linear::add_product;
 use mpc_sets::ActiveSet;
-use std::alloc::{AllocFailed, Global};
+use std::alloc::AllocFailed;
 
 /// The point; the rows that hold with equality, with a multiplier for each member in rising order; the row, from 1, that is on its way to
 /// join them, with its multiplier.

@@ -1,6 +1,6 @@
 //! The run of the method, step by step.
 
-ghost use Rattle.std.specs.Prelude.{◌≡◌, ℕ, [], List, IfOk, IfSome, MatchResult, length, ⊤};
+ghost use Rattle.std.specs.Prelude.{◌≡◌, IfOk, IfSome, MatchResult, length, ⊤};
 ghost use Rattle.mpc_space.specs.Vector.{IsSymmetric};
 ghost use Rattle.mpc_space.specs.Matrix.{height};
 ghost use Rattle.mpc_space.specs.Definite.{IsDefinite};

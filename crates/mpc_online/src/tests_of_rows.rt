@@ -1,7 +1,7 @@
 //! The first row that a point doesn't meet.
 
-ghost use Rattle.std.specs.Prelude.{◌≡◌, ◌-◌, ◌≤◌, ◌↔◌, IfOk, IfSome, IsTrue, MatchResult, length, pos};
-ghost use Rattle.mpc_exact.specs.Rational.{int, ◌-ℚ◌};
+ghost use Rattle.std.specs.Prelude.{◌≡◌, ◌-◌, ◌≤◌, ◌↔◌, IfOk, IfSome, IsTrue, MatchResult, length};
+ghost use Rattle.mpc_exact.specs.Rational.{◌-ℚ◌};
 ghost use Rattle.mpc_space.specs.Matrix.{height};
 ghost use Rattle.mpc_online.specs.StateRows.{level, side, IsViolated, IsFirstViolated};
 ghost use Rattle.mpc_online.specs.Widths.{TestFits, TestsFit};

@@ -1,11 +1,11 @@
 //! How far a step goes.
 
-ghost use Rattle.std.specs.Prelude.{◌≡◌, ◌≢◌, ◌<◌, ◌≤◌, ◌↔◌, ℕ, IsTrue, IfOk, MatchResult, MatchOption, length, pos, ⊤};
-ghost use Rattle.mpc_exact.specs.Rational.{ℚ, int};
+ghost use Rattle.std.specs.Prelude.{◌≡◌, ◌≢◌, ◌<◌, ◌≤◌, ◌↔◌, IsTrue, IfOk, MatchResult, length, pos};
+ghost use Rattle.mpc_exact.specs.Rational.{int};
 ghost use Rattle.mpc_space.specs.Vector.{IsZero};
 ghost use Rattle.mpc_space.specs.Matrix.{height};
 ghost use Rattle.mpc_online.specs.StateRows.{level};
-ghost use Rattle.mpc_online.specs.Turns.{shorter_of, NoneFalls, IsShortest, IsShortestWith, full_length, IsTurn};
+ghost use Rattle.mpc_online.specs.Turns.{shorter_of, IsShortestWith, full_length, IsTurn};
 ghost use Rattle.mpc_online.specs.Widths.{QuotientsFit, FullFits, LengthsFit};
 ghost use Rattle.mpc_online.specs.Standing.{IsPosition};
 ghost use Rattle.mpc_online.specs.Answers.{position_of};

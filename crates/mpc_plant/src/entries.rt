@@ -1,6 +1,6 @@
 //! Lists of numbers: vectors and matrices.
 
-ghost use Rattle.std.specs.Prelude.{◌≡◌, ◌<◌, ◌∷◌, ℕ, List, IfOk, Ok, Err, length, slice_set};
+ghost use Rattle.std.specs.Prelude.{◌≡◌, ◌<◌, ◌∷◌, ℕ, List, IfOk, Ok, Err, length};
 ghost use Rattle.serde_json.specs.View.{view, items_view};
 ghost use Rattle.mpc_plant.specs.declared.faults.PlantKind.{PlantKind as Kind};
 ghost use Rattle.mpc_plant.specs.Limits.{IsFromTo};
@@ -11,7 +11,7 @@ use crate::faults::{PlantError, PlantKind, under_item};
 use crate::numerals::number_in;
 use crate::values::integer;
 use mpc_frac::Frac;
-use mpc_linear::{Matrix, Vector};
+use mpc_linear::Vector;
 use serde_json::Value;
 use std::alloc::Global;
 

@@ -1,10 +1,10 @@
 //! The numbers that stand in strings.
 
-ghost use Rattle.std.specs.Prelude.{◌≡◌, ◌+◌, ◌*◌, ◌^◌, ◌<◌, ◌≤◌, ◌==◌, length, take, drop, position, pos, Some, None, IfSome, option_map, if◌then◌else◌};
+ghost use Rattle.std.specs.Prelude.{◌≡◌, ◌+◌, ◌*◌, ◌^◌, ◌<◌, ◌≤◌, ◌==◌, length, position, pos, Some, None, IfSome, option_map, if◌then◌else◌};
 ghost use Rattle.std.specs.List.{list_all};
 ghost use Rattle.std.specs.Char.{is_ascii_digit};
 ghost use Rattle.mpc_exact.specs.Rational.{frac};
-ghost use Rattle.mpc_plant.specs.Decimals.{decimal_value, numeral, parted, ratio, ratio_of, decimal_of, unsigned_number, text_number};
+ghost use Rattle.mpc_plant.specs.Decimals.{decimal_value, numeral, parted, ratio_of, decimal_of, unsigned_number, text_number};
 
 use mpc_frac::Frac;
 

@@ -7,7 +7,7 @@ ghost use Rattle.mpc_space.specs.Matrix.{height};
 ghost use Rattle.mpc_plant.specs.declared.faults.PlantKind.{PlantKind as Kind};
 ghost use Rattle.mpc_plant.specs.Limits.{IsFromTo, IsWeight, IsCoordinate, FitsRow, row_limit as most_rows};
 ghost use Rattle.mpc_linear.specs.Shape.{HasShape};
-ghost use Rattle.mpc_plant.specs.CheckedPlant.{keys_of, version_of, absent, plain_of, allowed_by, edition_of, horizon_of, at_key, weight_of, list_or_none, grid_of};
+ghost use Rattle.mpc_plant.specs.CheckedPlant.{keys_of, version_of, absent, plain_of, edition_of, horizon_of, at_key, weight_of, list_or_none, grid_of};
 ghost use Rattle.mpc_plant.specs.WholePlant.{head_of, dynamics_of, weights_of, targets_of, row_lists_of, few_rows, parts_of, stated_by, ReadsAsPlant, IsFirstFault};
 
 use crate::entries::{list, list_with_len, whole_number};

@@ -7,7 +7,7 @@ ghost use Rattle.mpc_exact.specs.Rational.{int, IsPositive};
 ghost use Rattle.mpc_plant.specs.declared.faults.PlantKind.{PlantKind as Kind};
 ghost use Rattle.mpc_plant.specs.Limits.{FitsRow, IsCoordinate, greatest_count};
 ghost use Rattle.mpc_plant.specs.Faults.{each};
-ghost use Rattle.mpc_plant.specs.CheckedRows.{vector_or_zeros, stage_row_of, terminal_row_of, step_of, count_in, count_of, axis_of};
+ghost use Rattle.mpc_plant.specs.CheckedRows.{vector_or_zeros, stage_row_of, terminal_row_of, step_of, count_of, axis_of};
 
 use crate::entries::{number, vector, whole_number};
 use crate::faults::{PlantError, PlantKind, under_item, under_key};

@@ -1,5 +1,5 @@
 //! A reader and a writer of std as a source and a sink.
-ghost use Rattle.std.specs.Prelude.{◌≡◌, ℕ, ◌<◌, ◌≤◌, [], ◌∷◌, ◌++◌, length, take, IfOk, IfErr, IfSome, OnOk, OnErr};
+ghost use Rattle.std.specs.Prelude.{◌≡◌, ◌<◌, ◌≤◌, [], ◌∷◌, ◌++◌, length, take, IfOk, IfErr, IfSome, OnOk, OnErr};
 ghost use Rattle.mpc_port.specs.Faults.{next_count};
 ghost use Rattle.mpc_port.specs.Passing.{IsDrawn, TookFront, TookThrough};
 ghost use Rattle.mpc_port.specs.SinkError.{ExplainsSinkError};

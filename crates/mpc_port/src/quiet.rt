@@ -1,5 +1,5 @@
 //! A source and a sink in memory that never fail.
-ghost use Rattle.std.specs.Prelude.{◌≡◌, ◌<◌, ◌∷◌, ◌++◌, [], Ok, Some, min, length, take, drop, IfOk, IfErr, OnErr};
+ghost use Rattle.std.specs.Prelude.{◌≡◌, ◌<◌, ◌∷◌, ◌++◌, [], Ok, Some, min, length, take, drop, IfOk, IfErr};
 ghost use Rattle.mpc_port.specs.Passing.{IsDrawn};
 
 use crate::history::History;

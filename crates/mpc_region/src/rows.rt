@@ -1,6 +1,6 @@
 //! The law of an active set and the rows of the law, read from a table that is swept for the set.
 
-ghost use Rattle.std.specs.Prelude.{◌≡◌, ℕ, ◌+◌, ◌<◌, ◌≤◌, ◌^◌, IfOk, OnOk, length, unsigned_abs, pos, ◌*ℤ◌, neg_ℤ};
+ghost use Rattle.std.specs.Prelude.{◌≡◌, ◌+◌, ◌<◌, ◌≤◌, ◌^◌, IfOk, OnOk, length, unsigned_abs, pos, ◌*ℤ◌, neg_ℤ};
 ghost use Rattle.std.specs.Int.{◌∣◌};
 ghost use Rattle.mpc_exact.specs.Gcd.{gcd};
 ghost use Rattle.mpc_exact.specs.Rational.{frac};

@@ -6,7 +6,6 @@ use Rattle.mpc_exact.proofs.Rational.{*ℚ_inv}
 use Rattle.mpc_exact.proofs.RationalRing.{reads, by_ring, by_equation}
 use Rattle.mpc_exact.proofs.RationalOrder.{positive-mul, nonneg-mul, gap, strict_gap, by_lt, ≤ℚ_of_<, <ℚ_irrefl, positive_int, inv_positive}
 use Rattle.mpc_exact.proofs.Linear.{linear_false, claims, none, le, lt}
-use Rattle.mpc_exact.specs.Pair.{Pair}
 use Rattle.mpc_space.specs.Total.{total}
 use Rattle.mpc_space.specs.Vector.{coordinate}
 use Rattle.mpc_space.proofs.Total.{total-same, total-zeros, total-add, total-scale, total-swap, total-nonneg, total-positive}
@@ -15,7 +14,7 @@ use Rattle.mpc_rows.specs.declared.systems.Row.{Row}
 use Rattle.mpc_rows.proofs.SumLemmas.{seen}
 use Rattle.mpc_rows.specs.LinearSystem.{LinearSystem, HasWidth, height, row_at, entry, IsWithin, IsPoint, point_at, IsPairPoint}
 use Rattle.mpc_rows.specs.Refutation.{Refutes}
-use Rattle.mpc_rows.specs.NumberedSystems.{left_side, IsPointBy, pair_at, IsPairPointBy, side_total, RefutesBy}
+use Rattle.mpc_rows.specs.NumberedSystems.{left_side, IsPointBy, side_total, RefutesBy}
 use Rattle.mpc_rows.proofs.SystemSums.{point_by, refutes_by}
 
 -- the multipliers' sum of the left sides is the dot of their columns' sums with the point

@@ -1,6 +1,6 @@
 //! The rows of a law.
 
-ghost use Rattle.std.specs.Prelude.{◌≡◌, ℕ, List, false, ◌<◌, ◌≤◌, ◌↔◌, ◌++◌, ◌∷◌, [], IfOk, MatchResult, length, unsigned_abs, ◌^◌};
+ghost use Rattle.std.specs.Prelude.{◌≡◌, List, false, ◌<◌, ◌≤◌, ◌↔◌, ◌++◌, ◌∷◌, IfOk, MatchResult, length, unsigned_abs, ◌^◌};
 ghost use Rattle.mpc_exact.specs.Rational.{ℚ};
 ghost use Rattle.mpc_space.specs.Vector.{coordinate};
 ghost use Rattle.mpc_space.specs.Matrix.{height};

@@ -1,6 +1,6 @@
 //! The test whether multipliers refute a system.
 
-ghost use Rattle.std.specs.Prelude.{◌≡◌, ℕ, ◌<◌, ◌↔◌, IsTrue, IfOk, MatchResult, List, length, pos, true, IsErr};
+ghost use Rattle.std.specs.Prelude.{◌≡◌, ◌<◌, ◌↔◌, IsTrue, IfOk, MatchResult, List, length, pos, true, IsErr};
 ghost use Rattle.mpc_exact.specs.Rational.{ℚ, int, ◌<ℚ◌};
 ghost use Rattle.mpc_space.specs.Vector.{dot, AllNonneg};
 ghost use Rattle.mpc_linear.specs.Dot.{DotFits};

@@ -1,6 +1,6 @@
 //! Tests of systems and rows.
 
-ghost use Rattle.std.specs.Prelude.{◌≡◌, IfOk, length};
+ghost use Rattle.std.specs.Prelude.{◌≡◌, IfOk};
 ghost use Rattle.mpc_space.specs.Matrix.{height};
 ghost use Rattle.mpc_linear.specs.Shape.{HasShape};
 

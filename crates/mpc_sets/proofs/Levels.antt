@@ -1,17 +1,14 @@
 -- Theorems of lists of sets in order.
-use Rattle.std.proofs.Common.{Bool, true, false, cond, filter, ◌≡◌, ℕ, suc, zero, ◌+◌, ◌-◌, ◌<◌, ◌≤◌, ◌⊎◌, ◌↔◌, List, [], ◌∷◌, length, get_or, Contains, refl, sym, ap, ◌∙◌, subst, inl, inr, arith}
+use Rattle.std.proofs.Common.{false, ◌≡◌, ℕ, suc, zero, ◌+◌, ◌-◌, ◌<◌, ◌≤◌, ◌⊎◌, ◌↔◌, List, [], ◌∷◌, length, get_or, Contains, refl, sym, ap, ◌∙◌, subst, inl, inr, arith}
 use Rattle.std.proofs.lemmas.Bool.{cases_eq}
 use Rattle.std.proofs.lemmas.List.{get_or_default}
 use Rattle.std.proofs.lemmas.List.Elements.{Contains-get_or}
 use Rattle.std.specs.Ordering.{is_ge}
 use Rattle.std.specs.declared.cmp.Ordering.{Ordering}
 use Rattle.std.specs.declared.cmp.Ordering.TheVariants.{Less, Equal, Greater}
-use Rattle.mpc_sets.specs.RowSet.{without_row}
 use Rattle.mpc_sets.specs.SetOrder.{set_cmp, IsBefore, IsInOrder}
-use Rattle.mpc_sets.specs.NextLevel.{IsOfOneSize, IsLevel, IsNextOf}
-use Rattle.mpc_sets.proofs.SetOrders.{IsBefore-trans, IsBefore-irrefl}
-use Rattle.mpc_sets.proofs.Joining.{next_without}
-use Rattle.mpc_sets.proofs.Singles.{next_one_larger}
+use Rattle.mpc_sets.specs.NextLevel.{IsLevel}
+use Rattle.mpc_sets.proofs.SetOrders.{IsBefore-trans}
 
 -- the first n sets are in order and of one size
 pub record IsLevelUpTo (sets : List (List ℕ)) (n : ℕ) : Type 0 where

@@ -1,12 +1,11 @@
 //! The run of the simplex method by least numbers.
 
-ghost use Rattle.std.specs.Prelude.{◌≡◌, ℕ, ◌+◌, ◌*◌, ◌<◌, ◌≤◌, ◌^◌, IfOk, MatchResult, MatchOption, length, ⊤, pos, true, false};
-ghost use Rattle.mpc_exact.specs.Rational.{int};
+ghost use Rattle.std.specs.Prelude.{◌≡◌, ◌+◌, ◌*◌, ◌<◌, ◌≤◌, ◌^◌, IfOk, MatchResult, MatchOption, length, ⊤, true, false};
 ghost use Rattle.mpc_rows.specs.LinearSystem.{height};
 ghost use Rattle.mpc_rows.specs.Least.{least};
 ghost use Rattle.mpc_rows.specs.Run.{value, multiplier, may_leave, may_enter, opening};
 ghost use Rattle.mpc_rows.specs.RunWidth.{ValueFits, ValuesFit, RunFits};
-ghost use Rattle.mpc_whole.specs.Table.{seat_at, in_row, IsSeated, HasShape, IsTable, position_of, opening_seat, IsOpeningSeats, IsOpeningEntries};
+ghost use Rattle.mpc_whole.specs.Table.{seat_at, in_row, IsTable, position_of, IsOpeningEntries};
 ghost use Rattle.mpc_simplex.specs.Nonbasic.{AreNonbasicSides};
 ghost use Rattle.mpc_simplex.specs.Room.{HasRoom};
 ghost use Rattle.mpc_simplex.specs.Answer.{IsValues, IsMultipliers, IsRunEnd, IfWide};

@@ -1,14 +1,10 @@
 -- Quadratic forms: sums, differences, multiples.
-use Rattle.std.proofs.Common.{◌≡◌, ℕ, ◌≤◌, List, [], ◌∷◌, length, get_or, pos, negsuc, sym, ◌∙◌, ap}
+use Rattle.std.proofs.Common.{◌≡◌, ◌≤◌, List, [], ◌∷◌, pos, negsuc, ◌∙◌, ap}
 use Rattle.mpc_exact.specs.Rational.{ℚ, int, ◌+ℚ◌, ◌-ℚ◌, ◌*ℚ◌}
-use Rattle.mpc_exact.proofs.Rational.{*ℚ_comm}
-use Rattle.mpc_space.specs.Total.{total}
-use Rattle.mpc_space.proofs.Total.{total-same, total-scale}
-use Rattle.mpc_space.proofs.Entries.{dot-total_within}
 use Rattle.mpc_exact.proofs.RationalRing.{reads, by_ring}
-use Rattle.mpc_space.specs.Vector.{coordinate, cell, dot, vec_add, vec_scale, vec_sub, mat_vec, IsSymmetric, quadratic, mat_add, outer}
+use Rattle.mpc_space.specs.Vector.{dot, vec_add, vec_scale, vec_sub, mat_vec, IsSymmetric, quadratic, mat_add, outer}
 use Rattle.mpc_space.proofs.Vector.{dot_comm, dot-add, dot-scale, dot-add_right, dot-scale_right}
-use Rattle.mpc_space.proofs.Matrix.{coordinate-mat_vec, mat_vec-add, mat_vec-scale, symmetric_swap, mat_vec-mat_add, mat_vec-outer}
+use Rattle.mpc_space.proofs.Matrix.{mat_vec-add, mat_vec-scale, symmetric_swap, mat_vec-mat_add, mat_vec-outer}
 
 -- q(x + y) = q x + 2 x' M y + q y
 pub quadratic-add : (m : List (List ℚ)) → IsSymmetric m → (xs ys : List ℚ) → quadratic m (vec_add xs ys) ≡ quadratic m xs +ℚ int (pos 2) *ℚ dot xs (mat_vec m ys) +ℚ quadratic m ys

@@ -1,5 +1,5 @@
 -- The laws of vectors and their dots, with no condition on lengths.
-use Rattle.std.proofs.Common.{◌≡◌, ℕ, zero, suc, ◌+◌, ◌<◌, List, [], ◌∷◌, ◌++◌, length, take, get_or, pos, negsuc, refl, sym, ◌∙◌, ap, arith, add-one}
+use Rattle.std.proofs.Common.{◌≡◌, ℕ, zero, suc, ◌+◌, ◌<◌, List, [], ◌∷◌, ◌++◌, length, pos, negsuc, refl, sym, ◌∙◌, ap, arith}
 use Rattle.mpc_exact.specs.Rational.{ℚ, int, ◌+ℚ◌, ◌-ℚ◌, ◌*ℚ◌, ◌≤ℚ◌, IsNonneg, IsPositive}
 use Rattle.mpc_exact.proofs.Rational.{*ℚ_comm, +ℚ_comm, +ℚ_assoc, +ℚ_zero, *ℚ_assoc, *ℚ-+ℚ}
 use Rattle.mpc_exact.proofs.RationalRing.{reads, by_ring}

@@ -1,6 +1,6 @@
 //! One sweep, row by row.
 
-ghost use Rattle.std.specs.Prelude.{◌≡◌, ◌≢◌, ℕ, ◌+◌, ◌-◌, ◌*◌, ◌<◌, ◌≤◌, ◌^◌, ◌++◌, ◌∷◌, [], List, ℤ, IfOk, IfSome, IsTrue, length, get_or, pos, ◌+ℤ◌, ◌*ℤ◌, neg_ℤ, unsigned_abs};
+ghost use Rattle.std.specs.Prelude.{◌≡◌, ◌≢◌, ℕ, ◌+◌, ◌-◌, ◌*◌, ◌<◌, ◌≤◌, ◌^◌, ◌++◌, ◌∷◌, [], List, ℤ, IfOk, IfSome, IsTrue, length, get_or, pos, ◌+ℤ◌, ◌*ℤ◌, unsigned_abs};
 ghost use Rattle.mpc_linear.specs.Elimination.{Table};
 ghost use Rattle.mpc_whole.specs.Whole.{turned};
 ghost use Rattle.mpc_scaled.specs.Scaled.{IsSmall};

@@ -1,12 +1,12 @@
 -- Rows that are written entry by entry, and the rows of a box by their places.
 use Rattle.std.proofs.Common.{◌≡◌, ℕ, zero, suc, ◌+◌, ◌-◌, ◌<◌, ◌≤◌, cond, nat_lt, false, List, [], ◌∷◌, ◌++◌, length, get_or, map, take, drop, ℤ, pos, negsuc, refl, sym, ◌∙◌, ap, subst, arith, Result, IfOk}
 use Rattle.std.specs.List.{range_with_len}
-use Rattle.std.proofs.lemmas.List.{append_assoc, take_more, replicate-append-replicate}
+use Rattle.std.proofs.lemmas.List.{append_assoc, take_more}
 use Rattle.std.proofs.Math.Seq.{take-length}
 use Rattle.std.proofs.lemmas.List.FromFn.{map-range_with_len_more}
 use Rattle.mpc_exact.specs.Rational.{ℚ, int, neg_ℚ, ◌*ℚ◌}
 use Rattle.mpc_exact.proofs.RationalRing.{reads, by_ring}
-use Rattle.mpc_space.specs.Vector.{vec_scale, listed, zeros}
+use Rattle.mpc_space.specs.Vector.{vec_scale, listed}
 use Rattle.mpc_rows.specs.declared.systems.Row.{Row}
 use Rattle.mpc_rows.specs.LinearSystem.{no_row}
 use Rattle.mpc_rows.specs.SetRuns.{axis, box_from, box_rows}

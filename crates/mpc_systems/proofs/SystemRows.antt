@@ -1,10 +1,8 @@
 -- Rows of systems, one behind the other.
-use Rattle.std.proofs.Common.{◌≡◌, ℕ, suc, ◌+◌, ◌<◌, List, [], ◌∷◌, ◌++◌, length, get_or, map, take, drop, pos, negsuc, refl, sym, ◌∙◌, ap, subst, arith, All}
-use Rattle.std.proofs.lemmas.List.{append-nil, append_assoc, take_more, length-append, length-drop, length-replicate, length-take-le}
-use Rattle.std.proofs.lemmas.List.Elements.{All-get_or}
-use Rattle.std.proofs.Math.Seq.{take-append_seam}
+use Rattle.std.proofs.Common.{◌≡◌, ℕ, suc, ◌+◌, ◌<◌, List, [], ◌∷◌, ◌++◌, length, get_or, map, take, drop, negsuc, refl, sym, ◌∙◌, ap, arith}
+use Rattle.std.proofs.lemmas.List.{append-nil, append_assoc, take_more, length-append, length-drop, length-take-le}
 use Rattle.mpc_exact.specs.Rational.{ℚ, int}
-use Rattle.mpc_space.specs.Vector.{vec_scale, zeros}
+use Rattle.mpc_space.specs.Vector.{vec_scale}
 use Rattle.mpc_space.proofs.Entries.{length-scale}
 use Rattle.mpc_rows.specs.declared.systems.Row.{Row}
 use Rattle.mpc_rows.specs.LinearSystem.{LinearSystem}

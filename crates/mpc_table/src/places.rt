@@ -1,6 +1,6 @@
 //! Lists of whole numbers that are kept once each, and named by their places.
 
-ghost use Rattle.std.specs.Prelude.{◌≡◌, ℕ, ℤ, List, [], ◌∷◌, IfOk, OnErr, length};
+ghost use Rattle.std.specs.Prelude.{◌≡◌, ℤ, List, [], ◌∷◌, IfOk, OnErr};
 ghost use Rattle.mpc_table.specs.Places.{ArePlaces, IsPlaced};
 
 use mpc_frac::NoMemory;

@@ -1,6 +1,6 @@
 //! Tables: what a controller's replies need, and the replies.
 
-ghost use Rattle.std.specs.Prelude.{◌≡◌, ◌≤◌, ◌-◌, ◌++◌, codes, decimal, length, IfOk, OnOk, OnErr, MatchOption};
+ghost use Rattle.std.specs.Prelude.{◌≡◌, ◌≤◌, ◌-◌, ◌++◌, codes, decimal, length, IfOk, OnOk, OnErr};
 ghost use Rattle.mpc_space.specs.Vector.{dot};
 ghost use Rattle.mpc_plant.specs.Trajectory.{point_of};
 ghost use Rattle.mpc_rows.specs.ActiveSets.{extended};

@@ -1,7 +1,7 @@
 -- The texts of whole numbers.
-use Rattle.std.proofs.Common.{◌≡◌, ◌≢◌, ℕ, zero, suc, ◌^◌, ◌<◌, true, false, eqb, List, ◌∷◌, length, get_or, ℤ, pos, negsuc, neg_ℤ, unsigned_abs, Option, Some, None, MatchOption, to_z, of_z, decimal, refl, sym, ap, ◌∙◌, subst, arith, lit<}
+use Rattle.std.proofs.Common.{◌≡◌, ◌≢◌, ℕ, zero, suc, ◌^◌, ◌<◌, false, eqb, List, ◌∷◌, length, get_or, ℤ, pos, negsuc, neg_ℤ, unsigned_abs, Option, Some, None, MatchOption, to_z, of_z, decimal, refl, sym, ap, ◌∙◌, subst, arith, lit<}
 use Rattle.std.specs.Fmt.{signed_decimal}
-use Rattle.std.proofs.lemmas.Bool.{ne_eqb, eqb-true}
+use Rattle.std.proofs.lemmas.Bool.{ne_eqb}
 use Rattle.std.proofs.lemmas.List.Elements.{All-cons, All-head}
 use Rattle.std.specs.Int.{w128}
 use Rattle.std.proofs.lemmas.Int.{fits_signed_from_abs, to_z-of_z}

@@ -1,4 +1,4 @@
-use Rattle.std.proofs.Common.{◌≡◌, ◌+◌, ◌-◌, ◌*◌, ◌<◌, ◌≤◌, ◌++◌, ◌∷◌, [], length, vec_len, vec_capacity, sym, ap, ◌∙◌, subst, arith, rules}
+use Rattle.std.proofs.Common.{◌≡◌, ◌+◌, ◌-◌, ◌*◌, ◌<◌, ◌≤◌, ◌++◌, ◌∷◌, [], sym, ap, ◌∙◌, subst, arith, rules}
 use Rattle.mpc_sets.proofs.SetTexts.{HoldsMembers, members_none, members_first, members_later, members_all}
 use Rattle.mpc_sets.proofs.append_set.Goals as goal
 use Rattle.mpc_sets.proofs.append_set.Goals.{then-k-gt1, else-k-gt1}

@@ -1,4 +1,4 @@
-use Rattle.std.proofs.Common.{◌≡◌, ◌+◌, ◌-◌, ◌<◌, ◌≤◌, length, sym, ◌∙◌, arith}
+use Rattle.std.proofs.Common.{◌≡◌, ◌+◌, ◌-◌, ◌<◌, ◌≤◌, sym, ◌∙◌, arith}
 use Rattle.std.proofs.lemmas.Bool.{false≢true}
 use Rattle.mpc_sets.proofs.Levels.{level_up_to_one, level_up_to_more, level_from_all, no_level, before_from_test, test_from_before}
 use Rattle.mpc_sets.proofs.is_level.Goals as goal

@@ -1,4 +1,4 @@
-use Rattle.std.proofs.Common.{◌<◌, ℕ, sym, subst, arith, ⊎_elim}
+use Rattle.std.proofs.Common.{◌<◌, sym, subst, arith, ⊎_elim}
 use Rattle.std.proofs.lemmas.Bool.{cases_eq}
 use Rattle.mpc_space.specs.Matrix.{entry}
 use Rattle.mpc_bordered.specs.Fronts.{front, EntryFits}

@@ -2,7 +2,6 @@ use Rattle.std.proofs.Common.{◌<◌, ◌^◌, List, length, arith}
 use Rattle.mpc_linear.specs.declared.integers.RowInt.{RowInt}
 use Rattle.mpc_grammar.specs.TreeGrammar.{NodeOver, written_split, node_of}
 use Rattle.mpc_law_lines.proofs.TreeReading.{no_node, depth_small, node_more, node_shrinks, node_given, written_owes, written_text}
-use Rattle.mpc_law_lines.proofs.tree_lines.read_written_nodes.Goals.{In_ok-push}
 use Rattle.mpc_law_lines.proofs.tree_lines.read_written_nodes.Goals as goal
 
 pub loop-depth-init : goal.loop-depth-init

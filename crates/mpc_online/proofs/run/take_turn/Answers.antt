@@ -12,7 +12,7 @@ use Rattle.mpc_online.specs.declared.turns.Turn.{Turn}
 use Rattle.mpc_online.proofs.Advance.{err_wide, err_memory}
 use Rattle.mpc_online.proofs.Turned.{size, row_is, one_each, drop_member, drop_leads, join_leads, join_fits, wide_tests}
 use Rattle.mpc_online.proofs.run.take_turn.Goals as goal
-use Rattle.mpc_online.proofs.run.take_turn.Goals.{In_ok-after-in-Drops, In_ok-after-in-Joins}
+use Rattle.mpc_online.proofs.run.take_turn.Goals.{In_ok-after-in-Drops}
 
 pub moved-requires-clause-direction : goal.moved-requires-clause-direction
 moved-requires-clause-direction c = c.requires.direction ∙ sym c.requires.position.size

@@ -9,7 +9,7 @@ use Rattle.mpc_online.specs.Turns.{IsFalling, quotient_at}
 use Rattle.mpc_online.proofs.Filled.{entry_read}
 use Rattle.mpc_online.proofs.Shortest.{IsShortestBelow, shortest_none, shortest_more, shortest_all}
 use Rattle.mpc_online.proofs.turns.shortest.Goals as goal
-use Rattle.mpc_online.proofs.turns.shortest.Goals.{After-neg, After-div}
+use Rattle.mpc_online.proofs.turns.shortest.Goals.{After-neg}
 
 within : (c : After-neg) → c.loop-k.k < length c.args.e.now
 within c = c.loop-k-test.true

@@ -10,7 +10,7 @@ use Rattle.mpc_whole.proofs.Seats.{basic_is, tableau_of}
 use Rattle.mpc_simplex.proofs.NonbasicSides.{reached, reached_side, reached_end}
 use Rattle.mpc_simplex.proofs.NonbasicSums.{first_start, second_start, fits_start, sum_next, fits_next}
 use Rattle.mpc_simplex.proofs.run.value.Goals as goal
-use Rattle.mpc_simplex.proofs.run.value.Goals.{After-zero-second, After-loop-side, After-rest-stand}
+use Rattle.mpc_simplex.proofs.run.value.Goals.{After-loop-side, After-rest-stand}
 
 pub loop-side-init : goal.loop-side-init
 loop-side-init c =

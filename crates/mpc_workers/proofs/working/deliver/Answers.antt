@@ -1,9 +1,9 @@
 use Rattle.std.proofs.Common.{◌∙◌, refl, sym, subst, true≢false}
 use Rattle.mpc_rows.specs.declared.programs.Qp.{Qp}
 use Rattle.mpc_rows.specs.Verdicts.{IsRight}
-use Rattle.mpc_claim.specs.declared.events.EventKind.TheVariants.{Done, Drop}
+use Rattle.mpc_claim.specs.declared.events.EventKind.TheVariants.{Done}
 use Rattle.mpc_claim.specs.Board.{tag_of}
-use Rattle.mpc_workers.proofs.Hands.{ended_kept, ended_pass, its_few, its_hand, its_program, its_rows, its_turn, then_answered}
+use Rattle.mpc_workers.proofs.Hands.{ended_kept, ended_pass, its_hand, its_program, its_turn}
 use Rattle.mpc_workers.proofs.working.deliver.Goals as goal
 
 pub deliver_as-requires-clause-turn : goal.deliver_as-requires-clause-turn

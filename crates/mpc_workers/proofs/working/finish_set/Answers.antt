@@ -3,7 +3,7 @@ use Rattle.mpc_rows.specs.declared.programs.Qp.{Qp}
 use Rattle.mpc_rows.specs.Verdicts.{IsRight}
 use Rattle.mpc_claim.specs.declared.events.EventKind.TheVariants.{Done, Drop}
 use Rattle.mpc_claim.specs.Board.{tag_of}
-use Rattle.mpc_workers.proofs.Hands.{ended_kept, ended_pass, its_few, its_hand, its_program, its_rows, its_turn, then_answered}
+use Rattle.mpc_workers.proofs.Hands.{ended_pass, its_few, its_hand, its_program, its_rows, its_turn, then_answered}
 use Rattle.mpc_workers.proofs.working.finish_set.Goals as goal
 
 pub examine-requires-clause-set_of_rows : goal.examine-requires-clause-set_of_rows

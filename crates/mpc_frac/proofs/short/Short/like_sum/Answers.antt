@@ -1,7 +1,6 @@
 use Rattle.std.proofs.Common.{◌≡◌, ◌∙◌, rules, mul-one}
 use Rattle.std.specs.Int.{w64}
 use mir.Val.{SFits}
-use Rattle.mpc_exact.specs.Rational.{frac}
 use Rattle.mpc_frac.proofs.ShortParts.{sum_fits, sum_read, like_sum_is}
 use Rattle.mpc_frac.proofs.short.Short.like_sum.Goals as goal
 
