@@ -1,5 +1,5 @@
 -- What a number may have, so that its products are within a room.
-use Rattle.std.proofs.Common.{ℕ, ◌*◌, ◌/◌, ◌<◌, ◌≤◌, arith, mul-le-mul_right, mul-le-mul_left, le_trans}
+use Rattle.std.proofs.Common.{Option, Some, None, IfSome, ℕ, ◌*◌, ◌/◌, ◌<◌, ◌≤◌, arith, mul-le-mul_right, mul-le-mul_left, le_trans, le_refl}
 
 -- an equal share of the room
 pub shared_out : (r m k z t : ℕ) → 0 < m → 0 < k → t ≤ m → z ≤ (r / m) / k → (z * k) * t ≤ r
@@ -28,6 +28,14 @@ shared_side r n b q z hn hq l h =
     let e : (z * b) * n ≤ (z * q) * n = mul-le-mul_right n d in
     omega arith
 
--- a number that isn't above one with room has room too
+-- what two clauses say of the value in a Some
+pub both_some : {X : Type 0} (r : Option X) {P Q R : X → Type 0} → IfSome r P → IfSome r Q → ((x : X) → P x → Q x → R x) → IfSome r R
+both_some None h k f = tt
+both_some (Some x) h k f = f x h k
+
+-- numbers that aren't above those with room have room too
+pub room_within : (r m k g z s t : ℕ) → (m * k) * g ≤ r → z ≤ m → s ≤ k → t ≤ g → (z * s) * t ≤ r
+room_within r m k g z s t h l q e = le_trans (mul-le-mul_left (z * s) e) (le_trans (mul-le-mul_right g (le_trans (mul-le-mul_left z q) (mul-le-mul_right k l))) h)
+
 pub room_below : (r m k g z t : ℕ) → (m * k) * g ≤ r → z ≤ m → t ≤ g → (z * k) * t ≤ r
-room_below r m k g z t h l e = le_trans (mul-le-mul_left (z * k) e) (le_trans (mul-le-mul_right g (mul-le-mul_right k l)) h)
+room_below r m k g z t h l e = room_within r m k g z k t h l (le_refl k) e

@@ -93,6 +93,12 @@ pub record IsNorm (width : ℕ) (a : List ℤ) (norm : ℕ) : Type 0 where
   pub some : 1 ≤ norm
   pub rows : width * most ≤ norm
 
+-- the coefficients have this norm, and no scale and no right side is greater than these
+pub record HasSizes (width : ℕ) (k : List ℕ) (a b : List ℤ) (norm most_scale most_side : ℕ) : Type 0 where
+  pub coefficients : IsNorm width a norm
+  pub scales : (x : ℕ) → scale_at k x ≤ most_scale
+  pub sides : IsSmall most_side b
+
 -- a row is this one times a divisor
 pub record IsTimes (divisor : ℕ) (x row : List ℤ) : Type 0 where
   pub size : length row ≡ length x

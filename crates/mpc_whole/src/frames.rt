@@ -11,7 +11,8 @@ pub(crate) struct Frame<'a> {
     pub most: u64,
 }
 
-/// The same for a run that is judged row by row, with the norm of the coefficients.
+/// The same for a run that is judged position by position, with the norm of the coefficients and the greatest sizes of
+/// a scale and of a right side.
 #[derive(Clone, Copy, Drop)]
 pub(crate) struct JudgedFrame<'a> {
     pub scales: &'a [u64],
@@ -20,4 +21,6 @@ pub(crate) struct JudgedFrame<'a> {
     pub n: usize,
     /// By how many times more a number of a side's row may have than those of its column, at least 1.
     pub norm: u128,
+    pub most_scale: u128,
+    pub most_side: u128,
 }

@@ -5,9 +5,9 @@ ghost use Rattle.mpc_rows.specs.LinearSystem.{height};
 ghost use Rattle.mpc_whole.specs.declared.variables.Seat.TheVariants.{Column};
 ghost use Rattle.mpc_whole.specs.Table.{seat_at, IsSeated};
 ghost use Rattle.mpc_whole.specs.Whole.{side_cell};
-ghost use Rattle.mpc_scaled.specs.Scaled.{whole_at, whole_cell};
+ghost use Rattle.mpc_scaled.specs.Scaled.{whole_at, whole_cell, scale_at, IsSmall};
 ghost use Rattle.mpc_whole.specs.Running.{HasNumbers};
-ghost use Rattle.mpc_whole.specs.Judged.{HasRoomAt, IsJudged, IsNorm, IsRowWithin};
+ghost use Rattle.mpc_whole.specs.Judged.{HasRoomAt, HasSizes, IsJudged, IsNorm, IsRowWithin};
 
 use crate::frames::JudgedFrame;
 use crate::variables::{Seat, column_of, is_basic};
@@ -77,6 +77,20 @@ fn within_room(product: u128) -> Option<()>
     Some(())
 }
 
+/// If the product of a size with a scale and a factor, and that with a side and a count, are within the room.
+#[inline]
+fn are_products_within(most: u128, scale: u128, factor: u128, side: u128, n: u128) -> Option<()>
+    ensures scaled { IfSome result (λ _. (most * scale) * factor ≤ 2 ^ 125) }
+    ensures sides { IfSome result (λ _. (most * side) * n ≤ 2 ^ 125) }
+{
+    let times = most.checked_mul(scale)?;
+    let scaled = times.checked_mul(factor)?;
+    let beside = most.checked_mul(side)?;
+    let sides = beside.checked_mul(n)?;
+    within_room(scaled)?;
+    within_room(sides)
+}
+
 /// If products show that numbers in the column of y of at most such a size have room.
 #[inline]
 fn have_room(
@@ -93,13 +107,34 @@ fn have_room(
     let n = frame.n as u128;
     let factor = factor_at(by, y);
     let greater = factor.max(n);
-    let times = most.checked_mul(frame.scales[y] as u128)?;
-    let scaled = times.checked_mul(greater)?;
+    let scale = frame.scales[y] as u128;
     let side = side_of(system, frame, y);
-    let beside = most.checked_mul(side)?;
-    let sides = beside.checked_mul(n)?;
-    within_room(scaled)?;
-    within_room(sides)
+    are_products_within(most, scale, greater, side, n)
+}
+
+/// If products of greatest sizes show that numbers have room in whichever column, where those of the unknowns are at
+/// most such a size.
+fn have_common_room(system: &WholeSystem, frame: &JudgedFrame, by: Factors, own: u128) -> Option<()>
+    requires numbers { HasNumbers system.now frame.now.n frame.now.scales.now frame.now.a.now frame.now.b.now }
+    requires sizes { HasSizes system.now.width frame.now.scales.now frame.now.a.now frame.now.b.now frame.now.norm frame.now.most_scale frame.now.most_side }
+    ensures { IfSome result (λ _. (y : ℕ) (z : ℤ) → unsigned_abs z ≤ own * frame.now.norm → HasRoomAt system.now frame.now.scales.now frame.now.b.now by.enters by.top by.size y z) }
+{
+    let n = frame.n as u128;
+    let factor = by.top.max(by.size);
+    let greater = factor.max(n);
+    let most = own.checked_mul(frame.norm)?;
+    are_products_within(most, frame.most_scale, greater, frame.most_side, n)
+}
+
+/// If the denominator of a position has room, with the scale of each variable.
+fn has_den_room(frame: &JudgedFrame, den: u128, by: Factors) -> Option<()>
+    requires scales { (x : ℕ) → scale_at frame.now.scales.now x ≤ frame.now.most_scale }
+    ensures each { IfSome result (λ _. (x : ℕ) → (den * scale_at frame.now.scales.now x) * by.size ≤ 2 ^ 125) }
+    ensures whole { IfSome result (λ _. (x : ℕ) → den * scale_at frame.now.scales.now x ≤ 2 ^ 125) }
+{
+    let scaled = den.checked_mul(frame.most_scale)?;
+    let room = scaled.checked_mul(by.size.max(1))?;
+    within_room(room)
 }
 
 /// The greatest size of a number of an unknown's row in the column c.
@@ -148,6 +183,19 @@ pub(crate) fn norm_of(a: &[i64], width: usize) -> u128
 {
     let norm = width as u128 * greatest(a) as u128;
     norm.max(1)
+}
+
+/// The greatest scale of a variable.
+pub(crate) fn greatest_scale(scales: &[u64]) -> u64
+    ensures { (x : ℕ) → scale_at scales.now x ≤ result }
+{
+    let mut most = 0;
+    for x in 0..scales.len() {
+        if most < scales[x] {
+            most = scales[x];
+        }
+    }
+    most
 }
 
 /// If no number of any row in the column c is above a limit in size. The rows of the sides are formed only where
@@ -199,28 +247,23 @@ fn have_clear_room(
     have_room(system, frame, by, y, most)
 }
 
-/// If the numbers of all rows at a position, and its denominator, leave room for products with numbers of such
-/// sizes. Only where products don't show it is it asked by divisions.
-pub(crate) fn judge(
+/// If the numbers of all rows at a position have room, as each column shows by itself. Only where products don't show
+/// it is it asked by divisions.
+fn judge_columns(
     seats: &[Seat],
     v: &[i128],
     system: &WholeSystem,
     frame: &JudgedFrame,
-    den: u128,
     by: Factors,
 ) -> Option<()>
     requires numbers { HasNumbers system.now frame.now.n frame.now.scales.now frame.now.a.now frame.now.b.now }
     requires norm { IsNorm system.now.width frame.now.a.now frame.now.norm }
     requires seated { IsSeated (height system.now) system.now.width frame.now.n seats.now }
     requires square { length v.now ≡ system.now.width * system.now.width }
-    ensures { IfSome result (λ _. IsJudged system.now frame.now.n seats.now frame.now.scales.now frame.now.a.now frame.now.b.now den v.now by.enters by.top by.size) }
+    ensures unknowns { IfSome result (λ _. (j y c : ℕ) → j < system.now.width → y < frame.now.n → seat_at seats.now y ≡ Column c → HasRoomAt system.now frame.now.scales.now frame.now.b.now by.enters by.top by.size y (whole_cell system.now.width v.now j c)) }
+    ensures sides { IfSome result (λ _. (i y c : ℕ) → i < height system.now → y < frame.now.n → seat_at seats.now y ≡ Column c → HasRoomAt system.now frame.now.scales.now frame.now.b.now by.enters by.top by.size y (side_cell system.now frame.now.a.now v.now i c)) }
 {
-    let room = ROOM / by.size.max(1);
     for y in 0..frame.n {
-        let scaled = den.checked_mul(frame.scales[y] as u128)?;
-        if scaled > room {
-            return None;
-        }
         if is_basic(seats, y) {
             continue;
         }
@@ -234,6 +277,31 @@ pub(crate) fn judge(
     Some(())
 }
 
+/// If the numbers of all rows at a position, and its denominator, leave room for products with numbers of such
+/// sizes. No number of an unknown's row is above own: mostly this alone shows it, and the columns aren't looked at.
+pub(crate) fn judge(
+    seats: &[Seat],
+    v: &[i128],
+    system: &WholeSystem,
+    frame: &JudgedFrame,
+    den: u128,
+    own: u128,
+    by: Factors,
+) -> Option<()>
+    requires numbers { HasNumbers system.now frame.now.n frame.now.scales.now frame.now.a.now frame.now.b.now }
+    requires sizes { HasSizes system.now.width frame.now.scales.now frame.now.a.now frame.now.b.now frame.now.norm frame.now.most_scale frame.now.most_side }
+    requires seated { IsSeated (height system.now) system.now.width frame.now.n seats.now }
+    requires square { length v.now ≡ system.now.width * system.now.width }
+    requires own { IsSmall own v.now }
+    ensures { IfSome result (λ _. IsJudged system.now frame.now.n seats.now frame.now.scales.now frame.now.a.now frame.now.b.now den v.now by.enters by.top by.size) }
+{
+    has_den_room(frame, den, by)?;
+    if let Some(()) = have_common_room(system, frame, by, own) {
+        return Some(());
+    }
+    judge_columns(seats, v, system, frame, by)
+}
+
 /// If the numbers of a position where no pivot is made, and its denominator, leave room for its values.
 pub(crate) fn judge_end(
     seats: &[Seat],
@@ -241,11 +309,13 @@ pub(crate) fn judge_end(
     system: &WholeSystem,
     frame: &JudgedFrame,
     den: u128,
+    own: u128,
 ) -> Option<()>
     requires numbers { HasNumbers system.now frame.now.n frame.now.scales.now frame.now.a.now frame.now.b.now }
-    requires norm { IsNorm system.now.width frame.now.a.now frame.now.norm }
+    requires sizes { HasSizes system.now.width frame.now.scales.now frame.now.a.now frame.now.b.now frame.now.norm frame.now.most_scale frame.now.most_side }
     requires seated { IsSeated (height system.now) system.now.width frame.now.n seats.now }
     requires square { length v.now ≡ system.now.width * system.now.width }
+    requires own { IsSmall own v.now }
     ensures { IfSome result (λ _. IsJudged system.now frame.now.n seats.now frame.now.scales.now frame.now.a.now frame.now.b.now den v.now 0 0 0) }
 {
     let none = Factors {
@@ -253,7 +323,7 @@ pub(crate) fn judge_end(
         top: 0,
         size: 0,
     };
-    judge(seats, v, system, frame, den, none)
+    judge(seats, v, system, frame, den, own, none)
 }
 
 /// What the numbers of a position are multiplied by where the row x of the variable l leaves and e enters.

@@ -4,22 +4,22 @@ ghost use Rattle.std.specs.Prelude.{◌≡◌, ◌-◌, ◌<◌, ◌≤◌, ◌^
 ghost use Rattle.mpc_rows.specs.Run.{count, steps};
 ghost use Rattle.mpc_whole.specs.Lists.{AreListsOf, of_wide};
 ghost use Rattle.mpc_whole.specs.Underway.{HasEnded};
-ghost use Rattle.mpc_whole.specs.Judged.{IsDividedRow, AreMildBefore, IsMildlyUnderway, IsGoingOn, IsNorm, IsProductOf};
+ghost use Rattle.mpc_whole.specs.Judged.{IsDividedRow, AreMildBefore, IsMildlyUnderway, IsGoingOn, HasSizes, IsProductOf};
 ghost use Rattle.mpc_whole.specs.Found.{IfJudgedEnd, IfJudgedNext};
 ghost use Rattle.mpc_whole.specs.Running.{HasNumbers};
 ghost use Rattle.mpc_whole.specs.Whole.{HasRoom};
 ghost use Rattle.mpc_scaled.specs.Scaled.{IsWholeSystem};
 
 use crate::frames::JudgedFrame;
-use crate::judge::{Factors, factors_of, judge_end, norm_of};
+use crate::judge::{Factors, factors_of, greatest_scale, judge_end, norm_of};
 use crate::lists::WideLists;
 use crate::reduced::reduce;
-use crate::stated::{Here, Pivot, judge_pivot};
+use crate::stated::{Here, StatedPivot, judge_pivot};
 use crate::variables::column_of;
 use crate::whole::{Ending, STEPS, swap};
 use crate::wide_turn::{DividedRow, divided_row, wide_entering, wide_first_out};
 use crate::wide_values::wide_stand;
-use mpc_scaled::{WholeNumbers, WholeSystem};
+use mpc_scaled::{WholeNumbers, WholeSystem, greatest};
 
 /// Where a run stands, in numbers of 128 bits: its denominator, the greatest size of a number there, the greatest
 /// number and the greatest denominator of the positions before, the greatest product of a number there or a
@@ -73,7 +73,7 @@ fn advance(
     e: usize,
 ) -> Option<WidePlace>
     requires numbers { HasNumbers system.now frame.now.n frame.now.scales.now frame.now.a.now frame.now.b.now }
-    requires norm { IsNorm system.now.width frame.now.a.now frame.now.norm }
+    requires sizes { HasSizes system.now.width frame.now.scales.now frame.now.a.now frame.now.b.now frame.now.norm frame.now.most_scale frame.now.most_side }
     requires lists { AreListsOf system.now place.own (of_wide lists.old) }
     requires row { IsDividedRow system.now frame.now.a.now lists.old.v.items (l - system.now.width) place.den row.divisor row.rest row.x.now }
     requires goes { IsGoingOn system.now (count system.now) lists.old.seats.items frame.now.scales.now place.den lists.old.v.items lists.old.firsts.items lists.old.seconds.items place.greatest place.greatest_den place.product place.first l e }
@@ -85,8 +85,9 @@ fn advance(
         seats: &lists.seats,
         v: &lists.v,
         den: place.den,
+        own: place.own,
     };
-    let pivot = Pivot {
+    let pivot = StatedPivot {
         x: row.x,
         rest: row.rest,
         l,
@@ -133,7 +134,7 @@ fn judged_step(
     place: WidePlace,
 ) -> Option<JudgedTurn>
     requires numbers { HasNumbers system.now frame.now.n frame.now.scales.now frame.now.a.now frame.now.b.now }
-    requires norm { IsNorm system.now.width frame.now.a.now frame.now.norm }
+    requires sizes { HasSizes system.now.width frame.now.scales.now frame.now.a.now frame.now.b.now frame.now.norm frame.now.most_scale frame.now.most_side }
     requires lists { AreListsOf system.now place.own (of_wide lists.old) }
     requires row_size { length x.old ≡ system.now.width }
     requires underway { IsMildlyUnderway system.now (count system.now) lists.old.seats.items frame.now.scales.now place.den lists.old.v.items lists.old.firsts.items lists.old.seconds.items place.greatest place.greatest_den place.product place.first }
@@ -152,14 +153,14 @@ fn judged_step(
         place,
     )?;
     let Some(l) = out else {
-        judge_end(&lists.seats, &lists.v, system, frame, place.den)?;
+        judge_end(&lists.seats, &lists.v, system, frame, place.den, place.own)?;
         return Some(JudgedTurn::Ends(Ending::Point));
     };
     let side = l - system.unknowns();
     let short = place.own <= 1 << 62;
     let (divisor, rest) = divided_row(x, system, frame.a, &lists.v, side, place.den, short)?;
     let Some(e) = wide_entering(system, &lists.nonbasic, x, frame.n) else {
-        judge_end(&lists.seats, &lists.v, system, frame, place.den)?;
+        judge_end(&lists.seats, &lists.v, system, frame, place.den, place.own)?;
         return Some(JudgedTurn::Ends(Ending::Refuted(l)));
     };
     let row = DividedRow { x, divisor, rest };
@@ -193,6 +194,8 @@ pub fn judged_run(
         b: numbers.b,
         n: lists.seats.len(),
         norm: norm_of(numbers.a, system.unknowns()),
+        most_scale: greatest_scale(numbers.scales) as u128,
+        most_side: greatest(numbers.b) as u128,
     };
     let mut place = from;
     'steps: for _ in 0..STEPS {

@@ -5,9 +5,9 @@ ghost use Rattle.mpc_exact.specs.Rational.{frac, int};
 ghost use Rattle.mpc_rows.specs.LinearSystem.{height};
 ghost use Rattle.mpc_whole.specs.declared.variables.Seat.TheVariants.{Column};
 ghost use Rattle.mpc_whole.specs.Table.{seat_at, in_row};
-ghost use Rattle.mpc_scaled.specs.Scaled.{whole_at};
+ghost use Rattle.mpc_scaled.specs.Scaled.{whole_at, IsSmall};
 ghost use Rattle.mpc_whole.specs.Running.{HasNumbers};
-ghost use Rattle.mpc_whole.specs.Judged.{IsNorm, row_cell, coefficient_of, IsPlaced, IsPivotThere, IsRowBelow, IsTermStated, IsRowStated, IsJudgedByRows, IsPivotJudged};
+ghost use Rattle.mpc_whole.specs.Judged.{HasSizes, row_cell, coefficient_of, IsPlaced, IsPivotThere, IsRowBelow, IsTermStated, IsRowStated, IsJudgedByRows, IsPivotJudged};
 
 use crate::frames::JudgedFrame;
 use crate::judge::{Factors, ROOM, factor_at, judge, judge_end};
@@ -16,17 +16,19 @@ use crate::wide_numbers::{positive, wide_product, wide_side_cell};
 use mpc_frac::Frac;
 use mpc_scaled::WholeSystem;
 
-/// A position of a run: where the variables stand, and the numbers of the unknowns over a denominator.
+/// A position of a run: where the variables stand, and the numbers of the unknowns over a denominator, none of which
+/// is above own.
 #[derive(Clone, Copy, Drop)]
 pub(crate) struct Here<'a> {
     pub seats: &'a [Seat],
     pub v: &'a [i128],
     pub den: u128,
+    pub own: u128,
 }
 
 /// A pivot: the row x of the variable l leaves, over a rest of the denominator, and e enters.
 #[derive(Clone, Copy, Drop)]
-pub(crate) struct Pivot<'a> {
+pub(crate) struct StatedPivot<'a> {
     pub x: &'a [i128],
     pub rest: u128,
     pub l: usize,
@@ -121,7 +123,7 @@ fn are_terms_stated(
     here: &Here,
     system: &WholeSystem,
     frame: &JudgedFrame,
-    by: &Pivot,
+    by: &StatedPivot,
     x: usize,
     factor: &Frac,
     pivot: &Frac,
@@ -152,7 +154,7 @@ fn is_row_stated(
     here: &Here,
     system: &WholeSystem,
     frame: &JudgedFrame,
-    by: &Pivot,
+    by: &StatedPivot,
     x: usize,
     pivot: &Frac,
 ) -> Option<()>
@@ -179,7 +181,7 @@ fn are_rows_judged(
     system: &WholeSystem,
     frame: &JudgedFrame,
     factors: Factors,
-    by: &Pivot,
+    by: &StatedPivot,
     pivot: &Frac,
 ) -> Option<()>
     requires numbers { HasNumbers system.now frame.now.n frame.now.scales.now frame.now.a.now frame.now.b.now }
@@ -209,16 +211,17 @@ fn judge_rows(
     system: &WholeSystem,
     frame: &JudgedFrame,
     factors: Factors,
-    by: &Pivot,
+    by: &StatedPivot,
 ) -> Option<()>
     requires numbers { HasNumbers system.now frame.now.n frame.now.scales.now frame.now.a.now frame.now.b.now }
     requires here { IsPlaced system.now frame.now.n here.now.seats.now here.now.den here.now.v.now }
     requires by { IsPivotThere system.now frame.now.n here.now.seats.now by.now.l by.now.e by.now.rest by.now.x.now }
-    requires norm { IsNorm system.now.width frame.now.a.now frame.now.norm }
+    requires sizes { HasSizes system.now.width frame.now.scales.now frame.now.a.now frame.now.b.now frame.now.norm frame.now.most_scale frame.now.most_side }
+    requires own { IsSmall here.now.own here.now.v.now }
     requires same { factors.enters ≡ by.now.e }
     ensures { IfSome result (λ _. IsJudgedByRows system.now frame.now.n here.now.seats.now frame.now.scales.now frame.now.a.now frame.now.b.now here.now.den here.now.v.now by.now.l by.now.e by.now.rest by.now.x.now factors.top factors.size) }
 {
-    judge_end(here.seats, here.v, system, frame, here.den)?;
+    judge_end(here.seats, here.v, system, frame, here.den, here.own)?;
     let c = column_of(here.seats, by.e);
     let pivot = coefficient(by.x[c], frame.scales[by.e], by.rest, frame.scales[by.l])?;
     if pivot.is_zero() {
@@ -234,16 +237,19 @@ pub(crate) fn judge_pivot(
     system: &WholeSystem,
     frame: &JudgedFrame,
     factors: Factors,
-    by: &Pivot,
+    by: &StatedPivot,
 ) -> Option<()>
     requires numbers { HasNumbers system.now frame.now.n frame.now.scales.now frame.now.a.now frame.now.b.now }
     requires here { IsPlaced system.now frame.now.n here.now.seats.now here.now.den here.now.v.now }
     requires by { IsPivotThere system.now frame.now.n here.now.seats.now by.now.l by.now.e by.now.rest by.now.x.now }
-    requires norm { IsNorm system.now.width frame.now.a.now frame.now.norm }
+    requires sizes { HasSizes system.now.width frame.now.scales.now frame.now.a.now frame.now.b.now frame.now.norm frame.now.most_scale frame.now.most_side }
+    requires own { IsSmall here.now.own here.now.v.now }
     requires same { factors.enters ≡ by.now.e }
     ensures { IfSome result (λ _. IsPivotJudged system.now frame.now.n here.now.seats.now frame.now.scales.now frame.now.a.now frame.now.b.now here.now.den here.now.v.now by.now.l by.now.e by.now.rest by.now.x.now factors.top factors.size) }
 {
-    match judge(here.seats, here.v, system, frame, here.den, factors) {
+    match judge(
+        here.seats, here.v, system, frame, here.den, here.own, factors,
+    ) {
         Some(()) => Some(()),
         None => judge_rows(here, system, frame, factors, by),
     }

@@ -1,8 +1,7 @@
 use Rattle.std.proofs.Common.{◌*◌, ◌≤◌, ◌^◌, arith, subst, le_refl, unsigned_abs}
-use Rattle.std.proofs.lemmas.Option.{IfSome_then}
 use Rattle.mpc_rows.specs.Run.{count}
 use Rattle.mpc_scaled.specs.Scaled.{scale_at}
-use Rattle.mpc_whole.proofs.Judges.{room_below, turned_round}
+use Rattle.mpc_whole.proofs.Judges.{both_some, room_below, turned_round}
 use Rattle.mpc_whole.proofs.judge.have_room.Goals as goal
 
 pub returns : goal.returns
@@ -13,9 +12,7 @@ returns c =
     let most = c.args.most in
     let g = c.max-greater.result in
     let side = c.side_of-side.result in
-    let scaled : (most * k) * g ≤ 2 ^ 125 = subst (λ m. m * g ≤ 2 ^ 125) c.in_ok-times.ensures.1 (subst (λ m. m ≤ 2 ^ 125) c.in_ok-scaled.ensures.1 c.in_ok-within_room.ensures) in
-    IfSome_then c.within_room-2.result c.within_room-2.ensures (λ u w.
-    let beside : (most * side) * n ≤ 2 ^ 125 = subst (λ m. m * n ≤ 2 ^ 125) c.in_ok-beside.ensures.1 (subst (λ m. m ≤ 2 ^ 125) c.in_ok-sides.ensures.1 w) in
+    both_some c.are_products_within.result c.are_products_within.ensures.scaled c.are_products_within.ensures.sides (λ _ scaled beside.
     λ z h. record {
       entering = λ e. room_below (2 ^ 125) most k g (unsigned_abs z) c.args.by.top scaled h (let a = c.max-greater.ensures in let q = c.factor_at-factor.ensures.entering e in omega arith);
       other = λ e. room_below (2 ^ 125) most k g (unsigned_abs z) c.args.by.size scaled h (let a = c.max-greater.ensures in let q = c.factor_at-factor.ensures.other e in omega arith);

@@ -1,16 +1,14 @@
-use Rattle.std.proofs.Common.{◌≡◌, ℕ, ◌*◌, ◌<◌, ◌≤◌, ◌^◌}
+use Rattle.std.proofs.Common.{◌≡◌, ℕ, ◌<◌}
 use Rattle.mpc_rows.specs.LinearSystem.{height}
 use Rattle.mpc_whole.specs.declared.variables.Seat.TheVariants.{Column}
 use Rattle.mpc_whole.specs.Table.{seat_at}
 use Rattle.mpc_whole.specs.Whole.{side_cell}
-use Rattle.mpc_scaled.specs.Scaled.{whole_cell, scale_at}
+use Rattle.mpc_scaled.specs.Scaled.{whole_cell}
 use Rattle.mpc_whole.specs.Judged.{HasRoomAt}
-use Rattle.mpc_whole.proofs.judge.judge.Given as goal
+use Rattle.mpc_whole.proofs.judge.judge_columns.Given as goal
 
 abbrev pub invariant-loop-y : goal.invariant-loop-y
 invariant-loop-y l = record {
-  dens : (x : ℕ) → x < l.y → (l.den * scale_at l.frame.scales.now x) * l.by.size ≤ 2 ^ 125;
-  whole : (x : ℕ) → x < l.y → l.den * scale_at l.frame.scales.now x ≤ 2 ^ 125;
   unknowns : (j y c : ℕ) → j < l.system.width → y < l.y → seat_at l.seats y ≡ Column c → HasRoomAt l.system l.frame.scales.now l.frame.b.now l.by.enters l.by.top l.by.size y (whole_cell l.system.width l.v j c);
   sides : (i y c : ℕ) → i < height l.system → y < l.y → seat_at l.seats y ≡ Column c → HasRoomAt l.system l.frame.scales.now l.frame.b.now l.by.enters l.by.top l.by.size y (side_cell l.system l.frame.a.now l.v i c);
 }
