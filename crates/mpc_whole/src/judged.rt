@@ -51,13 +51,14 @@ fn product_here(own: u128, by: Factors, divisor: u128, den: u128, scale: u64) ->
     scaled.max(most).checked_mul(own)
 }
 
-/// The greater of a product that is kept and that of one more position: the greatest of its type where it isn't known.
-fn kept_product(before: u128, own: u128, by: Factors, divisor: u128, den: u128, scale: u64) -> u128
-    ensures before { before ≤ result }
-    ensures here { result < 2 ^ 127 → IsProductOf own by.top by.size divisor den scale result }
+/// The greater of the product that is kept and that of one more position, none of whose numbers is above such a size:
+/// the greatest of its type where it isn't known.
+fn kept_product(place: WidePlace, own: u128, by: Factors, divisor: u128, scale: u64) -> u128
+    ensures before { place.product ≤ result }
+    ensures here { result < 2 ^ 127 → IsProductOf own by.top by.size divisor place.den scale result }
 {
-    match product_here(own, by, divisor, den, scale) {
-        Some(product) => product.max(before),
+    match product_here(own, by, divisor, place.den, scale) {
+        Some(product) => product.max(place.product),
         None => u128::MAX,
     }
 }
@@ -95,14 +96,7 @@ fn advance(
     };
     judge_pivot(&here, system, frame, by, &pivot)?;
     let own = place.own.max(place.den);
-    let product = kept_product(
-        place.product,
-        own,
-        by,
-        row.divisor,
-        place.den,
-        frame.scales[l],
-    );
+    let product = kept_product(place, own, by, row.divisor, frame.scales[l]);
     let c = column_of(&lists.seats, e);
     let after = reduce(&mut lists.v, row.x, c, place.den, row.rest, place.own)?;
     swap(&mut lists.seats, &mut lists.nonbasic, l, e, c);
