@@ -1,11 +1,11 @@
 //! Sums, products and quotients of numbers of 128 bits, where they fit.
 
 ghost use Rattle.std.specs.Prelude.{◌≡◌, ℕ, ℤ, pos, ◌+◌, ◌*◌, ◌<◌, ◌≤◌, ◌^◌, ◌+ℤ◌, ◌*ℤ◌, neg_ℤ, unsigned_abs, IfSome, IsTrue, length};
-ghost use Rattle.mpc_whole.specs.Whole.{whole_total, turned};
+ghost use Rattle.mpc_whole.specs.Whole.{whole_total, HasRoom, turned};
 ghost use Rattle.mpc_scaled.specs.Scaled.{whole_at, whole_cell, IsSmall};
 
 use crate::divisors::Divisor;
-use crate::whole_numbers::{small_quotient, widened};
+use crate::whole_numbers::{small_quotient, sum, widened};
 use mpc_scaled::{narrow, product};
 
 /// A number that is not negative, as a signed one.
@@ -95,17 +95,38 @@ pub(crate) fn wide_turned(q: i128, z: i128) -> Option<i128>
     }
 }
 
-/// The row i of a times the numbers of a list, which aren't tested where they are known to be short.
+/// The row i of a times the numbers of a list, which are short: then the sum has room.
+#[inline(always)]
+fn short_row_value(a: &[i64], i: usize, c: &[i128]) -> i128
+    requires inside { i * length c.now + length c.now ≤ length a.now }
+    requires room { HasRoom (length c.now) (2 ^ 62) a.now }
+    requires small { IsSmall (2 ^ 62) c.now }
+    ensures { result ≡ whole_total (length c.now) (λ j. whole_cell (length c.now) a.now i j *ℤ whole_at c.now j) }
+{
+    let from = i * c.len();
+    let mut total = 0;
+    for j in 0..c.len() {
+        let term = product(a[from + j], narrow(c[j]));
+        total = sum(total, term);
+    }
+    total
+}
+
+/// The row i of a times the numbers of a list, where neither they nor the sum are tested if they are known to be short.
 #[inline(always)]
 pub(crate) fn wide_row_value(a: &[i64], i: usize, c: &[i128], short: bool) -> Option<i128>
     requires inside { i * length c.now + length c.now ≤ length a.now }
+    requires room { IsTrue short → HasRoom (length c.now) (2 ^ 62) a.now }
     requires short { IsTrue short → IsSmall (2 ^ 62) c.now }
     ensures { IfSome result (λ z. z ≡ whole_total (length c.now) (λ j. whole_cell (length c.now) a.now i j *ℤ whole_at c.now j)) }
 {
+    if short {
+        return Some(short_row_value(a, i, c));
+    }
     let from = i * c.len();
     let mut total: i128 = 0;
     for j in 0..c.len() {
-        let term = product_with(a[from + j], c[j], short)?;
+        let term = product_with(a[from + j], c[j], false)?;
         total = total.checked_add(term)?;
     }
     Some(total)
@@ -127,7 +148,27 @@ pub(crate) fn wide_side_cell(
     column_value(a, i, v, width, c, false)
 }
 
-/// The row i of a times the column c of v, whose numbers aren't tested where they are known to be short.
+/// The row i of a times the column c of v, whose numbers are short: then the sum has room.
+#[inline(always)]
+fn short_column_value(a: &[i64], i: usize, v: &[i128], width: usize, c: usize) -> i128
+    requires inside { i * width + width ≤ length a.now }
+    requires square { length v.now ≡ width * width }
+    requires column { c < width }
+    requires room { HasRoom width (2 ^ 62) a.now }
+    requires small { IsSmall (2 ^ 62) v.now }
+    ensures { result ≡ whole_total width (λ j. whole_cell width a.now i j *ℤ whole_cell width v.now j c) }
+{
+    let from = i * width;
+    let mut total = 0;
+    for j in 0..width {
+        let term = product(a[from + j], narrow(v[j * width + c]));
+        total = sum(total, term);
+    }
+    total
+}
+
+/// The row i of a times the column c of v, where neither its numbers nor the sum are tested if they are known to be
+/// short.
 #[inline(always)]
 pub(crate) fn column_value(
     a: &[i64],
@@ -140,13 +181,17 @@ pub(crate) fn column_value(
     requires inside { i * width + width ≤ length a.now }
     requires square { length v.now ≡ width * width }
     requires column { c < width }
+    requires room { IsTrue short → HasRoom width (2 ^ 62) a.now }
     requires short { IsTrue short → IsSmall (2 ^ 62) v.now }
     ensures { IfSome result (λ z. z ≡ whole_total width (λ j. whole_cell width a.now i j *ℤ whole_cell width v.now j c)) }
 {
+    if short {
+        return Some(short_column_value(a, i, v, width, c));
+    }
     let from = i * width;
     let mut total: i128 = 0;
     for j in 0..width {
-        let term = product_with(a[from + j], v[j * width + c], short)?;
+        let term = product_with(a[from + j], v[j * width + c], false)?;
         total = total.checked_add(term)?;
     }
     Some(total)
@@ -184,7 +229,7 @@ pub(crate) fn wide_quotient(z: i128, by: WideDivisor) -> Option<i128>
 
 /// The quotient, if it is whole and it and the divisor have 62 bits.
 #[inline]
-fn short_quotient(z: i128, by: WideDivisor) -> Option<i64>
+pub(crate) fn short_quotient(z: i128, by: WideDivisor) -> Option<i64>
     ensures { IfSome result (λ q. q *ℤ pos by.den ≡ z) }
 {
     if by.short.den as u128 != by.den || by.den > 1 << 62 {

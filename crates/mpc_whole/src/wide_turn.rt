@@ -10,7 +10,7 @@ ghost use Rattle.mpc_whole.specs.declared.variables.Seat.TheVariants.{Column};
 ghost use Rattle.mpc_whole.specs.Table.{seat_at, IsSeated, AreNonbasic};
 ghost use Rattle.mpc_whole.specs.Judged.{IsDividedRow};
 ghost use Rattle.mpc_whole.specs.Underway.{StayBefore};
-ghost use Rattle.mpc_whole.specs.Whole.{HasSideValues, HasBasis, IsRowOf, IsSideRow};
+ghost use Rattle.mpc_whole.specs.Whole.{HasSideValues, HasBasis, HasRoom, IsRowOf, IsSideRow};
 ghost use Rattle.mpc_scaled.specs.Scaled.{whole_at, IsSmall, HasSides};
 ghost use Rattle.mpc_whole.specs.Running.{HasNumbers};
 
@@ -137,6 +137,7 @@ fn wide_side_row(
     requires square { length v.now ≡ system.now.width * system.now.width }
     requires row_size { length x.old ≡ system.now.width }
     requires short { IsTrue short → IsSmall (2 ^ 62) v.now }
+    requires room { IsTrue short → HasRoom system.now.width (2 ^ 62) a.now }
     ensures { IfSome result (λ _. IsSideRow system.now a.now v.now i x.new) }
 {
     let width = system.unknowns();
@@ -188,6 +189,7 @@ pub(crate) fn divided_row(
     requires row_size { length x.old ≡ system.now.width }
     requires den_some { 0 < den }
     requires short { IsTrue short → IsSmall (2 ^ 62) v.now }
+    requires room { IsTrue short → HasRoom system.now.width (2 ^ 62) a.now }
     ensures { IfSome result (λ r. IsDividedRow system.now a.now v.now i den r.0 r.1 x.new) }
 {
     wide_side_row(x, system, a, v, i, short)?;

@@ -107,3 +107,6 @@ advance-requires-clause-goes c =
 
 pub divided_row-requires-clause-den_some : goal.divided_row-requires-clause-den_some
 divided_row-requires-clause-den_some c = c.requires.underway.underway.stands.form.some
+
+pub divided_row-requires-clause-room : goal.divided_row-requires-clause-room
+divided_row-requires-clause-room c = λ _. c.requires.numbers.room

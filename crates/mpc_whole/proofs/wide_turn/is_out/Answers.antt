@@ -1,10 +1,10 @@
-use Rattle.std.proofs.Common.{◌≡◌, ◌∙◌, ◌+◌, ◌*◌, length, ◌*ℤ◌, ◌≤◌, ◌<ℤ◌, ◌≤ℤ◌, ap, sym, subst, subst₂, pos, get_or, FitsSigned, to_z, of_z, rules, ◌<◌, arith}
+use Rattle.std.proofs.Common.{◌≡◌, ◌∙◌, ◌+◌, ◌*◌, ◌^◌, length, ◌*ℤ◌, ◌≤◌, ◌<ℤ◌, ◌≤ℤ◌, ap, sym, subst, subst₂, pos, get_or, FitsSigned, to_z, of_z, rules, ◌<◌, arith}
 use Rattle.std.specs.Int.{w64, w128}
 use Rattle.std.proofs.lemmas.Int.{to_z-of_z}
 use Rattle.mpc_exact.specs.Rational.{frac}
 use Rattle.mpc_rows.specs.Run.{bound, value}
 use Rattle.mpc_rows.specs.LinearSystem.{height}
-use Rattle.mpc_whole.specs.Whole.{whole_total}
+use Rattle.mpc_whole.specs.Whole.{whole_total, HasRoom}
 use Rattle.mpc_scaled.specs.Scaled.{whole_at, whole_cell, scale_at, HasSides}
 use Rattle.mpc_whole.proofs.LeftSides.{bound-first}
 use Rattle.mpc_whole.proofs.WholeTurns.{out_above, out_below, out_next, out_not, lt_so, not_lt_so}
@@ -72,6 +72,12 @@ returns c = λ p some v w.
     (subst₂ (λ x y. x ≤ℤ y) (first_is all.In_ok-limit) (limit_is all.In_ok-limit) (not_lt_so _ _ c.if-limit-first.false))
     (subst₂ (λ x y. x ≤ℤ y) (limit_is all.In_ok-limit) (first_is all.In_ok-limit) (not_lt_so _ _ c.if-first-limit.false))
     (subst₂ (λ x y. x ≤ℤ y) (second_is all.In_ok-next) (next_is all.In_ok-next (over_is all.In_ok-limit)) (not_lt_so _ _ c.if-next-second.false))
+
+pub wide_row_value-requires-clause-room : goal.wide_row_value-requires-clause-room
+wide_row_value-requires-clause-room c = λ _. subst (λ w. HasRoom w (2 ^ 62) c.args.frame.now.a.now) (sym c.requires.first_size) c.requires.numbers.room
+
+pub wide_row_value-requires-2-clause-room : goal.wide_row_value-requires-2-clause-room
+wide_row_value-requires-2-clause-room c = λ _. subst (λ w. HasRoom w (2 ^ 62) c.args.frame.now.a.now) (sym c.requires.second_size) c.requires.numbers.room
 
 pub wide_row_value-requires-clause-inside : goal.wide_row_value-requires-clause-inside
 wide_row_value-requires-clause-inside c =

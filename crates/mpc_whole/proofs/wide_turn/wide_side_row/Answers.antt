@@ -1,8 +1,8 @@
-use Rattle.std.proofs.Common.{arith, subst, sym, ap, ◌∙◌, ◌≡◌, ◌<◌, ◌≤◌, ◌+◌, ◌*◌, ◌*ℤ◌, ℕ, length, to_z, of_z, rules, FitsSigned}
+use Rattle.std.proofs.Common.{arith, subst, sym, ap, ◌∙◌, ◌≡◌, ◌<◌, ◌≤◌, ◌+◌, ◌*◌, ◌^◌, ◌*ℤ◌, ℕ, length, to_z, of_z, rules, FitsSigned}
 use Rattle.std.specs.Int.{w128}
 use Rattle.std.proofs.lemmas.Int.{to_z-of_z}
 use Rattle.mpc_rows.specs.LinearSystem.{height}
-use Rattle.mpc_whole.specs.Whole.{whole_total}
+use Rattle.mpc_whole.specs.Whole.{whole_total, HasRoom}
 use Rattle.mpc_scaled.specs.Scaled.{whole_cell}
 use Rattle.mpc_whole.proofs.WholeExchange.{rows_in}
 use Rattle.mpc_whole.proofs.WholeSteps.{set_below}
@@ -13,6 +13,9 @@ pub column_value-requires-clause-inside : goal.column_value-requires-clause-insi
 column_value-requires-clause-inside c =
     subst (λ w. c.args.i * w + w ≤ length c.args.a.now) (sym c.unknowns-width.ensures)
     (rows_in c.args.system.now.width c.args.i (height c.args.system.now) (length c.args.a.now) c.requires.side c.requires.entries)
+
+pub column_value-requires-clause-room : goal.column_value-requires-clause-room
+column_value-requires-clause-room c = λ h. subst (λ w. HasRoom w (2 ^ 62) c.args.a.now) (sym c.unknowns-width.ensures) (c.requires.room h)
 
 pub column_value-requires-clause-square : goal.column_value-requires-clause-square
 column_value-requires-clause-square c = subst (λ w. length c.args.v.now ≡ w * w) (sym c.unknowns-width.ensures) c.requires.square
