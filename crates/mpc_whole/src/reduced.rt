@@ -5,9 +5,10 @@ ghost use Rattle.mpc_whole.specs.Whole.{IsChanged};
 ghost use Rattle.mpc_scaled.specs.Scaled.{whole_at, whole_cell, IsSmall};
 ghost use Rattle.mpc_whole.specs.Judged.{IsTimes, IsReducedPivot};
 
+use crate::whole_numbers::widened;
 use crate::wide_numbers::{
-    WideDivisor, are_short, divide_all, goes_into, positive, product_of, wide_difference,
-    wide_turned,
+    WideDivisor, are_short, divide_all, goes_into, positive, product_of, short_quotient,
+    wide_difference, wide_turned,
 };
 use mpc_frac::greatest_common_divisor;
 
@@ -99,19 +100,6 @@ fn raise(v: &mut [i128], x: &[i128], e: usize, den: u128, own: u128) -> Option<(
     raise_rows(v, x, e, den, false)
 }
 
-/// What divides both.
-#[inline]
-fn shared_with(shared: u128, z: u128) -> u128
-    requires { 0 < shared }
-    ensures { 0 < result }
-{
-    if z % shared == 0 {
-        shared
-    } else {
-        greatest_common_divisor(z, shared)
-    }
-}
-
 /// What divides a number and all of a list.
 pub(crate) fn shared_with_all(list: &[i128], before: u128) -> u128
     requires { 0 < before }
@@ -123,10 +111,51 @@ pub(crate) fn shared_with_all(list: &[i128], before: u128) -> u128
             return 1;
         }
         if !goes_into(by, list[j]) {
-            by = WideDivisor::of(shared_with(by.den, list[j].unsigned_abs()));
+            let shared = greatest_common_divisor(list[j].unsigned_abs(), by.den);
+            by = WideDivisor::of(shared);
         }
     }
     by.den
+}
+
+/// What divides a number and the quotients of a list by a divisor, if these are whole and short.
+fn shared_with_quotients(list: &[i128], before: u128, divisor: u128) -> Option<u128>
+    requires { 0 < before }
+    ensures { IfSome result (λ shared. 0 < shared) }
+{
+    let by = WideDivisor::of(divisor);
+    let mut shared = WideDivisor::of(before);
+    for j in 0..list.len() {
+        let q = widened(short_quotient(list[j], by)?);
+        if !goes_into(shared, q) {
+            let both = greatest_common_divisor(q.unsigned_abs(), shared.den);
+            shared = WideDivisor::of(both);
+        }
+    }
+    Some(shared.den)
+}
+
+/// The same as a multiple of a divisor of the number, if that goes into all of the list. What is left to divide is
+/// short then, where the number itself is not.
+fn shared_beyond(list: &[i128], before: u128, divisor: u128) -> Option<u128>
+    ensures { IfSome result (λ shared. 0 < shared) }
+{
+    if divisor <= 1 || before < divisor {
+        return None;
+    }
+    let more = shared_with_quotients(list, before / divisor, divisor)?;
+    divisor.checked_mul(more)
+}
+
+/// What divides a number and all of a list, where the number is a multiple of a divisor that mostly goes into all.
+fn shared_by_all(list: &[i128], before: u128, divisor: u128) -> u128
+    requires { 0 < before }
+    ensures { 0 < result }
+{
+    match shared_beyond(list, before, divisor) {
+        Some(shared) => shared,
+        None => shared_with_all(list, before),
+    }
 }
 
 /// The quotient, if it is whole.
@@ -167,7 +196,7 @@ pub(crate) fn reduce(
         return None;
     }
     raise(v, x, e, rest, own)?;
-    let divisor = shared_with_all(v, over);
+    let divisor = shared_by_all(v, over, rest);
     let size = whole_share(over, divisor)?;
     let own = divide_all(v, WideDivisor::of(divisor))?;
     Some(Reduced { den: size, own })
