@@ -1,9 +1,10 @@
 //! Whether the sizes of the numbers at a position show that no operation of the stated run there is wide.
 
-ghost use Rattle.std.specs.Prelude.{◌≡◌, ℕ, ℤ, ◌+◌, ◌-◌, ◌*◌, ◌<◌, ◌≤◌, ◌^◌, IfSome, unsigned_abs, length};
+ghost use Rattle.std.specs.Prelude.{◌≡◌, ℕ, ℤ, List, ◌+◌, ◌-◌, ◌*◌, ◌<◌, ◌≤◌, ◌^◌, IfSome, unsigned_abs, length};
 ghost use Rattle.mpc_rows.specs.LinearSystem.{height};
+ghost use Rattle.mpc_whole.specs.declared.variables.Seat.{Seat};
 ghost use Rattle.mpc_whole.specs.declared.variables.Seat.TheVariants.{Column};
-ghost use Rattle.mpc_whole.specs.Table.{seat_at, IsSeated};
+ghost use Rattle.mpc_whole.specs.Table.{seat_at, variable_at, IsSeated, AreNonbasic};
 ghost use Rattle.mpc_whole.specs.Whole.{side_cell};
 ghost use Rattle.mpc_scaled.specs.Scaled.{whole_at, whole_cell, scale_at, IsSmall};
 ghost use Rattle.mpc_whole.specs.Running.{HasNumbers};
@@ -328,25 +329,22 @@ pub(crate) fn judge_end(
 
 /// What the numbers of a position are multiplied by where the row x of the variable l leaves and e enters.
 pub(crate) fn factors_of(
-    seats: &[Seat],
+    nonbasic: &[usize],
     x: &[i128],
     scales: &[u64],
     l: usize,
     e: usize,
 ) -> Option<Factors>
     requires leaves { l < length scales.now }
-    requires scales { length scales.now ≡ length seats.now }
-    requires columns { (y c : ℕ) → y < length seats.now → seat_at seats.now y ≡ Column c → c < length x.now }
+    requires columns { length nonbasic.now ≡ length x.now }
+    requires below { (c : ℕ) → c < length x.now → variable_at nonbasic.now c < length scales.now }
     ensures enters { IfSome result (λ by. by.enters ≡ e) }
-    ensures row { IfSome result (λ by. IsRowWithin (length seats.now) seats.now scales.now l e x.now by.top by.size) }
+    ensures row { IfSome result (λ by. (height n : ℕ) (seats : List Seat) → IsSeated height (length x.now) n seats → AreNonbasic (length x.now) seats nonbasic.now → IsRowWithin n seats scales.now l e x.now by.top by.size) }
 {
     let mut top = scales[l] as u128;
-    let mut size = 0;
-    for y in 0..seats.len() {
-        if is_basic(seats, y) {
-            continue;
-        }
-        let c = column_of(seats, y);
+    let mut size: u128 = 0;
+    for c in 0..x.len() {
+        let y = nonbasic[c];
         let product = x[c].unsigned_abs().checked_mul(scales[y] as u128)?;
         if y == e {
             size = size.max(product);

@@ -81,7 +81,7 @@ fn advance(
     ensures lists { IfSome result (λ p. AreListsOf system.now p.own (of_wide lists.new)) }
     ensures underway { IfSome result (λ p. IsMildlyUnderway system.now (count system.now) lists.new.seats.items frame.now.scales.now p.den lists.new.v.items lists.new.firsts.items lists.new.seconds.items p.greatest p.greatest_den p.product p.first) }
 {
-    let by = factors_of(&lists.seats, row.x, frame.scales, l, e)?;
+    let by = factors_of(&lists.nonbasic, row.x, frame.scales, l, e)?;
     let here = Here {
         seats: &lists.seats,
         v: &lists.v,

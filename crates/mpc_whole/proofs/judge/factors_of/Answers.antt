@@ -1,8 +1,53 @@
-use Rattle.std.proofs.Common.{length, ◌<◌, rules}
+use Rattle.std.proofs.Common.{ℕ, List, ◌≡◌, ◌∙◌, ◌*◌, ◌<◌, ◌≤◌, length, unsigned_abs, pos, get_or, sym, ap, subst, arith, rules, FitsSigned, le_trans}
+use Rattle.std.specs.Int.{w128}
+use Rattle.std.proofs.lemmas.Int.{to_z-of_z}
+use borrow.Author.Count.{below_more}
+use Rattle.mpc_whole.specs.declared.variables.Seat.{Seat}
+use Rattle.mpc_whole.specs.declared.variables.Seat.TheVariants.{Column}
+use Rattle.mpc_whole.specs.Table.{seat_at, variable_at, IsSeated, AreNonbasic}
+use Rattle.mpc_scaled.specs.Scaled.{whole_at, scale_at}
+use Rattle.mpc_whole.proofs.Nonbasic.{column_below}
 use Rattle.mpc_whole.proofs.judge.factors_of.Goals as goal
+use Rattle.mpc_whole.proofs.judge.factors_of.Goals.{then-y-e, else-y-e}
 
-pub bounds-x-c : goal.bounds-x-c
-bounds-x-c c = c.requires.columns c.loop-y.y c.column_of-c.result c.loop-y-test.true c.column_of-c.ensures
+-- the variable of a column is the one of the list
+stands : (height width n : ℕ) (seats : List Seat) (nonbasic : List ℕ) → IsSeated height width n seats → AreNonbasic width seats nonbasic → (y c : ℕ) → y < n → seat_at seats y ≡ Column c → (c < width) × (variable_at nonbasic c ≡ y)
+stands height width n seats nonbasic z a y c l e =
+    let inside = (z.columns y c l e).0 in
+    let below = subst (λ m. variable_at nonbasic c < m) z.each (column_below seats (variable_at nonbasic c) c (a.at c inside)) in
+    (inside, sym (z.columns (variable_at nonbasic c) c below (a.at c inside)).1 ∙ (z.columns y c l e).1)
 
-pub offset_bounds-x-c : goal.offset_bounds-x-c
-offset_bounds-x-c c = let h : c.column_of-c.result < length c.args.x.now = c.requires.columns c.loop-y.y c.column_of-c.result c.loop-y-test.true c.column_of-c.ensures in search rules
+pub loop-c-preserved : goal.loop-c-preserved
+loop-c-preserved c =
+    let k = c.args.scales.now in
+    let x = c.args.x.now in
+    let at = variable_at c.args.nonbasic.now in
+    let here = c.loop-c.c in
+    let f : FitsSigned w128 (get_or x here (pos 0)) = search rules in
+    let product : c.in_ok-product.product ≡ unsigned_abs (whole_at x here) * scale_at k (at here) = c.in_ok-product.ensures.1 ∙ ap (λ m. m * scale_at k (at here)) (c.unsigned_abs.ensures.value ∙ ap unsigned_abs (to_z-of_z w128 _ f)) in
+    let top : c.loop-c.top ≤ c.if-y-e.top = elim c.if-y-e.branch [ then-y-e w ↦ (let a = w.top-is in omega arith) | else-y-e w ↦ (let a = w.top-is in let b = w.max-top.ensures in omega arith) ] in
+    let size : c.loop-c.size ≤ c.if-y-e.size = elim c.if-y-e.branch [ then-y-e w ↦ (let a = w.size-is in let b = w.max-size.ensures in omega arith) | else-y-e w ↦ (let a = w.size-is in omega arith) ] in
+    let enters : at here ≡ c.args.e → c.in_ok-product.product ≤ c.if-y-e.size = elim c.if-y-e.branch [ then-y-e w ↦ λ _. (let a = w.size-is in let b = w.max-size.ensures in omega arith) | else-y-e w ↦ λ q. absurd (w.if-y-e.false q) ] in
+    let other : (at here ≡ c.args.e → ⊥) → c.in_ok-product.product ≤ c.if-y-e.top = elim c.if-y-e.branch [ then-y-e w ↦ λ q. absurd (q w.if-y-e.true) | else-y-e w ↦ λ _. (let a = w.top-is in let b = w.max-top.ensures in omega arith) ] in
+    record {
+      own = le_trans c.loop-c.invariant.own top;
+      entering = below_more (λ d. at d ≡ c.args.e → unsigned_abs (whole_at x d) * scale_at k (at d) ≤ c.if-y-e.size) here
+          (λ d l q. le_trans (c.loop-c.invariant.entering d l q) size) (λ q. subst (λ m. m ≤ c.if-y-e.size) product (enters q));
+      others = below_more (λ d. (at d ≡ c.args.e → ⊥) → unsigned_abs (whole_at x d) * scale_at k (at d) ≤ c.if-y-e.top) here
+          (λ d l q. le_trans (c.loop-c.invariant.others d l q) top) (λ q. subst (λ m. m ≤ c.if-y-e.top) product (other q));
+    }
+
+pub returns-clause-row : goal.returns-clause-row
+returns-clause-row c = λ height n seats z a.
+    let k = c.args.scales.now in
+    let x = c.args.x.now in
+    let columns = c.args.nonbasic.now in
+    let at = stands height (length x) n seats columns z a in
+    let all : length x ≤ c.loop-c.c = (let t = c.loop-c-test.false in omega arith) in
+    record {
+      own = c.loop-c.invariant.own;
+      entering = λ y d l e o. let q = at y d l e in
+          subst (λ m. unsigned_abs (whole_at x d) * scale_at k m ≤ c.loop-c.size) q.1 (c.loop-c.invariant.entering d (let r = q.0 in omega arith) (q.1 ∙ o));
+      others = λ y d l e o. let q = at y d l e in
+          subst (λ m. unsigned_abs (whole_at x d) * scale_at k m ≤ c.loop-c.top) q.1 (c.loop-c.invariant.others d (let r = q.0 in omega arith) (λ p. o (sym q.1 ∙ p)));
+    }

@@ -1,5 +1,4 @@
 use Rattle.std.proofs.Common.{◌≡◌, ◌-◌, ◌*◌, ◌≤◌, ◌^◌, arith, subst, le_refl, unsigned_abs}
-use Rattle.mpc_rows.specs.Run.{count}
 use Rattle.mpc_scaled.specs.Scaled.{whole_at, scale_at}
 use Rattle.mpc_whole.proofs.Judges.{both_some, room_within, turned_round}
 use Rattle.mpc_whole.proofs.judge.have_common_room.Goals as goal

@@ -21,7 +21,13 @@ pub factors_of-requires-clause-leaves : goal.factors_of-requires-clause-leaves
 factors_of-requires-clause-leaves c = subst (λ m. c.args.l < m) (sym c.requires.numbers.whole.scales.size) (leaver_in c.requires.numbers.whole c.requires.lists c.requires.goes)
 
 pub factors_of-requires-clause-columns : goal.factors_of-requires-clause-columns
-factors_of-requires-clause-columns c = rw c.deref.ensures.value (λ y k h e. subst (λ m. k < m) (sym c.requires.row.size) (c.requires.lists.seated.columns y k (subst (λ m. y < m) c.requires.lists.seated.each h) e).0)
+factors_of-requires-clause-columns c = ap length c.deref.ensures.value ∙ c.requires.lists.columns.each ∙ sym c.requires.row.size
+
+pub factors_of-requires-clause-below : goal.factors_of-requires-clause-below
+factors_of-requires-clause-below c =
+    let s = c.args.system.now in
+    let lists = c.requires.lists in
+    rw c.deref.ensures.value (λ k h. subst (λ m. variable_at c.args.lists.now.nonbasic.items k < m) (sym c.requires.numbers.whole.scales.size) (in_column s (count s) c.args.lists.now.seats.items c.args.lists.now.nonbasic.items lists.seated lists.columns k (subst (λ m. k < m) c.requires.row.size h)))
 
 pub judge_pivot-requires-clause-here : goal.judge_pivot-requires-clause-here
 judge_pivot-requires-clause-here c =
@@ -151,8 +157,9 @@ returns-clause-underway c =
     (subst₂ (λ (t : List Seat) (u : List ℤ). IsPivotJudged s c.args.frame.now.n t k a b den u c.args.l c.args.e c.args.row.rest x by.top by.size) c.deref-2.ensures.value c.deref-3.ensures.value c.in_ok-judge_pivot.ensures)
     in
     let within : IsRowWithin (count s) r.seats.items k c.args.l c.args.e x by.top by.size =
-    subst (λ m. IsRowWithin m r.seats.items k c.args.l c.args.e x by.top by.size) c.requires.lists.seated.each
-    (subst (λ (t : List Seat). IsRowWithin (length t) t k c.args.l c.args.e x by.top by.size) c.deref.ensures.value c.in_ok-by.ensures.row)
+    c.in_ok-by.ensures.row (height s) (count s) r.seats.items
+    (subst (λ w. IsSeated (height s) w (count s) r.seats.items) (sym c.requires.row.size) c.requires.lists.seated)
+    (subst₂ (λ w (t : List ℕ). AreNonbasic w r.seats.items t) (sym c.requires.row.size) (sym c.deref.ensures.value) c.requires.lists.columns)
     in
     let piv : IsReducedPivot s.width den r.v.items c.reduce.new.v real c.column_of-c.result c.in_ok-after.after.den =
     subst₂ (λ w (u : List ℤ). IsReducedPivot w den u c.reduce.new.v real c.column_of-c.result c.in_ok-after.after.den) c.requires.row.size c.deref_mut.ensures.value (c.in_ok-after.ensures.pivot real g c.requires.row.some c.requires.row.split times)
