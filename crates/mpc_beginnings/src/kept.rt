@@ -579,8 +579,7 @@ impl KeptRun {
         }
     }
 
-    /// The run of a system with further rows behind this one's, in lists of its own: from where this one
-    /// ends on, or else anew, since the rows are judged more closely at positions that are formed again.
+    /// The run of a system with further rows behind this one's, in lists of its own.
     fn kept_longer(
         &self,
         alloc: Global,
@@ -592,7 +591,7 @@ impl KeptRun {
     {
         match self.longer_end(alloc, &mut work.rows, &system)? {
             Some(last) => Ok(Some(KeptRun { system, last })),
-            None => KeptRun::begin(alloc, work, system),
+            None => Ok(None),
         }
     }
 
@@ -606,9 +605,10 @@ impl KeptRun {
         requires { IsLonger self.now longer.now }
         ensures { IfOk result (λ o. IfSome o (λ e. AreKept longer.now e.scales.items e.lists e.place e.end)) }
     {
-        let mut lists = lists_with_room(alloc, longer.height(), longer.unknowns())?;
+        let seats = longer.unknowns().saturating_add(longer.height());
+        let mut lists = lists_with_room(alloc, &self.last.lists, seats)?;
         let numbers = numbers_of(longer);
-        match self.go_on(&mut lists, work, longer, &numbers)? {
+        match self.run_longer(&mut lists, work, longer, &numbers)? {
             Some((place, end)) => {
                 let last = kept_end(alloc, numbers.scales, lists, place, end)?;
                 Ok(Some(last))
@@ -667,6 +667,25 @@ impl KeptRun {
         judge_on(lists, &mut work.wide, longer, numbers, from)
     }
 
+    /// The run of a system with further rows behind this one's: from where this one ends on, or else
+    /// anew, since the rows are judged more closely at positions that are formed again.
+    fn run_longer(
+        &self,
+        lists: &mut KeptLists,
+        work: &mut Rows,
+        longer: &WholeSystem,
+        numbers: &WholeNumbers,
+    ) -> Result<Option<(WidePlace, Ending)>, AllocError>
+        requires longer { IsLonger self.now longer.now }
+        requires numbers { AreNumbers longer.now numbers.now }
+        ensures { IfOk result (λ o. IfSome o (λ t. AreKept longer.now numbers.now.scales.now lists.new t.0 t.1)) }
+    {
+        match self.go_on(lists, work, longer, numbers)? {
+            Some(found) => Ok(Some(found)),
+            None => first_run(lists, work, longer, numbers),
+        }
+    }
+
     /// Whether the run of a system with further rows behind this one's ends with a point.
     fn meets_longer(
         &self,
@@ -677,7 +696,7 @@ impl KeptRun {
         ensures { IfOk result (λ o. IfSome o (IsMet longer.now)) }
     {
         let numbers = numbers_of(longer);
-        match self.go_on(&mut work.lists, &mut work.rows, longer, &numbers)? {
+        match self.run_longer(&mut work.lists, &mut work.rows, longer, &numbers)? {
             Some((_, end)) => Ok(Some(is_point(end))),
             None => Ok(None),
         }
@@ -694,7 +713,7 @@ impl KeptRun {
         ensures { IfOk result (λ o. IfSome o (IsBrokenEnd longer.now)) }
     {
         let numbers = numbers_of(longer);
-        match self.go_on(&mut work.lists, &mut work.rows, longer, &numbers)? {
+        match self.run_longer(&mut work.lists, &mut work.rows, longer, &numbers)? {
             Some((place, Ending::Point)) => {
                 let end = Ending::Point;
                 let run = kept_copy(alloc, longer, numbers.scales, &work.lists, place, end)?;
@@ -779,7 +798,7 @@ impl KeptRun {
     }
 
     /// Whether the run of the system with these rows behind its own ends with a point, from where
-    /// this one ends on. `None` where whole numbers don't serve for it, and else no number that it
+    /// this one ends on or anew. `None` where whole numbers don't serve for it, and else no number that it
     /// forms is wide.
     ///
     /// It takes no memory where the lists of the workspace are long enough.
@@ -801,8 +820,8 @@ impl KeptRun {
     }
 
     /// Whether the run of the system with its row i, from 0, the other way round behind its own ends with
-    /// a point, from where this one ends on. `None` where whole numbers don't serve for it, and else no
-    /// number that it forms is wide.
+    /// a point, from where this one ends on or anew. `None` where whole numbers don't serve for it, and
+    /// else no number that it forms is wide.
     ///
     /// It takes no memory where the lists of the workspace are long enough.
     pub fn meets_turned(
@@ -823,8 +842,8 @@ impl KeptRun {
     }
 
     /// What the run of the system with the strict row behind its own that is met where this row fails
-    /// ends with, from where this one ends on. `None` where whole numbers don't serve for it, and else
-    /// no number that it forms is wide.
+    /// ends with, from where this one ends on or anew. `None` where whole numbers don't serve for it, and
+    /// else no number that it forms is wide.
     ///
     /// Where the row fails nowhere it takes no memory but for the multipliers, if the lists of the
     /// workspace are long enough.

@@ -207,14 +207,18 @@ pub(crate) fn no_lists(alloc: Global) -> KeptLists {
     }
 }
 
-/// Empty lists with room for the seats of the variables of so many rows and unknowns.
+/// Empty lists with room for so many seats where the others of a run with further rows have them.
 pub(crate) fn lists_with_room(
     alloc: Global,
-    height: usize,
-    width: usize,
+    others: &KeptLists,
+    seats: usize,
 ) -> Result<KeptLists, AllocError> {
     let mut lists = no_lists(alloc);
-    lists.short.seats.reserve(width.saturating_add(height))?;
+    if others.is_wide {
+        lists.wide.seats.reserve(seats)?;
+    } else {
+        lists.short.seats.reserve(seats)?;
+    }
     Ok(lists)
 }
 
