@@ -207,7 +207,7 @@ pub(crate) fn no_lists(alloc: Global) -> KeptLists {
     }
 }
 
-/// Empty lists with room for so many seats where the others of a run with further rows have them.
+/// Empty lists with room for so many seats, in the width that these have.
 pub(crate) fn lists_with_room(
     alloc: Global,
     others: &KeptLists,
@@ -399,12 +399,7 @@ pub(crate) fn begins_with(scales: &[u64], first: &[u64]) -> bool
     requires { length first.now ≤ length scales.now }
     ensures { IsTrue result → (x : ℕ) → x < length first.now → scale_at scales.now x ≡ scale_at first.now x }
 {
-    for x in 0..first.len() {
-        if scales[x] != first[x] {
-            return false;
-        }
-    }
-    true
+    &scales[..first.len()] == first
 }
 
 /// The system with a row more, in lists of its own, if the row is whole times a small scale.
