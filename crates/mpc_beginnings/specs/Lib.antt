@@ -4,3 +4,4 @@ pub mod RunLists
 pub mod Kept
 pub mod Broken
 pub mod Limit
+pub mod Open

@@ -1,6 +1,6 @@
 //! Runs in whole numbers that are kept where they end.
 
-ghost use Rattle.std.specs.Prelude.{◌≡◌, ℕ, ◌*◌, ◌<◌, ◌≤◌, ◌^◌, [], ◌∷◌, IsTrue, IfSome, IfOk, length, true, false};
+ghost use Rattle.std.specs.Prelude.{◌≡◌, ℕ, ◌*◌, ◌<◌, ◌≤◌, ◌^◌, [], ◌∷◌, IsTrue, IfSome, IfOk, None, length, true, false};
 ghost use Rattle.mpc_rows.specs.LinearSystem.{LinearSystem, height, row_at};
 ghost use Rattle.mpc_rows.specs.Run.{count, has_point, is_refuted, turn, last_position};
 ghost use Rattle.mpc_rows.specs.RunWidth.{RunFits};
@@ -15,6 +15,7 @@ ghost use Rattle.mpc_beginnings.specs.Beginnings.{lengthened};
 ghost use Rattle.mpc_beginnings.specs.Broken.{IsBroken, IsBrokenEnd};
 ghost use Rattle.mpc_beginnings.specs.Limit.{IsLimit};
 ghost use Rattle.mpc_beginnings.specs.RunLists.{lists_of, HaveShortValues};
+ghost use Rattle.mpc_beginnings.specs.Open.{IsOpenFor};
 ghost use Rattle.mpc_beginnings.specs.Kept.{AreNumbers, IsSamePlace, IsNormProduct, HasRoomBefore, AreKept, IsFirstLater, IsLonger, IsUnderwayWithin, IsUnderwayWithRoom, IsRefuted, IsMet};
 
 use crate::lists::{
@@ -364,8 +365,9 @@ struct Rows {
 #[derive(Drop)]
 pub struct Workspace {
     rows: Rows,
-    /// A system with further rows, and where its run stands.
+    /// The system that further rows are put behind, one run after the other.
     system: Option<WholeSystem>,
+    /// Where the run of the longer system stands.
     lists: KeptLists,
 }
 
@@ -519,6 +521,13 @@ fn kept_copy(
     let lists = copied_lists(alloc, lists)?;
     let last = kept_end(alloc, scales, lists, place, end)?;
     Ok(KeptRun { system: own, last })
+}
+
+/// Whether no bound of the first numbers is above twice that of the others.
+fn are_near(longer: &WholeNumbers, own: &WholeNumbers) -> bool {
+    longer.most_entry / 2 <= own.most_entry
+        && longer.most_side / 2 <= own.most_side
+        && longer.most_scale / 2 <= own.most_scale
 }
 
 /// What the run of a system with a row behind that is met where another fails ends with.
@@ -730,9 +739,10 @@ impl KeptRun {
         }
     }
 
-    /// This run's system, in lists that the workspace has or in new ones.
+    /// A copy of this run's system, in lists that the workspace has or in new ones.
     fn scratch(&self, alloc: Global, work: &mut Workspace) -> Result<WholeSystem, AllocError>
-        ensures { IfOk result (λ s. s ≡ self.now) }
+        ensures system { IfOk result (λ s. s ≡ self.now) }
+        ensures none { work.new.system ≡ None }
     {
         let mut system = match work.system.take() {
             Some(system) => system,
@@ -740,6 +750,45 @@ impl KeptRun {
         };
         system.set_to(&self.system)?;
         Ok(system)
+    }
+
+    /// Opens the workspace for runs with further rows behind this one's: its system becomes a copy of
+    /// this run's.
+    pub fn open(&self, alloc: Global, work: &mut Workspace) -> Result<(), AllocError>
+        ensures { IsOpenFor self.now work.new }
+    {
+        let system = self.scratch(alloc, work)?;
+        work.system = Some(system);
+        Ok(())
+    }
+
+    /// The system of a workspace that is open for this run, or a new copy where it has none.
+    fn opened(&self, alloc: Global, work: &mut Workspace) -> Result<WholeSystem, AllocError>
+        requires { IsOpenFor self.now work.old }
+        ensures system { IfOk result (λ s. s ≡ self.now) }
+        ensures none { work.new.system ≡ None }
+    {
+        match work.system.take() {
+            Some(system) => Ok(system),
+            None => self.scratch(alloc, work),
+        }
+    }
+
+    /// Puts the system back into the workspace, without the rows behind this run's. Where these have more
+    /// than doubled its bounds, of which the limits of runs are formed, it is copied anew.
+    fn close(&self, work: &mut Workspace, mut longer: WholeSystem)
+        requires { IsLonger self.now longer }
+        ensures { IsOpenFor self.now work.new }
+    {
+        if are_near(&longer.numbers(), &self.system.numbers()) {
+            longer.truncate(self.system.height());
+            work.system = Some(longer);
+            return;
+        }
+        work.system = None;
+        if longer.set_to(&self.system).is_ok() {
+            work.system = Some(longer);
+        }
     }
 
     /// Whether the run of the system with these rows behind its own ends with a point, where the system
@@ -752,7 +801,8 @@ impl KeptRun {
     ) -> Result<Option<bool>, AllocError>
         requires same { longer.old ≡ self.now }
         requires rows { rows.now.width ≡ self.now.width }
-        ensures { IfOk result (λ o. IfSome o (IsMet (lengthened self.now rows.now.rows))) }
+        ensures longer { IsLonger self.now longer.new }
+        ensures met { IfOk result (λ o. IfSome o (IsMet (lengthened self.now rows.now.rows))) }
     {
         longer.append(rows)?;
         self.meets_longer(work, longer)
@@ -788,7 +838,8 @@ impl KeptRun {
     ) -> Result<Option<Broken>, AllocError>
         requires same { longer.old ≡ self.now }
         requires row { length row.now.a ≡ self.now.width }
-        ensures { IfOk result (λ o. IfSome o (IsBrokenEnd (lengthened self.now (broken_row row.now ∷ [])))) }
+        ensures longer { IsLonger self.now longer.new }
+        ensures end { IfOk result (λ o. IfSome o (IsBrokenEnd (lengthened self.now (broken_row row.now ∷ [])))) }
     {
         if longer.push_broken(row)? {
             self.longer_broken(alloc, work, longer)
@@ -798,8 +849,8 @@ impl KeptRun {
     }
 
     /// Whether the run of the system with these rows behind its own ends with a point, from where
-    /// this one ends on or anew. `None` where whole numbers don't serve for it, and else no number that it
-    /// forms is wide.
+    /// this one ends on or anew, in a workspace that is open for this run and stays so. `None` where
+    /// whole numbers don't serve for it, and else no number that it forms is wide.
     ///
     /// It takes no memory where the lists of the workspace are long enough.
     pub fn meets(
@@ -808,14 +859,16 @@ impl KeptRun {
         work: &mut Workspace,
         rows: &WholeSystem,
     ) -> Result<Option<bool>, AllocError>
-        requires { rows.now.width ≡ self.now.width }
+        requires width { rows.now.width ≡ self.now.width }
+        requires open { IsOpenFor self.now work.old }
+        ensures open { IsOpenFor self.now work.new }
         ensures point { IfOk result (λ o. IfSome o (λ yes. IsTrue yes → turn (lengthened self.now rows.now.rows) (last_position (lengthened self.now rows.now.rows)) ≡ has_point)) }
         ensures refuted { IfOk result (λ o. IfSome o (λ yes. yes ≡ false → IsRefuted (lengthened self.now rows.now.rows))) }
         ensures fits { IfOk result (λ o. IfSome o (λ _. RunFits (lengthened self.now rows.now.rows))) }
     {
-        let mut system = self.scratch(alloc, work)?;
+        let mut system = self.opened(alloc, work)?;
         let met = self.meets_with(work, &mut system, rows);
-        work.system = Some(system);
+        self.close(work, system);
         met
     }
 
@@ -842,8 +895,8 @@ impl KeptRun {
     }
 
     /// What the run of the system with the strict row behind its own that is met where this row fails
-    /// ends with, from where this one ends on or anew. `None` where whole numbers don't serve for it, and
-    /// else no number that it forms is wide.
+    /// ends with, from where this one ends on or anew, in a workspace that is open for this run and stays
+    /// so. `None` where whole numbers don't serve for it, and else no number that it forms is wide.
     ///
     /// Where the row fails nowhere it takes no memory but for the multipliers, if the lists of the
     /// workspace are long enough.
@@ -853,13 +906,15 @@ impl KeptRun {
         work: &mut Workspace,
         row: &RowInt,
     ) -> Result<Option<Broken>, AllocError>
-        requires { length row.now.a ≡ self.now.width }
+        requires width { length row.now.a ≡ self.now.width }
+        requires open { IsOpenFor self.now work.old }
+        ensures open { IsOpenFor self.now work.new }
         ensures end { IfOk result (λ o. IfSome o (IsBroken (lengthened self.now (broken_row row.now ∷ [])))) }
         ensures fits { IfOk result (λ o. IfSome o (λ _. RunFits (lengthened self.now (broken_row row.now ∷ [])))) }
     {
-        let mut system = self.scratch(alloc, work)?;
+        let mut system = self.opened(alloc, work)?;
         let end = self.end_broken(alloc, work, &mut system, row);
-        work.system = Some(system);
+        self.close(work, system);
         end
     }
 

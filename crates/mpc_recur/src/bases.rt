@@ -136,6 +136,7 @@ impl Base {
         let (Some(run), Some(whole)) = (&self.run, &rows.whole) else {
             return Ok(false);
         };
+        run.open(alloc, work)?;
         match run.meets(alloc, work, whole)? {
             Some(met) => Ok(!met),
             None => Ok(false),
@@ -166,6 +167,7 @@ impl Base {
             return Ok(false);
         };
         let mut work = Workspace::new(alloc);
+        run.open(alloc, &mut work)?;
         let met = run.meets(alloc, &mut work, rows)?;
         Ok(met.is_some())
     }

@@ -79,7 +79,10 @@ pub fn meets_box(
     ensures fits { IfOk result (λ o. IfSome o (λ _. RunFits (lengthened (region_system _qp.now []) rows.now.rows))) }
 {
     match &kept.states {
-        Some(run) => run.meets(alloc, &mut kept.work, rows),
+        Some(run) => {
+            run.open(alloc, &mut kept.work)?;
+            run.meets(alloc, &mut kept.work, rows)
+        }
         None => Ok(None),
     }
 }

@@ -9,6 +9,7 @@ ghost use Rattle.mpc_rows.specs.RunWidth.{RunFits};
 ghost use Rattle.mpc_simplex.specs.Answer.{IfPoint, IfRefuted, HasPoint, IsRunEnd, EndsRefuted};
 ghost use Rattle.mpc_simplex.specs.Broken.{IfBroken, IfUnbroken};
 ghost use Rattle.mpc_beginnings.specs.Beginnings.{lengthened};
+ghost use Rattle.mpc_beginnings.specs.Open.{IsOpenFor};
 
 use crate::Decision;
 use mpc_beginnings::{Broken as KeptBroken, KeptRun, Workspace};
@@ -140,15 +141,26 @@ impl Beginning {
         }
     }
 
-    /// Whether the system with these rows behind its own has a point. Nothing where whole numbers
-    /// don't serve for its run, and else no number of that is too wide.
+    /// Opens the workspace for this run: the system is copied once for all rows that come behind it.
+    pub fn open(&self, alloc: Global, work: &mut Workspace) -> Result<(), NoMemory>
+        ensures { IsOpenFor self.now work.new }
+    {
+        self.run.open(alloc, work)?;
+        Ok(())
+    }
+
+    /// Whether the system with these rows behind its own has a point, in a workspace that is open for
+    /// this run and stays so. Nothing where whole numbers don't serve for its run, and else no number of
+    /// that is too wide.
     pub fn meets(
         &self,
         alloc: Global,
         work: &mut Workspace,
         rows: &WholeSystem,
     ) -> Result<Option<bool>, NoMemory>
-        requires { rows.now.width ≡ self.now.width }
+        requires width { rows.now.width ≡ self.now.width }
+        requires open { IsOpenFor self.now work.old }
+        ensures open { IsOpenFor self.now work.new }
         ensures answer { IfOk result (λ o. IfSome o (λ yes. IsTrue yes ↔ HasPoint (lengthened self.now rows.now.rows))) }
         ensures fits { IfOk result (λ o. IfSome o (λ _. RunFits (lengthened self.now rows.now.rows))) }
     {
@@ -159,8 +171,8 @@ impl Beginning {
     }
 
     /// Whether the system with the strict row behind its own that is met where this row fails has a
-    /// point. Nothing where whole numbers don't serve for its run, and else no number of that is too
-    /// wide.
+    /// point, in a workspace that is open for this run and stays so. Nothing where whole numbers don't
+    /// serve for its run, and else no number of that is too wide.
     ///
     /// Where it has one, the answer is as of `extend`. Elsewhere nothing is copied.
     pub fn breaks(
@@ -169,7 +181,9 @@ impl Beginning {
         work: &mut Workspace,
         row: &RowInt,
     ) -> Result<Option<Broken>, NoMemory>
-        requires { length row.now.a ≡ self.now.width }
+        requires width { length row.now.a ≡ self.now.width }
+        requires open { IsOpenFor self.now work.old }
+        ensures open { IsOpenFor self.now work.new }
         ensures point { IfOk result (λ o. IfSome o (λ b. IfBroken b (λ run. (run ≡ lengthened self.now (broken_row row.now ∷ [])) × HasPoint (lengthened self.now (broken_row row.now ∷ []))))) }
         ensures refuted { IfOk result (λ o. IfSome o (λ b. IfUnbroken b (Refutes (lengthened self.now (broken_row row.now ∷ []))))) }
         ensures no_point { IfOk result (λ o. IfSome o (λ b. IfUnbroken b (λ _. ¬ HasPoint (lengthened self.now (broken_row row.now ∷ []))))) }

@@ -5,6 +5,7 @@ ghost use Rattle.mpc_rows.specs.LawRows.{broken_row};
 ghost use Rattle.mpc_rows.specs.RunWidth.{RunFits};
 ghost use Rattle.mpc_simplex.specs.Answer.{IfWide};
 ghost use Rattle.mpc_beginnings.specs.Beginnings.{lengthened};
+ghost use Rattle.mpc_beginnings.specs.Open.{IsOpenFor};
 ghost use Rattle.mpc_tree.specs.Ends.{IsEndOf};
 ghost use Rattle.mpc_tree.specs.LeafCerts.{nonzero_from};
 
@@ -74,7 +75,9 @@ pub fn broken_end(
     run: &Beginning,
     row: &RowInt,
 ) -> Result<Option<End>, NoMemory>
-    requires { length row.now.a ≡ run.now.width }
+    requires width { length row.now.a ≡ run.now.width }
+    requires open { IsOpenFor run.now work.old }
+    ensures open { IsOpenFor run.now work.new }
     ensures end { IfOk result (λ o. IfSome o (IsEndOf (lengthened run.now (broken_row row.now ∷ [])))) }
     ensures fits { IfOk result (λ o. IfSome o (λ _. RunFits (lengthened run.now (broken_row row.now ∷ [])))) }
 {

@@ -6,7 +6,7 @@ ghost use Rattle.mpc_simplex.specs.Answer.{HasPoint, IfWide as IfRunWide};
 ghost use Rattle.mpc_systems.specs.Writing.{HasBoxWidth, IsOfSize, AreOfSize};
 ghost use Rattle.mpc_tree.specs.Borders.{AreBorders};
 ghost use Rattle.mpc_tree.specs.Causes.{IfWide};
-ghost use Rattle.mpc_tree.specs.CellRuns.{IsRunOf};
+ghost use Rattle.mpc_tree.specs.CellRuns.{IsOpenAt, IsRunOf};
 ghost use Rattle.mpc_tree.specs.Cells.{NoneMeetsBefore};
 ghost use Rattle.mpc_tree.specs.Ends.{IsEndOf};
 ghost use Rattle.mpc_tree.specs.Growth.{RegionsCover, IsFirstMeeting, IsHeld, NamesWideRow, IsPlaced};
@@ -69,7 +69,9 @@ fn kept_answer(
     cell: &KeptCell,
     border: &Border,
 ) -> Result<Option<bool>, NoMemory>
-    requires { IsRunOf qp.now cell.now.rows.items cell.now.run }
+    requires run { IsRunOf qp.now cell.now.rows.items cell.now.run }
+    requires open { IsOpenAt cell.now.run work.old }
+    ensures open { IsOpenAt cell.now.run work.new }
     ensures answer { IfOk result (λ o. IfSome o (λ yes. IsTrue yes ↔ HasPoint (meet_system qp.now cell.now.rows.items border.now))) }
     ensures fits { IfOk result (λ o. IfSome o (λ _. RunFits (meet_system qp.now cell.now.rows.items border.now))) }
 {
@@ -92,7 +94,9 @@ fn region_meets(
 ) -> Result<bool, SimplexError>
     requires cell { HasBoxWidth qp.now cell.now.rows.items }
     requires run { IsRunOf qp.now cell.now.rows.items cell.now.run }
+    requires open { IsOpenAt cell.now.run work.old }
     requires plain { AreOfSize (length qp.now.counts) border.now }
+    ensures open { IsOpenAt cell.now.run work.new }
     ensures answer { IfOk result (λ yes. IsTrue yes ↔ HasPoint (meet_system qp.now cell.now.rows.items border.now)) }
     ensures wide { MatchResult result (λ _. RunFits (meet_system qp.now cell.now.rows.items border.now))
         (λ e. IfRunWide e (¬ RunFits (meet_system qp.now cell.now.rows.items border.now))) }
@@ -118,7 +122,9 @@ fn hold_end(
 ) -> Result<End, SimplexError>
     requires cell { HasBoxWidth qp.now cell.now.rows.items }
     requires run { IsRunOf qp.now cell.now.rows.items cell.now.run }
+    requires open { IsOpenAt cell.now.run work.old }
     requires plain { IsOfSize (length qp.now.counts) row.now }
+    ensures open { IsOpenAt cell.now.run work.new }
     ensures end { IfOk result (IsEndOf (hold_system qp.now cell.now.rows.items row.now)) }
     ensures wide { MatchResult result (λ _. RunFits (hold_system qp.now cell.now.rows.items row.now))
         (λ e. IfRunWide e (¬ RunFits (hold_system qp.now cell.now.rows.items row.now))) }
@@ -150,7 +156,9 @@ fn first_meeting(
     requires borders { AreBorders qp.now laws.now borders.now }
     requires cell { HasBoxWidth qp.now cell.now.rows.items }
     requires run { IsRunOf qp.now cell.now.rows.items cell.now.run }
+    requires open { IsOpenAt cell.now.run work.old }
     requires before { NoneMeetsBefore qp.now laws.now cell.now.rows.items at.next }
+    ensures open { IsOpenAt cell.now.run work.new }
     ensures first { IfOk result (λ o. IsFirstMeeting qp.now laws.now (record { rows = cell.now.rows.items; next = at.next }) o) }
     ensures below { IfOk result (λ o. MatchOption o (at.next ≡ at.next) (λ place. (at.next ≤ place) × (place < length laws.now))) }
     ensures wide { IfErr result (λ e. IfWide e (IsWideAt qp.now laws.now (record { rows = cell.now.rows.items; next = at.next }) at.node)) }
@@ -184,6 +192,7 @@ fn first_failing(
     requires plain { AreOfSize (length qp.now.counts) rows.now }
     requires cell { HasBoxWidth qp.now cell.now.rows.items }
     requires run { IsRunOf qp.now cell.now.rows.items cell.now.run }
+    requires open { IsOpenAt cell.now.run work.old }
     ensures held { IfOk result (λ h. IsHeld qp.now cell.now.rows.items rows.now h) }
     ensures wide { IfErr result (λ e. IfWide e (NamesWideRow qp.now cell.now.rows.items rows.now node law)) }
 {
@@ -240,6 +249,7 @@ pub fn place_node(
     ensures wide { IfErr result (λ e. IfWide e (IsWideAt qp.now laws.now (record { rows = cell.now.rows.items; next = at.next }) at.node)) }
 {
     cell_theorems();
+    cell.open(alloc, work)?;
     match first_meeting(alloc, work, qp, laws, borders, cell, at)? {
         None => {
             let cert = joint_cert(alloc, qp, &cell.rows, at.node)?;

@@ -2,11 +2,11 @@
 
 ghost use Rattle.std.specs.Prelude.{◌≡◌, ◌++◌, ◌∷◌, [], IfOk, IfSome, OnOk, length};
 ghost use Rattle.mpc_systems.specs.Writing.{HasBoxWidth};
-ghost use Rattle.mpc_tree.specs.CellRuns.{IsRunOf, IsRunWith};
+ghost use Rattle.mpc_tree.specs.CellRuns.{IsOpenAt, IsRunOf, IsRunWith};
 
 use mpc_frac::NoMemory;
 use mpc_rows::{Qp, Row};
-use mpc_simplex::Beginning;
+use mpc_simplex::{Beginning, Workspace};
 use mpc_systems::meet_system;
 use std::alloc::Global;
 
@@ -52,6 +52,16 @@ impl KeptCell {
         let system = meet_system(alloc, qp, &rows, &[])?;
         let run = Beginning::begin(alloc, &system)?;
         Ok(KeptCell { rows, run })
+    }
+
+    /// Opens the workspace for the cell's run, if it is kept.
+    pub fn open(&self, alloc: Global, work: &mut Workspace) -> Result<(), NoMemory>
+        ensures { IsOpenAt self.now.run work.new }
+    {
+        match &self.run {
+            Some(run) => run.open(alloc, work),
+            None => Ok(()),
+        }
     }
 
     /// Puts a row behind the cell's. The run goes on by that row, and is given up where whole numbers

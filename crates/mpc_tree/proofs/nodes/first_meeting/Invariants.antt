@@ -1,4 +1,5 @@
 use Rattle.mpc_tree.specs.Cells.{NoneMeetsBefore}
+use Rattle.mpc_tree.specs.CellRuns.{IsOpenAt}
 use Rattle.mpc_tree.specs.NodeRuns.{MeetsFit}
 use Rattle.mpc_tree.proofs.nodes.first_meeting.Given as goal
 
@@ -6,4 +7,5 @@ abbrev pub invariant-loop-place : goal.invariant-loop-place
 invariant-loop-place l = record {
   none : NoneMeetsBefore l.qp l.laws l.cell.rows.items l.place;
   fits : MeetsFit l.qp l.laws (record { rows = l.cell.rows.items; next = l.fn.at.next }) l.place;
+  open : IsOpenAt l.cell.run l.work;
 }

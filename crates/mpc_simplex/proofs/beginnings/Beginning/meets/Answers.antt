@@ -10,7 +10,7 @@ pub returns-clause-answer : goal.returns-clause-answer
 returns-clause-answer c =
     let s = c.self.inside.run in
     let rows = c.args.rows.now.rows in
-    let same : c.args.rows.now.width ≡ s.width = c.requires ∙ ap (λ (t : LinearSystem). t.width) (sym c.self.view_is) in
+    let same : c.args.rows.now.width ≡ s.width = c.requires.width ∙ ap (λ (t : LinearSystem). t.width) (sym c.self.view_is) in
     let widths : HasWidth s.width rows = subst (λ w. HasWidth w rows) same c.has_width.ensures in
     subst (λ (t : LinearSystem). IfSome c.in_ok-answer.answer (λ b. IsTrue b ↔ HasPoint (lengthened t rows))) c.self.view_is
     (decides_some (lengthened s rows) c.system_theorems.ensures (more_widths s c.self.invariant rows widths) c.in_ok-answer.answer c.in_ok-answer.ensures.point c.in_ok-answer.ensures.refuted)
