@@ -1,10 +1,10 @@
 -- The rows after a sweep, one by one.
-use Rattle.std.proofs.Common.{◌≡◌, ℕ, suc, ◌+◌, ◌-◌, ◌*◌, ◌<◌, ◌≤◌, ◌^◌, ◌++◌, List, length, take, ℤ, pos, unsigned_abs, sym, ◌∙◌, ap, subst, arith, ◌⊎◌, inl, inr, mul-le-mul_right, IfOk, Result, Ok, Err}
+use Rattle.std.proofs.Common.{◌≡◌, ℕ, suc, ◌+◌, ◌-◌, ◌*◌, ◌<◌, ◌≤◌, ◌++◌, List, length, take, ℤ, pos, unsigned_abs, sym, ◌∙◌, ap, subst, arith, ◌⊎◌, inl, inr, mul-le-mul_right, IfOk, Result, Ok, Err}
 use Rattle.std.specs.List.{between}
 use Rattle.std.proofs.lemmas.Bool.{cases_eq, cases_lt}
-use Rattle.std.proofs.lemmas.List.{get_or_append_left, get_or-append_right, get_or-take, length-take-le}
+use Rattle.std.proofs.lemmas.List.{get_or_past, get_or_append_left, get_or-append_right, get_or-take, length-take-le}
 use Rattle.std.proofs.Math.Nat.{suc-mul}
-use Rattle.mpc_scaled.specs.Scaled.{whole_at, whole_cell}
+use Rattle.mpc_scaled.specs.Scaled.{whole_at, whole_cell, IsSmall}
 use Rattle.mpc_sweep.specs.Steps.{IsNumber, AreWritten, AreRows}
 use Rattle.mpc_sweep.proofs.OneNumber.{cell_of_row}
 use borrow.Rule.Slice.PartMut.{put_mid, post_of}
@@ -38,15 +38,15 @@ module _ (xs ys : List ℤ) (a k : ℕ) (inside : a ≤ length xs) where
 
 -- ---- the rows
 -- no row yet: small numbers before them
-pub no_rows : (width den taken : ℕ) (v : List ℤ) (p first told : ℕ) (new : List ℤ) → ((k : ℕ) → k < first → unsigned_abs (whole_at new k) ≤ 2 ^ 62) → AreRows width den taken v p first told 0 new
-no_rows width den taken v p first told new h = record {
+pub no_rows : (most width den taken : ℕ) (v : List ℤ) (p first told : ℕ) (new : List ℤ) → ((k : ℕ) → k < first → unsigned_abs (whole_at new k) ≤ most) → AreRows most width den taken v p first told 0 new
+no_rows most width den taken v p first told new h = record {
   numbers = λ i j l m n. absurd (omega arith);
   small = λ k l. h k (omega arith);
 }
 
 -- one row more
-module _ (width den taken : ℕ) (v : List ℤ) (p first told columns i k : ℕ) (now ys : List ℤ) (h : AreRows width den taken v p first told i now) (size : length ys ≡ columns) (sum : first + told ≡ columns) (inside : i * told + columns ≤ length now)
-    (w : AreWritten first columns (IsNumber width den taken v p i) (between (i * told) (i * told + columns) now) ys) where
+module _ (most width den taken : ℕ) (v : List ℤ) (p first told columns i k : ℕ) (now ys : List ℤ) (h : AreRows most width den taken v p first told i now) (size : length ys ≡ columns) (sum : first + told ≡ columns) (inside : i * told + columns ≤ length now)
+    (w : AreWritten most first columns (IsNumber width den taken v p i) (between (i * told) (i * told + columns) now) ys) where
   abbrev new : List ℤ
   new = put_mid (i * told) k now ys
 
@@ -68,7 +68,7 @@ module _ (width den taken : ℕ) (v : List ℤ) (p first told columns i k : ℕ)
       let e : i * told + j - i * told ≡ j = omega arith in
       put_there now ys (i * told) k start_in (i * told + j) (omega arith) (omega arith) ∙ ap (whole_at ys) e
 
-  pub row_more : AreRows width den taken v p first told (i + 1) new
+  pub row_more : AreRows most width den taken v p first told (i + 1) new
   row_more = record {
     numbers = λ r j l m n. number r j l m n (cases_eq r i);
     small = λ n l. small n l (cases_lt n (i * told + first));
@@ -82,8 +82,20 @@ module _ (width den taken : ℕ) (v : List ℤ) (p first told columns i k : ℕ)
           let q : r * told + j < i * told + first = row_below told r i first j b n in
           subst (IsNumber width den taken v p r j) (sym (kept (r * told + j) q)) (h.numbers r j b m n)
 
-      small : (n : ℕ) → n < first + (i + 1) * told → (n < i * told + first) ⊎ (i * told + first ≤ n) → unsigned_abs (whole_at new n) ≤ 2 ^ 62
-      small n l (inl m) = subst (λ z. unsigned_abs z ≤ 2 ^ 62) (sym (kept n m)) (h.small n (omega arith))
+      small : (n : ℕ) → n < first + (i + 1) * told → (n < i * told + first) ⊎ (i * told + first ≤ n) → unsigned_abs (whole_at new n) ≤ most
+      small n l (inl m) = subst (λ z. unsigned_abs z ≤ most) (sym (kept n m)) (h.small n (omega arith))
       small n l (inr m) =
           let q : n - i * told < columns = part_below told i first columns n sum (omega arith) l in
-          subst (λ z. unsigned_abs z ≤ 2 ^ 62) (sym (put_there now ys (i * told) k start_in n (omega arith) (omega arith))) (w.small (n - i * told) (omega arith) q)
+          subst (λ z. unsigned_abs z ≤ most) (sym (put_there now ys (i * told) k start_in n (omega arith) (omega arith))) (w.small (n - i * told) (omega arith) q)
+
+-- ---- all rows
+module _ (most width den taken : ℕ) (v : List ℤ) (p first told count : ℕ) (new : List ℤ) (h : AreRows most width den taken v p first told count new) where
+  pub rows_small : length new ≡ first + count * told → IsSmall most new
+  rows_small size = record { each = λ k. by k (cases_lt k (length new)) }
+    where
+      by : (k : ℕ) → (k < length new) ⊎ (length new ≤ k) → unsigned_abs (whole_at new k) ≤ most
+      by k (inl l) = h.small k (omega arith)
+      by k (inr l) = subst (λ z. unsigned_abs z ≤ most) (sym (get_or_past new k (pos 0) l)) (omega arith)
+
+  pub rows_within : (bound : ℕ) → IsSmall bound new → AreRows bound width den taken v p first told count new
+  rows_within bound small = record { numbers = h.numbers; small = λ k l. small.each k }

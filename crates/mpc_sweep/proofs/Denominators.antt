@@ -13,24 +13,26 @@ right_some a b c h e = left_some b a c h (mul_comm b a ∙ e)
 
 module _ (from : Swept) (p first size : ℕ) (new : List ℤ) (size_is : size ≡ unsigned_abs (number from p p)) (size_some : 0 < size) (den_some : 0 < from.den) where
   -- over the size of the pivot
-  pub rows_over_pivot : size ≤ 2 ^ 62 → AreRows (told_columns from) from.den from.den from.numbers.items p first (from.columns - first) from.rows new → AreSweptRows from p first size new
-  rows_over_pivot small rows = record {
+  pub rows_over_pivot : (most : ℕ) → most ≤ 2 ^ 62 → size ≤ most → AreRows most (told_columns from) from.den from.den from.numbers.items p first (from.columns - first) from.rows new → AreSweptRows from p first size most new
+  rows_over_pivot most most_small small rows = record {
     by = from.den;
     some = den_some;
     den_some = size_some;
     den_is = mul_comm size from.den ∙ ap (λ u. from.den * u) size_is;
     den_small = small;
+    small = most_small;
     rows = rows;
   }
 
   -- over less
-  pub rows_over_less : (den taken : ℕ) → den * taken ≡ from.den * size → den ≤ 2 ^ 62
-      → AreRows (told_columns from) from.den taken from.numbers.items p first (from.columns - first) from.rows new → AreSweptRows from p first den new
-  rows_over_less den taken over small rows = record {
+  pub rows_over_less : (most den taken : ℕ) → den * taken ≡ from.den * size → most ≤ 2 ^ 62 → den ≤ most
+      → AreRows most (told_columns from) from.den taken from.numbers.items p first (from.columns - first) from.rows new → AreSweptRows from p first den most new
+  rows_over_less most den taken over most_small small rows = record {
     by = taken;
     some = right_some den taken (from.den * size) (mul-pos den_some size_some) over;
     den_some = left_some den taken (from.den * size) (mul-pos den_some size_some) over;
     den_is = over ∙ ap (λ u. from.den * u) size_is;
     den_small = small;
+    small = most_small;
     rows = rows;
   }

@@ -1,5 +1,5 @@
 -- A table before its first sweep, as it is read.
-use Rattle.std.proofs.Common.{◌≡◌, ℕ, suc, ◌+◌, ◌-◌, ◌*◌, ◌^◌, ◌<◌, ◌≤◌, List, [], ◌∷◌, ◌++◌, length, ℤ, pos, ◌+ℤ◌, ◌*ℤ◌, unsigned_abs, Option, Some, None, IfSome, refl, sym, ◌∙◌, ap, subst, arith, ⊎_elim, length-append, le_trans}
+use Rattle.std.proofs.Common.{◌≡◌, ℕ, suc, ◌+◌, ◌-◌, ◌*◌, ◌^◌, ◌<◌, ◌≤◌, List, [], ◌∷◌, ◌++◌, length, ℤ, pos, ◌+ℤ◌, ◌*ℤ◌, unsigned_abs, Option, Some, None, IfSome, refl, sym, ◌∙◌, ap, subst, arith, ◌⊎◌, inl, inr, ⊎_elim, length-append, le_trans}
 use Rattle.std.proofs.lemmas.Bool.{cases_lt, cases_eq}
 use Rattle.std.proofs.lemmas.List.{get_or_append_left, get_or_past}
 use Rattle.std.proofs.Math.Seq.{get_or-append_seam}
@@ -9,7 +9,7 @@ use Rattle.mpc_exact.proofs.Rational.{same_frac}
 use Rattle.mpc_exact.proofs.IntRing.{int_reads, by_ring_ℤ}
 use Rattle.mpc_space.specs.Matrix.{RationalMatrix, height, entry}
 use Rattle.mpc_linear.specs.Elimination.{Table}
-use Rattle.mpc_scaled.specs.Scaled.{whole_at, whole_cell}
+use Rattle.mpc_scaled.specs.Scaled.{whole_at, whole_cell, IsSmall}
 use Rattle.mpc_sweep.specs.declared.numbers.Swept.{Swept}
 use Rattle.mpc_sweep.specs.Sweeps.{swept}
 use Rattle.mpc_sweep.specs.Numbers.{told_columns, number, IsTable, IsSwept}
@@ -79,9 +79,17 @@ module _ (m : RationalMatrix) (i scale : ℕ) (old new : List ℤ) (h : HasNumbe
         (cases_lt k (length old));
   }
 
+-- all of them are small
+pub numbers_small : (m : RationalMatrix) (count scale : ℕ) (v : List ℤ) → HasNumbers m count scale v → IsSmall (2 ^ 62) v
+numbers_small m count scale v h = record { each = λ k. le_trans (by k (cases_lt k (length v))) (omega arith) }
+  where
+    by : (k : ℕ) → (k < length v) ⊎ (length v ≤ k) → unsigned_abs (whole_at v k) ≤ 2 ^ 58
+    by k (inl l) = h.small k l
+    by k (inr l) = subst (λ u. unsigned_abs u ≤ 2 ^ 58) (sym (get_or_past v k (pos 0) l)) (omega arith)
+
 -- ---- the table
 module _ (m : RationalMatrix) (scale : ℕ) (some : 0 < scale) (scale_small : scale ≤ 2 ^ 62) (s : Swept) (rows_are : s.rows ≡ height m) (columns_are : s.columns ≡ m.columns) (first : s.first ≡ 0) (den : s.den ≡ scale)
-    (h : HasNumbers m (height m) scale s.numbers.items) where
+    (h : HasNumbers m (height m) scale s.numbers.items) (most_small : s.most ≤ 2 ^ 62) (most_den : scale ≤ s.most) (most : IsSmall s.most s.numbers.items) where
   told_is : told_columns s ≡ m.columns
   told_is = (λ t. columns_are t - first t) ∙ (let e : m.columns - 0 ≡ m.columns = omega arith in e)
 
@@ -101,6 +109,9 @@ module _ (m : RationalMatrix) (scale : ℕ) (some : 0 < scale) (scale_small : sc
     some_den = subst (λ u. 0 < u) (sym den) some;
     small_den = subst (λ u. u ≤ 2 ^ 62) (sym den) scale_small;
     small = record { each = λ k. le_trans (small_at k) (omega arith) };
+    most_small = most_small;
+    most_den = subst (λ u. u ≤ s.most) (sym den) most_den;
+    most = most;
   }
 
   pub first_swept : IsSwept (entry m) [] (height m) m.columns 0 s

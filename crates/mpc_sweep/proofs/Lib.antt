@@ -4,6 +4,7 @@ pub mod Befores
 pub mod Unswept
 pub mod Parts
 pub mod OneNumber
+pub mod ShortNumbers
 pub mod AllRows
 pub mod SweptEntry
 pub mod SweptOnce

@@ -1,5 +1,5 @@
 -- The numbers of a row after a sweep, one by one.
-use Rattle.std.proofs.Common.{◌≡◌, ◌≢◌, ℕ, ◌+◌, ◌-◌, ◌*◌, ◌<◌, ◌≤◌, ◌^◌, List, [], ◌∷◌, length, get_or, set, ℤ, pos, ◌+ℤ◌, ◌*ℤ◌, neg_ℤ, negsuc, unsigned_abs, refl, sym, ◌∙◌, ap, subst, arith, ◌⊎◌, inl, inr, get_or-set_same, get_or-set_other, to_z, of_z}
+use Rattle.std.proofs.Common.{◌≡◌, ◌≢◌, ℕ, ◌+◌, ◌-◌, ◌*◌, ◌<◌, ◌≤◌, ◌^◌, List, [], ◌∷◌, length, get_or, set, ℤ, pos, ◌+ℤ◌, ◌*ℤ◌, neg_ℤ, negsuc, unsigned_abs, refl, sym, ◌∙◌, ap, subst, arith, ◌⊎◌, inl, inr, get_or-set_same, get_or-set_other, to_z, of_z, le_trans}
 use Rattle.std.specs.Int.{w64}
 use Rattle.std.specs.List.{between}
 use Rattle.std.proofs.lemmas.Bool.{cases_eq, cases_lt}
@@ -18,15 +18,22 @@ read_small z h = to_z-of_z w64 z (fits_signed_from_abs w64 z (omega arith))
 pub read_at : (v : List ℤ) → IsSmall (2 ^ 62) v → (k : ℕ) → to_z w64 (of_z w64 (get_or v k (pos 0))) ≡ whole_at v k
 read_at v h k = read_small (whole_at v k) (h.each k)
 
+-- a greater bound
+pub small_within : (a b : ℕ) (v : List ℤ) → a ≤ b → IsSmall a v → IsSmall b v
+small_within a b v l h = record { each = λ k. le_trans (h.each k) l }
+
+pub written_within : (a b first count : ℕ) (is : ℕ → ℤ → Type 0) (old new : List ℤ) → a ≤ b → AreWritten a first count is old new → AreWritten b first count is old new
+written_within a b first count is old new l h = record { kept = h.kept; numbers = h.numbers; small = λ j m n. le_trans (h.small j m n) l }
+
 -- one number more
-module _ (first j : ℕ) (is : ℕ → ℤ → Type 0) (old now : List ℤ) (h : AreWritten first j is old now) (front : first ≤ j) (inside : j < length now) (z : ℤ) (small : unsigned_abs z ≤ 2 ^ 62) (this : is j z) where
+module _ (most first j : ℕ) (is : ℕ → ℤ → Type 0) (old now : List ℤ) (h : AreWritten most first j is old now) (front : first ≤ j) (inside : j < length now) (z : ℤ) (small : unsigned_abs z ≤ most) (this : is j z) where
   here : (P : ℤ → Type 0) → P z → P (whole_at (set now j z) j)
   here P = subst P (sym (get_or-set_same now j z (pos 0) inside))
 
   elsewhere : (k : ℕ) → k ≢ j → whole_at (set now j z) k ≡ whole_at now k
   elsewhere k n = get_or-set_other now j k z (pos 0) n
 
-  pub one_written : AreWritten first (j + 1) is old (set now j z)
+  pub one_written : AreWritten most first (j + 1) is old (set now j z)
   one_written = record {
     kept = λ k l. elsewhere k (λ e. omega arith) ∙ h.kept k l;
     numbers = λ k l m. number k l m (cases_eq k j);
@@ -37,13 +44,13 @@ module _ (first j : ℕ) (is : ℕ → ℤ → Type 0) (old now : List ℤ) (h :
       number k l m (inl e) = subst (λ u. is u (whole_at (set now j z) u)) (sym e) (here (is j) this)
       number k l m (inr e) = subst (is k) (sym (elsewhere k e)) (h.numbers k l (omega arith))
 
-      size : (k : ℕ) → first ≤ k → k < j + 1 → (k ≡ j) ⊎ (k ≡ j → ⊥) → unsigned_abs (whole_at (set now j z) k) ≤ 2 ^ 62
-      size k l m (inl e) = subst (λ u. unsigned_abs (whole_at (set now j z) u) ≤ 2 ^ 62) (sym e) (here (λ y. unsigned_abs y ≤ 2 ^ 62) small)
-      size k l m (inr e) = subst (λ y. unsigned_abs y ≤ 2 ^ 62) (sym (elsewhere k e)) (h.small k l (omega arith))
+      size : (k : ℕ) → first ≤ k → k < j + 1 → (k ≡ j) ⊎ (k ≡ j → ⊥) → unsigned_abs (whole_at (set now j z) k) ≤ most
+      size k l m (inl e) = subst (λ u. unsigned_abs (whole_at (set now j z) u) ≤ most) (sym e) (here (λ y. unsigned_abs y ≤ most) small)
+      size k l m (inr e) = subst (λ y. unsigned_abs y ≤ most) (sym (elsewhere k e)) (h.small k l (omega arith))
 
 -- fewer numbers, and what they are in other words
-pub written_as : (first count most : ℕ) (is also : ℕ → ℤ → Type 0) (old new : List ℤ) → count ≤ most → ((j : ℕ) (z : ℤ) → j < count → is j z → also j z) → AreWritten first most is old new → AreWritten first count also old new
-written_as first count most is also old new few f h = record {
+pub written_as : (most first count longer : ℕ) (is also : ℕ → ℤ → Type 0) (old new : List ℤ) → count ≤ longer → ((j : ℕ) (z : ℤ) → j < count → is j z → also j z) → AreWritten most first longer is old new → AreWritten most first count also old new
+written_as most first count longer is also old new few f h = record {
   kept = h.kept;
   numbers = λ j l m. f j (whole_at new j) m (h.numbers j l (omega arith));
   small = λ j l m. h.small j l (omega arith);
@@ -58,12 +65,12 @@ module _ (v : List ℤ) (start columns : ℕ) where
 pub row_size : (v : List ℤ) (start columns : ℕ) → start + columns ≤ length v → length (between start (start + columns) v) ≡ columns
 row_size v start columns h = length-between v start (start + columns) h ∙ (let e : start + columns - start ≡ columns = omega arith in e)
 
-pub row_small : (v : List ℤ) (start columns : ℕ) → start + columns ≤ length v → IsSmall (2 ^ 62) v → IsSmall (2 ^ 62) (between start (start + columns) v)
-row_small v start columns h s = record { each = λ k. by k (cases_lt k columns) }
+pub row_small : (most : ℕ) (v : List ℤ) (start columns : ℕ) → start + columns ≤ length v → IsSmall most v → IsSmall most (between start (start + columns) v)
+row_small most v start columns h s = record { each = λ k. by k (cases_lt k columns) }
   where
-    by : (k : ℕ) → (k < columns) ⊎ (columns ≤ k) → unsigned_abs (whole_at (between start (start + columns) v) k) ≤ 2 ^ 62
-    by k (inl l) = subst (λ z. unsigned_abs z ≤ 2 ^ 62) (sym (cell_of_row v start columns k l)) (s.each (start + k))
-    by k (inr l) = subst (λ z. unsigned_abs z ≤ 2 ^ 62) (sym (get_or_past (between start (start + columns) v) k (pos 0) (let e = row_size v start columns h in omega arith))) (omega arith)
+    by : (k : ℕ) → (k < columns) ⊎ (columns ≤ k) → unsigned_abs (whole_at (between start (start + columns) v) k) ≤ most
+    by k (inl l) = subst (λ z. unsigned_abs z ≤ most) (sym (cell_of_row v start columns k l)) (s.each (start + k))
+    by k (inr l) = subst (λ z. unsigned_abs z ≤ most) (sym (get_or_past (between start (start + columns) v) k (pos 0) (let e = row_size v start columns h in omega arith))) (omega arith)
 
 no_product : (y s f x : ℤ) → f ≡ pos 0 → (y *ℤ s) +ℤ neg_ℤ (f *ℤ x) ≡ y *ℤ s
 no_product y s f x e = ap (λ u. (y *ℤ s) +ℤ neg_ℤ (u *ℤ x)) e ∙ by_ring_ℤ (y ∷ s ∷ x ∷ []) (search int_reads depth 30) (search int_reads depth 30) tt

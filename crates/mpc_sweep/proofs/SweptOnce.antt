@@ -1,5 +1,5 @@
 -- A table that is swept at one more row.
-use Rattle.std.proofs.Common.{◌≡◌, ◌≢◌, ℕ, suc, ◌+◌, ◌-◌, ◌*◌, ◌^◌, ◌<◌, ◌≤◌, List, [], ◌∷◌, ◌++◌, length, get_or, ℤ, pos, unsigned_abs, refl, sym, ◌∙◌, ap, subst, subst₂, arith, ◌⊎◌, inl, inr, le_trans, length-append}
+use Rattle.std.proofs.Common.{◌≡◌, ◌≢◌, ℕ, suc, ◌+◌, ◌-◌, ◌*◌, ◌<◌, ◌≤◌, List, [], ◌∷◌, ◌++◌, length, get_or, ℤ, pos, unsigned_abs, refl, sym, ◌∙◌, ap, subst, subst₂, arith, ◌⊎◌, inl, inr, le_trans, length-append}
 use Rattle.std.proofs.lemmas.Bool.{cases_eq, cases_lt}
 use Rattle.std.proofs.lemmas.List.{get_or_append_left, get_or_past, take-append-le, take_at}
 use Rattle.std.proofs.Math.Seq.{get_or-append_seam}
@@ -99,24 +99,27 @@ pub record IsOnce (from out : Swept) (p first : ℕ) : Type 0 where
   pub columns : out.columns ≡ from.columns
   pub first_told : out.first ≡ first
   pub size : length out.numbers.items ≡ first + from.rows * (from.columns - first)
-  pub swept : AreSweptRows from p first out.den out.numbers.items
+  pub swept : AreSweptRows from p first out.den out.most out.numbers.items
   pub within : first ≤ from.columns
 
 module _ (laws : OverTheorems) (from out : Swept) (p first : ℕ) (o : IsTable from) (r : p < from.rows) (c : p < from.columns) (pivot : number from p p ≢ pos 0) (w : IsOnce from out p first) where
   told_there : told_columns out ≡ from.columns - first
   told_there = (λ k. w.columns k - w.first_told k)
 
-  small_there : (k : ℕ) → (k < length out.numbers.items) ⊎ (length out.numbers.items ≤ k) → unsigned_abs (whole_at out.numbers.items k) ≤ 2 ^ 62
+  small_there : (k : ℕ) → (k < length out.numbers.items) ⊎ (length out.numbers.items ≤ k) → unsigned_abs (whole_at out.numbers.items k) ≤ out.most
   small_there k (inl l) = w.swept.rows.small k (subst (λ n. k < n) w.size l)
-  small_there k (inr l) = subst (λ z. unsigned_abs z ≤ 2 ^ 62) (sym (get_or_past out.numbers.items k (pos 0) l)) (omega arith)
+  small_there k (inr l) = subst (λ z. unsigned_abs z ≤ out.most) (sym (get_or_past out.numbers.items k (pos 0) l)) (omega arith)
 
   table_there : IsTable out
   table_there = record {
     told = subst₂ (λ a b. a ≤ b) (sym w.first_told) (sym w.columns) w.within;
     size = w.size ∙ (λ k. sym w.first_told k + sym w.rows k * sym told_there k);
     some_den = w.swept.den_some;
-    small_den = w.swept.den_small;
-    small = record { each = λ k. small_there k (cases_lt k (length out.numbers.items)) };
+    small_den = le_trans w.swept.den_small w.swept.small;
+    small = record { each = λ k. le_trans (small_there k (cases_lt k (length out.numbers.items))) w.swept.small };
+    most_small = w.swept.small;
+    most_den = w.swept.den_small;
+    most = record { each = λ k. small_there k (cases_lt k (length out.numbers.items)) };
   }
 
   module _ (t : Table) (ps : List ℕ) (rows columns from_column : ℕ) (h : IsSwept t ps rows columns from_column from) (at : from_column ≤ p) (behind : p < first) (above : (k : ℕ) → k < length ps → get_or ps k 0 < p) where

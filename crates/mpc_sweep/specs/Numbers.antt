@@ -21,6 +21,9 @@ pub record IsTable (s : Swept) : Type 0 where
   pub some_den : 0 < s.den
   pub small_den : s.den ≤ 2 ^ 62
   pub small : IsSmall (2 ^ 62) s.numbers.items
+  pub most_small : s.most ≤ 2 ^ 62
+  pub most_den : s.den ≤ s.most
+  pub most : IsSmall s.most s.numbers.items
 
 -- before the first sweep the entries are small whole numbers over one scale
 pub record IsWholeTable (t : Table) (rows columns : ℕ) : Type 0 where

@@ -6,6 +6,7 @@ mod divisor;
 mod numbers;
 mod reading;
 mod rows;
+mod short;
 #[cfg(test)]
 mod tests;
 mod theorems;

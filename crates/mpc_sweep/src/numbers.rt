@@ -20,6 +20,8 @@ pub struct Swept {
     /// The first column that is told.
     pub(crate) first: usize,
     pub(crate) den: u64,
+    /// No number, nor what they lie over, is greater in size.
+    pub(crate) most: u64,
     /// The numbers of the columns that are told, row by row, behind one place for each column that isn't: so
     /// the number in row i and column j stands at i times the columns that are told, and j.
     pub(crate) numbers: Vec<i64>,
@@ -33,6 +35,7 @@ impl Swept {
             columns: 0,
             first: 0,
             den: 1,
+            most: 1,
             numbers: Vec::new(alloc),
         }
     }

@@ -8,6 +8,7 @@ ghost use Rattle.mpc_sweep.specs.Numbers.{IsSwept};
 ghost use Rattle.mpc_sweep.specs.Reading.{AreBehind, HasNumbers};
 
 use crate::Swept;
+use crate::rows::bound_of;
 use mpc_frac::{Frac, NoMemory, greatest_common_divisor};
 use mpc_linear::Matrix;
 use mpc_whole::{Divisor, changed};
@@ -131,11 +132,13 @@ pub fn whole_table(alloc: Global, table: &Matrix) -> Result<Option<Swept>, NoMem
     let Some(numbers) = numbers_of(alloc, table, scale)? else {
         return Ok(None);
     };
+    let most = bound_of(&numbers, scale);
     Ok(Some(Swept {
         rows: table.rows() as usize,
         columns: table.cols() as usize,
         first: 0,
         den: scale,
+        most,
         numbers,
     }))
 }

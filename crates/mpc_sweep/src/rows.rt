@@ -9,34 +9,46 @@ ghost use Rattle.mpc_sweep.specs.Steps.{IsNumber, IsOwn, IsScaled, IsChanged, Ar
 
 use crate::Swept;
 use crate::divisor::shared_divisor;
+use crate::short::{SHORT, ShortDivisor, write_short_row};
 use mpc_frac::NoMemory;
+use mpc_scaled::greatest;
 use mpc_whole::{Divisor, changed, over_theorems, turned};
 
 /// The greatest size of a number.
 const MOST: u64 = 1 << 62;
 
-/// One sweep: its row, the denominator before it, and what is taken out of the numbers after it.
+/// One sweep: its row, the denominator before it, what is taken out of the numbers after it, and how great these may be.
 #[derive(Clone, Copy, Drop)]
 struct Step {
     p: usize,
     den: u64,
     by: Divisor,
+    short: ShortDivisor,
+    most: u64,
+}
+
+/// What the numbers of a sweep lie over, and a bound on it and on their sizes.
+#[derive(Clone, Copy, Drop)]
+struct Scale {
+    den: u64,
+    most: u64,
 }
 
 /// The number times a factor over what is taken out, if it is whole and small.
 #[inline]
-fn scaled(x: i64, factor: u64, by: Divisor) -> Option<i64>
-    requires x_small { unsigned_abs x ≤ 2 ^ 62 }
+fn scaled(x: i64, factor: u64, by: Divisor, most: u64) -> Option<i64>
+    requires x_small { unsigned_abs x ≤ most }
+    requires most_small { most ≤ 2 ^ 62 }
     requires factor_small { factor ≤ 2 ^ 62 }
     requires by_some { 0 < by.den }
     requires by_small { by.den ≤ 2 ^ 62 }
     ensures value { IfSome result (λ z. z *ℤ pos by.den ≡ x *ℤ pos factor) }
-    ensures small { IfSome result (λ z. unsigned_abs z ≤ 2 ^ 62) }
+    ensures small { IfSome result (λ z. unsigned_abs z ≤ most) }
 {
     if by.den == factor || x == 0 {
         return Some(x);
     }
-    changed(x, 0, 0, factor, by, MOST)
+    changed(x, 0, 0, factor, by, most)
 }
 
 /// Writes the numbers of the row of the sweep, from the column `first` on, or some of them where one isn't small. With the pivot's sign they
@@ -44,16 +56,17 @@ fn scaled(x: i64, factor: u64, by: Divisor) -> Option<i64>
 fn write_pivot_row(out: &mut [i64], top: &[i64], step: Step, first: usize) -> bool
     requires size { length out.old ≡ length top.now }
     requires column { step.p < length top.now }
-    requires small { IsSmall (2 ^ 62) top.now }
-    requires den_small { step.den ≤ 2 ^ 62 }
+    requires small { IsSmall step.most top.now }
+    requires most_small { step.most ≤ 2 ^ 62 }
+    requires den_small { step.den ≤ step.most }
     requires by_some { 0 < step.by.den }
-    requires by_small { step.by.den ≤ 2 ^ 62 }
-    ensures { IsTrue result → AreWritten first (length top.now) (IsOwn step.den step.by.den top.now step.p) out.old out.new }
+    requires by_small { step.by.den ≤ step.most }
+    ensures { IsTrue result → AreWritten step.most first (length top.now) (IsOwn step.den step.by.den top.now step.p) out.old out.new }
 {
     let pivot = top[step.p];
     for j in first..top.len() {
         let x = turned(pivot, top[j]);
-        let Some(z) = scaled(x, step.den, step.by) else {
+        let Some(z) = scaled(x, step.den, step.by, step.most) else {
             return false;
         };
         out[j] = z;
@@ -63,16 +76,24 @@ fn write_pivot_row(out: &mut [i64], top: &[i64], step: Step, first: usize) -> bo
 
 /// Writes the numbers of a row that has nothing in the column of the sweep, from the column `first` on, or some of them where one isn't small.
 /// Many of them are 0.
-fn write_scaled_row(out: &mut [i64], row: &[i64], size: u64, by: Divisor, first: usize) -> bool
+fn write_scaled_row(
+    out: &mut [i64],
+    row: &[i64],
+    size: u64,
+    by: Divisor,
+    most: u64,
+    first: usize,
+) -> bool
     requires length { length out.old ≡ length row.now }
-    requires small { IsSmall (2 ^ 62) row.now }
+    requires small { IsSmall most row.now }
+    requires most_small { most ≤ 2 ^ 62 }
     requires size_small { size ≤ 2 ^ 62 }
     requires by_some { 0 < by.den }
     requires by_small { by.den ≤ 2 ^ 62 }
-    ensures { IsTrue result → AreWritten first (length row.now) (IsScaled by.den size row.now) out.old out.new }
+    ensures { IsTrue result → AreWritten most first (length row.now) (IsScaled by.den size row.now) out.old out.new }
 {
     for j in first..row.len() {
-        let Some(z) = scaled(row[j], size, by) else {
+        let Some(z) = scaled(row[j], size, by, most) else {
             return false;
         };
         out[j] = z;
@@ -96,7 +117,7 @@ fn write_changed_row(
     requires top_small { IsSmall (2 ^ 62) top.now }
     requires by_some { 0 < by.den }
     requires by_small { by.den ≤ 2 ^ 62 }
-    ensures { IsTrue result → AreWritten first (length row.now) (IsChanged by.den row.now top.now p) out.old out.new }
+    ensures { IsTrue result → AreWritten (2 ^ 62) first (length row.now) (IsChanged by.den row.now top.now p) out.old out.new }
 {
     let pivot = top[p];
     let size = pivot.unsigned_abs();
@@ -122,11 +143,14 @@ fn write_row(
     requires inside { i * width + length out.old ≤ length table.now }
     requires pivot_inside { step.p * width + length out.old ≤ length table.now }
     requires column { step.p < length out.old }
-    requires small { IsSmall (2 ^ 62) table.now }
-    requires den_small { step.den ≤ 2 ^ 62 }
+    requires small { IsSmall step.most table.now }
+    requires most_small { step.most ≤ 2 ^ 62 }
+    requires bound { step.most ≢ 2 ^ 30 → 2 ^ 62 ≤ step.most }
+    requires den_small { step.den ≤ step.most }
     requires by_some { 0 < step.by.den }
-    requires by_small { step.by.den ≤ 2 ^ 62 }
-    ensures { IsTrue result → AreWritten first (length out.old) (IsNumber width step.den step.by.den table.now step.p i) out.old out.new }
+    requires by_small { step.by.den ≤ step.most }
+    requires same { step.short.den ≡ step.by.den }
+    ensures { IsTrue result → AreWritten step.most first (length out.old) (IsNumber width step.den step.by.den table.now step.p i) out.old out.new }
 {
     let columns = out.len();
     let p = step.p;
@@ -136,28 +160,44 @@ fn write_row(
     }
     let row = &table[i * width..i * width + columns];
     if row[p] == 0 {
-        return write_scaled_row(out, row, top[p].unsigned_abs(), step.by, first);
+        let size = top[p].unsigned_abs();
+        return write_scaled_row(out, row, size, step.by, step.most, first);
+    }
+    if step.most == SHORT {
+        return write_short_row(out, row, top, step.short, p, first);
     }
     write_changed_row(out, row, top, step.by, p, first)
 }
 
 /// Writes all rows, in the columns from `first` on, behind a zero for each column before; or some of them
-/// where a number isn't small once so much is taken out.
-fn write_rows(numbers: &mut [i64], from: &Swept, p: usize, first: usize, taken: u64) -> bool
+/// where a number isn't whole, or above the bound, once so much is taken out.
+fn write_rows(
+    numbers: &mut [i64],
+    from: &Swept,
+    p: usize,
+    first: usize,
+    taken: u64,
+    most: u64,
+) -> bool
     requires table { IsTable from.now }
     requires row { p < from.now.rows }
     requires column { p < from.now.columns }
     requires first { first ≤ from.now.columns }
     requires size { length numbers.old ≡ first + from.now.rows * (from.now.columns - first) }
     requires taken_some { 0 < taken }
-    requires taken_small { taken ≤ 2 ^ 62 }
-    ensures { IsTrue result → AreRows (told_columns from.now) from.now.den taken from.now.numbers.items p first (from.now.columns - first) from.now.rows numbers.new }
+    requires taken_small { taken ≤ most }
+    requires fits { from.now.most ≤ most }
+    requires most_small { most ≤ 2 ^ 62 }
+    requires bound { most ≢ 2 ^ 30 → 2 ^ 62 ≤ most }
+    ensures { IsTrue result → AreRows most (told_columns from.now) from.now.den taken from.now.numbers.items p first (from.now.columns - first) from.now.rows numbers.new }
 {
     let by = Divisor::of(taken);
     let step = Step {
         p,
         den: from.den,
         by,
+        short: ShortDivisor::of(taken),
+        most,
     };
     let table = from.numbers.as_slice();
     let columns = from.columns;
@@ -191,8 +231,24 @@ fn whole_quotient(over: u128, by: u64) -> Option<u64>
     }
 }
 
-/// Writes all rows in lowest terms, and tells their denominator; or some of them where a number isn't small.
-fn write_reduced_rows(numbers: &mut [i64], from: &Swept, p: usize, first: usize) -> Option<u64>
+/// A bound on small numbers and on what they lie over: that of short ones, if they are short.
+pub fn bound_of(numbers: &[i64], den: u64) -> u64
+    requires small { IsSmall (2 ^ 62) numbers.now }
+    requires den_small { den ≤ 2 ^ 62 }
+    ensures numbers { IsSmall result numbers.now }
+    ensures den { den ≤ result }
+    ensures small { result ≤ 2 ^ 62 }
+{
+    let most = greatest(numbers);
+    if most <= SHORT && den <= SHORT {
+        SHORT
+    } else {
+        MOST
+    }
+}
+
+/// Writes all rows in lowest terms, and tells what they lie over; or some of them where a number isn't small.
+fn write_reduced_rows(numbers: &mut [i64], from: &Swept, p: usize, first: usize) -> Option<Scale>
     requires table { IsTable from.now }
     requires row { p < from.now.rows }
     requires column { p < from.now.columns }
@@ -201,7 +257,7 @@ fn write_reduced_rows(numbers: &mut [i64], from: &Swept, p: usize, first: usize)
     requires first_told { from.now.first ≤ first }
     requires first { first ≤ from.now.columns }
     requires size { length numbers.old ≡ first + from.now.rows * (from.now.columns - first) }
-    ensures { IfSome result (λ den. AreSweptRows from.now p first den numbers.new) }
+    ensures { IfSome result (λ s. AreSweptRows from.now p first s.den s.most numbers.new) }
 {
     let size = from.at(p, p).unsigned_abs();
     let over = from.den as u128 * size as u128;
@@ -213,15 +269,16 @@ fn write_reduced_rows(numbers: &mut [i64], from: &Swept, p: usize, first: usize)
     let Some(den) = whole_quotient(over, taken) else {
         return None;
     };
-    if !write_rows(numbers, from, p, first, taken) {
+    if !write_rows(numbers, from, p, first, taken, MOST) {
         return None;
     }
-    Some(den)
+    let most = bound_of(numbers, den);
+    Some(Scale { den, most })
 }
 
-/// Writes all rows, and tells their denominator: the size of the pivot where the numbers over it are small,
-/// and else the least one.
-fn write_swept_rows(numbers: &mut [i64], from: &Swept, p: usize, first: usize) -> Option<u64>
+/// Writes all rows, and tells what they lie over: the size of the pivot where the numbers over it are short, or else
+/// small, and else the least one.
+fn write_swept_rows(numbers: &mut [i64], from: &Swept, p: usize, first: usize) -> Option<Scale>
     requires table { IsTable from.now }
     requires row { p < from.now.rows }
     requires column { p < from.now.columns }
@@ -230,13 +287,16 @@ fn write_swept_rows(numbers: &mut [i64], from: &Swept, p: usize, first: usize) -
     requires first_told { from.now.first ≤ first }
     requires first { first ≤ from.now.columns }
     requires size { length numbers.old ≡ first + from.now.rows * (from.now.columns - first) }
-    ensures { IfSome result (λ den. AreSweptRows from.now p first den numbers.new) }
+    ensures { IfSome result (λ s. AreSweptRows from.now p first s.den s.most numbers.new) }
 {
-    let size = from.at(p, p).unsigned_abs();
-    if !write_rows(numbers, from, p, first, from.den) {
-        return write_reduced_rows(numbers, from, p, first);
+    let den = from.at(p, p).unsigned_abs();
+    if from.most <= SHORT && write_rows(numbers, from, p, first, from.den, SHORT) {
+        return Some(Scale { den, most: SHORT });
     }
-    Some(size)
+    if write_rows(numbers, from, p, first, from.den, MOST) {
+        return Some(Scale { den, most: MOST });
+    }
+    write_reduced_rows(numbers, from, p, first)
 }
 
 /// Sweeps the table at the row p into another one, in the columns from `first` on. It is `false` where a
@@ -256,12 +316,13 @@ pub fn sweep_rows(from: &Swept, out: &mut Swept, p: usize, first: usize) -> Resu
     }
     let count = first + from.rows * (from.columns - first);
     out.numbers.resize(count, 0)?;
-    let Some(den) = write_swept_rows(out.numbers.as_mut_slice(), from, p, first) else {
+    let Some(scale) = write_swept_rows(out.numbers.as_mut_slice(), from, p, first) else {
         return Ok(false);
     };
     out.rows = from.rows;
     out.columns = from.columns;
     out.first = first;
-    out.den = den;
+    out.den = scale.den;
+    out.most = scale.most;
     Ok(true)
 }

@@ -21,6 +21,6 @@ loop-j-preserved c =
     let t : unsigned_abs c.turned-factor.result ≤ 2 ^ 62 = le_trans c.turned-factor.ensures.small (subst (λ u. unsigned_abs u ≤ 2 ^ 62) (sym k) (c.requires.small.each p)) in
     let f : to_z w64 (of_z w64 c.turned-factor.result) ≡ turned (whole_at top p) (whole_at row p) = read_small c.turned-factor.result t ∙ c.turned-factor.ensures.value ∙ (λ u. turned (q u) (k u)) in
     let back : to_z w64 (of_z w64 z) ≡ z = read_small z c.in-Some.ensures.small in
-    one_written c.args.first j (IsChanged c.args.by.den row top p) c.args.out.now c.loop-j.out c.loop-j.invariant (omega arith) (omega arith) (to_z w64 (of_z w64 z))
+    one_written (2 ^ 62) c.args.first j (IsChanged c.args.by.den row top p) c.args.out.now c.loop-j.out c.loop-j.invariant (omega arith) (omega arith) (to_z w64 (of_z w64 z))
     (subst (λ u. unsigned_abs u ≤ 2 ^ 62) (sym back) c.in-Some.ensures.small)
     (ap (λ u. u *ℤ pos c.args.by.den) back ∙ c.in-Some.ensures.value ∙ (λ u. (y u *ℤ pos (size u)) +ℤ neg_ℤ (f u *ℤ x u)))

@@ -1,5 +1,6 @@
+use Rattle.std.proofs.Common.{◌^◌}
 use Rattle.mpc_sweep.specs.Steps.{AreWritten, IsChanged}
 use Rattle.mpc_sweep.proofs.rows.write_changed_row.Given as goal
 
 abbrev pub invariant-loop-j : goal.invariant-loop-j
-invariant-loop-j l = AreWritten l.first l.j (IsChanged l.by.den l.row l.top l.p) l.fn.out l.out
+invariant-loop-j l = AreWritten (2 ^ 62) l.first l.j (IsChanged l.by.den l.row l.top l.p) l.fn.out l.out

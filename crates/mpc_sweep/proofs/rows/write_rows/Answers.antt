@@ -18,9 +18,9 @@ loop-i-preserved c =
     let new = c.write_row.new.out in
     let inside : i * told + s.columns ≤ length c.loop-i.numbers = (let e = row_within told first i s.rows c.loop-i-test.true in let f = c.requires.size in let g = c.loop-i.auto.numbers in let h = c.requires.first in omega arith) in
     let size : length part ≡ s.columns = row_size c.loop-i.numbers (i * told) s.columns inside in
-    let written : AreWritten first s.columns (IsNumber (told_columns s) s.den c.args.taken s.numbers.items p i) part new =
-    subst (λ (v : List ℤ). AreWritten first s.columns (IsNumber (told_columns s) s.den c.args.taken v p i) part new) c.as_slice-table.ensures.value
-    (subst (λ (d : ℕ). AreWritten first s.columns (IsNumber (told_columns s) s.den d c.as_slice-table.result.now p i) part new) c.of-by.ensures
-    (subst (λ (n : ℕ). AreWritten first n (IsNumber (told_columns s) s.den c.of-by.result.den c.as_slice-table.result.now p i) part new) size (c.write_row.ensures c.if-not-write_row.false)))
+    let written : AreWritten c.args.most first s.columns (IsNumber (told_columns s) s.den c.args.taken s.numbers.items p i) part new =
+    subst (λ (v : List ℤ). AreWritten c.args.most first s.columns (IsNumber (told_columns s) s.den c.args.taken v p i) part new) c.as_slice-table.ensures.value
+    (subst (λ (d : ℕ). AreWritten c.args.most first s.columns (IsNumber (told_columns s) s.den d c.as_slice-table.result.now p i) part new) c.of-by.ensures
+    (subst (λ (n : ℕ). AreWritten c.args.most first n (IsNumber (told_columns s) s.den c.of-by.result.den c.as_slice-table.result.now p i) part new) size (c.write_row.ensures c.if-not-write_row.false)))
     in
-    row_more (told_columns s) s.den c.args.taken s.numbers.items p first told s.columns i k c.loop-i.numbers new c.loop-i.invariant (c.write_row.auto.out ∙ size) (let h = c.requires.first in omega arith) inside written
+    row_more c.args.most (told_columns s) s.den c.args.taken s.numbers.items p first told s.columns i k c.loop-i.numbers new c.loop-i.invariant (c.write_row.auto.out ∙ size) (let h = c.requires.first in omega arith) inside written

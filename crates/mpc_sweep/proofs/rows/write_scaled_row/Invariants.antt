@@ -2,4 +2,4 @@ use Rattle.mpc_sweep.specs.Steps.{AreWritten, IsScaled}
 use Rattle.mpc_sweep.proofs.rows.write_scaled_row.Given as goal
 
 abbrev pub invariant-loop-j : goal.invariant-loop-j
-invariant-loop-j l = AreWritten l.first l.j (IsScaled l.by.den l.size l.row) l.fn.out l.out
+invariant-loop-j l = AreWritten l.most l.first l.j (IsScaled l.by.den l.size l.row) l.fn.out l.out
