@@ -11,11 +11,11 @@ use Rattle.mpc_rows.specs.LinearSystem.{LinearSystem}
 use Rattle.mpc_rows.specs.Run.{Position, IsTableau, Turn, has_point, is_refuted, goes_on, count, is_zero, turn, pivot, opening, position, entering_row, is_pivot, leaving, entering, GoesOn, steps}
 use Rattle.mpc_rows.specs.RunWidth.{EnteringFits, RowsFit, PositionFits}
 use Rattle.mpc_beginnings.specs.Beginnings.{NumbersFit}
-use Rattle.mpc_whole.proofs.Pivot.{pivot-at_entering, pivot-other, entering-at_leaving, entering-other, other-at_leaving, other-other, basic-at_leaving, basic-at_entering, basic-other}
-use Rattle.mpc_whole.proofs.TableauRows.{tableau_pivot, opening_row, opening_rest, opening_known}
-use Rattle.mpc_whole.proofs.Turn.{Goes, is_zero-true, zero-is_zero}
-use Rattle.mpc_whole.proofs.Positions.{tableau, goes_at, next_position, left_at, entered_at}
-use Rattle.mpc_whole.proofs.Ends.{run_ends, position-zero}
+use Rattle.mpc_runs.proofs.Pivot.{pivot-at_entering, pivot-other, entering-at_leaving, entering-other, other-at_leaving, other-other, basic-at_leaving, basic-at_entering, basic-other}
+use Rattle.mpc_runs.proofs.TableauRows.{tableau_pivot, opening_row, opening_rest, opening_known}
+use Rattle.mpc_runs.proofs.Turn.{Goes, is_zero-true, zero-is_zero}
+use Rattle.mpc_runs.proofs.Positions.{tableau, goes_at, next_position, left_at, entered_at}
+use Rattle.mpc_runs.proofs.Ends.{run_ends, position-zero}
 use Rattle.mpc_beginnings.proofs.NumberFits.{fits_as}
 
 pub record CoefficientsFit (s : LinearSystem) (p : Position) : Type 0 where

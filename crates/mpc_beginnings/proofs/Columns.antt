@@ -4,9 +4,9 @@ use Rattle.std.proofs.lemmas.Bool.{both_ways, cases_lt, cond-true}
 use Rattle.std.proofs.lemmas.List.{get_or_past}
 use Rattle.mpc_rows.specs.LinearSystem.{LinearSystem}
 use Rattle.mpc_rows.specs.Run.{is_unknown}
-use Rattle.mpc_whole.specs.declared.variables.Seat.{Seat}
-use Rattle.mpc_whole.specs.declared.variables.Seat.TheVariants.{Row, Column}
-use Rattle.mpc_whole.specs.Table.{seat_at, in_row, variable_at, IsSeated, IsOpeningSeats, AreNonbasic}
+use Rattle.mpc_runs.specs.declared.variables.Seat.{Seat}
+use Rattle.mpc_runs.specs.declared.variables.Seat.TheVariants.{Row, Column}
+use Rattle.mpc_runs.specs.Table.{seat_at, in_row, variable_at, IsSeated, IsOpeningSeats, AreNonbasic}
 use Rattle.mpc_beginnings.specs.LongerSeats.{AreLongerSeats}
 
 pub opening_columns : (s : LinearSystem) (n : ℕ) → s.width ≤ n → (seats : List Seat) → IsOpeningSeats s n seats → (nonbasic : List ℕ) → length nonbasic ≡ s.width → ((c : ℕ) → c < s.width → variable_at nonbasic c ≡ c) → AreNonbasic s.width seats nonbasic

@@ -8,9 +8,9 @@ use Rattle.mpc_rows.specs.RunWidth.{PositionFits}
 use Rattle.mpc_whole.specs.declared.whole.Ending.{Ending}
 use Rattle.mpc_whole.specs.declared.judged.WidePlace.{WidePlace}
 use Rattle.mpc_scaled.specs.declared.systems.WholeNumbers.{WholeNumbers}
-use Rattle.mpc_whole.specs.Table.{IsSeated}
+use Rattle.mpc_runs.specs.Table.{IsSeated}
 use Rattle.mpc_scaled.specs.Scaled.{whole_at, scale_at, IsSmall}
-use Rattle.mpc_whole.proofs.Seats.{opening_seated}
+use Rattle.mpc_runs.proofs.Seats.{opening_seated}
 use Rattle.mpc_whole.proofs.WholeRows.{form_first}
 use Rattle.mpc_whole.proofs.WholeSizes.{opening_underway}
 use Rattle.mpc_whole.proofs.WholeTurns.{unknowns_stay}

@@ -10,10 +10,10 @@ use Rattle.mpc_rows.specs.declared.systems.Row.{Row}
 use Rattle.mpc_rows.specs.LinearSystem.{LinearSystem, height, row_at, no_row, entry}
 use Rattle.mpc_rows.specs.Run.{count, opening, position, steps}
 use Rattle.mpc_beginnings.specs.Beginnings.{lengthened, Agrees, late}
-use Rattle.mpc_whole.proofs.TableauRows.{Meets, row_value, values_meet}
-use Rattle.mpc_whole.proofs.LeftSides.{side_value}
-use Rattle.mpc_whole.proofs.Positions.{tableau, same_rows}
-use Rattle.mpc_whole.proofs.Outside.{within}
+use Rattle.mpc_runs.proofs.TableauRows.{Meets, row_value, values_meet}
+use Rattle.mpc_runs.proofs.LeftSides.{side_value}
+use Rattle.mpc_runs.proofs.Positions.{tableau, same_rows}
+use Rattle.mpc_runs.proofs.Outside.{within}
 use Rattle.mpc_beginnings.proofs.Prefix.{row_above}
 use Rattle.mpc_beginnings.proofs.SharedRun.{positions_agree}
 

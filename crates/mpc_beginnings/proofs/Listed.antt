@@ -1,7 +1,7 @@
 -- The lists of a kept run of either width, and where further sides come behind.
 use Rattle.std.proofs.Common.{◌≡◌, ℕ, ◌+◌, ◌-◌, List, true, false, cond, refl, ap, subst}
-use Rattle.mpc_whole.specs.declared.variables.Seat.{Seat}
-use Rattle.mpc_whole.specs.Table.{IsSeated}
+use Rattle.mpc_runs.specs.declared.variables.Seat.{Seat}
+use Rattle.mpc_runs.specs.Table.{IsSeated}
 use Rattle.mpc_whole.specs.Lists.{Listed, of_short, of_wide}
 use Rattle.mpc_beginnings.specs.declared.lists.KeptLists.{KeptLists}
 use Rattle.mpc_beginnings.specs.LongerSeats.{AreLongerSeats}

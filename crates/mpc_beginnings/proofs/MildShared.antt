@@ -12,8 +12,8 @@ use Rattle.mpc_whole.specs.SharedSizes.{IsSmallForm, AreSmallBefore}
 use Rattle.mpc_whole.specs.Judged.{HasRoomAt, IsJudged, IsMildForm, AreMildBefore}
 use Rattle.mpc_whole.specs.Whole.{side_cell}
 use Rattle.mpc_scaled.specs.Scaled.{scale_at, IsSmall}
-use Rattle.mpc_whole.proofs.Turn.{Goes, turn-at}
-use Rattle.mpc_whole.proofs.Ends.{Reached}
+use Rattle.mpc_runs.proofs.Turn.{Goes, turn-at}
+use Rattle.mpc_runs.proofs.Ends.{Reached}
 use Rattle.mpc_whole.proofs.WholeForm.{IsLeavingRow, side_norm, side_over, judged_over}
 use Rattle.mpc_beginnings.specs.Kept.{AreNumbers, IsNormProduct, HasRoomBefore}
 

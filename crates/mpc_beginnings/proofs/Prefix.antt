@@ -13,10 +13,10 @@ use Rattle.mpc_rows.specs.Least.{least, or_at}
 use Rattle.mpc_rows.specs.LinearSystem.{LinearSystem, height, row_at, no_row, entry}
 use Rattle.mpc_rows.specs.Run.{Position, IsTableau, has_point, count, is_unknown, is_zero, bound, rest, value, may_leave, may_enter, turn, turn_at, turn_from, pivot, entering_row, other_row, opening}
 use Rattle.mpc_beginnings.specs.Beginnings.{lengthened, Agrees}
-use Rattle.mpc_whole.proofs.LeastLemmas.{LeastIs, least-is}
-use Rattle.mpc_whole.proofs.TableauRows.{opening_row, opening_rest, opening_known}
-use Rattle.mpc_whole.proofs.Read.{rest_unknown, rest_bound}
-use Rattle.mpc_whole.proofs.Outside.{IsBounded}
+use Rattle.mpc_runs.proofs.LeastLemmas.{LeastIs, least-is}
+use Rattle.mpc_runs.proofs.TableauRows.{opening_row, opening_rest, opening_known}
+use Rattle.mpc_runs.proofs.Read.{rest_unknown, rest_bound}
+use Rattle.mpc_runs.proofs.Outside.{IsBounded}
 
 -- ---- the least number that passes, over a longer range
 least-suc : (f : ℕ → Bool) (n : ℕ) → least f (suc n) ≡ or_at (least f n) (f n) n

@@ -1,8 +1,8 @@
 -- Seats of further sides, one after another.
 use Rattle.std.proofs.Common.{◌≡◌, ℕ, ◌+◌, ◌-◌, ◌≤◌, List, ◌++◌, [], ◌∷◌, subst, arith}
-use Rattle.mpc_whole.specs.declared.variables.Seat.{Seat}
-use Rattle.mpc_whole.specs.declared.variables.Seat.TheVariants.{Row}
-use Rattle.mpc_whole.specs.Table.{IsSeated}
+use Rattle.mpc_runs.specs.declared.variables.Seat.{Seat}
+use Rattle.mpc_runs.specs.declared.variables.Seat.TheVariants.{Row}
+use Rattle.mpc_runs.specs.Table.{IsSeated}
 use Rattle.mpc_beginnings.specs.LongerSeats.{AreLongerSeats}
 use Rattle.mpc_beginnings.proofs.LongerSeats.{seated_longer, none_longer, one_longer}
 

@@ -10,10 +10,10 @@ use Rattle.mpc_rows.specs.LinearSystem.{LinearSystem, no_row}
 use Rattle.mpc_rows.specs.Run.{Position, IsTableau, is_refuted, goes_on, count, rest, turn, entering_row, position, is_pivot, steps, last_position}
 use Rattle.mpc_rows.specs.RunWidth.{TermFits, ValueFits, ValuesFit, EnteringFits, EntryFits, RowFits, RowsFit, PositionFits, RunFits}
 use Rattle.mpc_beginnings.specs.Beginnings.{lengthened, Agrees, late, SideTermFits, SideValueFits, SideEntryFits, SideRowFits, AppendedFits, BeginningFits, LaterFits, AllAppendedFit}
-use Rattle.mpc_whole.proofs.Turn.{turn-at}
-use Rattle.mpc_whole.proofs.Positions.{tableau}
-use Rattle.mpc_whole.proofs.Outside.{IsBounded, within}
-use Rattle.mpc_whole.proofs.Ends.{run_ends}
+use Rattle.mpc_runs.proofs.Turn.{turn-at}
+use Rattle.mpc_runs.proofs.Positions.{tableau}
+use Rattle.mpc_runs.proofs.Outside.{IsBounded, within}
+use Rattle.mpc_runs.proofs.Ends.{run_ends}
 use Rattle.mpc_beginnings.proofs.Prefix.{count_more, rest_below, entering_agrees, appended_basic}
 use Rattle.mpc_beginnings.proofs.SharedRun.{positions_agree, turns_agree, steps_longer, same_end, refuted_steps}
 use Rattle.mpc_beginnings.proofs.LateRows.{appended_row}

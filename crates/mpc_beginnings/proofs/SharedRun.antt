@@ -10,12 +10,12 @@ use Rattle.mpc_rows.specs.Run.{Turn, has_point, is_refuted, count, value, turn, 
 use Rattle.mpc_whole.specs.Whole.{AreValues}
 use Rattle.mpc_whole.specs.Underway.{StayBefore}
 use Rattle.mpc_whole.proofs.WholeTurns.{stay_at_point}
-use Rattle.mpc_whole.specs.RunEnd.{IsMultipliers, EndsRefuted}
+use Rattle.mpc_runs.specs.RunEnd.{IsMultipliers, EndsRefuted}
 use Rattle.mpc_beginnings.specs.Beginnings.{lengthened, Agrees}
-use Rattle.mpc_whole.proofs.Turn.{turn-at}
-use Rattle.mpc_whole.proofs.Positions.{tableau, goes_at, next_position, left_at, entered_at}
-use Rattle.mpc_whole.proofs.Outside.{within}
-use Rattle.mpc_whole.proofs.Ends.{run_ends, position-zero}
+use Rattle.mpc_runs.proofs.Turn.{turn-at}
+use Rattle.mpc_runs.proofs.Positions.{tableau, goes_at, next_position, left_at, entered_at}
+use Rattle.mpc_runs.proofs.Outside.{within}
+use Rattle.mpc_runs.proofs.Ends.{run_ends, position-zero}
 use Rattle.mpc_beginnings.proofs.Prefix.{opening_agrees, pivot_agrees, value_agrees, turn_agrees, leave_agrees}
 
 goes_no_point : (t : Turn) → is_pivot t ≡ true → t ≡ has_point → ⊥

@@ -17,10 +17,10 @@ use Rattle.mpc_rows.specs.SetRuns.{turned}
 use Rattle.mpc_rows.specs.Run.{Position, IsTableau, goes_on, count, rest, turn, position, entering_row}
 use Rattle.mpc_rows.specs.RunWidth.{RowFits, PositionFits, RunFits}
 use Rattle.mpc_beginnings.specs.Beginnings.{lengthened, late, SideTermFits, SideValueFits, SideRowFits, AppendedFits, BeginningFits, LaterFits, AllAppendedFit, NumbersFit, AreTurned}
-use Rattle.mpc_whole.proofs.Pivot.{entering-at_leaving, entering-other}
-use Rattle.mpc_whole.proofs.Turn.{Goes, turn-at}
-use Rattle.mpc_whole.proofs.Positions.{tableau, rest_side}
-use Rattle.mpc_whole.proofs.LeftSides.{is_side, bound-first, bound-second}
+use Rattle.mpc_runs.proofs.Pivot.{entering-at_leaving, entering-other}
+use Rattle.mpc_runs.proofs.Turn.{Goes, turn-at}
+use Rattle.mpc_runs.proofs.Positions.{tableau, rest_side}
+use Rattle.mpc_runs.proofs.LeftSides.{is_side, bound-first, bound-second}
 use Rattle.mpc_beginnings.proofs.LateRows.{side_row}
 use Rattle.mpc_beginnings.proofs.NumberFits.{fits_as, fits_sum_as, fits_sum_neg, fits_sum_own}
 use Rattle.mpc_beginnings.proofs.CoefficientsFit.{CoefficientsFit, fits_zero, fits_one, coefficients_fit}

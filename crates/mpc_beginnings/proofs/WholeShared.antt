@@ -8,18 +8,18 @@ use Rattle.mpc_rows.specs.declared.systems.Row.{Row as LinearRow}
 use Rattle.mpc_rows.specs.LinearSystem.{LinearSystem}
 use Rattle.mpc_rows.specs.Run.{goes_on, count, turn, position, steps, last_position}
 use Rattle.mpc_rows.specs.RunWidth.{PositionFits}
-use Rattle.mpc_whole.specs.declared.variables.Seat.{Seat}
-use Rattle.mpc_whole.specs.declared.variables.Seat.TheVariants.{Row, Column}
-use Rattle.mpc_whole.specs.Table.{seat_at, in_row}
+use Rattle.mpc_runs.specs.declared.variables.Seat.{Seat}
+use Rattle.mpc_runs.specs.declared.variables.Seat.TheVariants.{Row, Column}
+use Rattle.mpc_runs.specs.Table.{seat_at, in_row}
 use Rattle.mpc_whole.specs.Norms.{Over}
 use Rattle.mpc_whole.specs.Whole.{HasBounds, IsNarrow, IsForm, AreValues}
 use Rattle.mpc_scaled.specs.Scaled.{whole_cell, scale_at, IsSmall, IsWholeSystem}
 use Rattle.mpc_whole.specs.Underway.{StayBefore, IsUnderway}
 use Rattle.mpc_whole.specs.Judged.{IsMildForm, AreMildBefore, IsMildlyUnderway}
-use Rattle.mpc_whole.proofs.Turn.{Goes, turn-at}
-use Rattle.mpc_whole.proofs.Positions.{tableau}
-use Rattle.mpc_whole.proofs.Outside.{within}
-use Rattle.mpc_whole.proofs.Ends.{Reached}
+use Rattle.mpc_runs.proofs.Turn.{Goes, turn-at}
+use Rattle.mpc_runs.proofs.Positions.{tableau}
+use Rattle.mpc_runs.proofs.Outside.{within}
+use Rattle.mpc_runs.proofs.Ends.{Reached}
 use Rattle.mpc_whole.proofs.WholeForm.{narrow_fits, narrow_by_norms}
 use Rattle.mpc_whole.specs.SharedSizes.{IsSmallForm, AreSmallBefore}
 use Rattle.mpc_beginnings.specs.Beginnings.{lengthened, Agrees}

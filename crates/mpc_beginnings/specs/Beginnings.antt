@@ -6,7 +6,7 @@ use Rattle.mpc_frac.specs.Fits.{FitsFrac, FitsSum}
 use Rattle.mpc_space.specs.Total.{total}
 use Rattle.mpc_space.specs.Vector.{coordinate, zeros}
 use Rattle.mpc_rows.specs.declared.systems.Row.{Row}
-use Rattle.mpc_whole.specs.RunEnd.{EndsRefuted}
+use Rattle.mpc_runs.specs.RunEnd.{EndsRefuted}
 use Rattle.mpc_rows.specs.LinearSystem.{LinearSystem, height, row_at, no_row, entry}
 use Rattle.mpc_rows.specs.Run.{Position, is_refuted, goes_on, count, rest, entering_row, turn, position, steps, last_position}
 use Rattle.mpc_rows.specs.SetRuns.{turned}

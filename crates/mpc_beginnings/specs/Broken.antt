@@ -3,7 +3,7 @@ use Rattle.std.specs.Prelude.{◌≡◌}
 use Rattle.mpc_rows.specs.LinearSystem.{LinearSystem}
 use Rattle.mpc_rows.specs.Run.{has_point, turn, last_position}
 use Rattle.mpc_rows.specs.RunWidth.{RunFits}
-use Rattle.mpc_whole.specs.RunEnd.{EndsRefuted}
+use Rattle.mpc_runs.specs.RunEnd.{EndsRefuted}
 use Rattle.mpc_beginnings.specs.declared.kept.Broken.{Broken}
 use Rattle.mpc_beginnings.specs.declared.kept.Broken.TheVariants.{Point, Refuted}
 

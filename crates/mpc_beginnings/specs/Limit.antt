@@ -2,7 +2,7 @@
 use Rattle.std.specs.Prelude.{ℕ, ℤ, ◌*◌, ◌≤◌, ◌^◌, List}
 use Rattle.mpc_rows.specs.LinearSystem.{LinearSystem}
 use Rattle.mpc_rows.specs.Run.{count}
-use Rattle.mpc_whole.specs.declared.variables.Seat.{Seat}
+use Rattle.mpc_runs.specs.declared.variables.Seat.{Seat}
 use Rattle.mpc_whole.specs.declared.judged.WidePlace.{WidePlace}
 use Rattle.mpc_scaled.specs.declared.systems.WholeNumbers.{WholeNumbers}
 use Rattle.mpc_whole.specs.Whole.{IsNarrow, HasBounds, HasRoom}

@@ -2,7 +2,7 @@
 use Rattle.std.specs.Prelude.{◌≡◌, ℕ, ◌+◌, ◌-◌, ◌*◌, ◌<◌, ◌^◌, cond, false, length, pos}
 use Rattle.mpc_rows.specs.LinearSystem.{LinearSystem}
 use Rattle.mpc_rows.specs.Run.{count}
-use Rattle.mpc_whole.specs.Table.{variable_at, IsSeated, IsOpeningSeats}
+use Rattle.mpc_runs.specs.Table.{variable_at, IsSeated, IsOpeningSeats}
 use Rattle.mpc_whole.specs.Whole.{IsUnit}
 use Rattle.mpc_scaled.specs.Scaled.{whole_at, IsSmall}
 use Rattle.mpc_whole.specs.Lists.{Listed, of_short, of_wide}

@@ -7,7 +7,7 @@ ghost use Rattle.mpc_rows.specs.RunWidth.{RunFits};
 ghost use Rattle.mpc_rows.specs.LawRows.{broken_row};
 ghost use Rattle.mpc_rows.specs.SetRuns.{turned};
 ghost use Rattle.mpc_whole.specs.Lists.{AreListsOf, of_short};
-ghost use Rattle.mpc_whole.specs.RunEnd.{IsEnd, IsMultipliers, IsValues, EndsRefuted};
+ghost use Rattle.mpc_runs.specs.RunEnd.{IsEnd, IsMultipliers, IsValues, EndsRefuted};
 ghost use Rattle.mpc_whole.specs.Whole.{HasRoom};
 ghost use Rattle.mpc_scaled.specs.Scaled.{IsSmall};
 ghost use Rattle.mpc_whole.specs.Underway.{turn_of, HasEnded};
@@ -26,10 +26,11 @@ use crate::lists::{
 use mpc_frac::Frac;
 use mpc_linear::RowInt;
 use mpc_rows::{Multipliers, PairPoint, Row, System};
+use mpc_runs::{End, Standing, zero_pairs, zeros};
 use mpc_scaled::{WholeNumbers, WholeSystem};
 use mpc_whole::{
-    End, Ending, Place, RunLists, Standing, WidePlace, judged_run, last_multipliers, last_values,
-    limit, whole_run, wide_last_multipliers, wide_last_values, zero_pairs, zeros,
+    Ending, Place, RunLists, WidePlace, judged_run, last_multipliers, last_values, limit,
+    whole_run, wide_last_multipliers, wide_last_values,
 };
 use std::alloc::{AllocError, Global};
 use std::marker::Model;

@@ -4,7 +4,7 @@ ghost use Rattle.std.specs.Prelude.{◌≡◌, ℕ, pos, ◌+◌, ◌-◌, ◌*�
 ghost use Rattle.mpc_rows.specs.LinearSystem.{LinearSystem, height, row_at};
 ghost use Rattle.mpc_rows.specs.Run.{count};
 ghost use Rattle.mpc_rows.specs.SetRuns.{turned};
-ghost use Rattle.mpc_whole.specs.Table.{IsSeated, IsOpeningSeats, opening_seat, variable_at};
+ghost use Rattle.mpc_runs.specs.Table.{IsSeated, IsOpeningSeats, opening_seat, variable_at};
 ghost use Rattle.mpc_whole.specs.Whole.{IsUnit};
 ghost use Rattle.mpc_scaled.specs.Scaled.{whole_at, scale_at, IsSmall};
 ghost use Rattle.mpc_beginnings.specs.Beginnings.{lengthened};
@@ -13,8 +13,9 @@ ghost use Rattle.mpc_whole.specs.Lists.{of_short, of_wide};
 ghost use Rattle.mpc_beginnings.specs.RunLists.{lists_of, HaveShortValues, AreLonger, AreOpening};
 
 use mpc_rows::Row;
+use mpc_runs::Seat;
 use mpc_scaled::WholeSystem;
-use mpc_whole::{RunLists, Seat, WideLists, clear, put_units};
+use mpc_whole::{RunLists, WideLists, clear, put_units};
 use std::alloc::{AllocError, Global};
 
 /// The lists of a run that is kept: with numbers of 64 bits, or of 128.

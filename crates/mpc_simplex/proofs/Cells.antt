@@ -4,8 +4,8 @@ use Rattle.std.proofs.lemmas.Bool.{cond-true, cond-false, cases_eq, cases_lt}
 use Rattle.std.proofs.lemmas.List.{get_or_read, get_or_append_left, get_or-append-add, length-append}
 use Rattle.mpc_exact.specs.Rational.{ℚ, int, ◌+ℚ◌, ◌*ℚ◌, neg_ℚ, inv_ℚ}
 use Rattle.mpc_exact.proofs.RationalRing.{reads, by_ring}
-use Rattle.mpc_whole.specs.Table.{cell_at}
-use Rattle.mpc_whole.specs.Exchange.{own_cell, changed, changed_cell, row_at, IsOwnRow, ChangesRow, ChangesRows, PutsRow, IsExchanged, EntryFits, ChangeFits, ChangesFit}
+use Rattle.mpc_runs.specs.Table.{cell_at}
+use Rattle.mpc_runs.specs.Exchange.{own_cell, changed, changed_cell, row_at, IsOwnRow, ChangesRow, ChangesRows, PutsRow, IsExchanged, EntryFits, ChangeFits, ChangesFit}
 
 -- a result as another value that is the same
 pub value_as : {T E : Type 0} (r : Result T E) (a b : T) → a ≡ b → IfOk r (λ v. v ≡ a) → IfOk r (λ v. v ≡ b)

@@ -9,7 +9,7 @@ use Rattle.mpc_exact.specs.Pair.{Pair}
 use Rattle.mpc_rows.specs.LinearSystem.{LinearSystem}
 use Rattle.mpc_rows.specs.NumberedSystems.{IsPointBy, IsPairPointBy, pair_at, RefutesBy}
 use Rattle.mpc_rows.specs.Run.{Turn, has_point, is_refuted, goes_on, value, turn, is_pivot, multiplier, steps, last_position}
-use Rattle.mpc_whole.proofs.Ends.{run_ends}
+use Rattle.mpc_runs.proofs.Ends.{run_ends}
 use Rattle.mpc_simplex.proofs.Points.{point_right}
 use Rattle.mpc_simplex.proofs.Refuted.{refuted_no_point, refuted_right}
 

@@ -3,11 +3,11 @@ use Rattle.std.proofs.Common.{◌≡◌, ℕ, ◌+◌, ◌<◌, ◌≤◌, true,
 use Rattle.std.proofs.lemmas.Bool.{cases_eq, cases_lt, cases_Bool}
 use Rattle.std.proofs.lemmas.List.{get_or_past, get_or_append_left, get_or-append-add, length-append}
 use Rattle.std.proofs.lemmas.Grind.{get_or_default_zero}
-use Rattle.mpc_whole.specs.declared.variables.Seat.{Seat}
-use Rattle.mpc_whole.specs.declared.variables.Seat.TheVariants.{Row, Column}
-use Rattle.mpc_whole.specs.Table.{seat_at, in_row, IsSeated}
-use Rattle.mpc_whole.proofs.Pigeonhole.{pigeonhole}
-use Rattle.mpc_whole.proofs.Seats.{column_seat}
+use Rattle.mpc_runs.specs.declared.variables.Seat.{Seat}
+use Rattle.mpc_runs.specs.declared.variables.Seat.TheVariants.{Row, Column}
+use Rattle.mpc_runs.specs.Table.{seat_at, in_row, IsSeated}
+use Rattle.mpc_runs.proofs.Pigeonhole.{pigeonhole}
+use Rattle.mpc_runs.proofs.Seats.{column_seat}
 use Rattle.mpc_simplex.specs.Nonbasic.{AreNonbasicSides}
 
 -- the k-th side of the list, or n past its end

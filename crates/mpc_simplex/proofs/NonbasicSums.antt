@@ -9,10 +9,10 @@ use Rattle.mpc_linear.specs.ZeroTheorems.{ZeroTheorems}
 use Rattle.mpc_rows.specs.LinearSystem.{LinearSystem}
 use Rattle.mpc_rows.specs.Run.{Position, IsTableau, rest}
 use Rattle.mpc_rows.specs.RunWidth.{TermFits}
-use Rattle.mpc_whole.specs.declared.variables.Seat.{Seat}
-use Rattle.mpc_whole.specs.Table.{seat_at, in_row}
-use Rattle.mpc_whole.proofs.Fits.{first_unknowns, second_unknowns, unknown_fits}
-use Rattle.mpc_whole.proofs.Table.{total_more, first_terms, second_terms}
+use Rattle.mpc_runs.specs.declared.variables.Seat.{Seat}
+use Rattle.mpc_runs.specs.Table.{seat_at, in_row}
+use Rattle.mpc_runs.proofs.Fits.{first_unknowns, second_unknowns, unknown_fits}
+use Rattle.mpc_runs.proofs.Table.{total_more, first_terms, second_terms}
 use Rattle.mpc_simplex.specs.Nonbasic.{AreNonbasicSides}
 use Rattle.mpc_simplex.proofs.NonbasicSides.{reached, reached_side, reached_end, gap_first, gap_next}
 

@@ -10,9 +10,9 @@ use Rattle.mpc_rows.specs.LinearSystem.{LinearSystem, row_at, height, entry, IsW
 use Rattle.mpc_rows.specs.NumberedSystems.{left_side, IsPairPointBy, pair_at}
 use Rattle.mpc_rows.specs.Run.{has_point, bound, value, turn, position}
 use Rattle.mpc_space.proofs.Total.{total-same, total-add, total-scale}
-use Rattle.mpc_whole.proofs.Turn.{TurnIs, turn-at}
-use Rattle.mpc_whole.proofs.LeftSides.{bound-first, bound-second, side_value, is_side}
-use Rattle.mpc_whole.proofs.Positions.{same_rows, firsts, seconds, firsts_meet, seconds_meet, value_rest, rest_side}
+use Rattle.mpc_runs.proofs.Turn.{TurnIs, turn-at}
+use Rattle.mpc_runs.proofs.LeftSides.{bound-first, bound-second, side_value, is_side}
+use Rattle.mpc_runs.proofs.Positions.{same_rows, firsts, seconds, firsts_meet, seconds_meet, value_rest, rest_side}
 
 -- ---- one row: f + d g stays at most b for small d
 pub record Small (strict : Bool) (f g b : ℚ) : Type 0 where

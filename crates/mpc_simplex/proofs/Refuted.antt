@@ -11,10 +11,10 @@ use Rattle.mpc_rows.specs.LinearSystem.{LinearSystem, row_at, height, entry, IsW
 use Rattle.mpc_rows.specs.NumberedSystems.{left_side, IsPointBy, RefutesBy}
 use Rattle.mpc_rows.specs.Run.{Position, IsTableau, is_refuted, count, bound, rest, value, turn, position, multiplier}
 use Rattle.mpc_space.proofs.Total.{unit-same, unit-other, total-same, total-zeros, total-add, total-scale, total-unit, total-swap, total-nonneg}
-use Rattle.mpc_whole.proofs.TableauRows.{row_value}
-use Rattle.mpc_whole.proofs.Turn.{turn-at, Leaves, NoneEnters}
-use Rattle.mpc_whole.proofs.LeftSides.{bound-first, bound-second, is_side, with_sides, with_sides-side, with_sides-meet, side_sum, side_unit}
-use Rattle.mpc_whole.proofs.Positions.{tableau, same_rows, rest_side}
+use Rattle.mpc_runs.proofs.TableauRows.{row_value}
+use Rattle.mpc_runs.proofs.Turn.{turn-at, Leaves, NoneEnters}
+use Rattle.mpc_runs.proofs.LeftSides.{bound-first, bound-second, is_side, with_sides, with_sides-side, with_sides-meet, side_sum, side_unit}
+use Rattle.mpc_runs.proofs.Positions.{tableau, same_rows, rest_side}
 
 -- ---- a system with refuting multipliers has no point
 total-positive : (n r : ℕ) (f : ℕ → ℚ) → r < n → ((i : ℕ) → i < n → IsNonneg (f i)) → IsPositive (f r) → IsPositive (total n f)

@@ -2,7 +2,7 @@
 use Rattle.std.specs.Prelude.{List, ⊤}
 use Rattle.mpc_exact.specs.Rational.{ℚ}
 use Rattle.mpc_rows.specs.LinearSystem.{LinearSystem, IsPoint}
-pub use Rattle.mpc_whole.specs.RunEnd.{IsValues, IsMultipliers, EndsWithPoint, EndsRefuted}
+pub use Rattle.mpc_runs.specs.RunEnd.{IsValues, IsMultipliers, EndsWithPoint, EndsRefuted}
 use Rattle.mpc_simplex.specs.declared.Decision.{Decision}
 use Rattle.mpc_simplex.specs.declared.Decision.TheVariants.{Point, Refuted}
 use Rattle.mpc_simplex.specs.declared.SimplexError.{SimplexError}

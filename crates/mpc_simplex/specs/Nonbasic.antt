@@ -1,7 +1,7 @@
 -- The nonbasic sides at a position of a run.
 use Rattle.std.specs.Prelude.{◌≡◌, ℕ, ◌<◌, ◌≤◌, false, List, length, slice_index}
-use Rattle.mpc_whole.specs.declared.variables.Seat.{Seat}
-use Rattle.mpc_whole.specs.Table.{seat_at, in_row}
+use Rattle.mpc_runs.specs.declared.variables.Seat.{Seat}
+use Rattle.mpc_runs.specs.Table.{seat_at, in_row}
 
 -- a list has the nonbasic sides of n variables in rising order, where so many unknowns stand before the sides
 pub record AreNonbasicSides (width n : ℕ) (seats : List Seat) (list : List ℕ) : Type 0 where

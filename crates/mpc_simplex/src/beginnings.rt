@@ -16,8 +16,8 @@ use mpc_beginnings::{Broken as KeptBroken, KeptRun, Workspace};
 use mpc_frac::NoMemory;
 use mpc_linear::RowInt;
 use mpc_rows::{Multipliers, Row, System, system_theorems};
+use mpc_runs::End;
 use mpc_scaled::WholeSystem;
-use mpc_whole::End;
 use std::alloc::Global;
 use std::marker::Model;
 

@@ -2,11 +2,11 @@
 
 ghost use Rattle.std.specs.Prelude.{◌≡◌, ◌≤◌, length, take};
 ghost use Rattle.mpc_rows.specs.LinearSystem.{height};
-ghost use Rattle.mpc_whole.specs.Table.{IsSeated};
+ghost use Rattle.mpc_runs.specs.Table.{IsSeated};
 ghost use Rattle.mpc_simplex.specs.Nonbasic.{AreNonbasicSides};
 
 use mpc_rows::System;
-use mpc_whole::{Seat, is_basic};
+use mpc_runs::{Seat, is_basic};
 
 /// Writes the nonbasic sides into the list, in rising order, and answers how many they are: at most
 /// as many as there are columns.

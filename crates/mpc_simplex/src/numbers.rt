@@ -6,7 +6,7 @@ ghost use Rattle.mpc_exact.specs.Pair.{is_below};
 ghost use Rattle.mpc_rows.specs.Run.{is_zero};
 
 use mpc_frac::{Frac, fit_theorems};
-use mpc_whole::{Standing, zero};
+use mpc_runs::{Standing, zero};
 
 fn is_less(x: &Frac, y: &Frac) -> bool
     ensures { result ≡ lt_ℚ x.now y.now }

@@ -5,7 +5,7 @@ ghost use Rattle.mpc_rows.specs.LinearSystem.{height};
 ghost use Rattle.mpc_rows.specs.Least.{least};
 ghost use Rattle.mpc_rows.specs.Run.{value, multiplier, may_leave, may_enter, opening};
 ghost use Rattle.mpc_rows.specs.RunWidth.{ValueFits, ValuesFit, RunFits};
-ghost use Rattle.mpc_whole.specs.Table.{seat_at, in_row, IsTable, position_of, IsOpeningEntries};
+ghost use Rattle.mpc_runs.specs.Table.{seat_at, in_row, IsTable, position_of, IsOpeningEntries};
 ghost use Rattle.mpc_simplex.specs.Nonbasic.{AreNonbasicSides};
 ghost use Rattle.mpc_simplex.specs.Room.{HasRoom};
 ghost use Rattle.mpc_simplex.specs.Answer.{IsValues, IsMultipliers, IsRunEnd, IfWide};
@@ -19,7 +19,7 @@ use mpc_beginnings::whole_end;
 use mpc_frac::{Frac, Wide};
 use mpc_linear::{add_product, zero_theorems};
 use mpc_rows::{Multipliers, PairPoint, System};
-use mpc_whole::{
+use mpc_runs::{
     End, Seat, Standing, column_of, is_basic, is_unknown, opening_seats, row_of, zero, zero_pairs,
     zeros,
 };

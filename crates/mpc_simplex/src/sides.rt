@@ -9,7 +9,7 @@ ghost use Rattle.mpc_rows.specs.Run.{is_unknown, bound, rest};
 use crate::numbers::is_below;
 use mpc_frac::Frac;
 use mpc_rows::System;
-use mpc_whole::{Standing, is_unknown, zero};
+use mpc_runs::{Standing, is_unknown, zero};
 
 /// The bound of the side x.
 fn bound(system: &System, x: usize) -> Standing

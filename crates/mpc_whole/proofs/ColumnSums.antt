@@ -7,14 +7,14 @@ use Rattle.mpc_space.specs.Total.{total, unit}
 use Rattle.mpc_space.proofs.Total.{total-same, total-zeros, total-swap, total-unit, unit-same, unit-other}
 use Rattle.mpc_rows.specs.LinearSystem.{LinearSystem, height}
 use Rattle.mpc_rows.specs.Run.{Position, IsTableau, rest, value}
-use Rattle.mpc_whole.specs.declared.variables.Seat.{Seat}
-use Rattle.mpc_whole.specs.declared.variables.Seat.TheVariants.{Row, Column}
-use Rattle.mpc_whole.specs.Table.{seat_at, in_row, variable_at, IsSeated, AreNonbasic}
+use Rattle.mpc_runs.specs.declared.variables.Seat.{Seat}
+use Rattle.mpc_runs.specs.declared.variables.Seat.TheVariants.{Row, Column}
+use Rattle.mpc_runs.specs.Table.{seat_at, in_row, variable_at, IsSeated, AreNonbasic}
 use Rattle.mpc_whole.specs.Whole.{IsForm}
 use Rattle.mpc_scaled.specs.Scaled.{whole_cell, scale_at}
 use Rattle.mpc_whole.proofs.Nonbasic.{column_below}
-use Rattle.mpc_whole.proofs.Seats.{seat_cases, column_same}
-use Rattle.mpc_whole.proofs.Table.{total_more, first_terms, second_terms, value_first, value_second}
+use Rattle.mpc_runs.proofs.Seats.{seat_cases, column_same}
+use Rattle.mpc_runs.proofs.Table.{total_more, first_terms, second_terms, value_first, value_second}
 use Rattle.mpc_whole.proofs.WholeSums.{frac_sum}
 use Rattle.mpc_whole.proofs.WholeChanges.{scale_cancels}
 

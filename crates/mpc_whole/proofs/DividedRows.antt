@@ -6,9 +6,9 @@ use Rattle.mpc_exact.proofs.Rational.{same_frac}
 use Rattle.mpc_exact.proofs.IntRing.{int_reads, by_ring_ℤ}
 use Rattle.mpc_rows.specs.LinearSystem.{LinearSystem}
 use Rattle.mpc_rows.specs.Run.{Position}
-use Rattle.mpc_whole.specs.declared.variables.Seat.{Seat}
-use Rattle.mpc_whole.specs.declared.variables.Seat.TheVariants.{Column}
-use Rattle.mpc_whole.specs.Table.{seat_at}
+use Rattle.mpc_runs.specs.declared.variables.Seat.{Seat}
+use Rattle.mpc_runs.specs.declared.variables.Seat.TheVariants.{Column}
+use Rattle.mpc_runs.specs.Table.{seat_at}
 use Rattle.mpc_whole.specs.Whole.{turned, IsRowOf, IsSideRow, IsChanged}
 use Rattle.mpc_scaled.specs.Scaled.{whole_at, whole_cell, scale_at}
 use Rattle.mpc_whole.specs.Judged.{IsTimes, IsDividedRow, IsRowWithin, IsReducedPivot}

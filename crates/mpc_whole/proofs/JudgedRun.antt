@@ -5,19 +5,19 @@ use Rattle.mpc_rows.specs.Least.{least}
 use Rattle.mpc_rows.specs.LinearSystem.{LinearSystem, height}
 use Rattle.mpc_rows.specs.Run.{Position, goes_on, leaving, entering, count, may_leave, may_enter, turn, is_pivot, position, steps}
 use Rattle.mpc_rows.specs.RunWidth.{PositionFits}
-use Rattle.mpc_whole.specs.declared.variables.Seat.{Seat}
-use Rattle.mpc_whole.specs.declared.variables.Seat.TheVariants.{Row, Column}
+use Rattle.mpc_runs.specs.declared.variables.Seat.{Seat}
+use Rattle.mpc_runs.specs.declared.variables.Seat.TheVariants.{Row, Column}
 use Rattle.mpc_whole.specs.declared.whole.Ending.{Ending}
 use Rattle.mpc_whole.specs.declared.whole.Ending.TheVariants.{Point, Refuted}
-use Rattle.mpc_whole.specs.Table.{seat_at, IsSeated}
+use Rattle.mpc_runs.specs.Table.{seat_at, IsSeated}
 use Rattle.mpc_whole.specs.Norms.{Over}
 use Rattle.mpc_whole.specs.Moved.{AreFormed}
 use Rattle.mpc_whole.specs.Underway.{turn_of, HasEnded}
 use Rattle.mpc_whole.specs.Judged.{coefficient_of, IsJudged, IsPivotJudged, IsRowWithin, IsDividedRow, IsReducedPivot, IsProductOf, IsMildForm, AreMildBefore, IsMildlyUnderway}
 use Rattle.mpc_whole.specs.Whole.{IsSideRow}
 use Rattle.mpc_scaled.specs.Scaled.{whole_at, scale_at, IsSmall, IsWholeSystem}
-use Rattle.mpc_whole.proofs.Positions.{tableau}
-use Rattle.mpc_whole.proofs.Turn.{Leaves, turn-at}
+use Rattle.mpc_runs.proofs.Positions.{tableau}
+use Rattle.mpc_runs.proofs.Turn.{Leaves, turn-at}
 use Rattle.mpc_whole.proofs.DividedRows.{times_row, times_is, side_of_divided, within_divided}
 use Rattle.mpc_whole.proofs.WholeForm.{IsLeavingRow, side_over, divided_is, divided_over, judged_over, judged_divided}
 use Rattle.mpc_whole.proofs.StatedRows.{judged_by_rows}

@@ -2,16 +2,16 @@
 use Rattle.std.proofs.Common.{◌≡◌, ℕ, ◌-◌, ◌^◌, ◌<◌, ◌≤◌, true, false, List, ℤ, sym, subst}
 use Rattle.mpc_rows.specs.LinearSystem.{LinearSystem, height}
 use Rattle.mpc_rows.specs.Run.{count}
-use Rattle.mpc_whole.specs.declared.variables.Seat.{Seat}
-use Rattle.mpc_whole.specs.declared.variables.Seat.TheVariants.{Column}
-use Rattle.mpc_whole.specs.Table.{seat_at, in_row, IsSeated}
+use Rattle.mpc_runs.specs.declared.variables.Seat.{Seat}
+use Rattle.mpc_runs.specs.declared.variables.Seat.TheVariants.{Column}
+use Rattle.mpc_runs.specs.Table.{seat_at, in_row, IsSeated}
 use Rattle.mpc_whole.specs.Lists.{Listed, AreListsOf}
 use Rattle.mpc_whole.specs.Moved.{AreFormed}
 use Rattle.mpc_whole.specs.Judged.{IsPivotJudged, IsRowWithin, IsDividedRow, IsReducedPivot, IsProductOf, IsMildlyUnderway, IsGoingOn}
 use Rattle.mpc_whole.specs.Whole.{IsSwapped}
 use Rattle.mpc_scaled.specs.Scaled.{scale_at, IsSmall, IsWholeSystem}
 use Rattle.mpc_whole.proofs.DividedRows.{times_row}
-use Rattle.mpc_whole.proofs.Seats.{row_seat}
+use Rattle.mpc_runs.proofs.Seats.{row_seat}
 use Rattle.mpc_whole.proofs.Standing.{leaves_here, leaving_in, leaving_seat, entering_in, entering_seat, next_seated}
 use Rattle.mpc_whole.proofs.JudgedRun.{next_mildly}
 

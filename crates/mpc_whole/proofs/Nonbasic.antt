@@ -6,12 +6,12 @@ use Rattle.std.proofs.lemmas.List.{get_or_past}
 use Rattle.mpc_rows.specs.Least.{least}
 use Rattle.mpc_rows.specs.LinearSystem.{LinearSystem, height}
 use Rattle.mpc_rows.specs.Run.{Position, may_enter}
-use Rattle.mpc_whole.specs.declared.variables.Seat.{Seat}
-use Rattle.mpc_whole.specs.declared.variables.Seat.TheVariants.{Row, Column}
-use Rattle.mpc_whole.specs.Table.{seat_at, variable_at, IsSeated, AreNonbasic}
+use Rattle.mpc_runs.specs.declared.variables.Seat.{Seat}
+use Rattle.mpc_runs.specs.declared.variables.Seat.TheVariants.{Row, Column}
+use Rattle.mpc_runs.specs.Table.{seat_at, variable_at, IsSeated, AreNonbasic}
 use Rattle.mpc_whole.specs.Whole.{HasBasis, IsRowOf}
-use Rattle.mpc_whole.proofs.LeastLemmas.{LeastIs, least-is}
-use Rattle.mpc_whole.proofs.Seats.{seat_cases, seats_apart, column_same}
+use Rattle.mpc_runs.proofs.LeastLemmas.{LeastIs, least-is}
+use Rattle.mpc_runs.proofs.Seats.{seat_cases, seats_apart, column_same}
 use Rattle.mpc_whole.proofs.WholeTurns.{basic_stays}
 
 -- a variable in a column is one of the list

@@ -2,15 +2,15 @@
 use Rattle.std.proofs.Common.{◌≡◌, ℕ, ◌-◌, ◌<◌, ◌≤◌, true, false, List, ℤ, sym, subst}
 use Rattle.mpc_rows.specs.LinearSystem.{LinearSystem, height}
 use Rattle.mpc_rows.specs.Run.{count}
-use Rattle.mpc_whole.specs.declared.variables.Seat.{Seat}
-use Rattle.mpc_whole.specs.declared.variables.Seat.TheVariants.{Column}
+use Rattle.mpc_runs.specs.declared.variables.Seat.{Seat}
+use Rattle.mpc_runs.specs.declared.variables.Seat.TheVariants.{Column}
 use Rattle.mpc_whole.specs.declared.whole.Place.{Place}
-use Rattle.mpc_whole.specs.Table.{seat_at, in_row, IsSeated}
+use Rattle.mpc_runs.specs.Table.{seat_at, in_row, IsSeated}
 use Rattle.mpc_whole.specs.Lists.{Listed, AreListsOf}
 use Rattle.mpc_whole.specs.Held.{AreTurning}
 use Rattle.mpc_whole.specs.Whole.{IsSwapped}
 use Rattle.mpc_scaled.specs.Scaled.{IsWholeSystem}
-use Rattle.mpc_whole.proofs.Seats.{row_seat}
+use Rattle.mpc_runs.proofs.Seats.{row_seat}
 use Rattle.mpc_whole.proofs.Standing.{leaves_here, side_in, leaving_in, leaving_seat, entering_in, entering_seat, next_seated}
 
 module _ {s : LinearSystem} {k : List ℕ} {a b : List ℤ} {own : ℕ} {r : Listed} {p : Place} {l e : ℕ} (w : IsWholeSystem s k a b) (lists : AreListsOf s own r) (g : AreTurning s k r p l e) where

@@ -6,21 +6,21 @@ use Rattle.mpc_rows.specs.Least.{least}
 use Rattle.mpc_rows.specs.LinearSystem.{LinearSystem, height}
 use Rattle.mpc_rows.specs.Run.{has_point, is_refuted, goes_on, count, may_leave, may_enter, turn, moved, pivot, is_pivot, last_position, position, steps}
 use Rattle.mpc_rows.specs.RunWidth.{PositionFits, ValuesFit, RunFits}
-use Rattle.mpc_whole.specs.declared.variables.Seat.{Seat}
-use Rattle.mpc_whole.specs.declared.variables.Seat.TheVariants.{Row, Column}
+use Rattle.mpc_runs.specs.declared.variables.Seat.{Seat}
+use Rattle.mpc_runs.specs.declared.variables.Seat.TheVariants.{Row, Column}
 use Rattle.mpc_whole.specs.declared.whole.Ending.{Ending}
-use Rattle.mpc_whole.specs.Table.{seat_at, in_row, IsSeated}
+use Rattle.mpc_runs.specs.Table.{seat_at, in_row, IsSeated}
 use Rattle.mpc_whole.specs.SharedSizes.{AreSmallBefore}
 use Rattle.mpc_whole.specs.Underway.{turn_of, IsUnderway, HasEnded}
 use Rattle.mpc_whole.specs.Judged.{IsReducedPivot}
 use Rattle.mpc_whole.specs.Whole.{IsForm, AreValues, IsRowOf, IsSideRow, Stands}
 use Rattle.mpc_scaled.specs.Scaled.{whole_at, scale_at, IsSmall, IsWholeSystem}
-use Rattle.mpc_whole.proofs.Turn.{Goes, Leaves, leaver, turn-at}
-use Rattle.mpc_whole.proofs.Ends.{Reached, stopped_last, before_end, position-suc}
-use Rattle.mpc_whole.proofs.Loop.{Going, end_fits}
+use Rattle.mpc_runs.proofs.Turn.{Goes, Leaves, leaver, turn-at}
+use Rattle.mpc_runs.proofs.Ends.{Reached, stopped_last, before_end, position-suc}
+use Rattle.mpc_runs.proofs.Loop.{Going, end_fits}
 use Rattle.mpc_whole.proofs.WholeSizes.{stops_after, small_form, small_after}
-use Rattle.mpc_whole.proofs.Steps.{turn_point, turn_refuted, turn_goes}
-use Rattle.mpc_whole.proofs.Exchanged.{new_seated}
+use Rattle.mpc_runs.proofs.Steps.{turn_point, turn_refuted, turn_goes}
+use Rattle.mpc_runs.proofs.Exchanged.{new_seated}
 use Rattle.mpc_whole.proofs.WholeForm.{side_entry}
 use Rattle.mpc_whole.proofs.WholePivot.{pivot_form}
 use Rattle.mpc_whole.proofs.WholeTurns.{unknowns_stay}

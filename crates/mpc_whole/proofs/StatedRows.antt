@@ -8,17 +8,17 @@ use Rattle.mpc_frac.specs.Fits.{FitsFrac, FitsSum}
 use Rattle.mpc_rows.specs.LinearSystem.{LinearSystem, height}
 use Rattle.mpc_rows.specs.Run.{Position, goes_on, leaving, entering, count, turn}
 use Rattle.mpc_rows.specs.RunWidth.{PositionFits}
-use Rattle.mpc_whole.specs.declared.variables.Seat.{Seat}
-use Rattle.mpc_whole.specs.declared.variables.Seat.TheVariants.{Column}
-use Rattle.mpc_whole.specs.Table.{seat_at}
+use Rattle.mpc_runs.specs.declared.variables.Seat.{Seat}
+use Rattle.mpc_runs.specs.declared.variables.Seat.TheVariants.{Column}
+use Rattle.mpc_runs.specs.Table.{seat_at}
 use Rattle.mpc_whole.specs.Norms.{Over}
 use Rattle.mpc_whole.specs.Whole.{side_cell, IsForm}
 use Rattle.mpc_scaled.specs.Scaled.{whole_at, whole_cell, scale_at, IsWholeSystem}
 use Rattle.mpc_whole.specs.Judged.{row_cell, coefficient_of, IsRowBelow, IsTermStated, IsRowStated, IsJudgedByRows}
-use Rattle.mpc_whole.proofs.Ends.{Reached}
-use Rattle.mpc_whole.proofs.Pivot.{entering-at_leaving, entering-other}
-use Rattle.mpc_whole.proofs.Seats.{column_seat}
-use Rattle.mpc_whole.proofs.Turn.{Goes}
+use Rattle.mpc_runs.proofs.Ends.{Reached}
+use Rattle.mpc_runs.proofs.Pivot.{entering-at_leaving, entering-other}
+use Rattle.mpc_runs.proofs.Seats.{column_seat}
+use Rattle.mpc_runs.proofs.Turn.{Goes}
 use Rattle.mpc_whole.proofs.WholeNorms.{HasRowRoom, HasFittingRow, HasPivotRoom}
 use Rattle.mpc_whole.proofs.WholeForm.{IsLeavingRow, equal_share, reached_tableau, side_entry, row_den, den_some, own_den, by_seat, top_some, size_some, pivot_room, judged_with}
 

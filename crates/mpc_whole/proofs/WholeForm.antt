@@ -11,9 +11,9 @@ use Rattle.mpc_rows.specs.LinearSystem.{LinearSystem, row_at, height, entry}
 use Rattle.mpc_rows.specs.Run.{Position, IsTableau, goes_on, count, is_unknown, rest, bound, turn, value, opening}
 use Rattle.mpc_rows.specs.RunWidth.{PositionFits}
 use Rattle.mpc_rows.specs.NumberedSystems.{left_side}
-use Rattle.mpc_whole.specs.declared.variables.Seat.{Seat}
-use Rattle.mpc_whole.specs.declared.variables.Seat.TheVariants.{Column}
-use Rattle.mpc_whole.specs.Table.{seat_at}
+use Rattle.mpc_runs.specs.declared.variables.Seat.{Seat}
+use Rattle.mpc_runs.specs.declared.variables.Seat.TheVariants.{Column}
+use Rattle.mpc_runs.specs.Table.{seat_at}
 use Rattle.mpc_whole.specs.Norms.{Over}
 use Rattle.mpc_whole.proofs.WholeChanges.{times_scaled, total_scaled}
 use Rattle.mpc_whole.proofs.DividedRows.{crossed, rest_some}
@@ -22,13 +22,13 @@ use Rattle.mpc_whole.proofs.WholeScales.{Scaled, scaled_over, at_nought, at_side
 use Rattle.mpc_whole.specs.Judged.{coefficient_of, HasRoomAt, IsJudged, IsNorm, IsDividedRow}
 use Rattle.mpc_whole.specs.Whole.{whole_total, AreBounds, HasSideBound, IsNarrow, IsSideRow, IsForm, side_cell}
 use Rattle.mpc_scaled.specs.Scaled.{whole_at, whole_cell, scale_at, IsSmall, IsWholeSystem}
-use Rattle.mpc_whole.proofs.Turn.{Goes, turn-at}
-use Rattle.mpc_whole.proofs.TableauRows.{Meets, row_value, values_meet}
-use Rattle.mpc_whole.proofs.Positions.{tableau, rows_across, firsts_meet, seconds_meet, firsts, seconds}
-use Rattle.mpc_whole.proofs.Ends.{Reached, position-zero}
-use Rattle.mpc_whole.proofs.LeftSides.{side_value, bound-first, bound-second}
-use Rattle.mpc_whole.proofs.Seats.{column_seat}
-use Rattle.mpc_whole.proofs.Read.{rest_unknown, rest_bound}
+use Rattle.mpc_runs.proofs.Turn.{Goes, turn-at}
+use Rattle.mpc_runs.proofs.TableauRows.{Meets, row_value, values_meet}
+use Rattle.mpc_runs.proofs.Positions.{tableau, rows_across, firsts_meet, seconds_meet, firsts, seconds}
+use Rattle.mpc_runs.proofs.Ends.{Reached, position-zero}
+use Rattle.mpc_runs.proofs.LeftSides.{side_value, bound-first, bound-second}
+use Rattle.mpc_runs.proofs.Seats.{column_seat}
+use Rattle.mpc_runs.proofs.Read.{rest_unknown, rest_bound}
 use Rattle.mpc_whole.proofs.WholeSums.{total_over, total_at_most, product_at_most}
 
 pub equal_share : (m : ℕ) → 0 < m → (2 ^ 125 / m) * m ≤ 2 ^ 125

@@ -7,16 +7,16 @@ use Rattle.mpc_exact.proofs.RationalOrder.{one_last}
 use Rattle.mpc_exact.proofs.RationalRing.{reads, by_ring}
 use Rattle.mpc_rows.specs.LinearSystem.{LinearSystem, height}
 use Rattle.mpc_rows.specs.Run.{Position, count, bound, value, pivot}
-use Rattle.mpc_whole.specs.declared.variables.Seat.{Seat}
-use Rattle.mpc_whole.specs.declared.variables.Seat.TheVariants.{Row, Column}
-use Rattle.mpc_whole.specs.Table.{seat_at, IsSeated}
+use Rattle.mpc_runs.specs.declared.variables.Seat.{Seat}
+use Rattle.mpc_runs.specs.declared.variables.Seat.TheVariants.{Row, Column}
+use Rattle.mpc_runs.specs.Table.{seat_at, IsSeated}
 use Rattle.mpc_whole.specs.Whole.{whole_total, IsForm, IsSideRow, IsWholePivot, AreValues, HasSideValues, turned}
 use Rattle.mpc_scaled.specs.Scaled.{whole_at, whole_cell, scale_at, IsWholeSystem}
 use Rattle.mpc_whole.specs.Moved.{excess, IsMoved, AreMoved}
-use Rattle.mpc_whole.proofs.Ends.{Reached}
-use Rattle.mpc_whole.proofs.LeftSides.{bound-first}
-use Rattle.mpc_whole.proofs.Turn.{Goes}
-use Rattle.mpc_whole.proofs.ValuesAfter.{first_after, second_after}
+use Rattle.mpc_runs.proofs.Ends.{Reached}
+use Rattle.mpc_runs.proofs.LeftSides.{bound-first}
+use Rattle.mpc_runs.proofs.Turn.{Goes}
+use Rattle.mpc_runs.proofs.ValuesAfter.{first_after, second_after}
 use Rattle.mpc_whole.proofs.WholeChanges.{over_scale, scaled_changed_over}
 use Rattle.mpc_whole.proofs.WholeForm.{reached_tableau}
 use Rattle.mpc_whole.proofs.WholePivot.{entering_is, pivot_is, pivot_some, pivot_number_some, E_some, L_some, some_at, l_in}

@@ -13,8 +13,8 @@ use Rattle.mpc_rows.specs.Run.{Position, goes_on, count, rest, turn, entering_ro
 use Rattle.mpc_rows.specs.RunWidth.{ValuesFit, EnteringFits, EntryFits, RowFits, RowsFit, PositionFits}
 use Rattle.mpc_whole.specs.Norms.{Over}
 use Rattle.mpc_whole.specs.Whole.{turned}
-use Rattle.mpc_whole.proofs.Pivot.{entering-at_leaving, entering-other}
-use Rattle.mpc_whole.proofs.Turn.{Goes, turn-at}
+use Rattle.mpc_runs.proofs.Pivot.{entering-at_leaving, entering-other}
+use Rattle.mpc_runs.proofs.Turn.{Goes, turn-at}
 use Rattle.mpc_whole.proofs.WholeFits.{fits_over, fits_sum_over}
 use Rattle.mpc_whole.proofs.WholeSums.{product_at_most, abs-sum, frac_sum, zero_over}
 

@@ -7,17 +7,17 @@ use Rattle.mpc_space.specs.Total.{unit}
 use Rattle.mpc_space.proofs.Total.{unit-same, unit-other}
 use Rattle.mpc_rows.specs.LinearSystem.{LinearSystem, height}
 use Rattle.mpc_rows.specs.Run.{Position, IsTableau, count, pivot}
-use Rattle.mpc_whole.specs.declared.variables.Seat.{Seat}
-use Rattle.mpc_whole.specs.declared.variables.Seat.TheVariants.{Row, Column}
-use Rattle.mpc_whole.specs.Table.{seat_at, in_row, IsSeated}
+use Rattle.mpc_runs.specs.declared.variables.Seat.{Seat}
+use Rattle.mpc_runs.specs.declared.variables.Seat.TheVariants.{Row, Column}
+use Rattle.mpc_runs.specs.Table.{seat_at, in_row, IsSeated}
 use Rattle.mpc_whole.specs.Judged.{IsReducedPivot}
 use Rattle.mpc_whole.specs.Whole.{IsForm, IsSideRow, IsWholePivot}
 use Rattle.mpc_scaled.specs.Scaled.{whole_at, whole_cell, scale_at, IsWholeSystem}
-use Rattle.mpc_whole.proofs.Ends.{Reached}
-use Rattle.mpc_whole.proofs.Seats.{seats_apart, column_same}
-use Rattle.mpc_whole.proofs.Exchanged.{at_e, at_l, at_other, other_column_of}
-use Rattle.mpc_whole.proofs.Pivot.{update, basic-at_leaving, basic-at_entering, basic-other}
-use Rattle.mpc_whole.proofs.Turn.{Goes}
+use Rattle.mpc_runs.proofs.Ends.{Reached}
+use Rattle.mpc_runs.proofs.Seats.{seats_apart, column_same}
+use Rattle.mpc_runs.proofs.Exchanged.{at_e, at_l, at_other, other_column_of}
+use Rattle.mpc_runs.proofs.Pivot.{update, basic-at_leaving, basic-at_entering, basic-other}
+use Rattle.mpc_runs.proofs.Turn.{Goes}
 use Rattle.mpc_whole.proofs.WholeSums.{times_int, zero_over}
 use Rattle.mpc_whole.proofs.WholeNorms.{ratio_is}
 use Rattle.mpc_whole.proofs.WholeChanges.{at_leaving, at_another, over_scale, scale_not_zero, scaled_leave, turned_over, scaled_changed_over, size_some as some_over}

@@ -7,19 +7,19 @@ use Rattle.mpc_rows.specs.Least.{least}
 use Rattle.mpc_rows.specs.LinearSystem.{LinearSystem, height}
 use Rattle.mpc_rows.specs.Run.{Position, IsTableau, is_refuted, count, value, may_leave, may_enter, turn, last_position, position, steps}
 use Rattle.mpc_rows.specs.RunWidth.{PositionFits}
-use Rattle.mpc_whole.specs.declared.variables.Seat.{Seat}
-use Rattle.mpc_whole.specs.declared.variables.Seat.TheVariants.{Row, Column}
+use Rattle.mpc_runs.specs.declared.variables.Seat.{Seat}
+use Rattle.mpc_runs.specs.declared.variables.Seat.TheVariants.{Row, Column}
 use Rattle.mpc_whole.specs.declared.whole.Ending.TheVariants.{Point, Refuted}
-use Rattle.mpc_whole.specs.Table.{seat_at, IsSeated}
+use Rattle.mpc_runs.specs.Table.{seat_at, IsSeated}
 use Rattle.mpc_whole.specs.SharedSizes.{AreSmallBefore}
 use Rattle.mpc_whole.specs.Underway.{IsUnderway, HasEnded}
 use Rattle.mpc_whole.specs.Moved.{AreFollowed}
-use Rattle.mpc_whole.specs.RunEnd.{IsValues}
+use Rattle.mpc_runs.specs.RunEnd.{IsValues}
 use Rattle.mpc_whole.specs.Whole.{HasSideBound, IsNarrow, IsForm, HasSideValues, AreValues, IsRowOf, IsSideRow, IsWholePivot, ArePairs, Stands, side_cell}
 use Rattle.mpc_scaled.specs.Scaled.{whole_at, scale_at, IsSmall, IsWholeSystem}
-use Rattle.mpc_whole.proofs.Positions.{tableau}
-use Rattle.mpc_whole.proofs.Turn.{Leaves, turn-at}
-use Rattle.mpc_whole.proofs.Ends.{Reached}
+use Rattle.mpc_runs.proofs.Positions.{tableau}
+use Rattle.mpc_runs.proofs.Turn.{Leaves, turn-at}
+use Rattle.mpc_runs.proofs.Ends.{Reached}
 use Rattle.mpc_whole.proofs.WholeForm.{reached_tableau, side_first, side_second, side_total, side_entry, narrow_fits}
 use Rattle.mpc_whole.proofs.WholeScales.{less_with_scale}
 use Rattle.mpc_whole.proofs.WholePivot.{whole_reduced}

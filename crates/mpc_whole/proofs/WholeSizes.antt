@@ -4,15 +4,15 @@ use Rattle.std.proofs.lemmas.Bool.{cases_eq, cases_lt, both_ways}
 use Rattle.mpc_exact.specs.Rational.{int, frac}
 use Rattle.mpc_rows.specs.LinearSystem.{LinearSystem, height}
 use Rattle.mpc_rows.specs.Run.{Position, count, is_unknown, opening, value, turn, is_pivot, position, steps}
-use Rattle.mpc_whole.specs.declared.variables.Seat.{Seat}
-use Rattle.mpc_whole.specs.Table.{IsSeated}
+use Rattle.mpc_runs.specs.declared.variables.Seat.{Seat}
+use Rattle.mpc_runs.specs.Table.{IsSeated}
 use Rattle.mpc_whole.specs.Whole.{IsForm, AreValues}
 use Rattle.mpc_scaled.specs.Scaled.{whole_at, IsSmall}
 use Rattle.mpc_whole.specs.SharedSizes.{IsSmallForm, AreSmallBefore}
 use Rattle.mpc_whole.specs.Underway.{IsUnderway}
-use Rattle.mpc_whole.proofs.Ends.{run_ends, position-zero}
-use Rattle.mpc_whole.proofs.Positions.{value_rest}
-use Rattle.mpc_whole.proofs.Read.{rest_unknown}
+use Rattle.mpc_runs.proofs.Ends.{run_ends, position-zero}
+use Rattle.mpc_runs.proofs.Positions.{value_rest}
+use Rattle.mpc_runs.proofs.Read.{rest_unknown}
 use Rattle.mpc_whole.proofs.WholeSums.{zero_over}
 use Rattle.mpc_whole.proofs.WholeTurns.{unknowns_stay}
 

@@ -8,8 +8,8 @@ use Rattle.mpc_exact.specs.Rational.{frac}
 use Rattle.mpc_rows.specs.LinearSystem.{LinearSystem, height}
 use Rattle.mpc_rows.specs.Run.{rest, bound, is_unknown}
 use Rattle.mpc_scaled.specs.Scaled.{whole_at, scale_at, IsSmall, HasSides}
-use Rattle.mpc_whole.proofs.LeftSides.{bound-first}
-use Rattle.mpc_whole.proofs.Read.{rest_bound}
+use Rattle.mpc_runs.proofs.LeftSides.{bound-first}
+use Rattle.mpc_runs.proofs.Read.{rest_bound}
 
 -- ---- one number set
 pub read_small : (z : ℤ) → unsigned_abs z ≤ 2 ^ 62 → to_z w64 (of_z w64 z) ≡ z

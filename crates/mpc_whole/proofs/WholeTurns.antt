@@ -14,16 +14,16 @@ use Rattle.mpc_exact.proofs.RationalField.{lt_ℚ_is}
 use Rattle.mpc_rows.specs.Least.{least, or_at}
 use Rattle.mpc_rows.specs.LinearSystem.{LinearSystem}
 use Rattle.mpc_rows.specs.Run.{Position, has_point, count, is_unknown, is_zero, bound, value, turn, may_leave, may_enter}
-use Rattle.mpc_whole.specs.declared.variables.Seat.{Seat}
-use Rattle.mpc_whole.specs.declared.variables.Seat.TheVariants.{Row, Column}
-use Rattle.mpc_whole.specs.Table.{seat_at, in_row}
+use Rattle.mpc_runs.specs.declared.variables.Seat.{Seat}
+use Rattle.mpc_runs.specs.declared.variables.Seat.TheVariants.{Row, Column}
+use Rattle.mpc_runs.specs.Table.{seat_at, in_row}
 use Rattle.mpc_whole.specs.Whole.{HasBasis, IsRowOf}
 use Rattle.mpc_scaled.specs.Scaled.{whole_at}
 use Rattle.mpc_whole.specs.Underway.{StayBefore}
-use Rattle.mpc_whole.proofs.LeastLemmas.{LeastIs, least-is}
-use Rattle.mpc_whole.proofs.Flags.{test_true, true_test}
-use Rattle.mpc_whole.proofs.Turn.{is_zero-true, zero-is_zero, turn-at}
-use Rattle.mpc_whole.proofs.Table.{leave_unknown, leave_free, leave_test, enter_basic, enter_unknown, enter_side}
+use Rattle.mpc_runs.proofs.LeastLemmas.{LeastIs, least-is}
+use Rattle.mpc_runs.proofs.Flags.{test_true, true_test}
+use Rattle.mpc_runs.proofs.Turn.{is_zero-true, zero-is_zero, turn-at}
+use Rattle.mpc_runs.proofs.Table.{leave_unknown, leave_free, leave_test, enter_basic, enter_unknown, enter_side}
 use Rattle.mpc_whole.proofs.WholeSums.{zero_over}
 
 -- ---- the code's tests

@@ -1,5 +1,3 @@
-pub mod Table
-pub mod Exchange
 pub mod Whole
 pub mod Moved
 pub mod Sums
@@ -8,7 +6,6 @@ pub mod Underway
 pub mod Norms
 pub mod Running
 pub mod Found
-pub mod RunEnd
 pub mod OverTheorems
 pub mod Judged
 pub mod Lists

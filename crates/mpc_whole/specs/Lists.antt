@@ -2,10 +2,10 @@
 use Rattle.std.specs.Prelude.{◌≡◌, ℕ, ◌*◌, List, length, ℤ}
 use Rattle.mpc_rows.specs.LinearSystem.{LinearSystem, height}
 use Rattle.mpc_rows.specs.Run.{count}
-use Rattle.mpc_whole.specs.declared.variables.Seat.{Seat}
+use Rattle.mpc_runs.specs.declared.variables.Seat.{Seat}
 use Rattle.mpc_whole.specs.declared.lists.RunLists.{RunLists}
 use Rattle.mpc_whole.specs.declared.lists.WideLists.{WideLists}
-use Rattle.mpc_whole.specs.Table.{IsSeated, AreNonbasic}
+use Rattle.mpc_runs.specs.Table.{IsSeated, AreNonbasic}
 use Rattle.mpc_scaled.specs.Scaled.{IsSmall}
 
 -- what they have, whatever the width of the numbers

@@ -3,8 +3,8 @@ use Rattle.std.specs.Prelude.{◌≡◌, ℕ, ◌+◌, ◌<◌, ◌⊎◌, List,
 use Rattle.mpc_exact.specs.Rational.{frac}
 use Rattle.mpc_rows.specs.LinearSystem.{LinearSystem, height}
 use Rattle.mpc_rows.specs.Run.{Position, IsTableau, bound, value}
-use Rattle.mpc_whole.specs.declared.variables.Seat.{Seat}
-use Rattle.mpc_whole.specs.Table.{IsSeated, AreNonbasic}
+use Rattle.mpc_runs.specs.declared.variables.Seat.{Seat}
+use Rattle.mpc_runs.specs.Table.{IsSeated, AreNonbasic}
 use Rattle.mpc_whole.specs.Whole.{whole_total, IsForm, AreValues}
 use Rattle.mpc_scaled.specs.Scaled.{whole_at, whole_cell, scale_at, HasSides}
 

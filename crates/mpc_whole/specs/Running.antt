@@ -1,8 +1,8 @@
 -- What a run in whole numbers stands on, and the numbers of one of its positions.
 use Rattle.std.specs.Prelude.{◌≡◌, ℕ, ◌+◌, ◌*◌, ◌<◌, ◌≤◌, ◌^◌, List, length, ℤ, unsigned_abs, ◌*ℤ◌}
 use Rattle.mpc_rows.specs.LinearSystem.{LinearSystem, height}
-use Rattle.mpc_whole.specs.declared.variables.Seat.{Seat}
-use Rattle.mpc_whole.specs.Table.{IsSeated}
+use Rattle.mpc_runs.specs.declared.variables.Seat.{Seat}
+use Rattle.mpc_runs.specs.Table.{IsSeated}
 use Rattle.mpc_whole.specs.Whole.{whole_total, HasRoom, HasBounds}
 use Rattle.mpc_scaled.specs.Scaled.{whole_at, whole_cell, AreScales, IsSmall, IsWholeSystem}
 

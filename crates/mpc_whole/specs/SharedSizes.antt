@@ -2,7 +2,7 @@
 use Rattle.std.specs.Prelude.{◌≡◌, ℕ, ◌<◌, ◌≤◌, List, length, ℤ}
 use Rattle.mpc_rows.specs.LinearSystem.{LinearSystem}
 use Rattle.mpc_rows.specs.Run.{Position, count, position}
-use Rattle.mpc_whole.specs.declared.variables.Seat.{Seat}
+use Rattle.mpc_runs.specs.declared.variables.Seat.{Seat}
 use Rattle.mpc_whole.specs.Whole.{IsForm}
 use Rattle.mpc_scaled.specs.Scaled.{IsSmall}
 

@@ -3,7 +3,7 @@ use Rattle.std.specs.Prelude.{◌≡◌, ℕ, ◌<◌, ◌≤◌, false, List, �
 use Rattle.mpc_rows.specs.LinearSystem.{LinearSystem}
 use Rattle.mpc_rows.specs.Run.{Turn, Position, has_point, is_refuted, may_leave, turn, position, last_position, steps}
 use Rattle.mpc_rows.specs.RunWidth.{RunFits}
-use Rattle.mpc_whole.specs.declared.variables.Seat.{Seat}
+use Rattle.mpc_runs.specs.declared.variables.Seat.{Seat}
 use Rattle.mpc_whole.specs.declared.whole.Ending.{Ending}
 use Rattle.mpc_whole.specs.declared.whole.Ending.TheVariants.{Point, Refuted}
 use Rattle.mpc_whole.specs.Whole.{IsForm, AreValues, Stands}

@@ -6,9 +6,9 @@ use Rattle.mpc_rows.specs.LinearSystem.{LinearSystem, height}
 use Rattle.mpc_rows.specs.Run.{Position, count, value, position, steps}
 use Rattle.mpc_rows.specs.RunWidth.{PositionFits}
 use Rattle.mpc_scaled.specs.Scaled.{whole_at, whole_cell, IsSmall, scale_at}
-use Rattle.mpc_whole.specs.declared.variables.Seat.{Seat}
-use Rattle.mpc_whole.specs.declared.variables.Seat.TheVariants.{Row, Column}
-use Rattle.mpc_whole.specs.Table.{seat_at, in_row}
+use Rattle.mpc_runs.specs.declared.variables.Seat.{Seat}
+use Rattle.mpc_runs.specs.declared.variables.Seat.TheVariants.{Row, Column}
+use Rattle.mpc_runs.specs.Table.{seat_at, in_row}
 
 -- f 0 + f 1 + .. + f (n - 1)
 unfoldable pub whole_total : ℕ → (ℕ → ℤ) → ℤ

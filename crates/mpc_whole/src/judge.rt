@@ -2,17 +2,17 @@
 
 ghost use Rattle.std.specs.Prelude.{◌≡◌, ℕ, ℤ, List, ◌+◌, ◌-◌, ◌*◌, ◌<◌, ◌≤◌, ◌^◌, IfSome, unsigned_abs, length};
 ghost use Rattle.mpc_rows.specs.LinearSystem.{height};
-ghost use Rattle.mpc_whole.specs.declared.variables.Seat.{Seat};
-ghost use Rattle.mpc_whole.specs.declared.variables.Seat.TheVariants.{Column};
-ghost use Rattle.mpc_whole.specs.Table.{seat_at, variable_at, IsSeated, AreNonbasic};
+ghost use Rattle.mpc_runs.specs.declared.variables.Seat.{Seat};
+ghost use Rattle.mpc_runs.specs.declared.variables.Seat.TheVariants.{Column};
+ghost use Rattle.mpc_runs.specs.Table.{seat_at, variable_at, IsSeated, AreNonbasic};
 ghost use Rattle.mpc_whole.specs.Whole.{side_cell};
 ghost use Rattle.mpc_scaled.specs.Scaled.{whole_at, whole_cell, scale_at, IsSmall};
 ghost use Rattle.mpc_whole.specs.Running.{HasNumbers};
 ghost use Rattle.mpc_whole.specs.Judged.{HasRoomAt, HasSizes, IsJudged, IsNorm, IsRowWithin};
 
 use crate::frames::JudgedFrame;
-use crate::variables::{Seat, column_of, is_basic};
 use crate::wide_numbers::wide_side_cell;
+use mpc_runs::{Seat, column_of, is_basic};
 use mpc_scaled::{WholeSystem, greatest};
 
 /// What the products that are formed at a position may have.

@@ -15,10 +15,10 @@ use crate::judge::{Factors, factors_of, greatest_scale, judge_end, norm_of};
 use crate::lists::WideLists;
 use crate::reduced::reduce;
 use crate::stated::{Here, StatedPivot, judge_pivot};
-use crate::variables::column_of;
 use crate::whole::{Ending, STEPS, swap};
 use crate::wide_turn::{DividedRow, divided_row, wide_entering, wide_first_out};
 use crate::wide_values::wide_stand;
+use mpc_runs::column_of;
 use mpc_scaled::{WholeNumbers, WholeSystem, greatest};
 
 /// Where a run stands, in numbers of 128 bits: its denominator, the greatest size of a number there, the greatest

@@ -6,11 +6,9 @@ mod frames;
 mod judge;
 mod judged;
 mod lists;
-mod numbers;
 mod reduced;
 mod stated;
 mod theorems;
-mod variables;
 mod whole;
 mod whole_ends;
 mod whole_numbers;
@@ -25,21 +23,9 @@ mod wide_values;
 pub use divisors::Divisor;
 pub use judged::{WidePlace, judged_run};
 pub use lists::{RunLists, WideLists};
-use mpc_rows::{Multipliers, PairPoint};
-pub use numbers::{Standing, zero, zero_pairs, zeros};
 pub use theorems::over_theorems;
-pub use variables::{Seat, column_of, is_basic, is_unknown, opening_seats, row_of};
 pub use whole::{Ending, Place, whole_run};
 pub use whole_ends::{last_multipliers, last_values, wide_last_multipliers, wide_last_values};
 pub use whole_numbers::{changed, turned};
 pub use whole_rows::{limit, put_units};
 pub use whole_values::clear;
-
-/// What a run ends with.
-#[derive(Drop)]
-pub enum End {
-    /// The values of the unknowns, in pairs.
-    Point(PairPoint),
-    /// The multipliers of the rows.
-    Refuted(Multipliers),
-}

@@ -1,6 +1,6 @@
 //! The lists of a run.
 
-use crate::variables::Seat;
+use mpc_runs::Seat;
 
 /// The lists of a run at a position.
 #[derive(Drop)]

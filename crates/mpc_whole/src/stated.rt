@@ -3,17 +3,17 @@
 ghost use Rattle.std.specs.Prelude.{◌≡◌, ◌≢◌, ℕ, pos, ◌+◌, ◌*◌, ◌<◌, ◌*ℤ◌, ◌⊎◌, IfSome, length, true};
 ghost use Rattle.mpc_exact.specs.Rational.{frac, int};
 ghost use Rattle.mpc_rows.specs.LinearSystem.{height};
-ghost use Rattle.mpc_whole.specs.declared.variables.Seat.TheVariants.{Column};
-ghost use Rattle.mpc_whole.specs.Table.{seat_at, in_row};
+ghost use Rattle.mpc_runs.specs.declared.variables.Seat.TheVariants.{Column};
+ghost use Rattle.mpc_runs.specs.Table.{seat_at, in_row};
 ghost use Rattle.mpc_scaled.specs.Scaled.{whole_at, IsSmall};
 ghost use Rattle.mpc_whole.specs.Running.{HasNumbers};
 ghost use Rattle.mpc_whole.specs.Judged.{HasSizes, row_cell, coefficient_of, IsPlaced, IsPivotThere, IsRowBelow, IsTermStated, IsRowStated, IsJudgedByRows, IsPivotJudged};
 
 use crate::frames::JudgedFrame;
 use crate::judge::{Factors, ROOM, factor_at, judge, judge_end};
-use crate::variables::{Seat, column_of, is_basic};
 use crate::wide_numbers::{positive, wide_product, wide_side_cell};
 use mpc_frac::Frac;
+use mpc_runs::{Seat, column_of, is_basic};
 use mpc_scaled::WholeSystem;
 
 /// A position of a run: where the variables stand, and the numbers of the unknowns over a denominator, none of which

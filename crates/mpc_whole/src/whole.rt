@@ -4,9 +4,9 @@ ghost use Rattle.std.specs.Prelude.{◌≡◌, ℕ, ◌*◌, ◌<◌, ◌≤◌,
 ghost use Rattle.mpc_rows.specs.LinearSystem.{height};
 ghost use Rattle.mpc_rows.specs.Run.{Position, count, may_enter};
 ghost use Rattle.mpc_rows.specs.Least.{least};
-ghost use Rattle.mpc_whole.specs.declared.variables.Seat.{Seat};
-ghost use Rattle.mpc_whole.specs.declared.variables.Seat.TheVariants.{Column};
-ghost use Rattle.mpc_whole.specs.Table.{seat_at, in_row, IsSeated, AreNonbasic};
+ghost use Rattle.mpc_runs.specs.declared.variables.Seat.{Seat};
+ghost use Rattle.mpc_runs.specs.declared.variables.Seat.TheVariants.{Column};
+ghost use Rattle.mpc_runs.specs.Table.{seat_at, in_row, IsSeated, AreNonbasic};
 ghost use Rattle.mpc_whole.specs.Found.{IfEnded, IfNext};
 ghost use Rattle.mpc_whole.specs.Lists.{AreListsOf, of_short};
 ghost use Rattle.mpc_whole.specs.Held.{AreHeld, AreUnderway, AreTurning, HaveEnded};
@@ -17,10 +17,10 @@ ghost use Rattle.mpc_scaled.specs.Scaled.{IsSmall};
 use crate::divisors::Divisor;
 use crate::frames::Frame;
 use crate::lists::RunLists;
-use crate::variables::{Seat, column_of, row_of};
 use crate::whole_pivot::exchange;
 use crate::whole_turn::{entering, leaving, leaving_row};
 use crate::whole_values::{Pivot, follow};
+use mpc_runs::{Seat, column_of, row_of};
 use mpc_scaled::{WholeNumbers, WholeSystem};
 
 /// Exchanges the seats of l and e, so that l is the variable of e's column.

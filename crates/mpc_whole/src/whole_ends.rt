@@ -4,19 +4,18 @@ ghost use Rattle.std.specs.Prelude.{◌≡◌, ◌+◌, ◌*◌, ◌<◌, ◌≤
 ghost use Rattle.mpc_exact.specs.Rational.{frac, quotient};
 ghost use Rattle.mpc_rows.specs.LinearSystem.{height};
 ghost use Rattle.mpc_rows.specs.Run.{Position, count, multiplier, turn, is_refuted, last_position};
-ghost use Rattle.mpc_whole.specs.Table.{IsSeated};
-ghost use Rattle.mpc_whole.specs.RunEnd.{IsValues, IsMultipliers};
+ghost use Rattle.mpc_runs.specs.Table.{IsSeated};
+ghost use Rattle.mpc_runs.specs.RunEnd.{IsValues, IsMultipliers};
 ghost use Rattle.mpc_whole.specs.Running.{IsRefuting};
 ghost use Rattle.mpc_whole.specs.Whole.{whole_total, IsForm, HasBasis, IsRowOf, IsSideRow, AreValues, ArePairs};
 ghost use Rattle.mpc_scaled.specs.Scaled.{whole_cell, IsWholeSystem};
 
 use crate::lists::{RunLists, WideLists};
-use crate::numbers::{Standing, zero};
-use crate::variables::{Seat, column_of, is_basic};
 use crate::whole_numbers::widened;
 use crate::wide_numbers::{positive, wide_product};
 use crate::wide_turn::divided_side_row;
 use mpc_frac::Frac;
+use mpc_runs::{Seat, Standing, column_of, is_basic, zero};
 use mpc_scaled::{WholeNumbers, WholeSystem, product};
 
 /// The fraction `z / den`, if it has 128 bits.

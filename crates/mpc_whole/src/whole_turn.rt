@@ -5,9 +5,9 @@ ghost use Rattle.mpc_rows.specs.LinearSystem.{height};
 ghost use Rattle.mpc_rows.specs.Least.{least};
 ghost use Rattle.mpc_rows.specs.Run.{Position, bound, value, may_leave, may_enter};
 ghost use Rattle.mpc_exact.specs.Pair.{is_below};
-ghost use Rattle.mpc_whole.specs.declared.variables.Seat.{Seat};
-ghost use Rattle.mpc_whole.specs.declared.variables.Seat.TheVariants.{Column};
-ghost use Rattle.mpc_whole.specs.Table.{seat_at, IsSeated, AreNonbasic};
+ghost use Rattle.mpc_runs.specs.declared.variables.Seat.{Seat};
+ghost use Rattle.mpc_runs.specs.declared.variables.Seat.TheVariants.{Column};
+ghost use Rattle.mpc_runs.specs.Table.{seat_at, IsSeated, AreNonbasic};
 ghost use Rattle.mpc_whole.specs.Sums.{are_short, are_of_four};
 ghost use Rattle.mpc_whole.specs.Underway.{StayBefore};
 ghost use Rattle.mpc_whole.specs.Whole.{whole_total, HasSideValues, HasBasis, IsRowOf, IsSideRow, side_cell};
@@ -15,10 +15,10 @@ ghost use Rattle.mpc_scaled.specs.Scaled.{whole_at, whole_cell, IsSmall, HasSide
 ghost use Rattle.mpc_whole.specs.Running.{HasNumbers, IsFrame, AreParts, AreShort};
 
 use crate::frames::Frame;
-use crate::variables::{Seat, is_basic};
 use crate::whole::Place;
 use crate::whole_numbers::{Sums, row_times, row_times_column};
 use crate::whole_values::step_of;
+use mpc_runs::{Seat, is_basic};
 use mpc_scaled::{WholeSystem, product, signed};
 
 /// Whether the value of side i is above its bound.

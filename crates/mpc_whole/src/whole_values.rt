@@ -4,8 +4,8 @@ ghost use Rattle.std.specs.Prelude.{◌≡◌, ℕ, List, pos, ◌+◌, ◌*◌,
 ghost use Rattle.mpc_exact.specs.Rational.{frac};
 ghost use Rattle.mpc_rows.specs.LinearSystem.{height};
 ghost use Rattle.mpc_rows.specs.Run.{bound};
-ghost use Rattle.mpc_whole.specs.declared.variables.Seat.{Seat};
-ghost use Rattle.mpc_whole.specs.Table.{variable_at, IsSeated, AreNonbasic};
+ghost use Rattle.mpc_runs.specs.declared.variables.Seat.{Seat};
+ghost use Rattle.mpc_runs.specs.Table.{variable_at, IsSeated, AreNonbasic};
 ghost use Rattle.mpc_whole.specs.Whole.{HasRoom};
 ghost use Rattle.mpc_scaled.specs.Scaled.{whole_at, scale_at, AreScales, IsSmall};
 ghost use Rattle.mpc_whole.specs.Moved.{excess, IsMoved, AreMoved, IsValueAt, AreFormed, AreFollowed};

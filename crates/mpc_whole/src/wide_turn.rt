@@ -5,9 +5,9 @@ ghost use Rattle.mpc_rows.specs.LinearSystem.{height};
 ghost use Rattle.mpc_rows.specs.Least.{least};
 ghost use Rattle.mpc_rows.specs.Run.{Position, bound, value, may_leave, may_enter};
 ghost use Rattle.mpc_exact.specs.Pair.{is_below};
-ghost use Rattle.mpc_whole.specs.declared.variables.Seat.{Seat};
-ghost use Rattle.mpc_whole.specs.declared.variables.Seat.TheVariants.{Column};
-ghost use Rattle.mpc_whole.specs.Table.{seat_at, IsSeated, AreNonbasic};
+ghost use Rattle.mpc_runs.specs.declared.variables.Seat.{Seat};
+ghost use Rattle.mpc_runs.specs.declared.variables.Seat.TheVariants.{Column};
+ghost use Rattle.mpc_runs.specs.Table.{seat_at, IsSeated, AreNonbasic};
 ghost use Rattle.mpc_whole.specs.Judged.{IsDividedRow};
 ghost use Rattle.mpc_whole.specs.Underway.{StayBefore};
 ghost use Rattle.mpc_whole.specs.Whole.{HasSideValues, HasBasis, HasRoom, IsRowOf, IsSideRow};
@@ -17,11 +17,11 @@ ghost use Rattle.mpc_whole.specs.Running.{HasNumbers};
 use crate::frames::JudgedFrame;
 use crate::judged::WidePlace;
 use crate::reduced::{shared_with_all, whole_share};
-use crate::variables::{Seat, is_basic};
 use crate::whole_values::step_of;
 use crate::wide_numbers::{
     WideDivisor, are_short, column_value, divide_all, positive, product_with, wide_row_value,
 };
+use mpc_runs::{Seat, is_basic};
 use mpc_scaled::WholeSystem;
 
 /// Whether the value of side i is above its bound. The values of the unknowns and the denominator aren't tested where

@@ -2,8 +2,8 @@
 
 ghost use Rattle.std.specs.Prelude.{◌≡◌, ℕ, List, ◌+◌, ◌*◌, ◌<◌, ◌^◌, IfSome, IsTrue, length};
 ghost use Rattle.mpc_rows.specs.LinearSystem.{height};
-ghost use Rattle.mpc_whole.specs.declared.variables.Seat.{Seat};
-ghost use Rattle.mpc_whole.specs.Table.{variable_at, IsSeated, AreNonbasic};
+ghost use Rattle.mpc_runs.specs.declared.variables.Seat.{Seat};
+ghost use Rattle.mpc_runs.specs.Table.{variable_at, IsSeated, AreNonbasic};
 ghost use Rattle.mpc_whole.specs.Moved.{IsValueAt, AreFormed};
 ghost use Rattle.mpc_whole.specs.Running.{HasNumbers};
 ghost use Rattle.mpc_scaled.specs.Scaled.{IsSmall};

@@ -1,5 +1,5 @@
 use Rattle.std.proofs.Common.{◌≡◌, ◌+◌, List, sym, subst, arith}
-use Rattle.mpc_whole.specs.declared.variables.Seat.{Seat}
+use Rattle.mpc_runs.specs.declared.variables.Seat.{Seat}
 use Rattle.mpc_beginnings.proofs.Seated.{AreSeatedTo, one_more, none_more, all_seated}
 use Rattle.mpc_beginnings.proofs.lists.push_sides.Goals as goal
 

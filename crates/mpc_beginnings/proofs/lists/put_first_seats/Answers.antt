@@ -1,6 +1,6 @@
 use Rattle.std.proofs.Common.{[], ◌∷◌, sym, arith, ap, length, length-append}
-use Rattle.mpc_whole.specs.declared.variables.Seat.TheVariants.{Row}
-use Rattle.mpc_whole.specs.Table.{opening_seat}
+use Rattle.mpc_runs.specs.declared.variables.Seat.TheVariants.{Row}
+use Rattle.mpc_runs.specs.Table.{opening_seat}
 use Rattle.mpc_beginnings.proofs.Pushed.{pushed_below}
 use Rattle.mpc_beginnings.proofs.lists.put_first_seats.Goals as goal
 

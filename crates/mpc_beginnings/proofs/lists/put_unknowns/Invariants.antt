@@ -1,5 +1,5 @@
 use Rattle.std.proofs.Common.{◌≡◌, ℕ, ◌<◌, length}
-use Rattle.mpc_whole.specs.Table.{variable_at}
+use Rattle.mpc_runs.specs.Table.{variable_at}
 use Rattle.mpc_beginnings.proofs.lists.put_unknowns.Given as goal
 
 abbrev pub invariant-loop-x : goal.invariant-loop-x

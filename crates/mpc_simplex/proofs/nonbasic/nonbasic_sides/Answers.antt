@@ -1,7 +1,7 @@
 use Rattle.std.proofs.Common.{◌≡◌, ◌∙◌, ◌+◌, ◌<◌, ◌≤◌, false, sym, subst, arith, length, take}
 use Rattle.std.proofs.lemmas.List.{length-take-le, length-set, take_more_set}
 use Rattle.mpc_rows.specs.LinearSystem.{height}
-use Rattle.mpc_whole.specs.Table.{seat_at, in_row}
+use Rattle.mpc_runs.specs.Table.{seat_at, in_row}
 use Rattle.mpc_simplex.specs.Nonbasic.{AreNonbasicSides}
 use Rattle.mpc_simplex.proofs.NonbasicSides.{room_left, sides_more}
 use Rattle.mpc_simplex.proofs.nonbasic.nonbasic_sides.Goals as goal

@@ -1,5 +1,5 @@
 use Rattle.mpc_exact.specs.Pair.{is_below}
-use Rattle.mpc_whole.proofs.Read.{or_then, or_and, or_else}
+use Rattle.mpc_runs.proofs.Read.{or_then, or_and, or_else}
 use Rattle.mpc_simplex.proofs.numbers.is_below.Goals as goal
 
 pub returns-then-is_less : goal.returns-then-is_less

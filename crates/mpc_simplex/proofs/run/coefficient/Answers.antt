@@ -1,6 +1,6 @@
 use Rattle.std.proofs.Common.{◌∙◌, ◌<◌, sym, ap, subst, subst₂}
-use Rattle.mpc_whole.specs.Table.{cell_at, HasShape}
-use Rattle.mpc_whole.proofs.Seats.{cell_read}
+use Rattle.mpc_runs.specs.Table.{cell_at, HasShape}
+use Rattle.mpc_runs.proofs.Seats.{cell_read}
 use Rattle.mpc_simplex.proofs.run.coefficient.Goals as goal
 
 pub cell-requires-clause-shape : goal.cell-requires-clause-shape

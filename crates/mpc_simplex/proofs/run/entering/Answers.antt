@@ -1,7 +1,7 @@
 use Rattle.std.proofs.Common.{sym}
 use Rattle.mpc_rows.specs.Run.{may_enter}
-use Rattle.mpc_whole.specs.Table.{position_of}
-use Rattle.mpc_whole.proofs.Table.{least_none, least_some, least_start}
+use Rattle.mpc_runs.specs.Table.{position_of}
+use Rattle.mpc_runs.proofs.Table.{least_none, least_some, least_start}
 use Rattle.mpc_simplex.proofs.run.entering.Goals as goal
 
 pub loop-y-init : goal.loop-y-init

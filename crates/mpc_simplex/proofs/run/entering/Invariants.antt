@@ -1,7 +1,7 @@
 use Rattle.std.proofs.Common.{◌≡◌, None}
 use Rattle.mpc_rows.specs.Least.{least}
 use Rattle.mpc_rows.specs.Run.{may_enter}
-use Rattle.mpc_whole.specs.Table.{position_of}
+use Rattle.mpc_runs.specs.Table.{position_of}
 use Rattle.mpc_simplex.proofs.run.entering.Given as goal
 
 abbrev pub invariant-loop-y : goal.invariant-loop-y

@@ -5,10 +5,10 @@ use Rattle.mpc_rows.specs.Least.{least, or_at}
 use Rattle.mpc_exact.specs.Pair.{is_below}
 use Rattle.mpc_rows.specs.Run.{may_leave, bound}
 use Rattle.mpc_rows.specs.RunWidth.{ValueFits}
-use Rattle.mpc_whole.specs.Table.{position_of}
-use Rattle.mpc_whole.proofs.Read.{width_is}
-use Rattle.mpc_whole.proofs.Table.{least_start, least_next, least_skip, least_below, leave_not_basic, leave_basic}
-use Rattle.mpc_whole.proofs.Seats.{basic_is}
+use Rattle.mpc_runs.specs.Table.{position_of}
+use Rattle.mpc_runs.proofs.Read.{width_is}
+use Rattle.mpc_runs.proofs.Table.{least_start, least_next, least_skip, least_below, leave_not_basic, leave_basic}
+use Rattle.mpc_runs.proofs.Seats.{basic_is}
 use Rattle.mpc_simplex.proofs.run.leaving.Goals as goal
 use Rattle.mpc_simplex.proofs.run.leaving.Goals.{After-loop-x}
 

@@ -2,7 +2,7 @@ use Rattle.std.proofs.Common.{◌≡◌, ℕ, ◌<◌, true}
 use Rattle.mpc_rows.specs.Least.{least}
 use Rattle.mpc_rows.specs.Run.{may_leave}
 use Rattle.mpc_rows.specs.RunWidth.{ValueFits}
-use Rattle.mpc_whole.specs.Table.{position_of}
+use Rattle.mpc_runs.specs.Table.{position_of}
 use Rattle.mpc_simplex.proofs.run.leaving.Given as goal
 
 abbrev pub invariant-loop-x : goal.invariant-loop-x

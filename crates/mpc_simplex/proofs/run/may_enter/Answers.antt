@@ -1,9 +1,9 @@
 use Rattle.std.proofs.Common.{◌∙◌, sym, ap, not, pos}
 use Rattle.mpc_exact.specs.Rational.{int, lt_ℚ}
 use Rattle.mpc_rows.specs.Run.{is_zero}
-use Rattle.mpc_whole.specs.Table.{position_of}
-use Rattle.mpc_whole.proofs.Table.{enter_basic, enter_unknown, enter_side}
-use Rattle.mpc_whole.proofs.Seats.{basic_is}
+use Rattle.mpc_runs.specs.Table.{position_of}
+use Rattle.mpc_runs.proofs.Table.{enter_basic, enter_unknown, enter_side}
+use Rattle.mpc_runs.proofs.Seats.{basic_is}
 use Rattle.mpc_simplex.proofs.run.may_enter.Goals as goal
 
 pub returns-then-is_basic : goal.returns-then-is_basic

@@ -1,8 +1,8 @@
 use Rattle.std.proofs.Common.{◌∙◌, ◌+◌, sym, ap}
 use Rattle.mpc_exact.specs.Rational.{neg_ℚ}
-use Rattle.mpc_whole.specs.Table.{position_of}
-use Rattle.mpc_whole.proofs.Seats.{basic_is}
-use Rattle.mpc_whole.proofs.Answered.{multiplier_own, multiplier_basic, multiplier_free}
+use Rattle.mpc_runs.specs.Table.{position_of}
+use Rattle.mpc_runs.proofs.Seats.{basic_is}
+use Rattle.mpc_runs.proofs.Answered.{multiplier_own, multiplier_basic, multiplier_free}
 use Rattle.mpc_simplex.proofs.run.multiplier.Goals as goal
 
 pub returns-then-x-l : goal.returns-then-x-l

@@ -1,6 +1,6 @@
 use Rattle.std.proofs.Common.{◌≡◌, ℕ, ◌<◌}
 use Rattle.mpc_rows.specs.Run.{multiplier}
-use Rattle.mpc_whole.specs.Table.{position_of}
+use Rattle.mpc_runs.specs.Table.{position_of}
 use Rattle.mpc_space.specs.Vector.{coordinate}
 use Rattle.mpc_simplex.proofs.run.multipliers.Given as goal
 

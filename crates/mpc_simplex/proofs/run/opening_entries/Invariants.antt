@@ -1,6 +1,6 @@
 use Rattle.std.proofs.Common.{◌≡◌, ℕ, ◌*◌, ◌<◌, length}
 use Rattle.mpc_rows.specs.LinearSystem.{entry}
-use Rattle.mpc_whole.specs.Table.{cell_at}
+use Rattle.mpc_runs.specs.Table.{cell_at}
 use Rattle.mpc_simplex.proofs.run.opening_entries.Given as goal
 
 abbrev pub invariant-loop-i : goal.invariant-loop-i

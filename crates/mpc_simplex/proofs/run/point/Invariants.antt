@@ -1,7 +1,7 @@
 use Rattle.std.proofs.Common.{◌≡◌, ℕ, ◌<◌}
 use Rattle.mpc_rows.specs.Run.{value}
-use Rattle.mpc_whole.specs.Table.{position_of}
-use Rattle.mpc_whole.proofs.Answered.{pair_in}
+use Rattle.mpc_runs.specs.Table.{position_of}
+use Rattle.mpc_runs.proofs.Answered.{pair_in}
 use Rattle.mpc_simplex.proofs.run.point.Given as goal
 
 abbrev pub invariant-loop-j : goal.invariant-loop-j

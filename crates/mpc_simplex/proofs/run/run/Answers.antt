@@ -4,16 +4,16 @@ use Rattle.std.proofs.lemmas.List.{with_items_is}
 use Rattle.mpc_exact.specs.Rational.{ℚ}
 use Rattle.mpc_rows.specs.Least.{least}
 use Rattle.mpc_rows.specs.LinearSystem.{LinearSystem, height}
-use Rattle.mpc_whole.specs.declared.variables.Seat.{Seat}
-use Rattle.mpc_whole.specs.declared.variables.Seat.TheVariants.{Row, Column}
+use Rattle.mpc_runs.specs.declared.variables.Seat.{Seat}
+use Rattle.mpc_runs.specs.declared.variables.Seat.TheVariants.{Row, Column}
 use Rattle.mpc_rows.specs.Run.{goes_on, count, may_leave, may_enter, turn, is_pivot}
 use Rattle.mpc_rows.specs.RunWidth.{ValuesFit}
-use Rattle.mpc_whole.specs.Table.{seat_at, in_row, cell_at, IsTable, position_of}
-use Rattle.mpc_whole.specs.Exchange.{IsExchanged}
+use Rattle.mpc_runs.specs.Table.{seat_at, in_row, cell_at, IsTable, position_of}
+use Rattle.mpc_runs.specs.Exchange.{IsExchanged}
 use Rattle.mpc_simplex.specs.Answer.{IsValues, IsMultipliers, EndsWithPoint, EndsRefuted}
-use Rattle.mpc_whole.proofs.Turn.{Goes, leaver}
-use Rattle.mpc_whole.proofs.Steps.{goes_so, turns_so, pivot_seated, pivot_some, pivot_fits, pivot_fits_back, pivot_is, pivot_falls, point_turn, refuted_turn, point_answer, refuted_answer}
-use Rattle.mpc_whole.proofs.Loop.{Going, going_opening, wide_exchange, end_fits, going_next, from_lists, exchanged_as, fits_as, fits_as_back}
+use Rattle.mpc_runs.proofs.Turn.{Goes, leaver}
+use Rattle.mpc_runs.proofs.Steps.{goes_so, turns_so, pivot_seated, pivot_some, pivot_fits, pivot_fits_back, pivot_is, pivot_falls, point_turn, refuted_turn, point_answer, refuted_answer}
+use Rattle.mpc_runs.proofs.Loop.{Going, going_opening, wide_exchange, end_fits, going_next, from_lists, exchanged_as, fits_as, fits_as_back}
 use Rattle.mpc_simplex.proofs.run.run.Goals as goal
 use Rattle.mpc_simplex.proofs.run.run.Goals.{After-deref-in-steps, In_ok-out, In-Some-entering, After-column_of-c, In_ok-exchange}
 

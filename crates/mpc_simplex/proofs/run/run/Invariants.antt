@@ -1,7 +1,7 @@
 use Rattle.std.proofs.Common.{◌≡◌, length}
 use Rattle.mpc_rows.specs.Run.{steps_from}
-use Rattle.mpc_whole.specs.Table.{IsTable, position_of}
-use Rattle.mpc_whole.proofs.Loop.{Going}
+use Rattle.mpc_runs.specs.Table.{IsTable, position_of}
+use Rattle.mpc_runs.proofs.Loop.{Going}
 use Rattle.mpc_simplex.proofs.run.run.Given as goal
 
 abbrev pub invariant-steps : goal.invariant-steps

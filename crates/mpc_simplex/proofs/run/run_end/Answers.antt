@@ -1,7 +1,7 @@
 use Rattle.std.proofs.Common.{◌≡◌, ◌∙◌, ◌+◌, ◌*◌, ◌<◌, ◌^◌, subst, mul_comm}
 use Rattle.mpc_rows.specs.LinearSystem.{height}
-use Rattle.mpc_whole.proofs.Seats.{opening_seated}
-use Rattle.mpc_whole.proofs.Steps.{opens}
+use Rattle.mpc_runs.proofs.Seats.{opening_seated}
+use Rattle.mpc_runs.proofs.Steps.{opens}
 use Rattle.mpc_simplex.proofs.run.run_end.Goals as goal
 use Rattle.mpc_simplex.proofs.run.run_end.Goals.{In-Some}
 

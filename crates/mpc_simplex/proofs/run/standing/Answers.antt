@@ -2,9 +2,9 @@ use Rattle.std.proofs.Common.{◌≡◌, ◌∙◌, ◌<◌, sym, ap, subst, rul
 use Rattle.std.proofs.lemmas.Result.{MatchResult-from_err}
 use Rattle.mpc_exact.specs.Pair.{Pair}
 use Rattle.mpc_rows.specs.Run.{value, rest}
-use Rattle.mpc_whole.specs.Table.{position_of}
-use Rattle.mpc_whole.proofs.Seats.{basic_is, tableau_of}
-use Rattle.mpc_whole.proofs.Fits.{value_free}
+use Rattle.mpc_runs.specs.Table.{position_of}
+use Rattle.mpc_runs.proofs.Seats.{basic_is, tableau_of}
+use Rattle.mpc_runs.proofs.Fits.{value_free}
 use Rattle.mpc_simplex.proofs.run.standing.Goals as goal
 use Rattle.mpc_simplex.proofs.run.standing.Goals.{Then-not-is_basic}
 

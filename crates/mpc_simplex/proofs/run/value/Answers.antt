@@ -3,10 +3,10 @@ use Rattle.std.proofs.lemmas.Result.{MatchResult-from_err}
 use Rattle.mpc_exact.specs.Rational.{◌*ℚ◌}
 use Rattle.mpc_space.specs.Total.{total}
 use Rattle.mpc_rows.specs.Run.{count, rest, IsTableau}
-use Rattle.mpc_whole.specs.Table.{seat_at, in_row, position_of}
-use Rattle.mpc_whole.proofs.Table.{value_first, value_second, first_terms, second_terms}
-use Rattle.mpc_whole.proofs.Fits.{term_fits, wide_first, wide_second}
-use Rattle.mpc_whole.proofs.Seats.{basic_is, tableau_of}
+use Rattle.mpc_runs.specs.Table.{seat_at, in_row, position_of}
+use Rattle.mpc_runs.proofs.Table.{value_first, value_second, first_terms, second_terms}
+use Rattle.mpc_runs.proofs.Fits.{term_fits, wide_first, wide_second}
+use Rattle.mpc_runs.proofs.Seats.{basic_is, tableau_of}
 use Rattle.mpc_simplex.proofs.NonbasicSides.{reached, reached_side, reached_end}
 use Rattle.mpc_simplex.proofs.NonbasicSums.{first_start, second_start, fits_start, sum_next, fits_next}
 use Rattle.mpc_simplex.proofs.run.value.Goals as goal

@@ -1,8 +1,8 @@
 use Rattle.std.proofs.Common.{◌≡◌, ℕ, ◌<◌, false}
 use Rattle.mpc_space.specs.Total.{total}
-use Rattle.mpc_whole.specs.Table.{position_of}
+use Rattle.mpc_runs.specs.Table.{position_of}
 use Rattle.mpc_rows.specs.RunWidth.{TermFits}
-use Rattle.mpc_whole.proofs.Table.{first_terms, second_terms}
+use Rattle.mpc_runs.proofs.Table.{first_terms, second_terms}
 use Rattle.mpc_simplex.proofs.NonbasicSides.{reached}
 use Rattle.mpc_simplex.proofs.run.value.Given as goal
 

@@ -1,7 +1,7 @@
 use Rattle.std.proofs.Common.{◌≡◌, ◌∙◌, sym, ap, ◌-◌}
 use Rattle.std.proofs.lemmas.Bool.{cond-true, cond-false}
 use Rattle.mpc_rows.specs.LinearSystem.{row_at}
-use Rattle.mpc_whole.proofs.Read.{bound_first, bound_second}
+use Rattle.mpc_runs.proofs.Read.{bound_first, bound_second}
 use Rattle.mpc_simplex.proofs.sides.bound.Goals as goal
 use Rattle.mpc_simplex.proofs.sides.bound.Goals.{then-row, else-row, After-row-row}
 

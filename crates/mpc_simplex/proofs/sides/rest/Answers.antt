@@ -1,6 +1,6 @@
 use Rattle.std.proofs.Common.{◌∙◌, sym, ap}
 use Rattle.mpc_exact.specs.Pair.{Pair}
-use Rattle.mpc_whole.proofs.Read.{rest_unknown, rest_bound}
+use Rattle.mpc_runs.proofs.Read.{rest_unknown, rest_bound}
 use Rattle.mpc_simplex.proofs.sides.rest.Goals as goal
 
 pub returns-then-is_unknown-clause-first : goal.returns-then-is_unknown-clause-first

@@ -1,5 +1,5 @@
 use Rattle.std.proofs.Common.{◌<◌, length, arith}
-use Rattle.mpc_whole.specs.Exchange.{changed_cell, row_at}
+use Rattle.mpc_runs.specs.Exchange.{changed_cell, row_at}
 use Rattle.mpc_simplex.proofs.Cells.{set_done, set_kept, step_value, fits_more}
 use Rattle.mpc_simplex.proofs.tableau.change_row.Goals as goal
 

@@ -1,5 +1,5 @@
 use Rattle.std.proofs.Common.{refl, sym, ◌∙◌}
-use Rattle.mpc_whole.specs.Exchange.{row_at}
+use Rattle.mpc_runs.specs.Exchange.{row_at}
 use Rattle.mpc_simplex.proofs.Cells.{rows_zero, rows_more}
 use Rattle.mpc_simplex.proofs.tableau.change_rows.Goals as goal
 

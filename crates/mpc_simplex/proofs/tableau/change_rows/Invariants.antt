@@ -1,4 +1,4 @@
-use Rattle.mpc_whole.specs.Exchange.{row_at}
+use Rattle.mpc_runs.specs.Exchange.{row_at}
 use Rattle.mpc_simplex.proofs.Cells.{RowsSo}
 use Rattle.mpc_simplex.proofs.tableau.change_rows.Given as goal
 

@@ -1,5 +1,5 @@
 use Rattle.std.proofs.Common.{◌≡◌, ℕ, ◌<◌}
-use Rattle.mpc_whole.specs.Exchange.{own_cell, row_at, QuotientFits}
+use Rattle.mpc_runs.specs.Exchange.{own_cell, row_at, QuotientFits}
 use Rattle.mpc_simplex.proofs.tableau.own_row.Given as goal
 
 abbrev pub invariant-loop-c : goal.invariant-loop-c

@@ -1,6 +1,6 @@
 use Rattle.std.proofs.Common.{◌≡◌, ℕ, ◌+◌, ◌*◌, ◌<◌, ◌≤◌, ◌⊎◌}
-use Rattle.mpc_whole.specs.Table.{cell_at}
-use Rattle.mpc_whole.specs.Exchange.{row_at}
+use Rattle.mpc_runs.specs.Table.{cell_at}
+use Rattle.mpc_runs.specs.Exchange.{row_at}
 use Rattle.mpc_simplex.proofs.tableau.put_row.Given as goal
 
 abbrev pub invariant-loop-c : goal.invariant-loop-c

@@ -1,7 +1,7 @@
 use Rattle.std.proofs.Common.{arith}
 use Rattle.mpc_rows.specs.Run.{last_position}
-use Rattle.mpc_whole.proofs.Cycle.{no_basis_twice}
-use Rattle.mpc_whole.proofs.Ends.{run_ends, steps_few}
+use Rattle.mpc_runs.proofs.Cycle.{no_basis_twice}
+use Rattle.mpc_runs.proofs.Ends.{run_ends, steps_few}
 use Rattle.mpc_simplex.proofs.theorems.run_theorems.Goals as goal
 
 pub returns-clause-no_basis_twice : goal.returns-clause-no_basis_twice

@@ -1,4 +1,4 @@
-use Rattle.mpc_whole.proofs.Turn.{zero_passes}
+use Rattle.mpc_runs.proofs.Turn.{zero_passes}
 use Rattle.mpc_simplex.proofs.theorems.zero_test.Goals as goal
 
 pub returns : goal.returns

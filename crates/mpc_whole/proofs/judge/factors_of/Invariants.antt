@@ -1,5 +1,5 @@
 use Rattle.std.proofs.Common.{◌≡◌, ℕ, ◌*◌, ◌<◌, ◌≤◌, unsigned_abs}
-use Rattle.mpc_whole.specs.Table.{variable_at}
+use Rattle.mpc_runs.specs.Table.{variable_at}
 use Rattle.mpc_scaled.specs.Scaled.{whole_at, scale_at}
 use Rattle.mpc_whole.proofs.judge.factors_of.Given as goal
 

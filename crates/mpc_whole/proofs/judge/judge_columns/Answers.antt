@@ -1,12 +1,12 @@
 use Rattle.std.proofs.Common.{ℕ, Option, Some, IfSome, ◌≡◌, ◌∙◌, ◌<◌, true, sym, ap, subst}
 use Rattle.std.proofs.lemmas.Bool.{both_ways}
 use borrow.Author.Count.{below_more}
-use Rattle.mpc_whole.specs.declared.variables.Seat.TheVariants.{Column}
-use Rattle.mpc_whole.specs.Table.{seat_at, in_row}
+use Rattle.mpc_runs.specs.declared.variables.Seat.TheVariants.{Column}
+use Rattle.mpc_runs.specs.Table.{seat_at, in_row}
 use Rattle.mpc_whole.specs.Whole.{side_cell}
 use Rattle.mpc_scaled.specs.Scaled.{whole_cell}
 use Rattle.mpc_whole.specs.Judged.{HasRoomAt}
-use Rattle.mpc_whole.proofs.Seats.{column_same}
+use Rattle.mpc_runs.proofs.Seats.{column_same}
 use Rattle.mpc_whole.proofs.judge.judge_columns.Goals as goal
 use Rattle.mpc_whole.proofs.judge.judge_columns.Goals.{After-column_of-c}
 

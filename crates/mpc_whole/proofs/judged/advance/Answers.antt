@@ -3,9 +3,9 @@ use Rattle.std.specs.Vec.{with_items}
 use Rattle.std.proofs.lemmas.List.{with_items_is}
 use Rattle.mpc_rows.specs.LinearSystem.{height}
 use Rattle.mpc_rows.specs.Run.{count}
-use Rattle.mpc_whole.specs.declared.variables.Seat.{Seat}
-use Rattle.mpc_whole.specs.declared.variables.Seat.TheVariants.{Column}
-use Rattle.mpc_whole.specs.Table.{seat_at, variable_at, IsSeated, AreNonbasic}
+use Rattle.mpc_runs.specs.declared.variables.Seat.{Seat}
+use Rattle.mpc_runs.specs.declared.variables.Seat.TheVariants.{Column}
+use Rattle.mpc_runs.specs.Table.{seat_at, variable_at, IsSeated, AreNonbasic}
 use Rattle.mpc_whole.specs.Whole.{IsSwapped}
 use Rattle.mpc_scaled.specs.Scaled.{IsSmall}
 use Rattle.mpc_whole.specs.Judged.{IsPivotJudged, IsRowWithin, IsReducedPivot, IsMildlyUnderway}

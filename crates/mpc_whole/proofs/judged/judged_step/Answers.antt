@@ -2,8 +2,8 @@ use Rattle.std.proofs.Common.{ℤ, List, Some, None, ◌≡◌, ◌∙◌, ◌<�
 use Rattle.mpc_rows.specs.Least.{least}
 use Rattle.mpc_rows.specs.LinearSystem.{height}
 use Rattle.mpc_rows.specs.Run.{count, may_leave, may_enter, position}
-use Rattle.mpc_whole.specs.declared.variables.Seat.{Seat}
-use Rattle.mpc_whole.specs.Table.{IsSeated, AreNonbasic}
+use Rattle.mpc_runs.specs.declared.variables.Seat.{Seat}
+use Rattle.mpc_runs.specs.Table.{IsSeated, AreNonbasic}
 use Rattle.mpc_whole.specs.Whole.{HasBasis, HasSideValues, IsRowOf}
 use Rattle.mpc_whole.specs.Judged.{IsJudged, IsDividedRow}
 use Rattle.mpc_whole.proofs.DividedRows.{times_row, times_is, side_of_divided, rest_some, row_of_divided}

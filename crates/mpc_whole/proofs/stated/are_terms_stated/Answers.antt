@@ -2,11 +2,11 @@ use Rattle.std.proofs.Common.{ℕ, ◌≡◌, ◌∙◌, ◌<◌, length, sym, a
 use Rattle.std.specs.Int.{w128}
 use Rattle.std.proofs.lemmas.Int.{to_z-of_z}
 use borrow.Author.Count.{below_more}
-use Rattle.mpc_whole.specs.declared.variables.Seat.TheVariants.{Column}
-use Rattle.mpc_whole.specs.Table.{seat_at}
+use Rattle.mpc_runs.specs.declared.variables.Seat.TheVariants.{Column}
+use Rattle.mpc_runs.specs.Table.{seat_at}
 use Rattle.mpc_scaled.specs.Scaled.{whole_at}
 use Rattle.mpc_whole.specs.Judged.{row_cell, coefficient_of, IsTermStated}
-use Rattle.mpc_whole.proofs.Seats.{column_same}
+use Rattle.mpc_runs.proofs.Seats.{column_same}
 use Rattle.mpc_whole.proofs.stated.are_terms_stated.Goals as goal
 use Rattle.mpc_whole.proofs.stated.are_terms_stated.Goals.{After-column_of-c}
 

@@ -2,11 +2,11 @@ use Rattle.std.proofs.Common.{ℕ, ◌≡◌, ◌∙◌, ◌<◌, ◌≤◌, ◌
 use Rattle.std.specs.Int.{w128}
 use Rattle.std.proofs.lemmas.Int.{to_z-of_z}
 use borrow.Author.Count.{below_more}
-use Rattle.mpc_whole.specs.declared.variables.Seat.TheVariants.{Column}
-use Rattle.mpc_whole.specs.Table.{seat_at}
+use Rattle.mpc_runs.specs.declared.variables.Seat.TheVariants.{Column}
+use Rattle.mpc_runs.specs.Table.{seat_at}
 use Rattle.mpc_scaled.specs.Scaled.{scale_at}
 use Rattle.mpc_whole.specs.Judged.{row_cell}
-use Rattle.mpc_whole.proofs.Seats.{column_same}
+use Rattle.mpc_runs.proofs.Seats.{column_same}
 use Rattle.mpc_whole.proofs.stated.is_row_below.Goals as goal
 use Rattle.mpc_whole.proofs.stated.is_row_below.Goals.{After-column_of-c}
 

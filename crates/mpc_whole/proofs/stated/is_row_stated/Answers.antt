@@ -4,11 +4,11 @@ use Rattle.std.proofs.lemmas.Int.{to_z-of_z}
 use Rattle.std.proofs.lemmas.Option.{IfSome_then}
 use Rattle.mpc_exact.specs.Rational.{ℚ, ◌*ℚ◌, inv_ℚ}
 use Rattle.mpc_frac.specs.Fits.{FitsFrac}
-use Rattle.mpc_whole.specs.declared.variables.Seat.TheVariants.{Column}
-use Rattle.mpc_whole.specs.Table.{seat_at}
+use Rattle.mpc_runs.specs.declared.variables.Seat.TheVariants.{Column}
+use Rattle.mpc_runs.specs.Table.{seat_at}
 use Rattle.mpc_scaled.specs.Scaled.{whole_at}
 use Rattle.mpc_whole.specs.Judged.{row_cell, coefficient_of, IsTermStated}
-use Rattle.mpc_whole.proofs.Seats.{column_same}
+use Rattle.mpc_runs.proofs.Seats.{column_same}
 use Rattle.mpc_whole.proofs.stated.is_row_stated.Goals as goal
 
 pub row_cell-requires-clause-column : goal.row_cell-requires-clause-column

@@ -3,16 +3,16 @@ use Rattle.std.specs.Vec.{with_items}
 use Rattle.std.proofs.lemmas.List.{with_items_is}
 use Rattle.mpc_rows.specs.LinearSystem.{height}
 use Rattle.mpc_rows.specs.Run.{count}
-use Rattle.mpc_whole.specs.declared.variables.Seat.{Seat}
-use Rattle.mpc_whole.specs.declared.variables.Seat.TheVariants.{Row, Column}
-use Rattle.mpc_whole.specs.Table.{seat_at, variable_at, IsSeated, AreNonbasic}
+use Rattle.mpc_runs.specs.declared.variables.Seat.{Seat}
+use Rattle.mpc_runs.specs.declared.variables.Seat.TheVariants.{Row, Column}
+use Rattle.mpc_runs.specs.Table.{seat_at, variable_at, IsSeated, AreNonbasic}
 use Rattle.mpc_whole.specs.Moved.{AreFollowed}
 use Rattle.mpc_whole.specs.Running.{AreParts, IsPivot}
 use Rattle.mpc_whole.specs.Underway.{IsUnderway}
 use Rattle.mpc_whole.specs.Whole.{IsNarrow, IsSwapped, IsWholePivot}
 use Rattle.mpc_scaled.specs.Scaled.{whole_at, scale_at, IsSmall}
 use Rattle.mpc_whole.proofs.ColumnSums.{in_column}
-use Rattle.mpc_whole.proofs.Seats.{row_seat}
+use Rattle.mpc_runs.proofs.Seats.{row_seat}
 use Rattle.mpc_whole.proofs.ShortTurns.{leaver_side, side_below, leaver_in, leaver_seat, enterer_in, enterer_seat, seated_after}
 use Rattle.mpc_whole.proofs.WholeExchange.{rows_in}
 use Rattle.mpc_whole.proofs.WholeForm.{narrow_by_norms, pivot_narrow}

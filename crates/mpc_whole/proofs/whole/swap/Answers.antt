@@ -1,6 +1,6 @@
 use Rattle.std.proofs.Common.{◌≡◌, ◌<◌, set, sym, ◌∙◌, subst}
-use Rattle.mpc_whole.specs.declared.variables.Seat.TheVariants.{Row, Column}
-use Rattle.mpc_whole.proofs.Seats.{row_same, column_same}
+use Rattle.mpc_runs.specs.declared.variables.Seat.TheVariants.{Row, Column}
+use Rattle.mpc_runs.proofs.Seats.{row_same, column_same}
 use Rattle.mpc_whole.proofs.Nonbasic.{swapped}
 use Rattle.mpc_whole.proofs.whole.swap.Goals as goal
 

@@ -5,7 +5,7 @@ use Rattle.mpc_exact.proofs.IntRing.{int_reads, by_ring_ℤ}
 use Rattle.std.proofs.lemmas.Option.{IfSome_then}
 use Rattle.mpc_exact.specs.Rational.{quotient}
 use Rattle.mpc_scaled.specs.Scaled.{whole_at, scale_at}
-use Rattle.mpc_whole.proofs.Answered.{multiplier_own, multiplier_basic, multiplier_free}
+use Rattle.mpc_runs.proofs.Answered.{multiplier_own, multiplier_basic, multiplier_free}
 use Rattle.mpc_whole.proofs.WholeEnds.{negative_over, quotient_over}
 use Rattle.mpc_whole.proofs.WholeChanges.{negative_scaled}
 use Rattle.mpc_whole.proofs.whole_ends.multiplier.Goals as goal

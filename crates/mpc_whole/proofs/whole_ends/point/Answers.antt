@@ -4,7 +4,7 @@ use Rattle.mpc_exact.specs.Pair.{Pair}
 use Rattle.std.specs.Int.{w64, w128}
 use Rattle.std.proofs.lemmas.Int.{to_z-of_z}
 use Rattle.mpc_exact.specs.Rational.{ℚ, frac}
-use Rattle.mpc_whole.proofs.Answered.{no_pair, pair_of, pair_in, pair_found}
+use Rattle.mpc_runs.proofs.Answered.{no_pair, pair_of, pair_in, pair_found}
 use Rattle.mpc_scaled.specs.Scaled.{whole_at}
 use Rattle.mpc_whole.proofs.whole_ends.point.Goals as goal
 use Rattle.mpc_whole.proofs.whole_ends.point.Goals.{After-loop-j}

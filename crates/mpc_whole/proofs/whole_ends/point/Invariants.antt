@@ -1,7 +1,7 @@
 use Rattle.std.proofs.Common.{◌≡◌, ℕ, ◌<◌}
 use Rattle.mpc_exact.specs.Rational.{frac}
 use Rattle.mpc_scaled.specs.Scaled.{whole_at}
-use Rattle.mpc_whole.proofs.Answered.{pair_in}
+use Rattle.mpc_runs.proofs.Answered.{pair_in}
 use Rattle.mpc_whole.proofs.whole_ends.point.Given as goal
 
 abbrev pub invariant-loop-j : goal.invariant-loop-j

@@ -2,10 +2,10 @@ use Rattle.std.proofs.Common.{ℤ, List, length, ◌<◌, ◌≤◌, ◌-◌, sy
 use Rattle.std.proofs.lemmas.Option.{IfSome_then}
 use Rattle.mpc_rows.specs.LinearSystem.{height}
 use Rattle.mpc_rows.specs.Run.{count, last_position}
-use Rattle.mpc_whole.specs.declared.variables.Seat.{Seat}
-use Rattle.mpc_whole.specs.RunEnd.{IsMultipliers}
+use Rattle.mpc_runs.specs.declared.variables.Seat.{Seat}
+use Rattle.mpc_runs.specs.RunEnd.{IsMultipliers}
 use Rattle.mpc_whole.specs.Running.{IsRefuting}
-use Rattle.mpc_whole.specs.Table.{IsSeated}
+use Rattle.mpc_runs.specs.Table.{IsSeated}
 use Rattle.mpc_whole.specs.Whole.{HasBasis, IsRowOf}
 use Rattle.mpc_whole.specs.Judged.{IsDividedRow}
 use Rattle.mpc_whole.proofs.DividedRows.{times_row, times_is, side_of_divided, rest_some, row_of_divided}

@@ -1,5 +1,5 @@
 use Rattle.std.proofs.Common.{◌≡◌, ◌∙◌, ◌<◌, ◌≤◌, sym, subst, length, arith}
-use Rattle.mpc_whole.proofs.Answered.{pair_found}
+use Rattle.mpc_runs.proofs.Answered.{pair_found}
 use Rattle.mpc_whole.proofs.whole_ends.wide_point.Goals as goal
 use Rattle.mpc_whole.proofs.whole_ends.wide_point.Goals.{After-loop-j}
 

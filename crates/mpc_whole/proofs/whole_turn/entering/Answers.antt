@@ -1,7 +1,7 @@
 use Rattle.std.proofs.Common.{◌≡◌, ◌∙◌, ◌+◌, ◌<◌, sym, subst, arith}
 use Rattle.std.proofs.lemmas.Bool.{both_ways}
 use Rattle.mpc_rows.specs.Run.{may_enter}
-use Rattle.mpc_whole.specs.Table.{variable_at}
+use Rattle.mpc_runs.specs.Table.{variable_at}
 use Rattle.mpc_whole.proofs.Nonbasic.{IsFirstOf, none_yet, first_stays, first_moves, first_is, nobody_is, variable_below, all_enter}
 use Rattle.mpc_whole.proofs.whole_turn.entering.Goals as goal
 use Rattle.mpc_whole.proofs.whole_turn.entering.Goals.{then-y-first+then-enters, else-y-first, else-y-first-via-then-y-first+else-enters, else-y-first-via-else-y-first}

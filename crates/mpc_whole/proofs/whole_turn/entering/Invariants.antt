@@ -1,8 +1,8 @@
 use Rattle.std.proofs.Common.{ℕ, ◌<◌, List}
 use Rattle.mpc_rows.specs.LinearSystem.{height}
 use Rattle.mpc_rows.specs.Run.{Position, may_enter}
-use Rattle.mpc_whole.specs.declared.variables.Seat.{Seat}
-use Rattle.mpc_whole.specs.Table.{IsSeated, AreNonbasic}
+use Rattle.mpc_runs.specs.declared.variables.Seat.{Seat}
+use Rattle.mpc_runs.specs.Table.{IsSeated, AreNonbasic}
 use Rattle.mpc_whole.specs.Whole.{HasBasis, IsRowOf}
 use Rattle.mpc_whole.proofs.Nonbasic.{IsFirstOf}
 use Rattle.mpc_whole.proofs.whole_turn.entering.Given as goal

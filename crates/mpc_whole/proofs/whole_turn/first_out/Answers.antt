@@ -2,7 +2,7 @@ use Rattle.std.proofs.Common.{sym, ◌≡◌, ◌∙◌, ◌+◌, ◌-◌, arith
 use Rattle.mpc_exact.specs.Pair.{is_below}
 use Rattle.mpc_rows.specs.Run.{Position, may_leave, bound, value}
 use Rattle.mpc_whole.specs.Whole.{HasBasis}
-use Rattle.mpc_whole.proofs.Table.{least_none, least_some, least_skip, leave_not_basic}
+use Rattle.mpc_runs.proofs.Table.{least_none, least_some, least_skip, leave_not_basic}
 use Rattle.mpc_whole.proofs.WholeTurns.{none_below, none_up_to, leaves_as}
 use Rattle.mpc_whole.proofs.whole_turn.first_out.Goals as goal
 use Rattle.mpc_whole.proofs.whole_turn.first_out.Goals.{After-is_out}

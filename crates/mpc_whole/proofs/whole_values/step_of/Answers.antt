@@ -1,7 +1,7 @@
 use Rattle.std.proofs.Common.{◌∙◌, ◌<◌, ◌+◌, sym, ap, arith, cond, pos, negsuc, neg_ℤ}
 use Rattle.mpc_exact.specs.Rational.{int}
 use Rattle.mpc_scaled.specs.Scaled.{scale_at}
-use Rattle.mpc_whole.proofs.LeftSides.{bound-second}
+use Rattle.mpc_runs.proofs.LeftSides.{bound-second}
 use Rattle.mpc_whole.proofs.WholeChanges.{strict_over}
 use Rattle.mpc_whole.proofs.WholeSteps.{read_small}
 use Rattle.mpc_whole.proofs.WholeSums.{zero_over}

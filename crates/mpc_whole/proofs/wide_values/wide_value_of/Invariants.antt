@@ -3,11 +3,11 @@ use Rattle.mpc_exact.specs.Rational.{frac}
 use Rattle.mpc_space.specs.Total.{total}
 use Rattle.mpc_rows.specs.LinearSystem.{height}
 use Rattle.mpc_rows.specs.Run.{Position, IsTableau}
-use Rattle.mpc_whole.specs.declared.variables.Seat.{Seat}
-use Rattle.mpc_whole.specs.Table.{variable_at, IsSeated, AreNonbasic}
+use Rattle.mpc_runs.specs.declared.variables.Seat.{Seat}
+use Rattle.mpc_runs.specs.Table.{variable_at, IsSeated, AreNonbasic}
 use Rattle.mpc_whole.specs.Whole.{IsForm}
 use Rattle.mpc_scaled.specs.Scaled.{HasSides}
-use Rattle.mpc_whole.proofs.Table.{first_terms, second_terms}
+use Rattle.mpc_runs.proofs.Table.{first_terms, second_terms}
 use Rattle.mpc_whole.proofs.wide_values.wide_value_of.Given as goal
 
 abbrev pub invariant-loop-c : goal.invariant-loop-c

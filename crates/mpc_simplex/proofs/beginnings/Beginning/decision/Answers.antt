@@ -1,8 +1,8 @@
 use Rattle.std.proofs.Common.{◌≡◌, rules, IfSome, Some, subst}
 use Rattle.mpc_rows.specs.LinearSystem.{LinearSystem, IsPairPoint}
 use Rattle.mpc_rows.specs.Refutation.{Refutes}
-use Rattle.mpc_whole.specs.declared.End.TheVariants.{Point, Refuted}
-use Rattle.mpc_whole.specs.RunEnd.{IsEnd}
+use Rattle.mpc_runs.specs.declared.End.TheVariants.{Point, Refuted}
+use Rattle.mpc_runs.specs.RunEnd.{IsEnd}
 use Rattle.mpc_simplex.specs.Answer.{HasPoint, EndsWithPoint, EndsRefuted}
 use Rattle.mpc_simplex.proofs.Decided.{ended-point, ended-refuted, ended-no_point}
 use Rattle.mpc_simplex.proofs.beginnings.Beginning.decision.Goals as goal

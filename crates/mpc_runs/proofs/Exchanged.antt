@@ -6,16 +6,16 @@ use Rattle.mpc_frac.specs.Fits.{FitsFrac, FitsSum}
 use Rattle.mpc_linear.specs.Dot.{TermFits}
 use Rattle.mpc_space.specs.Total.{unit}
 use Rattle.mpc_space.proofs.Total.{unit-other}
-use Rattle.mpc_whole.specs.declared.variables.Seat.{Seat}
-use Rattle.mpc_whole.specs.declared.variables.Seat.TheVariants.{Row, Column}
+use Rattle.mpc_runs.specs.declared.variables.Seat.{Seat}
+use Rattle.mpc_runs.specs.declared.variables.Seat.TheVariants.{Row, Column}
 use Rattle.mpc_rows.specs.Run.{Position, IsTableau, entering_row, other_row, pivot}
 use Rattle.mpc_rows.specs.RunWidth.{EnteringFits, EntryFits as PivotEntryFits, RowFits, RowsFit}
-use Rattle.mpc_whole.specs.Table.{seat_at, in_row, cell_at, between, position_of, IsSeated}
-use Rattle.mpc_whole.specs.Exchange.{own_cell, changed, IsExchanged, OwnFits, ChangeFits, ChangesFit, ExchangeFits}
-use Rattle.mpc_whole.proofs.Outside.{IsBounded}
-use Rattle.mpc_whole.proofs.Pivot.{basic-at_leaving, basic-at_entering, basic-other}
-use Rattle.mpc_whole.proofs.Entries.{entering_leaving, entering_zero, entering_else, entering_empty, other_zero, other_leaving, other_else, other_still, other_empty, new_leaving, new_entering, new_other}
-use Rattle.mpc_whole.proofs.Seats.{seat_cases, row_seat, column_seat, seats_apart, row_same, column_same, basic_is, cell_read, unit_row, tableau_of, position_same}
+use Rattle.mpc_runs.specs.Table.{seat_at, in_row, cell_at, between, position_of, IsSeated}
+use Rattle.mpc_runs.specs.Exchange.{own_cell, changed, IsExchanged, OwnFits, ChangeFits, ChangesFit, ExchangeFits}
+use Rattle.mpc_runs.proofs.Outside.{IsBounded}
+use Rattle.mpc_runs.proofs.Pivot.{basic-at_leaving, basic-at_entering, basic-other}
+use Rattle.mpc_runs.proofs.Entries.{entering_leaving, entering_zero, entering_else, entering_empty, other_zero, other_leaving, other_else, other_still, other_empty, new_leaving, new_entering, new_other}
+use Rattle.mpc_runs.proofs.Seats.{seat_cases, row_seat, column_seat, seats_apart, row_same, column_same, basic_is, cell_read, unit_row, tableau_of, position_same}
 
 module _ (h w n : ℕ) (seats : List Seat) (entries : List ℚ) (z : IsSeated h w n seats) (l e r₀ c₀ : ℕ) (lb : l < n) (eb : e < n) (sl : seat_at seats l ≡ Row r₀) (se : seat_at seats e ≡ Column c₀) where
   p : Position

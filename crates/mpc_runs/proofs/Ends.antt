@@ -4,9 +4,9 @@ use Rattle.std.proofs.lemmas.Bool.{cond-true, cond-false, cases_eq, cases_lt, bo
 use Rattle.mpc_rows.specs.Least.{least}
 use Rattle.mpc_rows.specs.LinearSystem.{LinearSystem}
 use Rattle.mpc_rows.specs.Run.{Position, count, turn, moved, opening, position, is_pivot, GoesOn, steps_within, steps_from, steps, last_position}
-use Rattle.mpc_whole.proofs.LeastLemmas.{LeastIs, least-is}
-use Rattle.mpc_whole.proofs.Cycle.{no_basis_twice}
-use Rattle.mpc_whole.proofs.Pigeonhole.{two_agree}
+use Rattle.mpc_runs.proofs.LeastLemmas.{LeastIs, least-is}
+use Rattle.mpc_runs.proofs.Cycle.{no_basis_twice}
+use Rattle.mpc_runs.proofs.Pigeonhole.{two_agree}
 
 -- the positions 0 to k have different bases
 pub few_steps : (s : LinearSystem) (k : ℕ) → ((i : ℕ) → i < k → GoesOn s i) → k < 2 ^ count s

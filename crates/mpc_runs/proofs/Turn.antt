@@ -7,9 +7,9 @@ use Rattle.mpc_rows.specs.Least.{least}
 use Rattle.mpc_exact.specs.Pair.{IsBelow, IsAtMost, is_below}
 use Rattle.mpc_rows.specs.LinearSystem.{LinearSystem}
 use Rattle.mpc_rows.specs.Run.{Position, Turn, has_point, is_refuted, goes_on, count, is_unknown, is_zero, bound, value, may_leave, may_enter, turn, turn_at, turn_from}
-use Rattle.mpc_whole.proofs.LeastLemmas.{IsLeast, LeastIs, least-is}
+use Rattle.mpc_runs.proofs.LeastLemmas.{IsLeast, LeastIs, least-is}
 use Rattle.mpc_exact.proofs.Pair.{is_below-true, is_below-false}
-use Rattle.mpc_whole.proofs.Flags.{true_test, test_true, not_lt}
+use Rattle.mpc_runs.proofs.Flags.{true_test, test_true, not_lt}
 
 -- x is a basic s above its bound
 pub record IsViolated (s : LinearSystem) (p : Position) (x : ℕ) : Type 0 where

@@ -4,8 +4,8 @@ use Rattle.mpc_exact.specs.Rational.{ℚ}
 use Rattle.mpc_space.specs.Vector.{coordinate}
 use Rattle.mpc_rows.specs.LinearSystem.{LinearSystem, height}
 use Rattle.mpc_rows.specs.Run.{Position, has_point, is_refuted, value, turn, last_position, multiplier}
-use Rattle.mpc_whole.specs.declared.End.{End}
-use Rattle.mpc_whole.specs.declared.End.TheVariants.{Point, Refuted}
+use Rattle.mpc_runs.specs.declared.End.{End}
+use Rattle.mpc_runs.specs.declared.End.TheVariants.{Point, Refuted}
 
 -- the pairs are the values of the unknowns at a position
 pub record IsValues (s : LinearSystem) (p : Position) (v : List (ℚ × ℚ)) : Type 0 where

@@ -4,9 +4,9 @@ use Rattle.std.proofs.Common.{◌≡◌, ℕ, ◌∙◌, ap, le-ltb}
 use Rattle.mpc_exact.specs.Rational.{◌+ℚ◌, ◌-ℚ◌, ◌*ℚ◌, inv_ℚ}
 use Rattle.mpc_rows.specs.LinearSystem.{LinearSystem}
 use Rattle.mpc_rows.specs.Run.{Position, IsTableau, count, rest, bound, value, pivot}
-use Rattle.mpc_whole.proofs.Read.{rest_bound}
-use Rattle.mpc_whole.proofs.TableauRows.{row_pivot}
-use Rattle.mpc_whole.proofs.Turn.{Goes}
+use Rattle.mpc_runs.proofs.Read.{rest_bound}
+use Rattle.mpc_runs.proofs.TableauRows.{row_pivot}
+use Rattle.mpc_runs.proofs.Turn.{Goes}
 
 module _ (s : LinearSystem) (p : Position) (t : IsTableau p) (l e : ℕ) (g : Goes s p l e) where
   rests_at_bound : rest s l ≡ bound s l

@@ -6,15 +6,15 @@ use Rattle.mpc_frac.specs.Fits.{FitsFrac, FitsSum}
 use Rattle.mpc_linear.specs.Dot.{TermFits as Part}
 use Rattle.mpc_linear.specs.ZeroTheorems.{ZeroTheorems}
 use Rattle.mpc_exact.specs.Pair.{Pair}
-use Rattle.mpc_whole.proofs.Read.{rest_unknown}
+use Rattle.mpc_runs.proofs.Read.{rest_unknown}
 use Rattle.mpc_exact.proofs.RationalRing.{reads, by_ring}
 use Rattle.mpc_space.specs.Total.{total}
 use Rattle.mpc_rows.specs.LinearSystem.{LinearSystem}
 use Rattle.mpc_rows.specs.Run.{Position, IsTableau, count, value, rest}
-use Rattle.mpc_whole.proofs.TableauRows.{stands}
+use Rattle.mpc_runs.proofs.TableauRows.{stands}
 use Rattle.mpc_rows.specs.RunWidth.{TermFits, ValueFits}
 use Rattle.mpc_space.proofs.Total.{total-suc, total-zeros}
-use Rattle.mpc_whole.proofs.Table.{first_terms, second_terms}
+use Rattle.mpc_runs.proofs.Table.{first_terms, second_terms}
 
 zero_end : (a x : ℚ) → a +ℚ int (pos 0) *ℚ x ≡ a
 zero_end a x = by_ring (a ∷ x ∷ []) (search reads depth 30) (search reads depth 30) tt

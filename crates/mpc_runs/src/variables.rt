@@ -2,7 +2,7 @@
 
 ghost use Rattle.std.specs.Prelude.{◌≡◌, ◌<◌, IfOk, length, true, false};
 ghost use Rattle.mpc_rows.specs.Run.{is_unknown};
-ghost use Rattle.mpc_whole.specs.Table.{seat_at, in_row, opening_seat, IsOpeningSeats};
+ghost use Rattle.mpc_runs.specs.Table.{seat_at, in_row, opening_seat, IsOpeningSeats};
 
 use mpc_rows::System;
 use std::alloc::{AllocError, Global};

@@ -11,10 +11,10 @@ use Rattle.mpc_rows.specs.Run.{Position, count, is_unknown, bound, value, positi
 use Rattle.mpc_space.proofs.Total.{total-same, total-add, total-scale}
 use Rattle.mpc_exact.proofs.Pair.{IsPairPositive, IsPairNonneg, pair_positive_add, pair_positive_weak, pair_nonneg_of_zero, pair_positive_scale, pair_nonneg_scale, pair_nonneg_zero, below_gap, at_most_gap, pair_conflict}
 use Rattle.mpc_space.proofs.Total.{pair_total_positive}
-use Rattle.mpc_whole.proofs.TableauRows.{Meets, row_value}
-use Rattle.mpc_whole.proofs.Turn.{Goes, Leaves}
-use Rattle.mpc_whole.proofs.Crossing.{Rises, Falls, Greatest, rises_around, falls_around, greatest}
-use Rattle.mpc_whole.proofs.Positions.{tableau, rows_across, firsts, seconds, firsts_meet, seconds_meet, value_rest, rest_side, left_at, entered_at, basic_at, goes_at, after_left, after_entered, rise_entered, fall_left}
+use Rattle.mpc_runs.proofs.TableauRows.{Meets, row_value}
+use Rattle.mpc_runs.proofs.Turn.{Goes, Leaves}
+use Rattle.mpc_runs.proofs.Crossing.{Rises, Falls, Greatest, rises_around, falls_around, greatest}
+use Rattle.mpc_runs.proofs.Positions.{tableau, rows_across, firsts, seconds, firsts_meet, seconds_meet, value_rest, rest_side, left_at, entered_at, basic_at, goes_at, after_left, after_entered, rise_entered, fall_left}
 
 -- ---- over numbers alone
 turn_signs : (c a b : ℚ) → neg_ℚ c *ℚ (b -ℚ a) ≡ c *ℚ (a -ℚ b)

@@ -5,8 +5,8 @@ use Rattle.mpc_exact.specs.Rational.{ℚ, int}
 use Rattle.mpc_space.specs.Total.{unit}
 use Rattle.mpc_rows.specs.LinearSystem.{LinearSystem, height, entry}
 use Rattle.mpc_rows.specs.Run.{Position, is_unknown}
-use Rattle.mpc_whole.specs.declared.variables.Seat.{Seat}
-use Rattle.mpc_whole.specs.declared.variables.Seat.TheVariants.{Row, Column}
+use Rattle.mpc_runs.specs.declared.variables.Seat.{Seat}
+use Rattle.mpc_runs.specs.declared.variables.Seat.TheVariants.{Row, Column}
 
 abbrev pub seat_at : List Seat → ℕ → Seat
 seat_at seats x = get_or seats x (Row 0)

@@ -8,7 +8,7 @@ use Rattle.mpc_rows.specs.LinearSystem.{LinearSystem, row_at, height, entry}
 use Rattle.mpc_rows.specs.NumberedSystems.{left_side}
 use Rattle.mpc_rows.specs.Run.{count, is_unknown, bound, opening}
 use Rattle.mpc_space.proofs.Total.{unit-same, unit-other, total-same, total-zeros, total-unit, total-split}
-use Rattle.mpc_whole.proofs.TableauRows.{Meets, row_value, opening_row, opening_rest, opening_known}
+use Rattle.mpc_runs.proofs.TableauRows.{Meets, row_value, opening_row, opening_rest, opening_known}
 
 pub is_side : (s : LinearSystem) (i : ℕ) → is_unknown s (s.width + i) ≡ false
 is_side s i = le-ltb (s.width + i) s.width (omega arith)

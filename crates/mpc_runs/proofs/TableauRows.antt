@@ -7,7 +7,7 @@ use Rattle.mpc_space.specs.Total.{total, unit}
 use Rattle.mpc_rows.specs.LinearSystem.{LinearSystem, entry}
 use Rattle.mpc_rows.specs.Run.{Position, IsTableau, pivot, opening, is_unknown}
 use Rattle.mpc_space.proofs.Total.{unit-same, unit-other, total-same, total-add, total-scale, total-unit}
-use Rattle.mpc_whole.proofs.Pivot.{update, basic-at_leaving, basic-at_entering, basic-other}
+use Rattle.mpc_runs.proofs.Pivot.{update, basic-at_leaving, basic-at_entering, basic-other}
 
 -- the left side of a variable's row, at the values x of all n variables
 abbrev pub row_value : ℕ → Position → (ℕ → ℚ) → ℕ → ℚ

@@ -1,6 +1,6 @@
 use Rattle.std.proofs.Common.{◌≡◌, ℕ, ◌<◌, length}
-use Rattle.mpc_whole.specs.Table.{seat_at, opening_seat}
-use Rattle.mpc_whole.proofs.variables.opening_seats.Given as goal
+use Rattle.mpc_runs.specs.Table.{seat_at, opening_seat}
+use Rattle.mpc_runs.proofs.variables.opening_seats.Given as goal
 
 abbrev pub invariant-loop-x : goal.invariant-loop-x
 invariant-loop-x l = record {

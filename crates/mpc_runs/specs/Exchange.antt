@@ -3,7 +3,7 @@ use Rattle.std.specs.Prelude.{◌≡◌, ℕ, ◌+◌, ◌*◌, ◌<◌, ◌≤�
 use Rattle.mpc_exact.specs.Rational.{ℚ, int, ◌+ℚ◌, ◌*ℚ◌, neg_ℚ, inv_ℚ}
 use Rattle.mpc_frac.specs.Fits.{FitsFrac}
 use Rattle.mpc_linear.specs.Dot.{TermFits}
-use Rattle.mpc_whole.specs.Table.{cell_at}
+use Rattle.mpc_runs.specs.Table.{cell_at}
 
 -- the new row l
 unfoldable pub own_cell : ℕ → List ℚ → ℕ → ℕ → ℕ → ℚ

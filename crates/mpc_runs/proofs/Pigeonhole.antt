@@ -2,7 +2,7 @@
 use Rattle.std.proofs.Common.{◌≡◌, ℕ, zero, suc, ◌+◌, ◌^◌, ◌<◌, ◌≤◌, Bool, true, false, cond, eqb, Option, Some, None, refl, sym, ◌∙◌, subst, arith, ◌⊎◌, inl, inr, eq-eqb, eqb-true, ne_eqb, pow-suc}
 use Rattle.std.proofs.lemmas.Bool.{cond-true, cond-false, cases_eq, eqb-false}
 use Rattle.mpc_rows.specs.Least.{least}
-use Rattle.mpc_whole.proofs.LeastLemmas.{LeastIs, least-is}
+use Rattle.mpc_runs.proofs.LeastLemmas.{LeastIs, least-is}
 
 -- two of the values f 0 .. f (n - 1) are equal
 pub record Twice (f : ℕ → ℕ) (n : ℕ) : Type 0 where

@@ -4,17 +4,17 @@ use Rattle.mpc_exact.specs.Rational.{ℚ, int}
 use Rattle.mpc_rows.specs.Least.{least}
 use Rattle.mpc_rows.specs.LinearSystem.{LinearSystem, height}
 use Rattle.mpc_rows.specs.Run.{Position, has_point, is_refuted, goes_on, count, may_leave, may_enter, turn, turn_from, turn_at, moved, is_pivot, pivot, opening, steps_from, last_position}
-use Rattle.mpc_whole.specs.declared.variables.Seat.{Seat}
-use Rattle.mpc_whole.specs.declared.variables.Seat.TheVariants.{Row, Column}
-use Rattle.mpc_whole.specs.Table.{seat_at, cell_at, IsSeated, IsTable, IsOpeningSeats, IsOpeningEntries, position_of}
-use Rattle.mpc_whole.specs.Exchange.{IsExchanged, ExchangeFits}
+use Rattle.mpc_runs.specs.declared.variables.Seat.{Seat}
+use Rattle.mpc_runs.specs.declared.variables.Seat.TheVariants.{Row, Column}
+use Rattle.mpc_runs.specs.Table.{seat_at, cell_at, IsSeated, IsTable, IsOpeningSeats, IsOpeningEntries, position_of}
+use Rattle.mpc_runs.specs.Exchange.{IsExchanged, ExchangeFits}
 use Rattle.mpc_rows.specs.RunWidth.{EnteringFits, RowsFit}
-use Rattle.mpc_whole.specs.RunEnd.{IsValues, IsMultipliers, EndsWithPoint, EndsRefuted}
-use Rattle.mpc_whole.proofs.Turn.{Goes, turn-at}
-use Rattle.mpc_whole.proofs.Ends.{Reached, reached_next, reached_opening, steps_fall, stopped_last}
-use Rattle.mpc_whole.proofs.Outside.{IsBounded, within}
-use Rattle.mpc_whole.proofs.Seats.{cell_read, opening_is}
-use Rattle.mpc_whole.proofs.Exchanged.{new_seated, exchange_fits, exchange_fits_back, exchanged_is}
+use Rattle.mpc_runs.specs.RunEnd.{IsValues, IsMultipliers, EndsWithPoint, EndsRefuted}
+use Rattle.mpc_runs.proofs.Turn.{Goes, turn-at}
+use Rattle.mpc_runs.proofs.Ends.{Reached, reached_next, reached_opening, steps_fall, stopped_last}
+use Rattle.mpc_runs.proofs.Outside.{IsBounded, within}
+use Rattle.mpc_runs.proofs.Seats.{cell_read, opening_is}
+use Rattle.mpc_runs.proofs.Exchanged.{new_seated, exchange_fits, exchange_fits_back, exchanged_is}
 
 -- ---- what the searches say of the turn
 module _ (s : LinearSystem) (p : Position) (n : ℕ) (whole : count s ≡ n) where

@@ -6,12 +6,12 @@ use Rattle.mpc_exact.specs.Rational.{ℚ, int}
 use Rattle.mpc_space.specs.Total.{unit}
 use Rattle.mpc_space.proofs.Total.{unit-other}
 use Rattle.mpc_rows.specs.LinearSystem.{LinearSystem, height}
-use Rattle.mpc_whole.specs.declared.variables.Seat.{Seat}
-use Rattle.mpc_whole.specs.declared.variables.Seat.TheVariants.{Row, Column}
+use Rattle.mpc_runs.specs.declared.variables.Seat.{Seat}
+use Rattle.mpc_runs.specs.declared.variables.Seat.TheVariants.{Row, Column}
 use Rattle.mpc_rows.specs.Run.{Position, IsTableau, is_unknown, opening}
-use Rattle.mpc_whole.specs.Table.{seat_at, in_row, cell_at, between, position_of, IsSeated, IsOpeningSeats, IsOpeningEntries}
-use Rattle.mpc_whole.proofs.Outside.{IsBounded}
-use Rattle.mpc_whole.proofs.Read.{opening_unknown, opening_side, opening_none, unknown_below, from_unknown}
+use Rattle.mpc_runs.specs.Table.{seat_at, in_row, cell_at, between, position_of, IsSeated, IsOpeningSeats, IsOpeningEntries}
+use Rattle.mpc_runs.proofs.Outside.{IsBounded}
+use Rattle.mpc_runs.proofs.Read.{opening_unknown, opening_side, opening_none, unknown_below, from_unknown}
 
 pub seat_cases : (q : Seat) → ((r : ℕ) × (q ≡ Row r)) ⊎ ((c : ℕ) × (q ≡ Column c))
 seat_cases (Row r) = inl (r, refl)

@@ -9,10 +9,10 @@ use Rattle.mpc_rows.specs.declared.systems.Row.{Row}
 use Rattle.mpc_rows.specs.LinearSystem.{LinearSystem, height, entry, no_row}
 use Rattle.mpc_rows.specs.Run.{Position, IsTableau, Turn, has_point, is_refuted, goes_on, count, is_unknown, opening, pivot, moved, turn, position}
 use Rattle.mpc_space.proofs.Total.{unit-other}
-use Rattle.mpc_whole.proofs.Pivot.{update, basic-other}
-use Rattle.mpc_whole.proofs.TableauRows.{opening_row, opening_rest, opening_known}
-use Rattle.mpc_whole.proofs.Turn.{TurnIs, Goes, turn-is}
-use Rattle.mpc_whole.proofs.Positions.{tableau}
+use Rattle.mpc_runs.proofs.Pivot.{update, basic-other}
+use Rattle.mpc_runs.proofs.TableauRows.{opening_row, opening_rest, opening_known}
+use Rattle.mpc_runs.proofs.Turn.{TurnIs, Goes, turn-is}
+use Rattle.mpc_runs.proofs.Positions.{tableau}
 
 pub record IsBounded (n : ℕ) (p : Position) : Type 0 where
   pub basic : (x : ℕ) → n ≤ x → p.is_basic x ≡ true

@@ -8,7 +8,7 @@ use Rattle.mpc_rows.specs.LinearSystem.{LinearSystem}
 use Rattle.mpc_rows.specs.Run.{Position, count, is_unknown, is_zero, bound, rest, value, may_leave, may_enter}
 use Rattle.std.specs.Prelude.{⊤}
 use Rattle.mpc_space.proofs.Total.{total-suc}
-use Rattle.mpc_whole.proofs.LeastLemmas.{LeastIs, least-is}
+use Rattle.mpc_runs.proofs.LeastLemmas.{LeastIs, least-is}
 
 pub value_first : (s : LinearSystem) (p : Position) (x n : ℕ) → count s ≡ n → total n (λ y. p.coefficient x y *ℚ (rest s y).first) ≡ (value s p x).first
 unfolding value

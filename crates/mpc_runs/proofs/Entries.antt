@@ -5,7 +5,7 @@ use Rattle.mpc_exact.specs.Rational.{ℚ, int, ◌+ℚ◌, ◌*ℚ◌, neg_ℚ, 
 use Rattle.mpc_space.specs.Total.{unit}
 use Rattle.mpc_exact.proofs.RationalRing.{reads, by_ring}
 use Rattle.mpc_rows.specs.Run.{Position, IsTableau, entering_row, other_row, pivot}
-use Rattle.mpc_whole.proofs.Pivot.{entering-at_leaving, entering-at_entering, entering-other, other-at_entering, other-at_leaving, other-other, pivot-at_leaving, pivot-at_entering, pivot-other}
+use Rattle.mpc_runs.proofs.Pivot.{entering-at_leaving, entering-at_entering, entering-other, other-at_entering, other-at_leaving, other-other, pivot-at_leaving, pivot-at_entering, pivot-other}
 
 module _ (p : Position) (l e : ℕ) where
   pub entering_leaving : (y : ℕ) → y ≡ l → inv_ℚ (p.coefficient l e) ≡ entering_row p l e y

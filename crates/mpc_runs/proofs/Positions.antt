@@ -4,9 +4,9 @@ use Rattle.std.proofs.lemmas.Bool.{cond-false, cases_eq, both_ways}
 use Rattle.mpc_exact.specs.Rational.{ℚ}
 use Rattle.mpc_rows.specs.LinearSystem.{LinearSystem}
 use Rattle.mpc_rows.specs.Run.{Position, IsTableau, Turn, has_point, is_refuted, goes_on, count, is_unknown, bound, rest, value, turn, moved, pivot, opening, position, is_pivot, leaving, entering, GoesOn}
-use Rattle.mpc_whole.proofs.Pivot.{basic-at_leaving, basic-at_entering, basic-other}
-use Rattle.mpc_whole.proofs.TableauRows.{Meets, meets_pivot, pivot_meets, tableau_pivot, tableau_opening, values_meet, stands}
-use Rattle.mpc_whole.proofs.Turn.{TurnIs, Goes, turn-is}
+use Rattle.mpc_runs.proofs.Pivot.{basic-at_leaving, basic-at_entering, basic-other}
+use Rattle.mpc_runs.proofs.TableauRows.{Meets, meets_pivot, pivot_meets, tableau_pivot, tableau_opening, values_meet, stands}
+use Rattle.mpc_runs.proofs.Turn.{TurnIs, Goes, turn-is}
 
 -- the same values meet the rows of two positions
 pub record SameRows (n : ℕ) (p q : Position) : Type 0 where

@@ -5,11 +5,11 @@ use Rattle.mpc_exact.specs.Rational.{ℚ}
 use Rattle.mpc_rows.specs.LinearSystem.{LinearSystem}
 use Rattle.mpc_rows.specs.Run.{Position, IsTableau, goes_on, count, turn, moved, is_pivot, leaving, entering, opening, position, steps}
 use Rattle.mpc_rows.specs.RunWidth.{ValuesFit, EnteringFits, RowsFit, PositionFits, RunFits}
-use Rattle.mpc_whole.specs.declared.variables.Seat.{Seat}
-use Rattle.mpc_whole.specs.Table.{position_of}
-use Rattle.mpc_whole.specs.Exchange.{IsExchanged, ExchangeFits}
-use Rattle.mpc_whole.proofs.Positions.{tableau}
-use Rattle.mpc_whole.proofs.Ends.{Reached, reached_next, reached_opening, run_ends}
+use Rattle.mpc_runs.specs.declared.variables.Seat.{Seat}
+use Rattle.mpc_runs.specs.Table.{position_of}
+use Rattle.mpc_runs.specs.Exchange.{IsExchanged, ExchangeFits}
+use Rattle.mpc_runs.proofs.Positions.{tableau}
+use Rattle.mpc_runs.proofs.Ends.{Reached, reached_next, reached_opening, run_ends}
 
 pub record Going (s : LinearSystem) (p : Position) : Type 0 where
   pub reached : Reached s p
