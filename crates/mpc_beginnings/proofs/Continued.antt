@@ -11,9 +11,8 @@ use Rattle.mpc_scaled.specs.declared.systems.WholeNumbers.{WholeNumbers}
 use Rattle.mpc_runs.specs.Table.{IsSeated}
 use Rattle.mpc_scaled.specs.Scaled.{whole_at, scale_at, IsSmall}
 use Rattle.mpc_runs.proofs.Seats.{opening_seated}
-use Rattle.mpc_whole.proofs.WholeRows.{form_first}
-use Rattle.mpc_whole.proofs.WholeSizes.{opening_underway}
-use Rattle.mpc_whole.proofs.WholeTurns.{unknowns_stay}
+use Rattle.mpc_whole.specs.PositionTheorems.{PositionTheorems}
+use Rattle.mpc_runs.proofs.Stays.{unknowns_stay}
 use Rattle.mpc_beginnings.specs.Beginnings.{lengthened}
 use Rattle.mpc_beginnings.specs.LongerSeats.{AreLongerSeats}
 use Rattle.mpc_beginnings.specs.RunLists.{AreOpening, AreLonger}
@@ -39,23 +38,20 @@ opening_lists s l o = record {
   second_size = o.second_size;
 }
 
-pub opening_within : (s : LinearSystem) (m : WholeNumbers) → AreNumbers s m → (l : Listed) → AreOpening s l → (first : ℕ) → first ≡ s.width
+pub opening_within : PositionTheorems → (s : LinearSystem) (m : WholeNumbers) → AreNumbers s m → (l : Listed) → AreOpening s l → (first : ℕ) → first ≡ s.width
     → IsUnderwayWithin s m l (record { den = 1; own = 1; greatest = 0; greatest_den = 0; product = 0; first = first })
-opening_within s m a l o first e =
+opening_within theorems s m a l o first e =
     subst (λ f. IsUnderwayWithin s m l (record { den = 1; own = 1; greatest = 0; greatest_den = 0; product = 0; first = f })) (sym e) (record {
       within = λ most g h r.
-          opening_underway s m.scales.now (count s) l.seats l.v (form_first s (count s) refl l.seats o.seats m.scales.now a.whole.scales l.v o.unit) l.firsts l.seconds o.firsts o.seconds;
+          (theorems.opening s m.scales.now a.whole.scales l.seats o.seats l.v o.unit l.firsts l.seconds o.firsts o.seconds).0;
     })
 
-pub opening_with_room : (s : LinearSystem) (m : WholeNumbers) → AreNumbers s m → (l : Listed) → AreOpening s l → (first : ℕ) → first ≡ s.width
+pub opening_with_room : PositionTheorems → (s : LinearSystem) (m : WholeNumbers) → AreNumbers s m → (l : Listed) → AreOpening s l → (first : ℕ) → first ≡ s.width
     → IsUnderwayWithRoom s m l (record { den = 1; own = 1; greatest = 0; greatest_den = 0; product = 0; first = first })
-unfolding opening_underway
-opening_with_room s m a l o first e =
+opening_with_room theorems s m a l o first e =
+    let u = theorems.opening s m.scales.now a.whole.scales l.seats o.seats l.v o.unit l.firsts l.seconds o.firsts o.seconds in
     subst (λ f. IsUnderwayWithRoom s m l (record { den = 1; own = 1; greatest = 0; greatest_den = 0; product = 0; first = f })) (sym e) (record {
-      within = λ r. record {
-        underway = opening_underway s m.scales.now (count s) l.seats l.v (form_first s (count s) refl l.seats o.seats m.scales.now a.whole.scales l.v o.unit) l.firsts l.seconds o.firsts o.seconds;
-        before = λ known. record { each = λ q h. absurd (omega arith) };
-      };
+      within = λ r. record { underway = u.0; before = λ known. record { each = λ q h. absurd (let z = u.1 in omega arith) } };
     })
 
 -- ---- where the run of the first rows ended
@@ -85,14 +81,14 @@ module _ (s : LinearSystem) (more : List Row) (k : List ℕ) (old : Listed) (p :
     second_size = rw g.seconds z.lists.second_size;
   }
 
-  module _ (first : ℕ) (f : IsFirstLater s first) (m : WholeNumbers) (a : AreNumbers (lengthened s more) m) (same : (x : ℕ) → x < length k → scale_at m.scales.now x ≡ scale_at k x) where
+  module _ (theorems : PositionTheorems) (first : ℕ) (f : IsFirstLater s first) (m : WholeNumbers) (a : AreNumbers (lengthened s more) m) (same : (x : ℕ) → x < length k → scale_at m.scales.now x ≡ scale_at k x) where
     same_scales : (x : ℕ) → x < count s → scale_at m.scales.now x ≡ scale_at k x
     same_scales x l = same x (subst (λ n. x < n) (sym z.scales) l)
 
     pub within_longer : IsUnderwayWithin (lengthened s more) m now (record p { first = first })
     within_longer = record {
       within = λ most b c r.
-          rw (g.v, g.firsts, g.seconds) (longer_underway s more k m.scales.now same_scales (fits_before s more k m.scales.now same_scales m.a.now m.b.now a.whole most b p.greatest p.greatest_den m.most_scale a.scales c r z.ended.before)
+          rw (g.v, g.firsts, g.seconds) (longer_underway s more k m.scales.now same_scales (fits_before s more k m.scales.now same_scales theorems m.a.now m.b.now a.whole most b p.greatest p.greatest_den m.most_scale a.scales c r z.ended.before)
           (count s) refl old.seats now.seats grown p.den old.v z.ended.form (count (lengthened s more)) p.greatest p.greatest_den z.ended.before old.firsts old.seconds z.ended.values first f.side (f.stay more));
     }
 
@@ -109,7 +105,7 @@ module _ (s : LinearSystem) (more : List Row) (k : List ℕ) (old : Listed) (p :
 
       fits_with_room : (q : ℕ) → q < steps s → PositionFits (lengthened s more) (position (lengthened s more) q)
       fits_with_room q l =
-          mild_fits (lengthened s more) m a (record p { first = first }) r q (let h : steps s ≤ steps (lengthened s more) = steps_longer s more in omega arith)
+          mild_fits theorems (lengthened s more) m a (record p { first = first }) r q (let h : steps s ≤ steps (lengthened s more) = steps_longer s more in omega arith)
           (mild_form_longer s more k m.scales.now same_scales q l p.greatest p.greatest_den p.product (mild.each q l))
 
       with_room : IsMildlyUnderway (lengthened s more) (count (lengthened s more)) now.seats m.scales.now p.den now.v now.firsts now.seconds p.greatest p.greatest_den p.product first

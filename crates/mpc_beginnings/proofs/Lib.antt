@@ -13,3 +13,4 @@ pub mod MildShared
 pub mod Continued
 pub mod Seated
 pub mod Pushed
+pub mod Limits

@@ -9,30 +9,27 @@ use Rattle.mpc_whole.specs.declared.judged.WidePlace.{WidePlace}
 use Rattle.mpc_scaled.specs.declared.systems.WholeNumbers.{WholeNumbers}
 use Rattle.mpc_whole.specs.Norms.{Over}
 use Rattle.mpc_whole.specs.SharedSizes.{IsSmallForm, AreSmallBefore}
-use Rattle.mpc_whole.specs.Judged.{HasRoomAt, IsJudged, IsMildForm, AreMildBefore}
+use Rattle.mpc_whole.specs.PositionTheorems.{PositionTheorems}
+use Rattle.mpc_whole.specs.Judged.{HasRoomAt, IsJudged, IsLeavingRow, IsMildForm, AreMildBefore}
 use Rattle.mpc_whole.specs.Whole.{side_cell}
 use Rattle.mpc_scaled.specs.Scaled.{scale_at, IsSmall}
 use Rattle.mpc_runs.proofs.Turn.{Goes, turn-at}
 use Rattle.mpc_runs.proofs.Ends.{Reached}
-use Rattle.mpc_whole.proofs.WholeForm.{IsLeavingRow, side_norm, side_over, judged_over}
 use Rattle.mpc_beginnings.specs.Kept.{AreNumbers, IsNormProduct, HasRoomBefore}
 
 -- a number is no greater with a factor of at least 1
 pub times_some : (n m : ℕ) → 1 ≤ n → m ≤ n * m
 times_some n m h = let e : 1 * m ≤ n * m = mul-le-mul_right m h in omega arith
 
-module _ (s : LinearSystem) (m : WholeNumbers) (g : AreNumbers s m) where
+module _ (theorems : PositionTheorems) (s : LinearSystem) (m : WholeNumbers) (g : AreNumbers s m) where
   -- a number of a side's row, by one of those of the unknowns
   row_norm : (norm most : ℕ) → s.width * m.most_entry ≤ norm → (v : List ℤ) → IsSmall most v → (i c : ℕ) → unsigned_abs (side_cell s m.a.now v i c) ≤ norm * most
   row_norm norm most rows v small i c =
       let e : s.width * (m.most_entry * most) ≤ norm * most = (let h : (s.width * m.most_entry) * most ≤ norm * most = mul-le-mul_right most rows in omega arith) in
-      le_trans (side_norm s m.a.now v m.most_entry most g.entries small i c) e
+      le_trans (theorems.side_size s m.a.now v m.most_entry most g.entries small i c) e
 
   -- ---- with room for the rows
   module _ (p : WidePlace) (r : HasRoomBefore s m p) (q : ℕ) (order : q < steps s) (z : IsMildForm s m.scales.now (position s q) p.greatest p.greatest_den p.product) where
-    reached : Reached s (position s q)
-    reached = record { after = q; order = omega arith; is = refl }
-
     pivot_room : (y u : ℕ) → u ≤ r.norm * z.own → (u * scale_at m.scales.now y) * z.top ≤ 2 ^ 125
     pivot_room y u h =
         let scaled : u * scale_at m.scales.now y ≤ (r.norm * z.own) * m.most_scale = mul-le u (scale_at m.scales.now y) (r.norm * z.own) m.most_scale h (g.scales y) in
@@ -72,7 +69,7 @@ module _ (s : LinearSystem) (m : WholeNumbers) (g : AreNumbers s m) where
 
     pub mild_fits : PositionFits s (position s q)
     mild_fits =
-        judged_over s (position s q) reached m.scales.now m.a.now m.b.now g.whole (count s) refl z.form.seats z.form.den z.form.numbers z.form.form
+        theorems.judged_fits s m.scales.now m.a.now m.b.now g.whole q (omega arith) z.form.seats z.form.den z.form.numbers z.form.form
         enters z.top z.top judged leaving_row
 
   -- ---- within one limit
@@ -87,7 +84,7 @@ module _ (s : LinearSystem) (m : WholeNumbers) (g : AreNumbers s m) where
     row_over l below side y h =
         let back : s.width + (l - s.width) ≡ l = omega arith in
         subst (λ x. Over (z.den * scale_at m.scales.now x) (r.top * m.most_scale) ((position s q).coefficient x y)) back
-        (side_over s (position s q) (record { after = q; order = omega arith; is = refl }) m.scales.now m.a.now m.b.now g.whole (count s) refl z.seats z.den z.numbers z.form (l - s.width) (r.top * m.most_scale) y (omega arith)
+        (theorems.side_over s m.scales.now m.a.now m.b.now g.whole q (omega arith) z.seats z.den z.numbers z.form (l - s.width) (r.top * m.most_scale) y (omega arith)
         (λ c b e. within_top y (unsigned_abs (side_cell s m.a.now z.numbers (l - s.width) c)) (le_trans (row_norm r.norm p.greatest r.rows z.numbers z.small (l - s.width) c) r.row)) h)
 
     mild_form : IsMildForm s m.scales.now (position s q) p.greatest p.greatest_den product

@@ -7,13 +7,17 @@ use Rattle.std.proofs.lemmas.Nat.Gcd.{dvd_antisymm, dvd_refl}
 use Rattle.mpc_exact.specs.Gcd.{gcd, gcd_greatest, gcd-divides_left}
 use Rattle.mpc_exact.specs.Rational.{ℚ, frac, neg_ℚ, denom_positive, parts_coprime, frac_parts}
 use Rattle.mpc_frac.specs.Fits.{FitsFrac, FitsSum, common, left_of_sum, right_of_sum, denom_of_sum}
-use Rattle.mpc_whole.proofs.WholeNorms.{abs-negated}
 
 pub fits_as : (x y : ℚ) → x ≡ y → FitsFrac x → FitsFrac y
 fits_as x y e h = subst (λ z. FitsFrac z) e h
 
 pub fits_sum_as : (x y u v : ℚ) → x ≡ u → y ≡ v → FitsSum x y → FitsSum u v
 fits_sum_as x y u v e f h = subst₂ (λ a b. FitsSum a b) e f h
+
+abs-negated : (a : ℤ) → unsigned_abs (neg_ℤ a) ≡ unsigned_abs a
+abs-negated (pos zero) = refl
+abs-negated (pos (suc n)) = refl
+abs-negated (negsuc n) = refl
 
 gcd_self : (n : ℕ) → gcd n n ≡ n
 gcd_self n = dvd_antisymm (gcd-divides_left n n) (gcd_greatest n n n (dvd_refl n) (dvd_refl n))

@@ -8,8 +8,8 @@ use Rattle.mpc_rows.specs.declared.systems.Row.{Row}
 use Rattle.mpc_rows.specs.LinearSystem.{LinearSystem, height}
 use Rattle.mpc_rows.specs.Run.{Turn, has_point, is_refuted, count, value, turn, pivot, position, is_pivot, leaving, entering, GoesOn, steps, last_position, multiplier}
 use Rattle.mpc_whole.specs.Whole.{AreValues}
-use Rattle.mpc_whole.specs.Underway.{StayBefore}
-use Rattle.mpc_whole.proofs.WholeTurns.{stay_at_point}
+use Rattle.mpc_runs.specs.Leaving.{StayBefore}
+use Rattle.mpc_runs.proofs.Stays.{stay_at_point}
 use Rattle.mpc_runs.specs.RunEnd.{IsMultipliers, EndsRefuted}
 use Rattle.mpc_beginnings.specs.Beginnings.{lengthened, Agrees}
 use Rattle.mpc_runs.proofs.Turn.{turn-at}

@@ -12,26 +12,24 @@ use Rattle.mpc_runs.specs.declared.variables.Seat.{Seat}
 use Rattle.mpc_runs.specs.declared.variables.Seat.TheVariants.{Row, Column}
 use Rattle.mpc_runs.specs.Table.{seat_at, in_row}
 use Rattle.mpc_whole.specs.Norms.{Over}
+use Rattle.mpc_whole.specs.PositionTheorems.{PositionTheorems}
 use Rattle.mpc_whole.specs.Whole.{HasBounds, IsNarrow, IsForm, AreValues}
 use Rattle.mpc_scaled.specs.Scaled.{whole_cell, scale_at, IsSmall, IsWholeSystem}
-use Rattle.mpc_whole.specs.Underway.{StayBefore, IsUnderway}
+use Rattle.mpc_whole.specs.Underway.{IsUnderway}
+use Rattle.mpc_runs.specs.Leaving.{StayBefore}
 use Rattle.mpc_whole.specs.Judged.{IsMildForm, AreMildBefore, IsMildlyUnderway}
 use Rattle.mpc_runs.proofs.Turn.{Goes, turn-at}
 use Rattle.mpc_runs.proofs.Positions.{tableau}
 use Rattle.mpc_runs.proofs.Outside.{within}
 use Rattle.mpc_runs.proofs.Ends.{Reached}
-use Rattle.mpc_whole.proofs.WholeForm.{narrow_fits, narrow_by_norms}
 use Rattle.mpc_whole.specs.SharedSizes.{IsSmallForm, AreSmallBefore}
 use Rattle.mpc_beginnings.specs.Beginnings.{lengthened, Agrees}
 use Rattle.mpc_beginnings.specs.LongerSeats.{AreLongerSeats}
 use Rattle.mpc_beginnings.proofs.SharedRun.{positions_agree, turns_agree, values_agree, steps_longer}
 
 -- ---- kept sizes within the limit of a system: all fits at the position
-module _ (s : LinearSystem) (k : List ℕ) (a b : List ℤ) (w : IsWholeSystem s k a b) (most : ℕ) (g : HasBounds s k a b most) (hist hist_den scale : ℕ) (scales : (x : ℕ) → scale_at k x ≤ scale) (small : hist ≤ most) (room : hist_den * scale ≤ 2 ^ 62) where
+module _ (theorems : PositionTheorems) (s : LinearSystem) (k : List ℕ) (a b : List ℤ) (w : IsWholeSystem s k a b) (most : ℕ) (g : HasBounds s k a b most) (hist hist_den scale : ℕ) (scales : (x : ℕ) → scale_at k x ≤ scale) (small : hist ≤ most) (room : hist_den * scale ≤ 2 ^ 62) where
   module _ (q : ℕ) (h : q ≤ steps s) (z : IsSmallForm s k (position s q) hist hist_den) where
-    reached : Reached s (position s q)
-    reached = record { after = q; order = h; is = refl }
-
     within_limit : IsSmall most z.numbers
     within_limit = record { each = λ i. le_trans (z.small.each i) small }
 
@@ -39,10 +37,10 @@ module _ (s : LinearSystem) (k : List ℕ) (a b : List ℤ) (w : IsWholeSystem s
     dens x = le_trans (le_trans (mul-le-mul_right (scale_at k x) z.den_small) (mul-le-mul_left hist_den (scales x))) room
 
     narrow : IsNarrow s (count s) z.seats k a z.den z.numbers
-    narrow = narrow_by_norms s k a b z.numbers g.most_entry g.most_side g.most_scale most g.bounds within_limit (count s) z.seats z.den (λ x l. dens x)
+    narrow = theorems.narrow s k a b most g (count s) z.seats z.den z.numbers within_limit (λ x l. dens x)
 
     pub small_fits : PositionFits s (position s q)
-    small_fits = narrow_fits s (position s q) reached k a b w (count s) refl z.seats z.den z.numbers z.form narrow g.most_side g.bounds.sides
+    small_fits = theorems.narrow_fits s k a b w most g q h z.seats z.den z.numbers z.form narrow
 
 -- ---- the same numbers at the longer system, where the scales of its first variables are the same
 module _ (s : LinearSystem) (more : List LinearRow) (k further : List ℕ) (same : (x : ℕ) → x < count s → scale_at further x ≡ scale_at k x) where
@@ -165,9 +163,9 @@ module _ (s : LinearSystem) (more : List LinearRow) (k further : List ℕ) (same
     }
 
   -- ---- kept sizes within the limit of the longer system
-  module _ (a b : List ℤ) (w : IsWholeSystem (lengthened s more) further a b) (most : ℕ) (g : HasBounds (lengthened s more) further a b most) (hist hist_den scale : ℕ) (scales : (x : ℕ) → scale_at further x ≤ scale) (small : hist ≤ most) (room : hist_den * scale ≤ 2 ^ 62) where
+  module _ (theorems : PositionTheorems) (a b : List ℤ) (w : IsWholeSystem (lengthened s more) further a b) (most : ℕ) (g : HasBounds (lengthened s more) further a b most) (hist hist_den scale : ℕ) (scales : (x : ℕ) → scale_at further x ≤ scale) (small : hist ≤ most) (room : hist_den * scale ≤ 2 ^ 62) where
     fits_at : (q : ℕ) → q ≤ steps s → IsSmallForm s k (position s q) hist hist_den → PositionFits (lengthened s more) (position (lengthened s more) q)
-    fits_at q h z = small_fits (lengthened s more) further a b w most g hist hist_den scale scales small room q (le_trans h (steps_longer s more)) (small_form_longer q h hist hist_den z)
+    fits_at q h z = small_fits theorems (lengthened s more) further a b w most g hist hist_den scale scales small room q (le_trans h (steps_longer s more)) (small_form_longer q h hist hist_den z)
 
     pub fits_before : AreSmallBefore s k (steps s) hist hist_den → (q : ℕ) → q < steps s → PositionFits (lengthened s more) (position (lengthened s more) q)
     fits_before z q l = fits_at q (omega arith) (z.each q l)

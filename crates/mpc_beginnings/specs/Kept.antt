@@ -10,7 +10,8 @@ use Rattle.mpc_whole.specs.declared.judged.WidePlace.{WidePlace}
 use Rattle.mpc_scaled.specs.declared.systems.WholeNumbers.{WholeNumbers}
 use Rattle.mpc_whole.specs.Whole.{HasBounds}
 use Rattle.mpc_scaled.specs.Scaled.{scale_at, IsSmall, IsWholeSystem}
-use Rattle.mpc_whole.specs.Underway.{StayBefore, IsUnderway, HasEnded}
+use Rattle.mpc_whole.specs.Underway.{IsUnderway, HasEnded}
+use Rattle.mpc_runs.specs.Leaving.{StayBefore}
 use Rattle.mpc_whole.specs.Lists.{Listed, AreListsOf}
 use Rattle.mpc_whole.specs.Judged.{AreMildBefore, IsMildlyUnderway}
 use Rattle.mpc_beginnings.specs.declared.lists.KeptLists.{KeptLists}

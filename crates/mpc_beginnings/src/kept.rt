@@ -30,7 +30,7 @@ use mpc_runs::{End, Standing, zero_pairs, zeros};
 use mpc_scaled::{WholeNumbers, WholeSystem};
 use mpc_whole::{
     Ending, Place, RunLists, WidePlace, judged_run, last_multipliers, last_values, limit,
-    whole_run, wide_last_multipliers, wide_last_values,
+    position_theorems, whole_run, wide_last_multipliers, wide_last_values,
 };
 use std::alloc::{AllocError, Global};
 use std::marker::Model;
@@ -48,6 +48,7 @@ fn limit_of(system: &WholeSystem, numbers: &WholeNumbers, from: WidePlace) -> Op
     requires numbers { AreNumbers system.now numbers.now }
     ensures { IfSome result (IsLimit system.now numbers.now from) }
 {
+    position_theorems();
     let width = system.unknowns();
     let n = width.checked_add(system.height())?;
     let most = limit(
@@ -228,6 +229,7 @@ fn run_on(
     requires start { IsUnderwayWithin system.now numbers.now (lists_of lists.old) from }
     ensures { IfOk result (λ o. IfSome o (λ t. AreKept system.now numbers.now.scales.now lists.new t.0 t.1)) }
 {
+    position_theorems();
     let width = system.unknowns();
     lengthen(work, width)?;
     let (x, _) = work.split_at_mut(width);
@@ -465,6 +467,7 @@ fn first_run(
     requires numbers { AreNumbers system.now numbers.now }
     ensures { IfOk result (λ o. IfSome o (λ t. AreKept system.now numbers.now.scales.now lists.new t.0 t.1)) }
 {
+    position_theorems();
     let width = system.unknowns();
     let Some((n, square)) = sizes(system.height(), width) else {
         return Ok(None);
@@ -659,6 +662,7 @@ impl KeptRun {
         requires numbers { AreNumbers longer.now numbers.now }
         ensures { IfOk result (λ o. IfSome o (λ t. AreKept longer.now numbers.now.scales.now lists.new t.0 t.1)) }
     {
+        position_theorems();
         if !begins_with(numbers.scales, &self.last.scales) {
             return Ok(None);
         }

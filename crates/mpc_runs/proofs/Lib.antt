@@ -20,3 +20,4 @@ pub mod Steps
 pub mod Fits
 pub mod Loop
 pub mod ValuesAfter
+pub mod Stays

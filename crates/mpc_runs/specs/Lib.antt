@@ -1,3 +1,4 @@
 pub mod Table
 pub mod Exchange
 pub mod RunEnd
+pub mod Leaving

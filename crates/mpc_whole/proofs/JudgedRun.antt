@@ -13,13 +13,13 @@ use Rattle.mpc_runs.specs.Table.{seat_at, IsSeated}
 use Rattle.mpc_whole.specs.Norms.{Over}
 use Rattle.mpc_whole.specs.Moved.{AreFormed}
 use Rattle.mpc_whole.specs.Underway.{turn_of, HasEnded}
-use Rattle.mpc_whole.specs.Judged.{coefficient_of, IsJudged, IsPivotJudged, IsRowWithin, IsDividedRow, IsReducedPivot, IsProductOf, IsMildForm, AreMildBefore, IsMildlyUnderway}
+use Rattle.mpc_whole.specs.Judged.{coefficient_of, IsJudged, IsPivotJudged, IsRowWithin, IsDividedRow, IsReducedPivot, IsProductOf, IsMildForm, AreMildBefore, IsMildlyUnderway, IsLeavingRow}
 use Rattle.mpc_whole.specs.Whole.{IsSideRow}
 use Rattle.mpc_scaled.specs.Scaled.{whole_at, scale_at, IsSmall, IsWholeSystem}
 use Rattle.mpc_runs.proofs.Positions.{tableau}
 use Rattle.mpc_runs.proofs.Turn.{Leaves, turn-at}
 use Rattle.mpc_whole.proofs.DividedRows.{times_row, times_is, side_of_divided, within_divided}
-use Rattle.mpc_whole.proofs.WholeForm.{IsLeavingRow, side_over, divided_is, divided_over, judged_over, judged_divided}
+use Rattle.mpc_whole.proofs.WholeForm.{side_over, divided_is, divided_over, judged_over, judged_divided}
 use Rattle.mpc_whole.proofs.StatedRows.{judged_by_rows}
 use Rattle.mpc_whole.proofs.WholeSizes.{wider_form, small_form}
 use Rattle.mpc_whole.proofs.Standing.{reached_of, point_here, is_at_end, has_ended, leaves_here, refuted_here, goes_here, next_form, next_underway}

@@ -25,3 +25,4 @@ pub mod Judges
 pub mod JudgedTurns
 pub mod WholeRows
 pub mod OverTheorems
+pub mod PositionTheorems

@@ -23,7 +23,7 @@ use Rattle.mpc_runs.proofs.Steps.{turn_point, turn_refuted, turn_goes}
 use Rattle.mpc_runs.proofs.Exchanged.{new_seated}
 use Rattle.mpc_whole.proofs.WholeForm.{side_entry}
 use Rattle.mpc_whole.proofs.WholePivot.{pivot_form}
-use Rattle.mpc_whole.proofs.WholeTurns.{unknowns_stay}
+use Rattle.mpc_runs.proofs.Stays.{unknowns_stay}
 
 pub reached_of : (s : LinearSystem) (n : ℕ) (seats : List Seat) (k : List ℕ) (d : ℕ) (v : List ℤ) (z : Stands s n seats k d v) → Reached s (position s z.at)
 reached_of s n seats k d v z = record { after = z.at; order = z.order; is = refl }

@@ -14,13 +14,13 @@ use Rattle.mpc_runs.specs.Table.{seat_at}
 use Rattle.mpc_whole.specs.Norms.{Over}
 use Rattle.mpc_whole.specs.Whole.{side_cell, IsForm}
 use Rattle.mpc_scaled.specs.Scaled.{whole_at, whole_cell, scale_at, IsWholeSystem}
-use Rattle.mpc_whole.specs.Judged.{row_cell, coefficient_of, IsRowBelow, IsTermStated, IsRowStated, IsJudgedByRows}
+use Rattle.mpc_whole.specs.Judged.{row_cell, coefficient_of, IsRowBelow, IsTermStated, IsRowStated, IsJudgedByRows, IsLeavingRow}
 use Rattle.mpc_runs.proofs.Ends.{Reached}
 use Rattle.mpc_runs.proofs.Pivot.{entering-at_leaving, entering-other}
 use Rattle.mpc_runs.proofs.Seats.{column_seat}
 use Rattle.mpc_runs.proofs.Turn.{Goes}
 use Rattle.mpc_whole.proofs.WholeNorms.{HasRowRoom, HasFittingRow, HasPivotRoom}
-use Rattle.mpc_whole.proofs.WholeForm.{IsLeavingRow, equal_share, reached_tableau, side_entry, row_den, den_some, own_den, by_seat, top_some, size_some, pivot_room, judged_with}
+use Rattle.mpc_whole.proofs.WholeForm.{equal_share, reached_tableau, side_entry, row_den, den_some, own_den, by_seat, top_some, size_some, pivot_room, judged_with}
 
 module _ (s : LinearSystem) (a v : List ℤ) (x c : ℕ) where
   pub row_cell-unknown : x < s.width → row_cell s a v x c ≡ whole_cell s.width v x c

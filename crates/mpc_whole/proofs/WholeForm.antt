@@ -19,7 +19,7 @@ use Rattle.mpc_whole.proofs.WholeChanges.{times_scaled, total_scaled}
 use Rattle.mpc_whole.proofs.DividedRows.{crossed, rest_some}
 use Rattle.mpc_whole.proofs.WholeNorms.{abs_some, over_not_zero, HasRowRoom, HasFittingRow, HasPivotRoom, judged_fit, norms_fit}
 use Rattle.mpc_whole.proofs.WholeScales.{Scaled, scaled_over, at_nought, at_side, at_minus_one, nought_over, nought_times, less_with_scale}
-use Rattle.mpc_whole.specs.Judged.{coefficient_of, HasRoomAt, IsJudged, IsNorm, IsDividedRow}
+use Rattle.mpc_whole.specs.Judged.{coefficient_of, HasRoomAt, IsJudged, IsNorm, IsDividedRow, IsLeavingRow}
 use Rattle.mpc_whole.specs.Whole.{whole_total, AreBounds, HasSideBound, IsNarrow, IsSideRow, IsForm, side_cell}
 use Rattle.mpc_scaled.specs.Scaled.{whole_at, whole_cell, scale_at, IsSmall, IsWholeSystem}
 use Rattle.mpc_runs.proofs.Turn.{Goes, turn-at}
@@ -62,14 +62,6 @@ first_rest s k a b w y h (inr u) (inr l) =
 pub record HoldAll (s : LinearSystem) (n : ℕ) (seats : List Seat) (a v : List ℤ) (P : ℕ → ℤ → Type 0) : Type 0 where
   pub numbers : (j y c : ℕ) → j < s.width → y < n → seat_at seats y ≡ Column c → P y (whole_cell s.width v j c)
   pub rows : (i y c : ℕ) → i < height s → y < n → seat_at seats y ≡ Column c → P y (side_cell s a v i c)
-
--- the row of l, which leaves: its number in the column of the variable that enters, over its denominator, is at most a size, and no other one is
--- above a top, nor is its scale
-pub record IsLeavingRow (s : LinearSystem) (p : Position) (k : List ℕ) (d f top size l e : ℕ) : Type 0 where
-  pub entering : e ≡ f
-  pub pivot : Over (d * scale_at k l) size (p.coefficient l e)
-  pub others : (y : ℕ) → y < count s → (y ≡ e → ⊥) → Over (d * scale_at k l) top (p.coefficient l y)
-  pub own : scale_at k l ≤ top
 
 -- ---- a position of the run
 module _ (s : LinearSystem) (p : Position) (r : Reached s p) where

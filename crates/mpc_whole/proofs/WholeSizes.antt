@@ -14,7 +14,7 @@ use Rattle.mpc_runs.proofs.Ends.{run_ends, position-zero}
 use Rattle.mpc_runs.proofs.Positions.{value_rest}
 use Rattle.mpc_runs.proofs.Read.{rest_unknown}
 use Rattle.mpc_whole.proofs.WholeSums.{zero_over}
-use Rattle.mpc_whole.proofs.WholeTurns.{unknowns_stay}
+use Rattle.mpc_runs.proofs.Stays.{unknowns_stay}
 
 -- a position of the run where it stops is the last one
 pub stops_after : (s : LinearSystem) (q : ℕ) → q ≤ steps s → is_pivot (turn s (position s q)) ≡ false → q ≡ steps s

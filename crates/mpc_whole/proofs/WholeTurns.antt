@@ -19,11 +19,12 @@ use Rattle.mpc_runs.specs.declared.variables.Seat.TheVariants.{Row, Column}
 use Rattle.mpc_runs.specs.Table.{seat_at, in_row}
 use Rattle.mpc_whole.specs.Whole.{HasBasis, IsRowOf}
 use Rattle.mpc_scaled.specs.Scaled.{whole_at}
-use Rattle.mpc_whole.specs.Underway.{StayBefore}
+use Rattle.mpc_runs.specs.Leaving.{StayBefore}
 use Rattle.mpc_runs.proofs.LeastLemmas.{LeastIs, least-is}
 use Rattle.mpc_runs.proofs.Flags.{test_true, true_test}
 use Rattle.mpc_runs.proofs.Turn.{is_zero-true, zero-is_zero, turn-at}
 use Rattle.mpc_runs.proofs.Table.{leave_unknown, leave_free, leave_test, enter_basic, enter_unknown, enter_side}
+use Rattle.mpc_runs.proofs.Stays.{not_below_so}
 use Rattle.mpc_whole.proofs.WholeSums.{zero_over}
 
 -- ---- the code's tests
@@ -40,13 +41,6 @@ below_so p q h = by (cases_Bool (is_below p q))
     by : (is_below p q ≡ true) ⊎ (is_below p q ≡ false) → true ≡ is_below p q
     by (inl e) = sym e
     by (inr e) = absurd (at_most-not-below (is_below-false p q e) h)
-
-not_below_so : (p q : Pair) → IsAtMost q p → false ≡ is_below p q
-not_below_so p q h = by (cases_Bool (is_below p q))
-  where
-    by : (is_below p q ≡ true) ⊎ (is_below p q ≡ false) → false ≡ is_below p q
-    by (inl e) = absurd (at_most-not-below h (is_below-true p q e))
-    by (inr e) = sym e
 
 squeezed : (u v : ℤ) → u ≤ℤ v → v ≤ℤ u → u ≡ v
 squeezed u v h k = omega (arith, ints)
@@ -96,21 +90,6 @@ none_below test (suc n) h = λ i. or_at (none_below test n (λ x k. h x (omega a
 
 pub none_up_to : (test : ℕ → Bool) (n m : ℕ) → n ≤ m → least test m ≡ None → least test n ≡ None
 none_up_to test n m h e = none_below test n (λ k l. subst (λ o. LeastIs test m o) e (least-is test m) k (omega arith))
-
-pub unknowns_stay : (s : LinearSystem) (p : Position) → StayBefore s p s.width
-unknowns_stay s p = λ x k. leave_unknown s p x (lt-ltb x s.width k)
-
--- where a run ends with a point nobody may leave
-pub stay_at_point : (s : LinearSystem) (p : Position) → turn s p ≡ has_point → StayBefore s p (count s)
-stay_at_point s p ends x l = by (cases_lt x s.width)
-  where
-    side : s.width ≤ x → (p.is_basic x ≡ true) ⊎ (p.is_basic x ≡ false) → may_leave s p x ≡ false
-    side h (inl b) = leave_test s p x (le-ltb x s.width h) b ∙ sym (not_below_so (bound s x) (value s p x) (turn-at s p has_point ends x l h b))
-    side h (inr b) = leave_free s p x (le-ltb x s.width h) b
-
-    by : (x < s.width) ⊎ (s.width ≤ x) → may_leave s p x ≡ false
-    by (inl h) = leave_unknown s p x (lt-ltb x s.width h)
-    by (inr h) = side h (cases_Bool (p.is_basic x))
 
 pub leaves_as : (s : LinearSystem) (p : Position) (x : ℕ) → s.width ≤ x → p.is_basic x ≡ true → is_below (bound s (s.width + (x - s.width))) (value s p (s.width + (x - s.width))) ≡ may_leave s p x
 leaves_as s p x h b =

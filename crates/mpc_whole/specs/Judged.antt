@@ -155,3 +155,11 @@ pub record IsGoingOn (s : LinearSystem) (n : ℕ) (seats : List Seat) (k : List 
   pub underway : IsMildlyUnderway s n seats k den v c_1 c_2 most most_den product first
   pub leaves : Some l ≡ least (may_leave s (position s underway.underway.stands.at)) n
   pub enters : Some e ≡ least (may_enter s (position s underway.underway.stands.at) l) n
+
+-- the row of l, which leaves: its number in the column of the variable that enters, over its denominator, is at most a size, and no other one is
+-- above a top, nor is its scale
+pub record IsLeavingRow (s : LinearSystem) (p : Position) (k : List ℕ) (d f top size l e : ℕ) : Type 0 where
+  pub entering : e ≡ f
+  pub pivot : Over (d * scale_at k l) size (p.coefficient l e)
+  pub others : (y : ℕ) → y < count s → (y ≡ e → ⊥) → Over (d * scale_at k l) top (p.coefficient l y)
+  pub own : scale_at k l ≤ top

@@ -10,3 +10,4 @@ pub mod OverTheorems
 pub mod Judged
 pub mod Lists
 pub mod Held
+pub mod PositionTheorems

@@ -8,14 +8,11 @@ use Rattle.mpc_whole.specs.declared.whole.Ending.{Ending}
 use Rattle.mpc_whole.specs.declared.whole.Ending.TheVariants.{Point, Refuted}
 use Rattle.mpc_whole.specs.Whole.{IsForm, AreValues, Stands}
 use Rattle.mpc_whole.specs.SharedSizes.{AreSmallBefore}
+use Rattle.mpc_runs.specs.Leaving.{StayBefore}
 
 abbrev pub turn_of : Ending → Turn
 turn_of Point = has_point
 turn_of (Refuted l) = is_refuted l
-
--- no variable before this one may leave at a position
-abbrev pub StayBefore : LinearSystem → Position → ℕ → Type 0
-StayBefore s p first = (x : ℕ) → x < first → may_leave s p x ≡ false
 
 -- the run stands at this position, where the unknowns have these values, and who leaves there is a side that isn't before this one
 pub record IsUnderway (s : LinearSystem) (n : ℕ) (seats : List Seat) (k : List ℕ) (den : ℕ) (v c_1 c_2 : List ℤ) (most most_den first : ℕ) : Type 0 where

@@ -23,7 +23,7 @@ mod wide_values;
 pub use divisors::Divisor;
 pub use judged::{WidePlace, judged_run};
 pub use lists::{RunLists, WideLists};
-pub use theorems::over_theorems;
+pub use theorems::{over_theorems, position_theorems};
 pub use whole::{Ending, Place, whole_run};
 pub use whole_ends::{last_multipliers, last_values, wide_last_multipliers, wide_last_values};
 pub use whole_numbers::{changed, turned};

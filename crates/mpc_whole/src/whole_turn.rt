@@ -9,7 +9,7 @@ ghost use Rattle.mpc_runs.specs.declared.variables.Seat.{Seat};
 ghost use Rattle.mpc_runs.specs.declared.variables.Seat.TheVariants.{Column};
 ghost use Rattle.mpc_runs.specs.Table.{seat_at, IsSeated, AreNonbasic};
 ghost use Rattle.mpc_whole.specs.Sums.{are_short, are_of_four};
-ghost use Rattle.mpc_whole.specs.Underway.{StayBefore};
+ghost use Rattle.mpc_runs.specs.Leaving.{StayBefore};
 ghost use Rattle.mpc_whole.specs.Whole.{whole_total, HasSideValues, HasBasis, IsRowOf, IsSideRow, side_cell};
 ghost use Rattle.mpc_scaled.specs.Scaled.{whole_at, whole_cell, IsSmall, HasSides};
 ghost use Rattle.mpc_whole.specs.Running.{HasNumbers, IsFrame, AreParts, AreShort};

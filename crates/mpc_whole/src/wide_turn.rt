@@ -9,7 +9,7 @@ ghost use Rattle.mpc_runs.specs.declared.variables.Seat.{Seat};
 ghost use Rattle.mpc_runs.specs.declared.variables.Seat.TheVariants.{Column};
 ghost use Rattle.mpc_runs.specs.Table.{seat_at, IsSeated, AreNonbasic};
 ghost use Rattle.mpc_whole.specs.Judged.{IsDividedRow};
-ghost use Rattle.mpc_whole.specs.Underway.{StayBefore};
+ghost use Rattle.mpc_runs.specs.Leaving.{StayBefore};
 ghost use Rattle.mpc_whole.specs.Whole.{HasSideValues, HasBasis, HasRoom, IsRowOf, IsSideRow};
 ghost use Rattle.mpc_scaled.specs.Scaled.{whole_at, IsSmall, HasSides};
 ghost use Rattle.mpc_whole.specs.Running.{HasNumbers};

@@ -7,11 +7,11 @@ run_on-requires-clause-lists c = opening_lists c.args.system.now (lists_of c.set
 
 pub run_on-requires-clause-start : goal.run_on-requires-clause-start
 run_on-requires-clause-start c =
-    opening_within c.args.system.now c.args.numbers.now c.requires.numbers (lists_of c.set_opening.new.lists) c.in_ok-set_opening.ensures.opening c.unknowns-width.result c.unknowns-width.ensures
+    opening_within c.position_theorems.ensures c.args.system.now c.args.numbers.now c.requires.numbers (lists_of c.set_opening.new.lists) c.in_ok-set_opening.ensures.opening c.unknowns-width.result c.unknowns-width.ensures
 
 pub judge_on-requires-clause-lists : goal.judge_on-requires-clause-lists
 judge_on-requires-clause-lists c = opening_lists c.args.system.now (lists_of c.set_opening-2.new.lists) c.in_ok-set_opening-2.ensures.opening
 
 pub judge_on-requires-clause-start : goal.judge_on-requires-clause-start
 judge_on-requires-clause-start c =
-    opening_with_room c.args.system.now c.args.numbers.now c.requires.numbers (lists_of c.set_opening-2.new.lists) c.in_ok-set_opening-2.ensures.opening c.unknowns-width.result c.unknowns-width.ensures
+    opening_with_room c.position_theorems.ensures c.args.system.now c.args.numbers.now c.requires.numbers (lists_of c.set_opening-2.new.lists) c.in_ok-set_opening-2.ensures.opening c.unknowns-width.result c.unknowns-width.ensures

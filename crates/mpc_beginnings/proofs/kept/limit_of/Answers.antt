@@ -2,8 +2,7 @@ use Rattle.std.proofs.Common.{◌≡◌, ◌*◌, ◌≤◌, ◌^◌, subst, ari
 use Rattle.mpc_rows.specs.Run.{count}
 use Rattle.mpc_whole.specs.Whole.{HasBounds}
 use Rattle.mpc_scaled.specs.Scaled.{scale_at}
-use Rattle.mpc_whole.proofs.WholeForm.{narrow_by_norms}
-use Rattle.mpc_whole.proofs.WholeRows.{has_room, has_bounds, weaker}
+use Rattle.mpc_beginnings.proofs.Limits.{has_room, has_bounds, weaker}
 use Rattle.mpc_beginnings.proofs.MildShared.{times_some}
 use Rattle.mpc_beginnings.proofs.kept.limit_of.Goals as goal
 
@@ -30,7 +29,7 @@ returns c =
       top = let e = c.in_ok-most.ensures.top in let h : most ≤ m.most_scale * most = times_some m.most_scale most c.requires.numbers.some_scale in omega (arith, e, h);
       own_small = own;
       den_small = let h : c.max-dens.result ≤ m.most_scale * c.max-dens.result = times_some m.most_scale c.max-dens.result c.requires.numbers.some_scale in omega (arith, den, top, h);
-      narrow = λ seats v small. narrow_by_norms s k m.a.now m.b.now v g.most_entry g.most_side g.most_scale most g.bounds (weaker from.own most v small own) (count s) seats from.den
+      narrow = λ seats v small. c.position_theorems.ensures.narrow s k m.a.now m.b.now most g (count s) seats from.den v (weaker from.own most v small own)
           (λ x h. le_trans (le_trans (mul-le-mul_right (scale_at k x) den) (mul-le-mul_left c.max-dens.result (c.requires.numbers.scales x))) top);
       kept_small = let e = c.max.ensures in let l = c.if-max-most.false in omega arith;
       kept_den_small = le_trans (mul-le-mul_right m.most_scale kept_den) top;

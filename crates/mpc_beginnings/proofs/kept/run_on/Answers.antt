@@ -25,7 +25,7 @@ returns-in-Some c =
         scales = c.requires.numbers.whole.scales.size;
         lists = subst (λ (o : Option (WidePlace × Ending)). IfSome o (λ t. AreListsOf s t.0.own l)) c.in-Some.is c.limited_run.ensures.lists;
         ended = ended;
-        before = λ h. mild_by_norms s m c.requires.numbers p product (subst (λ w. IsNormProduct w m p product) c.unknowns-width.ensures (c.product_of-product.ensures h)) ended.before;
+        before = λ h. mild_by_norms c.position_theorems.ensures s m c.requires.numbers p product (subst (λ w. IsNormProduct w m p product) c.unknowns-width.ensures (c.product_of-product.ensures h)) ended.before;
       };
       short = subst (λ (o : Option (WidePlace × Ending)). IfSome o (λ t. HaveShortValues c.limited_run.new.lists)) c.in-Some.is c.limited_run.ensures.short;
     }

@@ -1,7 +1,7 @@
 use Rattle.std.proofs.Common.{refl, sym, subst}
 use Rattle.mpc_whole.specs.Lists.{of_short}
 use Rattle.mpc_whole.specs.Held.{AreHeld}
-use Rattle.mpc_whole.proofs.WholeRows.{weaker}
+use Rattle.mpc_beginnings.proofs.Limits.{weaker}
 use Rattle.mpc_beginnings.proofs.kept.short_run.Goals as goal
 
 pub whole_run-requires-clause-frame : goal.whole_run-requires-clause-frame

@@ -1,9 +1,12 @@
-use Rattle.std.proofs.Common.{◌≡◌, ◌∙◌, ap, pos, to_z, of_z}
+use Rattle.std.proofs.Common.{◌≡◌, ◌<◌, ◌^◌, ◌∙◌, ap, pos, unsigned_abs, ℤ, to_z, of_z}
+use Rattle.std.proofs.lemmas.Int.{fits_signed_from_abs, to_z-of_z}
 use Rattle.std.specs.Int.{w128}
-use Rattle.mpc_whole.proofs.WholeRooms.{read_wide}
 use Rattle.mpc_simplex.proofs.TurnedOver.{made_is, made_always}
 use Rattle.mpc_simplex.proofs.numbers.inverse.Goals as goal
 use Rattle.mpc_simplex.proofs.numbers.inverse.Goals.{After-new}
+
+read_wide : (z : ℤ) → unsigned_abs z < 2 ^ 127 → to_z w128 (of_z w128 z) ≡ z
+read_wide z h = to_z-of_z w128 z (fits_signed_from_abs w128 z h)
 
 numer : (c : After-new) → to_z w128 (of_z w128 c.num.result) ≡ c.args.x.now.numer
 numer c = ap (λ z. to_z w128 (of_z w128 z)) c.num.ensures.value ∙ read_wide c.args.x.now.numer c.num.ensures.fits.0

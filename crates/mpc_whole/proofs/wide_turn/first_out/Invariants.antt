@@ -3,7 +3,7 @@ use Rattle.mpc_rows.specs.Least.{least}
 use Rattle.mpc_rows.specs.Run.{Position, may_leave}
 use Rattle.mpc_whole.specs.Whole.{HasBasis, HasSideValues}
 use Rattle.mpc_scaled.specs.Scaled.{HasSides}
-use Rattle.mpc_whole.specs.Underway.{StayBefore}
+use Rattle.mpc_runs.specs.Leaving.{StayBefore}
 use Rattle.mpc_whole.proofs.wide_turn.first_out.Given as goal
 
 abbrev pub invariant-loop-x : goal.invariant-loop-x

@@ -50,7 +50,7 @@ run_on-requires-clause-start c =
     let first : IsFirstLater r.system c.first_later.result = subst (λ (t : LinearSystem). IsFirstLater t c.first_later.result) (sym c.self.view_is) c.first_later.ensures in
     subst (λ (t : LinearSystem). IsUnderwayWithin t k (lists_of c.set_lists.new.lists) (record r.last.place { first = c.first_later.result })) (sym e)
     (within_longer r.system more r.last.scales.items (lists_of r.last.lists) r.last.place r.last.end c.self.invariant.kept c.height-height.result c.height.result c.height-height.ensures (c.height.ensures ∙ ap height e) (lists_of c.set_lists.new.lists) c.in_ok-set_lists.ensures.longer
-    c.first_later.result first k (subst (λ (t : LinearSystem). AreNumbers t k) e c.requires.numbers) same)
+    c.position_theorems.ensures c.first_later.result first k (subst (λ (t : LinearSystem). AreNumbers t k) e c.requires.numbers) same)
 
 pub judge_on-requires-clause-lists : goal.judge_on-requires-clause-lists
 judge_on-requires-clause-lists c =
@@ -72,7 +72,7 @@ judge_on-requires-clause-start c =
     let first : IsFirstLater r.system c.first_later.result = subst (λ (t : LinearSystem). IsFirstLater t c.first_later.result) (sym c.self.view_is) c.first_later.ensures in
     subst (λ (t : LinearSystem). IsUnderwayWithRoom t k (lists_of c.set_wide_lists.new.lists) (record r.last.place { first = c.first_later.result })) (sym e)
     (room_longer r.system more r.last.scales.items (lists_of r.last.lists) r.last.place r.last.end c.self.invariant.kept c.height-height.result c.height-2.result c.height-height.ensures (c.height-2.ensures ∙ ap height e) (lists_of c.set_wide_lists.new.lists) c.in_ok-set_wide_lists.ensures
-    c.first_later.result first k (subst (λ (t : LinearSystem). AreNumbers t k) e c.requires.numbers) same)
+    c.position_theorems.ensures c.first_later.result first k (subst (λ (t : LinearSystem). AreNumbers t k) e c.requires.numbers) same)
 
 pub run_on-requires-clause-short : goal.run_on-requires-clause-short
 run_on-requires-clause-short c = c.in_ok-set_lists.ensures.small c.self.invariant.short
