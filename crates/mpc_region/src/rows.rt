@@ -29,6 +29,9 @@ fn shared_with(shared: u64, size: u64) -> u64
     if shared == 0 {
         return size;
     }
+    if shared == 1 {
+        return 1;
+    }
     let rest = size % shared;
     if rest == 0 {
         return shared;
