@@ -1,6 +1,6 @@
 //! The verdict on one active set.
 
-ghost use Rattle.std.specs.Prelude.{◌≡◌, ◌<◌, ◌≤◌, IfOk, length};
+ghost use Rattle.std.specs.Prelude.{◌≤◌, IfOk, length};
 ghost use Rattle.mpc_space.specs.Definite.{IsDefinite};
 ghost use Rattle.mpc_space.specs.Matrix.{height};
 ghost use Rattle.mpc_sets.specs.RowSet.{IsSetOfRows};
@@ -9,6 +9,7 @@ ghost use Rattle.mpc_rows.specs.LawRows.{AreLawRows};
 ghost use Rattle.mpc_rows.specs.Laws.{IsLaw};
 ghost use Rattle.mpc_rows.specs.SetRuns.{LawRowsFit};
 ghost use Rattle.mpc_rows.specs.Verdicts.{IsRight, ReachFits};
+ghost use Rattle.mpc_region.specs.Asked.{IsAsked, AreTablesFor, IsReached};
 ghost use Rattle.mpc_region.specs.Kept.{IsKept};
 ghost use Rattle.mpc_region.specs.LawEnd.{IsLawOfSet};
 ghost use Rattle.mpc_region.specs.Shared.{IsSharedBySets};
@@ -211,17 +212,10 @@ fn by_whole_table(
     kept: &mut Kept,
     set: ActiveSet,
 ) -> Result<Verdict, NoMemory>
-    requires definite { IsDefinite qp.now.h.rows }
-    requires sweeps { AreSweeps qp.now sweeps.old }
+    requires asked { IsAsked qp.now set }
+    requires tables { AreTablesFor qp.now set sweeps.old }
     requires shared { IsSharedBySets qp.now shared.old }
-    requires set_of_rows { IsSetOfRows (height qp.now.g) set }
-    requires few { length set ≤ height qp.now.h }
-    requires set { sweeps.old.set ≡ set }
-    requires some { 0 < sweeps.old.count }
-    requires served { length set ≤ sweeps.old.count }
-    requires law { IsLaw qp.now (swept_law qp.now set) }
-    requires grows { CanGrow qp.now set }
-    requires reach_fits { ReachFits qp.now set }
+    requires reached { IsReached qp.now set }
     requires kept { IsKept qp.now kept.old }
     ensures sweeps { AreSweeps qp.now sweeps.new }
     ensures shared { IsSharedBySets qp.now shared.new }
@@ -247,14 +241,9 @@ fn by_tables(
     kept: &mut Kept,
     set: ActiveSet,
 ) -> Result<Verdict, NoMemory>
-    requires definite { IsDefinite qp.now.h.rows }
-    requires sweeps { AreSweeps qp.now sweeps.old }
+    requires asked { IsAsked qp.now set }
+    requires tables { AreTablesFor qp.now set sweeps.old }
     requires shared { IsSharedBySets qp.now shared.old }
-    requires set_of_rows { IsSetOfRows (height qp.now.g) set }
-    requires few { length set ≤ height qp.now.h }
-    requires set { sweeps.old.set ≡ set }
-    requires some { 0 < sweeps.old.count }
-    requires served { length set ≤ sweeps.old.count }
     requires law { IsLawOfSet qp.now set (swept_law qp.now set) }
     requires kept { IsKept qp.now kept.old }
     ensures sweeps { AreSweeps qp.now sweeps.new }
