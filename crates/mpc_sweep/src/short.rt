@@ -10,6 +10,9 @@ use mpc_whole::turned;
 /// The greatest size of such a number.
 pub const SHORT: u64 = 1 << 30;
 
+/// The greatest such number.
+const MOST: i64 = 1 << 30;
+
 /// A divisor of such numbers, with what makes an exact division by it one multiplication (Jebelean 1993): it is
 /// `2^shift` times an odd number, which has an inverse modulo 2^64.
 #[derive(Clone, Copy, Drop)]
@@ -90,7 +93,7 @@ pub fn short_changed(v: i64, k: i64, x: i64, q: u64, by: ShortDivisor) -> Option
 {
     let number = short_difference(v, k, x, q);
     let z = by.guess(number);
-    if z.unsigned_abs() > SHORT {
+    if z < -MOST || MOST < z {
         return None;
     }
     let back = short_product(z, signed(by.den));
