@@ -1,4 +1,4 @@
-use Rattle.std.proofs.Common.{◌≡◌, ◌↔◌, ◌<◌, [], ◌∷◌, List, IsTrue, IfSome, sym, subst}
+use Rattle.std.proofs.Common.{◌↔◌, ◌<◌, [], ◌∷◌, List, IsTrue, IfSome, sym, subst}
 use Rattle.mpc_rows.specs.declared.systems.Row.{Row}
 use Rattle.mpc_rows.specs.LinearSystem.{LinearSystem, height, row_at}
 use Rattle.mpc_rows.specs.SetRuns.{turned}
