@@ -15,6 +15,7 @@ pub mod WholeFits
 pub mod WholeSums
 pub mod WholeRows
 pub mod ColumnSums
+pub mod WholeLaws
 pub mod LeafLemmas
 pub mod CheckLemmas
 pub mod FindingLemmas

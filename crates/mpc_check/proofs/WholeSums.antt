@@ -48,13 +48,13 @@ weight_read x all times num numerator signed product weight some h m a b n t s k
 same_sum : (a c d : ℤ) → (a *ℤ d +ℤ c *ℤ d) *ℤ d ≡ (a +ℤ c) *ℤ (d *ℤ d)
 same_sum a c d = by_ring_ℤ (a ∷ c ∷ d ∷ []) (search int_reads depth 30) (search int_reads depth 30) tt
 
-sum_over : (a c : ℤ) (m : ℕ) → 0 < m → frac a m +ℚ frac c m ≡ frac (a +ℤ c) m
+pub sum_over : (a c : ℤ) (m : ℕ) → 0 < m → frac a m +ℚ frac c m ≡ frac (a +ℤ c) m
 sum_over a c m h = frac-add a m c m h h ∙ same_frac (a *ℤ pos m +ℤ c *ℤ pos m) (m * m) (a +ℤ c) m (mul-pos h h) h (same_sum a c (pos m))
 
 product_over : (w z : ℤ) (m : ℕ) → 0 < m → frac w m *ℚ int z ≡ frac (w *ℤ z) m
 product_over w z m h = frac-mul w m z 1 h (lit< tt) ∙ ap (λ n. frac (w *ℤ z) n) (mul-one m)
 
-product_at_most : (w z : ℤ) → unsigned_abs w ≤ 2 ^ 62 → unsigned_abs z ≤ 2 ^ 62 → unsigned_abs (w *ℤ z) ≤ 2 ^ 62 * 2 ^ 62
+pub product_at_most : (w z : ℤ) → unsigned_abs w ≤ 2 ^ 62 → unsigned_abs z ≤ 2 ^ 62 → unsigned_abs (w *ℤ z) ≤ 2 ^ 62 * 2 ^ 62
 product_at_most w z h k = subst (λ n. n ≤ 2 ^ 62 * 2 ^ 62) (sym (unsigned_abs-mul w z)) (le_trans (mul-le-mul_right (unsigned_abs z) h) (mul-le-mul_left (2 ^ 62) k))
 
 module _ (all : ℕ) (some : 0 < all) (few : all ≤ 2 ^ 62) (total weight number : ℤ) (t : unsigned_abs total ≤ 2 ^ 126) (w : unsigned_abs weight ≤ 2 ^ 62) (n : unsigned_abs number ≤ 2 ^ 62) where

@@ -6,6 +6,7 @@ pub mod Columns
 pub mod Findings
 pub mod LeafSystems
 pub mod LawConditions
+pub mod WholeLaws
 pub mod LeafConditions
 pub mod Stretches
 pub mod Acceptance

@@ -19,7 +19,7 @@ fn search(alloc: Global, qp: &Qp, controller: &Controller) -> Result<Option<Spot
     requires { HasProgram controller.now.plant qp.now }
     ensures { IsSearched (BehindMet qp.now controller.now) (BehindFinds qp.now controller.now) result }
 {
-    match search_laws(qp, controller.laws()) {
+    match search_laws(alloc, qp, controller.laws()) {
         Ok(None) => search_tree(alloc, qp, controller.laws(), controller.tree()),
         Ok(Some(spot)) => Ok(Some(spot)),
         Err(error) => Err(error),
@@ -36,7 +36,7 @@ fn search_in_threads<T: Threads + Sync>(
     requires { HasProgram parts.now.plant qp.now }
     ensures { IsSearched (BehindMet qp.now parts.now) (BehindFinds qp.now parts.now) result }
 {
-    match search_laws(qp, parts.laws()) {
+    match search_laws(alloc, qp, parts.laws()) {
         Ok(None) => search_tree_in_threads(rt, alloc, qp, parts.laws(), parts.tree()),
         Ok(Some(spot)) => Ok(Some(spot)),
         Err(error) => Err(error),

@@ -1,6 +1,6 @@
 //! The conditions on the laws: the gradient of each Lagrangian is 0, and the members' rows hold with equality, at every state.
 
-ghost use Rattle.std.specs.Prelude.{◌≡◌, [], ◌+◌, ◌-◌, ◌<◌, ◌≤◌, ◌↔◌, All, IfOk, IsTrue, MatchResult, length, slice_index_or};
+ghost use Rattle.std.specs.Prelude.{◌≡◌, [], ◌+◌, ◌-◌, ◌<◌, ◌≤◌, ◌↔◌, All, IfOk, IfSome, IsTrue, MatchResult, length, slice_index_or};
 ghost use Rattle.mpc_exact.specs.Rational.{◌+ℚ◌};
 ghost use Rattle.mpc_space.specs.Vector.{column, dot};
 ghost use Rattle.mpc_space.specs.Matrix.{height};
@@ -9,11 +9,15 @@ ghost use Rattle.mpc_rows.specs.ActiveSets.{rows_of};
 ghost use Rattle.mpc_rows.specs.Laws.{HasLawShape};
 ghost use Rattle.mpc_check.specs.Findings.{IsSearched};
 ghost use Rattle.mpc_check.specs.LawConditions.{gradient_at, GradientFits, StationaryMet, StationaryFinds, LineMet, LineFinds, LinesMet, LinesFind, ActiveMet, ActiveFinds, RowMet, RowFinds, MembersMet, MembersFind, LawMet, LawFinds, LawsMet, LawsFind};
+ghost use Rattle.mpc_check.specs.WholeLaws.{IsProgramOver};
 
 use crate::answers::{CheckError, Spot};
+use crate::numbers::WholeProgram;
+use crate::whole_laws::{is_met_in_wholes, whole_program};
 use mpc_frac::{Frac, Wide};
 use mpc_linear::{Matrix, add_product, sum_theorems};
 use mpc_rows::{Law, LawTable, Place, Qp, law_theorems};
+use std::alloc::Global;
 
 /// `start` plus the products of row r of m with column c of the moves.
 fn add_moves(start: &Frac, m: &Matrix, r: u32, moves: &Matrix, c: u32) -> Result<Frac, Wide>
@@ -186,29 +190,66 @@ fn search_members(qp: &Qp, number: u32, law: &Law) -> Result<Option<Spot>, Check
     Ok(None)
 }
 
-/// What is found of a law with this number.
-fn search_law(qp: &Qp, number: u32, law: &Law) -> Result<Option<Spot>, CheckError>
-    requires { HasLawShape qp.now law.now }
+/// Whether the conditions on a law are seen to be met in whole numbers.
+fn is_seen_met(qp: &Qp, program: &Option<WholeProgram>, law: &Law) -> bool
+    requires program { IfSome program.now (IsProgramOver qp.now) }
+    requires shape { HasLawShape qp.now law.now }
+    ensures { IsTrue result → LawMet qp.now law.now }
+{
+    match program {
+        Some(program) => is_met_in_wholes(qp, program, law),
+        None => false,
+    }
+}
+
+/// What is found of a law with this number. Only where its conditions aren't seen to be met in whole numbers are they tested in fractions,
+/// in their order.
+fn search_law(
+    qp: &Qp,
+    program: &Option<WholeProgram>,
+    number: u32,
+    law: &Law,
+) -> Result<Option<Spot>, CheckError>
+    requires program { IfSome program.now (IsProgramOver qp.now) }
+    requires shape { HasLawShape qp.now law.now }
     ensures { IsSearched (LawMet qp.now law.now) (LawFinds qp.now number law.now) result }
 {
+    if is_seen_met(qp, program, law) {
+        return Ok(None);
+    }
     match search_lines(qp, number, law) {
         Ok(None) => search_members(qp, number, law),
         found => found,
     }
 }
 
-/// What is found of the laws, in their order: where one of them doesn't meet the conditions of optimality (Karush 1939, Kuhn and Tucker
-/// 1951), coefficient by coefficient.
-pub fn search_laws(qp: &Qp, laws: &LawTable) -> Result<Option<Spot>, CheckError>
+/// What is found of the laws, in their order.
+fn search_each(
+    qp: &Qp,
+    program: &Option<WholeProgram>,
+    laws: &LawTable,
+) -> Result<Option<Spot>, CheckError>
+    requires program { IfSome program.now (IsProgramOver qp.now) }
     requires few { length laws.now ≤ 4598479 }
     requires shapes { All (HasLawShape qp.now) laws.now }
     ensures { IsSearched (LawsMet qp.now laws.now) (LawsFind qp.now laws.now) result }
 {
     for j in 0..laws.len() {
-        match search_law(qp, j as u32 + 1, laws.at(j)) {
+        match search_law(qp, program, j as u32 + 1, laws.at(j)) {
             Ok(None) => {}
             found => return found,
         }
     }
     Ok(None)
+}
+
+/// What is found of the laws, in their order: where one of them doesn't meet the conditions of optimality (Karush 1939, Kuhn and Tucker
+/// 1951), coefficient by coefficient. Without memory for the program in whole numbers, the laws are tested in fractions.
+pub fn search_laws(alloc: Global, qp: &Qp, laws: &LawTable) -> Result<Option<Spot>, CheckError>
+    requires few { length laws.now ≤ 4598479 }
+    requires shapes { All (HasLawShape qp.now) laws.now }
+    ensures { IsSearched (LawsMet qp.now laws.now) (LawsFind qp.now laws.now) result }
+{
+    let program = whole_program(alloc, qp);
+    search_each(qp, &program, laws)
 }

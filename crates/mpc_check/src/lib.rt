@@ -8,9 +8,11 @@ mod certs;
 mod checks;
 mod gradients;
 mod leaves;
+mod numbers;
 mod rows;
 mod stretches;
 mod theorems;
+mod whole_laws;
 mod whole_sums;
 
 pub use answers::{Answer, CheckError, Spot};

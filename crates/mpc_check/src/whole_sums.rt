@@ -150,7 +150,7 @@ fn is_strict_at(qp: &Qp, way: &[Turn], place: usize) -> bool
 // ---- one denominator
 
 /// The denominator.
-fn denominator(x: &Frac) -> u128
+pub(crate) fn denominator(x: &Frac) -> u128
     ensures value { result ≡ x.now.denom }
     ensures positive { 0 < result }
 {
@@ -158,7 +158,7 @@ fn denominator(x: &Frac) -> u128
 }
 
 /// The least common multiple, where it is at most 2^62.
-fn common_multiple(a: u64, b: u128) -> Option<u64>
+pub(crate) fn common_multiple(a: u64, b: u128) -> Option<u64>
     requires a_positive { 0 < a }
     requires b_positive { 0 < b }
     ensures of_a { IfSome result (λ m. a ∣ m) }
@@ -202,7 +202,7 @@ fn narrow(z: i128) -> i64
 }
 
 /// The number, where it is at most 2^62 in size.
-fn small(z: i128) -> Option<i64>
+pub(crate) fn small(z: i128) -> Option<i64>
     ensures value { IfSome result (λ s. s ≡ z) }
     ensures small { IfSome result (λ s. unsigned_abs s ≤ 2 ^ 62) }
 {
@@ -214,14 +214,14 @@ fn small(z: i128) -> Option<i64>
 }
 
 /// The product, which fits twice the width.
-fn product(x: i64, y: i64) -> i128
+pub(crate) fn product(x: i64, y: i64) -> i128
     ensures { result ≡ x *ℤ y }
 {
     x as i128 * y as i128
 }
 
 /// A number as a signed one.
-fn signed(n: u64) -> i64
+pub(crate) fn signed(n: u64) -> i64
     requires { n ≤ 2 ^ 62 }
     ensures value { result ≡ pos n }
     ensures small { unsigned_abs result ≤ 2 ^ 62 }
@@ -280,7 +280,7 @@ fn sum(x: i128, y: i128) -> i128
 }
 
 /// The sum with one product more, where it is at most 2^126 in size.
-fn add_term(old: i128, weight: i64, number: i64) -> Option<i128>
+pub(crate) fn add_term(old: i128, weight: i64, number: i64) -> Option<i128>
     requires old { unsigned_abs old ≤ 2 ^ 126 }
     requires weight { unsigned_abs weight ≤ 2 ^ 62 }
     requires number { unsigned_abs number ≤ 2 ^ 62 }
@@ -303,7 +303,7 @@ fn stays_zero(zero: bool, sum: i128) -> bool
 }
 
 /// Whether the sum is 0.
-fn is_zero(sum: i128) -> bool
+pub(crate) fn is_zero(sum: i128) -> bool
     ensures { IsTrue result ↔ (sum ≡ pos 0) }
 {
     sum == 0
