@@ -1,7 +1,7 @@
 //! The test of a law's conditions in whole numbers: the program's over one denominator, and the law's over another. It gives up where a
 //! number is too large for it, and says of a law only that its conditions are met.
 
-ghost use Rattle.std.specs.Prelude.{◌≡◌, [], ◌+◌, ◌-◌, ◌*◌, ◌/◌, ◌^◌, ◌<◌, ◌≤◌, ◌↔◌, IfSome, IsTrue, length, unsigned_abs, slice_index};
+ghost use Rattle.std.specs.Prelude.{◌≡◌, ◌+◌, ◌*◌, ◌/◌, ◌^◌, ◌<◌, ◌≤◌, ◌↔◌, IfSome, IsTrue, length, unsigned_abs, slice_index};
 ghost use Rattle.std.specs.Int.{◌∣◌};
 ghost use Rattle.mpc_exact.specs.Rational.{frac};
 ghost use Rattle.mpc_space.specs.Vector.{column};
@@ -97,6 +97,18 @@ fn rows_over(alloc: Global, m: &Matrix, all: u64) -> Option<Vec<Numbers>>
 
 // ---- one denominator
 
+/// A common multiple of a number and of a denominator, where it is at most 2^62: the number where it is one.
+fn common_with(all: u64, x: &Frac) -> Option<u64>
+    requires { IsSmallDenom all }
+    ensures { IfSome result IsSmallDenom }
+{
+    if times_into(all, x).is_some() {
+        return Some(all);
+    }
+    let multiple = common_multiple(all, denominator(x))?;
+    Some(multiple)
+}
+
 /// A common multiple of a number and of denominators, where it is at most 2^62.
 fn common_in(start: u64, xs: &[Frac]) -> Option<u64>
     requires { IsSmallDenom start }
@@ -104,7 +116,7 @@ fn common_in(start: u64, xs: &[Frac]) -> Option<u64>
 {
     let mut all = start;
     for x in xs {
-        all = common_multiple(all, denominator(x))?;
+        all = common_with(all, x)?;
     }
     Some(all)
 }
