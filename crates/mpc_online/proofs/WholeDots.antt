@@ -1,5 +1,5 @@
 -- Dots of fractions that stand over one denominator each, in whole numbers.
-use Rattle.std.proofs.Common.{◌≡◌, ℕ, ◌+◌, ◌*◌, ◌^◌, ◌<◌, ◌≤◌, ◌↔◌, List, [], ◌∷◌, length, get_or, All, ℤ, pos, ◌+ℤ◌, ◌-ℤ◌, ◌*ℤ◌, ◌<ℤ◌, neg_ℤ, unsigned_abs, FitsSigned, to_z, of_z, sym, ◌∙◌, ap, subst, subst₂, arith, mul-pos, mul_comm, mul-le-mul_right, le_trans, ⊎_elim, lit<, take, ◌/◌, div-le_self}
+use Rattle.std.proofs.Common.{◌≡◌, ℕ, ◌+◌, ◌*◌, ◌^◌, ◌<◌, ◌≤◌, ◌↔◌, List, [], ◌∷◌, length, get_or, All, ℤ, pos, ◌+ℤ◌, ◌-ℤ◌, ◌*ℤ◌, ◌<ℤ◌, neg_ℤ, unsigned_abs, FitsSigned, to_z, of_z, sym, ◌∙◌, ap, subst, subst₂, arith, mul-pos, mul_comm, mul-le-mul_right, le_trans, ⊎_elim, lit<, take, ◌/◌}
 use Rattle.std.proofs.Math.Nat.{mul-le-mul_left}
 use Rattle.std.specs.Int.{◌∣◌}
 use lib.Signed.{mag}
@@ -267,12 +267,8 @@ denoms_more old new i xs x h is before over here =
 pub read_mag : (z : ℤ) → mag z < 2 ^ 127 → to_z w128 (of_z w128 z) ≡ z
 read_mag z h = to_z-of_z w128 z (record { sfits = h })
 
-pub numerator_is : (x : ℚ) (all d : ℕ) (num numerator : ℤ) → 0 < all → all ≤ 2 ^ 124 → x.denom ∣ all → d ≡ x.denom → mag num < 2 ^ 127 → num ≡ x.numer → FitsSigned w128 (to_z w128 (of_z w128 num) *ℤ to_z w128 (all / d)) → numerator ≡ to_z w128 (of_z w128 num) *ℤ to_z w128 (all / d) → x ≡ frac (to_z w128 (of_z w128 numerator)) all
-numerator_is x all d num numerator some few h q m e f is =
-    let l : all / d ≤ all = div-le_self all d in
-    sym (over_multiple x all some h)
-    ∙ ap (λ z. frac z all) (sym (ap (λ z. to_z w128 (of_z w128 z)) is ∙ to_z-of_z w128 (to_z w128 (of_z w128 num) *ℤ to_z w128 (all / d)) f
-    ∙ (λ i. (read_mag num m ∙ e) i *ℤ (to_z_pos w128 (all / d) (omega (arith, l, few)) ∙ ap (λ n. pos (all / n)) q) i)))
+pub numerator_is : (x : ℚ) (all times : ℕ) (numerator : ℤ) → 0 < all → x.denom ∣ all → times ≡ all / x.denom → numerator ≡ x.numer *ℤ pos times → x ≡ frac numerator all
+numerator_is x all times numerator some h t is = sym (over_multiple x all some h) ∙ ap (λ z. frac z all) (sym (is ∙ ap (λ n. x.numer *ℤ pos n) t))
 
 pub quotient_over : (t : ℤ) (den : ℕ) → 0 < den → den ≤ 2 ^ 124 → mag t < 2 ^ 127 → quotient (to_z w128 (of_z w128 t)) (to_z w128 den) ≡ frac t den
 quotient_over t den some small m = (λ i. quotient (read_mag t m i) (to_z_pos w128 den (omega (arith, small)) i)) ∙ quotient_positive t den some

@@ -1,6 +1,6 @@
 //! Fractions over one denominator, and their sums of products in whole numbers, where these are small.
 
-ghost use Rattle.std.specs.Prelude.{◌≡◌, List, ◌+◌, ◌*◌, ◌/◌, ◌^◌, ◌<◌, ◌≤◌, ◌↔◌, IfOk, IfSome, IsTrue, length, unsigned_abs, ◌-ℤ◌, ◌*ℤ◌, ◌<ℤ◌};
+ghost use Rattle.std.specs.Prelude.{◌≡◌, List, ◌+◌, ◌*◌, ◌/◌, ◌%◌, ◌^◌, ◌<◌, ◌≤◌, ◌↔◌, IfOk, IfSome, IsTrue, length, pos, unsigned_abs, ◌-ℤ◌, ◌*ℤ◌, ◌<ℤ◌};
 ghost use Rattle.std.specs.Int.{◌∣◌};
 ghost use Rattle.mpc_exact.specs.Rational.{ℚ, frac, ◌-ℚ◌, ◌<ℚ◌, neg_ℚ};
 ghost use Rattle.mpc_space.specs.Vector.{dot};
@@ -18,6 +18,36 @@ const MOST: u128 = 0x1000_0000_0000_0000_0000_0000_0000_0000;
 
 /// The cube root of `MOST`, rounded down to a power of two: three numbers up to it are seen to have a small product without a multiplication.
 const SHORT: u128 = 0x200_0000_0000;
+
+/// The largest number of 64 bits, whose division takes one instruction.
+const WORD: u128 = u64::MAX as u128;
+
+/// Two numbers up to this, 2^62, have a product of at most 2^124.
+const HALF: u128 = 0x4000_0000_0000_0000;
+
+/// The rest of a by b.
+#[inline]
+fn rest(a: u128, b: u128) -> u128
+    requires { 0 < b }
+    ensures { result ≡ a % b }
+{
+    if a <= WORD && b <= WORD {
+        return (a as u64 % b as u64) as u128;
+    }
+    a % b
+}
+
+/// How often b goes into a.
+#[inline]
+fn part(a: u128, b: u128) -> u128
+    requires { 0 < b }
+    ensures { result ≡ a / b }
+{
+    if a <= WORD && b <= WORD {
+        return (a as u64 / b as u64) as u128;
+    }
+    a / b
+}
 
 /// The denominator.
 fn denominator(x: &Frac) -> u128
@@ -37,11 +67,10 @@ pub fn common_multiple(a: u128, b: u128) -> Option<u128>
     ensures positive { IfSome result (λ m. 0 < m) }
     ensures small { IfSome result (λ m. m ≤ 2 ^ 124) }
 {
-    if a == b || a % b == 0 {
+    if a == b || rest(a, b) == 0 {
         return Some(a);
     }
-    let part = a / greatest_common_divisor(a, b);
-    let multiple = part.checked_mul(b)?;
+    let multiple = part(a, greatest_common_divisor(a, b)).checked_mul(b)?;
     if multiple > MOST {
         return None;
     }
@@ -74,6 +103,33 @@ fn small_numerator(x: &Frac) -> Option<i128>
     Some(numerator)
 }
 
+/// The product of numbers that fit 64 bits each.
+#[inline]
+fn short_product(x: i128, y: i128) -> i128
+    requires x_short { unsigned_abs x < 2 ^ 63 }
+    requires y_short { unsigned_abs y < 2 ^ 63 }
+    ensures { result ≡ x *ℤ y }
+{
+    (x as i64) as i128 * (y as i64) as i128
+}
+
+/// So many times the numerator, where that is at most 2^124 in size.
+fn scaled_numerator(x: &Frac, times: u128) -> Option<i128>
+    requires { times ≤ 2 ^ 124 }
+    ensures value { IfSome result (λ z. z ≡ x.now.numer *ℤ pos times) }
+    ensures small { IfSome result (λ z. unsigned_abs z ≤ 2 ^ 124) }
+{
+    let numerator = x.num();
+    if numerator.unsigned_abs() <= HALF && times <= HALF {
+        return Some(short_product(numerator, times as i128));
+    }
+    let scaled = numerator.checked_mul(times as i128)?;
+    if scaled.unsigned_abs() > MOST {
+        return None;
+    }
+    Some(scaled)
+}
+
 /// The numerator of a fraction over a multiple of its denominator, where it is at most 2^124 in size.
 pub fn numerator_over(x: &Frac, all: u128) -> Option<i128>
     requires multiple { x.now.denom ∣ all }
@@ -86,11 +142,7 @@ pub fn numerator_over(x: &Frac, all: u128) -> Option<i128>
     if below == all {
         return small_numerator(x);
     }
-    let times = all / below;
-    let numerator = x.num().checked_mul(times as i128)?;
-    if numerator.unsigned_abs() > MOST {
-        return None;
-    }
+    let numerator = scaled_numerator(x, part(all, below))?;
     Some(numerator)
 }
 
@@ -141,16 +193,6 @@ pub fn grown_size(total: u128, numerator: i128, count: u64) -> Option<u128>
         return None;
     }
     Some(sum)
-}
-
-/// The product of numbers that fit 64 bits each.
-#[inline]
-fn short_product(x: i128, y: i128) -> i128
-    requires x_short { unsigned_abs x < 2 ^ 63 }
-    requires y_short { unsigned_abs y < 2 ^ 63 }
-    ensures { result ≡ x *ℤ y }
-{
-    (x as i64) as i128 * (y as i64) as i128
 }
 
 /// The same of short numerators.
