@@ -35,6 +35,7 @@ loop-place-preserved c =
       none = fails_none c.args.qp.now c.args.cell.now.rows.items c.args.rows.now c.loop-place.place c.index-rows-place.result is c.loop-place.invariant.none (λ f. end.0 ((fails_where c.cell_theorems.ensures c.args.qp.now c.args.cell.now.rows.items c.index-rows-place.result).0 f));
       certs_are = certs_more c.args.qp.now c.args.cell.now.rows.items c.args.rows.now c.loop-place.place c.index-rows-place.result is c.loop-place.certs c.push.new.self c.in-Ok-Refuted.cert c.loop-place.invariant.certs_are end.1 c.in_ok-push-in-Ok-Refuted.ensures.ok;
       fits = holds_fit c.args.qp.now c.args.cell.now.rows.items c.args.rows.now c.loop-place.place c.index-rows-place.result is c.loop-place.invariant.fits c.in-Ok-Refuted.ensures.wide;
+      opened = c.in-Ok-Refuted.ensures.open;
     }
 
 pub returns-clause-held : goal.returns-clause-held

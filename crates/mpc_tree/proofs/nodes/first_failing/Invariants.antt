@@ -9,5 +9,5 @@ invariant-loop-place l = record {
   none : NoneFailsBefore l.qp l.rows l.cell.rows.items l.place;
   certs_are : AreCertsOf l.qp l.cell.rows.items l.rows l.place l.certs;
   fits : HoldsFit l.qp l.cell.rows.items l.rows l.place;
-  open : IsOpenAt l.cell.run l.work;
+  opened : IsOpenAt l.cell.run l.work;
 }

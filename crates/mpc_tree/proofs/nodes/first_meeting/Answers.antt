@@ -33,4 +33,5 @@ loop-place-preserved c =
     record {
       none = meets_none c.args.qp.now c.args.laws.now c.args.borders.now c.requires.borders c.args.cell.now.rows.items c.loop-place.place c.index-borders-place.result is c.cell_theorems.ensures c.loop-place.invariant.none (λ p. false_true (sym c.in-Ok-false.field-0-test ∙ c.in-Ok-false.ensures.answer.1 p));
       fits = meets_fit c.args.qp.now c.args.laws.now c.args.borders.now c.requires.borders c.args.cell.now.rows.items c.loop-place.place c.index-borders-place.result is c.args.at.next c.loop-place.invariant.fits c.in-Ok-false.ensures.wide;
+      opened = c.in-Ok-false.ensures.open;
     }

@@ -7,5 +7,5 @@ abbrev pub invariant-loop-place : goal.invariant-loop-place
 invariant-loop-place l = record {
   none : NoneMeetsBefore l.qp l.laws l.cell.rows.items l.place;
   fits : MeetsFit l.qp l.laws (record { rows = l.cell.rows.items; next = l.fn.at.next }) l.place;
-  open : IsOpenAt l.cell.run l.work;
+  opened : IsOpenAt l.cell.run l.work;
 }

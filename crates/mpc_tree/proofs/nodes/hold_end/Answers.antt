@@ -6,8 +6,8 @@ use Rattle.mpc_tree.specs.Ends.{IsEndOf}
 use Rattle.mpc_tree.proofs.CellRuns.{row_size, holds_from}
 use Rattle.mpc_tree.proofs.nodes.hold_end.Goals as goal
 
-pub broken_end-requires : goal.broken_end-requires
-broken_end-requires c = row_size c.args.qp.now c.args.cell.now.rows.items c.args.cell.now.run c.requires.run c.in-Some.run' c.in-Some.is c.args.row.now c.requires.plain
+pub broken_end-requires-clause-width : goal.broken_end-requires-clause-width
+broken_end-requires-clause-width c = row_size c.args.qp.now c.args.cell.now.rows.items c.args.cell.now.run c.requires.run c.in-Some.run' c.in-Some.is c.args.row.now c.requires.plain
 
 pub returns-in-Ok-Some-clause-end : goal.returns-in-Ok-Some-clause-end
 returns-in-Ok-Some-clause-end c = subst (λ s. IsEndOf s c.in-Ok-Some.end) (holds_from c.args.qp.now c.args.cell.now.rows.items c.args.cell.now.run c.requires.run c.in-Some.run' c.in-Some.is c.args.row.now) (rw c.in-Ok-Some.field-0-is at c.in-Ok-Some.ensures.end)

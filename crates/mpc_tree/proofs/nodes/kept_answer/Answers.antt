@@ -1,8 +1,8 @@
 use Rattle.mpc_tree.proofs.CellRuns.{behind_width, behind_answer, behind_fits}
 use Rattle.mpc_tree.proofs.nodes.kept_answer.Goals as goal
 
-pub meets-requires : goal.meets-requires
-meets-requires c = behind_width c.args.qp.now c.args.cell.now.rows.items c.args.cell.now.run c.requires.run c.in-Some.run' c.in-Some.is c.args.border.now c.len.result c.len.ensures c.in-Some-whole.rows.now c.in-Some-whole.ensures
+pub meets-requires-clause-width : goal.meets-requires-clause-width
+meets-requires-clause-width c = behind_width c.args.qp.now c.args.cell.now.rows.items c.args.cell.now.run c.requires.run c.in-Some.run' c.in-Some.is c.args.border.now c.len.result c.len.ensures c.in-Some-whole.rows.now c.in-Some-whole.ensures
 
 pub returns-in-Some-whole-clause-answer : goal.returns-in-Some-whole-clause-answer
 returns-in-Some-whole-clause-answer c =
