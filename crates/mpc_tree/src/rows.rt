@@ -15,7 +15,7 @@ use mpc_frac::{Frac, NoMemory};
 use mpc_linear::{LinearError, RowInt, Vector, primitive};
 use mpc_region::law_rows;
 use mpc_rows::{Law, Qp, law_row, law_theorems};
-use mpc_scaled::{narrow, negative};
+use mpc_scaled::{narrow, negative, product, signed};
 use mpc_sweep::Swept;
 use std::alloc::Global;
 
@@ -33,25 +33,13 @@ pub struct LawNumbers {
     against: i64,
 }
 
-/// The product of small numbers, which fits twice the width.
-#[inline]
-fn product(x: i64, y: i64) -> i128
-    requires x_small { unsigned_abs x ≤ 2 ^ 62 }
-    requires y_small { unsigned_abs y ≤ 2 ^ 62 }
-    ensures value { result ≡ x *ℤ y }
-    ensures small { unsigned_abs result ≤ 2 ^ 124 }
-{
-    x as i128 * y as i128
-}
-
 /// The sum of two numbers, where it is small.
 #[inline]
 fn small_sum(x: i64, y: i128) -> Option<i64>
-    requires y_small { unsigned_abs y ≤ 2 ^ 124 }
     ensures value { IfSome result (λ z. z ≡ x +ℤ y) }
     ensures small { IfSome result (λ z. unsigned_abs z ≤ 2 ^ 62) }
 {
-    let sum = x as i128 + y;
+    let sum = y.checked_add(x as i128)?;
     if sum.unsigned_abs() <= 1 << 62 {
         Some(narrow(sum))
     } else {
@@ -62,22 +50,10 @@ fn small_sum(x: i64, y: i128) -> Option<i64>
 /// `sum + x y`, where that is small.
 #[inline]
 fn with_product(sum: i64, x: i64, y: i64) -> Option<i64>
-    requires x_small { unsigned_abs x ≤ 2 ^ 62 }
-    requires y_small { unsigned_abs y ≤ 2 ^ 62 }
     ensures value { IfSome result (λ z. z ≡ sum +ℤ (x *ℤ y)) }
     ensures small { IfSome result (λ z. unsigned_abs z ≤ 2 ^ 62) }
 {
     small_sum(sum, product(x, y))
-}
-
-/// A denominator as a number with a sign.
-#[inline]
-fn signed(n: u64) -> i64
-    requires { n ≤ 2 ^ 62 }
-    ensures value { result ≡ pos n }
-    ensures small { unsigned_abs result ≤ 2 ^ 62 }
-{
-    n as i64
 }
 
 /// The numbers of a program's rows, where they are small.
