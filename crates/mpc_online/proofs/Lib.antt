@@ -31,5 +31,7 @@ pub mod Turned
 pub mod Keeping
 pub mod WholeFits
 pub mod WholeDots
+pub mod WholeMoves
+pub mod WholePoints
 pub mod SmallSums
 pub mod Openings

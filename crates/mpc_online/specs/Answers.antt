@@ -1,6 +1,7 @@
 -- What is answered.
 use Rattle.std.specs.Prelude.{ℕ, List, ⊤}
 use Rattle.mpc_exact.specs.Rational.{ℚ}
+use Rattle.mpc_online.specs.Wholes.{entries_of}
 use Rattle.mpc_online.specs.Positions.{Position, Step, goes_to, ends}
 use Rattle.mpc_online.specs.declared.Online.{Online}
 use Rattle.mpc_online.specs.declared.Online.TheVariants.{Best, Refuted}
@@ -33,7 +34,7 @@ IfStopWide NoMemoryStop P = ⊤
 
 -- the code's position and step
 abbrev pub position_of : Iterate → Position
-position_of it = record { point = it.point.items; set = it.set; multipliers = it.multipliers.items; row = it.row; weight = it.weight }
+position_of it = record { point = entries_of it.point; set = it.set; multipliers = it.multipliers.items; row = it.row; weight = it.weight }
 
 abbrev pub step_of : Next → Step
 step_of (Goes it) = goes_to (position_of it)

@@ -11,7 +11,7 @@ use Rattle.mpc_rows.specs.SetRuns.{law_matrix}
 use Rattle.mpc_online.specs.StateRows.{level}
 use Rattle.mpc_online.specs.Positions.{right_matrix, step_side, upper_part, lower_part}
 use Rattle.mpc_online.specs.Widths.{EliminationFits}
-use Rattle.mpc_online.specs.Wholes.{AreRowsOver}
+use Rattle.mpc_online.specs.Wholes.{IsOver, AreRowsOver}
 use Rattle.mpc_online.specs.Openings.{IsOpeningOf}
 use Rattle.mpc_online.specs.declared.prepared.Direction.{Direction}
 use Rattle.mpc_online.specs.declared.prepared.KeptDirection.{KeptDirection}
@@ -51,6 +51,7 @@ pub record IsDirectionOf (qp : Qp) (s : List ℕ) (r : ℕ) (d : Direction) : Ty
   pub solves : IsOnlySolution (law_matrix qp s) (right_matrix qp s (step_side qp r)) solution
   pub fits : EliminationFits (law_matrix qp s) (right_matrix qp s (step_side qp r))
   pub point_is : d.point.items ≡ upper_part qp solution
+  pub whole_is : IfSome d.whole (IsOver d.point.items)
   pub multipliers_are : d.multipliers.items ≡ lower_part qp s solution
   pub slope_is : IsSlopeOf qp r d.point.items d.slope
 

@@ -2,9 +2,11 @@
 use Rattle.std.specs.Prelude.{◌≡◌, ℕ, ◌<◌, ◌≤◌, pos, List, [], length, get_or, All, Option, None, IfSome}
 use Rattle.std.specs.Int.{◌∣◌}
 use Rattle.mpc_exact.specs.Rational.{ℚ, frac}
-use Rattle.mpc_space.specs.Vector.{coordinate}
+use Rattle.mpc_space.specs.Vector.{coordinate, listed}
 use Rattle.mpc_space.specs.Matrix.{RationalMatrix, height}
 use Rattle.mpc_online.specs.declared.prepared.Wholes.{Wholes}
+use Rattle.mpc_online.specs.declared.points.Point.{Point}
+use Rattle.mpc_online.specs.declared.points.Point.TheVariants.{Whole, Apart}
 
 -- each denominator divides n
 abbrev pub AreDenomsIn : ℕ → List ℚ → Type 0
@@ -19,3 +21,12 @@ pub record IsOver (xs : List ℚ) (w : Wholes) : Type 0 where
 pub record AreRowsOver (m : RationalMatrix) (rows : List (Option Wholes)) : Type 0 where
   pub size : length rows ≡ height m
   pub at : (i : ℕ) → i < height m → IfSome (get_or rows i None) (IsOver (get_or m.rows i []))
+
+-- the first numerators over the denominator
+abbrev pub first_of : Wholes → ℕ → List ℚ
+first_of w count = listed count (λ k. frac (get_or w.numerators k (pos 0)) w.den)
+
+-- the entries of a point
+abbrev pub entries_of : Point → List ℚ
+entries_of (Whole w count) = first_of w count
+entries_of (Apart v) = v.items

@@ -20,6 +20,7 @@ mod matrices;
 mod moves;
 mod numbers;
 mod opening;
+mod points;
 mod prepared;
 mod refuting;
 mod run;
@@ -28,6 +29,7 @@ mod solutions;
 mod tests_of_rows;
 mod theorems;
 mod turns;
+mod whole_moves;
 mod wholes;
 
 pub use directions::prepare;

@@ -7,11 +7,12 @@ use mpc_frac::Frac;
 use mpc_linear::Matrix;
 use mpc_sets::ActiveSet;
 
-/// The direction of a step: how the point moves, and how the multipliers of the members do; and how the row on its way grows, `None` where
-/// a number on the way to this needs more than 128 bits.
+/// The direction of a step: how the point moves, also in whole numbers where these are small, and how the multipliers of the members do; and
+/// how the row on its way grows, `None` where a number on the way to this needs more than 128 bits.
 #[derive(Drop)]
 pub struct Direction {
     pub point: Vec<Frac>,
+    pub whole: Option<Wholes>,
     pub multipliers: Vec<Frac>,
     pub slope: Option<Frac>,
 }

@@ -1,6 +1,6 @@
 //! The run of the method, step by step.
 
-ghost use Rattle.std.specs.Prelude.{◌≡◌, IfOk, IfSome, MatchResult, length, ⊤};
+ghost use Rattle.std.specs.Prelude.{◌≡◌, ◌≤◌, IfOk, IfSome, MatchResult, length, ⊤};
 ghost use Rattle.mpc_space.specs.Vector.{IsSymmetric};
 ghost use Rattle.mpc_space.specs.Matrix.{height};
 ghost use Rattle.mpc_space.specs.Definite.{IsDefinite};
@@ -11,7 +11,7 @@ ghost use Rattle.mpc_online.specs.Widths.{StepFits, FirstFits, TurnFits};
 ghost use Rattle.mpc_online.specs.OnlineRun.{IsStep, IsOpening, IsRunEnd, LeadsTo, answered, wide_in};
 ghost use Rattle.mpc_online.specs.Standing.{IsPosition, IsAnswer};
 ghost use Rattle.mpc_online.specs.Shared.{IsPreparedFor};
-ghost use Rattle.mpc_online.specs.Wholes.{AreRowsOver};
+ghost use Rattle.mpc_online.specs.Wholes.{IsOver, AreRowsOver, entries_of};
 ghost use Rattle.mpc_online.specs.Openings.{AreExtendedCounts, IsOpeningOf};
 ghost use Rattle.mpc_online.specs.Answers.{IfWide, IfStopWide, position_of, step_of};
 ghost use Rattle.mpc_rows.specs.ActiveSets.{IsInBox};
@@ -20,6 +20,7 @@ use crate::counts::extended;
 use crate::directions::direction_place;
 use crate::moves::{Iterate, dropped, moved, row_joined};
 use crate::opening::first_point;
+use crate::points::{fractions, point_of};
 use crate::prepared::{Direction, Opening, Prepared, Wholes};
 use crate::refuting::row_multipliers;
 use crate::solutions::{Stop, products};
@@ -55,10 +56,12 @@ fn vector(alloc: Global, entries: &[Frac]) -> Result<Vector, NoMemory>
 
 /// The step that follows where this row is the first that the point doesn't meet.
 fn continued(alloc: Global, mut it: Iterate, first: Option<u32>) -> Result<Next, NoMemory>
+    requires { length (entries_of it.point) ≤ 6 }
     ensures { IfOk result (λ next. step_of next ≡ continued (position_of it) first) }
 {
     let Some(row) = first else {
-        return Ok(Next::Ends(Online::Best(vector(alloc, &it.point)?)));
+        let entries = fractions(alloc, it.point)?;
+        return Ok(Next::Ends(Online::Best(vector(alloc, &entries)?)));
     };
     it.row = row;
     it.weight = Frac::whole(0);
@@ -85,7 +88,8 @@ fn open(
     ensures wide { MatchResult result (λ _. FirstFits qp.now sides.now c.now)
         (λ stop. IfStopWide stop (¬ FirstFits qp.now sides.now c.now)) }
 {
-    let point = first_point(alloc, qp, c, costs, opening)?;
+    let entries = first_point(alloc, qp, c, costs, opening)?;
+    let point = point_of(entries);
     let first = first_violated(qp, rows, sides, &point)?;
     let it = Iterate {
         point,
@@ -111,6 +115,7 @@ fn take_turn(
     requires position { IsPosition qp.now (position_of it) }
     requires sides { length sides.now ≡ height qp.now.g }
     requires direction { length direction.now.point.items ≡ height qp.now.h }
+    requires whole { IfSome direction.now.whole (IsOver direction.now.point.items) }
     requires multipliers { length direction.now.multipliers.items ≡ length it.set }
     requires turn { IsTurn qp.now sides.now (position_of it) direction.now.point.items direction.now.multipliers.items turn }
     ensures leads { IfOk result (λ next. LeadsTo qp.now sides.now (position_of it) direction.now.point.items direction.now.multipliers.items turn (step_of next)) }
@@ -123,11 +128,11 @@ fn take_turn(
             Ok(Next::Ends(Online::Refuted(multipliers)))
         }
         Turn::Drops(place, length) => {
-            let after = moved(it, direction, &length)?;
+            let after = moved(alloc, it, direction, &length)?;
             Ok(Next::Goes(dropped(after, place)))
         }
         Turn::Joins(length) => {
-            let after = moved(it, direction, &length)?;
+            let after = moved(alloc, it, direction, &length)?;
             let first = first_violated(qp, rows, sides, &after.point)?;
             let together = row_joined(after)?;
             Ok(continued(alloc, together, first)?)

@@ -1,31 +1,31 @@
 //! The first row that a point doesn't meet.
 
-ghost use Rattle.std.specs.Prelude.{◌≡◌, ◌-◌, ◌≤◌, ◌↔◌, IfOk, IfSome, IsTrue, MatchResult, length};
+ghost use Rattle.std.specs.Prelude.{◌≡◌, ◌-◌, ◌≤◌, ◌↔◌, IfOk, IsTrue, MatchResult, length};
 ghost use Rattle.mpc_exact.specs.Rational.{◌-ℚ◌};
 ghost use Rattle.mpc_space.specs.Matrix.{height};
 ghost use Rattle.mpc_online.specs.StateRows.{level, side, IsViolated, IsFirstViolated};
 ghost use Rattle.mpc_online.specs.Widths.{TestFits, TestsFit};
-ghost use Rattle.mpc_online.specs.Wholes.{IsOver, AreRowsOver};
+ghost use Rattle.mpc_online.specs.Wholes.{AreRowsOver, entries_of};
 
 use crate::numbers::is_positive;
+use crate::points::{Point, point_dot};
 use crate::prepared::Wholes;
-use crate::solutions::dot_of;
-use crate::wholes::{difference_in_wholes, is_above, over_one_denominator};
+use crate::wholes::{difference_in_wholes, is_above};
 use mpc_frac::{Frac, Wide};
 use mpc_rows::Qp;
 
 /// By how much the point is above row i: `g_i z - b_i`.
-fn excess(qp: &Qp, sides: &[Frac], point: &[Frac], i: u32) -> Result<Frac, Wide>
+fn excess(qp: &Qp, sides: &[Frac], point: &Point, i: u32) -> Result<Frac, Wide>
     requires sides { length sides.now ≡ height qp.now.g }
-    requires point { length point.now ≡ height qp.now.h }
+    requires point { length (entries_of point.now) ≡ height qp.now.h }
     requires from_one { 1 ≤ i }
     requires to_last { i ≤ height qp.now.g }
-    ensures value { IfOk result (λ v. v ≡ level qp.now point.now i -ℚ side sides.now i) }
-    ensures wide { MatchResult result (λ _. TestFits qp.now sides.now point.now i)
-        (λ _. ¬ TestFits qp.now sides.now point.now i) }
+    ensures value { IfOk result (λ v. v ≡ level qp.now (entries_of point.now) i -ℚ side sides.now i) }
+    ensures wide { MatchResult result (λ _. TestFits qp.now sides.now (entries_of point.now) i)
+        (λ _. ¬ TestFits qp.now sides.now (entries_of point.now) i) }
 {
     let _rows = qp.g.rows();
-    let level = dot_of(qp.g.row(i - 1), point)?;
+    let level = point_dot(qp.g.row(i - 1), point)?;
     level.sub(&sides[i as usize - 1])
 }
 
@@ -34,22 +34,22 @@ pub fn excess_at(
     qp: &Qp,
     rows: &[Option<Wholes>],
     sides: &[Frac],
-    point: &[Frac],
+    point: &Point,
     i: u32,
 ) -> Result<Frac, Wide>
     requires rows { AreRowsOver qp.now.g rows.now }
     requires sides { length sides.now ≡ height qp.now.g }
-    requires point { length point.now ≡ height qp.now.h }
+    requires point { length (entries_of point.now) ≡ height qp.now.h }
     requires from_one { 1 ≤ i }
     requires to_last { i ≤ height qp.now.g }
-    ensures value { IfOk result (λ v. v ≡ level qp.now point.now i -ℚ side sides.now i) }
-    ensures wide { MatchResult result (λ _. TestFits qp.now sides.now point.now i)
-        (λ _. ¬ TestFits qp.now sides.now point.now i) }
+    ensures value { IfOk result (λ v. v ≡ level qp.now (entries_of point.now) i -ℚ side sides.now i) }
+    ensures wide { MatchResult result (λ _. TestFits qp.now sides.now (entries_of point.now) i)
+        (λ _. ¬ TestFits qp.now sides.now (entries_of point.now) i) }
 {
     let place = i as usize - 1;
     if let Some(row) = &rows[place] {
-        if let Some(numbers) = &over_one_denominator(point) {
-            if let Some(above) = difference_in_wholes(row, numbers, point.len(), &sides[place]) {
+        if let Point::Whole(numbers, count) = point {
+            if let Some(above) = difference_in_wholes(row, numbers, *count, &sides[place]) {
                 return Ok(above);
             }
         }
@@ -62,24 +62,22 @@ fn is_violated(
     qp: &Qp,
     rows: &[Option<Wholes>],
     sides: &[Frac],
-    point: &[Frac],
-    whole: &Option<Wholes>,
+    point: &Point,
     i: u32,
 ) -> Result<bool, Wide>
     requires rows { AreRowsOver qp.now.g rows.now }
     requires sides { length sides.now ≡ height qp.now.g }
-    requires point { length point.now ≡ height qp.now.h }
-    requires whole { IfSome whole.now (IsOver point.now) }
+    requires point { length (entries_of point.now) ≡ height qp.now.h }
     requires from_one { 1 ≤ i }
     requires to_last { i ≤ height qp.now.g }
-    ensures value { IfOk result (λ yes. IsTrue yes ↔ IsViolated qp.now sides.now point.now i) }
-    ensures wide { MatchResult result (λ _. TestFits qp.now sides.now point.now i)
-        (λ _. ¬ TestFits qp.now sides.now point.now i) }
+    ensures value { IfOk result (λ yes. IsTrue yes ↔ IsViolated qp.now sides.now (entries_of point.now) i) }
+    ensures wide { MatchResult result (λ _. TestFits qp.now sides.now (entries_of point.now) i)
+        (λ _. ¬ TestFits qp.now sides.now (entries_of point.now) i) }
 {
     let place = i as usize - 1;
     if let Some(row) = &rows[place] {
-        if let Some(numbers) = whole {
-            if let Some(yes) = is_above(row, numbers, point.len(), &sides[place]) {
+        if let Point::Whole(numbers, count) = point {
+            if let Some(yes) = is_above(row, numbers, *count, &sides[place]) {
                 return Ok(yes);
             }
         }
@@ -93,18 +91,17 @@ pub fn first_violated(
     qp: &Qp,
     rows: &[Option<Wholes>],
     sides: &[Frac],
-    point: &[Frac],
+    point: &Point,
 ) -> Result<Option<u32>, Wide>
     requires rows { AreRowsOver qp.now.g rows.now }
     requires sides { length sides.now ≡ height qp.now.g }
-    requires point { length point.now ≡ height qp.now.h }
-    ensures value { IfOk result (λ o. IsFirstViolated qp.now sides.now point.now o) }
-    ensures wide { MatchResult result (λ _. TestsFit qp.now sides.now point.now)
-        (λ _. ¬ TestsFit qp.now sides.now point.now) }
+    requires point { length (entries_of point.now) ≡ height qp.now.h }
+    ensures value { IfOk result (λ o. IsFirstViolated qp.now sides.now (entries_of point.now) o) }
+    ensures wide { MatchResult result (λ _. TestsFit qp.now sides.now (entries_of point.now))
+        (λ _. ¬ TestsFit qp.now sides.now (entries_of point.now)) }
 {
-    let whole = over_one_denominator(point);
     for i in 0..qp.g.rows() {
-        let above = is_violated(qp, rows, sides, point, &whole, i + 1)?;
+        let above = is_violated(qp, rows, sides, point, i + 1)?;
         if above {
             return Ok(Some(i + 1));
         }

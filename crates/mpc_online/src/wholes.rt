@@ -50,7 +50,7 @@ fn part(a: u128, b: u128) -> u128
 }
 
 /// The denominator.
-fn denominator(x: &Frac) -> u128
+pub fn denominator(x: &Frac) -> u128
     ensures value { result ≡ x.now.denom }
     ensures positive { 0 < result }
 {
@@ -167,7 +167,7 @@ pub fn over_one_denominator(xs: &[Frac]) -> Option<Wholes>
 }
 
 /// Whether the product is at most 2^124.
-fn is_small(x: u128, y: u128, z: u128) -> bool
+pub fn is_small(x: u128, y: u128, z: u128) -> bool
     ensures { IsTrue result → x * y * z ≤ 2 ^ 124 }
 {
     if x <= SHORT && y <= SHORT && z <= SHORT {
@@ -236,7 +236,7 @@ fn dot_of_numerators(x: &Wholes, y: &Wholes, count: usize) -> i128
 }
 
 /// The product, which fits.
-fn product(x: i128, y: i128) -> i128
+pub fn product(x: i128, y: i128) -> i128
     requires { unsigned_abs (x *ℤ y) < 2 ^ 127 }
     ensures { result ≡ x *ℤ y }
 {

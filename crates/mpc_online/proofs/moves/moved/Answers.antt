@@ -10,15 +10,13 @@ use Rattle.mpc_online.proofs.moves.moved.Goals as goal
 
 pub returns : goal.returns
 returns c =
-    let q : length c.grow.new.xs ≡ length c.deref_mut.result.now = c.grow.auto.xs in
-    let r : length c.grow-2.new.xs ≡ length c.deref_mut-2.result.now = c.grow-2.auto.xs in
-    let x = with_items_is c.args.it.point c.grow.new.xs (q ∙ c.deref_mut.ensures.len) in
-    let y = with_items_is c.args.it.multipliers c.grow-2.new.xs (r ∙ c.deref_mut-2.ensures.len) in
+    let r : length c.grow.new.xs ≡ length c.deref_mut.result.now = c.grow.auto.xs in
+    let y = with_items_is c.args.it.multipliers c.grow.new.xs (r ∙ c.deref_mut.ensures.len) in
     record {
       value = same_position _ (along (position_of c.args.it) c.args.direction.now.point.items c.args.direction.now.multipliers.items c.args.s.now)
-          (x ∙ grown_as c.deref_mut.result.now c.args.it.point.items c.grow.new.xs c.args.s.now c.deref.result.now c.deref_mut.ensures.value c.in_ok-grow.ensures.ok ∙ ap (λ (d : List ℚ). vec_add c.args.it.point.items (vec_scale c.args.s.now d)) c.deref.ensures.value) refl
-          (y ∙ grown_as c.deref_mut-2.result.now c.args.it.multipliers.items c.grow-2.new.xs c.args.s.now c.deref-2.result.now c.deref_mut-2.ensures.value c.in_ok-grow-2.ensures.ok ∙ ap (λ (d : List ℚ). vec_add c.args.it.multipliers.items (vec_scale c.args.s.now d)) c.deref-2.ensures.value) refl c.in_ok-it.ensures.value;
+          c.in_ok-point.ensures.value refl
+          (y ∙ grown_as c.deref_mut.result.now c.args.it.multipliers.items c.grow.new.xs c.args.s.now c.deref.result.now c.deref_mut.ensures.value c.in_ok-grow.ensures.ok ∙ ap (λ (d : List ℚ). vec_add c.args.it.multipliers.items (vec_scale c.args.s.now d)) c.deref.ensures.value) refl c.in_ok-weight.ensures.value;
       wide = move_fits (position_of c.args.it) c.args.direction.now.point.items c.args.direction.now.multipliers.items c.args.s.now
-          (subst (λ (d : List ℚ). GrowsFit c.args.it.point.items c.args.s.now d) c.deref.ensures.value (grows_as c.deref_mut.result.now c.args.it.point.items c.args.s.now c.deref.result.now c.deref_mut.ensures.value c.in_ok-grow.ensures.wide))
-          (subst (λ (d : List ℚ). GrowsFit c.args.it.multipliers.items c.args.s.now d) c.deref-2.ensures.value (grows_as c.deref_mut-2.result.now c.args.it.multipliers.items c.args.s.now c.deref-2.result.now c.deref_mut-2.ensures.value c.in_ok-grow-2.ensures.wide)) c.in_ok-it.ensures.wide;
+          c.in_ok-point.ensures.wide
+          (subst (λ (d : List ℚ). GrowsFit c.args.it.multipliers.items c.args.s.now d) c.deref.ensures.value (grows_as c.deref_mut.result.now c.args.it.multipliers.items c.args.s.now c.deref.result.now c.deref_mut.ensures.value c.in_ok-grow.ensures.wide)) c.in_ok-weight.ensures.wide;
     }

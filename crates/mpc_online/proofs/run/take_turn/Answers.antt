@@ -1,18 +1,24 @@
 use Rattle.std.proofs.Common.{◌≡◌, ◌≤◌, List, length, sym, ◌∙◌, ap, subst, arith}
 use Rattle.mpc_exact.specs.Rational.{ℚ}
 use Rattle.mpc_space.specs.Matrix.{height}
-use Rattle.mpc_online.specs.StateRows.{IsFirstViolated}
-use Rattle.mpc_online.specs.Positions.{goes_to, ends, row_multipliers}
+use Rattle.mpc_online.specs.Wholes.{entries_of}
+use Rattle.mpc_online.specs.Positions.{Position, goes_to, ends, row_multipliers}
 use Rattle.mpc_online.specs.Turns.{IsTurn, IsDrop}
-use Rattle.mpc_online.specs.Widths.{TestsFit, TurnFits}
+use Rattle.mpc_online.specs.Widths.{MoveFits, TurnFits}
 use Rattle.mpc_online.specs.OnlineRun.{LeadsTo}
 use Rattle.mpc_online.specs.Answers.{position_of, step_of}
 use Rattle.mpc_online.specs.declared.Online.TheVariants.{Refuted}
 use Rattle.mpc_online.specs.declared.turns.Turn.{Turn}
-use Rattle.mpc_online.proofs.Advance.{err_wide, err_memory}
+use Rattle.mpc_online.proofs.Advance.{err_wide, err_memory, err_same, stop_for}
 use Rattle.mpc_online.proofs.Turned.{size, row_is, one_each, drop_member, drop_leads, join_leads, join_fits, wide_tests}
 use Rattle.mpc_online.proofs.run.take_turn.Goals as goal
 use Rattle.mpc_online.proofs.run.take_turn.Goals.{In_ok-after-in-Drops}
+
+pub moved-requires-clause-few : goal.moved-requires-clause-few
+moved-requires-clause-few c = let l = c.requires.position.size in let few = c.args.qp.now.is_program.few_unknowns in omega (arith, l, few)
+
+pub moved-requires-in-Joins-clause-few : goal.moved-requires-in-Joins-clause-few
+moved-requires-in-Joins-clause-few c = let l = c.requires.position.size in let few = c.args.qp.now.is_program.few_unknowns in omega (arith, l, few)
 
 pub moved-requires-clause-direction : goal.moved-requires-clause-direction
 moved-requires-clause-direction c = c.requires.direction ∙ sym c.requires.position.size
@@ -53,8 +59,9 @@ dropped-requires-clause-one_each c =
 
 pub returns-in_err-after-in-Drops-clause-wide : goal.returns-in_err-after-in-Drops-clause-wide
 returns-in_err-after-in-Drops-clause-wide c =
-    err_wide c.from_residual-in_err-after-in-Drops.result _ _ c.from_residual-in_err-after-in-Drops.ensures.1
-    (subst (λ (t : Turn). ¬ TurnFits c.args.qp.now c.args.sides.now (position_of c.args.it) c.args.direction.now.point.items c.args.direction.now.multipliers.items t) (sym c.in-Drops.is) c.in_err-after-in-Drops.ensures.wide)
+    err_same c.from_residual-in_err-after-in-Drops.result c.in_err-after-in-Drops.field-0.0 _ _ c.from_residual-in_err-after-in-Drops.ensures.1
+    (stop_for c.in_err-after-in-Drops.field-0.0 (¬ MoveFits (position_of c.args.it) c.args.direction.now.point.items c.args.direction.now.multipliers.items c.in-Drops.length) (¬ TurnFits c.args.qp.now c.args.sides.now (position_of c.args.it) c.args.direction.now.point.items c.args.direction.now.multipliers.items c.args.turn)
+    (λ h. subst (λ (t : Turn). ¬ TurnFits c.args.qp.now c.args.sides.now (position_of c.args.it) c.args.direction.now.point.items c.args.direction.now.multipliers.items t) (sym c.in-Drops.is) (λ f. h f)) c.in_err-after-in-Drops.ensures.wide)
 
 pub returns-in_ok-after-in-Drops-clause-leads : goal.returns-in_ok-after-in-Drops-clause-leads
 returns-in_ok-after-in-Drops-clause-leads c =
@@ -68,8 +75,15 @@ returns-in_ok-after-in-Drops-clause-wide c = subst (λ (t : Turn). TurnFits c.ar
 -- ---- the row joins
 pub first_violated-requires-clause-point : goal.first_violated-requires-clause-point
 first_violated-requires-clause-point c =
-    ap (λ (t : List ℚ). length t) c.deref-in-Joins.ensures.value
-    ∙ size c.args.qp.now c.args.sides.now (position_of c.args.it) c.args.direction.now.point.items c.args.direction.now.multipliers.items c.in-Joins.length (position_of c.in_ok-after-in-Joins.after) c.in_ok-after-in-Joins.ensures.value c.requires.position c.requires.direction c.requires.multipliers
+    size c.args.qp.now c.args.sides.now (position_of c.args.it) c.args.direction.now.point.items c.args.direction.now.multipliers.items c.in-Joins.length (position_of c.in_ok-after-in-Joins.after) c.in_ok-after-in-Joins.ensures.value c.requires.position c.requires.direction c.requires.multipliers
+
+pub continued-requires : goal.continued-requires
+continued-requires c =
+    let l : length (entries_of c.in_ok-after-in-Joins.after.point) ≡ height c.args.qp.now.h =
+    size c.args.qp.now c.args.sides.now (position_of c.args.it) c.args.direction.now.point.items c.args.direction.now.multipliers.items c.in-Joins.length (position_of c.in_ok-after-in-Joins.after) c.in_ok-after-in-Joins.ensures.value c.requires.position c.requires.direction c.requires.multipliers in
+    let k : length (entries_of c.in_ok-together-in-Joins.together.point) ≡ length (entries_of c.in_ok-after-in-Joins.after.point) = ap (λ (q : Position). length q.point) c.in_ok-together-in-Joins.ensures in
+    let few = c.args.qp.now.is_program.few_unknowns in
+    omega (arith, k, l, few)
 
 pub row_joined-requires-clause-from_one : goal.row_joined-requires-clause-from_one
 row_joined-requires-clause-from_one c =
@@ -91,15 +105,16 @@ row_joined-requires-clause-one_each c =
 
 pub returns-in_err-after-in-Joins-clause-wide : goal.returns-in_err-after-in-Joins-clause-wide
 returns-in_err-after-in-Joins-clause-wide c =
-    err_wide c.from_residual-in_err-after-in-Joins.result _ _ c.from_residual-in_err-after-in-Joins.ensures.1
-    (subst (λ (t : Turn). ¬ TurnFits c.args.qp.now c.args.sides.now (position_of c.args.it) c.args.direction.now.point.items c.args.direction.now.multipliers.items t) (sym c.in-Joins.is) (λ f. c.in_err-after-in-Joins.ensures.wide f.0))
+    err_same c.from_residual-in_err-after-in-Joins.result c.in_err-after-in-Joins.field-0.0 _ _ c.from_residual-in_err-after-in-Joins.ensures.1
+    (stop_for c.in_err-after-in-Joins.field-0.0 (¬ MoveFits (position_of c.args.it) c.args.direction.now.point.items c.args.direction.now.multipliers.items c.in-Joins.length) (¬ TurnFits c.args.qp.now c.args.sides.now (position_of c.args.it) c.args.direction.now.point.items c.args.direction.now.multipliers.items c.args.turn)
+    (λ h. subst (λ (t : Turn). ¬ TurnFits c.args.qp.now c.args.sides.now (position_of c.args.it) c.args.direction.now.point.items c.args.direction.now.multipliers.items t) (sym c.in-Joins.is) (λ f. h f.0)) c.in_err-after-in-Joins.ensures.wide)
 
 pub returns-in_err-first-in-Joins-clause-wide : goal.returns-in_err-first-in-Joins-clause-wide
 returns-in_err-first-in-Joins-clause-wide c =
     err_wide c.from_residual-in_err-first-in-Joins.result _ _ c.from_residual-in_err-first-in-Joins.ensures.1
     (subst (λ (t : Turn). ¬ TurnFits c.args.qp.now c.args.sides.now (position_of c.args.it) c.args.direction.now.point.items c.args.direction.now.multipliers.items t) (sym c.in-Joins.is)
     (wide_tests c.args.qp.now c.args.sides.now (position_of c.args.it) c.args.direction.now.point.items c.args.direction.now.multipliers.items c.in-Joins.length (position_of c.in_ok-after-in-Joins.after) c.in_ok-after-in-Joins.ensures.value c.requires.position c.requires.direction c.requires.multipliers
-    (λ f. c.in_err-first-in-Joins.ensures.wide (subst (λ (z : List ℚ). TestsFit c.args.qp.now c.args.sides.now z) (sym c.deref-in-Joins.ensures.value) f))))
+    c.in_err-first-in-Joins.ensures.wide))
 
 pub returns-in_err-together-in-Joins-clause-wide : goal.returns-in_err-together-in-Joins-clause-wide
 returns-in_err-together-in-Joins-clause-wide c = err_memory c.from_residual-in_err-together-in-Joins.result _ _ c.from_residual-in_err-together-in-Joins.ensures.1
@@ -111,11 +126,11 @@ pub returns-in_ok-continued-in-Joins-clause-leads : goal.returns-in_ok-continued
 returns-in_ok-continued-in-Joins-clause-leads c =
     subst (λ (t : Turn). LeadsTo c.args.qp.now c.args.sides.now (position_of c.args.it) c.args.direction.now.point.items c.args.direction.now.multipliers.items t (step_of c.in_ok-continued-in-Joins.field-0)) (sym c.in-Joins.is)
     (join_leads c.args.qp.now c.args.sides.now (position_of c.args.it) c.args.direction.now.point.items c.args.direction.now.multipliers.items c.in-Joins.length (position_of c.in_ok-after-in-Joins.after) c.in_ok-after-in-Joins.ensures.value c.requires.position c.requires.direction c.requires.multipliers
-    c.in_ok-first-in-Joins.first (subst (λ (z : List ℚ). IsFirstViolated c.args.qp.now c.args.sides.now z c.in_ok-first-in-Joins.first) c.deref-in-Joins.ensures.value c.in_ok-first-in-Joins.ensures.value)
+    c.in_ok-first-in-Joins.first c.in_ok-first-in-Joins.ensures.value
     (position_of c.in_ok-together-in-Joins.together) c.in_ok-together-in-Joins.ensures (step_of c.in_ok-continued-in-Joins.field-0) c.in_ok-continued-in-Joins.ensures)
 
 pub returns-in_ok-continued-in-Joins-clause-wide : goal.returns-in_ok-continued-in-Joins-clause-wide
 returns-in_ok-continued-in-Joins-clause-wide c =
     subst (λ (t : Turn). TurnFits c.args.qp.now c.args.sides.now (position_of c.args.it) c.args.direction.now.point.items c.args.direction.now.multipliers.items t) (sym c.in-Joins.is)
     (join_fits c.args.qp.now c.args.sides.now (position_of c.args.it) c.args.direction.now.point.items c.args.direction.now.multipliers.items c.in-Joins.length (position_of c.in_ok-after-in-Joins.after) c.in_ok-after-in-Joins.ensures.value c.requires.position c.requires.direction c.requires.multipliers
-    c.in_ok-after-in-Joins.ensures.wide (subst (λ (z : List ℚ). TestsFit c.args.qp.now c.args.sides.now z) c.deref-in-Joins.ensures.value c.in_ok-first-in-Joins.ensures.wide))
+    c.in_ok-after-in-Joins.ensures.wide c.in_ok-first-in-Joins.ensures.wide)

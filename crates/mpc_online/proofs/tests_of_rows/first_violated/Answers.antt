@@ -1,38 +1,36 @@
 use Rattle.std.proofs.Common.{◌≡◌, ◌+◌, true, false, arith}
 use Rattle.std.proofs.lemmas.Result.{MatchResult-from_err}
 use Rattle.mpc_online.proofs.RowTests.{met_none, met_more, found_first, found_fits, met_all, all_fit, found_wide}
+use Rattle.mpc_online.specs.Wholes.{entries_of}
 use Rattle.mpc_online.proofs.tests_of_rows.first_violated.Goals as goal
 
 different : {b : _} → b ≡ true → b ≡ false → ⊥
 different e f = cc
 
-pub over_one_denominator-whole-requires : goal.over_one_denominator-whole-requires
-over_one_denominator-whole-requires c = let few = c.args.qp.now.is_program.few_unknowns in omega (arith, few, c.requires.point)
-
 pub loop-i-init : goal.loop-i-init
-loop-i-init c = met_none c.args.qp.now c.args.sides.now c.args.point.now
+loop-i-init c = met_none c.args.qp.now c.args.sides.now (entries_of c.args.point.now)
 
 pub loop-i-preserved : goal.loop-i-preserved
 loop-i-preserved c =
-    met_more c.args.qp.now c.args.sides.now c.args.point.now (c.loop-i.i + 1) (λ v. different (c.in_ok-above.ensures.value.1 v) c.if-above.false) c.in_ok-above.ensures.wide c.loop-i.invariant
+    met_more c.args.qp.now c.args.sides.now (entries_of c.args.point.now) (c.loop-i.i + 1) (λ v. different (c.in_ok-above.ensures.value.1 v) c.if-above.false) c.in_ok-above.ensures.wide c.loop-i.invariant
 
 pub returns-clause-value : goal.returns-clause-value
-returns-clause-value c = met_all c.args.qp.now c.args.sides.now c.args.point.now (c.loop-i.i + 1) (omega (arith, c.loop-i-test.false, c.rows-i-end.ensures.value)) c.loop-i.invariant
+returns-clause-value c = met_all c.args.qp.now c.args.sides.now (entries_of c.args.point.now) (c.loop-i.i + 1) (omega (arith, c.loop-i-test.false, c.rows-i-end.ensures.value)) c.loop-i.invariant
 
 pub returns-clause-wide : goal.returns-clause-wide
-returns-clause-wide c = all_fit c.args.qp.now c.args.sides.now c.args.point.now (c.loop-i.i + 1) (omega (arith, c.loop-i-test.false, c.rows-i-end.ensures.value)) c.loop-i.invariant
+returns-clause-wide c = all_fit c.args.qp.now c.args.sides.now (entries_of c.args.point.now) (c.loop-i.i + 1) (omega (arith, c.loop-i-test.false, c.rows-i-end.ensures.value)) c.loop-i.invariant
 
 pub returns-then-above-clause-value : goal.returns-then-above-clause-value
 returns-then-above-clause-value c =
-    found_first c.args.qp.now c.args.sides.now c.args.point.now (c.loop-i.i + 1) (c.in_ok-above.ensures.value.0 c.if-above.true)
+    found_first c.args.qp.now c.args.sides.now (entries_of c.args.point.now) (c.loop-i.i + 1) (c.in_ok-above.ensures.value.0 c.if-above.true)
     (omega arith) (omega (arith, c.loop-i-test.true, c.rows-i-end.ensures.value)) c.loop-i.invariant
 
 pub returns-then-above-clause-wide : goal.returns-then-above-clause-wide
 returns-then-above-clause-wide c =
-    found_fits c.args.qp.now c.args.sides.now c.args.point.now (c.loop-i.i + 1) (c.in_ok-above.ensures.value.0 c.if-above.true)
+    found_fits c.args.qp.now c.args.sides.now (entries_of c.args.point.now) (c.loop-i.i + 1) (c.in_ok-above.ensures.value.0 c.if-above.true)
     (omega arith) c.in_ok-above.ensures.wide c.loop-i.invariant
 
 pub returns-in_err-above-clause-wide : goal.returns-in_err-above-clause-wide
 returns-in_err-above-clause-wide c =
     MatchResult-from_err c.from_residual.result _ _ c.from_residual.ensures.0
-    (λ _. found_wide c.args.qp.now c.args.sides.now c.args.point.now (c.loop-i.i + 1) (omega arith) (omega (arith, c.loop-i-test.true, c.rows-i-end.ensures.value)) c.in_err-above.ensures.wide c.loop-i.invariant)
+    (λ _. found_wide c.args.qp.now c.args.sides.now (entries_of c.args.point.now) (c.loop-i.i + 1) (omega arith) (omega (arith, c.loop-i-test.true, c.rows-i-end.ensures.value)) c.in_err-above.ensures.wide c.loop-i.invariant)

@@ -1,6 +1,7 @@
 use Rattle.std.proofs.Common.{◌+◌}
+use Rattle.mpc_online.specs.Wholes.{entries_of}
 use Rattle.mpc_online.proofs.RowTests.{AreMet}
 use Rattle.mpc_online.proofs.tests_of_rows.first_violated.Given as goal
 
 abbrev pub invariant-loop-i : goal.invariant-loop-i
-invariant-loop-i l = AreMet l.qp l.sides l.point (l.i + 1)
+invariant-loop-i l = AreMet l.qp l.sides (entries_of l.point) (l.i + 1)

@@ -1,0 +1,137 @@
+//! Moves of points in whole numbers.
+
+ghost use Rattle.std.specs.Prelude.{◌≡◌, ℕ, List, ◌*◌, ◌+◌, ◌^◌, ◌<◌, ◌≤◌, IfSome, get_or, length, pos, unsigned_abs, ◌+ℤ◌, ◌*ℤ◌};
+ghost use Rattle.std.specs.Int.{◌∣◌};
+ghost use Rattle.mpc_exact.specs.Rational.{ℚ};
+ghost use Rattle.mpc_space.specs.Vector.{vec_add, vec_scale};
+ghost use Rattle.mpc_online.specs.Wholes.{IsOver};
+ghost use Rattle.mpc_online.specs.Widths.{GrowsFit};
+
+use crate::prepared::Wholes;
+use crate::wholes::{common_multiple, denominator, is_small, product};
+use mpc_frac::{Frac, greatest_common_divisor};
+
+/// A divisor of both, the greatest one: mostly the first number is.
+fn shared_divisor(a: u128, b: u128) -> u128
+    requires { 0 < a }
+    ensures of_a { result ∣ a }
+    ensures of_b { result ∣ b }
+    ensures positive { 0 < result }
+{
+    if b % a == 0 {
+        return a;
+    }
+    greatest_common_divisor(a, b)
+}
+
+/// What divides the denominator and the first numerators.
+fn common_divisor(numbers: &Wholes, count: usize) -> u128
+    requires { count ≤ 6 }
+    ensures of_den { result ∣ numbers.now.den }
+    ensures of_numerators { (k : ℕ) → k < count → result ∣ unsigned_abs (get_or numbers.now.numerators k (pos 0)) }
+    ensures positive { 0 < result }
+{
+    let mut shared = numbers.den;
+    for k in 0..count {
+        shared = shared_divisor(shared, numbers.numerators[k].unsigned_abs());
+    }
+    shared
+}
+
+/// The number divided by a divisor of its size.
+fn divided(numerator: i128, shared: u128) -> i128
+    requires positive { 0 < shared }
+    requires divides { shared ∣ unsigned_abs numerator }
+    requires small { unsigned_abs numerator < 2 ^ 127 }
+    ensures value { result *ℤ pos shared ≡ numerator }
+    ensures size { unsigned_abs result ≤ unsigned_abs numerator }
+    ensures small { unsigned_abs result < 2 ^ 127 }
+{
+    let size = (numerator.unsigned_abs() / shared) as i128;
+    if numerator < 0 { -size } else { size }
+}
+
+/// The first numbers in lowest terms.
+fn lowest(numbers: &Wholes, count: usize) -> Wholes
+    requires { count ≤ 6 }
+    ensures { (xs : List ℚ) → IsOver xs numbers.now → length xs ≡ count → IsOver xs result }
+{
+    let shared = common_divisor(numbers, count);
+    let den = numbers.den / shared;
+    let mut numerators = [0; 6];
+    let mut most = den;
+    for k in 0..count {
+        let numerator = divided(numbers.numerators[k], shared);
+        numerators[k] = numerator;
+        most = most.max(numerator.unsigned_abs());
+    }
+    Wholes {
+        numerators,
+        den,
+        most,
+    }
+}
+
+/// The sum of two products, which fits.
+fn combination(x: i128, left: i128, d: i128, right: i128) -> i128
+    requires left_small { unsigned_abs (x *ℤ left) ≤ 2 ^ 124 }
+    requires right_small { unsigned_abs (d *ℤ right) ≤ 2 ^ 124 }
+    ensures value { result ≡ x *ℤ left +ℤ d *ℤ right }
+    ensures small { unsigned_abs result ≤ 2 ^ 125 }
+{
+    x * left + d * right
+}
+
+/// The sums of multiples of the first numerators, over this denominator.
+fn combined(x: &Wholes, left: i128, d: &Wholes, right: i128, den: u128, count: usize) -> Wholes
+    requires few { count ≤ 6 }
+    requires left_small { x.now.most * unsigned_abs left ≤ 2 ^ 124 }
+    requires right_small { d.now.most * unsigned_abs right ≤ 2 ^ 124 }
+    requires positive { 0 < den }
+    requires den_small { den ≤ 2 ^ 124 }
+    ensures den { result.den ≡ den }
+    ensures size { length result.numerators ≡ 6 }
+    ensures numerators { (k : ℕ) → k < count
+        → get_or result.numerators k (pos 0) ≡ get_or x.now.numerators k (pos 0) *ℤ left +ℤ get_or d.now.numerators k (pos 0) *ℤ right }
+{
+    let mut numerators = [0; 6];
+    let mut most = den;
+    for k in 0..count {
+        let numerator = combination(x.numerators[k], left, d.numerators[k], right);
+        numerators[k] = numerator;
+        most = most.max(numerator.unsigned_abs());
+    }
+    Wholes {
+        numerators,
+        den,
+        most,
+    }
+}
+
+/// The point x, s times the direction d further. `None` where the numbers aren't small enough to show that each operation on fractions on
+/// the way to it fits.
+pub fn moved_in_wholes(x: &Wholes, d: &Wholes, s: &Frac, count: usize) -> Option<Wholes>
+    requires { count ≤ 6 }
+    ensures value { IfSome result
+        (λ w. (xs ds : List ℚ) → IsOver xs x.now → IsOver ds d.now → length xs ≡ count → length ds ≡ count
+        → IsOver (vec_add xs (vec_scale s.now ds)) w) }
+    ensures fits { IfSome result
+        (λ _. (xs ds : List ℚ) → IsOver xs x.now → IsOver ds d.now → length xs ≡ count → length ds ≡ count
+        → GrowsFit xs s.now ds) }
+{
+    if !is_small(d.den, denominator(s), 1) {
+        return None;
+    }
+    let below = d.den * denominator(s);
+    let den = common_multiple(below, x.den)?;
+    let left = den / x.den;
+    let right = den / below;
+    if !is_small(x.most, left, 1) {
+        return None;
+    }
+    if !is_small(d.most, right, s.num().unsigned_abs()) {
+        return None;
+    }
+    let factor = product(s.num(), right as i128);
+    Some(lowest(&combined(x, left as i128, d, factor, den, count), count))
+}
