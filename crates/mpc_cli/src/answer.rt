@@ -14,7 +14,8 @@ pub struct Answer {
     pub text: Vec<u8>,
 }
 
-/// A status with its line.
+/// A status with its line. It stands once in the program, and not at each of its many calls.
+#[inline(never)]
 pub fn refusal(alloc: Global, status: Status) -> Result<Answer, NoMemory>
     ensures status { IfOk result (λ answer. answer.status ≡ status) }
     ensures text { IfOk result (λ answer. answer.text.items ≡ line_of status) }
