@@ -16,64 +16,14 @@ use crate::tree_lines::{PlaneLine, ints_of, plane_in, read_leaf, read_word};
 use mpc_controller::limits;
 use mpc_frac::NoMemory;
 use mpc_grammar::{FileError, FileKind, Lines, number_of, one_integers, one_number};
-use mpc_linear::RowInt;
+use mpc_linear::{RowInt, Seq};
 use mpc_plant::Plant;
 use mpc_rows::{Node, Tree};
 use mpc_words::Natural;
 use std::alloc::Global;
-use std::marker::Model;
 
 /// The different rows of a tree's splits.
-#[derive(Drop)]
-pub struct Planes {
-    items: Vec<RowInt>,
-}
-
-impl Model for Planes {
-    ghost use Rattle.std.specs.Prelude.{List};
-    ghost use Rattle.mpc_linear.specs.declared.integers.RowInt.{RowInt};
-
-    ghost Value = { List RowInt };
-
-    ghost view = { λ v. v.items.items };
-}
-
-impl Planes {
-    /// The empty list, which takes no memory.
-    pub fn new(alloc: Global) -> Self
-        ensures { result ≡ [] }
-    {
-        Planes {
-            items: Vec::new(alloc),
-        }
-    }
-
-    /// How many planes there are.
-    pub fn len(&self) -> usize
-        ensures { result ≡ length self.now }
-    {
-        self.items.len()
-    }
-
-    /// The plane at the place i, from 0.
-    pub fn at(&self, i: usize) -> &RowInt
-        requires { i < length self.now }
-        ensures { slice_get self.now i ≡ Some result.now }
-    {
-        &self.items[i]
-    }
-
-    /// Puts one plane behind the others. Without memory the list stays as it was.
-    pub fn push(&mut self, item: RowInt) -> Result<(), NoMemory>
-        ensures ok { OnOk result (self.new ≡ self.old ++ item ∷ []) }
-        ensures err { OnErr result (self.new ≡ self.old) }
-    {
-        if self.items.push(item).is_err() {
-            return Err(NoMemory);
-        }
-        Ok(())
-    }
-}
+pub type Planes = Seq<RowInt>;
 
 /// Which plane the line of a split names.
 #[derive(Clone, Copy, Drop)]

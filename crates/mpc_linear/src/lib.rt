@@ -7,6 +7,7 @@ mod integers;
 mod lists;
 mod matrices;
 mod products;
+mod sequences;
 mod theorems;
 
 pub use elimination::{Solved, solve};
@@ -15,6 +16,7 @@ pub use integers::{IntAffine, RowInt, common, primitive, shared_divisor};
 pub use lists::{Ints, Vector};
 pub use matrices::Matrix;
 pub use products::{add_product, dot, dot_from, sub_product};
+pub use sequences::Seq;
 pub use theorems::{
     elimination_theorems, grid_theorems, primitive_theorems, sum_theorems, zero_theorems,
 };

@@ -35,6 +35,13 @@ impl Vector {
         }
     }
 
+    /// The vector of these entries.
+    pub fn of(items: Vec<Frac>) -> Self
+        ensures { result ≡ items.items }
+    {
+        Vector { items }
+    }
+
     /// The empty vector, with room for so many entries.
     pub fn with_capacity(alloc: Global, count: usize) -> Result<Self, NoMemory>
         ensures empty { IfOk result (λ v. v ≡ []) }

@@ -1,10 +1,9 @@
 //! Systems of linear rows, some of them strict, with points and multipliers.
 
-ghost use Rattle.std.specs.Prelude.{◌≡◌, ◌<◌, [], ◌∷◌, ◌++◌, ◌↔◌, Some, IsTrue, IfOk, OnOk, OnErr, length, take, slice_get, slice_index_or, pos};
-ghost use Rattle.mpc_exact.specs.Rational.{int};
+ghost use Rattle.std.specs.Prelude.{◌≡◌, ◌<◌, [], ◌∷◌, ◌++◌, IfOk, OnOk, OnErr, length, take};
 
 use mpc_frac::{Frac, NoMemory};
-use mpc_linear::Vector;
+use mpc_linear::{Seq, Vector};
 use std::alloc::Global;
 use std::marker::Model;
 
@@ -42,77 +41,7 @@ impl Row {
 }
 
 /// A list of rows.
-#[derive(Drop)]
-pub struct Rows {
-    items: Vec<Row>,
-}
-
-impl Model for Rows {
-    ghost use Rattle.std.specs.Prelude.{List};
-    ghost use Rattle.mpc_rows.specs.declared.systems.Row.{Row};
-
-    ghost Value = { List Row };
-
-    ghost view = { λ v. v.items.items };
-}
-
-impl Rows {
-    /// The empty list, which takes no memory.
-    pub fn new(alloc: Global) -> Self
-        ensures { result ≡ [] }
-    {
-        Rows {
-            items: Vec::new(alloc),
-        }
-    }
-
-    /// How many rows there are.
-    pub fn len(&self) -> usize
-        ensures { result ≡ length self.now }
-    {
-        self.items.len()
-    }
-
-    /// Whether there is no row.
-    pub fn is_empty(&self) -> bool
-        ensures { IsTrue result ↔ (self.now ≡ []) }
-    {
-        self.items.is_empty()
-    }
-
-    /// The row at the place i, from 0.
-    pub fn at(&self, i: usize) -> &Row
-        requires { i < length self.now }
-        ensures { slice_get self.now i ≡ Some result.now }
-    {
-        &self.items[i]
-    }
-
-    /// The rows, in their order.
-    pub fn as_slice(&self) -> &[Row]
-        ensures { result.now ≡ self.now }
-    {
-        self.items.as_slice()
-    }
-
-    /// Puts one row behind the others. Without memory the list stays as it was.
-    pub fn push(&mut self, item: Row) -> Result<(), NoMemory>
-        ensures ok { OnOk result (self.new ≡ self.old ++ item ∷ []) }
-        ensures err { OnErr result (self.new ≡ self.old) }
-    {
-        if self.items.push(item).is_err() {
-            return Err(NoMemory);
-        }
-        Ok(())
-    }
-
-    /// Keeps the first so many rows and gives up the others.
-    pub fn truncate(&mut self, count: usize)
-        ensures { self.new ≡ take count self.old }
-    {
-        self.items.truncate(count);
-    }
-}
+pub type Rows = Seq<Row>;
 
 /// Rows in the unknowns `v_1` to `v_width`: each row has one coefficient for each unknown.
 #[derive(Drop)]
@@ -188,153 +117,7 @@ impl System {
 }
 
 /// One multiplier for each row of a system.
-#[derive(Drop)]
-pub struct Multipliers {
-    items: Vec<Frac>,
-}
-
-impl Model for Multipliers {
-    ghost use Rattle.std.specs.Prelude.{List};
-    ghost use Rattle.std.specs.Coded.{coded_list};
-    ghost use Rattle.mpc_exact.specs.Rational.{ℚ, coded_ℚ};
-
-    ghost Value = { List ℚ };
-
-    ghost coded = { coded_list coded_ℚ };
-
-    ghost view = { λ v. v.items.items };
-}
-
-impl Multipliers {
-    /// The empty list, which takes no memory.
-    pub fn new(alloc: Global) -> Self
-        ensures { result ≡ [] }
-    {
-        Multipliers {
-            items: Vec::new(alloc),
-        }
-    }
-
-    /// The list of these items.
-    pub fn of(items: Vec<Frac>) -> Self
-        ensures { result ≡ items.items }
-    {
-        Multipliers { items }
-    }
-
-    /// How many multipliers there are.
-    pub fn len(&self) -> usize
-        ensures { result ≡ length self.now }
-    {
-        self.items.len()
-    }
-
-    /// Whether there is no multiplier.
-    pub fn is_empty(&self) -> bool
-        ensures { IsTrue result ↔ (self.now ≡ []) }
-    {
-        self.items.is_empty()
-    }
-
-    /// The multiplier at the place i, from 0.
-    pub fn at(&self, i: usize) -> &Frac
-        requires { i < length self.now }
-        ensures { result.now ≡ slice_index_or self.now i (int (pos 0)) }
-    {
-        &self.items[i]
-    }
-
-    /// The multipliers, in their order.
-    pub fn as_slice(&self) -> &[Frac]
-        ensures { result.now ≡ self.now }
-    {
-        self.items.as_slice()
-    }
-
-    /// Puts one multiplier behind the others. Without memory the list stays as it was.
-    pub fn push(&mut self, item: Frac) -> Result<(), NoMemory>
-        ensures ok { OnOk result (self.new ≡ self.old ++ item ∷ []) }
-        ensures err { OnErr result (self.new ≡ self.old) }
-    {
-        if self.items.push(item).is_err() {
-            return Err(NoMemory);
-        }
-        Ok(())
-    }
-}
+pub type Multipliers = Vector;
 
 /// A pair (q, r) for each unknown, which stands for `q + d r` at every small enough positive d.
-#[derive(Drop)]
-pub struct PairPoint {
-    items: Vec<(Frac, Frac)>,
-}
-
-impl Model for PairPoint {
-    ghost use Rattle.std.specs.Prelude.{List};
-    ghost use Rattle.std.specs.Coded.{coded_list, coded×};
-    ghost use Rattle.mpc_exact.specs.Rational.{ℚ, coded_ℚ};
-
-    ghost Value = { List (ℚ × ℚ) };
-
-    ghost coded = { coded_list (coded× coded_ℚ coded_ℚ) };
-
-    ghost view = { λ v. v.items.items };
-}
-
-impl PairPoint {
-    /// The empty list, which takes no memory.
-    pub fn new(alloc: Global) -> Self
-        ensures { result ≡ [] }
-    {
-        PairPoint {
-            items: Vec::new(alloc),
-        }
-    }
-
-    /// The list of these items.
-    pub fn of(items: Vec<(Frac, Frac)>) -> Self
-        ensures { result ≡ items.items }
-    {
-        PairPoint { items }
-    }
-
-    /// How many pairs there are.
-    pub fn len(&self) -> usize
-        ensures { result ≡ length self.now }
-    {
-        self.items.len()
-    }
-
-    /// Whether there is no pair.
-    pub fn is_empty(&self) -> bool
-        ensures { IsTrue result ↔ (self.now ≡ []) }
-    {
-        self.items.is_empty()
-    }
-
-    /// The pair at the place i, from 0.
-    pub fn at(&self, i: usize) -> &(Frac, Frac)
-        requires { i < length self.now }
-        ensures { slice_get self.now i ≡ Some result.now }
-    {
-        &self.items[i]
-    }
-
-    /// The pairs, in their order.
-    pub fn as_slice(&self) -> &[(Frac, Frac)]
-        ensures { result.now ≡ self.now }
-    {
-        self.items.as_slice()
-    }
-
-    /// Puts one pair behind the others. Without memory the list stays as it was.
-    pub fn push(&mut self, item: (Frac, Frac)) -> Result<(), NoMemory>
-        ensures ok { OnOk result (self.new ≡ self.old ++ item ∷ []) }
-        ensures err { OnErr result (self.new ≡ self.old) }
-    {
-        if self.items.push(item).is_err() {
-            return Err(NoMemory);
-        }
-        Ok(())
-    }
-}
+pub type PairPoint = Seq<(Frac, Frac)>;

@@ -4,7 +4,7 @@ ghost use Rattle.std.specs.Prelude.{◌≡◌, ◌<◌, [], ◌∷◌, ◌++◌,
 ghost use Rattle.mpc_rows.specs.Certificates.{IsCert};
 
 use mpc_frac::{Frac, NoMemory};
-use mpc_linear::RowInt;
+use mpc_linear::{RowInt, Seq};
 use std::alloc::Global;
 use std::marker::Model;
 
@@ -96,91 +96,7 @@ impl Cert {
 }
 
 /// A list of certificates.
-#[derive(Drop)]
-pub struct Certs {
-    items: Vec<Cert>,
-}
-
-impl Model for Certs {
-    ghost use Rattle.std.specs.Prelude.{ℕ, List};
-    ghost use Rattle.std.specs.Coded.{coded_list, coded×, coded_ℕ};
-    ghost use Rattle.mpc_exact.specs.Rational.{ℚ, coded_ℚ};
-
-    ghost Value = { List (List (ℕ × ℚ)) };
-
-    ghost coded = { coded_list (coded_list (coded× coded_ℕ coded_ℚ)) };
-
-    ghost view = { λ v. v.items.items };
-}
-
-impl Certs {
-    /// The empty list, which takes no memory.
-    pub fn new(alloc: Global) -> Self
-        ensures { result ≡ [] }
-    {
-        Certs {
-            items: Vec::new(alloc),
-        }
-    }
-
-    /// The empty list, with room for so many certificates and no more.
-    pub fn with_capacity(alloc: Global, count: usize) -> Result<Self, NoMemory>
-        ensures empty { IfOk result (λ certs. certs ≡ []) }
-        ensures none_needed { count ≡ 0 → IsOk result }
-    {
-        match Vec::with_capacity(alloc, count) {
-            Ok(items) => Ok(Certs { items }),
-            Err(_) => Err(NoMemory),
-        }
-    }
-
-    /// How many certificates there are.
-    pub fn len(&self) -> usize
-        ensures { result ≡ length self.now }
-    {
-        self.items.len()
-    }
-
-    /// Whether there is no certificate.
-    pub fn is_empty(&self) -> bool
-        ensures { IsTrue result ↔ (self.now ≡ []) }
-    {
-        self.items.is_empty()
-    }
-
-    /// The certificate at the place i, from 0.
-    pub fn at(&self, i: usize) -> &Cert
-        requires { i < length self.now }
-        ensures { slice_get self.now i ≡ Some result.now }
-    {
-        &self.items[i]
-    }
-
-    /// The certificates, in their order.
-    pub fn as_slice(&self) -> &[Cert]
-        ensures { result.now ≡ self.now }
-    {
-        self.items.as_slice()
-    }
-
-    /// Puts one certificate behind the others. Without memory the list stays as it was.
-    pub fn push(&mut self, item: Cert) -> Result<(), NoMemory>
-        ensures ok { OnOk result (self.new ≡ self.old ++ item ∷ []) }
-        ensures err { OnErr result (self.new ≡ self.old) }
-    {
-        if self.items.push(item).is_err() {
-            return Err(NoMemory);
-        }
-        Ok(())
-    }
-
-    /// Gives back the room that no certificate takes. The list stays as it is.
-    pub fn shrink_to_fit(&mut self)
-        ensures { self.new ≡ self.old }
-    {
-        self.items.shrink_to_fit();
-    }
-}
+pub type Certs = Seq<Cert>;
 
 /// A node of a search tree (Tøndel, Johansen and Bemporad, 2003).
 #[derive(Drop)]
@@ -195,97 +111,4 @@ pub enum Node {
 }
 
 /// A search tree as the list of its nodes in preorder.
-#[derive(Drop)]
-pub struct Tree {
-    items: Vec<Node>,
-}
-
-impl Model for Tree {
-    ghost use Rattle.std.specs.Prelude.{List};
-    ghost use Rattle.mpc_rows.specs.declared.trees.Node.{Node};
-
-    ghost Value = { List Node };
-
-    ghost view = { λ v. v.items.items };
-}
-
-impl Tree {
-    /// The empty list, which takes no memory.
-    pub fn new(alloc: Global) -> Self
-        ensures { result ≡ [] }
-    {
-        Tree {
-            items: Vec::new(alloc),
-        }
-    }
-
-    /// The empty list, with room for so many nodes and no more.
-    pub fn with_capacity(alloc: Global, count: usize) -> Result<Self, NoMemory>
-        ensures empty { IfOk result (λ tree. tree ≡ []) }
-        ensures none_needed { count ≡ 0 → IsOk result }
-    {
-        match Vec::with_capacity(alloc, count) {
-            Ok(items) => Ok(Tree { items }),
-            Err(_) => Err(NoMemory),
-        }
-    }
-
-    /// How many nodes there are.
-    pub fn len(&self) -> usize
-        ensures { result ≡ length self.now }
-    {
-        self.items.len()
-    }
-
-    /// Whether there is no node.
-    pub fn is_empty(&self) -> bool
-        ensures { IsTrue result ↔ (self.now ≡ []) }
-    {
-        self.items.is_empty()
-    }
-
-    /// The node at the place i, from 0.
-    pub fn at(&self, i: usize) -> &Node
-        requires { i < length self.now }
-        ensures { slice_get self.now i ≡ Some result.now }
-    {
-        &self.items[i]
-    }
-
-    /// The nodes, in their order.
-    pub fn as_slice(&self) -> &[Node]
-        ensures { result.now ≡ self.now }
-    {
-        self.items.as_slice()
-    }
-
-    /// Puts one node behind the others. Without memory the list stays as it was.
-    pub fn push(&mut self, item: Node) -> Result<(), NoMemory>
-        ensures ok { OnOk result (self.new ≡ self.old ++ item ∷ []) }
-        ensures err { OnErr result (self.new ≡ self.old) }
-    {
-        if self.items.push(item).is_err() {
-            return Err(NoMemory);
-        }
-        Ok(())
-    }
-
-    /// Gives back the room that no node takes. The tree stays as it is.
-    pub fn shrink_to_fit(&mut self)
-        ensures { self.new ≡ self.old }
-    {
-        self.items.shrink_to_fit();
-    }
-
-    /// Puts the nodes of another tree behind the others, in their order. Without memory the tree stays as it was, and the other is given up.
-    pub fn append(&mut self, other: Tree) -> Result<(), NoMemory>
-        ensures ok { OnOk result (self.new ≡ self.old ++ other) }
-        ensures err { OnErr result (self.new ≡ self.old) }
-    {
-        let Tree { mut items } = other;
-        if self.items.append(&mut items).is_err() {
-            return Err(NoMemory);
-        }
-        Ok(())
-    }
-}
+pub type Tree = Seq<Node>;

@@ -13,54 +13,13 @@ ghost use Rattle.mpc_table.specs.SharedForms.{form_line, forms_at, AreBelow, Are
 use crate::places::{Places, line_of};
 use crate::values::value_at;
 use mpc_frac::{Frac, NoMemory};
-use mpc_linear::{IntAffine, LinearError, Vector, common};
+use mpc_linear::{IntAffine, LinearError, Seq, Vector, common};
 use mpc_plant::Plant;
 use mpc_rows::{Law, LawTable};
 use std::alloc::Global;
-use std::marker::Model;
 
 /// The places of a law's forms.
-#[derive(Drop)]
-pub struct FormPlaces {
-    items: Vec<usize>,
-}
-
-impl Model for FormPlaces {
-    ghost use Rattle.std.specs.Prelude.{ℕ, List};
-
-    ghost Value = { List ℕ };
-
-    ghost view = { λ v. v.items.items };
-}
-
-impl FormPlaces {
-    /// The empty list, which takes no memory.
-    fn new(alloc: Global) -> Self
-        ensures { result ≡ [] }
-    {
-        FormPlaces {
-            items: Vec::new(alloc),
-        }
-    }
-
-    /// The places, in the order of the inputs.
-    pub fn as_slice(&self) -> &[usize]
-        ensures { result.now ≡ self.now }
-    {
-        self.items.as_slice()
-    }
-
-    /// Puts one place behind the others. Without memory the list stays as it was.
-    fn push(&mut self, item: usize) -> Result<(), NoMemory>
-        ensures ok { OnOk result (self.new ≡ self.old ++ item ∷ []) }
-        ensures err { OnErr result (self.new ≡ self.old) }
-    {
-        if self.items.push(item).is_err() {
-            return Err(NoMemory);
-        }
-        Ok(())
-    }
-}
+pub type FormPlaces = Seq<usize>;
 
 /// The forms of laws' first moves, and for each law the places of its forms: equal forms are kept once.
 #[derive(Drop)]
