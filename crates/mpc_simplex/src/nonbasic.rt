@@ -10,18 +10,23 @@ use mpc_runs::{Seat, is_basic};
 
 /// Writes the nonbasic sides into the list, in rising order, and answers how many they are: at most
 /// as many as there are columns.
-pub(crate) fn nonbasic_sides(list: &mut [usize], system: &System, seats: &[Seat], n: usize) -> usize
+pub(crate) fn nonbasic_sides(
+    list: &mut [usize],
+    system: &System,
+    seats: &[Seat],
+    variables: usize,
+) -> usize
     requires room { length list.old ≡ system.now.width }
-    requires seated { IsSeated (height system.now) system.now.width n seats.now }
+    requires seated { IsSeated (height system.now) system.now.width variables seats.now }
     ensures within { result ≤ length list.new }
-    ensures sides { AreNonbasicSides system.now.width n seats.now (take result list.new) }
+    ensures sides { AreNonbasicSides system.now.width variables seats.now (take result list.new) }
 {
     let mut count = 0;
-    for y in system.unknowns()..n {
-        if is_basic(seats, y) {
+    for side in system.unknowns()..variables {
+        if is_basic(seats, side) {
             continue;
         }
-        list[count] = y;
+        list[count] = side;
         count += 1;
     }
     count

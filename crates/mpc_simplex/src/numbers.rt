@@ -32,13 +32,13 @@ pub(crate) fn is_positive(x: &Frac) -> bool
     is_less(&zero(), x)
 }
 
-/// One over x, which always fits.
-pub(crate) fn inverse(x: &Frac) -> Frac
-    requires { x.now ≢ int (pos 0) }
-    ensures { result ≡ inv_ℚ x.now }
+/// One over the number, which always fits.
+pub(crate) fn inverse(number: &Frac) -> Frac
+    requires { number.now ≢ int (pos 0) }
+    ensures { result ≡ inv_ℚ number.now }
 {
     fit_theorems();
-    match Frac::new(x.den(), x.num()) {
+    match Frac::new(number.den(), number.num()) {
         Ok(v) => v,
         Err(_) => unreachable!(),
     }

@@ -25,55 +25,55 @@ use mpc_runs::{
 };
 use std::alloc::{AllocError, Global};
 
-/// The coefficient of the nonbasic variable y in the row of the basic variable x.
+/// The coefficient of a nonbasic variable in the row of a basic one.
 fn coefficient(
     system: &System,
     seats: &[Seat],
     entries: &[Frac],
-    n: usize,
-    x: usize,
-    y: usize,
+    variables: usize,
+    basic: usize,
+    nonbasic: usize,
 ) -> Frac
-    requires table { IsTable system.now n seats.now entries.now }
-    requires x_below { x < n }
-    requires x_basic { in_row (seat_at seats.now x) ≡ true }
-    requires y_below { y < n }
-    requires y_free { in_row (seat_at seats.now y) ≡ false }
-    ensures { result ≡ (position_of system.now.width seats.now entries.now).coefficient x y }
+    requires table { IsTable system.now variables seats.now entries.now }
+    requires basic_below { basic < variables }
+    requires x_basic { in_row (seat_at seats.now basic) ≡ true }
+    requires y_below { nonbasic < variables }
+    requires y_free { in_row (seat_at seats.now nonbasic) ≡ false }
+    ensures { result ≡ (position_of system.now.width seats.now entries.now).coefficient basic nonbasic }
 {
-    let r = row_of(seats, x);
-    let c = column_of(seats, y);
-    cell(entries, system.height(), system.unknowns(), r, c)
+    let row = row_of(seats, basic);
+    let column = column_of(seats, nonbasic);
+    cell(entries, system.height(), system.unknowns(), row, column)
 }
 
-/// The value of the basic variable x, from the nonbasic sides. An unknown rests at 0 while it is
+/// The value of a basic variable, from the nonbasic sides. An unknown rests at 0 while it is
 /// nonbasic, so that only sides add to it.
 fn value(
     system: &System,
     seats: &[Seat],
     entries: &[Frac],
     sides: &[usize],
-    n: usize,
-    x: usize,
+    variables: usize,
+    basic: usize,
 ) -> Result<Standing, Wide>
-    requires table { IsTable system.now n seats.now entries.now }
-    requires sides { AreNonbasicSides system.now.width n seats.now sides.now }
-    requires x_below { x < n }
-    requires x_basic { in_row (seat_at seats.now x) ≡ true }
-    ensures first { IfOk result (λ v. v.0 ≡ (value system.now (position_of system.now.width seats.now entries.now) x).first) }
-    ensures second { IfOk result (λ v. v.1 ≡ (value system.now (position_of system.now.width seats.now entries.now) x).second) }
-    ensures wide { MatchResult result (λ _. ValueFits system.now n (position_of system.now.width seats.now entries.now) x)
-        (λ _. ¬ ValueFits system.now n (position_of system.now.width seats.now entries.now) x) }
+    requires table { IsTable system.now variables seats.now entries.now }
+    requires sides { AreNonbasicSides system.now.width variables seats.now sides.now }
+    requires basic_below { basic < variables }
+    requires x_basic { in_row (seat_at seats.now basic) ≡ true }
+    ensures first { IfOk result (λ v. v.0 ≡ (value system.now (position_of system.now.width seats.now entries.now) basic).first) }
+    ensures second { IfOk result (λ v. v.1 ≡ (value system.now (position_of system.now.width seats.now entries.now) basic).second) }
+    ensures wide { MatchResult result (λ _. ValueFits system.now variables (position_of system.now.width seats.now entries.now) basic)
+        (λ _. ¬ ValueFits system.now variables (position_of system.now.width seats.now entries.now) basic) }
 {
     zero_theorems();
     let mut first = zero();
     let mut second = zero();
     for side in sides {
-        let y = *side;
-        let k = coefficient(system, seats, entries, n, x, y);
-        let stand = rest(system, y);
-        first = add_product(&first, &k, &stand.0)?;
-        second = add_product(&second, &k, &stand.1)?;
+        let nonbasic = *side;
+        let factor = coefficient(system, seats, entries, variables, basic, nonbasic);
+        let stand = rest(system, nonbasic);
+        first = add_product(&first, &factor, &stand.0)?;
+        second = add_product(&second, &factor, &stand.1)?;
     }
     Ok((first, second))
 }
@@ -85,90 +85,96 @@ fn leaving(
     system: &System,
     seats: &[Seat],
     entries: &[Frac],
-    n: usize,
+    variables: usize,
 ) -> Result<Option<usize>, Wide>
     requires room { length list.old ≡ system.now.width }
-    requires table { IsTable system.now n seats.now entries.now }
-    ensures least { IfOk result (λ o. o ≡ least (may_leave system.now (position_of system.now.width seats.now entries.now)) n) }
-    ensures below { IfOk result (λ o. MatchOption o ⊤ (λ l. l < n)) }
-    ensures wide { MatchResult result (λ _. ValuesFit system.now n (position_of system.now.width seats.now entries.now))
-        (λ _. ¬ ValuesFit system.now n (position_of system.now.width seats.now entries.now)) }
+    requires table { IsTable system.now variables seats.now entries.now }
+    ensures least { IfOk result (λ o. o ≡ least (may_leave system.now (position_of system.now.width seats.now entries.now)) variables) }
+    ensures below { IfOk result (λ o. MatchOption o ⊤ (λ l. l < variables)) }
+    ensures wide { MatchResult result (λ _. ValuesFit system.now variables (position_of system.now.width seats.now entries.now))
+        (λ _. ¬ ValuesFit system.now variables (position_of system.now.width seats.now entries.now)) }
 {
-    let count = nonbasic_sides(list, system, seats, n);
+    let count = nonbasic_sides(list, system, seats, variables);
     let sides = &list[..count];
     let mut out = None;
-    for x in 0..n {
-        if !is_basic(seats, x) {
+    for variable in 0..variables {
+        if !is_basic(seats, variable) {
             continue;
         }
-        let v = value(system, seats, entries, sides, n, x)?;
-        out = earlier(system, out, x, &v);
+        let standing = value(system, seats, entries, sides, variables, variable)?;
+        out = earlier(system, out, variable, &standing);
     }
     Ok(out)
 }
 
-/// Whether y may enter where the basic variable l leaves.
+/// Whether a variable may enter where a basic one leaves.
 fn may_enter(
     system: &System,
     seats: &[Seat],
     entries: &[Frac],
-    n: usize,
-    l: usize,
-    y: usize,
+    variables: usize,
+    leaving: usize,
+    entering: usize,
 ) -> bool
-    requires table { IsTable system.now n seats.now entries.now }
-    requires l_below { l < n }
-    requires l_basic { in_row (seat_at seats.now l) ≡ true }
-    requires y_below { y < n }
-    ensures { result ≡ may_enter system.now (position_of system.now.width seats.now entries.now) l y }
+    requires table { IsTable system.now variables seats.now entries.now }
+    requires l_below { leaving < variables }
+    requires l_basic { in_row (seat_at seats.now leaving) ≡ true }
+    requires y_below { entering < variables }
+    ensures { result ≡ may_enter system.now (position_of system.now.width seats.now entries.now) leaving entering }
 {
-    if is_basic(seats, y) {
+    if is_basic(seats, entering) {
         return false;
     }
-    let k = coefficient(system, seats, entries, n, l, y);
-    if is_unknown(system, y) {
-        !is_zero(&k)
+    let factor = coefficient(system, seats, entries, variables, leaving, entering);
+    if is_unknown(system, entering) {
+        !is_zero(&factor)
     } else {
-        is_positive(&k)
+        is_positive(&factor)
     }
 }
 
-/// The variable that enters where the basic variable l leaves.
-fn entering(system: &System, seats: &[Seat], entries: &[Frac], n: usize, l: usize) -> Option<usize>
-    requires table { IsTable system.now n seats.now entries.now }
-    requires l_below { l < n }
-    requires l_basic { in_row (seat_at seats.now l) ≡ true }
-    ensures least { result ≡ least (may_enter system.now (position_of system.now.width seats.now entries.now) l) n }
-    ensures below { MatchOption result ⊤ (λ e. e < n) }
+/// The variable that enters where a basic one leaves.
+fn entering(
+    system: &System,
+    seats: &[Seat],
+    entries: &[Frac],
+    variables: usize,
+    leaving: usize,
+) -> Option<usize>
+    requires table { IsTable system.now variables seats.now entries.now }
+    requires l_below { leaving < variables }
+    requires l_basic { in_row (seat_at seats.now leaving) ≡ true }
+    ensures least { result ≡ least (may_enter system.now (position_of system.now.width seats.now entries.now) leaving) variables }
+    ensures below { MatchOption result ⊤ (λ e. e < variables) }
 {
-    for y in 0..n {
-        if may_enter(system, seats, entries, n, l, y) {
-            return Some(y);
+    for variable in 0..variables {
+        if may_enter(system, seats, entries, variables, leaving, variable) {
+            return Some(variable);
         }
     }
     None
 }
 
-/// The value of the unknown j.
+/// The value of an unknown.
 fn standing(
     system: &System,
     seats: &[Seat],
     entries: &[Frac],
     sides: &[usize],
-    n: usize,
-    j: usize,
+    variables: usize,
+    unknown: usize,
 ) -> Result<Standing, Wide>
-    requires table { IsTable system.now n seats.now entries.now }
-    requires sides { AreNonbasicSides system.now.width n seats.now sides.now }
-    requires j_below { j < n }
-    ensures first { IfOk result (λ v. v.0 ≡ (value system.now (position_of system.now.width seats.now entries.now) j).first) }
-    ensures second { IfOk result (λ v. v.1 ≡ (value system.now (position_of system.now.width seats.now entries.now) j).second) }
-    ensures wide { MatchResult result (λ _. ⊤) (λ _. ¬ ValuesFit system.now n (position_of system.now.width seats.now entries.now)) }
+    requires table { IsTable system.now variables seats.now entries.now }
+    requires sides { AreNonbasicSides system.now.width variables seats.now sides.now }
+    requires j_below { unknown < variables }
+    ensures first { IfOk result (λ v. v.0 ≡ (value system.now (position_of system.now.width seats.now entries.now) unknown).first) }
+    ensures second { IfOk result (λ v. v.1 ≡ (value system.now (position_of system.now.width seats.now entries.now) unknown).second) }
+    ensures wide { MatchResult result (λ _. ⊤) (λ _. ¬ ValuesFit system.now variables (position_of system.now.width seats.now entries.now)) }
 {
-    if !is_basic(seats, j) {
-        return Ok(rest(system, j));
+    if !is_basic(seats, unknown) {
+        return Ok(rest(system, unknown));
     }
-    let v = value(system, seats, entries, sides, n, j)?;
+    let v = value(system, seats, entries, sides, variables, unknown)?;
     Ok(v)
 }
 
@@ -179,66 +185,66 @@ fn point(
     system: &System,
     seats: &[Seat],
     entries: &[Frac],
-    n: usize,
+    variables: usize,
 ) -> Result<(), Wide>
     requires room { length values.old ≡ system.now.width }
     requires list_room { length list.old ≡ system.now.width }
-    requires table { IsTable system.now n seats.now entries.now }
+    requires table { IsTable system.now variables seats.now entries.now }
     ensures values { IfOk result (λ _. IsValues system.now (position_of system.now.width seats.now entries.now) values.new) }
-    ensures wide { MatchResult result (λ _. ⊤) (λ _. ¬ ValuesFit system.now n (position_of system.now.width seats.now entries.now)) }
+    ensures wide { MatchResult result (λ _. ⊤) (λ _. ¬ ValuesFit system.now variables (position_of system.now.width seats.now entries.now)) }
 {
-    let count = nonbasic_sides(list, system, seats, n);
+    let count = nonbasic_sides(list, system, seats, variables);
     let sides = &list[..count];
     for j in 0..system.unknowns() {
-        let v = standing(system, seats, entries, sides, n, j)?;
-        values[j] = v;
+        let value = standing(system, seats, entries, sides, variables, j)?;
+        values[j] = value;
     }
     Ok(())
 }
 
-/// The multiplier of row i where the row of the basic variable l refutes.
+/// The multiplier of row i where the row of the variable that would leave refutes.
 fn multiplier(
     system: &System,
     seats: &[Seat],
     entries: &[Frac],
-    n: usize,
-    l: usize,
+    variables: usize,
+    leaving: usize,
     i: usize,
 ) -> Frac
-    requires table { IsTable system.now n seats.now entries.now }
-    requires l_below { l < n }
-    requires l_basic { in_row (seat_at seats.now l) ≡ true }
+    requires table { IsTable system.now variables seats.now entries.now }
+    requires l_below { leaving < variables }
+    requires l_basic { in_row (seat_at seats.now leaving) ≡ true }
     requires i_below { i < height system.now }
-    ensures { result ≡ multiplier system.now (position_of system.now.width seats.now entries.now) l i }
+    ensures { result ≡ multiplier system.now (position_of system.now.width seats.now entries.now) leaving i }
 {
-    let x = system.unknowns() + i;
-    if x == l {
+    let side = system.unknowns() + i;
+    if side == leaving {
         return Frac::whole(1);
     }
-    if is_basic(seats, x) {
+    if is_basic(seats, side) {
         return zero();
     }
-    coefficient(system, seats, entries, n, l, x).neg()
+    coefficient(system, seats, entries, variables, leaving, side).neg()
 }
 
-/// The multipliers where the row of the basic variable l refutes.
+/// The multipliers where the row of the variable that would leave refutes.
 fn multipliers(
     list: &mut [Frac],
     system: &System,
     seats: &[Seat],
     entries: &[Frac],
-    n: usize,
-    l: usize,
+    variables: usize,
+    leaving: usize,
 )
     requires room { length list.old ≡ height system.now }
-    requires table { IsTable system.now n seats.now entries.now }
-    requires l_below { l < n }
-    requires l_basic { in_row (seat_at seats.now l) ≡ true }
-    ensures { IsMultipliers system.now (position_of system.now.width seats.now entries.now) l list.new }
+    requires table { IsTable system.now variables seats.now entries.now }
+    requires l_below { leaving < variables }
+    requires l_basic { in_row (seat_at seats.now leaving) ≡ true }
+    ensures { IsMultipliers system.now (position_of system.now.width seats.now entries.now) leaving list.new }
 {
     for i in 0..system.height() {
-        let v = multiplier(system, seats, entries, n, l, i);
-        list[i] = v;
+        let value = multiplier(system, seats, entries, variables, leaving, i);
+        list[i] = value;
     }
 }
 
@@ -272,9 +278,9 @@ fn run(
     mut seats: Vec<Seat>,
     mut entries: Vec<Frac>,
     room: Room,
-    n: usize,
+    variables: usize,
 ) -> Result<Decision, Wide>
-    requires table { IsTable system.now n seats.items entries.items }
+    requires table { IsTable system.now variables seats.items entries.items }
     requires room { HasRoom system.now room }
     requires opens { position_of system.now.width seats.items entries.items ≡ opening system.now }
     ensures end { IfOk result (λ d. IsRunEnd system.now d) }
@@ -289,20 +295,20 @@ fn run(
     let height = system.height();
     let width = system.unknowns();
     'steps: loop {
-        let out = leaving(&mut sides, system, &seats, &entries, n)?;
-        let Some(l) = out else {
-            point(&mut values, &mut sides, system, &seats, &entries, n)?;
+        let out = leaving(&mut sides, system, &seats, &entries, variables)?;
+        let Some(left) = out else {
+            point(&mut values, &mut sides, system, &seats, &entries, variables)?;
             return Ok(Decision::Point(PairPoint::of(values)));
         };
-        let Some(e) = entering(system, &seats, &entries, n, l) else {
-            multipliers(&mut list, system, &seats, &entries, n, l);
+        let Some(entered) = entering(system, &seats, &entries, variables, left) else {
+            multipliers(&mut list, system, &seats, &entries, variables, left);
             return Ok(Decision::Refuted(Multipliers::of(list)));
         };
-        let r = row_of(&seats, l);
-        let c = column_of(&seats, e);
-        exchange(&mut entries, &mut row, height, width, r, c)?;
-        seats[l] = Seat::Column(c);
-        seats[e] = Seat::Row(r);
+        let row_left = row_of(&seats, left);
+        let column = column_of(&seats, entered);
+        exchange(&mut entries, &mut row, height, width, row_left, column)?;
+        seats[left] = Seat::Column(column);
+        seats[entered] = Seat::Row(row_left);
     }
 }
 
@@ -325,7 +331,7 @@ pub(crate) fn run_end(alloc: Global, system: &System) -> Result<Decision, Simple
     ensures end { IfOk result (λ d. IsRunEnd system.now d) }
     ensures wide { MatchResult result (λ _. RunFits system.now) (λ e. IfWide e (¬ RunFits system.now)) }
 {
-    let Some(n) = system.unknowns().checked_add(system.height()) else {
+    let Some(variables) = system.unknowns().checked_add(system.height()) else {
         return Err(SimplexError::NoMemory);
     };
     match whole_end(alloc, system) {
@@ -337,7 +343,7 @@ pub(crate) fn run_end(alloc: Global, system: &System) -> Result<Decision, Simple
     let Some(_) = system.unknowns().checked_mul(system.height()) else {
         return Err(SimplexError::NoMemory);
     };
-    let Ok(seats) = opening_seats(alloc, system, n) else {
+    let Ok(seats) = opening_seats(alloc, system, variables) else {
         return Err(SimplexError::NoMemory);
     };
     let Ok(entries) = opening_entries(alloc, system) else {
@@ -346,7 +352,7 @@ pub(crate) fn run_end(alloc: Global, system: &System) -> Result<Decision, Simple
     let Ok(room) = Room::new(alloc, system) else {
         return Err(SimplexError::NoMemory);
     };
-    match run(system, seats, entries, room, n) {
+    match run(system, seats, entries, room, variables) {
         Ok(decision) => Ok(decision),
         Err(_) => Err(SimplexError::Wide),
     }

@@ -11,42 +11,47 @@ use mpc_frac::Frac;
 use mpc_rows::System;
 use mpc_runs::{Standing, is_unknown, zero};
 
-/// The bound of the side x.
-fn bound(system: &System, x: usize) -> Standing
-    requires from { system.now.width ≤ x }
-    requires below { x < system.now.width + height system.now }
-    ensures first { result.0 ≡ (bound system.now x).first }
-    ensures second { result.1 ≡ (bound system.now x).second }
+/// The bound of a side.
+fn bound(system: &System, side: usize) -> Standing
+    requires from { system.now.width ≤ side }
+    requires below { side < system.now.width + height system.now }
+    ensures first { result.0 ≡ (bound system.now side).first }
+    ensures second { result.1 ≡ (bound system.now side).second }
 {
-    let row = system.row(x - system.unknowns());
+    let row = system.row(side - system.unknowns());
     let second = if row.strict { Frac::whole(-1) } else { zero() };
     (row.b, second)
 }
 
-/// Where the variable x stands while it is not basic.
-pub(crate) fn rest(system: &System, x: usize) -> Standing
-    requires { x < system.now.width + height system.now }
-    ensures first { result.0 ≡ (rest system.now x).first }
-    ensures second { result.1 ≡ (rest system.now x).second }
+/// Where a variable stands while it is not basic.
+pub(crate) fn rest(system: &System, variable: usize) -> Standing
+    requires { variable < system.now.width + height system.now }
+    ensures first { result.0 ≡ (rest system.now variable).first }
+    ensures second { result.1 ≡ (rest system.now variable).second }
 {
-    if is_unknown(system, x) {
+    if is_unknown(system, variable) {
         (zero(), zero())
     } else {
-        bound(system, x)
+        bound(system, variable)
     }
 }
 
-/// The first of the variables above their bounds, where x with the value v comes after those before.
-pub(crate) fn earlier(system: &System, out: Option<usize>, x: usize, v: &Standing) -> Option<usize>
-    requires { x < system.now.width + height system.now }
-    ensures { result ≡ or_at out (not (ltb x system.now.width) && is_below (bound system.now x) (record { first = v.now.0; second = v.now.1 })) x }
+/// The first of the variables above their bounds, where this one with its value comes after those before.
+pub(crate) fn earlier(
+    system: &System,
+    out: Option<usize>,
+    variable: usize,
+    value: &Standing,
+) -> Option<usize>
+    requires { variable < system.now.width + height system.now }
+    ensures { result ≡ or_at out (not (ltb variable system.now.width) && is_below (bound system.now variable) (record { first = value.now.0; second = value.now.1 })) variable }
 {
     match out {
-        Some(l) => Some(l),
-        None => if is_unknown(system, x) {
+        Some(before) => Some(before),
+        None => if is_unknown(system, variable) {
             None
-        } else if is_below(&bound(system, x), v) {
-            Some(x)
+        } else if is_below(&bound(system, variable), value) {
+            Some(variable)
         } else {
             None
         },

@@ -9,120 +9,134 @@ use crate::numbers::inverse;
 use mpc_frac::{Frac, Wide};
 use mpc_linear::add_product;
 
-/// Where the entry of row r and column c is stored.
-pub(crate) fn place(height: usize, width: usize, r: usize, c: usize) -> usize
-    requires row { r < height }
-    requires column { c < width }
+/// Where the entry of a row and a column is stored.
+pub(crate) fn place(height: usize, width: usize, row: usize, column: usize) -> usize
+    requires row { row < height }
+    requires column { column < width }
     requires fits { height * width < 2 ^ 64 }
-    ensures value { result ≡ r * width + c }
+    ensures value { result ≡ row * width + column }
     ensures below { result < height * width }
 {
-    r * width + c
+    row * width + column
 }
 
-/// The entry of row r and column c.
-pub(crate) fn cell(entries: &[Frac], height: usize, width: usize, r: usize, c: usize) -> Frac
+/// The entry of a row and a column.
+pub(crate) fn cell(entries: &[Frac], height: usize, width: usize, row: usize, column: usize) -> Frac
     requires shape { HasShape height width entries.now }
-    requires row { r < height }
-    requires column { c < width }
-    ensures { result ≡ cell_at width entries.now r c }
+    requires row { row < height }
+    requires column { column < width }
+    ensures { result ≡ cell_at width entries.now row column }
 {
-    let k = place(height, width, r, c);
-    entries[k]
+    let here = place(height, width, row, column);
+    entries[here]
 }
 
-/// The entry of column c in the new row l, where i is one over the pivot.
+/// The entry of a column in the new pivot row.
 fn own_entry(
     entries: &[Frac],
     height: usize,
     width: usize,
-    l: usize,
-    e: usize,
-    i: &Frac,
-    c: usize,
+    pivot_row: usize,
+    pivot_column: usize,
+    over_pivot: &Frac,
+    column: usize,
 ) -> Result<Frac, Wide>
     requires shape { HasShape height width entries.now }
-    requires row { l < height }
-    requires column { c < width }
-    requires inverse { i.now ≡ inv_ℚ (cell_at width entries.now l e) }
-    ensures value { IfOk result (λ v. v ≡ own_cell width entries.now l e c) }
-    ensures wide { MatchResult result (λ _. (c ≡ e → ⊥) → QuotientFits width entries.now l e c)
-        (λ _. (c ≡ e → ⊥) × (¬ QuotientFits width entries.now l e c)) }
+    requires row { pivot_row < height }
+    requires column { column < width }
+    requires inverse { over_pivot.now ≡ inv_ℚ (cell_at width entries.now pivot_row pivot_column) }
+    ensures value { IfOk result (λ v. v ≡ own_cell width entries.now pivot_row pivot_column column) }
+    ensures wide { MatchResult result (λ _. (column ≡ pivot_column → ⊥) → QuotientFits width entries.now pivot_row pivot_column column)
+        (λ _. (column ≡ pivot_column → ⊥) × (¬ QuotientFits width entries.now pivot_row pivot_column column)) }
 {
-    if c == e {
-        return Ok(*i);
+    if column == pivot_column {
+        return Ok(*over_pivot);
     }
-    let negative = cell(entries, height, width, l, c).neg();
-    match negative.mul(i) {
+    let negative = cell(entries, height, width, pivot_row, column).neg();
+    match negative.mul(over_pivot) {
         Ok(v) => Ok(v),
         Err(wide) => Err(wide),
     }
 }
 
-/// The new row l.
+/// The new pivot row.
 fn own_row(
     row: &mut [Frac],
     entries: &[Frac],
     height: usize,
     width: usize,
-    l: usize,
-    e: usize,
+    pivot_row: usize,
+    pivot_column: usize,
 ) -> Result<(), Wide>
     requires room { length row.old ≡ width }
     requires shape { HasShape height width entries.now }
-    requires row { l < height }
-    requires column { e < width }
-    requires some { cell_at width entries.now l e ≢ int (pos 0) }
-    ensures cells { IfOk result (λ _. IsOwnRow width entries.now l e row.new) }
-    ensures wide { MatchResult result (λ _. OwnFits width entries.now l e)
-        (λ _. ¬ OwnFits width entries.now l e) }
+    requires row { pivot_row < height }
+    requires column { pivot_column < width }
+    requires some { cell_at width entries.now pivot_row pivot_column ≢ int (pos 0) }
+    ensures cells { IfOk result (λ _. IsOwnRow width entries.now pivot_row pivot_column row.new) }
+    ensures wide { MatchResult result (λ _. OwnFits width entries.now pivot_row pivot_column)
+        (λ _. ¬ OwnFits width entries.now pivot_row pivot_column) }
 {
-    let pivot = cell(entries, height, width, l, e);
-    let i = inverse(&pivot);
-    for c in 0..width {
-        match own_entry(entries, height, width, l, e, &i, c) {
-            Ok(v) => row[c] = v,
+    let pivot = cell(entries, height, width, pivot_row, pivot_column);
+    let over_pivot = inverse(&pivot);
+    for column in 0..width {
+        match own_entry(
+            entries,
+            height,
+            width,
+            pivot_row,
+            pivot_column,
+            &over_pivot,
+            column,
+        ) {
+            Ok(v) => row[column] = v,
             Err(wide) => return Err(wide),
         }
     }
     Ok(())
 }
 
-/// The new entry of a row in column c, from its old one, where k is that row's entry in column e.
-fn changed_entry(old: &Frac, k: &Frac, own: &Frac, e: usize, c: usize) -> Result<Frac, Wide>
-    ensures value { IfOk result (λ v. v ≡ changed k.now old.now own.now e c) }
-    ensures wide { MatchResult result (λ _. EntryFits k.now old.now own.now e c)
-        (λ _. ¬ EntryFits k.now old.now own.now e c) }
+/// The new entry of a row in a column, from its old one, where the factor is that row's entry in the pivot column.
+fn changed_entry(
+    old: &Frac,
+    factor: &Frac,
+    own: &Frac,
+    pivot_column: usize,
+    column: usize,
+) -> Result<Frac, Wide>
+    ensures value { IfOk result (λ v. v ≡ changed factor.now old.now own.now pivot_column column) }
+    ensures wide { MatchResult result (λ _. EntryFits factor.now old.now own.now pivot_column column)
+        (λ _. ¬ EntryFits factor.now old.now own.now pivot_column column) }
 {
-    if c == e {
-        return k.mul(own);
+    if column == pivot_column {
+        return factor.mul(own);
     }
-    add_product(old, k, own)
+    add_product(old, factor, own)
 }
 
-/// Changes row r, where k is its entry in column e.
+/// Changes a row, where the factor is its entry in the pivot column.
 fn change_row(
     entries: &mut [Frac],
     row: &[Frac],
     height: usize,
     width: usize,
-    r: usize,
-    e: usize,
-    k: &Frac,
+    target: usize,
+    pivot_column: usize,
+    factor: &Frac,
 ) -> Result<(), Wide>
     requires shape { HasShape height width entries.old }
     requires room { length row.now ≡ width }
-    requires row { r < height }
-    requires column { e < width }
-    requires factor { k.now ≡ cell_at width entries.old r e }
-    ensures changed { IfOk result (λ _. ChangesRow width entries.old entries.new (row_at row.now) e r) }
-    ensures wide { MatchResult result (λ _. ChangeFits width entries.old (row_at row.now) e r)
-        (λ _. ¬ ChangeFits width entries.old (row_at row.now) e r) }
+    requires row { target < height }
+    requires column { pivot_column < width }
+    requires factor { factor.now ≡ cell_at width entries.old target pivot_column }
+    ensures changed { IfOk result (λ _. ChangesRow width entries.old entries.new (row_at row.now) pivot_column target) }
+    ensures wide { MatchResult result (λ _. ChangeFits width entries.old (row_at row.now) pivot_column target)
+        (λ _. ¬ ChangeFits width entries.old (row_at row.now) pivot_column target) }
 {
-    for c in 0..width {
-        let here = place(height, width, r, c);
+    for column in 0..width {
+        let here = place(height, width, target, column);
         let old = entries[here];
-        match changed_entry(&old, k, &row[c], e, c) {
+        match changed_entry(&old, factor, &row[column], pivot_column, column) {
             Ok(v) => entries[here] = v,
             Err(wide) => return Err(wide),
         }
@@ -130,32 +144,32 @@ fn change_row(
     Ok(())
 }
 
-/// Changes each row but l.
+/// Changes each row but that of the pivot.
 fn change_rows(
     entries: &mut [Frac],
     row: &[Frac],
     height: usize,
     width: usize,
-    l: usize,
-    e: usize,
+    pivot_row: usize,
+    pivot_column: usize,
 ) -> Result<(), Wide>
     requires shape { HasShape height width entries.old }
     requires room { length row.now ≡ width }
-    requires row { l < height }
-    requires column { e < width }
-    ensures changed { IfOk result (λ _. ChangesRows height width entries.old entries.new (row_at row.now) l e) }
-    ensures wide { MatchResult result (λ _. ChangesFit height width entries.old (row_at row.now) l e)
-        (λ _. ¬ ChangesFit height width entries.old (row_at row.now) l e) }
+    requires row { pivot_row < height }
+    requires column { pivot_column < width }
+    ensures changed { IfOk result (λ _. ChangesRows height width entries.old entries.new (row_at row.now) pivot_row pivot_column) }
+    ensures wide { MatchResult result (λ _. ChangesFit height width entries.old (row_at row.now) pivot_row pivot_column)
+        (λ _. ¬ ChangesFit height width entries.old (row_at row.now) pivot_row pivot_column) }
 {
-    for r in 0..height {
-        if r == l {
+    for target in 0..height {
+        if target == pivot_row {
             continue;
         }
-        let k = cell(entries, height, width, r, e);
-        if k.is_zero() {
+        let factor = cell(entries, height, width, target, pivot_column);
+        if factor.is_zero() {
             continue;
         }
-        match change_row(entries, row, height, width, r, e, &k) {
+        match change_row(entries, row, height, width, target, pivot_column, &factor) {
             Ok(()) => {}
             Err(wide) => return Err(wide),
         }
@@ -163,45 +177,45 @@ fn change_rows(
     Ok(())
 }
 
-/// Puts the new row l in place.
-fn put_row(entries: &mut [Frac], row: &[Frac], height: usize, width: usize, l: usize)
+/// Puts the new pivot row in place.
+fn put_row(entries: &mut [Frac], row: &[Frac], height: usize, width: usize, pivot_row: usize)
     requires shape { HasShape height width entries.old }
     requires room { length row.now ≡ width }
-    requires row { l < height }
-    ensures { PutsRow width entries.old entries.new row.now l }
+    requires row { pivot_row < height }
+    ensures { PutsRow width entries.old entries.new row.now pivot_row }
 {
-    for c in 0..width {
-        let here = place(height, width, l, c);
-        entries[here] = row[c];
+    for column in 0..width {
+        let here = place(height, width, pivot_row, column);
+        entries[here] = row[column];
     }
 }
 
-/// The pivot in row l and column e, where the room of one row is used.
+/// The pivot in a row and a column, where the room of one row is used.
 pub(crate) fn exchange(
     entries: &mut [Frac],
     row: &mut [Frac],
     height: usize,
     width: usize,
-    l: usize,
-    e: usize,
+    pivot_row: usize,
+    pivot_column: usize,
 ) -> Result<(), Wide>
     requires shape { HasShape height width entries.old }
     requires room { length row.old ≡ width }
-    requires row { l < height }
-    requires column { e < width }
-    requires some { cell_at width entries.old l e ≢ int (pos 0) }
-    ensures exchanged { IfOk result (λ _. IsExchanged height width entries.old entries.new l e) }
-    ensures wide { MatchResult result (λ _. ExchangeFits height width entries.old l e)
-        (λ _. ¬ ExchangeFits height width entries.old l e) }
+    requires row { pivot_row < height }
+    requires column { pivot_column < width }
+    requires some { cell_at width entries.old pivot_row pivot_column ≢ int (pos 0) }
+    ensures exchanged { IfOk result (λ _. IsExchanged height width entries.old entries.new pivot_row pivot_column) }
+    ensures wide { MatchResult result (λ _. ExchangeFits height width entries.old pivot_row pivot_column)
+        (λ _. ¬ ExchangeFits height width entries.old pivot_row pivot_column) }
 {
-    match own_row(row, entries, height, width, l, e) {
+    match own_row(row, entries, height, width, pivot_row, pivot_column) {
         Ok(()) => {}
         Err(wide) => return Err(wide),
     }
-    match change_rows(entries, row, height, width, l, e) {
+    match change_rows(entries, row, height, width, pivot_row, pivot_column) {
         Ok(()) => {}
         Err(wide) => return Err(wide),
     }
-    put_row(entries, row, height, width, l);
+    put_row(entries, row, height, width, pivot_row);
     Ok(())
 }

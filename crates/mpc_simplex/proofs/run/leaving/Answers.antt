@@ -10,50 +10,50 @@ use Rattle.mpc_runs.proofs.Read.{width_is}
 use Rattle.mpc_runs.proofs.Table.{least_start, least_next, least_skip, least_below, leave_not_basic, leave_basic}
 use Rattle.mpc_runs.proofs.Seats.{basic_is}
 use Rattle.mpc_simplex.proofs.run.leaving.Goals as goal
-use Rattle.mpc_simplex.proofs.run.leaving.Goals.{After-loop-x}
+use Rattle.mpc_simplex.proofs.run.leaving.Goals.{After-loop-variable}
 
-pub loop-x-init : goal.loop-x-init
-loop-x-init c = record { least = least_start _; fits = λ z h b. absurd (omega arith) }
+pub loop-variable-init : goal.loop-variable-init
+loop-variable-init c = record { least = least_start _; fits = λ z h b. absurd (omega arith) }
 
-pub loop-x-preserved-then-not-is_basic : goal.loop-x-preserved-then-not-is_basic
-loop-x-preserved-then-not-is_basic c =
+pub loop-variable-preserved-then-not-is_basic : goal.loop-variable-preserved-then-not-is_basic
+loop-variable-preserved-then-not-is_basic c =
     let s = c.args.system.now in
     let p = position_of c.args.system.now.width c.args.seats.now c.args.entries.now in
-    let f : p.is_basic c.loop-x.x ≡ false = (basic_is c.args.system.now.width c.args.n c.args.seats.now c.args.entries.now c.requires.table.seated.each c.loop-x.x ∙ sym c.is_basic.ensures ∙ c.if-not-is_basic.true) in
+    let f : p.is_basic c.loop-variable.variable ≡ false = (basic_is c.args.system.now.width c.args.variables c.args.seats.now c.args.entries.now c.requires.table.seated.each c.loop-variable.variable ∙ sym c.is_basic.ensures ∙ c.if-not-is_basic.true) in
     record {
-      least = least_skip (may_leave s p) c.loop-x.x c.loop-x.out c.loop-x.invariant.least (leave_not_basic s p c.loop-x.x f);
-      fits = λ z h b. ⊎_elim (λ e. absurd (both_ways (p.is_basic c.loop-x.x) f (subst (λ m. p.is_basic m ≡ true) e b))) (λ e. c.loop-x.invariant.fits z (omega arith) b) (cases_eq z c.loop-x.x);
+      least = least_skip (may_leave s p) c.loop-variable.variable c.loop-variable.out c.loop-variable.invariant.least (leave_not_basic s p c.loop-variable.variable f);
+      fits = λ z h b. ⊎_elim (λ e. absurd (both_ways (p.is_basic c.loop-variable.variable) f (subst (λ m. p.is_basic m ≡ true) e b))) (λ e. c.loop-variable.invariant.fits z (omega arith) b) (cases_eq z c.loop-variable.variable);
     }
 
-pub loop-x-preserved : goal.loop-x-preserved
-loop-x-preserved c =
+pub loop-variable-preserved : goal.loop-variable-preserved
+loop-variable-preserved c =
     let s = c.args.system.now in
     let p = position_of c.args.system.now.width c.args.seats.now c.args.entries.now in
-    let f : p.is_basic c.loop-x.x ≡ true = (basic_is c.args.system.now.width c.args.n c.args.seats.now c.args.entries.now c.requires.table.seated.each c.loop-x.x ∙ sym c.is_basic.ensures ∙ c.if-not-is_basic.false) in
+    let f : p.is_basic c.loop-variable.variable ≡ true = (basic_is c.args.system.now.width c.args.variables c.args.seats.now c.args.entries.now c.requires.table.seated.each c.loop-variable.variable ∙ sym c.is_basic.ensures ∙ c.if-not-is_basic.false) in
     record {
-      least = least_next (may_leave s p) c.loop-x.x c.loop-x.out c.earlier-out.result c.loop-x.invariant.least
+      least = least_next (may_leave s p) c.loop-variable.variable c.loop-variable.out c.earlier-out.result c.loop-variable.invariant.least
           (c.earlier-out.ensures
-          ∙ (λ i. or_at c.loop-x.out (not (ltb c.loop-x.x (sym (width_is c.args.system.now) i)) && is_below (bound s c.loop-x.x) (record { first = c.in_ok-v.ensures.first i; second = c.in_ok-v.ensures.second i })) c.loop-x.x)
-          ∙ ap (λ b. or_at c.loop-x.out b c.loop-x.x) (sym (leave_basic s p c.loop-x.x f)));
-      fits = λ z h b. ⊎_elim (λ e. subst (ValueFits s c.args.n p) (sym e) c.in_ok-v.ensures.wide) (λ e. c.loop-x.invariant.fits z (omega arith) b) (cases_eq z c.loop-x.x);
+          ∙ (λ i. or_at c.loop-variable.out (not (ltb c.loop-variable.variable (sym (width_is c.args.system.now) i)) && is_below (bound s c.loop-variable.variable) (record { first = c.in_ok-standing.ensures.first i; second = c.in_ok-standing.ensures.second i })) c.loop-variable.variable)
+          ∙ ap (λ b. or_at c.loop-variable.out b c.loop-variable.variable) (sym (leave_basic s p c.loop-variable.variable f)));
+      fits = λ z h b. ⊎_elim (λ e. subst (ValueFits s c.args.variables p) (sym e) c.in_ok-standing.ensures.wide) (λ e. c.loop-variable.invariant.fits z (omega arith) b) (cases_eq z c.loop-variable.variable);
     }
 
-pub returns-in_err-v-clause-wide : goal.returns-in_err-v-clause-wide
-returns-in_err-v-clause-wide c =
+pub returns-in_err-standing-clause-wide : goal.returns-in_err-standing-clause-wide
+returns-in_err-standing-clause-wide c =
     let p = position_of c.args.system.now.width c.args.seats.now c.args.entries.now in
-    let f : p.is_basic c.loop-x.x ≡ true = (basic_is c.args.system.now.width c.args.n c.args.seats.now c.args.entries.now c.requires.table.seated.each c.loop-x.x ∙ sym c.is_basic.ensures ∙ c.if-not-is_basic.false) in
-    MatchResult-from_err c.from_residual.result _ _ (search rules) (λ _ w. c.in_err-v.ensures.wide (w.values c.loop-x.x c.loop-x-test.true f))
+    let f : p.is_basic c.loop-variable.variable ≡ true = (basic_is c.args.system.now.width c.args.variables c.args.seats.now c.args.entries.now c.requires.table.seated.each c.loop-variable.variable ∙ sym c.is_basic.ensures ∙ c.if-not-is_basic.false) in
+    MatchResult-from_err c.from_residual.result _ _ (search rules) (λ _ w. c.in_err-standing.ensures.wide (w.values c.loop-variable.variable c.loop-variable-test.true f))
 
-found : (c : After-loop-x) → c.loop-x.out ≡ least (may_leave c.args.system.now (position_of c.args.system.now.width c.args.seats.now c.args.entries.now)) c.args.n
+found : (c : After-loop-variable) → c.loop-variable.out ≡ least (may_leave c.args.system.now (position_of c.args.system.now.width c.args.seats.now c.args.entries.now)) c.args.variables
 found c =
-    let e : c.loop-x.x ≡ c.args.n = (let h : c.loop-x.x ≤ c.args.n = c.loop-x.auto.x-end in let k : c.args.n ≤ c.loop-x.x = c.loop-x-test.false in omega arith) in
-    sym (ap (least (may_leave c.args.system.now (position_of c.args.system.now.width c.args.seats.now c.args.entries.now))) (sym e) ∙ c.loop-x.invariant.least)
+    let e : c.loop-variable.variable ≡ c.args.variables = (let h : c.loop-variable.variable ≤ c.args.variables = c.loop-variable.auto.variable-end in let k : c.args.variables ≤ c.loop-variable.variable = c.loop-variable-test.false in omega arith) in
+    sym (ap (least (may_leave c.args.system.now (position_of c.args.system.now.width c.args.seats.now c.args.entries.now))) (sym e) ∙ c.loop-variable.invariant.least)
 
 pub returns-clause-least : goal.returns-clause-least
 returns-clause-least c = found c
 
 pub returns-clause-below : goal.returns-clause-below
-returns-clause-below c = least_below (may_leave c.args.system.now (position_of c.args.system.now.width c.args.seats.now c.args.entries.now)) c.args.n c.loop-x.out (found c)
+returns-clause-below c = least_below (may_leave c.args.system.now (position_of c.args.system.now.width c.args.seats.now c.args.entries.now)) c.args.variables c.loop-variable.out (found c)
 
 pub returns-clause-wide : goal.returns-clause-wide
-returns-clause-wide c = record { values = λ x h b. c.loop-x.invariant.fits x (let k : c.args.n ≤ c.loop-x.x = c.loop-x-test.false in omega arith) b }
+returns-clause-wide c = record { values = λ x h b. c.loop-variable.invariant.fits x (let k : c.args.variables ≤ c.loop-variable.variable = c.loop-variable-test.false in omega arith) b }

@@ -5,8 +5,8 @@ use Rattle.mpc_rows.specs.RunWidth.{ValueFits}
 use Rattle.mpc_runs.specs.Table.{position_of}
 use Rattle.mpc_simplex.proofs.run.leaving.Given as goal
 
-abbrev pub invariant-loop-x : goal.invariant-loop-x
-invariant-loop-x l = record {
+abbrev pub invariant-loop-variable : goal.invariant-loop-variable
+invariant-loop-variable l = record {
   least : least (may_leave l.system (position_of l.system.width l.seats l.entries)) l.x ≡ l.out;
   fits : (z : ℕ) → z < l.x → (position_of l.system.width l.seats l.entries).is_basic z ≡ true → ValueFits l.system l.n (position_of l.system.width l.seats l.entries) z;
 }

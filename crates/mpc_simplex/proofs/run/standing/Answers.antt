@@ -8,10 +8,10 @@ use Rattle.mpc_runs.proofs.Fits.{value_free}
 use Rattle.mpc_simplex.proofs.run.standing.Goals as goal
 use Rattle.mpc_simplex.proofs.run.standing.Goals.{Then-not-is_basic}
 
-rests : (c : Then-not-is_basic) → value c.args.system.now (position_of c.args.system.now.width c.args.seats.now c.args.entries.now) c.args.j ≡ rest c.args.system.now c.args.j
+rests : (c : Then-not-is_basic) → value c.args.system.now (position_of c.args.system.now.width c.args.seats.now c.args.entries.now) c.args.unknown ≡ rest c.args.system.now c.args.unknown
 rests c =
-    value_free c.args.system.now (position_of c.args.system.now.width c.args.seats.now c.args.entries.now) (tableau_of c.args.system.now.width c.args.n c.args.seats.now c.args.entries.now c.requires.table.seated.each) c.args.j (subst (λ m. c.args.j < m) c.requires.table.seated.count c.requires.j_below)
-    (basic_is c.args.system.now.width c.args.n c.args.seats.now c.args.entries.now c.requires.table.seated.each c.args.j ∙ sym c.is_basic.ensures ∙ c.if-not-is_basic.true)
+    value_free c.args.system.now (position_of c.args.system.now.width c.args.seats.now c.args.entries.now) (tableau_of c.args.system.now.width c.args.variables c.args.seats.now c.args.entries.now c.requires.table.seated.each) c.args.unknown (subst (λ m. c.args.unknown < m) c.requires.table.seated.count c.requires.j_below)
+    (basic_is c.args.system.now.width c.args.variables c.args.seats.now c.args.entries.now c.requires.table.seated.each c.args.unknown ∙ sym c.is_basic.ensures ∙ c.if-not-is_basic.true)
 
 pub returns-then-not-is_basic-clause-first : goal.returns-then-not-is_basic-clause-first
 returns-then-not-is_basic-clause-first c = c.rest.ensures.first ∙ sym (ap (λ (z : Pair). z.first) (rests (goal.at.returns-then-not-is_basic-clause-first c).Then-not-is_basic))
@@ -22,4 +22,4 @@ returns-then-not-is_basic-clause-second c = c.rest.ensures.second ∙ sym (ap (�
 pub returns-in_err-v-clause-wide : goal.returns-in_err-v-clause-wide
 returns-in_err-v-clause-wide c =
     MatchResult-from_err c.from_residual.result _ _ (search rules)
-    (λ _ w. c.in_err-v.ensures.wide (w.values c.args.j c.requires.j_below (basic_is c.args.system.now.width c.args.n c.args.seats.now c.args.entries.now c.requires.table.seated.each c.args.j ∙ sym c.is_basic.ensures ∙ c.if-not-is_basic.false)))
+    (λ _ w. c.in_err-v.ensures.wide (w.values c.args.unknown c.requires.j_below (basic_is c.args.system.now.width c.args.variables c.args.seats.now c.args.entries.now c.requires.table.seated.each c.args.unknown ∙ sym c.is_basic.ensures ∙ c.if-not-is_basic.false)))

@@ -2,8 +2,8 @@ use Rattle.std.proofs.Common.{◌≡◌, ℕ, ◌<◌}
 use Rattle.mpc_runs.specs.Exchange.{own_cell, row_at, QuotientFits}
 use Rattle.mpc_simplex.proofs.tableau.own_row.Given as goal
 
-abbrev pub invariant-loop-c : goal.invariant-loop-c
-invariant-loop-c l = record {
+abbrev pub invariant-loop-column : goal.invariant-loop-column
+invariant-loop-column l = record {
   cells : (z : ℕ) → z < l.c → row_at l.row z ≡ own_cell l.width l.entries l.l l.e z;
   fits : (z : ℕ) → z < l.c → (z ≡ l.e → ⊥) → QuotientFits l.width l.entries l.l l.e z;
 }
