@@ -36,6 +36,15 @@ decimal_of parts =
 abbrev pub whole_of : List ℕ → Option ℚ
 whole_of text = option_map (λ n. int (pos n)) (numeral text)
 
+-- where there is a stroke, or none
+abbrev pub plain_at_stroke : List ℕ → Option (List ℕ × List ℕ) → Option ℚ
+plain_at_stroke text None = whole_of text
+plain_at_stroke text (Some parts) = ratio_of parts
+
+-- the number that a text without a sign and a point is: D or D/D
+abbrev pub plain_number : List ℕ → Option ℚ
+plain_number text = plain_at_stroke text (parted 47 text)
+
 -- where there is a point, or none
 abbrev pub unsigned_at_point : List ℕ → Option (List ℕ × List ℕ) → Option ℚ
 unsigned_at_point text None = whole_of text

@@ -23,6 +23,7 @@ mod weights;
 pub use costs::cost;
 pub use faults::{Path, PlantError, PlantKind};
 pub use lists::{Coordinate, Coordinates, PlantRow, PlantRows};
+pub use numerals::plain_number;
 pub use plant_file::read_plant;
 pub use plants::Plant;
 pub use rolling::roll;

@@ -3,8 +3,8 @@
 ghost use Rattle.std.specs.Prelude.{◌≡◌, ◌+◌, ◌*◌, ◌^◌, ◌<◌, ◌≤◌, ◌==◌, length, position, pos, Some, None, IfSome, option_map, if◌then◌else◌};
 ghost use Rattle.std.specs.List.{list_all};
 ghost use Rattle.std.specs.Char.{is_ascii_digit};
-ghost use Rattle.mpc_exact.specs.Rational.{frac};
-ghost use Rattle.mpc_plant.specs.Decimals.{decimal_value, numeral, parted, ratio_of, decimal_of, unsigned_number, text_number};
+ghost use Rattle.mpc_exact.specs.Rational.{frac, IsNonneg};
+ghost use Rattle.mpc_plant.specs.Decimals.{decimal_value, numeral, parted, ratio_of, whole_of, plain_number, decimal_of, unsigned_number, text_number};
 
 use mpc_frac::Frac;
 
@@ -60,7 +60,8 @@ fn part_at(text: &[u8], byte: u8) -> Option<(&[u8], &[u8])>
 fn fraction(n: u128, d: u64) -> Frac
     requires small { n < 2 ^ 127 }
     requires positive { 0 < d }
-    ensures { result ≡ frac (pos n) d }
+    ensures value { result ≡ frac (pos n) d }
+    ensures nonneg { IsNonneg result }
 {
     match Frac::new(n as i128, i128::from(d)) {
         Ok(fraction) => fraction,
@@ -70,7 +71,8 @@ fn fraction(n: u128, d: u64) -> Frac
 
 /// The number n / d of two numerals.
 fn ratio_number(n: &[u8], d: &[u8]) -> Option<Frac>
-    ensures { result ≡ ratio_of (n.now, d.now) }
+    ensures value { result ≡ ratio_of (n.now, d.now) }
+    ensures nonneg { IfSome result IsNonneg }
 {
     let above = numeral_value(n)?;
     let below = numeral_value(d)?;
@@ -78,6 +80,27 @@ fn ratio_number(n: &[u8], d: &[u8]) -> Option<Frac>
         return None;
     }
     Some(fraction(u128::from(above), below))
+}
+
+/// The number that a numeral spells.
+fn whole_number(text: &[u8]) -> Option<Frac>
+    ensures value { result ≡ whole_of text.now }
+    ensures nonneg { IfSome result IsNonneg }
+{
+    let value = numeral_value(text)?;
+    Some(fraction(u128::from(value), 1))
+}
+
+/// The number that a text without a sign and a point is: one numeral of 1 to 18 digits, or two with a stroke between them, of which the
+/// second isn't 0.
+pub fn plain_number(text: &[u8]) -> Option<Frac>
+    ensures value { result ≡ plain_number text.now }
+    ensures nonneg { IfSome result IsNonneg }
+{
+    match part_at(text, b'/') {
+        Some((n, d)) => ratio_number(n, d),
+        None => whole_number(text),
+    }
 }
 
 /// The number i.f of two numerals.
@@ -110,11 +133,10 @@ fn unsigned(text: &[u8]) -> Option<Frac>
     if let Some((n, d)) = part_at(text, b'/') {
         return ratio_number(n, d);
     }
-    if let Some((i, f)) = part_at(text, b'.') {
-        return decimal_number(i, f);
+    match part_at(text, b'.') {
+        Some((i, f)) => decimal_number(i, f),
+        None => whole_number(text),
     }
-    let value = numeral_value(text)?;
-    Some(fraction(u128::from(value), 1))
 }
 
 /// The number that a text is.

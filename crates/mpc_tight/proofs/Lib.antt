@@ -7,5 +7,4 @@ pub mod TightenedRows
 pub mod ProgramShapes
 pub mod Robust
 pub mod SameTightened
-pub mod Numerals
 pub mod NoiseLines

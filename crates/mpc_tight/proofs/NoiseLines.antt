@@ -10,7 +10,8 @@ use Rattle.mpc_space.specs.Vector.{AllNonneg}
 use Rattle.mpc_words.specs.Words.{IsWithout, IsCutAt, words_of}
 use Rattle.mpc_tight.specs.declared.errors.NoiseError.{NoiseError}
 use Rattle.mpc_tight.specs.declared.errors.NoiseError.TheVariants.{BadNoise, NoMemory}
-use Rattle.mpc_tight.specs.Noise.{IfBadNoise, IsNoise, number_of, numbers_of, sized_numbers, only_line, words_in, noise_of}
+use Rattle.mpc_plant.specs.Decimals.{plain_number}
+use Rattle.mpc_tight.specs.Noise.{IfBadNoise, IsNoise, numbers_of, sized_numbers, only_line, words_in, noise_of}
 
 abbrev feed : ℕ → Bool
 feed b = eqb b 10
@@ -73,23 +74,23 @@ some_front : (x : ℚ) (xs : Option (List ℚ)) (numbers : List ℚ) → option_
 some_front x None numbers e = absurd (cc)
 some_front x (Some ys) numbers e = (ys, (refl, cc))
 
-numbers_more : (done : List (List ℕ)) (word : List ℕ) (numbers : List ℚ) (x : ℚ) → numbers_of done ≡ Some numbers → number_of word ≡ Some x → numbers_of (done ++ word ∷ []) ≡ Some (numbers ++ x ∷ [])
+numbers_more : (done : List (List ℕ)) (word : List ℕ) (numbers : List ℚ) (x : ℚ) → numbers_of done ≡ Some numbers → plain_number word ≡ Some x → numbers_of (done ++ word ∷ []) ≡ Some (numbers ++ x ∷ [])
 numbers_more [] word numbers x h e =
     let empty : numbers ≡ [] = cc in
     ap (option_and_then (λ y. option_map (λ ys. y ∷ ys) (Some []))) e ∙ ap (λ n. Some (n ++ x ∷ [])) (sym empty)
-numbers_more (first ∷ done) word numbers x h e = by (λ rest k. numbers_more done word rest x k e) (number_of first) refl h
+numbers_more (first ∷ done) word numbers x h e = by (λ rest k. numbers_more done word rest x k e) (plain_number first) refl h
   where
-    by : ((rest : List ℚ) → numbers_of done ≡ Some rest → numbers_of (done ++ word ∷ []) ≡ Some (rest ++ x ∷ [])) → (o : Option ℚ) → number_of first ≡ o → option_and_then (λ y. option_map (λ ys. y ∷ ys) (numbers_of done)) o ≡ Some numbers
-        → option_and_then (λ y. option_map (λ ys. y ∷ ys) (numbers_of (done ++ word ∷ []))) (number_of first) ≡ Some (numbers ++ x ∷ [])
+    by : ((rest : List ℚ) → numbers_of done ≡ Some rest → numbers_of (done ++ word ∷ []) ≡ Some (rest ++ x ∷ [])) → (o : Option ℚ) → plain_number first ≡ o → option_and_then (λ y. option_map (λ ys. y ∷ ys) (numbers_of done)) o ≡ Some numbers
+        → option_and_then (λ y. option_map (λ ys. y ∷ ys) (numbers_of (done ++ word ∷ []))) (plain_number first) ≡ Some (numbers ++ x ∷ [])
     by more None o k = absurd (cc)
     by more (Some y) o k =
         let s = some_front y (numbers_of done) numbers k in
         (λ i. option_and_then (λ z. option_map (λ ys. z ∷ ys) (more s.0 s.1.0 i)) (o i))
         ∙ ap (λ n. Some (n ++ x ∷ [])) (sym s.1.1)
 
-numbers_bad : (done : List (List ℕ)) (word : List ℕ) (more : List (List ℕ)) → number_of word ≡ None → numbers_of (done ++ word ∷ more) ≡ None
+numbers_bad : (done : List (List ℕ)) (word : List ℕ) (more : List (List ℕ)) → plain_number word ≡ None → numbers_of (done ++ word ∷ more) ≡ None
 numbers_bad [] word more e = ap (option_and_then (λ y. option_map (λ ys. y ∷ ys) (numbers_of more))) e
-numbers_bad (first ∷ done) word more e = by (numbers_bad done word more e) (number_of first)
+numbers_bad (first ∷ done) word more e = by (numbers_bad done word more e) (plain_number first)
   where
     by : numbers_of (done ++ word ∷ more) ≡ None → (o : Option ℚ) → option_and_then (λ y. option_map (λ ys. y ∷ ys) (numbers_of (done ++ word ∷ more))) o ≡ None
     by rest None = refl
@@ -97,7 +98,7 @@ numbers_bad (first ∷ done) word more e = by (numbers_bad done word more e) (nu
 
 numbers_length : (words : List (List ℕ)) (numbers : List ℚ) → numbers_of words ≡ Some numbers → length numbers ≡ length words
 numbers_length [] numbers h = let empty : numbers ≡ [] = cc in ap length empty
-numbers_length (first ∷ words) numbers h = by (λ rest k. numbers_length words rest k) (number_of first) h
+numbers_length (first ∷ words) numbers h = by (λ rest k. numbers_length words rest k) (plain_number first) h
   where
     by : ((rest : List ℚ) → numbers_of words ≡ Some rest → length rest ≡ length words) → (o : Option ℚ) → option_and_then (λ y. option_map (λ ys. y ∷ ys) (numbers_of words)) o ≡ Some numbers → length numbers ≡ length (first ∷ words)
     by more None k = absurd (cc)
@@ -107,7 +108,7 @@ nonneg_more : (numbers : List ℚ) (x : ℚ) → AllNonneg numbers → IsNonneg 
 nonneg_more [] x h k = (k, tt)
 nonneg_more (y ∷ numbers) x h k = (h.0, nonneg_more numbers x h.1 k)
 
-pub words_more : (line rest word after : List ℕ) (numbers : List ℚ) (x : ℚ) → HasNumbers line rest numbers → words_of rest ≡ word ∷ words_of after → number_of word ≡ Some x → IsNonneg x
+pub words_more : (line rest word after : List ℕ) (numbers : List ℚ) (x : ℚ) → HasNumbers line rest numbers → words_of rest ≡ word ∷ words_of after → plain_number word ≡ Some x → IsNonneg x
     → HasNumbers line after (numbers ++ x ∷ [])
 words_more line rest word after numbers x h s e k = record {
   done = h.done ++ word ∷ [];
@@ -127,7 +128,7 @@ bad_numbers n words h = by (length words == n)
     by true = h
     by false = refl
 
-pub word_bad : (line rest word : List ℕ) (numbers : List ℚ) (n : ℕ) → HasNumbers line rest numbers → BeginsWith rest word → number_of word ≡ None → sized_numbers n (words_of line) ≡ None
+pub word_bad : (line rest word : List ℕ) (numbers : List ℚ) (n : ℕ) → HasNumbers line rest numbers → BeginsWith rest word → plain_number word ≡ None → sized_numbers n (words_of line) ≡ None
 word_bad line rest word numbers n h s e =
     bad_numbers n (words_of line) (ap numbers_of (h.parts ∙ ap (λ t. h.done ++ t) s.words) ∙ numbers_bad h.done word s.more e)
 
@@ -143,7 +144,7 @@ words_many line rest word numbers n h s e =
     not_sized n (words_of line) test
 
 -- the last word
-module _ (line rest word : List ℕ) (numbers : List ℚ) (x : ℚ) (n : ℕ) (h : HasNumbers line rest numbers) (s : words_of rest ≡ word ∷ []) (e : number_of word ≡ Some x) where
+module _ (line rest word : List ℕ) (numbers : List ℚ) (x : ℚ) (n : ℕ) (h : HasNumbers line rest numbers) (s : words_of rest ≡ word ∷ []) (e : plain_number word ≡ Some x) where
   whole : words_of line ≡ h.done ++ word ∷ []
   whole = h.parts ∙ ap (λ t. h.done ++ t) s
 

@@ -4,7 +4,7 @@ use Rattle.std.specs.Str.Lines.{lines}
 use Rattle.mpc_exact.specs.Rational.{ℚ}
 use Rattle.mpc_space.specs.Vector.{AllNonneg}
 use Rattle.mpc_words.specs.Words.{words_of}
-use Rattle.mpc_plant.specs.Decimals.{parted, ratio_of, whole_of}
+use Rattle.mpc_plant.specs.Decimals.{plain_number}
 use Rattle.mpc_tight.specs.declared.errors.NoiseError.{NoiseError}
 use Rattle.mpc_tight.specs.declared.errors.NoiseError.TheVariants.{BadNoise, NoMemory}
 
@@ -14,19 +14,10 @@ pub record IsNoise (noise : List ℚ) (n : ℕ) : Type 0 where
   pub nonneg : AllNonneg noise
 
 -- ---- its line
--- at a stroke the numerals on both sides, without one the whole word
-abbrev pub number_at_stroke : List ℕ → Option (List ℕ × List ℕ) → Option ℚ
-number_at_stroke word None = whole_of word
-number_at_stroke word (Some parts) = ratio_of parts
-
--- the number that a word spells: a numeral D, or D/D with a denominator that isn't 0
-abbrev pub number_of : List ℕ → Option ℚ
-number_of word = number_at_stroke word (parted 47 word)
-
 -- the numbers of words, each of which has to spell one
 abbrev pub numbers_of : List (List ℕ) → Option (List ℚ)
 numbers_of [] = Some []
-numbers_of (word ∷ words) = option_and_then (λ x. option_map (λ xs. x ∷ xs) (numbers_of words)) (number_of word)
+numbers_of (word ∷ words) = option_and_then (λ x. option_map (λ xs. x ∷ xs) (numbers_of words)) (plain_number word)
 
 -- the numbers of n words
 abbrev pub sized_numbers : ℕ → List (List ℕ) → Option (List ℚ)

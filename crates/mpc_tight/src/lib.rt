@@ -4,7 +4,6 @@
 
 mod errors;
 mod noise;
-mod numbers;
 mod programs;
 mod theorems;
 mod tightening;

@@ -6,8 +6,8 @@ ghost use Rattle.mpc_tight.specs.Noise.{only_line, sized_numbers, noise_of, IsNo
 ghost use Rattle.mpc_words.specs.Words.{words_of};
 
 use crate::errors::NoiseError;
-use crate::numbers::number_in;
 use mpc_linear::Vector;
+use mpc_plant::plain_number;
 use mpc_words::{next_line, split_word};
 use std::alloc::Global;
 
@@ -61,7 +61,7 @@ fn numbers(alloc: Global, line: &[u8], count: usize) -> Result<Vector, NoiseErro
         if noise.len() == count {
             return Err(NoiseError::BadNoise);
         }
-        match number_in(word) {
+        match plain_number(word) {
             Some(number) => noise.push(number)?,
             None => return Err(NoiseError::BadNoise),
         }

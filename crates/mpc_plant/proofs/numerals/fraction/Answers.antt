@@ -1,6 +1,9 @@
-use Rattle.std.proofs.Common.{◌≡◌, ◌∙◌, ℕ, ◌<◌, ◌^◌, ap, pos, to_z, of_z, arith}
+use Rattle.std.proofs.Common.{◌≡◌, ◌∙◌, ℕ, ◌<◌, ◌^◌, ap, pos, sym, subst, to_z, of_z, arith}
 use Rattle.std.specs.Int.{w128}
 use Rattle.std.proofs.lemmas.Int.{to_z_pos, to_z-of_z, fits_signed_from_abs}
+use Rattle.mpc_exact.specs.Rational.{IsNonneg}
+use Rattle.mpc_exact.proofs.RationalOrder.{nonneg_int, positive_int, nonneg_cancel}
+use Rattle.mpc_exact.proofs.School.{frac_times}
 use Rattle.mpc_plant.proofs.DigitLemmas.{no_error, quotient_at}
 use Rattle.mpc_plant.proofs.numerals.fraction.Goals as goal
 
@@ -12,8 +15,13 @@ unreachable-requires c =
     no_error c.args.n c.args.d (to_z w128 c.args.n) (to_z w128 (of_z w128 c.from.result)) c.requires.positive c.requires.small (omega (arith, c.ranges.d.fits)) (to_z_pos w128 c.args.n c.requires.small)
     (ap (λ z. to_z w128 (of_z w128 z)) c.from.ensures ∙ read_back c.args.d (omega (arith, c.ranges.d.fits))) c.in-Err.field-0 c.in-Err.ensures.zero.0 c.in-Err.ensures.wide.0
 
-pub returns : goal.returns
-returns c =
+pub returns-clause-value : goal.returns-clause-value
+returns-clause-value c =
     c.in-Ok.ensures.value ∙
     quotient_at c.args.n c.args.d (to_z w128 c.args.n) (to_z w128 (of_z w128 c.from.result)) c.requires.positive c.requires.small (omega (arith, c.ranges.d.fits)) (to_z_pos w128 c.args.n c.requires.small)
     (ap (λ z. to_z w128 (of_z w128 z)) c.from.ensures ∙ read_back c.args.d (omega (arith, c.ranges.d.fits)))
+
+pub returns-clause-nonneg : goal.returns-clause-nonneg
+returns-clause-nonneg c =
+    subst IsNonneg (sym (returns-clause-value c))
+    (nonneg_cancel (positive_int c.args.d c.requires.positive) (subst IsNonneg (sym (frac_times (pos c.args.n) c.args.d c.requires.positive)) (nonneg_int c.args.n)))
