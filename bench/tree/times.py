@@ -1,6 +1,7 @@
 """Times `compile` on some of the processors, and `trace`, which ends where the tree begins. The words are the program, the number of runs, the
 workers that decide the active sets, the lists of processors (as 0,1 or 0-3, the first with one alone), and the plants. A plant that is too wide is
-named with its answer."""
+named with its answer. Last comes what the machine gives: a copy of the program on each processor of a list, all at once, on the plant whose tree
+takes longest."""
 
 import subprocess
 import sys
@@ -20,10 +21,37 @@ def seconds(program, plant, processors, command, workers):
     return took, done.stdout
 
 
+def numbers(processors):
+    """The processors of a list."""
+    ends = [part.split("-") for part in processors.split(",")]
+    return [number for end in ends for number in range(int(end[0]), int(end[-1]) + 1)]
+
+
+def copies_at_once(program, plant, processors):
+    """The seconds that copies of the program take, each on a processor of its own."""
+    begin = time.perf_counter()
+    room = {"stdin": subprocess.PIPE, "stdout": subprocess.DEVNULL, "stderr": subprocess.DEVNULL}
+    copies = [subprocess.Popen(["taskset", "-c", str(number), program, "compile"], **room) for number in numbers(processors)]
+    for copy in copies:
+        copy.stdin.write(plant)
+        copy.stdin.close()
+    for copy in copies:
+        copy.wait()
+    return time.perf_counter() - begin
+
+
+def print_limits(program, runs, lists, plant):
+    """Says how many times as fast copies at once are as copies one after another."""
+    least = {p: min(copies_at_once(program, plant, p) for _ in range(runs)) for p in lists}
+    gains = [f"{len(numbers(p))} on {p} {least[lists[0]] * len(numbers(p)) / least[p]:.2f}" for p in lists[1:]]
+    print(f"copies of the program at once, times as fast as one after another: {', '.join(gains)}", flush=True)
+
+
 def main():
     program, runs, workers = sys.argv[1], int(sys.argv[2]), int(sys.argv[3])
     lists = [word for word in sys.argv[4:] if not Path(word).exists()]
     print("plant | laws | nodes | " + " | ".join(f"on {p}: compile, behind trace" for p in lists))
+    longest = (0.0, b"")
     for file in sys.argv[4 + len(lists) :]:
         plant = Path(file).read_text().split("\nstates\n")[0].encode()
         least = {(command, p): float("inf") for command in ("trace", "compile") for p in lists}
@@ -46,6 +74,8 @@ def main():
         tree = [least["compile", p] - least["trace", p] for p in lists]
         shown = " | ".join(f"{w:.3f} s, {t:.3f} s ({tree[0] / t:.2f})" for w, t in zip(whole, tree))
         print(f"{Path(file).stem} | {laws} | {nodes} | {shown}", flush=True)
+        longest = max(longest, (tree[0], plant))
+    print_limits(program, runs, lists, longest[1])
 
 
 if __name__ == "__main__":
