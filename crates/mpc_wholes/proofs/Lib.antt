@@ -1,0 +1,3 @@
+pub mod WholeFits
+pub mod Terms
+pub mod WholeDots

@@ -1,0 +1,4 @@
+pub mod Sizes
+pub mod Wholes
+pub mod Sums
+pub mod OverTheorems

@@ -1,0 +1,16 @@
+//! Fractions in whole numbers over one denominator, and their sums of products.
+#![tactic(auto)]
+
+mod denominators;
+mod numbers;
+mod numerators;
+mod sums;
+mod theorems;
+
+pub use denominators::{common_in, common_multiple, common_of, denominator};
+pub use numbers::Wholes;
+pub use numerators::{
+    column_over, numerator_over, over_one_denominator, rows_over, short_product, wholes_over,
+};
+pub use sums::dot_from;
+pub use theorems::over_theorems;

@@ -1,0 +1,41 @@
+//! Sums of products of whole numbers, which fit by bounds of their size.
+
+ghost use Rattle.std.specs.Prelude.{◌≡◌, ◌<◌, ◌≤◌, ◌^◌, ◌+◌, ◌*◌, IsTrue, unsigned_abs, ◌*ℤ◌};
+ghost use Rattle.mpc_wholes.specs.Sums.{AddsDot};
+
+use crate::Wholes;
+use crate::numerators::short_product;
+use mpc_linear::sum_theorems;
+
+/// Numbers up to this, 2^62, fit 64 bits.
+const SHORT: u128 = 0x4000_0000_0000_0000;
+
+/// The product, which fits: of short numbers in one multiplication.
+#[inline]
+fn product(x: i128, y: i128, short: bool) -> i128
+    requires fits { unsigned_abs (x *ℤ y) < 2 ^ 127 }
+    requires short { IsTrue short → (unsigned_abs x < 2 ^ 63) × (unsigned_abs y < 2 ^ 63) }
+    ensures { result ≡ x *ℤ y }
+{
+    if short {
+        return short_product(x, y);
+    }
+    x * y
+}
+
+/// The start plus the products of the first numbers. Their sizes show that each sum fits, and each operation on the fractions on the way to it.
+#[inline]
+pub fn dot_from(start: i128, x: &Wholes, y: &Wholes, count: usize) -> i128
+    requires few { count ≤ 6 }
+    requires room { unsigned_abs start + 6 * (x.now.most * y.now.most) < 2 ^ 127 }
+    ensures size { unsigned_abs result ≤ unsigned_abs start + 6 * (x.now.most * y.now.most) }
+    ensures sum { AddsDot x.now y.now count start result }
+{
+    sum_theorems();
+    let short = x.most <= SHORT && y.most <= SHORT;
+    let mut total = start;
+    for k in 0..count {
+        total += product(x.numerators[k], y.numerators[k], short);
+    }
+    total
+}
