@@ -1,11 +1,8 @@
 -- The sums of columns of the rows that a certificate names, entry by entry.
-use Rattle.std.proofs.Common.{◌≡◌, ℕ, ◌+◌, ◌-◌, ◌^◌, ◌<◌, ◌≤◌, ◌⊎◌, inl, inr, ◌↔◌, Bool, true, IsTrue, List, [], ◌∷◌, length, get_or, take, Some, All, ℤ, pos, ◌+ℤ◌, ◌*ℤ◌, ◌<ℤ◌, unsigned_abs, sym, ◌∙◌, ap, subst, subst₂, arith, below_more}
+use Rattle.std.proofs.Common.{◌≡◌, ℕ, ◌+◌, ◌-◌, ◌^◌, ◌<◌, ◌≤◌, ◌⊎◌, inl, inr, ◌↔◌, Bool, true, IsTrue, List, [], ◌∷◌, length, get_or, Some, ℤ, pos, ◌+ℤ◌, ◌*ℤ◌, ◌<ℤ◌, unsigned_abs, sym, ◌∙◌, ap, subst, subst₂, arith, below_more}
 use Rattle.std.specs.Prelude.{slice_get}
-use Rattle.std.specs.Int.{◌∣◌}
 use Rattle.std.proofs.lemmas.Bool.{cases_eq}
 use Rattle.std.proofs.lemmas.List.{get_or-map, get_or_default, length-map}
-use Rattle.std.proofs.lemmas.List.Elements.{All-more}
-use Rattle.std.proofs.lemmas.Nat.Gcd.{dvd_trans}
 use Rattle.std.proofs.lemmas.Option.{slice_get-get_or, slice_get_within, get_or_from_slice_get}
 use Rattle.mpc_exact.specs.Rational.{ℚ, frac, int, ◌*ℚ◌, ◌<ℚ◌, IsNonneg, IsPositive}
 use Rattle.mpc_exact.proofs.OrderTheorems.{*ℚ-<ℚ, *ℚ-<ℚ_cancel, negative-not_zero}
@@ -15,18 +12,15 @@ use Rattle.mpc_space.specs.Vector.{coordinate, dot, AllNonneg}
 use Rattle.mpc_space.proofs.Entries.{nonneg_by_entries}
 use Rattle.mpc_linear.specs.Dot.{DotFits}
 use Rattle.mpc_linear.specs.SumTheorems.{SumTheorems, IsSumSoFar, StandAt}
+use Rattle.mpc_wholes.specs.OverTheorems.{OverTheorems}
 use Rattle.mpc_rows.specs.declared.systems.Row.{Row}
 use Rattle.mpc_rows.specs.LinearSystem.{LinearSystem, no_row}
 use Rattle.mpc_rows.specs.Refutation.{coefficients_on, right_sides, ColumnsFit, CombinesToZero, WeighsStrict, Refutes}
 use Rattle.mpc_check.specs.declared.whole_sums.Column.{Column}
-use Rattle.mpc_check.specs.Columns.{number_in, picked_column, HasDenomIn}
+use Rattle.mpc_check.specs.Columns.{number_in, picked_column}
 use Rattle.mpc_check.specs.Picks.{picked_rows, weights}
 use Rattle.mpc_check.proofs.SumLemmas.{from_nought}
 use Rattle.mpc_check.proofs.WholeSums.{next_is, term_fits, zero_over, zero_at}
-
--- ---- denominators
-pub denoms_more : (old new i : ℕ) (entries : List (ℕ × ℚ)) (d : ℕ × ℚ) → i < length entries → All (HasDenomIn old) (take i entries) → old ∣ new → (get_or entries i d).1.denom ∣ new → All (HasDenomIn new) (take (i + 1) entries)
-denoms_more old new i entries d h before over here = All-more (HasDenomIn new) entries i d h (λ k e l. dvd_trans (get_or (take i entries) k e).1.denom (before k e l) over) here
 
 -- ---- the sum of one column
 pub record SumSo (column : Column) (s : LinearSystem) (cert : List (ℕ × ℚ)) (all i : ℕ) (total : ℤ) : Type 0 where
@@ -67,7 +61,7 @@ module _ (s : LinearSystem) (cert entries : List (ℕ × ℚ)) (same : entries �
   pub picked_at : slice_get (picked_rows s.rows cert) i ≡ Some named
   picked_at = slice_get-get_or (picked_rows s.rows cert) i no_row in_picked ∙ ap Some (sym named_is)
 
-  module _ (laws : SumTheorems) (column : Column) (all : ℕ) (some : 0 < all) (few : all ≤ 2 ^ 62) (total weight number : ℤ) (g : SumSo column s cert all i total) (e : ℕ × ℚ) (w : (get_or entries i e).1 ≡ frac weight all) (nonneg : IsNonneg (get_or entries i e).1) (w_small : unsigned_abs weight ≤ 2 ^ 62) (n : int number ≡ number_in column named) (n_small : unsigned_abs number ≤ 2 ^ 62) where
+  module _ (laws : SumTheorems) (over : OverTheorems) (column : Column) (all : ℕ) (some : 0 < all) (few : all ≤ 2 ^ 124) (total weight number : ℤ) (g : SumSo column s cert all i total) (e : ℕ × ℚ) (w : (get_or entries i e).1 ≡ frac weight all) (nonneg : IsNonneg (get_or entries i e).1) (w_small : unsigned_abs weight ≤ 2 ^ 62) (n : int number ≡ number_in column named) (n_small : unsigned_abs number ≤ 2 ^ 62) where
     in_column : i < length (picked_column column s cert)
     in_column = subst (λ k. i < k) (sym (length-map (picked_rows s.rows cert) (number_in column))) in_picked
 
@@ -82,7 +76,7 @@ module _ (s : LinearSystem) (cert entries : List (ℕ × ℚ)) (same : entries �
 
     pub sum_more : (next : ℤ) → next ≡ total +ℤ (weight *ℤ number) → unsigned_abs next ≤ 2 ^ 126 → SumSo column s cert all (i + 1) next
     sum_more next is small = record {
-      so_far = laws.more (int (pos 0)) (weights cert) (picked_column column s cert) i (frac total all) (frac weight all) (int number) (frac next all) stand g.so_far (next_is all some few total weight number g.small w_small n_small next is) (term_fits all some few total weight number g.small w_small n_small);
+      so_far = laws.more (int (pos 0)) (weights cert) (picked_column column s cert) i (frac total all) (frac weight all) (int number) (frac next all) stand g.so_far (next_is over all some few total weight number g.small w_small n_small next is) (term_fits over all some few total weight number g.small w_small n_small);
       small = small;
       nonneg = below_more (λ k. IsNonneg (coordinate (weights cert) k)) i g.nonneg (subst (λ x. IsNonneg x) there nonneg);
     }

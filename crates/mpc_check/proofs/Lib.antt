@@ -11,7 +11,6 @@ pub mod SplitRows
 pub mod CertLemmas
 pub mod SumLemmas
 pub mod BorderLemmas
-pub mod WholeFits
 pub mod WholeSums
 pub mod WholeRows
 pub mod ColumnSums

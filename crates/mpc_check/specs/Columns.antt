@@ -1,6 +1,5 @@
 -- The columns of a leaf's rows, which are added up with the multipliers of a certificate.
 use Rattle.std.specs.Prelude.{ℕ, ◌<◌, List, map}
-use Rattle.std.specs.Int.{◌∣◌}
 use Rattle.mpc_exact.specs.Rational.{ℚ}
 use Rattle.mpc_space.specs.Vector.{coordinate}
 use Rattle.mpc_rows.specs.declared.systems.Row.{Row}
@@ -22,7 +21,3 @@ IsColumnOf width Sides = Unit {0}
 -- those of the rows that a certificate names
 abbrev pub picked_column : Column → LinearSystem → List (ℕ × ℚ) → List ℚ
 picked_column column s cert = map (number_in column) (picked_rows s.rows cert)
-
--- the multiplier of an entry is a whole number over this denominator
-abbrev pub HasDenomIn : ℕ → ℕ × ℚ → Type 0
-HasDenomIn all entry = entry.1.denom ∣ all

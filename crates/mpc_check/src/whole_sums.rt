@@ -1,12 +1,12 @@
 //! The test of a certificate in whole numbers, over one denominator of all its multipliers. It needs no memory, and gives up where a number
 //! is too large for it.
 
-ghost use Rattle.std.specs.Prelude.{◌≡◌, ℕ, ◌+◌, ◌*◌, ◌/◌, ◌^◌, ◌<◌, ◌≤◌, ◌↔◌, All, IfSome, IsTrue, List, cond, false, length, nat_lt, pos, slice_index_or, true, unsigned_abs, ◌+ℤ◌, ◌*ℤ◌, ◌<ℤ◌};
-ghost use Rattle.std.specs.Int.{◌∣◌};
+ghost use Rattle.std.specs.Prelude.{◌≡◌, ℕ, ◌+◌, ◌*◌, ◌^◌, ◌<◌, ◌≤◌, ◌↔◌, All, IfSome, IsTrue, List, cond, false, length, nat_lt, pos, slice_index_or, true, unsigned_abs, ◌+ℤ◌, ◌*ℤ◌, ◌<ℤ◌};
 ghost use Rattle.mpc_exact.specs.Rational.{frac, int, IsNonneg, ◌<ℚ◌};
 ghost use Rattle.mpc_space.specs.Vector.{AllNonneg, dot};
 ghost use Rattle.mpc_linear.specs.Dot.{DotFits};
 ghost use Rattle.mpc_linear.specs.declared.integers.RowInt.{RowInt};
+ghost use Rattle.mpc_wholes.specs.Wholes.{IsDenominator};
 ghost use Rattle.mpc_rows.specs.declared.trees.Node.{Node};
 ghost use Rattle.mpc_rows.specs.LawRows.{whole_row};
 ghost use Rattle.mpc_rows.specs.LinearSystem.{height, no_row};
@@ -15,14 +15,15 @@ ghost use Rattle.mpc_rows.specs.SetRuns.{axis, box_rows};
 ghost use Rattle.mpc_systems.specs.Systems.{hold_system};
 ghost use Rattle.mpc_systems.specs.Writing.{IsOfSize};
 ghost use Rattle.mpc_check.specs.Certs.{HasPositionsIn};
-ghost use Rattle.mpc_check.specs.Columns.{number_in, IsColumnOf, picked_column, HasDenomIn};
+ghost use Rattle.mpc_check.specs.Columns.{number_in, IsColumnOf, picked_column};
 ghost use Rattle.mpc_check.specs.Picks.{picked_rows, picked_system, weights};
 ghost use Rattle.mpc_paths.specs.Ways.{HasSplitRow, IsTurn, side_row, turn_row, way_rows};
 
-use mpc_frac::{Frac, greatest_common_divisor};
+use mpc_frac::Frac;
 use mpc_linear::{RowInt, sum_theorems};
 use mpc_paths::Turn;
 use mpc_rows::{Cert, Counts, Node, Qp, Tree};
+use mpc_wholes::{common_multiple, denominator, numerator_over, over_theorems};
 
 /// The greatest size of the numbers that are multiplied, 2^62.
 const MOST: u128 = 0x4000_0000_0000_0000;
@@ -149,39 +150,9 @@ fn is_strict_at(qp: &Qp, way: &[Turn], place: usize) -> bool
 
 // ---- one denominator
 
-/// The denominator.
-pub(crate) fn denominator(x: &Frac) -> u128
-    ensures value { result ≡ x.now.denom }
-    ensures positive { 0 < result }
-{
-    x.den() as u128
-}
-
-/// The least common multiple, where it is at most 2^62.
-pub(crate) fn common_multiple(a: u64, b: u128) -> Option<u64>
-    requires a_positive { 0 < a }
-    requires b_positive { 0 < b }
-    ensures of_a { IfSome result (λ m. a ∣ m) }
-    ensures of_b { IfSome result (λ m. b ∣ m) }
-    ensures positive { IfSome result (λ m. 0 < m) }
-    ensures small { IfSome result (λ m. m ≤ 2 ^ 62) }
-{
-    let part = u128::from(a) / greatest_common_divisor(u128::from(a), b);
-    match part.checked_mul(b) {
-        Some(multiple) => if multiple <= MOST {
-            Some(multiple as u64)
-        } else {
-            None
-        },
-        None => None,
-    }
-}
-
-/// A common multiple of the denominators of a certificate's multipliers, where it is at most 2^62.
-fn common_denominator(cert: &Cert) -> Option<u64>
-    ensures multiple { IfSome result (λ m. All (HasDenomIn m) cert.now) }
-    ensures positive { IfSome result (λ m. 0 < m) }
-    ensures small { IfSome result (λ m. m ≤ 2 ^ 62) }
+/// A common multiple of the denominators of a certificate's multipliers, where it is at most 2^124.
+fn common_denominator(cert: &Cert) -> Option<u128>
+    ensures { IfSome result IsDenominator }
 {
     let mut all = 1;
     let entries = cert.as_slice();
@@ -202,7 +173,7 @@ fn narrow(z: i128) -> i64
 }
 
 /// The number, where it is at most 2^62 in size.
-pub(crate) fn small(z: i128) -> Option<i64>
+fn small(z: i128) -> Option<i64>
     ensures value { IfSome result (λ s. s ≡ z) }
     ensures small { IfSome result (λ s. unsigned_abs s ≤ 2 ^ 62) }
 {
@@ -214,19 +185,10 @@ pub(crate) fn small(z: i128) -> Option<i64>
 }
 
 /// The product, which fits twice the width.
-pub(crate) fn product(x: i64, y: i64) -> i128
+fn product(x: i64, y: i64) -> i128
     ensures { result ≡ x *ℤ y }
 {
     x as i128 * y as i128
-}
-
-/// A number as a signed one.
-pub(crate) fn signed(n: u64) -> i64
-    requires { n ≤ 2 ^ 62 }
-    ensures value { result ≡ pos n }
-    ensures small { unsigned_abs result ≤ 2 ^ 62 }
-{
-    n as i64
 }
 
 /// Whether the fraction is below 0.
@@ -243,22 +205,9 @@ fn is_positive(x: &Frac) -> bool
     x.sign() > 0
 }
 
-/// How often a denominator goes into a multiple of it.
-fn times_in(all: u64, x: &Frac) -> u64
-    requires multiple { x.now.denom ∣ all }
-    requires positive { 0 < all }
-    requires small { all ≤ 2 ^ 62 }
-    ensures value { result ≡ all / x.now.denom }
-    ensures small { result ≤ 2 ^ 62 }
-{
-    all / denominator(x) as u64
-}
-
 /// The numerator of a fraction over a multiple of its denominator, where the fraction isn't negative and the numerator at most 2^62.
-fn weight_over(x: &Frac, all: u64) -> Option<i64>
-    requires multiple { x.now.denom ∣ all }
-    requires positive { 0 < all }
-    requires small { all ≤ 2 ^ 62 }
+fn weight_over(x: &Frac, all: u128) -> Option<i64>
+    requires { IsDenominator all }
     ensures value { IfSome result (λ w. x.now ≡ frac w all) }
     ensures nonneg { IfSome result (λ _. IsNonneg x.now) }
     ensures small { IfSome result (λ w. unsigned_abs w ≤ 2 ^ 62) }
@@ -266,8 +215,8 @@ fn weight_over(x: &Frac, all: u64) -> Option<i64>
     if is_negative(x) {
         return None;
     }
-    let numerator = small(x.num())?;
-    small(product(numerator, signed(times_in(all, x))))
+    let numerator = numerator_over(x, all)?;
+    small(numerator)
 }
 
 /// The sum, which fits.
@@ -280,7 +229,7 @@ fn sum(x: i128, y: i128) -> i128
 }
 
 /// The sum with one product more, where it is at most 2^126 in size.
-pub(crate) fn add_term(old: i128, weight: i64, number: i64) -> Option<i128>
+fn add_term(old: i128, weight: i64, number: i64) -> Option<i128>
     requires old { unsigned_abs old ≤ 2 ^ 126 }
     requires weight { unsigned_abs weight ≤ 2 ^ 62 }
     requires number { unsigned_abs number ≤ 2 ^ 62 }
@@ -303,7 +252,7 @@ fn stays_zero(zero: bool, sum: i128) -> bool
 }
 
 /// Whether the sum is 0.
-pub(crate) fn is_zero(sum: i128) -> bool
+fn is_zero(sum: i128) -> bool
     ensures { IsTrue result ↔ (sum ≡ pos 0) }
 {
     sum == 0
@@ -325,7 +274,7 @@ fn column_sum(
     way: &[Turn],
     row: &RowInt,
     cert: &Cert,
-    all: u64,
+    all: u128,
     column: Column,
 ) -> Option<i128>
     requires way { All (IsTurn tree.now) way.now }
@@ -333,9 +282,7 @@ fn column_sum(
     requires size { IsOfSize (length qp.now.counts) row.now }
     requires positions { HasPositionsIn (height (hold_system qp.now (way_rows tree.now way.now) row.now)) cert.now }
     requires column { IsColumnOf (length qp.now.counts) column }
-    requires multiple { All (HasDenomIn all) cert.now }
-    requires positive { 0 < all }
-    requires small { all ≤ 2 ^ 62 }
+    requires denom { IsDenominator all }
     ensures value { IfSome result
         (λ sum. dot (weights cert.now) (picked_column column (hold_system qp.now (way_rows tree.now way.now) row.now) cert.now) ≡ frac sum all) }
     ensures fits { IfSome result
@@ -344,6 +291,7 @@ fn column_sum(
     ensures nonneg { IfSome result (λ _. AllNonneg (weights cert.now)) }
 {
     sum_theorems();
+    over_theorems();
     let mut total: i128 = 0;
     let entries = cert.as_slice();
     for i in 0..entries.len() {
@@ -362,15 +310,13 @@ fn combines_to_zero(
     way: &[Turn],
     row: &RowInt,
     cert: &Cert,
-    all: u64,
+    all: u128,
 ) -> Option<bool>
     requires way { All (IsTurn tree.now) way.now }
     requires splits { All (HasSplitRow (length qp.now.counts)) tree.now }
     requires size { IsOfSize (length qp.now.counts) row.now }
     requires positions { HasPositionsIn (height (hold_system qp.now (way_rows tree.now way.now) row.now)) cert.now }
-    requires multiple { All (HasDenomIn all) cert.now }
-    requires positive { 0 < all }
-    requires small { all ≤ 2 ^ 62 }
+    requires denom { IsDenominator all }
     ensures value { IfSome result
         (λ zero. IsTrue zero ↔ CombinesToZero (picked_system (hold_system qp.now (way_rows tree.now way.now) row.now) cert.now) (weights cert.now)) }
     ensures fits { IfSome result

@@ -6,7 +6,7 @@ use Rattle.mpc_check.proofs.whole_laws.member_column.Given as goal
 
 abbrev pub invariant-loop-k : goal.invariant-loop-k
 invariant-loop-k l = record {
-  size : length l.items ≡ 6;
-  entries : (j : ℕ) → j < l.k → cell (rows_of l.qp.g.rows l.law.set) j l.r ≡ frac (get_or l.items j (pos 0)) l.program.den;
-  small : All (λ z. unsigned_abs z ≤ 2 ^ 62) l.items;
+  size : length l.numerators ≡ 6;
+  entries : (j : ℕ) → j < l.k → cell (rows_of l.qp.g.rows l.law.set) j l.r ≡ frac (get_or l.numerators j (pos 0)) l.program.den;
+  small : All (λ z. unsigned_abs z ≤ 2 ^ 61) l.numerators;
 }

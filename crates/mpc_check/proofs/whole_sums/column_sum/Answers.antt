@@ -1,10 +1,9 @@
-use Rattle.std.proofs.Common.{◌+◌, ◌≤◌, get_or, length, ◌+ℤ◌, ◌*ℤ◌, sym, ◌∙◌, ap, subst, arith, All, to_z}
+use Rattle.std.proofs.Common.{◌+◌, ◌≤◌, get_or, length, ◌+ℤ◌, ◌*ℤ◌, sym, ◌∙◌, ap, subst, arith, to_z}
 use Rattle.std.specs.Int.{w128}
 use Rattle.mpc_exact.specs.Rational.{int}
 use Rattle.mpc_rows.specs.LinearSystem.{height}
 use Rattle.mpc_systems.specs.Systems.{hold_system}
 use Rattle.mpc_check.specs.Certs.{HasPositionsIn, IsPositionIn}
-use Rattle.mpc_check.specs.Columns.{HasDenomIn}
 use Rattle.mpc_paths.specs.Ways.{way_rows}
 use Rattle.mpc_check.proofs.ColumnSums.{SumSo, none_added, sum_more, sum_value, sum_fits, all_nonneg}
 use Rattle.mpc_check.proofs.WholeRows.{held_count}
@@ -12,7 +11,7 @@ use Rattle.mpc_check.proofs.WholeSums.{read_wide, read_sum, read_narrow}
 use Rattle.mpc_check.proofs.whole_sums.column_sum.Goals as goal
 
 pub loop-i-init : goal.loop-i-init
-loop-i-init c = none_added c.sum_theorems.ensures c.args.column (hold_system c.args.qp.now (way_rows c.args.tree.now c.args.way.now) c.args.row.now) c.args.cert.now c.args.all c.requires.positive
+loop-i-init c = none_added c.sum_theorems.ensures c.args.column (hold_system c.args.qp.now (way_rows c.args.tree.now c.args.way.now) c.args.row.now) c.args.cert.now c.args.all c.requires.denom.some
 
 pub number_at-requires-clause-place : goal.number_at-requires-clause-place
 number_at-requires-clause-place c =
@@ -22,15 +21,12 @@ number_at-requires-clause-place c =
     let high = p.to_last in
     omega (arith, low, high, held_count c.args.qp.now c.args.tree.now c.args.way.now c.args.row.now 0)
 
-pub weight_over-requires-clause-multiple : goal.weight_over-requires-clause-multiple
-weight_over-requires-clause-multiple c = subst (All (HasDenomIn c.args.all)) (sym c.as_slice-entries.ensures.value) c.requires.multiple c.loop-i.i _ c.loop-i-test.true
-
 pub loop-i-preserved : goal.loop-i-preserved
 loop-i-preserved c =
     let s = hold_system c.args.qp.now (way_rows c.args.tree.now c.args.way.now) c.args.row.now in
     subst (SumSo c.args.column s c.args.cert.now c.args.all (c.loop-i.i + 1)) (sym (read_sum c.in_ok-total.total c.in_ok-total.ensures.small))
     (sum_more s c.args.cert.now c.as_slice-entries.result.now c.as_slice-entries.ensures.value c.loop-i.i c.index-entries-i.result c.loop-i-test.true
-    c.sum_theorems.ensures c.args.column c.args.all c.requires.positive c.requires.small (to_z w128 c.loop-i.total-bits) c.in_ok-weight.weight c.in_ok-number.number c.loop-i.invariant c.index-entries-i-in-loop-i.result c.in_ok-weight.ensures.value c.in_ok-weight.ensures.nonneg c.in_ok-weight.ensures.small
+    c.sum_theorems.ensures c.over_theorems.ensures c.args.column c.args.all c.requires.denom.some c.requires.denom.small (to_z w128 c.loop-i.total-bits) c.in_ok-weight.weight c.in_ok-number.number c.loop-i.invariant c.index-entries-i-in-loop-i.result c.in_ok-weight.ensures.value c.in_ok-weight.ensures.nonneg c.in_ok-weight.ensures.small
     (ap int (c.in_ok-number.ensures.value ∙ read_wide c.number_at.result c.number_at.type_inv) ∙ c.number_at.ensures) c.in_ok-number.ensures.small c.in_ok-total.total
     (c.in_ok-total.ensures.value ∙ (λ t. to_z w128 c.loop-i.total-bits +ℤ (read_narrow c.in_ok-weight.weight c.in_ok-weight.ensures.small t *ℤ read_narrow c.in_ok-number.number c.in_ok-number.ensures.small t))) c.in_ok-total.ensures.small)
 
