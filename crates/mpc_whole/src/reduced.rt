@@ -1,16 +1,20 @@
 //! A pivot in whole numbers out of which a common divisor is taken.
 
-ghost use Rattle.std.specs.Prelude.{◌≡◌, ℕ, ℤ, List, ◌+◌, ◌*◌, ◌<◌, ◌≤◌, ◌⊎◌, ◌+ℤ◌, ◌*ℤ◌, ◌^◌, neg_ℤ, unsigned_abs, IfSome, IsTrue, length};
+ghost use Rattle.std.specs.Prelude.{◌≡◌, ℕ, ℤ, List, pos, ◌+◌, ◌*◌, ◌<◌, ◌≤◌, ◌⊎◌, ◌+ℤ◌, ◌*ℤ◌, ◌^◌, neg_ℤ, unsigned_abs, IfSome, IsTrue, length};
 ghost use Rattle.mpc_whole.specs.Whole.{IsChanged};
 ghost use Rattle.mpc_scaled.specs.Scaled.{whole_at, whole_cell, IsSmall};
 ghost use Rattle.mpc_whole.specs.Judged.{IsTimes, IsReducedPivot};
 
-use crate::whole_numbers::widened;
+use crate::divisors::Divisor;
+use crate::whole_numbers::{small_quotient, widened};
 use crate::wide_numbers::{
-    WideDivisor, are_short, divide_all, goes_into, positive, product_of, short_quotient,
-    wide_difference, wide_turned,
+    WideDivisor, are_short, divide_all, goes_into, positive, product_of, wide_difference,
+    wide_quotient, wide_turned,
 };
 use mpc_frac::greatest_common_divisor;
+
+/// The largest number of 64 bits.
+const LONGEST: u128 = u64::MAX as u128;
 
 /// How the numbers of a row change: its number of the column that enters, the size of the pivot and the denominator
 /// before it, and whether they and those of the row are known to be short.
@@ -100,6 +104,20 @@ fn raise(v: &mut [i128], x: &[i128], e: usize, den: u128, own: u128) -> Option<(
     raise_rows(v, x, e, den, false)
 }
 
+/// What divides both a number and a divisor.
+fn shared_with(z: i128, by: u128) -> u128
+    requires { 0 < by }
+    ensures { 0 < result }
+{
+    let size = z.unsigned_abs();
+    if size > LONGEST || by > LONGEST {
+        return greatest_common_divisor(size, by);
+    }
+    // A remainder is one step, and most of the greater number's bits are gone.
+    let rest = size as u64 % by as u64;
+    greatest_common_divisor(rest as u128, by)
+}
+
 /// What divides a number and all of a list.
 pub(crate) fn shared_with_all(list: &[i128], before: u128) -> u128
     requires { 0 < before }
@@ -111,51 +129,23 @@ pub(crate) fn shared_with_all(list: &[i128], before: u128) -> u128
             return 1;
         }
         if !goes_into(by, list[j]) {
-            let shared = greatest_common_divisor(list[j].unsigned_abs(), by.den);
-            by = WideDivisor::of(shared);
+            by = WideDivisor::of(shared_with(list[j], by.den));
         }
     }
     by.den
 }
 
-/// What divides a number and the quotients of a list by a divisor, if these are whole and short.
-fn shared_with_quotients(list: &[i128], before: u128, divisor: u128) -> Option<u128>
-    requires { 0 < before }
-    ensures { IfSome result (λ shared. 0 < shared) }
+/// The most that the numbers after a pivot can share with the denominator that they are over. This is a multiple of the
+/// rest of the one before, and so is the first number in the column that enters: by what it was before the pivot.
+fn most_shared(first: i128, over: u128, rest: u128) -> Option<u128>
+    ensures { IfSome result (λ most. 0 < most) }
 {
-    let by = WideDivisor::of(divisor);
-    let mut shared = WideDivisor::of(before);
-    for j in 0..list.len() {
-        let q = widened(short_quotient(list[j], by)?);
-        if !goes_into(shared, q) {
-            let both = greatest_common_divisor(q.unsigned_abs(), shared.den);
-            shared = WideDivisor::of(both);
-        }
-    }
-    Some(shared.den)
-}
-
-/// The same as a multiple of a divisor of the number, if that goes into all of the list. What is left to divide is
-/// short then, where the number itself is not.
-fn shared_beyond(list: &[i128], before: u128, divisor: u128) -> Option<u128>
-    ensures { IfSome result (λ shared. 0 < shared) }
-{
-    if divisor <= 1 || before < divisor {
+    let times = over.checked_div(rest)?;
+    if times == 0 {
         return None;
     }
-    let more = shared_with_quotients(list, before / divisor, divisor)?;
-    divisor.checked_mul(more)
-}
-
-/// What divides a number and all of a list, where the number is a multiple of a divisor that mostly goes into all.
-fn shared_by_all(list: &[i128], before: u128, divisor: u128) -> u128
-    requires { 0 < before }
-    ensures { 0 < result }
-{
-    match shared_beyond(list, before, divisor) {
-        Some(shared) => shared,
-        None => shared_with_all(list, before),
-    }
+    let most = rest.checked_mul(shared_with(first, times))?;
+    if most == 0 { None } else { Some(most) }
 }
 
 /// The quotient, if it is whole.
@@ -166,6 +156,57 @@ pub(crate) fn whole_share(n: u128, divisor: u128) -> Option<u128>
     let q = n / divisor;
     let back = q.checked_mul(divisor)?;
     if back == n { Some(q) } else { None }
+}
+
+/// Divides the numbers of a list one after another, as far as the quotients are whole and short: how many are, and the
+/// greatest size of one.
+fn divide_first(list: &mut [i128], by: Divisor) -> (usize, u64)
+    requires { by.den ≤ 2 ^ 62 }
+    ensures done { (k : ℕ) → k < result.0 → whole_at list.new k *ℤ pos by.den ≡ whole_at list.old k }
+    ensures kept { (k : ℕ) → result.0 ≤ k → whole_at list.new k ≡ whole_at list.old k }
+    ensures own { (k : ℕ) → k < result.0 → unsigned_abs (whole_at list.new k) ≤ result.1 }
+{
+    let mut own: u64 = 0;
+    for j in 0..list.len() {
+        let Some(q) = small_quotient(list[j], by, 1 << 62) else {
+            return (j, own);
+        };
+        list[j] = widened(q);
+        own = own.max(q.unsigned_abs());
+    }
+    (list.len(), own)
+}
+
+/// Divides the numbers of a list from a place on, if all quotients are whole: the greatest size of one, or that of
+/// those before.
+fn divide_others(list: &mut [i128], by: WideDivisor, from: usize, before: u64) -> Option<u128>
+    ensures done { IfSome result (λ _. (k : ℕ) → from ≤ k → whole_at list.new k *ℤ pos by.den ≡ whole_at list.old k) }
+    ensures kept { IfSome result (λ _. (k : ℕ) → k < from → whole_at list.new k ≡ whole_at list.old k) }
+    ensures own { IfSome result (λ own. (k : ℕ) → from ≤ k → unsigned_abs (whole_at list.new k) ≤ own) }
+    ensures before { IfSome result (λ own. before ≤ own) }
+{
+    let mut own = before as u128;
+    for j in from..list.len() {
+        let q = wide_quotient(list[j], by)?;
+        list[j] = q;
+        own = own.max(q.unsigned_abs());
+    }
+    Some(own)
+}
+
+/// Divides each number of a list, if all quotients are whole. It gives the greatest size of one.
+pub(crate) fn divide_numbers(list: &mut [i128], den: u128) -> Option<u128>
+    ensures each { IfSome result (λ _. (k : ℕ) → whole_at list.new k *ℤ pos den ≡ whole_at list.old k) }
+    ensures own { IfSome result (λ own. (k : ℕ) → unsigned_abs (whole_at list.new k) ≤ own) }
+{
+    if den > 1 << 62 {
+        return divide_all(list, WideDivisor::of(den));
+    }
+    let (from, own) = divide_first(list, Divisor::of(den as u64));
+    if from == list.len() {
+        return Some(own as u128);
+    }
+    divide_others(list, WideDivisor::of(den), from, own)
 }
 
 /// What a reduced pivot leaves: the denominator, and the greatest size of a number.
@@ -195,9 +236,10 @@ pub(crate) fn reduce(
     if over == 0 {
         return None;
     }
+    let most = most_shared(v[e], over, rest)?;
     raise(v, x, e, rest, own)?;
-    let divisor = shared_by_all(v, over, rest);
+    let divisor = shared_with_all(v, most);
     let size = whole_share(over, divisor)?;
-    let own = divide_all(v, WideDivisor::of(divisor))?;
+    let own = divide_numbers(v, divisor)?;
     Some(Reduced { den: size, own })
 }

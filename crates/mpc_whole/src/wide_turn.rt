@@ -16,11 +16,9 @@ ghost use Rattle.mpc_whole.specs.Running.{HasNumbers};
 
 use crate::frames::JudgedFrame;
 use crate::judged::WidePlace;
-use crate::reduced::{shared_with_all, whole_share};
+use crate::reduced::{divide_numbers, shared_with_all, whole_share};
 use crate::whole_values::step_of;
-use crate::wide_numbers::{
-    WideDivisor, are_short, column_value, divide_all, positive, product_with, wide_row_value,
-};
+use crate::wide_numbers::{are_short, column_value, positive, product_with, wide_row_value};
 use mpc_runs::{Seat, is_basic};
 use mpc_scaled::WholeSystem;
 
@@ -168,7 +166,7 @@ fn divide_row(x: &mut [i128], den: u128) -> Option<(u128, u128)>
         return Some((1, den));
     }
     let rest = whole_share(den, divisor)?;
-    divide_all(x, WideDivisor::of(divisor))?;
+    divide_numbers(x, divisor)?;
     Some((divisor, rest))
 }
 

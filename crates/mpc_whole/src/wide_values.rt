@@ -1,53 +1,60 @@
 //! The values at a position in numbers of 128 bits.
 
-ghost use Rattle.std.specs.Prelude.{◌≡◌, ℕ, List, ◌+◌, ◌*◌, ◌<◌, ◌^◌, IfSome, IsTrue, length};
+ghost use Rattle.std.specs.Prelude.{◌≡◌, ℕ, List, pos, ◌*◌, ◌<◌, ◌^◌, ◌+ℤ◌, ◌*ℤ◌, IfSome, IsTrue, length};
 ghost use Rattle.mpc_rows.specs.LinearSystem.{height};
 ghost use Rattle.mpc_runs.specs.declared.variables.Seat.{Seat};
 ghost use Rattle.mpc_runs.specs.Table.{variable_at, IsSeated, AreNonbasic};
-ghost use Rattle.mpc_whole.specs.Moved.{IsValueAt, AreFormed};
+ghost use Rattle.mpc_whole.specs.Moved.{AreFormed};
 ghost use Rattle.mpc_whole.specs.Running.{HasNumbers};
-ghost use Rattle.mpc_scaled.specs.Scaled.{IsSmall};
+ghost use Rattle.mpc_scaled.specs.Scaled.{whole_at, whole_cell, IsSmall};
 
 use crate::frames::JudgedFrame;
 use crate::whole_values::step_of;
 use crate::wide_numbers::product_with;
 use mpc_scaled::WholeSystem;
 
-/// Both parts of the value of the unknown j. The numbers v aren't tested where they are known to be short.
-fn wide_value_of(
-    system: &WholeSystem,
-    frame: &JudgedFrame,
-    nonbasic: &[usize],
-    v: &[i128],
-    j: usize,
-    short: bool,
-) -> Option<(i128, i128)>
-    requires numbers { HasNumbers system.now frame.now.n frame.now.scales.now frame.now.a.now frame.now.b.now }
-    requires columns { length nonbasic.now ≡ system.now.width }
-    requires below { (c : ℕ) → c < system.now.width → variable_at nonbasic.now c < frame.now.n }
-    requires square { length v.now ≡ system.now.width * system.now.width }
-    requires unknown { j < system.now.width }
-    requires short { IsTrue short → IsSmall (2 ^ 62) v.now }
-    ensures { IfSome result (λ z. IsValueAt system.now frame.now.n frame.now.scales.now frame.now.b.now nonbasic.now v.now j z.0 z.1) }
+/// Writes 0 into each number.
+fn clear_wide(list: &mut [i128])
+    ensures { (k : ℕ) → whole_at list.new k ≡ pos 0 }
 {
-    let width = system.unknowns();
-    let from = j * width;
-    let mut first: i128 = 0;
-    let mut second: i128 = 0;
-    for c in 0..width {
-        let y = nonbasic[c];
-        if y < width {
-            continue;
-        }
-        let i = y - width;
-        let factor = v[from + c];
-        let step = step_of(system, frame.scales, i);
-        let term = product_with(frame.b[i], factor, short)?;
-        let next = product_with(step, factor, short)?;
-        first = first.checked_add(term)?;
-        second = second.checked_add(next)?;
+    for j in 0..list.len() {
+        list[j] = 0;
     }
-    Some((first, second))
+}
+
+/// Adds the numbers of the column c times a factor to those of a list. They aren't tested where they are known to be
+/// short.
+#[inline(always)]
+fn add_column(list: &mut [i128], v: &[i128], c: usize, factor: i64, short: bool) -> Option<()>
+    requires square { length v.now ≡ length list.old * length list.old }
+    requires column { c < length list.old }
+    requires short { IsTrue short → IsSmall (2 ^ 62) v.now }
+    ensures { IfSome result (λ _. (j : ℕ) → j < length list.old → whole_at list.new j ≡ whole_at list.old j +ℤ (whole_cell (length list.old) v.now j c *ℤ factor)) }
+{
+    let width = list.len();
+    for j in 0..width {
+        let term = product_with(factor, v[j * width + c], short)?;
+        let sum = list[j].checked_add(term)?;
+        list[j] = sum;
+    }
+    Some(())
+}
+
+/// The same, where nothing is added by the factor 0. The loop over the unknowns stands there once for short numbers
+/// and once for others, so that they aren't tested again at each number.
+fn add_times(list: &mut [i128], v: &[i128], c: usize, factor: i64, short: bool) -> Option<()>
+    requires square { length v.now ≡ length list.old * length list.old }
+    requires column { c < length list.old }
+    requires short { IsTrue short → IsSmall (2 ^ 62) v.now }
+    ensures { IfSome result (λ _. (j : ℕ) → j < length list.old → whole_at list.new j ≡ whole_at list.old j +ℤ (whole_cell (length list.old) v.now j c *ℤ factor)) }
+{
+    if factor == 0 {
+        return Some(());
+    }
+    if short {
+        return add_column(list, v, c, factor, true);
+    }
+    add_column(list, v, c, factor, false)
 }
 
 /// The values of the unknowns, where no number of v is above own.
@@ -71,10 +78,18 @@ pub(crate) fn wide_stand(
         → AreFormed system.now frame.now.n seats frame.now.scales.now frame.now.b.now v.now c_1.new c_2.new) }
 {
     let short = own <= 1 << 62;
-    for j in 0..system.unknowns() {
-        let (first, second) = wide_value_of(system, frame, nonbasic, v, j, short)?;
-        c_1[j] = first;
-        c_2[j] = second;
+    let width = system.unknowns();
+    clear_wide(c_1);
+    clear_wide(c_2);
+    for c in 0..width {
+        let y = nonbasic[c];
+        if y < width {
+            continue;
+        }
+        let i = y - width;
+        let step = step_of(system, frame.scales, i);
+        add_times(c_1, v, c, frame.b[i], short)?;
+        add_times(c_2, v, c, step, short)?;
     }
     Some(())
 }

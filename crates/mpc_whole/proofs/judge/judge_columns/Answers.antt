@@ -61,3 +61,6 @@ loop-y-preserved c =
       sides = λ i y k h l e. below_more (λ y. seat_at c.args.seats.now y ≡ Column k → HasRoomAt c.args.system.now c.args.frame.now.scales.now c.args.frame.now.b.now c.args.by.enters c.args.by.top c.args.by.size y (side_cell c.args.system.now c.args.frame.now.a.now c.args.v.now i k)) c.loop-y.y (λ y l e. c.loop-y.invariant.sides i y k h l e)
           (λ e. subst (λ m. HasRoomAt c.args.system.now c.args.frame.now.scales.now c.args.frame.now.b.now c.args.by.enters c.args.by.top c.args.by.size c.loop-y.y (side_cell c.args.system.now c.args.frame.now.a.now c.args.v.now i m)) (q k e) (c.entry_limit-limit.ensures _ (sides i h))) y l e;
     }
+
+pub is_column_within-requires-clause-room : goal.is_column_within-requires-clause-room
+is_column_within-requires-clause-room c = λ _. c.requires.numbers.room

@@ -1,9 +1,9 @@
-use Rattle.std.proofs.Common.{◌≡◌, ◌∙◌, ◌+◌, ◌*◌, length, refl, subst, ap, ◌*ℤ◌, pos, get_or, unsigned_abs, rules, FitsSigned}
+use Rattle.std.proofs.Common.{◌≡◌, ◌∙◌, ◌+◌, ◌*◌, length, refl, arith, ap, ◌*ℤ◌, pos, get_or, unsigned_abs, rules, FitsSigned}
 use Rattle.std.specs.Int.{w128}
 use Rattle.std.proofs.lemmas.Int.{to_z-of_z}
 use Rattle.mpc_scaled.specs.Scaled.{whole_at}
 use Rattle.mpc_whole.proofs.DividedRows.{pivot_divided}
-use Rattle.mpc_whole.proofs.WholeExchange.{changed_divided}
+use Rattle.mpc_whole.proofs.WholeExchange.{changed_divided, row_inside}
 use Rattle.mpc_whole.proofs.reduced.reduce.Goals as goal
 
 pub returns-clause-pivot : goal.returns-clause-pivot
@@ -11,12 +11,16 @@ returns-clause-pivot c =
     let x = c.args.x.now in
     let w = length x in
     let f : FitsSigned w128 (get_or x c.args.e (pos 0)) = search rules in
-    let g = c.shared_by_all-divisor.result in
+    let g = c.shared_with_all-divisor.result in
     let size = c.in_ok-size.size in
     let over : size * g ≡ unsigned_abs (whole_at x c.args.e) * c.args.den =
     c.in_ok-size.ensures ∙ c.in_ok-over.ensures.1 ∙ ap (λ m. m * c.args.den) (c.unsigned_abs.ensures.value ∙ ap unsigned_abs (to_z-of_z w128 _ f))
     in
     λ row d more split times.
-    pivot_divided w g c.args.den c.args.rest size c.args.v.now c.divide_all.new.list x row c.args.e d (pos size) refl
-    c.shared_by_all-divisor.ensures more split times c.requires.column (ap pos over) refl
-    (λ j k h l. changed_divided w g c.args.rest c.args.v.now x j c.args.e k _ _ (subst (λ m. whole_at c.divide_all.new.list (j * w + k) *ℤ pos m ≡ whole_at c.raise.new.v (j * w + k)) c.of.ensures (c.in_ok-own.ensures.each (j * w + k))) (c.in_ok-raise.ensures j k h l))
+    pivot_divided w g c.args.den c.args.rest size c.args.v.now c.divide_numbers.new.list x row c.args.e d (pos size) refl
+    c.shared_with_all-divisor.ensures more split times c.requires.column (ap pos over) refl
+    (λ j k h l. changed_divided w g c.args.rest c.args.v.now x j c.args.e k _ _ (c.in_ok-own.ensures.each (j * w + k)) (c.in_ok-raise.ensures j k h l))
+
+-- the first number of the column
+pub offset_bounds-v-e : goal.offset_bounds-v-e
+offset_bounds-v-e c = let r = row_inside (length c.args.x.now) 0 c.args.e (length c.args.v.now) c.requires.square (let h = c.requires.column in omega arith) c.requires.column in omega arith

@@ -1,4 +1,4 @@
-use Rattle.std.proofs.Common.{ℕ, ◌≡◌, ◌∙◌, ◌<◌, length, sym, ap, subst, subst₂, arith, rules, pos, get_or, to_z, FitsSigned}
+use Rattle.std.proofs.Common.{ℕ, ◌≡◌, ◌∙◌, ◌<◌, length, sym, ap, subst, subst₂, arith, rules, pos, get_or, FitsSigned}
 use Rattle.std.specs.Int.{w128}
 use Rattle.std.proofs.lemmas.Int.{to_z-of_z}
 use borrow.Author.Count.{below_more}

@@ -1,8 +1,8 @@
-use Rattle.std.proofs.Common.{ℕ, ◌≡◌, ◌∙◌, ◌*◌, sym, ap, subst₂, rules, to_z, FitsSigned}
+use Rattle.std.proofs.Common.{ℕ, ◌≡◌, ◌∙◌, sym, ap, subst₂, rules, FitsSigned}
 use Rattle.std.specs.Int.{w128}
 use Rattle.std.proofs.lemmas.Int.{to_z-of_z}
 use Rattle.std.proofs.lemmas.Option.{IfSome_then}
-use Rattle.mpc_exact.specs.Rational.{ℚ, ◌*ℚ◌, inv_ℚ}
+use Rattle.mpc_exact.specs.Rational.{◌*ℚ◌, inv_ℚ}
 use Rattle.mpc_frac.specs.Fits.{FitsFrac}
 use Rattle.mpc_runs.specs.declared.variables.Seat.TheVariants.{Column}
 use Rattle.mpc_runs.specs.Table.{seat_at}

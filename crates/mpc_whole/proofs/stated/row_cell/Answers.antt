@@ -1,4 +1,4 @@
-use Rattle.std.proofs.Common.{◌∙◌, ◌-◌, ◌*◌, ◌*ℤ◌, sym, ap, arith}
+use Rattle.std.proofs.Common.{◌∙◌, ◌-◌, ◌*ℤ◌, sym, ap, arith}
 use Rattle.std.proofs.lemmas.Option.{IfSome_then}
 use Rattle.mpc_whole.specs.Whole.{whole_total}
 use Rattle.mpc_scaled.specs.Scaled.{whole_cell}

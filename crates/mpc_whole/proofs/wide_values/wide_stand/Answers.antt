@@ -1,33 +1,89 @@
-use Rattle.std.proofs.Common.{◌≡◌, ◌<◌, ◌≤◌, length, sym, subst₂, arith, to_z, of_z, rules, FitsSigned}
-use Rattle.std.specs.Int.{w128}
+use Rattle.std.proofs.Common.{rules, ◌≡◌, ℕ, ◌+◌, ◌-◌, ◌<◌, ◌≤◌, ◌+ℤ◌, ◌*ℤ◌, pos, length, sym, ◌∙◌, ap, subst, arith, get_or, FitsSigned}
+use Rattle.std.specs.Int.{w64}
 use Rattle.std.proofs.lemmas.Int.{to_z-of_z}
-use Rattle.mpc_whole.specs.Moved.{IsValueAt}
-use Rattle.mpc_whole.proofs.WholeSteps.{both_set}
+use Rattle.mpc_exact.specs.Rational.{frac}
+use Rattle.mpc_space.specs.Total.{total}
+use Rattle.mpc_space.proofs.Total.{total-zero}
+use Rattle.mpc_rows.specs.LinearSystem.{height}
+use Rattle.mpc_rows.specs.Run.{rest, bound}
+use Rattle.mpc_runs.specs.Table.{variable_at}
+use Rattle.mpc_scaled.specs.Scaled.{whole_at, whole_cell, scale_at}
+use Rattle.mpc_whole.proofs.ColumnSums.{first_is, second_is, unknown_skipped, side_more}
+use Rattle.mpc_runs.proofs.Fits.{first_nought, second_nought}
+use Rattle.mpc_runs.proofs.Table.{first_terms, second_terms}
+use Rattle.mpc_whole.proofs.WholeSums.{zero_over}
+use Rattle.mpc_whole.proofs.WholeSteps.{rest_first, rest_second}
 use Rattle.mpc_whole.proofs.wide_values.wide_stand.Goals as goal
-use Rattle.mpc_whole.proofs.wide_values.wide_stand.Goals.{After-loop-j}
+use Rattle.mpc_whole.proofs.wide_values.wide_stand.Goals.{After-loop-c}
 
-pub loop-j-init : goal.loop-j-init
-loop-j-init c = λ k h. absurd (omega arith)
+pub loop-c-init : goal.loop-c-init
+loop-c-init c = record {
+  firsts = λ seats z a p d t f h j l. total-zero _ ∙ sym (zero_over d f.some) ∙ ap (λ u. frac u d) (sym (c.clear_wide.ensures j));
+  seconds = λ seats z a p d t f h j l. total-zero _ ∙ sym (zero_over d f.some) ∙ ap (λ u. frac u d) (sym (c.clear_wide-2.ensures j));
+}
 
-pub loop-j-preserved : goal.loop-j-preserved
-loop-j-preserved c =
-    let e = c.unknowns-j-end.ensures in
-    let t = c.loop-j-test.true in
-    let in_1 : c.loop-j.j < length c.loop-j.c_1 = (let q : length c.loop-j.c_1 ≡ length c.args.c_1.now = c.loop-j.auto.c_1 in let r = c.requires.first_room in omega arith) in
-    let in_2 : c.loop-j.j < length c.loop-j.c_2 = (let q : length c.loop-j.c_2 ≡ length c.args.c_2.now = c.loop-j.auto.c_2 in let r = c.requires.second_room in omega arith) in
-    let f : FitsSigned w128 c.in_ok-first.first = search rules in
-    let g : FitsSigned w128 c.in_ok-first.second = search rules in
-    let value = IsValueAt c.args.system.now c.args.frame.now.n c.args.frame.now.scales.now c.args.frame.now.b.now c.args.nonbasic.now c.args.v.now in
-    both_set value c.loop-j.c_1 c.loop-j.c_2 c.loop-j.j (to_z w128 (of_z w128 c.in_ok-first.first)) (to_z w128 (of_z w128 c.in_ok-first.second)) in_1 in_2 c.loop-j.invariant
-    (subst₂ (value c.loop-j.j) (sym (to_z-of_z w128 _ f)) (sym (to_z-of_z w128 _ g)) c.in_ok-first.ensures)
+-- an unknown rests at 0
+pub loop-c-preserved-then-y-width : goal.loop-c-preserved-then-y-width
+loop-c-preserved-then-y-width c =
+    let s = c.args.system.now in
+    let k = c.args.frame.now.scales.now in
+    let v = c.args.v.now in
+    let columns = c.args.nonbasic.now in
+    let n = c.args.frame.now.n in
+    let h : c.loop-c.c < s.width = subst (λ w. c.loop-c.c < w) c.unknowns-width.ensures c.loop-c-test.true in
+    let low : variable_at columns c.loop-c.c < s.width = subst (λ w. variable_at columns c.loop-c.c < w) c.unknowns-width.ensures c.if-y-width.true in
+    record {
+      firsts = λ seats z a p d t f q j l. unknown_skipped s n seats columns z a k v p d t f j (λ y. (rest s y).first) c.loop-c.c h _ (c.loop-c.invariant.firsts seats z a p d t f q j l) (first_nought s p j (variable_at columns c.loop-c.c) low);
+      seconds = λ seats z a p d t f q j l. unknown_skipped s n seats columns z a k v p d t f j (λ y. (rest s y).second) c.loop-c.c h _ (c.loop-c.invariant.seconds seats z a p d t f q j l) (second_nought s p j (variable_at columns c.loop-c.c) low);
+    }
 
-all_of : (c : After-loop-j) → c.args.system.now.width ≤ c.loop-j.j
-all_of c = let e = c.unknowns-j-end.ensures in let t = c.loop-j-test.false in omega arith
+pub loop-c-preserved : goal.loop-c-preserved
+loop-c-preserved c =
+    let s = c.args.system.now in
+    let k = c.args.frame.now.scales.now in
+    let b = c.args.frame.now.b.now in
+    let v = c.args.v.now in
+    let columns = c.args.nonbasic.now in
+    let n = c.args.frame.now.n in
+    let y = variable_at columns c.loop-c.c in
+    let e : c.unknowns-width.result ≡ s.width = c.unknowns-width.ensures in
+    let h : c.loop-c.c < s.width = subst (λ w. c.loop-c.c < w) e c.loop-c-test.true in
+    let low : s.width ≤ y = subst (λ w. w ≤ y) e c.if-y-width.false in
+    let below : y < n = c.requires.below c.loop-c.c h in
+    let side : y - s.width < height s = (let q = c.requires.numbers.count in omega arith) in
+    let scale : 0 < scale_at k y = c.requires.numbers.whole.scales.some y (let q = c.requires.numbers.count in omega arith) in
+    let there : s.width + (y - c.unknowns-width.result) ≡ y = omega arith in
+    let bound_fits : FitsSigned w64 (get_or b (y - c.unknowns-width.result) (pos 0)) = search rules in
+    let step_fits : FitsSigned w64 c.step_of-step.result = search rules in
+    let long_1 : length c.loop-c.c_1 ≡ s.width = (let q : length c.loop-c.c_1 ≡ length c.clear_wide.new.list = c.loop-c.auto.c_1 in q) ∙ (let q : length c.clear_wide.new.list ≡ length c.args.c_1.now = c.clear_wide.auto.list in q) ∙ c.requires.first_room in
+    let long_2 : length c.loop-c.c_2 ≡ s.width = (let q : length c.loop-c.c_2 ≡ length c.clear_wide-2.new.list = c.loop-c.auto.c_2 in q) ∙ (let q : length c.clear_wide-2.new.list ≡ length c.args.c_2.now = c.clear_wide-2.auto.list in q) ∙ c.requires.second_room in
+    let first : (j : ℕ) → j < s.width → whole_at c.add_times.new.list j ≡ whole_at c.loop-c.c_1 j +ℤ (whole_cell s.width v j c.loop-c.c *ℤ whole_at b (y - s.width)) =
+    λ j l. c.in_ok-add_times.ensures j (subst (λ w. j < w) (sym long_1) l)
+    ∙ (λ i. whole_at c.loop-c.c_1 j +ℤ (whole_cell (long_1 i) v j c.loop-c.c *ℤ to_z-of_z w64 _ bound_fits i)) ∙ ap (λ w. whole_at c.loop-c.c_1 j +ℤ (whole_cell s.width v j c.loop-c.c *ℤ whole_at b (y - w))) e
+    in
+    let second : (j : ℕ) → j < s.width → whole_at c.add_times-in-loop-c.new.list j ≡ whole_at c.loop-c.c_2 j +ℤ (whole_cell s.width v j c.loop-c.c *ℤ c.step_of-step.result) =
+    λ j l. c.in_ok-add_times-2.ensures j (subst (λ w. j < w) (sym long_2) l)
+    ∙ (λ i. whole_at c.loop-c.c_2 j +ℤ (whole_cell (long_2 i) v j c.loop-c.c *ℤ to_z-of_z w64 _ step_fits i))
+    in
+    let step = rest_second s y low ∙ ap (λ w. (bound s (s.width + (y - w))).second) (sym e) ∙ c.step_of-step.ensures.value ∙ ap (λ m. frac c.step_of-step.result (scale_at k m)) there in
+    record {
+      firsts = λ seats z a p d t f q j l. side_more s n seats columns z a k v p d t f j (λ m. (rest s m).first) c.loop-c.c h _ (c.loop-c.invariant.firsts seats z a p d t f q j l) (whole_at b (y - s.width)) _ l scale (rest_first s y low k b q side) (first j l);
+      seconds = λ seats z a p d t f q j l. side_more s n seats columns z a k v p d t f j (λ m. (rest s m).second) c.loop-c.c h _ (c.loop-c.invariant.seconds seats z a p d t f q j l) c.step_of-step.result _ l scale step (second j l);
+    }
+
+all_of : (c : After-loop-c) → c.loop-c.c ≡ c.args.system.now.width
+all_of c = let a = c.loop-c.auto.c-end in let t = c.loop-c-test.false in let e = c.unknowns-width.ensures in omega arith
 
 pub returns : goal.returns
 returns c = λ seats z a. record {
-  each = λ p d t f h. record {
-    first = λ j l. (c.loop-j.invariant j (let w = all_of c in omega arith)).first seats z a p d t f h;
-    second = λ j l. (c.loop-j.invariant j (let w = all_of c in omega arith)).second seats z a p d t f h;
-  };
+  each = λ p d t f h.
+      let s = c.args.system.now in
+      let n = c.args.frame.now.n in
+      let k = c.args.frame.now.scales.now in
+      let v = c.args.v.now in
+      let columns = c.args.nonbasic.now in
+      record {
+        first = λ j l. sym (first_is s n seats columns z a k v p d t f j) ∙ ap (λ m. total m (λ x. first_terms s p j (variable_at columns x))) (sym (all_of c)) ∙ c.loop-c.invariant.firsts seats z a p d t f h j l;
+        second = λ j l. sym (second_is s n seats columns z a k v p d t f j) ∙ ap (λ m. total m (λ x. second_terms s p j (variable_at columns x))) (sym (all_of c)) ∙ c.loop-c.invariant.seconds seats z a p d t f h j l;
+      };
 }

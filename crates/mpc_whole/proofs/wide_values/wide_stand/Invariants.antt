@@ -1,7 +1,19 @@
-use Rattle.std.proofs.Common.{ℕ, ◌<◌}
-use Rattle.mpc_whole.specs.Moved.{IsValueAt}
-use Rattle.mpc_scaled.specs.Scaled.{whole_at}
+use Rattle.std.proofs.Common.{◌≡◌, ℕ, ◌<◌, List}
+use Rattle.mpc_exact.specs.Rational.{frac}
+use Rattle.mpc_space.specs.Total.{total}
+use Rattle.mpc_rows.specs.LinearSystem.{height}
+use Rattle.mpc_rows.specs.Run.{Position, IsTableau}
+use Rattle.mpc_runs.specs.declared.variables.Seat.{Seat}
+use Rattle.mpc_runs.specs.Table.{variable_at, IsSeated, AreNonbasic}
+use Rattle.mpc_whole.specs.Whole.{IsForm}
+use Rattle.mpc_scaled.specs.Scaled.{whole_at, HasSides}
+use Rattle.mpc_runs.proofs.Table.{first_terms, second_terms}
 use Rattle.mpc_whole.proofs.wide_values.wide_stand.Given as goal
 
-abbrev pub invariant-loop-j : goal.invariant-loop-j
-invariant-loop-j l = (k : ℕ) → k < l.j → IsValueAt l.system l.frame.n l.frame.scales.now l.frame.b.now l.nonbasic l.v k (whole_at l.c_1 k) (whole_at l.c_2 k)
+abbrev pub invariant-loop-c : goal.invariant-loop-c
+invariant-loop-c l = record {
+  firsts : (seats : List Seat) → IsSeated (height l.system) l.system.width l.frame.n seats → AreNonbasic l.system.width seats l.nonbasic → (p : Position) (d : ℕ) → IsTableau p → IsForm l.system l.frame.n seats l.frame.scales.now d l.v p → HasSides l.system l.frame.scales.now l.frame.b.now
+      → (j : ℕ) → j < l.system.width → total l.c (λ m. first_terms l.system p j (variable_at l.nonbasic m)) ≡ frac (whole_at l.c_1 j) d;
+  seconds : (seats : List Seat) → IsSeated (height l.system) l.system.width l.frame.n seats → AreNonbasic l.system.width seats l.nonbasic → (p : Position) (d : ℕ) → IsTableau p → IsForm l.system l.frame.n seats l.frame.scales.now d l.v p → HasSides l.system l.frame.scales.now l.frame.b.now
+      → (j : ℕ) → j < l.system.width → total l.c (λ m. second_terms l.system p j (variable_at l.nonbasic m)) ≡ frac (whole_at l.c_2 j) d;
+}
