@@ -681,8 +681,17 @@ impl KeptRun {
         judge_on(lists, &mut work.wide, longer, numbers, from)
     }
 
+    /// Whether the longer run, where it fails from here on, fails anew too: nothing divides all numbers that stand
+    /// here and their denominator, and the sizes that are kept leave it room at the positions before.
+    fn fails_alike(&self, longer: &WholeSystem, numbers: &WholeNumbers) -> bool
+        requires { IsSmall numbers.now.most_entry numbers.now.a.now }
+    {
+        let is_reduced = self.last.lists.is_wide || self.last.place.den == 1;
+        is_reduced && room_before(longer, numbers, self.last.place).is_some()
+    }
+
     /// The run of a system with further rows behind this one's: from where this one ends on, or else
-    /// anew, since the rows are judged more closely at positions that are formed again.
+    /// anew, where the rows are judged more closely at positions that are formed again.
     fn run_longer(
         &self,
         lists: &mut KeptLists,
@@ -694,10 +703,13 @@ impl KeptRun {
         requires numbers { AreNumbers longer.now numbers.now }
         ensures { IfOk result (λ o. IfSome o (λ t. AreKept longer.now numbers.now.scales.now lists.new t.0 t.1)) }
     {
-        match self.go_on(lists, work, longer, numbers)? {
-            Some(found) => Ok(Some(found)),
-            None => first_run(lists, work, longer, numbers),
+        if let Some(found) = self.go_on(lists, work, longer, numbers)? {
+            return Ok(Some(found));
         }
+        if self.fails_alike(longer, numbers) {
+            return Ok(None);
+        }
+        first_run(lists, work, longer, numbers)
     }
 
     /// Whether the run of a system with further rows behind this one's ends with a point.
