@@ -2,7 +2,8 @@
 use Rattle.std.proofs.Common.{◌≡◌, ℕ, ◌+◌, ◌*◌, ◌^◌, ◌≤◌, List, ℤ, subst, arith, le_trans, mul-le-mul_left}
 use Rattle.mpc_rows.specs.LinearSystem.{LinearSystem, height}
 use Rattle.mpc_scaled.specs.Scaled.{scale_at, IsSmall}
-use Rattle.mpc_whole.specs.Whole.{HasBounds, HasRoom}
+use Rattle.mpc_whole.specs.Whole.{HasBounds}
+use Rattle.mpc_runs.specs.WholeNumbers.{HasRoom}
 
 pub weaker : (m k : ℕ) (xs : List ℤ) → IsSmall m xs → m ≤ k → IsSmall k xs
 weaker m k xs h l = record { each = λ i. le_trans (h.each i) l }

@@ -5,7 +5,8 @@ use Rattle.mpc_rows.specs.Run.{count}
 use Rattle.mpc_runs.specs.declared.variables.Seat.{Seat}
 use Rattle.mpc_whole.specs.declared.judged.WidePlace.{WidePlace}
 use Rattle.mpc_scaled.specs.declared.systems.WholeNumbers.{WholeNumbers}
-use Rattle.mpc_whole.specs.Whole.{IsNarrow, HasBounds, HasRoom}
+use Rattle.mpc_whole.specs.Whole.{IsNarrow, HasBounds}
+use Rattle.mpc_runs.specs.WholeNumbers.{HasRoom}
 use Rattle.mpc_scaled.specs.Scaled.{IsSmall}
 
 -- numbers of a position up to most have bounds, and the sizes that are kept of those that stand and of those before are within that

@@ -8,7 +8,7 @@ ghost use Rattle.mpc_rows.specs.LawRows.{broken_row};
 ghost use Rattle.mpc_rows.specs.SetRuns.{turned};
 ghost use Rattle.mpc_whole.specs.Lists.{AreListsOf, of_short};
 ghost use Rattle.mpc_runs.specs.RunEnd.{IsEnd, IsMultipliers, IsValues, EndsRefuted};
-ghost use Rattle.mpc_whole.specs.Whole.{HasRoom};
+ghost use Rattle.mpc_runs.specs.WholeNumbers.{HasRoom};
 ghost use Rattle.mpc_scaled.specs.Scaled.{IsSmall};
 ghost use Rattle.mpc_whole.specs.Underway.{turn_of, HasEnded};
 ghost use Rattle.mpc_beginnings.specs.Beginnings.{lengthened};

@@ -1,4 +1,4 @@
-//! Tests of what no command shows: fractions, columns of linear systems, sets, and bytes that come and go.
+//! Tests of what no command shows: fractions, exact quotients, columns of linear systems, sets, and bytes that come and go.
 #![tactic(auto)]
 
 #[cfg(test)]
@@ -7,5 +7,7 @@ mod bytes;
 mod fractions;
 #[cfg(test)]
 mod linear;
+#[cfg(test)]
+mod quotients;
 #[cfg(test)]
 mod sets;

@@ -8,7 +8,7 @@ use Rattle.std.proofs.Math.Nat.{one-dvd}
 use native.Mathlib.Nat.{le_of_dvd}
 use Rattle.mpc_exact.specs.Gcd.{gcd, gcd_is, gcd-divides_left, gcd-divides_right, gcd_greatest, gcd_comm, gcd_zero}
 use Rattle.mpc_space.proofs.Words.{read_back}
-use Rattle.mpc_whole.specs.Whole.{turned}
+use Rattle.mpc_runs.specs.WholeNumbers.{turned}
 use Rattle.mpc_region.specs.SweptRows.{DividesEach, IsSharedBy}
 
 -- ---- sizes of integers

@@ -14,7 +14,7 @@ use Rattle.mpc_space.specs.Vector.{coordinate}
 use Rattle.mpc_frac.specs.Fits.{FitsFrac, FitsSum}
 use Rattle.mpc_linear.specs.Dot.{SumFits}
 use Rattle.mpc_linear.specs.Whole.{scaled, WholeFits}
-use Rattle.mpc_whole.specs.OverTheorems.{OverTheorems}
+use Rattle.mpc_quotients.specs.OverTheorems.{OverTheorems}
 use Rattle.mpc_region.proofs.SweptDivisors.{abs_sum}
 
 -- x is a number of at most this size over m

@@ -19,7 +19,7 @@ use Rattle.mpc_rows.specs.ActiveSets.{row_of}
 use Rattle.mpc_rows.specs.LawRows.{law_form, law_sides, law_bound, IsLawRow, AreLawRows, LawRowFits}
 use Rattle.mpc_rows.specs.SetRuns.{LawRowsFit}
 use Rattle.mpc_rows.specs.LinearSystem.{LinearSystem}
-use Rattle.mpc_whole.specs.OverTheorems.{OverTheorems}
+use Rattle.mpc_quotients.specs.OverTheorems.{OverTheorems}
 use Rattle.mpc_sweep.specs.declared.numbers.Swept.{Swept}
 use Rattle.mpc_sweep.specs.Sweeps.{swept}
 use Rattle.mpc_sweep.specs.Theorems.{RowIsReduced}

@@ -14,11 +14,11 @@ ghost use Rattle.mpc_region.specs.Writing.{WritesRow};
 
 use mpc_frac::{Frac, NoMemory, fit_theorems, greatest_common_divisor};
 use mpc_linear::Matrix;
+use mpc_quotients::{over_theorems, turned};
 use mpc_rows::{Law, Qp, law_theorems};
 use mpc_scaled::WholeSystem;
 use mpc_sets::ActiveSet;
 use mpc_sweep::{Swept, sweep_theorems};
-use mpc_whole::{over_theorems, turned};
 use std::alloc::Global;
 
 /// The greatest common divisor of two numbers, of which the first is often a divisor of the second.

@@ -21,3 +21,7 @@ pub mod Fits
 pub mod Loop
 pub mod ValuesAfter
 pub mod Stays
+pub mod WholeFits
+pub mod WholeSums
+pub mod WholeWidths
+pub mod WholeLists

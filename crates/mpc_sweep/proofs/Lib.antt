@@ -4,7 +4,6 @@ pub mod Befores
 pub mod Unswept
 pub mod Parts
 pub mod OneNumber
-pub mod ShortNumbers
 pub mod AllRows
 pub mod SweptEntry
 pub mod SweptOnce

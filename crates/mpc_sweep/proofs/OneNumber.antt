@@ -3,16 +3,13 @@ use Rattle.std.proofs.Common.{◌≡◌, ◌≢◌, ℕ, ◌+◌, ◌-◌, ◌*�
 use Rattle.std.specs.Int.{w64}
 use Rattle.std.specs.List.{between}
 use Rattle.std.proofs.lemmas.Bool.{cases_eq, cases_lt}
-use Rattle.std.proofs.lemmas.Int.{fits_signed_from_abs, to_z-of_z}
 use Rattle.std.proofs.lemmas.List.{get_or_past}
 use Rattle.std.proofs.lemmas.List.Edits.{get_or-between, length-between}
 use Rattle.mpc_exact.proofs.IntRing.{int_reads, by_ring_ℤ}
-use Rattle.mpc_whole.specs.Whole.{turned}
+use Rattle.mpc_runs.specs.WholeNumbers.{turned}
 use Rattle.mpc_scaled.specs.Scaled.{whole_at, whole_cell, IsSmall}
+use Rattle.mpc_runs.proofs.WholeWidths.{read_small}
 use Rattle.mpc_sweep.specs.Steps.{IsNumber, IsOwn, IsScaled, IsChanged, AreWritten}
-
-pub read_small : (z : ℤ) → unsigned_abs z ≤ 2 ^ 62 → to_z w64 (of_z w64 z) ≡ z
-read_small z h = to_z-of_z w64 z (fits_signed_from_abs w64 z (omega arith))
 
 -- a number that is read from a list of small ones
 pub read_at : (v : List ℤ) → IsSmall (2 ^ 62) v → (k : ℕ) → to_z w64 (of_z w64 (get_or v k (pos 0))) ≡ whole_at v k

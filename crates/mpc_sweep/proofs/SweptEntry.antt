@@ -1,36 +1,16 @@
 -- One entry of a sweep in fractions, where the entries of each row are whole numbers over one denominator.
-use Rattle.std.proofs.Common.{◌≡◌, ◌≢◌, ℕ, zero, suc, ◌*◌, ◌^◌, ◌<◌, ◌≤◌, ℤ, pos, negsuc, ◌+ℤ◌, ◌*ℤ◌, neg_ℤ, unsigned_abs, [], ◌∷◌, refl, sym, ◌∙◌, ap, subst, subst₂, arith, mul_comm, mul-pos, mul-le-mul_right, mul-le-mul_left, le_trans, lit<}
-use Rattle.std.proofs.lemmas.Int.{unsigned_abs-mul}
+use Rattle.std.proofs.Common.{◌≡◌, ◌≢◌, ℕ, ◌*◌, ◌^◌, ◌<◌, ◌≤◌, ℤ, pos, negsuc, ◌+ℤ◌, ◌*ℤ◌, neg_ℤ, unsigned_abs, [], ◌∷◌, refl, sym, ◌∙◌, ap, subst, subst₂, arith, mul_comm, mul-pos, lit<}
+use Rattle.std.proofs.lemmas.Nat.{mul-le}
 use Rattle.mpc_exact.specs.Rational.{frac, int, ◌+ℚ◌, ◌*ℚ◌, ◌/ℚ◌, neg_ℚ, inv_ℚ}
 use Rattle.mpc_exact.proofs.Rational.{same_frac, frac_same, frac-mul, frac-neg}
 use Rattle.mpc_exact.proofs.IntRing.{int_reads, by_ring_ℤ}
 use Rattle.mpc_frac.specs.Fits.{FitsFrac, FitsSum}
 use Rattle.mpc_linear.specs.Elimination.{Table, reduced}
 use Rattle.mpc_bordered.specs.Fronts.{EntryFits}
-use Rattle.mpc_whole.specs.Whole.{turned}
-use Rattle.mpc_whole.specs.OverTheorems.{OverTheorems}
+use Rattle.mpc_runs.specs.WholeNumbers.{turned}
+use Rattle.mpc_quotients.specs.OverTheorems.{OverTheorems}
+use Rattle.mpc_runs.proofs.WholeSums.{abs-negated, abs_turned, abs_some, product_at_most}
 use Rattle.mpc_sweep.proofs.Steps.{reduced-pivot, reduced-other}
-
--- ---- sizes
-abs-negated : (a : ℤ) → unsigned_abs (neg_ℤ a) ≡ unsigned_abs a
-abs-negated (pos zero) = refl
-abs-negated (pos (suc n)) = refl
-abs-negated (negsuc n) = refl
-
-abs_turned : (q a : ℤ) → unsigned_abs (turned q a) ≡ unsigned_abs a
-abs_turned (pos n) a = refl
-abs_turned (negsuc n) a = abs-negated a
-
-pub abs_some : (q : ℤ) → q ≢ pos 0 → 0 < unsigned_abs q
-abs_some (pos zero) h = absurd (h refl)
-abs_some (pos (suc n)) h = omega arith
-abs_some (negsuc n) h = omega arith
-
-both_at_most : (a b m n : ℕ) → a ≤ m → b ≤ n → a * b ≤ m * n
-both_at_most a b m n h k = le_trans (mul-le-mul_right b h) (mul-le-mul_left m k)
-
-product_at_most : (u v : ℤ) (m n : ℕ) → unsigned_abs u ≤ m → unsigned_abs v ≤ n → unsigned_abs (u *ℤ v) ≤ m * n
-product_at_most u v m n h k = subst (λ z. z ≤ m * n) (sym (unsigned_abs-mul u v)) (both_at_most (unsigned_abs u) (unsigned_abs v) m n h k)
 
 -- ---- signs and factors
 turned_left : (q k x : ℤ) → k *ℤ turned q x ≡ turned q k *ℤ x
@@ -68,7 +48,7 @@ module _ (laws : OverTheorems) (s : Table) (p i j : ℕ) (q x k v : ℤ) (d : �
   both_some = mul-pos d_some size_some
 
   both_small : both ≤ 2 ^ 62 * 2 ^ 62
-  both_small = both_at_most d size (2 ^ 62) (2 ^ 62) d_small q_small
+  both_small = mul-le d size (2 ^ 62) (2 ^ 62) d_small q_small
 
   x_turned : unsigned_abs (turned q x) ≤ 2 ^ 62
   x_turned = subst (λ u. u ≤ 2 ^ 62) (sym (abs_turned q x)) x_small

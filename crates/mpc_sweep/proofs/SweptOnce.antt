@@ -7,7 +7,7 @@ use Rattle.mpc_exact.specs.Rational.{frac, int}
 use Rattle.mpc_linear.specs.Elimination.{Table, reduced}
 use Rattle.mpc_bordered.specs.Fronts.{EntryFits}
 use Rattle.mpc_scaled.specs.Scaled.{whole_at, whole_cell}
-use Rattle.mpc_whole.specs.OverTheorems.{OverTheorems}
+use Rattle.mpc_quotients.specs.OverTheorems.{OverTheorems}
 use Rattle.mpc_sweep.specs.declared.numbers.Swept.{Swept}
 use Rattle.mpc_sweep.specs.Sweeps.{swept, pivot_at, before, HasPivots, AreRising, SweepsFit}
 use Rattle.mpc_sweep.specs.Numbers.{told_columns, number, IsTable, IsSwept}

@@ -1,6 +1,6 @@
 -- One sweep in whole numbers, number by number.
 use Rattle.std.specs.Prelude.{◌≡◌, ◌≢◌, ℕ, ◌+◌, ◌*◌, ◌<◌, ◌≤◌, ◌^◌, List, ℤ, pos, ◌-◌, ◌+ℤ◌, ◌*ℤ◌, neg_ℤ, unsigned_abs}
-use Rattle.mpc_whole.specs.Whole.{turned}
+use Rattle.mpc_runs.specs.WholeNumbers.{turned}
 use Rattle.mpc_scaled.specs.Scaled.{whole_at, whole_cell}
 use Rattle.mpc_sweep.specs.declared.numbers.Swept.{Swept}
 use Rattle.mpc_sweep.specs.Numbers.{told_columns, number}

@@ -11,7 +11,8 @@ use crate::Swept;
 use crate::rows::bound_of;
 use mpc_frac::{Frac, NoMemory, greatest_common_divisor};
 use mpc_linear::Matrix;
-use mpc_whole::{Divisor, changed};
+use mpc_quotients::{Divisor, changed};
+use mpc_scaled::narrow;
 use std::alloc::Global;
 
 /// The greatest size of a number before the first sweep.
@@ -64,15 +65,6 @@ fn table_scale(table: &Matrix) -> Option<u64>
         scale = row_scale(scale, table.row(i))?;
     }
     Some(scale)
-}
-
-/// A number that fits 64 bits.
-#[inline]
-fn narrow(z: i128) -> i64
-    requires { unsigned_abs z ≤ 2 ^ 62 }
-    ensures { result ≡ z }
-{
-    z as i64
 }
 
 /// The number times a scale, if that is whole and small.

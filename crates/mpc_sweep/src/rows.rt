@@ -2,17 +2,17 @@
 
 ghost use Rattle.std.specs.Prelude.{◌≡◌, ◌≢◌, ℕ, ◌+◌, ◌-◌, ◌*◌, ◌<◌, ◌≤◌, ◌^◌, ◌++◌, ◌∷◌, [], List, ℤ, IfOk, IfSome, IsTrue, length, get_or, pos, ◌+ℤ◌, ◌*ℤ◌, unsigned_abs};
 ghost use Rattle.mpc_linear.specs.Elimination.{Table};
-ghost use Rattle.mpc_whole.specs.Whole.{turned};
+ghost use Rattle.mpc_runs.specs.WholeNumbers.{turned};
 ghost use Rattle.mpc_scaled.specs.Scaled.{IsSmall};
 ghost use Rattle.mpc_sweep.specs.Numbers.{IsSwept, IsTable, number, told_columns};
 ghost use Rattle.mpc_sweep.specs.Steps.{IsNumber, IsOwn, IsScaled, IsChanged, AreWritten, AreRows, AreSweptRows};
 
 use crate::Swept;
 use crate::divisor::shared_divisor;
-use crate::short::{SHORT, ShortDivisor, write_short_row};
+use crate::short::{SHORT, write_short_row};
 use mpc_frac::NoMemory;
+use mpc_quotients::{Divisor, changed, over_theorems, turned};
 use mpc_scaled::greatest;
-use mpc_whole::{Divisor, changed, over_theorems, turned};
 
 /// The greatest size of a number.
 const MOST: u64 = 1 << 62;
@@ -23,7 +23,6 @@ struct Step {
     p: usize,
     den: u64,
     by: Divisor,
-    short: ShortDivisor,
     most: u64,
 }
 
@@ -149,7 +148,6 @@ fn write_row(
     requires den_small { step.den ≤ step.most }
     requires by_some { 0 < step.by.den }
     requires by_small { step.by.den ≤ step.most }
-    requires same { step.short.den ≡ step.by.den }
     ensures { IsTrue result → AreWritten step.most first (length out.old) (IsNumber width step.den step.by.den table.now step.p i) out.old out.new }
 {
     let columns = out.len();
@@ -164,7 +162,7 @@ fn write_row(
         return write_scaled_row(out, row, size, step.by, step.most, first);
     }
     if step.most == SHORT {
-        return write_short_row(out, row, top, step.short, p, first);
+        return write_short_row(out, row, top, step.by, p, first);
     }
     write_changed_row(out, row, top, step.by, p, first)
 }
@@ -196,7 +194,6 @@ fn write_rows(
         p,
         den: from.den,
         by,
-        short: ShortDivisor::of(taken),
         most,
     };
     let table = from.numbers.as_slice();

@@ -1,13 +1,11 @@
-//! Tests of one sweep and of exact quotients, with numbers that were worked out by hand.
+//! Tests of one sweep, with numbers that were worked out by hand.
 
 ghost use Rattle.std.specs.Prelude.{IfOk, IfSome};
 ghost use Rattle.mpc_sweep.specs.Numbers.{IsTable};
 
 use crate::Swept;
-use crate::short::{ShortDivisor, short_changed};
 use mpc_frac::{Frac, NoMemory};
 use mpc_linear::Matrix;
-use mpc_whole::{Divisor, changed};
 use std::alloc::Global;
 use std::test::Fail;
 
@@ -100,29 +98,4 @@ fn keeps_a_row_without_the_pivot(rt: HostRuntime) -> Result<(), Fail> {
     assert!(rt; entry(&swept, 0, 2) == Some((3, 1)));
     assert!(rt; entry(&swept, 1, 2) == Some((7, 1)));
     Ok(())
-}
-
-#[test]
-fn divides_where_that_is_whole_and_small(rt: HostRuntime) {
-    let dozen = Divisor::of(12);
-    assert!(rt; changed(6, 8, 12, 6, dozen, 5) == Some(-5));
-    assert!(rt; changed(6, 8, 12, 6, dozen, 4) == None);
-    assert!(rt; changed(7, 0, 0, 1, dozen, 100) == None);
-    assert!(rt; changed(7, 5, 9, 1, Divisor::of(1), 100) == Some(-38));
-    let large = Divisor::of(3 << 40);
-    let most = 1 << 62;
-    assert!(rt; changed(1 << 62, 0, 0, 3 << 40, large, most) == Some(1 << 62));
-    assert!(rt; changed(-(1 << 61), 3 << 40, 1 << 61, 3 << 40, large, most) == Some(-(1 << 62)));
-}
-
-#[test]
-fn divides_short_numbers(rt: HostRuntime) {
-    let dozen = ShortDivisor::of(12);
-    assert!(rt; short_changed(6, 8, 12, 6, dozen) == Some(-5));
-    assert!(rt; short_changed(7, 0, 0, 1, dozen) == None);
-    assert!(rt; short_changed(7, 5, 9, 1, ShortDivisor::of(1)) == Some(-38));
-    let large = ShortDivisor::of(3 << 28);
-    let half = 1 << 29;
-    assert!(rt; short_changed(-half, half, 3 << 28, 3 << 28, large) == Some(-(1 << 30)));
-    assert!(rt; short_changed(-(1 << 30), 1 << 30, 3 << 28, 3 << 28, large) == None);
 }

@@ -3,7 +3,7 @@
 ghost use Rattle.mpc_sweep.specs.Theorems.{PartIsSolved, PartIsDependent, RowIsReduced, NextSweepFits};
 
 use mpc_linear::elimination_theorems;
-use mpc_whole::over_theorems;
+use mpc_quotients::over_theorems;
 
 /// A table that is swept at the rows of a part shows the solution of the part's system, or that its last
 /// column depends on those before it; and in the other rows what is left of them. The numbers

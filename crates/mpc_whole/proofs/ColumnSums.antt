@@ -15,7 +15,7 @@ use Rattle.mpc_scaled.specs.Scaled.{whole_cell, scale_at}
 use Rattle.mpc_whole.proofs.Nonbasic.{column_below}
 use Rattle.mpc_runs.proofs.Seats.{seat_cases, column_same}
 use Rattle.mpc_runs.proofs.Table.{total_more, first_terms, second_terms, value_first, value_second}
-use Rattle.mpc_whole.proofs.WholeSums.{frac_sum}
+use Rattle.mpc_runs.proofs.WholeSums.{frac_sum}
 use Rattle.mpc_whole.proofs.WholeChanges.{scale_cancels}
 
 times_zero : (x y : ℚ) → y ≡ int (pos 0) → x *ℚ y ≡ int (pos 0)

@@ -9,7 +9,8 @@ use Rattle.mpc_rows.specs.Run.{Position}
 use Rattle.mpc_runs.specs.declared.variables.Seat.{Seat}
 use Rattle.mpc_runs.specs.declared.variables.Seat.TheVariants.{Column}
 use Rattle.mpc_runs.specs.Table.{seat_at}
-use Rattle.mpc_whole.specs.Whole.{turned, IsRowOf, IsSideRow, IsChanged}
+use Rattle.mpc_runs.specs.WholeNumbers.{turned}
+use Rattle.mpc_whole.specs.Whole.{IsRowOf, IsSideRow, IsChanged}
 use Rattle.mpc_scaled.specs.Scaled.{whole_at, whole_cell, scale_at}
 use Rattle.mpc_whole.specs.Judged.{IsTimes, IsDividedRow, IsRowWithin, IsReducedPivot}
 

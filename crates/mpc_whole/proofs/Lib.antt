@@ -1,13 +1,10 @@
-pub mod WholeFits
-pub mod WholeSums
 pub mod WholeNorms
 pub mod WholeChanges
 pub mod WholeScales
 pub mod WholeForm
 pub mod StatedRows
 pub mod WholePivot
-pub mod WholeRooms
-pub mod WholeWraps
+pub mod ShortValues
 pub mod WholeSteps
 pub mod WholeTurns
 pub mod Nonbasic
@@ -24,5 +21,4 @@ pub mod JudgedRun
 pub mod Judges
 pub mod JudgedTurns
 pub mod WholeRows
-pub mod OverTheorems
 pub mod PositionTheorems

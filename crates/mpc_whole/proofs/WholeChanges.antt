@@ -9,9 +9,8 @@ use Rattle.mpc_exact.proofs.IntRing.{int_reads, by_ring_ℤ}
 use Rattle.mpc_exact.proofs.OrderTheorems.{inv-mul, inv_inv, inv_not_zero, product_not_zero}
 use Rattle.mpc_exact.proofs.School.{frac_inv, int_lt}
 use Rattle.mpc_exact.proofs.RationalOrder.{one_last, <ℚ_irrefl}
-use Rattle.mpc_whole.specs.Whole.{turned, whole_total}
-use Rattle.mpc_whole.proofs.WholeSums.{frac_sum, times_int}
-use Rattle.mpc_whole.proofs.WholeNorms.{ratio_is, abs_some}
+use Rattle.mpc_runs.specs.WholeNumbers.{turned, whole_total}
+use Rattle.mpc_runs.proofs.WholeSums.{frac_sum, times_int, ratio_is, abs_some}
 
 -- ---- scales
 pub times_scaled : (a f : ℤ) (k d : ℕ) → 0 < k → 0 < d → frac a k *ℚ frac f d ≡ frac (a *ℤ f) (d * k)

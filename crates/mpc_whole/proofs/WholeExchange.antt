@@ -2,9 +2,10 @@
 use Rattle.std.proofs.Common.{◌≡◌, ℕ, suc, ◌+◌, ◌*◌, ◌<◌, ◌≤◌, List, length, set, ℤ, pos, ◌+ℤ◌, ◌*ℤ◌, neg_ℤ, unsigned_abs, sym, ◌∙◌, ap, subst, arith, refl, [], ◌∷◌, ◌⊎◌, inl, inr, mul-le-mul_right}
 use Rattle.std.proofs.lemmas.Bool.{cases_eq}
 use Rattle.mpc_exact.proofs.IntRing.{int_mul_cancel, int_reads, by_ring_ℤ}
-use Rattle.mpc_whole.specs.Whole.{IsChanged, IsWholePivot, turned}
+use Rattle.mpc_whole.specs.Whole.{IsChanged, IsWholePivot}
+use Rattle.mpc_runs.specs.WholeNumbers.{turned}
 use Rattle.mpc_scaled.specs.Scaled.{whole_at, whole_cell}
-use Rattle.mpc_whole.proofs.WholeSteps.{set_same, set_other}
+use Rattle.mpc_runs.proofs.WholeLists.{set_same, set_other}
 
 -- one number of row j more
 module _ (width factor den : ℕ) (old now x : List ℤ) (j e c : ℕ) (z : ℤ) (b : j * width + c < length now) where

@@ -17,10 +17,12 @@ use Rattle.mpc_runs.specs.Table.{seat_at}
 use Rattle.mpc_whole.specs.Norms.{Over}
 use Rattle.mpc_whole.proofs.WholeChanges.{times_scaled, total_scaled}
 use Rattle.mpc_whole.proofs.DividedRows.{crossed, rest_some}
-use Rattle.mpc_whole.proofs.WholeNorms.{abs_some, over_not_zero, HasRowRoom, HasFittingRow, HasPivotRoom, judged_fit, norms_fit}
+use Rattle.mpc_runs.proofs.WholeSums.{abs_some, total_over, total_at_most, product_at_most}
+use Rattle.mpc_whole.proofs.WholeNorms.{over_not_zero, HasRowRoom, HasFittingRow, HasPivotRoom, judged_fit, norms_fit}
 use Rattle.mpc_whole.proofs.WholeScales.{Scaled, scaled_over, at_nought, at_side, at_minus_one, nought_over, nought_times, less_with_scale}
 use Rattle.mpc_whole.specs.Judged.{coefficient_of, HasRoomAt, IsJudged, IsNorm, IsDividedRow, IsLeavingRow}
-use Rattle.mpc_whole.specs.Whole.{whole_total, AreBounds, HasSideBound, IsNarrow, IsSideRow, IsForm, side_cell}
+use Rattle.mpc_runs.specs.WholeNumbers.{whole_total}
+use Rattle.mpc_whole.specs.Whole.{AreBounds, HasSideBound, IsNarrow, IsSideRow, IsForm, side_cell}
 use Rattle.mpc_scaled.specs.Scaled.{whole_at, whole_cell, scale_at, IsSmall, IsWholeSystem}
 use Rattle.mpc_runs.proofs.Turn.{Goes, turn-at}
 use Rattle.mpc_runs.proofs.TableauRows.{Meets, row_value, values_meet}
@@ -29,7 +31,6 @@ use Rattle.mpc_runs.proofs.Ends.{Reached, position-zero}
 use Rattle.mpc_runs.proofs.LeftSides.{side_value, bound-first, bound-second}
 use Rattle.mpc_runs.proofs.Seats.{column_seat}
 use Rattle.mpc_runs.proofs.Read.{rest_unknown, rest_bound}
-use Rattle.mpc_whole.proofs.WholeSums.{total_over, total_at_most, product_at_most}
 
 pub equal_share : (m : ℕ) → 0 < m → (2 ^ 125 / m) * m ≤ 2 ^ 125
 equal_share m h = omega arith

@@ -10,7 +10,8 @@ use Rattle.mpc_rows.specs.Run.{Position, count, bound, value, pivot}
 use Rattle.mpc_runs.specs.declared.variables.Seat.{Seat}
 use Rattle.mpc_runs.specs.declared.variables.Seat.TheVariants.{Row, Column}
 use Rattle.mpc_runs.specs.Table.{seat_at, IsSeated}
-use Rattle.mpc_whole.specs.Whole.{whole_total, IsForm, IsSideRow, IsWholePivot, AreValues, HasSideValues, turned}
+use Rattle.mpc_runs.specs.WholeNumbers.{whole_total, turned}
+use Rattle.mpc_whole.specs.Whole.{IsForm, IsSideRow, IsWholePivot, AreValues, HasSideValues}
 use Rattle.mpc_scaled.specs.Scaled.{whole_at, whole_cell, scale_at, IsWholeSystem}
 use Rattle.mpc_whole.specs.Moved.{excess, IsMoved, AreMoved}
 use Rattle.mpc_runs.proofs.Ends.{Reached}
@@ -20,7 +21,7 @@ use Rattle.mpc_runs.proofs.ValuesAfter.{first_after, second_after}
 use Rattle.mpc_whole.proofs.WholeChanges.{over_scale, scaled_changed_over}
 use Rattle.mpc_whole.proofs.WholeForm.{reached_tableau}
 use Rattle.mpc_whole.proofs.WholePivot.{entering_is, pivot_is, pivot_some, pivot_number_some, E_some, L_some, some_at, l_in}
-use Rattle.mpc_whole.proofs.WholeSums.{frac_sum}
+use Rattle.mpc_runs.proofs.WholeSums.{frac_sum}
 
 -- ---- a bound g / k against a value t / (d k)
 apart : (g t d : ℤ) → (g *ℤ d) +ℤ neg_ℤ t ≡ neg_ℤ (t +ℤ neg_ℤ (g *ℤ d))

@@ -1,5 +1,5 @@
 -- Where the numbers of each row of a position lie over one denominator of that row and are small enough, no operation at that position is wide.
-use Rattle.std.proofs.Common.{◌≡◌, ◌≢◌, ℕ, zero, suc, ◌+◌, ◌*◌, ◌^◌, ◌<◌, ◌≤◌, ◌⊎◌, inl, inr, true, false, ℤ, pos, negsuc, ◌+ℤ◌, ◌*ℤ◌, neg_ℤ, unsigned_abs, [], ◌∷◌, refl, sym, ◌∙◌, ap, subst, subst₂, arith, mul-pos, mul-le-mul_right, mul-le-mul_left, le_trans, zero-lt-suc}
+use Rattle.std.proofs.Common.{◌≡◌, ◌≢◌, ℕ, zero, suc, ◌+◌, ◌*◌, ◌^◌, ◌<◌, ◌≤◌, ◌⊎◌, inl, inr, true, false, ℤ, pos, negsuc, ◌+ℤ◌, ◌*ℤ◌, neg_ℤ, unsigned_abs, [], ◌∷◌, refl, sym, ◌∙◌, ap, subst, subst₂, arith, mul-pos, mul-le-mul_right, mul-le-mul_left, le_trans}
 use Rattle.std.proofs.lemmas.Bool.{both_ways}
 use Rattle.mpc_exact.specs.Rational.{ℚ, frac, int, ◌+ℚ◌, ◌*ℚ◌, neg_ℚ, inv_ℚ, upside_down}
 use Rattle.mpc_exact.proofs.Rational.{same_frac, frac-mul, frac-neg}
@@ -12,41 +12,11 @@ use Rattle.mpc_rows.specs.LinearSystem.{LinearSystem}
 use Rattle.mpc_rows.specs.Run.{Position, goes_on, count, rest, turn, entering_row}
 use Rattle.mpc_rows.specs.RunWidth.{ValuesFit, EnteringFits, EntryFits, RowFits, RowsFit, PositionFits}
 use Rattle.mpc_whole.specs.Norms.{Over}
-use Rattle.mpc_whole.specs.Whole.{turned}
+use Rattle.mpc_runs.specs.WholeNumbers.{turned}
 use Rattle.mpc_runs.proofs.Pivot.{entering-at_leaving, entering-other}
 use Rattle.mpc_runs.proofs.Turn.{Goes, turn-at}
-use Rattle.mpc_whole.proofs.WholeFits.{fits_over, fits_sum_over}
-use Rattle.mpc_whole.proofs.WholeSums.{product_at_most, abs-sum, frac_sum, zero_over}
-
-pub abs-negated : (a : ℤ) → unsigned_abs (neg_ℤ a) ≡ unsigned_abs a
-abs-negated (pos zero) = refl
-abs-negated (pos (suc n)) = refl
-abs-negated (negsuc n) = refl
-
-pub abs_turned : (q a : ℤ) → unsigned_abs (turned q a) ≡ unsigned_abs a
-abs_turned (pos n) a = refl
-abs_turned (negsuc n) a = abs-negated a
-
-pub abs_some : (q : ℤ) → q ≢ pos 0 → 0 < unsigned_abs q
-abs_some (pos zero) h = absurd (h refl)
-abs_some (pos (suc n)) h = omega arith
-abs_some (negsuc n) h = omega arith
-
-moved_across : (a d q : ℤ) → (a *ℤ d) *ℤ q ≡ a *ℤ (d *ℤ q)
-moved_across a d q = by_ring_ℤ (a ∷ d ∷ q ∷ []) (search int_reads depth 30) (search int_reads depth 30) tt
-
-moved_across_negative : (a d q : ℤ) → (a *ℤ neg_ℤ d) *ℤ q ≡ neg_ℤ a *ℤ (d *ℤ q)
-moved_across_negative a d q = by_ring_ℤ (a ∷ d ∷ q ∷ []) (search int_reads depth 30) (search int_reads depth 30) tt
-
--- a quotient of two over the same denominator
-pub ratio_is : (a q : ℤ) (d : ℕ) → 0 < d → q ≢ pos 0 → frac a d *ℚ inv_ℚ (frac q d) ≡ frac (turned q a) (unsigned_abs q)
-ratio_is a (pos zero) d h some = absurd (some refl)
-ratio_is a (pos (suc c)) d h some =
-    ap (λ u. frac a d *ℚ u) (frac_inv (pos (suc c)) d some h) ∙ frac-mul a d (pos d) (suc c) h (zero-lt-suc c)
-    ∙ same_frac (a *ℤ pos d) (d * suc c) a (suc c) (mul-pos h (zero-lt-suc c)) (zero-lt-suc c) (moved_across a (pos d) (pos (suc c)))
-ratio_is a (negsuc c) d h some =
-    ap (λ u. frac a d *ℚ u) (frac_inv (negsuc c) d some h) ∙ frac-mul a d (neg_ℤ (pos d)) (suc c) h (zero-lt-suc c)
-    ∙ same_frac (a *ℤ neg_ℤ (pos d)) (d * suc c) (neg_ℤ a) (suc c) (mul-pos h (zero-lt-suc c)) (zero-lt-suc c) (moved_across_negative a (pos d) (pos (suc c)))
+use Rattle.mpc_runs.proofs.WholeFits.{fits_over, fits_sum_over}
+use Rattle.mpc_runs.proofs.WholeSums.{abs-negated, abs_turned, abs_some, ratio_is, product_at_most, abs-sum, frac_sum, zero_over}
 
 inverse_of : (q : ℤ) (d : ℕ) → upside_down q d ≡ frac (turned q (pos d)) (unsigned_abs q)
 inverse_of (pos n) d = refl

@@ -18,8 +18,7 @@ use Rattle.mpc_runs.proofs.Seats.{seats_apart, column_same}
 use Rattle.mpc_runs.proofs.Exchanged.{at_e, at_l, at_other, other_column_of}
 use Rattle.mpc_runs.proofs.Pivot.{update, basic-at_leaving, basic-at_entering, basic-other}
 use Rattle.mpc_runs.proofs.Turn.{Goes}
-use Rattle.mpc_whole.proofs.WholeSums.{times_int, zero_over}
-use Rattle.mpc_whole.proofs.WholeNorms.{ratio_is}
+use Rattle.mpc_runs.proofs.WholeSums.{times_int, zero_over, ratio_is}
 use Rattle.mpc_whole.proofs.WholeChanges.{at_leaving, at_another, over_scale, scale_not_zero, scaled_leave, turned_over, scaled_changed_over, size_some as some_over}
 use Rattle.mpc_whole.proofs.WholeForm.{reached_tableau, side_entry}
 

@@ -10,11 +10,12 @@ use Rattle.mpc_rows.specs.Run.{is_unknown, opening}
 use Rattle.mpc_runs.specs.declared.variables.Seat.{Seat}
 use Rattle.mpc_runs.specs.declared.variables.Seat.TheVariants.{Row, Column}
 use Rattle.mpc_runs.specs.Table.{seat_at, in_row, IsOpeningSeats}
-use Rattle.mpc_whole.specs.Whole.{IsForm, IsUnit, HasRoom, HasBounds}
+use Rattle.mpc_whole.specs.Whole.{IsForm, IsUnit, HasBounds}
+use Rattle.mpc_runs.specs.WholeNumbers.{HasRoom}
 use Rattle.mpc_scaled.specs.Scaled.{whole_at, whole_cell, scale_at, AreScales, IsSmall}
 use Rattle.mpc_runs.proofs.Seats.{column_same, seats_apart}
 use Rattle.mpc_runs.proofs.Read.{opening_unknown, unknown_below}
-use Rattle.mpc_whole.proofs.WholeSteps.{set_same, set_other}
+use Rattle.mpc_runs.proofs.WholeLists.{set_same, set_other}
 use Rattle.mpc_whole.proofs.WholeExchange.{row_below}
 
 module _ (w scale : ℕ) (old now : List ℤ) (f : ℕ → ℚ) (i j at : ℕ) (z : ℤ) (q : at ≡ i * w + j) (b : at < length now) where

@@ -4,7 +4,7 @@ use Rattle.std.proofs.lemmas.Int.{unsigned_abs-mul}
 use Rattle.mpc_exact.specs.Rational.{ℚ, frac, int, ◌*ℚ◌}
 use Rattle.mpc_exact.proofs.RationalRing.{reads, by_ring}
 use Rattle.mpc_whole.specs.Norms.{Over}
-use Rattle.mpc_whole.proofs.WholeSums.{times_int, zero_over}
+use Rattle.mpc_runs.proofs.WholeSums.{times_int, zero_over}
 use Rattle.mpc_whole.proofs.WholeChanges.{scale_cancels}
 
 -- a number of which so much holds, times the scale, over the denominator

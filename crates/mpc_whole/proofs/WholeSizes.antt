@@ -13,7 +13,7 @@ use Rattle.mpc_whole.specs.Underway.{IsUnderway}
 use Rattle.mpc_runs.proofs.Ends.{run_ends, position-zero}
 use Rattle.mpc_runs.proofs.Positions.{value_rest}
 use Rattle.mpc_runs.proofs.Read.{rest_unknown}
-use Rattle.mpc_whole.proofs.WholeSums.{zero_over}
+use Rattle.mpc_runs.proofs.WholeSums.{zero_over}
 use Rattle.mpc_runs.proofs.Stays.{unknowns_stay}
 
 -- a position of the run where it stops is the last one

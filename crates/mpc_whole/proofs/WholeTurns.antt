@@ -25,7 +25,7 @@ use Rattle.mpc_runs.proofs.Flags.{test_true, true_test}
 use Rattle.mpc_runs.proofs.Turn.{is_zero-true, zero-is_zero, turn-at}
 use Rattle.mpc_runs.proofs.Table.{leave_unknown, leave_free, leave_test, enter_basic, enter_unknown, enter_side}
 use Rattle.mpc_runs.proofs.Stays.{not_below_so}
-use Rattle.mpc_whole.proofs.WholeSums.{zero_over}
+use Rattle.mpc_runs.proofs.WholeSums.{zero_over}
 
 -- ---- the code's tests
 pub lt_so : (a b : ℤ) → lt_z a b ≡ true → a <ℤ b

@@ -9,7 +9,8 @@ use Rattle.mpc_runs.specs.declared.variables.Seat.{Seat}
 use Rattle.mpc_runs.specs.declared.variables.Seat.TheVariants.{Column}
 use Rattle.mpc_runs.specs.Table.{seat_at, in_row, IsSeated}
 use Rattle.mpc_whole.specs.Norms.{Over}
-use Rattle.mpc_whole.specs.Whole.{side_cell, turned}
+use Rattle.mpc_whole.specs.Whole.{side_cell}
+use Rattle.mpc_runs.specs.WholeNumbers.{turned}
 use Rattle.mpc_scaled.specs.Scaled.{whole_at, whole_cell, scale_at, IsSmall}
 use Rattle.mpc_whole.specs.Underway.{IsUnderway}
 use Rattle.mpc_whole.specs.SharedSizes.{IsSmallForm}

@@ -1,12 +1,10 @@
 pub mod Whole
 pub mod Moved
-pub mod Sums
 pub mod SharedSizes
 pub mod Underway
 pub mod Norms
 pub mod Running
 pub mod Found
-pub mod OverTheorems
 pub mod Judged
 pub mod Lists
 pub mod Held

@@ -5,7 +5,8 @@ use Rattle.mpc_rows.specs.LinearSystem.{LinearSystem, height}
 use Rattle.mpc_rows.specs.Run.{Position, IsTableau, bound, value}
 use Rattle.mpc_runs.specs.declared.variables.Seat.{Seat}
 use Rattle.mpc_runs.specs.Table.{IsSeated, AreNonbasic}
-use Rattle.mpc_whole.specs.Whole.{whole_total, IsForm, AreValues}
+use Rattle.mpc_runs.specs.WholeNumbers.{whole_total}
+use Rattle.mpc_whole.specs.Whole.{IsForm, AreValues}
 use Rattle.mpc_scaled.specs.Scaled.{whole_at, whole_cell, scale_at, HasSides}
 
 -- by how much the value of side i, from the numbers c of the unknowns, is above its bound g

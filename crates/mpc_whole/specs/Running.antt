@@ -3,7 +3,8 @@ use Rattle.std.specs.Prelude.{◌≡◌, ℕ, ◌+◌, ◌*◌, ◌<◌, ◌≤�
 use Rattle.mpc_rows.specs.LinearSystem.{LinearSystem, height}
 use Rattle.mpc_runs.specs.declared.variables.Seat.{Seat}
 use Rattle.mpc_runs.specs.Table.{IsSeated}
-use Rattle.mpc_whole.specs.Whole.{whole_total, HasRoom, HasBounds}
+use Rattle.mpc_runs.specs.WholeNumbers.{whole_total, HasRoom}
+use Rattle.mpc_whole.specs.Whole.{HasBounds}
 use Rattle.mpc_scaled.specs.Scaled.{whole_at, whole_cell, AreScales, IsSmall, IsWholeSystem}
 
 -- the numbers of a system of so many variables, with room for sums of their products

@@ -1,19 +1,15 @@
 -- A position of the run in whole numbers: the coefficients of the unknowns over one denominator, row by row, where a nonbasic variable has
 -- the column of its seat. Each row of the system is whole once it is multiplied by its scale.
-use Rattle.std.specs.Prelude.{◌≡◌, ℕ, zero, suc, ◌+◌, ◌*◌, ◌<◌, ◌≤◌, ◌^◌, List, length, ℤ, pos, ◌+ℤ◌, ◌*ℤ◌, neg_ℤ, negsuc, unsigned_abs, slice_get, Some, set}
+use Rattle.std.specs.Prelude.{◌≡◌, ℕ, ◌+◌, ◌*◌, ◌<◌, ◌≤◌, ◌^◌, List, length, ℤ, pos, ◌+ℤ◌, ◌*ℤ◌, neg_ℤ, unsigned_abs, slice_get, Some, set}
 use Rattle.mpc_exact.specs.Rational.{ℚ, frac}
 use Rattle.mpc_rows.specs.LinearSystem.{LinearSystem, height}
 use Rattle.mpc_rows.specs.Run.{Position, count, value, position, steps}
 use Rattle.mpc_rows.specs.RunWidth.{PositionFits}
+use Rattle.mpc_runs.specs.WholeNumbers.{whole_total, turned}
 use Rattle.mpc_scaled.specs.Scaled.{whole_at, whole_cell, IsSmall, scale_at}
 use Rattle.mpc_runs.specs.declared.variables.Seat.{Seat}
 use Rattle.mpc_runs.specs.declared.variables.Seat.TheVariants.{Row, Column}
 use Rattle.mpc_runs.specs.Table.{seat_at, in_row}
-
--- f 0 + f 1 + .. + f (n - 1)
-unfoldable pub whole_total : ℕ → (ℕ → ℤ) → ℤ
-whole_total zero f = pos 0
-whole_total (suc n) f = whole_total n f +ℤ f n
 
 -- a bound of the right sides, with room for a sum of so many
 pub record HasSideBound (s : LinearSystem) (b : List ℤ) (most : ℕ) : Type 0 where
@@ -45,11 +41,6 @@ pub record IsNarrow (s : LinearSystem) (n : ℕ) (seats : List Seat) (k : List �
   pub numbers : (j y c : ℕ) → j < s.width → y < n → seat_at seats y ≡ Column c → unsigned_abs (whole_cell s.width v j c) * scale_at k y ≤ 2 ^ 62
   pub rows : (i y c : ℕ) → i < height s → y < n → seat_at seats y ≡ Column c → unsigned_abs (side_cell s a v i c) * scale_at k y ≤ 2 ^ 62
 
--- z with the sign of q z
-abbrev pub turned : ℤ → ℤ → ℤ
-turned (pos n) z = z
-turned (negsuc n) z = neg_ℤ z
-
 -- the row of side i
 pub record IsSideRow (s : LinearSystem) (a v : List ℤ) (i : ℕ) (x : List ℤ) : Type 0 where
   pub size : length x ≡ s.width
@@ -60,12 +51,6 @@ pub record IsWholePivot (width den : ℕ) (old new x : List ℤ) (e : ℕ) : Typ
   pub column : (j : ℕ) → j < width → whole_cell width new j e ≡ turned (whole_at x e) (whole_cell width old j e)
   pub others : (j c : ℕ) → j < width → c < width → (c ≡ e → ⊥)
       → whole_cell width new j c *ℤ pos den ≡ (whole_cell width old j c *ℤ pos (unsigned_abs (whole_at x e))) +ℤ neg_ℤ (turned (whole_at x e) (whole_cell width old j e) *ℤ whole_at x c)
-
--- so many products of these numbers with numbers of at most such a size have a sum of at most 2^124
-pub record HasRoom (width top : ℕ) (a : List ℤ) : Type 0 where
-  pub most : ℕ
-  pub each : IsSmall most a
-  pub room : width * (most * top) ≤ 2 ^ 124
 
 -- the values of the unknowns at a position are these numbers over the denominator
 pub record AreValues (s : LinearSystem) (p : Position) (den : ℕ) (c_1 c_2 : List ℤ) : Type 0 where

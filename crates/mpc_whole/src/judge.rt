@@ -5,13 +5,14 @@ ghost use Rattle.mpc_rows.specs.LinearSystem.{height};
 ghost use Rattle.mpc_runs.specs.declared.variables.Seat.{Seat};
 ghost use Rattle.mpc_runs.specs.declared.variables.Seat.TheVariants.{Column};
 ghost use Rattle.mpc_runs.specs.Table.{seat_at, variable_at, IsSeated, AreNonbasic};
-ghost use Rattle.mpc_whole.specs.Whole.{side_cell, HasRoom};
+ghost use Rattle.mpc_runs.specs.WholeNumbers.{HasRoom};
+ghost use Rattle.mpc_whole.specs.Whole.{side_cell};
 ghost use Rattle.mpc_scaled.specs.Scaled.{whole_at, whole_cell, scale_at, IsSmall};
 ghost use Rattle.mpc_whole.specs.Running.{HasNumbers};
 ghost use Rattle.mpc_whole.specs.Judged.{HasRoomAt, HasSizes, IsJudged, IsNorm, IsRowWithin};
 
 use crate::frames::JudgedFrame;
-use crate::wide_numbers::column_value;
+use mpc_quotients::column_value;
 use mpc_runs::{Seat, column_of, is_basic};
 use mpc_scaled::{WholeSystem, greatest};
 

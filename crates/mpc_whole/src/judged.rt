@@ -7,7 +7,7 @@ ghost use Rattle.mpc_whole.specs.Underway.{HasEnded};
 ghost use Rattle.mpc_whole.specs.Judged.{IsDividedRow, AreMildBefore, IsMildlyUnderway, IsGoingOn, HasSizes, IsProductOf};
 ghost use Rattle.mpc_whole.specs.Found.{IfJudgedEnd, IfJudgedNext};
 ghost use Rattle.mpc_whole.specs.Running.{HasNumbers};
-ghost use Rattle.mpc_whole.specs.Whole.{HasRoom};
+ghost use Rattle.mpc_runs.specs.WholeNumbers.{HasRoom};
 ghost use Rattle.mpc_scaled.specs.Scaled.{IsWholeSystem};
 
 use crate::frames::JudgedFrame;

@@ -1,7 +1,6 @@
 //! The simplex run by least numbers in whole numbers over one denominator, as far as they stay small.
 #![tactic(auto)]
 
-mod divisors;
 mod frames;
 mod judge;
 mod judged;
@@ -11,21 +10,17 @@ mod stated;
 mod theorems;
 mod whole;
 mod whole_ends;
-mod whole_numbers;
 mod whole_pivot;
 mod whole_rows;
 mod whole_turn;
 mod whole_values;
-mod wide_numbers;
 mod wide_turn;
 mod wide_values;
 
-pub use divisors::Divisor;
 pub use judged::{WidePlace, judged_run};
 pub use lists::{RunLists, WideLists};
-pub use theorems::{over_theorems, position_theorems};
+pub use theorems::position_theorems;
 pub use whole::{Ending, Place, whole_run};
 pub use whole_ends::{last_multipliers, last_values, wide_last_multipliers, wide_last_values};
-pub use whole_numbers::{changed, turned};
 pub use whole_rows::{limit, put_units};
 pub use whole_values::clear;

@@ -11,8 +11,8 @@ ghost use Rattle.mpc_whole.specs.Judged.{HasSizes, row_cell, coefficient_of, IsP
 
 use crate::frames::JudgedFrame;
 use crate::judge::{Factors, ROOM, factor_at, judge, judge_end};
-use crate::wide_numbers::{positive, wide_product, wide_side_cell};
 use mpc_frac::Frac;
+use mpc_quotients::{positive, wide_product, wide_side_cell};
 use mpc_runs::{Seat, column_of, is_basic};
 use mpc_scaled::WholeSystem;
 

@@ -14,12 +14,12 @@ ghost use Rattle.mpc_whole.specs.Running.{HasNumbers, IsFrame};
 ghost use Rattle.mpc_whole.specs.Whole.{HasBasis, IsRowOf, side_cell, IsSideRow, IsSwapped};
 ghost use Rattle.mpc_scaled.specs.Scaled.{IsSmall};
 
-use crate::divisors::Divisor;
 use crate::frames::Frame;
 use crate::lists::RunLists;
 use crate::whole_pivot::exchange;
 use crate::whole_turn::{entering, leaving, leaving_row};
 use crate::whole_values::{Pivot, follow};
+use mpc_quotients::Divisor;
 use mpc_runs::{Seat, column_of, row_of};
 use mpc_scaled::{WholeNumbers, WholeSystem};
 

@@ -7,14 +7,14 @@ ghost use Rattle.mpc_rows.specs.Run.{Position, count, multiplier, turn, is_refut
 ghost use Rattle.mpc_runs.specs.Table.{IsSeated};
 ghost use Rattle.mpc_runs.specs.RunEnd.{IsValues, IsMultipliers};
 ghost use Rattle.mpc_whole.specs.Running.{IsRefuting};
-ghost use Rattle.mpc_whole.specs.Whole.{whole_total, IsForm, HasBasis, IsRowOf, IsSideRow, AreValues, ArePairs};
+ghost use Rattle.mpc_runs.specs.WholeNumbers.{whole_total};
+ghost use Rattle.mpc_whole.specs.Whole.{IsForm, HasBasis, IsRowOf, IsSideRow, AreValues, ArePairs};
 ghost use Rattle.mpc_scaled.specs.Scaled.{whole_cell, IsWholeSystem};
 
 use crate::lists::{RunLists, WideLists};
-use crate::whole_numbers::widened;
-use crate::wide_numbers::{positive, wide_product};
 use crate::wide_turn::divided_side_row;
 use mpc_frac::Frac;
+use mpc_quotients::{positive, wide_product, widened};
 use mpc_runs::{Seat, Standing, column_of, is_basic, zero};
 use mpc_scaled::{WholeNumbers, WholeSystem, product};
 

@@ -1,11 +1,11 @@
 //! A pivot in whole numbers.
 
 ghost use Rattle.std.specs.Prelude.{◌≡◌, ℕ, ℤ, pos, ◌+◌, ◌*◌, ◌<◌, ◌≤◌, ◌^◌, ◌⊎◌, ◌+ℤ◌, ◌*ℤ◌, neg_ℤ, unsigned_abs, IsTrue, IfSome, false, length};
-ghost use Rattle.mpc_whole.specs.Whole.{IsChanged, IsWholePivot, turned};
+ghost use Rattle.mpc_whole.specs.Whole.{IsChanged, IsWholePivot};
+ghost use Rattle.mpc_runs.specs.WholeNumbers.{turned};
 ghost use Rattle.mpc_scaled.specs.Scaled.{whole_at, whole_cell, IsSmall};
 
-use crate::divisors::Divisor;
-use crate::whole_numbers::{changed, turned};
+use mpc_quotients::{Divisor, changed, turned};
 
 /// The new number of a column in a row, where factor is the one of the column that enters, as this one may.
 #[inline]

@@ -8,16 +8,17 @@ ghost use Rattle.mpc_exact.specs.Pair.{is_below};
 ghost use Rattle.mpc_runs.specs.declared.variables.Seat.{Seat};
 ghost use Rattle.mpc_runs.specs.declared.variables.Seat.TheVariants.{Column};
 ghost use Rattle.mpc_runs.specs.Table.{seat_at, IsSeated, AreNonbasic};
-ghost use Rattle.mpc_whole.specs.Sums.{are_short, are_of_four};
+ghost use Rattle.mpc_quotients.specs.Sums.{are_short, are_of_four};
 ghost use Rattle.mpc_runs.specs.Leaving.{StayBefore};
-ghost use Rattle.mpc_whole.specs.Whole.{whole_total, HasSideValues, HasBasis, IsRowOf, IsSideRow, side_cell};
+ghost use Rattle.mpc_runs.specs.WholeNumbers.{whole_total};
+ghost use Rattle.mpc_whole.specs.Whole.{HasSideValues, HasBasis, IsRowOf, IsSideRow, side_cell};
 ghost use Rattle.mpc_scaled.specs.Scaled.{whole_at, whole_cell, IsSmall, HasSides};
 ghost use Rattle.mpc_whole.specs.Running.{HasNumbers, IsFrame, AreParts, AreShort};
 
 use crate::frames::Frame;
 use crate::whole::Place;
-use crate::whole_numbers::{Sums, row_times, row_times_column};
 use crate::whole_values::step_of;
+use mpc_quotients::{Sums, row_times, row_times_column};
 use mpc_runs::{Seat, is_basic};
 use mpc_scaled::{WholeSystem, product, signed};
 

@@ -6,14 +6,13 @@ ghost use Rattle.mpc_rows.specs.LinearSystem.{height};
 ghost use Rattle.mpc_rows.specs.Run.{bound};
 ghost use Rattle.mpc_runs.specs.declared.variables.Seat.{Seat};
 ghost use Rattle.mpc_runs.specs.Table.{variable_at, IsSeated, AreNonbasic};
-ghost use Rattle.mpc_whole.specs.Whole.{HasRoom};
+ghost use Rattle.mpc_runs.specs.WholeNumbers.{HasRoom};
 ghost use Rattle.mpc_scaled.specs.Scaled.{whole_at, scale_at, AreScales, IsSmall};
 ghost use Rattle.mpc_whole.specs.Moved.{excess, IsMoved, AreMoved, IsValueAt, AreFormed, AreFollowed};
 ghost use Rattle.mpc_whole.specs.Running.{HasNumbers, AreParts, IsPivot};
 
-use crate::divisors::Divisor;
 use crate::frames::Frame;
-use crate::whole_numbers::{changed, minus, small, sum, wide_row_times};
+use mpc_quotients::{Divisor, changed, minus, small, sum, wide_row_times};
 use mpc_scaled::{WholeSystem, negative, product, signed};
 
 /// Writes 0 into each number.

@@ -10,7 +10,8 @@ ghost use Rattle.mpc_runs.specs.declared.variables.Seat.TheVariants.{Column};
 ghost use Rattle.mpc_runs.specs.Table.{seat_at, IsSeated, AreNonbasic};
 ghost use Rattle.mpc_whole.specs.Judged.{IsDividedRow};
 ghost use Rattle.mpc_runs.specs.Leaving.{StayBefore};
-ghost use Rattle.mpc_whole.specs.Whole.{HasSideValues, HasBasis, HasRoom, IsRowOf, IsSideRow};
+ghost use Rattle.mpc_whole.specs.Whole.{HasSideValues, HasBasis, IsRowOf, IsSideRow};
+ghost use Rattle.mpc_runs.specs.WholeNumbers.{HasRoom};
 ghost use Rattle.mpc_scaled.specs.Scaled.{whole_at, IsSmall, HasSides};
 ghost use Rattle.mpc_whole.specs.Running.{HasNumbers};
 
@@ -18,7 +19,7 @@ use crate::frames::JudgedFrame;
 use crate::judged::WidePlace;
 use crate::reduced::{divide_numbers, shared_with_all, whole_share};
 use crate::whole_values::step_of;
-use crate::wide_numbers::{are_short, column_value, positive, product_with, wide_row_value};
+use mpc_quotients::{are_short, column_value, positive, product_with, wide_row_value};
 use mpc_runs::{Seat, is_basic};
 use mpc_scaled::WholeSystem;
 

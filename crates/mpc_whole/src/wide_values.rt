@@ -10,7 +10,7 @@ ghost use Rattle.mpc_scaled.specs.Scaled.{whole_at, whole_cell, IsSmall};
 
 use crate::frames::JudgedFrame;
 use crate::whole_values::step_of;
-use crate::wide_numbers::product_with;
+use mpc_quotients::product_with;
 use mpc_scaled::WholeSystem;
 
 /// Writes 0 into each number.

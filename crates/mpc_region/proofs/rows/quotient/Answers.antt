@@ -2,7 +2,7 @@ use Rattle.std.proofs.Common.{◌≡◌, ◌≤◌, ◌/◌, ◌^◌, ◌∙◌,
 use Rattle.std.proofs.Math.Nat.{div-le_self}
 use Rattle.std.specs.Int.{w64}
 use Rattle.mpc_exact.proofs.Rational.{int_div_exact}
-use Rattle.mpc_whole.specs.Whole.{turned}
+use Rattle.mpc_runs.specs.WholeNumbers.{turned}
 use Rattle.mpc_region.proofs.SweptDivisors.{read_short, turned_quotient}
 use Rattle.mpc_region.proofs.rows.quotient.Goals as goal
 

@@ -4,7 +4,7 @@ use Rattle.std.proofs.lemmas.List.{get_or_read}
 use Rattle.mpc_exact.specs.Rational.{int, frac}
 use Rattle.mpc_space.specs.Vector.{coordinate}
 use Rattle.mpc_sweep.specs.Reading.{AreBehind}
-use Rattle.mpc_sweep.proofs.OneNumber.{read_small}
+use Rattle.mpc_runs.proofs.WholeWidths.{read_small}
 use Rattle.mpc_sweep.proofs.FirstTable.{one_behind}
 use Rattle.mpc_sweep.proofs.reading.put_row.Goals as goal
 

@@ -1,9 +1,10 @@
 use Rattle.std.proofs.Common.{◌≡◌, ◌≤◌, ◌^◌, ◌*ℤ◌, pos, get_or, unsigned_abs, subst, sym, arith, ap, to_z, of_z, ◌∙◌, le_trans}
 use Rattle.std.specs.Int.{w64}
-use Rattle.mpc_whole.specs.Whole.{turned}
+use Rattle.mpc_runs.specs.WholeNumbers.{turned}
 use Rattle.mpc_scaled.specs.Scaled.{whole_at}
 use Rattle.mpc_sweep.specs.Steps.{IsOwn}
-use Rattle.mpc_sweep.proofs.OneNumber.{one_written, read_at, read_small, small_within}
+use Rattle.mpc_sweep.proofs.OneNumber.{one_written, read_at, small_within}
+use Rattle.mpc_runs.proofs.WholeWidths.{read_small}
 use Rattle.mpc_sweep.proofs.rows.write_pivot_row.Goals as goal
 
 pub loop-j-preserved : goal.loop-j-preserved

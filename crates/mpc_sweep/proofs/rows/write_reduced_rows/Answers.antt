@@ -1,7 +1,7 @@
 use Rattle.std.proofs.Common.{◌≡◌, ◌≤◌, ◌<◌, ◌*◌, ◌^◌, ◌+◌, ◌-◌, unsigned_abs, sym, ◌∙◌, ap, subst}
 use Rattle.mpc_sweep.specs.Numbers.{number, told_columns}
-use Rattle.mpc_sweep.proofs.OneNumber.{read_small}
-use Rattle.mpc_sweep.proofs.SweptEntry.{abs_some}
+use Rattle.mpc_runs.proofs.WholeWidths.{read_small}
+use Rattle.mpc_runs.proofs.WholeSums.{abs_some}
 use Rattle.mpc_sweep.proofs.AllRows.{rows_small, rows_within}
 use Rattle.mpc_sweep.proofs.Denominators.{rows_over_less}
 use Rattle.mpc_sweep.proofs.rows.write_reduced_rows.Goals as goal

@@ -71,10 +71,9 @@ returns-then-step-eq-SHORT c = λ t.
     let row = between (i * w) (i * w + n) v in
     let top = between (p * w) (p * w + n) v in
     subst (λ m. AreWritten m c.args.first n (IsNumber w c.args.step.den c.args.step.by.den v p i) c.args.out.now c.write_short_row.new.out) (sym c.if-step-eq-SHORT.true)
-    (written_as (2 ^ 30) c.args.first n (length row) (IsChanged c.args.step.short.den row top p) (IsNumber w c.args.step.den c.args.step.by.den v p i)
+    (written_as (2 ^ 30) c.args.first n (length row) (IsChanged c.args.step.by.den row top p) (IsNumber w c.args.step.den c.args.step.by.den v p i)
     c.args.out.now c.write_short_row.new.out (long v (i * w) n c.requires.inside)
-    (λ j z m e. other_number w c.args.step.den c.args.step.by.den v p n c.requires.column i c.if-i-p.false j z m
-    (ap (λ d. z *ℤ pos d) (sym c.requires.same) ∙ e))
+    (λ j z m e. other_number w c.args.step.den c.args.step.by.den v p n c.requires.column i c.if-i-p.false j z m e)
     (c.write_short_row.ensures t))
 
 pub returns : goal.returns

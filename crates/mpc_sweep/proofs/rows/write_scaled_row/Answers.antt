@@ -2,7 +2,8 @@ use Rattle.std.proofs.Common.{◌≡◌, ◌≤◌, ◌^◌, ◌*ℤ◌, pos, ge
 use Rattle.std.specs.Int.{w64}
 use Rattle.mpc_scaled.specs.Scaled.{whole_at}
 use Rattle.mpc_sweep.specs.Steps.{IsScaled}
-use Rattle.mpc_sweep.proofs.OneNumber.{one_written, read_at, read_small, small_within}
+use Rattle.mpc_sweep.proofs.OneNumber.{one_written, read_at, small_within}
+use Rattle.mpc_runs.proofs.WholeWidths.{read_small}
 use Rattle.mpc_sweep.proofs.rows.write_scaled_row.Goals as goal
 
 pub loop-j-preserved : goal.loop-j-preserved

@@ -1,7 +1,8 @@
 use Rattle.std.proofs.Common.{sym, ◌∙◌, ap, ◌≡◌, ◌≤◌, ◌<◌, ◌+◌, ◌*◌, pos, get_or, length, arith, to_z, of_z, subst, unsigned_abs, ◌⊎◌, inr, le_refl, rules, FitsSigned}
 use Rattle.std.specs.Int.{w128}
 use Rattle.std.proofs.lemmas.Int.{to_z-of_z}
-use Rattle.mpc_whole.specs.Whole.{IsChanged, turned}
+use Rattle.mpc_whole.specs.Whole.{IsChanged}
+use Rattle.mpc_runs.specs.WholeNumbers.{turned}
 use Rattle.mpc_scaled.specs.Scaled.{whole_at, whole_cell}
 use Rattle.mpc_whole.proofs.WholeExchange.{row_done, row_kept, number_raised, row_below}
 use Rattle.mpc_whole.proofs.reduced.raise_row.Goals as goal

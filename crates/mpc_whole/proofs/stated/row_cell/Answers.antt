@@ -1,6 +1,6 @@
 use Rattle.std.proofs.Common.{◌∙◌, ◌-◌, ◌*ℤ◌, sym, ap, arith}
 use Rattle.std.proofs.lemmas.Option.{IfSome_then}
-use Rattle.mpc_whole.specs.Whole.{whole_total}
+use Rattle.mpc_runs.specs.WholeNumbers.{whole_total}
 use Rattle.mpc_scaled.specs.Scaled.{whole_cell}
 use Rattle.mpc_whole.proofs.StatedRows.{row_cell-side}
 use Rattle.mpc_whole.proofs.stated.row_cell.Goals as goal

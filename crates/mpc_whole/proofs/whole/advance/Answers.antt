@@ -18,7 +18,7 @@ use Rattle.mpc_whole.proofs.WholeExchange.{rows_in}
 use Rattle.mpc_whole.proofs.WholeForm.{narrow_by_norms, pivot_narrow}
 use Rattle.mpc_whole.proofs.WholeRows.{weaker}
 use Rattle.mpc_whole.proofs.WholeRun.{next_underway}
-use Rattle.mpc_whole.proofs.WholeSteps.{read_small}
+use Rattle.mpc_runs.proofs.WholeWidths.{read_small}
 use Rattle.mpc_whole.proofs.whole.advance.Goals as goal
 use Rattle.mpc_whole.proofs.whole.advance.Goals.{After-column_of-c, After-swap, After-unsigned_abs-size, After-follow}
 

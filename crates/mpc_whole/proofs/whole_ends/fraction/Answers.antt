@@ -4,7 +4,7 @@ use Rattle.std.proofs.lemmas.Int.{to_z-of_z}
 use Rattle.std.proofs.lemmas.Option.{IfSome_then}
 use Rattle.mpc_exact.specs.Rational.{frac, quotient}
 use Rattle.mpc_whole.proofs.WholeEnds.{quotient_over}
-use Rattle.mpc_whole.proofs.WholeSums.{zero_over}
+use Rattle.mpc_runs.proofs.WholeSums.{zero_over}
 use Rattle.mpc_whole.proofs.whole_ends.fraction.Goals as goal
 
 pub returns : goal.returns

@@ -2,8 +2,8 @@ use Rattle.std.proofs.Common.{rules, sym, subst, ◌∙◌, ◌+◌, ◌*◌, �
 use Rattle.std.specs.Int.{w64, w128}
 use Rattle.std.proofs.lemmas.Int.{to_z-of_z}
 use Rattle.mpc_scaled.specs.Scaled.{whole_cell}
-use Rattle.mpc_whole.proofs.WholeRooms.{back128, both_back}
-use Rattle.mpc_whole.proofs.WholeSums.{whole_total-zero, whole_total-next}
+use Rattle.mpc_runs.proofs.WholeWidths.{back128, both_back}
+use Rattle.mpc_runs.proofs.WholeSums.{whole_total-zero, whole_total-next}
 use Rattle.mpc_whole.proofs.whole_ends.side_cell.Goals as goal
 
 pub loop-j-init : goal.loop-j-init

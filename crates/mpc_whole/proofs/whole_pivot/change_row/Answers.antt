@@ -1,9 +1,11 @@
 use Rattle.std.proofs.Common.{sym, ◌∙◌, ap, ◌≡◌, ◌≤◌, ◌<◌, ◌+◌, ◌*◌, ◌*ℤ◌, ◌^◌, pos, get_or, length, arith, to_z, of_z, subst, unsigned_abs, ◌⊎◌, inr, le_trans, le_refl}
 use Rattle.std.specs.Int.{w64}
 use Rattle.std.proofs.lemmas.Bool.{eq-eqb, ne_eqb}
-use Rattle.mpc_whole.specs.Whole.{IsChanged, turned}
+use Rattle.mpc_whole.specs.Whole.{IsChanged}
+use Rattle.mpc_runs.specs.WholeNumbers.{turned}
 use Rattle.mpc_scaled.specs.Scaled.{whole_at, whole_cell}
-use Rattle.mpc_whole.proofs.WholeSteps.{read_small, read_bound, set_small, set_bound}
+use Rattle.mpc_runs.proofs.WholeWidths.{read_small, read_bound}
+use Rattle.mpc_runs.proofs.WholeLists.{set_small, set_bound}
 use Rattle.mpc_whole.proofs.WholeExchange.{row_done, row_kept, number_changed, row_below, row_inside}
 use Rattle.mpc_whole.proofs.whole_pivot.change_row.Goals as goal
 use Rattle.mpc_whole.proofs.whole_pivot.change_row.Goals.{After-loop-c}

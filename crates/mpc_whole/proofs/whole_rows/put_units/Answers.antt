@@ -1,7 +1,7 @@
 use Rattle.std.proofs.Common.{◌≡◌, ◌<◌, ◌+◌, ◌*◌, length, arith, pos, le_refl, ℕ, ℤ, List, subst, sym, unsigned_abs, ◌≤◌}
 use Rattle.mpc_scaled.specs.Scaled.{whole_at, IsSmall}
 use Rattle.mpc_whole.proofs.WholeExchange.{row_below}
-use Rattle.mpc_whole.proofs.WholeSteps.{set_small}
+use Rattle.mpc_runs.proofs.WholeLists.{set_small}
 use Rattle.mpc_whole.proofs.WholeRows.{units_done, units_kept}
 use Rattle.mpc_whole.proofs.whole_rows.put_units.Goals as goal
 

@@ -2,7 +2,7 @@ use Rattle.std.proofs.Common.{◌≡◌, ◌∙◌, ◌≤ℤ◌, ◌<ℤ◌, sy
 use Rattle.std.specs.Int.{w64}
 use Rattle.mpc_scaled.specs.Scaled.{whole_at}
 use Rattle.mpc_whole.proofs.Nonbasic.{below_nought}
-use Rattle.mpc_whole.proofs.WholeSteps.{read_small}
+use Rattle.mpc_runs.proofs.WholeWidths.{read_small}
 use Rattle.mpc_whole.proofs.WholeTurns.{side_enters, none_enters, as_unknown, lt_so, not_lt_so}
 use Rattle.mpc_whole.proofs.whole_turn.enters.Goals as goal
 

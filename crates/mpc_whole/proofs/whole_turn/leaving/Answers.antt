@@ -1,6 +1,6 @@
 use Rattle.std.proofs.Common.{sym, ◌∙◌}
 use Rattle.std.proofs.lemmas.Bool.{false≢true}
-use Rattle.mpc_whole.proofs.WholeWraps.{values_short}
+use Rattle.mpc_whole.proofs.ShortValues.{values_short}
 use Rattle.mpc_whole.proofs.whole_turn.leaving.Goals as goal
 
 pub first_out-requires-then-unknowns-eq4-clause-short : goal.first_out-requires-then-unknowns-eq4-clause-short

@@ -1,11 +1,11 @@
 use Rattle.std.proofs.Common.{arith, subst, sym, ap, ◌∙◌, ◌≡◌, ◌<◌, ◌≤◌, ◌+◌, ◌*◌, ◌^◌, ◌*ℤ◌, ℕ, length, to_z, of_z, unsigned_abs}
 use Rattle.std.specs.Int.{w64}
 use Rattle.mpc_rows.specs.LinearSystem.{height}
-use Rattle.mpc_whole.specs.Whole.{whole_total}
+use Rattle.mpc_runs.specs.WholeNumbers.{whole_total}
 use Rattle.mpc_scaled.specs.Scaled.{whole_cell}
 use Rattle.mpc_whole.proofs.WholeExchange.{rows_in}
-use Rattle.mpc_whole.proofs.WholeRooms.{back64}
-use Rattle.mpc_whole.proofs.WholeSteps.{set_below}
+use Rattle.mpc_runs.proofs.WholeWidths.{back64}
+use Rattle.mpc_runs.proofs.WholeLists.{set_below}
 use Rattle.mpc_whole.proofs.whole_turn.side_row.Goals as goal
 
 pub row_times_column-requires-clause-result_small : goal.row_times_column-requires-clause-result_small

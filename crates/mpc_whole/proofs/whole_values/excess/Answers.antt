@@ -1,8 +1,23 @@
-use Rattle.std.proofs.Common.{◌∙◌, ◌≤◌, ◌^◌, rules, arith, sym, subst, unsigned_abs, FitsSigned}
-use Rattle.std.specs.Int.{w64}
+use Rattle.std.proofs.Common.{◌≡◌, ℕ, ℤ, pos, ◌∙◌, ◌<◌, ◌≤◌, ◌^◌, ◌+ℤ◌, ◌*ℤ◌, neg_ℤ, [], ◌∷◌, rules, arith, sym, ap, subst, to_z, of_z, unsigned_abs, FitsSigned}
+use Rattle.std.specs.Int.{w64, w128}
+use lib.Signed.{mag}
+use Rattle.std.proofs.lemmas.Int.{to_z-of_z}
 use Rattle.std.proofs.lemmas.Option.{IfSome_then}
-use Rattle.mpc_whole.proofs.WholeRooms.{excess_is, product_room, back128}
+use Rattle.mpc_exact.proofs.IntRing.{int_reads, by_ring_ℤ}
+use Rattle.mpc_runs.proofs.WholeWidths.{product_room, back128, both_back}
 use Rattle.mpc_whole.proofs.whole_values.excess.Goals as goal
+
+-- a sum minus g d
+products_turned : (t g d : ℤ) → t +ℤ (g *ℤ neg_ℤ d) ≡ t +ℤ neg_ℤ (g *ℤ d)
+products_turned t g d = by_ring_ℤ (t ∷ g ∷ d ∷ []) (search int_reads depth 30) (search int_reads depth 30) tt
+
+excess_is : (g : ℤ) (den : ℕ) (whole qs n p t r : ℤ) → FitsSigned w64 g → FitsSigned w64 qs → FitsSigned w64 n → mag p < 2 ^ 127 → mag t < 2 ^ 127 → mag r < 2 ^ 127 →
+    qs ≡ pos den → n ≡ neg_ℤ (to_z w64 (of_z w64 qs)) → p ≡ to_z w64 (of_z w64 g) *ℤ to_z w64 (of_z w64 n) → t ≡ whole → r ≡ to_z w128 (of_z w128 t) +ℤ to_z w128 (of_z w128 p) →
+    to_z w128 (of_z w128 r) ≡ whole +ℤ neg_ℤ (g *ℤ pos den)
+excess_is g den whole qs n p t r fg fq fn mp mt mr e h a b s =
+    let turned : n ≡ neg_ℤ (pos den) = h ∙ ap neg_ℤ (to_z-of_z w64 qs fq ∙ e) in
+    let second : p ≡ g *ℤ neg_ℤ (pos den) = both_back p g n fg fn a ∙ ap (λ z. g *ℤ z) turned in
+    back128 r mr ∙ s ∙ (λ i. (back128 t mt ∙ b) i +ℤ (back128 p mp ∙ second) i) ∙ products_turned whole g (pos den)
 
 pub returns-clause-value : goal.returns-clause-value
 returns-clause-value c =

@@ -4,7 +4,7 @@ use Rattle.std.proofs.lemmas.Int.{to_z-of_z}
 use Rattle.std.proofs.lemmas.Option.{IfSome_then}
 use Rattle.mpc_whole.specs.Moved.{AreMoved}
 use Rattle.mpc_whole.specs.Running.{IsPivot, AreParts}
-use Rattle.mpc_whole.proofs.WholeSteps.{read_small}
+use Rattle.mpc_runs.proofs.WholeWidths.{read_small}
 use Rattle.mpc_whole.proofs.whole_values.follow.Goals as goal
 
 pub move_values-requires-clause-pivot : goal.move_values-requires-clause-pivot

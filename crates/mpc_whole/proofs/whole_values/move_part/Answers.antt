@@ -4,8 +4,9 @@ use Rattle.std.proofs.lemmas.Int.{to_z-of_z}
 use Rattle.mpc_scaled.specs.Scaled.{whole_at, whole_cell}
 use Rattle.mpc_exact.proofs.IntRing.{int_reads, by_ring_ℤ}
 use Rattle.mpc_whole.specs.Moved.{excess, IsMoved}
-use Rattle.mpc_whole.proofs.WholeSums.{whole_total-zeros}
-use Rattle.mpc_whole.proofs.WholeSteps.{read_small, read_bound, set_small, set_above, set_product}
+use Rattle.mpc_runs.proofs.WholeSums.{whole_total-zeros}
+use Rattle.mpc_runs.proofs.WholeWidths.{read_small, read_bound}
+use Rattle.mpc_runs.proofs.WholeLists.{set_small, set_above, set_product}
 use Rattle.mpc_whole.proofs.WholeExchange.{row_inside}
 use Rattle.mpc_whole.proofs.whole_values.move_part.Goals as goal
 

@@ -1,7 +1,8 @@
 use Rattle.std.proofs.Common.{◌≡◌, ◌<◌, ◌≤◌, ◌^◌, length, sym, ◌∙◌, subst₂, arith, to_z, of_z, le_refl}
 use Rattle.std.specs.Int.{w64}
 use Rattle.mpc_whole.specs.Moved.{IsValueAt}
-use Rattle.mpc_whole.proofs.WholeSteps.{read_small, read_bound, set_bound, small_within, both_set}
+use Rattle.mpc_runs.proofs.WholeWidths.{read_small, read_bound}
+use Rattle.mpc_runs.proofs.WholeLists.{set_bound, small_within, both_set}
 use Rattle.mpc_whole.proofs.whole_values.stand.Goals as goal
 use Rattle.mpc_whole.proofs.whole_values.stand.Goals.{After-loop-j}
 

@@ -3,8 +3,8 @@ use Rattle.mpc_exact.specs.Rational.{int}
 use Rattle.mpc_scaled.specs.Scaled.{scale_at}
 use Rattle.mpc_runs.proofs.LeftSides.{bound-second}
 use Rattle.mpc_whole.proofs.WholeChanges.{strict_over}
-use Rattle.mpc_whole.proofs.WholeSteps.{read_small}
-use Rattle.mpc_whole.proofs.WholeSums.{zero_over}
+use Rattle.mpc_runs.proofs.WholeWidths.{read_small}
+use Rattle.mpc_runs.proofs.WholeSums.{zero_over}
 use Rattle.mpc_whole.proofs.whole_values.step_of.Goals as goal
 use Rattle.mpc_whole.proofs.whole_values.step_of.Goals.{Start}
 

@@ -4,7 +4,7 @@ use Rattle.std.proofs.lemmas.Int.{to_z-of_z}
 use Rattle.mpc_exact.specs.Rational.{frac}
 use Rattle.mpc_rows.specs.Run.{bound, value}
 use Rattle.mpc_rows.specs.LinearSystem.{height}
-use Rattle.mpc_whole.specs.Whole.{whole_total, HasRoom}
+use Rattle.mpc_runs.specs.WholeNumbers.{whole_total, HasRoom}
 use Rattle.mpc_scaled.specs.Scaled.{whole_at, whole_cell, scale_at, HasSides}
 use Rattle.mpc_runs.proofs.LeftSides.{bound-first}
 use Rattle.mpc_whole.proofs.WholeTurns.{out_above, out_below, out_next, out_not, lt_so, not_lt_so}

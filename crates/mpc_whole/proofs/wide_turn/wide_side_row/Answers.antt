@@ -2,10 +2,10 @@ use Rattle.std.proofs.Common.{arith, subst, sym, ap, ◌∙◌, ◌≡◌, ◌<�
 use Rattle.std.specs.Int.{w128}
 use Rattle.std.proofs.lemmas.Int.{to_z-of_z}
 use Rattle.mpc_rows.specs.LinearSystem.{height}
-use Rattle.mpc_whole.specs.Whole.{whole_total, HasRoom}
+use Rattle.mpc_runs.specs.WholeNumbers.{whole_total, HasRoom}
 use Rattle.mpc_scaled.specs.Scaled.{whole_cell}
 use Rattle.mpc_whole.proofs.WholeExchange.{rows_in}
-use Rattle.mpc_whole.proofs.WholeSteps.{set_below}
+use Rattle.mpc_runs.proofs.WholeLists.{set_below}
 use Rattle.mpc_whole.proofs.wide_turn.wide_side_row.Goals as goal
 use Rattle.mpc_whole.proofs.wide_turn.wide_side_row.Goals.{After-loop-c}
 

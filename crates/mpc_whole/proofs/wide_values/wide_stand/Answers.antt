@@ -11,7 +11,7 @@ use Rattle.mpc_scaled.specs.Scaled.{whole_at, whole_cell, scale_at}
 use Rattle.mpc_whole.proofs.ColumnSums.{first_is, second_is, unknown_skipped, side_more}
 use Rattle.mpc_runs.proofs.Fits.{first_nought, second_nought}
 use Rattle.mpc_runs.proofs.Table.{first_terms, second_terms}
-use Rattle.mpc_whole.proofs.WholeSums.{zero_over}
+use Rattle.mpc_runs.proofs.WholeSums.{zero_over}
 use Rattle.mpc_whole.proofs.WholeSteps.{rest_first, rest_second}
 use Rattle.mpc_whole.proofs.wide_values.wide_stand.Goals as goal
 use Rattle.mpc_whole.proofs.wide_values.wide_stand.Goals.{After-loop-c}

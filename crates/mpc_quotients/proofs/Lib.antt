@@ -1,0 +1,4 @@
+pub mod WholeRooms
+pub mod WholeWraps
+pub mod ShortNumbers
+pub mod OverTheorems

@@ -1,0 +1,7 @@
+use Rattle.std.proofs.Common.{◌≡◌, ◌*ℤ◌, length}
+use Rattle.mpc_runs.specs.WholeNumbers.{whole_total}
+use Rattle.mpc_scaled.specs.Scaled.{whole_cell, whole_at}
+use Rattle.mpc_quotients.proofs.wide_numbers.wide_row_value.Given as goal
+
+abbrev pub invariant-loop-j : goal.invariant-loop-j
+invariant-loop-j l = l.total ≡ whole_total l.j (λ j. whole_cell (length l.c) l.a l.i j *ℤ whole_at l.c j)

@@ -1,7 +1,0 @@
-use Rattle.mpc_sweep.proofs.ShortNumbers.{difference_is}
-use Rattle.mpc_sweep.proofs.short.short_difference.Goals as goal
-
-pub returns : goal.returns
-returns c =
-    difference_is c.args.v c.args.k c.args.x c.signed.result c.short_product.result c.short_product-2.result c.args.q c.requires.v_small c.requires.k_small c.requires.x_small c.requires.q_small
-    c.short_product.ensures.small c.short_product-2.ensures.small c.signed.ensures.value c.short_product.ensures.value c.short_product-2.ensures.value

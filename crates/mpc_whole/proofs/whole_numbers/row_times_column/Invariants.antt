@@ -1,8 +1,0 @@
-use Rattle.std.proofs.Common.{◌≡◌, ◌*ℤ◌}
-use Rattle.std.specs.Int.{w64, int_wrap}
-use Rattle.mpc_whole.specs.Whole.{whole_total}
-use Rattle.mpc_scaled.specs.Scaled.{whole_cell}
-use Rattle.mpc_whole.proofs.whole_numbers.row_times_column.Given as goal
-
-abbrev pub invariant-loop-j : goal.invariant-loop-j
-invariant-loop-j l = l.total ≡ int_wrap w64 (whole_total l.j (λ j. whole_cell l.width l.a l.i j *ℤ whole_cell l.width l.v j l.c))

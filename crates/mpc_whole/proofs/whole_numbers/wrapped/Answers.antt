@@ -1,7 +1,0 @@
-use Rattle.std.proofs.Common.{rules}
-use Rattle.std.specs.Int.{w64}
-use Rattle.std.proofs.lemmas.Int.{wraps, wrapping_add-bits}
-use Rattle.mpc_whole.proofs.whole_numbers.wrapped.Goals as goal
-
-pub returns : goal.returns
-returns c = search (rules, wraps, wrapping_add-bits w64)

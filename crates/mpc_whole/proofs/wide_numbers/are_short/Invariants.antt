@@ -1,6 +1,0 @@
-use Rattle.std.proofs.Common.{ℕ, ◌<◌, ◌≤◌, ◌^◌, unsigned_abs}
-use Rattle.mpc_scaled.specs.Scaled.{whole_at}
-use Rattle.mpc_whole.proofs.wide_numbers.are_short.Given as goal
-
-abbrev pub invariant-loop-j : goal.invariant-loop-j
-invariant-loop-j l = (k : ℕ) → k < l.j → unsigned_abs (whole_at l.list k) ≤ 2 ^ 62
