@@ -8,7 +8,7 @@ ghost use Rattle.mpc_online.specs.Wholes.{IsOver};
 ghost use Rattle.mpc_online.specs.Widths.{GrowsFit};
 
 use crate::prepared::Wholes;
-use crate::wholes::{common_multiple, denominator, is_small, product};
+use crate::wholes::{common_multiple, denominator, is_small, part, product, rest};
 use mpc_frac::{Frac, greatest_common_divisor};
 
 /// A divisor of both, the greatest one: mostly the first number is.
@@ -18,7 +18,10 @@ fn shared_divisor(a: u128, b: u128) -> u128
     ensures of_b { result ∣ b }
     ensures positive { 0 < result }
 {
-    if b % a == 0 {
+    if a == 1 {
+        return 1;
+    }
+    if rest(b, a) == 0 {
         return a;
     }
     greatest_common_divisor(a, b)
@@ -47,17 +50,20 @@ fn divided(numerator: i128, shared: u128) -> i128
     ensures size { unsigned_abs result ≤ unsigned_abs numerator }
     ensures small { unsigned_abs result < 2 ^ 127 }
 {
-    let size = (numerator.unsigned_abs() / shared) as i128;
+    let size = part(numerator.unsigned_abs(), shared) as i128;
     if numerator < 0 { -size } else { size }
 }
 
 /// The first numbers in lowest terms.
-fn lowest(numbers: &Wholes, count: usize) -> Wholes
+fn lowest(numbers: Wholes, count: usize) -> Wholes
     requires { count ≤ 6 }
-    ensures { (xs : List ℚ) → IsOver xs numbers.now → length xs ≡ count → IsOver xs result }
+    ensures { (xs : List ℚ) → IsOver xs numbers → length xs ≡ count → IsOver xs result }
 {
-    let shared = common_divisor(numbers, count);
-    let den = numbers.den / shared;
+    let shared = common_divisor(&numbers, count);
+    if shared == 1 {
+        return numbers;
+    }
+    let den = part(numbers.den, shared);
     let mut numerators = [0; 6];
     let mut most = den;
     for k in 0..count {
@@ -124,8 +130,8 @@ pub fn moved_in_wholes(x: &Wholes, d: &Wholes, s: &Frac, count: usize) -> Option
     }
     let below = d.den * denominator(s);
     let den = common_multiple(below, x.den)?;
-    let left = den / x.den;
-    let right = den / below;
+    let left = part(den, x.den);
+    let right = part(den, below);
     if !is_small(x.most, left, 1) {
         return None;
     }
@@ -133,5 +139,5 @@ pub fn moved_in_wholes(x: &Wholes, d: &Wholes, s: &Frac, count: usize) -> Option
         return None;
     }
     let factor = product(s.num(), right as i128);
-    Some(lowest(&combined(x, left as i128, d, factor, den, count), count))
+    Some(lowest(combined(x, left as i128, d, factor, den, count), count))
 }

@@ -27,7 +27,7 @@ const HALF: u128 = 0x4000_0000_0000_0000;
 
 /// The rest of a by b.
 #[inline]
-fn rest(a: u128, b: u128) -> u128
+pub fn rest(a: u128, b: u128) -> u128
     requires { 0 < b }
     ensures { result ≡ a % b }
 {
@@ -39,7 +39,7 @@ fn rest(a: u128, b: u128) -> u128
 
 /// How often b goes into a.
 #[inline]
-fn part(a: u128, b: u128) -> u128
+pub fn part(a: u128, b: u128) -> u128
     requires { 0 < b }
     ensures { result ≡ a / b }
 {

@@ -11,19 +11,19 @@ use Rattle.mpc_online.proofs.whole_moves.moved_in_wholes.Goals.{After-num-2}
 
 -- ---- the factors
 abbrev left : After-num-2 → ℕ
-left c = c.in_ok-den.den / c.args.x.now.den
+left c = c.part-left.result
 
 abbrev right : After-num-2 → ℕ
-right c = c.in_ok-den.den / (c.args.d.now.den * c.denominator-2.result)
+right c = c.part-right.result
 
 abbrev factor : After-num-2 → ℤ
 factor c = c.args.s.now.numer *ℤ pos (right c)
 
 left_few : (c : After-num-2) → left c ≤ 2 ^ 124
-left_few c = let l : left c ≤ c.in_ok-den.den = div-le_self c.in_ok-den.den c.args.x.now.den in let s = c.in_ok-den.ensures.small in omega (arith, l, s)
+left_few c = let l : left c ≤ c.in_ok-den.den = subst (λ n. n ≤ c.in_ok-den.den) (sym c.part-left.ensures) (div-le_self c.in_ok-den.den c.args.x.now.den) in let s = c.in_ok-den.ensures.small in omega (arith, l, s)
 
 right_few : (c : After-num-2) → right c ≤ 2 ^ 124
-right_few c = let l : right c ≤ c.in_ok-den.den = div-le_self c.in_ok-den.den (c.args.d.now.den * c.denominator-2.result) in let s = c.in_ok-den.ensures.small in omega (arith, l, s)
+right_few c = let l : right c ≤ c.in_ok-den.den = subst (λ n. n ≤ c.in_ok-den.den) (sym c.part-right.ensures) (div-le_self c.in_ok-den.den (c.args.d.now.den * c.denominator-2.result)) in let s = c.in_ok-den.ensures.small in omega (arith, l, s)
 
 size : (c : After-num-2) → c.unsigned_abs.result ≡ unsigned_abs c.args.s.now.numer
 size c = c.unsigned_abs.ensures.value ∙ ap unsigned_abs (ap (λ z. to_z w128 (of_z w128 z)) c.num.ensures.value ∙ read_wide c.args.s.now.numer c.num.ensures.fits.0)
@@ -38,10 +38,12 @@ factor_back : (c : After-num-2) (f : ℤ) → f ≡ to_z w128 (of_z w128 c.num-2
 factor_back c f e = ap (λ z. to_z w128 (of_z w128 z)) (e ∙ factor_is c) ∙ read_wide (factor c) (factor_small c.args.d.now (factor c) (factor_room c))
 
 of_x : (c : After-num-2) → c.args.x.now.den * left c ≡ c.in_ok-den.den
-of_x c = mul-div_cancel' c.args.x.now.den c.in_ok-den.ensures.of_b
+of_x c = ap (λ n. c.args.x.now.den * n) c.part-left.ensures ∙ mul-div_cancel' c.args.x.now.den c.in_ok-den.ensures.of_b
 
 of_d : (c : After-num-2) → (c.args.d.now.den * c.args.s.now.denom) * right c ≡ c.in_ok-den.den
-of_d c = ap (λ n. (c.args.d.now.den * n) * right c) (sym c.denominator-2.ensures.value) ∙ mul-div_cancel' (c.args.d.now.den * c.denominator-2.result) c.in_ok-den.ensures.of_a
+of_d c =
+    ap (λ n. (c.args.d.now.den * n) * right c) (sym c.denominator-2.ensures.value) ∙ ap (λ n. (c.args.d.now.den * c.denominator-2.result) * n) c.part-right.ensures
+    ∙ mul-div_cancel' (c.args.d.now.den * c.denominator-2.result) c.in_ok-den.ensures.of_a
 
 pub product-factor-requires : goal.product-factor-requires
 product-factor-requires c =

@@ -1,5 +1,6 @@
 use Rattle.std.proofs.Common.{subst, sym}
 use Rattle.std.specs.Int.{◌∣◌}
+use Rattle.std.proofs.Math.Nat.{one-dvd}
 use Rattle.mpc_exact.specs.Gcd.{gcd-divides_left, gcd-divides_right}
 use Rattle.mpc_online.proofs.whole_moves.shared_divisor.Goals as goal
 
@@ -8,3 +9,9 @@ returns-clause-of_a c = subst (λ n. n ∣ c.args.a) (sym c.greatest_common_divi
 
 pub returns-clause-of_b : goal.returns-clause-of_b
 returns-clause-of_b c = subst (λ n. n ∣ c.args.b) (sym c.greatest_common_divisor.ensures.value) (gcd-divides_right c.args.a c.args.b)
+
+pub returns-then-a-eq1-clause-of_a : goal.returns-then-a-eq1-clause-of_a
+returns-then-a-eq1-clause-of_a c = one-dvd c.args.a
+
+pub returns-then-a-eq1-clause-of_b : goal.returns-then-a-eq1-clause-of_b
+returns-then-a-eq1-clause-of_b c = one-dvd c.args.b
