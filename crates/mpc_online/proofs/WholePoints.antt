@@ -26,7 +26,7 @@ module _ (p : Point) (w : Wholes) (count : ℕ) (is : p ≡ Whole w count) where
   pub whole_over : length (entries_of p) ≤ 6 → IsOver (entries_of p) w
   whole_over h = subst (λ (q : Point). IsOver (entries_of q) w) (sym is) (first_over w count (let f = whole_few h in let s = w.at_most.size in omega (arith, f, s)))
 
-row_read : (xs : List (Option Wholes)) (i : ℕ) (x : Option Wholes) → i < length xs → x ≡ get_or xs i x → x ≡ get_or xs i None
+pub row_read : (xs : List (Option Wholes)) (i : ℕ) (x : Option Wholes) → i < length xs → x ≡ get_or xs i x → x ≡ get_or xs i None
 row_read [] i x h e = absurd (omega arith)
 row_read (y ∷ xs) zero x h e = e
 row_read (y ∷ xs) (suc i) x h e = row_read xs i x (omega arith) e

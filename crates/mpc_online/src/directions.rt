@@ -35,9 +35,9 @@ pub fn prepared_with(alloc: Global, qp: &Qp, kept: Option<Kept>) -> Result<Prepa
     requires { IfSome kept (IsKeptOf qp.now) }
     ensures { IfOk result (IsPreparedFor qp.now) }
 {
-    let rows = whole_rows(alloc, &qp.g)?;
-    let sides = whole_rows(alloc, &qp.w)?;
-    let costs = whole_rows(alloc, &qp.f)?;
+    let rows = whole_rows(alloc, &qp.g, 1)?;
+    let sides = whole_rows(alloc, &qp.w, 1)?;
+    let costs = whole_rows(alloc, &qp.f, 1)?;
     let opening = opening_of(alloc, qp, &kept)?;
     Ok(Prepared {
         rows,
@@ -176,7 +176,7 @@ fn found_direction(
         Err(Stop::NoMemory) => return Err(Stop::NoMemory),
     };
     let point = part(alloc, &x, 0, qp.h.rows())?;
-    let whole = over_one_denominator(&point);
+    let whole = over_one_denominator(&point, 1);
     let multipliers = part(alloc, &x, qp.h.rows(), set.size())?;
     let slope = slope_of(qp, &point, row);
     Ok(KeptDirection {

@@ -8,15 +8,20 @@ ghost use Rattle.mpc_space.specs.Matrix.{height};
 ghost use Rattle.mpc_linear.specs.Dot.{DotFits};
 ghost use Rattle.mpc_bordered.specs.Stages.{ChangeFits};
 ghost use Rattle.mpc_online.specs.Widths.{ProductsFit};
-ghost use Rattle.mpc_online.specs.Wholes.{AreDenomsIn, AreRowsOver};
+ghost use Rattle.mpc_online.specs.Wholes.{AreDenomsIn, AreRowsOver, entries_of};
 ghost use Rattle.mpc_online.specs.Shared.{IsKeptOf};
 ghost use Rattle.mpc_online.specs.Openings.{AreCountsTo, IsSmallSum, AreExtendedCounts, IsFirstPoint, PointFits, AreOpeningForms, IsOpeningOf};
 ghost use Rattle.mpc_online.specs.Answers.{IfStopWide};
 
 use crate::matrices::opening_right;
+use crate::points::{Point, point_of};
 use crate::prepared::{Opening, Wholes};
 use crate::solutions::{Stop, part, products, solution};
-use crate::wholes::{common_denominator, common_multiple, grown_size, numerator_over, whole_rows};
+use crate::whole_moves::lowest;
+use crate::wholes::{
+    common_denominator, common_multiple, grown_size, numerator_over, products_in_wholes,
+    shared_denominator, whole_rows,
+};
 use mpc_bordered::{Kept, combined_theorems, first_stage, next_stage};
 use mpc_frac::{Frac, NoMemory};
 use mpc_linear::{Matrix, sum_theorems};
@@ -51,7 +56,7 @@ fn sum_fits(xs: &[Frac], most: &[u64]) -> bool
     requires { length xs.now ≡ length most.now }
     ensures { IsTrue result → (c : List ℚ) → AreCountsTo most.now c → DotFits xs.now c }
 {
-    let Some(all) = common_denominator(xs) else {
+    let Some(all) = common_denominator(xs, 1) else {
         return false;
     };
     is_small_sum(xs, all, most)
@@ -78,8 +83,8 @@ fn common_to(xs: &[Frac], ys: &[Frac]) -> Option<u128>
     ensures positive { IfSome result (λ m. 0 < m) }
     ensures small { IfSome result (λ m. m ≤ 2 ^ 124) }
 {
-    let left = common_denominator(xs)?;
-    let right = common_denominator(ys)?;
+    let left = common_denominator(xs, 1)?;
+    let right = common_denominator(ys, 1)?;
     common_multiple(left, right)
 }
 
@@ -168,7 +173,7 @@ pub fn opening_of(
     let Some(forms) = opening_forms(alloc, qp, kept, &most)? else {
         return Ok(None);
     };
-    let rows = whole_rows(alloc, &forms)?;
+    let rows = whole_rows(alloc, &forms, shared_denominator(&forms))?;
     Ok(Some(Opening { forms, rows }))
 }
 
@@ -192,27 +197,32 @@ fn eliminated_point(
     Ok(point)
 }
 
-/// The first point: the values of its forms, where these are kept and fit.
+/// The first point: the values of its forms, where these are kept and fit, in whole numbers where these are small.
 pub fn first_point(
     alloc: Global,
     qp: &Qp,
     c: &[Frac],
     costs: &[Option<Wholes>],
     opening: &Option<Opening>,
-) -> Result<Vec<Frac>, Stop>
+) -> Result<Point, Stop>
     requires definite { IsDefinite qp.now.h.rows }
     requires costs { AreRowsOver qp.now.f costs.now }
     requires extended { AreExtendedCounts qp.now c.now }
     requires opening { IfSome opening.now (IsOpeningOf qp.now) }
-    ensures point { IfOk result (λ z. IsFirstPoint qp.now c.now z.items) }
+    ensures point { IfOk result (λ z. IsFirstPoint qp.now c.now (entries_of z)) }
     ensures wide { MatchResult result (λ _. PointFits qp.now c.now) (λ stop. IfStopWide stop (¬ PointFits qp.now c.now)) }
 {
     if let Some(known) = opening {
+        if let Some(numbers) = products_in_wholes(&known.forms, &known.rows, c) {
+            let count = known.rows.len();
+            return Ok(Point::Whole(lowest(numbers, count), count));
+        }
         match products(alloc, &known.forms, c, &known.rows) {
-            Ok(point) => return Ok(point),
+            Ok(point) => return Ok(point_of(point)),
             Err(Stop::NoMemory) => return Err(Stop::NoMemory),
             Err(Stop::Wide) => {}
         }
     }
-    eliminated_point(alloc, qp, c, costs)
+    let point = eliminated_point(alloc, qp, c, costs)?;
+    Ok(point_of(point))
 }

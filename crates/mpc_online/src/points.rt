@@ -25,7 +25,7 @@ pub fn point_of(entries: Vec<Frac>) -> Point
     requires { length entries.items ≤ 6 }
     ensures { entries_of result ≡ entries.items }
 {
-    match over_one_denominator(&entries) {
+    match over_one_denominator(&entries, 1) {
         Some(numbers) => Point::Whole(numbers, entries.len()),
         None => Point::Apart(entries),
     }

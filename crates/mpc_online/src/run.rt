@@ -20,7 +20,7 @@ use crate::counts::extended;
 use crate::directions::direction_place;
 use crate::moves::{Iterate, dropped, moved, row_joined};
 use crate::opening::first_point;
-use crate::points::{fractions, point_of};
+use crate::points::fractions;
 use crate::prepared::{Direction, Opening, Prepared, Wholes};
 use crate::refuting::row_multipliers;
 use crate::solutions::{Stop, products};
@@ -88,8 +88,7 @@ fn open(
     ensures wide { MatchResult result (λ _. FirstFits qp.now sides.now c.now)
         (λ stop. IfStopWide stop (¬ FirstFits qp.now sides.now c.now)) }
 {
-    let entries = first_point(alloc, qp, c, costs, opening)?;
-    let point = point_of(entries);
+    let point = first_point(alloc, qp, c, costs, opening)?;
     let first = first_violated(qp, rows, sides, &point)?;
     let it = Iterate {
         point,

@@ -111,7 +111,7 @@ pub fn products(
     ensures wide { MatchResult result (λ _. ProductsFit m.now c.now) (λ e. IfStopWide e (¬ ProductsFit m.now c.now)) }
 {
     let _columns = m.cols();
-    let whole = over_one_denominator(c);
+    let whole = over_one_denominator(c, 1);
     let mut out = Vec::with_capacity(alloc, m.rows() as usize)?;
     for i in 0..m.rows() {
         match row_dot(m.row(i), &rows[i as usize], c, &whole) {

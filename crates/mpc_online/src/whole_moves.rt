@@ -55,7 +55,7 @@ fn divided(numerator: i128, shared: u128) -> i128
 }
 
 /// The first numbers in lowest terms.
-fn lowest(numbers: Wholes, count: usize) -> Wholes
+pub fn lowest(numbers: Wholes, count: usize) -> Wholes
     requires { count ≤ 6 }
     ensures { (xs : List ℚ) → IsOver xs numbers → length xs ≡ count → IsOver xs result }
 {

@@ -3,7 +3,8 @@
 ghost use Rattle.std.specs.Prelude.{◌≡◌, List, ◌+◌, ◌*◌, ◌/◌, ◌%◌, ◌^◌, ◌<◌, ◌≤◌, ◌↔◌, IfOk, IfSome, IsTrue, length, pos, unsigned_abs, ◌-ℤ◌, ◌*ℤ◌, ◌<ℤ◌};
 ghost use Rattle.std.specs.Int.{◌∣◌};
 ghost use Rattle.mpc_exact.specs.Rational.{ℚ, frac, ◌-ℚ◌, ◌<ℚ◌, neg_ℚ};
-ghost use Rattle.mpc_space.specs.Vector.{dot};
+ghost use Rattle.mpc_space.specs.Vector.{dot, mat_vec};
+ghost use Rattle.mpc_space.specs.Matrix.{height, IsRectangular};
 ghost use Rattle.mpc_linear.specs.Dot.{DotFits};
 ghost use Rattle.mpc_frac.specs.Fits.{FitsSum};
 ghost use Rattle.mpc_online.specs.Wholes.{AreDenomsIn, IsOver, AreRowsOver};
@@ -77,13 +78,15 @@ pub fn common_multiple(a: u128, b: u128) -> Option<u128>
     Some(multiple)
 }
 
-/// A common denominator, where it is at most 2^124.
-pub fn common_denominator(xs: &[Frac]) -> Option<u128>
+/// A common denominator that is a multiple of the number, where it is at most 2^124: the number where it is one.
+pub fn common_denominator(xs: &[Frac], within: u128) -> Option<u128>
+    requires within_positive { 0 < within }
+    requires within_small { within ≤ 2 ^ 124 }
     ensures common { IfSome result (λ m. AreDenomsIn m xs.now) }
     ensures positive { IfSome result (λ m. 0 < m) }
     ensures small { IfSome result (λ m. m ≤ 2 ^ 124) }
 {
-    let mut all = 1;
+    let mut all = within;
     for x in xs {
         all = common_multiple(all, denominator(x))?;
     }
@@ -146,12 +149,14 @@ pub fn numerator_over(x: &Frac, all: u128) -> Option<i128>
     Some(numerator)
 }
 
-/// The fractions over one denominator, where it and the numerators are small enough.
-pub fn over_one_denominator(xs: &[Frac]) -> Option<Wholes>
-    requires { length xs.now ≤ 6 }
+/// The fractions over one denominator, a multiple of the number, where it and the numerators are small enough.
+pub fn over_one_denominator(xs: &[Frac], within: u128) -> Option<Wholes>
+    requires few { length xs.now ≤ 6 }
+    requires within_positive { 0 < within }
+    requires within_small { within ≤ 2 ^ 124 }
     ensures { IfSome result (IsOver xs.now) }
 {
-    let den = common_denominator(xs)?;
+    let den = common_denominator(xs, within)?;
     let mut numerators = [0; 6];
     let mut most = den;
     for k in 0..xs.len() {
@@ -344,14 +349,94 @@ pub fn dot_in_wholes(x: &Wholes, y: &Wholes, count: usize) -> Option<Frac>
     fraction_over(total, x.den * y.den)
 }
 
-/// The rows of a matrix, each over one denominator where it is small.
-pub fn whole_rows(alloc: Global, m: &Matrix) -> Result<Vec<Option<Wholes>>, AllocError>
-    requires { m.now.columns ≤ 6 }
+/// A common denominator of all rows, where it is at most 2^124, and else 1.
+pub fn shared_denominator(m: &Matrix) -> u128
+    ensures positive { 0 < result }
+    ensures small { result ≤ 2 ^ 124 }
+{
+    let mut all = 1;
+    for i in 0..m.rows() {
+        let Some(next) = common_denominator(m.row(i), all) else {
+            return 1;
+        };
+        all = next;
+    }
+    all
+}
+
+/// The numerator over this denominator of the dot of a row and numbers, where the row is over it with them and small.
+fn value_over(row: &Option<Wholes>, numbers: &Wholes, count: usize, den: u128) -> Option<i128>
+    requires { count ≤ 6 }
+    ensures value { IfSome result
+        (λ z. (xs ys : List ℚ) → IfSome row.now (IsOver xs) → IsOver ys numbers.now → length xs ≡ count → length ys ≡ count
+        → dot xs ys ≡ frac z den) }
+    ensures small { IfSome result (λ z. unsigned_abs z ≤ 2 ^ 124) }
+{
+    let Some(whole) = row else {
+        return None;
+    };
+    if !is_small(whole.most, numbers.most, 6) {
+        return None;
+    }
+    if whole.den * numbers.den != den {
+        return None;
+    }
+    Some(dot_of_numerators(whole, numbers, count))
+}
+
+/// The denominator of the dot of the first row and numbers, where it is at most 2^124.
+fn first_denominator(rows: &[Option<Wholes>], numbers: &Wholes) -> Option<u128>
+    ensures positive { IfSome result (λ d. 0 < d) }
+    ensures small { IfSome result (λ d. d ≤ 2 ^ 124) }
+{
+    let Some(Some(first)) = rows.first() else {
+        return None;
+    };
+    if !is_small(first.most, numbers.most, 1) {
+        return None;
+    }
+    Some(first.den * numbers.den)
+}
+
+/// The dots of up to six rows and a list, where all are over one denominator and small.
+pub fn products_in_wholes(m: &Matrix, rows: &[Option<Wholes>], xs: &[Frac]) -> Option<Wholes>
+    requires rectangular { IsRectangular m.now }
+    requires size { m.now.columns ≡ length xs.now }
+    requires few { length xs.now ≤ 6 }
+    requires few_rows { height m.now ≤ 6 }
+    requires rows { AreRowsOver m.now rows.now }
+    ensures { IfSome result (IsOver (mat_vec m.now.rows xs.now)) }
+{
+    let numbers = over_one_denominator(xs, 1)?;
+    let den = first_denominator(rows, &numbers)?;
+    let mut numerators = [0; 6];
+    let mut most = den;
+    for i in 0..rows.len() {
+        let numerator = value_over(&rows[i], &numbers, xs.len(), den)?;
+        numerators[i] = numerator;
+        most = most.max(numerator.unsigned_abs());
+    }
+    Some(Wholes {
+        numerators,
+        den,
+        most,
+    })
+}
+
+/// The rows of a matrix, each over one denominator, a multiple of the number, where it is small.
+pub fn whole_rows(
+    alloc: Global,
+    m: &Matrix,
+    within: u128,
+) -> Result<Vec<Option<Wholes>>, AllocError>
+    requires few { m.now.columns ≤ 6 }
+    requires within_positive { 0 < within }
+    requires within_small { within ≤ 2 ^ 124 }
     ensures { IfOk result (λ rows. AreRowsOver m.now rows.items) }
 {
     let mut rows = Vec::with_capacity(alloc, m.rows() as usize)?;
     for i in 0..m.rows() {
-        rows.push(over_one_denominator(m.row(i)))?;
+        rows.push(over_one_denominator(m.row(i), within))?;
     }
     Ok(rows)
 }
