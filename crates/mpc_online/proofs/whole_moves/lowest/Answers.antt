@@ -1,4 +1,4 @@
-use Rattle.std.proofs.Common.{◌≡◌, ◌<◌, ◌≤◌, ◌/◌, ℤ, pos, get_or, unsigned_abs, to_z, of_z, ◌*ℤ◌, refl, sym, ◌∙◌, ap, subst, arith}
+use Rattle.std.proofs.Common.{◌≡◌, ◌<◌, ◌≤◌, ℤ, pos, get_or, unsigned_abs, to_z, of_z, ◌*ℤ◌, sym, ◌∙◌, ap, subst, arith}
 use Rattle.std.specs.Int.{◌∣◌, w128}
 use Rattle.mpc_online.proofs.WholeDots.{read_wide, number_at}
 use Rattle.mpc_online.proofs.WholeMoves.{found_more, lowest_over, lowest_some, number_small}

@@ -1,4 +1,4 @@
-use Rattle.std.proofs.Common.{◌≡◌, ℕ, ℤ, ◌*◌, ◌/◌, ◌^◌, ◌<◌, ◌≤◌, get_or, pos, unsigned_abs, to_z, of_z, ◌+ℤ◌, ◌*ℤ◌, sym, ◌∙◌, ap, subst, arith, div-le_self}
+use Rattle.std.proofs.Common.{◌≡◌, ℕ, ℤ, ◌*◌, ◌^◌, ◌<◌, ◌≤◌, get_or, pos, unsigned_abs, to_z, of_z, ◌+ℤ◌, ◌*ℤ◌, sym, ◌∙◌, ap, subst, arith, div-le_self}
 use Rattle.std.specs.Int.{w128}
 use Rattle.std.proofs.lemmas.Int.{to_z_pos}
 use native.Mathlib.Nat.{mul-div_cancel'}
