@@ -438,11 +438,12 @@ fn kept_end(
     })
 }
 
-/// A system whose run in whole numbers is kept where it ends.
+/// A system whose run in whole numbers is kept where it ends. The end lies in memory of its own, so that what may have
+/// a run is small: mostly there is none.
 #[derive(Drop)]
 pub struct KeptRun {
     system: WholeSystem,
-    last: Ended,
+    last: Box<Ended>,
 }
 
 impl Model for KeptRun {
@@ -454,7 +455,7 @@ impl Model for KeptRun {
 
     ghost view = { λ r. r.system };
 
-    ghost invariant = { λ r. AreKept r.system r.last.scales.items r.last.lists r.last.place r.last.end };
+    ghost invariant = { λ r. AreKept r.system r.last.value.scales.items r.last.value.lists r.last.value.place r.last.value.end };
 }
 
 /// The run of a system from its opening to its end, where whole numbers serve for it.
@@ -509,6 +510,15 @@ fn first_end(
     }
 }
 
+/// The run of a system that has this end.
+fn kept_run(alloc: Global, system: WholeSystem, last: Ended) -> Result<KeptRun, AllocError>
+    requires { AreKept system last.scales.items last.lists last.place last.end }
+    ensures { IfOk result (λ r. r ≡ system) }
+{
+    let last = Box::new(alloc, last)?;
+    Ok(KeptRun { system, last })
+}
+
 /// What is kept of a run that stands at its end in these lists, in lists of its own.
 fn kept_copy(
     alloc: Global,
@@ -524,7 +534,7 @@ fn kept_copy(
     let own = system.copy_with_room(alloc, 0)?;
     let lists = copied_lists(alloc, lists)?;
     let last = kept_end(alloc, scales, lists, place, end)?;
-    Ok(KeptRun { system: own, last })
+    kept_run(alloc, own, last)
 }
 
 /// Whether no bound of the first numbers is above twice that of the others.
@@ -553,7 +563,7 @@ impl KeptRun {
         ensures { IfOk result (λ o. IfSome o (λ r. r ≡ system)) }
     {
         match first_end(alloc, &mut work.rows, &system)? {
-            Some(last) => Ok(Some(KeptRun { system, last })),
+            Some(last) => Ok(Some(kept_run(alloc, system, last)?)),
             None => Ok(None),
         }
     }
@@ -603,7 +613,7 @@ impl KeptRun {
         ensures { IfOk result (λ o. IfSome o (λ r. r ≡ system)) }
     {
         match self.longer_end(alloc, &mut work.rows, &system)? {
-            Some(last) => Ok(Some(KeptRun { system, last })),
+            Some(last) => Ok(Some(kept_run(alloc, system, last)?)),
             None => Ok(None),
         }
     }
@@ -619,7 +629,7 @@ impl KeptRun {
         ensures { IfOk result (λ o. IfSome o (λ e. AreKept longer.now e.scales.items e.lists e.place e.end)) }
     {
         let seats = longer.unknowns().saturating_add(longer.height());
-        let mut lists = lists_with_room(alloc, &self.last.lists, seats)?;
+        let mut lists = lists_with_room(alloc, &self.last().lists, seats)?;
         let numbers = numbers_of(longer);
         match self.run_longer(&mut lists, work, longer, &numbers)? {
             Some((place, end)) => {
@@ -630,13 +640,20 @@ impl KeptRun {
         }
     }
 
+    /// Where the run ends.
+    fn last(&self) -> &Ended
+        ensures { AreKept self.now result.now.scales.items result.now.lists result.now.place result.now.end }
+    {
+        &self.last
+    }
+
     /// Whether the run ends with a point. No number that it forms is wide.
     pub fn has_point(&self) -> bool
         ensures point { IsTrue result → turn self.now (last_position self.now) ≡ has_point }
         ensures refuted { result ≡ false → IsRefuted self.now }
         ensures fits { RunFits self.now }
     {
-        is_point(self.last.end)
+        is_point(self.last().end)
     }
 
     /// The first variable that may leave where the run ends, with whatever rows behind: where it ends
@@ -644,8 +661,9 @@ impl KeptRun {
     fn first_later(&self) -> usize
         ensures { IsFirstLater self.now result }
     {
-        match self.last.end {
-            Ending::Point => variables(&self.last.lists),
+        let last = self.last();
+        match last.end {
+            Ending::Point => variables(&last.lists),
             Ending::Refuted(_) => self.system.unknowns(),
         }
     }
@@ -663,21 +681,22 @@ impl KeptRun {
         ensures { IfOk result (λ o. IfSome o (λ t. AreKept longer.now numbers.now.scales.now lists.new t.0 t.1)) }
     {
         position_theorems();
-        if !begins_with(numbers.scales, &self.last.scales) {
+        let last = self.last();
+        if !begins_with(numbers.scales, &last.scales) {
             return Ok(None);
         }
         let from = WidePlace {
             first: self.first_later(),
-            ..self.last.place
+            ..last.place
         };
         let height = self.system.height();
-        if let Some(most) = short_limit(&self.last.lists, longer, numbers, from) {
-            set_lists(lists, &self.last.lists, height, longer.height())?;
+        if let Some(most) = short_limit(&last.lists, longer, numbers, from) {
+            set_lists(lists, &last.lists, height, longer.height())?;
             if let Some(found) = run_on(lists, &mut work.short, longer, numbers, from, most)? {
                 return Ok(Some(found));
             }
         }
-        set_wide_lists(lists, &self.last.lists, height, longer.height())?;
+        set_wide_lists(lists, &last.lists, height, longer.height())?;
         judge_on(lists, &mut work.wide, longer, numbers, from)
     }
 
@@ -686,8 +705,9 @@ impl KeptRun {
     fn fails_alike(&self, longer: &WholeSystem, numbers: &WholeNumbers) -> bool
         requires { IsSmall numbers.now.most_entry numbers.now.a.now }
     {
-        let is_reduced = self.last.lists.is_wide || self.last.place.den == 1;
-        is_reduced && room_before(longer, numbers, self.last.place).is_some()
+        let last = self.last();
+        let is_reduced = last.lists.is_wide || last.place.den == 1;
+        is_reduced && room_before(longer, numbers, last.place).is_some()
     }
 
     /// The run of a system with further rows behind this one's: from where this one ends on, or else
@@ -940,7 +960,7 @@ impl KeptRun {
         ensures { IfOk result (λ o. IfSome o (λ p. IsValues self.now (last_position self.now) p)) }
     {
         let mut values = zero_pairs(alloc, self.system.unknowns())?;
-        match put_values(&mut values, &self.system, &self.last) {
+        match put_values(&mut values, &self.system, self.last()) {
             Some(()) => Ok(Some(PairPoint::of(values))),
             None => Ok(None),
         }
@@ -961,7 +981,7 @@ impl KeptRun {
             lists,
             place,
             ..
-        } = &self.last;
+        } = self.last();
         let numbers = numbers_of(&self.system);
         if numbers.scales != scales.as_slice() {
             return Ok(None);
@@ -973,7 +993,7 @@ impl KeptRun {
     pub fn end(&self, alloc: Global, work: &mut Workspace) -> Result<Option<End>, AllocError>
         ensures { IfOk result (λ o. IfSome o (λ d. IsEnd self.now d)) }
     {
-        match self.last.end {
+        match self.last().end {
             Ending::Point => match self.point(alloc)? {
                 Some(point) => Ok(Some(End::Point(point))),
                 None => Ok(None),

@@ -5,7 +5,7 @@ use Rattle.mpc_scaled.specs.Scaled.{scale_at}
 use Rattle.mpc_beginnings.specs.Beginnings.{lengthened}
 use Rattle.mpc_whole.specs.Lists.{AreListsOf}
 use Rattle.mpc_beginnings.specs.RunLists.{lists_of}
-use Rattle.mpc_beginnings.specs.Kept.{AreNumbers, IsFirstLater, IsUnderwayWithin, IsUnderwayWithRoom}
+use Rattle.mpc_beginnings.specs.Kept.{AreNumbers, AreKept, IsFirstLater, IsUnderwayWithin, IsUnderwayWithRoom}
 use Rattle.mpc_beginnings.proofs.Continued.{higher, more_scales, lists_longer, within_longer, room_longer}
 use Rattle.mpc_beginnings.proofs.kept.KeptRun.go_on.Goals as goal
 
@@ -25,54 +25,60 @@ set_wide_lists-requires c =
 
 pub begins_with-requires : goal.begins_with-requires
 begins_with-requires c =
-    let r = c.self.inside in
     let more : List Row = c.requires.longer.0 in
-    let e : c.args.longer.now ≡ lengthened r.system more = c.requires.longer.1 ∙ ap (λ (t : LinearSystem). lengthened t more) (sym c.self.view_is) in
-    rw c.deref.ensures.value (more_scales r.system more c.args.longer.now e r.last.scales.items c.args.numbers.now.scales.now c.self.invariant.kept.scales c.requires.numbers.whole.scales.size)
+    rw c.deref.ensures.value (more_scales c.args.self.now more c.args.longer.now c.requires.longer.1 c.last-last.result.now.scales.items c.args.numbers.now.scales.now c.last-last.ensures.kept.scales c.requires.numbers.whole.scales.size)
 
 pub run_on-requires-clause-lists : goal.run_on-requires-clause-lists
 run_on-requires-clause-lists c =
     let r = c.self.inside in
+    let d = c.last-last.result.now in
+    let kept : AreKept r.system d.scales.items d.lists d.place d.end = subst (λ (t : LinearSystem). AreKept t d.scales.items d.lists d.place d.end) (sym c.self.view_is) c.last-last.ensures in
     let more : List Row = c.requires.longer.0 in
     let e : c.args.longer.now ≡ lengthened r.system more = c.requires.longer.1 ∙ ap (λ (t : LinearSystem). lengthened t more) (sym c.self.view_is) in
-    subst (λ (t : LinearSystem). AreListsOf t r.last.place.own (lists_of c.set_lists.new.lists)) (sym e)
-    (lists_longer r.system more r.last.scales.items (lists_of r.last.lists) r.last.place r.last.end c.self.invariant.kept c.height-height.result c.height.result c.height-height.ensures (c.height.ensures ∙ ap height e) (lists_of c.set_lists.new.lists) c.in_ok-set_lists.ensures.longer)
+    subst (λ (t : LinearSystem). AreListsOf t d.place.own (lists_of c.set_lists.new.lists)) (sym e)
+    (lists_longer r.system more d.scales.items (lists_of d.lists) d.place d.end kept.kept c.height-height.result c.height.result c.height-height.ensures (c.height.ensures ∙ ap height e) (lists_of c.set_lists.new.lists) c.in_ok-set_lists.ensures.longer)
 
 pub run_on-requires-clause-start : goal.run_on-requires-clause-start
 run_on-requires-clause-start c =
     let r = c.self.inside in
+    let d = c.last-last.result.now in
+    let kept : AreKept r.system d.scales.items d.lists d.place d.end = subst (λ (t : LinearSystem). AreKept t d.scales.items d.lists d.place d.end) (sym c.self.view_is) c.last-last.ensures in
     let more : List Row = c.requires.longer.0 in
     let e : c.args.longer.now ≡ lengthened r.system more = c.requires.longer.1 ∙ ap (λ (t : LinearSystem). lengthened t more) (sym c.self.view_is) in
     let k = c.args.numbers.now in
-    let same : (x : ℕ) → x < length r.last.scales.items → scale_at k.scales.now x ≡ scale_at r.last.scales.items x =
+    let same : (x : ℕ) → x < length d.scales.items → scale_at k.scales.now x ≡ scale_at d.scales.items x =
     subst (λ (t : List ℕ). (x : ℕ) → x < length t → scale_at k.scales.now x ≡ scale_at t x) c.deref.ensures.value (c.begins_with.ensures c.if-not-begins_with.false)
     in
     let first : IsFirstLater r.system c.first_later.result = subst (λ (t : LinearSystem). IsFirstLater t c.first_later.result) (sym c.self.view_is) c.first_later.ensures in
-    subst (λ (t : LinearSystem). IsUnderwayWithin t k (lists_of c.set_lists.new.lists) (record r.last.place { first = c.first_later.result })) (sym e)
-    (within_longer r.system more r.last.scales.items (lists_of r.last.lists) r.last.place r.last.end c.self.invariant.kept c.height-height.result c.height.result c.height-height.ensures (c.height.ensures ∙ ap height e) (lists_of c.set_lists.new.lists) c.in_ok-set_lists.ensures.longer
+    subst (λ (t : LinearSystem). IsUnderwayWithin t k (lists_of c.set_lists.new.lists) (record d.place { first = c.first_later.result })) (sym e)
+    (within_longer r.system more d.scales.items (lists_of d.lists) d.place d.end kept.kept c.height-height.result c.height.result c.height-height.ensures (c.height.ensures ∙ ap height e) (lists_of c.set_lists.new.lists) c.in_ok-set_lists.ensures.longer
     c.position_theorems.ensures c.first_later.result first k (subst (λ (t : LinearSystem). AreNumbers t k) e c.requires.numbers) same)
 
 pub judge_on-requires-clause-lists : goal.judge_on-requires-clause-lists
 judge_on-requires-clause-lists c =
     let r = c.self.inside in
+    let d = c.last-last.result.now in
+    let kept : AreKept r.system d.scales.items d.lists d.place d.end = subst (λ (t : LinearSystem). AreKept t d.scales.items d.lists d.place d.end) (sym c.self.view_is) c.last-last.ensures in
     let more : List Row = c.requires.longer.0 in
     let e : c.args.longer.now ≡ lengthened r.system more = c.requires.longer.1 ∙ ap (λ (t : LinearSystem). lengthened t more) (sym c.self.view_is) in
-    subst (λ (t : LinearSystem). AreListsOf t r.last.place.own (lists_of c.set_wide_lists.new.lists)) (sym e)
-    (lists_longer r.system more r.last.scales.items (lists_of r.last.lists) r.last.place r.last.end c.self.invariant.kept c.height-height.result c.height-2.result c.height-height.ensures (c.height-2.ensures ∙ ap height e) (lists_of c.set_wide_lists.new.lists) c.in_ok-set_wide_lists.ensures)
+    subst (λ (t : LinearSystem). AreListsOf t d.place.own (lists_of c.set_wide_lists.new.lists)) (sym e)
+    (lists_longer r.system more d.scales.items (lists_of d.lists) d.place d.end kept.kept c.height-height.result c.height-2.result c.height-height.ensures (c.height-2.ensures ∙ ap height e) (lists_of c.set_wide_lists.new.lists) c.in_ok-set_wide_lists.ensures)
 
 pub judge_on-requires-clause-start : goal.judge_on-requires-clause-start
 judge_on-requires-clause-start c =
     let r = c.self.inside in
+    let d = c.last-last.result.now in
+    let kept : AreKept r.system d.scales.items d.lists d.place d.end = subst (λ (t : LinearSystem). AreKept t d.scales.items d.lists d.place d.end) (sym c.self.view_is) c.last-last.ensures in
     let more : List Row = c.requires.longer.0 in
     let e : c.args.longer.now ≡ lengthened r.system more = c.requires.longer.1 ∙ ap (λ (t : LinearSystem). lengthened t more) (sym c.self.view_is) in
     let k = c.args.numbers.now in
-    let same : (x : ℕ) → x < length r.last.scales.items → scale_at k.scales.now x ≡ scale_at r.last.scales.items x =
+    let same : (x : ℕ) → x < length d.scales.items → scale_at k.scales.now x ≡ scale_at d.scales.items x =
     subst (λ (t : List ℕ). (x : ℕ) → x < length t → scale_at k.scales.now x ≡ scale_at t x) c.deref.ensures.value (c.begins_with.ensures c.if-not-begins_with.false)
     in
     let first : IsFirstLater r.system c.first_later.result = subst (λ (t : LinearSystem). IsFirstLater t c.first_later.result) (sym c.self.view_is) c.first_later.ensures in
-    subst (λ (t : LinearSystem). IsUnderwayWithRoom t k (lists_of c.set_wide_lists.new.lists) (record r.last.place { first = c.first_later.result })) (sym e)
-    (room_longer r.system more r.last.scales.items (lists_of r.last.lists) r.last.place r.last.end c.self.invariant.kept c.height-height.result c.height-2.result c.height-height.ensures (c.height-2.ensures ∙ ap height e) (lists_of c.set_wide_lists.new.lists) c.in_ok-set_wide_lists.ensures
+    subst (λ (t : LinearSystem). IsUnderwayWithRoom t k (lists_of c.set_wide_lists.new.lists) (record d.place { first = c.first_later.result })) (sym e)
+    (room_longer r.system more d.scales.items (lists_of d.lists) d.place d.end kept.kept c.height-height.result c.height-2.result c.height-height.ensures (c.height-2.ensures ∙ ap height e) (lists_of c.set_wide_lists.new.lists) c.in_ok-set_wide_lists.ensures
     c.position_theorems.ensures c.first_later.result first k (subst (λ (t : LinearSystem). AreNumbers t k) e c.requires.numbers) same)
 
 pub run_on-requires-clause-short : goal.run_on-requires-clause-short
-run_on-requires-clause-short c = c.in_ok-set_lists.ensures.small c.self.invariant.short
+run_on-requires-clause-short c = c.in_ok-set_lists.ensures.small c.last-last.ensures.short

@@ -6,7 +6,7 @@ use Rattle.mpc_whole.specs.declared.whole.Ending.TheVariants.{Refuted}
 use Rattle.mpc_whole.specs.declared.judged.WidePlace.{WidePlace}
 use Rattle.mpc_whole.specs.Lists.{Listed}
 use Rattle.mpc_beginnings.specs.RunLists.{lists_of}
-use Rattle.mpc_beginnings.specs.Kept.{IsKept}
+use Rattle.mpc_beginnings.specs.Kept.{IsKept, AreKept}
 use Rattle.mpc_beginnings.proofs.kept.KeptRun.multipliers.Goals as goal
 
 kept_refuted : (s : LinearSystem) (k : List ℕ) (l : Listed) (p : WidePlace) (end : Ending) → IsKept s k l p end → (scales : List ℕ) → scales ≡ k → (x : ℕ) → turn s (last_position s) ≡ is_refuted x → IsKept s scales l p (Refuted x)
@@ -21,7 +21,9 @@ kept_refuted s k l p end z scales e x t =
 pub multipliers_of-requires-clause-kept : goal.multipliers_of-requires-clause-kept
 multipliers_of-requires-clause-kept c =
     let r = c.self.inside in
+    let d = c.last.result.now in
+    let kept : AreKept r.system d.scales.items d.lists d.place d.end = subst (λ (t : LinearSystem). AreKept t d.scales.items d.lists d.place d.end) (sym c.self.view_is) c.last.ensures in
     let m = c.numbers_of-numbers.result in
-    let same : m.scales.now ≡ r.last.scales.items = search rules in
+    let same : m.scales.now ≡ d.scales.items = search rules in
     let ends : turn r.system (last_position r.system) ≡ is_refuted c.args.l = subst (λ (t : LinearSystem). turn t (last_position t) ≡ is_refuted c.args.l) (sym c.self.view_is) c.requires in
-    record { kept = kept_refuted r.system r.last.scales.items (lists_of r.last.lists) r.last.place r.last.end c.self.invariant.kept m.scales.now same c.args.l ends; short = c.self.invariant.short }
+    record { kept = kept_refuted r.system d.scales.items (lists_of d.lists) d.place d.end kept.kept m.scales.now same c.args.l ends; short = kept.short }
