@@ -18,7 +18,7 @@ mod theorems;
 pub use beginnings::{Beginning, Broken};
 pub use mpc_beginnings::Workspace;
 use mpc_rows::{Multipliers, PairPoint, System, system_theorems};
-use run::run_end;
+use run::{fraction_end, run_end};
 use std::alloc::Global;
 pub use theorems::{run_theorems, zero_test};
 use thiserror::Error;
@@ -62,4 +62,20 @@ pub fn decide(alloc: Global, system: &System) -> Result<Decision, SimplexError>
     let _ = &system.rows;
     system_theorems();
     run_end(alloc, system)
+}
+
+/// The same as [`decide`], by a run in fractions alone: for a system whose run in whole numbers was tried before and didn't serve.
+pub fn decide_in_fractions(alloc: Global, system: &System) -> Result<Decision, SimplexError>
+    ensures point { IfOk result (λ d. IfPoint d (IsPairPoint system.now)) }
+    ensures has_point { IfOk result (λ d. IfPoint d (λ _. HasPoint system.now)) }
+    ensures refuted { IfOk result (λ d. IfRefuted d (Refutes system.now)) }
+    ensures no_point { IfOk result (λ d. IfRefuted d (λ _. ¬ HasPoint system.now)) }
+
+    // The answer is that of the stated run.
+    ensures end { IfOk result (λ d. IsRunEnd system.now d) }
+    ensures wide { MatchResult result (λ _. RunFits system.now) (λ e. IfWide e (¬ RunFits system.now)) }
+{
+    let _ = &system.rows;
+    system_theorems();
+    fraction_end(alloc, system)
 }

@@ -323,23 +323,16 @@ fn opening_entries(alloc: Global, system: &System) -> Result<Vec<Frac>, AllocErr
     Ok(entries)
 }
 
-/// The run's end: in whole numbers where they serve for it, else in fractions. Each takes its memory
-/// before its first step.
+/// The run's end, in fractions, which take all their memory before the first step.
 ///
 /// More entries than a list can hold are more than there is memory for.
-pub(crate) fn run_end(alloc: Global, system: &System) -> Result<Decision, SimplexError>
+pub(crate) fn fraction_end(alloc: Global, system: &System) -> Result<Decision, SimplexError>
     ensures end { IfOk result (λ d. IsRunEnd system.now d) }
     ensures wide { MatchResult result (λ _. RunFits system.now) (λ e. IfWide e (¬ RunFits system.now)) }
 {
     let Some(variables) = system.unknowns().checked_add(system.height()) else {
         return Err(SimplexError::NoMemory);
     };
-    match whole_end(alloc, system) {
-        Ok(Some(End::Point(point))) => return Ok(Decision::Point(point)),
-        Ok(Some(End::Refuted(multipliers))) => return Ok(Decision::Refuted(multipliers)),
-        Ok(None) => {}
-        Err(_) => return Err(SimplexError::NoMemory),
-    }
     let Some(_) = system.unknowns().checked_mul(system.height()) else {
         return Err(SimplexError::NoMemory);
     };
@@ -355,5 +348,19 @@ pub(crate) fn run_end(alloc: Global, system: &System) -> Result<Decision, Simple
     match run(system, seats, entries, room, variables) {
         Ok(decision) => Ok(decision),
         Err(_) => Err(SimplexError::Wide),
+    }
+}
+
+/// The run's end: in whole numbers where they serve for it, else in fractions. Each takes its memory
+/// before its first step.
+pub(crate) fn run_end(alloc: Global, system: &System) -> Result<Decision, SimplexError>
+    ensures end { IfOk result (λ d. IsRunEnd system.now d) }
+    ensures wide { MatchResult result (λ _. RunFits system.now) (λ e. IfWide e (¬ RunFits system.now)) }
+{
+    match whole_end(alloc, system) {
+        Ok(Some(End::Point(point))) => Ok(Decision::Point(point)),
+        Ok(Some(End::Refuted(multipliers))) => Ok(Decision::Refuted(multipliers)),
+        Ok(None) => fraction_end(alloc, system),
+        Err(_) => Err(SimplexError::NoMemory),
     }
 }

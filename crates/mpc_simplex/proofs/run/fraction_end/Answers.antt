@@ -2,8 +2,8 @@ use Rattle.std.proofs.Common.{◌≡◌, ◌∙◌, ◌+◌, ◌*◌, ◌<◌, �
 use Rattle.mpc_rows.specs.LinearSystem.{height}
 use Rattle.mpc_runs.proofs.Seats.{opening_seated}
 use Rattle.mpc_runs.proofs.Steps.{opens}
-use Rattle.mpc_simplex.proofs.run.run_end.Goals as goal
-use Rattle.mpc_simplex.proofs.run.run_end.Goals.{In-Some}
+use Rattle.mpc_simplex.proofs.run.fraction_end.Goals as goal
+use Rattle.mpc_simplex.proofs.run.fraction_end.Goals.{In-Some}
 
 whole : (c : In-Some) → c.in-Some.n ≡ c.args.system.now.width + height c.args.system.now
 whole c = c.in-Some.ensures.1 ∙ (λ i. c.unknowns.ensures i + c.height.ensures i)
