@@ -1,11 +1,14 @@
-//! A pivot in whole numbers out of which a common divisor is taken.use mpc_quotients::{Divisor, WideDivisor, are_short, divide_all, goes_into, positive, product_of, small_quotient, wide_difference, wide_quotient, wide_turned, widened};
-
+//! A pivot in whole numbers out of which a common divisor is taken.
 ghost use Rattle.std.specs.Prelude.{◌≡◌, ℕ, ℤ, List, pos, ◌+◌, ◌*◌, ◌<◌, ◌≤◌, ◌⊎◌, ◌+ℤ◌, ◌*ℤ◌, ◌^◌, neg_ℤ, unsigned_abs, IfSome, IsTrue, length};
 ghost use Rattle.mpc_whole.specs.Whole.{IsChanged};
 ghost use Rattle.mpc_scaled.specs.Scaled.{whole_at, whole_cell, IsSmall};
 ghost use Rattle.mpc_whole.specs.Judged.{IsTimes, IsReducedPivot};
 
 use mpc_frac::greatest_common_divisor;
+use mpc_quotients::{
+    Divisor, WideDivisor, are_short, divide_all, goes_into, positive, product_of, small_quotient,
+    wide_difference, wide_quotient, wide_turned, widened,
+};
 
 /// The largest number of 64 bits.
 const LONGEST: u128 = u64::MAX as u128;
