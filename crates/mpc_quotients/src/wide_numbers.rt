@@ -149,7 +149,7 @@ fn short_column_value(a: &[i64], i: usize, v: &[i128], width: usize, c: usize) -
     requires square { length v.now ≡ width * width }
     requires column { c < width }
     requires room { HasRoom width (2 ^ 62) a.now }
-    requires small { IsSmall (2 ^ 62) v.now }
+    requires small { (j : ℕ) → unsigned_abs (whole_cell width v.now j c) ≤ 2 ^ 62 }
     ensures { result ≡ whole_total width (λ j. whole_cell width a.now i j *ℤ whole_cell width v.now j c) }
 {
     let from = i * width;
@@ -161,8 +161,8 @@ fn short_column_value(a: &[i64], i: usize, v: &[i128], width: usize, c: usize) -
     total
 }
 
-/// The row i of a times the column c of v, where neither its numbers nor the sum are tested if they are known to be
-/// short.
+/// The row i of a times the column c of v, where neither the column's numbers nor the sum are tested if they are known
+/// to be short.
 #[inline(always)]
 pub fn column_value(
     a: &[i64],
@@ -176,7 +176,7 @@ pub fn column_value(
     requires square { length v.now ≡ width * width }
     requires column { c < width }
     requires room { IsTrue short → HasRoom width (2 ^ 62) a.now }
-    requires short { IsTrue short → IsSmall (2 ^ 62) v.now }
+    requires short { IsTrue short → (j : ℕ) → unsigned_abs (whole_cell width v.now j c) ≤ 2 ^ 62 }
     ensures { IfSome result (λ z. z ≡ whole_total width (λ j. whole_cell width a.now i j *ℤ whole_cell width v.now j c)) }
 {
     if short {

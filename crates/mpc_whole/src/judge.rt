@@ -1,6 +1,6 @@
 //! Whether the sizes of the numbers at a position show that no operation of the stated run there is wide.
 
-ghost use Rattle.std.specs.Prelude.{◌≡◌, ℕ, ℤ, List, ◌+◌, ◌-◌, ◌*◌, ◌<◌, ◌≤◌, ◌^◌, IfSome, IsTrue, unsigned_abs, length};
+ghost use Rattle.std.specs.Prelude.{◌≡◌, ℕ, ℤ, List, ◌+◌, ◌-◌, ◌*◌, ◌<◌, ◌≤◌, ◌^◌, ◌*ℤ◌, IfSome, IsTrue, unsigned_abs, length};
 ghost use Rattle.mpc_rows.specs.LinearSystem.{height};
 ghost use Rattle.mpc_runs.specs.declared.variables.Seat.{Seat};
 ghost use Rattle.mpc_runs.specs.declared.variables.Seat.TheVariants.{Column};
@@ -156,8 +156,8 @@ fn column_top(v: &[i128], width: usize, c: usize) -> u128
     top
 }
 
-/// If no number of a side's row in the column c is above a limit in size. The numbers v aren't tested where they are
-/// known to be short.
+/// If no number of a side's row in the column c is above a limit in size. The numbers of the column aren't tested where
+/// they are known to be short.
 fn are_sides_within(
     system: &WholeSystem,
     a: &[i64],
@@ -169,7 +169,7 @@ fn are_sides_within(
     requires entries { length a.now ≡ height system.now * system.now.width }
     requires square { length v.now ≡ system.now.width * system.now.width }
     requires column { c < system.now.width }
-    requires short { IsTrue short → IsSmall (2 ^ 62) v.now }
+    requires short { IsTrue short → (j : ℕ) → unsigned_abs (whole_cell system.now.width v.now j c) ≤ 2 ^ 62 }
     requires room { IsTrue short → HasRoom system.now.width (2 ^ 62) a.now }
     ensures { IfSome result (λ _. (i : ℕ) → i < height system.now → unsigned_abs (side_cell system.now a.now v.now i c) ≤ limit) }
 {
@@ -205,7 +205,7 @@ pub(crate) fn greatest_scale(scales: &[u64]) -> u64
 }
 
 /// If no number of any row in the column c is above a limit in size. The rows of the sides are formed only where
-/// their norm doesn't show it, and the numbers v aren't tested where they are known to be short.
+/// their norm doesn't show it.
 fn is_column_within(
     system: &WholeSystem,
     a: &[i64],
@@ -213,14 +213,12 @@ fn is_column_within(
     c: usize,
     limit: u128,
     norm: u128,
-    short: bool,
 ) -> Option<()>
     requires entries { length a.now ≡ height system.now * system.now.width }
     requires square { length v.now ≡ system.now.width * system.now.width }
     requires column { c < system.now.width }
     requires norm { IsNorm system.now.width a.now norm }
-    requires short { IsTrue short → IsSmall (2 ^ 62) v.now }
-    requires room { IsTrue short → HasRoom system.now.width (2 ^ 62) a.now }
+    requires room { HasRoom system.now.width (2 ^ 62) a.now }
     ensures unknowns { IfSome result (λ _. (j : ℕ) → j < system.now.width → unsigned_abs (whole_cell system.now.width v.now j c) ≤ limit) }
     ensures sides { IfSome result (λ _. (i : ℕ) → i < height system.now → unsigned_abs (side_cell system.now a.now v.now i c) ≤ limit) }
 {
@@ -231,7 +229,10 @@ fn is_column_within(
     if top <= limit / norm {
         return Some(());
     }
-    are_sides_within(system, a, v, c, limit, short)
+    if top > 1 << 62 {
+        return are_sides_within(system, a, v, c, limit, false);
+    }
+    are_sides_within(system, a, v, c, limit, true)
 }
 
 /// If products show that the numbers of all rows in the column c, which is that of y, have room.
@@ -257,20 +258,18 @@ fn have_clear_room(
 }
 
 /// If the numbers of all rows at a position have room, as each column shows by itself. Only where products don't show
-/// it is it asked by divisions. The numbers v aren't tested where they are known to be short.
+/// it is it asked by divisions.
 fn judge_columns(
     seats: &[Seat],
     v: &[i128],
     system: &WholeSystem,
     frame: &JudgedFrame,
     by: Factors,
-    short: bool,
 ) -> Option<()>
     requires numbers { HasNumbers system.now frame.now.n frame.now.scales.now frame.now.a.now frame.now.b.now }
     requires norm { IsNorm system.now.width frame.now.a.now frame.now.norm }
     requires seated { IsSeated (height system.now) system.now.width frame.now.n seats.now }
     requires square { length v.now ≡ system.now.width * system.now.width }
-    requires short { IsTrue short → IsSmall (2 ^ 62) v.now }
     ensures unknowns { IfSome result (λ _. (j y c : ℕ) → j < system.now.width → y < frame.now.n → seat_at seats.now y ≡ Column c → HasRoomAt system.now frame.now.scales.now frame.now.b.now by.enters by.top by.size y (whole_cell system.now.width v.now j c)) }
     ensures sides { IfSome result (λ _. (i y c : ℕ) → i < height system.now → y < frame.now.n → seat_at seats.now y ≡ Column c → HasRoomAt system.now frame.now.scales.now frame.now.b.now by.enters by.top by.size y (side_cell system.now frame.now.a.now v.now i c)) }
 {
@@ -283,7 +282,7 @@ fn judge_columns(
             continue;
         }
         let limit = entry_limit(system, frame, by, y);
-        is_column_within(system, frame.a, v, c, limit, frame.norm, short)?;
+        is_column_within(system, frame.a, v, c, limit, frame.norm)?;
     }
     Some(())
 }
@@ -310,8 +309,7 @@ pub(crate) fn judge(
     if let Some(()) = have_common_room(system, frame, by, own) {
         return Some(());
     }
-    let short = own <= 1 << 62;
-    judge_columns(seats, v, system, frame, by, short)
+    judge_columns(seats, v, system, frame, by)
 }
 
 /// If the numbers of a position where no pivot is made, and its denominator, leave room for its values.

@@ -1,4 +1,5 @@
 //! A pivot in whole numbers out of which a common divisor is taken.
+
 ghost use Rattle.std.specs.Prelude.{◌≡◌, ℕ, ℤ, List, pos, ◌+◌, ◌*◌, ◌<◌, ◌≤◌, ◌⊎◌, ◌+ℤ◌, ◌*ℤ◌, ◌^◌, neg_ℤ, unsigned_abs, IfSome, IsTrue, length};
 ghost use Rattle.mpc_whole.specs.Whole.{IsChanged};
 ghost use Rattle.mpc_scaled.specs.Scaled.{whole_at, whole_cell, IsSmall};

@@ -19,14 +19,14 @@ term_is c =
     back128 _ c.product-term.type_inv ∙ both_back _ _ _ f h c.product-term.ensures ∙ (λ k. whole_cell c.args.width c.args.a.now c.args.i c.loop-j.j *ℤ (c.narrow.ensures ∙ to_z-of_z w128 _ g) k)
 
 pub sum-total-requires-clause-left : goal.sum-total-requires-clause-left
-sum-total-requires-clause-left c = old_room c.args.width (2 ^ 62) c.args.a.now c.args.i (λ j. whole_cell c.args.width c.args.v.now j c.args.c) c.requires.room (λ j. c.requires.small.each (j * c.args.width + c.args.c)) c.loop-j.j c.loop-j-test.true _ (pos 0) (pos 0) c.loop-j.invariant
+sum-total-requires-clause-left c = old_room c.args.width (2 ^ 62) c.args.a.now c.args.i (λ j. whole_cell c.args.width c.args.v.now j c.args.c) c.requires.room c.requires.small c.loop-j.j c.loop-j-test.true _ (pos 0) (pos 0) c.loop-j.invariant
 
 pub sum-total-requires-clause-right : goal.sum-total-requires-clause-right
 sum-total-requires-clause-right c =
     let at = goal.at.sum-total-requires-clause-right c in
-    term_room c.args.width (2 ^ 62) c.args.a.now c.args.i (λ j. whole_cell c.args.width c.args.v.now j c.args.c) c.requires.room (λ j. c.requires.small.each (j * c.args.width + c.args.c)) c.loop-j.j c.loop-j-test.true _ _ (pos 0) c.loop-j.invariant (term_is at.After-product-term)
+    term_room c.args.width (2 ^ 62) c.args.a.now c.args.i (λ j. whole_cell c.args.width c.args.v.now j c.args.c) c.requires.room c.requires.small c.loop-j.j c.loop-j-test.true _ _ (pos 0) c.loop-j.invariant (term_is at.After-product-term)
 
 pub loop-j-preserved : goal.loop-j-preserved
 loop-j-preserved c =
     let at = goal.at.loop-j-preserved c in
-    next_total c.args.width (2 ^ 62) c.args.a.now c.args.i (λ j. whole_cell c.args.width c.args.v.now j c.args.c) c.requires.room (λ j. c.requires.small.each (j * c.args.width + c.args.c)) c.loop-j.j c.loop-j-test.true _ _ _ c.loop-j.invariant (term_is at.After-product-term) (back128 _ c.sum-total.type_inv ∙ c.sum-total.ensures)
+    next_total c.args.width (2 ^ 62) c.args.a.now c.args.i (λ j. whole_cell c.args.width c.args.v.now j c.args.c) c.requires.room c.requires.small c.loop-j.j c.loop-j-test.true _ _ _ c.loop-j.invariant (term_is at.After-product-term) (back128 _ c.sum-total.type_inv ∙ c.sum-total.ensures)

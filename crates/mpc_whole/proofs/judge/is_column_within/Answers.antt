@@ -1,4 +1,6 @@
-use Rattle.std.proofs.Common.{ℕ, ◌*◌, ◌<◌, ◌≤◌, unsigned_abs, subst, arith, le_trans}
+use Rattle.std.proofs.Common.{ℕ, ◌≡◌, ◌+◌, ◌*◌, ◌^◌, ◌<◌, ◌≤◌, ◌⊎◌, inl, inr, List, ℤ, pos, length, unsigned_abs, sym, subst, arith, le_trans, mul-le-mul_right}
+use Rattle.std.proofs.lemmas.Bool.{cases_lt, false≢true}
+use Rattle.std.proofs.lemmas.List.{get_or_past}
 use Rattle.mpc_scaled.specs.Scaled.{whole_cell}
 use Rattle.mpc_whole.proofs.Judges.{within_share}
 use Rattle.mpc_whole.proofs.WholeForm.{column_norm}
@@ -12,3 +14,24 @@ returns-then-top-limit-2-clause-sides c = λ i h.
     let some : 0 < c.args.norm = (let q = c.requires.norm.some in omega arith) in
     let share : top * c.args.norm ≤ c.args.limit = within_share c.args.limit c.args.norm top some c.if-top-limit-2.true in
     le_trans (column_norm s c.args.a.now c.args.v.now c.args.norm top c.requires.norm c.args.c below i) (omega arith)
+
+-- what is past the end of a column is 0
+column_small : (w : ℕ) (v : List ℤ) (c m : ℕ) → length v ≡ w * w → ((j : ℕ) → j < w → unsigned_abs (whole_cell w v j c) ≤ m) → (j : ℕ) → unsigned_abs (whole_cell w v j c) ≤ m
+column_small w v c m square h j = by (cases_lt j w)
+  where
+    by : (j < w) ⊎ (w ≤ j) → unsigned_abs (whole_cell w v j c) ≤ m
+    by (inl l) = h j l
+    by (inr l) = let r : w * w ≤ j * w = mul-le-mul_right w l in subst (λ u. unsigned_abs u ≤ m) (sym (get_or_past v (j * w + c) (pos 0) (omega arith))) (omega arith)
+
+pub are_sides_within-requires-clause-short : goal.are_sides_within-requires-clause-short
+are_sides_within-requires-clause-short c = λ t. absurd (false≢true t)
+
+pub are_sides_within-requires-clause-room : goal.are_sides_within-requires-clause-room
+are_sides_within-requires-clause-room c = λ _. c.requires.room
+
+pub are_sides_within-requires-2-clause-short : goal.are_sides_within-requires-2-clause-short
+are_sides_within-requires-2-clause-short c = λ _. column_small c.args.system.now.width c.args.v.now c.args.c (2 ^ 62) c.requires.square
+    (λ j h. let s = c.column_top-top.ensures j (subst (λ w. j < w) (sym c.unknowns.ensures) h) in subst (λ w. unsigned_abs (whole_cell w c.args.v.now j c.args.c) ≤ 2 ^ 62) c.unknowns.ensures (omega arith))
+
+pub are_sides_within-requires-2-clause-room : goal.are_sides_within-requires-2-clause-room
+are_sides_within-requires-2-clause-room c = λ _. c.requires.room

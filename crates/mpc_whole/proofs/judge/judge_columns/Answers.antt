@@ -63,4 +63,4 @@ loop-y-preserved c =
     }
 
 pub is_column_within-requires-clause-room : goal.is_column_within-requires-clause-room
-is_column_within-requires-clause-room c = λ _. c.requires.numbers.room
+is_column_within-requires-clause-room c = c.requires.numbers.room
