@@ -5,5 +5,5 @@ use Rattle.mpc_simplex.proofs.nonbasic.nonbasic_sides.Given as goal
 abbrev pub invariant-loop-side : goal.invariant-loop-side
 invariant-loop-side l = record {
   within : l.count ≤ length l.list;
-  sides : AreNonbasicSides l.system.width l.y l.seats (take l.count l.list);
+  sides : AreNonbasicSides l.system.width l.side l.seats (take l.count l.list);
 }

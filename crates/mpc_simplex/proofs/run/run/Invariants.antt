@@ -7,7 +7,7 @@ use Rattle.mpc_simplex.proofs.run.run.Given as goal
 abbrev pub invariant-steps : goal.invariant-steps
 invariant-steps l = record {
   going : Going l.system (position_of l.system.width l.seats.items l.entries.items);
-  table : IsTable l.system l.n l.seats.items l.entries.items;
+  table : IsTable l.system l.variables l.seats.items l.entries.items;
   row : length l.row.items ≡ l.system.width;
   sides : length l.sides.items ≡ l.system.width;
   values : length l.values.items ≡ l.system.width;

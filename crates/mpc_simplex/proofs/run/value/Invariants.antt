@@ -8,7 +8,7 @@ use Rattle.mpc_simplex.proofs.run.value.Given as goal
 
 abbrev pub invariant-loop-side : goal.invariant-loop-side
 invariant-loop-side l = record {
-  first : l.first ≡ total (reached l.n l.sides l.side-index) (first_terms l.system (position_of l.system.width l.seats l.entries) l.x);
-  second : l.second ≡ total (reached l.n l.sides l.side-index) (second_terms l.system (position_of l.system.width l.seats l.entries) l.x);
-  fits : (z : ℕ) → z < reached l.n l.sides l.side-index → (position_of l.system.width l.seats l.entries).is_basic z ≡ false → TermFits l.system (position_of l.system.width l.seats l.entries) l.x z;
+  first : l.first ≡ total (reached l.variables l.sides l.side-index) (first_terms l.system (position_of l.system.width l.seats l.entries) l.basic);
+  second : l.second ≡ total (reached l.variables l.sides l.side-index) (second_terms l.system (position_of l.system.width l.seats l.entries) l.basic);
+  fits : (z : ℕ) → z < reached l.variables l.sides l.side-index → (position_of l.system.width l.seats l.entries).is_basic z ≡ false → TermFits l.system (position_of l.system.width l.seats l.entries) l.basic z;
 }

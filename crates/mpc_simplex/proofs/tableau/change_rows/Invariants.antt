@@ -3,4 +3,4 @@ use Rattle.mpc_simplex.proofs.Cells.{RowsSo}
 use Rattle.mpc_simplex.proofs.tableau.change_rows.Given as goal
 
 abbrev pub invariant-loop-target : goal.invariant-loop-target
-invariant-loop-target l = RowsSo l.width l.initial.entries l.entries (row_at l.row) l.l l.e l.r
+invariant-loop-target l = RowsSo l.width l.initial.entries l.entries (row_at l.row) l.pivot_row l.pivot_column l.target

@@ -4,6 +4,6 @@ use Rattle.mpc_simplex.proofs.tableau.own_row.Given as goal
 
 abbrev pub invariant-loop-column : goal.invariant-loop-column
 invariant-loop-column l = record {
-  cells : (z : ℕ) → z < l.c → row_at l.row z ≡ own_cell l.width l.entries l.l l.e z;
-  fits : (z : ℕ) → z < l.c → (z ≡ l.e → ⊥) → QuotientFits l.width l.entries l.l l.e z;
+  cells : (z : ℕ) → z < l.column → row_at l.row z ≡ own_cell l.width l.entries l.pivot_row l.pivot_column z;
+  fits : (z : ℕ) → z < l.column → (z ≡ l.pivot_column → ⊥) → QuotientFits l.width l.entries l.pivot_row l.pivot_column z;
 }
