@@ -2,7 +2,7 @@ use Rattle.std.proofs.Common.{◌≡◌, ◌∙◌, ◌<◌, ◌*ℤ◌, ap, ari
 use Rattle.std.specs.Int.{w64, w128}
 use Rattle.std.proofs.lemmas.Int.{to_z-of_z}
 use Rattle.mpc_scaled.specs.Scaled.{whole_at}
-use Rattle.mpc_whole.proofs.WholeSteps.{set_above, set_bound, set_product}
+use Rattle.mpc_runs.proofs.WholeLists.{set_above, set_bound, set_product}
 use Rattle.mpc_whole.proofs.reduced.divide_first.Goals as goal
 
 pub loop-j-preserved : goal.loop-j-preserved

@@ -3,7 +3,7 @@ use Rattle.std.specs.Int.{w128}
 use Rattle.std.proofs.lemmas.Bool.{cases_eq}
 use Rattle.std.proofs.lemmas.Int.{to_z-of_z}
 use Rattle.mpc_scaled.specs.Scaled.{whole_at}
-use Rattle.mpc_whole.proofs.WholeSteps.{set_above, set_same, set_other}
+use Rattle.mpc_runs.proofs.WholeLists.{set_above, set_same, set_other}
 use Rattle.mpc_whole.proofs.reduced.divide_others.Goals as goal
 
 -- what is to hold of the numbers from a place on below j, and now also of that at j

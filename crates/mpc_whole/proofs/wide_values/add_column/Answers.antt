@@ -3,7 +3,7 @@ use Rattle.std.specs.Int.{w64, w128}
 use Rattle.std.proofs.lemmas.Int.{to_z-of_z}
 use Rattle.mpc_exact.proofs.IntRing.{int_reads, by_ring_ℤ}
 use Rattle.mpc_scaled.specs.Scaled.{whole_at, whole_cell}
-use Rattle.mpc_whole.proofs.WholeSteps.{set_above, set_below}
+use Rattle.mpc_runs.proofs.WholeLists.{set_above, set_below}
 use Rattle.mpc_whole.proofs.wide_values.add_column.Goals as goal
 
 turned_round : (x y : ℤ) → x *ℤ y ≡ y *ℤ x
