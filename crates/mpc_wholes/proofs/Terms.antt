@@ -27,4 +27,4 @@ term_fits total a b d e h k den sizes = record {
 }
 
 pub over_theorems : OverTheorems
-over_theorems = record { next = next_over; fits = term_fits }
+over_theorems = record { next = next_over; fits = term_fits; one = fits_over; both = fits_sum_over; sum = sum_over }

@@ -15,7 +15,7 @@ const WORD: u128 = u64::MAX as u128;
 
 /// The rest of a by b.
 #[inline]
-fn rest(a: u128, b: u128) -> u128
+pub fn rest(a: u128, b: u128) -> u128
     requires { 0 < b }
     ensures { result ≡ a % b }
 {
@@ -27,7 +27,7 @@ fn rest(a: u128, b: u128) -> u128
 
 /// How often b goes into a.
 #[inline]
-fn part(a: u128, b: u128) -> u128
+pub fn part(a: u128, b: u128) -> u128
     requires { 0 < b }
     ensures { result ≡ a / b }
 {

@@ -7,10 +7,11 @@ mod numerators;
 mod sums;
 mod theorems;
 
-pub use denominators::{common_in, common_multiple, common_of, denominator};
+pub use denominators::{common_in, common_multiple, common_of, denominator, part, rest};
 pub use numbers::Wholes;
 pub use numerators::{
-    column_over, numerator_over, over_one_denominator, rows_over, short_product, wholes_over,
+    column_over, numerator_over, over_multiple, over_one_denominator, rows_over, short_product,
+    wholes_over,
 };
 pub use sums::dot_from;
 pub use theorems::over_theorems;

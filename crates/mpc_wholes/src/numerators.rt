@@ -122,14 +122,23 @@ pub fn column_over(m: &Matrix, c: u32, den: u128, limit: u128) -> Option<Wholes>
     })
 }
 
+/// The fractions over one denominator, a multiple of the start, where it and the numerators are small enough.
+pub fn over_multiple(start: u128, xs: &[Frac]) -> Option<Wholes>
+    requires few { length xs.now ≤ 6 }
+    requires start { IsDenominator start }
+    ensures { IfSome result (IsOver xs.now) }
+{
+    let den = common_in(start, xs)?;
+    let numbers = wholes_over(xs, den, MOST)?;
+    Some(numbers)
+}
+
 /// The fractions over one denominator, where it and the numerators are small enough.
 pub fn over_one_denominator(xs: &[Frac]) -> Option<Wholes>
     requires { length xs.now ≤ 6 }
     ensures { IfSome result (IsOver xs.now) }
 {
-    let den = common_in(1, xs)?;
-    let numbers = wholes_over(xs, den, MOST)?;
-    Some(numbers)
+    over_multiple(1, xs)
 }
 
 /// The rows over this denominator, where that and the numerators are at most `limit` in size. `None` also where there is no memory.
