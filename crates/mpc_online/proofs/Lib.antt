@@ -29,7 +29,6 @@ pub mod Found
 pub mod MultiplierLists
 pub mod Turned
 pub mod Keeping
-pub mod WholeFits
 pub mod WholeDots
 pub mod WholeMoves
 pub mod WholePoints

@@ -1,7 +1,6 @@
 -- Sums of products with counts, over one denominator, whose sizes show that each operation on the way to them fits.
-use Rattle.std.proofs.Common.{◌≡◌, ℕ, zero, suc, ◌+◌, ◌*◌, ◌^◌, ◌<◌, ◌≤◌, List, [], ◌∷◌, length, get_or, Option, Some, None, IfSome, ℤ, pos, ◌+ℤ◌, ◌*ℤ◌, neg_ℤ, unsigned_abs, to_z, of_z, sym, ◌∙◌, ap, subst, subst₂, arith, lit<}
-use Rattle.std.specs.Int.{◌∣◌, w128}
-use Rattle.std.proofs.lemmas.Nat.Gcd.{dvd_trans}
+use Rattle.std.proofs.Common.{◌≡◌, ℕ, zero, suc, ◌+◌, ◌*◌, ◌^◌, ◌<◌, ◌≤◌, List, [], ◌∷◌, length, get_or, ℤ, pos, ◌+ℤ◌, ◌*ℤ◌, neg_ℤ, unsigned_abs, to_z, of_z, sym, ◌∙◌, ap, subst, subst₂, arith, lit<}
+use Rattle.std.specs.Int.{w128}
 use Rattle.std.proofs.lemmas.Int.{ints, fits_signed_from_abs, to_z-of_z}
 use Rattle.mpc_exact.specs.Rational.{ℚ, frac, int, ◌+ℚ◌, ◌-ℚ◌, ◌*ℚ◌, neg_ℚ}
 use Rattle.mpc_exact.proofs.Rational.{frac-mul, frac-neg}
@@ -10,23 +9,17 @@ use Rattle.mpc_frac.specs.Fits.{FitsFrac, FitsSum}
 use Rattle.mpc_space.specs.Vector.{coordinate, dot}
 use Rattle.mpc_linear.specs.SumTheorems.{SumTheorems, IsSumSoFar}
 use Rattle.mpc_bordered.specs.Stages.{ChangeFits}
-use Rattle.mpc_online.specs.Wholes.{AreDenomsIn}
+use Rattle.mpc_wholes.specs.OverTheorems.{OverTheorems}
 use Rattle.mpc_online.specs.Openings.{AreCountsTo, IsSmallSum}
 use Rattle.mpc_online.proofs.Quotients.{over_one}
 use Rattle.mpc_online.proofs.RowTests.{nothing_more}
-use Rattle.mpc_online.proofs.WholeFits.{abs-add, fits_over, fits_sum_over}
-use Rattle.mpc_online.proofs.WholeDots.{sum_over, zero_over, product_at_most}
+use Rattle.mpc_online.proofs.WholeDots.{abs-add, zero_over, product_at_most}
 
 -- the sum of the first k products is a number of at most this size over the denominator
 pub record IsSmallSoFar (all : ℕ) (xs c : List ℚ) (k t : ℕ) : Type 0 where
   pub numerator : ℤ
   pub size : unsigned_abs numerator ≤ t
   pub so_far : IsSumSoFar (int (pos 0)) xs c k (frac numerator all)
-
--- a multiple of a common denominator is one
-pub carried : (o : Option ℕ) (a : ℕ) (xs : List ℚ) → AreDenomsIn a xs → IfSome o (λ m. a ∣ m) → IfSome o (λ m. AreDenomsIn m xs)
-carried None a xs h e = tt
-carried (Some m) a xs h e = λ k d l. dvd_trans (get_or xs k d).denom (h k d l) e
 
 -- a small number is read back as it is
 pub read_small : (z : ℤ) → unsigned_abs z ≤ 2 ^ 124 → to_z w128 (of_z w128 z) ≡ z
@@ -38,7 +31,7 @@ count_read [] i x h e = absurd (omega arith)
 count_read (y ∷ xs) zero x h e = e
 count_read (y ∷ xs) (suc i) x h e = count_read xs i x (omega arith) e
 
-module _ (all : ℕ) (some : 0 < all) (few : all ≤ 2 ^ 124) where
+module _ (over : OverTheorems) (all : ℕ) (some : 0 < all) (few : all ≤ 2 ^ 124) where
   all_small : all < 2 ^ 127
   all_small = omega (arith, few)
 
@@ -65,10 +58,10 @@ module _ (all : ℕ) (some : 0 < all) (few : all ≤ 2 ^ 124) where
           size = omega (arith, room, abs-add g.numerator p);
           so_far = laws.more (int (pos 0)) xs c k (frac g.numerator all) (frac z all) (int (pos n)) (frac (g.numerator +ℤ p) all)
               (record { within_left = h; within_right = omega (arith, h, sizes, counts.size); left = sym is ∙ at; right = sym there.2 }) g.so_far
-              (sym (sum_over g.numerator p all some) ∙ ap (λ v. frac g.numerator all +ℚ v) (sym (term_is z n)))
+              (sym (over.sum g.numerator p all some) ∙ ap (λ v. frac g.numerator all +ℚ v) (sym (term_is z n)))
               (record {
-                product = subst FitsFrac (sym (term_is z n)) (fits_over p all some (omega (arith, room, bound)) all_small);
-                sum = subst (FitsSum (frac g.numerator all)) (sym (term_is z n)) (fits_sum_over g.numerator p all some (omega (arith, room, bound)) all_small);
+                product = subst FitsFrac (sym (term_is z n)) (over.one p all some (omega (arith, room, bound)) all_small);
+                sum = subst (FitsSum (frac g.numerator all)) (sym (term_is z n)) (over.both g.numerator p all some (omega (arith, room, bound)) all_small);
               });
         }
 
@@ -92,11 +85,11 @@ module _ (all : ℕ) (some : 0 < all) (few : all ≤ 2 ^ 124) where
       let less = a +ℤ neg_ℤ b in
       let less_size : unsigned_abs less ≤ unsigned_abs a + unsigned_abs b = omega (arith, abs-add a (neg_ℤ b), abs_neg b) in
       let less_is : frac less all ≡ dot old c -ℚ dot new c =
-      sym (sum_over a (neg_ℤ b) all some) ∙ (λ m. sym g.is m +ℚ (sym (frac-neg b all some) ∙ ap neg_ℚ (sym h.is)) m)
+      sym (over.sum a (neg_ℤ b) all some) ∙ (λ m. sym g.is m +ℚ (sym (frac-neg b all some) ∙ ap neg_ℚ (sym h.is)) m)
       in
       record {
-        quotient = subst FitsFrac (sym h.is) (fits_over b all some (omega (arith, b_size)) all_small);
-        product = subst FitsFrac less_is (fits_over less all some (omega (arith, less_size, a_size, b_size)) all_small);
+        quotient = subst FitsFrac (sym h.is) (over.one b all some (omega (arith, b_size)) all_small);
+        product = subst FitsFrac less_is (over.one less all some (omega (arith, less_size, a_size, b_size)) all_small);
         difference = subst₂ FitsSum (sym g.is) (sym (frac-neg less all some) ∙ ap neg_ℚ less_is)
-            (fits_sum_over a (neg_ℤ less) all some (omega (arith, less_size, a_size, b_size, abs_neg less)) all_small);
+            (over.both a (neg_ℤ less) all some (omega (arith, less_size, a_size, b_size, abs_neg less)) all_small);
       }

@@ -14,11 +14,12 @@ use Rattle.mpc_frac.specs.Fits.{FitsFrac, FitsSum}
 use Rattle.mpc_space.specs.Vector.{coordinate, vec_add, vec_scale}
 use Rattle.mpc_space.proofs.Entries.{coordinate-add, coordinate-scale, length-add, length-scale, length-listed, coordinate-listed, same_entries}
 use Rattle.mpc_linear.specs.Dot.{TermFits}
-use Rattle.mpc_online.specs.declared.prepared.Wholes.{Wholes}
-use Rattle.mpc_online.specs.Wholes.{IsOver, first_of}
+use Rattle.mpc_wholes.specs.declared.numbers.Wholes.{Wholes}
+use Rattle.mpc_wholes.specs.Wholes.{IsOver}
+use Rattle.mpc_wholes.specs.OverTheorems.{OverTheorems}
+use Rattle.mpc_online.specs.Wholes.{first_of}
 use Rattle.mpc_online.specs.Widths.{GrowsFit}
-use Rattle.mpc_online.proofs.WholeFits.{abs-add, grows, fits_over, fits_sum_over}
-use Rattle.mpc_online.proofs.WholeDots.{sum_over, product_at_most, number_at, read_wide, read_mag, fits_wide}
+use Rattle.mpc_online.proofs.WholeDots.{abs-add, grows, product_at_most, number_at, read_wide, read_mag, fits_wide}
 
 -- what a product with a positive value has
 factor_some : (d k n : ℕ) → d * k ≡ n → 0 < n → 0 < k
@@ -29,7 +30,7 @@ regrouped : (m p r : ℤ) → (p *ℤ m) *ℤ r ≡ m *ℤ (p *ℤ r)
 regrouped m p r = by_ring_ℤ (m ∷ p ∷ r ∷ []) (search int_reads depth 30) (search int_reads depth 30) tt
 
 -- ---- n / x and a multiple of m / d by s over one denominator
-module _ (n m : ℤ) (s : ℚ) (x d left right den : ℕ) (x_some : 0 < x) (d_some : 0 < d) (den_some : 0 < den) (of_x : x * left ≡ den) (of_d : (d * s.denom) * right ≡ den) where
+module _ (laws : OverTheorems) (n m : ℤ) (s : ℚ) (x d left right den : ℕ) (x_some : 0 < x) (d_some : 0 < d) (den_some : 0 < den) (of_x : x * left ≡ den) (of_d : (d * s.denom) * right ≡ den) where
   left_is : frac n x ≡ frac (n *ℤ pos left) den
   left_is = sym (ap (frac (n *ℤ pos left)) (sym of_x) ∙ frac_expand n x left x_some (factor_some x left den of_x den_some))
 
@@ -44,16 +45,16 @@ module _ (n m : ℤ) (s : ℚ) (x d left right den : ℕ) (x_some : 0 < x) (d_so
       ∙ (λ i. frac (regrouped m s.numer (pos right) i) (of_d i))
 
   pub moved_is : frac n x +ℚ s *ℚ frac m d ≡ frac (n *ℤ pos left +ℤ m *ℤ (s.numer *ℤ pos right)) den
-  moved_is = (λ i. left_is i +ℚ right_is i) ∙ sum_over (n *ℤ pos left) (m *ℤ (s.numer *ℤ pos right)) den den_some
+  moved_is = (λ i. left_is i +ℚ right_is i) ∙ laws.sum (n *ℤ pos left) (m *ℤ (s.numer *ℤ pos right)) den den_some
 
   pub moved_fits : unsigned_abs (n *ℤ pos left) ≤ 2 ^ 124 → unsigned_abs (m *ℤ (s.numer *ℤ pos right)) ≤ 2 ^ 124 → den ≤ 2 ^ 124 → TermFits (frac n x) s (frac m d)
   moved_fits a b c = record {
-    product = subst (λ z. FitsFrac z) (sym right_is) (fits_over (m *ℤ (s.numer *ℤ pos right)) den den_some (omega (arith, b)) (omega (arith, c)));
-    sum = subst₂ (λ u v. FitsSum u v) (sym left_is) (sym right_is) (fits_sum_over (n *ℤ pos left) (m *ℤ (s.numer *ℤ pos right)) den den_some (omega (arith, a, b)) (omega (arith, c)));
+    product = subst (λ z. FitsFrac z) (sym right_is) (laws.one (m *ℤ (s.numer *ℤ pos right)) den den_some (omega (arith, b)) (omega (arith, c)));
+    sum = subst₂ (λ u v. FitsSum u v) (sym left_is) (sym right_is) (laws.both (n *ℤ pos left) (m *ℤ (s.numer *ℤ pos right)) den den_some (omega (arith, a, b)) (omega (arith, c)));
   }
 
 -- ---- all entries
-module _ (x d : Wholes) (s : ℚ) (left right den : ℕ) (den_some : 0 < den) (of_x : x.den * left ≡ den) (of_d : (d.den * s.denom) * right ≡ den) (xs ds : List ℚ) (over_x : IsOver xs x) (over_d : IsOver ds d) (count : ℕ) (x_size : length xs ≡ count) (d_size : length ds ≡ count) where
+module _ (laws : OverTheorems) (x d : Wholes) (s : ℚ) (left right den : ℕ) (den_some : 0 < den) (of_x : x.den * left ≡ den) (of_d : (d.den * s.denom) * right ≡ den) (xs ds : List ℚ) (over_x : IsOver xs x) (over_d : IsOver ds d) (count : ℕ) (x_size : length xs ≡ count) (d_size : length ds ≡ count) where
   abbrev a : ℕ → ℤ
   a k = get_or x.numerators k (pos 0)
 
@@ -71,7 +72,7 @@ module _ (x d : Wholes) (s : ℚ) (left right den : ℕ) (den_some : 0 < den) (o
         let ld : k < length ds = omega (arith, lx, x_size, d_size) in
         coordinate-add xs (vec_scale s ds) k ∙ ap (λ u. coordinate xs k +ℚ u) (coordinate-scale s ds k)
         ∙ (λ i. over_x.entries k lx i +ℚ s *ℚ over_d.entries k ld i)
-        ∙ moved_is (a k) (b k) s x.den d.den left right den x.at_most.some d.at_most.some den_some of_x of_d
+        ∙ moved_is laws (a k) (b k) s x.den d.den left right den x.at_most.some d.at_most.some den_some of_x of_d
         ∙ (λ i. frac (sym (numerators k (omega (arith, lx, x_size))) i) (sym den_is i))
 
     pub moved_over : IsOver (vec_add xs (vec_scale s ds)) w
@@ -83,7 +84,7 @@ module _ (x d : Wholes) (s : ℚ) (left right den : ℕ) (den_some : 0 < den) (o
       let ax : unsigned_abs (a k *ℤ pos left) ≤ x.most * left = product_at_most (a k) (pos left) x.most left (number_at x.numerators x.most k x.at_most.numbers) (omega arith) in
       let bd : unsigned_abs (b k *ℤ (s.numer *ℤ pos right)) ≤ d.most * unsigned_abs (s.numer *ℤ pos right) = product_at_most (b k) (s.numer *ℤ pos right) d.most (unsigned_abs (s.numer *ℤ pos right)) (number_at d.numerators d.most k d.at_most.numbers) (omega arith) in
       subst₂ (λ u v. TermFits u s v) (sym (over_x.entries k h)) (sym (over_d.entries k ld))
-      (moved_fits (a k) (b k) s x.den d.den left right den x.at_most.some d.at_most.some den_some of_x of_d (omega (arith, ax, hx)) (omega (arith, bd, hd)) c)
+      (moved_fits laws (a k) (b k) s x.den d.den left right den x.at_most.some d.at_most.some den_some of_x of_d (omega (arith, ax, hx)) (omega (arith, bd, hd)) c)
 
 -- ---- what a common divisor leaves
 module _ (w : Wholes) (shared count : ℕ) (some : 0 < shared) (of_den : shared ∣ w.den) (v : Wholes) (den_is : v.den ≡ w.den / shared)

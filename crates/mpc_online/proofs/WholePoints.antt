@@ -7,12 +7,13 @@ use Rattle.mpc_space.proofs.Entries.{length-listed}
 use Rattle.mpc_linear.specs.Dot.{DotFits}
 use Rattle.mpc_rows.specs.ActiveSets.{row_of}
 use Rattle.mpc_rows.specs.declared.programs.Qp.{Qp}
-use Rattle.mpc_online.specs.declared.prepared.Wholes.{Wholes}
+use Rattle.mpc_wholes.specs.declared.numbers.Wholes.{Wholes}
 use Rattle.mpc_online.specs.declared.points.Point.{Point}
 use Rattle.mpc_online.specs.declared.points.Point.TheVariants.{Whole}
 use Rattle.mpc_online.specs.StateRows.{level, side, IsViolated}
 use Rattle.mpc_online.specs.Widths.{TestFits}
-use Rattle.mpc_online.specs.Wholes.{IsOver, AreRowsOver, entries_of}
+use Rattle.mpc_wholes.specs.Wholes.{IsOver}
+use Rattle.mpc_online.specs.Wholes.{AreRowsOver, entries_of}
 use Rattle.mpc_online.proofs.Filled.{entry_read}
 use Rattle.mpc_online.proofs.WholeMoves.{first_over}
 

@@ -6,7 +6,6 @@ pub mod Widths
 pub mod OnlineRun
 pub mod Standing
 pub mod Answers
-pub mod Sizes
 pub mod Wholes
 pub mod Openings
 pub mod Shared

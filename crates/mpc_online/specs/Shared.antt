@@ -11,7 +11,8 @@ use Rattle.mpc_rows.specs.SetRuns.{law_matrix}
 use Rattle.mpc_online.specs.StateRows.{level}
 use Rattle.mpc_online.specs.Positions.{right_matrix, step_side, upper_part, lower_part}
 use Rattle.mpc_online.specs.Widths.{EliminationFits}
-use Rattle.mpc_online.specs.Wholes.{IsOver, AreRowsOver}
+use Rattle.mpc_wholes.specs.Wholes.{IsOver}
+use Rattle.mpc_online.specs.Wholes.{AreRowsOver}
 use Rattle.mpc_online.specs.Openings.{IsOpeningOf}
 use Rattle.mpc_online.specs.declared.prepared.Direction.{Direction}
 use Rattle.mpc_online.specs.declared.prepared.KeptDirection.{KeptDirection}

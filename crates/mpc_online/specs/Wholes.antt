@@ -1,21 +1,12 @@
--- Fractions over one denominator.
-use Rattle.std.specs.Prelude.{◌≡◌, ℕ, ◌<◌, ◌≤◌, pos, List, [], length, get_or, All, Option, None, IfSome}
-use Rattle.std.specs.Int.{◌∣◌}
+-- Rows and points over one denominator each.
+use Rattle.std.specs.Prelude.{◌≡◌, ℕ, ◌<◌, pos, List, [], length, get_or, Option, None, IfSome}
 use Rattle.mpc_exact.specs.Rational.{ℚ, frac}
-use Rattle.mpc_space.specs.Vector.{coordinate, listed}
+use Rattle.mpc_space.specs.Vector.{listed}
 use Rattle.mpc_space.specs.Matrix.{RationalMatrix, height}
-use Rattle.mpc_online.specs.declared.prepared.Wholes.{Wholes}
+use Rattle.mpc_wholes.specs.declared.numbers.Wholes.{Wholes}
+use Rattle.mpc_wholes.specs.Wholes.{IsOver}
 use Rattle.mpc_online.specs.declared.points.Point.{Point}
 use Rattle.mpc_online.specs.declared.points.Point.TheVariants.{Whole, Apart}
-
--- each denominator divides n
-abbrev pub AreDenomsIn : ℕ → List ℚ → Type 0
-AreDenomsIn n xs = All (λ (x : ℚ). x.denom ∣ n) xs
-
--- the fractions are the first numerators over the denominator
-pub record IsOver (xs : List ℚ) (w : Wholes) : Type 0 where
-  pub few : length xs ≤ length w.numerators
-  pub entries : (k : ℕ) → k < length xs → coordinate xs k ≡ frac (get_or w.numerators k (pos 0)) w.den
 
 -- each row of a matrix over one denominator, or nothing
 pub record AreRowsOver (m : RationalMatrix) (rows : List (Option Wholes)) : Type 0 where

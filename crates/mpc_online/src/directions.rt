@@ -19,12 +19,13 @@ use crate::opening::opening_of;
 use crate::prepared::{Direction, KeptDirection, Prepared};
 use crate::shared::shared_table;
 use crate::solutions::{Stop, dot_of, part, solution};
-use crate::wholes::{over_one_denominator, whole_rows};
+use crate::wholes::whole_rows;
 use mpc_bordered::{Kept, keep, solve_part};
 use mpc_frac::{Frac, NoMemory};
 use mpc_linear::{LinearError, Matrix, Solved};
 use mpc_rows::{Qp, law_theorems};
 use mpc_sets::ActiveSet;
+use mpc_wholes::over_one_denominator;
 use std::alloc::{AllocError, AllocFailed, Global};
 
 /// So many directions are kept at most.
@@ -176,7 +177,7 @@ fn found_direction(
         Err(Stop::NoMemory) => return Err(Stop::NoMemory),
     };
     let point = part(alloc, &x, 0, qp.h.rows())?;
-    let whole = over_one_denominator(&point, 1);
+    let whole = over_one_denominator(&point);
     let multipliers = part(alloc, &x, qp.h.rows(), set.size())?;
     let slope = slope_of(qp, &point, row);
     Ok(KeptDirection {

@@ -4,7 +4,8 @@ ghost use Rattle.std.specs.Prelude.{◌≡◌, ◌≤◌, ◌<◌, IfOk, IfSome,
 ghost use Rattle.mpc_space.specs.Vector.{vec_add, vec_scale};
 ghost use Rattle.mpc_online.specs.Positions.{along, without_place, joined, place_of};
 ghost use Rattle.mpc_online.specs.Widths.{GrowsFit, MoveFits};
-ghost use Rattle.mpc_online.specs.Wholes.{IsOver, entries_of};
+ghost use Rattle.mpc_wholes.specs.Wholes.{IsOver};
+ghost use Rattle.mpc_online.specs.Wholes.{entries_of};
 ghost use Rattle.mpc_online.specs.Answers.{IfStopWide, position_of};
 
 use crate::points::{Point, fractions, point_of};

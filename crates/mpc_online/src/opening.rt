@@ -7,37 +7,35 @@ ghost use Rattle.mpc_space.specs.Definite.{IsDefinite};
 ghost use Rattle.mpc_space.specs.Matrix.{height};
 ghost use Rattle.mpc_linear.specs.Dot.{DotFits};
 ghost use Rattle.mpc_bordered.specs.Stages.{ChangeFits};
+ghost use Rattle.mpc_wholes.specs.Wholes.{IsDenominator};
 ghost use Rattle.mpc_online.specs.Widths.{ProductsFit};
-ghost use Rattle.mpc_online.specs.Wholes.{AreDenomsIn, AreRowsOver, entries_of};
+ghost use Rattle.mpc_online.specs.Wholes.{AreRowsOver, entries_of};
 ghost use Rattle.mpc_online.specs.Shared.{IsKeptOf};
 ghost use Rattle.mpc_online.specs.Openings.{AreCountsTo, IsSmallSum, AreExtendedCounts, IsFirstPoint, PointFits, AreOpeningForms, IsOpeningOf};
 ghost use Rattle.mpc_online.specs.Answers.{IfStopWide};
 
 use crate::matrices::opening_right;
 use crate::points::{Point, point_of};
-use crate::prepared::{Opening, Wholes};
+use crate::prepared::Opening;
 use crate::solutions::{Stop, part, products, solution};
 use crate::whole_moves::lowest;
-use crate::wholes::{
-    common_denominator, common_multiple, grown_size, numerator_over, products_in_wholes,
-    shared_denominator, whole_rows,
-};
+use crate::wholes::{grown_size, products_in_wholes, whole_rows};
 use mpc_bordered::{Kept, combined_theorems, first_stage, next_stage};
 use mpc_frac::{Frac, NoMemory};
 use mpc_linear::{Matrix, sum_theorems};
 use mpc_rows::{Counts, Qp};
 use mpc_sets::ActiveSet;
+use mpc_wholes::{Wholes, common_in, common_of, numerator_over, over_theorems};
 use std::alloc::{AllocError, Global};
 
 /// Whether the sum of the products with counts up to these is small over the denominator, and so each sum on the way to it.
 fn is_small_sum(xs: &[Frac], all: u128, most: &[u64]) -> bool
     requires sizes { length xs.now ≡ length most.now }
-    requires common { AreDenomsIn all xs.now }
-    requires positive { 0 < all }
-    requires small { all ≤ 2 ^ 124 }
+    requires denom { IsDenominator all }
     ensures { IsTrue result → (c : List ℚ) → AreCountsTo most.now c → IsSmallSum all xs.now c }
 {
     sum_theorems();
+    over_theorems();
     let mut total = 0;
     for k in 0..xs.len() {
         let Some(numerator) = numerator_over(&xs[k], all) else {
@@ -56,7 +54,7 @@ fn sum_fits(xs: &[Frac], most: &[u64]) -> bool
     requires { length xs.now ≡ length most.now }
     ensures { IsTrue result → (c : List ℚ) → AreCountsTo most.now c → DotFits xs.now c }
 {
-    let Some(all) = common_denominator(xs, 1) else {
+    let Some(all) = common_in(1, xs) else {
         return false;
     };
     is_small_sum(xs, all, most)
@@ -78,14 +76,10 @@ fn sums_fit(m: &Matrix, most: &[u64]) -> bool
 
 /// A common denominator of both lists, where it is at most 2^124.
 fn common_to(xs: &[Frac], ys: &[Frac]) -> Option<u128>
-    ensures left { IfSome result (λ m. AreDenomsIn m xs.now) }
-    ensures right { IfSome result (λ m. AreDenomsIn m ys.now) }
-    ensures positive { IfSome result (λ m. 0 < m) }
-    ensures small { IfSome result (λ m. m ≤ 2 ^ 124) }
+    ensures { IfSome result IsDenominator }
 {
-    let left = common_denominator(xs, 1)?;
-    let right = common_denominator(ys, 1)?;
-    common_multiple(left, right)
+    let left = common_in(1, xs)?;
+    common_in(left, ys)
 }
 
 /// Whether the operations fit that make the value of the new form of that of the old one, at all counts up to these.
@@ -94,6 +88,7 @@ fn change_fits(old: &[Frac], new: &[Frac], most: &[u64]) -> bool
     requires new { length new.now ≡ length most.now }
     ensures { IsTrue result → (c : List ℚ) → AreCountsTo most.now c → ChangeFits (dot old.now c) (dot new.now c) }
 {
+    over_theorems();
     let Some(all) = common_to(old, new) else {
         return false;
     };
@@ -173,7 +168,7 @@ pub fn opening_of(
     let Some(forms) = opening_forms(alloc, qp, kept, &most)? else {
         return Ok(None);
     };
-    let rows = whole_rows(alloc, &forms, shared_denominator(&forms))?;
+    let rows = whole_rows(alloc, &forms, common_of(1, &forms).unwrap_or(1))?;
     Ok(Some(Opening { forms, rows }))
 }
 

@@ -6,11 +6,10 @@ ghost use Rattle.mpc_space.specs.Vector.{dot};
 ghost use Rattle.mpc_linear.specs.Dot.{DotFits};
 ghost use Rattle.mpc_online.specs.Wholes.{first_of, entries_of};
 
-use crate::prepared::Wholes;
 use crate::solutions::dot_of;
-use crate::wholes::over_one_denominator;
 use mpc_frac::{Frac, Wide, fit_theorems};
 use mpc_linear::{add_product, sum_theorems};
+use mpc_wholes::{Wholes, over_one_denominator};
 use std::alloc::{AllocError, Global};
 
 /// A point: so many numerators over one denominator, or its fractions.
@@ -25,7 +24,7 @@ pub fn point_of(entries: Vec<Frac>) -> Point
     requires { length entries.items ≤ 6 }
     ensures { entries_of result ≡ entries.items }
 {
-    match over_one_denominator(&entries, 1) {
+    match over_one_denominator(&entries) {
         Some(numbers) => Point::Whole(numbers, entries.len()),
         None => Point::Apart(entries),
     }

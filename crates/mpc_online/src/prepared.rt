@@ -1,11 +1,10 @@
 //! What all states of a program share.
 
-ghost use Rattle.mpc_online.specs.Sizes.{AreAtMost};
-
 use mpc_bordered::Kept;
 use mpc_frac::Frac;
 use mpc_linear::Matrix;
 use mpc_sets::ActiveSet;
+use mpc_wholes::Wholes;
 
 /// The direction of a step: how the point moves, also in whole numbers where these are small, and how the multipliers of the members do; and
 /// how the row on its way grows, `None` where a number on the way to this needs more than 128 bits.
@@ -24,15 +23,6 @@ pub struct KeptDirection {
     pub set: ActiveSet,
     pub row: u32,
     pub direction: Option<Direction>,
-}
-
-/// Up to six fractions over one denominator. No numerator and not the denominator is above `most` in size.
-#[derive(Drop)]
-pub struct Wholes {
-    pub numerators: [i128; 6],
-    pub den: u128,
-    pub most: u128,
-    pub ghost at_most: { AreAtMost numerators den most },
 }
 
 /// The first point as forms in the extended counts, whose values it has at all states of the grid, and the forms in whole numbers, where

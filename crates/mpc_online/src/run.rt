@@ -11,7 +11,8 @@ ghost use Rattle.mpc_online.specs.Widths.{StepFits, FirstFits, TurnFits};
 ghost use Rattle.mpc_online.specs.OnlineRun.{IsStep, IsOpening, IsRunEnd, LeadsTo, answered, wide_in};
 ghost use Rattle.mpc_online.specs.Standing.{IsPosition, IsAnswer};
 ghost use Rattle.mpc_online.specs.Shared.{IsPreparedFor};
-ghost use Rattle.mpc_online.specs.Wholes.{IsOver, AreRowsOver, entries_of};
+ghost use Rattle.mpc_wholes.specs.Wholes.{IsOver};
+ghost use Rattle.mpc_online.specs.Wholes.{AreRowsOver, entries_of};
 ghost use Rattle.mpc_online.specs.Openings.{AreExtendedCounts, IsOpeningOf};
 ghost use Rattle.mpc_online.specs.Answers.{IfWide, IfStopWide, position_of, step_of};
 ghost use Rattle.mpc_rows.specs.ActiveSets.{IsInBox};
@@ -21,7 +22,7 @@ use crate::directions::direction_place;
 use crate::moves::{Iterate, dropped, moved, row_joined};
 use crate::opening::first_point;
 use crate::points::fractions;
-use crate::prepared::{Direction, Opening, Prepared, Wholes};
+use crate::prepared::{Direction, Opening, Prepared};
 use crate::refuting::row_multipliers;
 use crate::solutions::{Stop, products};
 use crate::tests_of_rows::first_violated;
@@ -32,6 +33,7 @@ use mpc_frac::{Frac, NoMemory};
 use mpc_linear::Vector;
 use mpc_rows::Qp;
 use mpc_sets::{ActiveSet, count_theorems};
+use mpc_wholes::Wholes;
 use std::alloc::Global;
 
 /// What follows a step.

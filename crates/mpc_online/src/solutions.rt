@@ -10,17 +10,18 @@ ghost use Rattle.mpc_linear.specs.Solution.{IsOnlySolution};
 ghost use Rattle.mpc_rows.specs.ActiveSets.{IsIndependentSet};
 ghost use Rattle.mpc_rows.specs.SetRuns.{law_matrix};
 ghost use Rattle.mpc_online.specs.Widths.{ProductsFit, EliminationFits};
-ghost use Rattle.mpc_online.specs.Wholes.{IsOver, AreRowsOver};
+ghost use Rattle.mpc_wholes.specs.Wholes.{IsOver};
+ghost use Rattle.mpc_online.specs.Wholes.{AreRowsOver};
 ghost use Rattle.mpc_online.specs.Answers.{IfStopWide};
 ghost use Rattle.mpc_online.specs.declared.solutions.Stop.TheVariants.{Wide as wide_stop, NoMemory as no_memory};
 
 use crate::matrices::law_matrix;
-use crate::prepared::Wholes;
-use crate::wholes::{dot_in_wholes, over_one_denominator};
+use crate::wholes::dot_in_wholes;
 use mpc_frac::{Frac, NoMemory, Wide};
 use mpc_linear::{LinearError, Matrix, Solved, dot_from, solve};
 use mpc_rows::Qp;
 use mpc_sets::ActiveSet;
+use mpc_wholes::{Wholes, over_one_denominator};
 use std::alloc::{AllocError, AllocFailed, Global};
 
 /// Why a step isn't done.
@@ -111,7 +112,7 @@ pub fn products(
     ensures wide { MatchResult result (λ _. ProductsFit m.now c.now) (λ e. IfStopWide e (¬ ProductsFit m.now c.now)) }
 {
     let _columns = m.cols();
-    let whole = over_one_denominator(c, 1);
+    let whole = over_one_denominator(c);
     let mut out = Vec::with_capacity(alloc, m.rows() as usize)?;
     for i in 0..m.rows() {
         match row_dot(m.row(i), &rows[i as usize], c, &whole) {

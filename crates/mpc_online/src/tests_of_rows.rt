@@ -9,10 +9,10 @@ ghost use Rattle.mpc_online.specs.Wholes.{AreRowsOver, entries_of};
 
 use crate::numbers::is_positive;
 use crate::points::{Point, point_dot};
-use crate::prepared::Wholes;
 use crate::wholes::{difference_in_wholes, is_above};
 use mpc_frac::{Frac, Wide};
 use mpc_rows::Qp;
+use mpc_wholes::Wholes;
 
 /// By how much the point is above row i: `g_i z - b_i`.
 fn excess(qp: &Qp, sides: &[Frac], point: &Point, i: u32) -> Result<Frac, Wide>

@@ -14,10 +14,11 @@ ghost use Rattle.mpc_online.specs.Wholes.{AreRowsOver};
 
 use crate::moves::Iterate;
 use crate::numbers::{is_less, is_negative};
-use crate::prepared::{Direction, Wholes};
+use crate::prepared::Direction;
 use crate::tests_of_rows::excess_at;
 use mpc_frac::{Frac, Wide};
 use mpc_rows::Qp;
+use mpc_wholes::Wholes;
 
 /// What ends a step.
 #[derive(Drop)]

@@ -4,12 +4,12 @@ ghost use Rattle.std.specs.Prelude.{◌≡◌, ℕ, List, ◌*◌, ◌+◌, ◌^
 ghost use Rattle.std.specs.Int.{◌∣◌};
 ghost use Rattle.mpc_exact.specs.Rational.{ℚ};
 ghost use Rattle.mpc_space.specs.Vector.{vec_add, vec_scale};
-ghost use Rattle.mpc_online.specs.Wholes.{IsOver};
+ghost use Rattle.mpc_wholes.specs.Wholes.{IsOver};
 ghost use Rattle.mpc_online.specs.Widths.{GrowsFit};
 
-use crate::prepared::Wholes;
-use crate::wholes::{common_multiple, denominator, is_small, part, product, rest};
+use crate::wholes::{is_small, product};
 use mpc_frac::{Frac, greatest_common_divisor};
+use mpc_wholes::{Wholes, common_multiple, denominator, over_theorems, part, rest};
 
 /// A divisor of both, the greatest one: mostly the first number is.
 fn shared_divisor(a: u128, b: u128) -> u128
@@ -125,6 +125,7 @@ pub fn moved_in_wholes(x: &Wholes, d: &Wholes, s: &Frac, count: usize) -> Option
         (λ _. (xs ds : List ℚ) → IsOver xs x.now → IsOver ds d.now → length xs ≡ count → length ds ≡ count
         → GrowsFit xs s.now ds) }
 {
+    over_theorems();
     if !is_small(d.den, denominator(s), 1) {
         return None;
     }

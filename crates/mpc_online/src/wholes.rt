@@ -1,17 +1,19 @@
-//! Fractions over one denominator, and their sums of products in whole numbers, where these are small.
+//! Sums of products of fractions over one denominator, in whole numbers, where these are small.
 
-ghost use Rattle.std.specs.Prelude.{◌≡◌, List, ◌+◌, ◌*◌, ◌/◌, ◌%◌, ◌^◌, ◌<◌, ◌≤◌, ◌↔◌, IfOk, IfSome, IsTrue, length, pos, unsigned_abs, ◌-ℤ◌, ◌*ℤ◌, ◌<ℤ◌};
-ghost use Rattle.std.specs.Int.{◌∣◌};
+ghost use Rattle.std.specs.Prelude.{◌≡◌, List, ◌+◌, ◌*◌, ◌^◌, ◌<◌, ◌≤◌, ◌↔◌, IfOk, IfSome, IsTrue, length, unsigned_abs, ◌-ℤ◌, ◌*ℤ◌, ◌<ℤ◌};
 ghost use Rattle.mpc_exact.specs.Rational.{ℚ, frac, ◌-ℚ◌, ◌<ℚ◌, neg_ℚ};
+ghost use Rattle.mpc_frac.specs.Fits.{FitsSum};
 ghost use Rattle.mpc_space.specs.Vector.{dot, mat_vec};
 ghost use Rattle.mpc_space.specs.Matrix.{height, IsRectangular};
 ghost use Rattle.mpc_linear.specs.Dot.{DotFits};
-ghost use Rattle.mpc_frac.specs.Fits.{FitsSum};
-ghost use Rattle.mpc_online.specs.Wholes.{AreDenomsIn, IsOver, AreRowsOver};
+ghost use Rattle.mpc_wholes.specs.Wholes.{IsDenominator, IsOver};
+ghost use Rattle.mpc_online.specs.Wholes.{AreRowsOver};
 
-use crate::prepared::Wholes;
-use mpc_frac::{Frac, greatest_common_divisor};
-use mpc_linear::{Matrix, sum_theorems};
+use mpc_frac::Frac;
+use mpc_linear::Matrix;
+use mpc_wholes::{
+    Wholes, denominator, dot_from, over_multiple, over_one_denominator, over_theorems,
+};
 use std::alloc::{AllocError, Global};
 
 /// The greatest size of the numbers here and of a product of three of them, 2^124: seven such products are below 2^127.
@@ -19,157 +21,6 @@ const MOST: u128 = 0x1000_0000_0000_0000_0000_0000_0000_0000;
 
 /// The cube root of `MOST`, rounded down to a power of two: three numbers up to it are seen to have a small product without a multiplication.
 const SHORT: u128 = 0x200_0000_0000;
-
-/// The largest number of 64 bits, whose division takes one instruction.
-const WORD: u128 = u64::MAX as u128;
-
-/// Two numbers up to this, 2^62, have a product of at most 2^124.
-const HALF: u128 = 0x4000_0000_0000_0000;
-
-/// The rest of a by b.
-#[inline]
-pub fn rest(a: u128, b: u128) -> u128
-    requires { 0 < b }
-    ensures { result ≡ a % b }
-{
-    if a <= WORD && b <= WORD {
-        return (a as u64 % b as u64) as u128;
-    }
-    a % b
-}
-
-/// How often b goes into a.
-#[inline]
-pub fn part(a: u128, b: u128) -> u128
-    requires { 0 < b }
-    ensures { result ≡ a / b }
-{
-    if a <= WORD && b <= WORD {
-        return (a as u64 / b as u64) as u128;
-    }
-    a / b
-}
-
-/// The denominator.
-pub fn denominator(x: &Frac) -> u128
-    ensures value { result ≡ x.now.denom }
-    ensures positive { 0 < result }
-{
-    x.den() as u128
-}
-
-/// A common multiple, where it is at most 2^124: the first number where it is one.
-pub fn common_multiple(a: u128, b: u128) -> Option<u128>
-    requires a_positive { 0 < a }
-    requires a_small { a ≤ 2 ^ 124 }
-    requires b_positive { 0 < b }
-    ensures of_a { IfSome result (λ m. a ∣ m) }
-    ensures of_b { IfSome result (λ m. b ∣ m) }
-    ensures positive { IfSome result (λ m. 0 < m) }
-    ensures small { IfSome result (λ m. m ≤ 2 ^ 124) }
-{
-    if a == b || rest(a, b) == 0 {
-        return Some(a);
-    }
-    let multiple = part(a, greatest_common_divisor(a, b)).checked_mul(b)?;
-    if multiple > MOST {
-        return None;
-    }
-    Some(multiple)
-}
-
-/// A common denominator that is a multiple of the number, where it is at most 2^124: the number where it is one.
-pub fn common_denominator(xs: &[Frac], within: u128) -> Option<u128>
-    requires within_positive { 0 < within }
-    requires within_small { within ≤ 2 ^ 124 }
-    ensures common { IfSome result (λ m. AreDenomsIn m xs.now) }
-    ensures positive { IfSome result (λ m. 0 < m) }
-    ensures small { IfSome result (λ m. m ≤ 2 ^ 124) }
-{
-    let mut all = within;
-    for x in xs {
-        all = common_multiple(all, denominator(x))?;
-    }
-    Some(all)
-}
-
-/// The numerator, where it is at most 2^124 in size.
-#[inline]
-fn small_numerator(x: &Frac) -> Option<i128>
-    ensures value { IfSome result (λ z. x.now ≡ frac z x.now.denom) }
-    ensures small { IfSome result (λ z. unsigned_abs z ≤ 2 ^ 124) }
-{
-    let numerator = x.num();
-    if numerator.unsigned_abs() > MOST {
-        return None;
-    }
-    Some(numerator)
-}
-
-/// The product of numbers that fit 64 bits each.
-#[inline]
-fn short_product(x: i128, y: i128) -> i128
-    requires x_short { unsigned_abs x < 2 ^ 63 }
-    requires y_short { unsigned_abs y < 2 ^ 63 }
-    ensures { result ≡ x *ℤ y }
-{
-    (x as i64) as i128 * (y as i64) as i128
-}
-
-/// So many times the numerator, where that is at most 2^124 in size.
-fn scaled_numerator(x: &Frac, times: u128) -> Option<i128>
-    requires { times ≤ 2 ^ 124 }
-    ensures value { IfSome result (λ z. z ≡ x.now.numer *ℤ pos times) }
-    ensures small { IfSome result (λ z. unsigned_abs z ≤ 2 ^ 124) }
-{
-    let numerator = x.num();
-    if numerator.unsigned_abs() <= HALF && times <= HALF {
-        return Some(short_product(numerator, times as i128));
-    }
-    let scaled = numerator.checked_mul(times as i128)?;
-    if scaled.unsigned_abs() > MOST {
-        return None;
-    }
-    Some(scaled)
-}
-
-/// The numerator of a fraction over a multiple of its denominator, where it is at most 2^124 in size.
-pub fn numerator_over(x: &Frac, all: u128) -> Option<i128>
-    requires multiple { x.now.denom ∣ all }
-    requires positive { 0 < all }
-    requires small { all ≤ 2 ^ 124 }
-    ensures value { IfSome result (λ z. x.now ≡ frac z all) }
-    ensures small { IfSome result (λ z. unsigned_abs z ≤ 2 ^ 124) }
-{
-    let below = denominator(x);
-    if below == all {
-        return small_numerator(x);
-    }
-    let numerator = scaled_numerator(x, part(all, below))?;
-    Some(numerator)
-}
-
-/// The fractions over one denominator, a multiple of the number, where it and the numerators are small enough.
-pub fn over_one_denominator(xs: &[Frac], within: u128) -> Option<Wholes>
-    requires few { length xs.now ≤ 6 }
-    requires within_positive { 0 < within }
-    requires within_small { within ≤ 2 ^ 124 }
-    ensures { IfSome result (IsOver xs.now) }
-{
-    let den = common_denominator(xs, within)?;
-    let mut numerators = [0; 6];
-    let mut most = den;
-    for k in 0..xs.len() {
-        let numerator = numerator_over(&xs[k], den)?;
-        numerators[k] = numerator;
-        most = most.max(numerator.unsigned_abs());
-    }
-    Some(Wholes {
-        numerators,
-        den,
-        most,
-    })
-}
 
 /// Whether the product is at most 2^124.
 pub fn is_small(x: u128, y: u128, z: u128) -> bool
@@ -200,25 +51,6 @@ pub fn grown_size(total: u128, numerator: i128, count: u64) -> Option<u128>
     Some(sum)
 }
 
-/// The same of short numerators.
-fn dot_of_short_numerators(x: &Wholes, y: &Wholes, count: usize) -> i128
-    requires few { count ≤ 6 }
-    requires x_short { x.now.most ≤ 2 ^ 41 }
-    requires y_short { y.now.most ≤ 2 ^ 41 }
-    ensures size { unsigned_abs result ≤ 6 * (x.now.most * y.now.most) }
-    ensures value { (xs ys : List ℚ) → IsOver xs x.now → IsOver ys y.now → length xs ≡ count → length ys ≡ count
-        → dot xs ys ≡ frac result (x.now.den * y.now.den) }
-    ensures fits { (xs ys : List ℚ) → IsOver xs x.now → IsOver ys y.now → length xs ≡ count → length ys ≡ count
-        → DotFits xs ys }
-{
-    sum_theorems();
-    let mut total = 0;
-    for k in 0..count {
-        total += short_product(x.numerators[k], y.numerators[k]);
-    }
-    total
-}
-
 /// The dot of the first numerators.
 fn dot_of_numerators(x: &Wholes, y: &Wholes, count: usize) -> i128
     requires few { count ≤ 6 }
@@ -229,15 +61,7 @@ fn dot_of_numerators(x: &Wholes, y: &Wholes, count: usize) -> i128
     ensures fits { (xs ys : List ℚ) → IsOver xs x.now → IsOver ys y.now → length xs ≡ count → length ys ≡ count
         → DotFits xs ys }
 {
-    if x.most <= SHORT && y.most <= SHORT {
-        return dot_of_short_numerators(x, y, count);
-    }
-    sum_theorems();
-    let mut total = 0;
-    for k in 0..count {
-        total += x.numerators[k] * y.numerators[k];
-    }
-    total
+    dot_from(0, x, y, count)
 }
 
 /// The product, which fits.
@@ -282,6 +106,7 @@ pub fn is_above(x: &Wholes, y: &Wholes, count: usize, side: &Frac) -> Option<boo
         (λ _. (xs ys : List ℚ) → IsOver xs x.now → IsOver ys y.now → length xs ≡ count → length ys ≡ count
         → DotFits xs ys × FitsSum (dot xs ys) (neg_ℚ side.now)) }
 {
+    over_theorems();
     if !is_small(x.most, y.most, size_of(side)) {
         return None;
     }
@@ -301,6 +126,7 @@ pub fn difference_in_wholes(x: &Wholes, y: &Wholes, count: usize, side: &Frac) -
         (λ _. (xs ys : List ℚ) → IsOver xs x.now → IsOver ys y.now → length xs ≡ count → length ys ≡ count
         → DotFits xs ys × FitsSum (dot xs ys) (neg_ℚ side.now)) }
 {
+    over_theorems();
     if !is_small(x.most, y.most, size_of(side)) {
         return None;
     }
@@ -349,21 +175,6 @@ pub fn dot_in_wholes(x: &Wholes, y: &Wholes, count: usize) -> Option<Frac>
     fraction_over(total, x.den * y.den)
 }
 
-/// A common denominator of all rows, where it is at most 2^124, and else 1.
-pub fn shared_denominator(m: &Matrix) -> u128
-    ensures positive { 0 < result }
-    ensures small { result ≤ 2 ^ 124 }
-{
-    let mut all = 1;
-    for i in 0..m.rows() {
-        let Some(next) = common_denominator(m.row(i), all) else {
-            return 1;
-        };
-        all = next;
-    }
-    all
-}
-
 /// The numerator over this denominator of the dot of a row and numbers, where the row is over it with them and small.
 fn value_over(row: &Option<Wholes>, numbers: &Wholes, count: usize, den: u128) -> Option<i128>
     requires { count ≤ 6 }
@@ -407,7 +218,7 @@ pub fn products_in_wholes(m: &Matrix, rows: &[Option<Wholes>], xs: &[Frac]) -> O
     requires rows { AreRowsOver m.now rows.now }
     ensures { IfSome result (IsOver (mat_vec m.now.rows xs.now)) }
 {
-    let numbers = over_one_denominator(xs, 1)?;
+    let numbers = over_one_denominator(xs)?;
     let den = first_denominator(rows, &numbers)?;
     let mut numerators = [0; 6];
     let mut most = den;
@@ -423,20 +234,15 @@ pub fn products_in_wholes(m: &Matrix, rows: &[Option<Wholes>], xs: &[Frac]) -> O
     })
 }
 
-/// The rows of a matrix, each over one denominator, a multiple of the number, where it is small.
-pub fn whole_rows(
-    alloc: Global,
-    m: &Matrix,
-    within: u128,
-) -> Result<Vec<Option<Wholes>>, AllocError>
+/// The rows of a matrix, each over one denominator, a multiple of the start, where it is small.
+pub fn whole_rows(alloc: Global, m: &Matrix, start: u128) -> Result<Vec<Option<Wholes>>, AllocError>
     requires few { m.now.columns ≤ 6 }
-    requires within_positive { 0 < within }
-    requires within_small { within ≤ 2 ^ 124 }
+    requires start { IsDenominator start }
     ensures { IfOk result (λ rows. AreRowsOver m.now rows.items) }
 {
     let mut rows = Vec::with_capacity(alloc, m.rows() as usize)?;
     for i in 0..m.rows() {
-        rows.push(over_one_denominator(m.row(i), within))?;
+        rows.push(over_multiple(start, m.row(i)))?;
     }
     Ok(rows)
 }

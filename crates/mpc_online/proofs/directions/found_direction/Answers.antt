@@ -3,7 +3,7 @@ use Rattle.mpc_exact.specs.Rational.{ℚ}
 use Rattle.mpc_space.specs.Matrix.{height}
 use Rattle.mpc_space.proofs.Entries.{length-listed}
 use Rattle.mpc_online.specs.Shared.{IsSlopeOf}
-use Rattle.mpc_online.specs.Wholes.{IsOver}
+use Rattle.mpc_wholes.specs.Wholes.{IsOver}
 use Rattle.mpc_online.proofs.Solved.{matrix_columns}
 use Rattle.mpc_online.proofs.Advance.{upper_is, lower_is}
 use Rattle.mpc_online.proofs.directions.found_direction.Goals as goal

@@ -1,8 +1,9 @@
 use Rattle.std.proofs.Common.{◌≡◌, Option, IfSome, length, sym, ◌∙◌, subst}
 use Rattle.mpc_space.specs.Vector.{vec_add, vec_scale}
 use Rattle.mpc_space.proofs.Entries.{length-add, length-scale}
-use Rattle.mpc_online.specs.declared.prepared.Wholes.{Wholes}
-use Rattle.mpc_online.specs.Wholes.{IsOver, entries_of}
+use Rattle.mpc_wholes.specs.declared.numbers.Wholes.{Wholes}
+use Rattle.mpc_wholes.specs.Wholes.{IsOver}
+use Rattle.mpc_online.specs.Wholes.{entries_of}
 use Rattle.mpc_online.proofs.WholeMoves.{first_is}
 use Rattle.mpc_online.proofs.WholePoints.{whole_few, whole_size, whole_over}
 use Rattle.mpc_online.proofs.moves.moved_point.Goals as goal

@@ -1,6 +1,6 @@
 use Rattle.std.proofs.Common.{arith, subst, List}
 use Rattle.mpc_exact.specs.Rational.{ℚ}
-use Rattle.mpc_online.specs.Wholes.{IsOver}
+use Rattle.mpc_wholes.specs.Wholes.{IsOver}
 use Rattle.mpc_online.proofs.WholeMoves.{first_is}
 use Rattle.mpc_online.proofs.points.point_of.Goals as goal
 

@@ -20,10 +20,10 @@ abbrev factor : After-num-2 → ℤ
 factor c = c.args.s.now.numer *ℤ pos (right c)
 
 left_few : (c : After-num-2) → left c ≤ 2 ^ 124
-left_few c = let l : left c ≤ c.in_ok-den.den = subst (λ n. n ≤ c.in_ok-den.den) (sym c.part-left.ensures) (div-le_self c.in_ok-den.den c.args.x.now.den) in let s = c.in_ok-den.ensures.small in omega (arith, l, s)
+left_few c = let l : left c ≤ c.in_ok-den.den = subst (λ n. n ≤ c.in_ok-den.den) (sym c.part-left.ensures) (div-le_self c.in_ok-den.den c.args.x.now.den) in let s = c.in_ok-den.ensures.small.small in omega (arith, l, s)
 
 right_few : (c : After-num-2) → right c ≤ 2 ^ 124
-right_few c = let l : right c ≤ c.in_ok-den.den = subst (λ n. n ≤ c.in_ok-den.den) (sym c.part-right.ensures) (div-le_self c.in_ok-den.den (c.args.d.now.den * c.denominator-2.result)) in let s = c.in_ok-den.ensures.small in omega (arith, l, s)
+right_few c = let l : right c ≤ c.in_ok-den.den = subst (λ n. n ≤ c.in_ok-den.den) (sym c.part-right.ensures) (div-le_self c.in_ok-den.den (c.args.d.now.den * c.denominator-2.result)) in let s = c.in_ok-den.ensures.small.small in omega (arith, l, s)
 
 size : (c : After-num-2) → c.unsigned_abs.result ≡ unsigned_abs c.args.s.now.numer
 size c = c.unsigned_abs.ensures.value ∙ ap unsigned_abs (ap (λ z. to_z w128 (of_z w128 z)) c.num.ensures.value ∙ read_wide c.args.s.now.numer c.num.ensures.fits.0)
@@ -65,7 +65,7 @@ returns-clause-value c xs ds ox od lx ld =
     let r = factor_back d c.product-factor.result c.product-factor.ensures in
     let six = c.combined.ensures.size in
     c.lowest.ensures (vec_add xs (vec_scale c.args.s.now ds))
-    (moved_over c.args.x.now c.args.d.now c.args.s.now (left d) (right d) c.in_ok-den.den c.in_ok-den.ensures.positive (of_x d) (of_d d) xs ds ox od c.args.count lx ld
+    (moved_over c.over_theorems.ensures c.args.x.now c.args.d.now c.args.s.now (left d) (right d) c.in_ok-den.den c.in_ok-den.ensures.small.some (of_x d) (of_d d) xs ds ox od c.args.count lx ld
     c.combined.result c.combined.ensures.den (omega (arith, six, c.requires))
     (λ k h. c.combined.ensures.numerators k h ∙ (λ i. a k *ℤ l i +ℤ b k *ℤ r i)))
     (length-add xs (vec_scale c.args.s.now ds) (lx ∙ sym ld ∙ sym (length-scale c.args.s.now ds)) ∙ lx)
@@ -74,5 +74,5 @@ pub returns-clause-fits : goal.returns-clause-fits
 returns-clause-fits c xs ds ox od lx ld =
     let d = (goal.at.returns-clause-fits c).After-num-2 in
     let room = c.is_small-2.ensures c.if-not-is_small-2.false in
-    all_fit c.args.x.now c.args.d.now c.args.s.now (left d) (right d) c.in_ok-den.den c.in_ok-den.ensures.positive (of_x d) (of_d d) xs ds ox od c.args.count lx ld
-    (omega (arith, room)) (factor_room d) c.in_ok-den.ensures.small
+    all_fit c.over_theorems.ensures c.args.x.now c.args.d.now c.args.s.now (left d) (right d) c.in_ok-den.den c.in_ok-den.ensures.small.some (of_x d) (of_d d) xs ds ox od c.args.count lx ld
+    (omega (arith, room)) (factor_room d) c.in_ok-den.ensures.small.small

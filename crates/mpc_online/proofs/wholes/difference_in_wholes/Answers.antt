@@ -55,12 +55,12 @@ returns-clause-value c xs ys ox oy h l =
     *ℤ (read_mag c.den-2.result c.den-2.type_inv ∙ c.den-2.ensures.value) j)
     in
     c.in-Ok.ensures.value ∙ (λ i. quotient (above i) (below i))
-    ∙ difference_is c.args.x.now c.args.y.now c.size_of.result (c.is_small.ensures c.if-not-is_small.false) c.args.side.now c.size_of.ensures.numerator c.size_of.ensures.denominator c.dot_of_numerators-level.result c.dot_of_numerators-level.ensures.size
+    ∙ difference_is c.args.x.now c.args.y.now c.size_of.result (c.is_small.ensures c.if-not-is_small.false) c.args.side.now c.size_of.ensures.numerator c.size_of.ensures.denominator c.dot_of_numerators-level.result c.dot_of_numerators-level.ensures.size c.over_theorems.ensures
     ∙ ap (λ v. v -ℚ c.args.side.now) (sym (c.dot_of_numerators-level.ensures.value xs ys ox oy h l))
 
 pub returns-clause-fits : goal.returns-clause-fits
 returns-clause-fits c xs ys ox oy h l = (
   c.dot_of_numerators-level.ensures.fits xs ys ox oy h l,
   subst (λ v. FitsSum v (neg_ℚ c.args.side.now)) (sym (c.dot_of_numerators-level.ensures.value xs ys ox oy h l))
-      (difference_fits c.args.x.now c.args.y.now c.size_of.result (c.is_small.ensures c.if-not-is_small.false) c.args.side.now c.size_of.ensures.numerator c.size_of.ensures.denominator c.dot_of_numerators-level.result c.dot_of_numerators-level.ensures.size),
+      (difference_fits c.args.x.now c.args.y.now c.size_of.result (c.is_small.ensures c.if-not-is_small.false) c.args.side.now c.size_of.ensures.numerator c.size_of.ensures.denominator c.dot_of_numerators-level.result c.dot_of_numerators-level.ensures.size c.over_theorems.ensures),
 )

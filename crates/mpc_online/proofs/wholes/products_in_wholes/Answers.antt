@@ -4,8 +4,8 @@ use Rattle.mpc_exact.specs.Rational.{frac}
 use Rattle.mpc_space.specs.Vector.{coordinate, mat_vec}
 use Rattle.mpc_space.specs.Matrix.{height}
 use Rattle.mpc_space.proofs.Matrix.{length-mat_vec, coordinate-mat_vec}
-use Rattle.mpc_online.specs.declared.prepared.Wholes.{Wholes}
-use Rattle.mpc_online.specs.Wholes.{IsOver}
+use Rattle.mpc_wholes.specs.declared.numbers.Wholes.{Wholes}
+use Rattle.mpc_wholes.specs.Wholes.{IsOver}
 use Rattle.mpc_online.proofs.WholeDots.{read_wide}
 use Rattle.mpc_online.proofs.WholePoints.{row_read}
 use Rattle.mpc_online.proofs.WholeMoves.{found_more}

@@ -1,5 +1,5 @@
 use Rattle.std.proofs.Common.{◌≡◌, ℕ, ◌<◌, [], length, get_or, None, IfSome}
-use Rattle.mpc_online.specs.Wholes.{IsOver}
+use Rattle.mpc_wholes.specs.Wholes.{IsOver}
 use Rattle.mpc_online.proofs.wholes.whole_rows.Given as goal
 
 abbrev pub invariant-loop-i : goal.invariant-loop-i

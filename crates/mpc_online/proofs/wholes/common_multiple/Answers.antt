@@ -1,9 +1,0 @@
-use Rattle.std.proofs.Common.{◌*◌, ◌∙◌, ap}
-use Rattle.mpc_online.proofs.WholeDots.{multiple_of_first, some_multiple}
-use Rattle.mpc_online.proofs.wholes.common_multiple.Goals as goal
-
-pub returns-clause-of_a : goal.returns-clause-of_a
-returns-clause-of_a c = multiple_of_first c.args.a c.args.b c.greatest_common_divisor.result c.in_ok-multiple.multiple c.greatest_common_divisor.ensures.value (c.in_ok-multiple.ensures.1 ∙ ap (λ n. n * c.args.b) c.part.ensures)
-
-pub returns-clause-positive : goal.returns-clause-positive
-returns-clause-positive c = some_multiple c.args.a c.args.b c.greatest_common_divisor.result c.in_ok-multiple.multiple c.requires.a_positive c.requires.b_positive c.greatest_common_divisor.ensures.value (c.in_ok-multiple.ensures.1 ∙ ap (λ n. n * c.args.b) c.part.ensures)

@@ -1,5 +1,0 @@
-use Rattle.mpc_online.proofs.WholeDots.{numerator_read}
-use Rattle.mpc_online.proofs.wholes.small_numerator.Goals as goal
-
-pub returns-clause-value : goal.returns-clause-value
-returns-clause-value c = numerator_read c.args.x.now c.num-numerator.result c.num-numerator.type_inv c.num-numerator.ensures.value
