@@ -165,8 +165,8 @@ fn found_direction(
     ensures row { IfOk result (λ k. k.row ≡ row) }
     ensures memory { IfErr result (λ e. e ≡ no_memory) }
 {
-    let x = match step_solution(alloc, qp, shared, set, row) {
-        Ok(x) => x,
+    let solved = match step_solution(alloc, qp, shared, set, row) {
+        Ok(solved) => solved,
         Err(Stop::Wide) => {
             return Ok(KeptDirection {
                 set,
@@ -176,9 +176,9 @@ fn found_direction(
         }
         Err(Stop::NoMemory) => return Err(Stop::NoMemory),
     };
-    let point = part(alloc, &x, 0, qp.h.rows())?;
+    let point = part(alloc, &solved, 0, qp.h.rows())?;
     let whole = over_one_denominator(&point);
-    let multipliers = part(alloc, &x, qp.h.rows(), set.size())?;
+    let multipliers = part(alloc, &solved, qp.h.rows(), set.size())?;
     let slope = slope_of(qp, &point, row);
     Ok(KeptDirection {
         set,

@@ -78,44 +78,44 @@ pub fn dot_of(x: &[Frac], y: &[Frac]) -> Result<Frac, Wide>
 fn row_dot(
     row: &[Frac],
     row_whole: &Option<Wholes>,
-    c: &[Frac],
-    c_whole: &Option<Wholes>,
+    list: &[Frac],
+    list_whole: &Option<Wholes>,
 ) -> Result<Frac, Wide>
-    requires few { length c.now ≤ 6 }
-    requires size { length row.now ≡ length c.now }
+    requires few { length list.now ≤ 6 }
+    requires size { length row.now ≡ length list.now }
     requires row_whole { IfSome row_whole.now (IsOver row.now) }
-    requires c_whole { IfSome c_whole.now (IsOver c.now) }
-    ensures value { IfOk result (λ v. v ≡ dot row.now c.now) }
-    ensures wide { MatchResult result (λ _. DotFits row.now c.now) (λ _. ¬ DotFits row.now c.now) }
+    requires list_whole { IfSome list_whole.now (IsOver list.now) }
+    ensures value { IfOk result (λ v. v ≡ dot row.now list.now) }
+    ensures wide { MatchResult result (λ _. DotFits row.now list.now) (λ _. ¬ DotFits row.now list.now) }
 {
-    if let Some(x) = row_whole {
-        if let Some(y) = c_whole {
-            if let Some(value) = dot_in_wholes(x, y, c.len()) {
+    if let Some(left) = row_whole {
+        if let Some(right) = list_whole {
+            if let Some(value) = dot_in_wholes(left, right, list.len()) {
                 return Ok(value);
             }
         }
     }
-    dot_of(row, c)
+    dot_of(row, list)
 }
 
 /// The dots of the rows of m with c.
 pub fn products(
     alloc: Global,
-    m: &Matrix,
-    c: &[Frac],
+    matrix: &Matrix,
+    list: &[Frac],
     rows: &[Option<Wholes>],
 ) -> Result<Vec<Frac>, Stop>
-    requires size { m.now.columns ≡ length c.now }
-    requires few { length c.now ≤ 6 }
-    requires rows { AreRowsOver m.now rows.now }
-    ensures value { IfOk result (λ v. v.items ≡ mat_vec m.now.rows c.now) }
-    ensures wide { MatchResult result (λ _. ProductsFit m.now c.now) (λ e. IfStopWide e (¬ ProductsFit m.now c.now)) }
+    requires size { matrix.now.columns ≡ length list.now }
+    requires few { length list.now ≤ 6 }
+    requires rows { AreRowsOver matrix.now rows.now }
+    ensures value { IfOk result (λ v. v.items ≡ mat_vec matrix.now.rows list.now) }
+    ensures wide { MatchResult result (λ _. ProductsFit matrix.now list.now) (λ e. IfStopWide e (¬ ProductsFit matrix.now list.now)) }
 {
-    let _columns = m.cols();
-    let whole = over_one_denominator(c);
-    let mut out = Vec::with_capacity(alloc, m.rows() as usize)?;
-    for i in 0..m.rows() {
-        match row_dot(m.row(i), &rows[i as usize], c, &whole) {
+    let _columns = matrix.cols();
+    let whole = over_one_denominator(list);
+    let mut out = Vec::with_capacity(alloc, matrix.rows() as usize)?;
+    for i in 0..matrix.rows() {
+        match row_dot(matrix.row(i), &rows[i as usize], list, &whole) {
             Ok(value) => out.push(value)?,
             Err(_) => return Err(Stop::Wide),
         }

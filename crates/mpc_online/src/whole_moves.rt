@@ -89,21 +89,28 @@ fn combination(x: i128, left: i128, d: i128, right: i128) -> i128
 }
 
 /// The sums of multiples of the first numerators, over this denominator.
-fn combined(x: &Wholes, left: i128, d: &Wholes, right: i128, den: u128, count: usize) -> Wholes
+fn combined(
+    point: &Wholes,
+    left: i128,
+    direction: &Wholes,
+    right: i128,
+    den: u128,
+    count: usize,
+) -> Wholes
     requires few { count ≤ 6 }
-    requires left_small { x.now.most * unsigned_abs left ≤ 2 ^ 124 }
-    requires right_small { d.now.most * unsigned_abs right ≤ 2 ^ 124 }
+    requires left_small { point.now.most * unsigned_abs left ≤ 2 ^ 124 }
+    requires right_small { direction.now.most * unsigned_abs right ≤ 2 ^ 124 }
     requires positive { 0 < den }
     requires den_small { den ≤ 2 ^ 124 }
     ensures den { result.den ≡ den }
     ensures size { length result.numerators ≡ 6 }
     ensures numerators { (k : ℕ) → k < count
-        → get_or result.numerators k (pos 0) ≡ get_or x.now.numerators k (pos 0) *ℤ left +ℤ get_or d.now.numerators k (pos 0) *ℤ right }
+        → get_or result.numerators k (pos 0) ≡ get_or point.now.numerators k (pos 0) *ℤ left +ℤ get_or direction.now.numerators k (pos 0) *ℤ right }
 {
     let mut numerators = [0; 6];
     let mut most = den;
     for k in 0..count {
-        let numerator = combination(x.numerators[k], left, d.numerators[k], right);
+        let numerator = combination(point.numerators[k], left, direction.numerators[k], right);
         numerators[k] = numerator;
         most = most.max(numerator.unsigned_abs());
     }
@@ -114,31 +121,39 @@ fn combined(x: &Wholes, left: i128, d: &Wholes, right: i128, den: u128, count: u
     }
 }
 
-/// The point x, s times the direction d further. `None` where the numbers aren't small enough to show that each operation on fractions on
-/// the way to it fits.
-pub fn moved_in_wholes(x: &Wholes, d: &Wholes, s: &Frac, count: usize) -> Option<Wholes>
+/// The point, so many times the direction further. `None` where the numbers aren't small enough to show that each operation on fractions
+/// on the way to it fits.
+pub fn moved_in_wholes(
+    point: &Wholes,
+    direction: &Wholes,
+    step: &Frac,
+    count: usize,
+) -> Option<Wholes>
     requires { count ≤ 6 }
     ensures value { IfSome result
-        (λ w. (xs ds : List ℚ) → IsOver xs x.now → IsOver ds d.now → length xs ≡ count → length ds ≡ count
-        → IsOver (vec_add xs (vec_scale s.now ds)) w) }
+        (λ w. (xs ds : List ℚ) → IsOver xs point.now → IsOver ds direction.now → length xs ≡ count → length ds ≡ count
+        → IsOver (vec_add xs (vec_scale step.now ds)) w) }
     ensures fits { IfSome result
-        (λ _. (xs ds : List ℚ) → IsOver xs x.now → IsOver ds d.now → length xs ≡ count → length ds ≡ count
-        → GrowsFit xs s.now ds) }
+        (λ _. (xs ds : List ℚ) → IsOver xs point.now → IsOver ds direction.now → length xs ≡ count → length ds ≡ count
+        → GrowsFit xs step.now ds) }
 {
     over_theorems();
-    if !is_small(d.den, denominator(s), 1) {
+    if !is_small(direction.den, denominator(step), 1) {
         return None;
     }
-    let below = d.den * denominator(s);
-    let den = common_multiple(below, x.den)?;
-    let left = part(den, x.den);
+    let below = direction.den * denominator(step);
+    let den = common_multiple(below, point.den)?;
+    let left = part(den, point.den);
     let right = part(den, below);
-    if !is_small(x.most, left, 1) {
+    if !is_small(point.most, left, 1) {
         return None;
     }
-    if !is_small(d.most, right, s.num().unsigned_abs()) {
+    if !is_small(direction.most, right, step.num().unsigned_abs()) {
         return None;
     }
-    let factor = product(s.num(), right as i128);
-    Some(lowest(combined(x, left as i128, d, factor, den, count), count))
+    let factor = product(step.num(), right as i128);
+    Some(lowest(
+        combined(point, left as i128, direction, factor, den, count),
+        count,
+    ))
 }

@@ -52,16 +52,16 @@ pub fn grown_size(total: u128, numerator: i128, count: u64) -> Option<u128>
 }
 
 /// The dot of the first numerators.
-fn dot_of_numerators(x: &Wholes, y: &Wholes, count: usize) -> i128
+fn dot_of_numerators(row: &Wholes, numbers: &Wholes, count: usize) -> i128
     requires few { count ≤ 6 }
-    requires small { x.now.most * y.now.most ≤ 2 ^ 124 }
-    ensures size { unsigned_abs result ≤ 6 * (x.now.most * y.now.most) }
-    ensures value { (xs ys : List ℚ) → IsOver xs x.now → IsOver ys y.now → length xs ≡ count → length ys ≡ count
-        → dot xs ys ≡ frac result (x.now.den * y.now.den) }
-    ensures fits { (xs ys : List ℚ) → IsOver xs x.now → IsOver ys y.now → length xs ≡ count → length ys ≡ count
+    requires small { row.now.most * numbers.now.most ≤ 2 ^ 124 }
+    ensures size { unsigned_abs result ≤ 6 * (row.now.most * numbers.now.most) }
+    ensures value { (xs ys : List ℚ) → IsOver xs row.now → IsOver ys numbers.now → length xs ≡ count → length ys ≡ count
+        → dot xs ys ≡ frac result (row.now.den * numbers.now.den) }
+    ensures fits { (xs ys : List ℚ) → IsOver xs row.now → IsOver ys numbers.now → length xs ≡ count → length ys ≡ count
         → DotFits xs ys }
 {
-    dot_from(0, x, y, count)
+    dot_from(0, row, numbers, count)
 }
 
 /// The product, which fits.
@@ -97,44 +97,49 @@ fn size_of(x: &Frac) -> u128
 
 /// Whether the dot is above the side. `None` where the numbers aren't small enough to show that each operation on fractions on the way to
 /// their difference fits.
-pub fn is_above(x: &Wholes, y: &Wholes, count: usize, side: &Frac) -> Option<bool>
+pub fn is_above(row: &Wholes, numbers: &Wholes, count: usize, side: &Frac) -> Option<bool>
     requires { count ≤ 6 }
     ensures value { IfSome result
-        (λ yes. (xs ys : List ℚ) → IsOver xs x.now → IsOver ys y.now → length xs ≡ count → length ys ≡ count
+        (λ yes. (xs ys : List ℚ) → IsOver xs row.now → IsOver ys numbers.now → length xs ≡ count → length ys ≡ count
         → IsTrue yes ↔ (side.now <ℚ dot xs ys)) }
     ensures fits { IfSome result
-        (λ _. (xs ys : List ℚ) → IsOver xs x.now → IsOver ys y.now → length xs ≡ count → length ys ≡ count
+        (λ _. (xs ys : List ℚ) → IsOver xs row.now → IsOver ys numbers.now → length xs ≡ count → length ys ≡ count
         → DotFits xs ys × FitsSum (dot xs ys) (neg_ℚ side.now)) }
 {
     over_theorems();
-    if !is_small(x.most, y.most, size_of(side)) {
+    if !is_small(row.most, numbers.most, size_of(side)) {
         return None;
     }
-    let level = dot_of_numerators(x, y, count);
+    let level = dot_of_numerators(row, numbers, count);
     let left = product(level, side.den());
-    let right = product(side.num(), (x.den * y.den) as i128);
+    let right = product(side.num(), (row.den * numbers.den) as i128);
     Some(is_above_whole(left, right))
 }
 
 /// By how much the dot is above the side. `None` where `is_above` is.
-pub fn difference_in_wholes(x: &Wholes, y: &Wholes, count: usize, side: &Frac) -> Option<Frac>
+pub fn difference_in_wholes(
+    row: &Wholes,
+    numbers: &Wholes,
+    count: usize,
+    side: &Frac,
+) -> Option<Frac>
     requires { count ≤ 6 }
     ensures value { IfSome result
-        (λ v. (xs ys : List ℚ) → IsOver xs x.now → IsOver ys y.now → length xs ≡ count → length ys ≡ count
+        (λ v. (xs ys : List ℚ) → IsOver xs row.now → IsOver ys numbers.now → length xs ≡ count → length ys ≡ count
         → v ≡ dot xs ys -ℚ side.now) }
     ensures fits { IfSome result
-        (λ _. (xs ys : List ℚ) → IsOver xs x.now → IsOver ys y.now → length xs ≡ count → length ys ≡ count
+        (λ _. (xs ys : List ℚ) → IsOver xs row.now → IsOver ys numbers.now → length xs ≡ count → length ys ≡ count
         → DotFits xs ys × FitsSum (dot xs ys) (neg_ℚ side.now)) }
 {
     over_theorems();
-    if !is_small(x.most, y.most, size_of(side)) {
+    if !is_small(row.most, numbers.most, size_of(side)) {
         return None;
     }
-    let level = dot_of_numerators(x, y, count);
+    let level = dot_of_numerators(row, numbers, count);
     let left = product(level, side.den());
-    let right = product(side.num(), (x.den * y.den) as i128);
+    let right = product(side.num(), (row.den * numbers.den) as i128);
     let above = difference(left, right);
-    let below = product((x.den * y.den) as i128, side.den());
+    let below = product((row.den * numbers.den) as i128, side.den());
     let Ok(value) = Frac::new(above, below) else {
         return None;
     };
@@ -159,20 +164,20 @@ fn fraction_over(numerator: i128, den: u128) -> Option<Frac>
 }
 
 /// The dot, where the numbers are small enough to show that each operation on fractions on the way to it fits.
-pub fn dot_in_wholes(x: &Wholes, y: &Wholes, count: usize) -> Option<Frac>
+pub fn dot_in_wholes(row: &Wholes, numbers: &Wholes, count: usize) -> Option<Frac>
     requires { count ≤ 6 }
     ensures value { IfSome result
-        (λ v. (xs ys : List ℚ) → IsOver xs x.now → IsOver ys y.now → length xs ≡ count → length ys ≡ count
+        (λ v. (xs ys : List ℚ) → IsOver xs row.now → IsOver ys numbers.now → length xs ≡ count → length ys ≡ count
         → v ≡ dot xs ys) }
     ensures fits { IfSome result
-        (λ _. (xs ys : List ℚ) → IsOver xs x.now → IsOver ys y.now → length xs ≡ count → length ys ≡ count
+        (λ _. (xs ys : List ℚ) → IsOver xs row.now → IsOver ys numbers.now → length xs ≡ count → length ys ≡ count
         → DotFits xs ys) }
 {
-    if !is_small(x.most, y.most, 1) {
+    if !is_small(row.most, numbers.most, 1) {
         return None;
     }
-    let total = dot_of_numerators(x, y, count);
-    fraction_over(total, x.den * y.den)
+    let total = dot_of_numerators(row, numbers, count);
+    fraction_over(total, row.den * numbers.den)
 }
 
 /// The numerator over this denominator of the dot of a row and numbers, where the row is over it with them and small.
@@ -210,13 +215,13 @@ fn first_denominator(rows: &[Option<Wholes>], numbers: &Wholes) -> Option<u128>
 }
 
 /// The dots of up to six rows and a list, where all are over one denominator and small.
-pub fn products_in_wholes(m: &Matrix, rows: &[Option<Wholes>], xs: &[Frac]) -> Option<Wholes>
-    requires rectangular { IsRectangular m.now }
-    requires size { m.now.columns ≡ length xs.now }
+pub fn products_in_wholes(matrix: &Matrix, rows: &[Option<Wholes>], xs: &[Frac]) -> Option<Wholes>
+    requires rectangular { IsRectangular matrix.now }
+    requires size { matrix.now.columns ≡ length xs.now }
     requires few { length xs.now ≤ 6 }
-    requires few_rows { height m.now ≤ 6 }
-    requires rows { AreRowsOver m.now rows.now }
-    ensures { IfSome result (IsOver (mat_vec m.now.rows xs.now)) }
+    requires few_rows { height matrix.now ≤ 6 }
+    requires rows { AreRowsOver matrix.now rows.now }
+    ensures { IfSome result (IsOver (mat_vec matrix.now.rows xs.now)) }
 {
     let numbers = over_one_denominator(xs)?;
     let den = first_denominator(rows, &numbers)?;
@@ -235,14 +240,18 @@ pub fn products_in_wholes(m: &Matrix, rows: &[Option<Wholes>], xs: &[Frac]) -> O
 }
 
 /// The rows of a matrix, each over one denominator, a multiple of the start, where it is small.
-pub fn whole_rows(alloc: Global, m: &Matrix, start: u128) -> Result<Vec<Option<Wholes>>, AllocError>
-    requires few { m.now.columns ≤ 6 }
+pub fn whole_rows(
+    alloc: Global,
+    matrix: &Matrix,
+    start: u128,
+) -> Result<Vec<Option<Wholes>>, AllocError>
+    requires few { matrix.now.columns ≤ 6 }
     requires start { IsDenominator start }
-    ensures { IfOk result (λ rows. AreRowsOver m.now rows.items) }
+    ensures { IfOk result (λ rows. AreRowsOver matrix.now rows.items) }
 {
-    let mut rows = Vec::with_capacity(alloc, m.rows() as usize)?;
-    for i in 0..m.rows() {
-        rows.push(over_multiple(start, m.row(i)))?;
+    let mut rows = Vec::with_capacity(alloc, matrix.rows() as usize)?;
+    for i in 0..matrix.rows() {
+        rows.push(over_multiple(start, matrix.row(i)))?;
     }
     Ok(rows)
 }

@@ -10,12 +10,12 @@ use Rattle.mpc_online.proofs.directions.found_direction.Goals as goal
 
 pub part-requires-clause-rows : goal.part-requires-clause-rows
 part-requires-clause-rows c =
-    let h : height c.in-Ok.x ≡ height c.args.qp.now.h + length c.args.set = c.in-Ok.ensures.only.shape.rows_are ∙ matrix_columns c.args.qp.now c.args.set in
+    let h : height c.in-Ok.solved ≡ height c.args.qp.now.h + length c.args.set = c.in-Ok.ensures.only.shape.rows_are ∙ matrix_columns c.args.qp.now c.args.set in
     omega (arith, h, c.rows.ensures.value)
 
 pub part-requires-2-clause-rows : goal.part-requires-2-clause-rows
 part-requires-2-clause-rows c =
-    let h : height c.in-Ok.x ≡ height c.args.qp.now.h + length c.args.set = c.in-Ok.ensures.only.shape.rows_are ∙ matrix_columns c.args.qp.now c.args.set in
+    let h : height c.in-Ok.solved ≡ height c.args.qp.now.h + length c.args.set = c.in-Ok.ensures.only.shape.rows_are ∙ matrix_columns c.args.qp.now c.args.set in
     omega (arith, h, c.rows-2.ensures.value, c.size.ensures.value)
 
 pub over_one_denominator-whole-requires : goal.over_one_denominator-whole-requires
@@ -29,11 +29,11 @@ slope_of-slope-requires-clause-point c = ap (λ (d : List ℚ). length d) (c.der
 
 pub returns-clause-direction : goal.returns-clause-direction
 returns-clause-direction c = record {
-  solution = c.in-Ok.x;
+  solution = c.in-Ok.solved;
   solves = c.in-Ok.ensures.only;
   fits = c.in-Ok.ensures.wide;
-  point_is = upper_is c.args.qp.now c.in-Ok.x c.rows.result c.in_ok-point.point.items c.rows.ensures.value c.in_ok-point.ensures;
+  point_is = upper_is c.args.qp.now c.in-Ok.solved c.rows.result c.in_ok-point.point.items c.rows.ensures.value c.in_ok-point.ensures;
   whole_is = subst (λ (d : List ℚ). IfSome c.over_one_denominator-whole.result (IsOver d)) c.deref.ensures.value c.over_one_denominator-whole.ensures;
-  multipliers_are = lower_is c.args.qp.now c.args.set c.in-Ok.x c.rows-2.result c.size.result c.in_ok-multipliers.multipliers.items c.rows-2.ensures.value c.size.ensures.value c.in_ok-multipliers.ensures;
+  multipliers_are = lower_is c.args.qp.now c.args.set c.in-Ok.solved c.rows-2.result c.size.result c.in_ok-multipliers.multipliers.items c.rows-2.ensures.value c.size.ensures.value c.in_ok-multipliers.ensures;
   slope_is = subst (λ (d : List ℚ). IsSlopeOf c.args.qp.now c.args.row d c.slope_of-slope.result) c.deref-2.ensures.value c.slope_of-slope.ensures;
 }

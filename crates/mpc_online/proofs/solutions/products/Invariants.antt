@@ -6,6 +6,6 @@ use Rattle.mpc_online.proofs.solutions.products.Given as goal
 
 abbrev pub invariant-loop-i : goal.invariant-loop-i
 invariant-loop-i l = record {
-  filled : IsFilled l.out.items l.i (λ i. dot (get_or l.m.rows i []) l.c);
-  fits : (k : ℕ) → k < l.i → DotFits (get_or l.m.rows k []) l.c;
+  filled : IsFilled l.out.items l.i (λ i. dot (get_or l.matrix.rows i []) l.list);
+  fits : (k : ℕ) → k < l.i → DotFits (get_or l.matrix.rows k []) l.list;
 }

@@ -5,8 +5,8 @@ use Rattle.mpc_online.proofs.wholes.dot_of_numerators.Goals as goal
 
 pub returns-clause-value : goal.returns-clause-value
 returns-clause-value c xs ys ox oy h l =
-    summed_value c.args.x.now c.args.y.now c.dot_from.result xs ys (c.dot_from.ensures.sum xs ys ox oy h l)
-    ∙ ap (λ t. frac t (c.args.x.now.den * c.args.y.now.den)) (sym (read_mag c.dot_from.result c.dot_from.type_inv))
+    summed_value c.args.row.now c.args.numbers.now c.dot_from.result xs ys (c.dot_from.ensures.sum xs ys ox oy h l)
+    ∙ ap (λ t. frac t (c.args.row.now.den * c.args.numbers.now.den)) (sym (read_mag c.dot_from.result c.dot_from.type_inv))
 
 pub returns-clause-fits : goal.returns-clause-fits
-returns-clause-fits c xs ys ox oy h l = summed_fits c.args.x.now c.args.y.now c.dot_from.result xs ys (c.dot_from.ensures.sum xs ys ox oy h l)
+returns-clause-fits c xs ys ox oy h l = summed_fits c.args.row.now c.args.numbers.now c.dot_from.result xs ys (c.dot_from.ensures.sum xs ys ox oy h l)

@@ -21,19 +21,19 @@ loop-i-preserved c =
     let e : c.unsigned_abs.result ≡ unsigned_abs z = c.unsigned_abs.ensures.value in
     let all = c.requires.rows.size in
     let there : c.loop-i.i < length c.args.rows.now = c.loop-i-test.true in
-    let within : c.loop-i.i < height c.args.m.now = omega (arith, all, there) in
+    let within : c.loop-i.i < height c.args.matrix.now = omega (arith, all, there) in
     let few = c.requires.few_rows in
-    let over : IfSome c.index-rows-i.result (IsOver (get_or c.args.m.now.rows c.loop-i.i [])) =
-    subst (λ (o : Option Wholes). IfSome o (IsOver (get_or c.args.m.now.rows c.loop-i.i []))) (sym (row_read c.args.rows.now c.loop-i.i c.index-rows-i.result there c.index-rows-i.is)) (c.requires.rows.at c.loop-i.i within) in
-    found_more (2 ^ 124) (λ j v. coordinate (mat_vec c.args.m.now.rows c.args.xs.now) j ≡ frac v c.in_ok-den.den) c.in_ok-den.den c.loop-i.numerators c.loop-i.most c.loop-i.i c.max-most.result z
+    let over : IfSome c.index-rows-i.result (IsOver (get_or c.args.matrix.now.rows c.loop-i.i [])) =
+    subst (λ (o : Option Wholes). IfSome o (IsOver (get_or c.args.matrix.now.rows c.loop-i.i []))) (sym (row_read c.args.rows.now c.loop-i.i c.index-rows-i.result there c.index-rows-i.is)) (c.requires.rows.at c.loop-i.i within) in
+    found_more (2 ^ 124) (λ j v. coordinate (mat_vec c.args.matrix.now.rows c.args.xs.now) j ≡ frac v c.in_ok-den.den) c.in_ok-den.den c.loop-i.numerators c.loop-i.most c.loop-i.i c.max-most.result z
     (omega (arith, within, few)) (omega (arith, m)) (omega (arith, m, e)) (let room = c.loop-i.invariant.most_small in omega (arith, m, e, room, size))
-    (coordinate-mat_vec c.args.m.now.rows c.args.xs.now c.loop-i.i
-    ∙ c.in_ok-numerator.ensures.value (get_or c.args.m.now.rows c.loop-i.i []) c.args.xs.now over c.in_ok-numbers.ensures (c.requires.rectangular c.loop-i.i [] within ∙ c.requires.size) refl
+    (coordinate-mat_vec c.args.matrix.now.rows c.args.xs.now c.loop-i.i
+    ∙ c.in_ok-numerator.ensures.value (get_or c.args.matrix.now.rows c.loop-i.i []) c.args.xs.now over c.in_ok-numbers.ensures (c.requires.rectangular c.loop-i.i [] within ∙ c.requires.size) refl
     ∙ ap (λ u. frac u c.in_ok-den.den) (sym back)) c.loop-i.invariant
 
 pub returns : goal.returns
 returns c =
-    let l = length-mat_vec c.args.m.now.rows c.args.xs.now in
+    let l = length-mat_vec c.args.matrix.now.rows c.args.xs.now in
     let few = c.requires.few_rows in
     let six = c.loop-i.invariant.size in
     let all = c.requires.rows.size in

@@ -5,4 +5,4 @@ use Rattle.mpc_online.proofs.WholeMoves.{AreFound}
 use Rattle.mpc_online.proofs.wholes.products_in_wholes.Given as goal
 
 abbrev pub invariant-loop-i : goal.invariant-loop-i
-invariant-loop-i l = AreFound (2 ^ 124) (λ j v. coordinate (mat_vec l.m.rows l.xs) j ≡ frac v l.den) l.den l.numerators l.most l.i
+invariant-loop-i l = AreFound (2 ^ 124) (λ j v. coordinate (mat_vec l.matrix.rows l.xs) j ≡ frac v l.den) l.den l.numerators l.most l.i

@@ -5,5 +5,5 @@ use Rattle.mpc_online.proofs.wholes.whole_rows.Given as goal
 abbrev pub invariant-loop-i : goal.invariant-loop-i
 invariant-loop-i l = record {
   size : length l.rows.items ≡ l.i;
-  at : (j : ℕ) → j < l.i → IfSome (get_or l.rows.items j None) (IsOver (get_or l.m.rows j []));
+  at : (j : ℕ) → j < l.i → IfSome (get_or l.rows.items j None) (IsOver (get_or l.matrix.rows j []));
 }
