@@ -8,84 +8,84 @@ pub(crate) const SHORT: u128 = u64::MAX as u128;
 
 /// The greatest common divisor of two odd numbers, by the binary algorithm (Stein, 1967).
 #[inline]
-fn of_odd(mut x: u64, mut y: u64) -> u64
-    requires x_odd { x % 2 ≡ 1 }
-    requires y_odd { y % 2 ≡ 1 }
-    ensures { result ≡ gcd x y }
+fn of_odd(mut left: u64, mut right: u64) -> u64
+    requires x_odd { left % 2 ≡ 1 }
+    requires y_odd { right % 2 ≡ 1 }
+    ensures { result ≡ gcd left right }
 {
     'steps: loop {
-        let difference = x.abs_diff(y);
+        let difference = left.abs_diff(right);
         if difference == 0 {
-            return x;
+            return left;
         }
-        y = x.min(y);
-        x = difference >> difference.trailing_zeros();
+        right = left.min(right);
+        left = difference >> difference.trailing_zeros();
     }
 }
 
 /// The same for wide numbers, in 64 bits as soon as both fit.
-fn of_odd_wide(mut x: u128, mut y: u128) -> u128
-    requires x_odd { x % 2 ≡ 1 }
-    requires y_odd { y % 2 ≡ 1 }
-    ensures { result ≡ gcd x y }
+fn of_odd_wide(mut left: u128, mut right: u128) -> u128
+    requires x_odd { left % 2 ≡ 1 }
+    requires y_odd { right % 2 ≡ 1 }
+    ensures { result ≡ gcd left right }
 {
-    'steps: while x > SHORT || y > SHORT {
-        let difference = x.abs_diff(y);
+    'steps: while left > SHORT || right > SHORT {
+        let difference = left.abs_diff(right);
         if difference == 0 {
-            return x;
+            return left;
         }
-        y = x.min(y);
-        x = difference >> difference.trailing_zeros();
+        right = left.min(right);
+        left = difference >> difference.trailing_zeros();
     }
-    of_odd(x as u64, y as u64) as u128
+    of_odd(left as u64, right as u64) as u128
 }
 
 /// The greatest common divisor of numbers of 64 bits.
 #[inline]
-pub(crate) fn short_divisor(a: u64, b: u64) -> u64
-    ensures value { result ≡ gcd a b }
-    ensures positive { 0 < b → 0 < result }
+pub(crate) fn short_divisor(left: u64, right: u64) -> u64
+    ensures value { result ≡ gcd left right }
+    ensures positive { 0 < right → 0 < result }
 {
-    if a == 0 {
-        return b;
+    if left == 0 {
+        return right;
     }
-    if b == 0 {
-        return a;
+    if right == 0 {
+        return left;
     }
-    if a == 1 || b == 1 {
+    if left == 1 || right == 1 {
         return 1;
     }
-    let left = a.trailing_zeros();
-    let right = b.trailing_zeros();
-    of_odd(a >> left, b >> right) << left.min(right)
+    let left_zeros = left.trailing_zeros();
+    let right_zeros = right.trailing_zeros();
+    of_odd(left >> left_zeros, right >> right_zeros) << left_zeros.min(right_zeros)
 }
 
 /// The greatest common divisor of numbers that are both too wide for 64 bits.
-fn wide_divisor(a: u128, b: u128) -> u128
-    requires a_some { 0 < a }
-    requires b_some { 0 < b }
-    ensures { result ≡ gcd a b }
+fn wide_divisor(left: u128, right: u128) -> u128
+    requires a_some { 0 < left }
+    requires b_some { 0 < right }
+    ensures { result ≡ gcd left right }
 {
-    let left = a.trailing_zeros();
-    let right = b.trailing_zeros();
-    of_odd_wide(a >> left, b >> right) << left.min(right)
+    let left_zeros = left.trailing_zeros();
+    let right_zeros = right.trailing_zeros();
+    of_odd_wide(left >> left_zeros, right >> right_zeros) << left_zeros.min(right_zeros)
 }
 
 /// The greatest common divisor, which is the other number where one is 0.
-pub fn greatest_common_divisor(a: u128, b: u128) -> u128
-    ensures value { result ≡ gcd a b }
-    ensures positive { 0 < b → 0 < result }
+pub fn greatest_common_divisor(left: u128, right: u128) -> u128
+    ensures value { result ≡ gcd left right }
+    ensures positive { 0 < right → 0 < result }
 {
-    if a <= SHORT && b <= SHORT {
-        return short_divisor(a as u64, b as u64) as u128;
+    if left <= SHORT && right <= SHORT {
+        return short_divisor(left as u64, right as u64) as u128;
     }
-    if b <= SHORT {
-        return reduced_divisor(a, b as u64);
+    if right <= SHORT {
+        return reduced_divisor(left, right as u64);
     }
-    if a <= SHORT {
-        return reduced_divisor(b, a as u64);
+    if left <= SHORT {
+        return reduced_divisor(right, left as u64);
     }
-    wide_divisor(a, b)
+    wide_divisor(left, right)
 }
 
 /// The greatest common divisor of a wide number and a short one, by one remainder.

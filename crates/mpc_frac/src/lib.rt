@@ -82,13 +82,13 @@ impl Model for Frac {
 }
 
 /// The product, if it lies below 2^127.
-fn small_product(x: u128, y: u128) -> Result<u128, Wide>
-    ensures small { MatchResult result (λ p. p < 2 ^ 127) (λ _. 2 ^ 127 ≤ x * y) }
-    ensures value { MatchResult result (λ p. p ≡ x * y) (λ _. 2 ^ 127 ≤ x * y) }
+fn small_product(left: u128, right: u128) -> Result<u128, Wide>
+    ensures small { MatchResult result (λ product. product < 2 ^ 127) (λ _. 2 ^ 127 ≤ left * right) }
+    ensures value { MatchResult result (λ product. product ≡ left * right) (λ _. 2 ^ 127 ≤ left * right) }
 {
-    match x.checked_mul(y) {
-        Some(p) => if p <= i128::MAX as u128 {
-            Ok(p)
+    match left.checked_mul(right) {
+        Some(product) => if product <= i128::MAX as u128 {
+            Ok(product)
         } else {
             Err(Wide)
         },
@@ -98,26 +98,26 @@ fn small_product(x: u128, y: u128) -> Result<u128, Wide>
 
 /// A number divided by a divisor that is often 1, and in 64 bits where both fit.
 #[inline]
-fn part(n: u128, divisor: u128) -> u128
+fn part(number: u128, divisor: u128) -> u128
     requires { 0 < divisor }
-    ensures { result ≡ n / divisor }
+    ensures { result ≡ number / divisor }
 {
     if divisor == 1 {
-        return n;
+        return number;
     }
-    if n <= SHORT && divisor <= SHORT {
-        return (n as u64 / divisor as u64) as u128;
+    if number <= SHORT && divisor <= SHORT {
+        return (number as u64 / divisor as u64) as u128;
     }
-    n / divisor
+    number / divisor
 }
 
-/// The size, with the sign of the product of a and c.
+/// The size, with the sign of the product of the two numbers.
 #[inline]
-pub(crate) fn with_sign_of(a: i128, c: i128, size: u128) -> i128
+pub(crate) fn with_sign_of(left: i128, right: i128, size: u128) -> i128
     requires { size < 2 ^ 127 }
-    ensures { result ≡ signed_like a c size }
+    ensures { result ≡ signed_like left right size }
 {
-    if (a < 0) == (c < 0) {
+    if (left < 0) == (right < 0) {
         size as i128
     } else {
         -(size as i128)
@@ -141,38 +141,43 @@ fn cancelled(num: i128, den: u128, divisor: u128) -> Frac
 }
 
 /// The sum, if it lies below 2^127 in size.
-fn small_sum(a: i128, c: i128) -> Result<i128, Wide>
-    ensures small { MatchResult result (λ s. unsigned_abs s < 2 ^ 127) (λ _. ⊤) }
-    ensures value { MatchResult result (λ s. s ≡ a +ℤ c) (λ _. 2 ^ 127 ≤ unsigned_abs (a +ℤ c)) }
+fn small_sum(left: i128, right: i128) -> Result<i128, Wide>
+    ensures small { MatchResult result (λ sum. unsigned_abs sum < 2 ^ 127) (λ _. ⊤) }
+    ensures value { MatchResult result (λ sum. sum ≡ left +ℤ right) (λ _. 2 ^ 127 ≤ unsigned_abs (left +ℤ right)) }
 {
-    match a.checked_add(c) {
-        Some(s) => if s == i128::MIN { Err(Wide) } else { Ok(s) },
+    match left.checked_add(right) {
+        Some(sum) => if sum == i128::MIN { Err(Wide) } else { Ok(sum) },
         None => Err(Wide),
     }
 }
 
-/// The order of a / b and c / d, by their continued fractions, so that no product is made.
+/// The order of `left_num / left_den` and `right_num / right_den`, by their continued fractions, so that no product is made.
 #[inline(never)]
-fn compare(mut a: u128, mut b: u128, mut c: u128, mut d: u128) -> Ordering
-    requires b_some { 0 < b }
-    requires d_some { 0 < d }
-    ensures { result ≡ nat_cmp (a * d) (c * b) }
+fn compare(
+    mut left_num: u128,
+    mut left_den: u128,
+    mut right_num: u128,
+    mut right_den: u128,
+) -> Ordering
+    requires b_some { 0 < left_den }
+    requires d_some { 0 < right_den }
+    ensures { result ≡ nat_cmp (left_num * right_den) (right_num * left_den) }
 {
     'turns: loop {
-        let p = a / b;
-        let q = c / d;
-        if p != q {
-            return p.cmp(&q);
+        let left_whole = left_num / left_den;
+        let right_whole = right_num / right_den;
+        if left_whole != right_whole {
+            return left_whole.cmp(&right_whole);
         }
-        let r = a % b;
-        let s = c % d;
-        if r == 0 || s == 0 {
-            return r.cmp(&s);
+        let left_rest = left_num % left_den;
+        let right_rest = right_num % right_den;
+        if left_rest == 0 || right_rest == 0 {
+            return left_rest.cmp(&right_rest);
         }
-        a = d;
-        c = b;
-        b = s;
-        d = r;
+        left_num = right_den;
+        right_num = left_den;
+        left_den = right_rest;
+        right_den = left_rest;
     }
 }
 
@@ -192,11 +197,11 @@ impl Frac {
         }
     }
 
-    /// The fraction of these parts in lowest terms, with the sign of the product of a and c, if it fits.
-    fn fitted(a: i128, c: i128, size: u128, den: u128) -> Result<Frac, Wide>
+    /// The fraction of these parts in lowest terms, with the sign of the product of the two numbers, if it fits.
+    fn fitted(left: i128, right: i128, size: u128, den: u128) -> Result<Frac, Wide>
         requires den_positive { 0 < den }
         requires coprime { gcd size den ≡ 1 }
-        ensures value { IfOk result (λ v. v ≡ frac (signed_like a c size) den) }
+        ensures value { IfOk result (λ v. v ≡ frac (signed_like left right size) den) }
         ensures wide { MatchResult result (λ _. (size < 2 ^ 127) × (den < 2 ^ 127))
             (λ _. (2 ^ 127 ≤ size) ⊎ (2 ^ 127 ≤ den)) }
     {
@@ -206,7 +211,7 @@ impl Frac {
         if den > i128::MAX as u128 {
             return Err(Wide);
         }
-        Ok(Frac::lowest(with_sign_of(a, c, size), den))
+        Ok(Frac::lowest(with_sign_of(left, right, size), den))
     }
 
     /// The reduced value of num/den.
@@ -232,11 +237,11 @@ impl Frac {
         }
     }
 
-    /// The whole number n.
-    pub fn whole(n: i64) -> Frac
-        ensures { result ≡ int n }
+    /// The whole number.
+    pub fn whole(number: i64) -> Frac
+        ensures { result ≡ int number }
     {
-        Frac::lowest(n as i128, 1)
+        Frac::lowest(number as i128, 1)
     }
 
     /// The numerator, which has the fraction's sign.
@@ -384,13 +389,13 @@ impl Frac {
         self.mul(&other.inverse())
     }
 
-    /// The numerator times n.
-    fn numer_times(&self, n: u128) -> Result<i128, Wide>
+    /// The numerator times the factor.
+    fn numer_times(&self, factor: u128) -> Result<i128, Wide>
         ensures small { MatchResult result (λ p. unsigned_abs p < 2 ^ 127) (λ _. ⊤) }
-        ensures value { MatchResult result (λ p. p ≡ self.now.numer *ℤ pos n)
-            (λ _. 2 ^ 127 ≤ unsigned_abs (self.now.numer *ℤ pos n)) }
+        ensures value { MatchResult result (λ p. p ≡ self.now.numer *ℤ pos factor)
+            (λ _. 2 ^ 127 ≤ unsigned_abs (self.now.numer *ℤ pos factor)) }
     {
-        let size = small_product(self.size(), n)?;
+        let size = small_product(self.size(), factor)?;
         Ok(with_sign_of(self.num(), 1, size))
     }
 

@@ -22,40 +22,40 @@ pub(crate) struct Short {
 
 /// The product of two numbers of 64 bits.
 #[inline]
-fn wide_product(x: u64, y: u64) -> u128
-    ensures { result ≡ x * y }
+fn wide_product(left: u64, right: u64) -> u128
+    ensures { result ≡ left * right }
 {
-    x as u128 * y as u128
+    left as u128 * right as u128
 }
 
 /// The product of two whole numbers.
 #[inline]
-fn whole_product(a: i64, c: i64) -> Frac
-    ensures value { result ≡ frac a 1 *ℚ frac c 1 }
-    ensures fits { FitsFrac (frac a 1 *ℚ frac c 1) }
+fn whole_product(left: i64, right: i64) -> Frac
+    ensures value { result ≡ frac left 1 *ℚ frac right 1 }
+    ensures fits { FitsFrac (frac left 1 *ℚ frac right 1) }
 {
-    Frac::lowest(a as i128 * c as i128, 1)
+    Frac::lowest(left as i128 * right as i128, 1)
 }
 
 /// The product of a signed number and a denominator.
 #[inline]
-fn times(a: i64, n: u64) -> i128
-    requires { n < 2 ^ 63 }
-    ensures value { result ≡ a *ℤ pos n }
+fn times(number: i64, den: u64) -> i128
+    requires { den < 2 ^ 63 }
+    ensures value { result ≡ number *ℤ pos den }
     ensures small { unsigned_abs result < 2 ^ 126 }
 {
-    a as i128 * n as i128
+    number as i128 * den as i128
 }
 
-/// a q + c p.
+/// `left_num right_den + right_num left_den`.
 #[inline]
-fn cross_sum(a: i64, q: u64, c: i64, p: u64) -> i128
-    requires q_small { q < 2 ^ 63 }
-    requires p_small { p < 2 ^ 63 }
-    ensures value { result ≡ a *ℤ pos q +ℤ c *ℤ pos p }
+fn cross_sum(left_num: i64, right_den: u64, right_num: i64, left_den: u64) -> i128
+    requires q_small { right_den < 2 ^ 63 }
+    requires p_small { left_den < 2 ^ 63 }
+    ensures value { result ≡ left_num *ℤ pos right_den +ℤ right_num *ℤ pos left_den }
     ensures small { unsigned_abs result < 2 ^ 127 }
 {
-    times(a, q) + times(c, p)
+    times(left_num, right_den) + times(right_num, left_den)
 }
 
 /// The rest of a wide number by a short one.
@@ -86,11 +86,15 @@ fn over(wide: u128, short: u64) -> u128
 
 /// A number divided by a divisor that is often 1.
 #[inline]
-fn part(n: u64, divisor: u64) -> u64
+fn part(number: u64, divisor: u64) -> u64
     requires { 0 < divisor }
-    ensures { result ≡ n / divisor }
+    ensures { result ≡ number / divisor }
 {
-    if divisor == 1 { n } else { n / divisor }
+    if divisor == 1 {
+        number
+    } else {
+        number / divisor
+    }
 }
 
 /// The fraction num/(den right), where only factors of the divisor can cancel.

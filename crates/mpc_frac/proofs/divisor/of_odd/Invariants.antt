@@ -4,10 +4,10 @@ use Rattle.mpc_frac.proofs.divisor.of_odd.Given as goal
 
 abbrev pub invariant-steps : goal.invariant-steps
 invariant-steps l = record {
-  x_odd : l.x % 2 ≡ 1;
-  y_odd : l.y % 2 ≡ 1;
-  same : gcd l.x l.y ≡ gcd l.fn.x l.fn.y;
+  x_odd : l.left % 2 ≡ 1;
+  y_odd : l.right % 2 ≡ 1;
+  same : gcd l.left l.right ≡ gcd l.fn.left l.fn.right;
 }
 
 abbrev pub decreases-steps : goal.decreases-steps
-decreases-steps l = l.x + l.y
+decreases-steps l = l.left + l.right

@@ -15,6 +15,6 @@ read c = ap (λ z. to_z w128 (of_z w128 z)) (λ i. read_fitting c.times.result c
 pub returns : goal.returns
 returns c = record {
   value = read ((goal.at.returns c).After-times-2)
-      ∙ (λ i. (c.times.ensures.value ∙ ap (λ z. z *ℤ pos c.args.q) (read_short c.args.a c.ranges.a.sfits)) i +ℤ (c.times-2.ensures.value ∙ ap (λ z. z *ℤ pos c.args.p) (read_short c.args.c c.ranges.c.sfits)) i);
+      ∙ (λ i. (c.times.ensures.value ∙ ap (λ z. z *ℤ pos c.args.right_den) (read_short c.args.left_num c.ranges.left_num.sfits)) i +ℤ (c.times-2.ensures.value ∙ ap (λ z. z *ℤ pos c.args.left_den) (read_short c.args.right_num c.ranges.right_num.sfits)) i);
   small = small_along (2 ^ 127) _ _ (read ((goal.at.returns c).After-times-2)) (total_small ((goal.at.returns c).After-times-2));
 }

@@ -9,7 +9,7 @@ lowest-requires-clause-coprime c = gcd-one _
 
 pub returns-clause-value : goal.returns-clause-value
 returns-clause-value c =
-    c.lowest.ensures ∙ ap (λ z. frac z 1) (product_read c.args.a c.args.c c.ranges.a.sfits c.ranges.c.sfits) ∙ whole_product_is c.args.a c.args.c
+    c.lowest.ensures ∙ ap (λ z. frac z 1) (product_read c.args.left c.args.right c.ranges.left.sfits c.ranges.right.sfits) ∙ whole_product_is c.args.left c.args.right
 
 pub returns-clause-fits : goal.returns-clause-fits
-returns-clause-fits c = whole_product_fits c.args.a c.args.c c.ranges.a.sfits c.ranges.c.sfits
+returns-clause-fits c = whole_product_fits c.args.left c.args.right c.ranges.left.sfits c.ranges.right.sfits
