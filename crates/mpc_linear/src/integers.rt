@@ -28,14 +28,14 @@ pub struct IntAffine {
 }
 
 /// The least common multiple, if it lies below 2^127.
-fn least_multiple(a: u128, b: u128) -> Option<u128>
-    requires a_positive { 0 < a }
-    requires b_positive { 0 < b }
-    ensures value { MatchOption result (2 ^ 127 ≤ lcm a b) (λ m. m ≡ lcm a b) }
-    ensures small { MatchOption result (2 ^ 127 ≤ lcm a b) (λ m. m < 2 ^ 127) }
+fn least_multiple(left: u128, right: u128) -> Option<u128>
+    requires a_positive { 0 < left }
+    requires b_positive { 0 < right }
+    ensures value { MatchOption result (2 ^ 127 ≤ lcm left right) (λ m. m ≡ lcm left right) }
+    ensures small { MatchOption result (2 ^ 127 ≤ lcm left right) (λ m. m < 2 ^ 127) }
 {
-    let part = a / greatest_common_divisor(a, b);
-    match part.checked_mul(b) {
+    let part = left / greatest_common_divisor(left, right);
+    match part.checked_mul(right) {
         Some(multiple) => if multiple <= i128::MAX as u128 {
             Some(multiple)
         } else {
@@ -46,21 +46,21 @@ fn least_multiple(a: u128, b: u128) -> Option<u128>
 }
 
 /// The denominator.
-fn denominator(x: &Frac) -> u128
-    ensures value { result ≡ x.now.denom }
+fn denominator(fraction: &Frac) -> u128
+    ensures value { result ≡ fraction.now.denom }
     ensures positive { 0 < result }
 {
-    x.den() as u128
+    fraction.den() as u128
 }
 
 /// The least common denominator, if it lies below 2^127.
-fn common_denominator(c: &[Frac]) -> Option<u128>
-    ensures value { MatchOption result (2 ^ 127 ≤ common_denom c.now) (λ l. l ≡ common_denom c.now) }
-    ensures small { MatchOption result (2 ^ 127 ≤ common_denom c.now) (λ l. l < 2 ^ 127) }
+fn common_denominator(fractions: &[Frac]) -> Option<u128>
+    ensures value { MatchOption result (2 ^ 127 ≤ common_denom fractions.now) (λ l. l ≡ common_denom fractions.now) }
+    ensures small { MatchOption result (2 ^ 127 ≤ common_denom fractions.now) (λ l. l < 2 ^ 127) }
 {
     let mut all = 1;
-    for x in c {
-        match least_multiple(all, denominator(x)) {
+    for fraction in fractions {
+        match least_multiple(all, denominator(fraction)) {
             Some(multiple) => all = multiple,
             None => return None,
         }
@@ -68,15 +68,15 @@ fn common_denominator(c: &[Frac]) -> Option<u128>
     Some(all)
 }
 
-/// The numerator of x over a multiple of its denominator, if it lies below 2^127 in size.
-fn numerator_over(x: &Frac, all: u128) -> Option<i128>
+/// The numerator of the fraction over a multiple of its denominator, if it lies below 2^127 in size.
+fn numerator_over(fraction: &Frac, all: u128) -> Option<i128>
     requires positive { 0 < all }
     requires small { all < 2 ^ 127 }
-    ensures value { MatchOption result (2 ^ 127 ≤ unsigned_abs (scaled all x.now)) (λ z. z ≡ scaled all x.now) }
-    ensures small { MatchOption result (2 ^ 127 ≤ unsigned_abs (scaled all x.now)) (λ z. unsigned_abs z < 2 ^ 127) }
+    ensures value { MatchOption result (2 ^ 127 ≤ unsigned_abs (scaled all fraction.now)) (λ z. z ≡ scaled all fraction.now) }
+    ensures small { MatchOption result (2 ^ 127 ≤ unsigned_abs (scaled all fraction.now)) (λ z. unsigned_abs z < 2 ^ 127) }
 {
-    let times = all / denominator(x);
-    match x.num().checked_mul(times as i128) {
+    let times = all / denominator(fraction);
+    match fraction.num().checked_mul(times as i128) {
         Some(numerator) => if numerator == i128::MIN {
             None
         } else {
@@ -87,16 +87,16 @@ fn numerator_over(x: &Frac, all: u128) -> Option<i128>
 }
 
 /// The numerators over a multiple of all denominators. Wide where one of them is.
-fn numerators_over(alloc: Global, c: &[Frac], all: u128) -> Result<Ints, LinearError>
+fn numerators_over(alloc: Global, fractions: &[Frac], all: u128) -> Result<Ints, LinearError>
     requires positive { 0 < all }
     requires small { all < 2 ^ 127 }
-    ensures value { IfOk result (λ k. k ≡ map (scaled all) c.now) }
-    ensures wide { MatchResult result (λ _. ScaledFit all c.now)
-        (λ e. IfWide e (λ step. (step ≡ 0) × (¬ ScaledFit all c.now))) }
+    ensures value { IfOk result (λ k. k ≡ map (scaled all) fractions.now) }
+    ensures wide { MatchResult result (λ _. ScaledFit all fractions.now)
+        (λ e. IfWide e (λ step. (step ≡ 0) × (¬ ScaledFit all fractions.now))) }
 {
-    let mut numerators = Ints::with_capacity(alloc, c.len())?;
-    for x in c {
-        let Some(numerator) = numerator_over(x, all) else {
+    let mut numerators = Ints::with_capacity(alloc, fractions.len())?;
+    for fraction in fractions {
+        let Some(numerator) = numerator_over(fraction, all) else {
             return Err(LinearError::Wide(0));
         };
         numerators.push(numerator)?;
@@ -107,68 +107,68 @@ fn numerators_over(alloc: Global, c: &[Frac], all: u128) -> Result<Ints, LinearE
 /// The affine form with these coefficients, the constant first, over their least common denominator.
 ///
 /// `Wide(0)` where this denominator or one of the numerators over it doesn't fit.
-pub fn common(alloc: Global, c: &Vector) -> Result<IntAffine, LinearError>
-    ensures form { IfOk result (λ f. IsLeastForm c.now f.den f.k) }
-    ensures denominator { IfOk result (λ f. f.den ≡ pos (common_denom c.now)) }
-    ensures numerators { IfOk result (λ f. f.k ≡ map (scaled (common_denom c.now)) c.now) }
-    ensures wide { MatchResult result (λ _. WholeFits c.now)
-        (λ e. IfWide e (λ step. (step ≡ 0) × (¬ WholeFits c.now))) }
+pub fn common(alloc: Global, coefficients: &Vector) -> Result<IntAffine, LinearError>
+    ensures form { IfOk result (λ f. IsLeastForm coefficients.now f.den f.k) }
+    ensures denominator { IfOk result (λ f. f.den ≡ pos (common_denom coefficients.now)) }
+    ensures numerators { IfOk result (λ f. f.k ≡ map (scaled (common_denom coefficients.now)) coefficients.now) }
+    ensures wide { MatchResult result (λ _. WholeFits coefficients.now)
+        (λ e. IfWide e (λ step. (step ≡ 0) × (¬ WholeFits coefficients.now))) }
 {
-    let entries = c.as_slice();
+    let entries = coefficients.as_slice();
     let Some(all) = common_denominator(entries) else {
         return Err(LinearError::Wide(0));
     };
-    let k = numerators_over(alloc, entries, all)?;
+    let numerators = numerators_over(alloc, entries, all)?;
     Ok(IntAffine {
         den: all as i128,
-        k,
+        k: numerators,
     })
 }
 
-/// The greatest common divisor of these integers and b; 0 where all are 0.
-pub fn shared_divisor(row: &Ints, b: i128) -> u128
+/// The greatest common divisor of these integers and the bound; 0 where all are 0.
+pub fn shared_divisor(row: &Ints, bound: i128) -> u128
     requires small { AreSmall row.now }
-    requires b_small { unsigned_abs b < 2 ^ 127 }
-    ensures shared { IsShared result (row.now ++ b ∷ []) }
+    requires b_small { unsigned_abs bound < 2 ^ 127 }
+    ensures shared { IsShared result (row.now ++ bound ∷ []) }
     ensures small { result < 2 ^ 127 }
 {
-    let mut shared = b.unsigned_abs();
-    for z in row.as_slice() {
-        shared = greatest_common_divisor(shared, z.unsigned_abs());
+    let mut shared = bound.unsigned_abs();
+    for integer in row.as_slice() {
+        shared = greatest_common_divisor(shared, integer.unsigned_abs());
     }
     shared
 }
 
-/// The row `a · t ≤ b` over the least common denominator.
-fn whole_row(alloc: Global, a: &[Frac], b: &Frac) -> Result<RowInt, LinearError>
-    ensures scaled { IfOk result (λ r. IsScaledRow a.now b.now r.a r.b) }
+/// The row `coefficients · t ≤ bound` over the least common denominator.
+fn whole_row(alloc: Global, coefficients: &[Frac], bound: &Frac) -> Result<RowInt, LinearError>
+    ensures scaled { IfOk result (λ r. IsScaledRow coefficients.now bound.now r.a r.b) }
     ensures small { IfOk result (λ r. AreSmall r.a) }
     ensures b_small { IfOk result (λ r. unsigned_abs r.b < 2 ^ 127) }
-    ensures wide { MatchResult result (λ _. WholeFits (a.now ++ b.now ∷ []))
-        (λ e. IfWide e (λ step. (step ≡ 0) × (¬ WholeFits (a.now ++ b.now ∷ [])))) }
+    ensures wide { MatchResult result (λ _. WholeFits (coefficients.now ++ bound.now ∷ []))
+        (λ e. IfWide e (λ step. (step ≡ 0) × (¬ WholeFits (coefficients.now ++ bound.now ∷ [])))) }
 {
-    let Some(front) = common_denominator(a) else {
+    let Some(front) = common_denominator(coefficients) else {
         return Err(LinearError::Wide(0));
     };
-    let Some(all) = least_multiple(front, denominator(b)) else {
+    let Some(all) = least_multiple(front, denominator(bound)) else {
         return Err(LinearError::Wide(0));
     };
-    let Some(side) = numerator_over(b, all) else {
+    let Some(side) = numerator_over(bound, all) else {
         return Err(LinearError::Wide(0));
     };
-    let row = numerators_over(alloc, a, all)?;
+    let row = numerators_over(alloc, coefficients, all)?;
     Ok(RowInt { a: row, b: side })
 }
 
-/// z divided by a number, towards 0.
-fn divided(z: i128, by: u128) -> i128
+/// The integer divided by a number, towards 0.
+fn divided(integer: i128, by: u128) -> i128
     requires positive { 0 < by }
     requires by_small { by < 2 ^ 127 }
-    requires small { unsigned_abs z < 2 ^ 127 }
-    ensures value { result ≡ int_div z (pos by) }
+    requires small { unsigned_abs integer < 2 ^ 127 }
+    ensures value { result ≡ int_div integer (pos by) }
     ensures small { unsigned_abs result < 2 ^ 127 }
 {
-    z / by as i128
+    integer / by as i128
 }
 
 /// The integers, each divided by a number.
@@ -176,11 +176,11 @@ fn divided_row(alloc: Global, row: &Ints, by: u128) -> Result<Ints, NoMemory>
     requires positive { 0 < by }
     requires by_small { by < 2 ^ 127 }
     requires small { AreSmall row.now }
-    ensures { IfOk result (λ r. r ≡ map (λ z. int_div z (pos by)) row.now) }
+    ensures { IfOk result (λ r. r ≡ map (λ integer. int_div integer (pos by)) row.now) }
 {
     let mut quotients = Ints::with_capacity(alloc, row.len())?;
-    for z in row.as_slice() {
-        quotients.push(divided(*z, by))?;
+    for integer in row.as_slice() {
+        quotients.push(divided(*integer, by))?;
     }
     Ok(quotients)
 }
@@ -189,7 +189,7 @@ fn divided_row(alloc: Global, row: &Ints, by: u128) -> Result<Ints, NoMemory>
 fn without_divisor(alloc: Global, row: RowInt) -> Result<RowInt, NoMemory>
     requires small { AreSmall row.a }
     requires b_small { unsigned_abs row.b < 2 ^ 127 }
-    ensures scaled { IfOk result (λ r. (a : List ℚ) (b : ℚ) → IsScaledRow a b row.a row.b → IsScaledRow a b r.a r.b) }
+    ensures scaled { IfOk result (λ r. (coefficients : List ℚ) (bound : ℚ) → IsScaledRow coefficients bound row.a row.b → IsScaledRow coefficients bound r.a r.b) }
     ensures primitive { IfOk result (λ r. IsPrimitive (r.a ++ r.b ∷ [])) }
     ensures small { IfOk result (λ r. AreSmall r.a) }
     ensures b_small { IfOk result (λ r. unsigned_abs r.b < 2 ^ 127) }
@@ -198,26 +198,26 @@ fn without_divisor(alloc: Global, row: RowInt) -> Result<RowInt, NoMemory>
     if shared <= 1 {
         return Ok(row);
     }
-    let a = divided_row(alloc, &row.a, shared)?;
+    let coefficients = divided_row(alloc, &row.a, shared)?;
     Ok(RowInt {
-        a,
+        a: coefficients,
         b: divided(row.b, shared),
     })
 }
 
-/// The row `a · t ≤ b` in whole numbers without a common divisor; a row of zeros stays so.
+/// The row `coefficients · t ≤ bound` in whole numbers without a common divisor; a row of zeros stays so.
 ///
-/// `Wide(0)` where the least common denominator of a and b, or one of the numerators over it, doesn't fit.
-pub fn primitive(alloc: Global, a: &Vector, b: &Frac) -> Result<RowInt, LinearError>
-    ensures scaled { IfOk result (λ r. IsScaledRow a.now b.now r.a r.b) }
+/// `Wide(0)` where the least common denominator of the coefficients and the bound, or one of the numerators over it, doesn't fit.
+pub fn primitive(alloc: Global, coefficients: &Vector, bound: &Frac) -> Result<RowInt, LinearError>
+    ensures scaled { IfOk result (λ r. IsScaledRow coefficients.now bound.now r.a r.b) }
     ensures primitive { IfOk result (λ r. IsPrimitive (r.a ++ r.b ∷ [])) }
     ensures small { IfOk result (λ r. AreSmall r.a) }
     ensures b_small { IfOk result (λ r. unsigned_abs r.b < 2 ^ 127) }
-    ensures same_points { IfOk result (λ r. (t : List ℚ) → (dot a.now t ≤ℚ b.now) ↔ (dot (map int r.a) t ≤ℚ int r.b)) }
-    ensures wide { MatchResult result (λ _. WholeFits (a.now ++ b.now ∷ []))
-        (λ e. IfWide e (λ step. (step ≡ 0) × (¬ WholeFits (a.now ++ b.now ∷ [])))) }
+    ensures same_points { IfOk result (λ r. (t : List ℚ) → (dot coefficients.now t ≤ℚ bound.now) ↔ (dot (map int r.a) t ≤ℚ int r.b)) }
+    ensures wide { MatchResult result (λ _. WholeFits (coefficients.now ++ bound.now ∷ []))
+        (λ e. IfWide e (λ step. (step ≡ 0) × (¬ WholeFits (coefficients.now ++ bound.now ∷ [])))) }
 {
-    let row = whole_row(alloc, a.as_slice(), b)?;
+    let row = whole_row(alloc, coefficients.as_slice(), bound)?;
     let reduced = without_divisor(alloc, row)?;
     Ok(reduced)
 }

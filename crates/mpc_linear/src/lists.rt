@@ -67,12 +67,12 @@ impl Vector {
         self.items.is_empty()
     }
 
-    /// The entry at the place i, from 0.
-    pub fn at(&self, i: usize) -> &Frac
-        requires { i < length self.now }
-        ensures { result.now ≡ slice_index_or self.now i (int (pos 0)) }
+    /// The entry at the place, from 0.
+    pub fn at(&self, place: usize) -> &Frac
+        requires { place < length self.now }
+        ensures { result.now ≡ slice_index_or self.now place (int (pos 0)) }
     {
-        &self.items[i]
+        &self.items[place]
     }
 
     /// The entries, in their order.
@@ -146,12 +146,12 @@ impl Ints {
         self.items.is_empty()
     }
 
-    /// The integer at the place i, from 0.
-    pub fn at(&self, i: usize) -> &i128
-        requires { i < length self.now }
-        ensures { result.now ≡ slice_index_or self.now i (pos 0) }
+    /// The integer at the place, from 0.
+    pub fn at(&self, place: usize) -> &i128
+        requires { place < length self.now }
+        ensures { result.now ≡ slice_index_or self.now place (pos 0) }
     {
-        &self.items[i]
+        &self.items[place]
     }
 
     /// The integers, in their order.
@@ -161,12 +161,12 @@ impl Ints {
         self.items.as_slice()
     }
 
-    /// Puts another integer into the place i, from 0.
-    pub fn set(&mut self, i: usize, item: i128)
-        requires { i < length self.old }
-        ensures { self.new ≡ set self.old i item }
+    /// Puts another integer into the place, from 0.
+    pub fn set(&mut self, place: usize, item: i128)
+        requires { place < length self.old }
+        ensures { self.new ≡ set self.old place item }
     {
-        self.items[i] = item;
+        self.items[place] = item;
     }
 
     /// Puts one integer behind the others. Without memory the list stays as it was.

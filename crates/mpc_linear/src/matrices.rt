@@ -42,17 +42,22 @@ fn part(entries: &[Frac], start: usize, count: usize) -> &[Frac]
     &entries[start..start + count]
 }
 
-/// The dot of a row with column j of a matrix of this width, stored row by row.
-fn dot_with_column(row: &[Frac], entries: &[Frac], width: usize, j: usize) -> Result<Frac, Wide>
+/// The dot of a row with a column of a matrix of this width, stored row by row.
+fn dot_with_column(
+    row: &[Frac],
+    entries: &[Frac],
+    width: usize,
+    at_column: usize,
+) -> Result<Frac, Wide>
     requires size { length entries.now ≡ length row.now * width }
-    requires place { j < width }
-    ensures value { IfOk result (λ v. v ≡ dot row.now (column (grid (length row.now) width entries.now).rows j)) }
-    ensures wide { MatchResult result (λ _. DotFits row.now (column (grid (length row.now) width entries.now).rows j))
-        (λ _. ¬ DotFits row.now (column (grid (length row.now) width entries.now).rows j)) }
+    requires place { at_column < width }
+    ensures value { IfOk result (λ v. v ≡ dot row.now (column (grid (length row.now) width entries.now).rows at_column)) }
+    ensures wide { MatchResult result (λ _. DotFits row.now (column (grid (length row.now) width entries.now).rows at_column))
+        (λ _. ¬ DotFits row.now (column (grid (length row.now) width entries.now).rows at_column)) }
 {
     let mut sum = Frac::whole(0);
     for k in 0..row.len() {
-        match add_product(&sum, &row[k], &entries[k * width + j]) {
+        match add_product(&sum, &row[k], &entries[k * width + at_column]) {
             Ok(next) => sum = next,
             Err(wide) => return Err(wide),
         }
@@ -140,35 +145,35 @@ impl Matrix {
         self.cols
     }
 
-    /// The entry in row i and column j, counted from 0.
-    pub fn get(&self, i: u32, j: u32) -> Frac
-        requires row { i < height self.now }
-        requires column { j < self.now.columns }
-        ensures { result ≡ entry self.now i j }
+    /// The entry in the row and the column, counted from 0.
+    pub fn get(&self, row: u32, column: u32) -> Frac
+        requires row { row < height self.now }
+        requires column { column < self.now.columns }
+        ensures { result ≡ entry self.now row column }
     {
-        self.entries[i as usize * self.cols as usize + j as usize]
+        self.entries[row as usize * self.cols as usize + column as usize]
     }
 
-    /// Row i, counted from 0.
-    pub fn row(&self, i: u32) -> &[Frac]
-        requires { i < height self.now }
-        ensures { result.now ≡ slice_index_or self.now.rows i [] }
+    /// A row, counted from 0.
+    pub fn row(&self, at_row: u32) -> &[Frac]
+        requires { at_row < height self.now }
+        ensures { result.now ≡ slice_index_or self.now.rows at_row [] }
     {
         part(
             &self.entries,
-            i as usize * self.cols as usize,
+            at_row as usize * self.cols as usize,
             self.cols as usize,
         )
     }
 
-    /// Puts v into row i and column j, counted from 0.
-    pub fn set(&mut self, i: u32, j: u32, v: Frac)
-        requires row { i < height self.old }
-        requires column { j < self.old.columns }
-        ensures { self.new ≡ with_entry self.old i j v }
+    /// Puts the value into the row and the column, counted from 0.
+    pub fn set(&mut self, row: u32, column: u32, value: Frac)
+        requires row { row < height self.old }
+        requires column { column < self.old.columns }
+        ensures { self.new ≡ with_entry self.old row column value }
     {
-        let place = i as usize * self.cols as usize + j as usize;
-        self.entries[place] = v;
+        let place = row as usize * self.cols as usize + column as usize;
+        self.entries[place] = value;
     }
 
     /// The product with a matrix that has as many rows as this one has columns.

@@ -8,58 +8,58 @@ ghost use Rattle.mpc_linear.specs.Dot.{TermFits, TakenFits, SumFits, DotFits};
 use crate::Vector;
 use mpc_frac::{Frac, Wide};
 
-/// `s + x y`. Adding to 0 and multiplying by 0 are never too wide.
-pub fn add_product(s: &Frac, x: &Frac, y: &Frac) -> Result<Frac, Wide>
-    ensures value { IfOk result (λ v. v ≡ s.now +ℚ x.now *ℚ y.now) }
-    ensures wide { MatchResult result (λ _. TermFits s.now x.now y.now)
-        (λ _. ¬ TermFits s.now x.now y.now) }
+/// `sum + left right`. Adding to 0 and multiplying by 0 are never too wide.
+pub fn add_product(sum: &Frac, left: &Frac, right: &Frac) -> Result<Frac, Wide>
+    ensures value { IfOk result (λ v. v ≡ sum.now +ℚ left.now *ℚ right.now) }
+    ensures wide { MatchResult result (λ _. TermFits sum.now left.now right.now)
+        (λ _. ¬ TermFits sum.now left.now right.now) }
 {
-    let nothing = s.is_zero();
-    if x.is_zero() || y.is_zero() {
-        return Ok(*s);
+    let nothing = sum.is_zero();
+    if left.is_zero() || right.is_zero() {
+        return Ok(*sum);
     }
     if nothing {
-        return x.mul(y);
+        return left.mul(right);
     }
-    match x.mul(y) {
-        Ok(product) => s.add(&product),
+    match left.mul(right) {
+        Ok(product) => sum.add(&product),
         Err(wide) => Err(wide),
     }
 }
 
-/// `s - x y`. Taking away from 0 and multiplying by 0 are never too wide.
-pub fn sub_product(s: &Frac, x: &Frac, y: &Frac) -> Result<Frac, Wide>
-    ensures value { IfOk result (λ v. v ≡ s.now -ℚ x.now *ℚ y.now) }
-    ensures wide { MatchResult result (λ _. TakenFits s.now x.now y.now)
-        (λ _. ¬ TakenFits s.now x.now y.now) }
+/// `sum - left right`. Taking away from 0 and multiplying by 0 are never too wide.
+pub fn sub_product(sum: &Frac, left: &Frac, right: &Frac) -> Result<Frac, Wide>
+    ensures value { IfOk result (λ v. v ≡ sum.now -ℚ left.now *ℚ right.now) }
+    ensures wide { MatchResult result (λ _. TakenFits sum.now left.now right.now)
+        (λ _. ¬ TakenFits sum.now left.now right.now) }
 {
-    let nothing = s.is_zero();
-    if x.is_zero() || y.is_zero() {
-        return Ok(*s);
+    let nothing = sum.is_zero();
+    if left.is_zero() || right.is_zero() {
+        return Ok(*sum);
     }
     if nothing {
-        return match x.mul(y) {
+        return match left.mul(right) {
             Ok(product) => Ok(product.neg()),
             Err(wide) => Err(wide),
         };
     }
-    match x.mul(y) {
-        Ok(product) => s.sub(&product),
+    match left.mul(right) {
+        Ok(product) => sum.sub(&product),
         Err(wide) => Err(wide),
     }
 }
 
 /// The start plus the products of the entries at the same places, added from left to right.
 /// It is wide exactly where one of the products or of the sums on the way is.
-pub fn dot_from(start: &Frac, x: &[Frac], y: &[Frac]) -> Result<Frac, Wide>
-    requires { length x.now ≡ length y.now }
-    ensures value { IfOk result (λ v. v ≡ start.now +ℚ dot x.now y.now) }
-    ensures wide { MatchResult result (λ _. SumFits start.now x.now y.now)
-        (λ _. ¬ SumFits start.now x.now y.now) }
+pub fn dot_from(start: &Frac, left: &[Frac], right: &[Frac]) -> Result<Frac, Wide>
+    requires { length left.now ≡ length right.now }
+    ensures value { IfOk result (λ v. v ≡ start.now +ℚ dot left.now right.now) }
+    ensures wide { MatchResult result (λ _. SumFits start.now left.now right.now)
+        (λ _. ¬ SumFits start.now left.now right.now) }
 {
     let mut sum = *start;
-    for k in 0..x.len() {
-        match add_product(&sum, &x[k], &y[k]) {
+    for k in 0..left.len() {
+        match add_product(&sum, &left[k], &right[k]) {
             Ok(next) => sum = next,
             Err(wide) => return Err(wide),
         }
@@ -68,10 +68,10 @@ pub fn dot_from(start: &Frac, x: &[Frac], y: &[Frac]) -> Result<Frac, Wide>
 }
 
 /// The dot of two vectors: the products are added from left to right to 0.
-pub fn dot(x: &Vector, y: &Vector) -> Result<Frac, Wide>
-    requires { length x.now ≡ length y.now }
-    ensures value { IfOk result (λ v. v ≡ dot x.now y.now) }
-    ensures wide { MatchResult result (λ _. DotFits x.now y.now) (λ _. ¬ DotFits x.now y.now) }
+pub fn dot(left: &Vector, right: &Vector) -> Result<Frac, Wide>
+    requires { length left.now ≡ length right.now }
+    ensures value { IfOk result (λ v. v ≡ dot left.now right.now) }
+    ensures wide { MatchResult result (λ _. DotFits left.now right.now) (λ _. ¬ DotFits left.now right.now) }
 {
-    dot_from(&Frac::whole(0), x.as_slice(), y.as_slice())
+    dot_from(&Frac::whole(0), left.as_slice(), right.as_slice())
 }

@@ -62,12 +62,12 @@ impl<T: Drop> Seq<T> {
         self.items.is_empty()
     }
 
-    /// The item at the place i, from 0.
-    pub fn at(&self, i: usize) -> &T
-        requires { i < length self.now }
-        ensures { slice_get self.now i ≡ Some result.now }
+    /// The item at the place, from 0.
+    pub fn at(&self, place: usize) -> &T
+        requires { place < length self.now }
+        ensures { slice_get self.now place ≡ Some result.now }
     {
-        &self.items[i]
+        &self.items[place]
     }
 
     /// The items, in their order.

@@ -3,23 +3,23 @@ use Rattle.mpc_exact.proofs.Denominator.{common_denom-nil}
 use Rattle.mpc_linear.proofs.WholeLemmas.{denom-positive, denom_all, denom_more, denom_wide}
 use Rattle.mpc_linear.proofs.integers.common_denominator.Goals as goal
 
-pub loop-x-init : goal.loop-x-init
-loop-x-init c = record { value = sym common_denom-nil; small = lit< tt }
+pub loop-fraction-init : goal.loop-fraction-init
+loop-fraction-init c = record { value = sym common_denom-nil; small = lit< tt }
 
 pub least_multiple-requires-clause-a_positive : goal.least_multiple-requires-clause-a_positive
-least_multiple-requires-clause-a_positive c = denom-positive _ c.loop-x.all c.loop-x.invariant.value
+least_multiple-requires-clause-a_positive c = denom-positive _ c.loop-fraction.all c.loop-fraction.invariant.value
 
-pub loop-x-preserved : goal.loop-x-preserved
-loop-x-preserved c = record {
-  value = denom_more c.args.c.now c.loop-x.x-index c.loop-x.all _ _ c.loop-x-test.true c.loop-x.invariant.value c.x-item.is c.denominator.ensures.value c.in-Some.multiple c.in-Some.ensures.value;
+pub loop-fraction-preserved : goal.loop-fraction-preserved
+loop-fraction-preserved c = record {
+  value = denom_more c.args.fractions.now c.loop-fraction.fraction-index c.loop-fraction.all _ _ c.loop-fraction-test.true c.loop-fraction.invariant.value c.fraction-item.is c.denominator.ensures.value c.in-Some.multiple c.in-Some.ensures.value;
   small = c.in-Some.ensures.small;
 }
 
 pub returns-in-None-clause-value : goal.returns-in-None-clause-value
-returns-in-None-clause-value c = denom_wide c.args.c.now c.loop-x.x-index c.loop-x.all _ _ c.loop-x-test.true c.loop-x.invariant.value c.x-item.is c.denominator.ensures.value (2 ^ 127) c.in-None.ensures.value
+returns-in-None-clause-value c = denom_wide c.args.fractions.now c.loop-fraction.fraction-index c.loop-fraction.all _ _ c.loop-fraction-test.true c.loop-fraction.invariant.value c.fraction-item.is c.denominator.ensures.value (2 ^ 127) c.in-None.ensures.value
 
 pub returns-in-None-clause-small : goal.returns-in-None-clause-small
-returns-in-None-clause-small c = denom_wide c.args.c.now c.loop-x.x-index c.loop-x.all _ _ c.loop-x-test.true c.loop-x.invariant.value c.x-item.is c.denominator.ensures.value (2 ^ 127) c.in-None.ensures.value
+returns-in-None-clause-small c = denom_wide c.args.fractions.now c.loop-fraction.fraction-index c.loop-fraction.all _ _ c.loop-fraction-test.true c.loop-fraction.invariant.value c.fraction-item.is c.denominator.ensures.value (2 ^ 127) c.in-None.ensures.value
 
 pub returns-clause-value : goal.returns-clause-value
-returns-clause-value c = denom_all _ _ _ c.loop-x-test.false c.loop-x.invariant.value
+returns-clause-value c = denom_all _ _ _ c.loop-fraction-test.false c.loop-fraction.invariant.value

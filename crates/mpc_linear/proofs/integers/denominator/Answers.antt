@@ -3,7 +3,7 @@ use Rattle.mpc_linear.proofs.WholeLemmas.{denom-from}
 use Rattle.mpc_linear.proofs.integers.denominator.Goals as goal
 
 pub returns-clause-value : goal.returns-clause-value
-returns-clause-value c = read_size c.den.result c.args.x.now.denom c.den.ensures.value c.den.ensures.fits.1
+returns-clause-value c = read_size c.den.result c.args.fraction.now.denom c.den.ensures.value c.den.ensures.fits.1
 
 pub returns-clause-positive : goal.returns-clause-positive
-returns-clause-positive c = denom-from c.args.x.now _ (read_size c.den.result c.args.x.now.denom c.den.ensures.value c.den.ensures.fits.1)
+returns-clause-positive c = denom-from c.args.fraction.now _ (read_size c.den.result c.args.fraction.now.denom c.den.ensures.value c.den.ensures.fits.1)

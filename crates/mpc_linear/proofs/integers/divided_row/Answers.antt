@@ -5,13 +5,13 @@ use Rattle.mpc_space.proofs.Words.{read_back}
 use Rattle.mpc_linear.proofs.PrimitiveLemmas.{quotients_more}
 use Rattle.mpc_linear.proofs.integers.divided_row.Goals as goal
 
-pub loop-z-preserved : goal.loop-z-preserved
-loop-z-preserved c =
+pub loop-integer-preserved : goal.loop-integer-preserved
+loop-integer-preserved c =
     let row = c.args.row.now in
-    let k = c.loop-z.z-index in
+    let k = c.loop-integer.integer-index in
     let z = get_or row k (pos 0) in
-    let within : k < length row = subst (λ xs. k < length xs) c.as_slice-z-items.ensures c.loop-z-test.true in
+    let within : k < length row = subst (λ xs. k < length xs) c.as_slice-integer-items.ensures c.loop-integer-test.true in
     let small : unsigned_abs z < 2 ^ 127 = c.requires.small k (pos 0) within in
-    let read : to_z w128 (of_z w128 (get_or c.as_slice-z-items.result.now k (pos 0))) ≡ z = ap (λ xs. to_z w128 (of_z w128 (get_or xs k (pos 0)))) c.as_slice-z-items.ensures ∙ read_back z small in
-    quotients_more c.args.by row k z within (get_or_default row k (pos 0) z within) c.loop-z.quotients c.push.new.self _ c.loop-z.invariant c.in_ok-push.ensures.ok
+    let read : to_z w128 (of_z w128 (get_or c.as_slice-integer-items.result.now k (pos 0))) ≡ z = ap (λ xs. to_z w128 (of_z w128 (get_or xs k (pos 0)))) c.as_slice-integer-items.ensures ∙ read_back z small in
+    quotients_more c.args.by row k z within (get_or_default row k (pos 0) z within) c.loop-integer.quotients c.push.new.self _ c.loop-integer.invariant c.in_ok-push.ensures.ok
     (read_back c.divided.result c.divided.ensures.small ∙ c.divided.ensures.value ∙ ap (λ y. int_div y (pos c.args.by)) read)

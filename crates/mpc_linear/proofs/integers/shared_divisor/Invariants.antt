@@ -1,5 +1,5 @@
 use Rattle.mpc_linear.proofs.PrimitiveLemmas.{Sharing}
 use Rattle.mpc_linear.proofs.integers.shared_divisor.Given as goal
 
-abbrev pub invariant-loop-z : goal.invariant-loop-z
-invariant-loop-z l = Sharing l.row l.b l.z-index l.shared
+abbrev pub invariant-loop-integer : goal.invariant-loop-integer
+invariant-loop-integer l = Sharing l.row l.bound l.integer-index l.shared

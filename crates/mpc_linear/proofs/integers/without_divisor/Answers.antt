@@ -15,7 +15,7 @@ returns-clause-scaled c a b r =
     let some : 0 < g = let l = c.if-shared-le1.false in omega arith in
     let side : to_z w128 (of_z w128 c.divided.result) ≡ int_div c.args.row.b (pos g) = read_back c.divided.result c.divided.ensures.small ∙ c.divided.ensures.value ∙ ap (λ z. int_div z (pos g)) (read_back c.args.row.b c.requires.b_small) in
     let shared = subst (λ z. IsShared g (c.args.row.a ++ (z ∷ []))) (read_back c.args.row.b c.requires.b_small) c.shared_divisor-shared.ensures.shared in
-    subst₂ (λ x y. IsScaledRow a b x y) (sym c.in_ok-a.ensures) (sym side) (scaled_divided g some a b c.args.row.a c.args.row.b r shared)
+    subst₂ (λ x y. IsScaledRow a b x y) (sym c.in_ok-coefficients.ensures) (sym side) (scaled_divided g some a b c.args.row.a c.args.row.b r shared)
 
 pub returns-clause-primitive : goal.returns-clause-primitive
 returns-clause-primitive c =
@@ -23,13 +23,13 @@ returns-clause-primitive c =
     let some : 0 < g = let l = c.if-shared-le1.false in omega arith in
     let side : to_z w128 (of_z w128 c.divided.result) ≡ int_div c.args.row.b (pos g) = read_back c.divided.result c.divided.ensures.small ∙ c.divided.ensures.value ∙ ap (λ z. int_div z (pos g)) (read_back c.args.row.b c.requires.b_small) in
     let shared = subst (λ z. IsShared g (c.args.row.a ++ (z ∷ []))) (read_back c.args.row.b c.requires.b_small) c.shared_divisor-shared.ensures.shared in
-    subst₂ (λ x y. IsPrimitive (x ++ (y ∷ []))) (sym c.in_ok-a.ensures) (sym side)
+    subst₂ (λ x y. IsPrimitive (x ++ (y ∷ []))) (sym c.in_ok-coefficients.ensures) (sym side)
     (subst IsPrimitive (divided_append g some c.args.row.a c.args.row.b) (primitive_divided g some (c.args.row.a ++ (c.args.row.b ∷ [])) shared))
 
 pub returns-clause-small : goal.returns-clause-small
 returns-clause-small c =
     let some : 0 < c.shared_divisor-shared.result = let l = c.if-shared-le1.false in omega arith in
-    quotients_small c.shared_divisor-shared.result some c.args.row.a c.in_ok-a.a c.requires.small c.in_ok-a.ensures
+    quotients_small c.shared_divisor-shared.result some c.args.row.a c.in_ok-coefficients.coefficients c.requires.small c.in_ok-coefficients.ensures
 
 pub returns-clause-b_small : goal.returns-clause-b_small
 returns-clause-b_small c = subst (λ (z : ℤ). unsigned_abs z < 2 ^ 127) (sym (read_back c.divided.result c.divided.ensures.small)) c.divided.ensures.small

@@ -6,4 +6,4 @@ use Rattle.mpc_linear.specs.SumTheorems.{IsSumSoFar}
 use Rattle.mpc_linear.proofs.matrices.dot_with_column.Given as goal
 
 abbrev pub invariant-loop-k : goal.invariant-loop-k
-invariant-loop-k l = IsSumSoFar (int (pos 0)) l.row (column (grid (length l.row) l.width l.entries).rows l.j) l.k l.sum
+invariant-loop-k l = IsSumSoFar (int (pos 0)) l.row (column (grid (length l.row) l.width l.entries).rows l.at_column) l.k l.sum

@@ -7,12 +7,12 @@ loop-k-init c = goes_none _ _ _
 
 pub loop-k-preserved : goal.loop-k-preserved
 loop-k-preserved c =
-    goes_more _ _ _ _ _ _ _ c.loop-k-test.true (subst (λ n. c.loop-k.k < n) c.requires c.loop-k-test.true) c.index-x-k.is c.index-y-k.is c.loop-k.invariant
+    goes_more _ _ _ _ _ _ _ c.loop-k-test.true (subst (λ n. c.loop-k.k < n) c.requires c.loop-k-test.true) c.index-left-k.is c.index-right-k.is c.loop-k.invariant
     _ c.in-Ok.ensures.value c.in-Ok.ensures.wide
 
 pub returns-in-Err-clause-wide : goal.returns-in-Err-clause-wide
 returns-in-Err-clause-wide c =
-    goes_wide _ _ _ _ _ _ _ c.loop-k-test.true (subst (λ n. c.loop-k.k < n) c.requires c.loop-k-test.true) c.index-x-k.is c.index-y-k.is c.loop-k.invariant
+    goes_wide _ _ _ _ _ _ _ c.loop-k-test.true (subst (λ n. c.loop-k.k < n) c.requires c.loop-k-test.true) c.index-left-k.is c.index-right-k.is c.loop-k.invariant
     c.in-Err.ensures.wide
 
 pub returns-clause-value : goal.returns-clause-value
