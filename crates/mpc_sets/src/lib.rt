@@ -96,16 +96,16 @@ impl ActiveSet {
         self.mask.count_ones()
     }
 
-    /// The k-th member in rising order, counted from 1.
-    pub fn member(self, k: u32) -> u32
-        requires from_one { 1 ≤ k }
-        requires to_size { k ≤ length self }
-        ensures value { result ≡ slice_index self (k - 1) }
+    /// The member at the position in rising order, counted from 1.
+    pub fn member(self, position: u32) -> u32
+        requires from_one { 1 ≤ position }
+        requires to_size { position ≤ length self }
+        ensures value { result ≡ slice_index self (position - 1) }
         ensures within { (1 ≤ result) × (result ≤ LAST_ROW) }
         ensures is_set { IsSetOfRows LAST_ROW self }
     {
         let mut rest = self.mask;
-        for _ in 1..k {
+        for _ in 1..position {
             rest &= rest - 1;
         }
         rest.trailing_zeros()
@@ -227,11 +227,11 @@ fn append_set(set: ActiveSet, out: &mut Vec<u8>)
     ensures { out.new.items ≡ out.old.items ++ set_text set }
 {
     out.push(b'{').unwrap();
-    for k in 1..set.size() + 1 {
-        if k > 1 {
+    for position in 1..set.size() + 1 {
+        if position > 1 {
             out.push(b',').unwrap();
         }
-        append_row(set.member(k), out);
+        append_row(set.member(position), out);
     }
     out.push(b'}').unwrap();
 }
@@ -261,8 +261,8 @@ fn is_supported(grown: &[ActiveSet], joined: ActiveSet, beginning: ActiveSet) ->
     requires { IsInOrder grown.now }
     ensures { IsTrue result ↔ ((row : ℕ) → Contains beginning row → Contains grown.now (without_row row joined)) }
 {
-    for k in 1..beginning.size() + 1 {
-        if !contains_set(grown, joined.without(beginning.member(k))) {
+    for position in 1..beginning.size() + 1 {
+        if !contains_set(grown, joined.without(beginning.member(position))) {
             return false;
         }
     }

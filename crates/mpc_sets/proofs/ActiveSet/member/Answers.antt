@@ -17,11 +17,11 @@ loop-preserved c =
 
 pub returns-clause-value : goal.returns-clause-value
 returns-clause-value c =
-    let same : c.loop.counter - 1 ≡ c.args.k - 1 = omega arith in
+    let same : c.loop.counter - 1 ≡ c.args.position - 1 = omega arith in
     lowest_left c.loop.rest (c.loop.counter - 1) c.args.self c.loop.invariant (omega arith) ∙ ap (λ j. get_or c.args.self j 0) same
 
 pub returns-clause-is_set : goal.returns-clause-is_set
 returns-clause-is_set c = subst (IsSetOfRows 60) c.self.view_is (members_of-is_set c.self.inside.mask c.self.invariant)
 
 pub returns-clause-within : goal.returns-clause-within
-returns-clause-within c = subst (λ row. (1 ≤ row) × (row ≤ 60)) (sym (returns-clause-value c)) (member_within c.args.self (c.args.k - 1) (returns-clause-is_set c) (omega arith))
+returns-clause-within c = subst (λ row. (1 ≤ row) × (row ≤ 60)) (sym (returns-clause-value c)) (member_within c.args.self (c.args.position - 1) (returns-clause-is_set c) (omega arith))
