@@ -54,12 +54,12 @@ impl Counts {
         self.items.is_empty()
     }
 
-    /// The count at the place i, from 0.
-    pub fn at(&self, i: usize) -> &u64
-        requires { i < length self.now }
-        ensures { result.now ≡ slice_index self.now i }
+    /// The count at the place, from 0.
+    pub fn at(&self, place: usize) -> &u64
+        requires { place < length self.now }
+        ensures { result.now ≡ slice_index self.now place }
     {
-        &self.items[i]
+        &self.items[place]
     }
 
     /// The counts, in their order.

@@ -29,18 +29,18 @@ impl Qp {
     pub fn copy(&self, alloc: Global) -> Result<Qp, NoMemory>
         ensures { IfOk result (λ qp. qp ≡ self.now) }
     {
-        let h = self.h.copy(alloc)?;
-        let f = self.f.copy(alloc)?;
-        let y = self.y.copy(alloc)?;
-        let g = self.g.copy(alloc)?;
-        let w = self.w.copy(alloc)?;
+        let hessian = self.h.copy(alloc)?;
+        let mixed_cost = self.f.copy(alloc)?;
+        let state_cost = self.y.copy(alloc)?;
+        let coefficients = self.g.copy(alloc)?;
+        let bounds = self.w.copy(alloc)?;
         let counts = self.counts.copy(alloc)?;
         Ok(Qp {
-            h,
-            f,
-            y,
-            g,
-            w,
+            h: hessian,
+            f: mixed_cost,
+            y: state_cost,
+            g: coefficients,
+            w: bounds,
             counts,
         })
     }

@@ -23,19 +23,19 @@ fn are_nonneg(multipliers: &[Frac]) -> bool
     true
 }
 
-/// The dot of the multipliers with the coefficients on unknown j, counted from 0.
-fn column_sum(system: &System, multipliers: &Multipliers, j: usize) -> Result<Frac, Wide>
-    requires unknown { j < system.now.width }
+/// The dot of the multipliers with the coefficients on the unknown, counted from 0.
+fn column_sum(system: &System, multipliers: &Multipliers, unknown: usize) -> Result<Frac, Wide>
+    requires unknown { unknown < system.now.width }
     requires lengths { length multipliers.now ≡ length system.now.rows }
-    ensures value { IfOk result (λ v. v ≡ dot multipliers.now (coefficients_on j system.now.rows)) }
-    ensures wide { MatchResult result (λ _. DotFits multipliers.now (coefficients_on j system.now.rows))
-        (λ _. ¬ DotFits multipliers.now (coefficients_on j system.now.rows)) }
+    ensures value { IfOk result (λ v. v ≡ dot multipliers.now (coefficients_on unknown system.now.rows)) }
+    ensures wide { MatchResult result (λ _. DotFits multipliers.now (coefficients_on unknown system.now.rows))
+        (λ _. ¬ DotFits multipliers.now (coefficients_on unknown system.now.rows)) }
 {
     sum_theorems();
     let mut sum = Frac::whole(0);
     for i in 0..system.rows.len() {
         let row = system.rows.at(i);
-        match add_product(&sum, multipliers.at(i), row.a.at(j)) {
+        match add_product(&sum, multipliers.at(i), row.a.at(unknown)) {
             Ok(next) => sum = next,
             Err(wide) => return Err(wide),
         }
@@ -70,8 +70,8 @@ fn combines_to_zero(system: &System, multipliers: &Multipliers) -> Result<bool, 
         (λ _. ¬ ColumnsFit system.now multipliers.now) }
 {
     let mut zero = true;
-    for j in 0..system.width as usize {
-        match column_sum(system, multipliers, j) {
+    for unknown in 0..system.width as usize {
+        match column_sum(system, multipliers, unknown) {
             Ok(sum) => zero = zero && sum.is_zero(),
             Err(wide) => return Err(wide),
         }

@@ -106,13 +106,13 @@ impl System {
         self.rows.len()
     }
 
-    /// Row i, from 0.
-    pub fn row(&self, i: usize) -> &Row
-        requires { i < height self.now }
-        ensures value { result.now ≡ row_at self.now i }
+    /// A row, from 0.
+    pub fn row(&self, at_row: usize) -> &Row
+        requires { at_row < height self.now }
+        ensures value { result.now ≡ row_at self.now at_row }
         ensures width { length result.now.a ≡ self.now.width }
     {
-        self.rows.at(i)
+        self.rows.at(at_row)
     }
 }
 

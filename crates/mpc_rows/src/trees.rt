@@ -66,12 +66,12 @@ impl Cert {
         self.items.is_empty()
     }
 
-    /// The pair at the place i, from 0.
-    pub fn at(&self, i: usize) -> &(u64, Frac)
-        requires { i < length self.now }
-        ensures { slice_get self.now i ≡ Some result.now }
+    /// The pair at the place, from 0.
+    pub fn at(&self, place: usize) -> &(u64, Frac)
+        requires { place < length self.now }
+        ensures { slice_get self.now place ≡ Some result.now }
     {
-        &self.items[i]
+        &self.items[place]
     }
 
     /// The pairs, in their order.

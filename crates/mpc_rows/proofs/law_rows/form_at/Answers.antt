@@ -8,10 +8,10 @@ use Rattle.mpc_rows.proofs.law_rows.form_at.Goals as goal
 
 pub returns-in-Some-clause-value : goal.returns-in-Some-clause-value
 returns-in-Some-clause-value c =
-    let place = subst (IsPlaceAmong c.args.law.now.set c.args.i) c.in-Some.is c.requires.place in
-    member_coefficient c.args.qp.now c.args.law.now c.args.i c.args.j c.in-Some.k c.neg.result place.0 place.1 (c.neg.ensures ∙ ap neg_ℚ c.get.ensures)
+    let place = subst (IsPlaceAmong c.args.law.now.set c.args.row) c.in-Some.is c.requires.place in
+    member_coefficient c.args.qp.now c.args.law.now c.args.row c.args.column c.in-Some.k c.neg.result place.0 place.1 (c.neg.ensures ∙ ap neg_ℚ c.get.ensures)
 
 pub returns-in-None-clause-value : goal.returns-in-None-clause-value
 returns-in-None-clause-value c =
-    let outside = subst (IsPlaceAmong c.args.law.now.set c.args.i) c.in-None.is c.requires.place in
-    value_as c.excess_at.result _ _ (ap (λ f. coordinate f c.args.j) (sym (form_outside c.args.qp.now c.args.law.now c.args.i outside))) c.excess_at.ensures.value
+    let outside = subst (IsPlaceAmong c.args.law.now.set c.args.row) c.in-None.is c.requires.place in
+    value_as c.excess_at.result _ _ (ap (λ f. coordinate f c.args.column) (sym (form_outside c.args.qp.now c.args.law.now c.args.row outside))) c.excess_at.ensures.value

@@ -5,4 +5,4 @@ use Rattle.mpc_rows.specs.Refutation.{coefficients_on}
 use Rattle.mpc_rows.proofs.refuting.column_sum.Given as goal
 
 abbrev pub invariant-loop-i : goal.invariant-loop-i
-invariant-loop-i l = IsSumSoFar (int (pos 0)) l.multipliers (coefficients_on l.j l.system.rows) l.i l.sum
+invariant-loop-i l = IsSumSoFar (int (pos 0)) l.multipliers (coefficients_on l.unknown l.system.rows) l.i l.sum

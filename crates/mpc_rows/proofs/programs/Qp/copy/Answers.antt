@@ -3,4 +3,4 @@ use Rattle.mpc_rows.proofs.programs.Qp.copy.Goals as goal
 
 pub returns : goal.returns
 returns c =
-    same_program _ _ c.in_ok-h.ensures c.in_ok-f.ensures c.in_ok-y.ensures c.in_ok-g.ensures c.in_ok-w.ensures c.in_ok-counts.ensures
+    same_program _ _ c.in_ok-hessian.ensures c.in_ok-mixed_cost.ensures c.in_ok-state_cost.ensures c.in_ok-coefficients.ensures c.in_ok-bounds.ensures c.in_ok-counts.ensures
