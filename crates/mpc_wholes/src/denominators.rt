@@ -13,66 +13,66 @@ const MOST: u128 = 0x1000_0000_0000_0000_0000_0000_0000_0000;
 /// The largest number of 64 bits, whose division takes one instruction.
 const WORD: u128 = u64::MAX as u128;
 
-/// The rest of a by b.
+/// The rest of the number by the divisor.
 #[inline]
-pub fn rest(a: u128, b: u128) -> u128
-    requires { 0 < b }
-    ensures { result ≡ a % b }
+pub fn rest(number: u128, divisor: u128) -> u128
+    requires { 0 < divisor }
+    ensures { result ≡ number % divisor }
 {
-    if a <= WORD && b <= WORD {
-        return (a as u64 % b as u64) as u128;
+    if number <= WORD && divisor <= WORD {
+        return (number as u64 % divisor as u64) as u128;
     }
-    a % b
+    number % divisor
 }
 
-/// How often b goes into a.
+/// How often the divisor goes into the number.
 #[inline]
-pub fn part(a: u128, b: u128) -> u128
-    requires { 0 < b }
-    ensures { result ≡ a / b }
+pub fn part(number: u128, divisor: u128) -> u128
+    requires { 0 < divisor }
+    ensures { result ≡ number / divisor }
 {
-    if a <= WORD && b <= WORD {
-        return (a as u64 / b as u64) as u128;
+    if number <= WORD && divisor <= WORD {
+        return (number as u64 / divisor as u64) as u128;
     }
-    a / b
+    number / divisor
 }
 
-/// How often b goes into a, where it does.
+/// How often the divisor goes into the number, where it does.
 #[inline]
-pub fn times_into(a: u128, b: u128) -> Option<u128>
-    requires { 0 < b }
-    ensures divides { IfSome result (λ _. b ∣ a) }
-    ensures value { IfSome result (λ t. t ≡ a / b) }
-    ensures small { IfSome result (λ t. t ≤ a) }
+pub fn times_into(number: u128, divisor: u128) -> Option<u128>
+    requires { 0 < divisor }
+    ensures divides { IfSome result (λ _. divisor ∣ number) }
+    ensures value { IfSome result (λ t. t ≡ number / divisor) }
+    ensures small { IfSome result (λ t. t ≤ number) }
 {
-    if rest(a, b) != 0 {
+    if rest(number, divisor) != 0 {
         return None;
     }
-    Some(part(a, b))
+    Some(part(number, divisor))
 }
 
 /// The denominator.
 #[inline]
-pub fn denominator(x: &Frac) -> u128
-    ensures value { result ≡ x.now.denom }
+pub fn denominator(fraction: &Frac) -> u128
+    ensures value { result ≡ fraction.now.denom }
     ensures positive { 0 < result }
 {
-    x.den() as u128
+    fraction.den() as u128
 }
 
 /// A common multiple, where it is at most 2^124: the first number where it is one.
 #[inline]
-pub fn common_multiple(a: u128, b: u128) -> Option<u128>
-    requires a { IsDenominator a }
-    requires b_positive { 0 < b }
-    ensures of_a { IfSome result (λ m. a ∣ m) }
-    ensures of_b { IfSome result (λ m. b ∣ m) }
+pub fn common_multiple(left: u128, right: u128) -> Option<u128>
+    requires a { IsDenominator left }
+    requires b_positive { 0 < right }
+    ensures of_a { IfSome result (λ m. left ∣ m) }
+    ensures of_b { IfSome result (λ m. right ∣ m) }
     ensures small { IfSome result IsDenominator }
 {
-    if a == b || rest(a, b) == 0 {
-        return Some(a);
+    if left == right || rest(left, right) == 0 {
+        return Some(left);
     }
-    let multiple = part(a, greatest_common_divisor(a, b)).checked_mul(b)?;
+    let multiple = part(left, greatest_common_divisor(left, right)).checked_mul(right)?;
     if multiple > MOST {
         return None;
     }
@@ -80,25 +80,25 @@ pub fn common_multiple(a: u128, b: u128) -> Option<u128>
 }
 
 /// A common multiple of a number and of denominators, where it is at most 2^124.
-pub fn common_in(start: u128, xs: &[Frac]) -> Option<u128>
+pub fn common_in(start: u128, fractions: &[Frac]) -> Option<u128>
     requires { IsDenominator start }
     ensures { IfSome result IsDenominator }
 {
     let mut all = start;
-    for x in xs {
-        all = common_multiple(all, denominator(x))?;
+    for fraction in fractions {
+        all = common_multiple(all, denominator(fraction))?;
     }
     Some(all)
 }
 
 /// A common multiple of a number and of a matrix's denominators, where it is at most 2^124.
-pub fn common_of(start: u128, m: &Matrix) -> Option<u128>
+pub fn common_of(start: u128, matrix: &Matrix) -> Option<u128>
     requires { IsDenominator start }
     ensures { IfSome result IsDenominator }
 {
     let mut all = start;
-    for i in 0..m.rows() {
-        all = common_in(all, m.row(i))?;
+    for i in 0..matrix.rows() {
+        all = common_in(all, matrix.row(i))?;
     }
     Some(all)
 }

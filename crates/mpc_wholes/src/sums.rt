@@ -12,30 +12,30 @@ const SHORT: u128 = 0x4000_0000_0000_0000;
 
 /// The product, which fits: of short numbers in one multiplication.
 #[inline]
-fn product(x: i128, y: i128, short: bool) -> i128
-    requires fits { unsigned_abs (x *ℤ y) < 2 ^ 127 }
-    requires short { IsTrue short → (unsigned_abs x < 2 ^ 63) × (unsigned_abs y < 2 ^ 63) }
-    ensures { result ≡ x *ℤ y }
+fn product(left: i128, right: i128, short: bool) -> i128
+    requires fits { unsigned_abs (left *ℤ right) < 2 ^ 127 }
+    requires short { IsTrue short → (unsigned_abs left < 2 ^ 63) × (unsigned_abs right < 2 ^ 63) }
+    ensures { result ≡ left *ℤ right }
 {
     if short {
-        return short_product(x, y);
+        return short_product(left, right);
     }
-    x * y
+    left * right
 }
 
 /// The start plus the products of the first numbers. Their sizes show that each sum fits, and each operation on the fractions on the way to it.
 #[inline]
-pub fn dot_from(start: i128, x: &Wholes, y: &Wholes, count: usize) -> i128
+pub fn dot_from(start: i128, left: &Wholes, right: &Wholes, count: usize) -> i128
     requires few { count ≤ 6 }
-    requires room { unsigned_abs start + 6 * (x.now.most * y.now.most) < 2 ^ 127 }
-    ensures size { unsigned_abs result ≤ unsigned_abs start + 6 * (x.now.most * y.now.most) }
-    ensures sum { AddsDot x.now y.now count start result }
+    requires room { unsigned_abs start + 6 * (left.now.most * right.now.most) < 2 ^ 127 }
+    ensures size { unsigned_abs result ≤ unsigned_abs start + 6 * (left.now.most * right.now.most) }
+    ensures sum { AddsDot left.now right.now count start result }
 {
     sum_theorems();
-    let short = x.most <= SHORT && y.most <= SHORT;
+    let short = left.most <= SHORT && right.most <= SHORT;
     let mut total = start;
     for k in 0..count {
-        total += product(x.numerators[k], y.numerators[k], short);
+        total += product(left.numerators[k], right.numerators[k], short);
     }
     total
 }

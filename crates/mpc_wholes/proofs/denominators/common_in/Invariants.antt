@@ -1,5 +1,5 @@
 use Rattle.mpc_wholes.specs.Wholes.{IsDenominator}
 use Rattle.mpc_wholes.proofs.denominators.common_in.Given as goal
 
-abbrev pub invariant-loop-x : goal.invariant-loop-x
-invariant-loop-x l = IsDenominator l.all
+abbrev pub invariant-loop-fraction : goal.invariant-loop-fraction
+invariant-loop-fraction l = IsDenominator l.all

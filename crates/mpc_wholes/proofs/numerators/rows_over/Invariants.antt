@@ -6,5 +6,5 @@ use Rattle.mpc_wholes.proofs.numerators.rows_over.Given as goal
 abbrev pub invariant-loop-i : goal.invariant-loop-i
 invariant-loop-i l = record {
   size : length l.rows.items ≡ l.i;
-  at : (j : ℕ) (d : Wholes) → j < l.i → AreOver (get_or l.m.rows j []) l.den l.limit (get_or l.rows.items j d);
+  at : (j : ℕ) (d : Wholes) → j < l.i → AreOver (get_or l.matrix.rows j []) l.den l.limit (get_or l.rows.items j d);
 }

@@ -6,7 +6,7 @@ use Rattle.mpc_wholes.proofs.numerators.wholes_over.Given as goal
 abbrev pub invariant-loop-k : goal.invariant-loop-k
 invariant-loop-k l = record {
   size : length l.numerators ≡ 6;
-  entries : (j : ℕ) → j < l.k → coordinate l.xs j ≡ frac (get_or l.numerators j (pos 0)) l.den;
+  entries : (j : ℕ) → j < l.k → coordinate l.fractions j ≡ frac (get_or l.numerators j (pos 0)) l.den;
   numbers : All (λ z. unsigned_abs z ≤ l.most) l.numerators;
   den_small : l.den ≤ l.most;
   most_small : l.most ≤ 2 ^ 124;

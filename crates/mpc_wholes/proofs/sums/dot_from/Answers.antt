@@ -7,16 +7,16 @@ use Rattle.mpc_wholes.proofs.WholeDots.{mul_fits, add_fits, next_read, next_at_m
 use Rattle.mpc_wholes.proofs.sums.dot_from.Goals as goal
 use Rattle.mpc_wholes.proofs.sums.dot_from.Goals.{After-product-total}
 
-room : (c : After-product-total) → unsigned_abs (to_z w128 (of_z w128 c.args.start)) + 6 * (c.args.x.now.most * c.args.y.now.most) < 2 ^ 127
-room c = subst (λ z. unsigned_abs z + 6 * (c.args.x.now.most * c.args.y.now.most) < 2 ^ 127) (sym (to_z-of_z w128 c.args.start c.ranges.start)) c.requires.room
+room : (c : After-product-total) → unsigned_abs (to_z w128 (of_z w128 c.args.start)) + 6 * (c.args.left.now.most * c.args.right.now.most) < 2 ^ 127
+room c = subst (λ z. unsigned_abs z + 6 * (c.args.left.now.most * c.args.right.now.most) < 2 ^ 127) (sym (to_z-of_z w128 c.args.start c.ranges.start)) c.requires.room
 
 pub product-total-requires-clause-fits : goal.product-total-requires-clause-fits
-product-total-requires-clause-fits c = mul_fits c.args.x.now c.args.y.now (unsigned_abs c.args.start) c.requires.room c.loop-k.k
+product-total-requires-clause-fits c = mul_fits c.args.left.now c.args.right.now (unsigned_abs c.args.start) c.requires.room c.loop-k.k
 
 pub overflow_add-total : goal.overflow_add-total
 overflow_add-total c =
     let at = (goal.at.overflow_add-total c).After-product-total in
-    add_fits c.args.x.now c.args.y.now (unsigned_abs (to_z w128 (of_z w128 c.args.start))) (room at) c.loop-k.k (omega (arith, c.loop-k-test.true, c.requires.few)) c.product-total.result c.product-total.ensures (to_z w128 c.loop-k.total-bits) c.loop-k.invariant.size
+    add_fits c.args.left.now c.args.right.now (unsigned_abs (to_z w128 (of_z w128 c.args.start))) (room at) c.loop-k.k (omega (arith, c.loop-k-test.true, c.requires.few)) c.product-total.result c.product-total.ensures (to_z w128 c.loop-k.total-bits) c.loop-k.invariant.size
 
 pub loop-k-preserved : goal.loop-k-preserved
 loop-k-preserved c =
@@ -24,8 +24,8 @@ loop-k-preserved c =
     let start = to_z w128 (of_z w128 c.args.start) in
     let few : c.loop-k.k < 6 = omega (arith, c.loop-k-test.true, c.requires.few) in
     let t = to_z w128 c.loop-k.total-bits in
-    let x = c.args.x.now in
-    let y = c.args.y.now in
+    let x = c.args.left.now in
+    let y = c.args.right.now in
     let read = next_read x y (unsigned_abs start) (room at) c.loop-k.k few c.product-total.result c.product-total.ensures t c.loop-k.invariant.size in
     record {
       size = subst (λ z. unsigned_abs z ≤ unsigned_abs start + (c.loop-k.k + 1) * (x.most * y.most)) (sym read) (next_at_most x y (unsigned_abs start) (room at) c.loop-k.k few c.product-total.result c.product-total.ensures t c.loop-k.invariant.size);

@@ -4,6 +4,6 @@ use Rattle.mpc_wholes.proofs.sums.dot_from.Given as goal
 
 abbrev pub invariant-loop-k : goal.invariant-loop-k
 invariant-loop-k l = record {
-  size : unsigned_abs l.total ≤ unsigned_abs l.fn.start + l.k * (l.x.most * l.y.most);
-  so_far : DotSoFar l.x l.y l.count l.fn.start l.k l.total;
+  size : unsigned_abs l.total ≤ unsigned_abs l.fn.start + l.k * (l.left.most * l.right.most);
+  so_far : DotSoFar l.left l.right l.count l.fn.start l.k l.total;
 }
