@@ -50,93 +50,96 @@ impl From<NoMemory> for DefiniteError {
     }
 }
 
-/// Copies row i up to the diagonal.
-fn copy_row(lower: &mut Matrix, h: &Matrix, i: u32)
-    requires square { IsSquare h.now }
+/// Copies a row up to the diagonal.
+fn copy_row(lower: &mut Matrix, matrix: &Matrix, row: u32)
+    requires square { IsSquare matrix.now }
     requires same { IsSquare lower.old }
-    requires height { height lower.old ≡ height h.now }
-    requires row { i < height h.now }
-    ensures { CopiesRow h.now lower.old lower.new i }
+    requires height { height lower.old ≡ height matrix.now }
+    requires row { row < height matrix.now }
+    ensures { CopiesRow matrix.now lower.old lower.new row }
 {
-    prove!(i < h.rows());
-    for k in 0..i + 1 {
-        lower.set(i, k, h.get(i, k));
+    prove!(row < matrix.rows());
+    for k in 0..row + 1 {
+        lower.set(row, k, matrix.get(row, k));
     }
 }
 
 /// The matrix on and below its diagonal, with zeros above.
-fn lower_triangle(alloc: Global, h: &Matrix) -> Result<Matrix, NoMemory>
-    requires { IsSquare h.now }
-    ensures { IfOk result (IsLowerOf h.now) }
+fn lower_triangle(alloc: Global, matrix: &Matrix) -> Result<Matrix, NoMemory>
+    requires { IsSquare matrix.now }
+    ensures { IfOk result (IsLowerOf matrix.now) }
 {
-    let mut lower = Matrix::zero(alloc, h.rows(), h.cols())?;
-    for i in 0..h.rows() {
-        copy_row(&mut lower, h, i);
+    let mut lower = Matrix::zero(alloc, matrix.rows(), matrix.cols())?;
+    for row in 0..matrix.rows() {
+        copy_row(&mut lower, matrix, row);
     }
     Ok(lower)
 }
 
-/// Takes the part of row j that clears column j away from row i, up to the diagonal, and leaves the factor in its place.
-fn eliminate_row(e: &mut Matrix, j: u32, i: u32) -> Result<(), Wide>
-    requires square { IsSquare e.old }
-    requires below { j < i }
-    requires within { i < height e.old }
-    requires pivot { entry e.old j j ≢ int (pos 0) }
-    ensures ok { OnOk result (EliminatesRow e.old e.new j i) }
-    ensures wide { MatchResult result (λ _. RowFits (entry e.old) j i) (λ _. ¬ RowFits (entry e.old) j i) }
+/// Takes the part of the row of the column's number that clears the column away from the row, up to the diagonal, and leaves the factor in its place.
+fn eliminate_row(lower: &mut Matrix, column: u32, row: u32) -> Result<(), Wide>
+    requires square { IsSquare lower.old }
+    requires below { column < row }
+    requires within { row < height lower.old }
+    requires pivot { entry lower.old column column ≢ int (pos 0) }
+    ensures ok { OnOk result (EliminatesRow lower.old lower.new column row) }
+    ensures wide { MatchResult result (λ _. RowFits (entry lower.old) column row) (λ _. ¬ RowFits (entry lower.old) column row) }
 {
-    prove!(i < e.rows());
-    let factor = e.get(i, j).div(&e.get(j, j))?;
-    for k in j + 1..i + 1 {
-        let rest = sub_product(&e.get(i, k), &factor, &e.get(k, j))?;
-        e.set(i, k, rest);
+    prove!(row < lower.rows());
+    let factor = lower.get(row, column).div(&lower.get(column, column))?;
+    for k in column + 1..row + 1 {
+        let rest = sub_product(&lower.get(row, k), &factor, &lower.get(k, column))?;
+        lower.set(row, k, rest);
     }
-    e.set(i, j, factor);
+    lower.set(row, column, factor);
     Ok(())
 }
 
-/// Clears column j below the diagonal, last row first, since each row is cleared with entries of column j in the rows above it.
-fn eliminate_column(e: &mut Matrix, j: u32) -> Result<(), Wide>
-    requires square { IsSquare e.old }
-    requires within { j < height e.old }
-    requires pivot { entry e.old j j ≢ int (pos 0) }
-    ensures ok { OnOk result (EliminatesColumn e.old e.new j) }
-    ensures wide { MatchResult result (λ _. StepFits (entry e.old) (height e.old) j)
-        (λ _. ¬ StepFits (entry e.old) (height e.old) j) }
+/// Clears the column below the diagonal, last row first, since each row is cleared with entries of the column in the rows above it.
+fn eliminate_column(lower: &mut Matrix, column: u32) -> Result<(), Wide>
+    requires square { IsSquare lower.old }
+    requires within { column < height lower.old }
+    requires pivot { entry lower.old column column ≢ int (pos 0) }
+    ensures ok { OnOk result (EliminatesColumn lower.old lower.new column) }
+    ensures wide { MatchResult result (λ _. StepFits (entry lower.old) (height lower.old) column)
+        (λ _. ¬ StepFits (entry lower.old) (height lower.old) column) }
 {
-    let rows = e.rows();
-    for i in (j + 1..rows).rev() {
-        eliminate_row(e, j, i)?;
+    let rows = lower.rows();
+    for row in (column + 1..rows).rev() {
+        eliminate_row(lower, column, row)?;
     }
     Ok(())
 }
 
-/// The decomposition `h = l d l'` of a positive definite matrix (Gauss; Golub and Van Loan, 1996, 4.1).
+/// The decomposition `matrix = l d l'` of a positive definite matrix (Gauss; Golub and Van Loan, 1996, 4.1).
 ///
 /// Answers at the first step whose pivot isn't positive, as `NotDefinite`, or that has a number of 2^127 or more in size, as `Wide`.
-pub fn pivots(alloc: Global, h: &Matrix) -> Result<Definite, DefiniteError>
-    requires square { h.now.columns ≡ height h.now }
-    requires symmetric { IsSymmetric h.now.rows }
-    ensures decomposed { IfOk result (λ r. IsDecomposition h.now r.l r.d) }
-    ensures definite { OnOk result (IsDefinite h.now.rows) }
-    ensures passes { OnOk result (PassesBelow (entry h.now) (height h.now) (height h.now)) }
+pub fn pivots(alloc: Global, matrix: &Matrix) -> Result<Definite, DefiniteError>
+    requires square { matrix.now.columns ≡ height matrix.now }
+    requires symmetric { IsSymmetric matrix.now.rows }
+    ensures decomposed { IfOk result (λ r. IsDecomposition matrix.now r.l r.d) }
+    ensures definite { OnOk result (IsDefinite matrix.now.rows) }
+    ensures passes { OnOk result (PassesBelow (entry matrix.now) (height matrix.now) (height matrix.now)) }
 
-    ensures cause { IfErr result (IsCause (entry h.now) (height h.now)) }
-    ensures not_definite { IfErr result (Disproves h.now.rows) }
+    ensures cause { IfErr result (IsCause (entry matrix.now) (height matrix.now)) }
+    ensures not_definite { IfErr result (Disproves matrix.now.rows) }
 {
-    let rows = h.rows();
-    let mut l = lower_triangle(alloc, h)?;
-    let mut d = Vector::with_capacity(alloc, rows as usize)?;
-    for j in 0..rows {
-        let pivot = l.get(j, j);
+    let rows = matrix.rows();
+    let mut lower = lower_triangle(alloc, matrix)?;
+    let mut diagonal = Vector::with_capacity(alloc, rows as usize)?;
+    for column in 0..rows {
+        let pivot = lower.get(column, column);
         if pivot.sign() <= 0 {
-            return Err(DefiniteError::NotDefinite(j + 1));
+            return Err(DefiniteError::NotDefinite(column + 1));
         }
-        let Ok(()) = eliminate_column(&mut l, j) else {
-            return Err(DefiniteError::Wide(j + 1));
+        let Ok(()) = eliminate_column(&mut lower, column) else {
+            return Err(DefiniteError::Wide(column + 1));
         };
-        d.push(pivot)?;
-        l.set(j, j, Frac::whole(1));
+        diagonal.push(pivot)?;
+        lower.set(column, column, Frac::whole(1));
     }
-    Ok(Definite { l, d })
+    Ok(Definite {
+        l: lower,
+        d: diagonal,
+    })
 }

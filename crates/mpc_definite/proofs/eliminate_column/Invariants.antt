@@ -3,9 +3,9 @@ use Rattle.mpc_space.specs.Matrix.{height, entry}
 use Rattle.mpc_definite.proofs.Work.{ColumnSome, RowsFit}
 use Rattle.mpc_definite.proofs.eliminate_column.Given as goal
 
-abbrev pub invariant-loop-i : goal.invariant-loop-i
-invariant-loop-i l = record {
-  low : l.j + 1 ≤ l.i;
-  rows : ColumnSome l.fn.e l.e l.j l.i;
-  fits : RowsFit (entry l.fn.e) (height l.fn.e) l.j l.i;
+abbrev pub invariant-loop-row : goal.invariant-loop-row
+invariant-loop-row l = record {
+  low : l.column + 1 ≤ l.row;
+  rows : ColumnSome l.fn.lower l.lower l.column l.row;
+  fits : RowsFit (entry l.fn.lower) (height l.fn.lower) l.column l.row;
 }

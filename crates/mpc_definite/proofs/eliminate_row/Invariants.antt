@@ -4,6 +4,6 @@ use Rattle.mpc_definite.proofs.eliminate_row.Given as goal
 
 abbrev pub invariant-loop-k : goal.invariant-loop-k
 invariant-loop-k l = record {
-  row : RowSome l.fn.e l.e l.j l.i l.k;
-  fits : RowFitsTo (entry l.fn.e) l.j l.i l.k;
+  row : RowSome l.fn.lower l.lower l.column l.row l.k;
+  fits : RowFitsTo (entry l.fn.lower) l.column l.row l.k;
 }

@@ -1,5 +1,5 @@
 use Rattle.mpc_definite.proofs.Work.{LowerSome}
 use Rattle.mpc_definite.proofs.lower_triangle.Given as goal
 
-abbrev pub invariant-loop-i : goal.invariant-loop-i
-invariant-loop-i l = LowerSome l.h l.lower l.i
+abbrev pub invariant-loop-row : goal.invariant-loop-row
+invariant-loop-row l = LowerSome l.matrix l.lower l.row

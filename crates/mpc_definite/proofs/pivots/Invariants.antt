@@ -1,5 +1,5 @@
 use Rattle.mpc_definite.proofs.Stages.{AtStep}
 use Rattle.mpc_definite.proofs.pivots.Given as goal
 
-abbrev pub invariant-loop-j : goal.invariant-loop-j
-invariant-loop-j l = AtStep l.h l.l l.d l.j
+abbrev pub invariant-loop-column : goal.invariant-loop-column
+invariant-loop-column l = AtStep l.matrix l.lower l.diagonal l.column
