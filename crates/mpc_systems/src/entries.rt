@@ -68,24 +68,29 @@ pub fn push_zeros(out: &mut Vector, count: u32) -> Result<(), NoMemory>
     Ok(())
 }
 
-/// Entry j of the vector that is 0 but for the entry i.
-fn axis_entry(i: usize, j: usize, value: &Frac) -> Frac
-    ensures { result ≡ cond (nat_lt i j) (int (pos 0)) (cond (nat_lt j i) (int (pos 0)) value.now) }
+/// The entry at the place of the vector that is 0 but for the entry of the coordinate.
+fn axis_entry(coordinate: usize, place: usize, value: &Frac) -> Frac
+    ensures { result ≡ cond (nat_lt coordinate place) (int (pos 0)) (cond (nat_lt place coordinate) (int (pos 0)) value.now) }
 {
-    if i < j || j < i {
+    if coordinate < place || place < coordinate {
         Frac::whole(0)
     } else {
         *value
     }
 }
 
-/// The vector of so many entries that is 0 but for the entry i.
-pub fn axis(alloc: Global, width: usize, i: usize, value: &Frac) -> Result<Vector, NoMemory>
-    ensures { IfOk result (λ a. a ≡ axis width i value.now) }
+/// The vector of so many entries that is 0 but for the entry of the coordinate.
+pub fn axis(
+    alloc: Global,
+    width: usize,
+    coordinate: usize,
+    value: &Frac,
+) -> Result<Vector, NoMemory>
+    ensures { IfOk result (λ coefficients. coefficients ≡ axis width coordinate value.now) }
 {
-    let mut a = Vector::with_capacity(alloc, width)?;
-    for j in 0..width {
-        a.push(axis_entry(i, j, value))?;
+    let mut coefficients = Vector::with_capacity(alloc, width)?;
+    for place in 0..width {
+        coefficients.push(axis_entry(coordinate, place, value))?;
     }
-    Ok(a)
+    Ok(coefficients)
 }

@@ -22,10 +22,10 @@ fn add_box(alloc: Global, system: &mut System, counts: &Counts) -> Result<(), No
     ensures kept { take (length system.old.rows) system.new.rows ≡ system.old.rows }
 {
     let width = system.unknowns();
-    for i in 0..counts.len() {
-        let count = whole(*counts.at(i) as i128);
-        system.push(axis_row(alloc, width, i, -1, Frac::whole(0))?)?;
-        system.push(axis_row(alloc, width, i, 1, count)?)?;
+    for coordinate in 0..counts.len() {
+        let count = whole(*counts.at(coordinate) as i128);
+        system.push(axis_row(alloc, width, coordinate, -1, Frac::whole(0))?)?;
+        system.push(axis_row(alloc, width, coordinate, 1, count)?)?;
     }
     Ok(())
 }
@@ -53,8 +53,8 @@ fn add_joint_rows(alloc: Global, system: &mut System, qp: &Qp) -> Result<(), NoM
     ensures rows { OnOk result (system.new.rows ≡ system.old.rows ++ joint_rows qp.now) }
     ensures kept { take (length system.old.rows) system.new.rows ≡ system.old.rows }
 {
-    for i in 1..qp.g.rows() + 1 {
-        system.push(joint_row(alloc, qp, i)?)?;
+    for at_row in 1..qp.g.rows() + 1 {
+        system.push(joint_row(alloc, qp, at_row)?)?;
     }
     Ok(())
 }
@@ -181,8 +181,8 @@ pub fn joint_rows(alloc: Global, qp: &Qp) -> Result<Rows, NoMemory>
     ensures { IfOk result (λ rows. rows ≡ joint_rows qp.now) }
 {
     let mut rows = Rows::new(alloc);
-    for i in 1..qp.g.rows() + 1 {
-        rows.push(joint_row(alloc, qp, i)?)?;
+    for at_row in 1..qp.g.rows() + 1 {
+        rows.push(joint_row(alloc, qp, at_row)?)?;
     }
     Ok(rows)
 }

@@ -21,13 +21,19 @@ use std::alloc::Global;
 // ---- the rows of the box
 
 /// The row `a · v <= b` of zeros and one value.
-pub fn axis_row(alloc: Global, width: usize, i: usize, value: i64, b: Frac) -> Result<Row, NoMemory>
-    ensures { IfOk result (λ r. r ≡ record { a = axis width i (int value); b = b; strict = false }) }
+pub fn axis_row(
+    alloc: Global,
+    width: usize,
+    coordinate: usize,
+    value: i64,
+    bound: Frac,
+) -> Result<Row, NoMemory>
+    ensures { IfOk result (λ r. r ≡ record { a = axis width coordinate (int value); b = bound; strict = false }) }
 {
-    let a = axis(alloc, width, i, &Frac::whole(value))?;
+    let coefficients = axis(alloc, width, coordinate, &Frac::whole(value))?;
     Ok(Row {
-        a,
-        b,
+        a: coefficients,
+        b: bound,
         strict: false,
     })
 }
@@ -38,11 +44,17 @@ pub fn box_row(alloc: Global, width: usize, counts: &Counts, place: usize) -> Re
     requires { place < 2 * length counts.now }
     ensures { IfOk result (λ r. r ≡ slice_index_or (box_rows width counts.now) place no_row) }
 {
-    let i = place / 2;
-    if place == i + i {
-        axis_row(alloc, width, i, -1, Frac::whole(0))
+    let coordinate = place / 2;
+    if place == coordinate + coordinate {
+        axis_row(alloc, width, coordinate, -1, Frac::whole(0))
     } else {
-        axis_row(alloc, width, i, 1, whole(*counts.at(i) as i128))
+        axis_row(
+            alloc,
+            width,
+            coordinate,
+            1,
+            whole(*counts.at(coordinate) as i128),
+        )
     }
 }
 
@@ -54,10 +66,10 @@ pub fn whole_row(alloc: Global, row: &RowInt) -> Result<Row, NoMemory>
     requires b_small { unsigned_abs row.now.b < 2 ^ 127 }
     ensures { IfOk result (λ r. r ≡ whole_row row.now) }
 {
-    let mut a = Vector::with_capacity(alloc, row.a.len())?;
-    push_wholes(&mut a, row.a.as_slice())?;
+    let mut coefficients = Vector::with_capacity(alloc, row.a.len())?;
+    push_wholes(&mut coefficients, row.a.as_slice())?;
     Ok(Row {
-        a,
+        a: coefficients,
         b: whole(row.b),
         strict: false,
     })
@@ -69,10 +81,10 @@ pub fn broken_row(alloc: Global, row: &RowInt) -> Result<Row, NoMemory>
     requires b_small { unsigned_abs row.now.b < 2 ^ 127 }
     ensures { IfOk result (λ r. r ≡ broken_row row.now) }
 {
-    let mut a = Vector::with_capacity(alloc, row.a.len())?;
-    push_negated_wholes(&mut a, row.a.as_slice())?;
+    let mut coefficients = Vector::with_capacity(alloc, row.a.len())?;
+    push_negated_wholes(&mut coefficients, row.a.as_slice())?;
     Ok(Row {
-        a,
+        a: coefficients,
         b: whole(row.b).neg(),
         strict: true,
     })
@@ -84,11 +96,11 @@ pub fn widened_whole_row(alloc: Global, row: &RowInt, more: u32) -> Result<Row, 
     requires b_small { unsigned_abs row.now.b < 2 ^ 127 }
     ensures { IfOk result (λ r. r ≡ widened more (whole_row row.now)) }
 {
-    let mut a = Vector::with_capacity(alloc, row.a.len().saturating_add(more as usize))?;
-    push_wholes(&mut a, row.a.as_slice())?;
-    push_zeros(&mut a, more)?;
+    let mut coefficients = Vector::with_capacity(alloc, row.a.len().saturating_add(more as usize))?;
+    push_wholes(&mut coefficients, row.a.as_slice())?;
+    push_zeros(&mut coefficients, more)?;
     Ok(Row {
-        a,
+        a: coefficients,
         b: whole(row.b),
         strict: false,
     })
@@ -100,11 +112,11 @@ pub fn widened_broken_row(alloc: Global, row: &RowInt, more: u32) -> Result<Row,
     requires b_small { unsigned_abs row.now.b < 2 ^ 127 }
     ensures { IfOk result (λ r. r ≡ widened more (broken_row row.now)) }
 {
-    let mut a = Vector::with_capacity(alloc, row.a.len().saturating_add(more as usize))?;
-    push_negated_wholes(&mut a, row.a.as_slice())?;
-    push_zeros(&mut a, more)?;
+    let mut coefficients = Vector::with_capacity(alloc, row.a.len().saturating_add(more as usize))?;
+    push_negated_wholes(&mut coefficients, row.a.as_slice())?;
+    push_zeros(&mut coefficients, more)?;
     Ok(Row {
-        a,
+        a: coefficients,
         b: whole(row.b).neg(),
         strict: true,
     })
@@ -113,20 +125,20 @@ pub fn widened_broken_row(alloc: Global, row: &RowInt, more: u32) -> Result<Row,
 // ---- the rows of the program
 
 /// The row `g_i z - w_i t <= w_i0` in the unknowns (t, z). Rows are counted from 1.
-pub fn joint_row(alloc: Global, qp: &Qp, i: u32) -> Result<Row, NoMemory>
-    requires from_one { 1 ≤ i }
-    requires to_last { i ≤ height qp.now.g }
-    ensures row { IfOk result (λ r. r ≡ joint_row qp.now i) }
+pub fn joint_row(alloc: Global, qp: &Qp, at_row: u32) -> Result<Row, NoMemory>
+    requires from_one { 1 ≤ at_row }
+    requires to_last { at_row ≤ height qp.now.g }
+    ensures row { IfOk result (λ r. r ≡ joint_row qp.now at_row) }
     ensures size { IfOk result (λ r. length r.a ≡ length qp.now.counts + height qp.now.h) }
 {
-    prove!(i <= qp.g.rows() && i <= qp.w.rows() && qp.w.cols() > 0);
-    let right = qp.w.row(i - 1);
-    let left = qp.g.row(i - 1);
-    let mut a = Vector::with_capacity(alloc, right.len().saturating_add(left.len()))?;
-    push_negatives(&mut a, &right[1..])?;
-    push_entries(&mut a, left)?;
+    prove!(at_row <= qp.g.rows() && at_row <= qp.w.rows() && qp.w.cols() > 0);
+    let right = qp.w.row(at_row - 1);
+    let left = qp.g.row(at_row - 1);
+    let mut coefficients = Vector::with_capacity(alloc, right.len().saturating_add(left.len()))?;
+    push_negatives(&mut coefficients, &right[1..])?;
+    push_entries(&mut coefficients, left)?;
     Ok(Row {
-        a,
+        a: coefficients,
         b: right[0],
         strict: false,
     })
@@ -139,10 +151,10 @@ pub fn turned(alloc: Global, row: &Row) -> Result<Row, NoMemory>
     ensures row { IfOk result (λ r. r ≡ turned row.now) }
     ensures size { IfOk result (λ r. length r.a ≡ length row.now.a) }
 {
-    let mut a = Vector::with_capacity(alloc, row.a.len())?;
-    push_negatives(&mut a, row.a.as_slice())?;
+    let mut coefficients = Vector::with_capacity(alloc, row.a.len())?;
+    push_negatives(&mut coefficients, row.a.as_slice())?;
     Ok(Row {
-        a,
+        a: coefficients,
         b: row.b.neg(),
         strict: row.strict,
     })
@@ -152,11 +164,11 @@ pub fn turned(alloc: Global, row: &Row) -> Result<Row, NoMemory>
 pub fn widened(alloc: Global, row: &Row, more: u32) -> Result<Row, NoMemory>
     ensures { IfOk result (λ r. r ≡ widened more row.now) }
 {
-    let mut a = Vector::with_capacity(alloc, row.a.len().saturating_add(more as usize))?;
-    push_entries(&mut a, row.a.as_slice())?;
-    push_zeros(&mut a, more)?;
+    let mut coefficients = Vector::with_capacity(alloc, row.a.len().saturating_add(more as usize))?;
+    push_entries(&mut coefficients, row.a.as_slice())?;
+    push_zeros(&mut coefficients, more)?;
     Ok(Row {
-        a,
+        a: coefficients,
         b: row.b,
         strict: row.strict,
     })

@@ -3,5 +3,5 @@ use Rattle.std.specs.List.{range_with_len}
 use Rattle.mpc_rows.specs.SetRuns.{joint_row}
 use Rattle.mpc_systems.proofs.pushing.joint_rows.Given as goal
 
-abbrev pub invariant-loop-i : goal.invariant-loop-i
-invariant-loop-i l = l.rows ≡ map (joint_row l.qp) (range_with_len 1 (l.i - 1))
+abbrev pub invariant-loop-at_row : goal.invariant-loop-at_row
+invariant-loop-at_row l = l.rows ≡ map (joint_row l.qp) (range_with_len 1 (l.at_row - 1))
