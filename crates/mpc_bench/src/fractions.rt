@@ -23,13 +23,13 @@ pub extern "C" fn mpc_frac_sum(left: &Parts, right: &Parts, out: &mut Parts) -> 
     ensures readable { OnTrue result (IsReadable out.new) }
     ensures unchanged { OnFalse result (out.new ≡ out.old) }
 {
-    let Some(x) = read(left) else {
+    let Some(left_number) = read(left) else {
         return false;
     };
-    let Some(y) = read(right) else {
+    let Some(right_number) = read(right) else {
         return false;
     };
-    match x.add(&y) {
+    match left_number.add(&right_number) {
         Ok(sum) => {
             *out = parts_of(&sum);
             true
@@ -48,13 +48,13 @@ pub extern "C" fn mpc_frac_product(left: &Parts, right: &Parts, out: &mut Parts)
     ensures readable { OnTrue result (IsReadable out.new) }
     ensures unchanged { OnFalse result (out.new ≡ out.old) }
 {
-    let Some(x) = read(left) else {
+    let Some(left_number) = read(left) else {
         return false;
     };
-    let Some(y) = read(right) else {
+    let Some(right_number) = read(right) else {
         return false;
     };
-    match x.mul(&y) {
+    match left_number.mul(&right_number) {
         Ok(product) => {
             *out = parts_of(&product);
             true
@@ -70,10 +70,10 @@ pub extern "C" fn mpc_frac_order(left: &Parts, right: &Parts) -> i32
         → result ≡ code_of (cmp_ℚ (value_of left.now) (value_of right.now)) }
     ensures unreadable { ¬ (IsReadable left.now × IsReadable right.now) → result ≡ pos 0 }
 {
-    let (Some(x), Some(y)) = (read(left), read(right)) else {
+    let (Some(left_number), Some(right_number)) = (read(left), read(right)) else {
         return 0;
     };
-    order_code(x.cmp(&y))
+    order_code(left_number.cmp(&right_number))
 }
 
 pub(crate) fn order_code(order: Ordering) -> i32

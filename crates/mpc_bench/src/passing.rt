@@ -46,13 +46,13 @@ fn read_row(alloc: Global, coefficients: &[Parts], side: &Side) -> Result<Row, S
     ensures readable { MatchResult result (λ _. IsReadableRow coefficients.now side.now)
         (λ e. IfUnreadable e (¬ IsReadableRow coefficients.now side.now)) }
 {
-    let a = read_vector(alloc, coefficients)?;
-    let Some(b) = read(&side.bound) else {
+    let vector = read_vector(alloc, coefficients)?;
+    let Some(bound) = read(&side.bound) else {
         return Err(SentError::Unreadable);
     };
     Ok(Row {
-        a,
-        b,
+        a: vector,
+        b: bound,
         strict: side.strict,
     })
 }
@@ -86,12 +86,12 @@ fn read_rows(
         (λ e. IfUnreadable e (¬ IsReadableSystem width coefficients.now sides.now)) }
 {
     let mut system = System::new(alloc, width);
-    for i in 0..sides.len() {
-        let first = i * width as usize;
+    for place in 0..sides.len() {
+        let first = place * width as usize;
         let row = read_row(
             alloc,
             &coefficients[first..first + width as usize],
-            &sides[i],
+            &sides[place],
         )?;
         system.push(row)?;
     }

@@ -32,11 +32,11 @@ fn fraction_at(parts: &[Parts], place: usize) -> Frac
 
 /// The first fractions of a list.
 pub(crate) fn loaded(parts: &[Parts]) -> [Frac; COUNT]
-    ensures { (k : ℕ) → k < COUNT → slice_get result k ≡ Some (number_at parts.now k) }
+    ensures { (place : ℕ) → place < COUNT → slice_get result place ≡ Some (number_at parts.now place) }
 {
     let mut fractions = [Frac::whole(0); COUNT];
-    for (k, place) in fractions.iter_mut().enumerate() {
-        *place = fraction_at(parts, k);
+    for (place, fraction) in fractions.iter_mut().enumerate() {
+        *fraction = fraction_at(parts, place);
     }
     fractions
 }
@@ -55,34 +55,34 @@ fn mixed(digest: u64, digit: u64) -> u64
     digest.rotate_left(1) ^ digit
 }
 
-fn sum_digit(x: &Frac, y: &Frac) -> u64
-    ensures { result ≡ sum_digit x.now y.now }
+fn sum_digit(left: &Frac, right: &Frac) -> u64
+    ensures { result ≡ sum_digit left.now right.now }
 {
-    match x.add(y) {
+    match left.add(right) {
         Ok(sum) => low(sum.num()),
         Err(Wide) => 0,
     }
 }
 
-fn product_digit(x: &Frac, y: &Frac) -> u64
-    ensures { result ≡ product_digit x.now y.now }
+fn product_digit(left: &Frac, right: &Frac) -> u64
+    ensures { result ≡ product_digit left.now right.now }
 {
-    match x.mul(y) {
+    match left.mul(right) {
         Ok(product) => low(product.num()),
         Err(Wide) => 0,
     }
 }
 
-fn order_digit(x: &Frac, y: &Frac) -> u64
-    ensures { result ≡ order_digit x.now y.now }
+fn order_digit(left: &Frac, right: &Frac) -> u64
+    ensures { result ≡ order_digit left.now right.now }
 {
-    low(order_code(x.cmp(y)) as i128)
+    low(order_code(left.cmp(right)) as i128)
 }
 
-fn number_digit(x: &Frac) -> u64
-    ensures { result ≡ number_digit x.now }
+fn number_digit(number: &Frac) -> u64
+    ensures { result ≡ number_digit number.now }
 {
-    low(x.num())
+    low(number.num())
 }
 
 /// All sums once, mixed into a digest.

@@ -19,11 +19,11 @@ fn frac(num: i128, den: i128) -> Frac {
 fn row(alloc: Global, first: Frac, second: Frac, bound: Frac) -> Result<Row, NoMemory>
     ensures { IfOk result (λ r. length r.a ≡ 2) }
 {
-    let mut a = Vector::new(alloc);
-    a.push(first)?;
-    a.push(second)?;
+    let mut coefficients = Vector::new(alloc);
+    coefficients.push(first)?;
+    coefficients.push(second)?;
     Ok(Row {
-        a,
+        a: coefficients,
         b: bound,
         strict: false,
     })
@@ -45,9 +45,9 @@ fn narrow_values(alloc: Global) -> Result<System, NoMemory> {
     Ok(system)
 }
 
-fn first_at(list: &PairPoint, i: usize) -> Option<Frac> {
-    if i < list.len() {
-        Some(list.at(i).0)
+fn first_at(list: &PairPoint, place: usize) -> Option<Frac> {
+    if place < list.len() {
+        Some(list.at(place).0)
     } else {
         None
     }
@@ -65,8 +65,8 @@ fn forms_each_value_anew(rt: HostRuntime) -> Result<(), Fail> {
     Ok(())
 }
 
-fn part(n: i64) -> Parts {
-    parts_of(&Frac::whole(n))
+fn part(number: i64) -> Parts {
+    parts_of(&Frac::whole(number))
 }
 
 fn side(bound: i64, strict: bool) -> Side {

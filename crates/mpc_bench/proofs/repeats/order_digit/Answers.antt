@@ -6,6 +6,6 @@ use Rattle.mpc_bench.proofs.DigestLemmas.{code_read, order_found}
 use Rattle.mpc_bench.proofs.repeats.order_digit.Goals as goal
 
 pub returns : goal.returns
-returns c = order_found c.args.x.now c.args.y.now c.low.result
+returns c = order_found c.args.left.now c.args.right.now c.low.result
     (c.low.ensures ∙ ap (λ z. low_of (to_z w128 (of_z w128 (to_z w32 (of_z w32 z))))) c.order_code.ensures ∙ ap low_of (code_read c.cmp.result)
     ∙ ap (λ o. low_of (code_of o)) c.cmp.ensures)
