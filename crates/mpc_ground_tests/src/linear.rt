@@ -22,17 +22,17 @@ fn matrix(
     entries: &[Frac],
 ) -> Result<Matrix, NoMemory> {
     let mut matrix = Matrix::zero(alloc, rows, cols)?;
-    let mut i = 0;
-    let mut j = 0;
+    let mut row = 0;
+    let mut column = 0;
     for entry in entries {
         let height = matrix.rows();
         let width = matrix.cols();
-        assert!(rt; i < height && j < width);
-        matrix.set(i, j, *entry);
-        j += 1;
-        if j == width {
-            j = 0;
-            i += 1;
+        assert!(rt; row < height && column < width);
+        matrix.set(row, column, *entry);
+        column += 1;
+        if column == width {
+            column = 0;
+            row += 1;
         }
     }
     Ok(matrix)
@@ -60,19 +60,19 @@ fn whole_matrix(
 
 /// Whether the entries are these integers, row by row.
 fn is_matrix(rt: &impl Abort, matrix: &Matrix, entries: &[i64]) -> bool {
-    let mut i = 0;
-    let mut j = 0;
+    let mut row = 0;
+    let mut column = 0;
     for entry in entries {
         let height = matrix.rows();
         let width = matrix.cols();
-        assert!(rt; i < height && j < width);
-        if matrix.get(i, j) != Frac::whole(*entry) {
+        assert!(rt; row < height && column < width);
+        if matrix.get(row, column) != Frac::whole(*entry) {
             return false;
         }
-        j += 1;
-        if j == width {
-            j = 0;
-            i += 1;
+        column += 1;
+        if column == width {
+            column = 0;
+            row += 1;
         }
     }
     true
@@ -87,11 +87,11 @@ fn solved(
     sides: u32,
     right: &[Frac],
 ) -> Result<Solved, LinearError> {
-    let m = matrix(rt, alloc, size, size, entries)?;
+    let square = matrix(rt, alloc, size, size, entries)?;
     let rhs = matrix(rt, alloc, size, sides, right)?;
-    let (rows, cols, height) = (m.rows(), m.cols(), rhs.rows());
+    let (rows, cols, height) = (square.rows(), square.cols(), rhs.rows());
     assert!(rt; rows == cols && height == rows);
-    solve(alloc, &m, &rhs)
+    solve(alloc, &square, &rhs)
 }
 
 /// The same for whole numbers.
@@ -124,11 +124,16 @@ fn is_dependent(
     }
 }
 
-fn product(rt: &impl Abort, alloc: Global, a: &Matrix, b: &Matrix) -> Result<Matrix, LinearError> {
-    let inner = a.cols();
-    let rows = b.rows();
+fn product(
+    rt: &impl Abort,
+    alloc: Global,
+    left: &Matrix,
+    right: &Matrix,
+) -> Result<Matrix, LinearError> {
+    let inner = left.cols();
+    let rows = right.rows();
     assert!(rt; inner == rows);
-    a.times(alloc, b)
+    left.times(alloc, right)
 }
 
 /// Whether the product of two matrices of two rows and columns has these entries.
@@ -139,12 +144,12 @@ fn is_product(
     right: &[i64],
     wanted: &[i64],
 ) -> Result<bool, LinearError> {
-    let a = whole_matrix(rt, alloc, 2, 2, left)?;
-    let b = whole_matrix(rt, alloc, 2, 2, right)?;
-    let c = product(rt, alloc, &a, &b)?;
-    let rows = c.rows();
+    let left_matrix = whole_matrix(rt, alloc, 2, 2, left)?;
+    let right_matrix = whole_matrix(rt, alloc, 2, 2, right)?;
+    let found = product(rt, alloc, &left_matrix, &right_matrix)?;
+    let rows = found.rows();
     assert!(rt; rows == 2);
-    Ok(c.row(1).len() == 2 && is_matrix(rt, &c, wanted))
+    Ok(found.row(1).len() == 2 && is_matrix(rt, &found, wanted))
 }
 
 #[test]
