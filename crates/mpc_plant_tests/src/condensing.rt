@@ -16,13 +16,15 @@ fn program_of(alloc: Global, text: &str) -> Result<Qp, Fail> {
 }
 
 /// Whether the matrix has these whole entries, row by row.
-fn holds(rt: &impl Abort, m: &Matrix, rows: &[[i64; 2]]) -> bool {
-    assert_eq!(rt; m.rows() as usize, rows.len());
-    assert_eq!(rt; m.cols(), 2);
+fn holds(rt: &impl Abort, matrix: &Matrix, rows: &[[i64; 2]]) -> bool {
+    assert_eq!(rt; matrix.rows() as usize, rows.len());
+    assert_eq!(rt; matrix.cols(), 2);
     let mut same = true;
-    for i in 0..m.rows() {
-        let [first, second] = rows[i as usize];
-        same = same && m.get(i, 0) == Frac::whole(first) && m.get(i, 1) == Frac::whole(second);
+    for row in 0..matrix.rows() {
+        let [first, second] = rows[row as usize];
+        same = same
+            && matrix.get(row, 0) == Frac::whole(first)
+            && matrix.get(row, 1) == Frac::whole(second);
     }
     same
 }

@@ -10,27 +10,27 @@ use std::test::Fail;
 
 /// The symmetric matrix with these entries on and below its diagonal, row by row.
 fn symmetric(alloc: Global, entries: [Frac; 6]) -> Result<Matrix, NoMemory>
-    ensures { IfOk result (λ m. (m.columns ≡ height m) × IsSymmetric m.rows) }
+    ensures { IfOk result (λ matrix. (matrix.columns ≡ height matrix) × IsSymmetric matrix.rows) }
 {
     let [a, b, c, d, e, f] = entries;
-    let mut m = Matrix::zero(alloc, 3, 3)?;
-    m.set(0, 0, a);
-    m.set(1, 0, b);
-    m.set(0, 1, b);
-    m.set(1, 1, c);
-    m.set(2, 0, d);
-    m.set(0, 2, d);
-    m.set(2, 1, e);
-    m.set(1, 2, e);
-    m.set(2, 2, f);
-    Ok(m)
+    let mut matrix = Matrix::zero(alloc, 3, 3)?;
+    matrix.set(0, 0, a);
+    matrix.set(1, 0, b);
+    matrix.set(0, 1, b);
+    matrix.set(1, 1, c);
+    matrix.set(2, 0, d);
+    matrix.set(0, 2, d);
+    matrix.set(2, 1, e);
+    matrix.set(1, 2, e);
+    matrix.set(2, 2, f);
+    Ok(matrix)
 }
 
 #[test]
 fn tridiagonal(rt: HostRuntime) -> Result<(), Fail> {
     let entries = [2, -1, 2, 0, -1, 2].map(Frac::whole);
-    let m = symmetric(rt.alloc(), entries)?;
-    let found = pivots(rt.alloc(), &m)?;
+    let matrix = symmetric(rt.alloc(), entries)?;
+    let found = pivots(rt.alloc(), &matrix)?;
     let expected = [Frac::whole(2), Frac::new(3, 2)?, Frac::new(4, 3)?];
     assert_eq!(rt; found.d.as_slice(), expected.as_slice());
     assert_eq!(rt; found.l.rows(), 3);
