@@ -49,10 +49,10 @@ fn push_row(alloc: Global, system: &mut System, text: &str) -> Result<(), NoMemo
     let Some((left, right)) = text.split_once('<') else {
         return Ok(());
     };
-    let a = vector(alloc, left)?;
-    if a.len() == system.unknowns() {
+    let coefficients = vector(alloc, left)?;
+    if coefficients.len() == system.unknowns() {
         system.push(Row {
-            a,
+            a: coefficients,
             b: frac(right.trim_start_matches('=').trim()),
             strict: !right.starts_with('='),
         })?;

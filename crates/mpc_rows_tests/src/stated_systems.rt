@@ -15,20 +15,20 @@ use std::test::Fail;
 
 /// The matrix of these entries, row by row, and of zeros behind them.
 fn matrix(alloc: Global, rows: u32, cols: u32, entries: &[i64]) -> Result<Matrix, NoMemory>
-    ensures { IfOk result (λ m. HasShape m rows cols) }
+    ensures { IfOk result (λ matrix. HasShape matrix rows cols) }
 {
-    let mut m = Matrix::zero(alloc, rows, cols)?;
+    let mut matrix = Matrix::zero(alloc, rows, cols)?;
     let mut rest = entries;
-    for i in 0..rows {
-        for j in 0..cols {
-            if let Some((x, later)) = rest.split_first() {
-                m.set(i, j, Frac::whole(*x));
+    for row in 0..rows {
+        for column in 0..cols {
+            if let Some((entry, later)) = rest.split_first() {
+                matrix.set(row, column, Frac::whole(*entry));
                 rest = later;
             }
         }
     }
-    let _ = m.rows();
-    Ok(m)
+    let _ = matrix.rows();
+    Ok(matrix)
 }
 
 /// The rows z <= 1 + 2 t and -z <= 1, for t from 0 to 8.
@@ -47,27 +47,27 @@ fn program(alloc: Global) -> Result<Qp, NoMemory>
     })
 }
 
-/// The row is `first t + second z <= b`, or `<` where it is strict.
+/// The row is `first t + second z <= bound`, or `<` where it is strict.
 fn is_row(
     rt: &impl Abort,
     row: &Row,
     first: i64,
     second: i64,
-    b: i64,
+    bound: i64,
     strict: bool,
 ) -> Result<(), Fail> {
     let sides = [Frac::whole(first), Frac::whole(second)];
     assert_eq!(rt; row.a.as_slice(), sides.as_slice());
-    assert_eq!(rt; row.b, Frac::whole(b));
+    assert_eq!(rt; row.b, Frac::whole(bound));
     assert_eq!(rt; row.strict, strict);
     Ok(())
 }
 
-/// The rows of the system are `first t + second z <= b`.
+/// The rows of the system are `first t + second z <= bound`.
 fn has_rows(rt: &impl Abort, system: &System, rows: &[(i64, i64, i64)]) -> Result<(), Fail> {
     assert_eq!(rt; system.rows.len(), rows.len());
-    for (row, (first, second, b)) in system.rows.as_slice().iter().zip(rows) {
-        is_row(rt, row, *first, *second, *b, false)?;
+    for (row, (first, second, bound)) in system.rows.as_slice().iter().zip(rows) {
+        is_row(rt, row, *first, *second, *bound, false)?;
     }
     Ok(())
 }
