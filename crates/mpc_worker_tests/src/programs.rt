@@ -16,37 +16,37 @@ fn matrix(alloc: Global, cols: u32, rows: &[[i64; 2]]) -> Result<Matrix, NoMemor
     requires some { 1 ≤ cols }
     requires few { cols ≤ 2 }
     requires few_rows { length rows.now ≤ 2 }
-    ensures { IfOk result (λ m. HasShape m (length rows.now) cols) }
+    ensures { IfOk result (λ matrix. HasShape matrix (length rows.now) cols) }
 {
-    let mut m = Matrix::zero(alloc, rows.len() as u32, cols)?;
-    for i in 0..rows.len() {
-        let [first, second] = rows[i];
-        m.set(i as u32, cols - 1, Frac::whole(second));
-        m.set(i as u32, 0, Frac::whole(first));
+    let mut matrix = Matrix::zero(alloc, rows.len() as u32, cols)?;
+    for row in 0..rows.len() {
+        let [first, second] = rows[row];
+        matrix.set(row as u32, cols - 1, Frac::whole(second));
+        matrix.set(row as u32, 0, Frac::whole(first));
     }
-    Ok(m)
+    Ok(matrix)
 }
 
-/// The program with the cost `2 z² + 2 z (f c)` and the rows `g z <= w c`.
+/// The program with the cost `2 z² + 2 z (mixed_cost c)` and the rows `coefficients z <= bounds c`.
 pub(crate) fn program(
     alloc: Global,
-    f: [i64; 2],
+    mixed_cost: [i64; 2],
     count: u64,
-    g: &[[i64; 2]],
-    w: &[[i64; 2]],
+    coefficients: &[[i64; 2]],
+    bounds: &[[i64; 2]],
 ) -> Result<Qp, NoMemory>
-    requires same { length w.now ≡ length g.now }
-    requires few { length g.now ≤ 2 }
-    ensures { IfOk result (λ qp. height qp.g ≡ length g.now) }
+    requires same { length bounds.now ≡ length coefficients.now }
+    requires few { length coefficients.now ≤ 2 }
+    ensures { IfOk result (λ qp. height qp.g ≡ length coefficients.now) }
 {
     let mut counts = Counts::new(alloc);
     counts.push(count)?;
     Ok(Qp {
         h: matrix(alloc, 1, [[2, 0]].as_slice())?,
-        f: matrix(alloc, 2, [f].as_slice())?,
+        f: matrix(alloc, 2, [mixed_cost].as_slice())?,
         y: matrix(alloc, 2, [[32, -8], [-8, 2]].as_slice())?,
-        g: matrix(alloc, 1, g)?,
-        w: matrix(alloc, 2, w)?,
+        g: matrix(alloc, 1, coefficients)?,
+        w: matrix(alloc, 2, bounds)?,
         counts,
     })
 }
@@ -62,22 +62,22 @@ pub(crate) fn limited(alloc: Global) -> Result<Qp, NoMemory> {
     )
 }
 
-fn is_positive(x: &Frac) -> bool
-    ensures { result ≡ lt_ℚ (int (pos 0)) x.now }
+fn is_positive(number: &Frac) -> bool
+    ensures { result ≡ lt_ℚ (int (pos 0)) number.now }
 {
-    Frac::whole(0).cmp(x).is_lt()
+    Frac::whole(0).cmp(number).is_lt()
 }
 
 /// Whether the matrix is one positive number.
-pub(crate) fn is_positive_number(h: &Matrix) -> bool
-    ensures one { IsTrue result → height h.now ≡ 1 }
-    ensures definite { IsTrue result → IsDefinite h.now.rows }
+pub(crate) fn is_positive_number(matrix: &Matrix) -> bool
+    ensures one { IsTrue result → height matrix.now ≡ 1 }
+    ensures definite { IsTrue result → IsDefinite matrix.now.rows }
 {
-    if h.rows() != 1 {
+    if matrix.rows() != 1 {
         return false;
     }
-    if h.cols() != 1 {
+    if matrix.cols() != 1 {
         return false;
     }
-    is_positive(&h.get(0, 0))
+    is_positive(&matrix.get(0, 0))
 }

@@ -6,5 +6,5 @@ use Rattle.mpc_worker_tests.proofs.programs.is_positive_number.Goals as goal
 
 pub returns-clause-definite : goal.returns-clause-definite
 returns-clause-definite c = λ so.
-    one_definite c.args.h.now (omega arith) (omega arith) c.rows.ensures.rectangular
+    one_definite c.args.matrix.now (omega arith) (omega arith) c.rows.ensures.rectangular
     (subst (λ x. int (pos 0) <ℚ x) c.get.ensures (lt_ℚ-true (sym c.is_positive.ensures ∙ so)))
