@@ -12,16 +12,16 @@ use mpc_rows::Row;
 const MOST_SCALE: u64 = 1 << 40;
 
 /// The least common multiple of a scale and the denominator of a number, if it isn't above the greatest scale.
-fn common_scale(scale: u64, x: &Frac) -> Option<u64>
+fn common_scale(scale: u64, number: &Frac) -> Option<u64>
     requires some { 0 < scale }
     requires small { scale ≤ 2 ^ 40 }
     ensures some { IfSome result (λ k. 0 < k) }
     ensures small { IfSome result (λ k. k ≤ 2 ^ 40) }
 {
-    if x.is_whole() {
+    if number.is_whole() {
         return Some(scale);
     }
-    let den = x.den().unsigned_abs();
+    let den = number.den().unsigned_abs();
     if den > MOST_SCALE as u128 {
         return None;
     }
@@ -42,22 +42,22 @@ pub(crate) fn row_scale(row: &Row) -> Option<u64>
     ensures small { IfSome result (λ k. k ≤ 2 ^ 40) }
 {
     let mut scale = common_scale(1, &row.b)?;
-    for x in row.a.as_slice() {
-        scale = common_scale(scale, x)?;
+    for number in row.a.as_slice() {
+        scale = common_scale(scale, number)?;
     }
     Some(scale)
 }
 
 /// How many times the denominator of a number goes into a scale, if it divides it.
-fn factor(x: &Frac, scale: u64) -> Option<u64>
+fn factor(number: &Frac, scale: u64) -> Option<u64>
     requires small { scale ≤ 2 ^ 40 }
-    ensures value { IfSome result (λ q. q * x.now.denom ≡ scale) }
+    ensures value { IfSome result (λ q. q * number.now.denom ≡ scale) }
     ensures small { IfSome result (λ q. q ≤ 2 ^ 40) }
 {
-    if x.is_whole() {
+    if number.is_whole() {
         return Some(scale);
     }
-    let den = x.den().unsigned_abs();
+    let den = number.den().unsigned_abs();
     if den > scale as u128 {
         return None;
     }
@@ -74,20 +74,20 @@ fn factor(x: &Frac, scale: u64) -> Option<u64>
 }
 
 /// The number times a scale, if that is whole and small.
-pub(crate) fn scaled(x: &Frac, scale: u64) -> Option<i64>
+pub(crate) fn scaled(number: &Frac, scale: u64) -> Option<i64>
     requires some { 0 < scale }
     requires scale_small { scale ≤ 2 ^ 40 }
-    ensures value { IfSome result (λ z. x.now ≡ frac z scale) }
+    ensures value { IfSome result (λ z. number.now ≡ frac z scale) }
     ensures small { IfSome result (λ z. unsigned_abs z ≤ 2 ^ 62) }
 {
-    let numerator = x.num();
+    let numerator = number.num();
     if numerator.unsigned_abs() > 1 << 62 {
         return None;
     }
-    let times = factor(x, scale)?;
-    let z = product(narrow(numerator), signed(times));
-    if z.unsigned_abs() <= 1 << 62 {
-        Some(narrow(z))
+    let times = factor(number, scale)?;
+    let whole = product(narrow(numerator), signed(times));
+    if whole.unsigned_abs() <= 1 << 62 {
+        Some(narrow(whole))
     } else {
         None
     }
@@ -98,8 +98,8 @@ pub fn greatest(list: &[i64]) -> u64
     ensures { IsSmall result list.now }
 {
     let mut most = 0;
-    for j in 0..list.len() {
-        let size = list[j].unsigned_abs();
+    for place in 0..list.len() {
+        let size = list[place].unsigned_abs();
         if most < size {
             most = size;
         }

@@ -42,97 +42,97 @@ struct WholeLists {
 /// Puts the numbers of a row times its scale behind the others, or some of them where one isn't whole or too great, or without memory.
 /// The result is a bound of them all.
 fn add_entries(
-    a: &mut Vec<i64>,
+    coefficients: &mut Vec<i64>,
     row: &[Frac],
     scale: u64,
     most: u64,
 ) -> Result<Option<u64>, AllocError>
     requires some { 0 < scale }
     requires scale_small { scale ≤ 2 ^ 40 }
-    requires small { IsSmall most a.old.items }
-    ensures kept { take (length a.old.items) a.new.items ≡ a.old.items }
-    ensures behind { IfOk result (λ o. IfSome o (λ m. AreBehind a.old.items a.new.items (length row.now) scale (coordinate row.now) m)) }
+    requires small { IsSmall most coefficients.old.items }
+    ensures kept { take (length coefficients.old.items) coefficients.new.items ≡ coefficients.old.items }
+    ensures behind { IfOk result (λ o. IfSome o (λ m. AreBehind coefficients.old.items coefficients.new.items (length row.now) scale (coordinate row.now) m)) }
     ensures bound { IfOk result (λ o. IfSome o (λ m. most ≤ m)) }
 {
     let mut most = most;
-    for x in row {
-        let Some(z) = scaled(x, scale) else {
+    for number in row {
+        let Some(whole) = scaled(number, scale) else {
             return Ok(None);
         };
-        a.push(z)?;
-        most = most.max(z.unsigned_abs());
+        coefficients.push(whole)?;
+        most = most.max(whole.unsigned_abs());
     }
     Ok(Some(most))
 }
 
 /// The number, or minus the number, if it is small.
-fn small_number(z: i128, negated: bool) -> Option<i64>
-    ensures value { IfSome result (λ y. y ≡ negated_where negated z) }
+fn small_number(number: i128, negated: bool) -> Option<i64>
+    ensures value { IfSome result (λ y. y ≡ negated_where negated number) }
     ensures small { IfSome result (λ y. unsigned_abs y ≤ 2 ^ 62) }
 {
-    if z.unsigned_abs() > 1 << 62 {
+    if number.unsigned_abs() > 1 << 62 {
         return None;
     }
-    let y = narrow(z);
-    if negated { Some(-y) } else { Some(y) }
+    let small = narrow(number);
+    if negated { Some(-small) } else { Some(small) }
 }
 
 /// Puts whole numbers, or minus each, behind the others, or some of them where one is too great, or without memory. The result is a bound
 /// of them all.
 fn add_numbers(
-    a: &mut Vec<i64>,
+    coefficients: &mut Vec<i64>,
     row: &[i128],
     negated: bool,
     most: u64,
 ) -> Result<Option<u64>, AllocError>
-    requires small { IsSmall most a.old.items }
-    ensures kept { take (length a.old.items) a.new.items ≡ a.old.items }
-    ensures behind { IfOk result (λ o. IfSome o (λ m. AreBehind a.old.items a.new.items (length row.now) 1 (λ j. int (negated_where negated (get_or row.now j (pos 0)))) m)) }
+    requires small { IsSmall most coefficients.old.items }
+    ensures kept { take (length coefficients.old.items) coefficients.new.items ≡ coefficients.old.items }
+    ensures behind { IfOk result (λ o. IfSome o (λ m. AreBehind coefficients.old.items coefficients.new.items (length row.now) 1 (λ j. int (negated_where negated (get_or row.now j (pos 0)))) m)) }
     ensures bound { IfOk result (λ o. IfSome o (λ m. most ≤ m)) }
 {
     let mut most = most;
-    for z in row {
-        let Some(y) = small_number(*z, negated) else {
+    for number in row {
+        let Some(small) = small_number(*number, negated) else {
             return Ok(None);
         };
-        a.push(y)?;
-        most = most.max(y.unsigned_abs());
+        coefficients.push(small)?;
+        most = most.max(small.unsigned_abs());
     }
     Ok(Some(most))
 }
 
 /// Puts the negatives of so many of the numbers, from this place on, behind them, or some of them without memory.
-fn add_negatives(a: &mut Vec<i64>, from: usize, count: usize) -> Result<(), AllocError>
-    requires within { from + count ≤ length a.old.items }
-    requires small { IsSmall (2 ^ 62) a.old.items }
-    ensures kept { take (length a.old.items) a.new.items ≡ a.old.items }
-    ensures behind { OnOk result ((scale most : ℕ) → IsSmall most a.old.items
-        → AreBehind a.old.items a.new.items count scale (λ j. frac (neg_ℤ (whole_at a.old.items (from + j))) scale) most) }
+fn add_negatives(coefficients: &mut Vec<i64>, from: usize, count: usize) -> Result<(), AllocError>
+    requires within { from + count ≤ length coefficients.old.items }
+    requires small { IsSmall (2 ^ 62) coefficients.old.items }
+    ensures kept { take (length coefficients.old.items) coefficients.new.items ≡ coefficients.old.items }
+    ensures behind { OnOk result ((scale most : ℕ) → IsSmall most coefficients.old.items
+        → AreBehind coefficients.old.items coefficients.new.items count scale (λ j. frac (neg_ℤ (whole_at coefficients.old.items (from + j))) scale) most) }
 {
-    for c in 0..count {
-        let z = negative(a[from + c]);
-        a.push(z)?;
+    for place in 0..count {
+        let opposite = negative(coefficients[from + place]);
+        coefficients.push(opposite)?;
     }
     Ok(())
 }
 
 /// Puts one item behind each list. Without memory the items of the first lists may stand there.
 fn add_ends(
-    b: &mut Vec<i64>,
+    sides: &mut Vec<i64>,
     scales: &mut Vec<u64>,
     strict: &mut Vec<bool>,
     side: i64,
     scale: u64,
     is_strict: bool,
 ) -> Result<(), AllocError>
-    ensures sides { OnOk result (b.new.items ≡ b.old.items ++ side ∷ []) }
+    ensures sides { OnOk result (sides.new.items ≡ sides.old.items ++ side ∷ []) }
     ensures scales { OnOk result (scales.new.items ≡ scales.old.items ++ scale ∷ []) }
     ensures strict { OnOk result (strict.new.items ≡ strict.old.items ++ is_strict ∷ []) }
-    ensures sides_kept { take (length b.old.items) b.new.items ≡ b.old.items }
+    ensures sides_kept { take (length sides.old.items) sides.new.items ≡ sides.old.items }
     ensures scales_kept { take (length scales.old.items) scales.new.items ≡ scales.old.items }
     ensures strict_kept { take (length strict.old.items) strict.new.items ≡ strict.old.items }
 {
-    b.push(side)?;
+    sides.push(side)?;
     scales.push(scale)?;
     strict.push(is_strict)?;
     Ok(())
@@ -196,18 +196,18 @@ fn add_whole(lists: &mut WholeLists, row: &RowInt, broken: bool) -> Result<bool,
     Ok(true)
 }
 
-/// Puts row i, the other way round, behind the others, or a part of it without memory.
-fn add_turned(lists: &mut WholeLists, i: usize) -> Result<bool, AllocError>
+/// Puts the row of this number, the other way round, behind the others, or a part of it without memory.
+fn add_turned(lists: &mut WholeLists, row: usize) -> Result<bool, AllocError>
     requires lists { AreLists lists.old }
-    requires row { i < length lists.old.b.items }
+    requires row { row < length lists.old.b.items }
     ensures kept { IsKept lists.old lists.new }
-    ensures added { IfOk result (λ done. IsTrue done → IsAdded lists.old lists.new (turned (kept_row lists.old i))) }
+    ensures added { IfOk result (λ done. IsTrue done → IsAdded lists.old lists.new (turned (kept_row lists.old row))) }
 {
     let width = lists.width;
-    let side = negative(lists.b[i]);
-    let scale = lists.scales[width + i];
-    let is_strict = lists.strict[i];
-    add_negatives(&mut lists.a, i * width, width)?;
+    let side = negative(lists.b[row]);
+    let scale = lists.scales[width + row];
+    let is_strict = lists.strict[row];
+    add_negatives(&mut lists.a, row * width, width)?;
     add_ends(
         &mut lists.b,
         &mut lists.scales,
@@ -442,8 +442,8 @@ impl WholeSystem {
     {
         let mut whole = WholeSystem::new(alloc, system.width)?;
         whole.reserve(system.height())?;
-        for i in 0..system.height() {
-            if !whole.push(system.row(i))? {
+        for at_row in 0..system.height() {
+            if !whole.push(system.row(at_row))? {
                 return Ok(None);
             }
         }
@@ -506,13 +506,13 @@ impl WholeSystem {
         self.lists.b.len()
     }
 
-    /// Whether row i, from 0, is strict.
+    /// Whether the row of this number, from 0, is strict.
     #[inline]
-    pub fn is_strict(&self, i: usize) -> bool
-        requires { i < height self.now }
-        ensures { result ≡ (row_at self.now i).strict }
+    pub fn is_strict(&self, row: usize) -> bool
+        requires { row < height self.now }
+        ensures { result ≡ (row_at self.now row).strict }
     {
-        self.lists.strict[i]
+        self.lists.strict[row]
     }
 
     /// Puts the row behind the others, if it is whole times a scale of at most 2^40, with numbers of at most 2^62; says whether it was.
@@ -541,17 +541,17 @@ impl WholeSystem {
         settle(&mut self.lists, height, added)
     }
 
-    /// Puts the row `a · t ≤ b` of numbers of at most 2^62 in size behind the others. Without memory the system stays as it was.
-    pub fn push_small(&mut self, a: &[i64], b: i64) -> Result<(), AllocError>
-        requires width { length a.now ≡ self.old.width }
-        requires entries_small { IsSmall (2 ^ 62) a.now }
-        requires side_small { unsigned_abs b ≤ 2 ^ 62 }
+    /// Puts the row `entries · t ≤ side` of numbers of at most 2^62 in size behind the others. Without memory the system stays as it was.
+    pub fn push_small(&mut self, entries: &[i64], side: i64) -> Result<(), AllocError>
+        requires width { length entries.now ≡ self.old.width }
+        requires entries_small { IsSmall (2 ^ 62) entries.now }
+        requires side_small { unsigned_abs side ≤ 2 ^ 62 }
         ensures width { self.new.width ≡ self.old.width }
-        ensures ok { OnOk result (self.new.rows ≡ self.old.rows ++ whole_row (record { a = a.now; b = b }) ∷ []) }
+        ensures ok { OnOk result (self.new.rows ≡ self.old.rows ++ whole_row (record { a = entries.now; b = side }) ∷ []) }
         ensures err { OnErr result (self.new.rows ≡ self.old.rows) }
     {
         let height = self.lists.b.len();
-        match add_small(&mut self.lists, a, b) {
+        match add_small(&mut self.lists, entries, side) {
             Ok(()) => Ok(()),
             Err(error) => {
                 cut(&mut self.lists, height);
@@ -590,16 +590,16 @@ impl WholeSystem {
         settle(&mut self.lists, height, added)
     }
 
-    /// Puts row i, from 0, the other way round behind the others. Its numbers are as small as the row's. Without memory the system stays as
-    /// it was.
-    pub fn push_turned(&mut self, i: usize) -> Result<bool, AllocError>
-        requires { i < height self.old }
+    /// Puts the row of this number, from 0, the other way round behind the others. Its numbers are as small as the row's. Without memory
+    /// the system stays as it was.
+    pub fn push_turned(&mut self, row: usize) -> Result<bool, AllocError>
+        requires { row < height self.old }
         ensures width { self.new.width ≡ self.old.width }
-        ensures ok { IfOk result (λ done. self.new.rows ≡ cond done (self.old.rows ++ turned (row_at self.old i) ∷ []) self.old.rows) }
+        ensures ok { IfOk result (λ done. self.new.rows ≡ cond done (self.old.rows ++ turned (row_at self.old row) ∷ []) self.old.rows) }
         ensures err { OnErr result (self.new.rows ≡ self.old.rows) }
     {
         let height = self.lists.b.len();
-        let added = add_turned(&mut self.lists, i);
+        let added = add_turned(&mut self.lists, row);
         settle(&mut self.lists, height, added)
     }
 

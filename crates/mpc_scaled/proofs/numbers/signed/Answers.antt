@@ -5,4 +5,4 @@ use Rattle.mpc_scaled.proofs.Small.{back64}
 use Rattle.mpc_scaled.proofs.numbers.signed.Goals as goal
 
 pub returns : goal.returns
-returns c = record { value = back64 _ c.cast_signed.type_inv ∙ c.cast_signed.ensures ∙ to_z_pos w64 c.args.n (let h = c.requires in omega arith) }
+returns c = record { value = back64 _ c.cast_signed.type_inv ∙ c.cast_signed.ensures ∙ to_z_pos w64 c.args.number (let h = c.requires in omega arith) }

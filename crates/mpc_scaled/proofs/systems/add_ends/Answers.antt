@@ -22,7 +22,7 @@ returns-in_err-push-3 c =
 
 pub returns : goal.returns
 returns c = record {
-  sides = c.in_ok-push.ensures.items ∙ ap (λ z. c.args.b.now.items ++ z ∷ []) (to_z-of_z w64 c.args.side c.ranges.side);
+  sides = c.in_ok-push.ensures.items ∙ ap (λ z. c.args.sides.now.items ++ z ∷ []) (to_z-of_z w64 c.args.side c.ranges.side);
   scales = c.in_ok-push-2.ensures.items;
   strict = c.in_ok-push-3.ensures.items;
   sides_kept = kept_behind _ _ _ c.in_ok-push.ensures.items;

@@ -8,34 +8,34 @@ use Rattle.mpc_scaled.proofs.WholeSystems.{behind_more, kept_more}
 use Rattle.std.proofs.lemmas.Result.{err_from_is_err_and}
 use Rattle.mpc_scaled.proofs.systems.add_numbers.Goals as goal
 
-pub loop-z-preserved : goal.loop-z-preserved
-loop-z-preserved c =
-    let old = c.args.a.now.items in
-    let now = c.loop-z.a.items in
-    let j = c.loop-z.z-index in
-    let z = to_z w64 (of_z w64 c.in-Some.y) in
+pub loop-number-preserved : goal.loop-number-preserved
+loop-number-preserved c =
+    let old = c.args.coefficients.now.items in
+    let now = c.loop-number.coefficients.items in
+    let j = c.loop-number.number-index in
+    let z = to_z w64 (of_z w64 c.in-Some.small) in
     let row = c.args.row.now in
-    let b = c.loop-z.invariant.behind in
+    let b = c.loop-number.invariant.behind in
     let r = c.in_ok-push.ensures.items in
     let m = c.max-most.ensures in
     let u : c.unsigned_abs.result ≡ unsigned_abs z = c.unsigned_abs.ensures.value in
     let f = λ (k : ℕ). int (negated_where c.args.negated (get_or row k (pos 0))) in
     let fits : FitsSigned w128 (get_or row j (pos 0)) = search rules in
     let e : f j ≡ frac z 1 =
-    sym (ap int (read_small c.in-Some.y c.in-Some.ensures.small ∙ c.in-Some.ensures.value ∙ ap (negated_where c.args.negated) (to_z-of_z w128 (get_or row j (pos 0)) fits)))
+    sym (ap int (read_small c.in-Some.small c.in-Some.ensures.small ∙ c.in-Some.ensures.value ∙ ap (negated_where c.args.negated) (to_z-of_z w128 (get_or row j (pos 0)) fits)))
     in
-    let t : unsigned_abs z ≤ 2 ^ 62 = subst (λ u. unsigned_abs u ≤ 2 ^ 62) (sym (read_small c.in-Some.y c.in-Some.ensures.small)) c.in-Some.ensures.small in
-    let more : AreBehind old (now ++ z ∷ []) (j + 1) 1 f c.max-most.result = behind_more old now j 1 f c.loop-z.most b z c.max-most.result e (omega arith) (omega arith) t in
+    let t : unsigned_abs z ≤ 2 ^ 62 = subst (λ u. unsigned_abs u ≤ 2 ^ 62) (sym (read_small c.in-Some.small c.in-Some.ensures.small)) c.in-Some.ensures.small in
+    let more : AreBehind old (now ++ z ∷ []) (j + 1) 1 f c.max-most.result = behind_more old now j 1 f c.loop-number.most b z c.max-most.result e (omega arith) (omega arith) t in
     record {
-      kept = ap (λ xs. take (length old) xs) r ∙ kept_more old now z c.loop-z.invariant.kept (let s = b.size in omega arith);
+      kept = ap (λ xs. take (length old) xs) r ∙ kept_more old now z c.loop-number.invariant.kept (let s = b.size in omega arith);
       behind = subst (λ xs. AreBehind old xs (j + 1) 1 f c.max-most.result) (sym r) more;
-      bound = (let h = c.loop-z.invariant.bound in omega arith);
+      bound = (let h = c.loop-number.invariant.bound in omega arith);
     }
 
 pub returns-in_err-push : goal.returns-in_err-push
 returns-in_err-push c =
     let p = err_from_is_err_and c.from_residual.result c.from_residual.ensures.1 in
-    rw p.1 (record { kept = ap (λ xs. take (length c.args.a.now.items) xs) c.in_err-push.ensures.items ∙ c.loop-z.invariant.kept; behind = tt; bound = tt })
+    rw p.1 (record { kept = ap (λ xs. take (length c.args.coefficients.now.items) xs) c.in_err-push.ensures.items ∙ c.loop-number.invariant.kept; behind = tt; bound = tt })
 
 pub returns-in_default : goal.returns-in_default
-returns-in_default c = record { kept = c.loop-z.invariant.kept; behind = tt; bound = tt }
+returns-in_default c = record { kept = c.loop-number.invariant.kept; behind = tt; bound = tt }

@@ -17,7 +17,7 @@ pub returns-clause-added : goal.returns-clause-added
 returns-clause-added c _ =
     let l = c.args.lists.now in
     let o = c.requires.lists in
-    let i = c.args.i in
+    let i = c.args.row in
     let k = row_scale l i in
     let z = to_z w64 (of_z w64 c.negative-side.result) in
     let stored : c.index.result.now ≡ whole_at l.b.items i = get_or_read l.b.items i c.index.result.now c.requires.row c.index.ensures (pos 0) in
@@ -36,7 +36,7 @@ returns-clause-added c _ =
       small = o.small (l.width + i);
       value = turned_side l i some ∙ ap (λ u. frac u k) (sym value);
       side_small = size (2 ^ 62) (o.sides_small.each i);
-      entries = behind_listed l.a.items c.add_negatives.new.a.items l.width k (λ j. frac (neg_ℤ (whole_at l.a.items (i * l.width + j))) k) (coordinate (turned (kept_row l i)).a) l.most_entry (turned_entry l i some) (c.in_ok-add_negatives.ensures.behind k l.most_entry o.entries);
+      entries = behind_listed l.a.items c.add_negatives.new.coefficients.items l.width k (λ j. frac (neg_ℤ (whole_at l.a.items (i * l.width + j))) k) (coordinate (turned (kept_row l i)).a) l.most_entry (turned_entry l i some) (c.in_ok-add_negatives.ensures.behind k l.most_entry o.entries);
       sides = c.in_ok-add_ends.ensures.sides;
       scales = c.in_ok-add_ends.ensures.scales ∙ ap (λ u. l.scales.items ++ u ∷ []) scale;
       strict = c.in_ok-add_ends.ensures.strict ∙ ap (λ b. l.strict.items ++ b ∷ []) strict;

@@ -24,7 +24,7 @@ returns-clause-added c _ =
     let f = λ (j : ℕ). int (negated_where t (get_or entries j (pos 0))) in
     let same : (j : ℕ) → coordinate row.a j ≡ f j = λ j. whole_coordinate t r j ∙ ap (λ (xs : List ℤ). int (negated_where t (get_or xs j (pos 0)))) (sym c.as_slice-entries.ensures) in
     let size : length entries ≡ l.width = ap (λ (xs : List ℤ). length xs) c.as_slice-entries.ensures ∙ c.requires.width in
-    let behind : AreBehind l.a.items c.add_numbers.new.a.items (length entries) 1 f c.in-Some-2.most = rw c.in-Some-2.is at c.in_ok-most.ensures.behind in
+    let behind : AreBehind l.a.items c.add_numbers.new.coefficients.items (length entries) 1 f c.in-Some-2.most = rw c.in-Some-2.is at c.in_ok-most.ensures.behind in
     let u : c.unsigned_abs.result ≡ unsigned_abs z = c.unsigned_abs.ensures.value in
     let m = c.max-lists.ensures in
     record {
@@ -34,7 +34,7 @@ returns-clause-added c _ =
       small = (omega arith);
       value = value;
       side_small = subst (λ u. unsigned_abs u ≤ 2 ^ 62) (sym (read_small c.in-Some.side c.in-Some.ensures.small)) c.in-Some.ensures.small;
-      entries = behind_as l.a.items c.add_numbers.new.a.items (length entries) l.width 1 f (coordinate row.a) c.in-Some-2.most size same behind;
+      entries = behind_as l.a.items c.add_numbers.new.coefficients.items (length entries) l.width 1 f (coordinate row.a) c.in-Some-2.most size same behind;
       sides = c.in_ok-add_ends.ensures.sides;
       scales = c.in_ok-add_ends.ensures.scales;
       strict = c.in_ok-add_ends.ensures.strict ∙ ap (λ b. l.strict.items ++ b ∷ []) (sym (whole_strict t r));

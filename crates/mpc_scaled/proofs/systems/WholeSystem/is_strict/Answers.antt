@@ -10,7 +10,7 @@ index-requires c =
     let l = c.self.inside.lists in
     let e = height_is l c.self.invariant in
     let s = c.self.invariant.strict_size in
-    let r : c.args.i < height (system_of l) = subst (λ (u : LinearSystem). c.args.i < height u) (sym c.self.view_is) c.requires in
+    let r : c.args.row < height (system_of l) = subst (λ (u : LinearSystem). c.args.row < height u) (sym c.self.view_is) c.requires in
     omega arith
 
 pub returns : goal.returns
@@ -18,7 +18,7 @@ returns c =
     let l = c.self.inside.lists in
     let e = height_is l c.self.invariant in
     let s = c.self.invariant.strict_size in
-    let r : c.args.i < height (system_of l) = subst (λ (u : LinearSystem). c.args.i < height u) (sym c.self.view_is) c.requires in
-    let b : c.args.i < length l.strict.items = omega arith in
-    get_or_read l.strict.items c.args.i c.index.result.now b c.index.ensures false
-    ∙ sym (ap (λ u. u.strict) (row_is l c.self.invariant c.args.i r)) ∙ ap (λ (u : LinearSystem). (row_at u c.args.i).strict) c.self.view_is
+    let r : c.args.row < height (system_of l) = subst (λ (u : LinearSystem). c.args.row < height u) (sym c.self.view_is) c.requires in
+    let b : c.args.row < length l.strict.items = omega arith in
+    get_or_read l.strict.items c.args.row c.index.result.now b c.index.ensures false
+    ∙ sym (ap (λ u. u.strict) (row_is l c.self.invariant c.args.row r)) ∙ ap (λ (u : LinearSystem). (row_at u c.args.row).strict) c.self.view_is

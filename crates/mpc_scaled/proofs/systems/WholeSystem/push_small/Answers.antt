@@ -8,19 +8,19 @@ use Rattle.mpc_scaled.proofs.systems.WholeSystem.push_small.Goals as goal
 use Rattle.mpc_scaled.proofs.systems.WholeSystem.push_small.Goals.{In-Ok, After-len-height, After-cut}
 use Rattle.mpc_scaled.specs.WholeSystems.{IsCopy}
 
-wide : (c : In-Ok) → length (whole_row (record { a = c.args.a.now; b = c.args.b })).a ≡ c.self.inside.lists.width
-wide c = whole_length false (record { a = c.args.a.now; b = c.args.b }) ∙ c.requires.width ∙ ap (λ (s : LinearSystem). s.width) (sym c.self.view_is)
+wide : (c : In-Ok) → length (whole_row (record { a = c.args.entries.now; b = c.args.side })).a ≡ c.self.inside.lists.width
+wide c = whole_length false (record { a = c.args.entries.now; b = c.args.side }) ∙ c.requires.width ∙ ap (λ (s : LinearSystem). s.width) (sym c.self.view_is)
 
-added : (c : In-Ok) → IsAdded c.self.inside.lists c.add_small.new.lists (whole_row (record { a = c.args.a.now; b = c.args.b }))
-added c = subst (λ (z : ℤ). IsAdded c.self.inside.lists c.add_small.new.lists (whole_row (record { a = c.args.a.now; b = z }))) (read_small c.args.b c.requires.side_small) c.in-Ok.ensures.added
+added : (c : In-Ok) → IsAdded c.self.inside.lists c.add_small.new.lists (whole_row (record { a = c.args.entries.now; b = c.args.side }))
+added c = subst (λ (z : ℤ). IsAdded c.self.inside.lists c.add_small.new.lists (whole_row (record { a = c.args.entries.now; b = z }))) (read_small c.args.side c.requires.side_small) c.in-Ok.ensures.added
 
 pub invariant_of-self : goal.invariant_of-self
-invariant_of-self c = added_lists c.self.inside.lists c.add_small.new.lists c.self.invariant c.in-Ok.ensures.kept (whole_row (record { a = c.args.a.now; b = c.args.b })) (wide c) (added c)
+invariant_of-self c = added_lists c.self.inside.lists c.add_small.new.lists c.self.invariant c.in-Ok.ensures.kept (whole_row (record { a = c.args.entries.now; b = c.args.side })) (wide c) (added c)
 
 pub returns-in-Ok-clause-ok : goal.returns-in-Ok-clause-ok
 returns-in-Ok-clause-ok c =
-    added_rows c.self.inside.lists c.add_small.new.lists c.self.invariant c.in-Ok.ensures.kept (whole_row (record { a = c.args.a.now; b = c.args.b })) (wide c) (added c)
-    ∙ ap (λ (s : LinearSystem). s.rows ++ whole_row (record { a = c.args.a.now; b = c.args.b }) ∷ []) c.self.view_is
+    added_rows c.self.inside.lists c.add_small.new.lists c.self.invariant c.in-Ok.ensures.kept (whole_row (record { a = c.args.entries.now; b = c.args.side })) (wide c) (added c)
+    ∙ ap (λ (s : LinearSystem). s.rows ++ whole_row (record { a = c.args.entries.now; b = c.args.side }) ∷ []) c.self.view_is
 
 -- without memory all is as it was
 height_is : (c : After-len-height) → c.len-height.result ≡ length c.self.inside.lists.b.items

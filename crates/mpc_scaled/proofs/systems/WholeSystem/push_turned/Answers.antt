@@ -9,14 +9,14 @@ use Rattle.mpc_scaled.proofs.systems.WholeSystem.push_turned.Goals as goal
 use Rattle.mpc_scaled.proofs.systems.WholeSystem.push_turned.Goals.{After-settle}
 
 pub add_turned-added-requires-clause-row : goal.add_turned-added-requires-clause-row
-add_turned-added-requires-clause-row c = in_lists c.self.inside.lists c.self.invariant c.args.self.now c.self.view_is c.args.i c.requires
+add_turned-added-requires-clause-row c = in_lists c.self.inside.lists c.self.invariant c.args.self.now c.self.view_is c.args.row c.requires
 
-settled_row : (c : After-settle) → IsSettled c.self.inside.lists c.settle.new.lists (turned (row_at c.args.self.now c.args.i)) c.settle.result
+settled_row : (c : After-settle) → IsSettled c.self.inside.lists c.settle.new.lists (turned (row_at c.args.self.now c.args.row)) c.settle.result
 settled_row c =
     let l = c.self.inside.lists in
     let size : c.len-height.result ≡ length l.b.items = (let o = l.b.ok in let e = c.len-height.ensures in omega (arith, o, e)) in
-    subst (λ (r : Row). IsSettled l c.settle.new.lists r c.settle.result) (turned_row l c.self.invariant c.args.self.now c.self.view_is c.args.i c.requires)
-    (c.settle.ensures l (turned (kept_row l c.args.i)) c.self.invariant (turned_wide l c.self.invariant c.args.self.now c.self.view_is c.args.i c.requires) size c.add_turned-added.ensures.kept c.add_turned-added.ensures.added)
+    subst (λ (r : Row). IsSettled l c.settle.new.lists r c.settle.result) (turned_row l c.self.invariant c.args.self.now c.self.view_is c.args.row c.requires)
+    (c.settle.ensures l (turned (kept_row l c.args.row)) c.self.invariant (turned_wide l c.self.invariant c.args.self.now c.self.view_is c.args.row c.requires) size c.add_turned-added.ensures.kept c.add_turned-added.ensures.added)
 
 pub invariant_of-self : goal.invariant_of-self
 invariant_of-self c = (settled_row c).lists
@@ -26,7 +26,7 @@ returns-clause-width c = (settled_row c).width ∙ ap (λ (s : LinearSystem). s.
 
 pub returns-clause-ok : goal.returns-clause-ok
 returns-clause-ok c =
-    subst (λ (s : LinearSystem). IfOk c.settle.result (λ done. (system_of c.settle.new.lists).rows ≡ cond done (s.rows ++ turned (row_at c.args.self.now c.args.i) ∷ []) s.rows)) c.self.view_is (settled_row c).ok
+    subst (λ (s : LinearSystem). IfOk c.settle.result (λ done. (system_of c.settle.new.lists).rows ≡ cond done (s.rows ++ turned (row_at c.args.self.now c.args.row) ∷ []) s.rows)) c.self.view_is (settled_row c).ok
 
 pub returns-clause-err : goal.returns-clause-err
 returns-clause-err c = subst (λ (s : LinearSystem). OnErr c.settle.result ((system_of c.settle.new.lists).rows ≡ s.rows)) c.self.view_is (settled_row c).err
