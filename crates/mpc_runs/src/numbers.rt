@@ -15,14 +15,14 @@ pub fn zero() -> Frac
     Frac::whole(0)
 }
 
-pub fn zeros(alloc: Global, n: usize) -> Result<Vec<Frac>, AllocError>
-    ensures { IfOk result (λ t. length t.items ≡ n) }
+pub fn zeros(alloc: Global, count: usize) -> Result<Vec<Frac>, AllocError>
+    ensures { IfOk result (λ t. length t.items ≡ count) }
 {
-    vec![in alloc; zero(); n]
+    vec![in alloc; zero(); count]
 }
 
-pub fn zero_pairs(alloc: Global, n: usize) -> Result<Vec<Standing>, AllocError>
-    ensures { IfOk result (λ t. length t.items ≡ n) }
+pub fn zero_pairs(alloc: Global, count: usize) -> Result<Vec<Standing>, AllocError>
+    ensures { IfOk result (λ t. length t.items ≡ count) }
 {
-    vec![in alloc; (zero(), zero()); n]
+    vec![in alloc; (zero(), zero()); count]
 }

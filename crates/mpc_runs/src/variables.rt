@@ -14,69 +14,69 @@ pub enum Seat {
     Column(usize),
 }
 
-/// Whether the variable x is basic.
+/// Whether the variable is basic.
 #[inline]
-pub fn is_basic(seats: &[Seat], x: usize) -> bool
-    requires { x < length seats.now }
-    ensures { result ≡ in_row (seat_at seats.now x) }
+pub fn is_basic(seats: &[Seat], variable: usize) -> bool
+    requires { variable < length seats.now }
+    ensures { result ≡ in_row (seat_at seats.now variable) }
 {
-    match seats[x] {
+    match seats[variable] {
         Seat::Row(_) => true,
         Seat::Column(_) => false,
     }
 }
 
-/// The row of the basic variable x.
+/// The row of the basic variable.
 #[inline]
-pub fn row_of(seats: &[Seat], x: usize) -> usize
-    requires below { x < length seats.now }
-    requires basic { in_row (seat_at seats.now x) ≡ true }
-    ensures { seat_at seats.now x ≡ Seat.Row result }
+pub fn row_of(seats: &[Seat], variable: usize) -> usize
+    requires below { variable < length seats.now }
+    requires basic { in_row (seat_at seats.now variable) ≡ true }
+    ensures { seat_at seats.now variable ≡ Seat.Row result }
 {
-    match seats[x] {
+    match seats[variable] {
         Seat::Row(row) => row,
         Seat::Column(_) => unreachable!(),
     }
 }
 
-/// The column of the nonbasic variable y.
+/// The column of the nonbasic variable.
 #[inline]
-pub fn column_of(seats: &[Seat], y: usize) -> usize
-    requires below { y < length seats.now }
-    requires free { in_row (seat_at seats.now y) ≡ false }
-    ensures { seat_at seats.now y ≡ Seat.Column result }
+pub fn column_of(seats: &[Seat], variable: usize) -> usize
+    requires below { variable < length seats.now }
+    requires free { in_row (seat_at seats.now variable) ≡ false }
+    ensures { seat_at seats.now variable ≡ Seat.Column result }
 {
-    match seats[y] {
+    match seats[variable] {
         Seat::Row(_) => unreachable!(),
         Seat::Column(column) => column,
     }
 }
 
-/// Whether x is the number of an unknown.
-pub fn is_unknown(system: &System, x: usize) -> bool
-    ensures { result ≡ is_unknown system.now x }
+/// Whether the variable is an unknown.
+pub fn is_unknown(system: &System, variable: usize) -> bool
+    ensures { result ≡ is_unknown system.now variable }
 {
-    x < system.unknowns()
+    variable < system.unknowns()
 }
 
-/// Where the variable x stands at first.
-fn opening_seat(system: &System, x: usize) -> Seat
-    ensures { result ≡ opening_seat system.now x }
+/// Where the variable stands at first.
+fn opening_seat(system: &System, variable: usize) -> Seat
+    ensures { result ≡ opening_seat system.now variable }
 {
-    if is_unknown(system, x) {
-        Seat::Column(x)
+    if is_unknown(system, variable) {
+        Seat::Column(variable)
     } else {
-        Seat::Row(x - system.unknowns())
+        Seat::Row(variable - system.unknowns())
     }
 }
 
 /// Where each variable stands at first.
-pub fn opening_seats(alloc: Global, system: &System, n: usize) -> Result<Vec<Seat>, AllocError>
-    ensures { IfOk result (λ t. IsOpeningSeats system.now n t.items) }
+pub fn opening_seats(alloc: Global, system: &System, count: usize) -> Result<Vec<Seat>, AllocError>
+    ensures { IfOk result (λ t. IsOpeningSeats system.now count t.items) }
 {
-    let mut seats = Vec::with_capacity(alloc, n)?;
-    for x in 0..n {
-        let seat = opening_seat(system, x);
+    let mut seats = Vec::with_capacity(alloc, count)?;
+    for variable in 0..count {
+        let seat = opening_seat(system, variable);
         seats.push(seat)?;
     }
     Ok(seats)
