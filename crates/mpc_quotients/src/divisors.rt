@@ -15,17 +15,17 @@ pub struct Divisor {
     inverse: u64,
 }
 
-/// A number that is inverse to an odd one in twice as many of the lowest bits as x (Newton's step).
+/// A number that is inverse to an odd one in twice as many of the lowest bits as the guess (Newton's step).
 #[inline]
-fn nearer(x: u64, odd: u64) -> u64 {
-    x.wrapping_mul(2_u64.wrapping_sub(odd.wrapping_mul(x)))
+fn nearer(guess: u64, odd: u64) -> u64 {
+    guess.wrapping_mul(2_u64.wrapping_sub(odd.wrapping_mul(guess)))
 }
 
 /// The inverse of an odd number modulo 2^64: the first guess is right in 5 bits, and each step doubles them.
 #[inline]
 fn inverse_of(odd: u64) -> u64 {
-    let x = odd.wrapping_mul(3) ^ 2;
-    nearer(nearer(nearer(nearer(x, odd), odd), odd), odd)
+    let first_guess = odd.wrapping_mul(3) ^ 2;
+    nearer(nearer(nearer(nearer(first_guess, odd), odd), odd), odd)
 }
 
 impl Divisor {
@@ -43,19 +43,19 @@ impl Divisor {
         }
     }
 
-    /// The quotient of z, where that is whole and fits 64 bits. No clause says so: whoever needs it multiplies
+    /// The quotient of the number, where that is whole and fits 64 bits. No clause says so: whoever needs it multiplies
     /// back, which shows both.
     #[inline]
-    pub(crate) fn guess(self, z: i128) -> i64 {
-        let shifted = z.cast_unsigned() >> (self.shift & 63);
+    pub(crate) fn guess(self, number: i128) -> i64 {
+        let shifted = number.cast_unsigned() >> (self.shift & 63);
         let low = (shifted & LOW) as u64;
         low.wrapping_mul(self.inverse).cast_signed()
     }
 
     /// The quotient of a number of 64 bits, where that is whole: as the other one, without an operation in 128 bits.
     #[inline]
-    pub(crate) fn short_guess(self, z: i64) -> i64 {
-        let shifted = z >> (self.shift & 63);
+    pub(crate) fn short_guess(self, number: i64) -> i64 {
+        let shifted = number >> (self.shift & 63);
         shifted
             .cast_unsigned()
             .wrapping_mul(self.inverse)

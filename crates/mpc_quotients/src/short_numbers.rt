@@ -10,43 +10,43 @@ const MOST: i64 = 1 << 30;
 
 /// The product of two such numbers.
 #[inline]
-fn short_product(x: i64, y: i64) -> i64
-    requires x_small { unsigned_abs x ≤ 2 ^ 30 }
-    requires y_small { unsigned_abs y ≤ 2 ^ 30 }
-    ensures value { result ≡ x *ℤ y }
+fn short_product(left: i64, right: i64) -> i64
+    requires x_small { unsigned_abs left ≤ 2 ^ 30 }
+    requires y_small { unsigned_abs right ≤ 2 ^ 30 }
+    ensures value { result ≡ left *ℤ right }
     ensures small { unsigned_abs result ≤ 2 ^ 60 }
 {
-    x * y
+    left * right
 }
 
-/// `v q - k x`.
+/// `entry pivot - factor top`.
 #[inline]
-fn short_difference(v: i64, k: i64, x: i64, q: u64) -> i64
-    requires v_small { unsigned_abs v ≤ 2 ^ 30 }
-    requires k_small { unsigned_abs k ≤ 2 ^ 30 }
-    requires x_small { unsigned_abs x ≤ 2 ^ 30 }
-    requires q_small { q ≤ 2 ^ 30 }
-    ensures { result ≡ (v *ℤ pos q) +ℤ neg_ℤ (k *ℤ x) }
+fn short_difference(entry: i64, factor: i64, top: i64, pivot: u64) -> i64
+    requires v_small { unsigned_abs entry ≤ 2 ^ 30 }
+    requires k_small { unsigned_abs factor ≤ 2 ^ 30 }
+    requires x_small { unsigned_abs top ≤ 2 ^ 30 }
+    requires q_small { pivot ≤ 2 ^ 30 }
+    ensures { result ≡ (entry *ℤ pos pivot) +ℤ neg_ℤ (factor *ℤ top) }
 {
-    short_product(v, signed(q)) - short_product(k, x)
+    short_product(entry, signed(pivot)) - short_product(factor, top)
 }
 
-/// `(v q - k x) / den`, if it is whole and such a number.
+/// `(entry pivot - factor top) / den`, if it is whole and such a number.
 #[inline]
-pub fn short_changed(v: i64, k: i64, x: i64, q: u64, by: Divisor) -> Option<i64>
-    requires v_small { unsigned_abs v ≤ 2 ^ 30 }
-    requires k_small { unsigned_abs k ≤ 2 ^ 30 }
-    requires x_small { unsigned_abs x ≤ 2 ^ 30 }
-    requires q_small { q ≤ 2 ^ 30 }
+pub fn short_changed(entry: i64, factor: i64, top: i64, pivot: u64, by: Divisor) -> Option<i64>
+    requires v_small { unsigned_abs entry ≤ 2 ^ 30 }
+    requires k_small { unsigned_abs factor ≤ 2 ^ 30 }
+    requires x_small { unsigned_abs top ≤ 2 ^ 30 }
+    requires q_small { pivot ≤ 2 ^ 30 }
     requires by_small { by.den ≤ 2 ^ 30 }
-    ensures value { IfSome result (λ z. z *ℤ pos by.den ≡ (v *ℤ pos q) +ℤ neg_ℤ (k *ℤ x)) }
+    ensures value { IfSome result (λ z. z *ℤ pos by.den ≡ (entry *ℤ pos pivot) +ℤ neg_ℤ (factor *ℤ top)) }
     ensures small { IfSome result (λ z. unsigned_abs z ≤ 2 ^ 30) }
 {
-    let number = short_difference(v, k, x, q);
-    let z = by.short_guess(number);
-    if z < -MOST || MOST < z {
+    let number = short_difference(entry, factor, top, pivot);
+    let quotient = by.short_guess(number);
+    if quotient < -MOST || MOST < quotient {
         return None;
     }
-    let back = short_product(z, signed(by.den));
-    if back == number { Some(z) } else { None }
+    let back = short_product(quotient, signed(by.den));
+    if back == number { Some(quotient) } else { None }
 }

@@ -11,12 +11,12 @@ use mpc_scaled::{narrow, negative, product, signed};
 
 /// The number, if it is small.
 #[inline]
-pub fn small(z: i128) -> Option<i64>
-    ensures value { IfSome result (λ y. y ≡ z) }
+pub fn small(number: i128) -> Option<i64>
+    ensures value { IfSome result (λ y. y ≡ number) }
     ensures small { IfSome result (λ y. unsigned_abs y ≤ 2 ^ 62) }
 {
-    if z.unsigned_abs() <= 1 << 62 {
-        Some(narrow(z))
+    if number.unsigned_abs() <= 1 << 62 {
+        Some(narrow(number))
     } else {
         None
     }
@@ -24,140 +24,140 @@ pub fn small(z: i128) -> Option<i64>
 
 /// The number in 128 bits.
 #[inline]
-pub fn widened(z: i64) -> i128
-    ensures { result ≡ z }
+pub fn widened(number: i64) -> i128
+    ensures { result ≡ number }
 {
-    z as i128
+    number as i128
 }
 
 /// The sum, which fits where both are small.
 #[inline]
-pub fn sum(x: i128, y: i128) -> i128
-    requires left { unsigned_abs x ≤ 2 ^ 125 }
-    requires right { unsigned_abs y ≤ 2 ^ 126 }
-    ensures { result ≡ x +ℤ y }
+pub fn sum(left: i128, right: i128) -> i128
+    requires left { unsigned_abs left ≤ 2 ^ 125 }
+    requires right { unsigned_abs right ≤ 2 ^ 126 }
+    ensures { result ≡ left +ℤ right }
 {
-    x + y
+    left + right
 }
 
 /// Minus a number.
 #[inline]
-pub fn minus(n: u64) -> i64
-    requires { n ≤ 2 ^ 40 }
-    ensures value { result ≡ neg_ℤ (pos n) }
+pub fn minus(number: u64) -> i64
+    requires { number ≤ 2 ^ 40 }
+    ensures value { result ≡ neg_ℤ (pos number) }
     ensures small { unsigned_abs result ≤ 2 ^ 40 }
 {
-    -(n as i64)
+    -(number as i64)
 }
 
-/// z, with its sign changed where q is negative.
+/// The number, with its sign changed where the pivot is negative.
 #[inline]
-pub fn turned(q: i64, z: i64) -> i64
-    requires { unsigned_abs z ≤ 2 ^ 62 }
-    ensures value { result ≡ turned q z }
-    ensures small { unsigned_abs result ≤ unsigned_abs z }
+pub fn turned(pivot: i64, number: i64) -> i64
+    requires { unsigned_abs number ≤ 2 ^ 62 }
+    ensures value { result ≡ turned pivot number }
+    ensures small { unsigned_abs result ≤ unsigned_abs number }
 {
-    if q < 0 { -z } else { z }
+    if pivot < 0 { -number } else { number }
 }
 
 /// The quotient, if it is whole and small.
 #[inline]
-pub fn small_quotient(z: i128, by: Divisor, most: u64) -> Option<i64>
+pub fn small_quotient(number: i128, by: Divisor, most: u64) -> Option<i64>
     requires by_small { by.den ≤ 2 ^ 62 }
     requires most_small { most ≤ 2 ^ 62 }
-    ensures value { IfSome result (λ q. q *ℤ pos by.den ≡ z) }
+    ensures value { IfSome result (λ q. q *ℤ pos by.den ≡ number) }
     ensures small { IfSome result (λ q. unsigned_abs q ≤ most) }
 {
-    let q = by.guess(z);
-    if q.unsigned_abs() > most {
+    let quotient = by.guess(number);
+    if quotient.unsigned_abs() > most {
         return None;
     }
-    let back = product(q, signed(by.den));
-    if back == z { Some(q) } else { None }
+    let back = product(quotient, signed(by.den));
+    if back == number { Some(quotient) } else { None }
 }
 
-/// `v q - k x`.
+/// `entry pivot - factor top`.
 #[inline]
-fn difference(v: i64, k: i64, x: i64, q: u64) -> i128
-    requires v_small { unsigned_abs v ≤ 2 ^ 62 }
-    requires k_small { unsigned_abs k ≤ 2 ^ 62 }
-    requires x_small { unsigned_abs x ≤ 2 ^ 62 }
-    requires q_small { q ≤ 2 ^ 62 }
-    ensures value { result ≡ (v *ℤ pos q) +ℤ neg_ℤ (k *ℤ x) }
+fn difference(entry: i64, factor: i64, top: i64, pivot: u64) -> i128
+    requires v_small { unsigned_abs entry ≤ 2 ^ 62 }
+    requires k_small { unsigned_abs factor ≤ 2 ^ 62 }
+    requires x_small { unsigned_abs top ≤ 2 ^ 62 }
+    requires q_small { pivot ≤ 2 ^ 62 }
+    ensures value { result ≡ (entry *ℤ pos pivot) +ℤ neg_ℤ (factor *ℤ top) }
     ensures small { unsigned_abs result < 2 ^ 127 }
 {
-    let first = product(v, signed(q));
-    let second = product(negative(k), x);
+    let first = product(entry, signed(pivot));
+    let second = product(negative(factor), top);
     sum(first, second)
 }
 
-/// `(v q - k x) / den`, the number of a column that stays after a pivot on q (Bareiss 1968), if it is whole
-/// and small.
+/// `(entry pivot - factor top) / den`, the number of a column that stays after a pivot (Bareiss 1968), if it is
+/// whole and small.
 #[inline]
-pub fn changed(v: i64, k: i64, x: i64, q: u64, by: Divisor, most: u64) -> Option<i64>
+pub fn changed(entry: i64, factor: i64, top: i64, pivot: u64, by: Divisor, most: u64) -> Option<i64>
     requires den_some { 0 < by.den }
     requires den_small { by.den ≤ 2 ^ 62 }
-    requires q_small { q ≤ 2 ^ 62 }
-    requires v_small { unsigned_abs v ≤ 2 ^ 62 }
-    requires k_small { unsigned_abs k ≤ 2 ^ 62 }
-    requires x_small { unsigned_abs x ≤ 2 ^ 62 }
+    requires q_small { pivot ≤ 2 ^ 62 }
+    requires v_small { unsigned_abs entry ≤ 2 ^ 62 }
+    requires k_small { unsigned_abs factor ≤ 2 ^ 62 }
+    requires x_small { unsigned_abs top ≤ 2 ^ 62 }
     requires most_small { most ≤ 2 ^ 62 }
-    ensures value { IfSome result (λ z. z *ℤ pos by.den ≡ (v *ℤ pos q) +ℤ neg_ℤ (k *ℤ x)) }
+    ensures value { IfSome result (λ z. z *ℤ pos by.den ≡ (entry *ℤ pos pivot) +ℤ neg_ℤ (factor *ℤ top)) }
     ensures small { IfSome result (λ z. unsigned_abs z ≤ most) }
 {
-    small_quotient(difference(v, k, x, q), by, most)
+    small_quotient(difference(entry, factor, top, pivot), by, most)
 }
 
 /// One more product, modulo 2^64.
 #[inline]
-fn wrapped(total: i64, x: i64, y: i64) -> i64
-    ensures { result ≡ int_wrap w64 (total +ℤ (x *ℤ y)) }
+fn wrapped(total: i64, left: i64, right: i64) -> i64
+    ensures { result ≡ int_wrap w64 (total +ℤ (left *ℤ right)) }
 {
-    total.wrapping_add(x.wrapping_mul(y))
+    total.wrapping_add(left.wrapping_mul(right))
 }
 
-/// The row i of a times the numbers of a list, which fits 64 bits. The sums on the way may wrap.
+/// The row of the matrix times the numbers of a list, which fits 64 bits. The sums on the way may wrap.
 #[inline]
-fn short_row_times(a: &[i64], i: usize, c: &[i64]) -> i64
-    requires inside { i * length c.now + length c.now ≤ length a.now }
-    requires result_small { unsigned_abs (whole_total (length c.now) (λ j. whole_cell (length c.now) a.now i j *ℤ whole_at c.now j)) ≤ 2 ^ 62 }
-    ensures { result ≡ whole_total (length c.now) (λ j. whole_cell (length c.now) a.now i j *ℤ whole_at c.now j) }
+fn short_row_times(matrix: &[i64], row: usize, vector: &[i64]) -> i64
+    requires inside { row * length vector.now + length vector.now ≤ length matrix.now }
+    requires result_small { unsigned_abs (whole_total (length vector.now) (λ j. whole_cell (length vector.now) matrix.now row j *ℤ whole_at vector.now j)) ≤ 2 ^ 62 }
+    ensures { result ≡ whole_total (length vector.now) (λ j. whole_cell (length vector.now) matrix.now row j *ℤ whole_at vector.now j) }
 {
-    let from = i * c.len();
+    let from = row * vector.len();
     let mut total = 0;
-    for j in 0..c.len() {
-        total = wrapped(total, a[from + j], c[j]);
+    for place in 0..vector.len() {
+        total = wrapped(total, matrix[from + place], vector[place]);
     }
     total
 }
 
-/// The row i of a times the four numbers of a list, which fits 64 bits. The sums on the way may wrap.
+/// The row of the matrix times the four numbers of a list, which fits 64 bits. The sums on the way may wrap.
 #[inline]
-fn four_row_times(a: &[i64], i: usize, c: &[i64]) -> i64
-    requires four { length c.now ≡ 4 }
-    requires inside { i * length c.now + length c.now ≤ length a.now }
-    requires result_small { unsigned_abs (whole_total (length c.now) (λ j. whole_cell (length c.now) a.now i j *ℤ whole_at c.now j)) ≤ 2 ^ 62 }
-    ensures { result ≡ whole_total (length c.now) (λ j. whole_cell (length c.now) a.now i j *ℤ whole_at c.now j) }
+fn four_row_times(matrix: &[i64], row: usize, vector: &[i64]) -> i64
+    requires four { length vector.now ≡ 4 }
+    requires inside { row * length vector.now + length vector.now ≤ length matrix.now }
+    requires result_small { unsigned_abs (whole_total (length vector.now) (λ j. whole_cell (length vector.now) matrix.now row j *ℤ whole_at vector.now j)) ≤ 2 ^ 62 }
+    ensures { result ≡ whole_total (length vector.now) (λ j. whole_cell (length vector.now) matrix.now row j *ℤ whole_at vector.now j) }
 {
-    let from = i * 4;
-    let one = wrapped(0, a[from], c[0]);
-    let two = wrapped(one, a[from + 1], c[1]);
-    let three = wrapped(two, a[from + 2], c[2]);
-    wrapped(three, a[from + 3], c[3])
+    let from = row * 4;
+    let one = wrapped(0, matrix[from], vector[0]);
+    let two = wrapped(one, matrix[from + 1], vector[1]);
+    let three = wrapped(two, matrix[from + 2], vector[2]);
+    wrapped(three, matrix[from + 3], vector[3])
 }
 
-/// The row i of a times the numbers of a list, which need not fit 64 bits.
-pub fn wide_row_times(a: &[i64], i: usize, c: &[i64]) -> i128
-    requires inside { i * length c.now + length c.now ≤ length a.now }
-    requires room { HasRoom (length c.now) (2 ^ 62) a.now }
-    requires small { IsSmall (2 ^ 62) c.now }
-    ensures value { result ≡ whole_total (length c.now) (λ j. whole_cell (length c.now) a.now i j *ℤ whole_at c.now j) }
+/// The row of the matrix times the numbers of a list, which need not fit 64 bits.
+pub fn wide_row_times(matrix: &[i64], row: usize, vector: &[i64]) -> i128
+    requires inside { row * length vector.now + length vector.now ≤ length matrix.now }
+    requires room { HasRoom (length vector.now) (2 ^ 62) matrix.now }
+    requires small { IsSmall (2 ^ 62) vector.now }
+    ensures value { result ≡ whole_total (length vector.now) (λ j. whole_cell (length vector.now) matrix.now row j *ℤ whole_at vector.now j) }
     ensures small { unsigned_abs result ≤ 2 ^ 124 }
 {
-    let from = i * c.len();
+    let from = row * vector.len();
     let mut total = 0;
-    for j in 0..c.len() {
-        total = sum(total, product(a[from + j], c[j]));
+    for place in 0..vector.len() {
+        total = sum(total, product(matrix[from + place], vector[place]));
     }
     total
 }
@@ -174,37 +174,43 @@ pub enum Sums {
     Four,
 }
 
-/// The row i of a times the numbers of a list.
+/// The row of the matrix times the numbers of a list.
 #[inline]
-pub fn row_times(a: &[i64], i: usize, c: &[i64], sums: Sums) -> i128
-    requires inside { i * length c.now + length c.now ≤ length a.now }
-    requires room { HasRoom (length c.now) (2 ^ 62) a.now }
-    requires small { IsSmall (2 ^ 62) c.now }
-    requires result_small { are_short sums ≡ true → unsigned_abs (whole_total (length c.now) (λ j. whole_cell (length c.now) a.now i j *ℤ whole_at c.now j)) ≤ 2 ^ 62 }
-    requires four { are_of_four sums ≡ true → length c.now ≡ 4 }
-    ensures value { result ≡ whole_total (length c.now) (λ j. whole_cell (length c.now) a.now i j *ℤ whole_at c.now j) }
+pub fn row_times(matrix: &[i64], row: usize, vector: &[i64], sums: Sums) -> i128
+    requires inside { row * length vector.now + length vector.now ≤ length matrix.now }
+    requires room { HasRoom (length vector.now) (2 ^ 62) matrix.now }
+    requires small { IsSmall (2 ^ 62) vector.now }
+    requires result_small { are_short sums ≡ true → unsigned_abs (whole_total (length vector.now) (λ j. whole_cell (length vector.now) matrix.now row j *ℤ whole_at vector.now j)) ≤ 2 ^ 62 }
+    requires four { are_of_four sums ≡ true → length vector.now ≡ 4 }
+    ensures value { result ≡ whole_total (length vector.now) (λ j. whole_cell (length vector.now) matrix.now row j *ℤ whole_at vector.now j) }
     ensures small { unsigned_abs result ≤ 2 ^ 124 }
 {
     match sums {
-        Sums::Wide => wide_row_times(a, i, c),
-        Sums::Short => widened(short_row_times(a, i, c)),
-        Sums::Four => widened(four_row_times(a, i, c)),
+        Sums::Wide => wide_row_times(matrix, row, vector),
+        Sums::Short => widened(short_row_times(matrix, row, vector)),
+        Sums::Four => widened(four_row_times(matrix, row, vector)),
     }
 }
 
-/// The row i of a times the column c of v, which fits 64 bits. The sums on the way may wrap.
+/// The row of the matrix times the column of the numbers, which fits 64 bits. The sums on the way may wrap.
 #[inline]
-pub fn row_times_column(a: &[i64], i: usize, v: &[i64], width: usize, c: usize) -> i64
-    requires inside { i * width + width ≤ length a.now }
-    requires square { length v.now ≡ width * width }
-    requires column { c < width }
-    requires result_small { unsigned_abs (whole_total width (λ j. whole_cell width a.now i j *ℤ whole_cell width v.now j c)) ≤ 2 ^ 62 }
-    ensures { result ≡ whole_total width (λ j. whole_cell width a.now i j *ℤ whole_cell width v.now j c) }
+pub fn row_times_column(
+    matrix: &[i64],
+    row: usize,
+    numbers: &[i64],
+    width: usize,
+    column: usize,
+) -> i64
+    requires inside { row * width + width ≤ length matrix.now }
+    requires square { length numbers.now ≡ width * width }
+    requires column { column < width }
+    requires result_small { unsigned_abs (whole_total width (λ j. whole_cell width matrix.now row j *ℤ whole_cell width numbers.now j column)) ≤ 2 ^ 62 }
+    ensures { result ≡ whole_total width (λ j. whole_cell width matrix.now row j *ℤ whole_cell width numbers.now j column) }
 {
-    let from = i * width;
+    let from = row * width;
     let mut total = 0;
-    for j in 0..width {
-        total = wrapped(total, a[from + j], v[j * width + c]);
+    for place in 0..width {
+        total = wrapped(total, matrix[from + place], numbers[place * width + column]);
     }
     total
 }

@@ -10,11 +10,11 @@ use mpc_scaled::{narrow, product};
 
 /// A number that is not negative, as a signed one.
 #[inline]
-pub fn positive(n: u128) -> Option<i128>
-    ensures { IfSome result (λ z. z ≡ pos n) }
+pub fn positive(number: u128) -> Option<i128>
+    ensures { IfSome result (λ z. z ≡ pos number) }
 {
-    if n < 1 << 127 {
-        Some(n.cast_signed())
+    if number < 1 << 127 {
+        Some(number.cast_signed())
     } else {
         None
     }
@@ -22,51 +22,57 @@ pub fn positive(n: u128) -> Option<i128>
 
 /// The product. Where both numbers have 64 bits it is one multiplication.
 #[inline]
-pub fn wide_product(x: i128, y: i128) -> Option<i128>
-    ensures { IfSome result (λ z. z ≡ x *ℤ y) }
+pub fn wide_product(left: i128, right: i128) -> Option<i128>
+    ensures { IfSome result (λ z. z ≡ left *ℤ right) }
 {
-    if x.unsigned_abs() <= 1 << 62 && y.unsigned_abs() <= 1 << 62 {
-        return Some(product(narrow(x), narrow(y)));
+    if left.unsigned_abs() <= 1 << 62 && right.unsigned_abs() <= 1 << 62 {
+        return Some(product(narrow(left), narrow(right)));
     }
-    x.checked_mul(y)
+    left.checked_mul(right)
 }
 
 /// The product of a coefficient and a number, which isn't tested where it is known to be short.
 #[inline(always)]
-pub fn product_with(x: i64, y: i128, short: bool) -> Option<i128>
-    requires { IsTrue short → unsigned_abs y ≤ 2 ^ 62 }
-    ensures { IfSome result (λ z. z ≡ x *ℤ y) }
+pub fn product_with(left: i64, right: i128, short: bool) -> Option<i128>
+    requires { IsTrue short → unsigned_abs right ≤ 2 ^ 62 }
+    ensures { IfSome result (λ z. z ≡ left *ℤ right) }
 {
     if short {
-        return Some(product(x, narrow(y)));
+        return Some(product(left, narrow(right)));
     }
-    wide_product(widened(x), y)
+    wide_product(widened(left), right)
 }
 
 /// The product of two numbers, which aren't tested where they are known to be short.
 #[inline(always)]
-pub fn product_of(x: i128, y: i128, short: bool) -> Option<i128>
-    requires left { IsTrue short → unsigned_abs x ≤ 2 ^ 62 }
-    requires right { IsTrue short → unsigned_abs y ≤ 2 ^ 62 }
-    ensures { IfSome result (λ z. z ≡ x *ℤ y) }
+pub fn product_of(left: i128, right: i128, short: bool) -> Option<i128>
+    requires left { IsTrue short → unsigned_abs left ≤ 2 ^ 62 }
+    requires right { IsTrue short → unsigned_abs right ≤ 2 ^ 62 }
+    ensures { IfSome result (λ z. z ≡ left *ℤ right) }
 {
     if short {
-        return Some(product(narrow(x), narrow(y)));
+        return Some(product(narrow(left), narrow(right)));
     }
-    wide_product(x, y)
+    wide_product(left, right)
 }
 
-/// `v q - k x`, where the numbers aren't tested if they are known to be short.
+/// `entry pivot - factor top`, where the numbers aren't tested if they are known to be short.
 #[inline(always)]
-pub fn wide_difference(v: i128, q: i128, k: i128, x: i128, short: bool) -> Option<i128>
-    requires v_short { IsTrue short → unsigned_abs v ≤ 2 ^ 62 }
-    requires q_short { IsTrue short → unsigned_abs q ≤ 2 ^ 62 }
-    requires k_short { IsTrue short → unsigned_abs k ≤ 2 ^ 62 }
-    requires x_short { IsTrue short → unsigned_abs x ≤ 2 ^ 62 }
-    ensures { IfSome result (λ z. z ≡ (v *ℤ q) +ℤ neg_ℤ (k *ℤ x)) }
+pub fn wide_difference(
+    entry: i128,
+    pivot: i128,
+    factor: i128,
+    top: i128,
+    short: bool,
+) -> Option<i128>
+    requires v_short { IsTrue short → unsigned_abs entry ≤ 2 ^ 62 }
+    requires q_short { IsTrue short → unsigned_abs pivot ≤ 2 ^ 62 }
+    requires k_short { IsTrue short → unsigned_abs factor ≤ 2 ^ 62 }
+    requires x_short { IsTrue short → unsigned_abs top ≤ 2 ^ 62 }
+    ensures { IfSome result (λ z. z ≡ (entry *ℤ pivot) +ℤ neg_ℤ (factor *ℤ top)) }
 {
-    let first = product_of(v, q, short)?;
-    let second = product_of(k, x, short)?;
+    let first = product_of(entry, pivot, short)?;
+    let second = product_of(factor, top, short)?;
     first.checked_sub(second)
 }
 
@@ -74,118 +80,133 @@ pub fn wide_difference(v: i128, q: i128, k: i128, x: i128, short: bool) -> Optio
 pub fn are_short(list: &[i128]) -> bool
     ensures { IsTrue result → IsSmall (2 ^ 62) list.now }
 {
-    for j in 0..list.len() {
-        if list[j].unsigned_abs() > 1 << 62 {
+    for place in 0..list.len() {
+        if list[place].unsigned_abs() > 1 << 62 {
             return false;
         }
     }
     true
 }
 
-/// z, with its sign changed where q is negative.
+/// The number, with its sign changed where the pivot is negative.
 #[inline]
-pub fn wide_turned(q: i128, z: i128) -> Option<i128>
-    ensures value { IfSome result (λ y. y ≡ turned q z) }
-    ensures size { IfSome result (λ y. unsigned_abs y ≤ unsigned_abs z) }
+pub fn wide_turned(pivot: i128, number: i128) -> Option<i128>
+    ensures value { IfSome result (λ y. y ≡ turned pivot number) }
+    ensures size { IfSome result (λ y. unsigned_abs y ≤ unsigned_abs number) }
 {
-    if q < 0 {
-        0_i128.checked_sub(z)
+    if pivot < 0 {
+        0_i128.checked_sub(number)
     } else {
-        Some(z)
+        Some(number)
     }
 }
 
-/// The row i of a times the numbers of a list, which are short: then the sum has room.
+/// The row of the matrix times the numbers of a list, which are short: then the sum has room.
 #[inline(always)]
-fn short_row_value(a: &[i64], i: usize, c: &[i128]) -> i128
-    requires inside { i * length c.now + length c.now ≤ length a.now }
-    requires room { HasRoom (length c.now) (2 ^ 62) a.now }
-    requires small { IsSmall (2 ^ 62) c.now }
-    ensures { result ≡ whole_total (length c.now) (λ j. whole_cell (length c.now) a.now i j *ℤ whole_at c.now j) }
+fn short_row_value(matrix: &[i64], row: usize, vector: &[i128]) -> i128
+    requires inside { row * length vector.now + length vector.now ≤ length matrix.now }
+    requires room { HasRoom (length vector.now) (2 ^ 62) matrix.now }
+    requires small { IsSmall (2 ^ 62) vector.now }
+    ensures { result ≡ whole_total (length vector.now) (λ j. whole_cell (length vector.now) matrix.now row j *ℤ whole_at vector.now j) }
 {
-    let from = i * c.len();
+    let from = row * vector.len();
     let mut total = 0;
-    for j in 0..c.len() {
-        let term = product(a[from + j], narrow(c[j]));
+    for place in 0..vector.len() {
+        let term = product(matrix[from + place], narrow(vector[place]));
         total = sum(total, term);
     }
     total
 }
 
-/// The row i of a times the numbers of a list, where neither they nor the sum are tested if they are known to be short.
+/// The row of the matrix times the numbers of a list, where neither they nor the sum are tested if they are known to be short.
 #[inline(always)]
-pub fn wide_row_value(a: &[i64], i: usize, c: &[i128], short: bool) -> Option<i128>
-    requires inside { i * length c.now + length c.now ≤ length a.now }
-    requires room { IsTrue short → HasRoom (length c.now) (2 ^ 62) a.now }
-    requires short { IsTrue short → IsSmall (2 ^ 62) c.now }
-    ensures { IfSome result (λ z. z ≡ whole_total (length c.now) (λ j. whole_cell (length c.now) a.now i j *ℤ whole_at c.now j)) }
+pub fn wide_row_value(matrix: &[i64], row: usize, vector: &[i128], short: bool) -> Option<i128>
+    requires inside { row * length vector.now + length vector.now ≤ length matrix.now }
+    requires room { IsTrue short → HasRoom (length vector.now) (2 ^ 62) matrix.now }
+    requires short { IsTrue short → IsSmall (2 ^ 62) vector.now }
+    ensures { IfSome result (λ z. z ≡ whole_total (length vector.now) (λ j. whole_cell (length vector.now) matrix.now row j *ℤ whole_at vector.now j)) }
 {
     if short {
-        return Some(short_row_value(a, i, c));
+        return Some(short_row_value(matrix, row, vector));
     }
-    let from = i * c.len();
+    let from = row * vector.len();
     let mut total: i128 = 0;
-    for j in 0..c.len() {
-        let term = product_with(a[from + j], c[j], false)?;
+    for place in 0..vector.len() {
+        let term = product_with(matrix[from + place], vector[place], false)?;
         total = total.checked_add(term)?;
     }
     Some(total)
 }
 
-/// The row i of a times the column c of v.
-pub fn wide_side_cell(a: &[i64], i: usize, v: &[i128], width: usize, c: usize) -> Option<i128>
-    requires inside { i * width + width ≤ length a.now }
-    requires square { length v.now ≡ width * width }
-    requires column { c < width }
-    ensures { IfSome result (λ z. z ≡ whole_total width (λ j. whole_cell width a.now i j *ℤ whole_cell width v.now j c)) }
+/// The row of the matrix times the column of the numbers.
+pub fn wide_side_cell(
+    matrix: &[i64],
+    row: usize,
+    numbers: &[i128],
+    width: usize,
+    column: usize,
+) -> Option<i128>
+    requires inside { row * width + width ≤ length matrix.now }
+    requires square { length numbers.now ≡ width * width }
+    requires column { column < width }
+    ensures { IfSome result (λ z. z ≡ whole_total width (λ j. whole_cell width matrix.now row j *ℤ whole_cell width numbers.now j column)) }
 {
-    column_value(a, i, v, width, c, false)
+    column_value(matrix, row, numbers, width, column, false)
 }
 
-/// The row i of a times the column c of v, whose numbers are short: then the sum has room.
+/// The row of the matrix times the column of the numbers, whose numbers are short: then the sum has room.
 #[inline(always)]
-fn short_column_value(a: &[i64], i: usize, v: &[i128], width: usize, c: usize) -> i128
-    requires inside { i * width + width ≤ length a.now }
-    requires square { length v.now ≡ width * width }
-    requires column { c < width }
-    requires room { HasRoom width (2 ^ 62) a.now }
-    requires small { (j : ℕ) → unsigned_abs (whole_cell width v.now j c) ≤ 2 ^ 62 }
-    ensures { result ≡ whole_total width (λ j. whole_cell width a.now i j *ℤ whole_cell width v.now j c) }
+fn short_column_value(
+    matrix: &[i64],
+    row: usize,
+    numbers: &[i128],
+    width: usize,
+    column: usize,
+) -> i128
+    requires inside { row * width + width ≤ length matrix.now }
+    requires square { length numbers.now ≡ width * width }
+    requires column { column < width }
+    requires room { HasRoom width (2 ^ 62) matrix.now }
+    requires small { (j : ℕ) → unsigned_abs (whole_cell width numbers.now j column) ≤ 2 ^ 62 }
+    ensures { result ≡ whole_total width (λ j. whole_cell width matrix.now row j *ℤ whole_cell width numbers.now j column) }
 {
-    let from = i * width;
+    let from = row * width;
     let mut total = 0;
-    for j in 0..width {
-        let term = product(a[from + j], narrow(v[j * width + c]));
+    for place in 0..width {
+        let term = product(
+            matrix[from + place],
+            narrow(numbers[place * width + column]),
+        );
         total = sum(total, term);
     }
     total
 }
 
-/// The row i of a times the column c of v, where neither the column's numbers nor the sum are tested if they are known
+/// The row of the matrix times the column of the numbers, where neither the column's numbers nor the sum are tested if they are known
 /// to be short.
 #[inline(always)]
 pub fn column_value(
-    a: &[i64],
-    i: usize,
-    v: &[i128],
+    matrix: &[i64],
+    row: usize,
+    numbers: &[i128],
     width: usize,
-    c: usize,
+    column: usize,
     short: bool,
 ) -> Option<i128>
-    requires inside { i * width + width ≤ length a.now }
-    requires square { length v.now ≡ width * width }
-    requires column { c < width }
-    requires room { IsTrue short → HasRoom width (2 ^ 62) a.now }
-    requires short { IsTrue short → (j : ℕ) → unsigned_abs (whole_cell width v.now j c) ≤ 2 ^ 62 }
-    ensures { IfSome result (λ z. z ≡ whole_total width (λ j. whole_cell width a.now i j *ℤ whole_cell width v.now j c)) }
+    requires inside { row * width + width ≤ length matrix.now }
+    requires square { length numbers.now ≡ width * width }
+    requires column { column < width }
+    requires room { IsTrue short → HasRoom width (2 ^ 62) matrix.now }
+    requires short { IsTrue short → (j : ℕ) → unsigned_abs (whole_cell width numbers.now j column) ≤ 2 ^ 62 }
+    ensures { IfSome result (λ z. z ≡ whole_total width (λ j. whole_cell width matrix.now row j *ℤ whole_cell width numbers.now j column)) }
 {
     if short {
-        return Some(short_column_value(a, i, v, width, c));
+        return Some(short_column_value(matrix, row, numbers, width, column));
     }
-    let from = i * width;
+    let from = row * width;
     let mut total: i128 = 0;
-    for j in 0..width {
-        let term = product_with(a[from + j], v[j * width + c], false)?;
+    for place in 0..width {
+        let term = product_with(matrix[from + place], numbers[place * width + column], false)?;
         total = total.checked_add(term)?;
     }
     Some(total)
@@ -214,41 +235,41 @@ impl WideDivisor {
 
 /// The quotient, if it is whole.
 #[inline]
-pub fn wide_quotient(z: i128, by: WideDivisor) -> Option<i128>
-    ensures { IfSome result (λ q. q *ℤ pos by.den ≡ z) }
+pub fn wide_quotient(number: i128, by: WideDivisor) -> Option<i128>
+    ensures { IfSome result (λ q. q *ℤ pos by.den ≡ number) }
 {
-    if let Some(q) = short_quotient(z, by) {
-        return Some(widened(q));
+    if let Some(quotient) = short_quotient(number, by) {
+        return Some(widened(quotient));
     }
-    long_quotient(z, by.den)
+    long_quotient(number, by.den)
 }
 
 /// The quotient, if it is whole and it and the divisor have 62 bits.
 #[inline]
-fn short_quotient(z: i128, by: WideDivisor) -> Option<i64>
-    ensures { IfSome result (λ q. q *ℤ pos by.den ≡ z) }
+fn short_quotient(number: i128, by: WideDivisor) -> Option<i64>
+    ensures { IfSome result (λ q. q *ℤ pos by.den ≡ number) }
 {
     if by.short.den as u128 != by.den || by.den > 1 << 62 {
         return None;
     }
-    small_quotient(z, by.short, 1 << 62)
+    small_quotient(number, by.short, 1 << 62)
 }
 
 /// Whether a divisor goes into a number, as far as the sizes of both show it without a long division.
 #[inline]
-pub fn goes_into(by: WideDivisor, z: i128) -> bool {
-    short_quotient(z, by).is_some()
+pub fn goes_into(by: WideDivisor, number: i128) -> bool {
+    short_quotient(number, by).is_some()
 }
 
 /// The quotient, if it is whole, by a long division.
 #[inline(never)]
-fn long_quotient(z: i128, den: u128) -> Option<i128>
-    ensures { IfSome result (λ q. q *ℤ pos den ≡ z) }
+fn long_quotient(number: i128, den: u128) -> Option<i128>
+    ensures { IfSome result (λ q. q *ℤ pos den ≡ number) }
 {
     let divisor = positive(den)?;
-    let q = z.checked_div(divisor)?;
-    let back = q.checked_mul(divisor)?;
-    if back == z { Some(q) } else { None }
+    let quotient = number.checked_div(divisor)?;
+    let back = quotient.checked_mul(divisor)?;
+    if back == number { Some(quotient) } else { None }
 }
 
 /// Divides each number of a list, if all quotients are whole. It gives the greatest size of one.
@@ -257,10 +278,10 @@ pub fn divide_all(list: &mut [i128], by: WideDivisor) -> Option<u128>
     ensures own { IfSome result (λ own. (k : ℕ) → unsigned_abs (whole_at list.new k) ≤ own) }
 {
     let mut own: u128 = 0;
-    for j in 0..list.len() {
-        let q = wide_quotient(list[j], by)?;
-        list[j] = q;
-        own = own.max(q.unsigned_abs());
+    for place in 0..list.len() {
+        let quotient = wide_quotient(list[place], by)?;
+        list[place] = quotient;
+        own = own.max(quotient.unsigned_abs());
     }
     Some(own)
 }

@@ -5,16 +5,16 @@ use Rattle.mpc_scaled.specs.Scaled.{whole_cell}
 use Rattle.mpc_runs.proofs.WholeSums.{whole_total-zero, whole_total-next}
 use Rattle.mpc_quotients.proofs.wide_numbers.column_value.Goals as goal
 
-pub loop-j-init : goal.loop-j-init
-loop-j-init c = sym (whole_total-zero _)
+pub loop-place-init : goal.loop-place-init
+loop-place-init c = sym (whole_total-zero _)
 
-pub loop-j-preserved : goal.loop-j-preserved
-loop-j-preserved c =
-    let f : FitsSigned w64 (get_or c.args.a.now (c.args.i * c.args.width + c.loop-j.j) (pos 0)) = search rules in
-    let g : FitsSigned w128 (get_or c.args.v.now (c.loop-j.j * c.args.width + c.args.c) (pos 0)) = search rules in
+pub loop-place-preserved : goal.loop-place-preserved
+loop-place-preserved c =
+    let f : FitsSigned w64 (get_or c.args.matrix.now (c.args.row * c.args.width + c.loop-place.place) (pos 0)) = search rules in
+    let g : FitsSigned w128 (get_or c.args.numbers.now (c.loop-place.place * c.args.width + c.args.column) (pos 0)) = search rules in
     let t : FitsSigned w128 c.in_ok-term.term = search rules in
-    let term : to_z w128 (of_z w128 c.in_ok-term.term) ≡ whole_cell c.args.width c.args.a.now c.args.i c.loop-j.j *ℤ whole_cell c.args.width c.args.v.now c.loop-j.j c.args.c =
+    let term : to_z w128 (of_z w128 c.in_ok-term.term) ≡ whole_cell c.args.width c.args.matrix.now c.args.row c.loop-place.place *ℤ whole_cell c.args.width c.args.numbers.now c.loop-place.place c.args.column =
     to_z-of_z w128 _ t ∙ c.in_ok-term.ensures ∙ (λ k. to_z-of_z w64 _ f k *ℤ to_z-of_z w128 _ g k)
     in
-    to_z-of_z w128 c.in_ok-total.total (subst (FitsSigned w128) (sym c.in_ok-total.ensures.1) c.in_ok-total.ensures.0) ∙ c.in_ok-total.ensures.1 ∙ (λ k. c.loop-j.invariant k +ℤ term k)
-    ∙ sym (whole_total-next c.loop-j.j (λ j. whole_cell c.args.width c.args.a.now c.args.i j *ℤ whole_cell c.args.width c.args.v.now j c.args.c))
+    to_z-of_z w128 c.in_ok-total.total (subst (FitsSigned w128) (sym c.in_ok-total.ensures.1) c.in_ok-total.ensures.0) ∙ c.in_ok-total.ensures.1 ∙ (λ k. c.loop-place.invariant k +ℤ term k)
+    ∙ sym (whole_total-next c.loop-place.place (λ j. whole_cell c.args.width c.args.matrix.now c.args.row j *ℤ whole_cell c.args.width c.args.numbers.now j c.args.column))

@@ -3,5 +3,5 @@ use Rattle.mpc_runs.specs.WholeNumbers.{whole_total}
 use Rattle.mpc_scaled.specs.Scaled.{whole_cell}
 use Rattle.mpc_quotients.proofs.wide_numbers.short_column_value.Given as goal
 
-abbrev pub invariant-loop-j : goal.invariant-loop-j
-invariant-loop-j l = l.total ≡ whole_total l.j (λ j. whole_cell l.width l.a l.i j *ℤ whole_cell l.width l.v j l.c)
+abbrev pub invariant-loop-place : goal.invariant-loop-place
+invariant-loop-place l = l.total ≡ whole_total l.place (λ j. whole_cell l.width l.matrix l.row j *ℤ whole_cell l.width l.numbers j l.column)

@@ -11,6 +11,6 @@ pub returns : goal.returns
 returns c =
     let f : FitsSigned w128 c.in_ok-first.first = search rules in
     let g : FitsSigned w128 c.in_ok-second.second = search rules in
-    let first = to_z-of_z w128 _ f ∙ c.in_ok-first.ensures ∙ (λ i. to_z-of_z w128 _ c.ranges.v i *ℤ to_z-of_z w128 _ c.ranges.q i) in
-    let second = to_z-of_z w128 _ g ∙ c.in_ok-second.ensures ∙ (λ i. to_z-of_z w128 _ c.ranges.k i *ℤ to_z-of_z w128 _ c.ranges.x i) in
+    let first = to_z-of_z w128 _ f ∙ c.in_ok-first.ensures ∙ (λ i. to_z-of_z w128 _ c.ranges.entry i *ℤ to_z-of_z w128 _ c.ranges.pivot i) in
+    let second = to_z-of_z w128 _ g ∙ c.in_ok-second.ensures ∙ (λ i. to_z-of_z w128 _ c.ranges.factor i *ℤ to_z-of_z w128 _ c.ranges.top i) in
     where_some c.checked_sub.result _ _ _ (λ i. first i -ℤ second i) c.checked_sub.ensures

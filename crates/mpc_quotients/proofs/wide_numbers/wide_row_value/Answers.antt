@@ -5,16 +5,16 @@ use Rattle.mpc_scaled.specs.Scaled.{whole_at, whole_cell}
 use Rattle.mpc_runs.proofs.WholeSums.{whole_total-zero, whole_total-next}
 use Rattle.mpc_quotients.proofs.wide_numbers.wide_row_value.Goals as goal
 
-pub loop-j-init : goal.loop-j-init
-loop-j-init c = sym (whole_total-zero _)
+pub loop-place-init : goal.loop-place-init
+loop-place-init c = sym (whole_total-zero _)
 
-pub loop-j-preserved : goal.loop-j-preserved
-loop-j-preserved c =
-    let f : FitsSigned w64 (get_or c.args.a.now (c.args.i * length c.args.c.now + c.loop-j.j) (pos 0)) = search rules in
-    let g : FitsSigned w128 (get_or c.args.c.now c.loop-j.j (pos 0)) = search rules in
+pub loop-place-preserved : goal.loop-place-preserved
+loop-place-preserved c =
+    let f : FitsSigned w64 (get_or c.args.matrix.now (c.args.row * length c.args.vector.now + c.loop-place.place) (pos 0)) = search rules in
+    let g : FitsSigned w128 (get_or c.args.vector.now c.loop-place.place (pos 0)) = search rules in
     let t : FitsSigned w128 c.in_ok-term.term = search rules in
-    let term : to_z w128 (of_z w128 c.in_ok-term.term) ≡ whole_cell (length c.args.c.now) c.args.a.now c.args.i c.loop-j.j *ℤ whole_at c.args.c.now c.loop-j.j =
+    let term : to_z w128 (of_z w128 c.in_ok-term.term) ≡ whole_cell (length c.args.vector.now) c.args.matrix.now c.args.row c.loop-place.place *ℤ whole_at c.args.vector.now c.loop-place.place =
     to_z-of_z w128 _ t ∙ c.in_ok-term.ensures ∙ (λ k. to_z-of_z w64 _ f k *ℤ to_z-of_z w128 _ g k)
     in
-    to_z-of_z w128 c.in_ok-total.total (subst (FitsSigned w128) (sym c.in_ok-total.ensures.1) c.in_ok-total.ensures.0) ∙ c.in_ok-total.ensures.1 ∙ (λ k. c.loop-j.invariant k +ℤ term k)
-    ∙ sym (whole_total-next c.loop-j.j (λ j. whole_cell (length c.args.c.now) c.args.a.now c.args.i j *ℤ whole_at c.args.c.now j))
+    to_z-of_z w128 c.in_ok-total.total (subst (FitsSigned w128) (sym c.in_ok-total.ensures.1) c.in_ok-total.ensures.0) ∙ c.in_ok-total.ensures.1 ∙ (λ k. c.loop-place.invariant k +ℤ term k)
+    ∙ sym (whole_total-next c.loop-place.place (λ j. whole_cell (length c.args.vector.now) c.args.matrix.now c.args.row j *ℤ whole_at c.args.vector.now j))

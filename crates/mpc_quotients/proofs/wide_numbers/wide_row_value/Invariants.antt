@@ -3,5 +3,5 @@ use Rattle.mpc_runs.specs.WholeNumbers.{whole_total}
 use Rattle.mpc_scaled.specs.Scaled.{whole_cell, whole_at}
 use Rattle.mpc_quotients.proofs.wide_numbers.wide_row_value.Given as goal
 
-abbrev pub invariant-loop-j : goal.invariant-loop-j
-invariant-loop-j l = l.total ≡ whole_total l.j (λ j. whole_cell (length l.c) l.a l.i j *ℤ whole_at l.c j)
+abbrev pub invariant-loop-place : goal.invariant-loop-place
+invariant-loop-place l = l.total ≡ whole_total l.place (λ j. whole_cell (length l.vector) l.matrix l.row j *ℤ whole_at l.vector j)
