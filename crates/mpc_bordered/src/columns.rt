@@ -10,15 +10,15 @@ use mpc_frac::Frac;
 use mpc_linear::Matrix;
 use std::alloc::{AllocError, Global};
 
-/// Eliminates column c, whose entries are the factors, from another column.
-fn clear(factors: &[Option<Frac>], column: &mut [Option<Frac>], c: usize)
+/// Eliminates the pivot's column, whose entries are the factors, from another column.
+fn clear(factors: &[Option<Frac>], column: &mut [Option<Frac>], pivot_column: usize)
     requires same { length factors.now ≡ length column.old }
-    requires row { c < length column.old }
-    ensures { (t : Table) (j : ℕ) → IsFormedColumn t c c factors.now → IsFormedColumn t c j column.old → IsFormedColumn t (suc c) j column.new }
+    requires row { pivot_column < length column.old }
+    ensures { (t : Table) (j : ℕ) → IsFormedColumn t pivot_column pivot_column factors.now → IsFormedColumn t pivot_column j column.old → IsFormedColumn t (suc pivot_column) j column.new }
 {
-    let quotient = divided(column[c], factors[c]);
-    for i in 0..column.len() {
-        column[i] = next_entry(i, c, column[i], factors[i], &quotient);
+    let quotient = divided(column[pivot_column], factors[pivot_column]);
+    for row in 0..column.len() {
+        column[row] = next_entry(row, pivot_column, column[row], factors[row], &quotient);
     }
 }
 
@@ -29,20 +29,24 @@ fn eliminate(done: &[Option<Frac>], column: &mut [Option<Frac>], count: usize)
     ensures { (t : Table) (u j : ℕ) → count ≤ u → AreFormed t u (length column.old) count done.now → IsFormedColumn t 0 j column.old → IsFormedColumn t count j column.new }
 {
     let rows = column.len();
-    for c in 0..count {
-        clear(&done[c * rows..c * rows + rows], column, c);
+    for pivot_column in 0..count {
+        clear(
+            &done[pivot_column * rows..pivot_column * rows + rows],
+            column,
+            pivot_column,
+        );
     }
 }
 
-/// Column j as it is.
-fn column_of(alloc: Global, table: &Matrix, j: u32) -> Result<Vec<Option<Frac>>, AllocError>
-    requires { j < table.now.columns }
+/// The column of this number as it is.
+fn column_of(alloc: Global, table: &Matrix, at_column: u32) -> Result<Vec<Option<Frac>>, AllocError>
+    requires { at_column < table.now.columns }
     ensures size { IfOk result (λ xs. length xs.items ≡ height table.now) }
-    ensures formed { IfOk result (λ xs. IsFormedColumn (entry table.now) 0 j xs.items) }
+    ensures formed { IfOk result (λ xs. IsFormedColumn (entry table.now) 0 at_column xs.items) }
 {
     let mut column = Vec::with_capacity(alloc, table.rows() as usize)?;
-    for i in 0..table.rows() {
-        let value = table.get(i, j);
+    for row in 0..table.rows() {
+        let value = table.get(row, at_column);
         let _fits = value.num();
         column.push(Some(value))?;
     }
@@ -50,10 +54,10 @@ fn column_of(alloc: Global, table: &Matrix, j: u32) -> Result<Vec<Option<Frac>>,
 }
 
 /// The lesser of the two.
-fn lesser(i: u32, j: u32) -> u32
-    ensures { result ≡ min i j }
+fn lesser(left: u32, right: u32) -> u32
+    ensures { result ≡ min left right }
 {
-    if i < j { i } else { j }
+    if left < right { left } else { right }
 }
 
 /// All columns, one behind another: each of the first ones eliminated with those before it, and the others with all of the first ones.
@@ -64,9 +68,9 @@ pub fn columns(alloc: Global, table: &Matrix, front: u32) -> Result<Vec<Option<F
 {
     let rows = table.rows() as usize;
     let mut entries = Vec::with_capacity(alloc, table.cols() as usize * rows)?;
-    for j in 0..table.cols() {
-        let mut column = column_of(alloc, table, j)?;
-        eliminate(&entries, &mut column, lesser(j, front) as usize);
+    for at_column in 0..table.cols() {
+        let mut column = column_of(alloc, table, at_column)?;
+        eliminate(&entries, &mut column, lesser(at_column, front) as usize);
         entries.extend_from_slice(&column)?;
     }
     Ok(entries)

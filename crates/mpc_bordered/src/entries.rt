@@ -8,10 +8,10 @@ use mpc_frac::Frac;
 use mpc_linear::sub_product;
 
 /// The entry of the pivot's row, divided by the pivot.
-pub fn divided(x: Option<Frac>, pivot: Option<Frac>) -> Option<Frac>
-    ensures { (t : Table) (c j : ℕ) → IfFormed t c c c pivot → IfFormed t c c j x → IfFormed t (suc c) c j result }
+pub fn divided(number: Option<Frac>, pivot: Option<Frac>) -> Option<Frac>
+    ensures { (t : Table) (c j : ℕ) → IfFormed t c c c pivot → IfFormed t c c j number → IfFormed t (suc c) c j result }
 {
-    let Some(entry) = x else {
+    let Some(entry) = number else {
         return None;
     };
     let Some(divisor) = pivot else {
@@ -28,16 +28,16 @@ pub fn divided(x: Option<Frac>, pivot: Option<Frac>) -> Option<Frac>
 }
 
 /// The entry of another row, less the factor times the quotient of the pivot's row. A factor of 0 leaves it as it is.
-fn taken(x: Option<Frac>, factor: Option<Frac>, quotient: &Option<Frac>) -> Option<Frac>
-    ensures { (t : Table) (c i j : ℕ) → i ≢ c → IfFormed t c i c factor → IfFormed t (suc c) c j quotient.now → IfFormed t c i j x → IfFormed t (suc c) i j result }
+fn taken(number: Option<Frac>, factor: Option<Frac>, quotient: &Option<Frac>) -> Option<Frac>
+    ensures { (t : Table) (c i j : ℕ) → i ≢ c → IfFormed t c i c factor → IfFormed t (suc c) c j quotient.now → IfFormed t c i j number → IfFormed t (suc c) i j result }
 {
     let Some(times) = factor else {
         return None;
     };
     if times.is_zero() {
-        return x;
+        return number;
     }
-    let Some(entry) = x else {
+    let Some(entry) = number else {
         return None;
     };
     let Some(unit) = quotient else {
@@ -50,19 +50,19 @@ fn taken(x: Option<Frac>, factor: Option<Frac>, quotient: &Option<Frac>) -> Opti
     Some(rest)
 }
 
-/// The entry of row i once column c is eliminated.
+/// The entry of the row once the pivot's column is eliminated.
 pub fn next_entry(
-    i: usize,
-    c: usize,
-    x: Option<Frac>,
+    row: usize,
+    pivot_column: usize,
+    number: Option<Frac>,
     factor: Option<Frac>,
     quotient: &Option<Frac>,
 ) -> Option<Frac>
-    ensures { (t : Table) (j : ℕ) → IfFormed t c i c factor → IfFormed t (suc c) c j quotient.now → IfFormed t c i j x → IfFormed t (suc c) i j result }
+    ensures { (t : Table) (j : ℕ) → IfFormed t pivot_column row pivot_column factor → IfFormed t (suc pivot_column) pivot_column j quotient.now → IfFormed t pivot_column row j number → IfFormed t (suc pivot_column) row j result }
 {
-    if i == c {
+    if row == pivot_column {
         *quotient
     } else {
-        taken(x, factor, quotient)
+        taken(number, factor, quotient)
     }
 }

@@ -26,8 +26,8 @@ fn has_pivots(entries: &[Option<Frac>], rows: usize, front: usize) -> bool
     requires square { front ≤ rows }
     ensures { IsTrue result → (c : ℕ) → c < front → HasPivot (get_or entries.now (c * rows + c) None) }
 {
-    for c in 0..front {
-        let Some(pivot) = entries[c * rows + c] else {
+    for pivot_column in 0..front {
+        let Some(pivot) = entries[pivot_column * rows + pivot_column] else {
             return false;
         };
         if pivot.is_zero() {
@@ -61,12 +61,12 @@ impl Kept {
     ghost use Rattle.mpc_space.specs.Matrix.{height, entry};
     ghost use Rattle.mpc_bordered.specs.Kept.{IfFormed};
 
-    /// The entry in row i and column j, counted from 0: as the first columns leave it, or where it stands in one of these, as it was used.
-    pub(crate) fn at(&self, i: u32, j: u32) -> Option<Frac>
-        requires row { i < height self.now.table }
-        requires column { j < self.now.table.columns }
-        ensures { IfFormed (entry self.now.table) (min j self.now.front) i j result }
+    /// The entry in this row and column, counted from 0: as the first columns leave it, or where it stands in one of these, as it was used.
+    pub(crate) fn at(&self, row: u32, column: u32) -> Option<Frac>
+        requires row { row < height self.now.table }
+        requires column { column < self.now.table.columns }
+        ensures { IfFormed (entry self.now.table) (min column self.now.front) row column result }
     {
-        self.entries[j as usize * self.table.rows() as usize + i as usize]
+        self.entries[column as usize * self.table.rows() as usize + row as usize]
     }
 }

@@ -10,27 +10,27 @@ use mpc_frac::{Frac, NoMemory};
 use mpc_linear::Matrix;
 use std::alloc::Global;
 
-/// Which row of the table stands in row i of the part.
-fn row_place(front: u32, rows: &[u32], i: u32) -> u32
-    requires { i < front + length rows.now }
-    ensures { result ≡ place front rows.now i }
+/// Which row of the table stands in this row of the part.
+fn row_place(front: u32, rows: &[u32], row: u32) -> u32
+    requires { row < front + length rows.now }
+    ensures { result ≡ place front rows.now row }
 {
-    if i < front {
-        i
+    if row < front {
+        row
     } else {
-        rows[(i - front) as usize]
+        rows[(row - front) as usize]
     }
 }
 
-/// Which column of the table stands in column j of the part.
-fn column_place(front: u32, rows: &[u32], rights: &[u32], j: u32) -> u32
-    requires { j < front + length rows.now + length rights.now }
-    ensures { result ≡ place front (rows.now ++ rights.now) j }
+/// Which column of the table stands in this column of the part.
+fn column_place(front: u32, rows: &[u32], rights: &[u32], column: u32) -> u32
+    requires { column < front + length rows.now + length rights.now }
+    ensures { result ≡ place front (rows.now ++ rights.now) column }
 {
-    if j < front {
-        return j;
+    if column < front {
+        return column;
     }
-    let behind = (j - front) as usize;
+    let behind = (column - front) as usize;
     if behind < rows.len() {
         rows[behind]
     } else {
@@ -39,57 +39,57 @@ fn column_place(front: u32, rows: &[u32], rights: &[u32], j: u32) -> u32
 }
 
 /// The entry of the unit matrix.
-fn unit(i: u32, j: u32) -> Frac
-    ensures { result ≡ unit i j }
+fn unit(row: u32, column: u32) -> Frac
+    ensures { result ≡ unit row column }
 {
-    if i == j {
+    if row == column {
         return Frac::whole(1);
     }
     Frac::whole(0)
 }
 
-/// The number in row i and column j of the part once its first columns are eliminated: those are columns of the unit matrix.
-fn picked(kept: &Kept, rows: &[u32], rights: &[u32], i: u32, j: u32) -> Option<Frac>
+/// The number in this row and column of the part once its first columns are eliminated: those are columns of the unit matrix.
+fn picked(kept: &Kept, rows: &[u32], rights: &[u32], row: u32, column: u32) -> Option<Frac>
     requires places { ArePlaces kept.now.table kept.now.front rows.now rights.now }
-    requires row { i < kept.now.front + length rows.now }
-    requires column { j < kept.now.front + length rows.now + length rights.now }
-    ensures { IfSome result (IsPicked (part (entry kept.now.table) kept.now.front rows.now rights.now) kept.now.front i j) }
+    requires row { row < kept.now.front + length rows.now }
+    requires column { column < kept.now.front + length rows.now + length rights.now }
+    ensures { IfSome result (IsPicked (part (entry kept.now.table) kept.now.front rows.now rights.now) kept.now.front row column) }
 {
-    let row = row_place(kept.front, rows, i);
-    let column = column_place(kept.front, rows, rights, j);
-    let Some(number) = kept.at(row, column) else {
+    let table_row = row_place(kept.front, rows, row);
+    let table_column = column_place(kept.front, rows, rights, column);
+    let Some(number) = kept.at(table_row, table_column) else {
         return None;
     };
-    if kept.front <= j {
+    if kept.front <= column {
         return Some(number);
     }
-    let entry = unit(i, j);
+    let entry = unit(row, column);
     let _fits = entry.num();
     Some(entry)
 }
 
-/// Writes row i of the part, from the column `first` on. Where a number isn't kept, it says so.
+/// Writes this row of the part, from the column `first` on. Where a number isn't kept, it says so.
 fn write_picked(
     out: &mut Matrix,
     kept: &Kept,
     rows: &[u32],
     rights: &[u32],
-    i: u32,
+    row: u32,
     first: u32,
 ) -> bool
     requires places { ArePlaces kept.now.table kept.now.front rows.now rights.now }
-    requires row { i < kept.now.front + length rows.now }
-    requires row_within { i < height out.old }
+    requires row { row < kept.now.front + length rows.now }
+    requires row_within { row < height out.old }
     requires few { kept.now.front + length rows.now + length rights.now < 2 ^ 32 }
     requires columns { first + out.old.columns ≤ kept.now.front + length rows.now + length rights.now }
-    ensures { IsTrue result → PicksRow (part (entry kept.now.table) kept.now.front rows.now rights.now) kept.now.front first out.old out.new i }
+    ensures { IsTrue result → PicksRow (part (entry kept.now.table) kept.now.front rows.now rights.now) kept.now.front first out.old out.new row }
 {
     let _rows = out.rows();
-    for j in 0..out.cols() {
-        let Some(number) = picked(kept, rows, rights, i, first + j) else {
+    for column in 0..out.cols() {
+        let Some(number) = picked(kept, rows, rights, row, first + column) else {
             return false;
         };
-        out.set(i, j, number);
+        out.set(row, column, number);
     }
     true
 }
@@ -110,8 +110,8 @@ pub fn picked_columns(
 {
     let size = kept.front + rows.len() as u32;
     let mut out = Matrix::zero(alloc, size, count)?;
-    for i in 0..size {
-        if !write_picked(&mut out, kept, rows, rights, i, first) {
+    for row in 0..size {
+        if !write_picked(&mut out, kept, rows, rights, row, first) {
             return Ok(None);
         }
     }

@@ -28,13 +28,13 @@ pub fn solve_part(
         (λ e. IfWide e (λ column. ForPart kept.now.table kept.now.front rows.now rights.now (λ m rhs. IsWideColumn m rhs column))) }
 {
     let size = kept.front + rows.len() as u32;
-    let Some(m) = picked_columns(alloc, kept, rows, rights, 0, size)? else {
+    let Some(matrix) = picked_columns(alloc, kept, rows, rights, 0, size)? else {
         return Ok(None);
     };
     let Some(rhs) = picked_columns(alloc, kept, rows, rights, size, rights.len() as u32)? else {
         return Ok(None);
     };
-    match solve(alloc, &m, &rhs) {
+    match solve(alloc, &matrix, &rhs) {
         Ok(solved) => Ok(Some(solved)),
         Err(error) => Err(error),
     }

@@ -4,5 +4,5 @@ use Rattle.mpc_bordered.specs.Kept.{IfFormed, IsFormedColumn}
 use Rattle.mpc_bordered.proofs.Clearing.{Clearing}
 use Rattle.mpc_bordered.proofs.columns.clear.Given as goal
 
-abbrev pub invariant-loop-i : goal.invariant-loop-i
-invariant-loop-i l = (t : Table) (j : ℕ) → IsFormedColumn t l.c l.c l.factors → IsFormedColumn t l.c j l.fn.column → IfFormed t (suc l.c) l.c j l.quotient × Clearing t l.c j l.i l.column
+abbrev pub invariant-loop-row : goal.invariant-loop-row
+invariant-loop-row l = (t : Table) (j : ℕ) → IsFormedColumn t l.pivot_column l.pivot_column l.factors → IsFormedColumn t l.pivot_column j l.fn.column → IfFormed t (suc l.pivot_column) l.pivot_column j l.quotient × Clearing t l.pivot_column j l.row l.column

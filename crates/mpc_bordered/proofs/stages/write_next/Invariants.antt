@@ -3,5 +3,5 @@ use Rattle.mpc_bordered.specs.Stages.{IsNextNumber}
 use Rattle.mpc_bordered.proofs.RowWriting.{FillingRow}
 use Rattle.mpc_bordered.proofs.stages.write_next.Given as goal
 
-abbrev pub invariant-loop-j : goal.invariant-loop-j
-invariant-loop-j l = FillingRow (IsNextNumber (entry l.kept.table) l.kept.front l.stage l.c l.i) l.fn.out l.out l.i l.j
+abbrev pub invariant-loop-column : goal.invariant-loop-column
+invariant-loop-column l = FillingRow (IsNextNumber (entry l.kept.table) l.kept.front l.stage l.pivot_column l.row) l.fn.out l.out l.row l.column
