@@ -48,15 +48,15 @@ impl Swept {
         whole_table(alloc, table)
     }
 
-    /// The number in row i and column j, counted from 0. It says nothing where the column isn't told.
+    /// The number in this row and column, counted from 0. It says nothing where the column isn't told.
     #[inline]
-    pub fn at(&self, i: usize, j: usize) -> i64
+    pub fn at(&self, row: usize, column: usize) -> i64
         requires table { IsTable self.now }
-        requires row { i < self.now.rows }
-        requires column { j < self.now.columns }
-        ensures { result ≡ number self.now i j }
+        requires row { row < self.now.rows }
+        requires column { column < self.now.columns }
+        ensures { result ≡ number self.now row column }
     {
-        self.numbers[i * (self.columns - self.first) + j]
+        self.numbers[row * (self.columns - self.first) + column]
     }
 
     /// What the numbers lie over.
@@ -67,18 +67,18 @@ impl Swept {
         self.den
     }
 
-    /// Sweeps the table at one more row, p, which lies behind those before, into the room of another one, in
-    /// the columns from `first` on. It is `false` where a number of it isn't small in lowest terms either, or where p or `first` is a
-    /// column that isn't told; the room holds no table then, as where memory is refused.
-    pub fn sweep(&self, out: &mut Swept, p: usize, first: usize) -> Result<bool, NoMemory>
+    /// Sweeps the table at one more row, the pivot's, which lies behind those before, into the room of another one, in
+    /// the columns from `first` on. It is `false` where a number of it isn't small in lowest terms either, or where the
+    /// pivot's column or `first` is a column that isn't told; the room holds no table then, as where memory is refused.
+    pub fn sweep(&self, out: &mut Swept, pivot_place: usize, first: usize) -> Result<bool, NoMemory>
         requires table { IsTable self.now }
-        requires row { p < self.now.rows }
-        requires column { p < self.now.columns }
-        requires pivot { number self.now p p ≢ pos 0 }
+        requires row { pivot_place < self.now.rows }
+        requires column { pivot_place < self.now.columns }
+        requires pivot { number self.now pivot_place pivot_place ≢ pos 0 }
         requires first { first ≤ self.now.columns }
         ensures { IfOk result (λ done. IsTrue done → (t : Table) (ps : List ℕ) (rows columns from : ℕ) → IsSwept t ps rows columns from self.now
-            → from ≤ p → p < first → ((k : ℕ) → k < length ps → get_or ps k 0 < p) → IsSwept t (ps ++ p ∷ []) rows columns first out.new) }
+            → from ≤ pivot_place → pivot_place < first → ((k : ℕ) → k < length ps → get_or ps k 0 < pivot_place) → IsSwept t (ps ++ pivot_place ∷ []) rows columns first out.new) }
     {
-        sweep_rows(self, out, p, first)
+        sweep_rows(self, out, pivot_place, first)
     }
 }

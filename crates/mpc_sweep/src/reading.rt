@@ -22,13 +22,13 @@ const MOST_NUMBER: u64 = 1 << 58;
 const MOST_SCALE: u64 = 1 << 62;
 
 /// The least common multiple of a scale and the denominator of a number, if it isn't above the greatest scale.
-fn common_scale(scale: u64, x: &Frac) -> Option<u64>
+fn common_scale(scale: u64, number: &Frac) -> Option<u64>
     requires some { 0 < scale }
     requires small { scale ≤ 2 ^ 62 }
     ensures some { IfSome result (λ k. 0 < k) }
     ensures small { IfSome result (λ k. k ≤ 2 ^ 62) }
 {
-    let den = x.den().unsigned_abs();
+    let den = number.den().unsigned_abs();
     if den > MOST_SCALE as u128 {
         return None;
     }
@@ -48,8 +48,8 @@ fn row_scale(scale: u64, row: &[Frac]) -> Option<u64>
     ensures small { IfSome result (λ k. k ≤ 2 ^ 62) }
 {
     let mut common = scale;
-    for x in row {
-        common = common_scale(common, x)?;
+    for number in row {
+        common = common_scale(common, number)?;
     }
     Some(common)
 }
@@ -61,21 +61,21 @@ fn table_scale(table: &Matrix) -> Option<u64>
     ensures small { IfSome result (λ k. k ≤ 2 ^ 62) }
 {
     let mut scale = 1;
-    for i in 0..table.rows() {
-        scale = row_scale(scale, table.row(i))?;
+    for at_row in 0..table.rows() {
+        scale = row_scale(scale, table.row(at_row))?;
     }
     Some(scale)
 }
 
 /// The number times a scale, if that is whole and small.
-fn scaled(x: &Frac, scale: u64) -> Option<i64>
+fn scaled(number: &Frac, scale: u64) -> Option<i64>
     requires scale_some { 0 < scale }
     requires scale_small { scale ≤ 2 ^ 62 }
-    ensures value { IfSome result (λ z. x.now ≡ frac z scale) }
+    ensures value { IfSome result (λ z. number.now ≡ frac z scale) }
     ensures small { IfSome result (λ z. unsigned_abs z ≤ 2 ^ 58) }
 {
-    let numerator = x.num();
-    let den = x.den().unsigned_abs();
+    let numerator = number.num();
+    let den = number.den().unsigned_abs();
     if numerator.unsigned_abs() > 1 << 62 || den > 1 << 62 {
         return None;
     }
@@ -89,11 +89,11 @@ fn put_row(numbers: &mut Vec<i64>, row: &[Frac], scale: u64) -> Result<bool, NoM
     requires scale_small { scale ≤ 2 ^ 62 }
     ensures { IfOk result (λ done. IsTrue done → AreBehind numbers.old.items numbers.new.items (coordinate row.now) (length row.now) scale) }
 {
-    for x in row {
-        let Some(z) = scaled(x, scale) else {
+    for number in row {
+        let Some(whole) = scaled(number, scale) else {
             return Ok(false);
         };
-        numbers.push(z)?;
+        numbers.push(whole)?;
     }
     Ok(true)
 }
@@ -106,8 +106,8 @@ fn numbers_of(alloc: Global, table: &Matrix, scale: u64) -> Result<Option<Vec<i6
 {
     let count = table.rows() as usize * table.cols() as usize;
     let mut numbers = Vec::with_capacity(alloc, count)?;
-    for i in 0..table.rows() {
-        if !put_row(&mut numbers, table.row(i), scale)? {
+    for at_row in 0..table.rows() {
+        if !put_row(&mut numbers, table.row(at_row), scale)? {
             return Ok(None);
         }
     }

@@ -16,25 +16,25 @@ pub fn write_short_row(
     row: &[i64],
     top: &[i64],
     by: Divisor,
-    p: usize,
+    pivot_place: usize,
     first: usize,
 ) -> bool
     requires size { length out.old ≡ length row.now }
     requires top_size { length top.now ≡ length row.now }
-    requires column { p < length row.now }
+    requires column { pivot_place < length row.now }
     requires small { IsSmall (2 ^ 30) row.now }
     requires top_small { IsSmall (2 ^ 30) top.now }
     requires by_small { by.den ≤ 2 ^ 30 }
-    ensures { IsTrue result → AreWritten (2 ^ 30) first (length row.now) (IsChanged by.den row.now top.now p) out.old out.new }
+    ensures { IsTrue result → AreWritten (2 ^ 30) first (length row.now) (IsChanged by.den row.now top.now pivot_place) out.old out.new }
 {
-    let pivot = top[p];
+    let pivot = top[pivot_place];
     let size = pivot.unsigned_abs();
-    let factor = turned(pivot, row[p]);
-    for j in first..row.len() {
-        let Some(z) = short_changed(row[j], factor, top[j], size, by) else {
+    let factor = turned(pivot, row[pivot_place]);
+    for column in first..row.len() {
+        let Some(quotient) = short_changed(row[column], factor, top[column], size, by) else {
             return false;
         };
-        out[j] = z;
+        out[column] = quotient;
     }
     true
 }

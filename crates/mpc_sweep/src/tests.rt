@@ -9,11 +9,11 @@ use mpc_linear::Matrix;
 use std::alloc::Global;
 use std::test::Fail;
 
-/// The table swept at row p in the columns from `first` on, if that can be.
+/// The table swept at the pivot's row in the columns from `first` on, if that can be.
 fn swept_at(
     alloc: Global,
     table: &Matrix,
-    p: usize,
+    pivot_place: usize,
     first: usize,
 ) -> Result<Option<Swept>, NoMemory>
     ensures { IfOk result (λ o. IfSome o IsTable) }
@@ -21,25 +21,29 @@ fn swept_at(
     let Some(from) = Swept::read(alloc, table)? else {
         return Ok(None);
     };
-    if from.rows <= p || from.columns <= p || from.columns < first || first <= p {
+    if from.rows <= pivot_place
+        || from.columns <= pivot_place
+        || from.columns < first
+        || first <= pivot_place
+    {
         return Ok(None);
     }
-    if from.at(p, p) == 0 {
+    if from.at(pivot_place, pivot_place) == 0 {
         return Ok(None);
     }
     let mut out = Swept::empty(alloc);
-    let done = from.sweep(&mut out, p, first)?;
+    let done = from.sweep(&mut out, pivot_place, first)?;
     if done { Ok(Some(out)) } else { Ok(None) }
 }
 
-/// The number in row i and column j, and what it lies over.
-fn entry(table: &Swept, i: usize, j: usize) -> Option<(i64, u64)>
+/// The number in this row and column, and what it lies over.
+fn entry(table: &Swept, row: usize, column: usize) -> Option<(i64, u64)>
     requires { IsTable table.now }
 {
-    if table.rows <= i || table.columns <= j {
+    if table.rows <= row || table.columns <= column {
         return None;
     }
-    Some((table.at(i, j), table.den()))
+    Some((table.at(row, column), table.den()))
 }
 
 /// -3/2, 3/2, 1 and 2/3, 1, -1/3.

@@ -6,14 +6,14 @@ use Rattle.mpc_sweep.specs.Reading.{AreBehind}
 use Rattle.mpc_sweep.proofs.FirstTable.{row_read}
 use Rattle.mpc_sweep.proofs.reading.numbers_of.Goals as goal
 
-pub loop-i-preserved : goal.loop-i-preserved
-loop-i-preserved c =
+pub loop-at_row-preserved : goal.loop-at_row-preserved
+loop-at_row-preserved c =
     let m = c.args.table.now in
-    let i = c.loop-i.i in
-    let old = c.loop-i.numbers.items in
+    let i = c.loop-at_row.at_row in
+    let old = c.loop-at_row.numbers.items in
     let new = c.put_row.new.numbers.items in
     let behind : AreBehind old new (entry m i) (length (slice_index_or m.rows i [])) c.args.scale =
     subst (λ (r : List ℚ). AreBehind old new (coordinate r) (length r) c.args.scale) c.row.ensures (c.in_ok-put_row.ensures c.if-not-branch.false)
     in
-    let inside : i < height m = omega (arith, c.rows-i-end.ensures.value, c.loop-i-test.true) in
-    row_read m i c.args.scale old new c.loop-i.invariant (subst (λ n. AreBehind old new (entry m i) n c.args.scale) (c.rows.ensures.rectangular i [] inside) behind)
+    let inside : i < height m = omega (arith, c.rows-at_row-end.ensures.value, c.loop-at_row-test.true) in
+    row_read m i c.args.scale old new c.loop-at_row.invariant (subst (λ n. AreBehind old new (entry m i) n c.args.scale) (c.rows.ensures.rectangular i [] inside) behind)

@@ -6,7 +6,7 @@ use Rattle.mpc_sweep.proofs.reading.scaled.Goals as goal
 
 pub returns-clause-value : goal.returns-clause-value
 returns-clause-value c =
-    let x = c.args.x.now in
+    let x = c.args.number.now in
     let n : to_z w64 (of_z w64 c.narrow.result) ≡ x.numer =
     to_z-of_z w64 c.narrow.result (record { sfits = c.narrow.type_inv }) ∙ c.narrow.ensures ∙ to_z-of_z w128 c.num-numerator.result (record { sfits = c.num-numerator.type_inv }) ∙ c.num-numerator.ensures.value
     in

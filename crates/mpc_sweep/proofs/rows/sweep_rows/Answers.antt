@@ -8,7 +8,7 @@ use Rattle.mpc_sweep.proofs.rows.sweep_rows.Goals as goal
 pub returns : goal.returns
 returns c = λ done t ps rows columns before h at behind above.
     let s = c.args.from.now in
-    let p = c.args.p in
+    let p = c.args.pivot_place in
     let new = c.write_swept_rows.new.numbers in
     let long : length new ≡ c.resize.new.self.len = c.write_swept_rows.auto.numbers ∙ c.as_mut_slice.ensures.len in
     let items : take c.resize.new.self.len (new ++ drop (length new) c.resize.new.self.items) ≡ new = take_at new (drop (length new) c.resize.new.self.items) c.resize.new.self.len long in

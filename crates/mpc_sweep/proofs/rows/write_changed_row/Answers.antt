@@ -7,13 +7,13 @@ use Rattle.mpc_sweep.proofs.OneNumber.{one_written, read_at}
 use Rattle.mpc_runs.proofs.WholeWidths.{read_small}
 use Rattle.mpc_sweep.proofs.rows.write_changed_row.Goals as goal
 
-pub loop-j-preserved : goal.loop-j-preserved
-loop-j-preserved c =
+pub loop-column-preserved : goal.loop-column-preserved
+loop-column-preserved c =
     let row = c.args.row.now in
     let top = c.args.top.now in
-    let p = c.args.p in
-    let j = c.loop-j.j in
-    let z = c.in-Some.z in
+    let p = c.args.pivot_place in
+    let j = c.loop-column.column in
+    let z = c.in-Some.quotient in
     let q : to_z w64 (of_z w64 (get_or top p (pos 0))) ≡ whole_at top p = read_at top c.requires.top_small p in
     let k : to_z w64 (of_z w64 (get_or row p (pos 0))) ≡ whole_at row p = read_at row c.requires.small p in
     let x : to_z w64 (of_z w64 (get_or top j (pos 0))) ≡ whole_at top j = read_at top c.requires.top_small j in
@@ -22,6 +22,6 @@ loop-j-preserved c =
     let t : unsigned_abs c.turned-factor.result ≤ 2 ^ 62 = le_trans c.turned-factor.ensures.small (subst (λ u. unsigned_abs u ≤ 2 ^ 62) (sym k) (c.requires.small.each p)) in
     let f : to_z w64 (of_z w64 c.turned-factor.result) ≡ turned (whole_at top p) (whole_at row p) = read_small c.turned-factor.result t ∙ c.turned-factor.ensures.value ∙ (λ u. turned (q u) (k u)) in
     let back : to_z w64 (of_z w64 z) ≡ z = read_small z c.in-Some.ensures.small in
-    one_written (2 ^ 62) c.args.first j (IsChanged c.args.by.den row top p) c.args.out.now c.loop-j.out c.loop-j.invariant (omega arith) (omega arith) (to_z w64 (of_z w64 z))
+    one_written (2 ^ 62) c.args.first j (IsChanged c.args.by.den row top p) c.args.out.now c.loop-column.out c.loop-column.invariant (omega arith) (omega arith) (to_z w64 (of_z w64 z))
     (subst (λ u. unsigned_abs u ≤ 2 ^ 62) (sym back) c.in-Some.ensures.small)
     (ap (λ u. u *ℤ pos c.args.by.den) back ∙ c.in-Some.ensures.value ∙ (λ u. (y u *ℤ pos (size u)) +ℤ neg_ℤ (f u *ℤ x u)))

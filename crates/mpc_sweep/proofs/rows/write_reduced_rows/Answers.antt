@@ -9,13 +9,13 @@ use Rattle.mpc_sweep.proofs.rows.write_reduced_rows.Goals as goal
 pub bound_of-most-requires-clause-small : goal.bound_of-most-requires-clause-small
 bound_of-most-requires-clause-small c =
     let s = c.args.from.now in
-    rows_small (2 ^ 62) (told_columns s) s.den c.shared_divisor-shared.result s.numbers.items c.args.p c.args.first (s.columns - c.args.first) s.rows c.write_rows.new.numbers (c.write_rows.ensures c.if-not-write_rows.false)
+    rows_small (2 ^ 62) (told_columns s) s.den c.shared_divisor-shared.result s.numbers.items c.args.pivot_place c.args.first (s.columns - c.args.first) s.rows c.write_rows.new.numbers (c.write_rows.ensures c.if-not-write_rows.false)
     (c.write_rows.auto.numbers ∙ c.requires.size)
 
 pub returns : goal.returns
 returns c =
     let s = c.args.from.now in
-    let p = c.args.p in
+    let p = c.args.pivot_place in
     let small : unsigned_abs c.at.result ≤ 2 ^ 62 = subst (λ z. unsigned_abs z ≤ 2 ^ 62) (sym c.at.ensures) (c.requires.table.small.each (p * told_columns s + p)) in
     let size : c.unsigned_abs-size.result ≡ unsigned_abs (number s p p) = c.unsigned_abs-size.ensures.value ∙ ap unsigned_abs (read_small c.at.result small ∙ c.at.ensures) in
     let some : 0 < c.unsigned_abs-size.result = subst (λ u. 0 < u) (sym size) (abs_some (number s p p) c.requires.pivot) in
