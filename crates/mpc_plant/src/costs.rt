@@ -17,15 +17,15 @@ use mpc_linear::{LinearError, Matrix, Vector};
 use std::alloc::Global;
 
 /// The product of a matrix and a vector. `Wide` with this step where one of its dots is wide.
-fn image(alloc: Global, m: &Matrix, x: &[Frac], step: u32) -> Result<Vector, LinearError>
-    requires { length x.now ≡ m.now.columns }
-    ensures value { IfOk result (λ y. y ≡ mat_vec m.now.rows x.now) }
-    ensures wide { MatchResult result (λ _. ImageFits m.now x.now)
-        (λ e. IfWide e (λ k. (k ≡ step) × (¬ ImageFits m.now x.now))) }
+fn image(alloc: Global, matrix: &Matrix, vector: &[Frac], step: u32) -> Result<Vector, LinearError>
+    requires { length vector.now ≡ matrix.now.columns }
+    ensures value { IfOk result (λ y. y ≡ mat_vec matrix.now.rows vector.now) }
+    ensures wide { MatchResult result (λ _. ImageFits matrix.now vector.now)
+        (λ e. IfWide e (λ k. (k ≡ step) × (¬ ImageFits matrix.now vector.now))) }
 {
     let mut entries = Vector::new(alloc);
-    for i in 0..m.rows() {
-        match dot_of(m.row(i), x) {
+    for i in 0..matrix.rows() {
+        match dot_of(matrix.row(i), vector) {
             Ok(value) => entries.push(value)?,
             Err(_) => return Err(LinearError::Wide(step)),
         }
@@ -34,47 +34,47 @@ fn image(alloc: Global, m: &Matrix, x: &[Frac], step: u32) -> Result<Vector, Lin
 }
 
 /// The sum with the dot of two slices.
-fn add_dot(sum: &Frac, x: &[Frac], y: &[Frac]) -> Result<Frac, Wide>
-    requires { length x.now ≡ length y.now }
-    ensures value { IfOk result (λ s. s ≡ sum.now +ℚ dot x.now y.now) }
-    ensures wide { MatchResult result (λ _. DotFits x.now y.now × FitsSum sum.now (dot x.now y.now))
-        (λ _. ¬ (DotFits x.now y.now × FitsSum sum.now (dot x.now y.now))) }
+fn add_dot(sum: &Frac, left: &[Frac], right: &[Frac]) -> Result<Frac, Wide>
+    requires { length left.now ≡ length right.now }
+    ensures value { IfOk result (λ s. s ≡ sum.now +ℚ dot left.now right.now) }
+    ensures wide { MatchResult result (λ _. DotFits left.now right.now × FitsSum sum.now (dot left.now right.now))
+        (λ _. ¬ (DotFits left.now right.now × FitsSum sum.now (dot left.now right.now))) }
 {
-    let product = dot_of(x, y)?;
+    let product = dot_of(left, right)?;
     sum.add(&product)
 }
 
-/// The sum with `x'(m x)`. `Wide` with this step where a number on the way is wide.
+/// The sum with the quadratic form of a matrix at a vector x, `x'(M x)`. `Wide` with this step where a number on the way is wide.
 fn add_form(
     alloc: Global,
     sum: &Frac,
-    m: &Matrix,
-    x: &[Frac],
+    matrix: &Matrix,
+    vector: &[Frac],
     step: u32,
 ) -> Result<Frac, LinearError>
-    requires columns { length x.now ≡ m.now.columns }
-    requires rows { length x.now ≡ height m.now }
-    ensures value { IfOk result (λ s. s ≡ sum.now +ℚ quadratic m.now.rows x.now) }
-    ensures wide { MatchResult result (λ _. FormFits sum.now m.now x.now)
-        (λ e. IfWide e (λ k. (k ≡ step) × (¬ FormFits sum.now m.now x.now))) }
+    requires columns { length vector.now ≡ matrix.now.columns }
+    requires rows { length vector.now ≡ height matrix.now }
+    ensures value { IfOk result (λ s. s ≡ sum.now +ℚ quadratic matrix.now.rows vector.now) }
+    ensures wide { MatchResult result (λ _. FormFits sum.now matrix.now vector.now)
+        (λ e. IfWide e (λ k. (k ≡ step) × (¬ FormFits sum.now matrix.now vector.now))) }
 {
-    let weighted = image(alloc, m, x, step)?;
-    match add_dot(sum, x, weighted.as_slice()) {
+    let weighted = image(alloc, matrix, vector, step)?;
+    match add_dot(sum, vector, weighted.as_slice()) {
         Ok(next) => Ok(next),
         Err(_) => Err(LinearError::Wide(step)),
     }
 }
 
-/// How far x is from a goal, `x - goal`. `Wide` with this step where one of its entries is wide.
-fn gap(alloc: Global, x: &[Frac], goal: &Vector, step: u32) -> Result<Vector, LinearError>
-    requires { length x.now ≡ length goal.now }
-    ensures value { IfOk result (λ d. d ≡ vec_sub x.now goal.now) }
-    ensures wide { MatchResult result (λ _. GapFits x.now goal.now)
-        (λ e. IfWide e (λ k. (k ≡ step) × (¬ GapFits x.now goal.now))) }
+/// How far a vector is from a goal: the vector less the goal. `Wide` with this step where one of its entries is wide.
+fn gap(alloc: Global, vector: &[Frac], goal: &Vector, step: u32) -> Result<Vector, LinearError>
+    requires { length vector.now ≡ length goal.now }
+    ensures value { IfOk result (λ d. d ≡ vec_sub vector.now goal.now) }
+    ensures wide { MatchResult result (λ _. GapFits vector.now goal.now)
+        (λ e. IfWide e (λ k. (k ≡ step) × (¬ GapFits vector.now goal.now))) }
 {
     let mut entries = Vector::new(alloc);
-    for i in 0..x.len() {
-        match x[i].sub(goal.at(i)) {
+    for i in 0..vector.len() {
+        match vector[i].sub(goal.at(i)) {
             Ok(entry) => entries.push(entry)?,
             Err(_) => return Err(LinearError::Wide(step)),
         }
@@ -82,24 +82,25 @@ fn gap(alloc: Global, x: &[Frac], goal: &Vector, step: u32) -> Result<Vector, Li
     Ok(entries)
 }
 
-/// The sum with `d'(m d)`, where d is x - goal. `Wide` with this step where a number on the way is wide.
+/// The sum with `d'(M d)`, where M is the matrix and d how far the vector is from the goal. `Wide` with this step where a number on the way
+/// is wide.
 fn add_target(
     alloc: Global,
     sum: &Frac,
-    m: &Matrix,
-    x: &[Frac],
+    matrix: &Matrix,
+    vector: &[Frac],
     goal: &Vector,
     step: u32,
 ) -> Result<Frac, LinearError>
-    requires goal { length x.now ≡ length goal.now }
-    requires columns { length x.now ≡ m.now.columns }
-    requires rows { length x.now ≡ height m.now }
-    ensures value { IfOk result (λ s. s ≡ sum.now +ℚ quadratic m.now.rows (vec_sub x.now goal.now)) }
-    ensures wide { MatchResult result (λ _. TargetFits sum.now m.now x.now goal.now)
-        (λ e. IfWide e (λ k. (k ≡ step) × (¬ TargetFits sum.now m.now x.now goal.now))) }
+    requires goal { length vector.now ≡ length goal.now }
+    requires columns { length vector.now ≡ matrix.now.columns }
+    requires rows { length vector.now ≡ height matrix.now }
+    ensures value { IfOk result (λ s. s ≡ sum.now +ℚ quadratic matrix.now.rows (vec_sub vector.now goal.now)) }
+    ensures wide { MatchResult result (λ _. TargetFits sum.now matrix.now vector.now goal.now)
+        (λ e. IfWide e (λ k. (k ≡ step) × (¬ TargetFits sum.now matrix.now vector.now goal.now))) }
 {
-    let distance = gap(alloc, x, goal, step)?;
-    add_form(alloc, sum, m, distance.as_slice(), step)
+    let distance = gap(alloc, vector, goal, step)?;
+    add_form(alloc, sum, matrix, distance.as_slice(), step)
 }
 
 /// The sum with the cost of a step before the end, `d'(Q d)` with d = x - xgoal and then `e'(R e)` with e = u - ugoal.
@@ -107,20 +108,20 @@ fn add_stage(
     alloc: Global,
     sum: &Frac,
     plant: &Plant,
-    x: &[Frac],
-    u: &[Frac],
+    state: &[Frac],
+    input: &[Frac],
     step: u32,
 ) -> Result<Frac, LinearError>
-    requires state { length x.now ≡ plant.now.n }
-    requires inputs { length u.now ≡ plant.now.p }
+    requires state { length state.now ≡ plant.now.n }
+    requires inputs { length input.now ≡ plant.now.p }
     ensures value { IfOk result
-        (λ s. s ≡ (sum.now +ℚ quadratic plant.now.q.rows (vec_sub x.now plant.now.xgoal))
-        +ℚ quadratic plant.now.r.rows (vec_sub u.now plant.now.ugoal)) }
-    ensures wide { MatchResult result (λ _. StageFits plant.now sum.now x.now u.now)
-        (λ e. IfWide e (λ k. (k ≡ step) × (¬ StageFits plant.now sum.now x.now u.now))) }
+        (λ s. s ≡ (sum.now +ℚ quadratic plant.now.q.rows (vec_sub state.now plant.now.xgoal))
+        +ℚ quadratic plant.now.r.rows (vec_sub input.now plant.now.ugoal)) }
+    ensures wide { MatchResult result (λ _. StageFits plant.now sum.now state.now input.now)
+        (λ e. IfWide e (λ k. (k ≡ step) × (¬ StageFits plant.now sum.now state.now input.now))) }
 {
-    let with_state = add_target(alloc, sum, &plant.q, x, &plant.xgoal, step)?;
-    add_target(alloc, &with_state, &plant.r, u, &plant.ugoal, step)
+    let with_state = add_target(alloc, sum, &plant.q, state, &plant.xgoal, step)?;
+    add_target(alloc, &with_state, &plant.r, input, &plant.ugoal, step)
 }
 
 /// The cost of the moves from the counts on: `d'Q d + e'R e` summed over the N steps, plus `d'P d` at the end, where d is the state's
@@ -143,11 +144,11 @@ pub fn cost(
 {
     let mut state = state_at_counts(alloc, plant, counts)?;
     let mut sum = Frac::whole(0);
-    for k in 0..plant.horizon {
-        let x = state.as_slice();
-        let u = moves.row(k);
-        sum = add_stage(alloc, &sum, plant, x, u, k)?;
-        state = next_state(alloc, plant, x, u, k + 1)?;
+    for step in 0..plant.horizon {
+        let current = state.as_slice();
+        let input = moves.row(step);
+        sum = add_stage(alloc, &sum, plant, current, input, step)?;
+        state = next_state(alloc, plant, current, input, step + 1)?;
     }
     let end = state.as_slice();
     add_target(alloc, &sum, &plant.last, end, &plant.xgoal, plant.horizon)

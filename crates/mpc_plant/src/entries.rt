@@ -28,19 +28,19 @@ pub(crate) fn number(alloc: Global, value: &Value) -> Result<Frac, PlantError>
         return Err(PlantError::here(alloc, PlantKind::WrongKind));
     }
     match integer(value) {
-        Some(z) => Ok(Frac::whole(z)),
+        Some(given) => Ok(Frac::whole(given)),
         None => Err(PlantError::here(alloc, PlantKind::BadNumber)),
     }
 }
 
 /// The integer that a value is.
 pub(crate) fn whole_number(alloc: Global, value: &Value) -> Result<i64, PlantError>
-    ensures ok { IfOk result (λ z. whole_number_of (view value.now) ≡ Ok z) }
+    ensures ok { IfOk result (λ given. whole_number_of (view value.now) ≡ Ok given) }
     ensures bad { (kind : Kind) (path : List ℕ) → result ≡ Err (PlantError.Bad kind path)
         → whole_number_of (view value.now) ≡ Err (kind, path) }
 {
     match integer(value) {
-        Some(z) => Ok(z),
+        Some(given) => Ok(given),
         None => Err(PlantError::here(alloc, PlantKind::WrongKind)),
     }
 }

@@ -74,12 +74,12 @@ impl Path {
         self.text.is_empty()
     }
 
-    /// The byte at the place i, from 0.
-    pub fn at(&self, i: usize) -> &u8
-        requires { i < length self.now }
-        ensures { result.now ≡ slice_index self.now i }
+    /// The byte at this place, from 0.
+    pub fn at(&self, place: usize) -> &u8
+        requires { place < length self.now }
+        ensures { result.now ≡ slice_index self.now place }
     {
-        &self.text[i]
+        &self.text[place]
     }
 
     /// Puts one byte behind the others. Without memory the path stays as it was.

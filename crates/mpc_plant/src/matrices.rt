@@ -13,16 +13,16 @@ use mpc_linear::{Matrix, Vector};
 use serde_json::Value;
 use std::alloc::Global;
 
-/// Writes row i.
-pub(crate) fn write_row(matrix: &mut Matrix, i: u32, row: &Vector)
-    requires row_in { i < height matrix.old }
+/// Writes one row.
+pub(crate) fn write_row(matrix: &mut Matrix, at_row: u32, row: &Vector)
+    requires row_in { at_row < height matrix.old }
     requires rectangular { IsRectangular matrix.old }
     requires width { length row.now ≡ matrix.old.columns }
-    ensures rows { matrix.new.rows ≡ slice_set matrix.old.rows i row.now }
+    ensures rows { matrix.new.rows ≡ slice_set matrix.old.rows at_row row.now }
     ensures columns { matrix.new.columns ≡ matrix.old.columns }
 {
-    for j in 0..matrix.cols() {
-        matrix.set(i, j, *row.at(j as usize));
+    for column in 0..matrix.cols() {
+        matrix.set(at_row, column, *row.at(column as usize));
     }
 }
 

@@ -19,11 +19,11 @@ fn digits_value(text: &[u8]) -> Option<u64>
     ensures small { IfSome result (λ value. value < 1000000000000000000) }
 {
     let mut value = 0;
-    for c in text {
-        if *c < b'0' || *c > b'9' {
+    for byte in text {
+        if *byte < b'0' || *byte > b'9' {
             return None;
         }
-        value = value * 10 + u64::from(*c - b'0');
+        value = value * 10 + u64::from(*byte - b'0');
     }
     Some(value)
 }
@@ -56,26 +56,26 @@ fn part_at(text: &[u8], byte: u8) -> Option<(&[u8], &[u8])>
     }
 }
 
-/// The fraction n / d.
-fn fraction(n: u128, d: u64) -> Frac
-    requires small { n < 2 ^ 127 }
-    requires positive { 0 < d }
-    ensures value { result ≡ frac (pos n) d }
+/// The quotient of two whole numbers.
+fn fraction(numerator: u128, denominator: u64) -> Frac
+    requires small { numerator < 2 ^ 127 }
+    requires positive { 0 < denominator }
+    ensures value { result ≡ frac (pos numerator) denominator }
     ensures nonneg { IsNonneg result }
 {
-    match Frac::new(n as i128, i128::from(d)) {
+    match Frac::new(numerator as i128, i128::from(denominator)) {
         Ok(fraction) => fraction,
         Err(_) => unreachable!(),
     }
 }
 
-/// The number n / d of two numerals.
-fn ratio_number(n: &[u8], d: &[u8]) -> Option<Frac>
-    ensures value { result ≡ ratio_of (n.now, d.now) }
+/// The number that two numerals with a stroke between them spell.
+fn ratio_number(numerator: &[u8], denominator: &[u8]) -> Option<Frac>
+    ensures value { result ≡ ratio_of (numerator.now, denominator.now) }
     ensures nonneg { IfSome result IsNonneg }
 {
-    let above = numeral_value(n)?;
-    let below = numeral_value(d)?;
+    let above = numeral_value(numerator)?;
+    let below = numeral_value(denominator)?;
     if below == 0 {
         return None;
     }
@@ -98,18 +98,18 @@ pub fn plain_number(text: &[u8]) -> Option<Frac>
     ensures nonneg { IfSome result IsNonneg }
 {
     match part_at(text, b'/') {
-        Some((n, d)) => ratio_number(n, d),
+        Some((numerator, denominator)) => ratio_number(numerator, denominator),
         None => whole_number(text),
     }
 }
 
-/// The number i.f of two numerals.
-fn decimal_number(i: &[u8], f: &[u8]) -> Option<Frac>
-    ensures { result ≡ decimal_of (i.now, f.now) }
+/// The number that two numerals with a point between them spell.
+fn decimal_number(before: &[u8], after: &[u8]) -> Option<Frac>
+    ensures { result ≡ decimal_of (before.now, after.now) }
 {
-    let whole = numeral_value(i)?;
-    let part = numeral_value(f)?;
-    let scale = power_of_ten(f.len());
+    let whole = numeral_value(before)?;
+    let part = numeral_value(after)?;
+    let scale = power_of_ten(after.len());
     Some(fraction(
         u128::from(whole) * u128::from(scale) + u128::from(part),
         scale,
@@ -130,11 +130,11 @@ fn power_of_ten(zeros: usize) -> u64
 fn unsigned(text: &[u8]) -> Option<Frac>
     ensures { result ≡ unsigned_number text.now }
 {
-    if let Some((n, d)) = part_at(text, b'/') {
-        return ratio_number(n, d);
+    if let Some((numerator, denominator)) = part_at(text, b'/') {
+        return ratio_number(numerator, denominator);
     }
     match part_at(text, b'.') {
-        Some((i, f)) => decimal_number(i, f),
+        Some((before, after)) => decimal_number(before, after),
         None => whole_number(text),
     }
 }

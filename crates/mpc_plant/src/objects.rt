@@ -34,11 +34,11 @@ pub(crate) fn needed_in<'v>(
 }
 
 /// A character of an unknown key as a path shows it.
-fn shown(c: char) -> u8
-    ensures { result ≡ (if is_plain c then c else 63) }
+fn shown(character: char) -> u8
+    ensures { result ≡ (if is_plain character then character else 63) }
 {
-    match c {
-        '0'..='9' | 'A'..='Z' | 'a'..='z' | '_' | '-' => c as u8,
+    match character {
+        '0'..='9' | 'A'..='Z' | 'a'..='z' | '_' | '-' => character as u8,
         _ => b'?',
     }
 }

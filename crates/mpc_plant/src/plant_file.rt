@@ -183,18 +183,21 @@ fn read_dynamics(alloc: Global, steps: u32, value: &Value) -> Result<Dynamics, P
     ensures bad { (kind : Kind) (path : List ℕ) → result ≡ Err (PlantError.Bad kind path)
         → dynamics_of steps (view value.now) ≡ Err (kind, path) }
 {
-    let a = needed_in(alloc, value, "A")?;
-    let a = under_key(alloc, "A", square(alloc, a))?;
-    let b = needed_in(alloc, value, "B")?;
-    let b = under_key(alloc, "B", side(alloc, a.rows(), b))?;
-    if b.cols() * steps > 6 {
+    let found = needed_in(alloc, value, "A")?;
+    let of_state = under_key(alloc, "A", square(alloc, found))?;
+    let found = needed_in(alloc, value, "B")?;
+    let of_input = under_key(alloc, "B", side(alloc, of_state.rows(), found))?;
+    if of_input.cols() * steps > 6 {
         return under_key(
             alloc,
             "horizon",
             Err(PlantError::here(alloc, PlantKind::OverLimit)),
         );
     }
-    Ok(Dynamics { a, b })
+    Ok(Dynamics {
+        a: of_state,
+        b: of_input,
+    })
 }
 
 /// The symmetric matrix of this size at a key.
@@ -208,35 +211,49 @@ fn weight_in(alloc: Global, size: u32, value: &Value, key: &str) -> Result<Matri
     under_key(alloc, key, weight(alloc, size, found))
 }
 
-/// The weights, for n states and p inputs.
-fn read_weights(alloc: Global, n: u32, p: u32, value: &Value) -> Result<Weights, PlantError>
-    ensures ok { IfOk result (λ m. weights_of n p (view value.now)
+/// The weights, for so many states and inputs.
+fn read_weights(
+    alloc: Global,
+    states: u32,
+    inputs: u32,
+    value: &Value,
+) -> Result<Weights, PlantError>
+    ensures ok { IfOk result (λ m. weights_of states inputs (view value.now)
         ≡ Ok (record { q = m.q.rows; r = m.r.rows; last = m.last.rows })) }
-    ensures q { IfOk result (λ m. IsWeight m.q n) }
-    ensures r { IfOk result (λ m. IsWeight m.r p) }
-    ensures last { IfOk result (λ m. IsWeight m.last n) }
+    ensures q { IfOk result (λ m. IsWeight m.q states) }
+    ensures r { IfOk result (λ m. IsWeight m.r inputs) }
+    ensures last { IfOk result (λ m. IsWeight m.last states) }
     ensures bad { (kind : Kind) (path : List ℕ) → result ≡ Err (PlantError.Bad kind path)
-        → weights_of n p (view value.now) ≡ Err (kind, path) }
+        → weights_of states inputs (view value.now) ≡ Err (kind, path) }
 {
-    let q = weight_in(alloc, n, value, "Q")?;
-    let r = weight_in(alloc, p, value, "R")?;
-    let last = weight_in(alloc, n, value, "P")?;
-    Ok(Weights { q, r, last })
+    let of_state = weight_in(alloc, states, value, "Q")?;
+    let of_input = weight_in(alloc, inputs, value, "R")?;
+    let last = weight_in(alloc, states, value, "P")?;
+    Ok(Weights {
+        q: of_state,
+        r: of_input,
+        last,
+    })
 }
 
-/// The drift and the targets, for n states and p inputs, with zeros where a key is absent.
-fn read_targets(alloc: Global, n: u32, p: u32, value: &Value) -> Result<Targets, PlantError>
-    ensures ok { IfOk result (λ found. targets_of n p (view value.now)
+/// The drift and the targets, for so many states and inputs, with zeros where a key is absent.
+fn read_targets(
+    alloc: Global,
+    states: u32,
+    inputs: u32,
+    value: &Value,
+) -> Result<Targets, PlantError>
+    ensures ok { IfOk result (λ found. targets_of states inputs (view value.now)
         ≡ Ok (record { drift = found.drift; xgoal = found.xgoal; ugoal = found.ugoal })) }
-    ensures drift { IfOk result (λ found. length found.drift ≡ n) }
-    ensures xgoal { IfOk result (λ found. length found.xgoal ≡ n) }
-    ensures ugoal { IfOk result (λ found. length found.ugoal ≡ p) }
+    ensures drift { IfOk result (λ found. length found.drift ≡ states) }
+    ensures xgoal { IfOk result (λ found. length found.xgoal ≡ states) }
+    ensures ugoal { IfOk result (λ found. length found.ugoal ≡ inputs) }
     ensures bad { (kind : Kind) (path : List ℕ) → result ≡ Err (PlantError.Bad kind path)
-        → targets_of n p (view value.now) ≡ Err (kind, path) }
+        → targets_of states inputs (view value.now) ≡ Err (kind, path) }
 {
-    let drift = vector_in(alloc, n as usize, value, "drift")?;
-    let xgoal = vector_in(alloc, n as usize, value, "xgoal")?;
-    let ugoal = vector_in(alloc, p as usize, value, "ugoal")?;
+    let drift = vector_in(alloc, states as usize, value, "drift")?;
+    let xgoal = vector_in(alloc, states as usize, value, "xgoal")?;
+    let ugoal = vector_in(alloc, inputs as usize, value, "ugoal")?;
     Ok(Targets {
         drift,
         xgoal,
@@ -261,55 +278,59 @@ fn are_few(limit: usize, steps: u32, rows: usize, terminal: usize) -> bool
     rows <= limit && terminal <= limit && steps as usize * rows + terminal <= limit
 }
 
-/// Whether two lists of rows are short enough for the horizon and p inputs.
+/// Whether two lists of rows are short enough for the horizon and so many inputs.
 fn check_few(
     alloc: Global,
     steps: u32,
-    p: u32,
+    inputs: u32,
     stage: &[Value],
     end: &[Value],
 ) -> Result<(), PlantError>
     requires steps { IsFromTo 1 6 steps }
-    requires moves { p * steps ≤ 6 }
-    ensures ok { OnOk result (few_rows steps p (items_view stage.now) (items_view end.now) ≡ Ok tt) }
-    ensures few { OnOk result (steps * length stage.now + length end.now ≤ most_rows (p * steps)) }
+    requires moves { inputs * steps ≤ 6 }
+    ensures ok { OnOk result (few_rows steps inputs (items_view stage.now) (items_view end.now) ≡ Ok tt) }
+    ensures few { OnOk result (steps * length stage.now + length end.now ≤ most_rows (inputs * steps)) }
     ensures bad { (kind : Kind) (path : List ℕ) → result ≡ Err (PlantError.Bad kind path)
-        → few_rows steps p (items_view stage.now) (items_view end.now) ≡ Err (kind, path) }
+        → few_rows steps inputs (items_view stage.now) (items_view end.now) ≡ Err (kind, path) }
 {
-    let limit = row_limit(p * steps);
+    let limit = row_limit(inputs * steps);
     if !are_few(limit, steps, stage.len(), end.len()) {
         return Err(PlantError::here(alloc, PlantKind::OverLimit));
     }
     Ok(())
 }
 
-/// The rows, for a horizon, n states and p inputs.
+/// The rows, for a horizon and so many states and inputs.
 fn read_row_lists(
     alloc: Global,
     steps: u32,
-    n: u32,
-    p: u32,
+    states: u32,
+    inputs: u32,
     value: &Value,
 ) -> Result<RowLists, PlantError>
     requires steps { IsFromTo 1 6 steps }
-    requires moves { p * steps ≤ 6 }
-    ensures ok { IfOk result (λ lists. row_lists_of steps n p (view value.now)
+    requires moves { inputs * steps ≤ 6 }
+    ensures ok { IfOk result (λ lists. row_lists_of steps states inputs (view value.now)
         ≡ Ok (record { rows = lists.rows; terminal = lists.terminal })) }
-    ensures few { IfOk result (λ lists. steps * length lists.rows + length lists.terminal ≤ most_rows (p * steps)) }
-    ensures rows { IfOk result (λ lists. All (FitsRow n p) lists.rows) }
-    ensures terminal { IfOk result (λ lists. All (FitsRow n 0) lists.terminal) }
+    ensures few { IfOk result (λ lists. steps * length lists.rows + length lists.terminal ≤ most_rows (inputs * steps)) }
+    ensures rows { IfOk result (λ lists. All (FitsRow states inputs) lists.rows) }
+    ensures terminal { IfOk result (λ lists. All (FitsRow states 0) lists.terminal) }
     ensures bad { (kind : Kind) (path : List ℕ) → result ≡ Err (PlantError.Bad kind path)
-        → row_lists_of steps n p (view value.now) ≡ Err (kind, path) }
+        → row_lists_of steps states inputs (view value.now) ≡ Err (kind, path) }
 {
     let stage = list_at(alloc, value, "rows")?;
     let end = list_at(alloc, value, "terminal")?;
-    under_key(alloc, "rows", check_few(alloc, steps, p, stage, end))?;
+    under_key(alloc, "rows", check_few(alloc, steps, inputs, stage, end))?;
     let rows = under_key(
         alloc,
         "rows",
-        stage_rows(alloc, n as usize, p as usize, stage),
+        stage_rows(alloc, states as usize, inputs as usize, stage),
     )?;
-    let terminal = under_key(alloc, "terminal", terminal_rows(alloc, n as usize, end))?;
+    let terminal = under_key(
+        alloc,
+        "terminal",
+        terminal_rows(alloc, states as usize, end),
+    )?;
     Ok(RowLists { rows, terminal })
 }
 
@@ -333,20 +354,20 @@ fn plant_in(alloc: Global, value: &Value) -> Result<Plant, PlantError>
 {
     let horizon = head(alloc, value)?;
     let Dynamics { a, b } = read_dynamics(alloc, horizon, value)?;
-    let n = a.rows();
-    let p = b.cols();
-    let Weights { q, r, last } = read_weights(alloc, n, p, value)?;
+    let states = a.rows();
+    let inputs = b.cols();
+    let Weights { q, r, last } = read_weights(alloc, states, inputs, value)?;
     let Targets {
         drift,
         xgoal,
         ugoal,
-    } = read_targets(alloc, n, p, value)?;
-    let RowLists { rows, terminal } = read_row_lists(alloc, horizon, n, p, value)?;
+    } = read_targets(alloc, states, inputs, value)?;
+    let RowLists { rows, terminal } = read_row_lists(alloc, horizon, states, inputs, value)?;
     let axes = needed_in(alloc, value, "grid")?;
-    let grid = under_key(alloc, "grid", grid(alloc, n, axes))?;
+    let grid = under_key(alloc, "grid", grid(alloc, states, axes))?;
     Ok(Plant {
-        n,
-        p,
+        n: states,
+        p: inputs,
         horizon,
         a,
         b,

@@ -17,12 +17,12 @@ use mpc_linear::{LinearError, Matrix, Vector, add_product, dot_from};
 use std::alloc::Global;
 
 /// The dot of two slices.
-pub(crate) fn dot_of(x: &[Frac], y: &[Frac]) -> Result<Frac, Wide>
-    requires { length x.now ≡ length y.now }
-    ensures value { IfOk result (λ v. v ≡ dot x.now y.now) }
-    ensures wide { MatchResult result (λ _. DotFits x.now y.now) (λ _. ¬ DotFits x.now y.now) }
+pub(crate) fn dot_of(left: &[Frac], right: &[Frac]) -> Result<Frac, Wide>
+    requires { length left.now ≡ length right.now }
+    ensures value { IfOk result (λ v. v ≡ dot left.now right.now) }
+    ensures wide { MatchResult result (λ _. DotFits left.now right.now) (λ _. ¬ DotFits left.now right.now) }
 {
-    dot_from(&Frac::whole(0), x, y)
+    dot_from(&Frac::whole(0), left, right)
 }
 
 /// The value of a coordinate at a count.
@@ -56,46 +56,46 @@ pub(crate) fn state_at_counts(
     Ok(state)
 }
 
-/// Entry i of `A x + B u + drift`; the drift comes last.
-fn entry_of_next(plant: &Plant, x: &[Frac], u: &[Frac], i: u32) -> Result<Frac, Wide>
-    requires entry { i < plant.now.n }
-    requires state { length x.now ≡ plant.now.n }
-    requires inputs { length u.now ≡ plant.now.p }
-    ensures value { IfOk result (λ v. v ≡ next_entry plant.now x.now u.now i) }
-    ensures wide { MatchResult result (λ _. EntryFits plant.now x.now u.now i)
-        (λ _. ¬ EntryFits plant.now x.now u.now i) }
+/// One entry of `A x + B u + drift`, where x is the state and u the input; the drift comes last.
+fn entry_of_next(plant: &Plant, state: &[Frac], input: &[Frac], place: u32) -> Result<Frac, Wide>
+    requires entry { place < plant.now.n }
+    requires state { length state.now ≡ plant.now.n }
+    requires inputs { length input.now ≡ plant.now.p }
+    ensures value { IfOk result (λ v. v ≡ next_entry plant.now state.now input.now place) }
+    ensures wide { MatchResult result (λ _. EntryFits plant.now state.now input.now place)
+        (λ _. ¬ EntryFits plant.now state.now input.now place) }
 {
-    let from_state = dot_of(plant.a.row(i), x)?;
-    let from_move = dot_of(plant.b.row(i), u)?;
+    let from_state = dot_of(plant.a.row(place), state)?;
+    let from_move = dot_of(plant.b.row(place), input)?;
     let moved = from_state.add(&from_move)?;
-    moved.add(plant.drift.at(i as usize))
+    moved.add(plant.drift.at(place as usize))
 }
 
-/// The state `A x + B u + drift` that follows x. `Wide` with this step where one of its numbers is wide.
+/// The state `A x + B u + drift` that follows the state x under the input u. `Wide` with this step where one of its numbers is wide.
 pub(crate) fn next_state(
     alloc: Global,
     plant: &Plant,
-    x: &[Frac],
-    u: &[Frac],
+    state: &[Frac],
+    input: &[Frac],
     step: u32,
 ) -> Result<Vector, LinearError>
-    requires state { length x.now ≡ plant.now.n }
-    requires inputs { length u.now ≡ plant.now.p }
-    ensures value { IfOk result (λ y. y ≡ next_of plant.now x.now u.now) }
-    ensures wide { MatchResult result (λ _. NextFits plant.now x.now u.now)
-        (λ e. IfWide e (λ k. (k ≡ step) × (¬ NextFits plant.now x.now u.now))) }
+    requires state { length state.now ≡ plant.now.n }
+    requires inputs { length input.now ≡ plant.now.p }
+    ensures value { IfOk result (λ y. y ≡ next_of plant.now state.now input.now) }
+    ensures wide { MatchResult result (λ _. NextFits plant.now state.now input.now)
+        (λ e. IfWide e (λ k. (k ≡ step) × (¬ NextFits plant.now state.now input.now))) }
 {
-    let mut state = Vector::new(alloc);
+    let mut entries = Vector::new(alloc);
     for i in 0..plant.n {
-        match entry_of_next(plant, x, u, i) {
-            Ok(value) => state.push(value)?,
+        match entry_of_next(plant, state, input, i) {
+            Ok(value) => entries.push(value)?,
             Err(_) => return Err(LinearError::Wide(step)),
         }
     }
-    Ok(state)
+    Ok(entries)
 }
 
-/// The states of the plant under the moves, from the counts on: row k is the state at step k, from 0 to the horizon.
+/// The states of the plant under the moves, from the counts on, a row for each step, from 0 to the horizon.
 ///
 /// There are n counts inside the box, and N rows of p moves. `Wide` with the first step whose state has a number of more than 128 bits on
 /// the way; the state at the counts is that of step 0, and the last one that of step N. On the way are for step 0 the products of step and
@@ -117,9 +117,9 @@ pub fn roll(
     let mut states = Matrix::zero(alloc, plant.horizon + 1, plant.n)?;
     let mut state = state_at_counts(alloc, plant, counts)?;
     write_row(&mut states, 0, &state);
-    for k in 0..plant.horizon {
-        state = next_state(alloc, plant, state.as_slice(), moves.row(k), k + 1)?;
-        write_row(&mut states, k + 1, &state);
+    for step in 0..plant.horizon {
+        state = next_state(alloc, plant, state.as_slice(), moves.row(step), step + 1)?;
+        write_row(&mut states, step + 1, &state);
     }
     Ok(states)
 }

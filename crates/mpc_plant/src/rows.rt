@@ -65,34 +65,43 @@ pub(crate) fn vector_in(
 }
 
 /// The row that an object states, for each step before the end.
-fn stage_row(alloc: Global, n: usize, p: usize, value: &Value) -> Result<PlantRow, PlantError>
-    ensures ok { IfOk result (λ row. stage_row_of n p (view value.now) ≡ Ok row) }
-    ensures fits { IfOk result (FitsRow n p) }
+fn stage_row(
+    alloc: Global,
+    states: usize,
+    inputs: usize,
+    value: &Value,
+) -> Result<PlantRow, PlantError>
+    ensures ok { IfOk result (λ row. stage_row_of states inputs (view value.now) ≡ Ok row) }
+    ensures fits { IfOk result (FitsRow states inputs) }
     ensures bad { (kind : Kind) (path : List ℕ) → result ≡ Err (PlantError.Bad kind path)
-        → stage_row_of n p (view value.now) ≡ Err (kind, path) }
+        → stage_row_of states inputs (view value.now) ≡ Err (kind, path) }
 {
     check_object(alloc, value, &ROW_KEYS)?;
     let top = needed_in(alloc, value, "max")?;
-    let x = vector_in(alloc, n, value, "x")?;
-    let u = vector_in(alloc, p, value, "u")?;
+    let on_state = vector_in(alloc, states, value, "x")?;
+    let on_input = vector_in(alloc, inputs, value, "u")?;
     let max = under_key(alloc, "max", number(alloc, top))?;
-    Ok(PlantRow { x, u, max })
+    Ok(PlantRow {
+        x: on_state,
+        u: on_input,
+        max,
+    })
 }
 
 /// The row that an object states, for the end.
-fn terminal_row(alloc: Global, n: usize, value: &Value) -> Result<PlantRow, PlantError>
-    ensures ok { IfOk result (λ row. terminal_row_of n (view value.now) ≡ Ok row) }
-    ensures fits { IfOk result (FitsRow n 0) }
+fn terminal_row(alloc: Global, states: usize, value: &Value) -> Result<PlantRow, PlantError>
+    ensures ok { IfOk result (λ row. terminal_row_of states (view value.now) ≡ Ok row) }
+    ensures fits { IfOk result (FitsRow states 0) }
     ensures bad { (kind : Kind) (path : List ℕ) → result ≡ Err (PlantError.Bad kind path)
-        → terminal_row_of n (view value.now) ≡ Err (kind, path) }
+        → terminal_row_of states (view value.now) ≡ Err (kind, path) }
 {
     check_object(alloc, value, &TERMINAL_ROW_KEYS)?;
     let side = needed_in(alloc, value, "x")?;
     let top = needed_in(alloc, value, "max")?;
-    let x = under_key(alloc, "x", vector(alloc, n, side))?;
+    let on_state = under_key(alloc, "x", vector(alloc, states, side))?;
     let max = under_key(alloc, "max", number(alloc, top))?;
     Ok(PlantRow {
-        x,
+        x: on_state,
         u: Vector::new(alloc),
         max,
     })
@@ -147,19 +156,19 @@ fn axis(alloc: Global, value: &Value) -> Result<Coordinate, PlantError>
 /// The rows that a list states, for each step before the end.
 pub(crate) fn stage_rows(
     alloc: Global,
-    n: usize,
-    p: usize,
+    states: usize,
+    inputs: usize,
     items: &[Value],
 ) -> Result<PlantRows, PlantError>
-    ensures ok { IfOk result (λ rows. each (stage_row_of n p) 0 (items_view items.now) ≡ Ok rows) }
+    ensures ok { IfOk result (λ rows. each (stage_row_of states inputs) 0 (items_view items.now) ≡ Ok rows) }
     ensures len { IfOk result (λ rows. length rows ≡ length items.now) }
-    ensures fit { IfOk result (All (FitsRow n p)) }
+    ensures fit { IfOk result (All (FitsRow states inputs)) }
     ensures bad { (kind : Kind) (path : List ℕ) → result ≡ Err (PlantError.Bad kind path)
-        → each (stage_row_of n p) 0 (items_view items.now) ≡ Err (kind, path) }
+        → each (stage_row_of states inputs) 0 (items_view items.now) ≡ Err (kind, path) }
 {
     let mut rows = PlantRows::new(alloc);
     for (i, value) in items.iter().enumerate() {
-        let row = under_item(alloc, i, stage_row(alloc, n, p, value))?;
+        let row = under_item(alloc, i, stage_row(alloc, states, inputs, value))?;
         rows.push(row)?;
     }
     Ok(rows)
@@ -168,18 +177,18 @@ pub(crate) fn stage_rows(
 /// The rows that a list states, for the end.
 pub(crate) fn terminal_rows(
     alloc: Global,
-    n: usize,
+    states: usize,
     items: &[Value],
 ) -> Result<PlantRows, PlantError>
-    ensures ok { IfOk result (λ rows. each (terminal_row_of n) 0 (items_view items.now) ≡ Ok rows) }
+    ensures ok { IfOk result (λ rows. each (terminal_row_of states) 0 (items_view items.now) ≡ Ok rows) }
     ensures len { IfOk result (λ rows. length rows ≡ length items.now) }
-    ensures fit { IfOk result (All (FitsRow n 0)) }
+    ensures fit { IfOk result (All (FitsRow states 0)) }
     ensures bad { (kind : Kind) (path : List ℕ) → result ≡ Err (PlantError.Bad kind path)
-        → each (terminal_row_of n) 0 (items_view items.now) ≡ Err (kind, path) }
+        → each (terminal_row_of states) 0 (items_view items.now) ≡ Err (kind, path) }
 {
     let mut rows = PlantRows::new(alloc);
     for (i, value) in items.iter().enumerate() {
-        let row = under_item(alloc, i, terminal_row(alloc, n, value))?;
+        let row = under_item(alloc, i, terminal_row(alloc, states, value))?;
         rows.push(row)?;
     }
     Ok(rows)

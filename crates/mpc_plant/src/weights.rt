@@ -21,21 +21,21 @@ use std::alloc::Global;
 use std::cmp::Ordering;
 
 /// Whether two numbers differ.
-fn differ(x: &Frac, y: &Frac) -> bool
-    ensures { result ≡ not (is_eq (cmp_ℚ x.now y.now)) }
+fn differ(left: &Frac, right: &Frac) -> bool
+    ensures { result ≡ not (is_eq (cmp_ℚ left.now right.now)) }
 {
-    x.cmp(y) != Ordering::Equal
+    left.cmp(right) != Ordering::Equal
 }
 
-/// The first entry right of the diagonal in row i that is not its mirror image.
-fn difference_in_row(matrix: &Matrix, size: u32, i: u32) -> Option<u32>
+/// The first entry right of the diagonal in one row that is not its mirror image.
+fn difference_in_row(matrix: &Matrix, size: u32, row: u32) -> Option<u32>
     requires shape { HasShape matrix.now size size }
-    requires row { i < size }
-    ensures { result ≡ row_difference matrix.now.rows size i }
+    requires row { row < size }
+    ensures { result ≡ row_difference matrix.now.rows size row }
 {
-    for j in i + 1..size {
-        if differ(&matrix.get(i, j), &matrix.get(j, i)) {
-            return Some(j);
+    for column in row + 1..size {
+        if differ(&matrix.get(row, column), &matrix.get(column, row)) {
+            return Some(column);
         }
     }
     None
@@ -46,24 +46,24 @@ fn difference(matrix: &Matrix, size: u32) -> Option<(u32, u32)>
     requires { HasShape matrix.now size size }
     ensures { result ≡ difference_from matrix.now.rows size 0 size }
 {
-    for i in 0..size {
-        if let Some(j) = difference_in_row(matrix, size, i) {
-            return Some((i, j));
+    for row in 0..size {
+        if let Some(column) = difference_in_row(matrix, size, row) {
+            return Some((row, column));
         }
     }
     None
 }
 
 /// The fault of an entry that is not its mirror image.
-fn not_symmetric(alloc: Global, i: u32, j: u32) -> PlantError
+fn not_symmetric(alloc: Global, row: u32, column: u32) -> PlantError
     ensures { (kind : Kind) (path : List ℕ) → result ≡ PlantError.Bad kind path
-        → no_difference (Some (i, j)) ≡ Err (kind, path) }
+        → no_difference (Some (row, column)) ≡ Err (kind, path) }
 {
-    let mut row = Buffer::new();
-    let mut column = Buffer::new();
+    let mut row_buffer = Buffer::new();
+    let mut column_buffer = Buffer::new();
     PlantError::here(alloc, PlantKind::NotSymmetric)
-        .under(alloc, column.format(j).as_bytes())
-        .under(alloc, row.format(i).as_bytes())
+        .under(alloc, column_buffer.format(column).as_bytes())
+        .under(alloc, row_buffer.format(row).as_bytes())
 }
 
 /// The symmetric matrix of this size that a value states.
@@ -76,8 +76,8 @@ pub(crate) fn weight(alloc: Global, size: u32, value: &Value) -> Result<Matrix, 
 {
     let items = list_with_len(alloc, size as usize, value)?;
     let matrix = matrix_with_rows(alloc, size, items)?;
-    if let Some((i, j)) = difference(&matrix, size) {
-        return Err(not_symmetric(alloc, i, j));
+    if let Some((row, column)) = difference(&matrix, size) {
+        return Err(not_symmetric(alloc, row, column));
     }
     Ok(matrix)
 }

@@ -9,14 +9,14 @@ use Rattle.mpc_plant.proofs.costs.gap.Goals as goal
 
 pub loop-i-preserved : goal.loop-i-preserved
 loop-i-preserved c =
-    let here : c.index-x-i.result ≡ coordinate c.args.x.now c.loop-i.i = get_or_read c.args.x.now _ _ c.loop-i-test.true c.index-x-i.is (int (pos 0)) in
+    let here : c.index-vector-i.result ≡ coordinate c.args.vector.now c.loop-i.i = get_or_read c.args.vector.now _ _ c.loop-i-test.true c.index-vector-i.is (int (pos 0)) in
     record {
-      entries = listed_more (λ j. coordinate c.args.x.now j +ℚ neg_ℚ (coordinate c.args.goal.now j)) c.loop-i.i c.loop-i.entries c.push.new.self c.in-Ok.entry c.loop-i.invariant.entries c.in_ok-push-in-Ok.ensures.ok
+      entries = listed_more (λ j. coordinate c.args.vector.now j +ℚ neg_ℚ (coordinate c.args.goal.now j)) c.loop-i.i c.loop-i.entries c.push.new.self c.in-Ok.entry c.loop-i.invariant.entries c.in_ok-push-in-Ok.ensures.ok
           (c.in-Ok.ensures.value ∙ (λ k. here k +ℚ neg_ℚ (c.at.ensures k)));
-      fits = below_next (λ j. FitsSum (coordinate c.args.x.now j) (neg_ℚ (coordinate c.args.goal.now j))) c.loop-i.i c.loop-i.invariant.fits (subst₂ FitsSum here (ap neg_ℚ c.at.ensures) c.in-Ok.ensures.wide);
+      fits = below_next (λ j. FitsSum (coordinate c.args.vector.now j) (neg_ℚ (coordinate c.args.goal.now j))) c.loop-i.i c.loop-i.invariant.fits (subst₂ FitsSum here (ap neg_ℚ c.at.ensures) c.in-Ok.ensures.wide);
     }
 
 pub returns-clause-value : goal.returns-clause-value
 returns-clause-value c =
-    let all : c.loop-i.i ≡ length c.args.x.now = omega arith in
-    c.loop-i.invariant.entries ∙ ap (λ n. listed n (λ j. coordinate c.args.x.now j +ℚ neg_ℚ (coordinate c.args.goal.now j))) all ∙ gap_listed c.args.x.now c.args.goal.now c.requires
+    let all : c.loop-i.i ≡ length c.args.vector.now = omega arith in
+    c.loop-i.invariant.entries ∙ ap (λ n. listed n (λ j. coordinate c.args.vector.now j +ℚ neg_ℚ (coordinate c.args.goal.now j))) all ∙ gap_listed c.args.vector.now c.args.goal.now c.requires

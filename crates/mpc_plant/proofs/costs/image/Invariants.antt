@@ -6,6 +6,6 @@ use Rattle.mpc_plant.proofs.costs.image.Given as goal
 
 abbrev pub invariant-loop-i : goal.invariant-loop-i
 invariant-loop-i l = record {
-  entries : l.entries ≡ listed l.i (λ j. dot (row_at l.m j) l.x);
-  fits : (j : ℕ) → j < l.i → DotFits (row_at l.m j) l.x;
+  entries : l.entries ≡ listed l.i (λ j. dot (row_at l.matrix j) l.vector);
+  fits : (j : ℕ) → j < l.i → DotFits (row_at l.matrix j) l.vector;
 }

@@ -12,16 +12,16 @@ read_back d h = to_z-of_z w128 (pos d) (fits_signed_from_abs w128 (pos d) h)
 
 pub unreachable-requires : goal.unreachable-requires
 unreachable-requires c =
-    no_error c.args.n c.args.d (to_z w128 c.args.n) (to_z w128 (of_z w128 c.from.result)) c.requires.positive c.requires.small (omega (arith, c.ranges.d.fits)) (to_z_pos w128 c.args.n c.requires.small)
-    (ap (λ z. to_z w128 (of_z w128 z)) c.from.ensures ∙ read_back c.args.d (omega (arith, c.ranges.d.fits))) c.in-Err.field-0 c.in-Err.ensures.zero.0 c.in-Err.ensures.wide.0
+    no_error c.args.numerator c.args.denominator (to_z w128 c.args.numerator) (to_z w128 (of_z w128 c.from.result)) c.requires.positive c.requires.small (omega (arith, c.ranges.denominator.fits)) (to_z_pos w128 c.args.numerator c.requires.small)
+    (ap (λ z. to_z w128 (of_z w128 z)) c.from.ensures ∙ read_back c.args.denominator (omega (arith, c.ranges.denominator.fits))) c.in-Err.field-0 c.in-Err.ensures.zero.0 c.in-Err.ensures.wide.0
 
 pub returns-clause-value : goal.returns-clause-value
 returns-clause-value c =
     c.in-Ok.ensures.value ∙
-    quotient_at c.args.n c.args.d (to_z w128 c.args.n) (to_z w128 (of_z w128 c.from.result)) c.requires.positive c.requires.small (omega (arith, c.ranges.d.fits)) (to_z_pos w128 c.args.n c.requires.small)
-    (ap (λ z. to_z w128 (of_z w128 z)) c.from.ensures ∙ read_back c.args.d (omega (arith, c.ranges.d.fits)))
+    quotient_at c.args.numerator c.args.denominator (to_z w128 c.args.numerator) (to_z w128 (of_z w128 c.from.result)) c.requires.positive c.requires.small (omega (arith, c.ranges.denominator.fits)) (to_z_pos w128 c.args.numerator c.requires.small)
+    (ap (λ z. to_z w128 (of_z w128 z)) c.from.ensures ∙ read_back c.args.denominator (omega (arith, c.ranges.denominator.fits)))
 
 pub returns-clause-nonneg : goal.returns-clause-nonneg
 returns-clause-nonneg c =
     subst IsNonneg (sym (returns-clause-value c))
-    (nonneg_cancel (positive_int c.args.d c.requires.positive) (subst IsNonneg (sym (frac_times (pos c.args.n) c.args.d c.requires.positive)) (nonneg_int c.args.n)))
+    (nonneg_cancel (positive_int c.args.denominator c.requires.positive) (subst IsNonneg (sym (frac_times (pos c.args.numerator) c.args.denominator c.requires.positive)) (nonneg_int c.args.numerator)))

@@ -8,5 +8,5 @@ use Rattle.mpc_plant.proofs.rolling.dot_of.Goals as goal
 pub returns-clause-value : goal.returns-clause-value
 returns-clause-value c =
     value_as c.dot_from.result _ _
-    (ap (λ s. s +ℚ dot c.args.x.now c.args.y.now) c.whole.ensures ∙ by_ring (dot c.args.x.now c.args.y.now ∷ []) (search reads depth 30) (search reads depth 30) tt)
+    (ap (λ s. s +ℚ dot c.args.left.now c.args.right.now) c.whole.ensures ∙ by_ring (dot c.args.left.now c.args.right.now ∷ []) (search reads depth 30) (search reads depth 30) tt)
     c.dot_from.ensures.value

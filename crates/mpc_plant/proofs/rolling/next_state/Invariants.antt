@@ -5,6 +5,6 @@ use Rattle.mpc_plant.proofs.rolling.next_state.Given as goal
 
 abbrev pub invariant-loop-i : goal.invariant-loop-i
 invariant-loop-i l = record {
-  entries : l.state ≡ listed l.i (next_entry l.plant l.x l.u);
-  fits : (j : ℕ) → j < l.i → EntryFits l.plant l.x l.u j;
+  entries : l.entries ≡ listed l.i (next_entry l.plant l.state l.input);
+  fits : (j : ℕ) → j < l.i → EntryFits l.plant l.state l.input j;
 }

@@ -12,29 +12,29 @@ write_row-requires-clause-width c =
     start_size c.args.plant.now (point_of c.args.counts.now) c.args.moves.now.rows c.requires.inside c.in_ok-state.state c.in_ok-state.ensures.value
     ∙ sym (ap (λ m. m.columns) c.in_ok-states.ensures)
 
-pub loop-k-init : goal.loop-k-init
-loop-k-init c =
+pub loop-step-init : goal.loop-step-init
+loop-step-init c =
     rolled_none c.args.plant.now (point_of c.args.counts.now) c.args.moves.now.rows c.requires.inside c.in_ok-states.states c.write_row.new.matrix c.in_ok-state.state c.in_ok-states.ensures c.in_ok-state.ensures.value c.in_ok-state.ensures.wide
     c.write_row.ensures.rows c.write_row.ensures.columns
 
 pub next_state-requires-clause-state : goal.next_state-requires-clause-state
 next_state-requires-clause-state c =
-    ap length (c.as_slice.ensures ∙ c.loop-k.invariant.here) ∙ state_size c.args.plant.now (point_of c.args.counts.now) c.args.moves.now.rows c.loop-k.k c.requires.inside
+    ap length (c.as_slice.ensures ∙ c.loop-step.invariant.here) ∙ state_size c.args.plant.now (point_of c.args.counts.now) c.args.moves.now.rows c.loop-step.step c.requires.inside
 
 pub returns-in_err-state-2-clause-wide : goal.returns-in_err-state-2-clause-wide
 returns-in_err-state-2-clause-wide c =
     let p = err_from_is_err_and c.from_residual-in_err-state-2.result c.from_residual-in_err-state-2.ensures.1 in
     rw (p.1, p.2) (IfWide-weaker _ _ (IsFirstWideState c.args.plant.now (point_of c.args.counts.now) c.args.moves.now.rows)
-    (λ step h. next_wide c.args.plant.now (point_of c.args.counts.now) c.args.moves.now.rows c.requires.inside c.loop-k.k c.loop-k-test.true c.loop-k.states c.loop-k.state c.loop-k.invariant c.as_slice.result.now c.row.result.now c.as_slice.ensures c.row.ensures
+    (λ step h. next_wide c.args.plant.now (point_of c.args.counts.now) c.args.moves.now.rows c.requires.inside c.loop-step.step c.loop-step-test.true c.loop-step.states c.loop-step.state c.loop-step.invariant c.as_slice.result.now c.row.result.now c.as_slice.ensures c.row.ensures
     step h.0 h.1)
     c.in_err-state-2.ensures.wide)
 
-pub write_row-requires-in-loop-k-clause-width : goal.write_row-requires-in-loop-k-clause-width
-write_row-requires-in-loop-k-clause-width c =
-    next_width c.args.plant.now (point_of c.args.counts.now) c.args.moves.now.rows c.requires.inside c.loop-k.k c.loop-k-test.true c.loop-k.states c.loop-k.state c.loop-k.invariant c.as_slice.result.now c.row.result.now c.as_slice.ensures c.row.ensures
+pub write_row-requires-in-loop-step-clause-width : goal.write_row-requires-in-loop-step-clause-width
+write_row-requires-in-loop-step-clause-width c =
+    next_width c.args.plant.now (point_of c.args.counts.now) c.args.moves.now.rows c.requires.inside c.loop-step.step c.loop-step-test.true c.loop-step.states c.loop-step.state c.loop-step.invariant c.as_slice.result.now c.row.result.now c.as_slice.ensures c.row.ensures
     c.in_ok-state-2.state c.in_ok-state-2.ensures.value
 
-pub loop-k-preserved : goal.loop-k-preserved
-loop-k-preserved c =
-    rolled_more c.args.plant.now (point_of c.args.counts.now) c.args.moves.now.rows c.requires.inside c.loop-k.k c.loop-k-test.true c.loop-k.states c.loop-k.state c.loop-k.invariant c.as_slice.result.now c.row.result.now c.as_slice.ensures c.row.ensures
-    c.write_row-in-loop-k.new.matrix c.in_ok-state-2.state c.in_ok-state-2.ensures.value c.in_ok-state-2.ensures.wide c.write_row-in-loop-k.ensures.rows c.write_row-in-loop-k.ensures.columns
+pub loop-step-preserved : goal.loop-step-preserved
+loop-step-preserved c =
+    rolled_more c.args.plant.now (point_of c.args.counts.now) c.args.moves.now.rows c.requires.inside c.loop-step.step c.loop-step-test.true c.loop-step.states c.loop-step.state c.loop-step.invariant c.as_slice.result.now c.row.result.now c.as_slice.ensures c.row.ensures
+    c.write_row-in-loop-step.new.matrix c.in_ok-state-2.state c.in_ok-state-2.ensures.value c.in_ok-state-2.ensures.wide c.write_row-in-loop-step.ensures.rows c.write_row-in-loop-step.ensures.columns

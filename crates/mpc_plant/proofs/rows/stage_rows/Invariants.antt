@@ -6,7 +6,7 @@ use Rattle.mpc_plant.proofs.rows.stage_rows.Given as goal
 
 abbrev pub invariant-loop-i : goal.invariant-loop-i
 invariant-loop-i l = record {
-  so_far : EachFrom (stage_row_of l.n l.p) l.items l.i l.rows;
+  so_far : EachFrom (stage_row_of l.states l.inputs) l.items l.i l.rows;
   len : length l.rows ≡ l.i;
-  fit : All (FitsRow l.n l.p) l.rows;
+  fit : All (FitsRow l.states l.inputs) l.rows;
 }

@@ -6,7 +6,7 @@ use Rattle.mpc_plant.proofs.rows.terminal_rows.Given as goal
 
 abbrev pub invariant-loop-i : goal.invariant-loop-i
 invariant-loop-i l = record {
-  so_far : EachFrom (terminal_row_of l.n) l.items l.i l.rows;
+  so_far : EachFrom (terminal_row_of l.states) l.items l.i l.rows;
   len : length l.rows ≡ l.i;
-  fit : All (FitsRow l.n 0) l.rows;
+  fit : All (FitsRow l.states 0) l.rows;
 }

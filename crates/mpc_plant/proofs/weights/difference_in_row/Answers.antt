@@ -7,8 +7,8 @@ use Rattle.mpc_plant.proofs.weights.difference_in_row.Goals as goal
 
 pub returns-then-differ : goal.returns-then-differ
 returns-then-differ c =
-    sym (c.loop-j.invariant ∙ search_finds (differs c.args.matrix.now.rows c.args.i) c.loop-j.j c.args.size c.loop-j-test.true ((λ k. not (is_eq (cmp_ℚ (sym c.get.ensures k) (sym c.get-in-loop-j.ensures k)))) ∙ sym c.differ.ensures ∙ c.if-differ.true))
+    sym (c.loop-column.invariant ∙ search_finds (differs c.args.matrix.now.rows c.args.row) c.loop-column.column c.args.size c.loop-column-test.true ((λ k. not (is_eq (cmp_ℚ (sym c.get.ensures k) (sym c.get-in-loop-column.ensures k)))) ∙ sym c.differ.ensures ∙ c.if-differ.true))
 
-pub loop-j-preserved : goal.loop-j-preserved
-loop-j-preserved c =
-    c.loop-j.invariant ∙ search_passes (differs c.args.matrix.now.rows c.args.i) c.loop-j.j c.args.size c.loop-j-test.true ((λ k. not (is_eq (cmp_ℚ (sym c.get.ensures k) (sym c.get-in-loop-j.ensures k)))) ∙ sym c.differ.ensures ∙ c.if-differ.false)
+pub loop-column-preserved : goal.loop-column-preserved
+loop-column-preserved c =
+    c.loop-column.invariant ∙ search_passes (differs c.args.matrix.now.rows c.args.row) c.loop-column.column c.args.size c.loop-column-test.true ((λ k. not (is_eq (cmp_ℚ (sym c.get.ensures k) (sym c.get-in-loop-column.ensures k)))) ∙ sym c.differ.ensures ∙ c.if-differ.false)
