@@ -38,10 +38,14 @@ fn no_cost(alloc: Global, plant: &Plant) -> Result<Cost, NoMemory>
     ensures { IfOk result (λ c. HoldsSums plant.now (kernel plant.now 0) c.h c.f c.y) }
 {
     let unknowns = plant.p * plant.horizon;
-    let h = Matrix::zero(alloc, unknowns, unknowns)?;
-    let f = Matrix::zero(alloc, unknowns, plant.n + 1)?;
-    let y = Matrix::zero(alloc, plant.n + 1, plant.n + 1)?;
-    Ok(Cost { h, f, y })
+    let hessian = Matrix::zero(alloc, unknowns, unknowns)?;
+    let linear = Matrix::zero(alloc, unknowns, plant.n + 1)?;
+    let constant = Matrix::zero(alloc, plant.n + 1, plant.n + 1)?;
+    Ok(Cost {
+        h: hessian,
+        f: linear,
+        y: constant,
+    })
 }
 
 /// R times the target of the moves.
@@ -56,58 +60,69 @@ fn weigh_goal(alloc: Global, plant: &Plant) -> Result<Goal, StageError>
     Ok(Goal { weighted, square })
 }
 
-/// The columns of the state's distance from its target, from those of the state at step k.
-fn distance_of(alloc: Global, plant: &Plant, motion: &Motion, k: u32) -> Result<Motion, StageError>
-    requires motion { IsMotion plant.now k motion.now.x motion.now.z }
-    ensures distance { IfOk result (λ d. IsDistance plant.now k d.x d.z) }
-    ensures wide { MatchResult result (λ _. DistanceFits plant.now k) (IfTooWide (¬ DistanceFits plant.now k)) }
+/// The columns of the state's distance from its target, from those of the state at a step.
+fn distance_of(
+    alloc: Global,
+    plant: &Plant,
+    motion: &Motion,
+    step: u32,
+) -> Result<Motion, StageError>
+    requires motion { IsMotion plant.now step motion.now.x motion.now.z }
+    ensures distance { IfOk result (λ d. IsDistance plant.now step d.x d.z) }
+    ensures wide { MatchResult result (λ _. DistanceFits plant.now step) (IfTooWide (¬ DistanceFits plant.now step)) }
 {
-    let mut x = motion.x.copy(alloc)?;
-    take_from_row(&mut x, 0, plant.xgoal.as_slice())?;
-    let z = motion.z.copy(alloc)?;
-    Ok(Motion { x, z })
+    let mut from_counts = motion.x.copy(alloc)?;
+    take_from_row(&mut from_counts, 0, plant.xgoal.as_slice())?;
+    let from_moves = motion.z.copy(alloc)?;
+    Ok(Motion {
+        x: from_counts,
+        z: from_moves,
+    })
 }
 
-/// The weight of the state at step k.
-fn weight_of(plant: &Plant, k: u32) -> &Matrix
-    ensures { result.now ≡ weight_at plant.now k }
+/// The weight of the state at a step.
+fn weight_of(plant: &Plant, step: u32) -> &Matrix
+    ensures { result.now ≡ weight_at plant.now step }
 {
-    if k < plant.horizon {
+    if step < plant.horizon {
         &plant.q
     } else {
         &plant.last
     }
 }
 
-/// The weight times the columns of the state's distance at step k.
-fn weigh(alloc: Global, plant: &Plant, distance: &Motion, k: u32) -> Result<Motion, StageError>
-    requires distance { IsDistance plant.now k distance.now.x distance.now.z }
-    requires step { k ≤ plant.now.horizon }
-    ensures weighted { IfOk result (λ m. IsWeighted plant.now k m.x m.z) }
-    ensures wide { MatchResult result (λ _. WeightsFit plant.now k) (IfTooWide (¬ WeightsFit plant.now k)) }
+/// The weight times the columns of the state's distance at a step.
+fn weigh(alloc: Global, plant: &Plant, distance: &Motion, step: u32) -> Result<Motion, StageError>
+    requires distance { IsDistance plant.now step distance.now.x distance.now.z }
+    requires step { step ≤ plant.now.horizon }
+    ensures weighted { IfOk result (λ m. IsWeighted plant.now step m.x m.z) }
+    ensures wide { MatchResult result (λ _. WeightsFit plant.now step) (IfTooWide (¬ WeightsFit plant.now step)) }
 {
-    let weight = weight_of(plant, k);
-    let x = images(alloc, weight, &distance.x, plant.n + 1)?;
-    let z = images(alloc, weight, &distance.z, plant.p * k)?;
-    Ok(Motion { x, z })
+    let weight = weight_of(plant, step);
+    let from_counts = images(alloc, weight, &distance.x, plant.n + 1)?;
+    let from_moves = images(alloc, weight, &distance.z, plant.p * step)?;
+    Ok(Motion {
+        x: from_counts,
+        z: from_moves,
+    })
 }
 
-/// Adds the cost of the state at step k.
+/// Adds the cost of the state at a step.
 fn add_state(
     cost: &mut Cost,
     plant: &Plant,
     distance: &Motion,
     weighted: &Motion,
-    k: u32,
+    step: u32,
 ) -> Result<(), Wide>
-    requires distance { IsDistance plant.now k distance.now.x distance.now.z }
-    requires weighted { IsWeighted plant.now k weighted.now.x weighted.now.z }
-    requires step { k ≤ plant.now.horizon }
-    requires sums { HoldsSums plant.now (kernel plant.now k) cost.old.h cost.old.f cost.old.y }
-    ensures ok { OnOk result (HoldsSums plant.now (kernel_with plant.now k) cost.new.h cost.new.f cost.new.y) }
-    ensures wide { MatchResult result (λ _. SumsFit plant.now k) (λ _. ¬ SumsFit plant.now k) }
+    requires distance { IsDistance plant.now step distance.now.x distance.now.z }
+    requires weighted { IsWeighted plant.now step weighted.now.x weighted.now.z }
+    requires step { step ≤ plant.now.horizon }
+    requires sums { HoldsSums plant.now (kernel plant.now step) cost.old.h cost.old.f cost.old.y }
+    ensures ok { OnOk result (HoldsSums plant.now (kernel_with plant.now step) cost.new.h cost.new.f cost.new.y) }
+    ensures wide { MatchResult result (λ _. SumsFit plant.now step) (λ _. ¬ SumsFit plant.now step) }
 {
-    let first = plant.p * k;
+    let first = plant.p * step;
     add_products(&mut cost.h, &distance.z, first, &weighted.z, first)?;
     add_products(&mut cost.f, &distance.z, first, &weighted.x, plant.n + 1)?;
     add_products(
@@ -119,38 +134,38 @@ fn add_state(
     )
 }
 
-/// Adds the cost of the move at step k.
-fn add_move(cost: &mut Cost, plant: &Plant, goal: &Goal, k: u32) -> Result<(), Wide>
-    requires step { k < plant.now.horizon }
+/// Adds the cost of the move at a step.
+fn add_move(cost: &mut Cost, plant: &Plant, goal: &Goal, step: u32) -> Result<(), Wide>
+    requires step { step < plant.now.horizon }
     requires goal { IsGoal plant.now goal.now.weighted goal.now.square }
-    requires sums { HoldsSums plant.now (kernel_with plant.now k) cost.old.h cost.old.f cost.old.y }
-    ensures ok { OnOk result (HoldsSums plant.now (kernel plant.now (k + 1)) cost.new.h cost.new.f cost.new.y) }
-    ensures wide { MatchResult result (λ _. MovesFit plant.now k) (λ _. ¬ MovesFit plant.now k) }
+    requires sums { HoldsSums plant.now (kernel_with plant.now step) cost.old.h cost.old.f cost.old.y }
+    ensures ok { OnOk result (HoldsSums plant.now (kernel plant.now (step + 1)) cost.new.h cost.new.f cost.new.y) }
+    ensures wide { MatchResult result (λ _. MovesFit plant.now step) (λ _. ¬ MovesFit plant.now step) }
 {
-    let first = plant.p * k;
+    let first = plant.p * step;
     add_block(&mut cost.h, first, &plant.r)?;
     take_from_column(&mut cost.f, first, goal.weighted.row(0))?;
     add_to_first(&mut cost.y, &goal.square)
 }
 
-/// Adds the cost of the state at step k, from its columns.
+/// Adds the cost of the state at a step, from its columns.
 fn add_stage(
     alloc: Global,
     cost: &mut Cost,
     plant: &Plant,
     motion: &Motion,
-    k: u32,
+    step: u32,
 ) -> Result<(), StageError>
-    requires motion { IsMotion plant.now k motion.now.x motion.now.z }
-    requires step { k ≤ plant.now.horizon }
-    requires sums { HoldsSums plant.now (kernel plant.now k) cost.old.h cost.old.f cost.old.y }
-    ensures ok { OnOk result (HoldsSums plant.now (kernel_with plant.now k) cost.new.h cost.new.f cost.new.y) }
-    ensures wide { MatchResult result (λ _. DistanceFits plant.now k × WeightsFit plant.now k × SumsFit plant.now k)
-        (IfTooWide (¬ (DistanceFits plant.now k × WeightsFit plant.now k × SumsFit plant.now k))) }
+    requires motion { IsMotion plant.now step motion.now.x motion.now.z }
+    requires step { step ≤ plant.now.horizon }
+    requires sums { HoldsSums plant.now (kernel plant.now step) cost.old.h cost.old.f cost.old.y }
+    ensures ok { OnOk result (HoldsSums plant.now (kernel_with plant.now step) cost.new.h cost.new.f cost.new.y) }
+    ensures wide { MatchResult result (λ _. DistanceFits plant.now step × WeightsFit plant.now step × SumsFit plant.now step)
+        (IfTooWide (¬ (DistanceFits plant.now step × WeightsFit plant.now step × SumsFit plant.now step))) }
 {
-    let distance = distance_of(alloc, plant, motion, k)?;
-    let weighted = weigh(alloc, plant, &distance, k)?;
-    add_state(cost, plant, &distance, &weighted, k)?;
+    let distance = distance_of(alloc, plant, motion, step)?;
+    let weighted = weigh(alloc, plant, &distance, step)?;
+    add_state(cost, plant, &distance, &weighted, step)?;
     Ok(())
 }
 
@@ -168,14 +183,14 @@ pub fn costs(alloc: Global, plant: &Plant, motions: &[Motion]) -> Result<Cost, C
         Err(StageError::TooWide) => return Err(CondenseError::Wide(Place::Cost(0))),
         Err(StageError::OutOfMemory) => return Err(CondenseError::NoMemory),
     };
-    for k in 0..plant.horizon {
-        match add_stage(alloc, &mut cost, plant, &motions[k as usize], k) {
+    for step in 0..plant.horizon {
+        match add_stage(alloc, &mut cost, plant, &motions[step as usize], step) {
             Ok(()) => {}
-            Err(StageError::TooWide) => return Err(CondenseError::Wide(Place::Cost(k))),
+            Err(StageError::TooWide) => return Err(CondenseError::Wide(Place::Cost(step))),
             Err(StageError::OutOfMemory) => return Err(CondenseError::NoMemory),
         }
-        let Ok(()) = add_move(&mut cost, plant, &goal, k) else {
-            return Err(CondenseError::Wide(Place::Cost(k)));
+        let Ok(()) = add_move(&mut cost, plant, &goal, step) else {
+            return Err(CondenseError::Wide(Place::Cost(step)));
         };
     }
     let last = plant.horizon;

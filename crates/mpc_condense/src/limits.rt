@@ -30,97 +30,102 @@ pub struct Limits {
     pub w: Matrix,
 }
 
-/// What column j of a row's right side starts from: the bound, and 0 in the other columns.
-fn bound(row: &PlantRow, j: u32) -> Frac
-    ensures { result ≡ bound_of row.now j }
+/// What a column of a row's right side starts from: the bound in the first, and 0 in the other columns.
+fn bound(row: &PlantRow, column: u32) -> Frac
+    ensures { result ≡ bound_of row.now column }
 {
-    if j == 0 { row.max } else { Frac::whole(0) }
+    if column == 0 { row.max } else { Frac::whole(0) }
 }
 
 /// Writes the right side of a row.
-fn write_right(out: &mut Matrix, i: u32, row: &PlantRow, x: &Matrix) -> Result<(), Wide>
-    requires row { i < height out.old }
-    requires columns { height x.now ≤ out.old.columns }
-    requires size { length row.now.x ≡ x.now.columns }
-    ensures ok { OnOk result (WritesBlock out.old out.new i (i + 1) 0 (height x.now) (λ _ b. bound_of row.now b -ℚ dot (row_at x.now b) row.now.x)) }
-    ensures wide { MatchResult result (λ _. AllInBlock i (i + 1) 0 (height x.now)
-        (λ _ b. DotFits (row_at x.now b) row.now.x × FitsSum (bound_of row.now b) (neg_ℚ (dot (row_at x.now b) row.now.x))))
-        (λ _. ¬ AllInBlock i (i + 1) 0 (height x.now)
-        (λ _ b. DotFits (row_at x.now b) row.now.x × FitsSum (bound_of row.now b) (neg_ℚ (dot (row_at x.now b) row.now.x)))) }
+fn write_right(
+    out: &mut Matrix,
+    at_row: u32,
+    row: &PlantRow,
+    from_counts: &Matrix,
+) -> Result<(), Wide>
+    requires row { at_row < height out.old }
+    requires columns { height from_counts.now ≤ out.old.columns }
+    requires size { length row.now.x ≡ from_counts.now.columns }
+    ensures ok { OnOk result (WritesBlock out.old out.new at_row (at_row + 1) 0 (height from_counts.now) (λ _ b. bound_of row.now b -ℚ dot (row_at from_counts.now b) row.now.x)) }
+    ensures wide { MatchResult result (λ _. AllInBlock at_row (at_row + 1) 0 (height from_counts.now)
+        (λ _ b. DotFits (row_at from_counts.now b) row.now.x × FitsSum (bound_of row.now b) (neg_ℚ (dot (row_at from_counts.now b) row.now.x))))
+        (λ _. ¬ AllInBlock at_row (at_row + 1) 0 (height from_counts.now)
+        (λ _ b. DotFits (row_at from_counts.now b) row.now.x × FitsSum (bound_of row.now b) (neg_ℚ (dot (row_at from_counts.now b) row.now.x)))) }
 {
-    let count = x.rows();
+    let count = from_counts.rows();
     prove!(count <= out.cols());
-    for b in 0..count {
-        let product = dot_of(x.row(b), row.x.as_slice())?;
-        let value = bound(row, b).sub(&product)?;
-        out.set(i, b, value);
+    for column in 0..count {
+        let product = dot_of(from_counts.row(column), row.x.as_slice())?;
+        let value = bound(row, column).sub(&product)?;
+        out.set(at_row, column, value);
     }
     Ok(())
 }
 
 /// Writes the coefficients of a row's own move, from column `first` on.
-fn write_move(out: &mut Matrix, i: u32, first: u32, row: &PlantRow)
-    requires row { i < height out.old }
+fn write_move(out: &mut Matrix, at_row: u32, first: u32, row: &PlantRow)
+    requires row { at_row < height out.old }
     requires columns { first + length row.now.u ≤ out.old.columns }
-    ensures { WritesBlock out.old out.new i (i + 1) first (first + length row.now.u) (λ _ b. coordinate row.now.u (b - first)) }
+    ensures { WritesBlock out.old out.new at_row (at_row + 1) first (first + length row.now.u) (λ _ b. coordinate row.now.u (b - first)) }
 {
     let cols = out.cols();
     prove!(first <= cols);
-    for q in 0..row.u.len() {
-        out.set(i, first + q as u32, *row.u.at(q));
+    for place in 0..row.u.len() {
+        out.set(at_row, first + place as u32, *row.u.at(place));
     }
 }
 
-/// Writes row i of the program, which is a row of the plant at step k.
+/// Writes a row of the program, which is a row of the plant at a step.
 fn write_row(
     limits: &mut Limits,
-    i: u32,
+    at_row: u32,
     plant: &Plant,
     row: &PlantRow,
     motion: &Motion,
-    k: u32,
+    step: u32,
 ) -> Result<(), Wide>
-    requires motion { IsMotion plant.now k motion.now.x motion.now.z }
-    requires step { k ≤ plant.now.horizon }
-    requires g_row { i < height limits.old.g }
-    requires w_row { i < height limits.old.w }
+    requires motion { IsMotion plant.now step motion.now.x motion.now.z }
+    requires step { step ≤ plant.now.horizon }
+    requires g_row { at_row < height limits.old.g }
+    requires w_row { at_row < height limits.old.w }
     requires g_columns { limits.old.g.columns ≡ plant.now.p * plant.now.horizon }
     requires w_columns { limits.old.w.columns ≡ plant.now.n + 1 }
     requires x_size { length row.now.x ≡ plant.now.n }
     requires u_size { length row.now.u ≤ plant.now.p }
-    requires u_place { plant.now.p * k + length row.now.u ≤ plant.now.p * plant.now.horizon }
-    requires empty { (j : ℕ) → entry limits.old.g i j ≡ int (pos 0) }
-    ensures ok { OnOk result (AddsRow plant.now k row.now i limits.old.g limits.old.w limits.new.g limits.new.w) }
-    ensures wide { MatchResult result (λ _. RowFits plant.now k row.now) (λ _. ¬ RowFits plant.now k row.now) }
+    requires u_place { plant.now.p * step + length row.now.u ≤ plant.now.p * plant.now.horizon }
+    requires empty { (j : ℕ) → entry limits.old.g at_row j ≡ int (pos 0) }
+    ensures ok { OnOk result (AddsRow plant.now step row.now at_row limits.old.g limits.old.w limits.new.g limits.new.w) }
+    ensures wide { MatchResult result (λ _. RowFits plant.now step row.now) (λ _. ¬ RowFits plant.now step row.now) }
 {
-    let first = plant.p * k;
-    write_dots(&mut limits.g, i, &motion.z, first, row.x.as_slice())?;
-    write_move(&mut limits.g, i, first, row);
-    write_right(&mut limits.w, i, row, &motion.x)
+    let first = plant.p * step;
+    write_dots(&mut limits.g, at_row, &motion.z, first, row.x.as_slice())?;
+    write_move(&mut limits.g, at_row, first, row);
+    write_right(&mut limits.w, at_row, row, &motion.x)
 }
 
-/// Writes the stage rows of step k, which follow those of the steps before.
+/// Writes the stage rows of a step, which follow those of the steps before.
 fn write_stage(
     limits: &mut Limits,
     plant: &Plant,
     motion: &Motion,
-    k: u32,
+    step: u32,
 ) -> Result<(), CondenseError>
-    requires motion { IsMotion plant.now k motion.now.x motion.now.z }
-    requires step { k < plant.now.horizon }
-    requires done { RowsDone plant.now limits.old.g limits.old.w (stage_row plant.now k 0) }
+    requires motion { IsMotion plant.now step motion.now.x motion.now.z }
+    requires step { step < plant.now.horizon }
+    requires done { RowsDone plant.now limits.old.g limits.old.w (stage_row plant.now step 0) }
     requires states { StatesFit plant.now plant.now.horizon }
     requires costs { CostsFit plant.now (plant.now.horizon + 1) }
-    requires rows { RowsFit plant.now (stage_row plant.now k 0) }
-    ensures done { OnOk result (RowsDone plant.now limits.new.g limits.new.w (stage_row plant.now (k + 1) 0)) }
-    ensures fits { OnOk result (RowsFit plant.now (stage_row plant.now (k + 1) 0)) }
+    requires rows { RowsFit plant.now (stage_row plant.now step 0) }
+    ensures done { OnOk result (RowsDone plant.now limits.new.g limits.new.w (stage_row plant.now (step + 1) 0)) }
+    ensures fits { OnOk result (RowsFit plant.now (stage_row plant.now (step + 1) 0)) }
     ensures cause { IfErr result (IsCause plant.now) }
 {
     let count = plant.rows.len();
-    for r in 0..count {
-        let i = (k as usize * count + r) as u32;
-        let Ok(()) = write_row(limits, i, plant, plant.rows.at(r), motion, k) else {
-            return Err(CondenseError::Wide(Place::Row(i + 1)));
+    for place in 0..count {
+        let at_row = (step as usize * count + place) as u32;
+        let Ok(()) = write_row(limits, at_row, plant, plant.rows.at(place), motion, step) else {
+            return Err(CondenseError::Wide(Place::Row(at_row + 1)));
         };
     }
     Ok(())
@@ -138,17 +143,17 @@ fn write_end(limits: &mut Limits, plant: &Plant, motion: &Motion) -> Result<(), 
     ensures cause { IfErr result (IsCause plant.now) }
 {
     let first = plant.horizon as usize * plant.rows.len();
-    for r in 0..plant.terminal.len() {
-        let i = (first + r) as u32;
+    for place in 0..plant.terminal.len() {
+        let at_row = (first + place) as u32;
         let Ok(()) = write_row(
             limits,
-            i,
+            at_row,
             plant,
-            plant.terminal.at(r),
+            plant.terminal.at(place),
             motion,
             plant.horizon,
         ) else {
-            return Err(CondenseError::Wide(Place::Row(i + 1)));
+            return Err(CondenseError::Wide(Place::Row(at_row + 1)));
         };
     }
     Ok(())
@@ -174,8 +179,8 @@ pub fn all_limits(alloc: Global, plant: &Plant, motions: &[Motion]) -> Result<Li
     ensures cause { IfErr result (IsCause plant.now) }
 {
     let mut limits = no_limits(alloc, plant)?;
-    for k in 0..plant.horizon {
-        write_stage(&mut limits, plant, &motions[k as usize], k)?;
+    for step in 0..plant.horizon {
+        write_stage(&mut limits, plant, &motions[step as usize], step)?;
     }
     write_end(&mut limits, plant, &motions[plant.horizon as usize])?;
     Ok(limits)

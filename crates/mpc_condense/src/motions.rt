@@ -26,29 +26,40 @@ pub struct Motion {
 pub fn start(alloc: Global, plant: &Plant) -> Result<Motion, NoMemory>
     ensures { IfOk result (λ m. IsMotion plant.now 0 m.x m.z) }
 {
-    let mut x = Matrix::zero(alloc, plant.n + 1, plant.n)?;
-    let z = Matrix::zero(alloc, plant.p * plant.horizon, plant.n)?;
-    for i in 0..plant.n {
-        let axis = plant.grid.at(i as usize);
-        x.set(0, i, axis.low);
-        x.set(i + 1, i, axis.step);
+    let mut from_counts = Matrix::zero(alloc, plant.n + 1, plant.n)?;
+    let from_moves = Matrix::zero(alloc, plant.p * plant.horizon, plant.n)?;
+    for column in 0..plant.n {
+        let axis = plant.grid.at(column as usize);
+        from_counts.set(0, column, axis.low);
+        from_counts.set(column + 1, column, axis.step);
     }
-    Ok(Motion { x, z })
+    Ok(Motion {
+        x: from_counts,
+        z: from_moves,
+    })
 }
 
-/// The state at step `k + 1`, from that at step k.
-pub fn advance(alloc: Global, plant: &Plant, motion: &Motion, k: u32) -> Result<Motion, StageError>
-    requires motion { IsMotion plant.now k motion.now.x motion.now.z }
-    requires step { k < plant.now.horizon }
-    ensures next { IfOk result (λ m. IsMotion plant.now (k + 1) m.x m.z) }
-    ensures wide { MatchResult result (λ _. StateFits plant.now k) (IfTooWide (¬ StateFits plant.now k)) }
+/// The state at the step behind this one, from that at this step.
+pub fn advance(
+    alloc: Global,
+    plant: &Plant,
+    motion: &Motion,
+    step: u32,
+) -> Result<Motion, StageError>
+    requires motion { IsMotion plant.now step motion.now.x motion.now.z }
+    requires step { step < plant.now.horizon }
+    ensures next { IfOk result (λ m. IsMotion plant.now (step + 1) m.x m.z) }
+    ensures wide { MatchResult result (λ _. StateFits plant.now step) (IfTooWide (¬ StateFits plant.now step)) }
 {
-    let first = plant.p * k;
-    let mut x = images(alloc, &plant.a, &motion.x, plant.n + 1)?;
-    add_to_row(&mut x, 0, plant.drift.as_slice())?;
-    let mut z = images(alloc, &plant.a, &motion.z, first)?;
-    write_columns(&mut z, first, &plant.b);
-    Ok(Motion { x, z })
+    let first = plant.p * step;
+    let mut from_counts = images(alloc, &plant.a, &motion.x, plant.n + 1)?;
+    add_to_row(&mut from_counts, 0, plant.drift.as_slice())?;
+    let mut from_moves = images(alloc, &plant.a, &motion.z, first)?;
+    write_columns(&mut from_moves, first, &plant.b);
+    Ok(Motion {
+        x: from_counts,
+        z: from_moves,
+    })
 }
 
 /// The states at all steps, from the first to that at the horizon.
@@ -62,10 +73,10 @@ pub fn motions(alloc: Global, plant: &Plant) -> Result<Vec<Motion>, CondenseErro
     let Ok(()) = all.push(first) else {
         return Err(CondenseError::NoMemory);
     };
-    for k in 0..plant.horizon {
-        let next = match advance(alloc, plant, &all[k as usize], k) {
+    for step in 0..plant.horizon {
+        let next = match advance(alloc, plant, &all[step as usize], step) {
             Ok(next) => next,
-            Err(StageError::TooWide) => return Err(CondenseError::Wide(Place::State(k + 1))),
+            Err(StageError::TooWide) => return Err(CondenseError::Wide(Place::State(step + 1))),
             Err(StageError::OutOfMemory) => return Err(CondenseError::NoMemory),
         };
         let Ok(()) = all.push(next) else {

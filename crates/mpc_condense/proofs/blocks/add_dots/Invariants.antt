@@ -7,8 +7,8 @@ use Rattle.mpc_linear.specs.Dot.{DotFits}
 use Rattle.mpc_condense.specs.Blocks.{row_at, WritesBlock, AllInBlock}
 use Rattle.mpc_condense.proofs.blocks.add_dots.Given as goal
 
-abbrev pub invariant-loop-b : goal.invariant-loop-b
-invariant-loop-b l = record {
-  written : WritesBlock l.fn.out l.out l.i (l.i + 1) 0 l.b (λ a b. entry l.fn.out a b +ℚ dot l.vector (row_at l.m b));
-  fits : AllInBlock l.i (l.i + 1) 0 l.b (λ a b. DotFits l.vector (row_at l.m b) × FitsSum (entry l.fn.out a b) (dot l.vector (row_at l.m b)));
+abbrev pub invariant-loop-column : goal.invariant-loop-column
+invariant-loop-column l = record {
+  written : WritesBlock l.fn.out l.out l.at_row (l.at_row + 1) 0 l.column (λ a b. entry l.fn.out a b +ℚ dot l.vector (row_at l.matrix b));
+  fits : AllInBlock l.at_row (l.at_row + 1) 0 l.column (λ a b. DotFits l.vector (row_at l.matrix b) × FitsSum (entry l.fn.out a b) (dot l.vector (row_at l.matrix b)));
 }

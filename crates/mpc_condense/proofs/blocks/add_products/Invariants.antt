@@ -6,8 +6,8 @@ use Rattle.mpc_linear.specs.Dot.{DotFits}
 use Rattle.mpc_condense.specs.Blocks.{row_at, WritesBlock, AllInBlock}
 use Rattle.mpc_condense.proofs.blocks.add_products.Given as goal
 
-abbrev pub invariant-loop-a : goal.invariant-loop-a
-invariant-loop-a l = record {
-  written : WritesBlock l.fn.out l.out 0 l.a 0 l.count (λ a b. entry l.fn.out a b +ℚ dot (row_at l.left a) (row_at l.right b));
-  fits : AllInBlock 0 l.a 0 l.count (λ a b. DotFits (row_at l.left a) (row_at l.right b) × FitsSum (entry l.fn.out a b) (dot (row_at l.left a) (row_at l.right b)));
+abbrev pub invariant-loop-at_row : goal.invariant-loop-at_row
+invariant-loop-at_row l = record {
+  written : WritesBlock l.fn.out l.out 0 l.at_row 0 l.count (λ a b. entry l.fn.out a b +ℚ dot (row_at l.left a) (row_at l.right b));
+  fits : AllInBlock 0 l.at_row 0 l.count (λ a b. DotFits (row_at l.left a) (row_at l.right b) × FitsSum (entry l.fn.out a b) (dot (row_at l.left a) (row_at l.right b)));
 }

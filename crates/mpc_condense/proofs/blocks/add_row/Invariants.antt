@@ -5,8 +5,8 @@ use Rattle.mpc_space.specs.Matrix.{entry}
 use Rattle.mpc_condense.specs.Blocks.{WritesBlock, AllInBlock}
 use Rattle.mpc_condense.proofs.blocks.add_row.Given as goal
 
-abbrev pub invariant-loop-l : goal.invariant-loop-l
-invariant-loop-l l = record {
-  written : WritesBlock l.fn.out l.out (l.first + l.i) (l.first + l.i + 1) l.first (l.first + l.l) (λ a b. entry l.fn.out a b +ℚ entry l.m (a - l.first) (b - l.first));
-  fits : AllInBlock (l.first + l.i) (l.first + l.i + 1) l.first (l.first + l.l) (λ a b. FitsSum (entry l.fn.out a b) (entry l.m (a - l.first) (b - l.first)));
+abbrev pub invariant-loop-column : goal.invariant-loop-column
+invariant-loop-column l = record {
+  written : WritesBlock l.fn.out l.out (l.first + l.at_row) (l.first + l.at_row + 1) l.first (l.first + l.column) (λ a b. entry l.fn.out a b +ℚ entry l.matrix (a - l.first) (b - l.first));
+  fits : AllInBlock (l.first + l.at_row) (l.first + l.at_row + 1) l.first (l.first + l.column) (λ a b. FitsSum (entry l.fn.out a b) (entry l.matrix (a - l.first) (b - l.first)));
 }

@@ -6,8 +6,8 @@ use Rattle.mpc_space.specs.Matrix.{entry}
 use Rattle.mpc_condense.specs.Blocks.{WritesBlock, AllInBlock}
 use Rattle.mpc_condense.proofs.blocks.add_to_row.Given as goal
 
-abbrev pub invariant-loop-b : goal.invariant-loop-b
-invariant-loop-b l = record {
-  written : WritesBlock l.fn.out l.out l.i (l.i + 1) 0 l.b (λ a b. entry l.fn.out a b +ℚ coordinate l.vector b);
-  fits : AllInBlock l.i (l.i + 1) 0 l.b (λ a b. FitsSum (entry l.fn.out a b) (coordinate l.vector b));
+abbrev pub invariant-loop-column : goal.invariant-loop-column
+invariant-loop-column l = record {
+  written : WritesBlock l.fn.out l.out l.at_row (l.at_row + 1) 0 l.column (λ a b. entry l.fn.out a b +ℚ coordinate l.vector b);
+  fits : AllInBlock l.at_row (l.at_row + 1) 0 l.column (λ a b. FitsSum (entry l.fn.out a b) (coordinate l.vector b));
 }

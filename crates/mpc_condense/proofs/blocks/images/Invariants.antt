@@ -5,8 +5,8 @@ use Rattle.mpc_linear.specs.Entries.{zero_matrix}
 use Rattle.mpc_condense.specs.Blocks.{row_at, WritesBlock, AllInBlock}
 use Rattle.mpc_condense.proofs.blocks.images.Given as goal
 
-abbrev pub invariant-loop-a : goal.invariant-loop-a
-invariant-loop-a l = record {
-  written : WritesBlock (zero_matrix (height l.vectors) (height l.m)) l.out 0 l.a 0 (height l.m) (λ a b. dot (row_at l.m b) (row_at l.vectors a));
-  fits : AllInBlock 0 l.a 0 (height l.m) (λ a b. DotFits (row_at l.m b) (row_at l.vectors a));
+abbrev pub invariant-loop-at_row : goal.invariant-loop-at_row
+invariant-loop-at_row l = record {
+  written : WritesBlock (zero_matrix (height l.vectors) (height l.matrix)) l.out 0 l.at_row 0 (height l.matrix) (λ a b. dot (row_at l.matrix b) (row_at l.vectors a));
+  fits : AllInBlock 0 l.at_row 0 (height l.matrix) (λ a b. DotFits (row_at l.matrix b) (row_at l.vectors a));
 }

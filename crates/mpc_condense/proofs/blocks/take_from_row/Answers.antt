@@ -8,22 +8,22 @@ use Rattle.mpc_space.specs.Matrix.{entry}
 use Rattle.mpc_condense.proofs.Writing.{writes_entry_as, unwritten_entry, all_entry_as, not_entry, difference_is, fits_difference_as}
 use Rattle.mpc_condense.proofs.blocks.take_from_row.Goals as goal
 
-pub loop-b-preserved : goal.loop-b-preserved
-loop-b-preserved c =
-    let k = c.loop-b.b in
-    let g = c.get.ensures ∙ unwritten_entry c.args.out.now c.loop-b.out c.args.i 0 k _ c.loop-b.invariant.written in
-    let p = get_or_read_under c.args.vector.now k (length c.args.vector.now) c.index-vector-b.result (int (pos 0)) c.index-vector-b.is (omega arith) refl in
+pub loop-column-preserved : goal.loop-column-preserved
+loop-column-preserved c =
+    let k = c.loop-column.column in
+    let g = c.get.ensures ∙ unwritten_entry c.args.out.now c.loop-column.out c.args.at_row 0 k _ c.loop-column.invariant.written in
+    let p = get_or_read_under c.args.vector.now k (length c.args.vector.now) c.index-vector-column.result (int (pos 0)) c.index-vector-column.is (omega arith) refl in
     record {
-      written = writes_entry_as c.args.out.now c.loop-b.out c.set.new.self c.args.i 0 k (k + 1) c.in_ok-difference.difference _ c.set.ensures (omega arith) c.requires.row (omega arith) (omega arith)
-          (difference_is c.get.result c.index-vector-b.result c.in_ok-difference.difference _ _ g p c.in_ok-difference.ensures.value) c.loop-b.invariant.written;
-      fits = all_entry_as c.args.i 0 k (k + 1) _ (omega arith) (fits_difference_as c.get.result c.index-vector-b.result _ _ g p c.in_ok-difference.ensures.wide) c.loop-b.invariant.fits;
+      written = writes_entry_as c.args.out.now c.loop-column.out c.set.new.self c.args.at_row 0 k (k + 1) c.in_ok-difference.difference _ c.set.ensures (omega arith) c.requires.row (omega arith) (omega arith)
+          (difference_is c.get.result c.index-vector-column.result c.in_ok-difference.difference _ _ g p c.in_ok-difference.ensures.value) c.loop-column.invariant.written;
+      fits = all_entry_as c.args.at_row 0 k (k + 1) _ (omega arith) (fits_difference_as c.get.result c.index-vector-column.result _ _ g p c.in_ok-difference.ensures.wide) c.loop-column.invariant.fits;
     }
 
 pub returns-in_err-difference-clause-wide : goal.returns-in_err-difference-clause-wide
 returns-in_err-difference-clause-wide c =
-    let k = c.loop-b.b in
-    let g = c.get.ensures ∙ unwritten_entry c.args.out.now c.loop-b.out c.args.i 0 k _ c.loop-b.invariant.written in
-    let p = get_or_read_under c.args.vector.now k (length c.args.vector.now) c.index-vector-b.result (int (pos 0)) c.index-vector-b.is (omega arith) refl in
+    let k = c.loop-column.column in
+    let g = c.get.ensures ∙ unwritten_entry c.args.out.now c.loop-column.out c.args.at_row 0 k _ c.loop-column.invariant.written in
+    let p = get_or_read_under c.args.vector.now k (length c.args.vector.now) c.index-vector-column.result (int (pos 0)) c.index-vector-column.is (omega arith) refl in
     MatchResult-from_err c.from_residual.result _ _ (search rules)
-    (λ _. not_entry c.args.i 0 (length c.args.vector.now) k (λ a b. FitsSum (entry c.args.out.now a b) (neg_ℚ (coordinate c.args.vector.now b))) (omega arith) (omega arith)
-    (λ h. c.in_err-difference.ensures.wide (fits_difference_as _ _ c.get.result c.index-vector-b.result (sym g) (sym p) h)))
+    (λ _. not_entry c.args.at_row 0 (length c.args.vector.now) k (λ a b. FitsSum (entry c.args.out.now a b) (neg_ℚ (coordinate c.args.vector.now b))) (omega arith) (omega arith)
+    (λ h. c.in_err-difference.ensures.wide (fits_difference_as _ _ c.get.result c.index-vector-column.result (sym g) (sym p) h)))

@@ -4,8 +4,8 @@ use Rattle.mpc_linear.specs.Dot.{DotFits}
 use Rattle.mpc_condense.specs.Blocks.{row_at, WritesBlock, AllInBlock}
 use Rattle.mpc_condense.proofs.blocks.write_dots.Given as goal
 
-abbrev pub invariant-loop-b : goal.invariant-loop-b
-invariant-loop-b l = record {
-  written : WritesBlock l.fn.out l.out l.i (l.i + 1) 0 l.b (λ _ b. dot (row_at l.m b) l.vector);
-  fits : AllInBlock l.i (l.i + 1) 0 l.b (λ _ b. DotFits (row_at l.m b) l.vector);
+abbrev pub invariant-loop-column : goal.invariant-loop-column
+invariant-loop-column l = record {
+  written : WritesBlock l.fn.out l.out l.at_row (l.at_row + 1) 0 l.column (λ _ b. dot (row_at l.matrix b) l.vector);
+  fits : AllInBlock l.at_row (l.at_row + 1) 0 l.column (λ _ b. DotFits (row_at l.matrix b) l.vector);
 }

@@ -3,8 +3,8 @@ use Rattle.mpc_condense.proofs.costs.distance_of.Goals as goal
 
 pub returns-clause-distance : goal.returns-clause-distance
 returns-clause-distance c =
-    is_distance c.args.plant.now c.args.k c.args.motion.now.x c.args.motion.now.z c.in_ok-x.x c.as_slice.result.now c.requires.motion c.in_ok-x.ensures c.as_slice.ensures
-    c.take_from_row.new.out c.in_ok-z.z c.in_ok-z.ensures c.in_ok-take_from_row.ensures.ok
+    is_distance c.args.plant.now c.args.step c.args.motion.now.x c.args.motion.now.z c.in_ok-from_counts.from_counts c.as_slice.result.now c.requires.motion c.in_ok-from_counts.ensures c.as_slice.ensures
+    c.take_from_row.new.out c.in_ok-from_moves.from_moves c.in_ok-from_moves.ensures c.in_ok-take_from_row.ensures.ok
 
 pub returns-clause-wide : goal.returns-clause-wide
-returns-clause-wide c = distance_fits c.args.plant.now c.args.k c.args.motion.now.x c.args.motion.now.z c.in_ok-x.x c.as_slice.result.now c.requires.motion c.in_ok-x.ensures c.as_slice.ensures c.in_ok-take_from_row.ensures.wide
+returns-clause-wide c = distance_fits c.args.plant.now c.args.step c.args.motion.now.x c.args.motion.now.z c.in_ok-from_counts.from_counts c.as_slice.result.now c.requires.motion c.in_ok-from_counts.ensures c.as_slice.ensures c.in_ok-take_from_row.ensures.wide

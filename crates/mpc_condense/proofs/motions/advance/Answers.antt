@@ -7,19 +7,19 @@ use Rattle.mpc_condense.proofs.motions.advance.Goals as goal
 
 pub returns-clause-next : goal.returns-clause-next
 returns-clause-next c =
-    next_motion c.args.plant.now c.args.k c.args.motion.now.x c.args.motion.now.z c.add_to_row.new.out c.write_columns.new.out c.in_ok-x.x c.in_ok-z.z c.as_slice.result.now
-    c.requires.motion c.as_slice.ensures c.in_ok-x.ensures.ok c.in_ok-add_to_row.ensures.ok c.in_ok-z.ensures.ok c.write_columns.ensures
+    next_motion c.args.plant.now c.args.step c.args.motion.now.x c.args.motion.now.z c.add_to_row.new.out c.write_columns.new.out c.in_ok-from_counts.from_counts c.in_ok-from_moves.from_moves c.as_slice.result.now
+    c.requires.motion c.as_slice.ensures c.in_ok-from_counts.ensures.ok c.in_ok-add_to_row.ensures.ok c.in_ok-from_moves.ensures.ok c.write_columns.ensures
 
 pub returns-clause-wide : goal.returns-clause-wide
 returns-clause-wide c =
     let plant = c.args.plant.now in
-    state_fits plant c.args.k c.args.motion.now.x c.args.motion.now.z c.in_ok-x.x c.as_slice.result.now c.requires.motion c.as_slice.ensures c.in_ok-x.ensures.ok
-    (dots_fit plant (motion plant c.args.k) c.args.k plant.a c.args.motion.now.x c.args.motion.now.z plant.is_plant.a_shape.rows_are c.requires.motion (products_within plant.p c.args.k plant.horizon (omega arith)) c.in_ok-x.ensures.wide c.in_ok-z.ensures.wide)
+    state_fits plant c.args.step c.args.motion.now.x c.args.motion.now.z c.in_ok-from_counts.from_counts c.as_slice.result.now c.requires.motion c.as_slice.ensures c.in_ok-from_counts.ensures.ok
+    (dots_fit plant (motion plant c.args.step) c.args.step plant.a c.args.motion.now.x c.args.motion.now.z plant.is_plant.a_shape.rows_are c.requires.motion (products_within plant.p c.args.step plant.horizon (omega arith)) c.in_ok-from_counts.ensures.wide c.in_ok-from_moves.ensures.wide)
     c.in_ok-add_to_row.ensures.wide
 
 pub returns-in_err-add_to_row-clause-wide : goal.returns-in_err-add_to_row-clause-wide
 returns-in_err-add_to_row-clause-wide c =
     let plant = c.args.plant.now in
     MatchResult-from_err c.from_residual-in_err-add_to_row.result _ _ (search rules)
-    (λ e. if_too_wide e (¬ StateFits plant c.args.k)
-    (λ q. c.in_err-add_to_row.ensures.wide (drift_fits plant c.args.k c.args.motion.now.x c.args.motion.now.z c.in_ok-x.x c.as_slice.result.now c.requires.motion c.as_slice.ensures c.in_ok-x.ensures.ok q)))
+    (λ e. if_too_wide e (¬ StateFits plant c.args.step)
+    (λ q. c.in_err-add_to_row.ensures.wide (drift_fits plant c.args.step c.args.motion.now.x c.args.motion.now.z c.in_ok-from_counts.from_counts c.as_slice.result.now c.requires.motion c.as_slice.ensures c.in_ok-from_counts.ensures.ok q)))

@@ -1,5 +1,5 @@
 use Rattle.mpc_condense.proofs.Advance.{StartsSome}
 use Rattle.mpc_condense.proofs.motions.start.Given as goal
 
-abbrev pub invariant-loop-i : goal.invariant-loop-i
-invariant-loop-i l = StartsSome l.plant l.x l.i
+abbrev pub invariant-loop-column : goal.invariant-loop-column
+invariant-loop-column l = StartsSome l.plant l.from_counts l.column
