@@ -20,13 +20,13 @@ pub enum Formed {
     Wide,
 }
 
-/// Row i of the law, counted from 0.
-fn form_row(alloc: Global, qp: &Qp, law: &Law, i: u32) -> Result<Formed, NoMemory>
+/// The row of the law at this place, counted from 0.
+fn form_row(alloc: Global, qp: &Qp, law: &Law, at_row: u32) -> Result<Formed, NoMemory>
     requires shape { HasLawShape qp.now law.now }
-    requires row { i < height qp.now.g }
-    ensures { IfOk result (IsFormed qp.now law.now i) }
+    requires row { at_row < height qp.now.g }
+    ensures { IfOk result (IsFormed qp.now law.now at_row) }
 {
-    match law_row(alloc, qp, law, i + 1) {
+    match law_row(alloc, qp, law, at_row + 1) {
         Ok(row) => Ok(Formed::Row(row)),
         Err(LinearError::Wide(_)) => Ok(Formed::Wide),
         Err(LinearError::NoMemory) => Err(NoMemory),
@@ -40,8 +40,8 @@ pub fn form_rows(alloc: Global, qp: &Qp, law: &Law) -> Result<Vec<Formed>, NoMem
     ensures one_each { IfOk result (λ v. vec_len v ≡ height qp.now.g) }
 {
     let mut rows = Vec::new(alloc);
-    for i in 0..qp.g.rows() {
-        let row = form_row(alloc, qp, law, i)?;
+    for at_row in 0..qp.g.rows() {
+        let row = form_row(alloc, qp, law, at_row)?;
         rows.push(row).map_err(|_| NoMemory)?;
     }
     Ok(rows)
@@ -88,8 +88,8 @@ pub fn form_borders(
 {
     let named = named_laws(alloc, laws.len(), tree)?;
     let mut borders = Vec::new(alloc);
-    for k in 0..laws.len() {
-        let rows = rows_where(alloc, qp, laws.at(k), named[k])?;
+    for place in 0..laws.len() {
+        let rows = rows_where(alloc, qp, laws.at(place), named[place])?;
         borders.push(rows).map_err(|_| NoMemory)?;
     }
     Ok(borders)

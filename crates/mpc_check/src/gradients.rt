@@ -19,19 +19,29 @@ use mpc_linear::{Matrix, add_product, sum_theorems};
 use mpc_rows::{Law, LawTable, Place, Qp, law_theorems};
 use std::alloc::Global;
 
-/// `start` plus the products of row r of m with column c of the moves.
-fn add_moves(start: &Frac, m: &Matrix, r: u32, moves: &Matrix, c: u32) -> Result<Frac, Wide>
-    requires row { r < height m.now }
-    requires size { m.now.columns ≡ height moves.now }
-    requires column { c < moves.now.columns }
-    ensures value { IfOk result (λ v. v ≡ start.now +ℚ dot (slice_index_or m.now.rows r []) (column moves.now.rows c)) }
-    ensures wide { MatchResult result (λ _. SumFits start.now (slice_index_or m.now.rows r []) (column moves.now.rows c))
-        (λ _. ¬ SumFits start.now (slice_index_or m.now.rows r []) (column moves.now.rows c)) }
+/// `start` plus the products of a row of the matrix with a column of the moves.
+fn add_moves(
+    start: &Frac,
+    matrix: &Matrix,
+    at_row: u32,
+    moves: &Matrix,
+    at_column: u32,
+) -> Result<Frac, Wide>
+    requires row { at_row < height matrix.now }
+    requires size { matrix.now.columns ≡ height moves.now }
+    requires column { at_column < moves.now.columns }
+    ensures value { IfOk result (λ v. v ≡ start.now +ℚ dot (slice_index_or matrix.now.rows at_row []) (column moves.now.rows at_column)) }
+    ensures wide { MatchResult result (λ _. SumFits start.now (slice_index_or matrix.now.rows at_row []) (column moves.now.rows at_column))
+        (λ _. ¬ SumFits start.now (slice_index_or matrix.now.rows at_row []) (column moves.now.rows at_column)) }
 {
     sum_theorems();
     let mut sum = *start;
-    for k in 0..m.cols() {
-        match add_product(&sum, &m.get(r, k), &moves.get(k, c)) {
+    for place in 0..matrix.cols() {
+        match add_product(
+            &sum,
+            &matrix.get(at_row, place),
+            &moves.get(place, at_column),
+        ) {
             Ok(next) => sum = next,
             Err(wide) => return Err(wide),
         }
@@ -39,21 +49,21 @@ fn add_moves(start: &Frac, m: &Matrix, r: u32, moves: &Matrix, c: u32) -> Result
     Ok(sum)
 }
 
-/// `start` plus the products of column r of the members' rows with column c of the multipliers.
-fn add_mults(start: &Frac, qp: &Qp, law: &Law, r: u32, c: u32) -> Result<Frac, Wide>
+/// `start` plus the products of the column of the members' rows for this line with a column of the multipliers.
+fn add_mults(start: &Frac, qp: &Qp, law: &Law, line: u32, at_column: u32) -> Result<Frac, Wide>
     requires shape { HasLawShape qp.now law.now }
-    requires line { r < height qp.now.h }
-    requires column { c < length qp.now.counts + 1 }
-    ensures value { IfOk result (λ v. v ≡ start.now +ℚ dot (column (rows_of qp.now.g.rows law.now.set) r) (column law.now.mults.rows c)) }
-    ensures wide { MatchResult result (λ _. SumFits start.now (column (rows_of qp.now.g.rows law.now.set) r) (column law.now.mults.rows c))
-        (λ _. ¬ SumFits start.now (column (rows_of qp.now.g.rows law.now.set) r) (column law.now.mults.rows c)) }
+    requires line { line < height qp.now.h }
+    requires column { at_column < length qp.now.counts + 1 }
+    ensures value { IfOk result (λ v. v ≡ start.now +ℚ dot (column (rows_of qp.now.g.rows law.now.set) line) (column law.now.mults.rows at_column)) }
+    ensures wide { MatchResult result (λ _. SumFits start.now (column (rows_of qp.now.g.rows law.now.set) line) (column law.now.mults.rows at_column))
+        (λ _. ¬ SumFits start.now (column (rows_of qp.now.g.rows law.now.set) line) (column law.now.mults.rows at_column)) }
 {
     sum_theorems();
     law_theorems();
     let mut sum = *start;
-    for k in 0..law.set.size() {
-        let row = law.set.member(k + 1) - 1;
-        match add_product(&sum, &qp.g.get(row, r), &law.mults.get(k, c)) {
+    for place in 0..law.set.size() {
+        let row = law.set.member(place + 1) - 1;
+        match add_product(&sum, &qp.g.get(row, line), &law.mults.get(place, at_column)) {
             Ok(next) => sum = next,
             Err(wide) => return Err(wide),
         }
@@ -61,16 +71,22 @@ fn add_mults(start: &Frac, qp: &Qp, law: &Law, r: u32, c: u32) -> Result<Frac, W
     Ok(sum)
 }
 
-/// The coefficient on the extended count c in line r of `h z + f c + g'l`, both counted from 0.
-fn gradient(qp: &Qp, law: &Law, r: u32, c: u32) -> Result<Frac, Wide>
+/// The coefficient on an extended count in a line of `h z + f c + g'l`, both counted from 0.
+fn gradient(qp: &Qp, law: &Law, line: u32, at_column: u32) -> Result<Frac, Wide>
     requires shape { HasLawShape qp.now law.now }
-    requires line { r < height qp.now.h }
-    requires column { c < length qp.now.counts + 1 }
-    ensures value { IfOk result (λ v. v ≡ gradient_at qp.now law.now r c) }
-    ensures wide { MatchResult result (λ _. GradientFits qp.now law.now r c) (λ _. ¬ GradientFits qp.now law.now r c) }
+    requires line { line < height qp.now.h }
+    requires column { at_column < length qp.now.counts + 1 }
+    ensures value { IfOk result (λ v. v ≡ gradient_at qp.now law.now line at_column) }
+    ensures wide { MatchResult result (λ _. GradientFits qp.now law.now line at_column) (λ _. ¬ GradientFits qp.now law.now line at_column) }
 {
-    let moved = add_moves(&qp.f.get(r, c), &qp.h, r, &law.moves, c)?;
-    add_mults(&moved, qp, law, r, c)
+    let moved = add_moves(
+        &qp.f.get(line, at_column),
+        &qp.h,
+        line,
+        &law.moves,
+        at_column,
+    )?;
+    add_mults(&moved, qp, law, line, at_column)
 }
 
 /// What is found of one coefficient of the gradient.
@@ -78,15 +94,15 @@ fn search_coefficient(
     qp: &Qp,
     number: u32,
     law: &Law,
-    r: u32,
-    c: u32,
+    line: u32,
+    at_column: u32,
 ) -> Result<Option<Spot>, CheckError>
     requires shape { HasLawShape qp.now law.now }
-    requires line { r < height qp.now.h }
-    requires column { c < length qp.now.counts + 1 }
-    ensures { IsSearched (StationaryMet qp.now law.now r c) (StationaryFinds qp.now number law.now r c) result }
+    requires line { line < height qp.now.h }
+    requires column { at_column < length qp.now.counts + 1 }
+    ensures { IsSearched (StationaryMet qp.now law.now line at_column) (StationaryFinds qp.now number law.now line at_column) result }
 {
-    let Ok(sum) = gradient(qp, law, r, c) else {
+    let Ok(sum) = gradient(qp, law, line, at_column) else {
         return Err(CheckError::TooWide(Place::CheckLaw(number)));
     };
     if sum.is_zero() {
@@ -94,18 +110,18 @@ fn search_coefficient(
     }
     Ok(Some(Spot::Stationary {
         law: number,
-        line: r + 1,
+        line: line + 1,
     }))
 }
 
 /// What is found of a line of the gradient, coefficient by coefficient.
-fn search_line(qp: &Qp, number: u32, law: &Law, r: u32) -> Result<Option<Spot>, CheckError>
+fn search_line(qp: &Qp, number: u32, law: &Law, line: u32) -> Result<Option<Spot>, CheckError>
     requires shape { HasLawShape qp.now law.now }
-    requires line { r < height qp.now.h }
-    ensures { IsSearched (LineMet qp.now law.now r) (LineFinds qp.now number law.now r) result }
+    requires line { line < height qp.now.h }
+    ensures { IsSearched (LineMet qp.now law.now line) (LineFinds qp.now number law.now line) result }
 {
-    for c in 0..qp.f.cols() {
-        match search_coefficient(qp, number, law, r, c) {
+    for at_column in 0..qp.f.cols() {
+        match search_coefficient(qp, number, law, line, at_column) {
             Ok(None) => {}
             found => return found,
         }
@@ -118,8 +134,8 @@ fn search_lines(qp: &Qp, number: u32, law: &Law) -> Result<Option<Spot>, CheckEr
     requires { HasLawShape qp.now law.now }
     ensures { IsSearched (LinesMet qp.now law.now) (LinesFind qp.now number law.now) result }
 {
-    for r in 0..qp.h.rows() {
-        match search_line(qp, number, law, r) {
+    for line in 0..qp.h.rows() {
+        match search_line(qp, number, law, line) {
             Ok(None) => {}
             found => return found,
         }
@@ -128,47 +144,47 @@ fn search_lines(qp: &Qp, number: u32, law: &Law) -> Result<Option<Spot>, CheckEr
 }
 
 /// Whether the two numbers are equal.
-fn are_equal(x: &Frac, y: &Frac) -> bool
-    ensures { IsTrue result ↔ (x.now ≡ y.now) }
+fn are_equal(left: &Frac, right: &Frac) -> bool
+    ensures { IsTrue result ↔ (left.now ≡ right.now) }
 {
-    *x == *y
+    *left == *right
 }
 
-/// What is found of one coefficient of row i, counted from 1, which is to hold with equality.
+/// What is found of one coefficient of a member's row, counted from 1, which is to hold with equality.
 fn search_equality(
     qp: &Qp,
     number: u32,
     law: &Law,
-    i: u32,
-    c: u32,
+    member: u32,
+    at_column: u32,
 ) -> Result<Option<Spot>, CheckError>
     requires shape { HasLawShape qp.now law.now }
-    requires from_one { 1 ≤ i }
-    requires to_last { i ≤ height qp.now.g }
-    requires column { c < length qp.now.counts + 1 }
-    ensures { IsSearched (ActiveMet qp.now law.now i c) (ActiveFinds qp.now number law.now i c) result }
+    requires from_one { 1 ≤ member }
+    requires to_last { member ≤ height qp.now.g }
+    requires column { at_column < length qp.now.counts + 1 }
+    ensures { IsSearched (ActiveMet qp.now law.now member at_column) (ActiveFinds qp.now number law.now member at_column) result }
 {
-    let Ok(value) = add_moves(&Frac::whole(0), &qp.g, i - 1, &law.moves, c) else {
+    let Ok(value) = add_moves(&Frac::whole(0), &qp.g, member - 1, &law.moves, at_column) else {
         return Err(CheckError::TooWide(Place::CheckLaw(number)));
     };
-    if are_equal(&value, &qp.w.get(i - 1, c)) {
+    if are_equal(&value, &qp.w.get(member - 1, at_column)) {
         return Ok(None);
     }
     Ok(Some(Spot::Active {
         law: number,
-        row: i,
+        row: member,
     }))
 }
 
-/// What is found of row i, coefficient by coefficient.
-fn search_row(qp: &Qp, number: u32, law: &Law, i: u32) -> Result<Option<Spot>, CheckError>
+/// What is found of a member's row, coefficient by coefficient.
+fn search_row(qp: &Qp, number: u32, law: &Law, member: u32) -> Result<Option<Spot>, CheckError>
     requires shape { HasLawShape qp.now law.now }
-    requires from_one { 1 ≤ i }
-    requires to_last { i ≤ height qp.now.g }
-    ensures { IsSearched (RowMet qp.now law.now i) (RowFinds qp.now number law.now i) result }
+    requires from_one { 1 ≤ member }
+    requires to_last { member ≤ height qp.now.g }
+    ensures { IsSearched (RowMet qp.now law.now member) (RowFinds qp.now number law.now member) result }
 {
-    for c in 0..qp.w.cols() {
-        match search_equality(qp, number, law, i, c) {
+    for at_column in 0..qp.w.cols() {
+        match search_equality(qp, number, law, member, at_column) {
             Ok(None) => {}
             found => return found,
         }
@@ -181,8 +197,8 @@ fn search_members(qp: &Qp, number: u32, law: &Law) -> Result<Option<Spot>, Check
     requires { HasLawShape qp.now law.now }
     ensures { IsSearched (MembersMet qp.now law.now) (MembersFind qp.now number law.now) result }
 {
-    for k in 0..law.set.size() {
-        match search_row(qp, number, law, law.set.member(k + 1)) {
+    for place in 0..law.set.size() {
+        match search_row(qp, number, law, law.set.member(place + 1)) {
             Ok(None) => {}
             found => return found,
         }
@@ -234,8 +250,8 @@ fn search_each(
     requires shapes { All (HasLawShape qp.now) laws.now }
     ensures { IsSearched (LawsMet qp.now laws.now) (LawsFind qp.now laws.now) result }
 {
-    for j in 0..laws.len() {
-        match search_law(qp, program, j as u32 + 1, laws.at(j)) {
+    for place in 0..laws.len() {
+        match search_law(qp, program, place as u32 + 1, laws.at(place)) {
             Ok(None) => {}
             found => return found,
         }

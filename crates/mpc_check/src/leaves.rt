@@ -23,7 +23,7 @@ use mpc_rows::{Cert, Certs, LawTable, Node, Place, Qp, law_theorems};
 use mpc_systems::{cell_theorems, joint_rows};
 use std::alloc::Global;
 
-/// Whether row i of the leaf's law, counted from 0, has a certificate that it holds on the leaf's cell.
+/// Whether a row of the leaf's law, counted from 0, has a certificate that it holds on the leaf's cell.
 fn is_row_refuted(
     alloc: Global,
     qp: &Qp,
@@ -31,26 +31,26 @@ fn is_row_refuted(
     formed: &Formed,
     certs: &Certs,
     number: u64,
-    i: u32,
+    at_row: u32,
 ) -> Result<bool, CheckError>
-    requires row { i < height qp.now.g }
+    requires row { at_row < height qp.now.g }
     requires size { IsFormedOfSize (length qp.now.counts) formed.now }
     requires way { All (IsTurn cell.now.tree.now) cell.now.way.now }
     requires splits { All (HasSplitRow (length qp.now.counts)) cell.now.tree.now }
-    ensures { (law : Law) → IsFormed qp.now law i formed.now
-        → IsDecided (RowFits qp.now (way_rows cell.now.tree.now cell.now.way.now) law certs.now i)
-        (RowHolds qp.now (way_rows cell.now.tree.now cell.now.way.now) law certs.now i) (CheckLeaf number (i + 1)) result }
+    ensures { (law : Law) → IsFormed qp.now law at_row formed.now
+        → IsDecided (RowFits qp.now (way_rows cell.now.tree.now cell.now.way.now) law certs.now at_row)
+        (RowHolds qp.now (way_rows cell.now.tree.now cell.now.way.now) law certs.now at_row) (CheckLeaf number (at_row + 1)) result }
 {
     law_theorems();
-    let place = Place::CheckLeaf(number, i + 1);
+    let place = Place::CheckLeaf(number, at_row + 1);
     let row = match formed {
         Formed::Row(row) => row,
         Formed::Wide => return Err(CheckError::TooWide(place)),
     };
-    if i as usize >= certs.len() {
+    if at_row as usize >= certs.len() {
         return Ok(false);
     }
-    is_broken_refuted(alloc, qp, cell, row, certs.at(i as usize), place)
+    is_broken_refuted(alloc, qp, cell, row, certs.at(at_row as usize), place)
 }
 
 /// What is found of a leaf with the law of these rows, row by row.
@@ -70,13 +70,21 @@ fn search_law_leaf(
         → IsSearched (LawLeafMet qp.now (way_rows cell.now.tree.now cell.now.way.now) law certs.now)
         (LawLeafFinds qp.now (way_rows cell.now.tree.now cell.now.way.now) number law certs.now) result }
 {
-    for i in 0..qp.g.rows() {
-        match is_row_refuted(alloc, qp, cell, &rows[i as usize], certs, number, i) {
+    for at_row in 0..qp.g.rows() {
+        match is_row_refuted(
+            alloc,
+            qp,
+            cell,
+            &rows[at_row as usize],
+            certs,
+            number,
+            at_row,
+        ) {
             Ok(true) => {}
             Ok(false) => {
                 return Ok(Some(Spot::LeafRow {
                     node: number,
-                    row: i + 1,
+                    row: at_row + 1,
                 }));
             }
             Err(error) => return Err(error),

@@ -70,13 +70,13 @@ fn search_stretch(
     ensures { IsSearched (StretchMet qp.now laws.now tree.now stretch.from stretch.to) (StretchFinds qp.now laws.now tree.now stretch.from stretch.to) result }
 {
     let mut way = way_to(alloc, tree, stretch.from)?;
-    for k in stretch.from..stretch.to {
-        match search_place(alloc, qp, laws, borders, tree, way.as_slice(), k) {
+    for place in stretch.from..stretch.to {
+        match search_place(alloc, qp, laws, borders, tree, way.as_slice(), place) {
             Ok(None) => {}
             Ok(Some(spot)) => return Ok(Some(spot)),
             Err(error) => return Err(error),
         }
-        go_on(&mut way, tree, k)?;
+        go_on(&mut way, tree, place)?;
     }
     Ok(None)
 }

@@ -41,39 +41,45 @@ pub fn whole_program(alloc: Global, qp: &Qp) -> Option<WholeProgram>
     let of_costs = common_of(common_of(1, &qp.h)?, &qp.f)?;
     let of_all = common_of(common_of(of_costs, &qp.g)?, &qp.w)?;
     let den = small_denominator(of_all)?;
-    let h = rows_over(alloc, &qp.h, den, MOST)?;
-    let f = rows_over(alloc, &qp.f, den, MOST)?;
-    let g = rows_over(alloc, &qp.g, den, MOST)?;
-    let w = rows_over(alloc, &qp.w, den, MOST)?;
-    Some(WholeProgram { den, h, f, g, w })
+    let hessian = rows_over(alloc, &qp.h, den, MOST)?;
+    let linear = rows_over(alloc, &qp.f, den, MOST)?;
+    let rows = rows_over(alloc, &qp.g, den, MOST)?;
+    let sides = rows_over(alloc, &qp.w, den, MOST)?;
+    Some(WholeProgram {
+        den,
+        h: hessian,
+        f: linear,
+        g: rows,
+        w: sides,
+    })
 }
 
 /// A column of a law over this denominator, where its numbers are small enough.
-fn law_column(qp: &Qp, law: &Law, c: u32, den: u128) -> Option<LawColumn>
+fn law_column(qp: &Qp, law: &Law, at_column: u32, den: u128) -> Option<LawColumn>
     requires shape { HasLawShape qp.now law.now }
-    requires column { c < length qp.now.counts + 1 }
+    requires column { at_column < length qp.now.counts + 1 }
     requires denom { IsSmallDenom den }
-    ensures { IfSome result (IsColumnOver law.now c) }
+    ensures { IfSome result (IsColumnOver law.now at_column) }
 {
-    let moves = column_over(&law.moves, c, den, MOST)?;
-    let mults = column_over(&law.mults, c, den, MOST)?;
+    let moves = column_over(&law.moves, at_column, den, MOST)?;
+    let mults = column_over(&law.mults, at_column, den, MOST)?;
     Some(LawColumn { den, moves, mults })
 }
 
 // ---- sums
 
-/// Column r of the members' rows.
-fn member_column(qp: &Qp, program: &WholeProgram, law: &Law, r: u32) -> Wholes
+/// The column of the members' rows for this line.
+fn member_column(qp: &Qp, program: &WholeProgram, law: &Law, line: u32) -> Wholes
     requires program { IsProgramOver qp.now program.now }
     requires shape { HasLawShape qp.now law.now }
-    requires line { r < height qp.now.h }
-    ensures { AreOver (column (rows_of qp.now.g.rows law.now.set) r) program.now.den (2 ^ 61) result }
+    requires line { line < height qp.now.h }
+    ensures { AreOver (column (rows_of qp.now.g.rows law.now.set) line) program.now.den (2 ^ 61) result }
 {
     law_theorems();
     let mut numerators = [0; 6];
-    for k in 0..law.set.size() {
-        let row = law.set.member(k + 1) - 1;
-        numerators[k as usize] = program.g[row as usize].numerators[r as usize];
+    for place in 0..law.set.size() {
+        let row = law.set.member(place + 1) - 1;
+        numerators[place as usize] = program.g[row as usize].numerators[line as usize];
     }
     Wholes {
         numerators,
@@ -84,36 +90,39 @@ fn member_column(qp: &Qp, program: &WholeProgram, law: &Law, r: u32) -> Wholes
 
 /// The product of two of the numbers.
 #[inline]
-fn product(x: i128, y: u128) -> i128
-    requires x_small { unsigned_abs x ≤ 2 ^ 61 }
-    requires y_small { y ≤ 2 ^ 61 }
-    ensures value { result ≡ x *ℤ pos y }
+fn product(left: i128, right: u128) -> i128
+    requires x_small { unsigned_abs left ≤ 2 ^ 61 }
+    requires y_small { right ≤ 2 ^ 61 }
+    ensures value { result ≡ left *ℤ pos right }
     ensures small { unsigned_abs result ≤ 2 ^ 122 }
 {
-    short_product(x, y as i128)
+    short_product(left, right as i128)
 }
 
-/// The numerator of the coefficient on the extended count c in line r of `h z + f c + g'l`, over the product of the denominators.
+/// The numerator of the coefficient on an extended count in a line of `h z + f c + g'l`, over the product of the denominators.
 fn gradient_over(
     qp: &Qp,
     program: &WholeProgram,
     law: &Law,
     column: &LawColumn,
-    r: u32,
-    c: u32,
+    line: u32,
+    at_column: u32,
 ) -> i128
     requires program { IsProgramOver qp.now program.now }
     requires shape { HasLawShape qp.now law.now }
-    requires coefficients { IsColumnOver law.now c column.now }
-    requires line { r < height qp.now.h }
-    requires column { c < length qp.now.counts + 1 }
-    ensures value { gradient_at qp.now law.now r c ≡ frac result (program.now.den * column.now.den) }
-    ensures fits { GradientFits qp.now law.now r c }
+    requires coefficients { IsColumnOver law.now at_column column.now }
+    requires line { line < height qp.now.h }
+    requires column { at_column < length qp.now.counts + 1 }
+    ensures value { gradient_at qp.now law.now line at_column ≡ frac result (program.now.den * column.now.den) }
+    ensures fits { GradientFits qp.now law.now line at_column }
 {
-    let start = product(program.f[r as usize].numerators[c as usize], column.den);
+    let start = product(
+        program.f[line as usize].numerators[at_column as usize],
+        column.den,
+    );
     let count = qp.h.rows() as usize;
-    let moved = dot_from(start, &program.h[r as usize], &column.moves, count);
-    let members = member_column(qp, program, law, r);
+    let moved = dot_from(start, &program.h[line as usize], &column.moves, count);
+    let members = member_column(qp, program, law, line);
     dot_from(moved, &members, &column.mults, law.set.size() as usize)
 }
 
@@ -123,54 +132,67 @@ fn is_stationary(
     program: &WholeProgram,
     law: &Law,
     column: &LawColumn,
-    r: u32,
-    c: u32,
+    line: u32,
+    at_column: u32,
 ) -> bool
     requires program { IsProgramOver qp.now program.now }
     requires shape { HasLawShape qp.now law.now }
-    requires coefficients { IsColumnOver law.now c column.now }
-    requires line { r < height qp.now.h }
-    requires column { c < length qp.now.counts + 1 }
-    ensures { IsTrue result → StationaryMet qp.now law.now r c }
+    requires coefficients { IsColumnOver law.now at_column column.now }
+    requires line { line < height qp.now.h }
+    requires column { at_column < length qp.now.counts + 1 }
+    ensures { IsTrue result → StationaryMet qp.now law.now line at_column }
 {
-    are_same(gradient_over(qp, program, law, column, r, c), 0)
+    are_same(gradient_over(qp, program, law, column, line, at_column), 0)
 }
 
 /// Whether the numbers are equal.
-fn are_same(x: i128, y: i128) -> bool
-    ensures { IsTrue result ↔ (x ≡ y) }
+fn are_same(left: i128, right: i128) -> bool
+    ensures { IsTrue result ↔ (left ≡ right) }
 {
-    x == y
+    left == right
 }
 
-/// Whether the coefficient on the extended count c of row i, counted from 1, is seen to hold with equality.
-fn is_active(qp: &Qp, program: &WholeProgram, law: &Law, column: &LawColumn, i: u32, c: u32) -> bool
+/// Whether the coefficient on an extended count in a member's row, counted from 1, is seen to hold with equality.
+fn is_active(
+    qp: &Qp,
+    program: &WholeProgram,
+    law: &Law,
+    column: &LawColumn,
+    member: u32,
+    at_column: u32,
+) -> bool
     requires program { IsProgramOver qp.now program.now }
     requires shape { HasLawShape qp.now law.now }
-    requires coefficients { IsColumnOver law.now c column.now }
-    requires from_one { 1 ≤ i }
-    requires to_last { i ≤ height qp.now.g }
-    requires column { c < length qp.now.counts + 1 }
-    ensures { IsTrue result → ActiveMet qp.now law.now i c }
+    requires coefficients { IsColumnOver law.now at_column column.now }
+    requires from_one { 1 ≤ member }
+    requires to_last { member ≤ height qp.now.g }
+    requires column { at_column < length qp.now.counts + 1 }
+    ensures { IsTrue result → ActiveMet qp.now law.now member at_column }
 {
-    let row = i as usize - 1;
-    let side = product(program.w[row].numerators[c as usize], column.den);
+    let row = member as usize - 1;
+    let side = product(program.w[row].numerators[at_column as usize], column.den);
     let total = dot_from(0, &program.g[row], &column.moves, qp.h.rows() as usize);
     are_same(total, side)
 }
 
 // ---- conditions
 
-/// Whether the coefficients on the extended count c are seen to be 0 in all lines.
-fn are_stationary(qp: &Qp, program: &WholeProgram, law: &Law, column: &LawColumn, c: u32) -> bool
+/// Whether the coefficients on an extended count are seen to be 0 in all lines.
+fn are_stationary(
+    qp: &Qp,
+    program: &WholeProgram,
+    law: &Law,
+    column: &LawColumn,
+    at_column: u32,
+) -> bool
     requires program { IsProgramOver qp.now program.now }
     requires shape { HasLawShape qp.now law.now }
-    requires coefficients { IsColumnOver law.now c column.now }
-    requires column { c < length qp.now.counts + 1 }
-    ensures { IsTrue result → Each (λ r. StationaryMet qp.now law.now r c) (height qp.now.h) }
+    requires coefficients { IsColumnOver law.now at_column column.now }
+    requires column { at_column < length qp.now.counts + 1 }
+    ensures { IsTrue result → Each (λ r. StationaryMet qp.now law.now r at_column) (height qp.now.h) }
 {
-    for r in 0..qp.h.rows() {
-        if !is_stationary(qp, program, law, column, r, c) {
+    for line in 0..qp.h.rows() {
+        if !is_stationary(qp, program, law, column, line, at_column) {
             return false;
         }
     }
@@ -178,36 +200,49 @@ fn are_stationary(qp: &Qp, program: &WholeProgram, law: &Law, column: &LawColumn
 }
 
 /// Whether those of all members' rows are seen to hold with equality.
-fn are_active(qp: &Qp, program: &WholeProgram, law: &Law, column: &LawColumn, c: u32) -> bool
+fn are_active(
+    qp: &Qp,
+    program: &WholeProgram,
+    law: &Law,
+    column: &LawColumn,
+    at_column: u32,
+) -> bool
     requires program { IsProgramOver qp.now program.now }
     requires shape { HasLawShape qp.now law.now }
-    requires coefficients { IsColumnOver law.now c column.now }
-    requires column { c < length qp.now.counts + 1 }
-    ensures { IsTrue result → Each (λ k. ActiveMet qp.now law.now (slice_index law.now.set k) c) (length law.now.set) }
+    requires coefficients { IsColumnOver law.now at_column column.now }
+    requires column { at_column < length qp.now.counts + 1 }
+    ensures { IsTrue result → Each (λ k. ActiveMet qp.now law.now (slice_index law.now.set k) at_column) (length law.now.set) }
 {
-    for k in 0..law.set.size() {
-        if !is_active(qp, program, law, column, law.set.member(k + 1), c) {
+    for place in 0..law.set.size() {
+        if !is_active(
+            qp,
+            program,
+            law,
+            column,
+            law.set.member(place + 1),
+            at_column,
+        ) {
             return false;
         }
     }
     true
 }
 
-/// Whether the conditions on the coefficients on the extended count c are seen to be met.
-fn is_column_met(qp: &Qp, program: &WholeProgram, law: &Law, c: u32, den: u128) -> bool
+/// Whether the conditions on the coefficients on an extended count are seen to be met.
+fn is_column_met(qp: &Qp, program: &WholeProgram, law: &Law, at_column: u32, den: u128) -> bool
     requires program { IsProgramOver qp.now program.now }
     requires shape { HasLawShape qp.now law.now }
-    requires column { c < length qp.now.counts + 1 }
+    requires column { at_column < length qp.now.counts + 1 }
     requires denom { IsSmallDenom den }
-    ensures { IsTrue result → ColumnMet qp.now law.now c }
+    ensures { IsTrue result → ColumnMet qp.now law.now at_column }
 {
-    let Some(column) = law_column(qp, law, c, den) else {
+    let Some(column) = law_column(qp, law, at_column, den) else {
         return false;
     };
-    if !are_stationary(qp, program, law, &column, c) {
+    if !are_stationary(qp, program, law, &column, at_column) {
         return false;
     }
-    are_active(qp, program, law, &column, c)
+    are_active(qp, program, law, &column, at_column)
 }
 
 /// A common multiple of a law's denominators, where it is at most 2^61.
@@ -227,8 +262,8 @@ pub fn is_met_in_wholes(qp: &Qp, program: &WholeProgram, law: &Law) -> bool
     let Some(den) = law_denominator(law) else {
         return false;
     };
-    for c in 0..qp.f.cols() {
-        if !is_column_met(qp, program, law, c, den) {
+    for at_column in 0..qp.f.cols() {
+        if !is_column_met(qp, program, law, at_column, den) {
             return false;
         }
     }

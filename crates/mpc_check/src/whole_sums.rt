@@ -42,20 +42,24 @@ pub(crate) enum Column {
 
 // ---- the numbers of the rows
 
-/// Entry j of the vector that is 0 but for the entry i.
-fn axis_number(i: usize, j: usize, value: i128) -> i128
-    ensures { result ≡ cond (nat_lt i j) (pos 0) (cond (nat_lt j i) (pos 0) value) }
+/// The entry for this unknown of the vector that is 0 but for the entry of this state.
+fn axis_number(state: usize, unknown: usize, value: i128) -> i128
+    ensures { result ≡ cond (nat_lt state unknown) (pos 0) (cond (nat_lt unknown state) (pos 0) value) }
 {
-    if i < j || j < i { 0 } else { value }
+    if state < unknown || unknown < state {
+        0
+    } else {
+        value
+    }
 }
 
-/// The number in a column of the row `value t_i <= side`.
-fn axis_row_number(i: usize, value: i128, side: i128, column: Column) -> i128
+/// The number in a column of the row `value t_i <= side`, where t_i is the count of this state.
+fn axis_row_number(state: usize, value: i128, side: i128, column: Column) -> i128
     ensures { (width : ℕ) → IsColumnOf width column
-        → int result ≡ number_in column (record { a = axis width i (int value); b = int side; strict = false }) }
+        → int result ≡ number_in column (record { a = axis width state (int value); b = int side; strict = false }) }
 {
     match column {
-        Column::Unknown(j) => axis_number(i, j, value),
+        Column::Unknown(unknown) => axis_number(state, unknown, value),
         Column::Sides => side,
     }
 }
@@ -66,11 +70,11 @@ fn box_number(counts: &Counts, place: usize, column: Column) -> i128
     requires column { IsColumnOf (length counts.now) column }
     ensures { int result ≡ number_in column (slice_index_or (box_rows (length counts.now) counts.now) place no_row) }
 {
-    let i = place / 2;
-    if place == i + i {
-        axis_row_number(i, -1, 0, column)
+    let state = place / 2;
+    if place == state + state {
+        axis_row_number(state, -1, 0, column)
     } else {
-        axis_row_number(i, 1, *counts.at(i) as i128, column)
+        axis_row_number(state, 1, *counts.at(state) as i128, column)
     }
 }
 
@@ -82,7 +86,7 @@ fn row_number(row: &RowInt, column: Column) -> i128
     ensures small { unsigned_abs result < 2 ^ 127 }
 {
     match column {
-        Column::Unknown(j) => *row.a.at(j),
+        Column::Unknown(unknown) => *row.a.at(unknown),
         Column::Sides => row.b,
     }
 }
@@ -156,8 +160,8 @@ fn common_denominator(cert: &Cert) -> Option<u128>
 {
     let mut all = 1;
     let entries = cert.as_slice();
-    for i in 0..entries.len() {
-        all = common_multiple(all, denominator(&entries[i].1))?;
+    for at_entry in 0..entries.len() {
+        all = common_multiple(all, denominator(&entries[at_entry].1))?;
     }
     Some(all)
 }
@@ -165,67 +169,67 @@ fn common_denominator(cert: &Cert) -> Option<u128>
 // ---- small numbers
 
 /// The number in 64 bits.
-fn narrow(z: i128) -> i64
-    requires { unsigned_abs z ≤ 2 ^ 62 }
-    ensures { result ≡ z }
+fn narrow(number: i128) -> i64
+    requires { unsigned_abs number ≤ 2 ^ 62 }
+    ensures { result ≡ number }
 {
-    z as i64
+    number as i64
 }
 
 /// The number, where it is at most 2^62 in size.
-fn small(z: i128) -> Option<i64>
-    ensures value { IfSome result (λ s. s ≡ z) }
+fn small(number: i128) -> Option<i64>
+    ensures value { IfSome result (λ s. s ≡ number) }
     ensures small { IfSome result (λ s. unsigned_abs s ≤ 2 ^ 62) }
 {
-    if z.unsigned_abs() <= MOST {
-        Some(narrow(z))
+    if number.unsigned_abs() <= MOST {
+        Some(narrow(number))
     } else {
         None
     }
 }
 
 /// The product, which fits twice the width.
-fn product(x: i64, y: i64) -> i128
-    ensures { result ≡ x *ℤ y }
+fn product(left: i64, right: i64) -> i128
+    ensures { result ≡ left *ℤ right }
 {
-    x as i128 * y as i128
+    left as i128 * right as i128
 }
 
 /// Whether the fraction is below 0.
-fn is_negative(x: &Frac) -> bool
-    ensures { IsTrue result ↔ (x.now <ℚ int (pos 0)) }
+fn is_negative(fraction: &Frac) -> bool
+    ensures { IsTrue result ↔ (fraction.now <ℚ int (pos 0)) }
 {
-    x.sign() < 0
+    fraction.sign() < 0
 }
 
 /// Whether the fraction is above 0.
-fn is_positive(x: &Frac) -> bool
-    ensures { IsTrue result ↔ (int (pos 0) <ℚ x.now) }
+fn is_positive(fraction: &Frac) -> bool
+    ensures { IsTrue result ↔ (int (pos 0) <ℚ fraction.now) }
 {
-    x.sign() > 0
+    fraction.sign() > 0
 }
 
 /// The numerator of a fraction over a multiple of its denominator, where the fraction isn't negative and the numerator at most 2^62.
-fn weight_over(x: &Frac, all: u128) -> Option<i64>
+fn weight_over(fraction: &Frac, all: u128) -> Option<i64>
     requires { IsDenominator all }
-    ensures value { IfSome result (λ w. x.now ≡ frac w all) }
-    ensures nonneg { IfSome result (λ _. IsNonneg x.now) }
+    ensures value { IfSome result (λ w. fraction.now ≡ frac w all) }
+    ensures nonneg { IfSome result (λ _. IsNonneg fraction.now) }
     ensures small { IfSome result (λ w. unsigned_abs w ≤ 2 ^ 62) }
 {
-    if is_negative(x) {
+    if is_negative(fraction) {
         return None;
     }
-    let numerator = numerator_over(x, all)?;
+    let numerator = numerator_over(fraction, all)?;
     small(numerator)
 }
 
 /// The sum, which fits.
-fn sum(x: i128, y: i128) -> i128
-    requires left { unsigned_abs x ≤ 2 ^ 126 }
-    requires right { unsigned_abs y ≤ 2 ^ 125 }
-    ensures { result ≡ x +ℤ y }
+fn sum(left: i128, right: i128) -> i128
+    requires left { unsigned_abs left ≤ 2 ^ 126 }
+    requires right { unsigned_abs right ≤ 2 ^ 125 }
+    ensures { result ≡ left +ℤ right }
 {
-    x + y
+    left + right
 }
 
 /// The sum with one product more, where it is at most 2^126 in size.
@@ -294,10 +298,10 @@ fn column_sum(
     over_theorems();
     let mut total: i128 = 0;
     let entries = cert.as_slice();
-    for i in 0..entries.len() {
-        let place = entries[i].0 as usize - 1;
+    for at_entry in 0..entries.len() {
+        let place = entries[at_entry].0 as usize - 1;
         let number = small(number_at(qp, tree, way, row, place, column))?;
-        let weight = weight_over(&entries[i].1, all)?;
+        let weight = weight_over(&entries[at_entry].1, all)?;
         total = add_term(total, weight, number)?;
     }
     Some(total)
@@ -323,8 +327,8 @@ fn combines_to_zero(
         (λ _. ColumnsFit (picked_system (hold_system qp.now (way_rows tree.now way.now) row.now) cert.now) (weights cert.now)) }
 {
     let mut zero = true;
-    for j in 0..qp.counts.len() {
-        let sum = column_sum(qp, tree, way, row, cert, all, Column::Unknown(j))?;
+    for unknown in 0..qp.counts.len() {
+        let sum = column_sum(qp, tree, way, row, cert, all, Column::Unknown(unknown))?;
         zero = stays_zero(zero, sum);
     }
     Some(zero)
@@ -347,9 +351,9 @@ fn weighs_strict(qp: &Qp, tree: &Tree, way: &[Turn], row: &RowInt, cert: &Cert) 
         ↔ WeighsStrict (picked_rows (hold_system qp.now (way_rows tree.now way.now) row.now).rows cert.now) (weights cert.now) }
 {
     let entries = cert.as_slice();
-    for i in 0..entries.len() {
-        let place = entries[i].0 as usize - 1;
-        if counts_as_strict(qp, way, place, &entries[i].1) {
+    for at_entry in 0..entries.len() {
+        let place = entries[at_entry].0 as usize - 1;
+        if counts_as_strict(qp, way, place, &entries[at_entry].1) {
             return true;
         }
     }

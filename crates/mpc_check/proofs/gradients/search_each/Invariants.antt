@@ -2,5 +2,5 @@ use Rattle.mpc_check.specs.Findings.{Each}
 use Rattle.mpc_check.specs.LawConditions.{LawAtMet}
 use Rattle.mpc_check.proofs.gradients.search_each.Given as goal
 
-abbrev pub invariant-loop-j : goal.invariant-loop-j
-invariant-loop-j l = Each (LawAtMet l.qp l.laws) l.j
+abbrev pub invariant-loop-place : goal.invariant-loop-place
+invariant-loop-place l = Each (LawAtMet l.qp l.laws) l.place

@@ -7,15 +7,15 @@ use Rattle.mpc_check.proofs.gradients.search_equality.Goals as goal
 
 pub returns-then-are_equal : goal.returns-then-are_equal
 returns-then-are_equal c =
-    let row = get_or c.args.qp.now.g.rows (c.args.i - 1) [] in
-    let moves = column c.args.law.now.moves.rows c.args.c in
+    let row = get_or c.args.qp.now.g.rows (c.args.member - 1) [] in
+    let moves = column c.args.law.now.moves.rows c.args.at_column in
     let value : c.in-Ok.value ≡ dot row moves = c.in-Ok.ensures.value ∙ ap (λ (x : ℚ). x +ℚ dot row moves) c.whole.ensures ∙ from_nought (dot row moves) in
     record { fits_so = subst (λ x. SumFits x row moves) c.whole.ensures c.in-Ok.ensures.wide; holds_so = sym value ∙ c.are_equal.ensures.0 c.if-are_equal.true ∙ c.get.ensures }
 
 pub returns : goal.returns
 returns c =
-    let row = get_or c.args.qp.now.g.rows (c.args.i - 1) [] in
-    let moves = column c.args.law.now.moves.rows c.args.c in
+    let row = get_or c.args.qp.now.g.rows (c.args.member - 1) [] in
+    let moves = column c.args.law.now.moves.rows c.args.at_column in
     let value : c.in-Ok.value ≡ dot row moves = c.in-Ok.ensures.value ∙ ap (λ (x : ℚ). x +ℚ dot row moves) c.whole.ensures ∙ from_nought (dot row moves) in
     (refl, subst (λ x. SumFits x row moves) c.whole.ensures c.in-Ok.ensures.wide, λ e. different (sym c.if-are_equal.false ∙ c.are_equal.ensures.1 (value ∙ e ∙ sym c.get.ensures)))
   where

@@ -4,8 +4,8 @@ use Rattle.mpc_check.specs.LeafConditions.{NodeAtMet}
 use Rattle.mpc_paths.specs.Ways.{IsWay}
 use Rattle.mpc_check.proofs.stretches.search_stretch.Given as goal
 
-abbrev pub invariant-loop-k : goal.invariant-loop-k
-invariant-loop-k l = record {
-  way : l.k < length l.tree → IsWay l.tree l.k l.way.items;
-  met : EachFrom (NodeAtMet l.qp l.laws l.tree) l.fn.stretch.from l.k;
+abbrev pub invariant-loop-place : goal.invariant-loop-place
+invariant-loop-place l = record {
+  way : l.place < length l.tree → IsWay l.tree l.place l.way.items;
+  met : EachFrom (NodeAtMet l.qp l.laws l.tree) l.fn.stretch.from l.place;
 }

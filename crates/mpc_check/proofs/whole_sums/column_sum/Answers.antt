@@ -10,37 +10,37 @@ use Rattle.mpc_check.proofs.WholeRows.{held_count}
 use Rattle.mpc_check.proofs.WholeSums.{read_wide, read_sum, read_narrow}
 use Rattle.mpc_check.proofs.whole_sums.column_sum.Goals as goal
 
-pub loop-i-init : goal.loop-i-init
-loop-i-init c = none_added c.sum_theorems.ensures c.args.column (hold_system c.args.qp.now (way_rows c.args.tree.now c.args.way.now) c.args.row.now) c.args.cert.now c.args.all c.requires.denom.some
+pub loop-at_entry-init : goal.loop-at_entry-init
+loop-at_entry-init c = none_added c.sum_theorems.ensures c.args.column (hold_system c.args.qp.now (way_rows c.args.tree.now c.args.way.now) c.args.row.now) c.args.cert.now c.args.all c.requires.denom.some
 
 pub number_at-requires-clause-place : goal.number_at-requires-clause-place
 number_at-requires-clause-place c =
     let s = hold_system c.args.qp.now (way_rows c.args.tree.now c.args.way.now) c.args.row.now in
-    let p : IsPositionIn (height s) (get_or c.as_slice-entries.result.now c.loop-i.i c.index-entries-i.result) = subst (HasPositionsIn (height s)) (sym c.as_slice-entries.ensures.value) c.requires.positions c.loop-i.i c.index-entries-i.result c.loop-i-test.true in
+    let p : IsPositionIn (height s) (get_or c.as_slice-entries.result.now c.loop-at_entry.at_entry c.index-entries-at_entry.result) = subst (HasPositionsIn (height s)) (sym c.as_slice-entries.ensures.value) c.requires.positions c.loop-at_entry.at_entry c.index-entries-at_entry.result c.loop-at_entry-test.true in
     let low = p.from_one in
     let high = p.to_last in
     omega (arith, low, high, held_count c.args.qp.now c.args.tree.now c.args.way.now c.args.row.now 0)
 
-pub loop-i-preserved : goal.loop-i-preserved
-loop-i-preserved c =
+pub loop-at_entry-preserved : goal.loop-at_entry-preserved
+loop-at_entry-preserved c =
     let s = hold_system c.args.qp.now (way_rows c.args.tree.now c.args.way.now) c.args.row.now in
-    subst (SumSo c.args.column s c.args.cert.now c.args.all (c.loop-i.i + 1)) (sym (read_sum c.in_ok-total.total c.in_ok-total.ensures.small))
-    (sum_more s c.args.cert.now c.as_slice-entries.result.now c.as_slice-entries.ensures.value c.loop-i.i c.index-entries-i.result c.loop-i-test.true
-    c.sum_theorems.ensures c.over_theorems.ensures c.args.column c.args.all c.requires.denom.some c.requires.denom.small (to_z w128 c.loop-i.total-bits) c.in_ok-weight.weight c.in_ok-number.number c.loop-i.invariant c.index-entries-i-in-loop-i.result c.in_ok-weight.ensures.value c.in_ok-weight.ensures.nonneg c.in_ok-weight.ensures.small
+    subst (SumSo c.args.column s c.args.cert.now c.args.all (c.loop-at_entry.at_entry + 1)) (sym (read_sum c.in_ok-total.total c.in_ok-total.ensures.small))
+    (sum_more s c.args.cert.now c.as_slice-entries.result.now c.as_slice-entries.ensures.value c.loop-at_entry.at_entry c.index-entries-at_entry.result c.loop-at_entry-test.true
+    c.sum_theorems.ensures c.over_theorems.ensures c.args.column c.args.all c.requires.denom.some c.requires.denom.small (to_z w128 c.loop-at_entry.total-bits) c.in_ok-weight.weight c.in_ok-number.number c.loop-at_entry.invariant c.index-entries-at_entry-in-loop-at_entry.result c.in_ok-weight.ensures.value c.in_ok-weight.ensures.nonneg c.in_ok-weight.ensures.small
     (ap int (c.in_ok-number.ensures.value ∙ read_wide c.number_at.result c.number_at.type_inv) ∙ c.number_at.ensures) c.in_ok-number.ensures.small c.in_ok-total.total
-    (c.in_ok-total.ensures.value ∙ (λ t. to_z w128 c.loop-i.total-bits +ℤ (read_narrow c.in_ok-weight.weight c.in_ok-weight.ensures.small t *ℤ read_narrow c.in_ok-number.number c.in_ok-number.ensures.small t))) c.in_ok-total.ensures.small)
+    (c.in_ok-total.ensures.value ∙ (λ t. to_z w128 c.loop-at_entry.total-bits +ℤ (read_narrow c.in_ok-weight.weight c.in_ok-weight.ensures.small t *ℤ read_narrow c.in_ok-number.number c.in_ok-number.ensures.small t))) c.in_ok-total.ensures.small)
 
 pub returns-clause-value : goal.returns-clause-value
 returns-clause-value c =
-    sum_value c.sum_theorems.ensures c.args.column (hold_system c.args.qp.now (way_rows c.args.tree.now c.args.way.now) c.args.row.now) c.args.cert.now c.args.all c.loop-i.i (to_z w128 c.loop-i.total-bits) c.loop-i.invariant
-    (subst (λ (e : _). length e ≤ c.loop-i.i) c.as_slice-entries.ensures.value c.loop-i-test.false)
+    sum_value c.sum_theorems.ensures c.args.column (hold_system c.args.qp.now (way_rows c.args.tree.now c.args.way.now) c.args.row.now) c.args.cert.now c.args.all c.loop-at_entry.at_entry (to_z w128 c.loop-at_entry.total-bits) c.loop-at_entry.invariant
+    (subst (λ (e : _). length e ≤ c.loop-at_entry.at_entry) c.as_slice-entries.ensures.value c.loop-at_entry-test.false)
 
 pub returns-clause-fits : goal.returns-clause-fits
 returns-clause-fits c =
-    sum_fits c.sum_theorems.ensures c.args.column (hold_system c.args.qp.now (way_rows c.args.tree.now c.args.way.now) c.args.row.now) c.args.cert.now c.args.all c.loop-i.i (to_z w128 c.loop-i.total-bits) c.loop-i.invariant
-    (subst (λ (e : _). length e ≤ c.loop-i.i) c.as_slice-entries.ensures.value c.loop-i-test.false)
+    sum_fits c.sum_theorems.ensures c.args.column (hold_system c.args.qp.now (way_rows c.args.tree.now c.args.way.now) c.args.row.now) c.args.cert.now c.args.all c.loop-at_entry.at_entry (to_z w128 c.loop-at_entry.total-bits) c.loop-at_entry.invariant
+    (subst (λ (e : _). length e ≤ c.loop-at_entry.at_entry) c.as_slice-entries.ensures.value c.loop-at_entry-test.false)
 
 pub returns-clause-nonneg : goal.returns-clause-nonneg
 returns-clause-nonneg c =
-    all_nonneg c.sum_theorems.ensures c.args.column (hold_system c.args.qp.now (way_rows c.args.tree.now c.args.way.now) c.args.row.now) c.args.cert.now c.args.all c.loop-i.i (to_z w128 c.loop-i.total-bits) c.loop-i.invariant
-    (subst (λ (e : _). length e ≤ c.loop-i.i) c.as_slice-entries.ensures.value c.loop-i-test.false)
+    all_nonneg c.sum_theorems.ensures c.args.column (hold_system c.args.qp.now (way_rows c.args.tree.now c.args.way.now) c.args.row.now) c.args.cert.now c.args.all c.loop-at_entry.at_entry (to_z w128 c.loop-at_entry.total-bits) c.loop-at_entry.invariant
+    (subst (λ (e : _). length e ≤ c.loop-at_entry.at_entry) c.as_slice-entries.ensures.value c.loop-at_entry-test.false)

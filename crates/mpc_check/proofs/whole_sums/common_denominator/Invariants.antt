@@ -1,5 +1,5 @@
 use Rattle.mpc_wholes.specs.Wholes.{IsDenominator}
 use Rattle.mpc_check.proofs.whole_sums.common_denominator.Given as goal
 
-abbrev pub invariant-loop-i : goal.invariant-loop-i
-invariant-loop-i l = IsDenominator l.all
+abbrev pub invariant-loop-at_entry : goal.invariant-loop-at_entry
+invariant-loop-at_entry l = IsDenominator l.all
