@@ -77,22 +77,22 @@ fn numbers(alloc: Global, line: &[u8], count: usize) -> Result<Vector, NoiseErro
     }
 }
 
-/// The noise that a text spells: one line of n numbers with one blank between two, each `D` or `D/D` with 1 to 18 digits for D, and no
+/// The noise that a text spells: one line of so many numbers with one blank between two, each `D` or `D/D` with 1 to 18 digits for D, and no
 /// denominator 0. The line may end with a line feed, and one carriage return before that isn't part of it.
 ///
 /// `BadNoise` exactly where the text is no such line.
-pub fn read_noise(alloc: Global, bytes: &[u8], n: u32) -> Result<Vector, NoiseError>
-    ensures value { IfOk result (λ noise. noise_of bytes.now n ≡ Some noise) }
-    ensures noise { IfOk result (λ noise. IsNoise noise n) }
-    ensures bad { IfErr result (IfBadNoise (noise_of bytes.now n ≡ None)) }
+pub fn read_noise(alloc: Global, bytes: &[u8], states: u32) -> Result<Vector, NoiseError>
+    ensures value { IfOk result (λ noise. noise_of bytes.now states ≡ Some noise) }
+    ensures noise { IfOk result (λ noise. IsNoise noise states) }
+    ensures bad { IfErr result (IfBadNoise (noise_of bytes.now states ≡ None)) }
 {
     let Some(line) = line_of(bytes) else {
         return Err(NoiseError::BadNoise);
     };
     if !line.is_empty() {
-        return numbers(alloc, line, n as usize);
+        return numbers(alloc, line, states as usize);
     }
-    if n == 0 {
+    if states == 0 {
         return Ok(Vector::new(alloc));
     }
     Err(NoiseError::BadNoise)

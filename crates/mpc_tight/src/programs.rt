@@ -37,13 +37,13 @@ pub fn tighten(alloc: Global, plant: &Plant, noise: &Vector, qp: Qp) -> Result<Q
         w: old,
         counts,
     } = qp;
-    let w = tightened(alloc, plant, noise, &old)?;
+    let sides = tightened(alloc, plant, noise, &old)?;
     Ok(Qp {
         h,
         f,
         y,
         g,
-        w,
+        w: sides,
         counts,
     })
 }

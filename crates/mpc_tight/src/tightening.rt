@@ -30,26 +30,26 @@ fn add_effect(sum: &Frac, carried: &Vector, noise: &Vector) -> Result<Frac, Wide
     }
 }
 
-/// The most that the disturbances of the steps before step k add to the row's dot with the state at step k.
+/// The most that the disturbances of the steps before this one add to the row's dot with the state at this step.
 fn tightening_of(
     alloc: Global,
     plant: &Plant,
     noise: &Vector,
     row: &Vector,
-    k: u32,
+    step: u32,
 ) -> Result<Frac, StepError>
     requires size { length row.now ≡ plant.now.n }
     requires noise { length noise.now ≡ plant.now.n }
-    ensures value { IfOk result (λ v. v ≡ tightening plant.now noise.now row.now k) }
-    ensures wide { MatchResult result (λ _. TighteningFits plant.now noise.now row.now k)
-        (IfTooWide (¬ TighteningFits plant.now noise.now row.now k)) }
+    ensures value { IfOk result (λ v. v ≡ tightening plant.now noise.now row.now step) }
+    ensures wide { MatchResult result (λ _. TighteningFits plant.now noise.now row.now step)
+        (IfTooWide (¬ TighteningFits plant.now noise.now row.now step)) }
 {
     let mut sum = Frac::whole(0);
-    if k == 0 {
+    if step == 0 {
         return Ok(sum);
     }
     let mut carried = copy_of(alloc, row)?;
-    for step in 0..k - 1 {
+    for earlier in 0..step - 1 {
         sum = add_effect(&sum, &carried, noise)?;
         carried = times(alloc, &carried, &plant.a)?;
     }
@@ -57,22 +57,22 @@ fn tightening_of(
     Ok(whole)
 }
 
-/// What is left of the right side of a row of the plant at step k.
+/// What is left of the right side of a row of the plant at a step.
 fn side_left(
     alloc: Global,
     plant: &Plant,
     noise: &Vector,
     row: &PlantRow,
-    k: u32,
+    step: u32,
     side: &Frac,
 ) -> Result<Frac, StepError>
     requires size { length row.now.x ≡ plant.now.n }
     requires noise { length noise.now ≡ plant.now.n }
-    ensures value { IfOk result (λ v. v ≡ side.now -ℚ tightening plant.now noise.now row.now.x k) }
-    ensures wide { MatchResult result (λ _. RowFits plant.now noise.now side.now row.now.x k)
-        (IfTooWide (¬ RowFits plant.now noise.now side.now row.now.x k)) }
+    ensures value { IfOk result (λ v. v ≡ side.now -ℚ tightening plant.now noise.now row.now.x step) }
+    ensures wide { MatchResult result (λ _. RowFits plant.now noise.now side.now row.now.x step)
+        (IfTooWide (¬ RowFits plant.now noise.now side.now row.now.x step)) }
 {
-    let most = match tightening_of(alloc, plant, noise, &row.x, k) {
+    let most = match tightening_of(alloc, plant, noise, &row.x, step) {
         Ok(most) => most,
         Err(error) => return Err(error),
     };
@@ -80,31 +80,31 @@ fn side_left(
     Ok(rest)
 }
 
-/// Tightens the stage rows of step k, which follow those of the steps before.
+/// Tightens the stage rows of a step, which follow those of the steps before.
 fn tighten_stage(
     alloc: Global,
     plant: &Plant,
     noise: &Vector,
     old: &Matrix,
-    w: &mut Matrix,
-    k: u32,
+    sides: &mut Matrix,
+    step: u32,
 ) -> Result<(), TightError>
     requires noise { length noise.now ≡ plant.now.n }
-    requires step { k < plant.now.horizon }
+    requires step { step < plant.now.horizon }
     requires shape { HasShape old.now (row_count plant.now) (plant.now.n + 1) }
-    requires done { RowsTightened plant.now noise.now old.now w.old (stage_row plant.now k 0) }
-    requires fits { RowsFit plant.now noise.now old.now (stage_row plant.now k 0) }
-    ensures done { OnOk result (RowsTightened plant.now noise.now old.now w.new (stage_row plant.now (k + 1) 0)) }
-    ensures fits { OnOk result (RowsFit plant.now noise.now old.now (stage_row plant.now (k + 1) 0)) }
+    requires done { RowsTightened plant.now noise.now old.now sides.old (stage_row plant.now step 0) }
+    requires fits { RowsFit plant.now noise.now old.now (stage_row plant.now step 0) }
+    ensures done { OnOk result (RowsTightened plant.now noise.now old.now sides.new (stage_row plant.now (step + 1) 0)) }
+    ensures fits { OnOk result (RowsFit plant.now noise.now old.now (stage_row plant.now (step + 1) 0)) }
     ensures cause { IfErr result (IsCause plant.now noise.now old.now) }
 {
     let count = plant.rows.len();
-    for r in 0..count {
-        let i = (k as usize * count + r) as u32;
-        let side = old.get(i, 0);
-        match side_left(alloc, plant, noise, plant.rows.at(r), k, &side) {
-            Ok(rest) => w.set(i, 0, rest),
-            Err(StepError::TooWide) => return Err(TightError::Wide(i + 1)),
+    for place in 0..count {
+        let at_row = (step as usize * count + place) as u32;
+        let side = old.get(at_row, 0);
+        match side_left(alloc, plant, noise, plant.rows.at(place), step, &side) {
+            Ok(rest) => sides.set(at_row, 0, rest),
+            Err(StepError::TooWide) => return Err(TightError::Wide(at_row + 1)),
             Err(StepError::OutOfMemory) => return Err(TightError::NoMemory),
         }
     }
@@ -117,24 +117,24 @@ fn tighten_end(
     plant: &Plant,
     noise: &Vector,
     old: &Matrix,
-    w: &mut Matrix,
+    sides: &mut Matrix,
 ) -> Result<(), TightError>
     requires noise { length noise.now ≡ plant.now.n }
     requires shape { HasShape old.now (row_count plant.now) (plant.now.n + 1) }
-    requires done { RowsTightened plant.now noise.now old.now w.old (stage_row plant.now plant.now.horizon 0) }
+    requires done { RowsTightened plant.now noise.now old.now sides.old (stage_row plant.now plant.now.horizon 0) }
     requires fits { RowsFit plant.now noise.now old.now (stage_row plant.now plant.now.horizon 0) }
-    ensures done { OnOk result (RowsTightened plant.now noise.now old.now w.new (row_count plant.now)) }
+    ensures done { OnOk result (RowsTightened plant.now noise.now old.now sides.new (row_count plant.now)) }
     ensures fits { OnOk result (RowsFit plant.now noise.now old.now (row_count plant.now)) }
     ensures cause { IfErr result (IsCause plant.now noise.now old.now) }
 {
     let first = plant.horizon as usize * plant.rows.len();
-    let k = plant.horizon;
-    for r in 0..plant.terminal.len() {
-        let i = (first + r) as u32;
-        let side = old.get(i, 0);
-        match side_left(alloc, plant, noise, plant.terminal.at(r), k, &side) {
-            Ok(rest) => w.set(i, 0, rest),
-            Err(StepError::TooWide) => return Err(TightError::Wide(i + 1)),
+    let step = plant.horizon;
+    for place in 0..plant.terminal.len() {
+        let at_row = (first + place) as u32;
+        let side = old.get(at_row, 0);
+        match side_left(alloc, plant, noise, plant.terminal.at(place), step, &side) {
+            Ok(rest) => sides.set(at_row, 0, rest),
+            Err(StepError::TooWide) => return Err(TightError::Wide(at_row + 1)),
             Err(StepError::OutOfMemory) => return Err(TightError::NoMemory),
         }
     }
@@ -154,10 +154,10 @@ pub(crate) fn tightened(
     ensures fits { OnOk result (RowsFit plant.now noise.now old.now (row_count plant.now)) }
     ensures cause { IfErr result (IsCause plant.now noise.now old.now) }
 {
-    let mut w = old.copy(alloc)?;
-    for k in 0..plant.horizon {
-        tighten_stage(alloc, plant, noise, old, &mut w, k)?;
+    let mut sides = old.copy(alloc)?;
+    for step in 0..plant.horizon {
+        tighten_stage(alloc, plant, noise, old, &mut sides, step)?;
     }
-    tighten_end(alloc, plant, noise, old, &mut w)?;
-    Ok(w)
+    tighten_end(alloc, plant, noise, old, &mut sides)?;
+    Ok(sides)
 }

@@ -25,19 +25,19 @@ pub(crate) fn copy_of(alloc: Global, row: &Vector) -> Result<Vector, NoMemory>
     Ok(copy)
 }
 
-/// The dot of a row with column j of a matrix.
-fn dot_with_column(row: &Vector, m: &Matrix, j: u32) -> Result<Frac, Wide>
-    requires size { length row.now ≡ height m.now }
-    requires column { j < m.now.columns }
-    ensures value { IfOk result (λ v. v ≡ dot row.now (column m.now.rows j)) }
-    ensures wide { MatchResult result (λ _. DotFits row.now (column m.now.rows j))
-        (λ _. ¬ DotFits row.now (column m.now.rows j)) }
+/// The dot of a row with a column of a matrix.
+fn dot_with_column(row: &Vector, matrix: &Matrix, at_column: u32) -> Result<Frac, Wide>
+    requires size { length row.now ≡ height matrix.now }
+    requires column { at_column < matrix.now.columns }
+    ensures value { IfOk result (λ v. v ≡ dot row.now (column matrix.now.rows at_column)) }
+    ensures wide { MatchResult result (λ _. DotFits row.now (column matrix.now.rows at_column))
+        (λ _. ¬ DotFits row.now (column matrix.now.rows at_column)) }
 {
     sum_theorems();
     let mut sum = Frac::whole(0);
-    for k in 0..m.rows() {
-        let factor = row.at(k as usize);
-        let entry = m.get(k, j);
+    for at_row in 0..matrix.rows() {
+        let factor = row.at(at_row as usize);
+        let entry = matrix.get(at_row, at_column);
         match add_product(&sum, factor, &entry) {
             Ok(next) => sum = next,
             Err(wide) => return Err(wide),
@@ -47,32 +47,36 @@ fn dot_with_column(row: &Vector, m: &Matrix, j: u32) -> Result<Frac, Wide>
 }
 
 /// A row times a matrix.
-pub(crate) fn times(alloc: Global, row: &Vector, m: &Matrix) -> Result<Vector, StepError>
-    requires { length row.now ≡ height m.now }
-    ensures value { IfOk result (λ v. v ≡ product_row m.now row.now) }
-    ensures wide { MatchResult result (λ _. DotsFit m.now row.now)
-        (IfTooWide (¬ DotsFit m.now row.now)) }
+pub(crate) fn times(alloc: Global, row: &Vector, matrix: &Matrix) -> Result<Vector, StepError>
+    requires { length row.now ≡ height matrix.now }
+    ensures value { IfOk result (λ v. v ≡ product_row matrix.now row.now) }
+    ensures wide { MatchResult result (λ _. DotsFit matrix.now row.now)
+        (IfTooWide (¬ DotsFit matrix.now row.now)) }
 {
     let mut product = Vector::new(alloc);
-    for j in 0..m.cols() {
-        let value = dot_with_column(row, m, j)?;
+    for at_column in 0..matrix.cols() {
+        let value = dot_with_column(row, matrix, at_column)?;
         product.push(value)?;
     }
     Ok(product)
 }
 
 /// Whether a number is below 0.
-fn is_negative(x: &Frac) -> bool
-    ensures { IsTrue result ↔ (x.now <ℚ int (pos 0)) }
+fn is_negative(number: &Frac) -> bool
+    ensures { IsTrue result ↔ (number.now <ℚ int (pos 0)) }
 {
-    x.sign() < 0
+    number.sign() < 0
 }
 
 /// The absolute value.
-fn size_of(x: &Frac) -> Frac
-    ensures { result ≡ abs_ℚ x.now }
+fn size_of(number: &Frac) -> Frac
+    ensures { result ≡ abs_ℚ number.now }
 {
-    if is_negative(x) { x.neg() } else { *x }
+    if is_negative(number) {
+        number.neg()
+    } else {
+        *number
+    }
 }
 
 /// The dot of a row's absolute values with the noise: the most that a disturbance within the noise adds to the row's dot with the state.
@@ -84,9 +88,9 @@ pub(crate) fn most_added(row: &Vector, noise: &Vector) -> Result<Frac, Wide>
 {
     sum_theorems();
     let mut sum = Frac::whole(0);
-    for k in 0..row.len() {
-        let size = size_of(row.at(k));
-        let factor = noise.at(k);
+    for place in 0..row.len() {
+        let size = size_of(row.at(place));
+        let factor = noise.at(place);
         match add_product(&sum, &size, factor) {
             Ok(next) => sum = next,
             Err(wide) => return Err(wide),

@@ -3,8 +3,8 @@ use Rattle.mpc_tight.specs.Tightening.{RowsFit}
 use Rattle.mpc_tight.specs.Tightened.{RowsTightened}
 use Rattle.mpc_tight.proofs.tightening.tighten_end.Given as goal
 
-abbrev pub invariant-loop-r : goal.invariant-loop-r
-invariant-loop-r l = record {
-  done : RowsTightened l.plant l.noise l.old l.w (terminal_row l.plant l.r);
-  fits : RowsFit l.plant l.noise l.old (terminal_row l.plant l.r);
+abbrev pub invariant-loop-place : goal.invariant-loop-place
+invariant-loop-place l = record {
+  done : RowsTightened l.plant l.noise l.old l.sides (terminal_row l.plant l.place);
+  fits : RowsFit l.plant l.noise l.old (terminal_row l.plant l.place);
 }

@@ -3,8 +3,8 @@ use Rattle.mpc_tight.specs.Tightening.{RowsFit}
 use Rattle.mpc_tight.specs.Tightened.{RowsTightened}
 use Rattle.mpc_tight.proofs.tightening.tighten_stage.Given as goal
 
-abbrev pub invariant-loop-r : goal.invariant-loop-r
-invariant-loop-r l = record {
-  done : RowsTightened l.plant l.noise l.old l.w (stage_row l.plant l.k l.r);
-  fits : RowsFit l.plant l.noise l.old (stage_row l.plant l.k l.r);
+abbrev pub invariant-loop-place : goal.invariant-loop-place
+invariant-loop-place l = record {
+  done : RowsTightened l.plant l.noise l.old l.sides (stage_row l.plant l.step l.place);
+  fits : RowsFit l.plant l.noise l.old (stage_row l.plant l.step l.place);
 }

@@ -4,5 +4,5 @@ use Rattle.mpc_space.specs.Vector.{column}
 use Rattle.mpc_linear.specs.SumTheorems.{IsSumSoFar}
 use Rattle.mpc_tight.proofs.vectors.dot_with_column.Given as goal
 
-abbrev pub invariant-loop-k : goal.invariant-loop-k
-invariant-loop-k l = IsSumSoFar (int (pos 0)) l.row (column l.m.rows l.j) l.k l.sum
+abbrev pub invariant-loop-at_row : goal.invariant-loop-at_row
+invariant-loop-at_row l = IsSumSoFar (int (pos 0)) l.row (column l.matrix.rows l.at_column) l.at_row l.sum

@@ -4,5 +4,5 @@ use Rattle.mpc_linear.specs.SumTheorems.{IsSumSoFar}
 use Rattle.mpc_tight.specs.Disturbed.{sizes}
 use Rattle.mpc_tight.proofs.vectors.most_added.Given as goal
 
-abbrev pub invariant-loop-k : goal.invariant-loop-k
-invariant-loop-k l = IsSumSoFar (int (pos 0)) (sizes l.row) l.noise l.k l.sum
+abbrev pub invariant-loop-place : goal.invariant-loop-place
+invariant-loop-place l = IsSumSoFar (int (pos 0)) (sizes l.row) l.noise l.place l.sum
