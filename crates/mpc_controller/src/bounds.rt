@@ -96,10 +96,10 @@ fn first_wide_input(
         (IsFirstWideForm counts.now law.now inputs)) }
 {
     prove!(law.moves.cols() as usize == counts.len() + 1);
-    for i in 0..inputs {
-        let form = vector_of(alloc, law.moves.row(i))?;
+    for place in 0..inputs {
+        let form = vector_of(alloc, law.moves.row(place))?;
         if !form_fits(alloc, &form, counts)? {
-            return Ok(Some(i + 1));
+            return Ok(Some(place + 1));
         }
     }
     Ok(None)
@@ -119,9 +119,9 @@ fn first_wide_law(
     ensures { IfOk result (λ found. MatchOption found (All (LawFits plant.now) laws.now)
         (λ w. IsWideInput plant.now laws.now w.0 w.1)) }
 {
-    for j in 0..laws.len() {
-        if let Some(input) = first_wide_input(alloc, laws.at(j), plant.p, counts)? {
-            return Ok(Some((j as u32 + 1, input)));
+    for place in 0..laws.len() {
+        if let Some(input) = first_wide_input(alloc, laws.at(place), plant.p, counts)? {
+            return Ok(Some((place as u32 + 1, input)));
         }
     }
     Ok(None)
@@ -144,9 +144,9 @@ fn first_wide_node(counts: &[u64], tree: &Tree) -> Option<u64>
     ensures { MatchOption result (All (NodeFits counts.now) tree.now)
         (IsFirstWideNode counts.now tree.now) }
 {
-    for k in 0..tree.len() {
-        if !node_fits(tree.at(k), counts) {
-            return Some(k as u64 + 1);
+    for place in 0..tree.len() {
+        if !node_fits(tree.at(place), counts) {
+            return Some(place as u64 + 1);
         }
     }
     None
