@@ -88,11 +88,11 @@ fn row_of(
     if numbers.len() != end + 1 {
         return Ok(None);
     }
-    let x = vector_of(alloc, &numbers[..states as usize])?;
-    let u = vector_of(alloc, &numbers[states as usize..end])?;
+    let on_state = vector_of(alloc, &numbers[..states as usize])?;
+    let on_input = vector_of(alloc, &numbers[states as usize..end])?;
     Ok(Some(PlantRow {
-        x,
-        u,
+        x: on_state,
+        u: on_input,
         max: numbers[end],
     }))
 }

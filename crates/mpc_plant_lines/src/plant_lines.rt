@@ -74,18 +74,18 @@ pub(crate) fn read_sizes(alloc: Global, lines: &mut Lines) -> Result<Sizes, File
     stated(sizes_in(alloc, line), number)
 }
 
-/// Writes the entries of row i, behind those of the rows before it.
-fn write_row(matrix: &mut Matrix, i: u32, entries: &Vector)
-    requires row { i < height matrix.old }
+/// Writes the entries of one row, behind those of the rows before it.
+fn write_row(matrix: &mut Matrix, row: u32, entries: &Vector)
+    requires row { row < height matrix.old }
     requires size { length entries.now ≡ height matrix.old * matrix.old.columns }
-    requires before { matrix.old ≡ filled (height matrix.old) matrix.old.columns (i * matrix.old.columns) entries.now }
-    ensures { matrix.new ≡ filled (height matrix.old) matrix.old.columns ((i + 1) * matrix.old.columns) entries.now }
+    requires before { matrix.old ≡ filled (height matrix.old) matrix.old.columns (row * matrix.old.columns) entries.now }
+    ensures { matrix.new ≡ filled (height matrix.old) matrix.old.columns ((row + 1) * matrix.old.columns) entries.now }
 {
     grid_theorems();
     let columns = matrix.cols();
-    for j in 0..columns {
-        let place = i as usize * columns as usize + j as usize;
-        matrix.set(i, j, *entries.at(place));
+    for column in 0..columns {
+        let place = row as usize * columns as usize + column as usize;
+        matrix.set(row, column, *entries.at(place));
     }
 }
 
@@ -96,8 +96,8 @@ fn matrix_with(alloc: Global, entries: &Vector, rows: u32, columns: u32) -> Resu
 {
     grid_theorems();
     let mut matrix = Matrix::zero(alloc, rows, columns)?;
-    for i in 0..rows {
-        write_row(&mut matrix, i, entries);
+    for row in 0..rows {
+        write_row(&mut matrix, row, entries);
     }
     Ok(matrix)
 }
@@ -142,23 +142,23 @@ pub(crate) fn read_matrix(
 }
 
 /// Whether two numbers are equal.
-fn are_equal(x: &Frac, y: &Frac) -> bool
-    ensures { MatchBool result (x.now ≡ y.now) (x.now ≢ y.now) }
+fn are_equal(left: &Frac, right: &Frac) -> bool
+    ensures { MatchBool result (left.now ≡ right.now) (left.now ≢ right.now) }
 {
-    match x.cmp(y) {
+    match left.cmp(right) {
         Ordering::Equal => true,
         Ordering::Less | Ordering::Greater => false,
     }
 }
 
-/// Whether row i is column i, as far as the diagonal.
-fn is_mirrored_row(matrix: &Matrix, size: u32, i: u32) -> bool
+/// Whether a row is the column of the same number, as far as the diagonal.
+fn is_mirrored_row(matrix: &Matrix, size: u32, row: u32) -> bool
     requires shape { HasShape matrix.now size size }
-    requires row { i < size }
-    ensures { MatchBool result (IsMirroredRow matrix.now i) (¬ IsMirroredRow matrix.now i) }
+    requires row { row < size }
+    ensures { MatchBool result (IsMirroredRow matrix.now row) (¬ IsMirroredRow matrix.now row) }
 {
-    for j in 0..i {
-        if !are_equal(&matrix.get(i, j), &matrix.get(j, i)) {
+    for column in 0..row {
+        if !are_equal(&matrix.get(row, column), &matrix.get(column, row)) {
             return false;
         }
     }
@@ -170,8 +170,8 @@ fn is_symmetric(matrix: &Matrix, size: u32) -> bool
     requires { HasShape matrix.now size size }
     ensures { MatchBool result (IsSymmetric matrix.now.rows) (¬ IsSymmetric matrix.now.rows) }
 {
-    for i in 0..size {
-        if !is_mirrored_row(matrix, size, i) {
+    for row in 0..size {
+        if !is_mirrored_row(matrix, size, row) {
             return false;
         }
     }
@@ -216,9 +216,12 @@ pub(crate) fn read_dynamics(
 ) -> Result<Dynamics, FileError>
     ensures { Outcome (dynamics_grammar sizes.now) lines.old lines.new result }
 {
-    let a = read_matrix(alloc, lines, b"A", sizes.states, sizes.states)?;
-    let b = read_matrix(alloc, lines, b"B", sizes.states, sizes.inputs)?;
-    Ok(Dynamics { a, b })
+    let of_state = read_matrix(alloc, lines, b"A", sizes.states, sizes.states)?;
+    let of_input = read_matrix(alloc, lines, b"B", sizes.states, sizes.inputs)?;
+    Ok(Dynamics {
+        a: of_state,
+        b: of_input,
+    })
 }
 
 /// Reads the lines of Q, R and P.
@@ -229,10 +232,14 @@ pub(crate) fn read_weights(
 ) -> Result<Weights, FileError>
     ensures { Outcome (weights_grammar sizes.now) lines.old lines.new result }
 {
-    let q = read_weight(alloc, lines, b"Q", sizes.states)?;
-    let r = read_weight(alloc, lines, b"R", sizes.inputs)?;
+    let of_state = read_weight(alloc, lines, b"Q", sizes.states)?;
+    let of_input = read_weight(alloc, lines, b"R", sizes.inputs)?;
     let last = read_weight(alloc, lines, b"P", sizes.states)?;
-    Ok(Weights { q, r, last })
+    Ok(Weights {
+        q: of_state,
+        r: of_input,
+        last,
+    })
 }
 
 /// The so many fractions that a line states behind its name.
