@@ -41,12 +41,12 @@ impl Forms {
         self.items.len()
     }
 
-    /// The form at the place i, from 0.
-    pub fn at(&self, i: usize) -> &Vector
-        requires { i < length self.now }
-        ensures { result.now ≡ slice_index_or self.now i [] }
+    /// The form at this place, from 0.
+    pub fn at(&self, place: usize) -> &Vector
+        requires { place < length self.now }
+        ensures { result.now ≡ slice_index_or self.now place [] }
     {
-        &self.items[i]
+        &self.items[place]
     }
 
     /// Puts one form behind the others. Without memory the list stays as it was, and the form is given up.
@@ -61,14 +61,14 @@ impl Forms {
     }
 }
 
-/// Puts a form into row i of a matrix, counted from 0.
-pub fn fill_row(matrix: &mut Matrix, i: u32, form: &Vector)
-    requires row { i < height matrix.old }
+/// Puts a form into a row of a matrix, counted from 0.
+pub fn fill_row(matrix: &mut Matrix, row: u32, form: &Vector)
+    requires row { row < height matrix.old }
     requires size { length form.now ≡ matrix.old.columns }
-    ensures { matrix.new ≡ with_filled_row matrix.old i form.now }
+    ensures { matrix.new ≡ with_filled_row matrix.old row form.now }
 {
-    for j in 0..matrix.cols() {
-        matrix.set(i, j, *form.at(j as usize));
+    for column in 0..matrix.cols() {
+        matrix.set(row, column, *form.at(column as usize));
     }
 }
 
@@ -79,8 +79,8 @@ pub fn matrix_of(alloc: Global, forms: &Forms, columns: u32) -> Result<Matrix, N
     ensures { IfOk result (λ m. m ≡ matrix_with forms.now columns) }
 {
     let mut matrix = Matrix::zero(alloc, forms.len() as u32, columns)?;
-    for i in 0..forms.len() {
-        fill_row(&mut matrix, i as u32, forms.at(i));
+    for place in 0..forms.len() {
+        fill_row(&mut matrix, place as u32, forms.at(place));
     }
     Ok(matrix)
 }

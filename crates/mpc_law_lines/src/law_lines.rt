@@ -99,14 +99,19 @@ pub fn read_set(alloc: Global, lines: &mut Lines, plant: &Plant) -> Result<Activ
     stated(set_in(alloc, text, plant), number)
 }
 
-/// The affine form of `n` states that a line states behind its first word.
-pub fn form_in(alloc: Global, text: &[u8], name: &[u8], n: u32) -> Result<Option<Vector>, NoMemory>
+/// The affine form of so many states that a line states behind its first word.
+pub fn form_in(
+    alloc: Global,
+    text: &[u8],
+    name: &[u8],
+    states: u32,
+) -> Result<Option<Vector>, NoMemory>
     ensures { IfOk result (λ found. MatchOption found
-        ((form : List ℚ) → ¬ AreNumbers name.now (n + 1) text.now form)
-        (λ form. AreNumbers name.now (n + 1) text.now form)) }
+        ((form : List ℚ) → ¬ AreNumbers name.now (states + 1) text.now form)
+        (λ form. AreNumbers name.now (states + 1) text.now form)) }
 {
     one_fractions();
-    let size = n as usize + 1;
+    let size = states as usize + 1;
     let room = Vector::with_capacity(alloc, size)?;
     let Some(form) = fractions_into(room, text, name)? else {
         return Ok(None);

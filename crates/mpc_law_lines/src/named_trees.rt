@@ -130,8 +130,8 @@ fn split_in(text: &[u8], all: u64, used: u64) -> SplitLine
     ensures { ReadsNamedSplit all used text.now result }
 {
     match number_of(text, b"split") {
-        Natural::Small(k) => if k >= 1 && k <= all && k - 1 <= used {
-            SplitLine::Plane(k)
+        Natural::Small(named) => if named >= 1 && named <= all && named - 1 <= used {
+            SplitLine::Plane(named)
         } else {
             SplitLine::NoPlane
         },
@@ -141,12 +141,12 @@ fn split_in(text: &[u8], all: u64, used: u64) -> SplitLine
 }
 
 /// The plane with this number, once more.
-fn plane_copy(alloc: Global, planes: &Planes, k: u64) -> Result<RowInt, NoMemory>
-    requires from_one { 1 ≤ k }
-    requires is_plane { k ≤ length planes.now }
-    ensures { IfOk result (λ row. row ≡ plane_named planes.now k) }
+fn plane_copy(alloc: Global, planes: &Planes, named: u64) -> Result<RowInt, NoMemory>
+    requires from_one { 1 ≤ named }
+    requires is_plane { named ≤ length planes.now }
+    ensures { IfOk result (λ row. row ≡ plane_named planes.now named) }
 {
-    let plane = planes.at(k as usize - 1);
+    let plane = planes.at(named as usize - 1);
     let a = ints_of(alloc, plane.a.as_slice())?;
     Ok(RowInt { a, b: plane.b })
 }
@@ -169,9 +169,9 @@ fn read_named_node(
     let number = lines.number();
     let line = lines.take()?;
     match split_in(line, planes.len() as u64, used) {
-        SplitLine::Plane(k) => {
-            let row = plane_copy(alloc, planes, k)?;
-            let used_then = if used < k { k } else { used };
+        SplitLine::Plane(named) => {
+            let row = plane_copy(alloc, planes, named)?;
+            let used_then = if used < named { named } else { used };
             Ok((Node::Split(row), used_then))
         }
         SplitLine::NoPlane => Err(FileError::Bad(FileKind::BadNode, number)),

@@ -54,14 +54,14 @@ pub(crate) enum LeafLine {
 }
 
 /// The position that a fraction is: a whole number above the last one, up to the number of rows.
-fn position_of(x: &Frac, last: u64, rows: u64) -> Option<u64>
-    ensures { MatchOption result ((k : ℕ) → last < k → k ≤ rows → x.now ≢ int (pos k))
-        (λ k. (x.now ≡ int (pos k)) × (last < k) × (k ≤ rows)) }
+fn position_of(fraction: &Frac, last: u64, rows: u64) -> Option<u64>
+    ensures { MatchOption result ((k : ℕ) → last < k → k ≤ rows → fraction.now ≢ int (pos k))
+        (λ k. (fraction.now ≡ int (pos k)) × (last < k) × (k ≤ rows)) }
 {
-    if x.den() != 1 {
+    if fraction.den() != 1 {
         return None;
     }
-    let position = x.num();
+    let position = fraction.num();
     if position <= i128::from(last) || i128::from(rows) < position {
         return None;
     }
@@ -71,10 +71,10 @@ fn position_of(x: &Frac, last: u64, rows: u64) -> Option<u64>
 /// The certificate over so many rows whose positions and multipliers these are.
 fn cert_of(alloc: Global, parts: &[Frac], rows: u64) -> Result<Option<Cert>, NoMemory>
     ensures is_cert { IfOk result (λ found. MatchOption found
-        ((c : List (ℕ × ℚ)) → IsCertOver rows c → parts.now ≢ flat_map pair_fractions c)
-        (λ c. IsCertOver rows c)) }
+        ((cert : List (ℕ × ℚ)) → IsCertOver rows cert → parts.now ≢ flat_map pair_fractions cert)
+        (λ cert. IsCertOver rows cert)) }
     ensures parts { IfOk result (λ found. MatchOption found (Unit {0})
-        (λ c. parts.now ≡ flat_map pair_fractions c)) }
+        (λ cert. parts.now ≡ flat_map pair_fractions cert)) }
 {
     let mut cert = Cert::with_capacity(alloc, parts.len() / 2)?;
     let mut last = 0;
@@ -100,8 +100,8 @@ fn cert_of(alloc: Global, parts: &[Frac], rows: u64) -> Result<Option<Cert>, NoM
 /// The certificate over so many rows that a line states.
 fn cert_in(alloc: Global, text: &[u8], rows: u64) -> Result<Option<Cert>, NoMemory>
     ensures { IfOk result (λ found. MatchOption found
-        ((c : List (ℕ × ℚ)) → ¬ IsCertLine rows text.now c)
-        (λ c. IsCertLine rows text.now c)) }
+        ((cert : List (ℕ × ℚ)) → ¬ IsCertLine rows text.now cert)
+        (λ cert. IsCertLine rows text.now cert)) }
 {
     one_fractions();
     let room = Vector::with_capacity(alloc, ROOM)?;
@@ -143,14 +143,17 @@ pub(crate) fn ints_of(alloc: Global, integers: &[i128]) -> Result<Ints, NoMemory
     Ok(list)
 }
 
-/// The row of n weights and a bound that these integers are.
-fn row_of(alloc: Global, integers: &[i128], n: usize) -> Result<RowInt, NoMemory>
-    requires { length integers.now ≡ n + 1 }
+/// The row of so many weights and a bound that these integers are.
+fn row_of(alloc: Global, integers: &[i128], count: usize) -> Result<RowInt, NoMemory>
+    requires { length integers.now ≡ count + 1 }
     ensures row { IfOk result (λ row. integers.now ≡ row.a ++ row.b ∷ []) }
-    ensures size { IfOk result (λ row. length row.a ≡ n) }
+    ensures size { IfOk result (λ row. length row.a ≡ count) }
 {
-    let a = ints_of(alloc, &integers[..n])?;
-    Ok(RowInt { a, b: integers[n] })
+    let a = ints_of(alloc, &integers[..count])?;
+    Ok(RowInt {
+        a,
+        b: integers[count],
+    })
 }
 
 /// Whether one of these integers isn't 0.
@@ -169,7 +172,7 @@ fn is_plane(row: &RowInt) -> bool
     has_entry(row.a.as_slice()) && shared_divisor(&row.a, row.b) == 1
 }
 
-/// What a row of n weights is as a plane.
+/// What a row is as a plane.
 fn plane_of(row: RowInt, counts: &[u64]) -> PlaneLine
     requires size { length row.a ≡ length counts.now }
     requires small { AreSmall row.a }

@@ -4,11 +4,11 @@ use Rattle.mpc_law_lines.proofs.FormLemmas.{zeros_size, row_there, rows_next, ro
 use Rattle.mpc_law_lines.proofs.forms.matrix_of.Goals as goal
 
 pub fill_row-requires-clause-row : goal.fill_row-requires-clause-row
-fill_row-requires-clause-row c = row_there c.args.forms.now c.args.columns c.loop-i.i c.loop-i.matrix (omega (arith, c.loop-i-test.true, c.len-i-end.ensures)) c.loop-i.invariant
+fill_row-requires-clause-row c = row_there c.args.forms.now c.args.columns c.loop-place.place c.loop-place.matrix (omega (arith, c.loop-place-test.true, c.len-place-end.ensures)) c.loop-place.invariant
 
-pub loop-i-preserved : goal.loop-i-preserved
-loop-i-preserved c =
-    rows_next c.args.forms.now (zero_matrix (length c.args.forms.now) c.args.columns).rows c.args.columns c.loop-i.i c.at.result.now c.loop-i.matrix c.fill_row.new.matrix (zeros_size (length c.args.forms.now) c.args.columns) (omega (arith, c.loop-i-test.true, c.len-i-end.ensures)) c.loop-i.invariant c.at.ensures c.fill_row.ensures
+pub loop-place-preserved : goal.loop-place-preserved
+loop-place-preserved c =
+    rows_next c.args.forms.now (zero_matrix (length c.args.forms.now) c.args.columns).rows c.args.columns c.loop-place.place c.at.result.now c.loop-place.matrix c.fill_row.new.matrix (zeros_size (length c.args.forms.now) c.args.columns) (omega (arith, c.loop-place-test.true, c.len-place-end.ensures)) c.loop-place.invariant c.at.ensures c.fill_row.ensures
 
 pub returns : goal.returns
-returns c = rows_done c.args.forms.now (zero_matrix (length c.args.forms.now) c.args.columns).rows c.args.columns c.loop-i.i c.loop-i.matrix (zeros_size (length c.args.forms.now) c.args.columns) (omega (arith, c.loop-i-test.false, c.len-i-end.ensures)) c.loop-i.invariant
+returns c = rows_done c.args.forms.now (zero_matrix (length c.args.forms.now) c.args.columns).rows c.args.columns c.loop-place.place c.loop-place.matrix (zeros_size (length c.args.forms.now) c.args.columns) (omega (arith, c.loop-place-test.false, c.len-place-end.ensures)) c.loop-place.invariant

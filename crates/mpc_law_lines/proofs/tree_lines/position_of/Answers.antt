@@ -12,12 +12,12 @@ pub returns-then-position-from : goal.returns-then-position-from
 returns-then-position-from c = λ k h l e.
     elim c.then-position-from.branch [
       | then-position-from-via-then-position-from w ↦
-          too_low c.args.x.now c.num-position.result c.num-position.ensures.value c.num-position.ensures.fits.0 c.args.last c.args.rows c.from.result (pos c.args.rows) c.from.ensures (λ i. pos c.args.rows) c.ranges.last.fits c.ranges.rows.fits k e h w.if-position-from.true
+          too_low c.args.fraction.now c.num-position.result c.num-position.ensures.value c.num-position.ensures.fits.0 c.args.last c.args.rows c.from.result (pos c.args.rows) c.from.ensures (λ i. pos c.args.rows) c.ranges.last.fits c.ranges.rows.fits k e h w.if-position-from.true
       | then-position-from-via-else-position-from+then-from-position w ↦
-          too_high c.args.x.now c.num-position.result c.num-position.ensures.value c.num-position.ensures.fits.0 c.args.last c.args.rows (pos c.args.last) w.from-else-position-from.result (λ i. pos c.args.last) w.from-else-position-from.ensures c.ranges.last.fits c.ranges.rows.fits k e l w.if-from-position.true
+          too_high c.args.fraction.now c.num-position.result c.num-position.ensures.value c.num-position.ensures.fits.0 c.args.last c.args.rows (pos c.args.last) w.from-else-position-from.result (λ i. pos c.args.last) w.from-else-position-from.ensures c.ranges.last.fits c.ranges.rows.fits k e l w.if-from-position.true
     ]
 
 pub returns : goal.returns
 returns c =
-    position_is c.args.x.now c.num-position.result c.num-position.ensures.value c.num-position.ensures.fits.0 c.args.last c.args.rows c.from.result c.from-else-position-from.result c.from.ensures c.from-else-position-from.ensures c.ranges.last.fits c.ranges.rows.fits
+    position_is c.args.fraction.now c.num-position.result c.num-position.ensures.value c.num-position.ensures.fits.0 c.args.last c.args.rows c.from.result c.from-else-position-from.result c.from.ensures c.from-else-position-from.ensures c.ranges.last.fits c.ranges.rows.fits
     (ap (of_z w128) (sym c.den.ensures.value) ∙ c.if-den-ne1.false) c.if-position-from.false c.if-from-position.false
