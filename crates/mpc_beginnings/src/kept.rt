@@ -50,10 +50,10 @@ fn limit_of(system: &WholeSystem, numbers: &WholeNumbers, from: WidePlace) -> Op
 {
     position_theorems();
     let width = system.unknowns();
-    let n = width.checked_add(system.height())?;
+    let variables = width.checked_add(system.height())?;
     let most = limit(
         width,
-        n,
+        variables,
         numbers.most_entry,
         numbers.most_side,
         numbers.most_scale,
@@ -127,13 +127,13 @@ fn product_of(width: usize, numbers: &WholeNumbers, place: WidePlace) -> u128
 }
 
 /// A size, if it is small.
-fn small_size(n: u128) -> Option<u64>
-    ensures { IfSome result (λ m. m ≡ n) }
+fn small_size(size: u128) -> Option<u64>
+    ensures { IfSome result (λ m. m ≡ size) }
 {
-    if n > 1 << 62 {
+    if size > 1 << 62 {
         return None;
     }
-    Some(n as u64)
+    Some(size as u64)
 }
 
 /// Where a run stands, if its sizes are small.
@@ -166,7 +166,7 @@ fn wide_place(place: Place) -> WidePlace
 /// The run from a position to its end, where one limit serves for all rows.
 fn short_run(
     lists: &mut RunLists,
-    x: &mut [i64],
+    row: &mut [i64],
     system: &WholeSystem,
     numbers: &WholeNumbers,
     from: WidePlace,
@@ -177,21 +177,21 @@ fn short_run(
     requires lists { AreListsOf system.now from.own (of_short lists.old) }
     requires first_small { IsSmall (2 ^ 62) lists.old.firsts.items }
     requires second_small { IsSmall (2 ^ 62) lists.old.seconds.items }
-    requires row_size { length x.old ≡ system.now.width }
+    requires row_size { length row.old ≡ system.now.width }
     requires start { IsUnderwayWithin system.now numbers.now (of_short lists.old) from }
     ensures lists { IfSome result (λ t. AreListsOf system.now t.0.own (of_short lists.new)) }
     ensures small { IfSome result (λ _. IsSmall (2 ^ 62) lists.new.firsts.items × IsSmall (2 ^ 62) lists.new.seconds.items) }
     ensures end { IfSome result (λ t. HasEnded system.now (count system.now) lists.new.seats.items numbers.now.scales.now t.0.den lists.new.v.items lists.new.firsts.items lists.new.seconds.items t.0.greatest t.0.greatest_den t.1) }
 {
     let start = short_place(from)?;
-    let (place, end) = whole_run(lists, x, system, numbers, start, most)?;
+    let (place, end) = whole_run(lists, row, system, numbers, start, most)?;
     Some((wide_place(place), end))
 }
 
 /// The run from a position to its end, where its numbers have 64 bits and one limit serves for all rows.
 fn limited_run(
     lists: &mut KeptLists,
-    x: &mut [i64],
+    row: &mut [i64],
     system: &WholeSystem,
     numbers: &WholeNumbers,
     from: WidePlace,
@@ -201,7 +201,7 @@ fn limited_run(
     requires numbers { AreNumbers system.now numbers.now }
     requires lists { AreListsOf system.now from.own (lists_of lists.old) }
     requires short { HaveShortValues lists.old }
-    requires row_size { length x.old ≡ system.now.width }
+    requires row_size { length row.old ≡ system.now.width }
     requires start { IsUnderwayWithin system.now numbers.now (lists_of lists.old) from }
     ensures lists { IfSome result (λ t. AreListsOf system.now t.0.own (lists_of lists.new)) }
     ensures short { IfSome result (λ _. HaveShortValues lists.new) }
@@ -210,7 +210,7 @@ fn limited_run(
     if lists.is_wide {
         return None;
     }
-    short_run(&mut lists.short, x, system, numbers, from, most)
+    short_run(&mut lists.short, row, system, numbers, from, most)
 }
 
 /// The run from a position to its end, where one limit serves for all rows, with what is kept of it.
@@ -232,8 +232,8 @@ fn run_on(
     position_theorems();
     let width = system.unknowns();
     lengthen(work, width)?;
-    let (x, _) = work.split_at_mut(width);
-    match limited_run(lists, x, system, numbers, from, most) {
+    let (row, _) = work.split_at_mut(width);
+    match limited_run(lists, row, system, numbers, from, most) {
         Some((place, end)) => {
             let product = product_of(width, numbers, place);
             Ok(Some((WidePlace { product, ..place }, end)))
@@ -243,15 +243,15 @@ fn run_on(
 }
 
 /// The product, if it is at most 2^125.
-fn small_product(x: u128, y: u128) -> Option<u128>
-    ensures value { IfSome result (λ z. z ≡ x * y) }
+fn small_product(left: u128, right: u128) -> Option<u128>
+    ensures value { IfSome result (λ z. z ≡ left * right) }
     ensures small { IfSome result (λ z. z ≤ 2 ^ 125) }
 {
-    let z = x.checked_mul(y)?;
-    if z > 1 << 125 {
+    let product = left.checked_mul(right)?;
+    if product > 1 << 125 {
         return None;
     }
-    Some(z)
+    Some(product)
 }
 
 /// Whether the sizes that are kept of the positions before show that no row of the system forms a wide number
@@ -263,14 +263,14 @@ fn room_before(system: &WholeSystem, numbers: &WholeNumbers, from: WidePlace) ->
 {
     let _ = small_product(from.greatest_den, numbers.most_scale as u128)?;
     let width = system.unknowns();
-    let n = width.checked_add(system.height())?;
+    let variables = width.checked_add(system.height())?;
     let norm = row_norm(width, numbers)? as u128;
     let scaled = norm * numbers.most_scale as u128;
     let _ = small_product(scaled, from.product)?;
     let size = norm.checked_mul(from.greatest)?;
     let rest = numbers.most_side.max(numbers.most_scale);
     let term = small_product(size, rest as u128)?;
-    let _ = small_product(n as u128, term)?;
+    let _ = small_product(variables as u128, term)?;
     Some(())
 }
 
@@ -293,36 +293,36 @@ fn judge_on(
         return Ok(None);
     };
     widen(lists)?;
-    let (x, _) = work.split_at_mut(width);
-    match judged_run(&mut lists.wide, x, system, numbers, from) {
+    let (row, _) = work.split_at_mut(width);
+    match judged_run(&mut lists.wide, row, system, numbers, from) {
         Some(found) => Ok(Some(found)),
         None => Ok(None),
     }
 }
 
-/// Writes the multipliers at the last position, where the row of the side l refutes.
+/// Writes the multipliers at the last position, where the row of this side refutes.
 fn put_multipliers(
     list: &mut [Frac],
-    x: &mut [i128],
+    row: &mut [i128],
     system: &WholeSystem,
     numbers: &WholeNumbers,
     lists: &KeptLists,
     place: WidePlace,
-    l: usize,
+    side: usize,
 ) -> Option<()>
     requires list_room { length list.old ≡ height system.now }
-    requires row_room { length x.old ≡ system.now.width }
+    requires row_room { length row.old ≡ system.now.width }
     requires numbers { AreNumbers system.now numbers.now }
-    requires kept { AreKept system.now numbers.now.scales.now lists.now place (Ending.Refuted l) }
-    ensures { IfSome result (λ _. IsMultipliers system.now (last_position system.now) l list.new) }
+    requires kept { AreKept system.now numbers.now.scales.now lists.now place (Ending.Refuted side) }
+    ensures { IfSome result (λ _. IsMultipliers system.now (last_position system.now) side list.new) }
 {
     if lists.is_wide {
-        return wide_last_multipliers(list, x, system, numbers, &lists.wide, place.den, l);
+        return wide_last_multipliers(list, row, system, numbers, &lists.wide, place.den, side);
     }
-    last_multipliers(list, x, system, numbers, &lists.short, place.den, l)
+    last_multipliers(list, row, system, numbers, &lists.short, place.den, side)
 }
 
-/// The multipliers at the last position, where the row of the side l refutes.
+/// The multipliers at the last position, where the row of this side refutes.
 fn multipliers_of(
     alloc: Global,
     work: &mut Vec<i128>,
@@ -330,17 +330,17 @@ fn multipliers_of(
     numbers: &WholeNumbers,
     lists: &KeptLists,
     place: WidePlace,
-    l: usize,
+    side: usize,
 ) -> Result<Option<Multipliers>, AllocError>
     requires numbers { AreNumbers system.now numbers.now }
-    requires kept { AreKept system.now numbers.now.scales.now lists.now place (Ending.Refuted l) }
+    requires kept { AreKept system.now numbers.now.scales.now lists.now place (Ending.Refuted side) }
     ensures { IfOk result (λ o. IfSome o (EndsRefuted system.now)) }
 {
     let width = system.unknowns();
     lengthen_wide(work, width)?;
     let mut list = zeros(alloc, system.height())?;
-    let (x, _) = work.split_at_mut(width);
-    match put_multipliers(&mut list, x, system, numbers, lists, place, l) {
+    let (row, _) = work.split_at_mut(width);
+    match put_multipliers(&mut list, row, system, numbers, lists, place, side) {
         Some(()) => Ok(Some(Multipliers::of(list))),
         None => Ok(None),
     }
@@ -470,7 +470,7 @@ fn first_run(
 {
     position_theorems();
     let width = system.unknowns();
-    let Some((n, square)) = sizes(system.height(), width) else {
+    let Some((variables, square)) = sizes(system.height(), width) else {
         return Ok(None);
     };
     let from = WidePlace {
@@ -482,12 +482,12 @@ fn first_run(
         first: width,
     };
     if let Some(most) = limit_of(system, numbers, from) {
-        set_opening(lists, system, n, square)?;
+        set_opening(lists, system, variables, square)?;
         if let Some(found) = run_on(lists, &mut work.short, system, numbers, from, most)? {
             return Ok(Some(found));
         }
     }
-    set_opening(lists, system, n, square)?;
+    set_opening(lists, system, variables, square)?;
     judge_on(lists, &mut work.wide, system, numbers, from)
 }
 
@@ -585,18 +585,18 @@ impl KeptRun {
         }
     }
 
-    /// The run of the system with its row i, from 0, the other way round behind its own, from where
+    /// The run of the system with its row at the index, from 0, the other way round behind its own, from where
     /// this one ends on or anew. `None` where whole numbers don't serve for it.
     pub fn extend_turned(
         &self,
         alloc: Global,
         work: &mut Workspace,
-        i: usize,
+        index: usize,
     ) -> Result<Option<KeptRun>, AllocError>
-        requires { i < height self.now }
-        ensures { IfOk result (λ o. IfSome o (λ r. r ≡ lengthened self.now (turned (row_at self.now i) ∷ []))) }
+        requires { index < height self.now }
+        ensures { IfOk result (λ o. IfSome o (λ r. r ≡ lengthened self.now (turned (row_at self.now index) ∷ []))) }
     {
-        match with_turned(alloc, &self.system, i)? {
+        match with_turned(alloc, &self.system, index)? {
             Some(system) => self.kept_longer(alloc, work, system),
             None => Ok(None),
         }
@@ -765,9 +765,9 @@ impl KeptRun {
                 let run = kept_copy(alloc, longer, numbers.scales, &work.lists, place, end)?;
                 Ok(Some(Broken::Point(run)))
             }
-            Some((place, Ending::Refuted(l))) => {
-                let x = &mut work.rows.wide;
-                match multipliers_of(alloc, x, longer, &numbers, &work.lists, place, l)? {
+            Some((place, Ending::Refuted(side))) => {
+                let wide = &mut work.rows.wide;
+                match multipliers_of(alloc, wide, longer, &numbers, &work.lists, place, side)? {
                     Some(multipliers) => Ok(Some(Broken::Refuted(multipliers))),
                     None => Ok(None),
                 }
@@ -845,19 +845,19 @@ impl KeptRun {
         self.meets_longer(work, longer)
     }
 
-    /// Whether the run of the system with its row i, from 0, the other way round behind its own ends with
+    /// Whether the run of the system with its row at the index, from 0, the other way round behind its own ends with
     /// a point, where the system given is this one. It may become the longer one.
     fn meets_with_turned(
         &self,
         work: &mut Workspace,
         longer: &mut WholeSystem,
-        i: usize,
+        index: usize,
     ) -> Result<Option<bool>, AllocError>
         requires same { longer.old ≡ self.now }
-        requires row { i < height self.now }
-        ensures { IfOk result (λ o. IfSome o (IsMet (lengthened self.now (turned (row_at self.now i) ∷ [])))) }
+        requires row { index < height self.now }
+        ensures { IfOk result (λ o. IfSome o (IsMet (lengthened self.now (turned (row_at self.now index) ∷ [])))) }
     {
-        if push_turned(longer, i)? {
+        if push_turned(longer, index)? {
             self.meets_longer(work, longer)
         } else {
             Ok(None)
@@ -909,7 +909,7 @@ impl KeptRun {
         met
     }
 
-    /// Whether the run of the system with its row i, from 0, the other way round behind its own ends with
+    /// Whether the run of the system with its row at the index, from 0, the other way round behind its own ends with
     /// a point, from where this one ends on or anew. `None` where whole numbers don't serve for it, and
     /// else no number that it forms is wide.
     ///
@@ -918,15 +918,15 @@ impl KeptRun {
         &self,
         alloc: Global,
         work: &mut Workspace,
-        i: usize,
+        index: usize,
     ) -> Result<Option<bool>, AllocError>
-        requires { i < height self.now }
-        ensures point { IfOk result (λ o. IfSome o (λ yes. IsTrue yes → turn (lengthened self.now (turned (row_at self.now i) ∷ [])) (last_position (lengthened self.now (turned (row_at self.now i) ∷ []))) ≡ has_point)) }
-        ensures refuted { IfOk result (λ o. IfSome o (λ yes. yes ≡ false → IsRefuted (lengthened self.now (turned (row_at self.now i) ∷ [])))) }
-        ensures fits { IfOk result (λ o. IfSome o (λ _. RunFits (lengthened self.now (turned (row_at self.now i) ∷ [])))) }
+        requires { index < height self.now }
+        ensures point { IfOk result (λ o. IfSome o (λ yes. IsTrue yes → turn (lengthened self.now (turned (row_at self.now index) ∷ [])) (last_position (lengthened self.now (turned (row_at self.now index) ∷ []))) ≡ has_point)) }
+        ensures refuted { IfOk result (λ o. IfSome o (λ yes. yes ≡ false → IsRefuted (lengthened self.now (turned (row_at self.now index) ∷ [])))) }
+        ensures fits { IfOk result (λ o. IfSome o (λ _. RunFits (lengthened self.now (turned (row_at self.now index) ∷ [])))) }
     {
         let mut system = self.scratch(alloc, work)?;
-        let met = self.meets_with_turned(work, &mut system, i);
+        let met = self.meets_with_turned(work, &mut system, index);
         work.system = Some(system);
         met
     }
@@ -966,14 +966,14 @@ impl KeptRun {
         }
     }
 
-    /// The multipliers at the last position, where the row of the side l refutes.
+    /// The multipliers at the last position, where the row of this side refutes.
     fn multipliers(
         &self,
         alloc: Global,
         work: &mut Vec<i128>,
-        l: usize,
+        side: usize,
     ) -> Result<Option<Multipliers>, AllocError>
-        requires { turn self.now (last_position self.now) ≡ is_refuted l }
+        requires { turn self.now (last_position self.now) ≡ is_refuted side }
         ensures { IfOk result (λ o. IfSome o (EndsRefuted self.now)) }
     {
         let Ended {
@@ -986,7 +986,7 @@ impl KeptRun {
         if numbers.scales != scales.as_slice() {
             return Ok(None);
         }
-        multipliers_of(alloc, work, &self.system, &numbers, lists, *place, l)
+        multipliers_of(alloc, work, &self.system, &numbers, lists, *place, side)
     }
 
     /// What the run ends with, in fractions. `None` where a fraction is too wide.
@@ -998,7 +998,7 @@ impl KeptRun {
                 Some(point) => Ok(Some(End::Point(point))),
                 None => Ok(None),
             },
-            Ending::Refuted(l) => match self.multipliers(alloc, &mut work.rows.wide, l)? {
+            Ending::Refuted(side) => match self.multipliers(alloc, &mut work.rows.wide, side)? {
                 Some(multipliers) => Ok(Some(End::Refuted(multipliers))),
                 None => Ok(None),
             },

@@ -29,10 +29,10 @@ pub(crate) struct KeptLists {
 }
 
 /// Makes the list at least so long.
-pub(crate) fn lengthen(list: &mut Vec<i64>, n: usize) -> Result<(), AllocError>
-    ensures { OnOk result (n ≤ length list.new.items) }
+pub(crate) fn lengthen(list: &mut Vec<i64>, size: usize) -> Result<(), AllocError>
+    ensures { OnOk result (size ≤ length list.new.items) }
 {
-    for k in list.len()..n {
+    for k in list.len()..size {
         let _ = k;
         list.push(0)?;
     }
@@ -40,10 +40,10 @@ pub(crate) fn lengthen(list: &mut Vec<i64>, n: usize) -> Result<(), AllocError>
 }
 
 /// Makes the list at least so long, where its numbers have 128 bits.
-pub(crate) fn lengthen_wide(list: &mut Vec<i128>, n: usize) -> Result<(), AllocError>
-    ensures { OnOk result (n ≤ length list.new.items) }
+pub(crate) fn lengthen_wide(list: &mut Vec<i128>, size: usize) -> Result<(), AllocError>
+    ensures { OnOk result (size ≤ length list.new.items) }
 {
-    for k in list.len()..n {
+    for k in list.len()..size {
         let _ = k;
         list.push(0)?;
     }
@@ -55,30 +55,34 @@ pub(crate) fn sizes(height: usize, width: usize) -> Option<(usize, usize)>
     ensures count { IfSome result (λ t. t.0 ≡ width + height) }
     ensures square { IfSome result (λ t. t.1 ≡ width * width) }
 {
-    let count = width.checked_add(height)?;
+    let variables = width.checked_add(height)?;
     let square = width.checked_mul(width)?;
-    Some((count, square))
+    Some((variables, square))
 }
 
-/// Where the variable x stands at first.
-fn first_seat(width: usize, x: usize) -> Seat
-    ensures { (s : LinearSystem) → s.width ≡ width → result ≡ opening_seat s x }
+/// Where the variable stands at first.
+fn first_seat(width: usize, variable: usize) -> Seat
+    ensures { (s : LinearSystem) → s.width ≡ width → result ≡ opening_seat s variable }
 {
-    if x < width {
-        Seat::Column(x)
+    if variable < width {
+        Seat::Column(variable)
     } else {
-        Seat::Row(x - width)
+        Seat::Row(variable - width)
     }
 }
 
 /// Writes where each variable stands at first.
-fn put_first_seats(seats: &mut Vec<Seat>, system: &WholeSystem, n: usize) -> Result<(), AllocError>
-    ensures { OnOk result (IsOpeningSeats system.now n seats.new.items) }
+fn put_first_seats(
+    seats: &mut Vec<Seat>,
+    system: &WholeSystem,
+    variables: usize,
+) -> Result<(), AllocError>
+    ensures { OnOk result (IsOpeningSeats system.now variables seats.new.items) }
 {
     seats.clear();
-    seats.reserve(n)?;
-    for x in 0..n {
-        let seat = first_seat(system.unknowns(), x);
+    seats.reserve(variables)?;
+    for variable in 0..variables {
+        let seat = first_seat(system.unknowns(), variable);
         seats.push(seat)?;
     }
     Ok(())
@@ -91,31 +95,31 @@ fn put_unknowns(nonbasic: &mut Vec<usize>, width: usize) -> Result<(), AllocErro
 {
     nonbasic.clear();
     nonbasic.reserve(width)?;
-    for x in 0..width {
-        nonbasic.push(x)?;
+    for variable in 0..width {
+        nonbasic.push(variable)?;
     }
     Ok(())
 }
 
 /// Writes so many zeros in place of other numbers.
-fn put_zeros(list: &mut Vec<i64>, n: usize) -> Result<(), AllocError>
-    ensures size { OnOk result (length list.new.items ≡ n) }
+fn put_zeros(list: &mut Vec<i64>, size: usize) -> Result<(), AllocError>
+    ensures size { OnOk result (length list.new.items ≡ size) }
     ensures zero { OnOk result ((k : ℕ) → whole_at list.new.items k ≡ pos 0) }
 {
-    list.resize(n, 0)?;
+    list.resize(size, 0)?;
     clear(list);
     Ok(())
 }
 
 /// Writes the numbers of the unknowns at first.
-fn put_first_numbers(v: &mut Vec<i64>, width: usize, square: usize) -> Result<(), AllocError>
+fn put_first_numbers(numbers: &mut Vec<i64>, width: usize, square: usize) -> Result<(), AllocError>
     requires { square ≡ width * width }
-    ensures size { OnOk result (length v.new.items ≡ width * width) }
-    ensures unit { OnOk result (IsUnit width v.new.items) }
-    ensures small { OnOk result (IsSmall 1 v.new.items) }
+    ensures size { OnOk result (length numbers.new.items ≡ width * width) }
+    ensures unit { OnOk result (IsUnit width numbers.new.items) }
+    ensures small { OnOk result (IsSmall 1 numbers.new.items) }
 {
-    put_zeros(v, square)?;
-    put_units(v, width);
+    put_zeros(numbers, square)?;
+    put_units(numbers, width);
     Ok(())
 }
 
@@ -142,38 +146,38 @@ fn put_seats(list: &mut Vec<Seat>, seats: &[Seat]) -> Result<(), AllocError>
 }
 
 /// Writes numbers in place of others.
-fn put_numbers(list: &mut Vec<i64>, v: &[i64]) -> Result<(), AllocError>
-    ensures { OnOk result (list.new.items ≡ v.now) }
+fn put_numbers(list: &mut Vec<i64>, numbers: &[i64]) -> Result<(), AllocError>
+    ensures { OnOk result (list.new.items ≡ numbers.now) }
 {
     list.clear();
-    list.extend_from_slice(v)?;
+    list.extend_from_slice(numbers)?;
     Ok(())
 }
 
 /// Writes numbers of 128 bits in place of others.
-fn put_wide(list: &mut Vec<i128>, v: &[i128]) -> Result<(), AllocError>
-    ensures { OnOk result (list.new.items ≡ v.now) }
+fn put_wide(list: &mut Vec<i128>, numbers: &[i128]) -> Result<(), AllocError>
+    ensures { OnOk result (list.new.items ≡ numbers.now) }
 {
     list.clear();
-    list.extend_from_slice(v)?;
+    list.extend_from_slice(numbers)?;
     Ok(())
 }
 
 /// The number, in 128 bits.
-fn widened(z: i64) -> i128
-    ensures { result ≡ z }
+fn widened(number: i64) -> i128
+    ensures { result ≡ number }
 {
-    z as i128
+    number as i128
 }
 
 /// Writes numbers of 64 bits in place of others of 128.
-fn put_widened(list: &mut Vec<i128>, v: &[i64]) -> Result<(), AllocError>
-    ensures { OnOk result (list.new.items ≡ v.now) }
+fn put_widened(list: &mut Vec<i128>, numbers: &[i64]) -> Result<(), AllocError>
+    ensures { OnOk result (list.new.items ≡ numbers.now) }
 {
     list.clear();
-    list.reserve(v.len())?;
-    for j in 0..v.len() {
-        list.push(widened(v[j]))?;
+    list.reserve(numbers.len())?;
+    for j in 0..numbers.len() {
+        list.push(widened(numbers[j]))?;
     }
     Ok(())
 }
@@ -228,15 +232,15 @@ pub(crate) fn lists_with_room(
 fn put_opening(
     lists: &mut RunLists,
     system: &WholeSystem,
-    n: usize,
+    variables: usize,
     square: usize,
 ) -> Result<(), AllocError>
-    requires count { n ≡ count system.now }
+    requires count { variables ≡ count system.now }
     requires square { square ≡ system.now.width * system.now.width }
     ensures { OnOk result (AreOpening system.now (of_short lists.new)) }
 {
     let width = system.unknowns();
-    put_first_seats(&mut lists.seats, system, n)?;
+    put_first_seats(&mut lists.seats, system, variables)?;
     put_unknowns(&mut lists.nonbasic, width)?;
     put_first_numbers(&mut lists.v, width, square)?;
     put_zeros(&mut lists.firsts, width)?;
@@ -248,15 +252,15 @@ fn put_opening(
 pub(crate) fn set_opening(
     lists: &mut KeptLists,
     system: &WholeSystem,
-    n: usize,
+    variables: usize,
     square: usize,
 ) -> Result<(), AllocError>
-    requires count { n ≡ count system.now }
+    requires count { variables ≡ count system.now }
     requires square { square ≡ system.now.width * system.now.width }
     ensures opening { OnOk result (AreOpening system.now (lists_of lists.new)) }
     ensures small { OnOk result (HaveShortValues lists.new) }
 {
-    put_opening(&mut lists.short, system, n, square)?;
+    put_opening(&mut lists.short, system, variables, square)?;
     lists.is_wide = false;
     Ok(())
 }
@@ -420,26 +424,26 @@ pub(crate) fn with_row(
     }
 }
 
-/// Puts row i, from 0, the other way round behind the others; says whether it stands there.
-pub(crate) fn push_turned(system: &mut WholeSystem, i: usize) -> Result<bool, AllocError>
-    requires { i < height system.old }
-    ensures { IfOk result (λ done. IsTrue done → system.new ≡ lengthened system.old (turned (row_at system.old i) ∷ [])) }
+/// Puts the row at the index, from 0, the other way round behind the others; says whether it stands there.
+pub(crate) fn push_turned(system: &mut WholeSystem, index: usize) -> Result<bool, AllocError>
+    requires { index < height system.old }
+    ensures { IfOk result (λ done. IsTrue done → system.new ≡ lengthened system.old (turned (row_at system.old index) ∷ [])) }
 {
-    let done = system.push_turned(i)?;
+    let done = system.push_turned(index)?;
     Ok(done)
 }
 
-/// The system with its row i, from 0, the other way round behind its own, in lists of its own.
+/// The system with its row at the index, from 0, the other way round behind its own, in lists of its own.
 pub(crate) fn with_turned(
     alloc: Global,
     system: &WholeSystem,
-    i: usize,
+    index: usize,
 ) -> Result<Option<WholeSystem>, AllocError>
-    requires { i < height system.now }
-    ensures { IfOk result (λ o. IfSome o (λ s. s ≡ lengthened system.now (turned (row_at system.now i) ∷ []))) }
+    requires { index < height system.now }
+    ensures { IfOk result (λ o. IfSome o (λ s. s ≡ lengthened system.now (turned (row_at system.now index) ∷ []))) }
 {
     let mut longer = system.copy_with_room(alloc, 1)?;
-    if longer.push_turned(i)? {
+    if longer.push_turned(index)? {
         Ok(Some(longer))
     } else {
         Ok(None)

@@ -13,9 +13,9 @@ returns c =
     let k = m.scales.now in
     let from = c.args.from in
     let most = c.in_ok-most.most in
-    let counted : c.in_ok-n.n ≡ count s = (let e = c.in_ok-n.ensures in let u = c.unknowns-width.ensures in let h = c.height.ensures in omega arith) in
+    let counted : c.in_ok-variables.variables ≡ count s = (let e = c.in_ok-variables.ensures in let u = c.unknowns-width.ensures in let h = c.height.ensures in omega arith) in
     let g : HasBounds s k m.a.now m.b.now most =
-    has_bounds s k c.in_ok-n.n c.unknowns-width.result m.most_entry m.most_side m.most_scale most m.a.now m.b.now counted c.unknowns-width.ensures c.requires.numbers.entries c.requires.numbers.sides c.requires.numbers.scales c.requires.numbers.some_side c.in_ok-most.ensures.room c.in_ok-most.ensures.top c.in_ok-most.ensures.side_room
+    has_bounds s k c.in_ok-variables.variables c.unknowns-width.result m.most_entry m.most_side m.most_scale most m.a.now m.b.now counted c.unknowns-width.ensures c.requires.numbers.entries c.requires.numbers.sides c.requires.numbers.scales c.requires.numbers.some_side c.in_ok-most.ensures.room c.in_ok-most.ensures.top c.in_ok-most.ensures.side_room
     in
     let own : from.own ≤ most = (let e = c.max.ensures in let l = c.if-max-most.false in omega arith) in
     let den : from.den ≤ c.max-dens.result = (let e = c.max-dens.ensures in omega arith) in

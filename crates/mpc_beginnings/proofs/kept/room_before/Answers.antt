@@ -10,10 +10,10 @@ returns-clause-before c =
     let norm = c.in_ok-norm.field-0 in
     let size = norm * p.greatest in
     let sized : c.in_ok-size.size ≡ size = c.in_ok-size.ensures.1 in
-    let counted : c.in_ok-n.n ≡ count s = (let e = c.in_ok-n.ensures in let u = c.unknowns-width.ensures in let h = c.height.ensures in omega arith) in
+    let counted : c.in_ok-variables.variables ≡ count s = (let e = c.in_ok-variables.ensures in let u = c.unknowns-width.ensures in let h = c.height.ensures in omega arith) in
     let term : c.in_ok-term.term ≡ size * c.max-rest.result = subst (λ n. c.in_ok-term.term ≡ n * c.max-rest.result) sized c.in_ok-term.ensures.value in
-    let all : c.in_ok-n.n * c.in_ok-term.term ≤ 2 ^ 125 = (let e = c.in_ok-small_product-3.ensures.value in let h = c.in_ok-small_product-3.ensures.small in omega arith) in
-    let room : count s * (size * c.max-rest.result) ≤ 2 ^ 125 = subst (λ n. n * (size * c.max-rest.result) ≤ 2 ^ 125) counted (subst (λ t. c.in_ok-n.n * t ≤ 2 ^ 125) term all) in
+    let all : c.in_ok-variables.variables * c.in_ok-term.term ≤ 2 ^ 125 = (let e = c.in_ok-small_product-3.ensures.value in let h = c.in_ok-small_product-3.ensures.small in omega arith) in
+    let room : count s * (size * c.max-rest.result) ≤ 2 ^ 125 = subst (λ n. n * (size * c.max-rest.result) ≤ 2 ^ 125) counted (subst (λ t. c.in_ok-variables.variables * t ≤ 2 ^ 125) term all) in
     let side : m.most_side ≤ c.max-rest.result = (let e = c.max-rest.ensures in omega arith) in
     let scale : m.most_scale ≤ c.max-rest.result = (let e = c.max-rest.ensures in omega arith) in
     record {

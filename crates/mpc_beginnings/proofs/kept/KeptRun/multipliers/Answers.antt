@@ -25,5 +25,5 @@ multipliers_of-requires-clause-kept c =
     let kept : AreKept r.system d.scales.items d.lists d.place d.end = subst (λ (t : LinearSystem). AreKept t d.scales.items d.lists d.place d.end) (sym c.self.view_is) c.last.ensures in
     let m = c.numbers_of-numbers.result in
     let same : m.scales.now ≡ d.scales.items = search rules in
-    let ends : turn r.system (last_position r.system) ≡ is_refuted c.args.l = subst (λ (t : LinearSystem). turn t (last_position t) ≡ is_refuted c.args.l) (sym c.self.view_is) c.requires in
-    record { kept = kept_refuted r.system d.scales.items (lists_of d.lists) d.place d.end kept.kept m.scales.now same c.args.l ends; short = kept.short }
+    let ends : turn r.system (last_position r.system) ≡ is_refuted c.args.side = subst (λ (t : LinearSystem). turn t (last_position t) ≡ is_refuted c.args.side) (sym c.self.view_is) c.requires in
+    record { kept = kept_refuted r.system d.scales.items (lists_of d.lists) d.place d.end kept.kept m.scales.now same c.args.side ends; short = kept.short }
