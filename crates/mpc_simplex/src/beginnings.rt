@@ -76,39 +76,39 @@ impl Beginning {
         }
     }
 
-    /// The run of the system with its row i, from 0, the other way round behind its own, kept where it
+    /// The run of the system with its row at the index, from 0, the other way round behind its own, kept where it
     /// ends. It goes on from where this one ended, and no fraction is read. Nothing where whole numbers
     /// don't serve for it.
     pub fn extend_turned(
         &self,
         alloc: Global,
         work: &mut Workspace,
-        i: usize,
+        index: usize,
     ) -> Result<Option<Beginning>, NoMemory>
-        requires { i < height self.now }
-        ensures { IfOk result (λ o. IfSome o (λ b. b ≡ lengthened self.now (turned (row_at self.now i) ∷ []))) }
+        requires { index < height self.now }
+        ensures { IfOk result (λ o. IfSome o (λ b. b ≡ lengthened self.now (turned (row_at self.now index) ∷ []))) }
     {
-        match self.run.extend_turned(alloc, work, i)? {
+        match self.run.extend_turned(alloc, work, index)? {
             Some(run) => Ok(Some(Beginning { run })),
             None => Ok(None),
         }
     }
 
-    /// Whether the system with its row i, from 0, the other way round behind its own has a point. No
+    /// Whether the system with its row at the index, from 0, the other way round behind its own has a point. No
     /// fraction is read, and nothing is kept. Nothing where whole numbers don't serve for its run, and
     /// else no number of that is too wide.
     pub fn meets_turned(
         &self,
         alloc: Global,
         work: &mut Workspace,
-        i: usize,
+        index: usize,
     ) -> Result<Option<bool>, NoMemory>
-        requires { i < height self.now }
-        ensures answer { IfOk result (λ o. IfSome o (λ yes. IsTrue yes ↔ HasPoint (lengthened self.now (turned (row_at self.now i) ∷ [])))) }
-        ensures fits { IfOk result (λ o. IfSome o (λ _. RunFits (lengthened self.now (turned (row_at self.now i) ∷ [])))) }
+        requires { index < height self.now }
+        ensures answer { IfOk result (λ o. IfSome o (λ yes. IsTrue yes ↔ HasPoint (lengthened self.now (turned (row_at self.now index) ∷ [])))) }
+        ensures fits { IfOk result (λ o. IfSome o (λ _. RunFits (lengthened self.now (turned (row_at self.now index) ∷ [])))) }
     {
         system_theorems();
-        let answer = self.run.meets_turned(alloc, work, i)?;
+        let answer = self.run.meets_turned(alloc, work, index)?;
         Ok(answer)
     }
 

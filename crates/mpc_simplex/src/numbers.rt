@@ -8,28 +8,28 @@ ghost use Rattle.mpc_rows.specs.Run.{is_zero};
 use mpc_frac::{Frac, fit_theorems};
 use mpc_runs::{Standing, zero};
 
-fn is_less(x: &Frac, y: &Frac) -> bool
-    ensures { result ≡ lt_ℚ x.now y.now }
+fn is_less(left: &Frac, right: &Frac) -> bool
+    ensures { result ≡ lt_ℚ left.now right.now }
 {
-    x.cmp(y).is_lt()
+    left.cmp(right).is_lt()
 }
 
-fn is_at_most(x: &Frac, y: &Frac) -> bool
-    ensures { result ≡ le_ℚ x.now y.now }
+fn is_at_most(left: &Frac, right: &Frac) -> bool
+    ensures { result ≡ le_ℚ left.now right.now }
 {
-    x.cmp(y).is_le()
+    left.cmp(right).is_le()
 }
 
-pub(crate) fn is_zero(x: &Frac) -> bool
-    ensures { result ≡ is_zero x.now }
+pub(crate) fn is_zero(number: &Frac) -> bool
+    ensures { result ≡ is_zero number.now }
 {
-    x.is_zero()
+    number.is_zero()
 }
 
-pub(crate) fn is_positive(x: &Frac) -> bool
-    ensures { result ≡ lt_ℚ (int (pos 0)) x.now }
+pub(crate) fn is_positive(number: &Frac) -> bool
+    ensures { result ≡ lt_ℚ (int (pos 0)) number.now }
 {
-    is_less(&zero(), x)
+    is_less(&zero(), number)
 }
 
 /// One over the number, which always fits.
@@ -44,8 +44,8 @@ pub(crate) fn inverse(number: &Frac) -> Frac
     }
 }
 
-pub(crate) fn is_below(p: &Standing, q: &Standing) -> bool
-    ensures { result ≡ is_below (record { first = p.now.0; second = p.now.1 }) (record { first = q.now.0; second = q.now.1 }) }
+pub(crate) fn is_below(left: &Standing, right: &Standing) -> bool
+    ensures { result ≡ is_below (record { first = left.now.0; second = left.now.1 }) (record { first = right.now.0; second = right.now.1 }) }
 {
-    is_less(&p.0, &q.0) || (is_at_most(&p.0, &q.0) && is_less(&p.1, &q.1))
+    is_less(&left.0, &right.0) || (is_at_most(&left.0, &right.0) && is_less(&left.1, &right.1))
 }

@@ -174,8 +174,8 @@ fn standing(
     if !is_basic(seats, unknown) {
         return Ok(rest(system, unknown));
     }
-    let v = value(system, seats, entries, sides, variables, unknown)?;
-    Ok(v)
+    let stand = value(system, seats, entries, sides, variables, unknown)?;
+    Ok(stand)
 }
 
 /// The values of the unknowns, with room for the list of the nonbasic sides.
@@ -195,29 +195,29 @@ fn point(
 {
     let count = nonbasic_sides(list, system, seats, variables);
     let sides = &list[..count];
-    for j in 0..system.unknowns() {
-        let value = standing(system, seats, entries, sides, variables, j)?;
-        values[j] = value;
+    for unknown in 0..system.unknowns() {
+        let value = standing(system, seats, entries, sides, variables, unknown)?;
+        values[unknown] = value;
     }
     Ok(())
 }
 
-/// The multiplier of row i where the row of the variable that would leave refutes.
+/// The multiplier of a row where the row of the variable that would leave refutes.
 fn multiplier(
     system: &System,
     seats: &[Seat],
     entries: &[Frac],
     variables: usize,
     leaving: usize,
-    i: usize,
+    row: usize,
 ) -> Frac
     requires table { IsTable system.now variables seats.now entries.now }
     requires l_below { leaving < variables }
     requires l_basic { in_row (seat_at seats.now leaving) ≡ true }
-    requires i_below { i < height system.now }
-    ensures { result ≡ multiplier system.now (position_of system.now.width seats.now entries.now) leaving i }
+    requires i_below { row < height system.now }
+    ensures { result ≡ multiplier system.now (position_of system.now.width seats.now entries.now) leaving row }
 {
-    let side = system.unknowns() + i;
+    let side = system.unknowns() + row;
     if side == leaving {
         return Frac::whole(1);
     }
@@ -242,9 +242,9 @@ fn multipliers(
     requires l_basic { in_row (seat_at seats.now leaving) ≡ true }
     ensures { IsMultipliers system.now (position_of system.now.width seats.now entries.now) leaving list.new }
 {
-    for i in 0..system.height() {
-        let value = multiplier(system, seats, entries, variables, leaving, i);
-        list[i] = value;
+    for row in 0..system.height() {
+        let value = multiplier(system, seats, entries, variables, leaving, row);
+        list[row] = value;
     }
 }
 

@@ -54,7 +54,7 @@ fn own_entry(
     }
     let negative = cell(entries, height, width, pivot_row, column).neg();
     match negative.mul(over_pivot) {
-        Ok(v) => Ok(v),
+        Ok(entry) => Ok(entry),
         Err(wide) => Err(wide),
     }
 }
@@ -89,7 +89,7 @@ fn own_row(
             &over_pivot,
             column,
         ) {
-            Ok(v) => row[column] = v,
+            Ok(entry) => row[column] = entry,
             Err(wide) => return Err(wide),
         }
     }
@@ -137,7 +137,7 @@ fn change_row(
         let here = place(height, width, target, column);
         let old = entries[here];
         match changed_entry(&old, factor, &row[column], pivot_column, column) {
-            Ok(v) => entries[here] = v,
+            Ok(entry) => entries[here] = entry,
             Err(wide) => return Err(wide),
         }
     }

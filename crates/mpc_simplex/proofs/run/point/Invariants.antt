@@ -4,5 +4,5 @@ use Rattle.mpc_runs.specs.Table.{position_of}
 use Rattle.mpc_runs.proofs.Answered.{pair_in}
 use Rattle.mpc_simplex.proofs.run.point.Given as goal
 
-abbrev pub invariant-loop-j : goal.invariant-loop-j
-invariant-loop-j l = (i : ℕ) → i < l.j → pair_in l.values i ≡ value l.system (position_of l.system.width l.seats l.entries) i
+abbrev pub invariant-loop-unknown : goal.invariant-loop-unknown
+invariant-loop-unknown l = (i : ℕ) → i < l.unknown → pair_in l.values i ≡ value l.system (position_of l.system.width l.seats l.entries) i

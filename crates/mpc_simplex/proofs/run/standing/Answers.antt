@@ -19,7 +19,7 @@ returns-then-not-is_basic-clause-first c = c.rest.ensures.first ∙ sym (ap (λ 
 pub returns-then-not-is_basic-clause-second : goal.returns-then-not-is_basic-clause-second
 returns-then-not-is_basic-clause-second c = c.rest.ensures.second ∙ sym (ap (λ (z : Pair). z.second) (rests (goal.at.returns-then-not-is_basic-clause-second c).Then-not-is_basic))
 
-pub returns-in_err-v-clause-wide : goal.returns-in_err-v-clause-wide
-returns-in_err-v-clause-wide c =
+pub returns-in_err-stand-clause-wide : goal.returns-in_err-stand-clause-wide
+returns-in_err-stand-clause-wide c =
     MatchResult-from_err c.from_residual.result _ _ (search rules)
-    (λ _ w. c.in_err-v.ensures.wide (w.values c.args.unknown c.requires.j_below (basic_is c.args.system.now.width c.args.variables c.args.seats.now c.args.entries.now c.requires.table.seated.each c.args.unknown ∙ sym c.is_basic.ensures ∙ c.if-not-is_basic.false)))
+    (λ _ w. c.in_err-stand.ensures.wide (w.values c.args.unknown c.requires.j_below (basic_is c.args.system.now.width c.args.variables c.args.seats.now c.args.entries.now c.requires.table.seated.each c.args.unknown ∙ sym c.is_basic.ensures ∙ c.if-not-is_basic.false)))

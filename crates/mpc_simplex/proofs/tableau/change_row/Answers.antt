@@ -8,9 +8,9 @@ loop-column-preserved c =
     let b : c.place-here.result < length c.loop-column.entries = (let h = c.place-here.ensures.below in let l = c.loop-column.auto in let s = c.requires.shape.size in omega arith) in
     let d : c.loop-column.column < length c.args.row.now = (let h = c.loop-column-test.true in let s = c.requires.room in omega arith) in
     record {
-      done = set_done c.args.width c.args.entries.now c.loop-column.entries c.args.target c.loop-column.column c.place-here.result c.in-Ok.v c.place-here.ensures.value b
+      done = set_done c.args.width c.args.entries.now c.loop-column.entries c.args.target c.loop-column.column c.place-here.result c.in-Ok.entry c.place-here.ensures.value b
           (changed_cell c.args.width c.args.entries.now (row_at c.args.row.now) c.args.pivot_column c.args.target) c.loop-column.invariant.done
-          (step_value c.args.width c.args.entries.now c.loop-column.entries c.args.row.now c.args.target c.loop-column.column c.args.pivot_column c.place-here.result c.args.factor.now c.index-entries-here.result c.index-row-column.result c.requires.factor c.place-here.ensures.value b c.index-entries-here.is d c.index-row-column.is c.loop-column.invariant.kept c.in-Ok.v c.in-Ok.ensures.value);
-      kept = set_kept c.args.width c.args.entries.now c.loop-column.entries c.args.target c.loop-column.column c.place-here.result c.in-Ok.v c.place-here.ensures.value b c.loop-column.invariant.kept;
+          (step_value c.args.width c.args.entries.now c.loop-column.entries c.args.row.now c.args.target c.loop-column.column c.args.pivot_column c.place-here.result c.args.factor.now c.index-entries-here.result c.index-row-column.result c.requires.factor c.place-here.ensures.value b c.index-entries-here.is d c.index-row-column.is c.loop-column.invariant.kept c.in-Ok.entry c.in-Ok.ensures.value);
+      kept = set_kept c.args.width c.args.entries.now c.loop-column.entries c.args.target c.loop-column.column c.place-here.result c.in-Ok.entry c.place-here.ensures.value b c.loop-column.invariant.kept;
       fits = fits_more c.args.width c.args.entries.now c.loop-column.entries c.args.row.now c.args.target c.loop-column.column c.args.pivot_column c.place-here.result c.args.factor.now c.index-entries-here.result c.index-row-column.result c.requires.factor c.place-here.ensures.value b c.index-entries-here.is d c.index-row-column.is c.loop-column.invariant.kept c.in-Ok.ensures.wide c.loop-column.invariant.fits;
     }
