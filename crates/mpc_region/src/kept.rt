@@ -47,9 +47,9 @@ pub fn shared_members(one: ActiveSet, other: ActiveSet) -> u32
     ensures alike { take result one ≡ take result other }
 {
     let most = one.size().min(other.size());
-    for k in 0..most {
-        if one.member(k + 1) != other.member(k + 1) {
-            return k;
+    for index in 0..most {
+        if one.member(index + 1) != other.member(index + 1) {
+            return index;
         }
     }
     most
@@ -71,27 +71,27 @@ pub fn joint_place(qp: &Qp, member: u32) -> usize
     2 * qp.counts.len() + (member - 1) as usize
 }
 
-/// The run of the first k + 1 members by that of the first k: the row of one more member, the other
-/// way round, comes behind.
+/// The run of one member more than so many first ones, by that of these: the row of that member, the
+/// other way round, comes behind.
 fn next_run(
     alloc: Global,
     qp: &Qp,
     work: &mut Workspace,
     set: ActiveSet,
-    k: u32,
+    members: u32,
     before: &Option<Beginning>,
 ) -> Result<Option<Beginning>, NoMemory>
     requires set_of_rows { IsSetOfRows (height qp.now.g) set }
-    requires member { k < length set }
-    requires before { IsReachRun qp.now (take k set) before.now }
-    ensures { IfOk result (IsReachRun qp.now (take (k + 1) set)) }
+    requires member { members < length set }
+    requires before { IsReachRun qp.now (take members set) before.now }
+    ensures { IfOk result (IsReachRun qp.now (take (members + 1) set)) }
 {
     law_theorems();
-    prove!(k < set.size());
+    prove!(members < set.size());
     let Some(run) = before else {
         return Ok(None);
     };
-    let place = joint_place(qp, set.member(k + 1));
+    let place = joint_place(qp, set.member(members + 1));
     run.extend_turned(alloc, work, place)
 }
 

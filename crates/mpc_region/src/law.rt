@@ -30,19 +30,19 @@ pub enum LawEnd {
     Found(Law),
 }
 
-/// The law whose forms are the rows of x.
-fn law_from(alloc: Global, qp: &Qp, set: ActiveSet, x: &Matrix) -> Result<Law, NoMemory>
+/// The law whose forms are the rows of the solution.
+fn law_from(alloc: Global, qp: &Qp, set: ActiveSet, solution: &Matrix) -> Result<Law, NoMemory>
     requires set_of_rows { IsSetOfRows (height qp.now.g) set }
     requires few { length set ≤ height qp.now.h }
-    requires solution { IsOnlySolution (law_matrix qp.now set) (law_right qp.now set) x.now }
+    requires solution { IsOnlySolution (law_matrix qp.now set) (law_right qp.now set) solution.now }
     ensures set { IfOk result (λ law. law.set ≡ set) }
     ensures law { IfOk result (λ law. IsLaw qp.now law) }
 {
     let unknowns = qp.h.rows();
     Ok(Law {
         set,
-        moves: part(alloc, x, 0, unknowns)?,
-        mults: part(alloc, x, unknowns, set.size())?,
+        moves: part(alloc, solution, 0, unknowns)?,
+        mults: part(alloc, solution, unknowns, set.size())?,
     })
 }
 
@@ -62,7 +62,7 @@ fn law_solved(
     ensures { IfOk result (IsLawEnd qp.now set) }
 {
     match solve(alloc, matrix, right) {
-        Ok(Solved::Unique(x)) => Ok(LawEnd::Found(law_from(alloc, qp, set, &x)?)),
+        Ok(Solved::Unique(solution)) => Ok(LawEnd::Found(law_from(alloc, qp, set, &solution)?)),
         Ok(Solved::Dependent(_)) => Ok(LawEnd::Dependent),
         Err(LinearError::Wide(_)) => Ok(LawEnd::Wide),
         Err(LinearError::NoMemory) => Err(NoMemory),
@@ -101,7 +101,9 @@ fn part_solved(
 {
     match solve_part(alloc, table, places, sides) {
         Ok(None) => Ok(None),
-        Ok(Some(Solved::Unique(x))) => Ok(Some(LawEnd::Found(law_from(alloc, qp, set, &x)?))),
+        Ok(Some(Solved::Unique(solution))) => Ok(Some(LawEnd::Found(law_from(
+            alloc, qp, set, &solution,
+        )?))),
         Ok(Some(Solved::Dependent(_))) => Ok(Some(LawEnd::Dependent)),
         Err(LinearError::Wide(_)) => Ok(Some(LawEnd::Wide)),
         Err(LinearError::NoMemory) => Err(NoMemory),

@@ -14,63 +14,63 @@ use mpc_rows::{Qp, law_theorems};
 use mpc_sets::ActiveSet;
 use std::alloc::Global;
 
-/// The entry in column j of the row of member k, both counted from 0.
-fn member_entry(m: &Matrix, set: ActiveSet, k: u32, j: u32) -> Frac
-    requires set_of_rows { IsSetOfRows (height m.now) set }
-    requires member { k < length set }
-    requires column { j < m.now.columns }
-    ensures { result ≡ cell (rows_of m.now.rows set) k j }
+/// The entry in a column of the row of the member at an index, both counted from 0.
+fn member_entry(matrix: &Matrix, set: ActiveSet, index: u32, column: u32) -> Frac
+    requires set_of_rows { IsSetOfRows (height matrix.now) set }
+    requires member { index < length set }
+    requires column { column < matrix.now.columns }
+    ensures { result ≡ cell (rows_of matrix.now.rows set) index column }
 {
     law_theorems();
-    prove!(k < set.size());
-    m.get(set.member(k + 1) - 1, j)
+    prove!(index < set.size());
+    matrix.get(set.member(index + 1) - 1, column)
 }
 
-/// The entry of `[[h, g_S'], [g_S, 0]]` in row i and column j.
-fn law_entry(qp: &Qp, set: ActiveSet, i: u32, j: u32) -> Frac
+/// The entry of `[[h, g_S'], [g_S, 0]]` in a row and a column.
+fn law_entry(qp: &Qp, set: ActiveSet, row: u32, column: u32) -> Frac
     requires set_of_rows { IsSetOfRows (height qp.now.g) set }
-    requires row { i < height qp.now.h + length set }
-    requires column { j < height qp.now.h + length set }
-    ensures { result ≡ law_entry qp.now set i j }
+    requires row { row < height qp.now.h + length set }
+    requires column { column < height qp.now.h + length set }
+    ensures { result ≡ law_entry qp.now set row column }
 {
     let unknowns = qp.h.rows();
-    if i < unknowns && j < unknowns {
-        qp.h.get(i, j)
-    } else if i < unknowns {
-        member_entry(&qp.g, set, j - unknowns, i)
-    } else if j < unknowns {
-        member_entry(&qp.g, set, i - unknowns, j)
+    if row < unknowns && column < unknowns {
+        qp.h.get(row, column)
+    } else if row < unknowns {
+        member_entry(&qp.g, set, column - unknowns, row)
+    } else if column < unknowns {
+        member_entry(&qp.g, set, row - unknowns, column)
     } else {
         Frac::whole(0)
     }
 }
 
-/// The right side of row i, -f or w_S, in column j.
-fn law_side(qp: &Qp, set: ActiveSet, i: u32, j: u32) -> Frac
+/// The right side of a row, -f or w_S, in a column.
+fn law_side(qp: &Qp, set: ActiveSet, row: u32, column: u32) -> Frac
     requires set_of_rows { IsSetOfRows (height qp.now.g) set }
-    requires row { i < height qp.now.h + length set }
-    requires column { j < length qp.now.counts + 1 }
-    ensures { result ≡ law_side qp.now set i j }
+    requires row { row < height qp.now.h + length set }
+    requires column { column < length qp.now.counts + 1 }
+    ensures { result ≡ law_side qp.now set row column }
 {
     let unknowns = qp.h.rows();
-    if i < unknowns {
-        qp.f.get(i, j).neg()
+    if row < unknowns {
+        qp.f.get(row, column).neg()
     } else {
-        member_entry(&qp.w, set, i - unknowns, j)
+        member_entry(&qp.w, set, row - unknowns, column)
     }
 }
 
-/// Writes row i of the matrix.
-fn write_entries(out: &mut Matrix, qp: &Qp, set: ActiveSet, i: u32)
+/// Writes a row of the matrix.
+fn write_entries(out: &mut Matrix, qp: &Qp, set: ActiveSet, row: u32)
     requires set_of_rows { IsSetOfRows (height qp.now.g) set }
-    requires row { i < height out.old }
+    requires row { row < height out.old }
     requires rows { height out.old ≡ height qp.now.h + length set }
     requires columns { out.old.columns ≡ height qp.now.h + length set }
-    ensures { WritesRow out.old out.new i (law_entry qp.now set i) }
+    ensures { WritesRow out.old out.new row (law_entry qp.now set row) }
 {
     let _rows = out.rows();
-    for j in 0..out.cols() {
-        out.set(i, j, law_entry(qp, set, i, j));
+    for column in 0..out.cols() {
+        out.set(row, column, law_entry(qp, set, row, column));
     }
 }
 
@@ -81,23 +81,23 @@ pub fn law_matrix(alloc: Global, qp: &Qp, set: ActiveSet) -> Result<Matrix, NoMe
 {
     let size = qp.h.rows() + set.size();
     let mut out = Matrix::zero(alloc, size, size)?;
-    for i in 0..size {
-        write_entries(&mut out, qp, set, i);
+    for row in 0..size {
+        write_entries(&mut out, qp, set, row);
     }
     Ok(out)
 }
 
-/// Writes row i of the right sides.
-fn write_sides(out: &mut Matrix, qp: &Qp, set: ActiveSet, i: u32)
+/// Writes a row of the right sides.
+fn write_sides(out: &mut Matrix, qp: &Qp, set: ActiveSet, row: u32)
     requires set_of_rows { IsSetOfRows (height qp.now.g) set }
-    requires row { i < height out.old }
+    requires row { row < height out.old }
     requires rows { height out.old ≡ height qp.now.h + length set }
     requires columns { out.old.columns ≡ length qp.now.counts + 1 }
-    ensures { WritesRow out.old out.new i (law_side qp.now set i) }
+    ensures { WritesRow out.old out.new row (law_side qp.now set row) }
 {
     let _rows = out.rows();
-    for j in 0..out.cols() {
-        out.set(i, j, law_side(qp, set, i, j));
+    for column in 0..out.cols() {
+        out.set(row, column, law_side(qp, set, row, column));
     }
 }
 
@@ -108,34 +108,34 @@ pub fn law_right(alloc: Global, qp: &Qp, set: ActiveSet) -> Result<Matrix, NoMem
 {
     let size = qp.h.rows() + set.size();
     let mut out = Matrix::zero(alloc, size, qp.f.cols())?;
-    for i in 0..size {
-        write_sides(&mut out, qp, set, i);
+    for row in 0..size {
+        write_sides(&mut out, qp, set, row);
     }
     Ok(out)
 }
 
-/// Writes row `first + i` of x into row i.
-fn copy_row(out: &mut Matrix, i: u32, x: &Matrix, first: u32)
-    requires row { i < height out.old }
-    requires source { first + i < height x.now }
-    requires columns { out.old.columns ≡ x.now.columns }
-    ensures { WritesRow out.old out.new i (entry x.now (first + i)) }
+/// Writes the row `first + row` of the solution into the row `row`.
+fn copy_row(out: &mut Matrix, row: u32, solution: &Matrix, first: u32)
+    requires row { row < height out.old }
+    requires source { first + row < height solution.now }
+    requires columns { out.old.columns ≡ solution.now.columns }
+    ensures { WritesRow out.old out.new row (entry solution.now (first + row)) }
 {
-    let _rows = (out.rows(), x.rows());
-    for j in 0..x.cols() {
-        out.set(i, j, x.get(first + i, j));
+    let _rows = (out.rows(), solution.rows());
+    for column in 0..solution.cols() {
+        out.set(row, column, solution.get(first + row, column));
     }
 }
 
-/// So many rows of x, from the row `first` on.
-pub fn part(alloc: Global, x: &Matrix, first: u32, count: u32) -> Result<Matrix, NoMemory>
-    requires { first + count ≤ height x.now }
-    ensures { IfOk result (λ m. m ≡ tabled count x.now.columns (λ i j. entry x.now (first + i) j)) }
+/// So many rows of the solution, from the row `first` on.
+pub fn part(alloc: Global, solution: &Matrix, first: u32, count: u32) -> Result<Matrix, NoMemory>
+    requires { first + count ≤ height solution.now }
+    ensures { IfOk result (λ m. m ≡ tabled count solution.now.columns (λ i j. entry solution.now (first + i) j)) }
 {
-    let _rows = x.rows();
-    let mut out = Matrix::zero(alloc, count, x.cols())?;
-    for i in 0..count {
-        copy_row(&mut out, i, x, first);
+    let _rows = solution.rows();
+    let mut out = Matrix::zero(alloc, count, solution.cols())?;
+    for row in 0..count {
+        copy_row(&mut out, row, solution, first);
     }
     Ok(out)
 }

@@ -33,10 +33,10 @@ pub fn law_rows(alloc: Global, qp: &Qp, law: &Law) -> Result<Vec<RowInt>, Linear
         (λ e. IfWideStep e (λ i. IsFirstWideRow qp.now i law.now)) }
 {
     let mut rows = Vec::new(alloc);
-    for i in 1..qp.g.rows() + 1 {
-        match law_row(alloc, qp, law, i) {
+    for number in 1..qp.g.rows() + 1 {
+        match law_row(alloc, qp, law, number) {
             Ok(row) => rows.push(row)?,
-            Err(LinearError::Wide(_)) => return Err(LinearError::Wide(i)),
+            Err(LinearError::Wide(_)) => return Err(LinearError::Wide(number)),
             Err(LinearError::NoMemory) => return Err(LinearError::NoMemory),
         }
     }

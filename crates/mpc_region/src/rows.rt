@@ -39,17 +39,17 @@ fn shared_with(shared: u64, size: u64) -> u64
     greatest_common_divisor(rest as u128, shared as u128) as u64
 }
 
-/// The greatest common divisor of so many numbers of row i, from the column `first` on; 0 where all are 0.
-fn shared_divisor(table: &Swept, i: usize, first: usize, count: usize) -> u64
+/// The greatest common divisor of so many numbers of a row, from the column `first` on; 0 where all are 0.
+fn shared_divisor(table: &Swept, row: usize, first: usize, count: usize) -> u64
     requires table { IsTable table.now }
-    requires row { i < table.now.rows }
+    requires row { row < table.now.rows }
     requires columns { first + count ≤ table.now.columns }
-    ensures shared { IsSharedBy (number_from table.now i first) count result }
+    ensures shared { IsSharedBy (number_from table.now row first) count result }
     ensures small { result ≤ 2 ^ 62 }
 {
     let mut shared = 0;
-    for j in 0..count {
-        shared = shared_with(shared, table.at(i, first + j).unsigned_abs());
+    for index in 0..count {
+        shared = shared_with(shared, table.at(row, first + index).unsigned_abs());
         if shared == 1 {
             return 1;
         }
@@ -59,70 +59,70 @@ fn shared_divisor(table: &Swept, i: usize, first: usize, count: usize) -> u64
 
 /// The greatest common divisor of the bound of a row, which stands in the column `first`, and of its sides behind that. It begins with
 /// the sides: they share more, and the bound is the largest.
-fn row_divisor(table: &Swept, i: usize, first: usize, sides: usize) -> u64
+fn row_divisor(table: &Swept, row: usize, first: usize, sides: usize) -> u64
     requires table { IsTable table.now }
-    requires row { i < table.now.rows }
+    requires row { row < table.now.rows }
     requires columns { first + (sides + 1) ≤ table.now.columns }
-    ensures shared { IsSharedBy (number_from table.now i first) (sides + 1) result }
+    ensures shared { IsSharedBy (number_from table.now row first) (sides + 1) result }
     ensures small { result ≤ 2 ^ 62 }
 {
-    let shared = shared_divisor(table, i, first + 1, sides);
-    shared_with(shared, table.at(i, first).unsigned_abs())
+    let shared = shared_divisor(table, row, first + 1, sides);
+    shared_with(shared, table.at(row, first).unsigned_abs())
 }
 
-/// z divided by one of its divisors. The sizes are divided: where they fit 32 bits, the processor does that in a part of the time.
+/// The dividend over one of its divisors. The sizes are divided: where they fit 32 bits, the processor does that in a part of the time.
 #[inline]
-fn quotient(z: i64, by: u64) -> i64
-    requires small { unsigned_abs z ≤ 2 ^ 62 }
+fn quotient(dividend: i64, by: u64) -> i64
+    requires small { unsigned_abs dividend ≤ 2 ^ 62 }
     requires positive { 0 < by }
-    requires divides { by ∣ unsigned_abs z }
-    ensures value { result *ℤ pos by ≡ z }
+    requires divides { by ∣ unsigned_abs dividend }
+    ensures value { result *ℤ pos by ≡ dividend }
     ensures small { unsigned_abs result ≤ 2 ^ 62 }
 {
     if by == 1 {
-        return z;
+        return dividend;
     }
-    let size = z.unsigned_abs() / by;
-    turned(z, size as i64)
+    let size = dividend.unsigned_abs() / by;
+    turned(dividend, size as i64)
 }
 
 /// Minus a number.
 #[inline]
-fn negated(z: i64) -> i64
-    requires { unsigned_abs z ≤ 2 ^ 62 }
-    ensures value { result ≡ neg_ℤ z }
+fn negated(value: i64) -> i64
+    requires { unsigned_abs value ≤ 2 ^ 62 }
+    ensures value { result ≡ neg_ℤ value }
     ensures small { unsigned_abs result ≤ 2 ^ 62 }
 {
-    -z
+    -value
 }
 
-/// Writes the negatives of the numbers of row i behind the column `first`, each over a divisor of all.
-fn write_sides(sides: &mut [i64], table: &Swept, i: usize, first: usize, by: u64)
+/// Writes the negatives of the numbers of a row behind the column `first`, each over a divisor of all.
+fn write_sides(sides: &mut [i64], table: &Swept, row: usize, first: usize, by: u64)
     requires table { IsTable table.now }
-    requires row { i < table.now.rows }
+    requires row { row < table.now.rows }
     requires columns { first + (length sides.old + 1) ≤ table.now.columns }
     requires positive { 0 < by }
-    requires divides { DividesEach by (number_from table.now i first) (length sides.old + 1) }
+    requires divides { DividesEach by (number_from table.now row first) (length sides.old + 1) }
     ensures size { length sides.new ≡ length sides.old }
-    ensures sides { AreSides (number_from table.now i first) by sides.new }
+    ensures sides { AreSides (number_from table.now row first) by sides.new }
 {
-    for j in 0..sides.len() {
-        let side = quotient(table.at(i, first + (j + 1)), by);
-        sides[j] = negated(side);
+    for index in 0..sides.len() {
+        let side = quotient(table.at(row, first + (index + 1)), by);
+        sides[index] = negated(side);
     }
 }
 
-/// Writes the sides of the row in t that row i of the table shows, without a common divisor. The result is its bound.
-fn write_row(sides: &mut [i64], table: &Swept, i: usize, first: usize) -> i64
+/// Writes the sides of the row in t that a row of the table shows, without a common divisor. The result is its bound.
+fn write_row(sides: &mut [i64], table: &Swept, row: usize, first: usize) -> i64
     requires table { IsTable table.now }
-    requires row { i < table.now.rows }
+    requires row { row < table.now.rows }
     requires columns { first + (length sides.old + 1) ≤ table.now.columns }
-    ensures { IsRowFrom (number_from table.now i first) (length sides.old) (record { a = sides.new; b = result }) }
+    ensures { IsRowFrom (number_from table.now row first) (length sides.old) (record { a = sides.new; b = result }) }
 {
-    let shared = row_divisor(table, i, first, sides.len());
+    let shared = row_divisor(table, row, first, sides.len());
     let by = shared.max(1);
-    write_sides(sides, table, i, first, by);
-    quotient(table.at(i, first), by)
+    write_sides(sides, table, row, first, by);
+    quotient(table.at(row, first), by)
 }
 
 /// The rows of a law as a system in the unknowns t, in whole numbers, with room for the sides of the row that is formed.
@@ -173,22 +173,22 @@ pub fn fill_rows(
     let count = qp.g.rows() as usize;
     lines.rows.restart(qp.counts.len())?;
     make_sides(&mut lines.sides, qp.counts.len())?;
-    for i in 0..count {
-        let bound = write_row(&mut lines.sides, table, unknowns + i, unknowns + count);
+    for row in 0..count {
+        let bound = write_row(&mut lines.sides, table, unknowns + row, unknowns + count);
         lines.rows.push_small(&lines.sides, bound)?;
     }
     Ok(())
 }
 
-/// The entry in row i and column j of the table.
-fn table_entry(table: &Swept, i: u32, j: u32) -> Frac
+/// The entry in a row and a column of the table.
+fn table_entry(table: &Swept, row: u32, column: u32) -> Frac
     requires table { IsTable table.now }
-    requires row { i < table.now.rows }
-    requires column { j < table.now.columns }
-    ensures { result ≡ frac (number table.now i j) table.now.den }
+    requires row { row < table.now.rows }
+    requires column { column < table.now.columns }
+    ensures { result ≡ frac (number table.now row column) table.now.den }
 {
     fit_theorems();
-    let number = table.at(i as usize, j as usize);
+    let number = table.at(row as usize, column as usize);
     let below = table.den();
     match Frac::new(number as i128, below as i128) {
         Ok(x) => x,
@@ -196,18 +196,18 @@ fn table_entry(table: &Swept, i: u32, j: u32) -> Frac
     }
 }
 
-/// Writes the entries of a row of the table, from the column `first` on, into row i.
-fn write_entries(out: &mut Matrix, i: u32, table: &Swept, source: u32, first: u32)
-    requires row { i < height out.old }
+/// Writes the entries of a row of the table, from the column `first` on, into the row `row`.
+fn write_entries(out: &mut Matrix, row: u32, table: &Swept, source: u32, first: u32)
+    requires row { row < height out.old }
     requires table { IsTable table.now }
     requires source { source < table.now.rows }
     requires columns { first + out.old.columns ≤ table.now.columns }
     requires last { first + out.old.columns < 2 ^ 32 }
-    ensures { WritesRow out.old out.new i (λ j. frac (number table.now source (first + j)) table.now.den) }
+    ensures { WritesRow out.old out.new row (λ j. frac (number table.now source (first + j)) table.now.den) }
 {
     let _rows = out.rows();
-    for j in 0..out.cols() {
-        out.set(i, j, table_entry(table, source, first + j));
+    for column in 0..out.cols() {
+        out.set(row, column, table_entry(table, source, first + column));
     }
 }
 
@@ -221,8 +221,8 @@ fn table_moves(alloc: Global, qp: &Qp, table: &Swept, set: ActiveSet) -> Result<
     let unknowns = qp.h.rows();
     let first = unknowns + qp.g.rows();
     let mut out = Matrix::zero(alloc, unknowns, qp.f.cols())?;
-    for i in 0..unknowns {
-        write_entries(&mut out, i, table, i, first);
+    for row in 0..unknowns {
+        write_entries(&mut out, row, table, row, first);
     }
     Ok(out)
 }
@@ -237,9 +237,9 @@ fn table_mults(alloc: Global, qp: &Qp, table: &Swept, set: ActiveSet) -> Result<
     let unknowns = qp.h.rows();
     let first = unknowns + qp.g.rows();
     let mut out = Matrix::zero(alloc, set.size(), qp.f.cols())?;
-    for k in 0..set.size() {
-        let member = set.member(k + 1);
-        write_entries(&mut out, k, table, unknowns + (member - 1), first);
+    for index in 0..set.size() {
+        let member = set.member(index + 1);
+        write_entries(&mut out, index, table, unknowns + (member - 1), first);
     }
     Ok(out)
 }

@@ -21,64 +21,64 @@ pub struct Shared {
     pub is_formed: bool,
 }
 
-/// The entry of `[h, g', -f]` in row i and column j.
-fn upper_entry(qp: &Qp, i: u32, j: u32) -> Frac
-    requires row { i < height qp.now.h }
-    requires column { j < height qp.now.h + height qp.now.g + (length qp.now.counts + 1) }
-    ensures { result ≡ upper_entry qp.now i j }
+/// The entry of `[h, g', -f]` in a row and a column.
+fn upper_entry(qp: &Qp, row: u32, column: u32) -> Frac
+    requires row { row < height qp.now.h }
+    requires column { column < height qp.now.h + height qp.now.g + (length qp.now.counts + 1) }
+    ensures { result ≡ upper_entry qp.now row column }
 {
     let unknowns = qp.h.rows();
     let rows = qp.g.rows();
-    if j < unknowns {
-        qp.h.get(i, j)
-    } else if j < unknowns + rows {
-        qp.g.get(j - unknowns, i)
+    if column < unknowns {
+        qp.h.get(row, column)
+    } else if column < unknowns + rows {
+        qp.g.get(column - unknowns, row)
     } else {
-        qp.f.get(i, j - unknowns - rows).neg()
+        qp.f.get(row, column - unknowns - rows).neg()
     }
 }
 
-/// The entry of `[g, 0, w]` in row i and column j.
-fn lower_entry(qp: &Qp, i: u32, j: u32) -> Frac
-    requires row { i < height qp.now.g }
-    requires column { j < height qp.now.h + height qp.now.g + (length qp.now.counts + 1) }
-    ensures { result ≡ lower_entry qp.now i j }
+/// The entry of `[g, 0, w]` in a row and a column.
+fn lower_entry(qp: &Qp, row: u32, column: u32) -> Frac
+    requires row { row < height qp.now.g }
+    requires column { column < height qp.now.h + height qp.now.g + (length qp.now.counts + 1) }
+    ensures { result ≡ lower_entry qp.now row column }
 {
     let unknowns = qp.h.rows();
     let rows = qp.g.rows();
-    if j < unknowns {
-        qp.g.get(i, j)
-    } else if j < unknowns + rows {
+    if column < unknowns {
+        qp.g.get(row, column)
+    } else if column < unknowns + rows {
         Frac::whole(0)
     } else {
-        qp.w.get(i, j - unknowns - rows)
+        qp.w.get(row, column - unknowns - rows)
     }
 }
 
-/// The entry of `[[h, g', -f], [g, 0, w]]` in row i and column j.
-fn shared_entry(qp: &Qp, i: u32, j: u32) -> Frac
-    requires row { i < height qp.now.h + height qp.now.g }
-    requires column { j < height qp.now.h + height qp.now.g + (length qp.now.counts + 1) }
-    ensures { result ≡ shared_entry qp.now i j }
+/// The entry of `[[h, g', -f], [g, 0, w]]` in a row and a column.
+fn shared_entry(qp: &Qp, row: u32, column: u32) -> Frac
+    requires row { row < height qp.now.h + height qp.now.g }
+    requires column { column < height qp.now.h + height qp.now.g + (length qp.now.counts + 1) }
+    ensures { result ≡ shared_entry qp.now row column }
 {
     let unknowns = qp.h.rows();
-    if i < unknowns {
-        upper_entry(qp, i, j)
+    if row < unknowns {
+        upper_entry(qp, row, column)
     } else {
-        lower_entry(qp, i - unknowns, j)
+        lower_entry(qp, row - unknowns, column)
     }
 }
 
-/// Writes row i of the table.
-fn write_shared(out: &mut Matrix, qp: &Qp, i: u32)
-    requires row { i < height out.old }
+/// Writes a row of the table.
+fn write_shared(out: &mut Matrix, qp: &Qp, row: u32)
+    requires row { row < height out.old }
     requires rows { height out.old ≡ height qp.now.h + height qp.now.g }
     requires columns { out.old.columns ≡ height qp.now.h + height qp.now.g + (length qp.now.counts + 1) }
-    ensures { WritesRow out.old out.new i (shared_entry qp.now i) }
+    ensures { WritesRow out.old out.new row (shared_entry qp.now row) }
 {
     let _rows = out.rows();
-    for j in 0..out.cols() {
-        out.set(i, j, shared_entry(qp, i, j));
+    for column in 0..out.cols() {
+        out.set(row, column, shared_entry(qp, row, column));
     }
 }
 
@@ -88,8 +88,8 @@ pub fn shared_table(alloc: Global, qp: &Qp) -> Result<Matrix, NoMemory>
 {
     let size = qp.h.rows() + qp.g.rows();
     let mut out = Matrix::zero(alloc, size, size + qp.f.cols())?;
-    for i in 0..size {
-        write_shared(&mut out, qp, i);
+    for row in 0..size {
+        write_shared(&mut out, qp, row);
     }
     Ok(out)
 }
@@ -117,8 +117,8 @@ pub fn member_places(alloc: Global, unknowns: u32, set: ActiveSet) -> Result<Vec
     ensures { IfOk result (λ places. AreMemberPlaces unknowns set places.items) }
 {
     let mut places = Vec::with_capacity(alloc, set.size() as usize)?;
-    for k in 0..set.size() {
-        places.push(unknowns + (set.member(k + 1) - 1))?;
+    for index in 0..set.size() {
+        places.push(unknowns + (set.member(index + 1) - 1))?;
     }
     Ok(places)
 }
@@ -129,8 +129,8 @@ pub fn side_places(alloc: Global, first: u32, count: u32) -> Result<Vec<u32>, Al
     ensures { IfOk result (λ places. AreSidePlaces first count places.items) }
 {
     let mut places = Vec::with_capacity(alloc, count as usize)?;
-    for k in 0..count {
-        places.push(first + k)?;
+    for index in 0..count {
+        places.push(first + index)?;
     }
     Ok(places)
 }

@@ -61,18 +61,18 @@ pub fn no_sweeps(alloc: Global) -> Sweeps
 }
 
 /// Sweeps the table at one more row, if its number on the diagonal isn't 0.
-fn sweep_into(table: &Swept, out: &mut Swept, p: usize, first: usize) -> Result<bool, NoMemory>
+fn sweep_into(table: &Swept, out: &mut Swept, pivot: usize, first: usize) -> Result<bool, NoMemory>
     requires table { IsTable table.now }
-    requires row { p < table.now.rows }
-    requires column { p < table.now.columns }
+    requires row { pivot < table.now.rows }
+    requires column { pivot < table.now.columns }
     requires first { first ≤ table.now.columns }
     ensures { IfOk result (λ done. IsTrue done → (t : Table) (ps : List ℕ) (rows columns from : ℕ) → IsSwept t ps rows columns from table.now
-        → from ≤ p → p < first → ((k : ℕ) → k < length ps → get_or ps k 0 < p) → IsSwept t (ps ++ p ∷ []) rows columns first out.new) }
+        → from ≤ pivot → pivot < first → ((k : ℕ) → k < length ps → get_or ps k 0 < pivot) → IsSwept t (ps ++ pivot ∷ []) rows columns first out.new) }
 {
-    if table.at(p, p) == 0 {
+    if table.at(pivot, pivot) == 0 {
         return Ok(false);
     }
-    table.sweep(out, p, first)
+    table.sweep(out, pivot, first)
 }
 
 /// The table once it is swept at the rows of h.
@@ -81,9 +81,9 @@ fn swept_at_unknowns(alloc: Global, qp: &Qp, whole: Swept) -> Result<Option<Swep
     ensures { IfOk result (λ o. IfSome o (IsSwept (shared_entry qp.now) (range_with_len 0 (height qp.now.h)) (rights qp.now) (all_columns qp.now) (height qp.now.h))) }
 {
     let mut table = whole;
-    for p in 0..qp.h.rows() as usize {
+    for pivot in 0..qp.h.rows() as usize {
         let mut next = Swept::empty(alloc);
-        if !sweep_into(&table, &mut next, p, p + 1)? {
+        if !sweep_into(&table, &mut next, pivot, pivot + 1)? {
             return Ok(None);
         }
         table = next;
@@ -130,13 +130,13 @@ pub fn begin(alloc: Global, qp: &Qp) -> Result<Sweeps, NoMemory>
     }
 }
 
-/// Where member k of the set, counted from 1, stands among the rows and the columns of the table.
-fn member_place(qp: &Qp, set: ActiveSet, k: u32) -> usize
-    requires from_one { 1 ≤ k }
-    requires member { k ≤ length set }
-    ensures { result ≡ height qp.now.h + (get_or set (k - 1) 0 - 1) }
+/// Where the member of the set at an index, counted from 1, stands among the rows and the columns of the table.
+fn member_place(qp: &Qp, set: ActiveSet, index: u32) -> usize
+    requires from_one { 1 ≤ index }
+    requires member { index ≤ length set }
+    ensures { result ≡ height qp.now.h + (get_or set (index - 1) 0 - 1) }
 {
-    qp.h.rows() as usize + (set.member(k) as usize - 1)
+    qp.h.rows() as usize + (set.member(index) as usize - 1)
 }
 
 /// Room for one more table.
@@ -170,8 +170,13 @@ fn next_table(alloc: Global, qp: &Qp, sweeps: &mut Sweeps) -> Result<bool, NoMem
     make_room(alloc, qp, sweeps)?;
     let count = sweeps.count;
     prove!(count <= sweeps.set.size() as usize);
-    let p = member_place(qp, sweeps.set, count as u32);
-    if !sweep_into(&sweeps.tables[count - 1], &mut sweeps.last, p, p + 1)? {
+    let pivot = member_place(qp, sweeps.set, count as u32);
+    if !sweep_into(
+        &sweeps.tables[count - 1],
+        &mut sweeps.last,
+        pivot,
+        pivot + 1,
+    )? {
         return Ok(false);
     }
     swap(&mut sweeps.last, &mut sweeps.tables[count]);
@@ -213,9 +218,9 @@ fn last_end(qp: &Qp, sweeps: &Sweeps) -> SweptEnd
 {
     sweep_theorems();
     let size = sweeps.set.size();
-    let p = member_place(qp, sweeps.set, size);
+    let pivot = member_place(qp, sweeps.set, size);
     let before = &sweeps.tables[size as usize - 1];
-    if before.at(p, p) == 0 {
+    if before.at(pivot, pivot) == 0 {
         return SweptEnd::Dependent;
     }
     SweptEnd::Law
@@ -231,12 +236,12 @@ pub fn last_table(qp: &Qp, sweeps: &mut Sweeps) -> Result<bool, NoMemory>
     ensures table { IfOk result (λ done. IsTrue done → IsTableOf qp.now sweeps.old.set (rights qp.now) sweeps.new.last) }
 {
     let size = sweeps.set.size();
-    let p = member_place(qp, sweeps.set, size);
+    let pivot = member_place(qp, sweeps.set, size);
     let first = (qp.h.rows() + qp.g.rows()) as usize;
     sweep_into(
         &sweeps.tables[size as usize - 1],
         &mut sweeps.last,
-        p,
+        pivot,
         first,
     )
 }

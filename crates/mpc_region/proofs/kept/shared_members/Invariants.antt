@@ -1,5 +1,5 @@
 use Rattle.std.proofs.Common.{◌≡◌, take}
 use Rattle.mpc_region.proofs.kept.shared_members.Given as goal
 
-abbrev pub invariant-loop-k : goal.invariant-loop-k
-invariant-loop-k l = take l.k l.one ≡ take l.k l.other
+abbrev pub invariant-loop-index : goal.invariant-loop-index
+invariant-loop-index l = take l.index l.one ≡ take l.index l.other

@@ -16,11 +16,11 @@ solve-requires-clause-rows c =
 
 pub law_from-requires-clause-solution : goal.law_from-requires-clause-solution
 law_from-requires-clause-solution c =
-    solution c.args.qp.now c.args.set c.args.matrix.now c.args.right.now c.requires.matrix c.requires.right c.in-Ok-Unique.field-0 c.in-Ok-Unique.x c.in-Ok-Unique.field-0-is c.in-Ok-Unique.ensures.answer
+    solution c.args.qp.now c.args.set c.args.matrix.now c.args.right.now c.requires.matrix c.requires.right c.in-Ok-Unique.field-0 c.in-Ok-Unique.solution c.in-Ok-Unique.field-0-is c.in-Ok-Unique.ensures.answer
 
 pub returns-in_ok-law_from-in-Ok-Unique : goal.returns-in_ok-law_from-in-Ok-Unique
 returns-in_ok-law_from-in-Ok-Unique c =
-    found c.args.qp.now c.args.set c.args.matrix.now c.args.right.now c.requires.matrix c.requires.right c.in-Ok-Unique.field-0 c.in-Ok-Unique.x c.in_ok-law_from-in-Ok-Unique.field-0
+    found c.args.qp.now c.args.set c.args.matrix.now c.args.right.now c.requires.matrix c.requires.right c.in-Ok-Unique.field-0 c.in-Ok-Unique.solution c.in_ok-law_from-in-Ok-Unique.field-0
     c.in-Ok-Unique.field-0-is c.in-Ok-Unique.ensures.answer c.in-Ok-Unique.ensures.fits c.in_ok-law_from-in-Ok-Unique.ensures.set c.in_ok-law_from-in-Ok-Unique.ensures.law
 
 pub returns-in-Ok-Dependent : goal.returns-in-Ok-Dependent

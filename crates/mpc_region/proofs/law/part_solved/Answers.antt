@@ -8,12 +8,12 @@ solve_part-requires-clause-places c =
 pub law_from-requires-clause-solution : goal.law_from-requires-clause-solution
 law_from-requires-clause-solution c =
     shared_solution c.args.qp.now c.args.set c.requires.set_of_rows c.args.table.now c.requires.table c.args.places.now c.args.sides.now c.requires.places c.requires.sides
-    c.in-Ok-Some-Unique.field-0 c.in-Ok-Some-Unique.field-0-0 c.in-Ok-Some-Unique.x c.in-Ok-Some-Unique.field-0-is c.in-Ok-Some-Unique.field-0-0-is c.in-Ok-Some-Unique.ensures.answer
+    c.in-Ok-Some-Unique.field-0 c.in-Ok-Some-Unique.field-0-0 c.in-Ok-Some-Unique.solution c.in-Ok-Some-Unique.field-0-is c.in-Ok-Some-Unique.field-0-0-is c.in-Ok-Some-Unique.ensures.answer
 
 pub returns-in_ok-law_from-in-Ok-Some-Unique : goal.returns-in_ok-law_from-in-Ok-Some-Unique
 returns-in_ok-law_from-in-Ok-Some-Unique c =
     shared_found c.args.qp.now c.args.set c.requires.set_of_rows c.args.table.now c.requires.table c.args.places.now c.args.sides.now c.requires.places c.requires.sides
-    c.in-Ok-Some-Unique.field-0 c.in-Ok-Some-Unique.field-0-0 c.in-Ok-Some-Unique.x c.in_ok-law_from-in-Ok-Some-Unique.field-0 c.in-Ok-Some-Unique.field-0-is c.in-Ok-Some-Unique.field-0-0-is c.in-Ok-Some-Unique.ensures.answer c.in-Ok-Some-Unique.ensures.fits c.in_ok-law_from-in-Ok-Some-Unique.ensures.set c.in_ok-law_from-in-Ok-Some-Unique.ensures.law
+    c.in-Ok-Some-Unique.field-0 c.in-Ok-Some-Unique.field-0-0 c.in-Ok-Some-Unique.solution c.in_ok-law_from-in-Ok-Some-Unique.field-0 c.in-Ok-Some-Unique.field-0-is c.in-Ok-Some-Unique.field-0-0-is c.in-Ok-Some-Unique.ensures.answer c.in-Ok-Some-Unique.ensures.fits c.in_ok-law_from-in-Ok-Some-Unique.ensures.set c.in_ok-law_from-in-Ok-Some-Unique.ensures.law
 
 pub returns-in-Ok-Some-Dependent : goal.returns-in-Ok-Some-Dependent
 returns-in-Ok-Some-Dependent c =

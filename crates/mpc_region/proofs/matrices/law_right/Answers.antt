@@ -3,9 +3,9 @@ use Rattle.mpc_rows.specs.SetRuns.{law_right}
 use Rattle.mpc_region.proofs.RowWriting.{table_more, table_all}
 use Rattle.mpc_region.proofs.matrices.law_right.Goals as goal
 
-pub loop-i-preserved : goal.loop-i-preserved
-loop-i-preserved c = table_more c.loop-i.out c.write_sides.new.out _ _ c.loop-i.i _ _ (λ j l. refl) c.write_sides.ensures c.loop-i.invariant
+pub loop-row-preserved : goal.loop-row-preserved
+loop-row-preserved c = table_more c.loop-row.out c.write_sides.new.out _ _ c.loop-row.row _ _ (λ j l. refl) c.write_sides.ensures c.loop-row.invariant
 
 pub returns : goal.returns
 unfolding law_right
-returns c = table_all _ _ _ c.loop-i.i _ (omega arith) c.loop-i.invariant
+returns c = table_all _ _ _ c.loop-row.row _ (omega arith) c.loop-row.invariant

@@ -5,12 +5,12 @@ use Rattle.mpc_region.proofs.matrices.member_entry.Goals as goal
 
 pub get-requires-clause-row : goal.get-requires-clause-row
 get-requires-clause-row c =
-    let place : c.args.k + 1 - 1 ≡ c.args.k = omega arith in
-    let e : c.member.result ≡ get_or c.args.set c.args.k 0 = c.member.ensures.value ∙ ap (λ k. get_or c.args.set k 0) place in
-    let m = member (height c.args.m.now) c.args.set c.requires.set_of_rows c.args.k c.requires.member in
+    let place : c.args.index + 1 - 1 ≡ c.args.index = omega arith in
+    let e : c.member.result ≡ get_or c.args.set c.args.index 0 = c.member.ensures.value ∙ ap (λ k. get_or c.args.set k 0) place in
+    let m = member (height c.args.matrix.now) c.args.set c.requires.set_of_rows c.args.index c.requires.member in
     omega (arith, e, m.0, m.1)
 
 pub returns : goal.returns
 returns c =
-    let place : c.args.k + 1 - 1 ≡ c.args.k = omega arith in
-    c.get.ensures ∙ member_cell c.args.m.now.rows c.args.set c.args.k c.member.result c.args.j c.requires.member (c.member.ensures.value ∙ ap (λ k. get_or c.args.set k 0) place)
+    let place : c.args.index + 1 - 1 ≡ c.args.index = omega arith in
+    c.get.ensures ∙ member_cell c.args.matrix.now.rows c.args.set c.args.index c.member.result c.args.column c.requires.member (c.member.ensures.value ∙ ap (λ k. get_or c.args.set k 0) place)

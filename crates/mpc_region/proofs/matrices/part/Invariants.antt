@@ -3,5 +3,5 @@ use Rattle.mpc_space.specs.Matrix.{entry}
 use Rattle.mpc_region.proofs.RowWriting.{WritingTable}
 use Rattle.mpc_region.proofs.matrices.part.Given as goal
 
-abbrev pub invariant-loop-i : goal.invariant-loop-i
-invariant-loop-i l = WritingTable l.out l.count l.x.columns l.i (λ i j. entry l.x (l.first + i) j)
+abbrev pub invariant-loop-row : goal.invariant-loop-row
+invariant-loop-row l = WritingTable l.out l.count l.solution.columns l.row (λ i j. entry l.solution (l.first + i) j)

@@ -25,19 +25,19 @@ abbrev row_of : (c : After-deref) → RowInt
 row_of c = record { a = c.deref.result.now; b = c.write_row-bound.result }
 
 -- the sides are what was written over the old ones
-as_long : (c : After-deref) → length c.write_row-bound.new.sides ≡ c.loop-i.lines.sides.len
+as_long : (c : After-deref) → length c.write_row-bound.new.sides ≡ c.loop-row.lines.sides.len
 as_long c = c.write_row-bound.ensures.size ∙ c.deref_mut.ensures.len
 
 sides_are : (c : After-deref) → c.deref.result.now ≡ c.write_row-bound.new.sides
-sides_are c = c.deref.ensures.value ∙ take_at c.write_row-bound.new.sides (drop (length c.write_row-bound.new.sides) c.loop-i.lines.sides.items) c.loop-i.lines.sides.len (as_long c)
+sides_are c = c.deref.ensures.value ∙ take_at c.write_row-bound.new.sides (drop (length c.write_row-bound.new.sides) c.loop-row.lines.sides.items) c.loop-row.lines.sides.len (as_long c)
 
-row_is : (c : After-deref) → IsRowFrom (number_from c.args.table.now (height c.args.qp.now.h + c.loop-i.i) (rights c.args.qp.now)) (length c.args.qp.now.counts) (row_of c)
+row_is : (c : After-deref) → IsRowFrom (number_from c.args.table.now (height c.args.qp.now.h + c.loop-row.row) (rights c.args.qp.now)) (length c.args.qp.now.counts) (row_of c)
 row_is c =
-    subst₂ (λ f width. IsRowFrom f width (row_of c)) (λ u. number_from c.args.table.now (c.rows-unknowns.ensures.value u + c.loop-i.i) (c.rows-unknowns.ensures.value u + c.rows-count.ensures.value u))
-    (ap (λ xs. length xs) c.deref_mut.ensures.value ∙ c.loop-i.invariant.sides)
-    (subst (λ xs. IsRowFrom (number_from c.args.table.now (c.rows-unknowns.result + c.loop-i.i) (c.rows-unknowns.result + c.rows-count.result)) (length c.deref_mut.result.now) (record { a = xs; b = c.write_row-bound.result })) (sym (sides_are c)) c.write_row-bound.ensures)
+    subst₂ (λ f width. IsRowFrom f width (row_of c)) (λ u. number_from c.args.table.now (c.rows-unknowns.ensures.value u + c.loop-row.row) (c.rows-unknowns.ensures.value u + c.rows-count.ensures.value u))
+    (ap (λ xs. length xs) c.deref_mut.ensures.value ∙ c.loop-row.invariant.sides)
+    (subst (λ xs. IsRowFrom (number_from c.args.table.now (c.rows-unknowns.result + c.loop-row.row) (c.rows-unknowns.result + c.rows-count.result)) (length c.deref_mut.result.now) (record { a = xs; b = c.write_row-bound.result })) (sym (sides_are c)) c.write_row-bound.ensures)
 
-small : (c : After-deref) (j : _) → unsigned_abs (number_from c.args.table.now (height c.args.qp.now.h + c.loop-i.i) (rights c.args.qp.now) j) ≤ 2 ^ 62
+small : (c : After-deref) (j : _) → unsigned_abs (number_from c.args.table.now (height c.args.qp.now.h + c.loop-row.row) (rights c.args.qp.now) j) ≤ 2 ^ 62
 small c j = c.requires.table.table.small.each _
 
 pub push_small-requires-clause-entries_small : goal.push_small-requires-clause-entries_small
@@ -49,20 +49,20 @@ push_small-requires-clause-side_small c =
     let b : unsigned_abs c.write_row-bound.result ≤ 2 ^ 62 = bound_small _ _ (row_of d) (row_is d) (small d) in
     subst (λ z. unsigned_abs z ≤ 2 ^ 62) (sym (read_short c.write_row-bound.result b)) b
 
-pub loop-i-preserved : goal.loop-i-preserved
-loop-i-preserved c =
-    let d = (goal.at.loop-i-preserved c).After-deref in
+pub loop-row-preserved : goal.loop-row-preserved
+loop-row-preserved c =
+    let d = (goal.at.loop-row-preserved c).After-deref in
     let b : unsigned_abs c.write_row-bound.result ≤ 2 ^ 62 = bound_small _ _ (row_of d) (row_is d) (small d) in
     record {
-      filled = filled_more (λ r. number_from c.args.table.now (height c.args.qp.now.h + r) (rights c.args.qp.now)) (length c.args.qp.now.counts) c.loop-i.i c.loop-i.lines.rows _ (row_of d) (row_is d) c.in_ok-push_small.ensures.width
-          (c.in_ok-push_small.ensures.ok ∙ ap (λ z. c.loop-i.lines.rows.rows ++ whole_row (record { a = c.deref.result.now; b = z }) ∷ []) (read_short c.write_row-bound.result b)) c.loop-i.invariant.filled;
+      filled = filled_more (λ r. number_from c.args.table.now (height c.args.qp.now.h + r) (rights c.args.qp.now)) (length c.args.qp.now.counts) c.loop-row.row c.loop-row.lines.rows _ (row_of d) (row_is d) c.in_ok-push_small.ensures.width
+          (c.in_ok-push_small.ensures.ok ∙ ap (λ z. c.loop-row.lines.rows.rows ++ whole_row (record { a = c.deref.result.now; b = z }) ∷ []) (read_short c.write_row-bound.result b)) c.loop-row.invariant.filled;
       sides =
-          ap (λ xs. length xs) (take_at c.write_row-bound.new.sides (drop (length c.write_row-bound.new.sides) c.loop-i.lines.sides.items) c.loop-i.lines.sides.len (as_long d))
-          ∙ c.write_row-bound.ensures.size ∙ ap (λ xs. length xs) c.deref_mut.ensures.value ∙ c.loop-i.invariant.sides;
+          ap (λ xs. length xs) (take_at c.write_row-bound.new.sides (drop (length c.write_row-bound.new.sides) c.loop-row.lines.sides.items) c.loop-row.lines.sides.len (as_long d))
+          ∙ c.write_row-bound.ensures.size ∙ ap (λ xs. length xs) c.deref_mut.ensures.value ∙ c.loop-row.invariant.sides;
     }
 
 pub returns-clause-rows : goal.returns-clause-rows
-returns-clause-rows c = law_system c.sweep_theorems.ensures.reduced c.over_theorems.ensures c.args.qp.now c.args.set c.args.table.now c.requires.set_of_rows c.requires.table c.loop-i.i c.loop-i.lines.rows (let e = c.rows-count.ensures.value in omega arith) c.loop-i.invariant.filled
+returns-clause-rows c = law_system c.sweep_theorems.ensures.reduced c.over_theorems.ensures c.args.qp.now c.args.set c.args.table.now c.requires.set_of_rows c.requires.table c.loop-row.row c.loop-row.lines.rows (let e = c.rows-count.ensures.value in omega arith) c.loop-row.invariant.filled
 
 pub returns-clause-fit : goal.returns-clause-fit
 returns-clause-fit c = law_fits c.sweep_theorems.ensures.reduced c.over_theorems.ensures c.args.qp.now c.args.set c.args.table.now c.requires.set_of_rows c.requires.table

@@ -8,7 +8,7 @@ use Rattle.mpc_region.proofs.rows.quotient.Goals as goal
 
 pub returns-clause-value : goal.returns-clause-value
 returns-clause-value c =
-    let z = c.args.z in
+    let z = c.args.dividend in
     let by = c.args.by in
     let q = c.unsigned_abs.result / by in
     let read : to_z w64 (of_z w64 z) ≡ z = read_short z c.requires.small in

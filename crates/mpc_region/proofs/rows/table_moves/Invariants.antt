@@ -6,5 +6,5 @@ use Rattle.mpc_region.specs.Sweeps.{sweeps_of, rights}
 use Rattle.mpc_region.proofs.RowWriting.{WritingTable}
 use Rattle.mpc_region.proofs.rows.table_moves.Given as goal
 
-abbrev pub invariant-loop-i : goal.invariant-loop-i
-invariant-loop-i l = WritingTable l.out (height l.qp.h) (length l.qp.counts + 1) l.i (λ i j. swept (shared_entry l.qp) (sweeps_of l.qp l.fn.set) i (rights l.qp + j))
+abbrev pub invariant-loop-row : goal.invariant-loop-row
+invariant-loop-row l = WritingTable l.out (height l.qp.h) (length l.qp.counts + 1) l.row (λ i j. swept (shared_entry l.qp) (sweeps_of l.qp l.fn.set) i (rights l.qp + j))

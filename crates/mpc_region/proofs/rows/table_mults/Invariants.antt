@@ -6,5 +6,5 @@ use Rattle.mpc_region.specs.Sweeps.{sweeps_of, rights}
 use Rattle.mpc_region.proofs.RowWriting.{WritingTable}
 use Rattle.mpc_region.proofs.rows.table_mults.Given as goal
 
-abbrev pub invariant-loop-k : goal.invariant-loop-k
-invariant-loop-k l = WritingTable l.out (length l.set) (length l.qp.counts + 1) l.k (λ k j. swept (shared_entry l.qp) (sweeps_of l.qp l.set) (height l.qp.h + (get_or l.set k 0 - 1)) (rights l.qp + j))
+abbrev pub invariant-loop-index : goal.invariant-loop-index
+invariant-loop-index l = WritingTable l.out (length l.set) (length l.qp.counts + 1) l.index (λ k j. swept (shared_entry l.qp) (sweeps_of l.qp l.set) (height l.qp.h + (get_or l.set k 0 - 1)) (rights l.qp + j))

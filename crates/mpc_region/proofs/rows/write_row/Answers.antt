@@ -7,14 +7,14 @@ use Rattle.mpc_region.proofs.SweptRows.{by_positive, by_same, by_divides}
 use Rattle.mpc_region.proofs.rows.write_row.Goals as goal
 use Rattle.mpc_region.proofs.rows.write_row.Goals.{After-max-by, After-at}
 
-shared : (c : After-max-by) → IsSharedBy (number_from c.args.table.now c.args.i c.args.first) (length c.args.sides.now + 1) c.row_divisor-shared.result
+shared : (c : After-max-by) → IsSharedBy (number_from c.args.table.now c.args.row c.args.first) (length c.args.sides.now + 1) c.row_divisor-shared.result
 shared c = c.row_divisor-shared.ensures.shared
 
-divides : (c : After-max-by) → DividesEach c.max-by.result (number_from c.args.table.now c.args.i c.args.first) (length c.args.sides.now + 1)
-divides c = by_divides (number_from c.args.table.now c.args.i c.args.first) (length c.args.sides.now + 1) c.row_divisor-shared.result c.max-by.result (shared c) c.max-by.ensures
+divides : (c : After-max-by) → DividesEach c.max-by.result (number_from c.args.table.now c.args.row c.args.first) (length c.args.sides.now + 1)
+divides c = by_divides (number_from c.args.table.now c.args.row c.args.first) (length c.args.sides.now + 1) c.row_divisor-shared.result c.max-by.result (shared c) c.max-by.ensures
 
-read : (c : After-at) → to_z w64 (of_z w64 c.at.result) ≡ number_from c.args.table.now c.args.i c.args.first 0
-read c = read_number c.at.result (number_from c.args.table.now c.args.i c.args.first 0) (c.at.ensures ∙ ap (number c.args.table.now c.args.i) (omega arith))
+read : (c : After-at) → to_z w64 (of_z w64 c.at.result) ≡ number_from c.args.table.now c.args.row c.args.first 0
+read c = read_number c.at.result (number_from c.args.table.now c.args.row c.args.first 0) (c.at.ensures ∙ ap (number c.args.table.now c.args.row) (omega arith))
     (c.requires.table.small.each _)
 
 pub write_sides-requires-clause-divides : goal.write_sides-requires-clause-divides
@@ -28,7 +28,7 @@ quotient-requires-clause-divides c =
 pub returns : goal.returns
 returns c =
     let at = goal.at.returns c in
-    let f = number_from c.args.table.now c.args.i c.args.first in
+    let f = number_from c.args.table.now c.args.row c.args.first in
     record {
       by = c.max-by.result;
       shared = c.row_divisor-shared.result;
