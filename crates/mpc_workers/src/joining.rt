@@ -40,13 +40,13 @@ fn join_seat(turns: &[Turn], programs: &[Qp], workers: u32, firsts: &mut [Post],
 {
     let Seat { worker, mut posts } = seat;
     while let Some(post) = posts.pop() {
-        let k = posts.len();
+        let place = posts.len();
         join_post(
-            &turns[k],
-            &programs[k],
+            &turns[place],
+            &programs[place],
             workers,
             worker,
-            &mut firsts[k],
+            &mut firsts[place],
             post,
         );
     }
@@ -146,11 +146,11 @@ pub(crate) fn close_all(
 {
     let mut registries = Vec::new(alloc);
     while let Some(turn) = turns.pop() {
-        let k = turns.len();
+        let place = turns.len();
         let Some(first) = firsts.pop() else {
             unreachable!()
         };
-        close_into(&mut registries, turn, first, &programs[k], workers)?;
+        close_into(&mut registries, turn, first, &programs[place], workers)?;
     }
     Ok(registries)
 }

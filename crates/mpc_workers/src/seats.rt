@@ -107,8 +107,8 @@ fn seat_of(
     let Ok(()) = posts.reserve(turns.len()) else {
         return Err(NoMemory);
     };
-    for k in 0..turns.len() {
-        let post = split_post(&turns[k], &programs[k], &mut firsts[k], before);
+    for place in 0..turns.len() {
+        let post = split_post(&turns[place], &programs[place], &mut firsts[place], before);
         posts.push_reserved(post);
     }
     Ok(Seat {

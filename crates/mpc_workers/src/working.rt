@@ -485,24 +485,24 @@ fn finish_sets<'a, T: Wait, G: Gate>(
     unreachable!()
 }
 
-/// Works at a program, that at place `k` from 0, while it has sets to claim. Whether it had one.
+/// Works at the program at a place, from 0, while it has sets to claim. Whether it had one.
 fn work_at<'a, T: Wait, G: Gate>(
     pool: &Pool<'a, T, G>,
     turn: &Turn,
     qp: &'a Qp,
-    k: usize,
+    place: usize,
     number: u32,
     worker: &mut Worker<'a>,
     post: &mut Post,
 ) -> Result<bool, NoMemory>
     requires definite { IsDefinite qp.now.h.rows }
-    requires within { k < length pool.now.programs.now }
-    requires program { qp.now ≡ slice_index_or pool.now.programs.now k qp.now }
+    requires within { place < length pool.now.programs.now }
+    requires program { qp.now ≡ slice_index_or pool.now.programs.now place qp.now }
     requires worker { IsAtProgram pool.now.programs.now worker.old }
     requires post { IsPost number turn.now qp.now post.old }
     ensures worker { IsAtProgram pool.now.programs.now worker.new }
     ensures post { IsPost number turn.now qp.now post.new }
-    ensures turned { result ≡ Ok true → worker.new.program ≡ k }
+    ensures turned { result ≡ Ok true → worker.new.program ≡ place }
     ensures same { result ≡ Ok false → worker.new ≡ worker.old }
     ensures no_calls { result ≡ Ok false → post.new.pass.calls ≡ post.old.pass.calls }
     ensures nothing { result ≡ Ok false → HasNothing qp.now post.new.pass.seen }
@@ -512,7 +512,7 @@ fn work_at<'a, T: Wait, G: Gate>(
     }
     match claim(pool.rt, turn, qp, number, post) {
         Ok(Some(ticket)) => {
-            worker.turn_to(k, qp);
+            worker.turn_to(place, qp);
             match finish_sets(pool, turn, qp, number, worker, post, ticket) {
                 Ok(()) => Ok(true),
                 Err(refused) => Err(refused),
@@ -555,15 +555,15 @@ fn work_at_next<'a, T: Wait, G: Gate>(
 {
     let from = worker.program;
     for steps in 0..posts.len() {
-        let k = place_after(from, steps, posts.len());
+        let place = place_after(from, steps, posts.len());
         match work_at(
             pool,
-            &pool.turns[k],
-            &pool.programs[k],
-            k,
+            &pool.turns[place],
+            &pool.programs[place],
+            place,
             number,
             worker,
-            &mut posts[k],
+            &mut posts[place],
         ) {
             Ok(took) => {
                 if took {

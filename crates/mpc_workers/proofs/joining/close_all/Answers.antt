@@ -20,14 +20,14 @@ close_into-requires c =
     let long = one_longer c.loop-turn.turns.items c.pop.new.self.items c.in-Some.turn c.in-Some.ensures.items in
     let old_ok = c.loop-turn.turns.ok in
     let new_ok = c.pop.new.self.ok in
-    let len = c.len-k.ensures in
+    let len = c.len-place.ensures in
     let counted = c.loop-turn.invariant.count in
-    let count : c.len-k.result ≡ length c.pop.new.self.items = omega (arith, len, new_ok) in
-    let more : vec_len c.loop-turn.turns ≡ c.len-k.result + 1 = omega (arith, long, old_ok, count) in
-    let l : c.len-k.result < length c.args.programs.now = omega (arith, more, counted) in
-    each_last (IsJoining c.args.workers 0) c.pop.new.self.items (take c.len-k.result c.args.programs.now) c.pop-in-Some.new.self.items c.in-Some.turn c.index-programs-k.result c.in-Some-pop.first
-    (split c.args.workers c.len-k.result (vec_len c.loop-turn.turns) c.loop-turn.turns.items c.pop.new.self.items c.args.programs.now c.loop-turn.firsts.items c.pop-in-Some.new.self.items c.in-Some.turn c.index-programs-k.result c.in-Some-pop.first
-    c.in-Some.ensures.items c.in-Some-pop.ensures.items count more l c.index-programs-k.is c.loop-turn.invariant.firsts)
+    let count : c.len-place.result ≡ length c.pop.new.self.items = omega (arith, len, new_ok) in
+    let more : vec_len c.loop-turn.turns ≡ c.len-place.result + 1 = omega (arith, long, old_ok, count) in
+    let l : c.len-place.result < length c.args.programs.now = omega (arith, more, counted) in
+    each_last (IsJoining c.args.workers 0) c.pop.new.self.items (take c.len-place.result c.args.programs.now) c.pop-in-Some.new.self.items c.in-Some.turn c.index-programs-place.result c.in-Some-pop.first
+    (split c.args.workers c.len-place.result (vec_len c.loop-turn.turns) c.loop-turn.turns.items c.pop.new.self.items c.args.programs.now c.loop-turn.firsts.items c.pop-in-Some.new.self.items c.in-Some.turn c.index-programs-place.result c.in-Some-pop.first
+    c.in-Some.ensures.items c.in-Some-pop.ensures.items count more l c.index-programs-place.is c.loop-turn.invariant.firsts)
 
 pub loop-turn-smaller : goal.loop-turn-smaller
 loop-turn-smaller c = let cases = c.in-Some.ensures.cases in omega (arith, cases)
@@ -37,24 +37,24 @@ loop-turn-preserved c =
     let long = one_longer c.loop-turn.turns.items c.pop.new.self.items c.in-Some.turn c.in-Some.ensures.items in
     let old_ok = c.loop-turn.turns.ok in
     let new_ok = c.pop.new.self.ok in
-    let len = c.len-k.ensures in
+    let len = c.len-place.ensures in
     let counted = c.loop-turn.invariant.count in
     let added = ap length c.in_ok-close_into.ensures.1 in
     let registries_ok = c.loop-turn.registries.ok in
     let new_registries_ok = c.close_into.new.registries.ok in
-    let count : c.len-k.result ≡ length c.pop.new.self.items = omega (arith, len, new_ok) in
-    let more : vec_len c.loop-turn.turns ≡ c.len-k.result + 1 = omega (arith, long, old_ok, count) in
-    let l : c.len-k.result < length c.args.programs.now = omega (arith, more, counted) in
+    let count : c.len-place.result ≡ length c.pop.new.self.items = omega (arith, len, new_ok) in
+    let more : vec_len c.loop-turn.turns ≡ c.len-place.result + 1 = omega (arith, long, old_ok, count) in
+    let l : c.len-place.result < length c.args.programs.now = omega (arith, more, counted) in
     let place : vec_len c.loop-turn.turns ≡ vec_len c.pop.new.self + 1 = omega (arith, more, len) in
-    let parts = split c.args.workers c.len-k.result (vec_len c.loop-turn.turns) c.loop-turn.turns.items c.pop.new.self.items c.args.programs.now c.loop-turn.firsts.items c.pop-in-Some.new.self.items c.in-Some.turn c.index-programs-k.result c.in-Some-pop.first
-    c.in-Some.ensures.items c.in-Some-pop.ensures.items count more l c.index-programs-k.is c.loop-turn.invariant.firsts in
+    let parts = split c.args.workers c.len-place.result (vec_len c.loop-turn.turns) c.loop-turn.turns.items c.pop.new.self.items c.args.programs.now c.loop-turn.firsts.items c.pop-in-Some.new.self.items c.in-Some.turn c.index-programs-place.result c.in-Some-pop.first
+    c.in-Some.ensures.items c.in-Some-pop.ensures.items count more l c.index-programs-place.is c.loop-turn.invariant.firsts in
     record {
       firsts = subst (λ (i : ℕ). AtEach (IsJoining c.args.workers 0) c.pop.new.self.items (take i c.args.programs.now) c.pop-in-Some.new.self.items) len
-          (each_front (IsJoining c.args.workers 0) c.pop.new.self.items (take c.len-k.result c.args.programs.now) c.pop-in-Some.new.self.items c.in-Some.turn c.index-programs-k.result c.in-Some-pop.first parts);
+          (each_front (IsJoining c.args.workers 0) c.pop.new.self.items (take c.len-place.result c.args.programs.now) c.pop-in-Some.new.self.items c.in-Some.turn c.index-programs-place.result c.in-Some-pop.first parts);
       count = omega (arith, place, counted, added, registries_ok, new_registries_ok);
       done = λ k q r m.
-          done_more (λ (p : Qp) (b : Board). IsDone p c.args.workers b) c.args.programs.now c.loop-turn.registries.items c.close_into.new.registries.items c.in_ok-close_into.ensures.0 c.index-programs-k.result (vec_len c.pop.new.self) c.in_ok-close_into.ensures.1
-          (omega (arith, l, len)) (subst (λ (i : ℕ). c.index-programs-k.result ≡ get_or c.args.programs.now i c.index-programs-k.result) len c.index-programs-k.is) c.in_ok-close_into.ensures.2
+          done_more (λ (p : Qp) (b : Board). IsDone p c.args.workers b) c.args.programs.now c.loop-turn.registries.items c.close_into.new.registries.items c.in_ok-close_into.ensures.0 c.index-programs-place.result (vec_len c.pop.new.self) c.in_ok-close_into.ensures.1
+          (omega (arith, l, len)) (subst (λ (i : ℕ). c.index-programs-place.result ≡ get_or c.args.programs.now i c.index-programs-place.result) len c.index-programs-place.is) c.in_ok-close_into.ensures.2
           (λ i s b n. subst (λ (h : ℕ). IsDone (get_or c.args.programs.now (h + i) s) c.args.workers (get_or c.loop-turn.registries.items i b)) place (c.loop-turn.invariant.done i s b (omega (arith, n, registries_ok)))) k q r (omega (arith, m, new_registries_ok));
     }
 

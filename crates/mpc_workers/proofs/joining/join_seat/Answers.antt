@@ -15,26 +15,26 @@ taken_out own old rest post left k most items left_is place within same =
 pub join_post-requires-clause-post : goal.join_post-requires-clause-post
 join_post-requires-clause-post c =
     let post = c.in-Some.post in
-    let k = c.len-k.result in
-    let taken = taken_out c.args.seat.posts.items c.loop-post.posts.items c.pop.new.self.items post (vec_len c.loop-post.posts) k (length c.args.programs.now) c.in-Some.ensures.items (omega (arith, c.loop-post.posts.ok)) (omega (arith, c.len-k.ensures, c.pop.new.self.ok)) c.loop-post.invariant.within c.loop-post.invariant.same in
-    its_post c.args.turns.now c.args.programs.now c.args.workers c.args.seat c.requires.seat k c.index-turns-k.result c.index-programs-k.result post taken.1 c.index-turns-k.is c.index-programs-k.is taken.2
+    let k = c.len-place.result in
+    let taken = taken_out c.args.seat.posts.items c.loop-post.posts.items c.pop.new.self.items post (vec_len c.loop-post.posts) k (length c.args.programs.now) c.in-Some.ensures.items (omega (arith, c.loop-post.posts.ok)) (omega (arith, c.len-place.ensures, c.pop.new.self.ok)) c.loop-post.invariant.within c.loop-post.invariant.same in
+    its_post c.args.turns.now c.args.programs.now c.args.workers c.args.seat c.requires.seat k c.index-turns-place.result c.index-programs-place.result post taken.1 c.index-turns-place.is c.index-programs-place.is taken.2
 
 pub join_post-requires-clause-first : goal.join_post-requires-clause-first
 join_post-requires-clause-first c =
     let post = c.in-Some.post in
-    let k = c.len-k.result in
-    let taken = taken_out c.args.seat.posts.items c.loop-post.posts.items c.pop.new.self.items post (vec_len c.loop-post.posts) k (length c.args.programs.now) c.in-Some.ensures.items (omega (arith, c.loop-post.posts.ok)) (omega (arith, c.len-k.ensures, c.pop.new.self.ok)) c.loop-post.invariant.within c.loop-post.invariant.same in
-    its_first c.args.turns.now c.args.programs.now c.args.workers c.args.seat c.requires.seat k c.index-turns-k.result c.index-programs-k.result post taken.1 c.index-turns-k.is c.index-programs-k.is taken.2 c.loop-post.firsts (vec_len c.loop-post.posts) (vec_len c.pop.new.self) c.index-firsts-k.result (omega (arith, taken.0, c.len-k.ensures)) c.len-k.ensures c.loop-post.invariant.firsts
+    let k = c.len-place.result in
+    let taken = taken_out c.args.seat.posts.items c.loop-post.posts.items c.pop.new.self.items post (vec_len c.loop-post.posts) k (length c.args.programs.now) c.in-Some.ensures.items (omega (arith, c.loop-post.posts.ok)) (omega (arith, c.len-place.ensures, c.pop.new.self.ok)) c.loop-post.invariant.within c.loop-post.invariant.same in
+    its_first c.args.turns.now c.args.programs.now c.args.workers c.args.seat c.requires.seat k c.index-turns-place.result c.index-programs-place.result post taken.1 c.index-turns-place.is c.index-programs-place.is taken.2 c.loop-post.firsts (vec_len c.loop-post.posts) (vec_len c.pop.new.self) c.index-firsts-place.result (omega (arith, taken.0, c.len-place.ensures)) c.len-place.ensures c.loop-post.invariant.firsts
 
 pub loop-post-preserved : goal.loop-post-preserved
 loop-post-preserved c =
     let post = c.in-Some.post in
-    let k = c.len-k.result in
-    let left : vec_len c.pop.new.self ≡ k = sym c.len-k.ensures in
-    let taken = taken_out c.args.seat.posts.items c.loop-post.posts.items c.pop.new.self.items post (vec_len c.loop-post.posts) k (length c.args.programs.now) c.in-Some.ensures.items (omega (arith, c.loop-post.posts.ok)) (omega (arith, c.len-k.ensures, c.pop.new.self.ok)) c.loop-post.invariant.within c.loop-post.invariant.same in
+    let k = c.len-place.result in
+    let left : vec_len c.pop.new.self ≡ k = sym c.len-place.ensures in
+    let taken = taken_out c.args.seat.posts.items c.loop-post.posts.items c.pop.new.self.items post (vec_len c.loop-post.posts) k (length c.args.programs.now) c.in-Some.ensures.items (omega (arith, c.loop-post.posts.ok)) (omega (arith, c.len-place.ensures, c.pop.new.self.ok)) c.loop-post.invariant.within c.loop-post.invariant.same in
     record {
       within = omega (arith, left, taken.1);
       same = λ j p m. front_item c.loop-post.posts.items c.pop.new.self.items post p j c.in-Some.ensures.items (omega (arith, m, c.pop.new.self.ok)) ∙ c.loop-post.invariant.same j p (omega (arith, m, left, taken.0));
-      firsts = one_joined c.args.turns.now c.args.programs.now c.args.workers c.args.seat c.requires.seat k c.index-turns-k.result c.index-programs-k.result post taken.1 c.index-turns-k.is c.index-programs-k.is taken.2 c.loop-post.firsts (vec_len c.loop-post.posts) (vec_len c.pop.new.self) c.index-firsts-k.result (omega (arith, taken.0, left)) c.len-k.ensures c.loop-post.invariant.firsts
+      firsts = one_joined c.args.turns.now c.args.programs.now c.args.workers c.args.seat c.requires.seat k c.index-turns-place.result c.index-programs-place.result post taken.1 c.index-turns-place.is c.index-programs-place.is taken.2 c.loop-post.firsts (vec_len c.loop-post.posts) (vec_len c.pop.new.self) c.index-firsts-place.result (omega (arith, taken.0, left)) c.len-place.ensures c.loop-post.invariant.firsts
           _ c.join_post.new.first refl c.join_post.ensures;
     }

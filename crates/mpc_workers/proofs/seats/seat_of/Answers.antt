@@ -4,12 +4,12 @@ use Rattle.mpc_workers.proofs.seats.seat_of.Goals as goal
 
 pub split_post-post-requires-clause-first : goal.split_post-post-requires-clause-first
 split_post-post-requires-clause-first c =
-    still_opening c.args.turns.now c.args.programs.now c.loop-k.firsts c.args.before c.loop-k.k c.index-turns-k.result c.index-programs-k.result c.loop-k-test.true c.index-turns-k.is c.index-programs-k.is c.loop-k.invariant.firsts c.index-firsts-k.result
+    still_opening c.args.turns.now c.args.programs.now c.loop-place.firsts c.args.before c.loop-place.place c.index-turns-place.result c.index-programs-place.result c.loop-place-test.true c.index-turns-place.is c.index-programs-place.is c.loop-place.invariant.firsts c.index-firsts-place.result
 
-pub loop-k-preserved : goal.loop-k-preserved
-loop-k-preserved c = record {
-  firsts = split_more c.args.turns.now c.args.programs.now c.loop-k.firsts c.args.before c.loop-k.k c.index-turns-k.result c.index-programs-k.result c.loop-k-test.true c.index-turns-k.is c.index-programs-k.is c.loop-k.invariant.firsts _ c.split_post-post.new.first refl c.split_post-post.ensures.first;
-  room = omega (arith, c.push_reserved.ensures.capacity, c.loop-k.invariant.room);
-  count = omega (arith, c.push_reserved.ensures.len, c.loop-k.invariant.count);
-  posts = given_more c.args.turns.now c.args.programs.now c.loop-k.firsts c.args.before c.loop-k.k c.index-turns-k.result c.index-programs-k.result c.loop-k-test.true c.index-turns-k.is c.index-programs-k.is c.loop-k.invariant.firsts c.loop-k.posts.items c.push_reserved.new.self.items c.split_post-post.result c.split_post-post.ensures.post c.push_reserved.ensures.items c.loop-k.invariant.posts;
+pub loop-place-preserved : goal.loop-place-preserved
+loop-place-preserved c = record {
+  firsts = split_more c.args.turns.now c.args.programs.now c.loop-place.firsts c.args.before c.loop-place.place c.index-turns-place.result c.index-programs-place.result c.loop-place-test.true c.index-turns-place.is c.index-programs-place.is c.loop-place.invariant.firsts _ c.split_post-post.new.first refl c.split_post-post.ensures.first;
+  room = omega (arith, c.push_reserved.ensures.capacity, c.loop-place.invariant.room);
+  count = omega (arith, c.push_reserved.ensures.len, c.loop-place.invariant.count);
+  posts = given_more c.args.turns.now c.args.programs.now c.loop-place.firsts c.args.before c.loop-place.place c.index-turns-place.result c.index-programs-place.result c.loop-place-test.true c.index-turns-place.is c.index-programs-place.is c.loop-place.invariant.firsts c.loop-place.posts.items c.push_reserved.new.self.items c.split_post-post.result c.split_post-post.ensures.post c.push_reserved.ensures.items c.loop-place.invariant.posts;
 }
