@@ -29,8 +29,8 @@ fn nonzero_count(multipliers: &Multipliers) -> usize
     ensures { result ≡ length (nonzero_from 1 multipliers.now) }
 {
     let mut count = 0;
-    for i in 0..multipliers.len() {
-        if !multipliers.at(i).is_zero() {
+    for index in 0..multipliers.len() {
+        if !multipliers.at(index).is_zero() {
             count += 1;
         }
     }
@@ -43,10 +43,10 @@ fn cert_of(alloc: Global, multipliers: &Multipliers) -> Result<Cert, NoMemory>
     ensures { IfOk result (λ cert. cert ≡ nonzero_from 1 multipliers.now) }
 {
     let mut cert = Cert::with_capacity(alloc, nonzero_count(multipliers))?;
-    for i in 0..multipliers.len() {
-        let m = multipliers.at(i);
-        if !m.is_zero() {
-            cert.push((i as u64 + 1, *m))?;
+    for index in 0..multipliers.len() {
+        let multiplier = multipliers.at(index);
+        if !multiplier.is_zero() {
+            cert.push((index as u64 + 1, *multiplier))?;
         }
     }
     Ok(cert)

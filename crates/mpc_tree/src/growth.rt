@@ -36,11 +36,14 @@ pub struct OpenSide {
 pub fn copied(alloc: Global, row: &RowInt) -> Result<RowInt, NoMemory>
     ensures { IfOk result (λ r. r ≡ row.now) }
 {
-    let mut a = Ints::new(alloc);
-    for z in row.a.as_slice() {
-        a.push(*z)?;
+    let mut coefficients = Ints::new(alloc);
+    for number in row.a.as_slice() {
+        coefficients.push(*number)?;
     }
-    Ok(RowInt { a, b: row.b })
+    Ok(RowInt {
+        a: coefficients,
+        b: row.b,
+    })
 }
 
 /// Puts a split behind the nodes, its no side, with the run of where the row fails, on the stack, and

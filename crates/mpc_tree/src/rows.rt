@@ -35,11 +35,11 @@ pub struct LawNumbers {
 
 /// The sum of two numbers, where it is small.
 #[inline]
-fn small_sum(x: i64, y: i128) -> Option<i64>
-    ensures value { IfSome result (λ z. z ≡ x +ℤ y) }
+fn small_sum(left: i64, right: i128) -> Option<i64>
+    ensures value { IfSome result (λ z. z ≡ left +ℤ right) }
     ensures small { IfSome result (λ z. unsigned_abs z ≤ 2 ^ 62) }
 {
-    let sum = y.checked_add(x as i128)?;
+    let sum = right.checked_add(left as i128)?;
     if sum.unsigned_abs() <= 1 << 62 {
         Some(narrow(sum))
     } else {
@@ -47,26 +47,26 @@ fn small_sum(x: i64, y: i128) -> Option<i64>
     }
 }
 
-/// `sum + x y`, where that is small.
+/// `sum + left right`, where that is small.
 #[inline]
-fn with_product(sum: i64, x: i64, y: i64) -> Option<i64>
-    ensures value { IfSome result (λ z. z ≡ sum +ℤ (x *ℤ y)) }
+fn with_product(sum: i64, left: i64, right: i64) -> Option<i64>
+    ensures value { IfSome result (λ z. z ≡ sum +ℤ (left *ℤ right)) }
     ensures small { IfSome result (λ z. unsigned_abs z ≤ 2 ^ 62) }
 {
-    small_sum(sum, product(x, y))
+    small_sum(sum, product(left, right))
 }
 
 /// The numbers of a program's rows, where they are small.
 pub fn row_numbers(alloc: Global, qp: &Qp) -> Result<Option<RowNumbers>, NoMemory>
     ensures { IfOk result (λ o. IfSome o (AreRowNumbers qp.now)) }
 {
-    let Some(g) = Swept::read(alloc, &qp.g)? else {
+    let Some(left) = Swept::read(alloc, &qp.g)? else {
         return Ok(None);
     };
-    let Some(w) = Swept::read(alloc, &qp.w)? else {
+    let Some(right) = Swept::read(alloc, &qp.w)? else {
         return Ok(None);
     };
-    Ok(Some(RowNumbers { g, w }))
+    Ok(Some(RowNumbers { g: left, w: right }))
 }
 
 /// The numbers of a law's unknowns, where they are small.
@@ -87,100 +87,107 @@ fn law_numbers(
     }
 }
 
-/// The sum of so many products of the numbers of row i of g and those of column j of a law's unknowns, where it is small.
-fn sum_of_products(g: &Swept, moves: &Swept, count: usize, i: usize, j: usize) -> Option<i64>
-    requires left { IsTable g.now }
+/// The sum of so many products of the numbers of a row of g and those of a column of a law's unknowns, where it is small.
+fn sum_of_products(
+    left: &Swept,
+    moves: &Swept,
+    count: usize,
+    row: usize,
+    column: usize,
+) -> Option<i64>
+    requires left { IsTable left.now }
     requires right { IsTable moves.now }
-    requires row { i < g.now.rows }
-    requires column { j < moves.now.columns }
-    requires within_left { count ≤ g.now.columns }
+    requires row { row < left.now.rows }
+    requires column { column < moves.now.columns }
+    requires within_left { count ≤ left.now.columns }
     requires within_right { count ≤ moves.now.rows }
-    ensures value { IfSome result (λ z. int z ≡ total count (λ k. int (number g.now i k) *ℚ int (number moves.now k j))) }
+    ensures value { IfSome result (λ z. int z ≡ total count (λ k. int (number left.now row k) *ℚ int (number moves.now k column))) }
     ensures small { IfSome result (λ z. unsigned_abs z ≤ 2 ^ 62) }
 {
     let mut sum = 0;
-    for k in 0..count {
-        sum = with_product(sum, g.at(i, k), moves.at(k, j))?;
+    for index in 0..count {
+        sum = with_product(sum, left.at(row, index), moves.at(index, column))?;
     }
     Some(sum)
 }
 
-/// The coefficient of `g_i z(t) - w_i c`, i from 1, on the extended count j, times all denominators, where it is small.
+/// The coefficient of `g_i z(t) - w_i c`, where i is the row's number from 1, on the extended count at
+/// the place, times all denominators, where it is small.
 fn excess(
     qp: &Qp,
     _law: &Law,
     numbers: &RowNumbers,
     unknowns: &LawNumbers,
-    i: u32,
-    j: u32,
+    row_number: u32,
+    place: u32,
 ) -> Option<i64>
-    requires from_one { 1 ≤ i }
-    requires to_last { i ≤ height qp.now.g }
+    requires from_one { 1 ≤ row_number }
+    requires to_last { row_number ≤ height qp.now.g }
     requires shape { HasLawShape qp.now _law.now }
-    requires column { j < _law.now.moves.columns }
+    requires column { place < _law.now.moves.columns }
     requires numbers { AreRowNumbers qp.now numbers.now }
     requires unknowns { AreLawNumbers _law.now numbers.now unknowns.now }
-    ensures value { IfSome result (IsExcess qp.now _law.now numbers.now unknowns.now i j) }
+    ensures value { IfSome result (IsExcess qp.now _law.now numbers.now unknowns.now row_number place) }
     ensures small { IfSome result (λ z. unsigned_abs z ≤ 2 ^ 62) }
 {
-    let row = i as usize - 1;
-    let column = j as usize;
+    let row = row_number as usize - 1;
+    let column = place as usize;
     let count = qp.g.cols() as usize;
     let sum = sum_of_products(&numbers.g, &unknowns.moves, count, row, column)?;
     let left = with_product(0, sum, signed(numbers.w.den()))?;
     with_product(left, numbers.w.at(row, column), unknowns.against)
 }
 
-/// The coefficients of `g_i z(t) - w_i c`, i from 1, on t, times all denominators, where they are small.
+/// The coefficients of `g_i z(t) - w_i c`, where i is the row's number from 1, on t, times all denominators, where they are small.
 fn excesses(
     alloc: Global,
     qp: &Qp,
     law: &Law,
     numbers: &RowNumbers,
     unknowns: &LawNumbers,
-    i: u32,
+    row_number: u32,
 ) -> Result<Option<Vector>, NoMemory>
-    requires from_one { 1 ≤ i }
-    requires to_last { i ≤ height qp.now.g }
+    requires from_one { 1 ≤ row_number }
+    requires to_last { row_number ≤ height qp.now.g }
     requires shape { HasLawShape qp.now law.now }
     requires numbers { AreRowNumbers qp.now numbers.now }
     requires unknowns { AreLawNumbers law.now numbers.now unknowns.now }
-    ensures { IfOk result (λ o. IfSome o (AreExcesses qp.now law.now numbers.now unknowns.now i (length qp.now.counts))) }
+    ensures { IfOk result (λ o. IfSome o (AreExcesses qp.now law.now numbers.now unknowns.now row_number (length qp.now.counts))) }
 {
     let mut sides = Vector::with_capacity(alloc, qp.counts.len())?;
-    for j in 1..law.moves.cols() {
-        let Some(z) = excess(qp, law, numbers, unknowns, i, j) else {
+    for place in 1..law.moves.cols() {
+        let Some(value) = excess(qp, law, numbers, unknowns, row_number, place) else {
             return Ok(None);
         };
-        sides.push(Frac::whole(z))?;
+        sides.push(Frac::whole(value))?;
     }
     Ok(Some(sides))
 }
 
-/// Row i of a law, counted from 1, where it is outside the law's set and whole numbers serve.
+/// A row of a law, by its number from 1, where it is outside the law's set and whole numbers serve.
 fn outside_row(
     alloc: Global,
     qp: &Qp,
     law: &Law,
     numbers: &RowNumbers,
     unknowns: &LawNumbers,
-    i: u32,
+    row_number: u32,
 ) -> Result<Option<RowInt>, NoMemory>
-    requires from_one { 1 ≤ i }
-    requires to_last { i ≤ height qp.now.g }
+    requires from_one { 1 ≤ row_number }
+    requires to_last { row_number ≤ height qp.now.g }
     requires shape { HasLawShape qp.now law.now }
     requires numbers { AreRowNumbers qp.now numbers.now }
     requires unknowns { AreLawNumbers law.now numbers.now unknowns.now }
-    ensures { IfOk result (λ o. IfSome o (IsPlainRow qp.now law.now i)) }
+    ensures { IfOk result (λ o. IfSome o (IsPlainRow qp.now law.now row_number)) }
 {
     law_theorems();
-    if law.set.has(i) {
+    if law.set.has(row_number) {
         return Ok(None);
     }
-    let Some(constant) = excess(qp, law, numbers, unknowns, i, 0) else {
+    let Some(constant) = excess(qp, law, numbers, unknowns, row_number, 0) else {
         return Ok(None);
     };
-    let Some(sides) = excesses(alloc, qp, law, numbers, unknowns, i)? else {
+    let Some(sides) = excesses(alloc, qp, law, numbers, unknowns, row_number)? else {
         return Ok(None);
     };
     match primitive(alloc, &sides, &Frac::whole(negative(constant))) {
@@ -190,27 +197,27 @@ fn outside_row(
     }
 }
 
-/// Row i of a law, counted from 1, which isn't too wide.
+/// A row of a law, by its number from 1, which isn't too wide.
 fn row_of(
     alloc: Global,
     qp: &Qp,
     law: &Law,
     numbers: &RowNumbers,
     unknowns: &LawNumbers,
-    i: u32,
+    row_number: u32,
 ) -> Result<RowInt, NoMemory>
-    requires from_one { 1 ≤ i }
-    requires to_last { i ≤ height qp.now.g }
+    requires from_one { 1 ≤ row_number }
+    requires to_last { row_number ≤ height qp.now.g }
     requires shape { HasLawShape qp.now law.now }
-    requires fits { LawRowFits qp.now law.now i }
+    requires fits { LawRowFits qp.now law.now row_number }
     requires numbers { AreRowNumbers qp.now numbers.now }
     requires unknowns { AreLawNumbers law.now numbers.now unknowns.now }
-    ensures { IfOk result (IsPlainRow qp.now law.now i) }
+    ensures { IfOk result (IsPlainRow qp.now law.now row_number) }
 {
-    if let Some(row) = outside_row(alloc, qp, law, numbers, unknowns, i)? {
+    if let Some(row) = outside_row(alloc, qp, law, numbers, unknowns, row_number)? {
         return Ok(row);
     }
-    match law_row(alloc, qp, law, i) {
+    match law_row(alloc, qp, law, row_number) {
         Ok(row) => Ok(row),
         Err(LinearError::Wide(_)) => unreachable!(),
         Err(LinearError::NoMemory) => Err(NoMemory),
@@ -233,8 +240,8 @@ fn whole_rows(
     ensures size { IfOk result (λ rows. AreOfSize (length qp.now.counts) rows.items) }
 {
     let mut rows = Vec::with_capacity(alloc, qp.g.rows() as usize)?;
-    for i in 1..qp.g.rows() + 1 {
-        rows.push(row_of(alloc, qp, law, numbers, unknowns, i)?)?;
+    for row_number in 1..qp.g.rows() + 1 {
+        rows.push(row_of(alloc, qp, law, numbers, unknowns, row_number)?)?;
     }
     Ok(rows)
 }

@@ -6,15 +6,15 @@ use Rattle.mpc_sweep.specs.Numbers.{number}
 use Rattle.mpc_tree.proofs.WholeRows.{read64, small64, sum_more}
 use Rattle.mpc_tree.proofs.rows.sum_of_products.Goals as goal
 
-pub loop-k-init : goal.loop-k-init
-loop-k-init c = record { value = sym (total-zero (λ k. int (number c.args.g.now c.args.i k) *ℚ int (number c.args.moves.now k c.args.j))); small = omega arith }
+pub loop-index-init : goal.loop-index-init
+loop-index-init c = record { value = sym (total-zero (λ k. int (number c.args.left.now c.args.row k) *ℚ int (number c.args.moves.now k c.args.column))); small = omega arith }
 
-pub loop-k-preserved : goal.loop-k-preserved
-loop-k-preserved c = record {
+pub loop-index-preserved : goal.loop-index-preserved
+loop-index-preserved c = record {
   value = ap int (read64 c.in_ok-sum.sum c.in_ok-sum.ensures.small)
-      ∙ sum_more c.args.g.now c.args.moves.now c.args.i c.args.j c.loop-k.k (to_z w64 c.loop-k.sum-bits) c.in_ok-sum.sum (to_z w64 (of_z w64 c.at.result)) (to_z w64 (of_z w64 c.at-in-loop-k.result))
-      (ap (λ z. to_z w64 (of_z w64 z)) c.at.ensures ∙ read64 (number c.args.g.now c.args.i c.loop-k.k) (c.requires.left.small.each _))
-      (ap (λ z. to_z w64 (of_z w64 z)) c.at-in-loop-k.ensures ∙ read64 (number c.args.moves.now c.loop-k.k c.args.j) (c.requires.right.small.each _))
-      c.in_ok-sum.ensures.value c.loop-k.invariant.value;
+      ∙ sum_more c.args.left.now c.args.moves.now c.args.row c.args.column c.loop-index.index (to_z w64 c.loop-index.sum-bits) c.in_ok-sum.sum (to_z w64 (of_z w64 c.at.result)) (to_z w64 (of_z w64 c.at-in-loop-index.result))
+      (ap (λ z. to_z w64 (of_z w64 z)) c.at.ensures ∙ read64 (number c.args.left.now c.args.row c.loop-index.index) (c.requires.left.small.each _))
+      (ap (λ z. to_z w64 (of_z w64 z)) c.at-in-loop-index.ensures ∙ read64 (number c.args.moves.now c.loop-index.index c.args.column) (c.requires.right.small.each _))
+      c.in_ok-sum.ensures.value c.loop-index.invariant.value;
   small = small64 c.in_ok-sum.sum c.in_ok-sum.ensures.small;
 }

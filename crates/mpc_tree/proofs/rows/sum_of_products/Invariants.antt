@@ -4,8 +4,8 @@ use Rattle.mpc_space.specs.Total.{total}
 use Rattle.mpc_sweep.specs.Numbers.{number}
 use Rattle.mpc_tree.proofs.rows.sum_of_products.Given as goal
 
-abbrev pub invariant-loop-k : goal.invariant-loop-k
-invariant-loop-k l = record {
-  value : int l.sum ≡ total l.k (λ k. int (number l.g l.i k) *ℚ int (number l.moves k l.j));
+abbrev pub invariant-loop-index : goal.invariant-loop-index
+invariant-loop-index l = record {
+  value : int l.sum ≡ total l.index (λ k. int (number l.left l.row k) *ℚ int (number l.moves k l.column));
   small : unsigned_abs l.sum ≤ 2 ^ 62;
 }
