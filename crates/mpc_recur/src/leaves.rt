@@ -28,7 +28,7 @@ use mpc_rows::{Counts, Law, Node, Tree};
 use mpc_simplex::Workspace;
 use std::alloc::Global;
 
-/// Goes on where no step leads below or above coordinate i of the box, counted from 0.
+/// Goes on where no step leads below or above the coordinate of the box at an index, counted from 0.
 fn rule_out_sides_of(
     alloc: Global,
     work: &mut Workspace,
@@ -36,21 +36,21 @@ fn rule_out_sides_of(
     form: &Vector,
     count: u64,
     leaf: u64,
-    i: u32,
+    index: u32,
 ) -> Result<(), Stop>
     requires size { length form.now ≡ base.now.width + 1 }
-    requires coordinate { i < 4 }
+    requires coordinate { index < 4 }
     ensures { (plant : Plant) (law : Law) (path : List Row) → IsBaseOf plant path base.now
-        → form.now ≡ next_form plant law i → count ≡ count_at plant i
-        → MatchResult result (λ _. SideMet plant law path i) (IsStop (SideFinds plant law path leaf i)) }
+        → form.now ≡ next_form plant law index → count ≡ count_at plant index
+        → MatchResult result (λ _. SideMet plant law path index) (IsStop (SideFinds plant law path leaf index)) }
 {
     let low = Next {
         leaf,
-        target: Target::Low(i + 1),
+        target: Target::Low(index + 1),
     };
     let high = Next {
         leaf,
-        target: Target::High(i + 1),
+        target: Target::High(index + 1),
     };
     match rule_out_low(alloc, work, base, form, low) {
         Ok(()) => rule_out_high(alloc, work, base, form, count, high),
@@ -74,8 +74,16 @@ fn rule_out_sides(
         → forms.now ≡ next_forms plant law → limits.now ≡ limits_of plant
         → MatchResult result (λ _. SidesMet plant law path) (IsStop (SidesFind plant law path leaf)) }
 {
-    for i in 0..limits.len() {
-        match rule_out_sides_of(alloc, work, base, &forms[i], *limits.at(i), leaf, i as u32) {
+    for index in 0..limits.len() {
+        match rule_out_sides_of(
+            alloc,
+            work,
+            base,
+            &forms[index],
+            *limits.at(index),
+            leaf,
+            index as u32,
+        ) {
             Ok(()) => {}
             Err(stop) => return Err(stop),
         }
@@ -83,7 +91,7 @@ fn rule_out_sides(
     Ok(())
 }
 
-/// Goes on where no step leads to the node at place k, if it is a leaf without a law, to which this way leads.
+/// Goes on where no step leads to the node at a place, if it is a leaf without a law, to which this way leads.
 fn rule_out_node(
     alloc: Global,
     controller: &Controller,
@@ -91,10 +99,10 @@ fn rule_out_node(
     met: &mut Met,
     way: &[Turn],
     leaf: u64,
-    k: usize,
+    place: usize,
 ) -> Result<(), Stop>
-    requires inside { k < length controller.now.tree }
-    requires way { IsWay controller.now.tree k way.now }
+    requires inside { place < length controller.now.tree }
+    requires way { IsWay controller.now.tree place way.now }
     requires sizes { length met.old.forms.items ≡ controller.now.plant.n }
     requires width { base.now.width ≡ controller.now.plant.n }
     requires affine { All (λ form. length form ≡ length met.old.forms.items + 1) met.old.forms.items }
@@ -103,19 +111,19 @@ fn rule_out_node(
     ensures met { OnOk result (AreMet controller.now.tree met.old.forms.items met.new.turns.items met.new.rows) }
     ensures found { (law : Law) (path : List Row) → IsBaseOf controller.now.plant path base.now
         → met.old.forms.items ≡ next_forms controller.now.plant law
-        → MatchResult result (λ _. EmptyMet controller.now.plant controller.now.tree law path k)
-        (IsStop (EmptyFinds controller.now.plant controller.now.tree law path leaf k)) }
+        → MatchResult result (λ _. EmptyMet controller.now.plant controller.now.tree law path place)
+        (IsStop (EmptyFinds controller.now.plant controller.now.tree law path leaf place)) }
 {
     one_path();
     way_theorems();
     let tree = controller.tree();
-    prove!(k < tree.len());
-    let Node::NoMove { .. } = tree.at(k) else {
+    prove!(place < tree.len());
+    let Node::NoMove { .. } = tree.at(place) else {
         return Ok(());
     };
     let one = Next {
         leaf,
-        target: Target::NoMove(k as u64 + 1),
+        target: Target::NoMove(place as u64 + 1),
     };
     rule_out_leaf(alloc, base, met, tree, way, one)
 }
@@ -162,12 +170,20 @@ fn rule_out_empties(
         return Ok(());
     }
     let mut way = Vec::new(alloc);
-    for k in 0..end {
-        match rule_out_node(alloc, controller, base, &mut met, way.as_slice(), leaf, k) {
+    for place in 0..end {
+        match rule_out_node(
+            alloc,
+            controller,
+            base,
+            &mut met,
+            way.as_slice(),
+            leaf,
+            place,
+        ) {
             Ok(()) => {}
             Err(stop) => return Err(stop),
         }
-        go_on(&mut way, controller.tree(), k)?;
+        go_on(&mut way, controller.tree(), place)?;
     }
     Ok(())
 }

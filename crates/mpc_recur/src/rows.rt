@@ -20,8 +20,8 @@ fn sides(alloc: Global, form: &Vector) -> Result<Vector, NoMemory>
     ensures { IfOk result (λ v. v ≡ later_entries form.now) }
 {
     let mut sides = Vector::new(alloc);
-    for j in 1..form.len() {
-        sides.push(*form.at(j))?;
+    for term in 1..form.len() {
+        sides.push(*form.at(term))?;
     }
     Ok(sides)
 }
@@ -32,8 +32,8 @@ fn negative_sides(alloc: Global, form: &Vector) -> Result<Vector, NoMemory>
     ensures { IfOk result (λ v. v ≡ vec_scale (int (negsuc 0)) (later_entries form.now)) }
 {
     let mut sides = Vector::new(alloc);
-    for j in 1..form.len() {
-        sides.push(form.at(j).neg())?;
+    for term in 1..form.len() {
+        sides.push(form.at(term).neg())?;
     }
     Ok(sides)
 }
@@ -43,9 +43,9 @@ pub fn low_row(alloc: Global, form: &Vector) -> Result<Row, NoMemory>
     requires { 1 ≤ length form.now }
     ensures { IfOk result (λ r. r ≡ low_row form.now) }
 {
-    let a = sides(alloc, form)?;
+    let coefficients = sides(alloc, form)?;
     Ok(Row {
-        a,
+        a: coefficients,
         b: form.at(0).neg(),
         strict: true,
     })
@@ -57,24 +57,28 @@ pub fn high_row(alloc: Global, form: &Vector, count: u64) -> Result<Row, StageEr
     ensures value { IfOk result (λ r. r ≡ high_row form.now count) }
     ensures wide { MatchResult result (λ _. HighFits form.now count) (IfTooWide (¬ HighFits form.now count)) }
 {
-    let Ok(b) = form.at(0).sub(&whole(count as i128)) else {
+    let Ok(bound) = form.at(0).sub(&whole(count as i128)) else {
         return Err(StageError::TooWide);
     };
-    let a = negative_sides(alloc, form)?;
-    Ok(Row { a, b, strict: true })
+    let coefficients = negative_sides(alloc, form)?;
+    Ok(Row {
+        a: coefficients,
+        b: bound,
+        strict: true,
+    })
 }
 
-/// The dot of a row's coefficients with the forms' coefficients on the extended count j.
-fn dot_with_forms(a: &[Frac], forms: &[Vector], j: usize) -> Result<Frac, Wide>
-    requires sizes { length a.now ≡ length forms.now }
-    requires column { All (λ form. j < length form) forms.now }
-    ensures value { IfOk result (λ x. x ≡ dot a.now (column forms.now j)) }
-    ensures wide { MatchResult result (λ _. DotFits a.now (column forms.now j)) (λ _. ¬ DotFits a.now (column forms.now j)) }
+/// The dot of a row's coefficients with the forms' coefficients on the extended count of a term.
+fn dot_with_forms(coefficients: &[Frac], forms: &[Vector], term: usize) -> Result<Frac, Wide>
+    requires sizes { length coefficients.now ≡ length forms.now }
+    requires column { All (λ form. term < length form) forms.now }
+    ensures value { IfOk result (λ x. x ≡ dot coefficients.now (column forms.now term)) }
+    ensures wide { MatchResult result (λ _. DotFits coefficients.now (column forms.now term)) (λ _. ¬ DotFits coefficients.now (column forms.now term)) }
 {
     sum_theorems();
     let mut sum = Frac::whole(0);
-    for k in 0..a.len() {
-        match add_product(&sum, &a[k], forms[k].at(j)) {
+    for k in 0..coefficients.len() {
+        match add_product(&sum, &coefficients[k], forms[k].at(term)) {
             Ok(next) => sum = next,
             Err(wide) => return Err(wide),
         }
@@ -83,17 +87,21 @@ fn dot_with_forms(a: &[Frac], forms: &[Vector], j: usize) -> Result<Frac, Wide>
 }
 
 /// The row's coefficients on t, with the forms in place of the coordinates.
-fn substituted_sides(alloc: Global, a: &[Frac], forms: &[Vector]) -> Result<Vector, StageError>
-    requires sizes { length a.now ≡ length forms.now }
+fn substituted_sides(
+    alloc: Global,
+    coefficients: &[Frac],
+    forms: &[Vector],
+) -> Result<Vector, StageError>
+    requires sizes { length coefficients.now ≡ length forms.now }
     requires few { length forms.now ≤ 4 }
     requires affine { All (λ form. length form ≡ length forms.now + 1) forms.now }
-    ensures value { IfOk result (λ v. v ≡ substituted_sides (length forms.now) forms.now a.now) }
-    ensures wide { MatchResult result (λ _. SidesFit (length forms.now) forms.now a.now)
-        (IfTooWide (¬ SidesFit (length forms.now) forms.now a.now)) }
+    ensures value { IfOk result (λ v. v ≡ substituted_sides (length forms.now) forms.now coefficients.now) }
+    ensures wide { MatchResult result (λ _. SidesFit (length forms.now) forms.now coefficients.now)
+        (IfTooWide (¬ SidesFit (length forms.now) forms.now coefficients.now)) }
 {
     let mut sides = Vector::new(alloc);
     for j in 0..forms.len() {
-        match dot_with_forms(a, forms, j + 1) {
+        match dot_with_forms(coefficients, forms, j + 1) {
             Ok(x) => sides.push(x)?,
             Err(_) => return Err(StageError::TooWide),
         }
@@ -113,13 +121,13 @@ pub fn substituted(alloc: Global, row: &Row, forms: &[Vector]) -> Result<Row, St
     let Ok(constant) = dot_with_forms(row.a.as_slice(), forms, 0) else {
         return Err(StageError::TooWide);
     };
-    let Ok(b) = row.b.sub(&constant) else {
+    let Ok(bound) = row.b.sub(&constant) else {
         return Err(StageError::TooWide);
     };
     match substituted_sides(alloc, row.a.as_slice(), forms) {
-        Ok(a) => Ok(Row {
-            a,
-            b,
+        Ok(coefficients) => Ok(Row {
+            a: coefficients,
+            b: bound,
             strict: row.strict,
         }),
         Err(error) => Err(error),

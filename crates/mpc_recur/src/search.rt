@@ -22,9 +22,9 @@ fn empties_end(tree: &Tree) -> usize
     ensures behind { EmptiesBefore tree.now result }
 {
     let mut end = 0;
-    for k in 0..tree.len() {
-        if let Node::NoMove { .. } = tree.at(k) {
-            end = k + 1;
+    for place in 0..tree.len() {
+        if let Node::NoMove { .. } = tree.at(place) {
+            end = place + 1;
         }
     }
     end

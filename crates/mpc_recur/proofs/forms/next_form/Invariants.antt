@@ -1,5 +1,5 @@
 use Rattle.mpc_recur.proofs.FormLemmas.{FormSo}
 use Rattle.mpc_recur.proofs.forms.next_form.Given as goal
 
-abbrev pub invariant-loop-j : goal.invariant-loop-j
-invariant-loop-j l = FormSo l.plant l.law l.i l.j l.form
+abbrev pub invariant-loop-term : goal.invariant-loop-term
+invariant-loop-term l = FormSo l.plant l.law l.index l.term l.form

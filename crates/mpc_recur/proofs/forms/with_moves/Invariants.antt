@@ -4,4 +4,4 @@ use Rattle.mpc_linear.specs.SumTheorems.{IsSumSoFar}
 use Rattle.mpc_recur.proofs.forms.with_moves.Given as goal
 
 abbrev pub invariant-loop-q : goal.invariant-loop-q
-invariant-loop-q l = IsSumSoFar l.start (get_or l.plant.b.rows l.i []) (column l.law.moves.rows l.j) l.q l.sum
+invariant-loop-q l = IsSumSoFar l.start (get_or l.plant.b.rows l.index []) (column l.law.moves.rows l.term) l.q l.sum

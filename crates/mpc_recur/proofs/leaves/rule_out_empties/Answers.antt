@@ -12,8 +12,8 @@ use Rattle.mpc_recur.proofs.TargetLemmas.{first_stop}
 use Rattle.mpc_recur.proofs.LeafLemmas.{all_empties, met_there}
 use Rattle.mpc_recur.proofs.leaves.rule_out_empties.Goals as goal
 
-pub loop-k-init : goal.loop-k-init
-loop-k-init c = record {
+pub loop-place-init : goal.loop-place-init
+loop-place-init c = record {
   way = λ h. subst (IsWay c.args.controller.now.tree 0) (sym c.new-way.ensures.items) root;
   forms = λ _. c.args.met.forms.items;
   kept = c.requires.met;
@@ -21,39 +21,39 @@ loop-k-init c = record {
 }
 
 pub rule_out_node-requires-clause-inside : goal.rule_out_node-requires-clause-inside
-rule_out_node-requires-clause-inside c = omega (arith, c.loop-k-test.true, c.requires.end)
+rule_out_node-requires-clause-inside c = omega (arith, c.loop-place-test.true, c.requires.end)
 
 pub rule_out_node-requires-clause-way : goal.rule_out_node-requires-clause-way
-rule_out_node-requires-clause-way c = subst (IsWay c.args.controller.now.tree c.loop-k.k) (sym c.as_slice.ensures.value) (c.loop-k.invariant.way (omega (arith, c.loop-k-test.true, c.requires.end)))
+rule_out_node-requires-clause-way c = subst (IsWay c.args.controller.now.tree c.loop-place.place) (sym c.as_slice.ensures.value) (c.loop-place.invariant.way (omega (arith, c.loop-place-test.true, c.requires.end)))
 
 pub rule_out_node-requires-clause-sizes : goal.rule_out_node-requires-clause-sizes
-rule_out_node-requires-clause-sizes c = ap length c.loop-k.invariant.forms ∙ c.requires.sizes
+rule_out_node-requires-clause-sizes c = ap length c.loop-place.invariant.forms ∙ c.requires.sizes
 
 pub rule_out_node-requires-clause-affine : goal.rule_out_node-requires-clause-affine
-rule_out_node-requires-clause-affine c = subst (λ (forms : List (List ℚ)). All (λ form. length form ≡ length forms + 1) forms) (sym c.loop-k.invariant.forms) c.requires.affine
+rule_out_node-requires-clause-affine c = subst (λ (forms : List (List ℚ)). All (λ form. length form ≡ length forms + 1) forms) (sym c.loop-place.invariant.forms) c.requires.affine
 
 pub rule_out_node-requires-clause-met : goal.rule_out_node-requires-clause-met
-rule_out_node-requires-clause-met c = subst (λ (forms : List (List ℚ)). AreMet c.args.controller.now.tree forms c.loop-k.met.turns.items c.loop-k.met.rows) (sym c.loop-k.invariant.forms) c.loop-k.invariant.kept
+rule_out_node-requires-clause-met c = subst (λ (forms : List (List ℚ)). AreMet c.args.controller.now.tree forms c.loop-place.met.turns.items c.loop-place.met.rows) (sym c.loop-place.invariant.forms) c.loop-place.invariant.kept
 
-pub loop-k-preserved : goal.loop-k-preserved
-loop-k-preserved c = record {
-  way = λ h. subst (λ (tree : List Node). IsWay tree (c.loop-k.k + 1) c.go_on.new.way.items) c.tree-in-loop-k.ensures.value (c.in_ok-go_on.ensures (subst (λ (tree : List Node). c.loop-k.k + 1 < length tree) (sym c.tree-in-loop-k.ensures.value) h));
-  forms = c.in-Ok.ensures.forms ∙ c.loop-k.invariant.forms;
-  kept = subst (λ (forms : List (List ℚ)). AreMet c.args.controller.now.tree forms c.rule_out_node.new.met.turns.items c.rule_out_node.new.met.rows) c.loop-k.invariant.forms c.in-Ok.ensures.met;
+pub loop-place-preserved : goal.loop-place-preserved
+loop-place-preserved c = record {
+  way = λ h. subst (λ (tree : List Node). IsWay tree (c.loop-place.place + 1) c.go_on.new.way.items) c.tree-in-loop-place.ensures.value (c.in_ok-go_on.ensures (subst (λ (tree : List Node). c.loop-place.place + 1 < length tree) (sym c.tree-in-loop-place.ensures.value) h));
+  forms = c.in-Ok.ensures.forms ∙ c.loop-place.invariant.forms;
+  kept = subst (λ (forms : List (List ℚ)). AreMet c.args.controller.now.tree forms c.rule_out_node.new.met.turns.items c.rule_out_node.new.met.rows) c.loop-place.invariant.forms c.in-Ok.ensures.met;
   met = λ law path base ef.
-      each_more (EmptyMet c.args.controller.now.plant c.args.controller.now.tree law path) c.loop-k.k (c.loop-k.invariant.met law path base ef)
-      (c.in-Ok.ensures.found law path base (c.loop-k.invariant.forms ∙ ef));
+      each_more (EmptyMet c.args.controller.now.plant c.args.controller.now.tree law path) c.loop-place.place (c.loop-place.invariant.met law path base ef)
+      (c.in-Ok.ensures.found law path base (c.loop-place.invariant.forms ∙ ef));
 }
 
 pub returns-in-Err : goal.returns-in-Err
 returns-in-Err c = λ law path base ef.
-    first_stop (EmptyMet c.args.controller.now.plant c.args.controller.now.tree law path) (EmptyFinds c.args.controller.now.plant c.args.controller.now.tree law path c.args.leaf) (length c.args.controller.now.tree) c.loop-k.k
-    (omega (arith, c.loop-k-test.true, c.requires.end)) (c.loop-k.invariant.met law path base ef) c.in-Err.stop
-    (c.in-Err.ensures.found law path base (c.loop-k.invariant.forms ∙ ef))
+    first_stop (EmptyMet c.args.controller.now.plant c.args.controller.now.tree law path) (EmptyFinds c.args.controller.now.plant c.args.controller.now.tree law path c.args.leaf) (length c.args.controller.now.tree) c.loop-place.place
+    (omega (arith, c.loop-place-test.true, c.requires.end)) (c.loop-place.invariant.met law path base ef) c.in-Err.stop
+    (c.in-Err.ensures.found law path base (c.loop-place.invariant.forms ∙ ef))
 
 pub returns : goal.returns
 returns c = λ law path base ef.
-    all_empties c.args.controller.now.plant c.args.controller.now.tree law path c.args.end c.requires.empties (λ k h. c.loop-k.invariant.met law path base ef k (omega (arith, h, c.loop-k-test.false)))
+    all_empties c.args.controller.now.plant c.args.controller.now.tree law path c.args.end c.requires.empties (λ k h. c.loop-place.invariant.met law path base ef k (omega (arith, h, c.loop-place-test.false)))
 
 pub returns-then-branch : goal.returns-then-branch
 returns-then-branch c = λ law path base ef k h other cert leads is.

@@ -8,10 +8,10 @@ use Rattle.mpc_recur.specs.Targets.{IsBaseOf, EmptyMet}
 use Rattle.mpc_paths.specs.Ways.{IsWay}
 use Rattle.mpc_recur.proofs.leaves.rule_out_empties.Given as goal
 
-abbrev pub invariant-loop-k : goal.invariant-loop-k
-invariant-loop-k l = record {
-  way : l.k < length l.controller.tree → IsWay l.controller.tree l.k l.way.items;
+abbrev pub invariant-loop-place : goal.invariant-loop-place
+invariant-loop-place l = record {
+  way : l.place < length l.controller.tree → IsWay l.controller.tree l.place l.way.items;
   forms : l.met.forms.items ≡ l.fn.met.forms.items;
   kept : AreMet l.controller.tree l.fn.met.forms.items l.met.turns.items l.met.rows;
-  met : (law : Law) (path : List Row) → IsBaseOf l.controller.plant path l.base → l.fn.met.forms.items ≡ next_forms l.controller.plant law → Each (EmptyMet l.controller.plant l.controller.tree law path) l.k;
+  met : (law : Law) (path : List Row) → IsBaseOf l.controller.plant path l.base → l.fn.met.forms.items ≡ next_forms l.controller.plant law → Each (EmptyMet l.controller.plant l.controller.tree law path) l.place;
 }

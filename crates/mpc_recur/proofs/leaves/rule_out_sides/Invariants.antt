@@ -8,5 +8,5 @@ use Rattle.mpc_recur.specs.Findings.{Each}
 use Rattle.mpc_recur.specs.Targets.{IsBaseOf, SideMet}
 use Rattle.mpc_recur.proofs.leaves.rule_out_sides.Given as goal
 
-abbrev pub invariant-loop-i : goal.invariant-loop-i
-invariant-loop-i l = (plant : Plant) (law : Law) (path : List Row) → IsBaseOf plant path l.base → l.forms ≡ next_forms plant law → l.limits ≡ limits_of plant → Each (SideMet plant law path) l.i
+abbrev pub invariant-loop-index : goal.invariant-loop-index
+invariant-loop-index l = (plant : Plant) (law : Law) (path : List Row) → IsBaseOf plant path l.base → l.forms ≡ next_forms plant law → l.limits ≡ limits_of plant → Each (SideMet plant law path) l.index

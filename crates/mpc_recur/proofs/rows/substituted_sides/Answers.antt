@@ -7,11 +7,11 @@ pub dot_with_forms-requires-clause-column : goal.dot_with_forms-requires-clause-
 dot_with_forms-requires-clause-column c = λ k d h. let size = c.requires.affine k d h in omega (arith, size, c.loop-j-test.true)
 
 pub loop-j-init : goal.loop-j-init
-loop-j-init c = substituted_none c.args.forms.now c.args.a.now _ c.new-sides.ensures
+loop-j-init c = substituted_none c.args.forms.now c.args.coefficients.now _ c.new-sides.ensures
 
 pub loop-j-preserved : goal.loop-j-preserved
 loop-j-preserved c =
-    substituted_more c.args.forms.now c.args.a.now c.loop-j.sides c.push.new.self c.loop-j.j c.in-Ok.x c.loop-j.invariant c.in_ok-push-in-Ok.ensures.ok c.in-Ok.ensures.value c.in-Ok.ensures.wide
+    substituted_more c.args.forms.now c.args.coefficients.now c.loop-j.sides c.push.new.self c.loop-j.j c.in-Ok.x c.loop-j.invariant c.in_ok-push-in-Ok.ensures.ok c.in-Ok.ensures.value c.in-Ok.ensures.wide
 
 pub returns-in-Err-clause-wide : goal.returns-in-Err-clause-wide
 returns-in-Err-clause-wide c = λ f. c.in-Err.ensures.wide (f c.loop-j.j c.loop-j-test.true)
@@ -19,9 +19,9 @@ returns-in-Err-clause-wide c = λ f. c.in-Err.ensures.wide (f c.loop-j.j c.loop-
 pub returns-clause-value : goal.returns-clause-value
 returns-clause-value c =
     let over : c.loop-j.j ≡ length c.args.forms.now = omega (arith, c.loop-j-test.false, c.loop-j.auto.j-end) in
-    subst (λ n. c.loop-j.sides ≡ substituted_sides n c.args.forms.now c.args.a.now) over c.loop-j.invariant.entries
+    subst (λ n. c.loop-j.sides ≡ substituted_sides n c.args.forms.now c.args.coefficients.now) over c.loop-j.invariant.entries
 
 pub returns-clause-wide : goal.returns-clause-wide
 returns-clause-wide c =
     let over : c.loop-j.j ≡ length c.args.forms.now = omega (arith, c.loop-j-test.false, c.loop-j.auto.j-end) in
-    subst (λ n. SidesFit n c.args.forms.now c.args.a.now) over c.loop-j.invariant.fits
+    subst (λ n. SidesFit n c.args.forms.now c.args.coefficients.now) over c.loop-j.invariant.fits
