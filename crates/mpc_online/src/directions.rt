@@ -67,8 +67,8 @@ fn member_places(alloc: Global, unknowns: u32, set: ActiveSet) -> Result<Vec<u32
     ensures { IfOk result (λ places. AreMemberPlaces unknowns set places.items) }
 {
     let mut places = Vec::with_capacity(alloc, set.size() as usize)?;
-    for k in 0..set.size() {
-        places.push(unknowns + (set.member(k + 1) - 1))?;
+    for index in 0..set.size() {
+        places.push(unknowns + (set.member(index + 1) - 1))?;
     }
     Ok(places)
 }

@@ -16,48 +16,48 @@ use mpc_rows::{Qp, law_theorems};
 use mpc_sets::ActiveSet;
 use std::alloc::Global;
 
-/// The entry in column j of the row of member k, both counted from 0.
-fn member_entry(m: &Matrix, set: ActiveSet, k: u32, j: u32) -> Frac
-    requires set_of_rows { IsSetOfRows (height m.now) set }
-    requires member { k < length set }
-    requires column { j < m.now.columns }
-    ensures { result ≡ cell (rows_of m.now.rows set) k j }
+/// The entry in a column of the row of the member at an index, both counted from 0.
+fn member_entry(matrix: &Matrix, set: ActiveSet, index: u32, column: u32) -> Frac
+    requires set_of_rows { IsSetOfRows (height matrix.now) set }
+    requires member { index < length set }
+    requires column { column < matrix.now.columns }
+    ensures { result ≡ cell (rows_of matrix.now.rows set) index column }
 {
     law_theorems();
-    prove!(k < set.size());
-    m.get(set.member(k + 1) - 1, j)
+    prove!(index < set.size());
+    matrix.get(set.member(index + 1) - 1, column)
 }
 
-/// The entry of `[[h, g_S'], [g_S, 0]]` in row i and column j.
-fn law_entry(qp: &Qp, set: ActiveSet, i: u32, j: u32) -> Frac
+/// The entry of `[[h, g_S'], [g_S, 0]]` in a row and a column.
+fn law_entry(qp: &Qp, set: ActiveSet, row: u32, column: u32) -> Frac
     requires set_of_rows { IsSetOfRows (height qp.now.g) set }
-    requires row { i < height qp.now.h + length set }
-    requires column { j < height qp.now.h + length set }
-    ensures { result ≡ law_entry qp.now set i j }
+    requires row { row < height qp.now.h + length set }
+    requires column { column < height qp.now.h + length set }
+    ensures { result ≡ law_entry qp.now set row column }
 {
     let unknowns = qp.h.rows();
-    if i < unknowns && j < unknowns {
-        qp.h.get(i, j)
-    } else if i < unknowns {
-        member_entry(&qp.g, set, j - unknowns, i)
-    } else if j < unknowns {
-        member_entry(&qp.g, set, i - unknowns, j)
+    if row < unknowns && column < unknowns {
+        qp.h.get(row, column)
+    } else if row < unknowns {
+        member_entry(&qp.g, set, column - unknowns, row)
+    } else if column < unknowns {
+        member_entry(&qp.g, set, row - unknowns, column)
     } else {
         Frac::whole(0)
     }
 }
 
-/// Writes row i of the matrix.
-fn write_entries(out: &mut Matrix, qp: &Qp, set: ActiveSet, i: u32)
+/// Writes a row of the matrix.
+fn write_entries(out: &mut Matrix, qp: &Qp, set: ActiveSet, row: u32)
     requires set_of_rows { IsSetOfRows (height qp.now.g) set }
-    requires row { i < height out.old }
+    requires row { row < height out.old }
     requires rows { height out.old ≡ height qp.now.h + length set }
     requires columns { out.old.columns ≡ height qp.now.h + length set }
-    ensures { WritesRow out.old out.new i (law_entry qp.now set i) }
+    ensures { WritesRow out.old out.new row (law_entry qp.now set row) }
 {
     let _rows = out.rows();
-    for j in 0..out.cols() {
-        out.set(i, j, law_entry(qp, set, i, j));
+    for column in 0..out.cols() {
+        out.set(row, column, law_entry(qp, set, row, column));
     }
 }
 
@@ -68,35 +68,40 @@ pub fn law_matrix(alloc: Global, qp: &Qp, set: ActiveSet) -> Result<Matrix, NoMe
 {
     let size = qp.h.rows() + set.size();
     let mut out = Matrix::zero(alloc, size, size)?;
-    for i in 0..size {
-        write_entries(&mut out, qp, set, i);
+    for row in 0..size {
+        write_entries(&mut out, qp, set, row);
     }
     Ok(out)
 }
 
-/// The right side of row i for the row r: -g_r, and 0 below it.
-fn step_side(qp: &Qp, r: u32, i: u32) -> Frac
-    requires from_one { 1 ≤ r }
-    requires to_last { r ≤ height qp.now.g }
-    ensures { result ≡ step_side qp.now r i }
+/// The right side in a row for the row with this number, r: -g_r, and 0 below it.
+fn step_side(qp: &Qp, row_number: u32, row: u32) -> Frac
+    requires from_one { 1 ≤ row_number }
+    requires to_last { row_number ≤ height qp.now.g }
+    ensures { result ≡ step_side qp.now row_number row }
 {
-    if i < qp.h.rows() {
-        qp.g.get(r - 1, i).neg()
+    if row < qp.h.rows() {
+        qp.g.get(row_number - 1, row).neg()
     } else {
         Frac::whole(0)
     }
 }
 
-/// The right sides of a step towards the row r, one column beside the matrix.
-pub fn step_right(alloc: Global, qp: &Qp, set: ActiveSet, r: u32) -> Result<Matrix, NoMemory>
-    requires from_one { 1 ≤ r }
-    requires to_last { r ≤ height qp.now.g }
-    ensures { IfOk result (λ m. m ≡ right_matrix qp.now set (step_side qp.now r)) }
+/// The right sides of a step towards the row with this number, one column beside the matrix.
+pub fn step_right(
+    alloc: Global,
+    qp: &Qp,
+    set: ActiveSet,
+    row_number: u32,
+) -> Result<Matrix, NoMemory>
+    requires from_one { 1 ≤ row_number }
+    requires to_last { row_number ≤ height qp.now.g }
+    ensures { IfOk result (λ m. m ≡ right_matrix qp.now set (step_side qp.now row_number)) }
 {
     let size = qp.h.rows() + set.size();
     let mut out = Matrix::zero(alloc, size, 1)?;
-    for i in 0..size {
-        out.set(i, 0, step_side(qp, r, i));
+    for row in 0..size {
+        out.set(row, 0, step_side(qp, row_number, row));
     }
     Ok(out)
 }
@@ -108,8 +113,8 @@ pub fn opening_right(alloc: Global, qp: &Qp, costs: &[Frac]) -> Result<Matrix, N
 {
     let size = qp.h.rows();
     let mut out = Matrix::zero(alloc, size, 1)?;
-    for i in 0..size {
-        out.set(i, 0, costs[i as usize].neg());
+    for row in 0..size {
+        out.set(row, 0, costs[row as usize].neg());
     }
     Ok(out)
 }

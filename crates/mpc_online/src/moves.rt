@@ -28,52 +28,62 @@ pub struct Iterate {
     pub weight: Frac,
 }
 
-/// Adds s times the entries of d to those of xs.
-fn grow(xs: &mut [Frac], s: &Frac, d: &[Frac]) -> Result<(), Wide>
-    requires { length d.now ≡ length xs.old }
-    ensures ok { OnOk result (xs.new ≡ vec_add xs.old (vec_scale s.now d.now)) }
-    ensures wide { MatchResult result (λ _. GrowsFit xs.old s.now d.now) (λ _. ¬ GrowsFit xs.old s.now d.now) }
+/// Adds the changes times the scale to the entries.
+fn grow(entries: &mut [Frac], scale: &Frac, changes: &[Frac]) -> Result<(), Wide>
+    requires { length changes.now ≡ length entries.old }
+    ensures ok { OnOk result (entries.new ≡ vec_add entries.old (vec_scale scale.now changes.now)) }
+    ensures wide { MatchResult result (λ _. GrowsFit entries.old scale.now changes.now) (λ _. ¬ GrowsFit entries.old scale.now changes.now) }
 {
-    for i in 0..xs.len() {
-        let x = xs[i];
-        match add_product(&x, s, &d[i]) {
-            Ok(next) => xs[i] = next,
+    for index in 0..entries.len() {
+        let entry = entries[index];
+        match add_product(&entry, scale, &changes[index]) {
+            Ok(next) => entries[index] = next,
             Err(wide) => return Err(wide),
         }
     }
     Ok(())
 }
 
-/// The point, s times the direction further: in whole numbers, where these are small, and else in fractions.
-fn moved_point(alloc: Global, point: Point, direction: &Direction, s: &Frac) -> Result<Point, Stop>
+/// The point, the scale times the direction further: in whole numbers, where these are small, and else in fractions.
+fn moved_point(
+    alloc: Global,
+    point: Point,
+    direction: &Direction,
+    scale: &Frac,
+) -> Result<Point, Stop>
     requires few { length (entries_of point) ≤ 6 }
     requires direction { length direction.now.point.items ≡ length (entries_of point) }
     requires whole { IfSome direction.now.whole (IsOver direction.now.point.items) }
-    ensures value { IfOk result (λ next. entries_of next ≡ vec_add (entries_of point) (vec_scale s.now direction.now.point.items)) }
-    ensures wide { MatchResult result (λ _. GrowsFit (entries_of point) s.now direction.now.point.items)
-        (λ stop. IfStopWide stop (¬ GrowsFit (entries_of point) s.now direction.now.point.items)) }
+    ensures value { IfOk result (λ next. entries_of next ≡ vec_add (entries_of point) (vec_scale scale.now direction.now.point.items)) }
+    ensures wide { MatchResult result (λ _. GrowsFit (entries_of point) scale.now direction.now.point.items)
+        (λ stop. IfStopWide stop (¬ GrowsFit (entries_of point) scale.now direction.now.point.items)) }
 {
     if let Point::Whole(numbers, count) = &point {
         if let Some(step) = &direction.whole {
-            if let Some(next) = moved_in_wholes(numbers, step, s, *count) {
+            if let Some(next) = moved_in_wholes(numbers, step, scale, *count) {
                 return Ok(Point::Whole(next, *count));
             }
         }
     }
     let mut entries = fractions(alloc, point)?;
-    grow(&mut entries, s, &direction.point)?;
+    grow(&mut entries, scale, &direction.point)?;
     Ok(point_of(entries))
 }
 
-/// s times the direction further.
-pub fn moved(alloc: Global, it: Iterate, direction: &Direction, s: &Frac) -> Result<Iterate, Stop>
+/// The scale times the direction further.
+pub fn moved(
+    alloc: Global,
+    it: Iterate,
+    direction: &Direction,
+    scale: &Frac,
+) -> Result<Iterate, Stop>
     requires few { length (entries_of it.point) ≤ 6 }
     requires direction { length direction.now.point.items ≡ length (entries_of it.point) }
     requires whole { IfSome direction.now.whole (IsOver direction.now.point.items) }
     requires multipliers { length direction.now.multipliers.items ≡ length it.multipliers.items }
-    ensures value { IfOk result (λ next. position_of next ≡ along (position_of it) direction.now.point.items direction.now.multipliers.items s.now) }
-    ensures wide { MatchResult result (λ _. MoveFits (position_of it) direction.now.point.items direction.now.multipliers.items s.now)
-        (λ stop. IfStopWide stop (¬ MoveFits (position_of it) direction.now.point.items direction.now.multipliers.items s.now)) }
+    ensures value { IfOk result (λ next. position_of next ≡ along (position_of it) direction.now.point.items direction.now.multipliers.items scale.now) }
+    ensures wide { MatchResult result (λ _. MoveFits (position_of it) direction.now.point.items direction.now.multipliers.items scale.now)
+        (λ stop. IfStopWide stop (¬ MoveFits (position_of it) direction.now.point.items direction.now.multipliers.items scale.now)) }
 {
     let Iterate {
         point,
@@ -82,9 +92,9 @@ pub fn moved(alloc: Global, it: Iterate, direction: &Direction, s: &Frac) -> Res
         row,
         weight,
     } = it;
-    let point = moved_point(alloc, point, direction, s)?;
-    grow(&mut multipliers, s, &direction.multipliers)?;
-    let weight = weight.add(s)?;
+    let point = moved_point(alloc, point, direction, scale)?;
+    grow(&mut multipliers, scale, &direction.multipliers)?;
+    let weight = weight.add(scale)?;
     Ok(Iterate {
         point,
         set,
@@ -112,9 +122,9 @@ fn place_of(set: ActiveSet, row: u32) -> usize
     ensures value { result ≡ place_of row set }
     ensures within { result ≤ length set }
 {
-    for k in 0..set.size() {
-        if set.member(k + 1) >= row {
-            return k as usize;
+    for index in 0..set.size() {
+        if set.member(index + 1) >= row {
+            return index as usize;
         }
     }
     set.size() as usize

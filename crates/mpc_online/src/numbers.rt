@@ -5,23 +5,23 @@ ghost use Rattle.mpc_exact.specs.Rational.{int, lt_ℚ, ◌<ℚ◌};
 
 use mpc_frac::Frac;
 
-/// Whether x is below y.
-pub fn is_less(x: &Frac, y: &Frac) -> bool
-    ensures { result ≡ lt_ℚ x.now y.now }
+/// Whether the left number is below the right one.
+pub fn is_less(left: &Frac, right: &Frac) -> bool
+    ensures { result ≡ lt_ℚ left.now right.now }
 {
-    x.cmp(y).is_lt()
+    left.cmp(right).is_lt()
 }
 
-/// Whether x is above 0.
-pub fn is_positive(x: &Frac) -> bool
-    ensures { IsTrue result ↔ (int (pos 0) <ℚ x.now) }
+/// Whether the number is above 0.
+pub fn is_positive(number: &Frac) -> bool
+    ensures { IsTrue result ↔ (int (pos 0) <ℚ number.now) }
 {
-    x.sign() > 0
+    number.sign() > 0
 }
 
-/// Whether x is below 0.
-pub fn is_negative(x: &Frac) -> bool
-    ensures { result ≡ lt_ℚ x.now (int (pos 0)) }
+/// Whether the number is below 0.
+pub fn is_negative(number: &Frac) -> bool
+    ensures { result ≡ lt_ℚ number.now (int (pos 0)) }
 {
-    x.sign() < 0
+    number.sign() < 0
 }

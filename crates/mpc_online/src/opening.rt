@@ -29,19 +29,19 @@ use mpc_wholes::{Wholes, common_in, common_of, numerator_over, over_theorems};
 use std::alloc::{AllocError, Global};
 
 /// Whether the sum of the products with counts up to these is small over the denominator, and so each sum on the way to it.
-fn is_small_sum(xs: &[Frac], all: u128, most: &[u64]) -> bool
-    requires sizes { length xs.now ≡ length most.now }
+fn is_small_sum(entries: &[Frac], all: u128, most: &[u64]) -> bool
+    requires sizes { length entries.now ≡ length most.now }
     requires denom { IsDenominator all }
-    ensures { IsTrue result → (c : List ℚ) → AreCountsTo most.now c → IsSmallSum all xs.now c }
+    ensures { IsTrue result → (c : List ℚ) → AreCountsTo most.now c → IsSmallSum all entries.now c }
 {
     sum_theorems();
     over_theorems();
     let mut total = 0;
-    for k in 0..xs.len() {
-        let Some(numerator) = numerator_over(&xs[k], all) else {
+    for index in 0..entries.len() {
+        let Some(numerator) = numerator_over(&entries[index], all) else {
             return false;
         };
-        let Some(next) = grown_size(total, numerator, most[k]) else {
+        let Some(next) = grown_size(total, numerator, most[index]) else {
             return false;
         };
         total = next;
@@ -50,24 +50,24 @@ fn is_small_sum(xs: &[Frac], all: u128, most: &[u64]) -> bool
 }
 
 /// Whether the products with counts up to these fit.
-fn sum_fits(xs: &[Frac], most: &[u64]) -> bool
-    requires { length xs.now ≡ length most.now }
-    ensures { IsTrue result → (c : List ℚ) → AreCountsTo most.now c → DotFits xs.now c }
+fn sum_fits(entries: &[Frac], most: &[u64]) -> bool
+    requires { length entries.now ≡ length most.now }
+    ensures { IsTrue result → (c : List ℚ) → AreCountsTo most.now c → DotFits entries.now c }
 {
-    let Some(all) = common_in(1, xs) else {
+    let Some(all) = common_in(1, entries) else {
         return false;
     };
-    is_small_sum(xs, all, most)
+    is_small_sum(entries, all, most)
 }
 
 /// Whether the products of all rows with counts up to these fit.
-fn sums_fit(m: &Matrix, most: &[u64]) -> bool
-    requires { m.now.columns ≡ length most.now }
-    ensures { IsTrue result → (c : List ℚ) → AreCountsTo most.now c → ProductsFit m.now c }
+fn sums_fit(matrix: &Matrix, most: &[u64]) -> bool
+    requires { matrix.now.columns ≡ length most.now }
+    ensures { IsTrue result → (c : List ℚ) → AreCountsTo most.now c → ProductsFit matrix.now c }
 {
-    let _columns = m.cols();
-    for i in 0..m.rows() {
-        if !sum_fits(m.row(i), most) {
+    let _columns = matrix.cols();
+    for index in 0..matrix.rows() {
+        if !sum_fits(matrix.row(index), most) {
             return false;
         }
     }
@@ -75,11 +75,11 @@ fn sums_fit(m: &Matrix, most: &[u64]) -> bool
 }
 
 /// A common denominator of both lists, where it is at most 2^124.
-fn common_to(xs: &[Frac], ys: &[Frac]) -> Option<u128>
+fn common_to(first: &[Frac], second: &[Frac]) -> Option<u128>
     ensures { IfSome result IsDenominator }
 {
-    let left = common_in(1, xs)?;
-    common_in(left, ys)
+    let left = common_in(1, first)?;
+    common_in(left, second)
 }
 
 /// Whether the operations fit that make the value of the new form of that of the old one, at all counts up to these.
@@ -106,8 +106,8 @@ fn changes_fit(old: &Matrix, new: &Matrix, most: &[u64]) -> bool
     ensures { IsTrue result → (c : List ℚ) → AreCountsTo most.now c → (i : ℕ) → i < height old.now → ChangeFits (dot (get_or old.now.rows i []) c) (dot (get_or new.now.rows i []) c) }
 {
     let _columns = (old.cols(), new.cols(), new.rows());
-    for i in 0..old.rows() {
-        if !change_fits(old.row(i), new.row(i), most) {
+    for index in 0..old.rows() {
+        if !change_fits(old.row(index), new.row(index), most) {
             return false;
         }
     }
@@ -137,8 +137,8 @@ fn opening_forms(
 {
     combined_theorems();
     let mut stage = first_stage(alloc, &qp.f)?;
-    for c in 0..qp.h.rows() {
-        let Some(next) = next_stage(alloc, kept, &stage, c)? else {
+    for column in 0..qp.h.rows() {
+        let Some(next) = next_stage(alloc, kept, &stage, column)? else {
             return Ok(None);
         };
         if !changes_fit(&stage, &next, most) {
@@ -176,19 +176,19 @@ pub fn opening_of(
 fn eliminated_point(
     alloc: Global,
     qp: &Qp,
-    c: &[Frac],
+    extended_counts: &[Frac],
     costs: &[Option<Wholes>],
 ) -> Result<Vec<Frac>, Stop>
     requires definite { IsDefinite qp.now.h.rows }
     requires costs { AreRowsOver qp.now.f costs.now }
-    requires extended { qp.now.f.columns ≡ length c.now }
-    ensures point { IfOk result (λ z. IsFirstPoint qp.now c.now z.items) }
-    ensures wide { MatchResult result (λ _. PointFits qp.now c.now) (λ stop. IfStopWide stop (¬ PointFits qp.now c.now)) }
+    requires extended { qp.now.f.columns ≡ length extended_counts.now }
+    ensures point { IfOk result (λ z. IsFirstPoint qp.now extended_counts.now z.items) }
+    ensures wide { MatchResult result (λ _. PointFits qp.now extended_counts.now) (λ stop. IfStopWide stop (¬ PointFits qp.now extended_counts.now)) }
 {
-    let slopes = products(alloc, &qp.f, c, costs)?;
+    let slopes = products(alloc, &qp.f, extended_counts, costs)?;
     let right = opening_right(alloc, qp, &slopes)?;
-    let x = solution(alloc, qp, ActiveSet::empty(), &right)?;
-    let point = part(alloc, &x, 0, qp.h.rows())?;
+    let solved = solution(alloc, qp, ActiveSet::empty(), &right)?;
+    let point = part(alloc, &solved, 0, qp.h.rows())?;
     Ok(point)
 }
 
@@ -196,28 +196,28 @@ fn eliminated_point(
 pub fn first_point(
     alloc: Global,
     qp: &Qp,
-    c: &[Frac],
+    extended_counts: &[Frac],
     costs: &[Option<Wholes>],
     opening: &Option<Opening>,
 ) -> Result<Point, Stop>
     requires definite { IsDefinite qp.now.h.rows }
     requires costs { AreRowsOver qp.now.f costs.now }
-    requires extended { AreExtendedCounts qp.now c.now }
+    requires extended { AreExtendedCounts qp.now extended_counts.now }
     requires opening { IfSome opening.now (IsOpeningOf qp.now) }
-    ensures point { IfOk result (λ z. IsFirstPoint qp.now c.now (entries_of z)) }
-    ensures wide { MatchResult result (λ _. PointFits qp.now c.now) (λ stop. IfStopWide stop (¬ PointFits qp.now c.now)) }
+    ensures point { IfOk result (λ z. IsFirstPoint qp.now extended_counts.now (entries_of z)) }
+    ensures wide { MatchResult result (λ _. PointFits qp.now extended_counts.now) (λ stop. IfStopWide stop (¬ PointFits qp.now extended_counts.now)) }
 {
     if let Some(known) = opening {
-        if let Some(numbers) = products_in_wholes(&known.forms, &known.rows, c) {
+        if let Some(numbers) = products_in_wholes(&known.forms, &known.rows, extended_counts) {
             let count = known.rows.len();
             return Ok(Point::Whole(lowest(numbers, count), count));
         }
-        match products(alloc, &known.forms, c, &known.rows) {
+        match products(alloc, &known.forms, extended_counts, &known.rows) {
             Ok(point) => return Ok(point_of(point)),
             Err(Stop::NoMemory) => return Err(Stop::NoMemory),
             Err(Stop::Wide) => {}
         }
     }
-    let point = eliminated_point(alloc, qp, c, costs)?;
+    let point = eliminated_point(alloc, qp, extended_counts, costs)?;
     Ok(point_of(point))
 }

@@ -31,12 +31,12 @@ pub fn point_of(entries: Vec<Frac>) -> Point
 }
 
 /// The entry in place k as a fraction.
-fn entry(numbers: &Wholes, k: usize) -> Frac
-    requires { k < 6 }
-    ensures { result ≡ frac (get_or numbers.now.numerators k (pos 0)) numbers.now.den }
+fn entry(numbers: &Wholes, place: usize) -> Frac
+    requires { place < 6 }
+    ensures { result ≡ frac (get_or numbers.now.numerators place (pos 0)) numbers.now.den }
 {
     fit_theorems();
-    let numerator = numbers.numerators[k];
+    let numerator = numbers.numerators[place];
     let below = numbers.den as i128;
     Frac::new(numerator, below).unwrap()
 }
@@ -47,8 +47,8 @@ fn entries(alloc: Global, numbers: &Wholes, count: usize) -> Result<Vec<Frac>, A
     ensures { IfOk result (λ v. v.items ≡ first_of numbers.now count) }
 {
     let mut out = Vec::with_capacity(alloc, count)?;
-    for k in 0..count {
-        out.push(entry(numbers, k))?;
+    for place in 0..count {
+        out.push(entry(numbers, place))?;
     }
     Ok(out)
 }
@@ -74,8 +74,8 @@ fn dot_of_entries(row: &[Frac], numbers: &Wholes, count: usize) -> Result<Frac, 
 {
     sum_theorems();
     let mut sum = Frac::whole(0);
-    for k in 0..row.len() {
-        match add_product(&sum, &row[k], &entry(numbers, k)) {
+    for place in 0..row.len() {
+        match add_product(&sum, &row[place], &entry(numbers, place)) {
             Ok(next) => sum = next,
             Err(wide) => return Err(wide),
         }

@@ -10,28 +10,28 @@ use mpc_rows::{Multipliers, Qp};
 use mpc_sets::ActiveSet;
 use std::alloc::{AllocError, Global};
 
-/// The multiplier of row i among the members, 0 where it is none.
-fn member_multiplier(set: ActiveSet, e: &[Frac], i: u32) -> Frac
-    requires { length e.now ≡ length set }
-    ensures { result ≡ member_multiplier set e.now i }
+/// The multiplier of the row with this number among the members, 0 where it is none.
+fn member_multiplier(set: ActiveSet, changes: &[Frac], row_number: u32) -> Frac
+    requires { length changes.now ≡ length set }
+    ensures { result ≡ member_multiplier set changes.now row_number }
 {
-    for k in 0..set.size() {
-        if set.member(k + 1) == i {
-            return e[k as usize];
+    for index in 0..set.size() {
+        if set.member(index + 1) == row_number {
+            return changes[index as usize];
         }
     }
     Frac::whole(0)
 }
 
-/// The multiplier of row i: 1 for the row on its way, and that of a member.
-fn row_multiplier(it: &Iterate, e: &[Frac], i: u32) -> Frac
-    requires { length e.now ≡ length it.now.set }
-    ensures { result ≡ row_multiplier (position_of it.now) e.now i }
+/// The multiplier of the row with this number: 1 for the row on its way, and that of a member.
+fn row_multiplier(it: &Iterate, changes: &[Frac], row_number: u32) -> Frac
+    requires { length changes.now ≡ length it.now.set }
+    ensures { result ≡ row_multiplier (position_of it.now) changes.now row_number }
 {
-    if i == it.row {
+    if row_number == it.row {
         return Frac::whole(1);
     }
-    member_multiplier(it.set, e, i)
+    member_multiplier(it.set, changes, row_number)
 }
 
 /// The multipliers of all rows.
@@ -39,14 +39,14 @@ pub fn row_multipliers(
     alloc: Global,
     qp: &Qp,
     it: &Iterate,
-    e: &[Frac],
+    changes: &[Frac],
 ) -> Result<Multipliers, AllocError>
-    requires { length e.now ≡ length it.now.set }
-    ensures { IfOk result (λ m. m ≡ row_multipliers qp.now (position_of it.now) e.now) }
+    requires { length changes.now ≡ length it.now.set }
+    ensures { IfOk result (λ m. m ≡ row_multipliers qp.now (position_of it.now) changes.now) }
 {
     let mut out = Vec::with_capacity(alloc, qp.g.rows() as usize)?;
-    for i in 0..qp.g.rows() {
-        out.push(row_multiplier(it, e, i + 1))?;
+    for index in 0..qp.g.rows() {
+        out.push(row_multiplier(it, changes, index + 1))?;
     }
     Ok(Multipliers::of(out))
 }

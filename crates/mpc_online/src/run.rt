@@ -50,8 +50,8 @@ fn vector(alloc: Global, entries: &[Frac]) -> Result<Vector, NoMemory>
     ensures { IfOk result (λ v. v ≡ entries.now) }
 {
     let mut out = Vector::with_capacity(alloc, entries.len())?;
-    for x in entries {
-        out.push(*x)?;
+    for entry in entries {
+        out.push(*entry)?;
     }
     Ok(out)
 }
@@ -74,7 +74,7 @@ fn continued(alloc: Global, mut it: Iterate, first: Option<u32>) -> Result<Next,
 fn open(
     alloc: Global,
     qp: &Qp,
-    c: &[Frac],
+    extended_counts: &[Frac],
     sides: &[Frac],
     rows: &[Option<Wholes>],
     costs: &[Option<Wholes>],
@@ -84,13 +84,13 @@ fn open(
     requires rows { AreRowsOver qp.now.g rows.now }
     requires costs { AreRowsOver qp.now.f costs.now }
     requires opening { IfSome opening.now (IsOpeningOf qp.now) }
-    requires extended { AreExtendedCounts qp.now c.now }
+    requires extended { AreExtendedCounts qp.now extended_counts.now }
     requires sides { length sides.now ≡ height qp.now.g }
-    ensures opens { IfOk result (λ next. IsOpening qp.now sides.now c.now (step_of next)) }
-    ensures wide { MatchResult result (λ _. FirstFits qp.now sides.now c.now)
-        (λ stop. IfStopWide stop (¬ FirstFits qp.now sides.now c.now)) }
+    ensures opens { IfOk result (λ next. IsOpening qp.now sides.now extended_counts.now (step_of next)) }
+    ensures wide { MatchResult result (λ _. FirstFits qp.now sides.now extended_counts.now)
+        (λ stop. IfStopWide stop (¬ FirstFits qp.now sides.now extended_counts.now)) }
 {
-    let point = first_point(alloc, qp, c, costs, opening)?;
+    let point = first_point(alloc, qp, extended_counts, costs, opening)?;
     let first = first_violated(qp, rows, sides, &point)?;
     let it = Iterate {
         point,
@@ -184,10 +184,10 @@ pub fn answer(
 {
     set_theorems();
     count_theorems();
-    let Ok(c) = extended(alloc, counts) else {
+    let Ok(extended_counts) = extended(alloc, counts) else {
         return Err(OnlineError::NoMemory);
     };
-    let sides = match products(alloc, &qp.w, &c, &prepared.sides) {
+    let sides = match products(alloc, &qp.w, &extended_counts, &prepared.sides) {
         Ok(sides) => sides,
         Err(Stop::Wide) => return Err(OnlineError::Wide(0)),
         Err(Stop::NoMemory) => return Err(OnlineError::NoMemory),
@@ -195,7 +195,7 @@ pub fn answer(
     let mut it = match open(
         alloc,
         qp,
-        &c,
+        &extended_counts,
         &sides,
         &prepared.rows,
         &prepared.costs,

@@ -10,50 +10,50 @@ use mpc_linear::Matrix;
 use mpc_rows::Qp;
 use std::alloc::Global;
 
-/// The entry of `[h, g', -g']` in row i and column j.
-fn upper_entry(qp: &Qp, i: u32, j: u32) -> Frac
-    requires row { i < height qp.now.h }
-    requires column { j < height qp.now.h + height qp.now.g + height qp.now.g }
-    ensures { result ≡ upper_entry qp.now i j }
+/// The entry of `[h, g', -g']` in a row and a column.
+fn upper_entry(qp: &Qp, row: u32, column: u32) -> Frac
+    requires row { row < height qp.now.h }
+    requires column { column < height qp.now.h + height qp.now.g + height qp.now.g }
+    ensures { result ≡ upper_entry qp.now row column }
 {
     let unknowns = qp.h.rows();
     let rows = qp.g.rows();
-    if j < unknowns {
-        qp.h.get(i, j)
-    } else if j < unknowns + rows {
-        qp.g.get(j - unknowns, i)
+    if column < unknowns {
+        qp.h.get(row, column)
+    } else if column < unknowns + rows {
+        qp.g.get(column - unknowns, row)
     } else {
-        qp.g.get(j - unknowns - rows, i).neg()
+        qp.g.get(column - unknowns - rows, row).neg()
     }
 }
 
-/// The entry of `[[h, g', -g'], [g, 0, 0]]` in row i and column j.
-fn shared_entry(qp: &Qp, i: u32, j: u32) -> Frac
-    requires row { i < height qp.now.h + height qp.now.g }
-    requires column { j < height qp.now.h + height qp.now.g + height qp.now.g }
-    ensures { result ≡ shared_entry qp.now i j }
+/// The entry of `[[h, g', -g'], [g, 0, 0]]` in a row and a column.
+fn shared_entry(qp: &Qp, row: u32, column: u32) -> Frac
+    requires row { row < height qp.now.h + height qp.now.g }
+    requires column { column < height qp.now.h + height qp.now.g + height qp.now.g }
+    ensures { result ≡ shared_entry qp.now row column }
 {
     let unknowns = qp.h.rows();
     let _rows = qp.g.rows();
-    if i < unknowns {
-        upper_entry(qp, i, j)
-    } else if j < unknowns {
-        qp.g.get(i - unknowns, j)
+    if row < unknowns {
+        upper_entry(qp, row, column)
+    } else if column < unknowns {
+        qp.g.get(row - unknowns, column)
     } else {
         Frac::whole(0)
     }
 }
 
-/// Writes row i of the table.
-fn write_shared(out: &mut Matrix, qp: &Qp, i: u32)
-    requires row { i < height out.old }
+/// Writes a row of the table.
+fn write_shared(out: &mut Matrix, qp: &Qp, row: u32)
+    requires row { row < height out.old }
     requires rows { height out.old ≡ height qp.now.h + height qp.now.g }
     requires columns { out.old.columns ≡ height qp.now.h + height qp.now.g + height qp.now.g }
-    ensures { WritesRow out.old out.new i (shared_entry qp.now i) }
+    ensures { WritesRow out.old out.new row (shared_entry qp.now row) }
 {
     let _rows = out.rows();
-    for j in 0..out.cols() {
-        out.set(i, j, shared_entry(qp, i, j));
+    for column in 0..out.cols() {
+        out.set(row, column, shared_entry(qp, row, column));
     }
 }
 
@@ -63,8 +63,8 @@ pub fn shared_table(alloc: Global, qp: &Qp) -> Result<Matrix, NoMemory>
 {
     let size = qp.h.rows() + qp.g.rows();
     let mut out = Matrix::zero(alloc, size, size + qp.g.rows())?;
-    for i in 0..size {
-        write_shared(&mut out, qp, i);
+    for row in 0..size {
+        write_shared(&mut out, qp, row);
     }
     Ok(out)
 }

@@ -66,12 +66,12 @@ impl<T: Drop> From<AllocFailed<T>> for Stop {
 }
 
 /// The dot of two lists: the products are added from left to right to 0.
-pub fn dot_of(x: &[Frac], y: &[Frac]) -> Result<Frac, Wide>
-    requires { length x.now ≡ length y.now }
-    ensures value { IfOk result (λ v. v ≡ dot x.now y.now) }
-    ensures wide { MatchResult result (λ _. DotFits x.now y.now) (λ _. ¬ DotFits x.now y.now) }
+pub fn dot_of(left: &[Frac], right: &[Frac]) -> Result<Frac, Wide>
+    requires { length left.now ≡ length right.now }
+    ensures value { IfOk result (λ v. v ≡ dot left.now right.now) }
+    ensures wide { MatchResult result (λ _. DotFits left.now right.now) (λ _. ¬ DotFits left.now right.now) }
 {
-    dot_from(&Frac::whole(0), x, y)
+    dot_from(&Frac::whole(0), left, right)
 }
 
 /// The dot of a row and a list: in whole numbers, where these are small, and else in fractions.
@@ -98,7 +98,7 @@ fn row_dot(
     dot_of(row, list)
 }
 
-/// The dots of the rows of m with c.
+/// The dots of the rows of the matrix with the list.
 pub fn products(
     alloc: Global,
     matrix: &Matrix,
@@ -114,8 +114,8 @@ pub fn products(
     let _columns = matrix.cols();
     let whole = over_one_denominator(list);
     let mut out = Vec::with_capacity(alloc, matrix.rows() as usize)?;
-    for i in 0..matrix.rows() {
-        match row_dot(matrix.row(i), &rows[i as usize], list, &whole) {
+    for index in 0..matrix.rows() {
+        match row_dot(matrix.row(index), &rows[index as usize], list, &whole) {
             Ok(value) => out.push(value)?,
             Err(_) => return Err(Stop::Wide),
         }
@@ -135,23 +135,23 @@ pub fn solution(alloc: Global, qp: &Qp, set: ActiveSet, right: &Matrix) -> Resul
 {
     let matrix = law_matrix(alloc, qp, set)?;
     match solve(alloc, &matrix, right) {
-        Ok(Solved::Unique(x)) => Ok(x),
+        Ok(Solved::Unique(solved)) => Ok(solved),
         Ok(Solved::Dependent(_)) => unreachable!(),
         Err(LinearError::Wide(_)) => Err(Stop::Wide),
         Err(LinearError::NoMemory) => Err(Stop::NoMemory),
     }
 }
 
-/// So many entries of the first column of x, from the row `first` on.
-pub fn part(alloc: Global, x: &Matrix, first: u32, count: u32) -> Result<Vec<Frac>, AllocError>
-    requires rows { first + count ≤ height x.now }
-    requires column { 0 < x.now.columns }
-    ensures { IfOk result (λ v. v.items ≡ listed count (λ i. entry x.now (first + i) 0)) }
+/// So many entries of the first column of the solution, from the row `first` on.
+pub fn part(alloc: Global, solved: &Matrix, first: u32, count: u32) -> Result<Vec<Frac>, AllocError>
+    requires rows { first + count ≤ height solved.now }
+    requires column { 0 < solved.now.columns }
+    ensures { IfOk result (λ v. v.items ≡ listed count (λ i. entry solved.now (first + i) 0)) }
 {
-    let _rows = x.rows();
+    let _rows = solved.rows();
     let mut out = Vec::with_capacity(alloc, count as usize)?;
-    for i in 0..count {
-        out.push(x.get(first + i, 0))?;
+    for index in 0..count {
+        out.push(solved.get(first + index, 0))?;
     }
     Ok(out)
 }

@@ -14,19 +14,19 @@ use mpc_frac::{Frac, Wide};
 use mpc_rows::Qp;
 use mpc_wholes::Wholes;
 
-/// By how much the point is above row i: `g_i z - b_i`.
-fn excess(qp: &Qp, sides: &[Frac], point: &Point, i: u32) -> Result<Frac, Wide>
+/// By how much the point is above the row with this number, i: `g_i z - b_i`.
+fn excess(qp: &Qp, sides: &[Frac], point: &Point, row_number: u32) -> Result<Frac, Wide>
     requires sides { length sides.now ≡ height qp.now.g }
     requires point { length (entries_of point.now) ≡ height qp.now.h }
-    requires from_one { 1 ≤ i }
-    requires to_last { i ≤ height qp.now.g }
-    ensures value { IfOk result (λ v. v ≡ level qp.now (entries_of point.now) i -ℚ side sides.now i) }
-    ensures wide { MatchResult result (λ _. TestFits qp.now sides.now (entries_of point.now) i)
-        (λ _. ¬ TestFits qp.now sides.now (entries_of point.now) i) }
+    requires from_one { 1 ≤ row_number }
+    requires to_last { row_number ≤ height qp.now.g }
+    ensures value { IfOk result (λ v. v ≡ level qp.now (entries_of point.now) row_number -ℚ side sides.now row_number) }
+    ensures wide { MatchResult result (λ _. TestFits qp.now sides.now (entries_of point.now) row_number)
+        (λ _. ¬ TestFits qp.now sides.now (entries_of point.now) row_number) }
 {
     let _rows = qp.g.rows();
-    let level = point_dot(qp.g.row(i - 1), point)?;
-    level.sub(&sides[i as usize - 1])
+    let level = point_dot(qp.g.row(row_number - 1), point)?;
+    level.sub(&sides[row_number as usize - 1])
 }
 
 /// The same, in whole numbers where these are small.
@@ -35,18 +35,18 @@ pub fn excess_at(
     rows: &[Option<Wholes>],
     sides: &[Frac],
     point: &Point,
-    i: u32,
+    row_number: u32,
 ) -> Result<Frac, Wide>
     requires rows { AreRowsOver qp.now.g rows.now }
     requires sides { length sides.now ≡ height qp.now.g }
     requires point { length (entries_of point.now) ≡ height qp.now.h }
-    requires from_one { 1 ≤ i }
-    requires to_last { i ≤ height qp.now.g }
-    ensures value { IfOk result (λ v. v ≡ level qp.now (entries_of point.now) i -ℚ side sides.now i) }
-    ensures wide { MatchResult result (λ _. TestFits qp.now sides.now (entries_of point.now) i)
-        (λ _. ¬ TestFits qp.now sides.now (entries_of point.now) i) }
+    requires from_one { 1 ≤ row_number }
+    requires to_last { row_number ≤ height qp.now.g }
+    ensures value { IfOk result (λ v. v ≡ level qp.now (entries_of point.now) row_number -ℚ side sides.now row_number) }
+    ensures wide { MatchResult result (λ _. TestFits qp.now sides.now (entries_of point.now) row_number)
+        (λ _. ¬ TestFits qp.now sides.now (entries_of point.now) row_number) }
 {
-    let place = i as usize - 1;
+    let place = row_number as usize - 1;
     if let Some(row) = &rows[place] {
         if let Point::Whole(numbers, count) = point {
             if let Some(above) = difference_in_wholes(row, numbers, *count, &sides[place]) {
@@ -54,27 +54,27 @@ pub fn excess_at(
             }
         }
     }
-    excess(qp, sides, point, i)
+    excess(qp, sides, point, row_number)
 }
 
-/// Whether the point is above row i: in whole numbers, where these are small, and else in fractions.
+/// Whether the point is above the row with this number: in whole numbers, where these are small, and else in fractions.
 fn is_violated(
     qp: &Qp,
     rows: &[Option<Wholes>],
     sides: &[Frac],
     point: &Point,
-    i: u32,
+    row_number: u32,
 ) -> Result<bool, Wide>
     requires rows { AreRowsOver qp.now.g rows.now }
     requires sides { length sides.now ≡ height qp.now.g }
     requires point { length (entries_of point.now) ≡ height qp.now.h }
-    requires from_one { 1 ≤ i }
-    requires to_last { i ≤ height qp.now.g }
-    ensures value { IfOk result (λ yes. IsTrue yes ↔ IsViolated qp.now sides.now (entries_of point.now) i) }
-    ensures wide { MatchResult result (λ _. TestFits qp.now sides.now (entries_of point.now) i)
-        (λ _. ¬ TestFits qp.now sides.now (entries_of point.now) i) }
+    requires from_one { 1 ≤ row_number }
+    requires to_last { row_number ≤ height qp.now.g }
+    ensures value { IfOk result (λ yes. IsTrue yes ↔ IsViolated qp.now sides.now (entries_of point.now) row_number) }
+    ensures wide { MatchResult result (λ _. TestFits qp.now sides.now (entries_of point.now) row_number)
+        (λ _. ¬ TestFits qp.now sides.now (entries_of point.now) row_number) }
 {
-    let place = i as usize - 1;
+    let place = row_number as usize - 1;
     if let Some(row) = &rows[place] {
         if let Point::Whole(numbers, count) = point {
             if let Some(yes) = is_above(row, numbers, *count, &sides[place]) {
@@ -82,7 +82,7 @@ fn is_violated(
             }
         }
     }
-    let above = excess(qp, sides, point, i)?;
+    let above = excess(qp, sides, point, row_number)?;
     Ok(is_positive(&above))
 }
 
@@ -100,10 +100,10 @@ pub fn first_violated(
     ensures wide { MatchResult result (λ _. TestsFit qp.now sides.now (entries_of point.now))
         (λ _. ¬ TestsFit qp.now sides.now (entries_of point.now)) }
 {
-    for i in 0..qp.g.rows() {
-        let above = is_violated(qp, rows, sides, point, i + 1)?;
+    for index in 0..qp.g.rows() {
+        let above = is_violated(qp, rows, sides, point, index + 1)?;
         if above {
-            return Ok(Some(i + 1));
+            return Ok(Some(index + 1));
         }
     }
     Ok(None)

@@ -51,29 +51,29 @@ fn shorter(best: Option<Partial>, next: Partial) -> Option<Partial>
     Some(earlier)
 }
 
-/// The place of the multiplier that is first 0 along e, and the length at which it is.
-fn shortest(multipliers: &[Frac], e: &[Frac]) -> Result<Option<Partial>, Wide>
-    requires { length e.now ≡ length multipliers.now }
-    ensures value { IfOk result (λ o. IsShortestWith multipliers.now e.now o) }
-    ensures wide { MatchResult result (λ _. QuotientsFit multipliers.now e.now)
-        (λ _. ¬ QuotientsFit multipliers.now e.now) }
+/// The place of the multiplier that is first 0 along the changes, and the length at which it is.
+fn shortest(multipliers: &[Frac], changes: &[Frac]) -> Result<Option<Partial>, Wide>
+    requires { length changes.now ≡ length multipliers.now }
+    ensures value { IfOk result (λ o. IsShortestWith multipliers.now changes.now o) }
+    ensures wide { MatchResult result (λ _. QuotientsFit multipliers.now changes.now)
+        (λ _. ¬ QuotientsFit multipliers.now changes.now) }
 {
     let mut best = None;
-    for k in 0..e.len() {
-        if !is_negative(&e[k]) {
+    for place in 0..changes.len() {
+        if !is_negative(&changes[place]) {
             continue;
         }
-        let length = multipliers[k].div(&e[k].neg())?;
-        best = shorter(best, Partial { place: k, length });
+        let length = multipliers[place].div(&changes[place].neg())?;
+        best = shorter(best, Partial { place, length });
     }
     Ok(best)
 }
 
 /// Whether all entries are 0.
-fn is_zero(d: &[Frac]) -> bool
-    ensures { IsTrue result ↔ IsZero d.now }
+fn is_zero(entries: &[Frac]) -> bool
+    ensures { IsTrue result ↔ IsZero entries.now }
 {
-    d.iter().all(|x| x.is_zero())
+    entries.iter().all(|x| x.is_zero())
 }
 
 /// The length at which the row on its way holds with equality.

@@ -12,19 +12,19 @@ use mpc_frac::{Frac, greatest_common_divisor};
 use mpc_wholes::{Wholes, common_multiple, denominator, over_theorems, part, rest};
 
 /// A divisor of both, the greatest one: mostly the first number is.
-fn shared_divisor(a: u128, b: u128) -> u128
-    requires { 0 < a }
-    ensures of_a { result ∣ a }
-    ensures of_b { result ∣ b }
+fn shared_divisor(first: u128, second: u128) -> u128
+    requires { 0 < first }
+    ensures of_a { result ∣ first }
+    ensures of_b { result ∣ second }
     ensures positive { 0 < result }
 {
-    if a == 1 {
+    if first == 1 {
         return 1;
     }
-    if rest(b, a) == 0 {
-        return a;
+    if rest(second, first) == 0 {
+        return first;
     }
-    greatest_common_divisor(a, b)
+    greatest_common_divisor(first, second)
 }
 
 /// What divides the denominator and the first numerators.
@@ -35,8 +35,8 @@ fn common_divisor(numbers: &Wholes, count: usize) -> u128
     ensures positive { 0 < result }
 {
     let mut shared = numbers.den;
-    for k in 0..count {
-        shared = shared_divisor(shared, numbers.numerators[k].unsigned_abs());
+    for index in 0..count {
+        shared = shared_divisor(shared, numbers.numerators[index].unsigned_abs());
     }
     shared
 }
@@ -66,9 +66,9 @@ pub fn lowest(numbers: Wholes, count: usize) -> Wholes
     let den = part(numbers.den, shared);
     let mut numerators = [0; 6];
     let mut most = den;
-    for k in 0..count {
-        let numerator = divided(numbers.numerators[k], shared);
-        numerators[k] = numerator;
+    for index in 0..count {
+        let numerator = divided(numbers.numerators[index], shared);
+        numerators[index] = numerator;
         most = most.max(numerator.unsigned_abs());
     }
     Wholes {
@@ -79,13 +79,13 @@ pub fn lowest(numbers: Wholes, count: usize) -> Wholes
 }
 
 /// The sum of two products, which fits.
-fn combination(x: i128, left: i128, d: i128, right: i128) -> i128
-    requires left_small { unsigned_abs (x *ℤ left) ≤ 2 ^ 124 }
-    requires right_small { unsigned_abs (d *ℤ right) ≤ 2 ^ 124 }
-    ensures value { result ≡ x *ℤ left +ℤ d *ℤ right }
+fn combination(first: i128, left: i128, second: i128, right: i128) -> i128
+    requires left_small { unsigned_abs (first *ℤ left) ≤ 2 ^ 124 }
+    requires right_small { unsigned_abs (second *ℤ right) ≤ 2 ^ 124 }
+    ensures value { result ≡ first *ℤ left +ℤ second *ℤ right }
     ensures small { unsigned_abs result ≤ 2 ^ 125 }
 {
-    x * left + d * right
+    first * left + second * right
 }
 
 /// The sums of multiples of the first numerators, over this denominator.
@@ -109,9 +109,14 @@ fn combined(
 {
     let mut numerators = [0; 6];
     let mut most = den;
-    for k in 0..count {
-        let numerator = combination(point.numerators[k], left, direction.numerators[k], right);
-        numerators[k] = numerator;
+    for index in 0..count {
+        let numerator = combination(
+            point.numerators[index],
+            left,
+            direction.numerators[index],
+            right,
+        );
+        numerators[index] = numerator;
         most = most.max(numerator.unsigned_abs());
     }
     Wholes {

@@ -23,16 +23,16 @@ const MOST: u128 = 0x1000_0000_0000_0000_0000_0000_0000_0000;
 const SHORT: u128 = 0x200_0000_0000;
 
 /// Whether the product is at most 2^124.
-pub fn is_small(x: u128, y: u128, z: u128) -> bool
-    ensures { IsTrue result → x * y * z ≤ 2 ^ 124 }
+pub fn is_small(first: u128, second: u128, third: u128) -> bool
+    ensures { IsTrue result → first * second * third ≤ 2 ^ 124 }
 {
-    if x <= SHORT && y <= SHORT && z <= SHORT {
+    if first <= SHORT && second <= SHORT && third <= SHORT {
         return true;
     }
-    let Some(two) = x.checked_mul(y) else {
+    let Some(two) = first.checked_mul(second) else {
         return false;
     };
-    match two.checked_mul(z) {
+    match two.checked_mul(third) {
         Some(three) => three <= MOST,
         None => false,
     }
@@ -65,34 +65,34 @@ fn dot_of_numerators(row: &Wholes, numbers: &Wholes, count: usize) -> i128
 }
 
 /// The product, which fits.
-pub fn product(x: i128, y: i128) -> i128
-    requires { unsigned_abs (x *ℤ y) < 2 ^ 127 }
-    ensures { result ≡ x *ℤ y }
+pub fn product(left: i128, right: i128) -> i128
+    requires { unsigned_abs (left *ℤ right) < 2 ^ 127 }
+    ensures { result ≡ left *ℤ right }
 {
-    x * y
+    left * right
 }
 
 /// The difference, which fits.
-fn difference(x: i128, y: i128) -> i128
-    requires { unsigned_abs (x -ℤ y) < 2 ^ 127 }
-    ensures { result ≡ x -ℤ y }
+fn difference(left: i128, right: i128) -> i128
+    requires { unsigned_abs (left -ℤ right) < 2 ^ 127 }
+    ensures { result ≡ left -ℤ right }
 {
-    x - y
+    left - right
 }
 
-/// Whether x is above y.
-fn is_above_whole(x: i128, y: i128) -> bool
-    ensures { IsTrue result ↔ (y <ℤ x) }
+/// Whether the left number is above the right one.
+fn is_above_whole(left: i128, right: i128) -> bool
+    ensures { IsTrue result ↔ (right <ℤ left) }
 {
-    x > y
+    left > right
 }
 
 /// The greater one of the size of the numerator and the denominator.
-fn size_of(x: &Frac) -> u128
-    ensures numerator { unsigned_abs x.now.numer ≤ result }
-    ensures denominator { x.now.denom ≤ result }
+fn size_of(number: &Frac) -> u128
+    ensures numerator { unsigned_abs number.now.numer ≤ result }
+    ensures denominator { number.now.denom ≤ result }
 {
-    x.num().unsigned_abs().max(denominator(x))
+    number.num().unsigned_abs().max(denominator(number))
 }
 
 /// Whether the dot is above the side. `None` where the numbers aren't small enough to show that each operation on fractions on the way to
@@ -215,21 +215,21 @@ fn first_denominator(rows: &[Option<Wholes>], numbers: &Wholes) -> Option<u128>
 }
 
 /// The dots of up to six rows and a list, where all are over one denominator and small.
-pub fn products_in_wholes(matrix: &Matrix, rows: &[Option<Wholes>], xs: &[Frac]) -> Option<Wholes>
+pub fn products_in_wholes(matrix: &Matrix, rows: &[Option<Wholes>], list: &[Frac]) -> Option<Wholes>
     requires rectangular { IsRectangular matrix.now }
-    requires size { matrix.now.columns ≡ length xs.now }
-    requires few { length xs.now ≤ 6 }
+    requires size { matrix.now.columns ≡ length list.now }
+    requires few { length list.now ≤ 6 }
     requires few_rows { height matrix.now ≤ 6 }
     requires rows { AreRowsOver matrix.now rows.now }
-    ensures { IfSome result (IsOver (mat_vec matrix.now.rows xs.now)) }
+    ensures { IfSome result (IsOver (mat_vec matrix.now.rows list.now)) }
 {
-    let numbers = over_one_denominator(xs)?;
+    let numbers = over_one_denominator(list)?;
     let den = first_denominator(rows, &numbers)?;
     let mut numerators = [0; 6];
     let mut most = den;
-    for i in 0..rows.len() {
-        let numerator = value_over(&rows[i], &numbers, xs.len(), den)?;
-        numerators[i] = numerator;
+    for index in 0..rows.len() {
+        let numerator = value_over(&rows[index], &numbers, list.len(), den)?;
+        numerators[index] = numerator;
         most = most.max(numerator.unsigned_abs());
     }
     Some(Wholes {
@@ -250,8 +250,8 @@ pub fn whole_rows(
     ensures { IfOk result (λ rows. AreRowsOver matrix.now rows.items) }
 {
     let mut rows = Vec::with_capacity(alloc, matrix.rows() as usize)?;
-    for i in 0..matrix.rows() {
-        rows.push(over_multiple(start, matrix.row(i)))?;
+    for index in 0..matrix.rows() {
+        rows.push(over_multiple(start, matrix.row(index)))?;
     }
     Ok(rows)
 }

@@ -5,4 +5,4 @@ use Rattle.mpc_online.proofs.matrices.law_matrix.Goals as goal
 
 pub returns : goal.returns
 unfolding law_matrix
-returns c = table_all _ _ _ c.loop-i.i _ (omega arith) c.loop-i.invariant
+returns c = table_all _ _ _ c.loop-row.row _ (omega arith) c.loop-row.invariant

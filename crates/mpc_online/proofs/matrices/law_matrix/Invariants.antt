@@ -4,5 +4,5 @@ use Rattle.mpc_rows.specs.SetRuns.{law_entry}
 use Rattle.mpc_online.proofs.RowWriting.{WritingTable}
 use Rattle.mpc_online.proofs.matrices.law_matrix.Given as goal
 
-abbrev pub invariant-loop-i : goal.invariant-loop-i
-invariant-loop-i l = WritingTable l.out (height l.qp.h + length l.set) (height l.qp.h + length l.set) l.i (law_entry l.qp l.set)
+abbrev pub invariant-loop-row : goal.invariant-loop-row
+invariant-loop-row l = WritingTable l.out (height l.qp.h + length l.set) (height l.qp.h + length l.set) l.row (law_entry l.qp l.set)

@@ -4,5 +4,5 @@ use Rattle.mpc_space.specs.Matrix.{height}
 use Rattle.mpc_online.proofs.RowWriting.{WritingTable}
 use Rattle.mpc_online.proofs.matrices.opening_right.Given as goal
 
-abbrev pub invariant-loop-i : goal.invariant-loop-i
-invariant-loop-i l = WritingTable l.out (height l.qp.h) 1 l.i (λ i j. neg_ℚ (coordinate l.costs i))
+abbrev pub invariant-loop-row : goal.invariant-loop-row
+invariant-loop-row l = WritingTable l.out (height l.qp.h) 1 l.row (λ i j. neg_ℚ (coordinate l.costs i))

@@ -1,5 +1,5 @@
 use Rattle.mpc_online.proofs.Grown.{IsGrowing}
 use Rattle.mpc_online.proofs.moves.grow.Given as goal
 
-abbrev pub invariant-loop-i : goal.invariant-loop-i
-invariant-loop-i l = IsGrowing l.fn.xs l.s l.d l.i l.xs
+abbrev pub invariant-loop-index : goal.invariant-loop-index
+invariant-loop-index l = IsGrowing l.fn.entries l.scale l.changes l.index l.entries

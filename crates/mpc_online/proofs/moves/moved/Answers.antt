@@ -10,13 +10,13 @@ use Rattle.mpc_online.proofs.moves.moved.Goals as goal
 
 pub returns : goal.returns
 returns c =
-    let r : length c.grow.new.xs ≡ length c.deref_mut.result.now = c.grow.auto.xs in
-    let y = with_items_is c.args.it.multipliers c.grow.new.xs (r ∙ c.deref_mut.ensures.len) in
+    let r : length c.grow.new.entries ≡ length c.deref_mut.result.now = c.grow.auto.entries in
+    let y = with_items_is c.args.it.multipliers c.grow.new.entries (r ∙ c.deref_mut.ensures.len) in
     record {
-      value = same_position _ (along (position_of c.args.it) c.args.direction.now.point.items c.args.direction.now.multipliers.items c.args.s.now)
+      value = same_position _ (along (position_of c.args.it) c.args.direction.now.point.items c.args.direction.now.multipliers.items c.args.scale.now)
           c.in_ok-point.ensures.value refl
-          (y ∙ grown_as c.deref_mut.result.now c.args.it.multipliers.items c.grow.new.xs c.args.s.now c.deref.result.now c.deref_mut.ensures.value c.in_ok-grow.ensures.ok ∙ ap (λ (d : List ℚ). vec_add c.args.it.multipliers.items (vec_scale c.args.s.now d)) c.deref.ensures.value) refl c.in_ok-weight.ensures.value;
-      wide = move_fits (position_of c.args.it) c.args.direction.now.point.items c.args.direction.now.multipliers.items c.args.s.now
+          (y ∙ grown_as c.deref_mut.result.now c.args.it.multipliers.items c.grow.new.entries c.args.scale.now c.deref.result.now c.deref_mut.ensures.value c.in_ok-grow.ensures.ok ∙ ap (λ (d : List ℚ). vec_add c.args.it.multipliers.items (vec_scale c.args.scale.now d)) c.deref.ensures.value) refl c.in_ok-weight.ensures.value;
+      wide = move_fits (position_of c.args.it) c.args.direction.now.point.items c.args.direction.now.multipliers.items c.args.scale.now
           c.in_ok-point.ensures.wide
-          (subst (λ (d : List ℚ). GrowsFit c.args.it.multipliers.items c.args.s.now d) c.deref.ensures.value (grows_as c.deref_mut.result.now c.args.it.multipliers.items c.args.s.now c.deref.result.now c.deref_mut.ensures.value c.in_ok-grow.ensures.wide)) c.in_ok-weight.ensures.wide;
+          (subst (λ (d : List ℚ). GrowsFit c.args.it.multipliers.items c.args.scale.now d) c.deref.ensures.value (grows_as c.deref_mut.result.now c.args.it.multipliers.items c.args.scale.now c.deref.result.now c.deref_mut.ensures.value c.in_ok-grow.ensures.wide)) c.in_ok-weight.ensures.wide;
     }

@@ -15,7 +15,7 @@ pub returns-in-Some-moved_in_wholes-clause-value : goal.returns-in-Some-moved_in
 returns-in-Some-moved_in_wholes-clause-value c =
     let xs = entries_of c.args.point in
     let ds = c.args.direction.now.point.items in
-    let s = c.args.s.now in
+    let s = c.args.scale.now in
     let l : length xs ≡ c.in-Whole.count = whole_size c.args.point c.in-Whole.numbers c.in-Whole.count c.in-Whole.is in
     let step : IsOver ds c.in-Some.step = subst (λ (o : Option Wholes). IfSome o (IsOver c.args.direction.now.point.items)) c.in-Some.is c.requires.whole in
     first_is c.in-Some-moved_in_wholes.next c.in-Whole.count (vec_add xs (vec_scale s ds))

@@ -8,16 +8,16 @@ member_is k r s e = let place : k + 1 - 1 ≡ k = omega arith in e ∙ ap (λ j.
 
 pub returns-clause-value : goal.returns-clause-value
 returns-clause-value c =
-    let last : c.loop-k.k ≡ length c.args.set = omega (arith, c.loop-k-test.false, c.loop-k.auto.k-end, c.size-k-end.ensures.value) in
+    let last : c.loop-index.index ≡ length c.args.set = omega (arith, c.loop-index-test.false, c.loop-index.auto.index-end, c.size-index-end.ensures.value) in
     c.size.ensures.value ∙ sym last
-    ∙ sym (place_is c.args.row c.loop-k.k c.args.set (omega arith) c.loop-k.invariant (λ l. absurd (omega arith)))
+    ∙ sym (place_is c.args.row c.loop-index.index c.args.set (omega arith) c.loop-index.invariant (λ l. absurd (omega arith)))
 
-pub loop-k-preserved : goal.loop-k-preserved
-loop-k-preserved c =
-    below_next (λ j. get_or c.args.set j 0 < c.args.row) c.loop-k.k c.loop-k.invariant
-    (subst (λ m. m < c.args.row) (member_is c.loop-k.k c.member.result c.args.set c.member.ensures.value) c.if-member-row.false)
+pub loop-index-preserved : goal.loop-index-preserved
+loop-index-preserved c =
+    below_next (λ j. get_or c.args.set j 0 < c.args.row) c.loop-index.index c.loop-index.invariant
+    (subst (λ m. m < c.args.row) (member_is c.loop-index.index c.member.result c.args.set c.member.ensures.value) c.if-member-row.false)
 
 pub returns-then-member-row-clause-value : goal.returns-then-member-row-clause-value
 returns-then-member-row-clause-value c =
-    sym (place_is c.args.row c.loop-k.k c.args.set (omega (arith, c.loop-k-test.true, c.size-k-end.ensures.value)) c.loop-k.invariant
-    (λ l. subst (λ m. c.args.row ≤ m) (member_is c.loop-k.k c.member.result c.args.set c.member.ensures.value) c.if-member-row.true))
+    sym (place_is c.args.row c.loop-index.index c.args.set (omega (arith, c.loop-index-test.true, c.size-index-end.ensures.value)) c.loop-index.invariant
+    (λ l. subst (λ m. c.args.row ≤ m) (member_is c.loop-index.index c.member.result c.args.set c.member.ensures.value) c.if-member-row.true))

@@ -16,7 +16,7 @@ use Rattle.mpc_online.proofs.Advance.{height-right, upper_is, stop_for, err_memo
 use Rattle.mpc_online.proofs.opening.eliminated_point.Goals as goal
 use Rattle.mpc_online.proofs.opening.eliminated_point.Goals.{In_ok-right}
 
-right_is : (c : In_ok-right) → c.in_ok-right.right ≡ right_matrix c.args.qp.now [] (opening_side c.args.qp.now c.args.c.now)
+right_is : (c : In_ok-right) → c.in_ok-right.right ≡ right_matrix c.args.qp.now [] (opening_side c.args.qp.now c.args.extended_counts.now)
 right_is c = c.in_ok-right.ensures ∙ ap (λ (xs : List ℚ). right_matrix c.args.qp.now [] (λ i. neg_ℚ (coordinate xs i))) (c.deref.ensures.value ∙ c.in_ok-slopes.ensures.value)
 
 pub products-requires-clause-size : goal.products-requires-clause-size
@@ -27,7 +27,7 @@ products-requires-clause-few c = let wide = c.args.qp.now.is_program.f_shape.col
 
 pub opening_right-requires : goal.opening_right-requires
 opening_right-requires c =
-    ap (λ (t : List ℚ). length t) (c.deref.ensures.value ∙ c.in_ok-slopes.ensures.value) ∙ length-mat_vec c.args.qp.now.f.rows c.args.c.now ∙ c.args.qp.now.is_program.f_shape.rows_are
+    ap (λ (t : List ℚ). length t) (c.deref.ensures.value ∙ c.in_ok-slopes.ensures.value) ∙ length-mat_vec c.args.qp.now.f.rows c.args.extended_counts.now ∙ c.args.qp.now.is_program.f_shape.rows_are
 
 pub solution-requires-clause-set_of_rows : goal.solution-requires-clause-set_of_rows
 solution-requires-clause-set_of_rows c = subst (IsSetOfRows (height c.args.qp.now.g)) (sym c.empty.ensures) (record { rises = tt })
@@ -37,34 +37,34 @@ solution-requires-clause-independent c = subst (IsIndependentSet c.args.qp.now) 
 
 pub solution-requires-clause-rows : goal.solution-requires-clause-rows
 solution-requires-clause-rows c =
-    ap height (right_is (goal.at.solution-requires-clause-rows c).In_ok-right) ∙ height-right c.args.qp.now [] (opening_side c.args.qp.now c.args.c.now)
+    ap height (right_is (goal.at.solution-requires-clause-rows c).In_ok-right) ∙ height-right c.args.qp.now [] (opening_side c.args.qp.now c.args.extended_counts.now)
     ∙ ap (λ (s : List ℕ). height c.args.qp.now.h + length s) (sym c.empty.ensures)
 
 pub part-requires-clause-rows : goal.part-requires-clause-rows
 part-requires-clause-rows c =
-    let h : height c.in_ok-x.x ≡ height c.args.qp.now.h + length c.empty.result = c.in_ok-x.ensures.only.shape.rows_are ∙ matrix_columns c.args.qp.now c.empty.result in
+    let h : height c.in_ok-solved.solved ≡ height c.args.qp.now.h + length c.empty.result = c.in_ok-solved.ensures.only.shape.rows_are ∙ matrix_columns c.args.qp.now c.empty.result in
     omega (arith, h, c.rows.ensures.value)
 
 pub part-requires-clause-column : goal.part-requires-clause-column
 part-requires-clause-column c =
-    let h : c.in_ok-x.x.columns ≡ 1 = c.in_ok-x.ensures.only.shape.columns_are ∙ ap (λ (m : RationalMatrix). m.columns) (right_is (goal.at.part-requires-clause-column c).In_ok-right) in
+    let h : c.in_ok-solved.solved.columns ≡ 1 = c.in_ok-solved.ensures.only.shape.columns_are ∙ ap (λ (m : RationalMatrix). m.columns) (right_is (goal.at.part-requires-clause-column c).In_ok-right) in
     omega (arith, h)
 
 pub returns-in_err-slopes-clause-wide : goal.returns-in_err-slopes-clause-wide
 returns-in_err-slopes-clause-wide c =
     err_same c.from_residual.result c.in_err-slopes.field-0.0 _ _ c.from_residual.ensures.1
-    (stop_for c.in_err-slopes.field-0.0 (¬ ProductsFit c.args.qp.now.f c.args.c.now) (¬ PointFits c.args.qp.now c.args.c.now) (λ h f. h f.costs) c.in_err-slopes.ensures.wide)
+    (stop_for c.in_err-slopes.field-0.0 (¬ ProductsFit c.args.qp.now.f c.args.extended_counts.now) (¬ PointFits c.args.qp.now c.args.extended_counts.now) (λ h f. h f.costs) c.in_err-slopes.ensures.wide)
 
 pub returns-in_err-right-clause-wide : goal.returns-in_err-right-clause-wide
 returns-in_err-right-clause-wide c = err_memory c.from_residual-in_err-right.result _ _ c.from_residual-in_err-right.ensures.1
 
-pub returns-in_err-x-clause-wide : goal.returns-in_err-x-clause-wide
-returns-in_err-x-clause-wide c =
-    err_same c.from_residual-in_err-x.result c.in_err-x.field-0.0 _ _ c.from_residual-in_err-x.ensures.1
-    (stop_for c.in_err-x.field-0.0 (¬ EliminationFits (law_matrix c.args.qp.now c.empty.result) c.in_ok-right.right) (¬ PointFits c.args.qp.now c.args.c.now)
-    (λ h f. h (subst (EliminationFits (law_matrix c.args.qp.now c.empty.result)) (sym (right_is (goal.at.returns-in_err-x-clause-wide c).In_ok-right))
-    (subst (λ (s : List ℕ). EliminationFits (law_matrix c.args.qp.now s) (right_matrix c.args.qp.now [] (opening_side c.args.qp.now c.args.c.now))) (sym c.empty.ensures) f.elimination)))
-    c.in_err-x.ensures.wide)
+pub returns-in_err-solved-clause-wide : goal.returns-in_err-solved-clause-wide
+returns-in_err-solved-clause-wide c =
+    err_same c.from_residual-in_err-solved.result c.in_err-solved.field-0.0 _ _ c.from_residual-in_err-solved.ensures.1
+    (stop_for c.in_err-solved.field-0.0 (¬ EliminationFits (law_matrix c.args.qp.now c.empty.result) c.in_ok-right.right) (¬ PointFits c.args.qp.now c.args.extended_counts.now)
+    (λ h f. h (subst (EliminationFits (law_matrix c.args.qp.now c.empty.result)) (sym (right_is (goal.at.returns-in_err-solved-clause-wide c).In_ok-right))
+    (subst (λ (s : List ℕ). EliminationFits (law_matrix c.args.qp.now s) (right_matrix c.args.qp.now [] (opening_side c.args.qp.now c.args.extended_counts.now))) (sym c.empty.ensures) f.elimination)))
+    c.in_err-solved.ensures.wide)
 
 pub returns-in_err-point-clause-wide : goal.returns-in_err-point-clause-wide
 returns-in_err-point-clause-wide c = err_memory c.from_residual-in_err-point.result _ _ c.from_residual-in_err-point.ensures.1
@@ -73,10 +73,10 @@ pub returns-clause-point : goal.returns-clause-point
 returns-clause-point c =
     let is = right_is (goal.at.returns-clause-point c).In_ok-right in
     record {
-      solution = c.in_ok-x.x;
-      solves = subst (λ (m : RationalMatrix). IsOnlySolution (law_matrix c.args.qp.now []) m c.in_ok-x.x) is
-          (subst (λ (s : List ℕ). IsOnlySolution (law_matrix c.args.qp.now s) c.in_ok-right.right c.in_ok-x.x) c.empty.ensures c.in_ok-x.ensures.only);
-      is = upper_is c.args.qp.now c.in_ok-x.x c.rows.result c.in_ok-point.point.items c.rows.ensures.value c.in_ok-point.ensures;
+      solution = c.in_ok-solved.solved;
+      solves = subst (λ (m : RationalMatrix). IsOnlySolution (law_matrix c.args.qp.now []) m c.in_ok-solved.solved) is
+          (subst (λ (s : List ℕ). IsOnlySolution (law_matrix c.args.qp.now s) c.in_ok-right.right c.in_ok-solved.solved) c.empty.ensures c.in_ok-solved.ensures.only);
+      is = upper_is c.args.qp.now c.in_ok-solved.solved c.rows.result c.in_ok-point.point.items c.rows.ensures.value c.in_ok-point.ensures;
     }
 
 pub returns-clause-wide : goal.returns-clause-wide
@@ -84,5 +84,5 @@ returns-clause-wide c =
     let is = right_is (goal.at.returns-clause-wide c).In_ok-right in
     record {
       costs = c.in_ok-slopes.ensures.wide;
-      elimination = subst (EliminationFits (law_matrix c.args.qp.now [])) is (subst (λ (s : List ℕ). EliminationFits (law_matrix c.args.qp.now s) c.in_ok-right.right) c.empty.ensures c.in_ok-x.ensures.wide);
+      elimination = subst (EliminationFits (law_matrix c.args.qp.now [])) is (subst (λ (s : List ℕ). EliminationFits (law_matrix c.args.qp.now s) c.in_ok-right.right) c.empty.ensures c.in_ok-solved.ensures.wide);
     }

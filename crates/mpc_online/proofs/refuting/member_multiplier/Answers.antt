@@ -4,17 +4,17 @@ use Rattle.mpc_online.proofs.Filled.{entry_read}
 use Rattle.mpc_online.proofs.MultiplierLists.{multiplier_at, multiplier_none, member_is}
 use Rattle.mpc_online.proofs.refuting.member_multiplier.Goals as goal
 
-pub loop-k-preserved : goal.loop-k-preserved
-loop-k-preserved c =
-    below_next (λ j. get_or c.args.set j 0 ≡ c.args.i → ⊥) c.loop-k.k c.loop-k.invariant
-    (λ e. c.if-member-i.false (member_is c.loop-k.k c.member.result c.args.set c.member.ensures.value ∙ e))
+pub loop-index-preserved : goal.loop-index-preserved
+loop-index-preserved c =
+    below_next (λ j. get_or c.args.set j 0 ≡ c.args.row_number → ⊥) c.loop-index.index c.loop-index.invariant
+    (λ e. c.if-member-row_number.false (member_is c.loop-index.index c.member.result c.args.set c.member.ensures.value ∙ e))
 
 pub returns : goal.returns
 returns c =
-    c.whole.ensures ∙ sym (multiplier_none c.args.set c.args.e.now c.args.i c.requires (λ j h. c.loop-k.invariant j (omega (arith, h, c.loop-k-test.false, c.size-k-end.ensures.value))))
+    c.whole.ensures ∙ sym (multiplier_none c.args.set c.args.changes.now c.args.row_number c.requires (λ j h. c.loop-index.invariant j (omega (arith, h, c.loop-index-test.false, c.size-index-end.ensures.value))))
 
-pub returns-then-member-i : goal.returns-then-member-i
-returns-then-member-i c =
-    let in_set : c.loop-k.k < length c.args.set = omega (arith, c.loop-k-test.true, c.size-k-end.ensures.value) in
-    entry_read c.args.e.now c.loop-k.k c.index-e-k.result (omega (arith, in_set, c.requires)) c.index-e-k.is
-    ∙ sym (multiplier_at c.args.set c.args.e.now c.args.i c.loop-k.k c.requires in_set (sym (member_is c.loop-k.k c.member.result c.args.set c.member.ensures.value) ∙ c.if-member-i.true) c.loop-k.invariant)
+pub returns-then-member-row_number : goal.returns-then-member-row_number
+returns-then-member-row_number c =
+    let in_set : c.loop-index.index < length c.args.set = omega (arith, c.loop-index-test.true, c.size-index-end.ensures.value) in
+    entry_read c.args.changes.now c.loop-index.index c.index-changes-index.result (omega (arith, in_set, c.requires)) c.index-changes-index.is
+    ∙ sym (multiplier_at c.args.set c.args.changes.now c.args.row_number c.loop-index.index c.requires in_set (sym (member_is c.loop-index.index c.member.result c.args.set c.member.ensures.value) ∙ c.if-member-row_number.true) c.loop-index.invariant)

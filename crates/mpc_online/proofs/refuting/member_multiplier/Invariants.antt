@@ -1,5 +1,5 @@
 use Rattle.std.proofs.Common.{◌≡◌, ℕ, ◌<◌, get_or}
 use Rattle.mpc_online.proofs.refuting.member_multiplier.Given as goal
 
-abbrev pub invariant-loop-k : goal.invariant-loop-k
-invariant-loop-k l = (j : ℕ) → j < l.k → get_or l.set j 0 ≡ l.i → ⊥
+abbrev pub invariant-loop-index : goal.invariant-loop-index
+invariant-loop-index l = (j : ℕ) → j < l.index → get_or l.set j 0 ≡ l.row_number → ⊥

@@ -1,5 +1,5 @@
 use Rattle.std.proofs.Common.{◌≡◌, take}
 use Rattle.mpc_online.proofs.run.vector.Given as goal
 
-abbrev pub invariant-loop-x : goal.invariant-loop-x
-invariant-loop-x l = l.out ≡ take l.x-index l.entries
+abbrev pub invariant-loop-entry : goal.invariant-loop-entry
+invariant-loop-entry l = l.out ≡ take l.entry-index l.entries

@@ -5,4 +5,4 @@ use Rattle.mpc_online.proofs.shared.shared_table.Goals as goal
 
 pub returns : goal.returns
 unfolding shared_table
-returns c = table_all _ _ _ c.loop-i.i _ (omega arith) c.loop-i.invariant
+returns c = table_all _ _ _ c.loop-row.row _ (omega arith) c.loop-row.invariant

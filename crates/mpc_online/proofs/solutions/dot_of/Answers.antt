@@ -8,5 +8,5 @@ use Rattle.mpc_online.proofs.solutions.dot_of.Goals as goal
 pub returns-clause-value : goal.returns-clause-value
 returns-clause-value c =
     value_as c.dot_from.result _ _
-    (ap (λ s. s +ℚ dot c.args.x.now c.args.y.now) c.whole.ensures ∙ nothing_more (dot c.args.x.now c.args.y.now))
+    (ap (λ s. s +ℚ dot c.args.left.now c.args.right.now) c.whole.ensures ∙ nothing_more (dot c.args.left.now c.args.right.now))
     c.dot_from.ensures.value

@@ -3,5 +3,5 @@ use Rattle.mpc_space.specs.Matrix.{entry}
 use Rattle.mpc_online.proofs.Filled.{IsFilled}
 use Rattle.mpc_online.proofs.solutions.part.Given as goal
 
-abbrev pub invariant-loop-i : goal.invariant-loop-i
-invariant-loop-i l = IsFilled l.out.items l.i (λ i. entry l.x (l.first + i) 0)
+abbrev pub invariant-loop-index : goal.invariant-loop-index
+invariant-loop-index l = IsFilled l.out.items l.index (λ i. entry l.solved (l.first + i) 0)

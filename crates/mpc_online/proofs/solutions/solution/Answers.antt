@@ -13,7 +13,7 @@ pub solve-requires-clause-rows : goal.solve-requires-clause-rows
 solve-requires-clause-rows c = c.requires.rows ∙ sym (ap height c.in_ok-matrix.ensures ∙ matrix_height c.args.qp.now c.args.set)
 
 pub returns-in-Ok-Unique-clause-only : goal.returns-in-Ok-Unique-clause-only
-returns-in-Ok-Unique-clause-only c = only c.args.qp.now c.args.set c.in_ok-matrix.matrix c.args.right.now c.in_ok-matrix.ensures c.in-Ok-Unique.field-0 c.in-Ok-Unique.x c.in-Ok-Unique.field-0-is c.in-Ok-Unique.ensures.answer
+returns-in-Ok-Unique-clause-only c = only c.args.qp.now c.args.set c.in_ok-matrix.matrix c.args.right.now c.in_ok-matrix.ensures c.in-Ok-Unique.field-0 c.in-Ok-Unique.solved c.in-Ok-Unique.field-0-is c.in-Ok-Unique.ensures.answer
 
 pub returns-in-Ok-Unique-clause-wide : goal.returns-in-Ok-Unique-clause-wide
 returns-in-Ok-Unique-clause-wide c = fits c.args.qp.now c.args.set c.in_ok-matrix.matrix c.args.right.now c.in_ok-matrix.ensures c.in-Ok-Unique.field-0 c.in-Ok-Unique.ensures.fits

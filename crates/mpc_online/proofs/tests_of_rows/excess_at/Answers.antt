@@ -9,16 +9,16 @@ use Rattle.mpc_online.proofs.tests_of_rows.excess_at.Goals as goal
 
 pub difference_in_wholes-requires : goal.difference_in_wholes-requires
 difference_in_wholes-requires c =
-    count_few c.args.qp.now c.args.i c.requires.from_one c.requires.to_last c.args.rows.now c.requires.rows c.index-rows-place.result c.in-Some.row c.index-rows-place.is c.in-Some.is c.args.point.now c.in-Whole.numbers c.in-Whole.count c.in-Whole.is c.requires.point
+    count_few c.args.qp.now c.args.row_number c.requires.from_one c.requires.to_last c.args.rows.now c.requires.rows c.index-rows-place.result c.in-Some.row c.index-rows-place.is c.in-Some.is c.args.point.now c.in-Whole.numbers c.in-Whole.count c.in-Whole.is c.requires.point
 
 pub returns-in-Some-difference_in_wholes-clause-value : goal.returns-in-Some-difference_in_wholes-clause-value
 returns-in-Some-difference_in_wholes-clause-value c =
-    excess_whole c.args.qp.now c.args.i c.requires.from_one c.requires.to_last c.args.sides.now c.index-sides-place.result c.requires.sides c.index-sides-place.is (entries_of c.args.point.now) c.in-Some-difference_in_wholes.above
-    (row_and_point c.args.qp.now c.args.i c.requires.from_one c.requires.to_last c.args.rows.now c.requires.rows c.index-rows-place.result c.in-Some.row c.index-rows-place.is c.in-Some.is c.args.point.now c.in-Whole.numbers c.in-Whole.count c.in-Whole.is c.requires.point
+    excess_whole c.args.qp.now c.args.row_number c.requires.from_one c.requires.to_last c.args.sides.now c.index-sides-place.result c.requires.sides c.index-sides-place.is (entries_of c.args.point.now) c.in-Some-difference_in_wholes.above
+    (row_and_point c.args.qp.now c.args.row_number c.requires.from_one c.requires.to_last c.args.rows.now c.requires.rows c.index-rows-place.result c.in-Some.row c.index-rows-place.is c.in-Some.is c.args.point.now c.in-Whole.numbers c.in-Whole.count c.in-Whole.is c.requires.point
     (λ (xs ys : List ℚ). c.in-Some-difference_in_wholes.above ≡ dot xs ys -ℚ c.index-sides-place.result) c.in-Some-difference_in_wholes.ensures.value)
 
 pub returns-in-Some-difference_in_wholes-clause-wide : goal.returns-in-Some-difference_in_wholes-clause-wide
 returns-in-Some-difference_in_wholes-clause-wide c =
-    test_fits_whole c.args.qp.now c.args.i c.requires.from_one c.requires.to_last c.args.sides.now c.index-sides-place.result c.requires.sides c.index-sides-place.is (entries_of c.args.point.now)
-    (row_and_point c.args.qp.now c.args.i c.requires.from_one c.requires.to_last c.args.rows.now c.requires.rows c.index-rows-place.result c.in-Some.row c.index-rows-place.is c.in-Some.is c.args.point.now c.in-Whole.numbers c.in-Whole.count c.in-Whole.is c.requires.point
+    test_fits_whole c.args.qp.now c.args.row_number c.requires.from_one c.requires.to_last c.args.sides.now c.index-sides-place.result c.requires.sides c.index-sides-place.is (entries_of c.args.point.now)
+    (row_and_point c.args.qp.now c.args.row_number c.requires.from_one c.requires.to_last c.args.rows.now c.requires.rows c.index-rows-place.result c.in-Some.row c.index-rows-place.is c.in-Some.is c.args.point.now c.in-Whole.numbers c.in-Whole.count c.in-Whole.is c.requires.point
     (λ (xs ys : List ℚ). DotFits xs ys × FitsSum (dot xs ys) (neg_ℚ c.index-sides-place.result)) c.in-Some-difference_in_wholes.ensures.fits)

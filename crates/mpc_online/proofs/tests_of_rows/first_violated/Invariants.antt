@@ -3,5 +3,5 @@ use Rattle.mpc_online.specs.Wholes.{entries_of}
 use Rattle.mpc_online.proofs.RowTests.{AreMet}
 use Rattle.mpc_online.proofs.tests_of_rows.first_violated.Given as goal
 
-abbrev pub invariant-loop-i : goal.invariant-loop-i
-invariant-loop-i l = AreMet l.qp l.sides (entries_of l.point) (l.i + 1)
+abbrev pub invariant-loop-index : goal.invariant-loop-index
+invariant-loop-index l = AreMet l.qp l.sides (entries_of l.point) (l.index + 1)

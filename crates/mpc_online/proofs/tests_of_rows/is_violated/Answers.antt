@@ -10,22 +10,22 @@ use Rattle.mpc_online.proofs.tests_of_rows.is_violated.Goals as goal
 
 pub returns-clause-value : goal.returns-clause-value
 returns-clause-value c = (
-  λ t. is_violated c.args.qp.now c.args.sides.now (entries_of c.args.point.now) c.args.i c.in_ok-above.above c.in_ok-above.ensures.value (c.is_positive.ensures.0 t),
-  λ v. c.is_positive.ensures.1 (is_positive c.args.qp.now c.args.sides.now (entries_of c.args.point.now) c.args.i c.in_ok-above.above c.in_ok-above.ensures.value v),
+  λ t. is_violated c.args.qp.now c.args.sides.now (entries_of c.args.point.now) c.args.row_number c.in_ok-above.above c.in_ok-above.ensures.value (c.is_positive.ensures.0 t),
+  λ v. c.is_positive.ensures.1 (is_positive c.args.qp.now c.args.sides.now (entries_of c.args.point.now) c.args.row_number c.in_ok-above.above c.in_ok-above.ensures.value v),
 )
 
 pub is_above-requires : goal.is_above-requires
 is_above-requires c =
-    count_few c.args.qp.now c.args.i c.requires.from_one c.requires.to_last c.args.rows.now c.requires.rows c.index-rows-place.result c.in-Some.row c.index-rows-place.is c.in-Some.is c.args.point.now c.in-Whole.numbers c.in-Whole.count c.in-Whole.is c.requires.point
+    count_few c.args.qp.now c.args.row_number c.requires.from_one c.requires.to_last c.args.rows.now c.requires.rows c.index-rows-place.result c.in-Some.row c.index-rows-place.is c.in-Some.is c.args.point.now c.in-Whole.numbers c.in-Whole.count c.in-Whole.is c.requires.point
 
 pub returns-in-Some-is_above-clause-value : goal.returns-in-Some-is_above-clause-value
 returns-in-Some-is_above-clause-value c =
-    violated_whole c.args.qp.now c.args.i c.requires.from_one c.requires.to_last c.args.sides.now c.index-sides-place.result c.requires.sides c.index-sides-place.is (entries_of c.args.point.now) c.in-Some-is_above.yes
-    (row_and_point c.args.qp.now c.args.i c.requires.from_one c.requires.to_last c.args.rows.now c.requires.rows c.index-rows-place.result c.in-Some.row c.index-rows-place.is c.in-Some.is c.args.point.now c.in-Whole.numbers c.in-Whole.count c.in-Whole.is c.requires.point
+    violated_whole c.args.qp.now c.args.row_number c.requires.from_one c.requires.to_last c.args.sides.now c.index-sides-place.result c.requires.sides c.index-sides-place.is (entries_of c.args.point.now) c.in-Some-is_above.yes
+    (row_and_point c.args.qp.now c.args.row_number c.requires.from_one c.requires.to_last c.args.rows.now c.requires.rows c.index-rows-place.result c.in-Some.row c.index-rows-place.is c.in-Some.is c.args.point.now c.in-Whole.numbers c.in-Whole.count c.in-Whole.is c.requires.point
     (λ (xs ys : List ℚ). IsTrue c.in-Some-is_above.yes ↔ (c.index-sides-place.result <ℚ dot xs ys)) c.in-Some-is_above.ensures.value)
 
 pub returns-in-Some-is_above-clause-wide : goal.returns-in-Some-is_above-clause-wide
 returns-in-Some-is_above-clause-wide c =
-    test_fits_whole c.args.qp.now c.args.i c.requires.from_one c.requires.to_last c.args.sides.now c.index-sides-place.result c.requires.sides c.index-sides-place.is (entries_of c.args.point.now)
-    (row_and_point c.args.qp.now c.args.i c.requires.from_one c.requires.to_last c.args.rows.now c.requires.rows c.index-rows-place.result c.in-Some.row c.index-rows-place.is c.in-Some.is c.args.point.now c.in-Whole.numbers c.in-Whole.count c.in-Whole.is c.requires.point
+    test_fits_whole c.args.qp.now c.args.row_number c.requires.from_one c.requires.to_last c.args.sides.now c.index-sides-place.result c.requires.sides c.index-sides-place.is (entries_of c.args.point.now)
+    (row_and_point c.args.qp.now c.args.row_number c.requires.from_one c.requires.to_last c.args.rows.now c.requires.rows c.index-rows-place.result c.in-Some.row c.index-rows-place.is c.in-Some.is c.args.point.now c.in-Whole.numbers c.in-Whole.count c.in-Whole.is c.requires.point
     (λ (xs ys : List ℚ). DotFits xs ys × FitsSum (dot xs ys) (neg_ℚ c.index-sides-place.result)) c.in-Some-is_above.ensures.fits)

@@ -4,8 +4,8 @@ use Rattle.mpc_online.specs.Turns.{IsFalling, quotient_at}
 use Rattle.mpc_online.proofs.Shortest.{IsShortestBelow}
 use Rattle.mpc_online.proofs.turns.shortest.Given as goal
 
-abbrev pub invariant-loop-k : goal.invariant-loop-k
-invariant-loop-k l = record {
-  best : IsShortestBelow l.multipliers l.e l.k l.best;
-  fit : (j : ℕ) → j < l.k → IsFalling l.e j → FitsFrac (quotient_at l.multipliers l.e j);
+abbrev pub invariant-loop-place : goal.invariant-loop-place
+invariant-loop-place l = record {
+  best : IsShortestBelow l.multipliers l.changes l.place l.best;
+  fit : (j : ℕ) → j < l.place → IsFalling l.changes j → FitsFrac (quotient_at l.multipliers l.changes j);
 }

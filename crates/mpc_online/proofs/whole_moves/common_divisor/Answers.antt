@@ -6,14 +6,14 @@ use Rattle.mpc_online.proofs.WholeDots.{read_wide}
 use Rattle.mpc_online.proofs.WholeMoves.{number_small}
 use Rattle.mpc_online.proofs.whole_moves.common_divisor.Goals as goal
 
-pub loop-k-init : goal.loop-k-init
-loop-k-init c = record { of_den = dvd_refl c.args.numbers.now.den; of_numerators = λ j h. absurd (omega arith); positive = c.args.numbers.now.at_most.some }
+pub loop-index-init : goal.loop-index-init
+loop-index-init c = record { of_den = dvd_refl c.args.numbers.now.den; of_numerators = λ j h. absurd (omega arith); positive = c.args.numbers.now.at_most.some }
 
-pub loop-k-preserved : goal.loop-k-preserved
-loop-k-preserved c = record {
-  of_den = dvd_trans c.shared_divisor-shared.result c.shared_divisor-shared.ensures.of_a c.loop-k.invariant.of_den;
-  of_numerators = below_next (λ j. c.shared_divisor-shared.result ∣ unsigned_abs (get_or c.args.numbers.now.numerators j (pos 0))) c.loop-k.k
-      (λ j h. dvd_trans c.shared_divisor-shared.result c.shared_divisor-shared.ensures.of_a (c.loop-k.invariant.of_numerators j h))
-      (subst (λ n. c.shared_divisor-shared.result ∣ n) (c.unsigned_abs.ensures.value ∙ ap unsigned_abs (read_wide (get_or c.args.numbers.now.numerators c.loop-k.k (pos 0)) (number_small c.args.numbers.now c.loop-k.k))) c.shared_divisor-shared.ensures.of_b);
+pub loop-index-preserved : goal.loop-index-preserved
+loop-index-preserved c = record {
+  of_den = dvd_trans c.shared_divisor-shared.result c.shared_divisor-shared.ensures.of_a c.loop-index.invariant.of_den;
+  of_numerators = below_next (λ j. c.shared_divisor-shared.result ∣ unsigned_abs (get_or c.args.numbers.now.numerators j (pos 0))) c.loop-index.index
+      (λ j h. dvd_trans c.shared_divisor-shared.result c.shared_divisor-shared.ensures.of_a (c.loop-index.invariant.of_numerators j h))
+      (subst (λ n. c.shared_divisor-shared.result ∣ n) (c.unsigned_abs.ensures.value ∙ ap unsigned_abs (read_wide (get_or c.args.numbers.now.numerators c.loop-index.index (pos 0)) (number_small c.args.numbers.now c.loop-index.index))) c.shared_divisor-shared.ensures.of_b);
   positive = c.shared_divisor-shared.ensures.positive;
 }
