@@ -8,20 +8,20 @@ ghost use Rattle.mpc_linear.specs.Whole.{scaled, WholeFits};
 use mpc_frac::{Frac, greatest_common_divisor};
 
 /// The fraction's denominator.
-fn denominator_of(x: &Frac) -> u128
-    ensures value { result ≡ x.now.denom }
+fn denominator_of(fraction: &Frac) -> u128
+    ensures value { result ≡ fraction.now.denom }
     ensures positive { 0 < result }
 {
-    x.den() as u128
+    fraction.den() as u128
 }
 
 /// The least common multiple of two numbers.
-fn least_multiple(a: u128, b: u128) -> u128
-    requires positive { 0 < b }
-    requires small { lcm a b < 2 ^ 127 }
-    ensures { result ≡ lcm a b }
+fn least_multiple(left: u128, right: u128) -> u128
+    requires positive { 0 < right }
+    requires small { lcm left right < 2 ^ 127 }
+    ensures { result ≡ lcm left right }
 {
-    a / greatest_common_divisor(a, b) * b
+    left / greatest_common_divisor(left, right) * right
 }
 
 /// The least common denominator.
@@ -30,19 +30,19 @@ pub fn denominator(form: &[Frac]) -> u128
     ensures { result ≡ common_denom form.now }
 {
     let mut all = 1;
-    for x in form {
-        all = least_multiple(all, denominator_of(x));
+    for fraction in form {
+        all = least_multiple(all, denominator_of(fraction));
     }
     all
 }
 
 /// The numerator over a multiple of the denominator.
-fn numerator(x: &Frac, all: u128) -> i128
+fn numerator(fraction: &Frac, all: u128) -> i128
     requires denominator { all < 2 ^ 127 }
-    requires numerator { unsigned_abs (scaled all x.now) < 2 ^ 127 }
-    ensures { result ≡ scaled all x.now }
+    requires numerator { unsigned_abs (scaled all fraction.now) < 2 ^ 127 }
+    ensures { result ≡ scaled all fraction.now }
 {
-    x.num() * (all / denominator_of(x)) as i128
+    fraction.num() * (all / denominator_of(fraction)) as i128
 }
 
 /// The numerators over the least common denominator.

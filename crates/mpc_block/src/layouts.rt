@@ -110,10 +110,10 @@ fn write_nodes(controller: &Controller, sides: &[usize], width: Width, words: &m
     ensures kept { KeepsBefore 12 words.old words.new }
 {
     let tree = controller.tree();
-    for k in 0..tree.len() {
-        let node = tree.at(k);
-        let word = word_after(controller, node, sides[k], width);
-        put_node(words, line_start(width, k), node, word, width);
+    for place in 0..tree.len() {
+        let node = tree.at(place);
+        let word = word_after(controller, node, sides[place], width);
+        put_node(words, line_start(width, place), node, word, width);
     }
 }
 
@@ -128,34 +128,42 @@ fn put_form(words: &mut [u64], start: usize, form: &[Frac], width: Width)
     ensures kept { KeepsBefore start words.old words.new }
 {
     let den = denominator(form);
-    let k = numerators(form, den);
-    let others = &k[1..form.len()];
+    let coefficients = numerators(form, den);
+    let others = &coefficients[1..form.len()];
     match width {
-        Width::Short => put_line(words, start, &short_line(den as u64, &k[0], others)),
+        Width::Short => put_line(
+            words,
+            start,
+            &short_line(den as u64, &coefficients[0], others),
+        ),
         Width::Wide => {
             let (low, high) = words_of(&(den as i128));
-            put_line(words, start, &wide_line(low, high, &k[0], others))
+            put_line(
+                words,
+                start,
+                &wide_line(low, high, &coefficients[0], others),
+            )
         }
     }
 }
 
-/// Writes the lines of the inputs of law j, from 0.
-fn write_law(controller: &Controller, j: usize, width: Width, words: &mut [u64])
+/// Writes the lines of the inputs of the law at the index, from 0.
+fn write_law(controller: &Controller, index: usize, width: Width, words: &mut [u64])
     requires width { width ≡ width_of controller.now }
-    requires law { j < length controller.now.laws }
+    requires law { index < length controller.now.laws }
     requires room { block_size controller.now ≤ length words.old }
-    ensures forms { (law : LawOfSet) → slice_get controller.now.laws j ≡ Some law
-        → AreInputsTo controller.now law (law_place controller.now (j + 1)) controller.now.plant.p words.new }
-    ensures kept { KeepsBefore (line_start width (law_place controller.now (j + 1))) words.old words.new }
+    ensures forms { (law : LawOfSet) → slice_get controller.now.laws index ≡ Some law
+        → AreInputsTo controller.now law (law_place controller.now (index + 1)) controller.now.plant.p words.new }
+    ensures kept { KeepsBefore (line_start width (law_place controller.now (index + 1))) words.old words.new }
 {
     table_theorems();
-    let law = controller.laws().at(j);
-    let place = law_place(controller, j as u32 + 1);
-    for i in 0..controller.plant().p {
+    let law = controller.laws().at(index);
+    let place = law_place(controller, index as u32 + 1);
+    for input in 0..controller.plant().p {
         put_form(
             words,
-            line_start(width, place + i as usize),
-            law.moves.row(i),
+            line_start(width, place + input as usize),
+            law.moves.row(input),
             width,
         );
     }
@@ -168,8 +176,8 @@ fn write_laws(controller: &Controller, width: Width, words: &mut [u64])
     ensures forms { AreFormsTo controller.now (length controller.now.laws) words.new }
     ensures kept { KeepsBefore (line_start width (length controller.now.tree)) words.old words.new }
 {
-    for j in 0..controller.laws().len() {
-        write_law(controller, j, width, words);
+    for index in 0..controller.laws().len() {
+        write_law(controller, index, width, words);
     }
 }
 

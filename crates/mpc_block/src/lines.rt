@@ -48,24 +48,24 @@ pub fn part(words: &[u64], start: u64, size: usize) -> Option<&[u64]>
     Some(&words[start..start + size])
 }
 
-/// The line i of these.
+/// The line of these at a place.
 #[inline(always)]
-pub fn line_of(lines: &[u64], i: usize, width: Width) -> &[u64]
-    requires { line_size width * (i + 1) ≤ length lines.now }
-    ensures line { result.now ≡ words_from lines.now (line_size width * i) (line_size width) }
+pub fn line_of(lines: &[u64], place: usize, width: Width) -> &[u64]
+    requires { line_size width * (place + 1) ≤ length lines.now }
+    ensures line { result.now ≡ words_from lines.now (line_size width * place) (line_size width) }
     ensures size { length result.now ≡ line_size width }
 {
     let size = line_size(width);
-    &lines[size * i..size * i + size]
+    &lines[size * place..size * place + size]
 }
 
-/// The number i, of two words, of a line.
+/// The number of a line at a place, of two words.
 #[inline(always)]
-pub fn number(line: &[u64], i: usize) -> i128
-    requires { 2 * i + 1 < length line.now }
-    ensures { result ≡ number_at Wide line.now i }
+pub fn number(line: &[u64], place: usize) -> i128
+    requires { 2 * place + 1 < length line.now }
+    ensures { result ≡ number_at Wide line.now place }
 {
-    number_of(line[2 * i], line[2 * i + 1])
+    number_of(line[2 * place], line[2 * place + 1])
 }
 
 /// `sum + entry count`, modulo 2^64.
@@ -149,15 +149,15 @@ pub fn short_line(first: u64, lead: &i128, others: &[i128]) -> [u64; 6]
     line
 }
 
-/// Writes the number i, of two words, of a line.
-fn put_number(line: &mut [u64], i: usize, number: &i128)
-    requires { 2 * i + 1 < length line.old }
-    ensures written { number_at Wide line.new i ≡ number.now }
-    ensures others { (k : ℕ) → k ≢ 2 * i → k ≢ 2 * i + 1 → slice_index line.new k ≡ slice_index line.old k }
+/// Writes the number of a line at a place, of two words.
+fn put_number(line: &mut [u64], place: usize, number: &i128)
+    requires { 2 * place + 1 < length line.old }
+    ensures written { number_at Wide line.new place ≡ number.now }
+    ensures others { (k : ℕ) → k ≢ 2 * place → k ≢ 2 * place + 1 → slice_index line.new k ≡ slice_index line.old k }
 {
     let (low, high) = words_of(number);
-    line[2 * i] = low;
-    line[2 * i + 1] = high;
+    line[2 * place] = low;
+    line[2 * place + 1] = high;
 }
 
 /// The line that begins with two words, and then has the numbers, of two words each.

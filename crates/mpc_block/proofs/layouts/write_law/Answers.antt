@@ -20,28 +20,28 @@ keeps inputs parts ok width is plant plant_is laws laws_are j law at input below
 
 pub put_form-requires-clause-fits : goal.put_form-requires-clause-fits
 put_form-requires-clause-fits c = subst (CanHaveForm c.args.width) (sym c.row.ensures)
-    (keeps c.table_theorems.ensures.moves_each_input c.args.controller.now c.laws.ensures.controller c.args.width c.requires.width c.plant.result.now c.plant.ensures.value c.laws.result.now c.laws.ensures.value c.args.j c.at-law.result.now c.at-law.ensures c.loop-i.i c.loop-i-test.true).can_have
+    (keeps c.table_theorems.ensures.moves_each_input c.args.controller.now c.laws.ensures.controller c.args.width c.requires.width c.plant.result.now c.plant.ensures.value c.laws.result.now c.laws.ensures.value c.args.index c.at-law.result.now c.at-law.ensures c.loop-input.input c.loop-input-test.true).can_have
 
 pub put_form-requires-clause-room : goal.put_form-requires-clause-room
 put_form-requires-clause-room c =
     let width = c.args.width in
-    let below : c.loop-i.i < c.args.controller.now.plant.p = subst (λ (p : Plant). c.loop-i.i < p.p) c.plant.ensures.value c.loop-i-test.true in
-    let start_is : c.line_start.result ≡ line_start width (law_place c.args.controller.now (c.args.j + 1) + c.loop-i.i) = c.line_start.ensures ∙ ap (λ place. line_start width (place + c.loop-i.i)) c.law_place-place.ensures in
-    omega (arith, start_is, line_inside c.args.controller.now width c.args.j c.loop-i.i c.requires.width c.requires.law below, c.requires.room, c.loop-i.auto.words)
+    let below : c.loop-input.input < c.args.controller.now.plant.p = subst (λ (p : Plant). c.loop-input.input < p.p) c.plant.ensures.value c.loop-input-test.true in
+    let start_is : c.line_start.result ≡ line_start width (law_place c.args.controller.now (c.args.index + 1) + c.loop-input.input) = c.line_start.ensures ∙ ap (λ place. line_start width (place + c.loop-input.input)) c.law_place-place.ensures in
+    omega (arith, start_is, line_inside c.args.controller.now width c.args.index c.loop-input.input c.requires.width c.requires.law below, c.requires.room, c.loop-input.auto.words)
 
-pub loop-i-preserved : goal.loop-i-preserved
-loop-i-preserved c =
+pub loop-input-preserved : goal.loop-input-preserved
+loop-input-preserved c =
     let parts = c.args.controller.now in
     let width = c.args.width in
     let law = c.at-law.result.now in
-    let i = c.loop-i.i in
-    let place = law_place parts (c.args.j + 1) in
+    let i = c.loop-input.input in
+    let place = law_place parts (c.args.index + 1) in
     let new = c.put_form.new.words in
     let start_is : c.line_start.result ≡ line_start width (place + i) = c.line_start.ensures ∙ ap (λ place. line_start width (place + i)) c.law_place-place.ensures in
-    let size = (keeps c.table_theorems.ensures.moves_each_input parts c.laws.ensures.controller width c.requires.width c.plant.result.now c.plant.ensures.value c.laws.result.now c.laws.ensures.value c.args.j law c.at-law.ensures i c.loop-i-test.true).size in
+    let size = (keeps c.table_theorems.ensures.moves_each_input parts c.laws.ensures.controller width c.requires.width c.plant.result.now c.plant.ensures.value c.laws.result.now c.laws.ensures.value c.args.index law c.at-law.ensures i c.loop-input-test.true).size in
     let written : form_in width parts.plant.n (words_from new c.line_start.result (line_size width)) ≡ whole (first_move_form law i) = c.put_form.ensures.written parts.plant.n (ap length c.row.ensures ∙ size) ∙ ap whole c.row.ensures in
-    let kept : KeepsBefore (line_start width (place + i)) c.loop-i.words new = subst (λ start. KeepsBefore start c.loop-i.words new) start_is c.put_form.ensures.kept in
+    let kept : KeepsBefore (line_start width (place + i)) c.loop-input.words new = subst (λ start. KeepsBefore start c.loop-input.words new) start_is c.put_form.ensures.kept in
     record {
-      forms = input_more parts width c.requires.width c.loop-i.words new law place i (subst (λ start. form_in width parts.plant.n (words_from new start (line_size width)) ≡ whole (first_move_form law i)) start_is written) kept c.loop-i.invariant.forms;
-      kept = kept_twice c.args.words.now c.loop-i.words new (line_start width place) (line_start width (place + i)) (starts_mono width place (place + i) (omega arith)) c.loop-i.invariant.kept kept;
+      forms = input_more parts width c.requires.width c.loop-input.words new law place i (subst (λ start. form_in width parts.plant.n (words_from new start (line_size width)) ≡ whole (first_move_form law i)) start_is written) kept c.loop-input.invariant.forms;
+      kept = kept_twice c.args.words.now c.loop-input.words new (line_start width place) (line_start width (place + i)) (starts_mono width place (place + i) (omega arith)) c.loop-input.invariant.kept kept;
     }
