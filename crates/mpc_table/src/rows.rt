@@ -13,11 +13,14 @@ use std::alloc::Global;
 fn copy_of(alloc: Global, row: &RowInt) -> Result<RowInt, NoMemory>
     ensures { IfOk result (λ r. r ≡ row.now) }
 {
-    let mut a = Ints::new(alloc);
-    for z in row.a.as_slice() {
-        a.push(*z)?;
+    let mut coefficients = Ints::new(alloc);
+    for number in row.a.as_slice() {
+        coefficients.push(*number)?;
     }
-    Ok(RowInt { a, b: row.b })
+    Ok(RowInt {
+        a: coefficients,
+        b: row.b,
+    })
 }
 
 /// The place of the row among the rows, behind which it is put where it is new. Without memory the rows stay

@@ -28,22 +28,22 @@ fn add_side(
     sides: &mut Vec<usize>,
     pending: &mut Vec<usize>,
     tree: &Tree,
-    k: usize,
+    place: usize,
 ) -> Result<(), NoMemory>
-    requires inside { k < length tree.now }
-    requires so_far { AreSidesTo tree.now k sides.old.items pending.old.items }
-    ensures next { OnOk result (AreSidesTo tree.now (k + 1) sides.new.items pending.new.items) }
+    requires inside { place < length tree.now }
+    requires so_far { AreSidesTo tree.now place sides.old.items pending.old.items }
+    ensures next { OnOk result (AreSidesTo tree.now (place + 1) sides.new.items pending.new.items) }
     ensures kept { OnErr result (take (length sides.old.items) sides.new.items ≡ sides.old.items) }
     ensures err { OnErr result (pending.new.items ≡ pending.old.items) }
 {
     preorder_theorems();
     sides.push(0).map_err(|_| NoMemory)?;
-    if !is_leaf(tree.at(k)) {
-        pending.push(k).map_err(|_| NoMemory)?;
+    if !is_leaf(tree.at(place)) {
+        pending.push(place).map_err(|_| NoMemory)?;
         return Ok(());
     }
-    if let Some(place) = pending.pop() {
-        sides[place] = k + 1;
+    if let Some(split) = pending.pop() {
+        sides[split] = place + 1;
     }
     Ok(())
 }
@@ -55,8 +55,8 @@ pub fn no_sides(alloc: Global, tree: &Tree) -> Result<Vec<usize>, NoMemory>
 {
     let mut sides = Vec::new(alloc);
     let mut pending = Vec::new(alloc);
-    for k in 0..tree.len() {
-        add_side(&mut sides, &mut pending, tree, k)?;
+    for place in 0..tree.len() {
+        add_side(&mut sides, &mut pending, tree, place)?;
     }
     Ok(sides)
 }

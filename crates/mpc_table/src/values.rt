@@ -10,13 +10,13 @@ ghost use Rattle.mpc_table.specs.Forms.{weighed, affine_value, IsBounded};
 use mpc_frac::Frac;
 use mpc_linear::{IntAffine, RowInt};
 
-/// `sum + slope t`.
-fn add_term(sum: i128, slope: i128, t: u64) -> i128
-    requires { unsigned_abs sum + unsigned_abs slope * t < 2 ^ 127 }
-    ensures value { result ≡ sum +ℤ slope *ℤ pos t }
+/// `sum + slope count`.
+fn add_term(sum: i128, slope: i128, count: u64) -> i128
+    requires { unsigned_abs sum + unsigned_abs slope * count < 2 ^ 127 }
+    ensures value { result ≡ sum +ℤ slope *ℤ pos count }
     ensures fits { unsigned_abs result < 2 ^ 127 }
 {
-    sum + slope * i128::from(t)
+    sum + slope * i128::from(count)
 }
 
 /// `start + k_1 t_1 + .. + k_n t_n`.

@@ -1,5 +1,5 @@
 use Rattle.mpc_table.specs.OpenSplits.{AreSidesTo}
 use Rattle.mpc_table.proofs.sides.no_sides.Given as goal
 
-abbrev pub invariant-loop-k : goal.invariant-loop-k
-invariant-loop-k l = AreSidesTo l.tree l.k l.sides.items l.pending.items
+abbrev pub invariant-loop-place : goal.invariant-loop-place
+invariant-loop-place l = AreSidesTo l.tree l.place l.sides.items l.pending.items
