@@ -19,11 +19,11 @@ fn stage_row(
 ) -> Result<PlantRow, NoMemory>
     ensures { IfOk result (λ row. row ≡ row_of (first ∷ second ∷ []) (input ∷ []) max) }
 {
-    let x = pair(alloc, first, second)?;
-    let u = single(alloc, input)?;
+    let state_weights = pair(alloc, first, second)?;
+    let input_weights = single(alloc, input)?;
     Ok(PlantRow {
-        x,
-        u,
+        x: state_weights,
+        u: input_weights,
         max: Frac::whole(max),
     })
 }
@@ -32,9 +32,9 @@ fn stage_row(
 fn end_row(alloc: Global, first: i64, second: i64, max: i64) -> Result<PlantRow, NoMemory>
     ensures { IfOk result (λ row. row ≡ row_of (first ∷ second ∷ []) [] max) }
 {
-    let x = pair(alloc, first, second)?;
+    let state_weights = pair(alloc, first, second)?;
     Ok(PlantRow {
-        x,
+        x: state_weights,
         u: Vector::new(alloc),
         max: Frac::whole(max),
     })

@@ -44,10 +44,10 @@ fn weight(number: u32) -> i64
 pub fn drill_plant(alloc: Global, number: u32) -> Result<Plant, NoMemory>
     ensures { IfOk result (IsDrillPlant number) }
 {
-    let a = two_by_two(alloc, 1, 1, turn(number))?;
-    let b = two_by_one(alloc, input(number), 1)?;
-    let q = two_by_two(alloc, weight(number), 0, 0)?;
-    let r = one_by_one(alloc, 1)?;
+    let state_matrix = two_by_two(alloc, 1, 1, turn(number))?;
+    let input_matrix = two_by_one(alloc, input(number), 1)?;
+    let state_costs = two_by_two(alloc, weight(number), 0, 0)?;
+    let input_costs = one_by_one(alloc, 1)?;
     let last = two_by_two(alloc, 1, 0, 0)?;
     let drift = pair(alloc, 0, 0)?;
     let xgoal = pair(alloc, 0, 0)?;
@@ -59,10 +59,10 @@ pub fn drill_plant(alloc: Global, number: u32) -> Result<Plant, NoMemory>
         n: 2,
         p: 1,
         horizon: 3,
-        a,
-        b,
-        q,
-        r,
+        a: state_matrix,
+        b: input_matrix,
+        q: state_costs,
+        r: input_costs,
         last,
         drift,
         xgoal,
