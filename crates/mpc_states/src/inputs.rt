@@ -52,13 +52,17 @@ pub fn solve_input(alloc: Global, input: &[u8]) -> Result<Vec<u8>, SolveError>
 }
 
 /// The noise of an input for n states.
-fn noise_of_input(alloc: Global, part: Option<&[u8]>, n: u32) -> Result<Vector, NoiseError>
-    ensures value { IfOk result (λ noise. noise_from (option_map (λ text. text.now) part.entry) n ≡ Some noise) }
-    ensures noise { IfOk result (λ noise. IsNoise noise n) }
-    ensures bad { IfErr result (IfBadNoise (noise_from (option_map (λ text. text.now) part.entry) n ≡ None)) }
+fn noise_of_input(
+    alloc: Global,
+    part: Option<&[u8]>,
+    coordinates: u32,
+) -> Result<Vector, NoiseError>
+    ensures value { IfOk result (λ noise. noise_from (option_map (λ text. text.now) part.entry) coordinates ≡ Some noise) }
+    ensures noise { IfOk result (λ noise. IsNoise noise coordinates) }
+    ensures bad { IfErr result (IfBadNoise (noise_from (option_map (λ text. text.now) part.entry) coordinates ≡ None)) }
 {
     match part {
-        Some(text) => read_noise(alloc, text, n),
+        Some(text) => read_noise(alloc, text, coordinates),
         None => Err(NoiseError::BadNoise),
     }
 }
