@@ -1,8 +1,9 @@
 //! The registry of a program's candidates.
 
-ghost use Rattle.std.specs.Prelude.{◌≡◌, ℕ, ◌<◌, ◌⊎◌, true, false, length, IfOk, IfNone, IfSome, MatchOption, All, Any};
+ghost use Rattle.std.specs.Prelude.{◌≡◌, ◌≢◌, ℕ, ◌<◌, ◌⊎◌, true, false, length, IfOk, IfNone, IfSome, MatchOption, All, Any};
 ghost use Rattle.mpc_space.specs.Definite.{IsDefinite};
 ghost use Rattle.mpc_space.specs.Matrix.{height};
+ghost use Rattle.mpc_rows.specs.declared.verdicts.Verdict.TheVariants.{Wide};
 ghost use Rattle.mpc_rows.specs.Verdicts.{IsRight};
 ghost use Rattle.mpc_rows.specs.Candidates.{IsCandidate, IsTable};
 ghost use Rattle.mpc_rows.specs.SetRuns.{LawRowsFit};
@@ -19,7 +20,7 @@ use crate::levels::{
 };
 use crate::{Ahead, Claimed, Delivery, Entry, Event, EventKind, Mark, Phase, Ticket};
 use mpc_frac::NoMemory;
-use mpc_rows::{Judged, LawTable, Qp, Verdict, law_theorems};
+use mpc_rows::{Judged, LawTable, Place, Qp, Verdict, law_theorems};
 use mpc_sets::{ActiveSet, count_theorems, member_theorems};
 use std::alloc::Global;
 use std::marker::Model;
@@ -267,6 +268,21 @@ impl Registry {
         match &self.entries[place].mark {
             Mark::Kept(kept) => Some(&self.verdicts[*kept as usize]),
             _ => None,
+        }
+    }
+
+    /// The place that is too wide, by the verdict on the least set that has such a verdict, where the workers came to one.
+    pub fn first_wide(&self) -> Option<Place>
+        requires { self.now.phase ≡ Stopped → has_drop self.now.history ≡ false }
+        ensures { MatchOption result (self.now.phase ≢ Stopped)
+            (λ place. IsFirstBad self.now.program (Wide place)) }
+    {
+        match self.phase {
+            Phase::Working | Phase::Finished => None,
+            Phase::Stopped => match self.first_bad() {
+                Some(Verdict::Wide(place)) => Some(*place),
+                Some(_) | None => unreachable!(),
+            },
         }
     }
 

@@ -1,24 +1,18 @@
 //! The answer to a section by itself.
 
-ghost use Rattle.std.specs.Prelude.{◌≡◌, ◌++◌, ℕ, true, IfOk, IfErr, OnOk, MatchOption};
+ghost use Rattle.std.specs.Prelude.{◌≡◌, ◌++◌, ℕ, IfOk, IfErr, OnOk};
 ghost use Rattle.mpc_rows.specs.declared.programs.Qp.{Qp};
-ghost use Rattle.mpc_rows.specs.declared.verdicts.Verdict.TheVariants.{Wide};
-ghost use Rattle.mpc_claim.specs.declared.events.Phase.TheVariants.{Finished};
-ghost use Rattle.mpc_claim.specs.Board.{is_wide};
-ghost use Rattle.mpc_claim.specs.Answers.{IsFirstBad};
-ghost use Rattle.mpc_workers.specs.Seats.{IsDone};
 ghost use Rattle.mpc_synthesis.specs.Controllers.{IsController};
 ghost use Rattle.mpc_synthesis.specs.Refusals.{controller, ExplainsSynthesisError};
 ghost use Rattle.mpc_status.specs.StatusText.{line_of};
 ghost use Rattle.mpc_sections.specs.Alone.{IsPlantAnswer, heading};
 ghost use Rattle.mpc_sections.specs.Steps.{IsExamined};
 
-use mpc_claim::{Phase, Registry, legal_theorems};
+use mpc_claim::{Registry, legal_theorems};
 use mpc_controller::Controller;
 use mpc_file::write_file;
 use mpc_frac::NoMemory;
 use mpc_plant::Plant;
-use mpc_rows::{Place, Verdict};
 use mpc_status::Status;
 use mpc_synthesis::{SynthesisError, controller_of_in_threads};
 use mpc_text::{add_number, add_text};
@@ -41,32 +35,6 @@ pub(crate) fn refusal(alloc: Global, status: Status) -> Result<Answer, NoMemory>
     Ok(Answer { status, text })
 }
 
-/// The place that a wide verdict names.
-fn place_of(verdict: &Verdict) -> Place
-    requires { is_wide verdict.now ≡ true }
-    ensures { verdict.now ≡ Wide result }
-{
-    match verdict {
-        Verdict::Wide(place) => *place,
-        _ => unreachable!(),
-    }
-}
-
-/// The first place that is too wide, where the registry's workers came to one.
-fn wide_place(registry: &Registry) -> Option<Place>
-    requires { (workers : ℕ) × (qp : Qp) × IsDone qp workers registry.now }
-    ensures { MatchOption result (registry.now.phase ≡ Finished)
-        (λ place. IsFirstBad registry.now.program (Wide place)) }
-{
-    match registry.phase() {
-        Phase::Finished => None,
-        Phase::Working | Phase::Stopped => match registry.first_bad() {
-            Some(verdict) => Some(place_of(verdict)),
-            None => unreachable!(),
-        },
-    }
-}
-
 /// The controller of a plant whose candidates are examined.
 fn controller_from<T: Threads + Sync>(
     rt: &T,
@@ -79,7 +47,7 @@ fn controller_from<T: Threads + Sync>(
     ensures refused { IfErr result (ExplainsSynthesisError controller plant) }
 {
     legal_theorems();
-    match wide_place(&registry) {
+    match registry.first_wide() {
         Some(place) => Err(SynthesisError::TooWide(place)),
         None => controller_of_in_threads(rt, alloc, plant, registry),
     }

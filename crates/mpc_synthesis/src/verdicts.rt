@@ -1,51 +1,22 @@
 //! The verdicts on all candidates of a program.
 
-ghost use Rattle.std.specs.Prelude.{◌≡◌, ℕ, ◌≤◌, true, IfOk, IfErr, MatchOption};
+ghost use Rattle.std.specs.Prelude.{◌≡◌, ℕ, ◌≤◌, IfOk, IfErr};
 ghost use Rattle.mpc_space.specs.Definite.{IsDefinite};
 ghost use Rattle.mpc_rows.specs.declared.programs.Qp.{Qp};
-ghost use Rattle.mpc_rows.specs.declared.verdicts.Verdict.TheVariants.{Wide};
 ghost use Rattle.mpc_claim.specs.declared.events.Phase.TheVariants.{Finished};
-ghost use Rattle.mpc_claim.specs.Board.{is_wide};
-ghost use Rattle.mpc_claim.specs.Answers.{IsFirstBad};
 ghost use Rattle.mpc_synthesis.specs.Crews.{HasEnded};
 ghost use Rattle.mpc_synthesis.specs.Programs.{IsDecidedBy};
 ghost use Rattle.mpc_synthesis.specs.Refusals.{Extent, ExplainsSetError, ExplainsSynthesisError};
 
 use crate::SynthesisError;
-use mpc_claim::{Phase, Registry, legal_theorems};
+use mpc_claim::{Registry, legal_theorems};
 use mpc_convex::convex_program;
 use mpc_plant::Plant;
-use mpc_rows::{Place, Qp, Verdict};
+use mpc_rows::Qp;
 use mpc_workers::{Gate, WorkError, enumerate, enumerate_alone};
 use std::alloc::Global;
 use std::sync::Wait;
 use std::thread::Threads;
-
-/// The place that a wide verdict names.
-fn place_of(verdict: &Verdict) -> Place
-    requires { is_wide verdict.now ≡ true }
-    ensures { verdict.now ≡ Wide result }
-{
-    match verdict {
-        Verdict::Wide(place) => *place,
-        _ => unreachable!(),
-    }
-}
-
-/// The first place that is too wide, where the registry's workers came to one.
-fn wide_place(registry: &Registry) -> Option<Place>
-    requires { (workers : ℕ) × (qp : Qp) × HasEnded workers qp registry.now }
-    ensures { MatchOption result (registry.now.phase ≡ Finished)
-        (λ place. IsFirstBad registry.now.program (Wide place)) }
-{
-    match registry.phase() {
-        Phase::Finished => None,
-        Phase::Working | Phase::Stopped => match registry.first_bad() {
-            Some(verdict) => Some(place_of(verdict)),
-            None => unreachable!(),
-        },
-    }
-}
 
 /// The registry at its end, where no candidate is too wide.
 fn all_decided(registry: Registry) -> Result<Registry, SynthesisError>
@@ -54,7 +25,7 @@ fn all_decided(registry: Registry) -> Result<Registry, SynthesisError>
     ensures finished { IfOk result (λ r. r.phase ≡ Finished) }
     ensures refused { IfErr result (ExplainsSetError registry.program) }
 {
-    match wide_place(&registry) {
+    match registry.first_wide() {
         Some(place) => Err(SynthesisError::TooWide(place)),
         None => Ok(registry),
     }

@@ -7,9 +7,6 @@ use Rattle.mpc_synthesis.specs.Refusals.{controller, wide_set}
 use Rattle.mpc_sections.proofs.StepLemmas.{decided_by}
 use Rattle.mpc_sections.proofs.answers.controller_from.Goals as goal
 
-pub wide_place-requires : goal.wide_place-requires
-wide_place-requires g c = (c.requires.workers, c.requires.qp, c.requires.done)
-
 pub returns-in-Some-clause-refused : goal.returns-in-Some-clause-refused
 returns-in-Some-clause-refused g c =
     wide_set controller c.requires.qp c.in-Some.place c.requires.convex.has_program c.requires.convex.pivots
