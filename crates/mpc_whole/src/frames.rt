@@ -7,7 +7,7 @@ pub(crate) struct Frame<'a> {
     pub scales: &'a [u64],
     pub a: &'a [i64],
     pub b: &'a [i64],
-    pub n: usize,
+    pub count: usize,
     pub most: u64,
 }
 
@@ -18,7 +18,7 @@ pub(crate) struct JudgedFrame<'a> {
     pub scales: &'a [u64],
     pub a: &'a [i64],
     pub b: &'a [i64],
-    pub n: usize,
+    pub count: usize,
     /// By how many times more a number of a side's row may have than those of its column, at least 1.
     pub norm: u128,
     pub most_scale: u128,

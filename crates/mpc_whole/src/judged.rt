@@ -63,43 +63,62 @@ fn kept_product(place: WidePlace, own: u128, by: Factors, divisor: u128, scale: 
     }
 }
 
-/// The pivot where the row of the side l leaves and e enters, with the values of the unknowns after it.
+/// The pivot where the row of a side leaves and a variable enters, with the values of the unknowns after it.
 fn advance(
     lists: &mut WideLists,
     row: DividedRow,
     system: &WholeSystem,
     frame: &JudgedFrame,
     place: WidePlace,
-    l: usize,
-    e: usize,
+    leaving: usize,
+    entering: usize,
 ) -> Option<WidePlace>
-    requires numbers { HasNumbers system.now frame.now.n frame.now.scales.now frame.now.a.now frame.now.b.now }
+    requires numbers { HasNumbers system.now frame.now.count frame.now.scales.now frame.now.a.now frame.now.b.now }
     requires sizes { HasSizes system.now.width frame.now.scales.now frame.now.a.now frame.now.b.now frame.now.norm frame.now.most_scale frame.now.most_side }
     requires lists { AreListsOf system.now place.own (of_wide lists.old) }
-    requires row { IsDividedRow system.now frame.now.a.now lists.old.v.items (l - system.now.width) place.den row.divisor row.rest row.x.now }
-    requires goes { IsGoingOn system.now (count system.now) lists.old.seats.items frame.now.scales.now place.den lists.old.v.items lists.old.firsts.items lists.old.seconds.items place.greatest place.greatest_den place.product place.first l e }
+    requires row { IsDividedRow system.now frame.now.a.now lists.old.v.items (leaving - system.now.width) place.den row.divisor row.rest row.numbers.now }
+    requires goes { IsGoingOn system.now (count system.now) lists.old.seats.items frame.now.scales.now place.den lists.old.v.items lists.old.firsts.items lists.old.seconds.items place.greatest place.greatest_den place.product place.first leaving entering }
     ensures lists { IfSome result (λ p. AreListsOf system.now p.own (of_wide lists.new)) }
     ensures underway { IfSome result (λ p. IsMildlyUnderway system.now (count system.now) lists.new.seats.items frame.now.scales.now p.den lists.new.v.items lists.new.firsts.items lists.new.seconds.items p.greatest p.greatest_den p.product p.first) }
 {
-    let by = factors_of(&lists.nonbasic, row.x, frame.scales, l, e)?;
+    let by = factors_of(
+        &lists.nonbasic,
+        row.numbers,
+        frame.scales,
+        leaving,
+        entering,
+    )?;
     let here = Here {
         seats: &lists.seats,
-        v: &lists.v,
+        numbers: &lists.v,
         den: place.den,
         own: place.own,
     };
     let pivot = StatedPivot {
-        x: row.x,
+        row: row.numbers,
         rest: row.rest,
-        l,
-        e,
+        leaving,
+        entering,
     };
     judge_pivot(&here, system, frame, by, &pivot)?;
     let own = place.own.max(place.den);
-    let product = kept_product(place, own, by, row.divisor, frame.scales[l]);
-    let c = column_of(&lists.seats, e);
-    let after = reduce(&mut lists.v, row.x, c, place.den, row.rest, place.own)?;
-    swap(&mut lists.seats, &mut lists.nonbasic, l, e, c);
+    let product = kept_product(place, own, by, row.divisor, frame.scales[leaving]);
+    let column = column_of(&lists.seats, entering);
+    let after = reduce(
+        &mut lists.v,
+        row.numbers,
+        column,
+        place.den,
+        row.rest,
+        place.own,
+    )?;
+    swap(
+        &mut lists.seats,
+        &mut lists.nonbasic,
+        leaving,
+        entering,
+        column,
+    );
     wide_stand(
         &mut lists.firsts,
         &mut lists.seconds,
@@ -122,15 +141,15 @@ fn advance(
 /// One turn of the run.
 fn judged_step(
     lists: &mut WideLists,
-    x: &mut [i128],
+    row: &mut [i128],
     system: &WholeSystem,
     frame: &JudgedFrame,
     place: WidePlace,
 ) -> Option<JudgedTurn>
-    requires numbers { HasNumbers system.now frame.now.n frame.now.scales.now frame.now.a.now frame.now.b.now }
+    requires numbers { HasNumbers system.now frame.now.count frame.now.scales.now frame.now.a.now frame.now.b.now }
     requires sizes { HasSizes system.now.width frame.now.scales.now frame.now.a.now frame.now.b.now frame.now.norm frame.now.most_scale frame.now.most_side }
     requires lists { AreListsOf system.now place.own (of_wide lists.old) }
-    requires row_size { length x.old ≡ system.now.width }
+    requires row_size { length row.old ≡ system.now.width }
     requires underway { IsMildlyUnderway system.now (count system.now) lists.old.seats.items frame.now.scales.now place.den lists.old.v.items lists.old.firsts.items lists.old.seconds.items place.greatest place.greatest_den place.product place.first }
     ensures same { IfSome result (λ t. IfJudgedEnd t (λ _. lists.new ≡ lists.old)) }
     ensures end { IfSome result (λ t. IfJudgedEnd t (λ e. HasEnded system.now (count system.now) lists.old.seats.items frame.now.scales.now place.den lists.old.v.items lists.old.firsts.items lists.old.seconds.items place.greatest place.greatest_den e)) }
@@ -146,19 +165,23 @@ fn judged_step(
         &lists.seconds,
         place,
     )?;
-    let Some(l) = out else {
+    let Some(leaving) = out else {
         judge_end(&lists.seats, &lists.v, system, frame, place.den, place.own)?;
         return Some(JudgedTurn::Ends(Ending::Point));
     };
-    let side = l - system.unknowns();
+    let side = leaving - system.unknowns();
     let short = place.own <= 1 << 62;
-    let (divisor, rest) = divided_row(x, system, frame.a, &lists.v, side, place.den, short)?;
-    let Some(e) = wide_entering(system, &lists.nonbasic, x, frame.n) else {
+    let (divisor, rest) = divided_row(row, system, frame.a, &lists.v, side, place.den, short)?;
+    let Some(entering) = wide_entering(system, &lists.nonbasic, row, frame.count) else {
         judge_end(&lists.seats, &lists.v, system, frame, place.den, place.own)?;
-        return Some(JudgedTurn::Ends(Ending::Refuted(l)));
+        return Some(JudgedTurn::Ends(Ending::Refuted(leaving)));
     };
-    let row = DividedRow { x, divisor, rest };
-    let next = advance(lists, row, system, frame, place, l, e)?;
+    let divided = DividedRow {
+        numbers: row,
+        divisor,
+        rest,
+    };
+    let next = advance(lists, divided, system, frame, place, leaving, entering)?;
     Some(JudgedTurn::Moves(next))
 }
 
@@ -168,7 +191,7 @@ fn judged_step(
 /// says nothing of the stated run.
 pub fn judged_run(
     lists: &mut WideLists,
-    x: &mut [i128],
+    row: &mut [i128],
     system: &WholeSystem,
     numbers: &WholeNumbers,
     from: WidePlace,
@@ -176,7 +199,7 @@ pub fn judged_run(
     requires whole { IsWholeSystem system.now numbers.now.scales.now numbers.now.a.now numbers.now.b.now }
     requires room { HasRoom system.now.width (2 ^ 62) numbers.now.a.now }
     requires lists { AreListsOf system.now from.own (of_wide lists.old) }
-    requires row_size { length x.old ≡ system.now.width }
+    requires row_size { length row.old ≡ system.now.width }
     requires underway { IsMildlyUnderway system.now (count system.now) lists.old.seats.items numbers.now.scales.now from.den lists.old.v.items lists.old.firsts.items lists.old.seconds.items from.greatest from.greatest_den from.product from.first }
     ensures lists { IfSome result (λ t. AreListsOf system.now t.0.own (of_wide lists.new)) }
     ensures end { IfSome result (λ t. HasEnded system.now (count system.now) lists.new.seats.items numbers.now.scales.now t.0.den lists.new.v.items lists.new.firsts.items lists.new.seconds.items t.0.greatest t.0.greatest_den t.1) }
@@ -186,14 +209,14 @@ pub fn judged_run(
         scales: numbers.scales,
         a: numbers.a,
         b: numbers.b,
-        n: lists.seats.len(),
+        count: lists.seats.len(),
         norm: norm_of(numbers.a, system.unknowns()),
         most_scale: greatest_scale(numbers.scales) as u128,
         most_side: greatest(numbers.b) as u128,
     };
     let mut place = from;
     'steps: for _ in 0..STEPS {
-        let turn = judged_step(lists, x, system, &frame, place)?;
+        let turn = judged_step(lists, row, system, &frame, place)?;
         match turn {
             JudgedTurn::Ends(end) => return Some((place, end)),
             JudgedTurn::Moves(next) => place = next,

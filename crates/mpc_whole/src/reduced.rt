@@ -24,39 +24,52 @@ struct Change {
     short: bool,
 }
 
-/// The new number of column c in a row, over the denominator before the pivot times the size of the pivot.
+/// The new number of a column in a row, over the denominator before the pivot times the size of the pivot.
 #[inline(always)]
-fn numerator(old: i128, x: i128, e: usize, c: usize, by: Change) -> Option<i128>
+fn numerator(
+    old: i128,
+    number: i128,
+    pivot_column: usize,
+    column: usize,
+    by: Change,
+) -> Option<i128>
     requires old_short { IsTrue by.short → unsigned_abs old ≤ 2 ^ 62 }
-    requires x_short { IsTrue by.short → unsigned_abs x ≤ 2 ^ 62 }
+    requires x_short { IsTrue by.short → unsigned_abs number ≤ 2 ^ 62 }
     requires factor_short { IsTrue by.short → unsigned_abs by.factor ≤ 2 ^ 62 }
     requires size_short { IsTrue by.short → unsigned_abs by.size ≤ 2 ^ 62 }
     requires den_short { IsTrue by.short → unsigned_abs by.den ≤ 2 ^ 62 }
-    ensures entering { IfSome result (λ z. c ≡ e → z ≡ by.factor *ℤ by.den) }
-    ensures other { IfSome result (λ z. (c ≡ e → ⊥) → z ≡ (old *ℤ by.size) +ℤ neg_ℤ (by.factor *ℤ x)) }
+    ensures entering { IfSome result (λ z. column ≡ pivot_column → z ≡ by.factor *ℤ by.den) }
+    ensures other { IfSome result (λ z. (column ≡ pivot_column → ⊥) → z ≡ (old *ℤ by.size) +ℤ neg_ℤ (by.factor *ℤ number)) }
 {
-    if c == e {
+    if column == pivot_column {
         return product_of(by.factor, by.den, by.short);
     }
-    wide_difference(old, by.size, by.factor, x, by.short)
+    wide_difference(old, by.size, by.factor, number, by.short)
 }
 
-/// Changes row j, where the row x leaves and the column e enters, to numbers over the denominator times the size of
-/// the pivot. The numbers aren't tested where they are known to be short.
+/// Changes the row of an unknown, where a row leaves and the pivot column enters, to numbers over the denominator times
+/// the size of the pivot. The numbers aren't tested where they are known to be short.
 #[inline(always)]
-fn raise_row(v: &mut [i128], x: &[i128], j: usize, e: usize, den: u128, short: bool) -> Option<()>
-    requires square { length v.old ≡ length x.now * length x.now }
-    requires row { j < length x.now }
-    requires column { e < length x.now }
-    requires numbers_short { IsTrue short → (c : ℕ) → c < length x.now → unsigned_abs (whole_cell (length x.now) v.old j c) ≤ 2 ^ 62 }
-    requires row_short { IsTrue short → IsSmall (2 ^ 62) x.now }
+fn raise_row(
+    numbers: &mut [i128],
+    row: &[i128],
+    unknown: usize,
+    pivot_column: usize,
+    den: u128,
+    short: bool,
+) -> Option<()>
+    requires square { length numbers.old ≡ length row.now * length row.now }
+    requires row { unknown < length row.now }
+    requires column { pivot_column < length row.now }
+    requires numbers_short { IsTrue short → (column : ℕ) → column < length row.now → unsigned_abs (whole_cell (length row.now) numbers.old unknown column) ≤ 2 ^ 62 }
+    requires row_short { IsTrue short → IsSmall (2 ^ 62) row.now }
     requires den_short { IsTrue short → den ≤ 2 ^ 62 }
-    ensures cells { IfSome result (λ _. (c : ℕ) → c < length x.now → IsChanged (length x.now) 1 den v.old x.now j e c (whole_cell (length x.now) v.new j c)) }
-    ensures others { IfSome result (λ _. (k : ℕ) → (k < j * length x.now) ⊎ (j * length x.now + length x.now ≤ k) → whole_at v.new k ≡ whole_at v.old k) }
+    ensures cells { IfSome result (λ _. (column : ℕ) → column < length row.now → IsChanged (length row.now) 1 den numbers.old row.now unknown pivot_column column (whole_cell (length row.now) numbers.new unknown column)) }
+    ensures others { IfSome result (λ _. (k : ℕ) → (k < unknown * length row.now) ⊎ (unknown * length row.now + length row.now ≤ k) → whole_at numbers.new k ≡ whole_at numbers.old k) }
 {
-    let pivot = x[e];
-    let from = j * x.len();
-    let factor = wide_turned(pivot, v[from + e])?;
+    let pivot = row[pivot_column];
+    let from = unknown * row.len();
+    let factor = wide_turned(pivot, numbers[from + pivot_column])?;
     let size = positive(pivot.unsigned_abs())?;
     let before = positive(den)?;
     let by = Change {
@@ -65,49 +78,67 @@ fn raise_row(v: &mut [i128], x: &[i128], j: usize, e: usize, den: u128, short: b
         den: before,
         short,
     };
-    for c in 0..x.len() {
-        let new = numerator(v[from + c], x[c], e, c, by)?;
-        v[from + c] = new;
+    for column in 0..row.len() {
+        let new = numerator(
+            numbers[from + column],
+            row[column],
+            pivot_column,
+            column,
+            by,
+        )?;
+        numbers[from + column] = new;
     }
     Some(())
 }
 
 /// Changes all rows so.
 #[inline(always)]
-fn raise_rows(v: &mut [i128], x: &[i128], e: usize, den: u128, short: bool) -> Option<()>
-    requires square { length v.old ≡ length x.now * length x.now }
-    requires column { e < length x.now }
-    requires numbers_short { IsTrue short → IsSmall (2 ^ 62) v.old }
-    requires row_short { IsTrue short → IsSmall (2 ^ 62) x.now }
+fn raise_rows(
+    numbers: &mut [i128],
+    row: &[i128],
+    pivot_column: usize,
+    den: u128,
+    short: bool,
+) -> Option<()>
+    requires square { length numbers.old ≡ length row.now * length row.now }
+    requires column { pivot_column < length row.now }
+    requires numbers_short { IsTrue short → IsSmall (2 ^ 62) numbers.old }
+    requires row_short { IsTrue short → IsSmall (2 ^ 62) row.now }
     requires den_short { IsTrue short → den ≤ 2 ^ 62 }
-    ensures { IfSome result (λ _. (j c : ℕ) → j < length x.now → c < length x.now → IsChanged (length x.now) 1 den v.old x.now j e c (whole_cell (length x.now) v.new j c)) }
+    ensures { IfSome result (λ _. (unknown column : ℕ) → unknown < length row.now → column < length row.now → IsChanged (length row.now) 1 den numbers.old row.now unknown pivot_column column (whole_cell (length row.now) numbers.new unknown column)) }
 {
-    for j in 0..x.len() {
-        raise_row(v, x, j, e, den, short)?;
+    for unknown in 0..row.len() {
+        raise_row(numbers, row, unknown, pivot_column, den, short)?;
     }
     Some(())
 }
 
 /// Changes all rows so, where no number is above own before. The loop over the rows stands there once for short
 /// numbers and once for others, so that they aren't tested again at each entry.
-fn raise(v: &mut [i128], x: &[i128], e: usize, den: u128, own: u128) -> Option<()>
-    requires square { length v.old ≡ length x.now * length x.now }
-    requires column { e < length x.now }
-    requires own { IsSmall own v.old }
-    ensures { IfSome result (λ _. (j c : ℕ) → j < length x.now → c < length x.now → IsChanged (length x.now) 1 den v.old x.now j e c (whole_cell (length x.now) v.new j c)) }
+fn raise(
+    numbers: &mut [i128],
+    row: &[i128],
+    pivot_column: usize,
+    den: u128,
+    own: u128,
+) -> Option<()>
+    requires square { length numbers.old ≡ length row.now * length row.now }
+    requires column { pivot_column < length row.now }
+    requires own { IsSmall own numbers.old }
+    ensures { IfSome result (λ _. (unknown column : ℕ) → unknown < length row.now → column < length row.now → IsChanged (length row.now) 1 den numbers.old row.now unknown pivot_column column (whole_cell (length row.now) numbers.new unknown column)) }
 {
-    if own <= 1 << 62 && den <= 1 << 62 && are_short(x) {
-        return raise_rows(v, x, e, den, true);
+    if own <= 1 << 62 && den <= 1 << 62 && are_short(row) {
+        return raise_rows(numbers, row, pivot_column, den, true);
     }
-    raise_rows(v, x, e, den, false)
+    raise_rows(numbers, row, pivot_column, den, false)
 }
 
 /// What divides both a number and a divisor.
-fn shared_with(z: i128, by: u128) -> u128
+fn shared_with(number: i128, by: u128) -> u128
     requires { 0 < by }
     ensures { 0 < result }
 {
-    let size = z.unsigned_abs();
+    let size = number.unsigned_abs();
     if size > LONGEST || by > LONGEST {
         return greatest_common_divisor(size, by);
     }
@@ -122,12 +153,12 @@ pub(crate) fn shared_with_all(list: &[i128], before: u128) -> u128
     ensures { 0 < result }
 {
     let mut by = WideDivisor::of(before);
-    for j in 0..list.len() {
+    for index in 0..list.len() {
         if by.den == 1 {
             return 1;
         }
-        if !goes_into(by, list[j]) {
-            by = WideDivisor::of(shared_with(list[j], by.den));
+        if !goes_into(by, list[index]) {
+            by = WideDivisor::of(shared_with(list[index], by.den));
         }
     }
     by.den
@@ -147,13 +178,13 @@ fn most_shared(first: i128, over: u128, rest: u128) -> Option<u128>
 }
 
 /// The quotient, if it is whole.
-pub(crate) fn whole_share(n: u128, divisor: u128) -> Option<u128>
+pub(crate) fn whole_share(number: u128, divisor: u128) -> Option<u128>
     requires { 0 < divisor }
-    ensures { IfSome result (λ q. q * divisor ≡ n) }
+    ensures { IfSome result (λ quotient. quotient * divisor ≡ number) }
 {
-    let q = n / divisor;
-    let back = q.checked_mul(divisor)?;
-    if back == n { Some(q) } else { None }
+    let quotient = number / divisor;
+    let back = quotient.checked_mul(divisor)?;
+    if back == number { Some(quotient) } else { None }
 }
 
 /// Divides the numbers of a list one after another, as far as the quotients are whole and short: how many are, and the
@@ -165,12 +196,12 @@ fn divide_first(list: &mut [i128], by: Divisor) -> (usize, u64)
     ensures own { (k : ℕ) → k < result.0 → unsigned_abs (whole_at list.new k) ≤ result.1 }
 {
     let mut own: u64 = 0;
-    for j in 0..list.len() {
-        let Some(q) = small_quotient(list[j], by, 1 << 62) else {
-            return (j, own);
+    for index in 0..list.len() {
+        let Some(quotient) = small_quotient(list[index], by, 1 << 62) else {
+            return (index, own);
         };
-        list[j] = widened(q);
-        own = own.max(q.unsigned_abs());
+        list[index] = widened(quotient);
+        own = own.max(quotient.unsigned_abs());
     }
     (list.len(), own)
 }
@@ -184,10 +215,10 @@ fn divide_others(list: &mut [i128], by: WideDivisor, from: usize, before: u64) -
     ensures before { IfSome result (λ own. before ≤ own) }
 {
     let mut own = before as u128;
-    for j in from..list.len() {
-        let q = wide_quotient(list[j], by)?;
-        list[j] = q;
-        own = own.max(q.unsigned_abs());
+    for index in from..list.len() {
+        let quotient = wide_quotient(list[index], by)?;
+        list[index] = quotient;
+        own = own.max(quotient.unsigned_abs());
     }
     Some(own)
 }
@@ -214,30 +245,30 @@ pub(crate) struct Reduced {
     pub own: u128,
 }
 
-/// The pivot where a row leaves and the column e enters, in lowest terms. The row is given as x, over a divisor of the
+/// The pivot where a row leaves and the pivot column enters, in lowest terms. The row is given over a divisor of the
 /// denominator, of which the rest is left. No number is above own before.
 pub(crate) fn reduce(
-    v: &mut [i128],
-    x: &[i128],
-    e: usize,
+    numbers: &mut [i128],
+    divided_row: &[i128],
+    pivot_column: usize,
     den: u128,
     rest: u128,
     own: u128,
 ) -> Option<Reduced>
-    requires square { length v.old ≡ length x.now * length x.now }
-    requires column { e < length x.now }
-    requires own { IsSmall own v.old }
-    ensures pivot { IfSome result (λ r. (row : List ℤ) (divisor : ℕ) → 0 < divisor → divisor * rest ≡ den → IsTimes divisor x.now row → IsReducedPivot (length x.now) den v.old v.new row e r.den) }
-    ensures own { IfSome result (λ r. IsSmall r.own v.new) }
+    requires square { length numbers.old ≡ length divided_row.now * length divided_row.now }
+    requires column { pivot_column < length divided_row.now }
+    requires own { IsSmall own numbers.old }
+    ensures pivot { IfSome result (λ r. (row : List ℤ) (divisor : ℕ) → 0 < divisor → divisor * rest ≡ den → IsTimes divisor divided_row.now row → IsReducedPivot (length divided_row.now) den numbers.old numbers.new row pivot_column r.den) }
+    ensures own { IfSome result (λ r. IsSmall r.own numbers.new) }
 {
-    let over = x[e].unsigned_abs().checked_mul(den)?;
+    let over = divided_row[pivot_column].unsigned_abs().checked_mul(den)?;
     if over == 0 {
         return None;
     }
-    let most = most_shared(v[e], over, rest)?;
-    raise(v, x, e, rest, own)?;
-    let divisor = shared_with_all(v, most);
+    let most = most_shared(numbers[pivot_column], over, rest)?;
+    raise(numbers, divided_row, pivot_column, rest, own)?;
+    let divisor = shared_with_all(numbers, most);
     let size = whole_share(over, divisor)?;
-    let own = divide_numbers(v, divisor)?;
+    let own = divide_numbers(numbers, divisor)?;
     Some(Reduced { den: size, own })
 }

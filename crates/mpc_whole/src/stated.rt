@@ -21,77 +21,85 @@ use mpc_scaled::WholeSystem;
 #[derive(Clone, Copy, Drop)]
 pub(crate) struct Here<'a> {
     pub seats: &'a [Seat],
-    pub v: &'a [i128],
+    pub numbers: &'a [i128],
     pub den: u128,
     pub own: u128,
 }
 
-/// A pivot: the row x of the variable l leaves, over a rest of the denominator, and e enters.
+/// A pivot: the row of a variable leaves, over a rest of the denominator, and another enters.
 #[derive(Clone, Copy, Drop)]
 pub(crate) struct StatedPivot<'a> {
-    pub x: &'a [i128],
+    pub row: &'a [i128],
     pub rest: u128,
-    pub l: usize,
-    pub e: usize,
+    pub leaving: usize,
+    pub entering: usize,
 }
 
 /// The coefficient of a number, with the scales of its column and of its row, if it has 128 bits.
-fn coefficient(z: i128, scale: u64, den: u128, own: u64) -> Option<Frac>
+fn coefficient(number: i128, scale: u64, den: u128, own: u64) -> Option<Frac>
     requires some { 0 < den }
     requires own { 0 < own }
-    ensures { IfSome result (λ x. x ≡ frac (z *ℤ pos scale) (den * own)) }
+    ensures { IfSome result (λ value. value ≡ frac (number *ℤ pos scale) (den * own)) }
 {
     let factor = positive(scale as u128)?;
-    let up = wide_product(z, factor)?;
+    let up = wide_product(number, factor)?;
     let down = den.checked_mul(own as u128)?;
     let over = positive(down)?;
     match Frac::new(up, over) {
-        Ok(x) => Some(x),
+        Ok(value) => Some(value),
         Err(_) => None,
     }
 }
 
-/// The number in the column c of the row of the variable x.
-fn row_cell(system: &WholeSystem, a: &[i64], v: &[i128], x: usize, c: usize) -> Option<i128>
-    requires below { x < system.now.width + height system.now }
-    requires entries { length a.now ≡ height system.now * system.now.width }
-    requires square { length v.now ≡ system.now.width * system.now.width }
-    requires column { c < system.now.width }
-    ensures { IfSome result (λ z. z ≡ row_cell system.now a.now v.now x c) }
+/// The number in a column of the row of a variable.
+fn row_cell(
+    system: &WholeSystem,
+    entries: &[i64],
+    numbers: &[i128],
+    row_variable: usize,
+    column: usize,
+) -> Option<i128>
+    requires below { row_variable < system.now.width + height system.now }
+    requires entries { length entries.now ≡ height system.now * system.now.width }
+    requires square { length numbers.now ≡ system.now.width * system.now.width }
+    requires column { column < system.now.width }
+    ensures { IfSome result (λ z. z ≡ row_cell system.now entries.now numbers.now row_variable column) }
 {
     let width = system.unknowns();
-    if x < width {
-        return Some(v[x * width + c]);
+    if row_variable < width {
+        return Some(numbers[row_variable * width + column]);
     }
-    wide_side_cell(a, x - width, v, width, c)
+    wide_side_cell(entries, row_variable - width, numbers, width, column)
 }
 
-/// If the sizes of the numbers in the row of x show that no operation on it is wide.
+/// If the sizes of the numbers in the row of a variable show that no operation on it is wide.
 fn is_row_below(
     here: &Here,
     system: &WholeSystem,
     frame: &JudgedFrame,
     by: Factors,
-    x: usize,
+    row_variable: usize,
 ) -> Option<()>
-    requires numbers { HasNumbers system.now frame.now.n frame.now.scales.now frame.now.a.now frame.now.b.now }
-    requires here { IsPlaced system.now frame.now.n here.now.seats.now here.now.den here.now.v.now }
-    requires below { x < frame.now.n }
-    ensures { IfSome result (λ _. IsRowBelow system.now frame.now.n here.now.seats.now frame.now.scales.now frame.now.a.now here.now.den here.now.v.now by.enters by.top by.size x) }
+    requires numbers { HasNumbers system.now frame.now.count frame.now.scales.now frame.now.a.now frame.now.b.now }
+    requires here { IsPlaced system.now frame.now.count here.now.seats.now here.now.den here.now.numbers.now }
+    requires below { row_variable < frame.now.count }
+    ensures { IfSome result (λ _. IsRowBelow system.now frame.now.count here.now.seats.now frame.now.scales.now frame.now.a.now here.now.den here.now.numbers.now by.enters by.top by.size row_variable) }
 {
-    let scaled = here.den.checked_mul(frame.scales[x] as u128)?;
+    let scaled = here.den.checked_mul(frame.scales[row_variable] as u128)?;
     let room = scaled.checked_mul(by.size)?;
     if room > ROOM {
         return None;
     }
-    for y in 0..frame.n {
-        if is_basic(here.seats, y) {
+    for column_variable in 0..frame.count {
+        if is_basic(here.seats, column_variable) {
             continue;
         }
-        let c = column_of(here.seats, y);
-        let cell = row_cell(system, frame.a, here.v, x, c)?;
-        let number = cell.unsigned_abs().checked_mul(frame.scales[y] as u128)?;
-        let product = number.checked_mul(factor_at(by, y))?;
+        let column = column_of(here.seats, column_variable);
+        let cell = row_cell(system, frame.a, here.numbers, row_variable, column)?;
+        let number = cell
+            .unsigned_abs()
+            .checked_mul(frame.scales[column_variable] as u128)?;
+        let product = number.checked_mul(factor_at(by, column_variable))?;
         if product > ROOM {
             return None;
         }
@@ -117,62 +125,77 @@ fn is_term_stated(old: &Frac, factor: &Frac, number: &Frac, pivot: &Frac) -> Opt
     }
 }
 
-/// If the stated operations on the row of x fit, in all columns but that of the variable that enters. The factor is its
-/// coefficient there, and the pivot that of the row that leaves.
+/// If the stated operations on the row of a variable fit, in all columns but that of the variable that enters. The
+/// factor is its coefficient there, and the pivot that of the row that leaves.
 fn are_terms_stated(
     here: &Here,
     system: &WholeSystem,
     frame: &JudgedFrame,
     by: &StatedPivot,
-    x: usize,
+    row_variable: usize,
     factor: &Frac,
     pivot: &Frac,
 ) -> Option<()>
-    requires numbers { HasNumbers system.now frame.now.n frame.now.scales.now frame.now.a.now frame.now.b.now }
-    requires here { IsPlaced system.now frame.now.n here.now.seats.now here.now.den here.now.v.now }
-    requires by { IsPivotThere system.now frame.now.n here.now.seats.now by.now.l by.now.e by.now.rest by.now.x.now }
-    requires below { x < frame.now.n }
+    requires numbers { HasNumbers system.now frame.now.count frame.now.scales.now frame.now.a.now frame.now.b.now }
+    requires here { IsPlaced system.now frame.now.count here.now.seats.now here.now.den here.now.numbers.now }
+    requires by { IsPivotThere system.now frame.now.count here.now.seats.now by.now.leaving by.now.entering by.now.rest by.now.row.now }
+    requires below { row_variable < frame.now.count }
     requires pivot { pivot.now ≢ int (pos 0) }
-    ensures { IfSome result (λ _. (y d : ℕ) → y < frame.now.n → (y ≡ by.now.e → ⊥) → seat_at here.now.seats.now y ≡ Column d
-        → IsTermStated (coefficient_of frame.now.scales.now here.now.den x y (row_cell system.now frame.now.a.now here.now.v.now x d)) factor.now (coefficient_of frame.now.scales.now by.now.rest by.now.l y (whole_at by.now.x.now d)) pivot.now) }
+    ensures { IfSome result (λ _. (column_variable d : ℕ) → column_variable < frame.now.count → (column_variable ≡ by.now.entering → ⊥) → seat_at here.now.seats.now column_variable ≡ Column d
+        → IsTermStated (coefficient_of frame.now.scales.now here.now.den row_variable column_variable (row_cell system.now frame.now.a.now here.now.numbers.now row_variable d)) factor.now (coefficient_of frame.now.scales.now by.now.rest by.now.leaving column_variable (whole_at by.now.row.now d)) pivot.now) }
 {
-    for y in 0..frame.n {
-        if y == by.e || is_basic(here.seats, y) {
+    for column_variable in 0..frame.count {
+        if column_variable == by.entering || is_basic(here.seats, column_variable) {
             continue;
         }
-        let c = column_of(here.seats, y);
-        let cell = row_cell(system, frame.a, here.v, x, c)?;
-        let old = coefficient(cell, frame.scales[y], here.den, frame.scales[x])?;
-        let number = coefficient(by.x[c], frame.scales[y], by.rest, frame.scales[by.l])?;
+        let column = column_of(here.seats, column_variable);
+        let cell = row_cell(system, frame.a, here.numbers, row_variable, column)?;
+        let old = coefficient(
+            cell,
+            frame.scales[column_variable],
+            here.den,
+            frame.scales[row_variable],
+        )?;
+        let number = coefficient(
+            by.row[column],
+            frame.scales[column_variable],
+            by.rest,
+            frame.scales[by.leaving],
+        )?;
         is_term_stated(&old, factor, &number, pivot)?;
     }
     Some(())
 }
 
-/// If the stated operations on the row of x fit, where the row with this pivot leaves.
+/// If the stated operations on the row of a variable fit, where the row with this pivot leaves.
 fn is_row_stated(
     here: &Here,
     system: &WholeSystem,
     frame: &JudgedFrame,
     by: &StatedPivot,
-    x: usize,
+    row_variable: usize,
     pivot: &Frac,
 ) -> Option<()>
-    requires numbers { HasNumbers system.now frame.now.n frame.now.scales.now frame.now.a.now frame.now.b.now }
-    requires here { IsPlaced system.now frame.now.n here.now.seats.now here.now.den here.now.v.now }
-    requires by { IsPivotThere system.now frame.now.n here.now.seats.now by.now.l by.now.e by.now.rest by.now.x.now }
-    requires below { x < frame.now.n }
+    requires numbers { HasNumbers system.now frame.now.count frame.now.scales.now frame.now.a.now frame.now.b.now }
+    requires here { IsPlaced system.now frame.now.count here.now.seats.now here.now.den here.now.numbers.now }
+    requires by { IsPivotThere system.now frame.now.count here.now.seats.now by.now.leaving by.now.entering by.now.rest by.now.row.now }
+    requires below { row_variable < frame.now.count }
     requires pivot_some { pivot.now ≢ int (pos 0) }
-    requires pivot { (c : ℕ) → seat_at here.now.seats.now by.now.e ≡ Column c → pivot.now ≡ coefficient_of frame.now.scales.now by.now.rest by.now.l by.now.e (whole_at by.now.x.now c) }
-    ensures { IfSome result (λ _. IsRowStated system.now frame.now.n here.now.seats.now frame.now.scales.now frame.now.a.now here.now.den here.now.v.now by.now.l by.now.e by.now.rest by.now.x.now x) }
+    requires pivot { (column : ℕ) → seat_at here.now.seats.now by.now.entering ≡ Column column → pivot.now ≡ coefficient_of frame.now.scales.now by.now.rest by.now.leaving by.now.entering (whole_at by.now.row.now column) }
+    ensures { IfSome result (λ _. IsRowStated system.now frame.now.count here.now.seats.now frame.now.scales.now frame.now.a.now here.now.den here.now.numbers.now by.now.leaving by.now.entering by.now.rest by.now.row.now row_variable) }
 {
-    let c = column_of(here.seats, by.e);
-    let cell = row_cell(system, frame.a, here.v, x, c)?;
-    let factor = coefficient(cell, frame.scales[by.e], here.den, frame.scales[x])?;
+    let column = column_of(here.seats, by.entering);
+    let cell = row_cell(system, frame.a, here.numbers, row_variable, column)?;
+    let factor = coefficient(
+        cell,
+        frame.scales[by.entering],
+        here.den,
+        frame.scales[row_variable],
+    )?;
     let Ok(_) = factor.div(pivot) else {
         return None;
     };
-    are_terms_stated(here, system, frame, by, x, &factor, pivot)
+    are_terms_stated(here, system, frame, by, row_variable, &factor, pivot)
 }
 
 /// If each row is judged in one of these ways.
@@ -184,22 +207,22 @@ fn are_rows_judged(
     by: &StatedPivot,
     pivot: &Frac,
 ) -> Option<()>
-    requires numbers { HasNumbers system.now frame.now.n frame.now.scales.now frame.now.a.now frame.now.b.now }
-    requires here { IsPlaced system.now frame.now.n here.now.seats.now here.now.den here.now.v.now }
-    requires by { IsPivotThere system.now frame.now.n here.now.seats.now by.now.l by.now.e by.now.rest by.now.x.now }
+    requires numbers { HasNumbers system.now frame.now.count frame.now.scales.now frame.now.a.now frame.now.b.now }
+    requires here { IsPlaced system.now frame.now.count here.now.seats.now here.now.den here.now.numbers.now }
+    requires by { IsPivotThere system.now frame.now.count here.now.seats.now by.now.leaving by.now.entering by.now.rest by.now.row.now }
     requires pivot_some { pivot.now ≢ int (pos 0) }
-    requires pivot { (c : ℕ) → seat_at here.now.seats.now by.now.e ≡ Column c → pivot.now ≡ coefficient_of frame.now.scales.now by.now.rest by.now.l by.now.e (whole_at by.now.x.now c) }
-    ensures { IfSome result (λ _. (x : ℕ) → x < frame.now.n → in_row (seat_at here.now.seats.now x) ≡ true
-        → IsRowBelow system.now frame.now.n here.now.seats.now frame.now.scales.now frame.now.a.now here.now.den here.now.v.now factors.enters factors.top factors.size x
-        ⊎ IsRowStated system.now frame.now.n here.now.seats.now frame.now.scales.now frame.now.a.now here.now.den here.now.v.now by.now.l by.now.e by.now.rest by.now.x.now x) }
+    requires pivot { (column : ℕ) → seat_at here.now.seats.now by.now.entering ≡ Column column → pivot.now ≡ coefficient_of frame.now.scales.now by.now.rest by.now.leaving by.now.entering (whole_at by.now.row.now column) }
+    ensures { IfSome result (λ _. (row_variable : ℕ) → row_variable < frame.now.count → in_row (seat_at here.now.seats.now row_variable) ≡ true
+        → IsRowBelow system.now frame.now.count here.now.seats.now frame.now.scales.now frame.now.a.now here.now.den here.now.numbers.now factors.enters factors.top factors.size row_variable
+        ⊎ IsRowStated system.now frame.now.count here.now.seats.now frame.now.scales.now frame.now.a.now here.now.den here.now.numbers.now by.now.leaving by.now.entering by.now.rest by.now.row.now row_variable) }
 {
-    for x in 0..frame.n {
-        if !is_basic(here.seats, x) {
+    for row_variable in 0..frame.count {
+        if !is_basic(here.seats, row_variable) {
             continue;
         }
-        match is_row_below(here, system, frame, factors, x) {
+        match is_row_below(here, system, frame, factors, row_variable) {
             Some(()) => {}
-            None => is_row_stated(here, system, frame, by, x, pivot)?,
+            None => is_row_stated(here, system, frame, by, row_variable, pivot)?,
         }
     }
     Some(())
@@ -213,17 +236,22 @@ fn judge_rows(
     factors: Factors,
     by: &StatedPivot,
 ) -> Option<()>
-    requires numbers { HasNumbers system.now frame.now.n frame.now.scales.now frame.now.a.now frame.now.b.now }
-    requires here { IsPlaced system.now frame.now.n here.now.seats.now here.now.den here.now.v.now }
-    requires by { IsPivotThere system.now frame.now.n here.now.seats.now by.now.l by.now.e by.now.rest by.now.x.now }
+    requires numbers { HasNumbers system.now frame.now.count frame.now.scales.now frame.now.a.now frame.now.b.now }
+    requires here { IsPlaced system.now frame.now.count here.now.seats.now here.now.den here.now.numbers.now }
+    requires by { IsPivotThere system.now frame.now.count here.now.seats.now by.now.leaving by.now.entering by.now.rest by.now.row.now }
     requires sizes { HasSizes system.now.width frame.now.scales.now frame.now.a.now frame.now.b.now frame.now.norm frame.now.most_scale frame.now.most_side }
-    requires own { IsSmall here.now.own here.now.v.now }
-    requires same { factors.enters ≡ by.now.e }
-    ensures { IfSome result (λ _. IsJudgedByRows system.now frame.now.n here.now.seats.now frame.now.scales.now frame.now.a.now frame.now.b.now here.now.den here.now.v.now by.now.l by.now.e by.now.rest by.now.x.now factors.top factors.size) }
+    requires own { IsSmall here.now.own here.now.numbers.now }
+    requires same { factors.enters ≡ by.now.entering }
+    ensures { IfSome result (λ _. IsJudgedByRows system.now frame.now.count here.now.seats.now frame.now.scales.now frame.now.a.now frame.now.b.now here.now.den here.now.numbers.now by.now.leaving by.now.entering by.now.rest by.now.row.now factors.top factors.size) }
 {
-    judge_end(here.seats, here.v, system, frame, here.den, here.own)?;
-    let c = column_of(here.seats, by.e);
-    let pivot = coefficient(by.x[c], frame.scales[by.e], by.rest, frame.scales[by.l])?;
+    judge_end(here.seats, here.numbers, system, frame, here.den, here.own)?;
+    let column = column_of(here.seats, by.entering);
+    let pivot = coefficient(
+        by.row[column],
+        frame.scales[by.entering],
+        by.rest,
+        frame.scales[by.leaving],
+    )?;
     if pivot.is_zero() {
         return None;
     }
@@ -239,16 +267,22 @@ pub(crate) fn judge_pivot(
     factors: Factors,
     by: &StatedPivot,
 ) -> Option<()>
-    requires numbers { HasNumbers system.now frame.now.n frame.now.scales.now frame.now.a.now frame.now.b.now }
-    requires here { IsPlaced system.now frame.now.n here.now.seats.now here.now.den here.now.v.now }
-    requires by { IsPivotThere system.now frame.now.n here.now.seats.now by.now.l by.now.e by.now.rest by.now.x.now }
+    requires numbers { HasNumbers system.now frame.now.count frame.now.scales.now frame.now.a.now frame.now.b.now }
+    requires here { IsPlaced system.now frame.now.count here.now.seats.now here.now.den here.now.numbers.now }
+    requires by { IsPivotThere system.now frame.now.count here.now.seats.now by.now.leaving by.now.entering by.now.rest by.now.row.now }
     requires sizes { HasSizes system.now.width frame.now.scales.now frame.now.a.now frame.now.b.now frame.now.norm frame.now.most_scale frame.now.most_side }
-    requires own { IsSmall here.now.own here.now.v.now }
-    requires same { factors.enters ≡ by.now.e }
-    ensures { IfSome result (λ _. IsPivotJudged system.now frame.now.n here.now.seats.now frame.now.scales.now frame.now.a.now frame.now.b.now here.now.den here.now.v.now by.now.l by.now.e by.now.rest by.now.x.now factors.top factors.size) }
+    requires own { IsSmall here.now.own here.now.numbers.now }
+    requires same { factors.enters ≡ by.now.entering }
+    ensures { IfSome result (λ _. IsPivotJudged system.now frame.now.count here.now.seats.now frame.now.scales.now frame.now.a.now frame.now.b.now here.now.den here.now.numbers.now by.now.leaving by.now.entering by.now.rest by.now.row.now factors.top factors.size) }
 {
     match judge(
-        here.seats, here.v, system, frame, here.den, here.own, factors,
+        here.seats,
+        here.numbers,
+        system,
+        frame,
+        here.den,
+        here.own,
+        factors,
     ) {
         Some(()) => Some(()),
         None => judge_rows(here, system, frame, factors, by),

@@ -23,45 +23,51 @@ use mpc_quotients::Divisor;
 use mpc_runs::{Seat, column_of, row_of};
 use mpc_scaled::{WholeNumbers, WholeSystem};
 
-/// Exchanges the seats of l and e, so that l is the variable of e's column.
-pub(crate) fn swap(seats: &mut [Seat], nonbasic: &mut [usize], l: usize, e: usize, c: usize)
-    requires leaves_below { l < length seats.old }
-    requires enters_below { e < length seats.old }
-    requires column_below { c < length nonbasic.old }
-    requires leaves { in_row (seat_at seats.old l) ≡ true }
-    requires enters { seat_at seats.old e ≡ Column c }
-    ensures seats { IsSwapped seats.old seats.new l e }
+/// Exchanges the seats of two variables, so that the one that leaves has the other's column.
+pub(crate) fn swap(
+    seats: &mut [Seat],
+    nonbasic: &mut [usize],
+    leaving: usize,
+    entering: usize,
+    column: usize,
+)
+    requires leaves_below { leaving < length seats.old }
+    requires enters_below { entering < length seats.old }
+    requires column_below { column < length nonbasic.old }
+    requires leaves { in_row (seat_at seats.old leaving) ≡ true }
+    requires enters { seat_at seats.old entering ≡ Column column }
+    ensures seats { IsSwapped seats.old seats.new leaving entering }
     ensures columns { (width : ℕ) → AreNonbasic width seats.old nonbasic.old → AreNonbasic width seats.new nonbasic.new }
 {
-    let r = row_of(seats, l);
-    nonbasic[c] = l;
-    seats[l] = Seat::Column(c);
-    seats[e] = Seat::Row(r);
+    let row = row_of(seats, leaving);
+    nonbasic[column] = leaving;
+    seats[leaving] = Seat::Column(column);
+    seats[entering] = Seat::Row(row);
 }
 
-/// The row of the side l that leaves, and the variable that enters.
+/// The row of the side that leaves, and the variable that enters.
 fn pick(
-    x: &mut [i64],
+    row: &mut [i64],
     system: &WholeSystem,
     frame: &Frame,
     nonbasic: &[usize],
-    v: &[i64],
-    l: usize,
+    numbers: &[i64],
+    leaving: usize,
 ) -> Option<usize>
-    requires numbers { HasNumbers system.now frame.now.n frame.now.scales.now frame.now.a.now frame.now.b.now }
+    requires numbers { HasNumbers system.now frame.now.count frame.now.scales.now frame.now.a.now frame.now.b.now }
     requires columns { length nonbasic.now ≡ system.now.width }
-    requires square { length v.now ≡ system.now.width * system.now.width }
-    requires row_size { length x.old ≡ system.now.width }
-    requires from { system.now.width ≤ l }
-    requires below { l < frame.now.n }
-    requires row_small { (c : ℕ) → c < system.now.width → unsigned_abs (side_cell system.now frame.now.a.now v.now (l - system.now.width) c) ≤ 2 ^ 62 }
-    ensures row { IsSideRow system.now frame.now.a.now v.now (l - system.now.width) x.new }
-    ensures small { IsSmall (2 ^ 62) x.new }
-    ensures least { (seats : List Seat) (p : Position) (k : List ℕ) (d : ℕ) → IsSeated (height system.now) system.now.width frame.now.n seats → AreNonbasic system.now.width seats nonbasic.now
-        → 0 < d → HasBasis frame.now.n seats p → IsRowOf frame.now.n seats k p d l x.new → result ≡ least (may_enter system.now p l) frame.now.n }
+    requires square { length numbers.now ≡ system.now.width * system.now.width }
+    requires row_size { length row.old ≡ system.now.width }
+    requires from { system.now.width ≤ leaving }
+    requires below { leaving < frame.now.count }
+    requires row_small { (column : ℕ) → column < system.now.width → unsigned_abs (side_cell system.now frame.now.a.now numbers.now (leaving - system.now.width) column) ≤ 2 ^ 62 }
+    ensures row { IsSideRow system.now frame.now.a.now numbers.now (leaving - system.now.width) row.new }
+    ensures small { IsSmall (2 ^ 62) row.new }
+    ensures least { (seats : List Seat) (p : Position) (k : List ℕ) (d : ℕ) → IsSeated (height system.now) system.now.width frame.now.count seats → AreNonbasic system.now.width seats nonbasic.now
+        → 0 < d → HasBasis frame.now.count seats p → IsRowOf frame.now.count seats k p d leaving row.new → result ≡ least (may_enter system.now p leaving) frame.now.count }
 {
-    leaving_row(x, system, frame.a, v, l);
-    entering(system, nonbasic, x, frame.n)
+    leaving_row(row, system, frame.a, numbers, leaving);
+    entering(system, nonbasic, row, frame.count)
 }
 
 /// What a run ends with.
@@ -92,42 +98,48 @@ pub(crate) enum Found {
 }
 
 /// The greater of two numbers.
-pub(crate) fn greater(a: u64, b: u64) -> u64
-    ensures first { a ≤ result }
-    ensures second { b ≤ result }
+pub(crate) fn greater(left: u64, right: u64) -> u64
+    ensures first { left ≤ result }
+    ensures second { right ≤ result }
 {
-    if a < b { b } else { a }
+    if left < right { right } else { left }
 }
 
-/// The pivot where the row x of the side l leaves and e enters, with the values of the unknowns after it.
+/// The pivot where the row of a side leaves and a variable enters, with the values of the unknowns after it.
 fn advance(
     lists: &mut RunLists,
-    x: &[i64],
+    row: &[i64],
     system: &WholeSystem,
     frame: &Frame,
     place: Place,
-    l: usize,
-    e: usize,
+    leaving: usize,
+    entering: usize,
 ) -> Option<Place>
-    requires frame { IsFrame system.now frame.now.n frame.now.scales.now frame.now.a.now frame.now.b.now frame.now.most }
+    requires frame { IsFrame system.now frame.now.count frame.now.scales.now frame.now.a.now frame.now.b.now frame.now.most }
     requires lists { AreListsOf system.now place.own (of_short lists.old) }
     requires held { AreHeld system.now frame.now.scales.now frame.now.a.now frame.now.most place.den (of_short lists.old) }
-    requires row { IsSideRow system.now frame.now.a.now lists.old.v.items (l - system.now.width) x.now }
-    requires row_small { IsSmall (2 ^ 62) x.now }
-    requires turns { AreTurning system.now frame.now.scales.now (of_short lists.old) place l e }
+    requires row { IsSideRow system.now frame.now.a.now lists.old.v.items (leaving - system.now.width) row.now }
+    requires row_small { IsSmall (2 ^ 62) row.now }
+    requires turns { AreTurning system.now frame.now.scales.now (of_short lists.old) place leaving entering }
     ensures lists { IfSome result (λ p. AreListsOf system.now p.own (of_short lists.new)) }
     ensures held { IfSome result (λ p. AreHeld system.now frame.now.scales.now frame.now.a.now frame.now.most p.den (of_short lists.new)) }
     ensures underway { IfSome result (λ p. AreUnderway system.now frame.now.scales.now (of_short lists.new) p) }
 {
-    let c = column_of(&lists.seats, e);
+    let column = column_of(&lists.seats, entering);
     let by = Divisor::of(place.den);
-    let own = exchange(&mut lists.v, x, c, by, frame.most)?;
-    swap(&mut lists.seats, &mut lists.nonbasic, l, e, c);
+    let own = exchange(&mut lists.v, row, column, by, frame.most)?;
+    swap(
+        &mut lists.seats,
+        &mut lists.nonbasic,
+        leaving,
+        entering,
+        column,
+    );
     let width = system.unknowns();
-    let size = x[c].unsigned_abs();
+    let size = row[column].unsigned_abs();
     let pivot = Pivot {
-        i: l - width,
-        e: c,
+        side: leaving - width,
+        column,
         by,
         size,
     };
@@ -152,15 +164,15 @@ fn advance(
 /// One turn of the run. The values of the unknowns move with the pivot.
 fn step(
     lists: &mut RunLists,
-    x: &mut [i64],
+    row: &mut [i64],
     system: &WholeSystem,
     frame: &Frame,
     place: Place,
 ) -> Option<Found>
-    requires frame { IsFrame system.now frame.now.n frame.now.scales.now frame.now.a.now frame.now.b.now frame.now.most }
+    requires frame { IsFrame system.now frame.now.count frame.now.scales.now frame.now.a.now frame.now.b.now frame.now.most }
     requires lists { AreListsOf system.now place.own (of_short lists.old) }
     requires held { AreHeld system.now frame.now.scales.now frame.now.a.now frame.now.most place.den (of_short lists.old) }
-    requires row_size { length x.old ≡ system.now.width }
+    requires row_size { length row.old ≡ system.now.width }
     requires underway { AreUnderway system.now frame.now.scales.now (of_short lists.old) place }
     ensures same { IfSome result (λ f. IfEnded f (λ _. lists.new ≡ lists.old)) }
     ensures end { IfSome result (λ f. IfEnded f (λ e. HaveEnded system.now frame.now.scales.now (of_short lists.old) place e)) }
@@ -168,7 +180,7 @@ fn step(
     ensures held { IfSome result (λ f. IfNext f (λ p. AreHeld system.now frame.now.scales.now frame.now.a.now frame.now.most p.den (of_short lists.new))) }
     ensures underway { IfSome result (λ f. IfNext f (λ p. AreUnderway system.now frame.now.scales.now (of_short lists.new) p)) }
 {
-    let Some(l) = leaving(
+    let Some(leaving_variable) = leaving(
         system,
         frame,
         &lists.seats,
@@ -178,10 +190,17 @@ fn step(
     ) else {
         return Some(Found::Ended(Ending::Point));
     };
-    let Some(e) = pick(x, system, frame, &lists.nonbasic, &lists.v, l) else {
-        return Some(Found::Ended(Ending::Refuted(l)));
+    let Some(entering) = pick(
+        row,
+        system,
+        frame,
+        &lists.nonbasic,
+        &lists.v,
+        leaving_variable,
+    ) else {
+        return Some(Found::Ended(Ending::Refuted(leaving_variable)));
     };
-    let next = advance(lists, x, system, frame, place, l, e)?;
+    let next = advance(lists, row, system, frame, place, leaving_variable, entering)?;
     Some(Found::Next(next))
 }
 
@@ -192,7 +211,7 @@ pub(crate) const STEPS: u32 = 1_000_000;
 /// values of the unknowns at the position, and at the end those there.
 pub fn whole_run(
     lists: &mut RunLists,
-    x: &mut [i64],
+    row: &mut [i64],
     system: &WholeSystem,
     numbers: &WholeNumbers,
     from: Place,
@@ -201,7 +220,7 @@ pub fn whole_run(
     requires frame { IsFrame system.now (count system.now) numbers.now.scales.now numbers.now.a.now numbers.now.b.now most }
     requires lists { AreListsOf system.now from.own (of_short lists.old) }
     requires held { AreHeld system.now numbers.now.scales.now numbers.now.a.now most from.den (of_short lists.old) }
-    requires row_size { length x.old ≡ system.now.width }
+    requires row_size { length row.old ≡ system.now.width }
     requires underway { AreUnderway system.now numbers.now.scales.now (of_short lists.old) from }
     ensures end { IfSome result (λ t. HaveEnded system.now numbers.now.scales.now (of_short lists.new) t.0 t.1) }
     ensures lists { IfSome result (λ t. AreListsOf system.now t.0.own (of_short lists.new)) }
@@ -211,12 +230,12 @@ pub fn whole_run(
         scales: numbers.scales,
         a: numbers.a,
         b: numbers.b,
-        n: lists.seats.len(),
+        count: lists.seats.len(),
         most,
     };
     let mut place = from;
     'steps: for _ in 0..STEPS {
-        let found = step(lists, x, system, &frame, place)?;
+        let found = step(lists, row, system, &frame, place)?;
         match found {
             Found::Ended(end) => return Some((place, end)),
             Found::Next(next) => place = next,

@@ -18,26 +18,26 @@ use mpc_quotients::{positive, wide_product, widened};
 use mpc_runs::{Seat, Standing, column_of, is_basic, zero};
 use mpc_scaled::{WholeNumbers, WholeSystem, product};
 
-/// The fraction `z / den`, if it has 128 bits.
-fn quotient(z: i128, den: i128) -> Option<Frac>
-    ensures { IfSome result (λ x. x ≡ quotient z den) }
+/// The fraction `numerator / den`, if it has 128 bits.
+fn quotient(numerator: i128, den: i128) -> Option<Frac>
+    ensures { IfSome result (λ value. value ≡ quotient numerator den) }
 {
-    match Frac::new(z, den) {
-        Ok(x) => Some(x),
+    match Frac::new(numerator, den) {
+        Ok(value) => Some(value),
         Err(_) => None,
     }
 }
 
-/// The fraction `z / den`.
-fn fraction(z: i128, den: u128) -> Option<Frac>
+/// The fraction `numerator / den`.
+fn fraction(numerator: i128, den: u128) -> Option<Frac>
     requires { 0 < den }
-    ensures { IfSome result (λ x. x ≡ frac z den) }
+    ensures { IfSome result (λ value. value ≡ frac numerator den) }
 {
-    if z == 0 {
+    if numerator == 0 {
         return Some(zero());
     }
     let over = positive(den)?;
-    quotient(z, over)
+    quotient(numerator, over)
 }
 
 /// A value whose parts are these over the denominator.
@@ -50,111 +50,126 @@ fn standing(first: i128, second: i128, den: u128) -> Option<Standing>
 }
 
 /// The values of the unknowns.
-fn point(values: &mut [Standing], c_1: &[i64], c_2: &[i64], den: u128) -> Option<()>
-    requires room { length values.old ≡ length c_1.now }
-    requires same { length c_2.now ≡ length c_1.now }
+fn point(values: &mut [Standing], firsts: &[i64], seconds: &[i64], den: u128) -> Option<()>
+    requires room { length values.old ≡ length firsts.now }
+    requires same { length seconds.now ≡ length firsts.now }
     requires some { 0 < den }
-    ensures { IfSome result (λ _. ArePairs den c_1.now c_2.now values.new) }
+    ensures { IfSome result (λ _. ArePairs den firsts.now seconds.now values.new) }
 {
-    for j in 0..c_1.len() {
-        let value = standing(widened(c_1[j]), widened(c_2[j]), den)?;
-        values[j] = value;
+    for unknown in 0..firsts.len() {
+        let value = standing(widened(firsts[unknown]), widened(seconds[unknown]), den)?;
+        values[unknown] = value;
     }
     Some(())
 }
 
 /// The values of the unknowns, from numbers of 128 bits.
-fn wide_point(values: &mut [Standing], c_1: &[i128], c_2: &[i128], den: u128) -> Option<()>
-    requires room { length values.old ≡ length c_1.now }
-    requires same { length c_2.now ≡ length c_1.now }
+fn wide_point(values: &mut [Standing], firsts: &[i128], seconds: &[i128], den: u128) -> Option<()>
+    requires room { length values.old ≡ length firsts.now }
+    requires same { length seconds.now ≡ length firsts.now }
     requires some { 0 < den }
-    ensures { IfSome result (λ _. ArePairs den c_1.now c_2.now values.new) }
+    ensures { IfSome result (λ _. ArePairs den firsts.now seconds.now values.new) }
 {
-    for j in 0..c_1.len() {
-        let value = standing(c_1[j], c_2[j], den)?;
-        values[j] = value;
+    for unknown in 0..firsts.len() {
+        let value = standing(firsts[unknown], seconds[unknown], den)?;
+        values[unknown] = value;
     }
     Some(())
 }
 
-/// The multiplier of row i, where the row x of the variable l refutes.
+/// The multiplier of a side, where the row of the variable that leaves refutes.
 fn multiplier(
     system: &WholeSystem,
     scales: &[u64],
     seats: &[Seat],
-    x: &[i128],
+    row: &[i128],
     den: u128,
-    l: usize,
-    i: usize,
+    leaving: usize,
+    side: usize,
 ) -> Option<Frac>
-    requires row { IsRefuting system.now scales.now seats.now x.now den l }
-    requires below { i < height system.now }
-    ensures { IfSome result (λ m. (p : Position) → HasBasis (length seats.now) seats.now p → IsRowOf (length seats.now) seats.now scales.now p den l x.now → m ≡ multiplier system.now p l i) }
+    requires row { IsRefuting system.now scales.now seats.now row.now den leaving }
+    requires below { side < height system.now }
+    ensures { IfSome result (λ m. (p : Position) → HasBasis (length seats.now) seats.now p → IsRowOf (length seats.now) seats.now scales.now p den leaving row.now → m ≡ multiplier system.now p leaving side) }
 {
-    let y = system.unknowns() + i;
-    if y == l {
+    let variable = system.unknowns() + side;
+    if variable == leaving {
         return Some(Frac::whole(1));
     }
-    if is_basic(seats, y) {
+    if is_basic(seats, variable) {
         return Some(zero());
     }
-    let c = column_of(seats, y);
-    let negative = 0_i128.checked_sub(x[c])?;
-    let scale = positive(scales[y] as u128)?;
+    let column = column_of(seats, variable);
+    let negative = 0_i128.checked_sub(row[column])?;
+    let scale = positive(scales[variable] as u128)?;
     let up = wide_product(negative, scale)?;
-    let down = den.checked_mul(scales[l] as u128)?;
+    let down = den.checked_mul(scales[leaving] as u128)?;
     let over = positive(down)?;
     quotient(up, over)
 }
 
-/// The multipliers, where the row x of the variable l refutes.
+/// The multipliers, where the row of the variable that leaves refutes.
 fn multipliers(
     list: &mut [Frac],
     system: &WholeSystem,
     scales: &[u64],
     seats: &[Seat],
-    x: &[i128],
+    row: &[i128],
     den: u128,
-    l: usize,
+    leaving: usize,
 ) -> Option<()>
     requires room { length list.old ≡ height system.now }
-    requires row { IsRefuting system.now scales.now seats.now x.now den l }
-    ensures { IfSome result (λ _. (p : Position) → HasBasis (length seats.now) seats.now p → IsRowOf (length seats.now) seats.now scales.now p den l x.now → IsMultipliers system.now p l list.new) }
+    requires row { IsRefuting system.now scales.now seats.now row.now den leaving }
+    ensures { IfSome result (λ _. (p : Position) → HasBasis (length seats.now) seats.now p → IsRowOf (length seats.now) seats.now scales.now p den leaving row.now → IsMultipliers system.now p leaving list.new) }
 {
-    for i in 0..system.height() {
-        let m = multiplier(system, scales, seats, x, den, l, i)?;
-        list[i] = m;
+    for side in 0..system.height() {
+        let m = multiplier(system, scales, seats, row, den, leaving, side)?;
+        list[side] = m;
     }
     Some(())
 }
 
-/// The row i of a times the column c of v.
-fn side_cell(a: &[i64], i: usize, v: &[i64], width: usize, c: usize) -> Option<i128>
-    requires inside { i * width + width ≤ length a.now }
-    requires square { length v.now ≡ width * width }
-    requires column { c < width }
-    ensures { IfSome result (λ z. z ≡ whole_total width (λ j. whole_cell width a.now i j *ℤ whole_cell width v.now j c)) }
+/// The row of a side times a column of the numbers.
+fn side_cell(
+    entries: &[i64],
+    side: usize,
+    numbers: &[i64],
+    width: usize,
+    column: usize,
+) -> Option<i128>
+    requires inside { side * width + width ≤ length entries.now }
+    requires square { length numbers.now ≡ width * width }
+    requires column { column < width }
+    ensures { IfSome result (λ z. z ≡ whole_total width (λ unknown. whole_cell width entries.now side unknown *ℤ whole_cell width numbers.now unknown column)) }
 {
-    let from = i * width;
+    let from = side * width;
     let mut total: i128 = 0;
-    for j in 0..width {
-        total = total.checked_add(product(a[from + j], v[j * width + c]))?;
+    for unknown in 0..width {
+        total = total.checked_add(product(
+            entries[from + unknown],
+            numbers[unknown * width + column],
+        ))?;
     }
     Some(total)
 }
 
-/// The row of side i, in numbers of 128 bits.
-fn side_row(x: &mut [i128], system: &WholeSystem, a: &[i64], v: &[i64], i: usize) -> Option<()>
-    requires side { i < height system.now }
-    requires entries { length a.now ≡ height system.now * system.now.width }
-    requires square { length v.now ≡ system.now.width * system.now.width }
-    requires row_size { length x.old ≡ system.now.width }
-    ensures { IfSome result (λ _. IsSideRow system.now a.now v.now i x.new) }
+/// The row of a side, in numbers of 128 bits.
+fn side_row(
+    row: &mut [i128],
+    system: &WholeSystem,
+    entries: &[i64],
+    numbers: &[i64],
+    side: usize,
+) -> Option<()>
+    requires side { side < height system.now }
+    requires entries { length entries.now ≡ height system.now * system.now.width }
+    requires square { length numbers.now ≡ system.now.width * system.now.width }
+    requires row_size { length row.old ≡ system.now.width }
+    ensures { IfSome result (λ _. IsSideRow system.now entries.now numbers.now side row.new) }
 {
     let width = system.unknowns();
-    for c in 0..width {
-        let z = side_cell(a, i, v, width, c)?;
-        x[c] = z;
+    for column in 0..width {
+        let cell = side_cell(entries, side, numbers, width, column)?;
+        row[column] = cell;
     }
     Some(())
 }
@@ -163,82 +178,98 @@ fn side_row(x: &mut [i128], system: &WholeSystem, a: &[i64], v: &[i64], i: usize
 pub fn last_values(
     values: &mut [Standing],
     _system: &WholeSystem,
-    c_1: &[i64],
-    c_2: &[i64],
+    firsts: &[i64],
+    seconds: &[i64],
     den: u128,
 ) -> Option<()>
     requires room { length values.old ≡ _system.now.width }
-    requires first_size { length c_1.now ≡ _system.now.width }
-    requires second_size { length c_2.now ≡ _system.now.width }
+    requires first_size { length firsts.now ≡ _system.now.width }
+    requires second_size { length seconds.now ≡ _system.now.width }
     requires some { 0 < den }
-    requires are { AreValues _system.now (last_position _system.now) den c_1.now c_2.now }
+    requires are { AreValues _system.now (last_position _system.now) den firsts.now seconds.now }
     ensures { IfSome result (λ _. IsValues _system.now (last_position _system.now) values.new) }
 {
-    point(values, c_1, c_2, den)
+    point(values, firsts, seconds, den)
 }
 
 /// The values of the unknowns at the last position of a run in 128 bits, in fractions.
 pub fn wide_last_values(
     values: &mut [Standing],
     _system: &WholeSystem,
-    c_1: &[i128],
-    c_2: &[i128],
+    firsts: &[i128],
+    seconds: &[i128],
     den: u128,
 ) -> Option<()>
     requires room { length values.old ≡ _system.now.width }
-    requires first_size { length c_1.now ≡ _system.now.width }
-    requires second_size { length c_2.now ≡ _system.now.width }
+    requires first_size { length firsts.now ≡ _system.now.width }
+    requires second_size { length seconds.now ≡ _system.now.width }
     requires some { 0 < den }
-    requires are { AreValues _system.now (last_position _system.now) den c_1.now c_2.now }
+    requires are { AreValues _system.now (last_position _system.now) den firsts.now seconds.now }
     ensures { IfSome result (λ _. IsValues _system.now (last_position _system.now) values.new) }
 {
-    wide_point(values, c_1, c_2, den)
+    wide_point(values, firsts, seconds, den)
 }
 
-/// The multipliers at the last position of a run, where the row of the side l refutes.
+/// The multipliers at the last position of a run, where the row of the side that leaves refutes.
 pub fn last_multipliers(
     list: &mut [Frac],
-    x: &mut [i128],
+    row: &mut [i128],
     system: &WholeSystem,
     numbers: &WholeNumbers,
     lists: &RunLists,
     den: u128,
-    l: usize,
+    leaving: usize,
 ) -> Option<()>
     requires list_room { length list.old ≡ height system.now }
-    requires row_room { length x.old ≡ system.now.width }
+    requires row_room { length row.old ≡ system.now.width }
     requires whole { IsWholeSystem system.now numbers.now.scales.now numbers.now.a.now numbers.now.b.now }
     requires seated { IsSeated (height system.now) system.now.width (count system.now) lists.now.seats.items }
     requires square { length lists.now.v.items ≡ system.now.width * system.now.width }
     requires form { IsForm system.now (count system.now) lists.now.seats.items numbers.now.scales.now den lists.now.v.items (last_position system.now) }
-    requires refuted { turn system.now (last_position system.now) ≡ is_refuted l }
-    ensures { IfSome result (λ _. IsMultipliers system.now (last_position system.now) l list.new) }
+    requires refuted { turn system.now (last_position system.now) ≡ is_refuted leaving }
+    ensures { IfSome result (λ _. IsMultipliers system.now (last_position system.now) leaving list.new) }
 {
-    let i = l - system.unknowns();
-    side_row(x, system, numbers.a, &lists.v, i)?;
-    multipliers(list, system, numbers.scales, &lists.seats, x, den, l)
+    let side = leaving - system.unknowns();
+    side_row(row, system, numbers.a, &lists.v, side)?;
+    multipliers(
+        list,
+        system,
+        numbers.scales,
+        &lists.seats,
+        row,
+        den,
+        leaving,
+    )
 }
 
-/// The multipliers at the last position of a run in 128 bits, where the row of the side l refutes.
+/// The multipliers at the last position of a run in 128 bits, where the row of the side that leaves refutes.
 pub fn wide_last_multipliers(
     list: &mut [Frac],
-    x: &mut [i128],
+    row: &mut [i128],
     system: &WholeSystem,
     numbers: &WholeNumbers,
     lists: &WideLists,
     den: u128,
-    l: usize,
+    leaving: usize,
 ) -> Option<()>
     requires list_room { length list.old ≡ height system.now }
-    requires row_room { length x.old ≡ system.now.width }
+    requires row_room { length row.old ≡ system.now.width }
     requires whole { IsWholeSystem system.now numbers.now.scales.now numbers.now.a.now numbers.now.b.now }
     requires seated { IsSeated (height system.now) system.now.width (count system.now) lists.now.seats.items }
     requires square { length lists.now.v.items ≡ system.now.width * system.now.width }
     requires form { IsForm system.now (count system.now) lists.now.seats.items numbers.now.scales.now den lists.now.v.items (last_position system.now) }
-    requires refuted { turn system.now (last_position system.now) ≡ is_refuted l }
-    ensures { IfSome result (λ _. IsMultipliers system.now (last_position system.now) l list.new) }
+    requires refuted { turn system.now (last_position system.now) ≡ is_refuted leaving }
+    ensures { IfSome result (λ _. IsMultipliers system.now (last_position system.now) leaving list.new) }
 {
-    let i = l - system.unknowns();
-    let divided = divided_side_row(x, system, numbers.a, &lists.v, i, den)?;
-    multipliers(list, system, numbers.scales, &lists.seats, x, divided.1, l)
+    let side = leaving - system.unknowns();
+    let divided = divided_side_row(row, system, numbers.a, &lists.v, side, den)?;
+    multipliers(
+        list,
+        system,
+        numbers.scales,
+        &lists.seats,
+        row,
+        divided.1,
+        leaving,
+    )
 }

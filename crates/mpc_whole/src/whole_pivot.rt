@@ -12,7 +12,7 @@ use mpc_quotients::{Divisor, changed, turned};
 fn new_number(
     old: i64,
     factor: i64,
-    x: i64,
+    number: i64,
     size: u64,
     enters: bool,
     by: Divisor,
@@ -23,74 +23,88 @@ fn new_number(
     requires most_small { most ≤ 2 ^ 62 }
     requires old_small { unsigned_abs old ≤ most }
     requires factor_small { unsigned_abs factor ≤ most }
-    requires x_small { unsigned_abs x ≤ 2 ^ 62 }
+    requires x_small { unsigned_abs number ≤ 2 ^ 62 }
     requires size_small { size ≤ 2 ^ 62 }
     ensures entering { IfSome result (λ z. IsTrue enters → z ≡ factor) }
-    ensures other { IfSome result (λ z. enters ≡ false → z *ℤ pos by.den ≡ (old *ℤ pos size) +ℤ neg_ℤ (factor *ℤ x)) }
+    ensures other { IfSome result (λ z. enters ≡ false → z *ℤ pos by.den ≡ (old *ℤ pos size) +ℤ neg_ℤ (factor *ℤ number)) }
     ensures small { IfSome result (λ z. unsigned_abs z ≤ most) }
 {
     if enters {
         return Some(factor);
     }
-    changed(old, factor, x, size, by, most)
+    changed(old, factor, number, size, by, most)
 }
 
-/// Changes row j, where the row x leaves and the column e enters. A bound of the numbers of the rows before
-/// becomes one of those of this row too.
+/// Changes the row of an unknown, where a row leaves and the pivot column enters. A bound of the numbers of the rows
+/// before becomes one of those of this row too.
 fn change_row(
-    v: &mut [i64],
-    x: &[i64],
-    j: usize,
-    e: usize,
+    numbers: &mut [i64],
+    row: &[i64],
+    unknown: usize,
+    pivot_column: usize,
     by: Divisor,
     most: u64,
     before: u64,
 ) -> Option<u64>
-    requires square { length v.old ≡ length x.now * length x.now }
-    requires row { j < length x.now }
-    requires column { e < length x.now }
+    requires square { length numbers.old ≡ length row.now * length row.now }
+    requires row { unknown < length row.now }
+    requires column { pivot_column < length row.now }
     requires den_some { 0 < by.den }
     requires den_small { by.den ≤ 2 ^ 62 }
     requires most_small { most ≤ 2 ^ 62 }
-    requires small { IsSmall most v.old }
-    requires row_small { IsSmall (2 ^ 62) x.now }
-    requires before { (k : ℕ) → k < j * length x.now → unsigned_abs (whole_at v.old k) ≤ before }
-    ensures cells { IfSome result (λ _. (c : ℕ) → c < length x.now → IsChanged (length x.now) by.den by.den v.old x.now j e c (whole_cell (length x.now) v.new j c)) }
-    ensures others { IfSome result (λ _. (k : ℕ) → (k < j * length x.now) ⊎ (j * length x.now + length x.now ≤ k) → whole_at v.new k ≡ whole_at v.old k) }
-    ensures small { IfSome result (λ _. IsSmall most v.new) }
-    ensures own { IfSome result (λ own. (k : ℕ) → k < j * length x.now + length x.now → unsigned_abs (whole_at v.new k) ≤ own) }
+    requires small { IsSmall most numbers.old }
+    requires row_small { IsSmall (2 ^ 62) row.now }
+    requires before { (index : ℕ) → index < unknown * length row.now → unsigned_abs (whole_at numbers.old index) ≤ before }
+    ensures cells { IfSome result (λ _. (column : ℕ) → column < length row.now → IsChanged (length row.now) by.den by.den numbers.old row.now unknown pivot_column column (whole_cell (length row.now) numbers.new unknown column)) }
+    ensures others { IfSome result (λ _. (index : ℕ) → (index < unknown * length row.now) ⊎ (unknown * length row.now + length row.now ≤ index) → whole_at numbers.new index ≡ whole_at numbers.old index) }
+    ensures small { IfSome result (λ _. IsSmall most numbers.new) }
+    ensures own { IfSome result (λ own. (index : ℕ) → index < unknown * length row.now + length row.now → unsigned_abs (whole_at numbers.new index) ≤ own) }
 {
-    let pivot = x[e];
-    let from = j * x.len();
-    let factor = turned(pivot, v[from + e]);
+    let pivot = row[pivot_column];
+    let from = unknown * row.len();
+    let factor = turned(pivot, numbers[from + pivot_column]);
     let size = pivot.unsigned_abs();
     let mut own = before;
-    for c in 0..x.len() {
-        let old = v[from + c];
-        let new = new_number(old, factor, x[c], size, c == e, by, most)?;
-        v[from + c] = new;
+    for column in 0..row.len() {
+        let old = numbers[from + column];
+        let new = new_number(
+            old,
+            factor,
+            row[column],
+            size,
+            column == pivot_column,
+            by,
+            most,
+        )?;
+        numbers[from + column] = new;
         own = own.max(new.unsigned_abs());
     }
     Some(own)
 }
 
-/// The pivot where the row x leaves and the column e enters, if all numbers are whole and small. It gives the
-/// greatest size of a number after it.
-pub(crate) fn exchange(v: &mut [i64], x: &[i64], e: usize, by: Divisor, most: u64) -> Option<u64>
-    requires square { length v.old ≡ length x.now * length x.now }
-    requires column { e < length x.now }
+/// The pivot where a row leaves and the pivot column enters, if all numbers are whole and small. It gives the greatest
+/// size of a number after it.
+pub(crate) fn exchange(
+    numbers: &mut [i64],
+    row: &[i64],
+    pivot_column: usize,
+    by: Divisor,
+    most: u64,
+) -> Option<u64>
+    requires square { length numbers.old ≡ length row.now * length row.now }
+    requires column { pivot_column < length row.now }
     requires den_some { 0 < by.den }
     requires den_small { by.den ≤ 2 ^ 62 }
     requires most_small { most ≤ 2 ^ 62 }
-    requires small { IsSmall most v.old }
-    requires row_small { IsSmall (2 ^ 62) x.now }
-    ensures pivot { IfSome result (λ _. IsWholePivot (length x.now) by.den v.old v.new x.now e) }
-    ensures small { IfSome result (λ _. IsSmall most v.new) }
-    ensures own { IfSome result (λ own. IsSmall own v.new) }
+    requires small { IsSmall most numbers.old }
+    requires row_small { IsSmall (2 ^ 62) row.now }
+    ensures pivot { IfSome result (λ _. IsWholePivot (length row.now) by.den numbers.old numbers.new row.now pivot_column) }
+    ensures small { IfSome result (λ _. IsSmall most numbers.new) }
+    ensures own { IfSome result (λ own. IsSmall own numbers.new) }
 {
     let mut own = 0;
-    for j in 0..x.len() {
-        own = change_row(v, x, j, e, by, most, own)?;
+    for unknown in 0..row.len() {
+        own = change_row(numbers, row, unknown, pivot_column, by, most, own)?;
     }
     Some(own)
 }

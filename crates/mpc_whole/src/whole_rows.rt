@@ -21,7 +21,7 @@ fn share(factor: u128) -> Option<u64>
 /// What the numbers of a position may have, if there is room for any.
 pub fn limit(
     width: usize,
-    n: usize,
+    count: usize,
     most_entry: u64,
     most_side: u64,
     most_scale: u64,
@@ -30,9 +30,9 @@ pub fn limit(
     ensures room { IfSome result (λ m. (width * (most_entry * m)) * most_scale ≤ 2 ^ 62) }
     ensures some { IfSome result (λ m. 1 ≤ m) }
     ensures top { IfSome result (λ m. m * most_scale ≤ 2 ^ 62) }
-    ensures side_room { IfSome result (λ _. n * most_side ≤ 2 ^ 62) }
+    ensures side_room { IfSome result (λ _. count * most_side ≤ 2 ^ 62) }
 {
-    let sides = n as u128 * most_side as u128;
+    let sides = count as u128 * most_side as u128;
     if sides > 1 << 62 {
         return None;
     }
@@ -44,13 +44,13 @@ pub fn limit(
 }
 
 /// Writes 1 onto the diagonal.
-pub fn put_units(v: &mut [i64], width: usize)
-    requires square { length v.old ≡ width * width }
-    requires zeros { (k : ℕ) → whole_at v.old k ≡ pos 0 }
-    ensures unit { IsUnit width v.new }
-    ensures small { IsSmall 1 v.new }
+pub fn put_units(numbers: &mut [i64], width: usize)
+    requires square { length numbers.old ≡ width * width }
+    requires zeros { (k : ℕ) → whole_at numbers.old k ≡ pos 0 }
+    ensures unit { IsUnit width numbers.new }
+    ensures small { IsSmall 1 numbers.new }
 {
-    for i in 0..width {
-        v[i * width + i] = 1;
+    for index in 0..width {
+        numbers[index * width + index] = 1;
     }
 }

@@ -22,36 +22,36 @@ use mpc_quotients::{Sums, row_times, row_times_column};
 use mpc_runs::{Seat, is_basic};
 use mpc_scaled::{WholeSystem, product, signed};
 
-/// Whether the value of side i is above its bound.
+/// Whether the value of a side is above its bound.
 #[inline(always)]
 fn is_out(
     system: &WholeSystem,
     frame: &Frame,
-    c_1: &[i64],
-    c_2: &[i64],
+    firsts: &[i64],
+    seconds: &[i64],
     den: u64,
     sums: Sums,
-    i: usize,
+    side: usize,
 ) -> bool
-    requires side { i < height system.now }
-    requires numbers { HasNumbers system.now frame.now.n frame.now.scales.now frame.now.a.now frame.now.b.now }
-    requires parts { AreParts system.now.width c_1.now c_2.now }
-    requires short { are_short sums ≡ true → AreShort system.now.width frame.now.a.now c_1.now c_2.now }
+    requires side { side < height system.now }
+    requires numbers { HasNumbers system.now frame.now.count frame.now.scales.now frame.now.a.now frame.now.b.now }
+    requires parts { AreParts system.now.width firsts.now seconds.now }
+    requires short { are_short sums ≡ true → AreShort system.now.width frame.now.a.now firsts.now seconds.now }
     requires four { are_of_four sums ≡ true → system.now.width ≡ 4 }
     requires den_small { den ≤ 2 ^ 62 }
-    ensures { (p : Position) → 0 < den → HasSideValues system.now frame.now.scales.now frame.now.a.now p den c_1.now c_2.now → HasSides system.now frame.now.scales.now frame.now.b.now
-        → result ≡ is_below (bound system.now (system.now.width + i)) (value system.now p (system.now.width + i)) }
+    ensures { (p : Position) → 0 < den → HasSideValues system.now frame.now.scales.now frame.now.a.now p den firsts.now seconds.now → HasSides system.now frame.now.scales.now frame.now.b.now
+        → result ≡ is_below (bound system.now (system.now.width + side)) (value system.now p (system.now.width + side)) }
 {
-    let first = row_times(frame.a, i, c_1, sums);
-    let limit = product(frame.b[i], signed(den));
+    let first = row_times(frame.a, side, firsts, sums);
+    let limit = product(frame.b[side], signed(den));
     if limit < first {
         return true;
     }
     if first < limit {
         return false;
     }
-    let second = row_times(frame.a, i, c_2, sums);
-    let step = step_of(system, frame.scales, i);
+    let second = row_times(frame.a, side, seconds, sums);
+    let step = step_of(system, frame.scales, side);
     let next = product(step, signed(den));
     if next < second {
         return true;
@@ -63,8 +63,8 @@ fn is_out(
 fn is_within(list: &[i64], most: u64) -> bool
     ensures { IsTrue result → IsSmall most list.now }
 {
-    for j in 0..list.len() {
-        if list[j].unsigned_abs() > most {
+    for index in 0..list.len() {
+        if list[index].unsigned_abs() > most {
             return false;
         }
     }
@@ -72,11 +72,11 @@ fn is_within(list: &[i64], most: u64) -> bool
 }
 
 /// Whether all numbers of both lists are at most so great in size.
-fn are_small(c_1: &[i64], c_2: &[i64], most: u64) -> bool
-    ensures first { IsTrue result → IsSmall most c_1.now }
-    ensures second { IsTrue result → IsSmall most c_2.now }
+fn are_small(firsts: &[i64], seconds: &[i64], most: u64) -> bool
+    ensures first { IsTrue result → IsSmall most firsts.now }
+    ensures second { IsTrue result → IsSmall most seconds.now }
 {
-    is_within(c_1, most) && is_within(c_2, most)
+    is_within(firsts, most) && is_within(seconds, most)
 }
 
 /// The variable that leaves, from the first on that may, where the values of the sides are summed up so.
@@ -85,28 +85,36 @@ pub(crate) fn first_out(
     system: &WholeSystem,
     frame: &Frame,
     seats: &[Seat],
-    c_1: &[i64],
-    c_2: &[i64],
+    firsts: &[i64],
+    seconds: &[i64],
     place: Place,
     sums: Sums,
 ) -> Option<usize>
     requires side { system.now.width ≤ place.first }
-    requires numbers { HasNumbers system.now frame.now.n frame.now.scales.now frame.now.a.now frame.now.b.now }
-    requires seated { IsSeated (height system.now) system.now.width frame.now.n seats.now }
-    requires parts { AreParts system.now.width c_1.now c_2.now }
-    requires short { are_short sums ≡ true → AreShort system.now.width frame.now.a.now c_1.now c_2.now }
+    requires numbers { HasNumbers system.now frame.now.count frame.now.scales.now frame.now.a.now frame.now.b.now }
+    requires seated { IsSeated (height system.now) system.now.width frame.now.count seats.now }
+    requires parts { AreParts system.now.width firsts.now seconds.now }
+    requires short { are_short sums ≡ true → AreShort system.now.width frame.now.a.now firsts.now seconds.now }
     requires four { are_of_four sums ≡ true → system.now.width ≡ 4 }
     requires den_small { place.den ≤ 2 ^ 62 }
-    ensures { (p : Position) → 0 < place.den → HasBasis frame.now.n seats.now p → HasSideValues system.now frame.now.scales.now frame.now.a.now p place.den c_1.now c_2.now → HasSides system.now frame.now.scales.now frame.now.b.now
-        → StayBefore system.now p place.first → result ≡ least (may_leave system.now p) frame.now.n }
+    ensures { (p : Position) → 0 < place.den → HasBasis frame.now.count seats.now p → HasSideValues system.now frame.now.scales.now frame.now.a.now p place.den firsts.now seconds.now → HasSides system.now frame.now.scales.now frame.now.b.now
+        → StayBefore system.now p place.first → result ≡ least (may_leave system.now p) frame.now.count }
 {
     let width = system.unknowns();
-    for x in place.first..frame.n {
-        if !is_basic(seats, x) {
+    for variable in place.first..frame.count {
+        if !is_basic(seats, variable) {
             continue;
         }
-        if is_out(system, frame, c_1, c_2, place.den, sums, x - width) {
-            return Some(x);
+        if is_out(
+            system,
+            frame,
+            firsts,
+            seconds,
+            place.den,
+            sums,
+            variable - width,
+        ) {
+            return Some(variable);
         }
     }
     None
@@ -119,90 +127,96 @@ pub(crate) fn leaving(
     system: &WholeSystem,
     frame: &Frame,
     seats: &[Seat],
-    c_1: &[i64],
-    c_2: &[i64],
+    firsts: &[i64],
+    seconds: &[i64],
     place: Place,
 ) -> Option<usize>
     requires side { system.now.width ≤ place.first }
-    requires frame { IsFrame system.now frame.now.n frame.now.scales.now frame.now.a.now frame.now.b.now frame.now.most }
-    requires seated { IsSeated (height system.now) system.now.width frame.now.n seats.now }
-    requires parts { AreParts system.now.width c_1.now c_2.now }
+    requires frame { IsFrame system.now frame.now.count frame.now.scales.now frame.now.a.now frame.now.b.now frame.now.most }
+    requires seated { IsSeated (height system.now) system.now.width frame.now.count seats.now }
+    requires parts { AreParts system.now.width firsts.now seconds.now }
     requires den_small { place.den ≤ 2 ^ 62 }
-    ensures { (p : Position) → 0 < place.den → HasBasis frame.now.n seats.now p → HasSideValues system.now frame.now.scales.now frame.now.a.now p place.den c_1.now c_2.now → HasSides system.now frame.now.scales.now frame.now.b.now
-        → StayBefore system.now p place.first → result ≡ least (may_leave system.now p) frame.now.n }
+    ensures { (p : Position) → 0 < place.den → HasBasis frame.now.count seats.now p → HasSideValues system.now frame.now.scales.now frame.now.a.now p place.den firsts.now seconds.now → HasSides system.now frame.now.scales.now frame.now.b.now
+        → StayBefore system.now p place.first → result ≡ least (may_leave system.now p) frame.now.count }
 {
-    if !are_small(c_1, c_2, frame.most) {
-        return first_out(system, frame, seats, c_1, c_2, place, Sums::Wide);
+    if !are_small(firsts, seconds, frame.most) {
+        return first_out(system, frame, seats, firsts, seconds, place, Sums::Wide);
     }
     if system.unknowns() == 4 {
-        return first_out(system, frame, seats, c_1, c_2, place, Sums::Four);
+        return first_out(system, frame, seats, firsts, seconds, place, Sums::Four);
     }
-    first_out(system, frame, seats, c_1, c_2, place, Sums::Short)
+    first_out(system, frame, seats, firsts, seconds, place, Sums::Short)
 }
 
-/// The row of side i.
-fn side_row(x: &mut [i64], system: &WholeSystem, a: &[i64], v: &[i64], i: usize)
-    requires side { i < height system.now }
-    requires entries { length a.now ≡ height system.now * system.now.width }
-    requires square { length v.now ≡ system.now.width * system.now.width }
-    requires row_room { length x.old ≡ system.now.width }
-    requires row_small { (c : ℕ) → c < system.now.width → unsigned_abs (whole_total system.now.width (λ j. whole_cell system.now.width a.now i j *ℤ whole_cell system.now.width v.now j c)) ≤ 2 ^ 62 }
-    ensures cells { (c : ℕ) → c < system.now.width → whole_at x.new c ≡ whole_total system.now.width (λ j. whole_cell system.now.width a.now i j *ℤ whole_cell system.now.width v.now j c) }
+/// The row of a side.
+fn side_row(row: &mut [i64], system: &WholeSystem, entries: &[i64], numbers: &[i64], side: usize)
+    requires side { side < height system.now }
+    requires entries { length entries.now ≡ height system.now * system.now.width }
+    requires square { length numbers.now ≡ system.now.width * system.now.width }
+    requires row_room { length row.old ≡ system.now.width }
+    requires row_small { (column : ℕ) → column < system.now.width → unsigned_abs (whole_total system.now.width (λ unknown. whole_cell system.now.width entries.now side unknown *ℤ whole_cell system.now.width numbers.now unknown column)) ≤ 2 ^ 62 }
+    ensures cells { (column : ℕ) → column < system.now.width → whole_at row.new column ≡ whole_total system.now.width (λ unknown. whole_cell system.now.width entries.now side unknown *ℤ whole_cell system.now.width numbers.now unknown column) }
 {
     let width = system.unknowns();
-    for c in 0..width {
-        x[c] = row_times_column(a, i, v, width, c);
+    for column in 0..width {
+        row[column] = row_times_column(entries, side, numbers, width, column);
     }
 }
 
-/// The row of the variable l, which is a side.
-pub(crate) fn leaving_row(x: &mut [i64], system: &WholeSystem, a: &[i64], v: &[i64], l: usize)
-    requires from { system.now.width ≤ l }
-    requires side { l - system.now.width < height system.now }
-    requires entries { length a.now ≡ height system.now * system.now.width }
-    requires square { length v.now ≡ system.now.width * system.now.width }
-    requires row_size { length x.old ≡ system.now.width }
-    requires row_small { (c : ℕ) → c < system.now.width → unsigned_abs (side_cell system.now a.now v.now (l - system.now.width) c) ≤ 2 ^ 62 }
-    ensures row { IsSideRow system.now a.now v.now (l - system.now.width) x.new }
-    ensures small { IsSmall (2 ^ 62) x.new }
+/// The row of the variable that leaves, which is a side.
+pub(crate) fn leaving_row(
+    row: &mut [i64],
+    system: &WholeSystem,
+    entries: &[i64],
+    numbers: &[i64],
+    leaving: usize,
+)
+    requires from { system.now.width ≤ leaving }
+    requires side { leaving - system.now.width < height system.now }
+    requires entries { length entries.now ≡ height system.now * system.now.width }
+    requires square { length numbers.now ≡ system.now.width * system.now.width }
+    requires row_size { length row.old ≡ system.now.width }
+    requires row_small { (column : ℕ) → column < system.now.width → unsigned_abs (side_cell system.now entries.now numbers.now (leaving - system.now.width) column) ≤ 2 ^ 62 }
+    ensures row { IsSideRow system.now entries.now numbers.now (leaving - system.now.width) row.new }
+    ensures small { IsSmall (2 ^ 62) row.new }
 {
-    side_row(x, system, a, v, l - system.unknowns());
+    side_row(row, system, entries, numbers, leaving - system.unknowns());
 }
 
-/// Whether the variable y of column c may enter, by the row x of the variable that leaves: an unknown if its
-/// coefficient isn't 0, a side if it is positive.
-fn enters(system: &WholeSystem, x: &[i64], c: usize, y: usize) -> bool
-    requires column { c < length x.now }
-    requires row_small { IsSmall (2 ^ 62) x.now }
-    ensures { (n : ℕ) (seats : List Seat) (p : Position) (k : List ℕ) (l d : ℕ) → 0 < d → y < n → seat_at seats y ≡ Column c → HasBasis n seats p → IsRowOf n seats k p d l x.now → result ≡ may_enter system.now p l y }
+/// Whether the variable of a column may enter, by the row of the variable that leaves: an unknown if its coefficient
+/// isn't 0, a side if it is positive.
+fn enters(system: &WholeSystem, row: &[i64], column: usize, variable: usize) -> bool
+    requires column { column < length row.now }
+    requires row_small { IsSmall (2 ^ 62) row.now }
+    ensures { (n : ℕ) (seats : List Seat) (p : Position) (k : List ℕ) (l d : ℕ) → 0 < d → variable < n → seat_at seats variable ≡ Column column → HasBasis n seats p → IsRowOf n seats k p d l row.now → result ≡ may_enter system.now p l variable }
 {
-    if 0 < x[c] {
+    if 0 < row[column] {
         return true;
     }
-    if x[c] == 0 {
+    if row[column] == 0 {
         return false;
     }
-    y < system.unknowns()
+    variable < system.unknowns()
 }
 
-/// The variable that enters, by the row x of the variable that leaves: the first of those in the columns that may.
+/// The variable that enters, by the row of the variable that leaves: the first of those in the columns that may.
 pub(crate) fn entering(
     system: &WholeSystem,
     nonbasic: &[usize],
-    x: &[i64],
-    n: usize,
+    row: &[i64],
+    count: usize,
 ) -> Option<usize>
     requires columns { length nonbasic.now ≡ system.now.width }
-    requires row_size { length x.now ≡ system.now.width }
-    requires row_small { IsSmall (2 ^ 62) x.now }
-    ensures { (seats : List Seat) (p : Position) (k : List ℕ) (l d : ℕ) → IsSeated (height system.now) system.now.width n seats → AreNonbasic system.now.width seats nonbasic.now → 0 < d → HasBasis n seats p → IsRowOf n seats k p d l x.now → result ≡ least (may_enter system.now p l) n }
+    requires row_size { length row.now ≡ system.now.width }
+    requires row_small { IsSmall (2 ^ 62) row.now }
+    ensures { (seats : List Seat) (p : Position) (k : List ℕ) (l d : ℕ) → IsSeated (height system.now) system.now.width count seats → AreNonbasic system.now.width seats nonbasic.now → 0 < d → HasBasis count seats p → IsRowOf count seats k p d l row.now → result ≡ least (may_enter system.now p l) count }
 {
-    let mut first = n;
-    for c in 0..system.unknowns() {
-        let y = nonbasic[c];
-        if y < first && enters(system, x, c, y) {
-            first = y;
+    let mut first = count;
+    for column in 0..system.unknowns() {
+        let variable = nonbasic[column];
+        if variable < first && enters(system, row, column, variable) {
+            first = variable;
         }
     }
-    if first < n { Some(first) } else { None }
+    if first < count { Some(first) } else { None }
 }

@@ -19,8 +19,8 @@ use mpc_scaled::{WholeSystem, negative, product, signed};
 pub fn clear(list: &mut [i64])
     ensures { (k : ℕ) → whole_at list.new k ≡ pos 0 }
 {
-    for j in 0..list.len() {
-        list[j] = 0;
+    for index in 0..list.len() {
+        list[index] = 0;
     }
 }
 
@@ -28,68 +28,68 @@ pub fn clear(list: &mut [i64])
 fn are_zero(list: &[i64]) -> bool
     ensures { IsTrue result → (k : ℕ) → whole_at list.now k ≡ pos 0 }
 {
-    for j in 0..list.len() {
-        if list[j] != 0 {
+    for index in 0..list.len() {
+        if list[index] != 0 {
             return false;
         }
     }
     true
 }
 
-/// The second part of the bound of side i, times the scale of its row: minus the scale where the row is strict.
+/// The second part of the bound of a side, times the scale of its row: minus the scale where the row is strict.
 #[inline]
-pub(crate) fn step_of(system: &WholeSystem, scales: &[u64], i: usize) -> i64
-    requires side { i < height system.now }
+pub(crate) fn step_of(system: &WholeSystem, scales: &[u64], side: usize) -> i64
+    requires side { side < height system.now }
     requires scales { AreScales system.now scales.now }
-    ensures value { (bound system.now (system.now.width + i)).second ≡ frac result (scale_at scales.now (system.now.width + i)) }
+    ensures value { (bound system.now (system.now.width + side)).second ≡ frac result (scale_at scales.now (system.now.width + side)) }
     ensures small { unsigned_abs result ≤ 2 ^ 40 }
 {
-    if system.is_strict(i) {
-        return minus(scales[system.unknowns() + i]);
+    if system.is_strict(side) {
+        return minus(scales[system.unknowns() + side]);
     }
     0
 }
 
-/// A pivot: side i has left, and the variable of column e entered. The denominator before it is the divisor, and the
+/// A pivot: a side has left, and the variable of a column entered. The denominator before it is the divisor, and the
 /// one after it the size.
 #[derive(Clone, Copy, Drop)]
 pub(crate) struct Pivot {
-    pub i: usize,
-    pub e: usize,
+    pub side: usize,
+    pub column: usize,
     pub by: Divisor,
     pub size: u64,
 }
 
-/// Both parts of the value of the unknown j, where they are small. The sums on the way need not be.
+/// Both parts of the value of an unknown, where they are small. The sums on the way need not be.
 fn value_of(
     system: &WholeSystem,
     frame: &Frame,
     nonbasic: &[usize],
-    v: &[i64],
-    j: usize,
+    numbers: &[i64],
+    unknown: usize,
 ) -> Option<(i64, i64)>
-    requires numbers { HasNumbers system.now frame.now.n frame.now.scales.now frame.now.a.now frame.now.b.now }
+    requires numbers { HasNumbers system.now frame.now.count frame.now.scales.now frame.now.a.now frame.now.b.now }
     requires columns { length nonbasic.now ≡ system.now.width }
-    requires below { (c : ℕ) → c < system.now.width → variable_at nonbasic.now c < frame.now.n }
-    requires square { length v.now ≡ system.now.width * system.now.width }
-    requires unknown { j < system.now.width }
-    ensures value { IfSome result (λ z. IsValueAt system.now frame.now.n frame.now.scales.now frame.now.b.now nonbasic.now v.now j z.0 z.1) }
+    requires below { (column : ℕ) → column < system.now.width → variable_at nonbasic.now column < frame.now.count }
+    requires square { length numbers.now ≡ system.now.width * system.now.width }
+    requires unknown { unknown < system.now.width }
+    ensures value { IfSome result (λ z. IsValueAt system.now frame.now.count frame.now.scales.now frame.now.b.now nonbasic.now numbers.now unknown z.0 z.1) }
     ensures first_small { IfSome result (λ z. unsigned_abs z.0 ≤ 2 ^ 62) }
     ensures second_small { IfSome result (λ z. unsigned_abs z.1 ≤ 2 ^ 62) }
 {
     let width = system.unknowns();
-    let from = j * width;
+    let from = unknown * width;
     let mut first: i128 = 0;
     let mut second: i128 = 0;
-    for c in 0..width {
-        let y = nonbasic[c];
-        if y < width {
+    for column in 0..width {
+        let variable = nonbasic[column];
+        if variable < width {
             continue;
         }
-        let i = y - width;
-        let factor = v[from + c];
-        let step = step_of(system, frame.scales, i);
-        first = first.checked_add(product(factor, frame.b[i]))?;
+        let side = variable - width;
+        let factor = numbers[from + column];
+        let step = step_of(system, frame.scales, side);
+        first = first.checked_add(product(factor, frame.b[side]))?;
         second = second.checked_add(product(factor, step))?;
     }
     Some((small(first)?, small(second)?))
@@ -97,113 +97,119 @@ fn value_of(
 
 /// The values of the unknowns, where they are small.
 pub(crate) fn stand(
-    c_1: &mut [i64],
-    c_2: &mut [i64],
+    firsts: &mut [i64],
+    seconds: &mut [i64],
     system: &WholeSystem,
     frame: &Frame,
     nonbasic: &[usize],
-    v: &[i64],
+    numbers: &[i64],
 ) -> Option<()>
-    requires numbers { HasNumbers system.now frame.now.n frame.now.scales.now frame.now.a.now frame.now.b.now }
+    requires numbers { HasNumbers system.now frame.now.count frame.now.scales.now frame.now.a.now frame.now.b.now }
     requires columns { length nonbasic.now ≡ system.now.width }
-    requires below { (c : ℕ) → c < system.now.width → variable_at nonbasic.now c < frame.now.n }
-    requires square { length v.now ≡ system.now.width * system.now.width }
-    requires first_room { length c_1.old ≡ system.now.width }
-    requires second_room { length c_2.old ≡ system.now.width }
-    ensures values { IfSome result (λ _. (seats : List Seat) → IsSeated (height system.now) system.now.width frame.now.n seats → AreNonbasic system.now.width seats nonbasic.now
-        → AreFormed system.now frame.now.n seats frame.now.scales.now frame.now.b.now v.now c_1.new c_2.new) }
-    ensures parts { IfSome result (λ _. AreParts system.now.width c_1.new c_2.new) }
+    requires below { (column : ℕ) → column < system.now.width → variable_at nonbasic.now column < frame.now.count }
+    requires square { length numbers.now ≡ system.now.width * system.now.width }
+    requires first_room { length firsts.old ≡ system.now.width }
+    requires second_room { length seconds.old ≡ system.now.width }
+    ensures values { IfSome result (λ _. (seats : List Seat) → IsSeated (height system.now) system.now.width frame.now.count seats → AreNonbasic system.now.width seats nonbasic.now
+        → AreFormed system.now frame.now.count seats frame.now.scales.now frame.now.b.now numbers.now firsts.new seconds.new) }
+    ensures parts { IfSome result (λ _. AreParts system.now.width firsts.new seconds.new) }
 {
-    for j in 0..system.unknowns() {
-        let (first, second) = value_of(system, frame, nonbasic, v, j)?;
-        c_1[j] = first;
-        c_2[j] = second;
+    for unknown in 0..system.unknowns() {
+        let (first, second) = value_of(system, frame, nonbasic, numbers, unknown)?;
+        firsts[unknown] = first;
+        seconds[unknown] = second;
     }
     Some(())
 }
 
-/// By how much the value of side i is above its bound, over the denominator and the scale of its row, where
-/// that number is small.
-fn excess(a: &[i64], i: usize, c: &[i64], limit: i64, den: u64) -> Option<i64>
-    requires inside { i * length c.now + length c.now ≤ length a.now }
-    requires room { HasRoom (length c.now) (2 ^ 62) a.now }
-    requires small { IsSmall (2 ^ 62) c.now }
+/// By how much the value of a side is above its bound, over the denominator and the scale of its row, where that number
+/// is small.
+fn excess(entries: &[i64], side: usize, values: &[i64], limit: i64, den: u64) -> Option<i64>
+    requires inside { side * length values.now + length values.now ≤ length entries.now }
+    requires room { HasRoom (length values.now) (2 ^ 62) entries.now }
+    requires small { IsSmall (2 ^ 62) values.now }
     requires den_small { den ≤ 2 ^ 62 }
-    ensures value { IfSome result (λ z. z ≡ excess (length c.now) a.now i limit den c.now) }
+    ensures value { IfSome result (λ z. z ≡ excess (length values.now) entries.now side limit den values.now) }
     ensures small { IfSome result (λ z. unsigned_abs z ≤ 2 ^ 62) }
 {
     let at_bound = product(limit, negative(signed(den)));
-    let over = sum(wide_row_times(a, i, c), at_bound);
+    let over = sum(wide_row_times(entries, side, values), at_bound);
     small(over)
 }
 
-/// Moves one part of the values with a pivot, with the bound of the side that is given in that part, if all numbers
-/// are whole and small. The numbers v are those after the pivot.
-/// Where all of them and the bound are 0 they stay so, as the second parts do while no strict row has left.
-fn move_part(c: &mut [i64], a: &[i64], limit: i64, v: &[i64], pivot: Pivot) -> Option<()>
-    requires pivot { IsPivot (length c.old) a.now v.now pivot.i pivot.e pivot.by.den pivot.size }
-    requires small { IsSmall (2 ^ 62) c.old }
-    ensures moved { IfSome result (λ _. IsMoved (length c.old) a.now pivot.i limit v.now pivot.e pivot.by.den pivot.size c.old c.new) }
-    ensures small { IfSome result (λ _. IsSmall (2 ^ 62) c.new) }
+/// Moves one part of the values with a pivot, with the bound of the side that is given in that part, if all numbers are
+/// whole and small. The numbers are those after the pivot. Where all of them and the bound are 0 they stay so, as the
+/// second parts do while no strict row has left.
+fn move_part(
+    values: &mut [i64],
+    entries: &[i64],
+    limit: i64,
+    numbers: &[i64],
+    pivot: Pivot,
+) -> Option<()>
+    requires pivot { IsPivot (length values.old) entries.now numbers.now pivot.side pivot.column pivot.by.den pivot.size }
+    requires small { IsSmall (2 ^ 62) values.old }
+    ensures moved { IfSome result (λ _. IsMoved (length values.old) entries.now pivot.side limit numbers.now pivot.column pivot.by.den pivot.size values.old values.new) }
+    ensures small { IfSome result (λ _. IsSmall (2 ^ 62) values.new) }
 {
-    if limit == 0 && are_zero(c) {
+    if limit == 0 && are_zero(values) {
         return Some(());
     }
-    let over = excess(a, pivot.i, c, limit, pivot.by.den)?;
-    let width = c.len();
-    for j in 0..width {
-        let factor = v[j * width + pivot.e];
-        let new = changed(c[j], factor, over, pivot.size, pivot.by, 1 << 62)?;
-        c[j] = new;
+    let over = excess(entries, pivot.side, values, limit, pivot.by.den)?;
+    let width = values.len();
+    for unknown in 0..width {
+        let factor = numbers[unknown * width + pivot.column];
+        let new = changed(values[unknown], factor, over, pivot.size, pivot.by, 1 << 62)?;
+        values[unknown] = new;
     }
     Some(())
 }
 
-/// Moves the values with a pivot, with the bound of the side, if all numbers are whole and small. The numbers v are
-/// those after the pivot.
+/// Moves the values with a pivot, with the bound of the side, if all numbers are whole and small. The numbers are those
+/// after the pivot.
 fn move_values(
-    c_1: &mut [i64],
-    c_2: &mut [i64],
-    a: &[i64],
+    firsts: &mut [i64],
+    seconds: &mut [i64],
+    entries: &[i64],
     limit: i64,
     step: i64,
-    v: &[i64],
+    numbers: &[i64],
     pivot: Pivot,
 ) -> Option<()>
-    requires pivot { IsPivot (length c_1.old) a.now v.now pivot.i pivot.e pivot.by.den pivot.size }
-    requires parts { AreParts (length c_1.old) c_1.old c_2.old }
-    ensures moved { IfSome result (λ _. AreMoved (length c_1.old) a.now pivot.i limit step v.now pivot.e pivot.by.den pivot.size c_1.old c_2.old c_1.new c_2.new) }
-    ensures parts { IfSome result (λ _. AreParts (length c_1.old) c_1.new c_2.new) }
+    requires pivot { IsPivot (length firsts.old) entries.now numbers.now pivot.side pivot.column pivot.by.den pivot.size }
+    requires parts { AreParts (length firsts.old) firsts.old seconds.old }
+    ensures moved { IfSome result (λ _. AreMoved (length firsts.old) entries.now pivot.side limit step numbers.now pivot.column pivot.by.den pivot.size firsts.old seconds.old firsts.new seconds.new) }
+    ensures parts { IfSome result (λ _. AreParts (length firsts.old) firsts.new seconds.new) }
 {
-    move_part(c_1, a, limit, v, pivot)?;
-    move_part(c_2, a, step, v, pivot)
+    move_part(firsts, entries, limit, numbers, pivot)?;
+    move_part(seconds, entries, step, numbers, pivot)
 }
 
 /// The values of the unknowns after a pivot: moved from those before it, or formed anew where a number isn't whole and
 /// small.
 pub(crate) fn follow(
-    c_1: &mut [i64],
-    c_2: &mut [i64],
+    firsts: &mut [i64],
+    seconds: &mut [i64],
     system: &WholeSystem,
     frame: &Frame,
     nonbasic: &[usize],
-    v: &[i64],
+    numbers: &[i64],
     pivot: Pivot,
 ) -> Option<()>
-    requires numbers { HasNumbers system.now frame.now.n frame.now.scales.now frame.now.a.now frame.now.b.now }
+    requires numbers { HasNumbers system.now frame.now.count frame.now.scales.now frame.now.a.now frame.now.b.now }
     requires columns { length nonbasic.now ≡ system.now.width }
-    requires below { (c : ℕ) → c < system.now.width → variable_at nonbasic.now c < frame.now.n }
-    requires side { pivot.i < height system.now }
-    requires pivot { IsPivot system.now.width frame.now.a.now v.now pivot.i pivot.e pivot.by.den pivot.size }
-    requires parts { AreParts system.now.width c_1.old c_2.old }
-    ensures values { IfSome result (λ _. (seats : List Seat) → IsSeated (height system.now) system.now.width frame.now.n seats → AreNonbasic system.now.width seats nonbasic.now
-        → AreFollowed system.now frame.now.n seats frame.now.scales.now frame.now.a.now frame.now.b.now v.now pivot.i pivot.e pivot.by.den pivot.size c_1.old c_2.old c_1.new c_2.new) }
-    ensures parts { IfSome result (λ _. AreParts system.now.width c_1.new c_2.new) }
+    requires below { (column : ℕ) → column < system.now.width → variable_at nonbasic.now column < frame.now.count }
+    requires side { pivot.side < height system.now }
+    requires pivot { IsPivot system.now.width frame.now.a.now numbers.now pivot.side pivot.column pivot.by.den pivot.size }
+    requires parts { AreParts system.now.width firsts.old seconds.old }
+    ensures values { IfSome result (λ _. (seats : List Seat) → IsSeated (height system.now) system.now.width frame.now.count seats → AreNonbasic system.now.width seats nonbasic.now
+        → AreFollowed system.now frame.now.count seats frame.now.scales.now frame.now.a.now frame.now.b.now numbers.now pivot.side pivot.column pivot.by.den pivot.size firsts.old seconds.old firsts.new seconds.new) }
+    ensures parts { IfSome result (λ _. AreParts system.now.width firsts.new seconds.new) }
 {
-    let step = step_of(system, frame.scales, pivot.i);
-    let limit = frame.b[pivot.i];
-    if let Some(()) = move_values(c_1, c_2, frame.a, limit, step, v, pivot) {
+    let step = step_of(system, frame.scales, pivot.side);
+    let limit = frame.b[pivot.side];
+    if let Some(()) = move_values(firsts, seconds, frame.a, limit, step, numbers, pivot) {
         return Some(());
     }
-    stand(c_1, c_2, system, frame, nonbasic, v)
+    stand(firsts, seconds, system, frame, nonbasic, numbers)
 }

@@ -17,79 +17,90 @@ use mpc_scaled::WholeSystem;
 fn clear_wide(list: &mut [i128])
     ensures { (k : ℕ) → whole_at list.new k ≡ pos 0 }
 {
-    for j in 0..list.len() {
-        list[j] = 0;
+    for index in 0..list.len() {
+        list[index] = 0;
     }
 }
 
-/// Adds the numbers of the column c times a factor to those of a list. They aren't tested where they are known to be
-/// short.
+/// Adds the numbers of a column times a factor to those of a list. They aren't tested where they are known to be short.
 #[inline(always)]
-fn add_column(list: &mut [i128], v: &[i128], c: usize, factor: i64, short: bool) -> Option<()>
-    requires square { length v.now ≡ length list.old * length list.old }
-    requires column { c < length list.old }
-    requires short { IsTrue short → IsSmall (2 ^ 62) v.now }
-    ensures { IfSome result (λ _. (j : ℕ) → j < length list.old → whole_at list.new j ≡ whole_at list.old j +ℤ (whole_cell (length list.old) v.now j c *ℤ factor)) }
+fn add_column(
+    list: &mut [i128],
+    numbers: &[i128],
+    column: usize,
+    factor: i64,
+    short: bool,
+) -> Option<()>
+    requires square { length numbers.now ≡ length list.old * length list.old }
+    requires column { column < length list.old }
+    requires short { IsTrue short → IsSmall (2 ^ 62) numbers.now }
+    ensures { IfSome result (λ _. (unknown : ℕ) → unknown < length list.old → whole_at list.new unknown ≡ whole_at list.old unknown +ℤ (whole_cell (length list.old) numbers.now unknown column *ℤ factor)) }
 {
     let width = list.len();
-    for j in 0..width {
-        let term = product_with(factor, v[j * width + c], short)?;
-        let sum = list[j].checked_add(term)?;
-        list[j] = sum;
+    for unknown in 0..width {
+        let term = product_with(factor, numbers[unknown * width + column], short)?;
+        let sum = list[unknown].checked_add(term)?;
+        list[unknown] = sum;
     }
     Some(())
 }
 
 /// The same, where nothing is added by the factor 0. The loop over the unknowns stands there once for short numbers
 /// and once for others, so that they aren't tested again at each number.
-fn add_times(list: &mut [i128], v: &[i128], c: usize, factor: i64, short: bool) -> Option<()>
-    requires square { length v.now ≡ length list.old * length list.old }
-    requires column { c < length list.old }
-    requires short { IsTrue short → IsSmall (2 ^ 62) v.now }
-    ensures { IfSome result (λ _. (j : ℕ) → j < length list.old → whole_at list.new j ≡ whole_at list.old j +ℤ (whole_cell (length list.old) v.now j c *ℤ factor)) }
+fn add_times(
+    list: &mut [i128],
+    numbers: &[i128],
+    column: usize,
+    factor: i64,
+    short: bool,
+) -> Option<()>
+    requires square { length numbers.now ≡ length list.old * length list.old }
+    requires column { column < length list.old }
+    requires short { IsTrue short → IsSmall (2 ^ 62) numbers.now }
+    ensures { IfSome result (λ _. (unknown : ℕ) → unknown < length list.old → whole_at list.new unknown ≡ whole_at list.old unknown +ℤ (whole_cell (length list.old) numbers.now unknown column *ℤ factor)) }
 {
     if factor == 0 {
         return Some(());
     }
     if short {
-        return add_column(list, v, c, factor, true);
+        return add_column(list, numbers, column, factor, true);
     }
-    add_column(list, v, c, factor, false)
+    add_column(list, numbers, column, factor, false)
 }
 
-/// The values of the unknowns, where no number of v is above own.
+/// The values of the unknowns, where no number of the position is above own.
 pub(crate) fn wide_stand(
-    c_1: &mut [i128],
-    c_2: &mut [i128],
+    firsts: &mut [i128],
+    seconds: &mut [i128],
     system: &WholeSystem,
     frame: &JudgedFrame,
     nonbasic: &[usize],
-    v: &[i128],
+    numbers: &[i128],
     own: u128,
 ) -> Option<()>
-    requires numbers { HasNumbers system.now frame.now.n frame.now.scales.now frame.now.a.now frame.now.b.now }
+    requires numbers { HasNumbers system.now frame.now.count frame.now.scales.now frame.now.a.now frame.now.b.now }
     requires columns { length nonbasic.now ≡ system.now.width }
-    requires below { (c : ℕ) → c < system.now.width → variable_at nonbasic.now c < frame.now.n }
-    requires square { length v.now ≡ system.now.width * system.now.width }
-    requires first_room { length c_1.old ≡ system.now.width }
-    requires second_room { length c_2.old ≡ system.now.width }
-    requires own { IsSmall own v.now }
-    ensures { IfSome result (λ _. (seats : List Seat) → IsSeated (height system.now) system.now.width frame.now.n seats → AreNonbasic system.now.width seats nonbasic.now
-        → AreFormed system.now frame.now.n seats frame.now.scales.now frame.now.b.now v.now c_1.new c_2.new) }
+    requires below { (column : ℕ) → column < system.now.width → variable_at nonbasic.now column < frame.now.count }
+    requires square { length numbers.now ≡ system.now.width * system.now.width }
+    requires first_room { length firsts.old ≡ system.now.width }
+    requires second_room { length seconds.old ≡ system.now.width }
+    requires own { IsSmall own numbers.now }
+    ensures { IfSome result (λ _. (seats : List Seat) → IsSeated (height system.now) system.now.width frame.now.count seats → AreNonbasic system.now.width seats nonbasic.now
+        → AreFormed system.now frame.now.count seats frame.now.scales.now frame.now.b.now numbers.now firsts.new seconds.new) }
 {
     let short = own <= 1 << 62;
     let width = system.unknowns();
-    clear_wide(c_1);
-    clear_wide(c_2);
-    for c in 0..width {
-        let y = nonbasic[c];
-        if y < width {
+    clear_wide(firsts);
+    clear_wide(seconds);
+    for column in 0..width {
+        let variable = nonbasic[column];
+        if variable < width {
             continue;
         }
-        let i = y - width;
-        let step = step_of(system, frame.scales, i);
-        add_times(c_1, v, c, frame.b[i], short)?;
-        add_times(c_2, v, c, step, short)?;
+        let side = variable - width;
+        let step = step_of(system, frame.scales, side);
+        add_times(firsts, numbers, column, frame.b[side], short)?;
+        add_times(seconds, numbers, column, step, short)?;
     }
     Some(())
 }

@@ -17,37 +17,37 @@ stands height width n seats nonbasic z a y c l e =
     let below = subst (λ m. variable_at nonbasic c < m) z.each (column_below seats (variable_at nonbasic c) c (a.at c inside)) in
     (inside, sym (z.columns (variable_at nonbasic c) c below (a.at c inside)).1 ∙ (z.columns y c l e).1)
 
-pub loop-c-preserved : goal.loop-c-preserved
-loop-c-preserved c =
+pub loop-column-preserved : goal.loop-column-preserved
+loop-column-preserved c =
     let k = c.args.scales.now in
-    let x = c.args.x.now in
+    let x = c.args.row.now in
     let at = variable_at c.args.nonbasic.now in
-    let here = c.loop-c.c in
+    let here = c.loop-column.column in
     let f : FitsSigned w128 (get_or x here (pos 0)) = search rules in
     let product : c.in_ok-product.product ≡ unsigned_abs (whole_at x here) * scale_at k (at here) = c.in_ok-product.ensures.1 ∙ ap (λ m. m * scale_at k (at here)) (c.unsigned_abs.ensures.value ∙ ap unsigned_abs (to_z-of_z w128 _ f)) in
-    let top : c.loop-c.top ≤ c.if-y-e.top = elim c.if-y-e.branch [ then-y-e w ↦ (let a = w.top-is in omega arith) | else-y-e w ↦ (let a = w.top-is in let b = w.max-top.ensures in omega arith) ] in
-    let size : c.loop-c.size ≤ c.if-y-e.size = elim c.if-y-e.branch [ then-y-e w ↦ (let a = w.size-is in let b = w.max-size.ensures in omega arith) | else-y-e w ↦ (let a = w.size-is in omega arith) ] in
-    let enters : at here ≡ c.args.e → c.in_ok-product.product ≤ c.if-y-e.size = elim c.if-y-e.branch [ then-y-e w ↦ λ _. (let a = w.size-is in let b = w.max-size.ensures in omega arith) | else-y-e w ↦ λ q. absurd (w.if-y-e.false q) ] in
-    let other : (at here ≡ c.args.e → ⊥) → c.in_ok-product.product ≤ c.if-y-e.top = elim c.if-y-e.branch [ then-y-e w ↦ λ q. absurd (q w.if-y-e.true) | else-y-e w ↦ λ _. (let a = w.top-is in let b = w.max-top.ensures in omega arith) ] in
+    let top : c.loop-column.top ≤ c.if-variable-entering.top = elim c.if-variable-entering.branch [ then-y-e w ↦ (let a = w.top-is in omega arith) | else-y-e w ↦ (let a = w.top-is in let b = w.max-top.ensures in omega arith) ] in
+    let size : c.loop-column.size ≤ c.if-variable-entering.size = elim c.if-variable-entering.branch [ then-y-e w ↦ (let a = w.size-is in let b = w.max-size.ensures in omega arith) | else-y-e w ↦ (let a = w.size-is in omega arith) ] in
+    let enters : at here ≡ c.args.entering → c.in_ok-product.product ≤ c.if-variable-entering.size = elim c.if-variable-entering.branch [ then-y-e w ↦ λ _. (let a = w.size-is in let b = w.max-size.ensures in omega arith) | else-y-e w ↦ λ q. absurd (w.if-y-e.false q) ] in
+    let other : (at here ≡ c.args.entering → ⊥) → c.in_ok-product.product ≤ c.if-variable-entering.top = elim c.if-variable-entering.branch [ then-y-e w ↦ λ q. absurd (q w.if-y-e.true) | else-y-e w ↦ λ _. (let a = w.top-is in let b = w.max-top.ensures in omega arith) ] in
     record {
-      own = le_trans c.loop-c.invariant.own top;
-      entering = below_more (λ d. at d ≡ c.args.e → unsigned_abs (whole_at x d) * scale_at k (at d) ≤ c.if-y-e.size) here
-          (λ d l q. le_trans (c.loop-c.invariant.entering d l q) size) (λ q. subst (λ m. m ≤ c.if-y-e.size) product (enters q));
-      others = below_more (λ d. (at d ≡ c.args.e → ⊥) → unsigned_abs (whole_at x d) * scale_at k (at d) ≤ c.if-y-e.top) here
-          (λ d l q. le_trans (c.loop-c.invariant.others d l q) top) (λ q. subst (λ m. m ≤ c.if-y-e.top) product (other q));
+      own = le_trans c.loop-column.invariant.own top;
+      entering = below_more (λ d. at d ≡ c.args.entering → unsigned_abs (whole_at x d) * scale_at k (at d) ≤ c.if-variable-entering.size) here
+          (λ d l q. le_trans (c.loop-column.invariant.entering d l q) size) (λ q. subst (λ m. m ≤ c.if-variable-entering.size) product (enters q));
+      others = below_more (λ d. (at d ≡ c.args.entering → ⊥) → unsigned_abs (whole_at x d) * scale_at k (at d) ≤ c.if-variable-entering.top) here
+          (λ d l q. le_trans (c.loop-column.invariant.others d l q) top) (λ q. subst (λ m. m ≤ c.if-variable-entering.top) product (other q));
     }
 
 pub returns-clause-row : goal.returns-clause-row
 returns-clause-row c = λ height n seats z a.
     let k = c.args.scales.now in
-    let x = c.args.x.now in
+    let x = c.args.row.now in
     let columns = c.args.nonbasic.now in
     let at = stands height (length x) n seats columns z a in
-    let all : length x ≤ c.loop-c.c = (let t = c.loop-c-test.false in omega arith) in
+    let all : length x ≤ c.loop-column.column = (let t = c.loop-column-test.false in omega arith) in
     record {
-      own = c.loop-c.invariant.own;
+      own = c.loop-column.invariant.own;
       entering = λ y d l e o. let q = at y d l e in
-          subst (λ m. unsigned_abs (whole_at x d) * scale_at k m ≤ c.loop-c.size) q.1 (c.loop-c.invariant.entering d (let r = q.0 in omega arith) (q.1 ∙ o));
+          subst (λ m. unsigned_abs (whole_at x d) * scale_at k m ≤ c.loop-column.size) q.1 (c.loop-column.invariant.entering d (let r = q.0 in omega arith) (q.1 ∙ o));
       others = λ y d l e o. let q = at y d l e in
-          subst (λ m. unsigned_abs (whole_at x d) * scale_at k m ≤ c.loop-c.top) q.1 (c.loop-c.invariant.others d (let r = q.0 in omega arith) (λ p. o (sym q.1 ∙ p)));
+          subst (λ m. unsigned_abs (whole_at x d) * scale_at k m ≤ c.loop-column.top) q.1 (c.loop-column.invariant.others d (let r = q.0 in omega arith) (λ p. o (sym q.1 ∙ p)));
     }

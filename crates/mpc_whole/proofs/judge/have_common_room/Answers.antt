@@ -8,7 +8,7 @@ returns c =
     let s = c.args.system.now in
     let k = scale_at c.args.frame.now.scales.now in
     let b = c.args.frame.now.b.now in
-    let n = c.args.frame.now.n in
+    let n = c.args.frame.now.count in
     let sizes = c.requires.sizes in
     let most : c.in_ok-most.most ≡ c.args.own * c.args.frame.now.norm = c.in_ok-most.ensures.1 in
     both_some c.are_products_within.result c.are_products_within.ensures.scaled c.are_products_within.ensures.sides (λ _ scaled sides.

@@ -7,8 +7,8 @@ use Rattle.mpc_whole.proofs.judge.have_room.Goals as goal
 pub returns : goal.returns
 returns c =
     let s = c.args.system.now in
-    let k = scale_at c.args.frame.now.scales.now c.args.y in
-    let n = c.args.frame.now.n in
+    let k = scale_at c.args.frame.now.scales.now c.args.variable in
+    let n = c.args.frame.now.count in
     let most = c.args.most in
     let g = c.max-greater.result in
     let side = c.side_of-side.result in

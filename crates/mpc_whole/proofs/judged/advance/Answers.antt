@@ -15,10 +15,10 @@ use Rattle.mpc_whole.proofs.DividedRows.{times_row, times_is, rest_some}
 use Rattle.mpc_whole.proofs.JudgedTurns.{leaver_in, leaver_seat, enterer_in, enterer_seat, seated_after, mildly_after}
 use Rattle.mpc_whole.proofs.WholeRows.{weaker}
 use Rattle.mpc_whole.proofs.judged.advance.Goals as goal
-use Rattle.mpc_whole.proofs.judged.advance.Goals.{After-column_of-c, After-swap, After-wide_stand}
+use Rattle.mpc_whole.proofs.judged.advance.Goals.{After-column_of-column, After-swap, After-wide_stand}
 
 pub factors_of-requires-clause-leaves : goal.factors_of-requires-clause-leaves
-factors_of-requires-clause-leaves c = subst (λ m. c.args.l < m) (sym c.requires.numbers.whole.scales.size) (leaver_in c.requires.numbers.whole c.requires.lists c.requires.goes)
+factors_of-requires-clause-leaves c = subst (λ m. c.args.leaving < m) (sym c.requires.numbers.whole.scales.size) (leaver_in c.requires.numbers.whole c.requires.lists c.requires.goes)
 
 pub factors_of-requires-clause-columns : goal.factors_of-requires-clause-columns
 factors_of-requires-clause-columns c = ap length c.deref.ensures.value ∙ c.requires.lists.columns.each ∙ sym c.requires.row.size
@@ -41,43 +41,43 @@ pub judge_pivot-requires-clause-by : goal.judge_pivot-requires-clause-by
 judge_pivot-requires-clause-by c =
     let w = c.requires.numbers.whole in
     rw c.deref-2.ensures.value (record {
-      leaves = subst (λ m. c.args.l < m) (sym c.requires.numbers.count) (leaver_in w c.requires.lists c.requires.goes);
-      enters = subst (λ m. c.args.e < m) (sym c.requires.numbers.count) (enterer_in w c.requires.lists c.requires.goes);
+      leaves = subst (λ m. c.args.leaving < m) (sym c.requires.numbers.count) (leaver_in w c.requires.lists c.requires.goes);
+      enters = subst (λ m. c.args.entering < m) (sym c.requires.numbers.count) (enterer_in w c.requires.lists c.requires.goes);
       free = enterer_seat w c.requires.lists c.requires.goes;
       some = rest_some c.args.row.divisor c.args.row.rest c.args.place.den c.requires.row.split c.requires.goes.underway.underway.stands.form.some;
       row_size = c.requires.row.size;
     })
 
-pub bounds-frame-l : goal.bounds-frame-l
-bounds-frame-l c = subst (λ m. c.args.l < m) (sym c.requires.numbers.whole.scales.size) (leaver_in c.requires.numbers.whole c.requires.lists c.requires.goes)
+pub bounds-frame-leaving : goal.bounds-frame-leaving
+bounds-frame-leaving c = subst (λ m. c.args.leaving < m) (sym c.requires.numbers.whole.scales.size) (leaver_in c.requires.numbers.whole c.requires.lists c.requires.goes)
 
-pub offset_bounds-frame-l : goal.offset_bounds-frame-l
-offset_bounds-frame-l c =
-    let h : c.args.l < length c.args.frame.now.scales.now = subst (λ m. c.args.l < m) (sym c.requires.numbers.whole.scales.size) (leaver_in c.requires.numbers.whole c.requires.lists c.requires.goes) in
+pub offset_bounds-frame-leaving : goal.offset_bounds-frame-leaving
+offset_bounds-frame-leaving c =
+    let h : c.args.leaving < length c.args.frame.now.scales.now = subst (λ m. c.args.leaving < m) (sym c.requires.numbers.whole.scales.size) (leaver_in c.requires.numbers.whole c.requires.lists c.requires.goes) in
     search rules
 
-pub column_of-c-requires-clause-below : goal.column_of-c-requires-clause-below
-column_of-c-requires-clause-below c = rw c.deref-4.ensures.value (subst (λ m. c.args.e < m) (sym c.requires.lists.seated.each) (enterer_in c.requires.numbers.whole c.requires.lists c.requires.goes))
+pub column_of-column-requires-clause-below : goal.column_of-column-requires-clause-below
+column_of-column-requires-clause-below c = rw c.deref-4.ensures.value (subst (λ m. c.args.entering < m) (sym c.requires.lists.seated.each) (enterer_in c.requires.numbers.whole c.requires.lists c.requires.goes))
 
-pub column_of-c-requires-clause-free : goal.column_of-c-requires-clause-free
-column_of-c-requires-clause-free c = rw c.deref-4.ensures.value (enterer_seat c.requires.numbers.whole c.requires.lists c.requires.goes)
+pub column_of-column-requires-clause-free : goal.column_of-column-requires-clause-free
+column_of-column-requires-clause-free c = rw c.deref-4.ensures.value (enterer_seat c.requires.numbers.whole c.requires.lists c.requires.goes)
 
-entered : (c : After-column_of-c) → seat_at c.args.lists.now.seats.items c.args.e ≡ Column c.column_of-c.result
-entered c = ap (λ (t : List Seat). seat_at t c.args.e) (sym c.deref-4.ensures.value) ∙ c.column_of-c.ensures
+entered : (c : After-column_of-column) → seat_at c.args.lists.now.seats.items c.args.entering ≡ Column c.column_of-column.result
+entered c = ap (λ (t : List Seat). seat_at t c.args.entering) (sym c.deref-4.ensures.value) ∙ c.column_of-column.ensures
 
-column_in : (c : After-column_of-c) → c.column_of-c.result < c.args.system.now.width
-column_in c = (c.requires.lists.seated.columns c.args.e c.column_of-c.result (enterer_in c.requires.numbers.whole c.requires.lists c.requires.goes) (entered c)).0
+column_in : (c : After-column_of-column) → c.column_of-column.result < c.args.system.now.width
+column_in c = (c.requires.lists.seated.columns c.args.entering c.column_of-column.result (enterer_in c.requires.numbers.whole c.requires.lists c.requires.goes) (entered c)).0
 
 pub reduce-requires-clause-column : goal.reduce-requires-clause-column
-reduce-requires-clause-column c = let at = goal.at.reduce-requires-clause-column c in subst (λ m. c.column_of-c.result < m) (sym c.requires.row.size) (column_in at.After-column_of-c)
+reduce-requires-clause-column c = let at = goal.at.reduce-requires-clause-column c in subst (λ m. c.column_of-column.result < m) (sym c.requires.row.size) (column_in at.After-column_of-column)
 
 pub swap-requires-clause-leaves_below : goal.swap-requires-clause-leaves_below
-swap-requires-clause-leaves_below c = rw c.deref_mut-2.ensures.value (subst (λ m. c.args.l < m) (sym c.requires.lists.seated.each) (leaver_in c.requires.numbers.whole c.requires.lists c.requires.goes))
+swap-requires-clause-leaves_below c = rw c.deref_mut-2.ensures.value (subst (λ m. c.args.leaving < m) (sym c.requires.lists.seated.each) (leaver_in c.requires.numbers.whole c.requires.lists c.requires.goes))
 
 pub swap-requires-clause-column_below : goal.swap-requires-clause-column_below
 swap-requires-clause-column_below c =
     let at = goal.at.swap-requires-clause-column_below c in
-    rw c.deref_mut-3.ensures.value (subst (λ m. c.column_of-c.result < m) (sym c.requires.lists.columns.each) (column_in at.After-column_of-c))
+    rw c.deref_mut-3.ensures.value (subst (λ m. c.column_of-column.result < m) (sym c.requires.lists.columns.each) (column_in at.After-column_of-column))
 
 pub swap-requires-clause-leaves : goal.swap-requires-clause-leaves
 swap-requires-clause-leaves c = rw c.deref_mut-2.ensures.value (leaver_seat c.requires.numbers.whole c.requires.lists c.requires.goes)
@@ -85,14 +85,14 @@ swap-requires-clause-leaves c = rw c.deref_mut-2.ensures.value (leaver_seat c.re
 seats_back : (c : After-swap) → (with_items c.args.lists.now.seats c.swap.new.seats).items ≡ c.swap.new.seats
 seats_back c = with_items_is c.args.lists.now.seats c.swap.new.seats (let q = c.swap.auto.seats in let o = c.args.lists.now.seats.ok in let v = c.deref_mut-2.ensures.len in omega arith)
 
-swapped : (c : After-swap) → IsSwapped c.args.lists.now.seats.items c.swap.new.seats c.args.l c.args.e
+swapped : (c : After-swap) → IsSwapped c.args.lists.now.seats.items c.swap.new.seats c.args.leaving c.args.entering
 swapped c = rw c.deref_mut-2.ensures.value at c.swap.ensures.seats
 
-entered_then : (c : After-swap) → seat_at c.args.lists.now.seats.items c.args.e ≡ Column c.column_of-c.result
-entered_then c = ap (λ (t : List Seat). seat_at t c.args.e) (sym c.deref-4.ensures.value) ∙ c.column_of-c.ensures
+entered_then : (c : After-swap) → seat_at c.args.lists.now.seats.items c.args.entering ≡ Column c.column_of-column.result
+entered_then c = ap (λ (t : List Seat). seat_at t c.args.entering) (sym c.deref-4.ensures.value) ∙ c.column_of-column.ensures
 
 seated : (c : After-swap) → IsSeated (height c.args.system.now) c.args.system.now.width (count c.args.system.now) c.swap.new.seats
-seated c = seated_after c.requires.numbers.whole c.requires.lists c.requires.goes c.swap.new.seats (swapped c) c.column_of-c.result (entered_then c)
+seated c = seated_after c.requires.numbers.whole c.requires.lists c.requires.goes c.swap.new.seats (swapped c) c.column_of-column.result (entered_then c)
 
 nonbasic_back : (c : After-swap) → (with_items c.args.lists.now.nonbasic c.swap.new.nonbasic).items ≡ c.swap.new.nonbasic
 nonbasic_back c = with_items_is c.args.lists.now.nonbasic c.swap.new.nonbasic (let q = c.swap.auto.nonbasic in let o = c.args.lists.now.nonbasic.ok in let v = c.deref_mut-3.ensures.len in omega arith)
@@ -111,14 +111,14 @@ wide_stand-requires-clause-below c =
     let s = c.args.system.now in
     subst₂ (λ m (t : List ℕ). (k : ℕ) → k < s.width → variable_at t k < m) (sym c.requires.numbers.count) (sym (c.deref-5.ensures.value ∙ nonbasic_back at)) (in_column s (count s) c.swap.new.seats c.swap.new.nonbasic (seated at) (columns at))
 
-numbers_back : (c : After-swap) → (with_items c.args.lists.now.v c.reduce.new.v).items ≡ c.reduce.new.v
-numbers_back c = with_items_is c.args.lists.now.v c.reduce.new.v (let q = c.reduce.auto.v in let o = c.args.lists.now.v.ok in let v = c.deref_mut.ensures.len in omega arith)
+numbers_back : (c : After-swap) → (with_items c.args.lists.now.v c.reduce.new.numbers).items ≡ c.reduce.new.numbers
+numbers_back c = with_items_is c.args.lists.now.v c.reduce.new.numbers (let q = c.reduce.auto.numbers in let o = c.args.lists.now.v.ok in let v = c.deref_mut.ensures.len in omega arith)
 
-firsts_back : (c : After-wide_stand) → (with_items c.args.lists.now.firsts c.wide_stand.new.c_1).items ≡ c.wide_stand.new.c_1
-firsts_back c = with_items_is c.args.lists.now.firsts c.wide_stand.new.c_1 (let q = c.wide_stand.auto.c_1 in let o = c.args.lists.now.firsts.ok in let v = c.deref_mut-4.ensures.len in omega arith)
+firsts_back : (c : After-wide_stand) → (with_items c.args.lists.now.firsts c.wide_stand.new.firsts).items ≡ c.wide_stand.new.firsts
+firsts_back c = with_items_is c.args.lists.now.firsts c.wide_stand.new.firsts (let q = c.wide_stand.auto.firsts in let o = c.args.lists.now.firsts.ok in let v = c.deref_mut-4.ensures.len in omega arith)
 
-seconds_back : (c : After-wide_stand) → (with_items c.args.lists.now.seconds c.wide_stand.new.c_2).items ≡ c.wide_stand.new.c_2
-seconds_back c = with_items_is c.args.lists.now.seconds c.wide_stand.new.c_2 (let q = c.wide_stand.auto.c_2 in let o = c.args.lists.now.seconds.ok in let v = c.deref_mut-5.ensures.len in omega arith)
+seconds_back : (c : After-wide_stand) → (with_items c.args.lists.now.seconds c.wide_stand.new.seconds).items ≡ c.wide_stand.new.seconds
+seconds_back c = with_items_is c.args.lists.now.seconds c.wide_stand.new.seconds (let q = c.wide_stand.auto.seconds in let o = c.args.lists.now.seconds.ok in let v = c.deref_mut-5.ensures.len in omega arith)
 
 pub returns-clause-lists : goal.returns-clause-lists
 returns-clause-lists c =
@@ -126,15 +126,15 @@ returns-clause-lists c =
     let s = c.args.system.now in
     let then = at.After-swap in
     let numbers = numbers_back then in
-    let size : length c.reduce.new.v ≡ s.width * s.width = (let q : length c.reduce.new.v ≡ length c.deref_mut.result.now = c.reduce.auto.v in q) ∙ ap length c.deref_mut.ensures.value ∙ c.requires.lists.square in
+    let size : length c.reduce.new.numbers ≡ s.width * s.width = (let q : length c.reduce.new.numbers ≡ length c.deref_mut.result.now = c.reduce.auto.numbers in q) ∙ ap length c.deref_mut.ensures.value ∙ c.requires.lists.square in
     record {
       seated = subst (λ (t : List Seat). IsSeated (height s) s.width (count s) t) (sym (seats_back then)) (seated then);
       columns = subst₂ (λ (t : List Seat) (u : List ℕ). AreNonbasic s.width t u) (sym (seats_back then)) (sym (nonbasic_back then))
           (columns then);
       square = ap length numbers ∙ size;
       own = subst (IsSmall c.in_ok-after.after.own) (sym numbers) c.in_ok-after.ensures.own;
-      first_size = ap length (firsts_back at.After-wide_stand) ∙ (let q : length c.wide_stand.new.c_1 ≡ length c.deref_mut-4.result.now = c.wide_stand.auto.c_1 in q) ∙ ap length c.deref_mut-4.ensures.value ∙ c.requires.lists.first_size;
-      second_size = ap length (seconds_back at.After-wide_stand) ∙ (let q : length c.wide_stand.new.c_2 ≡ length c.deref_mut-5.result.now = c.wide_stand.auto.c_2 in q) ∙ ap length c.deref_mut-5.ensures.value ∙ c.requires.lists.second_size;
+      first_size = ap length (firsts_back at.After-wide_stand) ∙ (let q : length c.wide_stand.new.firsts ≡ length c.deref_mut-4.result.now = c.wide_stand.auto.firsts in q) ∙ ap length c.deref_mut-4.ensures.value ∙ c.requires.lists.first_size;
+      second_size = ap length (seconds_back at.After-wide_stand) ∙ (let q : length c.wide_stand.new.seconds ≡ length c.deref_mut-5.result.now = c.wide_stand.auto.seconds in q) ∙ ap length c.deref_mut-5.ensures.value ∙ c.requires.lists.second_size;
     }
 
 pub returns-clause-underway : goal.returns-clause-underway
@@ -148,35 +148,35 @@ returns-clause-underway c =
     let den = c.args.place.den in
     let by = c.in_ok-by.by in
     let g = c.args.row.divisor in
-    let x = c.args.row.x.now in
+    let x = c.args.row.numbers.now in
     let real = times_row g x in
     let times = times_is g x in
     let then = at.After-swap in
-    let judged : IsPivotJudged s (count s) r.seats.items k a b den r.v.items c.args.l c.args.e c.args.row.rest x by.top by.size =
-    subst (λ m. IsPivotJudged s m r.seats.items k a b den r.v.items c.args.l c.args.e c.args.row.rest x by.top by.size) c.requires.numbers.count
-    (subst₂ (λ (t : List Seat) (u : List ℤ). IsPivotJudged s c.args.frame.now.n t k a b den u c.args.l c.args.e c.args.row.rest x by.top by.size) c.deref-2.ensures.value c.deref-3.ensures.value c.in_ok-judge_pivot.ensures)
+    let judged : IsPivotJudged s (count s) r.seats.items k a b den r.v.items c.args.leaving c.args.entering c.args.row.rest x by.top by.size =
+    subst (λ m. IsPivotJudged s m r.seats.items k a b den r.v.items c.args.leaving c.args.entering c.args.row.rest x by.top by.size) c.requires.numbers.count
+    (subst₂ (λ (t : List Seat) (u : List ℤ). IsPivotJudged s c.args.frame.now.count t k a b den u c.args.leaving c.args.entering c.args.row.rest x by.top by.size) c.deref-2.ensures.value c.deref-3.ensures.value c.in_ok-judge_pivot.ensures)
     in
-    let within : IsRowWithin (count s) r.seats.items k c.args.l c.args.e x by.top by.size =
+    let within : IsRowWithin (count s) r.seats.items k c.args.leaving c.args.entering x by.top by.size =
     c.in_ok-by.ensures.row (height s) (count s) r.seats.items
     (subst (λ w. IsSeated (height s) w (count s) r.seats.items) (sym c.requires.row.size) c.requires.lists.seated)
     (subst₂ (λ w (t : List ℕ). AreNonbasic w r.seats.items t) (sym c.requires.row.size) (sym c.deref.ensures.value) c.requires.lists.columns)
     in
-    let piv : IsReducedPivot s.width den r.v.items c.reduce.new.v real c.column_of-c.result c.in_ok-after.after.den =
-    subst₂ (λ w (u : List ℤ). IsReducedPivot w den u c.reduce.new.v real c.column_of-c.result c.in_ok-after.after.den) c.requires.row.size c.deref_mut.ensures.value (c.in_ok-after.ensures.pivot real g c.requires.row.some c.requires.row.split times)
+    let piv : IsReducedPivot s.width den r.v.items c.reduce.new.numbers real c.column_of-column.result c.in_ok-after.after.den =
+    subst₂ (λ w (u : List ℤ). IsReducedPivot w den u c.reduce.new.numbers real c.column_of-column.result c.in_ok-after.after.den) c.requires.row.size c.deref_mut.ensures.value (c.in_ok-after.ensures.pivot real g c.requires.row.some c.requires.row.split times)
     in
-    let stood : AreFormed s c.args.frame.now.n c.swap.new.seats k b c.deref-6.result.now c.wide_stand.new.c_1 c.wide_stand.new.c_2 =
+    let stood : AreFormed s c.args.frame.now.count c.swap.new.seats k b c.deref-6.result.now c.wide_stand.new.firsts c.wide_stand.new.seconds =
     c.in_ok-wide_stand.ensures c.swap.new.seats (subst (λ m. IsSeated (height s) s.width m c.swap.new.seats) (sym c.requires.numbers.count) (seated then)) (subst (λ (t : List ℕ). AreNonbasic s.width c.swap.new.seats t) (sym (c.deref-5.ensures.value ∙ nonbasic_back then)) (columns then))
     in
-    let formed : AreFormed s (count s) c.swap.new.seats k b c.reduce.new.v c.wide_stand.new.c_1 c.wide_stand.new.c_2 =
-    subst (λ m. AreFormed s m c.swap.new.seats k b c.reduce.new.v c.wide_stand.new.c_1 c.wide_stand.new.c_2) c.requires.numbers.count
-    (subst (λ (u : List ℤ). AreFormed s c.args.frame.now.n c.swap.new.seats k b u c.wide_stand.new.c_1 c.wide_stand.new.c_2) (c.deref-6.ensures.value ∙ numbers_back then) stood)
+    let formed : AreFormed s (count s) c.swap.new.seats k b c.reduce.new.numbers c.wide_stand.new.firsts c.wide_stand.new.seconds =
+    subst (λ m. AreFormed s m c.swap.new.seats k b c.reduce.new.numbers c.wide_stand.new.firsts c.wide_stand.new.seconds) c.requires.numbers.count
+    (subst (λ (u : List ℤ). AreFormed s c.args.frame.now.count c.swap.new.seats k b u c.wide_stand.new.firsts c.wide_stand.new.seconds) (c.deref-6.ensures.value ∙ numbers_back then) stood)
     in
     let next =
-    mildly_after c.requires.numbers.whole c.requires.lists c.requires.goes c.swap.new.seats (swapped then) c.column_of-c.result (entered_then then) g c.args.row.rest x c.requires.row by.top by.size judged within
-    c.reduce.new.v c.in_ok-after.after.den piv c.wide_stand.new.c_1 c.wide_stand.new.c_2 formed c.max-own.result c.max.result c.max-2.result c.kept_product-product.result
+    mildly_after c.requires.numbers.whole c.requires.lists c.requires.goes c.swap.new.seats (swapped then) c.column_of-column.result (entered_then then) g c.args.row.rest x c.requires.row by.top by.size judged within
+    c.reduce.new.numbers c.in_ok-after.after.den piv c.wide_stand.new.firsts c.wide_stand.new.seconds formed c.max-own.result c.max.result c.max-2.result c.kept_product-product.result
     (let m = c.max.ensures in omega arith) (let m = c.max-2.ensures in omega arith) c.kept_product-product.ensures.before (weaker c.args.place.own c.max.result r.v.items c.requires.lists.own (let m = c.max.ensures in omega arith)) (let m = c.max-2.ensures in omega arith)
     (weaker c.args.place.own c.max-own.result r.v.items c.requires.lists.own (let m = c.max-own.ensures in omega arith)) (let m = c.max-own.ensures in omega arith) c.kept_product-product.ensures.here
     in
     subst (IsMildlyUnderway s (count s) _ k c.in_ok-after.after.den _ _ _ c.max.result c.max-2.result c.kept_product-product.result) (sym c.unknowns.ensures)
-    (subst₂ (λ (f g : List ℤ). IsMildlyUnderway s (count s) (with_items r.seats c.swap.new.seats).items k c.in_ok-after.after.den (with_items r.v c.reduce.new.v).items f g c.max.result c.max-2.result c.kept_product-product.result s.width) (sym (firsts_back at.After-wide_stand)) (sym (seconds_back at.After-wide_stand))
-    (subst₂ (λ (t : List Seat) (u : List ℤ). IsMildlyUnderway s (count s) t k c.in_ok-after.after.den u c.wide_stand.new.c_1 c.wide_stand.new.c_2 c.max.result c.max-2.result c.kept_product-product.result s.width) (sym (seats_back then)) (sym (numbers_back then)) next))
+    (subst₂ (λ (f g : List ℤ). IsMildlyUnderway s (count s) (with_items r.seats c.swap.new.seats).items k c.in_ok-after.after.den (with_items r.v c.reduce.new.numbers).items f g c.max.result c.max-2.result c.kept_product-product.result s.width) (sym (firsts_back at.After-wide_stand)) (sym (seconds_back at.After-wide_stand))
+    (subst₂ (λ (t : List Seat) (u : List ℤ). IsMildlyUnderway s (count s) t k c.in_ok-after.after.den u c.wide_stand.new.firsts c.wide_stand.new.seconds c.max.result c.max-2.result c.kept_product-product.result s.width) (sym (seats_back then)) (sym (numbers_back then)) next))

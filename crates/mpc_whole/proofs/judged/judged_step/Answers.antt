@@ -16,7 +16,7 @@ use Rattle.mpc_whole.proofs.judged.judged_step.Goals.{In_ok-out, In-Some, After-
 found : (c : In_ok-out) → c.in_ok-out.out ≡ least (may_leave c.args.system.now (position c.args.system.now c.requires.underway.underway.stands.at)) (count c.args.system.now)
 found c =
     let z = c.requires.underway.underway.stands in
-    let basis : HasBasis c.args.frame.now.n c.deref.result.now (position c.args.system.now c.requires.underway.underway.stands.at) = subst₂ (λ m (t : List Seat). HasBasis m t (position c.args.system.now c.requires.underway.underway.stands.at)) (sym c.requires.numbers.count) (sym c.deref.ensures.value) (record { basic = z.form.basic }) in
+    let basis : HasBasis c.args.frame.now.count c.deref.result.now (position c.args.system.now c.requires.underway.underway.stands.at) = subst₂ (λ m (t : List Seat). HasBasis m t (position c.args.system.now c.requires.underway.underway.stands.at)) (sym c.requires.numbers.count) (sym c.deref.ensures.value) (record { basic = z.form.basic }) in
     let values = subst₂ (λ (f g : List ℤ). HasSideValues c.args.system.now c.args.frame.now.scales.now c.args.frame.now.a.now (position c.args.system.now c.requires.underway.underway.stands.at) c.args.place.den f g) (sym c.deref-2.ensures.value) (sym c.deref-3.ensures.value)
     (side_values_at c.args.system.now c.args.frame.now.scales.now c.args.frame.now.a.now c.args.frame.now.b.now c.requires.numbers.whole z.at z.order (count c.args.system.now) c.args.lists.now.seats.items c.args.place.den c.args.lists.now.v.items z.form c.args.lists.now.firsts.items c.args.lists.now.seconds.items c.requires.underway.underway.values)
     in
@@ -25,7 +25,7 @@ found c =
 judged_there : (c : In_ok-judge_end) → IsJudged c.args.system.now (count c.args.system.now) c.args.lists.now.seats.items c.args.frame.now.scales.now c.args.frame.now.a.now c.args.frame.now.b.now c.args.place.den c.args.lists.now.v.items 0 0 0
 judged_there c =
     subst (λ m. IsJudged c.args.system.now m c.args.lists.now.seats.items c.args.frame.now.scales.now c.args.frame.now.a.now c.args.frame.now.b.now c.args.place.den c.args.lists.now.v.items 0 0 0) c.requires.numbers.count
-    (subst₂ (λ (t : List Seat) (u : List ℤ). IsJudged c.args.system.now c.args.frame.now.n t c.args.frame.now.scales.now c.args.frame.now.a.now c.args.frame.now.b.now c.args.place.den u 0 0 0) c.deref-in_default.ensures.value c.deref-in_default-2.ensures.value c.in_ok-judge_end.ensures)
+    (subst₂ (λ (t : List Seat) (u : List ℤ). IsJudged c.args.system.now c.args.frame.now.count t c.args.frame.now.scales.now c.args.frame.now.a.now c.args.frame.now.b.now c.args.place.den u 0 0 0) c.deref-in_default.ensures.value c.deref-in_default-2.ensures.value c.in_ok-judge_end.ensures)
 
 nobody : (c : In_ok-judge_end) → c.in_ok-out.out ≡ least (may_leave c.args.system.now (position c.args.system.now c.requires.underway.underway.stands.at)) (count c.args.system.now) → None ≡ least (may_leave c.args.system.now (position c.args.system.now c.requires.underway.underway.stands.at)) (count c.args.system.now)
 nobody c f = let q : c.in_ok-out.out ≡ None = c.in_default.is in sym q ∙ f
@@ -40,26 +40,26 @@ returns-in_default-clause-before c =
     let at = goal.at.returns-in_default-clause-before c in
     mild_point c.args.system.now (count c.args.system.now) c.args.lists.now.seats.items c.requires.lists.seated c.args.frame.now.scales.now c.args.place.den c.args.lists.now.v.items c.args.frame.now.a.now c.args.frame.now.b.now c.requires.numbers.whole c.args.lists.now.firsts.items c.args.lists.now.seconds.items c.args.place.greatest c.args.place.greatest_den c.args.place.product c.args.place.first c.requires.underway 0 0 0 (judged_there at.In_ok-judge_end) (nobody at.In_ok-judge_end (found at.In_ok-out))
 
-leaver_is : (c : In-Some) → c.in_ok-out.out ≡ least (may_leave c.args.system.now (position c.args.system.now c.requires.underway.underway.stands.at)) (count c.args.system.now) → Some c.in-Some.l ≡ least (may_leave c.args.system.now (position c.args.system.now c.requires.underway.underway.stands.at)) (count c.args.system.now)
-leaver_is c f = let q : c.in_ok-out.out ≡ Some c.in-Some.l = c.in-Some.is in sym q ∙ f
+leaver_is : (c : In-Some) → c.in_ok-out.out ≡ least (may_leave c.args.system.now (position c.args.system.now c.requires.underway.underway.stands.at)) (count c.args.system.now) → Some c.in-Some.leaving ≡ least (may_leave c.args.system.now (position c.args.system.now c.requires.underway.underway.stands.at)) (count c.args.system.now)
+leaver_is c f = let q : c.in_ok-out.out ≡ Some c.in-Some.leaving = c.in-Some.is in sym q ∙ f
 
 pub overflow_sub-side : goal.overflow_sub-side
 overflow_sub-side c =
     let at = goal.at.overflow_sub-side c in
-    subst (λ w. w ≤ c.in-Some.l) (sym c.unknowns.ensures) (leaves_here c.args.system.now (count c.args.system.now) c.args.lists.now.seats.items c.requires.lists.seated c.args.frame.now.scales.now c.args.place.den c.args.lists.now.v.items c.args.frame.now.a.now c.args.frame.now.b.now c.requires.numbers.whole c.requires.underway.underway.stands c.in-Some.l (leaver_is at.In-Some (found at.In_ok-out))).violated.side
+    subst (λ w. w ≤ c.in-Some.leaving) (sym c.unknowns.ensures) (leaves_here c.args.system.now (count c.args.system.now) c.args.lists.now.seats.items c.requires.lists.seated c.args.frame.now.scales.now c.args.place.den c.args.lists.now.v.items c.args.frame.now.a.now c.args.frame.now.b.now c.requires.numbers.whole c.requires.underway.underway.stands c.in-Some.leaving (leaver_is at.In-Some (found at.In_ok-out))).violated.side
 
 pub divided_row-requires-clause-side : goal.divided_row-requires-clause-side
 divided_row-requires-clause-side c =
     let at = goal.at.divided_row-requires-clause-side c in
-    subst (λ w. c.in-Some.l - w < height c.args.system.now) (sym c.unknowns.ensures) (side_in c.args.system.now (count c.args.system.now) c.args.lists.now.seats.items c.requires.lists.seated c.args.frame.now.scales.now c.args.place.den c.args.lists.now.v.items c.args.frame.now.a.now c.args.frame.now.b.now c.requires.numbers.whole c.requires.underway.underway.stands c.in-Some.l (leaver_is at.In-Some (found at.In_ok-out)))
+    subst (λ w. c.in-Some.leaving - w < height c.args.system.now) (sym c.unknowns.ensures) (side_in c.args.system.now (count c.args.system.now) c.args.lists.now.seats.items c.requires.lists.seated c.args.frame.now.scales.now c.args.place.den c.args.lists.now.v.items c.args.frame.now.a.now c.args.frame.now.b.now c.requires.numbers.whole c.requires.underway.underway.stands c.in-Some.leaving (leaver_is at.In-Some (found at.In_ok-out)))
 
-entered : (c : After-wide_entering) → Some c.in-Some.l ≡ least (may_leave c.args.system.now (position c.args.system.now c.requires.underway.underway.stands.at)) (count c.args.system.now) → c.wide_entering.result ≡ least (may_enter c.args.system.now (position c.args.system.now c.requires.underway.underway.stands.at) c.in-Some.l) (count c.args.system.now)
+entered : (c : After-wide_entering) → Some c.in-Some.leaving ≡ least (may_leave c.args.system.now (position c.args.system.now c.requires.underway.underway.stands.at)) (count c.args.system.now) → c.wide_entering.result ≡ least (may_enter c.args.system.now (position c.args.system.now c.requires.underway.underway.stands.at) c.in-Some.leaving) (count c.args.system.now)
 entered c e =
     let z = c.requires.underway.underway.stands in
     let back = sym c.requires.numbers.count in
     let seated = subst (λ m. IsSeated (height c.args.system.now) c.args.system.now.width m c.args.lists.now.seats.items) back c.requires.lists.seated in
     let columns : AreNonbasic c.args.system.now.width c.args.lists.now.seats.items c.deref-5.result.now = rw c.deref-5.ensures.value c.requires.lists.columns in
-    let basis : HasBasis c.args.frame.now.n c.args.lists.now.seats.items (position c.args.system.now c.requires.underway.underway.stands.at) = subst (λ m. HasBasis m c.args.lists.now.seats.items (position c.args.system.now c.requires.underway.underway.stands.at)) back (record { basic = z.form.basic }) in
+    let basis : HasBasis c.args.frame.now.count c.args.lists.now.seats.items (position c.args.system.now c.requires.underway.underway.stands.at) = subst (λ m. HasBasis m c.args.lists.now.seats.items (position c.args.system.now c.requires.underway.underway.stands.at)) back (record { basic = z.form.basic }) in
     let s = c.args.system.now in
     let k = c.args.frame.now.scales.now in
     let a = c.args.frame.now.a.now in
@@ -67,42 +67,42 @@ entered c e =
     let den = c.args.place.den in
     let g = c.in_ok-divisor.divisor in
     let rest = c.in_ok-divisor.rest in
-    let x = c.divided_row.new.x in
-    let divided : IsDividedRow s a r.v.items (c.in-Some.l - s.width) den g rest x =
-    subst₂ (λ w (u : List ℤ). IsDividedRow s a u (c.in-Some.l - w) den g rest x) c.unknowns.ensures c.deref-4.ensures.value c.in_ok-divisor.ensures
+    let x = c.divided_row.new.row in
+    let divided : IsDividedRow s a r.v.items (c.in-Some.leaving - s.width) den g rest x =
+    subst₂ (λ w (u : List ℤ). IsDividedRow s a u (c.in-Some.leaving - w) den g rest x) c.unknowns.ensures c.deref-4.ensures.value c.in_ok-divisor.ensures
     in
-    let real = row_of_leaving s (count s) r.seats.items c.requires.lists.seated k den r.v.items a c.args.frame.now.b.now c.requires.numbers.whole z c.in-Some.l e (times_row g x) (side_of_divided s a r.v.items (c.in-Some.l - s.width) den g rest x divided) in
-    let row = subst (λ m. IsRowOf m r.seats.items k (position s z.at) rest c.in-Some.l x) back
-    (row_of_divided (count s) r.seats.items k (position s z.at) den c.in-Some.l g rest x (times_row g x) z.form.some divided.split (times_is g x) (λ y m h q. subst (λ w. m < w) (sym divided.size) (c.requires.lists.seated.columns y m h q).0) real)
+    let real = row_of_leaving s (count s) r.seats.items c.requires.lists.seated k den r.v.items a c.args.frame.now.b.now c.requires.numbers.whole z c.in-Some.leaving e (times_row g x) (side_of_divided s a r.v.items (c.in-Some.leaving - s.width) den g rest x divided) in
+    let row = subst (λ m. IsRowOf m r.seats.items k (position s z.at) rest c.in-Some.leaving x) back
+    (row_of_divided (count s) r.seats.items k (position s z.at) den c.in-Some.leaving g rest x (times_row g x) z.form.some divided.split (times_is g x) (λ y m h q. subst (λ w. m < w) (sym divided.size) (c.requires.lists.seated.columns y m h q).0) real)
     in
-    subst (λ m. c.wide_entering.result ≡ least (may_enter c.args.system.now (position c.args.system.now c.requires.underway.underway.stands.at) c.in-Some.l) m) c.requires.numbers.count
-    (c.wide_entering.ensures c.args.lists.now.seats.items (position c.args.system.now c.requires.underway.underway.stands.at) c.args.frame.now.scales.now c.in-Some.l rest seated columns (rest_some g rest den divided.split z.form.some) basis row)
+    subst (λ m. c.wide_entering.result ≡ least (may_enter c.args.system.now (position c.args.system.now c.requires.underway.underway.stands.at) c.in-Some.leaving) m) c.requires.numbers.count
+    (c.wide_entering.ensures c.args.lists.now.seats.items (position c.args.system.now c.requires.underway.underway.stands.at) c.args.frame.now.scales.now c.in-Some.leaving rest seated columns (rest_some g rest den divided.split z.form.some) basis row)
 
 judged_then : (c : In_ok-judge_end-2) → IsJudged c.args.system.now (count c.args.system.now) c.args.lists.now.seats.items c.args.frame.now.scales.now c.args.frame.now.a.now c.args.frame.now.b.now c.args.place.den c.args.lists.now.v.items 0 0 0
 judged_then c =
     subst (λ m. IsJudged c.args.system.now m c.args.lists.now.seats.items c.args.frame.now.scales.now c.args.frame.now.a.now c.args.frame.now.b.now c.args.place.den c.args.lists.now.v.items 0 0 0) c.requires.numbers.count
-    (subst₂ (λ (t : List Seat) (u : List ℤ). IsJudged c.args.system.now c.args.frame.now.n t c.args.frame.now.scales.now c.args.frame.now.a.now c.args.frame.now.b.now c.args.place.den u 0 0 0) c.deref-in_default-wide_entering.ensures.value c.deref-in_default-wide_entering-2.ensures.value c.in_ok-judge_end-2.ensures)
+    (subst₂ (λ (t : List Seat) (u : List ℤ). IsJudged c.args.system.now c.args.frame.now.count t c.args.frame.now.scales.now c.args.frame.now.a.now c.args.frame.now.b.now c.args.place.den u 0 0 0) c.deref-in_default-wide_entering.ensures.value c.deref-in_default-wide_entering-2.ensures.value c.in_ok-judge_end-2.ensures)
 
-nobody_enters : (c : In_ok-judge_end-2) → c.wide_entering.result ≡ least (may_enter c.args.system.now (position c.args.system.now c.requires.underway.underway.stands.at) c.in-Some.l) (count c.args.system.now) → None ≡ least (may_enter c.args.system.now (position c.args.system.now c.requires.underway.underway.stands.at) c.in-Some.l) (count c.args.system.now)
+nobody_enters : (c : In_ok-judge_end-2) → c.wide_entering.result ≡ least (may_enter c.args.system.now (position c.args.system.now c.requires.underway.underway.stands.at) c.in-Some.leaving) (count c.args.system.now) → None ≡ least (may_enter c.args.system.now (position c.args.system.now c.requires.underway.underway.stands.at) c.in-Some.leaving) (count c.args.system.now)
 nobody_enters c f = let q : c.wide_entering.result ≡ None = c.in_default-wide_entering.is in sym q ∙ f
 
 pub returns-in_default-wide_entering-clause-end : goal.returns-in_default-wide_entering-clause-end
 returns-in_default-wide_entering-clause-end c =
     let at = goal.at.returns-in_default-wide_entering-clause-end c in
     let e = leaver_is at.In-Some (found at.In_ok-out) in
-    judged_refuted c.args.system.now (count c.args.system.now) c.args.lists.now.seats.items c.requires.lists.seated c.args.frame.now.scales.now c.args.place.den c.args.lists.now.v.items c.args.frame.now.a.now c.args.frame.now.b.now c.requires.numbers.whole c.args.lists.now.firsts.items c.args.lists.now.seconds.items c.args.place.greatest c.args.place.greatest_den c.args.place.product c.args.place.first c.requires.underway 0 0 0 (judged_then at.In_ok-judge_end-2) c.in-Some.l e (nobody_enters at.In_ok-judge_end-2 (entered at.After-wide_entering e))
+    judged_refuted c.args.system.now (count c.args.system.now) c.args.lists.now.seats.items c.requires.lists.seated c.args.frame.now.scales.now c.args.place.den c.args.lists.now.v.items c.args.frame.now.a.now c.args.frame.now.b.now c.requires.numbers.whole c.args.lists.now.firsts.items c.args.lists.now.seconds.items c.args.place.greatest c.args.place.greatest_den c.args.place.product c.args.place.first c.requires.underway 0 0 0 (judged_then at.In_ok-judge_end-2) c.in-Some.leaving e (nobody_enters at.In_ok-judge_end-2 (entered at.After-wide_entering e))
 
 pub returns-in_default-wide_entering-clause-before : goal.returns-in_default-wide_entering-clause-before
 returns-in_default-wide_entering-clause-before c =
     let at = goal.at.returns-in_default-wide_entering-clause-before c in
     let e = leaver_is at.In-Some (found at.In_ok-out) in
-    mild_refuted c.args.system.now (count c.args.system.now) c.args.lists.now.seats.items c.requires.lists.seated c.args.frame.now.scales.now c.args.place.den c.args.lists.now.v.items c.args.frame.now.a.now c.args.frame.now.b.now c.requires.numbers.whole c.args.lists.now.firsts.items c.args.lists.now.seconds.items c.args.place.greatest c.args.place.greatest_den c.args.place.product c.args.place.first c.requires.underway 0 0 0 (judged_then at.In_ok-judge_end-2) c.in-Some.l e (nobody_enters at.In_ok-judge_end-2 (entered at.After-wide_entering e))
+    mild_refuted c.args.system.now (count c.args.system.now) c.args.lists.now.seats.items c.requires.lists.seated c.args.frame.now.scales.now c.args.place.den c.args.lists.now.v.items c.args.frame.now.a.now c.args.frame.now.b.now c.requires.numbers.whole c.args.lists.now.firsts.items c.args.lists.now.seconds.items c.args.place.greatest c.args.place.greatest_den c.args.place.product c.args.place.first c.requires.underway 0 0 0 (judged_then at.In_ok-judge_end-2) c.in-Some.leaving e (nobody_enters at.In_ok-judge_end-2 (entered at.After-wide_entering e))
 
 pub advance-requires-clause-goes : goal.advance-requires-clause-goes
 advance-requires-clause-goes c =
     let at = goal.at.advance-requires-clause-goes c in
     let e = leaver_is at.In-Some (found at.In_ok-out) in
-    let q : c.wide_entering.result ≡ Some c.in-Some-wide_entering.e = c.in-Some-wide_entering.is in
+    let q : c.wide_entering.result ≡ Some c.in-Some-wide_entering.entering = c.in-Some-wide_entering.is in
     record { underway = c.requires.underway; leaves = e; enters = sym q ∙ entered at.After-wide_entering e }
 
 pub divided_row-requires-clause-den_some : goal.divided_row-requires-clause-den_some

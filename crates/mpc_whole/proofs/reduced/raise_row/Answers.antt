@@ -6,46 +6,46 @@ use Rattle.mpc_runs.specs.WholeNumbers.{turned}
 use Rattle.mpc_scaled.specs.Scaled.{whole_at, whole_cell}
 use Rattle.mpc_whole.proofs.WholeExchange.{row_done, row_kept, number_raised, row_below}
 use Rattle.mpc_whole.proofs.reduced.raise_row.Goals as goal
-use Rattle.mpc_whole.proofs.reduced.raise_row.Goals.{After-loop-c}
+use Rattle.mpc_whole.proofs.reduced.raise_row.Goals.{After-loop-column}
 
-pub loop-c-preserved : goal.loop-c-preserved
-loop-c-preserved c =
-    let w = length c.args.x.now in
-    let k = c.args.j * length c.args.x.now + c.loop-c.c in
-    let b : k < length c.loop-c.v = (let l : length c.loop-c.v ≡ length c.args.v.now = c.loop-c.auto.v in let s = c.requires.square in let r = row_below w c.args.j w c.loop-c.c c.requires.row c.loop-c-test.true in omega arith) in
-    let fx : FitsSigned w128 (get_or c.args.x.now c.args.e (pos 0)) = search rules in
-    let fv : FitsSigned w128 (get_or c.args.v.now (c.args.j * w + c.args.e) (pos 0)) = search rules in
-    let fo : FitsSigned w128 (get_or c.loop-c.v k (pos 0)) = search rules in
-    let fy : FitsSigned w128 (get_or c.args.x.now c.loop-c.c (pos 0)) = search rules in
+pub loop-column-preserved : goal.loop-column-preserved
+loop-column-preserved c =
+    let w = length c.args.row.now in
+    let k = c.args.unknown * length c.args.row.now + c.loop-column.column in
+    let b : k < length c.loop-column.numbers = (let l : length c.loop-column.numbers ≡ length c.args.numbers.now = c.loop-column.auto.numbers in let s = c.requires.square in let r = row_below w c.args.unknown w c.loop-column.column c.requires.row c.loop-column-test.true in omega arith) in
+    let fx : FitsSigned w128 (get_or c.args.row.now c.args.pivot_column (pos 0)) = search rules in
+    let fv : FitsSigned w128 (get_or c.args.numbers.now (c.args.unknown * w + c.args.pivot_column) (pos 0)) = search rules in
+    let fo : FitsSigned w128 (get_or c.loop-column.numbers k (pos 0)) = search rules in
+    let fy : FitsSigned w128 (get_or c.args.row.now c.loop-column.column (pos 0)) = search rules in
     let ff : FitsSigned w128 c.in_ok-factor.factor = search rules in
     let fs : FitsSigned w128 c.in_ok-size.size = search rules in
     let fd : FitsSigned w128 c.in_ok-before.before = search rules in
     let fn : FitsSigned w128 c.in_ok-new.new = search rules in
-    let xe : to_z w128 (of_z w128 (get_or c.args.x.now c.args.e (pos 0))) ≡ whole_at c.args.x.now c.args.e = to_z-of_z w128 _ fx in
-    let ve : to_z w128 (of_z w128 (get_or c.args.v.now (c.args.j * w + c.args.e) (pos 0))) ≡ whole_cell w c.args.v.now c.args.j c.args.e = to_z-of_z w128 _ fv in
-    let factor : to_z w128 (of_z w128 c.in_ok-factor.factor) ≡ turned (whole_at c.args.x.now c.args.e) (whole_cell w c.args.v.now c.args.j c.args.e) =
+    let xe : to_z w128 (of_z w128 (get_or c.args.row.now c.args.pivot_column (pos 0))) ≡ whole_at c.args.row.now c.args.pivot_column = to_z-of_z w128 _ fx in
+    let ve : to_z w128 (of_z w128 (get_or c.args.numbers.now (c.args.unknown * w + c.args.pivot_column) (pos 0))) ≡ whole_cell w c.args.numbers.now c.args.unknown c.args.pivot_column = to_z-of_z w128 _ fv in
+    let factor : to_z w128 (of_z w128 c.in_ok-factor.factor) ≡ turned (whole_at c.args.row.now c.args.pivot_column) (whole_cell w c.args.numbers.now c.args.unknown c.args.pivot_column) =
     to_z-of_z w128 _ ff ∙ c.in_ok-factor.ensures.value ∙ (λ i. turned (xe i) (ve i))
     in
-    let old : to_z w128 (of_z w128 (get_or c.loop-c.v k (pos 0))) ≡ whole_cell w c.args.v.now c.args.j c.loop-c.c = to_z-of_z w128 _ fo ∙ c.loop-c.invariant.kept k (inr (le_refl k)) in
-    let y : to_z w128 (of_z w128 (get_or c.args.x.now c.loop-c.c (pos 0))) ≡ whole_at c.args.x.now c.loop-c.c = to_z-of_z w128 _ fy in
-    let size : to_z w128 (of_z w128 c.in_ok-size.size) ≡ pos (unsigned_abs (whole_at c.args.x.now c.args.e)) = to_z-of_z w128 _ fs ∙ c.in_ok-size.ensures ∙ ap pos (c.unsigned_abs.ensures.value ∙ ap unsigned_abs xe) in
+    let old : to_z w128 (of_z w128 (get_or c.loop-column.numbers k (pos 0))) ≡ whole_cell w c.args.numbers.now c.args.unknown c.loop-column.column = to_z-of_z w128 _ fo ∙ c.loop-column.invariant.kept k (inr (le_refl k)) in
+    let y : to_z w128 (of_z w128 (get_or c.args.row.now c.loop-column.column (pos 0))) ≡ whole_at c.args.row.now c.loop-column.column = to_z-of_z w128 _ fy in
+    let size : to_z w128 (of_z w128 c.in_ok-size.size) ≡ pos (unsigned_abs (whole_at c.args.row.now c.args.pivot_column)) = to_z-of_z w128 _ fs ∙ c.in_ok-size.ensures ∙ ap pos (c.unsigned_abs.ensures.value ∙ ap unsigned_abs xe) in
     let den : to_z w128 (of_z w128 c.in_ok-before.before) ≡ pos c.args.den = to_z-of_z w128 _ fd ∙ c.in_ok-before.ensures in
     let back : to_z w128 (of_z w128 c.in_ok-new.new) ≡ c.in_ok-new.new = to_z-of_z w128 _ fn in
-    let changes : IsChanged w 1 c.args.den c.args.v.now c.args.x.now c.args.j c.args.e c.loop-c.c (to_z w128 (of_z w128 c.in_ok-new.new)) =
-    number_raised w c.args.den c.args.v.now c.args.x.now c.args.j c.args.e c.loop-c.c _ _ _ _ _ _ old factor y size den (λ h. back ∙ c.in_ok-new.ensures.entering h) (λ h. back ∙ c.in_ok-new.ensures.other h)
+    let changes : IsChanged w 1 c.args.den c.args.numbers.now c.args.row.now c.args.unknown c.args.pivot_column c.loop-column.column (to_z w128 (of_z w128 c.in_ok-new.new)) =
+    number_raised w c.args.den c.args.numbers.now c.args.row.now c.args.unknown c.args.pivot_column c.loop-column.column _ _ _ _ _ _ old factor y size den (λ h. back ∙ c.in_ok-new.ensures.entering h) (λ h. back ∙ c.in_ok-new.ensures.other h)
     in
     record {
-      done = row_done w 1 c.args.den c.args.v.now c.loop-c.v c.args.x.now c.args.j c.args.e c.loop-c.c (to_z w128 (of_z w128 c.in_ok-new.new)) b c.loop-c.invariant.done changes;
-      kept = row_kept w 1 c.args.den c.args.v.now c.loop-c.v c.args.x.now c.args.j c.args.e c.loop-c.c (to_z w128 (of_z w128 c.in_ok-new.new)) b c.loop-c.invariant.kept;
+      done = row_done w 1 c.args.den c.args.numbers.now c.loop-column.numbers c.args.row.now c.args.unknown c.args.pivot_column c.loop-column.column (to_z w128 (of_z w128 c.in_ok-new.new)) b c.loop-column.invariant.done changes;
+      kept = row_kept w 1 c.args.den c.args.numbers.now c.loop-column.numbers c.args.row.now c.args.unknown c.args.pivot_column c.loop-column.column (to_z w128 (of_z w128 c.in_ok-new.new)) b c.loop-column.invariant.kept;
     }
 
-all_of : (c : After-loop-c) → c.loop-c.c ≡ length c.args.x.now
-all_of c = let a = c.loop-c.auto.c-end in let b = c.loop-c-test.false in omega arith
+all_of : (c : After-loop-column) → c.loop-column.column ≡ length c.args.row.now
+all_of c = let a = c.loop-column.auto.column-end in let b = c.loop-column-test.false in omega arith
 
 pub returns-clause-cells : goal.returns-clause-cells
-returns-clause-cells c = λ k h. c.loop-c.invariant.done k (let t = c.loop-c-test.false in omega arith)
+returns-clause-cells c = λ k h. c.loop-column.invariant.done k (let t = c.loop-column-test.false in omega arith)
 
 pub returns-clause-others : goal.returns-clause-others
 returns-clause-others c =
     let at = goal.at.returns-clause-others c in
-    λ k h. c.loop-c.invariant.kept k (subst (λ m. (k < c.args.j * length c.args.x.now) ⊎ (c.args.j * length c.args.x.now + m ≤ k)) (sym (all_of at.After-loop-c)) h)
+    λ k h. c.loop-column.invariant.kept k (subst (λ m. (k < c.args.unknown * length c.args.row.now) ⊎ (c.args.unknown * length c.args.row.now + m ≤ k)) (sym (all_of at.After-loop-column)) h)

@@ -3,8 +3,8 @@ use Rattle.mpc_whole.specs.Whole.{IsChanged}
 use Rattle.mpc_scaled.specs.Scaled.{whole_at, whole_cell}
 use Rattle.mpc_whole.proofs.reduced.raise_row.Given as goal
 
-abbrev pub invariant-loop-c : goal.invariant-loop-c
-invariant-loop-c l = record {
-  done : (c : ℕ) → c < l.c → IsChanged (length l.x) 1 l.den l.initial.v l.x l.j l.e c (whole_cell (length l.x) l.v l.j c);
-  kept : (k : ℕ) → (k < l.j * length l.x) ⊎ (l.j * length l.x + l.c ≤ k) → whole_at l.v k ≡ whole_at l.initial.v k;
+abbrev pub invariant-loop-column : goal.invariant-loop-column
+invariant-loop-column l = record {
+  done : (c : ℕ) → c < l.column → IsChanged (length l.row) 1 l.den l.initial.numbers l.row l.unknown l.pivot_column c (whole_cell (length l.row) l.numbers l.unknown c);
+  kept : (k : ℕ) → (k < l.unknown * length l.row) ⊎ (l.unknown * length l.row + l.column ≤ k) → whole_at l.numbers k ≡ whole_at l.initial.numbers k;
 }

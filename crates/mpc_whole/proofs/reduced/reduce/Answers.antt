@@ -8,19 +8,19 @@ use Rattle.mpc_whole.proofs.reduced.reduce.Goals as goal
 
 pub returns-clause-pivot : goal.returns-clause-pivot
 returns-clause-pivot c =
-    let x = c.args.x.now in
+    let x = c.args.divided_row.now in
     let w = length x in
-    let f : FitsSigned w128 (get_or x c.args.e (pos 0)) = search rules in
+    let f : FitsSigned w128 (get_or x c.args.pivot_column (pos 0)) = search rules in
     let g = c.shared_with_all-divisor.result in
     let size = c.in_ok-size.size in
-    let over : size * g ≡ unsigned_abs (whole_at x c.args.e) * c.args.den =
+    let over : size * g ≡ unsigned_abs (whole_at x c.args.pivot_column) * c.args.den =
     c.in_ok-size.ensures ∙ c.in_ok-over.ensures.1 ∙ ap (λ m. m * c.args.den) (c.unsigned_abs.ensures.value ∙ ap unsigned_abs (to_z-of_z w128 _ f))
     in
     λ row d more split times.
-    pivot_divided w g c.args.den c.args.rest size c.args.v.now c.divide_numbers.new.list x row c.args.e d (pos size) refl
+    pivot_divided w g c.args.den c.args.rest size c.args.numbers.now c.divide_numbers.new.list x row c.args.pivot_column d (pos size) refl
     c.shared_with_all-divisor.ensures more split times c.requires.column (ap pos over) refl
-    (λ j k h l. changed_divided w g c.args.rest c.args.v.now x j c.args.e k _ _ (c.in_ok-own.ensures.each (j * w + k)) (c.in_ok-raise.ensures j k h l))
+    (λ j k h l. changed_divided w g c.args.rest c.args.numbers.now x j c.args.pivot_column k _ _ (c.in_ok-own.ensures.each (j * w + k)) (c.in_ok-raise.ensures j k h l))
 
 -- the first number of the column
-pub offset_bounds-v-e : goal.offset_bounds-v-e
-offset_bounds-v-e c = let r = row_inside (length c.args.x.now) 0 c.args.e (length c.args.v.now) c.requires.square (let h = c.requires.column in omega arith) c.requires.column in omega arith
+pub offset_bounds-numbers-pivot_column : goal.offset_bounds-numbers-pivot_column
+offset_bounds-numbers-pivot_column c = let r = row_inside (length c.args.divided_row.now) 0 c.args.pivot_column (length c.args.numbers.now) c.requires.square (let h = c.requires.column in omega arith) c.requires.column in omega arith

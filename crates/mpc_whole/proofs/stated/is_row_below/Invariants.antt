@@ -5,8 +5,8 @@ use Rattle.mpc_scaled.specs.Scaled.{scale_at}
 use Rattle.mpc_whole.specs.Judged.{row_cell}
 use Rattle.mpc_whole.proofs.stated.is_row_below.Given as goal
 
-abbrev pub invariant-loop-y : goal.invariant-loop-y
-invariant-loop-y l = record {
-  entering : (y c : ℕ) → y < l.y → seat_at l.here.seats.now y ≡ Column c → y ≡ l.by.enters → (unsigned_abs (row_cell l.system l.frame.a.now l.here.v.now l.x c) * scale_at l.frame.scales.now y) * l.by.top ≤ 2 ^ 125;
-  others : (y c : ℕ) → y < l.y → seat_at l.here.seats.now y ≡ Column c → (y ≡ l.by.enters → ⊥) → (unsigned_abs (row_cell l.system l.frame.a.now l.here.v.now l.x c) * scale_at l.frame.scales.now y) * l.by.size ≤ 2 ^ 125;
+abbrev pub invariant-loop-column_variable : goal.invariant-loop-column_variable
+invariant-loop-column_variable l = record {
+  entering : (y c : ℕ) → y < l.column_variable → seat_at l.here.seats.now y ≡ Column c → y ≡ l.by.enters → (unsigned_abs (row_cell l.system l.frame.a.now l.here.numbers.now l.row_variable c) * scale_at l.frame.scales.now y) * l.by.top ≤ 2 ^ 125;
+  others : (y c : ℕ) → y < l.column_variable → seat_at l.here.seats.now y ≡ Column c → (y ≡ l.by.enters → ⊥) → (unsigned_abs (row_cell l.system l.frame.a.now l.here.numbers.now l.row_variable c) * scale_at l.frame.scales.now y) * l.by.size ≤ 2 ^ 125;
 }

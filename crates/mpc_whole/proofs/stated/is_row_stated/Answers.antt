@@ -12,19 +12,19 @@ use Rattle.mpc_runs.proofs.Seats.{column_same}
 use Rattle.mpc_whole.proofs.stated.is_row_stated.Goals as goal
 
 pub row_cell-requires-clause-column : goal.row_cell-requires-clause-column
-row_cell-requires-clause-column c = (c.requires.here.seated.columns c.args.by.now.e c.column_of-c.result c.requires.by.enters c.column_of-c.ensures).0
+row_cell-requires-clause-column c = (c.requires.here.seated.columns c.args.by.now.entering c.column_of-column.result c.requires.by.enters c.column_of-column.ensures).0
 
 pub returns : goal.returns
 returns c =
     let k = c.args.frame.now.scales.now in
     let by = c.args.by.now in
-    let cell = λ (d : ℕ). row_cell c.args.system.now c.args.frame.now.a.now c.args.here.now.v.now c.args.x d in
+    let cell = λ (d : ℕ). row_cell c.args.system.now c.args.frame.now.a.now c.args.here.now.numbers.now c.args.row_variable d in
     let f : FitsSigned w128 c.in_ok-cell.cell = search rules in
-    let factor = λ (d : ℕ) (e : seat_at c.args.here.now.seats.now by.e ≡ Column d).
-    c.in_ok-factor.ensures ∙ ap (coefficient_of k c.args.here.now.den c.args.x by.e) (to_z-of_z w128 _ f ∙ c.in_ok-cell.ensures ∙ ap cell (column_same c.column_of-c.result d (sym c.column_of-c.ensures ∙ e)))
+    let factor = λ (d : ℕ) (e : seat_at c.args.here.now.seats.now by.entering ≡ Column d).
+    c.in_ok-factor.ensures ∙ ap (coefficient_of k c.args.here.now.den c.args.row_variable by.entering) (to_z-of_z w128 _ f ∙ c.in_ok-cell.ensures ∙ ap cell (column_same c.column_of-column.result d (sym c.column_of-column.ensures ∙ e)))
     in
     IfSome_then c.are_terms_stated.result c.are_terms_stated.ensures
     (λ _ terms. record {
       leaving = λ d e. subst₂ (λ u w. FitsFrac (u *ℚ inv_ℚ w)) (factor d e) (c.requires.pivot d e) c.in-Ok.ensures.wide;
-      terms = λ y o d l apart h e. subst₂ (λ u w. IsTermStated (coefficient_of k c.args.here.now.den c.args.x y (cell d)) u (coefficient_of k by.rest by.l y (whole_at by.x.now d)) w) (factor o h) (c.requires.pivot o h) (terms y d l apart e);
+      terms = λ y o d l apart h e. subst₂ (λ u w. IsTermStated (coefficient_of k c.args.here.now.den c.args.row_variable y (cell d)) u (coefficient_of k by.rest by.leaving y (whole_at by.row.now d)) w) (factor o h) (c.requires.pivot o h) (terms y d l apart e);
     })

@@ -20,28 +20,28 @@ use Rattle.mpc_whole.proofs.WholeRows.{weaker}
 use Rattle.mpc_whole.proofs.WholeRun.{next_underway}
 use Rattle.mpc_runs.proofs.WholeWidths.{read_small}
 use Rattle.mpc_whole.proofs.whole.advance.Goals as goal
-use Rattle.mpc_whole.proofs.whole.advance.Goals.{After-column_of-c, After-swap, After-unsigned_abs-size, After-follow}
+use Rattle.mpc_whole.proofs.whole.advance.Goals.{After-column_of-column, After-swap, After-unsigned_abs-size, After-follow}
 
-pub column_of-c-requires-clause-below : goal.column_of-c-requires-clause-below
-column_of-c-requires-clause-below c = rw c.deref.ensures.value (subst (λ m. c.args.e < m) (sym c.requires.lists.seated.each) (enterer_in c.requires.frame.numbers.whole c.requires.lists c.requires.turns))
+pub column_of-column-requires-clause-below : goal.column_of-column-requires-clause-below
+column_of-column-requires-clause-below c = rw c.deref.ensures.value (subst (λ m. c.args.entering < m) (sym c.requires.lists.seated.each) (enterer_in c.requires.frame.numbers.whole c.requires.lists c.requires.turns))
 
-pub column_of-c-requires-clause-free : goal.column_of-c-requires-clause-free
-column_of-c-requires-clause-free c = rw c.deref.ensures.value (enterer_seat c.requires.frame.numbers.whole c.requires.lists c.requires.turns)
+pub column_of-column-requires-clause-free : goal.column_of-column-requires-clause-free
+column_of-column-requires-clause-free c = rw c.deref.ensures.value (enterer_seat c.requires.frame.numbers.whole c.requires.lists c.requires.turns)
 
-entered : (c : After-column_of-c) → seat_at c.args.lists.now.seats.items c.args.e ≡ Column c.column_of-c.result
-entered c = ap (λ (t : List Seat). seat_at t c.args.e) (sym c.deref.ensures.value) ∙ c.column_of-c.ensures
+entered : (c : After-column_of-column) → seat_at c.args.lists.now.seats.items c.args.entering ≡ Column c.column_of-column.result
+entered c = ap (λ (t : List Seat). seat_at t c.args.entering) (sym c.deref.ensures.value) ∙ c.column_of-column.ensures
 
-column_in : (c : After-column_of-c) → c.column_of-c.result < c.args.system.now.width
-column_in c = (c.requires.lists.seated.columns c.args.e c.column_of-c.result (enterer_in c.requires.frame.numbers.whole c.requires.lists c.requires.turns) (entered c)).0
+column_in : (c : After-column_of-column) → c.column_of-column.result < c.args.system.now.width
+column_in c = (c.requires.lists.seated.columns c.args.entering c.column_of-column.result (enterer_in c.requires.frame.numbers.whole c.requires.lists c.requires.turns) (entered c)).0
 
-column_below : (c : After-column_of-c) → c.column_of-c.result < length c.args.x.now
-column_below c = subst (λ m. c.column_of-c.result < m) (sym c.requires.row.size) (column_in c)
+column_below : (c : After-column_of-column) → c.column_of-column.result < length c.args.row.now
+column_below c = subst (λ m. c.column_of-column.result < m) (sym c.requires.row.size) (column_in c)
 
 pub exchange-requires-clause-square : goal.exchange-requires-clause-square
 exchange-requires-clause-square c = subst₂ (λ w (u : List ℤ). length u ≡ w * w) (sym c.requires.row.size) (sym c.deref_mut.ensures.value) c.requires.lists.square
 
 pub exchange-requires-clause-column : goal.exchange-requires-clause-column
-exchange-requires-clause-column c = column_below (goal.at.exchange-requires-clause-column c).After-column_of-c
+exchange-requires-clause-column c = column_below (goal.at.exchange-requires-clause-column c).After-column_of-column
 
 pub exchange-requires-clause-den_some : goal.exchange-requires-clause-den_some
 exchange-requires-clause-den_some c = subst (λ d. 0 < d) (sym c.of-by.ensures) c.requires.turns.underway.stands.form.some
@@ -56,12 +56,12 @@ pub exchange-requires-clause-small : goal.exchange-requires-clause-small
 exchange-requires-clause-small c = subst (λ (u : List ℤ). IsSmall c.args.frame.now.most u) (sym c.deref_mut.ensures.value) c.requires.held.small
 
 pub swap-requires-clause-leaves_below : goal.swap-requires-clause-leaves_below
-swap-requires-clause-leaves_below c = rw c.deref_mut-2.ensures.value (subst (λ m. c.args.l < m) (sym c.requires.lists.seated.each) (leaver_in c.requires.frame.numbers.whole c.requires.lists c.requires.turns))
+swap-requires-clause-leaves_below c = rw c.deref_mut-2.ensures.value (subst (λ m. c.args.leaving < m) (sym c.requires.lists.seated.each) (leaver_in c.requires.frame.numbers.whole c.requires.lists c.requires.turns))
 
 pub swap-requires-clause-column_below : goal.swap-requires-clause-column_below
 swap-requires-clause-column_below c =
     let at = goal.at.swap-requires-clause-column_below c in
-    rw c.deref_mut-3.ensures.value (subst (λ m. c.column_of-c.result < m) (sym c.requires.lists.columns.each) (column_in at.After-column_of-c))
+    rw c.deref_mut-3.ensures.value (subst (λ m. c.column_of-column.result < m) (sym c.requires.lists.columns.each) (column_in at.After-column_of-column))
 
 pub swap-requires-clause-leaves : goal.swap-requires-clause-leaves
 swap-requires-clause-leaves c = rw c.deref_mut-2.ensures.value (leaver_seat c.requires.frame.numbers.whole c.requires.lists c.requires.turns)
@@ -72,46 +72,46 @@ seats_back c = with_items_is c.args.lists.now.seats c.swap.new.seats (let q = c.
 nonbasic_back : (c : After-swap) → (with_items c.args.lists.now.nonbasic c.swap.new.nonbasic).items ≡ c.swap.new.nonbasic
 nonbasic_back c = with_items_is c.args.lists.now.nonbasic c.swap.new.nonbasic (let q = c.swap.auto.nonbasic in let o = c.args.lists.now.nonbasic.ok in let v = c.deref_mut-3.ensures.len in omega arith)
 
-numbers_back : (c : After-swap) → (with_items c.args.lists.now.v c.exchange.new.v).items ≡ c.exchange.new.v
-numbers_back c = with_items_is c.args.lists.now.v c.exchange.new.v (let q = c.exchange.auto.v in let o = c.args.lists.now.v.ok in let v = c.deref_mut.ensures.len in omega arith)
+numbers_back : (c : After-swap) → (with_items c.args.lists.now.v c.exchange.new.numbers).items ≡ c.exchange.new.numbers
+numbers_back c = with_items_is c.args.lists.now.v c.exchange.new.numbers (let q = c.exchange.auto.numbers in let o = c.args.lists.now.v.ok in let v = c.deref_mut.ensures.len in omega arith)
 
-numbers_square : (c : After-swap) → length c.exchange.new.v ≡ c.args.system.now.width * c.args.system.now.width
-numbers_square c = (let q : length c.exchange.new.v ≡ length c.deref_mut.result.now = c.exchange.auto.v in q) ∙ ap length c.deref_mut.ensures.value ∙ c.requires.lists.square
+numbers_square : (c : After-swap) → length c.exchange.new.numbers ≡ c.args.system.now.width * c.args.system.now.width
+numbers_square c = (let q : length c.exchange.new.numbers ≡ length c.deref_mut.result.now = c.exchange.auto.numbers in q) ∙ ap length c.deref_mut.ensures.value ∙ c.requires.lists.square
 
-firsts_back : (c : After-follow) → (with_items c.args.lists.now.firsts c.follow.new.c_1).items ≡ c.follow.new.c_1
-firsts_back c = with_items_is c.args.lists.now.firsts c.follow.new.c_1 (let q = c.follow.auto.c_1 in let o = c.args.lists.now.firsts.ok in let v = c.deref_mut-4.ensures.len in omega arith)
+firsts_back : (c : After-follow) → (with_items c.args.lists.now.firsts c.follow.new.firsts).items ≡ c.follow.new.firsts
+firsts_back c = with_items_is c.args.lists.now.firsts c.follow.new.firsts (let q = c.follow.auto.firsts in let o = c.args.lists.now.firsts.ok in let v = c.deref_mut-4.ensures.len in omega arith)
 
-seconds_back : (c : After-follow) → (with_items c.args.lists.now.seconds c.follow.new.c_2).items ≡ c.follow.new.c_2
-seconds_back c = with_items_is c.args.lists.now.seconds c.follow.new.c_2 (let q = c.follow.auto.c_2 in let o = c.args.lists.now.seconds.ok in let v = c.deref_mut-5.ensures.len in omega arith)
+seconds_back : (c : After-follow) → (with_items c.args.lists.now.seconds c.follow.new.seconds).items ≡ c.follow.new.seconds
+seconds_back c = with_items_is c.args.lists.now.seconds c.follow.new.seconds (let q = c.follow.auto.seconds in let o = c.args.lists.now.seconds.ok in let v = c.deref_mut-5.ensures.len in omega arith)
 
-swapped : (c : After-swap) → IsSwapped c.args.lists.now.seats.items c.swap.new.seats c.args.l c.args.e
+swapped : (c : After-swap) → IsSwapped c.args.lists.now.seats.items c.swap.new.seats c.args.leaving c.args.entering
 swapped c = rw c.deref_mut-2.ensures.value at c.swap.ensures.seats
 
-entered_then : (c : After-swap) → seat_at c.args.lists.now.seats.items c.args.e ≡ Column c.column_of-c.result
-entered_then c = ap (λ (t : List Seat). seat_at t c.args.e) (sym c.deref.ensures.value) ∙ c.column_of-c.ensures
+entered_then : (c : After-swap) → seat_at c.args.lists.now.seats.items c.args.entering ≡ Column c.column_of-column.result
+entered_then c = ap (λ (t : List Seat). seat_at t c.args.entering) (sym c.deref.ensures.value) ∙ c.column_of-column.ensures
 
 seated : (c : After-swap) → IsSeated (height c.args.system.now) c.args.system.now.width (count c.args.system.now) c.swap.new.seats
-seated c = seated_after c.requires.frame.numbers.whole c.requires.lists c.requires.turns c.swap.new.seats (swapped c) c.column_of-c.result (entered_then c)
+seated c = seated_after c.requires.frame.numbers.whole c.requires.lists c.requires.turns c.swap.new.seats (swapped c) c.column_of-column.result (entered_then c)
 
 columns : (c : After-swap) → AreNonbasic c.args.system.now.width c.swap.new.seats c.swap.new.nonbasic
 columns c = c.swap.ensures.columns c.args.system.now.width (rw (c.deref_mut-2.ensures.value, c.deref_mut-3.ensures.value) c.requires.lists.columns)
 
-pub bounds-x-c : goal.bounds-x-c
-bounds-x-c c = column_below (goal.at.bounds-x-c c).After-column_of-c
+pub bounds-row-column : goal.bounds-row-column
+bounds-row-column c = column_below (goal.at.bounds-row-column c).After-column_of-column
 
-pub offset_bounds-x-c : goal.offset_bounds-x-c
-offset_bounds-x-c c =
-    let h : c.column_of-c.result < length c.args.x.now = column_below (goal.at.offset_bounds-x-c c).After-column_of-c in
+pub offset_bounds-row-column : goal.offset_bounds-row-column
+offset_bounds-row-column c =
+    let h : c.column_of-column.result < length c.args.row.now = column_below (goal.at.offset_bounds-row-column c).After-column_of-column in
     search rules
 
 pub overflow_sub-pivot : goal.overflow_sub-pivot
-overflow_sub-pivot c = subst (λ w. w ≤ c.args.l) (sym c.unknowns-width.ensures) (leaver_side c.requires.frame.numbers.whole c.requires.lists c.requires.turns)
+overflow_sub-pivot c = subst (λ w. w ≤ c.args.leaving) (sym c.unknowns-width.ensures) (leaver_side c.requires.frame.numbers.whole c.requires.lists c.requires.turns)
 
-size_is : (c : After-unsigned_abs-size) → c.unsigned_abs-size.result ≡ unsigned_abs (whole_at c.args.x.now c.column_of-c.result)
-size_is c = c.unsigned_abs-size.ensures.value ∙ ap unsigned_abs (read_small (whole_at c.args.x.now c.column_of-c.result) (c.requires.row_small.each c.column_of-c.result))
+size_is : (c : After-unsigned_abs-size) → c.unsigned_abs-size.result ≡ unsigned_abs (whole_at c.args.row.now c.column_of-column.result)
+size_is c = c.unsigned_abs-size.ensures.value ∙ ap unsigned_abs (read_small (whole_at c.args.row.now c.column_of-column.result) (c.requires.row_small.each c.column_of-column.result))
 
 size_small : (c : After-unsigned_abs-size) → c.unsigned_abs-size.result ≤ 2 ^ 62
-size_small c = subst (λ m. m ≤ 2 ^ 62) (sym (size_is c)) (c.requires.row_small.each c.column_of-c.result)
+size_small c = subst (λ m. m ≤ 2 ^ 62) (sym (size_is c)) (c.requires.row_small.each c.column_of-column.result)
 
 pub follow-requires-clause-numbers : goal.follow-requires-clause-numbers
 follow-requires-clause-numbers c = c.requires.frame.numbers
@@ -128,26 +128,26 @@ follow-requires-clause-below c =
     subst₂ (λ m (t : List ℕ). (k : ℕ) → k < s.width → variable_at t k < m) (sym c.requires.frame.numbers.count) (sym (c.deref-2.ensures.value ∙ nonbasic_back at)) (in_column s (count s) c.swap.new.seats c.swap.new.nonbasic (seated at) (columns at))
 
 pub follow-requires-clause-side : goal.follow-requires-clause-side
-follow-requires-clause-side c = subst (λ w. c.args.l - w < height c.args.system.now) (sym c.unknowns-width.ensures) (side_below c.requires.frame.numbers.whole c.requires.lists c.requires.turns)
+follow-requires-clause-side c = subst (λ w. c.args.leaving - w < height c.args.system.now) (sym c.unknowns-width.ensures) (side_below c.requires.frame.numbers.whole c.requires.lists c.requires.turns)
 
 pub follow-requires-clause-pivot : goal.follow-requires-clause-pivot
 follow-requires-clause-pivot c =
     let at = goal.at.follow-requires-clause-pivot c in
     let w = c.args.system.now.width in
     let a = c.args.frame.now.a.now in
-    let after : IsPivot w a c.exchange.new.v (c.args.l - c.unknowns-width.result) c.column_of-c.result c.of-by.result.den c.unsigned_abs-size.result =
+    let after : IsPivot w a c.exchange.new.numbers (c.args.leaving - c.unknowns-width.result) c.column_of-column.result c.of-by.result.den c.unsigned_abs-size.result =
     record {
-      inside = subst (λ m. (c.args.l - m) * w + w ≤ length a) (sym c.unknowns-width.ensures) (rows_in w (c.args.l - w) (height c.args.system.now) (length a) (side_below c.requires.frame.numbers.whole c.requires.lists c.requires.turns) c.requires.frame.numbers.whole.entries_size);
+      inside = subst (λ m. (c.args.leaving - m) * w + w ≤ length a) (sym c.unknowns-width.ensures) (rows_in w (c.args.leaving - w) (height c.args.system.now) (length a) (side_below c.requires.frame.numbers.whole c.requires.lists c.requires.turns) c.requires.frame.numbers.whole.entries_size);
       room = c.requires.frame.numbers.room;
       square = numbers_square at.After-swap;
-      column = column_in at.After-column_of-c;
+      column = column_in at.After-column_of-column;
       den_some = subst (λ d. 0 < d) (sym c.of-by.ensures) c.requires.turns.underway.stands.form.some;
       den_small = subst (λ d. d ≤ 2 ^ 62) (sym c.of-by.ensures) c.requires.held.den_small;
       size_small = size_small at.After-unsigned_abs-size;
-      numbers_small = weaker c.args.frame.now.most (2 ^ 62) c.exchange.new.v c.in_ok-own.ensures.small c.requires.frame.most_small;
+      numbers_small = weaker c.args.frame.now.most (2 ^ 62) c.exchange.new.numbers c.in_ok-own.ensures.small c.requires.frame.most_small;
     }
     in
-    subst (λ (u : List ℤ). IsPivot w a u (c.args.l - c.unknowns-width.result) c.column_of-c.result c.of-by.result.den c.unsigned_abs-size.result) (sym (c.deref-3.ensures.value ∙ numbers_back at.After-swap)) after
+    subst (λ (u : List ℤ). IsPivot w a u (c.args.leaving - c.unknowns-width.result) c.column_of-column.result c.of-by.result.den c.unsigned_abs-size.result) (sym (c.deref-3.ensures.value ∙ numbers_back at.After-swap)) after
 
 pub follow-requires-clause-parts : goal.follow-requires-clause-parts
 follow-requires-clause-parts c =
@@ -175,10 +175,10 @@ returns-clause-held c =
     let f = c.args.frame.now in
     let g = c.requires.frame.bounds in
     let then = at.After-swap in
-    let narrow : IsNarrow s (count s) c.swap.new.seats f.scales.now f.a.now c.unsigned_abs-size.result c.exchange.new.v =
-    narrow_by_norms s f.scales.now f.a.now f.b.now c.exchange.new.v g.most_entry g.most_side g.most_scale f.most g.bounds c.in_ok-own.ensures.small (count s) c.swap.new.seats c.unsigned_abs-size.result
+    let narrow : IsNarrow s (count s) c.swap.new.seats f.scales.now f.a.now c.unsigned_abs-size.result c.exchange.new.numbers =
+    narrow_by_norms s f.scales.now f.a.now f.b.now c.exchange.new.numbers g.most_entry g.most_side g.most_scale f.most g.bounds c.in_ok-own.ensures.small (count s) c.swap.new.seats c.unsigned_abs-size.result
     (λ y h. subst (λ m. m * scale_at f.scales.now y ≤ 2 ^ 62) (sym (size_is at.After-unsigned_abs-size))
-    (pivot_narrow s f.scales.now f.a.now f.b.now c.args.lists.now.v.items g.most_entry g.most_side g.most_scale f.most g.bounds c.requires.held.small (c.args.l - s.width) c.args.x.now c.requires.row c.column_of-c.result (column_in at.After-column_of-c) y))
+    (pivot_narrow s f.scales.now f.a.now f.b.now c.args.lists.now.v.items g.most_entry g.most_side g.most_scale f.most g.bounds c.requires.held.small (c.args.leaving - s.width) c.args.row.now c.requires.row c.column_of-column.result (column_in at.After-column_of-column) y))
     in
     record {
       small = subst (IsSmall f.most) (sym (numbers_back then)) c.in_ok-own.ensures.small;
@@ -197,33 +197,33 @@ returns-clause-underway c =
     let b = c.args.frame.now.b.now in
     let r = c.args.lists.now in
     let den = c.args.place.den in
-    let i = c.args.l - s.width in
-    let m = c.column_of-c.result in
-    let new = c.exchange.new.v in
-    let n_1 = c.follow.new.c_1 in
-    let n_2 = c.follow.new.c_2 in
+    let i = c.args.leaving - s.width in
+    let m = c.column_of-column.result in
+    let new = c.exchange.new.numbers in
+    let n_1 = c.follow.new.firsts in
+    let n_2 = c.follow.new.seconds in
     let then = at.After-swap in
-    let rs = row_seat (seat_at r.seats.items c.args.l) (leaver_seat c.requires.frame.numbers.whole c.requires.lists c.requires.turns) in
+    let rs = row_seat (seat_at r.seats.items c.args.leaving) (leaver_seat c.requires.frame.numbers.whole c.requires.lists c.requires.turns) in
     let stand = (swapped then).seats rs.0 m rs.1 (entered_then then) in
     let size = size_is at.After-unsigned_abs-size in
-    let piv : IsWholePivot s.width den r.v.items new c.args.x.now m =
-    subst (λ (u : List ℤ). IsWholePivot s.width den u new c.args.x.now m) c.deref_mut.ensures.value (subst₂ (λ w d. IsWholePivot w d c.deref_mut.result.now new c.args.x.now m) c.requires.row.size c.of-by.ensures c.in_ok-own.ensures.pivot)
+    let piv : IsWholePivot s.width den r.v.items new c.args.row.now m =
+    subst (λ (u : List ℤ). IsWholePivot s.width den u new c.args.row.now m) c.deref_mut.ensures.value (subst₂ (λ w d. IsWholePivot w d c.deref_mut.result.now new c.args.row.now m) c.requires.row.size c.of-by.ensures c.in_ok-own.ensures.pivot)
     in
-    let given : AreFollowed s c.args.frame.now.n c.swap.new.seats k a b c.deref-3.result.now (c.args.l - c.unknowns-width.result) m c.of-by.result.den c.unsigned_abs-size.result c.deref_mut-4.result.now c.deref_mut-5.result.now n_1 n_2 =
+    let given : AreFollowed s c.args.frame.now.count c.swap.new.seats k a b c.deref-3.result.now (c.args.leaving - c.unknowns-width.result) m c.of-by.result.den c.unsigned_abs-size.result c.deref_mut-4.result.now c.deref_mut-5.result.now n_1 n_2 =
     c.in_ok-follow.ensures.values c.swap.new.seats (subst (λ m. IsSeated (height s) s.width m c.swap.new.seats) (sym c.requires.frame.numbers.count) (seated then)) (subst (λ (t : List ℕ). AreNonbasic s.width c.swap.new.seats t) (sym (c.deref-2.ensures.value ∙ nonbasic_back then)) (columns then))
     in
-    let from_old : AreFollowed s c.args.frame.now.n c.swap.new.seats k a b new (c.args.l - c.unknowns-width.result) m c.of-by.result.den c.unsigned_abs-size.result r.firsts.items r.seconds.items n_1 n_2 =
-    subst₂ (λ (g h : List ℤ). AreFollowed s c.args.frame.now.n c.swap.new.seats k a b new (c.args.l - c.unknowns-width.result) m c.of-by.result.den c.unsigned_abs-size.result g h n_1 n_2) c.deref_mut-4.ensures.value c.deref_mut-5.ensures.value
-    (subst (λ (u : List ℤ). AreFollowed s c.args.frame.now.n c.swap.new.seats k a b u (c.args.l - c.unknowns-width.result) m c.of-by.result.den c.unsigned_abs-size.result c.deref_mut-4.result.now c.deref_mut-5.result.now n_1 n_2) (c.deref-3.ensures.value ∙ numbers_back then) given)
+    let from_old : AreFollowed s c.args.frame.now.count c.swap.new.seats k a b new (c.args.leaving - c.unknowns-width.result) m c.of-by.result.den c.unsigned_abs-size.result r.firsts.items r.seconds.items n_1 n_2 =
+    subst₂ (λ (g h : List ℤ). AreFollowed s c.args.frame.now.count c.swap.new.seats k a b new (c.args.leaving - c.unknowns-width.result) m c.of-by.result.den c.unsigned_abs-size.result g h n_1 n_2) c.deref_mut-4.ensures.value c.deref_mut-5.ensures.value
+    (subst (λ (u : List ℤ). AreFollowed s c.args.frame.now.count c.swap.new.seats k a b u (c.args.leaving - c.unknowns-width.result) m c.of-by.result.den c.unsigned_abs-size.result c.deref_mut-4.result.now c.deref_mut-5.result.now n_1 n_2) (c.deref-3.ensures.value ∙ numbers_back then) given)
     in
-    let followed : AreFollowed s (count s) (set (set r.seats.items c.args.l (Column m)) c.args.e (Row rs.0)) k a b new i m den (unsigned_abs (whole_at c.args.x.now m)) r.firsts.items r.seconds.items n_1 n_2 =
+    let followed : AreFollowed s (count s) (set (set r.seats.items c.args.leaving (Column m)) c.args.entering (Row rs.0)) k a b new i m den (unsigned_abs (whole_at c.args.row.now m)) r.firsts.items r.seconds.items n_1 n_2 =
     subst₂ (λ (t : List Seat) d. AreFollowed s (count s) t k a b new i m den d r.firsts.items r.seconds.items n_1 n_2) stand size
-    (subst₂ (λ w d. AreFollowed s (count s) c.swap.new.seats k a b new (c.args.l - w) m d c.unsigned_abs-size.result r.firsts.items r.seconds.items n_1 n_2) c.unknowns-width.ensures c.of-by.ensures
-    (subst (λ n. AreFollowed s n c.swap.new.seats k a b new (c.args.l - c.unknowns-width.result) m c.of-by.result.den c.unsigned_abs-size.result r.firsts.items r.seconds.items n_1 n_2) c.requires.frame.numbers.count from_old))
+    (subst₂ (λ w d. AreFollowed s (count s) c.swap.new.seats k a b new (c.args.leaving - w) m d c.unsigned_abs-size.result r.firsts.items r.seconds.items n_1 n_2) c.unknowns-width.ensures c.of-by.ensures
+    (subst (λ n. AreFollowed s n c.swap.new.seats k a b new (c.args.leaving - c.unknowns-width.result) m c.of-by.result.den c.unsigned_abs-size.result r.firsts.items r.seconds.items n_1 n_2) c.requires.frame.numbers.count from_old))
     in
     let next : IsUnderway s (count s) c.swap.new.seats k c.unsigned_abs-size.result new n_1 n_2 c.greater.result c.greater-2.result s.width =
     subst₂ (λ (t : List Seat) d. IsUnderway s (count s) t k d new n_1 n_2 c.greater.result c.greater-2.result s.width) (sym stand) (sym size)
-    (next_underway s (count s) r.seats.items c.requires.lists.seated k den r.v.items a b c.requires.frame.bounds.most_side c.requires.frame.numbers.whole c.requires.frame.bounds.bounds.sides c.requires.held.narrow c.requires.turns.underway.stands c.args.l c.requires.turns.leaves c.args.x.now c.requires.row c.args.e c.requires.turns.enters rs.0 m rs.1 (entered_then then) new piv r.firsts.items r.seconds.items n_1 n_2 c.requires.turns.underway.values followed c.args.place.greatest c.args.place.greatest_den c.greater.result c.greater-2.result c.greater.ensures.first c.greater-2.ensures.first
+    (next_underway s (count s) r.seats.items c.requires.lists.seated k den r.v.items a b c.requires.frame.bounds.most_side c.requires.frame.numbers.whole c.requires.frame.bounds.bounds.sides c.requires.held.narrow c.requires.turns.underway.stands c.args.leaving c.requires.turns.leaves c.args.row.now c.requires.row c.args.entering c.requires.turns.enters rs.0 m rs.1 (entered_then then) new piv r.firsts.items r.seconds.items n_1 n_2 c.requires.turns.underway.values followed c.args.place.greatest c.args.place.greatest_den c.greater.result c.greater-2.result c.greater.ensures.first c.greater-2.ensures.first
     (weaker c.args.place.own c.greater.result r.v.items c.requires.lists.own c.greater.ensures.second) c.greater-2.ensures.second c.requires.turns.underway.before)
     in
     subst (IsUnderway s (count s) _ k c.unsigned_abs-size.result _ _ _ c.greater.result c.greater-2.result) (sym c.unknowns-width.ensures)

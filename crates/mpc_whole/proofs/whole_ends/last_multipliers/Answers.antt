@@ -10,19 +10,19 @@ use Rattle.mpc_whole.specs.Whole.{HasBasis, IsRowOf, IsSideRow}
 use Rattle.mpc_whole.proofs.WholeRun.{last_side, last_below, last_in, last_row}
 use Rattle.mpc_whole.proofs.whole_ends.last_multipliers.Goals as goal
 
-pub overflow_sub-i : goal.overflow_sub-i
-overflow_sub-i c =
+pub overflow_sub-side : goal.overflow_sub-side
+overflow_sub-side c =
     let s = c.args.system.now in
     let m = c.args.numbers.now in
     let r = c.args.lists.now in
-    subst (λ w. w ≤ c.args.l) (sym c.unknowns.ensures) (last_side s (count s) r.seats.items m.scales.now c.args.den r.v.items c.requires.form c.requires.seated m.a.now m.b.now c.requires.whole c.args.l c.requires.refuted)
+    subst (λ w. w ≤ c.args.leaving) (sym c.unknowns.ensures) (last_side s (count s) r.seats.items m.scales.now c.args.den r.v.items c.requires.form c.requires.seated m.a.now m.b.now c.requires.whole c.args.leaving c.requires.refuted)
 
 pub side_row-requires-clause-side : goal.side_row-requires-clause-side
 side_row-requires-clause-side c =
     let s = c.args.system.now in
     let m = c.args.numbers.now in
     let r = c.args.lists.now in
-    subst (λ w. c.args.l - w < height s) (sym c.unknowns.ensures) (last_in s (count s) r.seats.items m.scales.now c.args.den r.v.items c.requires.form c.requires.seated m.a.now m.b.now c.requires.whole c.args.l c.requires.refuted)
+    subst (λ w. c.args.leaving - w < height s) (sym c.unknowns.ensures) (last_in s (count s) r.seats.items m.scales.now c.args.den r.v.items c.requires.form c.requires.seated m.a.now m.b.now c.requires.whole c.args.leaving c.requires.refuted)
 
 pub side_row-requires-clause-square : goal.side_row-requires-clause-square
 side_row-requires-clause-square c = rw c.deref.ensures.value c.requires.square
@@ -32,12 +32,12 @@ multipliers-requires-clause-row c =
     let s = c.args.system.now in
     let m = c.args.numbers.now in
     let r = c.args.lists.now in
-    subst (λ (t : List Seat). IsRefuting s m.scales.now t c.side_row.new.x c.args.den c.args.l) (sym c.deref-2.ensures.value) (record {
+    subst (λ (t : List Seat). IsRefuting s m.scales.now t c.side_row.new.row c.args.den c.args.leaving) (sym c.deref-2.ensures.value) (record {
       scales = c.requires.whole.scales;
       seated = subst (λ n. IsSeated (height s) s.width n r.seats.items) (sym c.requires.seated.each) c.requires.seated;
       row_size = c.in_ok-side_row.ensures.size;
       some = c.requires.form.some;
-      leaves = subst (λ n. c.args.l < n) (sym c.requires.seated.each) (last_below s (count s) r.seats.items m.scales.now c.args.den r.v.items c.requires.form c.requires.seated m.a.now m.b.now c.requires.whole c.args.l c.requires.refuted);
+      leaves = subst (λ n. c.args.leaving < n) (sym c.requires.seated.each) (last_below s (count s) r.seats.items m.scales.now c.args.den r.v.items c.requires.form c.requires.seated m.a.now m.b.now c.requires.whole c.args.leaving c.requires.refuted);
     })
 
 pub returns : goal.returns
@@ -46,10 +46,10 @@ returns c =
     let m = c.args.numbers.now in
     let seats = c.args.lists.now.seats.items in
     let v = c.args.lists.now.v.items in
-    let x = c.side_row.new.x in
-    let side : IsSideRow s m.a.now v (c.args.l - s.width) x = subst₂ (λ w (u : List ℤ). IsSideRow s m.a.now u (c.args.l - w) x) c.unknowns.ensures c.deref.ensures.value c.in_ok-side_row.ensures in
-    let row = last_row s (count s) seats m.scales.now c.args.den v c.requires.form c.requires.seated m.a.now m.b.now c.requires.whole c.args.l c.requires.refuted x side in
+    let x = c.side_row.new.row in
+    let side : IsSideRow s m.a.now v (c.args.leaving - s.width) x = subst₂ (λ w (u : List ℤ). IsSideRow s m.a.now u (c.args.leaving - w) x) c.unknowns.ensures c.deref.ensures.value c.in_ok-side_row.ensures in
+    let row = last_row s (count s) seats m.scales.now c.args.den v c.requires.form c.requires.seated m.a.now m.b.now c.requires.whole c.args.leaving c.requires.refuted x side in
     IfSome_then c.multipliers.result c.multipliers.ensures
-    (λ u given. subst (λ n. HasBasis n seats (last_position s) → IsRowOf n seats m.scales.now (last_position s) c.args.den c.args.l x → IsMultipliers s (last_position s) c.args.l c.multipliers.new.list) c.requires.seated.each
-    (subst (λ (t : List Seat). HasBasis (length t) t (last_position s) → IsRowOf (length t) t m.scales.now (last_position s) c.args.den c.args.l x → IsMultipliers s (last_position s) c.args.l c.multipliers.new.list) c.deref-2.ensures.value (given (last_position s)))
+    (λ u given. subst (λ n. HasBasis n seats (last_position s) → IsRowOf n seats m.scales.now (last_position s) c.args.den c.args.leaving x → IsMultipliers s (last_position s) c.args.leaving c.multipliers.new.list) c.requires.seated.each
+    (subst (λ (t : List Seat). HasBasis (length t) t (last_position s) → IsRowOf (length t) t m.scales.now (last_position s) c.args.den c.args.leaving x → IsMultipliers s (last_position s) c.args.leaving c.multipliers.new.list) c.deref-2.ensures.value (given (last_position s)))
     (record { basic = c.requires.form.basic }) row)

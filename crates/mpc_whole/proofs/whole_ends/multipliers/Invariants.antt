@@ -4,5 +4,5 @@ use Rattle.mpc_space.specs.Vector.{coordinate}
 use Rattle.mpc_whole.specs.Whole.{HasBasis, IsRowOf}
 use Rattle.mpc_whole.proofs.whole_ends.multipliers.Given as goal
 
-abbrev pub invariant-loop-i : goal.invariant-loop-i
-invariant-loop-i l = (p : Position) → HasBasis (length l.seats) l.seats p → IsRowOf (length l.seats) l.seats l.scales p l.den l.l l.x → (j : ℕ) → j < l.i → coordinate l.list j ≡ multiplier l.system p l.l j
+abbrev pub invariant-loop-side : goal.invariant-loop-side
+invariant-loop-side l = (p : Position) → HasBasis (length l.seats) l.seats p → IsRowOf (length l.seats) l.seats l.scales p l.den l.leaving l.row → (j : ℕ) → j < l.side → coordinate l.list j ≡ multiplier l.system p l.leaving j

@@ -7,7 +7,7 @@ use Rattle.mpc_exact.specs.Rational.{ℚ, frac}
 use Rattle.mpc_runs.proofs.Answered.{no_pair, pair_of, pair_in, pair_found}
 use Rattle.mpc_scaled.specs.Scaled.{whole_at}
 use Rattle.mpc_whole.proofs.whole_ends.point.Goals as goal
-use Rattle.mpc_whole.proofs.whole_ends.point.Goals.{After-loop-j}
+use Rattle.mpc_whole.proofs.whole_ends.point.Goals.{After-loop-unknown}
 
 -- a pair set behind those that are as they should be
 pair_set : (v : List (ℚ × ℚ)) (j : ℕ) (q : ℚ × ℚ) → j < length v → (f : ℕ → Pair) → ((i : ℕ) → i < j → pair_in v i ≡ f i) → pair_of q ≡ f j → (i : ℕ) → i < j + 1 → pair_in (set v j q) i ≡ f i
@@ -17,22 +17,22 @@ pair_set v j q b f h e i l = by (cases_eq i j)
     by (inl p) = ap (λ k. pair_in (set v j q) k) p ∙ ap (λ (z : ℚ × ℚ). pair_of z) (get_or-set_same v j q no_pair b) ∙ e ∙ ap f (sym p)
     by (inr p) = ap (λ (z : ℚ × ℚ). pair_of z) (get_or-set_other v j i q no_pair p) ∙ h i (omega arith)
 
-size : (c : After-loop-j) → length c.loop-j.values ≡ length c.args.c_1.now
-size c = (let q : length c.loop-j.values ≡ length c.args.values.now = c.loop-j.auto.values in q) ∙ c.requires.room
+size : (c : After-loop-unknown) → length c.loop-unknown.values ≡ length c.args.firsts.now
+size c = (let q : length c.loop-unknown.values ≡ length c.args.values.now = c.loop-unknown.auto.values in q) ∙ c.requires.room
 
 pub returns : goal.returns
 returns c =
-    let at = (goal.at.returns c).After-loop-j in
-    let k : length c.args.c_1.now ≤ c.loop-j.j = c.loop-j-test.false in
-    record { size = size at; at = λ i h. pair_found c.loop-j.values i _ (subst (λ m. i < m) (sym (size at)) h) (c.loop-j.invariant i (omega arith)) }
+    let at = (goal.at.returns c).After-loop-unknown in
+    let k : length c.args.firsts.now ≤ c.loop-unknown.unknown = c.loop-unknown-test.false in
+    record { size = size at; at = λ i h. pair_found c.loop-unknown.values i _ (subst (λ m. i < m) (sym (size at)) h) (c.loop-unknown.invariant i (omega arith)) }
 
-pub loop-j-preserved : goal.loop-j-preserved
-loop-j-preserved c =
-    let f : FitsSigned w64 (get_or c.args.c_1.now c.loop-j.j (pos 0)) = search rules in
-    let g : FitsSigned w64 (get_or c.args.c_2.now c.loop-j.j (pos 0)) = search rules in
+pub loop-unknown-preserved : goal.loop-unknown-preserved
+loop-unknown-preserved c =
+    let f : FitsSigned w64 (get_or c.args.firsts.now c.loop-unknown.unknown (pos 0)) = search rules in
+    let g : FitsSigned w64 (get_or c.args.seconds.now c.loop-unknown.unknown (pos 0)) = search rules in
     let h : FitsSigned w128 c.widened.result = search rules in
-    let k : FitsSigned w128 c.widened-in-loop-j.result = search rules in
-    let first : c.in_ok-value.value.0 ≡ frac (get_or c.args.c_1.now c.loop-j.j (pos 0)) c.args.den = c.in_ok-value.ensures.first ∙ ap (λ z. frac z c.args.den) (to_z-of_z w128 _ h ∙ c.widened.ensures ∙ to_z-of_z w64 _ f) in
-    let second : c.in_ok-value.value.1 ≡ frac (get_or c.args.c_2.now c.loop-j.j (pos 0)) c.args.den = c.in_ok-value.ensures.second ∙ ap (λ z. frac z c.args.den) (to_z-of_z w128 _ k ∙ c.widened-in-loop-j.ensures ∙ to_z-of_z w64 _ g) in
-    let long : c.loop-j.j < length c.loop-j.values = (let q : length c.loop-j.values ≡ length c.args.values.now = c.loop-j.auto.values in let r = c.requires.room in let t = c.loop-j-test.true in omega arith) in
-    pair_set c.loop-j.values c.loop-j.j c.in_ok-value.value long (λ i. record { first = frac (whole_at c.args.c_1.now i) c.args.den; second = frac (whole_at c.args.c_2.now i) c.args.den }) c.loop-j.invariant (λ i. record { first = first i; second = second i })
+    let k : FitsSigned w128 c.widened-in-loop-unknown.result = search rules in
+    let first : c.in_ok-value.value.0 ≡ frac (get_or c.args.firsts.now c.loop-unknown.unknown (pos 0)) c.args.den = c.in_ok-value.ensures.first ∙ ap (λ z. frac z c.args.den) (to_z-of_z w128 _ h ∙ c.widened.ensures ∙ to_z-of_z w64 _ f) in
+    let second : c.in_ok-value.value.1 ≡ frac (get_or c.args.seconds.now c.loop-unknown.unknown (pos 0)) c.args.den = c.in_ok-value.ensures.second ∙ ap (λ z. frac z c.args.den) (to_z-of_z w128 _ k ∙ c.widened-in-loop-unknown.ensures ∙ to_z-of_z w64 _ g) in
+    let long : c.loop-unknown.unknown < length c.loop-unknown.values = (let q : length c.loop-unknown.values ≡ length c.args.values.now = c.loop-unknown.auto.values in let r = c.requires.room in let t = c.loop-unknown-test.true in omega arith) in
+    pair_set c.loop-unknown.values c.loop-unknown.unknown c.in_ok-value.value long (λ i. record { first = frac (whole_at c.args.firsts.now i) c.args.den; second = frac (whole_at c.args.seconds.now i) c.args.den }) c.loop-unknown.invariant (λ i. record { first = first i; second = second i })

@@ -6,13 +6,13 @@ use Rattle.mpc_runs.proofs.WholeWidths.{back128, both_back}
 use Rattle.mpc_runs.proofs.WholeSums.{whole_total-zero, whole_total-next}
 use Rattle.mpc_whole.proofs.whole_ends.side_cell.Goals as goal
 
-pub loop-j-init : goal.loop-j-init
-loop-j-init c = sym (whole_total-zero _)
+pub loop-unknown-init : goal.loop-unknown-init
+loop-unknown-init c = sym (whole_total-zero _)
 
-pub loop-j-preserved : goal.loop-j-preserved
-loop-j-preserved c =
-    let f : FitsSigned w64 (get_or c.args.a.now (c.args.i * c.args.width + c.loop-j.j) (pos 0)) = search rules in
-    let g : FitsSigned w64 (get_or c.args.v.now (c.loop-j.j * c.args.width + c.args.c) (pos 0)) = search rules in
-    let term : to_z w128 (of_z w128 c.product.result) ≡ whole_cell c.args.width c.args.a.now c.args.i c.loop-j.j *ℤ whole_cell c.args.width c.args.v.now c.loop-j.j c.args.c = back128 _ c.product.type_inv ∙ both_back _ _ _ f g c.product.ensures in
-    to_z-of_z w128 c.in_ok-total.total (subst (FitsSigned w128) (sym c.in_ok-total.ensures.1) c.in_ok-total.ensures.0) ∙ c.in_ok-total.ensures.1 ∙ (λ k. c.loop-j.invariant k +ℤ term k)
-    ∙ sym (whole_total-next c.loop-j.j (λ j. whole_cell c.args.width c.args.a.now c.args.i j *ℤ whole_cell c.args.width c.args.v.now j c.args.c))
+pub loop-unknown-preserved : goal.loop-unknown-preserved
+loop-unknown-preserved c =
+    let f : FitsSigned w64 (get_or c.args.entries.now (c.args.side * c.args.width + c.loop-unknown.unknown) (pos 0)) = search rules in
+    let g : FitsSigned w64 (get_or c.args.numbers.now (c.loop-unknown.unknown * c.args.width + c.args.column) (pos 0)) = search rules in
+    let term : to_z w128 (of_z w128 c.product.result) ≡ whole_cell c.args.width c.args.entries.now c.args.side c.loop-unknown.unknown *ℤ whole_cell c.args.width c.args.numbers.now c.loop-unknown.unknown c.args.column = back128 _ c.product.type_inv ∙ both_back _ _ _ f g c.product.ensures in
+    to_z-of_z w128 c.in_ok-total.total (subst (FitsSigned w128) (sym c.in_ok-total.ensures.1) c.in_ok-total.ensures.0) ∙ c.in_ok-total.ensures.1 ∙ (λ k. c.loop-unknown.invariant k +ℤ term k)
+    ∙ sym (whole_total-next c.loop-unknown.unknown (λ j. whole_cell c.args.width c.args.entries.now c.args.side j *ℤ whole_cell c.args.width c.args.numbers.now j c.args.column))

@@ -4,5 +4,5 @@ use Rattle.mpc_scaled.specs.Scaled.{whole_at}
 use Rattle.mpc_runs.proofs.Answered.{pair_in}
 use Rattle.mpc_whole.proofs.whole_ends.wide_point.Given as goal
 
-abbrev pub invariant-loop-j : goal.invariant-loop-j
-invariant-loop-j l = (i : ℕ) → i < l.j → pair_in l.values i ≡ record { first = frac (whole_at l.c_1 i) l.den; second = frac (whole_at l.c_2 i) l.den }
+abbrev pub invariant-loop-unknown : goal.invariant-loop-unknown
+invariant-loop-unknown l = (i : ℕ) → i < l.unknown → pair_in l.values i ≡ record { first = frac (whole_at l.firsts i) l.den; second = frac (whole_at l.seconds i) l.den }

@@ -3,10 +3,10 @@ use Rattle.mpc_whole.specs.Whole.{IsChanged}
 use Rattle.mpc_scaled.specs.Scaled.{whole_at, whole_cell, IsSmall}
 use Rattle.mpc_whole.proofs.whole_pivot.exchange.Given as goal
 
-abbrev pub invariant-loop-j : goal.invariant-loop-j
-invariant-loop-j l = record {
-  done : (j c : ℕ) → j < l.j → c < length l.x → IsChanged (length l.x) l.by.den l.by.den l.initial.v l.x j l.e c (whole_cell (length l.x) l.v j c);
-  kept : (k : ℕ) → l.j * length l.x ≤ k → whole_at l.v k ≡ whole_at l.initial.v k;
-  small : IsSmall l.most l.v;
-  own : (k : ℕ) → k < l.j * length l.x → unsigned_abs (whole_at l.v k) ≤ l.own;
+abbrev pub invariant-loop-unknown : goal.invariant-loop-unknown
+invariant-loop-unknown l = record {
+  done : (j c : ℕ) → j < l.unknown → c < length l.row → IsChanged (length l.row) l.by.den l.by.den l.initial.numbers l.row j l.pivot_column c (whole_cell (length l.row) l.numbers j c);
+  kept : (k : ℕ) → l.unknown * length l.row ≤ k → whole_at l.numbers k ≡ whole_at l.initial.numbers k;
+  small : IsSmall l.most l.numbers;
+  own : (k : ℕ) → k < l.unknown * length l.row → unsigned_abs (whole_at l.numbers k) ≤ l.own;
 }

@@ -5,19 +5,19 @@ use Rattle.mpc_runs.proofs.WholeLists.{set_small}
 use Rattle.mpc_whole.proofs.WholeRows.{units_done, units_kept}
 use Rattle.mpc_whole.proofs.whole_rows.put_units.Goals as goal
 
-pub loop-i-preserved : goal.loop-i-preserved
-loop-i-preserved c =
+pub loop-index-preserved : goal.loop-index-preserved
+loop-index-preserved c =
     let w = c.args.width in
-    let i = c.loop-i.i in
-    let b : i * w + i < length c.loop-i.v = (let l : length c.loop-i.v ≡ length c.args.v.now = c.loop-i.auto.v in let s = c.requires.square in let r = row_below w i w i c.loop-i-test.true c.loop-i-test.true in omega arith) in
+    let i = c.loop-index.index in
+    let b : i * w + i < length c.loop-index.numbers = (let l : length c.loop-index.numbers ≡ length c.args.numbers.now = c.loop-index.auto.numbers in let s = c.requires.square in let r = row_below w i w i c.loop-index-test.true c.loop-index-test.true in omega arith) in
     record {
-      diagonal = λ j h. units_done w c.loop-i.v i c.loop-i-test.true b c.loop-i.invariant.diagonal j h (let k = c.loop-i-test.true in omega arith);
-      others = units_kept w c.loop-i.v i c.loop-i-test.true b c.loop-i.invariant.others;
-      small = set_small c.loop-i.v (i * w + i) (pos 1) b 1 c.loop-i.invariant.small (le_refl 1);
+      diagonal = λ j h. units_done w c.loop-index.numbers i c.loop-index-test.true b c.loop-index.invariant.diagonal j h (let k = c.loop-index-test.true in omega arith);
+      others = units_kept w c.loop-index.numbers i c.loop-index-test.true b c.loop-index.invariant.others;
+      small = set_small c.loop-index.numbers (i * w + i) (pos 1) b 1 c.loop-index.invariant.small (le_refl 1);
     }
 
 zeros_small : (xs : List ℤ) → ((k : ℕ) → whole_at xs k ≡ pos 0) → IsSmall 1 xs
 zeros_small xs h = record { each = λ k. subst (λ z. unsigned_abs z ≤ 1) (sym (h k)) (omega arith) }
 
-pub loop-i-init : goal.loop-i-init
-loop-i-init c = record { diagonal = λ j h. absurd (omega arith); others = λ j k h l m. c.requires.zeros (j * c.args.width + k); small = zeros_small c.args.v.now c.requires.zeros }
+pub loop-index-init : goal.loop-index-init
+loop-index-init c = record { diagonal = λ j h. absurd (omega arith); others = λ j k h l m. c.requires.zeros (j * c.args.width + k); small = zeros_small c.args.numbers.now c.requires.zeros }

@@ -7,5 +7,5 @@ use Rattle.mpc_whole.specs.Whole.{HasBasis, IsRowOf}
 use Rattle.mpc_whole.proofs.Nonbasic.{IsFirstOf}
 use Rattle.mpc_whole.proofs.whole_turn.entering.Given as goal
 
-abbrev pub invariant-loop-c : goal.invariant-loop-c
-invariant-loop-c v = (seats : List Seat) (p : Position) (k : List ℕ) (l d : ℕ) → IsSeated (height v.system) v.system.width v.n seats → AreNonbasic v.system.width seats v.nonbasic → 0 < d → HasBasis v.n seats p → IsRowOf v.n seats k p d l v.x → IsFirstOf (may_enter v.system p l) v.nonbasic v.n v.c v.first
+abbrev pub invariant-loop-column : goal.invariant-loop-column
+invariant-loop-column v = (seats : List Seat) (p : Position) (k : List ℕ) (l d : ℕ) → IsSeated (height v.system) v.system.width v.count seats → AreNonbasic v.system.width seats v.nonbasic → 0 < d → HasBasis v.count seats p → IsRowOf v.count seats k p d l v.row → IsFirstOf (may_enter v.system p l) v.nonbasic v.count v.column v.first

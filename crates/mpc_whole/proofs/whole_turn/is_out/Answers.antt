@@ -13,44 +13,44 @@ use Rattle.mpc_whole.proofs.whole_turn.is_out.Goals as goal
 use Rattle.mpc_whole.proofs.whole_turn.is_out.Goals.{After-product-limit, After-product-next}
 
 pub row_times-first-requires-clause-result_small : goal.row_times-first-requires-clause-result_small
-row_times-first-requires-clause-result_small c = λ t. subst (λ w. unsigned_abs (whole_total w (λ j. whole_cell w c.args.frame.now.a.now c.args.i j *ℤ whole_at c.args.c_1.now j)) ≤ 2 ^ 62) (sym c.requires.parts.first_size) ((c.requires.short t).first c.args.i)
+row_times-first-requires-clause-result_small c = λ t. subst (λ w. unsigned_abs (whole_total w (λ j. whole_cell w c.args.frame.now.a.now c.args.side j *ℤ whole_at c.args.firsts.now j)) ≤ 2 ^ 62) (sym c.requires.parts.first_size) ((c.requires.short t).first c.args.side)
 
 pub row_times-second-requires-clause-result_small : goal.row_times-second-requires-clause-result_small
-row_times-second-requires-clause-result_small c = λ t. subst (λ w. unsigned_abs (whole_total w (λ j. whole_cell w c.args.frame.now.a.now c.args.i j *ℤ whole_at c.args.c_2.now j)) ≤ 2 ^ 62) (sym c.requires.parts.second_size) ((c.requires.short t).second c.args.i)
+row_times-second-requires-clause-result_small c = λ t. subst (λ w. unsigned_abs (whole_total w (λ j. whole_cell w c.args.frame.now.a.now c.args.side j *ℤ whole_at c.args.seconds.now j)) ≤ 2 ^ 62) (sym c.requires.parts.second_size) ((c.requires.short t).second c.args.side)
 
-limit_is : (c : After-product-limit) → to_z w128 (of_z w128 c.product-limit.result) ≡ whole_at c.args.frame.now.b.now c.args.i *ℤ pos c.args.den
+limit_is : (c : After-product-limit) → to_z w128 (of_z w128 c.product-limit.result) ≡ whole_at c.args.frame.now.b.now c.args.side *ℤ pos c.args.den
 limit_is c =
-    let f : FitsSigned w64 (get_or c.args.frame.now.b.now c.args.i (pos 0)) = search rules in
+    let f : FitsSigned w64 (get_or c.args.frame.now.b.now c.args.side (pos 0)) = search rules in
     let g : FitsSigned w64 c.signed.result = search rules in
-    back128 _ c.product-limit.type_inv ∙ both_back _ _ _ f g c.product-limit.ensures ∙ ap (λ z. whole_at c.args.frame.now.b.now c.args.i *ℤ z) c.signed.ensures.value
+    back128 _ c.product-limit.type_inv ∙ both_back _ _ _ f g c.product-limit.ensures ∙ ap (λ z. whole_at c.args.frame.now.b.now c.args.side *ℤ z) c.signed.ensures.value
 
-first_is : (c : After-product-limit) → to_z w128 (of_z w128 c.row_times-first.result) ≡ whole_total c.args.system.now.width (λ j. whole_cell c.args.system.now.width c.args.frame.now.a.now c.args.i j *ℤ whole_at c.args.c_1.now j)
+first_is : (c : After-product-limit) → to_z w128 (of_z w128 c.row_times-first.result) ≡ whole_total c.args.system.now.width (λ j. whole_cell c.args.system.now.width c.args.frame.now.a.now c.args.side j *ℤ whole_at c.args.firsts.now j)
 first_is c =
     back128 _ c.row_times-first.type_inv ∙ c.row_times-first.ensures.value
-    ∙ ap (λ w. whole_total w (λ j. whole_cell w c.args.frame.now.a.now c.args.i j *ℤ whole_at c.args.c_1.now j)) c.requires.parts.first_size
+    ∙ ap (λ w. whole_total w (λ j. whole_cell w c.args.frame.now.a.now c.args.side j *ℤ whole_at c.args.firsts.now j)) c.requires.parts.first_size
 
-bound_is : (c : After-product-limit) → HasSides c.args.system.now c.args.frame.now.scales.now c.args.frame.now.b.now → (bound c.args.system.now (c.args.system.now.width + c.args.i)).first ≡ frac (whole_at c.args.frame.now.b.now c.args.i) (scale_at c.args.frame.now.scales.now (c.args.system.now.width + c.args.i))
-bound_is c w = bound-first c.args.system.now c.args.i ∙ w.sides c.args.i c.requires.side
+bound_is : (c : After-product-limit) → HasSides c.args.system.now c.args.frame.now.scales.now c.args.frame.now.b.now → (bound c.args.system.now (c.args.system.now.width + c.args.side)).first ≡ frac (whole_at c.args.frame.now.b.now c.args.side) (scale_at c.args.frame.now.scales.now (c.args.system.now.width + c.args.side))
+bound_is c w = bound-first c.args.system.now c.args.side ∙ w.sides c.args.side c.requires.side
 
-scale : (c : After-product-limit) → 0 < scale_at c.args.frame.now.scales.now (c.args.system.now.width + c.args.i)
-scale c = c.requires.numbers.whole.scales.some (c.args.system.now.width + c.args.i) (let h = c.requires.side in omega arith)
+scale : (c : After-product-limit) → 0 < scale_at c.args.frame.now.scales.now (c.args.system.now.width + c.args.side)
+scale c = c.requires.numbers.whole.scales.some (c.args.system.now.width + c.args.side) (let h = c.requires.side in omega arith)
 
 pub returns-then-limit-first : goal.returns-then-limit-first
 returns-then-limit-first c = λ p some v w.
     let at = (goal.at.returns-then-limit-first c).After-product-limit in
-    out_above (bound c.args.system.now (c.args.system.now.width + c.args.i)) (value c.args.system.now p (c.args.system.now.width + c.args.i)) _ _ (scale_at c.args.frame.now.scales.now (c.args.system.now.width + c.args.i)) c.args.den (scale at) some (bound_is at w) (v.first c.args.i c.requires.side)
+    out_above (bound c.args.system.now (c.args.system.now.width + c.args.side)) (value c.args.system.now p (c.args.system.now.width + c.args.side)) _ _ (scale_at c.args.frame.now.scales.now (c.args.system.now.width + c.args.side)) c.args.den (scale at) some (bound_is at w) (v.first c.args.side c.requires.side)
     (subst₂ (λ x y. x <ℤ y) (limit_is at) (first_is at) (lt_so _ _ c.if-limit-first.true))
 
 pub returns-then-first-limit : goal.returns-then-first-limit
 returns-then-first-limit c = λ p some v w.
     let at = (goal.at.returns-then-first-limit c).After-product-limit in
-    out_below (bound c.args.system.now (c.args.system.now.width + c.args.i)) (value c.args.system.now p (c.args.system.now.width + c.args.i)) _ _ (scale_at c.args.frame.now.scales.now (c.args.system.now.width + c.args.i)) c.args.den (scale at) some (bound_is at w) (v.first c.args.i c.requires.side)
+    out_below (bound c.args.system.now (c.args.system.now.width + c.args.side)) (value c.args.system.now p (c.args.system.now.width + c.args.side)) _ _ (scale_at c.args.frame.now.scales.now (c.args.system.now.width + c.args.side)) c.args.den (scale at) some (bound_is at w) (v.first c.args.side c.requires.side)
     (subst₂ (λ x y. x <ℤ y) (first_is at) (limit_is at) (lt_so _ _ c.if-first-limit.true))
 
-second_is : (c : After-product-next) → to_z w128 (of_z w128 c.row_times-second.result) ≡ whole_total c.args.system.now.width (λ j. whole_cell c.args.system.now.width c.args.frame.now.a.now c.args.i j *ℤ whole_at c.args.c_2.now j)
+second_is : (c : After-product-next) → to_z w128 (of_z w128 c.row_times-second.result) ≡ whole_total c.args.system.now.width (λ j. whole_cell c.args.system.now.width c.args.frame.now.a.now c.args.side j *ℤ whole_at c.args.seconds.now j)
 second_is c =
     back128 _ c.row_times-second.type_inv ∙ c.row_times-second.ensures.value
-    ∙ ap (λ w. whole_total w (λ j. whole_cell w c.args.frame.now.a.now c.args.i j *ℤ whole_at c.args.c_2.now j)) c.requires.parts.second_size
+    ∙ ap (λ w. whole_total w (λ j. whole_cell w c.args.frame.now.a.now c.args.side j *ℤ whole_at c.args.seconds.now j)) c.requires.parts.second_size
 
 next_is : (c : After-product-next) → to_z w128 (of_z w128 c.product-next.result) ≡ c.step_of-step.result *ℤ pos c.args.den
 next_is c =
@@ -61,7 +61,7 @@ next_is c =
 pub returns-then-next-second : goal.returns-then-next-second
 returns-then-next-second c = λ p some v w.
     let all = goal.at.returns-then-next-second c in
-    out_next (bound c.args.system.now (c.args.system.now.width + c.args.i)) (value c.args.system.now p (c.args.system.now.width + c.args.i)) _ _ (scale_at c.args.frame.now.scales.now (c.args.system.now.width + c.args.i)) c.args.den (scale all.After-product-limit) some (bound_is all.After-product-limit w) (v.first c.args.i c.requires.side) _ _ c.step_of-step.ensures.value (v.second c.args.i c.requires.side)
+    out_next (bound c.args.system.now (c.args.system.now.width + c.args.side)) (value c.args.system.now p (c.args.system.now.width + c.args.side)) _ _ (scale_at c.args.frame.now.scales.now (c.args.system.now.width + c.args.side)) c.args.den (scale all.After-product-limit) some (bound_is all.After-product-limit w) (v.first c.args.side c.requires.side) _ _ c.step_of-step.ensures.value (v.second c.args.side c.requires.side)
     (subst₂ (λ x y. x ≤ℤ y) (first_is all.After-product-limit) (limit_is all.After-product-limit) (not_lt_so _ _ c.if-limit-first.false))
     (subst₂ (λ x y. x ≤ℤ y) (limit_is all.After-product-limit) (first_is all.After-product-limit) (not_lt_so _ _ c.if-first-limit.false))
     (subst₂ (λ x y. x <ℤ y) (next_is all.After-product-next) (second_is all.After-product-next) (lt_so _ _ c.if-next-second.true))
@@ -69,15 +69,15 @@ returns-then-next-second c = λ p some v w.
 pub returns : goal.returns
 returns c = λ p some v w.
     let all = goal.at.returns c in
-    out_not (bound c.args.system.now (c.args.system.now.width + c.args.i)) (value c.args.system.now p (c.args.system.now.width + c.args.i)) _ _ (scale_at c.args.frame.now.scales.now (c.args.system.now.width + c.args.i)) c.args.den (scale all.After-product-limit) some (bound_is all.After-product-limit w) (v.first c.args.i c.requires.side) _ _ c.step_of-step.ensures.value (v.second c.args.i c.requires.side)
+    out_not (bound c.args.system.now (c.args.system.now.width + c.args.side)) (value c.args.system.now p (c.args.system.now.width + c.args.side)) _ _ (scale_at c.args.frame.now.scales.now (c.args.system.now.width + c.args.side)) c.args.den (scale all.After-product-limit) some (bound_is all.After-product-limit w) (v.first c.args.side c.requires.side) _ _ c.step_of-step.ensures.value (v.second c.args.side c.requires.side)
     (subst₂ (λ x y. x ≤ℤ y) (first_is all.After-product-limit) (limit_is all.After-product-limit) (not_lt_so _ _ c.if-limit-first.false))
     (subst₂ (λ x y. x ≤ℤ y) (limit_is all.After-product-limit) (first_is all.After-product-limit) (not_lt_so _ _ c.if-first-limit.false))
     (subst₂ (λ x y. x ≤ℤ y) (second_is all.After-product-next) (next_is all.After-product-next) (not_lt_so _ _ c.if-next-second.false))
 
 pub row_times-first-requires-clause-inside : goal.row_times-first-requires-clause-inside
 row_times-first-requires-clause-inside c =
-    subst (λ w. c.args.i * w + w ≤ length c.args.frame.now.a.now) (sym c.requires.parts.first_size)
-    (rows_in c.args.system.now.width c.args.i (height c.args.system.now) (length c.args.frame.now.a.now) c.requires.side c.requires.numbers.whole.entries_size)
+    subst (λ w. c.args.side * w + w ≤ length c.args.frame.now.a.now) (sym c.requires.parts.first_size)
+    (rows_in c.args.system.now.width c.args.side (height c.args.system.now) (length c.args.frame.now.a.now) c.requires.side c.requires.numbers.whole.entries_size)
 
 pub row_times-first-requires-clause-room : goal.row_times-first-requires-clause-room
 row_times-first-requires-clause-room c = subst (λ w. HasRoom w (2 ^ 62) c.args.frame.now.a.now) (sym c.requires.parts.first_size) c.requires.numbers.room
@@ -87,8 +87,8 @@ row_times-first-requires-clause-four c = λ t. c.requires.parts.first_size ∙ c
 
 pub row_times-second-requires-clause-inside : goal.row_times-second-requires-clause-inside
 row_times-second-requires-clause-inside c =
-    subst (λ w. c.args.i * w + w ≤ length c.args.frame.now.a.now) (sym c.requires.parts.second_size)
-    (rows_in c.args.system.now.width c.args.i (height c.args.system.now) (length c.args.frame.now.a.now) c.requires.side c.requires.numbers.whole.entries_size)
+    subst (λ w. c.args.side * w + w ≤ length c.args.frame.now.a.now) (sym c.requires.parts.second_size)
+    (rows_in c.args.system.now.width c.args.side (height c.args.system.now) (length c.args.frame.now.a.now) c.requires.side c.requires.numbers.whole.entries_size)
 
 pub row_times-second-requires-clause-room : goal.row_times-second-requires-clause-room
 row_times-second-requires-clause-room c = subst (λ w. HasRoom w (2 ^ 62) c.args.frame.now.a.now) (sym c.requires.parts.second_size) c.requires.numbers.room

@@ -4,10 +4,10 @@ use Rattle.mpc_whole.proofs.ShortValues.{values_short}
 use Rattle.mpc_whole.proofs.whole_turn.leaving.Goals as goal
 
 pub first_out-requires-then-unknowns-eq4-clause-short : goal.first_out-requires-then-unknowns-eq4-clause-short
-first_out-requires-then-unknowns-eq4-clause-short c = λ t. values_short c.args.system.now c.args.frame.now.scales.now c.args.frame.now.a.now c.args.frame.now.b.now c.args.c_1.now c.args.c_2.now c.args.frame.now.most c.requires.frame.bounds c.requires.frame.numbers.whole.scales (c.are_small.ensures.first c.if-not-are_small.false) (c.are_small.ensures.second c.if-not-are_small.false)
+first_out-requires-then-unknowns-eq4-clause-short c = λ t. values_short c.args.system.now c.args.frame.now.scales.now c.args.frame.now.a.now c.args.frame.now.b.now c.args.firsts.now c.args.seconds.now c.args.frame.now.most c.requires.frame.bounds c.requires.frame.numbers.whole.scales (c.are_small.ensures.first c.if-not-are_small.false) (c.are_small.ensures.second c.if-not-are_small.false)
 
 pub first_out-requires-2-clause-short : goal.first_out-requires-2-clause-short
-first_out-requires-2-clause-short c = λ t. values_short c.args.system.now c.args.frame.now.scales.now c.args.frame.now.a.now c.args.frame.now.b.now c.args.c_1.now c.args.c_2.now c.args.frame.now.most c.requires.frame.bounds c.requires.frame.numbers.whole.scales (c.are_small.ensures.first c.if-not-are_small.false) (c.are_small.ensures.second c.if-not-are_small.false)
+first_out-requires-2-clause-short c = λ t. values_short c.args.system.now c.args.frame.now.scales.now c.args.frame.now.a.now c.args.frame.now.b.now c.args.firsts.now c.args.seconds.now c.args.frame.now.most c.requires.frame.bounds c.requires.frame.numbers.whole.scales (c.are_small.ensures.first c.if-not-are_small.false) (c.are_small.ensures.second c.if-not-are_small.false)
 
 pub first_out-requires-clause-side : goal.first_out-requires-clause-side
 first_out-requires-clause-side c = c.requires.side

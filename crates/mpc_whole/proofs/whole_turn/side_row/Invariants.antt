@@ -3,5 +3,5 @@ use Rattle.mpc_runs.specs.WholeNumbers.{whole_total}
 use Rattle.mpc_scaled.specs.Scaled.{whole_at, whole_cell}
 use Rattle.mpc_whole.proofs.whole_turn.side_row.Given as goal
 
-abbrev pub invariant-loop-c : goal.invariant-loop-c
-invariant-loop-c l = (c : ℕ) → c < l.c → whole_at l.x c ≡ whole_total l.system.width (λ j. whole_cell l.system.width l.a l.i j *ℤ whole_cell l.system.width l.v j c)
+abbrev pub invariant-loop-column : goal.invariant-loop-column
+invariant-loop-column l = (c : ℕ) → c < l.column → whole_at l.row c ≡ whole_total l.system.width (λ j. whole_cell l.system.width l.entries l.side j *ℤ whole_cell l.system.width l.numbers j c)

@@ -2,5 +2,5 @@ use Rattle.std.proofs.Common.{◌≡◌, ℕ, ◌<◌, pos}
 use Rattle.mpc_scaled.specs.Scaled.{whole_at}
 use Rattle.mpc_whole.proofs.whole_values.clear.Given as goal
 
-abbrev pub invariant-loop-j : goal.invariant-loop-j
-invariant-loop-j l = (k : ℕ) → k < l.j → whole_at l.list k ≡ pos 0
+abbrev pub invariant-loop-index : goal.invariant-loop-index
+invariant-loop-index l = (k : ℕ) → k < l.index → whole_at l.list k ≡ pos 0

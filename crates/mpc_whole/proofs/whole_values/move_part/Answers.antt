@@ -23,27 +23,27 @@ stays width a i g v e den size c zeros none = record {
       ∙ sym (λ t. (zeros j t *ℤ pos size) +ℤ neg_ℤ (whole_cell width v j e *ℤ (whole_total-zeros width (λ m. whole_cell width a i m *ℤ whole_at c m) (λ m. ap (λ u. whole_cell width a i m *ℤ u) (zeros m) ∙ times_zero (whole_cell width a i m)) t +ℤ neg_ℤ (none t *ℤ pos den))));
 }
 
-pub loop-j-preserved : goal.loop-j-preserved
-loop-j-preserved c =
-    let w = length c.args.c.now in
-    let b : c.loop-j.j < length c.loop-j.c = (let q : length c.loop-j.c ≡ length c.args.c.now = c.loop-j.auto.c in let t = c.loop-j-test.true in omega arith) in
+pub loop-unknown-preserved : goal.loop-unknown-preserved
+loop-unknown-preserved c =
+    let w = length c.args.values.now in
+    let b : c.loop-unknown.unknown < length c.loop-unknown.values = (let q : length c.loop-unknown.values ≡ length c.args.values.now = c.loop-unknown.auto.values in let t = c.loop-unknown-test.true in omega arith) in
     let z = to_z w64 (of_z w64 c.in_ok-new.new) in
     let back : z ≡ c.in_ok-new.new = read_small c.in_ok-new.new c.in_ok-new.ensures.small in
-    let old : to_z w64 (of_z w64 (get_or c.loop-j.c c.loop-j.j (pos 0))) ≡ whole_at c.args.c.now c.loop-j.j = read_small _ (c.loop-j.invariant.small.each c.loop-j.j) ∙ c.loop-j.invariant.kept c.loop-j.j (le_refl c.loop-j.j) in
-    let factor : to_z w64 (of_z w64 (get_or c.args.v.now (c.loop-j.j * w + c.args.pivot.e) (pos 0))) ≡ whole_cell w c.args.v.now c.loop-j.j c.args.pivot.e = read_small _ (c.requires.pivot.numbers_small.each (c.loop-j.j * w + c.args.pivot.e)) in
-    let over : to_z w64 (of_z w64 c.in_ok-over.over) ≡ excess w c.args.a.now c.args.pivot.i (to_z w64 (of_z w64 c.args.limit)) c.args.pivot.by.den c.args.c.now = read_small _ c.in_ok-over.ensures.small ∙ c.in_ok-over.ensures.value in
-    let e : z *ℤ pos c.args.pivot.by.den ≡ (whole_at c.args.c.now c.loop-j.j *ℤ pos c.args.pivot.size) +ℤ neg_ℤ (whole_cell w c.args.v.now c.loop-j.j c.args.pivot.e *ℤ excess w c.args.a.now c.args.pivot.i (to_z w64 (of_z w64 c.args.limit)) c.args.pivot.by.den c.args.c.now) =
+    let old : to_z w64 (of_z w64 (get_or c.loop-unknown.values c.loop-unknown.unknown (pos 0))) ≡ whole_at c.args.values.now c.loop-unknown.unknown = read_small _ (c.loop-unknown.invariant.small.each c.loop-unknown.unknown) ∙ c.loop-unknown.invariant.kept c.loop-unknown.unknown (le_refl c.loop-unknown.unknown) in
+    let factor : to_z w64 (of_z w64 (get_or c.args.numbers.now (c.loop-unknown.unknown * w + c.args.pivot.column) (pos 0))) ≡ whole_cell w c.args.numbers.now c.loop-unknown.unknown c.args.pivot.column = read_small _ (c.requires.pivot.numbers_small.each (c.loop-unknown.unknown * w + c.args.pivot.column)) in
+    let over : to_z w64 (of_z w64 c.in_ok-over.over) ≡ excess w c.args.entries.now c.args.pivot.side (to_z w64 (of_z w64 c.args.limit)) c.args.pivot.by.den c.args.values.now = read_small _ c.in_ok-over.ensures.small ∙ c.in_ok-over.ensures.value in
+    let e : z *ℤ pos c.args.pivot.by.den ≡ (whole_at c.args.values.now c.loop-unknown.unknown *ℤ pos c.args.pivot.size) +ℤ neg_ℤ (whole_cell w c.args.numbers.now c.loop-unknown.unknown c.args.pivot.column *ℤ excess w c.args.entries.now c.args.pivot.side (to_z w64 (of_z w64 c.args.limit)) c.args.pivot.by.den c.args.values.now) =
     ap (λ u. u *ℤ pos c.args.pivot.by.den) back ∙ c.in_ok-new.ensures.value ∙ (λ t. (old t *ℤ pos c.args.pivot.size) +ℤ neg_ℤ (factor t *ℤ over t))
     in
     record {
-      done = set_product c.loop-j.c c.loop-j.j z b (pos c.args.pivot.by.den) (λ k. (whole_at c.args.c.now k *ℤ pos c.args.pivot.size) +ℤ neg_ℤ (whole_cell w c.args.v.now k c.args.pivot.e *ℤ excess w c.args.a.now c.args.pivot.i (to_z w64 (of_z w64 c.args.limit)) c.args.pivot.by.den c.args.c.now)) c.loop-j.invariant.done e;
-      kept = set_above c.loop-j.c c.loop-j.j z b c.args.c.now c.loop-j.invariant.kept;
-      small = set_small c.loop-j.c c.loop-j.j z b (2 ^ 62) c.loop-j.invariant.small (subst (λ u. unsigned_abs u ≤ 2 ^ 62) (sym back) c.in_ok-new.ensures.small);
+      done = set_product c.loop-unknown.values c.loop-unknown.unknown z b (pos c.args.pivot.by.den) (λ k. (whole_at c.args.values.now k *ℤ pos c.args.pivot.size) +ℤ neg_ℤ (whole_cell w c.args.numbers.now k c.args.pivot.column *ℤ excess w c.args.entries.now c.args.pivot.side (to_z w64 (of_z w64 c.args.limit)) c.args.pivot.by.den c.args.values.now)) c.loop-unknown.invariant.done e;
+      kept = set_above c.loop-unknown.values c.loop-unknown.unknown z b c.args.values.now c.loop-unknown.invariant.kept;
+      small = set_small c.loop-unknown.values c.loop-unknown.unknown z b (2 ^ 62) c.loop-unknown.invariant.small (subst (λ u. unsigned_abs u ≤ 2 ^ 62) (sym back) c.in_ok-new.ensures.small);
     }
 
 pub returns-then-are_zero-clause-moved : goal.returns-then-are_zero-clause-moved
 returns-then-are_zero-clause-moved c =
-    stays (length c.args.c.now) c.args.a.now c.args.pivot.i c.args.limit c.args.v.now c.args.pivot.e c.args.pivot.by.den c.args.pivot.size c.args.c.now (c.are_zero.ensures c.if-are_zero.true)
+    stays (length c.args.values.now) c.args.entries.now c.args.pivot.side c.args.limit c.args.numbers.now c.args.pivot.column c.args.pivot.by.den c.args.pivot.size c.args.values.now (c.are_zero.ensures c.if-are_zero.true)
     (sym (to_z-of_z w64 c.args.limit c.ranges.limit) ∙ ap (to_z w64) c.if-limit-eq0.true)
 
 pub returns-in_err-over : goal.returns-in_err-over
@@ -51,22 +51,22 @@ returns-in_err-over c = rw c.from_residual.ensures (record { moved = tt; small =
 
 -- places in the column
 pub overflow_mul-factor : goal.overflow_mul-factor
-overflow_mul-factor c = let r = row_inside (length c.args.c.now) c.loop-j.j c.args.pivot.e (length c.args.v.now) c.requires.pivot.square c.loop-j-test.true c.requires.pivot.column in omega arith
+overflow_mul-factor c = let r = row_inside (length c.args.values.now) c.loop-unknown.unknown c.args.pivot.column (length c.args.numbers.now) c.requires.pivot.square c.loop-unknown-test.true c.requires.pivot.column in omega arith
 
 pub overflow_add-factor : goal.overflow_add-factor
-overflow_add-factor c = let r = row_inside (length c.args.c.now) c.loop-j.j c.args.pivot.e (length c.args.v.now) c.requires.pivot.square c.loop-j-test.true c.requires.pivot.column in omega arith
+overflow_add-factor c = let r = row_inside (length c.args.values.now) c.loop-unknown.unknown c.args.pivot.column (length c.args.numbers.now) c.requires.pivot.square c.loop-unknown-test.true c.requires.pivot.column in omega arith
 
-pub offset_bounds-v-j : goal.offset_bounds-v-j
-offset_bounds-v-j c = let r = row_inside (length c.args.c.now) c.loop-j.j c.args.pivot.e (length c.args.v.now) c.requires.pivot.square c.loop-j-test.true c.requires.pivot.column in omega arith
+pub offset_bounds-numbers-unknown : goal.offset_bounds-numbers-unknown
+offset_bounds-numbers-unknown c = let r = row_inside (length c.args.values.now) c.loop-unknown.unknown c.args.pivot.column (length c.args.numbers.now) c.requires.pivot.square c.loop-unknown-test.true c.requires.pivot.column in omega arith
 
-pub bounds-v-j : goal.bounds-v-j
-bounds-v-j c = row_inside (length c.args.c.now) c.loop-j.j c.args.pivot.e (length c.args.v.now) c.requires.pivot.square c.loop-j-test.true c.requires.pivot.column
+pub bounds-numbers-unknown : goal.bounds-numbers-unknown
+bounds-numbers-unknown c = row_inside (length c.args.values.now) c.loop-unknown.unknown c.args.pivot.column (length c.args.numbers.now) c.requires.pivot.square c.loop-unknown-test.true c.requires.pivot.column
 
 pub changed-requires-clause-v_small : goal.changed-requires-clause-v_small
-changed-requires-clause-v_small c = read_bound (whole_at c.loop-j.c c.loop-j.j) (2 ^ 62) (c.loop-j.invariant.small.each c.loop-j.j) (le_refl (2 ^ 62))
+changed-requires-clause-v_small c = read_bound (whole_at c.loop-unknown.values c.loop-unknown.unknown) (2 ^ 62) (c.loop-unknown.invariant.small.each c.loop-unknown.unknown) (le_refl (2 ^ 62))
 
 pub changed-requires-clause-k_small : goal.changed-requires-clause-k_small
-changed-requires-clause-k_small c = read_bound (whole_at c.args.v.now (c.loop-j.j * length c.args.c.now + c.args.pivot.e)) (2 ^ 62) (c.requires.pivot.numbers_small.each (c.loop-j.j * length c.args.c.now + c.args.pivot.e)) (le_refl (2 ^ 62))
+changed-requires-clause-k_small c = read_bound (whole_at c.args.numbers.now (c.loop-unknown.unknown * length c.args.values.now + c.args.pivot.column)) (2 ^ 62) (c.requires.pivot.numbers_small.each (c.loop-unknown.unknown * length c.args.values.now + c.args.pivot.column)) (le_refl (2 ^ 62))
 
 pub changed-requires-clause-x_small : goal.changed-requires-clause-x_small
 changed-requires-clause-x_small c = read_bound c.in_ok-over.over (2 ^ 62) c.in_ok-over.ensures.small (le_refl (2 ^ 62))
@@ -76,5 +76,5 @@ returns-in_err-new c = rw c.from_residual-in_err-new.ensures (record { moved = t
 
 pub returns-clause-moved : goal.returns-clause-moved
 returns-clause-moved c =
-    subst (λ g. IsMoved (length c.args.c.now) c.args.a.now c.args.pivot.i g c.args.v.now c.args.pivot.e c.args.pivot.by.den c.args.pivot.size c.args.c.now c.loop-j.c) (to_z-of_z w64 c.args.limit c.ranges.limit)
-    (record { each = λ j h. c.loop-j.invariant.done j (let t = c.loop-j-test.false in omega arith) })
+    subst (λ g. IsMoved (length c.args.values.now) c.args.entries.now c.args.pivot.side g c.args.numbers.now c.args.pivot.column c.args.pivot.by.den c.args.pivot.size c.args.values.now c.loop-unknown.values) (to_z-of_z w64 c.args.limit c.ranges.limit)
+    (record { each = λ j h. c.loop-unknown.invariant.done j (let t = c.loop-unknown-test.false in omega arith) })

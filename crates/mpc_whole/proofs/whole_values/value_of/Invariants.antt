@@ -10,8 +10,8 @@ use Rattle.mpc_scaled.specs.Scaled.{HasSides}
 use Rattle.mpc_runs.proofs.Table.{first_terms, second_terms}
 use Rattle.mpc_whole.proofs.whole_values.value_of.Given as goal
 
-abbrev pub invariant-loop-c : goal.invariant-loop-c
-invariant-loop-c l = record {
-  firsts : (seats : List Seat) → IsSeated (height l.system) l.system.width l.frame.n seats → AreNonbasic l.system.width seats l.nonbasic → (p : Position) (d : ℕ) → IsTableau p → IsForm l.system l.frame.n seats l.frame.scales.now d l.v p → HasSides l.system l.frame.scales.now l.frame.b.now → total l.c (λ m. first_terms l.system p l.j (variable_at l.nonbasic m)) ≡ frac l.first d;
-  seconds : (seats : List Seat) → IsSeated (height l.system) l.system.width l.frame.n seats → AreNonbasic l.system.width seats l.nonbasic → (p : Position) (d : ℕ) → IsTableau p → IsForm l.system l.frame.n seats l.frame.scales.now d l.v p → HasSides l.system l.frame.scales.now l.frame.b.now → total l.c (λ m. second_terms l.system p l.j (variable_at l.nonbasic m)) ≡ frac l.second d;
+abbrev pub invariant-loop-column : goal.invariant-loop-column
+invariant-loop-column l = record {
+  firsts : (seats : List Seat) → IsSeated (height l.system) l.system.width l.frame.count seats → AreNonbasic l.system.width seats l.nonbasic → (p : Position) (d : ℕ) → IsTableau p → IsForm l.system l.frame.count seats l.frame.scales.now d l.numbers p → HasSides l.system l.frame.scales.now l.frame.b.now → total l.column (λ m. first_terms l.system p l.unknown (variable_at l.nonbasic m)) ≡ frac l.first d;
+  seconds : (seats : List Seat) → IsSeated (height l.system) l.system.width l.frame.count seats → AreNonbasic l.system.width seats l.nonbasic → (p : Position) (d : ℕ) → IsTableau p → IsForm l.system l.frame.count seats l.frame.scales.now d l.numbers p → HasSides l.system l.frame.scales.now l.frame.b.now → total l.column (λ m. second_terms l.system p l.unknown (variable_at l.nonbasic m)) ≡ frac l.second d;
 }

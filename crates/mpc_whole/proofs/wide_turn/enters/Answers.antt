@@ -6,21 +6,21 @@ use Rattle.mpc_whole.proofs.Nonbasic.{below_nought}
 use Rattle.mpc_whole.proofs.WholeTurns.{side_enters, none_enters, as_unknown, lt_so, not_lt_so}
 use Rattle.mpc_whole.proofs.wide_turn.enters.Goals as goal
 
-pub returns-then-x-c-gt0 : goal.returns-then-x-c-gt0
-returns-then-x-c-gt0 c = λ n seats p k l d some below e h r.
-    let f : FitsSigned w128 (get_or c.args.x.now c.args.c (pos 0)) = search rules in
-    let above : pos 0 <ℤ whole_at c.args.x.now c.args.c = subst (λ z. pos 0 <ℤ z) (to_z-of_z w128 _ f) (lt_so _ _ c.if-x-c-gt0.true) in
-    side_enters c.args.system.now n seats k p d l c.args.x.now some h r c.args.y below c.args.c e above
+pub returns-then-row-column-gt0 : goal.returns-then-row-column-gt0
+returns-then-row-column-gt0 c = λ n seats p k l d some below e h r.
+    let f : FitsSigned w128 (get_or c.args.row.now c.args.column (pos 0)) = search rules in
+    let above : pos 0 <ℤ whole_at c.args.row.now c.args.column = subst (λ z. pos 0 <ℤ z) (to_z-of_z w128 _ f) (lt_so _ _ c.if-row-column-gt0.true) in
+    side_enters c.args.system.now n seats k p d l c.args.row.now some h r c.args.variable below c.args.column e above
 
-pub returns-then-x-c-eq0 : goal.returns-then-x-c-eq0
-returns-then-x-c-eq0 c = λ n seats p k l d some below e h r.
-    let f : FitsSigned w128 (get_or c.args.x.now c.args.c (pos 0)) = search rules in
-    let nought : whole_at c.args.x.now c.args.c ≡ pos 0 = sym (to_z-of_z w128 _ f) ∙ ap (to_z w128) c.if-x-c-eq0.true in
-    none_enters c.args.system.now n seats k p d l c.args.x.now some h r c.args.y below c.args.c e nought
+pub returns-then-row-column-eq0 : goal.returns-then-row-column-eq0
+returns-then-row-column-eq0 c = λ n seats p k l d some below e h r.
+    let f : FitsSigned w128 (get_or c.args.row.now c.args.column (pos 0)) = search rules in
+    let nought : whole_at c.args.row.now c.args.column ≡ pos 0 = sym (to_z-of_z w128 _ f) ∙ ap (to_z w128) c.if-row-column-eq0.true in
+    none_enters c.args.system.now n seats k p d l c.args.row.now some h r c.args.variable below c.args.column e nought
 
 pub returns : goal.returns
 returns c = λ n seats p k l d some below e h r.
-    let f : FitsSigned w128 (get_or c.args.x.now c.args.c (pos 0)) = search rules in
-    let most : whole_at c.args.x.now c.args.c ≤ℤ pos 0 = subst (λ z. z ≤ℤ pos 0) (to_z-of_z w128 _ f) (not_lt_so _ _ c.if-x-c-gt0.false) in
-    let less : whole_at c.args.x.now c.args.c <ℤ pos 0 = below_nought _ most (λ q. c.if-x-c-eq0.false (ap (of_z w128) q)) in
-    as_unknown c.args.system.now n seats k p d l c.args.x.now some h r c.args.y below c.args.c e less _ (ap (nat_lt c.args.y) c.unknowns.ensures)
+    let f : FitsSigned w128 (get_or c.args.row.now c.args.column (pos 0)) = search rules in
+    let most : whole_at c.args.row.now c.args.column ≤ℤ pos 0 = subst (λ z. z ≤ℤ pos 0) (to_z-of_z w128 _ f) (not_lt_so _ _ c.if-row-column-gt0.false) in
+    let less : whole_at c.args.row.now c.args.column <ℤ pos 0 = below_nought _ most (λ q. c.if-row-column-eq0.false (ap (of_z w128) q)) in
+    as_unknown c.args.system.now n seats k p d l c.args.row.now some h r c.args.variable below c.args.column e less _ (ap (nat_lt c.args.variable) c.unknowns.ensures)

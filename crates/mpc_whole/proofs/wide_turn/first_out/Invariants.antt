@@ -6,5 +6,5 @@ use Rattle.mpc_scaled.specs.Scaled.{HasSides}
 use Rattle.mpc_runs.specs.Leaving.{StayBefore}
 use Rattle.mpc_whole.proofs.wide_turn.first_out.Given as goal
 
-abbrev pub invariant-loop-x : goal.invariant-loop-x
-invariant-loop-x l = (p : Position) → 0 < l.place.den → HasBasis l.frame.n l.seats p → HasSideValues l.system l.frame.scales.now l.frame.a.now p l.place.den l.c_1 l.c_2 → HasSides l.system l.frame.scales.now l.frame.b.now → StayBefore l.system p l.place.first → least (may_leave l.system p) l.x ≡ None
+abbrev pub invariant-loop-variable : goal.invariant-loop-variable
+invariant-loop-variable l = (p : Position) → 0 < l.place.den → HasBasis l.frame.count l.seats p → HasSideValues l.system l.frame.scales.now l.frame.a.now p l.place.den l.firsts l.seconds → HasSides l.system l.frame.scales.now l.frame.b.now → StayBefore l.system p l.place.first → least (may_leave l.system p) l.variable ≡ None

@@ -7,31 +7,31 @@ use Rattle.mpc_scaled.specs.Scaled.{whole_cell}
 use Rattle.mpc_whole.proofs.WholeExchange.{rows_in}
 use Rattle.mpc_runs.proofs.WholeLists.{set_below}
 use Rattle.mpc_whole.proofs.wide_turn.wide_side_row.Goals as goal
-use Rattle.mpc_whole.proofs.wide_turn.wide_side_row.Goals.{After-loop-c}
+use Rattle.mpc_whole.proofs.wide_turn.wide_side_row.Goals.{After-loop-column}
 
 pub column_value-requires-clause-inside : goal.column_value-requires-clause-inside
 column_value-requires-clause-inside c =
-    subst (λ w. c.args.i * w + w ≤ length c.args.a.now) (sym c.unknowns-width.ensures)
-    (rows_in c.args.system.now.width c.args.i (height c.args.system.now) (length c.args.a.now) c.requires.side c.requires.entries)
+    subst (λ w. c.args.side * w + w ≤ length c.args.entries.now) (sym c.unknowns-width.ensures)
+    (rows_in c.args.system.now.width c.args.side (height c.args.system.now) (length c.args.entries.now) c.requires.side c.requires.entries)
 
 pub column_value-requires-clause-room : goal.column_value-requires-clause-room
-column_value-requires-clause-room c = λ h. subst (λ w. HasRoom w (2 ^ 62) c.args.a.now) (sym c.unknowns-width.ensures) (c.requires.room h)
+column_value-requires-clause-room c = λ h. subst (λ w. HasRoom w (2 ^ 62) c.args.entries.now) (sym c.unknowns-width.ensures) (c.requires.room h)
 
 pub column_value-requires-clause-square : goal.column_value-requires-clause-square
-column_value-requires-clause-square c = subst (λ w. length c.args.v.now ≡ w * w) (sym c.unknowns-width.ensures) c.requires.square
+column_value-requires-clause-square c = subst (λ w. length c.args.numbers.now ≡ w * w) (sym c.unknowns-width.ensures) c.requires.square
 
-pub loop-c-preserved : goal.loop-c-preserved
-loop-c-preserved c =
-    let b : c.loop-c.c < length c.loop-c.x = (let q : length c.loop-c.x ≡ length c.args.x.now = c.loop-c.auto.x in let r = c.requires.row_size in let t = c.loop-c-test.true in let e = c.unknowns-width.ensures in omega arith) in
-    let cell = λ (w k : ℕ). whole_total w (λ j. whole_cell w c.args.a.now c.args.i j *ℤ whole_cell w c.args.v.now j k) in
-    let f : FitsSigned w128 c.in_ok-z.z = search rules in
-    set_below c.loop-c.x c.loop-c.c (to_z w128 (of_z w128 c.in_ok-z.z)) b (cell c.args.system.now.width) c.loop-c.invariant
-    (to_z-of_z w128 _ f ∙ c.in_ok-z.ensures ∙ ap (λ w. cell w c.loop-c.c) c.unknowns-width.ensures)
+pub loop-column-preserved : goal.loop-column-preserved
+loop-column-preserved c =
+    let b : c.loop-column.column < length c.loop-column.row = (let q : length c.loop-column.row ≡ length c.args.row.now = c.loop-column.auto.row in let r = c.requires.row_size in let t = c.loop-column-test.true in let e = c.unknowns-width.ensures in omega arith) in
+    let cell = λ (w k : ℕ). whole_total w (λ j. whole_cell w c.args.entries.now c.args.side j *ℤ whole_cell w c.args.numbers.now j k) in
+    let f : FitsSigned w128 c.in_ok-cell.cell = search rules in
+    set_below c.loop-column.row c.loop-column.column (to_z w128 (of_z w128 c.in_ok-cell.cell)) b (cell c.args.system.now.width) c.loop-column.invariant
+    (to_z-of_z w128 _ f ∙ c.in_ok-cell.ensures ∙ ap (λ w. cell w c.loop-column.column) c.unknowns-width.ensures)
 
-long : (c : After-loop-c) → length c.loop-c.x ≡ c.args.system.now.width
-long c = (let q : length c.loop-c.x ≡ length c.args.x.now = c.loop-c.auto.x in q) ∙ c.requires.row_size
+long : (c : After-loop-column) → length c.loop-column.row ≡ c.args.system.now.width
+long c = (let q : length c.loop-column.row ≡ length c.args.row.now = c.loop-column.auto.row in q) ∙ c.requires.row_size
 
 pub returns : goal.returns
 returns c =
-    let at = (goal.at.returns c).After-loop-c in
-    record { size = long at; cells = λ k h. c.loop-c.invariant k (let e = c.unknowns-width.ensures in let t = c.loop-c-test.false in omega arith) }
+    let at = (goal.at.returns c).After-loop-column in
+    record { size = long at; cells = λ k h. c.loop-column.invariant k (let e = c.unknowns-width.ensures in let t = c.loop-column-test.false in omega arith) }

@@ -11,5 +11,5 @@ none_added x y = by_ring_ℤ (x ∷ y ∷ []) (search int_reads depth 30) (searc
 pub returns-then-factor-eq0 : goal.returns-then-factor-eq0
 returns-then-factor-eq0 c = λ j h.
     let zero : c.args.factor ≡ pos 0 = sym (to_z-of_z w64 c.args.factor c.ranges.factor) ∙ ap (to_z w64) c.if-factor-eq0.true in
-    let cell = whole_cell (length c.args.list.now) c.args.v.now j c.args.c in
+    let cell = whole_cell (length c.args.list.now) c.args.numbers.now j c.args.column in
     none_added (whole_at c.args.list.now j) cell ∙ ap (λ u. whole_at c.args.list.now j +ℤ (cell *ℤ u)) (sym zero)
