@@ -21,7 +21,7 @@ use Rattle.mpc_controller.specs.Replies.{first_outside, IsLawNumbered, RepliesAt
 use Rattle.mpc_table.specs.Lookup.{Lookup, IsTableOf}
 use Rattle.mpc_table.specs.TableReplies.{IsMoveReply, IsInfeasibleReply, CanMove}
 use Rattle.mpc_table.specs.TableTheorems.{OneListEach, MovesEachInput}
-use Rattle.mpc_answers.specs.Replies.{GridIsInBox}
+use Rattle.mpc_synthesis.specs.RightReplies.{GridIsInBox}
 use Rattle.mpc_synthesis.specs.Controllers.{IsController, ControllerIsRight}
 use Rattle.mpc_bench.specs.declared.controllers.Sizes.{Sizes}
 use Rattle.mpc_bench.specs.declared.replies.Answer.{Answer}

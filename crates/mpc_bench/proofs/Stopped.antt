@@ -3,8 +3,8 @@ use Rattle.std.proofs.Common.{◌≡◌, ℕ, List, sym, subst, Result, Ok, Err}
 use Rattle.std.specs.Result.{IfErr, IsErrAnd}
 use Rattle.mpc_plant.specs.declared.plants.Plant.{Plant}
 use Rattle.mpc_plant.specs.WholePlant.{ReadsAsPlant}
-use Rattle.mpc_convex.specs.declared.ProgramError.{ProgramError as SynthesisError}
-use Rattle.mpc_convex.specs.declared.ProgramError.TheVariants.{NotDefinite as NotDefinitePlant, TooWide as TooWidePlant, NoMemory as NoMoreMemory}
+use Rattle.mpc_condense.specs.declared.convex.ProgramError.{ProgramError as SynthesisError}
+use Rattle.mpc_condense.specs.declared.convex.ProgramError.TheVariants.{NotDefinite as NotDefinitePlant, TooWide as TooWidePlant, NoMemory as NoMoreMemory}
 use Rattle.mpc_synthesis.specs.Refusals.{controller, ExplainsSynthesisError}
 use Rattle.mpc_bench.specs.declared.phases.Phase.{Phase}
 use Rattle.mpc_bench.specs.declared.phases.Stop.{Stop}

@@ -5,9 +5,9 @@ use Rattle.mpc_plant.specs.declared.plants.Plant.{Plant}
 use Rattle.mpc_plant.specs.declared.faults.PlantKind.{PlantKind}
 use Rattle.mpc_plant.specs.WholePlant.{ReadsAsPlant, IsFirstFault}
 use Rattle.mpc_rows.specs.declared.places.Place.{Place}
-use Rattle.mpc_convex.specs.declared.ProgramError.{ProgramError as SynthesisError}
-use Rattle.mpc_convex.specs.declared.ProgramError.TheVariants.{NotDefinite as NotDefinitePlant, TooWide as TooWidePlant, NoMemory as NoMoreMemory}
-use Rattle.mpc_convex.specs.Refusals.{IsNotDefiniteAt}
+use Rattle.mpc_condense.specs.declared.convex.ProgramError.{ProgramError as SynthesisError}
+use Rattle.mpc_condense.specs.declared.convex.ProgramError.TheVariants.{NotDefinite as NotDefinitePlant, TooWide as TooWidePlant, NoMemory as NoMoreMemory}
+use Rattle.mpc_condense.specs.Refusals.{IsNotDefiniteAt}
 use Rattle.mpc_synthesis.specs.Refusals.{controller, FirstWide}
 use Rattle.mpc_bench.specs.declared.controllers.Sizes.{Sizes}
 use Rattle.mpc_bench.specs.declared.replies.Answer.{Answer}

@@ -22,8 +22,8 @@ use Rattle.mpc_synthesis.specs.Refusals.{controller}
 use Rattle.mpc_synthesis.specs.Outcomes.{Outcome, complete, IsOutcome}
 use Rattle.mpc_files.specs.FileOutcomes.{FileReading, fails, spells, IsFileReading, bad_file, finds, accepted}
 use Rattle.mpc_files.specs.FileAnswers.{HasController}
-use Rattle.mpc_safety.specs.RightForever.{SafeStaysRight}
-use Rattle.mpc_safety.specs.SafetyOutcomes.{bad_file as bad_safety_file, finds as finds_first, steps, safe}
+use Rattle.mpc_files.specs.RightForever.{SafeStaysRight}
+use Rattle.mpc_files.specs.SafetyOutcomes.{bad_file as bad_safety_file, finds as finds_first, steps, safe}
 use Rattle.mpc_theorem.specs.SafeFiles.{DueIsFound}
 use Rattle.mpc_status.specs.declared.status.Status.{Status}
 use Rattle.mpc_status.specs.declared.status.Status.TheVariants.{Done, BadPlant, TooLong, NoMemory}

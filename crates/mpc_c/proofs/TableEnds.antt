@@ -9,7 +9,7 @@ use Rattle.mpc_condense.specs.Condensed.{counts_of}
 use Rattle.mpc_controller.specs.Parts.{Parts}
 use Rattle.mpc_controller.specs.Replies.{at_state, IsAnswerTo}
 use Rattle.mpc_check.specs.Acceptance.{Accepts, AcceptedIsRight}
-use Rattle.mpc_answers.specs.Replies.{GridIsInBox}
+use Rattle.mpc_synthesis.specs.RightReplies.{GridIsInBox}
 use Rattle.mpc_block.specs.declared.layouts.LayoutError.{LayoutError}
 use Rattle.mpc_block.specs.declared.layouts.LayoutError.TheVariants.{NoRoom}
 use Rattle.mpc_block.specs.declared.replies.Move.{Move}

@@ -11,7 +11,7 @@ use Rattle.mpc_rows.specs.declared.places.Place.{Place}
 use Rattle.mpc_condense.specs.Condensed.{IsCondensed}
 use Rattle.mpc_controller.specs.Parts.{limits_of}
 use Rattle.mpc_controller.specs.Replies.{first_outside}
-use Rattle.mpc_convex.specs.Refusals.{IsNotDefiniteAt}
+use Rattle.mpc_condense.specs.Refusals.{IsNotDefiniteAt}
 use Rattle.mpc_synthesis.specs.Refusals.{Extent, FirstWide}
 use Rattle.mpc_states.specs.StateLines.{IsTooWide}
 use Rattle.mpc_cli.specs.Statuses.{ReadsWith}

@@ -16,14 +16,14 @@ use mpc_check::{Answer, CheckError, accepted_replies, check_alone};
 use mpc_cli::due_statuses;
 use mpc_controller::{Controller, replies_everywhere};
 use mpc_file::{FileError, one_text, read_file, write_file};
+use mpc_files::safe_stays_right;
 use mpc_frac::NoMemory;
 use mpc_plant::{Plant, PlantError, read_plant};
 use mpc_recur::{Recur, RecurError, recur};
-use mpc_safety::safe_stays_right;
 use mpc_status::{LatePlace, Status};
 use mpc_synthesis::{SynthesisError, controller, one_controller, right_controller};
-use mpc_text::add_text;
 use mpc_theorem::{file_output_theorems, plant_texts, safe_file_theorems};
+use mpc_words::add_text;
 use mpc_workers::OpenGate;
 use std::alloc::Global;
 

@@ -14,13 +14,13 @@ ghost use Rattle.mpc_controller.specs.Replies.{first_outside};
 ghost use Rattle.mpc_c.specs.States.{Says};
 
 use crate::fractions::put_numbers;
-use mpc_answers::grid_points;
 use mpc_block::Move;
-use mpc_convex::{ProgramError, convex_program};
+use mpc_condense::{ProgramError, convex_program};
 use mpc_online::{Online, OnlineError, solve_at};
 use mpc_plant::{Plant, PlantError, read_plant};
 use mpc_rows::Qp;
 use mpc_states::right_programs;
+use mpc_synthesis::grid_points;
 use mpc_table::find_outside;
 use std::alloc::Global;
 

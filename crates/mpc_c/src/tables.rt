@@ -11,11 +11,11 @@ ghost use Rattle.mpc_c.specs.Tables.{word_of, command_of, IsMeasured, HasMoves, 
 
 use crate::codes::{BAD_BLOCK, DONE, INFEASIBLE, OUTSIDE};
 use crate::files::{accepted, given};
-use mpc_answers::grid_points;
 use mpc_block::{BlockReply, Move, block_size, reply_in};
 use mpc_check::accepted_replies;
 use mpc_controller::Controller;
 use mpc_status::Status;
+use mpc_synthesis::grid_points;
 use std::alloc::Global;
 
 /// The number as a word, and the greatest word for a number that is greater.

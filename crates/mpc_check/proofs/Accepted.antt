@@ -33,7 +33,7 @@ use Rattle.mpc_controller.specs.Bounds.{IsController}
 use Rattle.mpc_controller.specs.Walk.{Reaches, root as at_root, yes_side as to_yes, no_side as to_no, EndsAt}
 use Rattle.mpc_controller.specs.Replies.{RepliesAt, by_law, by_no_law, first_move, IsLawNumbered}
 use Rattle.mpc_check.specs.Certs.{multipliers_of, named_at, CertRefutes}
-use Rattle.mpc_paths.specs.Paths.{PathTo, root, yes_side, no_side}
+use Rattle.mpc_controller.specs.Paths.{PathTo, root, yes_side, no_side}
 use Rattle.mpc_systems.specs.Systems.{hold_system, joint_system}
 use Rattle.mpc_systems.specs.CellTheorems.{CellTheorems}
 use Rattle.mpc_check.specs.Widths.{IsOfWidth}

@@ -17,14 +17,14 @@ use Rattle.mpc_rows.specs.LinearSystem.{LinearSystem, height}
 use Rattle.mpc_rows.specs.Certificates.{RisesFrom, IsCert}
 use Rattle.mpc_rows.specs.Refutation.{Refutes, SumsFit}
 use Rattle.mpc_rows.specs.SetRuns.{box_rows}
-use Rattle.mpc_convex.specs.declared.ProgramError.{ProgramError}
-use Rattle.mpc_convex.specs.declared.ProgramError.TheVariants.{TooWide, NotDefinite, NoMemory}
-use Rattle.mpc_paths.specs.declared.ways.Turn.{Turn}
+use Rattle.mpc_condense.specs.declared.convex.ProgramError.{ProgramError}
+use Rattle.mpc_condense.specs.declared.convex.ProgramError.TheVariants.{TooWide, NotDefinite, NoMemory}
+use Rattle.mpc_controller.specs.declared.ways.Turn.{Turn}
 use Rattle.mpc_check.specs.Certs.{IsPositionIn, HasPositionsIn, CertRefutes, CertFits}
 use Rattle.mpc_check.specs.Findings.{IsDecided}
 use Rattle.mpc_check.specs.Picks.{weights, picked_system}
 use Rattle.mpc_systems.specs.Writing.{widened}
-use Rattle.mpc_paths.specs.Ways.{way_rows}
+use Rattle.mpc_controller.specs.Ways.{way_rows}
 use Rattle.mpc_check.specs.LeafSystems.{system_at}
 use Rattle.mpc_check.proofs.RowPlaces.{box_count}
 use Rattle.mpc_check.proofs.SplitRows.{way_count}

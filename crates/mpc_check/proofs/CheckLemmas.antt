@@ -11,18 +11,18 @@ use Rattle.mpc_rows.specs.declared.trees.Node.{Node}
 use Rattle.mpc_rows.specs.declared.trees.Node.TheVariants.{Split, Law, NoMove}
 use Rattle.mpc_rows.specs.Laws.{HasLawShape}
 use Rattle.mpc_condense.specs.Condensed.{IsCondensed}
-use Rattle.mpc_convex.specs.Convex.{HasProgram, IsConvexProgram}
-use Rattle.mpc_convex.specs.Refusals.{IsProgramCause}
+use Rattle.mpc_condense.specs.Convex.{HasProgram, IsConvexProgram}
+use Rattle.mpc_condense.specs.Refusals.{IsProgramCause}
 use Rattle.mpc_controller.specs.Parts.{Parts, IsLawFor, IsNodeFor, HaveShapes}
 use Rattle.mpc_check.specs.declared.answers.Spot.{Spot}
-use Rattle.mpc_convex.specs.declared.ProgramError.{ProgramError}
-use Rattle.mpc_convex.specs.declared.ProgramError.TheVariants.{TooWide, NotDefinite, NoMemory}
+use Rattle.mpc_condense.specs.declared.convex.ProgramError.{ProgramError}
+use Rattle.mpc_condense.specs.declared.convex.ProgramError.TheVariants.{TooWide, NotDefinite, NoMemory}
 use Rattle.mpc_check.specs.Findings.{refused, IsSearched}
 use Rattle.mpc_check.specs.LawConditions.{LawsMet}
 use Rattle.mpc_check.specs.LeafConditions.{TreeMet, TreeFinds}
 use Rattle.mpc_check.specs.Acceptance.{BehindMet, BehindFinds, Accepts, IsFound, IsCause}
 use Rattle.mpc_check.specs.Stretches.{HaveProgramShapes}
-use Rattle.mpc_paths.specs.Ways.{HasSplitRow}
+use Rattle.mpc_controller.specs.Ways.{HasSplitRow}
 use Rattle.mpc_check.specs.LeafSystems.{NamesLaw}
 use Rattle.mpc_check.proofs.Accepted.{law_shape}
 

@@ -3,8 +3,8 @@ use Rattle.std.proofs.Common.{◌≡◌, ℕ, ◌+◌, ◌<◌, ◌≤◌, ◌�
 use Rattle.std.proofs.lemmas.Bool.{cases_order}
 use Rattle.mpc_rows.specs.declared.places.Place.{Place}
 use Rattle.mpc_check.specs.declared.answers.Spot.{Spot}
-use Rattle.mpc_convex.specs.declared.ProgramError.{ProgramError}
-use Rattle.mpc_convex.specs.declared.ProgramError.TheVariants.{TooWide, NotDefinite, NoMemory}
+use Rattle.mpc_condense.specs.declared.convex.ProgramError.{ProgramError}
+use Rattle.mpc_condense.specs.declared.convex.ProgramError.TheVariants.{TooWide, NotDefinite, NoMemory}
 use Rattle.mpc_check.specs.Findings.{Finding, refused, too_wide, not_definite, IsMet, IsUnmet, Each, IsFirstOf, IsFirstOfTwo, IsSearched, IsDecided}
 
 -- nothing is found where all is met, and at most one thing anyway

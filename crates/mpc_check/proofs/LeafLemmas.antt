@@ -17,18 +17,18 @@ use Rattle.mpc_rows.specs.LawRows.{IsLawRow, LawRowFits, broken_row}
 use Rattle.mpc_rows.specs.LawTheorems.{OneLawRow}
 use Rattle.mpc_controller.specs.Replies.{IsLawNumbered}
 use Rattle.mpc_check.specs.declared.answers.Spot.{Spot}
-use Rattle.mpc_convex.specs.declared.ProgramError.{ProgramError}
-use Rattle.mpc_convex.specs.declared.ProgramError.TheVariants.{TooWide, NotDefinite, NoMemory}
-use Rattle.mpc_paths.specs.declared.ways.Turn.{Turn}
+use Rattle.mpc_condense.specs.declared.convex.ProgramError.{ProgramError}
+use Rattle.mpc_condense.specs.declared.convex.ProgramError.TheVariants.{TooWide, NotDefinite, NoMemory}
+use Rattle.mpc_controller.specs.declared.ways.Turn.{Turn}
 use Rattle.mpc_check.specs.Certs.{CertFits, CertRefutes}
 use Rattle.mpc_check.specs.Findings.{Finding, refused, too_wide, not_definite, IsSearched, IsDecided}
 use Rattle.mpc_check.specs.LeafConditions.{RowFits, RowHolds, LawLeafMet, LawLeafFinds, NodeMet, NodeFinds, NodeAtMet, NodeAtFinds}
 use Rattle.mpc_systems.specs.Writing.{widened}
 use Rattle.mpc_systems.specs.Systems.{cell_system, hold_system, joint_system}
-use Rattle.mpc_paths.specs.Ways.{way_rows, IsWay}
+use Rattle.mpc_controller.specs.Ways.{way_rows, IsWay}
 use Rattle.mpc_check.specs.LeafSystems.{system_at}
-use Rattle.mpc_paths.specs.Paths.{OnePath}
-use Rattle.mpc_paths.specs.Ways.{PathOfWay}
+use Rattle.mpc_controller.specs.Paths.{OnePath}
+use Rattle.mpc_controller.specs.Ways.{PathOfWay}
 
 -- ---- systems
 pub widened-none : (rows : List Row) → map (widened 0) rows ≡ rows

@@ -11,8 +11,8 @@ use Rattle.mpc_rows.specs.declared.places.Place.TheVariants.{CheckLaw, CheckLeaf
 use Rattle.mpc_rows.specs.declared.trees.Node.{Node}
 use Rattle.mpc_rows.specs.declared.trees.Node.TheVariants.{Split, Law, NoMove}
 use Rattle.mpc_condense.specs.BestReplies.{OneProgram}
-use Rattle.mpc_convex.specs.Convex.{IsConvexProgram}
-use Rattle.mpc_convex.specs.Outcomes.{not_definite as indefinite, too_wide as wide, convex, OneProgramOutcome}
+use Rattle.mpc_condense.specs.Convex.{IsConvexProgram}
+use Rattle.mpc_condense.specs.Outcomes.{not_definite as indefinite, too_wide as wide, convex, OneProgramOutcome}
 use Rattle.mpc_controller.specs.Parts.{Parts}
 use Rattle.mpc_check.specs.declared.answers.Spot.TheVariants.{Stationary, Active, LeafRow, Leaf}
 use Rattle.mpc_systems.specs.Systems.{joint_system}
@@ -22,7 +22,7 @@ use Rattle.mpc_check.specs.LawConditions.{GradientFits, IsStationaryAt, Stationa
 use Rattle.mpc_check.specs.LeafConditions.{RowFits, RowHolds, LeafRowMet, LeafRowFinds, LawLeafMet, LawLeafFinds, NodeMet, NodeFinds, NodeAtMet, NodeAtFinds, TreeMet, TreeFinds}
 use Rattle.mpc_check.specs.Acceptance.{ProgramFinds, BehindMet, BehindFinds, NothingFound, OneFinding, NoProgramFinding}
 use Rattle.mpc_check.proofs.FindingLemmas.{IsSingle, single_condition, single_list, single_pair}
-use Rattle.mpc_paths.specs.Paths.{OnePath}
+use Rattle.mpc_controller.specs.Paths.{OnePath}
 
 -- ---- laws
 module _ (qp : Qp) (number : ℕ) (law : LawOfSet) where

@@ -8,7 +8,7 @@ use Rattle.mpc_rows.specs.declared.programs.Qp.{Qp}
 use Rattle.mpc_rows.specs.declared.laws.Law.{Law}
 use Rattle.mpc_rows.specs.declared.trees.Node.{Node}
 use Rattle.mpc_check.specs.declared.answers.Spot.{Spot}
-use Rattle.mpc_convex.specs.declared.ProgramError.{ProgramError}
+use Rattle.mpc_condense.specs.declared.convex.ProgramError.{ProgramError}
 use Rattle.mpc_check.specs.declared.stretches.Stretch.{Stretch}
 use Rattle.mpc_check.specs.Findings.{IsSearched}
 use Rattle.mpc_check.specs.LeafConditions.{NodeAtMet, NodeAtFinds, StretchMet, StretchFinds}

@@ -14,9 +14,9 @@ use Rattle.mpc_rows.specs.declared.trees.Node.{Node}
 use Rattle.mpc_rows.specs.declared.trees.Node.TheVariants.{Split, NoMove}
 use Rattle.mpc_rows.specs.LinearSystem.{no_row}
 use Rattle.mpc_controller.specs.Parts.{IsSplitRow}
-use Rattle.mpc_paths.specs.declared.ways.Turn.{Turn}
+use Rattle.mpc_controller.specs.declared.ways.Turn.{Turn}
 use Rattle.mpc_systems.specs.Writing.{widened}
-use Rattle.mpc_paths.specs.Ways.{HasSplitRow, IsTurn, side_row, split_row, turn_row, way_rows}
+use Rattle.mpc_controller.specs.Ways.{HasSplitRow, IsTurn, side_row, split_row, turn_row, way_rows}
 use Rattle.mpc_check.specs.LeafSystems.{system_at}
 use Rattle.mpc_check.specs.Widths.{IsOfWidth}
 use Rattle.mpc_check.proofs.ElementLemmas.{all_at, All-split}

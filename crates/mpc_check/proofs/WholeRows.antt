@@ -20,8 +20,8 @@ use Rattle.mpc_rows.specs.SetRuns.{axis, box_from, box_rows}
 use Rattle.mpc_check.specs.declared.whole_sums.Column.{Column}
 use Rattle.mpc_check.specs.declared.whole_sums.Column.TheVariants.{Unknown, Sides}
 use Rattle.mpc_check.specs.Columns.{number_in, IsColumnOf}
-use Rattle.mpc_paths.specs.Ways.{side_row, turn_row, way_rows}
-use Rattle.mpc_paths.specs.declared.ways.Turn.{Turn}
+use Rattle.mpc_controller.specs.Ways.{side_row, turn_row, way_rows}
+use Rattle.mpc_controller.specs.declared.ways.Turn.{Turn}
 use Rattle.mpc_systems.specs.Systems.{hold_system}
 use Rattle.mpc_check.proofs.RowPlaces.{box_count, in_box, in_path, in_last}
 

@@ -13,7 +13,7 @@ use Rattle.mpc_rows.specs.LawRows.{IsLawRow, LawRowFits}
 use Rattle.mpc_controller.specs.Replies.{IsLawNumbered}
 use Rattle.mpc_check.specs.declared.answers.Spot.TheVariants.{LeafRow, Leaf}
 use Rattle.mpc_systems.specs.Systems.{hold_system, joint_system}
-use Rattle.mpc_paths.specs.Paths.{PathTo}
+use Rattle.mpc_controller.specs.Paths.{PathTo}
 use Rattle.mpc_check.specs.Certs.{CertRefutes, CertFits}
 use Rattle.mpc_check.specs.Findings.{Finding, IsMet, IsUnmet, Each, IsFirstOf, EachFrom, IsFirstFrom, IsFirstOfTwo}
 

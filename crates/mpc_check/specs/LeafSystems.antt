@@ -8,8 +8,8 @@ use Rattle.mpc_rows.specs.declared.trees.Node.TheVariants.{Split, Law, NoMove}
 use Rattle.mpc_rows.specs.LinearSystem.{LinearSystem}
 use Rattle.mpc_systems.specs.Writing.{widened}
 use Rattle.mpc_systems.specs.Systems.{cell_system}
-use Rattle.mpc_paths.specs.declared.ways.Turn.{Turn}
-use Rattle.mpc_paths.specs.Ways.{way_rows}
+use Rattle.mpc_controller.specs.declared.ways.Turn.{Turn}
+use Rattle.mpc_controller.specs.Ways.{way_rows}
 
 -- a leaf names one of so many laws, from 1
 abbrev pub NamesLaw : ℕ → Node → Type 0

@@ -6,11 +6,11 @@ use Rattle.mpc_rows.specs.declared.trees.Node.{Node}
 use Rattle.mpc_rows.specs.Laws.{HasLawShape}
 use Rattle.mpc_controller.specs.Preorder.{IsTree}
 use Rattle.mpc_check.specs.declared.answers.Spot.{Spot}
-use Rattle.mpc_convex.specs.declared.ProgramError.{ProgramError}
+use Rattle.mpc_condense.specs.declared.convex.ProgramError.{ProgramError}
 use Rattle.mpc_check.specs.declared.stretches.Stretch.{Stretch}
 use Rattle.mpc_check.specs.Findings.{IsSearched}
 use Rattle.mpc_check.specs.LeafConditions.{StretchMet, StretchFinds}
-use Rattle.mpc_paths.specs.Ways.{HasSplitRow}
+use Rattle.mpc_controller.specs.Ways.{HasSplitRow}
 use Rattle.mpc_check.specs.LeafSystems.{NamesLaw}
 
 -- laws with the shapes of the program, and a tree over them whose splits are on its states

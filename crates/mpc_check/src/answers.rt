@@ -1,7 +1,7 @@
 //! What a check answers.
 
 /// Why nothing is found of a controller. `TooWide` names the place of the first condition that isn't met.
-pub use mpc_convex::ProgramError as CheckError;
+pub use mpc_condense::ProgramError as CheckError;
 
 /// Where a controller fails. Laws, lines, rows and nodes are counted from 1.
 #[derive(Clone, Copy, Debug, PartialEq, Eq, Drop)]

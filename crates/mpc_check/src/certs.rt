@@ -10,7 +10,7 @@ ghost use Rattle.mpc_check.specs.Findings.{IsDecided};
 ghost use Rattle.mpc_check.specs.Picks.{picked_system, weights};
 ghost use Rattle.mpc_systems.specs.Systems.{hold_system};
 ghost use Rattle.mpc_systems.specs.Writing.{IsOfSize};
-ghost use Rattle.mpc_paths.specs.Ways.{HasSplitRow, IsTurn, way_rows};
+ghost use Rattle.mpc_controller.specs.Ways.{HasSplitRow, IsTurn, way_rows};
 ghost use Rattle.mpc_check.specs.LeafSystems.{system_at};
 ghost use Rattle.mpc_check.specs.Widths.{IsOfWidth};
 

@@ -1,15 +1,15 @@
 //! The check of a controller.
 
 ghost use Rattle.std.specs.Prelude.{IfOk, IfErr};
-ghost use Rattle.mpc_convex.specs.Convex.{HasProgram};
+ghost use Rattle.mpc_condense.specs.Convex.{HasProgram};
 ghost use Rattle.mpc_check.specs.Acceptance.{BehindMet, BehindFinds, IsAnswer, IsCause};
 ghost use Rattle.mpc_check.specs.Findings.{IsSearched};
 
 use crate::answers::{Answer, CheckError, Spot};
 use crate::gradients::search_laws;
 use crate::stretches::{search_tree, search_tree_in_threads};
+use mpc_condense::convex_program;
 use mpc_controller::Controller;
-use mpc_convex::convex_program;
 use mpc_rows::Qp;
 use std::alloc::Global;
 use std::thread::Threads;

@@ -12,7 +12,7 @@ ghost use Rattle.mpc_check.specs.Certs.{CertFits, CertRefutes};
 ghost use Rattle.mpc_check.specs.declared.borders.Formed.{Formed};
 ghost use Rattle.mpc_check.specs.Findings.{IsSearched, IsDecided};
 ghost use Rattle.mpc_check.specs.LeafConditions.{RowFits, RowHolds, LawLeafMet, LawLeafFinds, EmptyLeafMet, EmptyLeafFinds, NodeMet, NodeFinds};
-ghost use Rattle.mpc_paths.specs.Ways.{HasSplitRow, IsTurn, way_rows};
+ghost use Rattle.mpc_controller.specs.Ways.{HasSplitRow, IsTurn, way_rows};
 ghost use Rattle.mpc_check.specs.LeafSystems.{NamesLaw};
 
 use crate::answers::{CheckError, Spot};

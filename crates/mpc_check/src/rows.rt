@@ -3,11 +3,11 @@
 ghost use Rattle.std.specs.Prelude.{◌≡◌, ◌+◌, ◌*◌, ◌<◌, ◌≤◌, All, IfOk, length, slice_index_or};
 ghost use Rattle.mpc_rows.specs.LinearSystem.{no_row};
 ghost use Rattle.mpc_systems.specs.Writing.{widened};
-ghost use Rattle.mpc_paths.specs.Ways.{HasSplitRow, IsTurn, turn_row};
+ghost use Rattle.mpc_controller.specs.Ways.{HasSplitRow, IsTurn, turn_row};
 ghost use Rattle.mpc_check.specs.LeafSystems.{system_at};
 
+use mpc_controller::Turn;
 use mpc_frac::NoMemory;
-use mpc_paths::Turn;
 use mpc_rows::{Node, Qp, Row, Tree};
 use mpc_systems::{box_row, widened_broken_row, widened_whole_row};
 use std::alloc::Global;

@@ -5,14 +5,14 @@ ghost use Rattle.mpc_check.specs.Borders.{AreBorders};
 ghost use Rattle.mpc_check.specs.Findings.{IsSearched};
 ghost use Rattle.mpc_check.specs.LeafConditions.{NodeAtMet, NodeAtFinds, StretchMet, StretchFinds, TreeMet, TreeFinds};
 ghost use Rattle.mpc_check.specs.Stretches.{HaveProgramShapes, IsStretchOf, AreNeighbours, AnswersAsOne};
-ghost use Rattle.mpc_paths.specs.Ways.{IsWay};
+ghost use Rattle.mpc_controller.specs.Ways.{IsWay};
 
 use crate::answers::{CheckError, Spot};
 use crate::borders::{Formed, form_borders};
 use crate::leaves::search_node;
 use crate::rows::Cell;
+use mpc_controller::{Turn, go_on, one_path, way_theorems, way_to};
 use mpc_frac::NoMemory;
-use mpc_paths::{Turn, go_on, one_path, way_theorems, way_to};
 use mpc_rows::{LawTable, Qp, Tree};
 use std::alloc::Global;
 use std::thread;

@@ -4,9 +4,8 @@ ghost use Rattle.mpc_check.specs.Acceptance.{AcceptedIsRight, NothingFound, NoPr
 ghost use Rattle.mpc_check.specs.LawConditions.{LawIsStationary, LawIsActive, MeetingIsLaw};
 ghost use Rattle.mpc_check.specs.LeafConditions.{StretchesAreMet, StretchesFind};
 
-use mpc_condense::{best_replies, one_program};
-use mpc_convex::one_program_outcome;
-use mpc_paths::one_path;
+use mpc_condense::{best_replies, one_program, one_program_outcome};
+use mpc_controller::one_path;
 use mpc_rows::{law_theorems, region_theorems, system_theorems};
 use mpc_systems::cell_theorems;
 

@@ -17,11 +17,11 @@ ghost use Rattle.mpc_systems.specs.Writing.{IsOfSize};
 ghost use Rattle.mpc_check.specs.Certs.{HasPositionsIn};
 ghost use Rattle.mpc_check.specs.Columns.{number_in, IsColumnOf, picked_column};
 ghost use Rattle.mpc_check.specs.Picks.{picked_rows, picked_system, weights};
-ghost use Rattle.mpc_paths.specs.Ways.{HasSplitRow, IsTurn, side_row, turn_row, way_rows};
+ghost use Rattle.mpc_controller.specs.Ways.{HasSplitRow, IsTurn, side_row, turn_row, way_rows};
 
+use mpc_controller::Turn;
 use mpc_frac::Frac;
 use mpc_linear::{RowInt, sum_theorems};
-use mpc_paths::Turn;
 use mpc_rows::{Cert, Counts, Node, Qp, Tree};
 use mpc_wholes::{common_multiple, denominator, numerator_over, over_theorems};
 

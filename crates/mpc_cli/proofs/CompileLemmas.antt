@@ -7,7 +7,7 @@ use Rattle.mpc_controller.specs.Parts.{Parts}
 use Rattle.mpc_grammar.specs.declared.versions.Version.TheVariants.{Three}
 use Rattle.mpc_grammar.specs.FileGrammar.{Spells}
 use Rattle.mpc_grammar.specs.TextTheorems.{OneText}
-use Rattle.mpc_replies.specs.ReplyLines.{AreRepliesOf, ReplyRightly, RepliesAreRight}
+use Rattle.mpc_table.specs.ReplyLines.{AreRepliesOf, ReplyRightly, RepliesAreRight}
 use Rattle.mpc_synthesis.specs.Controllers.{IsController, ControllerIsRight, ControllerReplies, OneController}
 use Rattle.mpc_synthesis.specs.Outcomes.{complete}
 use Rattle.mpc_synthesis.specs.Programs.{IsDecidedBy}

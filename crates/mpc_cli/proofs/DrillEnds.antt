@@ -4,9 +4,9 @@ use Rattle.mpc_plant.specs.declared.plants.Plant.{Plant}
 use Rattle.mpc_rows.specs.declared.places.Place.{Place}
 use Rattle.mpc_synthesis.specs.Refusals.{controller}
 use Rattle.mpc_synthesis.specs.Outcomes.{Outcome, not_definite, too_wide, complete, IsOutcome}
-use Rattle.mpc_convex.specs.declared.ProgramError.TheVariants.{NotDefinite as NotDefiniteCause, TooWide as TooWideCause}
-use Rattle.mpc_drill.specs.declared.drills.Drilled.{Drilled}
-use Rattle.mpc_drill.specs.Drills.{IsDrilled, IsDrillOutcome, ExplainsDrillError, OneDrill, drill_text}
+use Rattle.mpc_condense.specs.declared.convex.ProgramError.TheVariants.{NotDefinite as NotDefiniteCause, TooWide as TooWideCause}
+use Rattle.mpc_trace.specs.declared.drills.Drilled.{Drilled}
+use Rattle.mpc_trace.specs.Drills.{IsDrilled, IsDrillOutcome, ExplainsDrillError, OneDrill, drill_text}
 use Rattle.mpc_status.specs.declared.status.Status.{Status}
 use Rattle.mpc_status.specs.declared.status.Status.TheVariants.{Done, NotDefinite, TooWide}
 use Rattle.mpc_status.specs.StatusText.{line_of}

@@ -6,12 +6,12 @@ use Rattle.mpc_check.specs.Findings.{Finding, refused, too_wide as found_too_wid
 use Rattle.mpc_check.specs.Acceptance.{IsFound, FindsBehind}
 use Rattle.mpc_files.specs.FileOutcomes.{FileReading, fails, spells, FileOutcome, bad_file, finds, accepted, FindsInFile, IsFileReading, IsFileOutcome}
 use Rattle.mpc_recur.specs.Findings.{reached, too_wide as too_wide_step}
-use Rattle.mpc_safety.specs.SafetyOutcomes.{SafetyOutcome, bad_file as bad_safety_file, finds as finds_first, steps, safe, FindsInFile as FindsFirst}
+use Rattle.mpc_files.specs.SafetyOutcomes.{SafetyOutcome, bad_file as bad_safety_file, finds as finds_first, steps, safe, FindsInFile as FindsFirst}
 use Rattle.mpc_theorem.specs.SafeFiles.{IsSafetyDue}
-use Rattle.mpc_replies.specs.Cut.{head_of}
+use Rattle.mpc_table.specs.Cut.{head_of}
 use Rattle.mpc_sections.specs.Sections.{sections_of}
-use Rattle.mpc_drill.specs.Drills.{IsDrillOutcome}
-use Rattle.mpc_convex.specs.Outcomes.{not_definite as not_definite_program, too_wide as too_wide_program, convex}
+use Rattle.mpc_trace.specs.Drills.{IsDrillOutcome}
+use Rattle.mpc_condense.specs.Outcomes.{not_definite as not_definite_program, too_wide as too_wide_program, convex}
 use Rattle.mpc_states.specs.Outcomes.{SolveOutcome, bad_plant as bad_solve_plant, of_program, IsSolveOutcome, RobustOutcome, bad_robust_plant, bad_noise, of_robust_program, wide_row, robust_replies, IsRobustOutcome}
 use Rattle.mpc_states.specs.NoisePart.{plant_part}
 use Rattle.mpc_synthesis.specs.Refusals.{controller}

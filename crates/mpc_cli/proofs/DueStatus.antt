@@ -3,7 +3,7 @@ use Rattle.std.proofs.Common.{◌≡◌, ℕ, ◌<◌, ◌≤◌, List, length, 
 use Rattle.mpc_plant.specs.Readings.{OneReading}
 use Rattle.mpc_synthesis.specs.Outcomes.{OneOutcome}
 use Rattle.mpc_files.specs.FileOutcomes.{OneFileReading, OneFileOutcome}
-use Rattle.mpc_drill.specs.Drills.{IsDrillOutcome, OneDrill}
+use Rattle.mpc_trace.specs.Drills.{IsDrillOutcome, OneDrill}
 use Rattle.mpc_theorem.specs.SafeFiles.{OneSafetyDue}
 use Rattle.mpc_status.specs.declared.status.Status.{Status}
 use Rattle.mpc_status.specs.declared.status.Status.TheVariants.{Done, Usage, BadPlant, NotDefinite, TooWide, BadFile, Refused, TooLong, Unsafe, WideLater, BadNoise, TooManyPlants}

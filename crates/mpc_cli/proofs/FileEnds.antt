@@ -6,7 +6,7 @@ use Rattle.mpc_grammar.specs.FileGrammar.{FailsAt}
 use Rattle.mpc_files.specs.FileOutcomes.{fails, spells, IsFileReading, FileOutcome, accepted, IsFileOutcome, OneFileReading, OneFileOutcome}
 use Rattle.mpc_files.specs.FileAnswers.{FileReplies, Converts, IsAccepted}
 use Rattle.mpc_theorem.specs.FileOutputs.{AcceptedIsRightFile, RepliedIsOutput, ConvertedIsOutput}
-use Rattle.mpc_replies.specs.Cut.{head_of, count_lines}
+use Rattle.mpc_table.specs.Cut.{head_of, count_lines}
 use Rattle.mpc_status.specs.declared.status.Status.{Status}
 use Rattle.mpc_status.specs.declared.status.Status.TheVariants.{Done, BadFile}
 use Rattle.mpc_status.specs.StatusText.{line_of}
@@ -15,9 +15,9 @@ use Rattle.mpc_cli.specs.declared.commands.FileCommand.{FileCommand}
 use Rattle.mpc_cli.specs.declared.commands.FileCommand.TheVariants.{Check, Reply, Convert, Safe}
 use Rattle.mpc_cli.specs.StatedOutputs.{IsStatedOutput}
 use Rattle.mpc_cli.specs.Statuses.{file_status, reading_status, safety_status, ComesToFile}
-use Rattle.mpc_safety.specs.declared.answers.Safety.TheVariants.{Safe as SafeAnswer}
-use Rattle.mpc_safety.specs.SafetyAnswers.{IsAnswerToFile}
-use Rattle.mpc_safety.specs.SafetyOutcomes.{SafetyOutcome, safe}
+use Rattle.mpc_files.specs.declared.answers.Safety.TheVariants.{Safe as SafeAnswer}
+use Rattle.mpc_files.specs.SafetyAnswers.{IsAnswerToFile}
+use Rattle.mpc_files.specs.SafetyOutcomes.{SafetyOutcome, safe}
 use Rattle.mpc_theorem.specs.SafeFiles.{IsSafetyDue, OneSafetyDue, AnswerIsDue, SafeIsForever}
 use Rattle.mpc_cli.specs.Answers.{input_limit, FilePasses}
 use Rattle.mpc_cli.specs.Outcomes.{IsAnswerTo}

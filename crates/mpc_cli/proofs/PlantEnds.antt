@@ -8,11 +8,11 @@ use Rattle.mpc_plant.specs.declared.faults.PlantError.TheVariants.{Bad, NoMemory
 use Rattle.mpc_plant.specs.WholePlant.{ReadsAsPlant, IsFirstFault}
 use Rattle.mpc_plant.specs.Readings.{stated, faulty, OneReading}
 use Rattle.mpc_rows.specs.declared.places.Place.{Place}
-use Rattle.mpc_replies.specs.Cut.{head_of, tail_of, count_lines}
-use Rattle.mpc_convex.specs.Refusals.{IsNotDefiniteAt}
+use Rattle.mpc_table.specs.Cut.{head_of, tail_of, count_lines}
+use Rattle.mpc_condense.specs.Refusals.{IsNotDefiniteAt}
 use Rattle.mpc_synthesis.specs.Refusals.{Extent, FirstWide, ExplainsSynthesisError}
 use Rattle.mpc_synthesis.specs.Outcomes.{Outcome, not_definite, too_wide, complete, IsOutcome, OneOutcome}
-use Rattle.mpc_convex.specs.declared.ProgramError.{ProgramError as SynthesisError}
+use Rattle.mpc_condense.specs.declared.convex.ProgramError.{ProgramError as SynthesisError}
 use Rattle.mpc_status.specs.declared.status.Status.{Status}
 use Rattle.mpc_status.specs.declared.status.Status.TheVariants.{Done, BadPlant, NotDefinite, TooWide}
 use Rattle.mpc_status.specs.StatusText.{line_of}

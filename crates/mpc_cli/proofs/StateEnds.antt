@@ -1,6 +1,6 @@
 -- What comes of recorded states, and the answers to them.
 use Rattle.std.proofs.Common.{◌≡◌, ◌≢◌, ℕ, List, ◌∙◌, ap}
-use Rattle.mpc_convex.specs.Outcomes.{convex}
+use Rattle.mpc_condense.specs.Outcomes.{convex}
 use Rattle.mpc_states.specs.Inputs.{IsSolved as IsSolvedByRun, IsRobustlySolved as IsRobustlySolvedByRun}
 use Rattle.mpc_states.specs.Outcomes.{SolveOutcome, of_program, IsSolveOutcome, OneSolveOutcome, RobustOutcome, robust_replies, IsRobustOutcome, OneRobustOutcome}
 use Rattle.mpc_states.specs.StateTheorems.{SolveIsComplete, RobustIsComplete}

@@ -11,8 +11,8 @@ use Rattle.mpc_controller.specs.Parts.{Parts}
 use Rattle.mpc_grammar.specs.FileGrammar.{IsSpelled}
 use Rattle.mpc_files.specs.FileOutcomes.{AcceptsFile}
 use Rattle.mpc_synthesis.specs.Refusals.{Extent, controller, FirstWide}
-use Rattle.mpc_drill.specs.DrillPlant.{IsDrillPlant}
-use Rattle.mpc_replies.specs.Cut.{head_of}
+use Rattle.mpc_trace.specs.DrillPlant.{IsDrillPlant}
+use Rattle.mpc_table.specs.Cut.{head_of}
 use Rattle.mpc_status.specs.declared.status.Status.{Status}
 use Rattle.mpc_status.specs.declared.status.Status.TheVariants.{Done, Usage, ReadFault, WriteFault, TooLong, NoMemory}
 use Rattle.mpc_cli.specs.declared.commands.Command.{Command}

@@ -15,12 +15,12 @@ use Rattle.mpc_check.specs.Acceptance.{Accepts, FindsBehind}
 use Rattle.mpc_recur.specs.declared.answers.Next.{Next}
 use Rattle.mpc_recur.specs.Findings.{too_wide as too_wide_step}
 use Rattle.mpc_recur.specs.Targets.{IsFound as IsStepFound}
-use Rattle.mpc_replies.specs.Cut.{head_of}
+use Rattle.mpc_table.specs.Cut.{head_of}
 use Rattle.mpc_tight.specs.Tightening.{RowsFit}
-use Rattle.mpc_convex.specs.Convex.{IsConvexProgram}
+use Rattle.mpc_condense.specs.Convex.{IsConvexProgram}
 use Rattle.mpc_states.specs.NoisePart.{plant_part, noise_in}
 use Rattle.mpc_sections.specs.Sections.{sections_of}
-use Rattle.mpc_drill.specs.DrillPlant.{IsDrillPlant}
+use Rattle.mpc_trace.specs.DrillPlant.{IsDrillPlant}
 use Rattle.mpc_synthesis.specs.Refusals.{controller}
 use Rattle.mpc_synthesis.specs.Outcomes.{IsComplete}
 use Rattle.mpc_theorem.specs.PlantFile.{IsPlantText}

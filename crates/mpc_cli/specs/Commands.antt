@@ -1,6 +1,6 @@
 -- The commands: the words of each, which of them read and wait, and where the plant or the controller stands in the input.
 use Rattle.std.specs.Prelude.{◌≡◌, ℕ, ◌<◌, ◌≤◌, ◌⊎◌, List, [], ◌∷◌, codes, decimal}
-use Rattle.mpc_replies.specs.Cut.{head_of}
+use Rattle.mpc_table.specs.Cut.{head_of}
 use Rattle.mpc_cli.specs.declared.commands.Command.{Command}
 use Rattle.mpc_cli.specs.declared.commands.Command.TheVariants.{OfPlant, OfFile, OfStates, Drill, Fleet}
 use Rattle.mpc_cli.specs.declared.commands.StateCommand.{StateCommand}

@@ -5,7 +5,7 @@ use Rattle.mpc_port.specs.Passing.{Passed, PassedToEnd, TookFront}
 use Rattle.mpc_plant.specs.declared.plants.Plant.{Plant}
 use Rattle.mpc_plant.specs.declared.faults.PlantError.{PlantError}
 use Rattle.mpc_plant.specs.declared.faults.PlantError.TheVariants.{Bad, NoMemory as OutOfPlantMemory}
-use Rattle.mpc_replies.specs.ReplyLines.{AreReplies}
+use Rattle.mpc_table.specs.ReplyLines.{AreReplies}
 use Rattle.std.specs.Str.Lines.{lines}
 use Rattle.mpc_synthesis.specs.Outcomes.{IsOutcome}
 use Rattle.mpc_trace.specs.Histories.{IsTraceOf}

@@ -1,7 +1,7 @@
 -- What is written where a command answers.
 use Rattle.std.specs.Prelude.{◌≡◌, ℕ, List, codes}
 use Rattle.mpc_plant.specs.declared.plants.Plant.{Plant}
-use Rattle.mpc_replies.specs.Cut.{head_of, count_lines}
+use Rattle.mpc_table.specs.Cut.{head_of, count_lines}
 use Rattle.mpc_sections.specs.Sections.{sections_of}
 use Rattle.mpc_status.specs.declared.status.Status.{Status}
 use Rattle.mpc_theorem.specs.PlantFile.{IsPlantText}

@@ -2,11 +2,11 @@
 use Rattle.std.specs.Prelude.{◌≡◌, ℕ, List, ◌++◌}
 use Rattle.mpc_port.specs.Passing.{Passed}
 use Rattle.mpc_plant.specs.declared.plants.Plant.{Plant}
-use Rattle.mpc_safety.specs.declared.answers.Safety.TheVariants.{Safe as SafeAnswer}
-use Rattle.mpc_safety.specs.SafetyAnswers.{IsAnswerToFile}
+use Rattle.mpc_files.specs.declared.answers.Safety.TheVariants.{Safe as SafeAnswer}
+use Rattle.mpc_files.specs.SafetyAnswers.{IsAnswerToFile}
 use Rattle.mpc_trace.specs.Histories.{IsTraceOf}
-use Rattle.mpc_drill.specs.declared.drills.Drilled.{Drilled}
-use Rattle.mpc_drill.specs.Drills.{IsDrilled, drill_text}
+use Rattle.mpc_trace.specs.declared.drills.Drilled.{Drilled}
+use Rattle.mpc_trace.specs.Drills.{IsDrilled, drill_text}
 use Rattle.mpc_sections.specs.Sections.{sections_of}
 use Rattle.mpc_status.specs.declared.status.Status.{Status}
 use Rattle.mpc_status.specs.declared.status.Status.TheVariants.{Done}

@@ -9,13 +9,13 @@ use Rattle.mpc_synthesis.specs.Refusals.{Extent}
 use Rattle.mpc_synthesis.specs.Outcomes.{Outcome, not_definite, too_wide, complete, IsOutcome}
 use Rattle.mpc_status.specs.declared.status.Status.{Status}
 use Rattle.mpc_status.specs.declared.status.Status.TheVariants.{Done, BadPlant, NotDefinite, TooWide, BadFile, Refused, Unsafe, WideLater, BadNoise}
-use Rattle.mpc_drill.specs.Drills.{IsDrillOutcome}
-use Rattle.mpc_replies.specs.Cut.{head_of}
+use Rattle.mpc_trace.specs.Drills.{IsDrillOutcome}
+use Rattle.mpc_table.specs.Cut.{head_of}
 use Rattle.mpc_status.specs.declared.late.LatePlace.TheVariants.{Next as NextPlace, Tight}
-use Rattle.mpc_convex.specs.Outcomes.{ProgramOutcome, not_definite as not_definite_program, too_wide as too_wide_program, convex}
+use Rattle.mpc_condense.specs.Outcomes.{ProgramOutcome, not_definite as not_definite_program, too_wide as too_wide_program, convex}
 use Rattle.mpc_states.specs.Outcomes.{SolveOutcome, bad_plant as bad_solve_plant, of_program, IsSolveOutcome, RobustOutcome, bad_robust_plant, bad_noise, of_robust_program, wide_row, robust_replies, IsRobustOutcome}
 use Rattle.mpc_recur.specs.Findings.{Finding as Step, reached, too_wide as too_wide_step}
-use Rattle.mpc_safety.specs.SafetyOutcomes.{SafetyOutcome, bad_file as bad_safety_file, finds as finds_first, steps, safe}
+use Rattle.mpc_files.specs.SafetyOutcomes.{SafetyOutcome, bad_file as bad_safety_file, finds as finds_first, steps, safe}
 use Rattle.mpc_theorem.specs.SafeFiles.{IsSafetyDue}
 use Rattle.mpc_cli.specs.declared.commands.Command.{Command}
 use Rattle.mpc_cli.specs.declared.commands.Command.TheVariants.{OfPlant, OfFile, OfStates, Drill, Fleet}

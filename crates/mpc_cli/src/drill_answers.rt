@@ -1,16 +1,16 @@
 //! The answer of the command `drill`.
 
 ghost use Rattle.std.specs.Prelude.{IfOk, List, ℕ};
-ghost use Rattle.mpc_drill.specs.Drills.{ExplainsDrillError};
+ghost use Rattle.mpc_trace.specs.Drills.{ExplainsDrillError};
 ghost use Rattle.mpc_cli.specs.declared.commands.Command.TheVariants.{Drill};
 ghost use Rattle.mpc_cli.specs.Outcomes.{IsAnswerTo};
 
 use crate::answer::{Answer, output, refusal};
-use mpc_drill::drill;
 use mpc_frac::NoMemory;
 use mpc_status::Status;
 use mpc_synthesis::SynthesisError;
 use mpc_theorem::drill_line_theorems;
+use mpc_trace::drill;
 use mpc_workers::Gate;
 use std::alloc::Global;
 use std::sync::Wait;

@@ -3,21 +3,23 @@
 ghost use Rattle.std.specs.Prelude.{◌≡◌, ◌^◌, ◌<◌, IfOk, List, ℕ, codes, length};
 ghost use Rattle.mpc_grammar.specs.FileGrammar.{ExplainsFileError};
 ghost use Rattle.mpc_files.specs.FileAnswers.{IsFileCause};
-ghost use Rattle.mpc_safety.specs.SafetyOutcomes.{IsCausedBy};
-ghost use Rattle.mpc_replies.specs.Cut.{head_of};
+ghost use Rattle.mpc_files.specs.SafetyOutcomes.{IsCausedBy};
+ghost use Rattle.mpc_table.specs.Cut.{head_of};
 ghost use Rattle.mpc_cli.specs.declared.commands.Command.TheVariants.{OfFile};
 ghost use Rattle.mpc_cli.specs.declared.commands.FileCommand.TheVariants.{Check, Reply, Convert, Safe};
 ghost use Rattle.mpc_cli.specs.Outcomes.{IsAnswerTo};
 
 use crate::answer::{Answer, output, refusal};
 use crate::commands::FileCommand;
-use mpc_files::{CheckFileError, Checked, FileError, check_file, convert, reply_to};
+use mpc_files::{
+    CheckFileError, Checked, FileError, Safety, SafetyError, check_file, convert,
+    one_safety_answer, reply_to, safe_file,
+};
 use mpc_frac::NoMemory;
-use mpc_replies::cut;
-use mpc_safety::{Safety, SafetyError, one_safety_answer, safe_file};
 use mpc_status::{LatePlace, Status};
-use mpc_text::add_text;
+use mpc_table::cut;
 use mpc_theorem::{file_output_theorems, safe_file_theorems};
+use mpc_words::add_text;
 use std::alloc::Global;
 use std::thread::Threads;
 

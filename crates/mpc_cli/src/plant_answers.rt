@@ -2,7 +2,7 @@
 
 ghost use Rattle.std.specs.Prelude.{◌≡◌, IfOk, IfErr, List, ℕ};
 ghost use Rattle.mpc_plant.specs.declared.plants.Plant.{Plant};
-ghost use Rattle.mpc_replies.specs.Cut.{tail_of};
+ghost use Rattle.mpc_table.specs.Cut.{tail_of};
 ghost use Rattle.mpc_synthesis.specs.Programs.{IsDecidedBy};
 ghost use Rattle.mpc_synthesis.specs.Refusals.{Extent, ExplainsSynthesisError};
 ghost use Rattle.mpc_cli.specs.declared.commands.Command.TheVariants.{OfPlant};
@@ -18,12 +18,12 @@ use mpc_claim::Registry;
 use mpc_file::{one_text, write_file};
 use mpc_frac::NoMemory;
 use mpc_plant::{Plant, PlantError, read_plant};
-use mpc_replies::{Sections, cut, replies, right_replies};
 use mpc_status::Status;
 use mpc_synthesis::{
     SynthesisError, controller_of_in_threads, decided, decided_in_threads, one_controller,
     right_controller,
 };
+use mpc_table::{Sections, cut, replies, right_replies};
 use mpc_theorem::{file_output_theorems, output_lines, plant_texts, trace_theorems};
 use mpc_trace::trace;
 use mpc_workers::Gate;

@@ -3,7 +3,6 @@
 ghost use Rattle.mpc_cli.specs.Answers.{OneStatus, PassingIsDone, PassingRefusesNothing};
 ghost use Rattle.mpc_cli.specs.Statuses.{DueIsWhatComes};
 
-use mpc_drill::one_drill;
 use mpc_files::one_file_answer;
 use mpc_plant::one_reading;
 use mpc_states::{complete_inputs, one_outcome as one_state_outcome};
@@ -11,6 +10,7 @@ use mpc_synthesis::one_outcome;
 use mpc_theorem::{
     check_refusals, plant_refusals, plant_texts, safe_file_theorems, state_refusals,
 };
+use mpc_trace::one_drill;
 use mpc_words::whole_line_theorems;
 
 /// A status is due to a command just where an outcome of its library has that status. The call does nothing: its clause is the theorem.

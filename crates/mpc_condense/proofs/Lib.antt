@@ -16,3 +16,5 @@ pub mod Stacks
 pub mod BestMoves
 pub mod OneProgram
 pub mod SameRows
+mod FirstPivots
+mod OneOutcome

@@ -7,3 +7,6 @@ pub mod MotionList
 pub mod Rows
 pub mod ProgramTheorems
 pub mod BestReplies
+pub mod Convex
+pub mod Refusals
+pub mod Outcomes

@@ -3,3 +3,5 @@ pub mod OneBoundLemmas
 pub mod PreorderLemmas
 pub mod OneLeafLemmas
 pub mod ReplyLemmas
+pub mod PathLemmas
+pub mod WayLemmas

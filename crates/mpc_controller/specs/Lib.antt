@@ -8,3 +8,5 @@ pub mod PreorderTheorems
 pub mod Replies
 pub mod ReplyTheorems
 pub mod OneLeaf
+pub mod Paths
+pub mod Ways

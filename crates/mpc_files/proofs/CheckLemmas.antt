@@ -6,8 +6,8 @@ use Rattle.mpc_controller.specs.ReplyTheorems.{RepliesEverywhere}
 use Rattle.mpc_grammar.specs.FileGrammar.{IsSpelled}
 use Rattle.mpc_check.specs.declared.answers.Answer.{Answer}
 use Rattle.mpc_check.specs.declared.answers.Answer.TheVariants.{Accepted, Refused}
-use Rattle.mpc_convex.specs.declared.ProgramError.{ProgramError as CheckError}
-use Rattle.mpc_convex.specs.declared.ProgramError.TheVariants.{TooWide as Wide, NotDefinite, NoMemory}
+use Rattle.mpc_condense.specs.declared.convex.ProgramError.{ProgramError as CheckError}
+use Rattle.mpc_condense.specs.declared.convex.ProgramError.TheVariants.{TooWide as Wide, NotDefinite, NoMemory}
 use Rattle.mpc_check.specs.Acceptance.{Accepts, AcceptedIsRight, IsAnswer, IsCause}
 use Rattle.mpc_files.specs.declared.errors.CheckFileError.{CheckFileError}
 use Rattle.mpc_files.specs.FileAnswers.{RepliesRightly, IsAnswerToFile, IsFileCause, of_checker}

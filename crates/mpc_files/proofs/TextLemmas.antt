@@ -3,7 +3,7 @@ use Rattle.std.proofs.Common.{◌≡◌, subst}
 use Rattle.mpc_grammar.specs.declared.versions.Version.TheVariants.{Three}
 use Rattle.mpc_grammar.specs.FileGrammar.{Spells}
 use Rattle.mpc_grammar.specs.TextTheorems.{OneController, OneText as OneFileText}
-use Rattle.mpc_replies.specs.ReplyLines.{AreRepliesOf, OneText}
+use Rattle.mpc_table.specs.ReplyLines.{AreRepliesOf, OneText}
 use Rattle.mpc_files.specs.FileTheorems.{OneReplyText, OneConversion, ThreeIsKept}
 use Rattle.mpc_files.proofs.OutcomeLemmas.{same_parts}
 

@@ -10,11 +10,11 @@ use Rattle.mpc_grammar.specs.declared.errors.FileError.{FileError}
 use Rattle.mpc_grammar.specs.declared.errors.FileError.TheVariants.{Bad, NoMemory as NoFileMemory}
 use Rattle.mpc_grammar.specs.declared.versions.Version.TheVariants.{Three}
 use Rattle.mpc_grammar.specs.FileGrammar.{Spells, IsSpelled}
-use Rattle.mpc_replies.specs.ReplyLines.{AreRepliesOf}
+use Rattle.mpc_table.specs.ReplyLines.{AreRepliesOf}
 use Rattle.mpc_check.specs.declared.answers.Answer.{Answer}
 use Rattle.mpc_check.specs.declared.answers.Answer.TheVariants.{Accepted, Refused}
-use Rattle.mpc_convex.specs.declared.ProgramError.{ProgramError as CheckError}
-use Rattle.mpc_convex.specs.declared.ProgramError.TheVariants.{TooWide as Wide, NotDefinite as NotDefiniteCost, NoMemory as NoCheckMemory}
+use Rattle.mpc_condense.specs.declared.convex.ProgramError.{ProgramError as CheckError}
+use Rattle.mpc_condense.specs.declared.convex.ProgramError.TheVariants.{TooWide as Wide, NotDefinite as NotDefiniteCost, NoMemory as NoCheckMemory}
 use Rattle.mpc_check.specs.Findings.{refused, too_wide, not_definite}
 use Rattle.mpc_files.specs.declared.errors.CheckFileError.{CheckFileError}
 use Rattle.mpc_files.specs.declared.errors.CheckFileError.TheVariants.{BadFile, NotDefinite, TooWide, NoMemory}

@@ -6,7 +6,7 @@ ghost use Rattle.mpc_grammar.specs.FileGrammar.{ExplainsFileError};
 ghost use Rattle.mpc_files.specs.FileAnswers.{Converts, FileReplies};
 
 use mpc_file::{FileError, read_file, write_file};
-use mpc_replies::replies;
+use mpc_table::replies;
 use std::alloc::Global;
 
 /// One reply line for each line of counts, of the controller whose file the head is. The controller needn't have been checked: the

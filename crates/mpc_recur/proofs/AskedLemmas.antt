@@ -17,8 +17,8 @@ use Rattle.mpc_rows.specs.Run.{position}
 use Rattle.mpc_rows.specs.RunWidth.{RunFits}
 use Rattle.mpc_simplex.specs.Answer.{HasPoint, EndsRefuted}
 use Rattle.mpc_beginnings.specs.Beginnings.{lengthened, AppendedFits, FitRefuted}
-use Rattle.mpc_paths.specs.Paths.{PathTo, root, yes_side, no_side}
-use Rattle.mpc_paths.specs.Ways.{side_row, split_row, turn_at, turn_row}
+use Rattle.mpc_controller.specs.Paths.{PathTo, root, yes_side, no_side}
+use Rattle.mpc_controller.specs.Ways.{side_row, split_row, turn_at, turn_row}
 use Rattle.mpc_recur.specs.Asked.{IsAsked, AreAsked, AreAmong}
 use Rattle.mpc_recur.specs.Findings.{IsRuledOut}
 use Rattle.mpc_recur.specs.Forms.{substituted, SubstitutedFits}

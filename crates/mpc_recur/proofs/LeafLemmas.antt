@@ -19,16 +19,16 @@ use Rattle.mpc_controller.specs.Replies.{IsLawNumbered}
 use Rattle.mpc_recur.specs.declared.answers.Stop.{Stop}
 use Rattle.mpc_recur.specs.declared.answers.Stop.TheVariants.{Reached, Wide, NoMemory}
 use Rattle.mpc_recur.specs.declared.answers.Target.TheVariants.{Low, High, NoMove}
-use Rattle.mpc_paths.specs.Paths.{PathTo}
-use Rattle.mpc_paths.specs.Ways.{way_rows}
+use Rattle.mpc_controller.specs.Paths.{PathTo}
+use Rattle.mpc_controller.specs.Ways.{way_rows}
 use Rattle.mpc_recur.specs.Empties.{EmptiesBefore}
 use Rattle.mpc_recur.specs.Forms.{next_form, next_forms, low_row, high_row, substituted, FormsFit, HighFits, SubstitutedFits}
 use Rattle.mpc_recur.specs.Findings.{Finding, too_wide, IsRuledOut, TargetFinds, IsStop, Each, IsFirstOfTwo}
 use Rattle.mpc_recur.specs.Targets.{IsBaseOf, with_rows, leaf_system, low_system, high_system, met_system, count_at, target_of, LowMet, LowFinds, HighFinds, SideMet, SideFinds, LeafMet, LeafFinds, RowsFit, EmptyMet, EmptyFinds, FormsFind, SidesMet, SidesFind, EmptiesMet, EmptiesFind, TargetsMet, TargetsFind, NodeMet, NodeFinds, NodeAtMet, NodeAtFinds}
 use Rattle.mpc_rows.specs.SetRuns.{box_rows}
-use Rattle.mpc_paths.specs.declared.ways.Turn.{Turn}
+use Rattle.mpc_controller.specs.declared.ways.Turn.{Turn}
 use Rattle.mpc_recur.proofs.FormLemmas.{form_size, forms_size}
-use Rattle.mpc_paths.specs.Paths.{OnePath}
+use Rattle.mpc_controller.specs.Paths.{OnePath}
 use Rattle.mpc_recur.proofs.TargetLemmas.{on_base, earlier_stop, later_stop}
 
 abbrev Done : Type 0

@@ -15,7 +15,7 @@ use Rattle.mpc_recur.specs.Targets.{low_system, high_system, met_system, HighRow
 use Rattle.mpc_recur.specs.Outcomes.{is_safe, finds}
 use Rattle.mpc_recur.specs.SafetyTheorems.{OneOutcome}
 use Rattle.mpc_recur.proofs.FindingLemmas.{IsSingle, single_target, single_list, single_pair}
-use Rattle.mpc_paths.specs.Paths.{OnePath}
+use Rattle.mpc_controller.specs.Paths.{OnePath}
 
 same_node : (nodes : List Node) (place : ℕ) (node other : Node) → slice_get nodes place ≡ Some node → slice_get nodes place ≡ Some other → node ≡ other
 same_node nodes place node other a b = cc

@@ -17,7 +17,7 @@ use Rattle.mpc_controller.specs.Walk.{EndsAt}
 use Rattle.mpc_controller.specs.Replies.{RepliesAt, by_law, by_no_law, first_move, IsLawNumbered}
 use Rattle.mpc_recur.specs.declared.answers.Target.TheVariants.{Low, High, NoMove}
 use Rattle.mpc_recur.specs.declared.answers.Next.{Next}
-use Rattle.mpc_paths.specs.Paths.{PathTo}
+use Rattle.mpc_controller.specs.Paths.{PathTo}
 use Rattle.mpc_recur.specs.Successors.{next, HasMove, IsSafe, LeadsToTarget, LeadsAway}
 use Rattle.mpc_recur.specs.Findings.{reached}
 use Rattle.mpc_recur.specs.Targets.{low_system, high_system, met_system, target_of, SideFinds, SidesMet, EmptyFinds, TargetsMet, TargetsFind, NodeMet, NodeFinds, AllRuledOut, IsFound, TargetsFit, NothingWide}

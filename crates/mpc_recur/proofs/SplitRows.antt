@@ -13,8 +13,8 @@ use Rattle.mpc_rows.specs.declared.systems.Row.{Row}
 use Rattle.mpc_rows.specs.declared.trees.Node.{Node}
 use Rattle.mpc_rows.specs.declared.trees.Node.TheVariants.{Split, NoMove}
 use Rattle.mpc_controller.specs.Parts.{IsSplitRow}
-use Rattle.mpc_paths.specs.declared.ways.Turn.{Turn}
-use Rattle.mpc_paths.specs.Ways.{HasSplitRow, side_row, split_row, turn_row, way_rows}
+use Rattle.mpc_controller.specs.declared.ways.Turn.{Turn}
+use Rattle.mpc_controller.specs.Ways.{HasSplitRow, side_row, split_row, turn_row, way_rows}
 use Rattle.mpc_recur.proofs.ElementLemmas.{all_at, All-split, all_with}
 
 module _ (n : ℕ) (nodes : List Node) (splits : All (HasSplitRow n) nodes) (place : ℕ) (node : Node) (at : slice_get nodes place ≡ Some node) (row : RowInt) (is : node ≡ Split row) where

@@ -25,7 +25,7 @@ use Rattle.mpc_controller.specs.ReplyTheorems.{RepliesEverywhere}
 use Rattle.mpc_recur.specs.declared.answers.Target.{Target}
 use Rattle.mpc_recur.specs.declared.answers.Target.TheVariants.{Low, High, NoMove}
 use Rattle.mpc_recur.specs.declared.answers.Next.{Next}
-use Rattle.mpc_paths.specs.Paths.{PathTo}
+use Rattle.mpc_controller.specs.Paths.{PathTo}
 use Rattle.mpc_recur.specs.Successors.{next, HasMove, IsSafe, IsAtTarget, LeadsToTarget, LeadsAway}
 use Rattle.mpc_recur.specs.Forms.{next_form, next_forms, low_row, high_row}
 use Rattle.mpc_recur.specs.Targets.{low_system, high_system, met_system, count_at, target_of}

@@ -8,8 +8,8 @@ use Rattle.mpc_exact.specs.Rational.{ℚ}
 use Rattle.mpc_plant.specs.declared.plants.Plant.{Plant}
 use Rattle.mpc_rows.specs.declared.systems.Row.{Row}
 use Rattle.mpc_rows.specs.declared.trees.Node.{Node}
-use Rattle.mpc_paths.specs.declared.ways.Turn.{Turn}
-use Rattle.mpc_paths.specs.Ways.{turn_row, way_rows}
+use Rattle.mpc_controller.specs.declared.ways.Turn.{Turn}
+use Rattle.mpc_controller.specs.Ways.{turn_row, way_rows}
 use Rattle.mpc_recur.specs.Forms.{substituted, SubstitutedFits}
 use Rattle.mpc_recur.specs.Met.{AreMet}
 use Rattle.mpc_rows.specs.LinearSystem.{LinearSystem}

@@ -8,7 +8,7 @@ use Rattle.mpc_rows.specs.LinearSystem.{MeetsRow}
 use Rattle.mpc_rows.specs.LawRows.{whole_row, broken_row}
 use Rattle.mpc_systems.specs.CellTheorems.{BrokenPoints}
 use Rattle.mpc_controller.specs.Walk.{Reaches, root as at_root, yes_side as to_yes, no_side as to_no}
-use Rattle.mpc_paths.specs.Paths.{PathTo, root, yes_side, no_side}
+use Rattle.mpc_controller.specs.Paths.{PathTo, root, yes_side, no_side}
 use Rattle.mpc_recur.proofs.ElementLemmas.{All-split, all_with, all_one}
 
 -- a point at which the walk comes to a place meets the rows of a path to it

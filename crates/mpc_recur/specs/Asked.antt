@@ -4,8 +4,8 @@ use Rattle.mpc_exact.specs.Rational.{ℚ}
 use Rattle.mpc_rows.specs.declared.systems.Row.{Row}
 use Rattle.mpc_rows.specs.declared.trees.Node.{Node}
 use Rattle.mpc_rows.specs.LinearSystem.{LinearSystem, height, row_at, no_row}
-use Rattle.mpc_paths.specs.declared.ways.Turn.{Turn}
-use Rattle.mpc_paths.specs.Ways.{IsTurn, turn_row}
+use Rattle.mpc_controller.specs.declared.ways.Turn.{Turn}
+use Rattle.mpc_controller.specs.Ways.{IsTurn, turn_row}
 use Rattle.mpc_recur.specs.Forms.{substituted, SubstitutedFits}
 
 -- s has the row with the forms in place of the coordinates, and none of its numbers is too wide

@@ -15,7 +15,7 @@ use Rattle.mpc_controller.specs.Replies.{IsLawNumbered}
 use Rattle.mpc_recur.specs.declared.answers.Target.{Target}
 use Rattle.mpc_recur.specs.declared.answers.Target.TheVariants.{Low, High, NoMove}
 use Rattle.mpc_recur.specs.declared.answers.Next.{Next}
-use Rattle.mpc_paths.specs.Paths.{PathTo}
+use Rattle.mpc_controller.specs.Paths.{PathTo}
 use Rattle.mpc_recur.specs.Forms.{next_form, next_forms, low_row, high_row, substituted, FormsFit, HighFits, SubstitutedFits}
 use Rattle.mpc_recur.specs.Findings.{Finding, reached, too_wide, IsRuledOut, TargetFits, TargetFinds, Each, IsFirstOf, IsFirstOfTwo}
 

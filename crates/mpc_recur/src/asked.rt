@@ -3,14 +3,14 @@
 ghost use Rattle.std.specs.Prelude.{◌≡◌, ◌+◌, ◌<◌, ◌≤◌, ◌++◌, ◌∷◌, [], All, IsTrue, IfOk, IfSome, length};
 ghost use Rattle.mpc_recur.specs.Asked.{AreAsked};
 ghost use Rattle.mpc_recur.specs.Forms.{substituted, SubstitutedFits};
-ghost use Rattle.mpc_paths.specs.Ways.{HasSplitRow, IsTurn, turn_row};
+ghost use Rattle.mpc_controller.specs.Ways.{HasSplitRow, IsTurn, turn_row};
 
 use crate::answers::StageError;
 use crate::rows::substituted;
 use crate::systems::turn_row;
+use mpc_controller::Turn;
 use mpc_frac::NoMemory;
 use mpc_linear::Vector;
-use mpc_paths::Turn;
 use mpc_rows::{Node, Tree};
 use mpc_scaled::WholeSystem;
 use std::alloc::Global;

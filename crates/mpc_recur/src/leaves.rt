@@ -9,8 +9,8 @@ ghost use Rattle.mpc_recur.specs.Forms.{next_form, next_forms, substituted, Subs
 ghost use Rattle.mpc_recur.specs.Findings.{IsRuledOut, IsStop};
 ghost use Rattle.mpc_recur.specs.Met.{AreMet};
 ghost use Rattle.mpc_recur.specs.Targets.{count_at, with_rows, IsBaseOf, SideMet, SideFinds, SidesMet, SidesFind, EmptyMet, EmptyFinds, EmptiesMet, EmptiesFind, TargetsMet, TargetsFind};
-ghost use Rattle.mpc_paths.specs.Paths.{PathTo};
-ghost use Rattle.mpc_paths.specs.Ways.{HasSplitRow, IsTurn, IsWay, way_rows};
+ghost use Rattle.mpc_controller.specs.Paths.{PathTo};
+ghost use Rattle.mpc_controller.specs.Ways.{HasSplitRow, IsTurn, IsWay, way_rows};
 ghost use Rattle.mpc_recur.specs.Empties.{EmptiesBefore};
 
 use crate::answers::{Next, StageError, Stop, Target};
@@ -20,10 +20,9 @@ use crate::forms::next_forms;
 use crate::met::Met;
 use crate::systems::leaf_system;
 use crate::targets::{rule_out_high, rule_out_leaf, rule_out_low};
-use mpc_controller::Controller;
+use mpc_controller::{Controller, Turn, go_on, one_path, way_theorems};
 use mpc_frac::NoMemory;
 use mpc_linear::Vector;
-use mpc_paths::{Turn, go_on, one_path, way_theorems};
 use mpc_rows::{Counts, Law, Node, Tree};
 use mpc_simplex::Workspace;
 use std::alloc::Global;

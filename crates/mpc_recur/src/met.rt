@@ -4,15 +4,15 @@ ghost use Rattle.std.specs.Prelude.{◌≡◌, ◌+◌, ◌≤◌, [], All, IsTr
 ghost use Rattle.mpc_recur.specs.Forms.{SubstitutedFits};
 ghost use Rattle.mpc_recur.specs.Met.{AreMet};
 ghost use Rattle.mpc_recur.specs.Stages.{IfTooWide};
-ghost use Rattle.mpc_paths.specs.Ways.{HasSplitRow, IsTurn, way_rows};
+ghost use Rattle.mpc_controller.specs.Ways.{HasSplitRow, IsTurn, way_rows};
 
 use crate::answers::StageError;
 use crate::bases::TargetRows;
 use crate::rows::substituted;
 use crate::systems::turn_row;
+use mpc_controller::Turn;
 use mpc_frac::NoMemory;
 use mpc_linear::Vector;
-use mpc_paths::Turn;
 use mpc_rows::Tree;
 use mpc_simplex::Workspace;
 use std::alloc::Global;

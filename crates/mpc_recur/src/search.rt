@@ -5,14 +5,13 @@ ghost use Rattle.mpc_controller.specs.Parts.{limits_of};
 ghost use Rattle.mpc_recur.specs.Findings.{IsStop};
 ghost use Rattle.mpc_recur.specs.Outcomes.{IsAnswer, IsCause};
 ghost use Rattle.mpc_recur.specs.Targets.{NodeAtMet, NodeAtFinds, AllRuledOut, IsFound};
-ghost use Rattle.mpc_paths.specs.Ways.{IsWay};
+ghost use Rattle.mpc_controller.specs.Ways.{IsWay};
 ghost use Rattle.mpc_recur.specs.Empties.{EmptiesBefore};
 
 use crate::answers::{Recur, RecurError, Stop};
 use crate::leaves::rule_out_targets;
 use crate::theorems::ruled_out_where_safe;
-use mpc_controller::{Controller, limits};
-use mpc_paths::{Turn, go_on, one_path, way_theorems};
+use mpc_controller::{Controller, Turn, go_on, limits, one_path, way_theorems};
 use mpc_rows::{Counts, Node, Tree};
 use std::alloc::Global;
 

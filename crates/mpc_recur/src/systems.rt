@@ -2,10 +2,10 @@
 
 ghost use Rattle.std.specs.Prelude.{◌≡◌, ◌++◌, ◌≤◌, All, IfOk, length};
 ghost use Rattle.mpc_rows.specs.SetRuns.{box_rows};
-ghost use Rattle.mpc_paths.specs.Ways.{HasSplitRow, IsTurn, turn_row, way_rows};
+ghost use Rattle.mpc_controller.specs.Ways.{HasSplitRow, IsTurn, turn_row, way_rows};
 
+use mpc_controller::Turn;
 use mpc_frac::NoMemory;
-use mpc_paths::Turn;
 use mpc_rows::{Counts, Node, Row, System, Tree};
 use mpc_systems::{broken_row, push_box, whole_row};
 use std::alloc::Global;

@@ -5,14 +5,14 @@ ghost use Rattle.mpc_recur.specs.Forms.{low_row, high_row, substituted, HighFits
 ghost use Rattle.mpc_recur.specs.Findings.{IsRuledOut, TargetFinds, IsStop};
 ghost use Rattle.mpc_recur.specs.Met.{AreMet};
 ghost use Rattle.mpc_recur.specs.Targets.{with_rows};
-ghost use Rattle.mpc_paths.specs.Ways.{HasSplitRow, IsTurn, way_rows};
+ghost use Rattle.mpc_controller.specs.Ways.{HasSplitRow, IsTurn, way_rows};
 
 use crate::answers::{Next, StageError, Stop};
 use crate::bases::{Base, TargetRows};
 use crate::met::Met;
 use crate::rows::{high_row, low_row};
+use mpc_controller::Turn;
 use mpc_linear::Vector;
-use mpc_paths::Turn;
 use mpc_rows::{Row, Tree};
 use mpc_simplex::{Decision, SimplexError, Workspace, decide};
 use std::alloc::Global;

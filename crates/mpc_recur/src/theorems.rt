@@ -3,8 +3,7 @@
 ghost use Rattle.mpc_recur.specs.SafetyTheorems.{OneOutcome, RuledOutWhereSafe, FoundLeadsAway, LeadsAwayNotSafe, SafeIsAnswered, SafeIsDecided};
 ghost use Rattle.mpc_recur.specs.ClosedLoop.{SafeGoesOn};
 
-use mpc_controller::{one_leaf, replies_everywhere};
-use mpc_paths::one_path;
+use mpc_controller::{one_leaf, one_path, replies_everywhere};
 use mpc_rows::{region_theorems, system_theorems};
 use mpc_systems::cell_theorems;
 

@@ -31,7 +31,7 @@ use Rattle.mpc_sections.specs.declared.beginnings.Begun.{Begun}
 use Rattle.mpc_sections.specs.declared.beginnings.Begun.TheVariants.{Refused, Convex}
 use Rattle.mpc_sections.specs.Sections.{sections_of}
 use Rattle.mpc_sections.specs.Alone.{IsAlone, IsPlantAnswer, no_plant, of_plant, heading, AreAnswered, none, one_more}
-use Rattle.mpc_convex.specs.Convex.{IsConvexProgram}
+use Rattle.mpc_condense.specs.Convex.{IsConvexProgram}
 use Rattle.mpc_sections.specs.Steps.{IsExamined, AreBegun, no_more, refused, convex, BeginsAs, IsFaultOf, HasRegistry, IsAnswered}
 
 -- ---- the registry of a plant's program at its end

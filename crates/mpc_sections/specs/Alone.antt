@@ -9,7 +9,7 @@ use Rattle.mpc_controller.specs.Parts.{Parts}
 use Rattle.mpc_grammar.specs.declared.versions.Version.TheVariants.{Three}
 use Rattle.mpc_grammar.specs.FileGrammar.{Spells}
 use Rattle.mpc_synthesis.specs.Controllers.{IsController}
-use Rattle.mpc_convex.specs.Refusals.{IsNotDefiniteAt}
+use Rattle.mpc_condense.specs.Refusals.{IsNotDefiniteAt}
 use Rattle.mpc_synthesis.specs.Refusals.{controller, FirstWide}
 use Rattle.mpc_status.specs.declared.status.Status.{Status}
 use Rattle.mpc_status.specs.declared.status.Status.TheVariants.{Done, BadPlant, NotDefinite, TooWide}

@@ -7,7 +7,7 @@ use Rattle.mpc_plant.specs.WholePlant.{ReadsAsPlant}
 use Rattle.mpc_rows.specs.declared.programs.Qp.{Qp}
 use Rattle.mpc_claim.specs.Board.{Board}
 use Rattle.mpc_workers.specs.Seats.{IsDone}
-use Rattle.mpc_convex.specs.Convex.{IsConvexProgram}
+use Rattle.mpc_condense.specs.Convex.{IsConvexProgram}
 use Rattle.mpc_status.specs.declared.status.Status.{Status}
 use Rattle.mpc_status.specs.declared.status.Status.TheVariants.{BadPlant}
 use Rattle.mpc_status.specs.StatusText.{line_of}

@@ -15,7 +15,7 @@ use mpc_frac::NoMemory;
 use mpc_plant::Plant;
 use mpc_status::Status;
 use mpc_synthesis::{SynthesisError, controller_of_in_threads};
-use mpc_text::{add_number, add_text};
+use mpc_words::{add_number, add_text};
 use std::alloc::Global;
 use std::thread::Threads;
 

@@ -2,12 +2,12 @@
 
 ghost use Rattle.std.specs.Prelude.{IfOk};
 ghost use Rattle.mpc_rows.specs.declared.programs.Qp.{Qp as Program};
-ghost use Rattle.mpc_convex.specs.Convex.{IsConvexProgram};
+ghost use Rattle.mpc_condense.specs.Convex.{IsConvexProgram};
 ghost use Rattle.mpc_sections.specs.Sections.{sections_of};
 ghost use Rattle.mpc_sections.specs.Steps.{AreBegun, BeginsAs, IsFaultOf};
 
 use crate::sections::split_section;
-use mpc_convex::{ProgramError, convex_program};
+use mpc_condense::{ProgramError, convex_program};
 use mpc_frac::NoMemory;
 use mpc_plant::{Plant, PlantError, read_plant};
 use mpc_rows::Qp;

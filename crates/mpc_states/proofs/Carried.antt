@@ -14,7 +14,7 @@ use Rattle.mpc_rows.specs.ActiveSets.{IsInBox}
 use Rattle.mpc_words.specs.Words.{words_of}
 use Rattle.mpc_controller.specs.Replies.{outside_from, outside, first_outside}
 use Rattle.mpc_table.specs.TableReplies.{answer_text}
-use Rattle.mpc_replies.specs.CountLine.{is_count, value_of, counts_of}
+use Rattle.mpc_table.specs.CountLine.{is_count, value_of, counts_of}
 use Rattle.mpc_states.specs.StateLines.{IsStateLine, has_reply, has_wide_run, IsLineTo, IsReplyLine, AreStateLines, no_lines, one_more}
 
 -- ---- counts of which none is above its limit are a point of the box

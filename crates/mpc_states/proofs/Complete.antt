@@ -2,10 +2,10 @@
 use Rattle.std.proofs.Common.{◌≡◌, ℕ, List, refl, ap, subst, None}
 use Rattle.mpc_plant.specs.declared.plants.Plant.{Plant}
 use Rattle.mpc_plant.specs.Readings.{OneReading}
-use Rattle.mpc_replies.specs.Cut.{head_of}
+use Rattle.mpc_table.specs.Cut.{head_of}
 use Rattle.mpc_tight.specs.Tightening.{IsWideRow}
 use Rattle.mpc_states.specs.NoisePart.{plant_part, noise_part, noise_from}
-use Rattle.mpc_convex.specs.Outcomes.{ProgramOutcome, not_definite, too_wide, convex, IsProgramOutcome}
+use Rattle.mpc_condense.specs.Outcomes.{ProgramOutcome, not_definite, too_wide, convex, IsProgramOutcome}
 use Rattle.mpc_states.specs.Outcomes.{bad_plant, of_program, bad_robust_plant, bad_noise, of_robust_program, wide_row, robust_replies, WithNoise, WithProgram}
 use Rattle.mpc_states.specs.StateTheorems.{NothingRefused, SolveIsComplete, RobustIsComplete}
 use Rattle.mpc_states.proofs.OneOutcomes.{same_plant, no_file}

@@ -12,7 +12,7 @@ use Rattle.mpc_rows.specs.ActiveSets.{IsFeasible}
 use Rattle.mpc_cover.specs.Cheapest.{IsCheapest}
 use Rattle.mpc_controller.specs.Replies.{outside, first_outside}
 use Rattle.mpc_table.specs.TableReplies.{answer_text}
-use Rattle.mpc_replies.specs.CountLine.{counts_of}
+use Rattle.mpc_table.specs.CountLine.{counts_of}
 use Rattle.mpc_online.specs.declared.Online.{Online}
 use Rattle.mpc_online.specs.OnlineRun.{IsRunEnd, answered, wide_in, OneRunEnd}
 use Rattle.mpc_states.specs.StateLines.{IsTooWide, reply_text, IsStateLine, has_reply, has_wide_run, IsLineTo, IsReplyLine, AreStateLines, one_more, AddsLine, AddsStateLine, IsOf}

@@ -9,10 +9,10 @@ use Rattle.mpc_rows.specs.declared.programs.Qp.{Qp}
 use Rattle.mpc_condense.specs.BestReplies.{OneProgram}
 use Rattle.mpc_tight.specs.Tightening.{IsWideRow}
 use Rattle.mpc_tight.specs.TightTheorems.{OneWideRow, NoWideRow}
-use Rattle.mpc_replies.specs.Cut.{head_of}
+use Rattle.mpc_table.specs.Cut.{head_of}
 use Rattle.mpc_states.specs.NoisePart.{plant_part, noise_part, noise_from}
-use Rattle.mpc_convex.specs.Convex.{IsConvexProgram}
-use Rattle.mpc_convex.specs.Outcomes.{ProgramOutcome, convex, IsProgramOutcome, OneProgramOutcome}
+use Rattle.mpc_condense.specs.Convex.{IsConvexProgram}
+use Rattle.mpc_condense.specs.Outcomes.{ProgramOutcome, convex, IsProgramOutcome, OneProgramOutcome}
 use Rattle.mpc_states.specs.Outcomes.{bad_plant, of_program, OneSolveOutcome, RobustOutcome, bad_robust_plant, bad_noise, of_robust_program, wide_row, robust_replies, WithNoise, IsOutcomeOf, IsRobustOutcome, OneRobustOutcome}
 
 -- ---- of a file

@@ -13,13 +13,13 @@ use Rattle.mpc_condense.specs.Condensed.{counts_of}
 use Rattle.mpc_tight.specs.Disturbed.{IsRobustlyRight}
 use Rattle.mpc_tight.specs.Tightening.{IsWideRow}
 use Rattle.mpc_tight.specs.Tightened.{IsTightened, IsRobustProgram}
-use Rattle.mpc_replies.specs.Cut.{head_of, tail_of}
+use Rattle.mpc_table.specs.Cut.{head_of, tail_of}
 use Rattle.mpc_states.specs.NoisePart.{plant_part, noise_part, noise_from}
 use Rattle.mpc_states.specs.StateLines.{IsOf, AreStateLines}
 use Rattle.mpc_states.specs.StateTheorems.{ProgramIsRight, RobustProgramIsRight}
-use Rattle.mpc_convex.specs.Convex.{IsConvexProgram}
-use Rattle.mpc_convex.specs.Refusals.{IsNotDefiniteAt, IsFirstWidePlace}
-use Rattle.mpc_convex.specs.Outcomes.{not_definite, too_wide, convex, IsProgramOutcome}
+use Rattle.mpc_condense.specs.Convex.{IsConvexProgram}
+use Rattle.mpc_condense.specs.Refusals.{IsNotDefiniteAt, IsFirstWidePlace}
+use Rattle.mpc_condense.specs.Outcomes.{not_definite, too_wide, convex, IsProgramOutcome}
 use Rattle.mpc_states.specs.Outcomes.{OfPlant, bad_noise, of_robust_program, wide_row, robust_replies, IsOutcomeOf}
 use Rattle.mpc_states.specs.Inputs.{IsSolvedFor, IsRobustlySolvedFor, IsSolved, IsRobustlySolved, IsSolveCauseFor, IsRobustCauseFor, IsSolveCause, IsRobustCause}
 use Rattle.mpc_states.specs.declared.errors.SolveError.{SolveError}

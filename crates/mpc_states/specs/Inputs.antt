@@ -8,17 +8,17 @@ use Rattle.mpc_plant.specs.Reply.{IsRight}
 use Rattle.mpc_rows.specs.declared.programs.Qp.{Qp}
 use Rattle.mpc_tight.specs.Disturbed.{IsRobustlyRight}
 use Rattle.mpc_tight.specs.Tightened.{IsTightened}
-use Rattle.mpc_replies.specs.Cut.{head_of, tail_of}
+use Rattle.mpc_table.specs.Cut.{head_of, tail_of}
 use Rattle.mpc_states.specs.NoisePart.{plant_part, noise_part, noise_from}
 use Rattle.mpc_states.specs.StateLines.{AreStateLines}
-use Rattle.mpc_convex.specs.Convex.{IsConvexProgram}
-use Rattle.mpc_convex.specs.Outcomes.{not_definite, too_wide}
+use Rattle.mpc_condense.specs.Convex.{IsConvexProgram}
+use Rattle.mpc_condense.specs.Outcomes.{not_definite, too_wide}
 use Rattle.mpc_states.specs.Outcomes.{bad_plant, of_program, IsSolveOutcome, bad_robust_plant, bad_noise, of_robust_program, wide_row, IsOutcomeOf, IsRobustOutcome}
 use Rattle.mpc_states.specs.declared.errors.SolveError.{SolveError}
 use Rattle.mpc_states.specs.declared.errors.SolveError.TheVariants.{BadPlant, NotDefinite, TooWide, NoMemory}
 use Rattle.mpc_states.specs.declared.errors.RobustError.{RobustError}
 use Rattle.mpc_states.specs.declared.errors.RobustError.TheVariants.{BadPlant as BadRobustPlant, BadNoise, NotDefinite as NotRobustlyDefinite, TooWide as TooWideRobust, WideRow, NoMemory as NoRobustMemory}
-use Rattle.mpc_convex.specs.Refusals.{IsNotDefiniteAt, IsFirstWidePlace}
+use Rattle.mpc_condense.specs.Refusals.{IsNotDefiniteAt, IsFirstWidePlace}
 
 -- to each line of counts there is one line: at each grid state the reply that is right for the plant, or `too wide` exactly where a number of
 -- the online run of its program is too wide

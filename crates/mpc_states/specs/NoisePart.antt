@@ -2,7 +2,7 @@
 use Rattle.std.specs.Prelude.{ℕ, Option, option_and_then, List, codes}
 use Rattle.mpc_exact.specs.Rational.{ℚ}
 use Rattle.mpc_tight.specs.Noise.{noise_of}
-use Rattle.mpc_replies.specs.Cut.{head_of}
+use Rattle.mpc_table.specs.Cut.{head_of}
 use Rattle.mpc_words.specs.WholeLines.{whole_lines, before_line, behind_line}
 
 -- of a head: the text before the line, or all of it where there is none, and the text behind it, where there is one

@@ -7,10 +7,10 @@ use Rattle.mpc_plant.specs.WholePlant.{ReadsAsPlant, IsFirstFault}
 use Rattle.mpc_rows.specs.declared.programs.Qp.{Qp}
 use Rattle.mpc_condense.specs.Causes.{row_count}
 use Rattle.mpc_tight.specs.Tightening.{RowsFit, IsWideRow}
-use Rattle.mpc_replies.specs.Cut.{head_of}
+use Rattle.mpc_table.specs.Cut.{head_of}
 use Rattle.mpc_states.specs.NoisePart.{plant_part, noise_part, noise_from}
-use Rattle.mpc_convex.specs.Convex.{IsConvexProgram}
-use Rattle.mpc_convex.specs.Outcomes.{ProgramOutcome, convex, IsProgramOutcome}
+use Rattle.mpc_condense.specs.Convex.{IsConvexProgram}
+use Rattle.mpc_condense.specs.Outcomes.{ProgramOutcome, convex, IsProgramOutcome}
 
 -- a text is the file of a plant of which something holds
 pub record OfPlant (text : List ℕ) (holds : Plant → Type 0) : Type 0 where

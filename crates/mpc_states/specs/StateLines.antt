@@ -8,7 +8,7 @@ use Rattle.mpc_rows.specs.ActiveSets.{IsFeasible}
 use Rattle.mpc_cover.specs.Cheapest.{IsCheapest}
 use Rattle.mpc_controller.specs.Replies.{at_state, outside, first_outside}
 use Rattle.mpc_table.specs.TableReplies.{answer_text}
-use Rattle.mpc_replies.specs.CountLine.{counts_of}
+use Rattle.mpc_table.specs.CountLine.{counts_of}
 use Rattle.mpc_online.specs.OnlineRun.{IsRunEnd, wide_in}
 
 -- a number of the online run of the program at t is too wide

@@ -12,11 +12,11 @@ use Rattle.mpc_condense.specs.Condensed.{IsCondensed}
 use Rattle.mpc_tight.specs.Disturbed.{IsRobustlyRight}
 use Rattle.mpc_tight.specs.Tightened.{IsRobustProgram}
 use Rattle.mpc_tight.specs.Tightening.{IsWideRow}
-use Rattle.mpc_replies.specs.Cut.{head_of}
+use Rattle.mpc_table.specs.Cut.{head_of}
 use Rattle.mpc_states.specs.NoisePart.{plant_part, noise_in}
 use Rattle.mpc_states.specs.StateLines.{IsOf}
-use Rattle.mpc_convex.specs.Refusals.{IsFirstWidePlace}
-use Rattle.mpc_convex.specs.Outcomes.{convex}
+use Rattle.mpc_condense.specs.Refusals.{IsFirstWidePlace}
+use Rattle.mpc_condense.specs.Outcomes.{convex}
 use Rattle.mpc_states.specs.Outcomes.{SolveOutcome, of_program, IsSolveOutcome, RobustOutcome, robust_replies, IsRobustOutcome}
 
 -- ---- replies

@@ -3,17 +3,17 @@
 ghost use Rattle.std.specs.Prelude.{◌≡◌, Some, None, IfOk, IfErr, OnOk, option_map};
 ghost use Rattle.mpc_tight.specs.Noise.{IsNoise, IfBadNoise};
 ghost use Rattle.mpc_states.specs.NoisePart.{noise_from};
-ghost use Rattle.mpc_convex.specs.Outcomes.{convex};
+ghost use Rattle.mpc_condense.specs.Outcomes.{convex};
 ghost use Rattle.mpc_states.specs.Outcomes.{of_program, IsSolveOutcome, robust_replies, IsOutcomeOf, IsRobustOutcome};
 ghost use Rattle.mpc_states.specs.Inputs.{IsSolvedFor, IsSolved, IsSolveCauseFor, IsSolveCause, IsRobustlySolvedFor, IsRobustlySolved, IsRobustCauseFor, IsRobustCause};
 
 use crate::errors::{RobustError, SolveError};
 use crate::lines::state_lines;
 use crate::theorems::right_programs;
-use mpc_convex::{ProgramError, convex_program};
+use mpc_condense::{ProgramError, convex_program};
 use mpc_linear::Vector;
 use mpc_plant::{Plant, PlantError, read_plant};
-use mpc_replies::cut;
+use mpc_table::cut;
 use mpc_tight::{NoiseError, TightError, read_noise, tighten};
 use mpc_words::cut_at_line;
 use std::alloc::Global;

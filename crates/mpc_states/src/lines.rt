@@ -16,8 +16,8 @@ ghost use Rattle.mpc_states.specs.StateLines.{IsOf, AreStateLines, AddsLine, Add
 use itoa::Buffer;
 use mpc_frac::{Frac, NoMemory};
 use mpc_online::{Online, OnlineError, Prepared, prepare, run_theorems, solve_prepared};
-use mpc_replies::{first_line, read_counts};
 use mpc_rows::Qp;
+use mpc_table::{first_line, read_counts};
 use std::alloc::Global;
 
 /// Puts a piece behind the text.

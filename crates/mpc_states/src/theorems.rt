@@ -3,8 +3,7 @@
 ghost use Rattle.mpc_states.specs.Outcomes.{OneSolveOutcome, OneRobustOutcome};
 ghost use Rattle.mpc_states.specs.StateTheorems.{ProgramIsRight, RobustProgramIsRight, SolveIsComplete, RobustIsComplete};
 
-use mpc_condense::{one_program, program_theorems};
-use mpc_convex::one_program_outcome;
+use mpc_condense::{one_program, one_program_outcome, program_theorems};
 use mpc_plant::one_reading;
 use mpc_tight::tight_theorems;
 

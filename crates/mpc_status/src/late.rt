@@ -5,7 +5,7 @@ ghost use Rattle.mpc_status.specs.LateText.{late_text};
 
 use mpc_frac::NoMemory;
 use mpc_recur::Next;
-use mpc_text::{add_number, add_text};
+use mpc_words::{add_number, add_text};
 
 /// Where a number is too wide behind the making and the check of a controller.
 #[derive(Clone, Copy, Debug, Drop)]

@@ -6,7 +6,7 @@ ghost use Rattle.mpc_status.specs.StatusText.{kind_text, file_kind_text, path_te
 use mpc_file::FileKind;
 use mpc_frac::NoMemory;
 use mpc_plant::{Path, PlantKind};
-use mpc_text::add_text;
+use mpc_words::add_text;
 
 /// The name of what is wrong with a plant's file.
 pub fn kind_name(kind: PlantKind) -> &'static [u8]

@@ -5,7 +5,7 @@ ghost use Rattle.mpc_status.specs.SpotText.{spot_text};
 
 use mpc_check::Spot;
 use mpc_frac::NoMemory;
-use mpc_text::{add_number, add_text};
+use mpc_words::{add_number, add_text};
 
 /// Puts a word and two numbers with a word between them behind the text.
 fn add_pair(

@@ -16,7 +16,7 @@ use mpc_frac::NoMemory;
 use mpc_plant::{Path, PlantKind};
 use mpc_recur::Next;
 use mpc_rows::{PairPoint, Place};
-use mpc_text::{add_number, add_text};
+use mpc_words::{add_number, add_text};
 use std::alloc::Global;
 
 /// What a command ends with.

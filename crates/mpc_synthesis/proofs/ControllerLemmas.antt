@@ -17,18 +17,18 @@ use Rattle.mpc_tree.specs.Trees.{whole_box}
 use Rattle.mpc_tree.specs.Certified.{IsCertified}
 use Rattle.mpc_controller.specs.Parts.{Parts, HaveShapes}
 use Rattle.mpc_controller.specs.Bounds.{KeepBounds}
-use Rattle.mpc_answers.specs.Replies.{PartsHaveShapes}
+use Rattle.mpc_synthesis.specs.RightReplies.{PartsHaveShapes}
 use Rattle.mpc_check.specs.Acceptance.{Accepts}
-use Rattle.mpc_answers.specs.Compiled.{IsCompiled}
+use Rattle.mpc_synthesis.specs.Compiled.{IsCompiled}
 use Rattle.mpc_claim.specs.Board.{Board}
-use Rattle.mpc_convex.specs.Convex.{HasProgram}
+use Rattle.mpc_condense.specs.Convex.{HasProgram}
 use Rattle.mpc_synthesis.specs.Programs.{HasVerdicts, IsDecidedBy}
 use Rattle.mpc_synthesis.specs.declared.parts.Tabled.{Tabled}
 use Rattle.mpc_synthesis.specs.Tables.{IsTabledBy, HasTable}
 use Rattle.mpc_synthesis.specs.Controllers.{HasTree, IsSealed, IsController}
 use Rattle.mpc_synthesis.specs.Refusals.{controller, ExplainsSynthesisError, ExplainsCheckError, refusal_of, wide_tree, wide_check}
-use Rattle.mpc_convex.specs.declared.ProgramError.{ProgramError}
-use Rattle.mpc_convex.specs.declared.ProgramError.TheVariants.{NotDefinite, TooWide, NoMemory}
+use Rattle.mpc_condense.specs.declared.convex.ProgramError.{ProgramError}
+use Rattle.mpc_condense.specs.declared.convex.ProgramError.TheVariants.{NotDefinite, TooWide, NoMemory}
 
 -- ---- the table of a decided program
 pub has_table : (plant : Plant) (board : Board) (table : Tabled) → ((workers : ℕ) × IsDecidedBy workers plant board) → IsTabledBy board table → HasTable plant table

@@ -14,11 +14,11 @@ use Rattle.mpc_claim.specs.Board.{Board, event, tag_of, is_wide}
 use Rattle.mpc_claim.specs.History.{IsLegal, IsFinished, EndsWide}
 use Rattle.mpc_claim.specs.HistoryTheorems.{LegalTheorems}
 use Rattle.mpc_claim.specs.declared.events.Phase.TheVariants.{Finished, Stopped}
-use Rattle.mpc_convex.specs.declared.ProgramError.{ProgramError}
-use Rattle.mpc_convex.specs.declared.ProgramError.TheVariants.{NotDefinite, TooWide, NoMemory}
+use Rattle.mpc_condense.specs.declared.convex.ProgramError.{ProgramError}
+use Rattle.mpc_condense.specs.declared.convex.ProgramError.TheVariants.{NotDefinite, TooWide, NoMemory}
 use Rattle.mpc_synthesis.specs.Crews.{HasEnded}
-use Rattle.mpc_convex.specs.Convex.{IsConvexProgram}
-use Rattle.mpc_convex.specs.Refusals.{IsProgramCause}
+use Rattle.mpc_condense.specs.Convex.{IsConvexProgram}
+use Rattle.mpc_condense.specs.Refusals.{IsProgramCause}
 use Rattle.mpc_synthesis.specs.Programs.{IsDecided, HasVerdicts, IsDecidedBy}
 use Rattle.mpc_synthesis.specs.Refusals.{Extent, ExplainsSynthesisError, ExplainsSetError, wide_program, wide_set}
 

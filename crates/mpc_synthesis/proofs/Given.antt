@@ -2,11 +2,11 @@
 use Rattle.mpc_cover.specs.CoverTheorems.{OneRightVerdict}
 use Rattle.mpc_sets.specs.SetTheorems.{OrderTheorems}
 use Rattle.mpc_definite.specs.PivotTheorems.{DefiniteByPivots}
-use Rattle.mpc_convex.specs.Outcomes.{OneProgramOutcome}
+use Rattle.mpc_condense.specs.Outcomes.{OneProgramOutcome}
 use Rattle.mpc_controller.specs.OneBound.{OneFirstBroken, KeptNotBroken}
 use Rattle.mpc_condense.specs.BestReplies.{OneProgram}
 use Rattle.mpc_tree.specs.Certified.{OneTree, OneFirstWide, FitsNotWide, CertifiedFits}
-use Rattle.mpc_answers.specs.Replies.{OneTable}
+use Rattle.mpc_synthesis.specs.RightReplies.{OneTable}
 use Rattle.mpc_check.specs.Acceptance.{NothingFound, OneFinding}
 
 pub record Given : Type 0 where

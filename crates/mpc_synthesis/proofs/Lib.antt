@@ -5,3 +5,15 @@ pub mod Given
 pub mod OneOutcome
 pub mod ControllerLemmas
 pub mod ReplyLemmas
+pub mod ElementLemmas
+pub mod TreeWalks
+pub mod SplitRows
+pub mod CertShapes
+pub mod TableSizes
+pub mod TreeShapes
+pub mod BoxCounts
+pub mod OneTable
+pub mod WholeCerts
+pub mod LeafPaths
+pub mod LeavesHold
+pub mod CompiledChecks

@@ -22,11 +22,11 @@ use Rattle.mpc_controller.specs.Parts.{Parts}
 use Rattle.mpc_controller.specs.Bounds.{KeepBounds, IsFirstBroken}
 use Rattle.mpc_check.specs.Findings.{Finding, refused, too_wide as found_wide, not_definite as found_not_definite}
 use Rattle.mpc_check.specs.Acceptance.{Accepts, IsFound}
-use Rattle.mpc_convex.specs.Convex.{HasProgram, PivotsPass, IsConvexProgram}
+use Rattle.mpc_condense.specs.Convex.{HasProgram, PivotsPass, IsConvexProgram}
 use Rattle.mpc_synthesis.specs.Programs.{IsDecided, HasVerdicts}
 use Rattle.mpc_synthesis.specs.Controllers.{IsSealed, IsController, OneController}
-use Rattle.mpc_convex.specs.Refusals.{IsNotDefiniteAt, IsFirstWidePlace}
-use Rattle.mpc_convex.specs.Outcomes.{not_definite as of_pivot, too_wide as of_place, convex}
+use Rattle.mpc_condense.specs.Refusals.{IsNotDefiniteAt, IsFirstWidePlace}
+use Rattle.mpc_condense.specs.Outcomes.{not_definite as of_pivot, too_wide as of_place, convex}
 use Rattle.mpc_synthesis.specs.Refusals.{Extent, verdicts, controller, BuildsController, FirstWide, wide_program, wide_set, wide_tree, wide_bound, wide_check}
 use Rattle.mpc_synthesis.specs.Outcomes.{Outcome, not_definite, too_wide, complete, IsComplete, IsOutcome, OneOutcome}
 use Rattle.mpc_synthesis.proofs.Given.{Given}

@@ -4,3 +4,5 @@ pub mod Tables
 pub mod Controllers
 pub mod Refusals
 pub mod Outcomes
+pub mod RightReplies
+pub mod Compiled

@@ -8,7 +8,7 @@ use Rattle.mpc_rows.specs.Verdicts.{IsRight}
 use Rattle.mpc_claim.specs.declared.events.Phase.TheVariants.{Finished}
 use Rattle.mpc_claim.specs.Board.{Board, is_wide}
 use Rattle.mpc_claim.specs.History.{IsFinished}
-use Rattle.mpc_convex.specs.Convex.{HasProgram, PivotsPass}
+use Rattle.mpc_condense.specs.Convex.{HasProgram, PivotsPass}
 use Rattle.mpc_synthesis.specs.Crews.{HasEnded}
 
 -- each candidate has a right verdict, and none meets a number that is too wide

@@ -8,10 +8,10 @@ use Rattle.mpc_rows.specs.declared.verdicts.Verdict.TheVariants.{Wide}
 use Rattle.mpc_rows.specs.declared.places.Place.{Place}
 use Rattle.mpc_rows.specs.Candidates.{IsTable}
 use Rattle.mpc_claim.specs.Answers.{IsFirstBad}
-use Rattle.mpc_convex.specs.Convex.{HasProgram, PivotsPass}
-use Rattle.mpc_convex.specs.Refusals.{IsNotDefiniteAt, IsFirstWidePlace}
-use Rattle.mpc_convex.specs.declared.ProgramError.{ProgramError}
-use Rattle.mpc_convex.specs.declared.ProgramError.TheVariants.{NotDefinite, TooWide, NoMemory}
+use Rattle.mpc_condense.specs.Convex.{HasProgram, PivotsPass}
+use Rattle.mpc_condense.specs.Refusals.{IsNotDefiniteAt, IsFirstWidePlace}
+use Rattle.mpc_condense.specs.declared.convex.ProgramError.{ProgramError}
+use Rattle.mpc_condense.specs.declared.convex.ProgramError.TheVariants.{NotDefinite, TooWide, NoMemory}
 use Rattle.mpc_tree.specs.declared.errors.TreeError.{TreeError}
 use Rattle.mpc_tree.specs.declared.errors.TreeError.TheVariants.{Wide as WideTree, NoMemory as NoTreeMemory}
 use Rattle.mpc_tree.specs.Trees.{whole_box}

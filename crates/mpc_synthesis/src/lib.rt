@@ -2,6 +2,7 @@
 //! controller with its table of laws and its search tree, which the independent checker has accepted.
 #![tactic(auto)]
 
+mod answers;
 mod controllers;
 mod parts;
 mod theorems;
@@ -10,5 +11,8 @@ mod verdicts;
 pub use controllers::{controller, controller_in_threads, controller_of, controller_of_in_threads};
 pub use theorems::{one_controller, one_outcome, right_controller};
 /// Why a plant is refused. `TooWide` names the first place of all that the plant goes through.
-pub use mpc_convex::ProgramError as SynthesisError;
+pub use answers::{
+    compiled_accepted, grid_points, one_table, right_replies, table_sizes, tree_shapes,
+};
+pub use mpc_condense::ProgramError as SynthesisError;
 pub use verdicts::{decided, decided_in_threads};

@@ -9,13 +9,12 @@ ghost use Rattle.mpc_tree.specs.WideRuns.{IsFirstWide};
 ghost use Rattle.mpc_tree.specs.Trees.{whole_box};
 ghost use Rattle.mpc_tree.specs.Certified.{IsCertified};
 ghost use Rattle.mpc_check.specs.Acceptance.{Accepts, IsAnswer, IsCause};
-ghost use Rattle.mpc_answers.specs.Compiled.{IsCompiled};
+ghost use Rattle.mpc_synthesis.specs.Compiled.{IsCompiled};
 ghost use Rattle.mpc_synthesis.specs.Tables.{IsTabledBy, HasTable};
 ghost use Rattle.mpc_synthesis.specs.Controllers.{IsSealed};
 ghost use Rattle.mpc_synthesis.specs.Refusals.{controller, ExplainsSynthesisError, ExplainsCheckError, refusal_of};
 
-use crate::SynthesisError;
-use mpc_answers::{compiled_accepted, tree_shapes};
+use crate::{SynthesisError, compiled_accepted, tree_shapes};
 use mpc_check::{Answer, CheckError};
 use mpc_claim::Registry;
 use mpc_controller::{Controller, SealError};

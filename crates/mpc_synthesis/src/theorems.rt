@@ -3,11 +3,10 @@
 ghost use Rattle.mpc_synthesis.specs.Controllers.{ControllerIsRight, ControllerReplies, OneController};
 ghost use Rattle.mpc_synthesis.specs.Outcomes.{OneOutcome};
 
-use mpc_answers::one_table;
+use crate::one_table;
 use mpc_check::{accepted_replies, one_finding};
-use mpc_condense::one_program;
+use mpc_condense::{one_program, one_program_outcome};
 use mpc_controller::{bound_theorems, replies_everywhere};
-use mpc_convex::one_program_outcome;
 use mpc_cover::one_verdict;
 use mpc_definite::pivot_theorems;
 use mpc_sets::order_theorems;

@@ -10,7 +10,7 @@ ghost use Rattle.mpc_synthesis.specs.Refusals.{Extent, ExplainsSetError, Explain
 
 use crate::SynthesisError;
 use mpc_claim::{Registry, legal_theorems};
-use mpc_convex::convex_program;
+use mpc_condense::convex_program;
 use mpc_plant::Plant;
 use mpc_rows::Qp;
 use mpc_workers::{Gate, WorkError, enumerate, enumerate_alone};

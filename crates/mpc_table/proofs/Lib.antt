@@ -13,3 +13,8 @@ pub mod ReadLemmas
 pub mod ReplyLemmas
 pub mod AnswerLemmas
 pub mod KeptForms
+pub mod CountLemmas
+pub mod LineLemmas
+pub mod BoxLemmas
+pub mod ReplyLineLemmas
+pub mod LawLemmas

@@ -8,3 +8,6 @@ pub mod SharedForms
 pub mod SharedLookup
 pub mod TableTheorems
 pub mod TableReplies
+pub mod Cut
+pub mod CountLine
+pub mod ReplyLines

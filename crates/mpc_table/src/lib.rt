@@ -1,9 +1,12 @@
-//! The table-driven controller: replies to counts by one walk through the search tree, without memory.
+//! The table-driven controller: replies to counts by one walk through the search tree, without memory, and to lines of counts.
 #![tactic(auto)]
 
+mod counts;
 mod forms;
+mod input;
 mod places;
 mod replies;
+mod reply_lines;
 mod rows;
 mod sides;
 mod steps;
@@ -11,9 +14,12 @@ mod tables;
 mod theorems;
 mod values;
 
+pub use counts::read_counts;
 pub use forms::whole_form;
+pub use input::{Sections, cut, first_line};
 pub use replies::Reply;
+pub use reply_lines::replies;
 pub use sides::no_sides;
 pub use tables::{Table, find_outside};
-pub use theorems::table_theorems;
+pub use theorems::{one_text, right_replies, table_theorems};
 pub use values::weighted_sum;

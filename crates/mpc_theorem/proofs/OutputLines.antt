@@ -9,8 +9,8 @@ use Rattle.mpc_rows.specs.declared.programs.Qp.{Qp}
 use Rattle.mpc_controller.specs.Parts.{limits_of}
 use Rattle.mpc_controller.specs.Replies.{at_state, outside, first_outside}
 use Rattle.mpc_table.specs.TableReplies.{answer_text}
-use Rattle.mpc_replies.specs.CountLine.{counts_of}
-use Rattle.mpc_replies.specs.ReplyLines.{IsRightLine, IsReplyTo, IsReplyLine, AreReplies, no_lines as no_replies, one_more as one_more_reply}
+use Rattle.mpc_table.specs.CountLine.{counts_of}
+use Rattle.mpc_table.specs.ReplyLines.{IsRightLine, IsReplyTo, IsReplyLine, AreReplies, no_lines as no_replies, one_more as one_more_reply}
 use Rattle.mpc_tight.specs.Disturbed.{IsRobustlyRight}
 use Rattle.mpc_states.specs.StateLines.{IsStateLine, has_reply, has_wide_run, AreStateLines, IsLineTo as IsStateLineTo, no_lines as no_state_lines, one_more as one_more_state}
 use Rattle.mpc_theorem.specs.PlantFile.{PlantTextsAreRead, OnePlantText}

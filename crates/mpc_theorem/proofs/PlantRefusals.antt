@@ -21,8 +21,8 @@ use Rattle.mpc_check.specs.Findings.{too_wide}
 use Rattle.mpc_check.specs.Acceptance.{FindsBehind, IsFound}
 use Rattle.mpc_synthesis.specs.Programs.{HasVerdicts}
 use Rattle.mpc_synthesis.specs.Controllers.{IsSealed}
-use Rattle.mpc_convex.specs.Convex.{HasProgram as HasItsProgram, PivotsPass}
-use Rattle.mpc_convex.specs.Refusals.{IsFirstWidePlace, wide_program as of_condensing, wide_pivot as of_pivot}
+use Rattle.mpc_condense.specs.Convex.{HasProgram as HasItsProgram, PivotsPass}
+use Rattle.mpc_condense.specs.Refusals.{IsFirstWidePlace, wide_program as of_condensing, wide_pivot as of_pivot}
 use Rattle.mpc_synthesis.specs.Refusals.{Extent, verdicts, controller, FirstWide, wide_program, wide_set, wide_tree, wide_bound, wide_check}
 use Rattle.mpc_theorem.specs.Programs.{IsWideProgram}
 use Rattle.mpc_theorem.specs.Stages.{IsWideSet, IsWideTree, IsWideStage, PlantTooWide}

@@ -9,7 +9,7 @@ use Rattle.mpc_rows.specs.declared.programs.Qp.{Qp}
 use Rattle.mpc_definite.specs.Pivots.{IsFirstNotPositive, IsFirstWide}
 use Rattle.mpc_condense.specs.Causes.{IsWidePlace}
 use Rattle.mpc_condense.specs.ProgramTheorems.{RowsWithin}
-use Rattle.mpc_convex.specs.Convex.{HasProgram as HasItsProgram}
+use Rattle.mpc_condense.specs.Convex.{HasProgram as HasItsProgram}
 use Rattle.mpc_theorem.specs.Programs.{HasProgram, IsNotDefinite, IsWidePivot, IsWideProgram}
 use Rattle.mpc_theorem.proofs.ProgramPlaces.{to_all_fit, of_all_fit, of_wide_place, to_not_positive, of_not_positive, to_wide_pivot, of_wide_pivot}
 

@@ -14,8 +14,8 @@ use Rattle.mpc_recur.specs.Successors.{IsSafe, LeadsToTarget, LeadsAway}
 use Rattle.mpc_recur.specs.Findings.{reached, too_wide}
 use Rattle.mpc_recur.specs.Targets.{IsFound}
 use Rattle.mpc_recur.specs.SafetyTheorems.{RuledOutWhereSafe, FoundLeadsAway, LeadsAwayNotSafe}
-use Rattle.mpc_safety.specs.declared.answers.Safety.TheVariants.{Safe, Refused, Unsafe}
-use Rattle.mpc_safety.specs.SafetyOutcomes.{SafetyOutcome, bad_file, finds, steps, safe, IsSafetyOutcome, OneSafetyOutcome}
+use Rattle.mpc_files.specs.declared.answers.Safety.TheVariants.{Safe, Refused, Unsafe}
+use Rattle.mpc_files.specs.SafetyOutcomes.{SafetyOutcome, bad_file, finds, steps, safe, IsSafetyOutcome, OneSafetyOutcome}
 use Rattle.mpc_theorem.specs.SafeFiles.{LeavesFrom, IsUnsafeFile, IsSafetyDue, DueIsFound, OneSafetyDue, AnswerIsDue, SafeIsForever}
 
 pub safe_forever : SafeIsForever

@@ -10,7 +10,7 @@ use Rattle.mpc_condense.specs.Stages.{IsRow}
 use Rattle.mpc_condense.specs.Causes.{row_count}
 use Rattle.mpc_condense.specs.ProgramTheorems.{RowsWithin}
 use Rattle.mpc_tight.specs.Tightening.{RowFits, IsWideRow}
-use Rattle.mpc_convex.specs.Refusals.{IsNotDefiniteAt, IsFirstWidePlace, wide_program, wide_pivot as of_pivot}
+use Rattle.mpc_condense.specs.Refusals.{IsNotDefiniteAt, IsFirstWidePlace, wide_program, wide_pivot as of_pivot}
 use Rattle.mpc_theorem.specs.Firsts.{IsFirstOf, numbered}
 use Rattle.mpc_theorem.specs.Programs.{IsNotDefinite, IsWideProgram}
 use Rattle.mpc_theorem.specs.Stages.{PlantNotDefinite}

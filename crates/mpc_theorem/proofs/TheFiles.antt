@@ -7,7 +7,7 @@ use Rattle.mpc_condense.specs.Condensed.{IsCondensed}
 use Rattle.mpc_condense.specs.BestReplies.{OneProgram}
 use Rattle.mpc_tree.specs.Trees.{whole_box}
 use Rattle.mpc_tree.specs.Certified.{IsOwnTree, CertifiedIsOwn, OneOwnTree, TableHasLaws}
-use Rattle.mpc_answers.specs.Replies.{OneTable}
+use Rattle.mpc_synthesis.specs.RightReplies.{OneTable}
 use Rattle.mpc_controller.specs.Parts.{Parts}
 use Rattle.mpc_grammar.specs.declared.versions.Version.TheVariants.{Three}
 use Rattle.mpc_synthesis.specs.Controllers.{IsController}

@@ -5,10 +5,10 @@ use Rattle.mpc_rows.specs.Candidates.{IsTable}
 use Rattle.mpc_condense.specs.Condensed.{IsCondensed}
 use Rattle.mpc_controller.specs.Parts.{Parts}
 use Rattle.mpc_files.specs.FileAnswers.{RepliesRightly}
-use Rattle.mpc_drill.specs.declared.drills.Drilled.{Drilled}
-use Rattle.mpc_drill.specs.DrillPlant.{IsDrillPlant}
-use Rattle.mpc_drill.specs.SearchTree.{IsTreeOf}
-use Rattle.mpc_drill.specs.Drills.{CountsCandidates, IsDrilled, drill_text}
+use Rattle.mpc_trace.specs.declared.drills.Drilled.{Drilled}
+use Rattle.mpc_trace.specs.DrillPlant.{IsDrillPlant}
+use Rattle.mpc_trace.specs.SearchTree.{IsTreeOf}
+use Rattle.mpc_trace.specs.Drills.{CountsCandidates, IsDrilled, drill_text}
 
 -- The output of `drill`: how many candidates and how many laws the drill's plant has, and how many leaves and which depth the tree has of a
 -- controller with these laws, which replies at every point of the box, and rightly.

@@ -12,7 +12,7 @@ use Rattle.mpc_grammar.specs.declared.versions.Version.TheVariants.{Three}
 use Rattle.mpc_grammar.specs.FileGrammar.{Spells}
 use Rattle.mpc_files.specs.FileAnswers.{RepliesRightly, FileReplies, Converts, IsAccepted}
 use Rattle.mpc_synthesis.specs.Controllers.{IsController}
-use Rattle.mpc_replies.specs.ReplyLines.{AreRepliesOf}
+use Rattle.mpc_table.specs.ReplyLines.{AreRepliesOf}
 use Rattle.mpc_theorem.specs.PlantFile.{IsPlantText}
 use Rattle.mpc_theorem.specs.ControllerFile.{IsControllerFile}
 

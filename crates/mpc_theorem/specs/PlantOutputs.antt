@@ -7,10 +7,10 @@ use Rattle.mpc_plant.specs.Reply.{Reply, IsRight}
 use Rattle.mpc_controller.specs.Parts.{limits_of}
 use Rattle.mpc_controller.specs.Replies.{at_state, outside, first_outside}
 use Rattle.mpc_table.specs.TableReplies.{answer_text}
-use Rattle.mpc_convex.specs.Convex.{IsConvexProgram}
-use Rattle.mpc_replies.specs.CountLine.{counts_of}
-use Rattle.mpc_replies.specs.Cut.{head_of, count_lines}
-use Rattle.mpc_replies.specs.ReplyLines.{AreReplies}
+use Rattle.mpc_condense.specs.Convex.{IsConvexProgram}
+use Rattle.mpc_table.specs.CountLine.{counts_of}
+use Rattle.mpc_table.specs.Cut.{head_of, count_lines}
+use Rattle.mpc_table.specs.ReplyLines.{AreReplies}
 use Rattle.mpc_rows.specs.declared.programs.Qp.{Qp}
 use Rattle.mpc_tight.specs.Disturbed.{IsRobustlyRight}
 use Rattle.mpc_tight.specs.Tightened.{IsTightened}

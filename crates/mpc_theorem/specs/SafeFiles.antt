@@ -13,11 +13,11 @@ use Rattle.mpc_recur.specs.declared.answers.Next.{Next}
 use Rattle.mpc_recur.specs.Successors.{next, IsSafe, IsAtTarget}
 use Rattle.mpc_recur.specs.Findings.{reached, too_wide}
 use Rattle.mpc_recur.specs.Targets.{IsFound, NothingWide}
-use Rattle.mpc_safety.specs.RightForever.{HasAdmissible, StaysRight}
-use Rattle.mpc_safety.specs.declared.answers.Safety.{Safety}
-use Rattle.mpc_safety.specs.declared.answers.Safety.TheVariants.{Safe}
-use Rattle.mpc_safety.specs.SafetyAnswers.{IsAnswerToFile}
-use Rattle.mpc_safety.specs.SafetyOutcomes.{SafetyOutcome, bad_file, finds, steps, safe, IsSafetyOutcome, outcome_of}
+use Rattle.mpc_files.specs.RightForever.{HasAdmissible, StaysRight}
+use Rattle.mpc_files.specs.declared.answers.Safety.{Safety}
+use Rattle.mpc_files.specs.declared.answers.Safety.TheVariants.{Safe}
+use Rattle.mpc_files.specs.SafetyAnswers.{IsAnswerToFile}
+use Rattle.mpc_files.specs.SafetyOutcomes.{SafetyOutcome, bad_file, finds, steps, safe, IsSafetyOutcome, outcome_of}
 
 -- ---- what is written of
 -- From every point of the box with an admissible sequence the closed loop of the controller in the file goes on forever: after each number of

@@ -13,7 +13,7 @@ use Rattle.mpc_controller.specs.Parts.{Parts}
 use Rattle.mpc_check.specs.Findings.{too_wide}
 use Rattle.mpc_check.specs.Acceptance.{FindsBehind}
 use Rattle.mpc_synthesis.specs.Controllers.{HasTree, IsSealed}
-use Rattle.mpc_convex.specs.Refusals.{IsNotDefiniteAt}
+use Rattle.mpc_condense.specs.Refusals.{IsNotDefiniteAt}
 use Rattle.mpc_synthesis.specs.Refusals.{Extent, verdicts, controller, FirstWide}
 use Rattle.mpc_theorem.specs.Firsts.{IsFirstOf, numbered}
 use Rattle.mpc_theorem.specs.Programs.{HasProgram, PivotPasses, IsNotDefinite, IsWideProgram}

@@ -9,8 +9,8 @@ use Rattle.mpc_rows.specs.declared.programs.Qp.{Qp}
 use Rattle.mpc_condense.specs.Stages.{IsRow}
 use Rattle.mpc_condense.specs.Causes.{row_count}
 use Rattle.mpc_tight.specs.Tightening.{RowFits, IsWideRow}
-use Rattle.mpc_convex.specs.Convex.{IsConvexProgram}
-use Rattle.mpc_convex.specs.Refusals.{IsFirstWidePlace}
+use Rattle.mpc_condense.specs.Convex.{IsConvexProgram}
+use Rattle.mpc_condense.specs.Refusals.{IsFirstWidePlace}
 use Rattle.mpc_states.specs.Outcomes.{WithProgram}
 use Rattle.mpc_theorem.specs.Firsts.{IsFirstOf, numbered}
 use Rattle.mpc_theorem.specs.Programs.{IsWideProgram}

@@ -4,9 +4,8 @@ ghost use Rattle.mpc_theorem.specs.FileOutputs.{CompiledIsOutput, OneFile, OfIts
 
 use crate::controller_files::controller_file;
 use crate::plant_files::plant_texts;
-use mpc_answers::one_table;
 use mpc_condense::one_program;
-use mpc_synthesis::right_controller;
+use mpc_synthesis::{one_table, right_controller};
 use mpc_tree::{one_tree, table_theorems};
 
 /// What the libraries say of the files that they write and accept is what these outputs mean. The call does nothing: its clauses are the

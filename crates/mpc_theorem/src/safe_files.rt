@@ -4,8 +4,8 @@ ghost use Rattle.mpc_theorem.specs.SafeFiles.{DueIsFound, OneSafetyDue, AnswerIs
 
 use mpc_check::accepted_replies;
 use mpc_file::each_text;
+use mpc_files::one_safety_answer;
 use mpc_recur::ruled_out_where_safe;
-use mpc_safety::one_safety_answer;
 
 /// What is due to such a file is what the tests of the targets find: where the closed loop leaves, the checker accepts the controller, and the
 /// loop comes from a state with an admissible sequence to one outside the box or without a move; and a file is safe exactly where each target

@@ -1,1 +1,4 @@
 pub mod Histories
+pub mod DrillPlant
+pub mod SearchTree
+pub mod Drills

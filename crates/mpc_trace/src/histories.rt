@@ -6,7 +6,7 @@ ghost use Rattle.mpc_trace.specs.Histories.{tag_text, kind_word, kind_end, event
 use mpc_claim::{Event, EventKind, Tag};
 use mpc_frac::NoMemory;
 use mpc_sets::write_set;
-use mpc_text::{add_number, add_text};
+use mpc_words::{add_number, add_text};
 use std::alloc::Global;
 
 /// The word for what was found.

@@ -1,12 +1,13 @@
-//! Texts cut into lines and words, and numbers read in their one spelling.
+//! Texts cut into lines and words, numbers read in their one spelling, and texts that grow at their end.
 //!
-//! Nothing here takes memory: what is answered is a part of what was passed, or a number.
+//! What reads takes no memory: it answers a part of what was passed, or a number.
 #![tactic(auto)]
 
 mod fractions;
 mod integers;
 mod lines;
 mod naturals;
+mod texts;
 mod theorems;
 mod whole_lines;
 
@@ -14,6 +15,7 @@ pub use fractions::read_fraction;
 pub use integers::read_integer;
 pub use lines::{next_line, split_word};
 pub use naturals::{Natural, read_natural};
+pub use texts::{add_number, add_text};
 pub use theorems::{
     cut_theorems, fraction_theorems, integer_theorems, line_theorems, natural_theorems,
     whole_line_theorems,

@@ -4,7 +4,7 @@ use Rattle.mpc_rows.specs.LinearSystem.{height}
 use Rattle.mpc_systems.specs.Systems.{hold_system}
 use Rattle.mpc_check.specs.Certs.{HasPositionsIn}
 use Rattle.mpc_check.specs.Picks.{picked_system, weights}
-use Rattle.mpc_paths.specs.Ways.{way_rows}
+use Rattle.mpc_controller.specs.Ways.{way_rows}
 use Rattle.mpc_check.specs.LeafSystems.{system_at}
 use Rattle.mpc_check.specs.Widths.{IsOfWidth}
 use Rattle.mpc_check.proofs.CertLemmas.{decided_sums, decided_whole, outside_fits, outside_fails}

@@ -1,7 +1,7 @@
 use Rattle.std.proofs.Common.{Ok, ◌∙◌, ap, subst}
 use Rattle.mpc_check.specs.Findings.{IsSearched}
-use Rattle.mpc_convex.specs.Convex.{IsConvexProgram}
-use Rattle.mpc_convex.specs.Refusals.{IsProgramCause}
+use Rattle.mpc_condense.specs.Convex.{IsConvexProgram}
+use Rattle.mpc_condense.specs.Refusals.{IsProgramCause}
 use Rattle.mpc_check.specs.Acceptance.{BehindMet, BehindFinds}
 use Rattle.mpc_check.proofs.CheckLemmas.{refused_cause, accepts_all, refused_behind, behind_cause}
 use Rattle.mpc_check.proofs.checks.check.Goals as goal

@@ -2,7 +2,7 @@ use Rattle.std.proofs.Common.{◌≡◌, ◌+◌, length, sym, ◌∙◌, subst,
 use Rattle.mpc_space.specs.Matrix.{height}
 use Rattle.mpc_rows.specs.SetRuns.{joint_rows}
 use Rattle.mpc_systems.specs.Systems.{joint_system}
-use Rattle.mpc_paths.specs.Ways.{way_rows}
+use Rattle.mpc_controller.specs.Ways.{way_rows}
 use Rattle.mpc_check.specs.LeafSystems.{system_at}
 use Rattle.mpc_check.specs.Widths.{IsOfWidth}
 use Rattle.mpc_check.proofs.RowWidths.{joint_rows_wide}

@@ -1,6 +1,6 @@
 use Rattle.std.proofs.Common.{subst}
 use Rattle.mpc_check.specs.Borders.{IsBorder, IsFormed, IsFormedOfSize}
-use Rattle.mpc_paths.specs.Ways.{way_rows}
+use Rattle.mpc_controller.specs.Ways.{way_rows}
 use Rattle.mpc_check.proofs.LeafLemmas.{row_decided}
 use Rattle.mpc_check.proofs.leaves.is_row_refuted.Goals as goal
 

@@ -6,7 +6,7 @@ use Rattle.mpc_check.specs.declared.answers.Spot.TheVariants.{LeafRow}
 use Rattle.mpc_check.specs.Borders.{IsFormed}
 use Rattle.mpc_check.specs.Findings.{IsDecided}
 use Rattle.mpc_check.specs.LeafConditions.{RowFits, RowHolds, LeafRowMet, LeafRowFinds}
-use Rattle.mpc_paths.specs.Ways.{way_rows}
+use Rattle.mpc_controller.specs.Ways.{way_rows}
 use Rattle.mpc_check.proofs.FindingLemmas.{each_more, each_done, first_error, first_spot, condition_error}
 use Rattle.mpc_check.proofs.leaves.search_law_leaf.Goals as goal
 

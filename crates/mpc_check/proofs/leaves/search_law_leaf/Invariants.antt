@@ -1,7 +1,7 @@
 use Rattle.mpc_check.specs.Borders.{AreFormed}
 use Rattle.mpc_check.specs.Findings.{Each}
 use Rattle.mpc_check.specs.LeafConditions.{LeafRowMet}
-use Rattle.mpc_paths.specs.Ways.{way_rows}
+use Rattle.mpc_controller.specs.Ways.{way_rows}
 use Rattle.mpc_rows.specs.declared.laws.Law.{Law}
 use Rattle.mpc_check.proofs.leaves.search_law_leaf.Given as goal
 

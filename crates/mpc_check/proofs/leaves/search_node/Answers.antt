@@ -2,7 +2,7 @@ use Rattle.std.proofs.Common.{◌-◌, sym, subst}
 use Rattle.mpc_check.specs.Borders.{AreFormed}
 use Rattle.mpc_check.specs.Findings.{IsSearched}
 use Rattle.mpc_check.specs.LeafConditions.{NodeMet, NodeFinds}
-use Rattle.mpc_paths.specs.Ways.{way_rows}
+use Rattle.mpc_controller.specs.Ways.{way_rows}
 use Rattle.mpc_rows.specs.Laws.{HasLawShape}
 use Rattle.mpc_check.proofs.BorderLemmas.{all_of_size, rows_there}
 use Rattle.mpc_check.proofs.ElementLemmas.{all_at}

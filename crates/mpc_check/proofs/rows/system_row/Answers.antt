@@ -3,7 +3,7 @@ use Rattle.std.proofs.lemmas.List.{get_or_default}
 use Rattle.mpc_rows.specs.SetRuns.{box_rows}
 use Rattle.mpc_rows.specs.LinearSystem.{no_row}
 use Rattle.mpc_systems.specs.Writing.{widened}
-use Rattle.mpc_paths.specs.Ways.{way_rows}
+use Rattle.mpc_controller.specs.Ways.{way_rows}
 use Rattle.mpc_check.proofs.RowPlaces.{same_value, box_count, in_box, in_path, in_last}
 use Rattle.mpc_check.proofs.SplitRows.{way_row, way_count}
 use Rattle.mpc_check.proofs.rows.system_row.Goals as goal

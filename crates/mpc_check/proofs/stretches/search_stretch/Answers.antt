@@ -1,7 +1,7 @@
 use Rattle.std.proofs.Common.{Ok, sym, subst, arith}
 use Rattle.mpc_check.specs.Findings.{IsSearched}
 use Rattle.mpc_check.specs.LeafConditions.{NodeAtMet, NodeAtFinds}
-use Rattle.mpc_paths.specs.Ways.{IsWay}
+use Rattle.mpc_controller.specs.Ways.{IsWay}
 use Rattle.mpc_check.proofs.StretchLemmas.{none_yet, one_more, stretch_error}
 use Rattle.mpc_check.proofs.stretches.search_stretch.Goals as goal
 

@@ -1,7 +1,7 @@
 use Rattle.std.proofs.Common.{◌<◌, length}
 use Rattle.mpc_check.specs.Findings.{EachFrom}
 use Rattle.mpc_check.specs.LeafConditions.{NodeAtMet}
-use Rattle.mpc_paths.specs.Ways.{IsWay}
+use Rattle.mpc_controller.specs.Ways.{IsWay}
 use Rattle.mpc_check.proofs.stretches.search_stretch.Given as goal
 
 abbrev pub invariant-loop-place : goal.invariant-loop-place

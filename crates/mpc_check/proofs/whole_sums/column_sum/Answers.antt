@@ -4,7 +4,7 @@ use Rattle.mpc_exact.specs.Rational.{int}
 use Rattle.mpc_rows.specs.LinearSystem.{height}
 use Rattle.mpc_systems.specs.Systems.{hold_system}
 use Rattle.mpc_check.specs.Certs.{HasPositionsIn, IsPositionIn}
-use Rattle.mpc_paths.specs.Ways.{way_rows}
+use Rattle.mpc_controller.specs.Ways.{way_rows}
 use Rattle.mpc_check.proofs.ColumnSums.{SumSo, none_added, sum_more, sum_value, sum_fits, all_nonneg}
 use Rattle.mpc_check.proofs.WholeRows.{held_count}
 use Rattle.mpc_check.proofs.WholeSums.{read_wide, read_sum, read_narrow}

@@ -1,5 +1,5 @@
 use Rattle.mpc_systems.specs.Systems.{hold_system}
-use Rattle.mpc_paths.specs.Ways.{way_rows}
+use Rattle.mpc_controller.specs.Ways.{way_rows}
 use Rattle.mpc_check.proofs.ColumnSums.{SumSo}
 use Rattle.mpc_check.proofs.whole_sums.column_sum.Given as goal
 

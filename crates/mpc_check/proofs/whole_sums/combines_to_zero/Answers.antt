@@ -1,7 +1,7 @@
 use Rattle.std.proofs.Common.{◌≡◌, ◌↔◌, IsTrue, ℤ, pos, subst, arith}
 use Rattle.mpc_systems.specs.Systems.{hold_system}
 use Rattle.mpc_check.specs.Picks.{picked_rows, picked_system, weights}
-use Rattle.mpc_paths.specs.Ways.{way_rows}
+use Rattle.mpc_controller.specs.Ways.{way_rows}
 use Rattle.mpc_check.proofs.ColumnSums.{columns_more, all_zero, all_fit}
 use Rattle.mpc_check.proofs.WholeSums.{read_sum}
 use Rattle.mpc_check.proofs.whole_sums.combines_to_zero.Goals as goal

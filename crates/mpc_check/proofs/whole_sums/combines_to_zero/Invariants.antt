@@ -1,6 +1,6 @@
 use Rattle.mpc_systems.specs.Systems.{hold_system}
 use Rattle.mpc_check.specs.Picks.{picked_rows, weights}
-use Rattle.mpc_paths.specs.Ways.{way_rows}
+use Rattle.mpc_controller.specs.Ways.{way_rows}
 use Rattle.mpc_check.proofs.ColumnSums.{ColumnsSo}
 use Rattle.mpc_check.proofs.whole_sums.combines_to_zero.Given as goal
 

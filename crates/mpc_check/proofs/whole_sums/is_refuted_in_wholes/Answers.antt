@@ -1,7 +1,7 @@
 use Rattle.std.proofs.Common.{◌≡◌, ◌↔◌, IsTrue, true, false, ℤ, pos, ◌<ℤ◌, refl, sym, ◌∙◌, subst}
 use Rattle.mpc_systems.specs.Systems.{hold_system}
 use Rattle.mpc_check.specs.Picks.{picked_system, weights}
-use Rattle.mpc_paths.specs.Ways.{way_rows}
+use Rattle.mpc_controller.specs.Ways.{way_rows}
 use Rattle.mpc_check.proofs.ColumnSums.{by_strict, by_side}
 use Rattle.mpc_check.proofs.WholeSums.{read_sum}
 use Rattle.mpc_check.proofs.whole_sums.is_refuted_in_wholes.Goals as goal

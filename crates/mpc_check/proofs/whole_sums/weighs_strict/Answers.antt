@@ -4,7 +4,7 @@ use Rattle.mpc_rows.specs.LinearSystem.{height}
 use Rattle.mpc_systems.specs.Systems.{hold_system}
 use Rattle.mpc_check.specs.Certs.{HasPositionsIn, IsPositionIn}
 use Rattle.mpc_check.specs.Picks.{picked_rows, weights}
-use Rattle.mpc_paths.specs.Ways.{way_rows}
+use Rattle.mpc_controller.specs.Ways.{way_rows}
 use Rattle.mpc_check.proofs.ColumnSums.{weight_at, picked_at, strict_found, none_more, none_at_all}
 use Rattle.mpc_check.proofs.WholeRows.{held_count}
 use Rattle.mpc_check.proofs.whole_sums.weighs_strict.Goals as goal

@@ -1,5 +1,5 @@
 use Rattle.std.proofs.Common.{ℕ, List}
-use Rattle.mpc_drill.specs.Drills.{ExplainsDrillError}
+use Rattle.mpc_trace.specs.Drills.{ExplainsDrillError}
 use Rattle.mpc_cli.specs.declared.commands.Command.TheVariants.{Drill}
 use Rattle.mpc_cli.specs.Outcomes.{IsAnswerTo}
 use Rattle.mpc_cli.proofs.EndLemmas.{ok_weaker}

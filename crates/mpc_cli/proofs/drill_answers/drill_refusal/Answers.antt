@@ -1,5 +1,5 @@
 use Rattle.std.proofs.Common.{ℕ, List, subst}
-use Rattle.mpc_drill.specs.Drills.{ExplainsDrillError}
+use Rattle.mpc_trace.specs.Drills.{ExplainsDrillError}
 use Rattle.mpc_status.specs.declared.status.Status.TheVariants.{NotDefinite, TooWide}
 use Rattle.mpc_cli.specs.declared.commands.Command.TheVariants.{Drill}
 use Rattle.mpc_cli.specs.Outcomes.{IsAnswerTo}

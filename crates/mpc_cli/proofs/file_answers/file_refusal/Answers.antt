@@ -1,6 +1,6 @@
 use Rattle.std.proofs.Common.{ℕ, List, subst}
 use Rattle.mpc_grammar.specs.FileGrammar.{ExplainsFileError}
-use Rattle.mpc_replies.specs.Cut.{head_of}
+use Rattle.mpc_table.specs.Cut.{head_of}
 use Rattle.mpc_status.specs.declared.status.Status.TheVariants.{BadFile}
 use Rattle.mpc_cli.specs.declared.commands.Command.TheVariants.{OfFile}
 use Rattle.mpc_cli.specs.declared.commands.FileCommand.TheVariants.{Reply, Convert}

@@ -2,7 +2,7 @@ use Rattle.std.proofs.Common.{List, ℕ, subst, subst₂, ◌^◌, ◌<◌, leng
 use Rattle.std.specs.Str.Lines.{lines}
 use Rattle.mpc_grammar.specs.FileGrammar.{ExplainsFileError}
 use Rattle.mpc_files.specs.FileAnswers.{FileReplies}
-use Rattle.mpc_replies.specs.Cut.{head_of}
+use Rattle.mpc_table.specs.Cut.{head_of}
 use Rattle.mpc_cli.specs.declared.commands.Command.TheVariants.{OfFile}
 use Rattle.mpc_cli.specs.declared.commands.FileCommand.TheVariants.{Reply}
 use Rattle.mpc_cli.specs.Outcomes.{IsAnswerTo}

@@ -2,8 +2,8 @@ use Rattle.std.proofs.Common.{ℕ, List}
 use Rattle.std.specs.Prelude.{codes}
 use Rattle.mpc_check.specs.Findings.{refused}
 use Rattle.mpc_recur.specs.Findings.{reached}
-use Rattle.mpc_safety.specs.declared.answers.Safety.TheVariants.{Refused as RefusedAnswer, Unsafe as UnsafeAnswer}
-use Rattle.mpc_safety.specs.SafetyOutcomes.{finds, steps, IsCausedBy}
+use Rattle.mpc_files.specs.declared.answers.Safety.TheVariants.{Refused as RefusedAnswer, Unsafe as UnsafeAnswer}
+use Rattle.mpc_files.specs.SafetyOutcomes.{finds, steps, IsCausedBy}
 use Rattle.mpc_status.specs.declared.status.Status.TheVariants.{Done, Refused, Unsafe}
 use Rattle.mpc_cli.specs.declared.commands.Command.TheVariants.{OfFile}
 use Rattle.mpc_cli.specs.declared.commands.FileCommand.TheVariants.{Safe}

@@ -1,7 +1,7 @@
 use Rattle.std.proofs.Common.{ℕ, List, subst}
 use Rattle.mpc_check.specs.Findings.{too_wide, not_definite}
 use Rattle.mpc_recur.specs.Findings.{too_wide as too_wide_step}
-use Rattle.mpc_safety.specs.SafetyOutcomes.{bad_file, finds, steps, IsCausedBy}
+use Rattle.mpc_files.specs.SafetyOutcomes.{bad_file, finds, steps, IsCausedBy}
 use Rattle.mpc_status.specs.declared.late.LatePlace.TheVariants.{Next}
 use Rattle.mpc_status.specs.declared.status.Status.TheVariants.{BadFile, NotDefinite, TooWide, WideLater}
 use Rattle.mpc_cli.specs.declared.commands.Command.TheVariants.{OfFile}

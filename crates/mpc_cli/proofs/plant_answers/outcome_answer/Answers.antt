@@ -1,7 +1,7 @@
 use Rattle.std.proofs.Common.{subst}
 use Rattle.std.specs.Prelude.{Result, IfErr}
 use Rattle.mpc_claim.specs.Board.{Board}
-use Rattle.mpc_convex.specs.declared.ProgramError.{ProgramError as SynthesisError}
+use Rattle.mpc_condense.specs.declared.convex.ProgramError.{ProgramError as SynthesisError}
 use Rattle.mpc_synthesis.specs.Refusals.{Extent, ExplainsSynthesisError}
 use Rattle.mpc_cli.specs.Extents.{extent_of}
 use Rattle.mpc_cli.proofs.PlantEnds.{refused_by}

@@ -1,5 +1,5 @@
 use Rattle.std.proofs.Common.{ℕ, List, subst}
-use Rattle.mpc_convex.specs.Outcomes.{not_definite, too_wide}
+use Rattle.mpc_condense.specs.Outcomes.{not_definite, too_wide}
 use Rattle.mpc_states.specs.Inputs.{IsRobustCause}
 use Rattle.mpc_states.specs.Outcomes.{bad_robust_plant, bad_noise, of_robust_program, wide_row}
 use Rattle.mpc_status.specs.declared.late.LatePlace.TheVariants.{Tight}

@@ -1,5 +1,5 @@
 use Rattle.std.proofs.Common.{ℕ, List, subst}
-use Rattle.mpc_convex.specs.Outcomes.{not_definite, too_wide}
+use Rattle.mpc_condense.specs.Outcomes.{not_definite, too_wide}
 use Rattle.mpc_states.specs.Inputs.{IsSolveCause}
 use Rattle.mpc_states.specs.Outcomes.{bad_plant, of_program}
 use Rattle.mpc_status.specs.declared.status.Status.TheVariants.{BadPlant, NotDefinite, TooWide}

@@ -5,8 +5,8 @@ use Rattle.mpc_recur.specs.Met.{AreMet}
 use Rattle.mpc_recur.specs.Forms.{substituted, SubstitutedFits}
 use Rattle.mpc_recur.specs.Findings.{IsRuledOut}
 use Rattle.mpc_recur.specs.Targets.{with_rows, EmptyMet, EmptyFinds}
-use Rattle.mpc_paths.specs.Paths.{PathTo}
-use Rattle.mpc_paths.specs.Ways.{IsWay, root}
+use Rattle.mpc_controller.specs.Paths.{PathTo}
+use Rattle.mpc_controller.specs.Ways.{IsWay, root}
 use Rattle.mpc_recur.proofs.FindingLemmas.{each_more}
 use Rattle.mpc_recur.proofs.TargetLemmas.{first_stop}
 use Rattle.mpc_recur.proofs.LeafLemmas.{all_empties, met_there}

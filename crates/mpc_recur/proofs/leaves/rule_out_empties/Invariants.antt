@@ -5,7 +5,7 @@ use Rattle.mpc_recur.specs.Forms.{next_forms}
 use Rattle.mpc_recur.specs.Findings.{Each}
 use Rattle.mpc_recur.specs.Met.{AreMet}
 use Rattle.mpc_recur.specs.Targets.{IsBaseOf, EmptyMet}
-use Rattle.mpc_paths.specs.Ways.{IsWay}
+use Rattle.mpc_controller.specs.Ways.{IsWay}
 use Rattle.mpc_recur.proofs.leaves.rule_out_empties.Given as goal
 
 abbrev pub invariant-loop-place : goal.invariant-loop-place

@@ -7,7 +7,7 @@ use Rattle.mpc_recur.specs.Forms.{substituted, SubstitutedFits}
 use Rattle.mpc_recur.specs.Met.{AreMet}
 use Rattle.mpc_recur.specs.Findings.{IsRuledOut, TargetFinds, IsStop}
 use Rattle.mpc_recur.specs.Targets.{with_rows, target_of}
-use Rattle.mpc_paths.specs.Ways.{IsTurn, way_rows}
+use Rattle.mpc_controller.specs.Ways.{IsTurn, way_rows}
 use Rattle.mpc_recur.proofs.LeafLemmas.{empty_found, node_there}
 use Rattle.mpc_recur.proofs.leaves.rule_out_node.Goals as goal
 

@@ -3,7 +3,7 @@ use Rattle.mpc_plant.specs.declared.plants.Plant.{Plant}
 use Rattle.mpc_rows.specs.LinearSystem.{LinearSystem}
 use Rattle.mpc_recur.specs.Forms.{next_forms, FormsFit}
 use Rattle.mpc_recur.specs.Targets.{IsBaseOf}
-use Rattle.mpc_paths.specs.Ways.{way_rows}
+use Rattle.mpc_controller.specs.Ways.{way_rows}
 use Rattle.mpc_recur.proofs.FormLemmas.{forms_size}
 use Rattle.mpc_recur.proofs.LeafLemmas.{limits_count, forms_affine, leaf_base, sides_stop, targets_found}
 use Rattle.mpc_recur.proofs.TargetLemmas.{met_first}

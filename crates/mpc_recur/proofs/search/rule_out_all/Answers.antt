@@ -2,7 +2,7 @@ use Rattle.std.proofs.Common.{◌+◌, ◌<◌, length, sym, ap, subst, arith}
 use Rattle.mpc_rows.specs.declared.trees.Node.{Node}
 use Rattle.std.proofs.Common.{List}
 use Rattle.mpc_recur.specs.Targets.{NodeAtMet, NodeAtFinds}
-use Rattle.mpc_paths.specs.Ways.{IsWay, root}
+use Rattle.mpc_controller.specs.Ways.{IsWay, root}
 use Rattle.mpc_recur.specs.Empties.{EmptiesBefore}
 use Rattle.mpc_recur.proofs.FindingLemmas.{each_more}
 use Rattle.mpc_recur.proofs.TargetLemmas.{first_stop}

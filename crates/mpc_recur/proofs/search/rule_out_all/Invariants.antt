@@ -1,7 +1,7 @@
 use Rattle.std.proofs.Common.{◌<◌, length}
 use Rattle.mpc_recur.specs.Findings.{Each}
 use Rattle.mpc_recur.specs.Targets.{NodeAtMet}
-use Rattle.mpc_paths.specs.Ways.{IsWay}
+use Rattle.mpc_controller.specs.Ways.{IsWay}
 use Rattle.mpc_recur.proofs.search.rule_out_all.Given as goal
 
 abbrev pub invariant-loop-place : goal.invariant-loop-place

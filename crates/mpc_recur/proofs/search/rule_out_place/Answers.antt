@@ -3,7 +3,7 @@ use Rattle.std.specs.Prelude.{slice_get}
 use Rattle.mpc_rows.specs.declared.laws.Law.{Law as LawOfSet}
 use Rattle.mpc_rows.specs.declared.trees.Node.{Node}
 use Rattle.mpc_controller.specs.Parts.{IsLawFor}
-use Rattle.mpc_paths.specs.Ways.{way_rows}
+use Rattle.mpc_controller.specs.Ways.{way_rows}
 use Rattle.mpc_recur.proofs.ElementLemmas.{all_at}
 use Rattle.mpc_recur.proofs.LeafLemmas.{law_found}
 use Rattle.mpc_recur.proofs.search.rule_out_place.Goals as goal

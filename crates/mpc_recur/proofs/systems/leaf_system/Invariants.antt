@@ -1,6 +1,6 @@
 use Rattle.std.proofs.Common.{◌≡◌, ◌++◌, length, map, take}
 use Rattle.mpc_rows.specs.SetRuns.{box_rows}
-use Rattle.mpc_paths.specs.Ways.{turn_row}
+use Rattle.mpc_controller.specs.Ways.{turn_row}
 use Rattle.mpc_recur.proofs.systems.leaf_system.Given as goal
 
 abbrev pub invariant-loop-turn : goal.invariant-loop-turn

@@ -1,6 +1,6 @@
 use Rattle.std.proofs.Common.{length, map, refl, All, ap, sym, ◌∙◌}
 use Rattle.mpc_recur.specs.Forms.{substituted, SubstitutedFits}
-use Rattle.mpc_paths.specs.Ways.{way_rows}
+use Rattle.mpc_controller.specs.Ways.{way_rows}
 use Rattle.mpc_recur.specs.Targets.{with_rows}
 use Rattle.mpc_recur.proofs.TargetLemmas.{found_there, found_with}
 use Rattle.mpc_recur.proofs.targets.rule_out_leaf.Goals as goal

@@ -5,7 +5,7 @@ use Rattle.mpc_rows.specs.declared.programs.Qp.{Qp}
 use Rattle.mpc_claim.specs.Board.{Board}
 use Rattle.mpc_workers.specs.Seats.{IsDone}
 use Rattle.mpc_sections.specs.Sections.{sections_of}
-use Rattle.mpc_convex.specs.Convex.{IsConvexProgram}
+use Rattle.mpc_condense.specs.Convex.{IsConvexProgram}
 use Rattle.mpc_sections.proofs.StepLemmas.{no_more_than, definite_all, examined_all}
 use Rattle.mpc_sections.proofs.fleet_answers.fleet.Goals as goal
 

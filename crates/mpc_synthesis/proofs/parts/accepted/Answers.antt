@@ -1,7 +1,7 @@
 use Rattle.std.proofs.Common.{◌≡◌, Err, subst, rules}
 use Rattle.std.specs.Prelude.{IfErr}
 use Rattle.mpc_check.specs.Acceptance.{IsCause}
-use Rattle.mpc_convex.specs.declared.ProgramError.TheVariants.{TooWide, NotDefinite}
+use Rattle.mpc_condense.specs.declared.convex.ProgramError.TheVariants.{TooWide, NotDefinite}
 use Rattle.mpc_synthesis.proofs.parts.accepted.Goals as goal
 
 pub unreachable-requires-in-Err-NotDefinite : goal.unreachable-requires-in-Err-NotDefinite

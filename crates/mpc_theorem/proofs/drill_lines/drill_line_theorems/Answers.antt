@@ -1,5 +1,5 @@
 use Rattle.std.proofs.Common.{sym, subst}
-use Rattle.mpc_drill.specs.DrillPlant.{IsDrillPlant}
+use Rattle.mpc_trace.specs.DrillPlant.{IsDrillPlant}
 use Rattle.mpc_theorem.proofs.RightControllers.{controls_its_plant, controller_rightly}
 use Rattle.mpc_theorem.proofs.drill_lines.drill_line_theorems.Goals as goal
 

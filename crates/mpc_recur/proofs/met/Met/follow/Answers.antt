@@ -1,7 +1,7 @@
 use Rattle.std.proofs.Common.{◌≡◌, ◌<◌, [], List, length, take, sym, ◌∙◌, ap, subst, arith}
 use Rattle.mpc_exact.specs.Rational.{ℚ}
 use Rattle.mpc_rows.specs.declared.systems.Row.{Row}
-use Rattle.mpc_paths.specs.declared.ways.Turn.{Turn}
+use Rattle.mpc_controller.specs.declared.ways.Turn.{Turn}
 use Rattle.mpc_recur.specs.Forms.{substituted, SubstitutedFits}
 use Rattle.mpc_recur.proofs.FormLemmas.{wide_weaker}
 use Rattle.mpc_recur.proofs.RowLemmas.{substituted_size}

@@ -1,6 +1,6 @@
 use Rattle.std.proofs.Common.{◌≡◌, length, map, take, All}
 use Rattle.mpc_recur.specs.Forms.{substituted, SubstitutedFits}
-use Rattle.mpc_paths.specs.Ways.{turn_row}
+use Rattle.mpc_controller.specs.Ways.{turn_row}
 use Rattle.mpc_recur.proofs.met.Met.follow.Given as goal
 
 abbrev pub invariant-loop-k : goal.invariant-loop-k

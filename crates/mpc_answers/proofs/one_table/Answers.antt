@@ -1,5 +1,0 @@
-use Rattle.mpc_answers.proofs.OneTable.{one_table}
-use Rattle.mpc_answers.proofs.one_table.Goals as goal
-
-pub returns : goal.returns
-returns c = one_table c.order_theorems.ensures

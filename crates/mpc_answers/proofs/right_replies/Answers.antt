@@ -1,5 +1,0 @@
-use Rattle.mpc_answers.proofs.TreeWalks.{replies_right}
-use Rattle.mpc_answers.proofs.right_replies.Goals as goal
-
-pub returns : goal.returns
-returns c = replies_right c.preorder_theorems.ensures.joined c.best_replies.ensures.law c.best_replies.ensures.infeasible c.cover_theorems.ensures.of_every_table

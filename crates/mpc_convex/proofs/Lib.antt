@@ -1,2 +1,0 @@
-mod FirstPivots
-mod OneOutcome

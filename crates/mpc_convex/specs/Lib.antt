@@ -1,3 +1,0 @@
-pub mod Convex
-pub mod Refusals
-pub mod Outcomes

@@ -1,5 +1,0 @@
-pub mod TreeLemmas
-pub mod ClaimLemmas
-pub mod PlantLemmas
-pub mod DrillLemmas
-pub mod TextLemmas

@@ -1,7 +1,0 @@
-use Rattle.std.proofs.Common.{◌≡◌, drop}
-use Rattle.mpc_drill.specs.SearchTree.{SearchTree, preorder}
-use Rattle.mpc_drill.proofs.TreeLemmas.{IsOwed}
-use Rattle.mpc_drill.proofs.counts.tree_size.Given as goal
-
-abbrev pub invariant-loop-node : goal.invariant-loop-node
-invariant-loop-node l = (whole : SearchTree) → l.node-items ≡ preorder whole → IsOwed whole (drop l.node-index l.node-items) l.owed.items l.leaves l.depth l.node-index

@@ -1,6 +1,0 @@
-use Rattle.mpc_drill.proofs.PlantLemmas.{one_plant}
-use Rattle.mpc_drill.proofs.DrillLemmas.{one_drill_outcome}
-use Rattle.mpc_drill.proofs.theorems.one_drill.Goals as goal
-
-pub returns : goal.returns
-returns c = record { plant = one_plant; outcome = one_drill_outcome c.one_outcome.ensures }

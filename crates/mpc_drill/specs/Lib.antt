@@ -1,3 +1,0 @@
-pub mod DrillPlant
-pub mod SearchTree
-pub mod Drills

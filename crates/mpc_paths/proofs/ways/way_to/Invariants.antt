@@ -1,6 +1,0 @@
-use Rattle.std.proofs.Common.{◌<◌, length}
-use Rattle.mpc_paths.specs.Ways.{IsWay}
-use Rattle.mpc_paths.proofs.ways.way_to.Given as goal
-
-abbrev pub invariant-loop-k : goal.invariant-loop-k
-invariant-loop-k l = l.k < length l.tree → IsWay l.tree l.k l.way.items

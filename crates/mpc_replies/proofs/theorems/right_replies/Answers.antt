@@ -1,5 +1,0 @@
-use Rattle.mpc_replies.proofs.LawLemmas.{replies_are_right}
-use Rattle.mpc_replies.proofs.theorems.right_replies.Goals as goal
-
-pub returns : goal.returns
-returns c = replies_are_right

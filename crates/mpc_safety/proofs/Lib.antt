@@ -1,3 +1,0 @@
-pub mod ForeverLemmas
-pub mod OutcomeLemmas
-pub mod FileLemmas

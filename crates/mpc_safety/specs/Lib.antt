@@ -1,3 +1,0 @@
-pub mod RightForever
-pub mod SafetyAnswers
-pub mod SafetyOutcomes
