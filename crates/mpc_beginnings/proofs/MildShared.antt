@@ -1,6 +1,6 @@
 -- Where the rows of a system have room with the sizes that are kept of positions, all fits there; and what is kept of positions whose numbers are
 -- within one limit.
-use Rattle.std.proofs.Common.{◌≡◌, ℕ, ◌+◌, ◌-◌, ◌*◌, ◌^◌, ◌<◌, ◌≤◌, List, ℤ, unsigned_abs, refl, sym, ap, subst, arith, le_trans, mul-le-mul_right, mul-le-mul_left}
+use Rattle.std.proofs.Common.{◌≡◌, ℕ, ◌+◌, ◌-◌, ◌*◌, ◌^◌, ◌<◌, ◌≤◌, List, ℤ, unsigned_abs, sym, ap, subst, arith, le_trans, mul-le-mul_right, mul-le-mul_left}
 use Rattle.std.proofs.lemmas.Nat.{mul-le}
 use Rattle.mpc_rows.specs.LinearSystem.{LinearSystem}
 use Rattle.mpc_rows.specs.Run.{goes_on, entering, count, turn, position, steps}
@@ -14,7 +14,6 @@ use Rattle.mpc_whole.specs.Judged.{HasRoomAt, IsJudged, IsLeavingRow, IsMildForm
 use Rattle.mpc_whole.specs.Whole.{side_cell}
 use Rattle.mpc_scaled.specs.Scaled.{scale_at, IsSmall}
 use Rattle.mpc_runs.proofs.Turn.{Goes, turn-at}
-use Rattle.mpc_runs.proofs.Ends.{Reached}
 use Rattle.mpc_beginnings.specs.Kept.{AreNumbers, IsNormProduct, HasRoomBefore}
 
 -- a number is no greater with a factor of at least 1

@@ -1,6 +1,6 @@
 //! The heights of the trees at a search tree's nodes.
 
-ghost use Rattle.std.specs.Prelude.{◌≡◌, ◌+◌, ◌<◌, ◌≤◌, length, IfOk};
+ghost use Rattle.std.specs.Prelude.{◌+◌, ◌<◌, length, IfOk};
 ghost use Rattle.mpc_table.specs.Steps.{AreNoSides};
 ghost use Rattle.mpc_block.specs.Heights.{IsHeightBy, AreHeightsFrom};
 

@@ -1,5 +1,5 @@
 -- One bound is the first that is broken, and none is where all are kept.
-use Rattle.std.proofs.Common.{◌≡◌, ℕ, ◌+◌, ◌<◌, ◌⊎◌, List, take, Some, sym, ◌∙◌, ap, subst, inl, inr, arith, length, slice_get, All}
+use Rattle.std.proofs.Common.{◌≡◌, ℕ, ◌+◌, ◌<◌, List, take, Some, sym, ◌∙◌, ap, subst, inl, inr, arith, length, slice_get, All}
 use Rattle.std.proofs.lemmas.Bool.{cases_order}
 use Rattle.std.proofs.lemmas.List.{get_or-take, length-take}
 use Rattle.std.proofs.lemmas.Option.{slice_get_within, get_or_from_slice_get}

@@ -1,6 +1,6 @@
 //! The lines of affine forms that laws name, and those of such laws.
 
-ghost use Rattle.std.specs.Prelude.{◌≡◌, ◌≢◌, ℕ, ◌+◌, ◌^◌, ◌<◌, ◌≤◌, ◌↔◌, List, [], ◌∷◌, ◌++◌, length, map, take, cond, nat_lt, All, Contains, IsTrue, IfOk, MatchOption, codes, pos};
+ghost use Rattle.std.specs.Prelude.{◌≡◌, ◌≢◌, ℕ, ◌+◌, ◌^◌, ◌<◌, ◌≤◌, ◌↔◌, List, [], ◌∷◌, ◌++◌, length, map, cond, nat_lt, All, Contains, IsTrue, IfOk, MatchOption, codes, pos};
 ghost use Rattle.mpc_exact.specs.Rational.{ℚ};
 ghost use Rattle.mpc_linear.specs.Whole.{AreSmall};
 ghost use Rattle.mpc_controller.specs.Parts.{limits_of};

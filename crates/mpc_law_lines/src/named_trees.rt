@@ -1,6 +1,6 @@
 //! Search trees whose splits name planes, and the planes that stand before them.
 
-ghost use Rattle.std.specs.Prelude.{codes, ◌≡◌, ℕ, ◌+◌, ◌-◌, ◌^◌, ◌<◌, ◌≤◌, List, [], ◌∷◌, ◌++◌, length, slice_get, Some, Contains, IfOk, OnOk, OnErr, MatchOption};
+ghost use Rattle.std.specs.Prelude.{codes, ◌≡◌, ℕ, ◌+◌, ◌-◌, ◌^◌, ◌<◌, ◌≤◌, List, [], ◌∷◌, ◌++◌, length, Some, Contains, IfOk, MatchOption};
 ghost use Rattle.mpc_linear.specs.declared.integers.RowInt.{RowInt as Row};
 ghost use Rattle.mpc_plant.specs.declared.plants.Plant.{Plant as ThePlant};
 ghost use Rattle.mpc_controller.specs.Parts.{limits_of};

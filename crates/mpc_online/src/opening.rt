@@ -1,6 +1,6 @@
 //! The first point, which is a form in the extended counts.
 
-ghost use Rattle.std.specs.Prelude.{◌≡◌, ℕ, List, [], ◌∷◌, ◌^◌, ◌<◌, ◌≤◌, IfOk, IfSome, IsTrue, MatchResult, length, get_or};
+ghost use Rattle.std.specs.Prelude.{◌≡◌, ℕ, List, [], ◌∷◌, ◌^◌, ◌<◌, IfOk, IfSome, IsTrue, MatchResult, length, get_or};
 ghost use Rattle.mpc_exact.specs.Rational.{ℚ};
 ghost use Rattle.mpc_space.specs.Vector.{dot};
 ghost use Rattle.mpc_space.specs.Definite.{IsDefinite};

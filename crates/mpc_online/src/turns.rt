@@ -1,6 +1,6 @@
 //! How far a step goes.
 
-ghost use Rattle.std.specs.Prelude.{◌≡◌, ◌≢◌, ◌<◌, ◌≤◌, ◌↔◌, IsTrue, IfOk, MatchResult, length, pos};
+ghost use Rattle.std.specs.Prelude.{◌≡◌, ◌≢◌, ◌<◌, ◌↔◌, IsTrue, IfOk, MatchResult, length, pos};
 ghost use Rattle.mpc_exact.specs.Rational.{int};
 ghost use Rattle.mpc_space.specs.Vector.{IsZero};
 ghost use Rattle.mpc_space.specs.Matrix.{height};

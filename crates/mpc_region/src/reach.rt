@@ -1,6 +1,6 @@
 //! Whether a set can be reached.
 
-ghost use Rattle.std.specs.Prelude.{◌≡◌, ◌-◌, ◌<◌, IsTrue, ◌↔◌, IfOk, IfSome, MatchResult, length, take};
+ghost use Rattle.std.specs.Prelude.{◌-◌, ◌<◌, IsTrue, ◌↔◌, IfOk, IfSome, MatchResult, length, take};
 ghost use Rattle.mpc_space.specs.Matrix.{height};
 ghost use Rattle.mpc_sets.specs.RowSet.{IsSetOfRows};
 ghost use Rattle.mpc_rows.specs.RunWidth.{RunFits};

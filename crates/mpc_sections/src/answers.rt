@@ -1,6 +1,6 @@
 //! The answer to a section by itself.
 
-ghost use Rattle.std.specs.Prelude.{◌≡◌, ◌++◌, ℕ, IfOk, IfErr, OnOk};
+ghost use Rattle.std.specs.Prelude.{◌≡◌, ◌++◌, IfOk, IfErr, OnOk};
 ghost use Rattle.mpc_rows.specs.declared.programs.Qp.{Qp};
 ghost use Rattle.mpc_synthesis.specs.Controllers.{IsController};
 ghost use Rattle.mpc_synthesis.specs.Refusals.{controller, ExplainsSynthesisError};

@@ -1,7 +1,7 @@
 //! Whether a system of linear rows, some of them strict, has a point: the simplex method with the rule of least numbers.
 #![tactic(auto)]
 
-ghost use Rattle.std.specs.Prelude.{◌≡◌, IfOk, MatchResult};
+ghost use Rattle.std.specs.Prelude.{IfOk, MatchResult};
 ghost use Rattle.mpc_rows.specs.LinearSystem.{IsPairPoint};
 ghost use Rattle.mpc_rows.specs.Refutation.{Refutes};
 ghost use Rattle.mpc_rows.specs.RunWidth.{RunFits};

@@ -1,6 +1,6 @@
 //! A tableau in one flat list, and a pivot on it.
 
-ghost use Rattle.std.specs.Prelude.{◌≡◌, ◌≢◌, ◌+◌, ◌*◌, ◌<◌, ◌≤◌, ◌^◌, IfOk, MatchResult, length, pos};
+ghost use Rattle.std.specs.Prelude.{◌≡◌, ◌≢◌, ◌+◌, ◌*◌, ◌<◌, ◌^◌, IfOk, MatchResult, length, pos};
 ghost use Rattle.mpc_exact.specs.Rational.{int, inv_ℚ};
 ghost use Rattle.mpc_runs.specs.Table.{cell_at, HasShape};
 ghost use Rattle.mpc_runs.specs.Exchange.{own_cell, row_at, IsOwnRow, ChangesRow, ChangesRows, PutsRow, IsExchanged, OwnFits, QuotientFits, changed, ChangeFits, ChangesFit, ExchangeFits, EntryFits};

@@ -1,6 +1,6 @@
 //! The first moves of laws as affine forms in whole numbers, and their values as text.
 
-ghost use Rattle.std.specs.Prelude.{◌≡◌, ◌+◌, ◌≤◌, [], ◌∷◌, ◌++◌, All, length, map, take, IfOk, OnOk, OnErr, MatchBool};
+ghost use Rattle.std.specs.Prelude.{◌≡◌, ◌+◌, ◌≤◌, ◌∷◌, ◌++◌, All, length, map, take, IfOk, OnOk, OnErr, MatchBool};
 ghost use Rattle.std.specs.List.{join_with_byte};
 ghost use Rattle.mpc_frac.specs.Text.{text_of};
 ghost use Rattle.mpc_space.specs.Matrix.{height};

@@ -1,6 +1,6 @@
 //! The line of the noise.
 
-ghost use Rattle.std.specs.Prelude.{◌≡◌, ◌<◌, [], ◌∷◌, ◌++◌, Some, None, MatchOption, IfOk, IfErr, option_map};
+ghost use Rattle.std.specs.Prelude.{◌≡◌, ◌<◌, [], ◌∷◌, Some, None, MatchOption, IfOk, IfErr, option_map};
 ghost use Rattle.std.specs.Str.Lines.{lines, strip_carriage_return};
 ghost use Rattle.mpc_tight.specs.Noise.{only_line, sized_numbers, noise_of, IsNoise, IfBadNoise};
 ghost use Rattle.mpc_words.specs.Words.{words_of};

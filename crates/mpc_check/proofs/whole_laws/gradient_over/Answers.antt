@@ -5,7 +5,7 @@ use Rattle.mpc_wholes.specs.Sums.{AddsDot}
 use Rattle.mpc_check.proofs.WholeSums.{read_wide, read_sum}
 use Rattle.mpc_check.proofs.WholeLaws.{number_small, row_most, room_for, seven_products, gradient_value, gradient_fits}
 use Rattle.mpc_check.proofs.whole_laws.gradient_over.Goals as goal
-use Rattle.mpc_check.proofs.whole_laws.gradient_over.Goals.{After-index, After-index-2, After-product-start, After-dot_from-moved, After-dot_from}
+use Rattle.mpc_check.proofs.whole_laws.gradient_over.Goals.{After-index, After-index-2, After-product-start, After-dot_from}
 
 f_size : (c : After-index) → unsigned_abs (get_or c.index.result.now.numerators c.args.at_column (pos 0)) ≤ 2 ^ 61
 f_size c =

@@ -1,4 +1,4 @@
-use Rattle.std.proofs.Common.{◌≡◌, arith, sym, ◌∙◌}
+use Rattle.std.proofs.Common.{arith, sym, ◌∙◌}
 use Rattle.mpc_words.proofs.WholeLineLemmas.{IsCut, behind_none, behind_more, cut_here, cut_at_end, cut_nowhere, behind_fits, cut_length, eq_length}
 use Rattle.mpc_words.proofs.whole_lines.cut_at_line.Goals as goal
 
