@@ -8,7 +8,7 @@ use Rattle.mpc_runs.specs.Table.{seat_at, variable_at, IsSeated, AreNonbasic}
 use Rattle.mpc_scaled.specs.Scaled.{whole_at, scale_at}
 use Rattle.mpc_whole.proofs.Nonbasic.{column_below}
 use Rattle.mpc_whole.proofs.judge.factors_of.Goals as goal
-use Rattle.mpc_whole.proofs.judge.factors_of.Goals.{then-y-e, else-y-e}
+use Rattle.mpc_whole.proofs.judge.factors_of.Goals.{then-variable-entering, else-variable-entering}
 
 -- the variable of a column is the one of the list
 stands : (height width n : ℕ) (seats : List Seat) (nonbasic : List ℕ) → IsSeated height width n seats → AreNonbasic width seats nonbasic → (y c : ℕ) → y < n → seat_at seats y ≡ Column c → (c < width) × (variable_at nonbasic c ≡ y)
@@ -25,10 +25,10 @@ loop-column-preserved c =
     let here = c.loop-column.column in
     let f : FitsSigned w128 (get_or x here (pos 0)) = search rules in
     let product : c.in_ok-product.product ≡ unsigned_abs (whole_at x here) * scale_at k (at here) = c.in_ok-product.ensures.1 ∙ ap (λ m. m * scale_at k (at here)) (c.unsigned_abs.ensures.value ∙ ap unsigned_abs (to_z-of_z w128 _ f)) in
-    let top : c.loop-column.top ≤ c.if-variable-entering.top = elim c.if-variable-entering.branch [ then-y-e w ↦ (let a = w.top-is in omega arith) | else-y-e w ↦ (let a = w.top-is in let b = w.max-top.ensures in omega arith) ] in
-    let size : c.loop-column.size ≤ c.if-variable-entering.size = elim c.if-variable-entering.branch [ then-y-e w ↦ (let a = w.size-is in let b = w.max-size.ensures in omega arith) | else-y-e w ↦ (let a = w.size-is in omega arith) ] in
-    let enters : at here ≡ c.args.entering → c.in_ok-product.product ≤ c.if-variable-entering.size = elim c.if-variable-entering.branch [ then-y-e w ↦ λ _. (let a = w.size-is in let b = w.max-size.ensures in omega arith) | else-y-e w ↦ λ q. absurd (w.if-y-e.false q) ] in
-    let other : (at here ≡ c.args.entering → ⊥) → c.in_ok-product.product ≤ c.if-variable-entering.top = elim c.if-variable-entering.branch [ then-y-e w ↦ λ q. absurd (q w.if-y-e.true) | else-y-e w ↦ λ _. (let a = w.top-is in let b = w.max-top.ensures in omega arith) ] in
+    let top : c.loop-column.top ≤ c.if-variable-entering.top = elim c.if-variable-entering.branch [ then-variable-entering w ↦ (let a = w.top-is in omega arith) | else-variable-entering w ↦ (let a = w.top-is in let b = w.max-top.ensures in omega arith) ] in
+    let size : c.loop-column.size ≤ c.if-variable-entering.size = elim c.if-variable-entering.branch [ then-variable-entering w ↦ (let a = w.size-is in let b = w.max-size.ensures in omega arith) | else-variable-entering w ↦ (let a = w.size-is in omega arith) ] in
+    let enters : at here ≡ c.args.entering → c.in_ok-product.product ≤ c.if-variable-entering.size = elim c.if-variable-entering.branch [ then-variable-entering w ↦ λ _. (let a = w.size-is in let b = w.max-size.ensures in omega arith) | else-variable-entering w ↦ λ q. absurd (w.if-variable-entering.false q) ] in
+    let other : (at here ≡ c.args.entering → ⊥) → c.in_ok-product.product ≤ c.if-variable-entering.top = elim c.if-variable-entering.branch [ then-variable-entering w ↦ λ q. absurd (q w.if-variable-entering.true) | else-variable-entering w ↦ λ _. (let a = w.top-is in let b = w.max-top.ensures in omega arith) ] in
     record {
       own = le_trans c.loop-column.invariant.own top;
       entering = below_more (λ d. at d ≡ c.args.entering → unsigned_abs (whole_at x d) * scale_at k (at d) ≤ c.if-variable-entering.size) here

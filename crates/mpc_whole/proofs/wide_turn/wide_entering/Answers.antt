@@ -4,7 +4,7 @@ use Rattle.mpc_rows.specs.Run.{may_enter}
 use Rattle.mpc_runs.specs.Table.{variable_at}
 use Rattle.mpc_whole.proofs.Nonbasic.{IsFirstOf, none_yet, first_stays, first_moves, first_is, nobody_is, variable_below, all_enter}
 use Rattle.mpc_whole.proofs.wide_turn.wide_entering.Goals as goal
-use Rattle.mpc_whole.proofs.wide_turn.wide_entering.Goals.{then-y-first+then-enters, else-y-first, else-y-first-via-then-y-first+else-enters, else-y-first-via-else-y-first}
+use Rattle.mpc_whole.proofs.wide_turn.wide_entering.Goals.{then-variable-first+then-enters, else-variable-first, else-variable-first-via-then-variable-first+else-enters, else-variable-first-via-else-variable-first}
 
 pub loop-column-init : goal.loop-column-init
 loop-column-init c = λ seats p k l d z a some h r. none_yet (may_enter c.args.system.now p l) c.args.nonbasic.now c.args.count
@@ -16,16 +16,16 @@ loop-column-preserved c = λ seats p k l d z a some h r.
     let inside : c.loop-column.column < c.args.system.now.width = (let t = c.loop-column-test.true in let w = c.unknowns-column-end.ensures in omega arith) in
     let below = variable_below c.args.system.now c.args.count seats c.args.nonbasic.now z a k p d l c.args.row.now some h r c.loop-column.column inside in
     elim c.if-variable-first.branch [
-      | then-y-first+then-enters w ↦
+      | then-variable-first+then-enters w ↦
           subst (λ f. IsFirstOf test c.args.nonbasic.now c.args.count (c.loop-column.column + 1) f) (sym w.first-is)
-          (first_moves test c.args.nonbasic.now c.args.count c.loop-column.column c.loop-column.first old w.if-y-first.true (sym (w.enters.ensures c.args.count seats p k l d some below (a.at c.loop-column.column inside) h r) ∙ w.if-enters.true))
-      | else-y-first w ↦
+          (first_moves test c.args.nonbasic.now c.args.count c.loop-column.column c.loop-column.first old w.if-variable-first.true (sym (w.enters.ensures c.args.count seats p k l d some below (a.at c.loop-column.column inside) h r) ∙ w.if-enters.true))
+      | else-variable-first w ↦
           subst (λ f. IsFirstOf test c.args.nonbasic.now c.args.count (c.loop-column.column + 1) f) (sym w.first-is)
           (first_stays test c.args.nonbasic.now c.args.count c.loop-column.column c.loop-column.first old
-          (elim w.else-y-first.branch [
-            | else-y-first-via-then-y-first+else-enters v ↦
+          (elim w.else-variable-first.branch [
+            | else-variable-first-via-then-variable-first+else-enters v ↦
                 λ t. absurd (both_ways (test (variable_at c.args.nonbasic.now c.loop-column.column)) (sym (v.enters.ensures c.args.count seats p k l d some below (a.at c.loop-column.column inside) h r) ∙ v.if-enters.false) t)
-            | else-y-first-via-else-y-first v ↦ λ t. (let q = v.if-y-first.false in omega arith)
+            | else-variable-first-via-else-variable-first v ↦ λ t. (let q = v.if-variable-first.false in omega arith)
           ]))
     ]
 
