@@ -9,8 +9,8 @@ use Rattle.mpc_rows.specs.declared.trees.Node.TheVariants.{Law, NoMove}
 use Rattle.mpc_controller.specs.Parts.{Parts, limits_of}
 use Rattle.mpc_controller.specs.Walk.{EndsAt}
 use Rattle.mpc_controller.specs.Replies.{Answer, at_state, outside, first_outside, IsAnswerTo}
-use Rattle.mpc_table.specs.declared.replies.Reply.{Reply}
-use Rattle.mpc_table.specs.declared.replies.Reply.TheVariants.{Move, Infeasible, Outside}
+use Rattle.mpc_table.specs.declared.answers.Reply.{Reply}
+use Rattle.mpc_table.specs.declared.answers.Reply.TheVariants.{Move, Infeasible, Outside}
 use Rattle.mpc_table.specs.Forms.{AreUpTo}
 use Rattle.mpc_table.specs.Lookup.{Lookup}
 

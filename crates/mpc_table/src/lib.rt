@@ -1,11 +1,11 @@
 //! The table-driven controller: replies to counts by one walk through the search tree, without memory, and to lines of counts.
 #![tactic(auto)]
 
+mod answers;
 mod counts;
 mod forms;
 mod input;
 mod places;
-mod replies;
 mod reply_lines;
 mod rows;
 mod sides;
@@ -14,10 +14,10 @@ mod tables;
 mod theorems;
 mod values;
 
+pub use answers::Reply;
 pub use counts::read_counts;
 pub use forms::whole_form;
 pub use input::{Sections, cut, first_line};
-pub use replies::Reply;
 pub use reply_lines::replies;
 pub use sides::no_sides;
 pub use tables::{Table, find_outside};

@@ -12,8 +12,8 @@ ghost use Rattle.mpc_table.specs.Forms.{AreUpTo};
 ghost use Rattle.mpc_table.specs.Lookup.{IsTableOf};
 ghost use Rattle.mpc_table.specs.TableReplies.{IsReply, IsWritable, AddsAnswer};
 
+use crate::answers::Reply;
 use crate::forms::{FormPlaces, LawForms, law_forms, write_values};
-use crate::replies::Reply;
 use crate::sides::no_sides;
 use crate::steps::{Step, Steps, all_steps, leaf_place};
 use crate::values::value_at;
