@@ -14,6 +14,7 @@ pub mod WholeEnds
 pub mod WholeSizes
 pub mod WholeMoves
 pub mod DividedRows
+pub mod DividedLists
 pub mod Standing
 pub mod WholeRun
 pub mod ShortTurns

@@ -6,6 +6,7 @@ pub mod Norms
 pub mod Running
 pub mod Found
 pub mod Judged
+pub mod Divided
 pub mod Lists
 pub mod Held
 pub mod PositionTheorems
