@@ -8,6 +8,7 @@ pub mod ShortValues
 pub mod WholeSteps
 pub mod WholeTurns
 pub mod Nonbasic
+mod ColumnMultipliers
 pub mod ColumnSums
 pub mod WholeExchange
 pub mod WholeEnds
