@@ -1,4 +1,5 @@
 pub mod Wholes
+pub mod EntryWriting
 pub mod RowWriting
 pub mod SystemRows
 pub mod CellPoints

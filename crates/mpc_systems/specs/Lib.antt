@@ -1,3 +1,4 @@
 pub mod Writing
+pub mod Equations
 pub mod Systems
 pub mod CellTheorems

@@ -1,13 +1,15 @@
-//! Systems of rows that decide active sets and the cells of a search tree, and their rows one by one.
+//! Systems of rows that decide active sets and the cells of a search tree, and their rows one by one; the equations of an active set.
 #![tactic(auto)]
 
 mod entries;
+mod equations;
 mod numbers;
 mod pushing;
 mod single_rows;
 mod systems;
 mod theorems;
 
+pub use equations::{law_matrix, matrix_of, member_entry};
 pub use numbers::whole;
 pub use pushing::{joint_rows, push_box, push_cell, push_joint_rows, push_members, push_rows};
 pub use single_rows::{
