@@ -22,6 +22,13 @@ column_below seats y c e = by (cases_lt y (length seats))
     by (inl h) = h
     by (inr h) = absurd (seats_apart 0 c (sym (get_or_past seats y (Row 0) h) ∙ e))
 
+-- the variable of a column is the one of the list
+pub stands : (height width n : ℕ) (seats : List Seat) (nonbasic : List ℕ) → IsSeated height width n seats → AreNonbasic width seats nonbasic → (y c : ℕ) → y < n → seat_at seats y ≡ Column c → (c < width) × (variable_at nonbasic c ≡ y)
+stands height width n seats nonbasic z a y c l e =
+    let inside = (z.columns y c l e).0 in
+    let below = subst (λ m. variable_at nonbasic c < m) z.each (column_below seats (variable_at nonbasic c) c (a.at c inside)) in
+    (inside, sym (z.columns (variable_at nonbasic c) c below (a.at c inside)).1 ∙ (z.columns y c l e).1)
+
 pub below_nought : (z : ℤ) → z ≤ℤ pos 0 → (z ≡ pos 0 → ⊥) → z <ℤ pos 0
 below_nought (pos zero) h k = absurd (k refl)
 below_nought (pos (suc n)) h k = absurd (omega (arith, ints))

@@ -4,17 +4,17 @@ ghost use Rattle.std.specs.Prelude.{◌≡◌, ◌-◌, ◌<◌, ◌≤◌, ◌^
 ghost use Rattle.mpc_rows.specs.Run.{count, steps};
 ghost use Rattle.mpc_whole.specs.Lists.{AreListsOf, of_wide};
 ghost use Rattle.mpc_whole.specs.Underway.{HasEnded};
-ghost use Rattle.mpc_whole.specs.Judged.{IsDividedRow, AreMildBefore, IsMildlyUnderway, IsGoingOn, HasSizes, IsProductOf};
+ghost use Rattle.mpc_whole.specs.Judged.{IsDividedRow, AreMildBefore, IsMildlyUnderway, IsGoingOn, HasSizes, IsJudged, IsProductOf};
 ghost use Rattle.mpc_whole.specs.Found.{IfJudgedEnd, IfJudgedNext};
 ghost use Rattle.mpc_whole.specs.Running.{HasNumbers};
 ghost use Rattle.mpc_runs.specs.WholeNumbers.{HasRoom};
 ghost use Rattle.mpc_scaled.specs.Scaled.{IsWholeSystem};
 
 use crate::frames::JudgedFrame;
-use crate::judge::{Factors, factors_of, greatest_scale, judge_end, norm_of};
+use crate::judge::{Factors, Here, factors_of, greatest_scale, judge_end, norm_of};
 use crate::lists::WideLists;
 use crate::reduced::reduce;
-use crate::stated::{Here, StatedPivot, judge_pivot};
+use crate::stated::{StatedPivot, judge_pivot};
 use crate::whole::{Ending, STEPS, swap};
 use crate::wide_turn::{DividedRow, divided_row, wide_entering, wide_first_out};
 use crate::wide_values::wide_stand;
@@ -90,6 +90,7 @@ fn advance(
     )?;
     let here = Here {
         seats: &lists.seats,
+        nonbasic: &lists.nonbasic,
         numbers: &lists.v,
         den: place.den,
         own: place.own,
@@ -138,6 +139,29 @@ fn advance(
     })
 }
 
+/// If the numbers of a position where no pivot is made leave room for its values.
+fn judge_last(
+    lists: &WideLists,
+    system: &WholeSystem,
+    frame: &JudgedFrame,
+    place: WidePlace,
+) -> Option<()>
+    requires numbers { HasNumbers system.now frame.now.count frame.now.scales.now frame.now.a.now frame.now.b.now }
+    requires sizes { HasSizes system.now.width frame.now.scales.now frame.now.a.now frame.now.b.now frame.now.norm frame.now.most_scale frame.now.most_side }
+    requires lists { AreListsOf system.now place.own (of_wide lists.now) }
+    requires some { 0 < place.den }
+    ensures { IfSome result (λ _. IsJudged system.now (count system.now) lists.now.seats.items frame.now.scales.now frame.now.a.now frame.now.b.now place.den lists.now.v.items 0 0 0) }
+{
+    let here = Here {
+        seats: &lists.seats,
+        nonbasic: &lists.nonbasic,
+        numbers: &lists.v,
+        den: place.den,
+        own: place.own,
+    };
+    judge_end(&here, system, frame)
+}
+
 /// One turn of the run.
 fn judged_step(
     lists: &mut WideLists,
@@ -166,14 +190,14 @@ fn judged_step(
         place,
     )?;
     let Some(leaving) = out else {
-        judge_end(&lists.seats, &lists.v, system, frame, place.den, place.own)?;
+        judge_last(lists, system, frame, place)?;
         return Some(JudgedTurn::Ends(Ending::Point));
     };
     let side = leaving - system.unknowns();
     let short = place.own <= 1 << 62;
     let (divisor, rest) = divided_row(row, system, frame.a, &lists.v, side, place.den, short)?;
     let Some(entering) = wide_entering(system, &lists.nonbasic, row, frame.count) else {
-        judge_end(&lists.seats, &lists.v, system, frame, place.den, place.own)?;
+        judge_last(lists, system, frame, place)?;
         return Some(JudgedTurn::Ends(Ending::Refuted(leaving)));
     };
     let divided = DividedRow {
