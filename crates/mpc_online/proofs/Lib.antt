@@ -1,7 +1,6 @@
 pub mod Combinations
 pub mod SetLists
 pub mod Members
-pub mod RowWriting
 pub mod Endings
 pub mod Products
 pub mod Solved

@@ -1,4 +1,3 @@
-pub mod Writing
 pub mod StateRows
 pub mod Positions
 pub mod Turns

@@ -2,12 +2,12 @@
 
 ghost use Rattle.std.specs.Prelude.{◌≡◌, ◌+◌, ◌<◌, IfOk};
 ghost use Rattle.mpc_space.specs.Matrix.{height};
-ghost use Rattle.mpc_online.specs.Writing.{WritesRow};
 ghost use Rattle.mpc_online.specs.Shared.{upper_entry, shared_entry, shared_table};
 
 use mpc_frac::{Frac, NoMemory};
 use mpc_linear::Matrix;
 use mpc_rows::Qp;
+use mpc_systems::matrix_of;
 use std::alloc::Global;
 
 /// The entry of `[h, g', -g']` in a row and a column.
@@ -44,27 +44,11 @@ fn shared_entry(qp: &Qp, row: u32, column: u32) -> Frac
     }
 }
 
-/// Writes a row of the table.
-fn write_shared(out: &mut Matrix, qp: &Qp, row: u32)
-    requires row { row < height out.old }
-    requires rows { height out.old ≡ height qp.now.h + height qp.now.g }
-    requires columns { out.old.columns ≡ height qp.now.h + height qp.now.g + height qp.now.g }
-    ensures { WritesRow out.old out.new row (shared_entry qp.now row) }
-{
-    let _rows = out.rows();
-    for column in 0..out.cols() {
-        out.set(row, column, shared_entry(qp, row, column));
-    }
-}
-
 /// The table `[[h, g', -g'], [g, 0, 0]]`.
 pub fn shared_table(alloc: Global, qp: &Qp) -> Result<Matrix, NoMemory>
     ensures { IfOk result (λ m. m ≡ shared_table qp.now) }
 {
     let size = qp.h.rows() + qp.g.rows();
-    let mut out = Matrix::zero(alloc, size, size + qp.g.rows())?;
-    for row in 0..size {
-        write_shared(&mut out, qp, row);
-    }
-    Ok(out)
+    let entry = |row, column| shared_entry(qp, row, column);
+    matrix_of(alloc, size, size + qp.g.rows(), &entry)
 }

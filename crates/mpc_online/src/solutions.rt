@@ -15,12 +15,12 @@ ghost use Rattle.mpc_online.specs.Wholes.{AreRowsOver};
 ghost use Rattle.mpc_online.specs.Answers.{IfStopWide};
 ghost use Rattle.mpc_online.specs.declared.solutions.Stop.TheVariants.{Wide as wide_stop, NoMemory as no_memory};
 
-use crate::matrices::law_matrix;
 use crate::wholes::dot_in_wholes;
 use mpc_frac::{Frac, NoMemory, Wide};
 use mpc_linear::{LinearError, Matrix, Solved, dot_from, solve};
 use mpc_rows::Qp;
 use mpc_sets::ActiveSet;
+use mpc_systems::law_matrix;
 use mpc_wholes::{Wholes, over_one_denominator};
 use std::alloc::{AllocError, AllocFailed, Global};
 
