@@ -1,4 +1,3 @@
-pub mod RowWriting
 pub mod Members
 pub mod SharedEntries
 pub mod SweptParts

@@ -1,4 +1,3 @@
-pub mod Writing
 pub mod LawEnd
 pub mod Kept
 pub mod Shared

@@ -1,6 +1,6 @@
 //! The law of an active set and the rows of the law, read from a table that is swept for the set.
 
-ghost use Rattle.std.specs.Prelude.{◌≡◌, ◌+◌, ◌<◌, ◌≤◌, ◌^◌, IfOk, OnOk, length, unsigned_abs, pos, ◌*ℤ◌, neg_ℤ};
+ghost use Rattle.std.specs.Prelude.{◌≡◌, ◌+◌, ◌-◌, ◌<◌, ◌≤◌, ◌^◌, IfOk, OnOk, length, get_or, unsigned_abs, pos, ◌*ℤ◌, neg_ℤ};
 ghost use Rattle.std.specs.Int.{◌∣◌};
 ghost use Rattle.mpc_exact.specs.Gcd.{gcd};
 ghost use Rattle.mpc_exact.specs.Rational.{frac};
@@ -8,9 +8,10 @@ ghost use Rattle.mpc_space.specs.Matrix.{height};
 ghost use Rattle.mpc_sets.specs.RowSet.{IsSetOfRows};
 ghost use Rattle.mpc_rows.specs.SetRuns.{LawRowsFit};
 ghost use Rattle.mpc_sweep.specs.Numbers.{IsTable, number};
-ghost use Rattle.mpc_region.specs.Sweeps.{rights, IsTableOf, swept_law};
+ghost use Rattle.mpc_sweep.specs.Sweeps.{swept};
+ghost use Rattle.mpc_region.specs.Shared.{shared_entry};
+ghost use Rattle.mpc_region.specs.Sweeps.{sweeps_of, rights, IsTableOf, swept_law};
 ghost use Rattle.mpc_region.specs.SweptRows.{number_from, DividesEach, IsSharedBy, AreSides, IsRowFrom, AreRowsOf};
-ghost use Rattle.mpc_region.specs.Writing.{WritesRow};
 
 use mpc_frac::{Frac, NoMemory, fit_theorems, greatest_common_divisor};
 use mpc_linear::Matrix;
@@ -19,6 +20,7 @@ use mpc_rows::{Law, Qp, law_theorems};
 use mpc_scaled::WholeSystem;
 use mpc_sets::ActiveSet;
 use mpc_sweep::{Swept, sweep_theorems};
+use mpc_systems::matrix_of;
 use std::alloc::Global;
 
 /// The greatest common divisor of two numbers, of which the first is often a divisor of the second.
@@ -196,21 +198,6 @@ fn table_entry(table: &Swept, row: u32, column: u32) -> Frac
     }
 }
 
-/// Writes the entries of a row of the table, from the column `first` on, into the row `row`.
-fn write_entries(out: &mut Matrix, row: u32, table: &Swept, source: u32, first: u32)
-    requires row { row < height out.old }
-    requires table { IsTable table.now }
-    requires source { source < table.now.rows }
-    requires columns { first + out.old.columns ≤ table.now.columns }
-    requires last { first + out.old.columns < 2 ^ 32 }
-    ensures { WritesRow out.old out.new row (λ j. frac (number table.now source (first + j)) table.now.den) }
-{
-    let _rows = out.rows();
-    for column in 0..out.cols() {
-        out.set(row, column, table_entry(table, source, first + column));
-    }
-}
-
 /// The unknowns of the law that the table shows.
 fn table_moves(alloc: Global, qp: &Qp, table: &Swept, set: ActiveSet) -> Result<Matrix, NoMemory>
     requires set_of_rows { IsSetOfRows (height qp.now.g) set }
@@ -220,11 +207,24 @@ fn table_moves(alloc: Global, qp: &Qp, table: &Swept, set: ActiveSet) -> Result<
     let _ = set;
     let unknowns = qp.h.rows();
     let first = unknowns + qp.g.rows();
-    let mut out = Matrix::zero(alloc, unknowns, qp.f.cols())?;
-    for row in 0..unknowns {
-        write_entries(&mut out, row, table, row, first);
-    }
-    Ok(out)
+    let entry = |row, column| table_entry(table, row, first + column);
+    matrix_of(alloc, unknowns, qp.f.cols(), &entry)
+}
+
+/// The entry in a column of the multiplier of the member at an index, both counted from 0.
+fn mult_entry(qp: &Qp, table: &Swept, set: ActiveSet, index: u32, column: u32) -> Frac
+    requires set_of_rows { IsSetOfRows (height qp.now.g) set }
+    requires table { IsTableOf qp.now set (rights qp.now) table.now }
+    requires member { index < length set }
+    requires column { column < length qp.now.counts + 1 }
+    ensures { result ≡ swept (shared_entry qp.now) (sweeps_of qp.now set) (height qp.now.h + (get_or set index 0 - 1)) (rights qp.now + column) }
+{
+    law_theorems();
+    prove!(index < set.size());
+    let unknowns = qp.h.rows();
+    let first = unknowns + qp.g.rows();
+    let member = set.member(index + 1);
+    table_entry(table, unknowns + (member - 1), first + column)
 }
 
 /// The members' multipliers of the law that the table shows.
@@ -233,15 +233,8 @@ fn table_mults(alloc: Global, qp: &Qp, table: &Swept, set: ActiveSet) -> Result<
     requires table { IsTableOf qp.now set (rights qp.now) table.now }
     ensures { IfOk result (λ m. m ≡ (swept_law qp.now set).mults) }
 {
-    law_theorems();
-    let unknowns = qp.h.rows();
-    let first = unknowns + qp.g.rows();
-    let mut out = Matrix::zero(alloc, set.size(), qp.f.cols())?;
-    for index in 0..set.size() {
-        let member = set.member(index + 1);
-        write_entries(&mut out, index, table, unknowns + (member - 1), first);
-    }
-    Ok(out)
+    let entry = |index, column| mult_entry(qp, table, set, index, column);
+    matrix_of(alloc, set.size(), qp.f.cols(), &entry)
 }
 
 /// The law that the table shows.

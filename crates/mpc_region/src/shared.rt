@@ -3,13 +3,13 @@
 ghost use Rattle.std.specs.Prelude.{◌≡◌, ◌+◌, ◌<◌, ◌≤◌, ◌^◌, IfOk, length};
 ghost use Rattle.mpc_space.specs.Matrix.{height};
 ghost use Rattle.mpc_region.specs.Shared.{upper_entry, lower_entry, shared_entry, shared_table, AreMemberPlaces, AreSidePlaces, IsSharedBySets};
-ghost use Rattle.mpc_region.specs.Writing.{WritesRow};
 
 use mpc_bordered::{Kept, keep};
 use mpc_frac::{Frac, NoMemory};
 use mpc_linear::Matrix;
 use mpc_rows::Qp;
 use mpc_sets::ActiveSet;
+use mpc_systems::matrix_of;
 use std::alloc::{AllocError, Global};
 
 /// What the laws of all sets of a program share where no table is swept: the elimination of its Hessian in
@@ -69,29 +69,13 @@ fn shared_entry(qp: &Qp, row: u32, column: u32) -> Frac
     }
 }
 
-/// Writes a row of the table.
-fn write_shared(out: &mut Matrix, qp: &Qp, row: u32)
-    requires row { row < height out.old }
-    requires rows { height out.old ≡ height qp.now.h + height qp.now.g }
-    requires columns { out.old.columns ≡ height qp.now.h + height qp.now.g + (length qp.now.counts + 1) }
-    ensures { WritesRow out.old out.new row (shared_entry qp.now row) }
-{
-    let _rows = out.rows();
-    for column in 0..out.cols() {
-        out.set(row, column, shared_entry(qp, row, column));
-    }
-}
-
 /// The table `[[h, g', -f], [g, 0, w]]`.
 pub fn shared_table(alloc: Global, qp: &Qp) -> Result<Matrix, NoMemory>
     ensures { IfOk result (λ m. m ≡ shared_table qp.now) }
 {
     let size = qp.h.rows() + qp.g.rows();
-    let mut out = Matrix::zero(alloc, size, size + qp.f.cols())?;
-    for row in 0..size {
-        write_shared(&mut out, qp, row);
-    }
-    Ok(out)
+    let entry = |row, column| shared_entry(qp, row, column);
+    matrix_of(alloc, size, size + qp.f.cols(), &entry)
 }
 
 /// Forms what the laws of all sets of the program share, once.

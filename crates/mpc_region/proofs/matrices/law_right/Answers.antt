@@ -1,11 +1,11 @@
-use Rattle.std.proofs.Common.{refl, arith}
-use Rattle.mpc_rows.specs.SetRuns.{law_right}
-use Rattle.mpc_region.proofs.RowWriting.{table_more, table_all}
+use Rattle.std.proofs.Common.{◌≡◌, ◌+◌, ◌∙◌, sym, arith, rules, length}
+use Rattle.mpc_space.specs.Matrix.{height}
+use Rattle.mpc_rows.specs.SetRuns.{law_side, law_right}
 use Rattle.mpc_region.proofs.matrices.law_right.Goals as goal
-
-pub loop-row-preserved : goal.loop-row-preserved
-loop-row-preserved c = table_more c.loop-row.out c.write_sides.new.out _ _ c.loop-row.row _ _ (λ j l. refl) c.write_sides.ensures c.loop-row.invariant
 
 pub returns : goal.returns
 unfolding law_right
-returns c = table_all _ _ _ c.loop-row.row _ (omega arith) c.loop-row.invariant
+returns c =
+    let rows : height c.args.qp.now.h + length c.args.set ≡ c.rows.result + c.size.result = omega (arith, c.rows.ensures.value, c.size.ensures.value) in
+    let columns : length c.args.qp.now.counts + 1 ≡ c.cols.result = sym (c.cols.ensures.value ∙ c.args.qp.now.is_program.f_shape.columns_are) in
+    rw rows (rw columns (c.matrix_of.ensures (law_side c.args.qp.now c.args.set) (λ i j h k x p. search rules)))

@@ -1,11 +1,11 @@
-use Rattle.std.proofs.Common.{refl, arith}
-use Rattle.mpc_region.specs.Shared.{shared_table}
-use Rattle.mpc_region.proofs.RowWriting.{table_more, table_all}
+use Rattle.std.proofs.Common.{◌≡◌, ◌+◌, ◌∙◌, sym, arith, rules, length}
+use Rattle.mpc_space.specs.Matrix.{height}
+use Rattle.mpc_region.specs.Shared.{shared_entry, shared_table}
 use Rattle.mpc_region.proofs.shared.shared_table.Goals as goal
-
-pub loop-row-preserved : goal.loop-row-preserved
-loop-row-preserved c = table_more c.loop-row.out c.write_shared.new.out _ _ c.loop-row.row _ _ (λ j l. refl) c.write_shared.ensures c.loop-row.invariant
 
 pub returns : goal.returns
 unfolding shared_table
-returns c = table_all _ _ _ c.loop-row.row _ (omega arith) c.loop-row.invariant
+returns c =
+    let rows : height c.args.qp.now.h + height c.args.qp.now.g ≡ c.rows.result + c.rows-2.result = omega (arith, c.rows.ensures.value, c.rows-2.ensures.value) in
+    let columns : length c.args.qp.now.counts + 1 ≡ c.cols.result = sym (c.cols.ensures.value ∙ c.args.qp.now.is_program.f_shape.columns_are) in
+    rw rows (rw columns (c.matrix_of.ensures (shared_entry c.args.qp.now) (λ i j h k x p. search rules)))
