@@ -181,7 +181,7 @@ fn short_run(
     requires start { IsUnderwayWithin system.now numbers.now (of_short lists.old) from }
     ensures lists { IfSome result (λ t. AreListsOf system.now t.0.own (of_short lists.new)) }
     ensures small { IfSome result (λ _. IsSmall (2 ^ 62) lists.new.firsts.items × IsSmall (2 ^ 62) lists.new.seconds.items) }
-    ensures end { IfSome result (λ t. HasEnded system.now (count system.now) lists.new.seats.items numbers.now.scales.now t.0.den lists.new.v.items lists.new.firsts.items lists.new.seconds.items t.0.greatest t.0.greatest_den t.1) }
+    ensures end { IfSome result (λ t. HasEnded system.now (count system.now) lists.new.seats.items numbers.now.scales.now t.0.den lists.new.numbers.items lists.new.firsts.items lists.new.seconds.items t.0.greatest t.0.greatest_den t.1) }
 {
     let start = short_place(from)?;
     let (place, end) = whole_run(lists, row, system, numbers, start, most)?;
@@ -205,7 +205,7 @@ fn limited_run(
     requires start { IsUnderwayWithin system.now numbers.now (lists_of lists.old) from }
     ensures lists { IfSome result (λ t. AreListsOf system.now t.0.own (lists_of lists.new)) }
     ensures short { IfSome result (λ _. HaveShortValues lists.new) }
-    ensures end { IfSome result (λ t. HasEnded system.now (count system.now) (lists_of lists.new).seats numbers.now.scales.now t.0.den (lists_of lists.new).v (lists_of lists.new).firsts (lists_of lists.new).seconds t.0.greatest t.0.greatest_den t.1) }
+    ensures end { IfSome result (λ t. HasEnded system.now (count system.now) (lists_of lists.new).seats numbers.now.scales.now t.0.den (lists_of lists.new).numbers (lists_of lists.new).firsts (lists_of lists.new).seconds t.0.greatest t.0.greatest_den t.1) }
 {
     if lists.is_wide {
         return None;

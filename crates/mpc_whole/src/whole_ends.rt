@@ -238,13 +238,13 @@ pub fn last_multipliers(
     requires whole { IsWholeSystem system.now numbers.now.scales.now numbers.now.a.now numbers.now.b.now }
     requires seated { IsSeated (height system.now) system.now.width (count system.now) lists.now.seats.items }
     requires columns { AreNonbasic system.now.width lists.now.seats.items lists.now.nonbasic.items }
-    requires square { length lists.now.v.items ≡ system.now.width * system.now.width }
-    requires form { IsForm system.now (count system.now) lists.now.seats.items numbers.now.scales.now den lists.now.v.items (last_position system.now) }
+    requires square { length lists.now.numbers.items ≡ system.now.width * system.now.width }
+    requires form { IsForm system.now (count system.now) lists.now.seats.items numbers.now.scales.now den lists.now.numbers.items (last_position system.now) }
     requires refuted { turn system.now (last_position system.now) ≡ is_refuted leaving }
     ensures { IfSome result (λ _. IsMultipliers system.now (last_position system.now) leaving list.new) }
 {
     let side = leaving - system.unknowns();
-    side_row(row, system, numbers.a, &lists.v, side)?;
+    side_row(row, system, numbers.a, &lists.numbers, side)?;
     multipliers(
         list,
         system,
@@ -272,13 +272,13 @@ pub fn wide_last_multipliers(
     requires whole { IsWholeSystem system.now numbers.now.scales.now numbers.now.a.now numbers.now.b.now }
     requires seated { IsSeated (height system.now) system.now.width (count system.now) lists.now.seats.items }
     requires columns { AreNonbasic system.now.width lists.now.seats.items lists.now.nonbasic.items }
-    requires square { length lists.now.v.items ≡ system.now.width * system.now.width }
-    requires form { IsForm system.now (count system.now) lists.now.seats.items numbers.now.scales.now den lists.now.v.items (last_position system.now) }
+    requires square { length lists.now.numbers.items ≡ system.now.width * system.now.width }
+    requires form { IsForm system.now (count system.now) lists.now.seats.items numbers.now.scales.now den lists.now.numbers.items (last_position system.now) }
     requires refuted { turn system.now (last_position system.now) ≡ is_refuted leaving }
     ensures { IfSome result (λ _. IsMultipliers system.now (last_position system.now) leaving list.new) }
 {
     let side = leaving - system.unknowns();
-    let divided = divided_side_row(row, system, numbers.a, &lists.v, side, den)?;
+    let divided = divided_side_row(row, system, numbers.a, &lists.numbers, side, den)?;
     multipliers(
         list,
         system,

@@ -112,8 +112,8 @@ wide_stand-requires-clause-below c =
     let s = c.args.system.now in
     subst₂ (λ m (t : List ℕ). (k : ℕ) → k < s.width → variable_at t k < m) (sym c.requires.numbers.count) (sym (c.deref-6.ensures.value ∙ nonbasic_back at)) (in_column s (count s) c.swap.new.seats c.swap.new.nonbasic (seated at) (columns at))
 
-numbers_back : (c : After-swap) → (with_items c.args.lists.now.v c.reduce.new.numbers).items ≡ c.reduce.new.numbers
-numbers_back c = with_items_is c.args.lists.now.v c.reduce.new.numbers (let q = c.reduce.auto.numbers in let o = c.args.lists.now.v.ok in let v = c.deref_mut.ensures.len in omega arith)
+numbers_back : (c : After-swap) → (with_items c.args.lists.now.numbers c.reduce.new.numbers).items ≡ c.reduce.new.numbers
+numbers_back c = with_items_is c.args.lists.now.numbers c.reduce.new.numbers (let q = c.reduce.auto.numbers in let o = c.args.lists.now.numbers.ok in let v = c.deref_mut.ensures.len in omega arith)
 
 firsts_back : (c : After-wide_stand) → (with_items c.args.lists.now.firsts c.wide_stand.new.firsts).items ≡ c.wide_stand.new.firsts
 firsts_back c = with_items_is c.args.lists.now.firsts c.wide_stand.new.firsts (let q = c.wide_stand.auto.firsts in let o = c.args.lists.now.firsts.ok in let v = c.deref_mut-4.ensures.len in omega arith)
@@ -153,8 +153,8 @@ returns-clause-underway c =
     let real = times_row g x in
     let times = times_is g x in
     let then = at.After-swap in
-    let judged : IsPivotJudged s (count s) r.seats.items k a b den r.v.items c.args.leaving c.args.entering c.args.row.rest x by.top by.size =
-    subst (λ m. IsPivotJudged s m r.seats.items k a b den r.v.items c.args.leaving c.args.entering c.args.row.rest x by.top by.size) c.requires.numbers.count
+    let judged : IsPivotJudged s (count s) r.seats.items k a b den r.numbers.items c.args.leaving c.args.entering c.args.row.rest x by.top by.size =
+    subst (λ m. IsPivotJudged s m r.seats.items k a b den r.numbers.items c.args.leaving c.args.entering c.args.row.rest x by.top by.size) c.requires.numbers.count
     (subst₂ (λ (t : List Seat) (u : List ℤ). IsPivotJudged s c.args.frame.now.count t k a b den u c.args.leaving c.args.entering c.args.row.rest x by.top by.size) c.deref-2.ensures.value c.deref-4.ensures.value c.in_ok-judge_pivot.ensures)
     in
     let within : IsRowWithin (count s) r.seats.items k c.args.leaving c.args.entering x by.top by.size =
@@ -162,7 +162,7 @@ returns-clause-underway c =
     (subst (λ w. IsSeated (height s) w (count s) r.seats.items) (sym c.requires.row.size) c.requires.lists.seated)
     (subst₂ (λ w (t : List ℕ). AreNonbasic w r.seats.items t) (sym c.requires.row.size) (sym c.deref.ensures.value) c.requires.lists.columns)
     in
-    let piv : IsReducedPivot s.width den r.v.items c.reduce.new.numbers real c.column_of-column.result c.in_ok-after.after.den =
+    let piv : IsReducedPivot s.width den r.numbers.items c.reduce.new.numbers real c.column_of-column.result c.in_ok-after.after.den =
     subst₂ (λ w (u : List ℤ). IsReducedPivot w den u c.reduce.new.numbers real c.column_of-column.result c.in_ok-after.after.den) c.requires.row.size c.deref_mut.ensures.value (c.in_ok-after.ensures.pivot real g c.requires.row.some c.requires.row.split times)
     in
     let stood : AreFormed s c.args.frame.now.count c.swap.new.seats k b c.deref-7.result.now c.wide_stand.new.firsts c.wide_stand.new.seconds =
@@ -175,9 +175,9 @@ returns-clause-underway c =
     let next =
     mildly_after c.requires.numbers.whole c.requires.lists c.requires.goes c.swap.new.seats (swapped then) c.column_of-column.result (entered_then then) g c.args.row.rest x c.requires.row by.top by.size judged within
     c.reduce.new.numbers c.in_ok-after.after.den piv c.wide_stand.new.firsts c.wide_stand.new.seconds formed c.max-own.result c.max.result c.max-2.result c.kept_product-product.result
-    (let m = c.max.ensures in omega arith) (let m = c.max-2.ensures in omega arith) c.kept_product-product.ensures.before (weaker c.args.place.own c.max.result r.v.items c.requires.lists.own (let m = c.max.ensures in omega arith)) (let m = c.max-2.ensures in omega arith)
-    (weaker c.args.place.own c.max-own.result r.v.items c.requires.lists.own (let m = c.max-own.ensures in omega arith)) (let m = c.max-own.ensures in omega arith) c.kept_product-product.ensures.here
+    (let m = c.max.ensures in omega arith) (let m = c.max-2.ensures in omega arith) c.kept_product-product.ensures.before (weaker c.args.place.own c.max.result r.numbers.items c.requires.lists.own (let m = c.max.ensures in omega arith)) (let m = c.max-2.ensures in omega arith)
+    (weaker c.args.place.own c.max-own.result r.numbers.items c.requires.lists.own (let m = c.max-own.ensures in omega arith)) (let m = c.max-own.ensures in omega arith) c.kept_product-product.ensures.here
     in
     subst (IsMildlyUnderway s (count s) _ k c.in_ok-after.after.den _ _ _ c.max.result c.max-2.result c.kept_product-product.result) (sym c.unknowns.ensures)
-    (subst₂ (λ (f g : List ℤ). IsMildlyUnderway s (count s) (with_items r.seats c.swap.new.seats).items k c.in_ok-after.after.den (with_items r.v c.reduce.new.numbers).items f g c.max.result c.max-2.result c.kept_product-product.result s.width) (sym (firsts_back at.After-wide_stand)) (sym (seconds_back at.After-wide_stand))
+    (subst₂ (λ (f g : List ℤ). IsMildlyUnderway s (count s) (with_items r.seats c.swap.new.seats).items k c.in_ok-after.after.den (with_items r.numbers c.reduce.new.numbers).items f g c.max.result c.max-2.result c.kept_product-product.result s.width) (sym (firsts_back at.After-wide_stand)) (sym (seconds_back at.After-wide_stand))
     (subst₂ (λ (t : List Seat) (u : List ℤ). IsMildlyUnderway s (count s) t k c.in_ok-after.after.den u c.wide_stand.new.firsts c.wide_stand.new.seconds c.max.result c.max-2.result c.kept_product-product.result s.width) (sym (seats_back then)) (sym (numbers_back then)) next))

@@ -25,5 +25,5 @@ returns c =
     let b = c.args.frame.now.b.now in
     let den = c.args.place.den in
     IfSome_then c.judge_end.result c.judge_end.ensures
-    (λ _ judged. subst (λ m. IsJudged c.args.system.now m c.args.lists.now.seats.items k a b den c.args.lists.now.v.items 0 0 0) c.requires.numbers.count
+    (λ _ judged. subst (λ m. IsJudged c.args.system.now m c.args.lists.now.seats.items k a b den c.args.lists.now.numbers.items 0 0 0) c.requires.numbers.count
     (subst₂ (λ (t : List Seat) (u : List ℤ). IsJudged c.args.system.now c.args.frame.now.count t k a b den u 0 0 0) c.deref.ensures.value c.deref-3.ensures.value judged))

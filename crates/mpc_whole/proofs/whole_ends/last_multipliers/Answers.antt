@@ -14,14 +14,14 @@ overflow_sub-side c =
     let s = c.args.system.now in
     let m = c.args.numbers.now in
     let r = c.args.lists.now in
-    subst (λ w. w ≤ c.args.leaving) (sym c.unknowns.ensures) (last_side s (count s) r.seats.items m.scales.now c.args.den r.v.items c.requires.form c.requires.seated m.a.now m.b.now c.requires.whole c.args.leaving c.requires.refuted)
+    subst (λ w. w ≤ c.args.leaving) (sym c.unknowns.ensures) (last_side s (count s) r.seats.items m.scales.now c.args.den r.numbers.items c.requires.form c.requires.seated m.a.now m.b.now c.requires.whole c.args.leaving c.requires.refuted)
 
 pub side_row-requires-clause-side : goal.side_row-requires-clause-side
 side_row-requires-clause-side c =
     let s = c.args.system.now in
     let m = c.args.numbers.now in
     let r = c.args.lists.now in
-    subst (λ w. c.args.leaving - w < height s) (sym c.unknowns.ensures) (last_in s (count s) r.seats.items m.scales.now c.args.den r.v.items c.requires.form c.requires.seated m.a.now m.b.now c.requires.whole c.args.leaving c.requires.refuted)
+    subst (λ w. c.args.leaving - w < height s) (sym c.unknowns.ensures) (last_in s (count s) r.seats.items m.scales.now c.args.den r.numbers.items c.requires.form c.requires.seated m.a.now m.b.now c.requires.whole c.args.leaving c.requires.refuted)
 
 pub side_row-requires-clause-square : goal.side_row-requires-clause-square
 side_row-requires-clause-square c = rw c.deref.ensures.value c.requires.square
@@ -37,8 +37,8 @@ multipliers-requires-clause-row c =
       below = variable_within s (count s) r.seats.items r.nonbasic.items c.requires.seated c.requires.columns;
       row_size = c.in_ok-side_row.ensures.size;
       some = c.requires.form.some;
-      side = last_side s (count s) r.seats.items m.scales.now c.args.den r.v.items c.requires.form c.requires.seated m.a.now m.b.now c.requires.whole c.args.leaving c.requires.refuted;
-      leaves = last_below s (count s) r.seats.items m.scales.now c.args.den r.v.items c.requires.form c.requires.seated m.a.now m.b.now c.requires.whole c.args.leaving c.requires.refuted;
+      side = last_side s (count s) r.seats.items m.scales.now c.args.den r.numbers.items c.requires.form c.requires.seated m.a.now m.b.now c.requires.whole c.args.leaving c.requires.refuted;
+      leaves = last_below s (count s) r.seats.items m.scales.now c.args.den r.numbers.items c.requires.form c.requires.seated m.a.now m.b.now c.requires.whole c.args.leaving c.requires.refuted;
     })
 
 pub returns : goal.returns
@@ -46,7 +46,7 @@ returns c =
     let s = c.args.system.now in
     let m = c.args.numbers.now in
     let seats = c.args.lists.now.seats.items in
-    let v = c.args.lists.now.v.items in
+    let v = c.args.lists.now.numbers.items in
     let x = c.side_row.new.row in
     let side : IsSideRow s m.a.now v (c.args.leaving - s.width) x = subst₂ (λ w (u : List ℤ). IsSideRow s m.a.now u (c.args.leaving - w) x) c.unknowns.ensures c.deref.ensures.value c.in_ok-side_row.ensures in
     let row = last_row s (count s) seats m.scales.now c.args.den v c.requires.form c.requires.seated m.a.now m.b.now c.requires.whole c.args.leaving c.requires.refuted x side in

@@ -15,14 +15,14 @@ overflow_sub-side c =
     let s = c.args.system.now in
     let m = c.args.numbers.now in
     let r = c.args.lists.now in
-    subst (λ w. w ≤ c.args.leaving) (sym c.unknowns.ensures) (last_side s (count s) r.seats.items m.scales.now c.args.den r.v.items c.requires.form c.requires.seated m.a.now m.b.now c.requires.whole c.args.leaving c.requires.refuted)
+    subst (λ w. w ≤ c.args.leaving) (sym c.unknowns.ensures) (last_side s (count s) r.seats.items m.scales.now c.args.den r.numbers.items c.requires.form c.requires.seated m.a.now m.b.now c.requires.whole c.args.leaving c.requires.refuted)
 
 pub divided_side_row-requires-clause-side : goal.divided_side_row-requires-clause-side
 divided_side_row-requires-clause-side c =
     let s = c.args.system.now in
     let m = c.args.numbers.now in
     let r = c.args.lists.now in
-    subst (λ w. c.args.leaving - w < height s) (sym c.unknowns.ensures) (last_in s (count s) r.seats.items m.scales.now c.args.den r.v.items c.requires.form c.requires.seated m.a.now m.b.now c.requires.whole c.args.leaving c.requires.refuted)
+    subst (λ w. c.args.leaving - w < height s) (sym c.unknowns.ensures) (last_in s (count s) r.seats.items m.scales.now c.args.den r.numbers.items c.requires.form c.requires.seated m.a.now m.b.now c.requires.whole c.args.leaving c.requires.refuted)
 
 pub divided_side_row-requires-clause-square : goal.divided_side_row-requires-clause-square
 divided_side_row-requires-clause-square c = rw c.deref.ensures.value c.requires.square
@@ -41,8 +41,8 @@ multipliers-requires-clause-row c =
       below = variable_within s (count s) r.seats.items r.nonbasic.items c.requires.seated c.requires.columns;
       row_size = c.in_ok-divided.ensures.size;
       some = rest_some c.in_ok-divided.divided.0 c.in_ok-divided.divided.1 c.args.den c.in_ok-divided.ensures.split c.requires.form.some;
-      side = last_side s (count s) r.seats.items m.scales.now c.args.den r.v.items c.requires.form c.requires.seated m.a.now m.b.now c.requires.whole c.args.leaving c.requires.refuted;
-      leaves = last_below s (count s) r.seats.items m.scales.now c.args.den r.v.items c.requires.form c.requires.seated m.a.now m.b.now c.requires.whole c.args.leaving c.requires.refuted;
+      side = last_side s (count s) r.seats.items m.scales.now c.args.den r.numbers.items c.requires.form c.requires.seated m.a.now m.b.now c.requires.whole c.args.leaving c.requires.refuted;
+      leaves = last_below s (count s) r.seats.items m.scales.now c.args.den r.numbers.items c.requires.form c.requires.seated m.a.now m.b.now c.requires.whole c.args.leaving c.requires.refuted;
     })
 
 pub returns : goal.returns
@@ -50,7 +50,7 @@ returns c =
     let s = c.args.system.now in
     let m = c.args.numbers.now in
     let seats = c.args.lists.now.seats.items in
-    let v = c.args.lists.now.v.items in
+    let v = c.args.lists.now.numbers.items in
     let g = c.in_ok-divided.divided.0 in
     let rest = c.in_ok-divided.divided.1 in
     let x = c.divided_side_row.new.row in
