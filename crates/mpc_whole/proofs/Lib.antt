@@ -11,6 +11,7 @@ pub mod Nonbasic
 mod ColumnMultipliers
 pub mod ColumnSums
 pub mod WholeExchange
+mod RowParts
 pub mod WholeEnds
 pub mod WholeSizes
 pub mod WholeMoves

@@ -9,4 +9,5 @@ pub mod Judged
 pub mod Divided
 pub mod Lists
 pub mod Held
+pub mod Changes
 pub mod PositionTheorems
