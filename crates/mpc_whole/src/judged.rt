@@ -195,7 +195,15 @@ fn judged_step(
     };
     let side = leaving - system.unknowns();
     let short = place.own <= 1 << 62;
-    let (divisor, rest) = divided_row(row, system, frame.a, &lists.numbers, side, place.den, short)?;
+    let (divisor, rest) = divided_row(
+        row,
+        system,
+        frame.a,
+        &lists.numbers,
+        side,
+        place.den,
+        short,
+    )?;
     let Some(entering) = wide_entering(system, &lists.nonbasic, row, frame.count) else {
         judge_last(lists, system, frame, place)?;
         return Some(JudgedTurn::Ends(Ending::Refuted(leaving)));
