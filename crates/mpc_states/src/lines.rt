@@ -9,23 +9,15 @@ ghost use Rattle.mpc_space.specs.Matrix.{height};
 ghost use Rattle.mpc_frac.specs.Text.{text_of};
 ghost use Rattle.mpc_rows.specs.ActiveSets.{IsInBox};
 ghost use Rattle.mpc_plant.specs.Trajectory.{point_of};
-ghost use Rattle.mpc_controller.specs.Replies.{first_outside};
 ghost use Rattle.mpc_online.specs.Shared.{IsPreparedFor};
 ghost use Rattle.mpc_states.specs.StateLines.{IsOf, AreStateLines, AddsLine, AddsStateLine};
 
-use itoa::Buffer;
 use mpc_frac::{Frac, NoMemory};
 use mpc_online::{Online, OnlineError, Prepared, prepare, run_theorems, solve_prepared};
 use mpc_rows::Qp;
-use mpc_table::{first_line, read_counts};
+use mpc_table::{find_outside, first_line, read_counts};
+use mpc_words::{add_number, add_text};
 use std::alloc::Global;
-
-/// Puts a piece behind the text.
-fn add_text(text: &mut Vec<u8>, piece: &[u8]) -> Result<(), NoMemory>
-    ensures { OnOk result (text.new.items ≡ text.old.items ++ piece.now) }
-{
-    text.extend_from_slice(piece).map_err(|_| NoMemory)
-}
 
 /// Puts a number behind the text, and before it a blank unless it is the first.
 fn add_next(text: &mut Vec<u8>, value: &Frac, first: bool) -> Result<(), NoMemory>
@@ -54,23 +46,8 @@ fn add_outside(text: &mut Vec<u8>, coordinate: u32) -> Result<(), NoMemory>
     ensures { OnOk result (text.new.items ≡ text.old.items ++ ((codes "outside " ++ decimal coordinate) ++ codes "\n")) }
 {
     add_text(text, b"outside ")?;
-    let mut buffer = Buffer::new();
-    add_text(text, buffer.format(coordinate).as_bytes())?;
+    add_number(text, coordinate as u64)?;
     add_text(text, b"\n")
-}
-
-/// The number, from 1, of the first count above its limit.
-fn find_outside(limits: &[u64], counts: &[u64]) -> Option<u32>
-    requires sizes { length counts.now ≡ length limits.now }
-    requires few { length limits.now ≤ 4 }
-    ensures { result ≡ first_outside limits.now counts.now }
-{
-    for i in 0..limits.len() {
-        if counts[i] > limits[i] {
-            return Some(i as u32 + 1);
-        }
-    }
-    None
 }
 
 /// Puts the line of a grid state behind the text: the first moves of the program's cheapest choice, that there is no choice, or that a number

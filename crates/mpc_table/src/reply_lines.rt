@@ -1,6 +1,6 @@
 //! Reply lines to lines of counts.
 
-ghost use Rattle.std.specs.Prelude.{◌≡◌, ◌++◌, length, OnOk, OnErr, IfOk};
+ghost use Rattle.std.specs.Prelude.{◌≡◌, length, OnOk, IfOk};
 ghost use Rattle.std.specs.Str.Lines.{lines};
 ghost use Rattle.mpc_controller.specs.Parts.{Parts};
 ghost use Rattle.mpc_table.specs.Lookup.{IsTableOf};
@@ -11,15 +11,8 @@ use crate::counts::read_counts;
 use crate::input::first_line;
 use mpc_controller::Controller;
 use mpc_frac::NoMemory;
+use mpc_words::add_text;
 use std::alloc::Global;
-
-/// Puts a piece behind the text. Without memory the text stays as it was.
-fn add_text(text: &mut Vec<u8>, piece: &[u8]) -> Result<(), NoMemory>
-    ensures ok { OnOk result (text.new.items ≡ text.old.items ++ piece.now) }
-    ensures err { OnErr result (text.new.items ≡ text.old.items) }
-{
-    text.extend_from_slice(piece).map_err(|_| NoMemory)
-}
 
 /// Puts the reply line to a line of counts behind the text. `counts` is room for its counts. Without memory
 /// the text is given up: a reply may stand there without its line feed.

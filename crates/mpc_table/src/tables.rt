@@ -17,11 +17,11 @@ use crate::forms::{FormPlaces, LawForms, law_forms, write_values};
 use crate::sides::no_sides;
 use crate::steps::{Step, Steps, all_steps, leaf_place};
 use crate::values::value_at;
-use itoa::Buffer;
 use mpc_controller::{Controller, limits};
 use mpc_frac::{Frac, NoMemory};
 use mpc_linear::{IntAffine, RowInt};
 use mpc_rows::Counts;
+use mpc_words::{add_number, add_text};
 use std::alloc::Global;
 use std::marker::Model;
 
@@ -64,14 +64,6 @@ pub fn find_outside(limits: &[u64], counts: &[u64]) -> Option<u32>
     None
 }
 
-/// Appends the word. Without memory `out` stays as it was.
-fn write_word(word: &[u8], out: &mut Vec<u8>) -> Result<(), NoMemory>
-    ensures ok { OnOk result (out.new.items ≡ out.old.items ++ word.now) }
-    ensures err { OnErr result (out.new.items ≡ out.old.items) }
-{
-    out.extend_from_slice(word).map_err(|_| NoMemory)
-}
-
 /// Appends `outside` and the number. Without memory `out` stays as it was.
 fn write_outside(coordinate: u32, out: &mut Vec<u8>) -> Result<(), NoMemory>
     ensures ok { OnOk result (out.new.items
@@ -79,9 +71,8 @@ fn write_outside(coordinate: u32, out: &mut Vec<u8>) -> Result<(), NoMemory>
     ensures err { OnErr result (out.new.items ≡ out.old.items) }
 {
     let start = out.len();
-    write_word(b"outside ", out)?;
-    let mut buffer = Buffer::new();
-    let Ok(()) = write_word(buffer.format(coordinate).as_bytes(), out) else {
+    add_text(out, b"outside ")?;
+    let Ok(()) = add_number(out, coordinate as u64) else {
         out.truncate(start);
         return Err(NoMemory);
     };
@@ -172,7 +163,7 @@ impl Table {
                 let places = self.laws[law as usize - 1].as_slice();
                 write_values(self.forms.as_slice(), places, counts, out)
             }
-            Reply::Infeasible { .. } => write_word(b"infeasible", out),
+            Reply::Infeasible { .. } => add_text(out, b"infeasible"),
             Reply::Outside { coordinate } => write_outside(coordinate, out),
         }
     }

@@ -16,4 +16,4 @@ returns c =
     let whole : take c.loop-i.i texts ≡ texts = take_all c.loop-i.i texts (omega (arith, length-map c.args.moves.now text_of)) in
     on_ok_weaker c.add_text.result
     (λ e. e ∙ ap (λ t. t ++ codes "\n") (c.loop-i.invariant ∙ ap (λ t. c.args.text.now.items ++ join_with_byte 32 t) whole) ∙ append_assoc c.args.text.now.items (join_with_byte 32 texts) (codes "\n"))
-    c.add_text.ensures
+    c.add_text.ensures.ok

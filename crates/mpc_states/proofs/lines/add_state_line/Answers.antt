@@ -19,11 +19,11 @@ returns-in-Ok-Refuted-clause-line c =
     on_ok_weaker c.add_text.result
     (λ e. adds_none c.args.program.now c.args.inputs t c.args.text.now.items c.add_text.new.text.items (narrow c.run_theorems.ensures c.args.program.now t c.in-Ok-Refuted.field-0 c.in-Ok-Refuted.ensures.end)
     (rw c.in-Ok-Refuted.field-0-is at c.in-Ok-Refuted.ensures.infeasible) e)
-    c.add_text.ensures
+    c.add_text.ensures.ok
 
 pub returns-in-Err-Wide-clause-line : goal.returns-in-Err-Wide-clause-line
 returns-in-Err-Wide-clause-line c =
     on_ok_weaker c.add_text-in-Err-Wide.result
     (λ e. adds_wide c.args.program.now c.args.inputs (point_of c.args.counts.now) c.args.text.now.items c.add_text-in-Err-Wide.new.text.items c.in-Err-Wide.field-0-0
     (rw c.in-Err-Wide.field-0-is at c.in-Err-Wide.ensures.wide) e)
-    c.add_text-in-Err-Wide.ensures
+    c.add_text-in-Err-Wide.ensures.ok

@@ -43,9 +43,9 @@ returns-in-Move-clause-ok c =
 
 pub returns-in-Infeasible-clause-ok : goal.returns-in-Infeasible-clause-ok
 returns-in-Infeasible-clause-ok c =
-    on_ok_weaker c.write_word.result
-    (λ added parts is_table is_reply. infeasible_answer parts c.args.counts.now c.in-Infeasible.node c.args.out.now.items c.write_word.new.out.items (subst (IsReply parts c.args.counts.now) c.in-Infeasible.is is_reply) added)
-    c.write_word.ensures.ok
+    on_ok_weaker c.add_text.result
+    (λ added parts is_table is_reply. infeasible_answer parts c.args.counts.now c.in-Infeasible.node c.args.out.now.items c.add_text.new.text.items (subst (IsReply parts c.args.counts.now) c.in-Infeasible.is is_reply) added)
+    c.add_text.ensures.ok
 
 pub returns-in-Outside-clause-ok : goal.returns-in-Outside-clause-ok
 returns-in-Outside-clause-ok c =
