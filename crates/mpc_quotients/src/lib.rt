@@ -15,7 +15,6 @@ pub use whole_numbers::{
     wide_row_times, widened,
 };
 pub use wide_numbers::{
-    WideDivisor, are_short, column_value, divide_all, goes_into, positive, product_of,
-    product_with, wide_difference, wide_product, wide_quotient, wide_row_value, wide_side_cell,
-    wide_turned,
+    are_short, column_value, positive, product_of, product_with, wide_difference, wide_product,
+    wide_quotient, wide_row_value, wide_side_cell, wide_turned,
 };

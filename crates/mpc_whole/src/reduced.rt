@@ -8,8 +8,8 @@ ghost use Rattle.mpc_whole.specs.Judged.{IsTimes, IsReducedPivot};
 
 use mpc_frac::greatest_common_divisor;
 use mpc_quotients::{
-    Divisor, WideDivisor, are_short, positive, product_of, small_quotient, wide_difference,
-    wide_product, wide_quotient, wide_turned, widened,
+    Divisor, are_short, positive, product_of, small_quotient, wide_difference, wide_product,
+    wide_quotient, wide_turned, widened,
 };
 
 /// The largest number of 64 bits.
@@ -218,7 +218,7 @@ fn divide_one(list: &mut [i128], place: usize, share: Share) -> Option<Share>
     ensures same { IfSome result (λ s. s.divisor ≡ share.divisor) }
     ensures divided { IfSome result (λ s. (old : List ℤ) → AreDivided old list.old place share.divisor share.own → AreDivided old list.new (place + 1) share.divisor s.own) }
 {
-    let quotient = wide_quotient(list[place], WideDivisor::of(share.divisor))?;
+    let quotient = wide_quotient(list[place], share.divisor)?;
     list[place] = quotient;
     let own = share.own.max(quotient.unsigned_abs());
     Some(Share {
