@@ -1,7 +1,7 @@
--- Neighbouring stretches of a tree, searched side by side.
-use Rattle.std.proofs.Common.{◌≡◌, ℕ, suc, ◌+◌, ◌-◌, ◌/◌, ◌<◌, ◌≤◌, List, [], ◌∷◌, ◌++◌, length, get_or, drop, drop-cons, refl, ap, sym, ◌∙◌, subst, arith, Option, Some, None, Result, Ok, Err}
-use Rattle.std.specs.Prelude.{slice_index_or, All}
-use Rattle.std.proofs.lemmas.List.Elements.{All-nil, All-cons}
+-- Neighbouring stretches, searched side by side.
+use Rattle.std.proofs.Common.{◌≡◌, ℕ, suc, ◌+◌, ◌-◌, ◌/◌, ◌<◌, ◌≤◌, List, [], ◌∷◌, ◌++◌, length, get_or, drop, drop-cons, refl, ap, sym, ◌∙◌, subst, arith, Option, Some, None, Result, Ok, Err, Bool}
+use Rattle.std.specs.Prelude.{slice_get, slice_index_or, All, IsTrue}
+use Rattle.std.proofs.lemmas.List.Elements.{All-nil, All-cons, All-head, All-tail}
 use Rattle.std.proofs.Math.Nat.{div-le_self}
 use Rattle.std.proofs.lemmas.List.{drop_all}
 use Rattle.mpc_rows.specs.declared.programs.Qp.{Qp}
@@ -10,12 +10,13 @@ use Rattle.mpc_rows.specs.declared.trees.Node.{Node}
 use Rattle.mpc_check.specs.declared.answers.Spot.{Spot}
 use Rattle.mpc_condense.specs.declared.convex.ProgramError.{ProgramError}
 use Rattle.mpc_check.specs.declared.stretches.Stretch.{Stretch}
-use Rattle.mpc_check.specs.Findings.{IsSearched}
+use Rattle.mpc_check.specs.Findings.{Finding, EachFrom, IsSearched}
+use Rattle.mpc_check.specs.LawConditions.{LawMet, LawAtMet}
 use Rattle.mpc_check.specs.LeafConditions.{NodeAtMet, NodeAtFinds, StretchMet, StretchFinds}
 use Rattle.mpc_check.specs.Stretches.{IsStretchOf, AreNeighbours, AreSearched, AnswersAsOne}
-use Rattle.mpc_check.proofs.StretchLemmas.{none_yet, further_spot, further_error, later_searched}
+use Rattle.mpc_check.proofs.StretchLemmas.{none_yet, both_met, further_spot, further_error, later_searched}
 
--- ---- how the tree is cut
+-- ---- how a list is cut
 pub neighbours_rise : (from to : ℕ) (stretches : List Stretch) → AreNeighbours from to stretches → from ≤ to
 neighbours_rise from to [] h = omega (arith, h)
 neighbours_rise from to (s ∷ stretches) h = let rest = neighbours_rise s.to to stretches h.2 in omega (arith, h.0, h.1, rest)
@@ -30,14 +31,28 @@ each_stretch from to (s ∷ stretches) h =
     All-cons (IsStretchOf to) s stretches (record { in_order = h.1; inside = neighbours_rise s.to to stretches h.2 }) (each_stretch s.to to stretches h.2)
 
 -- the last stretch takes all that is left
-pub all_left : (from nodes parts : ℕ) → from ≤ nodes → parts ≡ 1 → from + (nodes - from) / parts ≡ nodes
-all_left from nodes parts low one = (λ i. from + (nodes - from) / one i) ∙ by (nodes - from) (omega arith)
+pub all_left : (from places parts : ℕ) → from ≤ places → parts ≡ 1 → from + (places - from) / parts ≡ places
+all_left from places parts low one = (λ i. from + (places - from) / one i) ∙ by (places - from) (omega arith)
   where
-    by : (rest : ℕ) → from + rest ≡ nodes → from + rest / 1 ≡ nodes
+    by : (rest : ℕ) → from + rest ≡ places → from + rest / 1 ≡ places
     by rest h = grind (arith, h)
 
-pub some_left : (from nodes parts : ℕ) → from ≤ nodes → from + (nodes - from) / parts ≤ nodes
-some_left from nodes parts low = let part = div-le_self (nodes - from) parts in omega (arith, low, part)
+pub some_left : (from places parts : ℕ) → from ≤ places → from + (places - from) / parts ≤ places
+some_left from places parts low = let part = div-le_self (places - from) parts in omega (arith, low, part)
+
+-- ---- whether all laws are seen to be met
+pub law_there : (qp : Qp) (laws : List Law) (place : ℕ) (law : Law) → slice_get laws place ≡ Some law → LawMet qp law → LawAtMet qp laws place
+law_there qp laws place law is met other at = (let same : law ≡ other = cc in subst (LawMet qp) same met)
+
+module _ (met : ℕ → Type 0) (finds : ℕ → Finding → Type 0) where
+  pub stretches_met : (from to : ℕ) (stretches : List Stretch) (answers : List Bool) → AreNeighbours from to stretches → length answers ≡ length stretches → All IsTrue answers
+      → ((i : ℕ) (s : Stretch) (answer : Bool) → i < length stretches → IsTrue (slice_index_or answers i answer) → EachFrom met (slice_index_or stretches i s).from (slice_index_or stretches i s).to) → EachFrom met from to
+  stretches_met from to [] [] cut same all each = subst (λ e. EachFrom met from e) cut (none_yet met finds from)
+  stretches_met from to [] (answer ∷ answers) cut same all each = absurd (omega (arith, same))
+  stretches_met from to (s ∷ stretches) [] cut same all each = absurd (omega (arith, same))
+  stretches_met from to (s ∷ stretches) (answer ∷ answers) cut same all each =
+      both_met met finds from s.to to (subst (λ f. EachFrom met f s.to) cut.0 (each 0 s answer (omega arith) (All-head IsTrue answer answers all)))
+      (stretches_met s.to to stretches answers cut.2 (omega (arith, same)) (All-tail IsTrue answer answers all) (λ i t a inside. each (suc i) t a (omega (arith, inside))))
 
 -- ---- what is found
 -- the first answer that isn't that all is met

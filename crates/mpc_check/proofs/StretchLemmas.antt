@@ -56,7 +56,7 @@ module _ (met : ℕ → Type 0) (finds : ℕ → Finding → Type 0) where
   stretch_error from to k low high before NoMemory s = tt
 
   -- ---- the stretch of all parts
-  all_met : (count : ℕ) → EachFrom met 0 count → Each met count
+  pub all_met : (count : ℕ) → EachFrom met 0 count → Each met count
   all_met count all k high = all k (omega arith) high
 
   all_found : (count : ℕ) (f : Finding) → IsFirstFrom met finds 0 count f → IsFirstOf met finds count f

@@ -1,4 +1,4 @@
--- A tree cut into stretches of neighbouring nodes, and what is found of stretches that are searched side by side.
+-- A list cut into stretches of neighbouring places, and what is found of stretches of a tree that are searched side by side.
 use Rattle.std.specs.Prelude.{◌≡◌, ℕ, ◌≤◌, List, [], ◌∷◌, length, All, Option, Result}
 use Rattle.mpc_rows.specs.declared.programs.Qp.{Qp}
 use Rattle.mpc_rows.specs.declared.laws.Law.{Law}
@@ -21,10 +21,10 @@ pub record HaveProgramShapes (qp : Qp) (laws : List Law) (nodes : List Node) : T
   pub splits : All (HasSplitRow (length qp.counts)) nodes
 
 -- ---- stretches
--- a stretch of a tree of so many nodes
-pub record IsStretchOf (nodes : ℕ) (stretch : Stretch) : Type 0 where
+-- a stretch of a list of so many places
+pub record IsStretchOf (places : ℕ) (stretch : Stretch) : Type 0 where
   pub in_order : stretch.from ≤ stretch.to
-  pub inside : stretch.to ≤ nodes
+  pub inside : stretch.to ≤ places
 
 -- each begins where the one before it ends, the first at one place, and the last ends before another
 abbrev pub AreNeighbours : ℕ → ℕ → List Stretch → Type 0

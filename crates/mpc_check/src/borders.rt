@@ -3,13 +3,17 @@
 ghost use Rattle.std.specs.Prelude.{◌≡◌, ◌<◌, All, IfOk, length, vec_len};
 ghost use Rattle.mpc_space.specs.Matrix.{height};
 ghost use Rattle.mpc_rows.specs.Laws.{HasLawShape};
-ghost use Rattle.mpc_check.specs.Borders.{IsFormed, AreFormed, AreBorders};
+ghost use Rattle.mpc_check.specs.Borders.{IsFormed, AreFormed, AreBorders, AreBordersOf, AreJoined};
 ghost use Rattle.mpc_check.specs.LeafSystems.{NamesLaw};
+ghost use Rattle.mpc_check.specs.Stretches.{IsStretchOf};
 
+use crate::stretches::{FEWEST_LAWS, Stretch, stretches};
 use mpc_frac::NoMemory;
 use mpc_linear::{LinearError, RowInt};
 use mpc_rows::{Law, LawTable, Node, Qp, Tree, law_row};
 use std::alloc::Global;
+use std::thread;
+use std::thread::Threads;
 
 /// A row of a law, as it was formed.
 #[derive(Drop)]
@@ -75,6 +79,27 @@ fn rows_where(alloc: Global, qp: &Qp, law: &Law, named: bool) -> Result<Vec<Form
     }
 }
 
+/// The rows of each law of a stretch that is named, and none of the other laws.
+fn form_stretch(
+    alloc: Global,
+    qp: &Qp,
+    laws: &LawTable,
+    named: &[bool],
+    stretch: Stretch,
+) -> Result<Vec<Vec<Formed>>, NoMemory>
+    requires shapes { All (HasLawShape qp.now) laws.now }
+    requires named { length named.now ≡ length laws.now }
+    requires stretch { IsStretchOf (length laws.now) stretch }
+    ensures { IfOk result (λ v. AreBordersOf qp.now laws.now stretch v.items) }
+{
+    let mut borders = Vec::new(alloc);
+    for place in stretch.from..stretch.to {
+        let rows = rows_where(alloc, qp, laws.at(place), named[place])?;
+        borders.push(rows).map_err(|_| NoMemory)?;
+    }
+    Ok(borders)
+}
+
 /// The rows of each law that a leaf names, and none of the other laws.
 pub fn form_borders(
     alloc: Global,
@@ -87,10 +112,47 @@ pub fn form_borders(
     ensures { IfOk result (λ v. AreBorders qp.now laws.now v.items) }
 {
     let named = named_laws(alloc, laws.len(), tree)?;
+    let whole = Stretch {
+        from: 0,
+        to: laws.len(),
+    };
+    form_stretch(alloc, qp, laws, named.as_slice(), whole)
+}
+
+/// The rows of stretches of laws as one list, one stretch behind the other.
+fn joined(
+    alloc: Global,
+    parts: Vec<Result<Vec<Vec<Formed>>, NoMemory>>,
+) -> Result<Vec<Vec<Formed>>, NoMemory>
+    ensures { IfOk result (λ v. AreJoined parts.items v.items) }
+{
     let mut borders = Vec::new(alloc);
-    for place in 0..laws.len() {
-        let rows = rows_where(alloc, qp, laws.at(place), named[place])?;
-        borders.push(rows).map_err(|_| NoMemory)?;
+    for part in parts {
+        let mut more = part?;
+        borders.append(&mut more).map_err(|_| NoMemory)?;
     }
     Ok(borders)
+}
+
+/// The same as [`form_borders`] forms. Stretches of laws are formed side by side, each in a thread of its own where one can be started, and
+/// else by the caller.
+pub fn form_borders_in_threads<T: Threads + Sync>(
+    rt: &T,
+    alloc: Global,
+    qp: &Qp,
+    laws: &LawTable,
+    tree: &Tree,
+) -> Result<Vec<Vec<Formed>>, NoMemory>
+    requires shapes { All (HasLawShape qp.now) laws.now }
+    requires named { All (NamesLaw (length laws.now)) tree.now }
+    ensures { IfOk result (λ v. AreBorders qp.now laws.now v.items) }
+{
+    let marks = named_laws(alloc, laws.len(), tree)?;
+    let named = marks.as_slice();
+    let stretches = stretches(alloc, laws.len(), FEWEST_LAWS)?;
+    let form = |stretch: Stretch| form_stretch(alloc, qp, laws, named, stretch);
+    match thread::map_vec(rt, stretches, &form) {
+        Ok(parts) => joined(alloc, parts),
+        Err(_) => Err(NoMemory),
+    }
 }

@@ -6,8 +6,8 @@ ghost use Rattle.mpc_check.specs.Acceptance.{BehindMet, BehindFinds, IsAnswer, I
 ghost use Rattle.mpc_check.specs.Findings.{IsSearched};
 
 use crate::answers::{Answer, CheckError, Spot};
-use crate::gradients::search_laws;
-use crate::stretches::{search_tree, search_tree_in_threads};
+use crate::laws::{search_laws, search_laws_in_threads};
+use crate::trees::{search_tree, search_tree_in_threads};
 use mpc_condense::convex_program;
 use mpc_controller::Controller;
 use mpc_rows::Qp;
@@ -26,7 +26,7 @@ fn search(alloc: Global, qp: &Qp, controller: &Controller) -> Result<Option<Spot
     }
 }
 
-/// The same, where the leaves are checked side by side.
+/// The same, where the laws, their rows and then the leaves are shared out among threads.
 fn search_in_threads<T: Threads + Sync>(
     rt: &T,
     alloc: Global,
@@ -36,7 +36,7 @@ fn search_in_threads<T: Threads + Sync>(
     requires { HasProgram parts.now.plant qp.now }
     ensures { IsSearched (BehindMet qp.now parts.now) (BehindFinds qp.now parts.now) result }
 {
-    match search_laws(alloc, qp, parts.laws()) {
+    match search_laws_in_threads(rt, alloc, qp, parts.laws()) {
         Ok(None) => search_tree_in_threads(rt, alloc, qp, parts.laws(), parts.tree()),
         Ok(Some(spot)) => Ok(Some(spot)),
         Err(error) => Err(error),
@@ -55,8 +55,9 @@ fn search_in_threads<T: Threads + Sync>(
 /// their rows. The first that isn't met answers: as `Refused` with its spot, as `TooWide` with its place where one of its numbers needs
 /// more than 128 bits, or as `NotDefinite` with the first pivot that isn't positive.
 ///
-/// The leaves are checked side by side, in as many as 16 stretches of neighbours, each in a thread of its own where one can be started. It
-/// waits for no lock.
+/// The laws are asked side by side, their rows are formed so, and then the leaves are checked so: each in as many as 16 stretches of
+/// neighbours, each stretch in a thread of its own where one can be started. Laws that aren't all seen to meet their conditions in whole
+/// numbers are searched by the caller, one after another. It waits for no lock.
 pub fn check<T: Threads + Sync>(
     rt: &T,
     alloc: Global,

@@ -1,6 +1,6 @@
-//! The conditions on the laws: the gradient of each Lagrangian is 0, and the members' rows hold with equality, at every state.
+//! The conditions on a law, in fractions: the gradient of its Lagrangian is 0, and its members' rows hold with equality, at every state.
 
-ghost use Rattle.std.specs.Prelude.{◌≡◌, [], ◌+◌, ◌-◌, ◌<◌, ◌≤◌, ◌↔◌, All, IfOk, IfSome, IsTrue, MatchResult, length, slice_index_or};
+ghost use Rattle.std.specs.Prelude.{◌≡◌, [], ◌+◌, ◌-◌, ◌<◌, ◌≤◌, ◌↔◌, IfOk, IsTrue, MatchResult, length, slice_index_or};
 ghost use Rattle.mpc_exact.specs.Rational.{◌+ℚ◌};
 ghost use Rattle.mpc_space.specs.Vector.{column, dot};
 ghost use Rattle.mpc_space.specs.Matrix.{height};
@@ -8,16 +8,12 @@ ghost use Rattle.mpc_linear.specs.Dot.{SumFits};
 ghost use Rattle.mpc_rows.specs.ActiveSets.{rows_of};
 ghost use Rattle.mpc_rows.specs.Laws.{HasLawShape};
 ghost use Rattle.mpc_check.specs.Findings.{IsSearched};
-ghost use Rattle.mpc_check.specs.LawConditions.{gradient_at, GradientFits, StationaryMet, StationaryFinds, LineMet, LineFinds, LinesMet, LinesFind, ActiveMet, ActiveFinds, RowMet, RowFinds, MembersMet, MembersFind, LawMet, LawFinds, LawsMet, LawsFind};
-ghost use Rattle.mpc_check.specs.WholeLaws.{IsProgramOver};
+ghost use Rattle.mpc_check.specs.LawConditions.{gradient_at, GradientFits, StationaryMet, StationaryFinds, LineMet, LineFinds, LinesMet, LinesFind, ActiveMet, ActiveFinds, RowMet, RowFinds, MembersMet, MembersFind, LawMet, LawFinds};
 
 use crate::answers::{CheckError, Spot};
-use crate::numbers::WholeProgram;
-use crate::whole_laws::{is_met_in_wholes, whole_program};
 use mpc_frac::{Frac, Wide};
 use mpc_linear::{Matrix, add_product, sum_theorems};
-use mpc_rows::{Law, LawTable, Place, Qp, law_theorems};
-use std::alloc::Global;
+use mpc_rows::{Law, Place, Qp, law_theorems};
 
 /// `start` plus the products of a row of the matrix with a column of the moves.
 fn add_moves(
@@ -206,66 +202,13 @@ fn search_members(qp: &Qp, number: u32, law: &Law) -> Result<Option<Spot>, Check
     Ok(None)
 }
 
-/// Whether the conditions on a law are seen to be met in whole numbers.
-fn is_seen_met(qp: &Qp, program: &Option<WholeProgram>, law: &Law) -> bool
-    requires program { IfSome program.now (IsProgramOver qp.now) }
-    requires shape { HasLawShape qp.now law.now }
-    ensures { IsTrue result → LawMet qp.now law.now }
-{
-    match program {
-        Some(program) => is_met_in_wholes(qp, program, law),
-        None => false,
-    }
-}
-
-/// What is found of a law with this number. Only where its conditions aren't seen to be met in whole numbers are they tested in fractions,
-/// in their order.
-fn search_law(
-    qp: &Qp,
-    program: &Option<WholeProgram>,
-    number: u32,
-    law: &Law,
-) -> Result<Option<Spot>, CheckError>
-    requires program { IfSome program.now (IsProgramOver qp.now) }
-    requires shape { HasLawShape qp.now law.now }
+/// What is found of a law with this number, line by line and then member by member.
+pub fn search_in_fractions(qp: &Qp, number: u32, law: &Law) -> Result<Option<Spot>, CheckError>
+    requires { HasLawShape qp.now law.now }
     ensures { IsSearched (LawMet qp.now law.now) (LawFinds qp.now number law.now) result }
 {
-    if is_seen_met(qp, program, law) {
-        return Ok(None);
-    }
     match search_lines(qp, number, law) {
         Ok(None) => search_members(qp, number, law),
         found => found,
     }
-}
-
-/// What is found of the laws, in their order.
-fn search_each(
-    qp: &Qp,
-    program: &Option<WholeProgram>,
-    laws: &LawTable,
-) -> Result<Option<Spot>, CheckError>
-    requires program { IfSome program.now (IsProgramOver qp.now) }
-    requires few { length laws.now ≤ 4598479 }
-    requires shapes { All (HasLawShape qp.now) laws.now }
-    ensures { IsSearched (LawsMet qp.now laws.now) (LawsFind qp.now laws.now) result }
-{
-    for place in 0..laws.len() {
-        match search_law(qp, program, place as u32 + 1, laws.at(place)) {
-            Ok(None) => {}
-            found => return found,
-        }
-    }
-    Ok(None)
-}
-
-/// What is found of the laws, in their order: where one of them doesn't meet the conditions of optimality (Karush 1939, Kuhn and Tucker
-/// 1951), coefficient by coefficient. Without memory for the program in whole numbers, the laws are tested in fractions.
-pub fn search_laws(alloc: Global, qp: &Qp, laws: &LawTable) -> Result<Option<Spot>, CheckError>
-    requires few { length laws.now ≤ 4598479 }
-    requires shapes { All (HasLawShape qp.now) laws.now }
-    ensures { IsSearched (LawsMet qp.now laws.now) (LawsFind qp.now laws.now) result }
-{
-    let program = whole_program(alloc, qp);
-    search_each(qp, &program, laws)
 }

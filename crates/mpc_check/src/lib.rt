@@ -7,11 +7,13 @@ mod borders;
 mod certs;
 mod checks;
 mod gradients;
+mod laws;
 mod leaves;
 mod numbers;
 mod rows;
 mod stretches;
 mod theorems;
+mod trees;
 mod whole_laws;
 mod whole_sums;
 

@@ -15,7 +15,7 @@ returns-in-Ok-None g c =
     let parts = c.args.parts.now in
     behind_tree qp parts c.search_tree_in_threads.result
     (subst (λ laws. LawsMet qp laws) c.laws.ensures.value
-    (subst (λ r. IsSearched (LawsMet qp c.laws.result.now) (LawsFind qp c.laws.result.now) r) (c.in-Ok-None.is ∙ ap Ok c.in-Ok-None.field-0-is) c.search_laws.ensures))
+    (subst (λ r. IsSearched (LawsMet qp c.laws.result.now) (LawsFind qp c.laws.result.now) r) (c.in-Ok-None.is ∙ ap Ok c.in-Ok-None.field-0-is) c.search_laws_in_threads.ensures))
     (subst (λ laws. IsSearched (TreeMet qp laws parts.tree) (TreeFinds qp laws parts.tree) c.search_tree_in_threads.result) c.laws-in-Ok-None.ensures.value
     (subst (λ nodes. IsSearched (TreeMet qp c.laws-in-Ok-None.result.now nodes) (TreeFinds qp c.laws-in-Ok-None.result.now nodes) c.search_tree_in_threads.result) c.tree.ensures.value c.search_tree_in_threads.ensures))
 
@@ -25,10 +25,10 @@ returns-in-Err g c =
     let parts = c.args.parts.now in
     earlier_error (LawsMet qp parts.laws) (BehindMet qp parts) (LawsFind qp parts.laws) (TreeFinds qp parts.laws parts.tree) c.in-Err.error
     (subst (λ laws. IsSearched (LawsMet qp laws) (LawsFind qp laws) (Err c.in-Err.error)) c.laws.ensures.value
-    (subst (λ r. IsSearched (LawsMet qp c.laws.result.now) (LawsFind qp c.laws.result.now) r) c.in-Err.is c.search_laws.ensures))
+    (subst (λ r. IsSearched (LawsMet qp c.laws.result.now) (LawsFind qp c.laws.result.now) r) c.in-Err.is c.search_laws_in_threads.ensures))
 
-pub search_laws-requires-clause-shapes : goal.search_laws-requires-clause-shapes
-search_laws-requires-clause-shapes g c =
+pub search_laws_in_threads-requires-clause-shapes : goal.search_laws_in_threads-requires-clause-shapes
+search_laws_in_threads-requires-clause-shapes g c κs within =
     let parts = c.args.parts.now in
     subst (All (HasLawShape c.args.qp.now)) (sym c.laws.ensures.value) (laws_shaped parts.plant c.args.qp.now c.requires.condensed parts.laws c.laws.ensures.controller.shapes.laws_fit)
 

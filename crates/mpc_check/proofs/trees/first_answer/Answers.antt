@@ -1,6 +1,6 @@
 use Rattle.std.proofs.Common.{Ok, None}
 use Rattle.mpc_check.proofs.SideLemmas.{answers_as_one, passed_over, first_at, none_of}
-use Rattle.mpc_check.proofs.stretches.first_answer.Goals as goal
+use Rattle.mpc_check.proofs.trees.first_answer.Goals as goal
 
 pub returns-then-not-is_met : goal.returns-then-not-is_met
 returns-then-not-is_met c =

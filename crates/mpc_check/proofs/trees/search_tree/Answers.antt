@@ -2,7 +2,7 @@ use Rattle.std.proofs.Common.{◌≤◌, length, sym, subst, arith}
 use Rattle.mpc_check.specs.Findings.{IsSearched}
 use Rattle.mpc_check.specs.LeafConditions.{NodeAtMet, NodeAtFinds, StretchMet, StretchFinds}
 use Rattle.mpc_check.proofs.StretchLemmas.{whole_searched}
-use Rattle.mpc_check.proofs.stretches.search_tree.Goals as goal
+use Rattle.mpc_check.proofs.trees.search_tree.Goals as goal
 
 pub search_stretch-requires-clause-stretch : goal.search_stretch-requires-clause-stretch
 search_stretch-requires-clause-stretch c = record { in_order = omega arith; inside = subst (λ n. n ≤ length c.args.tree.now) (sym c.len.ensures) (omega arith) }

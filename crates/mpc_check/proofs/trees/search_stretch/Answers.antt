@@ -3,7 +3,7 @@ use Rattle.mpc_check.specs.Findings.{IsSearched}
 use Rattle.mpc_check.specs.LeafConditions.{NodeAtMet, NodeAtFinds}
 use Rattle.mpc_controller.specs.Ways.{IsWay}
 use Rattle.mpc_check.proofs.StretchLemmas.{none_yet, one_more, stretch_error}
-use Rattle.mpc_check.proofs.stretches.search_stretch.Goals as goal
+use Rattle.mpc_check.proofs.trees.search_stretch.Goals as goal
 
 pub loop-place-init : goal.loop-place-init
 loop-place-init c = record { way = c.in_ok-way.ensures; met = none_yet (NodeAtMet c.args.qp.now c.args.laws.now c.args.tree.now) (NodeAtFinds c.args.qp.now c.args.laws.now c.args.tree.now) c.args.stretch.from }

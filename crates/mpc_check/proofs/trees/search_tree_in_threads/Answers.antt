@@ -5,7 +5,7 @@ use Rattle.mpc_check.specs.LeafConditions.{NodeAtMet, NodeAtFinds, StretchMet, S
 use Rattle.mpc_check.specs.Stretches.{AreSearched}
 use Rattle.mpc_check.proofs.StretchLemmas.{whole_searched}
 use Rattle.mpc_check.proofs.SideLemmas.{each_searched}
-use Rattle.mpc_check.proofs.stretches.search_tree_in_threads.Goals as goal
+use Rattle.mpc_check.proofs.trees.search_tree_in_threads.Goals as goal
 
 pub returns-in-Ok : goal.returns-in-Ok
 returns-in-Ok g c =
@@ -20,4 +20,5 @@ returns-in-Ok g c =
     let met = job.call.met in
     subst (λ t. IsSearched (StretchMet qp laws nodes t.from t.to) (StretchFinds qp laws nodes t.from t.to) (slice_index_or answers i a)) (sym (job.job_is s)) (search rules)) in
     whole_searched (NodeAtMet qp laws nodes) (NodeAtFinds qp laws nodes) (length nodes) c.first_answer.result
-    (c.first_answer.ensures qp laws nodes 0 (length nodes) stretches c.in_ok-stretches.ensures.whole (subst (AreSearched qp laws nodes stretches) (sym c.as_slice.ensures.value) searched))
+    (subst (λ to. IsSearched (StretchMet qp laws nodes 0 to) (StretchFinds qp laws nodes 0 to) c.first_answer.result) c.len.ensures
+    (c.first_answer.ensures qp laws nodes 0 c.len.result stretches c.in_ok-stretches.ensures.whole (subst (AreSearched qp laws nodes stretches) (sym c.as_slice.ensures.value) searched)))

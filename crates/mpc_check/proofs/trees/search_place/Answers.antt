@@ -2,7 +2,7 @@ use Rattle.std.proofs.Common.{length}
 use Rattle.mpc_check.proofs.ElementLemmas.{all_at}
 use Rattle.mpc_check.specs.LeafSystems.{NamesLaw}
 use Rattle.mpc_check.proofs.LeafLemmas.{node_there}
-use Rattle.mpc_check.proofs.stretches.search_place.Goals as goal
+use Rattle.mpc_check.proofs.trees.search_place.Goals as goal
 
 pub search_node-requires-clause-named : goal.search_node-requires-clause-named
 search_node-requires-clause-named c = all_at (NamesLaw (length c.args.laws.now)) c.args.tree.now c.args.place c.at.result.now c.at.ensures c.requires.shapes.named
