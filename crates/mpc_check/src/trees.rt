@@ -111,8 +111,7 @@ fn first_answer(answers: &[Result<Option<Spot>, CheckError>]) -> Result<Option<S
 }
 
 /// What is found of the tree: its stretches are checked side by side, each in a thread of its own where one can be started, and else by the
-/// caller. They share the rows of the laws, which are
-/// formed side by side before. It waits for no lock.
+/// caller. They share the rows of the laws, which are formed side by side before them. It waits for no lock.
 pub fn search_tree_in_threads<T: Threads + Sync>(
     rt: &T,
     alloc: Global,

@@ -1,5 +1,4 @@
-use Rattle.std.proofs.Common.{◌≡◌, ◌≤◌, length, sym, ◌∙◌, subst, refl, arith}
-use Rattle.mpc_check.specs.Stretches.{IsStretchOf}
+use Rattle.std.proofs.Common.{◌≤◌, length, sym, subst, arith}
 use Rattle.mpc_check.proofs.BorderLemmas.{of_whole}
 use Rattle.mpc_check.proofs.borders.form_borders.Goals as goal
 
