@@ -1,6 +1,7 @@
-use Rattle.std.proofs.Common.{ℕ, subst, rules}
+use Rattle.std.proofs.Common.{◌≡◌, ℕ, subst, rules, ⊎_elim}
 use Rattle.mpc_rows.specs.declared.programs.Qp.{Qp}
 use Rattle.mpc_rows.specs.declared.verdicts.Verdict.TheVariants.{Wide}
+use Rattle.mpc_claim.specs.declared.events.Phase.TheVariants.{Finished}
 use Rattle.mpc_claim.specs.Answers.{IsFirstBad}
 use Rattle.mpc_synthesis.specs.Programs.{IsDecidedBy}
 use Rattle.mpc_synthesis.specs.Refusals.{controller, wide_set}
@@ -14,5 +15,6 @@ returns-in-Some-clause-refused g c =
 
 pub controller_of_in_threads-requires : goal.controller_of_in_threads-requires
 controller_of_in_threads-requires g c =
-    let decided : (workers : ℕ) × IsDecidedBy workers c.args.plant c.args.registry = decided_by c.legal_theorems.ensures.legal c.args.plant c.args.registry c.requires c.in-None.ensures in
+    let finished : c.args.registry.phase ≡ Finished = ⊎_elim (λ f. f.0) (λ s. absurd (c.in-None.ensures s.0)) c.requires.done.ended in
+    let decided : (workers : ℕ) × IsDecidedBy workers c.args.plant c.args.registry = decided_by c.legal_theorems.ensures.legal c.args.plant c.args.registry c.requires finished in
     search rules
