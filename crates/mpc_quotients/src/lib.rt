@@ -15,6 +15,7 @@ pub use whole_numbers::{
     wide_row_times, widened,
 };
 pub use wide_numbers::{
-    are_short, column_value, positive, product_of, product_with, wide_difference, wide_product,
-    wide_quotient, wide_row_value, wide_side_cell, wide_turned,
+    WideDivisor, are_short, column_value, divide_all, goes_into, positive, product_of,
+    product_with, wide_difference, wide_product, wide_quotient, wide_row_value, wide_side_cell,
+    wide_turned,
 };

@@ -4,7 +4,8 @@ ghost use Rattle.std.specs.Prelude.{◌≡◌, ℕ, ℤ, pos, ◌+◌, ◌*◌, 
 ghost use Rattle.mpc_runs.specs.WholeNumbers.{whole_total, HasRoom, turned};
 ghost use Rattle.mpc_scaled.specs.Scaled.{whole_at, whole_cell, IsSmall};
 
-use crate::whole_numbers::{sum, widened};
+use crate::divisors::Divisor;
+use crate::whole_numbers::{small_quotient, sum, widened};
 use mpc_scaled::{narrow, product};
 
 /// A number that is not negative, as a signed one.
@@ -211,13 +212,76 @@ pub fn column_value(
     Some(total)
 }
 
+/// A divisor of numbers of 128 bits, with what makes a division by it one multiplication where it has 62 bits.
+#[derive(Clone, Copy, Drop)]
+pub struct WideDivisor {
+    /// The number itself.
+    pub den: u128,
+    short: Divisor,
+}
+
+impl WideDivisor {
+    /// A number to divide by. By 0 nothing is divided.
+    pub fn of(den: u128) -> Self
+        ensures { result.den ≡ den }
+    {
+        let short = if den <= 1 << 62 { den as u64 } else { 0 };
+        WideDivisor {
+            den,
+            short: Divisor::of(short),
+        }
+    }
+}
+
+/// The quotient, if it is whole.
+#[inline]
+pub fn wide_quotient(number: i128, by: WideDivisor) -> Option<i128>
+    ensures { IfSome result (λ q. q *ℤ pos by.den ≡ number) }
+{
+    if let Some(quotient) = short_quotient(number, by) {
+        return Some(widened(quotient));
+    }
+    long_quotient(number, by.den)
+}
+
+/// The quotient, if it is whole and it and the divisor have 62 bits.
+#[inline]
+fn short_quotient(number: i128, by: WideDivisor) -> Option<i64>
+    ensures { IfSome result (λ q. q *ℤ pos by.den ≡ number) }
+{
+    if by.short.den as u128 != by.den || by.den > 1 << 62 {
+        return None;
+    }
+    small_quotient(number, by.short, 1 << 62)
+}
+
+/// Whether a divisor goes into a number, as far as the sizes of both show it without a long division.
+#[inline]
+pub fn goes_into(by: WideDivisor, number: i128) -> bool {
+    short_quotient(number, by).is_some()
+}
+
 /// The quotient, if it is whole, by a long division.
 #[inline(never)]
-pub fn wide_quotient(number: i128, den: u128) -> Option<i128>
+fn long_quotient(number: i128, den: u128) -> Option<i128>
     ensures { IfSome result (λ q. q *ℤ pos den ≡ number) }
 {
     let divisor = positive(den)?;
     let quotient = number.checked_div(divisor)?;
     let back = quotient.checked_mul(divisor)?;
     if back == number { Some(quotient) } else { None }
+}
+
+/// Divides each number of a list, if all quotients are whole. It gives the greatest size of one.
+pub fn divide_all(list: &mut [i128], by: WideDivisor) -> Option<u128>
+    ensures each { IfSome result (λ _. (k : ℕ) → whole_at list.new k *ℤ pos by.den ≡ whole_at list.old k) }
+    ensures own { IfSome result (λ own. (k : ℕ) → unsigned_abs (whole_at list.new k) ≤ own) }
+{
+    let mut own: u128 = 0;
+    for place in 0..list.len() {
+        let quotient = wide_quotient(list[place], by)?;
+        list[place] = quotient;
+        own = own.max(quotient.unsigned_abs());
+    }
+    Some(own)
 }

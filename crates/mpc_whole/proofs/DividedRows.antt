@@ -46,7 +46,7 @@ turned_times (negsuc n) g z h = ap (λ u. turned u z) (opposite (pos (suc n)) (p
 regrouped : (f g s m d : ℕ) → s * f ≡ m * d → (f * g) * s ≡ d * (m * g)
 regrouped f g s m d e = (let a : (f * g) * s ≡ (s * f) * g = omega arith in a) ∙ ap (λ u. u * g) e ∙ (let b : (m * d) * g ≡ d * (m * g) = omega arith in b)
 
-pub grouped : (n f g : ℤ) → n *ℤ (f *ℤ g) ≡ (n *ℤ f) *ℤ g
+grouped : (n f g : ℤ) → n *ℤ (f *ℤ g) ≡ (n *ℤ f) *ℤ g
 grouped n f g = by_ring_ℤ (n ∷ f ∷ g ∷ []) (search int_reads depth 30) (search int_reads depth 30) tt
 
 moved_in : (k r g : ℤ) → (k *ℤ r) *ℤ g ≡ k *ℤ (g *ℤ r)

@@ -8,15 +8,12 @@ pub mod ShortValues
 pub mod WholeSteps
 pub mod WholeTurns
 pub mod Nonbasic
-mod ColumnMultipliers
 pub mod ColumnSums
 pub mod WholeExchange
-mod RowParts
 pub mod WholeEnds
 pub mod WholeSizes
 pub mod WholeMoves
 pub mod DividedRows
-pub mod DividedLists
 pub mod Standing
 pub mod WholeRun
 pub mod ShortTurns

@@ -6,8 +6,6 @@ pub mod Norms
 pub mod Running
 pub mod Found
 pub mod Judged
-pub mod Divided
 pub mod Lists
 pub mod Held
-pub mod Changes
 pub mod PositionTheorems

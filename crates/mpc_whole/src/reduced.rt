@@ -1,15 +1,14 @@
 //! A pivot in whole numbers out of which a common divisor is taken.
 
-ghost use Rattle.std.specs.Prelude.{◌≡◌, ℕ, ℤ, List, pos, ◌+◌, ◌*◌, ◌<◌, ◌≤◌, ◌⊎◌, ◌+ℤ◌, ◌*ℤ◌, ◌^◌, neg_ℤ, unsigned_abs, None, IfSome, IsTrue, length};
+ghost use Rattle.std.specs.Prelude.{◌≡◌, ℕ, ℤ, List, pos, ◌+◌, ◌*◌, ◌<◌, ◌≤◌, ◌⊎◌, ◌+ℤ◌, ◌*ℤ◌, ◌^◌, neg_ℤ, unsigned_abs, IfSome, IsTrue, length};
 ghost use Rattle.mpc_whole.specs.Whole.{IsChanged};
-ghost use Rattle.mpc_whole.specs.Divided.{AreDivided};
 ghost use Rattle.mpc_scaled.specs.Scaled.{whole_at, whole_cell, IsSmall};
 ghost use Rattle.mpc_whole.specs.Judged.{IsTimes, IsReducedPivot};
 
 use mpc_frac::greatest_common_divisor;
 use mpc_quotients::{
-    Divisor, are_short, positive, product_of, small_quotient, wide_difference, wide_product,
-    wide_quotient, wide_turned, widened,
+    Divisor, WideDivisor, are_short, divide_all, goes_into, positive, product_of, small_quotient,
+    wide_difference, wide_quotient, wide_turned, widened,
 };
 
 /// The largest number of 64 bits.
@@ -148,6 +147,23 @@ fn shared_with(number: i128, by: u128) -> u128
     greatest_common_divisor(rest as u128, by)
 }
 
+/// What divides a number and all of a list.
+pub(crate) fn shared_with_all(list: &[i128], before: u128) -> u128
+    requires { 0 < before }
+    ensures { 0 < result }
+{
+    let mut by = WideDivisor::of(before);
+    for index in 0..list.len() {
+        if by.den == 1 {
+            return 1;
+        }
+        if !goes_into(by, list[index]) {
+            by = WideDivisor::of(shared_with(list[index], by.den));
+        }
+    }
+    by.den
+}
+
 /// The most that the numbers after a pivot can share with the denominator that they are over. This is a multiple of the
 /// rest of the one before, and so is the first number in the column that enters: by what it was before the pivot.
 fn most_shared(first: i128, over: u128, rest: u128) -> Option<u128>
@@ -171,23 +187,16 @@ pub(crate) fn whole_share(number: u128, divisor: u128) -> Option<u128>
     if back == number { Some(quotient) } else { None }
 }
 
-/// What numbers were divided by, and the greatest size of a quotient.
-#[derive(Clone, Copy, Drop)]
-pub(crate) struct Share {
-    pub divisor: u128,
-    pub own: u128,
-}
-
-/// Divides the numbers of a list from a place on, one after another, as far as the quotients are whole and short: the
-/// place of the first where that isn't so, and the greatest size of a quotient.
-fn divide_first(list: &mut [i128], from: usize, by: Divisor) -> (usize, u64)
-    requires by { by.den ≤ 2 ^ 62 }
-    requires from { from ≤ length list.old }
-    ensures from { from ≤ result.0 }
-    ensures divided { (old : List ℤ) (own : ℕ) → result.1 ≤ own → AreDivided old list.old from by.den own → AreDivided old list.new result.0 by.den own }
+/// Divides the numbers of a list one after another, as far as the quotients are whole and short: how many are, and the
+/// greatest size of one.
+fn divide_first(list: &mut [i128], by: Divisor) -> (usize, u64)
+    requires { by.den ≤ 2 ^ 62 }
+    ensures done { (k : ℕ) → k < result.0 → whole_at list.new k *ℤ pos by.den ≡ whole_at list.old k }
+    ensures kept { (k : ℕ) → result.0 ≤ k → whole_at list.new k ≡ whole_at list.old k }
+    ensures own { (k : ℕ) → k < result.0 → unsigned_abs (whole_at list.new k) ≤ result.1 }
 {
     let mut own: u64 = 0;
-    for index in from..list.len() {
+    for index in 0..list.len() {
         let Some(quotient) = small_quotient(list[index], by, 1 << 62) else {
             return (index, own);
         };
@@ -197,137 +206,36 @@ fn divide_first(list: &mut [i128], from: usize, by: Divisor) -> (usize, u64)
     (list.len(), own)
 }
 
-/// The same where a divisor has 62 bits. By a longer one none is divided.
-#[inline]
-fn divide_short(list: &mut [i128], from: usize, share: Share) -> (usize, u128)
-    requires { from ≤ length list.old }
-    ensures from { from ≤ result.0 }
-    ensures divided { (old : List ℤ) → AreDivided old list.old from share.divisor share.own → AreDivided old list.new result.0 share.divisor result.1 }
+/// Divides the numbers of a list from a place on, if all quotients are whole: the greatest size of one, or that of
+/// those before.
+fn divide_others(list: &mut [i128], by: WideDivisor, from: usize, before: u64) -> Option<u128>
+    ensures done { IfSome result (λ _. (k : ℕ) → from ≤ k → whole_at list.new k *ℤ pos by.den ≡ whole_at list.old k) }
+    ensures kept { IfSome result (λ _. (k : ℕ) → k < from → whole_at list.new k ≡ whole_at list.old k) }
+    ensures own { IfSome result (λ own. (k : ℕ) → from ≤ k → unsigned_abs (whole_at list.new k) ≤ own) }
+    ensures before { IfSome result (λ own. before ≤ own) }
 {
-    if share.divisor > 1 << 62 {
-        return (from, share.own);
-    }
-    let (place, own) = divide_first(list, from, Divisor::of(share.divisor as u64));
-    (place, share.own.max(own as u128))
-}
-
-/// Divides the number at a place, if the quotient is whole.
-fn divide_one(list: &mut [i128], place: usize, share: Share) -> Option<Share>
-    requires { place < length list.old }
-    ensures kept { result ≡ None → list.new ≡ list.old }
-    ensures same { IfSome result (λ s. s.divisor ≡ share.divisor) }
-    ensures divided { IfSome result (λ s. (old : List ℤ) → AreDivided old list.old place share.divisor share.own → AreDivided old list.new (place + 1) share.divisor s.own) }
-{
-    let quotient = wide_quotient(list[place], share.divisor)?;
-    list[place] = quotient;
-    let own = share.own.max(quotient.unsigned_abs());
-    Some(Share {
-        divisor: share.divisor,
-        own,
-    })
-}
-
-/// Multiplies the numbers of a list before a place, if the products fit.
-fn multiply_first(list: &mut [i128], place: usize, factor: i128) -> Option<()>
-    requires { place ≤ length list.old }
-    ensures products { IfSome result (λ _. (k : ℕ) → k < place → whole_at list.new k ≡ whole_at list.old k *ℤ factor) }
-    ensures kept { IfSome result (λ _. (k : ℕ) → place ≤ k → whole_at list.new k ≡ whole_at list.old k) }
-{
-    for index in 0..place {
-        let product = wide_product(list[index], factor)?;
-        list[index] = product;
-    }
-    Some(())
-}
-
-/// Goes on with what a divisor shares with the number at a place: the quotients before grow by as much as it shrinks.
-fn shrink(list: &mut [i128], place: usize, share: Share) -> Option<Share>
-    requires place { place < length list.old }
-    requires some { 0 < share.divisor }
-    ensures some { IfSome result (λ s. 0 < s.divisor) }
-    ensures divided { IfSome result (λ s. (old : List ℤ) → AreDivided old list.old place share.divisor share.own → AreDivided old list.new place s.divisor s.own) }
-{
-    let divisor = shared_with(list[place], share.divisor);
-    let times = whole_share(share.divisor, divisor)?;
-    let own = share.own.checked_mul(times)?;
-    let factor = positive(times)?;
-    multiply_first(list, place, factor)?;
-    Some(Share { divisor, own })
-}
-
-/// Divides the number at a place: by the divisor, or by what that shares with it. It is called where a quotient by the
-/// divisor isn't whole or isn't short, and so stays out of the loop over the others.
-#[inline(never)]
-fn divide_next(list: &mut [i128], place: usize, share: Share) -> Option<Share>
-    requires place { place < length list.old }
-    requires some { 0 < share.divisor }
-    ensures some { IfSome result (λ s. 0 < s.divisor) }
-    ensures divided { IfSome result (λ s. (old : List ℤ) → AreDivided old list.old place share.divisor share.own → AreDivided old list.new (place + 1) s.divisor s.own) }
-{
-    if let Some(next) = divide_one(list, place, share) {
-        return Some(next);
-    }
-    let less = shrink(list, place, share)?;
-    divide_one(list, place, less)
-}
-
-/// The greatest of a size and those of the numbers of a list from a place on.
-fn greatest_from(list: &[i128], from: usize, before: u128) -> u128
-    ensures before { before ≤ result }
-    ensures each { (k : ℕ) → from ≤ k → k < length list.now → unsigned_abs (whole_at list.now k) ≤ result }
-{
-    let mut own = before;
+    let mut own = before as u128;
     for index in from..list.len() {
-        own = own.max(list[index].unsigned_abs());
+        let quotient = wide_quotient(list[index], by)?;
+        list[index] = quotient;
+        own = own.max(quotient.unsigned_abs());
     }
-    own
+    Some(own)
 }
 
-/// What to begin with: the number itself or, where it is long, what it shares with the first number of the list that
-/// isn't 0, so that there are few long divisions.
-fn first_divisor(list: &[i128], most: u128) -> u128
-    requires { 0 < most }
-    ensures { 0 < result }
+/// Divides each number of a list, if all quotients are whole. It gives the greatest size of one.
+pub(crate) fn divide_numbers(list: &mut [i128], den: u128) -> Option<u128>
+    ensures each { IfSome result (λ _. (k : ℕ) → whole_at list.new k *ℤ pos den ≡ whole_at list.old k) }
+    ensures own { IfSome result (λ own. (k : ℕ) → unsigned_abs (whole_at list.new k) ≤ own) }
 {
-    if most <= 1 << 62 {
-        return most;
+    if den > 1 << 62 {
+        return divide_all(list, WideDivisor::of(den));
     }
-    for index in 0..list.len() {
-        if list[index] != 0 {
-            return shared_with(list[index], most);
-        }
+    let (from, own) = divide_first(list, Divisor::of(den as u64));
+    if from == list.len() {
+        return Some(own as u128);
     }
-    most
-}
-
-/// Divides the numbers of a list by what they share with a number. The divisor is found on the way: it is tried on one
-/// number after another, and where it doesn't go into one, a smaller one takes its place.
-pub(crate) fn divide_shared(list: &mut [i128], most: u128) -> Option<Share>
-    requires { 0 < most }
-    ensures some { IfSome result (λ s. 0 < s.divisor) }
-    ensures each { IfSome result (λ s. (k : ℕ) → whole_at list.new k *ℤ pos s.divisor ≡ whole_at list.old k) }
-    ensures own { IfSome result (λ s. (k : ℕ) → unsigned_abs (whole_at list.new k) ≤ s.own) }
-{
-    let divisor = first_divisor(list, most);
-    let mut share = Share { divisor, own: 0 };
-    let mut place = 0;
-    while place < list.len() {
-        if share.divisor == 1 {
-            let own = greatest_from(list, place, share.own);
-            return Some(Share { divisor: 1, own });
-        }
-        let (next, own) = divide_short(list, place, share);
-        let here = Share {
-            divisor: share.divisor,
-            own,
-        };
-        if next >= list.len() {
-            return Some(here);
-        }
-        share = divide_next(list, next, here)?;
-        place = next + 1;
-    }
-    Some(share)
+    divide_others(list, WideDivisor::of(den), from, own)
 }
 
 /// What a reduced pivot leaves: the denominator, and the greatest size of a number.
@@ -359,10 +267,8 @@ pub(crate) fn reduce(
     }
     let most = most_shared(numbers[pivot_column], over, rest)?;
     raise(numbers, divided_row, pivot_column, rest, own)?;
-    let share = divide_shared(numbers, most)?;
-    let size = whole_share(over, share.divisor)?;
-    Some(Reduced {
-        den: size,
-        own: share.own,
-    })
+    let divisor = shared_with_all(numbers, most);
+    let size = whole_share(over, divisor)?;
+    let own = divide_numbers(numbers, divisor)?;
+    Some(Reduced { den: size, own })
 }

@@ -17,7 +17,7 @@ ghost use Rattle.mpc_whole.specs.Running.{HasNumbers};
 
 use crate::frames::JudgedFrame;
 use crate::judged::WidePlace;
-use crate::reduced::{divide_shared, whole_share};
+use crate::reduced::{divide_numbers, shared_with_all, whole_share};
 use crate::whole_values::step_of;
 use mpc_quotients::{are_short, column_value, positive, product_with, wide_row_value};
 use mpc_runs::{Seat, is_basic};
@@ -170,9 +170,13 @@ fn divide_row(row: &mut [i128], den: u128) -> Option<(u128, u128)>
     ensures split { IfSome result (λ r. r.0 * r.1 ≡ den) }
     ensures cells { IfSome result (λ r. (c : ℕ) → whole_at row.new c *ℤ pos r.0 ≡ whole_at row.old c) }
 {
-    let share = divide_shared(row, den)?;
-    let rest = whole_share(den, share.divisor)?;
-    Some((share.divisor, rest))
+    let divisor = shared_with_all(row, den);
+    if divisor == 1 {
+        return Some((1, den));
+    }
+    let rest = whole_share(den, divisor)?;
+    divide_numbers(row, divisor)?;
+    Some((divisor, rest))
 }
 
 /// The row of a side, over what divides it and the denominator: the divisor, and what is left of the denominator. The

@@ -1,4 +1,4 @@
-use Rattle.std.proofs.Common.{◌≡◌, ◌∙◌, ◌+◌, ◌*◌, length, refl, arith, ap, pos, get_or, unsigned_abs, rules, FitsSigned}
+use Rattle.std.proofs.Common.{◌≡◌, ◌∙◌, ◌+◌, ◌*◌, length, refl, arith, ap, ◌*ℤ◌, pos, get_or, unsigned_abs, rules, FitsSigned}
 use Rattle.std.specs.Int.{w128}
 use Rattle.std.proofs.lemmas.Int.{to_z-of_z}
 use Rattle.mpc_scaled.specs.Scaled.{whole_at}
@@ -11,15 +11,15 @@ returns-clause-pivot c =
     let x = c.args.divided_row.now in
     let w = length x in
     let f : FitsSigned w128 (get_or x c.args.pivot_column (pos 0)) = search rules in
-    let g = c.in_ok-share.share.divisor in
+    let g = c.shared_with_all-divisor.result in
     let size = c.in_ok-size.size in
     let over : size * g ≡ unsigned_abs (whole_at x c.args.pivot_column) * c.args.den =
     c.in_ok-size.ensures ∙ c.in_ok-over.ensures.1 ∙ ap (λ m. m * c.args.den) (c.unsigned_abs.ensures.value ∙ ap unsigned_abs (to_z-of_z w128 _ f))
     in
     λ row d more split times.
-    pivot_divided w g c.args.den c.args.rest size c.args.numbers.now c.divide_shared.new.list x row c.args.pivot_column d (pos size) refl
-    c.in_ok-share.ensures.some more split times c.requires.column (ap pos over) refl
-    (λ j k h l. changed_divided w g c.args.rest c.args.numbers.now x j c.args.pivot_column k _ _ (c.in_ok-share.ensures.each (j * w + k)) (c.in_ok-raise.ensures j k h l))
+    pivot_divided w g c.args.den c.args.rest size c.args.numbers.now c.divide_numbers.new.list x row c.args.pivot_column d (pos size) refl
+    c.shared_with_all-divisor.ensures more split times c.requires.column (ap pos over) refl
+    (λ j k h l. changed_divided w g c.args.rest c.args.numbers.now x j c.args.pivot_column k _ _ (c.in_ok-own.ensures.each (j * w + k)) (c.in_ok-raise.ensures j k h l))
 
 -- the first number of the column
 pub offset_bounds-numbers-pivot_column : goal.offset_bounds-numbers-pivot_column
