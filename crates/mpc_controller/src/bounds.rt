@@ -48,17 +48,6 @@ fn is_within_reach(start: i128, slopes: &[i128], counts: &[u64]) -> bool
     far <= i128::MAX as u128
 }
 
-/// The vector of these numbers.
-fn vector_of(alloc: Global, row: &[Frac]) -> Result<Vector, NoMemory>
-    ensures { IfOk result (λ v. v ≡ row.now) }
-{
-    let mut vector = Vector::new(alloc);
-    for x in row {
-        vector.push(*x)?;
-    }
-    Ok(vector)
-}
-
 /// Whether an affine form, its constant first, fits over its least common denominator, with each of
 /// its values at counts up to these.
 pub fn form_fits(alloc: Global, form: &Vector, counts: &[u64]) -> Result<bool, NoMemory>
@@ -97,7 +86,7 @@ fn first_wide_input(
 {
     prove!(law.moves.cols() as usize == counts.len() + 1);
     for place in 0..inputs {
-        let form = vector_of(alloc, law.moves.row(place))?;
+        let form = Vector::from_slice(alloc, law.moves.row(place))?;
         if !form_fits(alloc, &form, counts)? {
             return Ok(Some(place + 1));
         }

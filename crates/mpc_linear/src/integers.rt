@@ -20,6 +20,22 @@ pub struct RowInt {
     pub b: i128,
 }
 
+impl RowInt {
+    /// The same row once more.
+    pub fn copy(&self, alloc: Global) -> Result<Self, NoMemory>
+        ensures { IfOk result (λ row. row ≡ self.now) }
+    {
+        let mut coefficients = Ints::with_capacity(alloc, self.a.len())?;
+        for number in self.a.as_slice() {
+            coefficients.push(*number)?;
+        }
+        Ok(RowInt {
+            a: coefficients,
+            b: self.b,
+        })
+    }
+}
+
 /// The affine form `(k_0 + k_1 t_1 + .. + k_n t_n) / den`.
 #[derive(Debug, Drop)]
 pub struct IntAffine {
@@ -185,8 +201,8 @@ fn divided_row(alloc: Global, row: &Ints, by: u128) -> Result<Ints, NoMemory>
     Ok(quotients)
 }
 
-/// The row without a common divisor.
-fn without_divisor(alloc: Global, row: RowInt) -> Result<RowInt, NoMemory>
+/// The row without a common divisor; a row of zeros stays so.
+pub fn without_divisor(alloc: Global, row: RowInt) -> Result<RowInt, NoMemory>
     requires small { AreSmall row.a }
     requires b_small { unsigned_abs row.b < 2 ^ 127 }
     ensures scaled { IfOk result (λ r. (coefficients : List ℚ) (bound : ℚ) → IsScaledRow coefficients bound row.a row.b → IsScaledRow coefficients bound r.a r.b) }

@@ -12,7 +12,7 @@ mod theorems;
 
 pub use elimination::{Solved, solve};
 pub use errors::LinearError;
-pub use integers::{IntAffine, RowInt, common, primitive, shared_divisor};
+pub use integers::{IntAffine, RowInt, common, primitive, shared_divisor, without_divisor};
 pub use lists::{Ints, Vector};
 pub use matrices::Matrix;
 pub use products::{add_product, dot, dot_from, sub_product};

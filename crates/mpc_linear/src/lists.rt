@@ -53,6 +53,17 @@ impl Vector {
         }
     }
 
+    /// The vector of the entries of a slice.
+    pub fn from_slice(alloc: Global, entries: &[Frac]) -> Result<Self, NoMemory>
+        ensures { IfOk result (λ v. v ≡ entries.now) }
+    {
+        let mut copy = Vector::with_capacity(alloc, entries.len())?;
+        for entry in entries {
+            copy.push(*entry)?;
+        }
+        Ok(copy)
+    }
+
     /// How many entries there are.
     pub fn len(&self) -> usize
         ensures { result ≡ length self.now }

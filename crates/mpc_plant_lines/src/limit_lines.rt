@@ -9,12 +9,12 @@ ghost use Rattle.mpc_grammar.specs.Versions.{greatest_rows as most_rows};
 ghost use Rattle.mpc_grammar.specs.PlantGrammar.{plain_rule, so_many, IsRow, IsAxis, row_list, last_list, limits, IsNumber};
 ghost use Rattle.mpc_plant_lines.specs.LimitNumbers.{StatesRow, StatesAxis, IsStepCount};
 
-use crate::plant_lines::vector_of;
 use mpc_frac::{Frac, NoMemory};
 use mpc_grammar::{
     FileError, FileKind, Limits, Lines, Sizes, Version, fractions_of, number_of, one_fractions,
     one_number, stated,
 };
+use mpc_linear::Vector;
 use mpc_plant::{Coordinate, Coordinates, PlantRow, PlantRows};
 use mpc_words::Natural;
 use std::alloc::Global;
@@ -88,8 +88,8 @@ fn row_of(
     if numbers.len() != end + 1 {
         return Ok(None);
     }
-    let on_state = vector_of(alloc, &numbers[..states as usize])?;
-    let on_input = vector_of(alloc, &numbers[states as usize..end])?;
+    let on_state = Vector::from_slice(alloc, &numbers[..states as usize])?;
+    let on_input = Vector::from_slice(alloc, &numbers[states as usize..end])?;
     Ok(Some(PlantRow {
         x: on_state,
         u: on_input,

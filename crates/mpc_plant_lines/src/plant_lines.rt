@@ -272,17 +272,6 @@ fn read_drift(alloc: Global, lines: &mut Lines, states: u32) -> Result<Vector, F
     stated(numbers_in(alloc, line, b"drift", states as usize), number)
 }
 
-/// The vector of these entries.
-pub(crate) fn vector_of(alloc: Global, entries: &[Frac]) -> Result<Vector, NoMemory>
-    ensures { IfOk result (λ xs. xs ≡ entries.now) }
-{
-    let mut copy = Vector::with_capacity(alloc, entries.len())?;
-    for entry in entries {
-        copy.push(*entry)?;
-    }
-    Ok(copy)
-}
-
 /// Whether each entry is 0.
 fn are_zero(entries: &Vector) -> bool
     ensures { IsTrue result ↔ AreZero entries.now }
@@ -352,8 +341,8 @@ fn offsets_of(
     ensures { IfOk result (λ o. o ≡ offsets_with sizes.now drift goal.now) }
 {
     let states = sizes.states as usize;
-    let xgoal = vector_of(alloc, &goal.as_slice()[..states])?;
-    let ugoal = vector_of(alloc, &goal.as_slice()[states..])?;
+    let xgoal = Vector::from_slice(alloc, &goal.as_slice()[..states])?;
+    let ugoal = Vector::from_slice(alloc, &goal.as_slice()[states..])?;
     Ok(Offsets {
         drift,
         xgoal,

@@ -15,23 +15,12 @@ pub struct Row {
     pub strict: bool,
 }
 
-/// The same vector once more.
-fn copied(alloc: Global, vector: &Vector) -> Result<Vector, NoMemory>
-    ensures { IfOk result (λ v. v ≡ vector.now) }
-{
-    let mut copy = Vector::new(alloc);
-    for x in vector.as_slice() {
-        copy.push(*x)?;
-    }
-    Ok(copy)
-}
-
 impl Row {
     /// The same row once more.
     pub fn copy(&self, alloc: Global) -> Result<Row, NoMemory>
         ensures { IfOk result (λ row. row ≡ self.now) }
     {
-        let a = copied(alloc, &self.a)?;
+        let a = Vector::from_slice(alloc, self.a.as_slice())?;
         Ok(Row {
             a,
             b: self.b,

@@ -28,17 +28,6 @@ pub struct LawForms {
     pub laws: Vec<FormPlaces>,
 }
 
-/// The vector of these numbers.
-fn vector_of(alloc: Global, row: &[Frac]) -> Result<Vector, NoMemory>
-    ensures { IfOk result (λ v. v ≡ row.now) }
-{
-    let mut vector = Vector::new(alloc);
-    for x in row {
-        vector.push(*x)?;
-    }
-    Ok(vector)
-}
-
 /// The affine form with these coefficients, the constant first, over its least common denominator.
 pub fn whole_form(alloc: Global, row: &[Frac], counts: &[u64]) -> Result<IntAffine, NoMemory>
     requires size { length row.now ≡ length counts.now + 1 }
@@ -46,7 +35,7 @@ pub fn whole_form(alloc: Global, row: &[Frac], counts: &[u64]) -> Result<IntAffi
     ensures value { IfOk result (IsFormOf row.now) }
     ensures bounded { IfOk result (IsBounded counts.now) }
 {
-    let coefficients = vector_of(alloc, row)?;
+    let coefficients = Vector::from_slice(alloc, row)?;
     match common(alloc, &coefficients) {
         Ok(form) => Ok(form),
         Err(LinearError::Wide(_)) => unreachable!(),

@@ -6,22 +6,8 @@ ghost use Rattle.mpc_table.specs.SharedSteps.{row_line};
 
 use crate::places::{Places, line_of};
 use mpc_frac::NoMemory;
-use mpc_linear::{Ints, RowInt};
+use mpc_linear::RowInt;
 use std::alloc::Global;
-
-/// A copy of the row.
-fn copy_of(alloc: Global, row: &RowInt) -> Result<RowInt, NoMemory>
-    ensures { IfOk result (λ r. r ≡ row.now) }
-{
-    let mut coefficients = Ints::new(alloc);
-    for number in row.a.as_slice() {
-        coefficients.push(*number)?;
-    }
-    Ok(RowInt {
-        a: coefficients,
-        b: row.b,
-    })
-}
 
 /// The place of the row among the rows, behind which it is put where it is new. Without memory the rows stay
 /// as they were, and the places are given up: they may hold the line of a row that isn't there.
@@ -40,7 +26,7 @@ pub fn keep_row(
     if place < rows.len() {
         return Ok(place);
     }
-    let copy = copy_of(alloc, row)?;
+    let copy = row.copy(alloc)?;
     rows.push(copy)?;
     Ok(place)
 }

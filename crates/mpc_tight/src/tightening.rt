@@ -11,7 +11,7 @@ ghost use Rattle.mpc_tight.specs.Tightening.{tightening, AddedFits, TighteningFi
 ghost use Rattle.mpc_tight.specs.Tightened.{RowsTightened};
 
 use crate::errors::{StepError, TightError};
-use crate::vectors::{copy_of, most_added, times};
+use crate::vectors::{most_added, times};
 use mpc_frac::{Frac, Wide};
 use mpc_linear::{Matrix, Vector};
 use mpc_plant::{Plant, PlantRow};
@@ -48,7 +48,7 @@ fn tightening_of(
     if step == 0 {
         return Ok(sum);
     }
-    let mut carried = copy_of(alloc, row)?;
+    let mut carried = Vector::from_slice(alloc, row.as_slice())?;
     for earlier in 0..step - 1 {
         sum = add_effect(&sum, &carried, noise)?;
         carried = times(alloc, &carried, &plant.a)?;

@@ -14,17 +14,6 @@ use mpc_frac::{Frac, NoMemory, Wide};
 use mpc_linear::{Matrix, Vector, add_product, sum_theorems};
 use std::alloc::Global;
 
-/// The same row once more.
-pub(crate) fn copy_of(alloc: Global, row: &Vector) -> Result<Vector, NoMemory>
-    ensures { IfOk result (λ v. v ≡ row.now) }
-{
-    let mut copy = Vector::new(alloc);
-    for x in row.as_slice() {
-        copy.push(*x)?;
-    }
-    Ok(copy)
-}
-
 /// The dot of a row with a column of a matrix.
 fn dot_with_column(row: &Vector, matrix: &Matrix, at_column: u32) -> Result<Frac, Wide>
     requires size { length row.now ≡ height matrix.now }

@@ -6,7 +6,7 @@ use Rattle.mpc_tight.proofs.Products.{row_length, carried_more, sum_more, added_
 use Rattle.mpc_tight.proofs.tightening.tightening_of.Goals as goal
 
 pub loop-earlier-init : goal.loop-earlier-init
-loop-earlier-init c = record { carried_is = c.in_ok-carried.ensures; sum_is = c.whole-sum.ensures; carries = λ j l. absurd (omega arith); sums = λ j l. absurd (omega arith) }
+loop-earlier-init c = record { carried_is = c.in_ok-carried.ensures ∙ c.as_slice.ensures; sum_is = c.whole-sum.ensures; carries = λ j l. absurd (omega arith); sums = λ j l. absurd (omega arith) }
 
 pub add_effect-requires : goal.add_effect-requires
 add_effect-requires c =

@@ -1,5 +1,5 @@
 use Rattle.std.proofs.Common.{◌≡◌, take}
-use Rattle.mpc_plant_lines.proofs.plant_lines.vector_of.Given as goal
+use Rattle.mpc_linear.proofs.lists.Vector.from_slice.Given as goal
 
 abbrev pub invariant-loop-entry : goal.invariant-loop-entry
 invariant-loop-entry l = l.copy ≡ take l.entry-index l.entries
