@@ -17,7 +17,8 @@ use Rattle.mpc_rows.specs.SetRuns.{law_matrix, law_right, LawFits}
 use Rattle.mpc_bordered.specs.declared.kept.Kept.{Kept}
 use Rattle.mpc_bordered.specs.Parts.{ArePlaces, IsPart, ForPart, IfSolved}
 use Rattle.mpc_region.specs.LawEnd.{IsLawOfSet}
-use Rattle.mpc_region.specs.Shared.{shared_table, AreMemberPlaces, AreSidePlaces, IsKeptTable}
+use Rattle.mpc_systems.specs.Equations.{AreMemberPlaces}
+use Rattle.mpc_region.specs.Shared.{shared_table, AreSidePlaces, IsKeptTable}
 use Rattle.mpc_region.proofs.LawEnds.{found, dependent}
 use Rattle.mpc_region.proofs.SharedParts.{are_places, is_part}
 

@@ -10,7 +10,8 @@ use Rattle.mpc_rows.specs.SetRuns.{law_matrix, law_right}
 use Rattle.mpc_bordered.specs.Parts.{place, part, ArePlaces, IsPart}
 use Rattle.mpc_sweep.specs.Sweeps.{pivot_at}
 use Rattle.mpc_sweep.specs.Theorems.{IsPartOf}
-use Rattle.mpc_region.specs.Shared.{shared_entry, shared_table, AreMemberPlaces, AreSidePlaces}
+use Rattle.mpc_systems.specs.Equations.{AreMemberPlaces}
+use Rattle.mpc_region.specs.Shared.{shared_entry, shared_table, AreSidePlaces}
 use Rattle.mpc_region.specs.Sweeps.{sweeps_of, rights, all_columns}
 use Rattle.mpc_region.proofs.Members.{member}
 use Rattle.mpc_region.proofs.SharedEntries.{below, above, shared_height, shared_columns, shared_at}

@@ -27,11 +27,6 @@ shared_entry qp i j = cond (nat_lt i (height qp.h)) (upper_entry qp i j) (lower_
 unfoldable pub shared_table : Qp → RationalMatrix
 shared_table qp = tabled (height qp.h + height qp.g) (height qp.h + height qp.g + (length qp.counts + 1)) (shared_entry qp)
 
--- where the members of a set stand among the rows and the columns of the table
-pub record AreMemberPlaces (n : ℕ) (s places : List ℕ) : Type 0 where
-  pub size : length places ≡ length s
-  pub at : (k : ℕ) → k < length s → get_or places k 0 ≡ n + (get_or s k 0 - 1)
-
 -- so many columns of the table, from this one on
 pub record AreSidePlaces (first count : ℕ) (places : List ℕ) : Type 0 where
   pub size : length places ≡ count

@@ -7,17 +7,18 @@ ghost use Rattle.mpc_sets.specs.RowSet.{IsSetOfRows};
 ghost use Rattle.mpc_linear.specs.Solution.{IsOnlySolution};
 ghost use Rattle.mpc_rows.specs.Laws.{IsLaw};
 ghost use Rattle.mpc_rows.specs.SetRuns.{law_matrix, law_right};
+ghost use Rattle.mpc_systems.specs.Equations.{AreMemberPlaces};
 ghost use Rattle.mpc_region.specs.LawEnd.{IsLawEnd};
-ghost use Rattle.mpc_region.specs.Shared.{AreMemberPlaces, AreSidePlaces, IsKeptTable, IsSharedBySets};
+ghost use Rattle.mpc_region.specs.Shared.{AreSidePlaces, IsKeptTable, IsSharedBySets};
 
 use crate::matrices::{law_right, part};
-use crate::shared::{Shared, form, member_places, side_places};
+use crate::shared::{Shared, form, side_places};
 use mpc_bordered::{Kept, solve_part};
 use mpc_frac::NoMemory;
 use mpc_linear::{LinearError, Matrix, Solved, solve};
 use mpc_rows::{Law, Qp, law_theorems};
 use mpc_sets::ActiveSet;
-use mpc_systems::law_matrix;
+use mpc_systems::{law_matrix, member_places};
 use std::alloc::Global;
 
 /// What is found of the law of an active set.

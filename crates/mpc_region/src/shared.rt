@@ -2,7 +2,7 @@
 
 ghost use Rattle.std.specs.Prelude.{◌≡◌, ◌+◌, ◌<◌, ◌≤◌, ◌^◌, IfOk, length};
 ghost use Rattle.mpc_space.specs.Matrix.{height};
-ghost use Rattle.mpc_region.specs.Shared.{upper_entry, lower_entry, shared_entry, shared_table, AreMemberPlaces, AreSidePlaces, IsSharedBySets};
+ghost use Rattle.mpc_region.specs.Shared.{upper_entry, lower_entry, shared_entry, shared_table, AreSidePlaces, IsSharedBySets};
 
 use mpc_bordered::{Kept, keep};
 use mpc_frac::{Frac, NoMemory};
@@ -93,18 +93,6 @@ pub fn form(alloc: Global, qp: &Qp, shared: &mut Shared) -> Result<(), NoMemory>
     shared.table = table;
     shared.is_formed = true;
     Ok(())
-}
-
-/// Where the members stand among the rows and the columns of the table, for so many unknowns.
-pub fn member_places(alloc: Global, unknowns: u32, set: ActiveSet) -> Result<Vec<u32>, AllocError>
-    requires { unknowns ≤ 6 }
-    ensures { IfOk result (λ places. AreMemberPlaces unknowns set places.items) }
-{
-    let mut places = Vec::with_capacity(alloc, set.size() as usize)?;
-    for index in 0..set.size() {
-        places.push(unknowns + (set.member(index + 1) - 1))?;
-    }
-    Ok(places)
 }
 
 /// So many columns of the table, from this one on.

@@ -1,18 +1,18 @@
-//! The equations of an active set as matrices, and matrices that are made entry by entry.
+//! The equations of an active set as matrices or as places in a table of all rows, and matrices that are made entry by entry.
 
-ghost use Rattle.std.specs.Prelude.{◌≡◌, ℕ, ◌+◌, ◌<◌, length, IfOk};
+ghost use Rattle.std.specs.Prelude.{◌≡◌, ℕ, ◌+◌, ◌<◌, ◌≤◌, length, IfOk};
 ghost use Rattle.mpc_space.specs.Vector.{cell};
 ghost use Rattle.mpc_space.specs.Matrix.{height};
 ghost use Rattle.mpc_sets.specs.RowSet.{IsSetOfRows};
 ghost use Rattle.mpc_rows.specs.ActiveSets.{rows_of};
 ghost use Rattle.mpc_rows.specs.SetRuns.{law_entry, law_matrix};
-ghost use Rattle.mpc_systems.specs.Equations.{IsTabledBy};
+ghost use Rattle.mpc_systems.specs.Equations.{IsTabledBy, AreMemberPlaces};
 
 use mpc_frac::{Frac, NoMemory};
 use mpc_linear::Matrix;
 use mpc_rows::{Qp, law_theorems};
 use mpc_sets::ActiveSet;
-use std::alloc::Global;
+use std::alloc::{AllocError, Global};
 
 /// The matrix of so many rows and columns with the entries that the function gives.
 #[inline]
@@ -73,4 +73,16 @@ pub fn law_matrix(alloc: Global, qp: &Qp, set: ActiveSet) -> Result<Matrix, NoMe
     let size = qp.h.rows() + set.size();
     let entry = |row, column| law_entry(qp, set, row, column);
     matrix_of(alloc, size, size, &entry)
+}
+
+/// Where the members stand among the rows and the columns of a table whose first ones are those of the unknowns.
+pub fn member_places(alloc: Global, unknowns: u32, set: ActiveSet) -> Result<Vec<u32>, AllocError>
+    requires { unknowns ≤ 6 }
+    ensures { IfOk result (λ places. AreMemberPlaces unknowns set places.items) }
+{
+    let mut places = Vec::with_capacity(alloc, set.size() as usize)?;
+    for index in 0..set.size() {
+        places.push(unknowns + (set.member(index + 1) - 1))?;
+    }
+    Ok(places)
 }

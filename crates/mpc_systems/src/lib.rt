@@ -9,7 +9,7 @@ mod single_rows;
 mod systems;
 mod theorems;
 
-pub use equations::{law_matrix, matrix_of, member_entry};
+pub use equations::{law_matrix, matrix_of, member_entry, member_places};
 pub use numbers::whole;
 pub use pushing::{joint_rows, push_box, push_cell, push_joint_rows, push_members, push_rows};
 pub use single_rows::{
