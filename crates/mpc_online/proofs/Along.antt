@@ -14,13 +14,26 @@ use Rattle.mpc_space.proofs.Quadratic.{quadratic-add, quadratic-scale}
 use Rattle.mpc_sets.specs.RowSet.{Among}
 use Rattle.mpc_rows.specs.declared.programs.Qp.{Qp}
 use Rattle.mpc_rows.specs.ActiveSets.{extended, row_of, rows_of}
-use Rattle.mpc_online.specs.StateRows.{sides_at, level, side}
+use Rattle.mpc_online.specs.StateRows.{sides_at, level, side, IsViolated}
 use Rattle.mpc_online.specs.Positions.{Position, along}
 use Rattle.mpc_online.specs.Turns.{IsFalling, quotient_at}
-use Rattle.mpc_online.specs.Standing.{IsBalanced, IsPosition, IsOnWay}
+use Rattle.mpc_online.specs.Standing.{IsPosition}
 use Rattle.mpc_online.proofs.Combinations.{dot_along, combination_stays}
 use Rattle.mpc_online.proofs.Solved.{IsDirection}
 use Rattle.mpc_online.proofs.StepNumbers.{stays_nonneg, slope_of_square, slope_below, balanced_along, cost_slope, value_rises, moved_excess}
+
+-- h z + f c + g_S'l + u g_r is 0, against every vector
+abbrev pub IsBalanced : Qp → List ℚ → List ℚ → List ℕ → List ℚ → ℕ → ℚ → Type 0
+IsBalanced qp t z s l r u = (y : List ℚ) → dot y (mat_vec qp.h.rows z) +ℚ dot y (mat_vec qp.f.rows (extended t)) +ℚ (dot y (vec_mat l (rows_of qp.g.rows s)) +ℚ u *ℚ dot y (row_of qp.g.rows r)) ≡ int (pos 0)
+
+-- The members hold with equality, no multiplier is negative, and the row on its way isn't met.
+pub record IsOnWay (qp : Qp) (t : List ℚ) (p : Position) : Type 0 where
+  pub is_position : IsPosition qp p
+  pub nonnegative : AllNonneg p.multipliers
+  pub some_weight : IsNonneg p.weight
+  pub violated : IsViolated qp (sides_at qp t) p.point p.row
+  pub tight : (i : ℕ) → Among i p.set → level qp p.point i ≡ side (sides_at qp t) i
+  pub balanced : IsBalanced qp t p.point p.set p.multipliers p.row p.weight
 
 -- the cost of the position's point, and the value of the problem with the members' rows alone and the row on its way weighed
 abbrev pub cost_of : Qp → List ℚ → List ℚ → ℚ

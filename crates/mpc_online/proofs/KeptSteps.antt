@@ -17,7 +17,8 @@ use Rattle.mpc_bordered.specs.declared.kept.Kept.{Kept}
 use Rattle.mpc_bordered.specs.Parts.{ArePlaces, IsPart, ForPart, IfSolved}
 use Rattle.mpc_online.specs.Positions.{right_matrix, step_side}
 use Rattle.mpc_online.specs.Widths.{EliminationFits}
-use Rattle.mpc_online.specs.Shared.{shared_table, AreMemberPlaces, IsKeptOf}
+use Rattle.mpc_systems.specs.Equations.{AreMemberPlaces}
+use Rattle.mpc_online.specs.Shared.{shared_table, IsKeptOf}
 use Rattle.mpc_online.proofs.Endings.{fits-not_wide}
 use Rattle.mpc_online.proofs.Solved.{dependent_rows}
 use Rattle.mpc_online.proofs.SharedParts.{are_places, is_part}

@@ -21,7 +21,7 @@ use Rattle.mpc_rows.specs.ActiveSets.{row_of, rows_of}
 use Rattle.mpc_online.specs.StateRows.{sides_at, side, state_row, state_system}
 use Rattle.mpc_online.specs.Positions.{Position, member_multiplier, row_multiplier, row_multipliers}
 use Rattle.mpc_online.specs.Turns.{NoneFalls}
-use Rattle.mpc_online.specs.Standing.{IsOnWay}
+use Rattle.mpc_online.proofs.Along.{IsOnWay}
 use Rattle.mpc_online.proofs.Combinations.{dot_combination}
 use Rattle.mpc_online.proofs.SetLists.{among_within}
 use Rattle.mpc_online.proofs.Solved.{IsDirection}

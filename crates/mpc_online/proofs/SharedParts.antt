@@ -11,7 +11,8 @@ use Rattle.mpc_rows.specs.SetRuns.{law_entry, law_matrix}
 use Rattle.mpc_rows.specs.LawTheorems.{LawTheorems}
 use Rattle.mpc_bordered.specs.Parts.{place, part, ArePlaces, IsPart}
 use Rattle.mpc_online.specs.Positions.{right_matrix, step_side}
-use Rattle.mpc_online.specs.Shared.{shared_entry, shared_table, AreMemberPlaces}
+use Rattle.mpc_systems.specs.Equations.{AreMemberPlaces}
+use Rattle.mpc_online.specs.Shared.{shared_entry, shared_table}
 use Rattle.mpc_online.proofs.Members.{member_within, member_cell}
 
 place_first : (u : ℕ) (rows : List ℕ) (c : ℕ) → c < u → place u rows c ≡ c

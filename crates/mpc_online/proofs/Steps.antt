@@ -19,12 +19,12 @@ use Rattle.mpc_rows.specs.ActiveSets.{extended, row_of, rows_of}
 use Rattle.mpc_online.specs.StateRows.{sides_at, level, side, IsFirstOutside}
 use Rattle.mpc_online.specs.Positions.{Position, along, without_place, joined, towards, place_of}
 use Rattle.mpc_online.specs.Turns.{IsFalling, quotient_at, IsDrop, IsJoin}
-use Rattle.mpc_online.specs.Standing.{IsOnWay, IsCorner}
+use Rattle.mpc_online.specs.Standing.{IsCorner}
 use Rattle.mpc_online.proofs.Combinations.{dot_combination, dot-remove, dot-inserted, remove_independent, insert_independent, joined_independent, combination_stays, nonneg-remove, nonneg-insert}
 use Rattle.mpc_online.proofs.SetLists.{without-remove, rises-remove, among-remove, map-remove, map-insert, place_within, with-insert, rises-with, among-insert}
 use Rattle.mpc_online.proofs.Solved.{IsDirection}
 use Rattle.mpc_online.proofs.StepNumbers.{quotient_nonneg, falls_to_zero, slack_before, full_arrives, full_positive, above_of_excess, grown, grown_strictly}
-use Rattle.mpc_online.proofs.Along.{excess_of, cost_of, ValueIs, slope_negative, slope_zero, length-point, length-multipliers, entry-multipliers, nonneg_along, tight_along, balance_along, excess_along, value_along}
+use Rattle.mpc_online.proofs.Along.{IsOnWay, excess_of, cost_of, ValueIs, slope_negative, slope_zero, length-point, length-multipliers, entry-multipliers, nonneg_along, tight_along, balance_along, excess_along, value_along}
 
 -- the row on its way is no member
 pub no_member : (qp : Qp) (t : List ℚ) (p : Position) → IsOnWay qp t p → Among p.row p.set → ⊥

@@ -18,14 +18,14 @@ use Rattle.mpc_online.specs.StateRows.{sides_at, IsFirstViolated, IsFirstOutside
 use Rattle.mpc_online.specs.Positions.{Position, goes_to, ends, upper_part, lower_part, along, without_place, joined, towards, opened, continued, row_multipliers}
 use Rattle.mpc_online.specs.Turns.{IsTurn, IsDrop, IsJoin}
 use Rattle.mpc_online.specs.OnlineRun.{IsStep, IsOpening, LeadsTo}
-use Rattle.mpc_online.specs.Standing.{IsOnWay, IsCorner, IsAnswer}
+use Rattle.mpc_online.specs.Standing.{IsCorner, IsAnswer}
 use Rattle.mpc_online.specs.declared.turns.Turn.{Turn}
 use Rattle.mpc_online.specs.declared.turns.Turn.TheVariants.{Refuted as RefutedTurn, Drops, Joins}
 use Rattle.mpc_online.specs.declared.Online.{Online}
 use Rattle.mpc_online.specs.declared.Online.TheVariants.{Best, Refuted}
 use Rattle.mpc_online.proofs.SetLists.{rises_higher}
 use Rattle.mpc_online.proofs.Solved.{IsDirection, direction}
-use Rattle.mpc_online.proofs.Along.{ValueIs, cost_of, excess_of}
+use Rattle.mpc_online.proofs.Along.{IsOnWay, ValueIs, cost_of, excess_of}
 use Rattle.mpc_online.proofs.Steps.{drop_on_way, drop_value, drop_size, join_corner, join_value, join_size, towards_on_way, towards_value}
 use Rattle.mpc_online.proofs.RefutedRows.{refutes, length-row_multipliers}
 use Rattle.mpc_online.proofs.Corners.{first_corner, same_corner}

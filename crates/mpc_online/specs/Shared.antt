@@ -1,5 +1,5 @@
 -- What the equations of all active sets of a program have in common.
-use Rattle.std.specs.Prelude.{◌≡◌, ℕ, ◌+◌, ◌-◌, ◌<◌, nat_lt, cond, List, length, get_or, slice_get, pos, All, Option, Some, IfSome, MatchOption}
+use Rattle.std.specs.Prelude.{◌≡◌, ℕ, ◌+◌, ◌-◌, nat_lt, cond, List, slice_get, pos, All, Option, Some, IfSome, MatchOption}
 use Rattle.mpc_exact.specs.Rational.{ℚ, int, neg_ℚ}
 use Rattle.mpc_space.specs.Matrix.{RationalMatrix, height, tabled, entry}
 use Rattle.mpc_linear.specs.Dot.{DotFits}
@@ -31,11 +31,6 @@ shared_entry qp i j = cond (nat_lt i (height qp.h)) (upper_entry qp i j) (cond (
 
 unfoldable pub shared_table : Qp → RationalMatrix
 shared_table qp = tabled (height qp.h + height qp.g) (height qp.h + height qp.g + height qp.g) (shared_entry qp)
-
--- where the members of a set stand among the rows and the columns of the table
-pub record AreMemberPlaces (n : ℕ) (s places : List ℕ) : Type 0 where
-  pub size : length places ≡ length s
-  pub at : (k : ℕ) → k < length s → get_or places k 0 ≡ n + (get_or s k 0 - 1)
 
 -- what is kept is kept of that table, with the columns of h eliminated
 pub record IsKeptOf (qp : Qp) (k : Kept) : Type 0 where

@@ -1,20 +1,16 @@
 -- What holds at every position of the method.
 use Rattle.std.specs.Prelude.{◌≡◌, ℕ, ◌≤◌, List, length, pos, None}
-use Rattle.mpc_exact.specs.Rational.{ℚ, int, ◌+ℚ◌, ◌*ℚ◌, IsNonneg}
+use Rattle.mpc_exact.specs.Rational.{ℚ, int, ◌+ℚ◌}
 use Rattle.mpc_space.specs.Vector.{coordinate, dot, mat_vec, vec_mat, AllNonneg}
 use Rattle.mpc_space.specs.Matrix.{height}
 use Rattle.mpc_sets.specs.RowSet.{IsSetOfRows, Among}
 use Rattle.mpc_rows.specs.declared.programs.Qp.{Qp}
-use Rattle.mpc_rows.specs.ActiveSets.{extended, row_of, rows_of, IsIndependentSet}
+use Rattle.mpc_rows.specs.ActiveSets.{extended, rows_of, IsIndependentSet}
 use Rattle.mpc_rows.specs.NumberedSystems.{RefutesBy}
 use Rattle.mpc_online.specs.declared.Online.{Online}
 use Rattle.mpc_online.specs.declared.Online.TheVariants.{Best, Refuted}
-use Rattle.mpc_online.specs.StateRows.{sides_at, level, side, state_system, IsViolated, IsFirstViolated}
+use Rattle.mpc_online.specs.StateRows.{sides_at, level, side, state_system, IsFirstViolated}
 use Rattle.mpc_online.specs.Positions.{Position}
-
--- h z + f c + g_S'l + u g_r is 0, against every vector
-abbrev pub IsBalanced : Qp → List ℚ → List ℚ → List ℕ → List ℚ → ℕ → ℚ → Type 0
-IsBalanced qp t z s l r u = (y : List ℚ) → dot y (mat_vec qp.h.rows z) +ℚ dot y (mat_vec qp.f.rows (extended t)) +ℚ (dot y (vec_mat l (rows_of qp.g.rows s)) +ℚ u *ℚ dot y (row_of qp.g.rows r)) ≡ int (pos 0)
 
 -- a set of independent rows with a multiplier for each member, and another row
 pub record IsPosition (qp : Qp) (p : Position) : Type 0 where
@@ -24,15 +20,6 @@ pub record IsPosition (qp : Qp) (p : Position) : Type 0 where
   pub one_each : length p.multipliers ≡ length p.set
   pub from_one : 1 ≤ p.row
   pub to_last : p.row ≤ height qp.g
-
--- The members hold with equality, no multiplier is negative, and the row on its way isn't met.
-pub record IsOnWay (qp : Qp) (t : List ℚ) (p : Position) : Type 0 where
-  pub is_position : IsPosition qp p
-  pub nonnegative : AllNonneg p.multipliers
-  pub some_weight : IsNonneg p.weight
-  pub violated : IsViolated qp (sides_at qp t) p.point p.row
-  pub tight : (i : ℕ) → Among i p.set → level qp p.point i ≡ side (sides_at qp t) i
-  pub balanced : IsBalanced qp t p.point p.set p.multipliers p.row p.weight
 
 -- The members hold with equality and balance the cost with multipliers that aren't negative (Karush 1939, Kuhn and Tucker 1951): the point
 -- is the cheapest of those that meet the members' rows.

@@ -8,11 +8,12 @@ ghost use Rattle.mpc_linear.specs.Solution.{IsOnlySolution};
 ghost use Rattle.mpc_rows.specs.ActiveSets.{IsIndependentSet};
 ghost use Rattle.mpc_rows.specs.SetRuns.{law_matrix};
 ghost use Rattle.mpc_rows.specs.declared.programs.Qp.{Qp};
+ghost use Rattle.mpc_systems.specs.Equations.{AreMemberPlaces};
 ghost use Rattle.mpc_online.specs.Positions.{right_matrix, step_side};
 ghost use Rattle.mpc_online.specs.Widths.{EliminationFits};
 ghost use Rattle.mpc_online.specs.Answers.{IfStopWide};
 ghost use Rattle.mpc_online.specs.declared.solutions.Stop.TheVariants.{NoMemory as no_memory};
-ghost use Rattle.mpc_online.specs.Shared.{AreMemberPlaces, IsKeptOf, IsSlopeOf, IsKeptDirection, IsKeptAt, IsPreparedFor};
+ghost use Rattle.mpc_online.specs.Shared.{IsKeptOf, IsSlopeOf, IsKeptDirection, IsKeptAt, IsPreparedFor};
 
 use crate::matrices::step_right;
 use crate::opening::opening_of;
@@ -25,8 +26,9 @@ use mpc_frac::{Frac, NoMemory};
 use mpc_linear::{LinearError, Matrix, Solved};
 use mpc_rows::{Qp, law_theorems};
 use mpc_sets::ActiveSet;
+use mpc_systems::member_places;
 use mpc_wholes::over_one_denominator;
-use std::alloc::{AllocError, AllocFailed, Global};
+use std::alloc::{AllocFailed, Global};
 
 /// So many directions are kept at most.
 const MOST_DIRECTIONS: usize = 1024;
@@ -59,18 +61,6 @@ pub fn prepare(alloc: Global, qp: &Qp) -> Result<Prepared, NoMemory>
         return Err(NoMemory);
     };
     prepared_with(alloc, qp, kept)
-}
-
-/// Where the members stand among the rows and the columns of the shared table, for so many unknowns.
-fn member_places(alloc: Global, unknowns: u32, set: ActiveSet) -> Result<Vec<u32>, AllocError>
-    requires { unknowns ≤ 6 }
-    ensures { IfOk result (λ places. AreMemberPlaces unknowns set places.items) }
-{
-    let mut places = Vec::with_capacity(alloc, set.size() as usize)?;
-    for index in 0..set.size() {
-        places.push(unknowns + (set.member(index + 1) - 1))?;
-    }
-    Ok(places)
 }
 
 /// The solution by what is kept, where that is enough.
