@@ -1,10 +1,10 @@
--- The rows of a law outside its set, from whole numbers over one denominator for each matrix.
-use Rattle.std.proofs.Common.{◌≡◌, ℕ, suc, ◌+◌, ◌-◌, ◌^◌, ◌<◌, ◌≤◌, ◌||◌, false, List, [], ◌∷◌, ◌++◌, length, get_or, Contains, ℤ, pos, ◌+ℤ◌, ◌*ℤ◌, neg_ℤ, unsigned_abs, to_z, of_z, Option, Some, None, IfSome, refl, sym, ◌∙◌, ap, subst, arith, ⊎_elim, zero-lt-suc, ne_eqb}
-use Rattle.std.proofs.lemmas.Bool.{cond-false, cases_eq}
-use Rattle.std.specs.Int.{w64}
+-- The rows of a law, from whole numbers over one denominator for each matrix.
+use Rattle.std.proofs.Common.{◌≡◌, ℕ, suc, ◌+◌, ◌-◌, ◌^◌, ◌<◌, ◌≤◌, ◌||◌, false, List, [], ◌∷◌, ◌++◌, length, map, get_or, Contains, ℤ, pos, negsuc, ◌+ℤ◌, ◌*ℤ◌, neg_ℤ, unsigned_abs, to_z, of_z, Option, Some, None, IfSome, refl, sym, ◌∙◌, ap, subst, arith, ⊎_elim, zero-lt-suc, ne_eqb}
+use Rattle.std.proofs.lemmas.Bool.{cases_eq}
+use Rattle.std.specs.Int.{w64, w128}
 use Rattle.std.proofs.lemmas.Int.{fits_signed_from_abs, to_z-of_z}
-use Rattle.std.proofs.lemmas.List.{length-append, get_or_append_left}
-use Rattle.std.proofs.lemmas.List.Elements.{All-get_or, All-from_get_or}
+use Rattle.std.proofs.lemmas.List.{length-append, length-map, get_or-map, get_or_append_left}
+use Rattle.std.proofs.lemmas.List.Elements.{All-nil, All-push, All-get_or, All-from_get_or}
 use Rattle.std.proofs.Math.Seq.{get_or-append_seam}
 use Rattle.mpc_exact.specs.Rational.{ℚ, int, ◌+ℚ◌, ◌*ℚ◌, neg_ℚ, IsPositive}
 use Rattle.mpc_exact.proofs.Rational.{int-add, int-mul}
@@ -14,10 +14,10 @@ use Rattle.mpc_exact.proofs.School.{frac_times, int-neg}
 use Rattle.mpc_space.specs.Vector.{coordinate, column, dot, vec_scale, later_entries}
 use Rattle.mpc_space.specs.Matrix.{RationalMatrix, height, entry}
 use Rattle.mpc_space.specs.Total.{total}
-use Rattle.mpc_space.proofs.Entries.{same_entries, coordinate-scale, coordinate-listed, length-scale, length-listed, dot-total_within}
+use Rattle.mpc_space.proofs.Entries.{same_entries, coordinate-scale, coordinate-listed, length-scale, dot-total_within}
 use Rattle.mpc_space.proofs.Matrix.{coordinate-column}
 use Rattle.mpc_space.proofs.Total.{total-suc, total-same, total-scale}
-use Rattle.mpc_space.proofs.Vector.{vec_scale-scale}
+use Rattle.mpc_space.proofs.Words.{read_back}
 use Rattle.mpc_linear.specs.declared.integers.RowInt.{RowInt}
 use Rattle.mpc_linear.specs.Elimination.{Table}
 use Rattle.mpc_linear.specs.Whole.{IsScaledRow, IsPrimitive, AreSmall}
@@ -25,19 +25,26 @@ use Rattle.mpc_rows.specs.declared.programs.Qp.{Qp}
 use Rattle.mpc_rows.specs.declared.laws.Law.{Law}
 use Rattle.mpc_rows.specs.ActiveSets.{row_of}
 use Rattle.mpc_rows.specs.Laws.{HasLawShape}
-use Rattle.mpc_rows.specs.LawRows.{is_member, place_of, excess_form, law_form, law_sides, law_bound, AreLawRows}
+use Rattle.mpc_rows.specs.LawRows.{is_member, excess_form, law_form, law_sides, law_bound, AreLawRows}
 use Rattle.mpc_rows.specs.LawTheorems.{LawRowSize}
+use Rattle.mpc_rows.proofs.JointLemmas.{length-later}
+use Rattle.mpc_rows.proofs.LawLemmas.{coordinate-later}
+use Rattle.mpc_rows.proofs.LawRowLemmas.{form_size}
+use Rattle.mpc_rows.proofs.PlaceLemmas.{member_place}
 use Rattle.mpc_sweep.specs.declared.numbers.Swept.{Swept}
 use Rattle.mpc_sweep.specs.Sweeps.{swept}
 use Rattle.mpc_sweep.specs.Numbers.{number}
 use Rattle.mpc_systems.specs.Writing.{IsOfSize, AreOfSize}
 use Rattle.mpc_tree.specs.declared.rows.RowNumbers.{RowNumbers}
 use Rattle.mpc_tree.specs.declared.rows.LawNumbers.{LawNumbers}
-use Rattle.mpc_tree.specs.WholeRows.{IsRead, AreRowNumbers, AreLawNumbers, all_dens, IsExcess, AreExcesses, IsPlainRow}
+use Rattle.mpc_tree.specs.WholeRows.{IsRead, AreRowNumbers, AreLawNumbers, all_dens, IsExcess, member_form, AreSides, IsPlainRow}
 
 -- ---- numbers and sums of products
 pub read64 : (z : ℤ) → unsigned_abs z ≤ 2 ^ 62 → to_z w64 (of_z w64 z) ≡ z
 read64 z h = to_z-of_z w64 z (fits_signed_from_abs w64 z (omega arith))
+
+pub read_wide : (z : ℤ) → unsigned_abs z ≤ 2 ^ 62 → to_z w128 (of_z w128 (to_z w64 (of_z w64 z))) ≡ z
+read_wide z h = ap (λ y. to_z w128 (of_z w128 y)) (read64 z h) ∙ read_back z (omega arith)
 
 pub small64 : (z : ℤ) → unsigned_abs z ≤ 2 ^ 62 → unsigned_abs (to_z w64 (of_z w64 z)) ≤ 2 ^ 62
 small64 z h = subst (λ y. unsigned_abs y ≤ 2 ^ 62) (sym (read64 z h)) h
@@ -105,34 +112,21 @@ module _ (qp : Qp) (law : Law) (i j : ℕ) (shape : HasLawShape qp law) (from_on
     excess_some None sum by left at against s b f a g e = e
 
 -- ---- the coefficients on t
-module _ (qp : Qp) (law : Law) (n : RowNumbers) (l : LawNumbers) (i : ℕ) where
-  pub excesses_none : AreExcesses qp law n l i 0 []
-  excesses_none = record { size = refl; each = λ k h. absurd (omega arith) }
+module _ (scale : ℚ) (form : List ℚ) where
+  pub sides_none : AreSides scale form 0 []
+  sides_none = record { size = refl; each = λ k h. absurd (omega arith); small = All-nil (λ z. unsigned_abs z < 2 ^ 127) }
 
-  pub excesses_more : (k : ℕ) (v new : List ℚ) (z : ℤ) → AreExcesses qp law n l i k v → IsExcess qp law n l i (suc k) z → new ≡ v ++ int z ∷ [] → AreExcesses qp law n l i (k + 1) new
-  excesses_more k v new z so e f = subst (AreExcesses qp law n l i (k + 1)) (sym f) (record {
-    size = length-append v (int z ∷ []) ∙ ap (λ m. m + 1) so.size;
+  pub sides_more : (k : ℕ) (v new : List ℤ) (z : ℤ) → AreSides scale form k v → int z ≡ scale *ℚ coordinate form (suc k) → unsigned_abs z ≤ 2 ^ 62 → new ≡ v ++ z ∷ [] → AreSides scale form (k + 1) new
+  sides_more k v new z so e small f = subst (AreSides scale form (k + 1)) (sym f) (record {
+    size = length-append v (z ∷ []) ∙ ap (λ m. m + 1) so.size;
     each = λ m h. ⊎_elim
-        (λ p.
-        ap (coordinate (v ++ int z ∷ [])) (p ∙ sym so.size) ∙ get_or-append_seam v (int z) [] (int (pos 0)) ∙ e
-        ∙ ap (λ u. all_dens n l *ℚ coordinate (excess_form qp law i) (suc u)) (sym p))
-        (λ p. let less : m < length v = omega (arith, length-append v (int z ∷ []), so.size) in get_or_append_left v (int z ∷ []) (int (pos 0)) m less ∙ so.each m less)
+        (λ p. ap (λ u. int (get_or (v ++ z ∷ []) u (pos 0))) (p ∙ sym so.size) ∙ ap int (get_or-append_seam v z [] (pos 0)) ∙ e ∙ ap (λ u. scale *ℚ coordinate form (suc u)) (sym p))
+        (λ p. let less : m < length v = omega (arith, length-append v (z ∷ []), so.size) in ap int (get_or_append_left v (z ∷ []) (pos 0) m less) ∙ so.each m less)
         (cases_eq m k);
+    small = All-push (λ y. unsigned_abs y < 2 ^ 127) v z so.small (omega arith);
   })
 
 -- ---- the row
-coordinate-later : (xs : List ℚ) (k : ℕ) → coordinate (later_entries xs) k ≡ coordinate xs (suc k)
-coordinate-later [] k = refl
-coordinate-later (x ∷ xs) k = refl
-
-length-later : (xs : List ℚ) (count : ℕ) → length xs ≡ count + 1 → length (later_entries xs) ≡ count
-length-later [] count e = absurd (omega arith)
-length-later (x ∷ xs) count e = omega arith
-
-form_outside : (qp : Qp) (law : Law) (i : ℕ) → is_member i law.set ≡ false → law_form qp law i ≡ excess_form qp law i
-unfolding law_form
-form_outside qp law i e = cond-false (is_member i law.set) (vec_scale (int (neg_ℤ (pos 1))) (get_or law.mults.rows (place_of i law.set) [])) (excess_form qp law i) e
-
 pub not_member : (s : List ℕ) (i : ℕ) → (Contains s i → ⊥) → is_member i s ≡ false
 not_member [] i none = refl
 not_member (j ∷ s) i none = ⊎_elim
@@ -140,38 +134,50 @@ not_member (j ∷ s) i none = ⊎_elim
     (λ p. ap (λ b. b || is_member i s) (ne_eqb i j p) ∙ not_member s i (λ c. none (suc c.0, let h : c.0 < length s = c.1 in omega arith, c.2)))
     (cases_eq i j)
 
-module _ (qp : Qp) (law : Law) (n : RowNumbers) (l : LawNumbers) (i : ℕ) (rows : AreRowNumbers qp n) (unknowns : AreLawNumbers law n l) (outside : is_member i law.set ≡ false) (shape : HasLawShape qp law) (sized : LawRowSize) where
-  all_positive : IsPositive (all_dens n l)
-  all_positive = positive-mul (positive_int n.w.den rows.right.table.some_den) (positive-mul (positive_int n.g.den rows.left.table.some_den) (positive_int l.moves.den unknowns.moves.table.some_den))
+module _ (qp : Qp) (law : Law) (i : ℕ) (shape : HasLawShape qp law) (sized : LawRowSize) (scale : ℚ) (some : IsPositive scale) (form : List ℚ) (is_form : law_form qp law i ≡ form) where
+  size : length form ≡ length qp.counts + 1
+  size = ap length (sym is_form) ∙ form_size qp law i shape (λ e. (member_place law.set i e).0)
 
-  form_at : (k : ℕ) → coordinate (excess_form qp law i) k ≡ coordinate (law_form qp law i) k
-  form_at k = ap (λ f. coordinate f k) (sym (form_outside qp law i outside))
+  sides_are : (v : List ℤ) → AreSides scale form (length qp.counts) v → map int v ≡ vec_scale scale (later_entries form)
+  sides_are v e = same_entries (map int v) (vec_scale scale (later_entries form)) (length-map v int ∙ e.size ∙ sym (length-scale scale (later_entries form) ∙ length-later form (length qp.counts) size))
+      (λ k h. let within : k < length v = subst (λ m. k < m) (length-map v int) h in
+      get_or-map int v k (pos 0) (int (pos 0)) within ∙ e.each k within ∙ ap (λ x. scale *ℚ x) (sym (coordinate-later form k)) ∙ sym (coordinate-scale scale (later_entries form) k))
 
-  form_size : length (law_form qp law i) ≡ length qp.counts + 1
-  form_size = ap length (form_outside qp law i outside) ∙ length-listed (length qp.counts + 1) (λ m. neg_ℚ (coordinate (row_of qp.w.rows i) m) +ℚ dot (row_of qp.g.rows i) (column law.moves.rows m))
-
-  sides_are : (v : List ℚ) → AreExcesses qp law n l i (length qp.counts) v → v ≡ vec_scale (all_dens n l) (law_sides qp law i)
-  sides_are v e = same_entries v (vec_scale (all_dens n l) (law_sides qp law i)) (e.size ∙ sym (length-scale (all_dens n l) (law_sides qp law i) ∙ length-later (law_form qp law i) (length qp.counts) form_size))
-      (λ k h. e.each k h ∙ ap (λ x. all_dens n l *ℚ x) (form_at (suc k) ∙ sym (coordinate-later (law_form qp law i) k)) ∙ sym (coordinate-scale (all_dens n l) (law_sides qp law i) k))
-
-  bound_is : (constant : ℤ) → IsExcess qp law n l i 0 constant → int (neg_ℤ constant) ≡ all_dens n l *ℚ law_bound qp law i
-  bound_is constant e = int-neg constant ∙ ap neg_ℚ (e ∙ ap (λ x. all_dens n l *ℚ x) (form_at 0)) ∙ turned (all_dens n l) (coordinate (law_form qp law i) 0)
-    where
-      turned : (k x : ℚ) → neg_ℚ (k *ℚ x) ≡ k *ℚ neg_ℚ x
-      turned k x = by_ring (k ∷ x ∷ []) (search reads depth 30) (search reads depth 30) tt
-
-  regrouped : (k p x : ℚ) → k *ℚ (p *ℚ x) ≡ (k *ℚ p) *ℚ x
-  regrouped k p x = by_ring (k ∷ p ∷ x ∷ []) (search reads depth 30) (search reads depth 30) tt
-
-  pub row_made : (constant : ℤ) (v : List ℚ) (bound : ℚ) (row : RowInt) → IsExcess qp law n l i 0 constant → AreExcesses qp law n l i (length qp.counts) v → bound ≡ int (neg_ℤ constant) → IsScaledRow v bound row.a row.b → IsPrimitive (row.a ++ row.b ∷ []) → AreSmall row.a → unsigned_abs row.b < 2 ^ 127 → IsPlainRow qp law i row
-  row_made constant v bound row c e b s p small b_small =
-      let multiple : IsScaledRow (law_sides qp law i) (law_bound qp law i) row.a row.b = record {
-        factor = s.factor *ℚ all_dens n l;
-        positive = positive-mul s.positive all_positive;
-        left = s.left ∙ ap (vec_scale s.factor) (sides_are v e) ∙ vec_scale-scale s.factor (all_dens n l) (law_sides qp law i);
-        right = s.right ∙ ap (λ x. s.factor *ℚ x) (b ∙ bound_is constant c) ∙ regrouped s.factor (all_dens n l) (law_bound qp law i);
-      } in
+  pub row_made : (whole row : RowInt) → AreSides scale form (length qp.counts) whole.a → int whole.b ≡ scale *ℚ neg_ℚ (coordinate form 0)
+      → ((coefficients : List ℚ) (bound : ℚ) → IsScaledRow coefficients bound whole.a whole.b → IsScaledRow coefficients bound row.a row.b)
+      → IsPrimitive (row.a ++ row.b ∷ []) → AreSmall row.a → unsigned_abs row.b < 2 ^ 127 → IsPlainRow qp law i row
+  row_made whole row e b s p small b_small =
+      let multiple = s (law_sides qp law i) (law_bound qp law i) (record {
+        factor = scale;
+        positive = some;
+        left = sides_are whole.a e ∙ ap (λ f. vec_scale scale (later_entries f)) (sym is_form);
+        right = b ∙ ap (λ f. scale *ℚ neg_ℚ (coordinate f 0)) (sym is_form);
+      }) in
       record { is_row = record { multiple = multiple; primitive = p }; plain = record { size = sized qp law i shape row multiple; small = small; b_small = b_small } }
+
+-- where the row is outside the set
+pub all_positive : (qp : Qp) (law : Law) (n : RowNumbers) (l : LawNumbers) → AreRowNumbers qp n → AreLawNumbers law n l → IsPositive (all_dens n l)
+all_positive qp law n l rows unknowns = positive-mul (positive_int n.w.den rows.right.table.some_den) (positive-mul (positive_int n.g.den rows.left.table.some_den) (positive_int l.moves.den unknowns.moves.table.some_den))
+
+pub outside_bound : (constant : ℤ) (scale x : ℚ) → int constant ≡ scale *ℚ x → int (neg_ℤ constant) ≡ scale *ℚ neg_ℚ x
+outside_bound constant scale x e = int-neg constant ∙ ap neg_ℚ e ∙ turned scale x
+  where
+    turned : (k x : ℚ) → neg_ℚ (k *ℚ x) ≡ k *ℚ neg_ℚ x
+    turned k x = by_ring (k ∷ x ∷ []) (search reads depth 30) (search reads depth 30) tt
+
+-- where it is a member
+module _ (law : Law) (s : Swept) (read : IsRead law.mults s) (k j : ℕ) (h : k < height law.mults) (l : j < law.mults.columns) where
+  pub member_side : int (neg_ℤ (number s k j)) ≡ int (pos s.den) *ℚ coordinate (member_form law k) j
+  member_side = int-neg (number s k j) ∙ ap neg_ℚ (read_number law.mults s read k j h l) ∙ turned (int (pos s.den)) (entry law.mults k j) ∙ ap (λ x. int (pos s.den) *ℚ x) (sym (coordinate-scale (int (negsuc 0)) (get_or law.mults.rows k []) j))
+    where
+      turned : (d x : ℚ) → neg_ℚ (d *ℚ x) ≡ d *ℚ (int (negsuc 0) *ℚ x)
+      turned d x = by_ring (d ∷ x ∷ []) (search reads depth 30) (search reads depth 30) tt
+
+  pub member_bound : int (number s k j) ≡ int (pos s.den) *ℚ neg_ℚ (coordinate (member_form law k) j)
+  member_bound = read_number law.mults s read k j h l ∙ ap (λ x. int (pos s.den) *ℚ x) (turned (entry law.mults k j) ∙ ap neg_ℚ (sym (coordinate-scale (int (negsuc 0)) (get_or law.mults.rows k []) j)))
+    where
+      turned : (x : ℚ) → x ≡ neg_ℚ (int (negsuc 0) *ℚ x)
+      turned x = by_ring (x ∷ []) (search reads depth 30) (search reads depth 30) tt
 
 -- ---- row by row
 abbrev pub no_row : RowInt

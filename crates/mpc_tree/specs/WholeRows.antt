@@ -1,9 +1,10 @@
--- The rows of a law outside its set in whole numbers: each matrix over one denominator.
-use Rattle.std.specs.Prelude.{◌≡◌, ℕ, suc, ◌<◌, ◌≤◌, ◌^◌, List, [], length, ℤ, pos, neg_ℤ, ◌*ℤ◌, unsigned_abs}
+-- The rows of a law in whole numbers: each matrix over one denominator.
+use Rattle.std.specs.Prelude.{◌≡◌, ℕ, suc, ◌<◌, ◌≤◌, ◌^◌, List, [], length, get_or, ℤ, pos, negsuc, neg_ℤ, ◌*ℤ◌, unsigned_abs, IfSome}
 use Rattle.mpc_exact.specs.Rational.{ℚ, int, ◌*ℚ◌}
-use Rattle.mpc_space.specs.Vector.{coordinate}
+use Rattle.mpc_space.specs.Vector.{coordinate, vec_scale}
 use Rattle.mpc_space.specs.Matrix.{RationalMatrix, height, entry}
 use Rattle.mpc_linear.specs.declared.integers.RowInt.{RowInt}
+use Rattle.mpc_linear.specs.Whole.{AreSmall}
 use Rattle.mpc_rows.specs.declared.programs.Qp.{Qp}
 use Rattle.mpc_rows.specs.declared.laws.Law.{Law}
 use Rattle.mpc_rows.specs.LawRows.{excess_form, IsLawRow}
@@ -22,9 +23,10 @@ pub record AreRowNumbers (qp : Qp) (n : RowNumbers) : Type 0 where
   pub left : IsRead qp.g n.g
   pub right : IsRead qp.w n.w
 
--- those of a law's unknowns, and the negative of the product of their denominator with that of g
+-- those of a law's unknowns and of its multipliers, and the negative of the product of the unknowns' denominator with that of g
 pub record AreLawNumbers (law : Law) (n : RowNumbers) (l : LawNumbers) : Type 0 where
   pub moves : IsRead law.moves l.moves
+  pub mults : IfSome l.mults (IsRead law.mults)
   pub against : l.against ≡ pos n.g.den *ℤ neg_ℤ (pos l.moves.den)
   pub small : unsigned_abs l.against ≤ 2 ^ 62
 
@@ -36,10 +38,15 @@ all_dens n l = int (pos n.w.den) *ℚ (int (pos n.g.den) *ℚ int (pos l.moves.d
 abbrev pub IsExcess : Qp → Law → RowNumbers → LawNumbers → ℕ → ℕ → ℤ → Type 0
 IsExcess qp law n l i j z = int z ≡ all_dens n l *ℚ coordinate (excess_form qp law i) j
 
--- those on t, so far as they are formed
-pub record AreExcesses (qp : Qp) (law : Law) (n : RowNumbers) (l : LawNumbers) (i count : ℕ) (v : List ℚ) : Type 0 where
+-- minus the multiplier of the member at place k, from 0
+abbrev pub member_form : Law → ℕ → List ℚ
+member_form law k = vec_scale (int (negsuc 0)) (get_or law.mults.rows k [])
+
+-- the coefficients of a form on t, times a scale, so far as they are formed
+pub record AreSides (scale : ℚ) (form : List ℚ) (count : ℕ) (v : List ℤ) : Type 0 where
   pub size : length v ≡ count
-  pub each : (k : ℕ) → k < length v → coordinate v k ≡ all_dens n l *ℚ coordinate (excess_form qp law i) (suc k)
+  pub each : (k : ℕ) → k < length v → int (get_or v k (pos 0)) ≡ scale *ℚ coordinate form (suc k)
+  pub small : AreSmall v
 
 -- row i of a law, with a coefficient for each count
 pub record IsPlainRow (qp : Qp) (law : Law) (i : ℕ) (row : RowInt) : Type 0 where

@@ -9,7 +9,6 @@ ghost use Rattle.mpc_tree.specs.Pieces.{AreSides, EndsRefused, IsOpen, IsFiner};
 
 use crate::borders::Border;
 use crate::errors::TreeError;
-use crate::growth::copied;
 use crate::nodes::{Placed, Visit, place_node};
 use crate::runs::{KeptCell, copied_rows};
 use mpc_frac::NoMemory;
@@ -80,7 +79,7 @@ fn split(
     let mut yes = cell;
     yes.narrow(alloc, whole_row(alloc, row)?)?;
     let mut pieces = Vec::with_capacity(alloc, 3)?;
-    pieces.push(closed(alloc, Node::Split(copied(alloc, row)?))?)?;
+    pieces.push(closed(alloc, Node::Split(row.copy(alloc)?))?)?;
     pieces.push(Piece::Open {
         cell: yes,
         next: place,

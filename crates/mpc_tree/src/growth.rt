@@ -15,7 +15,7 @@ use crate::nodes::{Placed, Visit, place_node};
 use crate::refusals::{Watch, is_called_off};
 use crate::runs::KeptCell;
 use mpc_frac::NoMemory;
-use mpc_linear::{Ints, RowInt};
+use mpc_linear::RowInt;
 use mpc_rows::{LawTable, Node, Qp, Row, Tree};
 use mpc_simplex::{Beginning, Workspace};
 use mpc_systems::{broken_row, cell_theorems, whole_row};
@@ -30,20 +30,6 @@ pub struct OpenSide {
     pub row: Row,
     pub run: Option<Beginning>,
     pub next: usize,
-}
-
-/// A copy of the row.
-pub fn copied(alloc: Global, row: &RowInt) -> Result<RowInt, NoMemory>
-    ensures { IfOk result (λ r. r ≡ row.now) }
-{
-    let mut coefficients = Ints::new(alloc);
-    for number in row.a.as_slice() {
-        coefficients.push(*number)?;
-    }
-    Ok(RowInt {
-        a: coefficients,
-        b: row.b,
-    })
 }
 
 /// Puts a split behind the nodes, its no side, with the run of where the row fails, on the stack, and
@@ -76,7 +62,7 @@ fn open_split(
         return Err(NoMemory);
     }
     cell.narrow(alloc, whole_row(alloc, row)?)?;
-    tree.push(Node::Split(copied(alloc, row)?))
+    tree.push(Node::Split(row.copy(alloc)?))
 }
 
 /// Makes the cell that of the side, and answers with the place of the law with which its search

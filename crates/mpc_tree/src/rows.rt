@@ -1,18 +1,18 @@
 //! The rows of a law, formed in whole numbers where these are small.
 
-ghost use Rattle.std.specs.Prelude.{◌≡◌, ℤ, ◌+◌, ◌<◌, ◌≤◌, ◌^◌, ◌+ℤ◌, ◌*ℤ◌, unsigned_abs, IfOk, IfSome, length};
+ghost use Rattle.std.specs.Prelude.{◌≡◌, ℤ, pos, ◌+◌, ◌<◌, ◌≤◌, ◌^◌, ◌+ℤ◌, ◌*ℤ◌, unsigned_abs, IfOk, IfSome, length};
 ghost use Rattle.mpc_exact.specs.Rational.{int, ◌*ℚ◌};
 ghost use Rattle.mpc_space.specs.Matrix.{height};
 ghost use Rattle.mpc_space.specs.Total.{total};
 ghost use Rattle.mpc_rows.specs.Laws.{HasLawShape};
-ghost use Rattle.mpc_rows.specs.LawRows.{AreLawRows, LawRowFits};
+ghost use Rattle.mpc_rows.specs.LawRows.{excess_form, AreLawRows, LawRowFits};
 ghost use Rattle.mpc_rows.specs.SetRuns.{LawRowsFit};
 ghost use Rattle.mpc_sweep.specs.Numbers.{IsTable, number};
 ghost use Rattle.mpc_systems.specs.Writing.{AreOfSize};
-ghost use Rattle.mpc_tree.specs.WholeRows.{AreRowNumbers, AreLawNumbers, IsExcess, AreExcesses, IsPlainRow};
+ghost use Rattle.mpc_tree.specs.WholeRows.{IsRead, AreRowNumbers, AreLawNumbers, all_dens, member_form, IsExcess, AreSides, IsPlainRow};
 
-use mpc_frac::{Frac, NoMemory};
-use mpc_linear::{LinearError, RowInt, Vector, primitive};
+use mpc_frac::NoMemory;
+use mpc_linear::{Ints, LinearError, RowInt, without_divisor};
 use mpc_region::law_rows;
 use mpc_rows::{Law, Qp, law_row, law_theorems};
 use mpc_scaled::{narrow, negative, product, signed};
@@ -26,10 +26,12 @@ pub struct RowNumbers {
     w: Swept,
 }
 
-/// The unknowns of a law in whole numbers over one denominator, and minus its product with that of g.
+/// The unknowns of a law, and its multipliers where they are small, in whole numbers over one denominator each, and minus the
+/// product of the unknowns' denominator with that of g.
 #[derive(Drop)]
 pub struct LawNumbers {
     moves: Swept,
+    mults: Option<Swept>,
     against: i64,
 }
 
@@ -81,8 +83,13 @@ fn law_numbers(
     let Some(moves) = Swept::read(alloc, &law.moves)? else {
         return Ok(None);
     };
+    let mults = Swept::read(alloc, &law.mults)?;
     match with_product(0, signed(numbers.g.den()), negative(signed(moves.den()))) {
-        Some(against) => Ok(Some(LawNumbers { moves, against })),
+        Some(against) => Ok(Some(LawNumbers {
+            moves,
+            mults,
+            against,
+        })),
         None => Ok(None),
     }
 }
@@ -146,20 +153,20 @@ fn excesses(
     numbers: &RowNumbers,
     unknowns: &LawNumbers,
     row_number: u32,
-) -> Result<Option<Vector>, NoMemory>
+) -> Result<Option<Ints>, NoMemory>
     requires from_one { 1 ≤ row_number }
     requires to_last { row_number ≤ height qp.now.g }
     requires shape { HasLawShape qp.now law.now }
     requires numbers { AreRowNumbers qp.now numbers.now }
     requires unknowns { AreLawNumbers law.now numbers.now unknowns.now }
-    ensures { IfOk result (λ o. IfSome o (AreExcesses qp.now law.now numbers.now unknowns.now row_number (length qp.now.counts))) }
+    ensures { IfOk result (λ o. IfSome o (AreSides (all_dens numbers.now unknowns.now) (excess_form qp.now law.now row_number) (length qp.now.counts))) }
 {
-    let mut sides = Vector::with_capacity(alloc, qp.counts.len())?;
+    let mut sides = Ints::with_capacity(alloc, qp.counts.len())?;
     for place in 1..law.moves.cols() {
         let Some(value) = excess(qp, law, numbers, unknowns, row_number, place) else {
             return Ok(None);
         };
-        sides.push(Frac::whole(value))?;
+        sides.push(value as i128)?;
     }
     Ok(Some(sides))
 }
@@ -190,11 +197,62 @@ fn outside_row(
     let Some(sides) = excesses(alloc, qp, law, numbers, unknowns, row_number)? else {
         return Ok(None);
     };
-    match primitive(alloc, &sides, &Frac::whole(negative(constant))) {
-        Ok(row) => Ok(Some(row)),
-        Err(LinearError::Wide(_)) => Ok(None),
-        Err(LinearError::NoMemory) => Err(NoMemory),
+    let whole = RowInt {
+        a: sides,
+        b: negative(constant) as i128,
+    };
+    let row = without_divisor(alloc, whole)?;
+    Ok(Some(row))
+}
+
+/// The coefficients on t of minus the multiplier of the member at the place, from 0, times their denominator.
+fn member_sides(
+    alloc: Global,
+    qp: &Qp,
+    law: &Law,
+    mults: &Swept,
+    place: u32,
+) -> Result<Ints, NoMemory>
+    requires shape { HasLawShape qp.now law.now }
+    requires place { place < height law.now.mults }
+    requires mults { IsRead law.now.mults mults.now }
+    ensures { IfOk result (AreSides (int (pos mults.now.den)) (member_form law.now place) (length qp.now.counts)) }
+{
+    let mut sides = Ints::with_capacity(alloc, qp.counts.len())?;
+    for column in 1..law.mults.cols() {
+        let value = mults.at(place as usize, column as usize);
+        sides.push(negative(value) as i128)?;
     }
+    Ok(sides)
+}
+
+/// A row of a law, by its number from 1, where it is a member of the law's set and whole numbers serve.
+fn member_row(
+    alloc: Global,
+    qp: &Qp,
+    law: &Law,
+    unknowns: &LawNumbers,
+    row_number: u32,
+) -> Result<Option<RowInt>, NoMemory>
+    requires shape { HasLawShape qp.now law.now }
+    requires unknowns { IfSome unknowns.now.mults (IsRead law.now.mults) }
+    ensures { IfOk result (λ o. IfSome o (IsPlainRow qp.now law.now row_number)) }
+{
+    law_theorems();
+    let Some(mults) = &unknowns.mults else {
+        return Ok(None);
+    };
+    for place in 0..law.set.size() {
+        if law.set.member(place + 1) == row_number {
+            let whole = RowInt {
+                a: member_sides(alloc, qp, law, mults, place)?,
+                b: mults.at(place as usize, 0) as i128,
+            };
+            let row = without_divisor(alloc, whole)?;
+            return Ok(Some(row));
+        }
+    }
+    Ok(None)
 }
 
 /// A row of a law, by its number from 1, which isn't too wide.
@@ -215,6 +273,9 @@ fn row_of(
     ensures { IfOk result (IsPlainRow qp.now law.now row_number) }
 {
     if let Some(row) = outside_row(alloc, qp, law, numbers, unknowns, row_number)? {
+        return Ok(row);
+    }
+    if let Some(row) = member_row(alloc, qp, law, unknowns, row_number)? {
         return Ok(row);
     }
     match law_row(alloc, qp, law, row_number) {

@@ -17,7 +17,7 @@ returns c =
     record {
       yes = yes;
       no = no;
-      are = all ∙ ap (λ p. p ∷ (Open yes c.args.place ∷ (Open no (c.args.place + 1) ∷ []))) (c.in_ok-closed.ensures ∙ ap (λ r. Closed (Split r ∷ [])) c.in_ok-copied.ensures);
+      are = all ∙ ap (λ p. p ∷ (Open yes c.args.place ∷ (Open no (c.args.place + 1) ∷ []))) (c.in_ok-closed.ensures ∙ ap (λ r. Closed (Split r ∷ [])) c.in_ok-copy.ensures);
       yes_rows = c.in_ok-narrow.ensures.rows ∙ ap (λ r. c.args.cell.rows.items ++ r ∷ []) c.in_ok-whole_row.ensures;
       yes_run = search rules;
       no_rows = pushed ∙ ap (λ l. l ++ c.in_ok-broken_row.field-0 ∷ []) (search rules) ∙ ap (λ r. c.args.cell.rows.items ++ r ∷ []) c.in_ok-broken_row.ensures;
