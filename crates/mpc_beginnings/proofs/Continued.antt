@@ -43,13 +43,13 @@ pub opening_within : PositionTheorems → (s : LinearSystem) (m : WholeNumbers) 
 opening_within theorems s m a l o first e =
     subst (λ f. IsUnderwayWithin s m l (record { den = 1; own = 1; greatest = 0; greatest_den = 0; product = 0; first = f })) (sym e) (record {
       within = λ most g h r.
-          (theorems.opening s m.scales.now a.whole.scales l.seats o.seats l.v o.unit l.firsts l.seconds o.firsts o.seconds).0;
+          (theorems.opening s m.scales.now a.whole.scales l.seats o.seats l.numbers o.unit l.firsts l.seconds o.firsts o.seconds).0;
     })
 
 pub opening_with_room : PositionTheorems → (s : LinearSystem) (m : WholeNumbers) → AreNumbers s m → (l : Listed) → AreOpening s l → (first : ℕ) → first ≡ s.width
     → IsUnderwayWithRoom s m l (record { den = 1; own = 1; greatest = 0; greatest_den = 0; product = 0; first = first })
 opening_with_room theorems s m a l o first e =
-    let u = theorems.opening s m.scales.now a.whole.scales l.seats o.seats l.v o.unit l.firsts l.seconds o.firsts o.seconds in
+    let u = theorems.opening s m.scales.now a.whole.scales l.seats o.seats l.numbers o.unit l.firsts l.seconds o.firsts o.seconds in
     subst (λ f. IsUnderwayWithRoom s m l (record { den = 1; own = 1; greatest = 0; greatest_den = 0; product = 0; first = f })) (sym e) (record {
       within = λ r. record { underway = u.0; before = λ known. record { each = λ q h. absurd (let z = u.1 in omega arith) } };
     })
@@ -75,8 +75,8 @@ module _ (s : LinearSystem) (more : List Row) (k : List ℕ) (old : Listed) (p :
         let e : count s + (to - from) ≡ count (lengthened s more) = omega (arith, h, t, length-append s.rows more) in
         subst₂ (λ r n. IsSeated r s.width n now.seats) t e (g.seated s.width (count s) seated);
     columns = rw g.nonbasic (longer_columns (height s) s.width (count s) old.seats z.lists.seated now.seats grown old.nonbasic z.lists.columns);
-    square = rw g.v z.lists.square;
-    own = rw g.v z.lists.own;
+    square = rw g.numbers z.lists.square;
+    own = rw g.numbers z.lists.own;
     first_size = rw g.firsts z.lists.first_size;
     second_size = rw g.seconds z.lists.second_size;
   }
@@ -88,8 +88,8 @@ module _ (s : LinearSystem) (more : List Row) (k : List ℕ) (old : Listed) (p :
     pub within_longer : IsUnderwayWithin (lengthened s more) m now (record p { first = first })
     within_longer = record {
       within = λ most b c r.
-          rw (g.v, g.firsts, g.seconds) (longer_underway s more k m.scales.now same_scales (fits_before s more k m.scales.now same_scales theorems m.a.now m.b.now a.whole most b p.greatest p.greatest_den m.most_scale a.scales c r z.ended.before)
-          (count s) refl old.seats now.seats grown p.den old.v z.ended.form (count (lengthened s more)) p.greatest p.greatest_den z.ended.before old.firsts old.seconds z.ended.values first f.side (f.stay more));
+          rw (g.numbers, g.firsts, g.seconds) (longer_underway s more k m.scales.now same_scales (fits_before s more k m.scales.now same_scales theorems m.a.now m.b.now a.whole most b p.greatest p.greatest_den m.most_scale a.scales c r z.ended.before)
+          (count s) refl old.seats now.seats grown p.den old.numbers z.ended.form (count (lengthened s more)) p.greatest p.greatest_den z.ended.before old.firsts old.seconds z.ended.values first f.side (f.stay more));
     }
 
     module _ (r : HasRoomBefore (lengthened s more) m (record p { first = first })) where
@@ -108,10 +108,10 @@ module _ (s : LinearSystem) (more : List Row) (k : List ℕ) (old : Listed) (p :
           mild_fits theorems (lengthened s more) m a (record p { first = first }) r q (let h : steps s ≤ steps (lengthened s more) = steps_longer s more in omega arith)
           (mild_form_longer s more k m.scales.now same_scales q l p.greatest p.greatest_den p.product (mild.each q l))
 
-      with_room : IsMildlyUnderway (lengthened s more) (count (lengthened s more)) now.seats m.scales.now p.den now.v now.firsts now.seconds p.greatest p.greatest_den p.product first
+      with_room : IsMildlyUnderway (lengthened s more) (count (lengthened s more)) now.seats m.scales.now p.den now.numbers now.firsts now.seconds p.greatest p.greatest_den p.product first
       with_room =
-          rw (g.v, g.firsts, g.seconds) (longer_mildly_underway s more k m.scales.now same_scales fits_with_room
-          (count s) refl old.seats now.seats grown p.den old.v z.ended.form (count (lengthened s more)) p.greatest p.greatest_den p.product z.ended.before mild old.firsts old.seconds z.ended.values first f.side (f.stay more))
+          rw (g.numbers, g.firsts, g.seconds) (longer_mildly_underway s more k m.scales.now same_scales fits_with_room
+          (count s) refl old.seats now.seats grown p.den old.numbers z.ended.form (count (lengthened s more)) p.greatest p.greatest_den p.product z.ended.before mild old.firsts old.seconds z.ended.values first f.side (f.stay more))
 
     pub room_longer : IsUnderwayWithRoom (lengthened s more) m now (record p { first = first })
     room_longer = record { within = with_room }

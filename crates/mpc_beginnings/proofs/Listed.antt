@@ -17,7 +17,7 @@ short_of l e = ap (λ b. cond b (of_wide l.wide) (of_short l.short)) e
 pub seats_pushed : (height longer : ℕ) (old now : Listed) (seats : List Seat) → now ≡ old
     → ((w n : ℕ) → IsSeated height w n now.seats → IsSeated longer w (n + (longer - height)) seats)
     → ((w n : ℕ) → IsSeated height w n now.seats → AreLongerSeats n now.seats seats)
-    → AreLonger height longer old (record { seats = seats; nonbasic = now.nonbasic; v = now.v; firsts = now.firsts; seconds = now.seconds })
+    → AreLonger height longer old (record { seats = seats; nonbasic = now.nonbasic; numbers = now.numbers; firsts = now.firsts; seconds = now.seconds })
 seats_pushed height longer old now seats e seated grown =
-    subst (λ (t : Listed). AreLonger height longer t (record { seats = seats; nonbasic = now.nonbasic; v = now.v; firsts = now.firsts; seconds = now.seconds })) e
-    (record { seated = seated; grown = grown; nonbasic = refl; v = refl; firsts = refl; seconds = refl })
+    subst (λ (t : Listed). AreLonger height longer t (record { seats = seats; nonbasic = now.nonbasic; numbers = now.numbers; firsts = now.firsts; seconds = now.seconds })) e
+    (record { seated = seated; grown = grown; nonbasic = refl; numbers = refl; firsts = refl; seconds = refl })

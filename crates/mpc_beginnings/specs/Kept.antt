@@ -51,7 +51,7 @@ pub record IsNormProduct (width : ℕ) (m : WholeNumbers) (p : WidePlace) (produ
 pub record IsKept (s : LinearSystem) (k : List ℕ) (l : Listed) (p : WidePlace) (end : Ending) : Type 0 where
   pub scales : length k ≡ count s
   pub lists : AreListsOf s p.own l
-  pub ended : HasEnded s (count s) l.seats k p.den l.v l.firsts l.seconds p.greatest p.greatest_den end
+  pub ended : HasEnded s (count s) l.seats k p.den l.numbers l.firsts l.seconds p.greatest p.greatest_den end
   pub before : p.product < 2 ^ 127 → AreMildBefore s k (steps s) p.greatest p.greatest_den p.product
 
 -- so with numbers of either width
@@ -62,7 +62,7 @@ pub record AreKept (s : LinearSystem) (k : List ℕ) (l : KeptLists) (p : WidePl
 -- the run stands here, if the sizes that are kept are within what the numbers of a position may have
 pub record IsUnderwayWithin (s : LinearSystem) (m : WholeNumbers) (l : Listed) (p : WidePlace) : Type 0 where
   pub within : (most : ℕ) → HasBounds s m.scales.now m.a.now m.b.now most → p.greatest ≤ most → p.greatest_den * m.most_scale ≤ 2 ^ 62
-      → IsUnderway s (count s) l.seats m.scales.now p.den l.v l.firsts l.seconds p.greatest p.greatest_den p.first
+      → IsUnderway s (count s) l.seats m.scales.now p.den l.numbers l.firsts l.seconds p.greatest p.greatest_den p.first
 
 -- the rows of the system have room with the sizes that are kept of positions
 pub record HasRoomBefore (s : LinearSystem) (m : WholeNumbers) (p : WidePlace) : Type 0 where
@@ -77,7 +77,7 @@ pub record HasRoomBefore (s : LinearSystem) (m : WholeNumbers) (p : WidePlace) :
 -- the run stands here, if its rows have room with the sizes that are kept
 pub record IsUnderwayWithRoom (s : LinearSystem) (m : WholeNumbers) (l : Listed) (p : WidePlace) : Type 0 where
   pub within : HasRoomBefore s m p
-      → IsMildlyUnderway s (count s) l.seats m.scales.now p.den l.v l.firsts l.seconds p.greatest p.greatest_den p.product p.first
+      → IsMildlyUnderway s (count s) l.seats m.scales.now p.den l.numbers l.firsts l.seconds p.greatest p.greatest_den p.product p.first
 
 -- the second system has further rows behind those of the first
 abbrev pub IsLonger : LinearSystem → LinearSystem → Type 0

@@ -23,9 +23,9 @@ pub record AreOpening (s : LinearSystem) (l : Listed) : Type 0 where
   pub seats : IsOpeningSeats s (count s) l.seats
   pub columns : length l.nonbasic ≡ s.width
   pub own : (c : ℕ) → c < s.width → variable_at l.nonbasic c ≡ c
-  pub square : length l.v ≡ s.width * s.width
-  pub unit : IsUnit s.width l.v
-  pub small : IsSmall 1 l.v
+  pub square : length l.numbers ≡ s.width * s.width
+  pub unit : IsUnit s.width l.numbers
+  pub small : IsSmall 1 l.numbers
   pub first_size : length l.firsts ≡ s.width
   pub firsts : (j : ℕ) → whole_at l.firsts j ≡ pos 0
   pub second_size : length l.seconds ≡ s.width
@@ -36,6 +36,6 @@ pub record AreLonger (height longer : ℕ) (old new : Listed) : Type 0 where
   pub seated : (w n : ℕ) → IsSeated height w n old.seats → IsSeated longer w (n + (longer - height)) new.seats
   pub grown : (w n : ℕ) → IsSeated height w n old.seats → AreLongerSeats n old.seats new.seats
   pub nonbasic : new.nonbasic ≡ old.nonbasic
-  pub v : new.v ≡ old.v
+  pub numbers : new.numbers ≡ old.numbers
   pub firsts : new.firsts ≡ old.firsts
   pub seconds : new.seconds ≡ old.seconds

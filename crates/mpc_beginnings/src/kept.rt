@@ -1,6 +1,7 @@
 //! Runs in whole numbers that are kept where they end.
 
 ghost use Rattle.std.specs.Prelude.{◌≡◌, ℕ, ◌*◌, ◌<◌, ◌≤◌, ◌^◌, [], ◌∷◌, IsTrue, IfSome, IfOk, None, length, true, false};
+ghost use Rattle.mpc_space.specs.Vector.{zeros};
 ghost use Rattle.mpc_rows.specs.LinearSystem.{LinearSystem, height, row_at};
 ghost use Rattle.mpc_rows.specs.Run.{count, has_point, is_refuted, turn, last_position};
 ghost use Rattle.mpc_rows.specs.RunWidth.{RunFits};
@@ -26,7 +27,7 @@ use crate::lists::{
 use mpc_frac::Frac;
 use mpc_linear::RowInt;
 use mpc_rows::{Multipliers, PairPoint, Row, System};
-use mpc_runs::{End, Standing, zero_pairs, zeros};
+use mpc_runs::{End, Standing, zero, zero_pairs};
 use mpc_scaled::{WholeNumbers, WholeSystem};
 use mpc_whole::{
     Ending, Place, RunLists, WidePlace, judged_run, last_multipliers, last_values, limit,
@@ -181,7 +182,7 @@ fn short_run(
     requires start { IsUnderwayWithin system.now numbers.now (of_short lists.old) from }
     ensures lists { IfSome result (λ t. AreListsOf system.now t.0.own (of_short lists.new)) }
     ensures small { IfSome result (λ _. IsSmall (2 ^ 62) lists.new.firsts.items × IsSmall (2 ^ 62) lists.new.seconds.items) }
-    ensures end { IfSome result (λ t. HasEnded system.now (count system.now) lists.new.seats.items numbers.now.scales.now t.0.den lists.new.v.items lists.new.firsts.items lists.new.seconds.items t.0.greatest t.0.greatest_den t.1) }
+    ensures end { IfSome result (λ t. HasEnded system.now (count system.now) lists.new.seats.items numbers.now.scales.now t.0.den lists.new.numbers.items lists.new.firsts.items lists.new.seconds.items t.0.greatest t.0.greatest_den t.1) }
 {
     let start = short_place(from)?;
     let (place, end) = whole_run(lists, row, system, numbers, start, most)?;
@@ -205,7 +206,7 @@ fn limited_run(
     requires start { IsUnderwayWithin system.now numbers.now (lists_of lists.old) from }
     ensures lists { IfSome result (λ t. AreListsOf system.now t.0.own (lists_of lists.new)) }
     ensures short { IfSome result (λ _. HaveShortValues lists.new) }
-    ensures end { IfSome result (λ t. HasEnded system.now (count system.now) (lists_of lists.new).seats numbers.now.scales.now t.0.den (lists_of lists.new).v (lists_of lists.new).firsts (lists_of lists.new).seconds t.0.greatest t.0.greatest_den t.1) }
+    ensures end { IfSome result (λ t. HasEnded system.now (count system.now) (lists_of lists.new).seats numbers.now.scales.now t.0.den (lists_of lists.new).numbers (lists_of lists.new).firsts (lists_of lists.new).seconds t.0.greatest t.0.greatest_den t.1) }
 {
     if lists.is_wide {
         return None;
@@ -300,7 +301,7 @@ fn judge_on(
     }
 }
 
-/// Writes the multipliers at the last position, where the row of this side refutes.
+/// Writes the multipliers that aren't 0 at the last position, where the row of this side refutes.
 fn put_multipliers(
     list: &mut [Frac],
     row: &mut [i128],
@@ -310,7 +311,7 @@ fn put_multipliers(
     place: WidePlace,
     side: usize,
 ) -> Option<()>
-    requires list_room { length list.old ≡ height system.now }
+    requires zeros { list.old ≡ zeros (height system.now) }
     requires row_room { length row.old ≡ system.now.width }
     requires numbers { AreNumbers system.now numbers.now }
     requires kept { AreKept system.now numbers.now.scales.now lists.now place (Ending.Refuted side) }
@@ -320,6 +321,13 @@ fn put_multipliers(
         return wide_last_multipliers(list, row, system, numbers, &lists.wide, place.den, side);
     }
     last_multipliers(list, row, system, numbers, &lists.short, place.den, side)
+}
+
+/// So many zeros.
+fn zeros(alloc: Global, count: usize) -> Result<Vec<Frac>, AllocError>
+    ensures { IfOk result (λ list. list.items ≡ zeros count) }
+{
+    vec![in alloc; zero(); count]
 }
 
 /// The multipliers at the last position, where the row of this side refutes.

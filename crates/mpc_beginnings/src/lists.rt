@@ -198,14 +198,14 @@ pub(crate) fn no_lists(alloc: Global) -> KeptLists {
         short: RunLists {
             seats: Vec::new(alloc),
             nonbasic: Vec::new(alloc),
-            v: Vec::new(alloc),
+            numbers: Vec::new(alloc),
             firsts: Vec::new(alloc),
             seconds: Vec::new(alloc),
         },
         wide: WideLists {
             seats: Vec::new(alloc),
             nonbasic: Vec::new(alloc),
-            v: Vec::new(alloc),
+            numbers: Vec::new(alloc),
             firsts: Vec::new(alloc),
             seconds: Vec::new(alloc),
         },
@@ -242,7 +242,7 @@ fn put_opening(
     let width = system.unknowns();
     put_first_seats(&mut lists.seats, system, variables)?;
     put_unknowns(&mut lists.nonbasic, width)?;
-    put_first_numbers(&mut lists.v, width, square)?;
+    put_first_numbers(&mut lists.numbers, width, square)?;
     put_zeros(&mut lists.firsts, width)?;
     put_zeros(&mut lists.seconds, width)?;
     Ok(())
@@ -271,7 +271,7 @@ fn put_short(lists: &mut RunLists, other: &RunLists) -> Result<(), AllocError>
 {
     put_seats(&mut lists.seats, &other.seats)?;
     put_variables(&mut lists.nonbasic, &other.nonbasic)?;
-    put_numbers(&mut lists.v, &other.v)?;
+    put_numbers(&mut lists.numbers, &other.numbers)?;
     put_numbers(&mut lists.firsts, &other.firsts)?;
     put_numbers(&mut lists.seconds, &other.seconds)?;
     Ok(())
@@ -283,7 +283,7 @@ fn put_wide_lists(lists: &mut WideLists, other: &WideLists) -> Result<(), AllocE
 {
     put_seats(&mut lists.seats, &other.seats)?;
     put_variables(&mut lists.nonbasic, &other.nonbasic)?;
-    put_wide(&mut lists.v, &other.v)?;
+    put_wide(&mut lists.numbers, &other.numbers)?;
     put_wide(&mut lists.firsts, &other.firsts)?;
     put_wide(&mut lists.seconds, &other.seconds)?;
     Ok(())
@@ -295,7 +295,7 @@ fn put_widened_lists(lists: &mut WideLists, other: &RunLists) -> Result<(), Allo
 {
     put_seats(&mut lists.seats, &other.seats)?;
     put_variables(&mut lists.nonbasic, &other.nonbasic)?;
-    put_widened(&mut lists.v, &other.v)?;
+    put_widened(&mut lists.numbers, &other.numbers)?;
     put_widened(&mut lists.firsts, &other.firsts)?;
     put_widened(&mut lists.seconds, &other.seconds)?;
     Ok(())

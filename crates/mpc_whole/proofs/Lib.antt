@@ -8,8 +8,10 @@ pub mod ShortValues
 pub mod WholeSteps
 pub mod WholeTurns
 pub mod Nonbasic
+mod ColumnMultipliers
 pub mod ColumnSums
 pub mod WholeExchange
+mod RowParts
 pub mod WholeEnds
 pub mod WholeSizes
 pub mod WholeMoves

@@ -22,6 +22,13 @@ column_below seats y c e = by (cases_lt y (length seats))
     by (inl h) = h
     by (inr h) = absurd (seats_apart 0 c (sym (get_or_past seats y (Row 0) h) ∙ e))
 
+-- the variable of a column is the one of the list
+pub stands : (height width n : ℕ) (seats : List Seat) (nonbasic : List ℕ) → IsSeated height width n seats → AreNonbasic width seats nonbasic → (y c : ℕ) → y < n → seat_at seats y ≡ Column c → (c < width) × (variable_at nonbasic c ≡ y)
+stands height width n seats nonbasic z a y c l e =
+    let inside = (z.columns y c l e).0 in
+    let below = subst (λ m. variable_at nonbasic c < m) z.each (column_below seats (variable_at nonbasic c) c (a.at c inside)) in
+    (inside, sym (z.columns (variable_at nonbasic c) c below (a.at c inside)).1 ∙ (z.columns y c l e).1)
+
 pub below_nought : (z : ℤ) → z ≤ℤ pos 0 → (z ≡ pos 0 → ⊥) → z <ℤ pos 0
 below_nought (pos zero) h k = absurd (k refl)
 below_nought (pos (suc n)) h k = absurd (omega (arith, ints))
@@ -113,10 +120,21 @@ module _ (test : ℕ → Bool) (list : List ℕ) (n : ℕ) where
         by None g = refl
         by (Some y) g = absurd (let f = at_least y g.below g.passes in let c = g.below in omega arith)
 
--- ---- all that may enter stand in the columns
+-- ---- where the variables stand
+module _ (s : LinearSystem) (n : ℕ) (seats : List Seat) (nonbasic : List ℕ) (z : IsSeated (height s) s.width n seats) (a : AreNonbasic s.width seats nonbasic) where
+  pub variable_within : (c : ℕ) → c < s.width → variable_at nonbasic c < n
+  variable_within c b = subst (λ m. variable_at nonbasic c < m) z.each (column_below seats (variable_at nonbasic c) c (a.at c b))
+
+  pub column_of : (y c : ℕ) → y < n → seat_at seats y ≡ Column c → (c < s.width) × (variable_at nonbasic c ≡ y)
+  column_of y c b q =
+      let own = z.columns y c b q in
+      let other = z.columns (variable_at nonbasic c) c (variable_within c own.0) (a.at c own.0) in
+      (own.0, sym other.1 ∙ own.1)
+
+-- all that may enter stand in the columns
 module _ (s : LinearSystem) (n : ℕ) (seats : List Seat) (nonbasic : List ℕ) (z : IsSeated (height s) s.width n seats) (a : AreNonbasic s.width seats nonbasic) (k : List ℕ) (p : Position) (d l : ℕ) (x : List ℤ) (some : 0 < d) (h : HasBasis n seats p) (r : IsRowOf n seats k p d l x) where
   pub variable_below : (c : ℕ) → c < s.width → variable_at nonbasic c < n
-  variable_below c b = subst (λ m. variable_at nonbasic c < m) z.each (column_below seats (variable_at nonbasic c) c (a.at c b))
+  variable_below = variable_within s n seats nonbasic z a
 
   pub all_enter : (y : ℕ) → y < n → may_enter s p l y ≡ true → (c : ℕ) × (c < s.width) × (variable_at nonbasic c ≡ y)
   all_enter y b t = by (seat_cases (seat_at seats y))
@@ -124,6 +142,5 @@ module _ (s : LinearSystem) (n : ℕ) (seats : List Seat) (nonbasic : List ℕ) 
       by : ((t : ℕ) × (seat_at seats y ≡ Row t)) ⊎ ((c : ℕ) × (seat_at seats y ≡ Column c)) → (c : ℕ) × (c < s.width) × (variable_at nonbasic c ≡ y)
       by (inl q) = absurd (both_ways (may_enter s p l y) (basic_stays s n seats k p d l x some h r y b q.0 q.1) t)
       by (inr q) =
-          let own = z.columns y q.0 b q.1 in
-          let other = z.columns (variable_at nonbasic q.0) q.0 (variable_below q.0 own.0) (a.at q.0 own.0) in
-          (q.0, own.0, sym other.1 ∙ own.1)
+          let there = column_of s n seats nonbasic z a y q.0 b q.1 in
+          (q.0, there.0, there.1)

@@ -22,18 +22,10 @@ module _ (width factor den : ℕ) (old now x : List ℤ) (j e c : ℕ) (z : ℤ)
   row_kept h k (inl l) = set_other now (j * width + c) z b k (λ m. omega arith) ∙ h k (inl l)
   row_kept h k (inr l) = set_other now (j * width + c) z b k (λ m. omega arith) ∙ h k (inr (omega arith))
 
--- what one number is, from what the code computes
-pub number_changed : (width factor den : ℕ) (old x : List ℤ) (j e c : ℕ) (z o f : ℤ) (y : ℤ) (q : ℕ) → o ≡ whole_cell width old j c → f ≡ turned (whole_at x e) (whole_cell width old j e) → y ≡ whole_at x c → q ≡ unsigned_abs (whole_at x e) →
-    (c ≡ e → z *ℤ pos factor ≡ f *ℤ pos den) → ((c ≡ e → ⊥) → z *ℤ pos factor ≡ (o *ℤ pos q) +ℤ neg_ℤ (f *ℤ y)) → IsChanged width factor den old x j e c z
-number_changed width factor den old x j e c z o f y q eo ef ey eq enters other = record {
-  entering = λ h. enters h ∙ ap (λ u. u *ℤ pos den) ef;
-  other = λ h. other h ∙ (λ i. (eo i *ℤ pos (eq i)) +ℤ neg_ℤ (ef i *ℤ ey i));
-}
-
 times_one : (z : ℤ) → z *ℤ pos 1 ≡ z
 times_one z = by_ring_ℤ (z ∷ []) (search int_reads depth 30) (search int_reads depth 30) tt
 
--- where no factor is taken out
+-- what one number is, from what the code computes, where no factor is taken out
 pub number_raised : (width den : ℕ) (old x : List ℤ) (j e c : ℕ) (z o f y q d : ℤ) → o ≡ whole_cell width old j c → f ≡ turned (whole_at x e) (whole_cell width old j e) → y ≡ whole_at x c → q ≡ pos (unsigned_abs (whole_at x e)) → d ≡ pos den →
     (c ≡ e → z ≡ f *ℤ d) → ((c ≡ e → ⊥) → z ≡ (o *ℤ q) +ℤ neg_ℤ (f *ℤ y)) → IsChanged width 1 den old x j e c z
 number_raised width den old x j e c z o f y q d eo ef ey eq ed enters other = record {

@@ -7,7 +7,7 @@ use Rattle.mpc_rows.specs.LinearSystem.{LinearSystem, height}
 use Rattle.mpc_rows.specs.Run.{Position, goes_on, count, may_leave, may_enter, turn, position}
 use Rattle.mpc_runs.specs.declared.variables.Seat.{Seat}
 use Rattle.mpc_runs.specs.declared.variables.Seat.TheVariants.{Column}
-use Rattle.mpc_runs.specs.Table.{seat_at, in_row, IsSeated}
+use Rattle.mpc_runs.specs.Table.{seat_at, in_row, IsSeated, AreNonbasic}
 use Rattle.mpc_whole.specs.Norms.{Over}
 use Rattle.mpc_whole.specs.Whole.{side_cell}
 use Rattle.mpc_runs.specs.WholeNumbers.{turned}
@@ -46,9 +46,10 @@ row_cell s a v x c = cond (ltb x s.width) (whole_cell s.width v x c) (side_cell 
 abbrev pub coefficient_of : List ℕ → ℕ → ℕ → ℕ → ℤ → ℚ
 coefficient_of k den x y z = frac (z *ℤ pos (scale_at k y)) (den * scale_at k x)
 
--- the variables stand so at a position, where the unknowns have these numbers over a denominator
-pub record IsPlaced (s : LinearSystem) (n : ℕ) (seats : List Seat) (den : ℕ) (v : List ℤ) : Type 0 where
+-- the variables stand so at a position, these of them in the columns, where the unknowns have these numbers over a denominator
+pub record IsPlaced (s : LinearSystem) (n : ℕ) (seats : List Seat) (nonbasic : List ℕ) (den : ℕ) (v : List ℤ) : Type 0 where
   pub seated : IsSeated (height s) s.width n seats
+  pub columns : AreNonbasic s.width seats nonbasic
   pub square : length v ≡ s.width * s.width
   pub some : 0 < den
 

@@ -8,4 +8,5 @@ pub mod Found
 pub mod Judged
 pub mod Lists
 pub mod Held
+pub mod Changes
 pub mod PositionTheorems

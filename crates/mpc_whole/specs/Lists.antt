@@ -12,21 +12,21 @@ use Rattle.mpc_scaled.specs.Scaled.{IsSmall}
 pub record Listed : Type 0 where
   pub seats : List Seat
   pub nonbasic : List ℕ
-  pub v : List ℤ
+  pub numbers : List ℤ
   pub firsts : List ℤ
   pub seconds : List ℤ
 
 abbrev pub of_short : RunLists → Listed
-of_short l = record { seats = l.seats.items; nonbasic = l.nonbasic.items; v = l.v.items; firsts = l.firsts.items; seconds = l.seconds.items }
+of_short l = record { seats = l.seats.items; nonbasic = l.nonbasic.items; numbers = l.numbers.items; firsts = l.firsts.items; seconds = l.seconds.items }
 
 abbrev pub of_wide : WideLists → Listed
-of_wide l = record { seats = l.seats.items; nonbasic = l.nonbasic.items; v = l.v.items; firsts = l.firsts.items; seconds = l.seconds.items }
+of_wide l = record { seats = l.seats.items; nonbasic = l.nonbasic.items; numbers = l.numbers.items; firsts = l.firsts.items; seconds = l.seconds.items }
 
 -- lists of a run of the system, whose numbers of the position are at most this in size
 pub record AreListsOf (s : LinearSystem) (most : ℕ) (l : Listed) : Type 0 where
   pub seated : IsSeated (height s) s.width (count s) l.seats
   pub columns : AreNonbasic s.width l.seats l.nonbasic
-  pub square : length l.v ≡ s.width * s.width
-  pub own : IsSmall most l.v
+  pub square : length l.numbers ≡ s.width * s.width
+  pub own : IsSmall most l.numbers
   pub first_size : length l.firsts ≡ s.width
   pub second_size : length l.seconds ≡ s.width

@@ -1,11 +1,14 @@
 -- What a run in whole numbers stands on, and the numbers of one of its positions.
-use Rattle.std.specs.Prelude.{◌≡◌, ℕ, ◌+◌, ◌*◌, ◌<◌, ◌≤◌, ◌^◌, List, length, ℤ, unsigned_abs, ◌*ℤ◌}
+use Rattle.std.specs.Prelude.{◌≡◌, ℕ, ◌+◌, ◌-◌, ◌*◌, ◌<◌, ◌≤◌, ◌^◌, List, length, ℤ, pos, unsigned_abs, ◌*ℤ◌, neg_ℤ}
+use Rattle.mpc_exact.specs.Rational.{ℚ, int, frac}
+use Rattle.mpc_space.specs.Vector.{coordinate}
 use Rattle.mpc_rows.specs.LinearSystem.{LinearSystem, height}
+use Rattle.mpc_rows.specs.Run.{count}
 use Rattle.mpc_runs.specs.declared.variables.Seat.{Seat}
-use Rattle.mpc_runs.specs.Table.{IsSeated}
+use Rattle.mpc_runs.specs.Table.{variable_at, AreNonbasic}
 use Rattle.mpc_runs.specs.WholeNumbers.{whole_total, HasRoom}
 use Rattle.mpc_whole.specs.Whole.{HasBounds}
-use Rattle.mpc_scaled.specs.Scaled.{whole_at, whole_cell, AreScales, IsSmall, IsWholeSystem}
+use Rattle.mpc_scaled.specs.Scaled.{whole_at, whole_cell, scale_at, AreScales, IsSmall, IsWholeSystem}
 
 -- the numbers of a system of so many variables, with room for sums of their products
 pub record HasNumbers (s : LinearSystem) (n : ℕ) (k : List ℕ) (a b : List ℤ) : Type 0 where
@@ -42,10 +45,18 @@ pub record IsPivot (width : ℕ) (a v : List ℤ) (i e den size : ℕ) : Type 0 
   pub size_small : size ≤ 2 ^ 62
   pub numbers_small : IsSmall (2 ^ 62) v
 
--- the row x of the variable l over a denominator, where the variables stand so
-pub record IsRefuting (s : LinearSystem) (k : List ℕ) (seats : List Seat) (x : List ℤ) (den l : ℕ) : Type 0 where
+-- the row x of the side l over a denominator, where these variables stand in the columns
+pub record IsRefuting (s : LinearSystem) (k : List ℕ) (nonbasic : List ℕ) (x : List ℤ) (den l : ℕ) : Type 0 where
   pub scales : AreScales s k
-  pub seated : IsSeated (height s) s.width (length seats) seats
+  pub columns : length nonbasic ≡ s.width
+  pub below : (c : ℕ) → c < s.width → variable_at nonbasic c < count s
   pub row_size : length x ≡ s.width
   pub some : 0 < den
-  pub leaves : l < length seats
+  pub side : s.width ≤ l
+  pub leaves : l < count s
+
+-- of the multipliers over a denominator, those of the sides in the first columns stand in the list, and no others do
+pub record HasColumnMultipliers (width : ℕ) (k : List ℕ) (nonbasic : List ℕ) (x : List ℤ) (den columns : ℕ) (m : List ℚ) : Type 0 where
+  pub inside : (seats : List Seat) → AreNonbasic width seats nonbasic
+      → (c : ℕ) → c < columns → width ≤ variable_at nonbasic c → coordinate m (variable_at nonbasic c - width) ≡ frac (neg_ℤ (whole_at x c *ℤ pos (scale_at k (variable_at nonbasic c)))) den
+  pub outside : (i : ℕ) → ((c : ℕ) → c < columns → width + i ≡ variable_at nonbasic c → ⊥) → coordinate m i ≡ int (pos 0)

@@ -9,15 +9,26 @@ ghost use Rattle.mpc_runs.specs.WholeNumbers.{HasRoom};
 ghost use Rattle.mpc_whole.specs.Whole.{side_cell};
 ghost use Rattle.mpc_scaled.specs.Scaled.{whole_at, whole_cell, scale_at, IsSmall};
 ghost use Rattle.mpc_whole.specs.Running.{HasNumbers};
-ghost use Rattle.mpc_whole.specs.Judged.{HasRoomAt, HasSizes, IsJudged, IsNorm, IsRowWithin};
+ghost use Rattle.mpc_whole.specs.Judged.{HasRoomAt, HasSizes, IsJudged, IsNorm, IsPlaced, IsRowWithin};
 
 use crate::frames::JudgedFrame;
 use mpc_quotients::column_value;
-use mpc_runs::{Seat, column_of, is_basic};
+use mpc_runs::Seat;
 use mpc_scaled::{WholeSystem, greatest};
 
 /// What the products that are formed at a position may have.
 pub(crate) const ROOM: u128 = 1 << 125;
+
+/// A position of a run: where the variables stand, which of them stand in the columns, and the numbers of the unknowns
+/// over a denominator, none of which is above own.
+#[derive(Clone, Copy, Drop)]
+pub(crate) struct Here<'a> {
+    pub seats: &'a [Seat],
+    pub nonbasic: &'a [usize],
+    pub numbers: &'a [i128],
+    pub den: u128,
+    pub own: u128,
+}
 
 /// What the numbers of a position are multiplied by, at most: those in the column of the variable that enters by a
 /// top, all others and the denominator by a size.
@@ -208,25 +219,26 @@ pub(crate) fn greatest_scale(scales: &[u64]) -> u64
     most
 }
 
-/// If no number of any row in a column is above a limit in size. The rows of the sides are formed only where their norm
-/// doesn't show it.
+/// If no number of any row in a column is above a limit in size, where those of the unknowns are at most a top. The rows
+/// of the sides are formed only where their norm doesn't show it.
 fn is_column_within(
     system: &WholeSystem,
     entries: &[i64],
     numbers: &[i128],
     column: usize,
+    top: u128,
     limit: u128,
     norm: u128,
 ) -> Option<()>
     requires entries { length entries.now ≡ height system.now * system.now.width }
     requires square { length numbers.now ≡ system.now.width * system.now.width }
     requires column { column < system.now.width }
+    requires top { (unknown : ℕ) → unknown < system.now.width → unsigned_abs (whole_cell system.now.width numbers.now unknown column) ≤ top }
     requires norm { IsNorm system.now.width entries.now norm }
     requires room { HasRoom system.now.width (2 ^ 62) entries.now }
     ensures unknowns { IfSome result (λ _. (unknown : ℕ) → unknown < system.now.width → unsigned_abs (whole_cell system.now.width numbers.now unknown column) ≤ limit) }
     ensures sides { IfSome result (λ _. (side : ℕ) → side < height system.now → unsigned_abs (side_cell system.now entries.now numbers.now side column) ≤ limit) }
 {
-    let top = column_top(numbers, system.unknowns(), column);
     if top > limit {
         return None;
     }
@@ -239,54 +251,49 @@ fn is_column_within(
     are_sides_within(system, entries, numbers, column, limit, true)
 }
 
-/// If products show that the numbers of all rows in the column of a variable have room.
+/// If products show that the numbers of all rows in the column of a variable have room, where those of the unknowns are
+/// at most a top.
 fn have_clear_room(
     system: &WholeSystem,
     frame: &JudgedFrame,
-    numbers: &[i128],
     by: Factors,
     variable: usize,
-    column: usize,
+    top: u128,
 ) -> Option<()>
     requires numbers { HasNumbers system.now frame.now.count frame.now.scales.now frame.now.a.now frame.now.b.now }
     requires below { variable < frame.now.count }
-    requires square { length numbers.now ≡ system.now.width * system.now.width }
-    requires column { column < system.now.width }
-    requires norm { IsNorm system.now.width frame.now.a.now frame.now.norm }
-    ensures unknowns { IfSome result (λ _. (unknown : ℕ) → unknown < system.now.width → HasRoomAt system.now frame.now.scales.now frame.now.b.now by.enters by.top by.size variable (whole_cell system.now.width numbers.now unknown column)) }
-    ensures sides { IfSome result (λ _. (side : ℕ) → side < height system.now → HasRoomAt system.now frame.now.scales.now frame.now.b.now by.enters by.top by.size variable (side_cell system.now frame.now.a.now numbers.now side column)) }
+    ensures { IfSome result (λ _. (z : ℤ) → unsigned_abs z ≤ top * frame.now.norm → HasRoomAt system.now frame.now.scales.now frame.now.b.now by.enters by.top by.size variable z) }
 {
-    let top = column_top(numbers, system.unknowns(), column);
     let most = top.checked_mul(frame.norm)?;
     have_room(system, frame, by, variable, most)
 }
 
 /// If the numbers of all rows at a position have room, as each column shows by itself. Only where products don't show
 /// it is it asked by divisions.
-fn judge_columns(
-    seats: &[Seat],
-    numbers: &[i128],
-    system: &WholeSystem,
-    frame: &JudgedFrame,
-    by: Factors,
-) -> Option<()>
+fn judge_columns(here: &Here, system: &WholeSystem, frame: &JudgedFrame, by: Factors) -> Option<()>
     requires numbers { HasNumbers system.now frame.now.count frame.now.scales.now frame.now.a.now frame.now.b.now }
     requires norm { IsNorm system.now.width frame.now.a.now frame.now.norm }
-    requires seated { IsSeated (height system.now) system.now.width frame.now.count seats.now }
-    requires square { length numbers.now ≡ system.now.width * system.now.width }
-    ensures unknowns { IfSome result (λ _. (unknown variable column : ℕ) → unknown < system.now.width → variable < frame.now.count → seat_at seats.now variable ≡ Column column → HasRoomAt system.now frame.now.scales.now frame.now.b.now by.enters by.top by.size variable (whole_cell system.now.width numbers.now unknown column)) }
-    ensures sides { IfSome result (λ _. (side variable column : ℕ) → side < height system.now → variable < frame.now.count → seat_at seats.now variable ≡ Column column → HasRoomAt system.now frame.now.scales.now frame.now.b.now by.enters by.top by.size variable (side_cell system.now frame.now.a.now numbers.now side column)) }
+    requires here { IsPlaced system.now frame.now.count here.now.seats.now here.now.nonbasic.now here.now.den here.now.numbers.now }
+    ensures unknowns { IfSome result (λ _. (unknown variable column : ℕ) → unknown < system.now.width → variable < frame.now.count → seat_at here.now.seats.now variable ≡ Column column → HasRoomAt system.now frame.now.scales.now frame.now.b.now by.enters by.top by.size variable (whole_cell system.now.width here.now.numbers.now unknown column)) }
+    ensures sides { IfSome result (λ _. (side variable column : ℕ) → side < height system.now → variable < frame.now.count → seat_at here.now.seats.now variable ≡ Column column → HasRoomAt system.now frame.now.scales.now frame.now.b.now by.enters by.top by.size variable (side_cell system.now frame.now.a.now here.now.numbers.now side column)) }
 {
-    for variable in 0..frame.count {
-        if is_basic(seats, variable) {
-            continue;
-        }
-        let column = column_of(seats, variable);
-        if let Some(()) = have_clear_room(system, frame, numbers, by, variable, column) {
+    let width = system.unknowns();
+    for column in 0..width {
+        let variable = here.nonbasic[column];
+        let top = column_top(here.numbers, width, column);
+        if let Some(()) = have_clear_room(system, frame, by, variable, top) {
             continue;
         }
         let limit = entry_limit(system, frame, by, variable);
-        is_column_within(system, frame.a, numbers, column, limit, frame.norm)?;
+        is_column_within(
+            system,
+            frame.a,
+            here.numbers,
+            column,
+            top,
+            limit,
+            frame.norm,
+        )?;
     }
     Some(())
 }
@@ -294,50 +301,38 @@ fn judge_columns(
 /// If the numbers of all rows at a position, and its denominator, leave room for products with numbers of such
 /// sizes. No number of an unknown's row is above own: mostly this alone shows it, and the columns aren't looked at.
 pub(crate) fn judge(
-    seats: &[Seat],
-    numbers: &[i128],
+    here: &Here,
     system: &WholeSystem,
     frame: &JudgedFrame,
-    den: u128,
-    own: u128,
     by: Factors,
 ) -> Option<()>
     requires numbers { HasNumbers system.now frame.now.count frame.now.scales.now frame.now.a.now frame.now.b.now }
     requires sizes { HasSizes system.now.width frame.now.scales.now frame.now.a.now frame.now.b.now frame.now.norm frame.now.most_scale frame.now.most_side }
-    requires seated { IsSeated (height system.now) system.now.width frame.now.count seats.now }
-    requires square { length numbers.now ≡ system.now.width * system.now.width }
-    requires own { IsSmall own numbers.now }
-    ensures { IfSome result (λ _. IsJudged system.now frame.now.count seats.now frame.now.scales.now frame.now.a.now frame.now.b.now den numbers.now by.enters by.top by.size) }
+    requires here { IsPlaced system.now frame.now.count here.now.seats.now here.now.nonbasic.now here.now.den here.now.numbers.now }
+    requires own { IsSmall here.now.own here.now.numbers.now }
+    ensures { IfSome result (λ _. IsJudged system.now frame.now.count here.now.seats.now frame.now.scales.now frame.now.a.now frame.now.b.now here.now.den here.now.numbers.now by.enters by.top by.size) }
 {
-    has_den_room(frame, den, by)?;
-    if let Some(()) = have_common_room(system, frame, by, own) {
+    has_den_room(frame, here.den, by)?;
+    if let Some(()) = have_common_room(system, frame, by, here.own) {
         return Some(());
     }
-    judge_columns(seats, numbers, system, frame, by)
+    judge_columns(here, system, frame, by)
 }
 
 /// If the numbers of a position where no pivot is made, and its denominator, leave room for its values.
-pub(crate) fn judge_end(
-    seats: &[Seat],
-    numbers: &[i128],
-    system: &WholeSystem,
-    frame: &JudgedFrame,
-    den: u128,
-    own: u128,
-) -> Option<()>
+pub(crate) fn judge_end(here: &Here, system: &WholeSystem, frame: &JudgedFrame) -> Option<()>
     requires numbers { HasNumbers system.now frame.now.count frame.now.scales.now frame.now.a.now frame.now.b.now }
     requires sizes { HasSizes system.now.width frame.now.scales.now frame.now.a.now frame.now.b.now frame.now.norm frame.now.most_scale frame.now.most_side }
-    requires seated { IsSeated (height system.now) system.now.width frame.now.count seats.now }
-    requires square { length numbers.now ≡ system.now.width * system.now.width }
-    requires own { IsSmall own numbers.now }
-    ensures { IfSome result (λ _. IsJudged system.now frame.now.count seats.now frame.now.scales.now frame.now.a.now frame.now.b.now den numbers.now 0 0 0) }
+    requires here { IsPlaced system.now frame.now.count here.now.seats.now here.now.nonbasic.now here.now.den here.now.numbers.now }
+    requires own { IsSmall here.now.own here.now.numbers.now }
+    ensures { IfSome result (λ _. IsJudged system.now frame.now.count here.now.seats.now frame.now.scales.now frame.now.a.now frame.now.b.now here.now.den here.now.numbers.now 0 0 0) }
 {
     let none = Factors {
         enters: 0,
         top: 0,
         size: 0,
     };
-    judge(seats, numbers, system, frame, den, own, none)
+    judge(here, system, frame, none)
 }
 
 /// What the numbers of a position are multiplied by where the row of one variable leaves and another enters.

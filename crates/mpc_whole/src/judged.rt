@@ -4,17 +4,17 @@ ghost use Rattle.std.specs.Prelude.{◌≡◌, ◌-◌, ◌<◌, ◌≤◌, ◌^
 ghost use Rattle.mpc_rows.specs.Run.{count, steps};
 ghost use Rattle.mpc_whole.specs.Lists.{AreListsOf, of_wide};
 ghost use Rattle.mpc_whole.specs.Underway.{HasEnded};
-ghost use Rattle.mpc_whole.specs.Judged.{IsDividedRow, AreMildBefore, IsMildlyUnderway, IsGoingOn, HasSizes, IsProductOf};
+ghost use Rattle.mpc_whole.specs.Judged.{IsDividedRow, AreMildBefore, IsMildlyUnderway, IsGoingOn, HasSizes, IsJudged, IsProductOf};
 ghost use Rattle.mpc_whole.specs.Found.{IfJudgedEnd, IfJudgedNext};
 ghost use Rattle.mpc_whole.specs.Running.{HasNumbers};
 ghost use Rattle.mpc_runs.specs.WholeNumbers.{HasRoom};
 ghost use Rattle.mpc_scaled.specs.Scaled.{IsWholeSystem};
 
 use crate::frames::JudgedFrame;
-use crate::judge::{Factors, factors_of, greatest_scale, judge_end, norm_of};
+use crate::judge::{Factors, Here, factors_of, greatest_scale, judge_end, norm_of};
 use crate::lists::WideLists;
 use crate::reduced::reduce;
-use crate::stated::{Here, StatedPivot, judge_pivot};
+use crate::stated::{StatedPivot, judge_pivot};
 use crate::whole::{Ending, STEPS, swap};
 use crate::wide_turn::{DividedRow, divided_row, wide_entering, wide_first_out};
 use crate::wide_values::wide_stand;
@@ -76,10 +76,10 @@ fn advance(
     requires numbers { HasNumbers system.now frame.now.count frame.now.scales.now frame.now.a.now frame.now.b.now }
     requires sizes { HasSizes system.now.width frame.now.scales.now frame.now.a.now frame.now.b.now frame.now.norm frame.now.most_scale frame.now.most_side }
     requires lists { AreListsOf system.now place.own (of_wide lists.old) }
-    requires row { IsDividedRow system.now frame.now.a.now lists.old.v.items (leaving - system.now.width) place.den row.divisor row.rest row.numbers.now }
-    requires goes { IsGoingOn system.now (count system.now) lists.old.seats.items frame.now.scales.now place.den lists.old.v.items lists.old.firsts.items lists.old.seconds.items place.greatest place.greatest_den place.product place.first leaving entering }
+    requires row { IsDividedRow system.now frame.now.a.now lists.old.numbers.items (leaving - system.now.width) place.den row.divisor row.rest row.numbers.now }
+    requires goes { IsGoingOn system.now (count system.now) lists.old.seats.items frame.now.scales.now place.den lists.old.numbers.items lists.old.firsts.items lists.old.seconds.items place.greatest place.greatest_den place.product place.first leaving entering }
     ensures lists { IfSome result (λ p. AreListsOf system.now p.own (of_wide lists.new)) }
-    ensures underway { IfSome result (λ p. IsMildlyUnderway system.now (count system.now) lists.new.seats.items frame.now.scales.now p.den lists.new.v.items lists.new.firsts.items lists.new.seconds.items p.greatest p.greatest_den p.product p.first) }
+    ensures underway { IfSome result (λ p. IsMildlyUnderway system.now (count system.now) lists.new.seats.items frame.now.scales.now p.den lists.new.numbers.items lists.new.firsts.items lists.new.seconds.items p.greatest p.greatest_den p.product p.first) }
 {
     let by = factors_of(
         &lists.nonbasic,
@@ -90,7 +90,8 @@ fn advance(
     )?;
     let here = Here {
         seats: &lists.seats,
-        numbers: &lists.v,
+        nonbasic: &lists.nonbasic,
+        numbers: &lists.numbers,
         den: place.den,
         own: place.own,
     };
@@ -105,7 +106,7 @@ fn advance(
     let product = kept_product(place, own, by, row.divisor, frame.scales[leaving]);
     let column = column_of(&lists.seats, entering);
     let after = reduce(
-        &mut lists.v,
+        &mut lists.numbers,
         row.numbers,
         column,
         place.den,
@@ -125,7 +126,7 @@ fn advance(
         system,
         frame,
         &lists.nonbasic,
-        &lists.v,
+        &lists.numbers,
         after.own,
     )?;
     Some(WidePlace {
@@ -136,6 +137,29 @@ fn advance(
         product,
         first: system.unknowns(),
     })
+}
+
+/// If the numbers of a position where no pivot is made leave room for its values.
+fn judge_last(
+    lists: &WideLists,
+    system: &WholeSystem,
+    frame: &JudgedFrame,
+    place: WidePlace,
+) -> Option<()>
+    requires numbers { HasNumbers system.now frame.now.count frame.now.scales.now frame.now.a.now frame.now.b.now }
+    requires sizes { HasSizes system.now.width frame.now.scales.now frame.now.a.now frame.now.b.now frame.now.norm frame.now.most_scale frame.now.most_side }
+    requires lists { AreListsOf system.now place.own (of_wide lists.now) }
+    requires some { 0 < place.den }
+    ensures { IfSome result (λ _. IsJudged system.now (count system.now) lists.now.seats.items frame.now.scales.now frame.now.a.now frame.now.b.now place.den lists.now.numbers.items 0 0 0) }
+{
+    let here = Here {
+        seats: &lists.seats,
+        nonbasic: &lists.nonbasic,
+        numbers: &lists.numbers,
+        den: place.den,
+        own: place.own,
+    };
+    judge_end(&here, system, frame)
 }
 
 /// One turn of the run.
@@ -150,12 +174,12 @@ fn judged_step(
     requires sizes { HasSizes system.now.width frame.now.scales.now frame.now.a.now frame.now.b.now frame.now.norm frame.now.most_scale frame.now.most_side }
     requires lists { AreListsOf system.now place.own (of_wide lists.old) }
     requires row_size { length row.old ≡ system.now.width }
-    requires underway { IsMildlyUnderway system.now (count system.now) lists.old.seats.items frame.now.scales.now place.den lists.old.v.items lists.old.firsts.items lists.old.seconds.items place.greatest place.greatest_den place.product place.first }
+    requires underway { IsMildlyUnderway system.now (count system.now) lists.old.seats.items frame.now.scales.now place.den lists.old.numbers.items lists.old.firsts.items lists.old.seconds.items place.greatest place.greatest_den place.product place.first }
     ensures same { IfSome result (λ t. IfJudgedEnd t (λ _. lists.new ≡ lists.old)) }
-    ensures end { IfSome result (λ t. IfJudgedEnd t (λ e. HasEnded system.now (count system.now) lists.old.seats.items frame.now.scales.now place.den lists.old.v.items lists.old.firsts.items lists.old.seconds.items place.greatest place.greatest_den e)) }
+    ensures end { IfSome result (λ t. IfJudgedEnd t (λ e. HasEnded system.now (count system.now) lists.old.seats.items frame.now.scales.now place.den lists.old.numbers.items lists.old.firsts.items lists.old.seconds.items place.greatest place.greatest_den e)) }
     ensures before { IfSome result (λ t. IfJudgedEnd t (λ _. place.product < 2 ^ 127 → AreMildBefore system.now frame.now.scales.now (steps system.now) place.greatest place.greatest_den place.product)) }
     ensures lists { IfSome result (λ t. IfJudgedNext t (λ p. AreListsOf system.now p.own (of_wide lists.new))) }
-    ensures underway { IfSome result (λ t. IfJudgedNext t (λ p. IsMildlyUnderway system.now (count system.now) lists.new.seats.items frame.now.scales.now p.den lists.new.v.items lists.new.firsts.items lists.new.seconds.items p.greatest p.greatest_den p.product p.first)) }
+    ensures underway { IfSome result (λ t. IfJudgedNext t (λ p. IsMildlyUnderway system.now (count system.now) lists.new.seats.items frame.now.scales.now p.den lists.new.numbers.items lists.new.firsts.items lists.new.seconds.items p.greatest p.greatest_den p.product p.first)) }
 {
     let out = wide_first_out(
         system,
@@ -166,14 +190,22 @@ fn judged_step(
         place,
     )?;
     let Some(leaving) = out else {
-        judge_end(&lists.seats, &lists.v, system, frame, place.den, place.own)?;
+        judge_last(lists, system, frame, place)?;
         return Some(JudgedTurn::Ends(Ending::Point));
     };
     let side = leaving - system.unknowns();
     let short = place.own <= 1 << 62;
-    let (divisor, rest) = divided_row(row, system, frame.a, &lists.v, side, place.den, short)?;
+    let (divisor, rest) = divided_row(
+        row,
+        system,
+        frame.a,
+        &lists.numbers,
+        side,
+        place.den,
+        short,
+    )?;
     let Some(entering) = wide_entering(system, &lists.nonbasic, row, frame.count) else {
-        judge_end(&lists.seats, &lists.v, system, frame, place.den, place.own)?;
+        judge_last(lists, system, frame, place)?;
         return Some(JudgedTurn::Ends(Ending::Refuted(leaving)));
     };
     let divided = DividedRow {
@@ -200,9 +232,9 @@ pub fn judged_run(
     requires room { HasRoom system.now.width (2 ^ 62) numbers.now.a.now }
     requires lists { AreListsOf system.now from.own (of_wide lists.old) }
     requires row_size { length row.old ≡ system.now.width }
-    requires underway { IsMildlyUnderway system.now (count system.now) lists.old.seats.items numbers.now.scales.now from.den lists.old.v.items lists.old.firsts.items lists.old.seconds.items from.greatest from.greatest_den from.product from.first }
+    requires underway { IsMildlyUnderway system.now (count system.now) lists.old.seats.items numbers.now.scales.now from.den lists.old.numbers.items lists.old.firsts.items lists.old.seconds.items from.greatest from.greatest_den from.product from.first }
     ensures lists { IfSome result (λ t. AreListsOf system.now t.0.own (of_wide lists.new)) }
-    ensures end { IfSome result (λ t. HasEnded system.now (count system.now) lists.new.seats.items numbers.now.scales.now t.0.den lists.new.v.items lists.new.firsts.items lists.new.seconds.items t.0.greatest t.0.greatest_den t.1) }
+    ensures end { IfSome result (λ t. HasEnded system.now (count system.now) lists.new.seats.items numbers.now.scales.now t.0.den lists.new.numbers.items lists.new.firsts.items lists.new.seconds.items t.0.greatest t.0.greatest_den t.1) }
     ensures before { IfSome result (λ t. t.0.product < 2 ^ 127 → AreMildBefore system.now numbers.now.scales.now (steps system.now) t.0.greatest t.0.greatest_den t.0.product) }
 {
     let frame = JudgedFrame {

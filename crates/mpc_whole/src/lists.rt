@@ -9,7 +9,7 @@ pub struct RunLists {
     pub seats: Vec<Seat>,
     pub nonbasic: Vec<usize>,
     /// The numbers of the position.
-    pub v: Vec<i64>,
+    pub numbers: Vec<i64>,
     /// The values of the unknowns there, in their first parts and in their second ones.
     pub firsts: Vec<i64>,
     pub seconds: Vec<i64>,
@@ -22,7 +22,7 @@ pub struct WideLists {
     pub seats: Vec<Seat>,
     pub nonbasic: Vec<usize>,
     /// The numbers of the position.
-    pub v: Vec<i128>,
+    pub numbers: Vec<i128>,
     /// The values of the unknowns there, in their first parts and in their second ones.
     pub firsts: Vec<i128>,
     pub seconds: Vec<i128>,

@@ -10,21 +10,11 @@ ghost use Rattle.mpc_whole.specs.Running.{HasNumbers};
 ghost use Rattle.mpc_whole.specs.Judged.{HasSizes, row_cell, coefficient_of, IsPlaced, IsPivotThere, IsRowBelow, IsTermStated, IsRowStated, IsJudgedByRows, IsPivotJudged};
 
 use crate::frames::JudgedFrame;
-use crate::judge::{Factors, ROOM, factor_at, judge, judge_end};
+use crate::judge::{Factors, Here, ROOM, factor_at, judge, judge_end};
 use mpc_frac::Frac;
 use mpc_quotients::{positive, wide_product, wide_side_cell};
-use mpc_runs::{Seat, column_of, is_basic};
+use mpc_runs::{column_of, is_basic};
 use mpc_scaled::WholeSystem;
-
-/// A position of a run: where the variables stand, and the numbers of the unknowns over a denominator, none of which
-/// is above own.
-#[derive(Clone, Copy, Drop)]
-pub(crate) struct Here<'a> {
-    pub seats: &'a [Seat],
-    pub numbers: &'a [i128],
-    pub den: u128,
-    pub own: u128,
-}
 
 /// A pivot: the row of a variable leaves, over a rest of the denominator, and another enters.
 #[derive(Clone, Copy, Drop)]
@@ -81,7 +71,7 @@ fn is_row_below(
     row_variable: usize,
 ) -> Option<()>
     requires numbers { HasNumbers system.now frame.now.count frame.now.scales.now frame.now.a.now frame.now.b.now }
-    requires here { IsPlaced system.now frame.now.count here.now.seats.now here.now.den here.now.numbers.now }
+    requires here { IsPlaced system.now frame.now.count here.now.seats.now here.now.nonbasic.now here.now.den here.now.numbers.now }
     requires below { row_variable < frame.now.count }
     ensures { IfSome result (λ _. IsRowBelow system.now frame.now.count here.now.seats.now frame.now.scales.now frame.now.a.now here.now.den here.now.numbers.now by.enters by.top by.size row_variable) }
 {
@@ -90,11 +80,8 @@ fn is_row_below(
     if room > ROOM {
         return None;
     }
-    for column_variable in 0..frame.count {
-        if is_basic(here.seats, column_variable) {
-            continue;
-        }
-        let column = column_of(here.seats, column_variable);
+    for column in 0..system.unknowns() {
+        let column_variable = here.nonbasic[column];
         let cell = row_cell(system, frame.a, here.numbers, row_variable, column)?;
         let number = cell
             .unsigned_abs()
@@ -137,18 +124,18 @@ fn are_terms_stated(
     pivot: &Frac,
 ) -> Option<()>
     requires numbers { HasNumbers system.now frame.now.count frame.now.scales.now frame.now.a.now frame.now.b.now }
-    requires here { IsPlaced system.now frame.now.count here.now.seats.now here.now.den here.now.numbers.now }
+    requires here { IsPlaced system.now frame.now.count here.now.seats.now here.now.nonbasic.now here.now.den here.now.numbers.now }
     requires by { IsPivotThere system.now frame.now.count here.now.seats.now by.now.leaving by.now.entering by.now.rest by.now.row.now }
     requires below { row_variable < frame.now.count }
     requires pivot { pivot.now ≢ int (pos 0) }
     ensures { IfSome result (λ _. (column_variable d : ℕ) → column_variable < frame.now.count → (column_variable ≡ by.now.entering → ⊥) → seat_at here.now.seats.now column_variable ≡ Column d
         → IsTermStated (coefficient_of frame.now.scales.now here.now.den row_variable column_variable (row_cell system.now frame.now.a.now here.now.numbers.now row_variable d)) factor.now (coefficient_of frame.now.scales.now by.now.rest by.now.leaving column_variable (whole_at by.now.row.now d)) pivot.now) }
 {
-    for column_variable in 0..frame.count {
-        if column_variable == by.entering || is_basic(here.seats, column_variable) {
+    for column in 0..system.unknowns() {
+        let column_variable = here.nonbasic[column];
+        if column_variable == by.entering {
             continue;
         }
-        let column = column_of(here.seats, column_variable);
         let cell = row_cell(system, frame.a, here.numbers, row_variable, column)?;
         let old = coefficient(
             cell,
@@ -177,7 +164,7 @@ fn is_row_stated(
     pivot: &Frac,
 ) -> Option<()>
     requires numbers { HasNumbers system.now frame.now.count frame.now.scales.now frame.now.a.now frame.now.b.now }
-    requires here { IsPlaced system.now frame.now.count here.now.seats.now here.now.den here.now.numbers.now }
+    requires here { IsPlaced system.now frame.now.count here.now.seats.now here.now.nonbasic.now here.now.den here.now.numbers.now }
     requires by { IsPivotThere system.now frame.now.count here.now.seats.now by.now.leaving by.now.entering by.now.rest by.now.row.now }
     requires below { row_variable < frame.now.count }
     requires pivot_some { pivot.now ≢ int (pos 0) }
@@ -208,7 +195,7 @@ fn are_rows_judged(
     pivot: &Frac,
 ) -> Option<()>
     requires numbers { HasNumbers system.now frame.now.count frame.now.scales.now frame.now.a.now frame.now.b.now }
-    requires here { IsPlaced system.now frame.now.count here.now.seats.now here.now.den here.now.numbers.now }
+    requires here { IsPlaced system.now frame.now.count here.now.seats.now here.now.nonbasic.now here.now.den here.now.numbers.now }
     requires by { IsPivotThere system.now frame.now.count here.now.seats.now by.now.leaving by.now.entering by.now.rest by.now.row.now }
     requires pivot_some { pivot.now ≢ int (pos 0) }
     requires pivot { (column : ℕ) → seat_at here.now.seats.now by.now.entering ≡ Column column → pivot.now ≡ coefficient_of frame.now.scales.now by.now.rest by.now.leaving by.now.entering (whole_at by.now.row.now column) }
@@ -237,14 +224,14 @@ fn judge_rows(
     by: &StatedPivot,
 ) -> Option<()>
     requires numbers { HasNumbers system.now frame.now.count frame.now.scales.now frame.now.a.now frame.now.b.now }
-    requires here { IsPlaced system.now frame.now.count here.now.seats.now here.now.den here.now.numbers.now }
+    requires here { IsPlaced system.now frame.now.count here.now.seats.now here.now.nonbasic.now here.now.den here.now.numbers.now }
     requires by { IsPivotThere system.now frame.now.count here.now.seats.now by.now.leaving by.now.entering by.now.rest by.now.row.now }
     requires sizes { HasSizes system.now.width frame.now.scales.now frame.now.a.now frame.now.b.now frame.now.norm frame.now.most_scale frame.now.most_side }
     requires own { IsSmall here.now.own here.now.numbers.now }
     requires same { factors.enters ≡ by.now.entering }
     ensures { IfSome result (λ _. IsJudgedByRows system.now frame.now.count here.now.seats.now frame.now.scales.now frame.now.a.now frame.now.b.now here.now.den here.now.numbers.now by.now.leaving by.now.entering by.now.rest by.now.row.now factors.top factors.size) }
 {
-    judge_end(here.seats, here.numbers, system, frame, here.den, here.own)?;
+    judge_end(here, system, frame)?;
     let column = column_of(here.seats, by.entering);
     let pivot = coefficient(
         by.row[column],
@@ -268,22 +255,14 @@ pub(crate) fn judge_pivot(
     by: &StatedPivot,
 ) -> Option<()>
     requires numbers { HasNumbers system.now frame.now.count frame.now.scales.now frame.now.a.now frame.now.b.now }
-    requires here { IsPlaced system.now frame.now.count here.now.seats.now here.now.den here.now.numbers.now }
+    requires here { IsPlaced system.now frame.now.count here.now.seats.now here.now.nonbasic.now here.now.den here.now.numbers.now }
     requires by { IsPivotThere system.now frame.now.count here.now.seats.now by.now.leaving by.now.entering by.now.rest by.now.row.now }
     requires sizes { HasSizes system.now.width frame.now.scales.now frame.now.a.now frame.now.b.now frame.now.norm frame.now.most_scale frame.now.most_side }
     requires own { IsSmall here.now.own here.now.numbers.now }
     requires same { factors.enters ≡ by.now.entering }
     ensures { IfSome result (λ _. IsPivotJudged system.now frame.now.count here.now.seats.now frame.now.scales.now frame.now.a.now frame.now.b.now here.now.den here.now.numbers.now by.now.leaving by.now.entering by.now.rest by.now.row.now factors.top factors.size) }
 {
-    match judge(
-        here.seats,
-        here.numbers,
-        system,
-        frame,
-        here.den,
-        here.own,
-        factors,
-    ) {
+    match judge(here, system, frame, factors) {
         Some(()) => Some(()),
         None => judge_rows(here, system, frame, factors, by),
     }

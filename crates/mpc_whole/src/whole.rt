@@ -118,7 +118,7 @@ fn advance(
     requires frame { IsFrame system.now frame.now.count frame.now.scales.now frame.now.a.now frame.now.b.now frame.now.most }
     requires lists { AreListsOf system.now place.own (of_short lists.old) }
     requires held { AreHeld system.now frame.now.scales.now frame.now.a.now frame.now.most place.den (of_short lists.old) }
-    requires row { IsSideRow system.now frame.now.a.now lists.old.v.items (leaving - system.now.width) row.now }
+    requires row { IsSideRow system.now frame.now.a.now lists.old.numbers.items (leaving - system.now.width) row.now }
     requires row_small { IsSmall (2 ^ 62) row.now }
     requires turns { AreTurning system.now frame.now.scales.now (of_short lists.old) place leaving entering }
     ensures lists { IfSome result (λ p. AreListsOf system.now p.own (of_short lists.new)) }
@@ -127,7 +127,7 @@ fn advance(
 {
     let column = column_of(&lists.seats, entering);
     let by = Divisor::of(place.den);
-    let own = exchange(&mut lists.v, row, column, by, frame.most)?;
+    let own = exchange(&mut lists.numbers, row, column, by, frame.most)?;
     swap(
         &mut lists.seats,
         &mut lists.nonbasic,
@@ -149,7 +149,7 @@ fn advance(
         system,
         frame,
         &lists.nonbasic,
-        &lists.v,
+        &lists.numbers,
         pivot,
     )?;
     Some(Place {
@@ -195,7 +195,7 @@ fn step(
         system,
         frame,
         &lists.nonbasic,
-        &lists.v,
+        &lists.numbers,
         leaving_variable,
     ) else {
         return Some(Found::Ended(Ending::Refuted(leaving_variable)));

@@ -1,21 +1,23 @@
 //! What a run in whole numbers ends with.
 
-ghost use Rattle.std.specs.Prelude.{◌≡◌, ◌+◌, ◌*◌, ◌<◌, ◌≤◌, ◌*ℤ◌, IfSome, length};
+ghost use Rattle.std.specs.Prelude.{◌≡◌, ℕ, List, pos, ◌+◌, ◌*◌, ◌<◌, ◌≤◌, ◌*ℤ◌, neg_ℤ, IfSome, length};
 ghost use Rattle.mpc_exact.specs.Rational.{frac, quotient};
+ghost use Rattle.mpc_space.specs.Vector.{zeros};
 ghost use Rattle.mpc_rows.specs.LinearSystem.{height};
-ghost use Rattle.mpc_rows.specs.Run.{Position, count, multiplier, turn, is_refuted, last_position};
-ghost use Rattle.mpc_runs.specs.Table.{IsSeated};
+ghost use Rattle.mpc_rows.specs.Run.{Position, count, turn, is_refuted, last_position};
+ghost use Rattle.mpc_runs.specs.declared.variables.Seat.{Seat};
+ghost use Rattle.mpc_runs.specs.Table.{variable_at, IsSeated, AreNonbasic};
 ghost use Rattle.mpc_runs.specs.RunEnd.{IsValues, IsMultipliers};
-ghost use Rattle.mpc_whole.specs.Running.{IsRefuting};
+ghost use Rattle.mpc_whole.specs.Running.{IsRefuting, HasColumnMultipliers};
 ghost use Rattle.mpc_runs.specs.WholeNumbers.{whole_total};
 ghost use Rattle.mpc_whole.specs.Whole.{IsForm, HasBasis, IsRowOf, IsSideRow, AreValues, ArePairs};
-ghost use Rattle.mpc_scaled.specs.Scaled.{whole_cell, IsWholeSystem};
+ghost use Rattle.mpc_scaled.specs.Scaled.{whole_cell, AreScales, IsWholeSystem};
 
 use crate::lists::{RunLists, WideLists};
 use crate::wide_turn::divided_side_row;
 use mpc_frac::Frac;
 use mpc_quotients::{positive, wide_product, widened};
-use mpc_runs::{Seat, Standing, column_of, is_basic, zero};
+use mpc_runs::{Standing, zero};
 use mpc_scaled::{WholeNumbers, WholeSystem, product};
 
 /// The fraction `numerator / den`, if it has 128 bits.
@@ -77,54 +79,64 @@ fn wide_point(values: &mut [Standing], firsts: &[i128], seconds: &[i128], den: u
     Some(())
 }
 
-/// The multiplier of a side, where the row of the variable that leaves refutes.
-fn multiplier(
-    system: &WholeSystem,
-    scales: &[u64],
-    seats: &[Seat],
-    row: &[i128],
-    den: u128,
-    leaving: usize,
-    side: usize,
-) -> Option<Frac>
-    requires row { IsRefuting system.now scales.now seats.now row.now den leaving }
-    requires below { side < height system.now }
-    ensures { IfSome result (λ m. (p : Position) → HasBasis (length seats.now) seats.now p → IsRowOf (length seats.now) seats.now scales.now p den leaving row.now → m ≡ multiplier system.now p leaving side) }
+/// The multiplier of a side that stands in a column of the row that refutes, where its number there is this one.
+fn multiplier(number: i128, scale: u64, den: u128) -> Option<Frac>
+    requires { 0 < den }
+    ensures { IfSome result (λ m. m ≡ frac (neg_ℤ (number *ℤ pos scale)) den) }
 {
-    let variable = system.unknowns() + side;
-    if variable == leaving {
-        return Some(Frac::whole(1));
-    }
-    if is_basic(seats, variable) {
-        return Some(zero());
-    }
-    let column = column_of(seats, variable);
-    let negative = 0_i128.checked_sub(row[column])?;
-    let scale = positive(scales[variable] as u128)?;
-    let up = wide_product(negative, scale)?;
-    let down = den.checked_mul(scales[leaving] as u128)?;
-    let over = positive(down)?;
-    quotient(up, over)
+    let negative = 0_i128.checked_sub(number)?;
+    let numerator = wide_product(negative, positive(scale as u128)?)?;
+    fraction(numerator, den)
 }
 
-/// The multipliers, where the row of the variable that leaves refutes.
+/// The multipliers of the sides that stand in the columns, over a denominator, where the row refutes.
+fn column_multipliers(
+    list: &mut [Frac],
+    system: &WholeSystem,
+    scales: &[u64],
+    nonbasic: &[usize],
+    row: &[i128],
+    den: u128,
+) -> Option<()>
+    requires zeros { list.old ≡ zeros (height system.now) }
+    requires columns { length nonbasic.now ≡ system.now.width }
+    requires below { (column : ℕ) → column < system.now.width → variable_at nonbasic.now column < count system.now }
+    requires scales { AreScales system.now scales.now }
+    requires row_size { length row.now ≡ system.now.width }
+    requires some { 0 < den }
+    ensures { IfSome result (λ _. HasColumnMultipliers system.now.width scales.now nonbasic.now row.now den system.now.width list.new) }
+{
+    let width = system.unknowns();
+    for column in 0..width {
+        let variable = nonbasic[column];
+        if variable < width {
+            continue;
+        }
+        let value = multiplier(row[column], scales[variable], den)?;
+        list[variable - width] = value;
+    }
+    Some(())
+}
+
+/// The multipliers, where the row of the variable that leaves refutes. Only its own and those of the sides that stand
+/// in the columns are not 0.
 fn multipliers(
     list: &mut [Frac],
     system: &WholeSystem,
     scales: &[u64],
-    seats: &[Seat],
+    nonbasic: &[usize],
     row: &[i128],
     den: u128,
     leaving: usize,
 ) -> Option<()>
-    requires room { length list.old ≡ height system.now }
-    requires row { IsRefuting system.now scales.now seats.now row.now den leaving }
-    ensures { IfSome result (λ _. (p : Position) → HasBasis (length seats.now) seats.now p → IsRowOf (length seats.now) seats.now scales.now p den leaving row.now → IsMultipliers system.now p leaving list.new) }
+    requires zeros { list.old ≡ zeros (height system.now) }
+    requires row { IsRefuting system.now scales.now nonbasic.now row.now den leaving }
+    ensures { IfSome result (λ _. (seats : List Seat) (p : Position) → IsSeated (height system.now) system.now.width (count system.now) seats → AreNonbasic system.now.width seats nonbasic.now → HasBasis (count system.now) seats p → IsRowOf (count system.now) seats scales.now p den leaving row.now
+        → IsMultipliers system.now p leaving list.new) }
 {
-    for side in 0..system.height() {
-        let m = multiplier(system, scales, seats, row, den, leaving, side)?;
-        list[side] = m;
-    }
+    let over = den.checked_mul(scales[leaving] as u128)?;
+    column_multipliers(list, system, scales, nonbasic, row, over)?;
+    list[leaving - system.unknowns()] = Frac::whole(1);
     Some(())
 }
 
@@ -210,7 +222,8 @@ pub fn wide_last_values(
     wide_point(values, firsts, seconds, den)
 }
 
-/// The multipliers at the last position of a run, where the row of the side that leaves refutes.
+/// The multipliers at the last position of a run, where the row of the side that leaves refutes. The list has zeros
+/// before, and keeps them where a multiplier is 0.
 pub fn last_multipliers(
     list: &mut [Frac],
     row: &mut [i128],
@@ -220,29 +233,31 @@ pub fn last_multipliers(
     den: u128,
     leaving: usize,
 ) -> Option<()>
-    requires list_room { length list.old ≡ height system.now }
+    requires zeros { list.old ≡ zeros (height system.now) }
     requires row_room { length row.old ≡ system.now.width }
     requires whole { IsWholeSystem system.now numbers.now.scales.now numbers.now.a.now numbers.now.b.now }
     requires seated { IsSeated (height system.now) system.now.width (count system.now) lists.now.seats.items }
-    requires square { length lists.now.v.items ≡ system.now.width * system.now.width }
-    requires form { IsForm system.now (count system.now) lists.now.seats.items numbers.now.scales.now den lists.now.v.items (last_position system.now) }
+    requires columns { AreNonbasic system.now.width lists.now.seats.items lists.now.nonbasic.items }
+    requires square { length lists.now.numbers.items ≡ system.now.width * system.now.width }
+    requires form { IsForm system.now (count system.now) lists.now.seats.items numbers.now.scales.now den lists.now.numbers.items (last_position system.now) }
     requires refuted { turn system.now (last_position system.now) ≡ is_refuted leaving }
     ensures { IfSome result (λ _. IsMultipliers system.now (last_position system.now) leaving list.new) }
 {
     let side = leaving - system.unknowns();
-    side_row(row, system, numbers.a, &lists.v, side)?;
+    side_row(row, system, numbers.a, &lists.numbers, side)?;
     multipliers(
         list,
         system,
         numbers.scales,
-        &lists.seats,
+        &lists.nonbasic,
         row,
         den,
         leaving,
     )
 }
 
-/// The multipliers at the last position of a run in 128 bits, where the row of the side that leaves refutes.
+/// The multipliers at the last position of a run in 128 bits, where the row of the side that leaves refutes. The list
+/// has zeros before, and keeps them where a multiplier is 0.
 pub fn wide_last_multipliers(
     list: &mut [Frac],
     row: &mut [i128],
@@ -252,22 +267,23 @@ pub fn wide_last_multipliers(
     den: u128,
     leaving: usize,
 ) -> Option<()>
-    requires list_room { length list.old ≡ height system.now }
+    requires zeros { list.old ≡ zeros (height system.now) }
     requires row_room { length row.old ≡ system.now.width }
     requires whole { IsWholeSystem system.now numbers.now.scales.now numbers.now.a.now numbers.now.b.now }
     requires seated { IsSeated (height system.now) system.now.width (count system.now) lists.now.seats.items }
-    requires square { length lists.now.v.items ≡ system.now.width * system.now.width }
-    requires form { IsForm system.now (count system.now) lists.now.seats.items numbers.now.scales.now den lists.now.v.items (last_position system.now) }
+    requires columns { AreNonbasic system.now.width lists.now.seats.items lists.now.nonbasic.items }
+    requires square { length lists.now.numbers.items ≡ system.now.width * system.now.width }
+    requires form { IsForm system.now (count system.now) lists.now.seats.items numbers.now.scales.now den lists.now.numbers.items (last_position system.now) }
     requires refuted { turn system.now (last_position system.now) ≡ is_refuted leaving }
     ensures { IfSome result (λ _. IsMultipliers system.now (last_position system.now) leaving list.new) }
 {
     let side = leaving - system.unknowns();
-    let divided = divided_side_row(row, system, numbers.a, &lists.v, side, den)?;
+    let divided = divided_side_row(row, system, numbers.a, &lists.numbers, side, den)?;
     multipliers(
         list,
         system,
         numbers.scales,
-        &lists.seats,
+        &lists.nonbasic,
         row,
         divided.1,
         leaving,

@@ -1,38 +1,60 @@
 //! A pivot in whole numbers.
 
-ghost use Rattle.std.specs.Prelude.{◌≡◌, ℕ, ℤ, pos, ◌+◌, ◌*◌, ◌<◌, ◌≤◌, ◌^◌, ◌⊎◌, ◌+ℤ◌, ◌*ℤ◌, neg_ℤ, unsigned_abs, IsTrue, IfSome, false, length};
+ghost use Rattle.std.specs.Prelude.{◌≡◌, ℕ, ◌+◌, ◌*◌, ◌<◌, ◌≤◌, ◌^◌, ◌⊎◌, unsigned_abs, IfSome, length};
+ghost use Rattle.mpc_whole.specs.Changes.{IsSmallChange, IsChangedBy};
 ghost use Rattle.mpc_whole.specs.Whole.{IsChanged, IsWholePivot};
-ghost use Rattle.mpc_runs.specs.WholeNumbers.{turned};
 ghost use Rattle.mpc_scaled.specs.Scaled.{whole_at, whole_cell, IsSmall};
 
 use mpc_quotients::{Divisor, changed, turned};
 
-/// The new number of a column in a row, where factor is the one of the column that enters, as this one may.
-#[inline]
-fn new_number(
-    old: i64,
+/// What a row's numbers change by: the number that its pivot column has then, the size of the pivot, the divisor, and
+/// what a number may have at most.
+#[derive(Clone, Copy, Drop)]
+struct Change {
     factor: i64,
-    number: i64,
     size: u64,
-    enters: bool,
     by: Divisor,
     most: u64,
-) -> Option<i64>
-    requires den_some { 0 < by.den }
-    requires den_small { by.den ≤ 2 ^ 62 }
-    requires most_small { most ≤ 2 ^ 62 }
-    requires old_small { unsigned_abs old ≤ most }
-    requires factor_small { unsigned_abs factor ≤ most }
-    requires x_small { unsigned_abs number ≤ 2 ^ 62 }
-    requires size_small { size ≤ 2 ^ 62 }
-    ensures entering { IfSome result (λ z. IsTrue enters → z ≡ factor) }
-    ensures other { IfSome result (λ z. enters ≡ false → z *ℤ pos by.den ≡ (old *ℤ pos size) +ℤ neg_ℤ (factor *ℤ number)) }
-    ensures small { IfSome result (λ z. unsigned_abs z ≤ most) }
+}
+
+/// Changes the numbers of the row from a place on, in the columns from the first up to the end, of which none is the
+/// pivot's. A bound of the numbers before becomes one of these too.
+#[inline]
+fn change_columns(
+    numbers: &mut [i64],
+    row: &[i64],
+    from: usize,
+    first: usize,
+    end: usize,
+    change: Change,
+    before: u64,
+) -> Option<u64>
+    requires inside { from + length row.now ≤ length numbers.old }
+    requires order { first ≤ end }
+    requires end { end ≤ length row.now }
+    requires change { IsSmallChange change }
+    requires small { IsSmall change.most numbers.old }
+    requires row_small { IsSmall (2 ^ 62) row.now }
+    requires before { (index : ℕ) → index < from + first → unsigned_abs (whole_at numbers.old index) ≤ before }
+    ensures cells { IfSome result (λ _. (column : ℕ) → first ≤ column → column < end → IsChangedBy change (whole_at numbers.old (from + column)) (whole_at row.now column) (whole_at numbers.new (from + column))) }
+    ensures others { IfSome result (λ _. (index : ℕ) → (index < from + first) ⊎ (from + end ≤ index) → whole_at numbers.new index ≡ whole_at numbers.old index) }
+    ensures small { IfSome result (λ _. IsSmall change.most numbers.new) }
+    ensures own { IfSome result (λ own. (index : ℕ) → index < from + end → unsigned_abs (whole_at numbers.new index) ≤ own) }
 {
-    if enters {
-        return Some(factor);
+    let mut own = before;
+    for column in first..end {
+        let new = changed(
+            numbers[from + column],
+            change.factor,
+            row[column],
+            change.size,
+            change.by,
+            change.most,
+        )?;
+        numbers[from + column] = new;
+        own = own.max(new.unsigned_abs());
     }
-    changed(old, factor, number, size, by, most)
+    Some(own)
 }
 
 /// Changes the row of an unknown, where a row leaves and the pivot column enters. A bound of the numbers of the rows
@@ -64,22 +86,16 @@ fn change_row(
     let from = unknown * row.len();
     let factor = turned(pivot, numbers[from + pivot_column]);
     let size = pivot.unsigned_abs();
-    let mut own = before;
-    for column in 0..row.len() {
-        let old = numbers[from + column];
-        let new = new_number(
-            old,
-            factor,
-            row[column],
-            size,
-            column == pivot_column,
-            by,
-            most,
-        )?;
-        numbers[from + column] = new;
-        own = own.max(new.unsigned_abs());
-    }
-    Some(own)
+    let change = Change {
+        factor,
+        size,
+        by,
+        most,
+    };
+    let own = change_columns(numbers, row, from, 0, pivot_column, change, before)?;
+    numbers[from + pivot_column] = factor;
+    let own = own.max(factor.unsigned_abs());
+    change_columns(numbers, row, from, pivot_column + 1, row.len(), change, own)
 }
 
 /// The pivot where a row leaves and the pivot column enters, if all numbers are whole and small. It gives the greatest

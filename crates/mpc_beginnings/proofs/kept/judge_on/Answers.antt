@@ -11,5 +11,5 @@ pub judged_run-requires-clause-underway : goal.judged_run-requires-clause-underw
 judged_run-requires-clause-underway c =
     let s = c.args.system.now in
     let p = c.args.from in
-    subst (λ (t : Listed). IsMildlyUnderway s (count s) t.seats c.args.numbers.now.scales.now p.den t.v t.firsts t.seconds p.greatest p.greatest_den p.product p.first) (sym c.in_ok-widen.ensures.same)
+    subst (λ (t : Listed). IsMildlyUnderway s (count s) t.seats c.args.numbers.now.scales.now p.den t.numbers t.firsts t.seconds p.greatest p.greatest_den p.product p.first) (sym c.in_ok-widen.ensures.same)
     (c.requires.start.within c.in-Some.ensures.before)

@@ -31,5 +31,5 @@ pub returns-clause-end : goal.returns-clause-end
 returns-clause-end c =
     let s = c.args.system.now in
     let k = c.args.numbers.now.scales.now in
-    let ended = λ (l : Listed). IfSome c.short_run.result (λ t. HasEnded s (count s) l.seats k t.0.den l.v l.firsts l.seconds t.0.greatest t.0.greatest_den t.1) in
+    let ended = λ (l : Listed). IfSome c.short_run.result (λ t. HasEnded s (count s) l.seats k t.0.den l.numbers l.firsts l.seconds t.0.greatest t.0.greatest_den t.1) in
     subst (λ b. ended (cond b (of_wide c.args.lists.now.wide) (of_short c.short_run.new.lists))) (sym c.if-lists.false) c.short_run.ensures.end

@@ -8,6 +8,9 @@ use Rattle.mpc_beginnings.proofs.kept.put_multipliers.Goals as goal
 pub wide_last_multipliers-requires-clause-seated : goal.wide_last_multipliers-requires-clause-seated
 wide_last_multipliers-requires-clause-seated c = (subst (λ (t : Listed). IsKept c.args.system.now c.args.numbers.now.scales.now t c.args.place (Refuted c.args.side)) (wide_of c.args.lists.now c.if-lists.true) c.requires.kept.kept).lists.seated
 
+pub wide_last_multipliers-requires-clause-columns : goal.wide_last_multipliers-requires-clause-columns
+wide_last_multipliers-requires-clause-columns c = (subst (λ (t : Listed). IsKept c.args.system.now c.args.numbers.now.scales.now t c.args.place (Refuted c.args.side)) (wide_of c.args.lists.now c.if-lists.true) c.requires.kept.kept).lists.columns
+
 pub wide_last_multipliers-requires-clause-square : goal.wide_last_multipliers-requires-clause-square
 wide_last_multipliers-requires-clause-square c = (subst (λ (t : Listed). IsKept c.args.system.now c.args.numbers.now.scales.now t c.args.place (Refuted c.args.side)) (wide_of c.args.lists.now c.if-lists.true) c.requires.kept.kept).lists.square
 
@@ -16,6 +19,9 @@ wide_last_multipliers-requires-clause-form c = (subst (λ (t : Listed). IsKept c
 
 pub last_multipliers-requires-clause-seated : goal.last_multipliers-requires-clause-seated
 last_multipliers-requires-clause-seated c = (subst (λ (t : Listed). IsKept c.args.system.now c.args.numbers.now.scales.now t c.args.place (Refuted c.args.side)) (short_of c.args.lists.now c.if-lists.false) c.requires.kept.kept).lists.seated
+
+pub last_multipliers-requires-clause-columns : goal.last_multipliers-requires-clause-columns
+last_multipliers-requires-clause-columns c = (subst (λ (t : Listed). IsKept c.args.system.now c.args.numbers.now.scales.now t c.args.place (Refuted c.args.side)) (short_of c.args.lists.now c.if-lists.false) c.requires.kept.kept).lists.columns
 
 pub last_multipliers-requires-clause-square : goal.last_multipliers-requires-clause-square
 last_multipliers-requires-clause-square c = (subst (λ (t : Listed). IsKept c.args.system.now c.args.numbers.now.scales.now t c.args.place (Refuted c.args.side)) (short_of c.args.lists.now c.if-lists.false) c.requires.kept.kept).lists.square

@@ -17,8 +17,8 @@ returns-in-Some c =
     let p = c.in-Some.place in
     let l = lists_of c.limited_run.new.lists in
     let product = c.product_of-product.result in
-    let ended : HasEnded s (count s) l.seats m.scales.now p.den l.v l.firsts l.seconds p.greatest p.greatest_den c.in-Some.end =
-    subst (λ (o : Option (WidePlace × Ending)). IfSome o (λ t. HasEnded s (count s) l.seats m.scales.now t.0.den l.v l.firsts l.seconds t.0.greatest t.0.greatest_den t.1)) c.in-Some.is c.limited_run.ensures.end
+    let ended : HasEnded s (count s) l.seats m.scales.now p.den l.numbers l.firsts l.seconds p.greatest p.greatest_den c.in-Some.end =
+    subst (λ (o : Option (WidePlace × Ending)). IfSome o (λ t. HasEnded s (count s) l.seats m.scales.now t.0.den l.numbers l.firsts l.seconds t.0.greatest t.0.greatest_den t.1)) c.in-Some.is c.limited_run.ensures.end
     in
     record {
       kept = record {

@@ -16,11 +16,11 @@ whole_run-requires-clause-held c =
     let m = c.args.numbers.now in
     let limit = c.requires.limit in
     subst (λ d. AreHeld c.args.system.now m.scales.now m.a.now c.args.most d (of_short l)) (sym c.in_ok-start.ensures.den) (record {
-      small = weaker c.args.from.own c.args.most l.v.items c.requires.lists.own limit.own_small;
+      small = weaker c.args.from.own c.args.most l.numbers.items c.requires.lists.own limit.own_small;
       first_small = c.requires.first_small;
       second_small = c.requires.second_small;
       den_small = limit.den_small;
-      narrow = limit.narrow l.seats.items l.v.items c.requires.lists.own;
+      narrow = limit.narrow l.seats.items l.numbers.items c.requires.lists.own;
     })
 
 pub whole_run-requires-clause-underway : goal.whole_run-requires-clause-underway

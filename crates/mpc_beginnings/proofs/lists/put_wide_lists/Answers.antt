@@ -5,7 +5,7 @@ pub returns : goal.returns
 returns c = λ i. record {
   seats = (c.in_ok-put_seats.ensures ∙ c.deref.ensures.value) i;
   nonbasic = (c.in_ok-put_variables.ensures ∙ c.deref-2.ensures.value) i;
-  v = (c.in_ok-put_wide.ensures ∙ c.deref-3.ensures.value) i;
+  numbers = (c.in_ok-put_wide.ensures ∙ c.deref-3.ensures.value) i;
   firsts = (c.in_ok-put_wide-2.ensures ∙ c.deref-4.ensures.value) i;
   seconds = (c.in_ok-put_wide-3.ensures ∙ c.deref-5.ensures.value) i;
 }

@@ -8,6 +8,6 @@ pub returns : goal.returns
 returns c =
     let put = c.put_wide_copies.new.lists in
     let now = of_wide put.wide in
-    let then : Listed = record { seats = c.push_sides.new.seats.items; nonbasic = now.nonbasic; v = now.v; firsts = now.firsts; seconds = now.seconds } in
+    let then : Listed = record { seats = c.push_sides.new.seats.items; nonbasic = now.nonbasic; numbers = now.numbers; firsts = now.firsts; seconds = now.seconds } in
     subst (λ b. AreLonger c.args.height c.args.longer (lists_of c.args.other.now) (cond b then (of_short put.short))) (sym c.in_ok-put_wide_copies.ensures.wide)
     (seats_pushed c.args.height c.args.longer (lists_of c.args.other.now) now c.push_sides.new.seats.items c.in_ok-put_wide_copies.ensures.same c.in_ok-push_sides.ensures.seated c.in_ok-push_sides.ensures.grown)

@@ -1,21 +1,12 @@
-use Rattle.std.proofs.Common.{ℕ, List, ◌≡◌, ◌∙◌, ◌*◌, ◌<◌, ◌≤◌, length, unsigned_abs, pos, get_or, sym, ap, subst, arith, rules, FitsSigned, le_trans}
+use Rattle.std.proofs.Common.{◌≡◌, ◌∙◌, ◌*◌, ◌≤◌, length, unsigned_abs, pos, get_or, sym, ap, subst, arith, rules, FitsSigned, le_trans}
 use Rattle.std.specs.Int.{w128}
 use Rattle.std.proofs.lemmas.Int.{to_z-of_z}
 use borrow.Author.Count.{below_more}
-use Rattle.mpc_runs.specs.declared.variables.Seat.{Seat}
-use Rattle.mpc_runs.specs.declared.variables.Seat.TheVariants.{Column}
-use Rattle.mpc_runs.specs.Table.{seat_at, variable_at, IsSeated, AreNonbasic}
+use Rattle.mpc_runs.specs.Table.{variable_at}
 use Rattle.mpc_scaled.specs.Scaled.{whole_at, scale_at}
-use Rattle.mpc_whole.proofs.Nonbasic.{column_below}
+use Rattle.mpc_whole.proofs.Nonbasic.{stands}
 use Rattle.mpc_whole.proofs.judge.factors_of.Goals as goal
 use Rattle.mpc_whole.proofs.judge.factors_of.Goals.{then-variable-entering, else-variable-entering}
-
--- the variable of a column is the one of the list
-stands : (height width n : ℕ) (seats : List Seat) (nonbasic : List ℕ) → IsSeated height width n seats → AreNonbasic width seats nonbasic → (y c : ℕ) → y < n → seat_at seats y ≡ Column c → (c < width) × (variable_at nonbasic c ≡ y)
-stands height width n seats nonbasic z a y c l e =
-    let inside = (z.columns y c l e).0 in
-    let below = subst (λ m. variable_at nonbasic c < m) z.each (column_below seats (variable_at nonbasic c) c (a.at c inside)) in
-    (inside, sym (z.columns (variable_at nonbasic c) c below (a.at c inside)).1 ∙ (z.columns y c l e).1)
 
 pub loop-column-preserved : goal.loop-column-preserved
 loop-column-preserved c =

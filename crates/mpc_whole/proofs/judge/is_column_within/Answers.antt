@@ -9,11 +9,10 @@ use Rattle.mpc_whole.proofs.judge.is_column_within.Goals as goal
 pub returns-then-top-limit-2-clause-sides : goal.returns-then-top-limit-2-clause-sides
 returns-then-top-limit-2-clause-sides c = λ i h.
     let s = c.args.system.now in
-    let top = c.column_top-top.result in
-    let below : (j : ℕ) → j < s.width → unsigned_abs (whole_cell s.width c.args.numbers.now j c.args.column) ≤ top = subst (λ w. (j : ℕ) → j < w → unsigned_abs (whole_cell w c.args.numbers.now j c.args.column) ≤ top) c.unknowns.ensures c.column_top-top.ensures in
+    let top = c.args.top in
     let some : 0 < c.args.norm = (let q = c.requires.norm.some in omega arith) in
     let share : top * c.args.norm ≤ c.args.limit = within_share c.args.limit c.args.norm top some c.if-top-limit-2.true in
-    le_trans (column_norm s c.args.entries.now c.args.numbers.now c.args.norm top c.requires.norm c.args.column below i) (omega arith)
+    le_trans (column_norm s c.args.entries.now c.args.numbers.now c.args.norm top c.requires.norm c.args.column c.requires.top i) (omega arith)
 
 -- what is past the end of a column is 0
 column_small : (w : ℕ) (v : List ℤ) (c m : ℕ) → length v ≡ w * w → ((j : ℕ) → j < w → unsigned_abs (whole_cell w v j c) ≤ m) → (j : ℕ) → unsigned_abs (whole_cell w v j c) ≤ m
@@ -31,7 +30,7 @@ are_sides_within-requires-clause-room c = λ _. c.requires.room
 
 pub are_sides_within-requires-2-clause-short : goal.are_sides_within-requires-2-clause-short
 are_sides_within-requires-2-clause-short c = λ _. column_small c.args.system.now.width c.args.numbers.now c.args.column (2 ^ 62) c.requires.square
-    (λ j h. let s = c.column_top-top.ensures j (subst (λ w. j < w) (sym c.unknowns.ensures) h) in subst (λ w. unsigned_abs (whole_cell w c.args.numbers.now j c.args.column) ≤ 2 ^ 62) c.unknowns.ensures (omega arith))
+    (λ j h. let s = c.requires.top j h in omega arith)
 
 pub are_sides_within-requires-2-clause-room : goal.are_sides_within-requires-2-clause-room
 are_sides_within-requires-2-clause-room c = λ _. c.requires.room

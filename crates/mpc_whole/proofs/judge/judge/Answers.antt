@@ -12,8 +12,8 @@ pub returns-in-Some : goal.returns-in-Some
 returns-in-Some c =
     let s = c.args.system.now in
     let a = c.args.frame.now.a.now in
-    let v = c.args.numbers.now in
-    let own = c.args.own in
+    let v = c.args.here.now.numbers.now in
+    let own = c.args.here.now.own in
     let norm = c.args.frame.now.norm in
     let room = there c.have_common_room.result _ c.in-Some.is c.have_common_room.ensures in
     let one : own * 1 ≤ own * norm = mul-le-mul_left own c.requires.sizes.coefficients.some in

@@ -31,8 +31,9 @@ factors_of-requires-clause-below c =
 
 pub judge_pivot-requires-clause-here : goal.judge_pivot-requires-clause-here
 judge_pivot-requires-clause-here c =
-    rw (c.deref-2.ensures.value, c.deref-3.ensures.value) (record {
+    rw (c.deref-2.ensures.value, c.deref-3.ensures.value, c.deref-4.ensures.value) (record {
       seated = subst (λ m. IsSeated (height c.args.system.now) c.args.system.now.width m c.args.lists.now.seats.items) (sym c.requires.numbers.count) c.requires.lists.seated;
+      columns = c.requires.lists.columns;
       square = c.requires.lists.square;
       some = c.requires.goes.underway.underway.stands.form.some;
     })
@@ -57,13 +58,13 @@ offset_bounds-frame-leaving c =
     search rules
 
 pub column_of-column-requires-clause-below : goal.column_of-column-requires-clause-below
-column_of-column-requires-clause-below c = rw c.deref-4.ensures.value (subst (λ m. c.args.entering < m) (sym c.requires.lists.seated.each) (enterer_in c.requires.numbers.whole c.requires.lists c.requires.goes))
+column_of-column-requires-clause-below c = rw c.deref-5.ensures.value (subst (λ m. c.args.entering < m) (sym c.requires.lists.seated.each) (enterer_in c.requires.numbers.whole c.requires.lists c.requires.goes))
 
 pub column_of-column-requires-clause-free : goal.column_of-column-requires-clause-free
-column_of-column-requires-clause-free c = rw c.deref-4.ensures.value (enterer_seat c.requires.numbers.whole c.requires.lists c.requires.goes)
+column_of-column-requires-clause-free c = rw c.deref-5.ensures.value (enterer_seat c.requires.numbers.whole c.requires.lists c.requires.goes)
 
 entered : (c : After-column_of-column) → seat_at c.args.lists.now.seats.items c.args.entering ≡ Column c.column_of-column.result
-entered c = ap (λ (t : List Seat). seat_at t c.args.entering) (sym c.deref-4.ensures.value) ∙ c.column_of-column.ensures
+entered c = ap (λ (t : List Seat). seat_at t c.args.entering) (sym c.deref-5.ensures.value) ∙ c.column_of-column.ensures
 
 column_in : (c : After-column_of-column) → c.column_of-column.result < c.args.system.now.width
 column_in c = (c.requires.lists.seated.columns c.args.entering c.column_of-column.result (enterer_in c.requires.numbers.whole c.requires.lists c.requires.goes) (entered c)).0
@@ -89,7 +90,7 @@ swapped : (c : After-swap) → IsSwapped c.args.lists.now.seats.items c.swap.new
 swapped c = rw c.deref_mut-2.ensures.value at c.swap.ensures.seats
 
 entered_then : (c : After-swap) → seat_at c.args.lists.now.seats.items c.args.entering ≡ Column c.column_of-column.result
-entered_then c = ap (λ (t : List Seat). seat_at t c.args.entering) (sym c.deref-4.ensures.value) ∙ c.column_of-column.ensures
+entered_then c = ap (λ (t : List Seat). seat_at t c.args.entering) (sym c.deref-5.ensures.value) ∙ c.column_of-column.ensures
 
 seated : (c : After-swap) → IsSeated (height c.args.system.now) c.args.system.now.width (count c.args.system.now) c.swap.new.seats
 seated c = seated_after c.requires.numbers.whole c.requires.lists c.requires.goes c.swap.new.seats (swapped c) c.column_of-column.result (entered_then c)
@@ -103,16 +104,16 @@ columns c = c.swap.ensures.columns c.args.system.now.width (rw (c.deref_mut-2.en
 pub wide_stand-requires-clause-columns : goal.wide_stand-requires-clause-columns
 wide_stand-requires-clause-columns c =
     let at = (goal.at.wide_stand-requires-clause-columns c).After-swap in
-    ap length (c.deref-5.ensures.value ∙ nonbasic_back at) ∙ (columns at).each
+    ap length (c.deref-6.ensures.value ∙ nonbasic_back at) ∙ (columns at).each
 
 pub wide_stand-requires-clause-below : goal.wide_stand-requires-clause-below
 wide_stand-requires-clause-below c =
     let at = (goal.at.wide_stand-requires-clause-below c).After-swap in
     let s = c.args.system.now in
-    subst₂ (λ m (t : List ℕ). (k : ℕ) → k < s.width → variable_at t k < m) (sym c.requires.numbers.count) (sym (c.deref-5.ensures.value ∙ nonbasic_back at)) (in_column s (count s) c.swap.new.seats c.swap.new.nonbasic (seated at) (columns at))
+    subst₂ (λ m (t : List ℕ). (k : ℕ) → k < s.width → variable_at t k < m) (sym c.requires.numbers.count) (sym (c.deref-6.ensures.value ∙ nonbasic_back at)) (in_column s (count s) c.swap.new.seats c.swap.new.nonbasic (seated at) (columns at))
 
-numbers_back : (c : After-swap) → (with_items c.args.lists.now.v c.reduce.new.numbers).items ≡ c.reduce.new.numbers
-numbers_back c = with_items_is c.args.lists.now.v c.reduce.new.numbers (let q = c.reduce.auto.numbers in let o = c.args.lists.now.v.ok in let v = c.deref_mut.ensures.len in omega arith)
+numbers_back : (c : After-swap) → (with_items c.args.lists.now.numbers c.reduce.new.numbers).items ≡ c.reduce.new.numbers
+numbers_back c = with_items_is c.args.lists.now.numbers c.reduce.new.numbers (let q = c.reduce.auto.numbers in let o = c.args.lists.now.numbers.ok in let v = c.deref_mut.ensures.len in omega arith)
 
 firsts_back : (c : After-wide_stand) → (with_items c.args.lists.now.firsts c.wide_stand.new.firsts).items ≡ c.wide_stand.new.firsts
 firsts_back c = with_items_is c.args.lists.now.firsts c.wide_stand.new.firsts (let q = c.wide_stand.auto.firsts in let o = c.args.lists.now.firsts.ok in let v = c.deref_mut-4.ensures.len in omega arith)
@@ -152,31 +153,31 @@ returns-clause-underway c =
     let real = times_row g x in
     let times = times_is g x in
     let then = at.After-swap in
-    let judged : IsPivotJudged s (count s) r.seats.items k a b den r.v.items c.args.leaving c.args.entering c.args.row.rest x by.top by.size =
-    subst (λ m. IsPivotJudged s m r.seats.items k a b den r.v.items c.args.leaving c.args.entering c.args.row.rest x by.top by.size) c.requires.numbers.count
-    (subst₂ (λ (t : List Seat) (u : List ℤ). IsPivotJudged s c.args.frame.now.count t k a b den u c.args.leaving c.args.entering c.args.row.rest x by.top by.size) c.deref-2.ensures.value c.deref-3.ensures.value c.in_ok-judge_pivot.ensures)
+    let judged : IsPivotJudged s (count s) r.seats.items k a b den r.numbers.items c.args.leaving c.args.entering c.args.row.rest x by.top by.size =
+    subst (λ m. IsPivotJudged s m r.seats.items k a b den r.numbers.items c.args.leaving c.args.entering c.args.row.rest x by.top by.size) c.requires.numbers.count
+    (subst₂ (λ (t : List Seat) (u : List ℤ). IsPivotJudged s c.args.frame.now.count t k a b den u c.args.leaving c.args.entering c.args.row.rest x by.top by.size) c.deref-2.ensures.value c.deref-4.ensures.value c.in_ok-judge_pivot.ensures)
     in
     let within : IsRowWithin (count s) r.seats.items k c.args.leaving c.args.entering x by.top by.size =
     c.in_ok-by.ensures.row (height s) (count s) r.seats.items
     (subst (λ w. IsSeated (height s) w (count s) r.seats.items) (sym c.requires.row.size) c.requires.lists.seated)
     (subst₂ (λ w (t : List ℕ). AreNonbasic w r.seats.items t) (sym c.requires.row.size) (sym c.deref.ensures.value) c.requires.lists.columns)
     in
-    let piv : IsReducedPivot s.width den r.v.items c.reduce.new.numbers real c.column_of-column.result c.in_ok-after.after.den =
+    let piv : IsReducedPivot s.width den r.numbers.items c.reduce.new.numbers real c.column_of-column.result c.in_ok-after.after.den =
     subst₂ (λ w (u : List ℤ). IsReducedPivot w den u c.reduce.new.numbers real c.column_of-column.result c.in_ok-after.after.den) c.requires.row.size c.deref_mut.ensures.value (c.in_ok-after.ensures.pivot real g c.requires.row.some c.requires.row.split times)
     in
-    let stood : AreFormed s c.args.frame.now.count c.swap.new.seats k b c.deref-6.result.now c.wide_stand.new.firsts c.wide_stand.new.seconds =
-    c.in_ok-wide_stand.ensures c.swap.new.seats (subst (λ m. IsSeated (height s) s.width m c.swap.new.seats) (sym c.requires.numbers.count) (seated then)) (subst (λ (t : List ℕ). AreNonbasic s.width c.swap.new.seats t) (sym (c.deref-5.ensures.value ∙ nonbasic_back then)) (columns then))
+    let stood : AreFormed s c.args.frame.now.count c.swap.new.seats k b c.deref-7.result.now c.wide_stand.new.firsts c.wide_stand.new.seconds =
+    c.in_ok-wide_stand.ensures c.swap.new.seats (subst (λ m. IsSeated (height s) s.width m c.swap.new.seats) (sym c.requires.numbers.count) (seated then)) (subst (λ (t : List ℕ). AreNonbasic s.width c.swap.new.seats t) (sym (c.deref-6.ensures.value ∙ nonbasic_back then)) (columns then))
     in
     let formed : AreFormed s (count s) c.swap.new.seats k b c.reduce.new.numbers c.wide_stand.new.firsts c.wide_stand.new.seconds =
     subst (λ m. AreFormed s m c.swap.new.seats k b c.reduce.new.numbers c.wide_stand.new.firsts c.wide_stand.new.seconds) c.requires.numbers.count
-    (subst (λ (u : List ℤ). AreFormed s c.args.frame.now.count c.swap.new.seats k b u c.wide_stand.new.firsts c.wide_stand.new.seconds) (c.deref-6.ensures.value ∙ numbers_back then) stood)
+    (subst (λ (u : List ℤ). AreFormed s c.args.frame.now.count c.swap.new.seats k b u c.wide_stand.new.firsts c.wide_stand.new.seconds) (c.deref-7.ensures.value ∙ numbers_back then) stood)
     in
     let next =
     mildly_after c.requires.numbers.whole c.requires.lists c.requires.goes c.swap.new.seats (swapped then) c.column_of-column.result (entered_then then) g c.args.row.rest x c.requires.row by.top by.size judged within
     c.reduce.new.numbers c.in_ok-after.after.den piv c.wide_stand.new.firsts c.wide_stand.new.seconds formed c.max-own.result c.max.result c.max-2.result c.kept_product-product.result
-    (let m = c.max.ensures in omega arith) (let m = c.max-2.ensures in omega arith) c.kept_product-product.ensures.before (weaker c.args.place.own c.max.result r.v.items c.requires.lists.own (let m = c.max.ensures in omega arith)) (let m = c.max-2.ensures in omega arith)
-    (weaker c.args.place.own c.max-own.result r.v.items c.requires.lists.own (let m = c.max-own.ensures in omega arith)) (let m = c.max-own.ensures in omega arith) c.kept_product-product.ensures.here
+    (let m = c.max.ensures in omega arith) (let m = c.max-2.ensures in omega arith) c.kept_product-product.ensures.before (weaker c.args.place.own c.max.result r.numbers.items c.requires.lists.own (let m = c.max.ensures in omega arith)) (let m = c.max-2.ensures in omega arith)
+    (weaker c.args.place.own c.max-own.result r.numbers.items c.requires.lists.own (let m = c.max-own.ensures in omega arith)) (let m = c.max-own.ensures in omega arith) c.kept_product-product.ensures.here
     in
     subst (IsMildlyUnderway s (count s) _ k c.in_ok-after.after.den _ _ _ c.max.result c.max-2.result c.kept_product-product.result) (sym c.unknowns.ensures)
-    (subst₂ (λ (f g : List ℤ). IsMildlyUnderway s (count s) (with_items r.seats c.swap.new.seats).items k c.in_ok-after.after.den (with_items r.v c.reduce.new.numbers).items f g c.max.result c.max-2.result c.kept_product-product.result s.width) (sym (firsts_back at.After-wide_stand)) (sym (seconds_back at.After-wide_stand))
+    (subst₂ (λ (f g : List ℤ). IsMildlyUnderway s (count s) (with_items r.seats c.swap.new.seats).items k c.in_ok-after.after.den (with_items r.numbers c.reduce.new.numbers).items f g c.max.result c.max-2.result c.kept_product-product.result s.width) (sym (firsts_back at.After-wide_stand)) (sym (seconds_back at.After-wide_stand))
     (subst₂ (λ (t : List Seat) (u : List ℤ). IsMildlyUnderway s (count s) t k c.in_ok-after.after.den u c.wide_stand.new.firsts c.wide_stand.new.seconds c.max.result c.max-2.result c.kept_product-product.result s.width) (sym (seats_back then)) (sym (numbers_back then)) next))

@@ -72,8 +72,8 @@ seats_back c = with_items_is c.args.lists.now.seats c.swap.new.seats (let q = c.
 nonbasic_back : (c : After-swap) → (with_items c.args.lists.now.nonbasic c.swap.new.nonbasic).items ≡ c.swap.new.nonbasic
 nonbasic_back c = with_items_is c.args.lists.now.nonbasic c.swap.new.nonbasic (let q = c.swap.auto.nonbasic in let o = c.args.lists.now.nonbasic.ok in let v = c.deref_mut-3.ensures.len in omega arith)
 
-numbers_back : (c : After-swap) → (with_items c.args.lists.now.v c.exchange.new.numbers).items ≡ c.exchange.new.numbers
-numbers_back c = with_items_is c.args.lists.now.v c.exchange.new.numbers (let q = c.exchange.auto.numbers in let o = c.args.lists.now.v.ok in let v = c.deref_mut.ensures.len in omega arith)
+numbers_back : (c : After-swap) → (with_items c.args.lists.now.numbers c.exchange.new.numbers).items ≡ c.exchange.new.numbers
+numbers_back c = with_items_is c.args.lists.now.numbers c.exchange.new.numbers (let q = c.exchange.auto.numbers in let o = c.args.lists.now.numbers.ok in let v = c.deref_mut.ensures.len in omega arith)
 
 numbers_square : (c : After-swap) → length c.exchange.new.numbers ≡ c.args.system.now.width * c.args.system.now.width
 numbers_square c = (let q : length c.exchange.new.numbers ≡ length c.deref_mut.result.now = c.exchange.auto.numbers in q) ∙ ap length c.deref_mut.ensures.value ∙ c.requires.lists.square
@@ -178,7 +178,7 @@ returns-clause-held c =
     let narrow : IsNarrow s (count s) c.swap.new.seats f.scales.now f.a.now c.unsigned_abs-size.result c.exchange.new.numbers =
     narrow_by_norms s f.scales.now f.a.now f.b.now c.exchange.new.numbers g.most_entry g.most_side g.most_scale f.most g.bounds c.in_ok-own.ensures.small (count s) c.swap.new.seats c.unsigned_abs-size.result
     (λ y h. subst (λ m. m * scale_at f.scales.now y ≤ 2 ^ 62) (sym (size_is at.After-unsigned_abs-size))
-    (pivot_narrow s f.scales.now f.a.now f.b.now c.args.lists.now.v.items g.most_entry g.most_side g.most_scale f.most g.bounds c.requires.held.small (c.args.leaving - s.width) c.args.row.now c.requires.row c.column_of-column.result (column_in at.After-column_of-column) y))
+    (pivot_narrow s f.scales.now f.a.now f.b.now c.args.lists.now.numbers.items g.most_entry g.most_side g.most_scale f.most g.bounds c.requires.held.small (c.args.leaving - s.width) c.args.row.now c.requires.row c.column_of-column.result (column_in at.After-column_of-column) y))
     in
     record {
       small = subst (IsSmall f.most) (sym (numbers_back then)) c.in_ok-own.ensures.small;
@@ -206,7 +206,7 @@ returns-clause-underway c =
     let rs = row_seat (seat_at r.seats.items c.args.leaving) (leaver_seat c.requires.frame.numbers.whole c.requires.lists c.requires.turns) in
     let stand = (swapped then).seats rs.0 m rs.1 (entered_then then) in
     let size = size_is at.After-unsigned_abs-size in
-    let piv : IsWholePivot s.width den r.v.items new c.args.row.now m =
+    let piv : IsWholePivot s.width den r.numbers.items new c.args.row.now m =
     subst (λ (u : List ℤ). IsWholePivot s.width den u new c.args.row.now m) c.deref_mut.ensures.value (subst₂ (λ w d. IsWholePivot w d c.deref_mut.result.now new c.args.row.now m) c.requires.row.size c.of-by.ensures c.in_ok-own.ensures.pivot)
     in
     let given : AreFollowed s c.args.frame.now.count c.swap.new.seats k a b c.deref-3.result.now (c.args.leaving - c.unknowns-width.result) m c.of-by.result.den c.unsigned_abs-size.result c.deref_mut-4.result.now c.deref_mut-5.result.now n_1 n_2 =
@@ -223,9 +223,9 @@ returns-clause-underway c =
     in
     let next : IsUnderway s (count s) c.swap.new.seats k c.unsigned_abs-size.result new n_1 n_2 c.greater.result c.greater-2.result s.width =
     subst₂ (λ (t : List Seat) d. IsUnderway s (count s) t k d new n_1 n_2 c.greater.result c.greater-2.result s.width) (sym stand) (sym size)
-    (next_underway s (count s) r.seats.items c.requires.lists.seated k den r.v.items a b c.requires.frame.bounds.most_side c.requires.frame.numbers.whole c.requires.frame.bounds.bounds.sides c.requires.held.narrow c.requires.turns.underway.stands c.args.leaving c.requires.turns.leaves c.args.row.now c.requires.row c.args.entering c.requires.turns.enters rs.0 m rs.1 (entered_then then) new piv r.firsts.items r.seconds.items n_1 n_2 c.requires.turns.underway.values followed c.args.place.greatest c.args.place.greatest_den c.greater.result c.greater-2.result c.greater.ensures.first c.greater-2.ensures.first
-    (weaker c.args.place.own c.greater.result r.v.items c.requires.lists.own c.greater.ensures.second) c.greater-2.ensures.second c.requires.turns.underway.before)
+    (next_underway s (count s) r.seats.items c.requires.lists.seated k den r.numbers.items a b c.requires.frame.bounds.most_side c.requires.frame.numbers.whole c.requires.frame.bounds.bounds.sides c.requires.held.narrow c.requires.turns.underway.stands c.args.leaving c.requires.turns.leaves c.args.row.now c.requires.row c.args.entering c.requires.turns.enters rs.0 m rs.1 (entered_then then) new piv r.firsts.items r.seconds.items n_1 n_2 c.requires.turns.underway.values followed c.args.place.greatest c.args.place.greatest_den c.greater.result c.greater-2.result c.greater.ensures.first c.greater-2.ensures.first
+    (weaker c.args.place.own c.greater.result r.numbers.items c.requires.lists.own c.greater.ensures.second) c.greater-2.ensures.second c.requires.turns.underway.before)
     in
     subst (IsUnderway s (count s) _ k c.unsigned_abs-size.result _ _ _ c.greater.result c.greater-2.result) (sym c.unknowns-width.ensures)
-    (subst₂ (λ (f g : List ℤ). IsUnderway s (count s) (with_items r.seats c.swap.new.seats).items k c.unsigned_abs-size.result (with_items r.v new).items f g c.greater.result c.greater-2.result s.width) (sym (firsts_back at.After-follow)) (sym (seconds_back at.After-follow))
+    (subst₂ (λ (f g : List ℤ). IsUnderway s (count s) (with_items r.seats c.swap.new.seats).items k c.unsigned_abs-size.result (with_items r.numbers new).items f g c.greater.result c.greater-2.result s.width) (sym (firsts_back at.After-follow)) (sym (seconds_back at.After-follow))
     (subst₂ (λ (t : List Seat) (u : List ℤ). IsUnderway s (count s) t k c.unsigned_abs-size.result u n_1 n_2 c.greater.result c.greater-2.result s.width) (sym (seats_back then)) (sym (numbers_back then)) next))

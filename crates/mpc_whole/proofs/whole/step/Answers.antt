@@ -19,7 +19,7 @@ found c =
     let r = c.args.lists.now in
     let basis : HasBasis f.count c.deref.result.now (position s z.at) = subst₂ (λ m (t : List Seat). HasBasis m t (position s z.at)) (sym c.requires.frame.numbers.count) (sym c.deref.ensures.value) (record { basic = z.form.basic }) in
     let values = subst₂ (λ (g h : List ℤ). HasSideValues s f.scales.now f.a.now (position s z.at) c.args.place.den g h) (sym c.deref-2.ensures.value) (sym c.deref-3.ensures.value)
-    (side_values_at s f.scales.now f.a.now f.b.now c.requires.frame.numbers.whole z.at z.order (count s) r.seats.items c.args.place.den r.v.items z.form r.firsts.items r.seconds.items c.requires.underway.values)
+    (side_values_at s f.scales.now f.a.now f.b.now c.requires.frame.numbers.whole z.at z.order (count s) r.seats.items c.args.place.den r.numbers.items z.form r.firsts.items r.seconds.items c.requires.underway.values)
     in
     subst (λ m. c.leaving.result ≡ least (may_leave s (position s z.at)) m) c.requires.frame.numbers.count (c.leaving.ensures (position s z.at) z.form.some basis values c.requires.frame.numbers.whole.sides c.requires.underway.stay)
 
@@ -47,7 +47,7 @@ returns-in_default-clause-end c =
     let f = c.args.frame.now in
     let r = c.args.lists.now in
     let a : c.leaving.result ≡ None = c.in_default.is in
-    point_kept s (count s) r.seats.items c.requires.lists.seated f.scales.now c.args.place.den r.v.items f.a.now f.b.now c.requires.frame.bounds.most_side c.requires.frame.numbers.whole c.requires.frame.bounds.bounds.sides c.requires.held.narrow c.requires.underway.stands (sym a ∙ found at.After-leaving) r.firsts.items r.seconds.items c.requires.underway.values c.args.place.greatest c.args.place.greatest_den c.requires.underway.before
+    point_kept s (count s) r.seats.items c.requires.lists.seated f.scales.now c.args.place.den r.numbers.items f.a.now f.b.now c.requires.frame.bounds.most_side c.requires.frame.numbers.whole c.requires.frame.bounds.bounds.sides c.requires.held.narrow c.requires.underway.stands (sym a ∙ found at.After-leaving) r.firsts.items r.seconds.items c.requires.underway.values c.args.place.greatest c.args.place.greatest_den c.requires.underway.before
 
 leaver_is : (c : In-Some) → c.leaving.result ≡ least (may_leave c.args.system.now (position c.args.system.now c.requires.underway.stands.at)) (count c.args.system.now) → Some c.in-Some.leaving_variable ≡ least (may_leave c.args.system.now (position c.args.system.now c.requires.underway.stands.at)) (count c.args.system.now)
 leaver_is c f = let a : c.leaving.result ≡ Some c.in-Some.leaving_variable = c.in-Some.is in sym a ∙ f
@@ -58,7 +58,7 @@ pick-requires-clause-from c =
     let s = c.args.system.now in
     let f = c.args.frame.now in
     let r = c.args.lists.now in
-    (leaves_here s (count s) r.seats.items c.requires.lists.seated f.scales.now c.args.place.den r.v.items f.a.now f.b.now c.requires.frame.numbers.whole c.requires.underway.stands c.in-Some.leaving_variable (leaver_is at.In-Some (found at.After-leaving))).violated.side
+    (leaves_here s (count s) r.seats.items c.requires.lists.seated f.scales.now c.args.place.den r.numbers.items f.a.now f.b.now c.requires.frame.numbers.whole c.requires.underway.stands c.in-Some.leaving_variable (leaver_is at.In-Some (found at.After-leaving))).violated.side
 
 pub pick-requires-clause-below : goal.pick-requires-clause-below
 pick-requires-clause-below c =
@@ -67,7 +67,7 @@ pick-requires-clause-below c =
     let f = c.args.frame.now in
     let r = c.args.lists.now in
     subst (λ m. c.in-Some.leaving_variable < m) (sym c.requires.frame.numbers.count)
-    (leaving_in s (count s) r.seats.items c.requires.lists.seated f.scales.now c.args.place.den r.v.items f.a.now f.b.now c.requires.frame.numbers.whole c.requires.underway.stands c.in-Some.leaving_variable (leaver_is at.In-Some (found at.After-leaving)))
+    (leaving_in s (count s) r.seats.items c.requires.lists.seated f.scales.now c.args.place.den r.numbers.items f.a.now f.b.now c.requires.frame.numbers.whole c.requires.underway.stands c.in-Some.leaving_variable (leaver_is at.In-Some (found at.After-leaving)))
 
 pub pick-requires-clause-row_small : goal.pick-requires-clause-row_small
 pick-requires-clause-row_small c =
@@ -77,8 +77,8 @@ pick-requires-clause-row_small c =
     let r = c.args.lists.now in
     let e = leaver_is at.In-Some (found at.After-leaving) in
     rw c.deref-5.ensures.value
-    (λ k h. side_cells_small s (count s) r.seats.items c.requires.lists.seated f.scales.now c.args.place.den r.v.items f.a.now f.b.now c.requires.frame.bounds.most_side c.requires.frame.numbers.whole c.requires.frame.bounds.bounds.sides c.requires.held.narrow c.requires.underway.stands (c.in-Some.leaving_variable - s.width) k
-    (side_in s (count s) r.seats.items c.requires.lists.seated f.scales.now c.args.place.den r.v.items f.a.now f.b.now c.requires.frame.numbers.whole c.requires.underway.stands c.in-Some.leaving_variable e) h)
+    (λ k h. side_cells_small s (count s) r.seats.items c.requires.lists.seated f.scales.now c.args.place.den r.numbers.items f.a.now f.b.now c.requires.frame.bounds.most_side c.requires.frame.numbers.whole c.requires.frame.bounds.bounds.sides c.requires.held.narrow c.requires.underway.stands (c.in-Some.leaving_variable - s.width) k
+    (side_in s (count s) r.seats.items c.requires.lists.seated f.scales.now c.args.place.den r.numbers.items f.a.now f.b.now c.requires.frame.numbers.whole c.requires.underway.stands c.in-Some.leaving_variable e) h)
 
 pub pick-requires-clause-numbers : goal.pick-requires-clause-numbers
 pick-requires-clause-numbers c = c.requires.frame.numbers
@@ -89,7 +89,7 @@ pick-requires-clause-columns c = rw c.deref-4.ensures.value c.requires.lists.col
 pub pick-requires-clause-square : goal.pick-requires-clause-square
 pick-requires-clause-square c = rw c.deref-5.ensures.value c.requires.lists.square
 
-row_is : (c : After-pick) → IsSideRow c.args.system.now c.args.frame.now.a.now c.args.lists.now.v.items (c.in-Some.leaving_variable - c.args.system.now.width) c.pick.new.row
+row_is : (c : After-pick) → IsSideRow c.args.system.now c.args.frame.now.a.now c.args.lists.now.numbers.items (c.in-Some.leaving_variable - c.args.system.now.width) c.pick.new.row
 row_is c = subst (λ (u : List ℤ). IsSideRow c.args.system.now c.args.frame.now.a.now u (c.in-Some.leaving_variable - c.args.system.now.width) c.pick.new.row) c.deref-5.ensures.value c.pick.ensures.row
 
 entered : (c : After-pick) → Some c.in-Some.leaving_variable ≡ least (may_leave c.args.system.now (position c.args.system.now c.requires.underway.stands.at)) (count c.args.system.now) → c.pick.result ≡ least (may_enter c.args.system.now (position c.args.system.now c.requires.underway.stands.at) c.in-Some.leaving_variable) (count c.args.system.now)
@@ -104,7 +104,7 @@ entered c e =
     let columns : AreNonbasic s.width r.seats.items c.deref-4.result.now = rw c.deref-4.ensures.value c.requires.lists.columns in
     let basis : HasBasis f.count r.seats.items (position s z.at) = subst (λ m. HasBasis m r.seats.items (position s z.at)) back (record { basic = z.form.basic }) in
     let row = subst (λ m. IsRowOf m r.seats.items f.scales.now (position s z.at) den c.in-Some.leaving_variable c.pick.new.row) back
-    (row_of_leaving s (count s) r.seats.items c.requires.lists.seated f.scales.now den r.v.items f.a.now f.b.now c.requires.frame.numbers.whole z c.in-Some.leaving_variable e c.pick.new.row (row_is c))
+    (row_of_leaving s (count s) r.seats.items c.requires.lists.seated f.scales.now den r.numbers.items f.a.now f.b.now c.requires.frame.numbers.whole z c.in-Some.leaving_variable e c.pick.new.row (row_is c))
     in
     subst (λ m. c.pick.result ≡ least (may_enter s (position s z.at) c.in-Some.leaving_variable) m) c.requires.frame.numbers.count
     (c.pick.ensures.least r.seats.items (position s z.at) f.scales.now den seated columns z.form.some basis row)
@@ -117,7 +117,7 @@ returns-in_default-pick-clause-end c =
     let r = c.args.lists.now in
     let e = leaver_is at.In-Some (found at.After-leaving) in
     let b : c.pick.result ≡ None = c.in_default-pick.is in
-    refuted_kept s (count s) r.seats.items c.requires.lists.seated f.scales.now c.args.place.den r.v.items f.a.now f.b.now c.requires.frame.bounds.most_side c.requires.frame.numbers.whole c.requires.frame.bounds.bounds.sides c.requires.held.narrow c.requires.underway.stands c.in-Some.leaving_variable e c.pick.new.row (row_is at.After-pick) (sym b ∙ entered at.After-pick e) r.firsts.items r.seconds.items c.requires.underway.values c.args.place.greatest c.args.place.greatest_den c.requires.underway.before
+    refuted_kept s (count s) r.seats.items c.requires.lists.seated f.scales.now c.args.place.den r.numbers.items f.a.now f.b.now c.requires.frame.bounds.most_side c.requires.frame.numbers.whole c.requires.frame.bounds.bounds.sides c.requires.held.narrow c.requires.underway.stands c.in-Some.leaving_variable e c.pick.new.row (row_is at.After-pick) (sym b ∙ entered at.After-pick e) r.firsts.items r.seconds.items c.requires.underway.values c.args.place.greatest c.args.place.greatest_den c.requires.underway.before
 
 pub advance-requires-clause-row : goal.advance-requires-clause-row
 advance-requires-clause-row c = row_is (goal.at.advance-requires-clause-row c).After-pick

@@ -1,14 +1,12 @@
-use Rattle.std.proofs.Common.{ℤ, List, length, ◌<◌, ◌≤◌, ◌-◌, sym, subst, subst₂}
+use Rattle.std.proofs.Common.{ℕ, ℤ, List, ◌<◌, ◌≤◌, ◌-◌, sym, subst, subst₂}
 use Rattle.std.proofs.lemmas.Option.{IfSome_then}
 use Rattle.mpc_rows.specs.LinearSystem.{height}
 use Rattle.mpc_rows.specs.Run.{count, last_position}
-use Rattle.mpc_runs.specs.declared.variables.Seat.{Seat}
-use Rattle.mpc_runs.specs.RunEnd.{IsMultipliers}
 use Rattle.mpc_whole.specs.Running.{IsRefuting}
-use Rattle.mpc_runs.specs.Table.{IsSeated}
-use Rattle.mpc_whole.specs.Whole.{HasBasis, IsRowOf}
+use Rattle.mpc_runs.specs.Table.{AreNonbasic}
 use Rattle.mpc_whole.specs.Judged.{IsDividedRow}
 use Rattle.mpc_whole.proofs.DividedRows.{times_row, times_is, side_of_divided, rest_some, row_of_divided}
+use Rattle.mpc_whole.proofs.Nonbasic.{variable_within}
 use Rattle.mpc_whole.proofs.WholeRun.{last_side, last_below, last_in, last_row}
 use Rattle.mpc_whole.proofs.whole_ends.wide_last_multipliers.Goals as goal
 
@@ -17,14 +15,14 @@ overflow_sub-side c =
     let s = c.args.system.now in
     let m = c.args.numbers.now in
     let r = c.args.lists.now in
-    subst (λ w. w ≤ c.args.leaving) (sym c.unknowns.ensures) (last_side s (count s) r.seats.items m.scales.now c.args.den r.v.items c.requires.form c.requires.seated m.a.now m.b.now c.requires.whole c.args.leaving c.requires.refuted)
+    subst (λ w. w ≤ c.args.leaving) (sym c.unknowns.ensures) (last_side s (count s) r.seats.items m.scales.now c.args.den r.numbers.items c.requires.form c.requires.seated m.a.now m.b.now c.requires.whole c.args.leaving c.requires.refuted)
 
 pub divided_side_row-requires-clause-side : goal.divided_side_row-requires-clause-side
 divided_side_row-requires-clause-side c =
     let s = c.args.system.now in
     let m = c.args.numbers.now in
     let r = c.args.lists.now in
-    subst (λ w. c.args.leaving - w < height s) (sym c.unknowns.ensures) (last_in s (count s) r.seats.items m.scales.now c.args.den r.v.items c.requires.form c.requires.seated m.a.now m.b.now c.requires.whole c.args.leaving c.requires.refuted)
+    subst (λ w. c.args.leaving - w < height s) (sym c.unknowns.ensures) (last_in s (count s) r.seats.items m.scales.now c.args.den r.numbers.items c.requires.form c.requires.seated m.a.now m.b.now c.requires.whole c.args.leaving c.requires.refuted)
 
 pub divided_side_row-requires-clause-square : goal.divided_side_row-requires-clause-square
 divided_side_row-requires-clause-square c = rw c.deref.ensures.value c.requires.square
@@ -37,12 +35,14 @@ multipliers-requires-clause-row c =
     let s = c.args.system.now in
     let m = c.args.numbers.now in
     let r = c.args.lists.now in
-    subst (λ (t : List Seat). IsRefuting s m.scales.now t c.divided_side_row.new.row c.in_ok-divided.divided.1 c.args.leaving) (sym c.deref-2.ensures.value) (record {
+    subst (λ (t : List ℕ). IsRefuting s m.scales.now t c.divided_side_row.new.row c.in_ok-divided.divided.1 c.args.leaving) (sym c.deref-2.ensures.value) (record {
       scales = c.requires.whole.scales;
-      seated = subst (λ n. IsSeated (height s) s.width n r.seats.items) (sym c.requires.seated.each) c.requires.seated;
+      columns = c.requires.columns.each;
+      below = variable_within s (count s) r.seats.items r.nonbasic.items c.requires.seated c.requires.columns;
       row_size = c.in_ok-divided.ensures.size;
       some = rest_some c.in_ok-divided.divided.0 c.in_ok-divided.divided.1 c.args.den c.in_ok-divided.ensures.split c.requires.form.some;
-      leaves = subst (λ n. c.args.leaving < n) (sym c.requires.seated.each) (last_below s (count s) r.seats.items m.scales.now c.args.den r.v.items c.requires.form c.requires.seated m.a.now m.b.now c.requires.whole c.args.leaving c.requires.refuted);
+      side = last_side s (count s) r.seats.items m.scales.now c.args.den r.numbers.items c.requires.form c.requires.seated m.a.now m.b.now c.requires.whole c.args.leaving c.requires.refuted;
+      leaves = last_below s (count s) r.seats.items m.scales.now c.args.den r.numbers.items c.requires.form c.requires.seated m.a.now m.b.now c.requires.whole c.args.leaving c.requires.refuted;
     })
 
 pub returns : goal.returns
@@ -50,7 +50,7 @@ returns c =
     let s = c.args.system.now in
     let m = c.args.numbers.now in
     let seats = c.args.lists.now.seats.items in
-    let v = c.args.lists.now.v.items in
+    let v = c.args.lists.now.numbers.items in
     let g = c.in_ok-divided.divided.0 in
     let rest = c.in_ok-divided.divided.1 in
     let x = c.divided_side_row.new.row in
@@ -59,6 +59,4 @@ returns c =
     (last_row s (count s) seats m.scales.now c.args.den v c.requires.form c.requires.seated m.a.now m.b.now c.requires.whole c.args.leaving c.requires.refuted (times_row g x) (side_of_divided s m.a.now v (c.args.leaving - s.width) c.args.den g rest x divided))
     in
     IfSome_then c.multipliers.result c.multipliers.ensures
-    (λ u given. subst (λ n. HasBasis n seats (last_position s) → IsRowOf n seats m.scales.now (last_position s) rest c.args.leaving x → IsMultipliers s (last_position s) c.args.leaving c.multipliers.new.list) c.requires.seated.each
-    (subst (λ (t : List Seat). HasBasis (length t) t (last_position s) → IsRowOf (length t) t m.scales.now (last_position s) rest c.args.leaving x → IsMultipliers s (last_position s) c.args.leaving c.multipliers.new.list) c.deref-2.ensures.value (given (last_position s)))
-    (record { basic = c.requires.form.basic }) row)
+    (λ u given. given seats (last_position s) c.requires.seated (subst (λ (t : List ℕ). AreNonbasic s.width seats t) (sym c.deref-2.ensures.value) c.requires.columns) (record { basic = c.requires.form.basic }) row)
