@@ -9,6 +9,7 @@ use Rattle.mpc_rows.specs.declared.systems.Row.{Row}
 use Rattle.mpc_rows.specs.LinearSystem.{LinearSystem, no_row}
 use Rattle.mpc_rows.specs.Run.{Position, IsTableau, is_refuted, goes_on, count, rest, turn, entering_row, position, is_pivot, steps, last_position}
 use Rattle.mpc_rows.specs.RunWidth.{TermFits, ValueFits, ValuesFit, EnteringFits, EntryFits, RowFits, RowsFit, PositionFits, RunFits}
+use Rattle.mpc_whole.specs.Judged.{IsRowFitting}
 use Rattle.mpc_beginnings.specs.Beginnings.{lengthened, Agrees, late, SideTermFits, SideValueFits, SideEntryFits, SideRowFits, AppendedFits, BeginningFits, LaterFits, AllAppendedFit}
 use Rattle.mpc_runs.proofs.Turn.{turn-at}
 use Rattle.mpc_runs.proofs.Positions.{tableau}
@@ -199,6 +200,13 @@ module _ (s : LinearSystem) (more : List Row) (p q : Position) (b : IsBounded (c
       row = λ l e z. ((rows_split l e (leaver_below l e z)).0 (h.rows l e (same ∙ z))).1 i k;
     }
 
+    -- what fits of a further side there is what its row adds here
+    pub appended_fitting : (i : ℕ) → i < length more → IsRowFitting (lengthened s more) q (count s + i) → AppendedFits s (get_or more i no_row) p
+    appended_fitting i k h = record {
+      value = further_value_back i k h.value;
+      row = λ l e z c. further_row_back l e (leaver_below l e z) i k (h.row l e (same ∙ z));
+    }
+
 -- ---- the runs
 module _ (s : LinearSystem) (more : List Row) where
   module _ (k : ℕ) (h : k ≤ steps s) where
@@ -220,6 +228,9 @@ module _ (s : LinearSystem) (more : List Row) where
 
     pub further_at : PositionFits (lengthened s more) (position (lengthened s more) k) → (i : ℕ) → i < length more → AppendedFits s (get_or more i no_row) (position s k)
     further_at = appended_back s more (position s k) (position (lengthened s more) k) (within s k) (tableau (lengthened s more) k) (positions_agree s more k early) (lates_at k early) (turns_agree s more k h)
+
+    pub fitting_at : (i : ℕ) → i < length more → IsRowFitting (lengthened s more) (position (lengthened s more) k) (count s + i) → AppendedFits s (get_or more i no_row) (position s k)
+    fitting_at = appended_fitting s more (position s k) (position (lengthened s more) k) (within s k) (tableau (lengthened s more) k) (positions_agree s more k early) (lates_at k early) (turns_agree s more k h)
 
   no_pivot : (l e : ℕ) → turn s (position s (steps s)) ≡ goes_on l e → ⊥
   no_pivot l e g = both_ways (is_pivot (turn s (position s (steps s)))) (run_ends s).stops (ap is_pivot g)

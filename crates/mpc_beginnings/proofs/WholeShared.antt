@@ -1,6 +1,6 @@
 -- The numbers of a run that is kept where it ends stand for a position of the longer system's run too, and their sizes show that all
 -- which the further rows form before it fits.
-use Rattle.std.proofs.Common.{◌≡◌, ℕ, ◌-◌, ◌*◌, ◌^◌, ◌<◌, ◌≤◌, true, List, ◌++◌, length, replicate, ℤ, pos, ◌*ℤ◌, refl, sym, ◌∙◌, ap, subst, subst₂, arith, ◌⊎◌, inl, inr, le_trans, mul-le-mul_right, mul-le-mul_left, length-append}
+use Rattle.std.proofs.Common.{◌≡◌, ℕ, ◌-◌, ◌*◌, ◌^◌, ◌<◌, ◌≤◌, true, List, ◌++◌, length, replicate, ℤ, pos, ◌*ℤ◌, unsigned_abs, refl, sym, ◌∙◌, ap, subst, subst₂, arith, ◌⊎◌, inl, inr, le_trans, mul-le-mul_right, mul-le-mul_left, length-append}
 use Rattle.std.proofs.lemmas.Bool.{cases_lt, both_ways}
 use Rattle.std.proofs.lemmas.List.{get_or_append_left, get_or-append_right, get_or-replicate, get_or_past, length-replicate}
 use Rattle.mpc_exact.specs.Rational.{frac, int}
@@ -17,13 +17,14 @@ use Rattle.mpc_whole.specs.Whole.{HasBounds, IsNarrow, IsForm, AreValues}
 use Rattle.mpc_scaled.specs.Scaled.{whole_cell, scale_at, IsSmall, IsWholeSystem}
 use Rattle.mpc_whole.specs.Underway.{IsUnderway}
 use Rattle.mpc_runs.specs.Leaving.{StayBefore}
-use Rattle.mpc_whole.specs.Judged.{IsMildForm, AreMildBefore, IsMildlyUnderway}
+use Rattle.mpc_whole.specs.Judged.{most_variables, IsWeighedAt, IsLeavingRow, IsMildForm, AreMildBefore, IsMildlyUnderway}
 use Rattle.mpc_runs.proofs.Turn.{Goes, turn-at}
 use Rattle.mpc_runs.proofs.Positions.{tableau}
 use Rattle.mpc_runs.proofs.Outside.{within}
 use Rattle.mpc_whole.specs.SharedSizes.{IsSmallForm, AreSmallBefore}
 use Rattle.mpc_beginnings.specs.Beginnings.{lengthened, Agrees}
 use Rattle.mpc_beginnings.specs.LongerSeats.{AreLongerSeats}
+use Rattle.mpc_beginnings.proofs.Prefix.{rest_below}
 use Rattle.mpc_beginnings.proofs.SharedRun.{positions_agree, turns_agree, values_agree, steps_longer}
 
 -- ---- kept sizes within the limit of a system: all fits at the position
@@ -98,7 +99,7 @@ module _ (s : LinearSystem) (more : List LinearRow) (k further : List ℕ) (same
   pub small_longer : (most most_den : ℕ) → AreSmallBefore s k (steps s) most most_den → AreSmallBefore (lengthened s more) further (steps s) most most_den
   small_longer most most_den z = record { each = λ q l. small_form_longer q (omega arith) most most_den (z.each q l) }
 
-  -- its rows that leave have no greater numbers
+  -- where its rows leave, they have the same numbers
   module _ (q : ℕ) (h : q < steps s) (l e : ℕ) (t : turn (lengthened s more) (position (lengthened s more) q) ≡ goes_on l e) where
     same_turn : turn s (position s q) ≡ goes_on l e
     same_turn = sym (turns_agree s more q h) ∙ t
@@ -106,32 +107,63 @@ module _ (s : LinearSystem) (more : List LinearRow) (k further : List ℕ) (same
     leaver : Goes s (position s q) l e
     leaver = turn-at s (position s q) (goes_on l e) same_turn
 
-    same_den : (den : ℕ) → den * scale_at k l ≡ den * scale_at further l
-    same_den den = ap (λ m. den * m) (sym (same l leaver.leaves.below))
+    same_entry : (y : ℕ) → (position s q).coefficient l y ≡ (position (lengthened s more) q).coefficient l y
+    same_entry y = sym ((positions_agree s more q (omega arith)).rows l y leaver.leaves.below)
 
     no_entry : (y : ℕ) → (position s q).is_basic y ≡ true → (position s q).coefficient l y ≡ int (pos 0)
     no_entry y b = (tableau s q).empty l y b
 
+    leaver_apart : l ≡ e → ⊥
+    leaver_apart o = both_ways ((position s q).is_basic e) leaver.eligible.free (ap (position s q).is_basic (sym o) ∙ leaver.leaves.violated.basic)
+
     -- a further side is basic, as the variable that leaves is
-    row_entry : (y : ℕ) → (y < count s) ⊎ (count s ≤ y) → (x : ℕ) × (x < count s) × ((position s q).coefficient l x ≡ (position (lengthened s more) q).coefficient l y)
-    row_entry y (inl b) = (y, b, sym ((positions_agree s more q (omega arith)).rows l y leaver.leaves.below))
-    row_entry y (inr b) =
-        (l, leaver.leaves.below, no_entry l leaver.leaves.violated.basic ∙ sym (no_entry y ((within s q).basic y b)) ∙ sym ((positions_agree s more q (omega arith)).rows l y leaver.leaves.below))
+    row_entry : (y : ℕ) → (y ≡ e → ⊥) → (y < count s) ⊎ (count s ≤ y) → (x : ℕ) × (x < count s) × (x ≡ e → ⊥) × ((position s q).coefficient l x ≡ (position (lengthened s more) q).coefficient l y)
+    row_entry y apart (inl b) = (y, b, apart, same_entry y)
+    row_entry y apart (inr b) = (l, leaver.leaves.below, leaver_apart, no_entry l leaver.leaves.violated.basic ∙ sym (no_entry y ((within s q).basic y b)) ∙ same_entry y)
 
-    row_longer : (den top : ℕ) → ((y : ℕ) → y < count s → Over (den * scale_at k l) top ((position s q).coefficient l y)) → (y : ℕ) → Over (den * scale_at further l) top ((position (lengthened s more) q).coefficient l y)
-    row_longer den top row y = let u = row_entry y (cases_lt y (count s)) in subst₂ (λ d c. Over d top c) (same_den den) u.2 (row u.0 u.1)
+    row_longer : (left f top size : ℕ) → IsLeavingRow s (position s q) k left f top size l e → IsLeavingRow (lengthened s more) (position (lengthened s more) q) further left f top size l e
+    row_longer left f top size row =
+        let scale : scale_at k l ≡ scale_at further l = sym (same l leaver.leaves.below) in
+        let den : left * scale_at k l ≡ left * scale_at further l = ap (λ m. left * m) scale in
+        record {
+          entering = row.entering;
+          pivot = subst₂ (λ d c. Over d size c) den (same_entry e) row.pivot;
+          others = λ y b apart. let u = row_entry y apart (cases_lt y (count s)) in subst₂ (λ d c. Over d top c) den u.3 (row.others u.0 u.1 u.2);
+          own = subst (λ m. m ≤ top) scale row.own;
+        }
 
-  pub mild_form_longer : (q : ℕ) → q < steps s → (most most_den product : ℕ) → IsMildForm s k (position s q) most most_den product → IsMildForm (lengthened s more) further (position (lengthened s more) q) most most_den product
+  -- a number in a column is weighed there as it is here
+  weighed_there : (e top size y : ℕ) → y < count s → (z : ℤ) (weight : ℕ) → IsWeighedAt s k e top size y z weight → IsWeighedAt (lengthened s more) further e top size y z weight
+  weighed_there e top size y b z weight h =
+      let scale : scale_at k y ≡ scale_at further y = sym (same y b) in
+      record {
+        entering = λ o. subst (λ m. (unsigned_abs z * m) * top ≤ weight) scale (h.entering o);
+        other = λ o. subst (λ m. (unsigned_abs z * m) * size ≤ weight) scale (h.other o);
+        first = λ side x o. h.first side x (ap (λ r. r.first) (sym (rest_below s more y b)) ∙ o ∙ ap (λ m. frac x m) (sym scale));
+        second = subst (λ m. most_variables * (unsigned_abs z * m) ≤ weight) scale h.second;
+      }
+
+  -- a further side stands in a row
+  weighed_longer : (weight : ℕ → ℕ) (e top size : ℕ) (seats : List Seat) → length seats ≡ count s → (v : List ℤ)
+      → ((j y c : ℕ) → j < s.width → y < count s → seat_at seats y ≡ Column c → IsWeighedAt s k e top size y (whole_cell s.width v j c) (weight j))
+      → (j y c : ℕ) → j < s.width → (y < count s) ⊎ (count s ≤ y) → seat_at (behind seats) y ≡ Column c → IsWeighedAt (lengthened s more) further e top size y (whole_cell s.width v j c) (weight j)
+  weighed_longer weight e top size seats z v weighed j y c b (inl l) o = weighed_there e top size y l (whole_cell s.width v j c) (weight j) (weighed j y c b l (sym ((behind_grown seats z).kept y l) ∙ o))
+  weighed_longer weight e top size seats z v weighed j y c b (inr l) o = absurd (both_ways (in_row (seat_at (behind seats) y)) (ap in_row o) ((behind_grown seats z).past y l))
+
+  pub mild_form_longer : (q : ℕ) → q < steps s → (most most_den : ℕ) (weight : ℕ → ℕ) (product : ℕ) → IsMildForm s k (position s q) most most_den weight product
+      → IsMildForm (lengthened s more) further (position (lengthened s more) q) most most_den weight product
   unfolding small_form_longer
-  mild_form_longer q h most most_den product z = record {
+  mild_form_longer q h most most_den weight product z = record {
     form = small_form_longer q (omega arith) most most_den z.form;
-    own = z.own;
-    small = z.small;
-    den_small = z.den_small;
+    divisor = z.divisor;
+    left = z.left;
+    split = z.split;
+    enters = z.enters;
     top = z.top;
-    row = λ l e t y b. row_longer q h l e t z.form.den z.top (z.row l e (same_turn q h l e t)) y;
-    row_den = λ l e t. subst (λ d. d ≤ z.top) (same_den q h l e t z.form.den) (z.row_den l e (same_turn q h l e t));
-    room = z.room;
+    size = z.size;
+    row = λ l e t. row_longer q h l e t z.left z.enters z.top z.size (z.row l e (same_turn q h l e t));
+    weighed = λ j y c b l o. weighed_longer weight z.enters z.top z.size z.form.seats z.form.each z.form.numbers z.weighed j y c b (cases_lt y (count s)) o;
+    dens = z.dens;
   }
 
   -- ---- where all that is formed before fits, the longer run goes on from the numbers at the shorter one's end
@@ -152,13 +184,13 @@ module _ (s : LinearSystem) (more : List LinearRow) (k further : List ℕ) (same
       stay = stay;
     }
 
-    pub longer_mildly_underway : (most most_den product : ℕ) → AreSmallBefore s k (steps s) most most_den → AreMildBefore s k (steps s) most most_den product → (c_1 c_2 : List ℤ) → AreValues s (last_position s) den c_1 c_2
+    pub longer_mildly_underway : (most most_den : ℕ) (weight : ℕ → ℕ) (product : ℕ) → AreSmallBefore s k (steps s) most most_den → AreMildBefore s k (steps s) most most_den weight product → (c_1 c_2 : List ℤ) → AreValues s (last_position s) den c_1 c_2
         → (first : ℕ) → s.width ≤ first → StayBefore (lengthened s more) (position (lengthened s more) (steps s)) first
-        → IsMildlyUnderway (lengthened s more) m longer further den v c_1 c_2 most most_den product first
+        → IsMildlyUnderway (lengthened s more) m longer further den v c_1 c_2 most most_den weight product first
     unfolding longer_underway
-    longer_mildly_underway most most_den product z mild c_1 c_2 h first from stay = record {
+    longer_mildly_underway most most_den weight product z mild c_1 c_2 h first from stay = record {
       underway = longer_underway most most_den z c_1 c_2 h first from stay;
-      before = λ known. record { each = λ q l. mild_form_longer q l most most_den product (mild.each q l) };
+      before = λ known. record { each = λ q l. mild_form_longer q l most most_den weight product (mild.each q l) };
     }
 
   -- ---- kept sizes within the limit of the longer system

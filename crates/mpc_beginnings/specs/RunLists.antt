@@ -5,13 +5,17 @@ use Rattle.mpc_rows.specs.Run.{count}
 use Rattle.mpc_runs.specs.Table.{variable_at, IsSeated, IsOpeningSeats}
 use Rattle.mpc_whole.specs.Whole.{IsUnit}
 use Rattle.mpc_scaled.specs.Scaled.{whole_at, IsSmall}
-use Rattle.mpc_whole.specs.Lists.{Listed, of_short, of_wide}
+use Rattle.mpc_whole.specs.Lists.{Listed, of_short, of_wide, weights_of}
 use Rattle.mpc_beginnings.specs.declared.lists.KeptLists.{KeptLists}
 use Rattle.mpc_beginnings.specs.LongerSeats.{AreLongerSeats}
 
 -- what the lists of a kept run have
 abbrev pub lists_of : KeptLists → Listed
 lists_of l = cond l.is_wide (of_wide l.wide) (of_short l.short)
+
+-- what an unknown's numbers weigh at the positions before: where they have 64 bits, the product that is kept serves for each
+abbrev pub weight_of : KeptLists → ℕ → ℕ → ℕ
+weight_of l product j = cond l.is_wide (weights_of l.wide j) product
 
 -- where the numbers have 64 bits, the values of the unknowns are small
 pub record HaveShortValues (l : KeptLists) : Type 0 where

@@ -10,19 +10,19 @@ ghost use Rattle.mpc_rows.specs.SetRuns.{turned};
 ghost use Rattle.mpc_whole.specs.Lists.{AreListsOf, of_short};
 ghost use Rattle.mpc_runs.specs.RunEnd.{IsEnd, IsMultipliers, IsValues, EndsRefuted};
 ghost use Rattle.mpc_runs.specs.WholeNumbers.{HasRoom};
-ghost use Rattle.mpc_scaled.specs.Scaled.{IsSmall};
+ghost use Rattle.mpc_scaled.specs.Scaled.{whole_cell, IsSmall};
 ghost use Rattle.mpc_whole.specs.Underway.{turn_of, HasEnded};
 ghost use Rattle.mpc_beginnings.specs.Beginnings.{lengthened};
 ghost use Rattle.mpc_beginnings.specs.Broken.{IsBroken, IsBrokenEnd};
 ghost use Rattle.mpc_beginnings.specs.Limit.{IsLimit};
-ghost use Rattle.mpc_beginnings.specs.RunLists.{lists_of, HaveShortValues};
+ghost use Rattle.mpc_beginnings.specs.RunLists.{lists_of, weight_of, HaveShortValues};
 ghost use Rattle.mpc_beginnings.specs.Open.{IsOpenFor};
-ghost use Rattle.mpc_beginnings.specs.Kept.{AreNumbers, IsSamePlace, IsNormProduct, HasRoomBefore, AreKept, IsFirstLater, IsLonger, IsUnderwayWithin, IsUnderwayWithRoom, IsRefuted, IsMet};
+ghost use Rattle.mpc_beginnings.specs.Kept.{AreNumbers, IsSamePlace, IsNormProduct, row_weight, IsLightRow, HasRoomBefore, AreKept, IsFirstLater, IsLonger, IsUnderwayWithin, IsUnderwayWithRoom, IsRefuted, IsMet};
 
 use crate::lists::{
     KeptLists, begins_with, copied_lists, lengthen, lengthen_wide, lists_with_room, no_lists,
-    push_turned, set_lists, set_opening, set_wide_lists, sizes, variables, widen, with_row,
-    with_turned,
+    push_turned, set_lists, set_opening, set_wide_lists, sizes, top_weight, variables, weight_at,
+    widen, with_row, with_turned,
 };
 use mpc_frac::Frac;
 use mpc_linear::RowInt;
@@ -35,6 +35,9 @@ use mpc_whole::{
 };
 use std::alloc::{AllocError, Global};
 use std::marker::Model;
+
+/// A system with further rows has at most so many variables where what is kept of the positions before serves.
+const MOST_VARIABLES: u128 = 1024;
 
 /// The numbers of the rows times their scales, with bounds of their sizes.
 fn numbers_of(system: &WholeSystem) -> WholeNumbers
@@ -101,26 +104,30 @@ fn row_norm(width: usize, numbers: &WholeNumbers) -> Option<u64>
     Some(norm.max(1) as u64)
 }
 
-/// At most this is the product of a number or a denominator of a position with one of a row there, where
-/// the numbers and denominators of positions have these sizes.
+/// At least what the numbers and denominators of positions of such sizes weigh.
 fn norm_product(width: usize, numbers: &WholeNumbers, place: WidePlace) -> Option<u128>
     requires entries { IsSmall numbers.now.most_entry numbers.now.a.now }
     ensures { IfSome result (IsNormProduct width numbers.now place) }
 {
     let norm = row_norm(width, numbers)? as u128;
+    let scale = numbers.most_scale as u128;
     let most = place.greatest.max(place.greatest_den);
-    let size = norm.checked_mul(place.greatest)?;
-    let top = size.max(place.greatest_den);
-    let scaled = top.checked_mul(numbers.most_scale as u128)?;
-    let product = scaled.checked_mul(most)?;
-    Some(product)
+    let top = norm.checked_mul(most)?.max(1).checked_mul(scale)?;
+    let pivots = most.checked_mul(scale)?.checked_mul(top)?;
+    let term = most.checked_mul(scale.max(numbers.most_side as u128))?;
+    let terms = term.checked_mul(MOST_VARIABLES)?;
+    Some(pivots.max(terms))
 }
 
-/// The product that is kept of positions with these sizes: the greatest of its type where it isn't known.
-fn product_of(width: usize, numbers: &WholeNumbers, place: WidePlace) -> u128
+/// The product that is kept of positions with these sizes: the greatest of its type where it isn't known, or where none
+/// is to be kept.
+fn kept_product(width: usize, numbers: &WholeNumbers, place: WidePlace, keeps: bool) -> u128
     requires entries { IsSmall numbers.now.most_entry numbers.now.a.now }
     ensures { result < 2 ^ 127 → IsNormProduct width numbers.now place result }
 {
+    if !keeps {
+        return u128::MAX;
+    }
     match norm_product(width, numbers, place) {
         Some(product) => product,
         None => u128::MAX,
@@ -205,6 +212,7 @@ fn limited_run(
     requires row_size { length row.old ≡ system.now.width }
     requires start { IsUnderwayWithin system.now numbers.now (lists_of lists.old) from }
     ensures lists { IfSome result (λ t. AreListsOf system.now t.0.own (lists_of lists.new)) }
+    ensures narrow { IfSome result (λ _. lists.new.is_wide ≡ false) }
     ensures short { IfSome result (λ _. HaveShortValues lists.new) }
     ensures end { IfSome result (λ t. HasEnded system.now (count system.now) (lists_of lists.new).seats numbers.now.scales.now t.0.den (lists_of lists.new).numbers (lists_of lists.new).firsts (lists_of lists.new).seconds t.0.greatest t.0.greatest_den t.1) }
 {
@@ -214,7 +222,8 @@ fn limited_run(
     short_run(&mut lists.short, row, system, numbers, from, most)
 }
 
-/// The run from a position to its end, where one limit serves for all rows, with what is kept of it.
+/// The run from a position to its end, where one limit serves for all rows, with what is kept of it. Where no run is
+/// to go on from there, nothing is kept of what its positions weigh.
 fn run_on(
     lists: &mut KeptLists,
     work: &mut Vec<i64>,
@@ -222,6 +231,7 @@ fn run_on(
     numbers: &WholeNumbers,
     from: WidePlace,
     most: u64,
+    keeps: bool,
 ) -> Result<Option<(WidePlace, Ending)>, AllocError>
     requires limit { IsLimit system.now numbers.now from most }
     requires numbers { AreNumbers system.now numbers.now }
@@ -236,7 +246,7 @@ fn run_on(
     let (row, _) = work.split_at_mut(width);
     match limited_run(lists, row, system, numbers, from, most) {
         Some((place, end)) => {
-            let product = product_of(width, numbers, place);
+            let product = kept_product(width, numbers, place, keeps);
             Ok(Some((WidePlace { product, ..place }, end)))
         }
         None => Ok(None),
@@ -255,47 +265,130 @@ fn small_product(left: u128, right: u128) -> Option<u128>
     Some(product)
 }
 
-/// Whether the sizes that are kept of the positions before show that no row of the system forms a wide number
-/// there.
-fn room_before(system: &WholeSystem, numbers: &WholeNumbers, from: WidePlace) -> Option<()>
-    requires entries { IsSmall numbers.now.most_entry numbers.now.a.now }
-    ensures room { IfSome result (λ _. HasRoom system.now.width (2 ^ 62) numbers.now.a.now) }
-    ensures before { IfSome result (λ _. HasRoomBefore system.now numbers.now from) }
+/// What a row weighs at the positions before, if that fits.
+fn row_weight(
+    lists: &KeptLists,
+    system: &WholeSystem,
+    numbers: &WholeNumbers,
+    product: u128,
+    row: usize,
+) -> Option<u128>
+    requires numbers { AreNumbers system.now numbers.now }
+    requires row { row < height system.now }
+    ensures { IfSome result (λ weight. weight ≡ row_weight (weight_of lists.now product) (whole_cell system.now.width numbers.now.a.now row) system.now.width) }
 {
-    let _ = small_product(from.greatest_den, numbers.most_scale as u128)?;
+    let width = system.unknowns();
+    let mut sum: u128 = 0;
+    for unknown in 0..width {
+        let size = numbers.a[row * width + unknown].unsigned_abs() as u128;
+        let term = size.checked_mul(weight_at(lists, product, unknown))?;
+        sum = sum.checked_add(term)?;
+    }
+    Some(sum)
+}
+
+/// If a row has room at the positions before.
+fn is_light(
+    lists: &KeptLists,
+    system: &WholeSystem,
+    numbers: &WholeNumbers,
+    from: WidePlace,
+    row: usize,
+) -> Option<()>
+    requires numbers { AreNumbers system.now numbers.now }
+    requires row { row < height system.now }
+    ensures { IfSome result (λ _. IsLightRow system.now numbers.now (weight_of lists.now from.product) from row) }
+{
     let width = system.unknowns();
     let variables = width.checked_add(system.height())?;
-    let norm = row_norm(width, numbers)? as u128;
-    let scaled = norm * numbers.most_scale as u128;
-    let _ = small_product(scaled, from.product)?;
-    let size = norm.checked_mul(from.greatest)?;
-    let rest = numbers.most_side.max(numbers.most_scale);
-    let term = small_product(size, rest as u128)?;
-    let _ = small_product(variables as u128, term)?;
+    if variables as u128 > MOST_VARIABLES {
+        return None;
+    }
+    let scale = numbers.scales[width + row] as u128;
+    let _ = small_product(from.greatest_den, scale)?;
+    let _ = small_product(from.product, scale)?;
+    let weight = row_weight(lists, system, numbers, from.product, row)?;
+    let _ = small_product(weight, 1)?;
     Some(())
 }
 
-/// The run from a position to its end, where each row is judged by its own numbers.
+/// If the greatest sizes of the system's numbers show that all its rows have room at the positions before.
+fn are_all_light(
+    lists: &KeptLists,
+    system: &WholeSystem,
+    numbers: &WholeNumbers,
+    from: WidePlace,
+    norm: u64,
+) -> Option<()>
+    requires numbers { AreNumbers system.now numbers.now }
+    requires norm { system.now.width * numbers.now.most_entry ≤ norm }
+    ensures { IfSome result (λ _. (i : ℕ) → i < height system.now → IsLightRow system.now numbers.now (weight_of lists.now from.product) from i) }
+{
+    let width = system.unknowns();
+    let variables = width.checked_add(system.height())?;
+    if variables as u128 > MOST_VARIABLES {
+        return None;
+    }
+    let scale = numbers.most_scale as u128;
+    let _ = small_product(from.greatest_den, scale)?;
+    let _ = small_product(from.product, scale)?;
+    let _ = small_product(top_weight(lists, from.product, width), norm as u128)?;
+    Some(())
+}
+
+/// If the rows of the system from this one on have room at the positions before, which is known of the others. Mostly
+/// the greatest sizes show it, and the rows aren't looked at.
+fn room_before(
+    lists: &KeptLists,
+    system: &WholeSystem,
+    numbers: &WholeNumbers,
+    from: WidePlace,
+    first: usize,
+) -> Option<()>
+    requires { AreNumbers system.now numbers.now }
+    ensures room { IfSome result (λ _. HasRoom system.now.width (2 ^ 62) numbers.now.a.now) }
+    ensures before { IfSome result (λ _. HasRoomBefore system.now numbers.now (weight_of lists.now from.product) from first) }
+{
+    let norm = row_norm(system.unknowns(), numbers)?;
+    if from.product > i128::MAX as u128 {
+        return None;
+    }
+    if let Some(()) = are_all_light(lists, system, numbers, from, norm) {
+        return Some(());
+    }
+    for row in first..system.height() {
+        is_light(lists, system, numbers, from, row)?;
+    }
+    Some(())
+}
+
+/// The run from a position to its end, where each row is judged by its own numbers. The rows from the first on that
+/// is given weren't there at the positions before. Where no run is to go on from its end, nothing is kept of what its
+/// positions weigh.
 fn judge_on(
     lists: &mut KeptLists,
     work: &mut Vec<i128>,
     system: &WholeSystem,
     numbers: &WholeNumbers,
     from: WidePlace,
+    first: usize,
+    keeps: bool,
 ) -> Result<Option<(WidePlace, Ending)>, AllocError>
     requires numbers { AreNumbers system.now numbers.now }
     requires lists { AreListsOf system.now from.own (lists_of lists.old) }
-    requires start { IsUnderwayWithRoom system.now numbers.now (lists_of lists.old) from }
+    requires start { IsUnderwayWithRoom system.now numbers.now (lists_of lists.old) (weight_of lists.old from.product) from first }
     ensures { IfOk result (λ o. IfSome o (λ t. AreKept system.now numbers.now.scales.now lists.new t.0 t.1)) }
 {
     let width = system.unknowns();
     lengthen_wide(work, width)?;
-    let Some(()) = room_before(system, numbers, from) else {
+    let Some(()) = room_before(lists, system, numbers, from, first) else {
         return Ok(None);
     };
-    widen(lists)?;
+    widen(lists, from.product)?;
     let (row, _) = work.split_at_mut(width);
-    match judged_run(&mut lists.wide, row, system, numbers, from) {
+    let product = if keeps { from.product } else { u128::MAX };
+    let start = WidePlace { product, ..from };
+    match judged_run(&mut lists.wide, row, system, numbers, start) {
         Some(found) => Ok(Some(found)),
         None => Ok(None),
     }
@@ -466,19 +559,22 @@ impl Model for KeptRun {
     ghost invariant = { λ r. AreKept r.system r.last.value.scales.items r.last.value.lists r.last.value.place r.last.value.end };
 }
 
-/// The run of a system from its opening to its end, where whole numbers serve for it.
+/// The run of a system from its opening to its end, where whole numbers serve for it. It keeps what its positions weigh
+/// where a run is to go on from its end.
 fn first_run(
     lists: &mut KeptLists,
     work: &mut Rows,
     system: &WholeSystem,
     numbers: &WholeNumbers,
+    keeps: bool,
 ) -> Result<Option<(WidePlace, Ending)>, AllocError>
     requires numbers { AreNumbers system.now numbers.now }
     ensures { IfOk result (λ o. IfSome o (λ t. AreKept system.now numbers.now.scales.now lists.new t.0 t.1)) }
 {
     position_theorems();
     let width = system.unknowns();
-    let Some((variables, square)) = sizes(system.height(), width) else {
+    let height = system.height();
+    let Some((variables, square)) = sizes(height, width) else {
         return Ok(None);
     };
     let from = WidePlace {
@@ -491,12 +587,12 @@ fn first_run(
     };
     if let Some(most) = limit_of(system, numbers, from) {
         set_opening(lists, system, variables, square)?;
-        if let Some(found) = run_on(lists, &mut work.short, system, numbers, from, most)? {
+        if let Some(found) = run_on(lists, &mut work.short, system, numbers, from, most, keeps)? {
             return Ok(Some(found));
         }
     }
     set_opening(lists, system, variables, square)?;
-    judge_on(lists, &mut work.wide, system, numbers, from)
+    judge_on(lists, &mut work.wide, system, numbers, from, height, keeps)
 }
 
 /// The end of the run of a system from its opening, where whole numbers serve for it.
@@ -509,7 +605,7 @@ fn first_end(
 {
     let mut lists = no_lists(alloc);
     let numbers = numbers_of(system);
-    match first_run(&mut lists, work, system, &numbers)? {
+    match first_run(&mut lists, work, system, &numbers, true)? {
         Some((place, end)) => {
             let last = kept_end(alloc, numbers.scales, lists, place, end)?;
             Ok(Some(last))
@@ -639,7 +735,7 @@ impl KeptRun {
         let seats = longer.unknowns().saturating_add(longer.height());
         let mut lists = lists_with_room(alloc, &self.last().lists, seats)?;
         let numbers = numbers_of(longer);
-        match self.run_longer(&mut lists, work, longer, &numbers)? {
+        match self.run_longer(&mut lists, work, longer, &numbers, true)? {
             Some((place, end)) => {
                 let last = kept_end(alloc, numbers.scales, lists, place, end)?;
                 Ok(Some(last))
@@ -683,6 +779,7 @@ impl KeptRun {
         work: &mut Rows,
         longer: &WholeSystem,
         numbers: &WholeNumbers,
+        keeps: bool,
     ) -> Result<Option<(WidePlace, Ending)>, AllocError>
         requires longer { IsLonger self.now longer.now }
         requires numbers { AreNumbers longer.now numbers.now }
@@ -700,22 +797,31 @@ impl KeptRun {
         let height = self.system.height();
         if let Some(most) = short_limit(&last.lists, longer, numbers, from) {
             set_lists(lists, &last.lists, height, longer.height())?;
-            if let Some(found) = run_on(lists, &mut work.short, longer, numbers, from, most)? {
+            if let Some(found) = run_on(
+                lists,
+                &mut work.short,
+                longer,
+                numbers,
+                from,
+                most,
+                keeps,
+            )? {
                 return Ok(Some(found));
             }
         }
-        set_wide_lists(lists, &last.lists, height, longer.height())?;
-        judge_on(lists, &mut work.wide, longer, numbers, from)
+        set_wide_lists(lists, &last.lists, height, longer.height(), from.product)?;
+        judge_on(lists, &mut work.wide, longer, numbers, from, height, keeps)
     }
 
     /// Whether the longer run, where it fails from here on, fails anew too: nothing divides all numbers that stand
     /// here and their denominator, and the sizes that are kept leave it room at the positions before.
     fn fails_alike(&self, longer: &WholeSystem, numbers: &WholeNumbers) -> bool
-        requires { IsSmall numbers.now.most_entry numbers.now.a.now }
+        requires { AreNumbers longer.now numbers.now }
     {
         let last = self.last();
         let is_reduced = last.lists.is_wide || last.place.den == 1;
-        is_reduced && room_before(longer, numbers, last.place).is_some()
+        let first = self.system.height();
+        is_reduced && room_before(&last.lists, longer, numbers, last.place, first).is_some()
     }
 
     /// The run of a system with further rows behind this one's: from where this one ends on, or else
@@ -726,18 +832,19 @@ impl KeptRun {
         work: &mut Rows,
         longer: &WholeSystem,
         numbers: &WholeNumbers,
+        keeps: bool,
     ) -> Result<Option<(WidePlace, Ending)>, AllocError>
         requires longer { IsLonger self.now longer.now }
         requires numbers { AreNumbers longer.now numbers.now }
         ensures { IfOk result (λ o. IfSome o (λ t. AreKept longer.now numbers.now.scales.now lists.new t.0 t.1)) }
     {
-        if let Some(found) = self.go_on(lists, work, longer, numbers)? {
+        if let Some(found) = self.go_on(lists, work, longer, numbers, keeps)? {
             return Ok(Some(found));
         }
         if self.fails_alike(longer, numbers) {
             return Ok(None);
         }
-        first_run(lists, work, longer, numbers)
+        first_run(lists, work, longer, numbers, keeps)
     }
 
     /// Whether the run of a system with further rows behind this one's ends with a point.
@@ -750,7 +857,7 @@ impl KeptRun {
         ensures { IfOk result (λ o. IfSome o (IsMet longer.now)) }
     {
         let numbers = numbers_of(longer);
-        match self.run_longer(&mut work.lists, &mut work.rows, longer, &numbers)? {
+        match self.run_longer(&mut work.lists, &mut work.rows, longer, &numbers, false)? {
             Some((_, end)) => Ok(Some(is_point(end))),
             None => Ok(None),
         }
@@ -767,7 +874,7 @@ impl KeptRun {
         ensures { IfOk result (λ o. IfSome o (IsBrokenEnd longer.now)) }
     {
         let numbers = numbers_of(longer);
-        match self.run_longer(&mut work.lists, &mut work.rows, longer, &numbers)? {
+        match self.run_longer(&mut work.lists, &mut work.rows, longer, &numbers, true)? {
             Some((place, Ending::Point)) => {
                 let end = Ending::Point;
                 let run = kept_copy(alloc, longer, numbers.scales, &work.lists, place, end)?;

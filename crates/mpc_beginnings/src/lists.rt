@@ -1,6 +1,6 @@
 //! The lists of a run.
 
-ghost use Rattle.std.specs.Prelude.{◌≡◌, ℕ, pos, ◌+◌, ◌-◌, ◌*◌, ◌<◌, ◌≤◌, [], ◌∷◌, IsTrue, IfSome, IfOk, OnOk, length, true};
+ghost use Rattle.std.specs.Prelude.{◌≡◌, ℕ, pos, ◌+◌, ◌-◌, ◌*◌, ◌<◌, ◌≤◌, [], ◌∷◌, IsTrue, IfSome, IfOk, OnOk, length, get_or, true};
 ghost use Rattle.mpc_rows.specs.LinearSystem.{LinearSystem, height, row_at};
 ghost use Rattle.mpc_rows.specs.Run.{count};
 ghost use Rattle.mpc_rows.specs.SetRuns.{turned};
@@ -9,8 +9,8 @@ ghost use Rattle.mpc_whole.specs.Whole.{IsUnit};
 ghost use Rattle.mpc_scaled.specs.Scaled.{whole_at, scale_at, IsSmall};
 ghost use Rattle.mpc_beginnings.specs.Beginnings.{lengthened};
 ghost use Rattle.mpc_beginnings.specs.LongerSeats.{AreLongerSeats};
-ghost use Rattle.mpc_whole.specs.Lists.{of_short, of_wide};
-ghost use Rattle.mpc_beginnings.specs.RunLists.{lists_of, HaveShortValues, AreLonger, AreOpening};
+ghost use Rattle.mpc_whole.specs.Lists.{of_short, of_wide, weights_of};
+ghost use Rattle.mpc_beginnings.specs.RunLists.{lists_of, weight_of, HaveShortValues, AreLonger, AreOpening};
 
 use mpc_rows::Row;
 use mpc_runs::Seat;
@@ -182,6 +182,24 @@ fn put_widened(list: &mut Vec<i128>, numbers: &[i64]) -> Result<(), AllocError>
     Ok(())
 }
 
+/// Writes weights in place of others.
+fn put_weights(list: &mut Vec<u128>, weights: &[u128]) -> Result<(), AllocError>
+    ensures { OnOk result (list.new.items ≡ weights.now) }
+{
+    list.clear();
+    list.extend_from_slice(weights)?;
+    Ok(())
+}
+
+/// Writes the same weight so many times in place of others.
+fn put_same_weights(list: &mut Vec<u128>, size: usize, weight: u128) -> Result<(), AllocError>
+    ensures { OnOk result ((j : ℕ) → j < size → get_or list.new.items j 0 ≡ weight) }
+{
+    list.clear();
+    list.resize(size, weight)?;
+    Ok(())
+}
+
 /// Writes variables in place of others.
 fn put_variables(list: &mut Vec<usize>, nonbasic: &[usize]) -> Result<(), AllocError>
     ensures { OnOk result (list.new.items ≡ nonbasic.now) }
@@ -208,6 +226,7 @@ pub(crate) fn no_lists(alloc: Global) -> KeptLists {
             numbers: Vec::new(alloc),
             firsts: Vec::new(alloc),
             seconds: Vec::new(alloc),
+            weights: Vec::new(alloc),
         },
     }
 }
@@ -279,37 +298,46 @@ fn put_short(lists: &mut RunLists, other: &RunLists) -> Result<(), AllocError>
 
 /// Writes other lists of 128 bits in place of these.
 fn put_wide_lists(lists: &mut WideLists, other: &WideLists) -> Result<(), AllocError>
-    ensures { OnOk result (of_wide lists.new ≡ of_wide other.now) }
+    ensures same { OnOk result (of_wide lists.new ≡ of_wide other.now) }
+    ensures weights { OnOk result ((j : ℕ) → weights_of lists.new j ≡ weights_of other.now j) }
 {
     put_seats(&mut lists.seats, &other.seats)?;
     put_variables(&mut lists.nonbasic, &other.nonbasic)?;
     put_wide(&mut lists.numbers, &other.numbers)?;
     put_wide(&mut lists.firsts, &other.firsts)?;
     put_wide(&mut lists.seconds, &other.seconds)?;
+    put_weights(&mut lists.weights, &other.weights)?;
     Ok(())
 }
 
-/// Writes other lists of 64 bits in place of these.
-fn put_widened_lists(lists: &mut WideLists, other: &RunLists) -> Result<(), AllocError>
-    ensures { OnOk result (of_wide lists.new ≡ of_short other.now) }
+/// Writes other lists of 64 bits in place of these, with this weight for each unknown.
+fn put_widened_lists(
+    lists: &mut WideLists,
+    other: &RunLists,
+    weight: u128,
+) -> Result<(), AllocError>
+    ensures same { OnOk result (of_wide lists.new ≡ of_short other.now) }
+    ensures weights { OnOk result ((j : ℕ) → j < length other.now.firsts.items → weights_of lists.new j ≡ weight) }
 {
     put_seats(&mut lists.seats, &other.seats)?;
     put_variables(&mut lists.nonbasic, &other.nonbasic)?;
     put_widened(&mut lists.numbers, &other.numbers)?;
     put_widened(&mut lists.firsts, &other.firsts)?;
     put_widened(&mut lists.seconds, &other.seconds)?;
+    put_same_weights(&mut lists.weights, other.firsts.len(), weight)?;
     Ok(())
 }
 
-/// Makes the lists wide, with the numbers that they have.
-pub(crate) fn widen(lists: &mut KeptLists) -> Result<(), AllocError>
+/// Makes the lists wide, with the numbers that they have and the product for each unknown's weight.
+pub(crate) fn widen(lists: &mut KeptLists, product: u128) -> Result<(), AllocError>
     ensures wide { OnOk result (lists.new.is_wide ≡ true) }
     ensures same { OnOk result (of_wide lists.new.wide ≡ lists_of lists.old) }
+    ensures weights { OnOk result ((j : ℕ) → j < length (lists_of lists.old).firsts → weights_of lists.new.wide j ≡ weight_of lists.old product j) }
 {
     if lists.is_wide {
         return Ok(());
     }
-    put_widened_lists(&mut lists.wide, &lists.short)?;
+    put_widened_lists(&mut lists.wide, &lists.short, product)?;
     lists.is_wide = true;
     Ok(())
 }
@@ -317,6 +345,7 @@ pub(crate) fn widen(lists: &mut KeptLists) -> Result<(), AllocError>
 /// Writes other lists in place of these.
 fn put_copies(lists: &mut KeptLists, other: &KeptLists) -> Result<(), AllocError>
     ensures same { OnOk result (lists_of lists.new ≡ lists_of other.now) }
+    ensures weights { OnOk result ((product j : ℕ) → weight_of lists.new product j ≡ weight_of other.now product j) }
     ensures small { OnOk result (HaveShortValues other.now → HaveShortValues lists.new) }
 {
     lists.is_wide = other.is_wide;
@@ -328,18 +357,48 @@ fn put_copies(lists: &mut KeptLists, other: &KeptLists) -> Result<(), AllocError
     Ok(())
 }
 
-/// Writes other lists in place of these, wide.
-fn put_wide_copies(lists: &mut KeptLists, other: &KeptLists) -> Result<(), AllocError>
+/// Writes other lists in place of these, wide, where the product is that of theirs.
+fn put_wide_copies(
+    lists: &mut KeptLists,
+    other: &KeptLists,
+    product: u128,
+) -> Result<(), AllocError>
     ensures wide { OnOk result (lists.new.is_wide ≡ true) }
     ensures same { OnOk result (of_wide lists.new.wide ≡ lists_of other.now) }
+    ensures weights { OnOk result ((j : ℕ) → j < length (lists_of other.now).firsts → weights_of lists.new.wide j ≡ weight_of other.now product j) }
 {
     lists.is_wide = true;
     if other.is_wide {
         put_wide_lists(&mut lists.wide, &other.wide)?;
         return Ok(());
     }
-    put_widened_lists(&mut lists.wide, &other.short)?;
+    put_widened_lists(&mut lists.wide, &other.short, product)?;
     Ok(())
+}
+
+/// What the numbers of an unknown weigh at the positions before, where the product is that of the lists.
+#[inline]
+pub(crate) fn weight_at(lists: &KeptLists, product: u128, unknown: usize) -> u128
+    ensures { result ≡ weight_of lists.now product unknown }
+{
+    if !lists.is_wide {
+        return product;
+    }
+    match lists.wide.weights.get(unknown) {
+        Some(weight) => *weight,
+        None => 0,
+    }
+}
+
+/// The greatest of what the numbers of so many unknowns weigh at the positions before.
+pub(crate) fn top_weight(lists: &KeptLists, product: u128, width: usize) -> u128
+    ensures { (j : ℕ) → j < width → weight_of lists.now product j ≤ result }
+{
+    let mut top = 0;
+    for unknown in 0..width {
+        top = weight_at(lists, product, unknown).max(top);
+    }
+    top
 }
 
 /// How many variables there are, where the lists stand.
@@ -355,6 +414,7 @@ pub(crate) fn variables(lists: &KeptLists) -> usize
 /// The same lists in memory of their own.
 pub(crate) fn copied_lists(alloc: Global, lists: &KeptLists) -> Result<KeptLists, AllocError>
     ensures same { IfOk result (λ t. lists_of t ≡ lists_of lists.now) }
+    ensures weights { IfOk result (λ t. (product j : ℕ) → weight_of t product j ≡ weight_of lists.now product j) }
     ensures small { IfOk result (λ t. HaveShortValues lists.now → HaveShortValues t) }
 {
     let mut own = no_lists(alloc);
@@ -372,6 +432,7 @@ pub(crate) fn set_lists(
 ) -> Result<(), AllocError>
     requires { height ≤ longer }
     ensures longer { OnOk result (AreLonger height longer (lists_of other.now) (lists_of lists.new)) }
+    ensures weights { OnOk result ((product j : ℕ) → weight_of lists.new product j ≡ weight_of other.now product j) }
     ensures small { OnOk result (HaveShortValues other.now → HaveShortValues lists.new) }
 {
     put_copies(lists, other)?;
@@ -384,17 +445,19 @@ pub(crate) fn set_lists(
 }
 
 /// Writes other lists in place of these, wide, and the seats of further sides behind theirs, in the rows from
-/// the height of the system on.
+/// the height of the system on. The product is that of the others.
 pub(crate) fn set_wide_lists(
     lists: &mut KeptLists,
     other: &KeptLists,
     height: usize,
     longer: usize,
+    product: u128,
 ) -> Result<(), AllocError>
     requires { height ≤ longer }
-    ensures { OnOk result (AreLonger height longer (lists_of other.now) (lists_of lists.new)) }
+    ensures longer { OnOk result (AreLonger height longer (lists_of other.now) (lists_of lists.new)) }
+    ensures weights { OnOk result ((j : ℕ) → j < length (lists_of other.now).firsts → weight_of lists.new product j ≡ weight_of other.now product j) }
 {
-    put_wide_copies(lists, other)?;
+    put_wide_copies(lists, other, product)?;
     push_sides(&mut lists.wide.seats, height, longer)?;
     Ok(())
 }

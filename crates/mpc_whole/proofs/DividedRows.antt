@@ -1,5 +1,5 @@
 -- A row that leaves, over a divisor of its numbers and of the denominator.
-use Rattle.std.proofs.Common.{◌≡◌, ℕ, zero, suc, ◌*◌, ◌<◌, ◌≤◌, List, map, length, ℤ, pos, negsuc, ◌+ℤ◌, ◌*ℤ◌, neg_ℤ, unsigned_abs, [], ◌∷◌, refl, sym, ◌∙◌, ap, subst, arith, mul-pos, mul-le-mul_left, mul-le-mul_right}
+use Rattle.std.proofs.Common.{◌≡◌, ℕ, zero, suc, ◌*◌, ◌<◌, List, map, length, ℤ, pos, negsuc, ◌+ℤ◌, ◌*ℤ◌, neg_ℤ, unsigned_abs, [], ◌∷◌, refl, sym, ◌∙◌, ap, subst, arith, mul-pos}
 use Rattle.std.proofs.lemmas.Int.{unsigned_abs-mul}
 use Rattle.std.proofs.lemmas.List.{length-map, get_or-map}
 use Rattle.mpc_exact.proofs.Rational.{same_frac}
@@ -12,7 +12,7 @@ use Rattle.mpc_runs.specs.Table.{seat_at}
 use Rattle.mpc_runs.specs.WholeNumbers.{turned}
 use Rattle.mpc_whole.specs.Whole.{IsRowOf, IsSideRow, IsChanged}
 use Rattle.mpc_scaled.specs.Scaled.{whole_at, whole_cell, scale_at}
-use Rattle.mpc_whole.specs.Judged.{IsTimes, IsDividedRow, IsRowWithin, IsReducedPivot}
+use Rattle.mpc_whole.specs.Judged.{IsTimes, IsDividedRow, IsReducedPivot}
 
 -- ---- the row itself
 abbrev pub times_row : ℕ → List ℤ → List ℤ
@@ -83,20 +83,6 @@ module _ (width factor den rest size : ℕ) (old new x row : List ℤ) (e g : �
         ∙ spread (whole_cell width old j c) (pos (unsigned_abs (whole_at x e))) (turned (whole_at x e) (whole_cell width old j e)) (whole_at x c) (pos g)
         ∙ (λ i. (whole_cell width old j c *ℤ pos (sym own_size i)) +ℤ neg_ℤ (sym (sign (whole_cell width old j e)) i *ℤ sym (at c k) i));
   }
-
--- ---- its sizes
-scaled_size : (x g k m : ℕ) → x * k ≤ m → (x * g) * k ≤ m * g
-scaled_size x g k m h = let a : (x * k) * g ≤ m * g = mul-le-mul_right g h in omega arith
-
-pub within_divided : (n : ℕ) (seats : List Seat) (k : List ℕ) (l e g : ℕ) (x row : List ℤ) (top size : ℕ) → 0 < g → IsTimes g x row → ((y c : ℕ) → y < n → seat_at seats y ≡ Column c → c < length x) → IsRowWithin n seats k l e x top size → IsRowWithin n seats k l e row (top * g) (size * g)
-within_divided n seats k l e g x row top size more t columns w = record {
-  own = let a : top * 1 ≤ top * g = mul-le-mul_left top more in let b = w.own in omega arith;
-  entering = λ y c b q f. subst (λ m. m * scale_at k y ≤ size * g) (sym (abs c (columns y c b q))) (scaled_size (unsigned_abs (whole_at x c)) g (scale_at k y) size (w.entering y c b q f));
-  others = λ y c b q f. subst (λ m. m * scale_at k y ≤ top * g) (sym (abs c (columns y c b q))) (scaled_size (unsigned_abs (whole_at x c)) g (scale_at k y) top (w.others y c b q f));
-}
-  where
-    abs : (c : ℕ) → c < length x → unsigned_abs (whole_at row c) ≡ unsigned_abs (whole_at x c) * g
-    abs c h = ap unsigned_abs (t.each c h) ∙ unsigned_abs-mul (whole_at x c) (pos g)
 
 -- ---- its coefficients
 pub crossed : (x g y r l : ℤ) → ((x *ℤ g) *ℤ y) *ℤ (r *ℤ l) ≡ (x *ℤ y) *ℤ ((g *ℤ r) *ℤ l)

@@ -23,4 +23,5 @@ pub mod JudgedRun
 pub mod Judges
 pub mod JudgedTurns
 pub mod WholeRows
+pub mod WeighedNumbers
 pub mod PositionTheorems

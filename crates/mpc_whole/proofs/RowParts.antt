@@ -1,6 +1,7 @@
--- A row that changes in the columns before and behind the pivot's, and then there.
-use Rattle.std.proofs.Common.{◌≡◌, ℕ, ◌+◌, ◌*◌, ◌<◌, ◌≤◌, List, length, set, ℤ, pos, ◌+ℤ◌, ◌*ℤ◌, neg_ℤ, unsigned_abs, sym, ◌∙◌, ap, subst, arith, ◌⊎◌, inl, inr}
+-- A row that changes in the columns before and behind the pivot's, and then there, or stays.
+use Rattle.std.proofs.Common.{◌≡◌, ℕ, ◌+◌, ◌*◌, ◌<◌, ◌≤◌, List, length, set, ℤ, pos, ◌+ℤ◌, ◌*ℤ◌, neg_ℤ, unsigned_abs, negsuc, sym, ◌∙◌, ap, subst, arith, [], ◌∷◌, ◌⊎◌, inl, inr}
 use Rattle.std.proofs.lemmas.Bool.{cases_eq, cases_lt}
+use Rattle.mpc_exact.proofs.IntRing.{int_reads, by_ring_ℤ}
 use Rattle.mpc_whole.specs.Changes.{IsChangedBy}
 use Rattle.mpc_whole.specs.Whole.{IsChanged}
 use Rattle.mpc_whole.specs.declared.whole_pivot.Change.{Change}
@@ -47,3 +48,25 @@ module _ (g : Change) (width : ℕ) (old first new x : List ℤ) (j e : ℕ) (z 
     entering = λ q. ap (λ u. u *ℤ pos g.by.den) (ap (whole_cell width new j) q ∙ new_kept (j * width + e) (inl (omega arith)) ∙ set_same first (j * width + e) z b ∙ at ∙ factor);
     other = λ n. other_cell c l (cases_lt c e) n ∙ (λ i. (whole_cell width old j c *ℤ pos (size i)) +ℤ neg_ℤ (factor i *ℤ whole_at x c));
   }
+
+twice_turned : (z : ℤ) → z ≡ neg_ℤ (neg_ℤ z)
+twice_turned z = by_ring_ℤ (z ∷ []) (search int_reads depth 30) (search int_reads depth 30) tt
+
+turned_zero : (p z : ℤ) → turned p z ≡ pos 0 → z ≡ pos 0
+turned_zero (pos n) z h = h
+turned_zero (negsuc n) z h = twice_turned z ∙ ap neg_ℤ h
+
+less_nothing : (z d x : ℤ) → z *ℤ d ≡ (z *ℤ d) +ℤ neg_ℤ (pos 0 *ℤ x)
+less_nothing z d x = by_ring_ℤ (z ∷ d ∷ x ∷ []) (search int_reads depth 30) (search int_reads depth 30) tt
+
+-- a number stays where the factor is 0 and the size is the divisor
+pub number_stays : (z f x : ℤ) (den size : ℕ) → f ≡ pos 0 → size ≡ den → z *ℤ pos den ≡ (z *ℤ pos size) +ℤ neg_ℤ (f *ℤ x)
+number_stays z f x den size none same = less_nothing z (pos den) x ∙ sym (λ i. (z *ℤ pos (same i)) +ℤ neg_ℤ (none i *ℤ x))
+
+-- and so does the row
+pub row_stays : (width den : ℕ) (v x : List ℤ) (j e : ℕ) → turned (whole_at x e) (whole_cell width v j e) ≡ pos 0 → unsigned_abs (whole_at x e) ≡ den →
+    (c : ℕ) → IsChanged width den den v x j e c (whole_cell width v j c)
+row_stays width den v x j e none same c = record {
+  entering = λ q. ap (λ u. u *ℤ pos den) (ap (whole_cell width v j) q ∙ turned_zero (whole_at x e) (whole_cell width v j e) none ∙ sym none);
+  other = λ n. number_stays (whole_cell width v j c) (turned (whole_at x e) (whole_cell width v j e)) (whole_at x c) den (unsigned_abs (whole_at x e)) none same;
+}

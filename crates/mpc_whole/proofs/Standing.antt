@@ -14,11 +14,11 @@ use Rattle.mpc_whole.specs.SharedSizes.{AreSmallBefore}
 use Rattle.mpc_whole.specs.Underway.{turn_of, IsUnderway, HasEnded}
 use Rattle.mpc_whole.specs.Judged.{IsReducedPivot}
 use Rattle.mpc_whole.specs.Whole.{IsForm, AreValues, IsRowOf, IsSideRow, Stands}
-use Rattle.mpc_scaled.specs.Scaled.{whole_at, scale_at, IsSmall, IsWholeSystem}
+use Rattle.mpc_scaled.specs.Scaled.{whole_at, scale_at, IsWholeSystem}
 use Rattle.mpc_runs.proofs.Turn.{Goes, Leaves, leaver, turn-at}
 use Rattle.mpc_runs.proofs.Ends.{Reached, stopped_last, before_end, position-suc}
 use Rattle.mpc_runs.proofs.Loop.{Going, end_fits}
-use Rattle.mpc_whole.proofs.WholeSizes.{stops_after, small_form, small_after}
+use Rattle.mpc_whole.proofs.WholeSizes.{stops_after}
 use Rattle.mpc_runs.proofs.Steps.{turn_point, turn_refuted, turn_goes}
 use Rattle.mpc_runs.proofs.Exchanged.{new_seated}
 use Rattle.mpc_whole.proofs.WholeForm.{side_entry}
@@ -125,9 +125,9 @@ module _ (s : LinearSystem) (n : ℕ) (seats : List Seat) (seated : IsSeated (he
               (pivot_form s (position s z.at) (reached_of s n seats k d v z) k a b w n (sym seated.count) seats seated d v z.form (l - s.width) f goes_side side_in x row r₀ c₀ seat_side sf new size piv))
 
           abbrev pub next_underway : PositionFits s (position s z.at) → (n_1 n_2 : List ℤ) → AreValues s (position s (suc z.at)) size n_1 n_2
-              → (m e most most_den : ℕ) → m ≤ most → e ≤ most_den → IsSmall most v → d ≤ most_den → AreSmallBefore s k z.at m e
+              → (most most_den : ℕ) → AreSmallBefore s k (suc z.at) most most_den
               → IsUnderway s n (set (set seats l (Column c₀)) f (Row r₀)) k size new n_1 n_2 most most_den s.width
-          next_underway fits n_1 n_2 values m e most most_den wide wide_den small small_den h = record {
+          next_underway fits n_1 n_2 values most most_den small = record {
             stands = record {
               at = suc z.at;
               order = before_end s z.at z.order (ap is_pivot goes_here);
@@ -137,5 +137,5 @@ module _ (s : LinearSystem) (n : ℕ) (seats : List Seat) (seated : IsSeated (he
             values = values;
             side = omega arith;
             stay = unknowns_stay s (position s (suc z.at));
-            before = small_after s k z.at m e most most_den wide wide_den h (small_form s k n seats seated d v (position s z.at) z.form most most_den small small_den);
+            before = small;
           }

@@ -9,7 +9,7 @@ use Rattle.mpc_space.specs.Total.{total, unit}
 use Rattle.mpc_space.proofs.Total.{total-same, total-unit, unit-same, unit-other}
 use Rattle.mpc_rows.specs.LinearSystem.{LinearSystem, row_at, height, entry}
 use Rattle.mpc_rows.specs.Run.{Position, IsTableau, goes_on, count, is_unknown, rest, bound, turn, value, opening}
-use Rattle.mpc_rows.specs.RunWidth.{PositionFits}
+use Rattle.mpc_rows.specs.RunWidth.{ValueFits, PositionFits}
 use Rattle.mpc_rows.specs.NumberedSystems.{left_side}
 use Rattle.mpc_runs.specs.declared.variables.Seat.{Seat}
 use Rattle.mpc_runs.specs.declared.variables.Seat.TheVariants.{Column}
@@ -18,9 +18,9 @@ use Rattle.mpc_whole.specs.Norms.{Over}
 use Rattle.mpc_whole.proofs.WholeChanges.{times_scaled, total_scaled}
 use Rattle.mpc_whole.proofs.DividedRows.{crossed, rest_some}
 use Rattle.mpc_runs.proofs.WholeSums.{abs_some, total_over, total_at_most, product_at_most}
-use Rattle.mpc_whole.proofs.WholeNorms.{over_not_zero, HasRowRoom, HasFittingRow, HasPivotRoom, judged_fit, norms_fit}
+use Rattle.mpc_whole.proofs.WholeNorms.{over_not_zero, HasRowRoom, HasFittingRow, HasPivotSizes, HasPivotRoom, judged_value, row_by, judged_fit, norms_fit}
 use Rattle.mpc_whole.proofs.WholeScales.{Scaled, scaled_over, at_nought, at_side, at_minus_one, nought_over, nought_times, less_with_scale}
-use Rattle.mpc_whole.specs.Judged.{coefficient_of, HasRoomAt, IsJudged, IsNorm, IsDividedRow, IsLeavingRow}
+use Rattle.mpc_whole.specs.Judged.{coefficient_of, HasRoomAt, IsJudged, IsNorm, IsDividedRow, IsLeavingRow, IsSideJudged, IsRowFitting}
 use Rattle.mpc_runs.specs.WholeNumbers.{whole_total}
 use Rattle.mpc_whole.specs.Whole.{AreBounds, HasSideBound, IsNarrow, IsSideRow, IsForm, side_cell}
 use Rattle.mpc_scaled.specs.Scaled.{whole_at, whole_cell, scale_at, IsSmall, IsWholeSystem}
@@ -34,6 +34,13 @@ use Rattle.mpc_runs.proofs.Read.{rest_unknown, rest_bound}
 
 pub equal_share : (m : ℕ) → 0 < m → (2 ^ 125 / m) * m ≤ 2 ^ 125
 equal_share m h = omega arith
+
+all_room : (m : ℕ) → m * (2 ^ 125 / m) ≤ 2 ^ 126
+all_room m = by (cases_lt 0 m)
+  where
+    by : (0 < m) ⊎ (m ≤ 0) → m * (2 ^ 125 / m) ≤ 2 ^ 126
+    by (inl h) = omega arith
+    by (inr h) = let e : m ≡ 0 = omega arith in subst (λ q. q * (2 ^ 125 / m) ≤ 2 ^ 126) (sym e) (omega arith)
 
 unit_turned : (y z : ℕ) → (y ≡ z) ⊎ (y ≡ z → ⊥) → unit y z ≡ unit z y
 unit_turned y z (inl e) = unit-same y z e ∙ sym (unit-same z y (sym e))
@@ -168,44 +175,55 @@ module _ (s : LinearSystem) (p : Position) (r : Reached s p) where
           })
           (cases_Bool (p.is_basic y))
 
-      -- all numbers of the position, over the denominators of the rows
-      module _ (P : ℕ → ℤ → Type 0) (g : HoldAll s n seats a v P) where
-        number_at : (x y c : ℕ) → x < count s → y < n → seat_at seats y ≡ Column c → (x < s.width) ⊎ (s.width ≤ x) → Scaled (row_den x) (scale_at k y) (P y) (p.coefficient x y)
-        number_at x y c l h e (inl b) = record { at = whole_cell s.width v x c; is = f.entries x y c b h e ∙ ap (frac (whole_cell s.width v x c *ℤ pos (scale_at k y))) (sym (own_den x b)); holds = g.numbers x y c b h e }
-        number_at x y c l h e (inr b) =
+      -- the numbers of the row of a side, and of all rows, over their denominators
+      module _ (P : ℕ → ℤ → Type 0) where
+        abbrev HasNumbers : ℕ → Type 0
+        HasNumbers x = (y c : ℕ) → y < n → seat_at seats y ≡ Column c → Scaled (row_den x) (scale_at k y) (P y) (p.coefficient x y)
+
+        side_numbers : (i : ℕ) → i < height s → ((y c : ℕ) → y < n → seat_at seats y ≡ Column c → P y (side_cell s a v i c)) → HasNumbers (s.width + i)
+        side_numbers i b g y c h e = record { at = side_cell s a v i c; is = side_is i y c b h e; holds = g y c h e }
+
+        numbers_by : HoldAll s n seats a v P → (x : ℕ) → x < count s → (x < s.width) ⊎ (s.width ≤ x) → HasNumbers x
+        numbers_by g x l (inl b) = λ y c h e. record { at = whole_cell s.width v x c; is = f.entries x y c b h e ∙ ap (frac (whole_cell s.width v x c *ℤ pos (scale_at k y))) (sym (own_den x b)); holds = g.numbers x y c b h e }
+        numbers_by g x l (inr b) =
             let i = x - s.width in
             let i_in : i < height s = omega arith in
             let q : s.width + i ≡ x = omega arith in
-            record { at = side_cell s a v i c; is = subst (λ z. p.coefficient z y ≡ frac (side_cell s a v i c *ℤ pos (scale_at k y)) (row_den z)) q (side_is i y c i_in h e); holds = g.rows i y c i_in h e }
+            subst HasNumbers q (side_numbers i i_in (λ y c. g.rows i y c i_in))
 
-        entry_over : (m x y : ℕ) → ((z : ℤ) → P y z → unsigned_abs z * scale_at k y ≤ m) → x < count s → y < count s → Over (row_den x) m (p.coefficient x y)
-        entry_over m x y sizes h l =
-            let y_in : y < n = subst (λ q. y < q) whole l in
-            by_seat y m (row_den x) (p.coefficient x y) (den_some x h) y_in (reached_tableau.empty x y)
-            (λ c e. scaled_over (row_den x) (scale_at k y) m (P y) (den_some x h) sizes (p.coefficient x y) (number_at x y c h y_in e (cases_lt x s.width)))
-            (cases_Bool (p.is_basic y))
+        numbers : HoldAll s n seats a v P → (x : ℕ) → x < count s → HasNumbers x
+        numbers g x h = numbers_by g x h (cases_lt x s.width)
 
-        -- with where the nonbasic variables stand
-        module _ (m : ℕ) (firsts : (y : ℕ) (z : ℤ) → y < count s → s.width ≤ y → P y z → unsigned_abs z * unsigned_abs (whole_at b (y - s.width)) ≤ m) (seconds : (y : ℕ) (z : ℤ) → y < count s → P y z → unsigned_abs z * scale_at k y ≤ m) where
-          product_by : (x y : ℕ) (r : ℚ) → x < count s → y < count s → ((c : ℕ) → seat_at seats y ≡ Column c → Over (row_den x) m (p.coefficient x y *ℚ r)) → Over (row_den x) m (p.coefficient x y *ℚ r)
-          product_by x y r h l there =
-              by_seat y m (row_den x) (p.coefficient x y *ℚ r) (den_some x h) (subst (λ q. y < q) whole l) (λ e. ap (λ u. u *ℚ r) (reached_tableau.empty x y e) ∙ nought_times r) there (cases_Bool (p.is_basic y))
+        -- the row of x, with these
+        module _ (x : ℕ) (h : x < count s) (t : HasNumbers x) where
+          entry_over : (m y : ℕ) → ((z : ℤ) → P y z → unsigned_abs z * scale_at k y ≤ m) → y < count s → Over (row_den x) m (p.coefficient x y)
+          entry_over m y sizes l =
+              let y_in : y < n = subst (λ q. y < q) whole l in
+              by_seat y m (row_den x) (p.coefficient x y) (den_some x h) y_in (reached_tableau.empty x y)
+              (λ c e. scaled_over (row_den x) (scale_at k y) m (P y) (den_some x h) sizes (p.coefficient x y) (t y c y_in e))
+              (cases_Bool (p.is_basic y))
 
-          first_by : (x y c : ℕ) (h : x < count s) (l : y < count s) → seat_at seats y ≡ Column c → ((rest s y).first ≡ int (pos 0)) ⊎ ((s.width ≤ y) × ((rest s y).first ≡ frac (whole_at b (y - s.width)) (scale_at k y))) → Over (row_den x) m (p.coefficient x y *ℚ (rest s y).first)
-          first_by x y c h l e (inl o) = at_nought (row_den x) (scale_at k y) m (P y) (den_some x h) (p.coefficient x y) (rest s y).first o
-          first_by x y c h l e (inr o) =
-              at_side (row_den x) (scale_at k y) m (P y) (den_some x h) (w.scales.some y l) (p.coefficient x y) (rest s y).first (whole_at b (y - s.width)) (λ z t. firsts y z l o.0 t)
-              (number_at x y c h (subst (λ q. y < q) whole l) e (cases_lt x s.width)) o.1
+          -- with where the nonbasic variables stand
+          module _ (m : ℕ) (firsts : (y : ℕ) (z : ℤ) → y < count s → s.width ≤ y → P y z → unsigned_abs z * unsigned_abs (whole_at b (y - s.width)) ≤ m) (seconds : (y : ℕ) (z : ℤ) → y < count s → P y z → unsigned_abs z * scale_at k y ≤ m) where
+            product_by : (y : ℕ) (r : ℚ) → y < count s → ((c : ℕ) → seat_at seats y ≡ Column c → Over (row_den x) m (p.coefficient x y *ℚ r)) → Over (row_den x) m (p.coefficient x y *ℚ r)
+            product_by y r l there =
+                by_seat y m (row_den x) (p.coefficient x y *ℚ r) (den_some x h) (subst (λ q. y < q) whole l) (λ e. ap (λ u. u *ℚ r) (reached_tableau.empty x y e) ∙ nought_times r) there (cases_Bool (p.is_basic y))
 
-          second_by : (x y c : ℕ) (h : x < count s) (l : y < count s) → seat_at seats y ≡ Column c → ((rest s y).second ≡ int (pos 0)) ⊎ ((rest s y).second ≡ int (negsuc 0)) → Over (row_den x) m (p.coefficient x y *ℚ (rest s y).second)
-          second_by x y c h l e (inl o) = at_nought (row_den x) (scale_at k y) m (P y) (den_some x h) (p.coefficient x y) (rest s y).second o
-          second_by x y c h l e (inr o) = at_minus_one (row_den x) (scale_at k y) m (P y) (den_some x h) (λ z t. seconds y z l t) (p.coefficient x y) (rest s y).second (number_at x y c h (subst (λ q. y < q) whole l) e (cases_lt x s.width)) o
+            first_by : (y c : ℕ) (l : y < count s) → seat_at seats y ≡ Column c → ((rest s y).first ≡ int (pos 0)) ⊎ ((s.width ≤ y) × ((rest s y).first ≡ frac (whole_at b (y - s.width)) (scale_at k y))) → Over (row_den x) m (p.coefficient x y *ℚ (rest s y).first)
+            first_by y c l e (inl o) = at_nought (row_den x) (scale_at k y) m (P y) (den_some x h) (p.coefficient x y) (rest s y).first o
+            first_by y c l e (inr o) =
+                at_side (row_den x) (scale_at k y) m (P y) (den_some x h) (w.scales.some y l) (p.coefficient x y) (rest s y).first (whole_at b (y - s.width)) (λ z q. firsts y z l o.0 q)
+                (t y c (subst (λ q. y < q) whole l) e) o.1
 
-          first_products : (x y : ℕ) → x < count s → y < count s → Over (row_den x) m (p.coefficient x y *ℚ (rest s y).first)
-          first_products x y h l = product_by x y (rest s y).first h l (λ c e. first_by x y c h l e (first_rest s k a b w y l (cases_Bool (is_unknown s y)) (cases_lt y s.width)))
+            second_by : (y c : ℕ) (l : y < count s) → seat_at seats y ≡ Column c → ((rest s y).second ≡ int (pos 0)) ⊎ ((rest s y).second ≡ int (negsuc 0)) → Over (row_den x) m (p.coefficient x y *ℚ (rest s y).second)
+            second_by y c l e (inl o) = at_nought (row_den x) (scale_at k y) m (P y) (den_some x h) (p.coefficient x y) (rest s y).second o
+            second_by y c l e (inr o) = at_minus_one (row_den x) (scale_at k y) m (P y) (den_some x h) (λ z q. seconds y z l q) (p.coefficient x y) (rest s y).second (t y c (subst (λ q. y < q) whole l) e) o
 
-          second_products : (x y : ℕ) → x < count s → y < count s → Over (row_den x) m (p.coefficient x y *ℚ (rest s y).second)
-          second_products x y h l = product_by x y (rest s y).second h l (λ c e. second_by x y c h l e (second_rest s y l (cases_Bool (is_unknown s y)) (cases_lt y s.width)))
+            first_products : (y : ℕ) → y < count s → Over (row_den x) m (p.coefficient x y *ℚ (rest s y).first)
+            first_products y l = product_by y (rest s y).first l (λ c e. first_by y c l e (first_rest s k a b w y l (cases_Bool (is_unknown s y)) (cases_lt y s.width)))
+
+            second_products : (y : ℕ) → y < count s → Over (row_den x) m (p.coefficient x y *ℚ (rest s y).second)
+            second_products y l = product_by y (rest s y).second l (λ c e. second_by y c l e (second_rest s y l (cases_Bool (is_unknown s y)) (cases_lt y s.width)))
 
       -- ---- nothing formed there is wide, where one limit holds for all numbers
       module _ (g : IsNarrow s n seats k a d v) (most_side : ℕ) (o : HasSideBound s b most_side) where
@@ -225,12 +243,15 @@ module _ (s : LinearSystem) (p : Position) (r : Reached s p) where
         narrow_seconds : (y : ℕ) (z : ℤ) → y < count s → IsNarrowAt y z → unsigned_abs z * scale_at k y ≤ 2 ^ 62 * most_side
         narrow_seconds y z l t = let h = o.some_side in omega arith
 
+        narrow_numbers : (x : ℕ) → x < count s → HasNumbers IsNarrowAt x
+        narrow_numbers = numbers IsNarrowAt narrow_all
+
         pub narrow_fits : PositionFits s p
         narrow_fits =
-            norms_fit s p row_den den_some (λ x h. let t = den_small x h in omega arith) den_small (λ x y. entry_over IsNarrowAt narrow_all (2 ^ 62) x y (λ z t. t))
+            norms_fit s p row_den den_some den_small (λ x y h. entry_over IsNarrowAt x h (narrow_numbers x h) (2 ^ 62) y (λ z t. t))
             (2 ^ 62 * most_side) (let h = o.side_room in omega arith)
-            (first_products IsNarrowAt narrow_all (2 ^ 62 * most_side) narrow_firsts narrow_seconds)
-            (second_products IsNarrowAt narrow_all (2 ^ 62 * most_side) narrow_firsts narrow_seconds)
+            (λ x y h. first_products IsNarrowAt x h (narrow_numbers x h) (2 ^ 62 * most_side) narrow_firsts narrow_seconds y)
+            (λ x y h. second_products IsNarrowAt x h (narrow_numbers x h) (2 ^ 62 * most_side) narrow_firsts narrow_seconds y)
 
       -- ---- the row that leaves is over a divisor of it and of the denominator
       module _ (f₀ top size g₀ left : ℕ) (split : g₀ * left ≡ d) (l e : ℕ) (goes : Goes s p l e) (row : IsLeavingRow s p k left f₀ top size l e) where
@@ -247,8 +268,8 @@ module _ (s : LinearSystem) (p : Position) (r : Reached s p) where
         unfolding row_den
         apart_from x = ap (λ m. m * scale_at k x) (sym split) ∙ (let q : (g₀ * left) * scale_at k x ≡ left * (g₀ * scale_at k x) = omega arith in q)
 
-        pub pivot_room : ((x : ℕ) → x < count s → p.is_basic x ≡ true → HasRowRoom (count s) p e top size (row_den x) x ⊎ HasFittingRow (count s) p l e x) → HasPivotRoom s p row_den l e
-        pivot_room rows = record {
+        pivot_sizes : HasPivotSizes s p row_den l e
+        pivot_sizes = record {
           size = size;
           den = left * scale_at k l;
           den_some = left_some;
@@ -261,18 +282,14 @@ module _ (s : LinearSystem) (p : Position) (r : Reached s p) where
           left = scale_at k l;
           split = refl;
           own = row.own;
-          rows = rows;
         }
 
-      -- or where the numbers are judged row by row
-      module _ (f₀ top size : ℕ) (g : IsJudged s n seats k a b d v f₀ top size) where
-        judged_all : HoldAll s n seats a v (HasRoomAt s k b f₀ top size)
-        judged_all = record { numbers = g.unknowns; rows = g.sides }
+        pub pivot_room : ((x : ℕ) → x < count s → p.is_basic x ≡ true → HasRowRoom (count s) p e top size (row_den x) x ⊎ HasFittingRow (count s) p l e x) → HasPivotRoom s p row_den l e
+        unfolding pivot_sizes
+        pivot_room rows = record { sizes = pivot_sizes; rows = rows }
 
-        den_below : (x : ℕ) → x < count s → row_den x < 2 ^ 127
-        unfolding row_den
-        den_below x h = let t : d * scale_at k x ≤ 2 ^ 125 = g.whole x (subst (λ m. x < m) whole h) in omega arith
-
+      -- or where the numbers of a row are judged
+      module _ (f₀ top size : ℕ) where
         some_variable : (y : ℕ) → y < count s → 0 < count s
         some_variable y h = omega arith
 
@@ -282,45 +299,68 @@ module _ (s : LinearSystem) (p : Position) (r : Reached s p) where
         judged_seconds : (y : ℕ) (z : ℤ) → y < count s → HasRoomAt s k b f₀ top size y z → unsigned_abs z * scale_at k y ≤ 2 ^ 125 / count s
         judged_seconds y z l t = le-div (unsigned_abs z * scale_at k y) (2 ^ 125) (count s) (some_variable y l) (let q = t.second in omega arith)
 
-        all_room : (m : ℕ) → m * (2 ^ 125 / m) ≤ 2 ^ 126
-        all_room m = by (cases_lt 0 m)
-          where
-            by : (0 < m) ⊎ (m ≤ 0) → m * (2 ^ 125 / m) ≤ 2 ^ 126
-            by (inl h) = omega arith
-            by (inr h) = let e : m ≡ 0 = omega arith in subst (λ q. q * (2 ^ 125 / m) ≤ 2 ^ 126) (sym e) (omega arith)
+        module _ (x : ℕ) (h : x < count s) (t : HasNumbers (HasRoomAt s k b f₀ top size) x) where
+          value_fits : row_den x ≤ 2 ^ 125 → ValueFits s (count s) p x
+          value_fits below =
+              judged_value s p row_den den_some (2 ^ 125 / count s) (all_room (count s)) x h (omega arith)
+              (first_products (HasRoomAt s k b f₀ top size) x h t (2 ^ 125 / count s) judged_firsts judged_seconds)
+              (second_products (HasRoomAt s k b f₀ top size) x h t (2 ^ 125 / count s) judged_firsts judged_seconds)
 
-        pub judged_with : ((l e : ℕ) → turn s p ≡ goes_on l e → HasPivotRoom s p row_den l e) → PositionFits s p
-        judged_with pivots =
-            judged_fit s p row_den den_some den_below (2 ^ 125 / count s) (all_room (count s))
-            (first_products (HasRoomAt s k b f₀ top size) judged_all (2 ^ 125 / count s) judged_firsts judged_seconds)
-            (second_products (HasRoomAt s k b f₀ top size) judged_all (2 ^ 125 / count s) judged_firsts judged_seconds) pivots
+          row_room : (g₀ left : ℕ) → g₀ * left ≡ d → (l e : ℕ) → Goes s p l e → IsLeavingRow s p k left f₀ top size l e → row_den x * size ≤ 2 ^ 125 → HasRowRoom (count s) p e top size (row_den x) x
+          row_room g₀ left split l e goes row below =
+              let most_top = top_some f₀ top size g₀ left split l e goes row in
+              let most_size = size_some f₀ top size g₀ left split l e goes row in
+              record {
+                factor = 2 ^ 125 / top;
+                factors = entry_over (HasRoomAt s k b f₀ top size) x h t (2 ^ 125 / top) e (λ z q. le-div (unsigned_abs z * scale_at k e) (2 ^ 125) top most_top (q.entering row.entering)) goes.below;
+                factor_room = equal_share top most_top;
+                most = 2 ^ 125 / size;
+                entries = λ y o apart. entry_over (HasRoomAt s k b f₀ top size) x h t (2 ^ 125 / size) y (λ z q. le-div (unsigned_abs z * scale_at k y) (2 ^ 125) size most_size (q.other (λ u. apart (u ∙ sym row.entering)))) o;
+                room = equal_share size most_size;
+                den_room = below;
+              }
 
-        module _ (g₀ left : ℕ) (split : g₀ * left ≡ d) (l e : ℕ) (goes : Goes s p l e) (row : IsLeavingRow s p k left f₀ top size l e) where
-          most_top : 0 < top
-          most_top = top_some f₀ top size g₀ left split l e goes row
+        -- those of the row of a side
+        module _ (i : ℕ) (i_in : i < height s) (g : IsSideJudged s seats k a b d v f₀ top size i) where
+          side_in : s.width + i < count s
+          side_in = omega arith
 
-          most_size : 0 < size
-          most_size = size_some f₀ top size g₀ left split l e goes row
+          judged_side : HasNumbers (HasRoomAt s k b f₀ top size) (s.width + i)
+          judged_side = side_numbers (HasRoomAt s k b f₀ top size) i i_in (λ y c h. g.cells y c (in_all y h))
 
-          row_room : (x : ℕ) → x < count s → HasRowRoom (count s) p e top size (row_den x) x
-          unfolding row_den
-          row_room x h = record {
-            factor = 2 ^ 125 / top;
-            factors = entry_over (HasRoomAt s k b f₀ top size) judged_all (2 ^ 125 / top) x e (λ z t. le-div (unsigned_abs z * scale_at k e) (2 ^ 125) top most_top (t.entering row.entering)) h goes.below;
-            factor_room = equal_share top most_top;
-            most = 2 ^ 125 / size;
-            entries = λ y o apart. entry_over (HasRoomAt s k b f₀ top size) judged_all (2 ^ 125 / size) x y (λ z t. le-div (unsigned_abs z * scale_at k y) (2 ^ 125) size most_size (t.other (λ q. apart (q ∙ sym row.entering)))) h o;
-            room = equal_share size most_size;
-            den_room = g.dens x (subst (λ m. x < m) whole h);
+          pub judged_row : (g₀ left : ℕ) → g₀ * left ≡ d → ((l e : ℕ) → turn s p ≡ goes_on l e → IsLeavingRow s p k left f₀ top size l e) → IsRowFitting s p (s.width + i)
+          unfolding row_den pivot_sizes
+          judged_row g₀ left split rows = record {
+            value = value_fits (s.width + i) side_in judged_side g.whole;
+            row = λ l e t.
+                let goes = turn-at s p (goes_on l e) t in
+                row_by s p row_den den_some l e goes (pivot_sizes f₀ top size g₀ left split l e goes (rows l e t)) (s.width + i) side_in
+                (inl (row_room (s.width + i) side_in judged_side g₀ left split l e goes (rows l e t) g.dens));
           }
 
-        pub judged_divided : (g₀ left : ℕ) → g₀ * left ≡ d → ((l e : ℕ) → turn s p ≡ goes_on l e → IsLeavingRow s p k left f₀ top size l e) → PositionFits s p
-        judged_divided g₀ left split rows = judged_with (λ l e t.
-            let goes = turn-at s p (goes_on l e) t in
-            pivot_room f₀ top size g₀ left split l e goes (rows l e t) (λ x h basic. inl (row_room g₀ left split l e goes (rows l e t) x h)))
+        -- those of all rows
+        module _ (g : IsJudged s n seats k a b d v f₀ top size) where
+          judged_numbers : (x : ℕ) → x < count s → HasNumbers (HasRoomAt s k b f₀ top size) x
+          judged_numbers = numbers (HasRoomAt s k b f₀ top size) (record { numbers = g.unknowns; rows = g.sides })
 
-        pub judged_over : ((l e : ℕ) → turn s p ≡ goes_on l e → IsLeavingRow s p k d f₀ top size l e) → PositionFits s p
-        judged_over rows = judged_divided 1 d (omega arith) rows
+          den_below : (x : ℕ) → x < count s → row_den x ≤ 2 ^ 125
+          unfolding row_den
+          den_below x h = g.whole x (subst (λ m. x < m) whole h)
+
+          den_room : (x : ℕ) → x < count s → row_den x * size ≤ 2 ^ 125
+          unfolding row_den
+          den_room x h = g.dens x (subst (λ m. x < m) whole h)
+
+          pub judged_with : ((l e : ℕ) → turn s p ≡ goes_on l e → HasPivotRoom s p row_den l e) → PositionFits s p
+          judged_with = judged_fit s p row_den den_some (record { values = λ x h basic. value_fits x h (judged_numbers x h) (den_below x h) })
+
+          pub judged_divided : (g₀ left : ℕ) → g₀ * left ≡ d → ((l e : ℕ) → turn s p ≡ goes_on l e → IsLeavingRow s p k left f₀ top size l e) → PositionFits s p
+          judged_divided g₀ left split rows = judged_with (λ l e t.
+              let goes = turn-at s p (goes_on l e) t in
+              pivot_room f₀ top size g₀ left split l e goes (rows l e t) (λ x h basic. inl (row_room x h (judged_numbers x h) g₀ left split l e goes (rows l e t) (den_room x h))))
+
+          pub judged_over : ((l e : ℕ) → turn s p ≡ goes_on l e → IsLeavingRow s p k d f₀ top size l e) → PositionFits s p
+          judged_over rows = judged_divided 1 d (omega arith) rows
 
 -- ---- the row of a side, by the greatest numbers
 pub column_norm : (s : LinearSystem) (a v : List ℤ) (norm most : ℕ) → IsNorm s.width a norm → (c : ℕ) → ((j : ℕ) → j < s.width → unsigned_abs (whole_cell s.width v j c) ≤ most) → (i : ℕ) → unsigned_abs (side_cell s a v i c) ≤ norm * most

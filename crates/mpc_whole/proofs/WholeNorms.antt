@@ -10,7 +10,7 @@ use Rattle.mpc_space.specs.Total.{total}
 use Rattle.mpc_space.proofs.Total.{total-zero, total-suc}
 use Rattle.mpc_rows.specs.LinearSystem.{LinearSystem}
 use Rattle.mpc_rows.specs.Run.{Position, goes_on, count, rest, turn, entering_row}
-use Rattle.mpc_rows.specs.RunWidth.{ValuesFit, EnteringFits, EntryFits, RowFits, RowsFit, PositionFits}
+use Rattle.mpc_rows.specs.RunWidth.{ValueFits, ValuesFit, EnteringFits, EntryFits, RowFits, RowsFit, PositionFits}
 use Rattle.mpc_whole.specs.Norms.{Over}
 use Rattle.mpc_runs.specs.WholeNumbers.{turned}
 use Rattle.mpc_runs.proofs.Pivot.{entering-at_leaving, entering-other}
@@ -83,8 +83,8 @@ pub record HasFittingRow (n : ℕ) (p : Position) (l e x : ℕ) : Type 0 where
   pub row : RowFits n p l e x
 
 -- where l leaves and e enters: the number of row l in the column of e, over a denominator of its own, is at most a size, and no other one is above a
--- top, nor is the part of that denominator which it shares with no other row's. Each row has room for products with these, or fits.
-pub record HasPivotRoom (s : LinearSystem) (p : Position) (d : ℕ → ℕ) (l e : ℕ) : Type 0 where
+-- top, nor is the part of that denominator which it shares with no other row's
+pub record HasPivotSizes (s : LinearSystem) (p : Position) (d : ℕ → ℕ) (l e : ℕ) : Type 0 where
   pub size : ℕ
   pub den : ℕ
   pub den_some : 0 < den
@@ -97,43 +97,46 @@ pub record HasPivotRoom (s : LinearSystem) (p : Position) (d : ℕ → ℕ) (l e
   pub left : ℕ
   pub split : den ≡ shared * left
   pub own : left ≤ top
-  pub rows : (x : ℕ) → x < count s → p.is_basic x ≡ true → HasRowRoom (count s) p e top size (d x) x ⊎ HasFittingRow (count s) p l e x
 
-module _ (s : LinearSystem) (p : Position) (d : ℕ → ℕ) (some : (x : ℕ) → x < count s → 0 < d x) (d_top : (x : ℕ) → x < count s → d x < 2 ^ 127) where
-  -- ---- values, where r says where the nonbasic variables stand
-  module _ (m : ℕ) (room : count s * m ≤ 2 ^ 126) (r : ℕ → ℚ) (products : (x y : ℕ) → x < count s → y < count s → Over (d x) m (p.coefficient x y *ℚ r y)) (x : ℕ) (x_in : x < count s) where
-    sum_over : (y : ℕ) → y ≤ count s → Over (d x) (y * m) (total y (λ z. p.coefficient x z *ℚ r z))
-    sum_over zero h = record { at = pos 0; is = total-zero (λ z. p.coefficient x z *ℚ r z) ∙ sym (zero_over (d x) (some x x_in)); size = omega arith }
-    sum_over (suc y) h =
-        let o = sum_over y (omega arith) in
-        let q = products x y x_in h in
-        record {
-          at = o.at +ℤ q.at;
-          is = total-suc y (λ z. p.coefficient x z *ℚ r z) ∙ (λ i. o.is i +ℚ q.is i) ∙ frac_sum o.at q.at (d x) (some x x_in);
-          size = let a = abs-sum o.at q.at in let k = o.size in let l = q.size in omega arith;
-        }
+-- there are such sizes, and each row has room for products with them, or fits
+pub record HasPivotRoom (s : LinearSystem) (p : Position) (d : ℕ → ℕ) (l e : ℕ) : Type 0 where
+  pub sizes : HasPivotSizes s p d l e
+  pub rows : (x : ℕ) → x < count s → p.is_basic x ≡ true → HasRowRoom (count s) p e sizes.top sizes.size (d x) x ⊎ HasFittingRow (count s) p l e x
 
-    product_fits : (y : ℕ) → y < count s → FitsFrac (p.coefficient x y *ℚ r y)
-    product_fits y h = over_fits (some x x_in) (d_top x x_in) (products x y x_in h) (one_room (count s) y m room h)
+module _ (s : LinearSystem) (p : Position) (d : ℕ → ℕ) (some : (x : ℕ) → x < count s → 0 < d x) where
+  -- ---- the value of x
+  module _ (m : ℕ) (room : count s * m ≤ 2 ^ 126) (x : ℕ) (x_in : x < count s) (d_top : d x < 2 ^ 127) where
+    -- r says where the nonbasic variables stand
+    module _ (r : ℕ → ℚ) (products : (y : ℕ) → y < count s → Over (d x) m (p.coefficient x y *ℚ r y)) where
+      sum_over : (y : ℕ) → y ≤ count s → Over (d x) (y * m) (total y (λ z. p.coefficient x z *ℚ r z))
+      sum_over zero h = record { at = pos 0; is = total-zero (λ z. p.coefficient x z *ℚ r z) ∙ sym (zero_over (d x) (some x x_in)); size = omega arith }
+      sum_over (suc y) h =
+          let o = sum_over y (omega arith) in
+          let q = products y h in
+          record {
+            at = o.at +ℤ q.at;
+            is = total-suc y (λ z. p.coefficient x z *ℚ r z) ∙ (λ i. o.is i +ℚ q.is i) ∙ frac_sum o.at q.at (d x) (some x x_in);
+            size = let a = abs-sum o.at q.at in let k = o.size in let l = q.size in omega arith;
+          }
 
-    sum_fits : (y : ℕ) → y < count s → FitsSum (total y (λ z. p.coefficient x z *ℚ r z)) (p.coefficient x y *ℚ r y)
-    sum_fits y h = over_sum_fits (some x x_in) (d_top x x_in) (sum_over y (omega arith)) (products x y x_in h) (product_room (count s) y m room h)
+      product_fits : (y : ℕ) → y < count s → FitsFrac (p.coefficient x y *ℚ r y)
+      product_fits y h = over_fits (some x x_in) d_top (products y h) (one_room (count s) y m room h)
 
-  module _ (m : ℕ) (room : count s * m ≤ 2 ^ 126) (firsts : (x y : ℕ) → x < count s → y < count s → Over (d x) m (p.coefficient x y *ℚ (rest s y).first)) (seconds : (x y : ℕ) → x < count s → y < count s → Over (d x) m (p.coefficient x y *ℚ (rest s y).second)) where
-    pub judged_values : ValuesFit s (count s) p
-    judged_values = record {
-      values = λ x h basic. record {
-        terms = λ y k free. record {
-          first_product = product_fits m room (λ z. (rest s z).first) firsts x h y k;
-          first_sum = sum_fits m room (λ z. (rest s z).first) firsts x h y k;
-          second_product = product_fits m room (λ z. (rest s z).second) seconds x h y k;
-          second_sum = sum_fits m room (λ z. (rest s z).second) seconds x h y k;
-        };
+      sum_fits : (y : ℕ) → y < count s → FitsSum (total y (λ z. p.coefficient x z *ℚ r z)) (p.coefficient x y *ℚ r y)
+      sum_fits y h = over_sum_fits (some x x_in) d_top (sum_over y (omega arith)) (products y h) (product_room (count s) y m room h)
+
+    pub judged_value : ((y : ℕ) → y < count s → Over (d x) m (p.coefficient x y *ℚ (rest s y).first)) → ((y : ℕ) → y < count s → Over (d x) m (p.coefficient x y *ℚ (rest s y).second)) → ValueFits s (count s) p x
+    judged_value firsts seconds = record {
+      terms = λ y k free. record {
+        first_product = product_fits (λ z. (rest s z).first) firsts y k;
+        first_sum = sum_fits (λ z. (rest s z).first) firsts y k;
+        second_product = product_fits (λ z. (rest s z).second) seconds y k;
+        second_sum = sum_fits (λ z. (rest s z).second) seconds y k;
       };
     }
 
   -- ---- a pivot
-  module _ (l e : ℕ) (g : Goes s p l e) (o : HasPivotRoom s p d l e) where
+  module _ (l e : ℕ) (g : Goes s p l e) (o : HasPivotSizes s p d l e) where
     q : ℤ
     q = o.pivot.at
 
@@ -177,9 +180,6 @@ module _ (s : LinearSystem) (p : Position) (d : ℕ → ℕ) (some : (x : ℕ) �
     entering_by : HasRowRoom (count s) p e o.top o.size (d l) l ⊎ HasFittingRow (count s) p l e l → EnteringFits (count s) p l e
     entering_by (inl r) = record { quotients = λ y h free apart. over_fits size_some (size_top r) (own y h apart) (top_small r) }
     entering_by (inr f) = f.entering
-
-    pub judged_entering : EnteringFits (count s) p l e
-    judged_entering = entering_by (o.rows l g.leaves.below g.leaves.violated.basic)
 
     not_leaving : (y : ℕ) → p.is_basic y ≡ false → y ≡ l → ⊥
     not_leaving y free h = both_ways (p.is_basic l) (subst (λ z. p.is_basic z ≡ false) h free) g.leaves.violated.basic
@@ -263,17 +263,20 @@ module _ (s : LinearSystem) (p : Position) (d : ℕ → ℕ) (some : (x : ℕ) �
           sum = over_sum_fits (both_some x x_in) both_top old change (let h = r.room in let c = r.factor_room in omega arith);
         }
 
-    row_by : (x : ℕ) → x < count s → HasRowRoom (count s) p e o.top o.size (d x) x ⊎ HasFittingRow (count s) p l e x → RowFits (count s) p l e x
+    pub row_by : (x : ℕ) → x < count s → HasRowRoom (count s) p e o.top o.size (d x) x ⊎ HasFittingRow (count s) p l e x → RowFits (count s) p l e x
     row_by x h (inl r) = record { leaving = leaving_fits x h r; entries = λ y k free m. entry_fits x h r y k free m }
     row_by x h (inr f) = f.row
 
-    pub judged_rows : RowsFit (count s) p l e
-    judged_rows = record { rows = λ x h basic apart other. row_by x h (o.rows x h basic) }
+  module _ (l e : ℕ) (g : Goes s p l e) (o : HasPivotRoom s p d l e) where
+    judged_entering : EnteringFits (count s) p l e
+    judged_entering = entering_by l e g o.sizes (o.rows l g.leaves.below g.leaves.violated.basic)
 
-  pub judged_fit : (m : ℕ) → count s * m ≤ 2 ^ 126 → ((x y : ℕ) → x < count s → y < count s → Over (d x) m (p.coefficient x y *ℚ (rest s y).first)) → ((x y : ℕ) → x < count s → y < count s → Over (d x) m (p.coefficient x y *ℚ (rest s y).second))
-      → ((l e : ℕ) → turn s p ≡ goes_on l e → HasPivotRoom s p d l e) → PositionFits s p
-  judged_fit m room firsts seconds pivots = record {
-    values = judged_values m room firsts seconds;
+    judged_rows : RowsFit (count s) p l e
+    judged_rows = record { rows = λ x h basic apart other. row_by l e g o.sizes x h (o.rows x h basic) }
+
+  pub judged_fit : ValuesFit s (count s) p → ((l e : ℕ) → turn s p ≡ goes_on l e → HasPivotRoom s p d l e) → PositionFits s p
+  judged_fit values pivots = record {
+    values = values;
     entering = λ l e h. judged_entering l e (turn-at s p (goes_on l e) h) (pivots l e h);
     rows = λ l e h. judged_rows l e (turn-at s p (goes_on l e) h) (pivots l e h);
   }
@@ -281,22 +284,26 @@ module _ (s : LinearSystem) (p : Position) (d : ℕ → ℕ) (some : (x : ℕ) �
   -- all numbers and denominators at most 2^62
   pub norms_fit : ((x : ℕ) → x < count s → d x ≤ 2 ^ 62) → ((x y : ℕ) → x < count s → y < count s → Over (d x) (2 ^ 62) (p.coefficient x y))
       → (m : ℕ) → count s * m ≤ 2 ^ 126 → ((x y : ℕ) → x < count s → y < count s → Over (d x) m (p.coefficient x y *ℚ (rest s y).first)) → ((x y : ℕ) → x < count s → y < count s → Over (d x) m (p.coefficient x y *ℚ (rest s y).second)) → PositionFits s p
-  norms_fit small entries m room firsts seconds = judged_fit m room firsts seconds (λ l e h. let g = turn-at s p (goes_on l e) h in by l e g.leaves.below g.below)
+  norms_fit small entries m room firsts seconds =
+      judged_fit (record { values = λ x h basic. judged_value m room x h (let t = small x h in omega arith) (λ y. firsts x y h) (λ y. seconds x y h) })
+      (λ l e h. let g = turn-at s p (goes_on l e) h in by l e g.leaves.below g.below)
     where
       by : (l e : ℕ) → l < count s → e < count s → HasPivotRoom s p d l e
       by l e below entered = record {
-        size = 2 ^ 62;
-        den = d l;
-        den_some = some l below;
-        pivot = entries l e below entered;
-        top = 2 ^ 62;
-        row = λ y k apart. entries l y below k;
-        shared = 1;
-        part = d;
-        parts = λ x. omega arith;
-        left = d l;
-        split = omega arith;
-        own = small l below;
+        sizes = record {
+          size = 2 ^ 62;
+          den = d l;
+          den_some = some l below;
+          pivot = entries l e below entered;
+          top = 2 ^ 62;
+          row = λ y k apart. entries l y below k;
+          shared = 1;
+          part = d;
+          parts = λ x. omega arith;
+          left = d l;
+          split = omega arith;
+          own = small l below;
+        };
         rows = λ x k basic. inl (record {
           factor = 2 ^ 62;
           factors = entries x e k entered;

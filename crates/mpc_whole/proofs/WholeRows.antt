@@ -1,5 +1,5 @@
 -- A system read into whole numbers, and the unit matrix.
-use Rattle.std.proofs.Common.{◌≡◌, ℕ, ◌+◌, ◌*◌, ◌^◌, ◌<◌, ◌≤◌, List, length, set, ℤ, pos, ◌*ℤ◌, sym, ◌∙◌, ap, subst, arith, ◌⊎◌, inl, inr, mul-le-mul_left, le_trans, ◌-◌, true, false, not, lit<, lt-ltb}
+use Rattle.std.proofs.Common.{◌≡◌, ℕ, ◌+◌, ◌*◌, ◌<◌, ◌≤◌, List, length, set, ℤ, pos, ◌*ℤ◌, sym, ◌∙◌, ap, subst, arith, ◌⊎◌, inl, inr, le_trans, ◌-◌, true, false, not, lit<, lt-ltb}
 use Rattle.std.proofs.lemmas.Bool.{cases_eq, cases_lt, cases_Bool, cond-true, cond-false}
 use Rattle.mpc_exact.specs.Rational.{ℚ, int, frac}
 use Rattle.mpc_exact.proofs.RationalOrder.{one_last}
@@ -10,8 +10,7 @@ use Rattle.mpc_rows.specs.Run.{is_unknown, opening}
 use Rattle.mpc_runs.specs.declared.variables.Seat.{Seat}
 use Rattle.mpc_runs.specs.declared.variables.Seat.TheVariants.{Row, Column}
 use Rattle.mpc_runs.specs.Table.{seat_at, in_row, IsOpeningSeats}
-use Rattle.mpc_whole.specs.Whole.{IsForm, IsUnit, HasBounds}
-use Rattle.mpc_runs.specs.WholeNumbers.{HasRoom}
+use Rattle.mpc_whole.specs.Whole.{IsForm, IsUnit}
 use Rattle.mpc_scaled.specs.Scaled.{whole_at, whole_cell, scale_at, AreScales, IsSmall}
 use Rattle.mpc_runs.proofs.Seats.{column_same, seats_apart}
 use Rattle.mpc_runs.proofs.Read.{opening_unknown, unknown_below}

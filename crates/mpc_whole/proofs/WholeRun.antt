@@ -23,6 +23,7 @@ use Rattle.mpc_runs.proofs.Ends.{Reached}
 use Rattle.mpc_whole.proofs.WholeForm.{reached_tableau, side_first, side_second, side_total, side_entry, narrow_fits}
 use Rattle.mpc_whole.proofs.WholeScales.{less_with_scale}
 use Rattle.mpc_whole.proofs.WholePivot.{whole_reduced}
+use Rattle.mpc_whole.proofs.WholeSizes.{small_form, small_after}
 use Rattle.mpc_whole.proofs.WholeMoves.{values_moved}
 use Rattle.mpc_whole.proofs.Standing.{reached_of, some_scale, point_here, has_ended, side_in, refuted_here, goes_side, seat_side, next_is, next_form, next_underway as underway_next}
 
@@ -75,10 +76,11 @@ module _ (s : LinearSystem) (n : ℕ) (seats : List Seat) (seated : IsSeated (he
 
       pub next_underway : (c_1 c_2 n_1 n_2 : List ℤ) → AreValues s (position s z.at) d c_1 c_2
           → AreFollowed s n (set (set seats l (Column c₀)) f (Row r₀)) k a b new (l - s.width) c₀ d (unsigned_abs (whole_at x c₀)) c_1 c_2 n_1 n_2
-          → (m e most most_den : ℕ) → m ≤ most → e ≤ most_den → IsSmall most v → d ≤ most_den → AreSmallBefore s k z.at m e
+          → (m m_den most most_den : ℕ) → m ≤ most → m_den ≤ most_den → IsSmall most v → d ≤ most_den → AreSmallBefore s k z.at m m_den
           → IsUnderway s n (set (set seats l (Column c₀)) f (Row r₀)) k (unsigned_abs (whole_at x c₀)) new n_1 n_2 most most_den s.width
-      next_underway c_1 c_2 n_1 n_2 values followed =
+      next_underway c_1 c_2 n_1 n_2 values followed m m_den most most_den wide wide_den small small_den h =
           underway_next s n seats seated k d v a b w z l e f o r₀ c₀ sl sf x row new (unsigned_abs (whole_at x c₀)) (whole_reduced s.width d v new x c₀ z.form.some piv) stands_fit n_1 n_2 (next_values c_1 c_2 n_1 n_2 values followed)
+          most most_den (small_after s k z.at m m_den most most_den wide wide_den h (small_form s k n seats seated d v (position s z.at) z.form most most_den small small_den))
 
 -- ---- the end
 pub values_paired : (s : LinearSystem) (p : Position) (d : ℕ) (c_1 c_2 : List ℤ) (values : List (ℚ × ℚ)) → length c_1 ≡ s.width → AreValues s p d c_1 c_2 → ArePairs d c_1 c_2 values → IsValues s p values

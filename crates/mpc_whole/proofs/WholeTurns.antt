@@ -1,11 +1,11 @@
 -- The tests of who leaves and enters, on whole numbers.
-use Rattle.std.proofs.Common.{◌≡◌, ◌≢◌, ℕ, zero, suc, ◌+◌, ◌-◌, ◌<◌, ◌≤◌, Bool, true, false, not, None, ℤ, pos, ◌*ℤ◌, ◌<ℤ◌, ◌≤ℤ◌, refl, sym, ◌∙◌, ap, subst, subst₂, arith, List, negsuc, ◌⊎◌, inl, inr, lit<, lt-ltb, le-ltb, mul-pos, ◌*◌, [], ◌∷◌}
+use Rattle.std.proofs.Common.{◌≡◌, ◌≢◌, ℕ, zero, suc, ◌+◌, ◌-◌, ◌<◌, ◌≤◌, Bool, true, false, not, None, ℤ, pos, ◌*ℤ◌, ◌<ℤ◌, ◌≤ℤ◌, refl, sym, ◌∙◌, ap, subst, subst₂, arith, List, negsuc, ◌⊎◌, inl, inr, lit<, le-ltb, mul-pos, ◌*◌, [], ◌∷◌}
 use lib.Signed.{lt_z}
-use Rattle.std.proofs.lemmas.Bool.{cases_Bool, cases_lt}
+use Rattle.std.proofs.lemmas.Bool.{cases_Bool}
 use Rattle.std.proofs.lemmas.Int.{ints}
 use Rattle.mpc_exact.specs.Rational.{ℚ, int, frac, ◌<ℚ◌, ◌≤ℚ◌, lt_ℚ}
-use Rattle.mpc_exact.specs.Pair.{Pair, IsBelow, IsAtMost, is_below}
-use Rattle.mpc_exact.proofs.Pair.{is_below-true, is_below-false, at_most-not-below}
+use Rattle.mpc_exact.specs.Pair.{Pair, IsBelow, is_below}
+use Rattle.mpc_exact.proofs.Pair.{is_below-false, at_most-not-below}
 use Rattle.mpc_exact.proofs.Rational.{same_frac}
 use Rattle.mpc_exact.proofs.IntRing.{int_reads, by_ring_ℤ, int_mul-lt, int_mul-le}
 use Rattle.mpc_exact.proofs.RationalOrder.{lt_frac, le_frac, one_last, <ℚ_irrefl}
@@ -13,17 +13,16 @@ use Rattle.mpc_exact.proofs.OrderTheorems.{<ℚ_trans}
 use Rattle.mpc_exact.proofs.RationalField.{lt_ℚ_is}
 use Rattle.mpc_rows.specs.Least.{least, or_at}
 use Rattle.mpc_rows.specs.LinearSystem.{LinearSystem}
-use Rattle.mpc_rows.specs.Run.{Position, has_point, count, is_unknown, is_zero, bound, value, turn, may_leave, may_enter}
+use Rattle.mpc_rows.specs.Run.{Position, is_unknown, is_zero, bound, value, may_leave, may_enter}
 use Rattle.mpc_runs.specs.declared.variables.Seat.{Seat}
 use Rattle.mpc_runs.specs.declared.variables.Seat.TheVariants.{Row, Column}
 use Rattle.mpc_runs.specs.Table.{seat_at, in_row}
 use Rattle.mpc_whole.specs.Whole.{HasBasis, IsRowOf}
 use Rattle.mpc_scaled.specs.Scaled.{whole_at}
-use Rattle.mpc_runs.specs.Leaving.{StayBefore}
 use Rattle.mpc_runs.proofs.LeastLemmas.{LeastIs, least-is}
 use Rattle.mpc_runs.proofs.Flags.{test_true, true_test}
-use Rattle.mpc_runs.proofs.Turn.{is_zero-true, zero-is_zero, turn-at}
-use Rattle.mpc_runs.proofs.Table.{leave_unknown, leave_free, leave_test, enter_basic, enter_unknown, enter_side}
+use Rattle.mpc_runs.proofs.Turn.{is_zero-true, zero-is_zero}
+use Rattle.mpc_runs.proofs.Table.{leave_test, enter_basic, enter_unknown, enter_side}
 use Rattle.mpc_runs.proofs.Stays.{not_below_so}
 use Rattle.mpc_runs.proofs.WholeSums.{zero_over}
 

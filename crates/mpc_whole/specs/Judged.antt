@@ -1,19 +1,20 @@
 -- A run in whole numbers out of which common divisors are taken, where the sizes of each row's own numbers show that no operation is wide.
-use Rattle.std.specs.Prelude.{◌≡◌, ℕ, ◌-◌, ◌*◌, ◌<◌, ◌≤◌, ◌^◌, ◌⊎◌, true, false, cond, ltb, List, length, ℤ, pos, ◌+ℤ◌, ◌*ℤ◌, neg_ℤ, unsigned_abs, Some}
+use Rattle.std.specs.Prelude.{◌≡◌, ℕ, suc, ◌+◌, ◌-◌, ◌*◌, ◌<◌, ◌≤◌, ◌^◌, ◌⊎◌, true, false, cond, ltb, List, length, ℤ, pos, ◌+ℤ◌, ◌*ℤ◌, neg_ℤ, unsigned_abs, Some}
 use Rattle.mpc_exact.specs.Rational.{ℚ, frac, ◌*ℚ◌, neg_ℚ, inv_ℚ}
 use Rattle.mpc_frac.specs.Fits.{FitsFrac, FitsSum}
 use Rattle.mpc_rows.specs.Least.{least}
 use Rattle.mpc_rows.specs.LinearSystem.{LinearSystem, height}
-use Rattle.mpc_rows.specs.Run.{Position, goes_on, count, may_leave, may_enter, turn, position}
+use Rattle.mpc_rows.specs.Run.{Position, goes_on, count, rest, may_leave, may_enter, turn, position}
+use Rattle.mpc_rows.specs.RunWidth.{ValueFits, RowFits, PositionFits}
 use Rattle.mpc_runs.specs.declared.variables.Seat.{Seat}
 use Rattle.mpc_runs.specs.declared.variables.Seat.TheVariants.{Column}
 use Rattle.mpc_runs.specs.Table.{seat_at, in_row, IsSeated, AreNonbasic}
 use Rattle.mpc_whole.specs.Norms.{Over}
-use Rattle.mpc_whole.specs.Whole.{side_cell}
+use Rattle.mpc_whole.specs.Whole.{side_cell, Stands}
 use Rattle.mpc_runs.specs.WholeNumbers.{turned}
 use Rattle.mpc_scaled.specs.Scaled.{whole_at, whole_cell, scale_at, IsSmall}
 use Rattle.mpc_whole.specs.Underway.{IsUnderway}
-use Rattle.mpc_whole.specs.SharedSizes.{IsSmallForm}
+use Rattle.mpc_whole.specs.SharedSizes.{IsSmallForm, AreSmallBefore}
 
 -- a number of a row in the column of y, by which no term of the row's value is wide, nor a product with a number of at most such a size: one is
 -- for the column of e, the other for all other columns
@@ -123,41 +124,6 @@ pub record IsReducedPivot (width den : ℕ) (old new x : List ℤ) (e size : ℕ
   pub others : (j c : ℕ) → j < width → c < width → (c ≡ e → ⊥)
       → whole_cell width new j c *ℤ pos factor ≡ (whole_cell width old j c *ℤ pos (unsigned_abs (whole_at x e))) +ℤ neg_ℤ (turned (whole_at x e) (whole_cell width old j e) *ℤ whole_at x c)
 
--- ---- what is kept of the positions before, so that further rows can be judged there
--- small numbers stand for the position; theirs and the denominator's sizes times those of the row that leaves there are at most a product
-pub record IsMildForm (s : LinearSystem) (k : List ℕ) (p : Position) (most most_den product : ℕ) : Type 0 where
-  pub form : IsSmallForm s k p most most_den
-  pub own : ℕ
-  pub small : IsSmall own form.numbers
-  pub den_small : form.den ≤ own
-  pub top : ℕ
-  pub row : (l e : ℕ) → turn s p ≡ goes_on l e → (y : ℕ) → y < count s → Over (form.den * scale_at k l) top (p.coefficient l y)
-  pub row_den : (l e : ℕ) → turn s p ≡ goes_on l e → form.den * scale_at k l ≤ top
-  pub room : own * top ≤ product
-
--- so at all positions before this one
-pub record AreMildBefore (s : LinearSystem) (k : List ℕ) (after most most_den product : ℕ) : Type 0 where
-  pub each : (q : ℕ) → q < after → IsMildForm s k (position s q) most most_den product
-
--- at least as much as a number or the denominator of a position, none of which is above own, times a number of the row that leaves
-pub record IsProductOf (own top size divisor den scale product : ℕ) : Type 0 where
-  pub most : ℕ
-  pub numbers : top * divisor ≤ most
-  pub pivot : size * divisor ≤ most
-  pub scaled : den * scale ≤ most
-  pub room : own * most ≤ product
-
--- the run stands at this position, and the ones before are such, if their product is known
-pub record IsMildlyUnderway (s : LinearSystem) (n : ℕ) (seats : List Seat) (k : List ℕ) (den : ℕ) (v c_1 c_2 : List ℤ) (most most_den product first : ℕ) : Type 0 where
-  pub underway : IsUnderway s n seats k den v c_1 c_2 most most_den first
-  pub before : product < 2 ^ 127 → AreMildBefore s k underway.stands.at most most_den product
-
--- and l leaves there and e enters
-pub record IsGoingOn (s : LinearSystem) (n : ℕ) (seats : List Seat) (k : List ℕ) (den : ℕ) (v c_1 c_2 : List ℤ) (most most_den product first l e : ℕ) : Type 0 where
-  pub underway : IsMildlyUnderway s n seats k den v c_1 c_2 most most_den product first
-  pub leaves : Some l ≡ least (may_leave s (position s underway.underway.stands.at)) n
-  pub enters : Some e ≡ least (may_enter s (position s underway.underway.stands.at) l) n
-
 -- the row of l, which leaves: its number in the column of the variable that enters, over its denominator, is at most a size, and no other one is
 -- above a top, nor is its scale
 pub record IsLeavingRow (s : LinearSystem) (p : Position) (k : List ℕ) (d f top size l e : ℕ) : Type 0 where
@@ -165,3 +131,65 @@ pub record IsLeavingRow (s : LinearSystem) (p : Position) (k : List ℕ) (d f to
   pub pivot : Over (d * scale_at k l) size (p.coefficient l e)
   pub others : (y : ℕ) → y < count s → (y ≡ e → ⊥) → Over (d * scale_at k l) top (p.coefficient l y)
   pub own : scale_at k l ≤ top
+
+-- the numbers of the row of side i have room, and so has the denominator
+pub record IsSideJudged (s : LinearSystem) (seats : List Seat) (k : List ℕ) (a b : List ℤ) (den : ℕ) (v : List ℤ) (e top size i : ℕ) : Type 0 where
+  pub dens : (den * scale_at k (s.width + i)) * size ≤ 2 ^ 125
+  pub whole : den * scale_at k (s.width + i) ≤ 2 ^ 125
+  pub cells : (y c : ℕ) → y < count s → seat_at seats y ≡ Column c → HasRoomAt s k b e top size y (side_cell s a v i c)
+
+-- what is formed of the row of x at a position fits
+pub record IsRowFitting (s : LinearSystem) (p : Position) (x : ℕ) : Type 0 where
+  pub value : ValueFits s (count s) p x
+  pub row : (l e : ℕ) → turn s p ≡ goes_on l e → RowFits (count s) p l e x
+
+-- ---- what is kept of the positions before, so that further rows can be judged there
+-- a system with further rows has at most so many variables where what is kept serves
+abbrev pub most_variables : ℕ
+most_variables = 1024
+
+-- a weight is at least what a row with the coefficient 1 of one unknown alone forms of this number, which the unknown has in the column of y: its
+-- products where a row of these sizes leaves and e enters, and so many of its terms of a value
+pub record IsWeighedAt (s : LinearSystem) (k : List ℕ) (e top size y : ℕ) (z : ℤ) (weight : ℕ) : Type 0 where
+  pub entering : y ≡ e → (unsigned_abs z * scale_at k y) * top ≤ weight
+  pub other : (y ≡ e → ⊥) → (unsigned_abs z * scale_at k y) * size ≤ weight
+  pub first : s.width ≤ y → (x : ℤ) → (rest s y).first ≡ frac x (scale_at k y) → most_variables * (unsigned_abs z * unsigned_abs x) ≤ weight
+  pub second : most_variables * (unsigned_abs z * scale_at k y) ≤ weight
+
+-- small numbers stand for the position, the row that leaves there is over a part of their denominator, each unknown's numbers are weighed, and the
+-- denominator times the pivot's size is at most a product
+pub record IsMildForm (s : LinearSystem) (k : List ℕ) (p : Position) (most most_den : ℕ) (weight : ℕ → ℕ) (product : ℕ) : Type 0 where
+  pub form : IsSmallForm s k p most most_den
+  pub divisor : ℕ
+  pub left : ℕ
+  pub split : divisor * left ≡ form.den
+  pub enters : ℕ
+  pub top : ℕ
+  pub size : ℕ
+  pub row : (l e : ℕ) → turn s p ≡ goes_on l e → IsLeavingRow s p k left enters top size l e
+  pub weighed : (j y c : ℕ) → j < s.width → y < count s → seat_at form.seats y ≡ Column c → IsWeighedAt s k enters top size y (whole_cell s.width form.numbers j c) (weight j)
+  pub dens : form.den * size ≤ product
+
+-- so at all positions before this one
+pub record AreMildBefore (s : LinearSystem) (k : List ℕ) (after most most_den : ℕ) (weight : ℕ → ℕ) (product : ℕ) : Type 0 where
+  pub each : (q : ℕ) → q < after → IsMildForm s k (position s q) most most_den weight product
+
+-- the run stands at this position, and the ones before are such, if their product is known
+pub record IsMildlyUnderway (s : LinearSystem) (n : ℕ) (seats : List Seat) (k : List ℕ) (den : ℕ) (v c_1 c_2 : List ℤ) (most most_den : ℕ) (weight : ℕ → ℕ) (product first : ℕ) : Type 0 where
+  pub underway : IsUnderway s n seats k den v c_1 c_2 most most_den first
+  pub before : product < 2 ^ 127 → AreMildBefore s k underway.stands.at most most_den weight product
+
+-- and l leaves there and e enters
+pub record IsGoingOn (s : LinearSystem) (n : ℕ) (seats : List Seat) (k : List ℕ) (den : ℕ) (v c_1 c_2 : List ℤ) (most most_den : ℕ) (weight : ℕ → ℕ) (product first l e : ℕ) : Type 0 where
+  pub underway : IsMildlyUnderway s n seats k den v c_1 c_2 most most_den weight product first
+  pub leaves : Some l ≡ least (may_leave s (position s underway.underway.stands.at)) n
+  pub enters : Some e ≡ least (may_enter s (position s underway.underway.stands.at) l) n
+
+-- l leaves and e enters where the run stands, all that is formed there fits, and the position is kept with the ones before, if their product is known
+pub record IsPositionKept (s : LinearSystem) (n : ℕ) (seats : List Seat) (k : List ℕ) (den : ℕ) (v : List ℤ) (most most_den : ℕ) (weight : ℕ → ℕ) (product l e : ℕ) : Type 0 where
+  pub stands : Stands s n seats k den v
+  pub leaves : Some l ≡ least (may_leave s (position s stands.at)) n
+  pub enters : Some e ≡ least (may_enter s (position s stands.at) l) n
+  pub fits : PositionFits s (position s stands.at)
+  pub small : AreSmallBefore s k (suc stands.at) most most_den
+  pub before : product < 2 ^ 127 → AreMildBefore s k (suc stands.at) most most_den weight product

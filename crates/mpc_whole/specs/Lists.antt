@@ -1,5 +1,5 @@
 -- The lists of a run.
-use Rattle.std.specs.Prelude.{◌≡◌, ℕ, ◌*◌, List, length, ℤ}
+use Rattle.std.specs.Prelude.{◌≡◌, ℕ, ◌*◌, List, length, get_or, ℤ}
 use Rattle.mpc_rows.specs.LinearSystem.{LinearSystem, height}
 use Rattle.mpc_rows.specs.Run.{count}
 use Rattle.mpc_runs.specs.declared.variables.Seat.{Seat}
@@ -21,6 +21,10 @@ of_short l = record { seats = l.seats.items; nonbasic = l.nonbasic.items; number
 
 abbrev pub of_wide : WideLists → Listed
 of_wide l = record { seats = l.seats.items; nonbasic = l.nonbasic.items; numbers = l.numbers.items; firsts = l.firsts.items; seconds = l.seconds.items }
+
+-- what is kept for each unknown of the positions before
+abbrev pub weights_of : WideLists → ℕ → ℕ
+weights_of l j = get_or l.weights.items j 0
 
 -- lists of a run of the system, whose numbers of the position are at most this in size
 pub record AreListsOf (s : LinearSystem) (most : ℕ) (l : Listed) : Type 0 where

@@ -7,7 +7,7 @@ use Rattle.mpc_runs.specs.declared.variables.Seat.{Seat}
 use Rattle.mpc_runs.specs.declared.variables.Seat.TheVariants.{Column}
 use Rattle.mpc_runs.specs.Table.{seat_at, IsOpeningSeats}
 use Rattle.mpc_scaled.specs.Scaled.{whole_at, scale_at, IsSmall, AreScales, IsWholeSystem}
-use Rattle.mpc_whole.specs.Judged.{IsJudged, IsLeavingRow}
+use Rattle.mpc_whole.specs.Judged.{IsJudged, IsLeavingRow, IsSideJudged, IsRowFitting}
 use Rattle.mpc_whole.specs.Norms.{Over}
 use Rattle.mpc_whole.specs.Underway.{IsUnderway}
 use Rattle.mpc_whole.specs.Whole.{HasBounds, IsForm, IsNarrow, IsUnit, side_cell}
@@ -26,6 +26,11 @@ pub record PositionTheorems : Type 0 where
   pub judged_fits : (s : LinearSystem) (k : List ℕ) (a b : List ℤ) → IsWholeSystem s k a b → (q : ℕ) → q ≤ steps s
       → (seats : List Seat) (d : ℕ) (v : List ℤ) → IsForm s (count s) seats k d v (position s q) → (f top size : ℕ) → IsJudged s (count s) seats k a b d v f top size
       → ((l e : ℕ) → turn s (position s q) ≡ goes_on l e → IsLeavingRow s (position s q) k d f top size l e) → PositionFits s (position s q)
+  -- nor is one on the row of a side where its numbers are judged so, and the row that leaves is over a part of the denominator
+  pub judged_row : (s : LinearSystem) (k : List ℕ) (a b : List ℤ) → IsWholeSystem s k a b → (q : ℕ) → q ≤ steps s
+      → (seats : List Seat) (d : ℕ) (v : List ℤ) → IsForm s (count s) seats k d v (position s q) → (f top size divisor left : ℕ) → divisor * left ≡ d
+      → ((l e : ℕ) → turn s (position s q) ≡ goes_on l e → IsLeavingRow s (position s q) k left f top size l e)
+      → (i : ℕ) → i < height s → IsSideJudged s seats k a b d v f top size i → IsRowFitting s (position s q) (s.width + i)
   -- the numbers of a side's row, and what they are over its denominator
   pub side_size : (s : LinearSystem) (a v : List ℤ) (most_entry most : ℕ) → IsSmall most_entry a → IsSmall most v → (i c : ℕ) → unsigned_abs (side_cell s a v i c) ≤ s.width * (most_entry * most)
   pub side_over : (s : LinearSystem) (k : List ℕ) (a b : List ℤ) → IsWholeSystem s k a b → (q : ℕ) → q ≤ steps s

@@ -1,7 +1,7 @@
 -- A run in whole numbers: the numbers of one of its positions, of which all positions before had none greater than a kept size.
-use Rattle.std.specs.Prelude.{◌≡◌, ℕ, ◌<◌, ◌≤◌, false, List, ℤ}
+use Rattle.std.specs.Prelude.{◌≡◌, ℕ, ◌≤◌, List, ℤ}
 use Rattle.mpc_rows.specs.LinearSystem.{LinearSystem}
-use Rattle.mpc_rows.specs.Run.{Turn, Position, has_point, is_refuted, may_leave, turn, position, last_position, steps}
+use Rattle.mpc_rows.specs.Run.{Turn, has_point, is_refuted, turn, position, last_position, steps}
 use Rattle.mpc_rows.specs.RunWidth.{RunFits}
 use Rattle.mpc_runs.specs.declared.variables.Seat.{Seat}
 use Rattle.mpc_whole.specs.declared.whole.Ending.{Ending}

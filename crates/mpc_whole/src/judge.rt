@@ -71,7 +71,7 @@ fn entry_limit(system: &WholeSystem, frame: &JudgedFrame, by: Factors, variable:
 
 /// The size of the right side of a variable, or 0 for an unknown.
 #[inline]
-fn side_of(system: &WholeSystem, frame: &JudgedFrame, variable: usize) -> u128
+pub(crate) fn side_of(system: &WholeSystem, frame: &JudgedFrame, variable: usize) -> u128
     requires numbers { HasNumbers system.now frame.now.count frame.now.scales.now frame.now.a.now frame.now.b.now }
     requires below { variable < frame.now.count }
     ensures { system.now.width ≤ variable → result ≡ unsigned_abs (whole_at frame.now.b.now (variable - system.now.width)) }

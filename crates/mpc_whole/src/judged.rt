@@ -2,9 +2,9 @@
 
 ghost use Rattle.std.specs.Prelude.{◌≡◌, ◌-◌, ◌<◌, ◌≤◌, ◌^◌, IfSome, length};
 ghost use Rattle.mpc_rows.specs.Run.{count, steps};
-ghost use Rattle.mpc_whole.specs.Lists.{AreListsOf, of_wide};
+ghost use Rattle.mpc_whole.specs.Lists.{AreListsOf, of_wide, weights_of};
 ghost use Rattle.mpc_whole.specs.Underway.{HasEnded};
-ghost use Rattle.mpc_whole.specs.Judged.{IsDividedRow, AreMildBefore, IsMildlyUnderway, IsGoingOn, HasSizes, IsJudged, IsProductOf};
+ghost use Rattle.mpc_whole.specs.Judged.{IsDividedRow, AreMildBefore, IsMildlyUnderway, IsGoingOn, IsPositionKept, HasSizes, IsJudged};
 ghost use Rattle.mpc_whole.specs.Found.{IfJudgedEnd, IfJudgedNext};
 ghost use Rattle.mpc_whole.specs.Running.{HasNumbers};
 ghost use Rattle.mpc_runs.specs.WholeNumbers.{HasRoom};
@@ -15,6 +15,7 @@ use crate::judge::{Factors, Here, factors_of, greatest_scale, judge_end, norm_of
 use crate::lists::WideLists;
 use crate::reduced::reduce;
 use crate::stated::{StatedPivot, judge_pivot};
+use crate::weights::kept_product;
 use crate::whole::{Ending, STEPS, swap};
 use crate::wide_turn::{DividedRow, divided_row, wide_entering, wide_first_out};
 use crate::wide_values::wide_stand;
@@ -22,8 +23,9 @@ use mpc_runs::column_of;
 use mpc_scaled::{WholeNumbers, WholeSystem, greatest};
 
 /// Where a run stands, in numbers of 128 bits: its denominator, the greatest size of a number there, the greatest
-/// number and the greatest denominator of the positions before, the greatest product of a number there or a
-/// denominator with one of the row that left, if that is below 2^127, and the first variable that may leave.
+/// number and the greatest denominator of the positions before, the greatest product of a denominator there with the
+/// size of the pivot, and the first variable that may leave. Where the product is 2^127 or more, nothing is known of
+/// what those positions' numbers weigh.
 #[derive(Clone, Copy, Drop)]
 pub struct WidePlace {
     pub den: u128,
@@ -41,30 +43,9 @@ pub(crate) enum JudgedTurn {
     Moves(WidePlace),
 }
 
-/// The product of a number of a position, none of which is above such a size, and one of the row that leaves.
-fn product_here(own: u128, by: Factors, divisor: u128, den: u128, scale: u64) -> Option<u128>
-    ensures { IfSome result (λ m. IsProductOf own by.top by.size divisor den scale m) }
-{
-    // What is kept of a position is over its whole denominator, so there the row counts with its divisor.
-    let most = by.top.max(by.size).checked_mul(divisor)?;
-    let scaled = den.checked_mul(scale as u128)?;
-    scaled.max(most).checked_mul(own)
-}
-
-/// The greater of the product that is kept and that of one more position, none of whose numbers is above such a size:
-/// the greatest of its type where it isn't known.
-fn kept_product(place: WidePlace, own: u128, by: Factors, divisor: u128, scale: u64) -> u128
-    ensures before { place.product ≤ result }
-    ensures here { result < 2 ^ 127 → IsProductOf own by.top by.size divisor place.den scale result }
-{
-    match product_here(own, by, divisor, place.den, scale) {
-        Some(product) => product.max(place.product),
-        None => u128::MAX,
-    }
-}
-
-/// The pivot where the row of a side leaves and a variable enters, with the values of the unknowns after it.
-fn advance(
+/// Judges the pivot where the row of a side leaves and a variable enters, and keeps the position: where the run stands
+/// once it is one of those before.
+fn keep_position(
     lists: &mut WideLists,
     row: DividedRow,
     system: &WholeSystem,
@@ -77,9 +58,10 @@ fn advance(
     requires sizes { HasSizes system.now.width frame.now.scales.now frame.now.a.now frame.now.b.now frame.now.norm frame.now.most_scale frame.now.most_side }
     requires lists { AreListsOf system.now place.own (of_wide lists.old) }
     requires row { IsDividedRow system.now frame.now.a.now lists.old.numbers.items (leaving - system.now.width) place.den row.divisor row.rest row.numbers.now }
-    requires goes { IsGoingOn system.now (count system.now) lists.old.seats.items frame.now.scales.now place.den lists.old.numbers.items lists.old.firsts.items lists.old.seconds.items place.greatest place.greatest_den place.product place.first leaving entering }
+    requires goes { IsGoingOn system.now (count system.now) lists.old.seats.items frame.now.scales.now place.den lists.old.numbers.items lists.old.firsts.items lists.old.seconds.items place.greatest place.greatest_den (weights_of lists.old) place.product place.first leaving entering }
     ensures lists { IfSome result (λ p. AreListsOf system.now p.own (of_wide lists.new)) }
-    ensures underway { IfSome result (λ p. IsMildlyUnderway system.now (count system.now) lists.new.seats.items frame.now.scales.now p.den lists.new.numbers.items lists.new.firsts.items lists.new.seconds.items p.greatest p.greatest_den p.product p.first) }
+    ensures row { IfSome result (λ p. IsDividedRow system.now frame.now.a.now lists.new.numbers.items (leaving - system.now.width) p.den row.entry.divisor row.entry.rest row.entry.numbers.now) }
+    ensures kept { IfSome result (λ p. IsPositionKept system.now (count system.now) lists.new.seats.items frame.now.scales.now p.den lists.new.numbers.items p.greatest p.greatest_den (weights_of lists.new) p.product leaving entering) }
 {
     let by = factors_of(
         &lists.nonbasic,
@@ -102,8 +84,32 @@ fn advance(
         entering,
     };
     judge_pivot(&here, system, frame, by, &pivot)?;
-    let own = place.own.max(place.den);
-    let product = kept_product(place, own, by, row.divisor, frame.scales[leaving]);
+    let product = kept_product(&mut lists.weights, &here, system, frame, by, place);
+    Some(WidePlace {
+        greatest: place.greatest.max(place.own),
+        greatest_den: place.greatest_den.max(place.den),
+        product,
+        ..place
+    })
+}
+
+/// The pivot where the row of a side leaves and a variable enters, with the values of the unknowns after it.
+fn make_pivot(
+    lists: &mut WideLists,
+    row: DividedRow,
+    system: &WholeSystem,
+    frame: &JudgedFrame,
+    place: WidePlace,
+    leaving: usize,
+    entering: usize,
+) -> Option<WidePlace>
+    requires numbers { HasNumbers system.now frame.now.count frame.now.scales.now frame.now.a.now frame.now.b.now }
+    requires lists { AreListsOf system.now place.own (of_wide lists.old) }
+    requires row { IsDividedRow system.now frame.now.a.now lists.old.numbers.items (leaving - system.now.width) place.den row.divisor row.rest row.numbers.now }
+    requires kept { IsPositionKept system.now (count system.now) lists.old.seats.items frame.now.scales.now place.den lists.old.numbers.items place.greatest place.greatest_den (weights_of lists.old) place.product leaving entering }
+    ensures lists { IfSome result (λ p. AreListsOf system.now p.own (of_wide lists.new)) }
+    ensures underway { IfSome result (λ p. IsMildlyUnderway system.now (count system.now) lists.new.seats.items frame.now.scales.now p.den lists.new.numbers.items lists.new.firsts.items lists.new.seconds.items p.greatest p.greatest_den (weights_of lists.new) p.product p.first) }
+{
     let column = column_of(&lists.seats, entering);
     let after = reduce(
         &mut lists.numbers,
@@ -132,10 +138,8 @@ fn advance(
     Some(WidePlace {
         den: after.den,
         own: after.own,
-        greatest: place.greatest.max(place.own),
-        greatest_den: place.greatest_den.max(place.den),
-        product,
         first: system.unknowns(),
+        ..place
     })
 }
 
@@ -174,12 +178,12 @@ fn judged_step(
     requires sizes { HasSizes system.now.width frame.now.scales.now frame.now.a.now frame.now.b.now frame.now.norm frame.now.most_scale frame.now.most_side }
     requires lists { AreListsOf system.now place.own (of_wide lists.old) }
     requires row_size { length row.old ≡ system.now.width }
-    requires underway { IsMildlyUnderway system.now (count system.now) lists.old.seats.items frame.now.scales.now place.den lists.old.numbers.items lists.old.firsts.items lists.old.seconds.items place.greatest place.greatest_den place.product place.first }
+    requires underway { IsMildlyUnderway system.now (count system.now) lists.old.seats.items frame.now.scales.now place.den lists.old.numbers.items lists.old.firsts.items lists.old.seconds.items place.greatest place.greatest_den (weights_of lists.old) place.product place.first }
     ensures same { IfSome result (λ t. IfJudgedEnd t (λ _. lists.new ≡ lists.old)) }
     ensures end { IfSome result (λ t. IfJudgedEnd t (λ e. HasEnded system.now (count system.now) lists.old.seats.items frame.now.scales.now place.den lists.old.numbers.items lists.old.firsts.items lists.old.seconds.items place.greatest place.greatest_den e)) }
-    ensures before { IfSome result (λ t. IfJudgedEnd t (λ _. place.product < 2 ^ 127 → AreMildBefore system.now frame.now.scales.now (steps system.now) place.greatest place.greatest_den place.product)) }
+    ensures before { IfSome result (λ t. IfJudgedEnd t (λ _. place.product < 2 ^ 127 → AreMildBefore system.now frame.now.scales.now (steps system.now) place.greatest place.greatest_den (weights_of lists.old) place.product)) }
     ensures lists { IfSome result (λ t. IfJudgedNext t (λ p. AreListsOf system.now p.own (of_wide lists.new))) }
-    ensures underway { IfSome result (λ t. IfJudgedNext t (λ p. IsMildlyUnderway system.now (count system.now) lists.new.seats.items frame.now.scales.now p.den lists.new.numbers.items lists.new.firsts.items lists.new.seconds.items p.greatest p.greatest_den p.product p.first)) }
+    ensures underway { IfSome result (λ t. IfJudgedNext t (λ p. IsMildlyUnderway system.now (count system.now) lists.new.seats.items frame.now.scales.now p.den lists.new.numbers.items lists.new.firsts.items lists.new.seconds.items p.greatest p.greatest_den (weights_of lists.new) p.product p.first)) }
 {
     let out = wide_first_out(
         system,
@@ -213,7 +217,8 @@ fn judged_step(
         divisor,
         rest,
     };
-    let next = advance(lists, divided, system, frame, place, leaving, entering)?;
+    let kept = keep_position(lists, divided, system, frame, place, leaving, entering)?;
+    let next = make_pivot(lists, divided, system, frame, kept, leaving, entering)?;
     Some(JudgedTurn::Moves(next))
 }
 
@@ -232,10 +237,10 @@ pub fn judged_run(
     requires room { HasRoom system.now.width (2 ^ 62) numbers.now.a.now }
     requires lists { AreListsOf system.now from.own (of_wide lists.old) }
     requires row_size { length row.old ≡ system.now.width }
-    requires underway { IsMildlyUnderway system.now (count system.now) lists.old.seats.items numbers.now.scales.now from.den lists.old.numbers.items lists.old.firsts.items lists.old.seconds.items from.greatest from.greatest_den from.product from.first }
+    requires underway { IsMildlyUnderway system.now (count system.now) lists.old.seats.items numbers.now.scales.now from.den lists.old.numbers.items lists.old.firsts.items lists.old.seconds.items from.greatest from.greatest_den (weights_of lists.old) from.product from.first }
     ensures lists { IfSome result (λ t. AreListsOf system.now t.0.own (of_wide lists.new)) }
     ensures end { IfSome result (λ t. HasEnded system.now (count system.now) lists.new.seats.items numbers.now.scales.now t.0.den lists.new.numbers.items lists.new.firsts.items lists.new.seconds.items t.0.greatest t.0.greatest_den t.1) }
-    ensures before { IfSome result (λ t. t.0.product < 2 ^ 127 → AreMildBefore system.now numbers.now.scales.now (steps system.now) t.0.greatest t.0.greatest_den t.0.product) }
+    ensures before { IfSome result (λ t. t.0.product < 2 ^ 127 → AreMildBefore system.now numbers.now.scales.now (steps system.now) t.0.greatest t.0.greatest_den (weights_of lists.new) t.0.product) }
 {
     let frame = JudgedFrame {
         scales: numbers.scales,

@@ -8,6 +8,7 @@ mod lists;
 mod reduced;
 mod stated;
 mod theorems;
+mod weights;
 mod whole;
 mod whole_ends;
 mod whole_pivot;

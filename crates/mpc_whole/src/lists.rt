@@ -26,4 +26,7 @@ pub struct WideLists {
     /// The values of the unknowns there, in their first parts and in their second ones.
     pub firsts: Vec<i128>,
     pub seconds: Vec<i128>,
+    /// For each unknown at least what its numbers at the positions before take with a coefficient of 1, so that a row
+    /// that joins is judged there by its own coefficients.
+    pub weights: Vec<u128>,
 }

@@ -57,8 +57,22 @@ fn change_columns(
     Some(own)
 }
 
+/// The greater of a bound of the numbers before a row and the greatest size of one of its own.
+#[inline]
+fn row_top(numbers: &[i64], from: usize, width: usize, before: u64) -> u64
+    requires inside { from + width ≤ length numbers.now }
+    requires before { (index : ℕ) → index < from → unsigned_abs (whole_at numbers.now index) ≤ before }
+    ensures { (index : ℕ) → index < from + width → unsigned_abs (whole_at numbers.now index) ≤ result }
+{
+    let mut own = before;
+    for column in 0..width {
+        own = own.max(numbers[from + column].unsigned_abs());
+    }
+    own
+}
+
 /// Changes the row of an unknown, where a row leaves and the pivot column enters. A bound of the numbers of the rows
-/// before becomes one of those of this row too.
+/// before becomes one of those of this row too. A row that has 0 in the pivot's column stays where the denominator does.
 fn change_row(
     numbers: &mut [i64],
     row: &[i64],
@@ -84,17 +98,18 @@ fn change_row(
 {
     let pivot = row[pivot_column];
     let from = unknown * row.len();
-    let factor = turned(pivot, numbers[from + pivot_column]);
-    let size = pivot.unsigned_abs();
     let change = Change {
-        factor,
-        size,
+        factor: turned(pivot, numbers[from + pivot_column]),
+        size: pivot.unsigned_abs(),
         by,
         most,
     };
+    if change.factor == 0 && change.size == by.den {
+        return Some(row_top(numbers, from, row.len(), before));
+    }
     let own = change_columns(numbers, row, from, 0, pivot_column, change, before)?;
-    numbers[from + pivot_column] = factor;
-    let own = own.max(factor.unsigned_abs());
+    numbers[from + pivot_column] = change.factor;
+    let own = own.max(change.factor.unsigned_abs());
     change_columns(numbers, row, from, pivot_column + 1, row.len(), change, own)
 }
 

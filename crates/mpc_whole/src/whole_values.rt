@@ -139,7 +139,8 @@ fn excess(entries: &[i64], side: usize, values: &[i64], limit: i64, den: u64) ->
 
 /// Moves one part of the values with a pivot, with the bound of the side that is given in that part, if all numbers are
 /// whole and small. The numbers are those after the pivot. Where all of them and the bound are 0 they stay so, as the
-/// second parts do while no strict row has left.
+/// second parts do while no strict row has left. A value whose row has 0 in the pivot's column stays where the
+/// denominator does.
 fn move_part(
     values: &mut [i64],
     entries: &[i64],
@@ -159,6 +160,9 @@ fn move_part(
     let width = values.len();
     for unknown in 0..width {
         let factor = numbers[unknown * width + pivot.column];
+        if factor == 0 && pivot.size == pivot.by.den {
+            continue;
+        }
         let new = changed(values[unknown], factor, over, pivot.size, pivot.by, 1 << 62)?;
         values[unknown] = new;
     }

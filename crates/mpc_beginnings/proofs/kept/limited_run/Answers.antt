@@ -24,6 +24,9 @@ pub returns-clause-lists : goal.returns-clause-lists
 returns-clause-lists c =
     subst (λ b. IfSome c.short_run.result (λ t. AreListsOf c.args.system.now t.0.own (cond b (of_wide c.args.lists.now.wide) (of_short c.short_run.new.lists)))) (sym c.if-lists.false) c.short_run.ensures.lists
 
+pub returns-clause-narrow : goal.returns-clause-narrow
+returns-clause-narrow c = IfSome_then c.short_run.result c.short_run.ensures.small (λ t h. c.if-lists.false)
+
 pub returns-clause-short : goal.returns-clause-short
 returns-clause-short c = IfSome_then c.short_run.result c.short_run.ensures.small (λ t h. record { first = λ e. h.0; second = λ e. h.1 })
 

@@ -1,8 +1,8 @@
 use Rattle.std.proofs.Common.{◌∙◌}
 use Rattle.mpc_beginnings.proofs.lists.put_wide_lists.Goals as goal
 
-pub returns : goal.returns
-returns c = λ i. record {
+pub returns-clause-same : goal.returns-clause-same
+returns-clause-same c = λ i. record {
   seats = (c.in_ok-put_seats.ensures ∙ c.deref.ensures.value) i;
   nonbasic = (c.in_ok-put_variables.ensures ∙ c.deref-2.ensures.value) i;
   numbers = (c.in_ok-put_wide.ensures ∙ c.deref-3.ensures.value) i;

@@ -5,6 +5,7 @@ use Rattle.mpc_rows.specs.Run.{count, may_leave, may_enter, position}
 use Rattle.mpc_runs.specs.declared.variables.Seat.{Seat}
 use Rattle.mpc_runs.specs.Table.{IsSeated, AreNonbasic}
 use Rattle.mpc_whole.specs.Whole.{HasBasis, HasSideValues, IsRowOf}
+use Rattle.mpc_whole.specs.Lists.{weights_of}
 use Rattle.mpc_whole.specs.Judged.{IsDividedRow}
 use Rattle.mpc_whole.proofs.DividedRows.{times_row, times_is, side_of_divided, rest_some, row_of_divided}
 use Rattle.mpc_whole.proofs.Standing.{leaves_here, side_in, row_of_leaving}
@@ -28,12 +29,12 @@ nobody c f = let q : c.in_ok-out.out ≡ None = c.in_default.is in sym q ∙ f
 pub returns-in_default-clause-end : goal.returns-in_default-clause-end
 returns-in_default-clause-end c =
     let at = goal.at.returns-in_default-clause-end c in
-    judged_point c.args.system.now (count c.args.system.now) c.args.lists.now.seats.items c.requires.lists.seated c.args.frame.now.scales.now c.args.place.den c.args.lists.now.numbers.items c.args.frame.now.a.now c.args.frame.now.b.now c.requires.numbers.whole c.args.lists.now.firsts.items c.args.lists.now.seconds.items c.args.place.greatest c.args.place.greatest_den c.args.place.product c.args.place.first c.requires.underway 0 0 0 c.in_ok-judge_last.ensures (nobody at.In_ok-judge_last (found at.In_ok-out))
+    judged_point c.args.system.now (count c.args.system.now) c.args.lists.now.seats.items c.requires.lists.seated c.args.frame.now.scales.now c.args.place.den c.args.lists.now.numbers.items c.args.frame.now.a.now c.args.frame.now.b.now c.requires.numbers.whole c.args.lists.now.firsts.items c.args.lists.now.seconds.items c.args.place.greatest c.args.place.greatest_den (weights_of c.args.lists.now) c.args.place.product c.args.place.first c.requires.underway 0 0 0 c.in_ok-judge_last.ensures (nobody at.In_ok-judge_last (found at.In_ok-out))
 
 pub returns-in_default-clause-before : goal.returns-in_default-clause-before
 returns-in_default-clause-before c =
     let at = goal.at.returns-in_default-clause-before c in
-    mild_point c.args.system.now (count c.args.system.now) c.args.lists.now.seats.items c.requires.lists.seated c.args.frame.now.scales.now c.args.place.den c.args.lists.now.numbers.items c.args.frame.now.a.now c.args.frame.now.b.now c.requires.numbers.whole c.args.lists.now.firsts.items c.args.lists.now.seconds.items c.args.place.greatest c.args.place.greatest_den c.args.place.product c.args.place.first c.requires.underway 0 0 0 c.in_ok-judge_last.ensures (nobody at.In_ok-judge_last (found at.In_ok-out))
+    mild_point c.args.system.now (count c.args.system.now) c.args.lists.now.seats.items c.requires.lists.seated c.args.frame.now.scales.now c.args.place.den c.args.lists.now.numbers.items c.args.frame.now.a.now c.args.frame.now.b.now c.requires.numbers.whole c.args.lists.now.firsts.items c.args.lists.now.seconds.items c.args.place.greatest c.args.place.greatest_den (weights_of c.args.lists.now) c.args.place.product c.args.place.first c.requires.underway 0 0 0 c.in_ok-judge_last.ensures (nobody at.In_ok-judge_last (found at.In_ok-out))
 
 leaver_is : (c : In-Some) → c.in_ok-out.out ≡ least (may_leave c.args.system.now (position c.args.system.now c.requires.underway.underway.stands.at)) (count c.args.system.now) → Some c.in-Some.leaving ≡ least (may_leave c.args.system.now (position c.args.system.now c.requires.underway.underway.stands.at)) (count c.args.system.now)
 leaver_is c f = let q : c.in_ok-out.out ≡ Some c.in-Some.leaving = c.in-Some.is in sym q ∙ f
@@ -80,17 +81,17 @@ pub returns-in_default-wide_entering-clause-end : goal.returns-in_default-wide_e
 returns-in_default-wide_entering-clause-end c =
     let at = goal.at.returns-in_default-wide_entering-clause-end c in
     let e = leaver_is at.In-Some (found at.In_ok-out) in
-    judged_refuted c.args.system.now (count c.args.system.now) c.args.lists.now.seats.items c.requires.lists.seated c.args.frame.now.scales.now c.args.place.den c.args.lists.now.numbers.items c.args.frame.now.a.now c.args.frame.now.b.now c.requires.numbers.whole c.args.lists.now.firsts.items c.args.lists.now.seconds.items c.args.place.greatest c.args.place.greatest_den c.args.place.product c.args.place.first c.requires.underway 0 0 0 c.in_ok-judge_last-2.ensures c.in-Some.leaving e (nobody_enters at.In_ok-judge_last-2 (entered at.After-wide_entering e))
+    judged_refuted c.args.system.now (count c.args.system.now) c.args.lists.now.seats.items c.requires.lists.seated c.args.frame.now.scales.now c.args.place.den c.args.lists.now.numbers.items c.args.frame.now.a.now c.args.frame.now.b.now c.requires.numbers.whole c.args.lists.now.firsts.items c.args.lists.now.seconds.items c.args.place.greatest c.args.place.greatest_den (weights_of c.args.lists.now) c.args.place.product c.args.place.first c.requires.underway 0 0 0 c.in_ok-judge_last-2.ensures c.in-Some.leaving e (nobody_enters at.In_ok-judge_last-2 (entered at.After-wide_entering e))
 
 pub returns-in_default-wide_entering-clause-before : goal.returns-in_default-wide_entering-clause-before
 returns-in_default-wide_entering-clause-before c =
     let at = goal.at.returns-in_default-wide_entering-clause-before c in
     let e = leaver_is at.In-Some (found at.In_ok-out) in
-    mild_refuted c.args.system.now (count c.args.system.now) c.args.lists.now.seats.items c.requires.lists.seated c.args.frame.now.scales.now c.args.place.den c.args.lists.now.numbers.items c.args.frame.now.a.now c.args.frame.now.b.now c.requires.numbers.whole c.args.lists.now.firsts.items c.args.lists.now.seconds.items c.args.place.greatest c.args.place.greatest_den c.args.place.product c.args.place.first c.requires.underway 0 0 0 c.in_ok-judge_last-2.ensures c.in-Some.leaving e (nobody_enters at.In_ok-judge_last-2 (entered at.After-wide_entering e))
+    mild_refuted c.args.system.now (count c.args.system.now) c.args.lists.now.seats.items c.requires.lists.seated c.args.frame.now.scales.now c.args.place.den c.args.lists.now.numbers.items c.args.frame.now.a.now c.args.frame.now.b.now c.requires.numbers.whole c.args.lists.now.firsts.items c.args.lists.now.seconds.items c.args.place.greatest c.args.place.greatest_den (weights_of c.args.lists.now) c.args.place.product c.args.place.first c.requires.underway 0 0 0 c.in_ok-judge_last-2.ensures c.in-Some.leaving e (nobody_enters at.In_ok-judge_last-2 (entered at.After-wide_entering e))
 
-pub advance-requires-clause-goes : goal.advance-requires-clause-goes
-advance-requires-clause-goes c =
-    let at = goal.at.advance-requires-clause-goes c in
+pub keep_position-requires-clause-goes : goal.keep_position-requires-clause-goes
+keep_position-requires-clause-goes c =
+    let at = goal.at.keep_position-requires-clause-goes c in
     let e = leaver_is at.In-Some (found at.In_ok-out) in
     let q : c.wide_entering.result ≡ Some c.in-Some-wide_entering.entering = c.in-Some-wide_entering.is in
     record { underway = c.requires.underway; leaves = e; enters = sym q ∙ entered at.After-wide_entering e }

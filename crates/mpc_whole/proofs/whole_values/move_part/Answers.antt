@@ -1,4 +1,4 @@
-use Rattle.std.proofs.Common.{◌≡◌, ℕ, ◌+◌, ◌*◌, ◌<◌, ◌≤◌, ◌^◌, ◌+ℤ◌, ◌*ℤ◌, neg_ℤ, ℤ, List, pos, get_or, length, sym, ◌∙◌, ap, subst, arith, to_z, of_z, unsigned_abs, le_refl, [], ◌∷◌}
+use Rattle.std.proofs.Common.{◌≡◌, ℕ, ◌+◌, ◌*◌, ◌<◌, ◌≤◌, ◌^◌, ◌+ℤ◌, ◌*ℤ◌, neg_ℤ, ℤ, List, pos, get_or, length, sym, ◌∙◌, ap, subst, arith, to_z, of_z, unsigned_abs, le_refl, below_more, [], ◌∷◌}
 use Rattle.std.specs.Int.{w64}
 use Rattle.std.proofs.lemmas.Int.{to_z-of_z}
 use Rattle.mpc_scaled.specs.Scaled.{whole_at, whole_cell}
@@ -7,6 +7,7 @@ use Rattle.mpc_whole.specs.Moved.{excess, IsMoved}
 use Rattle.mpc_runs.proofs.WholeSums.{whole_total-zeros}
 use Rattle.mpc_runs.proofs.WholeWidths.{read_small, read_bound}
 use Rattle.mpc_runs.proofs.WholeLists.{set_small, set_above, set_product}
+use Rattle.mpc_whole.proofs.RowParts.{number_stays}
 use Rattle.mpc_whole.proofs.WholeExchange.{row_inside}
 use Rattle.mpc_whole.proofs.whole_values.move_part.Goals as goal
 
@@ -39,6 +40,21 @@ loop-unknown-preserved c =
       done = set_product c.loop-unknown.values c.loop-unknown.unknown z b (pos c.args.pivot.by.den) (λ k. (whole_at c.args.values.now k *ℤ pos c.args.pivot.size) +ℤ neg_ℤ (whole_cell w c.args.numbers.now k c.args.pivot.column *ℤ excess w c.args.entries.now c.args.pivot.side (to_z w64 (of_z w64 c.args.limit)) c.args.pivot.by.den c.args.values.now)) c.loop-unknown.invariant.done e;
       kept = set_above c.loop-unknown.values c.loop-unknown.unknown z b c.args.values.now c.loop-unknown.invariant.kept;
       small = set_small c.loop-unknown.values c.loop-unknown.unknown z b (2 ^ 62) c.loop-unknown.invariant.small (subst (λ u. unsigned_abs u ≤ 2 ^ 62) (sym back) c.in_ok-new.ensures.small);
+    }
+
+-- a value stays where its factor is 0
+pub loop-unknown-preserved-then-pivot : goal.loop-unknown-preserved-then-pivot
+loop-unknown-preserved-then-pivot c =
+    let w = length c.args.values.now in
+    let j = c.loop-unknown.unknown in
+    let over = excess w c.args.entries.now c.args.pivot.side (to_z w64 (of_z w64 c.args.limit)) c.args.pivot.by.den c.args.values.now in
+    let read : to_z w64 (of_z w64 (get_or c.args.numbers.now (j * w + c.args.pivot.column) (pos 0))) ≡ whole_cell w c.args.numbers.now j c.args.pivot.column = read_small _ (c.requires.pivot.numbers_small.each (j * w + c.args.pivot.column)) in
+    let none : whole_cell w c.args.numbers.now j c.args.pivot.column ≡ pos 0 = sym read ∙ ap (to_z w64) c.if-factor-eq0.true in
+    let same = number_stays (whole_at c.args.values.now j) (whole_cell w c.args.numbers.now j c.args.pivot.column) over c.args.pivot.by.den c.args.pivot.size none c.if-pivot.true in
+    record {
+      done = below_more _ _ c.loop-unknown.invariant.done (ap (λ u. u *ℤ pos c.args.pivot.by.den) (c.loop-unknown.invariant.kept j (le_refl j)) ∙ same);
+      kept = λ k h. c.loop-unknown.invariant.kept k (omega arith);
+      small = c.loop-unknown.invariant.small;
     }
 
 pub returns-then-are_zero-clause-moved : goal.returns-then-are_zero-clause-moved
