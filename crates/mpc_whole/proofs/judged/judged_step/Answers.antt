@@ -1,4 +1,4 @@
-use Rattle.std.proofs.Common.{ℤ, List, Some, None, ◌≡◌, ◌∙◌, ◌<◌, ◌≤◌, ◌-◌, sym, subst, subst₂}
+use Rattle.std.proofs.Common.{ℤ, List, Some, None, ◌≡◌, ◌∙◌, ◌<◌, ◌≤◌, ◌-◌, length, sym, subst, subst₂}
 use Rattle.mpc_rows.specs.Least.{least}
 use Rattle.mpc_rows.specs.LinearSystem.{height}
 use Rattle.mpc_rows.specs.Run.{count, may_leave, may_enter, position}
@@ -107,3 +107,78 @@ judge_last-requires-clause-some c = c.requires.underway.underway.stands.form.som
 
 pub judge_last-requires-in_default-wide_entering-clause-some : goal.judge_last-requires-in_default-wide_entering-clause-some
 judge_last-requires-in_default-wide_entering-clause-some c = c.requires.underway.underway.stands.form.some
+
+pub wide_first_out-requires-clause-side : goal.wide_first_out-requires-clause-side
+wide_first_out-requires-clause-side c = c.requires.underway.underway.side
+
+pub wide_first_out-requires-clause-numbers : goal.wide_first_out-requires-clause-numbers
+wide_first_out-requires-clause-numbers c = c.requires.numbers
+
+pub wide_first_out-requires-clause-seated : goal.wide_first_out-requires-clause-seated
+wide_first_out-requires-clause-seated c = rw c.deref.ensures.value (subst (λ m. IsSeated (height c.args.system.now) c.args.system.now.width m c.args.lists.now.seats.items) (sym c.requires.numbers.count) c.requires.lists.seated)
+
+pub wide_first_out-requires-clause-first_size : goal.wide_first_out-requires-clause-first_size
+wide_first_out-requires-clause-first_size c = rw c.deref-2.ensures.value c.requires.lists.first_size
+
+pub wide_first_out-requires-clause-second_size : goal.wide_first_out-requires-clause-second_size
+wide_first_out-requires-clause-second_size c = rw c.deref-3.ensures.value c.requires.lists.second_size
+
+pub divided_row-requires-clause-entries : goal.divided_row-requires-clause-entries
+divided_row-requires-clause-entries c = c.requires.numbers.whole.entries_size
+
+pub divided_row-requires-clause-square : goal.divided_row-requires-clause-square
+divided_row-requires-clause-square c = rw c.deref-4.ensures.value c.requires.lists.square
+
+pub divided_row-requires-clause-row_size : goal.divided_row-requires-clause-row_size
+divided_row-requires-clause-row_size c = c.requires.row_size
+
+pub wide_entering-requires-clause-columns : goal.wide_entering-requires-clause-columns
+wide_entering-requires-clause-columns c = rw c.deref-5.ensures.value c.requires.lists.columns.each
+
+pub wide_entering-requires-clause-row_size : goal.wide_entering-requires-clause-row_size
+wide_entering-requires-clause-row_size c = (let q : length c.divided_row.new.row ≡ length c.args.row.now = c.divided_row.auto.row in q) ∙ c.requires.row_size
+
+pub keep_position-requires-clause-numbers : goal.keep_position-requires-clause-numbers
+keep_position-requires-clause-numbers c = c.requires.numbers
+
+pub keep_position-requires-clause-sizes : goal.keep_position-requires-clause-sizes
+keep_position-requires-clause-sizes c = c.requires.sizes
+
+pub keep_position-requires-clause-lists : goal.keep_position-requires-clause-lists
+keep_position-requires-clause-lists c = c.requires.lists
+
+pub judge_last-requires-clause-numbers : goal.judge_last-requires-clause-numbers
+judge_last-requires-clause-numbers c = c.requires.numbers
+
+pub judge_last-requires-clause-sizes : goal.judge_last-requires-clause-sizes
+judge_last-requires-clause-sizes c = c.requires.sizes
+
+pub judge_last-requires-clause-lists : goal.judge_last-requires-clause-lists
+judge_last-requires-clause-lists c = c.requires.lists
+
+pub judge_last-requires-in_default-wide_entering-clause-numbers : goal.judge_last-requires-in_default-wide_entering-clause-numbers
+judge_last-requires-in_default-wide_entering-clause-numbers c = c.requires.numbers
+
+pub judge_last-requires-in_default-wide_entering-clause-sizes : goal.judge_last-requires-in_default-wide_entering-clause-sizes
+judge_last-requires-in_default-wide_entering-clause-sizes c = c.requires.sizes
+
+pub judge_last-requires-in_default-wide_entering-clause-lists : goal.judge_last-requires-in_default-wide_entering-clause-lists
+judge_last-requires-in_default-wide_entering-clause-lists c = c.requires.lists
+
+pub make_pivot-requires-clause-numbers : goal.make_pivot-requires-clause-numbers
+make_pivot-requires-clause-numbers c = c.requires.numbers
+
+pub returns-in_err-out : goal.returns-in_err-out
+returns-in_err-out c = rw c.from_residual.ensures (record { same = tt; end = tt; before = tt; lists = tt; underway = tt })
+
+pub returns-in_err-judge_last : goal.returns-in_err-judge_last
+returns-in_err-judge_last c = rw c.from_residual-in_err-judge_last.ensures (record { same = tt; end = tt; before = tt; lists = tt; underway = tt })
+
+pub returns-in_err-divisor : goal.returns-in_err-divisor
+returns-in_err-divisor c = rw c.from_residual-in_err-divisor.ensures (record { same = tt; end = tt; before = tt; lists = tt; underway = tt })
+
+pub returns-in_err-kept : goal.returns-in_err-kept
+returns-in_err-kept c = rw c.from_residual-in_err-kept.ensures (record { same = tt; end = tt; before = tt; lists = tt; underway = tt })
+
+pub returns-in_err-next : goal.returns-in_err-next
+returns-in_err-next c = rw c.from_residual-in_err-next.ensures (record { same = tt; end = tt; before = tt; lists = tt; underway = tt })

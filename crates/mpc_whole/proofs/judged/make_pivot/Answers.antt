@@ -129,3 +129,36 @@ returns-clause-underway c =
     subst (IsMildlyUnderway s (count s) _ k c.in_ok-after.after.den _ _ _ p.greatest p.greatest_den (weights_of r) p.product) (sym c.unknowns.ensures)
     (subst₂ (λ (f g : List ℤ). IsMildlyUnderway s (count s) (with_items r.seats c.swap.new.seats).items k c.in_ok-after.after.den (with_items r.numbers c.reduce.new.numbers).items f g p.greatest p.greatest_den (weights_of r) p.product s.width) (sym (firsts_back at.After-wide_stand)) (sym (seconds_back at.After-wide_stand))
     (subst₂ (λ (t : List Seat) (u : List ℤ). IsMildlyUnderway s (count s) t k c.in_ok-after.after.den u c.wide_stand.new.firsts c.wide_stand.new.seconds p.greatest p.greatest_den (weights_of r) p.product s.width) (sym (seats_back then)) (sym (numbers_back then)) next))
+
+pub reduce-requires-clause-own : goal.reduce-requires-clause-own
+reduce-requires-clause-own c = rw c.deref_mut.ensures.value c.requires.lists.own
+
+pub reduce-requires-clause-square : goal.reduce-requires-clause-square
+reduce-requires-clause-square c = subst₂ (λ w (u : List ℤ). length u ≡ w * w) (sym c.requires.row.size) (sym c.deref_mut.ensures.value) c.requires.lists.square
+
+pub swap-requires-clause-enters : goal.swap-requires-clause-enters
+swap-requires-clause-enters c = ap (λ (t : List Seat). seat_at t c.args.entering) (c.deref_mut-2.ensures.value ∙ sym c.deref.ensures.value) ∙ c.column_of-column.ensures
+
+pub swap-requires-clause-enters_below : goal.swap-requires-clause-enters_below
+swap-requires-clause-enters_below c = rw c.deref_mut-2.ensures.value (subst (λ m. c.args.entering < m) (sym c.requires.lists.seated.each) (enterer_in c.requires.numbers.whole c.requires.lists c.requires.kept.stands c.requires.kept.leaves c.requires.kept.enters))
+
+pub wide_stand-requires-clause-numbers : goal.wide_stand-requires-clause-numbers
+wide_stand-requires-clause-numbers c = c.requires.numbers
+
+pub wide_stand-requires-clause-own : goal.wide_stand-requires-clause-own
+wide_stand-requires-clause-own c = subst (λ (u : List ℤ). IsSmall c.in_ok-after.after.own u) (sym (c.deref-3.ensures.value ∙ numbers_back (goal.at.wide_stand-requires-clause-own c).After-swap)) c.in_ok-after.ensures.own
+
+pub wide_stand-requires-clause-square : goal.wide_stand-requires-clause-square
+wide_stand-requires-clause-square c = ap length (c.deref-3.ensures.value ∙ numbers_back (goal.at.wide_stand-requires-clause-square c).After-swap) ∙ (let q : length c.reduce.new.numbers ≡ length c.deref_mut.result.now = c.reduce.auto.numbers in q) ∙ ap length c.deref_mut.ensures.value ∙ c.requires.lists.square
+
+pub wide_stand-requires-clause-first_room : goal.wide_stand-requires-clause-first_room
+wide_stand-requires-clause-first_room c = ap length c.deref_mut-4.ensures.value ∙ c.requires.lists.first_size
+
+pub wide_stand-requires-clause-second_room : goal.wide_stand-requires-clause-second_room
+wide_stand-requires-clause-second_room c = ap length c.deref_mut-5.ensures.value ∙ c.requires.lists.second_size
+
+pub returns-in_err-after : goal.returns-in_err-after
+returns-in_err-after c = rw c.from_residual.ensures (record { lists = tt; underway = tt })
+
+pub returns-in_err-wide_stand : goal.returns-in_err-wide_stand
+returns-in_err-wide_stand c = rw c.from_residual-in_err-wide_stand.ensures (record { lists = tt; underway = tt })

@@ -4,9 +4,9 @@ use Rattle.std.proofs.lemmas.Int.{to_z-of_z}
 use Rattle.mpc_whole.specs.Whole.{IsChanged}
 use Rattle.mpc_runs.specs.WholeNumbers.{turned}
 use Rattle.mpc_scaled.specs.Scaled.{whole_at, whole_cell}
-use Rattle.mpc_whole.proofs.WholeExchange.{row_done, row_kept, number_raised, row_below}
+use Rattle.mpc_whole.proofs.WholeExchange.{row_done, row_kept, number_raised, row_below, row_inside}
 use Rattle.mpc_whole.proofs.reduced.raise_row.Goals as goal
-use Rattle.mpc_whole.proofs.reduced.raise_row.Goals.{After-loop-column}
+use Rattle.mpc_whole.proofs.reduced.raise_row.Goals.{After-loop-column, In-loop-column, Start}
 
 pub loop-column-preserved : goal.loop-column-preserved
 loop-column-preserved c =
@@ -49,3 +49,34 @@ pub returns-clause-others : goal.returns-clause-others
 returns-clause-others c =
     let at = goal.at.returns-clause-others c in
     λ k h. c.loop-column.invariant.kept k (subst (λ m. (k < c.args.unknown * length c.args.row.now) ⊎ (c.args.unknown * length c.args.row.now + m ≤ k)) (sym (all_of at.After-loop-column)) h)
+
+-- the places of the row: that of the pivot, and each that the loop comes by
+pivot_in : (c : Start) → c.args.unknown * length c.args.row.now + c.args.pivot_column < length c.args.numbers.now
+pivot_in c = row_inside (length c.args.row.now) c.args.unknown c.args.pivot_column (length c.args.numbers.now) c.requires.square c.requires.row c.requires.column
+
+place_in : (c : In-loop-column) → c.args.unknown * length c.args.row.now + c.loop-column.column < length c.loop-column.numbers
+place_in c = row_inside (length c.args.row.now) c.args.unknown c.loop-column.column (length c.loop-column.numbers) ((let q : length c.loop-column.numbers ≡ length c.args.numbers.now = c.loop-column.auto.numbers in q) ∙ c.requires.square) c.requires.row c.loop-column-test.true
+
+pub overflow_mul-from : goal.overflow_mul-from
+overflow_mul-from c = let r = pivot_in (goal.at.overflow_mul-from c).Start in omega arith
+
+pub overflow_add-from : goal.overflow_add-from
+overflow_add-from c = let r = pivot_in (goal.at.overflow_add-from c).Start in omega arith
+
+pub offset_bounds-numbers-from : goal.offset_bounds-numbers-from
+offset_bounds-numbers-from c = let r = pivot_in (goal.at.offset_bounds-numbers-from c).Start in omega arith
+
+pub bounds-numbers-from : goal.bounds-numbers-from
+bounds-numbers-from c = place_in (goal.at.bounds-numbers-from c).In-loop-column
+
+pub overflow_add-from-in-loop-column : goal.overflow_add-from-in-loop-column
+overflow_add-from-in-loop-column c = let r = place_in (goal.at.overflow_add-from-in-loop-column c).In-loop-column in omega arith
+
+pub overflow_add-new : goal.overflow_add-new
+overflow_add-new c = let r = place_in (goal.at.overflow_add-new c).In-loop-column in omega arith
+
+pub offset_bounds-numbers-from-in-loop-column : goal.offset_bounds-numbers-from-in-loop-column
+offset_bounds-numbers-from-in-loop-column c = let r = place_in (goal.at.offset_bounds-numbers-from-in-loop-column c).In-loop-column in omega arith
+
+pub offset_bounds-numbers-from-in-loop-column-2 : goal.offset_bounds-numbers-from-in-loop-column-2
+offset_bounds-numbers-from-in-loop-column-2 c = let r = place_in (goal.at.offset_bounds-numbers-from-in-loop-column-2 c).In-loop-column in omega arith

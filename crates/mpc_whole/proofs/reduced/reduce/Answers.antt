@@ -24,3 +24,27 @@ returns-clause-pivot c =
 -- the first number of the column
 pub offset_bounds-numbers-pivot_column : goal.offset_bounds-numbers-pivot_column
 offset_bounds-numbers-pivot_column c = let r = row_inside (length c.args.divided_row.now) 0 c.args.pivot_column (length c.args.numbers.now) c.requires.square (let h = c.requires.column in omega arith) c.requires.column in omega arith
+
+pub raise-requires-clause-square : goal.raise-requires-clause-square
+raise-requires-clause-square c = c.requires.square
+
+pub raise-requires-clause-column : goal.raise-requires-clause-column
+raise-requires-clause-column c = c.requires.column
+
+pub raise-requires-clause-own : goal.raise-requires-clause-own
+raise-requires-clause-own c = c.requires.own
+
+pub returns-in_err-over : goal.returns-in_err-over
+returns-in_err-over c = rw c.from_residual.ensures (record { pivot = tt; own = tt })
+
+pub returns-in_err-most : goal.returns-in_err-most
+returns-in_err-most c = rw c.from_residual-in_err-most.ensures (record { pivot = tt; own = tt })
+
+pub returns-in_err-raise : goal.returns-in_err-raise
+returns-in_err-raise c = rw c.from_residual-in_err-raise.ensures (record { pivot = tt; own = tt })
+
+pub returns-in_err-size : goal.returns-in_err-size
+returns-in_err-size c = rw c.from_residual-in_err-size.ensures (record { pivot = tt; own = tt })
+
+pub returns-in_err-own : goal.returns-in_err-own
+returns-in_err-own c = rw c.from_residual-in_err-own.ensures (record { pivot = tt; own = tt })

@@ -59,3 +59,27 @@ returns c = λ y d l apart e.
     let q = stands (height s) s.width c.args.frame.now.count here.seats.now here.nonbasic.now c.requires.here.seated c.requires.here.columns y d l e in
     subst (λ m. IsTermStated (coefficient_of k here.den c.args.row_variable m (row_cell s c.args.frame.now.a.now here.numbers.now c.args.row_variable d)) c.args.factor.now (coefficient_of k c.args.by.now.rest c.args.by.now.leaving m (whole_at c.args.by.now.row.now d)) c.args.pivot.now) q.1
     (c.loop-column.invariant d (let t = c.loop-column-test.false in let w = c.unknowns-column-end.ensures in let i = q.0 in omega arith) (λ p. apart (sym q.1 ∙ p)))
+
+pub row_cell-requires-clause-column : goal.row_cell-requires-clause-column
+row_cell-requires-clause-column c = let t = c.loop-column-test.true in let e = c.unknowns-column-end.ensures in omega arith
+
+pub row_cell-requires-clause-below : goal.row_cell-requires-clause-below
+row_cell-requires-clause-below c = subst (λ n. c.args.row_variable < n) c.requires.numbers.count c.requires.below
+
+pub row_cell-requires-clause-entries : goal.row_cell-requires-clause-entries
+row_cell-requires-clause-entries c = c.requires.numbers.whole.entries_size
+
+pub row_cell-requires-clause-square : goal.row_cell-requires-clause-square
+row_cell-requires-clause-square c = c.requires.here.square
+
+pub coefficient-requires-clause-some : goal.coefficient-requires-clause-some
+coefficient-requires-clause-some c = c.requires.here.some
+
+pub coefficient-requires-in-loop-column-clause-some : goal.coefficient-requires-in-loop-column-clause-some
+coefficient-requires-in-loop-column-clause-some c = c.requires.by.some
+
+pub coefficient-requires-clause-own : goal.coefficient-requires-clause-own
+coefficient-requires-clause-own c = c.requires.numbers.whole.scales.some c.args.row_variable (subst (λ n. c.args.row_variable < n) c.requires.numbers.count c.requires.below)
+
+pub coefficient-requires-in-loop-column-clause-own : goal.coefficient-requires-in-loop-column-clause-own
+coefficient-requires-in-loop-column-clause-own c = c.requires.numbers.whole.scales.some c.args.by.now.leaving (subst (λ n. c.args.by.now.leaving < n) c.requires.numbers.count c.requires.by.leaves)

@@ -53,3 +53,21 @@ returns c =
       entering = λ y d l e o. let q = at y d l e in subst (λ m. (unsigned_abs (cell d) * scale_at k m) * c.args.by.top ≤ 2 ^ 125) q.1 (c.loop-column.invariant.entering d (inside d q.0) (q.1 ∙ o));
       others = λ y d l e o. let q = at y d l e in subst (λ m. (unsigned_abs (cell d) * scale_at k m) * c.args.by.size ≤ 2 ^ 125) q.1 (c.loop-column.invariant.others d (inside d q.0) (λ p. o (sym q.1 ∙ p)));
     }
+
+pub row_cell-requires-clause-column : goal.row_cell-requires-clause-column
+row_cell-requires-clause-column c = let t = c.loop-column-test.true in let e = c.unknowns-column-end.ensures in omega arith
+
+pub row_cell-requires-clause-below : goal.row_cell-requires-clause-below
+row_cell-requires-clause-below c = subst (λ n. c.args.row_variable < n) c.requires.numbers.count c.requires.below
+
+pub row_cell-requires-clause-entries : goal.row_cell-requires-clause-entries
+row_cell-requires-clause-entries c = c.requires.numbers.whole.entries_size
+
+pub row_cell-requires-clause-square : goal.row_cell-requires-clause-square
+row_cell-requires-clause-square c = c.requires.here.square
+
+pub bounds-frame-row_variable : goal.bounds-frame-row_variable
+bounds-frame-row_variable c = let h = c.requires.below in let n = c.requires.numbers.count in let l = c.requires.numbers.whole.scales.size in omega arith
+
+pub offset_bounds-frame-row_variable : goal.offset_bounds-frame-row_variable
+offset_bounds-frame-row_variable c = let h = c.requires.below in let n = c.requires.numbers.count in let l = c.requires.numbers.whole.scales.size in omega arith

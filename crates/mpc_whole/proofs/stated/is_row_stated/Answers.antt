@@ -1,4 +1,4 @@
-use Rattle.std.proofs.Common.{ℕ, ◌≡◌, ◌∙◌, sym, ap, subst₂, rules, FitsSigned}
+use Rattle.std.proofs.Common.{ℕ, ◌≡◌, ◌∙◌, ◌<◌, sym, ap, subst, subst₂, rules, FitsSigned}
 use Rattle.std.specs.Int.{w128}
 use Rattle.std.proofs.lemmas.Int.{to_z-of_z}
 use Rattle.std.proofs.lemmas.Option.{IfSome_then}
@@ -28,3 +28,27 @@ returns c =
       leaving = λ d e. subst₂ (λ u w. FitsFrac (u *ℚ inv_ℚ w)) (factor d e) (c.requires.pivot d e) c.in-Ok.ensures.wide;
       terms = λ y o d l apart h e. subst₂ (λ u w. IsTermStated (coefficient_of k c.args.here.now.den c.args.row_variable y (cell d)) u (coefficient_of k by.rest by.leaving y (whole_at by.row.now d)) w) (factor o h) (c.requires.pivot o h) (terms y d l apart e);
     })
+
+pub row_cell-requires-clause-below : goal.row_cell-requires-clause-below
+row_cell-requires-clause-below c = subst (λ n. c.args.row_variable < n) c.requires.numbers.count c.requires.below
+
+pub row_cell-requires-clause-entries : goal.row_cell-requires-clause-entries
+row_cell-requires-clause-entries c = c.requires.numbers.whole.entries_size
+
+pub row_cell-requires-clause-square : goal.row_cell-requires-clause-square
+row_cell-requires-clause-square c = c.requires.here.square
+
+pub coefficient-requires-clause-own : goal.coefficient-requires-clause-own
+coefficient-requires-clause-own c = c.requires.numbers.whole.scales.some c.args.row_variable (subst (λ n. c.args.row_variable < n) c.requires.numbers.count c.requires.below)
+
+pub are_terms_stated-requires-clause-numbers : goal.are_terms_stated-requires-clause-numbers
+are_terms_stated-requires-clause-numbers c = c.requires.numbers
+
+pub are_terms_stated-requires-clause-here : goal.are_terms_stated-requires-clause-here
+are_terms_stated-requires-clause-here c = c.requires.here
+
+pub are_terms_stated-requires-clause-by : goal.are_terms_stated-requires-clause-by
+are_terms_stated-requires-clause-by c = c.requires.by
+
+pub are_terms_stated-requires-clause-pivot : goal.are_terms_stated-requires-clause-pivot
+are_terms_stated-requires-clause-pivot c = c.requires.pivot_some

@@ -1,4 +1,4 @@
-use Rattle.std.proofs.Common.{◌<◌, ◌⊎◌, length, sym, subst, rules}
+use Rattle.std.proofs.Common.{◌<◌, ◌⊎◌, length, sym, subst, rules, arith}
 use Rattle.std.proofs.lemmas.Option.{IfSome_then}
 use Rattle.mpc_whole.specs.Judged.{IsRowBelow, IsRowStated}
 use Rattle.mpc_whole.proofs.stated.judge_rows.Goals as goal
@@ -24,3 +24,42 @@ returns c =
       rows = λ x l basic. subst (λ f. IsRowBelow c.args.system.now c.args.frame.now.count here.seats.now k c.args.frame.now.a.now here.den here.numbers.now f c.args.factors.top c.args.factors.size x
           ⊎ IsRowStated c.args.system.now c.args.frame.now.count here.seats.now k c.args.frame.now.a.now here.den here.numbers.now by.leaving by.entering by.rest by.row.now x) c.requires.same (rows x l basic);
     })
+
+pub judge_end-requires-clause-numbers : goal.judge_end-requires-clause-numbers
+judge_end-requires-clause-numbers c = c.requires.numbers
+
+pub judge_end-requires-clause-sizes : goal.judge_end-requires-clause-sizes
+judge_end-requires-clause-sizes c = c.requires.sizes
+
+pub judge_end-requires-clause-here : goal.judge_end-requires-clause-here
+judge_end-requires-clause-here c = c.requires.here
+
+pub judge_end-requires-clause-own : goal.judge_end-requires-clause-own
+judge_end-requires-clause-own c = c.requires.own
+
+pub are_rows_judged-requires-clause-numbers : goal.are_rows_judged-requires-clause-numbers
+are_rows_judged-requires-clause-numbers c = c.requires.numbers
+
+pub are_rows_judged-requires-clause-here : goal.are_rows_judged-requires-clause-here
+are_rows_judged-requires-clause-here c = c.requires.here
+
+pub are_rows_judged-requires-clause-by : goal.are_rows_judged-requires-clause-by
+are_rows_judged-requires-clause-by c = c.requires.by
+
+pub coefficient-requires-clause-some : goal.coefficient-requires-clause-some
+coefficient-requires-clause-some c = c.requires.by.some
+
+pub coefficient-requires-clause-own : goal.coefficient-requires-clause-own
+coefficient-requires-clause-own c = c.requires.numbers.whole.scales.some c.args.by.now.leaving (subst (λ n. c.args.by.now.leaving < n) c.requires.numbers.count c.requires.by.leaves)
+
+pub bounds-frame-by : goal.bounds-frame-by
+bounds-frame-by c = let h = c.requires.by.enters in let n = c.requires.numbers.count in let l = c.requires.numbers.whole.scales.size in omega arith
+
+pub offset_bounds-frame-by : goal.offset_bounds-frame-by
+offset_bounds-frame-by c = let h = c.requires.by.enters in let n = c.requires.numbers.count in let l = c.requires.numbers.whole.scales.size in omega arith
+
+pub bounds-frame-by-2 : goal.bounds-frame-by-2
+bounds-frame-by-2 c = let h = c.requires.by.leaves in let n = c.requires.numbers.count in let l = c.requires.numbers.whole.scales.size in omega arith
+
+pub offset_bounds-frame-by-2 : goal.offset_bounds-frame-by-2
+offset_bounds-frame-by-2 c = let h = c.requires.by.leaves in let n = c.requires.numbers.count in let l = c.requires.numbers.whole.scales.size in omega arith

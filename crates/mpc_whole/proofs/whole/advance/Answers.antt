@@ -229,3 +229,18 @@ returns-clause-underway c =
     subst (IsUnderway s (count s) _ k c.unsigned_abs-size.result _ _ _ c.greater.result c.greater-2.result) (sym c.unknowns-width.ensures)
     (subst₂ (λ (f g : List ℤ). IsUnderway s (count s) (with_items r.seats c.swap.new.seats).items k c.unsigned_abs-size.result (with_items r.numbers new).items f g c.greater.result c.greater-2.result s.width) (sym (firsts_back at.After-follow)) (sym (seconds_back at.After-follow))
     (subst₂ (λ (t : List Seat) (u : List ℤ). IsUnderway s (count s) t k c.unsigned_abs-size.result u n_1 n_2 c.greater.result c.greater-2.result s.width) (sym (seats_back then)) (sym (numbers_back then)) next))
+
+pub exchange-requires-clause-row_small : goal.exchange-requires-clause-row_small
+exchange-requires-clause-row_small c = c.requires.row_small
+
+pub swap-requires-clause-enters : goal.swap-requires-clause-enters
+swap-requires-clause-enters c = ap (λ (t : List Seat). seat_at t c.args.entering) (c.deref_mut-2.ensures.value ∙ sym c.deref.ensures.value) ∙ c.column_of-column.ensures
+
+pub swap-requires-clause-enters_below : goal.swap-requires-clause-enters_below
+swap-requires-clause-enters_below c = rw c.deref_mut-2.ensures.value (subst (λ m. c.args.entering < m) (sym c.requires.lists.seated.each) (enterer_in c.requires.frame.numbers.whole c.requires.lists c.requires.turns))
+
+pub returns-in_err-own : goal.returns-in_err-own
+returns-in_err-own c = rw c.from_residual.ensures (record { lists = tt; held = tt; underway = tt })
+
+pub returns-in_err-follow : goal.returns-in_err-follow
+returns-in_err-follow c = rw c.from_residual-in_err-follow.ensures (record { lists = tt; held = tt; underway = tt })

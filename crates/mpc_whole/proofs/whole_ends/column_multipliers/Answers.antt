@@ -1,4 +1,4 @@
-use Rattle.std.proofs.Common.{◌≡◌, ◌∙◌, ◌-◌, ◌+◌, ◌*ℤ◌, neg_ℤ, pos, sym, ap, subst, arith, rules, get_or, length, set, FitsSigned}
+use Rattle.std.proofs.Common.{◌≡◌, ◌∙◌, ◌-◌, ◌+◌, ◌<◌, ◌*ℤ◌, neg_ℤ, pos, sym, ap, subst, arith, rules, get_or, length, set, FitsSigned}
 use Rattle.std.specs.Int.{w128}
 use Rattle.std.proofs.lemmas.Int.{to_z-of_z}
 use Rattle.std.proofs.lemmas.List.{length-replicate}
@@ -24,3 +24,19 @@ loop-column-preserved c =
     let size : length c.loop-column.list ≡ height c.args.system.now = (let l : length c.loop-column.list ≡ length c.args.list.now = c.loop-column.auto.list in l) ∙ ap length c.requires.zeros ∙ length-replicate (height c.args.system.now) (int (pos 0)) in
     subst (λ u. HasColumnMultipliers w c.args.scales.now c.args.nonbasic.now c.args.row.now c.args.den (c.loop-column.column + 1) (set c.loop-column.list (y - u) c.in_ok-value.value)) (sym c.unknowns-width.ensures)
     (column_written w c.args.scales.now c.args.nonbasic.now c.args.row.now c.args.den c.loop-column.column c.loop-column.list c.loop-column.invariant c.in_ok-value.value (omega arith) (omega arith) (omega arith) is)
+
+pub bounds-list-variable : goal.bounds-list-variable
+bounds-list-variable c =
+    let b = c.requires.below c.loop-column.column (subst (λ w. c.loop-column.column < w) c.unknowns-width.ensures c.loop-column-test.true) in
+    let l : length c.loop-column.list ≡ length c.args.list.now = c.loop-column.auto.list in
+    let size = l ∙ ap length c.requires.zeros ∙ length-replicate (height c.args.system.now) (int (pos 0)) in
+    let e = c.unknowns-width.ensures in
+    omega arith
+
+pub offset_bounds-list-variable : goal.offset_bounds-list-variable
+offset_bounds-list-variable c =
+    let b = c.requires.below c.loop-column.column (subst (λ w. c.loop-column.column < w) c.unknowns-width.ensures c.loop-column-test.true) in
+    let l : length c.loop-column.list ≡ length c.args.list.now = c.loop-column.auto.list in
+    let size = l ∙ ap length c.requires.zeros ∙ length-replicate (height c.args.system.now) (int (pos 0)) in
+    let e = c.unknowns-width.ensures in
+    omega arith

@@ -1,4 +1,4 @@
-use Rattle.std.proofs.Common.{◌≡◌, ◌∙◌, ◌-◌, ◌*◌, pos, length, set, sym, ap, subst}
+use Rattle.std.proofs.Common.{◌≡◌, ◌∙◌, ◌-◌, ◌*◌, ◌<◌, arith, mul-pos, pos, length, set, sym, ap, subst}
 use Rattle.std.proofs.lemmas.List.{length-replicate}
 use Rattle.mpc_exact.specs.Rational.{ℚ, int}
 use Rattle.mpc_rows.specs.LinearSystem.{height}
@@ -23,3 +23,27 @@ returns c =
     subst (λ u. IsMultipliers s p l (set m (l - u) c.whole.result)) (sym c.unknowns.ensures)
     (subst (λ (q : ℚ). IsMultipliers s p l (set m (l - s.width) q)) (sym c.whole.ensures)
     (multipliers_are s k b x c.args.den l m row.some row.side row.leaves size all seats p seated columns basis r))
+
+pub column_multipliers-requires-clause-zeros : goal.column_multipliers-requires-clause-zeros
+column_multipliers-requires-clause-zeros c = c.requires.zeros
+
+pub column_multipliers-requires-clause-columns : goal.column_multipliers-requires-clause-columns
+column_multipliers-requires-clause-columns c = c.requires.row.columns
+
+pub column_multipliers-requires-clause-below : goal.column_multipliers-requires-clause-below
+column_multipliers-requires-clause-below c = c.requires.row.below
+
+pub column_multipliers-requires-clause-scales : goal.column_multipliers-requires-clause-scales
+column_multipliers-requires-clause-scales c = c.requires.row.scales
+
+pub column_multipliers-requires-clause-row_size : goal.column_multipliers-requires-clause-row_size
+column_multipliers-requires-clause-row_size c = c.requires.row.row_size
+
+pub column_multipliers-requires-clause-some : goal.column_multipliers-requires-clause-some
+column_multipliers-requires-clause-some c = subst (λ m. 0 < m) (sym c.in_ok-over.ensures.1) (mul-pos c.requires.row.some (c.requires.row.scales.some c.args.leaving c.requires.row.leaves))
+
+pub bounds-scales-leaving : goal.bounds-scales-leaving
+bounds-scales-leaving c = let h = c.requires.row.leaves in let l = c.requires.row.scales.size in omega arith
+
+pub offset_bounds-scales-leaving : goal.offset_bounds-scales-leaving
+offset_bounds-scales-leaving c = let h = c.requires.row.leaves in let l = c.requires.row.scales.size in omega arith

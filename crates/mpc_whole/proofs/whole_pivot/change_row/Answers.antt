@@ -6,10 +6,12 @@ use Rattle.mpc_whole.specs.declared.whole_pivot.Change.{Change}
 use Rattle.mpc_runs.specs.WholeNumbers.{turned}
 use Rattle.mpc_scaled.specs.Scaled.{whole_at, whole_cell}
 use Rattle.mpc_runs.proofs.WholeWidths.{read_small, read_bound}
-use Rattle.mpc_runs.proofs.WholeLists.{set_small}
+use Rattle.std.proofs.Math.ListN.{length-set}
+use Rattle.mpc_runs.proofs.WholeLists.{set_small, set_bound}
 use Rattle.mpc_whole.proofs.RowParts.{row_cells, row_stays}
-use Rattle.mpc_whole.proofs.WholeExchange.{row_inside}
+use Rattle.mpc_whole.proofs.WholeExchange.{row_inside, rows_in}
 use Rattle.mpc_whole.proofs.whole_pivot.change_row.Goals as goal
+use Rattle.mpc_whole.proofs.whole_pivot.change_row.Goals.{Start}
 
 -- the factor is small, and so the same where it is read from the change
 small_turned : (v f : ℤ) → unsigned_abs v ≤ 2 ^ 62 → unsigned_abs f ≤ unsigned_abs (to_z w64 (of_z w64 v)) → unsigned_abs f ≤ 2 ^ 62
@@ -74,3 +76,45 @@ returns-then-change-by-clause-cells c =
     let none : f ≡ pos 0 = sym (read_twice f (small_turned (whole_at c.args.numbers.now k) f vs c.turned.ensures.small)) ∙ ap (to_z w64) c.if-change-eq0.true in
     let size : c.unsigned_abs.result ≡ unsigned_abs (whole_at x e) = c.unsigned_abs.ensures.value ∙ ap unsigned_abs xe in
     λ m h. row_stays w c.args.by.den c.args.numbers.now x j e (sym factor ∙ none) (sym size ∙ c.if-change-by.true) m
+
+-- the place of the row's number in the pivot's column
+pivot_in : (c : Start) → c.args.unknown * length c.args.row.now + c.args.pivot_column < length c.args.numbers.now
+pivot_in c = row_inside (length c.args.row.now) c.args.unknown c.args.pivot_column (length c.args.numbers.now) c.requires.square c.requires.row c.requires.column
+
+row_in : (c : Start) → c.args.unknown * length c.args.row.now + length c.args.row.now ≤ length c.args.numbers.now
+row_in c = rows_in (length c.args.row.now) c.args.unknown (length c.args.row.now) (length c.args.numbers.now) c.requires.row c.requires.square
+
+pub overflow_mul-from : goal.overflow_mul-from
+overflow_mul-from c = let r = pivot_in (goal.at.overflow_mul-from c).Start in omega arith
+
+pub overflow_add-from : goal.overflow_add-from
+overflow_add-from c = let r = pivot_in (goal.at.overflow_add-from c).Start in omega arith
+
+pub overflow_add-from-2 : goal.overflow_add-from-2
+overflow_add-from-2 c = let r = pivot_in (goal.at.overflow_add-from-2 c).Start in omega arith
+
+pub offset_bounds-numbers-from : goal.offset_bounds-numbers-from
+offset_bounds-numbers-from c = let r = pivot_in (goal.at.offset_bounds-numbers-from c).Start in omega arith
+
+pub offset_bounds-numbers-from-2 : goal.offset_bounds-numbers-from-2
+offset_bounds-numbers-from-2 c = let r = pivot_in (goal.at.offset_bounds-numbers-from-2 c).Start in let l : length c.change_columns.new.numbers ≡ length c.args.numbers.now = c.change_columns.auto.numbers in omega arith
+
+pub bounds-numbers-from : goal.bounds-numbers-from
+bounds-numbers-from c = let r = pivot_in (goal.at.bounds-numbers-from c).Start in let l : length c.change_columns.new.numbers ≡ length c.args.numbers.now = c.change_columns.auto.numbers in omega arith
+
+pub change_columns-requires-clause-inside : goal.change_columns-requires-clause-inside
+change_columns-requires-clause-inside c = row_in (goal.at.change_columns-requires-clause-inside c).Start
+
+pub change_columns-requires-2-clause-inside : goal.change_columns-requires-2-clause-inside
+change_columns-requires-2-clause-inside c = let r = row_in (goal.at.change_columns-requires-2-clause-inside c).Start in let l : length c.change_columns.new.numbers ≡ length c.args.numbers.now = c.change_columns.auto.numbers in omega (arith, length-set {A = ℤ})
+
+pub row_top-requires-clause-inside : goal.row_top-requires-clause-inside
+row_top-requires-clause-inside c = row_in (goal.at.row_top-requires-clause-inside c).Start
+
+pub change_columns-requires-2-clause-before : goal.change_columns-requires-2-clause-before
+change_columns-requires-2-clause-before c =
+    let k = c.args.unknown * length c.args.row.now + c.args.pivot_column in
+    let v = c.change_columns.new.numbers in
+    let r = pivot_in (goal.at.change_columns-requires-2-clause-before c).Start in
+    let b : k < length v = (let l : length v ≡ length c.args.numbers.now = c.change_columns.auto.numbers in omega arith) in
+    λ q h. set_bound v k _ b c.in_ok-own.own c.max-own.result c.in_ok-own.ensures.own (let e = c.max-own.ensures in omega arith) (let e = c.max-own.ensures in let s = c.unsigned_abs-2.ensures.value in omega arith) q (omega arith)

@@ -1,4 +1,4 @@
-use Rattle.std.proofs.Common.{rules, ◌≡◌, pos, ◌+◌, ◌-◌, ◌*◌, ◌<◌, ◌≤◌, ◌+ℤ◌, ◌*ℤ◌, sym, ◌∙◌, ap, subst, arith, get_or, to_z, of_z, FitsSigned}
+use Rattle.std.proofs.Common.{rules, ◌≡◌, pos, ◌+◌, ◌-◌, ◌*◌, ◌<◌, ◌≤◌, ◌+ℤ◌, ◌*ℤ◌, sym, ◌∙◌, ap, length, subst, arith, get_or, to_z, of_z, FitsSigned}
 use Rattle.std.specs.Int.{w64, w128}
 use Rattle.std.proofs.lemmas.Int.{to_z-of_z}
 use Rattle.mpc_exact.specs.Rational.{frac}
@@ -13,8 +13,10 @@ use Rattle.mpc_runs.proofs.Fits.{first_nought, second_nought}
 use Rattle.mpc_runs.proofs.Table.{first_terms, second_terms}
 use Rattle.mpc_runs.proofs.WholeWidths.{back128, both_back, read_small}
 use Rattle.mpc_runs.proofs.WholeSums.{zero_over}
+use Rattle.mpc_whole.proofs.WholeExchange.{rows_in}
 use Rattle.mpc_whole.proofs.WholeSteps.{rest_first, rest_second}
 use Rattle.mpc_whole.proofs.whole_values.value_of.Goals as goal
+use Rattle.mpc_whole.proofs.whole_values.value_of.Goals.{After-unknowns-width}
 
 pub loop-column-init : goal.loop-column-init
 loop-column-init c = record {
@@ -85,3 +87,33 @@ returns-clause-value c =
       first = λ seats z a p d t f h. sym (first_is s n seats columns z a k v p d t f j) ∙ ap (λ m. total m (λ x. first_terms s p j (variable_at columns x))) (sym all) ∙ c.loop-column.invariant.firsts seats z a p d t f h ∙ ap (λ u. frac u d) (sym first);
       second = λ seats z a p d t f h. sym (second_is s n seats columns z a k v p d t f j) ∙ ap (λ m. total m (λ x. second_terms s p j (variable_at columns x))) (sym all) ∙ c.loop-column.invariant.seconds seats z a p d t f h ∙ ap (λ u. frac u d) (sym second);
     }
+
+-- the row of the unknown
+row_in : (c : After-unknowns-width) → c.args.unknown * c.unknowns-width.result + c.unknowns-width.result ≤ length c.args.numbers.now
+row_in c =
+    subst (λ w. c.args.unknown * w + w ≤ length c.args.numbers.now) (sym c.unknowns-width.ensures)
+    (rows_in c.args.system.now.width c.args.unknown c.args.system.now.width (length c.args.numbers.now) c.requires.unknown c.requires.square)
+
+pub overflow_mul-from : goal.overflow_mul-from
+overflow_mul-from c = let r = row_in (goal.at.overflow_mul-from c).After-unknowns-width in omega arith
+
+pub overflow_add-factor : goal.overflow_add-factor
+overflow_add-factor c = let r = row_in (goal.at.overflow_add-factor c).After-unknowns-width in omega arith
+
+pub offset_bounds-numbers-from : goal.offset_bounds-numbers-from
+offset_bounds-numbers-from c = let r = row_in (goal.at.offset_bounds-numbers-from c).After-unknowns-width in omega arith
+
+pub bounds-numbers-from : goal.bounds-numbers-from
+bounds-numbers-from c = let r = row_in (goal.at.bounds-numbers-from c).After-unknowns-width in omega arith
+
+pub bounds-frame-side : goal.bounds-frame-side
+bounds-frame-side c = let b = c.requires.below c.loop-column.column (subst (λ w. c.loop-column.column < w) c.unknowns-width.ensures c.loop-column-test.true) in let q = c.requires.numbers.count in let e = c.unknowns-width.ensures in let l = c.requires.numbers.whole.sides_size in omega arith
+
+pub offset_bounds-frame-side : goal.offset_bounds-frame-side
+offset_bounds-frame-side c = let b = c.requires.below c.loop-column.column (subst (λ w. c.loop-column.column < w) c.unknowns-width.ensures c.loop-column-test.true) in let q = c.requires.numbers.count in let e = c.unknowns-width.ensures in let l = c.requires.numbers.whole.sides_size in omega arith
+
+pub step_of-step-requires-clause-side : goal.step_of-step-requires-clause-side
+step_of-step-requires-clause-side c = let b = c.requires.below c.loop-column.column (subst (λ w. c.loop-column.column < w) c.unknowns-width.ensures c.loop-column-test.true) in let q = c.requires.numbers.count in let e = c.unknowns-width.ensures in let l = c.requires.numbers.whole.sides_size in omega arith
+
+pub step_of-step-requires-clause-scales : goal.step_of-step-requires-clause-scales
+step_of-step-requires-clause-scales c = c.requires.numbers.whole.scales

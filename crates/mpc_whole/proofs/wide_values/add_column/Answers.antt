@@ -4,6 +4,7 @@ use Rattle.std.proofs.lemmas.Int.{to_z-of_z}
 use Rattle.mpc_exact.proofs.IntRing.{int_reads, by_ring_ℤ}
 use Rattle.mpc_scaled.specs.Scaled.{whole_at, whole_cell}
 use Rattle.mpc_runs.proofs.WholeLists.{set_above, set_below}
+use Rattle.mpc_whole.proofs.WholeExchange.{row_inside}
 use Rattle.mpc_whole.proofs.wide_values.add_column.Goals as goal
 
 turned_round : (x y : ℤ) → x *ℤ y ≡ y *ℤ x
@@ -33,3 +34,15 @@ pub returns : goal.returns
 returns c = λ j h.
     let f : FitsSigned w64 c.args.factor = search rules in
     c.loop-unknown.invariant.done j (let t = c.loop-unknown-test.false in omega arith) ∙ ap (λ u. whole_at c.args.list.now j +ℤ (whole_cell (length c.args.list.now) c.args.numbers.now j c.args.column *ℤ u)) (to_z-of_z w64 _ f)
+
+pub overflow_mul-unknown : goal.overflow_mul-unknown
+overflow_mul-unknown c = let r = row_inside (length c.args.list.now) c.loop-unknown.unknown c.args.column (length c.args.numbers.now) c.requires.square c.loop-unknown-test.true c.requires.column in omega arith
+
+pub overflow_add-unknown : goal.overflow_add-unknown
+overflow_add-unknown c = let r = row_inside (length c.args.list.now) c.loop-unknown.unknown c.args.column (length c.args.numbers.now) c.requires.square c.loop-unknown-test.true c.requires.column in omega arith
+
+pub offset_bounds-numbers-unknown : goal.offset_bounds-numbers-unknown
+offset_bounds-numbers-unknown c = let r = row_inside (length c.args.list.now) c.loop-unknown.unknown c.args.column (length c.args.numbers.now) c.requires.square c.loop-unknown-test.true c.requires.column in omega arith
+
+pub bounds-numbers-unknown : goal.bounds-numbers-unknown
+bounds-numbers-unknown c = row_inside (length c.args.list.now) c.loop-unknown.unknown c.args.column (length c.args.numbers.now) c.requires.square c.loop-unknown-test.true c.requires.column

@@ -87,3 +87,15 @@ returns c = λ seats z a. record {
         second = λ j l. sym (second_is s n seats columns z a k v p d t f j) ∙ ap (λ m. total m (λ x. second_terms s p j (variable_at columns x))) (sym (all_of c)) ∙ c.loop-column.invariant.seconds seats z a p d t f h j l;
       };
 }
+
+pub bounds-frame-side : goal.bounds-frame-side
+bounds-frame-side c = let b = c.requires.below c.loop-column.column (subst (λ w. c.loop-column.column < w) c.unknowns-width.ensures c.loop-column-test.true) in let q = c.requires.numbers.count in let e = c.unknowns-width.ensures in let l = c.requires.numbers.whole.sides_size in omega arith
+
+pub offset_bounds-frame-side : goal.offset_bounds-frame-side
+offset_bounds-frame-side c = let b = c.requires.below c.loop-column.column (subst (λ w. c.loop-column.column < w) c.unknowns-width.ensures c.loop-column-test.true) in let q = c.requires.numbers.count in let e = c.unknowns-width.ensures in let l = c.requires.numbers.whole.sides_size in omega arith
+
+pub step_of-step-requires-clause-side : goal.step_of-step-requires-clause-side
+step_of-step-requires-clause-side c = let b = c.requires.below c.loop-column.column (subst (λ w. c.loop-column.column < w) c.unknowns-width.ensures c.loop-column-test.true) in let q = c.requires.numbers.count in let e = c.unknowns-width.ensures in let l = c.requires.numbers.whole.sides_size in omega arith
+
+pub step_of-step-requires-clause-scales : goal.step_of-step-requires-clause-scales
+step_of-step-requires-clause-scales c = c.requires.numbers.whole.scales
