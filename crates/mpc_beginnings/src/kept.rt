@@ -12,6 +12,7 @@ ghost use Rattle.mpc_runs.specs.RunEnd.{IsEnd, IsMultipliers, IsValues, EndsRefu
 ghost use Rattle.mpc_runs.specs.WholeNumbers.{HasRoom};
 ghost use Rattle.mpc_scaled.specs.Scaled.{whole_cell, IsSmall};
 ghost use Rattle.mpc_whole.specs.Underway.{turn_of, HasEnded};
+ghost use Rattle.mpc_whole.specs.Judged.{most_variables};
 ghost use Rattle.mpc_beginnings.specs.Beginnings.{lengthened};
 ghost use Rattle.mpc_beginnings.specs.Broken.{IsBroken, IsBrokenEnd};
 ghost use Rattle.mpc_beginnings.specs.Limit.{IsLimit};
@@ -20,9 +21,9 @@ ghost use Rattle.mpc_beginnings.specs.Open.{IsOpenFor};
 ghost use Rattle.mpc_beginnings.specs.Kept.{AreNumbers, IsSamePlace, IsNormProduct, row_weight, IsLightRow, HasRoomBefore, AreKept, IsFirstLater, IsLonger, IsUnderwayWithin, IsUnderwayWithRoom, IsRefuted, IsMet};
 
 use crate::lists::{
-    KeptLists, begins_with, copied_lists, lengthen, lengthen_wide, lists_with_room, no_lists,
-    push_turned, set_lists, set_opening, set_wide_lists, sizes, top_weight, variables, weight_at,
-    widen, with_row, with_turned,
+    KeptLists, begins_with, lengthen, lengthen_wide, no_lists, push, push_turned, put_copies,
+    reserve_seats, set_lists, set_opening, set_wide_lists, sizes, top_weight, variables, weight_at,
+    widen,
 };
 use mpc_frac::Frac;
 use mpc_linear::RowInt;
@@ -296,14 +297,11 @@ fn is_light(
     row: usize,
 ) -> Option<()>
     requires numbers { AreNumbers system.now numbers.now }
+    requires few { count system.now ≤ most_variables }
     requires row { row < height system.now }
     ensures { IfSome result (λ _. IsLightRow system.now numbers.now (weight_of lists.now from.product) from row) }
 {
     let width = system.unknowns();
-    let variables = width.checked_add(system.height())?;
-    if variables as u128 > MOST_VARIABLES {
-        return None;
-    }
     let scale = numbers.scales[width + row] as u128;
     let _ = small_product(from.greatest_den, scale)?;
     let _ = small_product(from.product, scale)?;
@@ -321,14 +319,11 @@ fn are_all_light(
     norm: u64,
 ) -> Option<()>
     requires numbers { AreNumbers system.now numbers.now }
+    requires few { count system.now ≤ most_variables }
     requires norm { system.now.width * numbers.now.most_entry ≤ norm }
     ensures { IfSome result (λ _. (i : ℕ) → i < height system.now → IsLightRow system.now numbers.now (weight_of lists.now from.product) from i) }
 {
     let width = system.unknowns();
-    let variables = width.checked_add(system.height())?;
-    if variables as u128 > MOST_VARIABLES {
-        return None;
-    }
     let scale = numbers.most_scale as u128;
     let _ = small_product(from.greatest_den, scale)?;
     let _ = small_product(from.product, scale)?;
@@ -349,7 +344,12 @@ fn room_before(
     ensures room { IfSome result (λ _. HasRoom system.now.width (2 ^ 62) numbers.now.a.now) }
     ensures before { IfSome result (λ _. HasRoomBefore system.now numbers.now (weight_of lists.now from.product) from first) }
 {
-    let norm = row_norm(system.unknowns(), numbers)?;
+    let width = system.unknowns();
+    let norm = row_norm(width, numbers)?;
+    let variables = width.checked_add(system.height())?;
+    if variables as u128 > MOST_VARIABLES {
+        return None;
+    }
     if from.product > i128::MAX as u128 {
         return None;
     }
@@ -636,8 +636,9 @@ fn kept_copy(
     ensures { IfOk result (λ r. r ≡ system.now) }
 {
     let own = system.copy_with_room(alloc, 0)?;
-    let lists = copied_lists(alloc, lists)?;
-    let last = kept_end(alloc, scales, lists, place, end)?;
+    let mut copies = no_lists(alloc);
+    put_copies(&mut copies, lists)?;
+    let last = kept_end(alloc, scales, copies, place, end)?;
     kept_run(alloc, own, last)
 }
 
@@ -683,9 +684,11 @@ impl KeptRun {
         requires { length row.now.a ≡ self.now.width }
         ensures { IfOk result (λ o. IfSome o (λ r. r ≡ lengthened self.now (row.now ∷ []))) }
     {
-        match with_row(alloc, &self.system, row)? {
-            Some(system) => self.kept_longer(alloc, work, system),
-            None => Ok(None),
+        let mut longer = self.system.copy_with_room(alloc, 1)?;
+        if push(&mut longer, row)? {
+            self.kept_longer(alloc, work, longer)
+        } else {
+            Ok(None)
         }
     }
 
@@ -700,9 +703,11 @@ impl KeptRun {
         requires { index < height self.now }
         ensures { IfOk result (λ o. IfSome o (λ r. r ≡ lengthened self.now (turned (row_at self.now index) ∷ []))) }
     {
-        match with_turned(alloc, &self.system, index)? {
-            Some(system) => self.kept_longer(alloc, work, system),
-            None => Ok(None),
+        let mut longer = self.system.copy_with_room(alloc, 1)?;
+        if push_turned(&mut longer, index)? {
+            self.kept_longer(alloc, work, longer)
+        } else {
+            Ok(None)
         }
     }
 
@@ -733,7 +738,8 @@ impl KeptRun {
         ensures { IfOk result (λ o. IfSome o (λ e. AreKept longer.now e.scales.items e.lists e.place e.end)) }
     {
         let seats = longer.unknowns().saturating_add(longer.height());
-        let mut lists = lists_with_room(alloc, &self.last().lists, seats)?;
+        let mut lists = no_lists(alloc);
+        reserve_seats(&mut lists, &self.last().lists, seats)?;
         let numbers = numbers_of(longer);
         match self.run_longer(&mut lists, work, longer, &numbers, true)? {
             Some((place, end)) => {
@@ -926,19 +932,26 @@ impl KeptRun {
         }
     }
 
-    /// Puts the system back into the workspace, without the rows behind this run's. Where these have more
+    /// Sets a longer system back to this run's; says whether it is that. Where the rows behind this run's have more
     /// than doubled its bounds, of which the limits of runs are formed, it is copied anew.
+    fn set_back(&self, longer: &mut WholeSystem) -> bool
+        requires { IsLonger self.now longer.old }
+        ensures { IsTrue result → longer.new ≡ self.now }
+    {
+        if are_near(&longer.numbers(), &self.system.numbers()) {
+            longer.truncate(self.system.height());
+            return true;
+        }
+        longer.set_to(&self.system).is_ok()
+    }
+
+    /// Puts the system back into the workspace, without the rows behind this run's.
     fn close(&self, work: &mut Workspace, mut longer: WholeSystem)
         requires { IsLonger self.now longer }
         ensures { IsOpenFor self.now work.new }
     {
-        if are_near(&longer.numbers(), &self.system.numbers()) {
-            longer.truncate(self.system.height());
-            work.system = Some(longer);
-            return;
-        }
         work.system = None;
-        if longer.set_to(&self.system).is_ok() {
+        if self.set_back(&mut longer) {
             work.system = Some(longer);
         }
     }

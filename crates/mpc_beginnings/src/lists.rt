@@ -136,30 +136,12 @@ fn push_sides(seats: &mut Vec<Seat>, height: usize, longer: usize) -> Result<(),
     Ok(())
 }
 
-/// Writes seats in place of others.
-fn put_seats(list: &mut Vec<Seat>, seats: &[Seat]) -> Result<(), AllocError>
-    ensures { OnOk result (list.new.items ≡ seats.now) }
+/// Writes other items in place of those of a list.
+fn put<T: Copy + Drop>(list: &mut Vec<T>, others: &Vec<T>) -> Result<(), AllocError>
+    ensures { OnOk result (list.new.items ≡ others.now.items) }
 {
     list.clear();
-    list.extend_from_slice(seats)?;
-    Ok(())
-}
-
-/// Writes numbers in place of others.
-fn put_numbers(list: &mut Vec<i64>, numbers: &[i64]) -> Result<(), AllocError>
-    ensures { OnOk result (list.new.items ≡ numbers.now) }
-{
-    list.clear();
-    list.extend_from_slice(numbers)?;
-    Ok(())
-}
-
-/// Writes numbers of 128 bits in place of others.
-fn put_wide(list: &mut Vec<i128>, numbers: &[i128]) -> Result<(), AllocError>
-    ensures { OnOk result (list.new.items ≡ numbers.now) }
-{
-    list.clear();
-    list.extend_from_slice(numbers)?;
+    list.extend_from_slice(others)?;
     Ok(())
 }
 
@@ -182,30 +164,12 @@ fn put_widened(list: &mut Vec<i128>, numbers: &[i64]) -> Result<(), AllocError>
     Ok(())
 }
 
-/// Writes weights in place of others.
-fn put_weights(list: &mut Vec<u128>, weights: &[u128]) -> Result<(), AllocError>
-    ensures { OnOk result (list.new.items ≡ weights.now) }
-{
-    list.clear();
-    list.extend_from_slice(weights)?;
-    Ok(())
-}
-
 /// Writes the same weight so many times in place of others.
 fn put_same_weights(list: &mut Vec<u128>, size: usize, weight: u128) -> Result<(), AllocError>
     ensures { OnOk result ((j : ℕ) → j < size → get_or list.new.items j 0 ≡ weight) }
 {
     list.clear();
     list.resize(size, weight)?;
-    Ok(())
-}
-
-/// Writes variables in place of others.
-fn put_variables(list: &mut Vec<usize>, nonbasic: &[usize]) -> Result<(), AllocError>
-    ensures { OnOk result (list.new.items ≡ nonbasic.now) }
-{
-    list.clear();
-    list.extend_from_slice(nonbasic)?;
     Ok(())
 }
 
@@ -231,19 +195,17 @@ pub(crate) fn no_lists(alloc: Global) -> KeptLists {
     }
 }
 
-/// Empty lists with room for so many seats, in the width that these have.
-pub(crate) fn lists_with_room(
-    alloc: Global,
+/// Makes room for so many seats, in the width that the other lists have.
+pub(crate) fn reserve_seats(
+    lists: &mut KeptLists,
     others: &KeptLists,
     seats: usize,
-) -> Result<KeptLists, AllocError> {
-    let mut lists = no_lists(alloc);
+) -> Result<(), AllocError> {
     if others.is_wide {
-        lists.wide.seats.reserve(seats)?;
+        lists.wide.seats.reserve(seats)
     } else {
-        lists.short.seats.reserve(seats)?;
+        lists.short.seats.reserve(seats)
     }
-    Ok(lists)
 }
 
 /// Writes the lists of the first position. The values of the unknowns are 0 there, since no side is
@@ -288,11 +250,11 @@ pub(crate) fn set_opening(
 fn put_short(lists: &mut RunLists, other: &RunLists) -> Result<(), AllocError>
     ensures { OnOk result (of_short lists.new ≡ of_short other.now) }
 {
-    put_seats(&mut lists.seats, &other.seats)?;
-    put_variables(&mut lists.nonbasic, &other.nonbasic)?;
-    put_numbers(&mut lists.numbers, &other.numbers)?;
-    put_numbers(&mut lists.firsts, &other.firsts)?;
-    put_numbers(&mut lists.seconds, &other.seconds)?;
+    put(&mut lists.seats, &other.seats)?;
+    put(&mut lists.nonbasic, &other.nonbasic)?;
+    put(&mut lists.numbers, &other.numbers)?;
+    put(&mut lists.firsts, &other.firsts)?;
+    put(&mut lists.seconds, &other.seconds)?;
     Ok(())
 }
 
@@ -301,12 +263,12 @@ fn put_wide_lists(lists: &mut WideLists, other: &WideLists) -> Result<(), AllocE
     ensures same { OnOk result (of_wide lists.new ≡ of_wide other.now) }
     ensures weights { OnOk result ((j : ℕ) → weights_of lists.new j ≡ weights_of other.now j) }
 {
-    put_seats(&mut lists.seats, &other.seats)?;
-    put_variables(&mut lists.nonbasic, &other.nonbasic)?;
-    put_wide(&mut lists.numbers, &other.numbers)?;
-    put_wide(&mut lists.firsts, &other.firsts)?;
-    put_wide(&mut lists.seconds, &other.seconds)?;
-    put_weights(&mut lists.weights, &other.weights)?;
+    put(&mut lists.seats, &other.seats)?;
+    put(&mut lists.nonbasic, &other.nonbasic)?;
+    put(&mut lists.numbers, &other.numbers)?;
+    put(&mut lists.firsts, &other.firsts)?;
+    put(&mut lists.seconds, &other.seconds)?;
+    put(&mut lists.weights, &other.weights)?;
     Ok(())
 }
 
@@ -319,8 +281,8 @@ fn put_widened_lists(
     ensures same { OnOk result (of_wide lists.new ≡ of_short other.now) }
     ensures weights { OnOk result ((j : ℕ) → j < length other.now.firsts.items → weights_of lists.new j ≡ weight) }
 {
-    put_seats(&mut lists.seats, &other.seats)?;
-    put_variables(&mut lists.nonbasic, &other.nonbasic)?;
+    put(&mut lists.seats, &other.seats)?;
+    put(&mut lists.nonbasic, &other.nonbasic)?;
     put_widened(&mut lists.numbers, &other.numbers)?;
     put_widened(&mut lists.firsts, &other.firsts)?;
     put_widened(&mut lists.seconds, &other.seconds)?;
@@ -343,7 +305,7 @@ pub(crate) fn widen(lists: &mut KeptLists, product: u128) -> Result<(), AllocErr
 }
 
 /// Writes other lists in place of these.
-fn put_copies(lists: &mut KeptLists, other: &KeptLists) -> Result<(), AllocError>
+pub(crate) fn put_copies(lists: &mut KeptLists, other: &KeptLists) -> Result<(), AllocError>
     ensures same { OnOk result (lists_of lists.new ≡ lists_of other.now) }
     ensures weights { OnOk result ((product j : ℕ) → weight_of lists.new product j ≡ weight_of other.now product j) }
     ensures small { OnOk result (HaveShortValues other.now → HaveShortValues lists.new) }
@@ -411,17 +373,6 @@ pub(crate) fn variables(lists: &KeptLists) -> usize
     lists.short.seats.len()
 }
 
-/// The same lists in memory of their own.
-pub(crate) fn copied_lists(alloc: Global, lists: &KeptLists) -> Result<KeptLists, AllocError>
-    ensures same { IfOk result (λ t. lists_of t ≡ lists_of lists.now) }
-    ensures weights { IfOk result (λ t. (product j : ℕ) → weight_of t product j ≡ weight_of lists.now product j) }
-    ensures small { IfOk result (λ t. HaveShortValues lists.now → HaveShortValues t) }
-{
-    let mut own = no_lists(alloc);
-    put_copies(&mut own, lists)?;
-    Ok(own)
-}
-
 /// Writes other lists in place of these, and the seats of further sides behind theirs, in the rows from
 /// the height of the system on.
 pub(crate) fn set_lists(
@@ -470,21 +421,13 @@ pub(crate) fn begins_with(scales: &[u64], first: &[u64]) -> bool
     &scales[..first.len()] == first
 }
 
-/// The system with a row more, in lists of its own, if the row is whole times a small scale.
-pub(crate) fn with_row(
-    alloc: Global,
-    system: &WholeSystem,
-    row: &Row,
-) -> Result<Option<WholeSystem>, AllocError>
-    requires { length row.now.a ≡ system.now.width }
-    ensures { IfOk result (λ o. IfSome o (λ s. s ≡ lengthened system.now (row.now ∷ []))) }
+/// Puts the row behind the others, if it is whole times a small scale; says whether it stands there.
+pub(crate) fn push(system: &mut WholeSystem, row: &Row) -> Result<bool, AllocError>
+    requires { length row.now.a ≡ system.old.width }
+    ensures { IfOk result (λ done. IsTrue done → system.new ≡ lengthened system.old (row.now ∷ [])) }
 {
-    let mut longer = system.copy_with_room(alloc, 1)?;
-    if longer.push(row)? {
-        Ok(Some(longer))
-    } else {
-        Ok(None)
-    }
+    let done = system.push(row)?;
+    Ok(done)
 }
 
 /// Puts the row at the index, from 0, the other way round behind the others; says whether it stands there.
@@ -494,21 +437,4 @@ pub(crate) fn push_turned(system: &mut WholeSystem, index: usize) -> Result<bool
 {
     let done = system.push_turned(index)?;
     Ok(done)
-}
-
-/// The system with its row at the index, from 0, the other way round behind its own, in lists of its own.
-pub(crate) fn with_turned(
-    alloc: Global,
-    system: &WholeSystem,
-    index: usize,
-) -> Result<Option<WholeSystem>, AllocError>
-    requires { index < height system.now }
-    ensures { IfOk result (λ o. IfSome o (λ s. s ≡ lengthened system.now (turned (row_at system.now index) ∷ []))) }
-{
-    let mut longer = system.copy_with_room(alloc, 1)?;
-    if longer.push_turned(index)? {
-        Ok(Some(longer))
-    } else {
-        Ok(None)
-    }
 }

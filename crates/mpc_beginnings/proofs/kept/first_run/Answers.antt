@@ -16,3 +16,15 @@ pub judge_on-requires-clause-start : goal.judge_on-requires-clause-start
 judge_on-requires-clause-start c =
     opening_with_room c.position_theorems.ensures c.args.system.now c.args.numbers.now c.requires.numbers (lists_of c.set_opening-2.new.lists) c.in_ok-set_opening-2.ensures.opening c.unknowns-width.result c.unknowns-width.ensures
     (weight_of c.set_opening-2.new.lists 0) c.height-height.result
+
+pub run_on-requires-clause-numbers : goal.run_on-requires-clause-numbers
+run_on-requires-clause-numbers c = c.requires.numbers
+
+pub run_on-requires-clause-short : goal.run_on-requires-clause-short
+run_on-requires-clause-short c = c.in_ok-set_opening.ensures.small
+
+pub judge_on-requires-clause-numbers : goal.judge_on-requires-clause-numbers
+judge_on-requires-clause-numbers c = c.requires.numbers
+
+pub returns : goal.returns
+returns c = c.judge_on.ensures

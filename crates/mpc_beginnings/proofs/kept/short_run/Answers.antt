@@ -27,3 +27,15 @@ pub whole_run-requires-clause-underway : goal.whole_run-requires-clause-underway
 whole_run-requires-clause-underway c =
     rw (c.in_ok-start.ensures.den, c.in_ok-start.ensures.greatest, c.in_ok-start.ensures.greatest_den, c.in_ok-start.ensures.first)
     (c.requires.start.within c.args.most c.requires.limit.bounds c.requires.limit.kept_small c.requires.limit.kept_den_small)
+
+pub whole_run-requires-clause-row_size : goal.whole_run-requires-clause-row_size
+whole_run-requires-clause-row_size c = c.requires.row_size
+
+pub returns-clause-lists : goal.returns-clause-lists
+returns-clause-lists c = rw (← c.wide_place.ensures.own) c.in_ok-place.ensures.lists
+
+pub returns-clause-small : goal.returns-clause-small
+returns-clause-small c = (c.in_ok-place.ensures.held.first_small, c.in_ok-place.ensures.held.second_small)
+
+pub returns-clause-end : goal.returns-clause-end
+returns-clause-end c = rw (← c.wide_place.ensures.den, ← c.wide_place.ensures.greatest, ← c.wide_place.ensures.greatest_den) c.in_ok-place.ensures.end

@@ -1,11 +1,10 @@
-use Rattle.std.proofs.Common.{◌∙◌}
 use Rattle.mpc_beginnings.proofs.lists.put_short.Goals as goal
 
 pub returns : goal.returns
 returns c = λ i. record {
-  seats = (c.in_ok-put_seats.ensures ∙ c.deref.ensures.value) i;
-  nonbasic = (c.in_ok-put_variables.ensures ∙ c.deref-2.ensures.value) i;
-  numbers = (c.in_ok-put_numbers.ensures ∙ c.deref-3.ensures.value) i;
-  firsts = (c.in_ok-put_numbers-2.ensures ∙ c.deref-4.ensures.value) i;
-  seconds = (c.in_ok-put_numbers-3.ensures ∙ c.deref-5.ensures.value) i;
+  seats = c.in_ok-put.ensures i;
+  nonbasic = c.in_ok-put-2.ensures i;
+  numbers = c.in_ok-put-3.ensures i;
+  firsts = c.in_ok-put-4.ensures i;
+  seconds = c.in_ok-put-5.ensures i;
 }

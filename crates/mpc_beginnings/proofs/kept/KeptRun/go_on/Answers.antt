@@ -89,3 +89,12 @@ judge_on-requires-clause-start c =
 
 pub run_on-requires-clause-short : goal.run_on-requires-clause-short
 run_on-requires-clause-short c = c.in_ok-set_lists.ensures.small c.last-last.ensures.short
+
+pub run_on-requires-clause-numbers : goal.run_on-requires-clause-numbers
+run_on-requires-clause-numbers c = c.requires.numbers
+
+pub judge_on-requires-clause-numbers : goal.judge_on-requires-clause-numbers
+judge_on-requires-clause-numbers c = c.requires.numbers
+
+pub returns : goal.returns
+returns c = c.judge_on.ensures
