@@ -33,6 +33,14 @@ two_sides : (r l : ℕ) → (r ≡ l → ⊥) → (r < l) ⊎ (l ≤ r) → (r <
 two_sides r l k (inl h) = inl h
 two_sides r l k (inr h) = inr (omega arith)
 
+-- no place is left of the row
+pub all_past : (q r w c : ℕ) → c ≤ w → (q < r) ⊎ (r + w ≤ q) → (q < r) ⊎ (r + c ≤ q)
+all_past q r w c h (inl k) = inl k
+all_past q r w c h (inr k) = inr (omega arith)
+
+pub lt-le-trans : {a b c : ℕ} → a < b → b ≤ c → a < c
+lt-le-trans h k = omega arith
+
 -- ---- one entry more of a row
 module _ (w : ℕ) (old cur : List ℚ) (r c here : ℕ) (v : ℚ) (e : here ≡ r * w + c) (b : here < length cur) where
   pub set_done : (f : ℕ → ℚ) → ((z : ℕ) → z < c → cell_at w cur r z ≡ f z) → v ≡ f c → (z : ℕ) → z < c + 1 → cell_at w (set cur here v) r z ≡ f z

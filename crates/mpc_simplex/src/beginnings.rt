@@ -6,6 +6,7 @@ ghost use Rattle.mpc_rows.specs.LawRows.{broken_row};
 ghost use Rattle.mpc_rows.specs.SetRuns.{turned};
 ghost use Rattle.mpc_rows.specs.Refutation.{Refutes};
 ghost use Rattle.mpc_rows.specs.RunWidth.{RunFits};
+ghost use Rattle.mpc_runs.specs.RunEnd.{IsEnd};
 ghost use Rattle.mpc_simplex.specs.Answer.{IfPoint, IfRefuted, HasPoint, IsRunEnd, EndsRefuted};
 ghost use Rattle.mpc_simplex.specs.Broken.{IfBroken, IfUnbroken};
 ghost use Rattle.mpc_beginnings.specs.Beginnings.{lengthened};
@@ -70,7 +71,20 @@ impl Beginning {
         ensures { IfOk result (λ o. IfSome o (λ b. b ≡ lengthened self.now (row.now ∷ []))) }
     {
         let mut work = Workspace::new(alloc);
-        match self.run.extend(alloc, &mut work, row)? {
+        self.extend_in(alloc, &mut work, row)
+    }
+
+    /// The same in lists that the workspace has.
+    fn extend_in(
+        &self,
+        alloc: Global,
+        work: &mut Workspace,
+        row: &Row,
+    ) -> Result<Option<Beginning>, NoMemory>
+        requires { length row.now.a ≡ self.now.width }
+        ensures { IfOk result (λ o. IfSome o (λ b. b ≡ lengthened self.now (row.now ∷ []))) }
+    {
+        match self.run.extend(alloc, work, row)? {
             Some(run) => Ok(Some(Beginning { run })),
             None => Ok(None),
         }
@@ -121,6 +135,15 @@ impl Beginning {
         self.run.has_point()
     }
 
+    /// What the run ends with. Nothing where a fraction is too wide.
+    fn end(&self, alloc: Global) -> Result<Option<End>, NoMemory>
+        ensures { IfOk result (λ o. IfSome o (λ d. IsEnd self.now d)) }
+    {
+        let mut work = Workspace::new(alloc);
+        let end = self.run.end(alloc, &mut work)?;
+        Ok(end)
+    }
+
     /// What the run's end says of the system, as `decide` answers it. Nothing where whole numbers
     /// don't serve for it.
     pub fn decision(&self, alloc: Global) -> Result<Option<Decision>, NoMemory>
@@ -133,8 +156,7 @@ impl Beginning {
     {
         system_theorems();
         let _ = self.run.has_point();
-        let mut work = Workspace::new(alloc);
-        match self.run.end(alloc, &mut work)? {
+        match self.end(alloc)? {
             Some(End::Point(point)) => Ok(Some(Decision::Point(point))),
             Some(End::Refuted(multipliers)) => Ok(Some(Decision::Refuted(multipliers))),
             None => Ok(None),

@@ -1,4 +1,4 @@
-use Rattle.std.proofs.Common.{◌≡◌, ◌∙◌, ◌<◌, ℕ, true, false, List, sym, ap, subst, length, Some, None, rules}
+use Rattle.std.proofs.Common.{◌≡◌, ◌∙◌, ◌<◌, ℕ, true, false, List, sym, ap, subst, subst₂, length, Some, None, rules}
 use Rattle.std.proofs.lemmas.Result.{MatchResult-from_err}
 use Rattle.std.proofs.lemmas.List.{with_items_is}
 use Rattle.mpc_exact.specs.Rational.{ℚ}
@@ -16,6 +16,9 @@ use Rattle.mpc_runs.proofs.Steps.{goes_so, turns_so, pivot_seated, pivot_some, p
 use Rattle.mpc_runs.proofs.Loop.{Going, going_opening, wide_exchange, end_fits, going_next, from_lists, exchanged_as, fits_as, fits_as_back}
 use Rattle.mpc_simplex.proofs.run.run.Goals as goal
 use Rattle.mpc_simplex.proofs.run.run.Goals.{After-deref-in-steps, In_ok-out, In-Some-entering, After-column_of-column, In_ok-exchange}
+
+table_as : {s : LinearSystem} {n : ℕ} {seats t : List Seat} {entries u : List ℚ} → t ≡ seats → u ≡ entries → IsTable s n seats entries → IsTable s n t u
+table_as {s = s} {n = n} e f h = subst₂ (IsTable s n) (sym e) (sym f) h
 
 pub steps-init : goal.steps-init
 steps-init c = record {
@@ -225,3 +228,27 @@ steps-preserved c =
       values = c.steps.invariant.values;
       list = c.steps.invariant.list;
     }
+
+pub leaving-requires-clause-table : goal.leaving-requires-clause-table
+leaving-requires-clause-table c = table_as c.deref.ensures.value c.deref-in-steps.ensures.value c.steps.invariant.table
+
+pub point-requires-clause-table : goal.point-requires-clause-table
+point-requires-clause-table c = table_as c.deref-in_default.ensures.value c.deref-in_default-2.ensures.value c.steps.invariant.table
+
+pub entering-requires-clause-table : goal.entering-requires-clause-table
+entering-requires-clause-table c = table_as c.deref-in-steps-2.ensures.value c.deref-in-steps-3.ensures.value c.steps.invariant.table
+
+pub multipliers-requires-clause-table : goal.multipliers-requires-clause-table
+multipliers-requires-clause-table c = table_as c.deref-in_default-entering.ensures.value c.deref-in_default-entering-2.ensures.value c.steps.invariant.table
+
+pub leaving-requires-clause-room : goal.leaving-requires-clause-room
+leaving-requires-clause-room c = c.deref_mut.ensures.len ∙ c.steps.sides.ok.0 ∙ c.steps.invariant.sides
+
+pub point-requires-clause-room : goal.point-requires-clause-room
+point-requires-clause-room c = c.deref_mut-in_default.ensures.len ∙ c.steps.values.ok.0 ∙ c.steps.invariant.values
+
+pub multipliers-requires-clause-room : goal.multipliers-requires-clause-room
+multipliers-requires-clause-room c = c.deref_mut-in_default-entering.ensures.len ∙ c.steps.list.ok.0 ∙ c.steps.invariant.list
+
+pub exchange-requires-clause-room : goal.exchange-requires-clause-room
+exchange-requires-clause-room c = c.deref_mut-in-steps-2.ensures.len ∙ c.steps.row.ok.0 ∙ c.steps.invariant.row ∙ sym c.unknowns-width.ensures

@@ -1,4 +1,4 @@
-use Rattle.std.proofs.Common.{◌≡◌, ℕ, ◌∙◌, ◌≤◌, sym, ap, arith, false, get_or, refl, rules}
+use Rattle.std.proofs.Common.{◌≡◌, ℕ, ◌∙◌, ◌<◌, ◌≤◌, subst, sym, ap, arith, false, get_or, refl, rules}
 use Rattle.std.proofs.lemmas.Result.{MatchResult-from_err}
 use Rattle.mpc_exact.specs.Rational.{◌*ℚ◌}
 use Rattle.mpc_space.specs.Total.{total}
@@ -89,3 +89,20 @@ returns-clause-second c =
     let d = (goal.at.returns-clause-second c).After-loop-side in
     c.loop-side.invariant.second ∙ ap (λ m. total m (second_terms c.args.system.now (position_of c.args.system.now.width c.args.seats.now c.args.entries.now) c.args.basic)) (all d)
     ∙ value_second c.args.system.now (position_of c.args.system.now.width c.args.seats.now c.args.entries.now) c.args.basic c.args.variables (whole d)
+
+pub coefficient-factor-requires-clause-y_below : goal.coefficient-factor-requires-clause-y_below
+coefficient-factor-requires-clause-y_below c = c.requires.sides.below c.loop-side.side-index c.loop-side-test.true
+
+pub coefficient-factor-requires-clause-y_free : goal.coefficient-factor-requires-clause-y_free
+coefficient-factor-requires-clause-y_free c = c.requires.sides.nonbasic c.loop-side.side-index c.loop-side-test.true
+
+pub rest-stand-requires : goal.rest-stand-requires
+rest-stand-requires c = subst (λ n. get_or c.args.sides.now c.loop-side.side-index 0 < n) c.requires.table.seated.count (c.requires.sides.below c.loop-side.side-index c.loop-side-test.true)
+
+pub coefficient-factor-requires-clause-table : goal.coefficient-factor-requires-clause-table
+coefficient-factor-requires-clause-table c = c.requires.table
+
+pub returns-clause-wide : goal.returns-clause-wide
+returns-clause-wide c =
+    let d = (goal.at.returns-clause-wide c).After-loop-side in
+    record { terms = λ y h b. c.loop-side.invariant.fits y (subst (λ m. y < m) (sym (all d)) h) b }

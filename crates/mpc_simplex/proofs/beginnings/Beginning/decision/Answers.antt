@@ -1,4 +1,4 @@
-use Rattle.std.proofs.Common.{◌≡◌, rules, IfSome, Some, subst}
+use Rattle.std.proofs.Common.{◌≡◌, rules, IfSome, Some, sym, subst}
 use Rattle.mpc_rows.specs.LinearSystem.{LinearSystem, IsPairPoint}
 use Rattle.mpc_rows.specs.Refutation.{Refutes}
 use Rattle.mpc_runs.specs.declared.End.TheVariants.{Point, Refuted}
@@ -11,12 +11,12 @@ use Rattle.mpc_simplex.proofs.beginnings.Beginning.decision.Goals.{In-Some-Point
 point_ends : (c : In-Some-Point) → EndsWithPoint c.self.inside.run c.in-Some-Point.point
 point_ends c =
     let q : c.in_ok-point.field-0 ≡ Some (Point c.in-Some-Point.point) = first_of (cc, search rules) in
-    subst (λ o. IfSome o (λ d. IsEnd c.self.inside.run d)) q c.in_ok-point.ensures
+    subst (λ o. IfSome o (λ d. IsEnd c.self.inside.run d)) q (subst (λ (t : LinearSystem). IfSome c.in_ok-point.field-0 (λ d. IsEnd t d)) (sym c.self.view_is) c.in_ok-point.ensures)
 
 refuted_ends : (c : In-Some-Refuted) → EndsRefuted c.self.inside.run c.in-Some-Refuted.multipliers
 refuted_ends c =
     let q : c.in_ok-point.field-0 ≡ Some (Refuted c.in-Some-Refuted.multipliers) = first_of (cc, search rules) in
-    subst (λ o. IfSome o (λ d. IsEnd c.self.inside.run d)) q c.in_ok-point.ensures
+    subst (λ o. IfSome o (λ d. IsEnd c.self.inside.run d)) q (subst (λ (t : LinearSystem). IfSome c.in_ok-point.field-0 (λ d. IsEnd t d)) (sym c.self.view_is) c.in_ok-point.ensures)
 
 pub returns-in-Some-Point-clause-point : goal.returns-in-Some-Point-clause-point
 returns-in-Some-Point-clause-point c =

@@ -3,7 +3,7 @@ use Rattle.mpc_rows.specs.declared.systems.Row.{Row}
 use Rattle.mpc_rows.specs.LinearSystem.{LinearSystem}
 use Rattle.mpc_beginnings.specs.Beginnings.{lengthened}
 use Rattle.mpc_simplex.proofs.KeptWidths.{same_widths, one_width}
-use Rattle.mpc_simplex.proofs.beginnings.Beginning.extend.Goals as goal
+use Rattle.mpc_simplex.proofs.beginnings.Beginning.extend_in.Goals as goal
 
 pub invariant_of-result : goal.invariant_of-result
 invariant_of-result c =
