@@ -48,3 +48,12 @@ module _ (turns : List TurnId) (programs : List Qp) (firsts : List Post) (before
   pub given_more : (posts new : List Post) (post : Post) → IsPost (before + 1) t q post → new ≡ posts ++ post ∷ [] → AtEach (IsPost (before + 1)) (take k turns) (take k programs) posts → AtEach (IsPost (before + 1)) (take (k + 1) turns) (take (k + 1) programs) new
   given_more posts new post here is b =
       each_more (IsPost (before + 1)) (take k turns) (take (k + 1) turns) programs posts new k t q post (take_more turns k t l ∙ ap (λ (x : TurnId). take k turns ++ x ∷ []) (sym turn_is)) is within program_is here b
+
+-- all are
+pub split_all : (turns : List TurnId) (programs : List Qp) (firsts : List Post) (before k : ℕ) → length turns ≤ k → AtEachPlace (IsSplit before k) turns programs firsts → AtEach (IsOpening (before + 1)) turns programs firsts
+split_all turns programs firsts before k all a = record { turns_are = a.turns_are; posts_are = a.posts_are; each = λ j t q p l. (a.each j t q p l).0 (let m = a.turns_are in omega (arith, l, m, all)) }
+
+pub given_all : (turns : List TurnId) (programs : List Qp) (posts : List Post) (number k : ℕ) → length turns ≤ k → length turns ≡ length programs → AtEach (IsPost number) (take k turns) (take k programs) posts → AtEach (IsPost number) turns programs posts
+given_all turns programs posts number k all same a =
+    subst (λ (ts : List TurnId). AtEach (IsPost number) ts programs posts) (take_all k turns all)
+    (subst (λ (qs : List Qp). AtEach (IsPost number) (take k turns) qs posts) (take_all k programs (omega (arith, all, same))) a)

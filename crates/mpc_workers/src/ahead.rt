@@ -21,9 +21,11 @@ use std::marker::Model;
 /// No place of a candidate.
 pub const NOWHERE: usize = usize::MAX;
 
-/// Lets an outlook go. What it holds is taken apart here alone, since each function that did so would be dear
-/// to prove.
-pub fn discard(_outlook: Option<Outlook>) {}
+/// Lets an outlook go, by a call of `drop`. At the end of a function all that it holds would be taken apart
+/// in place, which is dear to prove.
+pub fn discard(outlook: Option<Outlook>) {
+    drop(outlook);
+}
 
 /// A verdict, and the place of its set among all candidates, from 0.
 #[derive(Drop)]
@@ -48,7 +50,7 @@ fn forget_before(known: &mut VecDeque<Known>, place: usize)
         if first_place(known) >= place {
             return;
         }
-        let _ = known.pop_front();
+        drop(known.pop_front());
     }
 }
 
@@ -64,10 +66,10 @@ fn recall(known: &mut VecDeque<Known>, place: usize, set: ActiveSet) -> Option<J
     }
     let Known { place: _, judged } = known.pop_front()?;
     if judged.set() == set {
-        Some(judged)
-    } else {
-        None
+        return Some(judged);
     }
+    drop(judged);
+    None
 }
 
 /// No candidate.

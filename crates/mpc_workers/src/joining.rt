@@ -108,6 +108,8 @@ fn close_one(turn: Turn, first: Post, qp: &Qp, workers: u32) -> Result<Registry,
         saw_end,
     } = first;
     if gave_up || !saw_end {
+        drop(pass);
+        drop(turn);
         return Err(NoMemory);
     }
     let mut registry = turn.close(pass);

@@ -27,9 +27,11 @@ use mpc_rows::Qp;
 pub use pool::{WorkError, enumerate, enumerate_each};
 use std::alloc::Global;
 
-/// Lets an examiner go. What it holds is taken apart here alone, since each function that did so would be
-/// dear to prove.
-fn discard(_examiner: Examiner) {}
+/// Lets an examiner go, by a call of `drop`. At the end of a function all that it holds would be taken
+/// apart in place, which is dear to prove.
+fn discard(examiner: Examiner) {
+    drop(examiner);
+}
 
 /// Examines a claimed set, passes the gate and delivers the verdict. Without memory the set is
 /// given up.
@@ -112,6 +114,9 @@ pub fn enumerate_alone<G: Gate>(alloc: Global, qp: &Qp, gate: &G) -> Result<Regi
     ensures { IfOk result (λ registry. IsDoneAlone qp.now registry) }
 {
     let mut registry = Registry::begin(alloc, qp)?;
-    examine_all(alloc, qp, &mut registry, gate)?;
+    let Ok(()) = examine_all(alloc, qp, &mut registry, gate) else {
+        drop(registry);
+        return Err(NoMemory);
+    };
     Ok(registry)
 }

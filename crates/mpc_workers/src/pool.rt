@@ -102,7 +102,11 @@ pub fn enumerate_each<T: Threads + Wait + Sync, G: Gate + Sync>(
         return Err(WorkError::BadWorkers);
     }
     let Opened { turns, mut firsts } = open_turns(alloc, programs)?;
-    work_through(rt, alloc, &turns, programs, &mut firsts, workers, gate)?;
+    let Ok(()) = work_through(rt, alloc, &turns, programs, &mut firsts, workers, gate) else {
+        drop(turns);
+        drop(firsts);
+        return Err(WorkError::NoMemory);
+    };
     match close_all(alloc, turns, firsts, programs, workers) {
         Ok(registries) => Ok(registries),
         Err(_) => Err(WorkError::NoMemory),

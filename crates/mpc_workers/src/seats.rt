@@ -54,6 +54,7 @@ fn open_turn(alloc: Global, qp: &Qp, opened: &mut Opened) -> Result<(), NoMemory
     let registry = Registry::begin(alloc, qp)?;
     let (turn, first) = Turn::over(alloc, registry)?;
     let Ok(()) = opened.turns.push(turn) else {
+        drop(first);
         return Err(NoMemory);
     };
     let Ok(()) = opened.firsts.push(post_of(first)) else {

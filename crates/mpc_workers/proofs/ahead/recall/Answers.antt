@@ -12,5 +12,5 @@ returns-then-eq-clause-right c = λ qp a.
     subst (λ (s : List ℕ). IsRight qp s c.in_ok-judged.field-0.judged.verdict) (sym c.set.ensures ∙ pointwise_true c.set.result c.args.set (sym c.eq.ensures ∙ c.if-eq.true))
     (first_right qp c.forget_before.new.known.items c.pop_front.new.self.items c.in_ok-judged.field-0 c.in_ok-judged.ensures.items (c.forget_before.ensures qp a))
 
-pub returns-else-eq-clause-known : goal.returns-else-eq-clause-known
-returns-else-eq-clause-known c = stay_popped c.args.known.now.items c.forget_before.new.known.items _ c.forget_before.ensures c.pop_front.ensures.rest
+pub returns-clause-known : goal.returns-clause-known
+returns-clause-known c = stay_popped c.args.known.now.items c.forget_before.new.known.items _ c.forget_before.ensures c.pop_front.ensures.rest
