@@ -1,16 +1,17 @@
 -- What a point of the box that meets the rows of a law, or that there is none, tells of the set.
-use Rattle.std.proofs.Common.{◌≡◌, ℕ, List, Bool, true, false, Option, Some, IfSome, IsTrue, ◌↔◌, refl, inr, subst}
+use Rattle.std.proofs.Common.{◌≡◌, ℕ, List, Bool, true, false, Option, Some, IfSome, IsTrue, ◌↔◌, refl, inl, inr, subst}
 use Rattle.mpc_space.specs.Matrix.{height}
 use Rattle.mpc_linear.specs.declared.integers.RowInt.{RowInt}
 use Rattle.mpc_rows.specs.declared.programs.Qp.{Qp}
 use Rattle.mpc_rows.specs.declared.laws.Law.{Law}
-use Rattle.mpc_rows.specs.declared.verdicts.Verdict.TheVariants.{Hollow, Region, Wide}
-use Rattle.mpc_rows.specs.declared.places.Place.TheVariants.{Region as RegionRun}
+use Rattle.mpc_rows.specs.declared.verdicts.Verdict.TheVariants.{Unreachable, Hollow, Region, Wide}
+use Rattle.mpc_rows.specs.declared.places.Place.TheVariants.{Reach, Region as RegionRun}
 use Rattle.mpc_rows.specs.RunWidth.{RunFits}
+use Rattle.mpc_rows.specs.ActiveSets.{IsIndependentSet, IsReachable}
 use Rattle.mpc_rows.specs.Candidates.{CanGrow}
 use Rattle.mpc_rows.specs.Laws.{IsLaw, HasRegion}
 use Rattle.mpc_rows.specs.LawRows.{AreLawRows}
-use Rattle.mpc_rows.specs.SetRuns.{region_system, LawRowsFit, RegionFits}
+use Rattle.mpc_rows.specs.SetRuns.{reach_system, region_system, LawFits, LawRowsFit, RegionFits}
 use Rattle.mpc_rows.specs.Verdicts.{IsRight, ReachFits, AllFit}
 use Rattle.mpc_rows.specs.LawTheorems.{LawTheorems}
 use Rattle.mpc_rows.specs.RegionTheorems.{RegionTheorems}
@@ -18,6 +19,17 @@ use Rattle.mpc_simplex.specs.Answer.{HasPoint}
 
 not_both : (b : Bool) → b ≡ true → b ≡ false → ⊥
 not_both b e f = cc
+
+-- by the run for the states that reach an independent set
+module _ (qp : Qp) (s : List ℕ) (independent : IsIndependentSet qp s) (fits : LawFits qp s) where
+  pub reached : (b : Bool) → IsTrue b ↔ IsReachable qp s → b ≡ true → CanGrow qp s
+  reached b answer e = record { independent = independent; reachable = answer.0 e }
+
+  pub not_reached : (b : Bool) → IsTrue b ↔ IsReachable qp s → RunFits (reach_system qp s) → b ≡ false → IsRight qp s Unreachable
+  not_reached b answer reach e = ((independent, λ r. not_both b (answer.1 r) e), record { law = fits; reach = reach })
+
+  pub reach_wide : ¬ RunFits (reach_system qp s) → IsRight qp s (Wide (Reach s))
+  reach_wide unfit = inr (inl (refl, fits, independent, unfit))
 
 -- by a run of its own for the region
 module _ (qp : Qp) (law : Law) (is_law : IsLaw qp law) (grows : CanGrow qp law.set) (reach_fits : ReachFits qp law.set) (rows_fit : LawRowsFit qp law (height qp.g)) where

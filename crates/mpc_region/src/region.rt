@@ -102,7 +102,11 @@ pub fn rows_meet_box(
     ensures fits { IfOk result (λ o. IfSome o (λ _. RunFits (region_system qp.now rows.now))) }
 {
     match WholeSystem::of_rows(alloc, qp.counts.len() as u32, rows)? {
-        Some(whole) => meets_box(alloc, qp, kept, &whole),
+        Some(whole) => {
+            let met = meets_box(alloc, qp, kept, &whole);
+            drop(whole);
+            met
+        }
         None => Ok(None),
     }
 }

@@ -103,7 +103,11 @@ fn by_law(alloc: Global, qp: &Qp, kept: &mut Kept, law: Law) -> Result<Verdict, 
     ensures right { IfOk result (IsRight qp.now law.set) }
 {
     match law_rows(alloc, qp, &law) {
-        Ok(rows) => by_region(alloc, qp, kept, law, &rows),
+        Ok(rows) => {
+            let verdict = by_region(alloc, qp, kept, law, &rows);
+            drop(rows);
+            verdict
+        }
         Err(LinearError::Wide(i)) => Ok(Verdict::Wide(Place::Border(law.set, i))),
         Err(LinearError::NoMemory) => Err(NoMemory),
     }
