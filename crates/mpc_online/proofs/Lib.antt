@@ -33,3 +33,4 @@ pub mod WholeMoves
 pub mod WholePoints
 pub mod SmallSums
 pub mod Openings
+pub mod EvenRows

@@ -14,7 +14,6 @@ use Rattle.mpc_online.specs.StateRows.{level, side, IsViolated}
 use Rattle.mpc_online.specs.Widths.{TestFits}
 use Rattle.mpc_wholes.specs.Wholes.{IsOver}
 use Rattle.mpc_online.specs.Wholes.{AreRowsOver, entries_of}
-use Rattle.mpc_online.proofs.Filled.{entry_read}
 use Rattle.mpc_online.proofs.WholeMoves.{first_over}
 
 module _ (p : Point) (w : Wholes) (count : ℕ) (is : p ≡ Whole w count) where
@@ -56,10 +55,7 @@ module _ (qp : Qp) (i : ℕ) (from : 1 ≤ i) (to : i ≤ height qp.g) where
       pub row_and_point : (P : List ℚ → List ℚ → Type 0) → ((xs ys : List ℚ) → IsOver xs row → IsOver ys w → length xs ≡ count → length ys ≡ count → P xs ys) → P (row_of qp.g.rows i) (entries_of p)
       row_and_point P h = h (row_of qp.g.rows i) (entries_of p) row_over (whole_over p w count is p_few) (row_size ∙ sym p_size ∙ whole_size p w count is) (whole_size p w count is)
 
-  module _ (b : List ℚ) (s : ℚ) (b_size : length b ≡ height qp.g) (s_is : s ≡ get_or b (i - 1) s) (z : List ℚ) where
-    side_is : s ≡ side b i
-    side_is = entry_read b (i - 1) s (let l = within in omega (arith, l, b_size)) s_is
-
+  module _ (b : List ℚ) (s : ℚ) (side_is : s ≡ side b i) (z : List ℚ) where
     pub test_fits_whole : DotFits (row_of qp.g.rows i) z × FitsSum (level qp z i) (neg_ℚ s) → TestFits qp b z i
     test_fits_whole f = record { product = f.0; difference = subst (λ (x : ℚ). FitsSum (level qp z i) (neg_ℚ x)) side_is f.1 }
 

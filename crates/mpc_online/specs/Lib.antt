@@ -7,4 +7,6 @@ pub mod Standing
 pub mod Answers
 pub mod Wholes
 pub mod Openings
+pub mod Sizes
+pub mod Evens
 pub mod Shared

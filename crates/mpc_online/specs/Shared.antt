@@ -14,6 +14,7 @@ use Rattle.mpc_online.specs.Widths.{EliminationFits}
 use Rattle.mpc_wholes.specs.Wholes.{IsOver}
 use Rattle.mpc_online.specs.Wholes.{AreRowsOver}
 use Rattle.mpc_online.specs.Openings.{IsOpeningOf}
+use Rattle.mpc_online.specs.Evens.{AreEvenRows}
 use Rattle.mpc_online.specs.declared.prepared.Direction.{Direction}
 use Rattle.mpc_online.specs.declared.prepared.KeptDirection.{KeptDirection}
 use Rattle.mpc_online.specs.declared.prepared.Prepared.{Prepared}
@@ -65,6 +66,7 @@ pub record IsKeptAt (s : List ℕ) (r : ℕ) (kept : List KeptDirection) (k : �
 pub record IsPreparedFor (qp : Qp) (p : Prepared) : Type 0 where
   pub rows : AreRowsOver qp.g p.rows.items
   pub sides : AreRowsOver qp.w p.sides.items
+  pub even : IfSome p.even (AreEvenRows qp)
   pub costs : AreRowsOver qp.f p.costs.items
   pub kept : IfSome p.kept (IsKeptOf qp)
   pub opening : IfSome p.opening (IsOpeningOf qp)

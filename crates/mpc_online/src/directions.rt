@@ -15,6 +15,7 @@ ghost use Rattle.mpc_online.specs.Answers.{IfStopWide};
 ghost use Rattle.mpc_online.specs.declared.solutions.Stop.TheVariants.{NoMemory as no_memory};
 ghost use Rattle.mpc_online.specs.Shared.{IsKeptOf, IsSlopeOf, IsKeptDirection, IsKeptAt, IsPreparedFor};
 
+use crate::evens::even_rows;
 use crate::matrices::step_right;
 use crate::opening::opening_of;
 use crate::prepared::{Direction, KeptDirection, Prepared};
@@ -41,11 +42,13 @@ pub fn prepared_with(alloc: Global, qp: &Qp, kept: Option<Kept>) -> Result<Prepa
     let rows = whole_rows(alloc, &qp.g, 1)?;
     let sides = whole_rows(alloc, &qp.w, 1)?;
     let costs = whole_rows(alloc, &qp.f, 1)?;
+    let even = even_rows(alloc, qp);
     let opening = opening_of(alloc, qp, &kept)?;
     Ok(Prepared {
         rows,
         sides,
         costs,
+        even,
         kept,
         opening,
         directions: Vec::new(alloc),

@@ -16,6 +16,7 @@ ghost use Rattle.mpc_online.specs.Answers.{IfBest, IfRefuted, IfWide};
 
 mod counts;
 mod directions;
+mod evens;
 mod matrices;
 mod moves;
 mod numbers;
@@ -25,6 +26,7 @@ mod prepared;
 mod refuting;
 mod run;
 mod shared;
+mod sides;
 mod solutions;
 mod tests_of_rows;
 mod theorems;

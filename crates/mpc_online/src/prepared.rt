@@ -33,14 +33,23 @@ pub struct Opening {
     pub rows: Vec<Option<Wholes>>,
 }
 
-/// What the runs at all states of a program share: the rows of its g, w and f in whole numbers, where these are small; the elimination of
-/// its Hessian in the equations of all steps, where it is kept; the first point as forms, where its numbers are small; and the directions
+/// The rows of g and of w in whole numbers, which are small, over one denominator.
+#[derive(Drop)]
+pub struct EvenRows {
+    pub den: u128,
+    pub rows: Vec<Wholes>,
+    pub sides: Vec<Wholes>,
+}
+
+/// What the runs at all states of a program share: the rows of its g, w and f in whole numbers, where these are small, and those of g and w
+/// over one denominator; the elimination of its Hessian in the equations of all steps, where it is kept; the first point as forms, where its numbers are small; and the directions
 /// that were found, by rising rows and masks.
 #[derive(Drop)]
 pub struct Prepared {
     pub rows: Vec<Option<Wholes>>,
     pub sides: Vec<Option<Wholes>>,
     pub costs: Vec<Option<Wholes>>,
+    pub even: Option<EvenRows>,
     pub kept: Option<Kept>,
     pub opening: Option<Opening>,
     pub directions: Vec<KeptDirection>,

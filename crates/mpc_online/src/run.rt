@@ -12,19 +12,22 @@ ghost use Rattle.mpc_online.specs.OnlineRun.{IsStep, IsOpening, IsRunEnd, LeadsT
 ghost use Rattle.mpc_online.specs.Standing.{IsPosition, IsAnswer};
 ghost use Rattle.mpc_online.specs.Shared.{IsPreparedFor};
 ghost use Rattle.mpc_wholes.specs.Wholes.{IsOver};
-ghost use Rattle.mpc_online.specs.Wholes.{AreRowsOver, entries_of};
-ghost use Rattle.mpc_online.specs.Openings.{AreExtendedCounts, IsOpeningOf};
+ghost use Rattle.mpc_online.specs.Wholes.{entries_of};
+ghost use Rattle.mpc_online.specs.Evens.{sides_of};
+ghost use Rattle.mpc_online.specs.Openings.{AreExtendedCounts};
 ghost use Rattle.mpc_online.specs.Answers.{IfWide, IfStopWide, position_of, step_of};
 ghost use Rattle.mpc_rows.specs.ActiveSets.{IsInBox};
 
 use crate::counts::extended;
 use crate::directions::direction_place;
+use crate::evens::right_sides;
 use crate::moves::{Iterate, dropped, moved, row_joined};
 use crate::opening::first_point;
 use crate::points::fractions;
-use crate::prepared::{Direction, Opening, Prepared};
+use crate::prepared::{Direction, Prepared};
 use crate::refuting::row_multipliers;
-use crate::solutions::{Stop, products};
+use crate::sides::Sides;
+use crate::solutions::Stop;
 use crate::tests_of_rows::first_violated;
 use crate::turns::{Turn, turn_of};
 use crate::{Online, OnlineError};
@@ -33,7 +36,6 @@ use mpc_frac::{Frac, NoMemory};
 use mpc_linear::Vector;
 use mpc_rows::Qp;
 use mpc_sets::{ActiveSet, count_theorems};
-use mpc_wholes::Wholes;
 use std::alloc::Global;
 
 /// What follows a step.
@@ -75,23 +77,25 @@ fn open(
     alloc: Global,
     qp: &Qp,
     extended_counts: &[Frac],
-    sides: &[Frac],
-    rows: &[Option<Wholes>],
-    costs: &[Option<Wholes>],
-    opening: &Option<Opening>,
+    sides: &Sides,
+    prepared: &Prepared,
 ) -> Result<Next, Stop>
     requires definite { IsDefinite qp.now.h.rows }
-    requires rows { AreRowsOver qp.now.g rows.now }
-    requires costs { AreRowsOver qp.now.f costs.now }
-    requires opening { IfSome opening.now (IsOpeningOf qp.now) }
+    requires prepared { IsPreparedFor qp.now prepared.now }
     requires extended { AreExtendedCounts qp.now extended_counts.now }
-    requires sides { length sides.now ≡ height qp.now.g }
-    ensures opens { IfOk result (λ next. IsOpening qp.now sides.now extended_counts.now (step_of next)) }
-    ensures wide { MatchResult result (λ _. FirstFits qp.now sides.now extended_counts.now)
-        (λ stop. IfStopWide stop (¬ FirstFits qp.now sides.now extended_counts.now)) }
+    requires sides { length (sides_of sides.now) ≡ height qp.now.g }
+    ensures opens { IfOk result (λ next. IsOpening qp.now (sides_of sides.now) extended_counts.now (step_of next)) }
+    ensures wide { MatchResult result (λ _. FirstFits qp.now (sides_of sides.now) extended_counts.now)
+        (λ stop. IfStopWide stop (¬ FirstFits qp.now (sides_of sides.now) extended_counts.now)) }
 {
-    let point = first_point(alloc, qp, extended_counts, costs, opening)?;
-    let first = first_violated(qp, rows, sides, &point)?;
+    let point = first_point(
+        alloc,
+        qp,
+        extended_counts,
+        &prepared.costs,
+        &prepared.opening,
+    )?;
+    let first = first_violated(qp, prepared, sides, &point)?;
     let it = Iterate {
         point,
         set: ActiveSet::empty(),
@@ -106,22 +110,22 @@ fn open(
 fn take_turn(
     alloc: Global,
     qp: &Qp,
-    rows: &[Option<Wholes>],
-    sides: &[Frac],
+    prepared: &Prepared,
+    sides: &Sides,
     it: Iterate,
     direction: &Direction,
     turn: Turn,
 ) -> Result<Next, Stop>
-    requires rows { AreRowsOver qp.now.g rows.now }
+    requires prepared { IsPreparedFor qp.now prepared.now }
     requires position { IsPosition qp.now (position_of it) }
-    requires sides { length sides.now ≡ height qp.now.g }
+    requires sides { length (sides_of sides.now) ≡ height qp.now.g }
     requires direction { length direction.now.point.items ≡ height qp.now.h }
     requires whole { IfSome direction.now.whole (IsOver direction.now.point.items) }
     requires multipliers { length direction.now.multipliers.items ≡ length it.set }
-    requires turn { IsTurn qp.now sides.now (position_of it) direction.now.point.items direction.now.multipliers.items turn }
-    ensures leads { IfOk result (λ next. LeadsTo qp.now sides.now (position_of it) direction.now.point.items direction.now.multipliers.items turn (step_of next)) }
-    ensures wide { MatchResult result (λ _. TurnFits qp.now sides.now (position_of it) direction.now.point.items direction.now.multipliers.items turn)
-        (λ stop. IfStopWide stop (¬ TurnFits qp.now sides.now (position_of it) direction.now.point.items direction.now.multipliers.items turn)) }
+    requires turn { IsTurn qp.now (sides_of sides.now) (position_of it) direction.now.point.items direction.now.multipliers.items turn }
+    ensures leads { IfOk result (λ next. LeadsTo qp.now (sides_of sides.now) (position_of it) direction.now.point.items direction.now.multipliers.items turn (step_of next)) }
+    ensures wide { MatchResult result (λ _. TurnFits qp.now (sides_of sides.now) (position_of it) direction.now.point.items direction.now.multipliers.items turn)
+        (λ stop. IfStopWide stop (¬ TurnFits qp.now (sides_of sides.now) (position_of it) direction.now.point.items direction.now.multipliers.items turn)) }
 {
     match turn {
         Turn::Refuted => {
@@ -134,7 +138,7 @@ fn take_turn(
         }
         Turn::Joins(length) => {
             let after = moved(alloc, it, direction, &length)?;
-            let first = first_violated(qp, rows, sides, &after.point)?;
+            let first = first_violated(qp, prepared, sides, &after.point)?;
             let together = row_joined(after)?;
             Ok(continued(alloc, together, first)?)
         }
@@ -146,24 +150,25 @@ fn advance(
     alloc: Global,
     qp: &Qp,
     prepared: &mut Prepared,
-    sides: &[Frac],
+    sides: &Sides,
     it: Iterate,
 ) -> Result<Next, Stop>
     requires definite { IsDefinite qp.now.h.rows }
     requires prepared { IsPreparedFor qp.now prepared.old }
     requires position { IsPosition qp.now (position_of it) }
-    requires sides { length sides.now ≡ height qp.now.g }
+    requires sides { length (sides_of sides.now) ≡ height qp.now.g }
     ensures prepared { IsPreparedFor qp.now prepared.new }
-    ensures steps { IfOk result (λ next. IsStep qp.now sides.now (position_of it) (step_of next)) }
-    ensures wide { MatchResult result (λ _. StepFits qp.now sides.now (position_of it))
-        (λ stop. IfStopWide stop (¬ StepFits qp.now sides.now (position_of it))) }
+    ensures steps { IfOk result (λ next. IsStep qp.now (sides_of sides.now) (position_of it) (step_of next)) }
+    ensures wide { MatchResult result (λ _. StepFits qp.now (sides_of sides.now) (position_of it))
+        (λ stop. IfStopWide stop (¬ StepFits qp.now (sides_of sides.now) (position_of it))) }
 {
     let place = direction_place(alloc, qp, prepared, it.set, it.row)?;
-    let Some(direction) = &prepared.directions[place].direction else {
+    let kept: &Prepared = prepared;
+    let Some(direction) = &kept.directions[place].direction else {
         return Err(Stop::Wide);
     };
-    let turn = turn_of(qp, &prepared.rows, sides, &it, direction)?;
-    take_turn(alloc, qp, &prepared.rows, sides, it, direction, turn)
+    let turn = turn_of(qp, &kept.rows, sides, &it, direction)?;
+    take_turn(alloc, qp, kept, sides, it, direction, turn)
 }
 
 /// The run from step 0 to its end.
@@ -187,20 +192,12 @@ pub fn answer(
     let Ok(extended_counts) = extended(alloc, counts) else {
         return Err(OnlineError::NoMemory);
     };
-    let sides = match products(alloc, &qp.w, &extended_counts, &prepared.sides) {
-        Ok(sides) => sides,
+    let sides = match right_sides(alloc, qp, prepared, &extended_counts) {
+        Ok(found) => found,
         Err(Stop::Wide) => return Err(OnlineError::Wide(0)),
         Err(Stop::NoMemory) => return Err(OnlineError::NoMemory),
     };
-    let mut it = match open(
-        alloc,
-        qp,
-        &extended_counts,
-        &sides,
-        &prepared.rows,
-        &prepared.costs,
-        &prepared.opening,
-    ) {
+    let mut it = match open(alloc, qp, &extended_counts, &sides, prepared) {
         Ok(Next::Goes(it)) => it,
         Ok(Next::Ends(online)) => return Ok(online),
         Err(Stop::Wide) => return Err(OnlineError::Wide(0)),

@@ -11,10 +11,12 @@ ghost use Rattle.mpc_online.specs.Standing.{IsPosition};
 ghost use Rattle.mpc_online.specs.Answers.{position_of};
 ghost use Rattle.mpc_online.specs.Shared.{IsSlopeOf};
 ghost use Rattle.mpc_online.specs.Wholes.{AreRowsOver};
+ghost use Rattle.mpc_online.specs.Evens.{sides_of};
 
 use crate::moves::Iterate;
 use crate::numbers::{is_less, is_negative};
 use crate::prepared::Direction;
+use crate::sides::Sides;
 use crate::tests_of_rows::excess_at;
 use mpc_frac::{Frac, Wide};
 use mpc_rows::Qp;
@@ -80,19 +82,19 @@ fn is_zero(entries: &[Frac]) -> bool
 fn full_length(
     qp: &Qp,
     rows: &[Option<Wholes>],
-    sides: &[Frac],
+    sides: &Sides,
     it: &Iterate,
     direction: &Direction,
 ) -> Result<Frac, Wide>
     requires rows { AreRowsOver qp.now.g rows.now }
     requires position { IsPosition qp.now (position_of it.now) }
-    requires sides { length sides.now ≡ height qp.now.g }
+    requires sides { length (sides_of sides.now) ≡ height qp.now.g }
     requires direction { length direction.now.point.items ≡ height qp.now.h }
     requires slope_is { IsSlopeOf qp.now it.now.row direction.now.point.items direction.now.slope }
     requires slope { level qp.now direction.now.point.items it.now.row ≢ int (pos 0) }
-    ensures value { IfOk result (λ v. v ≡ full_length qp.now sides.now (position_of it.now) direction.now.point.items) }
-    ensures wide { MatchResult result (λ _. FullFits qp.now sides.now (position_of it.now) direction.now.point.items)
-        (λ _. ¬ FullFits qp.now sides.now (position_of it.now) direction.now.point.items) }
+    ensures value { IfOk result (λ v. v ≡ full_length qp.now (sides_of sides.now) (position_of it.now) direction.now.point.items) }
+    ensures wide { MatchResult result (λ _. FullFits qp.now (sides_of sides.now) (position_of it.now) direction.now.point.items)
+        (λ _. ¬ FullFits qp.now (sides_of sides.now) (position_of it.now) direction.now.point.items) }
 {
     let above = excess_at(qp, rows, sides, &it.point, it.row)?;
     let Some(slope) = &direction.slope else {
@@ -105,20 +107,20 @@ fn full_length(
 pub fn turn_of(
     qp: &Qp,
     rows: &[Option<Wholes>],
-    sides: &[Frac],
+    sides: &Sides,
     it: &Iterate,
     direction: &Direction,
 ) -> Result<Turn, Wide>
     requires rows { AreRowsOver qp.now.g rows.now }
     requires position { IsPosition qp.now (position_of it.now) }
-    requires sides { length sides.now ≡ height qp.now.g }
+    requires sides { length (sides_of sides.now) ≡ height qp.now.g }
     requires direction { length direction.now.point.items ≡ height qp.now.h }
     requires slope_is { IsSlopeOf qp.now it.now.row direction.now.point.items direction.now.slope }
     requires multipliers { length direction.now.multipliers.items ≡ length it.now.set }
     requires slope { ¬ IsZero direction.now.point.items → level qp.now direction.now.point.items it.now.row ≢ int (pos 0) }
-    ensures value { IfOk result (λ turn. IsTurn qp.now sides.now (position_of it.now) direction.now.point.items direction.now.multipliers.items turn) }
-    ensures wide { MatchResult result (λ _. LengthsFit qp.now sides.now (position_of it.now) direction.now.point.items direction.now.multipliers.items)
-        (λ _. ¬ LengthsFit qp.now sides.now (position_of it.now) direction.now.point.items direction.now.multipliers.items) }
+    ensures value { IfOk result (λ turn. IsTurn qp.now (sides_of sides.now) (position_of it.now) direction.now.point.items direction.now.multipliers.items turn) }
+    ensures wide { MatchResult result (λ _. LengthsFit qp.now (sides_of sides.now) (position_of it.now) direction.now.point.items direction.now.multipliers.items)
+        (λ _. ¬ LengthsFit qp.now (sides_of sides.now) (position_of it.now) direction.now.point.items direction.now.multipliers.items) }
 {
     let partial = shortest(&it.multipliers, &direction.multipliers)?;
     if is_zero(&direction.point) {

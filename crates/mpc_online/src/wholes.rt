@@ -52,7 +52,7 @@ pub fn grown_size(total: u128, numerator: i128, count: u64) -> Option<u128>
 }
 
 /// The dot of the first numerators.
-fn dot_of_numerators(row: &Wholes, numbers: &Wholes, count: usize) -> i128
+pub fn dot_of_numerators(row: &Wholes, numbers: &Wholes, count: usize) -> i128
     requires few { count ≤ 6 }
     requires small { row.now.most * numbers.now.most ≤ 2 ^ 124 }
     ensures size { unsigned_abs result ≤ 6 * (row.now.most * numbers.now.most) }
@@ -81,7 +81,7 @@ fn difference(left: i128, right: i128) -> i128
 }
 
 /// Whether the left number is above the right one.
-fn is_above_whole(left: i128, right: i128) -> bool
+pub fn is_above_whole(left: i128, right: i128) -> bool
     ensures { IsTrue result ↔ (right <ℤ left) }
 {
     left > right

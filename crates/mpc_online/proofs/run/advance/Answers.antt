@@ -8,6 +8,7 @@ use Rattle.mpc_online.specs.Answers.{position_of, step_of}
 use Rattle.mpc_online.proofs.Solved.{IsDirection}
 use Rattle.mpc_online.proofs.Advance.{slope_not_zero, is_direction, wide_elimination, wide_lengths, wide_turn, step_fits, step_is, stop_as, err_wide}
 use Rattle.mpc_online.proofs.Keeping.{kept_within, found_there, wide_there}
+use Rattle.mpc_online.specs.Evens.{sides_of}
 use Rattle.mpc_online.proofs.run.advance.Goals as goal
 use Rattle.mpc_online.proofs.run.advance.Goals.{In-Some}
 
@@ -16,7 +17,7 @@ found : (c : In-Some) → IsDirectionOf c.args.qp.now c.args.it.set c.args.it.ro
 found c = found_there c.args.qp.now c.direction_place.new.prepared.directions.items c.args.it.set c.args.it.row c.in_ok-place.place c.index.result.now c.in-Some.direction c.in_ok-place.ensures.prepared.directions c.in_ok-place.ensures.place c.index.ensures c.in-Some.is
 
 dir : (c : In-Some) → IsDirection c.args.qp.now c.args.it.set c.args.it.row c.in-Some.direction.point.items c.in-Some.direction.multipliers.items
-dir c = is_direction c.args.qp.now c.args.sides.now (position_of c.args.it) (right_matrix c.args.qp.now c.args.it.set (step_side c.args.qp.now c.args.it.row)) refl (found c).solution (found c).solves c.in-Some.direction.point.items c.in-Some.direction.multipliers.items (found c).point_is (found c).multipliers_are
+dir c = is_direction c.args.qp.now (sides_of c.args.sides.now) (position_of c.args.it) (right_matrix c.args.qp.now c.args.it.set (step_side c.args.qp.now c.args.it.row)) refl (found c).solution (found c).solves c.in-Some.direction.point.items c.in-Some.direction.multipliers.items (found c).point_is (found c).multipliers_are
 
 pub index-requires : goal.index-requires
 index-requires c =
@@ -26,7 +27,7 @@ index-requires c =
 
 pub returns-in_default-clause-wide : goal.returns-in_default-clause-wide
 returns-in_default-clause-wide c =
-    wide_elimination c.args.qp.now c.args.sides.now (position_of c.args.it) (right_matrix c.args.qp.now c.args.it.set (step_side c.args.qp.now c.args.it.row)) refl
+    wide_elimination c.args.qp.now (sides_of c.args.sides.now) (position_of c.args.it) (right_matrix c.args.qp.now c.args.it.set (step_side c.args.qp.now c.args.it.row)) refl
     (wide_there c.args.qp.now c.direction_place.new.prepared.directions.items c.args.it.set c.args.it.row c.in_ok-place.place c.index.result.now c.in_ok-place.ensures.prepared.directions c.in_ok-place.ensures.place c.index.ensures c.in_default.is)
 
 -- ---- the turn
@@ -48,7 +49,7 @@ pub returns-in_err-turn-clause-wide : goal.returns-in_err-turn-clause-wide
 returns-in_err-turn-clause-wide c =
     let f = found (goal.at.returns-in_err-turn-clause-wide c).In-Some in
     err_wide c.from_residual-in_err-turn.result _ _ c.from_residual-in_err-turn.ensures.1
-    (wide_lengths c.args.qp.now c.args.sides.now (position_of c.args.it) (right_matrix c.args.qp.now c.args.it.set (step_side c.args.qp.now c.args.it.row)) refl f.solution f.solves c.in-Some.direction.point.items c.in-Some.direction.multipliers.items
+    (wide_lengths c.args.qp.now (sides_of c.args.sides.now) (position_of c.args.it) (right_matrix c.args.qp.now c.args.it.set (step_side c.args.qp.now c.args.it.row)) refl f.solution f.solves c.in-Some.direction.point.items c.in-Some.direction.multipliers.items
     f.point_is f.multipliers_are c.in_err-turn.ensures.wide)
 
 -- ---- what it leads to
@@ -62,9 +63,9 @@ pub returns-clause-steps : goal.returns-clause-steps
 returns-clause-steps c =
     let f = found (goal.at.returns-clause-steps c).In-Some in
     IfOk-weaker c.take_turn.result
-    (λ n. LeadsTo c.args.qp.now c.args.sides.now (position_of c.args.it) c.in-Some.direction.point.items c.in-Some.direction.multipliers.items c.in_ok-turn.turn (step_of n))
-    (λ n. IsStep c.args.qp.now c.args.sides.now (position_of c.args.it) (step_of n))
-    (λ n h. step_is c.args.qp.now c.args.sides.now (position_of c.args.it) (right_matrix c.args.qp.now c.args.it.set (step_side c.args.qp.now c.args.it.row)) refl f.solution f.solves c.in-Some.direction.point.items c.in-Some.direction.multipliers.items
+    (λ n. LeadsTo c.args.qp.now (sides_of c.args.sides.now) (position_of c.args.it) c.in-Some.direction.point.items c.in-Some.direction.multipliers.items c.in_ok-turn.turn (step_of n))
+    (λ n. IsStep c.args.qp.now (sides_of c.args.sides.now) (position_of c.args.it) (step_of n))
+    (λ n h. step_is c.args.qp.now (sides_of c.args.sides.now) (position_of c.args.it) (right_matrix c.args.qp.now c.args.it.set (step_side c.args.qp.now c.args.it.row)) refl f.solution f.solves c.in-Some.direction.point.items c.in-Some.direction.multipliers.items
     f.point_is f.multipliers_are c.in_ok-turn.turn c.in_ok-turn.ensures.value (step_of n) h)
     c.take_turn.ensures.leads
 
@@ -72,10 +73,10 @@ pub returns-clause-wide : goal.returns-clause-wide
 returns-clause-wide c =
     let f = found (goal.at.returns-clause-wide c).In-Some in
     stop_as c.take_turn.result
-    (TurnFits c.args.qp.now c.args.sides.now (position_of c.args.it) c.in-Some.direction.point.items c.in-Some.direction.multipliers.items c.in_ok-turn.turn)
-    (StepFits c.args.qp.now c.args.sides.now (position_of c.args.it))
-    (step_fits c.args.qp.now c.args.sides.now (position_of c.args.it) (right_matrix c.args.qp.now c.args.it.set (step_side c.args.qp.now c.args.it.row)) refl f.solution f.solves c.in-Some.direction.point.items c.in-Some.direction.multipliers.items
+    (TurnFits c.args.qp.now (sides_of c.args.sides.now) (position_of c.args.it) c.in-Some.direction.point.items c.in-Some.direction.multipliers.items c.in_ok-turn.turn)
+    (StepFits c.args.qp.now (sides_of c.args.sides.now) (position_of c.args.it))
+    (step_fits c.args.qp.now (sides_of c.args.sides.now) (position_of c.args.it) (right_matrix c.args.qp.now c.args.it.set (step_side c.args.qp.now c.args.it.row)) refl f.solution f.solves c.in-Some.direction.point.items c.in-Some.direction.multipliers.items
     f.point_is f.multipliers_are f.fits c.in_ok-turn.ensures.wide c.in_ok-turn.turn c.in_ok-turn.ensures.value)
-    (wide_turn c.args.qp.now c.args.sides.now (position_of c.args.it) (right_matrix c.args.qp.now c.args.it.set (step_side c.args.qp.now c.args.it.row)) refl f.solution f.solves c.in-Some.direction.point.items c.in-Some.direction.multipliers.items
+    (wide_turn c.args.qp.now (sides_of c.args.sides.now) (position_of c.args.it) (right_matrix c.args.qp.now c.args.it.set (step_side c.args.qp.now c.args.it.row)) refl f.solution f.solves c.in-Some.direction.point.items c.in-Some.direction.multipliers.items
     f.point_is f.multipliers_are c.in_ok-turn.turn c.in_ok-turn.ensures.value)
     c.take_turn.ensures.wide

@@ -1,7 +1,8 @@
-use Rattle.std.proofs.Common.{◌^◌, ◌-◌}
+use Rattle.std.proofs.Common.{◌≡◌, ◌^◌, ◌-◌}
 use Rattle.mpc_online.specs.StateRows.{point_of, sides_at}
 use Rattle.mpc_online.specs.OnlineRun.{RunEnd, EndsFrom, IsRunEnd}
 use Rattle.mpc_online.specs.Answers.{position_of}
+use Rattle.mpc_online.specs.Evens.{sides_of}
 use Rattle.mpc_online.specs.Shared.{IsPreparedFor}
 use Rattle.mpc_online.proofs.Travel.{Travelled}
 use Rattle.mpc_online.proofs.run.answer.Given as goal
@@ -10,6 +11,7 @@ abbrev pub invariant-steps : goal.invariant-steps
 invariant-steps l = record {
   travelled : Travelled l.qp (point_of l.fn.counts) (position_of l.it) l.step;
   ahead : (end : RunEnd) → EndsFrom l.qp (sides_at l.qp (point_of l.fn.counts)) l.step (position_of l.it) end → IsRunEnd l.qp (point_of l.fn.counts) end;
+  sides : sides_of l.sides ≡ sides_at l.qp (point_of l.fn.counts);
   prepared : IsPreparedFor l.qp l.prepared;
 }
 

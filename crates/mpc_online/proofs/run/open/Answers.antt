@@ -9,6 +9,7 @@ use Rattle.mpc_online.specs.Wholes.{entries_of}
 use Rattle.mpc_online.specs.Answers.{step_of}
 use Rattle.mpc_online.proofs.Moved.{same_position}
 use Rattle.mpc_online.proofs.Advance.{wide_tests, first_fits, opening_is, stop_for, err_wide, err_memory, err_same}
+use Rattle.mpc_online.specs.Evens.{sides_of}
 use Rattle.mpc_online.proofs.run.open.Goals as goal
 
 pub continued-requires : goal.continued-requires
@@ -23,14 +24,14 @@ first_violated-requires-clause-point c = ap (λ (t : List ℚ). length t) (c.in_
 pub returns-in_err-point-clause-wide : goal.returns-in_err-point-clause-wide
 returns-in_err-point-clause-wide c =
     err_same c.from_residual.result c.in_err-point.field-0.0 _ _ c.from_residual.ensures.1
-    (stop_for c.in_err-point.field-0.0 (¬ PointFits c.args.qp.now c.args.extended_counts.now) (¬ FirstFits c.args.qp.now c.args.sides.now c.args.extended_counts.now)
+    (stop_for c.in_err-point.field-0.0 (¬ PointFits c.args.qp.now c.args.extended_counts.now) (¬ FirstFits c.args.qp.now (sides_of c.args.sides.now) c.args.extended_counts.now)
     (λ h f. h (record { costs = f.costs; elimination = f.elimination })) c.in_err-point.ensures.wide)
 
 pub returns-in_err-first-clause-wide : goal.returns-in_err-first-clause-wide
 returns-in_err-first-clause-wide c =
     let at = c.in_ok-point.ensures.point in
     err_wide c.from_residual-in_err-first.result _ _ c.from_residual-in_err-first.ensures.1
-    (wide_tests c.args.qp.now c.args.sides.now c.args.extended_counts.now (right_matrix c.args.qp.now [] (opening_side c.args.qp.now c.args.extended_counts.now)) refl at.solution at.solves (entries_of c.in_ok-point.point) at.is c.in_err-first.ensures.wide)
+    (wide_tests c.args.qp.now (sides_of c.args.sides.now) c.args.extended_counts.now (right_matrix c.args.qp.now [] (opening_side c.args.qp.now c.args.extended_counts.now)) refl at.solution at.solves (entries_of c.in_ok-point.point) at.is c.in_err-first.ensures.wide)
 
 pub returns-in_err-continued-clause-wide : goal.returns-in_err-continued-clause-wide
 returns-in_err-continued-clause-wide c = err_memory c.from_residual-in_err-continued.result _ _ c.from_residual-in_err-continued.ensures.1
@@ -38,7 +39,7 @@ returns-in_err-continued-clause-wide c = err_memory c.from_residual-in_err-conti
 pub returns-clause-opens : goal.returns-clause-opens
 returns-clause-opens c =
     let at = c.in_ok-point.ensures.point in
-    opening_is c.args.qp.now c.args.sides.now c.args.extended_counts.now (right_matrix c.args.qp.now [] (opening_side c.args.qp.now c.args.extended_counts.now)) refl at.solution at.solves (entries_of c.in_ok-point.point) at.is
+    opening_is c.args.qp.now (sides_of c.args.sides.now) c.args.extended_counts.now (right_matrix c.args.qp.now [] (opening_side c.args.qp.now c.args.extended_counts.now)) refl at.solution at.solves (entries_of c.in_ok-point.point) at.is
     c.in_ok-first.first c.in_ok-first.ensures.value (step_of c.in_ok-continued.field-0)
     (c.in_ok-continued.ensures ∙ ap (λ q. continued q c.in_ok-first.first)
     (same_position _ (opened (entries_of c.in_ok-point.point)) refl c.empty.ensures c.new.ensures.items refl c.whole.ensures))
@@ -47,5 +48,5 @@ pub returns-clause-wide : goal.returns-clause-wide
 returns-clause-wide c =
     let at = c.in_ok-point.ensures.point in
     let fit = c.in_ok-point.ensures.wide in
-    first_fits c.args.qp.now c.args.sides.now c.args.extended_counts.now (right_matrix c.args.qp.now [] (opening_side c.args.qp.now c.args.extended_counts.now)) refl at.solution at.solves (entries_of c.in_ok-point.point) at.is
+    first_fits c.args.qp.now (sides_of c.args.sides.now) c.args.extended_counts.now (right_matrix c.args.qp.now [] (opening_side c.args.qp.now c.args.extended_counts.now)) refl at.solution at.solves (entries_of c.in_ok-point.point) at.is
     fit.costs fit.elimination c.in_ok-first.ensures.wide
